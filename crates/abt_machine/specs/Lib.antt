@@ -1,0 +1,10 @@
+pub mod Access
+pub mod Carrying
+pub mod Lines
+pub mod Maps
+pub mod Numbers
+pub mod Queues
+pub mod Sites
+pub mod State
+pub mod Valid
+pub mod Workloads

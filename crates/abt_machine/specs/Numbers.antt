@@ -1,0 +1,22 @@
+-- The number types of the crate, made from plain numbers.
+use Rattle.std.specs.Prelude.{ℕ}
+use Rattle.abt_machine.specs.declared.numbers.StreamNo.{StreamNo}
+use Rattle.abt_machine.specs.declared.numbers.PoolNo.{PoolNo}
+use Rattle.abt_machine.specs.declared.numbers.SchedNo.{SchedNo}
+use Rattle.abt_machine.specs.declared.numbers.UnitNo.{UnitNo}
+use Rattle.abt_machine.specs.declared.numbers.ObjectNo.{ObjectNo}
+
+abbrev pub stream_no : ℕ → StreamNo
+stream_no n = record { 0 = n }
+
+abbrev pub pool_no : ℕ → PoolNo
+pool_no n = record { 0 = n }
+
+abbrev pub sched_no : ℕ → SchedNo
+sched_no n = record { 0 = n }
+
+abbrev pub unit_no : ℕ → UnitNo
+unit_no n = record { 0 = n }
+
+abbrev pub object_no : ℕ → ObjectNo
+object_no n = record { 0 = n }

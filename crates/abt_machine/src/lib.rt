@@ -1,0 +1,23 @@
+//! The written machine: its types, its definitions and the readers of a workload.
+#![tactic(auto)]
+
+mod events;
+mod items;
+mod numbers;
+mod operations;
+mod program;
+mod workload;
+
+pub use events::{
+    Cause, Code, Event, Journal, Log, Outcome, Output, Piece, Place, Shown, Site, Spot, What,
+};
+pub use items::{Items, Text};
+pub use numbers::{ObjectNo, PoolNo, SchedNo, StreamNo, UnitNo};
+pub use operations::{
+    Access, Body, Combine, Kind, Op, Ops, OrderShape, Pools, Rule, Side, Thing,
+};
+pub use program::{Command, Ended, Fault, Want};
+pub use workload::{
+    Mains, Parts, PoolPart, PoolParts, SchedPart, SchedParts, Texts, Things, UnitPart, UnitParts,
+    Workload,
+};

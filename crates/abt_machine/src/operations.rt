@@ -1,0 +1,121 @@
+//! What a workload is made of: pools, schedulers, objects, units and their operations.
+
+use crate::items::Items;
+use crate::numbers::{ObjectNo, PoolNo, SchedNo, StreamNo, UnitNo};
+
+/// How a pool orders its units. FIFO pushes at the back and pops at the front (the Argobots API);
+/// a deque pops at the back for the streams that own it, and at the front for every other.
+#[derive(Clone, Copy, Debug, PartialEq, Eq)]
+pub enum Kind {
+    Fifo,
+    Deque,
+}
+
+/// Which streams put into a pool and which take from it: `Priv` both by one, `Spsc` from the first to
+/// the second, `Mpsc` from all to one, `Spmc` from one to all, `Mpmc` all (the Argobots API).
+#[derive(Clone, Copy, Debug, PartialEq, Eq)]
+pub enum Access {
+    Priv(StreamNo),
+    Spsc(StreamNo, StreamNo),
+    Mpsc(StreamNo),
+    Spmc(StreamNo),
+    Mpmc,
+}
+
+/// In which order a scheduler visits its pools. `Randws` has the seed of its generator, `User` the
+/// number of a stored order.
+#[derive(Clone, Copy, Debug, PartialEq, Eq)]
+pub enum Rule {
+    Basic,
+    Prio,
+    Randws(u64),
+    User(u32),
+}
+
+/// What a future makes of its compartments' values: their sum modulo 2^64, their greatest, or their number.
+#[derive(Clone, Copy, Debug, PartialEq, Eq)]
+pub enum Combine {
+    Sum,
+    Max,
+    Count,
+}
+
+/// A synchronization object. A condition has its mutex, a future its number of compartments, a barrier
+/// its number of parties.
+#[derive(Clone, Copy, Debug, PartialEq, Eq)]
+pub enum Thing {
+    Mutex,
+    Cond(ObjectNo),
+    Eventual,
+    Future(u32, Combine),
+    Barrier(u32),
+}
+
+/// One operation of a unit's program. `Say` has the number of its word, counted over the whole workload.
+#[derive(Clone, Copy, Debug, PartialEq, Eq)]
+pub enum Op {
+    Set(u64),
+    Add(u64),
+    Say(u32),
+    Print,
+    KeySet(u32),
+    KeyGet(u32),
+    Yield,
+    YieldTo(UnitNo, PoolNo),
+    Suspend,
+    Resume(UnitNo),
+    Create(UnitNo, PoolNo),
+    Join(UnitNo),
+    Cancel(UnitNo),
+    Migrate(UnitNo, PoolNo),
+    MigrateTo(UnitNo, StreamNo),
+    Migratable(UnitNo, bool),
+    Revive(UnitNo, PoolNo),
+    Lock(ObjectNo),
+    TryLock(ObjectNo),
+    Unlock(ObjectNo),
+    Load(ObjectNo),
+    Store(ObjectNo),
+    CondWait(ObjectNo),
+    Signal(ObjectNo),
+    Broadcast(ObjectNo),
+    EvWait(ObjectNo),
+    EvSet(ObjectNo),
+    EvReset(ObjectNo),
+    EvTest(ObjectNo),
+    FuWait(ObjectNo),
+    FuSet(ObjectNo),
+    FuReset(ObjectNo),
+    FuTest(ObjectNo),
+    BarWait(ObjectNo),
+}
+
+/// A unit's program.
+pub type Ops = Items<Op>;
+
+/// The pools that a scheduler lists.
+pub type Pools = Items<PoolNo>;
+
+/// What a unit is: a user-level thread or a tasklet with its program, or a scheduler.
+#[derive(Drop)]
+pub enum Body {
+    Ult(Ops),
+    Task(Ops),
+    Sched(SchedNo),
+}
+
+/// Which of a pool's ends.
+#[derive(Clone, Copy, Debug, PartialEq, Eq)]
+pub enum Side {
+    Front,
+    Back,
+}
+
+/// What a stored order promises of its answer for round r, n pools and place i: `Rotate` (r + i) mod n,
+/// `Mirror` n - 1 - i, `Free` any number below n.
+#[derive(Clone, Copy, Debug, PartialEq, Eq)]
+pub enum OrderShape {
+    Rotate,
+    Mirror,
+    Free,
+}

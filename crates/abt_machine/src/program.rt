@@ -1,0 +1,61 @@
+//! What the program is asked and what it answers.
+
+ghost use Rattle.std.specs.Prelude.{◌≡◌};
+ghost use Rattle.abt_machine.specs.declared.program.Want.{Want};
+
+use crate::events::Journal;
+use crate::items::Text;
+use std::alloc::{AllocError, AllocFailed};
+
+/// Want of memory.
+#[derive(Clone, Copy, Debug, PartialEq, Eq)]
+pub struct Want;
+
+impl From<AllocError> for Want {
+    fn from(_: AllocError) -> Self {
+        Want
+    }
+}
+
+impl<T: Drop> From<AllocFailed<T>> for Want {
+    fn from(_: AllocFailed<T>) -> Self {
+        Want
+    }
+}
+
+/// What a line of a workload text may have wrong.
+#[derive(Clone, Copy, Debug, PartialEq, Eq)]
+pub enum Fault {
+    Utf8,
+    Version,
+    Unknown,
+    Shape,
+    Number,
+    Twice,
+    Undeclared,
+    Limit,
+    TaskBlocks,
+    Access,
+    NoEnd,
+    Missing,
+}
+
+/// What the command's words ask for.
+#[derive(Drop)]
+pub enum Command {
+    Run {
+        file: Text,
+        steps: u64,
+        journal: bool,
+    },
+    SelfRun {
+        units: u32,
+    },
+}
+
+/// How the program ended: its exit status and the run's journal.
+#[derive(Drop)]
+pub struct Ended {
+    pub status: u8,
+    pub journal: Journal,
+}

@@ -1,0 +1,363 @@
+//! A workload and its parts.
+
+ghost use Rattle.std.specs.Prelude.{◌≡◌, ◌<◌, length, slice_get, Some, None, map, if◌then◌else◌};
+ghost use Rattle.abt_machine.specs.Valid.{IsValid};
+ghost use Rattle.abt_machine.specs.Workloads.{IsCondition, access_of, condition_number, is_condition_of, main_of, mutex_of, op_at, ops_of, pools_of};
+ghost use Rattle.abt_machine.specs.Access.{may_put, may_take, puts, takes};
+ghost use Rattle.abt_machine.specs.Queues.{first};
+ghost use Rattle.abt_machine.specs.Sites.{first_pool, home_from, op_site, step_site};
+ghost use Rattle.abt_machine.specs.declared.numbers.PoolNo.{PoolNo};
+ghost use Rattle.abt_machine.specs.declared.events.Site.TheVariants as site;
+
+use crate::events::Site;
+use crate::items::{Items, Text};
+use crate::numbers::{ObjectNo, PoolNo, SchedNo, StreamNo, UnitNo};
+use crate::operations::{Access, Body, Kind, Op, Pools, Rule, Thing};
+use std::marker::Model;
+
+/// A pool.
+#[derive(Clone, Copy, Debug, PartialEq, Eq)]
+pub struct PoolPart {
+    pub kind: Kind,
+    pub access: Access,
+}
+
+/// A scheduler: its rule and the pools that it lists.
+#[derive(Drop)]
+pub struct SchedPart {
+    pub rule: Rule,
+    pub pools: Pools,
+}
+
+/// A unit: what it is, and the pool that it starts in, where it has one.
+#[derive(Drop)]
+pub struct UnitPart {
+    pub body: Body,
+    pub start: Option<PoolNo>,
+}
+
+/// The pools, in order of number.
+pub type PoolParts = Items<PoolPart>;
+
+/// The schedulers, in order of number.
+pub type SchedParts = Items<SchedPart>;
+
+/// The main scheduler of each stream, in order of number.
+pub type Mains = Items<SchedNo>;
+
+/// The objects, in order of number.
+pub type Things = Items<Thing>;
+
+/// The units, in order of number.
+pub type UnitParts = Items<UnitPart>;
+
+/// The words that units say, in order of unit and then of position.
+pub type Texts = Items<Text>;
+
+/// All that a workload declares.
+#[derive(Drop)]
+pub struct Parts {
+    pub streams: u32,
+    pub keys: u32,
+    pub pools: PoolParts,
+    pub scheds: SchedParts,
+    pub mains: Mains,
+    pub objects: Things,
+    pub units: UnitParts,
+    pub words: Texts,
+}
+
+/// A valid workload, which contracts see as its parts.
+#[derive(Drop)]
+pub struct Workload {
+    parts: Parts,
+}
+
+impl Model for Workload {
+    ghost use Rattle.abt_machine.specs.declared.workload.Parts.{Parts};
+    ghost use Rattle.abt_machine.specs.Valid.{IsValid};
+
+    ghost Value = { Parts };
+
+    ghost view = { λ w. w.parts };
+
+    ghost invariant = { λ w. IsValid w.parts };
+}
+
+impl Workload {
+    pub fn new(parts: Parts) -> Workload
+        requires { IsValid parts }
+        ensures { result ≡ parts }
+    {
+        Workload { parts }
+    }
+
+    /// The number of streams.
+    pub fn streams(&self) -> u32
+        ensures count { result ≡ self.now.streams }
+        ensures valid { IsValid self.now }
+    {
+        self.parts.streams
+    }
+
+    /// The number of keys that each unit has.
+    pub fn keys(&self) -> u32
+        ensures { result ≡ self.now.keys }
+    {
+        self.parts.keys
+    }
+
+    /// The number of pools.
+    pub fn pools(&self) -> u32
+        ensures { result ≡ length self.now.pools }
+    {
+        self.parts.pools.items().len() as u32
+    }
+
+    /// The number of units.
+    pub fn units(&self) -> u32
+        ensures { result ≡ length self.now.units }
+    {
+        self.parts.units.items().len() as u32
+    }
+
+    /// The number of objects.
+    pub fn objects(&self) -> u32
+        ensures { result ≡ length self.now.objects }
+    {
+        self.parts.objects.items().len() as u32
+    }
+
+    pub fn pool(&self, p: PoolNo) -> PoolPart
+        requires { p.0 < length self.now.pools }
+        ensures { slice_get self.now.pools p.0 ≡ Some result }
+    {
+        self.parts.pools.items()[p.0 as usize]
+    }
+
+    pub fn sched(&self, g: SchedNo) -> &SchedPart
+        requires { g.0 < length self.now.scheds }
+        ensures { slice_get self.now.scheds g.0 ≡ Some result.now }
+    {
+        &self.parts.scheds.items()[g.0 as usize]
+    }
+
+    /// The main scheduler of a stream.
+    pub fn main(&self, s: StreamNo) -> SchedNo
+        requires { s.0 < self.now.streams }
+        ensures { slice_get self.now.mains s.0 ≡ Some result }
+    {
+        self.parts.mains.items()[s.0 as usize]
+    }
+
+    pub fn thing(&self, x: ObjectNo) -> Thing
+        requires { x.0 < length self.now.objects }
+        ensures { slice_get self.now.objects x.0 ≡ Some result }
+    {
+        self.parts.objects.items()[x.0 as usize]
+    }
+
+    pub fn unit(&self, u: UnitNo) -> &UnitPart
+        requires { u.0 < length self.now.units }
+        ensures { slice_get self.now.units u.0 ≡ Some result.now }
+    {
+        &self.parts.units.items()[u.0 as usize]
+    }
+
+    /// The word that `Say` number w says.
+    pub fn word(&self, w: u32) -> &str
+        requires { w < length self.now.words }
+        ensures { slice_get self.now.words w ≡ Some result.now }
+    {
+        self.parts.words.items()[w as usize].as_str()
+    }
+
+    /// The operation of a unit at a position, where it has one.
+    pub fn op(&self, u: UnitNo, at: u32) -> Option<Op>
+        requires { u.0 < length self.now.units }
+        ensures { result ≡ op_at self.now u.0 at }
+    {
+        op_of(&self.unit(u).body, at)
+    }
+
+    /// Whether a stream may put into a pool, by the pool's declared access.
+    pub fn may_put(&self, s: StreamNo, p: PoolNo) -> bool
+        requires stream { s.0 < self.now.streams }
+        requires pool { p.0 < length self.now.pools }
+        ensures { result ≡ may_put self.now s.0 p.0 }
+    {
+        puts(self.access(p), s)
+    }
+
+    /// Whether a stream may take from a pool, by the pool's declared access.
+    pub fn may_take(&self, s: StreamNo, p: PoolNo) -> bool
+        requires stream { s.0 < self.now.streams }
+        requires pool { p.0 < length self.now.pools }
+        ensures { result ≡ may_take self.now s.0 p.0 }
+    {
+        takes(self.access(p), s)
+    }
+
+    /// The object that a unit's step at a position touches when a stream makes it, where it touches one.
+    pub fn site(&self, s: StreamNo, u: UnitNo, at: u32) -> Option<Site>
+        requires stream { s.0 < self.now.streams }
+        requires unit { u.0 < length self.now.units }
+        ensures { result ≡ step_site self.now s.0 u.0 at }
+    {
+        match self.op(u, at) {
+            Some(op) => self.op_site(s, u, op),
+            None => None,
+        }
+    }
+
+    /// The mutex of a condition, and how many conditions of that mutex are declared before it.
+    pub fn cond(&self, x: ObjectNo) -> (ObjectNo, u32)
+        requires { IsCondition self.now x.0 }
+        ensures mutex { result.0.0 ≡ mutex_of self.now x.0 }
+        ensures number { result.1 ≡ condition_number self.now x.0 }
+    {
+        let objects = self.parts.objects.items();
+        let mutex = self.mutex(x);
+        let before = &objects[..x.0 as usize];
+        let number = before.iter().filter(|t| is_cond_of(**t, mutex)).count();
+        (mutex, number as u32)
+    }
+}
+
+impl Workload {
+    // The access of a pool, and `Mpmc` where it is not declared.
+    fn access(&self, p: PoolNo) -> Access
+        ensures { result ≡ access_of self.now p.0 }
+    {
+        match self.parts.pools.items().get(p.0 as usize) {
+            Some(part) => part.access,
+            None => Access::Mpmc,
+        }
+    }
+
+    // The mutex of a condition, and the object itself where it is no condition.
+    fn mutex(&self, x: ObjectNo) -> ObjectNo
+        ensures { result.0 ≡ mutex_of self.now x.0 }
+    {
+        match self.parts.objects.items().get(x.0 as usize) {
+            Some(Thing::Cond(m)) => *m,
+            _ => x,
+        }
+    }
+
+    // The main scheduler of a stream, and scheduler 0 where the stream is not declared.
+    fn main_or_first(&self, s: StreamNo) -> SchedNo
+        ensures { result.0 ≡ main_of self.now s.0 }
+    {
+        match self.parts.mains.items().get(s.0 as usize) {
+            Some(g) => *g,
+            None => SchedNo(0),
+        }
+    }
+
+    // The pools that a scheduler lists, and none where it is not declared.
+    fn listed(&self, g: SchedNo) -> &[PoolNo]
+        ensures { map (λ (p : PoolNo). p.0) result.now ≡ pools_of self.now g.0 }
+    {
+        match self.parts.scheds.items().get(g.0 as usize) {
+            Some(part) => part.pools.items(),
+            None => &[],
+        }
+    }
+
+    // The pool that the main scheduler of a stream lists first.
+    fn first_pool(&self, s: StreamNo) -> PoolNo
+        ensures { result.0 ≡ first_pool self.now s.0 }
+    {
+        first_of(self.listed(self.main_or_first(s)))
+    }
+
+    // The object that an operation touches when a stream makes it.
+    fn op_site(&self, s: StreamNo, u: UnitNo, op: Op) -> Option<Site>
+        ensures { result ≡ op_site self.now s.0 u.0 op }
+    {
+        match op {
+            Op::Set(_)
+            | Op::Add(_)
+            | Op::Say(_)
+            | Op::Print
+            | Op::KeySet(_)
+            | Op::KeyGet(_)
+            | Op::Yield => None,
+            Op::YieldTo(_, p) => takes(self.access(p), s).then_some(Site::Pool(p)),
+            Op::Suspend => Some(Site::Desk(u)),
+            Op::Create(v, p) | Op::Migrate(v, p) | Op::Revive(v, p) => self.desk_by(s, p, v),
+            Op::MigrateTo(v, r) => self.desk_by(s, self.first_pool(r), v),
+            Op::Resume(v) | Op::Join(v) | Op::Cancel(v) | Op::Migratable(v, _) => {
+                Some(Site::Desk(v))
+            }
+            Op::Lock(x) | Op::TryLock(x) | Op::Unlock(x) | Op::Load(x) | Op::Store(x) => {
+                Some(Site::Monitor(x))
+            }
+            Op::CondWait(x) | Op::Signal(x) | Op::Broadcast(x) => {
+                Some(Site::Monitor(self.mutex(x)))
+            }
+            Op::EvWait(x) | Op::EvSet(x) | Op::EvReset(x) | Op::EvTest(x) => {
+                Some(Site::Eventual(x))
+            }
+            Op::FuWait(x) | Op::FuSet(x) | Op::FuReset(x) | Op::FuTest(x) => Some(Site::Future(x)),
+            Op::BarWait(x) => Some(Site::Barrier(x)),
+        }
+    }
+
+    // The desk of v, where the stream may put into the pool.
+    fn desk_by(&self, s: StreamNo, p: PoolNo, v: UnitNo) -> Option<Site>
+        ensures { result ≡ (if may_put self.now s.0 p.0 then Some (site.Desk v) else None) }
+    {
+        puts(self.access(p), s).then_some(Site::Desk(v))
+    }
+}
+
+fn first_of(pools: &[PoolNo]) -> PoolNo
+    ensures { result.0 ≡ home_from (first (map (λ (p : PoolNo). p.0) pools.now)) }
+{
+    match pools {
+        [p, ..] => *p,
+        [] => PoolNo(0),
+    }
+}
+
+fn op_of(body: &Body, at: u32) -> Option<Op>
+    ensures { result ≡ slice_get (ops_of body.now) at }
+{
+    match body {
+        Body::Ult(ops) => ops.items().get(at as usize).copied(),
+        Body::Task(ops) => ops.items().get(at as usize).copied(),
+        Body::Sched(_) => None,
+    }
+}
+
+// Whether a stream may put into a pool of this access.
+fn puts(access: Access, s: StreamNo) -> bool
+    ensures { result ≡ puts access s.0 }
+{
+    match access {
+        Access::Priv(a) | Access::Spsc(a, _) | Access::Spmc(a) => s.0 == a.0,
+        Access::Mpsc(_) | Access::Mpmc => true,
+    }
+}
+
+// Whether a stream may take from a pool of this access.
+fn takes(access: Access, s: StreamNo) -> bool
+    ensures { result ≡ takes access s.0 }
+{
+    match access {
+        Access::Priv(b) | Access::Spsc(_, b) | Access::Mpsc(b) => s.0 == b.0,
+        Access::Spmc(_) | Access::Mpmc => true,
+    }
+}
+
+// Whether an object is a condition of this mutex.
+fn is_cond_of(thing: Thing, mutex: ObjectNo) -> bool
+    ensures { result ≡ is_condition_of mutex.0 thing }
+{
+    match thing {
+        Thing::Cond(m) => m.0 == mutex.0,
+        _ => false,
+    }
+}
