@@ -1,10 +1,15 @@
 pub mod Access
 pub mod Carrying
+pub mod Frames
+pub mod Fronts
 pub mod Lines
 pub mod Maps
+pub mod Next
 pub mod Numbers
 pub mod Queues
+pub mod Rounds
 pub mod Sites
+pub mod Start
 pub mod State
 pub mod Valid
 pub mod Workloads
