@@ -1,5 +1,8 @@
 pub mod Access
 pub mod Carrying
+pub mod Changes
+pub mod Codes
+pub mod Events
 pub mod Frames
 pub mod Fronts
 pub mod Lines
@@ -11,5 +14,6 @@ pub mod Rounds
 pub mod Sites
 pub mod Start
 pub mod State
+pub mod Steps
 pub mod Valid
 pub mod Workloads

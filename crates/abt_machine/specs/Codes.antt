@@ -1,0 +1,89 @@
+-- Whether an operation goes through, or why it is refused: the first code that holds.
+use Rattle.std.specs.Prelude.{ℕ, ◌==◌, if◌then◌else◌, Bool, true, false, not, is_none, is_some, Option, Some, None}
+use Rattle.abt_machine.specs.declared.events.Code.{Code}
+use Rattle.abt_machine.specs.declared.events.Code.TheVariants as code
+use Rattle.abt_machine.specs.declared.events.Place.{Place}
+use Rattle.abt_machine.specs.declared.events.Place.TheVariants as place
+use Rattle.abt_machine.specs.declared.events.Spot.TheVariants as spot
+use Rattle.abt_machine.specs.declared.operations.Op.{Op}
+use Rattle.abt_machine.specs.declared.operations.Op.TheVariants as op
+use Rattle.abt_machine.specs.declared.workload.Parts.{Parts}
+use Rattle.abt_machine.specs.Workloads.{body_at, is_sched, mutex_of, size_of}
+use Rattle.abt_machine.specs.Access.{may_put, may_take}
+use Rattle.abt_machine.specs.Fronts.{is_some_of}
+use Rattle.abt_machine.specs.Sites.{first_pool}
+use Rattle.abt_machine.specs.State.{State}
+
+abbrev pub is_unborn : Place → Bool
+is_unborn place.Unborn = true
+is_unborn _ = false
+
+abbrev pub is_ended : Place → Bool
+is_ended (place.Ended c) = true
+is_ended _ = false
+
+-- neither unborn nor ended
+abbrev pub is_alive : Place → Bool
+is_alive place.Unborn = false
+is_alive (place.Ended c) = false
+is_alive _ = true
+
+abbrev pub is_suspended : Place → Bool
+is_suspended (place.Blocked spot.Suspended t) = true
+is_suspended _ = false
+
+abbrev pub is_in_pool : ℕ → Place → Bool
+is_in_pool p (place.Pool q t) = q.0 == p
+is_in_pool p _ = false
+
+abbrev pub owned_by : State → ℕ → ℕ → Bool
+owned_by S u x = is_some_of u (S.mutex x).owner
+
+-- all compartments of a future are filled
+abbrev pub is_full : Parts → State → ℕ → Bool
+is_full W S x = (S.future x).filled == size_of W x
+
+-- the code where the test fails, else what follows
+abbrev pub unless : Bool → Code → Code → Code
+unless test c rest = if test then rest else c
+
+-- the code of an operation of unit u in the hand of stream s
+abbrev pub code_of : Parts → State → ℕ → ℕ → Op → Code
+code_of W S s u (op.Set n) = code.Ok
+code_of W S s u (op.Add n) = code.Ok
+code_of W S s u (op.Say w) = code.Ok
+code_of W S s u op.Print = code.Ok
+code_of W S s u (op.KeySet k) = code.Ok
+code_of W S s u (op.KeyGet k) = code.Ok
+code_of W S s u op.Yield = code.Ok
+code_of W S s u (op.YieldTo v p) = unless (may_take W s p.0) code.PoolAccess (unless (is_in_pool p.0 (S.place v.0)) code.Absent code.Ok)
+code_of W S s u op.Suspend = code.Ok
+code_of W S s u (op.Resume v) = unless (is_suspended (S.place v.0)) code.UnitState code.Ok
+code_of W S s u (op.Create v p) = unless (may_put W s p.0) code.PoolAccess (unless (is_unborn (S.place v.0)) code.Exists code.Ok)
+code_of W S s u (op.Join v) = code.Ok
+code_of W S s u (op.Cancel v) = unless (is_alive (S.place v.0)) code.UnitState code.Ok
+code_of W S s u (op.Migrate v p) = unless (may_put W s p.0) code.PoolAccess (unless (is_alive (S.place v.0)) code.UnitState (unless (S.desk v.0).migratable code.NotMigratable code.Ok))
+code_of W S s u (op.MigrateTo v r) = unless (may_put W s (first_pool W r.0)) code.PoolAccess (unless (is_alive (S.place v.0)) code.UnitState (unless (S.desk v.0).migratable code.NotMigratable code.Ok))
+code_of W S s u (op.Migratable v b) = unless (not (is_sched (body_at W v.0))) code.NotMigratable code.Ok
+code_of W S s u (op.Revive v p) = unless (may_put W s p.0) code.PoolAccess (unless (is_ended (S.place v.0)) code.UnitState code.Ok)
+code_of W S s u (op.Lock x) = code.Ok
+code_of W S s u (op.TryLock x) = unless (is_none (S.mutex x.0).owner) code.MutexLocked code.Ok
+code_of W S s u (op.Unlock x) = unless (owned_by S u x.0) code.NotOwner code.Ok
+code_of W S s u (op.Load x) = unless (owned_by S u x.0) code.NotOwner code.Ok
+code_of W S s u (op.Store x) = unless (owned_by S u x.0) code.NotOwner code.Ok
+code_of W S s u (op.CondWait x) = unless (owned_by S u (mutex_of W x.0)) code.NotOwner code.Ok
+code_of W S s u (op.Signal x) = code.Ok
+code_of W S s u (op.Broadcast x) = code.Ok
+code_of W S s u (op.EvWait x) = code.Ok
+code_of W S s u (op.EvSet x) = unless (is_none (S.eventual x.0)) code.EventualSet code.Ok
+code_of W S s u (op.EvReset x) = code.Ok
+code_of W S s u (op.EvTest x) = code.Ok
+code_of W S s u (op.FuWait x) = code.Ok
+code_of W S s u (op.FuSet x) = unless (not (is_full W S x.0)) code.FutureFull code.Ok
+code_of W S s u (op.FuReset x) = code.Ok
+code_of W S s u (op.FuTest x) = code.Ok
+code_of W S s u (op.BarWait x) = code.Ok
+
+abbrev pub code_at : Parts → State → ℕ → ℕ → Option Op → Code
+code_at W S s u None = code.Ok
+code_at W S s u (Some o) = code_of W S s u o
