@@ -6,12 +6,17 @@ pub mod Events
 pub mod Frames
 pub mod Fronts
 pub mod Lines
+pub mod Lives
 pub mod Maps
 pub mod Next
 pub mod Numbers
+pub mod Outcomes
 pub mod Queues
 pub mod Rounds
+pub mod Runs
 pub mod Sites
+pub mod Sound
+pub mod Stamps
 pub mod Start
 pub mod State
 pub mod Steps
