@@ -90,17 +90,14 @@ pub record Sound (W : Parts) (Z : List OrderShape) (S : State) : Type 0 where
   pub hand_or_next : (s u v : ℕ) → S.place u ≡ place.Hand (stream_no s) → S.place v ≡ place.Next (stream_no s) → ⊥
   pub undeclared : (u : ℕ) → length W.units ≤ u → S.place u ≡ place.Unborn
   pub placed : (u : ℕ) → IsPlaced W S u (S.place u)
-
   -- each stacked frame holds a unit
   pub frames_hold : (s d : ℕ) → d < length (S.stream s).below → (u : ℕ) × (S.place u ≡ place.Frame (stream_no s) d)
   pub lowest : (s : ℕ) → s < W.streams → IfSome (last (frames_of (S.stream s))) (λ f. f.sched ≡ main_of W s)
   pub under_way : (s : ℕ) → s < W.streams → AllUnderWay W Z (frames_of (S.stream s))
   -- only the top frame has a round under way or an empty round behind it
   pub below_rest : (s : ℕ) → s < W.streams → AllAtRest ((S.stream s).below)
-
   pub filled : (x : ℕ) → (S.future x).filled ≤ size_of W x
   pub waiting : (x n : ℕ) → thing_at W x ≡ Some (thing.Barrier n) → length (standing W S (Waiting x)) < n
-
   pub homes : (u : ℕ) → (S.carried u).home < length W.pools
   pub requests : (u : ℕ) → IfSome (S.desk u).migrate (λ p. p < length W.pools)
   pub positions : (u : ℕ) → (S.carried u).position ≤ length (ops_of (body_at W u))
