@@ -1,4 +1,5 @@
 pub mod Access
+pub mod Canonical
 pub mod Carrying
 pub mod Changes
 pub mod Codes
@@ -10,6 +11,7 @@ pub mod Lives
 pub mod Maps
 pub mod Next
 pub mod Numbers
+pub mod Operations
 pub mod Outcomes
 pub mod Queues
 pub mod Rounds
@@ -21,4 +23,5 @@ pub mod Start
 pub mod State
 pub mod Steps
 pub mod Valid
+pub mod Words
 pub mod Workloads
