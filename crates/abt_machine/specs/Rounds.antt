@@ -1,5 +1,5 @@
 -- In which order a scheduler visits its pools, round by round.
-use Rattle.std.specs.Prelude.{ℕ, zero, suc, ◌≡◌, ◌+◌, ◌%◌, ◌==◌, List, [], ◌∷◌, ◌++◌, filter, reverse, take, drop, length, Option, Some, None, slice_get, IsPermutation}
+use Rattle.std.specs.Prelude.{ℕ, zero, suc, ◌≡◌, ◌<◌, ◌%◌, ◌==◌, List, [], ◌∷◌, ◌++◌, filter, reverse, take, drop, length, Option, Some, None, slice_get, IsPermutation}
 use Rattle.abt_machine.specs.declared.operations.Access.{Access}
 use Rattle.abt_machine.specs.declared.operations.Access.TheVariants as access
 use Rattle.abt_machine.specs.declared.operations.OrderShape.{OrderShape}
@@ -86,3 +86,7 @@ IsPrefixOf xs ys = (rest : List ℕ) × (xs ++ rest ≡ ys)
 -- p may be the next pool of the frame's round
 abbrev pub IsNextPool : Parts → List OrderShape → Frame → ℕ → Type 0
 IsNextPool W Z f p = (order : List ℕ) × IsOrder W Z f.sched f.round order × IsPrefixOf (f.seen ++ p ∷ []) order
+
+-- each user scheduler names a stored order
+abbrev pub OrdersStored : Parts → List OrderShape → Type 0
+OrdersStored W Z = (g k : ℕ) → rule_of W g ≡ Some (rule.User k) → k < length Z

@@ -1,0 +1,79 @@
+-- The laws of the machine. W is a workload and Z the list of the shapes of the stored orders; each law supposes that W is valid and that each user scheduler's order is stored.
+use Rattle.std.specs.Prelude.{ℕ, ◌≡◌, ◌≢◌, ◌<◌, ◌⊎◌, Bool, true, false, List, [], ◌∷◌, ◌++◌}
+use Rattle.abt_machine.specs.declared.events.Event.{Event}
+use Rattle.abt_machine.specs.declared.events.What.{What}
+use Rattle.abt_machine.specs.declared.events.What.TheVariants as what
+use Rattle.abt_machine.specs.declared.operations.OrderShape.{OrderShape}
+use Rattle.abt_machine.specs.declared.workload.Parts.{Parts}
+use Rattle.abt_machine.specs.Valid.{IsValid}
+use Rattle.abt_machine.specs.Rounds.{OrdersStored}
+use Rattle.abt_machine.specs.State.{State}
+use Rattle.abt_machine.specs.Start.{start}
+use Rattle.abt_machine.specs.Sites.{event_site}
+use Rattle.abt_machine.specs.Events.{After}
+use Rattle.abt_machine.specs.Runs.{Run, state_at, last_state}
+use Rattle.abt_machine.specs.Sound.{Sound}
+use Rattle.abt_machine.specs.Outcomes.{Quiet, AllEnded, Spent, is_step, steps_of}
+use Rattle.abt_machine.specs.Lives.{LivesOf}
+use Rattle.abt_laws.specs.Footprint.{ChangesOnly, Apart}
+use Rattle.abt_laws.specs.Measure.{steps_left, FallsBy}
+
+-- the start is sound
+abbrev pub StartIsSound : Parts → List OrderShape → Type 0
+StartIsSound W Z = IsValid W → OrdersStored W Z → Sound W Z (start W)
+
+-- every event leads from a sound state to a sound state
+abbrev pub EventsKeepSound : Parts → List OrderShape → Type 0
+EventsKeepSound W Z = IsValid W → OrdersStored W Z → (S T : State) (e : Event) → Sound W Z S → After W Z S e T → Sound W Z T
+
+-- every state of a run is sound
+abbrev pub RunsAreSound : Parts → List OrderShape → Type 0
+RunsAreSound W Z = IsValid W → OrdersStored W Z → (J : List Event) (i : ℕ) → Run W Z J → Sound W Z (state_at W J i)
+
+-- a state and an event determine the next state
+abbrev pub OneAfter : Parts → List OrderShape → Type 0
+OneAfter W Z = (S T U : State) (e : Event) → After W Z S e T → After W Z S e U → T ≡ U
+
+-- an event changes only its stream, at most one object, and units that these keep
+abbrev pub EventsAreLocal : Parts → List OrderShape → Type 0
+EventsAreLocal W Z = IsValid W → OrdersStored W Z → (S T : State) (e : Event) → Sound W Z S → After W Z S e T → ChangesOnly W e.stream.0 (event_site W e) S T
+
+-- of two events of different streams and different objects, where one may come and then the other, the other may come first and then the one, with the same state after both
+abbrev pub EventsCommute : Parts → List OrderShape → Type 0
+EventsCommute W Z = IsValid W → OrdersStored W Z → (S T U : State) (e f : Event) → Sound W Z S → e.stream.0 ≢ f.stream.0 → Apart (event_site W e) (event_site W f) →
+    After W Z S e T → After W Z T f U → (V : State) × After W Z S f V × After W Z V e U
+
+-- where every unit is unborn or ended, nothing is left to do
+abbrev pub EndedIsQuiet : Parts → List OrderShape → Type 0
+EndedIsQuiet W Z = IsValid W → OrdersStored W Z → (S : State) → Sound W Z S → AllEnded S → Quiet W S
+
+-- a spent stream excludes that nothing is left to do
+abbrev pub SpentIsNotQuiet : Parts → List OrderShape → Type 0
+SpentIsNotQuiet W Z = IsValid W → OrdersStored W Z → (n s : ℕ) (J : List Event) → Run W Z J → Spent W n J s → Quiet W (last_state W J) → ⊥
+
+abbrev pub IsMiss : What → Type 0
+IsMiss (what.Miss p) = Unit {0}
+IsMiss _ = ⊥
+
+-- where nothing is left to do, the next event is a miss, after which nothing is left to do
+abbrev pub QuietStays : Parts → List OrderShape → Type 0
+QuietStays W Z = IsValid W → OrdersStored W Z → (S T : State) (e : Event) → Sound W Z S → Quiet W S → After W Z S e T → IsMiss e.what × Quiet W T
+
+abbrev pub AllMisses : List Event → Type 0
+AllMisses [] = Unit {0}
+AllMisses (e ∷ es) = IsMiss e.what × AllMisses es
+
+-- no continuation of a journal after which nothing is left to do has another event than a miss
+abbrev pub QuietRunsMiss : Parts → List OrderShape → Type 0
+QuietRunsMiss W Z = IsValid W → OrdersStored W Z → (J K : List Event) → Run W Z (J ++ K) → Quiet W (last_state W J) → AllMisses K × Quiet W (last_state W (J ++ K))
+
+-- in every run each life of each unit goes as lives do
+abbrev pub RunsLive : Parts → List OrderShape → Type 0
+RunsLive W Z = IsValid W → OrdersStored W Z → (J : List Event) → Run W Z J → LivesOf W J
+
+-- a step, of a stream that has steps left, lowers the steps left; every other event keeps them and lowers the weight of the units or, as a miss, the number of open frames where a stacked frame's round ends empty
+abbrev pub EventsFall : Parts → List OrderShape → Type 0
+EventsFall W Z = IsValid W → OrdersStored W Z → (n : ℕ) (J : List Event) (e : Event) → Run W Z (J ++ e ∷ []) →
+    (is_step e.what ≡ true → steps_of e.stream.0 J < n → steps_left W n (J ++ e ∷ []) < steps_left W n J)
+    × (is_step e.what ≡ false → steps_left W n (J ++ e ∷ []) ≡ steps_left W n J)
+    × FallsBy W e.stream.0 e.what (last_state W J) (last_state W (J ++ e ∷ []))

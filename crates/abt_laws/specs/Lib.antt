@@ -1,0 +1,3 @@
+pub mod Footprint
+pub mod Laws
+pub mod Measure

@@ -1,0 +1,148 @@
+-- One stream's run, computed event by event, each with why it may come.
+use Rattle.std.proofs.Common.{ℕ, zero, suc, ◌≡◌, ◌<◌, ◌-◌, ◌++◌, Bool, true, false, List, [], ◌∷◌, length, Option, Some, None, refl, ap, sym, subst, ◌∙◌}
+use Rattle.std.specs.Prelude.{◌==◌}
+use Rattle.std.proofs.lemmas.Bool.{eqb-true}
+use Rattle.abt_machine.specs.declared.numbers.StreamNo.{StreamNo}
+use Rattle.abt_machine.specs.declared.events.Cause.{Cause}
+use Rattle.abt_machine.specs.declared.events.Event.{Event}
+use Rattle.abt_machine.specs.declared.events.Place.{Place}
+use Rattle.abt_machine.specs.declared.events.Place.TheVariants as place
+use Rattle.abt_machine.specs.declared.events.What.{What}
+use Rattle.abt_machine.specs.declared.events.What.TheVariants as what
+use Rattle.abt_machine.specs.declared.operations.OrderShape.{OrderShape}
+use Rattle.abt_machine.specs.declared.workload.Parts.{Parts}
+use Rattle.abt_machine.specs.Numbers.{stream_no, pool_no, unit_no}
+use Rattle.abt_machine.specs.Workloads.{op_at, pools_of}
+use Rattle.abt_machine.specs.Queues.{first, last}
+use Rattle.abt_machine.specs.State.{State, Frame}
+use Rattle.abt_machine.specs.Lines.{standing, hand, next, InTray, InFrames}
+use Rattle.abt_machine.specs.Next.{Due, due, PutDue, LookDue, EndDue, EnterDue, StepDue, LeaveDue, RoundDue}
+use Rattle.abt_machine.specs.Fronts.{front}
+use Rattle.abt_machine.specs.Rounds.{Choice, Only, AnyOrder, NoOrder, choice_of, IsChosen, IsPrefixOf, IsNextPool}
+use Rattle.abt_machine.specs.Codes.{code_at}
+use Rattle.abt_machine.specs.Events.{May, after}
+use Rattle.abt_machine.specs.Runs.{RunFrom}
+
+-- an event that may come
+abbrev pub Coming : Parts → List OrderShape → State → ℕ → Type 0
+Coming W Z S s = (w : What) × May W Z S s w
+
+-- Whether two numbers are one.
+
+abbrev same_by : (a b : ℕ) (t : Bool) → (a == b) ≡ t → Option (a ≡ b)
+same_by a b true e = Some (eqb-true a b e)
+same_by a b false e = None
+
+abbrev same : (a b : ℕ) → Option (a ≡ b)
+same a b = same_by a b (a == b) refl
+
+-- The next pool of a round.
+
+abbrev Following : List ℕ → List ℕ → Type 0
+Following seen order = (p : ℕ) × IsPrefixOf (seen ++ p ∷ []) order
+
+abbrev behind : (x y : ℕ) (xs ys : List ℕ) → Option (x ≡ y) → Option (Following xs ys) → Option (Following (x ∷ xs) (y ∷ ys))
+behind x y xs ys (Some e) (Some f) = Some (f.0, (f.1.0, ap (λ zs. x ∷ zs) f.1.1 ∙ ap (λ z. z ∷ ys) e))
+behind x y xs ys None f = None
+behind x y xs ys (Some e) None = None
+
+abbrev following : (seen order : List ℕ) → Option (Following seen order)
+following [] [] = None
+following [] (p ∷ ps) = Some (p, (ps, refl))
+following (x ∷ xs) [] = None
+following (x ∷ xs) (y ∷ ys) = behind x y xs ys (same x y) (following xs ys)
+
+abbrev NextPool : Parts → List OrderShape → Frame → Type 0
+NextPool W Z f = (p : ℕ) × IsNextPool W Z f p
+
+abbrev by_following : (W : Parts) (Z : List OrderShape) (f : Frame) (one : List ℕ) → choice_of W Z f.sched f.round ≡ Only one → Option (Following f.seen one) → Option (NextPool W Z f)
+by_following W Z f one e None = None
+by_following W Z f one e (Some found) = Some (found.0, (one, subst (λ (c : Choice). IsChosen c (pools_of W f.sched) one) (sym e) refl, found.1))
+
+abbrev by_choice : (W : Parts) (Z : List OrderShape) (f : Frame) (c : Choice) → choice_of W Z f.sched f.round ≡ c → Option (NextPool W Z f)
+by_choice W Z f (Only one) e = by_following W Z f one e (following f.seen one)
+by_choice W Z f AnyOrder e = None
+by_choice W Z f NoOrder e = None
+
+abbrev next_pool : (W : Parts) (Z : List OrderShape) (f : Frame) → Option (NextPool W Z f)
+next_pool W Z f = by_choice W Z f (choice_of W Z f.sched f.round) refl
+
+-- The next event, by what is due.
+
+abbrev by_front : (W : Parts) (Z : List OrderShape) (S : State) (s : ℕ) → due W S s ≡ RoundDue → (p : ℕ) → IsNextPool W Z (S.stream s).top p → (o : Option ℕ) → front W S s p ≡ o → Coming W Z S s
+by_front W Z S s d p n None e = (what.Miss (pool_no p), (d, e, n))
+by_front W Z S s d p n (Some u) e = (what.Take (pool_no p) (unit_no u), (d, e, n))
+
+abbrev by_pool : (W : Parts) (Z : List OrderShape) (S : State) (s : ℕ) → due W S s ≡ RoundDue → Option (NextPool W Z (S.stream s).top) → Option (Coming W Z S s)
+by_pool W Z S s d None = None
+by_pool W Z S s d (Some n) = Some (by_front W Z S s d n.0 n.1 (front W S s n.0) refl)
+
+abbrev by_tray : (W : Parts) (Z : List OrderShape) (S : State) (s : ℕ) → due W S s ≡ PutDue → (o : Option ℕ) → first (standing W S (InTray s)) ≡ o → Option (Coming W Z S s)
+by_tray W Z S s d None e = None
+by_tray W Z S s d (Some u) e = Some (what.Put (unit_no u) (pool_no (S.carried u).home), (d, e, refl))
+
+abbrev by_taken : (W : Parts) (Z : List OrderShape) (S : State) (s : ℕ) → due W S s ≡ LookDue → (o : Option ℕ) → next W S s ≡ o → Option (Coming W Z S s)
+by_taken W Z S s d None e = None
+by_taken W Z S s d (Some u) e = Some (what.Look (unit_no u), (d, e))
+
+abbrev by_step : (W : Parts) (Z : List OrderShape) (S : State) (s : ℕ) → due W S s ≡ StepDue → (o : Option ℕ) → hand W S s ≡ o → Option (Coming W Z S s)
+by_step W Z S s d None e = None
+by_step W Z S s d (Some u) e =
+    Some (what.Step (unit_no u) (S.carried u).position (code_at W S s u (op_at W u (S.carried u).position)), (d, e, refl, refl))
+
+abbrev by_end : (W : Parts) (Z : List OrderShape) (S : State) (s : ℕ) (c : Cause) → due W S s ≡ EndDue c → (o : Option ℕ) → hand W S s ≡ o → Option (Coming W Z S s)
+by_end W Z S s c d None e = None
+by_end W Z S s c d (Some u) e = Some (what.End (unit_no u) c, (d, e))
+
+abbrev by_enter : (W : Parts) (Z : List OrderShape) (S : State) (s : ℕ) → due W S s ≡ EnterDue → (o : Option ℕ) → hand W S s ≡ o → Option (Coming W Z S s)
+by_enter W Z S s d None e = None
+by_enter W Z S s d (Some u) e = Some (what.Enter (unit_no u), (d, e))
+
+abbrev framed_by : (s d : ℕ) (r : StreamNo) (e : ℕ) → Option (r.0 ≡ s) → Option (e ≡ d) → Option (place.Frame r e ≡ place.Frame (stream_no s) d)
+framed_by s d r e (Some a) (Some b) = Some (ap (λ q. place.Frame q e) (ap stream_no a) ∙ ap (λ t. place.Frame (stream_no s) t) b)
+framed_by s d r e None b = None
+framed_by s d r e (Some a) None = None
+
+abbrev is_framed : (s d : ℕ) (q : Place) → Option (q ≡ place.Frame (stream_no s) d)
+is_framed s d (place.Frame r e) = framed_by s d r e (same r.0 s) (same e d)
+is_framed s d _ = None
+
+abbrev by_place : (W : Parts) (Z : List OrderShape) (S : State) (s u : ℕ) → due W S s ≡ LeaveDue → Option (S.place u ≡ place.Frame (stream_no s) (length (S.stream s).below - 1)) → Option (Coming W Z S s)
+by_place W Z S s u d None = None
+by_place W Z S s u d (Some e) = Some (what.Leave (unit_no u), (d, e))
+
+abbrev by_framed : (W : Parts) (Z : List OrderShape) (S : State) (s : ℕ) → due W S s ≡ LeaveDue → Option ℕ → Option (Coming W Z S s)
+by_framed W Z S s d None = None
+by_framed W Z S s d (Some u) = by_place W Z S s u d (is_framed s (length (S.stream s).below - 1) (S.place u))
+
+abbrev by_due : (W : Parts) (Z : List OrderShape) (S : State) (s : ℕ) (k : Due) → due W S s ≡ k → Option (Coming W Z S s)
+by_due W Z S s PutDue d = by_tray W Z S s d (first (standing W S (InTray s))) refl
+by_due W Z S s LookDue d = by_taken W Z S s d (next W S s) refl
+by_due W Z S s (EndDue c) d = by_end W Z S s c d (hand W S s) refl
+by_due W Z S s EnterDue d = by_enter W Z S s d (hand W S s) refl
+by_due W Z S s StepDue d = by_step W Z S s d (hand W S s) refl
+by_due W Z S s LeaveDue d = by_framed W Z S s d (last (standing W S (InFrames s)))
+by_due W Z S s RoundDue d = by_pool W Z S s d (next_pool W Z (S.stream s).top)
+
+abbrev coming : (W : Parts) (Z : List OrderShape) (S : State) (s : ℕ) → Option (Coming W Z S s)
+coming W Z S s = by_due W Z S s (due W S s) refl
+
+-- The run.
+
+abbrev pub Ran : Parts → List OrderShape → State → Type 0
+Ran W Z S = (J : List Event) × RunFrom W Z S J
+
+abbrev stamped : ℕ → What → Event
+stamped t w = record { stamp = t; stream = stream_no 0; what = w }
+
+abbrev ran_on : (W : Parts) (Z : List OrderShape) (S : State) → 0 < W.streams → ℕ → (c : Coming W Z S 0) → Ran W Z (after W S 0 c.0) → Ran W Z S
+ran_on W Z S some t c rest = (stamped t c.0 ∷ rest.0, (some, c.1, rest.1))
+
+abbrev ran_from : (W : Parts) (Z : List OrderShape) (S : State) → 0 < W.streams → ℕ → Option (Coming W Z S 0) → ((c : Coming W Z S 0) → Ran W Z (after W S 0 c.0)) → Ran W Z S
+ran_from W Z S some t None rest = ([], tt)
+ran_from W Z S some t (Some c) rest = ran_on W Z S some t c (rest c)
+
+-- the first n events of stream 0 from S on, or as many as come, with stamps from t
+abbrev pub ran_by : (W : Parts) (Z : List OrderShape) → 0 < W.streams → ℕ → ℕ → (S : State) → Ran W Z S
+ran_by W Z some zero t S = ([], tt)
+ran_by W Z some (suc n) t S = ran_from W Z S some t (coming W Z S 0) (λ c. ran_by W Z some n (suc t) (after W S 0 c.0))

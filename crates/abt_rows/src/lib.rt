@@ -1,0 +1,11 @@
+//! Worked rows of the machine, computed from its definitions.
+#![tactic(auto)]
+
+ghost use Rattle.std.specs.Prelude.{◌≡◌};
+
+/// One.
+pub fn one() -> u8
+    ensures { result ≡ 1 }
+{
+    1
+}
