@@ -1,5 +1,5 @@
 -- What a stream asks of an object, and what it is answered.
-use Rattle.std.specs.Prelude.{ℕ, suc, Bool, List, Option}
+use Rattle.std.specs.Prelude.{ℕ, Bool, List, Option}
 use Rattle.abt_machine.specs.declared.events.Cause.{Cause}
 use Rattle.abt_machine.specs.declared.events.Code.{Code}
 use Rattle.abt_machine.specs.declared.operations.Side.{Side}

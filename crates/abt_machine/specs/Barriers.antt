@@ -1,6 +1,6 @@
 -- What a barrier answers, and what it is afterwards.
-use Rattle.std.specs.Prelude.{suc, ◌≡◌, ◌≢◌, List, [], ◌∷◌, ◌++◌, length}
-use Rattle.abt_machine.specs.Values.{Owned, BarrierValue}
+use Rattle.std.specs.Prelude.{suc, ◌≡◌, ◌≢◌, [], ◌∷◌, ◌++◌, length}
+use Rattle.abt_machine.specs.Values.{BarrierValue}
 use Rattle.abt_machine.specs.Acts.{Act, Arrive, Answer, Through, Rested}
 
 -- a barrier answers so, and is this afterwards: the last party goes through with all that wait, any other waits

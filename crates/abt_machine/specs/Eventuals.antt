@@ -1,8 +1,8 @@
 -- What an eventual answers, and what it is afterwards.
-use Rattle.std.specs.Prelude.{ℕ, ◌≡◌, is_some, List, [], ◌∷◌, ◌++◌, map, Some, None, option_map, IsSome, IsNone}
+use Rattle.std.specs.Prelude.{◌≡◌, is_some, [], ◌∷◌, ◌++◌, map, Some, None, option_map, IsSome, IsNone}
 use Rattle.abt_machine.specs.declared.events.Code.TheVariants as code
 use Rattle.abt_machine.specs.Steps.{truth}
-use Rattle.abt_machine.specs.Values.{Owned, EventualValue}
+use Rattle.abt_machine.specs.Values.{EventualValue}
 use Rattle.abt_machine.specs.Acts.{Act, Await, Fill, Reset, Test, Answer, Given, Woke, Rested, Number, Coded, received}
 
 -- an eventual answers so, and is this afterwards

@@ -12,7 +12,7 @@ use Rattle.abt_machine.specs.Numbers.{unit_no}
 use Rattle.abt_machine.specs.Workloads.{condition_number}
 use Rattle.abt_machine.specs.Access.{may_put, may_take}
 use Rattle.abt_machine.specs.Sites.{first_pool, monitor_of}
-use Rattle.abt_machine.specs.Carrying.{advanced, added, from_key, printed, refused, with_acc, with_key}
+use Rattle.abt_machine.specs.Carrying.{added, from_key, printed, with_acc, with_key}
 use Rattle.abt_machine.specs.State.{Carried}
 use Rattle.abt_machine.specs.Values.{Owned}
 use Rattle.abt_machine.specs.Acts.{Act, Answer, carrying, moved, received}

@@ -14,7 +14,7 @@ use Rattle.abt_machine.specs.declared.operations.Side.TheVariants as side
 use Rattle.abt_machine.specs.declared.workload.Parts.{Parts}
 use Rattle.abt_machine.specs.Workloads.{body_at, kind_of, op_at}
 use Rattle.abt_machine.specs.Carrying.{with_home}
-use Rattle.abt_machine.specs.State.{Stream, Plain, Asked}
+use Rattle.abt_machine.specs.State.{Plain, Asked}
 use Rattle.abt_machine.specs.Next.{Due, due_by, PutDue, LookDue, EndDue, EnterDue, StepDue, LeaveDue, RoundDue}
 use Rattle.abt_machine.specs.Fronts.{owns}
 use Rattle.abt_machine.specs.Rounds.{IsNextPool}
