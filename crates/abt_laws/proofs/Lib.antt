@@ -1,2 +1,5 @@
+pub mod LifeJournals
+pub mod LifeLists
+pub mod LifeTies
 pub mod Queues
 pub mod Removal
