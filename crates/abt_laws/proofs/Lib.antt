@@ -1,5 +1,7 @@
 pub mod LifeJournals
 pub mod LifeLists
+pub mod LifeMaps
+pub mod LifeSteps
 pub mod LifeTies
 pub mod Queues
 pub mod Removal
