@@ -1,0 +1,221 @@
+-- Each operation that goes through takes its unit on, and moves other units only from outside to outside, but where it begins a life.
+use Rattle.std.proofs.Common.{◌≡◌, ◌≢◌, ℕ, suc, ◌==◌, if◌then◌else◌, is_some, Bool, true, false, List, [], ◌∷◌, ◌++◌, length, map, Option, Some, None, refl, sym, ◌∙◌, ap, subst, ◌⊎◌, inl, inr}
+use Rattle.std.proofs.lemmas.Bool.{cond_both, true≢false, false≢true}
+use Rattle.abt_machine.specs.declared.events.Code.{Code}
+use Rattle.abt_machine.specs.declared.events.Code.TheVariants as code
+use Rattle.abt_machine.specs.declared.events.Piece.TheVariants as piece
+use Rattle.abt_machine.specs.declared.events.Place.{Place}
+use Rattle.abt_machine.specs.declared.events.Place.TheVariants as place
+use Rattle.abt_machine.specs.declared.events.Spot.TheVariants as spot
+use Rattle.abt_machine.specs.declared.operations.Op.{Op}
+use Rattle.abt_machine.specs.declared.operations.Op.TheVariants as op
+use Rattle.abt_machine.specs.declared.workload.Parts.{Parts}
+use Rattle.abt_machine.specs.Workloads.{combine_of, mutex_of, size_of}
+use Rattle.abt_machine.specs.Numbers.{stream_no, unit_no, object_no}
+use Rattle.abt_machine.specs.Sites.{first_pool}
+use Rattle.abt_machine.specs.Access.{may_put, may_take}
+use Rattle.abt_machine.specs.Carrying.{added, from_key, printed, refused, with_acc, with_key}
+use Rattle.abt_machine.specs.Queues.{first_alone}
+use Rattle.abt_machine.specs.State.{State, Carried, Desk, Mutex, Future}
+use Rattle.abt_machine.specs.Lines.{Line, ticket_in, standing, Waiting, Joining, tray_end}
+use Rattle.abt_machine.specs.Outcomes.{IsOver}
+use Rattle.abt_machine.specs.Codes.{code_of, unless, is_unborn, is_ended, is_suspended, is_in_pool, is_full}
+use Rattle.abt_machine.specs.Changes.{Change, no_change, goes_with, goes_on, to_tray, tray_moves, waiting_moves}
+use Rattle.abt_machine.specs.Steps.{wakes, asks, joins, waits, locks, hands_over, releases, queues, passes, receives, gives_all, awaits, learns, ready_value, filled_by, fills, arrives, op_row, step_row}
+use Rattle.abt_laws.proofs.Queues.{HasTicket, AllUnits, queue-all, none≢some}
+use Rattle.abt_laws.proofs.LifeMaps.{EachOf, EachOf-append, EachOf-units, AllUnits-then, AllUnits-first_alone}
+use Rattle.abt_laws.proofs.LifeTies.{IsOutside, IsBusy}
+use Rattle.abt_laws.proofs.LifeSteps.{GoesOn, StaysOutside, IsStep, Steps}
+
+-- Who waits is outside.
+
+waiting-outside : (x : ℕ) (pl : Place) (t : ℕ) → ticket_in (Waiting x) pl ≡ Some t → IsOutside pl
+waiting-outside x (place.Blocked (spot.Object y) k) t h = tt
+waiting-outside x _ t h = absurd (none≢some h)
+
+pub joining-outside : (v : ℕ) (pl : Place) (t : ℕ) → ticket_in (Joining v) pl ≡ Some t → IsOutside pl
+joining-outside v (place.Blocked (spot.Join w) k) t h = tt
+joining-outside v _ t h = absurd (none≢some h)
+
+abbrev pub AllOutside : State → List ℕ → Type 0
+AllOutside S us = AllUnits (λ u. IsOutside (S.place u)) us
+
+-- if each place of a line is outside, so is each unit that stands there
+pub line-outside : (W : Parts) (S : State) (l : Line) → ((pl : Place) (t : ℕ) → ticket_in l pl ≡ Some t → IsOutside pl) → AllOutside S (standing W S l)
+line-outside W S l out =
+    AllUnits-then (HasTicket (λ u. ticket_in l (S.place u)) (length W.units)) (λ u. IsOutside (S.place u)) (standing W S l) (λ u h. out (S.place u) h.ticket h.has)
+    (queue-all (λ u. ticket_in l (S.place u)) (length W.units))
+
+waiters-outside : (W : Parts) (S : State) (x : ℕ) → AllOutside S (standing W S (Waiting x))
+waiters-outside W S x = line-outside W S (Waiting x) (waiting-outside x)
+
+-- The shapes of rows, for unit x in a hand.
+
+module _ (W : Parts) (S : State) (s x : ℕ) (held : IsOutside (S.place x) → ⊥) where
+  tray-stays : (us : List ℕ) (i : ℕ) → AllOutside S us → EachOf (StaysOutside S x) (tray_moves s i us)
+  tray-stays [] i a = tt
+  tray-stays (u ∷ us) i a = ((inr a.0, tt), tray-stays us (suc i) a.1)
+
+  waiting-stays : (m : ℕ) (us : List ℕ) (t : ℕ) → AllOutside S us → EachOf (StaysOutside S x) (waiting_moves m t us)
+  waiting-stays m [] t a = tt
+  waiting-stays m (u ∷ us) t a = ((inr a.0, tt), waiting-stays m us (suc t) a.1)
+
+  row-goes_with : (c : Carried) → c.position ≡ (S.carried x).position → Steps S x (goes_with x c)
+  row-goes_with c h = record { stay_outside = tt; goes_on = (refl, ap (λ (n : ℕ). suc n) h, tt); same_lives = tt; same_streams = refl }
+
+  row-goes_on : Steps S x (goes_on S x)
+  row-goes_on = row-goes_with (S.carried x) refl
+
+  -- unit x goes on, with these moves
+  row-moves : (ms : List (ℕ × Place)) → EachOf (StaysOutside S x) ms → Steps S x (record (goes_on S x) { moves = ms })
+  row-moves ms h = record { stay_outside = h; goes_on = (refl, refl, tt); same_lives = tt; same_streams = refl }
+
+  row-wakes : (us : List ℕ) → AllOutside S us → Steps S x (wakes W S s x us)
+  row-wakes us a = row-moves (to_tray W S s us) (tray-stays us (tray_end W S s) a)
+
+  row-yields : Steps S x (wakes W S s x (x ∷ []))
+  row-yields = row-moves (to_tray W S s (x ∷ [])) ((inl refl, tt), tt)
+
+  row-yields_to : (v : ℕ) (pl : Place) → IsOutside (S.place v) → IsOutside pl → Steps S x (record (goes_on S x) { moves = (v, pl) ∷ to_tray W S s (x ∷ []) })
+  row-yields_to v pl out to = row-moves ((v, pl) ∷ to_tray W S s (x ∷ [])) ((inr out, to), ((inl refl, tt), tt))
+
+  -- unit x goes to such a place
+  row-blocks : (pl : Place) → IsOutside pl → Steps S x (record (goes_on S x) { moves = (x, pl) ∷ [] })
+  row-blocks pl h = row-moves ((x, pl) ∷ []) ((inl refl, h), tt)
+
+  row-asks : (v : ℕ) (d : Desk) → d.life ≡ (S.desk v).life → Steps S x (asks S x v d)
+  row-asks v d h = record { stay_outside = tt; goes_on = (refl, refl, tt); same_lives = (h, tt); same_streams = refl }
+
+  row-joins : (v : ℕ) (pl : Place) → Steps S x (joins S x v pl)
+  row-joins v (place.Ended c) = row-goes_on
+  row-joins v _ = row-blocks (place.Blocked (spot.Join (unit_no v)) (S.join_next v)) tt
+
+  row-waits : (y : ℕ) → Steps S x (waits S x y)
+  row-waits y = row-blocks (place.Blocked (spot.Object (object_no y)) (S.object_next y)) tt
+
+  row-locks : (y : ℕ) (o : Option ℕ) → Steps S x (locks S x y o)
+  row-locks y None = row-goes_on
+  row-locks y (Some v) = row-waits y
+
+  front-outside : (y : ℕ) → AllOutside S (first_alone (standing W S (Waiting y)))
+  front-outside y = AllUnits-first_alone (λ u. IsOutside (S.place u)) (standing W S (Waiting y)) (waiters-outside W S y)
+
+  row-hands_over : (m : ℕ) → Steps S x (hands_over W S s x m)
+  row-hands_over m = row-wakes (first_alone (standing W S (Waiting m))) (front-outside m)
+
+  row-releases : (y m : ℕ) → Steps S x (releases W S s x y m)
+  row-releases y m =
+      row-moves ((x, place.Blocked (spot.Object (object_no y)) (S.object_next y)) ∷ to_tray W S s (first_alone (standing W S (Waiting m))))
+      ((inl refl, tt), tray-stays (first_alone (standing W S (Waiting m))) (tray_end W S s) (front-outside m))
+
+  row-queues : (m : ℕ) (us : List ℕ) → AllOutside S us → Steps S x (queues S x m us)
+  row-queues m us a = row-moves (waiting_moves m (S.object_next m) us) (waiting-stays m us (S.object_next m) a)
+
+  row-passes : (m : ℕ) (o : Option ℕ) (us : List ℕ) → AllOutside S us → Steps S x (passes W S s x m o us)
+  row-passes m o [] a = row-goes_on
+  row-passes m (Some v) (u ∷ us) a = row-queues m (u ∷ us) a
+  row-passes m None (u ∷ us) a =
+      row-moves (waiting_moves m (S.object_next m) us ++ to_tray W S s (u ∷ []))
+      (EachOf-append (StaysOutside S x) (waiting_moves m (S.object_next m) us) (to_tray W S s (u ∷ [])) (waiting-stays m us (S.object_next m) a.1) (tray-stays (u ∷ []) (tray_end W S s) (a.0, tt)))
+
+  row-gives_all : (y value : ℕ) → Steps S x (gives_all W S s x y value)
+  row-gives_all y value =
+      let us : List ℕ = standing W S (Waiting y) in
+      let out : AllOutside S us = waiters-outside W S y in
+      record {
+        stay_outside = tray-stays us (tray_end W S s) out;
+        goes_on = (refl, refl, EachOf-units (λ (q : ℕ × Carried). (q.0 ≢ x) × (q.1.position ≡ (S.carried q.0).position)) (λ u. IsOutside (S.place u)) (receives S value) us (λ u h. (λ e. held (subst (λ n. IsOutside (S.place n)) e h), refl)) out);
+        same_lives = tt;
+        same_streams = refl;
+      }
+
+  row-awaits : (y : ℕ) (o : Option ℕ) → Steps S x (awaits S x y o)
+  row-awaits y None = row-waits y
+  row-awaits y (Some value) = row-goes_with (with_acc value (S.carried x)) refl
+
+  row-learns : (b : Bool) → Steps S x (learns S x b)
+  row-learns true = row-goes_with (with_acc 1 (S.carried x)) refl
+  row-learns false = row-goes_with (with_acc 0 (S.carried x)) refl
+
+  row-fills : (y : ℕ) (f : Future) → Steps S x (fills W S s x y f)
+  row-fills y f = cond_both (f.filled == size_of W y) (gives_all W S s x y f.value) (goes_on S x) (Steps S x) (λ _. row-gives_all y f.value) (λ _. row-goes_on)
+
+  row-arrives : (y : ℕ) → Steps S x (arrives W S s x y)
+  row-arrives y =
+      cond_both (suc (length (standing W S (Waiting y))) == size_of W y) (wakes W S s x (standing W S (Waiting y))) (waits S x y) (Steps S x)
+      (λ _. row-wakes (standing W S (Waiting y)) (waiters-outside W S y)) (λ _. row-waits y)
+
+  pub row-refused : (c : Code) → Steps S x (record no_change { carried = (x, refused c (S.carried x)) ∷ [] })
+  row-refused c = record { stay_outside = tt; goes_on = (refl, refl, tt); same_lives = tt; same_streams = refl }
+
+  -- What the code says of the other unit.
+
+  unless-ok : (b : Bool) (c rest : Code) → (c ≡ code.Ok → ⊥) → unless b c rest ≡ code.Ok → (b ≡ true) × (rest ≡ code.Ok)
+  unless-ok true c rest differs h = (refl, h)
+  unless-ok false c rest differs h = absurd (differs h)
+
+  suspended-outside : (pl : Place) → is_suspended pl ≡ true → IsOutside pl
+  suspended-outside (place.Blocked spot.Suspended t) h = tt
+  suspended-outside _ h = absurd (false≢true h)
+
+  pooled-outside : (p : ℕ) (pl : Place) → is_in_pool p pl ≡ true → IsOutside pl
+  pooled-outside p (place.Pool q t) h = tt
+  pooled-outside p _ h = absurd (false≢true h)
+
+  unborn-over : (pl : Place) → is_unborn pl ≡ true → IsOver pl
+  unborn-over place.Unborn h = tt
+  unborn-over _ h = absurd (false≢true h)
+
+  ended-over : (pl : Place) → is_ended pl ≡ true → IsOver pl
+  ended-over (place.Ended c) h = tt
+  ended-over _ h = absurd (false≢true h)
+
+  -- The operations.
+
+  -- what holds of an operation that goes through
+  abbrev pub Goes : Op → Type 0
+  Goes (op.Create v p) = IsOver (S.place v.0)
+  Goes (op.Revive v p) = IsOver (S.place v.0)
+  Goes o = Steps S x (op_row W S s x o)
+
+  pub goes : (o : Op) → code_of W S s x o ≡ code.Ok → Goes o
+  goes (op.Set n) h = row-goes_with (with_acc n (S.carried x)) refl
+  goes (op.Add n) h = row-goes_with (added n (S.carried x)) refl
+  goes (op.Say w) h = row-goes_with (printed (piece.Said w) (S.carried x)) refl
+  goes op.Print h = row-goes_with (printed (piece.Number (S.carried x).acc) (S.carried x)) refl
+  goes (op.KeySet k) h = row-goes_with (with_key k (S.carried x)) refl
+  goes (op.KeyGet k) h = row-goes_with (from_key k (S.carried x)) refl
+  goes op.Yield h = row-yields
+  goes (op.YieldTo v p) h =
+      let in_pool : (is_in_pool p.0 (S.place v.0) ≡ true) × (code.Ok ≡ code.Ok) = unless-ok (is_in_pool p.0 (S.place v.0)) code.Absent code.Ok (λ e. cc) (unless-ok (may_take W s p.0) code.PoolAccess _ (λ e. cc) h).1 in
+      row-yields_to v.0 (place.Next (stream_no s)) (pooled-outside p.0 (S.place v.0) in_pool.0) tt
+  goes op.Suspend h = row-blocks (place.Blocked spot.Suspended 0) tt
+  goes (op.Resume v) h = row-wakes (v.0 ∷ []) (suspended-outside (S.place v.0) (unless-ok (is_suspended (S.place v.0)) code.UnitState code.Ok (λ e. cc) h).0, tt)
+  goes (op.Create v p) h =
+      let unborn : (is_unborn (S.place v.0) ≡ true) × (code.Ok ≡ code.Ok) = unless-ok (is_unborn (S.place v.0)) code.Exists code.Ok (λ e. cc) (unless-ok (may_put W s p.0) code.PoolAccess _ (λ e. cc) h).1 in
+      unborn-over (S.place v.0) unborn.0
+  goes (op.Join v) h = row-joins v.0 (S.place v.0)
+  goes (op.Cancel v) h = row-asks v.0 (record (S.desk v.0) { cancel = true }) refl
+  goes (op.Migrate v p) h = row-asks v.0 (record (S.desk v.0) { migrate = Some p.0 }) refl
+  goes (op.MigrateTo v r) h = row-asks v.0 (record (S.desk v.0) { migrate = Some (first_pool W r.0) }) refl
+  goes (op.Migratable v b) h = row-asks v.0 (record (S.desk v.0) { migratable = b }) refl
+  goes (op.Revive v p) h =
+      let ended : (is_ended (S.place v.0) ≡ true) × (code.Ok ≡ code.Ok) = unless-ok (is_ended (S.place v.0)) code.UnitState code.Ok (λ e. cc) (unless-ok (may_put W s p.0) code.PoolAccess _ (λ e. cc) h).1 in
+      ended-over (S.place v.0) ended.0
+  goes (op.Lock y) h = row-locks y.0 (S.mutex y.0).owner
+  goes (op.TryLock y) h = row-goes_on
+  goes (op.Unlock y) h = row-hands_over y.0
+  goes (op.Load y) h = row-goes_with (with_acc (S.mutex y.0).number (S.carried x)) refl
+  goes (op.Store y) h = row-goes_on
+  goes (op.CondWait y) h = row-releases y.0 (mutex_of W y.0)
+  goes (op.Signal y) h = row-passes (mutex_of W y.0) (S.mutex (mutex_of W y.0)).owner (first_alone (standing W S (Waiting y.0))) (front-outside y.0)
+  goes (op.Broadcast y) h = row-passes (mutex_of W y.0) (S.mutex (mutex_of W y.0)).owner (standing W S (Waiting y.0)) (waiters-outside W S y.0)
+  goes (op.EvWait y) h = row-awaits y.0 (S.eventual y.0)
+  goes (op.EvSet y) h = row-gives_all y.0 (S.carried x).acc
+  goes (op.EvReset y) h = row-goes_on
+  goes (op.EvTest y) h = row-learns (is_some (S.eventual y.0))
+  goes (op.FuWait y) h = row-awaits y.0 (ready_value W S y.0)
+  goes (op.FuSet y) h = row-fills y.0 (filled_by (combine_of W y.0) (S.future y.0) (S.carried x).acc)
+  goes (op.FuReset y) h = row-goes_on
+  goes (op.FuTest y) h = row-learns (is_full W S y.0)
+  goes (op.BarWait y) h = row-arrives y.0
