@@ -1,3 +1,4 @@
+pub mod LifeDues
 pub mod LifeJournals
 pub mod LifeLists
 pub mod LifeMaps

@@ -57,13 +57,21 @@ carried-other S x u (p ∷ ps) ne h =
     weaken [] a = tt
     weaken (q ∷ qs) a = (inr a.0.1, weaken qs a.1)
 
-moved-other : (S : State) (x u : ℕ) (ms : List (ℕ × Place)) → u ≢ x → EachOf (StaysOutside S x) ms → (put_all S.place ms u ≡ S.place u) ⊎ (IsOutside (S.place u) × IsOutside (put_all S.place ms u))
+-- a move of unit x, or of another from outside to outside
+abbrev pub LeavesOthers : State → ℕ → ℕ × Place → Type 0
+LeavesOthers S x m = (m.0 ≡ x) ⊎ (IsOutside (S.place m.0) × IsOutside m.1)
+
+pub moved-other : (S : State) (x u : ℕ) (ms : List (ℕ × Place)) → u ≢ x → EachOf (LeavesOthers S x) ms → (put_all S.place ms u ≡ S.place u) ⊎ (IsOutside (S.place u) × IsOutside (put_all S.place ms u))
 moved-other S x u ms ne h =
     elim (put_all-kept (λ n pl. (n ≡ x) ⊎ ((pl ≡ S.place n) ⊎ (IsOutside (S.place n) × IsOutside pl))) S.place ms u (weaken ms h) (inr (inl refl)))
     [ inl same ↦ absurd (ne same) | inr is ↦ is ] where
-    weaken : (ns : List (ℕ × Place)) → EachOf (StaysOutside S x) ns → EachOf (λ (m : ℕ × Place). (m.0 ≡ x) ⊎ ((m.1 ≡ S.place m.0) ⊎ (IsOutside (S.place m.0) × IsOutside m.1))) ns
+    weaken : (ns : List (ℕ × Place)) → EachOf (LeavesOthers S x) ns → EachOf (λ (m : ℕ × Place). (m.0 ≡ x) ⊎ ((m.1 ≡ S.place m.0) ⊎ (IsOutside (S.place m.0) × IsOutside m.1))) ns
     weaken [] a = tt
-    weaken (m ∷ ns) a = (elim a.0.0 [ inl own ↦ inl own | inr out ↦ inr (inr (out, a.0.1)) ], weaken ns a.1)
+    weaken (m ∷ ns) a = (elim a.0 [ inl own ↦ inl own | inr out ↦ inr (inr out) ], weaken ns a.1)
+
+leaves-others : (S : State) (x : ℕ) (ms : List (ℕ × Place)) → EachOf (StaysOutside S x) ms → EachOf (LeavesOthers S x) ms
+leaves-others S x [] a = tt
+leaves-others S x (m ∷ ms) a = (elim a.0.0 [ inl own ↦ inl own | inr out ↦ inr (out, a.0.1) ], leaves-others S x ms a.1)
 
 same-life : (S : State) (u : ℕ) (ds : List (ℕ × Desk)) → EachOf (λ (d : ℕ × Desk). d.1.life ≡ (S.desk d.0).life) ds → (put_all S.desk ds u).life ≡ (S.desk u).life
 same-life S u ds h = put_all-kept (λ n (d : Desk). d.life ≡ (S.desk n).life) S.desk ds u h refl
@@ -72,7 +80,7 @@ pub step-drifts : (S : State) (x u : ℕ) (c : Change) → u ≢ x → Steps S x
 step-drifts S x u c ne step = record {
   life = same-life S u c.desks step.same_lives;
   position = carried-other S x u c.carried ne step.goes_on;
-  moves = moved-other S x u c.moves ne step.stay_outside;
+  moves = moved-other S x u c.moves ne (leaves-others S x c.moves step.stay_outside);
   marks = λ r h. ap (λ ss. (put_all S.stream ss r.0).mark) step.same_streams;
 }
 
@@ -112,7 +120,7 @@ step-acts b v k c S ch program at busy step =
 
 -- Fates.
 
-not-of : (u : ℕ) (v : UnitNo) → u ≢ v.0 → is_of u (Some v.0) ≡ false
+pub not-of : (u : ℕ) (v : UnitNo) → u ≢ v.0 → is_of u (Some v.0) ≡ false
 not-of u v ne = ne_eqb v.0 u (λ e. ne (sym e))
 
 -- what a step with which no life begins means to unit u
