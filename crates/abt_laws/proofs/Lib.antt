@@ -1,4 +1,5 @@
 pub mod LifeDues
+pub mod LifeEvents
 pub mod LifeJournals
 pub mod LifeLists
 pub mod LifeMaps
