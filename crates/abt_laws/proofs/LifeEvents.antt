@@ -1,11 +1,12 @@
 -- What each event means to each unit.
-use Rattle.std.proofs.Common.{◌≡◌, ◌≢◌, ℕ, suc, ◌+◌, ◌<◌, ◌-◌, ◌==◌, if◌then◌else◌, Bool, true, false, List, [], ◌∷◌, ◌++◌, length, Option, Some, None, refl, sym, ◌∙◌, ap, ap₂, subst, arith, ◌⊎◌, inl, inr}
+use Rattle.std.proofs.Common.{◌≡◌, ◌≢◌, ℕ, suc, ◌+◌, ◌<◌, ◌≤◌, ◌-◌, ◌==◌, if◌then◌else◌, Bool, true, false, List, [], ◌∷◌, ◌++◌, length, Option, Some, None, refl, sym, ◌∙◌, ap, ap₂, subst, arith, ◌⊎◌, inl, inr}
 use Rattle.std.specs.List.{cons_option}
 use Rattle.std.proofs.lemmas.Bool.{cases_eq, cond-true, eq-eqb}
 use Rattle.std.proofs.lemmas.Bool.Decides.{nat_tests}
 use Rattle.std.proofs.lemmas.List.{append-nil}
 use Rattle.std.proofs.lemmas.Option.{slice_get_cases}
 use Rattle.abt_machine.specs.declared.events.Cause.{Cause}
+use Rattle.abt_machine.specs.declared.events.Cause.TheVariants as cause
 use Rattle.abt_machine.specs.declared.events.Code.{Code}
 use Rattle.abt_machine.specs.declared.events.Code.TheVariants as code
 use Rattle.abt_machine.specs.declared.events.Place.{Place}
@@ -25,14 +26,15 @@ use Rattle.abt_machine.specs.declared.workload.Parts.{Parts}
 use Rattle.abt_machine.specs.Numbers.{stream_no}
 use Rattle.abt_machine.specs.Maps.{put_at, put_all}
 use Rattle.abt_machine.specs.Workloads.{body_at, op_at, ops_of, is_sched, kind_of}
+use Rattle.abt_machine.specs.Carrying.{with_home}
 use Rattle.abt_machine.specs.Queues.{first}
-use Rattle.abt_machine.specs.State.{State, Stream, Frame, Desk, Mark, Plain, Asked, Left}
+use Rattle.abt_machine.specs.State.{State, Stream, Frame, Carried, Desk, Mark, Plain, Asked, Left}
 use Rattle.abt_machine.specs.Lines.{Line, InPool, InTray, InHand, InNext, Joining, ticket_in, if_same, standing, hand, next, tray_end}
 use Rattle.abt_machine.specs.Fronts.{front, front_by, owns}
 use Rattle.abt_machine.specs.Frames.{marked, round_taken, round_missed, entered, left, left_to, sched_of}
 use Rattle.abt_machine.specs.Next.{StepDue, EndDue, EnterDue, LeaveDue}
 use Rattle.abt_machine.specs.Codes.{code_of, code_at}
-use Rattle.abt_machine.specs.Changes.{changed, to_tray, tray_moves}
+use Rattle.abt_machine.specs.Changes.{no_change, changed, to_tray, tray_moves}
 use Rattle.abt_machine.specs.Steps.{step_row, op_row}
 use Rattle.abt_machine.specs.Events.{May, after, change, look_row, without_requests}
 use Rattle.abt_machine.specs.Sound.{Sound}
@@ -156,3 +158,192 @@ module _ (W : Parts) (Z : List OrderShape) (S : State) (sound : Sound W Z S) (s 
       (acts-quietly (body_at W v.0) v.0 (what.Put v p) S (after W S s (what.Put v p)) (record { positions = refl; cause = refl; enters = refl; leaves = refl })
        (in-tray W S s v.0 may.1) (subst IsBusy (sym there) tt) (ap (passage_at S.stream) there) refl refl)
       (λ other. record { life = refl; position = refl; moves = inl (put_at-other S.place v.0 (place.Pool p (S.pool_next p.0)) u other); marks = λ r at. refl })
+
+  -- A look.
+
+  module _ (v : UnitNo) (may : May W Z S s (what.Look v)) where
+    from : S.place v.0 ≡ place.Next (stream_no s)
+    from = in-next W S s v.0 may.1
+
+    nobody-held : S.place u ≡ place.Hand (stream_no s) → ⊥
+    nobody-held at = sound.hand_or_next s u v.0 at from
+
+    look-life : (n : ℕ) → (put_at S.desk v.0 (without_requests (S.desk v.0)) n).life ≡ (S.desk n).life
+    look-life n = put_all-kept (λ m (d : Desk). d.life ≡ (S.desk m).life) S.desk ((v.0, without_requests (S.desk v.0)) ∷ []) n (refl, tt) refl
+
+    -- unit v comes to the hand with this mark
+    abbrev handed : Mark → State
+    handed m = changed S (record no_change { moves = (v.0, place.Hand (stream_no s)) ∷ []; desks = (v.0, without_requests (S.desk v.0)) ∷ []; streams = (s, marked m (S.stream s)) ∷ [] })
+
+    handed-fate : (m : Mark) → passage_of_mark m ≡ (0, 0) → Fate W u (what.Look v) S (handed m)
+    handed-fate m fresh =
+        let there : (handed m).place v.0 ≡ place.Hand (stream_no s) = put_at-same S.place v.0 (place.Hand (stream_no s)) in
+        let mark : ((handed m).stream s).mark ≡ m = ap (λ (own : Stream). own.mark) (put_at-same S.stream s (marked m (S.stream s))) in
+        event-fate W (what.Look v) S (handed m) v u refl (λ n. refl)
+        (acts-quietly (body_at W v.0) v.0 (what.Look v) S (handed m) (record { positions = refl; cause = refl; enters = refl; leaves = refl })
+         (subst IsOutside (sym from) tt) (subst IsBusy (sym there) tt) (ap (passage_at (handed m).stream) there ∙ (ap passage_of_mark mark ∙ fresh)) (look-life v.0) refl)
+        (λ other. record { life = look-life u; position = refl; moves = inl (put_at-other S.place v.0 (place.Hand (stream_no s)) u other); marks = mark-elsewhere (marked m (S.stream s)) nobody-held })
+
+    migrated-fate : (p : ℕ) → Fate W u (what.Look v) S (changed S (look_row W S s v.0 false (Some p)))
+    migrated-fate p =
+        let T : State = changed S (look_row W S s v.0 false (Some p)) in
+        let to : Place = place.Tray (stream_no s) (tray_end W S s) in
+        let there : T.place v.0 ≡ to = put_at-same S.place v.0 to in
+        let position : (n : ℕ) → (T.carried n).position ≡ (S.carried n).position = λ n. put_all-kept (λ m (c : Carried). c.position ≡ (S.carried m).position) S.carried ((v.0, with_home p (S.carried v.0)) ∷ []) n (refl, tt) refl in
+        event-fate W (what.Look v) S T v u refl (λ n. refl)
+        (acts-quietly (body_at W v.0) v.0 (what.Look v) S T (record { positions = refl; cause = refl; enters = refl; leaves = refl })
+         (subst IsOutside (sym from) tt) (subst IsBusy (sym there) tt) (ap (passage_at T.stream) there) (look-life v.0) (position v.0))
+        (λ other. record { life = look-life u; position = position u; moves = inl (put_at-other S.place v.0 to u other); marks = λ r at. refl })
+
+    look-fate : Fate W u (what.Look v) S (after W S s (what.Look v))
+    look-fate = by (S.desk v.0).cancel (S.desk v.0).migrate where
+      by : (b : Bool) (o : Option ℕ) → Fate W u (what.Look v) S (changed S (look_row W S s v.0 b o))
+      by true o = handed-fate Asked refl
+      by false (Some p) = migrated-fate p
+      by false None = handed-fate Plain refl
+
+  -- An end.
+
+  module _ (v : UnitNo) (c : Cause) (may : May W Z S s (what.End v c)) where
+    ends-from : S.place v.0 ≡ place.Hand (stream_no s)
+    ends-from = in-hand W S s v.0 may.1
+
+    abbrev ended : State
+    ended = after W S s (what.End v c)
+
+    joiners-outside : AllOutside S (standing W S (Joining v.0))
+    joiners-outside = line-outside W S (Joining v.0) (joining-outside v.0)
+
+    -- the joiners come from outside to the tray, and unit v is none of them
+    joiner-moves : (P : ℕ × Place → Type 0) → ((n i : ℕ) → IsOutside (S.place n) → P (n, place.Tray (stream_no s) i)) → (us : List ℕ) (i : ℕ) → AllOutside S us → EachOf P (tray_moves s i us)
+    joiner-moves P h [] i a = tt
+    joiner-moves P h (n ∷ us) i a = (h n i a.0, joiner-moves P h us (suc i) a.1)
+
+    ended-place : ended.place v.0 ≡ place.Ended c
+    ended-place =
+        put_all-kept (λ n pl. n ≡ v.0 → pl ≡ place.Ended c) (put_at S.place v.0 (place.Ended c)) (to_tray W S s (standing W S (Joining v.0))) v.0
+        (joiner-moves (λ m. m.0 ≡ v.0 → m.1 ≡ place.Ended c) (λ n i out same. absurd (subst IsOutside (ap S.place same ∙ ends-from) out)) (standing W S (Joining v.0)) (tray_end W S s) joiners-outside)
+        (λ same. put_at-same S.place v.0 (place.Ended c)) refl
+
+    ended-moves : EachOf (LeavesOthers S v.0) ((v.0, place.Ended c) ∷ to_tray W S s (standing W S (Joining v.0)))
+    ended-moves = (inl refl, joiner-moves (LeavesOthers S v.0) (λ n i out. inr (out, tt)) (standing W S (Joining v.0)) (tray_end W S s) joiners-outside)
+
+    ended-life : (n : ℕ) → (ended.desk n).life ≡ (S.desk n).life
+    ended-life n = put_all-kept (λ m (d : Desk). d.life ≡ (S.desk m).life) S.desk ((v.0, without_requests (S.desk v.0)) ∷ []) n (refl, tt) refl
+
+    end-fits : EndFits (S.stream s).mark (body_at W v.0) (S.carried v.0).position c
+    end-fits = end-due W s (S.stream s).mark (body_at W v.0) (S.carried v.0).position c (due-of-hand W S s v.0 (EndDue c) tt may.0 may.1)
+
+    ended-passage : is_sched (body_at W v.0) ≡ true → passage_at S.stream (S.place v.0) ≡ passage_of_cause c
+    ended-passage h = ap (passage_at S.stream) ends-from ∙ end-fits.1 h
+
+    end-acts : Acts (body_at W v.0) v.0 (what.End v c) S ended
+    end-acts = record {
+      busy = subst IsBusy (sym ends-from) tt;
+      born = λ e. let differs : place.Ended c ≡ place.Unborn = sym ended-place ∙ e in cc;
+      life = ended-life v.0;
+      steps = sym (append-nil (count_up (S.carried v.0).position));
+      ends = ap ends_at ended-place;
+      passes = λ h. ap (passage_at S.stream) ended-place ∙ (whole c ∙ ap (λ (p : ℕ × ℕ). (p.0 + 0, p.1 + 0)) (sym (ended-passage h)));
+      cause = λ d h. let same : c ≡ d = cc in (ended-place ∙ ap (λ (x : Cause). place.Ended x) same, subst (MayEnd (body_at W v.0) (S.carried v.0).position) same end-fits.0);
+    } where
+      whole : (d : Cause) → passage_of_cause d ≡ ((passage_of_cause d).0 + 0, (passage_of_cause d).1 + 0)
+      whole cause.Done = refl
+      whole cause.Asked = refl
+      whole cause.Access = refl
+
+    end-fate : Fate W u (what.End v c) S ended
+    end-fate =
+        event-fate W (what.End v c) S ended v u refl (λ n. refl) end-acts
+        (λ other. record { life = ended-life u; position = refl; moves = moved-other S v.0 u ((v.0, place.Ended c) ∷ to_tray W S s (standing W S (Joining v.0))) other ended-moves; marks = λ r at. refl })
+
+  -- An entry and a leave.
+
+  enter-fate : (v : UnitNo) → May W Z S s (what.Enter v) → Fate W u (what.Enter v) S (after W S s (what.Enter v))
+  enter-fate v may =
+      let T : State = after W S s (what.Enter v) in
+      let to : Place = place.Frame (stream_no s) (length (S.stream s).below) in
+      let from : S.place v.0 ≡ place.Hand (stream_no s) = in-hand W S s v.0 may.1 in
+      let there : T.place v.0 ≡ to = put_at-same S.place v.0 to in
+      let fresh : passage_at S.stream (S.place v.0) ≡ (0, 0) = ap (passage_at S.stream) from ∙ enter-due W s (S.stream s).mark (body_at W v.0) (S.carried v.0).position (due-of-hand W S s v.0 EnterDue tt may.0 may.1) in
+      event-fate W (what.Enter v) S T v u refl (λ n. refl) (record {
+        busy = subst IsBusy (sym from) tt;
+        born = λ e. let differs : to ≡ place.Unborn = sym there ∙ e in cc;
+        life = refl;
+        steps = sym (append-nil (count_up (S.carried v.0).position));
+        ends = ap ends_at there;
+        passes = λ h. ap (passage_at T.stream) there ∙ ap (λ (p : ℕ × ℕ). (p.0 + 1, p.1 + 0)) (sym fresh);
+        cause = λ c h. absurd (none≢some h);
+      })
+      (λ other. record { life = refl; position = refl; moves = inl (put_at-other S.place v.0 to u other); marks = mark-stays (entered (sched_of (body_at W v.0)) (S.stream s)) refl })
+
+  left-mark : (f : Frame) (rest : List Frame) → (S.stream s).below ≡ f ∷ rest → (left (S.stream s)).mark ≡ Left
+  left-mark f rest h = ap (λ fs. (left_to (S.stream s) fs).mark) h
+
+  leave-fate : (v : UnitNo) → May W Z S s (what.Leave v) → Fate W u (what.Leave v) S (after W S s (what.Leave v))
+  leave-fate v may =
+      let T : State = after W S s (what.Leave v) in
+      let to : Place = place.Hand (stream_no s) in
+      let says : (hand W S s ≡ None) × ((f : Frame) × (rest : List Frame) × ((S.stream s).below ≡ f ∷ rest)) = leave-due W S s may.0 in
+      let there : T.place v.0 ≡ to = put_at-same S.place v.0 to in
+      let mark : (T.stream s).mark ≡ Left = ap (λ (own : Stream). own.mark) (put_at-same S.stream s (left (S.stream s))) ∙ left-mark says.1.0 says.1.1 says.1.2 in
+      event-fate W (what.Leave v) S T v u refl (λ n. refl) (record {
+        busy = subst IsBusy (sym may.1) tt;
+        born = λ e. let differs : to ≡ place.Unborn = sym there ∙ e in cc;
+        life = refl;
+        steps = sym (append-nil (count_up (S.carried v.0).position));
+        ends = ap ends_at there;
+        passes = λ h. ap (passage_at T.stream) there ∙ (ap passage_of_mark mark ∙ ap (λ (p : ℕ × ℕ). (p.0 + 0, p.1 + 1)) (sym (ap (passage_at S.stream) may.1)));
+        cause = λ c h. absurd (none≢some h);
+      })
+      (λ other. record { life = refl; position = refl; moves = inl (put_at-other S.place v.0 to u other); marks = mark-elsewhere (left (S.stream s)) (empty-hand W S s u declared says.0) })
+
+  -- A step.
+
+  module _ (v : UnitNo) (k : ℕ) (c : Code) (may : May W Z S s (what.Step v k c)) where
+    steps-from : S.place v.0 ≡ place.Hand (stream_no s)
+    steps-from = in-hand W S s v.0 may.1
+
+    not-outside : IsOutside (S.place v.0) → ⊥
+    not-outside out = subst IsOutside steps-from out
+
+    held-busy : IsBusy (S.place v.0)
+    held-busy = subst IsBusy (sym steps-from) tt
+
+    has-step : (is_sched (body_at W v.0) ≡ false) × ((S.carried v.0).position < length (ops_of (body_at W v.0)))
+    has-step = step-due W s (S.stream s).mark (body_at W v.0) (S.carried v.0).position (due-of-hand W S s v.0 StepDue tt may.0 may.1)
+
+    abbrev life-by : ℕ → Option Op → ℕ
+    life-by n o = if is_birth u o then suc n else n
+
+    row-fate : (o : Op) → op_at W v.0 k ≡ Some o → Goes W S s v.0 not-outside o → Fate W u (what.Step v k code.Ok) S (changed S (op_row W S s v.0 o))
+    row-fate (op.Create w p) is over = birth-fate W S s v w p.0 k code.Ok has-step.0 may.2 held-busy over u (λ n. ap (life-by n) is)
+    row-fate (op.Revive w p) is over = birth-fate W S s v w p.0 k code.Ok has-step.0 may.2 held-busy over u (λ n. ap (life-by n) is)
+    row-fate o is step = step-fate W S v k code.Ok u (op_row W S s v.0 o) has-step.0 may.2 held-busy (λ n. ap (life-by n) is) step
+
+    code-fate : (d : Code) (o : Op) → op_at W v.0 k ≡ Some o → d ≡ code_of W S s v.0 o → Fate W u (what.Step v k d) S (changed S (step_row W S s v.0 (Some o) d))
+    code-fate code.Ok o is h = row-fate o is (goes W S s v.0 not-outside o (sym h))
+    code-fate d o is h = step-fate W S v k d u (step_row W S s v.0 (Some o) d) has-step.0 may.2 held-busy (λ n. refl) (row-refused W S s v.0 not-outside d)
+
+    no-op : op_at W v.0 k ≡ None → ⊥
+    no-op none =
+        let at : (S.carried v.0).position ≡ k = may.2 in
+        let more : (S.carried v.0).position < length (ops_of (body_at W v.0)) = has-step.1 in
+        elim (slice_get_cases (ops_of (body_at W v.0)) k).1 [ inl is ↦ none≢some (sym none ∙ is.2) | inr past ↦ (let short : length (ops_of (body_at W v.0)) ≤ k = past.0 in absurd (omega arith)) ]
+
+    step-event-fate : Fate W u (what.Step v k c) S (after W S s (what.Step v k c))
+    step-event-fate = by (op_at W v.0 k) refl where
+      by : (o : Option Op) → op_at W v.0 k ≡ o → Fate W u (what.Step v k c) S (changed S (step_row W S s v.0 o c))
+      by None is = absurd (no-op is)
+      by (Some o) is = code-fate c o is (may.3 ∙ ap (code_at W S s v.0) is)
+
+  -- what an event that may come means to unit u
+  pub fate : (w : What) → May W Z S s w → Fate W u w S (after W S s w)
+  fate (what.Miss p) may = miss-fate p
+  fate (what.Take p v) may = take-fate p v may
+  fate (what.Look v) may = look-fate v may
+  fate (what.Step v k c) may = step-event-fate v k c may
+  fate (what.Put v p) may = put-fate v p may
+  fate (what.End v c) may = end-fate v c may
+  fate (what.Enter v) may = enter-fate v may
+  fate (what.Leave v) may = leave-fate v may
