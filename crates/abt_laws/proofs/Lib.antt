@@ -1,2 +1,4 @@
+pub mod OrderPools
 pub mod Queues
+pub mod Quiet
 pub mod Removal
