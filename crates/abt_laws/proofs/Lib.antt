@@ -1,3 +1,5 @@
+pub mod Dues
+pub mod OpenFrames
 pub mod OrderPools
 pub mod Queues
 pub mod Quiet
@@ -6,3 +8,4 @@ pub mod Removal
 pub mod RunParts
 pub mod StepsLeft
 pub mod Sums
+pub mod Weights
