@@ -1,4 +1,6 @@
 pub mod Dues
+pub mod Measure
+pub mod Misses
 pub mod OpenFrames
 pub mod OrderPools
 pub mod Queues
@@ -8,4 +10,5 @@ pub mod Removal
 pub mod RunParts
 pub mod StepsLeft
 pub mod Sums
+pub mod WeightFalls
 pub mod Weights

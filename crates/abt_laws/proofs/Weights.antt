@@ -33,7 +33,7 @@ line_weight S (InFrames s) = 2
 line_weight S (Joining v) = 6
 line_weight S (Waiting x) = 0
 
-same-number : (a b t k : ℕ) → if_same a b t ≡ Some k → a ≡ b
+pub same-number : (a b t k : ℕ) → if_same a b t ≡ Some k → a ≡ b
 same-number a b t k h = grind (arith, nat_tests)
 
 ticket-weight : (S : State) (l : Line) (at : Place) (t : ℕ) → ticket_in l at ≡ Some t → place_weight S at ≡ line_weight S l
