@@ -1,5 +1,5 @@
 -- What it says of a stream that an event is due.
-use Rattle.std.proofs.Common.{◌≡◌, ◌≢◌, ℕ, ◌<◌, cond, if◌then◌else◌, Bool, true, false, List, [], ◌∷◌, length, Option, Some, None, refl, sym, ◌∙◌, ap, subst}
+use Rattle.std.proofs.Common.{◌≡◌, ◌≢◌, ℕ, Bool, true, false, List, [], ◌∷◌, length, Option, Some, None, refl, sym, ◌∙◌, ap, subst}
 use Rattle.std.specs.Prelude.{nat_lt, option_map}
 use Rattle.std.proofs.lemmas.Bool.{cond_both}
 use Rattle.abt_machine.specs.declared.events.Cause.TheVariants as cause
@@ -9,9 +9,9 @@ use Rattle.abt_machine.specs.declared.operations.Op.{Op}
 use Rattle.abt_machine.specs.declared.workload.Parts.{Parts}
 use Rattle.abt_machine.specs.Workloads.{body_at}
 use Rattle.abt_machine.specs.Access.{may_take_all}
-use Rattle.abt_machine.specs.State.{State, Stream, Frame, Mark, Plain, Asked, Left}
+use Rattle.abt_machine.specs.State.{State, Frame, Mark, Plain, Asked, Left}
 use Rattle.abt_machine.specs.Lines.{standing, hand, next, InTray}
-use Rattle.abt_machine.specs.Next.{Due, PutDue, LookDue, EndDue, EnterDue, StepDue, LeaveDue, RoundDue, at_position, due, due_by, due_by_hand, due_by_next, due_of_frames, due_of_ops, due_of_unit}
+use Rattle.abt_machine.specs.Next.{Due, EndDue, EnterDue, StepDue, LeaveDue, RoundDue, at_position, due, due_by, due_by_hand, due_by_next, due_of_frames, due_of_ops, due_of_unit}
 
 -- An idle stream.
 
@@ -49,8 +49,8 @@ idle-by W S s [] None None a b c h = record {
   next = b;
   hand = c;
   due = ap (λ us. due_by W s (S.stream s) us (next W S s) (option_map (at_position S) (hand W S s))) a
-  ∙ ap (λ o. due_by_next W s (S.stream s) o (option_map (at_position S) (hand W S s))) b
-  ∙ ap (λ o. due_by_hand W s (S.stream s) (option_map (at_position S) o)) c;
+      ∙ ap (λ o. due_by_next W s (S.stream s) o (option_map (at_position S) (hand W S s))) b
+      ∙ ap (λ o. due_by_hand W s (S.stream s) (option_map (at_position S) o)) c;
 }
 
 pub idle : (W : Parts) (S : State) (s : ℕ) → IsOfFrames (due W S s) → IsIdle W S s

@@ -1,10 +1,9 @@
 -- A miss keeps the weight of the units, and lowers the number of open frames where the round of a stacked frame ends empty.
-use Rattle.std.proofs.Common.{◌≡◌, ◌≢◌, ℕ, ◌<◌, Bool, true, false, List, [], ◌∷◌, length, refl, sym, ◌∙◌, ap, subst}
+use Rattle.std.proofs.Common.{◌≡◌, ◌≢◌, ℕ, ◌<◌, Bool, true, false, [], length, refl, sym, ◌∙◌, ap, subst}
 use Rattle.abt_machine.specs.declared.events.What.TheVariants as what
 use Rattle.abt_machine.specs.declared.numbers.PoolNo.{PoolNo}
 use Rattle.abt_machine.specs.declared.workload.Parts.{Parts}
-use Rattle.abt_machine.specs.Maps.{put_at}
-use Rattle.abt_machine.specs.State.{State, Stream, Frame}
+use Rattle.abt_machine.specs.State.{State, Stream}
 use Rattle.abt_machine.specs.Next.{RoundDue, due}
 use Rattle.abt_machine.specs.Frames.{frame_missed, round_missed}
 use Rattle.abt_machine.specs.Events.{after}
@@ -46,9 +45,9 @@ pub miss-keeps-frames : (W : Parts) (S : State) (s : ℕ) (p : PoolNo) → due W
 miss-keeps-frames W S s p comes stays =
     let T : State = after W S s (what.Miss p) in
     let same : (S.stream s).below ≢ [] → (frame_missed W (S.stream s).top p.0).empty ≡ (S.stream s).top.empty =
-        λ some.
-          not-true (frame_missed W (S.stream s).top p.0).empty
-          (λ e. stays ((λ none. some (sym (ap (λ (own : Stream). own.below) (missed W S s p)) ∙ none)), ap (λ (own : Stream). own.top.empty) (missed W S s p) ∙ e))
-          ∙ sym (round-not-empty W S s comes some) in
+    λ some.
+    not-true (frame_missed W (S.stream s).top p.0).empty
+    (λ e. stays ((λ none. some (sym (ap (λ (own : Stream). own.below) (missed W S s p)) ∙ none)), ap (λ (own : Stream). own.top.empty) (missed W S s p) ∙ e))
+    ∙ sym (round-not-empty W S s comes some) in
     open_frames-same W S T s (miss-keeps-others W S s p)
     (ap open_frames_of (missed W S s p) ∙ open_count-same (S.stream s).top (frame_missed W (S.stream s).top p.0) (S.stream s).below same)

@@ -1,10 +1,10 @@
 -- How a miss changes the number of open frames.
-use Rattle.std.proofs.Common.{◌≡◌, ◌≢◌, ℕ, ◌<◌, ◌+◌, cond, Bool, true, false, List, [], ◌∷◌, refl, sym, ◌∙◌, ap, subst, arith, ◌⊎◌, inl, inr}
+use Rattle.std.proofs.Common.{◌≡◌, ◌≢◌, ℕ, ◌<◌, ◌+◌, cond, true, false, List, [], ◌∷◌, refl, sym, ap, subst, arith, inl, inr}
 use Rattle.std.specs.Prelude.{not, count_by}
 use Rattle.std.proofs.lemmas.Bool.{cases_eq}
 use Rattle.std.proofs.lemmas.List.Sums.{sum_by-cons}
 use Rattle.abt_machine.specs.declared.workload.Parts.{Parts}
-use Rattle.abt_machine.specs.State.{State, Stream, Frame}
+use Rattle.abt_machine.specs.State.{State, Frame}
 use Rattle.abt_laws.specs.Measure.{open_frames, open_frames_of, stacked}
 use Rattle.abt_laws.proofs.Sums.{sum_up-same, sum_up-falls-at}
 

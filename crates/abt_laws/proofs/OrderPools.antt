@@ -1,5 +1,5 @@
 -- The pools that a round visits are those of its scheduler.
-use Rattle.std.proofs.Common.{◌≡◌, ℕ, zero, suc, List, [], ◌∷◌, ◌++◌, reverse, take, drop, length, Option, Some, None, Contains, refl, sym, subst}
+use Rattle.std.proofs.Common.{ℕ, List, [], ◌∷◌, ◌++◌, reverse, take, drop, length, Option, Some, None, Contains, sym, subst}
 use Rattle.std.specs.Prelude.{All, ◌%◌}
 use Rattle.std.proofs.lemmas.List.Elements.{All-append, All-cons, All-head, All-tail, All-take, All-drop, All-filter, All-contains, All-contains_itself, Contains-append_left, Contains-push}
 use Rattle.std.proofs.lemmas.List.Sorted.{All-permutation, IsPermutation-reverse}
@@ -9,7 +9,7 @@ use Rattle.abt_machine.specs.declared.operations.Rule.{Rule}
 use Rattle.abt_machine.specs.declared.operations.Rule.TheVariants as rule
 use Rattle.abt_machine.specs.declared.workload.Parts.{Parts}
 use Rattle.abt_machine.specs.Workloads.{pools_of, rule_of}
-use Rattle.abt_machine.specs.Rounds.{Choice, Only, AnyOrder, NoOrder, IsChosen, IsNextPool, IsOrder, choice_by, choice_of, class_of, of_class, rotated, shaped, stolen, turned, word_at}
+use Rattle.abt_machine.specs.Rounds.{Only, IsChosen, IsNextPool, IsOrder, choice_by, of_class, rotated, shaped, stolen, turned, word_at}
 use Rattle.abt_machine.specs.State.{Frame}
 use Rattle.std.specs.Prelude.{slice_get}
 

@@ -1,5 +1,5 @@
 -- States in which nothing is left to do.
-use Rattle.std.proofs.Common.{◌≡◌, ◌≢◌, ℕ, zero, suc, ◌<◌, ◌==◌, cond, Bool, true, false, List, [], ◌∷◌, length, map, Option, Some, None, Contains, refl, sym, ◌∙◌, ap, subst, arith, ◌⊎◌, inl, inr}
+use Rattle.std.proofs.Common.{◌≡◌, ℕ, zero, suc, ◌<◌, Bool, true, false, List, [], ◌∷◌, length, map, Option, Some, None, Contains, refl, sym, ◌∙◌, ap, subst, arith, inl, inr}
 use Rattle.std.proofs.lemmas.Bool.{cases_eq}
 use Rattle.std.specs.Prelude.{IfSome, option_map}
 use Rattle.abt_machine.specs.declared.events.Event.{Event}
@@ -17,13 +17,13 @@ use Rattle.abt_machine.specs.Workloads.{kind_of, main_of, pools_of}
 use Rattle.abt_machine.specs.Queues.{ticketed, queue, first, last}
 use Rattle.abt_machine.specs.State.{State, Stream, Frame}
 use Rattle.abt_machine.specs.Lines.{Line, InPool, InTray, InHand, InNext, ticket_in, standing, hand, next}
-use Rattle.abt_machine.specs.Next.{Due, StepDue, LeaveDue, at_position, due, due_by, due_by_hand, due_by_next, due_of_frames}
+use Rattle.abt_machine.specs.Next.{StepDue, LeaveDue, at_position, due, due_by, due_by_hand, due_by_next, due_of_frames}
 use Rattle.abt_machine.specs.Fronts.{front, front_by, owns}
 use Rattle.abt_machine.specs.Rounds.{IsNextPool}
 use Rattle.abt_machine.specs.Frames.{round_missed}
 use Rattle.abt_machine.specs.Events.{After, May, after}
 use Rattle.abt_machine.specs.Runs.{last_state}
-use Rattle.abt_machine.specs.Sound.{Sound, frames_of}
+use Rattle.abt_machine.specs.Sound.{Sound}
 use Rattle.abt_machine.specs.Outcomes.{AllEnded, IsOver, Quiet, Spent}
 use Rattle.abt_laws.specs.Laws.{IsMiss}
 use Rattle.abt_laws.proofs.OrderPools.{next-pool-listed}

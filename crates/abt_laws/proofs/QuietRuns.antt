@@ -1,5 +1,5 @@
 -- Runs that go on from a state in which nothing is left to do.
-use Rattle.std.proofs.Common.{◌≡◌, List, [], ◌∷◌, ◌++◌, refl, sym, ap, subst}
+use Rattle.std.proofs.Common.{List, [], ◌∷◌, refl, sym, subst}
 use Rattle.abt_machine.specs.declared.events.Event.{Event}
 use Rattle.abt_machine.specs.declared.operations.OrderShape.{OrderShape}
 use Rattle.abt_machine.specs.declared.workload.Parts.{Parts}
@@ -8,7 +8,7 @@ use Rattle.abt_machine.specs.Rounds.{OrdersStored}
 use Rattle.abt_machine.specs.State.{State}
 use Rattle.abt_machine.specs.Start.{start}
 use Rattle.abt_machine.specs.Events.{after}
-use Rattle.abt_machine.specs.Runs.{Run, RunFrom, last_state, state_after}
+use Rattle.abt_machine.specs.Runs.{RunFrom, last_state, state_after}
 use Rattle.abt_machine.specs.Sound.{Sound}
 use Rattle.abt_machine.specs.Outcomes.{Quiet}
 use Rattle.abt_laws.specs.Laws.{AllMisses, EventsKeepSound, QuietRunsMiss, RunsAreSound}

@@ -1,6 +1,6 @@
 -- Steps use up the steps that are left, and nothing else does.
-use Rattle.std.proofs.Common.{◌≡◌, ◌≢◌, ℕ, zero, suc, ◌<◌, ◌≤◌, ◌+◌, ◌-◌, ◌==◌, cond, Bool, true, false, List, [], ◌∷◌, ◌++◌, refl, sym, ◌∙◌, ap, subst, arith}
-use Rattle.std.specs.Prelude.{◌&&◌, count_by, sum_by}
+use Rattle.std.proofs.Common.{◌≡◌, ◌≢◌, ℕ, suc, ◌<◌, ◌+◌, ◌-◌, ◌==◌, cond, true, false, List, [], ◌∷◌, ◌++◌, refl, sym, ◌∙◌, ap, arith}
+use Rattle.std.specs.Prelude.{◌&&◌}
 use Rattle.std.proofs.lemmas.Bool.{eq-eqb, ne_eqb}
 use Rattle.std.proofs.lemmas.List.Sums.{sum_by_push}
 use Rattle.abt_machine.specs.declared.events.Event.{Event}
@@ -24,13 +24,13 @@ no-step-keeps s J e other =
 own-step-counts : (J : List Event) (e : Event) → is_step e.what ≡ true → steps_of e.stream.0 (J ++ e ∷ []) ≡ suc (steps_of e.stream.0 J)
 own-step-counts J e step =
     let here : steps_by e.stream.0 e ≡ 1 =
-        ap (λ b. cond (b && (e.stream.0 == e.stream.0)) 1 0) step ∙ ap (λ b. cond b 1 0) (eq-eqb e.stream.0 e.stream.0 refl) in
+    ap (λ b. cond (b && (e.stream.0 == e.stream.0)) 1 0) step ∙ ap (λ b. cond b 1 0) (eq-eqb e.stream.0 e.stream.0 refl) in
     omega (arith, steps_of-push e.stream.0 J e)
 
 foreign-step-keeps : (s : ℕ) (J : List Event) (e : Event) → is_step e.what ≡ true → s ≢ e.stream.0 → steps_of s (J ++ e ∷ []) ≡ steps_of s J
 foreign-step-keeps s J e step foreign =
     let here : steps_by s e ≡ 0 =
-        ap (λ b. cond (b && (e.stream.0 == s)) 1 0) step ∙ ap (λ b. cond b 1 0) (ne_eqb e.stream.0 s (λ q. foreign (sym q))) in
+    ap (λ b. cond (b && (e.stream.0 == s)) 1 0) step ∙ ap (λ b. cond b 1 0) (ne_eqb e.stream.0 s (λ q. foreign (sym q))) in
     omega (arith, steps_of-push s J e)
 
 pub steps_left-same : (W : Parts) (n : ℕ) (J : List Event) (e : Event) → is_step e.what ≡ false → steps_left W n (J ++ e ∷ []) ≡ steps_left W n J

@@ -1,11 +1,10 @@
 -- Each event that moves units and is no step lowers their weight.
-use Rattle.std.proofs.Common.{◌≡◌, ◌≢◌, ℕ, ◌<◌, ◌≤◌, ◌+◌, ◌-◌, Bool, true, false, List, [], ◌∷◌, length, Option, Some, None, refl, sym, ◌∙◌, ap, subst, arith, ◌⊎◌, inl, inr}
+use Rattle.std.proofs.Common.{◌≡◌, ◌≢◌, ℕ, ◌<◌, ◌≤◌, ◌-◌, Bool, true, false, List, [], ◌∷◌, length, Option, Some, None, refl, sym, ◌∙◌, ap, subst, arith, inl, inr}
 use Rattle.std.proofs.lemmas.Bool.{cases_eq, cases_lt, eq-eqb, cond-true}
-use Rattle.std.specs.Prelude.{◌==◌, cond}
+use Rattle.std.specs.Prelude.{◌==◌}
 use Rattle.abt_machine.specs.declared.events.Cause.{Cause}
 use Rattle.abt_machine.specs.declared.events.Place.{Place}
 use Rattle.abt_machine.specs.declared.events.Place.TheVariants as place
-use Rattle.abt_machine.specs.declared.events.What.{What}
 use Rattle.abt_machine.specs.declared.events.What.TheVariants as what
 use Rattle.abt_machine.specs.declared.numbers.PoolNo.{PoolNo}
 use Rattle.abt_machine.specs.declared.numbers.StreamNo.{StreamNo}
@@ -18,16 +17,15 @@ use Rattle.abt_machine.specs.Workloads.{body_at}
 use Rattle.abt_machine.specs.Queues.{first}
 use Rattle.abt_machine.specs.State.{State, Stream, Frame, Desk, Mark, Plain, Asked, Left}
 use Rattle.abt_machine.specs.Lines.{InPool, InTray, InHand, InNext, Joining, hand, next, standing, ticket_in, tray_end}
-use Rattle.abt_machine.specs.Next.{EnterDue, LeaveDue, RoundDue, due, due_of_frames}
+use Rattle.abt_machine.specs.Next.{EnterDue, LeaveDue, due, due_of_frames}
 use Rattle.abt_machine.specs.Fronts.{front}
-use Rattle.abt_machine.specs.Frames.{entered, left, left_to, marked, round_missed, round_taken, sched_of}
+use Rattle.abt_machine.specs.Frames.{entered, left, left_to, marked, round_taken, sched_of}
 use Rattle.abt_machine.specs.Changes.{Change, changed, no_change, tray_moves}
-use Rattle.abt_machine.specs.Events.{May, after, change, look_row, without_requests}
+use Rattle.abt_machine.specs.Events.{after, look_row, without_requests}
 use Rattle.abt_machine.specs.Sound.{Sound}
-use Rattle.abt_laws.specs.Measure.{EndsStacked, FallsBy, hand_weight, open_frames, open_frames_of, place_weight, request_weight, unit_weight, weight}
-use Rattle.abt_laws.proofs.Queues.{AllUnits, no-queue, none≢some, put_at-other, put_at-same}
-use Rattle.abt_laws.proofs.Dues.{IsIdle, IsOfFrames, enters-plain, idle, round-not-empty}
-use Rattle.abt_laws.proofs.OpenFrames.{open_count-falls, open_count-same, open_frames-fall, open_frames-same}
+use Rattle.abt_laws.specs.Measure.{hand_weight, place_weight, request_weight, unit_weight, weight}
+use Rattle.abt_laws.proofs.Queues.{no-queue, none≢some, put_at-other, put_at-same}
+use Rattle.abt_laws.proofs.Dues.{IsIdle, IsOfFrames, enters-plain, idle}
 use Rattle.abt_laws.proofs.Weights.{AllUnits-then, StandsIn, all-stand, first-stands, front-stands, place_weight-kept, same-number, stands-weight, tray_moves-weight, unit_weight-kept, weight-falls}
 
 -- Marks.
@@ -178,23 +176,23 @@ ended-joiners W S s u c held =
     let light : place_weight S (S.place u) ≡ hand_weight (S.stream s).mark = stands-weight W S (InHand s) u held in
     tray_moves-weight S s (tray_end W S s) (standing W S (Joining u)) (put_at S.place u (place.Ended c))
     (AllUnits-then (StandsIn W S (Joining u)) _ (standing W S (Joining u))
-      (λ w joins.
-        let heavy : place_weight S (S.place w) ≡ 6 = stands-weight W S (Joining u) w joins in
-        ap (place_weight S) (put_at-other S.place u (place.Ended c) w
-          (λ same. let one : place_weight S (S.place w) ≡ place_weight S (S.place u) = ap (λ x. place_weight S (S.place x)) same in omega (arith, hand_weight-light (S.stream s).mark))) ∙ heavy)
-      (all-stand W S (Joining u)))
+    (λ w joins.
+    let heavy : place_weight S (S.place w) ≡ 6 = stands-weight W S (Joining u) w joins in
+    ap (place_weight S) (put_at-other S.place u (place.Ended c) w
+    (λ same. let one : place_weight S (S.place w) ≡ place_weight S (S.place u) = ap (λ x. place_weight S (S.place x)) same in omega (arith, hand_weight-light (S.stream s).mark))) ∙ heavy)
+    (all-stand W S (Joining u)))
 
 pub end-falls : (W : Parts) (S : State) (s : ℕ) (u : UnitNo) (c : Cause) → hand W S s ≡ Some u.0 → weight W (after W S s (what.End u c)) < weight W S
 end-falls W S s u c ending =
     let T : State = after W S s (what.End u c) in
     let held : StandsIn W S (InHand s) u.0 = first-stands W S (InHand s) u.0 ending in
     let there : (v : ℕ) → place_weight T (T.place v) ≡ place_weight S (put_at S.place u.0 (place.Ended c) v) =
-        λ v. place_weight-kept S T (T.place v) (λ r _. refl) ∙ ended-joiners W S s u.0 c held v in
+    λ v. place_weight-kept S T (T.place v) (λ r _. refl) ∙ ended-joiners W S s u.0 c held v in
     let was : place_weight S (S.place u.0) ≡ hand_weight (S.stream s).mark = stands-weight W S (InHand s) u.0 held in
     let now : place_weight T (T.place u.0) ≡ 0 = there u.0 ∙ ap (place_weight S) (put_at-same S.place u.0 (place.Ended c)) in
     let forgets : request_weight (T.desk u.0).migrate ≡ 0 = ap (λ (d : Desk). request_weight d.migrate) (put_at-same S.desk u.0 (without_requests (S.desk u.0))) in
     weight-falls W S T u.0 held.in_range (omega (arith, hand_weight-some (S.stream s).mark))
     (λ v other.
-      let places : place_weight T (T.place v) ≡ place_weight S (S.place v) = there v ∙ ap (place_weight S) (put_at-other S.place u.0 (place.Ended c) v other) in
-      let requests : request_weight (T.desk v).migrate ≡ request_weight (S.desk v).migrate = ap (λ (d : Desk). request_weight d.migrate) (put_at-other S.desk u.0 (without_requests (S.desk u.0)) v other) in
-      omega arith)
+    let places : place_weight T (T.place v) ≡ place_weight S (S.place v) = there v ∙ ap (place_weight S) (put_at-other S.place u.0 (place.Ended c) v other) in
+    let requests : request_weight (T.desk v).migrate ≡ request_weight (S.desk v).migrate = ap (λ (d : Desk). request_weight d.migrate) (put_at-other S.desk u.0 (without_requests (S.desk u.0)) v other) in
+    omega arith)
