@@ -16,12 +16,14 @@ pub mod Outcomes
 pub mod Queues
 pub mod Rounds
 pub mod Runs
+pub mod Says
 pub mod Sites
 pub mod Sound
 pub mod Stamps
 pub mod Start
 pub mod State
 pub mod Steps
+pub mod Texts
 pub mod Valid
 pub mod Words
 pub mod Workloads
