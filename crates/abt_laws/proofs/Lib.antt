@@ -1,5 +1,5 @@
 pub mod Dues
-pub mod Measure
+pub mod Falls
 pub mod Misses
 pub mod OpenFrames
 pub mod OrderPools
