@@ -1,3 +1,5 @@
+pub mod Dues
+pub mod Falls
 pub mod LifeDues
 pub mod LifeEvents
 pub mod LifeJournals
@@ -6,5 +8,15 @@ pub mod LifeMaps
 pub mod LifeRows
 pub mod LifeSteps
 pub mod LifeTies
+pub mod Misses
+pub mod OpenFrames
+pub mod OrderPools
 pub mod Queues
+pub mod Quiet
+pub mod QuietRuns
 pub mod Removal
+pub mod RunParts
+pub mod StepsLeft
+pub mod Sums
+pub mod WeightFalls
+pub mod Weights

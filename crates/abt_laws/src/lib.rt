@@ -1,2 +1,6 @@
 //! Laws of the written machine: each function's contract is a law, and its body is empty.
 #![tactic(auto)]
+
+mod outcome;
+
+pub use outcome::{ended_is_quiet, one_after, quiet_stays, spent_is_not_quiet};

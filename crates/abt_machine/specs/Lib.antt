@@ -25,12 +25,14 @@ pub mod Pools
 pub mod Queues
 pub mod Rounds
 pub mod Runs
+pub mod Says
 pub mod Sites
 pub mod Sound
 pub mod Stamps
 pub mod Start
 pub mod State
 pub mod Steps
+pub mod Texts
 pub mod Turns
 pub mod Valid
 pub mod Values
