@@ -6,6 +6,7 @@ pub mod LifeJournals
 pub mod LifeLists
 pub mod LifeMaps
 pub mod LifeRows
+pub mod LifeRuns
 pub mod LifeSteps
 pub mod LifeTies
 pub mod Misses
