@@ -1,12 +1,17 @@
 pub mod Dues
 pub mod Falls
+pub mod LifeActs
 pub mod LifeDues
+pub mod LifeEnds
 pub mod LifeEvents
 pub mod LifeJournals
 pub mod LifeLists
 pub mod LifeMaps
+pub mod LifeMoves
+pub mod LifePlaces
 pub mod LifeRows
 pub mod LifeRuns
+pub mod LifeStepped
 pub mod LifeSteps
 pub mod LifeTies
 pub mod Misses

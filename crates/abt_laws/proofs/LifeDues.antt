@@ -1,5 +1,5 @@
--- What it says of the unit in hand that its end, entry or step is due, and of the frames that a leave is.
-use Rattle.std.proofs.Common.{◌≡◌, ◌≢◌, ℕ, ◌<◌, ◌≤◌, cond, if◌then◌else◌, Bool, true, false, List, [], ◌∷◌, length, Option, Some, None, refl, sym, ◌∙◌, ap, subst}
+-- What it says of the unit in hand that its end or step is due, and of the stream that a leave is.
+use Rattle.std.proofs.Common.{◌≡◌, ℕ, ◌<◌, ◌≤◌, if◌then◌else◌, Bool, true, false, List, [], ◌∷◌, length, Option, Some, None, refl, sym, ◌∙◌, ap, subst}
 use Rattle.std.specs.Prelude.{nat_lt, option_map}
 use Rattle.std.proofs.lemmas.Bool.{cond_both, ltb-true, ltb-false}
 use Rattle.abt_machine.specs.declared.events.Cause.{Cause}
@@ -12,7 +12,8 @@ use Rattle.abt_machine.specs.Workloads.{body_at, ops_of, is_sched}
 use Rattle.abt_machine.specs.Access.{may_take_all}
 use Rattle.abt_machine.specs.State.{State, Stream, Frame, Mark, Plain, Asked, Left}
 use Rattle.abt_machine.specs.Lines.{standing, hand, next, InTray}
-use Rattle.abt_machine.specs.Next.{Due, PutDue, LookDue, EndDue, EnterDue, StepDue, LeaveDue, RoundDue, at_position, due, due_by, due_by_hand, due_by_next, due_of_frames, due_of_ops, due_of_unit}
+use Rattle.abt_machine.specs.Next.{Due, PutDue, LookDue, EndDue, EnterDue, StepDue, LeaveDue, at_position, due, due_by, due_by_hand, due_of_frames, due_of_ops, due_of_unit}
+use Rattle.abt_laws.proofs.Dues.{IsIdle, IsOfFrames, idle}
 use Rattle.abt_laws.proofs.LifeLists.{MayEnd, passage_of_cause}
 use Rattle.abt_laws.proofs.LifeTies.{passage_of_mark}
 
@@ -40,9 +41,6 @@ ops-step ops k = cond_both (nat_lt k (length ops)) StepDue (EndDue cause.Done) (
 
 ops-end : (ops : List Op) (k : ℕ) (c : Cause) → due_of_ops ops k ≡ EndDue c → (cause.Done ≡ c) × (length ops ≤ k)
 ops-end ops k c = cond_both (nat_lt k (length ops)) StepDue (EndDue cause.Done) (λ d. d ≡ EndDue c → (cause.Done ≡ c) × (length ops ≤ k)) (λ yes h. cc) (λ no h. (cc, ltb-false k (length ops) no))
-
-ops-no-entry : (ops : List Op) (k : ℕ) → due_of_ops ops k ≡ EnterDue → ⊥
-ops-no-entry ops k = cond_both (nat_lt k (length ops)) StepDue (EndDue cause.Done) (λ d. d ≡ EnterDue → ⊥) (λ yes h. cc) (λ no h. cc)
 
 -- Steps.
 
@@ -88,37 +86,13 @@ end-due W s Left (body.Ult ops) k c h = ult-end Left ops k c h
 end-due W s Plain (body.Task ops) k c h = task-end Plain ops k c h
 end-due W s Left (body.Task ops) k c h = task-end Left ops k c h
 
--- Entries and leaves.
-
--- a unit that is to enter has not entered
-pub enter-due : (W : Parts) (s : ℕ) (m : Mark) (b : Body) (k : ℕ) → due_of_unit W s m b k ≡ EnterDue → passage_of_mark m ≡ (0, 0)
-enter-due W s Plain b k h = refl
-enter-due W s Asked b k h = cc
-enter-due W s Left (body.Sched g) k h = cc
-enter-due W s Left (body.Ult ops) k h = absurd (ops-no-entry ops k h)
-enter-due W s Left (body.Task ops) k h = absurd (ops-no-entry ops k h)
+-- Leaves.
 
 leave-frames : (empty : Bool) (fs : List Frame) → due_of_frames empty fs ≡ LeaveDue → (f : Frame) × (rest : List Frame) × (fs ≡ f ∷ rest)
 leave-frames true (f ∷ fs) h = (f, fs, refl)
 leave-frames true [] h = cc
 leave-frames false fs h = cc
 
-ops-no-leave : (ops : List Op) (k : ℕ) → due_of_ops ops k ≡ LeaveDue → ⊥
-ops-no-leave ops k = cond_both (nat_lt k (length ops)) StepDue (EndDue cause.Done) (λ d. d ≡ LeaveDue → ⊥) (λ yes h. cc) (λ no h. cc)
-
-unit-no-leave : (W : Parts) (s : ℕ) (m : Mark) (b : Body) (k : ℕ) → due_of_unit W s m b k ≡ LeaveDue → ⊥
-unit-no-leave W s Asked b k h = cc
-unit-no-leave W s Plain (body.Sched g) k h = cond_both (may_take_all W s g.0) EnterDue (EndDue cause.Access) (λ d. d ≡ LeaveDue → ⊥) (λ yes i. cc) (λ no i. cc) h
-unit-no-leave W s Left (body.Sched g) k h = cc
-unit-no-leave W s Plain (body.Ult ops) k h = ops-no-leave ops k h
-unit-no-leave W s Left (body.Ult ops) k h = ops-no-leave ops k h
-unit-no-leave W s Plain (body.Task ops) k h = ops-no-leave ops k h
-unit-no-leave W s Left (body.Task ops) k h = ops-no-leave ops k h
-
-leave-by-hand : (W : Parts) (S : State) (s : ℕ) (o : Option ℕ) → due_by_hand W s (S.stream s) (option_map (at_position S) o) ≡ LeaveDue → (o ≡ None) × ((f : Frame) × (rest : List Frame) × ((S.stream s).below ≡ f ∷ rest))
-leave-by-hand W S s None h = (refl, leave-frames (S.stream s).top.empty (S.stream s).below h)
-leave-by-hand W S s (Some u) h = absurd (unit-no-leave W s (S.stream s).mark (body_at W u) (S.carried u).position h)
-
 -- a stream that is to leave a frame has no unit in hand and a frame below
 pub leave-due : (W : Parts) (S : State) (s : ℕ) → due W S s ≡ LeaveDue → (hand W S s ≡ None) × ((f : Frame) × (rest : List Frame) × ((S.stream s).below ≡ f ∷ rest))
-leave-due W S s h = leave-by-hand W S s (hand W S s) (due-by-hand W s (S.stream s) (standing W S (InTray s)) (next W S s) (option_map (at_position S) (hand W S s)) LeaveDue tt h)
+leave-due W S s h = let rests : IsIdle W S s = idle W S s (subst IsOfFrames (sym h) tt) in (rests.hand, leave-frames (S.stream s).top.empty (S.stream s).below (sym rests.due ∙ h))

@@ -1,5 +1,5 @@
 -- What holds of each new value of a changed map, and of each unit of a list.
-use Rattle.std.proofs.Common.{◌≡◌, ◌≢◌, ℕ, ◌==◌, List, [], ◌∷◌, ◌++◌, map, sym, subst}
+use Rattle.std.proofs.Common.{ℕ, ◌==◌, List, [], ◌∷◌, ◌++◌, map, sym, subst}
 use Rattle.std.proofs.lemmas.Bool.{cond_both, eqb-true}
 use Rattle.abt_machine.specs.Maps.{put_at, put_all}
 use Rattle.abt_machine.specs.Queues.{first_alone}

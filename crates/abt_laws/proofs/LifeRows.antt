@@ -1,6 +1,6 @@
 -- Each operation that goes through takes its unit on, and moves other units only from outside to outside, but where it begins a life.
-use Rattle.std.proofs.Common.{◌≡◌, ◌≢◌, ℕ, suc, ◌==◌, if◌then◌else◌, is_some, Bool, true, false, List, [], ◌∷◌, ◌++◌, length, map, Option, Some, None, refl, sym, ◌∙◌, ap, subst, ◌⊎◌, inl, inr}
-use Rattle.std.proofs.lemmas.Bool.{cond_both, true≢false, false≢true}
+use Rattle.std.proofs.Common.{◌≡◌, ◌≢◌, ℕ, suc, ◌==◌, is_some, Bool, true, false, List, [], ◌∷◌, ◌++◌, length, Option, Some, None, refl, ap, subst, inl, inr}
+use Rattle.std.proofs.lemmas.Bool.{cond_both, false≢true}
 use Rattle.abt_machine.specs.declared.events.Code.{Code}
 use Rattle.abt_machine.specs.declared.events.Code.TheVariants as code
 use Rattle.abt_machine.specs.declared.events.Piece.TheVariants as piece
@@ -16,16 +16,16 @@ use Rattle.abt_machine.specs.Sites.{first_pool}
 use Rattle.abt_machine.specs.Access.{may_put, may_take}
 use Rattle.abt_machine.specs.Carrying.{added, from_key, printed, refused, with_acc, with_key}
 use Rattle.abt_machine.specs.Queues.{first_alone}
-use Rattle.abt_machine.specs.State.{State, Carried, Desk, Mutex, Future}
+use Rattle.abt_machine.specs.State.{State, Carried, Desk, Future}
 use Rattle.abt_machine.specs.Lines.{Line, ticket_in, standing, Waiting, Joining, tray_end}
 use Rattle.abt_machine.specs.Outcomes.{IsOver}
 use Rattle.abt_machine.specs.Codes.{code_of, unless, is_unborn, is_ended, is_suspended, is_in_pool, is_full}
-use Rattle.abt_machine.specs.Changes.{Change, no_change, goes_with, goes_on, to_tray, tray_moves, waiting_moves}
-use Rattle.abt_machine.specs.Steps.{wakes, asks, joins, waits, locks, hands_over, releases, queues, passes, receives, gives_all, awaits, learns, ready_value, filled_by, fills, arrives, op_row, step_row}
+use Rattle.abt_machine.specs.Changes.{no_change, goes_with, goes_on, to_tray, tray_moves, waiting_moves}
+use Rattle.abt_machine.specs.Steps.{wakes, asks, joins, waits, locks, hands_over, releases, queues, passes, receives, gives_all, awaits, learns, ready_value, filled_by, fills, arrives, op_row}
 use Rattle.abt_laws.proofs.Queues.{HasTicket, AllUnits, queue-all, none≢some}
 use Rattle.abt_laws.proofs.LifeMaps.{EachOf, EachOf-append, EachOf-units, AllUnits-then, AllUnits-first_alone}
-use Rattle.abt_laws.proofs.LifeTies.{IsOutside, IsBusy}
-use Rattle.abt_laws.proofs.LifeSteps.{GoesOn, StaysOutside, IsStep, Steps}
+use Rattle.abt_laws.proofs.LifeTies.{IsOutside}
+use Rattle.abt_laws.proofs.LifeSteps.{StaysOutside, Steps}
 
 -- Who waits is outside.
 

@@ -1,8 +1,7 @@
 -- In every run each life of each unit goes as lives do.
-use Rattle.std.proofs.Common.{◌≡◌, ◌≢◌, ℕ, zero, suc, ◌<◌, ◌≤◌, Bool, true, false, List, [], ◌∷◌, ◌++◌, length, Option, Some, None, refl, sym, ◌∙◌, ap, subst, arith, ◌⊎◌, inl, inr, append_assoc}
+use Rattle.std.proofs.Common.{◌≡◌, ℕ, ◌<◌, List, [], ◌∷◌, ◌++◌, length, Option, Some, None, refl, sym, subst, arith, inl, inr, ◌↔◌, append_assoc}
 use Rattle.std.proofs.lemmas.Bool.{cases_order}
 use Rattle.std.proofs.lemmas.List.{append-nil}
-use Rattle.abt_machine.specs.declared.events.Cause.{Cause}
 use Rattle.abt_machine.specs.declared.events.Event.{Event}
 use Rattle.abt_machine.specs.declared.events.Place.TheVariants as place
 use Rattle.abt_machine.specs.declared.events.What.{What}
@@ -14,9 +13,9 @@ use Rattle.abt_machine.specs.Workloads.{body_at, start_of}
 use Rattle.abt_machine.specs.State.{State}
 use Rattle.abt_machine.specs.Start.{start, start_place, first_life}
 use Rattle.abt_machine.specs.Events.{May, after}
-use Rattle.abt_machine.specs.Runs.{Run, state_after, last_state}
+use Rattle.abt_machine.specs.Runs.{Run, last_state}
 use Rattle.abt_machine.specs.Sound.{Sound}
-use Rattle.abt_machine.specs.Lives.{last_life, life_events, ends_in, IsLife, LivesOf}
+use Rattle.abt_machine.specs.Lives.{last_life, life_events, IsLife}
 use Rattle.abt_laws.specs.Laws.{RunsAreSound, RunsLive}
 use Rattle.abt_laws.proofs.LifeLists.{IsLife-nil}
 use Rattle.abt_laws.proofs.LifeTies.{ends_at, passage_at, Tied, TiedTo, tied-after}
@@ -79,12 +78,26 @@ module _ (W : Parts) (Z : List OrderShape) (sound : RunsAreSound W Z) (valid : I
       let shift : (K ++ e ∷ []) ++ es ≡ K ++ e ∷ es = append_assoc K (e ∷ []) es in
       let whole : Run W Z ((K ++ e ∷ []) ++ es) = subst (Run W Z) (sym shift) run in
       let more : TiedTo W (K ++ e ∷ []) (last_state W (K ++ e ∷ [])) u =
-        tied-more K e (run-front W Z (start W) K (e ∷ es) run) (run-front W Z (start W) (K ++ e ∷ []) es whole) (run-rest W Z (start W) K (e ∷ es) run).1 tied in
+      tied-more K e (run-front W Z (start W) K (e ∷ es) run) (run-front W Z (start W) (K ++ e ∷ []) es whole) (run-rest W Z (start W) K (e ∷ es) run).1 tied in
       subst (λ J. TiedTo W J (last_state W J) u) shift (tied-along-run (K ++ e ∷ []) es whole more)
 
   -- after a run its events are tied to the last state
   pub run-tied : (J : List Event) → Run W Z J → TiedTo W J (last_state W J) u
   run-tied J run = tied-along-run [] J run (start-tied W u)
+
+  -- the life that unit u is in after a run is the state's
+  pub run-life : (J : List Event) → Run W Z J → ((last_state W J).desk u).life ≡ last_life W J u
+  run-life J run = (run-tied J run).life
+
+  -- unit u is unborn exactly where its life is 0
+  pub run-unborn : (J : List Event) → Run W Z J → ((last_state W J).place u ≡ place.Unborn) ↔ (last_life W J u ≡ 0)
+  run-unborn J run = ((run-tied J run).unborn, (run-tied J run).born)
+
+  -- an unborn unit has no events
+  pub run-nothing_unborn : (J : List Event) → Run W Z J → life_events W J u 0 ≡ []
+  run-nothing_unborn J run = (run-tied J run).nothing_unborn
+
+-- Lives.
 
 -- every life is one: an earlier one, the one that goes on, or none yet
 tied-lives : (W : Parts) (u now : ℕ) (events : ℕ → List What) (S : State) → Tied W u now events S → (l : ℕ) → 0 < l → IsLife (body_at W u) (events l)

@@ -1,11 +1,9 @@
 -- What a step of one unit means to it and to the others.
-use Rattle.std.proofs.Common.{◌≡◌, ◌≢◌, ℕ, zero, suc, ◌+◌, ◌==◌, if◌then◌else◌, Bool, true, false, List, [], ◌∷◌, ◌++◌, Option, Some, None, refl, sym, ◌∙◌, ap, subst, arith, ◌⊎◌, inl, inr}
+use Rattle.std.proofs.Common.{◌≡◌, ◌≢◌, ℕ, suc, ◌==◌, if◌then◌else◌, false, List, [], ◌∷◌, ◌++◌, Some, refl, sym, ◌∙◌, ap, subst, ◌⊎◌, inl, inr}
 use Rattle.std.proofs.lemmas.Bool.{cases_eq, cond-true, cond-false, eq-eqb, ne_eqb, true≢false}
-use Rattle.abt_machine.specs.declared.events.Cause.{Cause}
 use Rattle.abt_machine.specs.declared.events.Code.{Code}
 use Rattle.abt_machine.specs.declared.events.Place.{Place}
 use Rattle.abt_machine.specs.declared.events.Place.TheVariants as place
-use Rattle.abt_machine.specs.declared.events.What.{What}
 use Rattle.abt_machine.specs.declared.events.What.TheVariants as what
 use Rattle.abt_machine.specs.declared.numbers.UnitNo.{UnitNo}
 use Rattle.abt_machine.specs.declared.operations.Body.{Body}
@@ -19,7 +17,7 @@ use Rattle.abt_machine.specs.Lines.{tray_end}
 use Rattle.abt_machine.specs.Outcomes.{IsOver}
 use Rattle.abt_machine.specs.Changes.{Change, changed}
 use Rattle.abt_machine.specs.Steps.{begins}
-use Rattle.abt_machine.specs.Lives.{life_after, unit_of, is_of, count_up}
+use Rattle.abt_machine.specs.Lives.{life_after, is_of, count_up}
 use Rattle.abt_laws.proofs.Queues.{put_at-same, put_at-other, none≢some}
 use Rattle.abt_laws.proofs.LifeMaps.{EachOf, put_all-kept}
 use Rattle.abt_laws.proofs.LifeTies.{IsOutside, IsBusy, IsBusy-outside, ends-busy, Drifts, Acts, Begins, Fate, Drifting, Acting, Beginning}
@@ -51,11 +49,11 @@ carried-other : (S : State) (x u : ℕ) (ps : List (ℕ × Carried)) → u ≢ x
 carried-other S x u [] ne h = absurd h
 carried-other S x u (p ∷ ps) ne h =
     elim (put_all-kept (λ n (c : Carried). (n ≡ x) ⊎ (c.position ≡ (S.carried n).position)) (put_at S.carried p.0 p.1) ps u
-          (weaken ps h.2) (inr (ap (λ (c : Carried). c.position) (put_at-other S.carried p.0 p.1 u (λ e. ne (e ∙ h.0))))))
+    (weaken ps h.2) (inr (ap (λ (c : Carried). c.position) (put_at-other S.carried p.0 p.1 u (λ e. ne (e ∙ h.0))))))
     [ inl same ↦ absurd (ne same) | inr is ↦ is ] where
-    weaken : (qs : List (ℕ × Carried)) → EachOf (λ (q : ℕ × Carried). (q.0 ≢ x) × (q.1.position ≡ (S.carried q.0).position)) qs → EachOf (λ (q : ℕ × Carried). (q.0 ≡ x) ⊎ (q.1.position ≡ (S.carried q.0).position)) qs
-    weaken [] a = tt
-    weaken (q ∷ qs) a = (inr a.0.1, weaken qs a.1)
+      weaken : (qs : List (ℕ × Carried)) → EachOf (λ (q : ℕ × Carried). (q.0 ≢ x) × (q.1.position ≡ (S.carried q.0).position)) qs → EachOf (λ (q : ℕ × Carried). (q.0 ≡ x) ⊎ (q.1.position ≡ (S.carried q.0).position)) qs
+      weaken [] a = tt
+      weaken (q ∷ qs) a = (inr a.0.1, weaken qs a.1)
 
 -- a move of unit x, or of another from outside to outside
 abbrev pub LeavesOthers : State → ℕ → ℕ × Place → Type 0
@@ -65,9 +63,9 @@ pub moved-other : (S : State) (x u : ℕ) (ms : List (ℕ × Place)) → u ≢ x
 moved-other S x u ms ne h =
     elim (put_all-kept (λ n pl. (n ≡ x) ⊎ ((pl ≡ S.place n) ⊎ (IsOutside (S.place n) × IsOutside pl))) S.place ms u (weaken ms h) (inr (inl refl)))
     [ inl same ↦ absurd (ne same) | inr is ↦ is ] where
-    weaken : (ns : List (ℕ × Place)) → EachOf (LeavesOthers S x) ns → EachOf (λ (m : ℕ × Place). (m.0 ≡ x) ⊎ ((m.1 ≡ S.place m.0) ⊎ (IsOutside (S.place m.0) × IsOutside m.1))) ns
-    weaken [] a = tt
-    weaken (m ∷ ns) a = (elim a.0 [ inl own ↦ inl own | inr out ↦ inr (inr out) ], weaken ns a.1)
+      weaken : (ns : List (ℕ × Place)) → EachOf (LeavesOthers S x) ns → EachOf (λ (m : ℕ × Place). (m.0 ≡ x) ⊎ ((m.1 ≡ S.place m.0) ⊎ (IsOutside (S.place m.0) × IsOutside m.1))) ns
+      weaken [] a = tt
+      weaken (m ∷ ns) a = (elim a.0 [ inl own ↦ inl own | inr out ↦ inr (inr out) ], weaken ns a.1)
 
 leaves-others : (S : State) (x : ℕ) (ms : List (ℕ × Place)) → EachOf (StaysOutside S x) ms → EachOf (LeavesOthers S x) ms
 leaves-others S x [] a = tt
@@ -90,11 +88,11 @@ carried-own : (S : State) (x : ℕ) (ps : List (ℕ × Carried)) → GoesOn S x 
 carried-own S x [] h = absurd h
 carried-own S x (p ∷ ps) h =
     elim (put_all-kept (λ n (c : Carried). (n ≡ x → ⊥) ⊎ (c.position ≡ suc (S.carried x).position)) (put_at S.carried p.0 p.1) ps x
-          (weaken ps h.2) (inr (ap (λ (c : Carried). c.position) (subst (λ n. put_at S.carried p.0 p.1 n ≡ p.1) h.0 (put_at-same S.carried p.0 p.1)) ∙ h.1)))
+    (weaken ps h.2) (inr (ap (λ (c : Carried). c.position) (subst (λ n. put_at S.carried p.0 p.1 n ≡ p.1) h.0 (put_at-same S.carried p.0 p.1)) ∙ h.1)))
     [ inl other ↦ absurd (other refl) | inr is ↦ is ] where
-    weaken : (qs : List (ℕ × Carried)) → EachOf (λ (q : ℕ × Carried). (q.0 ≢ x) × (q.1.position ≡ (S.carried q.0).position)) qs → EachOf (λ (q : ℕ × Carried). (q.0 ≡ x → ⊥) ⊎ (q.1.position ≡ suc (S.carried x).position)) qs
-    weaken [] a = tt
-    weaken (q ∷ qs) a = (inl a.0.0, weaken qs a.1)
+      weaken : (qs : List (ℕ × Carried)) → EachOf (λ (q : ℕ × Carried). (q.0 ≢ x) × (q.1.position ≡ (S.carried q.0).position)) qs → EachOf (λ (q : ℕ × Carried). (q.0 ≡ x → ⊥) ⊎ (q.1.position ≡ suc (S.carried x).position)) qs
+      weaken [] a = tt
+      weaken (q ∷ qs) a = (inl a.0.0, weaken qs a.1)
 
 moved-own : (S : State) (x : ℕ) (ms : List (ℕ × Place)) → IsBusy (S.place x) → EachOf (StaysOutside S x) ms → IsBusy (put_all S.place ms x)
 moved-own S x ms busy h = put_all-kept (λ n pl. IsBusy pl) S.place ms x (weaken ms h) busy where

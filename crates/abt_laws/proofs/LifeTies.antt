@@ -1,10 +1,9 @@
 -- What ties the events of a unit to its place and position, and how one event keeps it.
-use Rattle.std.proofs.Common.{◌≡◌, ◌≢◌, ℕ, zero, suc, ◌+◌, ◌<◌, ◌≤◌, Bool, true, false, List, [], ◌∷◌, ◌++◌, length, Option, Some, None, refl, sym, ◌∙◌, ap, ap₂, subst, arith, ◌⊎◌, inl, inr}
+use Rattle.std.proofs.Common.{◌≡◌, ℕ, suc, ◌+◌, ◌<◌, ◌≤◌, true, false, List, [], ◌∷◌, ◌++◌, length, Some, refl, sym, ◌∙◌, ap, ap₂, subst, arith, ◌⊎◌, inl, inr}
 use Rattle.std.proofs.Math.Path.{fun_ext}
 use Rattle.std.proofs.lemmas.Bool.{cases_eq}
 use Rattle.std.proofs.lemmas.List.{append-nil}
 use Rattle.abt_machine.specs.declared.events.Cause.{Cause}
-use Rattle.abt_machine.specs.declared.events.Cause.TheVariants as cause
 use Rattle.abt_machine.specs.declared.events.Event.{Event}
 use Rattle.abt_machine.specs.declared.events.Place.{Place}
 use Rattle.abt_machine.specs.declared.events.Place.TheVariants as place
@@ -16,7 +15,7 @@ use Rattle.abt_machine.specs.Workloads.{body_at, ops_of, is_sched}
 use Rattle.abt_machine.specs.State.{State, Stream, Mark, Plain, Asked, Left}
 use Rattle.abt_machine.specs.Outcomes.{IsOver}
 use Rattle.abt_machine.specs.Lives.{life_after, last_life, unit_of, is_of, life_events, positions_in, ends_in, cause_in, enters_in, leaves_in, count_up, EndsLife, IsLife}
-use Rattle.abt_laws.proofs.LifeJournals.{added_event, last_life-append, life_events-append, added_event-other, added_event-now, added_event-another, positions_in-append, ends_in-append, enters_in-append, leaves_in-append}
+use Rattle.abt_laws.proofs.LifeJournals.{last_life-append, life_events-append, added_event-other, added_event-now, added_event-another, positions_in-append, ends_in-append, enters_in-append, leaves_in-append}
 use Rattle.abt_laws.proofs.LifeLists.{passages_in, passage_of_cause, MayEnd, IsLife-push, IsLife-nil, ends-life}
 
 -- Places.

@@ -1,0 +1,129 @@
+-- What an end, an entry and a leave mean to units.
+use Rattle.std.proofs.Common.{◌≡◌, ℕ, suc, ◌+◌, ◌<◌, true, List, [], ◌∷◌, length, None, refl, sym, ◌∙◌, ap, subst, inl, inr}
+use Rattle.std.proofs.lemmas.List.{append-nil}
+use Rattle.abt_machine.specs.declared.events.Cause.{Cause}
+use Rattle.abt_machine.specs.declared.events.Cause.TheVariants as cause
+use Rattle.abt_machine.specs.declared.events.Place.{Place}
+use Rattle.abt_machine.specs.declared.events.Place.TheVariants as place
+use Rattle.abt_machine.specs.declared.events.What.TheVariants as what
+use Rattle.abt_machine.specs.declared.numbers.UnitNo.{UnitNo}
+use Rattle.abt_machine.specs.declared.operations.OrderShape.{OrderShape}
+use Rattle.abt_machine.specs.declared.workload.Parts.{Parts}
+use Rattle.abt_machine.specs.Numbers.{stream_no}
+use Rattle.abt_machine.specs.Maps.{put_at}
+use Rattle.abt_machine.specs.Workloads.{body_at, is_sched}
+use Rattle.abt_machine.specs.State.{State, Stream, Frame, Desk, Left}
+use Rattle.abt_machine.specs.Lines.{Joining, standing, hand, tray_end}
+use Rattle.abt_machine.specs.Frames.{entered, left, left_to, sched_of}
+use Rattle.abt_machine.specs.Next.{EndDue}
+use Rattle.abt_machine.specs.Changes.{to_tray, tray_moves}
+use Rattle.abt_machine.specs.Events.{May, after, without_requests}
+use Rattle.abt_machine.specs.Sound.{Sound}
+use Rattle.abt_machine.specs.Lives.{count_up}
+use Rattle.abt_laws.proofs.Queues.{put_at-same, put_at-other, none≢some}
+use Rattle.abt_laws.proofs.Dues.{enters-plain}
+use Rattle.abt_laws.proofs.LifeMaps.{EachOf, put_all-kept}
+use Rattle.abt_laws.proofs.LifeLists.{MayEnd, passage_of_cause}
+use Rattle.abt_laws.proofs.LifeTies.{IsOutside, IsBusy, ends_at, passage_of_mark, passage_at, Acts, Fate}
+use Rattle.abt_laws.proofs.LifeSteps.{LeavesOthers, moved-other}
+use Rattle.abt_laws.proofs.LifeRows.{AllOutside, line-outside, joining-outside}
+use Rattle.abt_laws.proofs.LifeDues.{due-of-hand, EndFits, end-due, leave-due}
+use Rattle.abt_laws.proofs.LifePlaces.{in-hand, empty-hand}
+use Rattle.abt_laws.proofs.LifeActs.{event-fate, mark-stays, mark-elsewhere}
+
+module _ (W : Parts) (Z : List OrderShape) (S : State) (s u : ℕ) where
+  -- An end.
+
+  module _ (v : UnitNo) (c : Cause) (may : May W Z S s (what.End v c)) where
+    ends-from : S.place v.0 ≡ place.Hand (stream_no s)
+    ends-from = in-hand W S s v.0 may.1
+
+    abbrev ended : State
+    ended = after W S s (what.End v c)
+
+    joiners-outside : AllOutside S (standing W S (Joining v.0))
+    joiners-outside = line-outside W S (Joining v.0) (joining-outside v.0)
+
+    -- the joiners come from outside to the tray, and unit v is none of them
+    joiner-moves : (P : ℕ × Place → Type 0) → ((n i : ℕ) → IsOutside (S.place n) → P (n, place.Tray (stream_no s) i)) → (us : List ℕ) (i : ℕ) → AllOutside S us → EachOf P (tray_moves s i us)
+    joiner-moves P h [] i a = tt
+    joiner-moves P h (n ∷ us) i a = (h n i a.0, joiner-moves P h us (suc i) a.1)
+
+    ended-place : ended.place v.0 ≡ place.Ended c
+    ended-place =
+        put_all-kept (λ n pl. n ≡ v.0 → pl ≡ place.Ended c) (put_at S.place v.0 (place.Ended c)) (to_tray W S s (standing W S (Joining v.0))) v.0
+        (joiner-moves (λ m. m.0 ≡ v.0 → m.1 ≡ place.Ended c) (λ n i out same. absurd (subst IsOutside (ap S.place same ∙ ends-from) out)) (standing W S (Joining v.0)) (tray_end W S s) joiners-outside)
+        (λ same. put_at-same S.place v.0 (place.Ended c)) refl
+
+    ended-moves : EachOf (LeavesOthers S v.0) ((v.0, place.Ended c) ∷ to_tray W S s (standing W S (Joining v.0)))
+    ended-moves = (inl refl, joiner-moves (LeavesOthers S v.0) (λ n i out. inr (out, tt)) (standing W S (Joining v.0)) (tray_end W S s) joiners-outside)
+
+    ended-life : (n : ℕ) → (ended.desk n).life ≡ (S.desk n).life
+    ended-life n = put_all-kept (λ m (d : Desk). d.life ≡ (S.desk m).life) S.desk ((v.0, without_requests (S.desk v.0)) ∷ []) n (refl, tt) refl
+
+    end-fits : EndFits (S.stream s).mark (body_at W v.0) (S.carried v.0).position c
+    end-fits = end-due W s (S.stream s).mark (body_at W v.0) (S.carried v.0).position c (due-of-hand W S s v.0 (EndDue c) tt may.0 may.1)
+
+    ended-passage : is_sched (body_at W v.0) ≡ true → passage_at S.stream (S.place v.0) ≡ passage_of_cause c
+    ended-passage h = ap (passage_at S.stream) ends-from ∙ end-fits.1 h
+
+    end-acts : Acts (body_at W v.0) v.0 (what.End v c) S ended
+    end-acts = record {
+      busy = subst IsBusy (sym ends-from) tt;
+      born = λ e. let differs : place.Ended c ≡ place.Unborn = sym ended-place ∙ e in cc;
+      life = ended-life v.0;
+      steps = sym (append-nil (count_up (S.carried v.0).position));
+      ends = ap ends_at ended-place;
+      passes = λ h. ap (passage_at S.stream) ended-place ∙ (whole c ∙ ap (λ (p : ℕ × ℕ). (p.0 + 0, p.1 + 0)) (sym (ended-passage h)));
+      cause = λ d h. let same : c ≡ d = cc in (ended-place ∙ ap (λ (x : Cause). place.Ended x) same, subst (MayEnd (body_at W v.0) (S.carried v.0).position) same end-fits.0);
+    } where
+      whole : (d : Cause) → passage_of_cause d ≡ ((passage_of_cause d).0 + 0, (passage_of_cause d).1 + 0)
+      whole cause.Done = refl
+      whole cause.Asked = refl
+      whole cause.Access = refl
+
+    pub end-fate : Fate W u (what.End v c) S ended
+    end-fate =
+        event-fate W (what.End v c) S ended v u refl (λ n. refl) end-acts
+        (λ other. record { life = ended-life u; position = refl; moves = moved-other S v.0 u ((v.0, place.Ended c) ∷ to_tray W S s (standing W S (Joining v.0))) other ended-moves; marks = λ r at. refl })
+
+  -- An entry and a leave.
+
+  pub enter-fate : (v : UnitNo) → May W Z S s (what.Enter v) → Fate W u (what.Enter v) S (after W S s (what.Enter v))
+  enter-fate v may =
+      let T : State = after W S s (what.Enter v) in
+      let to : Place = place.Frame (stream_no s) (length (S.stream s).below) in
+      let from : S.place v.0 ≡ place.Hand (stream_no s) = in-hand W S s v.0 may.1 in
+      let there : T.place v.0 ≡ to = put_at-same S.place v.0 to in
+      let fresh : passage_at S.stream (S.place v.0) ≡ (0, 0) = ap (passage_at S.stream) from ∙ ap passage_of_mark (enters-plain W S s may.0) in
+      event-fate W (what.Enter v) S T v u refl (λ n. refl) (record {
+        busy = subst IsBusy (sym from) tt;
+        born = λ e. let differs : to ≡ place.Unborn = sym there ∙ e in cc;
+        life = refl;
+        steps = sym (append-nil (count_up (S.carried v.0).position));
+        ends = ap ends_at there;
+        passes = λ h. ap (passage_at T.stream) there ∙ ap (λ (p : ℕ × ℕ). (p.0 + 1, p.1 + 0)) (sym fresh);
+        cause = λ c h. absurd (none≢some h);
+      })
+      (λ other. record { life = refl; position = refl; moves = inl (put_at-other S.place v.0 to u other); marks = mark-stays S s u (entered (sched_of (body_at W v.0)) (S.stream s)) refl })
+
+  left-mark : (f : Frame) (rest : List Frame) → (S.stream s).below ≡ f ∷ rest → (left (S.stream s)).mark ≡ Left
+  left-mark f rest h = ap (λ fs. (left_to (S.stream s) fs).mark) h
+
+  pub leave-fate : u < length W.units → (v : UnitNo) → May W Z S s (what.Leave v) → Fate W u (what.Leave v) S (after W S s (what.Leave v))
+  leave-fate declared v may =
+      let T : State = after W S s (what.Leave v) in
+      let to : Place = place.Hand (stream_no s) in
+      let says : (hand W S s ≡ None) × ((f : Frame) × (rest : List Frame) × ((S.stream s).below ≡ f ∷ rest)) = leave-due W S s may.0 in
+      let there : T.place v.0 ≡ to = put_at-same S.place v.0 to in
+      let mark : (T.stream s).mark ≡ Left = ap (λ (own : Stream). own.mark) (put_at-same S.stream s (left (S.stream s))) ∙ left-mark says.1.0 says.1.1 says.1.2 in
+      event-fate W (what.Leave v) S T v u refl (λ n. refl) (record {
+        busy = subst IsBusy (sym may.1) tt;
+        born = λ e. let differs : to ≡ place.Unborn = sym there ∙ e in cc;
+        life = refl;
+        steps = sym (append-nil (count_up (S.carried v.0).position));
+        ends = ap ends_at there;
+        passes = λ h. ap (passage_at T.stream) there ∙ (ap passage_of_mark mark ∙ ap (λ (p : ℕ × ℕ). (p.0 + 0, p.1 + 1)) (sym (ap (passage_at S.stream) may.1)));
+        cause = λ c h. absurd (none≢some h);
+      })
+      (λ other. record { life = refl; position = refl; moves = inl (put_at-other S.place v.0 to u other); marks = mark-elsewhere S s u (left (S.stream s)) (empty-hand W S s u declared says.0) })
