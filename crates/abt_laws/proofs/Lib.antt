@@ -1,3 +1,8 @@
+pub mod Alike
+pub mod AlikeEvents
+pub mod AlikeRows
+pub mod Codes
+pub mod Commute
 pub mod Keeping
 pub mod Local
 pub mod LocalEvents

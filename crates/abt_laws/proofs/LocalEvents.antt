@@ -1,21 +1,17 @@
 -- Every event changes only its stream, its site, and units that these keep.
-use Rattle.std.proofs.Common.{◌≡◌, ℕ, ◌<◌, ◌==◌, cond, if◌then◌else◌, Bool, true, false, List, [], ◌∷◌, length, slice_get, Option, Some, None, refl, sym, ◌∙◌, ap, subst}
-use Rattle.std.proofs.lemmas.Bool.{cond-true, eqb-true}
-use Rattle.abt_machine.specs.declared.events.Cause.{Cause}
+use Rattle.std.proofs.Common.{◌≡◌, ℕ, ◌<◌, if◌then◌else◌, Bool, true, false, List, [], ◌∷◌, length, Option, Some, None, refl, sym, subst}
+use Rattle.std.proofs.lemmas.Bool.{cond-true}
 use Rattle.abt_machine.specs.declared.events.Code.{Code}
 use Rattle.abt_machine.specs.declared.events.Code.TheVariants as code
-use Rattle.abt_machine.specs.declared.events.Place.{Place}
-use Rattle.abt_machine.specs.declared.events.Place.TheVariants as place
 use Rattle.abt_machine.specs.declared.events.Site.{Site}
 use Rattle.abt_machine.specs.declared.events.Site.TheVariants as site
-use Rattle.abt_machine.specs.declared.events.Spot.TheVariants as spot
 use Rattle.abt_machine.specs.declared.events.What.{What}
 use Rattle.abt_machine.specs.declared.events.What.TheVariants as what
 use Rattle.abt_machine.specs.declared.operations.Op.{Op}
 use Rattle.abt_machine.specs.declared.operations.Op.TheVariants as op
 use Rattle.abt_machine.specs.declared.operations.OrderShape.{OrderShape}
 use Rattle.abt_machine.specs.declared.workload.Parts.{Parts}
-use Rattle.abt_machine.specs.Numbers.{stream_no, pool_no, unit_no, object_no}
+use Rattle.abt_machine.specs.Numbers.{unit_no}
 use Rattle.abt_machine.specs.Workloads.{op_at, mutex_of}
 use Rattle.abt_machine.specs.Operations.{IsDeclared}
 use Rattle.abt_machine.specs.Valid.{IsValid}
@@ -23,49 +19,19 @@ use Rattle.abt_machine.specs.Access.{may_put, may_take}
 use Rattle.abt_machine.specs.Sites.{first_pool, op_site, site_at, step_site, what_site}
 use Rattle.abt_machine.specs.State.{State}
 use Rattle.abt_machine.specs.Lines.{InTray, Joining, Waiting, hand, standing, tray_end}
-use Rattle.abt_machine.specs.Codes.{unless, is_unborn, is_ended, is_suspended, is_in_pool, code_of, code_at}
-use Rattle.abt_machine.specs.Changes.{Change, no_change}
+use Rattle.abt_machine.specs.Codes.{unless, is_unborn, is_ended, is_in_pool, code_of, code_at}
+use Rattle.abt_machine.specs.Changes.{no_change}
 use Rattle.abt_machine.specs.Steps.{op_row, step_row}
 use Rattle.abt_machine.specs.Events.{look_row, change, May}
 use Rattle.abt_laws.specs.Footprint.{Within, holder}
-use Rattle.abt_laws.proofs.Queues.{AllUnits}
 use Rattle.abt_laws.proofs.Keeping.{IsKept, first-kept, hand-kept, next-kept, front-kept, standing-kept, one-kept, hand-declared}
 use Rattle.abt_laws.proofs.Local.{IsLocal, local-none, local-moves, local-carried, local-desk, local-pool_next, local-eventual, local-stream}
 use Rattle.abt_laws.proofs.LocalRows
+use Rattle.abt_laws.proofs.Codes.{unless-ok, kept-where_true, unborn-seen, ended-seen, suspended-seen, in_pool-seen}
 use Rattle.abt_laws.proofs.Objects.{mutex-waits, eventual-waits, future-waits, barrier-waits, condition-waits, condition-mutex-waits}
 
--- What a code says of the unit that an operation names.
-
-no-test : false ≡ true → ⊥
-no-test h = cc
-
-abbrev Refuses : Code → Type 0
-Refuses code.Ok = ⊥
-Refuses _ = Unit {0}
-
-unless-ok : (test : Bool) (c rest : Code) → Refuses c → unless test c rest ≡ code.Ok → (test ≡ true) × (rest ≡ code.Ok)
-unless-ok true c rest r h = (refl, h)
-unless-ok false c rest r h = absurd (subst Refuses h r)
-
-module _ (W : Parts) (s : ℕ) (x : Option Site) where
-  unborn-kept : (v : ℕ) (pl : Place) → x ≡ Some (site.Desk (unit_no v)) → is_unborn pl ≡ true → Within s x (holder W v pl)
-  unborn-kept v place.Unborn e h = e
-  unborn-kept v _ e h = absurd (no-test h)
-
-  ended-kept : (v : ℕ) (pl : Place) → x ≡ Some (site.Desk (unit_no v)) → is_ended pl ≡ true → Within s x (holder W v pl)
-  ended-kept v (place.Ended c) e h = e
-  ended-kept v _ e h = absurd (no-test h)
-
-  suspended-kept : (v : ℕ) (pl : Place) → x ≡ Some (site.Desk (unit_no v)) → is_suspended pl ≡ true → Within s x (holder W v pl)
-  suspended-kept v (place.Blocked spot.Suspended t) e h = e
-  suspended-kept v _ e h = absurd (no-test h)
-
-  in_pool-kept : (v p : ℕ) (pl : Place) → x ≡ Some (site.Pool (pool_no p)) → is_in_pool p pl ≡ true → Within s x (holder W v pl)
-  in_pool-kept v p (place.Pool q t) e h = e ∙ ap (λ n. Some (site.Pool (pool_no n))) (sym (eqb-true q.0 p h))
-  in_pool-kept v p _ e h = absurd (no-test h)
-
 -- the site of an operation that may reach it
-site-reached : (may : Bool) (y : Site) → may ≡ true → (if may then Some y else None) ≡ Some y
+pub site-reached : (may : Bool) (y : Site) → may ≡ true → (if may then Some y else None) ≡ Some y
 site-reached may y h = cond-true may (Some y) None h
 
 -- Operations of unit u in the hand of stream s.
@@ -82,13 +48,13 @@ module _ (W : Parts) (valid : IsValid W) (S : State) (s u : ℕ) (in_hand : hand
   local-op (op.YieldTo v p) d h =
       let may : (may_take W s p.0 ≡ true) × (unless (is_in_pool p.0 (S.place v.0)) code.Absent code.Ok ≡ code.Ok) = unless-ok _ code.PoolAccess _ tt h in
       let e : op_site W s u (op.YieldTo v p) ≡ Some (site.Pool p) = site-reached (may_take W s p.0) (site.Pool p) may.0 in
-      LocalRows.local-yields_to W S s u _ in_hand v.0 (in_pool-kept W s _ v.0 p.0 (S.place v.0) e (unless-ok _ code.Absent code.Ok tt may.1).0)
+      LocalRows.local-yields_to W S s u _ in_hand v.0 (kept-where_true (in_pool-seen W s _ v.0 p.0 (S.place v.0) e) (unless-ok _ code.Absent code.Ok tt may.1).0)
   local-op op.Suspend d h = LocalRows.local-suspends W S s u _ in_hand refl
-  local-op (op.Resume v) d h = LocalRows.local-wakes W S s u _ in_hand (v.0 ∷ []) (suspended-kept W s _ v.0 (S.place v.0) refl (unless-ok _ code.UnitState code.Ok tt h).0, tt)
+  local-op (op.Resume v) d h = LocalRows.local-wakes W S s u _ in_hand (v.0 ∷ []) (kept-where_true (suspended-seen W s _ v.0 (S.place v.0) refl) (unless-ok _ code.UnitState code.Ok tt h).0, tt)
   local-op (op.Create v p) d h =
       let may : (may_put W s p.0 ≡ true) × (unless (is_unborn (S.place v.0)) code.Exists code.Ok ≡ code.Ok) = unless-ok _ code.PoolAccess _ tt h in
       let e : op_site W s u (op.Create v p) ≡ Some (site.Desk v) = site-reached (may_put W s p.0) (site.Desk v) may.0 in
-      LocalRows.local-begins W S s u _ in_hand v.0 p.0 e (unborn-kept W s _ v.0 (S.place v.0) e (unless-ok _ code.Exists code.Ok tt may.1).0)
+      LocalRows.local-begins W S s u _ in_hand v.0 p.0 e (kept-where_true (unborn-seen W s _ v.0 (S.place v.0) e) (unless-ok _ code.Exists code.Ok tt may.1).0)
   local-op (op.Join v) d h = LocalRows.local-joins W S s u _ in_hand v.0 (S.place v.0) refl
   local-op (op.Cancel v) d h = LocalRows.local-asks W S s u _ in_hand v.0 _ refl
   local-op (op.Migrate v p) d h = LocalRows.local-asks W S s u _ in_hand v.0 _ (site-reached (may_put W s p.0) (site.Desk v) (unless-ok (may_put W s p.0) code.PoolAccess _ tt h).0)
@@ -97,7 +63,7 @@ module _ (W : Parts) (valid : IsValid W) (S : State) (s u : ℕ) (in_hand : hand
   local-op (op.Revive v p) d h =
       let may : (may_put W s p.0 ≡ true) × (unless (is_ended (S.place v.0)) code.UnitState code.Ok ≡ code.Ok) = unless-ok _ code.PoolAccess _ tt h in
       let e : op_site W s u (op.Revive v p) ≡ Some (site.Desk v) = site-reached (may_put W s p.0) (site.Desk v) may.0 in
-      LocalRows.local-begins W S s u _ in_hand v.0 p.0 e (ended-kept W s _ v.0 (S.place v.0) e (unless-ok _ code.UnitState code.Ok tt may.1).0)
+      LocalRows.local-begins W S s u _ in_hand v.0 p.0 e (kept-where_true (ended-seen W s _ v.0 (S.place v.0) e) (unless-ok _ code.UnitState code.Ok tt may.1).0)
   local-op (op.Lock x) d h = LocalRows.local-locks W S s u _ in_hand x.0 _ refl (mutex-waits W x d)
   local-op (op.TryLock x) d h = LocalRows.local-holds W S s u _ in_hand x.0 _ refl
   local-op (op.Unlock x) d h = LocalRows.local-hands_over W S s u _ in_hand x.0 refl (mutex-waits W x d)

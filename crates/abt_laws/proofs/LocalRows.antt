@@ -1,37 +1,24 @@
 -- Every event changes only its stream and its site.
-use Rattle.std.proofs.Common.{◌≡◌, ℕ, suc, ◌<◌, ◌==◌, ◌+◌, cond, if◌then◌else◌, Bool, true, false, List, [], ◌∷◌, ◌++◌, length, map, slice_get, Option, Some, None, refl, sym, ◌∙◌, ap, subst}
-use Rattle.std.proofs.lemmas.Bool.{cond-true, cond_both, eqb-true}
-use Rattle.abt_machine.specs.declared.events.Code.{Code}
-use Rattle.abt_machine.specs.declared.events.Code.TheVariants as code
+use Rattle.std.proofs.Common.{◌≡◌, ℕ, suc, ◌==◌, List, [], ◌∷◌, ◌++◌, length, map, Option, Some, None, refl}
+use Rattle.std.proofs.lemmas.Bool.{cond_both}
 use Rattle.abt_machine.specs.declared.events.Place.{Place}
 use Rattle.abt_machine.specs.declared.events.Place.TheVariants as place
 use Rattle.abt_machine.specs.declared.events.Site.{Site}
 use Rattle.abt_machine.specs.declared.events.Site.TheVariants as site
 use Rattle.abt_machine.specs.declared.events.Spot.TheVariants as spot
-use Rattle.abt_machine.specs.declared.numbers.ObjectNo.{ObjectNo}
-use Rattle.abt_machine.specs.declared.numbers.PoolNo.{PoolNo}
-use Rattle.abt_machine.specs.declared.numbers.UnitNo.{UnitNo}
-use Rattle.abt_machine.specs.declared.operations.Op.{Op}
-use Rattle.abt_machine.specs.declared.operations.Op.TheVariants as op
 use Rattle.abt_machine.specs.declared.workload.Parts.{Parts}
-use Rattle.abt_machine.specs.Numbers.{stream_no, pool_no, unit_no, object_no}
-use Rattle.abt_machine.specs.Workloads.{mutex_of, size_of}
-use Rattle.abt_machine.specs.Operations.{IsDeclared}
-use Rattle.abt_machine.specs.Valid.{IsValid}
-use Rattle.abt_machine.specs.Access.{may_put, may_take}
-use Rattle.abt_machine.specs.Sites.{first_pool, object_site, op_site}
-use Rattle.abt_machine.specs.Queues.{first, first_alone}
+use Rattle.abt_machine.specs.Numbers.{stream_no, unit_no, object_no}
+use Rattle.abt_machine.specs.Workloads.{size_of}
+use Rattle.abt_machine.specs.Sites.{object_site}
+use Rattle.abt_machine.specs.Queues.{first_alone}
 use Rattle.abt_machine.specs.State.{State, Carried, Desk, Mutex, Future}
 use Rattle.abt_machine.specs.Lines.{Waiting, hand, standing, tray_end}
-use Rattle.abt_machine.specs.Codes.{unless, is_unborn, is_ended, is_suspended, is_in_pool, code_of}
 use Rattle.abt_machine.specs.Changes.{Change, no_change, tray_moves, to_tray, waiting_moves, goes_with, goes_on}
-use Rattle.abt_machine.specs.Steps.{wakes, begins, asks, joins, waits, locks, hands_over, releases, queues, passes, receives, gives_all, awaits, fills, arrives, op_row, step_row}
-use Rattle.abt_laws.specs.Footprint.{Within, holder}
+use Rattle.abt_machine.specs.Steps.{wakes, begins, asks, joins, waits, locks, hands_over, releases, queues, passes, receives, gives_all, awaits, fills, arrives}
 use Rattle.abt_laws.proofs.Queues.{AllUnits}
 use Rattle.abt_laws.proofs.Maps.{EachOf}
 use Rattle.abt_laws.proofs.Keeping.{IsKept, hand-kept, standing-kept, one-kept}
 use Rattle.abt_laws.proofs.Local.{MovesWithin, IsLocal, local-none, local-moves, local-carried, local-desk, local-join_next, local-object_next, local-mutex, local-eventual, local-future}
-use Rattle.abt_laws.proofs.Objects.{mutex-waits, eventual-waits, future-waits, barrier-waits, condition-waits, condition-mutex-waits}
 
 module _ (W : Parts) (S : State) (s : ℕ) (x : Option Site) where
   pub tray-within : (us : List ℕ) (i : ℕ) → AllUnits (IsKept W S s x) us → EachOf (MovesWithin W S s x) (tray_moves s i us)
