@@ -32,6 +32,7 @@ pub record IsAlike (W : Parts) (s : ℕ) (x : Option Site) (S T : State) : Type 
   pub future : (y : ℕ) → x ≡ Some (site.Future (object_no y)) → S.future y ≡ T.future y
   pub stream : S.stream s ≡ T.stream s
 
+-- as seen from the other state
 pub alike-sym : (W : Parts) (s : ℕ) (x : Option Site) (S T : State) → IsAlike W s x S T → IsAlike W s x T S
 alike-sym W s x S T alike = record {
   units = λ u k. let same : (S.place u ≡ T.place u) × (S.carried u ≡ T.carried u) = alike.units u (elim k [ inl a ↦ inr a | inr b ↦ inl b ]) in (sym same.0, sym same.1);
@@ -45,6 +46,7 @@ alike-sym W s x S T alike = record {
   stream = sym alike.stream;
 }
 
+-- nothing is kept at both of two places that are apart
 pub not-both : (s r : ℕ) (x y : Option Site) (h : Holder) → s ≢ r → Apart x y → Within s x h → Within r y h → ⊥
 not-both s r x y (OfStream q) ne apart a b = ne (sym a ∙ b)
 not-both s r x y (OfSite z) ne apart a b = apart z a b
@@ -52,11 +54,13 @@ not-both s r x y (OfSite z) ne apart a b = apart z a b
 -- A local change leaves the same at another stream and another site.
 
 module _ (W : Parts) (S : State) (s r : ℕ) (x y : Option Site) (c : Change) (ne : s ≢ r) (apart : Apart x y) (here : IsLocal W S s x c) where
+  -- what is kept at the other stream or site beforehand
   kept-stays : (u : ℕ) → IsKept W S r y u → (S.place u ≡ put_all S.place c.moves u) × (S.carried u ≡ put_all S.carried c.carried u)
   kept-stays u w =
       let same : (put_all S.place c.moves u ≡ S.place u) × (put_all S.carried c.carried u ≡ S.carried u) = unit-stays W S s x c here u (λ v. not-both s r x y (holder W u (S.place u)) ne apart v w) in
       (sym same.0, sym same.1)
 
+  -- what is kept there afterwards
   kept-stayed : (u : ℕ) → IsKept W (changed S c) r y u → (S.place u ≡ put_all S.place c.moves u) × (S.carried u ≡ put_all S.carried c.carried u)
   kept-stayed u w =
       elim (key-cases u c.moves) [
@@ -64,6 +68,7 @@ module _ (W : Parts) (S : State) (s r : ℕ) (x y : Option Site) (c : Change) (n
         | inr out ↦ kept-stays u (subst (λ pl. Within r y (holder W u pl)) (put_all-other S.place c.moves u out) w)
       ]
 
+  -- a part at the other site
   stays : {A : Type 0} (at : ℕ → Site) (f : ℕ → A) (ps : List (ℕ × A)) → EachOf (λ (m : ℕ × A). x ≡ Some (at m.0)) ps → (n : ℕ) → y ≡ Some (at n) → f n ≡ put_all f ps n
   stays at f ps a n e = sym (site-stays W S s x c here at f ps a n (λ h. apart (at n) h e))
 
@@ -117,6 +122,7 @@ module _ (W : Parts) (s : ℕ) (x : Option Site) (S T : State) (alike : IsAlike 
   pub tray_end-alike : tray_end W S s ≡ tray_end W T s
   tray_end-alike = end-alike (last (standing W S (InTray s))) ∙ ap (λ us. end_from T (InTray s) (last us)) (standing-alike (InTray s) refl)
 
+  -- what the unit in hand carries
   pub caller-alike : (u : ℕ) → hand W S s ≡ Some u → S.carried u ≡ T.carried u
   caller-alike u e = (alike.units u (inl (hand-kept W S s x u e))).1
 

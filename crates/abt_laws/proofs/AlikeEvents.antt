@@ -47,9 +47,11 @@ module _ (W : Parts) (valid : IsValid W) (S T : State) (s u : ℕ) (in_hand : ha
   same-local : (x : Option Site) → IsAlike W s x S T → (f : Carried → Carried) → goes_with u (f (S.carried u)) ≡ goes_with u (f (T.carried u))
   same-local x alike f = ap (λ c. goes_with u (f c)) (same-carried x alike)
 
+  -- whether a future is ready, and its value
   same-ready : (x : Option Site) (y : ℕ) → IsAlike W s x S T → x ≡ Some (site.Future (object_no y)) → ready_value W S y ≡ ready_value W T y
   same-ready x y alike e = ap (λ (f : Future). if f.filled == size_of W y then Some f.value else None) (alike.future y e)
 
+  -- each operation that goes through
   op-alike : (o : Op) → IsDeclared W o → code_of W S s u o ≡ code.Ok → IsAlike W s (op_site W s u o) S T → op_row W S s u o ≡ op_row W T s u o
   op-alike (op.Set n) d h alike = same-local _ alike (with_acc n)
   op-alike (op.Add n) d h alike = same-local _ alike (added n)
@@ -113,6 +115,7 @@ module _ (W : Parts) (S T : State) (s u : ℕ) (alike : IsAlike W s (Some (site.
   same-desk : S.desk u ≡ T.desk u
   same-desk = alike.desk u refl
 
+  -- by the requests that are found
   look-at : (b : Bool) (m : Option ℕ) → look_row W S s u b m ≡ look_row W T s u b m
   look-at true m = λ i. record no_change { moves = (u, place.Hand (stream_no s)) ∷ []; desks = (u, without_requests (same-desk i)) ∷ []; streams = (s, marked Asked (alike.stream i)) ∷ [] }
   look-at false None = λ i. record no_change { moves = (u, place.Hand (stream_no s)) ∷ []; desks = (u, without_requests (same-desk i)) ∷ []; streams = (s, marked Plain (alike.stream i)) ∷ [] }
@@ -126,6 +129,7 @@ module _ (W : Parts) (S T : State) (s u : ℕ) (alike : IsAlike W s (Some (site.
   look-alike = look-at (S.desk u).cancel (S.desk u).migrate ∙ ap (λ (d : Desk). look_row W T s u d.cancel d.migrate) same-desk
 
 module _ (W : Parts) (valid : IsValid W) (Z : List OrderShape) (S T : State) (s : ℕ) where
+  -- an event changes the same
   pub change-alike : (w : What) → IsAlike W s (what_site W s w) S T → May W Z S s w → change W S s w ≡ change W T s w
   change-alike (what.Miss p) alike may = λ i. record no_change { streams = (s, round_missed W p.0 (alike.stream i)) ∷ [] }
   change-alike (what.Take p u) alike may = λ i. record no_change { moves = (u.0, place.Next (stream_no s)) ∷ []; streams = (s, round_taken (alike.stream i)) ∷ [] }
@@ -138,6 +142,7 @@ module _ (W : Parts) (valid : IsValid W) (Z : List OrderShape) (S T : State) (s 
   change-alike (what.Enter u) alike may = λ i. record no_change { moves = (u.0, place.Frame (stream_no s) (length (alike.stream i).below)) ∷ []; streams = (s, entered (sched_of (body_at W u.0)) (alike.stream i)) ∷ [] }
   change-alike (what.Leave u) alike may = λ i. record no_change { moves = (u.0, place.Hand (stream_no s)) ∷ []; streams = (s, left (alike.stream i)) ∷ [] }
 
+  -- an event may come
   pub may-alike : (w : What) → IsAlike W s (what_site W s w) S T → May W Z S s w → May W Z T s w
   may-alike (what.Miss p) alike may =
       (sym (due-alike W s _ S T alike) ∙ may.0, sym (front-alike W s _ S T alike p.0 refl) ∙ may.1, subst (λ (own : Stream). IsNextPool W Z own.top p.0) alike.stream may.2)

@@ -1,4 +1,4 @@
--- Rows are the same in states that are alike at the stream and the site of the row.
+-- The rows of operations are the same in states that are alike at the stream and the site of the row.
 use Rattle.std.proofs.Common.{◌≡◌, ℕ, suc, ◌+◌, ◌==◌, if◌then◌else◌, Bool, List, [], ◌∷◌, ◌++◌, length, map, Option, Some, None, refl, ◌∙◌, ap, ◌⊎◌, inl, inr}
 use Rattle.abt_machine.specs.declared.events.Place.{Place}
 use Rattle.abt_machine.specs.declared.events.Place.TheVariants as place
@@ -20,11 +20,13 @@ use Rattle.abt_laws.proofs.Queues.{AllUnits}
 use Rattle.abt_laws.proofs.Keeping.{IsKept, standing-kept}
 use Rattle.abt_laws.proofs.Alike.{IsAlike, seen-alike, standing-alike, tray_end-alike, caller-alike}
 
+-- One lemma for each shape of row, of unit u in the hand of stream s.
+
 module _ (W : Parts) (S T : State) (s u : ℕ) (x : Option Site) (alike : IsAlike W s x S T) (in_hand : hand W S s ≡ Some u) where
-  pub same-caller : S.carried u ≡ T.carried u
+  same-caller : S.carried u ≡ T.carried u
   same-caller = caller-alike W s x S T alike u in_hand
 
-  pub same-end : tray_end W S s ≡ tray_end W T s
+  same-end : tray_end W S s ≡ tray_end W T s
   same-end = tray_end-alike W s x S T alike
 
   same-waiters : (y : ℕ) → x ≡ Some (object_site W y) → standing W S (Waiting y) ≡ standing W T (Waiting y)
@@ -56,7 +58,7 @@ module _ (W : Parts) (S T : State) (s u : ℕ) (x : Option Site) (alike : IsAlik
   pub alike-joins : (v : ℕ) → x ≡ Some (site.Desk (unit_no v)) → joins S u v (S.place v) ≡ joins T u v (T.place v)
   alike-joins v e = joins-at v (S.place v) (alike.join_next v e) ∙ seen-alike W s x S T alike (joins T u v) (joins T u v place.Unborn) v (λ pl. joins-seen v pl e)
 
-  pub alike-waits : (y : ℕ) → x ≡ Some (object_site W y) → waits S u y ≡ waits T u y
+  alike-waits : (y : ℕ) → x ≡ Some (object_site W y) → waits S u y ≡ waits T u y
   alike-waits y e =
       let n : S.object_next y ≡ T.object_next y = alike.object_next y e in
       λ i. record (alike-goes_on i) { moves = (u, place.Blocked (spot.Object (object_no y)) (n i)) ∷ []; object_next = (y, suc (n i)) ∷ [] }
@@ -105,6 +107,7 @@ module _ (W : Parts) (S T : State) (s u : ℕ) (x : Option Site) (alike : IsAlik
       let k : S.mutex z ≡ T.mutex z = alike.mutex z m in
       passes-at z (S.mutex z).owner (taken (standing W S (Waiting y))) k e ∙ (λ i. passes W T s u z (k i).owner (taken (w i)))
 
+  -- units that are kept here receive the same
   receives-alike : (value : ℕ) (us : List ℕ) → AllUnits (IsKept W S s x) us → map (receives S value) us ≡ map (receives T value) us
   receives-alike value [] a = refl
   receives-alike value (v ∷ us) a = λ i. (v, with_acc value ((alike.units v (inl a.0)).1 i)) ∷ receives-alike value us a.1 i

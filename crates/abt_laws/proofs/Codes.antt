@@ -24,10 +24,12 @@ use Rattle.abt_laws.proofs.Alike.{IsAlike, seen-alike}
 no-test : false ≡ true → ⊥
 no-test h = cc
 
+-- any code but Ok
 abbrev pub Refuses : Code → Type 0
 Refuses code.Ok = ⊥
 Refuses _ = Unit {0}
 
+-- an operation goes through where each of its tests holds
 pub unless-ok : (test : Bool) (c rest : Code) → Refuses c → unless test c rest ≡ code.Ok → (test ≡ true) × (rest ≡ code.Ok)
 unless-ok true c rest r h = (refl, h)
 unless-ok false c rest r h = absurd (subst Refuses h r)
@@ -36,6 +38,8 @@ unless-ok false c rest r h = absurd (subst Refuses h r)
 pub kept-where_true : {A : Type 0} {test : Bool} → A ⊎ (test ≡ false) → test ≡ true → A
 kept-where_true (inl kept) h = kept
 kept-where_true (inr f) h = absurd (no-test (sym f ∙ h))
+
+-- Each test of a unit's place looks only at units that the site keeps, and is the same at all other places.
 
 module _ (W : Parts) (s : ℕ) (x : Option Site) where
   pub unborn-seen : (v : ℕ) (pl : Place) → x ≡ Some (site.Desk (unit_no v)) → Within s x (holder W v pl) ⊎ (is_unborn pl ≡ false)
@@ -46,7 +50,7 @@ module _ (W : Parts) (s : ℕ) (x : Option Site) where
   ended-seen v (place.Ended c) e = inl e
   ended-seen v _ e = inr refl
 
-  pub alive-seen : (v : ℕ) (pl : Place) → x ≡ Some (site.Desk (unit_no v)) → Within s x (holder W v pl) ⊎ (is_alive pl ≡ true)
+  alive-seen : (v : ℕ) (pl : Place) → x ≡ Some (site.Desk (unit_no v)) → Within s x (holder W v pl) ⊎ (is_alive pl ≡ true)
   alive-seen v place.Unborn e = inl e
   alive-seen v (place.Ended c) e = inl e
   alive-seen v _ e = inr refl
@@ -62,6 +66,7 @@ module _ (W : Parts) (s : ℕ) (x : Option Site) where
 -- In alike states a code is the same.
 
 module _ (W : Parts) (s : ℕ) (x : Option Site) (S T : State) (alike : IsAlike W s x S T) where
+  -- the code of a test of a unit's place
   same-test : (test : Place → Bool) (other : Bool) (c rest : Code) (v : ℕ) → ((pl : Place) → Within s x (holder W v pl) ⊎ (test pl ≡ other)) → unless (test (S.place v)) c rest ≡ unless (test (T.place v)) c rest
   same-test test other c rest v seen = ap (λ b. unless b c rest) (seen-alike W s x S T alike test other v seen)
 
@@ -79,6 +84,7 @@ unless-alike W s S T true y c k l same alike = same alike
 unless-alike W s S T false y c k l same alike = refl
 
 module _ (W : Parts) (s u : ℕ) (S T : State) where
+  -- the code of each operation
   code-alike : (o : Op) → IsAlike W s (op_site W s u o) S T → code_of W S s u o ≡ code_of W T s u o
   code-alike (op.Set n) alike = refl
   code-alike (op.Add n) alike = refl

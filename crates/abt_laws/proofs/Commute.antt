@@ -36,6 +36,7 @@ module _ (W : Parts) (S : State) (s r : ℕ) (x y : Option Site) (c d : Change) 
   streams-commute : put_all (put_all S.stream c.streams) d.streams ≡ put_all (put_all S.stream d.streams) c.streams
   streams-commute = put_all-commute S.stream c.streams d.streams (keys-apart (λ n. n ≡ s) (λ n. n ≡ r) c.streams d.streams here.streams there.streams (λ n a b. ne (sym a ∙ b)))
 
+  -- part by part
   changes-commute : changed (changed S c) d ≡ changed (changed S d) c
   changes-commute = λ i. record {
     place = units-commute S.place c.moves d.moves (moved-kept W S s x c here) (moved-kept W S r y d there) i;
@@ -73,20 +74,23 @@ module _ (W : Parts) (valid : IsValid W) (Z : List OrderShape) (S : State) (s r 
     left : IsAlike W s (what_site W s w) S (after W S r v)
     left = alike-after W S r s (what_site W r v) (what_site W s w) (change W S r v) (λ e. ne (sym e)) (λ z e f. apart z f e) there
 
+    -- the first may come after the second
     pub first-second : May W Z (after W S r v) s w
     first-second = may-alike W valid Z S (after W S r v) s w left first
 
-    pub same-end : after W (after W S s w) r v ≡ after W (after W S r v) s w
-    same-end =
+    -- and the state after both is the same
+    pub same-after : after W (after W S s w) r v ≡ after W (after W S r v) s w
+    same-after =
         ap (changed (after W S s w)) (change-alike W valid Z (after W S s w) S r v seen-before second)
         ∙ (changes-commute W S s r (what_site W s w) (what_site W r v) (change W S s w) (change W S r v) ne apart here there
         ∙ ap (changed (after W S r v)) (change-alike W valid Z S (after W S r v) s w left first))
 
+-- where one event may come and then the other, the other may come first and then the one, with the same state after both
 pub events-commute : (W : Parts) → IsValid W → (Z : List OrderShape) (S T U : State) (e f : Event) → e.stream.0 ≢ f.stream.0 → Apart (event_site W e) (event_site W f) → After W Z S e T → After W Z T f U → (V : State) × After W Z S f V × After W Z V e U
 events-commute W valid Z S T U e f ne apart one two =
     let second : May W Z (after W S e.stream.0 e.what) f.stream.0 f.what = subst (λ R. May W Z R f.stream.0 f.what) one.2 two.1 in
     let end : U ≡ after W (after W S e.stream.0 e.what) f.stream.0 f.what = two.2 ∙ ap (λ R. after W R f.stream.0 f.what) one.2 in (
       after W S f.stream.0 f.what,
       (two.0, second-first W valid Z S e.stream.0 f.stream.0 e.what f.what ne apart one.1 second, refl),
-      (one.0, first-second W valid Z S e.stream.0 f.stream.0 e.what f.what ne apart one.1 second, end ∙ same-end W valid Z S e.stream.0 f.stream.0 e.what f.what ne apart one.1 second),
+      (one.0, first-second W valid Z S e.stream.0 f.stream.0 e.what f.what ne apart one.1 second, end ∙ same-after W valid Z S e.stream.0 f.stream.0 e.what f.what ne apart one.1 second),
     )

@@ -19,6 +19,7 @@ use Rattle.abt_machine.specs.Fronts.{owns, front, front_by}
 use Rattle.abt_laws.specs.Footprint.{Holder, OfStream, OfSite, holder, Within}
 use Rattle.abt_laws.proofs.Queues.{none≢some, HasTicket, AllUnits, AllUnits-first, AllUnits-last, queue-all}
 
+-- a ticket that comes from a comparison of numbers
 same-is : (a b t k : ℕ) → if_same a b t ≡ Some k → (a ≡ b) × (t ≡ k)
 same-is a b t k h = grind (arith, nat_tests)
 
@@ -32,6 +33,7 @@ line_holder W (InFrames s) = OfStream s
 line_holder W (Joining v) = OfSite (site.Desk (unit_no v))
 line_holder W (Waiting x) = OfSite (object_site W x)
 
+-- a unit with a ticket in a line is kept by who keeps the line
 pub ticket-holder : (W : Parts) (u : ℕ) (l : Line) (pl : Place) (t : ℕ) → ticket_in l pl ≡ Some t → holder W u pl ≡ line_holder W l
 ticket-holder W u (InPool p) (place.Pool q k) t h = ap (λ n. OfSite (site.Pool (pool_no n))) (same-is q.0 p k t h).0
 ticket-holder W u (InTray s) (place.Tray r k) t h = ap OfStream (same-is r.0 s k t h).0
@@ -45,6 +47,8 @@ ticket-holder W u _ _ t h = absurd (none≢some h)
 -- unit u is kept by stream s or site x
 abbrev pub IsKept : Parts → State → ℕ → Option Site → ℕ → Type 0
 IsKept W S s x u = Within s x (holder W u (S.place u))
+
+-- What stands in a line that stream s or site x keeps, is kept there.
 
 module _ (W : Parts) (S : State) (s : ℕ) (x : Option Site) where
   pub ticket-kept : (l : Line) (u t : ℕ) → Within s x (line_holder W l) → ticket_in l (S.place u) ≡ Some t → IsKept W S s x u
@@ -83,6 +87,7 @@ module _ (W : Parts) (S : State) (s : ℕ) (x : Option Site) where
   first_alone-kept [] a = tt
   first_alone-kept (u ∷ us) a = (a.0, tt)
 
+  -- the first of those that stand in a line, alone
   pub one-kept : (l : Line) → Within s x (line_holder W l) → AllUnits (IsKept W S s x) (first_alone (standing W S l))
   one-kept l w = first_alone-kept (standing W S l) (standing-kept l w)
 

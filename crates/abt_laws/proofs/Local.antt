@@ -33,6 +33,7 @@ pub record IsLocal (W : Parts) (S : State) (s : ℕ) (x : Option Site) (c : Chan
 -- What a local change leaves.
 
 module _ (W : Parts) (S : State) (s : ℕ) (x : Option Site) (c : Change) (here : IsLocal W S s x c) where
+  -- who moves is kept beforehand
   pub moved-kept : EachOf (λ m. IsKept W S s x m.0) c.moves
   moved-kept = EachOf-map (MovesWithin W S s x) (λ m. IsKept W S s x m.0) c.moves (λ m w. w.0) here.moves
 
@@ -47,9 +48,11 @@ module _ (W : Parts) (S : State) (s : ℕ) (x : Option Site) (c : Change) (here 
   pub site-stays : {A : Type 0} (at : ℕ → Site) (f : ℕ → A) (ps : List (ℕ × A)) → EachOf (λ (m : ℕ × A). x ≡ Some (at m.0)) ps → (n : ℕ) → x ≢ Some (at n) → put_all f ps n ≡ f n
   site-stays at f ps a n ne = put_all-other f ps n (λ k. ne (EachOf-key (λ m. x ≡ Some (at m)) ps n a k))
 
+  -- another stream stays
   pub stream-stays : (r : ℕ) → r ≢ s → put_all S.stream c.streams r ≡ S.stream r
   stream-stays r ne = put_all-other S.stream c.streams r (λ k. ne (EachOf-key (λ n. n ≡ s) c.streams r here.streams k))
 
+  -- a unit that is kept elsewhere stays
   pub unit-stays : (u : ℕ) → (IsKept W S s x u → ⊥) → (put_all S.place c.moves u ≡ S.place u) × (put_all S.carried c.carried u ≡ S.carried u)
   unit-stays u out = (put_all-other S.place c.moves u (λ k. out (EachOf-key (IsKept W S s x) c.moves u moved-kept k)), put_all-other S.carried c.carried u (λ k. out (EachOf-key (IsKept W S s x) c.carried u here.carried k)))
 

@@ -37,6 +37,7 @@ site-reached may y h = cond-true may (Some y) None h
 -- Operations of unit u in the hand of stream s.
 
 module _ (W : Parts) (valid : IsValid W) (S : State) (s u : ℕ) (in_hand : hand W S s ≡ Some u) where
+  -- each operation that goes through
   local-op : (o : Op) → IsDeclared W o → code_of W S s u o ≡ code.Ok → IsLocal W S s (op_site W s u o) (op_row W S s u o)
   local-op (op.Set n) d h = LocalRows.local-goes_with W S s u _ in_hand _
   local-op (op.Add n) d h = LocalRows.local-goes_with W S s u _ in_hand _
@@ -87,6 +88,7 @@ module _ (W : Parts) (valid : IsValid W) (S : State) (s u : ℕ) (in_hand : hand
   local-code o code.Ok d h = local-op o d h
   local-code o _ d h = local-carried W S s _ no_change (local-none W S s _) _ (hand-kept W S s _ u in_hand, tt)
 
+  -- a step with the code of its operation
   local-step : (o : Option Op) → ((p : Op) → o ≡ Some p → IsDeclared W p) → IsLocal W S s (site_at W s u o) (step_row W S s u o (code_at W S s u o))
   local-step None d = local-none W S s None
   local-step (Some o) d = local-code o (code_of W S s u o) (d o refl) refl
@@ -98,6 +100,7 @@ ops-declared W valid u k o l e = (valid.units u l).ops k o e
 -- Events.
 
 module _ (W : Parts) (S : State) (s u : ℕ) where
+  -- a look, by the requests that it finds
   local-look : (b : Bool) (m : Option ℕ) → IsKept W S s (Some (site.Desk (unit_no u))) u → IsLocal W S s (Some (site.Desk (unit_no u))) (look_row W S s u b m)
   local-look true m k = local-stream W S s _ _ (local-desk W S s _ _ (local-moves W S s _ no_change (local-none W S s _) _ ((k, refl), tt)) u _ refl) _
   local-look false None k = local-stream W S s _ _ (local-desk W S s _ _ (local-moves W S s _ no_change (local-none W S s _) _ ((k, refl), tt)) u _ refl) _

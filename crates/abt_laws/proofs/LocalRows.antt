@@ -1,4 +1,4 @@
--- Every event changes only its stream and its site.
+-- The rows of operations change only their stream, their site, and units that these keep.
 use Rattle.std.proofs.Common.{◌≡◌, ℕ, suc, ◌==◌, List, [], ◌∷◌, ◌++◌, length, map, Option, Some, None, refl}
 use Rattle.std.proofs.lemmas.Bool.{cond_both}
 use Rattle.abt_machine.specs.declared.events.Place.{Place}
@@ -20,6 +20,8 @@ use Rattle.abt_laws.proofs.Maps.{EachOf}
 use Rattle.abt_laws.proofs.Keeping.{IsKept, hand-kept, standing-kept, one-kept}
 use Rattle.abt_laws.proofs.Local.{MovesWithin, IsLocal, local-none, local-moves, local-carried, local-desk, local-join_next, local-object_next, local-mutex, local-eventual, local-future}
 
+-- Units that stream s or site x keeps stay there when they move to a tray or to an object of the site.
+
 module _ (W : Parts) (S : State) (s : ℕ) (x : Option Site) where
   pub tray-within : (us : List ℕ) (i : ℕ) → AllUnits (IsKept W S s x) us → EachOf (MovesWithin W S s x) (tray_moves s i us)
   tray-within [] i a = tt
@@ -37,7 +39,7 @@ module _ (W : Parts) (S : State) (s : ℕ) (x : Option Site) where
   receives-within value [] a = tt
   receives-within value (u ∷ us) a = (a.0, receives-within value us a.1)
 
--- The shapes of rows, of unit u in the hand of stream s.
+-- One lemma for each shape of row, of unit u in the hand of stream s.
 
 module _ (W : Parts) (S : State) (s u : ℕ) (x : Option Site) (in_hand : hand W S s ≡ Some u) where
   here : IsKept W S s x u
@@ -46,10 +48,10 @@ module _ (W : Parts) (S : State) (s u : ℕ) (x : Option Site) (in_hand : hand W
   pub local-goes_with : (c : Carried) → IsLocal W S s x (goes_with u c)
   local-goes_with c = local-carried W S s x no_change (local-none W S s x) _ (here, tt)
 
-  pub local-goes_on : IsLocal W S s x (goes_on S u)
+  local-goes_on : IsLocal W S s x (goes_on S u)
   local-goes_on = local-goes_with (S.carried u)
 
-  pub local-moving : (ms : List (ℕ × Place)) → EachOf (MovesWithin W S s x) ms → IsLocal W S s x (record (goes_on S u) { moves = ms })
+  local-moving : (ms : List (ℕ × Place)) → EachOf (MovesWithin W S s x) ms → IsLocal W S s x (record (goes_on S u) { moves = ms })
   local-moving ms a = local-moves W S s x (goes_on S u) local-goes_on ms a
 
   pub local-wakes : (us : List ℕ) → AllUnits (IsKept W S s x) us → IsLocal W S s x (wakes W S s u us)
@@ -67,7 +69,7 @@ module _ (W : Parts) (S : State) (s u : ℕ) (x : Option Site) (in_hand : hand W
   local-joins v (place.Ended c) e = local-goes_on
   local-joins v _ e = local-join_next W S s x _ (local-moving ((u, place.Blocked (spot.Join (unit_no v)) (S.join_next v)) ∷ []) ((here, e), tt)) v _ e
 
-  pub local-waits : (y : ℕ) → x ≡ Some (object_site W y) → IsLocal W S s x (waits S u y)
+  local-waits : (y : ℕ) → x ≡ Some (object_site W y) → IsLocal W S s x (waits S u y)
   local-waits y e = local-object_next W S s x _ (local-moving ((u, place.Blocked (spot.Object (object_no y)) (S.object_next y)) ∷ []) ((here, e), tt)) y _ e
 
   pub local-locks : (y : ℕ) (o : Option ℕ) → x ≡ Some (site.Monitor (object_no y)) → x ≡ Some (object_site W y) → IsLocal W S s x (locks S u y o)
@@ -83,7 +85,7 @@ module _ (W : Parts) (S : State) (s u : ℕ) (x : Option Site) (in_hand : hand W
       (local-moves W S s x (hands_over W S s u z) (local-hands_over z m f) _ ((here, e), tray-within W S s x (first_alone (standing W S (Waiting z))) (tray_end W S s) (one-kept W S s x (Waiting z) f)))
       y _ e
 
-  pub local-queues : (z : ℕ) (vs : List ℕ) → x ≡ Some (object_site W z) → AllUnits (IsKept W S s x) vs → IsLocal W S s x (queues S u z vs)
+  local-queues : (z : ℕ) (vs : List ℕ) → x ≡ Some (object_site W z) → AllUnits (IsKept W S s x) vs → IsLocal W S s x (queues S u z vs)
   local-queues z vs e a = local-object_next W S s x _ (local-moving (waiting_moves z (S.object_next z) vs) (waiting-within W S s x z vs (S.object_next z) e a)) z _ e
 
   pub local-passes : (z : ℕ) (o : Option ℕ) (vs : List ℕ) → x ≡ Some (site.Monitor (object_no z)) → x ≡ Some (object_site W z) → AllUnits (IsKept W S s x) vs → IsLocal W S s x (passes W S s u z o vs)

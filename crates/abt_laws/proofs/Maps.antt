@@ -5,6 +5,7 @@ use Rattle.std.proofs.lemmas.Bool.{cases_eq}
 use Rattle.abt_machine.specs.Maps.{put_at, put_all}
 use Rattle.abt_laws.proofs.Queues.{put_at-same, put_at-other}
 
+-- the fact holds of each item
 abbrev pub EachOf : {A : Type 0} → (A → Type 0) → List A → Type 0
 EachOf P [] = Unit {0}
 EachOf P (x ∷ xs) = P x × EachOf P xs
@@ -18,6 +19,7 @@ abbrev pub KeyOf : {A : Type 0} → ℕ → List (ℕ × A) → Type 0
 KeyOf n [] = ⊥
 KeyOf n (p ∷ ps) = (n ≡ p.0) ⊎ KeyOf n ps
 
+-- the map is changed at n, or it is not
 pub key-cases : {A : Type 0} (n : ℕ) (ps : List (ℕ × A)) → KeyOf n ps ⊎ (KeyOf n ps → ⊥)
 key-cases n [] = inr (λ m. m)
 key-cases n (p ∷ ps) =
@@ -26,10 +28,12 @@ key-cases n (p ∷ ps) =
       | inr other ↦ elim (key-cases n ps) [ inl a ↦ inl (inr a) | inr b ↦ inr (λ m. elim m [ inl e ↦ other e | inr c ↦ b c ]) ]
     ]
 
+-- what holds of each number that is changed
 pub EachOf-key : {A : Type 0} (P : ℕ → Type 0) (ps : List (ℕ × A)) (n : ℕ) → EachOf (λ (p : ℕ × A). P p.0) ps → KeyOf n ps → P n
 EachOf-key P [] n a m = absurd m
 EachOf-key P (p ∷ ps) n a m = elim m [ inl e ↦ subst P (sym e) a.0 | inr b ↦ EachOf-key P ps n a.1 b ]
 
+-- at a number that is not changed the value stays
 pub put_all-other : {A : Type 0} (f : ℕ → A) (ps : List (ℕ × A)) (n : ℕ) → (KeyOf n ps → ⊥) → put_all f ps n ≡ f n
 put_all-other f [] n out = refl
 put_all-other f (p ∷ ps) n out = put_all-other (put_at f p.0 p.1) ps n (λ m. out (inr m)) ∙ put_at-other f p.0 p.1 n (λ e. out (inl e))

@@ -11,6 +11,7 @@ use Rattle.abt_machine.specs.Sites.{monitor_of, thing_site, object_site}
 use Rattle.abt_machine.specs.Operations.{IsMutex, IsEventual, IsFuture, IsBarrier}
 use Rattle.abt_machine.specs.Valid.{IsValid}
 
+-- the waiters of an object are kept at the site that its kind names
 thing-waits : (W : Parts) (x : ℕ) (t : Option Thing) → thing_at W x ≡ t → Some (thing_site x t) ≡ Some (object_site W x)
 thing-waits W x t h = ap (λ o. Some (thing_site x o)) (sym h)
 
