@@ -1,5 +1,5 @@
 -- The one text in which a workload is written.
-use Rattle.std.specs.Prelude.{ℕ, zero, suc, ◌==◌, Bool, true, false, if◌then◌else◌, List, [], ◌∷◌, ◌++◌, length, take, map, flat_map, Option, Some, None, slice_index_or, codes, decimal}
+use Rattle.std.specs.Prelude.{ℕ, zero, suc, ◌-◌, ◌==◌, Bool, true, false, if◌then◌else◌, List, [], ◌∷◌, ◌++◌, length, take, map, flat_map, Option, Some, None, slice_index_or, codes, decimal}
 use Rattle.std.specs.List.{enumerate_from}
 use Rattle.abt_machine.specs.declared.numbers.PoolNo.{PoolNo}
 use Rattle.abt_machine.specs.declared.numbers.SchedNo.{SchedNo}
@@ -157,7 +157,7 @@ workload_lines W =
 
 -- a text that is one byte longer than 4,194,304 goes without its last line feed
 abbrev pub fitted : Text → Text
-fitted text = if length text == 4194305 then take 4194304 text else text
+fitted text = if length text == 4194305 then take (length text - 1) text else text
 
 abbrev pub canonical_text : Parts → Text
 canonical_text W = fitted (text_of (workload_lines W))

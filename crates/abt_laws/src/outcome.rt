@@ -1,0 +1,26 @@
+//! Laws of determinism, and of states in which nothing is left to do.
+
+ghost use Rattle.std.specs.Prelude.{List};
+ghost use Rattle.abt_machine.specs.declared.operations.OrderShape.{OrderShape};
+ghost use Rattle.abt_machine.specs.declared.workload.Parts.{Parts};
+ghost use Rattle.abt_laws.specs.Laws.{EndedIsQuiet, OneAfter, QuietStays, SpentIsNotQuiet};
+
+/// A state and an event determine the next state.
+pub fn one_after()
+    ensures { (W : Parts) (Z : List OrderShape) → OneAfter W Z }
+{}
+
+/// Where every unit is unborn or ended, nothing is left to do.
+pub fn ended_is_quiet()
+    ensures { (W : Parts) (Z : List OrderShape) → EndedIsQuiet W Z }
+{}
+
+/// Where nothing is left to do, a stream misses, and nothing is left to do afterwards.
+pub fn quiet_stays()
+    ensures { (W : Parts) (Z : List OrderShape) → QuietStays W Z }
+{}
+
+/// Where a stream has used up its steps and would make another, something is left to do.
+pub fn spent_is_not_quiet()
+    ensures { (W : Parts) (Z : List OrderShape) → SpentIsNotQuiet W Z }
+{}
