@@ -1,5 +1,11 @@
+pub mod Alike
+pub mod AlikeEvents
+pub mod AlikeRows
+pub mod Codes
+pub mod Commute
 pub mod Dues
 pub mod Falls
+pub mod Keeping
 pub mod LifeActs
 pub mod LifeDues
 pub mod LifeEnds
@@ -14,7 +20,12 @@ pub mod LifeRuns
 pub mod LifeStepped
 pub mod LifeSteps
 pub mod LifeTies
+pub mod Local
+pub mod LocalEvents
+pub mod LocalRows
+pub mod Maps
 pub mod Misses
+pub mod Objects
 pub mod OpenFrames
 pub mod OrderPools
 pub mod Queues
