@@ -18,11 +18,11 @@ use Rattle.abt_machine.specs.Frames.{entered, left, left_to, sched_of}
 use Rattle.abt_machine.specs.Next.{EndDue}
 use Rattle.abt_machine.specs.Changes.{to_tray, tray_moves}
 use Rattle.abt_machine.specs.Events.{May, after, without_requests}
-use Rattle.abt_machine.specs.Sound.{Sound}
 use Rattle.abt_machine.specs.Lives.{count_up}
 use Rattle.abt_laws.proofs.Queues.{put_at-same, put_at-other, none≢some}
 use Rattle.abt_laws.proofs.Dues.{enters-plain}
-use Rattle.abt_laws.proofs.LifeMaps.{EachOf, put_all-kept}
+use Rattle.abt_laws.proofs.Maps.{EachOf}
+use Rattle.abt_laws.proofs.LifeMaps.{put_all-kept}
 use Rattle.abt_laws.proofs.LifeLists.{MayEnd, passage_of_cause}
 use Rattle.abt_laws.proofs.LifeTies.{IsOutside, IsBusy, ends_at, passage_of_mark, passage_at, Acts, Fate}
 use Rattle.abt_laws.proofs.LifeSteps.{LeavesOthers, moved-other}

@@ -3,12 +3,8 @@ use Rattle.std.proofs.Common.{ℕ, ◌==◌, List, [], ◌∷◌, ◌++◌, map,
 use Rattle.std.proofs.lemmas.Bool.{cond_both, eqb-true}
 use Rattle.abt_machine.specs.Maps.{put_at, put_all}
 use Rattle.abt_machine.specs.Queues.{first_alone}
+use Rattle.abt_laws.proofs.Maps.{EachOf}
 use Rattle.abt_laws.proofs.Queues.{AllUnits}
-
--- P holds of each element
-abbrev pub EachOf : {A : Type 0} → (A → Type 0) → List A → Type 0
-EachOf P [] = Unit {0}
-EachOf P (x ∷ xs) = P x × EachOf P xs
 
 pub EachOf-append : {A : Type 0} (P : A → Type 0) (xs ys : List A) → EachOf P xs → EachOf P ys → EachOf P (xs ++ ys)
 EachOf-append P [] ys a b = b

@@ -23,7 +23,8 @@ use Rattle.abt_machine.specs.Codes.{code_of, unless, is_unborn, is_ended, is_sus
 use Rattle.abt_machine.specs.Changes.{no_change, goes_with, goes_on, to_tray, tray_moves, waiting_moves}
 use Rattle.abt_machine.specs.Steps.{wakes, asks, joins, waits, locks, hands_over, releases, queues, passes, receives, gives_all, awaits, learns, ready_value, filled_by, fills, arrives, op_row}
 use Rattle.abt_laws.proofs.Queues.{HasTicket, AllUnits, queue-all, none≢some}
-use Rattle.abt_laws.proofs.LifeMaps.{EachOf, EachOf-append, EachOf-units, AllUnits-then, AllUnits-first_alone}
+use Rattle.abt_laws.proofs.Maps.{EachOf}
+use Rattle.abt_laws.proofs.LifeMaps.{EachOf-append, EachOf-units, AllUnits-then, AllUnits-first_alone}
 use Rattle.abt_laws.proofs.LifeTies.{IsOutside}
 use Rattle.abt_laws.proofs.LifeSteps.{StaysOutside, Steps}
 

@@ -18,7 +18,6 @@ use Rattle.abt_machine.specs.Codes.{code_of, code_at}
 use Rattle.abt_machine.specs.Changes.{changed}
 use Rattle.abt_machine.specs.Steps.{step_row, op_row}
 use Rattle.abt_machine.specs.Events.{May, after}
-use Rattle.abt_machine.specs.Sound.{Sound}
 use Rattle.abt_machine.specs.Lives.{is_birth}
 use Rattle.abt_laws.proofs.Queues.{none≢some}
 use Rattle.abt_laws.proofs.LifeTies.{IsOutside, IsBusy, Fate}
