@@ -114,4 +114,5 @@ pub runs-live : (W : Parts) (Z : List OrderShape) → RunsAreSound W Z → RunsL
 runs-live W Z sound valid stored J run = record {
   lives = λ u l declared some. tied-lives W u (last_life W J u) (life_events W J u) (last_state W J) (run-tied W Z sound valid stored u declared J run) l some;
   ended = λ u l declared some below. ((run-tied W Z sound valid stored u declared J run).earlier l some below).1;
+  unborn = λ u declared. run-nothing_unborn W Z sound valid stored u declared J run;
 }

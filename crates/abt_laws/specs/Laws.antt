@@ -1,5 +1,6 @@
 -- The laws of the machine. W is a workload and Z the list of the shapes of the stored orders; each law supposes that W is valid and that each user scheduler's order is stored.
-use Rattle.std.specs.Prelude.{ℕ, ◌≡◌, ◌≢◌, ◌<◌, ◌⊎◌, Bool, true, false, List, [], ◌∷◌, ◌++◌}
+use Rattle.std.specs.Prelude.{ℕ, ◌≡◌, ◌≢◌, ◌<◌, ◌↔◌, true, false, List, [], ◌∷◌, ◌++◌, length}
+use Rattle.abt_machine.specs.declared.events.Place.TheVariants as place
 use Rattle.abt_machine.specs.declared.events.Event.{Event}
 use Rattle.abt_machine.specs.declared.events.What.{What}
 use Rattle.abt_machine.specs.declared.events.What.TheVariants as what
@@ -14,7 +15,7 @@ use Rattle.abt_machine.specs.Events.{After}
 use Rattle.abt_machine.specs.Runs.{Run, state_at, last_state}
 use Rattle.abt_machine.specs.Sound.{Sound}
 use Rattle.abt_machine.specs.Outcomes.{Quiet, AllEnded, Spent, is_step, steps_of}
-use Rattle.abt_machine.specs.Lives.{LivesOf}
+use Rattle.abt_machine.specs.Lives.{LivesOf, last_life}
 use Rattle.abt_laws.specs.Footprint.{ChangesOnly, Apart}
 use Rattle.abt_laws.specs.Measure.{steps_left, FallsBy}
 
@@ -77,3 +78,8 @@ EventsFall W Z = IsValid W → OrdersStored W Z → (n : ℕ) (J : List Event) (
     (is_step e.what ≡ true → steps_of e.stream.0 J < n → steps_left W n (J ++ e ∷ []) < steps_left W n J)
     × (is_step e.what ≡ false → steps_left W n (J ++ e ∷ []) ≡ steps_left W n J)
     × FallsBy W e.stream.0 e.what (last_state W J) (last_state W (J ++ e ∷ []))
+
+-- along every run the state's own life of a unit is the journal's, and a unit is unborn exactly where that life is 0
+abbrev pub LifeIsTheJournals : Parts → List OrderShape → Type 0
+LifeIsTheJournals W Z = IsValid W → OrdersStored W Z → (J : List Event) (u : ℕ) → Run W Z J → u < length W.units →
+    (((last_state W J).desk u).life ≡ last_life W J u) × (((last_state W J).place u ≡ place.Unborn) ↔ (last_life W J u ≡ 0))

@@ -120,7 +120,8 @@ pub record IsLife (b : Body) (es : List What) : Type 0 where
   pub ends : (c : Cause) → Contains (ends_in es) c → EndsLife b es c
   pub ends_last : (before rest : List What) (w : What) (c : Cause) → es ≡ before ++ w ∷ rest → cause_in w ≡ Some c → rest ≡ []
 
--- every life of every unit is one, and every life but a unit's last has its end
+-- every life of every unit is one, every life but a unit's last has its end, and an unborn unit has no event
 pub record LivesOf (W : Parts) (J : List Event) : Type 0 where
   pub lives : (u l : ℕ) → u < length W.units → 0 < l → IsLife (body_at W u) (life_events W J u l)
   pub ended : (u l : ℕ) → u < length W.units → 0 < l → l < last_life W J u → (c : Cause) × (ends_in (life_events W J u l) ≡ c ∷ [])
+  pub unborn : (u : ℕ) → u < length W.units → life_events W J u 0 ≡ []
