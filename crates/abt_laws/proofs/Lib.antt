@@ -1,8 +1,12 @@
 pub mod Arrivals
+pub mod Barriers
 pub mod ChangedMaps
 pub mod DueFacts
+pub mod FramesStay
 pub mod KeepsSound
 pub mod Places
 pub mod Queues
 pub mod Removal
 pub mod Standing
+pub mod StepShapes
+pub mod Wakes
