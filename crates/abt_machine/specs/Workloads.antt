@@ -1,6 +1,5 @@
 -- What a workload declares, by number.
-use Rattle.std.specs.Prelude.{ℕ, ◌≡◌, ◌==◌, Bool, true, false, List, [], length, Option, Some, None, slice_get, option_map, map, take, count_by}
-use Rattle.abt_machine.specs.Numbers.{object_no, sched_no}
+use Rattle.std.specs.Prelude.{ℕ, ◌≡◌, ◌==◌, Bool, true, false, List, [], Option, Some, None, slice_get, option_map, map, take, count_by}
 use Rattle.abt_machine.specs.declared.numbers.PoolNo.{PoolNo}
 use Rattle.abt_machine.specs.declared.numbers.SchedNo.{SchedNo}
 use Rattle.abt_machine.specs.declared.numbers.ObjectNo.{ObjectNo}

@@ -1,0 +1,99 @@
+-- What an operation asks of the workload that it stands in.
+use Rattle.std.specs.Prelude.{ℕ, ◌≡◌, ◌<◌, ◌^◌, Bool, true, false, List, [], ◌∷◌, length, Some, ⊤}
+use Rattle.abt_machine.specs.declared.operations.Combine.{Combine}
+use Rattle.abt_machine.specs.declared.operations.Op.{Op}
+use Rattle.abt_machine.specs.declared.operations.Op.TheVariants as op
+use Rattle.abt_machine.specs.declared.operations.Thing.TheVariants as thing
+use Rattle.abt_machine.specs.declared.workload.Parts.{Parts}
+use Rattle.abt_machine.specs.Workloads.{IsCondition, thing_at}
+
+abbrev pub IsMutex : Parts → ℕ → Type 0
+IsMutex W x = thing_at W x ≡ Some thing.Mutex
+
+abbrev pub IsEventual : Parts → ℕ → Type 0
+IsEventual W x = thing_at W x ≡ Some thing.Eventual
+
+abbrev pub IsFuture : Parts → ℕ → Type 0
+IsFuture W x = (n : ℕ) × (c : Combine) × (thing_at W x ≡ Some (thing.Future n c))
+
+abbrev pub IsBarrier : Parts → ℕ → Type 0
+IsBarrier W x = (n : ℕ) × (thing_at W x ≡ Some (thing.Barrier n))
+
+-- what an operation names is declared, its objects of the kind that it needs, and its number has 64 bits
+abbrev pub IsDeclared : Parts → Op → Type 0
+IsDeclared W (op.Set n) = n < 2 ^ 64
+IsDeclared W (op.Add n) = n < 2 ^ 64
+IsDeclared W (op.Say w) = w < length W.words
+IsDeclared W op.Print = ⊤
+IsDeclared W (op.KeySet k) = k < W.keys
+IsDeclared W (op.KeyGet k) = k < W.keys
+IsDeclared W op.Yield = ⊤
+IsDeclared W (op.YieldTo v p) = (v.0 < length W.units) × (p.0 < length W.pools)
+IsDeclared W op.Suspend = ⊤
+IsDeclared W (op.Resume v) = v.0 < length W.units
+IsDeclared W (op.Create v p) = (v.0 < length W.units) × (p.0 < length W.pools)
+IsDeclared W (op.Join v) = v.0 < length W.units
+IsDeclared W (op.Cancel v) = v.0 < length W.units
+IsDeclared W (op.Migrate v p) = (v.0 < length W.units) × (p.0 < length W.pools)
+IsDeclared W (op.MigrateTo v s) = (v.0 < length W.units) × (s.0 < W.streams)
+IsDeclared W (op.Migratable v b) = v.0 < length W.units
+IsDeclared W (op.Revive v p) = (v.0 < length W.units) × (p.0 < length W.pools)
+IsDeclared W (op.Lock x) = IsMutex W x.0
+IsDeclared W (op.TryLock x) = IsMutex W x.0
+IsDeclared W (op.Unlock x) = IsMutex W x.0
+IsDeclared W (op.Load x) = IsMutex W x.0
+IsDeclared W (op.Store x) = IsMutex W x.0
+IsDeclared W (op.CondWait x) = IsCondition W x.0
+IsDeclared W (op.Signal x) = IsCondition W x.0
+IsDeclared W (op.Broadcast x) = IsCondition W x.0
+IsDeclared W (op.EvWait x) = IsEventual W x.0
+IsDeclared W (op.EvSet x) = IsEventual W x.0
+IsDeclared W (op.EvReset x) = IsEventual W x.0
+IsDeclared W (op.EvTest x) = IsEventual W x.0
+IsDeclared W (op.FuWait x) = IsFuture W x.0
+IsDeclared W (op.FuSet x) = IsFuture W x.0
+IsDeclared W (op.FuReset x) = IsFuture W x.0
+IsDeclared W (op.FuTest x) = IsFuture W x.0
+IsDeclared W (op.BarWait x) = IsBarrier W x.0
+
+-- whether an operation may block or yield, which a tasklet may not
+abbrev pub may_block : Op → Bool
+may_block (op.Set n) = false
+may_block (op.Add n) = false
+may_block (op.Say w) = false
+may_block op.Print = false
+may_block (op.KeySet k) = false
+may_block (op.KeyGet k) = false
+may_block op.Yield = true
+may_block (op.YieldTo v p) = true
+may_block op.Suspend = true
+may_block (op.Resume v) = false
+may_block (op.Create v p) = false
+may_block (op.Join v) = true
+may_block (op.Cancel v) = false
+may_block (op.Migrate v p) = false
+may_block (op.MigrateTo v s) = false
+may_block (op.Migratable v b) = false
+may_block (op.Revive v p) = false
+may_block (op.Lock x) = true
+may_block (op.TryLock x) = false
+may_block (op.Unlock x) = false
+may_block (op.Load x) = false
+may_block (op.Store x) = false
+may_block (op.CondWait x) = true
+may_block (op.Signal x) = false
+may_block (op.Broadcast x) = false
+may_block (op.EvWait x) = true
+may_block (op.EvSet x) = false
+may_block (op.EvReset x) = false
+may_block (op.EvTest x) = false
+may_block (op.FuWait x) = true
+may_block (op.FuSet x) = false
+may_block (op.FuReset x) = false
+may_block (op.FuTest x) = false
+may_block (op.BarWait x) = true
+
+-- the number of the word that an operation says, if it says one
+abbrev pub said_by : Op → List ℕ
+said_by (op.Say w) = w ∷ []
+said_by _ = []

@@ -1,0 +1,160 @@
+-- What a stream does at a step: by itself, or by a call on one object, and what it makes of the answer.
+use Rattle.std.specs.Prelude.{ℕ, if◌then◌else◌, List, [], ◌∷◌, Option, Some, None}
+use Rattle.abt_machine.specs.declared.events.Code.{Code}
+use Rattle.abt_machine.specs.declared.events.Code.TheVariants as code
+use Rattle.abt_machine.specs.declared.events.Piece.TheVariants as piece
+use Rattle.abt_machine.specs.declared.events.Site.{Site}
+use Rattle.abt_machine.specs.declared.events.Site.TheVariants as site
+use Rattle.abt_machine.specs.declared.operations.Op.{Op}
+use Rattle.abt_machine.specs.declared.operations.Op.TheVariants as op
+use Rattle.abt_machine.specs.declared.workload.Parts.{Parts}
+use Rattle.abt_machine.specs.Numbers.{unit_no}
+use Rattle.abt_machine.specs.Workloads.{condition_number}
+use Rattle.abt_machine.specs.Access.{may_put, may_take}
+use Rattle.abt_machine.specs.Sites.{first_pool, monitor_of}
+use Rattle.abt_machine.specs.Carrying.{added, from_key, printed, with_acc, with_key}
+use Rattle.abt_machine.specs.State.{Carried}
+use Rattle.abt_machine.specs.Values.{Owned}
+use Rattle.abt_machine.specs.Acts.{Act, Answer, carrying, moved, received}
+use Rattle.abt_machine.specs.Acts as act
+
+-- what a step leaves in the hand and in Next, whom it puts on the tray, and its code
+pub record Effect : Type 0 where
+  pub hand : Option Owned
+  pub next : Option Owned
+  pub wakes : List Owned
+  pub code : Code
+
+-- the unit stays in the hand, and these go to the tray
+abbrev pub keeps : Owned → List Owned → Effect
+keeps o os = record { hand = Some o; next = None; wakes = os; code = code.Ok }
+
+-- the unit is in the hand no longer, and these go to the tray
+abbrev pub empties : List Owned → Effect
+empties os = record { hand = None; next = None; wakes = os; code = code.Ok }
+
+-- the unit, which is past its operation, stays in the hand and notes why it was refused
+abbrev pub notes : Owned → Code → Effect
+notes o c = record { hand = Some (carrying (printed (piece.Refused c)) o); next = None; wakes = []; code = c }
+
+-- a refused operation of the unit
+abbrev pub refusal : Owned → Code → Effect
+refusal o c = notes (moved o) c
+
+-- an operation of the unit that changes only what it carries
+abbrev pub local : (Carried → Carried) → Owned → Effect
+local f o = keeps (moved (carrying f o)) []
+
+pub data Plan : Type 0 where
+  Does : Effect → Plan
+  Calls : Site → Act → Plan
+
+-- an operation that names a pool which the stream may not reach is refused without a call
+abbrev pub denied : Owned → Plan
+denied o = Does (refusal o code.PoolAccess)
+
+-- what stream s does at an operation of unit o in its hand. A unit goes with its act as it is after the step
+abbrev pub plan_of : Parts → ℕ → Op → Owned → Plan
+plan_of W s (op.Set n) o = Does (local (with_acc n) o)
+plan_of W s (op.Add n) o = Does (local (added n) o)
+plan_of W s (op.Say w) o = Does (local (printed (piece.Said w)) o)
+plan_of W s op.Print o = Does (local (printed (piece.Number o.carried.acc)) o)
+plan_of W s (op.KeySet k) o = Does (local (with_key k) o)
+plan_of W s (op.KeyGet k) o = Does (local (from_key k) o)
+plan_of W s op.Yield o = Does (empties (moved o ∷ []))
+plan_of W s (op.YieldTo v p) o = if may_take W s p.0 then Calls (site.Pool p) (act.Remove v.0) else denied o
+plan_of W s op.Suspend o = Calls (site.Desk (unit_no o.number)) (act.Suspend (moved o))
+plan_of W s (op.Resume v) o = Calls (site.Desk v) act.Resume
+plan_of W s (op.Create v p) o = if may_put W s p.0 then Calls (site.Desk v) (act.Create p.0) else denied o
+plan_of W s (op.Join v) o = Calls (site.Desk v) (act.Join (moved o))
+plan_of W s (op.Cancel v) o = Calls (site.Desk v) act.AskCancel
+plan_of W s (op.Migrate v p) o = if may_put W s p.0 then Calls (site.Desk v) (act.AskMigrate p.0) else denied o
+plan_of W s (op.MigrateTo v r) o = if may_put W s (first_pool W r.0) then Calls (site.Desk v) (act.AskMigrate (first_pool W r.0)) else denied o
+plan_of W s (op.Migratable v allowed) o = Calls (site.Desk v) (act.SetMigratable allowed)
+plan_of W s (op.Revive v p) o = if may_put W s p.0 then Calls (site.Desk v) (act.Revive p.0) else denied o
+plan_of W s (op.Lock x) o = Calls (site.Monitor x) (act.Lock (moved o))
+plan_of W s (op.TryLock x) o = Calls (site.Monitor x) (act.TryLock o.number)
+plan_of W s (op.Unlock x) o = Calls (site.Monitor x) (act.Unlock o.number)
+plan_of W s (op.Load x) o = Calls (site.Monitor x) (act.Load o.number)
+plan_of W s (op.Store x) o = Calls (site.Monitor x) (act.Store o.number o.carried.acc)
+plan_of W s (op.CondWait x) o = Calls (monitor_of W x.0) (act.Wait (condition_number W x.0) (moved o))
+plan_of W s (op.Signal x) o = Calls (monitor_of W x.0) (act.Signal (condition_number W x.0))
+plan_of W s (op.Broadcast x) o = Calls (monitor_of W x.0) (act.Broadcast (condition_number W x.0))
+plan_of W s (op.EvWait x) o = Calls (site.Eventual x) (act.Await (moved o))
+plan_of W s (op.EvSet x) o = Calls (site.Eventual x) (act.Fill o.carried.acc)
+plan_of W s (op.EvReset x) o = Calls (site.Eventual x) act.Reset
+plan_of W s (op.EvTest x) o = Calls (site.Eventual x) act.Test
+plan_of W s (op.FuWait x) o = Calls (site.Future x) (act.Await (moved o))
+plan_of W s (op.FuSet x) o = Calls (site.Future x) (act.Fill o.carried.acc)
+plan_of W s (op.FuReset x) o = Calls (site.Future x) act.Reset
+plan_of W s (op.FuTest x) o = Calls (site.Future x) act.Test
+plan_of W s (op.BarWait x) o = Calls (site.Barrier x) (act.Arrive (moved o))
+
+-- What an answer brings. The last line of each is of answers that the act never gets.
+
+-- to a unit that stayed in the hand: it goes on, what comes out is woken, and a number is its own
+abbrev pub to_caller : Owned → Answer → Effect
+to_caller o (act.Given b) = keeps (moved o) (b ∷ [])
+to_caller o (act.Woke os) = keeps (moved o) os
+to_caller o act.Rested = keeps (moved o) []
+to_caller o (act.Number n) = keeps (received n (moved o)) []
+to_caller o (act.Coded code.Ok) = keeps (moved o) []
+to_caller o (act.Coded c) = refusal o c
+to_caller o answer = keeps (moved o) []
+
+-- to a unit that went with the act: it goes on where it comes back, and those that waited for it are woken; else it waits
+abbrev pub to_giver : Answer → Effect
+to_giver (act.Given b) = keeps b []
+to_giver (act.Through b os) = keeps b os
+to_giver act.Rested = empties []
+to_giver answer = empties []
+
+-- to a unit that went to a condition: who comes out has the mutex, and is woken; a refused unit comes back past its operation
+abbrev pub to_condition : Answer → Effect
+to_condition (act.Given b) = empties (b ∷ [])
+to_condition act.Rested = empties []
+to_condition (act.Back b c) = notes b c
+to_condition answer = empties []
+
+-- to a unit that yields to another: the other is taken
+abbrev pub to_yielder : Owned → Answer → Effect
+to_yielder o (act.Given b) = record { hand = None; next = Some b; wakes = moved o ∷ []; code = code.Ok }
+to_yielder o (act.Coded c) = refusal o c
+to_yielder o answer = keeps (moved o) []
+
+-- what the answer to an operation of unit o brings; the first seven operations make no call
+abbrev pub effect_of : Op → Owned → Answer → Effect
+effect_of (op.Set n) o b = to_caller o b
+effect_of (op.Add n) o b = to_caller o b
+effect_of (op.Say w) o b = to_caller o b
+effect_of op.Print o b = to_caller o b
+effect_of (op.KeySet k) o b = to_caller o b
+effect_of (op.KeyGet k) o b = to_caller o b
+effect_of op.Yield o b = to_caller o b
+effect_of (op.YieldTo v p) o b = to_yielder o b
+effect_of op.Suspend o b = to_giver b
+effect_of (op.Resume v) o b = to_caller o b
+effect_of (op.Create v p) o b = to_caller o b
+effect_of (op.Join v) o b = to_giver b
+effect_of (op.Cancel v) o b = to_caller o b
+effect_of (op.Migrate v p) o b = to_caller o b
+effect_of (op.MigrateTo v r) o b = to_caller o b
+effect_of (op.Migratable v allowed) o b = to_caller o b
+effect_of (op.Revive v p) o b = to_caller o b
+effect_of (op.Lock x) o b = to_giver b
+effect_of (op.TryLock x) o b = to_caller o b
+effect_of (op.Unlock x) o b = to_caller o b
+effect_of (op.Load x) o b = to_caller o b
+effect_of (op.Store x) o b = to_caller o b
+effect_of (op.CondWait x) o b = to_condition b
+effect_of (op.Signal x) o b = to_caller o b
+effect_of (op.Broadcast x) o b = to_caller o b
+effect_of (op.EvWait x) o b = to_giver b
+effect_of (op.EvSet x) o b = to_caller o b
+effect_of (op.EvReset x) o b = to_caller o b
+effect_of (op.EvTest x) o b = to_caller o b
+effect_of (op.FuWait x) o b = to_giver b
+effect_of (op.FuSet x) o b = to_caller o b
+effect_of (op.FuReset x) o b = to_caller o b
+effect_of (op.FuTest x) o b = to_caller o b
+effect_of (op.BarWait x) o b = to_giver b
