@@ -21,7 +21,7 @@ use Rattle.abt_laws.proofs.EventualSteps.{all-leave, keeps-gives_all, keeps-awai
 module _ (W : Parts) (Z : List OrderShape) (S : State) (s u : ℕ) (step : IsStepping W Z S s u) where
   -- a future that is not full has a compartment left
   has-room : (x : ℕ) → is_full W S x ≡ false → (S.future x).filled < size_of W x
-  has-room x open = let few : (S.future x).filled ≤ size_of W x = step.sound.filled x in let other : (S.future x).filled ≡ size_of W x → ⊥ = eqb-false (S.future x).filled (size_of W x) open in omega arith
+  has-room x unfilled = let few : (S.future x).filled ≤ size_of W x = step.sound.filled x in let other : (S.future x).filled ≡ size_of W x → ⊥ = eqb-false (S.future x).filled (size_of W x) unfilled in omega arith
 
   not-ready : (x : ℕ) → ready_value W S x ≡ None → is_full W S x ≡ false
   not-ready x = cond_both (is_full W S x) (Some (S.future x).value) None (λ o. o ≡ None → is_full W S x ≡ false) (λ e h. absurd (none≢some (sym h))) (λ e h. e)
@@ -38,8 +38,8 @@ module _ (W : Parts) (Z : List OrderShape) (S : State) (s u : ℕ) (step : IsSte
 
   -- one more compartment of x is filled
   pub keeps-fills : (x : ℕ) (f : Future) → not (is_full W S x) ≡ true → f.filled ≡ suc (S.future x).filled → Keeps W Z S (fills W S s u x f)
-  keeps-fills x f open more =
-      let room : (S.future x).filled < size_of W x = has-room x (not-so (is_full W S x) open) in
+  keeps-fills x f unfilled more =
+      let room : (S.future x).filled < size_of W x = has-room x (not-so (is_full W S x) unfilled) in
       cond_both (f.filled == size_of W x) (gives_all W S s u x f.value) (goes_on S u) (λ d. Keeps W Z S (record d { futures = (x, f) ∷ [] }))
         (λ full. keeps-gives_all W Z S s u step x f.value [] ((x, f) ∷ []) tt ((omega arith, inr (all-leave W Z S s u step x)), tt))
         (λ part. let other : f.filled ≡ size_of W x → ⊥ = eqb-false f.filled (size_of W x) part in keeps-becomes x f (omega arith, inl (λ l. omega arith)))

@@ -3,6 +3,7 @@ pub mod BarrierSteps
 pub mod Barriers
 pub mod ChangedMaps
 pub mod CodeFacts
+pub mod ConditionSteps
 pub mod DeskSteps
 pub mod DueFacts
 pub mod EventualSteps
