@@ -2,11 +2,17 @@ pub mod Arrivals
 pub mod Barriers
 pub mod ChangedMaps
 pub mod DueFacts
+pub mod EndSound
 pub mod FramesStay
 pub mod KeepsSound
+pub mod LookSound
+pub mod Orders
 pub mod Places
+pub mod PutSound
 pub mod Queues
 pub mod Removal
+pub mod RoundSound
 pub mod Standing
 pub mod StepShapes
+pub mod ValidFacts
 pub mod Wakes
