@@ -29,7 +29,7 @@ abbrev pub IsNoFrames : Line → Type 0
 IsNoFrames (InFrames s) = ⊥
 IsNoFrames _ = Unit {0}
 
-frameless-in : (S : State) (l : Line) (u t : ℕ) → IsNoFrames l → S.place u ≡ place_in l t → IsFrameless S u
+pub frameless-in : (S : State) (l : Line) (u t : ℕ) → IsNoFrames l → S.place u ≡ place_in l t → IsFrameless S u
 frameless-in S l u t other at r d h =
     let e : Some l ≡ Some (InFrames r) = sym (line_of-place_in l t) ∙ (ap line_of (sym at) ∙ ap line_of h) in
     let k : l ≡ InFrames r = cc in subst IsNoFrames k other
