@@ -1,5 +1,5 @@
 -- What the tests of codes say of places, owners and futures.
-use Rattle.std.proofs.Common.{◌≡◌, ◌≢◌, ℕ, ◌==◌, Bool, true, false, not, is_none, Option, Some, None, refl, sym, ◌∙◌, ap, subst}
+use Rattle.std.proofs.Common.{◌≡◌, ℕ, Bool, true, false, not, Option, Some, None, refl, sym, ◌∙◌, ap, subst}
 use Rattle.std.specs.Prelude.{IsSome}
 use Rattle.abt_machine.specs.declared.events.Code.{Code}
 use Rattle.abt_machine.specs.declared.events.Code.TheVariants as code
@@ -21,10 +21,13 @@ pub passes-test : (b : Bool) (c rest : Code) → IsRefusal c → unless b c rest
 passes-test true c rest refusal e = refl
 passes-test false c rest refusal e = absurd (subst IsRefusal e refusal)
 
--- and what follows it
-pub passes-rest : (b : Bool) (c rest : Code) → IsRefusal c → unless b c rest ≡ code.Ok → rest ≡ code.Ok
+passes-rest : (b : Bool) (c rest : Code) → IsRefusal c → unless b c rest ≡ code.Ok → rest ≡ code.Ok
 passes-rest true c rest refusal e = e
 passes-rest false c rest refusal e = absurd (subst IsRefusal e refusal)
+
+-- and the second, where it has two
+pub passes-second : (a b : Bool) (c d rest : Code) → IsRefusal c → IsRefusal d → unless a c (unless b d rest) ≡ code.Ok → b ≡ true
+passes-second a b c d rest first second e = passes-test b d rest second (passes-rest a c (unless b d rest) first e)
 
 pub not-so : (b : Bool) → not b ≡ true → b ≡ false
 not-so true e = sym e

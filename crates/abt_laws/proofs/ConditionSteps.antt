@@ -1,5 +1,5 @@
 -- Steps at a condition keep a sound state sound. Unit u, in the hand of stream s, makes the step.
-use Rattle.std.proofs.Common.{◌≡◌, ◌≢◌, ℕ, suc, ◌+◌, ◌<◌, ◌≤◌, Bool, true, List, [], ◌∷◌, ◌++◌, length, Option, Some, None, refl, sym, ◌∙◌, ap, subst, arith, ◌⊎◌, inl, inr}
+use Rattle.std.proofs.Common.{◌≡◌, ℕ, suc, ◌+◌, ◌<◌, ◌≤◌, List, [], ◌∷◌, ◌++◌, length, Option, Some, None, refl, sym, ◌∙◌, ap, subst, arith, inl}
 use Rattle.std.specs.Prelude.{IsSome}
 use Rattle.abt_machine.specs.declared.events.Place.{Place}
 use Rattle.abt_machine.specs.declared.events.Place.TheVariants as place
@@ -14,7 +14,7 @@ use Rattle.abt_machine.specs.State.{State, Mutex}
 use Rattle.abt_machine.specs.Queues.{first, first_alone}
 use Rattle.abt_machine.specs.Lines.{InTray, Waiting, standing, tray_end}
 use Rattle.abt_machine.specs.Operations.{IsMutex}
-use Rattle.abt_machine.specs.Changes.{Change, changed, to_tray, waiting_moves, goes_on}
+use Rattle.abt_machine.specs.Changes.{Change, changed, to_tray, waiting_moves}
 use Rattle.abt_machine.specs.Steps.{owned, releases, queues, passes}
 use Rattle.abt_machine.specs.Sound.{HoldsUp}
 use Rattle.abt_laws.proofs.Queues.{put_at-same}
@@ -22,12 +22,13 @@ use Rattle.abt_laws.proofs.ChangedMaps.{EachOf, EachOf-append}
 use Rattle.abt_laws.proofs.Places.{line_of, same-self}
 use Rattle.abt_laws.proofs.Arrivals.{IsEmpty, IsBelow-move, IsBelow-moves, AllFree-append, free-above, tray-free, waiting-free}
 use Rattle.abt_laws.proofs.Standing.{none-first}
-use Rattle.abt_laws.proofs.KeepsSound.{Keeps, places, MovesWell, MutexHolds}
-use Rattle.abt_laws.proofs.Barriers.{IsOffBarriers, barriers-stay}
-use Rattle.abt_laws.proofs.FramesStay.{IsFrameless, frames-stay}
+use Rattle.abt_laws.proofs.KeepsSound.{Keeps, places, MovesWell}
+use Rattle.abt_laws.proofs.Barriers.{IsOffBarriers}
+use Rattle.abt_laws.proofs.FramesStay.{IsFrameless}
 use Rattle.abt_laws.proofs.Wakes.{IsWakeable, wakeable-first, tray-well, tray-frameless, tray-each, empty-still}
 use Rattle.abt_laws.proofs.MutexSteps.{next-owner}
-use Rattle.abt_laws.proofs.StepShapes.{IsStepping, in_no_frame, carries_on, keeps-goes_on, waiting-below, tray-below}
+use Rattle.abt_laws.proofs.StepMoves.{keeps-moves}
+use Rattle.abt_laws.proofs.StepShapes.{IsStepping, in_no_frame, keeps-goes_on, waiting-below, tray-below}
 
 -- Moves to the waiters of object x.
 
@@ -60,27 +61,22 @@ module _ (W : Parts) (Z : List OrderShape) (S : State) (s u : ℕ) (step : IsSte
       let next : put_at S.object_next x (suc (S.object_next x)) x ≡ suc (S.object_next x) = put_at-same S.object_next x (suc (S.object_next x)) in
       let apart : x ≡ m → ⊥ = λ e. let k : Some (thing.Cond cond.0) ≡ Some thing.Mutex = sym cond.1 ∙ (ap (thing_at W) e ∙ is) in cc in
       let still : first (standing W S (Waiting m)) ≡ None → IsEmpty (Waiting m) (places S c) =
-          λ none. empty-still S c (Waiting m) (λ e. let k : x ≡ m = cc in apart k, tray-each (λ p. line_of p ≡ Some (Waiting m) → ⊥) s i us (λ t e. cc)) (none-first W S step.sound.undeclared (Waiting m) none) in
-      record {
-        free = (free-above S.place u pl (Waiting x) (S.object_next x) (same-self x (S.object_next x)) (waiting-below W Z S x step.sound),
-          tray-free s i (put_at S.place u pl) us (IsBelow-move (InTray s) i S.place u pl (λ e. cc) (tray-below W Z S s u step)));
-        moves = (record {
+      λ none. empty-still S c (Waiting m) (λ e. let k : x ≡ m = cc in apart k, tray-each (λ p. line_of p ≡ Some (Waiting m) → ⊥) s i us (λ t e. cc)) (none-first W S step.sound.undeclared (Waiting m) none) in
+      keeps-moves W Z S s u step ((u, pl) ∷ to_tray W S s us) [] ((x, suc (S.object_next x)) ∷ []) ((m, owned (first (standing W S (Waiting m))) (S.mutex m)) ∷ []) (
+        free-above S.place u pl (Waiting x) (S.object_next x) (same-self x (S.object_next x)) (waiting-below W Z S x step.sound),
+        tray-free s i (put_at S.place u pl) us (IsBelow-move (InTray s) i S.place u pl (λ e. cc) (tray-below W Z S s u step)),
+      ) (
+        record {
           declared = step.declared;
           placed = (subst (λ n. S.object_next x < n) (sym next) (omega arith), subst (HoldsUp W (changed S c) x) (sym cond.1) tt);
           alone = tt;
           joined = inl tt;
-        }, tray-well W S c s i us step.stream step.rests (wakeable-first W S (Waiting m) tt));
-        barriers = barriers-stay W Z S step.sound c (λ n b. let k : Some (thing.Cond cond.0) ≡ Some (thing.Barrier n) = sym cond.1 ∙ b in cc, tray-each (IsOffBarriers W) s i us (λ t. tt));
-        carried = (carries_on W Z S s u step, tt);
-        desks = tt;
-        pool_next = tt;
-        join_next = tt;
-        object_next = (omega arith, tt);
-        mutexes = (next-owner (places S c) m (standing W S (Waiting m)) (S.mutex m) still, tt);
-        eventuals = tt;
-        futures = tt;
-        frames = frames-stay W Z S c step.sound (in_no_frame W Z S s u step, tray-frameless W S s i us (wakeable-first W S (Waiting m) tt)) tt;
-      }
+        },
+        tray-well W S c s i us step.stream step.rests (wakeable-first W S (Waiting m) tt),
+      )
+      (λ n b. let k : Some (thing.Cond cond.0) ≡ Some (thing.Barrier n) = sym cond.1 ∙ b in cc, tray-each (IsOffBarriers W) s i us (λ t. tt))
+      (in_no_frame W Z S s u step, tray-frameless W S s i us (wakeable-first W S (Waiting m) tt))
+      tt (omega arith, tt) (next-owner (places S c) m (standing W S (Waiting m)) (S.mutex m) still, tt)
 
   -- these units come to mutex m, which is held
   keeps-queues : (m : ℕ) (vs : List ℕ) → IsMutex W m → IsSome (S.mutex m).owner → EachOf (IsWakeable W S) vs → Keeps W Z S (queues S u m vs)
@@ -88,20 +84,12 @@ module _ (W : Parts) (Z : List OrderShape) (S : State) (s u : ℕ) (step : IsSte
       let t : ℕ = S.object_next m in
       let c : Change = queues S u m vs in
       let next : put_at S.object_next m (t + length vs) m ≡ t + length vs = put_at-same S.object_next m (t + length vs) in
-      record {
-        free = waiting-free m t S.place vs (waiting-below W Z S m step.sound);
-        moves = waiting-well W S c m t vs (subst (λ n. t + length vs ≤ n) (sym next) (omega arith)) (subst (HoldsUp W (changed S c) m) (sym is) held) each;
-        barriers = barriers-stay W Z S step.sound c (waiting-each (IsOffBarriers W) m t vs (λ k n b. mutex-off W m n is b));
-        carried = (carries_on W Z S s u step, tt);
-        desks = tt;
-        pool_next = tt;
-        join_next = tt;
-        object_next = (omega arith, tt);
-        mutexes = tt;
-        eventuals = tt;
-        futures = tt;
-        frames = frames-stay W Z S c step.sound (waiting-frameless W S m t vs each) tt;
-      }
+      keeps-moves W Z S s u step (waiting_moves m t vs) [] ((m, t + length vs) ∷ []) []
+      (waiting-free m t S.place vs (waiting-below W Z S m step.sound))
+      (waiting-well W S c m t vs (subst (λ n. t + length vs ≤ n) (sym next) (omega arith)) (subst (HoldsUp W (changed S c) m) (sym is) held) each)
+      (waiting-each (IsOffBarriers W) m t vs (λ k n b. mutex-off W m n is b))
+      (waiting-frameless W S m t vs each)
+      tt (omega arith, tt) tt
 
   -- the first of these units becomes the owner of mutex m, which was free, and the others come to it
   keeps-enters : (m w : ℕ) (ws : List ℕ) → IsMutex W m → EachOf (IsWakeable W S) (w ∷ ws) → Keeps W Z S (passes W S s u m None (w ∷ ws))
@@ -112,25 +100,16 @@ module _ (W : Parts) (Z : List OrderShape) (S : State) (s u : ℕ) (step : IsSte
       let next : put_at S.object_next m (t + length ws) m ≡ t + length ws = put_at-same S.object_next m (t + length ws) in
       let owner : put_at S.mutex m (owned (Some w) (S.mutex m)) m ≡ owned (Some w) (S.mutex m) = put_at-same S.mutex m (owned (Some w) (S.mutex m)) in
       let held : IsSome (put_at S.mutex m (owned (Some w) (S.mutex m)) m).owner = subst (λ (k : Mutex). IsSome k.owner) (sym owner) refl in
-      record {
-        free = AllFree-append S.place (waiting_moves m t ws) (to_tray W S s (w ∷ [])) (waiting-free m t S.place ws (waiting-below W Z S m step.sound))
-          (tray-free s i (put_all S.place (waiting_moves m t ws)) (w ∷ []) (IsBelow-moves (InTray s) i S.place (waiting_moves m t ws) (waiting-each (λ p. line_of p ≡ Some (InTray s) → ⊥) m t ws (λ k e. cc)) (tray-below W Z S s u step)));
-        moves = EachOf-append _ (waiting_moves m t ws) (to_tray W S s (w ∷ []))
-          (waiting-well W S c m t ws (subst (λ n. t + length ws ≤ n) (sym next) (omega arith)) (subst (HoldsUp W (changed S c) m) (sym is) held) each.1)
-          (tray-well W S c s i (w ∷ []) step.stream step.rests (each.0, tt));
-        barriers = barriers-stay W Z S step.sound c
-          (EachOf-append _ (waiting_moves m t ws) (to_tray W S s (w ∷ [])) (waiting-each (IsOffBarriers W) m t ws (λ k n b. mutex-off W m n is b)) (tt, tt));
-        carried = (carries_on W Z S s u step, tt);
-        desks = tt;
-        pool_next = tt;
-        join_next = tt;
-        object_next = (omega arith, tt);
-        mutexes = (inl refl, tt);
-        eventuals = tt;
-        futures = tt;
-        frames = frames-stay W Z S c step.sound
-          (EachOf-append _ (waiting_moves m t ws) (to_tray W S s (w ∷ [])) (waiting-frameless W S m t ws each.1) (tray-frameless W S s i (w ∷ []) (each.0, tt))) tt;
-      }
+      let away : EachOf (λ (k : ℕ × Place). line_of k.1 ≡ Some (InTray s) → ⊥) (waiting_moves m t ws) = waiting-each (λ p. line_of p ≡ Some (InTray s) → ⊥) m t ws (λ k e. cc) in
+      keeps-moves W Z S s u step (waiting_moves m t ws ++ to_tray W S s (w ∷ [])) [] ((m, t + length ws) ∷ []) ((m, owned (Some w) (S.mutex m)) ∷ [])
+      (AllFree-append S.place (waiting_moves m t ws) (to_tray W S s (w ∷ [])) (waiting-free m t S.place ws (waiting-below W Z S m step.sound))
+      (tray-free s i (put_all S.place (waiting_moves m t ws)) (w ∷ []) (IsBelow-moves (InTray s) i S.place (waiting_moves m t ws) away (tray-below W Z S s u step))))
+      (EachOf-append _ (waiting_moves m t ws) (to_tray W S s (w ∷ []))
+      (waiting-well W S c m t ws (subst (λ n. t + length ws ≤ n) (sym next) (omega arith)) (subst (HoldsUp W (changed S c) m) (sym is) held) each.1)
+      (tray-well W S c s i (w ∷ []) step.stream step.rests (each.0, tt)))
+      (EachOf-append _ (waiting_moves m t ws) (to_tray W S s (w ∷ [])) (waiting-each (IsOffBarriers W) m t ws (λ k n b. mutex-off W m n is b)) (tt, tt))
+      (EachOf-append _ (waiting_moves m t ws) (to_tray W S s (w ∷ [])) (waiting-frameless W S m t ws each.1) (tray-frameless W S s i (w ∷ []) (each.0, tt)))
+      tt (omega arith, tt) (inl refl, tt)
 
   -- these units come from a condition to mutex m
   pub keeps-passes : (m : ℕ) (o : Option ℕ) (vs : List ℕ) → IsMutex W m → (S.mutex m).owner ≡ o → EachOf (IsWakeable W S) vs → Keeps W Z S (passes W S s u m o vs)

@@ -1,5 +1,5 @@
 -- Steps at an eventual, and those that give a value to all who wait at an object, keep a sound state sound. Unit u, in the hand of stream s, makes the step.
-use Rattle.std.proofs.Common.{◌≡◌, ℕ, Bool, true, List, [], ◌∷◌, length, map, Option, Some, None, refl, sym, ◌∙◌, ap, subst, ◌⊎◌, inl, inr}
+use Rattle.std.proofs.Common.{◌≡◌, ℕ, List, [], ◌∷◌, map, Option, Some, None, refl, sym, ◌∙◌, subst, inl, inr}
 use Rattle.abt_machine.specs.declared.operations.OrderShape.{OrderShape}
 use Rattle.abt_machine.specs.declared.operations.Thing.TheVariants as thing
 use Rattle.abt_machine.specs.declared.workload.Parts.{Parts}
@@ -8,10 +8,10 @@ use Rattle.abt_machine.specs.State.{State, Carried, Future}
 use Rattle.abt_machine.specs.Lines.{Waiting, standing, tray_end}
 use Rattle.abt_machine.specs.Carrying.{advanced, with_acc}
 use Rattle.abt_machine.specs.Operations.{IsEventual}
-use Rattle.abt_machine.specs.Changes.{Change, goes_on}
+use Rattle.abt_machine.specs.Changes.{goes_on}
 use Rattle.abt_machine.specs.Steps.{wakes, awaits, gives_all, receives}
 use Rattle.abt_machine.specs.Sound.{HoldsUp}
-use Rattle.abt_laws.proofs.ChangedMaps.{EachOf, EachOf-map}
+use Rattle.abt_laws.proofs.ChangedMaps.{EachOf}
 use Rattle.abt_laws.proofs.Places.{line_of}
 use Rattle.abt_laws.proofs.Arrivals.{IsEmpty}
 use Rattle.abt_laws.proofs.Standing.{among-standing}
@@ -30,7 +30,7 @@ module _ (W : Parts) (Z : List OrderShape) (S : State) (s u : ℕ) (step : IsSte
   all-leave x =
       let us : List ℕ = standing W S (Waiting x) in
       empty-after S (wakes W S s u us) (Waiting x) (tray-each (λ pl. line_of pl ≡ Some (Waiting x) → ⊥) s (tray_end W S s) us (λ t e. cc))
-        (λ v t h. tray-key s (tray_end W S s) us v (among-standing W S step.sound.undeclared (Waiting x) v t h))
+      (λ v t h. tray-key s (tray_end W S s) us v (among-standing W S step.sound.undeclared (Waiting x) v t h))
 
   -- all who wait at x are woken with a value
   pub keeps-gives_all : (x value : ℕ) (es : List (ℕ × Option ℕ)) (fs : List (ℕ × Future)) →
@@ -40,7 +40,7 @@ module _ (W : Parts) (Z : List OrderShape) (S : State) (s u : ℕ) (step : IsSte
   keeps-gives_all x value es fs e f =
       let us : List ℕ = standing W S (Waiting x) in
       keeps-wakes W Z S s u step us ((u, advanced (S.carried u)) ∷ map (receives S value) us) [] [] es fs
-        (wakeable-line W S (Waiting x) tt) (carries_on W Z S s u step, receives-well value us) tt tt e f
+      (wakeable-line W S (Waiting x) tt) (carries_on W Z S s u step, receives-well value us) tt tt e f
 
   pub keeps-sets : (x value : ℕ) → Keeps W Z S (record (gives_all W S s u x value) { eventuals = (x, Some value) ∷ [] })
   keeps-sets x value = keeps-gives_all x value ((x, Some value) ∷ []) [] (inr (all-leave x), tt) tt

@@ -1,6 +1,6 @@
 -- Steps at a future keep a sound state sound. Unit u, in the hand of stream s, makes the step.
-use Rattle.std.proofs.Common.{◌≡◌, ℕ, suc, ◌<◌, ◌≤◌, ◌==◌, if◌then◌else◌, Bool, true, false, not, List, [], ◌∷◌, length, Option, Some, None, refl, sym, ◌∙◌, ap, subst, arith, ◌⊎◌, inl, inr}
-use Rattle.std.proofs.lemmas.Bool.{cond_both, eqb-true, eqb-false}
+use Rattle.std.proofs.Common.{◌≡◌, ℕ, suc, ◌<◌, ◌≤◌, ◌==◌, true, false, not, List, [], ◌∷◌, Some, None, sym, ◌∙◌, ap, subst, arith, inl, inr}
+use Rattle.std.proofs.lemmas.Bool.{cond_both, eqb-false}
 use Rattle.abt_machine.specs.declared.operations.OrderShape.{OrderShape}
 use Rattle.abt_machine.specs.declared.operations.Thing.TheVariants as thing
 use Rattle.abt_machine.specs.declared.workload.Parts.{Parts}
@@ -9,7 +9,7 @@ use Rattle.abt_machine.specs.State.{State, Future}
 use Rattle.abt_machine.specs.Carrying.{advanced}
 use Rattle.abt_machine.specs.Operations.{IsFuture}
 use Rattle.abt_machine.specs.Codes.{is_full}
-use Rattle.abt_machine.specs.Changes.{Change, goes_on}
+use Rattle.abt_machine.specs.Changes.{goes_on}
 use Rattle.abt_machine.specs.Steps.{awaits, gives_all, ready_value, fills}
 use Rattle.abt_machine.specs.Sound.{HoldsUp}
 use Rattle.abt_laws.proofs.Queues.{none≢some}
@@ -29,8 +29,8 @@ module _ (W : Parts) (Z : List OrderShape) (S : State) (s u : ℕ) (step : IsSte
   pub keeps-awaits_future : (x : ℕ) → IsFuture W x → Keeps W Z S (awaits S u x (ready_value W S x))
   keeps-awaits_future x is =
       keeps-awaits W Z S s u step x (ready_value W S x)
-        (λ none. subst (HoldsUp W S x) (sym is.2) (subst (λ n. (S.future x).filled < n) (ap size_from is.2) (has-room x (not-ready x none))))
-        (λ n b. let k : Some (thing.Future is.0 is.1) ≡ Some (thing.Barrier n) = sym is.2 ∙ b in cc)
+      (λ none. subst (HoldsUp W S x) (sym is.2) (subst (λ n. (S.future x).filled < n) (ap size_from is.2) (has-room x (not-ready x none))))
+      (λ n b. let k : Some (thing.Future is.0 is.1) ≡ Some (thing.Barrier n) = sym is.2 ∙ b in cc)
 
   -- future x becomes f, and nobody is woken
   keeps-becomes : (x : ℕ) (f : Future) → FutureHolds W S S.place x f → Keeps W Z S (record (goes_on S u) { futures = (x, f) ∷ [] })
@@ -41,8 +41,8 @@ module _ (W : Parts) (Z : List OrderShape) (S : State) (s u : ℕ) (step : IsSte
   keeps-fills x f unfilled more =
       let room : (S.future x).filled < size_of W x = has-room x (not-so (is_full W S x) unfilled) in
       cond_both (f.filled == size_of W x) (gives_all W S s u x f.value) (goes_on S u) (λ d. Keeps W Z S (record d { futures = (x, f) ∷ [] }))
-        (λ full. keeps-gives_all W Z S s u step x f.value [] ((x, f) ∷ []) tt ((omega arith, inr (all-leave W Z S s u step x)), tt))
-        (λ part. let other : f.filled ≡ size_of W x → ⊥ = eqb-false f.filled (size_of W x) part in keeps-becomes x f (omega arith, inl (λ l. omega arith)))
+      (λ full. keeps-gives_all W Z S s u step x f.value [] ((x, f) ∷ []) tt ((omega arith, inr (all-leave W Z S s u step x)), tt))
+      (λ part. let other : f.filled ≡ size_of W x → ⊥ = eqb-false f.filled (size_of W x) part in keeps-becomes x f (omega arith, inl (λ l. omega arith)))
 
   pub keeps-empties : (x : ℕ) → Keeps W Z S (record (goes_on S u) { futures = (x, record { filled = 0; value = 0 }) ∷ [] })
   keeps-empties x = keeps-becomes x (record { filled = 0; value = 0 }) (omega arith, inl (λ l. omega arith))

@@ -21,6 +21,7 @@ pub mod Removal
 pub mod RoundSound
 pub mod Standing
 pub mod StepKeeps
+pub mod StepMoves
 pub mod StepShapes
 pub mod UnitSteps
 pub mod ValidFacts

@@ -1,5 +1,5 @@
 -- Steps at a mutex keep a sound state sound. Unit u, in the hand of stream s, makes the step.
-use Rattle.std.proofs.Common.{◌≡◌, ℕ, Bool, true, List, [], ◌∷◌, length, Option, Some, None, refl, sym, ◌∙◌, ap, subst, ◌⊎◌, inl, inr}
+use Rattle.std.proofs.Common.{◌≡◌, ℕ, true, List, [], ◌∷◌, Option, Some, None, refl, sym, ◌∙◌, subst, inl, inr}
 use Rattle.std.specs.Prelude.{IsSome}
 use Rattle.abt_machine.specs.declared.events.Place.{Place}
 use Rattle.abt_machine.specs.declared.operations.OrderShape.{OrderShape}
@@ -49,6 +49,6 @@ module _ (W : Parts) (Z : List OrderShape) (S : State) (s u : ℕ) (step : IsSte
       let us : List ℕ = first_alone (standing W S (Waiting x)) in
       let c : Change = wakes W S s u us in
       let still : first (standing W S (Waiting x)) ≡ None → IsEmpty (Waiting x) (places S c) =
-          λ none. empty-still S c (Waiting x) (tray-each (λ pl. line_of pl ≡ Some (Waiting x) → ⊥) s (tray_end W S s) us (λ t e. cc)) (none-first W S step.sound.undeclared (Waiting x) none) in
+      λ none. empty-still S c (Waiting x) (tray-each (λ pl. line_of pl ≡ Some (Waiting x) → ⊥) s (tray_end W S s) us (λ t e. cc)) (none-first W S step.sound.undeclared (Waiting x) none) in
       keeps-wakes W Z S s u step us ((u, advanced (S.carried u)) ∷ []) [] ((x, owned (first (standing W S (Waiting x))) (S.mutex x)) ∷ []) [] []
-        (wakeable-first W S (Waiting x) tt) (carries_on W Z S s u step, tt) tt (next-owner (places S c) x (standing W S (Waiting x)) (S.mutex x) still, tt) tt tt
+      (wakeable-first W S (Waiting x) tt) (carries_on W Z S s u step, tt) tt (next-owner (places S c) x (standing W S (Waiting x)) (S.mutex x) still, tt) tt tt

@@ -1,5 +1,5 @@
 -- Every step keeps a sound state sound: one line for each operation.
-use Rattle.std.proofs.Common.{◌≡◌, ℕ, ◌<◌, Bool, true, false, not, is_none, is_some, List, [], ◌∷◌, length, Option, Some, None, refl, sym, ◌∙◌, ap, subst}
+use Rattle.std.proofs.Common.{◌≡◌, ℕ, ◌<◌, Bool, true, false, not, is_some, List, [], ◌∷◌, length, Option, Some, None, refl, sym}
 use Rattle.abt_machine.specs.declared.events.Code.{Code}
 use Rattle.abt_machine.specs.declared.events.Code.TheVariants as code
 use Rattle.abt_machine.specs.declared.events.Piece.TheVariants as piece
@@ -11,14 +11,14 @@ use Rattle.abt_machine.specs.declared.operations.Op.TheVariants as op
 use Rattle.abt_machine.specs.declared.operations.OrderShape.{OrderShape}
 use Rattle.abt_machine.specs.declared.workload.Parts.{Parts}
 use Rattle.abt_machine.specs.Numbers.{stream_no, unit_no}
-use Rattle.abt_machine.specs.Workloads.{body_at, is_sched, op_at, mutex_of, combine_of}
+use Rattle.abt_machine.specs.Workloads.{op_at, mutex_of, combine_of}
 use Rattle.abt_machine.specs.Access.{may_put, may_take}
 use Rattle.abt_machine.specs.Sites.{first_pool}
 use Rattle.abt_machine.specs.Carrying.{added, from_key, printed, with_acc, with_key}
 use Rattle.abt_machine.specs.State.{State, Carried}
-use Rattle.abt_machine.specs.Lines.{Waiting, standing}
+use Rattle.abt_machine.specs.Lines.{Waiting}
 use Rattle.abt_machine.specs.Rounds.{OrdersStored}
-use Rattle.abt_machine.specs.Codes.{code_of, code_at, is_alive, is_ended, is_full, is_in_pool, is_suspended, is_unborn, owned_by, unless}
+use Rattle.abt_machine.specs.Codes.{code_of, code_at, is_alive, is_ended, is_full, is_in_pool, is_suspended, is_unborn, owned_by}
 use Rattle.abt_machine.specs.Changes.{goes_with}
 use Rattle.abt_machine.specs.Steps.{op_row, step_row, truth, filled_by}
 use Rattle.abt_machine.specs.Operations.{IsDeclared}
@@ -28,7 +28,7 @@ use Rattle.abt_machine.specs.Valid.{IsValid}
 use Rattle.abt_laws.proofs.ValidFacts.{op-declared, first_pool-declared, mutex-declared}
 use Rattle.abt_laws.proofs.KeepsSound.{Keeps, sound-after}
 use Rattle.abt_laws.proofs.Wakes.{IsWakeable, wakeable-line, wakeable-first}
-use Rattle.abt_laws.proofs.CodeFacts.{passes-test, passes-rest, frameless-by}
+use Rattle.abt_laws.proofs.CodeFacts.{passes-test, passes-second, frameless-by}
 use Rattle.abt_laws.proofs.StepShapes.{IsStepping, stepping, may_wake, keeps-still, keeps-goes_with, keeps-wakes_only}
 use Rattle.abt_laws.proofs.UnitSteps.{keeps-suspends, keeps-joins, keeps-begins, keeps-yields_to}
 use Rattle.abt_laws.proofs.DeskSteps.{keeps-cancels, keeps-migrates, keeps-allows}
@@ -56,17 +56,17 @@ module _ (W : Parts) (Z : List OrderShape) (S : State) (s u : ℕ) (valid : IsVa
   op-keeps (op.KeySet k) d e = on-with (with_key k (S.carried u)) refl refl
   op-keeps (op.KeyGet k) d e = on-with (from_key k (S.carried u)) refl refl
   op-keeps op.Yield d e = keeps-wakes_only W Z S s u step (u ∷ []) (may_wake W Z S s u step, tt)
-  op-keeps (op.YieldTo v p) d e = keeps-yields_to W Z S s u step v.0 p.0 d.0 (passes-test (is_in_pool p.0 (S.place v.0)) code.Absent code.Ok tt (passes-rest (may_take W s p.0) code.PoolAccess _ tt e))
+  op-keeps (op.YieldTo v p) d e = keeps-yields_to W Z S s u step v.0 p.0 d.0 (passes-second (may_take W s p.0) (is_in_pool p.0 (S.place v.0)) code.PoolAccess code.Absent _ tt tt e)
   op-keeps op.Suspend d e = keeps-suspends W Z S s u step
   op-keeps (op.Resume v) d e = keeps-wakes_only W Z S s u step (v.0 ∷ []) (wakes-by v.0 is_suspended (λ r t. refl) d (passes-test (is_suspended (S.place v.0)) code.UnitState code.Ok tt e), tt)
-  op-keeps (op.Create v p) d e = keeps-begins W Z S s u step v.0 p.0 (wakes-by v.0 is_unborn (λ r t. refl) d.0 (passes-test (is_unborn (S.place v.0)) code.Exists code.Ok tt (passes-rest (may_put W s p.0) code.PoolAccess _ tt e))) d.1
+  op-keeps (op.Create v p) d e = keeps-begins W Z S s u step v.0 p.0 (wakes-by v.0 is_unborn (λ r t. refl) d.0 (passes-second (may_put W s p.0) (is_unborn (S.place v.0)) code.PoolAccess code.Exists _ tt tt e)) d.1
   op-keeps (op.Join v) d e = keeps-joins W Z S s u step v.0 (S.place v.0) d refl
   op-keeps (op.Cancel v) d e = keeps-cancels W Z S s u step v.0 (passes-test (is_alive (S.place v.0)) code.UnitState code.Ok tt e)
-  op-keeps (op.Migrate v p) d e = keeps-migrates W Z S s u step v.0 p.0 (passes-test (is_alive (S.place v.0)) code.UnitState _ tt (passes-rest (may_put W s p.0) code.PoolAccess _ tt e)) d.1
+  op-keeps (op.Migrate v p) d e = keeps-migrates W Z S s u step v.0 p.0 (passes-second (may_put W s p.0) (is_alive (S.place v.0)) code.PoolAccess code.UnitState _ tt tt e) d.1
   op-keeps (op.MigrateTo v r) d e =
-      keeps-migrates W Z S s u step v.0 (first_pool W r.0) (passes-test (is_alive (S.place v.0)) code.UnitState _ tt (passes-rest (may_put W s (first_pool W r.0)) code.PoolAccess _ tt e)) (first_pool-declared W r.0 valid d.1)
+      keeps-migrates W Z S s u step v.0 (first_pool W r.0) (passes-second (may_put W s (first_pool W r.0)) (is_alive (S.place v.0)) code.PoolAccess code.UnitState _ tt tt e) (first_pool-declared W r.0 valid d.1)
   op-keeps (op.Migratable v b) d e = keeps-allows W Z S s u step v.0 b
-  op-keeps (op.Revive v p) d e = keeps-begins W Z S s u step v.0 p.0 (wakes-by v.0 is_ended (λ r t. refl) d.0 (passes-test (is_ended (S.place v.0)) code.UnitState code.Ok tt (passes-rest (may_put W s p.0) code.PoolAccess _ tt e))) d.1
+  op-keeps (op.Revive v p) d e = keeps-begins W Z S s u step v.0 p.0 (wakes-by v.0 is_ended (λ r t. refl) d.0 (passes-second (may_put W s p.0) (is_ended (S.place v.0)) code.PoolAccess code.UnitState _ tt tt e)) d.1
   op-keeps (op.Lock x) d e = keeps-locks W Z S s u step x.0 (S.mutex x.0).owner d refl
   op-keeps (op.TryLock x) d e = keeps-takes W Z S s u step x.0
   op-keeps (op.Unlock x) d e = keeps-hands_over W Z S s u step x.0
