@@ -12,6 +12,7 @@ pub mod PutSound
 pub mod Queues
 pub mod Removal
 pub mod RoundSound
+pub mod StackSound
 pub mod Standing
 pub mod StepShapes
 pub mod ValidFacts
