@@ -14,6 +14,7 @@ pub mod Removal
 pub mod RoundSound
 pub mod StackSound
 pub mod Standing
+pub mod StartSound
 pub mod StepShapes
 pub mod ValidFacts
 pub mod Wakes

@@ -1,8 +1,7 @@
 -- An enter and a leave keep a sound state sound: a frame comes on top, or the top one goes.
-use Rattle.std.proofs.Common.{◌≡◌, ◌≢◌, ℕ, zero, suc, ◌<◌, ◌≤◌, ◌-◌, Bool, true, false, List, [], ◌∷◌, length, slice_get, Option, Some, None, refl, sym, ◌∙◌, ap, subst, arith, ◌⊎◌, inl, inr}
+use Rattle.std.proofs.Common.{◌≡◌, ◌≢◌, ℕ, suc, ◌<◌, ◌-◌, false, List, [], ◌∷◌, length, slice_get, Some, refl, sym, ◌∙◌, ap, subst, arith, inl, inr}
 use Rattle.std.specs.Prelude.{IfSome}
 use Rattle.std.proofs.lemmas.Bool.{cases_eq}
-use Rattle.abt_machine.specs.declared.events.Place.{Place}
 use Rattle.abt_machine.specs.declared.events.Place.TheVariants as place
 use Rattle.abt_machine.specs.declared.events.What.TheVariants as what
 use Rattle.abt_machine.specs.declared.numbers.SchedNo.{SchedNo}
@@ -15,7 +14,7 @@ use Rattle.abt_machine.specs.Maps.{put_at}
 use Rattle.abt_machine.specs.Workloads.{body_at, main_of}
 use Rattle.abt_machine.specs.Queues.{last}
 use Rattle.abt_machine.specs.State.{State, Stream, Frame}
-use Rattle.abt_machine.specs.Lines.{InTray, InHand, InNext, InFrames, ticket_in}
+use Rattle.abt_machine.specs.Lines.{InHand, InNext, InFrames, ticket_in}
 use Rattle.abt_machine.specs.Next.{EnterDue, LeaveDue, due}
 use Rattle.abt_machine.specs.Rounds.{OrdersStored}
 use Rattle.abt_machine.specs.Frames.{frame_at, entered, sched_of, left, left_to}
@@ -28,7 +27,7 @@ use Rattle.abt_laws.proofs.ChangedMaps.{put_at-cases}
 use Rattle.abt_laws.proofs.Places.{ticket-place, same-self, stream-is}
 use Rattle.abt_laws.proofs.Arrivals.{IsBelow, free-above, free-empty}
 use Rattle.abt_laws.proofs.Standing.{StandsIn, first-is, is-declared}
-use Rattle.abt_laws.proofs.DueFacts.{due-no_tray, due-no_next, due-no_hand, due-unit, enter-sched, leave-below}
+use Rattle.abt_laws.proofs.DueFacts.{due-no_next, due-no_hand, due-unit, enter-sched, leave-below}
 use Rattle.abt_laws.proofs.KeepsSound.{Keeps, FramesKeep, OnStream}
 use Rattle.abt_laws.proofs.Barriers.{barriers-stay}
 use Rattle.abt_laws.proofs.Orders.{fresh-under_way}
@@ -76,6 +75,10 @@ module _ (W : Parts) (Z : List OrderShape) (S : State) (s u : ℕ) (g : SchedNo)
   abbrev new_top : Frame
   new_top = frame_at (sched_of (body_at W u)) 0 false
 
+  -- stream s with the new frame
+  abbrev new_own : Stream
+  new_own = entered (sched_of (body_at W u)) (S.stream s)
+
   abbrev enters : Change
   enters = change W S s (what.Enter (unit_no u))
 
@@ -87,32 +90,32 @@ module _ (W : Parts) (Z : List OrderShape) (S : State) (s u : ℕ) (g : SchedNo)
       put_at-other S.place u (place.Frame (stream_no s) (length old_below)) v (λ e. let k : place.Hand (stream_no s) ≡ place.Frame (stream_no r) d = sym at ∙ (ap S.place (sym e) ∙ h) in cc) ∙ h
 
   -- the new frame is that of u
-  is_framed : s < W.streams → IsFramed W u s (length old_below) (entered (sched_of (body_at W u)) (S.stream s))
+  is_framed : s < W.streams → IsFramed W u s (length old_below) new_own
   is_framed l = (l, omega arith, subst (RunsSched (body_at W u)) (sym (stacked-top new_top old_top old_below)) (runs-entered (body_at W u) g is))
 
   frames-enter : FramesKeep W Z S (changed S enters)
   frames-enter = record {
-    held = λ v r d was still. each-stream S s (entered (sched_of (body_at W u)) (S.stream s)) (λ r own. (v d : ℕ) → IsFramed W v r d (S.stream r) → IsFramed W v r d own)
+    held = λ v r d was still. each-stream S s new_own (λ r own. (v d : ℕ) → IsFramed W v r d (S.stream r) → IsFramed W v r d own)
         (λ v d h. let l : d < length old_below = h.1 in (h.0, omega arith, subst (RunsSched (body_at W v)) (sym (stacked-below new_top old_top old_below d l)) h.2))
         (λ r ne v d h. h) r v d (subst (IsPlaced W S v) was (sound.placed v));
-    hold = each-stream S s (entered (sched_of (body_at W u)) (S.stream s)) (λ r own. (d : ℕ) → d < length own.below → (v : ℕ) × (put_at S.place u (place.Frame (stream_no s) (length old_below)) v ≡ place.Frame (stream_no r) d))
+    hold = each-stream S s new_own (λ r own. (d : ℕ) → d < length own.below → (v : ℕ) × (put_at S.place u (place.Frame (stream_no s) (length old_below)) v ≡ place.Frame (stream_no r) d))
         (λ d l. elim (cases_eq d (length old_below)) [
           | inl same ↦ (u, put_at-same S.place u (place.Frame (stream_no s) (length old_below)) ∙ ap (λ (n : ℕ). place.Frame (stream_no s) n) (sym same))
           | inr other ↦ (let old : (v : ℕ) × (S.place v ≡ place.Frame (stream_no s) d) = sound.frames_hold s d (omega arith) in (old.0, stays_framed s old.0 d old.1))
         ])
         (λ r ne d l. let old : (v : ℕ) × (S.place v ≡ place.Frame (stream_no r) d) = sound.frames_hold r d l in (old.0, stays_framed r old.0 d old.1));
-    rest = λ v. each-stream S s (entered (sched_of (body_at W u)) (S.stream s)) (λ r own. OnStream r (put_at S.place u (place.Frame (stream_no s) (length old_below)) v) → IsAtRest (S.stream r) → IsAtRest own)
+    rest = λ v. each-stream S s new_own (λ r own. OnStream r (put_at S.place u (place.Frame (stream_no s) (length old_below)) v) → IsAtRest (S.stream r) → IsAtRest own)
         (λ k h. fresh-rest (sched_of (body_at W u)) 0 (old_top ∷ old_below) h) (λ r ne k h. h);
-    lowest = each-stream S s (entered (sched_of (body_at W u)) (S.stream s)) (λ r own. r < W.streams → IfSome (last (frames_of own)) (λ f. f.sched ≡ main_of W r)) (sound.lowest s) (λ r ne. sound.lowest r);
-    under_way = each-stream S s (entered (sched_of (body_at W u)) (S.stream s)) (λ r own. r < W.streams → AllUnderWay W Z (frames_of own))
+    lowest = each-stream S s new_own (λ r own. r < W.streams → IfSome (last (frames_of own)) (λ f. f.sched ≡ main_of W r)) (sound.lowest s) (λ r ne. sound.lowest r);
+    under_way = each-stream S s new_own (λ r own. r < W.streams → AllUnderWay W Z (frames_of own))
         (λ l. (fresh-under_way W Z (sched_of (body_at W u)) 0 false valid stored (subst (λ b. sched_of b < length W.scheds) (sym is) (sched-declared W u g valid is)), sound.under_way s l)) (λ r ne. sound.under_way r);
-    below_rest = each-stream S s (entered (sched_of (body_at W u)) (S.stream s)) (λ r own. r < W.streams → AllAtRest own.below) (λ l. in_hand.1) (λ r ne. sound.below_rest r);
+    below_rest = each-stream S s new_own (λ r own. r < W.streams → AllAtRest own.below) (λ l. in_hand.1) (λ r ne. sound.below_rest r);
   }
 
   keeps-enter_of : s < W.streams → u < length W.units → Keeps W Z S enters
   keeps-enter_of l declared = record {
     free = (free-above S.place u (place.Frame (stream_no s) (length old_below)) (InFrames s) (length old_below) (same-self s (length old_below)) (frames-below W Z S s sound), tt);
-    moves = (record { declared = declared; placed = subst (IsFramed W u s (length old_below)) (sym (put_at-same S.stream s (entered (sched_of (body_at W u)) (S.stream s)))) (is_framed l); alone = tt; joined = inl tt }, tt);
+    moves = (record { declared = declared; placed = subst (IsFramed W u s (length old_below)) (sym (put_at-same S.stream s new_own)) (is_framed l); alone = tt; joined = inl tt }, tt);
     barriers = barriers-stay W Z S sound enters (tt, tt);
     carried = tt;
     desks = tt;
@@ -181,11 +184,11 @@ module _ (W : Parts) (Z : List OrderShape) (S : State) (s u : ℕ) (f : Frame) (
         (λ r ne d h differs. subst (IsPlaced W S v) h (sound.placed v)) r d is (not_u r v d still);
     hold = after_left (λ r own. (d : ℕ) → d < length own.below → (v : ℕ) × (put_at S.place u (place.Hand (stream_no s)) v ≡ place.Frame (stream_no r) d))
         (λ d l. let k : length (S.stream s).below ≡ suc (length fs) = ap (λ (gs : List Frame). length gs) below in
-          let old : (v : ℕ) × (S.place v ≡ place.Frame (stream_no s) d) = sound.frames_hold s d (omega arith) in
-          (old.0, stays_put s old.0 d old.1 (λ e. let q : place.Frame (stream_no s) d ≡ place.Frame (stream_no s) (length fs) = sym old.1 ∙ (ap S.place e ∙ was) in let n : d ≡ length fs = cc in omega arith)))
+        let old : (v : ℕ) × (S.place v ≡ place.Frame (stream_no s) d) = sound.frames_hold s d (omega arith) in
+        (old.0, stays_put s old.0 d old.1 (λ e. let q : place.Frame (stream_no s) d ≡ place.Frame (stream_no s) (length fs) = sym old.1 ∙ (ap S.place e ∙ was) in let n : d ≡ length fs = cc in omega arith)))
         (λ r ne d l. let old : (v : ℕ) × (S.place v ≡ place.Frame (stream_no r) d) = sound.frames_hold r d l in
-          (old.0, stays_put r old.0 d old.1 (λ e. let q : place.Frame (stream_no r) d ≡ place.Frame (stream_no s) (length fs) = sym old.1 ∙ (ap S.place e ∙ was) in let n : stream_no r ≡ stream_no s = cc in ne (stream-is r s n))));
-    rest = λ v. after_left (λ r own. OnStream r (put_at S.place u (place.Hand (stream_no s)) v) → IsAtRest (S.stream r) → IsAtRest own) 
+        (old.0, stays_put r old.0 d old.1 (λ e. let q : place.Frame (stream_no r) d ≡ place.Frame (stream_no s) (length fs) = sym old.1 ∙ (ap S.place e ∙ was) in let n : stream_no r ≡ stream_no s = cc in ne (stream-is r s n))));
+    rest = λ v. after_left (λ r own. OnStream r (put_at S.place u (place.Hand (stream_no s)) v) → IsAtRest (S.stream r) → IsAtRest own)
         (λ k h. AllAtRest-tail (S.stream s).top (f ∷ fs) (subst (λ (gs : List Frame). AllAtRest ((S.stream s).top ∷ gs)) below h)) (λ r ne k h. h);
     lowest = after_left (λ r own. r < W.streams → IfSome (last (frames_of own)) (λ f. f.sched ≡ main_of W r)) (λ l. subst (λ (gs : List Frame). IfSome (last ((S.stream s).top ∷ gs)) (λ f. f.sched ≡ main_of W s)) below (sound.lowest s l)) (λ r ne. sound.lowest r);
     under_way = after_left (λ r own. r < W.streams → AllUnderWay W Z (frames_of own)) (λ l. subst (AllUnderWay W Z) below (sound.under_way s l).1) (λ r ne. sound.under_way r);
@@ -195,12 +198,15 @@ module _ (W : Parts) (Z : List OrderShape) (S : State) (s u : ℕ) (f : Frame) (
   keeps-leave_of : s < W.streams → due W S s ≡ LeaveDue → u < length W.units → Keeps W Z S leaves
   keeps-leave_of l is declared = record {
     free = (free-empty S.place u (place.Hand (stream_no s)) (InHand s) 0 (same-self s 0) (due-no_hand W S s sound.undeclared LeaveDue is tt), tt);
-    moves = (record {
-      declared = declared;
-      placed = (l, after_left (λ r own. r ≡ s → IsAtRest own) (λ e. subst AllAtRest below (sound.below_rest s l)) (λ r ne e. absurd (ne e)) s refl);
-      alone = empty-still S leaves (InNext s) ((λ e. cc), tt) (due-no_next W S s sound.undeclared LeaveDue is tt);
-      joined = inl tt;
-    }, tt);
+    moves = (
+      record {
+        declared = declared;
+        placed = (l, after_left (λ r own. r ≡ s → IsAtRest own) (λ e. subst AllAtRest below (sound.below_rest s l)) (λ r ne e. absurd (ne e)) s refl);
+        alone = empty-still S leaves (InNext s) ((λ e. cc), tt) (due-no_next W S s sound.undeclared LeaveDue is tt);
+        joined = inl tt;
+      },
+      tt,
+    );
     barriers = barriers-stay W Z S sound leaves (tt, tt);
     carried = tt;
     desks = tt;
