@@ -1,5 +1,5 @@
 -- How many stand in a line, and that barriers hold.
-use Rattle.std.proofs.Common.{◌≡◌, ◌≢◌, ℕ, zero, suc, ◌<◌, ◌≤◌, nat_le, if◌then◌else◌, Bool, true, false, List, [], ◌∷◌, length, map, Option, Some, None, refl, sym, ◌∙◌, ap, subst, arith, ◌⊎◌, inl, inr}
+use Rattle.std.proofs.Common.{◌≡◌, ◌≢◌, ℕ, zero, suc, ◌<◌, ◌≤◌, nat_le, List, [], ◌∷◌, length, Option, Some, None, refl, sym, ◌∙◌, ap, subst, arith, inl, inr}
 use Rattle.std.proofs.lemmas.Bool.{cond_both, cases_eq}
 use Rattle.std.proofs.lemmas.List.{length-map}
 use Rattle.abt_machine.specs.declared.events.Place.{Place}
@@ -8,15 +8,14 @@ use Rattle.abt_machine.specs.declared.events.Spot.TheVariants as spot
 use Rattle.abt_machine.specs.declared.operations.OrderShape.{OrderShape}
 use Rattle.abt_machine.specs.declared.operations.Thing.TheVariants as thing
 use Rattle.abt_machine.specs.declared.workload.Parts.{Parts}
-use Rattle.abt_machine.specs.Numbers.{object_no}
 use Rattle.abt_machine.specs.Workloads.{thing_at}
 use Rattle.abt_machine.specs.Queues.{insert_by_ticket, ticketed_step, ticketed, queue}
 use Rattle.abt_machine.specs.State.{State}
-use Rattle.abt_machine.specs.Lines.{Line, Waiting, ticket_in, standing}
+use Rattle.abt_machine.specs.Lines.{Waiting, ticket_in, standing}
 use Rattle.abt_machine.specs.Changes.{Change, changed}
 use Rattle.abt_machine.specs.Sound.{Sound}
 use Rattle.abt_laws.proofs.Queues.{none≢some}
-use Rattle.abt_laws.proofs.ChangedMaps.{EachOf, KeyOf, key-cases, put_all-other, put_all-value}
+use Rattle.abt_laws.proofs.ChangedMaps.{EachOf, key-cases, put_all-other, put_all-value}
 use Rattle.abt_laws.proofs.Places.{place_in, ticket-place, line-unique, same-self}
 use Rattle.abt_laws.proofs.KeepsSound.{places, BarriersHold}
 

@@ -1,14 +1,13 @@
 -- An end keeps a sound state sound. Nobody joins the ended unit afterwards, since all its joiners go to the tray.
-use Rattle.std.proofs.Common.{◌≡◌, ℕ, ◌<◌, List, [], ◌∷◌, length, Some, None, refl, sym, ◌∙◌, ap, subst, inl, inr}
+use Rattle.std.proofs.Common.{◌≡◌, ℕ, List, Some, refl, sym, subst, inr}
 use Rattle.abt_machine.specs.declared.events.Cause.{Cause}
-use Rattle.abt_machine.specs.declared.events.Place.{Place}
 use Rattle.abt_machine.specs.declared.events.Place.TheVariants as place
 use Rattle.abt_machine.specs.declared.events.What.TheVariants as what
 use Rattle.abt_machine.specs.declared.operations.OrderShape.{OrderShape}
 use Rattle.abt_machine.specs.declared.workload.Parts.{Parts}
 use Rattle.abt_machine.specs.Numbers.{stream_no, unit_no}
 use Rattle.abt_machine.specs.Maps.{put_at}
-use Rattle.abt_machine.specs.State.{State, Desk}
+use Rattle.abt_machine.specs.State.{State}
 use Rattle.abt_machine.specs.Lines.{InTray, InHand, Joining, standing, tray_end}
 use Rattle.abt_machine.specs.Next.{EndDue}
 use Rattle.abt_machine.specs.Changes.{Change}

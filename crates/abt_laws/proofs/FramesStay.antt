@@ -1,5 +1,5 @@
 -- Events that leave the stacked frames as they are.
-use Rattle.std.proofs.Common.{◌≡◌, ◌≢◌, ℕ, zero, suc, ◌<◌, ◌-◌, List, [], ◌∷◌, length, slice_get, Option, Some, None, refl, sym, ◌∙◌, ap, subst, ◌⊎◌, inl, inr}
+use Rattle.std.proofs.Common.{◌≡◌, ℕ, zero, suc, ◌<◌, ◌-◌, List, [], ◌∷◌, length, slice_get, Some, refl, sym, ◌∙◌, subst}
 use Rattle.std.specs.Prelude.{IfSome}
 use Rattle.abt_machine.specs.declared.events.Place.{Place}
 use Rattle.abt_machine.specs.declared.events.Place.TheVariants as place
@@ -13,7 +13,7 @@ use Rattle.abt_machine.specs.Workloads.{body_at, main_of}
 use Rattle.abt_machine.specs.Queues.{last}
 use Rattle.abt_machine.specs.State.{State, Stream, Frame}
 use Rattle.abt_machine.specs.Changes.{Change, changed}
-use Rattle.abt_machine.specs.Sound.{Sound, IsPlaced, IsAtRest, IsUnderWay, AllUnderWay, AllAtRest, RunsSched, frames_of, stacked_frame}
+use Rattle.abt_machine.specs.Sound.{Sound, IsPlaced, IsAtRest, IsUnderWay, AllUnderWay, AllAtRest, RunsSched, frames_of}
 use Rattle.abt_laws.proofs.ChangedMaps.{EachOf, EachOf-key, put_all-other, put_all-kept}
 use Rattle.abt_laws.proofs.KeepsSound.{places, OnStream, FramesKeep}
 
@@ -45,16 +45,18 @@ module _ (W : Parts) (Z : List OrderShape) (S : State) (c : Change) (sound : Sou
   held : (u s d : ℕ) → IsPlaced W S u (place.Frame (stream_no s) d) → IsPlaced W (changed S c) u (place.Frame (stream_no s) d)
   held u s d h =
       let own : Stream = put_all S.stream c.streams s in
-      let old : Stream = S.stream s in
-      (h.0, subst (λ (fs : List Frame). d < length fs) (sym (on s).below) h.1,
-      subst (λ (fs : List Frame). RunsSched (body_at W u) (slice_get (own.top ∷ fs) ((length fs - 1) - d))) (sym (on s).below)
-        (runs-frame (body_at W u) old.top own.top old.below ((length old.below - 1) - d) (on s).sched h.2))
+      let old : Stream = S.stream s in (
+        h.0,
+        subst (λ (fs : List Frame). d < length fs) (sym (on s).below) h.1,
+        subst (λ (fs : List Frame). RunsSched (body_at W u) (slice_get (own.top ∷ fs) ((length fs - 1) - d))) (sym (on s).below)
+            (runs-frame (body_at W u) old.top own.top old.below ((length old.below - 1) - d) (on s).sched h.2),
+      )
 
   lowest : (s : ℕ) → s < W.streams → IfSome (last (frames_of (put_all S.stream c.streams s))) (λ f. f.sched ≡ main_of W s)
   lowest s l =
       let own : Stream = put_all S.stream c.streams s in
       subst (λ (fs : List Frame). IfSome (last (own.top ∷ fs)) (λ f. f.sched ≡ main_of W s)) (sym (on s).below)
-        (lowest-same (S.stream s).top own.top (S.stream s).below (main_of W s) (on s).sched (sound.lowest s l))
+      (lowest-same (S.stream s).top own.top (S.stream s).below (main_of W s) (on s).sched (sound.lowest s l))
 
   -- where no unit leaves a frame
   frames-go_on : EachOf (λ (m : ℕ × Place). IsFrameless S m.0) c.moves → FramesKeep W Z S (changed S c)
@@ -74,4 +76,4 @@ pub frames-stay : (W : Parts) (Z : List OrderShape) (S : State) (c : Change) →
     EachOf (λ (m : ℕ × Stream). GoesOn W Z S c m.0 m.1) c.streams → FramesKeep W Z S (changed S c)
 frames-stay W Z S c sound frameless goes =
     frames-go_on W Z S c sound (λ s. put_all-kept (λ r own. GoesOn W Z S c r own) S.stream c.streams s goes
-      (record { below = refl; sched = refl; rest = λ u at h. h; under_way = λ l. (sound.under_way s l).0 })) frameless
+    (record { below = refl; sched = refl; rest = λ u at h. h; under_way = λ l. (sound.under_way s l).0 })) frameless

@@ -1,5 +1,5 @@
 -- What a change must meet to keep a sound state sound.
-use Rattle.std.proofs.Common.{◌≡◌, ◌≢◌, ℕ, ◌<◌, ◌≤◌, Bool, true, false, List, [], ◌∷◌, length, Option, Some, None, refl, sym, ◌∙◌, ap, subst, arith, ◌⊎◌, inl, inr}
+use Rattle.std.proofs.Common.{◌≡◌, ℕ, ◌<◌, ◌≤◌, true, false, List, length, Option, Some, None, refl, sym, ◌∙◌, ap, subst, arith, ◌⊎◌, inl, inr}
 use Rattle.std.specs.Prelude.{IfSome, IsSome}
 use Rattle.abt_machine.specs.declared.events.Place.{Place}
 use Rattle.abt_machine.specs.declared.events.Place.TheVariants as place
@@ -12,14 +12,14 @@ use Rattle.abt_machine.specs.Numbers.{stream_no}
 use Rattle.abt_machine.specs.Maps.{put_all}
 use Rattle.abt_machine.specs.Workloads.{body_at, ops_of, main_of, thing_at, size_of, size_from}
 use Rattle.abt_machine.specs.Queues.{last}
-use Rattle.abt_machine.specs.State.{State, Stream, Frame, Carried, Desk, Mutex, Future}
-use Rattle.abt_machine.specs.Lines.{Line, InHand, InNext, Joining, Waiting, ticket_in, standing}
+use Rattle.abt_machine.specs.State.{State, Carried, Desk, Mutex, Future}
+use Rattle.abt_machine.specs.Lines.{InHand, InNext, Joining, Waiting, ticket_in, standing}
 use Rattle.abt_machine.specs.Changes.{Change, changed}
 use Rattle.abt_machine.specs.Codes.{is_alive}
 use Rattle.abt_machine.specs.Sound.{Sound, IsPlaced, IsAtRest, AllUnderWay, AllAtRest, HoldsUp, HasNotEnded, AsksNothing, frames_of}
 use Rattle.abt_laws.proofs.ChangedMaps.{EachOf, key-cases, put_all-other, put_all-value, put_all-kept, stays-above, EachOf-then, EachOf-key}
-use Rattle.abt_laws.proofs.Places.{place_in, same-self, line_of}
-use Rattle.abt_laws.proofs.Arrivals.{OneEach, IsEmpty, AllFree, OneEach-moves}
+use Rattle.abt_laws.proofs.Places.{same-self}
+use Rattle.abt_laws.proofs.Arrivals.{IsEmpty, AllFree, OneEach-moves}
 
 -- the places after a change
 abbrev pub places : State → Change → ℕ → Place
@@ -126,12 +126,12 @@ module _ (W : Parts) (Z : List OrderShape) (S : State) (c : Change) (sound : Sou
   asks_nothing : (u : ℕ) → (is_alive (S.place u) ≡ true → ⊥) → AsksNothing (S.desk u) → AsksNothing (put_all S.desk c.desks u)
   asks_nothing u idle h =
       elim (put_all-kept (λ n (d : Desk). (AsksNothing (S.desk n) → AsksNothing d) ⊎ (is_alive (S.place n) ≡ true)) S.desk c.desks u
-        (EachOf-then _ _ c.desks (λ m k. k.asks) keeps.desks) (inl (λ k. k))) [ inl f ↦ f h | inr alive ↦ absurd (idle alive) ]
+      (EachOf-then _ _ c.desks (λ m k. k.asks) keeps.desks) (inl (λ k. k))) [ inl f ↦ f h | inr alive ↦ absurd (idle alive) ]
 
   not_ended : (u t v : ℕ) → ticket_in (Joining v) (places S c u) ≡ Some t → HasNotEnded (S.place v) → HasNotEnded (places S c v)
   not_ended u t v at h =
       elim (put_all-kept (λ n pl. HasNotEnded pl ⊎ IsEmpty (Joining n) (places S c)) S.place c.moves v
-        (EachOf-then _ _ c.moves (λ m k. k.joined) keeps.moves) (inl h)) [ inl goes ↦ goes | inr none ↦ absurd (none u t at) ]
+      (EachOf-then _ _ c.moves (λ m k. k.joined) keeps.moves) (inl h)) [ inl goes ↦ goes | inr none ↦ absurd (none u t at) ]
 
   -- a unit that does not move is placed as well as before
   stays : (u : ℕ) (pl : Place) → S.place u ≡ pl → places S c u ≡ pl → IsPlaced W S u pl → IsPlaced W (changed S c) u pl

@@ -19,7 +19,9 @@ pub mod PutSound
 pub mod Queues
 pub mod Removal
 pub mod RoundSound
+pub mod StackSound
 pub mod Standing
+pub mod StartSound
 pub mod StepKeeps
 pub mod StepMoves
 pub mod StepShapes

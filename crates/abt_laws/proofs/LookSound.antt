@@ -1,13 +1,12 @@
 -- A look keeps a sound state sound.
-use Rattle.std.proofs.Common.{◌≡◌, ℕ, suc, ◌<◌, ◌≤◌, Bool, true, false, List, [], ◌∷◌, length, Option, Some, None, refl, sym, ◌∙◌, ap, subst, inl}
+use Rattle.std.proofs.Common.{◌≡◌, ℕ, ◌<◌, Bool, true, false, List, [], ◌∷◌, length, Option, Some, None, refl, sym, ◌∙◌, ap, subst, inl}
 use Rattle.std.specs.Prelude.{IfSome}
-use Rattle.abt_machine.specs.declared.events.Place.{Place}
 use Rattle.abt_machine.specs.declared.events.Place.TheVariants as place
 use Rattle.abt_machine.specs.declared.events.What.TheVariants as what
 use Rattle.abt_machine.specs.declared.operations.OrderShape.{OrderShape}
 use Rattle.abt_machine.specs.declared.workload.Parts.{Parts}
 use Rattle.abt_machine.specs.Numbers.{stream_no, unit_no}
-use Rattle.abt_machine.specs.State.{State, Stream, Mark, Plain, Asked}
+use Rattle.abt_machine.specs.State.{State, Mark, Plain, Asked}
 use Rattle.abt_machine.specs.Lines.{InTray, InHand, InNext, ticket_in, tray_end}
 use Rattle.abt_machine.specs.Next.{LookDue}
 use Rattle.abt_machine.specs.Frames.{marked}
@@ -19,8 +18,8 @@ use Rattle.abt_laws.proofs.Places.{ticket-place, same-self}
 use Rattle.abt_laws.proofs.Arrivals.{IsEmpty, IsBelow-empty, free-empty, tray-free}
 use Rattle.abt_laws.proofs.Standing.{StandsIn, first-is}
 use Rattle.abt_laws.proofs.DueFacts.{due-no_tray}
-use Rattle.abt_laws.proofs.KeepsSound.{Keeps, AsksWell, CarriesWell}
-use Rattle.abt_laws.proofs.FramesStay.{IsFrameless, GoesOn, frames-stay}
+use Rattle.abt_laws.proofs.KeepsSound.{Keeps, AsksWell}
+use Rattle.abt_laws.proofs.FramesStay.{IsFrameless, frames-stay}
 use Rattle.abt_laws.proofs.Barriers.{barriers-stay}
 use Rattle.abt_laws.proofs.Wakes.{IsWakeable, frameless-in, empty-after, tray-well}
 
@@ -45,12 +44,15 @@ module _ (W : Parts) (Z : List OrderShape) (S : State) (s u : ℕ) (sound : Soun
       let c : Change = record no_change { moves = (u, place.Hand (stream_no s)) ∷ []; desks = (u, without_requests (S.desk u)) ∷ []; streams = (s, marked m (S.stream s)) ∷ [] } in
       record {
         free = (free-empty S.place u (place.Hand (stream_no s)) (InHand s) 0 (same-self s 0) no_hand, tt);
-        moves = (record {
-          declared = is.declared;
-          placed = (placed.0, subst IsAtRest (sym (put_at-same S.stream s (marked m (S.stream s)))) placed.1);
-          alone = empty-after S c (InNext s) ((λ e. cc), tt) (λ v t h. inl (sound.one_each (InNext s) v u 0 (ap (ticket_in (InNext s)) (ticket-place (InNext s) (S.place v) t h) ∙ same-self s 0) (ap (ticket_in (InNext s)) is.at ∙ same-self s 0)));
-          joined = inl tt;
-        }, tt);
+        moves = (
+          record {
+            declared = is.declared;
+            placed = (placed.0, subst IsAtRest (sym (put_at-same S.stream s (marked m (S.stream s)))) placed.1);
+            alone = empty-after S c (InNext s) ((λ e. cc), tt) (λ v t h. inl (sound.one_each (InNext s) v u 0 (ap (ticket_in (InNext s)) (ticket-place (InNext s) (S.place v) t h) ∙ same-self s 0) (ap (ticket_in (InNext s)) is.at ∙ same-self s 0)));
+            joined = inl tt;
+          },
+          tt,
+        );
         barriers = barriers-stay W Z S sound c (tt, tt);
         carried = tt;
         desks = (asks-nothing W S u, tt);

@@ -1,12 +1,10 @@
 -- A put keeps a sound state sound.
-use Rattle.std.proofs.Common.{◌≡◌, ℕ, suc, ◌<◌, ◌≤◌, List, length, refl, sym, ap, subst, arith, inl}
-use Rattle.abt_machine.specs.declared.events.Place.{Place}
+use Rattle.std.proofs.Common.{ℕ, suc, ◌<◌, List, length, sym, subst, arith, inl}
 use Rattle.abt_machine.specs.declared.events.Place.TheVariants as place
 use Rattle.abt_machine.specs.declared.events.What.TheVariants as what
 use Rattle.abt_machine.specs.declared.operations.OrderShape.{OrderShape}
 use Rattle.abt_machine.specs.declared.workload.Parts.{Parts}
 use Rattle.abt_machine.specs.Numbers.{pool_no, unit_no}
-use Rattle.abt_machine.specs.Maps.{put_at}
 use Rattle.abt_machine.specs.State.{State}
 use Rattle.abt_machine.specs.Lines.{InPool, InTray}
 use Rattle.abt_machine.specs.Changes.{Change}
@@ -33,12 +31,15 @@ keeps-put W Z S s u p sound may =
     let is : StandsIn W S (InTray s) u = first-is W S (InTray s) u may.1 in
     record {
       free = (free-above S.place u (place.Pool (pool_no p) t) (InPool p) t (same-self p t) (pool-below W Z S p sound), tt);
-      moves = (record {
-        declared = is.declared;
-        placed = (subst (λ n. n < length W.pools) may.2 (sound.homes u), subst (λ n. t < n) (sym (put_at-same S.pool_next p (suc t))) (omega arith));
-        alone = tt;
-        joined = inl tt;
-      }, tt);
+      moves = (
+        record {
+          declared = is.declared;
+          placed = (subst (λ n. n < length W.pools) may.2 (sound.homes u), subst (λ n. t < n) (sym (put_at-same S.pool_next p (suc t))) (omega arith));
+          alone = tt;
+          joined = inl tt;
+        },
+        tt,
+      );
       barriers = barriers-stay W Z S sound c (tt, tt);
       carried = tt;
       desks = tt;

@@ -1,5 +1,5 @@
 -- A take and a miss keep a sound state sound.
-use Rattle.std.proofs.Common.{◌≡◌, ℕ, suc, ◌<◌, ◌==◌, if◌then◌else◌, Bool, true, false, List, [], ◌∷◌, ◌++◌, length, Some, None, refl, sym, ◌∙◌, ap, subst, inl}
+use Rattle.std.proofs.Common.{◌≡◌, ℕ, suc, ◌<◌, ◌==◌, true, false, List, [], ◌∷◌, ◌++◌, length, Some, None, refl, sym, ◌∙◌, ap, subst, inl}
 use Rattle.std.proofs.lemmas.Bool.{cond_both, cond-true, eq-eqb}
 use Rattle.abt_machine.specs.declared.events.Place.{Place}
 use Rattle.abt_machine.specs.declared.events.Place.TheVariants as place
@@ -12,7 +12,7 @@ use Rattle.abt_machine.specs.State.{State, Stream, Frame}
 use Rattle.abt_machine.specs.Lines.{InPool, InTray, InHand, InNext, ticket_in}
 use Rattle.abt_machine.specs.Next.{RoundDue}
 use Rattle.abt_machine.specs.Rounds.{OrdersStored}
-use Rattle.abt_machine.specs.Frames.{frame_at, frame_missed, round_taken, round_missed}
+use Rattle.abt_machine.specs.Frames.{frame_at, frame_missed, round_taken}
 use Rattle.abt_machine.specs.Changes.{Change}
 use Rattle.abt_machine.specs.Events.{May, change}
 use Rattle.abt_machine.specs.Sound.{Sound, IsAtRest, AllAtRest}
@@ -23,7 +23,7 @@ use Rattle.abt_laws.proofs.Arrivals.{IsEmpty, free-empty}
 use Rattle.abt_laws.proofs.Standing.{StandsIn, front-is}
 use Rattle.abt_laws.proofs.DueFacts.{due-no_tray, due-no_next, due-no_hand}
 use Rattle.abt_laws.proofs.KeepsSound.{Keeps, OnStream}
-use Rattle.abt_laws.proofs.FramesStay.{GoesOn, frames-stay}
+use Rattle.abt_laws.proofs.FramesStay.{frames-stay}
 use Rattle.abt_laws.proofs.Barriers.{barriers-stay}
 use Rattle.abt_laws.proofs.Orders.{next-under_way, missed-under_way}
 use Rattle.abt_laws.proofs.Wakes.{frameless-in, empty-still}
@@ -54,12 +54,15 @@ keeps-take W Z S s p u valid stored sound l may =
     let rests : IsAtRest (round_taken own) = fresh-rest own.top.sched (suc own.top.round) own.below (sound.below_rest s l) in
     record {
       free = (free-empty S.place u (place.Next (stream_no s)) (InNext s) 0 (same-self s 0) (due-no_next W S s sound.undeclared RoundDue may.0 tt), tt);
-      moves = (record {
-        declared = is.declared;
-        placed = (l, subst IsAtRest (sym (put_at-same S.stream s (round_taken own))) rests);
-        alone = empty-still S c (InHand s) ((λ e. cc), tt) (due-no_hand W S s sound.undeclared RoundDue may.0 tt);
-        joined = inl tt;
-      }, tt);
+      moves = (
+        record {
+          declared = is.declared;
+          placed = (l, subst IsAtRest (sym (put_at-same S.stream s (round_taken own))) rests);
+          alone = empty-still S c (InHand s) ((λ e. cc), tt) (due-no_hand W S s sound.undeclared RoundDue may.0 tt);
+          joined = inl tt;
+        },
+        tt,
+      );
       barriers = barriers-stay W Z S sound c (tt, tt);
       carried = tt;
       desks = tt;

@@ -1,20 +1,19 @@
 -- Who stands in a line.
-use Rattle.std.proofs.Common.{◌≡◌, ◌≢◌, ℕ, ◌<◌, ◌≤◌, Bool, true, false, List, [], ◌∷◌, length, Option, Some, None, refl, sym, ◌∙◌, ap, arith, ◌⊎◌, inl, inr}
+use Rattle.std.proofs.Common.{◌≡◌, ℕ, ◌<◌, ◌≤◌, Bool, true, false, List, [], ◌∷◌, length, Some, None, refl, sym, ◌∙◌, ap, inl, inr}
 use Rattle.std.proofs.lemmas.Bool.{cases_lt}
 use Rattle.abt_machine.specs.declared.events.Place.{Place}
 use Rattle.abt_machine.specs.declared.events.Place.TheVariants as place
 use Rattle.abt_machine.specs.declared.operations.Kind.{Kind}
 use Rattle.abt_machine.specs.declared.operations.Kind.TheVariants as kind
 use Rattle.abt_machine.specs.declared.workload.Parts.{Parts}
-use Rattle.abt_machine.specs.Numbers.{stream_no}
 use Rattle.abt_machine.specs.Workloads.{kind_of}
 use Rattle.abt_machine.specs.Queues.{first, first_alone}
 use Rattle.abt_machine.specs.State.{State}
-use Rattle.abt_machine.specs.Lines.{Line, InPool, InFrames, ticket_in, standing, hand, next}
+use Rattle.abt_machine.specs.Lines.{Line, InPool, ticket_in, standing}
 use Rattle.abt_machine.specs.Fronts.{front, front_by, owns}
 use Rattle.abt_laws.proofs.Queues.{HasTicket, AllUnits, AllUnits-first, AllUnits-last, Among, queue-all, queue-among, no-queue, none≢some}
-use Rattle.abt_laws.proofs.ChangedMaps.{EachOf, EachOf-then}
-use Rattle.abt_laws.proofs.Places.{place_in, ticket-place, ticket-none, line_of, line_of-place_in}
+use Rattle.abt_laws.proofs.ChangedMaps.{EachOf}
+use Rattle.abt_laws.proofs.Places.{place_in, ticket-place, ticket_at, ticket_in-place_in, line_of, line_of-place_in}
 use Rattle.abt_laws.proofs.Arrivals.{IsEmpty}
 
 -- unit u stands in line l
@@ -73,3 +72,10 @@ among-standing W S undeclared l v t h = queue-among (λ u. ticket_in l (S.place 
 pub none-first : (W : Parts) (S : State) → UndeclaredUnborn W S → (l : Line) → first (standing W S l) ≡ None → IsEmpty l S.place
 none-first W S undeclared l e v t h =
     none≢some (sym (no-queue (λ u. ticket_in l (S.place u)) (length W.units) e v (ticket-declared W S undeclared l v t h)) ∙ h)
+
+-- nobody stands in an empty line
+pub empty-standing : (W : Parts) (S : State) (l : Line) → IsEmpty l S.place → standing W S l ≡ []
+empty-standing W S l empty = by (standing W S l) (each-stands W S l) where
+  by : (us : List ℕ) → EachOf (StandsIn W S l) us → us ≡ []
+  by [] each = refl
+  by (u ∷ us) each = absurd (empty u (ticket_at l each.0.ticket) (ap (ticket_in l) each.0.at ∙ ticket_in-place_in l each.0.ticket))

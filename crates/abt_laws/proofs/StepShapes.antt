@@ -1,5 +1,5 @@
 -- What the rows of steps have in common. Unit u, in the hand of stream s, makes a step.
-use Rattle.std.proofs.Common.{◌≡◌, ◌≢◌, ℕ, suc, ◌<◌, ◌≤◌, Bool, true, List, [], ◌∷◌, length, Option, Some, None, refl, sym, ◌∙◌, ap, subst, arith, ◌⊎◌, inl, inr}
+use Rattle.std.proofs.Common.{◌≡◌, ℕ, suc, ◌<◌, ◌≤◌, List, [], ◌∷◌, length, Option, Some, None, refl, sym, ◌∙◌, subst, arith, inl}
 use Rattle.std.specs.Prelude.{IsSome}
 use Rattle.abt_machine.specs.declared.events.Code.{Code}
 use Rattle.abt_machine.specs.declared.events.Place.{Place}
@@ -14,10 +14,10 @@ use Rattle.abt_machine.specs.Numbers.{stream_no, unit_no, object_no}
 use Rattle.abt_machine.specs.Maps.{put_at}
 use Rattle.abt_machine.specs.Workloads.{body_at, ops_of, thing_at}
 use Rattle.abt_machine.specs.State.{State, Carried, Desk, Mutex, Future}
-use Rattle.abt_machine.specs.Lines.{InTray, InHand, InNext, Waiting, ticket_in, standing, tray_end}
+use Rattle.abt_machine.specs.Lines.{InTray, InHand, InNext, Waiting, standing, tray_end}
 use Rattle.abt_machine.specs.Carrying.{advanced}
 use Rattle.abt_machine.specs.Next.{StepDue}
-use Rattle.abt_machine.specs.Changes.{Change, no_change, changed, to_tray, tray_moves, goes_with, goes_on}
+use Rattle.abt_machine.specs.Changes.{Change, no_change, changed, to_tray, goes_with, goes_on}
 use Rattle.abt_machine.specs.Steps.{wakes, waits, asks}
 use Rattle.abt_machine.specs.Events.{May}
 use Rattle.abt_machine.specs.Sound.{Sound, IsPlaced, IsAtRest, HoldsUp}
@@ -170,12 +170,15 @@ module _ (W : Parts) (Z : List OrderShape) (S : State) (s u : ℕ) (step : IsSte
       let next : put_at S.object_next x (suc (S.object_next x)) x ≡ suc (S.object_next x) = put_at-same S.object_next x (suc (S.object_next x)) in
       record {
         free = (free-above S.place u pl (Waiting x) (S.object_next x) (same-self x (S.object_next x)) (waiting-below W Z S x step.sound), tt);
-        moves = (record {
-          declared = step.declared;
-          placed = (subst (λ n. S.object_next x < n) (sym next) (omega arith), HoldsUp-same W S (changed S c) x (thing_at W x) refl refl refl up);
-          alone = tt;
-          joined = inl tt;
-        }, tt);
+        moves = (
+          record {
+            declared = step.declared;
+            placed = (subst (λ n. S.object_next x < n) (sym next) (omega arith), HoldsUp-same W S (changed S c) x (thing_at W x) refl refl refl up);
+            alone = tt;
+            joined = inl tt;
+          },
+          tt,
+        );
         barriers = barriers-wait W Z S step.sound (changed S c) u x (S.object_next x) (λ v ne. put_at-other S.place u pl v ne) (put_at-same S.place u pl) room;
         carried = (carries_on, tt);
         desks = tt;

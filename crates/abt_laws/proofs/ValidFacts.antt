@@ -1,19 +1,17 @@
 -- What a valid workload declares.
-use Rattle.std.proofs.Common.{◌≡◌, ◌≢◌, ℕ, ◌<◌, ◌≤◌, Bool, List, [], ◌∷◌, length, All, Option, Some, None, option_map, slice_get, refl, sym, ◌∙◌, ap, subst, arith, ◌⊎◌, inl, inr}
+use Rattle.std.proofs.Common.{◌≡◌, ℕ, ◌<◌, ◌≤◌, List, [], ◌∷◌, length, All, Some, None, slice_get, sym, ◌∙◌, ap, subst, arith, inl, inr}
 use Rattle.std.proofs.lemmas.Bool.{cases_lt}
 use Rattle.std.proofs.lemmas.Option.{slice_get_past}
 use Rattle.abt_machine.specs.declared.numbers.SchedNo.{SchedNo}
-use Rattle.abt_machine.specs.declared.operations.Body.{Body}
 use Rattle.abt_machine.specs.declared.operations.Body.TheVariants as body
 use Rattle.abt_machine.specs.declared.operations.Op.{Op}
 use Rattle.abt_machine.specs.declared.operations.Thing.TheVariants as thing
 use Rattle.abt_machine.specs.declared.workload.Parts.{Parts}
-use Rattle.abt_machine.specs.declared.workload.UnitPart.{UnitPart}
-use Rattle.abt_machine.specs.Workloads.{body_at, body_from, op_at, ops_of, start_of, start_from, main_of, pools_of, thing_at, mutex_of, mutex_from, size_of, size_from, IsCondition}
+use Rattle.abt_machine.specs.Workloads.{body_at, body_from, op_at, ops_of, start_of, start_from, main_of, pools_of, thing_at, mutex_of, mutex_from, IsCondition}
 use Rattle.abt_machine.specs.Operations.{IsDeclared, IsMutex}
 use Rattle.abt_machine.specs.Queues.{first}
 use Rattle.abt_machine.specs.Sites.{home_from, first_pool}
-use Rattle.abt_machine.specs.Valid.{IsValid, IsScheduler, IsUnit, IsBody, IsThing}
+use Rattle.abt_machine.specs.Valid.{IsValid, IsScheduler, IsBody, IsThing}
 use Rattle.abt_laws.proofs.Queues.{none≢some}
 
 -- Units.

@@ -1,23 +1,21 @@
 -- Units that come to a tray.
-use Rattle.std.proofs.Common.{◌≡◌, ◌≢◌, ℕ, suc, ◌<◌, List, [], ◌∷◌, ◌++◌, length, Option, Some, None, refl, sym, ◌∙◌, ap, subst, ◌⊎◌, inl, inr}
+use Rattle.std.proofs.Common.{◌≡◌, ℕ, suc, ◌<◌, List, [], ◌∷◌, ◌++◌, length, Some, sym, ◌∙◌, ap, subst, inl, inr}
 use Rattle.abt_machine.specs.declared.events.Place.{Place}
 use Rattle.abt_machine.specs.declared.events.Place.TheVariants as place
 use Rattle.abt_machine.specs.declared.workload.Parts.{Parts}
 use Rattle.abt_machine.specs.Numbers.{stream_no}
-use Rattle.abt_machine.specs.Maps.{put_all}
-use Rattle.abt_machine.specs.Queues.{first, first_alone}
+use Rattle.abt_machine.specs.Queues.{first_alone}
 use Rattle.abt_machine.specs.State.{State}
-use Rattle.abt_machine.specs.Lines.{Line, InTray, InFrames, ticket_in, standing}
-use Rattle.abt_machine.specs.Changes.{Change, changed, tray_moves, waiting_moves}
+use Rattle.abt_machine.specs.Lines.{Line, InFrames, ticket_in, standing}
+use Rattle.abt_machine.specs.Changes.{Change, changed, tray_moves}
 use Rattle.abt_machine.specs.Sound.{IsAtRest}
-use Rattle.abt_laws.proofs.Queues.{Among, none≢some}
+use Rattle.abt_laws.proofs.Queues.{Among}
 use Rattle.abt_laws.proofs.ChangedMaps.{EachOf, EachOf-then, KeyOf, key-cases, put_all-other, put_all-value}
-use Rattle.abt_laws.proofs.Places.{place_in, line_of, line_of-place_in, line_of-ticket, ticket-place}
+use Rattle.abt_laws.proofs.Places.{place_in, line_of, line_of-place_in, line_of-ticket}
 use Rattle.abt_laws.proofs.Arrivals.{IsEmpty}
-use Rattle.abt_laws.proofs.Standing.{StandsIn, UndeclaredUnborn, each-stands, first-stands, among-standing, none-first}
+use Rattle.abt_laws.proofs.Standing.{StandsIn, each-stands, first-stands}
 use Rattle.abt_laws.proofs.KeepsSound.{places, MovesWell}
 use Rattle.abt_laws.proofs.FramesStay.{IsFrameless}
-use Rattle.abt_laws.proofs.Barriers.{IsOffBarriers}
 
 -- a declared unit that is in no frame may come to a tray
 pub record IsWakeable (W : Parts) (S : State) (u : ℕ) : Type 0 where
