@@ -1,0 +1,192 @@
+-- What the rows of steps have in common. Unit u, in the hand of stream s, makes a step.
+use Rattle.std.proofs.Common.{◌≡◌, ℕ, suc, ◌<◌, ◌≤◌, List, [], ◌∷◌, length, Option, Some, None, refl, sym, ◌∙◌, subst, arith, inl}
+use Rattle.std.specs.Prelude.{IsSome}
+use Rattle.abt_machine.specs.declared.events.Code.{Code}
+use Rattle.abt_machine.specs.declared.events.Place.{Place}
+use Rattle.abt_machine.specs.declared.events.Place.TheVariants as place
+use Rattle.abt_machine.specs.declared.events.Spot.TheVariants as spot
+use Rattle.abt_machine.specs.declared.events.What.TheVariants as what
+use Rattle.abt_machine.specs.declared.operations.OrderShape.{OrderShape}
+use Rattle.abt_machine.specs.declared.operations.Thing.{Thing}
+use Rattle.abt_machine.specs.declared.operations.Thing.TheVariants as thing
+use Rattle.abt_machine.specs.declared.workload.Parts.{Parts}
+use Rattle.abt_machine.specs.Numbers.{stream_no, unit_no, object_no}
+use Rattle.abt_machine.specs.Maps.{put_at}
+use Rattle.abt_machine.specs.Workloads.{body_at, ops_of, thing_at}
+use Rattle.abt_machine.specs.State.{State, Carried, Desk, Mutex, Future}
+use Rattle.abt_machine.specs.Lines.{InTray, InHand, InNext, Waiting, standing, tray_end}
+use Rattle.abt_machine.specs.Carrying.{advanced}
+use Rattle.abt_machine.specs.Next.{StepDue}
+use Rattle.abt_machine.specs.Changes.{Change, no_change, changed, to_tray, goes_with, goes_on}
+use Rattle.abt_machine.specs.Steps.{wakes, waits, asks}
+use Rattle.abt_machine.specs.Events.{May}
+use Rattle.abt_machine.specs.Sound.{Sound, IsPlaced, IsAtRest, HoldsUp}
+use Rattle.abt_laws.proofs.Queues.{put_at-same, put_at-other}
+use Rattle.abt_laws.proofs.ChangedMaps.{EachOf}
+use Rattle.abt_laws.proofs.Places.{ticket-place, same-self}
+use Rattle.abt_laws.proofs.Arrivals.{IsEmpty, IsBelow, IsBelow-empty, free-above, tray-free}
+use Rattle.abt_laws.proofs.Standing.{StandsIn, first-is}
+use Rattle.abt_laws.proofs.DueFacts.{due-no_tray, due-no_next, due-unit, step-position}
+use Rattle.abt_laws.proofs.KeepsSound.{Keeps, places, CarriesWell, AsksWell, MutexHolds, EventualHolds, FutureHolds}
+use Rattle.abt_laws.proofs.Barriers.{barriers-stay, barriers-wait, IsOffBarriers}
+use Rattle.abt_laws.proofs.FramesStay.{IsFrameless, frames-stay}
+use Rattle.abt_laws.proofs.Wakes.{IsWakeable, tray-well, tray-frameless, tray-each}
+
+-- what is known where stream s makes a step of the unit u in its hand
+pub record IsStepping (W : Parts) (Z : List OrderShape) (S : State) (s u : ℕ) : Type 0 where
+  pub sound : Sound W Z S
+  pub stream : s < W.streams
+  pub declared : u < length W.units
+  pub in_hand : S.place u ≡ place.Hand (stream_no s)
+  pub rests : IsAtRest (S.stream s)
+  pub no_tray : IsEmpty (InTray s) S.place
+  pub no_next : IsEmpty (InNext s) S.place
+  pub position : (S.carried u).position < length (ops_of (body_at W u))
+
+pub stepping : (W : Parts) (Z : List OrderShape) (S : State) (s u k : ℕ) (c : Code) → Sound W Z S → s < W.streams → May W Z S s (what.Step (unit_no u) k c) → IsStepping W Z S s u
+stepping W Z S s u k c sound l may =
+    let is : StandsIn W S (InHand s) u = first-is W S (InHand s) u may.1 in
+    let at : S.place u ≡ place.Hand (stream_no s) = is.at in
+    let placed : IsPlaced W S u (place.Hand (stream_no s)) = subst (IsPlaced W S u) at (sound.placed u) in
+    record {
+      sound = sound;
+      stream = l;
+      declared = is.declared;
+      in_hand = at;
+      rests = placed.1;
+      no_tray = due-no_tray W S s sound.undeclared StepDue may.0 tt;
+      no_next = due-no_next W S s sound.undeclared StepDue may.0 tt;
+      position = step-position W s (S.stream s).mark (body_at W u) (S.carried u).position (due-unit W S s sound.undeclared StepDue u may.0 tt may.1);
+    }
+
+-- what holds up a unit depends on the object alone
+pub HoldsUp-same : (W : Parts) (S T : State) (x : ℕ) (o : Option Thing) → T.mutex x ≡ S.mutex x → T.eventual x ≡ S.eventual x → T.future x ≡ S.future x → HoldsUp W S x o → HoldsUp W T x o
+HoldsUp-same W S T x None m e f h = h
+HoldsUp-same W S T x (Some thing.Mutex) m e f h = subst (λ (k : Mutex). IsSome k.owner) (sym m) h
+HoldsUp-same W S T x (Some (thing.Cond n)) m e f h = tt
+HoldsUp-same W S T x (Some thing.Eventual) m e f h = e ∙ h
+HoldsUp-same W S T x (Some (thing.Future n r)) m e f h = subst (λ (k : Future). k.filled < n) (sym f) h
+HoldsUp-same W S T x (Some (thing.Barrier n)) m e f h = tt
+
+-- the tickets of those who wait at x are below the next
+pub waiting-below : (W : Parts) (Z : List OrderShape) (S : State) (x : ℕ) → Sound W Z S → IsBelow (Waiting x) (S.object_next x) S.place
+waiting-below W Z S x sound v t h =
+    let k : IsPlaced W S v (place.Blocked (spot.Object (object_no x)) t) = subst (IsPlaced W S v) (ticket-place (Waiting x) (S.place v) t h) (sound.placed v) in k.0
+
+module _ (W : Parts) (Z : List OrderShape) (S : State) (s u : ℕ) (step : IsStepping W Z S s u) where
+  pub in_no_frame : IsFrameless S u
+  in_no_frame r d h = let e : place.Hand (stream_no s) ≡ place.Frame (stream_no r) d = sym step.in_hand ∙ h in cc
+
+  pub may_wake : IsWakeable W S u
+  may_wake = record { declared = step.declared; frameless = in_no_frame }
+
+  -- u goes on with another accumulator, keys or output
+  pub carries : (c : Carried) → c.home ≡ (S.carried u).home → c.position ≡ (S.carried u).position → CarriesWell W u (advanced c)
+  carries c home position =
+      record {
+        home = subst (λ p. p < length W.pools) (sym home) (step.sound.homes u);
+        position = subst (λ k. suc k ≤ length (ops_of (body_at W u))) (sym position) (let l : (S.carried u).position < length (ops_of (body_at W u)) = step.position in omega arith);
+      }
+
+  pub carries_on : CarriesWell W u (advanced (S.carried u))
+  carries_on = carries (S.carried u) refl refl
+
+  -- nobody moves
+  pub keeps-still : (cs : List (ℕ × Carried)) (ds : List (ℕ × Desk)) (ms : List (ℕ × Mutex)) (es : List (ℕ × Option ℕ)) (fs : List (ℕ × Future)) →
+      EachOf (λ (m : ℕ × Carried). CarriesWell W m.0 m.1) cs →
+      EachOf (λ (m : ℕ × Desk). AsksWell W S m.0 m.1) ds →
+      EachOf (λ (m : ℕ × Mutex). MutexHolds S.place m.0 m.1) ms →
+      EachOf (λ (m : ℕ × Option ℕ). EventualHolds S.place m.0 m.1) es →
+      EachOf (λ (m : ℕ × Future). FutureHolds W S S.place m.0 m.1) fs →
+      Keeps W Z S (record no_change { carried = cs; desks = ds; mutexes = ms; eventuals = es; futures = fs })
+  keeps-still cs ds ms es fs a b d e f =
+      let c : Change = record no_change { carried = cs; desks = ds; mutexes = ms; eventuals = es; futures = fs } in
+      record {
+        free = tt;
+        moves = tt;
+        barriers = step.sound.waiting;
+        carried = a;
+        desks = b;
+        pool_next = tt;
+        join_next = tt;
+        object_next = tt;
+        mutexes = d;
+        eventuals = e;
+        futures = f;
+        frames = frames-stay W Z S c step.sound tt tt;
+      }
+
+  -- u goes on, with this to carry
+  pub keeps-goes_with : (c : Carried) → c.home ≡ (S.carried u).home → c.position ≡ (S.carried u).position → Keeps W Z S (goes_with u c)
+  keeps-goes_with c home position = keeps-still ((u, advanced c) ∷ []) [] [] [] [] (carries c home position, tt) tt tt tt tt
+
+  pub keeps-goes_on : Keeps W Z S (goes_on S u)
+  keeps-goes_on = keeps-goes_with (S.carried u) refl refl
+
+  -- u asks something of v
+  pub keeps-asks : (v : ℕ) (d : Desk) → AsksWell W S v d → Keeps W Z S (asks S u v d)
+  keeps-asks v d well = keeps-still ((u, advanced (S.carried u)) ∷ []) ((v, d) ∷ []) [] [] [] (carries_on, tt) (well, tt) tt tt tt
+
+  -- the tray has room for all
+  pub tray-below : IsBelow (InTray s) (tray_end W S s) S.place
+  tray-below = IsBelow-empty (InTray s) (tray_end W S s) S.place step.no_tray
+
+  -- units come to the tray
+  pub keeps-wakes : (us : List ℕ) (cs : List (ℕ × Carried)) (ds : List (ℕ × Desk)) (ms : List (ℕ × Mutex)) (es : List (ℕ × Option ℕ)) (fs : List (ℕ × Future)) →
+      let c : Change = record no_change { moves = to_tray W S s us; carried = cs; desks = ds; mutexes = ms; eventuals = es; futures = fs } in
+      EachOf (IsWakeable W S) us →
+      EachOf (λ (m : ℕ × Carried). CarriesWell W m.0 m.1) cs →
+      EachOf (λ (m : ℕ × Desk). AsksWell W S m.0 m.1) ds →
+      EachOf (λ (m : ℕ × Mutex). MutexHolds (places S c) m.0 m.1) ms →
+      EachOf (λ (m : ℕ × Option ℕ). EventualHolds (places S c) m.0 m.1) es →
+      EachOf (λ (m : ℕ × Future). FutureHolds W S (places S c) m.0 m.1) fs →
+      Keeps W Z S c
+  keeps-wakes us cs ds ms es fs each a b d e f =
+      let c : Change = record no_change { moves = to_tray W S s us; carried = cs; desks = ds; mutexes = ms; eventuals = es; futures = fs } in
+      record {
+        free = tray-free s (tray_end W S s) S.place us tray-below;
+        moves = tray-well W S c s (tray_end W S s) us step.stream step.rests each;
+        barriers = barriers-stay W Z S step.sound c (tray-each (IsOffBarriers W) s (tray_end W S s) us (λ t. tt));
+        carried = a;
+        desks = b;
+        pool_next = tt;
+        join_next = tt;
+        object_next = tt;
+        mutexes = d;
+        eventuals = e;
+        futures = f;
+        frames = frames-stay W Z S c step.sound (tray-frameless W S s (tray_end W S s) us each) tt;
+      }
+
+  -- u goes on, and these units come to the tray
+  pub keeps-wakes_only : (us : List ℕ) → EachOf (IsWakeable W S) us → Keeps W Z S (wakes W S s u us)
+  keeps-wakes_only us each = keeps-wakes us ((u, advanced (S.carried u)) ∷ []) [] [] [] [] each (carries_on, tt) tt tt tt tt
+
+  -- u waits at x, which holds it up, and has room for one more if it is a barrier
+  pub keeps-waits : (x : ℕ) → HoldsUp W S x (thing_at W x) → ((n : ℕ) → thing_at W x ≡ Some (thing.Barrier n) → suc (length (standing W S (Waiting x))) < n) → Keeps W Z S (waits S u x)
+  keeps-waits x up room =
+      let c : Change = waits S u x in
+      let pl : Place = place.Blocked (spot.Object (object_no x)) (S.object_next x) in
+      let next : put_at S.object_next x (suc (S.object_next x)) x ≡ suc (S.object_next x) = put_at-same S.object_next x (suc (S.object_next x)) in
+      record {
+        free = (free-above S.place u pl (Waiting x) (S.object_next x) (same-self x (S.object_next x)) (waiting-below W Z S x step.sound), tt);
+        moves = (
+          record {
+            declared = step.declared;
+            placed = (subst (λ n. S.object_next x < n) (sym next) (omega arith), HoldsUp-same W S (changed S c) x (thing_at W x) refl refl refl up);
+            alone = tt;
+            joined = inl tt;
+          },
+          tt,
+        );
+        barriers = barriers-wait W Z S step.sound (changed S c) u x (S.object_next x) (λ v ne. put_at-other S.place u pl v ne) (put_at-same S.place u pl) room;
+        carried = (carries_on, tt);
+        desks = tt;
+        pool_next = tt;
+        join_next = tt;
+        object_next = (omega arith, tt);
+        mutexes = tt;
+        eventuals = tt;
+        futures = tt;
+        frames = frames-stay W Z S c step.sound (in_no_frame, tt) tt;
+      }

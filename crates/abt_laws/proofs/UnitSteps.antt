@@ -1,0 +1,83 @@
+-- Steps that move units keep a sound state sound: yielding to a unit, suspending, joining, and the beginning of a life. Unit u, in the hand of stream s, makes the step.
+use Rattle.std.proofs.Common.{◌≡◌, ℕ, suc, ◌<◌, ◌≤◌, true, List, [], ◌∷◌, length, Some, refl, sym, ◌∙◌, ap, subst, arith, inl, inr}
+use Rattle.abt_machine.specs.declared.events.Place.{Place}
+use Rattle.abt_machine.specs.declared.events.Place.TheVariants as place
+use Rattle.abt_machine.specs.declared.events.Spot.TheVariants as spot
+use Rattle.abt_machine.specs.declared.operations.OrderShape.{OrderShape}
+use Rattle.abt_machine.specs.declared.workload.Parts.{Parts}
+use Rattle.abt_machine.specs.Numbers.{stream_no, unit_no}
+use Rattle.abt_machine.specs.Maps.{put_at}
+use Rattle.abt_machine.specs.State.{State, Desk}
+use Rattle.abt_machine.specs.Lines.{InTray, InHand, InNext, Joining, ticket_in, tray_end}
+use Rattle.abt_machine.specs.Carrying.{advanced, newborn}
+use Rattle.abt_machine.specs.Codes.{is_in_pool}
+use Rattle.abt_machine.specs.Changes.{Change, changed, to_tray, goes_on}
+use Rattle.abt_machine.specs.Steps.{begins, joins}
+use Rattle.abt_machine.specs.Sound.{IsPlaced, HasNotEnded}
+use Rattle.abt_laws.proofs.Queues.{put_at-same}
+use Rattle.abt_laws.proofs.ChangedMaps.{EachOf, put_at-cases}
+use Rattle.abt_laws.proofs.Places.{ticket-place, same-self}
+use Rattle.abt_laws.proofs.Arrivals.{IsEmpty, IsBelow, IsBelow-move, IsFreeFor, free-nowhere, free-empty, free-above, tray-free}
+use Rattle.abt_laws.proofs.KeepsSound.{Keeps, places, IsAlone}
+use Rattle.abt_laws.proofs.Barriers.{IsOffBarriers}
+use Rattle.abt_laws.proofs.Wakes.{IsWakeable, tray-well, tray-frameless, empty-after}
+use Rattle.abt_laws.proofs.CodeFacts.{frameless-by}
+use Rattle.abt_laws.proofs.StepMoves.{keeps-moves}
+use Rattle.abt_laws.proofs.StepShapes.{IsStepping, in_no_frame, may_wake, carries_on, keeps-goes_on, keeps-wakes, tray-below}
+
+module _ (W : Parts) (Z : List OrderShape) (S : State) (s u : ℕ) (step : IsStepping W Z S s u) where
+  -- u goes to a free place that is no barrier
+  keeps-goes_to : (pl : Place) (js : List (ℕ × ℕ)) →
+      let c : Change = record (goes_on S u) { moves = (u, pl) ∷ []; join_next = js } in
+      IsFreeFor S.place u pl → IsPlaced W (changed S c) u pl → IsAlone (places S c) pl → HasNotEnded pl → IsOffBarriers W pl →
+      EachOf (λ (m : ℕ × ℕ). S.join_next m.0 ≤ m.1) js → Keeps W Z S c
+  keeps-goes_to pl js free placed alone goes off rises =
+      keeps-moves W Z S s u step ((u, pl) ∷ []) js [] [] (free, tt) (record { declared = step.declared; placed = placed; alone = alone; joined = inl goes }, tt) (off, tt) (in_no_frame W Z S s u step, tt) rises tt tt
+
+  pub keeps-suspends : Keeps W Z S (record (goes_on S u) { moves = (u, place.Blocked spot.Suspended 0) ∷ [] })
+  keeps-suspends = let pl : Place = place.Blocked spot.Suspended 0 in keeps-goes_to pl [] (free-nowhere S.place u pl refl) tt tt tt tt tt
+
+  -- the tickets of those who join v are below the next
+  joining-below : (v : ℕ) → IsBelow (Joining v) (S.join_next v) S.place
+  joining-below v w t h =
+      let k : IsPlaced W S w (place.Blocked (spot.Join (unit_no v)) t) = subst (IsPlaced W S w) (ticket-place (Joining v) (S.place w) t h) (step.sound.placed w) in k.1
+
+  keeps-joining : (v : ℕ) → v < length W.units → HasNotEnded (S.place v) →
+      Keeps W Z S (record (goes_on S u) { moves = (u, place.Blocked (spot.Join (unit_no v)) (S.join_next v)) ∷ []; join_next = (v, suc (S.join_next v)) ∷ [] })
+  keeps-joining v l goes =
+      let pl : Place = place.Blocked (spot.Join (unit_no v)) (S.join_next v) in
+      let next : put_at S.join_next v (suc (S.join_next v)) v ≡ suc (S.join_next v) = put_at-same S.join_next v (suc (S.join_next v)) in
+      let still : HasNotEnded (put_at S.place u pl v) =
+      elim (put_at-cases S.place u pl v) [ inl same ↦ subst HasNotEnded (sym same.1) tt | inr other ↦ subst HasNotEnded (sym other.1) goes ] in
+      keeps-goes_to pl ((v, suc (S.join_next v)) ∷ []) (free-above S.place u pl (Joining v) (S.join_next v) (same-self v (S.join_next v)) (joining-below v))
+      (l, subst (λ n. S.join_next v < n) (sym next) (omega arith), still) tt tt tt (omega arith, tt)
+
+  -- u goes on where v has ended, else it joins v
+  pub keeps-joins : (v : ℕ) (pl : Place) → v < length W.units → S.place v ≡ pl → Keeps W Z S (joins S u v pl)
+  keeps-joins v (place.Ended e) l is = keeps-goes_on W Z S s u step
+  keeps-joins v pl l is = keeps-joining v l (subst HasNotEnded (sym is) tt)
+
+  -- v begins a life with home p
+  pub keeps-begins : (v p : ℕ) → IsWakeable W S v → p < length W.pools → Keeps W Z S (begins W S s u v p)
+  keeps-begins v p wakeable l =
+      let d : Desk = record (S.desk v) { life = suc (S.desk v).life } in
+      keeps-wakes W Z S s u step (v ∷ []) ((u, advanced (S.carried u)) ∷ (v, newborn p (S.carried v)) ∷ []) ((v, d) ∷ []) [] [] []
+      (wakeable, tt) (carries_on W Z S s u step, (record { home = l; position = omega arith }, tt)) (record { asks = inl (λ h. h); request = step.sound.requests v }, tt) tt tt tt
+
+  -- nobody else is in the hand
+  hand-alone : (v t : ℕ) → ticket_in (InHand s) (S.place v) ≡ Some t → v ≡ u
+  hand-alone v t h = step.sound.one_each (InHand s) v u t h (ap (ticket_in (InHand s)) (step.in_hand ∙ sym (ticket-place (InHand s) (S.place v) t h)) ∙ h)
+
+  -- v comes to Next from a pool, and u to the tray
+  pub keeps-yields_to : (v p : ℕ) → v < length W.units → is_in_pool p (S.place v) ≡ true → Keeps W Z S (record (goes_on S u) { moves = (v, place.Next (stream_no s)) ∷ to_tray W S s (u ∷ []) })
+  keeps-yields_to v p l pooled =
+      let pl : Place = place.Next (stream_no s) in
+      let i : ℕ = tray_end W S s in
+      let c : Change = record (goes_on S u) { moves = (v, pl) ∷ to_tray W S s (u ∷ []) } in
+      let alone : IsEmpty (InHand s) (places S c) = empty-after S c (InHand s) (λ e. cc, (λ e. cc, tt)) (λ w t h. inr (inl (hand-alone w t h))) in
+      keeps-moves W Z S s u step ((v, pl) ∷ to_tray W S s (u ∷ [])) [] [] []
+      (free-empty S.place v pl (InNext s) 0 (same-self s 0) step.no_next, tray-free s i (put_at S.place v pl) (u ∷ []) (IsBelow-move (InTray s) i S.place v pl (λ e. cc) (tray-below W Z S s u step)))
+      (record { declared = l; placed = (step.stream, step.rests); alone = alone; joined = inl tt }, tray-well W S c s i (u ∷ []) step.stream step.rests (may_wake W Z S s u step, tt))
+      (tt, (tt, tt))
+      (frameless-by S v (is_in_pool p) (λ r d. refl) pooled, tray-frameless W S s i (u ∷ []) (may_wake W Z S s u step, tt))
+      tt tt tt
