@@ -14,6 +14,7 @@ pub mod DueFacts
 pub mod Dues
 pub mod EndSound
 pub mod EventualSteps
+pub mod EveryEvent
 pub mod Falls
 pub mod FramesStay
 pub mod FutureSteps

@@ -2,7 +2,13 @@
 #![tactic(auto)]
 
 mod footprint;
+mod lives;
+mod measure;
 mod outcome;
+mod sound;
 
 pub use footprint::{events_are_local, events_commute};
-pub use outcome::{ended_is_quiet, one_after, quiet_stays, spent_is_not_quiet};
+pub use lives::{life_is_the_journals, runs_live};
+pub use measure::events_fall;
+pub use outcome::{ended_is_quiet, one_after, quiet_runs_miss, quiet_stays, spent_is_not_quiet};
+pub use sound::{events_keep_sound, runs_are_sound, start_is_sound};

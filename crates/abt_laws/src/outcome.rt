@@ -3,7 +3,7 @@
 ghost use Rattle.std.specs.Prelude.{List};
 ghost use Rattle.abt_machine.specs.declared.operations.OrderShape.{OrderShape};
 ghost use Rattle.abt_machine.specs.declared.workload.Parts.{Parts};
-ghost use Rattle.abt_laws.specs.Laws.{EndedIsQuiet, OneAfter, QuietStays, SpentIsNotQuiet};
+ghost use Rattle.abt_laws.specs.Laws.{EndedIsQuiet, OneAfter, QuietRunsMiss, QuietStays, SpentIsNotQuiet};
 
 /// A state and an event determine the next state.
 pub fn one_after()
@@ -23,4 +23,9 @@ pub fn quiet_stays()
 /// Where a stream has used up its steps and would make another, something is left to do.
 pub fn spent_is_not_quiet()
     ensures { (W : Parts) (Z : List OrderShape) → SpentIsNotQuiet W Z }
+{}
+
+/// Whatever follows where nothing is left to do is a miss, after which nothing is left to do.
+pub fn quiet_runs_miss()
+    ensures { (W : Parts) (Z : List OrderShape) → QuietRunsMiss W Z }
 {}

@@ -1,0 +1,6 @@
+use Rattle.abt_laws.proofs.EveryEvent.{runs-are-sound}
+use Rattle.abt_laws.proofs.Falls.{events-fall}
+use Rattle.abt_laws.proofs.measure.events_fall.Goals as goal
+
+pub returns : goal.returns
+returns c W Z = events-fall W Z (runs-are-sound W Z)

@@ -1,0 +1,5 @@
+use Rattle.abt_laws.proofs.EveryEvent.{events-keep-sound}
+use Rattle.abt_laws.proofs.sound.events_keep_sound.Goals as goal
+
+pub returns : goal.returns
+returns c = events-keep-sound

@@ -1,0 +1,5 @@
+use Rattle.abt_laws.proofs.EveryEvent.{runs-are-sound}
+use Rattle.abt_laws.proofs.sound.runs_are_sound.Goals as goal
+
+pub returns : goal.returns
+returns c = runs-are-sound

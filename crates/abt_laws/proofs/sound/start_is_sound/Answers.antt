@@ -1,0 +1,5 @@
+use Rattle.abt_laws.proofs.EveryEvent.{start-is-sound}
+use Rattle.abt_laws.proofs.sound.start_is_sound.Goals as goal
+
+pub returns : goal.returns
+returns c = start-is-sound
