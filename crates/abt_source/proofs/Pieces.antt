@@ -1,0 +1,35 @@
+-- One write or read after another.
+use Rattle.std.proofs.Common.{◌≡◌, ◌≤◌, ◌+◌, ◌-◌, ℕ, List, ◌++◌, length, take, drop, Option, Some, None}
+use Rattle.std.proofs.Common.{refl, ap, append_assoc, append-nil, length-drop, arith}
+use Rattle.std.proofs.Math.Seq.{take-add}
+use Rattle.std.proofs.lemmas.List.{take_all}
+use Rattle.abt_source.specs.Source.{Took, NothingLeft, LeavesAnEnd}
+
+-- What was read so far and what is left are the file, where it is told.
+abbrev pub IsSplit : Option (List ℕ) → List ℕ → Option (List ℕ) → Type 0
+IsSplit None front left = left ≡ None
+IsSplit (Some xs) front left = (rest : List ℕ) × (left ≡ Some rest) × (xs ≡ front ++ rest)
+
+-- As many bytes as there are from a place on are all of these.
+take-rest : (at : ℕ) (bytes : List ℕ) → take (length bytes - at) (drop at bytes) ≡ drop at bytes
+take-rest at bytes =
+    let le : length (drop at bytes) ≤ length bytes - at = simp length-drop (omega arith) in take_all _ _ le
+
+-- What was taken up to a place grows by the bytes from there on.
+took_rest : (a b c : Option (List ℕ)) (at n : ℕ) (bytes : List ℕ)
+    → Took a b (take at bytes) → Took b c (take n (drop at bytes)) → Took a c (take (at + n) bytes)
+took_rest None b c at n bytes e f = rw (f, e) refl
+took_rest (Some xs) b c at n bytes e f =
+    rw (f, e, take-add) (ap Some (append_assoc xs (take at bytes) (take n (drop at bytes))))
+
+-- What was taken up to a place grows by the next write's bytes.
+pub took_more : (a b c : Option (List ℕ)) (at n : ℕ) (bytes : List ℕ)
+    → Took a b (take at bytes) → Took b c (take n (take (length bytes - at) (drop at bytes)))
+    → Took a c (take (at + n) bytes)
+took_more a b c at n bytes e f = took_rest a b c at n bytes e (rw take-rest at f)
+
+-- No bytes are an end of any file.
+pub nothing_is_an_end : (file left : Option (List ℕ)) → NothingLeft left → LeavesAnEnd file left
+nothing_is_an_end None left e = tt
+nothing_is_an_end (Some xs) None e = tt
+nothing_is_an_end (Some xs) (Some rest) e = (xs, rw (e, append-nil) refl)

@@ -1,0 +1,14 @@
+use Rattle.std.proofs.Common.{◌≡◌, ◌≤◌, ◌+◌, ◌-◌, ℕ, List, length}
+use Rattle.abt_source.proofs.Pieces.{IsSplit}
+use Rattle.abt_source.proofs.reading.read_all.Given as goal
+
+abbrev pub invariant-loop-piece : goal.invariant-loop-piece
+invariant-loop-piece g l = record {
+  in_range : length l.bytes.items ≤ l.most + 1;
+  file : (n : List ℕ) → g.F.Files.file l.files n ≡ g.F.Files.file l.fn.files n;
+  split : IsSplit (g.F.Files.file l.fn.files l.name) l.bytes.items (g.F.Files.left l.files);
+  later : g.F.Files.faults l.fn.files ≤ g.F.Files.faults l.files;
+}
+
+abbrev pub decreases-loop-piece : goal.decreases-loop-piece
+decreases-loop-piece g l = l.most + 1 - length l.bytes.items

@@ -1,0 +1,23 @@
+//! Files that are read and sinks that are written, each with a count of its faults: the traits, a kind in
+//! memory that fails when it is told to, and that of the process.
+#![tactic(auto)]
+
+mod memory_files;
+mod memory_sink;
+mod reading;
+mod real_files;
+mod real_sink;
+mod writing;
+
+pub use memory_files::{MemoryFiles, NamedBytes};
+pub use memory_sink::MemorySink;
+pub use reading::{Files, NotFetched, read_all};
+pub use real_files::RealFiles;
+pub use real_sink::RealSink;
+use thiserror::Error;
+pub use writing::{Sink, write_whole};
+
+/// A read or a write that failed.
+#[derive(Clone, Copy, Debug, PartialEq, Eq, Error)]
+#[error("a read or a write failed")]
+pub struct Failed;

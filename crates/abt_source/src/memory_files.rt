@@ -1,0 +1,207 @@
+//! Files in memory, which fail when they are told to.
+
+ghost use Rattle.std.specs.Prelude.{◌≡◌, ◌<◌, ◌+◌, ◌^◌, ◌++◌, ◌↔◌, [], length, take, drop, position, min, Some};
+ghost use Rattle.std.specs.Prelude.{IsErr, IsTrue, IfOk, OnOk, OnErr, IsErrOf, Contains};
+ghost use Rattle.abt_source.specs.Source.{next_count};
+ghost use Rattle.abt_source.specs.MemoryFiles.{FailsToBegin, file_of, is_named, left_of};
+ghost use Rattle.abt_source.specs.MemoryFiles.{not_begun, after_success, after_failure};
+
+use crate::{Failed, Files, NotFetched};
+use std::marker::Model;
+
+/// A file's name and its bytes.
+#[derive(Drop)]
+pub struct NamedBytes {
+    pub name: String,
+    pub bytes: Vec<u8>,
+}
+
+impl Model for NamedBytes {
+    ghost use Rattle.std.specs.Prelude.{string_bytes};
+    ghost use Rattle.abt_source.specs.MemoryFiles.{NamedFile};
+
+    ghost Value = { NamedFile };
+
+    ghost view = { λ file. record { name = string_bytes file.name; bytes = file.bytes.items } };
+}
+
+/// Files in memory. Of two with one name the first counts.
+#[derive(Drop)]
+pub struct MemoryFiles {
+    files: Vec<NamedBytes>,
+    failing: Vec<u64>,
+    calls: u64,
+    faults: u64,
+    row: Option<usize>,
+    at: usize,
+}
+
+impl Model for MemoryFiles {
+    ghost use Rattle.abt_source.specs.MemoryFiles.{FilesInMemory, left_of};
+
+    ghost Value = { FilesInMemory };
+
+    ghost view = { λ m. record {
+      files = m.files.items;
+      failing = m.failing.items;
+      calls = m.calls;
+      faults = m.faults;
+      left = left_of m.files.items m.row m.at;
+    } };
+}
+
+impl MemoryFiles {
+    /// The calls of `begin` and `read` are numbered together from 0. Those whose numbers are in `failing`
+    /// fail.
+    pub fn new(files: Vec<NamedBytes>, failing: Vec<u64>) -> Self
+        ensures { result ≡ not_begun files.items failing.items }
+    {
+        MemoryFiles {
+            files,
+            failing,
+            calls: 0,
+            faults: 0,
+            row: None,
+            at: 0,
+        }
+    }
+
+    // Counts this call, and says whether it is one of those that fail.
+    fn fails(&mut self) -> bool
+        ensures fails { IsTrue result ↔ Contains self.old.failing self.old.calls }
+        ensures counted { self.new ≡ record self.old { calls = next_count self.old.calls } }
+    {
+        let call = self.calls;
+        self.calls = call.saturating_add(1);
+        is_listed(&self.failing, call)
+    }
+}
+
+// Whether the call of this number fails.
+fn is_listed(failing: &[u64], call: u64) -> bool
+    ensures { IsTrue result ↔ Contains failing.now call }
+{
+    failing.contains(&call)
+}
+
+// The first file with the name.
+fn find(files: &[NamedBytes], name: &str) -> Option<usize>
+    ensures { result ≡ position (is_named name.now) files.now }
+{
+    files.iter().position(|file| file.name.as_str() == name)
+}
+
+// The bytes that are left of a file.
+fn bytes_left(files: &[NamedBytes], row: Option<usize>, at: usize) -> &[u8]
+    ensures left { result.now ≡ left_of files.now row at }
+    ensures fits { 0 < length result.now → at + length result.now < 2 ^ 64 }
+{
+    let Some(row) = row else {
+        return &[];
+    };
+    match files.get(row) {
+        Some(file) if at < file.bytes.len() => &file.bytes[at..],
+        _ => &[],
+    }
+}
+
+// Copies as many bytes as there is room for.
+fn copy(from: &[u8], into: &mut [u8]) -> usize
+    ensures count { result ≡ min (length from.now) (length into.old) }
+    ensures copied { into.new ≡ take result from.now ++ drop result into.old }
+{
+    let n = from.len().min(into.len());
+    into[..n].copy_from_slice(&from[..n]);
+    n
+}
+
+impl Files for MemoryFiles {
+    ghost file = { λ m n. file_of m.files n };
+
+    ghost left = { λ m. Some m.left };
+
+    ghost faults = { λ m. m.faults };
+
+    fn begin(&mut self, name: &str) -> Result<(), NotFetched>
+        ensures fails { IsErr result ↔ FailsToBegin self.old name.now }
+        ensures memory { IsErrOf result NotFetched.Memory → ⊥ }
+        ensures opens { OnOk result (file_of self.old.files name.now ≡ Some self.new.left) }
+        ensures ok { OnOk result (self.new ≡ after_success self.old self.new.left) }
+        ensures err { OnErr result (self.new ≡ after_failure self.old []) }
+    {
+        if self.fails() {
+            self.row = None;
+            self.faults = self.faults.saturating_add(1);
+            return Err(NotFetched::Failed);
+        }
+        self.row = find(&self.files, name);
+        self.at = 0;
+        if self.row.is_none() {
+            self.faults = self.faults.saturating_add(1);
+            return Err(NotFetched::Failed);
+        }
+        Ok(())
+    }
+
+    fn read(&mut self, into: &mut [u8]) -> Result<usize, Failed>
+        requires { 0 < length into.old }
+        ensures fails { IsErr result ↔ Contains self.old.failing self.old.calls }
+        ensures count { IfOk result (λ n. n ≡ min (length self.old.left) (length into.old)) }
+        ensures into { IfOk result (λ n. into.new ≡ take n self.old.left ++ drop n into.old) }
+        ensures ok { IfOk result (λ n. self.new ≡ after_success self.old (drop n self.old.left)) }
+        ensures untouched { OnErr result (into.new ≡ into.old) }
+        ensures err { OnErr result (self.new ≡ after_failure self.old self.old.left) }
+    {
+        if self.fails() {
+            self.faults = self.faults.saturating_add(1);
+            return Err(Failed);
+        }
+        let left = bytes_left(&self.files, self.row, self.at);
+        if left.is_empty() {
+            return Ok(0);
+        }
+        let n = copy(left, into);
+        self.at += n;
+        Ok(n)
+    }
+}
+
+#[cfg(test)]
+mod tests {
+    use super::*;
+    use crate::read_all;
+    use std::alloc::Global;
+    use std::test::Fail;
+
+    fn file(alloc: Global, name: &str, bytes: &[u8]) -> Result<NamedBytes, Fail> {
+        Ok(NamedBytes {
+            name: String::from_str(alloc, name)?,
+            bytes: Vec::from_slice(alloc, bytes)?,
+        })
+    }
+
+    #[test]
+    fn a_file_is_read_whole_or_to_one_byte_more(rt: HostRuntime) -> Result<(), Fail> {
+        let alloc = rt.alloc();
+        let rows = vec![in alloc; file(alloc, "a", b"first")?, file(alloc, "a", b"second")?]?;
+        let mut files = MemoryFiles::new(rows, Vec::new(alloc));
+        let whole = read_all(alloc, &mut files, "a", 5)?;
+        assert_eq!(rt; whole.as_slice(), b"first".as_slice());
+        let front = read_all(alloc, &mut files, "a", 2)?;
+        assert_eq!(rt; front.as_slice(), b"fir".as_slice());
+        Ok(())
+    }
+
+    #[test]
+    fn a_call_fails_by_its_number(rt: HostRuntime) -> Result<(), Fail> {
+        let alloc = rt.alloc();
+        for call in 0..4 {
+            let rows = vec![in alloc; file(alloc, "a", b"first")?]?;
+            let mut files = MemoryFiles::new(rows, vec![in alloc; call]?);
+            let read = read_all(alloc, &mut files, "a", 9);
+            assert_eq!(rt; read.is_err(), call < 3, "call {call}");
+            assert_eq!(rt; files.faults == 1, call < 3, "call {call}");
+        }
+        Ok(())
+    }
+}

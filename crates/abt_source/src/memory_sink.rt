@@ -1,0 +1,134 @@
+//! A sink in memory, which fails when it is told to.
+
+ghost use Rattle.std.specs.Prelude.{◌≡◌, ◌<◌, ◌↔◌, length, take, Some, IsErr, IfOk, OnErr};
+ghost use Rattle.abt_source.specs.MemorySink.{FailsToWrite, count_taken, not_written, after_taking, after_failing};
+
+use crate::{Failed, Sink};
+use abt_machine::Want;
+use std::alloc::Global;
+use std::marker::Model;
+
+/// A sink in memory with room for so many bytes.
+#[derive(Drop)]
+pub struct MemorySink {
+    bytes: Vec<u8>,
+    room: usize,
+    most: usize,
+    failing: Vec<u64>,
+    calls: u64,
+    faults: u64,
+}
+
+impl Model for MemorySink {
+    ghost use Rattle.std.specs.Prelude.{◌<◌, ◌≤◌, vec_capacity};
+    ghost use Rattle.abt_source.specs.MemorySink.{SinkInMemory};
+
+    ghost Value = { SinkInMemory };
+
+    ghost view = { λ s. record {
+      bytes = s.bytes.items;
+      room = s.room;
+      most = s.most;
+      failing = s.failing.items;
+      calls = s.calls;
+      faults = s.faults;
+    } };
+
+    ghost invariant = { λ s. (0 < s.most) × (s.room ≤ vec_capacity s.bytes) };
+}
+
+impl MemorySink {
+    /// A write takes at most `most` bytes. The writes whose numbers, counted from 0, are in `failing` fail,
+    /// and so does one that finds the room full.
+    pub fn new(
+        alloc: Global,
+        room: usize,
+        most: usize,
+        failing: Vec<u64>,
+    ) -> Result<MemorySink, Want>
+        requires { 0 < most }
+        ensures { IfOk result (λ s. s ≡ not_written room most failing.items) }
+    {
+        let bytes = Vec::with_capacity(alloc, room)?;
+        Ok(MemorySink {
+            bytes,
+            room,
+            most,
+            failing,
+            calls: 0,
+            faults: 0,
+        })
+    }
+
+    /// The bytes that were taken.
+    pub fn bytes(&self) -> &[u8]
+        ensures { result.now ≡ self.now.bytes }
+    {
+        &self.bytes
+    }
+}
+
+impl Sink for MemorySink {
+    ghost taken = { λ s. Some s.bytes };
+
+    ghost faults = { λ s. s.faults };
+
+    fn write(&mut self, piece: &[u8]) -> Result<usize, Failed>
+        requires { 0 < length piece.now }
+        ensures fails { IsErr result ↔ FailsToWrite self.old }
+        ensures count { IfOk result (λ n. n ≡ count_taken self.old piece.now) }
+        ensures least { IfOk result (λ n. 0 < n) }
+        ensures ok { IfOk result (λ n. self.new ≡ after_taking self.old (take n piece.now)) }
+        ensures err { OnErr result (self.new ≡ after_failing self.old) }
+    {
+        let call = self.calls;
+        self.calls = call.saturating_add(1);
+        if self.failing.contains(&call) || self.room <= self.bytes.len() {
+            self.faults = self.faults.saturating_add(1);
+            return Err(Failed);
+        }
+        let n = piece.len().min(self.most).min(self.room - self.bytes.len());
+        match self.bytes.extend_from_slice(&piece[..n]) {
+            Ok(()) => Ok(n),
+            Err(_) => unreachable!(),
+        }
+    }
+}
+
+#[cfg(test)]
+mod tests {
+    use super::*;
+    use crate::write_whole;
+    use std::test::Fail;
+
+    #[test]
+    fn one_byte_a_write_takes_all(rt: HostRuntime) -> Result<(), Fail> {
+        let alloc = rt.alloc();
+        let mut sink = MemorySink::new(alloc, 5, 1, Vec::new(alloc))?;
+        write_whole(&mut sink, b"bytes")?;
+        assert_eq!(rt; sink.bytes(), b"bytes".as_slice());
+        assert_eq!(rt;
+            write_whole(&mut sink, b"!"),
+            Err(Failed),
+            "the room is full"
+        );
+        Ok(())
+    }
+
+    #[test]
+    fn a_failing_write_leaves_the_front(rt: HostRuntime) -> Result<(), Fail> {
+        let alloc = rt.alloc();
+        for call in 0..5u64 {
+            let mut sink = MemorySink::new(alloc, 9, 1, vec![in alloc; call]?)?;
+            assert_eq!(rt;
+                write_whole(&mut sink, b"bytes"),
+                Err(Failed),
+                "write {call}"
+            );
+            assert_eq!(rt; sink.bytes().len() as u64, call);
+            assert!(rt; b"bytes".starts_with(sink.bytes()));
+            assert_eq!(rt; sink.faults, 1);
+        }
+        Ok(())
+    }
+}

@@ -1,0 +1,96 @@
+//! Files that are read by name, and a whole file read.
+
+ghost use Rattle.std.specs.Prelude.{◌≡◌, ◌<◌, ◌≤◌, ◌+◌, ℕ, List, length, take, drop, Option, option_map};
+ghost use Rattle.std.specs.Prelude.{IfSome, IfOk, OnOk, OnErr, IsErrOf};
+ghost use Rattle.abt_source.specs.declared.reading.NotFetched.TheVariants.{Memory};
+ghost use Rattle.abt_source.specs.Source.{Rose, NothingLeft, ReadGives, LeavesAnEnd};
+
+use crate::Failed;
+use std::alloc::{AllocError, Global};
+use thiserror::Error;
+
+/// Why a file was not fetched.
+#[derive(Clone, Copy, Debug, PartialEq, Eq, Error)]
+pub enum NotFetched {
+    /// A call failed, and the count of faults rose.
+    #[error("the file cannot be read")]
+    Failed,
+    #[error("out of memory")]
+    Memory,
+}
+
+impl From<AllocError> for NotFetched {
+    ghost from_gives = { λ _ e. e ≡ Memory };
+
+    fn from(_: AllocError) -> Self {
+        NotFetched::Memory
+    }
+}
+
+/// Files that are read by name, each from its first byte on. No bytes are left before the first `begin`.
+pub trait Files {
+    /// The bytes of a name, where they are told. No call changes them.
+    ghost file: { Self → List ℕ → Option (List ℕ) };
+
+    /// The bytes that are left of the file that was begun last, where they are told.
+    ghost left: { Self → Option (List ℕ) };
+
+    /// How often a call has failed. It never falls.
+    ghost faults: { Self → ℕ };
+
+    /// Starts at the first byte of a file. The name `-` is that of the standard input, and a name with
+    /// no file is a fault.
+    fn begin(&mut self, name: &str) -> Result<(), NotFetched>
+        ensures file { (n : List ℕ) → file self.new n ≡ file self.old n }
+        ensures left { OnOk result (left self.new ≡ file self.old name.now) }
+        ensures nothing { OnErr result (NothingLeft (left self.new)) }
+        ensures later { faults self.old ≤ faults self.new }
+        ensures cause { IsErrOf result NotFetched.Failed → Rose (faults self.old) (faults self.new) };
+
+    /// Gives the next bytes, and none only at the end.
+    fn read(&mut self, into: &mut [u8]) -> Result<usize, Failed>
+        requires { 0 < length into.old }
+        ensures file { (n : List ℕ) → file self.new n ≡ file self.old n }
+        ensures bound { IfOk result (λ n. n ≤ length into.new) }
+        ensures gives { ReadGives (left self.old) (left self.new) result into.new }
+        ensures later { faults self.old ≤ faults self.new }
+        ensures cause { OnErr result (Rose (faults self.old) (faults self.new)) };
+}
+
+// How many bytes one read asks for at most.
+const PIECE: usize = 8192;
+
+/// The whole file, or its first `most + 1` bytes where it is longer.
+pub fn read_all<F: Files>(
+    alloc: Global,
+    files: &mut F,
+    name: &str,
+    most: usize,
+) -> Result<Vec<u8>, NotFetched>
+    requires { most < usize.MAX }
+    ensures bytes { IfOk result (λ v. IfSome (F.file files.old name.now)
+        (λ xs. v.items ≡ take (most + 1) xs)) }
+    ensures bound { IfOk result (λ v. length v.items ≤ most + 1) }
+    ensures left { OnOk result (F.left files.new
+        ≡ option_map (drop (most + 1)) (F.file files.old name.now)) }
+
+    // After a failure, or where memory ran out, an end of the file is left.
+    ensures stands { OnErr result (LeavesAnEnd (F.file files.old name.now) (F.left files.new)) }
+    ensures cause { IsErrOf result NotFetched.Failed → Rose (F.faults files.old) (F.faults files.new) }
+
+    ensures file { (n : List ℕ) → F.file files.new n ≡ F.file files.old n }
+    ensures later { F.faults files.old ≤ F.faults files.new }
+{
+    files.begin(name)?;
+    let mut bytes = Vec::new(alloc);
+    let mut piece = [0u8; PIECE];
+    while bytes.len() <= most {
+        let room = PIECE.min(most - bytes.len() + 1);
+        match files.read(&mut piece[..room]) {
+            Ok(0) => return Ok(bytes),
+            Ok(n) => bytes.extend_from_slice(&piece[..n])?,
+            Err(Failed) => return Err(NotFetched::Failed),
+        }
+    }
+    Ok(bytes)
+}

@@ -1,0 +1,147 @@
+//! The files and the standard input of the process. What they hold is not told; each failed call is
+//! counted.
+
+ghost use Rattle.std.specs.Prelude.{◌≡◌, ◌<◌, ◌≤◌, length, None, IfOk, OnOk, OnErr, IsErrOf};
+ghost use Rattle.abt_source.specs.Source.{next_count};
+
+use crate::{Failed, Files, NotFetched};
+use std::io::{ErrorKind, Read};
+use std::marker::Model;
+use std::rt::Files as HostFiles;
+use std::{fs, io};
+
+/// The files of the process, and its standard input by the name `-`. Contracts see the count of their
+/// faults. A directory is begun, and each read of it fails.
+#[derive(Drop)]
+pub struct RealFiles<'a, R: HostFiles + Input> {
+    rt: &'a R,
+    begun: Begun<R::File>,
+    faults: u64,
+}
+
+// The file that was begun last.
+#[derive(Drop)]
+enum Begun<F> {
+    Nothing,
+    StandardInput,
+    File(F),
+}
+
+impl<'a, R: HostFiles + Input> Model for RealFiles<'a, R> {
+    ghost use Rattle.std.specs.Prelude.{ℕ};
+
+    ghost Value = { ℕ };
+
+    ghost view = { λ files. files.faults };
+}
+
+impl<'a, R: HostFiles + Input> RealFiles<'a, R> {
+    /// No file is begun.
+    pub fn new(rt: &'a R) -> Self
+        ensures { result ≡ 0 }
+    {
+        RealFiles {
+            rt,
+            begun: Begun::Nothing,
+            faults: 0,
+        }
+    }
+
+    // What the host opens by the name.
+    fn open(&self, name: &str) -> io::Result<Begun<R::File>> {
+        if name == "-" {
+            return Ok(Begun::StandardInput);
+        }
+        Ok(Begun::File(fs::open(self.rt, name)?))
+    }
+
+    // How many bytes the host gave.
+    fn fetch(&mut self, into: &mut [u8]) -> io::Result<usize>
+        ensures bound { IfOk result (λ n. n ≤ length into.new) }
+        ensures same { self.new ≡ self.old }
+    {
+        match &mut self.begun {
+            Begun::Nothing => Ok(0),
+            Begun::StandardInput => self.rt.reader().read(into),
+            Begun::File(file) => file.read(into),
+        }
+    }
+}
+
+impl<R: HostFiles + Input> Files for RealFiles<'_, R> {
+    ghost file = { λ _ _. None };
+
+    ghost left = { λ _. None };
+
+    ghost faults = { λ count. count };
+
+    fn begin(&mut self, name: &str) -> Result<(), NotFetched>
+        ensures ok { OnOk result (self.new ≡ self.old) }
+        ensures failed { IsErrOf result NotFetched.Failed → self.new ≡ next_count self.old }
+        ensures memory { IsErrOf result NotFetched.Memory → self.new ≡ self.old }
+    {
+        self.begun = Begun::Nothing;
+        match self.open(name) {
+            Ok(begun) => {
+                self.begun = begun;
+                Ok(())
+            }
+            Err(e) if e.kind() == ErrorKind::OutOfMemory => Err(NotFetched::Memory),
+            Err(_) => {
+                self.faults = self.faults.saturating_add(1);
+                Err(NotFetched::Failed)
+            }
+        }
+    }
+
+    fn read(&mut self, into: &mut [u8]) -> Result<usize, Failed>
+        requires { 0 < length into.old }
+        ensures bound { IfOk result (λ n. n ≤ length into.new) }
+        ensures ok { OnOk result (self.new ≡ self.old) }
+        ensures failed { OnErr result (self.new ≡ next_count self.old) }
+    {
+        match self.fetch(into) {
+            Ok(n) => Ok(n),
+            Err(_) => {
+                self.faults = self.faults.saturating_add(1);
+                Err(Failed)
+            }
+        }
+    }
+}
+
+#[cfg(test)]
+mod tests {
+    use super::*;
+    use crate::read_all;
+    use std::test::Fail;
+
+    #[test]
+    fn a_written_file_is_read_whole(rt: HostRuntime) -> Result<(), Fail> {
+        let alloc = rt.alloc();
+        // More than one read asks for.
+        let written = vec![in alloc; b'x'; 20_000]?;
+        fs::write(&rt, "real-files-whole", written.as_slice())?;
+        let mut files = RealFiles::new(&rt);
+        let read = read_all(alloc, &mut files, "real-files-whole", 30_000)?;
+        let front = read_all(alloc, &mut files, "real-files-whole", 9_999)?;
+        fs::remove_file(&rt, "real-files-whole")?;
+        assert!(rt; read.as_slice() == written.as_slice());
+        assert_eq!(rt; front.len(), 10_000);
+        assert_eq!(rt; files.faults, 0);
+        Ok(())
+    }
+
+    #[test]
+    fn an_absent_name_and_a_folder_raise_the_count(rt: HostRuntime) -> Result<(), Fail> {
+        let mut files = RealFiles::new(&rt);
+        let absent = read_all(rt.alloc(), &mut files, "real-files-absent", 9);
+        assert!(rt; matches!(absent, Err(NotFetched::Failed)));
+        assert_eq!(rt; files.faults, 1);
+        assert_eq!(rt; files.read(&mut [0]), Ok(0), "nothing is begun");
+        let folder = read_all(rt.alloc(), &mut files, ".", 9);
+        assert!(rt; matches!(folder, Err(NotFetched::Failed)));
+        assert_eq!(rt; files.faults, 2);
+        Ok(())
+    }
+}
