@@ -1,0 +1,53 @@
+-- A built workload is the one of no unit or of one unit, and its operations are local.
+use Rattle.std.proofs.Common.{◌≡◌, ◌<◌, ◌&&◌, ℕ, zero, suc, Bool, true, false, List, [], ◌∷◌, length, Option, Some, None, refl, ap, sym, ◌∙◌, subst, arith}
+use Rattle.std.specs.Prelude.{slice_get, IsTrue}
+use Rattle.std.specs.List.{list_all}
+use Rattle.abt_machine.specs.declared.numbers.SchedNo.{SchedNo}
+use Rattle.abt_machine.specs.declared.operations.Body.{Body}
+use Rattle.abt_machine.specs.declared.operations.Body.TheVariants as body
+use Rattle.abt_machine.specs.declared.operations.Op.{Op}
+use Rattle.abt_machine.specs.declared.operations.Op.TheVariants as op
+use Rattle.abt_machine.specs.declared.operations.Thing.{Thing}
+use Rattle.abt_machine.specs.declared.workload.Parts.{Parts}
+use Rattle.abt_machine.specs.declared.workload.PoolPart.{PoolPart}
+use Rattle.abt_machine.specs.declared.workload.SchedPart.{SchedPart}
+use Rattle.abt_machine.specs.declared.workload.UnitPart.{UnitPart}
+use Rattle.abt_machine.specs.Numbers.{pool_no, sched_no}
+use Rattle.abt_machine.specs.Workloads.{body_at, body_from, ops_of}
+use Rattle.abt_machine.specs.State.{Carried}
+use Rattle.abt_machine.specs.Words.{Text}
+use Rattle.abt_unit.specs.Local.{after_local}
+use Rattle.abt_run.specs.Built.{AreBuiltUnits, IsBuilt, IsBuiltBody, built_pool, built_sched, is_built_op}
+use Rattle.abt_run.specs.BuiltParts.{built_parts}
+use Rattle.abt_run.proofs.BuiltCompleteness.{parts-are}
+use Rattle.abt_run.proofs.Single.{single}
+
+body-is : (b : Body) → IsBuiltBody b → b ≡ body.Ult (ops_of b)
+body-is (body.Ult ops) is = refl
+body-is (body.Task ops) is = absurd is
+body-is (body.Sched g) is = absurd is
+
+units-is : (us : List UnitPart) → AreBuiltUnits us → 0 < length us → us ≡ record { body = body.Ult (ops_of (body_from (slice_get us 0))); start = Some (pool_no 0) } ∷ []
+units-is [] is some = absurd (omega arith)
+units-is (part ∷ []) is some =
+    ap (λ b. record { body = b; start = part.start } ∷ []) (body-is part.body is.1)
+    ∙ ap (λ start. record { body = body.Ult (ops_of part.body); start = start } ∷ []) is.0
+units-is (part ∷ other ∷ parts) is some = absurd is
+
+-- one unit, whose program is given
+pub single-is : (W : Parts) → IsBuilt W → 0 < length W.units → W ≡ single (ops_of (body_at W 0)) W.words
+single-is W built some = parts-are W built ∙ ap (λ us. built_parts us W.words) (units-is W.units built.units some)
+
+none-is : (us : List UnitPart) → length us ≡ 0 → us ≡ []
+none-is [] e = refl
+none-is (u ∷ us) e = absurd (omega arith)
+
+pub empty-is : (W : Parts) → IsBuilt W → length W.units ≡ 0 → W ≡ built_parts [] W.words
+empty-is W built none = parts-are W built ∙ ap (λ us. built_parts us W.words) (none-is W.units none)
+
+-- Operations.
+
+pub all-ops : (b : Body) → IsBuiltBody b → list_all is_built_op (ops_of b) ≡ true
+all-ops (body.Ult ops) is = is
+all-ops (body.Task ops) is = absurd is
+all-ops (body.Sched g) is = absurd is

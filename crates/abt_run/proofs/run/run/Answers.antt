@@ -1,0 +1,14 @@
+use Rattle.std.proofs.Common.{◌≡◌, ◌++◌, ℕ, List, [], ◌∷◌, length, None, refl, sym, ◌∙◌, ap, subst, arith}
+use Rattle.abt_machine.specs.declared.events.Event.{Event}
+use Rattle.abt_machine.specs.declared.events.What.TheVariants as what
+use Rattle.abt_machine.specs.Numbers.{pool_no}
+use Rattle.abt_run.specs.Going.{HasRun, next_event}
+use Rattle.abt_run.proofs.Ending.{first_miss}
+use Rattle.abt_run.proofs.Whole.{misses-whole}
+use Rattle.abt_run.proofs.run.run.Goals as goal
+
+pub returns-clause-run : goal.returns-clause-run
+returns-clause-run c =
+    let none : length c.args.w.now.units ≡ 0 = omega arith in
+    let journal : c.record.new.journal.items ≡ first_miss = c.in_ok-record.ensures ∙ ap (λ J. J ++ next_event J (what.Miss (pool_no 0)) ∷ []) c.new-journal.ensures.items in
+    subst (λ J. HasRun c.args.w.now J None) (sym journal) (misses-whole c.args.w.now c.requires none)

@@ -1,0 +1,52 @@
+-- The workloads that the program runs: one stream over one FIFO pool, and at most one user-level thread of simple operations.
+use Rattle.std.specs.Prelude.{◌≡◌, Bool, true, false, List, [], ◌∷◌, Some, IsTrue}
+use Rattle.std.specs.List.{list_all}
+use Rattle.abt_machine.specs.declared.operations.Access.TheVariants as access
+use Rattle.abt_machine.specs.declared.operations.Body.{Body}
+use Rattle.abt_machine.specs.declared.operations.Body.TheVariants as body
+use Rattle.abt_machine.specs.declared.operations.Kind.TheVariants as kind
+use Rattle.abt_machine.specs.declared.operations.Op.{Op}
+use Rattle.abt_machine.specs.declared.operations.Op.TheVariants as op
+use Rattle.abt_machine.specs.declared.operations.Rule.TheVariants as rule
+use Rattle.abt_machine.specs.declared.workload.Parts.{Parts}
+use Rattle.abt_machine.specs.declared.workload.PoolPart.{PoolPart}
+use Rattle.abt_machine.specs.declared.workload.SchedPart.{SchedPart}
+use Rattle.abt_machine.specs.declared.workload.UnitPart.{UnitPart}
+use Rattle.abt_machine.specs.Numbers.{pool_no, sched_no}
+use Rattle.abt_machine.specs.Valid.{IsValid}
+
+-- the operations that are run: they touch their unit alone
+abbrev pub is_built_op : Op → Bool
+is_built_op (op.Set n) = true
+is_built_op (op.Add n) = true
+is_built_op (op.Say w) = true
+is_built_op op.Print = true
+is_built_op _ = false
+
+abbrev pub IsBuiltBody : Body → Type 0
+IsBuiltBody (body.Ult ops) = IsTrue (list_all is_built_op ops)
+IsBuiltBody (body.Task ops) = ⊥
+IsBuiltBody (body.Sched g) = ⊥
+
+-- no unit, or one that starts in pool 0
+abbrev pub AreBuiltUnits : List UnitPart → Type 0
+AreBuiltUnits [] = Unit {0}
+AreBuiltUnits (part ∷ []) = (part.start ≡ Some (pool_no 0)) × IsBuiltBody part.body
+AreBuiltUnits (part ∷ other ∷ parts) = ⊥
+
+abbrev pub built_pool : PoolPart
+built_pool = record { kind = kind.Fifo; access = access.Mpmc }
+
+abbrev pub built_sched : SchedPart
+built_sched = record { rule = rule.Prio; pools = pool_no 0 ∷ [] }
+
+-- a valid workload that the program runs
+pub record IsBuilt (W : Parts) : Type 0 where
+  pub valid : IsValid W
+  pub streams : W.streams ≡ 1
+  pub keys : W.keys ≡ 0
+  pub pools : W.pools ≡ built_pool ∷ []
+  pub scheds : W.scheds ≡ built_sched ∷ []
+  pub mains : W.mains ≡ sched_no 0 ∷ []
+  pub objects : W.objects ≡ []
+  pub units : AreBuiltUnits W.units
