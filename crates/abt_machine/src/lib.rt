@@ -6,6 +6,8 @@ mod items;
 mod numbers;
 mod operations;
 mod program;
+#[cfg(test)]
+mod tests;
 mod workload;
 
 pub use events::{

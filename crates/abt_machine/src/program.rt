@@ -1,8 +1,5 @@
 //! What the program is asked and what it answers.
 
-ghost use Rattle.std.specs.Prelude.{◌≡◌};
-ghost use Rattle.abt_machine.specs.declared.program.Want.{Want};
-
 use crate::events::Journal;
 use crate::items::Text;
 use std::alloc::{AllocError, AllocFailed};

@@ -92,7 +92,8 @@ impl Workload {
         Workload { parts }
     }
 
-    /// The number of streams.
+    /// The number of streams. Here a caller learns too that the parts are valid, and so that what they
+    /// name is declared.
     pub fn streams(&self) -> u32
         ensures count { result ≡ self.now.streams }
         ensures valid { IsValid self.now }
