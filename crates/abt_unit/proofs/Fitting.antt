@@ -1,6 +1,5 @@
 -- What keeps a unit fit for its workload.
-use Rattle.std.proofs.Common.{◌≡◌, ◌<◌, ◌≤◌, ◌+◌, ◌%◌, ◌^◌, ℕ, [], ◌∷◌, ◌++◌, Option, Some, None, length, refl, subst, slice_index, slice_set, arith}
-use Rattle.std.specs.List.{All}
+use Rattle.std.proofs.Common.{◌≡◌, ◌<◌, ◌≤◌, ◌+◌, ◌%◌, ◌^◌, ℕ, [], ◌∷◌, Option, Some, None, length, refl, subst, slice_index, slice_set, arith}
 use Rattle.std.proofs.lemmas.List.{length-replicate, length-set}
 use Rattle.std.proofs.lemmas.List.Elements.{All-append, All-cons, All-nil}
 use Rattle.std.proofs.lemmas.Option.{slice_get_within}
@@ -14,7 +13,6 @@ use Rattle.abt_machine.specs.declared.workload.Parts.{Parts}
 use Rattle.abt_machine.specs.Acts.{carrying, moved, received, reborn}
 use Rattle.abt_machine.specs.Carrying.{printed, with_home}
 use Rattle.abt_machine.specs.Operations.{IsDeclared}
-use Rattle.abt_machine.specs.State.{Carried}
 use Rattle.abt_machine.specs.Valid.{IsValid}
 use Rattle.abt_machine.specs.Values.{Owned}
 use Rattle.abt_machine.specs.Workloads.{body_at, op_at, ops_of}

@@ -2,6 +2,8 @@
 #![tactic(auto)]
 
 mod laws;
+#[cfg(test)]
+mod tests;
 mod unit;
 
 pub use laws::local_operations_are_their_rows;
