@@ -4,8 +4,9 @@ use Rattle.abt_machine.specs.declared.events.Place.{Place}
 use Rattle.abt_machine.specs.Maps.{put_at, put_all}
 use Rattle.abt_machine.specs.Lines.{Line, InTray, Waiting, ticket_in}
 use Rattle.abt_machine.specs.Changes.{tray_moves, waiting_moves}
-use Rattle.abt_laws.proofs.Queues.{none≢some, some-injective}
-use Rattle.abt_laws.proofs.ChangedMaps.{EachOf, put_at-cases}
+use Rattle.abt_laws.proofs.Options.{none≢some, some-injective}
+use Rattle.abt_laws.proofs.Lists.{EachOf}
+use Rattle.abt_laws.proofs.Maps.{put_at-cases}
 use Rattle.abt_laws.proofs.Places.{place_in, line_of, line_of-ticket, line-unique, same-self}
 
 -- no two units share a ticket in a line

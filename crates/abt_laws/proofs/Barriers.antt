@@ -14,8 +14,9 @@ use Rattle.abt_machine.specs.State.{State}
 use Rattle.abt_machine.specs.Lines.{Waiting, ticket_in, standing}
 use Rattle.abt_machine.specs.Changes.{Change, changed}
 use Rattle.abt_machine.specs.Sound.{Sound}
-use Rattle.abt_laws.proofs.Queues.{none≢some}
-use Rattle.abt_laws.proofs.ChangedMaps.{EachOf, key-cases, put_all-other, put_all-value}
+use Rattle.abt_laws.proofs.Options.{none≢some}
+use Rattle.abt_laws.proofs.Lists.{EachOf}
+use Rattle.abt_laws.proofs.Maps.{KeyOf-cases, put_all-other, put_all-value}
 use Rattle.abt_laws.proofs.Places.{place_in, ticket-place, line-unique, same-self}
 use Rattle.abt_laws.proofs.KeepsSound.{places, BarriersHold}
 
@@ -76,7 +77,7 @@ module _ (W : Parts) (Z : List OrderShape) (S : State) (sound : Sound W Z S) whe
   pub barriers-stay : (c : Change) → EachOf (λ (m : ℕ × Place). IsOffBarriers W m.1) c.moves → BarriersHold W (changed S c)
   barriers-stay c off x n is =
       let fewer : length (standing W (changed S c) (Waiting x)) ≤ length (standing W S (Waiting x)) =
-      queue-fewer (λ u. ticket_in (Waiting x) (places S c u)) (λ u. ticket_in (Waiting x) (S.place u)) (length W.units) (λ v l t e. elim (key-cases v c.moves) [
+      queue-fewer (λ u. ticket_in (Waiting x) (places S c u)) (λ u. ticket_in (Waiting x) (S.place u)) (length W.units) (λ v l t e. elim (KeyOf-cases v c.moves) [
         | inl moved ↦ absurd (subst (IsOffBarriers W) (ticket-place (Waiting x) (places S c v) t e) (put_all-value (λ m pl. IsOffBarriers W pl) S.place c.moves v off moved) n is)
         | inr out ↦ (t, ap (ticket_in (Waiting x)) (sym (put_all-other S.place c.moves v out)) ∙ e)
       ]) in

@@ -14,7 +14,8 @@ use Rattle.abt_machine.specs.State.{State}
 use Rattle.abt_machine.specs.Changes.{Change, changed}
 use Rattle.abt_machine.specs.Events.{change, after, May, After}
 use Rattle.abt_laws.specs.Footprint.{holder, Apart}
-use Rattle.abt_laws.proofs.Maps.{EachOf, EachOf-key, KeyOf, put_all-commute}
+use Rattle.abt_laws.proofs.Lists.{EachOf}
+use Rattle.abt_laws.proofs.Maps.{EachOf-key, KeyOf, put_all-commute}
 use Rattle.abt_laws.proofs.Keeping.{IsKept}
 use Rattle.abt_laws.proofs.Local.{IsLocal, moved-kept}
 use Rattle.abt_laws.proofs.LocalEvents.{event-local}

@@ -17,8 +17,8 @@ use Rattle.abt_machine.specs.Operations.{IsMutex}
 use Rattle.abt_machine.specs.Changes.{Change, changed, to_tray, waiting_moves}
 use Rattle.abt_machine.specs.Steps.{owned, releases, queues, passes}
 use Rattle.abt_machine.specs.Sound.{HoldsUp}
-use Rattle.abt_laws.proofs.Queues.{put_at-same}
-use Rattle.abt_laws.proofs.ChangedMaps.{EachOf, EachOf-append}
+use Rattle.abt_laws.proofs.Maps.{put_at-same}
+use Rattle.abt_laws.proofs.Lists.{EachOf, EachOf-append}
 use Rattle.abt_laws.proofs.Places.{line_of, same-self}
 use Rattle.abt_laws.proofs.Arrivals.{IsEmpty, IsBelow-move, IsBelow-moves, AllFree-append, free-above, tray-free, waiting-free}
 use Rattle.abt_laws.proofs.Standing.{none-first}

@@ -13,10 +13,10 @@ use Rattle.abt_machine.specs.Next.{EndDue}
 use Rattle.abt_machine.specs.Changes.{Change}
 use Rattle.abt_machine.specs.Events.{May, change, without_requests}
 use Rattle.abt_machine.specs.Sound.{Sound, IsPlaced, AsksNothing}
-use Rattle.abt_laws.proofs.Queues.{put_at-same}
+use Rattle.abt_laws.proofs.Maps.{put_at-same}
 use Rattle.abt_laws.proofs.Places.{line_of}
 use Rattle.abt_laws.proofs.Arrivals.{IsBelow-empty, IsBelow-move, free-nowhere, tray-free}
-use Rattle.abt_laws.proofs.Standing.{StandsIn, first-is, among-standing}
+use Rattle.abt_laws.proofs.Standing.{StandsIn, first-stands, among-standing}
 use Rattle.abt_laws.proofs.DueFacts.{due-no_tray}
 use Rattle.abt_laws.proofs.KeepsSound.{Keeps}
 use Rattle.abt_laws.proofs.FramesStay.{frames-stay}
@@ -30,7 +30,7 @@ ended-asks S u = subst AsksNothing (sym (put_at-same S.desk u (without_requests 
 pub keeps-end : (W : Parts) (Z : List OrderShape) (S : State) (s u : ℕ) (e : Cause) → Sound W Z S → May W Z S s (what.End (unit_no u) e) → Keeps W Z S (change W S s (what.End (unit_no u) e))
 keeps-end W Z S s u e sound may =
     let c : Change = change W S s (what.End (unit_no u) e) in
-    let is : StandsIn W S (InHand s) u = first-is W S (InHand s) u may.1 in
+    let is : StandsIn W S (InHand s) u = first-stands W S (InHand s) u may.1 in
     let placed : IsPlaced W S u (place.Hand (stream_no s)) = subst (IsPlaced W S u) is.at (sound.placed u) in
     let us : List ℕ = standing W S (Joining u) in
     let i : ℕ = tray_end W S s in

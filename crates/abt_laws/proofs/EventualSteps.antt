@@ -11,7 +11,7 @@ use Rattle.abt_machine.specs.Operations.{IsEventual}
 use Rattle.abt_machine.specs.Changes.{goes_on}
 use Rattle.abt_machine.specs.Steps.{wakes, awaits, gives_all, receives}
 use Rattle.abt_machine.specs.Sound.{HoldsUp}
-use Rattle.abt_laws.proofs.ChangedMaps.{EachOf}
+use Rattle.abt_laws.proofs.Lists.{EachOf}
 use Rattle.abt_laws.proofs.Places.{line_of}
 use Rattle.abt_laws.proofs.Arrivals.{IsEmpty}
 use Rattle.abt_laws.proofs.Standing.{among-standing}

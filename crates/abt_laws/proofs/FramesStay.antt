@@ -14,7 +14,8 @@ use Rattle.abt_machine.specs.Queues.{last}
 use Rattle.abt_machine.specs.State.{State, Stream, Frame}
 use Rattle.abt_machine.specs.Changes.{Change, changed}
 use Rattle.abt_machine.specs.Sound.{Sound, IsPlaced, IsAtRest, IsUnderWay, AllUnderWay, AllAtRest, RunsSched, frames_of}
-use Rattle.abt_laws.proofs.ChangedMaps.{EachOf, EachOf-key, put_all-other, put_all-kept}
+use Rattle.abt_laws.proofs.Lists.{EachOf}
+use Rattle.abt_laws.proofs.Maps.{EachOf-key, put_all-other, put_all-kept}
 use Rattle.abt_laws.proofs.KeepsSound.{places, OnStream, FramesKeep}
 
 -- the unit is in no frame

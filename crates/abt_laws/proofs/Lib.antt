@@ -1,11 +1,10 @@
 pub mod Alike
+pub mod AlikeCodes
 pub mod AlikeEvents
 pub mod AlikeRows
 pub mod Arrivals
 pub mod BarrierSteps
 pub mod Barriers
-pub mod ChangedMaps
-pub mod CodeFacts
 pub mod Codes
 pub mod Commute
 pub mod ConditionSteps
@@ -26,14 +25,13 @@ pub mod LifeEnds
 pub mod LifeEvents
 pub mod LifeJournals
 pub mod LifeLists
-pub mod LifeMaps
 pub mod LifeMoves
-pub mod LifePlaces
 pub mod LifeRows
 pub mod LifeRuns
 pub mod LifeStepped
 pub mod LifeSteps
 pub mod LifeTies
+pub mod Lists
 pub mod Local
 pub mod LocalEvents
 pub mod LocalRows
@@ -43,6 +41,7 @@ pub mod Misses
 pub mod MutexSteps
 pub mod Objects
 pub mod OpenFrames
+pub mod Options
 pub mod OrderPools
 pub mod Orders
 pub mod Places
@@ -50,7 +49,6 @@ pub mod PutSound
 pub mod Queues
 pub mod Quiet
 pub mod QuietRuns
-pub mod Removal
 pub mod RoundSound
 pub mod RunParts
 pub mod StackSound

@@ -14,8 +14,8 @@ use Rattle.abt_machine.specs.Maps.{put_at}
 use Rattle.abt_machine.specs.Workloads.{body_at}
 use Rattle.abt_machine.specs.State.{State, Stream}
 use Rattle.abt_machine.specs.Lives.{life_after, unit_of, is_of, positions_in, cause_in, enters_in, leaves_in, count_up}
-use Rattle.abt_laws.proofs.Queues.{put_at-other, none≢some}
-use Rattle.abt_laws.proofs.LifeMaps.{put_all-kept}
+use Rattle.abt_laws.proofs.Maps.{put_at-other, put_all-kept}
+use Rattle.abt_laws.proofs.Options.{none≢some}
 use Rattle.abt_laws.proofs.LifeTies.{IsOutside, IsBusy, IsBusy-outside, ends-busy, passage_at, passage-outside, Drifts, Acts, Fate, Drifting, Acting}
 use Rattle.abt_laws.proofs.LifeSteps.{not-of}
 

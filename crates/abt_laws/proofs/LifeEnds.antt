@@ -19,16 +19,16 @@ use Rattle.abt_machine.specs.Next.{EndDue}
 use Rattle.abt_machine.specs.Changes.{to_tray, tray_moves}
 use Rattle.abt_machine.specs.Events.{May, after, without_requests}
 use Rattle.abt_machine.specs.Lives.{count_up}
-use Rattle.abt_laws.proofs.Queues.{put_at-same, put_at-other, none≢some}
+use Rattle.abt_laws.proofs.Standing.{hand-place, hand-none}
+use Rattle.abt_laws.proofs.Options.{none≢some}
+use Rattle.abt_laws.proofs.Lists.{EachOf}
 use Rattle.abt_laws.proofs.Dues.{enters-plain}
-use Rattle.abt_laws.proofs.Maps.{EachOf}
-use Rattle.abt_laws.proofs.LifeMaps.{put_all-kept}
+use Rattle.abt_laws.proofs.Maps.{put_at-same, put_at-other, put_all-kept}
 use Rattle.abt_laws.proofs.LifeLists.{MayEnd, passage_of_cause}
 use Rattle.abt_laws.proofs.LifeTies.{IsOutside, IsBusy, ends_at, passage_of_mark, passage_at, Acts, Fate}
 use Rattle.abt_laws.proofs.LifeSteps.{LeavesOthers, moved-other}
-use Rattle.abt_laws.proofs.LifeRows.{AllOutside, line-outside, joining-outside}
+use Rattle.abt_laws.proofs.LifeRows.{AllOutside, line-outside}
 use Rattle.abt_laws.proofs.LifeDues.{due-of-hand, EndFits, end-due, leave-due}
-use Rattle.abt_laws.proofs.LifePlaces.{in-hand, empty-hand}
 use Rattle.abt_laws.proofs.LifeActs.{event-fate, mark-stays, mark-elsewhere}
 
 module _ (W : Parts) (Z : List OrderShape) (S : State) (s u : ℕ) where
@@ -36,13 +36,13 @@ module _ (W : Parts) (Z : List OrderShape) (S : State) (s u : ℕ) where
 
   module _ (v : UnitNo) (c : Cause) (may : May W Z S s (what.End v c)) where
     ends-from : S.place v.0 ≡ place.Hand (stream_no s)
-    ends-from = in-hand W S s v.0 may.1
+    ends-from = hand-place W S s v.0 may.1
 
     abbrev ended : State
     ended = after W S s (what.End v c)
 
     joiners-outside : AllOutside S (standing W S (Joining v.0))
-    joiners-outside = line-outside W S (Joining v.0) (joining-outside v.0)
+    joiners-outside = line-outside W S (Joining v.0) (λ t. tt)
 
     -- the joiners come from outside to the tray, and unit v is none of them
     joiner-moves : (P : ℕ × Place → Type 0) → ((n i : ℕ) → IsOutside (S.place n) → P (n, place.Tray (stream_no s) i)) → (us : List ℕ) (i : ℕ) → AllOutside S us → EachOf P (tray_moves s i us)
@@ -93,7 +93,7 @@ module _ (W : Parts) (Z : List OrderShape) (S : State) (s u : ℕ) where
   enter-fate v may =
       let T : State = after W S s (what.Enter v) in
       let to : Place = place.Frame (stream_no s) (length (S.stream s).below) in
-      let from : S.place v.0 ≡ place.Hand (stream_no s) = in-hand W S s v.0 may.1 in
+      let from : S.place v.0 ≡ place.Hand (stream_no s) = hand-place W S s v.0 may.1 in
       let there : T.place v.0 ≡ to = put_at-same S.place v.0 to in
       let fresh : passage_at S.stream (S.place v.0) ≡ (0, 0) = ap (passage_at S.stream) from ∙ ap passage_of_mark (enters-plain W S s may.0) in
       event-fate W (what.Enter v) S T v u refl (λ n. refl) (record {
@@ -126,4 +126,4 @@ module _ (W : Parts) (Z : List OrderShape) (S : State) (s u : ℕ) where
         passes = λ h. ap (passage_at T.stream) there ∙ (ap passage_of_mark mark ∙ ap (λ (p : ℕ × ℕ). (p.0 + 0, p.1 + 1)) (sym (ap (passage_at S.stream) may.1)));
         cause = λ c h. absurd (none≢some h);
       })
-      (λ other. record { life = refl; position = refl; moves = inl (put_at-other S.place v.0 to u other); marks = mark-elsewhere S s u (left (S.stream s)) (empty-hand W S s u declared says.0) })
+      (λ other. record { life = refl; position = refl; moves = inl (put_at-other S.place v.0 to u other); marks = mark-elsewhere S s u (left (S.stream s)) (hand-none W S s u declared says.0) })

@@ -7,20 +7,19 @@ use Rattle.abt_machine.specs.declared.numbers.PoolNo.{PoolNo}
 use Rattle.abt_machine.specs.declared.numbers.UnitNo.{UnitNo}
 use Rattle.abt_machine.specs.declared.operations.OrderShape.{OrderShape}
 use Rattle.abt_machine.specs.declared.workload.Parts.{Parts}
-use Rattle.abt_machine.specs.Numbers.{stream_no}
+use Rattle.abt_machine.specs.Numbers.{stream_no, pool_no}
 use Rattle.abt_machine.specs.Maps.{put_at}
 use Rattle.abt_machine.specs.Workloads.{body_at}
 use Rattle.abt_machine.specs.Carrying.{with_home}
 use Rattle.abt_machine.specs.State.{State, Stream, Carried, Desk, Mark, Plain, Asked}
-use Rattle.abt_machine.specs.Lines.{tray_end}
+use Rattle.abt_machine.specs.Lines.{InPool, InTray, tray_end}
 use Rattle.abt_machine.specs.Frames.{marked, round_taken, round_missed}
 use Rattle.abt_machine.specs.Changes.{no_change, changed}
 use Rattle.abt_machine.specs.Events.{May, after, look_row, without_requests}
 use Rattle.abt_machine.specs.Sound.{Sound}
-use Rattle.abt_laws.proofs.Queues.{put_at-same, put_at-other}
-use Rattle.abt_laws.proofs.LifeMaps.{put_all-kept}
+use Rattle.abt_laws.proofs.Standing.{next-place, StandsIn, first-stands, front-stands}
+use Rattle.abt_laws.proofs.Maps.{put_at-same, put_at-other, put_all-kept}
 use Rattle.abt_laws.proofs.LifeTies.{IsOutside, IsBusy, passage_of_mark, passage_at, Fate, Drifting}
-use Rattle.abt_laws.proofs.LifePlaces.{in-next, in-tray, front-outside}
 use Rattle.abt_laws.proofs.LifeActs.{event-fate, acts-quietly, mark-stays, mark-elsewhere}
 
 module _ (W : Parts) (Z : List OrderShape) (S : State) (s u : ℕ) where
@@ -29,25 +28,29 @@ module _ (W : Parts) (Z : List OrderShape) (S : State) (s u : ℕ) where
 
   pub take-fate : (p : PoolNo) (v : UnitNo) → May W Z S s (what.Take p v) → Fate W u (what.Take p v) S (after W S s (what.Take p v))
   take-fate p v may =
+      let is : StandsIn W S (InPool p.0) v.0 = front-stands W S s p.0 v.0 may.1 in
+      let from : S.place v.0 ≡ place.Pool (pool_no p.0) is.ticket = is.at in
       let there : put_at S.place v.0 (place.Next (stream_no s)) v.0 ≡ place.Next (stream_no s) = put_at-same S.place v.0 (place.Next (stream_no s)) in
       event-fate W (what.Take p v) S (after W S s (what.Take p v)) v u refl (λ n. refl)
       (acts-quietly (body_at W v.0) v.0 (what.Take p v) S (after W S s (what.Take p v)) (record { positions = refl; cause = refl; enters = refl; leaves = refl })
-      (front-outside W S s p.0 v.0 may.1) (subst IsBusy (sym there) tt) (ap (passage_at (after W S s (what.Take p v)).stream) there) refl refl)
+      (subst IsOutside (sym from) tt) (subst IsBusy (sym there) tt) (ap (passage_at (after W S s (what.Take p v)).stream) there) refl refl)
       (λ other. record { life = refl; position = refl; moves = inl (put_at-other S.place v.0 (place.Next (stream_no s)) u other); marks = mark-stays S s u (round_taken (S.stream s)) refl })
 
   pub put-fate : (v : UnitNo) (p : PoolNo) → May W Z S s (what.Put v p) → Fate W u (what.Put v p) S (after W S s (what.Put v p))
   put-fate v p may =
+      let is : StandsIn W S (InTray s) v.0 = first-stands W S (InTray s) v.0 may.1 in
+      let from : S.place v.0 ≡ place.Tray (stream_no s) is.ticket = is.at in
       let there : put_at S.place v.0 (place.Pool p (S.pool_next p.0)) v.0 ≡ place.Pool p (S.pool_next p.0) = put_at-same S.place v.0 (place.Pool p (S.pool_next p.0)) in
       event-fate W (what.Put v p) S (after W S s (what.Put v p)) v u refl (λ n. refl)
       (acts-quietly (body_at W v.0) v.0 (what.Put v p) S (after W S s (what.Put v p)) (record { positions = refl; cause = refl; enters = refl; leaves = refl })
-      (in-tray W S s v.0 may.1) (subst IsBusy (sym there) tt) (ap (passage_at S.stream) there) refl refl)
+      (subst IsOutside (sym from) tt) (subst IsBusy (sym there) tt) (ap (passage_at S.stream) there) refl refl)
       (λ other. record { life = refl; position = refl; moves = inl (put_at-other S.place v.0 (place.Pool p (S.pool_next p.0)) u other); marks = λ r at. refl })
 
   -- A look.
 
   module _ (sound : Sound W Z S) (v : UnitNo) (may : May W Z S s (what.Look v)) where
     from : S.place v.0 ≡ place.Next (stream_no s)
-    from = in-next W S s v.0 may.1
+    from = next-place W S s v.0 may.1
 
     nobody-held : S.place u ≡ place.Hand (stream_no s) → ⊥
     nobody-held at = sound.hand_or_next s u v.0 at from

@@ -19,17 +19,17 @@ use Rattle.abt_machine.specs.Changes.{changed}
 use Rattle.abt_machine.specs.Steps.{step_row, op_row}
 use Rattle.abt_machine.specs.Events.{May, after}
 use Rattle.abt_machine.specs.Lives.{is_birth}
-use Rattle.abt_laws.proofs.Queues.{none≢some}
+use Rattle.abt_laws.proofs.Standing.{hand-place}
+use Rattle.abt_laws.proofs.Options.{none≢some}
 use Rattle.abt_laws.proofs.LifeTies.{IsOutside, IsBusy, Fate}
 use Rattle.abt_laws.proofs.LifeSteps.{step-fate, birth-fate}
 use Rattle.abt_laws.proofs.LifeRows.{Goes, goes, row-refused}
 use Rattle.abt_laws.proofs.LifeDues.{due-of-hand, step-due}
-use Rattle.abt_laws.proofs.LifePlaces.{in-hand}
 
 module _ (W : Parts) (Z : List OrderShape) (S : State) (s u : ℕ) where
   module _ (v : UnitNo) (k : ℕ) (c : Code) (may : May W Z S s (what.Step v k c)) where
     steps-from : S.place v.0 ≡ place.Hand (stream_no s)
-    steps-from = in-hand W S s v.0 may.1
+    steps-from = hand-place W S s v.0 may.1
 
     not-outside : IsOutside (S.place v.0) → ⊥
     not-outside out = subst IsOutside steps-from out

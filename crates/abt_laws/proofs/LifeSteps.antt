@@ -18,9 +18,9 @@ use Rattle.abt_machine.specs.Outcomes.{IsOver}
 use Rattle.abt_machine.specs.Changes.{Change, changed}
 use Rattle.abt_machine.specs.Steps.{begins}
 use Rattle.abt_machine.specs.Lives.{life_after, is_of, count_up}
-use Rattle.abt_laws.proofs.Queues.{put_at-same, put_at-other, none≢some}
-use Rattle.abt_laws.proofs.Maps.{EachOf}
-use Rattle.abt_laws.proofs.LifeMaps.{put_all-kept}
+use Rattle.abt_laws.proofs.Options.{none≢some}
+use Rattle.abt_laws.proofs.Lists.{EachOf}
+use Rattle.abt_laws.proofs.Maps.{put_at-same, put_at-other, put_all-kept}
 use Rattle.abt_laws.proofs.LifeTies.{IsOutside, IsBusy, IsBusy-outside, ends-busy, Drifts, Acts, Begins, Fate, Drifting, Acting, Beginning}
 
 -- Changes by a step.

@@ -13,10 +13,10 @@ use Rattle.abt_machine.specs.Frames.{marked}
 use Rattle.abt_machine.specs.Changes.{Change, no_change}
 use Rattle.abt_machine.specs.Events.{May, change, look_row, without_requests}
 use Rattle.abt_machine.specs.Sound.{Sound, IsPlaced, IsAtRest}
-use Rattle.abt_laws.proofs.Queues.{put_at-same}
+use Rattle.abt_laws.proofs.Maps.{put_at-same}
 use Rattle.abt_laws.proofs.Places.{ticket-place, same-self}
 use Rattle.abt_laws.proofs.Arrivals.{IsEmpty, IsBelow-empty, free-empty, tray-free}
-use Rattle.abt_laws.proofs.Standing.{StandsIn, first-is}
+use Rattle.abt_laws.proofs.Standing.{StandsIn, first-stands}
 use Rattle.abt_laws.proofs.DueFacts.{due-no_tray}
 use Rattle.abt_laws.proofs.KeepsSound.{Keeps, AsksWell}
 use Rattle.abt_laws.proofs.FramesStay.{IsFrameless, frames-stay}
@@ -92,4 +92,4 @@ module _ (W : Parts) (Z : List OrderShape) (S : State) (s u : ℕ) (sound : Soun
 
 pub keeps-look : (W : Parts) (Z : List OrderShape) (S : State) (s u : ℕ) → Sound W Z S → May W Z S s (what.Look (unit_no u)) → Keeps W Z S (change W S s (what.Look (unit_no u)))
 keeps-look W Z S s u sound may =
-    keeps-look_by W Z S s u sound (due-no_tray W S s sound.undeclared LookDue may.0 tt) (first-is W S (InNext s) u may.1) (S.desk u).cancel (S.desk u).migrate refl
+    keeps-look_by W Z S s u sound (due-no_tray W S s sound.undeclared LookDue may.0 tt) (first-stands W S (InNext s) u may.1) (S.desk u).cancel (S.desk u).migrate refl

@@ -14,12 +14,12 @@ use Rattle.abt_machine.specs.Codes.{owned_by}
 use Rattle.abt_machine.specs.Changes.{Change, goes_on}
 use Rattle.abt_machine.specs.Steps.{owned, wakes, locks, hands_over}
 use Rattle.abt_machine.specs.Sound.{HoldsUp}
+use Rattle.abt_laws.proofs.Codes.{owned-some}
 use Rattle.abt_laws.proofs.Places.{line_of}
 use Rattle.abt_laws.proofs.Arrivals.{IsEmpty}
 use Rattle.abt_laws.proofs.Standing.{none-first}
 use Rattle.abt_laws.proofs.KeepsSound.{Keeps, places, MutexHolds}
 use Rattle.abt_laws.proofs.Wakes.{wakeable-first, tray-each, empty-still}
-use Rattle.abt_laws.proofs.CodeFacts.{owned-some}
 use Rattle.abt_laws.proofs.StepShapes.{IsStepping, carries_on, keeps-still, keeps-wakes, keeps-waits}
 
 -- the first waiter owns the mutex, or nobody waits

@@ -11,7 +11,7 @@ use Rattle.abt_machine.specs.declared.numbers.UnitNo.{UnitNo}
 use Rattle.abt_machine.specs.declared.numbers.ObjectNo.{ObjectNo}
 use Rattle.abt_machine.specs.Numbers.{stream_no, pool_no, unit_no, object_no}
 use Rattle.abt_machine.specs.Lines.{Line, InPool, InTray, InHand, InNext, InFrames, Joining, Waiting, if_same, ticket_in}
-use Rattle.abt_laws.proofs.Queues.{none≢some}
+use Rattle.abt_laws.proofs.Options.{none≢some}
 
 pub same-self : (a t : ℕ) → if_same a a t ≡ Some t
 same-self a t = cond-true (a == a) (Some t) None (eq-eqb a a refl)

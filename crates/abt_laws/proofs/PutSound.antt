@@ -10,10 +10,10 @@ use Rattle.abt_machine.specs.Lines.{InPool, InTray}
 use Rattle.abt_machine.specs.Changes.{Change}
 use Rattle.abt_machine.specs.Events.{May, change}
 use Rattle.abt_machine.specs.Sound.{Sound, IsPlaced}
-use Rattle.abt_laws.proofs.Queues.{put_at-same}
+use Rattle.abt_laws.proofs.Maps.{put_at-same}
 use Rattle.abt_laws.proofs.Places.{ticket-place, same-self}
 use Rattle.abt_laws.proofs.Arrivals.{IsBelow, free-above}
-use Rattle.abt_laws.proofs.Standing.{StandsIn, first-is}
+use Rattle.abt_laws.proofs.Standing.{StandsIn, first-stands}
 use Rattle.abt_laws.proofs.KeepsSound.{Keeps}
 use Rattle.abt_laws.proofs.FramesStay.{frames-stay}
 use Rattle.abt_laws.proofs.Barriers.{barriers-stay}
@@ -28,7 +28,7 @@ pub keeps-put : (W : Parts) (Z : List OrderShape) (S : State) (s u p : ℕ) → 
 keeps-put W Z S s u p sound may =
     let t : ℕ = S.pool_next p in
     let c : Change = change W S s (what.Put (unit_no u) (pool_no p)) in
-    let is : StandsIn W S (InTray s) u = first-is W S (InTray s) u may.1 in
+    let is : StandsIn W S (InTray s) u = first-stands W S (InTray s) u may.1 in
     record {
       free = (free-above S.place u (place.Pool (pool_no p) t) (InPool p) t (same-self p t) (pool-below W Z S p sound), tt);
       moves = (

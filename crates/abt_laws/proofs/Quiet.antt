@@ -26,8 +26,10 @@ use Rattle.abt_machine.specs.Runs.{last_state}
 use Rattle.abt_machine.specs.Sound.{Sound}
 use Rattle.abt_machine.specs.Outcomes.{AllEnded, IsOver, Quiet, Spent}
 use Rattle.abt_laws.specs.Laws.{IsMiss}
+use Rattle.abt_laws.proofs.Standing.{empty-standing}
+use Rattle.abt_laws.proofs.Options.{none≢some}
+use Rattle.abt_laws.proofs.Maps.{put_at-other, put_at-same}
 use Rattle.abt_laws.proofs.OrderPools.{next-pool-listed}
-use Rattle.abt_laws.proofs.Queues.{none≢some, put_at-other, put_at-same, queue-cong}
 
 -- Where all units are over.
 
@@ -38,15 +40,8 @@ over-in-no-line (InPool p) (place.Ended c) over = refl
 over-in-no-line _ (place.Ended c) over = refl
 over-in-no-line _ _ over = absurd over
 
-nobody-ticketed : (n : ℕ) → ticketed (λ _. None) n ≡ []
-nobody-ticketed zero = refl
-nobody-ticketed (suc n) = nobody-ticketed n
-
-queue-none : (at : ℕ → Option ℕ) (n : ℕ) → ((v : ℕ) → v < n → at v ≡ None) → queue at n ≡ []
-queue-none at n h = queue-cong at (λ _. None) n h ∙ ap (map (λ (p : ℕ × ℕ). p.1)) (nobody-ticketed n)
-
 all-over-stand-nowhere : (W : Parts) (S : State) (l : Line) → AllEnded S → standing W S l ≡ []
-all-over-stand-nowhere W S l ended = queue-none (λ u. ticket_in l (S.place u)) (length W.units) (λ v _. over-in-no-line l (S.place v) (ended v))
+all-over-stand-nowhere W S l ended = empty-standing W S l (λ v t h. none≢some (sym (over-in-no-line l (S.place v) (ended v)) ∙ h))
 
 all-over-no-frame : (W : Parts) (Z : List OrderShape) (S : State) (s : ℕ) → Sound W Z S → AllEnded S → (fs : List Frame) → (S.stream s).below ≡ fs → fs ≡ []
 all-over-no-frame W Z S s sound ended [] e = refl

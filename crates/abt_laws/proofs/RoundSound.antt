@@ -17,10 +17,10 @@ use Rattle.abt_machine.specs.Changes.{Change}
 use Rattle.abt_machine.specs.Events.{May, change}
 use Rattle.abt_machine.specs.Sound.{Sound, IsAtRest, AllAtRest}
 use Rattle.abt_machine.specs.Valid.{IsValid}
-use Rattle.abt_laws.proofs.Queues.{put_at-same}
+use Rattle.abt_laws.proofs.Maps.{put_at-same}
 use Rattle.abt_laws.proofs.Places.{same-self}
 use Rattle.abt_laws.proofs.Arrivals.{IsEmpty, free-empty}
-use Rattle.abt_laws.proofs.Standing.{StandsIn, front-is}
+use Rattle.abt_laws.proofs.Standing.{StandsIn, front-stands}
 use Rattle.abt_laws.proofs.DueFacts.{due-no_tray, due-no_next, due-no_hand}
 use Rattle.abt_laws.proofs.KeepsSound.{Keeps, OnStream}
 use Rattle.abt_laws.proofs.FramesStay.{frames-stay}
@@ -50,7 +50,7 @@ pub keeps-take : (W : Parts) (Z : List OrderShape) (S : State) (s p u : ℕ) →
 keeps-take W Z S s p u valid stored sound l may =
     let c : Change = change W S s (what.Take (pool_no p) (unit_no u)) in
     let own : Stream = S.stream s in
-    let is : StandsIn W S (InPool p) u = front-is W S s p u may.1 in
+    let is : StandsIn W S (InPool p) u = front-stands W S s p u may.1 in
     let rests : IsAtRest (round_taken own) = fresh-rest own.top.sched (suc own.top.round) own.below (sound.below_rest s l) in
     record {
       free = (free-empty S.place u (place.Next (stream_no s)) (InNext s) 0 (same-self s 0) (due-no_next W S s sound.undeclared RoundDue may.0 tt), tt);

@@ -13,7 +13,7 @@ use Rattle.abt_machine.specs.Rounds.{OrdersStored}
 use Rattle.abt_machine.specs.Start.{start, start_place, count_at}
 use Rattle.abt_machine.specs.Sound.{Sound, IsPlaced}
 use Rattle.abt_machine.specs.Valid.{IsValid}
-use Rattle.abt_laws.proofs.Queues.{none≢some}
+use Rattle.abt_laws.proofs.Options.{none≢some}
 use Rattle.abt_laws.proofs.Places.{line_of-ticket, same-self}
 use Rattle.abt_laws.proofs.Arrivals.{OneEach, IsEmpty}
 use Rattle.abt_laws.proofs.Standing.{empty-standing}

@@ -5,7 +5,7 @@ use Rattle.abt_machine.specs.declared.operations.OrderShape.{OrderShape}
 use Rattle.abt_machine.specs.declared.workload.Parts.{Parts}
 use Rattle.abt_machine.specs.State.{State, Mutex}
 use Rattle.abt_machine.specs.Changes.{Change, goes_on}
-use Rattle.abt_laws.proofs.ChangedMaps.{EachOf}
+use Rattle.abt_laws.proofs.Lists.{EachOf}
 use Rattle.abt_laws.proofs.Arrivals.{AllFree}
 use Rattle.abt_laws.proofs.KeepsSound.{Keeps, places, MovesWell, MutexHolds}
 use Rattle.abt_laws.proofs.Barriers.{IsOffBarriers, barriers-stay}

@@ -21,11 +21,11 @@ use Rattle.abt_machine.specs.Changes.{Change, no_change, changed, to_tray, goes_
 use Rattle.abt_machine.specs.Steps.{wakes, waits, asks}
 use Rattle.abt_machine.specs.Events.{May}
 use Rattle.abt_machine.specs.Sound.{Sound, IsPlaced, IsAtRest, HoldsUp}
-use Rattle.abt_laws.proofs.Queues.{put_at-same, put_at-other}
-use Rattle.abt_laws.proofs.ChangedMaps.{EachOf}
+use Rattle.abt_laws.proofs.Maps.{put_at-same, put_at-other}
+use Rattle.abt_laws.proofs.Lists.{EachOf}
 use Rattle.abt_laws.proofs.Places.{ticket-place, same-self}
 use Rattle.abt_laws.proofs.Arrivals.{IsEmpty, IsBelow, IsBelow-empty, free-above, tray-free}
-use Rattle.abt_laws.proofs.Standing.{StandsIn, first-is}
+use Rattle.abt_laws.proofs.Standing.{StandsIn, first-stands}
 use Rattle.abt_laws.proofs.DueFacts.{due-no_tray, due-no_next, due-unit, step-position}
 use Rattle.abt_laws.proofs.KeepsSound.{Keeps, places, CarriesWell, AsksWell, MutexHolds, EventualHolds, FutureHolds}
 use Rattle.abt_laws.proofs.Barriers.{barriers-stay, barriers-wait, IsOffBarriers}
@@ -45,7 +45,7 @@ pub record IsStepping (W : Parts) (Z : List OrderShape) (S : State) (s u : ℕ) 
 
 pub stepping : (W : Parts) (Z : List OrderShape) (S : State) (s u k : ℕ) (c : Code) → Sound W Z S → s < W.streams → May W Z S s (what.Step (unit_no u) k c) → IsStepping W Z S s u
 stepping W Z S s u k c sound l may =
-    let is : StandsIn W S (InHand s) u = first-is W S (InHand s) u may.1 in
+    let is : StandsIn W S (InHand s) u = first-stands W S (InHand s) u may.1 in
     let at : S.place u ≡ place.Hand (stream_no s) = is.at in
     let placed : IsPlaced W S u (place.Hand (stream_no s)) = subst (IsPlaced W S u) at (sound.placed u) in
     record {

@@ -14,14 +14,13 @@ use Rattle.abt_machine.specs.Codes.{is_in_pool}
 use Rattle.abt_machine.specs.Changes.{Change, changed, to_tray, goes_on}
 use Rattle.abt_machine.specs.Steps.{begins, joins}
 use Rattle.abt_machine.specs.Sound.{IsPlaced, HasNotEnded}
-use Rattle.abt_laws.proofs.Queues.{put_at-same}
-use Rattle.abt_laws.proofs.ChangedMaps.{EachOf, put_at-cases}
+use Rattle.abt_laws.proofs.Maps.{put_at-same, put_at-cases}
+use Rattle.abt_laws.proofs.Lists.{EachOf}
 use Rattle.abt_laws.proofs.Places.{ticket-place, same-self}
 use Rattle.abt_laws.proofs.Arrivals.{IsEmpty, IsBelow, IsBelow-move, IsFreeFor, free-nowhere, free-empty, free-above, tray-free}
 use Rattle.abt_laws.proofs.KeepsSound.{Keeps, places, IsAlone}
 use Rattle.abt_laws.proofs.Barriers.{IsOffBarriers}
-use Rattle.abt_laws.proofs.Wakes.{IsWakeable, tray-well, tray-frameless, empty-after}
-use Rattle.abt_laws.proofs.CodeFacts.{frameless-by}
+use Rattle.abt_laws.proofs.Wakes.{IsWakeable, tray-well, tray-frameless, empty-after, frameless-by}
 use Rattle.abt_laws.proofs.StepMoves.{keeps-moves}
 use Rattle.abt_laws.proofs.StepShapes.{IsStepping, in_no_frame, may_wake, carries_on, keeps-goes_on, keeps-wakes, tray-below}
 
