@@ -13,11 +13,11 @@ use Rattle.abt_machine.specs.Next.{EndDue}
 use Rattle.abt_machine.specs.Changes.{Change}
 use Rattle.abt_machine.specs.Events.{May, change, without_requests}
 use Rattle.abt_machine.specs.Sound.{Sound, IsPlaced, AsksNothing}
+use Rattle.abt_laws.proofs.Dues.{due-no_tray}
 use Rattle.abt_laws.proofs.Maps.{put_at-same}
 use Rattle.abt_laws.proofs.Places.{line_of}
 use Rattle.abt_laws.proofs.Arrivals.{IsBelow-empty, IsBelow-move, free-nowhere, tray-free}
 use Rattle.abt_laws.proofs.Standing.{StandsIn, first-stands, among-standing}
-use Rattle.abt_laws.proofs.DueFacts.{due-no_tray}
 use Rattle.abt_laws.proofs.KeepsSound.{Keeps}
 use Rattle.abt_laws.proofs.FramesStay.{frames-stay}
 use Rattle.abt_laws.proofs.Barriers.{IsOffBarriers, barriers-stay}

@@ -9,7 +9,6 @@ pub mod Codes
 pub mod Commute
 pub mod ConditionSteps
 pub mod DeskSteps
-pub mod DueFacts
 pub mod Dues
 pub mod EndSound
 pub mod EventualSteps
@@ -20,7 +19,6 @@ pub mod FutureSteps
 pub mod Keeping
 pub mod KeepsSound
 pub mod LifeActs
-pub mod LifeDues
 pub mod LifeEnds
 pub mod LifeEvents
 pub mod LifeJournals
@@ -37,6 +35,7 @@ pub mod LocalEvents
 pub mod LocalRows
 pub mod LookSound
 pub mod Maps
+pub mod Marks
 pub mod Misses
 pub mod MutexSteps
 pub mod Objects

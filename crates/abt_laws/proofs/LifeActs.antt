@@ -47,15 +47,3 @@ acts-quietly b u w S T quiet out busy passage life position =
       passes = λ h. passage ∙ (ap₂ (λ (m n : ℕ). (0 + m, 0 + n)) (sym quiet.enters) (sym quiet.leaves) ∙ ap (λ (p : ℕ × ℕ). (p.0 + enters_in (w ∷ []), p.1 + leaves_in (w ∷ []))) (sym was));
       cause = λ c h. absurd (none≢some (sym quiet.cause ∙ h));
     }
-
--- Marks.
-
-module _ (S : State) (s u : ℕ) where
-  -- a stream whose mark stays
-  pub mark-stays : (new : Stream) → new.mark ≡ (S.stream s).mark → (r : StreamNo) → S.place u ≡ place.Hand r → (put_at S.stream s new r.0).mark ≡ (S.stream r.0).mark
-  mark-stays new h r at = put_all-kept (λ n (own : Stream). own.mark ≡ (S.stream n).mark) S.stream ((s, new) ∷ []) r.0 (h, tt) refl
-
-  -- a stream that has no unit in hand
-  pub mark-elsewhere : (new : Stream) → (S.place u ≡ place.Hand (stream_no s) → ⊥) → (r : StreamNo) → S.place u ≡ place.Hand r → (put_at S.stream s new r.0).mark ≡ (S.stream r.0).mark
-  mark-elsewhere new none r at =
-      elim (cases_eq r.0 s) [ inl same ↦ absurd (none (at ∙ ap (λ (n : ℕ). place.Hand (stream_no n)) same)) | inr other ↦ ap (λ (own : Stream). own.mark) (put_at-other S.stream s new r.0 other) ]

@@ -17,14 +17,15 @@ use Rattle.abt_machine.specs.Frames.{marked, round_taken, round_missed}
 use Rattle.abt_machine.specs.Changes.{no_change, changed}
 use Rattle.abt_machine.specs.Events.{May, after, look_row, without_requests}
 use Rattle.abt_machine.specs.Sound.{Sound}
+use Rattle.abt_laws.proofs.Marks.{marks-kept, marks-elsewhere}
 use Rattle.abt_laws.proofs.Standing.{next-place, StandsIn, first-stands, front-stands}
 use Rattle.abt_laws.proofs.Maps.{put_at-same, put_at-other, put_all-kept}
 use Rattle.abt_laws.proofs.LifeTies.{IsOutside, IsBusy, passage_of_mark, passage_at, Fate, Drifting}
-use Rattle.abt_laws.proofs.LifeActs.{event-fate, acts-quietly, mark-stays, mark-elsewhere}
+use Rattle.abt_laws.proofs.LifeActs.{event-fate, acts-quietly}
 
 module _ (W : Parts) (Z : List OrderShape) (S : State) (s u : ℕ) where
   pub miss-fate : (p : PoolNo) → Fate W u (what.Miss p) S (after W S s (what.Miss p))
-  miss-fate p = Drifting refl (λ n. refl) (record { life = refl; position = refl; moves = inl refl; marks = mark-stays S s u (round_missed W p.0 (S.stream s)) refl })
+  miss-fate p = Drifting refl (λ n. refl) (record { life = refl; position = refl; moves = inl refl; marks = λ r at. marks-kept S s (round_missed W p.0 (S.stream s)) refl r })
 
   pub take-fate : (p : PoolNo) (v : UnitNo) → May W Z S s (what.Take p v) → Fate W u (what.Take p v) S (after W S s (what.Take p v))
   take-fate p v may =
@@ -34,7 +35,7 @@ module _ (W : Parts) (Z : List OrderShape) (S : State) (s u : ℕ) where
       event-fate W (what.Take p v) S (after W S s (what.Take p v)) v u refl (λ n. refl)
       (acts-quietly (body_at W v.0) v.0 (what.Take p v) S (after W S s (what.Take p v)) (record { positions = refl; cause = refl; enters = refl; leaves = refl })
       (subst IsOutside (sym from) tt) (subst IsBusy (sym there) tt) (ap (passage_at (after W S s (what.Take p v)).stream) there) refl refl)
-      (λ other. record { life = refl; position = refl; moves = inl (put_at-other S.place v.0 (place.Next (stream_no s)) u other); marks = mark-stays S s u (round_taken (S.stream s)) refl })
+      (λ other. record { life = refl; position = refl; moves = inl (put_at-other S.place v.0 (place.Next (stream_no s)) u other); marks = λ r at. marks-kept S s (round_taken (S.stream s)) refl r })
 
   pub put-fate : (v : UnitNo) (p : PoolNo) → May W Z S s (what.Put v p) → Fate W u (what.Put v p) S (after W S s (what.Put v p))
   put-fate v p may =
@@ -69,7 +70,7 @@ module _ (W : Parts) (Z : List OrderShape) (S : State) (s u : ℕ) where
         event-fate W (what.Look v) S (handed m) v u refl (λ n. refl)
         (acts-quietly (body_at W v.0) v.0 (what.Look v) S (handed m) (record { positions = refl; cause = refl; enters = refl; leaves = refl })
         (subst IsOutside (sym from) tt) (subst IsBusy (sym there) tt) (ap (passage_at (handed m).stream) there ∙ (ap passage_of_mark mark ∙ fresh)) (look-life v.0) refl)
-        (λ other. record { life = look-life u; position = refl; moves = inl (put_at-other S.place v.0 (place.Hand (stream_no s)) u other); marks = mark-elsewhere S s u (marked m (S.stream s)) nobody-held })
+        (λ other. record { life = look-life u; position = refl; moves = inl (put_at-other S.place v.0 (place.Hand (stream_no s)) u other); marks = marks-elsewhere S s u (marked m (S.stream s)) nobody-held })
 
     migrated-fate : (p : ℕ) → Fate W u (what.Look v) S (changed S (look_row W S s v.0 false (Some p)))
     migrated-fate p =

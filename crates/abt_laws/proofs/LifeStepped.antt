@@ -19,12 +19,12 @@ use Rattle.abt_machine.specs.Changes.{changed}
 use Rattle.abt_machine.specs.Steps.{step_row, op_row}
 use Rattle.abt_machine.specs.Events.{May, after}
 use Rattle.abt_machine.specs.Lives.{is_birth}
+use Rattle.abt_laws.proofs.Dues.{due-unit, step-due}
 use Rattle.abt_laws.proofs.Standing.{hand-place}
 use Rattle.abt_laws.proofs.Options.{none≢some}
 use Rattle.abt_laws.proofs.LifeTies.{IsOutside, IsBusy, Fate}
 use Rattle.abt_laws.proofs.LifeSteps.{step-fate, birth-fate}
 use Rattle.abt_laws.proofs.LifeRows.{Goes, goes, row-refused}
-use Rattle.abt_laws.proofs.LifeDues.{due-of-hand, step-due}
 
 module _ (W : Parts) (Z : List OrderShape) (S : State) (s u : ℕ) where
   module _ (v : UnitNo) (k : ℕ) (c : Code) (may : May W Z S s (what.Step v k c)) where
@@ -38,7 +38,7 @@ module _ (W : Parts) (Z : List OrderShape) (S : State) (s u : ℕ) where
     held-busy = subst IsBusy (sym steps-from) tt
 
     has-step : (is_sched (body_at W v.0) ≡ false) × ((S.carried v.0).position < length (ops_of (body_at W v.0)))
-    has-step = step-due W s (S.stream s).mark (body_at W v.0) (S.carried v.0).position (due-of-hand W S s v.0 StepDue tt may.0 may.1)
+    has-step = step-due W s (S.stream s).mark (body_at W v.0) (S.carried v.0).position (due-unit W S s StepDue v.0 may.0 tt may.1)
 
     abbrev life-by : ℕ → Option Op → ℕ
     life-by n o = if is_birth u o then suc n else n

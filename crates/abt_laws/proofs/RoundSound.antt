@@ -17,11 +17,11 @@ use Rattle.abt_machine.specs.Changes.{Change}
 use Rattle.abt_machine.specs.Events.{May, change}
 use Rattle.abt_machine.specs.Sound.{Sound, IsAtRest, AllAtRest}
 use Rattle.abt_machine.specs.Valid.{IsValid}
+use Rattle.abt_laws.proofs.Dues.{due-no_tray, due-no_next, due-no_hand}
 use Rattle.abt_laws.proofs.Maps.{put_at-same}
 use Rattle.abt_laws.proofs.Places.{same-self}
 use Rattle.abt_laws.proofs.Arrivals.{IsEmpty, free-empty}
 use Rattle.abt_laws.proofs.Standing.{StandsIn, front-stands}
-use Rattle.abt_laws.proofs.DueFacts.{due-no_tray, due-no_next, due-no_hand}
 use Rattle.abt_laws.proofs.KeepsSound.{Keeps, OnStream}
 use Rattle.abt_laws.proofs.FramesStay.{frames-stay}
 use Rattle.abt_laws.proofs.Barriers.{barriers-stay}

@@ -22,11 +22,11 @@ use Rattle.abt_machine.specs.Changes.{Change, changed}
 use Rattle.abt_machine.specs.Events.{May, change}
 use Rattle.abt_machine.specs.Sound.{Sound, IsPlaced, IsAtRest, AllUnderWay, AllAtRest, RunsSched, frames_of, stacked_frame}
 use Rattle.abt_machine.specs.Valid.{IsValid}
+use Rattle.abt_laws.proofs.Dues.{due-no_next, due-no_hand, due-unit, enter-due, leave-below}
 use Rattle.abt_laws.proofs.Maps.{put_at-same, put_at-other, put_at-cases}
 use Rattle.abt_laws.proofs.Places.{ticket-place, same-self, stream-is}
 use Rattle.abt_laws.proofs.Arrivals.{IsBelow, free-above, free-empty}
 use Rattle.abt_laws.proofs.Standing.{StandsIn, first-stands, is-declared}
-use Rattle.abt_laws.proofs.DueFacts.{due-no_next, due-no_hand, due-unit, enter-sched, leave-below}
 use Rattle.abt_laws.proofs.KeepsSound.{Keeps, FramesKeep, OnStream}
 use Rattle.abt_laws.proofs.Barriers.{barriers-stay}
 use Rattle.abt_laws.proofs.Orders.{fresh-under_way}
@@ -130,7 +130,7 @@ module _ (W : Parts) (Z : List OrderShape) (S : State) (s u : ℕ) (g : SchedNo)
 pub keeps-enter : (W : Parts) (Z : List OrderShape) (S : State) (s u : ℕ) → IsValid W → OrdersStored W Z → Sound W Z S → s < W.streams → May W Z S s (what.Enter (unit_no u)) → Keeps W Z S (change W S s (what.Enter (unit_no u)))
 keeps-enter W Z S s u valid stored sound l may =
     let is : StandsIn W S (InHand s) u = first-stands W S (InHand s) u may.1 in
-    let sched : (g : SchedNo) × (body_at W u ≡ body.Sched g) = enter-sched W s (S.stream s).mark (body_at W u) (S.carried u).position (due-unit W S s sound.undeclared EnterDue u may.0 tt may.1) in
+    let sched : (g : SchedNo) × (body_at W u ≡ body.Sched g) = (enter-due W s (S.stream s).mark (body_at W u) (S.carried u).position (due-unit W S s EnterDue u may.0 tt may.1)).1 in
     keeps-enter_of W Z S s u sched.0 valid stored sound is.at sched.1 l is.declared
 
 -- Leave: unit u is in the top frame of s, above frames f and fs.
@@ -220,5 +220,5 @@ module _ (W : Parts) (Z : List OrderShape) (S : State) (s u : ℕ) (f : Frame) (
 
 pub keeps-leave : (W : Parts) (Z : List OrderShape) (S : State) (s u : ℕ) → Sound W Z S → s < W.streams → May W Z S s (what.Leave (unit_no u)) → Keeps W Z S (change W S s (what.Leave (unit_no u)))
 keeps-leave W Z S s u sound l may =
-    let is : (f : Frame) × (fs : List Frame) × ((S.stream s).below ≡ f ∷ fs) = leave-below W S s sound.undeclared may.0 in
+    let is : (f : Frame) × (fs : List Frame) × ((S.stream s).below ≡ f ∷ fs) = leave-below W S s may.0 in
     keeps-leave_of W Z S s u is.0 is.1 sound is.2 may.1 l may.0 (is-declared W S sound.undeclared u (place.Frame (stream_no s) (length (S.stream s).below - 1)) may.1 (λ e. cc))

@@ -21,12 +21,12 @@ use Rattle.abt_machine.specs.Changes.{Change, no_change, changed, to_tray, goes_
 use Rattle.abt_machine.specs.Steps.{wakes, waits, asks}
 use Rattle.abt_machine.specs.Events.{May}
 use Rattle.abt_machine.specs.Sound.{Sound, IsPlaced, IsAtRest, HoldsUp}
+use Rattle.abt_laws.proofs.Dues.{due-no_tray, due-no_next, due-unit, step-due}
 use Rattle.abt_laws.proofs.Maps.{put_at-same, put_at-other}
 use Rattle.abt_laws.proofs.Lists.{EachOf}
 use Rattle.abt_laws.proofs.Places.{ticket-place, same-self}
 use Rattle.abt_laws.proofs.Arrivals.{IsEmpty, IsBelow, IsBelow-empty, free-above, tray-free}
 use Rattle.abt_laws.proofs.Standing.{StandsIn, first-stands}
-use Rattle.abt_laws.proofs.DueFacts.{due-no_tray, due-no_next, due-unit, step-position}
 use Rattle.abt_laws.proofs.KeepsSound.{Keeps, places, CarriesWell, AsksWell, MutexHolds, EventualHolds, FutureHolds}
 use Rattle.abt_laws.proofs.Barriers.{barriers-stay, barriers-wait, IsOffBarriers}
 use Rattle.abt_laws.proofs.FramesStay.{IsFrameless, frames-stay}
@@ -56,7 +56,7 @@ stepping W Z S s u k c sound l may =
       rests = placed.1;
       no_tray = due-no_tray W S s sound.undeclared StepDue may.0 tt;
       no_next = due-no_next W S s sound.undeclared StepDue may.0 tt;
-      position = step-position W s (S.stream s).mark (body_at W u) (S.carried u).position (due-unit W S s sound.undeclared StepDue u may.0 tt may.1);
+      position = (step-due W s (S.stream s).mark (body_at W u) (S.carried u).position (due-unit W S s StepDue u may.0 tt may.1)).1;
     }
 
 -- what holds up a unit depends on the object alone

@@ -24,32 +24,18 @@ use Rattle.abt_machine.specs.Changes.{Change, changed, no_change, tray_moves}
 use Rattle.abt_machine.specs.Events.{after, look_row, without_requests}
 use Rattle.abt_machine.specs.Sound.{Sound}
 use Rattle.abt_laws.specs.Measure.{hand_weight, place_weight, request_weight, unit_weight, weight}
+use Rattle.abt_laws.proofs.Marks.{marks-kept, marks-elsewhere, left-mark}
 use Rattle.abt_laws.proofs.Places.{same-self}
 use Rattle.abt_laws.proofs.Standing.{StandsIn, each-stands, first-stands, front-stands, is-declared, none-first}
 use Rattle.abt_laws.proofs.Options.{none≢some}
 use Rattle.abt_laws.proofs.Maps.{put_at-other, put_at-same}
 use Rattle.abt_laws.proofs.Lists.{EachOf-then}
-use Rattle.abt_laws.proofs.Dues.{IsIdle, IsOfFrames, enters-plain, idle}
+use Rattle.abt_laws.proofs.Dues.{due-idle, enters-plain, leave-below}
 use Rattle.abt_laws.proofs.Weights.{place_weight-kept, stands-weight, tray_moves-weight, unit_weight-kept, weight-falls}
-
--- Marks.
-
--- the mark of each stream stays where a new value of one has its mark
-pub marks-kept : (S : State) (s : ℕ) (own : Stream) → own.mark ≡ (S.stream s).mark → (r : StreamNo) → (put_at S.stream s own r.0).mark ≡ (S.stream r.0).mark
-marks-kept S s own e r =
-    elim (cases_eq r.0 s) [
-      | inl same ↦ subst (λ q. (put_at S.stream s own q).mark ≡ (S.stream q).mark) (sym same) (ap (λ (x : Stream). x.mark) (put_at-same S.stream s own) ∙ e)
-      | inr other ↦ ap (λ (x : Stream). x.mark) (put_at-other S.stream s own r.0 other)
-    ]
 
 -- no unit is in the hand of s
 abbrev HandIsFree : State → ℕ → Type 0
 HandIsFree S s = (v : ℕ) → S.place v ≡ place.Hand (stream_no s) → ⊥
-
--- where the hand of s is free, no hand's mark changes with the value of s
-marks-unheld : (S : State) (s : ℕ) (own : Stream) → HandIsFree S s → (v : ℕ) (r : StreamNo) → S.place v ≡ place.Hand r → (put_at S.stream s own r.0).mark ≡ (S.stream r.0).mark
-marks-unheld S s own free v r held =
-    ap (λ (x : Stream). x.mark) (put_at-other S.stream s own r.0 (λ same. free v (held ∙ ap (λ q. place.Hand (stream_no q)) same)))
 
 -- Events that move one unit.
 
@@ -80,7 +66,7 @@ enter-falls W S s u comes held =
     let T : State = after W S s (what.Enter u) in
     let to : Place = place.Frame (stream_no s) (length (S.stream s).below) in
     let stands : StandsIn W S (InHand s) u.0 = first-stands W S (InHand s) u.0 held in
-    let was : place_weight S (S.place u.0) ≡ 3 = stands-weight W S (InHand s) u.0 stands ∙ ap hand_weight (enters-plain W S s comes) in
+    let was : place_weight S (S.place u.0) ≡ 3 = stands-weight W S (InHand s) u.0 stands ∙ ap hand_weight (enters-plain W S s u.0 comes held) in
     let now : place_weight T (T.place u.0) ≡ 2 = ap (place_weight T) (put_at-same S.place u.0 to) in
     one-lighter W S T u.0 stands.declared (omega arith) (put_at-other S.place u.0 to) (λ v _. refl) (λ v r _. marks-kept S s (entered (sched_of (body_at W u.0)) (S.stream s)) refl r)
 
@@ -89,25 +75,15 @@ enter-falls W S s u comes held =
 idle-hand-free : (W : Parts) (Z : List OrderShape) (S : State) (s : ℕ) → Sound W Z S → hand W S s ≡ None → HandIsFree S s
 idle-hand-free W Z S s sound none v held = none-first W S sound.undeclared (InHand s) none v 0 (ap (ticket_in (InHand s)) held ∙ same-self s 0)
 
-left-mark : (own : Stream) (fs : List Frame) → fs ≢ [] → (left_to own fs).mark ≡ Left
-left-mark own [] some = absurd (some refl)
-left-mark own (f ∷ fs) some = refl
-
-frames-to-leave : (empty : Bool) (fs : List Frame) → due_of_frames empty fs ≡ LeaveDue → fs ≢ []
-frames-to-leave true (f ∷ fs) h = λ e. cc
-frames-to-leave true [] h = cc
-frames-to-leave false fs h = cc
-
 pub leave-falls : (W : Parts) (Z : List OrderShape) (S : State) (s : ℕ) (u : UnitNo) → Sound W Z S → due W S s ≡ LeaveDue → S.place u.0 ≡ place.Frame (stream_no s) (length (S.stream s).below - 1) → weight W (after W S s (what.Leave u)) < weight W S
 leave-falls W Z S s u sound comes framed =
     let T : State = after W S s (what.Leave u) in
-    let own : IsIdle W S s = idle W S s (subst IsOfFrames (sym comes) tt) in
-    let some : (S.stream s).below ≢ [] = frames-to-leave (S.stream s).top.empty (S.stream s).below (sym own.due ∙ comes) in
-    let free : HandIsFree S s = idle-hand-free W Z S s sound own.hand in
-    let mark : (T.stream s).mark ≡ Left = ap (λ (x : Stream). x.mark) (put_at-same S.stream s (left (S.stream s))) ∙ left-mark (S.stream s) (S.stream s).below some in
+    let below : (f : Frame) × (rest : List Frame) × ((S.stream s).below ≡ f ∷ rest) = leave-below W S s comes in
+    let free : HandIsFree S s = idle-hand-free W Z S s sound (due-idle W S s LeaveDue comes tt).0 in
+    let mark : (T.stream s).mark ≡ Left = ap (λ (x : Stream). x.mark) (put_at-same S.stream s (left (S.stream s))) ∙ left-mark (S.stream s) below.0 below.1 below.2 in
     let was : place_weight S (S.place u.0) ≡ 2 = ap (place_weight S) framed in
     let now : place_weight T (T.place u.0) ≡ 1 = ap (place_weight T) (put_at-same S.place u.0 (place.Hand (stream_no s))) ∙ ap hand_weight mark in
-    one-lighter W S T u.0 (is-declared W S sound.undeclared u.0 _ framed (λ e. cc)) (omega arith) (put_at-other S.place u.0 (place.Hand (stream_no s))) (λ v _. refl) (marks-unheld S s (left (S.stream s)) free)
+    one-lighter W S T u.0 (is-declared W S sound.undeclared u.0 _ framed (λ e. cc)) (omega arith) (put_at-other S.place u.0 (place.Hand (stream_no s))) (λ v _. refl) (λ v. marks-elsewhere S s v (left (S.stream s)) (free v))
 
 -- Look.
 
@@ -126,7 +102,7 @@ to_hand-falls W S s u m heavy stands free =
     let was : place_weight S (S.place u) ≡ 4 = stands-weight W S (InNext s) u stands in
     let now : place_weight T (T.place u) ≡ 3 = ap (place_weight T) (put_at-same S.place u (place.Hand (stream_no s))) ∙ (ap hand_weight mark ∙ heavy) in
     let asks : request_weight (T.desk u).migrate ≡ 0 = ap (λ (d : Desk). request_weight d.migrate) (put_at-same S.desk u (without_requests (S.desk u))) in
-    one-lighter W S T u stands.declared (omega arith) (put_at-other S.place u (place.Hand (stream_no s))) (put_at-other S.desk u (without_requests (S.desk u))) (marks-unheld S s (marked m (S.stream s)) free)
+    one-lighter W S T u stands.declared (omega arith) (put_at-other S.place u (place.Hand (stream_no s))) (put_at-other S.desk u (without_requests (S.desk u))) (λ v. marks-elsewhere S s v (marked m (S.stream s)) (free v))
 
 -- a unit that is to migrate goes to the tray, without its request
 migrate-falls : (W : Parts) (S : State) (s u p : ℕ) → (S.desk u).migrate ≡ Some p → StandsIn W S (InNext s) u → weight W (changed S (look_row W S s u false (Some p))) < weight W S
