@@ -52,7 +52,7 @@ AllFree-append f [] ns a b = b
 AllFree-append f (m ∷ ms) ns a b = (a.0, AllFree-append (put_at f m.0 m.1) ms ns a.1 b)
 
 -- ticket k of line m, which nobody but u has
-pub free-at : (f : ℕ → Place) (u : ℕ) (pl : Place) (m : Line) (k : ℕ) → ticket_in m pl ≡ Some k → ((v : ℕ) → v ≢ u → ticket_in m (f v) ≡ Some k → ⊥) → IsFreeFor f u pl
+free-at : (f : ℕ → Place) (u : ℕ) (pl : Place) (m : Line) (k : ℕ) → ticket_in m pl ≡ Some k → ((v : ℕ) → v ≢ u → ticket_in m (f v) ≡ Some k → ⊥) → IsFreeFor f u pl
 free-at f u pl m k has free = λ l v t ne h g.
     let e : (l ≡ m) × (t ≡ k) = line-unique l m pl t k h has in
     free v ne (ap (λ o. ticket_in o (f v)) (sym e.0) ∙ (g ∙ ap (λ (n : ℕ). Some n) e.1))
@@ -90,11 +90,11 @@ abbrev pub line_moves : Line → ℕ → List ℕ → List (ℕ × Place)
 line_moves l i [] = []
 line_moves l i (u ∷ us) = (u, place_in l i) ∷ line_moves l (suc i) us
 
-pub tray-moves : (s i : ℕ) (us : List ℕ) → tray_moves s i us ≡ line_moves (InTray s) i us
+tray-moves : (s i : ℕ) (us : List ℕ) → tray_moves s i us ≡ line_moves (InTray s) i us
 tray-moves s i [] = refl
 tray-moves s i (u ∷ us) = ap (λ ms. (u, place_in (InTray s) i) ∷ ms) (tray-moves s (suc i) us)
 
-pub waiting-moves : (x i : ℕ) (us : List ℕ) → waiting_moves x i us ≡ line_moves (Waiting x) i us
+waiting-moves : (x i : ℕ) (us : List ℕ) → waiting_moves x i us ≡ line_moves (Waiting x) i us
 waiting-moves x i [] = refl
 waiting-moves x i (u ∷ us) = ap (λ ms. (u, place_in (Waiting x) i) ∷ ms) (waiting-moves x (suc i) us)
 

@@ -24,7 +24,7 @@ use Rattle.abt_laws.proofs.StackSound.{keeps-enter, keeps-leave}
 use Rattle.abt_laws.proofs.StepKeeps.{step-keeps}
 
 -- by the kind of event
-pub event-keeps : (W : Parts) (Z : List OrderShape) → IsValid W → OrdersStored W Z → (S : State) (s : ℕ) (w : What) → Sound W Z S → s < W.streams → May W Z S s w → Sound W Z (after W S s w)
+event-keeps : (W : Parts) (Z : List OrderShape) → IsValid W → OrdersStored W Z → (S : State) (s : ℕ) (w : What) → Sound W Z S → s < W.streams → May W Z S s w → Sound W Z (after W S s w)
 event-keeps W Z valid stored S s (what.Miss p) sound below may = sound-after W Z S (change W S s (what.Miss p)) sound (keeps-miss W Z S s p.0 valid stored sound below may)
 event-keeps W Z valid stored S s (what.Take p u) sound below may = sound-after W Z S (change W S s (what.Take p u)) sound (keeps-take W Z S s p.0 u.0 valid stored sound below may)
 event-keeps W Z valid stored S s (what.Look u) sound below may = sound-after W Z S (change W S s (what.Look u)) sound (keeps-look W Z S s u.0 sound may)

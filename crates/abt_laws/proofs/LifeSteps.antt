@@ -75,7 +75,7 @@ leaves-others S x (m ∷ ms) a = (elim a.0.0 [ inl own ↦ inl own | inr out ↦
 same-life : (S : State) (u : ℕ) (ds : List (ℕ × Desk)) → EachOf (λ (d : ℕ × Desk). d.1.life ≡ (S.desk d.0).life) ds → (put_all S.desk ds u).life ≡ (S.desk u).life
 same-life S u ds h = put_all-kept (λ n (d : Desk). d.life ≡ (S.desk n).life) S.desk ds u h refl
 
-pub step-drifts : (S : State) (x u : ℕ) (c : Change) → u ≢ x → Steps S x c → Drifts u S (changed S c)
+step-drifts : (S : State) (x u : ℕ) (c : Change) → u ≢ x → Steps S x c → Drifts u S (changed S c)
 step-drifts S x u c ne step = record {
   life = same-life S u c.desks step.same_lives;
   position = carried-other S x u c.carried ne step.goes_on;

@@ -48,7 +48,7 @@ All-chosen P W Z g r (Some (rule.User k)) ps order a h = All-shaped P (slice_get
 All-chosen P W Z g r None ps order a h = absurd h
 
 -- each pool of an order is one of its scheduler's
-pub order-pools : (W : Parts) (Z : List OrderShape) (g r : ℕ) (order : List ℕ) → IsOrder W Z g r order → All (Contains (pools_of W g)) order
+order-pools : (W : Parts) (Z : List OrderShape) (g r : ℕ) (order : List ℕ) → IsOrder W Z g r order → All (Contains (pools_of W g)) order
 order-pools W Z g r order h = All-chosen (Contains (pools_of W g)) W Z g r (rule_of W g) (pools_of W g) order (All-contains_itself (pools_of W g)) h
 
 -- the next pool of a round is one of its scheduler's

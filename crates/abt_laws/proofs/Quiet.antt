@@ -63,7 +63,7 @@ ended-quiet W Z S sound ended = record {
 -- What a stream does in a quiet state.
 
 -- nothing but a round is due
-pub quiet-due : (W : Parts) (S : State) (s : ℕ) → s < W.streams → Quiet W S → due W S s ≡ due_of_frames (S.stream s).top.empty []
+quiet-due : (W : Parts) (S : State) (s : ℕ) → s < W.streams → Quiet W S → due W S s ≡ due_of_frames (S.stream s).top.empty []
 quiet-due W S s declared quiet =
     ap (λ us. due_by W s (S.stream s) us (next W S s) (option_map (at_position S) (hand W S s))) (quiet.trays s declared)
     ∙ ap (λ us. due_by_next W s (S.stream s) (first us) (option_map (at_position S) (hand W S s))) (quiet.nexts s declared)
@@ -100,7 +100,7 @@ quiet-front W Z S s p u declared sound quiet following taken =
     subst (λ g. Contains (pools_of W g) p) (lone-frame-main W Z S s declared sound (quiet.frames s declared)) (next-pool-listed W Z (S.stream s).top p following) in
     nobody-in-front (kind_of W p) (owns W s p) (standing W S (InPool p)) u (quiet.pools s p declared listed) taken
 
-pub quiet-misses : (W : Parts) (Z : List OrderShape) (S : State) (s : ℕ) (w : What) → s < W.streams → Sound W Z S → Quiet W S → May W Z S s w → IsMiss w
+quiet-misses : (W : Parts) (Z : List OrderShape) (S : State) (s : ℕ) (w : What) → s < W.streams → Sound W Z S → Quiet W S → May W Z S s w → IsMiss w
 quiet-misses W Z S s (what.Miss p) declared sound quiet may = tt
 quiet-misses W Z S s (what.Take p u) declared sound quiet may = absurd (quiet-front W Z S s p.0 u.0 declared sound quiet may.2 may.1)
 quiet-misses W Z S s (what.Look u) declared sound quiet may = absurd (nobody-first (standing W S (InNext s)) u.0 (quiet.nexts s declared) may.1)
@@ -120,7 +120,7 @@ miss-stacks-none W p S s r =
       | inr other ↦ ap (λ (own : Stream). own.below) (put_at-other S.stream s _ r other)
     ]
 
-pub quiet-after : (W : Parts) (S : State) (s : ℕ) (w : What) → IsMiss w → Quiet W S → Quiet W (after W S s w)
+quiet-after : (W : Parts) (S : State) (s : ℕ) (w : What) → IsMiss w → Quiet W S → Quiet W (after W S s w)
 quiet-after W S s (what.Miss p) miss quiet = record {
   trays = quiet.trays;
   nexts = quiet.nexts;

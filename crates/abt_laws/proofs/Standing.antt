@@ -51,7 +51,7 @@ pub is-declared : (W : Parts) (S : State) → UndeclaredUnborn W S → (v : ℕ)
 is-declared W S undeclared v to h differs = elim (cases_lt v (length W.units)) [ inl l ↦ l | inr l ↦ absurd (differs (sym (undeclared v l) ∙ h)) ]
 
 -- a unit with a ticket in a line is declared
-pub ticket-declared : (W : Parts) (S : State) → UndeclaredUnborn W S → (l : Line) (v t : ℕ) → ticket_in l (S.place v) ≡ Some t → v < length W.units
+ticket-declared : (W : Parts) (S : State) → UndeclaredUnborn W S → (l : Line) (v t : ℕ) → ticket_in l (S.place v) ≡ Some t → v < length W.units
 ticket-declared W S undeclared l v t h =
     is-declared W S undeclared v (place_in l t) (ticket-place l (S.place v) t h) (λ e. none≢some (ap line_of e ∙ line_of-place_in l t))
 

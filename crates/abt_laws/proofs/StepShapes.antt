@@ -60,7 +60,7 @@ stepping W Z S s u k c sound l may =
     }
 
 -- what holds up a unit depends on the object alone
-pub HoldsUp-same : (W : Parts) (S T : State) (x : ℕ) (o : Option Thing) → T.mutex x ≡ S.mutex x → T.eventual x ≡ S.eventual x → T.future x ≡ S.future x → HoldsUp W S x o → HoldsUp W T x o
+HoldsUp-same : (W : Parts) (S T : State) (x : ℕ) (o : Option Thing) → T.mutex x ≡ S.mutex x → T.eventual x ≡ S.eventual x → T.future x ≡ S.future x → HoldsUp W S x o → HoldsUp W T x o
 HoldsUp-same W S T x None m e f h = h
 HoldsUp-same W S T x (Some thing.Mutex) m e f h = subst (λ (k : Mutex). IsSome k.owner) (sym m) h
 HoldsUp-same W S T x (Some (thing.Cond n)) m e f h = tt
@@ -81,7 +81,7 @@ module _ (W : Parts) (Z : List OrderShape) (S : State) (s u : ℕ) (step : IsSte
   may_wake = record { declared = step.declared; frameless = in_no_frame }
 
   -- u goes on with another accumulator, keys or output
-  pub carries : (c : Carried) → c.home ≡ (S.carried u).home → c.position ≡ (S.carried u).position → CarriesWell W u (advanced c)
+  carries : (c : Carried) → c.home ≡ (S.carried u).home → c.position ≡ (S.carried u).position → CarriesWell W u (advanced c)
   carries c home position =
       record {
         home = subst (λ p. p < length W.pools) (sym home) (step.sound.homes u);
