@@ -41,7 +41,6 @@ pub mod MutexSteps
 pub mod Objects
 pub mod OpenFrames
 pub mod Options
-pub mod OrderPools
 pub mod Orders
 pub mod Places
 pub mod PutSound
@@ -49,6 +48,7 @@ pub mod Queues
 pub mod Quiet
 pub mod QuietRuns
 pub mod RoundSound
+pub mod Rounds
 pub mod RunParts
 pub mod StackSound
 pub mod Standing

@@ -26,10 +26,10 @@ use Rattle.abt_machine.specs.Runs.{last_state}
 use Rattle.abt_machine.specs.Sound.{Sound}
 use Rattle.abt_machine.specs.Outcomes.{AllEnded, IsOver, Quiet, Spent}
 use Rattle.abt_laws.specs.Laws.{IsMiss}
+use Rattle.abt_laws.proofs.Orders.{next_pool-listed}
 use Rattle.abt_laws.proofs.Standing.{empty-standing}
 use Rattle.abt_laws.proofs.Options.{none≢some}
 use Rattle.abt_laws.proofs.Maps.{put_at-other, put_at-same}
-use Rattle.abt_laws.proofs.OrderPools.{next-pool-listed}
 
 -- Where all units are over.
 
@@ -97,7 +97,7 @@ lone-frame-main W Z S s declared sound alone =
 quiet-front : (W : Parts) (Z : List OrderShape) (S : State) (s p u : ℕ) → s < W.streams → Sound W Z S → Quiet W S → IsNextPool W Z (S.stream s).top p → front W S s p ≡ Some u → ⊥
 quiet-front W Z S s p u declared sound quiet following taken =
     let listed : Contains (pools_of W (main_of W s)) p =
-    subst (λ g. Contains (pools_of W g) p) (lone-frame-main W Z S s declared sound (quiet.frames s declared)) (next-pool-listed W Z (S.stream s).top p following) in
+    subst (λ g. Contains (pools_of W g) p) (lone-frame-main W Z S s declared sound (quiet.frames s declared)) (next_pool-listed W Z (S.stream s).top p following) in
     nobody-in-front (kind_of W p) (owns W s p) (standing W S (InPool p)) u (quiet.pools s p declared listed) taken
 
 quiet-misses : (W : Parts) (Z : List OrderShape) (S : State) (s : ℕ) (w : What) → s < W.streams → Sound W Z S → Quiet W S → May W Z S s w → IsMiss w

@@ -13,11 +13,11 @@ use Rattle.abt_machine.specs.Rounds.{OrdersStored}
 use Rattle.abt_machine.specs.Start.{start, start_place, count_at}
 use Rattle.abt_machine.specs.Sound.{Sound, IsPlaced}
 use Rattle.abt_machine.specs.Valid.{IsValid}
+use Rattle.abt_laws.proofs.Rounds.{fresh-under_way}
 use Rattle.abt_laws.proofs.Options.{none≢some}
 use Rattle.abt_laws.proofs.Places.{line_of-ticket, same-self}
 use Rattle.abt_laws.proofs.Arrivals.{OneEach, IsEmpty}
 use Rattle.abt_laws.proofs.Standing.{empty-standing}
-use Rattle.abt_laws.proofs.Orders.{fresh-under_way}
 use Rattle.abt_laws.proofs.ValidFacts.{undeclared-start, start-declared, barrier-some}
 
 count-suc : (W : Parts) (p n : ℕ) → start_of W n ≡ Some p → count_at W p (suc n) ≡ suc (count_at W p n)
