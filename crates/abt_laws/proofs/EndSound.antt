@@ -1,5 +1,5 @@
 -- An end keeps a sound state sound. Nobody joins the ended unit afterwards, since all its joiners go to the tray.
-use Rattle.std.proofs.Common.{◌≡◌, ℕ, List, Some, refl, sym, subst, inr}
+use Rattle.std.proofs.Common.{◌≡◌, ℕ, List, Some, refl, sym, subst, inr, [], ◌∷◌}
 use Rattle.abt_machine.specs.declared.events.Cause.{Cause}
 use Rattle.abt_machine.specs.declared.events.Place.TheVariants as place
 use Rattle.abt_machine.specs.declared.events.What.TheVariants as what
@@ -10,9 +10,10 @@ use Rattle.abt_machine.specs.Maps.{put_at}
 use Rattle.abt_machine.specs.State.{State}
 use Rattle.abt_machine.specs.Lines.{InTray, InHand, Joining, standing, tray_end}
 use Rattle.abt_machine.specs.Next.{EndDue}
-use Rattle.abt_machine.specs.Changes.{Change}
+use Rattle.abt_machine.specs.Changes.{Change, to_tray}
 use Rattle.abt_machine.specs.Events.{May, change, without_requests}
 use Rattle.abt_machine.specs.Sound.{Sound, IsPlaced, AsksNothing}
+use Rattle.abt_laws.proofs.EventShapes.{keeps-event}
 use Rattle.abt_laws.proofs.Dues.{due-no_tray}
 use Rattle.abt_laws.proofs.Maps.{put_at-same}
 use Rattle.abt_laws.proofs.Places.{line_of}
@@ -20,7 +21,7 @@ use Rattle.abt_laws.proofs.Arrivals.{IsBelow-empty, IsBelow-move, free-nowhere, 
 use Rattle.abt_laws.proofs.Standing.{StandsIn, first-stands, among-standing}
 use Rattle.abt_laws.proofs.KeepsSound.{Keeps}
 use Rattle.abt_laws.proofs.FramesStay.{frames-stay}
-use Rattle.abt_laws.proofs.Barriers.{IsOffBarriers, barriers-stay}
+use Rattle.abt_laws.proofs.Barriers.{IsOffBarriers}
 use Rattle.abt_laws.proofs.LookSound.{asks-nothing}
 use Rattle.abt_laws.proofs.Wakes.{frameless-in, wakeable-line, empty-after, tray-well, tray-frameless, tray-each, tray-key}
 
@@ -34,12 +35,12 @@ keeps-end W Z S s u e sound may =
     let placed : IsPlaced W S u (place.Hand (stream_no s)) = subst (IsPlaced W S u) is.at (sound.placed u) in
     let us : List ℕ = standing W S (Joining u) in
     let i : ℕ = tray_end W S s in
-    record {
-      free = (
+    keeps-event W Z S sound ((u, place.Ended e) ∷ to_tray W S s us) [] ((u, without_requests (S.desk u)) ∷ []) [] []
+    (
         free-nowhere S.place u (place.Ended e) refl,
         tray-free s i (put_at S.place u (place.Ended e)) us (IsBelow-move (InTray s) i S.place u (place.Ended e) (λ h. cc) (IsBelow-empty (InTray s) i S.place (due-no_tray W S s sound.undeclared (EndDue e) may.0 tt))),
-      );
-      moves = (
+      )
+    (
         record {
           declared = is.declared;
           placed = ended-asks S u;
@@ -47,15 +48,6 @@ keeps-end W Z S s u e sound may =
           joined = inr (empty-after S c (Joining u) ((λ h. cc), tray-each (λ pl. line_of pl ≡ Some (Joining u) → ⊥) s i us (λ t h. cc)) (λ v t h. inr (tray-key s i us v (among-standing W S sound.undeclared (Joining u) v t h))));
         },
         tray-well W S c s i us placed.0 placed.1 (wakeable-line W S (Joining u) tt),
-      );
-      barriers = barriers-stay W Z S sound c (tt, tray-each (IsOffBarriers W) s i us (λ t. tt));
-      carried = tt;
-      desks = (asks-nothing W S u, tt);
-      pool_next = tt;
-      join_next = tt;
-      object_next = tt;
-      mutexes = tt;
-      eventuals = tt;
-      futures = tt;
-      frames = frames-stay W Z S c sound (frameless-in S (InHand s) u is.ticket tt is.at, tray-frameless W S s i us (wakeable-line W S (Joining u) tt)) tt;
-    }
+      )
+    (tt, tray-each (IsOffBarriers W) s i us (λ t. tt)) tt (asks-nothing W S u, tt) tt
+    (frames-stay W Z S c sound (frameless-in S (InHand s) u is.ticket tt is.at, tray-frameless W S s i us (wakeable-line W S (Joining u) tt)) tt)

@@ -11,6 +11,7 @@ pub mod ConditionSteps
 pub mod DeskSteps
 pub mod Dues
 pub mod EndSound
+pub mod EventShapes
 pub mod EventualSteps
 pub mod EveryEvent
 pub mod Falls

@@ -17,6 +17,7 @@ use Rattle.abt_machine.specs.Frames.{marked, round_taken, round_missed}
 use Rattle.abt_machine.specs.Changes.{no_change, changed}
 use Rattle.abt_machine.specs.Events.{May, after, look_row, without_requests}
 use Rattle.abt_machine.specs.Sound.{Sound}
+use Rattle.abt_laws.proofs.EventShapes.{handed}
 use Rattle.abt_laws.proofs.Marks.{marks-kept, marks-elsewhere}
 use Rattle.abt_laws.proofs.Standing.{next-place, StandsIn, first-stands, front-stands}
 use Rattle.abt_laws.proofs.Maps.{put_at-same, put_at-other, put_all-kept}
@@ -59,17 +60,13 @@ module _ (W : Parts) (Z : List OrderShape) (S : State) (s u : ℕ) where
     look-life : (n : ℕ) → (put_at S.desk v.0 (without_requests (S.desk v.0)) n).life ≡ (S.desk n).life
     look-life n = put_all-kept (λ m (d : Desk). d.life ≡ (S.desk m).life) S.desk ((v.0, without_requests (S.desk v.0)) ∷ []) n (refl, tt) refl
 
-    -- unit v comes to the hand with this mark
-    abbrev handed : Mark → State
-    handed m = changed S (record no_change { moves = (v.0, place.Hand (stream_no s)) ∷ []; desks = (v.0, without_requests (S.desk v.0)) ∷ []; streams = (s, marked m (S.stream s)) ∷ [] })
-
-    handed-fate : (m : Mark) → passage_of_mark m ≡ (0, 0) → Fate W u (what.Look v) S (handed m)
+    handed-fate : (m : Mark) → passage_of_mark m ≡ (0, 0) → Fate W u (what.Look v) S (changed S (handed S s v.0 m))
     handed-fate m fresh =
-        let there : (handed m).place v.0 ≡ place.Hand (stream_no s) = put_at-same S.place v.0 (place.Hand (stream_no s)) in
-        let mark : ((handed m).stream s).mark ≡ m = ap (λ (own : Stream). own.mark) (put_at-same S.stream s (marked m (S.stream s))) in
-        event-fate W (what.Look v) S (handed m) v u refl (λ n. refl)
-        (acts-quietly (body_at W v.0) v.0 (what.Look v) S (handed m) (record { positions = refl; cause = refl; enters = refl; leaves = refl })
-        (subst IsOutside (sym from) tt) (subst IsBusy (sym there) tt) (ap (passage_at (handed m).stream) there ∙ (ap passage_of_mark mark ∙ fresh)) (look-life v.0) refl)
+        let there : (changed S (handed S s v.0 m)).place v.0 ≡ place.Hand (stream_no s) = put_at-same S.place v.0 (place.Hand (stream_no s)) in
+        let mark : ((changed S (handed S s v.0 m)).stream s).mark ≡ m = ap (λ (own : Stream). own.mark) (put_at-same S.stream s (marked m (S.stream s))) in
+        event-fate W (what.Look v) S (changed S (handed S s v.0 m)) v u refl (λ n. refl)
+        (acts-quietly (body_at W v.0) v.0 (what.Look v) S (changed S (handed S s v.0 m)) (record { positions = refl; cause = refl; enters = refl; leaves = refl })
+        (subst IsOutside (sym from) tt) (subst IsBusy (sym there) tt) (ap (passage_at (changed S (handed S s v.0 m)).stream) there ∙ (ap passage_of_mark mark ∙ fresh)) (look-life v.0) refl)
         (λ other. record { life = look-life u; position = refl; moves = inl (put_at-other S.place v.0 (place.Hand (stream_no s)) u other); marks = marks-elsewhere S s u (marked m (S.stream s)) nobody-held })
 
     migrated-fate : (p : ℕ) → Fate W u (what.Look v) S (changed S (look_row W S s v.0 false (Some p)))

@@ -1,5 +1,5 @@
 -- A put keeps a sound state sound.
-use Rattle.std.proofs.Common.{ℕ, suc, ◌<◌, List, length, sym, subst, arith, inl}
+use Rattle.std.proofs.Common.{ℕ, suc, ◌<◌, List, [], ◌∷◌, length, sym, subst, arith, inl}
 use Rattle.abt_machine.specs.declared.events.Place.TheVariants as place
 use Rattle.abt_machine.specs.declared.events.What.TheVariants as what
 use Rattle.abt_machine.specs.declared.operations.OrderShape.{OrderShape}
@@ -10,13 +10,13 @@ use Rattle.abt_machine.specs.Lines.{InPool, InTray}
 use Rattle.abt_machine.specs.Changes.{Change}
 use Rattle.abt_machine.specs.Events.{May, change}
 use Rattle.abt_machine.specs.Sound.{Sound, IsPlaced}
+use Rattle.abt_laws.proofs.EventShapes.{keeps-event}
 use Rattle.abt_laws.proofs.Maps.{put_at-same}
 use Rattle.abt_laws.proofs.Places.{ticket-place, same-self}
 use Rattle.abt_laws.proofs.Arrivals.{IsBelow, free-above}
 use Rattle.abt_laws.proofs.Standing.{StandsIn, first-stands}
 use Rattle.abt_laws.proofs.KeepsSound.{Keeps}
 use Rattle.abt_laws.proofs.FramesStay.{frames-stay}
-use Rattle.abt_laws.proofs.Barriers.{barriers-stay}
 use Rattle.abt_laws.proofs.Wakes.{frameless-in}
 
 -- the tickets in a pool are below its next
@@ -29,9 +29,9 @@ keeps-put W Z S s u p sound may =
     let t : ℕ = S.pool_next p in
     let c : Change = change W S s (what.Put (unit_no u) (pool_no p)) in
     let is : StandsIn W S (InTray s) u = first-stands W S (InTray s) u may.1 in
-    record {
-      free = (free-above S.place u (place.Pool (pool_no p) t) (InPool p) t (same-self p t) (pool-below W Z S p sound), tt);
-      moves = (
+    keeps-event W Z S sound ((u, place.Pool (pool_no p) t) ∷ []) [] [] ((p, suc t) ∷ []) []
+    (free-above S.place u (place.Pool (pool_no p) t) (InPool p) t (same-self p t) (pool-below W Z S p sound), tt)
+    (
         record {
           declared = is.declared;
           placed = (subst (λ n. n < length W.pools) may.2 (sound.homes u), subst (λ n. t < n) (sym (put_at-same S.pool_next p (suc t))) (omega arith));
@@ -39,15 +39,6 @@ keeps-put W Z S s u p sound may =
           joined = inl tt;
         },
         tt,
-      );
-      barriers = barriers-stay W Z S sound c (tt, tt);
-      carried = tt;
-      desks = tt;
-      pool_next = (omega arith, tt);
-      join_next = tt;
-      object_next = tt;
-      mutexes = tt;
-      eventuals = tt;
-      futures = tt;
-      frames = frames-stay W Z S c sound (frameless-in S (InTray s) u is.ticket tt is.at, tt) tt;
-    }
+      )
+    (tt, tt) tt tt (omega arith, tt)
+    (frames-stay W Z S c sound (frameless-in S (InTray s) u is.ticket tt is.at, tt) tt)

@@ -22,6 +22,7 @@ use Rattle.abt_machine.specs.Changes.{Change, changed}
 use Rattle.abt_machine.specs.Events.{May, change}
 use Rattle.abt_machine.specs.Sound.{Sound, IsPlaced, IsAtRest, AllUnderWay, AllAtRest, RunsSched, frames_of, stacked_frame}
 use Rattle.abt_machine.specs.Valid.{IsValid}
+use Rattle.abt_laws.proofs.EventShapes.{keeps-event}
 use Rattle.abt_laws.proofs.Rounds.{fresh-under_way}
 use Rattle.abt_laws.proofs.Dues.{due-no_next, due-no_hand, due-unit, enter-due, leave-below}
 use Rattle.abt_laws.proofs.Maps.{put_at-same, put_at-other, put_at-cases}
@@ -29,7 +30,6 @@ use Rattle.abt_laws.proofs.Places.{ticket-place, same-self, stream-is}
 use Rattle.abt_laws.proofs.Arrivals.{IsBelow, free-above, free-empty}
 use Rattle.abt_laws.proofs.Standing.{StandsIn, first-stands, is-declared}
 use Rattle.abt_laws.proofs.KeepsSound.{Keeps, FramesKeep, OnStream}
-use Rattle.abt_laws.proofs.Barriers.{barriers-stay}
 use Rattle.abt_laws.proofs.RoundSound.{fresh-rest}
 use Rattle.abt_laws.proofs.ValidFacts.{sched-declared}
 use Rattle.abt_laws.proofs.Wakes.{empty-still}
@@ -112,20 +112,11 @@ module _ (W : Parts) (Z : List OrderShape) (S : State) (s u : ℕ) (g : SchedNo)
   }
 
   keeps-enter_of : s < W.streams → u < length W.units → Keeps W Z S enters
-  keeps-enter_of l declared = record {
-    free = (free-above S.place u (place.Frame (stream_no s) (length old_below)) (InFrames s) (length old_below) (same-self s (length old_below)) (frames-below W Z S s sound), tt);
-    moves = (record { declared = declared; placed = subst (IsFramed W u s (length old_below)) (sym (put_at-same S.stream s new_own)) (is_framed l); alone = tt; joined = inl tt }, tt);
-    barriers = barriers-stay W Z S sound enters (tt, tt);
-    carried = tt;
-    desks = tt;
-    pool_next = tt;
-    join_next = tt;
-    object_next = tt;
-    mutexes = tt;
-    eventuals = tt;
-    futures = tt;
-    frames = frames-enter;
-  }
+  keeps-enter_of l declared = keeps-event W Z S sound ((u, place.Frame (stream_no s) (length old_below)) ∷ []) [] [] [] ((s, new_own) ∷ [])
+    (free-above S.place u (place.Frame (stream_no s) (length old_below)) (InFrames s) (length old_below) (same-self s (length old_below)) (frames-below W Z S s sound), tt)
+    (record { declared = declared; placed = subst (IsFramed W u s (length old_below)) (sym (put_at-same S.stream s new_own)) (is_framed l); alone = tt; joined = inl tt }, tt)
+    (tt, tt) tt tt tt
+    (frames-enter)
 
 pub keeps-enter : (W : Parts) (Z : List OrderShape) (S : State) (s u : ℕ) → IsValid W → OrdersStored W Z → Sound W Z S → s < W.streams → May W Z S s (what.Enter (unit_no u)) → Keeps W Z S (change W S s (what.Enter (unit_no u)))
 keeps-enter W Z S s u valid stored sound l may =
@@ -195,9 +186,9 @@ module _ (W : Parts) (Z : List OrderShape) (S : State) (s u : ℕ) (f : Frame) (
   }
 
   keeps-leave_of : s < W.streams → due W S s ≡ LeaveDue → u < length W.units → Keeps W Z S leaves
-  keeps-leave_of l is declared = record {
-    free = (free-empty S.place u (place.Hand (stream_no s)) (InHand s) 0 (same-self s 0) (due-no_hand W S s sound.undeclared LeaveDue is tt), tt);
-    moves = (
+  keeps-leave_of l is declared = keeps-event W Z S sound ((u, place.Hand (stream_no s)) ∷ []) [] [] [] ((s, left (S.stream s)) ∷ [])
+    (free-empty S.place u (place.Hand (stream_no s)) (InHand s) 0 (same-self s 0) (due-no_hand W S s sound.undeclared LeaveDue is tt), tt)
+    (
       record {
         declared = declared;
         placed = (l, after_left (λ r own. r ≡ s → IsAtRest own) (λ e. subst AllAtRest below (sound.below_rest s l)) (λ r ne e. absurd (ne e)) s refl);
@@ -205,18 +196,9 @@ module _ (W : Parts) (Z : List OrderShape) (S : State) (s u : ℕ) (f : Frame) (
         joined = inl tt;
       },
       tt,
-    );
-    barriers = barriers-stay W Z S sound leaves (tt, tt);
-    carried = tt;
-    desks = tt;
-    pool_next = tt;
-    join_next = tt;
-    object_next = tt;
-    mutexes = tt;
-    eventuals = tt;
-    futures = tt;
-    frames = frames-leave;
-  }
+    )
+    (tt, tt) tt tt tt
+    (frames-leave)
 
 pub keeps-leave : (W : Parts) (Z : List OrderShape) (S : State) (s u : ℕ) → Sound W Z S → s < W.streams → May W Z S s (what.Leave (unit_no u)) → Keeps W Z S (change W S s (what.Leave (unit_no u)))
 keeps-leave W Z S s u sound l may =

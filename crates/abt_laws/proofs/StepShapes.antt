@@ -91,42 +91,6 @@ module _ (W : Parts) (Z : List OrderShape) (S : State) (s u : ℕ) (step : IsSte
   pub carries_on : CarriesWell W u (advanced (S.carried u))
   carries_on = carries (S.carried u) refl refl
 
-  -- nobody moves
-  pub keeps-still : (cs : List (ℕ × Carried)) (ds : List (ℕ × Desk)) (ms : List (ℕ × Mutex)) (es : List (ℕ × Option ℕ)) (fs : List (ℕ × Future)) →
-      EachOf (λ (m : ℕ × Carried). CarriesWell W m.0 m.1) cs →
-      EachOf (λ (m : ℕ × Desk). AsksWell W S m.0 m.1) ds →
-      EachOf (λ (m : ℕ × Mutex). MutexHolds S.place m.0 m.1) ms →
-      EachOf (λ (m : ℕ × Option ℕ). EventualHolds S.place m.0 m.1) es →
-      EachOf (λ (m : ℕ × Future). FutureHolds W S S.place m.0 m.1) fs →
-      Keeps W Z S (record no_change { carried = cs; desks = ds; mutexes = ms; eventuals = es; futures = fs })
-  keeps-still cs ds ms es fs a b d e f =
-      let c : Change = record no_change { carried = cs; desks = ds; mutexes = ms; eventuals = es; futures = fs } in
-      record {
-        free = tt;
-        moves = tt;
-        barriers = step.sound.waiting;
-        carried = a;
-        desks = b;
-        pool_next = tt;
-        join_next = tt;
-        object_next = tt;
-        mutexes = d;
-        eventuals = e;
-        futures = f;
-        frames = frames-stay W Z S c step.sound tt tt;
-      }
-
-  -- u goes on, with this to carry
-  pub keeps-goes_with : (c : Carried) → c.home ≡ (S.carried u).home → c.position ≡ (S.carried u).position → Keeps W Z S (goes_with u c)
-  keeps-goes_with c home position = keeps-still ((u, advanced c) ∷ []) [] [] [] [] (carries c home position, tt) tt tt tt tt
-
-  pub keeps-goes_on : Keeps W Z S (goes_on S u)
-  keeps-goes_on = keeps-goes_with (S.carried u) refl refl
-
-  -- u asks something of v
-  pub keeps-asks : (v : ℕ) (d : Desk) → AsksWell W S v d → Keeps W Z S (asks S u v d)
-  keeps-asks v d well = keeps-still ((u, advanced (S.carried u)) ∷ []) ((v, d) ∷ []) [] [] [] (carries_on, tt) (well, tt) tt tt tt
-
   -- the tray has room for all
   pub tray-below : IsBelow (InTray s) (tray_end W S s) S.place
   tray-below = IsBelow-empty (InTray s) (tray_end W S s) S.place step.no_tray
@@ -157,6 +121,27 @@ module _ (W : Parts) (Z : List OrderShape) (S : State) (s u : ℕ) (step : IsSte
         futures = f;
         frames = frames-stay W Z S c step.sound (tray-frameless W S s (tray_end W S s) us each) tt;
       }
+
+  -- nobody moves
+  pub keeps-still : (cs : List (ℕ × Carried)) (ds : List (ℕ × Desk)) (ms : List (ℕ × Mutex)) (es : List (ℕ × Option ℕ)) (fs : List (ℕ × Future)) →
+      EachOf (λ (m : ℕ × Carried). CarriesWell W m.0 m.1) cs →
+      EachOf (λ (m : ℕ × Desk). AsksWell W S m.0 m.1) ds →
+      EachOf (λ (m : ℕ × Mutex). MutexHolds S.place m.0 m.1) ms →
+      EachOf (λ (m : ℕ × Option ℕ). EventualHolds S.place m.0 m.1) es →
+      EachOf (λ (m : ℕ × Future). FutureHolds W S S.place m.0 m.1) fs →
+      Keeps W Z S (record no_change { carried = cs; desks = ds; mutexes = ms; eventuals = es; futures = fs })
+  keeps-still cs ds ms es fs a b d e f = keeps-wakes [] cs ds ms es fs tt a b d e f
+
+  -- u goes on, with this to carry
+  pub keeps-goes_with : (c : Carried) → c.home ≡ (S.carried u).home → c.position ≡ (S.carried u).position → Keeps W Z S (goes_with u c)
+  keeps-goes_with c home position = keeps-still ((u, advanced c) ∷ []) [] [] [] [] (carries c home position, tt) tt tt tt tt
+
+  pub keeps-goes_on : Keeps W Z S (goes_on S u)
+  keeps-goes_on = keeps-goes_with (S.carried u) refl refl
+
+  -- u asks something of v
+  pub keeps-asks : (v : ℕ) (d : Desk) → AsksWell W S v d → Keeps W Z S (asks S u v d)
+  keeps-asks v d well = keeps-still ((u, advanced (S.carried u)) ∷ []) ((v, d) ∷ []) [] [] [] (carries_on, tt) (well, tt) tt tt tt
 
   -- u goes on, and these units come to the tray
   pub keeps-wakes_only : (us : List ℕ) → EachOf (IsWakeable W S) us → Keeps W Z S (wakes W S s u us)

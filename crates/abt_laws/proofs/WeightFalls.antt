@@ -24,6 +24,7 @@ use Rattle.abt_machine.specs.Changes.{Change, changed, no_change, tray_moves}
 use Rattle.abt_machine.specs.Events.{after, look_row, without_requests}
 use Rattle.abt_machine.specs.Sound.{Sound}
 use Rattle.abt_laws.specs.Measure.{hand_weight, place_weight, request_weight, unit_weight, weight}
+use Rattle.abt_laws.proofs.EventShapes.{handed}
 use Rattle.abt_laws.proofs.Marks.{marks-kept, marks-elsewhere, left-mark}
 use Rattle.abt_laws.proofs.Places.{same-self}
 use Rattle.abt_laws.proofs.Standing.{StandsIn, each-stands, first-stands, front-stands, is-declared, none-first}
@@ -91,13 +92,9 @@ leave-falls W Z S s u sound comes framed =
 next-hand-free : (W : Parts) (Z : List OrderShape) (S : State) (s u : ℕ) → Sound W Z S → StandsIn W S (InNext s) u → HandIsFree S s
 next-hand-free W Z S s u sound stands v held = sound.hand_or_next s v u held stands.at
 
--- unit u goes from the Next of s to its hand, with this mark
-abbrev to_hand : State → ℕ → ℕ → Mark → Change
-to_hand S s u m = record no_change { moves = (u, place.Hand (stream_no s)) ∷ []; desks = (u, without_requests (S.desk u)) ∷ []; streams = (s, marked m (S.stream s)) ∷ [] }
-
-to_hand-falls : (W : Parts) (S : State) (s u : ℕ) (m : Mark) → hand_weight m ≡ 3 → StandsIn W S (InNext s) u → HandIsFree S s → weight W (changed S (to_hand S s u m)) < weight W S
-to_hand-falls W S s u m heavy stands free =
-    let T : State = changed S (to_hand S s u m) in
+handed-falls : (W : Parts) (S : State) (s u : ℕ) (m : Mark) → hand_weight m ≡ 3 → StandsIn W S (InNext s) u → HandIsFree S s → weight W (changed S (handed S s u m)) < weight W S
+handed-falls W S s u m heavy stands free =
+    let T : State = changed S (handed S s u m) in
     let mark : (T.stream s).mark ≡ m = ap (λ (x : Stream). x.mark) (put_at-same S.stream s (marked m (S.stream s))) in
     let was : place_weight S (S.place u) ≡ 4 = stands-weight W S (InNext s) u stands in
     let now : place_weight T (T.place u) ≡ 3 = ap (place_weight T) (put_at-same S.place u (place.Hand (stream_no s))) ∙ (ap hand_weight mark ∙ heavy) in
@@ -116,8 +113,8 @@ migrate-falls W S s u p asked stands =
     one-lighter W S T u stands.declared (omega arith) (put_at-other S.place u to) (put_at-other S.desk u (without_requests (S.desk u))) (λ v r _. refl)
 
 look_row-falls : (W : Parts) (S : State) (s u : ℕ) (cancel : Bool) (migrate : Option ℕ) → (S.desk u).migrate ≡ migrate → StandsIn W S (InNext s) u → HandIsFree S s → weight W (changed S (look_row W S s u cancel migrate)) < weight W S
-look_row-falls W S s u true migrate e stands free = to_hand-falls W S s u Asked refl stands free
-look_row-falls W S s u false None e stands free = to_hand-falls W S s u Plain refl stands free
+look_row-falls W S s u true migrate e stands free = handed-falls W S s u Asked refl stands free
+look_row-falls W S s u false None e stands free = handed-falls W S s u Plain refl stands free
 look_row-falls W S s u false (Some p) e stands free = migrate-falls W S s u p e stands
 
 pub look-falls : (W : Parts) (Z : List OrderShape) (S : State) (s : ℕ) (u : UnitNo) → Sound W Z S → next W S s ≡ Some u.0 → weight W (after W S s (what.Look u)) < weight W S
