@@ -17,7 +17,7 @@ use Rattle.abt_machine.specs.Frames.{marked, round_taken, round_missed}
 use Rattle.abt_machine.specs.Changes.{no_change, changed}
 use Rattle.abt_machine.specs.Events.{May, after, look_row, without_requests}
 use Rattle.abt_machine.specs.Sound.{Sound}
-use Rattle.abt_laws.proofs.EventShapes.{handed}
+use Rattle.abt_laws.proofs.SoundEvents.{handed}
 use Rattle.abt_laws.proofs.Marks.{marks-kept, marks-elsewhere}
 use Rattle.abt_laws.proofs.Standing.{next-place, StandsIn, first-stands, front-stands}
 use Rattle.abt_laws.proofs.Maps.{put_at-same, put_at-other, put_all-kept}

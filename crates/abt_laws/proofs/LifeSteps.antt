@@ -26,9 +26,9 @@ use Rattle.abt_laws.proofs.LifeTies.{IsOutside, IsBusy, IsBusy-outside, ends-bus
 -- Changes by a step.
 
 -- unit x goes to its next position, and others with new things to carry keep theirs
-abbrev pub GoesOn : State → ℕ → List (ℕ × Carried) → Type 0
-GoesOn S x [] = ⊥
-GoesOn S x (p ∷ ps) = (p.0 ≡ x) × (p.1.position ≡ suc (S.carried x).position) × EachOf (λ (q : ℕ × Carried). (q.0 ≢ x) × (q.1.position ≡ (S.carried q.0).position)) ps
+abbrev pub CarriesOn : State → ℕ → List (ℕ × Carried) → Type 0
+CarriesOn S x [] = ⊥
+CarriesOn S x (p ∷ ps) = (p.0 ≡ x) × (p.1.position ≡ suc (S.carried x).position) × EachOf (λ (q : ℕ × Carried). (q.0 ≢ x) × (q.1.position ≡ (S.carried q.0).position)) ps
 
 -- a move of unit x, or of another from outside, to outside
 abbrev pub StaysOutside : State → ℕ → ℕ × Place → Type 0
@@ -37,7 +37,7 @@ StaysOutside S x m = ((m.0 ≡ x) ⊎ IsOutside (S.place m.0)) × IsOutside m.1
 -- a change by a step of unit x with which no life begins
 pub record IsStep (S : State) (x : ℕ) (moves : List (ℕ × Place)) (carried : List (ℕ × Carried)) (desks : List (ℕ × Desk)) (streams : List (ℕ × Stream)) : Type 0 where
   pub stay_outside : EachOf (StaysOutside S x) moves
-  pub goes_on : GoesOn S x carried
+  pub goes_on : CarriesOn S x carried
   pub same_lives : EachOf (λ (d : ℕ × Desk). d.1.life ≡ (S.desk d.0).life) desks
   pub same_streams : streams ≡ []
 
@@ -46,7 +46,7 @@ Steps S x c = IsStep S x c.moves c.carried c.desks c.streams
 
 -- To the others.
 
-carried-other : (S : State) (x u : ℕ) (ps : List (ℕ × Carried)) → u ≢ x → GoesOn S x ps → (put_all S.carried ps u).position ≡ (S.carried u).position
+carried-other : (S : State) (x u : ℕ) (ps : List (ℕ × Carried)) → u ≢ x → CarriesOn S x ps → (put_all S.carried ps u).position ≡ (S.carried u).position
 carried-other S x u [] ne h = absurd h
 carried-other S x u (p ∷ ps) ne h =
     elim (put_all-kept (λ n (c : Carried). (n ≡ x) ⊎ (c.position ≡ (S.carried n).position)) (put_at S.carried p.0 p.1) ps u
@@ -85,7 +85,7 @@ step-drifts S x u c ne step = record {
 
 -- To the unit that makes it.
 
-carried-own : (S : State) (x : ℕ) (ps : List (ℕ × Carried)) → GoesOn S x ps → (put_all S.carried ps x).position ≡ suc (S.carried x).position
+carried-own : (S : State) (x : ℕ) (ps : List (ℕ × Carried)) → CarriesOn S x ps → (put_all S.carried ps x).position ≡ suc (S.carried x).position
 carried-own S x [] h = absurd h
 carried-own S x (p ∷ ps) h =
     elim (put_all-kept (λ n (c : Carried). (n ≡ x → ⊥) ⊎ (c.position ≡ suc (S.carried x).position)) (put_at S.carried p.0 p.1) ps x

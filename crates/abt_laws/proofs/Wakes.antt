@@ -15,8 +15,8 @@ use Rattle.abt_laws.proofs.Maps.{KeyOf, KeyOf-cases, put_all-other, put_all-valu
 use Rattle.abt_laws.proofs.Places.{place_in, line_of, line_of-place_in, line_of-ticket}
 use Rattle.abt_laws.proofs.Arrivals.{IsEmpty}
 use Rattle.abt_laws.proofs.Standing.{StandsIn, each-stands}
-use Rattle.abt_laws.proofs.KeepsSound.{places, MovesWell}
-use Rattle.abt_laws.proofs.FramesStay.{IsFrameless}
+use Rattle.abt_laws.proofs.SoundChanges.{places, MovesWell}
+use Rattle.abt_laws.proofs.SoundFrames.{IsFrameless}
 
 -- a declared unit that is in no frame may come to a tray
 pub record IsWakeable (W : Parts) (S : State) (u : ℕ) : Type 0 where

@@ -24,7 +24,7 @@ use Rattle.abt_machine.specs.Changes.{Change, changed, no_change, tray_moves}
 use Rattle.abt_machine.specs.Events.{after, look_row, without_requests}
 use Rattle.abt_machine.specs.Sound.{Sound}
 use Rattle.abt_laws.specs.Measure.{hand_weight, place_weight, request_weight, unit_weight, weight}
-use Rattle.abt_laws.proofs.EventShapes.{handed}
+use Rattle.abt_laws.proofs.SoundEvents.{handed}
 use Rattle.abt_laws.proofs.Marks.{marks-kept, marks-elsewhere, left-mark}
 use Rattle.abt_laws.proofs.Places.{same-self}
 use Rattle.abt_laws.proofs.Standing.{StandsIn, each-stands, first-stands, front-stands, is-declared, none-first}

@@ -22,15 +22,15 @@ use Rattle.abt_machine.specs.Changes.{Change, changed}
 use Rattle.abt_machine.specs.Events.{May, change}
 use Rattle.abt_machine.specs.Sound.{Sound, IsPlaced, IsAtRest, AllUnderWay, AllAtRest, RunsSched, frames_of, stacked_frame}
 use Rattle.abt_machine.specs.Valid.{IsValid}
-use Rattle.abt_laws.proofs.EventShapes.{keeps-event}
+use Rattle.abt_laws.proofs.SoundEvents.{keeps-event}
 use Rattle.abt_laws.proofs.Rounds.{fresh-under_way}
 use Rattle.abt_laws.proofs.Dues.{due-no_next, due-no_hand, due-unit, enter-due, leave-below}
 use Rattle.abt_laws.proofs.Maps.{put_at-same, put_at-other, put_at-cases}
 use Rattle.abt_laws.proofs.Places.{ticket-place, same-self, stream-is}
 use Rattle.abt_laws.proofs.Arrivals.{IsBelow, free-above, free-empty}
 use Rattle.abt_laws.proofs.Standing.{StandsIn, first-stands, is-declared}
-use Rattle.abt_laws.proofs.KeepsSound.{Keeps, FramesKeep, OnStream}
-use Rattle.abt_laws.proofs.RoundSound.{fresh-rest}
+use Rattle.abt_laws.proofs.SoundChanges.{Keeps, FramesKeep, OnStream}
+use Rattle.abt_laws.proofs.SoundRound.{fresh-rest}
 use Rattle.abt_laws.proofs.ValidFacts.{sched-declared}
 use Rattle.abt_laws.proofs.Wakes.{empty-still}
 

@@ -12,7 +12,7 @@ use Rattle.abt_machine.specs.Events.{without_requests}
 use Rattle.abt_machine.specs.Sound.{Sound}
 use Rattle.abt_laws.proofs.Lists.{EachOf}
 use Rattle.abt_laws.proofs.Arrivals.{AllFree}
-use Rattle.abt_laws.proofs.KeepsSound.{Keeps, MovesWell, CarriesWell, AsksWell, FramesKeep}
+use Rattle.abt_laws.proofs.SoundChanges.{Keeps, MovesWell, CarriesWell, AsksWell, FramesKeep}
 use Rattle.abt_laws.proofs.Barriers.{IsOffBarriers, barriers-stay}
 
 -- unit u comes to the hand of stream s, with this mark

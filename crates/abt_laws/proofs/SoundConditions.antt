@@ -22,13 +22,13 @@ use Rattle.abt_laws.proofs.Lists.{EachOf, EachOf-append}
 use Rattle.abt_laws.proofs.Places.{line_of, same-self}
 use Rattle.abt_laws.proofs.Arrivals.{IsEmpty, IsBelow-move, IsBelow-moves, AllFree-append, free-above, tray-free, waiting-free}
 use Rattle.abt_laws.proofs.Standing.{none-first}
-use Rattle.abt_laws.proofs.KeepsSound.{Keeps, places, MovesWell}
+use Rattle.abt_laws.proofs.SoundChanges.{Keeps, places, MovesWell}
 use Rattle.abt_laws.proofs.Barriers.{IsOffBarriers}
-use Rattle.abt_laws.proofs.FramesStay.{IsFrameless}
+use Rattle.abt_laws.proofs.SoundFrames.{IsFrameless}
 use Rattle.abt_laws.proofs.Wakes.{IsWakeable, wakeable-first, tray-well, tray-frameless, tray-each, empty-still}
-use Rattle.abt_laws.proofs.MutexSteps.{next-owner}
-use Rattle.abt_laws.proofs.StepMoves.{keeps-moves}
-use Rattle.abt_laws.proofs.StepShapes.{IsStepping, in_no_frame, keeps-goes_on, waiting-below, tray-below}
+use Rattle.abt_laws.proofs.SoundMutexes.{next-owner}
+use Rattle.abt_laws.proofs.SoundMoves.{keeps-moves}
+use Rattle.abt_laws.proofs.SoundSteps.{IsStepping, in_no_frame, keeps-goes_on, waiting-below, tray-below}
 
 -- Moves to the waiters of object x.
 

@@ -13,9 +13,9 @@ use Rattle.abt_machine.specs.Changes.{goes_on}
 use Rattle.abt_machine.specs.Steps.{awaits, gives_all, ready_value, fills}
 use Rattle.abt_machine.specs.Sound.{HoldsUp}
 use Rattle.abt_laws.proofs.Options.{none≢some}
-use Rattle.abt_laws.proofs.KeepsSound.{Keeps, FutureHolds}
-use Rattle.abt_laws.proofs.StepShapes.{IsStepping, carries_on, keeps-still}
-use Rattle.abt_laws.proofs.EventualSteps.{all-leave, keeps-gives_all, keeps-awaits}
+use Rattle.abt_laws.proofs.SoundChanges.{Keeps, FutureHolds}
+use Rattle.abt_laws.proofs.SoundSteps.{IsStepping, carries_on, keeps-still}
+use Rattle.abt_laws.proofs.SoundEventuals.{all-leave, keeps-gives_all, keeps-awaits}
 
 module _ (W : Parts) (Z : List OrderShape) (S : State) (s u : ℕ) (step : IsStepping W Z S s u) where
   -- a future that is not full has a compartment left

@@ -7,10 +7,10 @@ use Rattle.abt_machine.specs.State.{State, Mutex}
 use Rattle.abt_machine.specs.Changes.{Change, goes_on}
 use Rattle.abt_laws.proofs.Lists.{EachOf}
 use Rattle.abt_laws.proofs.Arrivals.{AllFree}
-use Rattle.abt_laws.proofs.KeepsSound.{Keeps, places, MovesWell, MutexHolds}
+use Rattle.abt_laws.proofs.SoundChanges.{Keeps, places, MovesWell, MutexHolds}
 use Rattle.abt_laws.proofs.Barriers.{IsOffBarriers, barriers-stay}
-use Rattle.abt_laws.proofs.FramesStay.{IsFrameless, frames-stay}
-use Rattle.abt_laws.proofs.StepShapes.{IsStepping, carries_on}
+use Rattle.abt_laws.proofs.SoundFrames.{IsFrameless, frames-stay}
+use Rattle.abt_laws.proofs.SoundSteps.{IsStepping, carries_on}
 
 module _ (W : Parts) (Z : List OrderShape) (S : State) (s u : ℕ) (step : IsStepping W Z S s u) where
   -- u goes on, and units that are in no frame move, none to a barrier

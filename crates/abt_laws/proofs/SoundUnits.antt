@@ -18,11 +18,11 @@ use Rattle.abt_laws.proofs.Maps.{put_at-same, put_at-cases}
 use Rattle.abt_laws.proofs.Lists.{EachOf}
 use Rattle.abt_laws.proofs.Places.{ticket-place, same-self}
 use Rattle.abt_laws.proofs.Arrivals.{IsEmpty, IsBelow, IsBelow-move, IsFreeFor, free-nowhere, free-empty, free-above, tray-free}
-use Rattle.abt_laws.proofs.KeepsSound.{Keeps, places, IsAlone}
+use Rattle.abt_laws.proofs.SoundChanges.{Keeps, places, IsAlone}
 use Rattle.abt_laws.proofs.Barriers.{IsOffBarriers}
 use Rattle.abt_laws.proofs.Wakes.{IsWakeable, tray-well, tray-frameless, empty-after, frameless-by}
-use Rattle.abt_laws.proofs.StepMoves.{keeps-moves}
-use Rattle.abt_laws.proofs.StepShapes.{IsStepping, in_no_frame, may_wake, carries_on, keeps-goes_on, keeps-wakes, tray-below}
+use Rattle.abt_laws.proofs.SoundMoves.{keeps-moves}
+use Rattle.abt_laws.proofs.SoundSteps.{IsStepping, in_no_frame, may_wake, carries_on, keeps-goes_on, keeps-wakes, tray-below}
 
 module _ (W : Parts) (Z : List OrderShape) (S : State) (s u : ℕ) (step : IsStepping W Z S s u) where
   -- u goes to a free place that is no barrier

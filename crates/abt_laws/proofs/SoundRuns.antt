@@ -14,14 +14,14 @@ use Rattle.abt_machine.specs.Events.{May, after, change}
 use Rattle.abt_machine.specs.Runs.{RunFrom, state_after}
 use Rattle.abt_machine.specs.Sound.{Sound}
 use Rattle.abt_laws.specs.Laws.{StartIsSound, EventsKeepSound, RunsAreSound}
-use Rattle.abt_laws.proofs.KeepsSound.{sound-after}
-use Rattle.abt_laws.proofs.StartSound.{sound-start}
-use Rattle.abt_laws.proofs.PutSound.{keeps-put}
-use Rattle.abt_laws.proofs.LookSound.{keeps-look}
-use Rattle.abt_laws.proofs.EndSound.{keeps-end}
-use Rattle.abt_laws.proofs.RoundSound.{keeps-take, keeps-miss}
-use Rattle.abt_laws.proofs.StackSound.{keeps-enter, keeps-leave}
-use Rattle.abt_laws.proofs.StepKeeps.{step-keeps}
+use Rattle.abt_laws.proofs.SoundChanges.{sound-after}
+use Rattle.abt_laws.proofs.SoundStart.{sound-start}
+use Rattle.abt_laws.proofs.SoundPut.{keeps-put}
+use Rattle.abt_laws.proofs.SoundLook.{keeps-look}
+use Rattle.abt_laws.proofs.SoundEnd.{keeps-end}
+use Rattle.abt_laws.proofs.SoundRound.{keeps-take, keeps-miss}
+use Rattle.abt_laws.proofs.SoundStack.{keeps-enter, keeps-leave}
+use Rattle.abt_laws.proofs.SoundOps.{step-keeps}
 
 -- by the kind of event
 event-keeps : (W : Parts) (Z : List OrderShape) → IsValid W → OrdersStored W Z → (S : State) (s : ℕ) (w : What) → Sound W Z S → s < W.streams → May W Z S s w → Sound W Z (after W S s w)

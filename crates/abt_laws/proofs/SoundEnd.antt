@@ -13,16 +13,16 @@ use Rattle.abt_machine.specs.Next.{EndDue}
 use Rattle.abt_machine.specs.Changes.{Change, to_tray}
 use Rattle.abt_machine.specs.Events.{May, change, without_requests}
 use Rattle.abt_machine.specs.Sound.{Sound, IsPlaced, AsksNothing}
-use Rattle.abt_laws.proofs.EventShapes.{keeps-event}
+use Rattle.abt_laws.proofs.SoundEvents.{keeps-event}
 use Rattle.abt_laws.proofs.Dues.{due-no_tray}
 use Rattle.abt_laws.proofs.Maps.{put_at-same}
 use Rattle.abt_laws.proofs.Places.{line_of}
 use Rattle.abt_laws.proofs.Arrivals.{IsBelow-empty, IsBelow-move, free-nowhere, tray-free}
 use Rattle.abt_laws.proofs.Standing.{StandsIn, first-stands, among-standing}
-use Rattle.abt_laws.proofs.KeepsSound.{Keeps}
-use Rattle.abt_laws.proofs.FramesStay.{frames-stay}
+use Rattle.abt_laws.proofs.SoundChanges.{Keeps}
+use Rattle.abt_laws.proofs.SoundFrames.{frames-stay}
 use Rattle.abt_laws.proofs.Barriers.{IsOffBarriers}
-use Rattle.abt_laws.proofs.LookSound.{asks-nothing}
+use Rattle.abt_laws.proofs.SoundLook.{asks-nothing}
 use Rattle.abt_laws.proofs.Wakes.{frameless-in, wakeable-line, empty-after, tray-well, tray-frameless, tray-each, tray-key}
 
 ended-asks : (S : State) (u : ℕ) → AsksNothing (put_at S.desk u (without_requests (S.desk u)) u)

@@ -27,16 +27,16 @@ use Rattle.abt_machine.specs.Sound.{Sound}
 use Rattle.abt_machine.specs.Valid.{IsValid}
 use Rattle.abt_laws.proofs.Codes.{unless-second, unless-ok}
 use Rattle.abt_laws.proofs.ValidFacts.{op-declared, first_pool-declared, mutex-declared}
-use Rattle.abt_laws.proofs.KeepsSound.{Keeps, sound-after}
+use Rattle.abt_laws.proofs.SoundChanges.{Keeps, sound-after}
 use Rattle.abt_laws.proofs.Wakes.{IsWakeable, wakeable-line, wakeable-first, frameless-by}
-use Rattle.abt_laws.proofs.StepShapes.{IsStepping, stepping, may_wake, keeps-still, keeps-goes_with, keeps-wakes_only}
-use Rattle.abt_laws.proofs.UnitSteps.{keeps-suspends, keeps-joins, keeps-begins, keeps-yields_to}
-use Rattle.abt_laws.proofs.DeskSteps.{keeps-cancels, keeps-migrates, keeps-allows}
-use Rattle.abt_laws.proofs.MutexSteps.{keeps-takes, keeps-stores, keeps-locks, keeps-hands_over}
-use Rattle.abt_laws.proofs.ConditionSteps.{keeps-releases, keeps-passes}
-use Rattle.abt_laws.proofs.EventualSteps.{keeps-sets, keeps-unsets, keeps-awaits_eventual}
-use Rattle.abt_laws.proofs.FutureSteps.{keeps-awaits_future, keeps-fills, keeps-empties}
-use Rattle.abt_laws.proofs.BarrierSteps.{keeps-arrives}
+use Rattle.abt_laws.proofs.SoundSteps.{IsStepping, stepping, may_wake, keeps-still, keeps-goes_with, keeps-wakes_only}
+use Rattle.abt_laws.proofs.SoundUnits.{keeps-suspends, keeps-joins, keeps-begins, keeps-yields_to}
+use Rattle.abt_laws.proofs.SoundDesks.{keeps-cancels, keeps-migrates, keeps-allows}
+use Rattle.abt_laws.proofs.SoundMutexes.{keeps-takes, keeps-stores, keeps-locks, keeps-hands_over}
+use Rattle.abt_laws.proofs.SoundConditions.{keeps-releases, keeps-passes}
+use Rattle.abt_laws.proofs.SoundEventuals.{keeps-sets, keeps-unsets, keeps-awaits_eventual}
+use Rattle.abt_laws.proofs.SoundFutures.{keeps-awaits_future, keeps-fills, keeps-empties}
+use Rattle.abt_laws.proofs.SoundBarriers.{keeps-arrives}
 
 module _ (W : Parts) (Z : List OrderShape) (S : State) (s u : ℕ) (valid : IsValid W) (step : IsStepping W Z S s u) where
   -- u goes on, with this to carry

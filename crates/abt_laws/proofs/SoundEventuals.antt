@@ -15,9 +15,9 @@ use Rattle.abt_laws.proofs.Lists.{EachOf}
 use Rattle.abt_laws.proofs.Places.{line_of}
 use Rattle.abt_laws.proofs.Arrivals.{IsEmpty}
 use Rattle.abt_laws.proofs.Standing.{among-standing}
-use Rattle.abt_laws.proofs.KeepsSound.{Keeps, places, CarriesWell, EventualHolds, FutureHolds}
+use Rattle.abt_laws.proofs.SoundChanges.{Keeps, places, CarriesWell, EventualHolds, FutureHolds}
 use Rattle.abt_laws.proofs.Wakes.{wakeable-line, tray-each, tray-key, empty-after}
-use Rattle.abt_laws.proofs.StepShapes.{IsStepping, carries_on, keeps-goes_with, keeps-still, keeps-wakes, keeps-waits}
+use Rattle.abt_laws.proofs.SoundSteps.{IsStepping, carries_on, keeps-goes_with, keeps-still, keeps-wakes, keeps-waits}
 
 module _ (W : Parts) (Z : List OrderShape) (S : State) (s u : ℕ) (step : IsStepping W Z S s u) where
   -- whatever a unit's new accumulator is

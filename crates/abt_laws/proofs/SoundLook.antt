@@ -14,14 +14,14 @@ use Rattle.abt_machine.specs.Frames.{marked}
 use Rattle.abt_machine.specs.Changes.{Change, to_tray}
 use Rattle.abt_machine.specs.Events.{May, change, look_row, without_requests}
 use Rattle.abt_machine.specs.Sound.{Sound, IsPlaced, IsAtRest}
-use Rattle.abt_laws.proofs.EventShapes.{handed, keeps-event}
+use Rattle.abt_laws.proofs.SoundEvents.{handed, keeps-event}
 use Rattle.abt_laws.proofs.Dues.{due-no_tray}
 use Rattle.abt_laws.proofs.Maps.{put_at-same}
 use Rattle.abt_laws.proofs.Places.{ticket-place, same-self}
 use Rattle.abt_laws.proofs.Arrivals.{IsEmpty, IsBelow-empty, free-empty, tray-free}
 use Rattle.abt_laws.proofs.Standing.{StandsIn, first-stands}
-use Rattle.abt_laws.proofs.KeepsSound.{Keeps, AsksWell}
-use Rattle.abt_laws.proofs.FramesStay.{IsFrameless, frames-stay}
+use Rattle.abt_laws.proofs.SoundChanges.{Keeps, AsksWell}
+use Rattle.abt_laws.proofs.SoundFrames.{IsFrameless, frames-stay}
 use Rattle.abt_laws.proofs.Wakes.{IsWakeable, frameless-in, empty-after, tray-well}
 
 -- nothing is asked afterwards

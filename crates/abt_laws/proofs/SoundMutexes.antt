@@ -18,9 +18,9 @@ use Rattle.abt_laws.proofs.Codes.{owned-some}
 use Rattle.abt_laws.proofs.Places.{line_of}
 use Rattle.abt_laws.proofs.Arrivals.{IsEmpty}
 use Rattle.abt_laws.proofs.Standing.{none-first}
-use Rattle.abt_laws.proofs.KeepsSound.{Keeps, places, MutexHolds}
+use Rattle.abt_laws.proofs.SoundChanges.{Keeps, places, MutexHolds}
 use Rattle.abt_laws.proofs.Wakes.{wakeable-first, tray-each, empty-still}
-use Rattle.abt_laws.proofs.StepShapes.{IsStepping, carries_on, keeps-still, keeps-wakes, keeps-waits}
+use Rattle.abt_laws.proofs.SoundSteps.{IsStepping, carries_on, keeps-still, keeps-wakes, keeps-waits}
 
 -- the first waiter owns the mutex, or nobody waits
 pub next-owner : (f : ℕ → Place) (x : ℕ) (us : List ℕ) (m : Mutex) → (first us ≡ None → IsEmpty (Waiting x) f) → MutexHolds f x (owned (first us) m)

@@ -27,9 +27,9 @@ use Rattle.abt_laws.proofs.Lists.{EachOf}
 use Rattle.abt_laws.proofs.Places.{ticket-place, same-self}
 use Rattle.abt_laws.proofs.Arrivals.{IsEmpty, IsBelow, IsBelow-empty, free-above, tray-free}
 use Rattle.abt_laws.proofs.Standing.{StandsIn, first-stands}
-use Rattle.abt_laws.proofs.KeepsSound.{Keeps, places, CarriesWell, AsksWell, MutexHolds, EventualHolds, FutureHolds}
+use Rattle.abt_laws.proofs.SoundChanges.{Keeps, places, CarriesWell, AsksWell, MutexHolds, EventualHolds, FutureHolds}
 use Rattle.abt_laws.proofs.Barriers.{barriers-stay, barriers-wait, IsOffBarriers}
-use Rattle.abt_laws.proofs.FramesStay.{IsFrameless, frames-stay}
+use Rattle.abt_laws.proofs.SoundFrames.{IsFrameless, frames-stay}
 use Rattle.abt_laws.proofs.Wakes.{IsWakeable, tray-well, tray-frameless, tray-each}
 
 -- what is known where stream s makes a step of the unit u in its hand

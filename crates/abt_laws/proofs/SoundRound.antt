@@ -17,15 +17,15 @@ use Rattle.abt_machine.specs.Changes.{Change}
 use Rattle.abt_machine.specs.Events.{May, change}
 use Rattle.abt_machine.specs.Sound.{Sound, IsAtRest, AllAtRest}
 use Rattle.abt_machine.specs.Valid.{IsValid}
-use Rattle.abt_laws.proofs.EventShapes.{keeps-event}
+use Rattle.abt_laws.proofs.SoundEvents.{keeps-event}
 use Rattle.abt_laws.proofs.Rounds.{next-under_way, missed-under_way}
 use Rattle.abt_laws.proofs.Dues.{due-no_tray, due-no_next, due-no_hand}
 use Rattle.abt_laws.proofs.Maps.{put_at-same}
 use Rattle.abt_laws.proofs.Places.{same-self}
 use Rattle.abt_laws.proofs.Arrivals.{IsEmpty, free-empty}
 use Rattle.abt_laws.proofs.Standing.{StandsIn, front-stands}
-use Rattle.abt_laws.proofs.KeepsSound.{Keeps, OnStream}
-use Rattle.abt_laws.proofs.FramesStay.{frames-stay}
+use Rattle.abt_laws.proofs.SoundChanges.{Keeps, OnStream}
+use Rattle.abt_laws.proofs.SoundFrames.{frames-stay}
 use Rattle.abt_laws.proofs.Wakes.{frameless-in, empty-still}
 
 -- a frame at the beginning of a round is at rest on those below it
