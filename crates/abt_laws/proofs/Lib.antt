@@ -21,6 +21,7 @@ pub mod LifeRuns
 pub mod LifeStepped
 pub mod LifeSteps
 pub mod LifeTies
+pub mod LineMoves
 pub mod Lists
 pub mod Local
 pub mod LocalEvents

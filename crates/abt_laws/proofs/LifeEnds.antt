@@ -21,6 +21,7 @@ use Rattle.abt_machine.specs.Next.{EndDue, LeaveDue, due_of_unit}
 use Rattle.abt_machine.specs.Changes.{to_tray, tray_moves}
 use Rattle.abt_machine.specs.Events.{May, after, without_requests}
 use Rattle.abt_machine.specs.Lives.{count_up}
+use Rattle.abt_laws.proofs.LineMoves.{tray_moves-each}
 use Rattle.abt_laws.proofs.Marks.{marks-kept, marks-elsewhere, left-mark}
 use Rattle.abt_laws.proofs.Standing.{hand-place, hand-none}
 use Rattle.abt_laws.proofs.Options.{none≢some}
@@ -72,19 +73,18 @@ module _ (W : Parts) (Z : List OrderShape) (S : State) (s u : ℕ) where
     joiners-outside : AllOutside S (standing W S (Joining v.0))
     joiners-outside = line-outside W S (Joining v.0) (λ t. tt)
 
-    -- the joiners come from outside to the tray, and unit v is none of them
-    joiner-moves : (P : ℕ × Place → Type 0) → ((n i : ℕ) → IsOutside (S.place n) → P (n, place.Tray (stream_no s) i)) → (us : List ℕ) (i : ℕ) → AllOutside S us → EachOf P (tray_moves s i us)
-    joiner-moves P h [] i a = tt
-    joiner-moves P h (n ∷ us) i a = (h n i a.0, joiner-moves P h us (suc i) a.1)
+    -- the joiners come from outside to the tray
+    joiner-moves : (P : ℕ × Place → Type 0) → ((n i : ℕ) → IsOutside (S.place n) → P (n, place.Tray (stream_no s) i)) → EachOf P (to_tray W S s (standing W S (Joining v.0)))
+    joiner-moves P h = tray_moves-each P (λ n. IsOutside (S.place n)) s (tray_end W S s) (standing W S (Joining v.0)) h joiners-outside
 
     ended-place : ended.place v.0 ≡ place.Ended c
     ended-place =
         put_all-kept (λ n pl. n ≡ v.0 → pl ≡ place.Ended c) (put_at S.place v.0 (place.Ended c)) (to_tray W S s (standing W S (Joining v.0))) v.0
-        (joiner-moves (λ m. m.0 ≡ v.0 → m.1 ≡ place.Ended c) (λ n i out same. absurd (subst IsOutside (ap S.place same ∙ ends-from) out)) (standing W S (Joining v.0)) (tray_end W S s) joiners-outside)
+        (joiner-moves (λ m. m.0 ≡ v.0 → m.1 ≡ place.Ended c) (λ n i out same. absurd (subst IsOutside (ap S.place same ∙ ends-from) out)))
         (λ same. put_at-same S.place v.0 (place.Ended c)) refl
 
     ended-moves : EachOf (LeavesOthers S v.0) ((v.0, place.Ended c) ∷ to_tray W S s (standing W S (Joining v.0)))
-    ended-moves = (inl refl, joiner-moves (LeavesOthers S v.0) (λ n i out. inr (out, tt)) (standing W S (Joining v.0)) (tray_end W S s) joiners-outside)
+    ended-moves = (inl refl, joiner-moves (LeavesOthers S v.0) (λ n i out. inr (out, tt)))
 
     ended-life : (n : ℕ) → (ended.desk n).life ≡ (S.desk n).life
     ended-life n = put_all-kept (λ m (d : Desk). d.life ≡ (S.desk m).life) S.desk ((v.0, without_requests (S.desk v.0)) ∷ []) n (refl, tt) refl

@@ -22,6 +22,7 @@ use Rattle.abt_machine.specs.Outcomes.{IsOver}
 use Rattle.abt_machine.specs.Codes.{code_of, unless, is_unborn, is_ended, is_suspended, is_in_pool, is_full}
 use Rattle.abt_machine.specs.Changes.{no_change, goes_with, goes_on, to_tray, tray_moves, waiting_moves}
 use Rattle.abt_machine.specs.Steps.{wakes, asks, joins, waits, locks, hands_over, releases, queues, passes, receives, gives_all, awaits, learns, ready_value, filled_by, fills, arrives, op_row}
+use Rattle.abt_laws.proofs.LineMoves.{tray_moves-each, waiting_moves-each}
 use Rattle.abt_laws.proofs.Codes.{unless-ok}
 use Rattle.abt_laws.proofs.Places.{place_in}
 use Rattle.abt_laws.proofs.Standing.{StandsIn, each-stands}
@@ -45,12 +46,10 @@ waiters-outside W S x = line-outside W S (Waiting x) (λ t. tt)
 
 module _ (W : Parts) (S : State) (s x : ℕ) (held : IsOutside (S.place x) → ⊥) where
   tray-stays : (us : List ℕ) (i : ℕ) → AllOutside S us → EachOf (StaysOutside S x) (tray_moves s i us)
-  tray-stays [] i a = tt
-  tray-stays (u ∷ us) i a = ((inr a.0, tt), tray-stays us (suc i) a.1)
+  tray-stays us i a = tray_moves-each (StaysOutside S x) (λ u. IsOutside (S.place u)) s i us (λ u t out. (inr out, tt)) a
 
   waiting-stays : (m : ℕ) (us : List ℕ) (t : ℕ) → AllOutside S us → EachOf (StaysOutside S x) (waiting_moves m t us)
-  waiting-stays m [] t a = tt
-  waiting-stays m (u ∷ us) t a = ((inr a.0, tt), waiting-stays m us (suc t) a.1)
+  waiting-stays m us t a = waiting_moves-each (StaysOutside S x) (λ u. IsOutside (S.place u)) m t us (λ u k b out. (inr out, tt)) a
 
   row-goes_with : (c : Carried) → c.position ≡ (S.carried x).position → Steps S x (goes_with x c)
   row-goes_with c h = record { stay_outside = tt; goes_on = (refl, ap (λ (n : ℕ). suc n) h, tt); same_lives = tt; same_streams = refl }

@@ -19,7 +19,7 @@ use Rattle.abt_machine.specs.Changes.{Change, changed}
 use Rattle.abt_machine.specs.Steps.{begins}
 use Rattle.abt_machine.specs.Lives.{life_after, is_of, count_up}
 use Rattle.abt_laws.proofs.Options.{none≢some}
-use Rattle.abt_laws.proofs.Lists.{EachOf}
+use Rattle.abt_laws.proofs.Lists.{EachOf, EachOf-then}
 use Rattle.abt_laws.proofs.Maps.{put_at-same, put_at-other, put_all-kept}
 use Rattle.abt_laws.proofs.LifeTies.{IsOutside, IsBusy, IsBusy-outside, ends-busy, Drifts, Acts, Begins, Fate, Drifting, Acting, Beginning}
 
@@ -50,11 +50,8 @@ carried-other : (S : State) (x u : ℕ) (ps : List (ℕ × Carried)) → u ≢ x
 carried-other S x u [] ne h = absurd h
 carried-other S x u (p ∷ ps) ne h =
     elim (put_all-kept (λ n (c : Carried). (n ≡ x) ⊎ (c.position ≡ (S.carried n).position)) (put_at S.carried p.0 p.1) ps u
-    (weaken ps h.2) (inr (ap (λ (c : Carried). c.position) (put_at-other S.carried p.0 p.1 u (λ e. ne (e ∙ h.0))))))
-    [ inl same ↦ absurd (ne same) | inr is ↦ is ] where
-      weaken : (qs : List (ℕ × Carried)) → EachOf (λ (q : ℕ × Carried). (q.0 ≢ x) × (q.1.position ≡ (S.carried q.0).position)) qs → EachOf (λ (q : ℕ × Carried). (q.0 ≡ x) ⊎ (q.1.position ≡ (S.carried q.0).position)) qs
-      weaken [] a = tt
-      weaken (q ∷ qs) a = (inr a.0.1, weaken qs a.1)
+    (EachOf-then _ _ ps (λ q other. inr other.1) h.2) (inr (ap (λ (c : Carried). c.position) (put_at-other S.carried p.0 p.1 u (λ e. ne (e ∙ h.0))))))
+    [ inl same ↦ absurd (ne same) | inr is ↦ is ]
 
 -- a move of unit x, or of another from outside to outside
 abbrev pub LeavesOthers : State → ℕ → ℕ × Place → Type 0
@@ -62,15 +59,12 @@ LeavesOthers S x m = (m.0 ≡ x) ⊎ (IsOutside (S.place m.0) × IsOutside m.1)
 
 pub moved-other : (S : State) (x u : ℕ) (ms : List (ℕ × Place)) → u ≢ x → EachOf (LeavesOthers S x) ms → (put_all S.place ms u ≡ S.place u) ⊎ (IsOutside (S.place u) × IsOutside (put_all S.place ms u))
 moved-other S x u ms ne h =
-    elim (put_all-kept (λ n pl. (n ≡ x) ⊎ ((pl ≡ S.place n) ⊎ (IsOutside (S.place n) × IsOutside pl))) S.place ms u (weaken ms h) (inr (inl refl)))
-    [ inl same ↦ absurd (ne same) | inr is ↦ is ] where
-      weaken : (ns : List (ℕ × Place)) → EachOf (LeavesOthers S x) ns → EachOf (λ (m : ℕ × Place). (m.0 ≡ x) ⊎ ((m.1 ≡ S.place m.0) ⊎ (IsOutside (S.place m.0) × IsOutside m.1))) ns
-      weaken [] a = tt
-      weaken (m ∷ ns) a = (elim a.0 [ inl own ↦ inl own | inr out ↦ inr (inr out) ], weaken ns a.1)
+    elim (put_all-kept (λ n pl. (n ≡ x) ⊎ ((pl ≡ S.place n) ⊎ (IsOutside (S.place n) × IsOutside pl))) S.place ms u
+    (EachOf-then _ _ ms (λ m leaves. elim leaves [ inl own ↦ inl own | inr out ↦ inr (inr out) ]) h) (inr (inl refl)))
+    [ inl same ↦ absurd (ne same) | inr is ↦ is ]
 
 leaves-others : (S : State) (x : ℕ) (ms : List (ℕ × Place)) → EachOf (StaysOutside S x) ms → EachOf (LeavesOthers S x) ms
-leaves-others S x [] a = tt
-leaves-others S x (m ∷ ms) a = (elim a.0.0 [ inl own ↦ inl own | inr out ↦ inr (out, a.0.1) ], leaves-others S x ms a.1)
+leaves-others S x ms a = EachOf-then (StaysOutside S x) (LeavesOthers S x) ms (λ m stays. elim stays.0 [ inl own ↦ inl own | inr out ↦ inr (out, stays.1) ]) a
 
 same-life : (S : State) (u : ℕ) (ds : List (ℕ × Desk)) → EachOf (λ (d : ℕ × Desk). d.1.life ≡ (S.desk d.0).life) ds → (put_all S.desk ds u).life ≡ (S.desk u).life
 same-life S u ds h = put_all-kept (λ n (d : Desk). d.life ≡ (S.desk n).life) S.desk ds u h refl
@@ -89,17 +83,11 @@ carried-own : (S : State) (x : ℕ) (ps : List (ℕ × Carried)) → CarriesOn S
 carried-own S x [] h = absurd h
 carried-own S x (p ∷ ps) h =
     elim (put_all-kept (λ n (c : Carried). (n ≡ x → ⊥) ⊎ (c.position ≡ suc (S.carried x).position)) (put_at S.carried p.0 p.1) ps x
-    (weaken ps h.2) (inr (ap (λ (c : Carried). c.position) (subst (λ n. put_at S.carried p.0 p.1 n ≡ p.1) h.0 (put_at-same S.carried p.0 p.1)) ∙ h.1)))
-    [ inl other ↦ absurd (other refl) | inr is ↦ is ] where
-      weaken : (qs : List (ℕ × Carried)) → EachOf (λ (q : ℕ × Carried). (q.0 ≢ x) × (q.1.position ≡ (S.carried q.0).position)) qs → EachOf (λ (q : ℕ × Carried). (q.0 ≡ x → ⊥) ⊎ (q.1.position ≡ suc (S.carried x).position)) qs
-      weaken [] a = tt
-      weaken (q ∷ qs) a = (inl a.0.0, weaken qs a.1)
+    (EachOf-then _ _ ps (λ q other. inl other.0) h.2) (inr (ap (λ (c : Carried). c.position) (subst (λ n. put_at S.carried p.0 p.1 n ≡ p.1) h.0 (put_at-same S.carried p.0 p.1)) ∙ h.1)))
+    [ inl other ↦ absurd (other refl) | inr is ↦ is ]
 
 moved-own : (S : State) (x : ℕ) (ms : List (ℕ × Place)) → IsBusy (S.place x) → EachOf (StaysOutside S x) ms → IsBusy (put_all S.place ms x)
-moved-own S x ms busy h = put_all-kept (λ n pl. IsBusy pl) S.place ms x (weaken ms h) busy where
-  weaken : (ns : List (ℕ × Place)) → EachOf (StaysOutside S x) ns → EachOf (λ (m : ℕ × Place). IsBusy m.1) ns
-  weaken [] a = tt
-  weaken (m ∷ ns) a = (IsBusy-outside m.1 a.0.1, weaken ns a.1)
+moved-own S x ms busy h = put_all-kept (λ n pl. IsBusy pl) S.place ms x (EachOf-then (StaysOutside S x) (λ m. IsBusy m.1) ms (λ m stays. IsBusy-outside m.1 stays.1) h) busy
 
 -- a unit that makes a step goes on, whatever else changes
 acts-by_step : (b : Body) (v : UnitNo) (k : ℕ) (c : Code) (S T : State) → is_sched b ≡ false → (S.carried v.0).position ≡ k → IsBusy (S.place v.0) → IsBusy (T.place v.0) → (T.desk v.0).life ≡ (S.desk v.0).life → (T.carried v.0).position ≡ suc (S.carried v.0).position → Acts b v.0 (what.Step v k c) S T

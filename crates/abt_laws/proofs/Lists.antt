@@ -8,6 +8,10 @@ abbrev pub EachOf : {A : Type 0} → (A → Type 0) → List A → Type 0
 EachOf P [] = Unit {0}
 EachOf P (x ∷ xs) = P x × EachOf P xs
 
+pub EachOf-all : {A : Type 0} (P : A → Type 0) (xs : List A) → ((x : A) → P x) → EachOf P xs
+EachOf-all P [] f = tt
+EachOf-all P (x ∷ xs) f = (f x, EachOf-all P xs f)
+
 pub EachOf-then : {A : Type 0} (P Q : A → Type 0) (xs : List A) → ((x : A) → P x → Q x) → EachOf P xs → EachOf Q xs
 EachOf-then P Q [] f a = tt
 EachOf-then P Q (x ∷ xs) f a = (f x a.0, EachOf-then P Q xs f a.1)

@@ -15,7 +15,8 @@ use Rattle.abt_machine.specs.State.{State, Carried, Desk, Mutex, Future}
 use Rattle.abt_machine.specs.Lines.{Waiting, hand, standing, tray_end}
 use Rattle.abt_machine.specs.Changes.{Change, no_change, tray_moves, to_tray, waiting_moves, goes_with, goes_on}
 use Rattle.abt_machine.specs.Steps.{wakes, begins, asks, joins, waits, locks, hands_over, releases, queues, passes, receives, gives_all, awaits, fills, arrives}
-use Rattle.abt_laws.proofs.Lists.{EachOf, EachOf-append}
+use Rattle.abt_laws.proofs.LineMoves.{tray_moves-each, waiting_moves-each}
+use Rattle.abt_laws.proofs.Lists.{EachOf, EachOf-append, EachOf-map}
 use Rattle.abt_laws.proofs.Keeping.{IsKept, hand-kept, standing-kept, one-kept}
 use Rattle.abt_laws.proofs.Local.{MovesWithin, IsLocal, local-none, local-moves, local-carried, local-desk, local-join_next, local-object_next, local-mutex, local-eventual, local-future}
 
@@ -23,16 +24,13 @@ use Rattle.abt_laws.proofs.Local.{MovesWithin, IsLocal, local-none, local-moves,
 
 module _ (W : Parts) (S : State) (s : ℕ) (x : Option Site) where
   pub tray-within : (us : List ℕ) (i : ℕ) → EachOf (IsKept W S s x) us → EachOf (MovesWithin W S s x) (tray_moves s i us)
-  tray-within [] i a = tt
-  tray-within (u ∷ us) i a = ((a.0, refl), tray-within us (suc i) a.1)
+  tray-within us i a = tray_moves-each (MovesWithin W S s x) (IsKept W S s x) s i us (λ u t kept. (kept, refl)) a
 
   waiting-within : (y : ℕ) (us : List ℕ) (t : ℕ) → x ≡ Some (object_site W y) → EachOf (IsKept W S s x) us → EachOf (MovesWithin W S s x) (waiting_moves y t us)
-  waiting-within y [] t e a = tt
-  waiting-within y (u ∷ us) t e a = ((a.0, e), waiting-within y us (suc t) e a.1)
+  waiting-within y us t e a = waiting_moves-each (MovesWithin W S s x) (IsKept W S s x) y t us (λ u k b kept. (kept, e)) a
 
   receives-within : (value : ℕ) (us : List ℕ) → EachOf (IsKept W S s x) us → EachOf (λ m. IsKept W S s x m.0) (map (receives S value) us)
-  receives-within value [] a = tt
-  receives-within value (u ∷ us) a = (a.0, receives-within value us a.1)
+  receives-within value us a = EachOf-map (λ m. IsKept W S s x m.0) (IsKept W S s x) (receives S value) us (λ u kept. kept) a
 
 -- One lemma for each shape of row, of unit u in the hand of stream s.
 

@@ -21,6 +21,7 @@ use Rattle.abt_machine.specs.Changes.{Change, no_change, changed, to_tray, goes_
 use Rattle.abt_machine.specs.Steps.{wakes, waits, asks}
 use Rattle.abt_machine.specs.Events.{May}
 use Rattle.abt_machine.specs.Sound.{Sound, IsPlaced, IsAtRest, HoldsUp}
+use Rattle.abt_laws.proofs.LineMoves.{tray_moves-places}
 use Rattle.abt_laws.proofs.Dues.{due-no_tray, due-no_next, due-unit, step-due}
 use Rattle.abt_laws.proofs.Maps.{put_at-same, put_at-other}
 use Rattle.abt_laws.proofs.Lists.{EachOf}
@@ -30,7 +31,7 @@ use Rattle.abt_laws.proofs.Standing.{StandsIn, first-stands}
 use Rattle.abt_laws.proofs.SoundChanges.{Keeps, places, CarriesWell, AsksWell, MutexHolds, EventualHolds, FutureHolds}
 use Rattle.abt_laws.proofs.Barriers.{barriers-stay, barriers-wait, IsOffBarriers}
 use Rattle.abt_laws.proofs.SoundFrames.{IsFrameless, frames-stay}
-use Rattle.abt_laws.proofs.Wakes.{IsWakeable, tray-well, tray-frameless, tray-each}
+use Rattle.abt_laws.proofs.Wakes.{IsWakeable, tray-well, tray-frameless}
 
 -- what is known where stream s makes a step of the unit u in its hand
 pub record IsStepping (W : Parts) (Z : List OrderShape) (S : State) (s u : ℕ) : Type 0 where
@@ -110,7 +111,7 @@ module _ (W : Parts) (Z : List OrderShape) (S : State) (s u : ℕ) (step : IsSte
       record {
         free = tray-free s (tray_end W S s) S.place us tray-below;
         moves = tray-well W S c s (tray_end W S s) us step.stream step.rests each;
-        barriers = barriers-stay W Z S step.sound c (tray-each (IsOffBarriers W) s (tray_end W S s) us (λ t. tt));
+        barriers = barriers-stay W Z S step.sound c (tray_moves-places (IsOffBarriers W) s (tray_end W S s) us (λ t. tt));
         carried = a;
         desks = b;
         pool_next = tt;

@@ -10,6 +10,7 @@ use Rattle.abt_machine.specs.State.{State}
 use Rattle.abt_machine.specs.Lines.{Line, InFrames, ticket_in, standing}
 use Rattle.abt_machine.specs.Changes.{Change, changed, tray_moves}
 use Rattle.abt_machine.specs.Sound.{IsAtRest}
+use Rattle.abt_laws.proofs.LineMoves.{tray_moves-each}
 use Rattle.abt_laws.proofs.Lists.{Among, EachOf, EachOf-then, EachOf-first_alone}
 use Rattle.abt_laws.proofs.Maps.{KeyOf, KeyOf-cases, put_all-other, put_all-value}
 use Rattle.abt_laws.proofs.Places.{place_in, line_of, line_of-place_in, line_of-ticket}
@@ -51,21 +52,11 @@ wakeable-first W S l other = EachOf-then _ _ (first_alone (standing W S l)) (wak
 -- Moves to the tray of stream s.
 
 pub tray-well : (W : Parts) (S : State) (c : Change) (s i : ℕ) (us : List ℕ) → s < W.streams → IsAtRest ((changed S c).stream s) → EachOf (IsWakeable W S) us → EachOf (λ (m : ℕ × Place). MovesWell W S c m.0 m.1) (tray_moves s i us)
-tray-well W S c s i [] l rests each = tt
-tray-well W S c s i (u ∷ us) l rests each = (record { declared = each.0.declared; placed = (l, rests); alone = tt; joined = inl tt }, tray-well W S c s (suc i) us l rests each.1)
+tray-well W S c s i us l rests each =
+    tray_moves-each (λ m. MovesWell W S c m.0 m.1) (IsWakeable W S) s i us (λ u t wakes. record { declared = wakes.declared; placed = (l, rests); alone = tt; joined = inl tt }) each
 
 pub tray-frameless : (W : Parts) (S : State) (s i : ℕ) (us : List ℕ) → EachOf (IsWakeable W S) us → EachOf (λ (m : ℕ × Place). IsFrameless S m.0) (tray_moves s i us)
-tray-frameless W S s i [] each = tt
-tray-frameless W S s i (u ∷ us) each = (each.0.frameless, tray-frameless W S s (suc i) us each.1)
-
--- what holds of each place in the tray holds of each of these moves
-pub tray-each : (P : Place → Type 0) (s i : ℕ) (us : List ℕ) → ((t : ℕ) → P (place.Tray (stream_no s) t)) → EachOf (λ (m : ℕ × Place). P m.1) (tray_moves s i us)
-tray-each P s i [] p = tt
-tray-each P s i (u ∷ us) p = (p i, tray-each P s (suc i) us p)
-
-pub tray-key : (s i : ℕ) (us : List ℕ) (v : ℕ) → Among v us → KeyOf v (tray_moves s i us)
-tray-key s i [] v m = absurd m
-tray-key s i (u ∷ us) v m = elim m [ inl e ↦ inl e | inr b ↦ inr (tray-key s (suc i) us v b) ]
+tray-frameless W S s i us each = tray_moves-each (λ m. IsFrameless S m.0) (IsWakeable W S) s i us (λ u t wakes. wakes.frameless) each
 
 -- Lines that are empty afterwards.
 
