@@ -1,7 +1,6 @@
 -- No barrier has as many waiters as parties after a change.
-use Rattle.std.proofs.Common.{◌≡◌, ◌≢◌, ℕ, zero, suc, ◌<◌, ◌≤◌, nat_le, List, [], ◌∷◌, length, Option, Some, None, refl, sym, ◌∙◌, ap, subst, arith, inl, inr}
-use Rattle.std.proofs.lemmas.Bool.{cond_both, cases_eq}
-use Rattle.std.proofs.lemmas.List.{length-map}
+use Rattle.std.proofs.Common.{◌≡◌, ◌≢◌, ℕ, suc, ◌<◌, ◌≤◌, List, length, Some, sym, ◌∙◌, ap, subst, arith, inl, inr}
+use Rattle.std.proofs.lemmas.Bool.{cases_eq}
 use Rattle.abt_machine.specs.declared.events.Place.{Place}
 use Rattle.abt_machine.specs.declared.events.Place.TheVariants as place
 use Rattle.abt_machine.specs.declared.events.Spot.TheVariants as spot
@@ -9,13 +8,11 @@ use Rattle.abt_machine.specs.declared.operations.OrderShape.{OrderShape}
 use Rattle.abt_machine.specs.declared.operations.Thing.TheVariants as thing
 use Rattle.abt_machine.specs.declared.workload.Parts.{Parts}
 use Rattle.abt_machine.specs.Workloads.{thing_at}
-use Rattle.abt_machine.specs.Queues.{insert_by_ticket, ticketed_step, ticketed, queue}
 use Rattle.abt_machine.specs.State.{State}
 use Rattle.abt_machine.specs.Lines.{Waiting, ticket_in, standing}
 use Rattle.abt_machine.specs.Changes.{Change, changed}
 use Rattle.abt_machine.specs.Sound.{Sound}
 use Rattle.abt_laws.proofs.Counts.{queue-fewer, queue-one_more}
-use Rattle.abt_laws.proofs.Options.{none≢some}
 use Rattle.abt_laws.proofs.Lists.{EachOf}
 use Rattle.abt_laws.proofs.Maps.{KeyOf-cases, put_all-other, put_all-value}
 use Rattle.abt_laws.proofs.Places.{place_in, ticket-place, line-unique, same-self}

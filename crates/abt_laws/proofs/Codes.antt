@@ -1,11 +1,8 @@
 -- What the tests of codes say of places, owners and futures.
-use Rattle.std.proofs.Common.{◌≡◌, ℕ, Bool, true, false, not, Option, Some, None, refl, sym, ◌∙◌, ap, subst}
+use Rattle.std.proofs.Common.{◌≡◌, ℕ, Bool, true, false, Option, Some, None, refl, subst}
 use Rattle.std.specs.Prelude.{IsSome}
 use Rattle.abt_machine.specs.declared.events.Code.{Code}
 use Rattle.abt_machine.specs.declared.events.Code.TheVariants as code
-use Rattle.abt_machine.specs.declared.events.Place.{Place}
-use Rattle.abt_machine.specs.declared.events.Place.TheVariants as place
-use Rattle.abt_machine.specs.Numbers.{stream_no}
 use Rattle.abt_machine.specs.Fronts.{is_some_of}
 use Rattle.abt_machine.specs.State.{State}
 use Rattle.abt_machine.specs.Codes.{unless, owned_by}

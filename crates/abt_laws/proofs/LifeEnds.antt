@@ -1,5 +1,5 @@
 -- What an end, an entry and a leave mean to units.
-use Rattle.std.proofs.Common.{◌≡◌, ℕ, suc, ◌+◌, ◌<◌, ◌≤◌, true, false, List, [], ◌∷◌, length, None, refl, sym, ◌∙◌, ap, subst, inl, inr}
+use Rattle.std.proofs.Common.{◌≡◌, ℕ, ◌+◌, ◌<◌, ◌≤◌, true, false, List, [], ◌∷◌, length, refl, sym, ◌∙◌, ap, subst, inl, inr}
 use Rattle.std.proofs.lemmas.List.{append-nil}
 use Rattle.abt_machine.specs.declared.events.Cause.{Cause}
 use Rattle.abt_machine.specs.declared.events.Cause.TheVariants as cause
@@ -15,10 +15,10 @@ use Rattle.abt_machine.specs.Numbers.{stream_no}
 use Rattle.abt_machine.specs.Maps.{put_at}
 use Rattle.abt_machine.specs.Workloads.{body_at, ops_of, is_sched}
 use Rattle.abt_machine.specs.State.{State, Stream, Frame, Desk, Mark, Plain, Asked, Left}
-use Rattle.abt_machine.specs.Lines.{Joining, standing, hand, tray_end}
-use Rattle.abt_machine.specs.Frames.{entered, left, left_to, sched_of}
+use Rattle.abt_machine.specs.Lines.{Joining, standing, tray_end}
+use Rattle.abt_machine.specs.Frames.{entered, left, sched_of}
 use Rattle.abt_machine.specs.Next.{EndDue, LeaveDue, due_of_unit}
-use Rattle.abt_machine.specs.Changes.{to_tray, tray_moves}
+use Rattle.abt_machine.specs.Changes.{to_tray}
 use Rattle.abt_machine.specs.Events.{May, after, without_requests}
 use Rattle.abt_machine.specs.Lives.{count_up}
 use Rattle.abt_laws.proofs.LineMoves.{tray_moves-each}

@@ -14,7 +14,7 @@ use Rattle.abt_machine.specs.Carrying.{with_home}
 use Rattle.abt_machine.specs.State.{State, Stream, Carried, Desk, Mark, Plain, Asked}
 use Rattle.abt_machine.specs.Lines.{InPool, InTray, tray_end}
 use Rattle.abt_machine.specs.Frames.{marked, round_taken, round_missed}
-use Rattle.abt_machine.specs.Changes.{no_change, changed}
+use Rattle.abt_machine.specs.Changes.{changed}
 use Rattle.abt_machine.specs.Events.{May, after, look_row, without_requests}
 use Rattle.abt_machine.specs.Sound.{Sound}
 use Rattle.abt_laws.proofs.SoundEvents.{handed}

@@ -17,9 +17,9 @@ use Rattle.abt_machine.specs.Access.{may_put, may_take}
 use Rattle.abt_machine.specs.Carrying.{added, from_key, printed, refused, with_acc, with_key}
 use Rattle.abt_machine.specs.Queues.{first_alone}
 use Rattle.abt_machine.specs.State.{State, Carried, Desk, Future}
-use Rattle.abt_machine.specs.Lines.{Line, ticket_in, standing, Waiting, Joining, tray_end}
+use Rattle.abt_machine.specs.Lines.{Line, standing, Waiting, tray_end}
 use Rattle.abt_machine.specs.Outcomes.{IsOver}
-use Rattle.abt_machine.specs.Codes.{code_of, unless, is_unborn, is_ended, is_suspended, is_in_pool, is_full}
+use Rattle.abt_machine.specs.Codes.{code_of, is_unborn, is_ended, is_suspended, is_in_pool, is_full}
 use Rattle.abt_machine.specs.Changes.{no_change, goes_with, goes_on, to_tray, tray_moves, waiting_moves}
 use Rattle.abt_machine.specs.Steps.{wakes, asks, joins, waits, locks, hands_over, releases, queues, passes, receives, gives_all, awaits, learns, ready_value, filled_by, fills, arrives, op_row}
 use Rattle.abt_laws.proofs.LineMoves.{tray_moves-each, waiting_moves-each}

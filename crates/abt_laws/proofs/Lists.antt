@@ -1,5 +1,5 @@
 -- What holds of each item of a list, and what is among its items.
-use Rattle.std.proofs.Common.{◌≡◌, ℕ, List, [], ◌∷◌, ◌++◌, map, Some, None, sym, subst, ◌⊎◌, inl, inr}
+use Rattle.std.proofs.Common.{◌≡◌, ℕ, List, [], ◌∷◌, ◌++◌, map, Some, None, sym, subst, ◌⊎◌}
 use Rattle.abt_machine.specs.Queues.{first, last, first_alone}
 use Rattle.abt_laws.proofs.Options.{none≢some, some-injective}
 

@@ -6,9 +6,6 @@ use Rattle.abt_machine.specs.declared.events.Place.{Place}
 use Rattle.abt_machine.specs.declared.events.Place.TheVariants as place
 use Rattle.abt_machine.specs.declared.events.Spot.TheVariants as spot
 use Rattle.abt_machine.specs.declared.numbers.StreamNo.{StreamNo}
-use Rattle.abt_machine.specs.declared.numbers.PoolNo.{PoolNo}
-use Rattle.abt_machine.specs.declared.numbers.UnitNo.{UnitNo}
-use Rattle.abt_machine.specs.declared.numbers.ObjectNo.{ObjectNo}
 use Rattle.abt_machine.specs.Numbers.{stream_no, pool_no, unit_no, object_no}
 use Rattle.abt_machine.specs.Lines.{Line, InPool, InTray, InHand, InNext, InFrames, Joining, Waiting, if_same, ticket_in}
 use Rattle.abt_laws.proofs.Options.{none≢some}

@@ -1,5 +1,5 @@
 -- States in which nothing is left to do.
-use Rattle.std.proofs.Common.{◌≡◌, ℕ, zero, suc, ◌<◌, Bool, true, false, List, [], ◌∷◌, length, map, Option, Some, None, Contains, refl, sym, ◌∙◌, ap, subst, arith, inl, inr}
+use Rattle.std.proofs.Common.{◌≡◌, ℕ, ◌<◌, Bool, true, false, List, [], ◌∷◌, length, Some, None, Contains, refl, sym, ◌∙◌, ap, subst, arith, inl, inr}
 use Rattle.std.proofs.lemmas.Bool.{cases_eq}
 use Rattle.std.specs.Prelude.{IfSome, option_map}
 use Rattle.abt_machine.specs.declared.events.Event.{Event}
@@ -14,7 +14,7 @@ use Rattle.abt_machine.specs.declared.workload.Parts.{Parts}
 use Rattle.abt_machine.specs.Numbers.{stream_no}
 use Rattle.abt_machine.specs.Maps.{put_at}
 use Rattle.abt_machine.specs.Workloads.{kind_of, main_of, pools_of}
-use Rattle.abt_machine.specs.Queues.{ticketed, queue, first, last}
+use Rattle.abt_machine.specs.Queues.{first, last}
 use Rattle.abt_machine.specs.State.{State, Stream, Frame}
 use Rattle.abt_machine.specs.Lines.{Line, InPool, InTray, InHand, InNext, ticket_in, standing, hand, next}
 use Rattle.abt_machine.specs.Next.{StepDue, LeaveDue, at_position, due, due_by, due_by_hand, due_by_next, due_of_frames}

@@ -1,7 +1,6 @@
 -- Every round has an order, and rounds under way go on.
-use Rattle.std.proofs.Common.{◌≡◌, ◌≢◌, ℕ, suc, ◌<◌, ◌≤◌, ◌+◌, ◌%◌, ◌==◌, if◌then◌else◌, Bool, true, false, List, [], ◌∷◌, ◌++◌, reverse, take, drop, length, Option, Some, None, option_map, slice_get, refl, sym, ◌∙◌, ap, subst, arith, ◌⊎◌, inl, inr, length-append}
+use Rattle.std.proofs.Common.{◌≡◌, ◌≢◌, ℕ, suc, ◌<◌, ◌≤◌, ◌+◌, ◌==◌, Bool, true, false, List, [], ◌∷◌, ◌++◌, reverse, length, Some, option_map, slice_get, refl, sym, ◌∙◌, ap, subst, arith, inl, inr, length-append}
 use Rattle.std.proofs.lemmas.Bool.{cond_both, cases_lt, eqb-false}
-use Rattle.std.proofs.lemmas.List.{length-drop, length-take, length-reverse}
 use Rattle.std.proofs.lemmas.List.Sorted.{length_permutation, IsPermutation-refl}
 use Rattle.std.proofs.lemmas.Option.{slice_get_past, slice_get_cases}
 use Rattle.abt_machine.specs.declared.operations.OrderShape.{OrderShape}
@@ -10,9 +9,9 @@ use Rattle.abt_machine.specs.declared.operations.Rule.{Rule}
 use Rattle.abt_machine.specs.declared.operations.Rule.TheVariants as rule
 use Rattle.abt_machine.specs.declared.workload.Parts.{Parts}
 use Rattle.abt_machine.specs.declared.workload.SchedPart.{SchedPart}
-use Rattle.abt_machine.specs.Workloads.{access_of, pools_of, rule_of}
+use Rattle.abt_machine.specs.Workloads.{pools_of, rule_of}
 use Rattle.abt_machine.specs.State.{Frame}
-use Rattle.abt_machine.specs.Rounds.{class_of, of_class, turned, stolen, rotated, word_at, shaped, choice_by, IsChosen, IsOrder, IsNextPool, OrdersStored}
+use Rattle.abt_machine.specs.Rounds.{of_class, stolen, rotated, shaped, choice_by, IsChosen, IsOrder, IsNextPool, OrdersStored}
 use Rattle.abt_machine.specs.Frames.{frame_at, frame_missed}
 use Rattle.abt_machine.specs.Sound.{IsUnderWay}
 use Rattle.abt_machine.specs.Valid.{IsValid, IsScheduler}

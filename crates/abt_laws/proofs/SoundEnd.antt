@@ -36,19 +36,17 @@ keeps-end W Z S s u e sound may =
     let placed : IsPlaced W S u (place.Hand (stream_no s)) = subst (IsPlaced W S u) is.at (sound.placed u) in
     let us : List ℕ = standing W S (Joining u) in
     let i : ℕ = tray_end W S s in
-    keeps-event W Z S sound ((u, place.Ended e) ∷ to_tray W S s us) [] ((u, without_requests (S.desk u)) ∷ []) [] []
-    (
-        free-nowhere S.place u (place.Ended e) refl,
-        tray-free s i (put_at S.place u (place.Ended e)) us (IsBelow-move (InTray s) i S.place u (place.Ended e) (λ h. cc) (IsBelow-empty (InTray s) i S.place (due-no_tray W S s sound.undeclared (EndDue e) may.0 tt))),
-      )
-    (
-        record {
-          declared = is.declared;
-          placed = ended-asks S u;
-          alone = tt;
-          joined = inr (empty-after S c (Joining u) ((λ h. cc), tray_moves-places (λ pl. line_of pl ≡ Some (Joining u) → ⊥) s i us (λ t h. cc)) (λ v t h. inr (tray_moves-key s i us v (among-standing W S sound.undeclared (Joining u) v t h))));
-        },
-        tray-well W S c s i us placed.0 placed.1 (wakeable-line W S (Joining u) tt),
-      )
+    keeps-event W Z S sound ((u, place.Ended e) ∷ to_tray W S s us) [] ((u, without_requests (S.desk u)) ∷ []) [] [] (
+      free-nowhere S.place u (place.Ended e) refl,
+      tray-free s i (put_at S.place u (place.Ended e)) us (IsBelow-move (InTray s) i S.place u (place.Ended e) (λ h. cc) (IsBelow-empty (InTray s) i S.place (due-no_tray W S s sound.undeclared (EndDue e) may.0 tt))),
+    ) (
+      record {
+        declared = is.declared;
+        placed = ended-asks S u;
+        alone = tt;
+        joined = inr (empty-after S c (Joining u) ((λ h. cc), tray_moves-places (λ pl. line_of pl ≡ Some (Joining u) → ⊥) s i us (λ t h. cc)) (λ v t h. inr (tray_moves-key s i us v (among-standing W S sound.undeclared (Joining u) v t h))));
+      },
+      tray-well W S c s i us placed.0 placed.1 (wakeable-line W S (Joining u) tt),
+    )
     (tt, tray_moves-places (IsOffBarriers W) s i us (λ t. tt)) tt (asks-nothing W S u, tt) tt
     (frames-stay W Z S c sound (frameless-in S (InHand s) u is.ticket tt is.at, tray-frameless W S s i us (wakeable-line W S (Joining u) tt)) tt)

@@ -43,18 +43,17 @@ module _ (W : Parts) (Z : List OrderShape) (S : State) (s u : ℕ) (sound : Soun
   keeps-look_hand m =
       let c : Change = handed S s u m in
       keeps-event W Z S sound ((u, place.Hand (stream_no s)) ∷ []) [] ((u, without_requests (S.desk u)) ∷ []) [] ((s, marked m (S.stream s)) ∷ [])
-    (free-empty S.place u (place.Hand (stream_no s)) (InHand s) 0 (same-self s 0) no_hand, tt)
-    (
-          record {
-            declared = is.declared;
-            placed = (placed.0, subst IsAtRest (sym (put_at-same S.stream s (marked m (S.stream s)))) placed.1);
-            alone = empty-after S c (InNext s) ((λ e. cc), tt) (λ v t h. inl (sound.one_each (InNext s) v u 0 (ap (ticket_in (InNext s)) (ticket-place (InNext s) (S.place v) t h) ∙ same-self s 0) (ap (ticket_in (InNext s)) is.at ∙ same-self s 0)));
-            joined = inl tt;
-          },
-          tt,
-        )
-    (tt, tt) tt (asks-nothing W S u, tt) tt
-    (frames-stay W Z S c sound (frameless, tt) (record { below = refl; sched = refl; rest = λ v at h. h; under_way = λ k. (sound.under_way s k).0 }, tt))
+      (free-empty S.place u (place.Hand (stream_no s)) (InHand s) 0 (same-self s 0) no_hand, tt) (
+        record {
+          declared = is.declared;
+          placed = (placed.0, subst IsAtRest (sym (put_at-same S.stream s (marked m (S.stream s)))) placed.1);
+          alone = empty-after S c (InNext s) ((λ e. cc), tt) (λ v t h. inl (sound.one_each (InNext s) v u 0 (ap (ticket_in (InNext s)) (ticket-place (InNext s) (S.place v) t h) ∙ same-self s 0) (ap (ticket_in (InNext s)) is.at ∙ same-self s 0)));
+          joined = inl tt;
+        },
+        tt,
+      )
+      (tt, tt) tt (asks-nothing W S u, tt) tt
+      (frames-stay W Z S c sound (frameless, tt) (record { below = refl; sched = refl; rest = λ v at h. h; under_way = λ k. (sound.under_way s k).0 }, tt))
 
   -- u comes to the tray, with another home
   keeps-look_tray : (p : ℕ) → p < length W.pools → Keeps W Z S (look_row W S s u false (Some p))
@@ -62,10 +61,10 @@ module _ (W : Parts) (Z : List OrderShape) (S : State) (s u : ℕ) (sound : Soun
       let c : Change = look_row W S s u false (Some p) in
       let wakes : IsWakeable W S u = record { declared = is.declared; frameless = frameless } in
       keeps-event W Z S sound (to_tray W S s (u ∷ [])) ((u, with_home p (S.carried u)) ∷ []) ((u, without_requests (S.desk u)) ∷ []) [] []
-    (tray-free s (tray_end W S s) S.place (u ∷ []) (IsBelow-empty (InTray s) (tray_end W S s) S.place no_tray))
-    (tray-well W S c s (tray_end W S s) (u ∷ []) placed.0 placed.1 (wakes, tt))
-    (tt, tt) (record { home = l; position = sound.positions u }, tt) (asks-nothing W S u, tt) tt
-    (frames-stay W Z S c sound (frameless, tt) tt)
+      (tray-free s (tray_end W S s) S.place (u ∷ []) (IsBelow-empty (InTray s) (tray_end W S s) S.place no_tray))
+      (tray-well W S c s (tray_end W S s) (u ∷ []) placed.0 placed.1 (wakes, tt))
+      (tt, tt) (record { home = l; position = sound.positions u }, tt) (asks-nothing W S u, tt) tt
+      (frames-stay W Z S c sound (frameless, tt) tt)
 
   keeps-look_by : (b : Bool) (m : Option ℕ) → (S.desk u).migrate ≡ m → Keeps W Z S (look_row W S s u b m)
   keeps-look_by true m e = keeps-look_hand Asked

@@ -30,15 +30,14 @@ keeps-put W Z S s u p sound may =
     let c : Change = change W S s (what.Put (unit_no u) (pool_no p)) in
     let is : StandsIn W S (InTray s) u = first-stands W S (InTray s) u may.1 in
     keeps-event W Z S sound ((u, place.Pool (pool_no p) t) ∷ []) [] [] ((p, suc t) ∷ []) []
-    (free-above S.place u (place.Pool (pool_no p) t) (InPool p) t (same-self p t) (pool-below W Z S p sound), tt)
-    (
-        record {
-          declared = is.declared;
-          placed = (subst (λ n. n < length W.pools) may.2 (sound.homes u), subst (λ n. t < n) (sym (put_at-same S.pool_next p (suc t))) (omega arith));
-          alone = tt;
-          joined = inl tt;
-        },
-        tt,
-      )
+    (free-above S.place u (place.Pool (pool_no p) t) (InPool p) t (same-self p t) (pool-below W Z S p sound), tt) (
+      record {
+        declared = is.declared;
+        placed = (subst (λ n. n < length W.pools) may.2 (sound.homes u), subst (λ n. t < n) (sym (put_at-same S.pool_next p (suc t))) (omega arith));
+        alone = tt;
+        joined = inl tt;
+      },
+      tt,
+    )
     (tt, tt) tt tt (omega arith, tt)
     (frames-stay W Z S c sound (frameless-in S (InTray s) u is.ticket tt is.at, tt) tt)

@@ -53,19 +53,18 @@ keeps-take W Z S s p u valid stored sound l may =
     let is : StandsIn W S (InPool p) u = front-stands W S s p u may.1 in
     let rests : IsAtRest (round_taken own) = fresh-rest own.top.sched (suc own.top.round) own.below (sound.below_rest s l) in
     keeps-event W Z S sound ((u, place.Next (stream_no s)) ∷ []) [] [] [] ((s, round_taken own) ∷ [])
-    (free-empty S.place u (place.Next (stream_no s)) (InNext s) 0 (same-self s 0) (due-no_next W S s sound.undeclared RoundDue may.0 tt), tt)
-    (
-        record {
-          declared = is.declared;
-          placed = (l, subst IsAtRest (sym (put_at-same S.stream s (round_taken own))) rests);
-          alone = empty-still S c (InHand s) ((λ e. cc), tt) (due-no_hand W S s sound.undeclared RoundDue may.0 tt);
-          joined = inl tt;
-        },
-        tt,
-      )
+    (free-empty S.place u (place.Next (stream_no s)) (InNext s) 0 (same-self s 0) (due-no_next W S s sound.undeclared RoundDue may.0 tt), tt) (
+      record {
+        declared = is.declared;
+        placed = (l, subst IsAtRest (sym (put_at-same S.stream s (round_taken own))) rests);
+        alone = empty-still S c (InHand s) ((λ e. cc), tt) (due-no_hand W S s sound.undeclared RoundDue may.0 tt);
+        joined = inl tt;
+      },
+      tt,
+    )
     (tt, tt) tt tt tt
     (frames-stay W Z S c sound (frameless-in S (InPool p) u is.ticket tt is.at, tt)
-          (record { below = refl; sched = refl; rest = λ v at h. rests; under_way = λ k. next-under_way W Z own.top (suc own.top.round) false valid stored (sound.under_way s l).0 }, tt))
+    (record { below = refl; sched = refl; rest = λ v at h. rests; under_way = λ k. next-under_way W Z own.top (suc own.top.round) false valid stored (sound.under_way s l).0 }, tt))
 
 missed-sched : (W : Parts) (f : Frame) (p : ℕ) → (frame_missed W f p).sched ≡ f.sched
 missed-sched W f p =
@@ -82,4 +81,4 @@ keeps-miss W Z S s p valid stored sound l may =
     tt
     tt tt tt tt
     (frames-stay W Z S c sound tt
-          (record { below = refl; sched = missed-sched W own.top p; rest = λ v at h. absurd (idle v at); under_way = λ k. missed-under_way W Z own.top p valid stored (sound.under_way s l).0 may.2 }, tt))
+    (record { below = refl; sched = missed-sched W own.top p; rest = λ v at h. absurd (idle v at); under_way = λ k. missed-under_way W Z own.top p valid stored (sound.under_way s l).0 may.2 }, tt))

@@ -113,10 +113,10 @@ module _ (W : Parts) (Z : List OrderShape) (S : State) (s u : ℕ) (g : SchedNo)
 
   keeps-enter_of : s < W.streams → u < length W.units → Keeps W Z S enters
   keeps-enter_of l declared = keeps-event W Z S sound ((u, place.Frame (stream_no s) (length old_below)) ∷ []) [] [] [] ((s, new_own) ∷ [])
-    (free-above S.place u (place.Frame (stream_no s) (length old_below)) (InFrames s) (length old_below) (same-self s (length old_below)) (frames-below W Z S s sound), tt)
-    (record { declared = declared; placed = subst (IsFramed W u s (length old_below)) (sym (put_at-same S.stream s new_own)) (is_framed l); alone = tt; joined = inl tt }, tt)
-    (tt, tt) tt tt tt
-    (frames-enter)
+      (free-above S.place u (place.Frame (stream_no s) (length old_below)) (InFrames s) (length old_below) (same-self s (length old_below)) (frames-below W Z S s sound), tt)
+      (record { declared = declared; placed = subst (IsFramed W u s (length old_below)) (sym (put_at-same S.stream s new_own)) (is_framed l); alone = tt; joined = inl tt }, tt)
+      (tt, tt) tt tt tt
+      (frames-enter)
 
 pub keeps-enter : (W : Parts) (Z : List OrderShape) (S : State) (s u : ℕ) → IsValid W → OrdersStored W Z → Sound W Z S → s < W.streams → May W Z S s (what.Enter (unit_no u)) → Keeps W Z S (change W S s (what.Enter (unit_no u)))
 keeps-enter W Z S s u valid stored sound l may =
@@ -187,18 +187,17 @@ module _ (W : Parts) (Z : List OrderShape) (S : State) (s u : ℕ) (f : Frame) (
 
   keeps-leave_of : s < W.streams → due W S s ≡ LeaveDue → u < length W.units → Keeps W Z S leaves
   keeps-leave_of l is declared = keeps-event W Z S sound ((u, place.Hand (stream_no s)) ∷ []) [] [] [] ((s, left (S.stream s)) ∷ [])
-    (free-empty S.place u (place.Hand (stream_no s)) (InHand s) 0 (same-self s 0) (due-no_hand W S s sound.undeclared LeaveDue is tt), tt)
-    (
-      record {
-        declared = declared;
-        placed = (l, after_left (λ r own. r ≡ s → IsAtRest own) (λ e. subst AllAtRest below (sound.below_rest s l)) (λ r ne e. absurd (ne e)) s refl);
-        alone = empty-still S leaves (InNext s) ((λ e. cc), tt) (due-no_next W S s sound.undeclared LeaveDue is tt);
-        joined = inl tt;
-      },
-      tt,
-    )
-    (tt, tt) tt tt tt
-    (frames-leave)
+      (free-empty S.place u (place.Hand (stream_no s)) (InHand s) 0 (same-self s 0) (due-no_hand W S s sound.undeclared LeaveDue is tt), tt) (
+        record {
+          declared = declared;
+          placed = (l, after_left (λ r own. r ≡ s → IsAtRest own) (λ e. subst AllAtRest below (sound.below_rest s l)) (λ r ne e. absurd (ne e)) s refl);
+          alone = empty-still S leaves (InNext s) ((λ e. cc), tt) (due-no_next W S s sound.undeclared LeaveDue is tt);
+          joined = inl tt;
+        },
+        tt,
+      )
+      (tt, tt) tt tt tt
+      (frames-leave)
 
 pub keeps-leave : (W : Parts) (Z : List OrderShape) (S : State) (s u : ℕ) → Sound W Z S → s < W.streams → May W Z S s (what.Leave (unit_no u)) → Keeps W Z S (change W S s (what.Leave (unit_no u)))
 keeps-leave W Z S s u sound l may =

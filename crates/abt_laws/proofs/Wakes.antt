@@ -1,6 +1,6 @@
 -- Units that come to a tray.
 use Rattle.std.proofs.lemmas.Bool.{false≢true}
-use Rattle.std.proofs.Common.{Bool, true, false, ◌≡◌, ℕ, suc, ◌<◌, List, [], ◌∷◌, ◌++◌, length, Some, sym, ◌∙◌, ap, subst, inl, inr}
+use Rattle.std.proofs.Common.{Bool, true, false, ◌≡◌, ℕ, ◌<◌, List, length, Some, sym, ◌∙◌, ap, subst, inl, inr}
 use Rattle.abt_machine.specs.declared.events.Place.{Place}
 use Rattle.abt_machine.specs.declared.events.Place.TheVariants as place
 use Rattle.abt_machine.specs.declared.workload.Parts.{Parts}
@@ -11,7 +11,7 @@ use Rattle.abt_machine.specs.Lines.{Line, InFrames, ticket_in, standing}
 use Rattle.abt_machine.specs.Changes.{Change, changed, tray_moves}
 use Rattle.abt_machine.specs.Sound.{IsAtRest}
 use Rattle.abt_laws.proofs.LineMoves.{tray_moves-each}
-use Rattle.abt_laws.proofs.Lists.{Among, EachOf, EachOf-then, EachOf-first_alone}
+use Rattle.abt_laws.proofs.Lists.{EachOf, EachOf-then, EachOf-first_alone}
 use Rattle.abt_laws.proofs.Maps.{KeyOf, KeyOf-cases, put_all-other, put_all-value}
 use Rattle.abt_laws.proofs.Places.{place_in, line_of, line_of-place_in, line_of-ticket}
 use Rattle.abt_laws.proofs.Arrivals.{IsEmpty}

@@ -1,7 +1,5 @@
 -- Each event that moves units and is no step lowers their weight.
-use Rattle.std.proofs.Common.{◌≡◌, ◌≢◌, ℕ, ◌<◌, ◌≤◌, ◌-◌, Bool, true, false, List, [], ◌∷◌, length, Option, Some, None, refl, sym, ◌∙◌, ap, subst, arith, inl, inr}
-use Rattle.std.proofs.lemmas.Bool.{cases_eq, cases_lt, eq-eqb, cond-true}
-use Rattle.std.specs.Prelude.{◌==◌}
+use Rattle.std.proofs.Common.{◌≡◌, ◌≢◌, ℕ, ◌<◌, ◌≤◌, ◌-◌, Bool, true, false, List, ◌∷◌, length, Option, Some, None, refl, ◌∙◌, ap, arith}
 use Rattle.abt_machine.specs.declared.events.Cause.{Cause}
 use Rattle.abt_machine.specs.declared.events.Place.{Place}
 use Rattle.abt_machine.specs.declared.events.Place.TheVariants as place
@@ -17,10 +15,10 @@ use Rattle.abt_machine.specs.Workloads.{body_at}
 use Rattle.abt_machine.specs.Queues.{first}
 use Rattle.abt_machine.specs.State.{State, Stream, Frame, Desk, Mark, Plain, Asked, Left}
 use Rattle.abt_machine.specs.Lines.{InPool, InTray, InHand, InNext, Joining, hand, next, standing, ticket_in, tray_end}
-use Rattle.abt_machine.specs.Next.{EnterDue, LeaveDue, due, due_of_frames}
+use Rattle.abt_machine.specs.Next.{EnterDue, LeaveDue, due}
 use Rattle.abt_machine.specs.Fronts.{front}
-use Rattle.abt_machine.specs.Frames.{entered, left, left_to, marked, round_taken, sched_of}
-use Rattle.abt_machine.specs.Changes.{Change, changed, no_change, tray_moves}
+use Rattle.abt_machine.specs.Frames.{entered, left, marked, round_taken, sched_of}
+use Rattle.abt_machine.specs.Changes.{changed, tray_moves}
 use Rattle.abt_machine.specs.Events.{after, look_row, without_requests}
 use Rattle.abt_machine.specs.Sound.{Sound}
 use Rattle.abt_laws.specs.Measure.{hand_weight, place_weight, request_weight, unit_weight, weight}
@@ -28,7 +26,6 @@ use Rattle.abt_laws.proofs.SoundEvents.{handed}
 use Rattle.abt_laws.proofs.Marks.{marks-kept, marks-elsewhere, left-mark}
 use Rattle.abt_laws.proofs.Places.{same-self}
 use Rattle.abt_laws.proofs.Standing.{StandsIn, each-stands, first-stands, front-stands, is-declared, none-first}
-use Rattle.abt_laws.proofs.Options.{none≢some}
 use Rattle.abt_laws.proofs.Maps.{put_at-other, put_at-same}
 use Rattle.abt_laws.proofs.Lists.{EachOf-then}
 use Rattle.abt_laws.proofs.Dues.{due-idle, enters-plain, leave-below}

@@ -1,21 +1,15 @@
 -- The weights of units, and how they change.
-use Rattle.std.proofs.Common.{◌≡◌, ◌≢◌, ℕ, suc, ◌<◌, Bool, true, false, List, [], ◌∷◌, length, Some, refl, sym, ◌∙◌, ap, subst, arith, inl, inr}
+use Rattle.std.proofs.Common.{◌≡◌, ◌≢◌, ℕ, suc, ◌<◌, List, [], ◌∷◌, length, refl, sym, ◌∙◌, ap, subst, arith, inl, inr}
 use Rattle.std.proofs.lemmas.Bool.{cases_eq}
-use Rattle.std.proofs.lemmas.Bool.Decides.{nat_tests}
 use Rattle.abt_machine.specs.declared.events.Place.{Place}
 use Rattle.abt_machine.specs.declared.events.Place.TheVariants as place
 use Rattle.abt_machine.specs.declared.events.Spot.TheVariants as spot
 use Rattle.abt_machine.specs.declared.numbers.StreamNo.{StreamNo}
-use Rattle.abt_machine.specs.declared.operations.Kind.{Kind}
-use Rattle.abt_machine.specs.declared.operations.Kind.TheVariants as kind
 use Rattle.abt_machine.specs.declared.workload.Parts.{Parts}
 use Rattle.abt_machine.specs.Numbers.{stream_no}
 use Rattle.abt_machine.specs.Maps.{put_at, put_all}
-use Rattle.abt_machine.specs.Workloads.{kind_of}
-use Rattle.abt_machine.specs.Queues.{first}
 use Rattle.abt_machine.specs.State.{State, Desk}
-use Rattle.abt_machine.specs.Lines.{if_same, Line, InPool, InTray, InHand, InNext, InFrames, Joining, Waiting, ticket_in, standing}
-use Rattle.abt_machine.specs.Fronts.{front, front_by, owns}
+use Rattle.abt_machine.specs.Lines.{Line, InPool, InTray, InHand, InNext, InFrames, Joining, Waiting}
 use Rattle.abt_machine.specs.Changes.{tray_moves}
 use Rattle.abt_laws.specs.Measure.{hand_weight, place_weight, request_weight, unit_weight, weight}
 use Rattle.abt_laws.proofs.Places.{place_in}
