@@ -30,12 +30,13 @@ use Rattle.abt_machine.specs.Changes.{Change, no_change, tray_moves, goes_with}
 use Rattle.abt_machine.specs.Steps.{owned, filled_by, ready_value, op_row, step_row}
 use Rattle.abt_machine.specs.Events.{without_requests, look_row, change, May}
 use Rattle.abt_laws.specs.Footprint.{Within, holder}
+use Rattle.abt_laws.proofs.ValidFacts.{op-declared}
 use Rattle.abt_laws.proofs.AlikeCodes.{code_at-alike}
-use Rattle.abt_laws.proofs.Keeping.{IsKept, next-kept, first-kept, hand-declared, kept-where_true, unborn-seen, ended-seen}
+use Rattle.abt_laws.proofs.Keeping.{IsKept, next-kept, first-kept, kept-where_true, unborn-seen, ended-seen}
 use Rattle.abt_laws.proofs.Alike.{IsAlike, standing-alike, hand-alike, next-alike, front-alike, tray_end-alike, caller-alike, due-alike}
 use Rattle.abt_laws.proofs.AlikeRows
 use Rattle.abt_laws.proofs.Codes.{unless-ok}
-use Rattle.abt_laws.proofs.LocalEvents.{site-reached, ops-declared}
+use Rattle.abt_laws.proofs.LocalEvents.{site-reached}
 use Rattle.abt_laws.proofs.Objects.{mutex-waits, eventual-waits, future-waits, barrier-waits, condition-waits, condition-mutex-waits}
 
 -- Operations of unit u in the hand of stream s.
@@ -135,7 +136,7 @@ module _ (W : Parts) (valid : IsValid W) (Z : List OrderShape) (S T : State) (s 
   change-alike (what.Miss p) alike may = λ i. record no_change { streams = (s, round_missed W p.0 (alike.stream i)) ∷ [] }
   change-alike (what.Take p u) alike may = λ i. record no_change { moves = (u.0, place.Next (stream_no s)) ∷ []; streams = (s, round_taken (alike.stream i)) ∷ [] }
   change-alike (what.Look u) alike may = look-alike W S T s u.0 alike (next-kept W S s _ u.0 may.1)
-  change-alike (what.Step u k c) alike may = step-alike W valid S T s u.0 may.1 (op_at W u.0 k) c (λ o e. ops-declared W valid u.0 k o (hand-declared W S s u.0 may.1) e) (sym may.3) alike
+  change-alike (what.Step u k c) alike may = step-alike W valid S T s u.0 may.1 (op_at W u.0 k) c (λ o e. op-declared W u.0 k o valid e) (sym may.3) alike
   change-alike (what.Put u p) alike may = λ i. record no_change { moves = (u.0, place.Pool p (alike.pool_next p.0 refl i)) ∷ []; pool_next = (p.0, suc (alike.pool_next p.0 refl i)) ∷ [] }
   change-alike (what.End u c) alike may =
       let w : standing W S (Joining u.0) ≡ standing W T (Joining u.0) = standing-alike W s _ S T alike (Joining u.0) refl in

@@ -1,5 +1,5 @@
 -- How many are in a queue.
-use Rattle.std.proofs.Common.{◌≡◌, ◌≢◌, ℕ, zero, suc, ◌<◌, ◌≤◌, nat_le, List, [], ◌∷◌, length, Option, Some, None, refl, ap, arith, inl, inr}
+use Rattle.std.proofs.Common.{◌≡◌, ◌≢◌, ℕ, zero, suc, ◌+◌, ◌<◌, ◌≤◌, nat_le, List, [], ◌∷◌, length, Option, Some, None, refl, ap, arith, inl, inr}
 use Rattle.std.proofs.lemmas.Bool.{cond_both, cases_eq}
 use Rattle.std.proofs.lemmas.List.{length-map}
 use Rattle.abt_machine.specs.Queues.{insert_by_ticket, ticketed_step, ticketed, queue}
@@ -14,34 +14,41 @@ length-insert t u (p ∷ ps) =
 abbrev pub Implies : Option ℕ → Option ℕ → Type 0
 Implies o p = (t : ℕ) → o ≡ Some t → (k : ℕ) × (p ≡ Some k)
 
-fewer-step : (n : ℕ) (o p : Option ℕ) (ps qs : List (ℕ × ℕ)) → Implies o p → length ps ≤ length qs → length (ticketed_step n o ps) ≤ length (ticketed_step n p qs)
-fewer-step n None None ps qs h l = l
-fewer-step n None (Some k) ps qs h l = rw (length-insert k n qs) (omega arith)
-fewer-step n (Some t) None ps qs h l = absurd (none≢some (h t refl).1)
-fewer-step n (Some t) (Some k) ps qs h l = rw (length-insert k n qs, length-insert t n ps) (omega arith)
+abbrev ticket_count : Option ℕ → ℕ
+ticket_count None = 0
+ticket_count (Some t) = 1
+
+ticket_count-implies : (o p : Option ℕ) → Implies o p → ticket_count o ≤ ticket_count p
+ticket_count-implies None p h = omega arith
+ticket_count-implies (Some t) (Some k) h = omega arith
+ticket_count-implies (Some t) None h = absurd (none≢some (h t refl).1)
+
+ticket_count-one : (o : Option ℕ) → ticket_count o ≤ 1
+ticket_count-one None = omega arith
+ticket_count-one (Some t) = omega arith
+
+length-step : (n : ℕ) (o : Option ℕ) (ps : List (ℕ × ℕ)) → length (ticketed_step n o ps) ≡ ticket_count o + length ps
+length-step n None ps = omega arith
+length-step n (Some t) ps = omega (arith, length-insert t n ps)
 
 fewer-ticketed : (bt at : ℕ → Option ℕ) (n : ℕ) → ((v : ℕ) → v < n → Implies (bt v) (at v)) → length (ticketed bt n) ≤ length (ticketed at n)
 fewer-ticketed bt at zero h = omega arith
-fewer-ticketed bt at (suc n) h = fewer-step n (bt n) (at n) (ticketed bt n) (ticketed at n) (h n (omega arith)) (fewer-ticketed bt at n (λ v l. h v (omega arith)))
-
-one-step : (n : ℕ) (o p : Option ℕ) (ps qs : List (ℕ × ℕ)) → length ps ≤ length qs → length (ticketed_step n o ps) ≤ suc (length (ticketed_step n p qs))
-one-step n None None ps qs l = omega arith
-one-step n None (Some k) ps qs l = rw (length-insert k n qs) (omega arith)
-one-step n (Some t) None ps qs l = rw (length-insert t n ps) (omega arith)
-one-step n (Some t) (Some k) ps qs l = rw (length-insert k n qs, length-insert t n ps) (omega arith)
-
-more-step : (n : ℕ) (o p : Option ℕ) (ps qs : List (ℕ × ℕ)) → Implies o p → length ps ≤ suc (length qs) → length (ticketed_step n o ps) ≤ suc (length (ticketed_step n p qs))
-more-step n None None ps qs h l = l
-more-step n None (Some k) ps qs h l = rw (length-insert k n qs) (omega arith)
-more-step n (Some t) None ps qs h l = absurd (none≢some (h t refl).1)
-more-step n (Some t) (Some k) ps qs h l = rw (length-insert k n qs, length-insert t n ps) (omega arith)
+fewer-ticketed bt at (suc n) h =
+    let rest : length (ticketed bt n) ≤ length (ticketed at n) = fewer-ticketed bt at n (λ v l. h v (omega arith)) in
+    let here : ticket_count (bt n) ≤ ticket_count (at n) = ticket_count-implies (bt n) (at n) (h n (omega arith)) in
+    omega (arith, length-step n (bt n) (ticketed bt n), length-step n (at n) (ticketed at n))
 
 more-ticketed : (bt at : ℕ → Option ℕ) (u n : ℕ) → ((v : ℕ) → v ≢ u → Implies (bt v) (at v)) → length (ticketed bt n) ≤ suc (length (ticketed at n))
 more-ticketed bt at u zero h = omega arith
 more-ticketed bt at u (suc n) h =
     elim (cases_eq n u) [
-      | inl same ↦ one-step n (bt n) (at n) (ticketed bt n) (ticketed at n) (fewer-ticketed bt at n (λ v l. h v (λ e. omega arith)))
-      | inr other ↦ more-step n (bt n) (at n) (ticketed bt n) (ticketed at n) (h n other) (more-ticketed bt at u n h)
+      | inl same ↦
+          let rest : length (ticketed bt n) ≤ length (ticketed at n) = fewer-ticketed bt at n (λ v l. h v (λ e. omega arith)) in
+          omega (arith, length-step n (bt n) (ticketed bt n), length-step n (at n) (ticketed at n), ticket_count-one (bt n))
+      | inr other ↦
+          let rest : length (ticketed bt n) ≤ suc (length (ticketed at n)) = more-ticketed bt at u n h in
+          let here : ticket_count (bt n) ≤ ticket_count (at n) = ticket_count-implies (bt n) (at n) (h n other) in
+          omega (arith, length-step n (bt n) (ticketed bt n), length-step n (at n) (ticketed at n))
     ]
 
 -- where nobody comes, no more stand there

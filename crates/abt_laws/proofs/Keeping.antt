@@ -74,10 +74,6 @@ module _ (W : Parts) (S : State) (s : ℕ) (x : Option Site) where
   pub one-kept : (l : Line) → Within s x (line_holder W l) → EachOf (IsKept W S s x) (first_alone (standing W S l))
   one-kept l w = EachOf-first_alone (IsKept W S s x) (standing W S l) (standing-kept l w)
 
--- the unit in hand is declared
-pub hand-declared : (W : Parts) (S : State) (s u : ℕ) → hand W S s ≡ Some u → u < length W.units
-hand-declared W S s u e = let is : StandsIn W S (InHand s) u = first-stands W S (InHand s) u e in is.declared
-
 -- Each test of a unit's place looks only at units that the site keeps, and is the same at all other places.
 
 module _ (W : Parts) (s : ℕ) (x : Option Site) where

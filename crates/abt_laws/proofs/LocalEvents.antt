@@ -24,7 +24,8 @@ use Rattle.abt_machine.specs.Changes.{no_change}
 use Rattle.abt_machine.specs.Steps.{op_row, step_row}
 use Rattle.abt_machine.specs.Events.{look_row, change, May}
 use Rattle.abt_laws.specs.Footprint.{Within, holder}
-use Rattle.abt_laws.proofs.Keeping.{IsKept, first-kept, hand-kept, next-kept, front-kept, standing-kept, one-kept, hand-declared, kept-where_true, unborn-seen, ended-seen, suspended-seen, in_pool-seen}
+use Rattle.abt_laws.proofs.ValidFacts.{op-declared}
+use Rattle.abt_laws.proofs.Keeping.{IsKept, first-kept, hand-kept, next-kept, front-kept, standing-kept, one-kept, kept-where_true, unborn-seen, ended-seen, suspended-seen, in_pool-seen}
 use Rattle.abt_laws.proofs.Local.{IsLocal, local-none, local-moves, local-carried, local-desk, local-pool_next, local-eventual, local-stream}
 use Rattle.abt_laws.proofs.LocalRows
 use Rattle.abt_laws.proofs.Codes.{unless-ok}
@@ -93,10 +94,6 @@ module _ (W : Parts) (valid : IsValid W) (S : State) (s u : ℕ) (in_hand : hand
   local-step None d = local-none W S s None
   local-step (Some o) d = local-code o (code_of W S s u o) (d o refl) refl
 
--- the operations of a declared unit name what is declared
-pub ops-declared : (W : Parts) → IsValid W → (u k : ℕ) (o : Op) → u < length W.units → op_at W u k ≡ Some o → IsDeclared W o
-ops-declared W valid u k o l e = (valid.units u l).ops k o e
-
 -- Events.
 
 module _ (W : Parts) (S : State) (s u : ℕ) where
@@ -113,7 +110,7 @@ module _ (W : Parts) (valid : IsValid W) (Z : List OrderShape) (S : State) (s : 
   event-local (what.Look u) may = local-look W S s u.0 (S.desk u.0).cancel (S.desk u.0).migrate (next-kept W S s _ u.0 may.1)
   event-local (what.Step u k c) may =
       subst (λ d. IsLocal W S s (step_site W s u.0 k) (step_row W S s u.0 (op_at W u.0 k) d)) (sym may.3)
-      (local-step W valid S s u.0 may.1 (op_at W u.0 k) (λ o e. ops-declared W valid u.0 k o (hand-declared W S s u.0 may.1) e))
+      (local-step W valid S s u.0 may.1 (op_at W u.0 k) (λ o e. op-declared W u.0 k o valid e))
   event-local (what.Put u p) may = local-pool_next W S s _ _ (local-moves W S s _ no_change (local-none W S s _) _ ((first-kept W S s _ (InTray s) u.0 refl may.1, refl), tt)) p.0 _ refl
   event-local (what.End u c) may =
       local-desk W S s _ _

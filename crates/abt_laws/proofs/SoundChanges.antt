@@ -13,14 +13,14 @@ use Rattle.abt_machine.specs.Maps.{put_all}
 use Rattle.abt_machine.specs.Workloads.{body_at, ops_of, main_of, thing_at, size_of, size_from}
 use Rattle.abt_machine.specs.Queues.{last}
 use Rattle.abt_machine.specs.State.{State, Carried, Desk, Mutex, Future}
-use Rattle.abt_machine.specs.Lines.{InHand, InNext, Joining, Waiting, ticket_in, standing}
+use Rattle.abt_machine.specs.Lines.{Line, InHand, InNext, Joining, Waiting, ticket_in, standing}
 use Rattle.abt_machine.specs.Changes.{Change, changed}
 use Rattle.abt_machine.specs.Codes.{is_alive}
 use Rattle.abt_machine.specs.Sound.{Sound, IsPlaced, IsAtRest, AllUnderWay, AllAtRest, HoldsUp, HasNotEnded, AsksNothing, frames_of}
 use Rattle.abt_laws.proofs.Lists.{EachOf, EachOf-then}
 use Rattle.abt_laws.proofs.Maps.{KeyOf-cases, put_all-other, put_all-value, put_all-kept, put_all-above, EachOf-key}
-use Rattle.abt_laws.proofs.Places.{same-self}
-use Rattle.abt_laws.proofs.Arrivals.{IsEmpty, AllFree, OneEach-moves}
+use Rattle.abt_laws.proofs.Places.{same-self, place_in, ticket-place}
+use Rattle.abt_laws.proofs.Arrivals.{IsEmpty, AllFree, OneEach-moves, IsBelow}
 
 -- the places after a change
 abbrev pub places : State → Change → ℕ → Place
@@ -190,3 +190,7 @@ module _ (W : Parts) (Z : List OrderShape) (S : State) (c : Change) (sound : Sou
     requests = λ u. put_all-kept (λ n (d : Desk). IfSome d.migrate (λ p. p < length W.pools)) S.desk c.desks u (EachOf-then _ _ c.desks (λ m k. k.request) keeps.desks) (sound.requests u);
     positions = λ u. put_all-kept (λ n (k : Carried). k.position ≤ length (ops_of (body_at W n))) S.carried c.carried u (EachOf-then _ _ c.carried (λ m k. k.position) keeps.carried) (sound.positions u);
   }
+
+-- the tickets in a line are below what its units' places say
+pub placed-below : (W : Parts) (Z : List OrderShape) (S : State) (l : Line) (n : ℕ) → Sound W Z S → ((v t : ℕ) → IsPlaced W S v (place_in l t) → t < n) → IsBelow l n S.place
+placed-below W Z S l n sound below v t h = below v t (subst (IsPlaced W S v) (ticket-place l (S.place v) t h) (sound.placed v))

@@ -15,14 +15,13 @@ use Rattle.abt_laws.proofs.Maps.{put_at-same}
 use Rattle.abt_laws.proofs.Places.{ticket-place, same-self}
 use Rattle.abt_laws.proofs.Arrivals.{IsBelow, free-above}
 use Rattle.abt_laws.proofs.Standing.{StandsIn, first-stands}
-use Rattle.abt_laws.proofs.SoundChanges.{Keeps}
+use Rattle.abt_laws.proofs.SoundChanges.{Keeps, placed-below}
 use Rattle.abt_laws.proofs.SoundFrames.{frames-stay}
 use Rattle.abt_laws.proofs.Wakes.{frameless-in}
 
 -- the tickets in a pool are below its next
 pool-below : (W : Parts) (Z : List OrderShape) (S : State) (p : ℕ) → Sound W Z S → IsBelow (InPool p) (S.pool_next p) S.place
-pool-below W Z S p sound v t h =
-    let k : IsPlaced W S v (place.Pool (pool_no p) t) = subst (IsPlaced W S v) (ticket-place (InPool p) (S.place v) t h) (sound.placed v) in k.1
+pool-below W Z S p sound = placed-below W Z S (InPool p) (S.pool_next p) sound (λ v t k. k.1)
 
 pub keeps-put : (W : Parts) (Z : List OrderShape) (S : State) (s u p : ℕ) → Sound W Z S → May W Z S s (what.Put (unit_no u) (pool_no p)) → Keeps W Z S (change W S s (what.Put (unit_no u) (pool_no p)))
 keeps-put W Z S s u p sound may =

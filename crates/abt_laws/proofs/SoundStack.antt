@@ -29,7 +29,7 @@ use Rattle.abt_laws.proofs.Maps.{put_at-same, put_at-other, put_at-cases}
 use Rattle.abt_laws.proofs.Places.{ticket-place, same-self, stream-is}
 use Rattle.abt_laws.proofs.Arrivals.{IsBelow, free-above, free-empty}
 use Rattle.abt_laws.proofs.Standing.{StandsIn, first-stands, is-declared}
-use Rattle.abt_laws.proofs.SoundChanges.{Keeps, FramesKeep, OnStream}
+use Rattle.abt_laws.proofs.SoundChanges.{Keeps, FramesKeep, OnStream, placed-below}
 use Rattle.abt_laws.proofs.SoundRound.{fresh-rest}
 use Rattle.abt_laws.proofs.ValidFacts.{sched-declared}
 use Rattle.abt_laws.proofs.Wakes.{empty-still}
@@ -44,8 +44,7 @@ stacked-top top f fs = let e : (length (f ∷ fs) - 1) - length fs ≡ 0 = omega
 
 -- numbers in frames are below the number of stacked frames
 frames-below : (W : Parts) (Z : List OrderShape) (S : State) (s : ℕ) → Sound W Z S → IsBelow (InFrames s) (length (S.stream s).below) S.place
-frames-below W Z S s sound v d h =
-    let k : IsPlaced W S v (place.Frame (stream_no s) d) = subst (IsPlaced W S v) (ticket-place (InFrames s) (S.place v) d h) (sound.placed v) in k.1
+frames-below W Z S s sound = placed-below W Z S (InFrames s) (length (S.stream s).below) sound (λ v d k. k.1)
 
 -- what holds of stream s with new frames, and of the others as they were, holds of each afterwards
 each-stream : (S : State) (s : ℕ) (own : Stream) (P : ℕ → Stream → Type 0) → P s own → ((r : ℕ) → r ≢ s → P r (S.stream r)) → (r : ℕ) → P r (put_at S.stream s own r)

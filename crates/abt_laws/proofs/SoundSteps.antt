@@ -28,7 +28,7 @@ use Rattle.abt_laws.proofs.Lists.{EachOf}
 use Rattle.abt_laws.proofs.Places.{ticket-place, same-self}
 use Rattle.abt_laws.proofs.Arrivals.{IsEmpty, IsBelow, IsBelow-empty, free-above, tray-free}
 use Rattle.abt_laws.proofs.Standing.{StandsIn, first-stands}
-use Rattle.abt_laws.proofs.SoundChanges.{Keeps, places, CarriesWell, AsksWell, MutexHolds, EventualHolds, FutureHolds}
+use Rattle.abt_laws.proofs.SoundChanges.{Keeps, places, CarriesWell, AsksWell, MutexHolds, EventualHolds, FutureHolds, placed-below}
 use Rattle.abt_laws.proofs.Barriers.{barriers-stay, barriers-wait, IsOffBarriers}
 use Rattle.abt_laws.proofs.SoundFrames.{IsFrameless, frames-stay}
 use Rattle.abt_laws.proofs.Wakes.{IsWakeable, tray-well, tray-frameless}
@@ -71,8 +71,7 @@ HoldsUp-same W S T x (Some (thing.Barrier n)) m e f h = tt
 
 -- the tickets of those who wait at x are below the next
 pub waiting-below : (W : Parts) (Z : List OrderShape) (S : State) (x : ℕ) → Sound W Z S → IsBelow (Waiting x) (S.object_next x) S.place
-waiting-below W Z S x sound v t h =
-    let k : IsPlaced W S v (place.Blocked (spot.Object (object_no x)) t) = subst (IsPlaced W S v) (ticket-place (Waiting x) (S.place v) t h) (sound.placed v) in k.0
+waiting-below W Z S x sound = placed-below W Z S (Waiting x) (S.object_next x) sound (λ v t k. k.0)
 
 module _ (W : Parts) (Z : List OrderShape) (S : State) (s u : ℕ) (step : IsStepping W Z S s u) where
   pub in_no_frame : IsFrameless S u
