@@ -30,14 +30,14 @@ use Rattle.abt_machine.specs.Changes.{Change, no_change, tray_moves, goes_with}
 use Rattle.abt_machine.specs.Steps.{owned, filled_by, ready_value, op_row, step_row}
 use Rattle.abt_machine.specs.Events.{without_requests, look_row, change, May}
 use Rattle.abt_laws.specs.Footprint.{Within, holder}
-use Rattle.abt_laws.proofs.ValidFacts.{op-declared}
+use Rattle.abt_laws.proofs.Declared.{op-declared}
 use Rattle.abt_laws.proofs.AlikeCodes.{code_at-alike}
 use Rattle.abt_laws.proofs.Keeping.{IsKept, next-kept, first-kept, kept-where_true, unborn-seen, ended-seen}
 use Rattle.abt_laws.proofs.Alike.{IsAlike, standing-alike, hand-alike, next-alike, front-alike, tray_end-alike, caller-alike, due-alike}
 use Rattle.abt_laws.proofs.AlikeRows
 use Rattle.abt_laws.proofs.Codes.{unless-ok}
 use Rattle.abt_laws.proofs.LocalEvents.{site-reached}
-use Rattle.abt_laws.proofs.Objects.{mutex-waits, eventual-waits, future-waits, barrier-waits, condition-waits, condition-mutex-waits}
+use Rattle.abt_laws.proofs.ObjectSites.{mutex-waits, eventual-waits, future-waits, barrier-waits, condition-waits, condition-mutex-waits}
 
 -- Operations of unit u in the hand of stream s.
 

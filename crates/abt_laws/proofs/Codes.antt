@@ -1,4 +1,4 @@
--- What the tests of codes say of places, owners and futures.
+-- What it says of the tests of a code that the operation goes through.
 use Rattle.std.proofs.Common.{◌≡◌, ℕ, Bool, true, false, Option, Some, None, refl, subst}
 use Rattle.std.specs.Prelude.{IsSome}
 use Rattle.abt_machine.specs.declared.events.Code.{Code}

@@ -7,6 +7,7 @@ pub mod Barriers
 pub mod Codes
 pub mod Commute
 pub mod Counts
+pub mod Declared
 pub mod Dues
 pub mod Falls
 pub mod Keeping
@@ -18,7 +19,7 @@ pub mod LifeLists
 pub mod LifeMoves
 pub mod LifeRows
 pub mod LifeRuns
-pub mod LifeStepped
+pub mod LifeStepShapes
 pub mod LifeSteps
 pub mod LifeTies
 pub mod LineMoves
@@ -29,7 +30,7 @@ pub mod LocalRows
 pub mod Maps
 pub mod Marks
 pub mod Misses
-pub mod Objects
+pub mod ObjectSites
 pub mod OpenFrames
 pub mod Options
 pub mod Orders
@@ -62,7 +63,6 @@ pub mod SoundUnits
 pub mod Standing
 pub mod StepsLeft
 pub mod Sums
-pub mod ValidFacts
 pub mod Wakes
 pub mod WeightFalls
 pub mod Weights

@@ -12,7 +12,7 @@ use Rattle.abt_machine.specs.State.{State}
 use Rattle.abt_machine.specs.Lives.{life_after, unit_of, is_of, positions_in, cause_in, enters_in, leaves_in, count_up}
 use Rattle.abt_laws.proofs.Options.{none≢some}
 use Rattle.abt_laws.proofs.LifeTies.{IsOutside, IsBusy, IsBusy-outside, ends-busy, passage_at, passage-outside, Drifts, Acts, Fate, Drifting, Acting}
-use Rattle.abt_laws.proofs.LifeSteps.{not-of}
+use Rattle.abt_laws.proofs.LifeStepShapes.{not-of}
 
 -- an event of unit v that is an event of its life, and takes no other unit but from outside to outside
 pub event-fate : (W : Parts) (w : What) (S T : State) (v : UnitNo) (u : ℕ) → unit_of w ≡ Some v.0 → ((n : ℕ) → life_after W u n w ≡ n) → Acts (body_at W v.0) v.0 w S T → (u ≢ v.0 → Drifts u S T) → Fate W u w S T

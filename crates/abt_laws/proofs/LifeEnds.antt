@@ -30,7 +30,7 @@ use Rattle.abt_laws.proofs.Dues.{enters-plain, due-unit, leave-below, due-idle, 
 use Rattle.abt_laws.proofs.Maps.{put_at-same, put_at-other, put_all-kept}
 use Rattle.abt_laws.proofs.LifeLists.{MayEnd, passage_of_cause}
 use Rattle.abt_laws.proofs.LifeTies.{IsOutside, IsBusy, ends_at, passage_of_mark, passage_at, Acts, Fate}
-use Rattle.abt_laws.proofs.LifeSteps.{LeavesOthers, moved-other}
+use Rattle.abt_laws.proofs.LifeStepShapes.{LeavesOthers, moved-other}
 use Rattle.abt_laws.proofs.LifeRows.{AllOutside, line-outside}
 use Rattle.abt_laws.proofs.LifeActs.{event-fate}
 

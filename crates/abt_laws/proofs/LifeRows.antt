@@ -28,7 +28,7 @@ use Rattle.abt_laws.proofs.Places.{place_in}
 use Rattle.abt_laws.proofs.Standing.{StandsIn, each-stands}
 use Rattle.abt_laws.proofs.Lists.{EachOf, EachOf-append, EachOf-map, EachOf-then, EachOf-first_alone}
 use Rattle.abt_laws.proofs.LifeTies.{IsOutside}
-use Rattle.abt_laws.proofs.LifeSteps.{StaysOutside, Steps}
+use Rattle.abt_laws.proofs.LifeStepShapes.{StaysOutside, Steps}
 
 -- Who stands in a line.
 

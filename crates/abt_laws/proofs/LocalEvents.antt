@@ -1,5 +1,5 @@
 -- Every event changes only its stream, its site, and units that these keep.
-use Rattle.std.proofs.Common.{◌≡◌, ℕ, ◌<◌, if◌then◌else◌, Bool, true, false, List, [], ◌∷◌, length, Option, Some, None, refl, sym, subst}
+use Rattle.std.proofs.Common.{◌≡◌, ℕ, if◌then◌else◌, Bool, true, false, List, [], ◌∷◌, Option, Some, None, refl, sym, subst}
 use Rattle.std.proofs.lemmas.Bool.{cond-true}
 use Rattle.abt_machine.specs.declared.events.Code.{Code}
 use Rattle.abt_machine.specs.declared.events.Code.TheVariants as code
@@ -24,12 +24,12 @@ use Rattle.abt_machine.specs.Changes.{no_change}
 use Rattle.abt_machine.specs.Steps.{op_row, step_row}
 use Rattle.abt_machine.specs.Events.{look_row, change, May}
 use Rattle.abt_laws.specs.Footprint.{Within, holder}
-use Rattle.abt_laws.proofs.ValidFacts.{op-declared}
+use Rattle.abt_laws.proofs.Declared.{op-declared}
 use Rattle.abt_laws.proofs.Keeping.{IsKept, first-kept, hand-kept, next-kept, front-kept, standing-kept, one-kept, kept-where_true, unborn-seen, ended-seen, suspended-seen, in_pool-seen}
 use Rattle.abt_laws.proofs.Local.{IsLocal, local-none, local-moves, local-carried, local-desk, local-pool_next, local-eventual, local-stream}
 use Rattle.abt_laws.proofs.LocalRows
 use Rattle.abt_laws.proofs.Codes.{unless-ok}
-use Rattle.abt_laws.proofs.Objects.{mutex-waits, eventual-waits, future-waits, barrier-waits, condition-waits, condition-mutex-waits}
+use Rattle.abt_laws.proofs.ObjectSites.{mutex-waits, eventual-waits, future-waits, barrier-waits, condition-waits, condition-mutex-waits}
 
 -- the site of an operation that may reach it
 pub site-reached : (may : Bool) (y : Site) → may ≡ true → (if may then Some y else None) ≡ Some y

@@ -1,4 +1,4 @@
--- Steps that move units. Unit u, in the hand of stream s, makes the step.
+-- A step at which units move, none to a barrier. Unit u, in the hand of stream s, makes the step.
 use Rattle.std.proofs.Common.{ℕ, ◌≤◌, List}
 use Rattle.abt_machine.specs.declared.events.Place.{Place}
 use Rattle.abt_machine.specs.declared.operations.OrderShape.{OrderShape}

@@ -9,10 +9,10 @@ use Rattle.abt_machine.specs.State.{State}
 use Rattle.abt_machine.specs.Lines.{InPool, InTray}
 use Rattle.abt_machine.specs.Changes.{Change}
 use Rattle.abt_machine.specs.Events.{May, change}
-use Rattle.abt_machine.specs.Sound.{Sound, IsPlaced}
+use Rattle.abt_machine.specs.Sound.{Sound}
 use Rattle.abt_laws.proofs.SoundEvents.{keeps-event}
 use Rattle.abt_laws.proofs.Maps.{put_at-same}
-use Rattle.abt_laws.proofs.Places.{ticket-place, same-self}
+use Rattle.abt_laws.proofs.Places.{same-self}
 use Rattle.abt_laws.proofs.Arrivals.{IsBelow, free-above}
 use Rattle.abt_laws.proofs.Standing.{StandsIn, first-stands}
 use Rattle.abt_laws.proofs.SoundChanges.{Keeps, placed-below}

@@ -26,12 +26,12 @@ use Rattle.abt_laws.proofs.SoundEvents.{keeps-event}
 use Rattle.abt_laws.proofs.Rounds.{fresh-under_way}
 use Rattle.abt_laws.proofs.Dues.{due-no_next, due-no_hand, due-unit, enter-due, leave-below}
 use Rattle.abt_laws.proofs.Maps.{put_at-same, put_at-other, put_at-cases}
-use Rattle.abt_laws.proofs.Places.{ticket-place, same-self, stream-is}
+use Rattle.abt_laws.proofs.Places.{same-self, stream-is}
 use Rattle.abt_laws.proofs.Arrivals.{IsBelow, free-above, free-empty}
 use Rattle.abt_laws.proofs.Standing.{StandsIn, first-stands, is-declared}
 use Rattle.abt_laws.proofs.SoundChanges.{Keeps, FramesKeep, OnStream, placed-below}
 use Rattle.abt_laws.proofs.SoundRound.{fresh-rest}
-use Rattle.abt_laws.proofs.ValidFacts.{sched-declared}
+use Rattle.abt_laws.proofs.Declared.{sched-declared}
 use Rattle.abt_laws.proofs.Wakes.{empty-still}
 
 -- a frame below the top one has the same number with and without the top one

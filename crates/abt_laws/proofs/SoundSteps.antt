@@ -25,7 +25,7 @@ use Rattle.abt_laws.proofs.LineMoves.{tray_moves-places}
 use Rattle.abt_laws.proofs.Dues.{due-no_tray, due-no_next, due-unit, step-due}
 use Rattle.abt_laws.proofs.Maps.{put_at-same, put_at-other}
 use Rattle.abt_laws.proofs.Lists.{EachOf}
-use Rattle.abt_laws.proofs.Places.{ticket-place, same-self}
+use Rattle.abt_laws.proofs.Places.{same-self}
 use Rattle.abt_laws.proofs.Arrivals.{IsEmpty, IsBelow, IsBelow-empty, free-above, tray-free}
 use Rattle.abt_laws.proofs.Standing.{StandsIn, first-stands}
 use Rattle.abt_laws.proofs.SoundChanges.{Keeps, places, CarriesWell, AsksWell, MutexHolds, EventualHolds, FutureHolds, placed-below}
