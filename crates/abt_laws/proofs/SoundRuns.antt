@@ -13,9 +13,9 @@ use Rattle.abt_machine.specs.Start.{start}
 use Rattle.abt_machine.specs.Events.{May, after, change}
 use Rattle.abt_machine.specs.Runs.{RunFrom, state_after}
 use Rattle.abt_machine.specs.Sound.{Sound}
-use Rattle.abt_laws.specs.Laws.{StartIsSound, EventsKeepSound, RunsAreSound}
+use Rattle.abt_laws.specs.Laws.{EventsKeepSound, RunsAreSound}
 use Rattle.abt_laws.proofs.SoundChanges.{sound-after}
-use Rattle.abt_laws.proofs.SoundStart.{sound-start}
+use Rattle.abt_laws.proofs.SoundStart.{start-is-sound}
 use Rattle.abt_laws.proofs.SoundPut.{keeps-put}
 use Rattle.abt_laws.proofs.SoundLook.{keeps-look}
 use Rattle.abt_laws.proofs.SoundEnd.{keeps-end}
@@ -34,9 +34,6 @@ event-keeps W Z valid stored S s (what.End u c) sound below may = sound-after W 
 event-keeps W Z valid stored S s (what.Enter u) sound below may = sound-after W Z S (change W S s (what.Enter u)) sound (keeps-enter W Z S s u.0 valid stored sound below may)
 event-keeps W Z valid stored S s (what.Leave u) sound below may = sound-after W Z S (change W S s (what.Leave u)) sound (keeps-leave W Z S s u.0 sound below may)
 
-pub start-is-sound : (W : Parts) (Z : List OrderShape) → StartIsSound W Z
-start-is-sound W Z valid stored = sound-start W Z valid stored
-
 pub events-keep-sound : (W : Parts) (Z : List OrderShape) → EventsKeepSound W Z
 events-keep-sound W Z valid stored S T e sound came = subst (Sound W Z) (sym came.2) (event-keeps W Z valid stored S e.stream.0 e.what sound came.0 came.1)
 
@@ -47,4 +44,4 @@ states-sound W Z valid stored S (e ∷ es) (suc i) sound run =
     states-sound W Z valid stored (after W S e.stream.0 e.what) es i (event-keeps W Z valid stored S e.stream.0 e.what sound run.0 run.1) run.2
 
 pub runs-are-sound : (W : Parts) (Z : List OrderShape) → RunsAreSound W Z
-runs-are-sound W Z valid stored J i run = states-sound W Z valid stored (start W) J i (sound-start W Z valid stored) run
+runs-are-sound W Z valid stored J i run = states-sound W Z valid stored (start W) J i (start-is-sound W Z valid stored) run

@@ -9,10 +9,10 @@ use Rattle.abt_machine.specs.Workloads.{start_of, main_of}
 use Rattle.abt_machine.specs.Sites.{home_from}
 use Rattle.abt_machine.specs.Fronts.{is_some_of}
 use Rattle.abt_machine.specs.Lines.{Line, InPool, InHand, Waiting, ticket_in}
-use Rattle.abt_machine.specs.Rounds.{OrdersStored}
 use Rattle.abt_machine.specs.Start.{start, start_place, count_at}
-use Rattle.abt_machine.specs.Sound.{Sound, IsPlaced}
+use Rattle.abt_machine.specs.Sound.{IsPlaced}
 use Rattle.abt_machine.specs.Valid.{IsValid}
+use Rattle.abt_laws.specs.Laws.{StartIsSound}
 use Rattle.abt_laws.proofs.Rounds.{fresh-under_way}
 use Rattle.abt_laws.proofs.Options.{none≢some}
 use Rattle.abt_laws.proofs.Places.{line_of-ticket, same-self}
@@ -91,8 +91,8 @@ start-home W u valid = by (start_of W u) refl where
   by None e = valid.some_pool
   by (Some p) e = start-declared W u p valid e
 
-pub sound-start : (W : Parts) (Z : List OrderShape) → IsValid W → OrdersStored W Z → Sound W Z (start W)
-sound-start W Z valid stored = record {
+pub start-is-sound : (W : Parts) (Z : List OrderShape) → StartIsSound W Z
+start-is-sound W Z valid stored = record {
   one_each = start-one_each W;
   hand_or_next = λ s u v h g. start-empty W (InHand s) (λ p e. cc) u 0 (ap (ticket_in (InHand s)) h ∙ same-self s 0);
   undeclared = λ u l. ap (start_place W u) (undeclared-start W u l);
