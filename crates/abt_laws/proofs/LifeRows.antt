@@ -23,7 +23,7 @@ use Rattle.abt_machine.specs.Codes.{code_of, is_unborn, is_ended, is_suspended, 
 use Rattle.abt_machine.specs.Changes.{no_change, goes_with, goes_on, to_tray, tray_moves, waiting_moves}
 use Rattle.abt_machine.specs.Steps.{wakes, asks, joins, waits, locks, hands_over, releases, queues, passes, receives, gives_all, awaits, learns, ready_value, filled_by, fills, arrives, op_row}
 use Rattle.abt_laws.proofs.LineMoves.{tray_moves-each, waiting_moves-each}
-use Rattle.abt_laws.proofs.Codes.{unless-ok}
+use Rattle.abt_laws.proofs.Codes.{unless-ok, unless-second}
 use Rattle.abt_laws.proofs.Places.{place_in}
 use Rattle.abt_laws.proofs.Standing.{StandsIn, each-stands}
 use Rattle.abt_laws.proofs.Lists.{EachOf, EachOf-append, EachOf-map, EachOf-then, EachOf-first_alone}
@@ -174,21 +174,16 @@ module _ (W : Parts) (S : State) (s x : ℕ) (held : IsOutside (S.place x) → �
   goes (op.KeyGet k) h = row-goes_with (from_key k (S.carried x)) refl
   goes op.Yield h = row-yields
   goes (op.YieldTo v p) h =
-      let in_pool : (is_in_pool p.0 (S.place v.0) ≡ true) × (code.Ok ≡ code.Ok) = unless-ok (is_in_pool p.0 (S.place v.0)) code.Absent code.Ok tt (unless-ok (may_take W s p.0) code.PoolAccess _ tt h).1 in
-      row-yields_to v.0 (place.Next (stream_no s)) (pooled-outside p.0 (S.place v.0) in_pool.0) tt
+      row-yields_to v.0 (place.Next (stream_no s)) (pooled-outside p.0 (S.place v.0) (unless-second (may_take W s p.0) (is_in_pool p.0 (S.place v.0)) code.PoolAccess code.Absent _ tt tt h)) tt
   goes op.Suspend h = row-blocks (place.Blocked spot.Suspended 0) tt
   goes (op.Resume v) h = row-wakes (v.0 ∷ []) (suspended-outside (S.place v.0) (unless-ok (is_suspended (S.place v.0)) code.UnitState code.Ok tt h).0, tt)
-  goes (op.Create v p) h =
-      let unborn : (is_unborn (S.place v.0) ≡ true) × (code.Ok ≡ code.Ok) = unless-ok (is_unborn (S.place v.0)) code.Exists code.Ok tt (unless-ok (may_put W s p.0) code.PoolAccess _ tt h).1 in
-      unborn-over (S.place v.0) unborn.0
+  goes (op.Create v p) h = unborn-over (S.place v.0) (unless-second (may_put W s p.0) (is_unborn (S.place v.0)) code.PoolAccess code.Exists _ tt tt h)
   goes (op.Join v) h = row-joins v.0 (S.place v.0)
   goes (op.Cancel v) h = row-asks v.0 (record (S.desk v.0) { cancel = true }) refl
   goes (op.Migrate v p) h = row-asks v.0 (record (S.desk v.0) { migrate = Some p.0 }) refl
   goes (op.MigrateTo v r) h = row-asks v.0 (record (S.desk v.0) { migrate = Some (first_pool W r.0) }) refl
   goes (op.Migratable v b) h = row-asks v.0 (record (S.desk v.0) { migratable = b }) refl
-  goes (op.Revive v p) h =
-      let ended : (is_ended (S.place v.0) ≡ true) × (code.Ok ≡ code.Ok) = unless-ok (is_ended (S.place v.0)) code.UnitState code.Ok tt (unless-ok (may_put W s p.0) code.PoolAccess _ tt h).1 in
-      ended-over (S.place v.0) ended.0
+  goes (op.Revive v p) h = ended-over (S.place v.0) (unless-second (may_put W s p.0) (is_ended (S.place v.0)) code.PoolAccess code.UnitState _ tt tt h)
   goes (op.Lock y) h = row-locks y.0 (S.mutex y.0).owner
   goes (op.TryLock y) h = row-goes_on
   goes (op.Unlock y) h = row-hands_over y.0
