@@ -15,8 +15,9 @@ use Rattle.abt_machine.specs.Next.{due, due_by, at_position}
 use Rattle.abt_machine.specs.Fronts.{owns, front, front_by}
 use Rattle.abt_machine.specs.Changes.{Change, changed}
 use Rattle.abt_laws.specs.Footprint.{Holder, OfStream, OfSite, holder, Within, Apart}
+use Rattle.abt_laws.proofs.Lists.{EachOf}
 use Rattle.abt_laws.proofs.Queues.{queue-cong}
-use Rattle.abt_laws.proofs.Maps.{EachOf, key-cases, put_all-other}
+use Rattle.abt_laws.proofs.Maps.{KeyOf-cases, put_all-other}
 use Rattle.abt_laws.proofs.Keeping.{IsKept, line_holder, ticket-kept, hand-kept}
 use Rattle.abt_laws.proofs.Local.{IsLocal, site-stays, stream-stays, unit-stays, lands-kept}
 
@@ -63,7 +64,7 @@ module _ (W : Parts) (S : State) (s r : ℕ) (x y : Option Site) (c : Change) (n
   -- what is kept there afterwards
   kept-stayed : (u : ℕ) → IsKept W (changed S c) r y u → (S.place u ≡ put_all S.place c.moves u) × (S.carried u ≡ put_all S.carried c.carried u)
   kept-stayed u w =
-      elim (key-cases u c.moves) [
+      elim (KeyOf-cases u c.moves) [
         | inl k ↦ absurd (not-both s r x y (holder W u (put_all S.place c.moves u)) ne apart (lands-kept W S s x c here u k) w)
         | inr out ↦ kept-stays u (subst (λ pl. Within r y (holder W u pl)) (put_all-other S.place c.moves u out) w)
       ]

@@ -25,17 +25,18 @@ use Rattle.abt_machine.specs.State.{State, Stream, Carried, Desk, Future, Plain,
 use Rattle.abt_machine.specs.Lines.{InTray, Joining, hand, standing}
 use Rattle.abt_machine.specs.Rounds.{IsNextPool}
 use Rattle.abt_machine.specs.Frames.{marked, round_taken, round_missed, entered, sched_of, left}
-use Rattle.abt_machine.specs.Codes.{unless, is_unborn, is_ended, code_of, code_at}
+use Rattle.abt_machine.specs.Codes.{is_unborn, is_ended, code_of, code_at}
 use Rattle.abt_machine.specs.Changes.{Change, no_change, tray_moves, goes_with}
 use Rattle.abt_machine.specs.Steps.{owned, filled_by, ready_value, op_row, step_row}
 use Rattle.abt_machine.specs.Events.{without_requests, look_row, change, May}
 use Rattle.abt_laws.specs.Footprint.{Within, holder}
-use Rattle.abt_laws.proofs.Keeping.{IsKept, next-kept, first-kept, hand-declared}
+use Rattle.abt_laws.proofs.Declared.{op-declared}
+use Rattle.abt_laws.proofs.AlikeCodes.{code_at-alike}
+use Rattle.abt_laws.proofs.Keeping.{IsKept, next-kept, first-kept, unborn-seen, ended-seen}
 use Rattle.abt_laws.proofs.Alike.{IsAlike, standing-alike, hand-alike, next-alike, front-alike, tray_end-alike, caller-alike, due-alike}
 use Rattle.abt_laws.proofs.AlikeRows
-use Rattle.abt_laws.proofs.Codes.{unless-ok, kept-where_true, unborn-seen, ended-seen, code_at-alike}
-use Rattle.abt_laws.proofs.LocalEvents.{site-reached, ops-declared}
-use Rattle.abt_laws.proofs.Objects.{mutex-waits, eventual-waits, future-waits, barrier-waits, condition-waits, condition-mutex-waits}
+use Rattle.abt_laws.proofs.LocalEvents.{site-reached, unit-reached}
+use Rattle.abt_laws.proofs.ObjectSites.{mutex-waits, eventual-waits, future-waits, barrier-waits, condition-waits, condition-mutex-waits}
 
 -- Operations of unit u in the hand of stream s.
 
@@ -64,24 +65,20 @@ module _ (W : Parts) (valid : IsValid W) (S T : State) (s u : ℕ) (in_hand : ha
   op-alike op.Suspend d h alike = ap (λ (c : Change). record c { moves = (u, place.Blocked spot.Suspended 0) ∷ [] }) (AlikeRows.alike-goes_on W S T s u _ alike in_hand)
   op-alike (op.Resume v) d h alike = AlikeRows.alike-wakes W S T s u _ alike in_hand (v.0 ∷ []) (v.0 ∷ []) refl
   op-alike (op.Create v p) d h alike =
-      let may : (may_put W s p.0 ≡ true) × (unless (is_unborn (S.place v.0)) code.Exists code.Ok ≡ code.Ok) = unless-ok _ code.PoolAccess _ tt h in
-      let e : op_site W s u (op.Create v p) ≡ Some (site.Desk v) = site-reached (may_put W s p.0) (site.Desk v) may.0 in
-      let kept : IsKept W S s (op_site W s u (op.Create v p)) v.0 = kept-where_true (unborn-seen W s _ v.0 (S.place v.0) e) (unless-ok _ code.Exists code.Ok tt may.1).0 in
-      AlikeRows.alike-begins W S T s u _ alike in_hand v.0 p.0 (alike.units v.0 (inl kept)).1 (alike.desk v.0 e)
+      let kept : IsKept W S s (op_site W s u (op.Create v p)) v.0 = unit-reached W S s (may_put W s p.0) (site.Desk v) v.0 is_unborn code.Exists tt (λ x pl e. unborn-seen W s x v.0 pl e) h in
+      AlikeRows.alike-begins W S T s u _ alike in_hand v.0 p.0 (alike.units v.0 (inl kept)).1 (alike.desk v.0 (site-reached (may_put W s p.0) (site.Desk v) _ h))
   op-alike (op.Join v) d h alike = AlikeRows.alike-joins W S T s u _ alike in_hand v.0 refl
   op-alike (op.Cancel v) d h alike = AlikeRows.alike-asks W S T s u _ alike in_hand v.0 _ _ (ap (λ (k : Desk). record k { cancel = true }) (alike.desk v.0 refl))
   op-alike (op.Migrate v p) d h alike =
-      let e : op_site W s u (op.Migrate v p) ≡ Some (site.Desk v) = site-reached (may_put W s p.0) (site.Desk v) (unless-ok (may_put W s p.0) code.PoolAccess _ tt h).0 in
+      let e : op_site W s u (op.Migrate v p) ≡ Some (site.Desk v) = site-reached (may_put W s p.0) (site.Desk v) _ h in
       AlikeRows.alike-asks W S T s u _ alike in_hand v.0 _ _ (ap (λ (k : Desk). record k { migrate = Some p.0 }) (alike.desk v.0 e))
   op-alike (op.MigrateTo v r) d h alike =
-      let e : op_site W s u (op.MigrateTo v r) ≡ Some (site.Desk v) = site-reached (may_put W s (first_pool W r.0)) (site.Desk v) (unless-ok (may_put W s (first_pool W r.0)) code.PoolAccess _ tt h).0 in
+      let e : op_site W s u (op.MigrateTo v r) ≡ Some (site.Desk v) = site-reached (may_put W s (first_pool W r.0)) (site.Desk v) _ h in
       AlikeRows.alike-asks W S T s u _ alike in_hand v.0 _ _ (ap (λ (k : Desk). record k { migrate = Some (first_pool W r.0) }) (alike.desk v.0 e))
   op-alike (op.Migratable v b) d h alike = AlikeRows.alike-asks W S T s u _ alike in_hand v.0 _ _ (ap (λ (k : Desk). record k { migratable = b }) (alike.desk v.0 refl))
   op-alike (op.Revive v p) d h alike =
-      let may : (may_put W s p.0 ≡ true) × (unless (is_ended (S.place v.0)) code.UnitState code.Ok ≡ code.Ok) = unless-ok _ code.PoolAccess _ tt h in
-      let e : op_site W s u (op.Revive v p) ≡ Some (site.Desk v) = site-reached (may_put W s p.0) (site.Desk v) may.0 in
-      let kept : IsKept W S s (op_site W s u (op.Revive v p)) v.0 = kept-where_true (ended-seen W s _ v.0 (S.place v.0) e) (unless-ok _ code.UnitState code.Ok tt may.1).0 in
-      AlikeRows.alike-begins W S T s u _ alike in_hand v.0 p.0 (alike.units v.0 (inl kept)).1 (alike.desk v.0 e)
+      let kept : IsKept W S s (op_site W s u (op.Revive v p)) v.0 = unit-reached W S s (may_put W s p.0) (site.Desk v) v.0 is_ended code.UnitState tt (λ x pl e. ended-seen W s x v.0 pl e) h in
+      AlikeRows.alike-begins W S T s u _ alike in_hand v.0 p.0 (alike.units v.0 (inl kept)).1 (alike.desk v.0 (site-reached (may_put W s p.0) (site.Desk v) _ h))
   op-alike (op.Lock y) d h alike = AlikeRows.alike-locks W S T s u _ alike in_hand y.0 refl (mutex-waits W y d)
   op-alike (op.TryLock y) d h alike = λ i. record (AlikeRows.alike-goes_on W S T s u _ alike in_hand i) { mutexes = (y.0, owned (Some u) (alike.mutex y.0 refl i)) ∷ [] }
   op-alike (op.Unlock y) d h alike = AlikeRows.alike-hands_over W S T s u _ alike in_hand y.0 refl (mutex-waits W y d)
@@ -134,7 +131,7 @@ module _ (W : Parts) (valid : IsValid W) (Z : List OrderShape) (S T : State) (s 
   change-alike (what.Miss p) alike may = λ i. record no_change { streams = (s, round_missed W p.0 (alike.stream i)) ∷ [] }
   change-alike (what.Take p u) alike may = λ i. record no_change { moves = (u.0, place.Next (stream_no s)) ∷ []; streams = (s, round_taken (alike.stream i)) ∷ [] }
   change-alike (what.Look u) alike may = look-alike W S T s u.0 alike (next-kept W S s _ u.0 may.1)
-  change-alike (what.Step u k c) alike may = step-alike W valid S T s u.0 may.1 (op_at W u.0 k) c (λ o e. ops-declared W valid u.0 k o (hand-declared W S s u.0 may.1) e) (sym may.3) alike
+  change-alike (what.Step u k c) alike may = step-alike W valid S T s u.0 may.1 (op_at W u.0 k) c (λ o e. op-declared W u.0 k o valid e) (sym may.3) alike
   change-alike (what.Put u p) alike may = λ i. record no_change { moves = (u.0, place.Pool p (alike.pool_next p.0 refl i)) ∷ []; pool_next = (p.0, suc (alike.pool_next p.0 refl i)) ∷ [] }
   change-alike (what.End u c) alike may =
       let w : standing W S (Joining u.0) ≡ standing W T (Joining u.0) = standing-alike W s _ S T alike (Joining u.0) refl in

@@ -16,7 +16,7 @@ use Rattle.abt_machine.specs.Lines.{Waiting, hand, standing, tray_end}
 use Rattle.abt_machine.specs.Changes.{tray_moves, waiting_moves, goes_with, goes_on}
 use Rattle.abt_machine.specs.Steps.{owned, wakes, begins, asks, joins, waits, locks, hands_over, releases, queues, passes, receives, gives_all, awaits, learns, truth, fills, arrives}
 use Rattle.abt_laws.specs.Footprint.{Within, holder}
-use Rattle.abt_laws.proofs.Queues.{AllUnits}
+use Rattle.abt_laws.proofs.Lists.{EachOf}
 use Rattle.abt_laws.proofs.Keeping.{IsKept, standing-kept}
 use Rattle.abt_laws.proofs.Alike.{IsAlike, seen-alike, standing-alike, tray_end-alike, caller-alike}
 
@@ -108,7 +108,7 @@ module _ (W : Parts) (S T : State) (s u : ℕ) (x : Option Site) (alike : IsAlik
       passes-at z (S.mutex z).owner (taken (standing W S (Waiting y))) k e ∙ (λ i. passes W T s u z (k i).owner (taken (w i)))
 
   -- units that are kept here receive the same
-  receives-alike : (value : ℕ) (us : List ℕ) → AllUnits (IsKept W S s x) us → map (receives S value) us ≡ map (receives T value) us
+  receives-alike : (value : ℕ) (us : List ℕ) → EachOf (IsKept W S s x) us → map (receives S value) us ≡ map (receives T value) us
   receives-alike value [] a = refl
   receives-alike value (v ∷ us) a = λ i. (v, with_acc value ((alike.units v (inl a.0)).1 i)) ∷ receives-alike value us a.1 i
 

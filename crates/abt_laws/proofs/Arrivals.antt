@@ -1,11 +1,13 @@
 -- Moves to free places: no two units share a ticket in a line afterwards.
-use Rattle.std.proofs.Common.{◌≡◌, ◌≢◌, ℕ, suc, ◌<◌, List, [], ◌∷◌, ◌++◌, Some, None, refl, sym, ◌∙◌, ap, subst, arith, inl, inr}
+use Rattle.std.proofs.Common.{◌≡◌, ◌≢◌, ℕ, suc, ◌<◌, List, [], ◌∷◌, ◌++◌, Some, None, sym, ◌∙◌, ap, subst, arith, inl, inr}
 use Rattle.abt_machine.specs.declared.events.Place.{Place}
 use Rattle.abt_machine.specs.Maps.{put_at, put_all}
 use Rattle.abt_machine.specs.Lines.{Line, InTray, Waiting, ticket_in}
 use Rattle.abt_machine.specs.Changes.{tray_moves, waiting_moves}
-use Rattle.abt_laws.proofs.Queues.{none≢some, some-injective}
-use Rattle.abt_laws.proofs.ChangedMaps.{EachOf, put_at-cases}
+use Rattle.abt_laws.proofs.LineMoves.{line_moves, line_moves-tray, line_moves-waiting}
+use Rattle.abt_laws.proofs.Options.{none≢some, some-injective}
+use Rattle.abt_laws.proofs.Lists.{EachOf}
+use Rattle.abt_laws.proofs.Maps.{put_at-cases}
 use Rattle.abt_laws.proofs.Places.{place_in, line_of, line_of-ticket, line-unique, same-self}
 
 -- no two units share a ticket in a line
@@ -51,7 +53,7 @@ AllFree-append f [] ns a b = b
 AllFree-append f (m ∷ ms) ns a b = (a.0, AllFree-append (put_at f m.0 m.1) ms ns a.1 b)
 
 -- ticket k of line m, which nobody but u has
-pub free-at : (f : ℕ → Place) (u : ℕ) (pl : Place) (m : Line) (k : ℕ) → ticket_in m pl ≡ Some k → ((v : ℕ) → v ≢ u → ticket_in m (f v) ≡ Some k → ⊥) → IsFreeFor f u pl
+free-at : (f : ℕ → Place) (u : ℕ) (pl : Place) (m : Line) (k : ℕ) → ticket_in m pl ≡ Some k → ((v : ℕ) → v ≢ u → ticket_in m (f v) ≡ Some k → ⊥) → IsFreeFor f u pl
 free-at f u pl m k has free = λ l v t ne h g.
     let e : (l ≡ m) × (t ≡ k) = line-unique l m pl t k h has in
     free v ne (ap (λ o. ticket_in o (f v)) (sym e.0) ∙ (g ∙ ap (λ (n : ℕ). Some n) e.1))
@@ -84,19 +86,6 @@ IsBelow-moves l i f (m ∷ ms) out below = IsBelow-moves l i (put_at f m.0 m.1) 
 pub IsBelow-empty : (l : Line) (i : ℕ) (f : ℕ → Place) → IsEmpty l f → IsBelow l i f
 IsBelow-empty l i f empty v t h = absurd (empty v t h)
 
--- these units to the end of a line, in order, with tickets from i
-abbrev pub line_moves : Line → ℕ → List ℕ → List (ℕ × Place)
-line_moves l i [] = []
-line_moves l i (u ∷ us) = (u, place_in l i) ∷ line_moves l (suc i) us
-
-pub tray-moves : (s i : ℕ) (us : List ℕ) → tray_moves s i us ≡ line_moves (InTray s) i us
-tray-moves s i [] = refl
-tray-moves s i (u ∷ us) = ap (λ ms. (u, place_in (InTray s) i) ∷ ms) (tray-moves s (suc i) us)
-
-pub waiting-moves : (x i : ℕ) (us : List ℕ) → waiting_moves x i us ≡ line_moves (Waiting x) i us
-waiting-moves x i [] = refl
-waiting-moves x i (u ∷ us) = ap (λ ms. (u, place_in (Waiting x) i) ∷ ms) (waiting-moves x (suc i) us)
-
 line-below : (l : Line) (i : ℕ) (f : ℕ → Place) (u : ℕ) → ((t : ℕ) → ticket_in l (place_in l t) ≡ Some t) → IsBelow l i f → IsBelow l (suc i) (put_at f u (place_in l i))
 line-below l i f u has below v t h =
     elim (put_at-cases f u (place_in l i) v) [
@@ -110,8 +99,8 @@ line-free l i f (u ∷ us) has below = (free-above f u (place_in l i) l i (has i
 
 -- the end of a tray is free
 pub tray-free : (s i : ℕ) (f : ℕ → Place) (us : List ℕ) → IsBelow (InTray s) i f → AllFree f (tray_moves s i us)
-tray-free s i f us below = subst (AllFree f) (sym (tray-moves s i us)) (line-free (InTray s) i f us (same-self s) below)
+tray-free s i f us below = subst (AllFree f) (sym (line_moves-tray s i us)) (line-free (InTray s) i f us (same-self s) below)
 
 -- the end of an object's waiters is free
 pub waiting-free : (x i : ℕ) (f : ℕ → Place) (us : List ℕ) → IsBelow (Waiting x) i f → AllFree f (waiting_moves x i us)
-waiting-free x i f us below = subst (AllFree f) (sym (waiting-moves x i us)) (line-free (Waiting x) i f us (same-self x) below)
+waiting-free x i f us below = subst (AllFree f) (sym (line_moves-waiting x i us)) (line-free (Waiting x) i f us (same-self x) below)

@@ -1,126 +1,30 @@
--- What a code says of the unit that an operation names, and what it depends on.
-use Rattle.std.proofs.Common.{◌≡◌, ℕ, ◌==◌, if◌then◌else◌, Bool, true, false, not, is_none, Option, Some, None, refl, sym, ◌∙◌, ap, subst, ◌⊎◌, inl, inr}
-use Rattle.std.proofs.lemmas.Bool.{cases_eq, ne_eqb}
+-- What it says of the tests of a code that the operation goes through.
+use Rattle.std.proofs.Common.{◌≡◌, ℕ, Bool, true, false, Option, Some, None, refl, subst}
+use Rattle.std.specs.Prelude.{IsSome}
 use Rattle.abt_machine.specs.declared.events.Code.{Code}
 use Rattle.abt_machine.specs.declared.events.Code.TheVariants as code
-use Rattle.abt_machine.specs.declared.events.Place.{Place}
-use Rattle.abt_machine.specs.declared.events.Place.TheVariants as place
-use Rattle.abt_machine.specs.declared.events.Site.{Site}
-use Rattle.abt_machine.specs.declared.events.Site.TheVariants as site
-use Rattle.abt_machine.specs.declared.events.Spot.TheVariants as spot
-use Rattle.abt_machine.specs.declared.operations.Op.{Op}
-use Rattle.abt_machine.specs.declared.operations.Op.TheVariants as op
-use Rattle.abt_machine.specs.declared.workload.Parts.{Parts}
-use Rattle.abt_machine.specs.Numbers.{pool_no, unit_no, object_no}
-use Rattle.abt_machine.specs.Workloads.{mutex_of, size_of}
-use Rattle.abt_machine.specs.Access.{may_put, may_take}
 use Rattle.abt_machine.specs.Fronts.{is_some_of}
-use Rattle.abt_machine.specs.Sites.{first_pool, op_site, site_at}
-use Rattle.abt_machine.specs.State.{State, Desk, Mutex, Future}
-use Rattle.abt_machine.specs.Codes.{unless, is_unborn, is_ended, is_alive, is_suspended, is_in_pool, owned_by, code_of, code_at}
-use Rattle.abt_laws.specs.Footprint.{Within, holder}
-use Rattle.abt_laws.proofs.Alike.{IsAlike, seen-alike}
+use Rattle.abt_machine.specs.State.{State}
+use Rattle.abt_machine.specs.Codes.{unless, owned_by}
 
-no-test : false ≡ true → ⊥
-no-test h = cc
-
--- any code but Ok
-abbrev pub Refuses : Code → Type 0
-Refuses code.Ok = ⊥
-Refuses _ = Unit {0}
+-- every code but Ok
+abbrev pub IsRefusal : Code → Type 0
+IsRefusal code.Ok = ⊥
+IsRefusal _ = Unit {0}
 
 -- an operation goes through where each of its tests holds
-pub unless-ok : (test : Bool) (c rest : Code) → Refuses c → unless test c rest ≡ code.Ok → (test ≡ true) × (rest ≡ code.Ok)
+pub unless-ok : (test : Bool) (c rest : Code) → IsRefusal c → unless test c rest ≡ code.Ok → (test ≡ true) × (rest ≡ code.Ok)
 unless-ok true c rest r h = (refl, h)
-unless-ok false c rest r h = absurd (subst Refuses h r)
+unless-ok false c rest r h = absurd (subst IsRefusal h r)
 
--- a test of a unit's place holds only where the unit is kept here
-pub kept-where_true : {A : Type 0} {test : Bool} → A ⊎ (test ≡ false) → test ≡ true → A
-kept-where_true (inl kept) h = kept
-kept-where_true (inr f) h = absurd (no-test (sym f ∙ h))
+-- where it has two
+pub unless-second : (a b : Bool) (c d rest : Code) → IsRefusal c → IsRefusal d → unless a c (unless b d rest) ≡ code.Ok → b ≡ true
+unless-second a b c d rest first second e = (unless-ok b d rest second (unless-ok a c (unless b d rest) first e).1).0
 
--- Each test of a unit's place looks only at units that the site keeps, and is the same at all other places.
+some-by : (u : ℕ) (o : Option ℕ) → is_some_of u o ≡ true → IsSome o
+some-by u None e = cc
+some-by u (Some v) e = refl
 
-module _ (W : Parts) (s : ℕ) (x : Option Site) where
-  pub unborn-seen : (v : ℕ) (pl : Place) → x ≡ Some (site.Desk (unit_no v)) → Within s x (holder W v pl) ⊎ (is_unborn pl ≡ false)
-  unborn-seen v place.Unborn e = inl e
-  unborn-seen v _ e = inr refl
-
-  pub ended-seen : (v : ℕ) (pl : Place) → x ≡ Some (site.Desk (unit_no v)) → Within s x (holder W v pl) ⊎ (is_ended pl ≡ false)
-  ended-seen v (place.Ended c) e = inl e
-  ended-seen v _ e = inr refl
-
-  alive-seen : (v : ℕ) (pl : Place) → x ≡ Some (site.Desk (unit_no v)) → Within s x (holder W v pl) ⊎ (is_alive pl ≡ true)
-  alive-seen v place.Unborn e = inl e
-  alive-seen v (place.Ended c) e = inl e
-  alive-seen v _ e = inr refl
-
-  pub suspended-seen : (v : ℕ) (pl : Place) → x ≡ Some (site.Desk (unit_no v)) → Within s x (holder W v pl) ⊎ (is_suspended pl ≡ false)
-  suspended-seen v (place.Blocked spot.Suspended t) e = inl e
-  suspended-seen v _ e = inr refl
-
-  pub in_pool-seen : (v p : ℕ) (pl : Place) → x ≡ Some (site.Pool (pool_no p)) → Within s x (holder W v pl) ⊎ (is_in_pool p pl ≡ false)
-  in_pool-seen v p (place.Pool q t) e = elim (cases_eq q.0 p) [ inl same ↦ inl (e ∙ ap (λ n. Some (site.Pool (pool_no n))) (sym same)) | inr other ↦ inr (ne_eqb q.0 p other) ]
-  in_pool-seen v p _ e = inr refl
-
--- In alike states a code is the same.
-
-module _ (W : Parts) (s : ℕ) (x : Option Site) (S T : State) (alike : IsAlike W s x S T) where
-  -- the code of a test of a unit's place
-  same-test : (test : Place → Bool) (other : Bool) (c rest : Code) (v : ℕ) → ((pl : Place) → Within s x (holder W v pl) ⊎ (test pl ≡ other)) → unless (test (S.place v)) c rest ≡ unless (test (T.place v)) c rest
-  same-test test other c rest v seen = ap (λ b. unless b c rest) (seen-alike W s x S T alike test other v seen)
-
-  same-migrate : (v : ℕ) → x ≡ Some (site.Desk (unit_no v)) → unless (is_alive (S.place v)) code.UnitState (unless (S.desk v).migratable code.NotMigratable code.Ok) ≡ unless (is_alive (T.place v)) code.UnitState (unless (T.desk v).migratable code.NotMigratable code.Ok)
-  same-migrate v e =
-      same-test is_alive true code.UnitState (unless (S.desk v).migratable code.NotMigratable code.Ok) v (λ pl. alive-seen W s x v pl e)
-      ∙ ap (λ (d : Desk). unless (is_alive (T.place v)) code.UnitState (unless d.migratable code.NotMigratable code.Ok)) (alike.desk v e)
-
-  same-owner : (u y : ℕ) (c : Code) → x ≡ Some (site.Monitor (object_no y)) → unless (owned_by S u y) c code.Ok ≡ unless (owned_by T u y) c code.Ok
-  same-owner u y c e = ap (λ (m : Mutex). unless (is_some_of u m.owner) c code.Ok) (alike.mutex y e)
-
--- where the site is there only if a test holds, so that what comes behind the test is the same at it
-unless-alike : (W : Parts) (s : ℕ) (S T : State) (may : Bool) (y : Site) (c k l : Code) → (IsAlike W s (Some y) S T → k ≡ l) → IsAlike W s (if may then Some y else None) S T → unless may c k ≡ unless may c l
-unless-alike W s S T true y c k l same alike = same alike
-unless-alike W s S T false y c k l same alike = refl
-
-module _ (W : Parts) (s u : ℕ) (S T : State) where
-  -- the code of each operation
-  code-alike : (o : Op) → IsAlike W s (op_site W s u o) S T → code_of W S s u o ≡ code_of W T s u o
-  code-alike (op.Set n) alike = refl
-  code-alike (op.Add n) alike = refl
-  code-alike (op.Say w) alike = refl
-  code-alike op.Print alike = refl
-  code-alike (op.KeySet k) alike = refl
-  code-alike (op.KeyGet k) alike = refl
-  code-alike op.Yield alike = refl
-  code-alike (op.YieldTo v p) alike = unless-alike W s S T (may_take W s p.0) (site.Pool p) code.PoolAccess _ _ (λ here. same-test W s _ S T here (is_in_pool p.0) false code.Absent code.Ok v.0 (λ pl. in_pool-seen W s _ v.0 p.0 pl refl)) alike
-  code-alike op.Suspend alike = refl
-  code-alike (op.Resume v) alike = same-test W s _ S T alike is_suspended false code.UnitState code.Ok v.0 (λ pl. suspended-seen W s _ v.0 pl refl)
-  code-alike (op.Create v p) alike = unless-alike W s S T (may_put W s p.0) (site.Desk v) code.PoolAccess _ _ (λ here. same-test W s _ S T here is_unborn false code.Exists code.Ok v.0 (λ pl. unborn-seen W s _ v.0 pl refl)) alike
-  code-alike (op.Join v) alike = refl
-  code-alike (op.Cancel v) alike = same-test W s _ S T alike is_alive true code.UnitState code.Ok v.0 (λ pl. alive-seen W s _ v.0 pl refl)
-  code-alike (op.Migrate v p) alike = unless-alike W s S T (may_put W s p.0) (site.Desk v) code.PoolAccess _ _ (λ here. same-migrate W s _ S T here v.0 refl) alike
-  code-alike (op.MigrateTo v r) alike = unless-alike W s S T (may_put W s (first_pool W r.0)) (site.Desk v) code.PoolAccess _ _ (λ here. same-migrate W s _ S T here v.0 refl) alike
-  code-alike (op.Migratable v b) alike = refl
-  code-alike (op.Revive v p) alike = unless-alike W s S T (may_put W s p.0) (site.Desk v) code.PoolAccess _ _ (λ here. same-test W s _ S T here is_ended false code.UnitState code.Ok v.0 (λ pl. ended-seen W s _ v.0 pl refl)) alike
-  code-alike (op.Lock y) alike = refl
-  code-alike (op.TryLock y) alike = ap (λ (m : Mutex). unless (is_none m.owner) code.MutexLocked code.Ok) (alike.mutex y.0 refl)
-  code-alike (op.Unlock y) alike = same-owner W s _ S T alike u y.0 code.NotOwner refl
-  code-alike (op.Load y) alike = same-owner W s _ S T alike u y.0 code.NotOwner refl
-  code-alike (op.Store y) alike = same-owner W s _ S T alike u y.0 code.NotOwner refl
-  code-alike (op.CondWait y) alike = same-owner W s _ S T alike u (mutex_of W y.0) code.NotOwner refl
-  code-alike (op.Signal y) alike = refl
-  code-alike (op.Broadcast y) alike = refl
-  code-alike (op.EvWait y) alike = refl
-  code-alike (op.EvSet y) alike = ap (λ v. unless (is_none v) code.EventualSet code.Ok) (alike.eventual y.0 refl)
-  code-alike (op.EvReset y) alike = refl
-  code-alike (op.EvTest y) alike = refl
-  code-alike (op.FuWait y) alike = refl
-  code-alike (op.FuSet y) alike = ap (λ (f : Future). unless (not (f.filled == size_of W y.0)) code.FutureFull code.Ok) (alike.future y.0 refl)
-  code-alike (op.FuReset y) alike = refl
-  code-alike (op.FuTest y) alike = refl
-  code-alike (op.BarWait y) alike = refl
-
-  pub code_at-alike : (o : Option Op) → IsAlike W s (site_at W s u o) S T → code_at W S s u o ≡ code_at W T s u o
-  code_at-alike None alike = refl
-  code_at-alike (Some o) alike = code-alike o alike
+-- a mutex that u owns has an owner
+pub owned-some : (S : State) (u x : ℕ) → owned_by S u x ≡ true → IsSome (S.mutex x).owner
+owned-some S u x e = some-by u (S.mutex x).owner e

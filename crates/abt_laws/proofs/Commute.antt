@@ -14,7 +14,8 @@ use Rattle.abt_machine.specs.State.{State}
 use Rattle.abt_machine.specs.Changes.{Change, changed}
 use Rattle.abt_machine.specs.Events.{change, after, May, After}
 use Rattle.abt_laws.specs.Footprint.{holder, Apart}
-use Rattle.abt_laws.proofs.Maps.{EachOf, EachOf-key, KeyOf, put_all-commute}
+use Rattle.abt_laws.proofs.Lists.{EachOf}
+use Rattle.abt_laws.proofs.Maps.{EachOf-key, KeyOf, put_all-commute}
 use Rattle.abt_laws.proofs.Keeping.{IsKept}
 use Rattle.abt_laws.proofs.Local.{IsLocal, moved-kept}
 use Rattle.abt_laws.proofs.LocalEvents.{event-local}
@@ -63,7 +64,7 @@ module _ (W : Parts) (valid : IsValid W) (Z : List OrderShape) (S : State) (s r 
   seen-before = alike-sym W r (what_site W r v) S (after W S s w) unseen
 
   -- the second may come before the first
-  pub second-first : May W Z (after W S s w) r v → May W Z S r v
+  second-first : May W Z (after W S s w) r v → May W Z S r v
   second-first second = may-alike W valid Z (after W S s w) S r v seen-before second
 
   module _ (second : May W Z (after W S s w) r v) where
@@ -75,11 +76,11 @@ module _ (W : Parts) (valid : IsValid W) (Z : List OrderShape) (S : State) (s r 
     left = alike-after W S r s (what_site W r v) (what_site W s w) (change W S r v) (λ e. ne (sym e)) (λ z e f. apart z f e) there
 
     -- the first may come after the second
-    pub first-second : May W Z (after W S r v) s w
+    first-second : May W Z (after W S r v) s w
     first-second = may-alike W valid Z S (after W S r v) s w left first
 
     -- and the state after both is the same
-    pub same-after : after W (after W S s w) r v ≡ after W (after W S r v) s w
+    same-after : after W (after W S s w) r v ≡ after W (after W S r v) s w
     same-after =
         ap (changed (after W S s w)) (change-alike W valid Z (after W S s w) S r v seen-before second)
         ∙ (changes-commute W S s r (what_site W s w) (what_site W r v) (change W S s w) (change W S r v) ne apart here there

@@ -1,95 +1,135 @@
 -- What it says of a stream that an event is due.
-use Rattle.std.proofs.Common.{◌≡◌, ◌≢◌, ℕ, Bool, true, false, List, [], ◌∷◌, length, Option, Some, None, refl, sym, ◌∙◌, ap, subst}
-use Rattle.std.specs.Prelude.{nat_lt, option_map}
-use Rattle.std.proofs.lemmas.Bool.{cond_both}
+use Rattle.std.proofs.Common.{◌≡◌, ◌≢◌, ℕ, ◌<◌, ◌≤◌, nat_lt, Bool, true, false, List, [], ◌∷◌, length, Option, Some, None, option_map, refl, sym, ◌∙◌, ap, subst}
+use Rattle.std.proofs.lemmas.Bool.{cond_both, ltb-true, ltb-false}
 use Rattle.abt_machine.specs.declared.events.Cause.TheVariants as cause
+use Rattle.abt_machine.specs.declared.numbers.SchedNo.{SchedNo}
 use Rattle.abt_machine.specs.declared.operations.Body.{Body}
 use Rattle.abt_machine.specs.declared.operations.Body.TheVariants as body
 use Rattle.abt_machine.specs.declared.operations.Op.{Op}
 use Rattle.abt_machine.specs.declared.workload.Parts.{Parts}
-use Rattle.abt_machine.specs.Workloads.{body_at}
+use Rattle.abt_machine.specs.Workloads.{body_at, ops_of, is_sched}
 use Rattle.abt_machine.specs.Access.{may_take_all}
-use Rattle.abt_machine.specs.State.{State, Frame, Mark, Plain, Asked, Left}
-use Rattle.abt_machine.specs.Lines.{standing, hand, next, InTray}
-use Rattle.abt_machine.specs.Next.{Due, EndDue, EnterDue, StepDue, LeaveDue, RoundDue, at_position, due, due_by, due_by_hand, due_by_next, due_of_frames, due_of_ops, due_of_unit}
+use Rattle.abt_machine.specs.Queues.{first}
+use Rattle.abt_machine.specs.State.{State, Stream, Frame, Mark, Plain, Asked, Left}
+use Rattle.abt_machine.specs.Lines.{standing, hand, next, InTray, InHand, InNext}
+use Rattle.abt_machine.specs.Next.{Due, PutDue, LookDue, EndDue, EnterDue, StepDue, LeaveDue, RoundDue, at_position, due, due_by, due_by_hand, due_of_frames, due_of_ops, due_of_unit}
+use Rattle.abt_laws.proofs.Arrivals.{IsEmpty}
+use Rattle.abt_laws.proofs.Standing.{UndeclaredUnborn, none-first}
 
--- An idle stream.
+-- The unit in hand.
 
--- what is due of a stream that has no unit
-abbrev pub IsOfFrames : Due → Type 0
-IsOfFrames LeaveDue = Unit {0}
-IsOfFrames RoundDue = Unit {0}
-IsOfFrames _ = ⊥
+due_of_ops-cases : (P : Due → Type 0) (ops : List Op) (k : ℕ) → (k < length ops → P StepDue) → (length ops ≤ k → P (EndDue cause.Done)) → P (due_of_ops ops k)
+due_of_ops-cases P ops k step end = cond_both (nat_lt k (length ops)) StepDue (EndDue cause.Done) P (λ yes. step (ltb-true k (length ops) yes)) (λ no. end (ltb-false k (length ops) no))
 
--- the stream has no unit, and its frames say what is due
-pub record IsIdle (W : Parts) (S : State) (s : ℕ) : Type 0 where
-  pub tray : standing W S (InTray s) ≡ []
-  pub next : next W S s ≡ None
-  pub hand : hand W S s ≡ None
-  pub due : due W S s ≡ due_of_frames (S.stream s).top.empty (S.stream s).below
+-- what holds in each case of what is due for a unit: it was asked to cancel, is a scheduler or has a program
+module _ (W : Parts) (s k : ℕ) (P : Mark → Body → Due → Type 0) (asked : (b : Body) → P Asked b (EndDue cause.Asked))
+    (enter : (g : SchedNo) → P Plain (body.Sched g) EnterDue) (access : (g : SchedNo) → P Plain (body.Sched g) (EndDue cause.Access)) (gone : (g : SchedNo) → P Left (body.Sched g) (EndDue cause.Done))
+    (step : (m : Mark) (b : Body) → is_sched b ≡ false → k < length (ops_of b) → P m b StepDue) (done : (m : Mark) (b : Body) → is_sched b ≡ false → length (ops_of b) ≤ k → P m b (EndDue cause.Done)) where
+  pub due_of_unit-cases : (m : Mark) (b : Body) → P m b (due_of_unit W s m b k)
+  due_of_unit-cases Asked b = asked b
+  due_of_unit-cases Plain (body.Sched g) = cond_both (may_take_all W s g.0) EnterDue (EndDue cause.Access) (P Plain (body.Sched g)) (λ _. enter g) (λ _. access g)
+  due_of_unit-cases Left (body.Sched g) = gone g
+  due_of_unit-cases Plain (body.Ult ops) = due_of_ops-cases (P Plain (body.Ult ops)) ops k (step Plain (body.Ult ops) refl) (done Plain (body.Ult ops) refl)
+  due_of_unit-cases Left (body.Ult ops) = due_of_ops-cases (P Left (body.Ult ops)) ops k (step Left (body.Ult ops) refl) (done Left (body.Ult ops) refl)
+  due_of_unit-cases Plain (body.Task ops) = due_of_ops-cases (P Plain (body.Task ops)) ops k (step Plain (body.Task ops) refl) (done Plain (body.Task ops) refl)
+  due_of_unit-cases Left (body.Task ops) = due_of_ops-cases (P Left (body.Task ops)) ops k (step Left (body.Task ops) refl) (done Left (body.Task ops) refl)
 
-ops-not-of-frames : (ops : List Op) (k : ℕ) → IsOfFrames (due_of_ops ops k) → ⊥
-ops-not-of-frames ops k = cond_both (nat_lt k (length ops)) StepDue (EndDue cause.Done) (λ d. IsOfFrames d → ⊥) (λ _ h. h) (λ _ h. h)
+-- a unit that is to make a step has a program, and an operation left
+pub step-due : (W : Parts) (s : ℕ) (m : Mark) (b : Body) (k : ℕ) → due_of_unit W s m b k ≡ StepDue → (is_sched b ≡ false) × (k < length (ops_of b))
+step-due W s m b k =
+    due_of_unit-cases W s k (λ m b d. d ≡ StepDue → (is_sched b ≡ false) × (k < length (ops_of b))) (λ b h. cc) (λ g h. cc) (λ g h. cc) (λ g h. cc) (λ m b program more h. (program, more)) (λ m b program over h. cc) m b
 
-unit-not-of-frames : (W : Parts) (s : ℕ) (m : Mark) (b : Body) (k : ℕ) → IsOfFrames (due_of_unit W s m b k) → ⊥
-unit-not-of-frames W s Asked b k h = h
-unit-not-of-frames W s Plain (body.Sched g) k h = cond_both (may_take_all W s g.0) EnterDue (EndDue cause.Access) (λ d. IsOfFrames d → ⊥) (λ _ i. i) (λ _ i. i) h
-unit-not-of-frames W s Left (body.Sched g) k h = h
-unit-not-of-frames W s Plain (body.Ult ops) k h = ops-not-of-frames ops k h
-unit-not-of-frames W s Left (body.Ult ops) k h = ops-not-of-frames ops k h
-unit-not-of-frames W s Plain (body.Task ops) k h = ops-not-of-frames ops k h
-unit-not-of-frames W s Left (body.Task ops) k h = ops-not-of-frames ops k h
+-- a unit that enters is a scheduler, neither asked to cancel nor has it left
+pub enter-due : (W : Parts) (s : ℕ) (m : Mark) (b : Body) (k : ℕ) → due_of_unit W s m b k ≡ EnterDue → (m ≡ Plain) × ((g : SchedNo) × (b ≡ body.Sched g))
+enter-due W s m b k =
+    due_of_unit-cases W s k (λ m b d. d ≡ EnterDue → (m ≡ Plain) × ((g : SchedNo) × (b ≡ body.Sched g))) (λ b h. cc) (λ g h. (refl, (g, refl))) (λ g h. cc) (λ g h. cc) (λ m b program more h. cc) (λ m b program over h. cc) m b
 
-idle-by : (W : Parts) (S : State) (s : ℕ) (us : List ℕ) (taken held : Option ℕ) → standing W S (InTray s) ≡ us → next W S s ≡ taken → hand W S s ≡ held → IsOfFrames (due_by W s (S.stream s) us taken (option_map (at_position S) held)) → IsIdle W S s
-idle-by W S s (u ∷ us) taken held a b c h = absurd h
-idle-by W S s [] (Some v) held a b c h = absurd h
-idle-by W S s [] None (Some u) a b c h = absurd (unit-not-of-frames W s (S.stream s).mark (body_at W u) (S.carried u).position h)
-idle-by W S s [] None None a b c h = record {
-  tray = a;
-  next = b;
-  hand = c;
-  due = ap (λ us. due_by W s (S.stream s) us (next W S s) (option_map (at_position S) (hand W S s))) a
-      ∙ ap (λ o. due_by_next W s (S.stream s) o (option_map (at_position S) (hand W S s))) b
-      ∙ ap (λ o. due_by_hand W s (S.stream s) (option_map (at_position S) o)) c;
-}
+-- The stream.
 
-pub idle : (W : Parts) (S : State) (s : ℕ) → IsOfFrames (due W S s) → IsIdle W S s
-idle W S s h = idle-by W S s (standing W S (InTray s)) (next W S s) (hand W S s) refl refl refl h
+-- what comes only with an empty tray
+abbrev pub AfterTray : Due → Type 0
+AfterTray PutDue = ⊥
+AfterTray _ = Unit {0}
 
-frames-go-round : (empty : Bool) (fs : List Frame) → due_of_frames empty fs ≡ RoundDue → fs ≢ [] → empty ≡ false
-frames-go-round false fs h some = refl
-frames-go-round true [] h some = absurd (some refl)
-frames-go-round true (f ∷ fs) h some = cc
+-- what comes only with an empty tray and Next
+abbrev pub AfterNext : Due → Type 0
+AfterNext PutDue = ⊥
+AfterNext LookDue = ⊥
+AfterNext _ = Unit {0}
+
+-- what comes only with an empty tray, Next and hand
+abbrev pub AfterHand : Due → Type 0
+AfterHand LeaveDue = Unit {0}
+AfterHand RoundDue = Unit {0}
+AfterHand _ = ⊥
+
+after_next : (d : Due) → AfterHand d → AfterNext d
+after_next LeaveDue h = tt
+after_next RoundDue h = tt
+after_next _ h = absurd h
+
+tray-by : {X Y : Type 0} (W : Parts) (s : ℕ) (own : Stream) (us : List X) (taken : Option Y) (held : Option (ℕ × ℕ)) → AfterTray (due_by W s own us taken held) → first us ≡ None
+tray-by W s own [] taken held h = refl
+tray-by W s own (u ∷ us) taken held h = absurd h
+
+next-by : {X Y : Type 0} (W : Parts) (s : ℕ) (own : Stream) (us : List X) (taken : Option Y) (held : Option (ℕ × ℕ)) → AfterNext (due_by W s own us taken held) →
+    (first us ≡ None) × (taken ≡ None) × (due_by W s own us taken held ≡ due_by_hand W s own held)
+next-by W s own [] None held h = (refl, refl, refl)
+next-by W s own [] (Some v) held h = absurd h
+next-by W s own (u ∷ us) taken held h = absurd h
+
+hand-by : (W : Parts) (s : ℕ) (own : Stream) (o : Option ℕ) (at : ℕ → ℕ × ℕ) → AfterHand (due_by_hand W s own (option_map at o)) → o ≡ None
+hand-by W s own None at h = refl
+hand-by W s own (Some u) at h =
+    absurd (due_of_unit-cases W s (at u).1 (λ m b d. AfterHand d → ⊥) (λ b a. a) (λ g a. a) (λ g a. a) (λ g a. a) (λ m b program more a. a) (λ m b program over a. a) own.mark (body_at W (at u).0) h)
+
+module _ (W : Parts) (S : State) (s : ℕ) where
+  by_hand : (d : Due) → due W S s ≡ d → AfterNext d → (first (standing W S (InTray s)) ≡ None) × (next W S s ≡ None) × (due_by_hand W s (S.stream s) (option_map (at_position S) (hand W S s)) ≡ d)
+  by_hand d e after =
+      let is = next-by W s (S.stream s) (standing W S (InTray s)) (next W S s) (option_map (at_position S) (hand W S s)) (subst AfterNext (sym e) after) in
+      (is.0, is.1, sym is.2 ∙ e)
+
+  -- what is due for the unit in hand
+  pub due-unit : (d : Due) (u : ℕ) → due W S s ≡ d → AfterNext d → hand W S s ≡ Some u → due_of_unit W s (S.stream s).mark (body_at W u) (S.carried u).position ≡ d
+  due-unit d u e after is = ap (λ o. due_by_hand W s (S.stream s) (option_map (at_position S) o)) (sym is) ∙ (by_hand d e after).2
+
+  -- a stream without a unit in hand does what its frames say
+  pub due-idle : (d : Due) → due W S s ≡ d → AfterHand d → (hand W S s ≡ None) × (due_of_frames (S.stream s).top.empty (S.stream s).below ≡ d)
+  due-idle d e after =
+      let is : due_by_hand W s (S.stream s) (option_map (at_position S) (hand W S s)) ≡ d = (by_hand d e (after_next d after)).2 in
+      let none : hand W S s ≡ None = hand-by W s (S.stream s) (hand W S s) (at_position S) (subst AfterHand (sym is) after) in
+      (none, ap (λ o. due_by_hand W s (S.stream s) (option_map (at_position S) o)) (sym none) ∙ is)
+
+  module _ (undeclared : UndeclaredUnborn W S) where
+    pub due-no_tray : (d : Due) → due W S s ≡ d → AfterTray d → IsEmpty (InTray s) S.place
+    due-no_tray d e after = none-first W S undeclared (InTray s) (tray-by W s (S.stream s) (standing W S (InTray s)) (next W S s) (option_map (at_position S) (hand W S s)) (subst AfterTray (sym e) after))
+
+    pub due-no_next : (d : Due) → due W S s ≡ d → AfterNext d → IsEmpty (InNext s) S.place
+    due-no_next d e after = none-first W S undeclared (InNext s) (by_hand d e after).1
+
+    pub due-no_hand : (d : Due) → due W S s ≡ d → AfterHand d → IsEmpty (InHand s) S.place
+    due-no_hand d e after = none-first W S undeclared (InHand s) (due-idle d e after).0
+
+-- a unit that enters is neither asked to cancel nor has it left
+pub enters-plain : (W : Parts) (S : State) (s u : ℕ) → due W S s ≡ EnterDue → hand W S s ≡ Some u → (S.stream s).mark ≡ Plain
+enters-plain W S s u e is = (enter-due W s (S.stream s).mark (body_at W u) (S.carried u).position (due-unit W S s EnterDue u e tt is)).0
+
+-- The frames.
+
+leave-frames : (empty : Bool) (fs : List Frame) → due_of_frames empty fs ≡ LeaveDue → (f : Frame) × (rest : List Frame) × (fs ≡ f ∷ rest)
+leave-frames true (f ∷ fs) h = (f, fs, refl)
+leave-frames true [] h = cc
+leave-frames false fs h = cc
+
+-- a stacked frame is left
+pub leave-below : (W : Parts) (S : State) (s : ℕ) → due W S s ≡ LeaveDue → (f : Frame) × (rest : List Frame) × ((S.stream s).below ≡ f ∷ rest)
+leave-below W S s h = leave-frames (S.stream s).top.empty (S.stream s).below (due-idle W S s LeaveDue h tt).1
+
+round-frames : (empty : Bool) (fs : List Frame) → due_of_frames empty fs ≡ RoundDue → fs ≢ [] → empty ≡ false
+round-frames false fs h some = refl
+round-frames true [] h some = absurd (some refl)
+round-frames true (f ∷ fs) h some = cc
 
 -- where a round is due, the last round of a stacked top frame did not end empty
 pub round-not-empty : (W : Parts) (S : State) (s : ℕ) → due W S s ≡ RoundDue → (S.stream s).below ≢ [] → (S.stream s).top.empty ≡ false
-round-not-empty W S s h some =
-    let own : IsIdle W S s = idle W S s (subst IsOfFrames (sym h) tt) in
-    frames-go-round (S.stream s).top.empty (S.stream s).below (sym own.due ∙ h) some
-
--- An entry.
-
-ops-no-entry : (ops : List Op) (k : ℕ) → due_of_ops ops k ≡ EnterDue → ⊥
-ops-no-entry ops k = cond_both (nat_lt k (length ops)) StepDue (EndDue cause.Done) (λ d. d ≡ EnterDue → ⊥) (λ _ h. cc) (λ _ h. cc)
-
-unit-enters-plain : (W : Parts) (s : ℕ) (m : Mark) (b : Body) (k : ℕ) → due_of_unit W s m b k ≡ EnterDue → m ≡ Plain
-unit-enters-plain W s Plain b k h = refl
-unit-enters-plain W s Asked b k h = cc
-unit-enters-plain W s Left (body.Sched g) k h = cc
-unit-enters-plain W s Left (body.Ult ops) k h = absurd (ops-no-entry ops k h)
-unit-enters-plain W s Left (body.Task ops) k h = absurd (ops-no-entry ops k h)
-
-no-entry-of-frames : (empty : Bool) (fs : List Frame) → due_of_frames empty fs ≡ EnterDue → ⊥
-no-entry-of-frames true (f ∷ fs) h = cc
-no-entry-of-frames true [] h = cc
-no-entry-of-frames false fs h = cc
-
-enters-by : (W : Parts) (S : State) (s : ℕ) (us : List ℕ) (taken held : Option ℕ) → due_by W s (S.stream s) us taken (option_map (at_position S) held) ≡ EnterDue → (S.stream s).mark ≡ Plain
-enters-by W S s (u ∷ us) taken held h = cc
-enters-by W S s [] (Some v) held h = cc
-enters-by W S s [] None (Some u) h = unit-enters-plain W s (S.stream s).mark (body_at W u) (S.carried u).position h
-enters-by W S s [] None None h = absurd (no-entry-of-frames (S.stream s).top.empty (S.stream s).below h)
-
--- a unit that enters is neither asked to cancel nor has it left
-pub enters-plain : (W : Parts) (S : State) (s : ℕ) → due W S s ≡ EnterDue → (S.stream s).mark ≡ Plain
-enters-plain W S s h = enters-by W S s (standing W S (InTray s)) (next W S s) (hand W S s) h
+round-not-empty W S s h some = round-frames (S.stream s).top.empty (S.stream s).below (due-idle W S s RoundDue h tt).1 some

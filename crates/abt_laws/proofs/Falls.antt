@@ -17,7 +17,7 @@ use Rattle.abt_laws.proofs.StepsLeft.{steps_left-falls, steps_left-same}
 use Rattle.abt_laws.proofs.WeightFalls.{end-falls, enter-falls, leave-falls, look-falls, put-falls, take-falls}
 
 -- what an event lowers in a sound state
-pub event-falls : (W : Parts) (Z : List OrderShape) (S : State) (s : ℕ) (w : What) → s < W.streams → Sound W Z S → May W Z S s w → FallsBy W s w S (after W S s w)
+event-falls : (W : Parts) (Z : List OrderShape) (S : State) (s : ℕ) (w : What) → s < W.streams → Sound W Z S → May W Z S s w → FallsBy W s w S (after W S s w)
 event-falls W Z S s (what.Miss p) declared sound may = (miss-keeps-weight W S s p, miss-ends-stacked W S s p declared may.0, miss-keeps-frames W S s p may.0)
 event-falls W Z S s (what.Step u k c) declared sound may = tt
 event-falls W Z S s (what.Take p u) declared sound may = take-falls W S s p u may.1

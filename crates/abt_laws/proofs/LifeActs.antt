@@ -1,23 +1,18 @@
 -- What an event means to its own unit and to the others, by its shape.
-use Rattle.std.proofs.Common.{◌≡◌, ◌≢◌, ℕ, ◌+◌, [], ◌∷◌, ◌++◌, Some, None, refl, sym, ◌∙◌, ap, ap₂, subst, inl, inr}
+use Rattle.std.proofs.Common.{◌≡◌, ◌≢◌, ℕ, ◌+◌, [], ◌∷◌, ◌++◌, Some, None, sym, ◌∙◌, ap, ap₂, subst, inl, inr}
 use Rattle.std.specs.List.{cons_option}
 use Rattle.std.proofs.lemmas.Bool.{cases_eq}
 use Rattle.std.proofs.lemmas.List.{append-nil}
-use Rattle.abt_machine.specs.declared.events.Place.TheVariants as place
 use Rattle.abt_machine.specs.declared.events.What.{What}
-use Rattle.abt_machine.specs.declared.numbers.StreamNo.{StreamNo}
 use Rattle.abt_machine.specs.declared.numbers.UnitNo.{UnitNo}
 use Rattle.abt_machine.specs.declared.operations.Body.{Body}
 use Rattle.abt_machine.specs.declared.workload.Parts.{Parts}
-use Rattle.abt_machine.specs.Numbers.{stream_no}
-use Rattle.abt_machine.specs.Maps.{put_at}
 use Rattle.abt_machine.specs.Workloads.{body_at}
-use Rattle.abt_machine.specs.State.{State, Stream}
+use Rattle.abt_machine.specs.State.{State}
 use Rattle.abt_machine.specs.Lives.{life_after, unit_of, is_of, positions_in, cause_in, enters_in, leaves_in, count_up}
-use Rattle.abt_laws.proofs.Queues.{put_at-other, none≢some}
-use Rattle.abt_laws.proofs.LifeMaps.{put_all-kept}
+use Rattle.abt_laws.proofs.Options.{none≢some}
 use Rattle.abt_laws.proofs.LifeTies.{IsOutside, IsBusy, IsBusy-outside, ends-busy, passage_at, passage-outside, Drifts, Acts, Fate, Drifting, Acting}
-use Rattle.abt_laws.proofs.LifeSteps.{not-of}
+use Rattle.abt_laws.proofs.LifeStepShapes.{not-of}
 
 -- an event of unit v that is an event of its life, and takes no other unit but from outside to outside
 pub event-fate : (W : Parts) (w : What) (S T : State) (v : UnitNo) (u : ℕ) → unit_of w ≡ Some v.0 → ((n : ℕ) → life_after W u n w ≡ n) → Acts (body_at W v.0) v.0 w S T → (u ≢ v.0 → Drifts u S T) → Fate W u w S T
@@ -47,15 +42,3 @@ acts-quietly b u w S T quiet out busy passage life position =
       passes = λ h. passage ∙ (ap₂ (λ (m n : ℕ). (0 + m, 0 + n)) (sym quiet.enters) (sym quiet.leaves) ∙ ap (λ (p : ℕ × ℕ). (p.0 + enters_in (w ∷ []), p.1 + leaves_in (w ∷ []))) (sym was));
       cause = λ c h. absurd (none≢some (sym quiet.cause ∙ h));
     }
-
--- Marks.
-
-module _ (S : State) (s u : ℕ) where
-  -- a stream whose mark stays
-  pub mark-stays : (new : Stream) → new.mark ≡ (S.stream s).mark → (r : StreamNo) → S.place u ≡ place.Hand r → (put_at S.stream s new r.0).mark ≡ (S.stream r.0).mark
-  mark-stays new h r at = put_all-kept (λ n (own : Stream). own.mark ≡ (S.stream n).mark) S.stream ((s, new) ∷ []) r.0 (h, tt) refl
-
-  -- a stream that has no unit in hand
-  pub mark-elsewhere : (new : Stream) → (S.place u ≡ place.Hand (stream_no s) → ⊥) → (r : StreamNo) → S.place u ≡ place.Hand r → (put_at S.stream s new r.0).mark ≡ (S.stream r.0).mark
-  mark-elsewhere new none r at =
-      elim (cases_eq r.0 s) [ inl same ↦ absurd (none (at ∙ ap (λ (n : ℕ). place.Hand (stream_no n)) same)) | inr other ↦ ap (λ (own : Stream). own.mark) (put_at-other S.stream s new r.0 other) ]

@@ -10,7 +10,7 @@ use Rattle.abt_machine.specs.Sound.{Sound}
 use Rattle.abt_laws.proofs.LifeTies.{Fate}
 use Rattle.abt_laws.proofs.LifeMoves.{miss-fate, take-fate, look-fate, put-fate}
 use Rattle.abt_laws.proofs.LifeEnds.{end-fate, enter-fate, leave-fate}
-use Rattle.abt_laws.proofs.LifeStepped.{stepped-fate}
+use Rattle.abt_laws.proofs.LifeSteps.{stepped-fate}
 
 module _ (W : Parts) (Z : List OrderShape) (S : State) (sound : Sound W Z S) (s u : ℕ) (declared : u < length W.units) where
   -- what an event that may come means to unit u

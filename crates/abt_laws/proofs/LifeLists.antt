@@ -14,11 +14,11 @@ use Rattle.abt_machine.specs.Workloads.{ops_of, is_sched}
 use Rattle.abt_machine.specs.Lives.{positions_in, ends_in, cause_in, enters_in, leaves_in, count_up, StepsFit, EndsSteps, EndsSched, EndsLife, IsLife}
 use Rattle.abt_laws.proofs.LifeJournals.{ends_in-append}
 
-pub length-count_up : (n : ℕ) → length (count_up n) ≡ n
+length-count_up : (n : ℕ) → length (count_up n) ≡ n
 length-count_up zero = refl
 length-count_up (suc n) = let ih : length (count_up n) ≡ n = length-count_up n in omega (arith, length-append (count_up n) (n ∷ []))
 
-pub length-positions : (es : List What) (k : ℕ) → positions_in es ≡ count_up k → length (positions_in es) ≡ k
+length-positions : (es : List What) (k : ℕ) → positions_in es ≡ count_up k → length (positions_in es) ≡ k
 length-positions es k h = ap length h ∙ length-count_up k
 
 -- Nothing comes after an end.
@@ -47,7 +47,7 @@ nil≢cause (d ∷ cs) ds c h = cc
 no-end-within : (before rest : List What) (w : What) (c : Cause) → ends_in (before ++ w ∷ rest) ≡ [] → cause_in w ≡ Some c → ⊥
 no-end-within before rest w c none is = nil≢cause (ends_in before) (ends_in rest) c (ap (λ o. ends_in before ++ cons_option o (ends_in rest)) (sym is) ∙ (sym (ends_in-append before (w ∷ rest)) ∙ none))
 
-pub EndsLast-nil : EndsLast []
+EndsLast-nil : EndsLast []
 EndsLast-nil before rest w c h is = absurd (nil≢middle before rest w h)
 
 -- where nothing has ended, one more event leaves nothing after an end

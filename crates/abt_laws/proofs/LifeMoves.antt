@@ -7,47 +7,52 @@ use Rattle.abt_machine.specs.declared.numbers.PoolNo.{PoolNo}
 use Rattle.abt_machine.specs.declared.numbers.UnitNo.{UnitNo}
 use Rattle.abt_machine.specs.declared.operations.OrderShape.{OrderShape}
 use Rattle.abt_machine.specs.declared.workload.Parts.{Parts}
-use Rattle.abt_machine.specs.Numbers.{stream_no}
+use Rattle.abt_machine.specs.Numbers.{stream_no, pool_no}
 use Rattle.abt_machine.specs.Maps.{put_at}
 use Rattle.abt_machine.specs.Workloads.{body_at}
 use Rattle.abt_machine.specs.Carrying.{with_home}
 use Rattle.abt_machine.specs.State.{State, Stream, Carried, Desk, Mark, Plain, Asked}
-use Rattle.abt_machine.specs.Lines.{tray_end}
+use Rattle.abt_machine.specs.Lines.{InPool, InTray, tray_end}
 use Rattle.abt_machine.specs.Frames.{marked, round_taken, round_missed}
-use Rattle.abt_machine.specs.Changes.{no_change, changed}
+use Rattle.abt_machine.specs.Changes.{changed}
 use Rattle.abt_machine.specs.Events.{May, after, look_row, without_requests}
 use Rattle.abt_machine.specs.Sound.{Sound}
-use Rattle.abt_laws.proofs.Queues.{put_at-same, put_at-other}
-use Rattle.abt_laws.proofs.LifeMaps.{put_all-kept}
+use Rattle.abt_laws.proofs.SoundEvents.{handed}
+use Rattle.abt_laws.proofs.Marks.{marks-kept, marks-elsewhere}
+use Rattle.abt_laws.proofs.Standing.{next-place, StandsIn, first-stands, front-stands}
+use Rattle.abt_laws.proofs.Maps.{put_at-same, put_at-other, put_all-kept}
 use Rattle.abt_laws.proofs.LifeTies.{IsOutside, IsBusy, passage_of_mark, passage_at, Fate, Drifting}
-use Rattle.abt_laws.proofs.LifePlaces.{in-next, in-tray, front-outside}
-use Rattle.abt_laws.proofs.LifeActs.{event-fate, acts-quietly, mark-stays, mark-elsewhere}
+use Rattle.abt_laws.proofs.LifeActs.{event-fate, acts-quietly}
 
 module _ (W : Parts) (Z : List OrderShape) (S : State) (s u : ℕ) where
   pub miss-fate : (p : PoolNo) → Fate W u (what.Miss p) S (after W S s (what.Miss p))
-  miss-fate p = Drifting refl (λ n. refl) (record { life = refl; position = refl; moves = inl refl; marks = mark-stays S s u (round_missed W p.0 (S.stream s)) refl })
+  miss-fate p = Drifting refl (λ n. refl) (record { life = refl; position = refl; moves = inl refl; marks = λ r at. marks-kept S s (round_missed W p.0 (S.stream s)) refl r })
 
   pub take-fate : (p : PoolNo) (v : UnitNo) → May W Z S s (what.Take p v) → Fate W u (what.Take p v) S (after W S s (what.Take p v))
   take-fate p v may =
+      let is : StandsIn W S (InPool p.0) v.0 = front-stands W S s p.0 v.0 may.1 in
+      let from : S.place v.0 ≡ place.Pool (pool_no p.0) is.ticket = is.at in
       let there : put_at S.place v.0 (place.Next (stream_no s)) v.0 ≡ place.Next (stream_no s) = put_at-same S.place v.0 (place.Next (stream_no s)) in
       event-fate W (what.Take p v) S (after W S s (what.Take p v)) v u refl (λ n. refl)
       (acts-quietly (body_at W v.0) v.0 (what.Take p v) S (after W S s (what.Take p v)) (record { positions = refl; cause = refl; enters = refl; leaves = refl })
-      (front-outside W S s p.0 v.0 may.1) (subst IsBusy (sym there) tt) (ap (passage_at (after W S s (what.Take p v)).stream) there) refl refl)
-      (λ other. record { life = refl; position = refl; moves = inl (put_at-other S.place v.0 (place.Next (stream_no s)) u other); marks = mark-stays S s u (round_taken (S.stream s)) refl })
+      (subst IsOutside (sym from) tt) (subst IsBusy (sym there) tt) (ap (passage_at (after W S s (what.Take p v)).stream) there) refl refl)
+      (λ other. record { life = refl; position = refl; moves = inl (put_at-other S.place v.0 (place.Next (stream_no s)) u other); marks = λ r at. marks-kept S s (round_taken (S.stream s)) refl r })
 
   pub put-fate : (v : UnitNo) (p : PoolNo) → May W Z S s (what.Put v p) → Fate W u (what.Put v p) S (after W S s (what.Put v p))
   put-fate v p may =
+      let is : StandsIn W S (InTray s) v.0 = first-stands W S (InTray s) v.0 may.1 in
+      let from : S.place v.0 ≡ place.Tray (stream_no s) is.ticket = is.at in
       let there : put_at S.place v.0 (place.Pool p (S.pool_next p.0)) v.0 ≡ place.Pool p (S.pool_next p.0) = put_at-same S.place v.0 (place.Pool p (S.pool_next p.0)) in
       event-fate W (what.Put v p) S (after W S s (what.Put v p)) v u refl (λ n. refl)
       (acts-quietly (body_at W v.0) v.0 (what.Put v p) S (after W S s (what.Put v p)) (record { positions = refl; cause = refl; enters = refl; leaves = refl })
-      (in-tray W S s v.0 may.1) (subst IsBusy (sym there) tt) (ap (passage_at S.stream) there) refl refl)
+      (subst IsOutside (sym from) tt) (subst IsBusy (sym there) tt) (ap (passage_at S.stream) there) refl refl)
       (λ other. record { life = refl; position = refl; moves = inl (put_at-other S.place v.0 (place.Pool p (S.pool_next p.0)) u other); marks = λ r at. refl })
 
   -- A look.
 
   module _ (sound : Sound W Z S) (v : UnitNo) (may : May W Z S s (what.Look v)) where
     from : S.place v.0 ≡ place.Next (stream_no s)
-    from = in-next W S s v.0 may.1
+    from = next-place W S s v.0 may.1
 
     nobody-held : S.place u ≡ place.Hand (stream_no s) → ⊥
     nobody-held at = sound.hand_or_next s u v.0 at from
@@ -55,18 +60,14 @@ module _ (W : Parts) (Z : List OrderShape) (S : State) (s u : ℕ) where
     look-life : (n : ℕ) → (put_at S.desk v.0 (without_requests (S.desk v.0)) n).life ≡ (S.desk n).life
     look-life n = put_all-kept (λ m (d : Desk). d.life ≡ (S.desk m).life) S.desk ((v.0, without_requests (S.desk v.0)) ∷ []) n (refl, tt) refl
 
-    -- unit v comes to the hand with this mark
-    abbrev handed : Mark → State
-    handed m = changed S (record no_change { moves = (v.0, place.Hand (stream_no s)) ∷ []; desks = (v.0, without_requests (S.desk v.0)) ∷ []; streams = (s, marked m (S.stream s)) ∷ [] })
-
-    handed-fate : (m : Mark) → passage_of_mark m ≡ (0, 0) → Fate W u (what.Look v) S (handed m)
+    handed-fate : (m : Mark) → passage_of_mark m ≡ (0, 0) → Fate W u (what.Look v) S (changed S (handed S s v.0 m))
     handed-fate m fresh =
-        let there : (handed m).place v.0 ≡ place.Hand (stream_no s) = put_at-same S.place v.0 (place.Hand (stream_no s)) in
-        let mark : ((handed m).stream s).mark ≡ m = ap (λ (own : Stream). own.mark) (put_at-same S.stream s (marked m (S.stream s))) in
-        event-fate W (what.Look v) S (handed m) v u refl (λ n. refl)
-        (acts-quietly (body_at W v.0) v.0 (what.Look v) S (handed m) (record { positions = refl; cause = refl; enters = refl; leaves = refl })
-        (subst IsOutside (sym from) tt) (subst IsBusy (sym there) tt) (ap (passage_at (handed m).stream) there ∙ (ap passage_of_mark mark ∙ fresh)) (look-life v.0) refl)
-        (λ other. record { life = look-life u; position = refl; moves = inl (put_at-other S.place v.0 (place.Hand (stream_no s)) u other); marks = mark-elsewhere S s u (marked m (S.stream s)) nobody-held })
+        let there : (changed S (handed S s v.0 m)).place v.0 ≡ place.Hand (stream_no s) = put_at-same S.place v.0 (place.Hand (stream_no s)) in
+        let mark : ((changed S (handed S s v.0 m)).stream s).mark ≡ m = ap (λ (own : Stream). own.mark) (put_at-same S.stream s (marked m (S.stream s))) in
+        event-fate W (what.Look v) S (changed S (handed S s v.0 m)) v u refl (λ n. refl)
+        (acts-quietly (body_at W v.0) v.0 (what.Look v) S (changed S (handed S s v.0 m)) (record { positions = refl; cause = refl; enters = refl; leaves = refl })
+        (subst IsOutside (sym from) tt) (subst IsBusy (sym there) tt) (ap (passage_at (changed S (handed S s v.0 m)).stream) there ∙ (ap passage_of_mark mark ∙ fresh)) (look-life v.0) refl)
+        (λ other. record { life = look-life u; position = refl; moves = inl (put_at-other S.place v.0 (place.Hand (stream_no s)) u other); marks = marks-elsewhere S s u (marked m (S.stream s)) nobody-held })
 
     migrated-fate : (p : ℕ) → Fate W u (what.Look v) S (changed S (look_row W S s v.0 false (Some p)))
     migrated-fate p =

@@ -1,5 +1,5 @@
 -- Each operation that goes through takes its unit on, and moves other units only from outside to outside, but where it begins a life.
-use Rattle.std.proofs.Common.{◌≡◌, ◌≢◌, ℕ, suc, ◌==◌, is_some, Bool, true, false, List, [], ◌∷◌, ◌++◌, length, Option, Some, None, refl, ap, subst, inl, inr}
+use Rattle.std.proofs.Common.{◌≡◌, ◌≢◌, ℕ, suc, ◌==◌, is_some, Bool, true, false, List, [], ◌∷◌, ◌++◌, length, Option, Some, None, refl, sym, ap, subst, inl, inr}
 use Rattle.std.proofs.lemmas.Bool.{cond_both, false≢true}
 use Rattle.abt_machine.specs.declared.events.Code.{Code}
 use Rattle.abt_machine.specs.declared.events.Code.TheVariants as code
@@ -17,49 +17,39 @@ use Rattle.abt_machine.specs.Access.{may_put, may_take}
 use Rattle.abt_machine.specs.Carrying.{added, from_key, printed, refused, with_acc, with_key}
 use Rattle.abt_machine.specs.Queues.{first_alone}
 use Rattle.abt_machine.specs.State.{State, Carried, Desk, Future}
-use Rattle.abt_machine.specs.Lines.{Line, ticket_in, standing, Waiting, Joining, tray_end}
+use Rattle.abt_machine.specs.Lines.{Line, standing, Waiting, tray_end}
 use Rattle.abt_machine.specs.Outcomes.{IsOver}
-use Rattle.abt_machine.specs.Codes.{code_of, unless, is_unborn, is_ended, is_suspended, is_in_pool, is_full}
+use Rattle.abt_machine.specs.Codes.{code_of, is_unborn, is_ended, is_suspended, is_in_pool, is_full}
 use Rattle.abt_machine.specs.Changes.{no_change, goes_with, goes_on, to_tray, tray_moves, waiting_moves}
 use Rattle.abt_machine.specs.Steps.{wakes, asks, joins, waits, locks, hands_over, releases, queues, passes, receives, gives_all, awaits, learns, ready_value, filled_by, fills, arrives, op_row}
-use Rattle.abt_laws.proofs.Queues.{HasTicket, AllUnits, queue-all, none≢some}
-use Rattle.abt_laws.proofs.Maps.{EachOf}
-use Rattle.abt_laws.proofs.LifeMaps.{EachOf-append, EachOf-units, AllUnits-then, AllUnits-first_alone}
+use Rattle.abt_laws.proofs.LineMoves.{tray_moves-each, waiting_moves-each}
+use Rattle.abt_laws.proofs.Codes.{unless-ok, unless-second}
+use Rattle.abt_laws.proofs.Places.{place_in}
+use Rattle.abt_laws.proofs.Standing.{StandsIn, each-stands}
+use Rattle.abt_laws.proofs.Lists.{EachOf, EachOf-append, EachOf-map, EachOf-then, EachOf-first_alone}
 use Rattle.abt_laws.proofs.LifeTies.{IsOutside}
-use Rattle.abt_laws.proofs.LifeSteps.{StaysOutside, Steps}
+use Rattle.abt_laws.proofs.LifeStepShapes.{StaysOutside, Steps}
 
--- Who waits is outside.
-
-waiting-outside : (x : ℕ) (pl : Place) (t : ℕ) → ticket_in (Waiting x) pl ≡ Some t → IsOutside pl
-waiting-outside x (place.Blocked (spot.Object y) k) t h = tt
-waiting-outside x _ t h = absurd (none≢some h)
-
-pub joining-outside : (v : ℕ) (pl : Place) (t : ℕ) → ticket_in (Joining v) pl ≡ Some t → IsOutside pl
-joining-outside v (place.Blocked (spot.Join w) k) t h = tt
-joining-outside v _ t h = absurd (none≢some h)
+-- Who stands in a line.
 
 abbrev pub AllOutside : State → List ℕ → Type 0
-AllOutside S us = AllUnits (λ u. IsOutside (S.place u)) us
+AllOutside S us = EachOf (λ u. IsOutside (S.place u)) us
 
 -- if each place of a line is outside, so is each unit that stands there
-pub line-outside : (W : Parts) (S : State) (l : Line) → ((pl : Place) (t : ℕ) → ticket_in l pl ≡ Some t → IsOutside pl) → AllOutside S (standing W S l)
-line-outside W S l out =
-    AllUnits-then (HasTicket (λ u. ticket_in l (S.place u)) (length W.units)) (λ u. IsOutside (S.place u)) (standing W S l) (λ u h. out (S.place u) h.ticket h.has)
-    (queue-all (λ u. ticket_in l (S.place u)) (length W.units))
+pub line-outside : (W : Parts) (S : State) (l : Line) → ((t : ℕ) → IsOutside (place_in l t)) → AllOutside S (standing W S l)
+line-outside W S l out = EachOf-then (StandsIn W S l) (λ u. IsOutside (S.place u)) (standing W S l) (λ u is. subst IsOutside (sym is.at) (out is.ticket)) (each-stands W S l)
 
 waiters-outside : (W : Parts) (S : State) (x : ℕ) → AllOutside S (standing W S (Waiting x))
-waiters-outside W S x = line-outside W S (Waiting x) (waiting-outside x)
+waiters-outside W S x = line-outside W S (Waiting x) (λ t. tt)
 
 -- The shapes of rows, for unit x in a hand.
 
 module _ (W : Parts) (S : State) (s x : ℕ) (held : IsOutside (S.place x) → ⊥) where
   tray-stays : (us : List ℕ) (i : ℕ) → AllOutside S us → EachOf (StaysOutside S x) (tray_moves s i us)
-  tray-stays [] i a = tt
-  tray-stays (u ∷ us) i a = ((inr a.0, tt), tray-stays us (suc i) a.1)
+  tray-stays us i a = tray_moves-each (StaysOutside S x) (λ u. IsOutside (S.place u)) s i us (λ u t out. (inr out, tt)) a
 
   waiting-stays : (m : ℕ) (us : List ℕ) (t : ℕ) → AllOutside S us → EachOf (StaysOutside S x) (waiting_moves m t us)
-  waiting-stays m [] t a = tt
-  waiting-stays m (u ∷ us) t a = ((inr a.0, tt), waiting-stays m us (suc t) a.1)
+  waiting-stays m us t a = waiting_moves-each (StaysOutside S x) (λ u. IsOutside (S.place u)) m t us (λ u k b out. (inr out, tt)) a
 
   row-goes_with : (c : Carried) → c.position ≡ (S.carried x).position → Steps S x (goes_with x c)
   row-goes_with c h = record { stay_outside = tt; goes_on = (refl, ap (λ (n : ℕ). suc n) h, tt); same_lives = tt; same_streams = refl }
@@ -99,7 +89,7 @@ module _ (W : Parts) (S : State) (s x : ℕ) (held : IsOutside (S.place x) → �
   row-locks y (Some v) = row-waits y
 
   front-outside : (y : ℕ) → AllOutside S (first_alone (standing W S (Waiting y)))
-  front-outside y = AllUnits-first_alone (λ u. IsOutside (S.place u)) (standing W S (Waiting y)) (waiters-outside W S y)
+  front-outside y = EachOf-first_alone (λ u. IsOutside (S.place u)) (standing W S (Waiting y)) (waiters-outside W S y)
 
   row-hands_over : (m : ℕ) → Steps S x (hands_over W S s x m)
   row-hands_over m = row-wakes (first_alone (standing W S (Waiting m))) (front-outside m)
@@ -125,7 +115,7 @@ module _ (W : Parts) (S : State) (s x : ℕ) (held : IsOutside (S.place x) → �
       let out : AllOutside S us = waiters-outside W S y in
       record {
         stay_outside = tray-stays us (tray_end W S s) out;
-        goes_on = (refl, refl, EachOf-units (λ (q : ℕ × Carried). (q.0 ≢ x) × (q.1.position ≡ (S.carried q.0).position)) (λ u. IsOutside (S.place u)) (receives S value) us (λ u h. (λ e. held (subst (λ n. IsOutside (S.place n)) e h), refl)) out);
+        goes_on = (refl, refl, EachOf-map (λ (q : ℕ × Carried). (q.0 ≢ x) × (q.1.position ≡ (S.carried q.0).position)) (λ u. IsOutside (S.place u)) (receives S value) us (λ u h. (λ e. held (subst (λ n. IsOutside (S.place n)) e h), refl)) out);
         same_lives = tt;
         same_streams = refl;
       }
@@ -150,10 +140,6 @@ module _ (W : Parts) (S : State) (s x : ℕ) (held : IsOutside (S.place x) → �
   row-refused c = record { stay_outside = tt; goes_on = (refl, refl, tt); same_lives = tt; same_streams = refl }
 
   -- What the code says of the other unit.
-
-  unless-ok : (b : Bool) (c rest : Code) → (c ≡ code.Ok → ⊥) → unless b c rest ≡ code.Ok → (b ≡ true) × (rest ≡ code.Ok)
-  unless-ok true c rest differs h = (refl, h)
-  unless-ok false c rest differs h = absurd (differs h)
 
   suspended-outside : (pl : Place) → is_suspended pl ≡ true → IsOutside pl
   suspended-outside (place.Blocked spot.Suspended t) h = tt
@@ -188,21 +174,16 @@ module _ (W : Parts) (S : State) (s x : ℕ) (held : IsOutside (S.place x) → �
   goes (op.KeyGet k) h = row-goes_with (from_key k (S.carried x)) refl
   goes op.Yield h = row-yields
   goes (op.YieldTo v p) h =
-      let in_pool : (is_in_pool p.0 (S.place v.0) ≡ true) × (code.Ok ≡ code.Ok) = unless-ok (is_in_pool p.0 (S.place v.0)) code.Absent code.Ok (λ e. cc) (unless-ok (may_take W s p.0) code.PoolAccess _ (λ e. cc) h).1 in
-      row-yields_to v.0 (place.Next (stream_no s)) (pooled-outside p.0 (S.place v.0) in_pool.0) tt
+      row-yields_to v.0 (place.Next (stream_no s)) (pooled-outside p.0 (S.place v.0) (unless-second (may_take W s p.0) (is_in_pool p.0 (S.place v.0)) code.PoolAccess code.Absent _ tt tt h)) tt
   goes op.Suspend h = row-blocks (place.Blocked spot.Suspended 0) tt
-  goes (op.Resume v) h = row-wakes (v.0 ∷ []) (suspended-outside (S.place v.0) (unless-ok (is_suspended (S.place v.0)) code.UnitState code.Ok (λ e. cc) h).0, tt)
-  goes (op.Create v p) h =
-      let unborn : (is_unborn (S.place v.0) ≡ true) × (code.Ok ≡ code.Ok) = unless-ok (is_unborn (S.place v.0)) code.Exists code.Ok (λ e. cc) (unless-ok (may_put W s p.0) code.PoolAccess _ (λ e. cc) h).1 in
-      unborn-over (S.place v.0) unborn.0
+  goes (op.Resume v) h = row-wakes (v.0 ∷ []) (suspended-outside (S.place v.0) (unless-ok (is_suspended (S.place v.0)) code.UnitState code.Ok tt h).0, tt)
+  goes (op.Create v p) h = unborn-over (S.place v.0) (unless-second (may_put W s p.0) (is_unborn (S.place v.0)) code.PoolAccess code.Exists _ tt tt h)
   goes (op.Join v) h = row-joins v.0 (S.place v.0)
   goes (op.Cancel v) h = row-asks v.0 (record (S.desk v.0) { cancel = true }) refl
   goes (op.Migrate v p) h = row-asks v.0 (record (S.desk v.0) { migrate = Some p.0 }) refl
   goes (op.MigrateTo v r) h = row-asks v.0 (record (S.desk v.0) { migrate = Some (first_pool W r.0) }) refl
   goes (op.Migratable v b) h = row-asks v.0 (record (S.desk v.0) { migratable = b }) refl
-  goes (op.Revive v p) h =
-      let ended : (is_ended (S.place v.0) ≡ true) × (code.Ok ≡ code.Ok) = unless-ok (is_ended (S.place v.0)) code.UnitState code.Ok (λ e. cc) (unless-ok (may_put W s p.0) code.PoolAccess _ (λ e. cc) h).1 in
-      ended-over (S.place v.0) ended.0
+  goes (op.Revive v p) h = ended-over (S.place v.0) (unless-second (may_put W s p.0) (is_ended (S.place v.0)) code.PoolAccess code.UnitState _ tt tt h)
   goes (op.Lock y) h = row-locks y.0 (S.mutex y.0).owner
   goes (op.TryLock y) h = row-goes_on
   goes (op.Unlock y) h = row-hands_over y.0

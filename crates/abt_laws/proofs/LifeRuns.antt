@@ -82,7 +82,7 @@ module _ (W : Parts) (Z : List OrderShape) (sound : RunsAreSound W Z) (valid : I
       subst (λ J. TiedTo W J (last_state W J) u) shift (tied-along-run (K ++ e ∷ []) es whole more)
 
   -- after a run its events are tied to the last state
-  pub run-tied : (J : List Event) → Run W Z J → TiedTo W J (last_state W J) u
+  run-tied : (J : List Event) → Run W Z J → TiedTo W J (last_state W J) u
   run-tied J run = tied-along-run [] J run (start-tied W u)
 
   -- the life that unit u is in after a run is the state's
@@ -94,7 +94,7 @@ module _ (W : Parts) (Z : List OrderShape) (sound : RunsAreSound W Z) (valid : I
   run-unborn J run = ((run-tied J run).unborn, (run-tied J run).born)
 
   -- an unborn unit has no events
-  pub run-nothing_unborn : (J : List Event) → Run W Z J → life_events W J u 0 ≡ []
+  run-nothing_unborn : (J : List Event) → Run W Z J → life_events W J u 0 ≡ []
   run-nothing_unborn J run = (run-tied J run).nothing_unborn
 
 -- Lives.

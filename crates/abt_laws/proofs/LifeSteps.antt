@@ -1,193 +1,65 @@
--- What a step of one unit means to it and to the others.
-use Rattle.std.proofs.Common.{◌≡◌, ◌≢◌, ℕ, suc, ◌==◌, if◌then◌else◌, false, List, [], ◌∷◌, ◌++◌, Some, refl, sym, ◌∙◌, ap, subst, ◌⊎◌, inl, inr}
-use Rattle.std.proofs.lemmas.Bool.{cases_eq, cond-true, cond-false, eq-eqb, ne_eqb, true≢false}
+-- What a step means to units.
+use Rattle.std.proofs.Common.{◌≡◌, ℕ, suc, ◌<◌, ◌≤◌, if◌then◌else◌, false, List, length, Option, Some, None, refl, sym, ◌∙◌, ap, subst, arith, inl, inr}
+use Rattle.std.proofs.lemmas.Option.{slice_get_cases}
 use Rattle.abt_machine.specs.declared.events.Code.{Code}
-use Rattle.abt_machine.specs.declared.events.Place.{Place}
+use Rattle.abt_machine.specs.declared.events.Code.TheVariants as code
 use Rattle.abt_machine.specs.declared.events.Place.TheVariants as place
 use Rattle.abt_machine.specs.declared.events.What.TheVariants as what
 use Rattle.abt_machine.specs.declared.numbers.UnitNo.{UnitNo}
-use Rattle.abt_machine.specs.declared.operations.Body.{Body}
+use Rattle.abt_machine.specs.declared.operations.Op.{Op}
+use Rattle.abt_machine.specs.declared.operations.Op.TheVariants as op
+use Rattle.abt_machine.specs.declared.operations.OrderShape.{OrderShape}
 use Rattle.abt_machine.specs.declared.workload.Parts.{Parts}
 use Rattle.abt_machine.specs.Numbers.{stream_no}
-use Rattle.abt_machine.specs.Maps.{put_at, put_all}
-use Rattle.abt_machine.specs.Workloads.{body_at, is_sched}
-use Rattle.abt_machine.specs.Carrying.{advanced, newborn}
-use Rattle.abt_machine.specs.State.{State, Stream, Carried, Desk}
-use Rattle.abt_machine.specs.Lines.{tray_end}
-use Rattle.abt_machine.specs.Outcomes.{IsOver}
-use Rattle.abt_machine.specs.Changes.{Change, changed}
-use Rattle.abt_machine.specs.Steps.{begins}
-use Rattle.abt_machine.specs.Lives.{life_after, is_of, count_up}
-use Rattle.abt_laws.proofs.Queues.{put_at-same, put_at-other, none≢some}
-use Rattle.abt_laws.proofs.Maps.{EachOf}
-use Rattle.abt_laws.proofs.LifeMaps.{put_all-kept}
-use Rattle.abt_laws.proofs.LifeTies.{IsOutside, IsBusy, IsBusy-outside, ends-busy, Drifts, Acts, Begins, Fate, Drifting, Acting, Beginning}
+use Rattle.abt_machine.specs.Workloads.{body_at, op_at, ops_of, is_sched}
+use Rattle.abt_machine.specs.State.{State}
+use Rattle.abt_machine.specs.Next.{StepDue}
+use Rattle.abt_machine.specs.Codes.{code_of, code_at}
+use Rattle.abt_machine.specs.Changes.{changed}
+use Rattle.abt_machine.specs.Steps.{step_row, op_row}
+use Rattle.abt_machine.specs.Events.{May, after}
+use Rattle.abt_machine.specs.Lives.{is_birth}
+use Rattle.abt_laws.proofs.Dues.{due-unit, step-due}
+use Rattle.abt_laws.proofs.Standing.{hand-place}
+use Rattle.abt_laws.proofs.Options.{none≢some}
+use Rattle.abt_laws.proofs.LifeTies.{IsOutside, IsBusy, Fate}
+use Rattle.abt_laws.proofs.LifeStepShapes.{step-fate, birth-fate}
+use Rattle.abt_laws.proofs.LifeRows.{Goes, goes, row-refused}
 
--- Changes by a step.
+module _ (W : Parts) (Z : List OrderShape) (S : State) (s u : ℕ) where
+  module _ (v : UnitNo) (k : ℕ) (c : Code) (may : May W Z S s (what.Step v k c)) where
+    steps-from : S.place v.0 ≡ place.Hand (stream_no s)
+    steps-from = hand-place W S s v.0 may.1
 
--- unit x goes to its next position, and others with new things to carry keep theirs
-abbrev pub GoesOn : State → ℕ → List (ℕ × Carried) → Type 0
-GoesOn S x [] = ⊥
-GoesOn S x (p ∷ ps) = (p.0 ≡ x) × (p.1.position ≡ suc (S.carried x).position) × EachOf (λ (q : ℕ × Carried). (q.0 ≢ x) × (q.1.position ≡ (S.carried q.0).position)) ps
+    not-outside : IsOutside (S.place v.0) → ⊥
+    not-outside out = subst IsOutside steps-from out
 
--- a move of unit x, or of another from outside, to outside
-abbrev pub StaysOutside : State → ℕ → ℕ × Place → Type 0
-StaysOutside S x m = ((m.0 ≡ x) ⊎ IsOutside (S.place m.0)) × IsOutside m.1
+    held-busy : IsBusy (S.place v.0)
+    held-busy = subst IsBusy (sym steps-from) tt
 
--- a change by a step of unit x with which no life begins
-pub record IsStep (S : State) (x : ℕ) (moves : List (ℕ × Place)) (carried : List (ℕ × Carried)) (desks : List (ℕ × Desk)) (streams : List (ℕ × Stream)) : Type 0 where
-  pub stay_outside : EachOf (StaysOutside S x) moves
-  pub goes_on : GoesOn S x carried
-  pub same_lives : EachOf (λ (d : ℕ × Desk). d.1.life ≡ (S.desk d.0).life) desks
-  pub same_streams : streams ≡ []
+    has-step : (is_sched (body_at W v.0) ≡ false) × ((S.carried v.0).position < length (ops_of (body_at W v.0)))
+    has-step = step-due W s (S.stream s).mark (body_at W v.0) (S.carried v.0).position (due-unit W S s StepDue v.0 may.0 tt may.1)
 
-abbrev pub Steps : State → ℕ → Change → Type 0
-Steps S x c = IsStep S x c.moves c.carried c.desks c.streams
+    abbrev life-by : ℕ → Option Op → ℕ
+    life-by n o = if is_birth u o then suc n else n
 
--- To the others.
+    row-fate : (o : Op) → op_at W v.0 k ≡ Some o → Goes W S s v.0 not-outside o → Fate W u (what.Step v k code.Ok) S (changed S (op_row W S s v.0 o))
+    row-fate (op.Create w p) is over = birth-fate W S s v w p.0 k code.Ok has-step.0 may.2 held-busy over u (λ n. ap (life-by n) is)
+    row-fate (op.Revive w p) is over = birth-fate W S s v w p.0 k code.Ok has-step.0 may.2 held-busy over u (λ n. ap (life-by n) is)
+    row-fate o is step = step-fate W S v k code.Ok u (op_row W S s v.0 o) has-step.0 may.2 held-busy (λ n. ap (life-by n) is) step
 
-carried-other : (S : State) (x u : ℕ) (ps : List (ℕ × Carried)) → u ≢ x → GoesOn S x ps → (put_all S.carried ps u).position ≡ (S.carried u).position
-carried-other S x u [] ne h = absurd h
-carried-other S x u (p ∷ ps) ne h =
-    elim (put_all-kept (λ n (c : Carried). (n ≡ x) ⊎ (c.position ≡ (S.carried n).position)) (put_at S.carried p.0 p.1) ps u
-    (weaken ps h.2) (inr (ap (λ (c : Carried). c.position) (put_at-other S.carried p.0 p.1 u (λ e. ne (e ∙ h.0))))))
-    [ inl same ↦ absurd (ne same) | inr is ↦ is ] where
-      weaken : (qs : List (ℕ × Carried)) → EachOf (λ (q : ℕ × Carried). (q.0 ≢ x) × (q.1.position ≡ (S.carried q.0).position)) qs → EachOf (λ (q : ℕ × Carried). (q.0 ≡ x) ⊎ (q.1.position ≡ (S.carried q.0).position)) qs
-      weaken [] a = tt
-      weaken (q ∷ qs) a = (inr a.0.1, weaken qs a.1)
+    code-fate : (d : Code) (o : Op) → op_at W v.0 k ≡ Some o → d ≡ code_of W S s v.0 o → Fate W u (what.Step v k d) S (changed S (step_row W S s v.0 (Some o) d))
+    code-fate code.Ok o is h = row-fate o is (goes W S s v.0 not-outside o (sym h))
+    code-fate d o is h = step-fate W S v k d u (step_row W S s v.0 (Some o) d) has-step.0 may.2 held-busy (λ n. refl) (row-refused W S s v.0 not-outside d)
 
--- a move of unit x, or of another from outside to outside
-abbrev pub LeavesOthers : State → ℕ → ℕ × Place → Type 0
-LeavesOthers S x m = (m.0 ≡ x) ⊎ (IsOutside (S.place m.0) × IsOutside m.1)
+    no-op : op_at W v.0 k ≡ None → ⊥
+    no-op none =
+        let at : (S.carried v.0).position ≡ k = may.2 in
+        let more : (S.carried v.0).position < length (ops_of (body_at W v.0)) = has-step.1 in
+        elim (slice_get_cases (ops_of (body_at W v.0)) k).1 [ inl is ↦ none≢some (sym none ∙ is.2) | inr past ↦ (let short : length (ops_of (body_at W v.0)) ≤ k = past.0 in absurd (omega arith)) ]
 
-pub moved-other : (S : State) (x u : ℕ) (ms : List (ℕ × Place)) → u ≢ x → EachOf (LeavesOthers S x) ms → (put_all S.place ms u ≡ S.place u) ⊎ (IsOutside (S.place u) × IsOutside (put_all S.place ms u))
-moved-other S x u ms ne h =
-    elim (put_all-kept (λ n pl. (n ≡ x) ⊎ ((pl ≡ S.place n) ⊎ (IsOutside (S.place n) × IsOutside pl))) S.place ms u (weaken ms h) (inr (inl refl)))
-    [ inl same ↦ absurd (ne same) | inr is ↦ is ] where
-      weaken : (ns : List (ℕ × Place)) → EachOf (LeavesOthers S x) ns → EachOf (λ (m : ℕ × Place). (m.0 ≡ x) ⊎ ((m.1 ≡ S.place m.0) ⊎ (IsOutside (S.place m.0) × IsOutside m.1))) ns
-      weaken [] a = tt
-      weaken (m ∷ ns) a = (elim a.0 [ inl own ↦ inl own | inr out ↦ inr (inr out) ], weaken ns a.1)
-
-leaves-others : (S : State) (x : ℕ) (ms : List (ℕ × Place)) → EachOf (StaysOutside S x) ms → EachOf (LeavesOthers S x) ms
-leaves-others S x [] a = tt
-leaves-others S x (m ∷ ms) a = (elim a.0.0 [ inl own ↦ inl own | inr out ↦ inr (out, a.0.1) ], leaves-others S x ms a.1)
-
-same-life : (S : State) (u : ℕ) (ds : List (ℕ × Desk)) → EachOf (λ (d : ℕ × Desk). d.1.life ≡ (S.desk d.0).life) ds → (put_all S.desk ds u).life ≡ (S.desk u).life
-same-life S u ds h = put_all-kept (λ n (d : Desk). d.life ≡ (S.desk n).life) S.desk ds u h refl
-
-pub step-drifts : (S : State) (x u : ℕ) (c : Change) → u ≢ x → Steps S x c → Drifts u S (changed S c)
-step-drifts S x u c ne step = record {
-  life = same-life S u c.desks step.same_lives;
-  position = carried-other S x u c.carried ne step.goes_on;
-  moves = moved-other S x u c.moves ne (leaves-others S x c.moves step.stay_outside);
-  marks = λ r h. ap (λ ss. (put_all S.stream ss r.0).mark) step.same_streams;
-}
-
--- To the unit that makes it.
-
-carried-own : (S : State) (x : ℕ) (ps : List (ℕ × Carried)) → GoesOn S x ps → (put_all S.carried ps x).position ≡ suc (S.carried x).position
-carried-own S x [] h = absurd h
-carried-own S x (p ∷ ps) h =
-    elim (put_all-kept (λ n (c : Carried). (n ≡ x → ⊥) ⊎ (c.position ≡ suc (S.carried x).position)) (put_at S.carried p.0 p.1) ps x
-    (weaken ps h.2) (inr (ap (λ (c : Carried). c.position) (subst (λ n. put_at S.carried p.0 p.1 n ≡ p.1) h.0 (put_at-same S.carried p.0 p.1)) ∙ h.1)))
-    [ inl other ↦ absurd (other refl) | inr is ↦ is ] where
-      weaken : (qs : List (ℕ × Carried)) → EachOf (λ (q : ℕ × Carried). (q.0 ≢ x) × (q.1.position ≡ (S.carried q.0).position)) qs → EachOf (λ (q : ℕ × Carried). (q.0 ≡ x → ⊥) ⊎ (q.1.position ≡ suc (S.carried x).position)) qs
-      weaken [] a = tt
-      weaken (q ∷ qs) a = (inl a.0.0, weaken qs a.1)
-
-moved-own : (S : State) (x : ℕ) (ms : List (ℕ × Place)) → IsBusy (S.place x) → EachOf (StaysOutside S x) ms → IsBusy (put_all S.place ms x)
-moved-own S x ms busy h = put_all-kept (λ n pl. IsBusy pl) S.place ms x (weaken ms h) busy where
-  weaken : (ns : List (ℕ × Place)) → EachOf (StaysOutside S x) ns → EachOf (λ (m : ℕ × Place). IsBusy m.1) ns
-  weaken [] a = tt
-  weaken (m ∷ ns) a = (IsBusy-outside m.1 a.0.1, weaken ns a.1)
-
--- a unit that makes a step goes on, whatever else changes
-acts-by_step : (b : Body) (v : UnitNo) (k : ℕ) (c : Code) (S T : State) → is_sched b ≡ false → (S.carried v.0).position ≡ k → IsBusy (S.place v.0) → IsBusy (T.place v.0) → (T.desk v.0).life ≡ (S.desk v.0).life → (T.carried v.0).position ≡ suc (S.carried v.0).position → Acts b v.0 (what.Step v k c) S T
-acts-by_step b v k c S T program at busy stays life position = record {
-  busy = busy;
-  born = λ e. subst IsBusy e stays;
-  life = life;
-  steps = ap count_up position ∙ ap (λ n. count_up (S.carried v.0).position ++ n ∷ []) at;
-  ends = ends-busy (T.place v.0) stays;
-  passes = λ h. absurd (true≢false (sym h ∙ program));
-  cause = λ x h. absurd (none≢some h);
-}
-
-step-acts : (b : Body) (v : UnitNo) (k : ℕ) (c : Code) (S : State) (ch : Change) → is_sched b ≡ false → (S.carried v.0).position ≡ k → IsBusy (S.place v.0) → Steps S v.0 ch → Acts b v.0 (what.Step v k c) S (changed S ch)
-step-acts b v k c S ch program at busy step =
-    acts-by_step b v k c S (changed S ch) program at busy (moved-own S v.0 ch.moves busy step.stay_outside) (same-life S v.0 ch.desks step.same_lives) (carried-own S v.0 ch.carried step.goes_on)
-
--- Fates.
-
-pub not-of : (u : ℕ) (v : UnitNo) → u ≢ v.0 → is_of u (Some v.0) ≡ false
-not-of u v ne = ne_eqb v.0 u (λ e. ne (sym e))
-
--- what a step with which no life begins means to unit u
-pub step-fate : (W : Parts) (S : State) (v : UnitNo) (k : ℕ) (c : Code) (u : ℕ) (ch : Change) → is_sched (body_at W v.0) ≡ false → (S.carried v.0).position ≡ k → IsBusy (S.place v.0) →
-    ((n : ℕ) → life_after W u n (what.Step v k c) ≡ n) → Steps S v.0 ch → Fate W u (what.Step v k c) S (changed S ch)
-step-fate W S v k c u ch program at busy same step =
-    elim (cases_eq u v.0) [
-      | inl own ↦ Acting (ap (λ (n : ℕ). Some n) (sym own)) same (subst (λ n. Acts (body_at W n) n (what.Step v k c) S (changed S ch)) (sym own) (step-acts (body_at W v.0) v k c S ch program at busy step))
-      | inr other ↦ Drifting (not-of u v other) same (step-drifts S v.0 u ch other step)
-    ]
-
-over-not-busy : (pl : Place) → IsOver pl → IsBusy pl → ⊥
-over-not-busy place.Unborn over busy = busy
-over-not-busy (place.Ended c) over busy = busy
-over-not-busy (place.Pool p t) over busy = over
-over-not-busy (place.Hand s) over busy = over
-over-not-busy (place.Next s) over busy = over
-over-not-busy (place.Tray s t) over busy = over
-over-not-busy (place.Frame s d) over busy = over
-over-not-busy (place.Blocked x t) over busy = over
-
-module _ (W : Parts) (S : State) (s : ℕ) (v w : UnitNo) (p k : ℕ) (c : Code) (program : is_sched (body_at W v.0) ≡ false) (at : (S.carried v.0).position ≡ k) (busy : IsBusy (S.place v.0)) (over : IsOver (S.place w.0)) where
-  abbrev T : State
-  T = changed S (begins W S s v.0 w.0 p)
-
-  apart : (u : ℕ) → u ≡ v.0 → u ≢ w.0
-  apart u own born = over-not-busy (S.place w.0) over (subst (λ n. IsBusy (S.place n)) (sym own ∙ born) busy)
-
-  birth-begins : Begins w.0 S T
-  birth-begins = record {
-    over = over;
-    outside = subst IsOutside (sym (put_at-same S.place w.0 (place.Tray (stream_no s) (tray_end W S s)))) tt;
-    life = ap (λ (d : Desk). d.life) (put_at-same S.desk w.0 (record (S.desk w.0) { life = suc (S.desk w.0).life }));
-    position = ap (λ (d : Carried). d.position) (put_at-same (put_at S.carried v.0 (advanced (S.carried v.0))) w.0 (newborn p (S.carried w.0)));
-  }
-
-  place-other : (u : ℕ) → u ≢ w.0 → T.place u ≡ S.place u
-  place-other u ne = put_at-other S.place w.0 (place.Tray (stream_no s) (tray_end W S s)) u ne
-
-  life-other : (u : ℕ) → u ≢ w.0 → (T.desk u).life ≡ (S.desk u).life
-  life-other u ne = ap (λ (d : Desk). d.life) (put_at-other S.desk w.0 (record (S.desk w.0) { life = suc (S.desk w.0).life }) u ne)
-
-  carried-before : (u : ℕ) → u ≢ w.0 → T.carried u ≡ put_at S.carried v.0 (advanced (S.carried v.0)) u
-  carried-before u ne = put_at-other (put_at S.carried v.0 (advanced (S.carried v.0))) w.0 (newborn p (S.carried w.0)) u ne
-
-  birth-drifts : (u : ℕ) → u ≢ v.0 → u ≢ w.0 → Drifts u S T
-  birth-drifts u ne other = record {
-    life = life-other u other;
-    position = ap (λ (d : Carried). d.position) (carried-before u other ∙ put_at-other S.carried v.0 (advanced (S.carried v.0)) u ne);
-    moves = inl (place-other u other);
-    marks = λ r h. refl;
-  }
-
-  birth-acts : Acts (body_at W v.0) v.0 (what.Step v k c) S T
-  birth-acts =
-      let other : v.0 ≢ w.0 = apart v.0 refl in
-      acts-by_step (body_at W v.0) v k c S T program at busy (subst IsBusy (sym (place-other v.0 other)) busy) (life-other v.0 other)
-      (ap (λ (d : Carried). d.position) (carried-before v.0 other ∙ put_at-same S.carried v.0 (advanced (S.carried v.0))))
-
-  -- what a step with which a life of unit w begins means to unit u
-  pub birth-fate : (u : ℕ) → ((n : ℕ) → life_after W u n (what.Step v k c) ≡ (if w.0 == u then suc n else n)) → Fate W u (what.Step v k c) S T
-  birth-fate u life =
-      elim (cases_eq u w.0) [
-        | inl born ↦ Beginning (not-of u v (λ own. apart u own born)) (λ n. life n ∙ cond-true (w.0 == u) (suc n) n (eq-eqb w.0 u (sym born))) (subst (λ n. Begins n S T) (sym born) birth-begins)
-        | inr other ↦ (
-            let same : (n : ℕ) → life_after W u n (what.Step v k c) ≡ n = λ n. life n ∙ cond-false (w.0 == u) (suc n) n (ne_eqb w.0 u (λ e. other (sym e))) in
-            elim (cases_eq u v.0) [
-              | inl own ↦ Acting (ap (λ (n : ℕ). Some n) (sym own)) same (subst (λ n. Acts (body_at W n) n (what.Step v k c) S T) (sym own) birth-acts)
-              | inr ne ↦ Drifting (not-of u v ne) same (birth-drifts u ne other)
-            ])
-      ]
+    pub stepped-fate : Fate W u (what.Step v k c) S (after W S s (what.Step v k c))
+    stepped-fate = by (op_at W v.0 k) refl where
+      by : (o : Option Op) → op_at W v.0 k ≡ o → Fate W u (what.Step v k c) S (changed S (step_row W S s v.0 o c))
+      by None is = absurd (no-op is)
+      by (Some o) is = code-fate c o is (may.3 ∙ ap (code_at W S s v.0) is)

@@ -161,7 +161,7 @@ module _ (W : Parts) (u now : ℕ) (events : ℕ → List What) (S T : State) (t
         | inr away ↦ absurd (unborn-busy (S.place u) (IsBusy-outside (S.place u) away.0) e)
       ]
 
-  pub tied-drifts : Drifts u S T → Tied W u now events T
+  tied-drifts : Drifts u S T → Tied W u now events T
   tied-drifts d = record {
     life = d.life ∙ tied.life;
     unborn = λ e. tied.unborn (drifts-unborn d e);
@@ -193,7 +193,7 @@ module _ (W : Parts) (u now : ℕ) (events : ℕ → List What) (S T : State) (t
         | inr other ↦ tied.earlier l some (omega arith)
       ]
 
-  pub tied-begins : Begins u S T → Tied W u (suc now) events T
+  tied-begins : Begins u S T → Tied W u (suc now) events T
   tied-begins b =
       let busy : IsBusy (T.place u) = IsBusy-outside (T.place u) b.outside in
       let fresh : events (suc now) ≡ [] = tied.later (suc now) (omega arith) in
@@ -234,7 +234,7 @@ module _ (W : Parts) (u now : ℕ) (events : ℕ → List What) (S T : State) (t
   busy-alive : now ≡ 0 → ⊥
   busy-alive none = unborn-busy (S.place u) acts.busy (tied.born none)
 
-  pub tied-acts : (grown : ℕ → List What) → grown now ≡ events now ++ w ∷ [] → ((l : ℕ) → (now ≡ l → ⊥) → grown l ≡ events l) → Tied W u now grown T
+  tied-acts : (grown : ℕ → List What) → grown now ≡ events now ++ w ∷ [] → ((l : ℕ) → (now ≡ l → ⊥) → grown l ≡ events l) → Tied W u now grown T
   tied-acts grown here elsewhere = record {
     life = acts.life ∙ tied.life;
     unborn = λ e. absurd (acts.born e);

@@ -10,8 +10,9 @@ use Rattle.abt_machine.specs.Sites.{object_site}
 use Rattle.abt_machine.specs.State.{State, Stream, Carried, Desk, Mutex, Future}
 use Rattle.abt_machine.specs.Changes.{Change, changed, no_change}
 use Rattle.abt_laws.specs.Footprint.{Within, holder, ChangesOnly}
+use Rattle.abt_laws.proofs.Lists.{EachOf, EachOf-then}
 use Rattle.abt_laws.proofs.Keeping.{IsKept}
-use Rattle.abt_laws.proofs.Maps.{EachOf, EachOf-map, EachOf-key, KeyOf, key-cases, put_all-other, put_all-value}
+use Rattle.abt_laws.proofs.Maps.{EachOf-key, KeyOf, KeyOf-cases, put_all-other, put_all-value}
 
 -- a unit that moves is kept by stream s or site x, before and afterwards
 abbrev pub MovesWithin : Parts → State → ℕ → Option Site → ℕ × Place → Type 0
@@ -35,10 +36,10 @@ pub record IsLocal (W : Parts) (S : State) (s : ℕ) (x : Option Site) (c : Chan
 module _ (W : Parts) (S : State) (s : ℕ) (x : Option Site) (c : Change) (here : IsLocal W S s x c) where
   -- who moves is kept beforehand
   pub moved-kept : EachOf (λ m. IsKept W S s x m.0) c.moves
-  moved-kept = EachOf-map (MovesWithin W S s x) (λ m. IsKept W S s x m.0) c.moves (λ m w. w.0) here.moves
+  moved-kept = EachOf-then (MovesWithin W S s x) (λ m. IsKept W S s x m.0) c.moves (λ m w. w.0) here.moves
 
   moved-to : EachOf (λ (m : ℕ × Place). Within s x (holder W m.0 m.1)) c.moves
-  moved-to = EachOf-map (MovesWithin W S s x) (λ m. Within s x (holder W m.0 m.1)) c.moves (λ m w. w.1) here.moves
+  moved-to = EachOf-then (MovesWithin W S s x) (λ m. Within s x (holder W m.0 m.1)) c.moves (λ m w. w.1) here.moves
 
   -- who moves is kept afterwards
   pub lands-kept : (u : ℕ) → KeyOf u c.moves → Within s x (holder W u (put_all S.place c.moves u))
@@ -66,7 +67,7 @@ module _ (W : Parts) (S : State) (s : ℕ) (x : Option Site) (c : Change) (here 
     eventuals = site-stays (λ n. site.Eventual (object_no n)) S.eventual c.eventuals here.eventuals;
     futures = site-stays (λ n. site.Future (object_no n)) S.future c.futures here.futures;
     others = unit-stays;
-    kept = λ u w. elim (key-cases u c.moves) [
+    kept = λ u w. elim (KeyOf-cases u c.moves) [
       | inl k ↦ lands-kept u k
       | inr out ↦ subst (λ pl. Within s x (holder W u pl)) (sym (put_all-other S.place c.moves u out)) w
     ];

@@ -1,8 +1,9 @@
 -- Every event changes only its stream, its site, and units that these keep.
-use Rattle.std.proofs.Common.{◌≡◌, ℕ, ◌<◌, if◌then◌else◌, Bool, true, false, List, [], ◌∷◌, length, Option, Some, None, refl, sym, subst}
+use Rattle.std.proofs.Common.{◌≡◌, ℕ, if◌then◌else◌, Bool, true, false, List, [], ◌∷◌, Option, Some, None, refl, sym, subst, ◌⊎◌}
 use Rattle.std.proofs.lemmas.Bool.{cond-true}
 use Rattle.abt_machine.specs.declared.events.Code.{Code}
 use Rattle.abt_machine.specs.declared.events.Code.TheVariants as code
+use Rattle.abt_machine.specs.declared.events.Place.{Place}
 use Rattle.abt_machine.specs.declared.events.Site.{Site}
 use Rattle.abt_machine.specs.declared.events.Site.TheVariants as site
 use Rattle.abt_machine.specs.declared.events.What.{What}
@@ -24,15 +25,22 @@ use Rattle.abt_machine.specs.Changes.{no_change}
 use Rattle.abt_machine.specs.Steps.{op_row, step_row}
 use Rattle.abt_machine.specs.Events.{look_row, change, May}
 use Rattle.abt_laws.specs.Footprint.{Within, holder}
-use Rattle.abt_laws.proofs.Keeping.{IsKept, first-kept, hand-kept, next-kept, front-kept, standing-kept, one-kept, hand-declared}
+use Rattle.abt_laws.proofs.Declared.{op-declared}
+use Rattle.abt_laws.proofs.Keeping.{IsKept, first-kept, hand-kept, next-kept, front-kept, standing-kept, one-kept, kept-where_true, unborn-seen, ended-seen, suspended-seen, in_pool-seen}
 use Rattle.abt_laws.proofs.Local.{IsLocal, local-none, local-moves, local-carried, local-desk, local-pool_next, local-eventual, local-stream}
 use Rattle.abt_laws.proofs.LocalRows
-use Rattle.abt_laws.proofs.Codes.{unless-ok, kept-where_true, unborn-seen, ended-seen, suspended-seen, in_pool-seen}
-use Rattle.abt_laws.proofs.Objects.{mutex-waits, eventual-waits, future-waits, barrier-waits, condition-waits, condition-mutex-waits}
+use Rattle.abt_laws.proofs.Codes.{unless-ok, IsRefusal}
+use Rattle.abt_laws.proofs.ObjectSites.{mutex-waits, eventual-waits, future-waits, barrier-waits, condition-waits, condition-mutex-waits}
 
--- the site of an operation that may reach it
-pub site-reached : (may : Bool) (y : Site) → may ≡ true → (if may then Some y else None) ≡ Some y
-site-reached may y h = cond-true may (Some y) None h
+-- an operation that goes through reaches its site
+pub site-reached : (may : Bool) (y : Site) (rest : Code) → unless may code.PoolAccess rest ≡ code.Ok → (if may then Some y else None) ≡ Some y
+site-reached may y rest h = cond-true may (Some y) None (unless-ok may code.PoolAccess rest tt h).0
+
+-- and the unit whose place it tests is kept there
+pub unit-reached : (W : Parts) (S : State) (s : ℕ) (may : Bool) (y : Site) (v : ℕ) (test : Place → Bool) (c : Code) → IsRefusal c →
+    ((x : Option Site) (pl : Place) → x ≡ Some y → Within s x (holder W v pl) ⊎ (test pl ≡ false)) → unless may code.PoolAccess (unless (test (S.place v)) c code.Ok) ≡ code.Ok → IsKept W S s (if may then Some y else None) v
+unit-reached W S s may y v test c refusal seen h =
+    kept-where_true (seen (if may then Some y else None) (S.place v) (site-reached may y _ h)) (unless-ok (test (S.place v)) c code.Ok refusal (unless-ok may code.PoolAccess _ tt h).1).0
 
 -- Operations of unit u in the hand of stream s.
 
@@ -47,24 +55,20 @@ module _ (W : Parts) (valid : IsValid W) (S : State) (s u : ℕ) (in_hand : hand
   local-op (op.KeyGet k) d h = LocalRows.local-goes_with W S s u _ in_hand _
   local-op op.Yield d h = LocalRows.local-wakes W S s u _ in_hand (u ∷ []) (hand-kept W S s _ u in_hand, tt)
   local-op (op.YieldTo v p) d h =
-      let may : (may_take W s p.0 ≡ true) × (unless (is_in_pool p.0 (S.place v.0)) code.Absent code.Ok ≡ code.Ok) = unless-ok _ code.PoolAccess _ tt h in
-      let e : op_site W s u (op.YieldTo v p) ≡ Some (site.Pool p) = site-reached (may_take W s p.0) (site.Pool p) may.0 in
-      LocalRows.local-yields_to W S s u _ in_hand v.0 (kept-where_true (in_pool-seen W s _ v.0 p.0 (S.place v.0) e) (unless-ok _ code.Absent code.Ok tt may.1).0)
+      LocalRows.local-yields_to W S s u _ in_hand v.0 (unit-reached W S s (may_take W s p.0) (site.Pool p) v.0 (is_in_pool p.0) code.Absent tt (λ x pl e. in_pool-seen W s x v.0 p.0 pl e) h)
   local-op op.Suspend d h = LocalRows.local-suspends W S s u _ in_hand refl
   local-op (op.Resume v) d h = LocalRows.local-wakes W S s u _ in_hand (v.0 ∷ []) (kept-where_true (suspended-seen W s _ v.0 (S.place v.0) refl) (unless-ok _ code.UnitState code.Ok tt h).0, tt)
   local-op (op.Create v p) d h =
-      let may : (may_put W s p.0 ≡ true) × (unless (is_unborn (S.place v.0)) code.Exists code.Ok ≡ code.Ok) = unless-ok _ code.PoolAccess _ tt h in
-      let e : op_site W s u (op.Create v p) ≡ Some (site.Desk v) = site-reached (may_put W s p.0) (site.Desk v) may.0 in
-      LocalRows.local-begins W S s u _ in_hand v.0 p.0 e (kept-where_true (unborn-seen W s _ v.0 (S.place v.0) e) (unless-ok _ code.Exists code.Ok tt may.1).0)
+      LocalRows.local-begins W S s u _ in_hand v.0 p.0 (site-reached (may_put W s p.0) (site.Desk v) _ h)
+      (unit-reached W S s (may_put W s p.0) (site.Desk v) v.0 is_unborn code.Exists tt (λ x pl e. unborn-seen W s x v.0 pl e) h)
   local-op (op.Join v) d h = LocalRows.local-joins W S s u _ in_hand v.0 (S.place v.0) refl
   local-op (op.Cancel v) d h = LocalRows.local-asks W S s u _ in_hand v.0 _ refl
-  local-op (op.Migrate v p) d h = LocalRows.local-asks W S s u _ in_hand v.0 _ (site-reached (may_put W s p.0) (site.Desk v) (unless-ok (may_put W s p.0) code.PoolAccess _ tt h).0)
-  local-op (op.MigrateTo v r) d h = LocalRows.local-asks W S s u _ in_hand v.0 _ (site-reached (may_put W s (first_pool W r.0)) (site.Desk v) (unless-ok (may_put W s (first_pool W r.0)) code.PoolAccess _ tt h).0)
+  local-op (op.Migrate v p) d h = LocalRows.local-asks W S s u _ in_hand v.0 _ (site-reached (may_put W s p.0) (site.Desk v) _ h)
+  local-op (op.MigrateTo v r) d h = LocalRows.local-asks W S s u _ in_hand v.0 _ (site-reached (may_put W s (first_pool W r.0)) (site.Desk v) _ h)
   local-op (op.Migratable v b) d h = LocalRows.local-asks W S s u _ in_hand v.0 _ refl
   local-op (op.Revive v p) d h =
-      let may : (may_put W s p.0 ≡ true) × (unless (is_ended (S.place v.0)) code.UnitState code.Ok ≡ code.Ok) = unless-ok _ code.PoolAccess _ tt h in
-      let e : op_site W s u (op.Revive v p) ≡ Some (site.Desk v) = site-reached (may_put W s p.0) (site.Desk v) may.0 in
-      LocalRows.local-begins W S s u _ in_hand v.0 p.0 e (kept-where_true (ended-seen W s _ v.0 (S.place v.0) e) (unless-ok _ code.UnitState code.Ok tt may.1).0)
+      LocalRows.local-begins W S s u _ in_hand v.0 p.0 (site-reached (may_put W s p.0) (site.Desk v) _ h)
+      (unit-reached W S s (may_put W s p.0) (site.Desk v) v.0 is_ended code.UnitState tt (λ x pl e. ended-seen W s x v.0 pl e) h)
   local-op (op.Lock x) d h = LocalRows.local-locks W S s u _ in_hand x.0 _ refl (mutex-waits W x d)
   local-op (op.TryLock x) d h = LocalRows.local-holds W S s u _ in_hand x.0 _ refl
   local-op (op.Unlock x) d h = LocalRows.local-hands_over W S s u _ in_hand x.0 refl (mutex-waits W x d)
@@ -93,10 +97,6 @@ module _ (W : Parts) (valid : IsValid W) (S : State) (s u : ℕ) (in_hand : hand
   local-step None d = local-none W S s None
   local-step (Some o) d = local-code o (code_of W S s u o) (d o refl) refl
 
--- the operations of a declared unit name what is declared
-pub ops-declared : (W : Parts) → IsValid W → (u k : ℕ) (o : Op) → u < length W.units → op_at W u k ≡ Some o → IsDeclared W o
-ops-declared W valid u k o l e = (valid.units u l).ops k o e
-
 -- Events.
 
 module _ (W : Parts) (S : State) (s u : ℕ) where
@@ -113,7 +113,7 @@ module _ (W : Parts) (valid : IsValid W) (Z : List OrderShape) (S : State) (s : 
   event-local (what.Look u) may = local-look W S s u.0 (S.desk u.0).cancel (S.desk u.0).migrate (next-kept W S s _ u.0 may.1)
   event-local (what.Step u k c) may =
       subst (λ d. IsLocal W S s (step_site W s u.0 k) (step_row W S s u.0 (op_at W u.0 k) d)) (sym may.3)
-      (local-step W valid S s u.0 may.1 (op_at W u.0 k) (λ o e. ops-declared W valid u.0 k o (hand-declared W S s u.0 may.1) e))
+      (local-step W valid S s u.0 may.1 (op_at W u.0 k) (λ o e. op-declared W u.0 k o valid e))
   event-local (what.Put u p) may = local-pool_next W S s _ _ (local-moves W S s _ no_change (local-none W S s _) _ ((first-kept W S s _ (InTray s) u.0 refl may.1, refl), tt)) p.0 _ refl
   event-local (what.End u c) may =
       local-desk W S s _ _

@@ -1,5 +1,5 @@
 -- The rows of operations change only their stream, their site, and units that these keep.
-use Rattle.std.proofs.Common.{◌≡◌, ℕ, suc, ◌==◌, List, [], ◌∷◌, ◌++◌, length, map, Option, Some, None, refl}
+use Rattle.std.proofs.Common.{◌≡◌, ℕ, suc, ◌==◌, List, [], ◌∷◌, length, map, Option, Some, None, refl}
 use Rattle.std.proofs.lemmas.Bool.{cond_both}
 use Rattle.abt_machine.specs.declared.events.Place.{Place}
 use Rattle.abt_machine.specs.declared.events.Place.TheVariants as place
@@ -15,29 +15,22 @@ use Rattle.abt_machine.specs.State.{State, Carried, Desk, Mutex, Future}
 use Rattle.abt_machine.specs.Lines.{Waiting, hand, standing, tray_end}
 use Rattle.abt_machine.specs.Changes.{Change, no_change, tray_moves, to_tray, waiting_moves, goes_with, goes_on}
 use Rattle.abt_machine.specs.Steps.{wakes, begins, asks, joins, waits, locks, hands_over, releases, queues, passes, receives, gives_all, awaits, fills, arrives}
-use Rattle.abt_laws.proofs.Queues.{AllUnits}
-use Rattle.abt_laws.proofs.Maps.{EachOf}
+use Rattle.abt_laws.proofs.LineMoves.{tray_moves-each, waiting_moves-each}
+use Rattle.abt_laws.proofs.Lists.{EachOf, EachOf-append, EachOf-map}
 use Rattle.abt_laws.proofs.Keeping.{IsKept, hand-kept, standing-kept, one-kept}
 use Rattle.abt_laws.proofs.Local.{MovesWithin, IsLocal, local-none, local-moves, local-carried, local-desk, local-join_next, local-object_next, local-mutex, local-eventual, local-future}
 
 -- Units that stream s or site x keeps stay there when they move to a tray or to an object of the site.
 
 module _ (W : Parts) (S : State) (s : ℕ) (x : Option Site) where
-  pub tray-within : (us : List ℕ) (i : ℕ) → AllUnits (IsKept W S s x) us → EachOf (MovesWithin W S s x) (tray_moves s i us)
-  tray-within [] i a = tt
-  tray-within (u ∷ us) i a = ((a.0, refl), tray-within us (suc i) a.1)
+  pub tray-within : (us : List ℕ) (i : ℕ) → EachOf (IsKept W S s x) us → EachOf (MovesWithin W S s x) (tray_moves s i us)
+  tray-within us i a = tray_moves-each (MovesWithin W S s x) (IsKept W S s x) s i us (λ u t kept. (kept, refl)) a
 
-  waiting-within : (y : ℕ) (us : List ℕ) (t : ℕ) → x ≡ Some (object_site W y) → AllUnits (IsKept W S s x) us → EachOf (MovesWithin W S s x) (waiting_moves y t us)
-  waiting-within y [] t e a = tt
-  waiting-within y (u ∷ us) t e a = ((a.0, e), waiting-within y us (suc t) e a.1)
+  waiting-within : (y : ℕ) (us : List ℕ) (t : ℕ) → x ≡ Some (object_site W y) → EachOf (IsKept W S s x) us → EachOf (MovesWithin W S s x) (waiting_moves y t us)
+  waiting-within y us t e a = waiting_moves-each (MovesWithin W S s x) (IsKept W S s x) y t us (λ u k b kept. (kept, e)) a
 
-  EachOf-append : (ms ns : List (ℕ × Place)) → EachOf (MovesWithin W S s x) ms → EachOf (MovesWithin W S s x) ns → EachOf (MovesWithin W S s x) (ms ++ ns)
-  EachOf-append [] ns a b = b
-  EachOf-append (m ∷ ms) ns a b = (a.0, EachOf-append ms ns a.1 b)
-
-  receives-within : (value : ℕ) (us : List ℕ) → AllUnits (IsKept W S s x) us → EachOf (λ m. IsKept W S s x m.0) (map (receives S value) us)
-  receives-within value [] a = tt
-  receives-within value (u ∷ us) a = (a.0, receives-within value us a.1)
+  receives-within : (value : ℕ) (us : List ℕ) → EachOf (IsKept W S s x) us → EachOf (λ m. IsKept W S s x m.0) (map (receives S value) us)
+  receives-within value us a = EachOf-map (λ m. IsKept W S s x m.0) (IsKept W S s x) (receives S value) us (λ u kept. kept) a
 
 -- One lemma for each shape of row, of unit u in the hand of stream s.
 
@@ -54,7 +47,7 @@ module _ (W : Parts) (S : State) (s u : ℕ) (x : Option Site) (in_hand : hand W
   local-moving : (ms : List (ℕ × Place)) → EachOf (MovesWithin W S s x) ms → IsLocal W S s x (record (goes_on S u) { moves = ms })
   local-moving ms a = local-moves W S s x (goes_on S u) local-goes_on ms a
 
-  pub local-wakes : (us : List ℕ) → AllUnits (IsKept W S s x) us → IsLocal W S s x (wakes W S s u us)
+  pub local-wakes : (us : List ℕ) → EachOf (IsKept W S s x) us → IsLocal W S s x (wakes W S s u us)
   local-wakes us a = local-moving (to_tray W S s us) (tray-within W S s x us (tray_end W S s) a)
 
   pub local-begins : (v p : ℕ) → x ≡ Some (site.Desk (unit_no v)) → IsKept W S s x v → IsLocal W S s x (begins W S s u v p)
@@ -85,21 +78,21 @@ module _ (W : Parts) (S : State) (s u : ℕ) (x : Option Site) (in_hand : hand W
       (local-moves W S s x (hands_over W S s u z) (local-hands_over z m f) _ ((here, e), tray-within W S s x (first_alone (standing W S (Waiting z))) (tray_end W S s) (one-kept W S s x (Waiting z) f)))
       y _ e
 
-  local-queues : (z : ℕ) (vs : List ℕ) → x ≡ Some (object_site W z) → AllUnits (IsKept W S s x) vs → IsLocal W S s x (queues S u z vs)
+  local-queues : (z : ℕ) (vs : List ℕ) → x ≡ Some (object_site W z) → EachOf (IsKept W S s x) vs → IsLocal W S s x (queues S u z vs)
   local-queues z vs e a = local-object_next W S s x _ (local-moving (waiting_moves z (S.object_next z) vs) (waiting-within W S s x z vs (S.object_next z) e a)) z _ e
 
-  pub local-passes : (z : ℕ) (o : Option ℕ) (vs : List ℕ) → x ≡ Some (site.Monitor (object_no z)) → x ≡ Some (object_site W z) → AllUnits (IsKept W S s x) vs → IsLocal W S s x (passes W S s u z o vs)
+  pub local-passes : (z : ℕ) (o : Option ℕ) (vs : List ℕ) → x ≡ Some (site.Monitor (object_no z)) → x ≡ Some (object_site W z) → EachOf (IsKept W S s x) vs → IsLocal W S s x (passes W S s u z o vs)
   local-passes z o [] m e a = local-goes_on
   local-passes z (Some v) (w ∷ ws) m e a = local-queues z (w ∷ ws) e a
   local-passes z None (w ∷ ws) m e a =
       local-mutex W S s x _
       (local-moves W S s x (queues S u z ws) (local-queues z ws e a.1) _
-      (EachOf-append W S s x (waiting_moves z (S.object_next z) ws) (to_tray W S s (w ∷ [])) (waiting-within W S s x z ws (S.object_next z) e a.1) (tray-within W S s x (w ∷ []) (tray_end W S s) (a.0, tt))))
+      (EachOf-append (MovesWithin W S s x) (waiting_moves z (S.object_next z) ws) (to_tray W S s (w ∷ [])) (waiting-within W S s x z ws (S.object_next z) e a.1) (tray-within W S s x (w ∷ []) (tray_end W S s) (a.0, tt))))
       z _ m
 
   pub local-gives_all : (y value : ℕ) → x ≡ Some (object_site W y) → IsLocal W S s x (gives_all W S s u y value)
   local-gives_all y value e =
-      let a : AllUnits (IsKept W S s x) (standing W S (Waiting y)) = standing-kept W S s x (Waiting y) e in
+      let a : EachOf (IsKept W S s x) (standing W S (Waiting y)) = standing-kept W S s x (Waiting y) e in
       local-carried W S s x _ (local-wakes (standing W S (Waiting y)) a) _ (here, receives-within W S s x value (standing W S (Waiting y)) a)
 
   pub local-awaits : (y : ℕ) (o : Option ℕ) → x ≡ Some (object_site W y) → IsLocal W S s x (awaits S u y o)

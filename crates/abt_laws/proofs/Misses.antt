@@ -1,5 +1,6 @@
 -- A miss keeps the weight of the units, and lowers the number of open frames where the round of a stacked frame ends empty.
-use Rattle.std.proofs.Common.{◌≡◌, ◌≢◌, ℕ, ◌<◌, Bool, true, false, [], length, refl, sym, ◌∙◌, ap, subst}
+use Rattle.std.proofs.Common.{◌≡◌, ◌≢◌, ℕ, ◌<◌, true, false, [], length, refl, sym, ◌∙◌, ap, subst}
+use Rattle.std.proofs.lemmas.Bool.{false_from_ne_true}
 use Rattle.abt_machine.specs.declared.events.What.TheVariants as what
 use Rattle.abt_machine.specs.declared.numbers.PoolNo.{PoolNo}
 use Rattle.abt_machine.specs.declared.workload.Parts.{Parts}
@@ -8,11 +9,11 @@ use Rattle.abt_machine.specs.Next.{RoundDue, due}
 use Rattle.abt_machine.specs.Frames.{frame_missed, round_missed}
 use Rattle.abt_machine.specs.Events.{after}
 use Rattle.abt_laws.specs.Measure.{EndsStacked, open_frames, open_frames_of, unit_weight, weight}
-use Rattle.abt_laws.proofs.Queues.{put_at-other, put_at-same}
+use Rattle.abt_laws.proofs.Marks.{marks-kept}
+use Rattle.abt_laws.proofs.Maps.{put_at-other, put_at-same}
 use Rattle.abt_laws.proofs.Dues.{round-not-empty}
 use Rattle.abt_laws.proofs.OpenFrames.{open_count-falls, open_count-same, open_frames-fall, open_frames-same}
 use Rattle.abt_laws.proofs.Sums.{sum_up-same}
-use Rattle.abt_laws.proofs.WeightFalls.{marks-kept}
 use Rattle.abt_laws.proofs.Weights.{unit_weight-kept}
 
 pub miss-keeps-weight : (W : Parts) (S : State) (s : ℕ) (p : PoolNo) → weight W (after W S s (what.Miss p)) ≡ weight W S
@@ -37,16 +38,12 @@ miss-ends-stacked W S s p declared comes ends =
     let falls : open_frames_of (round_missed W p.0 (S.stream s)) < open_frames_of (S.stream s) = open_count-falls (S.stream s).top (frame_missed W (S.stream s).top p.0) (S.stream s).below some was now in
     open_frames-fall W S T s declared (miss-keeps-others W S s p) (subst (λ own. open_frames_of own < open_frames_of (S.stream s)) (sym (missed W S s p)) falls)
 
-not-true : (b : Bool) → (b ≡ true → ⊥) → b ≡ false
-not-true true h = absurd (h refl)
-not-true false h = refl
-
 pub miss-keeps-frames : (W : Parts) (S : State) (s : ℕ) (p : PoolNo) → due W S s ≡ RoundDue → (EndsStacked s (after W S s (what.Miss p)) → ⊥) → open_frames W (after W S s (what.Miss p)) ≡ open_frames W S
 miss-keeps-frames W S s p comes stays =
     let T : State = after W S s (what.Miss p) in
     let same : (S.stream s).below ≢ [] → (frame_missed W (S.stream s).top p.0).empty ≡ (S.stream s).top.empty =
     λ some.
-    not-true (frame_missed W (S.stream s).top p.0).empty
+    false_from_ne_true (frame_missed W (S.stream s).top p.0).empty
     (λ e. stays ((λ none. some (sym (ap (λ (own : Stream). own.below) (missed W S s p)) ∙ none)), ap (λ (own : Stream). own.top.empty) (missed W S s p) ∙ e))
     ∙ sym (round-not-empty W S s comes some) in
     open_frames-same W S T s (miss-keeps-others W S s p)

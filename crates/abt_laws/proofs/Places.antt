@@ -6,12 +6,9 @@ use Rattle.abt_machine.specs.declared.events.Place.{Place}
 use Rattle.abt_machine.specs.declared.events.Place.TheVariants as place
 use Rattle.abt_machine.specs.declared.events.Spot.TheVariants as spot
 use Rattle.abt_machine.specs.declared.numbers.StreamNo.{StreamNo}
-use Rattle.abt_machine.specs.declared.numbers.PoolNo.{PoolNo}
-use Rattle.abt_machine.specs.declared.numbers.UnitNo.{UnitNo}
-use Rattle.abt_machine.specs.declared.numbers.ObjectNo.{ObjectNo}
 use Rattle.abt_machine.specs.Numbers.{stream_no, pool_no, unit_no, object_no}
 use Rattle.abt_machine.specs.Lines.{Line, InPool, InTray, InHand, InNext, InFrames, Joining, Waiting, if_same, ticket_in}
-use Rattle.abt_laws.proofs.Queues.{none≢some}
+use Rattle.abt_laws.proofs.Options.{none≢some}
 
 pub same-self : (a t : ℕ) → if_same a a t ≡ Some t
 same-self a t = cond-true (a == a) (Some t) None (eq-eqb a a refl)
@@ -86,23 +83,6 @@ line-unique l m pl t k h g =
     let d : ticket_in l pl ≡ ticket_in m pl = ap (λ o. ticket_in o pl) e in
     let f : t ≡ k = cc in (e, f)
 
--- a place of another line, or of none, has no ticket
-pub ticket-none : (l : Line) (pl : Place) → (line_of pl ≡ Some l → ⊥) → ticket_in l pl ≡ None
-ticket-none l pl out = by (ticket_in l pl) refl where
-  by : (o : Option ℕ) → ticket_in l pl ≡ o → ticket_in l pl ≡ None
-  by None e = e
-  by (Some t) e = absurd (out (line_of-ticket l pl t e))
-
--- Equal places have equal numbers.
-
+-- equal stream numbers have equal values
 pub stream-is : (r s : ℕ) → stream_no r ≡ stream_no s → r ≡ s
 stream-is r s e = ap (λ (n : StreamNo). n.0) e
-
-pub pool-is : (p q : ℕ) → pool_no p ≡ pool_no q → p ≡ q
-pool-is p q e = ap (λ (n : PoolNo). n.0) e
-
-pub unit-is : (u v : ℕ) → unit_no u ≡ unit_no v → u ≡ v
-unit-is u v e = ap (λ (n : UnitNo). n.0) e
-
-pub object-is : (x y : ℕ) → object_no x ≡ object_no y → x ≡ y
-object-is x y e = ap (λ (n : ObjectNo). n.0) e

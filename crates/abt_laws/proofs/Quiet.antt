@@ -1,5 +1,5 @@
 -- States in which nothing is left to do.
-use Rattle.std.proofs.Common.{◌≡◌, ℕ, zero, suc, ◌<◌, Bool, true, false, List, [], ◌∷◌, length, map, Option, Some, None, Contains, refl, sym, ◌∙◌, ap, subst, arith, inl, inr}
+use Rattle.std.proofs.Common.{◌≡◌, ℕ, ◌<◌, Bool, true, false, List, [], ◌∷◌, length, Some, None, Contains, refl, sym, ◌∙◌, ap, subst, arith, inl, inr}
 use Rattle.std.proofs.lemmas.Bool.{cases_eq}
 use Rattle.std.specs.Prelude.{IfSome, option_map}
 use Rattle.abt_machine.specs.declared.events.Event.{Event}
@@ -14,7 +14,7 @@ use Rattle.abt_machine.specs.declared.workload.Parts.{Parts}
 use Rattle.abt_machine.specs.Numbers.{stream_no}
 use Rattle.abt_machine.specs.Maps.{put_at}
 use Rattle.abt_machine.specs.Workloads.{kind_of, main_of, pools_of}
-use Rattle.abt_machine.specs.Queues.{ticketed, queue, first, last}
+use Rattle.abt_machine.specs.Queues.{first, last}
 use Rattle.abt_machine.specs.State.{State, Stream, Frame}
 use Rattle.abt_machine.specs.Lines.{Line, InPool, InTray, InHand, InNext, ticket_in, standing, hand, next}
 use Rattle.abt_machine.specs.Next.{StepDue, LeaveDue, at_position, due, due_by, due_by_hand, due_by_next, due_of_frames}
@@ -26,8 +26,10 @@ use Rattle.abt_machine.specs.Runs.{last_state}
 use Rattle.abt_machine.specs.Sound.{Sound}
 use Rattle.abt_machine.specs.Outcomes.{AllEnded, IsOver, Quiet, Spent}
 use Rattle.abt_laws.specs.Laws.{IsMiss}
-use Rattle.abt_laws.proofs.OrderPools.{next-pool-listed}
-use Rattle.abt_laws.proofs.Queues.{none≢some, put_at-other, put_at-same, queue-cong}
+use Rattle.abt_laws.proofs.Orders.{next_pool-listed}
+use Rattle.abt_laws.proofs.Standing.{empty-standing}
+use Rattle.abt_laws.proofs.Options.{none≢some}
+use Rattle.abt_laws.proofs.Maps.{put_at-other, put_at-same}
 
 -- Where all units are over.
 
@@ -38,15 +40,8 @@ over-in-no-line (InPool p) (place.Ended c) over = refl
 over-in-no-line _ (place.Ended c) over = refl
 over-in-no-line _ _ over = absurd over
 
-nobody-ticketed : (n : ℕ) → ticketed (λ _. None) n ≡ []
-nobody-ticketed zero = refl
-nobody-ticketed (suc n) = nobody-ticketed n
-
-queue-none : (at : ℕ → Option ℕ) (n : ℕ) → ((v : ℕ) → v < n → at v ≡ None) → queue at n ≡ []
-queue-none at n h = queue-cong at (λ _. None) n h ∙ ap (map (λ (p : ℕ × ℕ). p.1)) (nobody-ticketed n)
-
 all-over-stand-nowhere : (W : Parts) (S : State) (l : Line) → AllEnded S → standing W S l ≡ []
-all-over-stand-nowhere W S l ended = queue-none (λ u. ticket_in l (S.place u)) (length W.units) (λ v _. over-in-no-line l (S.place v) (ended v))
+all-over-stand-nowhere W S l ended = empty-standing W S l (λ v t h. none≢some (sym (over-in-no-line l (S.place v) (ended v)) ∙ h))
 
 all-over-no-frame : (W : Parts) (Z : List OrderShape) (S : State) (s : ℕ) → Sound W Z S → AllEnded S → (fs : List Frame) → (S.stream s).below ≡ fs → fs ≡ []
 all-over-no-frame W Z S s sound ended [] e = refl
@@ -68,7 +63,7 @@ ended-quiet W Z S sound ended = record {
 -- What a stream does in a quiet state.
 
 -- nothing but a round is due
-pub quiet-due : (W : Parts) (S : State) (s : ℕ) → s < W.streams → Quiet W S → due W S s ≡ due_of_frames (S.stream s).top.empty []
+quiet-due : (W : Parts) (S : State) (s : ℕ) → s < W.streams → Quiet W S → due W S s ≡ due_of_frames (S.stream s).top.empty []
 quiet-due W S s declared quiet =
     ap (λ us. due_by W s (S.stream s) us (next W S s) (option_map (at_position S) (hand W S s))) (quiet.trays s declared)
     ∙ ap (λ us. due_by_next W s (S.stream s) (first us) (option_map (at_position S) (hand W S s))) (quiet.nexts s declared)
@@ -102,10 +97,10 @@ lone-frame-main W Z S s declared sound alone =
 quiet-front : (W : Parts) (Z : List OrderShape) (S : State) (s p u : ℕ) → s < W.streams → Sound W Z S → Quiet W S → IsNextPool W Z (S.stream s).top p → front W S s p ≡ Some u → ⊥
 quiet-front W Z S s p u declared sound quiet following taken =
     let listed : Contains (pools_of W (main_of W s)) p =
-    subst (λ g. Contains (pools_of W g) p) (lone-frame-main W Z S s declared sound (quiet.frames s declared)) (next-pool-listed W Z (S.stream s).top p following) in
+    subst (λ g. Contains (pools_of W g) p) (lone-frame-main W Z S s declared sound (quiet.frames s declared)) (next_pool-listed W Z (S.stream s).top p following) in
     nobody-in-front (kind_of W p) (owns W s p) (standing W S (InPool p)) u (quiet.pools s p declared listed) taken
 
-pub quiet-misses : (W : Parts) (Z : List OrderShape) (S : State) (s : ℕ) (w : What) → s < W.streams → Sound W Z S → Quiet W S → May W Z S s w → IsMiss w
+quiet-misses : (W : Parts) (Z : List OrderShape) (S : State) (s : ℕ) (w : What) → s < W.streams → Sound W Z S → Quiet W S → May W Z S s w → IsMiss w
 quiet-misses W Z S s (what.Miss p) declared sound quiet may = tt
 quiet-misses W Z S s (what.Take p u) declared sound quiet may = absurd (quiet-front W Z S s p.0 u.0 declared sound quiet may.2 may.1)
 quiet-misses W Z S s (what.Look u) declared sound quiet may = absurd (nobody-first (standing W S (InNext s)) u.0 (quiet.nexts s declared) may.1)
@@ -125,7 +120,7 @@ miss-stacks-none W p S s r =
       | inr other ↦ ap (λ (own : Stream). own.below) (put_at-other S.stream s _ r other)
     ]
 
-pub quiet-after : (W : Parts) (S : State) (s : ℕ) (w : What) → IsMiss w → Quiet W S → Quiet W (after W S s w)
+quiet-after : (W : Parts) (S : State) (s : ℕ) (w : What) → IsMiss w → Quiet W S → Quiet W (after W S s w)
 quiet-after W S s (what.Miss p) miss quiet = record {
   trays = quiet.trays;
   nexts = quiet.nexts;

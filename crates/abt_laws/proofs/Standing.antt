@@ -6,14 +6,16 @@ use Rattle.abt_machine.specs.declared.events.Place.TheVariants as place
 use Rattle.abt_machine.specs.declared.operations.Kind.{Kind}
 use Rattle.abt_machine.specs.declared.operations.Kind.TheVariants as kind
 use Rattle.abt_machine.specs.declared.workload.Parts.{Parts}
+use Rattle.abt_machine.specs.Numbers.{stream_no}
 use Rattle.abt_machine.specs.Workloads.{kind_of}
-use Rattle.abt_machine.specs.Queues.{first, first_alone}
+use Rattle.abt_machine.specs.Queues.{first}
 use Rattle.abt_machine.specs.State.{State}
-use Rattle.abt_machine.specs.Lines.{Line, InPool, ticket_in, standing}
+use Rattle.abt_machine.specs.Lines.{Line, InPool, InHand, InNext, ticket_in, standing, hand, next}
 use Rattle.abt_machine.specs.Fronts.{front, front_by, owns}
-use Rattle.abt_laws.proofs.Queues.{HasTicket, AllUnits, AllUnits-first, AllUnits-last, Among, queue-all, queue-among, no-queue, none≢some}
-use Rattle.abt_laws.proofs.ChangedMaps.{EachOf}
-use Rattle.abt_laws.proofs.Places.{place_in, ticket-place, ticket_at, ticket_in-place_in, line_of, line_of-place_in}
+use Rattle.abt_laws.proofs.Lists.{EachOf, EachOf-then, EachOf-first, EachOf-last, Among}
+use Rattle.abt_laws.proofs.Options.{none≢some}
+use Rattle.abt_laws.proofs.Queues.{HasTicket, queue-each, queue-among, queue-none}
+use Rattle.abt_laws.proofs.Places.{same-self, place_in, ticket-place, ticket_at, ticket_in-place_in, line_of, line_of-place_in}
 use Rattle.abt_laws.proofs.Arrivals.{IsEmpty}
 
 -- unit u stands in line l
@@ -29,38 +31,27 @@ UndeclaredUnborn W S = (u : ℕ) → length W.units ≤ u → S.place u ≡ plac
 stands : (W : Parts) (S : State) (l : Line) (u : ℕ) → HasTicket (λ v. ticket_in l (S.place v)) (length W.units) u → StandsIn W S l u
 stands W S l u h = record { declared = h.in_range; ticket = h.ticket; at = ticket-place l (S.place u) h.ticket h.has }
 
-all-stand : (W : Parts) (S : State) (l : Line) (us : List ℕ) → AllUnits (HasTicket (λ v. ticket_in l (S.place v)) (length W.units)) us → EachOf (StandsIn W S l) us
-all-stand W S l [] a = tt
-all-stand W S l (u ∷ us) a = (stands W S l u a.0, all-stand W S l us a.1)
-
 -- each of a line stands in it
 pub each-stands : (W : Parts) (S : State) (l : Line) → EachOf (StandsIn W S l) (standing W S l)
-each-stands W S l = all-stand W S l (standing W S l) (queue-all (λ v. ticket_in l (S.place v)) (length W.units))
-
-EachOf-first : (P : ℕ → Type 0) (us : List ℕ) → EachOf P us → EachOf P (first_alone us)
-EachOf-first P [] a = tt
-EachOf-first P (u ∷ us) a = (a.0, tt)
+each-stands W S l = EachOf-then _ (StandsIn W S l) (standing W S l) (stands W S l) (queue-each (λ v. ticket_in l (S.place v)) (length W.units))
 
 -- so does its first
-pub first-stands : (W : Parts) (S : State) (l : Line) → EachOf (StandsIn W S l) (first_alone (standing W S l))
-first-stands W S l = EachOf-first (StandsIn W S l) (standing W S l) (each-stands W S l)
-
-pub first-is : (W : Parts) (S : State) (l : Line) (u : ℕ) → first (standing W S l) ≡ Some u → StandsIn W S l u
-first-is W S l u e = stands W S l u (AllUnits-first _ (standing W S l) u (queue-all (λ v. ticket_in l (S.place v)) (length W.units)) e)
+pub first-stands : (W : Parts) (S : State) (l : Line) (u : ℕ) → first (standing W S l) ≡ Some u → StandsIn W S l u
+first-stands W S l u e = EachOf-first (StandsIn W S l) (standing W S l) u (each-stands W S l) e
 
 -- the unit that a stream takes stands in the pool
-pub front-is : (W : Parts) (S : State) (s p u : ℕ) → front W S s p ≡ Some u → StandsIn W S (InPool p) u
-front-is W S s p u e = by (kind_of W p) (owns W s p) e where
+pub front-stands : (W : Parts) (S : State) (s p u : ℕ) → front W S s p ≡ Some u → StandsIn W S (InPool p) u
+front-stands W S s p u e = by (kind_of W p) (owns W s p) e where
   by : (k : Kind) (own : Bool) → front_by k own (standing W S (InPool p)) ≡ Some u → StandsIn W S (InPool p) u
-  by kind.Fifo own e = first-is W S (InPool p) u e
-  by kind.Deque false e = first-is W S (InPool p) u e
-  by kind.Deque true e = stands W S (InPool p) u (AllUnits-last _ (standing W S (InPool p)) u (queue-all (λ v. ticket_in (InPool p) (S.place v)) (length W.units)) e)
+  by kind.Fifo own e = first-stands W S (InPool p) u e
+  by kind.Deque false e = first-stands W S (InPool p) u e
+  by kind.Deque true e = EachOf-last (StandsIn W S (InPool p)) (standing W S (InPool p)) u (each-stands W S (InPool p)) e
 
 pub is-declared : (W : Parts) (S : State) → UndeclaredUnborn W S → (v : ℕ) (to : Place) → S.place v ≡ to → (place.Unborn ≡ to → ⊥) → v < length W.units
 is-declared W S undeclared v to h differs = elim (cases_lt v (length W.units)) [ inl l ↦ l | inr l ↦ absurd (differs (sym (undeclared v l) ∙ h)) ]
 
 -- a unit with a ticket in a line is declared
-pub ticket-declared : (W : Parts) (S : State) → UndeclaredUnborn W S → (l : Line) (v t : ℕ) → ticket_in l (S.place v) ≡ Some t → v < length W.units
+ticket-declared : (W : Parts) (S : State) → UndeclaredUnborn W S → (l : Line) (v t : ℕ) → ticket_in l (S.place v) ≡ Some t → v < length W.units
 ticket-declared W S undeclared l v t h =
     is-declared W S undeclared v (place_in l t) (ticket-place l (S.place v) t h) (λ e. none≢some (ap line_of e ∙ line_of-place_in l t))
 
@@ -70,8 +61,7 @@ among-standing W S undeclared l v t h = queue-among (λ u. ticket_in l (S.place 
 
 -- where nobody is first, the line is empty
 pub none-first : (W : Parts) (S : State) → UndeclaredUnborn W S → (l : Line) → first (standing W S l) ≡ None → IsEmpty l S.place
-none-first W S undeclared l e v t h =
-    none≢some (sym (no-queue (λ u. ticket_in l (S.place u)) (length W.units) e v (ticket-declared W S undeclared l v t h)) ∙ h)
+none-first W S undeclared l e v t h = queue-none (λ u. ticket_in l (S.place u)) (length W.units) v t e (ticket-declared W S undeclared l v t h) h
 
 -- nobody stands in an empty line
 pub empty-standing : (W : Parts) (S : State) (l : Line) → IsEmpty l S.place → standing W S l ≡ []
@@ -79,3 +69,15 @@ empty-standing W S l empty = by (standing W S l) (each-stands W S l) where
   by : (us : List ℕ) → EachOf (StandsIn W S l) us → us ≡ []
   by [] each = refl
   by (u ∷ us) each = absurd (empty u (ticket_at l each.0.ticket) (ap (ticket_in l) each.0.at ∙ ticket_in-place_in l each.0.ticket))
+
+-- The hand and the Next.
+
+pub hand-place : (W : Parts) (S : State) (s u : ℕ) → hand W S s ≡ Some u → S.place u ≡ place.Hand (stream_no s)
+hand-place W S s u e = let is : StandsIn W S (InHand s) u = first-stands W S (InHand s) u e in is.at
+
+pub next-place : (W : Parts) (S : State) (s u : ℕ) → next W S s ≡ Some u → S.place u ≡ place.Next (stream_no s)
+next-place W S s u e = let is : StandsIn W S (InNext s) u = first-stands W S (InNext s) u e in is.at
+
+-- no declared unit is in an empty hand
+pub hand-none : (W : Parts) (S : State) (s u : ℕ) → u < length W.units → hand W S s ≡ None → S.place u ≡ place.Hand (stream_no s) → ⊥
+hand-none W S s u declared e at = queue-none (λ v. ticket_in (InHand s) (S.place v)) (length W.units) u 0 e declared (ap (ticket_in (InHand s)) at ∙ same-self s 0)

@@ -17,14 +17,14 @@ sum_up-same f g (suc n) h =
     let now : f n ≡ g n = h n (omega arith) in
     let rest : sum_up f n ≡ sum_up g n = sum_up-same f g n (λ v l. h v (omega arith)) in omega (arith, sum_up-suc f n, sum_up-suc g n)
 
-pub sum_up-rises : (f g : ℕ → ℕ) (n : ℕ) → ((v : ℕ) → v < n → f v ≤ g v) → sum_up f n ≤ sum_up g n
+sum_up-rises : (f g : ℕ → ℕ) (n : ℕ) → ((v : ℕ) → v < n → f v ≤ g v) → sum_up f n ≤ sum_up g n
 sum_up-rises f g zero h = omega arith
 sum_up-rises f g (suc n) h =
     let now : f n ≤ g n = h n (omega arith) in
     let rest : sum_up f n ≤ sum_up g n = sum_up-rises f g n (λ v l. h v (omega arith)) in omega (arith, sum_up-suc f n, sum_up-suc g n)
 
 -- where no number has more than before and one has less, the sum is less
-pub sum_up-falls : (f g : ℕ → ℕ) (n u : ℕ) → u < n → f u < g u → ((v : ℕ) → v < n → f v ≤ g v) → sum_up f n < sum_up g n
+sum_up-falls : (f g : ℕ → ℕ) (n u : ℕ) → u < n → f u < g u → ((v : ℕ) → v < n → f v ≤ g v) → sum_up f n < sum_up g n
 sum_up-falls f g zero u l less h = absurd (omega arith)
 sum_up-falls f g (suc n) u l less h =
     elim (cases_eq n u) [

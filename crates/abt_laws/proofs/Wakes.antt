@@ -1,5 +1,6 @@
 -- Units that come to a tray.
-use Rattle.std.proofs.Common.{◌≡◌, ℕ, suc, ◌<◌, List, [], ◌∷◌, ◌++◌, length, Some, sym, ◌∙◌, ap, subst, inl, inr}
+use Rattle.std.proofs.lemmas.Bool.{false≢true}
+use Rattle.std.proofs.Common.{Bool, true, false, ◌≡◌, ℕ, ◌<◌, List, length, Some, sym, ◌∙◌, ap, subst, inl, inr}
 use Rattle.abt_machine.specs.declared.events.Place.{Place}
 use Rattle.abt_machine.specs.declared.events.Place.TheVariants as place
 use Rattle.abt_machine.specs.declared.workload.Parts.{Parts}
@@ -9,13 +10,14 @@ use Rattle.abt_machine.specs.State.{State}
 use Rattle.abt_machine.specs.Lines.{Line, InFrames, ticket_in, standing}
 use Rattle.abt_machine.specs.Changes.{Change, changed, tray_moves}
 use Rattle.abt_machine.specs.Sound.{IsAtRest}
-use Rattle.abt_laws.proofs.Queues.{Among}
-use Rattle.abt_laws.proofs.ChangedMaps.{EachOf, EachOf-then, KeyOf, key-cases, put_all-other, put_all-value}
+use Rattle.abt_laws.proofs.LineMoves.{tray_moves-each}
+use Rattle.abt_laws.proofs.Lists.{EachOf, EachOf-then, EachOf-first_alone}
+use Rattle.abt_laws.proofs.Maps.{KeyOf, KeyOf-cases, put_all-other, put_all-value}
 use Rattle.abt_laws.proofs.Places.{place_in, line_of, line_of-place_in, line_of-ticket}
 use Rattle.abt_laws.proofs.Arrivals.{IsEmpty}
-use Rattle.abt_laws.proofs.Standing.{StandsIn, each-stands, first-stands}
-use Rattle.abt_laws.proofs.KeepsSound.{places, MovesWell}
-use Rattle.abt_laws.proofs.FramesStay.{IsFrameless}
+use Rattle.abt_laws.proofs.Standing.{StandsIn, each-stands}
+use Rattle.abt_laws.proofs.SoundChanges.{places, MovesWell}
+use Rattle.abt_laws.proofs.SoundFrames.{IsFrameless}
 
 -- a declared unit that is in no frame may come to a tray
 pub record IsWakeable (W : Parts) (S : State) (u : ℕ) : Type 0 where
@@ -32,6 +34,10 @@ frameless-in S l u t other at r d h =
     let e : Some l ≡ Some (InFrames r) = sym (line_of-place_in l t) ∙ (ap line_of (sym at) ∙ ap line_of h) in
     let k : l ≡ InFrames r = cc in subst IsNoFrames k other
 
+-- a test of places that fails at each frame
+pub frameless-by : (S : State) (v : ℕ) (test : Place → Bool) → ((r d : ℕ) → test (place.Frame (stream_no r) d) ≡ false) → test (S.place v) ≡ true → IsFrameless S v
+frameless-by S v test fails holds r d at = false≢true (sym (fails r d) ∙ (ap test (sym at) ∙ holds))
+
 wakeable : (W : Parts) (S : State) (l : Line) → IsNoFrames l → (u : ℕ) → StandsIn W S l u → IsWakeable W S u
 wakeable W S l other u h = record { declared = h.declared; frameless = frameless-in S l u h.ticket other h.at }
 
@@ -41,37 +47,23 @@ wakeable-line W S l other = EachOf-then _ _ (standing W S l) (wakeable W S l oth
 
 -- the first of a line
 pub wakeable-first : (W : Parts) (S : State) (l : Line) → IsNoFrames l → EachOf (IsWakeable W S) (first_alone (standing W S l))
-wakeable-first W S l other = EachOf-then _ _ (first_alone (standing W S l)) (wakeable W S l other) (first-stands W S l)
+wakeable-first W S l other = EachOf-then _ _ (first_alone (standing W S l)) (wakeable W S l other) (EachOf-first_alone (StandsIn W S l) (standing W S l) (each-stands W S l))
 
 -- Moves to the tray of stream s.
 
 pub tray-well : (W : Parts) (S : State) (c : Change) (s i : ℕ) (us : List ℕ) → s < W.streams → IsAtRest ((changed S c).stream s) → EachOf (IsWakeable W S) us → EachOf (λ (m : ℕ × Place). MovesWell W S c m.0 m.1) (tray_moves s i us)
-tray-well W S c s i [] l rests each = tt
-tray-well W S c s i (u ∷ us) l rests each = (record { declared = each.0.declared; placed = (l, rests); alone = tt; joined = inl tt }, tray-well W S c s (suc i) us l rests each.1)
+tray-well W S c s i us l rests each =
+    tray_moves-each (λ m. MovesWell W S c m.0 m.1) (IsWakeable W S) s i us (λ u t wakes. record { declared = wakes.declared; placed = (l, rests); alone = tt; joined = inl tt }) each
 
 pub tray-frameless : (W : Parts) (S : State) (s i : ℕ) (us : List ℕ) → EachOf (IsWakeable W S) us → EachOf (λ (m : ℕ × Place). IsFrameless S m.0) (tray_moves s i us)
-tray-frameless W S s i [] each = tt
-tray-frameless W S s i (u ∷ us) each = (each.0.frameless, tray-frameless W S s (suc i) us each.1)
-
--- what holds of each place in the tray holds of each of these moves
-pub tray-each : (P : Place → Type 0) (s i : ℕ) (us : List ℕ) → ((t : ℕ) → P (place.Tray (stream_no s) t)) → EachOf (λ (m : ℕ × Place). P m.1) (tray_moves s i us)
-tray-each P s i [] p = tt
-tray-each P s i (u ∷ us) p = (p i, tray-each P s (suc i) us p)
-
-pub tray-key : (s i : ℕ) (us : List ℕ) (v : ℕ) → Among v us → KeyOf v (tray_moves s i us)
-tray-key s i [] v m = absurd m
-tray-key s i (u ∷ us) v m = elim m [ inl e ↦ inl e | inr b ↦ inr (tray-key s (suc i) us v b) ]
-
-pub key-append : {A : Type 0} (ps qs : List (ℕ × A)) (v : ℕ) → KeyOf v qs → KeyOf v (ps ++ qs)
-key-append [] qs v k = k
-key-append (p ∷ ps) qs v k = inr (key-append ps qs v k)
+tray-frameless W S s i us each = tray_moves-each (λ m. IsFrameless S m.0) (IsWakeable W S) s i us (λ u t wakes. wakes.frameless) each
 
 -- Lines that are empty afterwards.
 
 -- a line that all leave, and to which nobody comes
 pub empty-after : (S : State) (c : Change) (l : Line) → EachOf (λ (m : ℕ × Place). line_of m.1 ≡ Some l → ⊥) c.moves → ((v t : ℕ) → ticket_in l (S.place v) ≡ Some t → KeyOf v c.moves) → IsEmpty l (places S c)
 empty-after S c l away leave v t h =
-    elim (key-cases v c.moves) [
+    elim (KeyOf-cases v c.moves) [
       | inl moved ↦ put_all-value (λ n pl. line_of pl ≡ Some l → ⊥) S.place c.moves v away moved (line_of-ticket l (places S c v) t h)
       | inr out ↦ out (leave v t (ap (ticket_in l) (sym (put_all-other S.place c.moves v out)) ∙ h))
     ]

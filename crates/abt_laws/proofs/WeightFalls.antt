@@ -1,7 +1,5 @@
 -- Each event that moves units and is no step lowers their weight.
-use Rattle.std.proofs.Common.{◌≡◌, ◌≢◌, ℕ, ◌<◌, ◌≤◌, ◌-◌, Bool, true, false, List, [], ◌∷◌, length, Option, Some, None, refl, sym, ◌∙◌, ap, subst, arith, inl, inr}
-use Rattle.std.proofs.lemmas.Bool.{cases_eq, cases_lt, eq-eqb, cond-true}
-use Rattle.std.specs.Prelude.{◌==◌}
+use Rattle.std.proofs.Common.{◌≡◌, ◌≢◌, ℕ, ◌<◌, ◌≤◌, ◌-◌, Bool, true, false, List, ◌∷◌, length, Option, Some, None, refl, ◌∙◌, ap, arith}
 use Rattle.abt_machine.specs.declared.events.Cause.{Cause}
 use Rattle.abt_machine.specs.declared.events.Place.{Place}
 use Rattle.abt_machine.specs.declared.events.Place.TheVariants as place
@@ -17,35 +15,25 @@ use Rattle.abt_machine.specs.Workloads.{body_at}
 use Rattle.abt_machine.specs.Queues.{first}
 use Rattle.abt_machine.specs.State.{State, Stream, Frame, Desk, Mark, Plain, Asked, Left}
 use Rattle.abt_machine.specs.Lines.{InPool, InTray, InHand, InNext, Joining, hand, next, standing, ticket_in, tray_end}
-use Rattle.abt_machine.specs.Next.{EnterDue, LeaveDue, due, due_of_frames}
+use Rattle.abt_machine.specs.Next.{EnterDue, LeaveDue, due}
 use Rattle.abt_machine.specs.Fronts.{front}
-use Rattle.abt_machine.specs.Frames.{entered, left, left_to, marked, round_taken, sched_of}
-use Rattle.abt_machine.specs.Changes.{Change, changed, no_change, tray_moves}
+use Rattle.abt_machine.specs.Frames.{entered, left, marked, round_taken, sched_of}
+use Rattle.abt_machine.specs.Changes.{changed, tray_moves}
 use Rattle.abt_machine.specs.Events.{after, look_row, without_requests}
 use Rattle.abt_machine.specs.Sound.{Sound}
 use Rattle.abt_laws.specs.Measure.{hand_weight, place_weight, request_weight, unit_weight, weight}
-use Rattle.abt_laws.proofs.Queues.{no-queue, none≢some, put_at-other, put_at-same}
-use Rattle.abt_laws.proofs.Dues.{IsIdle, IsOfFrames, enters-plain, idle}
-use Rattle.abt_laws.proofs.Weights.{AllUnits-then, StandsIn, all-stand, first-stands, front-stands, place_weight-kept, same-number, stands-weight, tray_moves-weight, unit_weight-kept, weight-falls}
-
--- Marks.
-
--- the mark of each stream stays where a new value of one has its mark
-pub marks-kept : (S : State) (s : ℕ) (own : Stream) → own.mark ≡ (S.stream s).mark → (r : StreamNo) → (put_at S.stream s own r.0).mark ≡ (S.stream r.0).mark
-marks-kept S s own e r =
-    elim (cases_eq r.0 s) [
-      | inl same ↦ subst (λ q. (put_at S.stream s own q).mark ≡ (S.stream q).mark) (sym same) (ap (λ (x : Stream). x.mark) (put_at-same S.stream s own) ∙ e)
-      | inr other ↦ ap (λ (x : Stream). x.mark) (put_at-other S.stream s own r.0 other)
-    ]
+use Rattle.abt_laws.proofs.SoundEvents.{handed}
+use Rattle.abt_laws.proofs.Marks.{marks-kept, marks-elsewhere, left-mark}
+use Rattle.abt_laws.proofs.Places.{same-self}
+use Rattle.abt_laws.proofs.Standing.{StandsIn, each-stands, first-stands, front-stands, is-declared, none-first}
+use Rattle.abt_laws.proofs.Maps.{put_at-other, put_at-same}
+use Rattle.abt_laws.proofs.Lists.{EachOf-then}
+use Rattle.abt_laws.proofs.Dues.{due-idle, enters-plain, leave-below}
+use Rattle.abt_laws.proofs.Weights.{place_weight-kept, stands-weight, tray_moves-weight, unit_weight-kept, weight-falls}
 
 -- no unit is in the hand of s
 abbrev HandIsFree : State → ℕ → Type 0
 HandIsFree S s = (v : ℕ) → S.place v ≡ place.Hand (stream_no s) → ⊥
-
--- where the hand of s is free, no hand's mark changes with the value of s
-marks-unheld : (S : State) (s : ℕ) (own : Stream) → HandIsFree S s → (v : ℕ) (r : StreamNo) → S.place v ≡ place.Hand r → (put_at S.stream s own r.0).mark ≡ (S.stream r.0).mark
-marks-unheld S s own free v r held =
-    ap (λ (x : Stream). x.mark) (put_at-other S.stream s own r.0 (λ same. free v (held ∙ ap (λ q. place.Hand (stream_no q)) same)))
 
 -- Events that move one unit.
 
@@ -61,7 +49,7 @@ take-falls W S s p u taken =
     let stands : StandsIn W S (InPool p.0) u.0 = front-stands W S s p.0 u.0 taken in
     let was : place_weight S (S.place u.0) ≡ 5 = stands-weight W S (InPool p.0) u.0 stands in
     let now : place_weight T (T.place u.0) ≡ 4 = ap (place_weight T) (put_at-same S.place u.0 (place.Next (stream_no s))) in
-    one-lighter W S T u.0 stands.in_range (omega arith) (put_at-other S.place u.0 (place.Next (stream_no s))) (λ v _. refl) (λ v r _. marks-kept S s (round_taken (S.stream s)) refl r)
+    one-lighter W S T u.0 stands.declared (omega arith) (put_at-other S.place u.0 (place.Next (stream_no s))) (λ v _. refl) (λ v r _. marks-kept S s (round_taken (S.stream s)) refl r)
 
 pub put-falls : (W : Parts) (S : State) (s : ℕ) (u : UnitNo) (p : PoolNo) → first (standing W S (InTray s)) ≡ Some u.0 → weight W (after W S s (what.Put u p)) < weight W S
 put-falls W S s u p put =
@@ -69,72 +57,46 @@ put-falls W S s u p put =
     let stands : StandsIn W S (InTray s) u.0 = first-stands W S (InTray s) u.0 put in
     let was : place_weight S (S.place u.0) ≡ 6 = stands-weight W S (InTray s) u.0 stands in
     let now : place_weight T (T.place u.0) ≡ 5 = ap (place_weight T) (put_at-same S.place u.0 (place.Pool p (S.pool_next p.0))) in
-    one-lighter W S T u.0 stands.in_range (omega arith) (put_at-other S.place u.0 (place.Pool p (S.pool_next p.0))) (λ v _. refl) (λ v r _. refl)
+    one-lighter W S T u.0 stands.declared (omega arith) (put_at-other S.place u.0 (place.Pool p (S.pool_next p.0))) (λ v _. refl) (λ v r _. refl)
 
 pub enter-falls : (W : Parts) (S : State) (s : ℕ) (u : UnitNo) → due W S s ≡ EnterDue → hand W S s ≡ Some u.0 → weight W (after W S s (what.Enter u)) < weight W S
 enter-falls W S s u comes held =
     let T : State = after W S s (what.Enter u) in
     let to : Place = place.Frame (stream_no s) (length (S.stream s).below) in
     let stands : StandsIn W S (InHand s) u.0 = first-stands W S (InHand s) u.0 held in
-    let was : place_weight S (S.place u.0) ≡ 3 = stands-weight W S (InHand s) u.0 stands ∙ ap hand_weight (enters-plain W S s comes) in
+    let was : place_weight S (S.place u.0) ≡ 3 = stands-weight W S (InHand s) u.0 stands ∙ ap hand_weight (enters-plain W S s u.0 comes held) in
     let now : place_weight T (T.place u.0) ≡ 2 = ap (place_weight T) (put_at-same S.place u.0 to) in
-    one-lighter W S T u.0 stands.in_range (omega arith) (put_at-other S.place u.0 to) (λ v _. refl) (λ v r _. marks-kept S s (entered (sched_of (body_at W u.0)) (S.stream s)) refl r)
+    one-lighter W S T u.0 stands.declared (omega arith) (put_at-other S.place u.0 to) (λ v _. refl) (λ v r _. marks-kept S s (entered (sched_of (body_at W u.0)) (S.stream s)) refl r)
 
 -- Leave.
 
--- a unit with a place that is not Unborn is declared
-placed-declared : (W : Parts) (Z : List OrderShape) (S : State) (u : ℕ) (at : Place) → Sound W Z S → S.place u ≡ at → (place.Unborn ≡ at → ⊥) → u < length W.units
-placed-declared W Z S u at sound e differs = elim (cases_lt u (length W.units)) [ inl below ↦ below | inr above ↦ absurd (differs (sym (sound.undeclared u above) ∙ e)) ]
-
 idle-hand-free : (W : Parts) (Z : List OrderShape) (S : State) (s : ℕ) → Sound W Z S → hand W S s ≡ None → HandIsFree S s
-idle-hand-free W Z S s sound none v held =
-    elim (cases_lt v (length W.units)) [
-      | inl below ↦ none≢some (sym (no-queue (λ u. ticket_in (InHand s) (S.place u)) (length W.units) none v below) ∙ (ap (ticket_in (InHand s)) held ∙ cond-true (s == s) (Some 0) None (eq-eqb s s refl)))
-      | inr above ↦ (let never : place.Unborn ≡ place.Hand (stream_no s) = sym (sound.undeclared v above) ∙ held in cc)
-    ]
-
-left-mark : (own : Stream) (fs : List Frame) → fs ≢ [] → (left_to own fs).mark ≡ Left
-left-mark own [] some = absurd (some refl)
-left-mark own (f ∷ fs) some = refl
-
-frames-to-leave : (empty : Bool) (fs : List Frame) → due_of_frames empty fs ≡ LeaveDue → fs ≢ []
-frames-to-leave true (f ∷ fs) h = λ e. cc
-frames-to-leave true [] h = cc
-frames-to-leave false fs h = cc
+idle-hand-free W Z S s sound none v held = none-first W S sound.undeclared (InHand s) none v 0 (ap (ticket_in (InHand s)) held ∙ same-self s 0)
 
 pub leave-falls : (W : Parts) (Z : List OrderShape) (S : State) (s : ℕ) (u : UnitNo) → Sound W Z S → due W S s ≡ LeaveDue → S.place u.0 ≡ place.Frame (stream_no s) (length (S.stream s).below - 1) → weight W (after W S s (what.Leave u)) < weight W S
 leave-falls W Z S s u sound comes framed =
     let T : State = after W S s (what.Leave u) in
-    let own : IsIdle W S s = idle W S s (subst IsOfFrames (sym comes) tt) in
-    let some : (S.stream s).below ≢ [] = frames-to-leave (S.stream s).top.empty (S.stream s).below (sym own.due ∙ comes) in
-    let free : HandIsFree S s = idle-hand-free W Z S s sound own.hand in
-    let mark : (T.stream s).mark ≡ Left = ap (λ (x : Stream). x.mark) (put_at-same S.stream s (left (S.stream s))) ∙ left-mark (S.stream s) (S.stream s).below some in
+    let below : (f : Frame) × (rest : List Frame) × ((S.stream s).below ≡ f ∷ rest) = leave-below W S s comes in
+    let free : HandIsFree S s = idle-hand-free W Z S s sound (due-idle W S s LeaveDue comes tt).0 in
+    let mark : (T.stream s).mark ≡ Left = ap (λ (x : Stream). x.mark) (put_at-same S.stream s (left (S.stream s))) ∙ left-mark (S.stream s) below.0 below.1 below.2 in
     let was : place_weight S (S.place u.0) ≡ 2 = ap (place_weight S) framed in
     let now : place_weight T (T.place u.0) ≡ 1 = ap (place_weight T) (put_at-same S.place u.0 (place.Hand (stream_no s))) ∙ ap hand_weight mark in
-    one-lighter W S T u.0 (placed-declared W Z S u.0 _ sound framed (λ e. cc)) (omega arith) (put_at-other S.place u.0 (place.Hand (stream_no s))) (λ v _. refl) (marks-unheld S s (left (S.stream s)) free)
+    one-lighter W S T u.0 (is-declared W S sound.undeclared u.0 _ framed (λ e. cc)) (omega arith) (put_at-other S.place u.0 (place.Hand (stream_no s))) (λ v _. refl) (λ v. marks-elsewhere S s v (left (S.stream s)) (free v))
 
 -- Look.
 
-next-place : (s : ℕ) (at : Place) (t : ℕ) → ticket_in (InNext s) at ≡ Some t → at ≡ place.Next (stream_no s)
-next-place s (place.Next r) t h = ap (λ n. place.Next (stream_no n)) (same-number r.0 s 0 t h)
-next-place s _ t h = absurd (none≢some h)
-
 -- a unit in the Next of s leaves its hand free
 next-hand-free : (W : Parts) (Z : List OrderShape) (S : State) (s u : ℕ) → Sound W Z S → StandsIn W S (InNext s) u → HandIsFree S s
-next-hand-free W Z S s u sound stands v held = sound.hand_or_next s v u held (next-place s (S.place u) stands.ticket stands.has)
+next-hand-free W Z S s u sound stands v held = sound.hand_or_next s v u held stands.at
 
--- unit u goes from the Next of s to its hand, with this mark
-abbrev to_hand : State → ℕ → ℕ → Mark → Change
-to_hand S s u m = record no_change { moves = (u, place.Hand (stream_no s)) ∷ []; desks = (u, without_requests (S.desk u)) ∷ []; streams = (s, marked m (S.stream s)) ∷ [] }
-
-to_hand-falls : (W : Parts) (S : State) (s u : ℕ) (m : Mark) → hand_weight m ≡ 3 → StandsIn W S (InNext s) u → HandIsFree S s → weight W (changed S (to_hand S s u m)) < weight W S
-to_hand-falls W S s u m heavy stands free =
-    let T : State = changed S (to_hand S s u m) in
+handed-falls : (W : Parts) (S : State) (s u : ℕ) (m : Mark) → hand_weight m ≡ 3 → StandsIn W S (InNext s) u → HandIsFree S s → weight W (changed S (handed S s u m)) < weight W S
+handed-falls W S s u m heavy stands free =
+    let T : State = changed S (handed S s u m) in
     let mark : (T.stream s).mark ≡ m = ap (λ (x : Stream). x.mark) (put_at-same S.stream s (marked m (S.stream s))) in
     let was : place_weight S (S.place u) ≡ 4 = stands-weight W S (InNext s) u stands in
     let now : place_weight T (T.place u) ≡ 3 = ap (place_weight T) (put_at-same S.place u (place.Hand (stream_no s))) ∙ (ap hand_weight mark ∙ heavy) in
     let asks : request_weight (T.desk u).migrate ≡ 0 = ap (λ (d : Desk). request_weight d.migrate) (put_at-same S.desk u (without_requests (S.desk u))) in
-    one-lighter W S T u stands.in_range (omega arith) (put_at-other S.place u (place.Hand (stream_no s))) (put_at-other S.desk u (without_requests (S.desk u))) (marks-unheld S s (marked m (S.stream s)) free)
+    one-lighter W S T u stands.declared (omega arith) (put_at-other S.place u (place.Hand (stream_no s))) (put_at-other S.desk u (without_requests (S.desk u))) (λ v. marks-elsewhere S s v (marked m (S.stream s)) (free v))
 
 -- a unit that is to migrate goes to the tray, without its request
 migrate-falls : (W : Parts) (S : State) (s u p : ℕ) → (S.desk u).migrate ≡ Some p → StandsIn W S (InNext s) u → weight W (changed S (look_row W S s u false (Some p))) < weight W S
@@ -145,11 +107,11 @@ migrate-falls W S s u p asked stands =
     let asks : request_weight (S.desk u).migrate ≡ 3 = ap request_weight asked in
     let now : place_weight T (T.place u) ≡ 6 = ap (place_weight T) (put_at-same S.place u to) in
     let forgets : request_weight (T.desk u).migrate ≡ 0 = ap (λ (d : Desk). request_weight d.migrate) (put_at-same S.desk u (without_requests (S.desk u))) in
-    one-lighter W S T u stands.in_range (omega arith) (put_at-other S.place u to) (put_at-other S.desk u (without_requests (S.desk u))) (λ v r _. refl)
+    one-lighter W S T u stands.declared (omega arith) (put_at-other S.place u to) (put_at-other S.desk u (without_requests (S.desk u))) (λ v r _. refl)
 
 look_row-falls : (W : Parts) (S : State) (s u : ℕ) (cancel : Bool) (migrate : Option ℕ) → (S.desk u).migrate ≡ migrate → StandsIn W S (InNext s) u → HandIsFree S s → weight W (changed S (look_row W S s u cancel migrate)) < weight W S
-look_row-falls W S s u true migrate e stands free = to_hand-falls W S s u Asked refl stands free
-look_row-falls W S s u false None e stands free = to_hand-falls W S s u Plain refl stands free
+look_row-falls W S s u true migrate e stands free = handed-falls W S s u Asked refl stands free
+look_row-falls W S s u false None e stands free = handed-falls W S s u Plain refl stands free
 look_row-falls W S s u false (Some p) e stands free = migrate-falls W S s u p e stands
 
 pub look-falls : (W : Parts) (Z : List OrderShape) (S : State) (s : ℕ) (u : UnitNo) → Sound W Z S → next W S s ≡ Some u.0 → weight W (after W S s (what.Look u)) < weight W S
@@ -175,12 +137,12 @@ ended-joiners : (W : Parts) (S : State) (s u : ℕ) (c : Cause) → StandsIn W S
 ended-joiners W S s u c held =
     let light : place_weight S (S.place u) ≡ hand_weight (S.stream s).mark = stands-weight W S (InHand s) u held in
     tray_moves-weight S s (tray_end W S s) (standing W S (Joining u)) (put_at S.place u (place.Ended c))
-    (AllUnits-then (StandsIn W S (Joining u)) _ (standing W S (Joining u))
+    (EachOf-then (StandsIn W S (Joining u)) _ (standing W S (Joining u))
     (λ w joins.
     let heavy : place_weight S (S.place w) ≡ 6 = stands-weight W S (Joining u) w joins in
     ap (place_weight S) (put_at-other S.place u (place.Ended c) w
     (λ same. let one : place_weight S (S.place w) ≡ place_weight S (S.place u) = ap (λ x. place_weight S (S.place x)) same in omega (arith, hand_weight-light (S.stream s).mark))) ∙ heavy)
-    (all-stand W S (Joining u)))
+    (each-stands W S (Joining u)))
 
 pub end-falls : (W : Parts) (S : State) (s : ℕ) (u : UnitNo) (c : Cause) → hand W S s ≡ Some u.0 → weight W (after W S s (what.End u c)) < weight W S
 end-falls W S s u c ending =
@@ -191,7 +153,7 @@ end-falls W S s u c ending =
     let was : place_weight S (S.place u.0) ≡ hand_weight (S.stream s).mark = stands-weight W S (InHand s) u.0 held in
     let now : place_weight T (T.place u.0) ≡ 0 = there u.0 ∙ ap (place_weight S) (put_at-same S.place u.0 (place.Ended c)) in
     let forgets : request_weight (T.desk u.0).migrate ≡ 0 = ap (λ (d : Desk). request_weight d.migrate) (put_at-same S.desk u.0 (without_requests (S.desk u.0))) in
-    weight-falls W S T u.0 held.in_range (omega (arith, hand_weight-some (S.stream s).mark))
+    weight-falls W S T u.0 held.declared (omega (arith, hand_weight-some (S.stream s).mark))
     (λ v other.
     let places : place_weight T (T.place v) ≡ place_weight S (S.place v) = there v ∙ ap (place_weight S) (put_at-other S.place u.0 (place.Ended c) v other) in
     let requests : request_weight (T.desk v).migrate ≡ request_weight (S.desk v).migrate = ap (λ (d : Desk). request_weight d.migrate) (put_at-other S.desk u.0 (without_requests (S.desk u.0)) v other) in

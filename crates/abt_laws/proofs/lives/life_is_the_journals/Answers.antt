@@ -1,4 +1,4 @@
-use Rattle.abt_laws.proofs.EveryEvent.{runs-are-sound}
+use Rattle.abt_laws.proofs.SoundRuns.{runs-are-sound}
 use Rattle.abt_laws.proofs.LifeRuns.{run-life, run-unborn}
 use Rattle.abt_laws.proofs.lives.life_is_the_journals.Goals as goal
 

@@ -1,4 +1,4 @@
-use Rattle.abt_laws.proofs.EveryEvent.{runs-are-sound}
+use Rattle.abt_laws.proofs.SoundRuns.{runs-are-sound}
 use Rattle.abt_laws.proofs.Falls.{events-fall}
 use Rattle.abt_laws.proofs.measure.events_fall.Goals as goal
 

@@ -1,4 +1,4 @@
-use Rattle.abt_laws.proofs.EveryEvent.{events-keep-sound, runs-are-sound}
+use Rattle.abt_laws.proofs.SoundRuns.{events-keep-sound, runs-are-sound}
 use Rattle.abt_laws.proofs.QuietRuns.{quiet-runs-miss}
 use Rattle.abt_laws.proofs.outcome.quiet_runs_miss.Goals as goal
 

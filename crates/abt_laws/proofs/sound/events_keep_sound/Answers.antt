@@ -1,4 +1,4 @@
-use Rattle.abt_laws.proofs.EveryEvent.{events-keep-sound}
+use Rattle.abt_laws.proofs.SoundRuns.{events-keep-sound}
 use Rattle.abt_laws.proofs.sound.events_keep_sound.Goals as goal
 
 pub returns : goal.returns

@@ -1,4 +1,4 @@
-use Rattle.abt_laws.proofs.EveryEvent.{runs-are-sound}
+use Rattle.abt_laws.proofs.SoundRuns.{runs-are-sound}
 use Rattle.abt_laws.proofs.sound.runs_are_sound.Goals as goal
 
 pub returns : goal.returns

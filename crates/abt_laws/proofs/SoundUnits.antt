@@ -14,16 +14,15 @@ use Rattle.abt_machine.specs.Codes.{is_in_pool}
 use Rattle.abt_machine.specs.Changes.{Change, changed, to_tray, goes_on}
 use Rattle.abt_machine.specs.Steps.{begins, joins}
 use Rattle.abt_machine.specs.Sound.{IsPlaced, HasNotEnded}
-use Rattle.abt_laws.proofs.Queues.{put_at-same}
-use Rattle.abt_laws.proofs.ChangedMaps.{EachOf, put_at-cases}
+use Rattle.abt_laws.proofs.Maps.{put_at-same, put_at-cases}
+use Rattle.abt_laws.proofs.Lists.{EachOf}
 use Rattle.abt_laws.proofs.Places.{ticket-place, same-self}
 use Rattle.abt_laws.proofs.Arrivals.{IsEmpty, IsBelow, IsBelow-move, IsFreeFor, free-nowhere, free-empty, free-above, tray-free}
-use Rattle.abt_laws.proofs.KeepsSound.{Keeps, places, IsAlone}
+use Rattle.abt_laws.proofs.SoundChanges.{Keeps, places, IsAlone, placed-below}
 use Rattle.abt_laws.proofs.Barriers.{IsOffBarriers}
-use Rattle.abt_laws.proofs.Wakes.{IsWakeable, tray-well, tray-frameless, empty-after}
-use Rattle.abt_laws.proofs.CodeFacts.{frameless-by}
-use Rattle.abt_laws.proofs.StepMoves.{keeps-moves}
-use Rattle.abt_laws.proofs.StepShapes.{IsStepping, in_no_frame, may_wake, carries_on, keeps-goes_on, keeps-wakes, tray-below}
+use Rattle.abt_laws.proofs.Wakes.{IsWakeable, tray-well, tray-frameless, empty-after, frameless-by}
+use Rattle.abt_laws.proofs.SoundMoves.{keeps-moves}
+use Rattle.abt_laws.proofs.SoundSteps.{IsStepping, in_no_frame, may_wake, carries_on, keeps-goes_on, keeps-wakes, tray-below}
 
 module _ (W : Parts) (Z : List OrderShape) (S : State) (s u : ℕ) (step : IsStepping W Z S s u) where
   -- u goes to a free place that is no barrier
@@ -39,8 +38,7 @@ module _ (W : Parts) (Z : List OrderShape) (S : State) (s u : ℕ) (step : IsSte
 
   -- the tickets of those who join v are below the next
   joining-below : (v : ℕ) → IsBelow (Joining v) (S.join_next v) S.place
-  joining-below v w t h =
-      let k : IsPlaced W S w (place.Blocked (spot.Join (unit_no v)) t) = subst (IsPlaced W S w) (ticket-place (Joining v) (S.place w) t h) (step.sound.placed w) in k.1
+  joining-below v = placed-below W Z S (Joining v) (S.join_next v) step.sound (λ w t k. k.1)
 
   keeps-joining : (v : ℕ) → v < length W.units → HasNotEnded (S.place v) →
       Keeps W Z S (record (goes_on S u) { moves = (u, place.Blocked (spot.Join (unit_no v)) (S.join_next v)) ∷ []; join_next = (v, suc (S.join_next v)) ∷ [] })

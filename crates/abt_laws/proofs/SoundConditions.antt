@@ -17,35 +17,29 @@ use Rattle.abt_machine.specs.Operations.{IsMutex}
 use Rattle.abt_machine.specs.Changes.{Change, changed, to_tray, waiting_moves}
 use Rattle.abt_machine.specs.Steps.{owned, releases, queues, passes}
 use Rattle.abt_machine.specs.Sound.{HoldsUp}
-use Rattle.abt_laws.proofs.Queues.{put_at-same}
-use Rattle.abt_laws.proofs.ChangedMaps.{EachOf, EachOf-append}
+use Rattle.abt_laws.proofs.LineMoves.{waiting_moves-each, waiting_moves-places, tray_moves-places}
+use Rattle.abt_laws.proofs.Maps.{put_at-same}
+use Rattle.abt_laws.proofs.Lists.{EachOf, EachOf-append}
 use Rattle.abt_laws.proofs.Places.{line_of, same-self}
 use Rattle.abt_laws.proofs.Arrivals.{IsEmpty, IsBelow-move, IsBelow-moves, AllFree-append, free-above, tray-free, waiting-free}
 use Rattle.abt_laws.proofs.Standing.{none-first}
-use Rattle.abt_laws.proofs.KeepsSound.{Keeps, places, MovesWell}
+use Rattle.abt_laws.proofs.SoundChanges.{Keeps, places, MovesWell}
 use Rattle.abt_laws.proofs.Barriers.{IsOffBarriers}
-use Rattle.abt_laws.proofs.FramesStay.{IsFrameless}
-use Rattle.abt_laws.proofs.Wakes.{IsWakeable, wakeable-first, tray-well, tray-frameless, tray-each, empty-still}
-use Rattle.abt_laws.proofs.MutexSteps.{next-owner}
-use Rattle.abt_laws.proofs.StepMoves.{keeps-moves}
-use Rattle.abt_laws.proofs.StepShapes.{IsStepping, in_no_frame, keeps-goes_on, waiting-below, tray-below}
+use Rattle.abt_laws.proofs.SoundFrames.{IsFrameless}
+use Rattle.abt_laws.proofs.Wakes.{IsWakeable, wakeable-first, tray-well, tray-frameless, empty-still}
+use Rattle.abt_laws.proofs.SoundMutexes.{next-owner}
+use Rattle.abt_laws.proofs.SoundMoves.{keeps-moves}
+use Rattle.abt_laws.proofs.SoundSteps.{IsStepping, in_no_frame, keeps-goes_on, waiting-below, tray-below}
 
 -- Moves to the waiters of object x.
 
 waiting-well : (W : Parts) (S : State) (c : Change) (x i : ℕ) (vs : List ℕ) → i + length vs ≤ put_all S.object_next c.object_next x → HoldsUp W (changed S c) x (thing_at W x) →
     EachOf (IsWakeable W S) vs → EachOf (λ (m : ℕ × Place). MovesWell W S c m.0 m.1) (waiting_moves x i vs)
-waiting-well W S c x i [] l up each = tt
-waiting-well W S c x i (v ∷ vs) l up each =
-    (record { declared = each.0.declared; placed = (omega arith, up); alone = tt; joined = inl tt }, waiting-well W S c x (suc i) vs (omega arith) up each.1)
+waiting-well W S c x i vs l up each =
+    waiting_moves-each (λ m. MovesWell W S c m.0 m.1) (IsWakeable W S) x i vs (λ v t b wakes. record { declared = wakes.declared; placed = (omega arith, up); alone = tt; joined = inl tt }) each
 
 waiting-frameless : (W : Parts) (S : State) (x i : ℕ) (vs : List ℕ) → EachOf (IsWakeable W S) vs → EachOf (λ (m : ℕ × Place). IsFrameless S m.0) (waiting_moves x i vs)
-waiting-frameless W S x i [] each = tt
-waiting-frameless W S x i (v ∷ vs) each = (each.0.frameless, waiting-frameless W S x (suc i) vs each.1)
-
--- what holds of each place of those who wait at x holds of each of these moves
-waiting-each : (P : Place → Type 0) (x i : ℕ) (vs : List ℕ) → ((t : ℕ) → P (place.Blocked (spot.Object (object_no x)) t)) → EachOf (λ (m : ℕ × Place). P m.1) (waiting_moves x i vs)
-waiting-each P x i [] p = tt
-waiting-each P x i (v ∷ vs) p = (p i, waiting-each P x (suc i) vs p)
+waiting-frameless W S x i vs each = waiting_moves-each (λ m. IsFrameless S m.0) (IsWakeable W S) x i vs (λ v t b wakes. wakes.frameless) each
 
 mutex-off : (W : Parts) (m n : ℕ) → IsMutex W m → thing_at W m ≡ Some (thing.Barrier n) → ⊥
 mutex-off W m n is b = let k : Some thing.Mutex ≡ Some (thing.Barrier n) = sym is ∙ b in cc
@@ -61,7 +55,7 @@ module _ (W : Parts) (Z : List OrderShape) (S : State) (s u : ℕ) (step : IsSte
       let next : put_at S.object_next x (suc (S.object_next x)) x ≡ suc (S.object_next x) = put_at-same S.object_next x (suc (S.object_next x)) in
       let apart : x ≡ m → ⊥ = λ e. let k : Some (thing.Cond cond.0) ≡ Some thing.Mutex = sym cond.1 ∙ (ap (thing_at W) e ∙ is) in cc in
       let still : first (standing W S (Waiting m)) ≡ None → IsEmpty (Waiting m) (places S c) =
-      λ none. empty-still S c (Waiting m) (λ e. let k : x ≡ m = cc in apart k, tray-each (λ p. line_of p ≡ Some (Waiting m) → ⊥) s i us (λ t e. cc)) (none-first W S step.sound.undeclared (Waiting m) none) in
+      λ none. empty-still S c (Waiting m) (λ e. let k : x ≡ m = cc in apart k, tray_moves-places (λ p. line_of p ≡ Some (Waiting m) → ⊥) s i us (λ t e. cc)) (none-first W S step.sound.undeclared (Waiting m) none) in
       keeps-moves W Z S s u step ((u, pl) ∷ to_tray W S s us) [] ((x, suc (S.object_next x)) ∷ []) ((m, owned (first (standing W S (Waiting m))) (S.mutex m)) ∷ []) (
         free-above S.place u pl (Waiting x) (S.object_next x) (same-self x (S.object_next x)) (waiting-below W Z S x step.sound),
         tray-free s i (put_at S.place u pl) us (IsBelow-move (InTray s) i S.place u pl (λ e. cc) (tray-below W Z S s u step)),
@@ -74,7 +68,7 @@ module _ (W : Parts) (Z : List OrderShape) (S : State) (s u : ℕ) (step : IsSte
         },
         tray-well W S c s i us step.stream step.rests (wakeable-first W S (Waiting m) tt),
       )
-      (λ n b. let k : Some (thing.Cond cond.0) ≡ Some (thing.Barrier n) = sym cond.1 ∙ b in cc, tray-each (IsOffBarriers W) s i us (λ t. tt))
+      (λ n b. let k : Some (thing.Cond cond.0) ≡ Some (thing.Barrier n) = sym cond.1 ∙ b in cc, tray_moves-places (IsOffBarriers W) s i us (λ t. tt))
       (in_no_frame W Z S s u step, tray-frameless W S s i us (wakeable-first W S (Waiting m) tt))
       tt (omega arith, tt) (next-owner (places S c) m (standing W S (Waiting m)) (S.mutex m) still, tt)
 
@@ -87,7 +81,7 @@ module _ (W : Parts) (Z : List OrderShape) (S : State) (s u : ℕ) (step : IsSte
       keeps-moves W Z S s u step (waiting_moves m t vs) [] ((m, t + length vs) ∷ []) []
       (waiting-free m t S.place vs (waiting-below W Z S m step.sound))
       (waiting-well W S c m t vs (subst (λ n. t + length vs ≤ n) (sym next) (omega arith)) (subst (HoldsUp W (changed S c) m) (sym is) held) each)
-      (waiting-each (IsOffBarriers W) m t vs (λ k n b. mutex-off W m n is b))
+      (waiting_moves-places (IsOffBarriers W) m t vs (λ k n b. mutex-off W m n is b))
       (waiting-frameless W S m t vs each)
       tt (omega arith, tt) tt
 
@@ -100,14 +94,14 @@ module _ (W : Parts) (Z : List OrderShape) (S : State) (s u : ℕ) (step : IsSte
       let next : put_at S.object_next m (t + length ws) m ≡ t + length ws = put_at-same S.object_next m (t + length ws) in
       let owner : put_at S.mutex m (owned (Some w) (S.mutex m)) m ≡ owned (Some w) (S.mutex m) = put_at-same S.mutex m (owned (Some w) (S.mutex m)) in
       let held : IsSome (put_at S.mutex m (owned (Some w) (S.mutex m)) m).owner = subst (λ (k : Mutex). IsSome k.owner) (sym owner) refl in
-      let away : EachOf (λ (k : ℕ × Place). line_of k.1 ≡ Some (InTray s) → ⊥) (waiting_moves m t ws) = waiting-each (λ p. line_of p ≡ Some (InTray s) → ⊥) m t ws (λ k e. cc) in
+      let away : EachOf (λ (k : ℕ × Place). line_of k.1 ≡ Some (InTray s) → ⊥) (waiting_moves m t ws) = waiting_moves-places (λ p. line_of p ≡ Some (InTray s) → ⊥) m t ws (λ k e. cc) in
       keeps-moves W Z S s u step (waiting_moves m t ws ++ to_tray W S s (w ∷ [])) [] ((m, t + length ws) ∷ []) ((m, owned (Some w) (S.mutex m)) ∷ [])
       (AllFree-append S.place (waiting_moves m t ws) (to_tray W S s (w ∷ [])) (waiting-free m t S.place ws (waiting-below W Z S m step.sound))
       (tray-free s i (put_all S.place (waiting_moves m t ws)) (w ∷ []) (IsBelow-moves (InTray s) i S.place (waiting_moves m t ws) away (tray-below W Z S s u step))))
       (EachOf-append _ (waiting_moves m t ws) (to_tray W S s (w ∷ []))
       (waiting-well W S c m t ws (subst (λ n. t + length ws ≤ n) (sym next) (omega arith)) (subst (HoldsUp W (changed S c) m) (sym is) held) each.1)
       (tray-well W S c s i (w ∷ []) step.stream step.rests (each.0, tt)))
-      (EachOf-append _ (waiting_moves m t ws) (to_tray W S s (w ∷ [])) (waiting-each (IsOffBarriers W) m t ws (λ k n b. mutex-off W m n is b)) (tt, tt))
+      (EachOf-append _ (waiting_moves m t ws) (to_tray W S s (w ∷ [])) (waiting_moves-places (IsOffBarriers W) m t ws (λ k n b. mutex-off W m n is b)) (tt, tt))
       (EachOf-append _ (waiting_moves m t ws) (to_tray W S s (w ∷ [])) (waiting-frameless W S m t ws each.1) (tray-frameless W S s i (w ∷ []) (each.0, tt)))
       tt (omega arith, tt) (inl refl, tt)
 

@@ -14,15 +14,16 @@ use Rattle.abt_machine.specs.Queues.{last}
 use Rattle.abt_machine.specs.State.{State, Stream, Frame}
 use Rattle.abt_machine.specs.Changes.{Change, changed}
 use Rattle.abt_machine.specs.Sound.{Sound, IsPlaced, IsAtRest, IsUnderWay, AllUnderWay, AllAtRest, RunsSched, frames_of}
-use Rattle.abt_laws.proofs.ChangedMaps.{EachOf, EachOf-key, put_all-other, put_all-kept}
-use Rattle.abt_laws.proofs.KeepsSound.{places, OnStream, FramesKeep}
+use Rattle.abt_laws.proofs.Lists.{EachOf}
+use Rattle.abt_laws.proofs.Maps.{EachOf-key, put_all-other, put_all-kept}
+use Rattle.abt_laws.proofs.SoundChanges.{places, OnStream, FramesKeep}
 
 -- the unit is in no frame
 abbrev pub IsFrameless : State → ℕ → Type 0
 IsFrameless S u = (r d : ℕ) → S.place u ≡ place.Frame (stream_no r) d → ⊥
 
 -- stream s has the frames that it had, at the top in another round at most
-pub record GoesOn (W : Parts) (Z : List OrderShape) (S : State) (c : Change) (s : ℕ) (own : Stream) : Type 0 where
+pub record FramesGoOn (W : Parts) (Z : List OrderShape) (S : State) (c : Change) (s : ℕ) (own : Stream) : Type 0 where
   pub below : own.below ≡ (S.stream s).below
   pub sched : own.top.sched ≡ (S.stream s).top.sched
   pub rest : (u : ℕ) → OnStream s (places S c u) → IsAtRest (S.stream s) → IsAtRest own
@@ -41,7 +42,7 @@ lowest-same : (f g : Frame) (fs : List Frame) (n : ℕ) → g.sched ≡ f.sched 
 lowest-same f g [] n e h = e ∙ h
 lowest-same f g (k ∷ fs) n e h = h
 
-module _ (W : Parts) (Z : List OrderShape) (S : State) (c : Change) (sound : Sound W Z S) (on : (s : ℕ) → GoesOn W Z S c s (put_all S.stream c.streams s)) where
+module _ (W : Parts) (Z : List OrderShape) (S : State) (c : Change) (sound : Sound W Z S) (on : (s : ℕ) → FramesGoOn W Z S c s (put_all S.stream c.streams s)) where
   held : (u s d : ℕ) → IsPlaced W S u (place.Frame (stream_no s) d) → IsPlaced W (changed S c) u (place.Frame (stream_no s) d)
   held u s d h =
       let own : Stream = put_all S.stream c.streams s in
@@ -73,7 +74,7 @@ module _ (W : Parts) (Z : List OrderShape) (S : State) (c : Change) (sound : Sou
 
 -- where no unit leaves a frame and streams go on, the frames stay
 pub frames-stay : (W : Parts) (Z : List OrderShape) (S : State) (c : Change) → Sound W Z S → EachOf (λ (m : ℕ × Place). IsFrameless S m.0) c.moves →
-    EachOf (λ (m : ℕ × Stream). GoesOn W Z S c m.0 m.1) c.streams → FramesKeep W Z S (changed S c)
+    EachOf (λ (m : ℕ × Stream). FramesGoOn W Z S c m.0 m.1) c.streams → FramesKeep W Z S (changed S c)
 frames-stay W Z S c sound frameless goes =
-    frames-go_on W Z S c sound (λ s. put_all-kept (λ r own. GoesOn W Z S c r own) S.stream c.streams s goes
+    frames-go_on W Z S c sound (λ s. put_all-kept (λ r own. FramesGoOn W Z S c r own) S.stream c.streams s goes
     (record { below = refl; sched = refl; rest = λ u at h. h; under_way = λ l. (sound.under_way s l).0 })) frameless

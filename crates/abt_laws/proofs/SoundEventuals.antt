@@ -11,26 +11,27 @@ use Rattle.abt_machine.specs.Operations.{IsEventual}
 use Rattle.abt_machine.specs.Changes.{goes_on}
 use Rattle.abt_machine.specs.Steps.{wakes, awaits, gives_all, receives}
 use Rattle.abt_machine.specs.Sound.{HoldsUp}
-use Rattle.abt_laws.proofs.ChangedMaps.{EachOf}
+use Rattle.abt_laws.proofs.LineMoves.{tray_moves-places, tray_moves-key}
+use Rattle.abt_laws.proofs.Lists.{EachOf, EachOf-map, EachOf-all}
 use Rattle.abt_laws.proofs.Places.{line_of}
 use Rattle.abt_laws.proofs.Arrivals.{IsEmpty}
 use Rattle.abt_laws.proofs.Standing.{among-standing}
-use Rattle.abt_laws.proofs.KeepsSound.{Keeps, places, CarriesWell, EventualHolds, FutureHolds}
-use Rattle.abt_laws.proofs.Wakes.{wakeable-line, tray-each, tray-key, empty-after}
-use Rattle.abt_laws.proofs.StepShapes.{IsStepping, carries_on, keeps-goes_with, keeps-still, keeps-wakes, keeps-waits}
+use Rattle.abt_laws.proofs.SoundChanges.{Keeps, places, CarriesWell, EventualHolds, FutureHolds}
+use Rattle.abt_laws.proofs.Wakes.{wakeable-line, empty-after}
+use Rattle.abt_laws.proofs.SoundSteps.{IsStepping, carries_on, keeps-goes_with, keeps-still, keeps-wakes, keeps-waits}
 
 module _ (W : Parts) (Z : List OrderShape) (S : State) (s u : ℕ) (step : IsStepping W Z S s u) where
   -- whatever a unit's new accumulator is
   receives-well : (value : ℕ) (vs : List ℕ) → EachOf (λ (m : ℕ × Carried). CarriesWell W m.0 m.1) (map (receives S value) vs)
-  receives-well value [] = tt
-  receives-well value (v ∷ vs) = (record { home = step.sound.homes v; position = step.sound.positions v }, receives-well value vs)
+  receives-well value vs =
+      EachOf-map (λ m. CarriesWell W m.0 m.1) (λ _. Unit {0}) (receives S value) vs (λ v _. record { home = step.sound.homes v; position = step.sound.positions v }) (EachOf-all (λ _. Unit {0}) vs (λ v. tt))
 
   -- all who wait at x leave
   pub all-leave : (x : ℕ) → IsEmpty (Waiting x) (places S (wakes W S s u (standing W S (Waiting x))))
   all-leave x =
       let us : List ℕ = standing W S (Waiting x) in
-      empty-after S (wakes W S s u us) (Waiting x) (tray-each (λ pl. line_of pl ≡ Some (Waiting x) → ⊥) s (tray_end W S s) us (λ t e. cc))
-      (λ v t h. tray-key s (tray_end W S s) us v (among-standing W S step.sound.undeclared (Waiting x) v t h))
+      empty-after S (wakes W S s u us) (Waiting x) (tray_moves-places (λ pl. line_of pl ≡ Some (Waiting x) → ⊥) s (tray_end W S s) us (λ t e. cc))
+      (λ v t h. tray_moves-key s (tray_end W S s) us v (among-standing W S step.sound.undeclared (Waiting x) v t h))
 
   -- all who wait at x are woken with a value
   pub keeps-gives_all : (x value : ℕ) (es : List (ℕ × Option ℕ)) (fs : List (ℕ × Future)) →

@@ -14,13 +14,14 @@ use Rattle.abt_machine.specs.Codes.{owned_by}
 use Rattle.abt_machine.specs.Changes.{Change, goes_on}
 use Rattle.abt_machine.specs.Steps.{owned, wakes, locks, hands_over}
 use Rattle.abt_machine.specs.Sound.{HoldsUp}
+use Rattle.abt_laws.proofs.LineMoves.{tray_moves-places}
+use Rattle.abt_laws.proofs.Codes.{owned-some}
 use Rattle.abt_laws.proofs.Places.{line_of}
 use Rattle.abt_laws.proofs.Arrivals.{IsEmpty}
 use Rattle.abt_laws.proofs.Standing.{none-first}
-use Rattle.abt_laws.proofs.KeepsSound.{Keeps, places, MutexHolds}
-use Rattle.abt_laws.proofs.Wakes.{wakeable-first, tray-each, empty-still}
-use Rattle.abt_laws.proofs.CodeFacts.{owned-some}
-use Rattle.abt_laws.proofs.StepShapes.{IsStepping, carries_on, keeps-still, keeps-wakes, keeps-waits}
+use Rattle.abt_laws.proofs.SoundChanges.{Keeps, places, MutexHolds}
+use Rattle.abt_laws.proofs.Wakes.{wakeable-first, empty-still}
+use Rattle.abt_laws.proofs.SoundSteps.{IsStepping, carries_on, keeps-still, keeps-wakes, keeps-waits}
 
 -- the first waiter owns the mutex, or nobody waits
 pub next-owner : (f : ℕ → Place) (x : ℕ) (us : List ℕ) (m : Mutex) → (first us ≡ None → IsEmpty (Waiting x) f) → MutexHolds f x (owned (first us) m)
@@ -49,6 +50,6 @@ module _ (W : Parts) (Z : List OrderShape) (S : State) (s u : ℕ) (step : IsSte
       let us : List ℕ = first_alone (standing W S (Waiting x)) in
       let c : Change = wakes W S s u us in
       let still : first (standing W S (Waiting x)) ≡ None → IsEmpty (Waiting x) (places S c) =
-      λ none. empty-still S c (Waiting x) (tray-each (λ pl. line_of pl ≡ Some (Waiting x) → ⊥) s (tray_end W S s) us (λ t e. cc)) (none-first W S step.sound.undeclared (Waiting x) none) in
+      λ none. empty-still S c (Waiting x) (tray_moves-places (λ pl. line_of pl ≡ Some (Waiting x) → ⊥) s (tray_end W S s) us (λ t e. cc)) (none-first W S step.sound.undeclared (Waiting x) none) in
       keeps-wakes W Z S s u step us ((u, advanced (S.carried u)) ∷ []) [] ((x, owned (first (standing W S (Waiting x))) (S.mutex x)) ∷ []) [] []
       (wakeable-first W S (Waiting x) tt) (carries_on W Z S s u step, tt) tt (next-owner (places S c) x (standing W S (Waiting x)) (S.mutex x) still, tt) tt tt

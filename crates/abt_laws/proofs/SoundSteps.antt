@@ -21,16 +21,17 @@ use Rattle.abt_machine.specs.Changes.{Change, no_change, changed, to_tray, goes_
 use Rattle.abt_machine.specs.Steps.{wakes, waits, asks}
 use Rattle.abt_machine.specs.Events.{May}
 use Rattle.abt_machine.specs.Sound.{Sound, IsPlaced, IsAtRest, HoldsUp}
-use Rattle.abt_laws.proofs.Queues.{put_at-same, put_at-other}
-use Rattle.abt_laws.proofs.ChangedMaps.{EachOf}
-use Rattle.abt_laws.proofs.Places.{ticket-place, same-self}
+use Rattle.abt_laws.proofs.LineMoves.{tray_moves-places}
+use Rattle.abt_laws.proofs.Dues.{due-no_tray, due-no_next, due-unit, step-due}
+use Rattle.abt_laws.proofs.Maps.{put_at-same, put_at-other}
+use Rattle.abt_laws.proofs.Lists.{EachOf}
+use Rattle.abt_laws.proofs.Places.{same-self}
 use Rattle.abt_laws.proofs.Arrivals.{IsEmpty, IsBelow, IsBelow-empty, free-above, tray-free}
-use Rattle.abt_laws.proofs.Standing.{StandsIn, first-is}
-use Rattle.abt_laws.proofs.DueFacts.{due-no_tray, due-no_next, due-unit, step-position}
-use Rattle.abt_laws.proofs.KeepsSound.{Keeps, places, CarriesWell, AsksWell, MutexHolds, EventualHolds, FutureHolds}
+use Rattle.abt_laws.proofs.Standing.{StandsIn, first-stands}
+use Rattle.abt_laws.proofs.SoundChanges.{Keeps, places, CarriesWell, AsksWell, MutexHolds, EventualHolds, FutureHolds, placed-below}
 use Rattle.abt_laws.proofs.Barriers.{barriers-stay, barriers-wait, IsOffBarriers}
-use Rattle.abt_laws.proofs.FramesStay.{IsFrameless, frames-stay}
-use Rattle.abt_laws.proofs.Wakes.{IsWakeable, tray-well, tray-frameless, tray-each}
+use Rattle.abt_laws.proofs.SoundFrames.{IsFrameless, frames-stay}
+use Rattle.abt_laws.proofs.Wakes.{IsWakeable, tray-well, tray-frameless}
 
 -- what is known where stream s makes a step of the unit u in its hand
 pub record IsStepping (W : Parts) (Z : List OrderShape) (S : State) (s u : ℕ) : Type 0 where
@@ -45,7 +46,7 @@ pub record IsStepping (W : Parts) (Z : List OrderShape) (S : State) (s u : ℕ) 
 
 pub stepping : (W : Parts) (Z : List OrderShape) (S : State) (s u k : ℕ) (c : Code) → Sound W Z S → s < W.streams → May W Z S s (what.Step (unit_no u) k c) → IsStepping W Z S s u
 stepping W Z S s u k c sound l may =
-    let is : StandsIn W S (InHand s) u = first-is W S (InHand s) u may.1 in
+    let is : StandsIn W S (InHand s) u = first-stands W S (InHand s) u may.1 in
     let at : S.place u ≡ place.Hand (stream_no s) = is.at in
     let placed : IsPlaced W S u (place.Hand (stream_no s)) = subst (IsPlaced W S u) at (sound.placed u) in
     record {
@@ -56,11 +57,11 @@ stepping W Z S s u k c sound l may =
       rests = placed.1;
       no_tray = due-no_tray W S s sound.undeclared StepDue may.0 tt;
       no_next = due-no_next W S s sound.undeclared StepDue may.0 tt;
-      position = step-position W s (S.stream s).mark (body_at W u) (S.carried u).position (due-unit W S s sound.undeclared StepDue u may.0 tt may.1);
+      position = (step-due W s (S.stream s).mark (body_at W u) (S.carried u).position (due-unit W S s StepDue u may.0 tt may.1)).1;
     }
 
 -- what holds up a unit depends on the object alone
-pub HoldsUp-same : (W : Parts) (S T : State) (x : ℕ) (o : Option Thing) → T.mutex x ≡ S.mutex x → T.eventual x ≡ S.eventual x → T.future x ≡ S.future x → HoldsUp W S x o → HoldsUp W T x o
+HoldsUp-same : (W : Parts) (S T : State) (x : ℕ) (o : Option Thing) → T.mutex x ≡ S.mutex x → T.eventual x ≡ S.eventual x → T.future x ≡ S.future x → HoldsUp W S x o → HoldsUp W T x o
 HoldsUp-same W S T x None m e f h = h
 HoldsUp-same W S T x (Some thing.Mutex) m e f h = subst (λ (k : Mutex). IsSome k.owner) (sym m) h
 HoldsUp-same W S T x (Some (thing.Cond n)) m e f h = tt
@@ -70,8 +71,7 @@ HoldsUp-same W S T x (Some (thing.Barrier n)) m e f h = tt
 
 -- the tickets of those who wait at x are below the next
 pub waiting-below : (W : Parts) (Z : List OrderShape) (S : State) (x : ℕ) → Sound W Z S → IsBelow (Waiting x) (S.object_next x) S.place
-waiting-below W Z S x sound v t h =
-    let k : IsPlaced W S v (place.Blocked (spot.Object (object_no x)) t) = subst (IsPlaced W S v) (ticket-place (Waiting x) (S.place v) t h) (sound.placed v) in k.0
+waiting-below W Z S x sound = placed-below W Z S (Waiting x) (S.object_next x) sound (λ v t k. k.0)
 
 module _ (W : Parts) (Z : List OrderShape) (S : State) (s u : ℕ) (step : IsStepping W Z S s u) where
   pub in_no_frame : IsFrameless S u
@@ -81,7 +81,7 @@ module _ (W : Parts) (Z : List OrderShape) (S : State) (s u : ℕ) (step : IsSte
   may_wake = record { declared = step.declared; frameless = in_no_frame }
 
   -- u goes on with another accumulator, keys or output
-  pub carries : (c : Carried) → c.home ≡ (S.carried u).home → c.position ≡ (S.carried u).position → CarriesWell W u (advanced c)
+  carries : (c : Carried) → c.home ≡ (S.carried u).home → c.position ≡ (S.carried u).position → CarriesWell W u (advanced c)
   carries c home position =
       record {
         home = subst (λ p. p < length W.pools) (sym home) (step.sound.homes u);
@@ -90,42 +90,6 @@ module _ (W : Parts) (Z : List OrderShape) (S : State) (s u : ℕ) (step : IsSte
 
   pub carries_on : CarriesWell W u (advanced (S.carried u))
   carries_on = carries (S.carried u) refl refl
-
-  -- nobody moves
-  pub keeps-still : (cs : List (ℕ × Carried)) (ds : List (ℕ × Desk)) (ms : List (ℕ × Mutex)) (es : List (ℕ × Option ℕ)) (fs : List (ℕ × Future)) →
-      EachOf (λ (m : ℕ × Carried). CarriesWell W m.0 m.1) cs →
-      EachOf (λ (m : ℕ × Desk). AsksWell W S m.0 m.1) ds →
-      EachOf (λ (m : ℕ × Mutex). MutexHolds S.place m.0 m.1) ms →
-      EachOf (λ (m : ℕ × Option ℕ). EventualHolds S.place m.0 m.1) es →
-      EachOf (λ (m : ℕ × Future). FutureHolds W S S.place m.0 m.1) fs →
-      Keeps W Z S (record no_change { carried = cs; desks = ds; mutexes = ms; eventuals = es; futures = fs })
-  keeps-still cs ds ms es fs a b d e f =
-      let c : Change = record no_change { carried = cs; desks = ds; mutexes = ms; eventuals = es; futures = fs } in
-      record {
-        free = tt;
-        moves = tt;
-        barriers = step.sound.waiting;
-        carried = a;
-        desks = b;
-        pool_next = tt;
-        join_next = tt;
-        object_next = tt;
-        mutexes = d;
-        eventuals = e;
-        futures = f;
-        frames = frames-stay W Z S c step.sound tt tt;
-      }
-
-  -- u goes on, with this to carry
-  pub keeps-goes_with : (c : Carried) → c.home ≡ (S.carried u).home → c.position ≡ (S.carried u).position → Keeps W Z S (goes_with u c)
-  keeps-goes_with c home position = keeps-still ((u, advanced c) ∷ []) [] [] [] [] (carries c home position, tt) tt tt tt tt
-
-  pub keeps-goes_on : Keeps W Z S (goes_on S u)
-  keeps-goes_on = keeps-goes_with (S.carried u) refl refl
-
-  -- u asks something of v
-  pub keeps-asks : (v : ℕ) (d : Desk) → AsksWell W S v d → Keeps W Z S (asks S u v d)
-  keeps-asks v d well = keeps-still ((u, advanced (S.carried u)) ∷ []) ((v, d) ∷ []) [] [] [] (carries_on, tt) (well, tt) tt tt tt
 
   -- the tray has room for all
   pub tray-below : IsBelow (InTray s) (tray_end W S s) S.place
@@ -146,7 +110,7 @@ module _ (W : Parts) (Z : List OrderShape) (S : State) (s u : ℕ) (step : IsSte
       record {
         free = tray-free s (tray_end W S s) S.place us tray-below;
         moves = tray-well W S c s (tray_end W S s) us step.stream step.rests each;
-        barriers = barriers-stay W Z S step.sound c (tray-each (IsOffBarriers W) s (tray_end W S s) us (λ t. tt));
+        barriers = barriers-stay W Z S step.sound c (tray_moves-places (IsOffBarriers W) s (tray_end W S s) us (λ t. tt));
         carried = a;
         desks = b;
         pool_next = tt;
@@ -157,6 +121,27 @@ module _ (W : Parts) (Z : List OrderShape) (S : State) (s u : ℕ) (step : IsSte
         futures = f;
         frames = frames-stay W Z S c step.sound (tray-frameless W S s (tray_end W S s) us each) tt;
       }
+
+  -- nobody moves
+  pub keeps-still : (cs : List (ℕ × Carried)) (ds : List (ℕ × Desk)) (ms : List (ℕ × Mutex)) (es : List (ℕ × Option ℕ)) (fs : List (ℕ × Future)) →
+      EachOf (λ (m : ℕ × Carried). CarriesWell W m.0 m.1) cs →
+      EachOf (λ (m : ℕ × Desk). AsksWell W S m.0 m.1) ds →
+      EachOf (λ (m : ℕ × Mutex). MutexHolds S.place m.0 m.1) ms →
+      EachOf (λ (m : ℕ × Option ℕ). EventualHolds S.place m.0 m.1) es →
+      EachOf (λ (m : ℕ × Future). FutureHolds W S S.place m.0 m.1) fs →
+      Keeps W Z S (record no_change { carried = cs; desks = ds; mutexes = ms; eventuals = es; futures = fs })
+  keeps-still cs ds ms es fs a b d e f = keeps-wakes [] cs ds ms es fs tt a b d e f
+
+  -- u goes on, with this to carry
+  pub keeps-goes_with : (c : Carried) → c.home ≡ (S.carried u).home → c.position ≡ (S.carried u).position → Keeps W Z S (goes_with u c)
+  keeps-goes_with c home position = keeps-still ((u, advanced c) ∷ []) [] [] [] [] (carries c home position, tt) tt tt tt tt
+
+  pub keeps-goes_on : Keeps W Z S (goes_on S u)
+  keeps-goes_on = keeps-goes_with (S.carried u) refl refl
+
+  -- u asks something of v
+  pub keeps-asks : (v : ℕ) (d : Desk) → AsksWell W S v d → Keeps W Z S (asks S u v d)
+  keeps-asks v d well = keeps-still ((u, advanced (S.carried u)) ∷ []) ((v, d) ∷ []) [] [] [] (carries_on, tt) (well, tt) tt tt tt
 
   -- u goes on, and these units come to the tray
   pub keeps-wakes_only : (us : List ℕ) → EachOf (IsWakeable W S) us → Keeps W Z S (wakes W S s u us)

@@ -1,5 +1,5 @@
 -- The site of an operation on an object keeps those that wait at the object.
-use Rattle.std.proofs.Common.{◌≡◌, ℕ, Option, Some, sym, ◌∙◌, ap, subst}
+use Rattle.std.proofs.Common.{◌≡◌, ℕ, Option, Some, sym, ◌∙◌, ap}
 use Rattle.abt_machine.specs.declared.events.Site.TheVariants as site
 use Rattle.abt_machine.specs.declared.numbers.ObjectNo.{ObjectNo}
 use Rattle.abt_machine.specs.declared.operations.Thing.{Thing}
@@ -10,6 +10,7 @@ use Rattle.abt_machine.specs.Workloads.{IsCondition, thing_at, mutex_of, mutex_f
 use Rattle.abt_machine.specs.Sites.{monitor_of, thing_site, object_site}
 use Rattle.abt_machine.specs.Operations.{IsMutex, IsEventual, IsFuture, IsBarrier}
 use Rattle.abt_machine.specs.Valid.{IsValid}
+use Rattle.abt_laws.proofs.Declared.{mutex-declared}
 
 -- the waiters of an object are kept at the site that its kind names
 thing-waits : (W : Parts) (x : ℕ) (t : Option Thing) → thing_at W x ≡ t → Some (thing_site x t) ≡ Some (object_site W x)
@@ -27,14 +28,9 @@ future-waits W x h = thing-waits W x.0 (Some (thing.Future h.0 h.1)) h.2
 pub barrier-waits : (W : Parts) (x : ObjectNo) → IsBarrier W x.0 → Some (site.Barrier x) ≡ Some (object_site W x.0)
 barrier-waits W x h = thing-waits W x.0 (Some (thing.Barrier h.0)) h.1
 
-condition-mutex : (W : Parts) (x : ℕ) (h : IsCondition W x) → mutex_of W x ≡ h.0.0
-condition-mutex W x h = ap (mutex_from x) h.1
-
 pub condition-waits : (W : Parts) (x : ℕ) → IsCondition W x → Some (monitor_of W x) ≡ Some (object_site W x)
-condition-waits W x h = ap (λ m. Some (site.Monitor (object_no m))) (condition-mutex W x h) ∙ thing-waits W x (Some (thing.Cond h.0)) h.1
+condition-waits W x h = ap (λ m. Some (site.Monitor (object_no m))) (ap (mutex_from x) h.1) ∙ thing-waits W x (Some (thing.Cond h.0)) h.1
 
 -- the mutex of a condition is a mutex
 pub condition-mutex-waits : (W : Parts) (x : ℕ) → IsValid W → IsCondition W x → Some (monitor_of W x) ≡ Some (object_site W (mutex_of W x))
-condition-mutex-waits W x valid h =
-    let m : IsMutex W h.0.0 = (valid.objects x (thing.Cond h.0) h.1).1 in
-    mutex-waits W (object_no (mutex_of W x)) (subst (IsMutex W) (sym (condition-mutex W x h)) m)
+condition-mutex-waits W x valid h = mutex-waits W (object_no (mutex_of W x)) (mutex-declared W x valid h)

@@ -1,16 +1,16 @@
--- Steps that move units. Unit u, in the hand of stream s, makes the step.
+-- A step at which units move, none to a barrier. Unit u, in the hand of stream s, makes the step.
 use Rattle.std.proofs.Common.{ℕ, ◌≤◌, List}
 use Rattle.abt_machine.specs.declared.events.Place.{Place}
 use Rattle.abt_machine.specs.declared.operations.OrderShape.{OrderShape}
 use Rattle.abt_machine.specs.declared.workload.Parts.{Parts}
 use Rattle.abt_machine.specs.State.{State, Mutex}
 use Rattle.abt_machine.specs.Changes.{Change, goes_on}
-use Rattle.abt_laws.proofs.ChangedMaps.{EachOf}
+use Rattle.abt_laws.proofs.Lists.{EachOf}
 use Rattle.abt_laws.proofs.Arrivals.{AllFree}
-use Rattle.abt_laws.proofs.KeepsSound.{Keeps, places, MovesWell, MutexHolds}
+use Rattle.abt_laws.proofs.SoundChanges.{Keeps, places, MovesWell, MutexHolds}
 use Rattle.abt_laws.proofs.Barriers.{IsOffBarriers, barriers-stay}
-use Rattle.abt_laws.proofs.FramesStay.{IsFrameless, frames-stay}
-use Rattle.abt_laws.proofs.StepShapes.{IsStepping, carries_on}
+use Rattle.abt_laws.proofs.SoundFrames.{IsFrameless, frames-stay}
+use Rattle.abt_laws.proofs.SoundSteps.{IsStepping, carries_on}
 
 module _ (W : Parts) (Z : List OrderShape) (S : State) (s u : ℕ) (step : IsStepping W Z S s u) where
   -- u goes on, and units that are in no frame move, none to a barrier

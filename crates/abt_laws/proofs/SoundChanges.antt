@@ -13,13 +13,14 @@ use Rattle.abt_machine.specs.Maps.{put_all}
 use Rattle.abt_machine.specs.Workloads.{body_at, ops_of, main_of, thing_at, size_of, size_from}
 use Rattle.abt_machine.specs.Queues.{last}
 use Rattle.abt_machine.specs.State.{State, Carried, Desk, Mutex, Future}
-use Rattle.abt_machine.specs.Lines.{InHand, InNext, Joining, Waiting, ticket_in, standing}
+use Rattle.abt_machine.specs.Lines.{Line, InHand, InNext, Joining, Waiting, ticket_in, standing}
 use Rattle.abt_machine.specs.Changes.{Change, changed}
 use Rattle.abt_machine.specs.Codes.{is_alive}
 use Rattle.abt_machine.specs.Sound.{Sound, IsPlaced, IsAtRest, AllUnderWay, AllAtRest, HoldsUp, HasNotEnded, AsksNothing, frames_of}
-use Rattle.abt_laws.proofs.ChangedMaps.{EachOf, key-cases, put_all-other, put_all-value, put_all-kept, stays-above, EachOf-then, EachOf-key}
-use Rattle.abt_laws.proofs.Places.{same-self}
-use Rattle.abt_laws.proofs.Arrivals.{IsEmpty, AllFree, OneEach-moves}
+use Rattle.abt_laws.proofs.Lists.{EachOf, EachOf-then}
+use Rattle.abt_laws.proofs.Maps.{KeyOf-cases, put_all-other, put_all-value, put_all-kept, put_all-above, EachOf-key}
+use Rattle.abt_laws.proofs.Places.{same-self, place_in, ticket-place}
+use Rattle.abt_laws.proofs.Arrivals.{IsEmpty, AllFree, OneEach-moves, IsBelow}
 
 -- the places after a change
 abbrev pub places : State → Change → ℕ → Place
@@ -136,28 +137,28 @@ module _ (W : Parts) (Z : List OrderShape) (S : State) (c : Change) (sound : Sou
   -- a unit that does not move is placed as well as before
   stays : (u : ℕ) (pl : Place) → S.place u ≡ pl → places S c u ≡ pl → IsPlaced W S u pl → IsPlaced W (changed S c) u pl
   stays u place.Unborn was is h = asks_nothing u (λ b. let k : false ≡ true = sym (ap is_alive was) ∙ b in cc) h
-  stays u (place.Pool p t) was is h = (h.0, stays-above S.pool_next c.pool_next p.0 t keeps.pool_next h.1)
+  stays u (place.Pool p t) was is h = (h.0, put_all-above S.pool_next c.pool_next p.0 t keeps.pool_next h.1)
   stays u (place.Hand s) was is h = (h.0, keeps.frames.rest u s.0 (subst (OnStream s.0) (sym is) refl) h.1)
   stays u (place.Next s) was is h = (h.0, keeps.frames.rest u s.0 (subst (OnStream s.0) (sym is) refl) h.1)
   stays u (place.Tray s t) was is h = (h.0, keeps.frames.rest u s.0 (subst (OnStream s.0) (sym is) refl) h.1)
   stays u (place.Frame s d) was is h = keeps.frames.held u s.0 d was is
   stays u (place.Blocked spot.Suspended t) was is h = tt
   stays u (place.Blocked (spot.Join v) t) was is h =
-      (h.0, stays-above S.join_next c.join_next v.0 t keeps.join_next h.1, not_ended u t v.0 (ap (ticket_in (Joining v.0)) is ∙ same-self v.0 t) h.2)
+      (h.0, put_all-above S.join_next c.join_next v.0 t keeps.join_next h.1, not_ended u t v.0 (ap (ticket_in (Joining v.0)) is ∙ same-self v.0 t) h.2)
   stays u (place.Blocked (spot.Object x) t) was is h =
-      (stays-above S.object_next c.object_next x.0 t keeps.object_next h.0, held_up u t x.0 (thing_at W x.0) refl (ap (ticket_in (Waiting x.0)) is ∙ same-self x.0 t) h.1)
+      (put_all-above S.object_next c.object_next x.0 t keeps.object_next h.0, held_up u t x.0 (thing_at W x.0) refl (ap (ticket_in (Waiting x.0)) is ∙ same-self x.0 t) h.1)
   stays u (place.Ended e) was is h = asks_nothing u (λ b. let k : false ≡ true = sym (ap is_alive was) ∙ b in cc) h
 
   placed_after : (u : ℕ) → IsPlaced W (changed S c) u (places S c u)
   placed_after u =
-      elim (key-cases u c.moves) [
+      elim (KeyOf-cases u c.moves) [
         | inl moved ↦ put_all-value (λ n pl. IsPlaced W (changed S c) n pl) S.place c.moves u (EachOf-then _ _ c.moves (λ m k. k.placed) keeps.moves) moved
         | inr out ↦ (let e : places S c u ≡ S.place u = put_all-other S.place c.moves u out in subst (IsPlaced W (changed S c) u) (sym e) (stays u (S.place u) refl e (sound.placed u)))
       ]
 
   alone_after : (u : ℕ) → IsAlone (places S c) (places S c u) ⊎ (places S c u ≡ S.place u)
   alone_after u =
-      elim (key-cases u c.moves) [
+      elim (KeyOf-cases u c.moves) [
         | inl moved ↦ inl (put_all-value (λ n pl. IsAlone (places S c) pl) S.place c.moves u (EachOf-then _ _ c.moves (λ m k. k.alone) keeps.moves) moved)
         | inr out ↦ inr (put_all-other S.place c.moves u out)
       ]
@@ -189,3 +190,7 @@ module _ (W : Parts) (Z : List OrderShape) (S : State) (c : Change) (sound : Sou
     requests = λ u. put_all-kept (λ n (d : Desk). IfSome d.migrate (λ p. p < length W.pools)) S.desk c.desks u (EachOf-then _ _ c.desks (λ m k. k.request) keeps.desks) (sound.requests u);
     positions = λ u. put_all-kept (λ n (k : Carried). k.position ≤ length (ops_of (body_at W n))) S.carried c.carried u (EachOf-then _ _ c.carried (λ m k. k.position) keeps.carried) (sound.positions u);
   }
+
+-- the tickets in a line are below what its units' places say
+pub placed-below : (W : Parts) (Z : List OrderShape) (S : State) (l : Line) (n : ℕ) → Sound W Z S → ((v t : ℕ) → IsPlaced W S v (place_in l t) → t < n) → IsBelow l n S.place
+placed-below W Z S l n sound below v t h = below v t (subst (IsPlaced W S v) (ticket-place l (S.place v) t h) (sound.placed v))

@@ -25,18 +25,18 @@ use Rattle.abt_machine.specs.Operations.{IsDeclared}
 use Rattle.abt_machine.specs.Events.{May, after}
 use Rattle.abt_machine.specs.Sound.{Sound}
 use Rattle.abt_machine.specs.Valid.{IsValid}
-use Rattle.abt_laws.proofs.ValidFacts.{op-declared, first_pool-declared, mutex-declared}
-use Rattle.abt_laws.proofs.KeepsSound.{Keeps, sound-after}
-use Rattle.abt_laws.proofs.Wakes.{IsWakeable, wakeable-line, wakeable-first}
-use Rattle.abt_laws.proofs.CodeFacts.{passes-test, passes-second, frameless-by}
-use Rattle.abt_laws.proofs.StepShapes.{IsStepping, stepping, may_wake, keeps-still, keeps-goes_with, keeps-wakes_only}
-use Rattle.abt_laws.proofs.UnitSteps.{keeps-suspends, keeps-joins, keeps-begins, keeps-yields_to}
-use Rattle.abt_laws.proofs.DeskSteps.{keeps-cancels, keeps-migrates, keeps-allows}
-use Rattle.abt_laws.proofs.MutexSteps.{keeps-takes, keeps-stores, keeps-locks, keeps-hands_over}
-use Rattle.abt_laws.proofs.ConditionSteps.{keeps-releases, keeps-passes}
-use Rattle.abt_laws.proofs.EventualSteps.{keeps-sets, keeps-unsets, keeps-awaits_eventual}
-use Rattle.abt_laws.proofs.FutureSteps.{keeps-awaits_future, keeps-fills, keeps-empties}
-use Rattle.abt_laws.proofs.BarrierSteps.{keeps-arrives}
+use Rattle.abt_laws.proofs.Codes.{unless-second, unless-ok}
+use Rattle.abt_laws.proofs.Declared.{op-declared, first_pool-declared, mutex-declared}
+use Rattle.abt_laws.proofs.SoundChanges.{Keeps, sound-after}
+use Rattle.abt_laws.proofs.Wakes.{IsWakeable, wakeable-line, wakeable-first, frameless-by}
+use Rattle.abt_laws.proofs.SoundSteps.{IsStepping, stepping, may_wake, keeps-still, keeps-goes_with, keeps-wakes_only}
+use Rattle.abt_laws.proofs.SoundUnits.{keeps-suspends, keeps-joins, keeps-begins, keeps-yields_to}
+use Rattle.abt_laws.proofs.SoundDesks.{keeps-cancels, keeps-migrates, keeps-allows}
+use Rattle.abt_laws.proofs.SoundMutexes.{keeps-takes, keeps-stores, keeps-locks, keeps-hands_over}
+use Rattle.abt_laws.proofs.SoundConditions.{keeps-releases, keeps-passes}
+use Rattle.abt_laws.proofs.SoundEventuals.{keeps-sets, keeps-unsets, keeps-awaits_eventual}
+use Rattle.abt_laws.proofs.SoundFutures.{keeps-awaits_future, keeps-fills, keeps-empties}
+use Rattle.abt_laws.proofs.SoundBarriers.{keeps-arrives}
 
 module _ (W : Parts) (Z : List OrderShape) (S : State) (s u : ℕ) (valid : IsValid W) (step : IsStepping W Z S s u) where
   -- u goes on, with this to carry
@@ -56,22 +56,22 @@ module _ (W : Parts) (Z : List OrderShape) (S : State) (s u : ℕ) (valid : IsVa
   op-keeps (op.KeySet k) d e = on-with (with_key k (S.carried u)) refl refl
   op-keeps (op.KeyGet k) d e = on-with (from_key k (S.carried u)) refl refl
   op-keeps op.Yield d e = keeps-wakes_only W Z S s u step (u ∷ []) (may_wake W Z S s u step, tt)
-  op-keeps (op.YieldTo v p) d e = keeps-yields_to W Z S s u step v.0 p.0 d.0 (passes-second (may_take W s p.0) (is_in_pool p.0 (S.place v.0)) code.PoolAccess code.Absent _ tt tt e)
+  op-keeps (op.YieldTo v p) d e = keeps-yields_to W Z S s u step v.0 p.0 d.0 (unless-second (may_take W s p.0) (is_in_pool p.0 (S.place v.0)) code.PoolAccess code.Absent _ tt tt e)
   op-keeps op.Suspend d e = keeps-suspends W Z S s u step
-  op-keeps (op.Resume v) d e = keeps-wakes_only W Z S s u step (v.0 ∷ []) (wakes-by v.0 is_suspended (λ r t. refl) d (passes-test (is_suspended (S.place v.0)) code.UnitState code.Ok tt e), tt)
-  op-keeps (op.Create v p) d e = keeps-begins W Z S s u step v.0 p.0 (wakes-by v.0 is_unborn (λ r t. refl) d.0 (passes-second (may_put W s p.0) (is_unborn (S.place v.0)) code.PoolAccess code.Exists _ tt tt e)) d.1
+  op-keeps (op.Resume v) d e = keeps-wakes_only W Z S s u step (v.0 ∷ []) (wakes-by v.0 is_suspended (λ r t. refl) d (unless-ok (is_suspended (S.place v.0)) code.UnitState code.Ok tt e).0, tt)
+  op-keeps (op.Create v p) d e = keeps-begins W Z S s u step v.0 p.0 (wakes-by v.0 is_unborn (λ r t. refl) d.0 (unless-second (may_put W s p.0) (is_unborn (S.place v.0)) code.PoolAccess code.Exists _ tt tt e)) d.1
   op-keeps (op.Join v) d e = keeps-joins W Z S s u step v.0 (S.place v.0) d refl
-  op-keeps (op.Cancel v) d e = keeps-cancels W Z S s u step v.0 (passes-test (is_alive (S.place v.0)) code.UnitState code.Ok tt e)
-  op-keeps (op.Migrate v p) d e = keeps-migrates W Z S s u step v.0 p.0 (passes-second (may_put W s p.0) (is_alive (S.place v.0)) code.PoolAccess code.UnitState _ tt tt e) d.1
+  op-keeps (op.Cancel v) d e = keeps-cancels W Z S s u step v.0 (unless-ok (is_alive (S.place v.0)) code.UnitState code.Ok tt e).0
+  op-keeps (op.Migrate v p) d e = keeps-migrates W Z S s u step v.0 p.0 (unless-second (may_put W s p.0) (is_alive (S.place v.0)) code.PoolAccess code.UnitState _ tt tt e) d.1
   op-keeps (op.MigrateTo v r) d e =
-      keeps-migrates W Z S s u step v.0 (first_pool W r.0) (passes-second (may_put W s (first_pool W r.0)) (is_alive (S.place v.0)) code.PoolAccess code.UnitState _ tt tt e) (first_pool-declared W r.0 valid d.1)
+      keeps-migrates W Z S s u step v.0 (first_pool W r.0) (unless-second (may_put W s (first_pool W r.0)) (is_alive (S.place v.0)) code.PoolAccess code.UnitState _ tt tt e) (first_pool-declared W r.0 valid d.1)
   op-keeps (op.Migratable v b) d e = keeps-allows W Z S s u step v.0 b
-  op-keeps (op.Revive v p) d e = keeps-begins W Z S s u step v.0 p.0 (wakes-by v.0 is_ended (λ r t. refl) d.0 (passes-second (may_put W s p.0) (is_ended (S.place v.0)) code.PoolAccess code.UnitState _ tt tt e)) d.1
+  op-keeps (op.Revive v p) d e = keeps-begins W Z S s u step v.0 p.0 (wakes-by v.0 is_ended (λ r t. refl) d.0 (unless-second (may_put W s p.0) (is_ended (S.place v.0)) code.PoolAccess code.UnitState _ tt tt e)) d.1
   op-keeps (op.Lock x) d e = keeps-locks W Z S s u step x.0 (S.mutex x.0).owner d refl
   op-keeps (op.TryLock x) d e = keeps-takes W Z S s u step x.0
   op-keeps (op.Unlock x) d e = keeps-hands_over W Z S s u step x.0
   op-keeps (op.Load x) d e = on-with (with_acc (S.mutex x.0).number (S.carried u)) refl refl
-  op-keeps (op.Store x) d e = keeps-stores W Z S s u step x.0 (S.carried u).acc (passes-test (owned_by S u x.0) code.NotOwner code.Ok tt e)
+  op-keeps (op.Store x) d e = keeps-stores W Z S s u step x.0 (S.carried u).acc (unless-ok (owned_by S u x.0) code.NotOwner code.Ok tt e).0
   op-keeps (op.CondWait x) d e = keeps-releases W Z S s u step x.0 (mutex_of W x.0) d (mutex-declared W x.0 valid d)
   op-keeps (op.Signal x) d e = keeps-passes W Z S s u step (mutex_of W x.0) (S.mutex (mutex_of W x.0)).owner _ (mutex-declared W x.0 valid d) refl (wakeable-first W S (Waiting x.0) tt)
   op-keeps (op.Broadcast x) d e = keeps-passes W Z S s u step (mutex_of W x.0) (S.mutex (mutex_of W x.0)).owner _ (mutex-declared W x.0 valid d) refl (wakeable-line W S (Waiting x.0) tt)
@@ -81,7 +81,7 @@ module _ (W : Parts) (Z : List OrderShape) (S : State) (s u : ℕ) (valid : IsVa
   op-keeps (op.EvTest x) d e = on-with (with_acc (truth (is_some (S.eventual x.0))) (S.carried u)) refl refl
   op-keeps (op.FuWait x) d e = keeps-awaits_future W Z S s u step x.0 d
   op-keeps (op.FuSet x) d e =
-      keeps-fills W Z S s u step x.0 (filled_by (combine_of W x.0) (S.future x.0) (S.carried u).acc) (passes-test (not (is_full W S x.0)) code.FutureFull code.Ok tt e) refl
+      keeps-fills W Z S s u step x.0 (filled_by (combine_of W x.0) (S.future x.0) (S.carried u).acc) (unless-ok (not (is_full W S x.0)) code.FutureFull code.Ok tt e).0 refl
   op-keeps (op.FuReset x) d e = keeps-empties W Z S s u step x.0
   op-keeps (op.FuTest x) d e = on-with (with_acc (truth (is_full W S x.0)) (S.carried u)) refl refl
   op-keeps (op.BarWait x) d e = keeps-arrives W Z S s u step x.0 d

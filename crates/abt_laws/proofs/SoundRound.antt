@@ -12,20 +12,20 @@ use Rattle.abt_machine.specs.State.{State, Stream, Frame}
 use Rattle.abt_machine.specs.Lines.{InPool, InTray, InHand, InNext, ticket_in}
 use Rattle.abt_machine.specs.Next.{RoundDue}
 use Rattle.abt_machine.specs.Rounds.{OrdersStored}
-use Rattle.abt_machine.specs.Frames.{frame_at, frame_missed, round_taken}
+use Rattle.abt_machine.specs.Frames.{frame_at, frame_missed, round_missed, round_taken}
 use Rattle.abt_machine.specs.Changes.{Change}
 use Rattle.abt_machine.specs.Events.{May, change}
 use Rattle.abt_machine.specs.Sound.{Sound, IsAtRest, AllAtRest}
 use Rattle.abt_machine.specs.Valid.{IsValid}
-use Rattle.abt_laws.proofs.Queues.{put_at-same}
+use Rattle.abt_laws.proofs.SoundEvents.{keeps-event}
+use Rattle.abt_laws.proofs.Rounds.{next-under_way, missed-under_way}
+use Rattle.abt_laws.proofs.Dues.{due-no_tray, due-no_next, due-no_hand}
+use Rattle.abt_laws.proofs.Maps.{put_at-same}
 use Rattle.abt_laws.proofs.Places.{same-self}
 use Rattle.abt_laws.proofs.Arrivals.{IsEmpty, free-empty}
-use Rattle.abt_laws.proofs.Standing.{StandsIn, front-is}
-use Rattle.abt_laws.proofs.DueFacts.{due-no_tray, due-no_next, due-no_hand}
-use Rattle.abt_laws.proofs.KeepsSound.{Keeps, OnStream}
-use Rattle.abt_laws.proofs.FramesStay.{frames-stay}
-use Rattle.abt_laws.proofs.Barriers.{barriers-stay}
-use Rattle.abt_laws.proofs.Orders.{next-under_way, missed-under_way}
+use Rattle.abt_laws.proofs.Standing.{StandsIn, front-stands}
+use Rattle.abt_laws.proofs.SoundChanges.{Keeps, OnStream}
+use Rattle.abt_laws.proofs.SoundFrames.{frames-stay}
 use Rattle.abt_laws.proofs.Wakes.{frameless-in, empty-still}
 
 -- a frame at the beginning of a round is at rest on those below it
@@ -50,31 +50,21 @@ pub keeps-take : (W : Parts) (Z : List OrderShape) (S : State) (s p u : ℕ) →
 keeps-take W Z S s p u valid stored sound l may =
     let c : Change = change W S s (what.Take (pool_no p) (unit_no u)) in
     let own : Stream = S.stream s in
-    let is : StandsIn W S (InPool p) u = front-is W S s p u may.1 in
+    let is : StandsIn W S (InPool p) u = front-stands W S s p u may.1 in
     let rests : IsAtRest (round_taken own) = fresh-rest own.top.sched (suc own.top.round) own.below (sound.below_rest s l) in
-    record {
-      free = (free-empty S.place u (place.Next (stream_no s)) (InNext s) 0 (same-self s 0) (due-no_next W S s sound.undeclared RoundDue may.0 tt), tt);
-      moves = (
-        record {
-          declared = is.declared;
-          placed = (l, subst IsAtRest (sym (put_at-same S.stream s (round_taken own))) rests);
-          alone = empty-still S c (InHand s) ((λ e. cc), tt) (due-no_hand W S s sound.undeclared RoundDue may.0 tt);
-          joined = inl tt;
-        },
-        tt,
-      );
-      barriers = barriers-stay W Z S sound c (tt, tt);
-      carried = tt;
-      desks = tt;
-      pool_next = tt;
-      join_next = tt;
-      object_next = tt;
-      mutexes = tt;
-      eventuals = tt;
-      futures = tt;
-      frames = frames-stay W Z S c sound (frameless-in S (InPool p) u is.ticket tt is.at, tt)
-          (record { below = refl; sched = refl; rest = λ v at h. rests; under_way = λ k. next-under_way W Z own.top (suc own.top.round) false valid stored (sound.under_way s l).0 }, tt);
-    }
+    keeps-event W Z S sound ((u, place.Next (stream_no s)) ∷ []) [] [] [] ((s, round_taken own) ∷ [])
+    (free-empty S.place u (place.Next (stream_no s)) (InNext s) 0 (same-self s 0) (due-no_next W S s sound.undeclared RoundDue may.0 tt), tt) (
+      record {
+        declared = is.declared;
+        placed = (l, subst IsAtRest (sym (put_at-same S.stream s (round_taken own))) rests);
+        alone = empty-still S c (InHand s) ((λ e. cc), tt) (due-no_hand W S s sound.undeclared RoundDue may.0 tt);
+        joined = inl tt;
+      },
+      tt,
+    )
+    (tt, tt) tt tt tt
+    (frames-stay W Z S c sound (frameless-in S (InPool p) u is.ticket tt is.at, tt)
+    (record { below = refl; sched = refl; rest = λ v at h. rests; under_way = λ k. next-under_way W Z own.top (suc own.top.round) false valid stored (sound.under_way s l).0 }, tt))
 
 missed-sched : (W : Parts) (f : Frame) (p : ℕ) → (frame_missed W f p).sched ≡ f.sched
 missed-sched W f p =
@@ -86,18 +76,9 @@ keeps-miss W Z S s p valid stored sound l may =
     let own : Stream = S.stream s in
     let idle : (u : ℕ) → OnStream s (S.place u) → ⊥ =
     off-stream S s (due-no_tray W S s sound.undeclared RoundDue may.0 tt) (due-no_next W S s sound.undeclared RoundDue may.0 tt) (due-no_hand W S s sound.undeclared RoundDue may.0 tt) in
-    record {
-      free = tt;
-      moves = tt;
-      barriers = barriers-stay W Z S sound c tt;
-      carried = tt;
-      desks = tt;
-      pool_next = tt;
-      join_next = tt;
-      object_next = tt;
-      mutexes = tt;
-      eventuals = tt;
-      futures = tt;
-      frames = frames-stay W Z S c sound tt
-          (record { below = refl; sched = missed-sched W own.top p; rest = λ v at h. absurd (idle v at); under_way = λ k. missed-under_way W Z own.top p valid stored (sound.under_way s l).0 may.2 }, tt);
-    }
+    keeps-event W Z S sound [] [] [] [] ((s, round_missed W p own) ∷ [])
+    tt
+    tt
+    tt tt tt tt
+    (frames-stay W Z S c sound tt
+    (record { below = refl; sched = missed-sched W own.top p; rest = λ v at h. absurd (idle v at); under_way = λ k. missed-under_way W Z own.top p valid stored (sound.under_way s l).0 may.2 }, tt))

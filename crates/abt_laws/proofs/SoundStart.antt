@@ -9,16 +9,16 @@ use Rattle.abt_machine.specs.Workloads.{start_of, main_of}
 use Rattle.abt_machine.specs.Sites.{home_from}
 use Rattle.abt_machine.specs.Fronts.{is_some_of}
 use Rattle.abt_machine.specs.Lines.{Line, InPool, InHand, Waiting, ticket_in}
-use Rattle.abt_machine.specs.Rounds.{OrdersStored}
 use Rattle.abt_machine.specs.Start.{start, start_place, count_at}
-use Rattle.abt_machine.specs.Sound.{Sound, IsPlaced}
+use Rattle.abt_machine.specs.Sound.{IsPlaced}
 use Rattle.abt_machine.specs.Valid.{IsValid}
-use Rattle.abt_laws.proofs.Queues.{none≢some}
+use Rattle.abt_laws.specs.Laws.{StartIsSound}
+use Rattle.abt_laws.proofs.Rounds.{fresh-under_way}
+use Rattle.abt_laws.proofs.Options.{none≢some}
 use Rattle.abt_laws.proofs.Places.{line_of-ticket, same-self}
 use Rattle.abt_laws.proofs.Arrivals.{OneEach, IsEmpty}
 use Rattle.abt_laws.proofs.Standing.{empty-standing}
-use Rattle.abt_laws.proofs.Orders.{fresh-under_way}
-use Rattle.abt_laws.proofs.ValidFacts.{undeclared-start, start-declared, barrier-some}
+use Rattle.abt_laws.proofs.Declared.{undeclared-start, start-declared, barrier-some}
 
 count-suc : (W : Parts) (p n : ℕ) → start_of W n ≡ Some p → count_at W p (suc n) ≡ suc (count_at W p n)
 count-suc W p n e =
@@ -76,14 +76,14 @@ start-one_each W l u v t h g =
 start-empty : (W : Parts) (l : Line) → ((p : ℕ) → l ≡ InPool p → ⊥) → IsEmpty l (start W).place
 start-empty W l other v t h = let a : StartsIn W v l t = starts-in W v l t h in other a.pool a.line
 
-start-declared_below : (W : Parts) (u p : ℕ) → start_of W u ≡ Some p → u < length W.units
-start-declared_below W u p e = elim (cases_lt u (length W.units)) [ inl l ↦ l | inr l ↦ absurd (none≢some (sym (undeclared-start W u l) ∙ e)) ]
+starts-declared : (W : Parts) (u p : ℕ) → start_of W u ≡ Some p → u < length W.units
+starts-declared W u p e = elim (cases_lt u (length W.units)) [ inl l ↦ l | inr l ↦ absurd (none≢some (sym (undeclared-start W u l) ∙ e)) ]
 
 start-placed : (W : Parts) (u : ℕ) → IsValid W → IsPlaced W (start W) u (start_place W u (start_of W u))
 start-placed W u valid = by (start_of W u) refl where
   by : (o : Option ℕ) → start_of W u ≡ o → IsPlaced W (start W) u (start_place W u o)
   by None e = (refl, refl)
-  by (Some p) e = (start-declared W u p valid e, count-below W p u (length W.units) e (start-declared_below W u p e))
+  by (Some p) e = (start-declared W u p valid e, count-below W p u (length W.units) e (starts-declared W u p e))
 
 start-home : (W : Parts) (u : ℕ) → IsValid W → home_from (start_of W u) < length W.pools
 start-home W u valid = by (start_of W u) refl where
@@ -91,8 +91,8 @@ start-home W u valid = by (start_of W u) refl where
   by None e = valid.some_pool
   by (Some p) e = start-declared W u p valid e
 
-pub sound-start : (W : Parts) (Z : List OrderShape) → IsValid W → OrdersStored W Z → Sound W Z (start W)
-sound-start W Z valid stored = record {
+pub start-is-sound : (W : Parts) (Z : List OrderShape) → StartIsSound W Z
+start-is-sound W Z valid stored = record {
   one_each = start-one_each W;
   hand_or_next = λ s u v h g. start-empty W (InHand s) (λ p e. cc) u 0 (ap (ticket_in (InHand s)) h ∙ same-self s 0);
   undeclared = λ u l. ap (start_place W u) (undeclared-start W u l);

@@ -1,6 +1,6 @@
 -- Steps at a future keep a sound state sound. Unit u, in the hand of stream s, makes the step.
 use Rattle.std.proofs.Common.{◌≡◌, ℕ, suc, ◌<◌, ◌≤◌, ◌==◌, true, false, not, List, [], ◌∷◌, Some, None, sym, ◌∙◌, ap, subst, arith, inl, inr}
-use Rattle.std.proofs.lemmas.Bool.{cond_both, eqb-false}
+use Rattle.std.proofs.lemmas.Bool.{cond_both, eqb-false, not-true}
 use Rattle.abt_machine.specs.declared.operations.OrderShape.{OrderShape}
 use Rattle.abt_machine.specs.declared.operations.Thing.TheVariants as thing
 use Rattle.abt_machine.specs.declared.workload.Parts.{Parts}
@@ -12,11 +12,10 @@ use Rattle.abt_machine.specs.Codes.{is_full}
 use Rattle.abt_machine.specs.Changes.{goes_on}
 use Rattle.abt_machine.specs.Steps.{awaits, gives_all, ready_value, fills}
 use Rattle.abt_machine.specs.Sound.{HoldsUp}
-use Rattle.abt_laws.proofs.Queues.{none≢some}
-use Rattle.abt_laws.proofs.KeepsSound.{Keeps, FutureHolds}
-use Rattle.abt_laws.proofs.CodeFacts.{not-so}
-use Rattle.abt_laws.proofs.StepShapes.{IsStepping, carries_on, keeps-still}
-use Rattle.abt_laws.proofs.EventualSteps.{all-leave, keeps-gives_all, keeps-awaits}
+use Rattle.abt_laws.proofs.Options.{none≢some}
+use Rattle.abt_laws.proofs.SoundChanges.{Keeps, FutureHolds}
+use Rattle.abt_laws.proofs.SoundSteps.{IsStepping, carries_on, keeps-still}
+use Rattle.abt_laws.proofs.SoundEventuals.{all-leave, keeps-gives_all, keeps-awaits}
 
 module _ (W : Parts) (Z : List OrderShape) (S : State) (s u : ℕ) (step : IsStepping W Z S s u) where
   -- a future that is not full has a compartment left
@@ -39,7 +38,7 @@ module _ (W : Parts) (Z : List OrderShape) (S : State) (s u : ℕ) (step : IsSte
   -- one more compartment of x is filled
   pub keeps-fills : (x : ℕ) (f : Future) → not (is_full W S x) ≡ true → f.filled ≡ suc (S.future x).filled → Keeps W Z S (fills W S s u x f)
   keeps-fills x f unfilled more =
-      let room : (S.future x).filled < size_of W x = has-room x (not-so (is_full W S x) unfilled) in
+      let room : (S.future x).filled < size_of W x = has-room x (not-true (is_full W S x) unfilled) in
       cond_both (f.filled == size_of W x) (gives_all W S s u x f.value) (goes_on S u) (λ d. Keeps W Z S (record d { futures = (x, f) ∷ [] }))
       (λ full. keeps-gives_all W Z S s u step x f.value [] ((x, f) ∷ []) tt ((omega arith, inr (all-leave W Z S s u step x)), tt))
       (λ part. let other : f.filled ≡ size_of W x → ⊥ = eqb-false f.filled (size_of W x) part in keeps-becomes x f (omega arith, inl (λ l. omega arith)))

@@ -10,9 +10,9 @@ use Rattle.abt_machine.specs.Lines.{Waiting, standing}
 use Rattle.abt_machine.specs.Operations.{IsBarrier}
 use Rattle.abt_machine.specs.Steps.{wakes, waits, arrives}
 use Rattle.abt_machine.specs.Sound.{HoldsUp}
-use Rattle.abt_laws.proofs.KeepsSound.{Keeps}
+use Rattle.abt_laws.proofs.SoundChanges.{Keeps}
 use Rattle.abt_laws.proofs.Wakes.{wakeable-line}
-use Rattle.abt_laws.proofs.StepShapes.{IsStepping, keeps-wakes_only, keeps-waits}
+use Rattle.abt_laws.proofs.SoundSteps.{IsStepping, keeps-wakes_only, keeps-waits}
 
 module _ (W : Parts) (Z : List OrderShape) (S : State) (s u : ℕ) (step : IsStepping W Z S s u) where
   -- who is not the last party leaves room for it

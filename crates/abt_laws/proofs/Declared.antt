@@ -12,7 +12,7 @@ use Rattle.abt_machine.specs.Operations.{IsDeclared, IsMutex}
 use Rattle.abt_machine.specs.Queues.{first}
 use Rattle.abt_machine.specs.Sites.{home_from, first_pool}
 use Rattle.abt_machine.specs.Valid.{IsValid, IsScheduler, IsBody, IsThing}
-use Rattle.abt_laws.proofs.Queues.{none≢some}
+use Rattle.abt_laws.proofs.Options.{none≢some}
 
 -- Units.
 

@@ -1,5 +1,5 @@
 -- Every event of every stream keeps a sound state sound, and so every state of a run is sound.
-use Rattle.std.proofs.Common.{◌≡◌, ◌<◌, ℕ, zero, suc, List, [], ◌∷◌, refl, sym, subst}
+use Rattle.std.proofs.Common.{◌<◌, ℕ, zero, suc, List, [], ◌∷◌, sym, subst}
 use Rattle.std.specs.Prelude.{take}
 use Rattle.abt_machine.specs.declared.events.Event.{Event}
 use Rattle.abt_machine.specs.declared.events.What.{What}
@@ -13,18 +13,18 @@ use Rattle.abt_machine.specs.Start.{start}
 use Rattle.abt_machine.specs.Events.{May, after, change}
 use Rattle.abt_machine.specs.Runs.{RunFrom, state_after}
 use Rattle.abt_machine.specs.Sound.{Sound}
-use Rattle.abt_laws.specs.Laws.{StartIsSound, EventsKeepSound, RunsAreSound}
-use Rattle.abt_laws.proofs.KeepsSound.{sound-after}
-use Rattle.abt_laws.proofs.StartSound.{sound-start}
-use Rattle.abt_laws.proofs.PutSound.{keeps-put}
-use Rattle.abt_laws.proofs.LookSound.{keeps-look}
-use Rattle.abt_laws.proofs.EndSound.{keeps-end}
-use Rattle.abt_laws.proofs.RoundSound.{keeps-take, keeps-miss}
-use Rattle.abt_laws.proofs.StackSound.{keeps-enter, keeps-leave}
-use Rattle.abt_laws.proofs.StepKeeps.{step-keeps}
+use Rattle.abt_laws.specs.Laws.{EventsKeepSound, RunsAreSound}
+use Rattle.abt_laws.proofs.SoundChanges.{sound-after}
+use Rattle.abt_laws.proofs.SoundStart.{start-is-sound}
+use Rattle.abt_laws.proofs.SoundPut.{keeps-put}
+use Rattle.abt_laws.proofs.SoundLook.{keeps-look}
+use Rattle.abt_laws.proofs.SoundEnd.{keeps-end}
+use Rattle.abt_laws.proofs.SoundRound.{keeps-take, keeps-miss}
+use Rattle.abt_laws.proofs.SoundStack.{keeps-enter, keeps-leave}
+use Rattle.abt_laws.proofs.SoundOps.{step-keeps}
 
 -- by the kind of event
-pub event-keeps : (W : Parts) (Z : List OrderShape) → IsValid W → OrdersStored W Z → (S : State) (s : ℕ) (w : What) → Sound W Z S → s < W.streams → May W Z S s w → Sound W Z (after W S s w)
+event-keeps : (W : Parts) (Z : List OrderShape) → IsValid W → OrdersStored W Z → (S : State) (s : ℕ) (w : What) → Sound W Z S → s < W.streams → May W Z S s w → Sound W Z (after W S s w)
 event-keeps W Z valid stored S s (what.Miss p) sound below may = sound-after W Z S (change W S s (what.Miss p)) sound (keeps-miss W Z S s p.0 valid stored sound below may)
 event-keeps W Z valid stored S s (what.Take p u) sound below may = sound-after W Z S (change W S s (what.Take p u)) sound (keeps-take W Z S s p.0 u.0 valid stored sound below may)
 event-keeps W Z valid stored S s (what.Look u) sound below may = sound-after W Z S (change W S s (what.Look u)) sound (keeps-look W Z S s u.0 sound may)
@@ -33,9 +33,6 @@ event-keeps W Z valid stored S s (what.Put u p) sound below may = sound-after W 
 event-keeps W Z valid stored S s (what.End u c) sound below may = sound-after W Z S (change W S s (what.End u c)) sound (keeps-end W Z S s u.0 c sound may)
 event-keeps W Z valid stored S s (what.Enter u) sound below may = sound-after W Z S (change W S s (what.Enter u)) sound (keeps-enter W Z S s u.0 valid stored sound below may)
 event-keeps W Z valid stored S s (what.Leave u) sound below may = sound-after W Z S (change W S s (what.Leave u)) sound (keeps-leave W Z S s u.0 sound below may)
-
-pub start-is-sound : (W : Parts) (Z : List OrderShape) → StartIsSound W Z
-start-is-sound W Z valid stored = sound-start W Z valid stored
 
 pub events-keep-sound : (W : Parts) (Z : List OrderShape) → EventsKeepSound W Z
 events-keep-sound W Z valid stored S T e sound came = subst (Sound W Z) (sym came.2) (event-keeps W Z valid stored S e.stream.0 e.what sound came.0 came.1)
@@ -47,4 +44,4 @@ states-sound W Z valid stored S (e ∷ es) (suc i) sound run =
     states-sound W Z valid stored (after W S e.stream.0 e.what) es i (event-keeps W Z valid stored S e.stream.0 e.what sound run.0 run.1) run.2
 
 pub runs-are-sound : (W : Parts) (Z : List OrderShape) → RunsAreSound W Z
-runs-are-sound W Z valid stored J i run = states-sound W Z valid stored (start W) J i (sound-start W Z valid stored) run
+runs-are-sound W Z valid stored J i run = states-sound W Z valid stored (start W) J i (start-is-sound W Z valid stored) run

@@ -5,8 +5,8 @@ use Rattle.abt_machine.specs.declared.workload.Parts.{Parts}
 use Rattle.abt_machine.specs.State.{State}
 use Rattle.abt_machine.specs.Codes.{is_alive}
 use Rattle.abt_machine.specs.Steps.{asks}
-use Rattle.abt_laws.proofs.KeepsSound.{Keeps}
-use Rattle.abt_laws.proofs.StepShapes.{IsStepping, keeps-asks}
+use Rattle.abt_laws.proofs.SoundChanges.{Keeps}
+use Rattle.abt_laws.proofs.SoundSteps.{IsStepping, keeps-asks}
 
 module _ (W : Parts) (Z : List OrderShape) (S : State) (s u : ℕ) (step : IsStepping W Z S s u) where
   pub keeps-cancels : (v : ℕ) → is_alive (S.place v) ≡ true → Keeps W Z S (asks S u v (record (S.desk v) { cancel = true }))

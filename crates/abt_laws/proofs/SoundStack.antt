@@ -22,17 +22,16 @@ use Rattle.abt_machine.specs.Changes.{Change, changed}
 use Rattle.abt_machine.specs.Events.{May, change}
 use Rattle.abt_machine.specs.Sound.{Sound, IsPlaced, IsAtRest, AllUnderWay, AllAtRest, RunsSched, frames_of, stacked_frame}
 use Rattle.abt_machine.specs.Valid.{IsValid}
-use Rattle.abt_laws.proofs.Queues.{put_at-same, put_at-other}
-use Rattle.abt_laws.proofs.ChangedMaps.{put_at-cases}
-use Rattle.abt_laws.proofs.Places.{ticket-place, same-self, stream-is}
+use Rattle.abt_laws.proofs.SoundEvents.{keeps-event}
+use Rattle.abt_laws.proofs.Rounds.{fresh-under_way}
+use Rattle.abt_laws.proofs.Dues.{due-no_next, due-no_hand, due-unit, enter-due, leave-below}
+use Rattle.abt_laws.proofs.Maps.{put_at-same, put_at-other, put_at-cases}
+use Rattle.abt_laws.proofs.Places.{same-self, stream-is}
 use Rattle.abt_laws.proofs.Arrivals.{IsBelow, free-above, free-empty}
-use Rattle.abt_laws.proofs.Standing.{StandsIn, first-is, is-declared}
-use Rattle.abt_laws.proofs.DueFacts.{due-no_next, due-no_hand, due-unit, enter-sched, leave-below}
-use Rattle.abt_laws.proofs.KeepsSound.{Keeps, FramesKeep, OnStream}
-use Rattle.abt_laws.proofs.Barriers.{barriers-stay}
-use Rattle.abt_laws.proofs.Orders.{fresh-under_way}
-use Rattle.abt_laws.proofs.RoundSound.{fresh-rest}
-use Rattle.abt_laws.proofs.ValidFacts.{sched-declared}
+use Rattle.abt_laws.proofs.Standing.{StandsIn, first-stands, is-declared}
+use Rattle.abt_laws.proofs.SoundChanges.{Keeps, FramesKeep, OnStream, placed-below}
+use Rattle.abt_laws.proofs.SoundRound.{fresh-rest}
+use Rattle.abt_laws.proofs.Declared.{sched-declared}
 use Rattle.abt_laws.proofs.Wakes.{empty-still}
 
 -- a frame below the top one has the same number with and without the top one
@@ -45,8 +44,7 @@ stacked-top top f fs = let e : (length (f ∷ fs) - 1) - length fs ≡ 0 = omega
 
 -- numbers in frames are below the number of stacked frames
 frames-below : (W : Parts) (Z : List OrderShape) (S : State) (s : ℕ) → Sound W Z S → IsBelow (InFrames s) (length (S.stream s).below) S.place
-frames-below W Z S s sound v d h =
-    let k : IsPlaced W S v (place.Frame (stream_no s) d) = subst (IsPlaced W S v) (ticket-place (InFrames s) (S.place v) d h) (sound.placed v) in k.1
+frames-below W Z S s sound = placed-below W Z S (InFrames s) (length (S.stream s).below) sound (λ v d k. k.1)
 
 -- what holds of stream s with new frames, and of the others as they were, holds of each afterwards
 each-stream : (S : State) (s : ℕ) (own : Stream) (P : ℕ → Stream → Type 0) → P s own → ((r : ℕ) → r ≢ s → P r (S.stream r)) → (r : ℕ) → P r (put_at S.stream s own r)
@@ -113,25 +111,16 @@ module _ (W : Parts) (Z : List OrderShape) (S : State) (s u : ℕ) (g : SchedNo)
   }
 
   keeps-enter_of : s < W.streams → u < length W.units → Keeps W Z S enters
-  keeps-enter_of l declared = record {
-    free = (free-above S.place u (place.Frame (stream_no s) (length old_below)) (InFrames s) (length old_below) (same-self s (length old_below)) (frames-below W Z S s sound), tt);
-    moves = (record { declared = declared; placed = subst (IsFramed W u s (length old_below)) (sym (put_at-same S.stream s new_own)) (is_framed l); alone = tt; joined = inl tt }, tt);
-    barriers = barriers-stay W Z S sound enters (tt, tt);
-    carried = tt;
-    desks = tt;
-    pool_next = tt;
-    join_next = tt;
-    object_next = tt;
-    mutexes = tt;
-    eventuals = tt;
-    futures = tt;
-    frames = frames-enter;
-  }
+  keeps-enter_of l declared = keeps-event W Z S sound ((u, place.Frame (stream_no s) (length old_below)) ∷ []) [] [] [] ((s, new_own) ∷ [])
+      (free-above S.place u (place.Frame (stream_no s) (length old_below)) (InFrames s) (length old_below) (same-self s (length old_below)) (frames-below W Z S s sound), tt)
+      (record { declared = declared; placed = subst (IsFramed W u s (length old_below)) (sym (put_at-same S.stream s new_own)) (is_framed l); alone = tt; joined = inl tt }, tt)
+      (tt, tt) tt tt tt
+      (frames-enter)
 
 pub keeps-enter : (W : Parts) (Z : List OrderShape) (S : State) (s u : ℕ) → IsValid W → OrdersStored W Z → Sound W Z S → s < W.streams → May W Z S s (what.Enter (unit_no u)) → Keeps W Z S (change W S s (what.Enter (unit_no u)))
 keeps-enter W Z S s u valid stored sound l may =
-    let is : StandsIn W S (InHand s) u = first-is W S (InHand s) u may.1 in
-    let sched : (g : SchedNo) × (body_at W u ≡ body.Sched g) = enter-sched W s (S.stream s).mark (body_at W u) (S.carried u).position (due-unit W S s sound.undeclared EnterDue u may.0 tt may.1) in
+    let is : StandsIn W S (InHand s) u = first-stands W S (InHand s) u may.1 in
+    let sched : (g : SchedNo) × (body_at W u ≡ body.Sched g) = (enter-due W s (S.stream s).mark (body_at W u) (S.carried u).position (due-unit W S s EnterDue u may.0 tt may.1)).1 in
     keeps-enter_of W Z S s u sched.0 valid stored sound is.at sched.1 l is.declared
 
 -- Leave: unit u is in the top frame of s, above frames f and fs.
@@ -196,30 +185,20 @@ module _ (W : Parts) (Z : List OrderShape) (S : State) (s u : ℕ) (f : Frame) (
   }
 
   keeps-leave_of : s < W.streams → due W S s ≡ LeaveDue → u < length W.units → Keeps W Z S leaves
-  keeps-leave_of l is declared = record {
-    free = (free-empty S.place u (place.Hand (stream_no s)) (InHand s) 0 (same-self s 0) (due-no_hand W S s sound.undeclared LeaveDue is tt), tt);
-    moves = (
-      record {
-        declared = declared;
-        placed = (l, after_left (λ r own. r ≡ s → IsAtRest own) (λ e. subst AllAtRest below (sound.below_rest s l)) (λ r ne e. absurd (ne e)) s refl);
-        alone = empty-still S leaves (InNext s) ((λ e. cc), tt) (due-no_next W S s sound.undeclared LeaveDue is tt);
-        joined = inl tt;
-      },
-      tt,
-    );
-    barriers = barriers-stay W Z S sound leaves (tt, tt);
-    carried = tt;
-    desks = tt;
-    pool_next = tt;
-    join_next = tt;
-    object_next = tt;
-    mutexes = tt;
-    eventuals = tt;
-    futures = tt;
-    frames = frames-leave;
-  }
+  keeps-leave_of l is declared = keeps-event W Z S sound ((u, place.Hand (stream_no s)) ∷ []) [] [] [] ((s, left (S.stream s)) ∷ [])
+      (free-empty S.place u (place.Hand (stream_no s)) (InHand s) 0 (same-self s 0) (due-no_hand W S s sound.undeclared LeaveDue is tt), tt) (
+        record {
+          declared = declared;
+          placed = (l, after_left (λ r own. r ≡ s → IsAtRest own) (λ e. subst AllAtRest below (sound.below_rest s l)) (λ r ne e. absurd (ne e)) s refl);
+          alone = empty-still S leaves (InNext s) ((λ e. cc), tt) (due-no_next W S s sound.undeclared LeaveDue is tt);
+          joined = inl tt;
+        },
+        tt,
+      )
+      (tt, tt) tt tt tt
+      (frames-leave)
 
 pub keeps-leave : (W : Parts) (Z : List OrderShape) (S : State) (s u : ℕ) → Sound W Z S → s < W.streams → May W Z S s (what.Leave (unit_no u)) → Keeps W Z S (change W S s (what.Leave (unit_no u)))
 keeps-leave W Z S s u sound l may =
-    let is : (f : Frame) × (fs : List Frame) × ((S.stream s).below ≡ f ∷ fs) = leave-below W S s sound.undeclared may.0 in
+    let is : (f : Frame) × (fs : List Frame) × ((S.stream s).below ≡ f ∷ fs) = leave-below W S s may.0 in
     keeps-leave_of W Z S s u is.0 is.1 sound is.2 may.1 l may.0 (is-declared W S sound.undeclared u (place.Frame (stream_no s) (length (S.stream s).below - 1)) may.1 (λ e. cc))
