@@ -26,7 +26,7 @@ use Rattle.abt_machine.specs.Words.{Text}
 use Rattle.abt_run.specs.Alone.{IsMiss, HasEmptyRound, EndsRound, EndsWithOnlyEmptyRound, IsOnlyRun}
 use Rattle.abt_run.specs.Going.{At, alone, CountedFrom, HasNoMiss, Comes, IsGoing, HasRun, next_event}
 use Rattle.abt_run.specs.Runs.{IsTheRun}
-use Rattle.abt_laws.proofs.EveryEvent.{runs-are-sound}
+use Rattle.abt_laws.proofs.SoundRuns.{runs-are-sound}
 use Rattle.abt_laws.proofs.LifeRuns.{runs-live}
 use Rattle.abt_laws.proofs.RunParts.{last_state-sound}
 use Rattle.abt_run.specs.BuiltParts.{built_parts}
