@@ -14,10 +14,43 @@ use Rattle.abt_machine.specs.declared.workload.Parts.{Parts}
 use Rattle.abt_machine.specs.Workloads.{body_at, op_at, start_of}
 use Rattle.abt_machine.specs.Start.{first_life}
 
+-- the operation gives unit u a life
 abbrev pub is_birth : ℕ → Option Op → Bool
+is_birth u None = false
+is_birth u (Some (op.Set n)) = false
+is_birth u (Some (op.Add n)) = false
+is_birth u (Some (op.Say w)) = false
+is_birth u (Some op.Print) = false
+is_birth u (Some (op.KeySet k)) = false
+is_birth u (Some (op.KeyGet k)) = false
+is_birth u (Some op.Yield) = false
+is_birth u (Some (op.YieldTo v p)) = false
+is_birth u (Some op.Suspend) = false
+is_birth u (Some (op.Resume v)) = false
 is_birth u (Some (op.Create v p)) = v.0 == u
+is_birth u (Some (op.Join v)) = false
+is_birth u (Some (op.Cancel v)) = false
+is_birth u (Some (op.Migrate v p)) = false
+is_birth u (Some (op.MigrateTo v r)) = false
+is_birth u (Some (op.Migratable v b)) = false
 is_birth u (Some (op.Revive v p)) = v.0 == u
-is_birth u _ = false
+is_birth u (Some (op.Lock x)) = false
+is_birth u (Some (op.TryLock x)) = false
+is_birth u (Some (op.Unlock x)) = false
+is_birth u (Some (op.Load x)) = false
+is_birth u (Some (op.Store x)) = false
+is_birth u (Some (op.CondWait x)) = false
+is_birth u (Some (op.Signal x)) = false
+is_birth u (Some (op.Broadcast x)) = false
+is_birth u (Some (op.EvWait x)) = false
+is_birth u (Some (op.EvSet x)) = false
+is_birth u (Some (op.EvReset x)) = false
+is_birth u (Some (op.EvTest x)) = false
+is_birth u (Some (op.FuWait x)) = false
+is_birth u (Some (op.FuSet x)) = false
+is_birth u (Some (op.FuReset x)) = false
+is_birth u (Some (op.FuTest x)) = false
+is_birth u (Some (op.BarWait x)) = false
 
 -- the life of unit u after an event, now being the one before: it rises at each step that creates or revives u and goes through
 abbrev pub life_after : Parts → ℕ → ℕ → What → ℕ

@@ -54,9 +54,40 @@ after_local (op.BarWait x) c = None
 
 -- the key that an operation names, if it names one, is below n
 abbrev pub NamesKeyBelow : ℕ → Op → Type 0
+NamesKeyBelow n (op.Set m) = ⊤
+NamesKeyBelow n (op.Add m) = ⊤
+NamesKeyBelow n (op.Say w) = ⊤
+NamesKeyBelow n op.Print = ⊤
 NamesKeyBelow n (op.KeySet k) = k < n
 NamesKeyBelow n (op.KeyGet k) = k < n
-NamesKeyBelow n _ = ⊤
+NamesKeyBelow n op.Yield = ⊤
+NamesKeyBelow n (op.YieldTo v p) = ⊤
+NamesKeyBelow n op.Suspend = ⊤
+NamesKeyBelow n (op.Resume v) = ⊤
+NamesKeyBelow n (op.Create v p) = ⊤
+NamesKeyBelow n (op.Join v) = ⊤
+NamesKeyBelow n (op.Cancel v) = ⊤
+NamesKeyBelow n (op.Migrate v p) = ⊤
+NamesKeyBelow n (op.MigrateTo v r) = ⊤
+NamesKeyBelow n (op.Migratable v b) = ⊤
+NamesKeyBelow n (op.Revive v p) = ⊤
+NamesKeyBelow n (op.Lock x) = ⊤
+NamesKeyBelow n (op.TryLock x) = ⊤
+NamesKeyBelow n (op.Unlock x) = ⊤
+NamesKeyBelow n (op.Load x) = ⊤
+NamesKeyBelow n (op.Store x) = ⊤
+NamesKeyBelow n (op.CondWait x) = ⊤
+NamesKeyBelow n (op.Signal x) = ⊤
+NamesKeyBelow n (op.Broadcast x) = ⊤
+NamesKeyBelow n (op.EvWait x) = ⊤
+NamesKeyBelow n (op.EvSet x) = ⊤
+NamesKeyBelow n (op.EvReset x) = ⊤
+NamesKeyBelow n (op.EvTest x) = ⊤
+NamesKeyBelow n (op.FuWait x) = ⊤
+NamesKeyBelow n (op.FuSet x) = ⊤
+NamesKeyBelow n (op.FuReset x) = ⊤
+NamesKeyBelow n (op.FuTest x) = ⊤
+NamesKeyBelow n (op.BarWait x) = ⊤
 
 abbrev pub with_carried : Owned → Carried → Owned
 with_carried o c = record o { carried = c }
