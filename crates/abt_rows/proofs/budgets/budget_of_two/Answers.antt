@@ -1,0 +1,16 @@
+use Rattle.std.proofs.Common.{[], ◌∷◌, lit<, refl}
+use Rattle.std.specs.Prelude.{codes}
+use Rattle.std.specs.Fmt.{digits}
+use Rattle.abt_machine.specs.declared.operations.Op.TheVariants as op
+use Rattle.abt_machine.specs.declared.workload.Parts.{Parts}
+use Rattle.abt_rows.specs.Rows.{orders}
+use Rattle.abt_rows.proofs.Workloads.{based, ult_at}
+use Rattle.abt_rows.proofs.Working.{spent, ran}
+use Rattle.abt_rows.proofs.budgets.budget_of_two.Goals as goal
+
+abbrev workload : Parts
+workload = based 0 [] (ult_at 0 (op.Say 0 ∷ op.Say 1 ∷ op.Say 2 ∷ []) ∷ []) (codes "a" ∷ codes "b" ∷ codes "c" ∷ [])
+
+pub returns : goal.returns
+unfolding digits
+returns c = (_, spent workload orders 2 (ran workload orders (lit< tt) 4) _ _ (lit< tt) refl refl refl refl)

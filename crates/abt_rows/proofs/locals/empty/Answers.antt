@@ -1,0 +1,14 @@
+use Rattle.std.proofs.Common.{[], lit<, refl}
+use Rattle.std.specs.Fmt.{digits}
+use Rattle.abt_machine.specs.declared.workload.Parts.{Parts}
+use Rattle.abt_rows.specs.Rows.{orders}
+use Rattle.abt_rows.proofs.Workloads.{based}
+use Rattle.abt_rows.proofs.Working.{finished, ran}
+use Rattle.abt_rows.proofs.locals.empty.Goals as goal
+
+abbrev workload : Parts
+workload = based 0 [] [] []
+
+pub returns : goal.returns
+unfolding digits
+returns c = (_, refl, finished workload orders 10000 (ran workload orders (lit< tt) 1) _ _ refl refl refl refl refl)

@@ -1,0 +1,19 @@
+use Rattle.std.proofs.Common.{[], ◌∷◌, lit<, refl}
+use Rattle.std.specs.Fmt.{digits}
+use Rattle.abt_machine.specs.declared.operations.Op.TheVariants as op
+use Rattle.abt_machine.specs.declared.workload.Parts.{Parts}
+use Rattle.abt_machine.specs.Numbers.{pool_no, unit_no}
+use Rattle.abt_rows.specs.Rows.{orders}
+use Rattle.abt_rows.proofs.Workloads.{based, ult_at}
+use Rattle.abt_rows.proofs.Working.{finished, ran}
+use Rattle.abt_rows.proofs.units.ended_refused.Goals as goal
+
+abbrev workload : Parts
+workload = based 0 [] (
+    ult_at 0 (op.Join (unit_no 1) ∷ op.Cancel (unit_no 1) ∷ op.Migrate (unit_no 1) (pool_no 0) ∷ op.Create (unit_no 1) (pool_no 0) ∷ op.Join (unit_no 1) ∷ []) ∷
+    ult_at 0 [] ∷
+    []) []
+
+pub returns : goal.returns
+unfolding digits
+returns c = (_, finished workload orders 10000 (ran workload orders (lit< tt) 15) _ _ refl refl refl refl refl)

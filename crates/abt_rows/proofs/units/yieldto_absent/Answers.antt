@@ -1,0 +1,20 @@
+use Rattle.std.proofs.Common.{[], ◌∷◌, lit<, refl}
+use Rattle.std.specs.Prelude.{codes}
+use Rattle.std.specs.Fmt.{digits}
+use Rattle.abt_machine.specs.declared.operations.Op.TheVariants as op
+use Rattle.abt_machine.specs.declared.workload.Parts.{Parts}
+use Rattle.abt_machine.specs.Numbers.{pool_no, unit_no}
+use Rattle.abt_rows.specs.Rows.{orders}
+use Rattle.abt_rows.proofs.Workloads.{based, ult_at, ult_later}
+use Rattle.abt_rows.proofs.Working.{finished, ran}
+use Rattle.abt_rows.proofs.units.yieldto_absent.Goals as goal
+
+abbrev workload : Parts
+workload = based 0 [] (
+    ult_at 0 (op.YieldTo (unit_no 1) (pool_no 0) ∷ op.Say 0 ∷ []) ∷
+    ult_later [] ∷
+    []) (codes "on" ∷ [])
+
+pub returns : goal.returns
+unfolding digits
+returns c = (_, finished workload orders 10000 (ran workload orders (lit< tt) 6) _ _ refl refl refl refl refl)
