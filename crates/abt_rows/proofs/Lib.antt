@@ -1,3 +1,5 @@
 pub mod Running
 pub mod Workloads
 pub mod Working
+pub mod Deciding
+pub mod Validity

@@ -1,7 +1,5 @@
 -- One stream's run, computed event by event, each with why it may come.
-use Rattle.std.proofs.Common.{ℕ, zero, suc, ◌≡◌, ◌<◌, ◌-◌, ◌++◌, Bool, true, false, List, [], ◌∷◌, length, Option, Some, None, refl, ap, sym, subst, ◌∙◌}
-use Rattle.std.specs.Prelude.{◌==◌}
-use Rattle.std.proofs.lemmas.Bool.{eqb-true}
+use Rattle.std.proofs.Common.{ℕ, zero, suc, ◌≡◌, ◌<◌, ◌-◌, ◌++◌, List, [], ◌∷◌, length, Option, Some, None, refl, ap, sym, subst, ◌∙◌}
 use Rattle.abt_machine.specs.declared.numbers.StreamNo.{StreamNo}
 use Rattle.abt_machine.specs.declared.events.Cause.{Cause}
 use Rattle.abt_machine.specs.declared.events.Event.{Event}
@@ -22,19 +20,11 @@ use Rattle.abt_machine.specs.Rounds.{Choice, Only, AnyOrder, NoOrder, choice_of,
 use Rattle.abt_machine.specs.Codes.{code_at}
 use Rattle.abt_machine.specs.Events.{May, after}
 use Rattle.abt_machine.specs.Runs.{RunFrom}
+use Rattle.abt_rows.proofs.Deciding.{same}
 
 -- an event that may come
 abbrev pub Coming : Parts → List OrderShape → State → ℕ → Type 0
 Coming W Z S s = (w : What) × May W Z S s w
-
--- Whether two numbers are one.
-
-abbrev same_by : (a b : ℕ) (t : Bool) → (a == b) ≡ t → Option (a ≡ b)
-same_by a b true e = Some (eqb-true a b e)
-same_by a b false e = None
-
-abbrev same : (a b : ℕ) → Option (a ≡ b)
-same a b = same_by a b (a == b) refl
 
 -- The next pool of a round.
 

@@ -1,6 +1,6 @@
 -- How a computed run shows a row: tests of a state and of a journal that compute, and what they say.
 use Rattle.std.proofs.Common.{ℕ, zero, suc, ◌≡◌, ◌<◌, ◌≤◌, ◌&&◌, Bool, true, false, List, [], ◌∷◌, length, nat_lt, get_or, refl, sym, subst, ◌∙◌, arith, inl, inr}
-use Rattle.std.specs.Prelude.{Contains, ◌==◌}
+use Rattle.std.specs.Prelude.{Contains, ◌==◌, is_some}
 use Rattle.std.specs.List.{list_all}
 use Rattle.std.proofs.lemmas.Bool.{cases_Bool, cases_lt, ltb-true, ne_eqb, true≢false}
 use Rattle.std.proofs.lemmas.List.Folds.{list_all_at}
@@ -25,7 +25,9 @@ use Rattle.abt_machine.specs.Texts.{report_text}
 use Rattle.abt_machine.specs.Words.{Text}
 use Rattle.abt_machine.specs.Workloads.{main_of, pools_of}
 use Rattle.abt_rows.specs.Rows.{Reports}
+use Rattle.abt_rows.proofs.Deciding.{holds}
 use Rattle.abt_rows.proofs.Running.{Ran, ran_by}
+use Rattle.abt_rows.proofs.Validity.{validity}
 
 -- Tests.
 
@@ -161,19 +163,19 @@ abbrev pub ran : (W : Parts) (Z : List OrderShape) → 0 < W.streams → ℕ →
 ran W Z some count = ran_by W Z some count 1 (start W)
 
 -- a run after which nothing can move and all units are over
-pub finished : (W : Parts) (Z : List OrderShape) (n : ℕ) (R : Ran W Z (start W)) (text report : Text) → W.streams ≡ 1 → canonical_text W ≡ text →
+pub finished : (W : Parts) (Z : List OrderShape) (n : ℕ) (R : Ran W Z (start W)) (text report : Text) → W.streams ≡ 1 → is_some (validity W) ≡ true → canonical_text W ≡ text →
     is_quiet W (last_state W R.0) ≡ true → all_over W R.0 ≡ true → report_text W (last_state W R.0) (steps_in R.0) outcome.Finished ≡ report → Reports Z n text report R.0
-finished W Z n R text report one is_text still all is_report =
-    record { workload = W; outcome = outcome.Finished; is_text = is_text; is_run = R.1; is_outcome = (quiet W _ one still, all_ended W R.0 all); is_report = is_report }
+finished W Z n R text report one valid is_text still all is_report =
+    record { workload = W; is_valid = holds (validity W) valid; outcome = outcome.Finished; is_text = is_text; is_run = R.1; is_outcome = (quiet W _ one still, all_ended W R.0 all); is_report = is_report }
 
 -- a run after which nothing can move, and unit u isn't over
-pub stuck : (W : Parts) (Z : List OrderShape) (n : ℕ) (R : Ran W Z (start W)) (text report : Text) (u : ℕ) → W.streams ≡ 1 → canonical_text W ≡ text →
+pub stuck : (W : Parts) (Z : List OrderShape) (n : ℕ) (R : Ran W Z (start W)) (text report : Text) (u : ℕ) → W.streams ≡ 1 → is_some (validity W) ≡ true → canonical_text W ≡ text →
     is_quiet W (last_state W R.0) ≡ true → is_over ((last_state W R.0).place u) ≡ false → report_text W (last_state W R.0) (steps_in R.0) outcome.Stuck ≡ report → Reports Z n text report R.0
-stuck W Z n R text report u one is_text still waits is_report =
-    record { workload = W; outcome = outcome.Stuck; is_text = is_text; is_run = R.1; is_outcome = (quiet W _ one still, λ all. not_over _ waits (all u)); is_report = is_report }
+stuck W Z n R text report u one valid is_text still waits is_report =
+    record { workload = W; is_valid = holds (validity W) valid; outcome = outcome.Stuck; is_text = is_text; is_run = R.1; is_outcome = (quiet W _ one still, λ all. not_over _ waits (all u)); is_report = is_report }
 
 -- a run after which stream 0 has made its n steps, and would make another
-pub spent : (W : Parts) (Z : List OrderShape) (n : ℕ) (R : Ran W Z (start W)) (text report : Text) → 0 < W.streams → canonical_text W ≡ text →
+pub spent : (W : Parts) (Z : List OrderShape) (n : ℕ) (R : Ran W Z (start W)) (text report : Text) → 0 < W.streams → is_some (validity W) ≡ true → canonical_text W ≡ text →
     steps_of 0 R.0 ≡ n → due W (last_state W R.0) 0 ≡ StepDue → report_text W (last_state W R.0) (steps_in R.0) (outcome.Budget (stream_no 0)) ≡ report → Reports Z n text report R.0
-spent W Z n R text report some is_text steps step is_report =
-    record { workload = W; outcome = outcome.Budget (stream_no 0); is_text = is_text; is_run = R.1; is_outcome = ((some, steps, step), λ r below h. absurd (omega (arith, below))); is_report = is_report }
+spent W Z n R text report some valid is_text steps step is_report =
+    record { workload = W; is_valid = holds (validity W) valid; outcome = outcome.Budget (stream_no 0); is_text = is_text; is_run = R.1; is_outcome = ((some, steps, step), λ r below h. absurd (omega (arith, below))); is_report = is_report }

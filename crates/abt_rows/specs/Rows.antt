@@ -9,16 +9,18 @@ use Rattle.abt_machine.specs.Canonical.{canonical_text}
 use Rattle.abt_machine.specs.Outcomes.{EndsAs, steps_in}
 use Rattle.abt_machine.specs.Runs.{Run, last_state}
 use Rattle.abt_machine.specs.Texts.{journal_text, report_text}
+use Rattle.abt_machine.specs.Valid.{IsValid}
 use Rattle.abt_machine.specs.Words.{Text}
 
 -- the shapes of the two orders that the program stores, by number
 abbrev pub orders : List OrderShape
 orders = shape.Rotate ∷ shape.Mirror ∷ []
 
--- the workload of this text, with these shapes of stored orders and n steps for each stream, has this run, and this is the report on it
+-- the valid workload of this text, with these shapes of stored orders and n steps for each stream, has this run, and this is the report on it
 pub record Reports (shapes : List OrderShape) (n : ℕ) (text report : Text) (J : List Event) : Type 0 where
   pub workload : Parts
   pub outcome : Outcome
+  pub is_valid : IsValid workload
   pub is_text : canonical_text workload ≡ text
   pub is_run : Run workload shapes J
   pub is_outcome : EndsAs workload n J outcome

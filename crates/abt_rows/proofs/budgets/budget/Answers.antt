@@ -16,4 +16,4 @@ workload = based 0 [] (
 
 pub returns : goal.returns
 unfolding digits
-returns c = (_, spent workload orders 6 (ran workload orders (lit< tt) 31) _ _ (lit< tt) refl refl refl refl)
+returns c = (_, spent workload orders 50 (ran workload orders (lit< tt) 251) _ _ (lit< tt) refl refl refl refl refl)

@@ -13,4 +13,4 @@ workload = based 0 [] (ult_at 0 (op.Say 0 ∷ op.Say 1 ∷ op.Say 2 ∷ []) ∷ 
 
 pub returns : goal.returns
 unfolding digits
-returns c = (_, spent workload orders 2 (ran workload orders (lit< tt) 4) _ _ (lit< tt) refl refl refl refl)
+returns c = (_, spent workload orders 2 (ran workload orders (lit< tt) 4) _ _ (lit< tt) refl refl refl refl refl)

@@ -19,4 +19,4 @@ workload = based 0 (thing.Barrier 3 ∷ []) (
 
 pub returns : goal.returns
 unfolding digits
-returns c = (_, refl, finished workload orders 10000 (ran workload orders (lit< tt) 22) _ _ refl refl refl refl refl)
+returns c = (_, refl, finished workload orders 10000 (ran workload orders (lit< tt) 22) _ _ refl refl refl refl refl refl)

@@ -14,4 +14,4 @@ workload = based 0 (thing.Eventual ∷ []) (ult_at 0 (op.Set 7 ∷ op.EvSet (obj
 
 pub returns : goal.returns
 unfolding digits
-returns c = (_, finished workload orders 10000 (ran workload orders (lit< tt) 10) _ _ refl refl refl refl refl)
+returns c = (_, finished workload orders 10000 (ran workload orders (lit< tt) 10) _ _ refl refl refl refl refl refl)

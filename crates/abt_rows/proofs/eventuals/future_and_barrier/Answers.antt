@@ -19,4 +19,4 @@ workload = based 0 (thing.Future 2 combine.Sum ∷ thing.Barrier 2 ∷ []) (
 
 pub returns : goal.returns
 unfolding digits
-returns c = (_, finished workload orders 10000 (ran workload orders (lit< tt) 23) _ _ refl refl refl refl refl)
+returns c = (_, finished workload orders 10000 (ran workload orders (lit< tt) 23) _ _ refl refl refl refl refl refl)

@@ -18,4 +18,4 @@ workload = based 0 (thing.Future 2 combine.Sum âˆ· thing.Future 2 combine.Max âˆ
 
 pub returns : goal.returns
 unfolding digits
-returns c = (_, finished workload orders 10000 (ran workload orders (lit< tt) 28) _ _ refl refl refl refl refl)
+returns c = (_, finished workload orders 10000 (ran workload orders (lit< tt) 28) _ _ refl refl refl refl refl refl)

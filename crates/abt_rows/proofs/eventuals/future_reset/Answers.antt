@@ -15,4 +15,4 @@ workload = based 0 (thing.Future 1 combine.Sum ∷ []) (ult_at 0 (op.Set 3 ∷ o
 
 pub returns : goal.returns
 unfolding digits
-returns c = (_, finished workload orders 10000 (ran workload orders (lit< tt) 14) _ _ refl refl refl refl refl)
+returns c = (_, finished workload orders 10000 (ran workload orders (lit< tt) 14) _ _ refl refl refl refl refl refl)

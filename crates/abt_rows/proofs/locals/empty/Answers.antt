@@ -11,4 +11,4 @@ workload = based 0 [] [] []
 
 pub returns : goal.returns
 unfolding digits
-returns c = (_, refl, finished workload orders 10000 (ran workload orders (lit< tt) 1) _ _ refl refl refl refl refl)
+returns c = (_, refl, finished workload orders 10000 (ran workload orders (lit< tt) 1) _ _ refl refl refl refl refl refl)

@@ -13,4 +13,4 @@ workload = based 0 [] (ult_at 0 (op.Say 0 ∷ []) ∷ []) (codes "hi" ∷ [])
 
 pub returns : goal.returns
 unfolding digits
-returns c = (_, refl, finished workload orders 10000 (ran workload orders (lit< tt) 5) _ _ refl refl refl refl refl)
+returns c = (_, refl, finished workload orders 10000 (ran workload orders (lit< tt) 5) _ _ refl refl refl refl refl refl)

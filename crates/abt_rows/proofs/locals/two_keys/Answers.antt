@@ -12,4 +12,4 @@ workload = based 2 [] (ult_at 0 (op.Set 9 ∷ op.KeySet 0 ∷ op.Set 8 ∷ op.Ke
 
 pub returns : goal.returns
 unfolding digits
-returns c = (_, finished workload orders 10000 (ran workload orders (lit< tt) 12) _ _ refl refl refl refl refl)
+returns c = (_, finished workload orders 10000 (ran workload orders (lit< tt) 12) _ _ refl refl refl refl refl refl)

@@ -12,4 +12,4 @@ workload = based 0 [] (ult_at 0 (op.Set 18446744073709551615 ∷ op.Add 1 ∷ op
 
 pub returns : goal.returns
 unfolding digits
-returns c = (_, finished workload orders 10000 (ran workload orders (lit< tt) 7) _ _ refl refl refl refl refl)
+returns c = (_, finished workload orders 10000 (ran workload orders (lit< tt) 7) _ _ refl refl refl refl refl refl)

@@ -19,4 +19,4 @@ workload = based 0 (thing.Mutex ∷ thing.Cond (object_no 0) ∷ []) (
 
 pub returns : goal.returns
 unfolding digits
-returns c = (_, refl, finished workload orders 10000 (ran workload orders (lit< tt) 28) _ _ refl refl refl refl refl)
+returns c = (_, refl, finished workload orders 10000 (ran workload orders (lit< tt) 28) _ _ refl refl refl refl refl refl)

@@ -17,4 +17,4 @@ workload = based 0 (thing.Mutex ∷ []) (
 
 pub returns : goal.returns
 unfolding digits
-returns c = (_, refl, finished workload orders 10000 (ran workload orders (lit< tt) 19) _ _ refl refl refl refl refl)
+returns c = (_, refl, finished workload orders 10000 (ran workload orders (lit< tt) 19) _ _ refl refl refl refl refl refl)

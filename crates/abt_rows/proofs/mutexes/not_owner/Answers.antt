@@ -15,4 +15,4 @@ workload = based 0 (thing.Mutex ∷ thing.Cond (object_no 0) ∷ []) (ult_at 0 (
 
 pub returns : goal.returns
 unfolding digits
-returns c = (_, finished workload orders 10000 (ran workload orders (lit< tt) 9) _ _ refl refl refl refl refl)
+returns c = (_, finished workload orders 10000 (ran workload orders (lit< tt) 9) _ _ refl refl refl refl refl refl)

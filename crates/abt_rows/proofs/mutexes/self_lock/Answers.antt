@@ -14,4 +14,4 @@ workload = based 0 (thing.Mutex ∷ []) (ult_at 0 (op.Lock (object_no 0) ∷ op.
 
 pub returns : goal.returns
 unfolding digits
-returns c = (_, stuck workload orders 10000 (ran workload orders (lit< tt) 5) _ _ 0 refl refl refl refl refl)
+returns c = (_, stuck workload orders 10000 (ran workload orders (lit< tt) 5) _ _ 0 refl refl refl refl refl refl)

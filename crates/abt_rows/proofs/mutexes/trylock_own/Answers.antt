@@ -14,4 +14,4 @@ workload = based 0 (thing.Mutex ∷ []) (ult_at 0 (op.TryLock (object_no 0) ∷ 
 
 pub returns : goal.returns
 unfolding digits
-returns c = (_, finished workload orders 10000 (ran workload orders (lit< tt) 7) _ _ refl refl refl refl refl)
+returns c = (_, finished workload orders 10000 (ran workload orders (lit< tt) 7) _ _ refl refl refl refl refl refl)

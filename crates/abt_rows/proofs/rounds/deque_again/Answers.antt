@@ -20,4 +20,4 @@ workload = declared 0 (pool kind.Deque access.Mpmc âˆ· []) (sched rule.Prio (0 â
 
 pub returns : goal.returns
 unfolding digits
-returns c = (_, refl, finished workload orders 10000 (ran workload orders (lit< tt) 15) _ _ refl refl refl refl refl)
+returns c = (_, refl, finished workload orders 10000 (ran workload orders (lit< tt) 15) _ _ refl refl refl refl refl refl)

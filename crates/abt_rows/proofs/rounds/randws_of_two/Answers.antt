@@ -18,4 +18,4 @@ workload = declared 0 (pool kind.Fifo access.Mpmc ∷ pool kind.Fifo (access.Pri
 
 pub returns : goal.returns
 unfolding digits
-returns c = (_, refl, finished workload orders 10000 (ran workload orders (lit< tt) 9) _ _ refl refl refl refl refl)
+returns c = (_, refl, finished workload orders 10000 (ran workload orders (lit< tt) 9) _ _ refl refl refl refl refl refl)

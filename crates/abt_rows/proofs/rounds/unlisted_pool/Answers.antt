@@ -14,4 +14,4 @@ workload = declared 0 (pool kind.Fifo access.Mpmc ∷ pool kind.Fifo access.Mpmc
 
 pub returns : goal.returns
 unfolding digits
-returns c = (_, stuck workload orders 10000 (ran workload orders (lit< tt) 1) _ _ 0 refl refl refl refl refl)
+returns c = (_, stuck workload orders 10000 (ran workload orders (lit< tt) 1) _ _ 0 refl refl refl refl refl refl)

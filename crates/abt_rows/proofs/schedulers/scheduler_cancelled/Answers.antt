@@ -21,4 +21,4 @@ workload = declared 0 (pool kind.Fifo access.Mpmc ∷ pool kind.Fifo access.Mpmc
 
 pub returns : goal.returns
 unfolding digits
-returns c = (_, refl, stuck workload orders 10000 (ran workload orders (lit< tt) 8) _ _ 2 refl refl refl refl refl)
+returns c = (_, refl, stuck workload orders 10000 (ran workload orders (lit< tt) 8) _ _ 2 refl refl refl refl refl refl)

@@ -21,4 +21,4 @@ workload = declared 0 (pool kind.Fifo access.Mpmc ∷ pool kind.Fifo access.Mpmc
 
 pub returns : goal.returns
 unfolding digits
-returns c = (_, stuck workload orders 10000 (ran workload orders (lit< tt) 15) _ _ 1 refl refl refl refl refl)
+returns c = (_, stuck workload orders 10000 (ran workload orders (lit< tt) 15) _ _ 1 refl refl refl refl refl refl)

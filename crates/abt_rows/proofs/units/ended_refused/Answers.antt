@@ -16,4 +16,4 @@ workload = based 0 [] (
 
 pub returns : goal.returns
 unfolding digits
-returns c = (_, finished workload orders 10000 (ran workload orders (lit< tt) 15) _ _ refl refl refl refl refl)
+returns c = (_, finished workload orders 10000 (ran workload orders (lit< tt) 15) _ _ refl refl refl refl refl refl)

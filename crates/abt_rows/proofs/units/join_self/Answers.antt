@@ -13,4 +13,4 @@ workload = based 0 [] (ult_at 0 (op.Join (unit_no 0) ∷ []) ∷ []) []
 
 pub returns : goal.returns
 unfolding digits
-returns c = (_, stuck workload orders 10000 (ran workload orders (lit< tt) 4) _ _ 0 refl refl refl refl refl)
+returns c = (_, stuck workload orders 10000 (ran workload orders (lit< tt) 4) _ _ 0 refl refl refl refl refl refl)

@@ -16,4 +16,4 @@ workload = based 0 [] (
 
 pub returns : goal.returns
 unfolding digits
-returns c = (_, stuck workload orders 10000 (ran workload orders (lit< tt) 8) _ _ 1 refl refl refl refl refl)
+returns c = (_, stuck workload orders 10000 (ran workload orders (lit< tt) 8) _ _ 1 refl refl refl refl refl refl)
