@@ -1,5 +1,6 @@
 pub mod Running
 pub mod Workloads
-pub mod Working
+pub mod Ending
+pub mod Reporting
 pub mod Deciding
 pub mod Validity

@@ -1,12 +1,13 @@
 use Rattle.std.proofs.Common.{[], ◌∷◌, lit<, refl}
 use Rattle.std.specs.Fmt.{digits}
+use Rattle.abt_machine.specs.declared.events.Outcome.TheVariants as outcome
 use Rattle.abt_machine.specs.declared.operations.Op.TheVariants as op
 use Rattle.abt_machine.specs.declared.operations.Thing.TheVariants as thing
 use Rattle.abt_machine.specs.declared.workload.Parts.{Parts}
 use Rattle.abt_machine.specs.Numbers.{object_no}
 use Rattle.abt_rows.specs.Rows.{orders}
+use Rattle.abt_rows.proofs.Reporting.{ran, reported}
 use Rattle.abt_rows.proofs.Workloads.{based, ult_at}
-use Rattle.abt_rows.proofs.Working.{stuck, ran}
 use Rattle.abt_rows.proofs.mutexes.self_lock.Goals as goal
 
 abbrev workload : Parts
@@ -14,4 +15,4 @@ workload = based 0 (thing.Mutex ∷ []) (ult_at 0 (op.Lock (object_no 0) ∷ op.
 
 pub returns : goal.returns
 unfolding digits
-returns c = (_, stuck workload orders 10000 (ran workload orders (lit< tt) 5) _ _ 0 refl refl refl refl refl refl)
+returns c = (_, reported workload orders 10000 (ran workload orders (lit< tt) 5) outcome.Stuck _ _ refl refl refl refl)

@@ -1,13 +1,14 @@
 use Rattle.std.proofs.Common.{[], ◌∷◌, lit<, refl}
 use Rattle.std.specs.Fmt.{digits}
+use Rattle.abt_machine.specs.declared.events.Outcome.TheVariants as outcome
 use Rattle.abt_machine.specs.declared.operations.Access.TheVariants as access
 use Rattle.abt_machine.specs.declared.operations.Kind.TheVariants as kind
 use Rattle.abt_machine.specs.declared.operations.Rule.TheVariants as rule
 use Rattle.abt_machine.specs.declared.workload.Parts.{Parts}
 use Rattle.abt_machine.specs.Numbers.{stream_no}
 use Rattle.abt_rows.specs.Rows.{orders}
+use Rattle.abt_rows.proofs.Reporting.{ran, reported}
 use Rattle.abt_rows.proofs.Workloads.{declared, pool, sched, ult_at}
-use Rattle.abt_rows.proofs.Working.{finished, ran}
 use Rattle.abt_rows.proofs.rounds.basic.Goals as goal
 
 abbrev workload : Parts
@@ -18,4 +19,4 @@ workload = declared 0 (pool kind.Fifo access.Mpmc ∷ pool kind.Fifo (access.Pri
 
 pub returns : goal.returns
 unfolding digits
-returns c = (_, refl, finished workload orders 10000 (ran workload orders (lit< tt) 9) _ _ refl refl refl refl refl refl)
+returns c = (_, refl, reported workload orders 10000 (ran workload orders (lit< tt) 9) outcome.Finished _ _ refl refl refl refl)

@@ -1,14 +1,15 @@
 use Rattle.std.proofs.Common.{[], ◌∷◌, lit<, refl}
 use Rattle.std.specs.Prelude.{codes}
 use Rattle.std.specs.Fmt.{digits}
+use Rattle.abt_machine.specs.declared.events.Outcome.TheVariants as outcome
 use Rattle.abt_machine.specs.declared.operations.Access.TheVariants as access
 use Rattle.abt_machine.specs.declared.operations.Kind.TheVariants as kind
 use Rattle.abt_machine.specs.declared.operations.Op.TheVariants as op
 use Rattle.abt_machine.specs.declared.operations.Rule.TheVariants as rule
 use Rattle.abt_machine.specs.declared.workload.Parts.{Parts}
 use Rattle.abt_rows.specs.Rows.{orders}
+use Rattle.abt_rows.proofs.Reporting.{ran, reported}
 use Rattle.abt_rows.proofs.Workloads.{declared, pool, sched, ult_at}
-use Rattle.abt_rows.proofs.Working.{finished, ran}
 use Rattle.abt_rows.proofs.rounds.deque_again.Goals as goal
 
 abbrev workload : Parts
@@ -20,4 +21,4 @@ workload = declared 0 (pool kind.Deque access.Mpmc ∷ []) (sched rule.Prio (0 �
 
 pub returns : goal.returns
 unfolding digits
-returns c = (_, refl, finished workload orders 10000 (ran workload orders (lit< tt) 15) _ _ refl refl refl refl refl refl)
+returns c = (_, refl, reported workload orders 10000 (ran workload orders (lit< tt) 15) outcome.Finished _ _ refl refl refl refl)

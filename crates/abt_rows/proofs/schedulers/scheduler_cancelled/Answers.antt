@@ -1,6 +1,7 @@
 use Rattle.std.proofs.Common.{[], ◌∷◌, lit<, refl}
 use Rattle.std.specs.Prelude.{codes}
 use Rattle.std.specs.Fmt.{digits}
+use Rattle.abt_machine.specs.declared.events.Outcome.TheVariants as outcome
 use Rattle.abt_machine.specs.declared.operations.Access.TheVariants as access
 use Rattle.abt_machine.specs.declared.operations.Kind.TheVariants as kind
 use Rattle.abt_machine.specs.declared.operations.Op.TheVariants as op
@@ -8,8 +9,8 @@ use Rattle.abt_machine.specs.declared.operations.Rule.TheVariants as rule
 use Rattle.abt_machine.specs.declared.workload.Parts.{Parts}
 use Rattle.abt_machine.specs.Numbers.{unit_no}
 use Rattle.abt_rows.specs.Rows.{orders}
+use Rattle.abt_rows.proofs.Reporting.{ran, reported}
 use Rattle.abt_rows.proofs.Workloads.{declared, pool, sched, sched_at, ult_at}
-use Rattle.abt_rows.proofs.Working.{stuck, ran}
 use Rattle.abt_rows.proofs.schedulers.scheduler_cancelled.Goals as goal
 
 abbrev workload : Parts
@@ -21,4 +22,4 @@ workload = declared 0 (pool kind.Fifo access.Mpmc ∷ pool kind.Fifo access.Mpmc
 
 pub returns : goal.returns
 unfolding digits
-returns c = (_, refl, stuck workload orders 10000 (ran workload orders (lit< tt) 8) _ _ 2 refl refl refl refl refl refl)
+returns c = (_, refl, reported workload orders 10000 (ran workload orders (lit< tt) 8) outcome.Stuck _ _ refl refl refl refl)

@@ -1,12 +1,13 @@
 use Rattle.std.proofs.Common.{[], ◌∷◌, lit<, refl}
 use Rattle.std.specs.Prelude.{codes}
 use Rattle.std.specs.Fmt.{digits}
+use Rattle.abt_machine.specs.declared.events.Outcome.TheVariants as outcome
 use Rattle.abt_machine.specs.declared.operations.Op.TheVariants as op
 use Rattle.abt_machine.specs.declared.workload.Parts.{Parts}
 use Rattle.abt_machine.specs.Numbers.{unit_no}
 use Rattle.abt_rows.specs.Rows.{orders}
+use Rattle.abt_rows.proofs.Reporting.{ran, reported}
 use Rattle.abt_rows.proofs.Workloads.{based, ult_at}
-use Rattle.abt_rows.proofs.Working.{finished, ran}
 use Rattle.abt_rows.proofs.units.join.Goals as goal
 
 abbrev workload : Parts
@@ -17,4 +18,4 @@ workload = based 0 [] (
 
 pub returns : goal.returns
 unfolding digits
-returns c = (_, finished workload orders 10000 (ran workload orders (lit< tt) 13) _ _ refl refl refl refl refl refl)
+returns c = (_, reported workload orders 10000 (ran workload orders (lit< tt) 13) outcome.Finished _ _ refl refl refl refl)
