@@ -1,4 +1,4 @@
--- How a run of one stream ended, computed with the proof.
+-- How a run ended, computed with the proof.
 use Rattle.std.proofs.Common.{ℕ, zero, suc, ◌≡◌, ◌<◌, ◌≤◌, List, [], ◌∷◌, length, Option, Some, None, refl, sym, subst, ◌∙◌, arith, inl, inr}
 use Rattle.std.specs.Prelude.{All, Contains, false, ◌==◌}
 use Rattle.std.proofs.lemmas.Bool.{cases_lt, ne_eqb}
@@ -26,42 +26,39 @@ abbrev nothing_in : {A : Type 0} (xs : List A) → Option (xs ≡ [])
 nothing_in [] = Some refl
 nothing_in (x ∷ xs) = None
 
--- what holds of stream 0, holds of each of one stream
-only : (P : ℕ → Type 0) (n s : ℕ) → n ≡ 1 → s < n → P 0 → P s
-only P n s one lt here = let first : 0 ≡ s = omega arith in subst P first here
-
 -- what holds of all elements, holds of each
 each : (P : ℕ → Type 0) (xs : List ℕ) (x : ℕ) → All P xs → Contains xs x → P x
 each P xs x every at = subst P at.2 (every at.0 x at.1)
 
--- nothing stands in the lines of stream 0, nor in its main scheduler's pools
-pub record QuietAlone (W : Parts) (S : State) : Type 0 where
-  pub tray : standing W S (InTray 0) ≡ []
-  pub next : standing W S (InNext 0) ≡ []
-  pub hand : standing W S (InHand 0) ≡ []
-  pub frames : (S.stream 0).below ≡ []
-  pub pools : All (λ p. standing W S (InPool p) ≡ []) (pools_of W (main_of W 0))
+-- nothing stands in the lines of stream s, nor in its main scheduler's pools
+pub record IsQuiet (W : Parts) (S : State) (s : ℕ) : Type 0 where
+  pub tray : standing W S (InTray s) ≡ []
+  pub next : standing W S (InNext s) ≡ []
+  pub hand : standing W S (InHand s) ≡ []
+  pub frames : (S.stream s).below ≡ []
+  pub pools : All (λ p. standing W S (InPool p) ≡ []) (pools_of W (main_of W s))
 
-pub quiet_alone : (W : Parts) (S : State) → W.streams ≡ 1 → QuietAlone W S → Quiet W S
-quiet_alone W S one alone = record {
-  trays = λ s lt. only (λ r. standing W S (InTray r) ≡ []) _ s one lt alone.tray;
-  nexts = λ s lt. only (λ r. standing W S (InNext r) ≡ []) _ s one lt alone.next;
-  hands = λ s lt. only (λ r. standing W S (InHand r) ≡ []) _ s one lt alone.hand;
-  frames = λ s lt. only (λ r. (S.stream r).below ≡ []) _ s one lt alone.frames;
-  pools = λ s p lt. only (λ r. Contains (pools_of W (main_of W r)) p → standing W S (InPool p) ≡ []) _ s one lt
-      (each (λ q. standing W S (InPool q) ≡ []) (pools_of W (main_of W 0)) p alone.pools);
+abbrev is_quiet : (W : Parts) (S : State) (s : ℕ) → Option (IsQuiet W S s)
+is_quiet W S s =
+    given (nothing_in (standing W S (InTray s))) (λ tray.
+    given (nothing_in (standing W S (InNext s))) (λ next.
+    given (nothing_in (standing W S (InHand s))) (λ hand.
+    given (nothing_in (S.stream s).below) (λ frames.
+    given (all (λ p. standing W S (InPool p) ≡ []) (λ p. nothing_in (standing W S (InPool p))) (pools_of W (main_of W s))) (λ pools.
+    Some (record { tray = tray; next = next; hand = hand; frames = frames; pools = pools }))))))
+
+pub quiet_together : (W : Parts) (S : State) → ((s : ℕ) → s < W.streams → IsQuiet W S s) → Quiet W S
+quiet_together W S still = record {
+  trays = λ s lt. (still s lt).tray;
+  nexts = λ s lt. (still s lt).next;
+  hands = λ s lt. (still s lt).hand;
+  frames = λ s lt. (still s lt).frames;
+  pools = λ s p lt at. each (λ q. standing W S (InPool q) ≡ []) (pools_of W (main_of W s)) p (still s lt).pools at;
 }
 
--- whether the one stream is quiet
+-- whether each stream is quiet
 abbrev quiet : (W : Parts) (S : State) → Option (Quiet W S)
-quiet W S =
-    given (same W.streams 1) (λ one.
-    given (nothing_in (standing W S (InTray 0))) (λ tray.
-    given (nothing_in (standing W S (InNext 0))) (λ next.
-    given (nothing_in (standing W S (InHand 0))) (λ hand.
-    given (nothing_in (S.stream 0).below) (λ frames.
-    given (all (λ p. standing W S (InPool p) ≡ []) (λ p. nothing_in (standing W S (InPool p))) (pools_of W (main_of W 0))) (λ pools.
-    Some (quiet_alone W S one (record { tray = tray; next = next; hand = hand; frames = frames; pools = pools }))))))))
+quiet W S = given (each_below (IsQuiet W S) (is_quiet W S) W.streams) (λ still. Some (quiet_together W S still))
 
 -- All units over, or not.
 
@@ -138,7 +135,7 @@ first_spent W n J zero =
     given (step_by W (last_state W J) (due W (last_state W J) 0) refl) (λ step. Some ((some, steps, step), none_before W n J))))
 first_spent W n J (suc s) = None
 
--- whether a journal of one stream ended so
+-- whether a journal ended so; only stream 0 is looked at for a budget
 abbrev pub ending : (W : Parts) (n : ℕ) (J : List Event) (o : Outcome) → Option (EndsAs W n J o)
 ending W n J outcome.Finished = given (quiet W (last_state W J)) (λ still. given (all_ended W J) (λ every. Some (still, every)))
 ending W n J outcome.Stuck = given (quiet W (last_state W J)) (λ still. given (one_waits (last_state W J) (length W.units)) (λ waits. Some (still, waits)))

@@ -1,5 +1,5 @@
 -- How a computed run shows a row.
-use Rattle.std.proofs.Common.{ℕ, ◌≡◌, ◌<◌, List, true}
+use Rattle.std.proofs.Common.{ℕ, ◌≡◌, List, replicate, true}
 use Rattle.std.specs.Prelude.{is_some}
 use Rattle.abt_machine.specs.declared.events.Outcome.{Outcome}
 use Rattle.abt_machine.specs.declared.operations.OrderShape.{OrderShape}
@@ -16,9 +16,13 @@ use Rattle.abt_rows.proofs.Ending.{ending}
 use Rattle.abt_rows.proofs.Running.{Ran, ran_by}
 use Rattle.abt_rows.proofs.Validity.{validity}
 
--- the run of stream 0's first events, so many
-abbrev pub ran : (W : Parts) (Z : List OrderShape) → 0 < W.streams → ℕ → Ran W Z (start W)
-ran W Z some count = ran_by W Z some count 1 (start W)
+-- the run of the first events of stream 0, so many
+abbrev pub ran : (W : Parts) (Z : List OrderShape) → ℕ → Ran W Z (start W)
+ran W Z count = ran_by W Z (replicate count 0) 1 (start W)
+
+-- the run of the events that these streams make in turn
+abbrev pub ran_in_turn : (W : Parts) (Z : List OrderShape) → List ℕ → Ran W Z (start W)
+ran_in_turn W Z streams = ran_by W Z streams 1 (start W)
 
 -- a run, of which the validity, the end and the texts are computed
 pub reported : (W : Parts) (Z : List OrderShape) (n : ℕ) (R : Ran W Z (start W)) (o : Outcome) (text report : Text) →

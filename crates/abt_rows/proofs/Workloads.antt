@@ -1,6 +1,7 @@
--- The parts of workloads with one stream.
+-- The parts of workloads.
 use Rattle.std.proofs.Common.{ℕ, List, [], ◌∷◌, Some, None}
 use Rattle.std.specs.Prelude.{map}
+use Rattle.std.specs.List.{range_with_len}
 use Rattle.abt_machine.specs.declared.operations.Access.{Access}
 use Rattle.abt_machine.specs.declared.operations.Access.TheVariants as access
 use Rattle.abt_machine.specs.declared.operations.Body.TheVariants as body
@@ -35,19 +36,23 @@ task_later ops = record { body = body.Task ops; start = None }
 abbrev pub sched_at : ℕ → ℕ → UnitPart
 sched_at g p = record { body = body.Sched (sched_no g); start = Some (pool_no p) }
 
--- one stream, whose main scheduler is the first
-abbrev pub declared : ℕ → List PoolPart → List SchedPart → List Thing → List UnitPart → List Text → Parts
-declared keys pools scheds objects units words = record {
-  streams = 1;
+-- so many streams, whose main schedulers are the first ones, in order
+abbrev pub declared_for : ℕ → ℕ → List PoolPart → List SchedPart → List Thing → List UnitPart → List Text → Parts
+declared_for streams keys pools scheds objects units words = record {
+  streams = streams;
   keys = keys;
   pools = pools;
   scheds = scheds;
-  mains = sched_no 0 ∷ [];
+  mains = map sched_no (range_with_len 0 streams);
   objects = objects;
   units = units;
   words = words;
 }
 
--- the same with one FIFO pool that all streams may use, and a PRIO scheduler
+-- one stream
+abbrev pub declared : ℕ → List PoolPart → List SchedPart → List Thing → List UnitPart → List Text → Parts
+declared = declared_for 1
+
+-- one stream, one FIFO pool that all streams may use, and a PRIO scheduler
 abbrev pub based : ℕ → List Thing → List UnitPart → List Text → Parts
 based keys objects units words = declared keys (pool kind.Fifo access.Mpmc ∷ []) (sched rule.Prio (0 ∷ []) ∷ []) objects units words

@@ -7,3 +7,4 @@ pub mod Schedulers
 pub mod Mutexes
 pub mod Eventuals
 pub mod Budgets
+pub mod Streams

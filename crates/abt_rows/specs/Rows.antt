@@ -1,4 +1,4 @@
--- Worked rows: the text of a workload with one stream, its run, and what the program prints of it.
+-- Worked rows: the text of a workload, a run of it, and what the program prints of that run.
 use Rattle.std.specs.Prelude.{ℕ, ◌≡◌, List, [], ◌∷◌}
 use Rattle.abt_machine.specs.declared.events.Event.{Event}
 use Rattle.abt_machine.specs.declared.events.Outcome.{Outcome}

@@ -8,4 +8,5 @@ pub mod locals;
 pub mod mutexes;
 pub mod rounds;
 pub mod schedulers;
+pub mod streams;
 pub mod units;

@@ -1,4 +1,4 @@
-use Rattle.std.proofs.Common.{[], ◌∷◌, lit<, refl}
+use Rattle.std.proofs.Common.{[], ◌∷◌, refl}
 use Rattle.std.specs.Prelude.{codes}
 use Rattle.std.specs.Fmt.{digits}
 use Rattle.abt_machine.specs.declared.events.Outcome.TheVariants as outcome
@@ -15,4 +15,4 @@ workload = based 0 [] (ult_at 0 (op.Say 0 ∷ op.Say 1 ∷ op.Say 2 ∷ []) ∷ 
 
 pub returns : goal.returns
 unfolding digits
-returns c = (_, reported workload orders 2 (ran workload orders (lit< tt) 4) (outcome.Budget (stream_no 0)) _ _ refl refl refl refl)
+returns c = (_, reported workload orders 2 (ran workload orders 4) (outcome.Budget (stream_no 0)) _ _ refl refl refl refl)

@@ -1,4 +1,4 @@
-use Rattle.std.proofs.Common.{[], ◌∷◌, lit<, refl}
+use Rattle.std.proofs.Common.{[], ◌∷◌, refl}
 use Rattle.std.specs.Prelude.{codes}
 use Rattle.std.specs.Fmt.{digits}
 use Rattle.abt_machine.specs.declared.events.Outcome.TheVariants as outcome
@@ -20,4 +20,4 @@ workload = based 0 (thing.Future 2 combine.Sum ∷ thing.Barrier 2 ∷ []) (
 
 pub returns : goal.returns
 unfolding digits
-returns c = (_, reported workload orders 10000 (ran workload orders (lit< tt) 23) outcome.Finished _ _ refl refl refl refl)
+returns c = (_, reported workload orders 10000 (ran workload orders 23) outcome.Finished _ _ refl refl refl refl)

@@ -1,4 +1,4 @@
-use Rattle.std.proofs.Common.{[], ◌∷◌, lit<, refl}
+use Rattle.std.proofs.Common.{[], ◌∷◌, refl}
 use Rattle.std.specs.Fmt.{digits}
 use Rattle.abt_machine.specs.declared.events.Outcome.TheVariants as outcome
 use Rattle.abt_machine.specs.declared.operations.Combine.TheVariants as combine
@@ -16,4 +16,4 @@ workload = based 0 (thing.Future 1 combine.Sum ∷ []) (ult_at 0 (op.Set 3 ∷ o
 
 pub returns : goal.returns
 unfolding digits
-returns c = (_, reported workload orders 10000 (ran workload orders (lit< tt) 14) outcome.Finished _ _ refl refl refl refl)
+returns c = (_, reported workload orders 10000 (ran workload orders 14) outcome.Finished _ _ refl refl refl refl)

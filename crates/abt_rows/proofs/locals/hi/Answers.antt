@@ -1,4 +1,4 @@
-use Rattle.std.proofs.Common.{[], ◌∷◌, lit<, refl}
+use Rattle.std.proofs.Common.{[], ◌∷◌, refl}
 use Rattle.std.specs.Prelude.{codes}
 use Rattle.std.specs.Fmt.{digits}
 use Rattle.abt_machine.specs.declared.events.Outcome.TheVariants as outcome
@@ -14,4 +14,4 @@ workload = based 0 [] (ult_at 0 (op.Say 0 ∷ []) ∷ []) (codes "hi" ∷ [])
 
 pub returns : goal.returns
 unfolding digits
-returns c = (_, refl, reported workload orders 10000 (ran workload orders (lit< tt) 5) outcome.Finished _ _ refl refl refl refl)
+returns c = (_, refl, reported workload orders 10000 (ran workload orders 5) outcome.Finished _ _ refl refl refl refl)

@@ -1,4 +1,4 @@
-use Rattle.std.proofs.Common.{[], ◌∷◌, lit<, refl}
+use Rattle.std.proofs.Common.{[], ◌∷◌, refl}
 use Rattle.std.specs.Fmt.{digits}
 use Rattle.abt_machine.specs.declared.events.Outcome.TheVariants as outcome
 use Rattle.abt_machine.specs.declared.operations.Op.TheVariants as op
@@ -13,4 +13,4 @@ workload = based 2 [] (ult_at 0 (op.Set 9 ∷ op.KeySet 0 ∷ op.Set 8 ∷ op.Ke
 
 pub returns : goal.returns
 unfolding digits
-returns c = (_, reported workload orders 10000 (ran workload orders (lit< tt) 12) outcome.Finished _ _ refl refl refl refl)
+returns c = (_, reported workload orders 10000 (ran workload orders 12) outcome.Finished _ _ refl refl refl refl)

@@ -1,4 +1,4 @@
-use Rattle.std.proofs.Common.{[], ◌∷◌, lit<, refl}
+use Rattle.std.proofs.Common.{[], ◌∷◌, refl}
 use Rattle.std.specs.Fmt.{digits}
 use Rattle.abt_machine.specs.declared.events.Outcome.TheVariants as outcome
 use Rattle.abt_machine.specs.declared.operations.Access.TheVariants as access
@@ -15,4 +15,4 @@ workload = declared 0 (pool kind.Fifo access.Mpmc ∷ pool kind.Fifo access.Mpmc
 
 pub returns : goal.returns
 unfolding digits
-returns c = (_, reported workload orders 10000 (ran workload orders (lit< tt) 1) outcome.Stuck _ _ refl refl refl refl)
+returns c = (_, reported workload orders 10000 (ran workload orders 1) outcome.Stuck _ _ refl refl refl refl)

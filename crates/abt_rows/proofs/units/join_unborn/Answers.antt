@@ -1,4 +1,4 @@
-use Rattle.std.proofs.Common.{[], ◌∷◌, lit<, refl}
+use Rattle.std.proofs.Common.{[], ◌∷◌, refl}
 use Rattle.std.specs.Fmt.{digits}
 use Rattle.abt_machine.specs.declared.events.Outcome.TheVariants as outcome
 use Rattle.abt_machine.specs.declared.operations.Op.TheVariants as op
@@ -17,4 +17,4 @@ workload = based 0 [] (
 
 pub returns : goal.returns
 unfolding digits
-returns c = (_, reported workload orders 10000 (ran workload orders (lit< tt) 4) outcome.Stuck _ _ refl refl refl refl)
+returns c = (_, reported workload orders 10000 (ran workload orders 4) outcome.Stuck _ _ refl refl refl refl)

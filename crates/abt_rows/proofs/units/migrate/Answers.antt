@@ -1,4 +1,4 @@
-use Rattle.std.proofs.Common.{[], ◌∷◌, lit<, refl}
+use Rattle.std.proofs.Common.{[], ◌∷◌, refl}
 use Rattle.std.specs.Prelude.{codes}
 use Rattle.std.specs.Fmt.{digits}
 use Rattle.abt_machine.specs.declared.events.Outcome.TheVariants as outcome
@@ -21,4 +21,4 @@ workload = declared 0 (pool kind.Fifo access.Mpmc ∷ pool kind.Fifo access.Mpmc
 
 pub returns : goal.returns
 unfolding digits
-returns c = (_, refl, reported workload orders 10000 (ran workload orders (lit< tt) 14) outcome.Finished _ _ refl refl refl refl)
+returns c = (_, refl, reported workload orders 10000 (ran workload orders 14) outcome.Finished _ _ refl refl refl refl)
