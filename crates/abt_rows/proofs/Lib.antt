@@ -1,6 +1,6 @@
+pub mod Deciding
 pub mod Running
-pub mod Workloads
+pub mod Validity
 pub mod Ending
 pub mod Reporting
-pub mod Deciding
-pub mod Validity
+pub mod Workloads

@@ -1,4 +1,4 @@
--- Rows on the access of two streams to pools.
+-- Rows of two streams, on their access to pools and on their rounds.
 use Rattle.std.specs.Prelude.{codes, ◌++◌}
 use Rattle.abt_machine.specs.Words.{Text}
 
@@ -70,3 +70,17 @@ abbrev pub access_report : Text
 access_report =
     codes "unit 0 access:\n" ++
     codes "tally units 1 unborn 0 pool 0 stream 0 blocked 0 done 0 asked 0 access 1 steps 0\nfinished\n"
+
+-- An empty round counts: after it, a rotated order begins one pool later.
+
+abbrev pub empty_round_text : Text
+empty_round_text =
+    codes "abt 1\nstreams 2\npool 0 fifo priv of 0\npool 1 fifo spsc from 0 to 1\npool 2 fifo spsc from 0 to 1\n" ++
+    codes "sched 0 prio 0\nsched 1 user 0 1 2\nstream 0 main 0\nstream 1 main 1\nobject 0 mutex\n" ++
+    codes "units 3\nunit 0 ult at 0\ncreate 1 1\ncreate 2 2\n" ++
+    codes "unit 1 ult later\ntrylock 0\nunit 2 ult later\ntrylock 0\nend\n"
+
+abbrev pub empty_round_report : Text
+empty_round_report =
+    codes "unit 0 done:\nunit 1 done: !mutex-locked\nunit 2 done:\n" ++
+    codes "tally units 3 unborn 0 pool 0 stream 0 blocked 0 done 3 asked 0 access 0 steps 4\nfinished\n"

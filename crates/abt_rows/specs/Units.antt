@@ -219,3 +219,24 @@ revival_report =
     codes "unit 0 done:\nunit 1 done: 0 0 0 0\n" ++
     codes "tally units 2 unborn 0 pool 0 stream 0 blocked 0 done 2 asked 0 access 0 steps 13\n" ++
     codes "finished\n"
+
+-- All joiners of a unit are woken when it ends, in the order in which they came.
+
+abbrev pub joiners_in_order_text : Text
+joiners_in_order_text =
+    base ++
+    codes "units 3\nunit 0 ult at 0\nyield\nyield\nunit 1 ult at 0\nyield\njoin 0\n" ++
+    codes "unit 2 ult at 0\njoin 0\nend\n"
+
+abbrev pub joiners_in_order_journal : Text
+joiners_in_order_journal =
+    codes "1 0 take 0 0\n2 0 look 0\n3 0 step 0 0 ok\n4 0 put 0 0\n5 0 take 0 1\n6 0 look 1\n" ++
+    codes "7 0 step 1 0 ok\n8 0 put 1 0\n9 0 take 0 2\n10 0 look 2\n11 0 step 2 0 ok\n12 0 take 0 0\n" ++
+    codes "13 0 look 0\n14 0 step 0 1 ok\n15 0 put 0 0\n16 0 take 0 1\n17 0 look 1\n18 0 step 1 1 ok\n" ++
+    codes "19 0 take 0 0\n20 0 look 0\n21 0 end 0 done\n22 0 put 2 0\n23 0 put 1 0\n24 0 take 0 2\n" ++
+    codes "25 0 look 2\n26 0 end 2 done\n27 0 take 0 1\n28 0 look 1\n29 0 end 1 done\n30 0 miss 0\n"
+
+abbrev pub joiners_in_order_report : Text
+joiners_in_order_report =
+    codes "unit 0 done:\nunit 1 done:\nunit 2 done:\n" ++
+    codes "tally units 3 unborn 0 pool 0 stream 0 blocked 0 done 3 asked 0 access 0 steps 5\nfinished\n"

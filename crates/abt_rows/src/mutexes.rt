@@ -1,7 +1,7 @@
 //! Rows on mutexes and conditions.
 
 ghost use Rattle.abt_rows.specs.Rows.{IsReported, IsWorked, orders};
-ghost use Rattle.abt_rows.specs.Mutexes.{self_lock_text, self_lock_report, trylock_text, trylock_report, trylock_own_text, trylock_own_report, unlock_then_trylock_text, unlock_then_trylock_journal, unlock_then_trylock_report, handed_over_text, handed_over_journal, handed_over_report, not_owner_text, not_owner_report, condition_text, condition_report, signal_free_text, signal_free_report, broadcast_held_text, broadcast_held_journal, broadcast_held_report, broadcast_free_text, broadcast_free_journal, broadcast_free_report};
+ghost use Rattle.abt_rows.specs.Mutexes.{self_lock_text, self_lock_report, trylock_text, trylock_report, trylock_own_text, trylock_own_report, unlock_then_trylock_text, unlock_then_trylock_journal, unlock_then_trylock_report, handed_over_text, handed_over_journal, handed_over_report, not_owner_text, not_owner_report, condition_text, condition_report, signal_free_text, signal_free_report, broadcast_held_text, broadcast_held_journal, broadcast_held_report, broadcast_free_text, broadcast_free_journal, broadcast_free_report, waiters_in_order_text, waiters_in_order_journal, waiters_in_order_report};
 
 /// A second lock by the owner waits.
 pub fn self_lock()
@@ -52,4 +52,9 @@ pub fn broadcast_held()
 /// for it.
 pub fn broadcast_free()
     ensures { IsWorked orders 10000 broadcast_free_text broadcast_free_journal broadcast_free_report }
+{}
+
+/// A mutex goes to its waiters in the order in which they came.
+pub fn waiters_in_order()
+    ensures { IsWorked orders 10000 waiters_in_order_text waiters_in_order_journal waiters_in_order_report }
 {}

@@ -1,7 +1,7 @@
 //! Rows on births, ends, joins and requests.
 
 ghost use Rattle.abt_rows.specs.Rows.{IsReported, IsWorked, orders};
-ghost use Rattle.abt_rows.specs.Units.{join_text, join_report, join_unborn_text, join_unborn_report, join_self_text, join_self_report, exists_text, exists_report, unborn_refused_text, unborn_refused_report, ended_refused_text, ended_refused_report, resume_too_early_text, resume_too_early_report, cancel_suspended_text, cancel_suspended_report, cancel_before_migrate_text, cancel_before_migrate_report, migrate_text, migrate_journal, migrate_report, migrate_to_stream_text, migrate_to_stream_journal, migrate_to_stream_report, last_migrate_counts_text, last_migrate_counts_journal, last_migrate_counts_report, migratable_text, migratable_journal, migratable_report, yieldto_absent_text, yieldto_absent_report, yieldto_text, yieldto_journal, yieldto_report, revival_text, revival_report};
+ghost use Rattle.abt_rows.specs.Units.{join_text, join_report, join_unborn_text, join_unborn_report, join_self_text, join_self_report, exists_text, exists_report, unborn_refused_text, unborn_refused_report, ended_refused_text, ended_refused_report, resume_too_early_text, resume_too_early_report, cancel_suspended_text, cancel_suspended_report, cancel_before_migrate_text, cancel_before_migrate_report, migrate_text, migrate_journal, migrate_report, migrate_to_stream_text, migrate_to_stream_journal, migrate_to_stream_report, last_migrate_counts_text, last_migrate_counts_journal, last_migrate_counts_report, migratable_text, migratable_journal, migratable_report, yieldto_absent_text, yieldto_absent_report, yieldto_text, yieldto_journal, yieldto_report, revival_text, revival_report, joiners_in_order_text, joiners_in_order_journal, joiners_in_order_report};
 
 /// A unit that joins another is woken when that one ends.
 pub fn join()
@@ -81,4 +81,9 @@ pub fn yieldto()
 /// A revived unit begins again, with accumulator and keys 0; its output is kept.
 pub fn revival()
     ensures { IsReported orders 10000 revival_text revival_report }
+{}
+
+/// All joiners of a unit are woken when it ends, in the order in which they came.
+pub fn joiners_in_order()
+    ensures { IsWorked orders 10000 joiners_in_order_text joiners_in_order_journal joiners_in_order_report }
 {}
