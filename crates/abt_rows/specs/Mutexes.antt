@@ -167,19 +167,21 @@ broadcast_free_report =
 abbrev pub waiters_in_order_text : Text
 waiters_in_order_text =
     base ++
-    codes "object 0 mutex\nunits 3\nunit 0 ult at 0\nlock 0\nyield\nyield\nunlock 0\n" ++
-    codes "unit 1 ult at 0\nyield\nlock 0\nunlock 0\nunit 2 ult at 0\nlock 0\nunlock 0\nend\n"
+    codes "object 0 mutex\nunits 4\nunit 0 ult at 0\nlock 0\nyield\nyield\nunlock 0\n" ++
+    codes "unit 1 ult at 0\nyield\nlock 0\nunlock 0\nunit 2 ult at 0\nlock 0\nunlock 0\nunit 3 ult at 0\nlock 0\nunlock 0\nend\n"
 
 abbrev pub waiters_in_order_journal : Text
 waiters_in_order_journal =
     codes "1 0 take 0 0\n2 0 look 0\n3 0 step 0 0 ok\n4 0 step 0 1 ok\n5 0 put 0 0\n6 0 take 0 1\n" ++
     codes "7 0 look 1\n8 0 step 1 0 ok\n9 0 put 1 0\n10 0 take 0 2\n11 0 look 2\n12 0 step 2 0 ok\n" ++
-    codes "13 0 take 0 0\n14 0 look 0\n15 0 step 0 2 ok\n16 0 put 0 0\n17 0 take 0 1\n18 0 look 1\n" ++
-    codes "19 0 step 1 1 ok\n20 0 take 0 0\n21 0 look 0\n22 0 step 0 3 ok\n23 0 put 2 0\n24 0 end 0 done\n" ++
-    codes "25 0 take 0 2\n26 0 look 2\n27 0 step 2 1 ok\n28 0 put 1 0\n29 0 end 2 done\n30 0 take 0 1\n" ++
-    codes "31 0 look 1\n32 0 step 1 2 ok\n33 0 end 1 done\n34 0 miss 0\n"
+    codes "13 0 take 0 3\n14 0 look 3\n15 0 step 3 0 ok\n16 0 take 0 0\n17 0 look 0\n18 0 step 0 2 ok\n" ++
+    codes "19 0 put 0 0\n20 0 take 0 1\n21 0 look 1\n22 0 step 1 1 ok\n23 0 take 0 0\n24 0 look 0\n" ++
+    codes "25 0 step 0 3 ok\n26 0 put 2 0\n27 0 end 0 done\n28 0 take 0 2\n29 0 look 2\n30 0 step 2 1 ok\n" ++
+    codes "31 0 put 3 0\n32 0 end 2 done\n33 0 take 0 3\n34 0 look 3\n35 0 step 3 1 ok\n36 0 put 1 0\n" ++
+    codes "37 0 end 3 done\n38 0 take 0 1\n39 0 look 1\n40 0 step 1 2 ok\n41 0 end 1 done\n42 0 miss 0\n"
 
 abbrev pub waiters_in_order_report : Text
 waiters_in_order_report =
-    codes "unit 0 done:\nunit 1 done:\nunit 2 done:\n" ++
-    codes "tally units 3 unborn 0 pool 0 stream 0 blocked 0 done 3 asked 0 access 0 steps 9\nfinished\n"
+    codes "unit 0 done:\nunit 1 done:\nunit 2 done:\nunit 3 done:\n" ++
+    codes "tally units 4 unborn 0 pool 0 stream 0 blocked 0 done 4 asked 0 access 0 steps 11\n" ++
+    codes "finished\n"

@@ -225,18 +225,20 @@ revival_report =
 abbrev pub joiners_in_order_text : Text
 joiners_in_order_text =
     base ++
-    codes "units 3\nunit 0 ult at 0\nyield\nyield\nunit 1 ult at 0\nyield\njoin 0\n" ++
-    codes "unit 2 ult at 0\njoin 0\nend\n"
+    codes "units 4\nunit 0 ult at 0\nyield\nyield\nunit 1 ult at 0\nyield\njoin 0\n" ++
+    codes "unit 2 ult at 0\njoin 0\nunit 3 ult at 0\njoin 0\nend\n"
 
 abbrev pub joiners_in_order_journal : Text
 joiners_in_order_journal =
     codes "1 0 take 0 0\n2 0 look 0\n3 0 step 0 0 ok\n4 0 put 0 0\n5 0 take 0 1\n6 0 look 1\n" ++
-    codes "7 0 step 1 0 ok\n8 0 put 1 0\n9 0 take 0 2\n10 0 look 2\n11 0 step 2 0 ok\n12 0 take 0 0\n" ++
-    codes "13 0 look 0\n14 0 step 0 1 ok\n15 0 put 0 0\n16 0 take 0 1\n17 0 look 1\n18 0 step 1 1 ok\n" ++
-    codes "19 0 take 0 0\n20 0 look 0\n21 0 end 0 done\n22 0 put 2 0\n23 0 put 1 0\n24 0 take 0 2\n" ++
-    codes "25 0 look 2\n26 0 end 2 done\n27 0 take 0 1\n28 0 look 1\n29 0 end 1 done\n30 0 miss 0\n"
+    codes "7 0 step 1 0 ok\n8 0 put 1 0\n9 0 take 0 2\n10 0 look 2\n11 0 step 2 0 ok\n12 0 take 0 3\n" ++
+    codes "13 0 look 3\n14 0 step 3 0 ok\n15 0 take 0 0\n16 0 look 0\n17 0 step 0 1 ok\n18 0 put 0 0\n" ++
+    codes "19 0 take 0 1\n20 0 look 1\n21 0 step 1 1 ok\n22 0 take 0 0\n23 0 look 0\n24 0 end 0 done\n" ++
+    codes "25 0 put 2 0\n26 0 put 3 0\n27 0 put 1 0\n28 0 take 0 2\n29 0 look 2\n30 0 end 2 done\n" ++
+    codes "31 0 take 0 3\n32 0 look 3\n33 0 end 3 done\n34 0 take 0 1\n35 0 look 1\n36 0 end 1 done\n" ++
+    codes "37 0 miss 0\n"
 
 abbrev pub joiners_in_order_report : Text
 joiners_in_order_report =
-    codes "unit 0 done:\nunit 1 done:\nunit 2 done:\n" ++
-    codes "tally units 3 unborn 0 pool 0 stream 0 blocked 0 done 3 asked 0 access 0 steps 5\nfinished\n"
+    codes "unit 0 done:\nunit 1 done:\nunit 2 done:\nunit 3 done:\n" ++
+    codes "tally units 4 unborn 0 pool 0 stream 0 blocked 0 done 4 asked 0 access 0 steps 6\nfinished\n"

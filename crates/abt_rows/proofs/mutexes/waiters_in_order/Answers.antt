@@ -15,8 +15,9 @@ workload = based 0 (thing.Mutex ∷ []) (
     ult_at 0 (op.Lock (object_no 0) ∷ op.Yield ∷ op.Yield ∷ op.Unlock (object_no 0) ∷ []) ∷
     ult_at 0 (op.Yield ∷ op.Lock (object_no 0) ∷ op.Unlock (object_no 0) ∷ []) ∷
     ult_at 0 (op.Lock (object_no 0) ∷ op.Unlock (object_no 0) ∷ []) ∷
+    ult_at 0 (op.Lock (object_no 0) ∷ op.Unlock (object_no 0) ∷ []) ∷
     []) []
 
 pub returns : goal.returns
 unfolding digits
-returns c = (_, refl, reported workload orders 10000 (ran workload orders 34) outcome.Finished _ _ refl refl refl refl)
+returns c = (_, refl, reported workload orders 10000 (ran workload orders 42) outcome.Finished _ _ refl refl refl refl)

@@ -14,8 +14,9 @@ workload = based 0 [] (
     ult_at 0 (op.Yield ∷ op.Yield ∷ []) ∷
     ult_at 0 (op.Yield ∷ op.Join (unit_no 0) ∷ []) ∷
     ult_at 0 (op.Join (unit_no 0) ∷ []) ∷
+    ult_at 0 (op.Join (unit_no 0) ∷ []) ∷
     []) []
 
 pub returns : goal.returns
 unfolding digits
-returns c = (_, refl, reported workload orders 10000 (ran workload orders 30) outcome.Finished _ _ refl refl refl refl)
+returns c = (_, refl, reported workload orders 10000 (ran workload orders 37) outcome.Finished _ _ refl refl refl refl)
