@@ -1,7 +1,5 @@
--- One stream's run, computed event by event, each with why it may come.
-use Rattle.std.proofs.Common.{ℕ, zero, suc, ◌≡◌, ◌<◌, ◌-◌, ◌++◌, Bool, true, false, List, [], ◌∷◌, length, Option, Some, None, refl, ap, sym, subst, ◌∙◌}
-use Rattle.std.specs.Prelude.{◌==◌}
-use Rattle.std.proofs.lemmas.Bool.{eqb-true}
+-- A run, computed event by event, each with why it may come.
+use Rattle.std.proofs.Common.{ℕ, suc, ◌≡◌, ◌<◌, ◌-◌, ◌++◌, List, [], ◌∷◌, length, Option, Some, None, refl, ap, sym, subst, ◌∙◌}
 use Rattle.abt_machine.specs.declared.numbers.StreamNo.{StreamNo}
 use Rattle.abt_machine.specs.declared.events.Cause.{Cause}
 use Rattle.abt_machine.specs.declared.events.Event.{Event}
@@ -22,19 +20,11 @@ use Rattle.abt_machine.specs.Rounds.{Choice, Only, AnyOrder, NoOrder, choice_of,
 use Rattle.abt_machine.specs.Codes.{code_at}
 use Rattle.abt_machine.specs.Events.{May, after}
 use Rattle.abt_machine.specs.Runs.{RunFrom}
+use Rattle.abt_rows.proofs.Deciding.{is_less, same}
 
 -- an event that may come
 abbrev pub Coming : Parts → List OrderShape → State → ℕ → Type 0
 Coming W Z S s = (w : What) × May W Z S s w
-
--- Whether two numbers are one.
-
-abbrev same_by : (a b : ℕ) (t : Bool) → (a == b) ≡ t → Option (a ≡ b)
-same_by a b true e = Some (eqb-true a b e)
-same_by a b false e = None
-
-abbrev same : (a b : ℕ) → Option (a ≡ b)
-same a b = same_by a b (a == b) refl
 
 -- The next pool of a round.
 
@@ -132,17 +122,18 @@ coming W Z S s = by_due W Z S s (due W S s) refl
 abbrev pub Ran : Parts → List OrderShape → State → Type 0
 Ran W Z S = (J : List Event) × RunFrom W Z S J
 
-abbrev stamped : ℕ → What → Event
-stamped t w = record { stamp = t; stream = stream_no 0; what = w }
+abbrev stamped : ℕ → ℕ → What → Event
+stamped t s w = record { stamp = t; stream = stream_no s; what = w }
 
-abbrev ran_on : (W : Parts) (Z : List OrderShape) (S : State) → 0 < W.streams → ℕ → (c : Coming W Z S 0) → Ran W Z (after W S 0 c.0) → Ran W Z S
-ran_on W Z S some t c rest = (stamped t c.0 ∷ rest.0, (some, c.1, rest.1))
+abbrev ran_on : (W : Parts) (Z : List OrderShape) (S : State) (s : ℕ) → s < W.streams → ℕ → (c : Coming W Z S s) → Ran W Z (after W S s c.0) → Ran W Z S
+ran_on W Z S s is t c rest = (stamped t s c.0 ∷ rest.0, (is, c.1, rest.1))
 
-abbrev ran_from : (W : Parts) (Z : List OrderShape) (S : State) → 0 < W.streams → ℕ → Option (Coming W Z S 0) → ((c : Coming W Z S 0) → Ran W Z (after W S 0 c.0)) → Ran W Z S
-ran_from W Z S some t None rest = ([], tt)
-ran_from W Z S some t (Some c) rest = ran_on W Z S some t c (rest c)
+abbrev ran_from : (W : Parts) (Z : List OrderShape) (S : State) (s : ℕ) → Option (s < W.streams) → ℕ → Option (Coming W Z S s) → ((c : Coming W Z S s) → Ran W Z (after W S s c.0)) → Ran W Z S
+ran_from W Z S s (Some is) t (Some c) rest = ran_on W Z S s is t c (rest c)
+ran_from W Z S s (Some is) t None rest = ([], tt)
+ran_from W Z S s None t o rest = ([], tt)
 
--- the first n events of stream 0 from S on, or as many as come, with stamps from t
-abbrev pub ran_by : (W : Parts) (Z : List OrderShape) → 0 < W.streams → ℕ → ℕ → (S : State) → Ran W Z S
-ran_by W Z some zero t S = ([], tt)
-ran_by W Z some (suc n) t S = ran_from W Z S some t (coming W Z S 0) (λ c. ran_by W Z some n (suc t) (after W S 0 c.0))
+-- the events that these streams make in turn from S on, with stamps from t, up to the first that can't come
+abbrev pub ran_by : (W : Parts) (Z : List OrderShape) → List ℕ → ℕ → (S : State) → Ran W Z S
+ran_by W Z [] t S = ([], tt)
+ran_by W Z (s ∷ ss) t S = ran_from W Z S s (is_less s W.streams) t (coming W Z S s) (λ c. ran_by W Z ss (suc t) (after W S s c.0))

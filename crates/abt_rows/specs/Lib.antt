@@ -1,0 +1,10 @@
+pub mod Base
+pub mod Rows
+pub mod Locals
+pub mod Rounds
+pub mod Units
+pub mod Schedulers
+pub mod Mutexes
+pub mod Eventuals
+pub mod Budgets
+pub mod Streams

@@ -1,11 +1,12 @@
-//! Worked rows of the machine, computed from its definitions.
+//! Worked rows of the machine: for the text of a workload, the journal of its run and the report on it,
+//! computed from the definitions of the machine. Each function's contract is a row, and its body is empty.
 #![tactic(auto)]
 
-ghost use Rattle.std.specs.Prelude.{◌≡◌};
-
-/// One.
-pub fn one() -> u8
-    ensures { result ≡ 1 }
-{
-    1
-}
+pub mod budgets;
+pub mod eventuals;
+pub mod locals;
+pub mod mutexes;
+pub mod rounds;
+pub mod schedulers;
+pub mod streams;
+pub mod units;

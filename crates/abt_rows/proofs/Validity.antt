@@ -1,0 +1,219 @@
+-- Whether parts are those of a workload, computed with the proof.
+use Rattle.std.proofs.Common.{ℕ, zero, suc, ◌≡◌, ◌<◌, ◌≤◌, ◌^◌, true, [], ◌∷◌, length, Option, Some, None, nat_lt, refl, arith}
+use Rattle.std.specs.Prelude.{IsAscii}
+use Rattle.std.specs.List.{list_all, list_any, range_with_len}
+use Rattle.std.proofs.lemmas.Bool.{and_parts, ltb-true}
+use Rattle.std.proofs.lemmas.Str.{IsUtf8-from_ascii}
+use Rattle.abt_machine.specs.declared.operations.Access.{Access}
+use Rattle.abt_machine.specs.declared.operations.Access.TheVariants as access
+use Rattle.abt_machine.specs.declared.operations.Body.{Body}
+use Rattle.abt_machine.specs.declared.operations.Body.TheVariants as body
+use Rattle.abt_machine.specs.declared.operations.Op.{Op}
+use Rattle.abt_machine.specs.declared.operations.Op.TheVariants as op
+use Rattle.abt_machine.specs.declared.operations.Rule.{Rule}
+use Rattle.abt_machine.specs.declared.operations.Rule.TheVariants as rule
+use Rattle.abt_machine.specs.declared.operations.Thing.{Thing}
+use Rattle.abt_machine.specs.declared.operations.Thing.TheVariants as thing
+use Rattle.abt_machine.specs.declared.workload.Parts.{Parts}
+use Rattle.abt_machine.specs.Access.{may_take_all}
+use Rattle.abt_machine.specs.Canonical.{canonical_text}
+use Rattle.abt_machine.specs.Operations.{IsDeclared, IsMutex, IsEventual, IsFuture, IsBarrier, may_block}
+use Rattle.abt_machine.specs.Valid.{IsAccess, IsBody, IsRule, IsScheduler, IsStream, IsThing, IsUnit, IsValid, IsVisible, IsWord, placed_scheds, words_said}
+use Rattle.abt_machine.specs.Words.{Text}
+use Rattle.abt_machine.specs.Workloads.{IsCondition, access_of, body_at, main_of, ops_of, pools_of, rule_of, start_of, thing_at}
+use Rattle.abt_rows.proofs.Deciding.{all, apart, each_below, each_once, entries, given, is_at_most, is_false, is_less, is_true, same, same_list, whenever}
+
+-- Pools, schedulers and streams.
+
+abbrev pool_access : (W : Parts) (a : Access) → Option (IsAccess W a)
+pool_access W (access.Priv s) = is_less s.0 W.streams
+pool_access W (access.Spsc s t) = given (is_less s.0 W.streams) (λ here. given (is_less t.0 W.streams) (λ there. Some (here, there)))
+pool_access W (access.Mpsc t) = is_less t.0 W.streams
+pool_access W (access.Spmc s) = is_less s.0 W.streams
+pool_access W access.Mpmc = Some tt
+
+abbrev sched_rule : (r : Rule) → Option (IsRule r)
+sched_rule rule.Basic = Some tt
+sched_rule rule.Prio = Some tt
+sched_rule (rule.Randws seed) = is_less seed (2 ^ 64)
+sched_rule (rule.User k) = is_less k 2
+
+abbrev scheduler : (W : Parts) (g : ℕ) → Option (IsScheduler W g)
+scheduler W g =
+    given (whenever IsRule sched_rule (rule_of W g)) (λ rules.
+    given (is_less 0 (length (pools_of W g))) (λ some.
+    given (is_at_most (length (pools_of W g)) 8) (λ few.
+    given (all (λ p. p < length W.pools) (λ p. is_less p (length W.pools)) (pools_of W g)) (λ pools.
+    given (each_once (pools_of W g)) (λ once.
+    Some (record { rule = rules; some_pool = some; few_pools = few; pools = pools; once = once }))))))
+
+abbrev stream : (W : Parts) (s : ℕ) → Option (IsStream W s)
+stream W s =
+    given (is_less (main_of W s) (length W.scheds)) (λ main.
+    given (is_true (may_take_all W s (main_of W s))) (λ takes.
+    Some (record { main = main; takes = takes })))
+
+-- Objects.
+
+abbrev mutex_by : (W : Parts) (x : ℕ) (o : Option Thing) → thing_at W x ≡ o → Option (IsMutex W x)
+mutex_by W x (Some thing.Mutex) e = Some e
+mutex_by W x _ e = None
+
+abbrev mutex : (W : Parts) (x : ℕ) → Option (IsMutex W x)
+mutex W x = mutex_by W x (thing_at W x) refl
+
+abbrev condition_by : (W : Parts) (x : ℕ) (o : Option Thing) → thing_at W x ≡ o → Option (IsCondition W x)
+condition_by W x (Some (thing.Cond m)) e = Some (m, e)
+condition_by W x _ e = None
+
+abbrev condition : (W : Parts) (x : ℕ) → Option (IsCondition W x)
+condition W x = condition_by W x (thing_at W x) refl
+
+abbrev eventual_by : (W : Parts) (x : ℕ) (o : Option Thing) → thing_at W x ≡ o → Option (IsEventual W x)
+eventual_by W x (Some thing.Eventual) e = Some e
+eventual_by W x _ e = None
+
+abbrev eventual : (W : Parts) (x : ℕ) → Option (IsEventual W x)
+eventual W x = eventual_by W x (thing_at W x) refl
+
+abbrev future_by : (W : Parts) (x : ℕ) (o : Option Thing) → thing_at W x ≡ o → Option (IsFuture W x)
+future_by W x (Some (thing.Future n c)) e = Some (n, c, e)
+future_by W x _ e = None
+
+abbrev future : (W : Parts) (x : ℕ) → Option (IsFuture W x)
+future W x = future_by W x (thing_at W x) refl
+
+abbrev barrier_by : (W : Parts) (x : ℕ) (o : Option Thing) → thing_at W x ≡ o → Option (IsBarrier W x)
+barrier_by W x (Some (thing.Barrier n)) e = Some (n, e)
+barrier_by W x _ e = None
+
+abbrev barrier : (W : Parts) (x : ℕ) → Option (IsBarrier W x)
+barrier W x = barrier_by W x (thing_at W x) refl
+
+abbrev size : (n : ℕ) → Option ((0 < n) × (n ≤ 4096))
+size n = given (is_less 0 n) (λ some. given (is_at_most n 4096) (λ few. Some (some, few)))
+
+abbrev object : (W : Parts) (x : ℕ) (t : Thing) → Option (IsThing W x t)
+object W x thing.Mutex = Some tt
+object W x (thing.Cond m) = given (is_less m.0 x) (λ above. given (mutex W m.0) (λ is. Some (above, is)))
+object W x thing.Eventual = Some tt
+object W x (thing.Future n c) = size n
+object W x (thing.Barrier n) = size n
+
+-- Units.
+
+abbrev two_less : (a m b n : ℕ) → Option ((a < m) × (b < n))
+two_less a m b n = given (is_less a m) (λ first. given (is_less b n) (λ second. Some (first, second)))
+
+abbrev operation : (W : Parts) (o : Op) → Option (IsDeclared W o)
+operation W (op.Set n) = is_less n (2 ^ 64)
+operation W (op.Add n) = is_less n (2 ^ 64)
+operation W (op.Say w) = is_less w (length W.words)
+operation W op.Print = Some tt
+operation W (op.KeySet k) = is_less k W.keys
+operation W (op.KeyGet k) = is_less k W.keys
+operation W op.Yield = Some tt
+operation W (op.YieldTo v p) = two_less v.0 (length W.units) p.0 (length W.pools)
+operation W op.Suspend = Some tt
+operation W (op.Resume v) = is_less v.0 (length W.units)
+operation W (op.Create v p) = two_less v.0 (length W.units) p.0 (length W.pools)
+operation W (op.Join v) = is_less v.0 (length W.units)
+operation W (op.Cancel v) = is_less v.0 (length W.units)
+operation W (op.Migrate v p) = two_less v.0 (length W.units) p.0 (length W.pools)
+operation W (op.MigrateTo v s) = two_less v.0 (length W.units) s.0 W.streams
+operation W (op.Migratable v b) = is_less v.0 (length W.units)
+operation W (op.Revive v p) = two_less v.0 (length W.units) p.0 (length W.pools)
+operation W (op.Lock x) = mutex W x.0
+operation W (op.TryLock x) = mutex W x.0
+operation W (op.Unlock x) = mutex W x.0
+operation W (op.Load x) = mutex W x.0
+operation W (op.Store x) = mutex W x.0
+operation W (op.CondWait x) = condition W x.0
+operation W (op.Signal x) = condition W x.0
+operation W (op.Broadcast x) = condition W x.0
+operation W (op.EvWait x) = eventual W x.0
+operation W (op.EvSet x) = eventual W x.0
+operation W (op.EvReset x) = eventual W x.0
+operation W (op.EvTest x) = eventual W x.0
+operation W (op.FuWait x) = future W x.0
+operation W (op.FuSet x) = future W x.0
+operation W (op.FuReset x) = future W x.0
+operation W (op.FuTest x) = future W x.0
+operation W (op.BarWait x) = barrier W x.0
+
+abbrev unit_body : (W : Parts) (b : Body) → Option (IsBody W b)
+unit_body W (body.Ult ops) = Some tt
+unit_body W (body.Task ops) = is_false (list_any may_block ops)
+unit_body W (body.Sched g) = is_less g.0 (length W.scheds)
+
+abbrev unit : (W : Parts) (u : ℕ) → Option (IsUnit W u)
+unit W u =
+    given (unit_body W (body_at W u)) (λ kind.
+    given (is_at_most (length (ops_of (body_at W u))) 256) (λ few.
+    given (entries (ops_of (body_at W u)) (λ k. IsDeclared W) (λ k. operation W)) (λ ops.
+    given (whenever (λ p. p < length W.pools) (λ p. is_less p (length W.pools)) (start_of W u)) (λ start.
+    Some (record { kind = kind; few_ops = few; ops = ops; start = start })))))
+
+-- Words.
+
+pub ascii : (bs : Text) → list_all (λ b. nat_lt b 128) bs ≡ true → IsAscii bs
+ascii [] e i = omega arith
+ascii (b ∷ bs) e zero = ltb-true b 128 (and_parts (nat_lt b 128) _ e).0
+ascii (b ∷ bs) e (suc i) = ascii bs (and_parts (nat_lt b 128) _ e).1 i
+
+abbrev visible : (b : ℕ) → Option (IsVisible b)
+visible b = given (is_less 32 b) (λ no_blank. given (apart b 127) (λ no_delete. Some (no_blank, no_delete)))
+
+abbrev said_word : (word : Text) → Option (IsWord word)
+said_word word =
+    given (is_less 0 (length word)) (λ some.
+    given (is_at_most (length word) 64) (λ few.
+    given (all IsVisible visible word) (λ seen.
+    given (is_true (list_all (λ b. nat_lt b 128) word)) (λ plain.
+    Some (record { some_byte = some; few_bytes = few; visible = seen; utf8 = IsUtf8-from_ascii word (ascii word plain) })))))
+
+-- All of them.
+
+-- whether these are the parts of a workload whose words are ASCII
+abbrev pub validity : (W : Parts) → Option (IsValid W)
+validity W =
+    given (is_less 0 W.streams) (λ some_stream.
+    given (is_at_most W.streams 8) (λ few_streams.
+    given (is_at_most W.keys 16) (λ few_keys.
+    given (is_less 0 (length W.pools)) (λ some_pool.
+    given (is_at_most (length W.pools) 64) (λ few_pools.
+    given (each_below (λ p. IsAccess W (access_of W p)) (λ p. pool_access W (access_of W p)) (length W.pools)) (λ pools.
+    given (is_less 0 (length W.scheds)) (λ some_sched.
+    given (is_at_most (length W.scheds) 64) (λ few_scheds.
+    given (each_below (IsScheduler W) (scheduler W) (length W.scheds)) (λ scheds.
+    given (same (length W.mains) W.streams) (λ mains.
+    given (each_below (IsStream W) (stream W) W.streams) (λ streams.
+    given (each_once (placed_scheds W)) (λ one_place.
+    given (is_at_most (length W.objects) 256) (λ few_objects.
+    given (entries W.objects (IsThing W) (object W)) (λ objects.
+    given (is_at_most (length W.units) 256) (λ few_units.
+    given (each_below (IsUnit W) (unit W) (length W.units)) (λ units.
+    given (same_list (words_said W) (range_with_len 0 (length W.words))) (λ said.
+    given (all IsWord said_word W.words) (λ words.
+    given (is_at_most (length (canonical_text W)) 4194304) (λ few_bytes.
+    Some (record {
+      some_stream = some_stream;
+      few_streams = few_streams;
+      few_keys = few_keys;
+      some_pool = some_pool;
+      few_pools = few_pools;
+      pools = pools;
+      some_sched = some_sched;
+      few_scheds = few_scheds;
+      scheds = scheds;
+      mains = mains;
+      streams = streams;
+      one_place = one_place;
+      few_objects = few_objects;
+      objects = objects;
+      few_units = few_units;
+      units = units;
+      said = said;
+      words = words;
+      few_bytes = few_bytes;
+    }))))))))))))))))))))

@@ -1,0 +1,19 @@
+use Rattle.std.proofs.Common.{[], ◌∷◌, refl}
+use Rattle.std.specs.Fmt.{digits}
+use Rattle.abt_machine.specs.declared.events.Outcome.TheVariants as outcome
+use Rattle.abt_machine.specs.declared.operations.Op.TheVariants as op
+use Rattle.abt_machine.specs.declared.workload.Parts.{Parts}
+use Rattle.abt_rows.specs.Rows.{orders}
+use Rattle.abt_rows.proofs.Reporting.{ran, reported}
+use Rattle.abt_rows.proofs.Workloads.{based, ult_at}
+use Rattle.abt_rows.proofs.locals.keys.Goals as goal
+
+abbrev workload : Parts
+workload = based 1 [] (
+    ult_at 0 (op.Set 9 ∷ op.KeySet 0 ∷ op.Set 0 ∷ op.KeyGet 0 ∷ op.Print ∷ []) ∷
+    ult_at 0 (op.KeyGet 0 ∷ op.Print ∷ []) ∷
+    []) []
+
+pub returns : goal.returns
+unfolding digits
+returns c = (_, reported workload orders 10000 (ran workload orders 14) outcome.Finished _ _ refl refl refl refl)

@@ -1,0 +1,20 @@
+use Rattle.std.proofs.Common.{[], ◌∷◌, refl}
+use Rattle.std.specs.Fmt.{digits}
+use Rattle.abt_machine.specs.declared.events.Outcome.TheVariants as outcome
+use Rattle.abt_machine.specs.declared.operations.Op.TheVariants as op
+use Rattle.abt_machine.specs.declared.workload.Parts.{Parts}
+use Rattle.abt_machine.specs.Numbers.{pool_no, unit_no}
+use Rattle.abt_rows.specs.Rows.{orders}
+use Rattle.abt_rows.proofs.Reporting.{ran, reported}
+use Rattle.abt_rows.proofs.Workloads.{based, ult_at}
+use Rattle.abt_rows.proofs.units.revival.Goals as goal
+
+abbrev workload : Parts
+workload = based 1 [] (
+    ult_at 0 (op.Join (unit_no 1) ∷ op.Revive (unit_no 1) (pool_no 0) ∷ op.Join (unit_no 1) ∷ []) ∷
+    ult_at 0 (op.Print ∷ op.KeyGet 0 ∷ op.Print ∷ op.Set 7 ∷ op.KeySet 0 ∷ []) ∷
+    []) []
+
+pub returns : goal.returns
+unfolding digits
+returns c = (_, reported workload orders 10000 (ran workload orders 30) outcome.Finished _ _ refl refl refl refl)

@@ -1,0 +1,244 @@
+-- Rows on births, ends, joins and requests.
+use Rattle.std.specs.Prelude.{codes, ◌++◌}
+use Rattle.abt_machine.specs.Words.{Text}
+use Rattle.abt_rows.specs.Base.{base}
+
+-- A unit that joins another is woken when that one ends.
+
+abbrev pub join_text : Text
+join_text = base ++ codes "units 2\nunit 0 ult at 0\njoin 1\nsay after\nunit 1 ult at 0\nsay first\nend\n"
+
+abbrev pub join_report : Text
+join_report =
+    codes "unit 0 done: after\nunit 1 done: first\n" ++
+    codes "tally units 2 unborn 0 pool 0 stream 0 blocked 0 done 2 asked 0 access 0 steps 3\nfinished\n"
+
+-- A join waits, also on a unit that has not been created.
+
+abbrev pub join_unborn_text : Text
+join_unborn_text = base ++ codes "units 2\nunit 0 ult at 0\njoin 1\nunit 1 ult later\nend\n"
+
+abbrev pub join_unborn_report : Text
+join_unborn_report =
+    codes "unit 0 join 1:\nunit 1 unborn:\n" ++
+    codes "tally units 2 unborn 1 pool 0 stream 0 blocked 1 done 0 asked 0 access 0 steps 1\nstuck\n"
+
+-- A unit that joins itself waits for ever.
+
+abbrev pub join_self_text : Text
+join_self_text = base ++ codes "units 1\nunit 0 ult at 0\njoin 0\nend\n"
+
+abbrev pub join_self_report : Text
+join_self_report =
+    codes "unit 0 join 0:\n" ++
+    codes "tally units 1 unborn 0 pool 0 stream 0 blocked 1 done 0 asked 0 access 0 steps 1\nstuck\n"
+
+-- A unit is created once. One that may not migrate is not asked to.
+
+abbrev pub exists_text : Text
+exists_text =
+    base ++
+    codes "units 2\nunit 0 ult at 0\ncreate 1 0\nmigratable 1 0\nmigrate 1 0\nunit 1 ult at 0\nend\n"
+
+abbrev pub exists_report : Text
+exists_report =
+    codes "unit 0 done: !exists !not-migratable\nunit 1 done:\n" ++
+    codes "tally units 2 unborn 0 pool 0 stream 0 blocked 0 done 2 asked 0 access 0 steps 3\nfinished\n"
+
+-- A unit that is unborn cannot be resumed, cancelled, migrated or revived.
+
+abbrev pub unborn_refused_text : Text
+unborn_refused_text =
+    base ++
+    codes "units 2\nunit 0 ult at 0\nresume 1\ncancel 1\nmigrate 1 0\nmigrateto 1 0\nrevive 1 0\n" ++
+    codes "unit 1 ult later\nend\n"
+
+abbrev pub unborn_refused_report : Text
+unborn_refused_report =
+    codes "unit 0 done: !unit-state !unit-state !unit-state !unit-state !unit-state\nunit 1 unborn:\n" ++
+    codes "tally units 2 unborn 1 pool 0 stream 0 blocked 0 done 1 asked 0 access 0 steps 5\nfinished\n"
+
+-- A unit that has ended cannot be cancelled, migrated or created.
+
+abbrev pub ended_refused_text : Text
+ended_refused_text =
+    base ++
+    codes "units 2\nunit 0 ult at 0\njoin 1\ncancel 1\nmigrate 1 0\ncreate 1 0\njoin 1\nunit 1 ult at 0\nend\n"
+
+abbrev pub ended_refused_report : Text
+ended_refused_report =
+    codes "unit 0 done: !unit-state !unit-state !exists\nunit 1 done:\n" ++
+    codes "tally units 2 unborn 0 pool 0 stream 0 blocked 0 done 2 asked 0 access 0 steps 5\nfinished\n"
+
+-- Only a suspended unit can be resumed.
+
+abbrev pub resume_too_early_text : Text
+resume_too_early_text = base ++ codes "units 2\nunit 0 ult at 0\nresume 1\nunit 1 ult at 0\nsuspend\nend\n"
+
+abbrev pub resume_too_early_report : Text
+resume_too_early_report =
+    codes "unit 0 done: !unit-state\nunit 1 suspended:\n" ++
+    codes "tally units 2 unborn 0 pool 0 stream 0 blocked 1 done 1 asked 0 access 0 steps 2\nstuck\n"
+
+-- A blocked unit is not woken by a cancel request, and ends at its next look.
+
+abbrev pub cancel_suspended_text : Text
+cancel_suspended_text =
+    base ++
+    codes "units 2\nunit 0 ult at 0\nsuspend\nsay never\nunit 1 ult at 0\ncancel 0\nresume 0\nend\n"
+
+abbrev pub cancel_suspended_report : Text
+cancel_suspended_report =
+    codes "unit 0 asked:\nunit 1 done:\n" ++
+    codes "tally units 2 unborn 0 pool 0 stream 0 blocked 0 done 1 asked 1 access 0 steps 3\nfinished\n"
+
+-- A cancel request goes before a migrate request.
+
+abbrev pub cancel_before_migrate_text : Text
+cancel_before_migrate_text =
+    codes "abt 1\nstreams 1\npool 0 fifo mpmc\npool 1 fifo mpmc\nsched 0 prio 0 1\nstream 0 main 0\n" ++
+    codes "units 2\nunit 0 ult at 0\ncancel 1\nmigrate 1 1\nunit 1 ult at 0\nsay never\nend\n"
+
+abbrev pub cancel_before_migrate_report : Text
+cancel_before_migrate_report =
+    codes "unit 0 done:\nunit 1 asked:\n" ++
+    codes "tally units 2 unborn 0 pool 0 stream 0 blocked 0 done 1 asked 1 access 0 steps 2\nfinished\n"
+
+-- A migrate request is granted at the next look of the unit.
+
+abbrev pub migrate_text : Text
+migrate_text =
+    codes "abt 1\nstreams 1\npool 0 fifo mpmc\npool 1 fifo mpmc\nsched 0 prio 0 1\nstream 0 main 0\n" ++
+    codes "units 2\nunit 0 ult at 0\nmigrate 1 1\nunit 1 ult at 0\nsay moved\nend\n"
+
+abbrev pub migrate_journal : Text
+migrate_journal =
+    codes "1 0 take 0 0\n2 0 look 0\n3 0 step 0 0 ok\n4 0 end 0 done\n5 0 take 0 1\n6 0 look 1\n" ++
+    codes "7 0 put 1 1\n8 0 miss 0\n9 0 take 1 1\n10 0 look 1\n11 0 step 1 0 ok\n12 0 end 1 done\n" ++
+    codes "13 0 miss 0\n14 0 miss 1\n"
+
+abbrev pub migrate_report : Text
+migrate_report =
+    codes "unit 0 done:\nunit 1 done: moved\n" ++
+    codes "tally units 2 unborn 0 pool 0 stream 0 blocked 0 done 2 asked 0 access 0 steps 2\nfinished\n"
+
+-- A unit migrates to the pool that a stream's main scheduler lists first.
+
+abbrev pub migrate_to_stream_text : Text
+migrate_to_stream_text =
+    codes "abt 1\nstreams 1\npool 0 fifo mpmc\npool 1 fifo mpmc\nsched 0 prio 0 1\nstream 0 main 0\n" ++
+    codes "units 2\nunit 0 ult at 0\nmigrateto 1 0\nunit 1 ult at 0\nsay moved\nend\n"
+
+abbrev pub migrate_to_stream_journal : Text
+migrate_to_stream_journal =
+    codes "1 0 take 0 0\n2 0 look 0\n3 0 step 0 0 ok\n4 0 end 0 done\n5 0 take 0 1\n6 0 look 1\n" ++
+    codes "7 0 put 1 0\n8 0 take 0 1\n9 0 look 1\n10 0 step 1 0 ok\n11 0 end 1 done\n12 0 miss 0\n" ++
+    codes "13 0 miss 1\n"
+
+abbrev pub migrate_to_stream_report : Text
+migrate_to_stream_report =
+    codes "unit 0 done:\nunit 1 done: moved\n" ++
+    codes "tally units 2 unborn 0 pool 0 stream 0 blocked 0 done 2 asked 0 access 0 steps 2\nfinished\n"
+
+-- Of two migrate requests the later one counts.
+
+abbrev pub last_migrate_counts_text : Text
+last_migrate_counts_text =
+    codes "abt 1\nstreams 1\npool 0 fifo mpmc\npool 1 fifo mpmc\nsched 0 prio 0 1\nstream 0 main 0\n" ++
+    codes "units 2\nunit 0 ult at 0\nmigrate 1 0\nmigrate 1 1\nunit 1 ult at 0\nsay moved\nend\n"
+
+abbrev pub last_migrate_counts_journal : Text
+last_migrate_counts_journal =
+    codes "1 0 take 0 0\n2 0 look 0\n3 0 step 0 0 ok\n4 0 step 0 1 ok\n5 0 end 0 done\n6 0 take 0 1\n" ++
+    codes "7 0 look 1\n8 0 put 1 1\n9 0 miss 0\n10 0 take 1 1\n11 0 look 1\n12 0 step 1 0 ok\n" ++
+    codes "13 0 end 1 done\n14 0 miss 0\n15 0 miss 1\n"
+
+abbrev pub last_migrate_counts_report : Text
+last_migrate_counts_report =
+    codes "unit 0 done:\nunit 1 done: moved\n" ++
+    codes "tally units 2 unborn 0 pool 0 stream 0 blocked 0 done 2 asked 0 access 0 steps 3\nfinished\n"
+
+-- A unit migrates only while it is migratable.
+
+abbrev pub migratable_text : Text
+migratable_text =
+    codes "abt 1\nstreams 1\npool 0 fifo mpmc\npool 1 fifo mpmc\nsched 0 prio 0 1\nstream 0 main 0\n" ++
+    codes "units 2\nunit 0 ult at 0\nmigratable 1 0\nmigrate 1 1\nmigratable 1 1\nmigrate 1 1\n" ++
+    codes "unit 1 ult at 0\nsay moved\nend\n"
+
+abbrev pub migratable_journal : Text
+migratable_journal =
+    codes "1 0 take 0 0\n2 0 look 0\n3 0 step 0 0 ok\n4 0 step 0 1 not-migratable\n5 0 step 0 2 ok\n" ++
+    codes "6 0 step 0 3 ok\n7 0 end 0 done\n8 0 take 0 1\n9 0 look 1\n10 0 put 1 1\n11 0 miss 0\n" ++
+    codes "12 0 take 1 1\n13 0 look 1\n14 0 step 1 0 ok\n15 0 end 1 done\n16 0 miss 0\n17 0 miss 1\n"
+
+abbrev pub migratable_report : Text
+migratable_report =
+    codes "unit 0 done: !not-migratable\nunit 1 done: moved\n" ++
+    codes "tally units 2 unborn 0 pool 0 stream 0 blocked 0 done 2 asked 0 access 0 steps 5\nfinished\n"
+
+-- A unit that is not in the named pool is not yielded to.
+
+abbrev pub yieldto_absent_text : Text
+yieldto_absent_text = base ++ codes "units 2\nunit 0 ult at 0\nyieldto 1 0\nsay on\nunit 1 ult later\nend\n"
+
+abbrev pub yieldto_absent_report : Text
+yieldto_absent_report =
+    codes "unit 0 done: !absent on\nunit 1 unborn:\n" ++
+    codes "tally units 2 unborn 1 pool 0 stream 0 blocked 0 done 1 asked 0 access 0 steps 2\nfinished\n"
+
+-- A unit that is yielded to runs before those that stand before it.
+
+abbrev pub yieldto_text : Text
+yieldto_text =
+    base ++
+    codes "units 3\nunit 0 ult at 0\nyieldto 2 0\nsay zero\nunit 1 ult at 0\nsay one\n" ++
+    codes "unit 2 ult at 0\nsay two\nend\n"
+
+abbrev pub yieldto_journal : Text
+yieldto_journal =
+    codes "1 0 take 0 0\n2 0 look 0\n3 0 step 0 0 ok\n4 0 put 0 0\n5 0 look 2\n6 0 step 2 0 ok\n" ++
+    codes "7 0 end 2 done\n8 0 take 0 1\n9 0 look 1\n10 0 step 1 0 ok\n11 0 end 1 done\n12 0 take 0 0\n" ++
+    codes "13 0 look 0\n14 0 step 0 1 ok\n15 0 end 0 done\n16 0 miss 0\n"
+
+abbrev pub yieldto_report : Text
+yieldto_report =
+    codes "unit 0 done: zero\nunit 1 done: one\nunit 2 done: two\n" ++
+    codes "tally units 3 unborn 0 pool 0 stream 0 blocked 0 done 3 asked 0 access 0 steps 4\nfinished\n"
+
+-- A revived unit begins again, with accumulator and keys 0; its output is kept.
+
+abbrev pub revival_text : Text
+revival_text =
+    codes "abt 1\nstreams 1\nkeys 1\npool 0 fifo mpmc\nsched 0 prio 0\nstream 0 main 0\n" ++
+    codes "units 2\nunit 0 ult at 0\njoin 1\nrevive 1 0\njoin 1\n" ++
+    codes "unit 1 ult at 0\nprint\nkget 0\nprint\nset 7\nkset 0\nend\n"
+
+abbrev pub revival_report : Text
+revival_report =
+    codes "unit 0 done:\nunit 1 done: 0 0 0 0\n" ++
+    codes "tally units 2 unborn 0 pool 0 stream 0 blocked 0 done 2 asked 0 access 0 steps 13\n" ++
+    codes "finished\n"
+
+-- All joiners of a unit are woken when it ends, in the order in which they came.
+
+abbrev pub joiners_in_order_text : Text
+joiners_in_order_text =
+    base ++
+    codes "units 4\nunit 0 ult at 0\nyield\nyield\nunit 1 ult at 0\nyield\njoin 0\n" ++
+    codes "unit 2 ult at 0\njoin 0\nunit 3 ult at 0\njoin 0\nend\n"
+
+abbrev pub joiners_in_order_journal : Text
+joiners_in_order_journal =
+    codes "1 0 take 0 0\n2 0 look 0\n3 0 step 0 0 ok\n4 0 put 0 0\n5 0 take 0 1\n6 0 look 1\n" ++
+    codes "7 0 step 1 0 ok\n8 0 put 1 0\n9 0 take 0 2\n10 0 look 2\n11 0 step 2 0 ok\n12 0 take 0 3\n" ++
+    codes "13 0 look 3\n14 0 step 3 0 ok\n15 0 take 0 0\n16 0 look 0\n17 0 step 0 1 ok\n18 0 put 0 0\n" ++
+    codes "19 0 take 0 1\n20 0 look 1\n21 0 step 1 1 ok\n22 0 take 0 0\n23 0 look 0\n24 0 end 0 done\n" ++
+    codes "25 0 put 2 0\n26 0 put 3 0\n27 0 put 1 0\n28 0 take 0 2\n29 0 look 2\n30 0 end 2 done\n" ++
+    codes "31 0 take 0 3\n32 0 look 3\n33 0 end 3 done\n34 0 take 0 1\n35 0 look 1\n36 0 end 1 done\n" ++
+    codes "37 0 miss 0\n"
+
+abbrev pub joiners_in_order_report : Text
+joiners_in_order_report =
+    codes "unit 0 done:\nunit 1 done:\nunit 2 done:\nunit 3 done:\n" ++
+    codes "tally units 4 unborn 0 pool 0 stream 0 blocked 0 done 4 asked 0 access 0 steps 6\nfinished\n"

@@ -1,0 +1,35 @@
+//! Rows on eventuals, futures and barriers.
+
+ghost use Rattle.abt_rows.specs.Rows.{IsReported, IsWorked, orders};
+ghost use Rattle.abt_rows.specs.Eventuals.{eventual_text, eventual_report, eventual_ready_text, eventual_ready_report, future_and_barrier_text, future_and_barrier_report, future_combinations_text, future_combinations_report, future_reset_text, future_reset_report, barrier_of_three_text, barrier_of_three_journal, barrier_of_three_report};
+
+/// An eventual wakes all its waiters with its value, is set once, and can be reset.
+pub fn eventual()
+    ensures { IsReported orders 10000 eventual_text eventual_report }
+{}
+
+/// A ready eventual gives its value at once.
+pub fn eventual_ready()
+    ensures { IsReported orders 10000 eventual_ready_text eventual_ready_report }
+{}
+
+/// A future of two is ready at its second set, and a barrier of two lets both go on.
+pub fn future_and_barrier()
+    ensures { IsReported orders 10000 future_and_barrier_text future_and_barrier_report }
+{}
+
+/// A future's value is the sum modulo 2^64, the greatest, or the number of what it was filled
+/// with.
+pub fn future_combinations()
+    ensures { IsReported orders 10000 future_combinations_text future_combinations_report }
+{}
+
+/// A future that is reset is filled anew.
+pub fn future_reset()
+    ensures { IsReported orders 10000 future_reset_text future_reset_report }
+{}
+
+/// The third unit at a barrier of three wakes the two that wait, in order, and goes on.
+pub fn barrier_of_three()
+    ensures { IsWorked orders 10000 barrier_of_three_text barrier_of_three_journal barrier_of_three_report }
+{}
