@@ -3,6 +3,7 @@ pub mod Rows
 pub mod Locals
 pub mod Rounds
 pub mod Units
+pub mod Requests
 pub mod Schedulers
 pub mod Mutexes
 pub mod Eventuals

@@ -99,3 +99,16 @@ abbrev pub tasklet_report : Text
 tasklet_report =
     codes "unit 0 done: after\nunit 1 done: 5\n" ++
     codes "tally units 2 unborn 0 pool 0 stream 0 blocked 0 done 2 asked 0 access 0 steps 6\nfinished\n"
+
+-- The operations that take the accumulator leave it as it is.
+
+abbrev pub accumulator_stays_text : Text
+accumulator_stays_text =
+    codes "abt 1\nstreams 1\nkeys 1\npool 0 fifo mpmc\nsched 0 prio 0\nstream 0 main 0\nobject 0 eventual\n" ++
+    codes "object 1 future 1 sum\n" ++
+    codes "units 1\nunit 0 ult at 0\nset 7\neset 0\nprint\nfset 1\nprint\nkset 0\nprint\nend\n"
+
+abbrev pub accumulator_stays_report : Text
+accumulator_stays_report =
+    codes "unit 0 done: 7 7 7\n" ++
+    codes "tally units 1 unborn 0 pool 0 stream 0 blocked 0 done 1 asked 0 access 0 steps 7\nfinished\n"

@@ -185,3 +185,88 @@ waiters_in_order_report =
     codes "unit 0 done:\nunit 1 done:\nunit 2 done:\nunit 3 done:\n" ++
     codes "tally units 4 unborn 0 pool 0 stream 0 blocked 0 done 4 asked 0 access 0 steps 11\n" ++
     codes "finished\n"
+
+-- A signal moves the first waiter of a condition alone.
+
+abbrev pub signal_one_text : Text
+signal_one_text =
+    base ++
+    codes "object 0 mutex\nobject 1 cond 0\nunits 3\nunit 0 ult at 0\nlock 0\ncwait 1\nsay zero\nunlock 0\n" ++
+    codes "unit 1 ult at 0\nlock 0\ncwait 1\nsay one\nunlock 0\nunit 2 ult at 0\nsignal 1\nsay two\nend\n"
+
+abbrev pub signal_one_report : Text
+signal_one_report =
+    codes "unit 0 done: zero\nunit 1 object 1:\nunit 2 done: two\n" ++
+    codes "tally units 3 unborn 0 pool 0 stream 0 blocked 1 done 2 asked 0 access 0 steps 8\nstuck\n"
+
+-- A signal moves a waiter behind those that wait for the mutex.
+
+abbrev pub signal_behind_waiters_text : Text
+signal_behind_waiters_text =
+    base ++
+    codes "object 0 mutex\nobject 1 cond 0\nunits 3\nunit 0 ult at 0\nlock 0\ncwait 1\nsay zero\nunlock 0\n" ++
+    codes "unit 1 ult at 0\nlock 0\nyield\nsignal 1\nunlock 0\nunit 2 ult at 0\nlock 0\nsay two\nunlock 0\n" ++
+    codes "end\n"
+
+abbrev pub signal_behind_waiters_journal : Text
+signal_behind_waiters_journal =
+    codes "1 0 take 0 0\n2 0 look 0\n3 0 step 0 0 ok\n4 0 step 0 1 ok\n5 0 take 0 1\n6 0 look 1\n" ++
+    codes "7 0 step 1 0 ok\n8 0 step 1 1 ok\n9 0 put 1 0\n10 0 take 0 2\n11 0 look 2\n12 0 step 2 0 ok\n" ++
+    codes "13 0 take 0 1\n14 0 look 1\n15 0 step 1 2 ok\n16 0 step 1 3 ok\n17 0 put 2 0\n18 0 end 1 done\n" ++
+    codes "19 0 take 0 2\n20 0 look 2\n21 0 step 2 1 ok\n22 0 step 2 2 ok\n23 0 put 0 0\n24 0 end 2 done\n" ++
+    codes "25 0 take 0 0\n26 0 look 0\n27 0 step 0 2 ok\n28 0 step 0 3 ok\n29 0 end 0 done\n30 0 miss 0\n"
+
+abbrev pub signal_behind_waiters_report : Text
+signal_behind_waiters_report =
+    codes "unit 0 done: zero\nunit 1 done:\nunit 2 done: two\n" ++
+    codes "tally units 3 unborn 0 pool 0 stream 0 blocked 0 done 3 asked 0 access 0 steps 11\n" ++
+    codes "finished\n"
+
+-- A wait at a condition hands the mutex to the first of its waiters.
+
+abbrev pub wait_hands_over_text : Text
+wait_hands_over_text =
+    base ++
+    codes "object 0 mutex\nobject 1 cond 0\nunits 3\nunit 0 ult at 0\nlock 0\nyield\ncwait 1\n" ++
+    codes "unit 1 ult at 0\nlock 0\nunlock 0\nunit 2 ult at 0\nlock 0\nunlock 0\nend\n"
+
+abbrev pub wait_hands_over_journal : Text
+wait_hands_over_journal =
+    codes "1 0 take 0 0\n2 0 look 0\n3 0 step 0 0 ok\n4 0 step 0 1 ok\n5 0 put 0 0\n6 0 take 0 1\n" ++
+    codes "7 0 look 1\n8 0 step 1 0 ok\n9 0 take 0 2\n10 0 look 2\n11 0 step 2 0 ok\n12 0 take 0 0\n" ++
+    codes "13 0 look 0\n14 0 step 0 2 ok\n15 0 put 1 0\n16 0 take 0 1\n17 0 look 1\n18 0 step 1 1 ok\n" ++
+    codes "19 0 put 2 0\n20 0 end 1 done\n21 0 take 0 2\n22 0 look 2\n23 0 step 2 1 ok\n24 0 end 2 done\n" ++
+    codes "25 0 miss 0\n"
+
+abbrev pub wait_hands_over_report : Text
+wait_hands_over_report =
+    codes "unit 0 object 1:\nunit 1 done:\nunit 2 done:\n" ++
+    codes "tally units 3 unborn 0 pool 0 stream 0 blocked 1 done 2 asked 0 access 0 steps 7\nstuck\n"
+
+-- The number of a mutex is 0 at first, and stays when it is loaded, unlocked and locked again.
+
+abbrev pub number_stays_text : Text
+number_stays_text =
+    base ++
+    codes "object 0 mutex\nunits 1\n" ++
+    codes "unit 0 ult at 0\nlock 0\nset 4\nload 0\nprint\nset 5\nstore 0\nprint\nset 6\nload 0\nprint\nunlock 0\ntrylock 0\nset 6\nload 0\nprint\n" ++
+    codes "end\n"
+
+abbrev pub number_stays_report : Text
+number_stays_report =
+    codes "unit 0 done: 0 5 5 5\n" ++
+    codes "tally units 1 unborn 0 pool 0 stream 0 blocked 0 done 1 asked 0 access 0 steps 15\n" ++
+    codes "finished\n"
+
+-- A unit that ends while it owns a mutex remains its owner, also in a later life.
+
+abbrev pub owner_after_end_text : Text
+owner_after_end_text =
+    base ++
+    codes "object 0 mutex\nunits 2\nunit 0 ult at 0\ntrylock 0\nload 0\n" ++
+    codes "unit 1 ult at 0\njoin 0\ntrylock 0\nrevive 0 0\nend\n"
+
+abbrev pub owner_after_end_report : Text
+owner_after_end_report =
+    codes "unit 0 done: !mutex-locked\nunit 1 done: !mutex-locked\n" ++
+    codes "tally units 2 unborn 0 pool 0 stream 0 blocked 0 done 2 asked 0 access 0 steps 7\nfinished\n"

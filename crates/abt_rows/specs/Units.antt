@@ -1,4 +1,4 @@
--- Rows on births, ends, joins and requests.
+-- Rows on births, joins, resumptions, revivals and yields to a unit.
 use Rattle.std.specs.Prelude.{codes, ◌++◌}
 use Rattle.abt_machine.specs.Words.{Text}
 use Rattle.abt_rows.specs.Base.{base}
@@ -80,103 +80,6 @@ resume_too_early_report =
     codes "unit 0 done: !unit-state\nunit 1 suspended:\n" ++
     codes "tally units 2 unborn 0 pool 0 stream 0 blocked 1 done 1 asked 0 access 0 steps 2\nstuck\n"
 
--- A blocked unit is not woken by a cancel request, and ends at its next look.
-
-abbrev pub cancel_suspended_text : Text
-cancel_suspended_text =
-    base ++
-    codes "units 2\nunit 0 ult at 0\nsuspend\nsay never\nunit 1 ult at 0\ncancel 0\nresume 0\nend\n"
-
-abbrev pub cancel_suspended_report : Text
-cancel_suspended_report =
-    codes "unit 0 asked:\nunit 1 done:\n" ++
-    codes "tally units 2 unborn 0 pool 0 stream 0 blocked 0 done 1 asked 1 access 0 steps 3\nfinished\n"
-
--- A cancel request goes before a migrate request.
-
-abbrev pub cancel_before_migrate_text : Text
-cancel_before_migrate_text =
-    codes "abt 1\nstreams 1\npool 0 fifo mpmc\npool 1 fifo mpmc\nsched 0 prio 0 1\nstream 0 main 0\n" ++
-    codes "units 2\nunit 0 ult at 0\ncancel 1\nmigrate 1 1\nunit 1 ult at 0\nsay never\nend\n"
-
-abbrev pub cancel_before_migrate_report : Text
-cancel_before_migrate_report =
-    codes "unit 0 done:\nunit 1 asked:\n" ++
-    codes "tally units 2 unborn 0 pool 0 stream 0 blocked 0 done 1 asked 1 access 0 steps 2\nfinished\n"
-
--- A migrate request is granted at the next look of the unit.
-
-abbrev pub migrate_text : Text
-migrate_text =
-    codes "abt 1\nstreams 1\npool 0 fifo mpmc\npool 1 fifo mpmc\nsched 0 prio 0 1\nstream 0 main 0\n" ++
-    codes "units 2\nunit 0 ult at 0\nmigrate 1 1\nunit 1 ult at 0\nsay moved\nend\n"
-
-abbrev pub migrate_journal : Text
-migrate_journal =
-    codes "1 0 take 0 0\n2 0 look 0\n3 0 step 0 0 ok\n4 0 end 0 done\n5 0 take 0 1\n6 0 look 1\n" ++
-    codes "7 0 put 1 1\n8 0 miss 0\n9 0 take 1 1\n10 0 look 1\n11 0 step 1 0 ok\n12 0 end 1 done\n" ++
-    codes "13 0 miss 0\n14 0 miss 1\n"
-
-abbrev pub migrate_report : Text
-migrate_report =
-    codes "unit 0 done:\nunit 1 done: moved\n" ++
-    codes "tally units 2 unborn 0 pool 0 stream 0 blocked 0 done 2 asked 0 access 0 steps 2\nfinished\n"
-
--- A unit migrates to the pool that a stream's main scheduler lists first.
-
-abbrev pub migrate_to_stream_text : Text
-migrate_to_stream_text =
-    codes "abt 1\nstreams 1\npool 0 fifo mpmc\npool 1 fifo mpmc\nsched 0 prio 0 1\nstream 0 main 0\n" ++
-    codes "units 2\nunit 0 ult at 0\nmigrateto 1 0\nunit 1 ult at 0\nsay moved\nend\n"
-
-abbrev pub migrate_to_stream_journal : Text
-migrate_to_stream_journal =
-    codes "1 0 take 0 0\n2 0 look 0\n3 0 step 0 0 ok\n4 0 end 0 done\n5 0 take 0 1\n6 0 look 1\n" ++
-    codes "7 0 put 1 0\n8 0 take 0 1\n9 0 look 1\n10 0 step 1 0 ok\n11 0 end 1 done\n12 0 miss 0\n" ++
-    codes "13 0 miss 1\n"
-
-abbrev pub migrate_to_stream_report : Text
-migrate_to_stream_report =
-    codes "unit 0 done:\nunit 1 done: moved\n" ++
-    codes "tally units 2 unborn 0 pool 0 stream 0 blocked 0 done 2 asked 0 access 0 steps 2\nfinished\n"
-
--- Of two migrate requests the later one counts.
-
-abbrev pub last_migrate_counts_text : Text
-last_migrate_counts_text =
-    codes "abt 1\nstreams 1\npool 0 fifo mpmc\npool 1 fifo mpmc\nsched 0 prio 0 1\nstream 0 main 0\n" ++
-    codes "units 2\nunit 0 ult at 0\nmigrate 1 0\nmigrate 1 1\nunit 1 ult at 0\nsay moved\nend\n"
-
-abbrev pub last_migrate_counts_journal : Text
-last_migrate_counts_journal =
-    codes "1 0 take 0 0\n2 0 look 0\n3 0 step 0 0 ok\n4 0 step 0 1 ok\n5 0 end 0 done\n6 0 take 0 1\n" ++
-    codes "7 0 look 1\n8 0 put 1 1\n9 0 miss 0\n10 0 take 1 1\n11 0 look 1\n12 0 step 1 0 ok\n" ++
-    codes "13 0 end 1 done\n14 0 miss 0\n15 0 miss 1\n"
-
-abbrev pub last_migrate_counts_report : Text
-last_migrate_counts_report =
-    codes "unit 0 done:\nunit 1 done: moved\n" ++
-    codes "tally units 2 unborn 0 pool 0 stream 0 blocked 0 done 2 asked 0 access 0 steps 3\nfinished\n"
-
--- A unit migrates only while it is migratable.
-
-abbrev pub migratable_text : Text
-migratable_text =
-    codes "abt 1\nstreams 1\npool 0 fifo mpmc\npool 1 fifo mpmc\nsched 0 prio 0 1\nstream 0 main 0\n" ++
-    codes "units 2\nunit 0 ult at 0\nmigratable 1 0\nmigrate 1 1\nmigratable 1 1\nmigrate 1 1\n" ++
-    codes "unit 1 ult at 0\nsay moved\nend\n"
-
-abbrev pub migratable_journal : Text
-migratable_journal =
-    codes "1 0 take 0 0\n2 0 look 0\n3 0 step 0 0 ok\n4 0 step 0 1 not-migratable\n5 0 step 0 2 ok\n" ++
-    codes "6 0 step 0 3 ok\n7 0 end 0 done\n8 0 take 0 1\n9 0 look 1\n10 0 put 1 1\n11 0 miss 0\n" ++
-    codes "12 0 take 1 1\n13 0 look 1\n14 0 step 1 0 ok\n15 0 end 1 done\n16 0 miss 0\n17 0 miss 1\n"
-
-abbrev pub migratable_report : Text
-migratable_report =
-    codes "unit 0 done: !not-migratable\nunit 1 done: moved\n" ++
-    codes "tally units 2 unborn 0 pool 0 stream 0 blocked 0 done 2 asked 0 access 0 steps 5\nfinished\n"
-
 -- A unit that is not in the named pool is not yielded to.
 
 abbrev pub yieldto_absent_text : Text
@@ -242,3 +145,55 @@ abbrev pub joiners_in_order_report : Text
 joiners_in_order_report =
     codes "unit 0 done:\nunit 1 done:\nunit 2 done:\nunit 3 done:\n" ++
     codes "tally units 4 unborn 0 pool 0 stream 0 blocked 0 done 4 asked 0 access 0 steps 6\nfinished\n"
+
+-- A unit that is revived goes to the pool that its revival names.
+
+abbrev pub revived_elsewhere_text : Text
+revived_elsewhere_text =
+    codes "abt 1\nstreams 1\npool 0 fifo mpmc\npool 1 fifo mpmc\nsched 0 prio 0 1\nstream 0 main 0\n" ++
+    codes "units 2\nunit 0 ult at 0\njoin 1\nrevive 1 1\nunit 1 ult at 0\nend\n"
+
+abbrev pub revived_elsewhere_journal : Text
+revived_elsewhere_journal =
+    codes "1 0 take 0 0\n2 0 look 0\n3 0 step 0 0 ok\n4 0 take 0 1\n5 0 look 1\n6 0 end 1 done\n" ++
+    codes "7 0 put 0 0\n8 0 take 0 0\n9 0 look 0\n10 0 step 0 1 ok\n11 0 put 1 1\n12 0 end 0 done\n" ++
+    codes "13 0 miss 0\n14 0 take 1 1\n15 0 look 1\n16 0 end 1 done\n17 0 miss 0\n18 0 miss 1\n"
+
+abbrev pub revived_elsewhere_report : Text
+revived_elsewhere_report =
+    codes "unit 0 done:\nunit 1 done:\n" ++
+    codes "tally units 2 unborn 0 pool 0 stream 0 blocked 0 done 2 asked 0 access 0 steps 2\nfinished\n"
+
+-- A unit that waits for another is not resumed.
+
+abbrev pub resume_joiner_text : Text
+resume_joiner_text =
+    base ++
+    codes "units 2\nunit 0 ult at 0\njoin 1\nsay after\nunit 1 ult at 0\nresume 0\nsay first\nend\n"
+
+abbrev pub resume_joiner_report : Text
+resume_joiner_report =
+    codes "unit 0 done: after\nunit 1 done: !unit-state first\n" ++
+    codes "tally units 2 unborn 0 pool 0 stream 0 blocked 0 done 2 asked 0 access 0 steps 4\nfinished\n"
+
+-- A suspended unit that is resumed goes on with its next operation.
+
+abbrev pub resumed_text : Text
+resumed_text = base ++ codes "units 2\nunit 0 ult at 0\nsuspend\nsay back\nunit 1 ult at 0\nresume 0\nend\n"
+
+abbrev pub resumed_report : Text
+resumed_report =
+    codes "unit 0 done: back\nunit 1 done:\n" ++
+    codes "tally units 2 unborn 0 pool 0 stream 0 blocked 0 done 2 asked 0 access 0 steps 3\nfinished\n"
+
+-- A unit that is in another pool than the named one is not yielded to.
+
+abbrev pub yieldto_other_pool_text : Text
+yieldto_other_pool_text =
+    codes "abt 1\nstreams 1\npool 0 fifo mpmc\npool 1 fifo mpmc\nsched 0 prio 0 1\nstream 0 main 0\n" ++
+    codes "units 2\nunit 0 ult at 0\nyieldto 1 0\nsay on\nunit 1 ult at 1\nsay one\nend\n"
+
+abbrev pub yieldto_other_pool_report : Text
+yieldto_other_pool_report =
+    codes "unit 0 done: !absent on\nunit 1 done: one\n" ++
+    codes "tally units 2 unborn 0 pool 0 stream 0 blocked 0 done 2 asked 0 access 0 steps 3\nfinished\n"

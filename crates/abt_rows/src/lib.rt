@@ -6,6 +6,7 @@ pub mod budgets;
 pub mod eventuals;
 pub mod locals;
 pub mod mutexes;
+pub mod requests;
 pub mod rounds;
 pub mod schedulers;
 pub mod streams;

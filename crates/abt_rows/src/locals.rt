@@ -1,7 +1,7 @@
 //! Rows on local operations, yields and tasklets.
 
 ghost use Rattle.abt_rows.specs.Rows.{IsReported, IsWorked, orders};
-ghost use Rattle.abt_rows.specs.Locals.{empty_text, empty_journal, empty_report, hi_text, hi_journal, hi_report, two_yields_text, two_yields_journal, two_yields_report, wrap_text, wrap_report, keys_text, keys_report, two_keys_text, two_keys_report, tasklet_text, tasklet_journal, tasklet_report};
+ghost use Rattle.abt_rows.specs.Locals.{empty_text, empty_journal, empty_report, hi_text, hi_journal, hi_report, two_yields_text, two_yields_journal, two_yields_report, wrap_text, wrap_report, keys_text, keys_report, two_keys_text, two_keys_report, tasklet_text, tasklet_journal, tasklet_report, accumulator_stays_text, accumulator_stays_report};
 
 /// No unit: one empty round.
 pub fn empty()
@@ -36,4 +36,9 @@ pub fn two_keys()
 /// A tasklet is created, runs to its end, and is joined.
 pub fn tasklet()
     ensures { IsWorked orders 10000 tasklet_text tasklet_journal tasklet_report }
+{}
+
+/// The operations that take the accumulator leave it as it is.
+pub fn accumulator_stays()
+    ensures { IsReported orders 10000 accumulator_stays_text accumulator_stays_report }
 {}

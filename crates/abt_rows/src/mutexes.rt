@@ -1,7 +1,7 @@
 //! Rows on mutexes and conditions.
 
 ghost use Rattle.abt_rows.specs.Rows.{IsReported, IsWorked, orders};
-ghost use Rattle.abt_rows.specs.Mutexes.{self_lock_text, self_lock_report, trylock_text, trylock_report, trylock_own_text, trylock_own_report, unlock_then_trylock_text, unlock_then_trylock_journal, unlock_then_trylock_report, handed_over_text, handed_over_journal, handed_over_report, not_owner_text, not_owner_report, condition_text, condition_report, signal_free_text, signal_free_report, broadcast_held_text, broadcast_held_journal, broadcast_held_report, broadcast_free_text, broadcast_free_journal, broadcast_free_report, waiters_in_order_text, waiters_in_order_journal, waiters_in_order_report};
+ghost use Rattle.abt_rows.specs.Mutexes.{self_lock_text, self_lock_report, trylock_text, trylock_report, trylock_own_text, trylock_own_report, unlock_then_trylock_text, unlock_then_trylock_journal, unlock_then_trylock_report, handed_over_text, handed_over_journal, handed_over_report, not_owner_text, not_owner_report, condition_text, condition_report, signal_free_text, signal_free_report, broadcast_held_text, broadcast_held_journal, broadcast_held_report, broadcast_free_text, broadcast_free_journal, broadcast_free_report, waiters_in_order_text, waiters_in_order_journal, waiters_in_order_report, signal_one_text, signal_one_report, signal_behind_waiters_text, signal_behind_waiters_journal, signal_behind_waiters_report, wait_hands_over_text, wait_hands_over_journal, wait_hands_over_report, number_stays_text, number_stays_report, owner_after_end_text, owner_after_end_report};
 
 /// A second lock by the owner waits.
 pub fn self_lock()
@@ -57,4 +57,29 @@ pub fn broadcast_free()
 /// A mutex goes to its waiters in the order in which they came.
 pub fn waiters_in_order()
     ensures { IsWorked orders 10000 waiters_in_order_text waiters_in_order_journal waiters_in_order_report }
+{}
+
+/// A signal moves the first waiter of a condition alone.
+pub fn signal_one()
+    ensures { IsReported orders 10000 signal_one_text signal_one_report }
+{}
+
+/// A signal moves a waiter behind those that wait for the mutex.
+pub fn signal_behind_waiters()
+    ensures { IsWorked orders 10000 signal_behind_waiters_text signal_behind_waiters_journal signal_behind_waiters_report }
+{}
+
+/// A wait at a condition hands the mutex to the first of its waiters.
+pub fn wait_hands_over()
+    ensures { IsWorked orders 10000 wait_hands_over_text wait_hands_over_journal wait_hands_over_report }
+{}
+
+/// The number of a mutex is 0 at first, and stays when it is loaded, unlocked and locked again.
+pub fn number_stays()
+    ensures { IsReported orders 10000 number_stays_text number_stays_report }
+{}
+
+/// A unit that ends while it owns a mutex remains its owner, also in a later life.
+pub fn owner_after_end()
+    ensures { IsReported orders 10000 owner_after_end_text owner_after_end_report }
 {}

@@ -1,7 +1,7 @@
 //! Rows on pools and the order in which schedulers visit them.
 
 ghost use Rattle.abt_rows.specs.Rows.{IsReported, IsWorked, orders};
-ghost use Rattle.abt_rows.specs.Rounds.{prio_text, prio_journal, prio_report, basic_text, basic_journal, basic_report, randws_of_two_text, randws_of_two_journal, randws_of_two_report, randws_of_four_text, randws_of_four_journal, randws_of_four_report, user_order_text, user_order_journal, user_order_report, mirror_order_text, mirror_order_journal, mirror_order_report, unlisted_pool_text, unlisted_pool_report, deque_text, deque_journal, deque_report, deque_again_text, deque_again_journal, deque_again_report, deque_listed_second_text, deque_listed_second_journal, deque_listed_second_report};
+ghost use Rattle.abt_rows.specs.Rounds.{prio_text, prio_journal, prio_report, basic_text, basic_journal, basic_report, randws_of_two_text, randws_of_two_journal, randws_of_two_report, randws_of_four_text, randws_of_four_journal, randws_of_four_report, user_order_text, user_order_journal, user_order_report, mirror_order_text, mirror_order_journal, mirror_order_report, unlisted_pool_text, unlisted_pool_report, deque_text, deque_journal, deque_report, deque_again_text, deque_again_journal, deque_again_report, deque_listed_second_text, deque_listed_second_journal, deque_listed_second_report, basic_classes_text, basic_classes_journal, basic_classes_report, rotation_of_three_text, rotation_of_three_journal, rotation_of_three_report, yieldto_keeps_the_round_text, yieldto_keeps_the_round_journal, yieldto_keeps_the_round_report, mirror_of_three_text, mirror_of_three_journal, mirror_of_three_report};
 
 /// PRIO visits its pools as they are listed.
 pub fn prio()
@@ -52,4 +52,25 @@ pub fn deque_again()
 /// A stream takes at the front of a deque that its main scheduler does not list first.
 pub fn deque_listed_second()
     ensures { IsWorked orders 10000 deque_listed_second_text deque_listed_second_journal deque_listed_second_report }
+{}
+
+/// BASIC visits first the pools that one stream has alone, then those that one stream takes from,
+/// then the rest, and each class as it is listed.
+pub fn basic_classes()
+    ensures { IsWorked orders 10000 basic_classes_text basic_classes_journal basic_classes_report }
+{}
+
+/// A rotated order of three begins at the next pool in each round.
+pub fn rotation_of_three()
+    ensures { IsWorked orders 10000 rotation_of_three_text rotation_of_three_journal rotation_of_three_report }
+{}
+
+/// A unit that is yielded to ends no round.
+pub fn yieldto_keeps_the_round()
+    ensures { IsWorked orders 10000 yieldto_keeps_the_round_text yieldto_keeps_the_round_journal yieldto_keeps_the_round_report }
+{}
+
+/// A mirrored order of three goes from the last pool to the first.
+pub fn mirror_of_three()
+    ensures { IsWorked orders 10000 mirror_of_three_text mirror_of_three_journal mirror_of_three_report }
 {}

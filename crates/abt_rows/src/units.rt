@@ -1,7 +1,7 @@
-//! Rows on births, ends, joins and requests.
+//! Rows on births, joins, resumptions, revivals and yields to a unit.
 
 ghost use Rattle.abt_rows.specs.Rows.{IsReported, IsWorked, orders};
-ghost use Rattle.abt_rows.specs.Units.{join_text, join_report, join_unborn_text, join_unborn_report, join_self_text, join_self_report, exists_text, exists_report, unborn_refused_text, unborn_refused_report, ended_refused_text, ended_refused_report, resume_too_early_text, resume_too_early_report, cancel_suspended_text, cancel_suspended_report, cancel_before_migrate_text, cancel_before_migrate_report, migrate_text, migrate_journal, migrate_report, migrate_to_stream_text, migrate_to_stream_journal, migrate_to_stream_report, last_migrate_counts_text, last_migrate_counts_journal, last_migrate_counts_report, migratable_text, migratable_journal, migratable_report, yieldto_absent_text, yieldto_absent_report, yieldto_text, yieldto_journal, yieldto_report, revival_text, revival_report, joiners_in_order_text, joiners_in_order_journal, joiners_in_order_report};
+ghost use Rattle.abt_rows.specs.Units.{join_text, join_report, join_unborn_text, join_unborn_report, join_self_text, join_self_report, exists_text, exists_report, unborn_refused_text, unborn_refused_report, ended_refused_text, ended_refused_report, resume_too_early_text, resume_too_early_report, yieldto_absent_text, yieldto_absent_report, yieldto_text, yieldto_journal, yieldto_report, revival_text, revival_report, joiners_in_order_text, joiners_in_order_journal, joiners_in_order_report, revived_elsewhere_text, revived_elsewhere_journal, revived_elsewhere_report, resume_joiner_text, resume_joiner_report, resumed_text, resumed_report, yieldto_other_pool_text, yieldto_other_pool_report};
 
 /// A unit that joins another is woken when that one ends.
 pub fn join()
@@ -38,36 +38,6 @@ pub fn resume_too_early()
     ensures { IsReported orders 10000 resume_too_early_text resume_too_early_report }
 {}
 
-/// A blocked unit is not woken by a cancel request, and ends at its next look.
-pub fn cancel_suspended()
-    ensures { IsReported orders 10000 cancel_suspended_text cancel_suspended_report }
-{}
-
-/// A cancel request goes before a migrate request.
-pub fn cancel_before_migrate()
-    ensures { IsReported orders 10000 cancel_before_migrate_text cancel_before_migrate_report }
-{}
-
-/// A migrate request is granted at the next look of the unit.
-pub fn migrate()
-    ensures { IsWorked orders 10000 migrate_text migrate_journal migrate_report }
-{}
-
-/// A unit migrates to the pool that a stream's main scheduler lists first.
-pub fn migrate_to_stream()
-    ensures { IsWorked orders 10000 migrate_to_stream_text migrate_to_stream_journal migrate_to_stream_report }
-{}
-
-/// Of two migrate requests the later one counts.
-pub fn last_migrate_counts()
-    ensures { IsWorked orders 10000 last_migrate_counts_text last_migrate_counts_journal last_migrate_counts_report }
-{}
-
-/// A unit migrates only while it is migratable.
-pub fn migratable()
-    ensures { IsWorked orders 10000 migratable_text migratable_journal migratable_report }
-{}
-
 /// A unit that is not in the named pool is not yielded to.
 pub fn yieldto_absent()
     ensures { IsReported orders 10000 yieldto_absent_text yieldto_absent_report }
@@ -86,4 +56,24 @@ pub fn revival()
 /// All joiners of a unit are woken when it ends, in the order in which they came.
 pub fn joiners_in_order()
     ensures { IsWorked orders 10000 joiners_in_order_text joiners_in_order_journal joiners_in_order_report }
+{}
+
+/// A unit that is revived goes to the pool that its revival names.
+pub fn revived_elsewhere()
+    ensures { IsWorked orders 10000 revived_elsewhere_text revived_elsewhere_journal revived_elsewhere_report }
+{}
+
+/// A unit that waits for another is not resumed.
+pub fn resume_joiner()
+    ensures { IsReported orders 10000 resume_joiner_text resume_joiner_report }
+{}
+
+/// A suspended unit that is resumed goes on with its next operation.
+pub fn resumed()
+    ensures { IsReported orders 10000 resumed_text resumed_report }
+{}
+
+/// A unit that is in another pool than the named one is not yielded to.
+pub fn yieldto_other_pool()
+    ensures { IsReported orders 10000 yieldto_other_pool_text yieldto_other_pool_report }
 {}

@@ -11,7 +11,7 @@ use Rattle.abt_machine.specs.Numbers.{pool_no, unit_no}
 use Rattle.abt_rows.specs.Rows.{orders}
 use Rattle.abt_rows.proofs.Reporting.{ran, reported}
 use Rattle.abt_rows.proofs.Workloads.{declared, pool, sched, ult_at}
-use Rattle.abt_rows.proofs.units.migrate.Goals as goal
+use Rattle.abt_rows.proofs.requests.migrate.Goals as goal
 
 abbrev workload : Parts
 workload = declared 0 (pool kind.Fifo access.Mpmc ∷ pool kind.Fifo access.Mpmc ∷ []) (sched rule.Prio (0 ∷ 1 ∷ []) ∷ []) [] (

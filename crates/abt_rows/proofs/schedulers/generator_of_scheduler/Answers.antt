@@ -1,5 +1,4 @@
 use Rattle.std.proofs.Common.{[], ◌∷◌, refl}
-use Rattle.std.specs.Prelude.{codes}
 use Rattle.std.specs.Fmt.{digits}
 use Rattle.abt_machine.specs.declared.events.Outcome.TheVariants as outcome
 use Rattle.abt_machine.specs.declared.operations.Access.TheVariants as access
@@ -7,18 +6,17 @@ use Rattle.abt_machine.specs.declared.operations.Kind.TheVariants as kind
 use Rattle.abt_machine.specs.declared.operations.Op.TheVariants as op
 use Rattle.abt_machine.specs.declared.operations.Rule.TheVariants as rule
 use Rattle.abt_machine.specs.declared.workload.Parts.{Parts}
-use Rattle.abt_machine.specs.Numbers.{stream_no, unit_no}
 use Rattle.abt_rows.specs.Rows.{orders}
 use Rattle.abt_rows.proofs.Reporting.{ran, reported}
-use Rattle.abt_rows.proofs.Workloads.{declared, pool, sched, ult_at}
-use Rattle.abt_rows.proofs.units.migrate_to_stream.Goals as goal
+use Rattle.abt_rows.proofs.Workloads.{declared, pool, sched, sched_at, ult_at}
+use Rattle.abt_rows.proofs.schedulers.generator_of_scheduler.Goals as goal
 
 abbrev workload : Parts
-workload = declared 0 (pool kind.Fifo access.Mpmc ∷ pool kind.Fifo access.Mpmc ∷ []) (sched rule.Prio (0 ∷ 1 ∷ []) ∷ []) [] (
-    ult_at 0 (op.MigrateTo (unit_no 1) (stream_no 0) ∷ []) ∷
-    ult_at 0 (op.Say 0 ∷ []) ∷
-    []) (codes "moved" ∷ [])
+workload = declared 0 (pool kind.Fifo access.Mpmc ∷ pool kind.Fifo access.Mpmc ∷ pool kind.Fifo access.Mpmc ∷ pool kind.Fifo access.Mpmc ∷ pool kind.Fifo access.Mpmc ∷ []) (sched rule.Prio (0 ∷ []) ∷ sched (rule.Randws 9) (1 ∷ 2 ∷ 3 ∷ 4 ∷ []) ∷ []) [] (
+    sched_at 1 0 ∷
+    ult_at 2 (op.Yield ∷ []) ∷
+    []) []
 
 pub returns : goal.returns
 unfolding digits
-returns c = (_, refl, reported workload orders 10000 (ran workload orders 13) outcome.Finished _ _ refl refl refl refl)
+returns c = (_, refl, reported workload orders 10000 (ran workload orders 20) outcome.Finished _ _ refl refl refl refl)

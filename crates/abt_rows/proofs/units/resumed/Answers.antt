@@ -8,13 +8,13 @@ use Rattle.abt_machine.specs.Numbers.{unit_no}
 use Rattle.abt_rows.specs.Rows.{orders}
 use Rattle.abt_rows.proofs.Reporting.{ran, reported}
 use Rattle.abt_rows.proofs.Workloads.{based, ult_at}
-use Rattle.abt_rows.proofs.units.cancel_suspended.Goals as goal
+use Rattle.abt_rows.proofs.units.resumed.Goals as goal
 
 abbrev workload : Parts
 workload = based 0 [] (
     ult_at 0 (op.Suspend ∷ op.Say 0 ∷ []) ∷
-    ult_at 0 (op.Cancel (unit_no 0) ∷ op.Resume (unit_no 0) ∷ []) ∷
-    []) (codes "never" ∷ [])
+    ult_at 0 (op.Resume (unit_no 0) ∷ []) ∷
+    []) (codes "back" ∷ [])
 
 pub returns : goal.returns
 unfolding digits

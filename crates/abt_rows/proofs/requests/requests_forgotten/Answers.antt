@@ -1,4 +1,4 @@
-use Rattle.std.proofs.Common.{[], ◌∷◌, true, false, refl}
+use Rattle.std.proofs.Common.{[], ◌∷◌, refl}
 use Rattle.std.specs.Prelude.{codes}
 use Rattle.std.specs.Fmt.{digits}
 use Rattle.abt_machine.specs.declared.events.Outcome.TheVariants as outcome
@@ -11,14 +11,14 @@ use Rattle.abt_machine.specs.Numbers.{pool_no, unit_no}
 use Rattle.abt_rows.specs.Rows.{orders}
 use Rattle.abt_rows.proofs.Reporting.{ran, reported}
 use Rattle.abt_rows.proofs.Workloads.{declared, pool, sched, ult_at}
-use Rattle.abt_rows.proofs.units.migratable.Goals as goal
+use Rattle.abt_rows.proofs.requests.requests_forgotten.Goals as goal
 
 abbrev workload : Parts
 workload = declared 0 (pool kind.Fifo access.Mpmc ∷ pool kind.Fifo access.Mpmc ∷ []) (sched rule.Prio (0 ∷ 1 ∷ []) ∷ []) [] (
-    ult_at 0 (op.Migratable (unit_no 1) false ∷ op.Migrate (unit_no 1) (pool_no 1) ∷ op.Migratable (unit_no 1) true ∷ op.Migrate (unit_no 1) (pool_no 1) ∷ []) ∷
-    ult_at 0 (op.Say 0 ∷ []) ∷
-    []) (codes "moved" ∷ [])
+    ult_at 0 (op.Join (unit_no 1) ∷ op.Revive (unit_no 1) (pool_no 0) ∷ []) ∷
+    ult_at 0 (op.Cancel (unit_no 1) ∷ op.Migrate (unit_no 1) (pool_no 1) ∷ op.Say 0 ∷ []) ∷
+    []) (codes "end" ∷ [])
 
 pub returns : goal.returns
 unfolding digits
-returns c = (_, refl, reported workload orders 10000 (ran workload orders 17) outcome.Finished _ _ refl refl refl refl)
+returns c = (_, refl, reported workload orders 10000 (ran workload orders 23) outcome.Finished _ _ refl refl refl refl)

@@ -11,14 +11,14 @@ use Rattle.abt_machine.specs.Numbers.{pool_no, unit_no}
 use Rattle.abt_rows.specs.Rows.{orders}
 use Rattle.abt_rows.proofs.Reporting.{ran, reported}
 use Rattle.abt_rows.proofs.Workloads.{declared, pool, sched, ult_at}
-use Rattle.abt_rows.proofs.units.cancel_before_migrate.Goals as goal
+use Rattle.abt_rows.proofs.requests.migrate_suspended.Goals as goal
 
 abbrev workload : Parts
 workload = declared 0 (pool kind.Fifo access.Mpmc ∷ pool kind.Fifo access.Mpmc ∷ []) (sched rule.Prio (0 ∷ 1 ∷ []) ∷ []) [] (
-    ult_at 0 (op.Cancel (unit_no 1) ∷ op.Migrate (unit_no 1) (pool_no 1) ∷ []) ∷
-    ult_at 0 (op.Say 0 ∷ []) ∷
-    []) (codes "never" ∷ [])
+    ult_at 0 (op.Suspend ∷ op.Say 0 ∷ []) ∷
+    ult_at 0 (op.Migrate (unit_no 0) (pool_no 1) ∷ op.Resume (unit_no 0) ∷ []) ∷
+    []) (codes "moved" ∷ [])
 
 pub returns : goal.returns
 unfolding digits
-returns c = (_, reported workload orders 10000 (ran workload orders 10) outcome.Finished _ _ refl refl refl refl)
+returns c = (_, refl, reported workload orders 10000 (ran workload orders 19) outcome.Finished _ _ refl refl refl refl)

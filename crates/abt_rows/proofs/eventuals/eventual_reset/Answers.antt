@@ -1,0 +1,21 @@
+use Rattle.std.proofs.Common.{[], ◌∷◌, refl}
+use Rattle.std.specs.Fmt.{digits}
+use Rattle.abt_machine.specs.declared.events.Outcome.TheVariants as outcome
+use Rattle.abt_machine.specs.declared.operations.Op.TheVariants as op
+use Rattle.abt_machine.specs.declared.operations.Thing.TheVariants as thing
+use Rattle.abt_machine.specs.declared.workload.Parts.{Parts}
+use Rattle.abt_machine.specs.Numbers.{object_no}
+use Rattle.abt_rows.specs.Rows.{orders}
+use Rattle.abt_rows.proofs.Reporting.{ran, reported}
+use Rattle.abt_rows.proofs.Workloads.{based, ult_at}
+use Rattle.abt_rows.proofs.eventuals.eventual_reset.Goals as goal
+
+abbrev workload : Parts
+workload = based 0 (thing.Eventual ∷ []) (
+    ult_at 0 (op.EvWait (object_no 0) ∷ op.Print ∷ []) ∷
+    ult_at 0 (op.EvReset (object_no 0) ∷ op.Set 7 ∷ op.EvSet (object_no 0) ∷ []) ∷
+    []) []
+
+pub returns : goal.returns
+unfolding digits
+returns c = (_, reported workload orders 10000 (ran workload orders 15) outcome.Finished _ _ refl refl refl refl)

@@ -1,0 +1,22 @@
+use Rattle.std.proofs.Common.{[], ◌∷◌, refl}
+use Rattle.std.specs.Fmt.{digits}
+use Rattle.abt_machine.specs.declared.events.Outcome.TheVariants as outcome
+use Rattle.abt_machine.specs.declared.operations.Combine.TheVariants as combine
+use Rattle.abt_machine.specs.declared.operations.Op.TheVariants as op
+use Rattle.abt_machine.specs.declared.operations.Thing.TheVariants as thing
+use Rattle.abt_machine.specs.declared.workload.Parts.{Parts}
+use Rattle.abt_machine.specs.Numbers.{object_no}
+use Rattle.abt_rows.specs.Rows.{orders}
+use Rattle.abt_rows.proofs.Reporting.{ran, reported}
+use Rattle.abt_rows.proofs.Workloads.{based, ult_at}
+use Rattle.abt_rows.proofs.eventuals.future_reset_part_filled.Goals as goal
+
+abbrev workload : Parts
+workload = based 0 (thing.Future 2 combine.Sum ∷ []) (
+    ult_at 0 (op.FuWait (object_no 0) ∷ op.Print ∷ []) ∷
+    ult_at 0 (op.Set 3 ∷ op.FuSet (object_no 0) ∷ op.FuReset (object_no 0) ∷ op.Set 4 ∷ op.FuSet (object_no 0) ∷ op.FuTest (object_no 0) ∷ op.Print ∷ op.FuSet (object_no 0) ∷ []) ∷
+    []) []
+
+pub returns : goal.returns
+unfolding digits
+returns c = (_, reported workload orders 10000 (ran workload orders 20) outcome.Finished _ _ refl refl refl refl)

@@ -1,0 +1,22 @@
+use Rattle.std.proofs.Common.{[], ◌∷◌, refl}
+use Rattle.std.specs.Fmt.{digits}
+use Rattle.abt_machine.specs.declared.events.Outcome.TheVariants as outcome
+use Rattle.abt_machine.specs.declared.operations.Op.TheVariants as op
+use Rattle.abt_machine.specs.declared.operations.Thing.TheVariants as thing
+use Rattle.abt_machine.specs.declared.workload.Parts.{Parts}
+use Rattle.abt_machine.specs.Numbers.{object_no}
+use Rattle.abt_rows.specs.Rows.{orders}
+use Rattle.abt_rows.proofs.Reporting.{ran, reported}
+use Rattle.abt_rows.proofs.Workloads.{based, ult_at}
+use Rattle.abt_rows.proofs.mutexes.wait_hands_over.Goals as goal
+
+abbrev workload : Parts
+workload = based 0 (thing.Mutex ∷ thing.Cond (object_no 0) ∷ []) (
+    ult_at 0 (op.Lock (object_no 0) ∷ op.Yield ∷ op.CondWait (object_no 1) ∷ []) ∷
+    ult_at 0 (op.Lock (object_no 0) ∷ op.Unlock (object_no 0) ∷ []) ∷
+    ult_at 0 (op.Lock (object_no 0) ∷ op.Unlock (object_no 0) ∷ []) ∷
+    []) []
+
+pub returns : goal.returns
+unfolding digits
+returns c = (_, refl, reported workload orders 10000 (ran workload orders 25) outcome.Stuck _ _ refl refl refl refl)

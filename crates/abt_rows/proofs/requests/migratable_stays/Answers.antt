@@ -1,0 +1,20 @@
+use Rattle.std.proofs.Common.{[], ◌∷◌, false, refl}
+use Rattle.std.specs.Fmt.{digits}
+use Rattle.abt_machine.specs.declared.events.Outcome.TheVariants as outcome
+use Rattle.abt_machine.specs.declared.operations.Op.TheVariants as op
+use Rattle.abt_machine.specs.declared.workload.Parts.{Parts}
+use Rattle.abt_machine.specs.Numbers.{pool_no, stream_no, unit_no}
+use Rattle.abt_rows.specs.Rows.{orders}
+use Rattle.abt_rows.proofs.Reporting.{ran, reported}
+use Rattle.abt_rows.proofs.Workloads.{based, ult_at, ult_later}
+use Rattle.abt_rows.proofs.requests.migratable_stays.Goals as goal
+
+abbrev workload : Parts
+workload = based 0 [] (
+    ult_at 0 (op.Migratable (unit_no 1) false ∷ op.Migrate (unit_no 1) (pool_no 0) ∷ op.MigrateTo (unit_no 1) (stream_no 0) ∷ op.Create (unit_no 1) (pool_no 0) ∷ op.Migrate (unit_no 1) (pool_no 0) ∷ op.MigrateTo (unit_no 1) (stream_no 0) ∷ []) ∷
+    ult_later [] ∷
+    []) []
+
+pub returns : goal.returns
+unfolding digits
+returns c = (_, reported workload orders 10000 (ran workload orders 14) outcome.Finished _ _ refl refl refl refl)
