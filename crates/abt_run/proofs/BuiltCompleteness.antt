@@ -14,9 +14,8 @@ use Rattle.abt_machine.specs.declared.operations.Op.{Op}
 use Rattle.abt_machine.specs.declared.operations.Op.TheVariants as op
 use Rattle.abt_machine.specs.declared.workload.Parts.{Parts}
 use Rattle.abt_machine.specs.declared.workload.UnitPart.{UnitPart}
-use Rattle.abt_run.specs.Built.{AreBuiltUnits, IsBuilt, IsBuiltBody, is_built_op}
+use Rattle.abt_run.specs.Built.{AreBuiltUnits, IsBuilt, IsBuiltBody, built_parts, is_built_op}
 use Rattle.abt_run.specs.OpLines.{IsLine, IsProgram, program_text}
-use Rattle.abt_run.specs.BuiltParts.{built_parts}
 use Rattle.abt_run.specs.declared.read.op_line.OpLine.{OpLine}
 use Rattle.abt_run.proofs.BuiltTexts.{head, line_from, line_words-from, no_unit, no_unit-whole, one_unit, one_unit-whole, unit_of}
 

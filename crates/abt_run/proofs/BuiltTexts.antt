@@ -11,9 +11,8 @@ use Rattle.abt_machine.specs.declared.operations.Op.{Op}
 use Rattle.abt_machine.specs.declared.operations.Op.TheVariants as op
 use Rattle.abt_machine.specs.declared.workload.Parts.{Parts}
 use Rattle.abt_machine.specs.declared.workload.UnitPart.{UnitPart}
-use Rattle.abt_run.specs.Built.{is_built_op}
-use Rattle.abt_run.specs.OpLines.{IsLine, IsProgram, line_text, line_words, ops_from, program_text, words_in}
-use Rattle.abt_run.specs.BuiltParts.{built_parts, program_parts}
+use Rattle.abt_run.specs.Built.{built_parts, is_built_op}
+use Rattle.abt_run.specs.OpLines.{IsLine, IsProgram, line_text, line_words, ops_from, program_parts, program_text, words_in}
 use Rattle.abt_run.specs.declared.read.op_line.OpLine.{OpLine}
 use Rattle.abt_run.specs.declared.read.op_line.OpLine.TheVariants as line
 use Rattle.abt_run.proofs.LineBreaks.{All-head, All-tail}

@@ -10,8 +10,8 @@ use Rattle.abt_machine.specs.Workloads.{access_of}
 use Rattle.abt_machine.specs.declared.operations.Op.{Op}
 use Rattle.abt_machine.specs.declared.workload.Parts.{Parts}
 use Rattle.abt_machine.specs.declared.workload.UnitPart.{UnitPart}
-use Rattle.abt_run.specs.OpLines.{IsLine, IsProgram, op_from, ops_from, word_in, words_in}
-use Rattle.abt_run.specs.BuiltParts.{built_parts, program_parts}
+use Rattle.abt_run.specs.OpLines.{IsLine, IsProgram, op_from, ops_from, program_parts, word_in, words_in}
+use Rattle.abt_run.specs.Built.{built_parts}
 use Rattle.abt_run.specs.declared.read.op_line.OpLine.{OpLine}
 use Rattle.abt_run.specs.declared.read.op_line.OpLine.TheVariants as line
 use Rattle.abt_run.proofs.LineBreaks.{All-head, All-tail}

@@ -1,24 +1,14 @@
 -- A built workload is the one of no unit or of one unit, and its operations are local.
-use Rattle.std.proofs.Common.{◌≡◌, ◌<◌, ◌&&◌, ℕ, zero, suc, Bool, true, false, List, [], ◌∷◌, length, Option, Some, None, refl, ap, sym, ◌∙◌, subst, arith}
-use Rattle.std.specs.Prelude.{slice_get, IsTrue}
+use Rattle.std.proofs.Common.{◌≡◌, ◌<◌, true, List, [], ◌∷◌, length, Some, refl, ap, ◌∙◌, arith}
+use Rattle.std.specs.Prelude.{slice_get}
 use Rattle.std.specs.List.{list_all}
-use Rattle.abt_machine.specs.declared.numbers.SchedNo.{SchedNo}
 use Rattle.abt_machine.specs.declared.operations.Body.{Body}
 use Rattle.abt_machine.specs.declared.operations.Body.TheVariants as body
-use Rattle.abt_machine.specs.declared.operations.Op.{Op}
-use Rattle.abt_machine.specs.declared.operations.Op.TheVariants as op
-use Rattle.abt_machine.specs.declared.operations.Thing.{Thing}
 use Rattle.abt_machine.specs.declared.workload.Parts.{Parts}
-use Rattle.abt_machine.specs.declared.workload.PoolPart.{PoolPart}
-use Rattle.abt_machine.specs.declared.workload.SchedPart.{SchedPart}
 use Rattle.abt_machine.specs.declared.workload.UnitPart.{UnitPart}
-use Rattle.abt_machine.specs.Numbers.{pool_no, sched_no}
+use Rattle.abt_machine.specs.Numbers.{pool_no}
 use Rattle.abt_machine.specs.Workloads.{body_at, body_from, ops_of}
-use Rattle.abt_machine.specs.State.{Carried}
-use Rattle.abt_machine.specs.Words.{Text}
-use Rattle.abt_unit.specs.Local.{after_local}
-use Rattle.abt_run.specs.Built.{AreBuiltUnits, IsBuilt, IsBuiltBody, built_pool, built_sched, is_built_op}
-use Rattle.abt_run.specs.BuiltParts.{built_parts}
+use Rattle.abt_run.specs.Built.{AreBuiltUnits, IsBuilt, IsBuiltBody, built_parts, is_built_op}
 use Rattle.abt_run.proofs.BuiltCompleteness.{parts-are}
 use Rattle.abt_run.proofs.Single.{single}
 

@@ -1,5 +1,5 @@
 -- Journals of one stream, whose stamps count its events.
-use Rattle.std.proofs.Common.{◌≡◌, ◌<◌, ◌≤◌, ◌+◌, ℕ, zero, suc, List, [], ◌∷◌, ◌++◌, length, refl, ap, sym, ◌∙◌, subst, arith, inl, inr, ◌⊎◌}
+use Rattle.std.proofs.Common.{◌≡◌, ◌<◌, ◌≤◌, ◌+◌, ℕ, suc, List, [], ◌∷◌, ◌++◌, length, refl, ap, sym, ◌∙◌, subst, arith, inl}
 use Rattle.abt_machine.specs.declared.numbers.StreamNo.{StreamNo}
 use Rattle.abt_machine.specs.declared.events.Event.{Event}
 use Rattle.abt_machine.specs.declared.operations.OrderShape.{OrderShape}
@@ -7,7 +7,7 @@ use Rattle.abt_machine.specs.declared.workload.Parts.{Parts}
 use Rattle.abt_machine.specs.Numbers.{stream_no}
 use Rattle.abt_machine.specs.Events.{May, after}
 use Rattle.abt_machine.specs.Runs.{RunFrom, state_after}
-use Rattle.abt_machine.specs.Stamps.{AllAfter, Follows, Stamped, StampedFrom}
+use Rattle.abt_machine.specs.Stamps.{AllAfter, Stamped, StampedFrom}
 use Rattle.abt_machine.specs.State.{State}
 use Rattle.abt_run.specs.Going.{CountedFrom}
 

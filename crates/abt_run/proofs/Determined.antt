@@ -1,18 +1,15 @@
 -- One stream whose scheduler has one order leaves no choice.
-use Rattle.std.proofs.Common.{◌≡◌, ◌≢◌, ◌<◌, ◌+◌, ℕ, zero, suc, List, [], ◌∷◌, ◌++◌, length, Option, Some, None, refl, ap, sym, ◌∙◌, subst, arith, append_assoc, ◌-◌}
+use Rattle.std.proofs.Common.{◌≡◌, ℕ, suc, List, [], ◌∷◌, ◌++◌, length, Option, Some, None, refl, ap, sym, ◌∙◌, subst, append_assoc, ◌-◌}
 use Rattle.abt_machine.specs.declared.events.Code.{Code}
 use Rattle.abt_machine.specs.declared.events.Place.TheVariants as place
 use Rattle.abt_machine.specs.declared.operations.OrderShape.{OrderShape}
 use Rattle.abt_machine.specs.Sound.{Sound}
-use Rattle.abt_machine.specs.declared.numbers.PoolNo.{PoolNo}
 use Rattle.abt_machine.specs.declared.numbers.StreamNo.{StreamNo}
 use Rattle.abt_machine.specs.declared.numbers.UnitNo.{UnitNo}
-use Rattle.abt_machine.specs.declared.events.Cause.{Cause}
 use Rattle.abt_machine.specs.declared.events.Event.{Event}
 use Rattle.abt_machine.specs.declared.events.What.{What}
 use Rattle.abt_machine.specs.declared.events.What.TheVariants as what
 use Rattle.abt_machine.specs.declared.workload.Parts.{Parts}
-use Rattle.abt_machine.specs.declared.workload.UnitPart.{UnitPart}
 use Rattle.abt_machine.specs.Numbers.{stream_no, pool_no, unit_no}
 use Rattle.abt_machine.specs.Workloads.{op_at}
 use Rattle.abt_machine.specs.Queues.{first}
@@ -22,15 +19,11 @@ use Rattle.abt_machine.specs.Next.{Due, due, PutDue, LookDue, EndDue, EnterDue, 
 use Rattle.abt_machine.specs.Fronts.{front}
 use Rattle.abt_machine.specs.Rounds.{IsNextPool, IsOrder}
 use Rattle.abt_machine.specs.Codes.{code_at}
-use Rattle.abt_machine.specs.Events.{May, after}
-use Rattle.abt_machine.specs.Runs.{Run, RunFrom, last_state, state_after}
-use Rattle.abt_machine.specs.Stamps.{Stamped}
+use Rattle.abt_machine.specs.Events.{May}
+use Rattle.abt_machine.specs.Runs.{Run, RunFrom, last_state}
 use Rattle.abt_machine.specs.Start.{start}
-use Rattle.abt_machine.specs.Words.{Text}
-use Rattle.abt_run.specs.Alone.{EndsRound, EndsWithOnlyEmptyRound, IsOnlyRun}
+use Rattle.abt_run.specs.Runs.{EndsRound, EndsWithOnlyEmptyRound, IsOnlyRun}
 use Rattle.abt_laws.proofs.RunParts.{run-rest, run-front}
-use Rattle.abt_run.specs.BuiltParts.{built_parts}
-use Rattle.abt_run.proofs.Single.{some-is}
 use Rattle.abt_run.proofs.Counted.{stamped-counted}
 use Rattle.abt_run.specs.Going.{CountedFrom}
 

@@ -1,35 +1,33 @@
 -- The end of a run of one stream: nothing is left to do, and there is no other run.
-use Rattle.std.proofs.Common.{◌≡◌, ◌≢◌, ◌<◌, ◌+◌, ℕ, zero, suc, Bool, true, false, List, [], ◌∷◌, ◌++◌, length, Option, Some, None, refl, ap, sym, ◌∙◌, subst, arith, add-zero, lit<}
+use Rattle.std.proofs.Common.{◌≡◌, ◌<◌, ℕ, zero, suc, true, false, List, [], ◌∷◌, ◌++◌, length, Some, None, refl, ap, sym, ◌∙◌, subst, arith, add-zero, lit<}
 use Rattle.std.proofs.lemmas.Bool.{cases_eq}
 use Rattle.std.proofs.Common.{inl, inr}
 use Rattle.abt_machine.specs.declared.events.Cause.TheVariants as cause
 use Rattle.abt_machine.specs.declared.events.Event.{Event}
 use Rattle.abt_machine.specs.declared.events.Outcome.TheVariants as outcome
-use Rattle.abt_machine.specs.declared.events.Place.{Place}
 use Rattle.abt_machine.specs.declared.events.Place.TheVariants as place
-use Rattle.abt_machine.specs.declared.events.What.{What}
 use Rattle.abt_machine.specs.declared.events.What.TheVariants as what
 use Rattle.abt_machine.specs.declared.operations.Op.{Op}
 use Rattle.abt_machine.specs.declared.workload.Parts.{Parts}
 use Rattle.abt_machine.specs.declared.workload.UnitPart.{UnitPart}
-use Rattle.abt_machine.specs.Numbers.{stream_no, pool_no, unit_no}
+use Rattle.abt_machine.specs.Numbers.{pool_no, unit_no}
 use Rattle.abt_machine.specs.Lines.{InPool, InTray, InHand, InNext}
 use Rattle.abt_machine.specs.Outcomes.{Quiet, AllEnded, IsOver}
 use Rattle.abt_machine.specs.Outcomes.{EndsAs}
 use Rattle.abt_machine.specs.Rounds.{IsOrder, OrdersStored}
 use Rattle.abt_machine.specs.Valid.{IsValid}
 use Rattle.abt_machine.specs.Runs.{Run, last_state}
-use Rattle.abt_machine.specs.Texts.{shown, ShownUnit}
+use Rattle.abt_machine.specs.Texts.{shown}
 use Rattle.abt_machine.specs.declared.events.Shown.TheVariants as shows
 use Rattle.abt_machine.specs.State.{State, Stream, Carried}
 use Rattle.abt_machine.specs.Words.{Text}
-use Rattle.abt_run.specs.Alone.{IsMiss, HasEmptyRound, EndsRound, EndsWithOnlyEmptyRound, IsOnlyRun}
+use Rattle.abt_laws.specs.Laws.{IsMiss}
+use Rattle.abt_run.specs.Runs.{EndsRound, EndsWithOnlyEmptyRound, HasEmptyRound, IsTheRun}
 use Rattle.abt_run.specs.Going.{At, alone, CountedFrom, HasNoMiss, Comes, IsGoing, HasRun, next_event}
-use Rattle.abt_run.specs.Runs.{IsTheRun}
 use Rattle.abt_laws.proofs.SoundRuns.{runs-are-sound}
 use Rattle.abt_laws.proofs.LifeRuns.{runs-live}
 use Rattle.abt_laws.proofs.RunParts.{last_state-sound}
-use Rattle.abt_run.specs.BuiltParts.{built_parts}
+use Rattle.abt_run.specs.Built.{built_parts}
 use Rattle.abt_run.proofs.Single.{single, standing-at, ends, misses}
 use Rattle.abt_run.proofs.Counted.{counted-stamped}
 use Rattle.abt_run.proofs.Determined.{HasOneOrder, LeavesNoChoice, only-run}

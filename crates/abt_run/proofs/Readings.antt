@@ -7,9 +7,8 @@ use Rattle.abt_machine.specs.Words.{Text}
 use Rattle.abt_machine.specs.declared.operations.Op.{Op}
 use Rattle.abt_machine.specs.declared.workload.Parts.{Parts}
 use Rattle.abt_machine.specs.declared.workload.UnitPart.{UnitPart}
-use Rattle.abt_run.specs.Built.{IsBuilt, is_built_op}
-use Rattle.abt_run.specs.OpLines.{IsProgram, ops_from, program_text, words_in}
-use Rattle.abt_run.specs.BuiltParts.{built_parts, program_parts}
+use Rattle.abt_run.specs.Built.{IsBuilt, built_parts, is_built_op}
+use Rattle.abt_run.specs.OpLines.{IsProgram, ops_from, program_parts, program_text, words_in}
 use Rattle.abt_run.specs.declared.read.op_line.OpLine.{OpLine}
 use Rattle.abt_run.specs.declared.read.op_line.OpLine.TheVariants as line
 use Rattle.abt_run.proofs.BuiltCompleteness.{HasProgram, built-text}

@@ -1,29 +1,26 @@
 -- The run of a workload of one unit, event by event.
-use Rattle.std.proofs.Common.{◌≡◌, ◌≢◌, ◌<◌, ◌+◌, ℕ, zero, suc, Bool, true, false, List, [], ◌∷◌, ◌++◌, length, Option, Some, None, refl, ap, sym, ◌∙◌, subst, arith, lit<, add-one}
+use Rattle.std.proofs.Common.{◌≡◌, ◌+◌, false, List, [], ◌∷◌, ◌++◌, Some, refl, ap, sym, ◌∙◌, subst, arith, lit<, add-one}
 use Rattle.std.specs.Prelude.{if◌then◌else◌, slice_get}
 use Rattle.std.proofs.lemmas.List.Sums.{fold-append}
-use Rattle.abt_machine.specs.declared.events.Cause.TheVariants as cause
 use Rattle.abt_machine.specs.declared.events.Code.TheVariants as code
 use Rattle.abt_machine.specs.declared.events.Event.{Event}
-use Rattle.abt_machine.specs.declared.events.Outcome.TheVariants as outcome
 use Rattle.abt_machine.specs.declared.events.Place.{Place}
 use Rattle.abt_machine.specs.declared.events.Place.TheVariants as place
 use Rattle.abt_machine.specs.declared.events.What.{What}
 use Rattle.abt_machine.specs.declared.events.What.TheVariants as what
 use Rattle.abt_machine.specs.declared.operations.Op.{Op}
 use Rattle.abt_machine.specs.declared.operations.Op.TheVariants as op
-use Rattle.abt_machine.specs.declared.workload.Parts.{Parts}
 use Rattle.abt_machine.specs.Numbers.{stream_no, pool_no, unit_no}
-use Rattle.abt_machine.specs.Events.{May, after}
-use Rattle.abt_machine.specs.Outcomes.{steps_in, is_step, EndsAs}
-use Rattle.abt_machine.specs.Runs.{Run, last_state, state_after}
+use Rattle.abt_machine.specs.Events.{after}
+use Rattle.abt_machine.specs.Outcomes.{steps_in, is_step}
+use Rattle.abt_machine.specs.Runs.{last_state}
 use Rattle.abt_machine.specs.Start.{start}
-use Rattle.abt_machine.specs.State.{State, Stream, Carried}
+use Rattle.abt_machine.specs.State.{Stream, Carried}
 use Rattle.abt_machine.specs.Words.{Text}
 use Rattle.abt_unit.specs.Local.{after_local}
-use Rattle.abt_run.specs.Alone.{IsMiss, EndsRound, EndsWithOnlyEmptyRound}
-use Rattle.abt_run.specs.Going.{At, alone, CountedFrom, HasNoMiss, Comes, IsGoing, next_event}
-use Rattle.abt_run.proofs.Single.{some-is, single, fresh, Goes, starts, takes, looks, steps, ends, misses}
+use Rattle.abt_laws.specs.Laws.{IsMiss}
+use Rattle.abt_run.specs.Going.{At, alone, HasNoMiss, Comes, IsGoing, next_event}
+use Rattle.abt_run.proofs.Single.{some-is, single, fresh, Goes, starts, takes, looks, steps}
 use Rattle.abt_run.proofs.Counted.{counted-more, run-more, state-more}
 
 steps-more : (J : List Event) (w : What) → steps_in (J ++ next_event J w ∷ []) ≡ steps_in J + (if is_step w then 1 else 0)

@@ -3,7 +3,7 @@ use Rattle.std.proofs.Common.{◌≡◌, ◌≢◌, ◌<◌, ℕ, zero, suc, ◌
 use Rattle.std.proofs.lemmas.Bool.{cond-false, cond-true, ne_eqb, lt-ltb, le-ltb}
 use Rattle.abt_machine.specs.Maps.{put_at, put_all}
 use Rattle.abt_machine.specs.Changes.{changed, no_change, to_tray}
-use Rattle.std.specs.Prelude.{option_map, slice_get, nat_lt, if◌then◌else◌}
+use Rattle.std.specs.Prelude.{option_map, slice_get, nat_lt}
 use Rattle.abt_machine.specs.declared.events.Code.TheVariants as code
 use Rattle.abt_machine.specs.declared.events.Cause.TheVariants as cause
 use Rattle.abt_machine.specs.declared.events.Place.{Place}
@@ -13,24 +13,21 @@ use Rattle.abt_machine.specs.declared.events.What.TheVariants as what
 use Rattle.abt_machine.specs.declared.operations.Body.TheVariants as body
 use Rattle.abt_machine.specs.declared.operations.Op.{Op}
 use Rattle.abt_machine.specs.declared.operations.Op.TheVariants as op
-use Rattle.abt_machine.specs.declared.operations.OrderShape.{OrderShape}
 use Rattle.abt_machine.specs.declared.workload.Parts.{Parts}
-use Rattle.abt_machine.specs.declared.workload.UnitPart.{UnitPart}
-use Rattle.abt_machine.specs.Numbers.{stream_no, pool_no, sched_no, unit_no}
+use Rattle.abt_machine.specs.Numbers.{stream_no, pool_no, unit_no}
 use Rattle.abt_machine.specs.Queues.{first, ticketed_step}
-use Rattle.abt_machine.specs.State.{State, Stream, Frame, Carried, Desk, Plain}
-use Rattle.abt_machine.specs.Lines.{Line, InPool, InTray, InHand, InNext, Joining, ticket_in, standing, hand, next}
+use Rattle.abt_machine.specs.State.{State, Stream, Carried, Desk, Plain}
+use Rattle.abt_machine.specs.Lines.{Line, InPool, InTray, InHand, InNext, Joining, ticket_in, standing}
 use Rattle.abt_machine.specs.Rounds.{IsNextPool}
-use Rattle.abt_machine.specs.Next.{Due, due, due_by, at_position, PutDue, LookDue, EndDue, EnterDue, StepDue, LeaveDue, RoundDue}
-use Rattle.abt_machine.specs.Fronts.{front, front_by}
-use Rattle.abt_machine.specs.Frames.{frame_at, marked, round_taken, round_missed}
+use Rattle.abt_machine.specs.Next.{Due, due, due_by, at_position, EndDue, StepDue}
+use Rattle.abt_machine.specs.Frames.{marked, round_taken, round_missed}
 use Rattle.abt_machine.specs.Codes.{code_at, code_of}
 use Rattle.abt_machine.specs.Steps.{op_row, step_row}
 use Rattle.abt_machine.specs.Start.{start}
 use Rattle.abt_machine.specs.Events.{May, after, look_row, without_requests}
 use Rattle.abt_machine.specs.Words.{Text}
 use Rattle.abt_unit.specs.Local.{after_local}
-use Rattle.abt_run.specs.BuiltParts.{built_parts}
+use Rattle.abt_run.specs.Built.{built_parts}
 use Rattle.abt_run.specs.Going.{At, alone, first_desk}
 
 pub some-is : {A : Type 0} {x y : A} → Some x ≡ Some y → x ≡ y

@@ -1,20 +1,17 @@
 -- The whole run of a built workload.
-use Rattle.std.proofs.Common.{◌≡◌, ◌<◌, ◌++◌, ℕ, List, [], ◌∷◌, length, Some, None, refl, ap, sym, ◌∙◌, subst}
+use Rattle.std.proofs.Common.{◌≡◌, ◌<◌, List, [], ◌∷◌, length, Some, None, sym, subst}
 use Rattle.abt_machine.specs.declared.events.Event.{Event}
-use Rattle.abt_machine.specs.declared.events.What.TheVariants as what
 use Rattle.abt_machine.specs.declared.workload.Parts.{Parts}
-use Rattle.abt_machine.specs.Numbers.{pool_no, unit_no}
 use Rattle.abt_machine.specs.Start.{start}
 use Rattle.abt_machine.specs.State.{Carried}
 use Rattle.abt_machine.specs.Valid.{IsValid}
 use Rattle.abt_machine.specs.Values.{owned_at}
 use Rattle.abt_machine.specs.Workloads.{body_at, ops_of}
-use Rattle.abt_run.specs.Built.{IsBuilt}
-use Rattle.abt_run.specs.Going.{HasRun, IsGoing, next_event}
+use Rattle.abt_run.specs.Built.{IsBuilt, built_parts}
+use Rattle.abt_run.specs.Going.{HasRun, IsGoing}
 use Rattle.abt_run.proofs.BuiltWorkloads.{empty-is, single-is}
 use Rattle.abt_run.proofs.Ending.{closed, first_miss, runs-empty, runs-whole}
 use Rattle.abt_run.proofs.Running.{in-hand, look_event, take_event}
-use Rattle.abt_run.specs.BuiltParts.{built_parts}
 use Rattle.abt_run.proofs.Single.{single}
 
 -- after the take and the look

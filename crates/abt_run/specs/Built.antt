@@ -14,6 +14,7 @@ use Rattle.abt_machine.specs.declared.workload.SchedPart.{SchedPart}
 use Rattle.abt_machine.specs.declared.workload.UnitPart.{UnitPart}
 use Rattle.abt_machine.specs.Numbers.{pool_no, sched_no}
 use Rattle.abt_machine.specs.Valid.{IsValid}
+use Rattle.abt_machine.specs.Words.{Text}
 
 -- the operations that are run: they touch their unit alone
 abbrev pub is_built_op : Op → Bool
@@ -52,6 +53,7 @@ is_built_op (op.FuReset x) = false
 is_built_op (op.FuTest x) = false
 is_built_op (op.BarWait x) = false
 
+-- a user-level thread of such operations
 abbrev pub IsBuiltBody : Body → Type 0
 IsBuiltBody (body.Ult ops) = IsTrue (list_all is_built_op ops)
 IsBuiltBody (body.Task ops) = ⊥
@@ -63,11 +65,26 @@ AreBuiltUnits [] = Unit {0}
 AreBuiltUnits (part ∷ []) = (part.start ≡ Some (pool_no 0)) × IsBuiltBody part.body
 AreBuiltUnits (part ∷ other ∷ parts) = ⊥
 
+-- the only pool
 abbrev pub built_pool : PoolPart
 built_pool = record { kind = kind.Fifo; access = access.Mpmc }
 
+-- the only scheduler
 abbrev pub built_sched : SchedPart
 built_sched = record { rule = rule.Prio; pools = pool_no 0 ∷ [] }
+
+-- one stream over one pool, with these units and words
+abbrev pub built_parts : List UnitPart → List Text → Parts
+built_parts units words = record {
+  streams = 1;
+  keys = 0;
+  pools = built_pool ∷ [];
+  scheds = built_sched ∷ [];
+  mains = sched_no 0 ∷ [];
+  objects = [];
+  units = units;
+  words = words;
+}
 
 -- a valid workload that the program runs
 pub record IsBuilt (W : Parts) : Type 0 where

@@ -12,9 +12,9 @@ use Rattle.abt_machine.specs.Frames.{frame_at}
 use Rattle.abt_machine.specs.Outcomes.{steps_in}
 use Rattle.abt_machine.specs.Runs.{Run, last_state}
 use Rattle.abt_machine.specs.Texts.{shown_units}
-use Rattle.abt_run.specs.Alone.{IsMiss}
+use Rattle.abt_laws.specs.Laws.{IsMiss}
 use Rattle.abt_run.specs.Runs.{IsTheRun}
-use Rattle.abt_run.specs.Shows.{ended_units}
+use Rattle.abt_run.specs.Outputs.{ended_units}
 
 -- the stream before round r, the round before having ended empty or not
 abbrev pub alone : ℕ → Bool → Stream

@@ -1,12 +1,9 @@
-pub mod Alone
 pub mod Built
-pub mod BuiltParts
 pub mod Call
 pub mod Going
-pub mod Messages
 pub mod OpLines
 pub mod Outputs
 pub mod Prepared
 pub mod Reading
 pub mod Runs
-pub mod Shows
+pub mod Status

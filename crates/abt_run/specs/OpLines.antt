@@ -1,9 +1,13 @@
--- A program as its text gives it: a line for each operation, and the line `end`.
-use Rattle.std.specs.Prelude.{ℕ, ◌+◌, ◌<◌, ◌≤◌, ◌^◌, All, List, [], ◌∷◌, ◌++◌, length, map, flat_map, codes, decimal, ⊤}
+-- A program as its text gives it: a line for each operation, and the line `end`; and the workload of one unit with it.
+use Rattle.std.specs.Prelude.{Some, ℕ, ◌+◌, ◌<◌, ◌≤◌, ◌^◌, All, List, [], ◌∷◌, ◌++◌, length, map, flat_map, codes, decimal, ⊤}
+use Rattle.abt_machine.specs.Numbers.{pool_no}
 use Rattle.abt_machine.specs.Valid.{IsWord}
 use Rattle.abt_machine.specs.Words.{Text, line_of, text_of}
+use Rattle.abt_machine.specs.declared.operations.Body.TheVariants as body
 use Rattle.abt_machine.specs.declared.operations.Op.{Op}
 use Rattle.abt_machine.specs.declared.operations.Op.TheVariants as op
+use Rattle.abt_machine.specs.declared.workload.Parts.{Parts}
+use Rattle.abt_run.specs.Built.{built_parts}
 use Rattle.abt_run.specs.declared.read.op_line.OpLine.{OpLine}
 use Rattle.abt_run.specs.declared.read.op_line.OpLine.TheVariants as line
 
@@ -14,6 +18,7 @@ line_words (line.Add n) = codes "add" ∷ decimal n ∷ []
 line_words (line.Say word) = codes "say" ∷ word ∷ []
 line_words line.Print = codes "print" ∷ []
 
+-- the line without its line feed
 abbrev pub line_text : OpLine → Text
 line_text l = line_of (line_words l)
 
@@ -55,3 +60,7 @@ ops_from n (l ∷ lines) = op_from n l ∷ ops_from (n + length (word_in l)) lin
 -- the words that a program says, in order
 abbrev pub words_in : List OpLine → List Text
 words_in = flat_map word_in
+
+-- the workload of one unit with this program
+abbrev pub program_parts : List OpLine → Parts
+program_parts lines = built_parts (record { body = body.Ult (ops_from 0 lines); start = Some (pool_no 0) } ∷ []) (words_in lines)

@@ -6,6 +6,8 @@ mod program;
 mod read;
 mod run;
 mod status;
+#[cfg(test)]
+mod tests;
 mod texts;
 
 pub use program::abtrun;

@@ -7,9 +7,9 @@ ghost use Rattle.abt_machine.specs.Outcomes.{is_step, steps_in};
 ghost use Rattle.abt_machine.specs.Runs.{last_state};
 ghost use Rattle.abt_machine.specs.Texts.{output_text};
 ghost use Rattle.abt_unit.specs.Fits.{IsPieceOf};
-ghost use Rattle.abt_run.specs.Call.{EndsBy, Holds, IsComplete, IsTold};
+ghost use Rattle.abt_run.specs.Call.{Holds, IsAnswered, IsTold};
 ghost use Rattle.abt_run.specs.Going.{HasRun};
-ghost use Rattle.abt_run.specs.Messages.{message_of};
+ghost use Rattle.abt_run.specs.Status.{message_of};
 ghost use Rattle.abt_run.specs.Outputs.{output_of};
 ghost use Rattle.abt_run.specs.Prepared.{IsPrepared, Stops};
 ghost use Rattle.abt_run.specs.declared.status.Status.TheVariants as status;
@@ -62,7 +62,7 @@ fn output(alloc: Global, w: &Workload, ran: &Ran, with_journal: bool) -> Result<
 // All of a call but its writes.
 fn prepare<F: Files>(alloc: Global, words: &[String], files: &mut F) -> Result<Prepared, Status>
     ensures done { IfOk result (λ p. IsPrepared (map string_bytes words.now) (λ name. F.file files.old name) p.journal.items p.text.items) }
-    ensures stop { IfErr result (λ stop. Stops stop (map string_bytes words.now) (λ name. F.file files.old name) (F.faults files.old) (F.faults files.new)) }
+    ensures stop { IfErr result (λ stop. Stops stop (map string_bytes words.now) (λ name. F.file files.old name) (F.faults files.old, F.faults files.new)) }
     ensures later { F.faults files.old ≤ F.faults files.new }
 {
     let Some((file, with_journal)) = command(words) else {
@@ -115,17 +115,7 @@ pub fn abtrun<F: Files, K: Sink, E: Sink>(
     out: &mut K,
     err: &mut E,
 ) -> Ended
-    ensures cause { EndsBy result.status (record {
-      words = map string_bytes words.now;
-      file = λ name. F.file files.old name;
-      read_faults = (F.faults files.old, F.faults files.new);
-      out = (K.taken out.old, K.taken out.new);
-      out_faults = (K.faults out.old, K.faults out.new);
-      err = (E.taken err.old, E.taken err.new);
-      err_faults = (E.faults err.old, E.faults err.new);
-      journal = result.journal;
-    }) }
-    ensures complete { IsComplete result.status (record {
+    ensures { IsAnswered result.status (record {
       words = map string_bytes words.now;
       file = λ name. F.file files.old name;
       read_faults = (F.faults files.old, F.faults files.new);

@@ -2,9 +2,8 @@
 
 ghost use Rattle.std.specs.Prelude.{◌≡◌, [], IfOk};
 ghost use Rattle.abt_machine.specs.Canonical.{canonical_text};
-ghost use Rattle.abt_run.specs.Built.{IsBuilt};
-ghost use Rattle.abt_run.specs.BuiltParts.{built_parts, program_parts};
-ghost use Rattle.abt_run.specs.OpLines.{IsProgram};
+ghost use Rattle.abt_run.specs.Built.{IsBuilt, built_parts};
+ghost use Rattle.abt_run.specs.OpLines.{IsProgram, program_parts};
 ghost use Rattle.abt_run.specs.Reading.{Reads};
 
 mod op_line;

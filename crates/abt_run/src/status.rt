@@ -1,8 +1,7 @@
 //! How a call of the program ends.
 
 ghost use Rattle.std.specs.Prelude.{◌≡◌};
-ghost use Rattle.abt_run.specs.Call.{number_of};
-ghost use Rattle.abt_run.specs.Messages.{message_of};
+ghost use Rattle.abt_run.specs.Status.{message_of, number_of};
 
 /// How a call of the program ends.
 #[derive(Clone, Copy, Debug, PartialEq, Eq)]

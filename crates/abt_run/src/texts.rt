@@ -4,7 +4,7 @@ ghost use Rattle.std.specs.Prelude.{◌≡◌, ◌++◌, ◌∷◌, [], All, cod
 ghost use Rattle.abt_machine.specs.Texts.{cause_name, code_name, empty_tally, event_words, journal_text, outcome_words, piece_word, report_of, tally_words, unit_line, what_words};
 ghost use Rattle.abt_machine.specs.Words.{ended, line_of, spaced, text_of};
 ghost use Rattle.abt_machine.specs.declared.events.Outcome.TheVariants as outcome;
-ghost use Rattle.abt_run.specs.Shows.{ended_unit, ended_units};
+ghost use Rattle.abt_run.specs.Outputs.{ended_unit, ended_units};
 ghost use Rattle.abt_unit.specs.Fits.{IsPieceOf};
 
 use abt_machine::{Cause, Code, Event, Piece, Want, What, Workload};

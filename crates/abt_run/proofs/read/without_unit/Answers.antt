@@ -3,7 +3,7 @@ use Rattle.abt_machine.specs.Valid.{IsValid}
 use Rattle.abt_machine.specs.Words.{Text}
 use Rattle.abt_machine.specs.declared.workload.Parts.{Parts}
 use Rattle.abt_machine.specs.declared.workload.UnitPart.{UnitPart}
-use Rattle.abt_run.specs.BuiltParts.{built_parts}
+use Rattle.abt_run.specs.Built.{built_parts}
 use Rattle.abt_run.proofs.BuiltValidity.{no_unit-valid}
 use Rattle.abt_run.proofs.read.without_unit.Goals as goal
 

@@ -1,5 +1,4 @@
-use Rattle.std.proofs.Common.{◌≡◌, ◌++◌, ℕ, List, [], ◌∷◌, length, None, refl, sym, ◌∙◌, ap, subst, arith}
-use Rattle.abt_machine.specs.declared.events.Event.{Event}
+use Rattle.std.proofs.Common.{◌≡◌, ◌++◌, [], ◌∷◌, length, None, sym, ◌∙◌, ap, subst, arith}
 use Rattle.abt_machine.specs.declared.events.What.TheVariants as what
 use Rattle.abt_machine.specs.Numbers.{pool_no}
 use Rattle.abt_run.specs.Going.{HasRun, next_event}

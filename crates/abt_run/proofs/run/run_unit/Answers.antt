@@ -1,9 +1,5 @@
-use Rattle.std.proofs.Common.{◌≡◌, ◌<◌, ◌+◌, ◌++◌, List, [], ◌∷◌, ℕ, length, Some, refl, sym, ◌∙◌, ap, subst, arith}
-use Rattle.abt_machine.specs.declared.events.Event.{Event}
-use Rattle.abt_machine.specs.declared.events.Cause.TheVariants as cause
-use Rattle.abt_machine.specs.declared.events.What.{What}
+use Rattle.std.proofs.Common.{◌≡◌, ◌++◌, [], ◌∷◌, Some, sym, ◌∙◌, ap, subst}
 use Rattle.abt_machine.specs.declared.events.What.TheVariants as what
-use Rattle.abt_machine.specs.declared.workload.Parts.{Parts}
 use Rattle.abt_machine.specs.Numbers.{pool_no, unit_no}
 use Rattle.abt_machine.specs.Start.{start}
 use Rattle.abt_machine.specs.Values.{Owned, owned_at}
