@@ -20,7 +20,7 @@ of-told : (P : Text → Type 0) (o : Option Text) (bytes : Text) → o ≡ Some 
 of-told P None bytes e known = cc
 of-told P (Some b) bytes e known = let same : b ≡ bytes = cc in subst P same known
 
--- and of one file whatever its name is called
+-- the same of a file with an equal name
 of-file : (c : Call) (P : Text → Type 0) (f file bytes : Text) → f ≡ file → c.file file ≡ Some bytes → IfSome (c.file f) P → P bytes
 of-file c P f file bytes same e known = of-told P (c.file file) bytes e (subst (λ (x : Text). IfSome (c.file x) P) same known)
 

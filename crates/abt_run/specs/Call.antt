@@ -28,6 +28,7 @@ pub record Call : Type 0 where
   pub err_faults : ℕ × ℕ
   pub journal : List Event
 
+-- the count of faults rose
 abbrev pub Grew : ℕ × ℕ → Type 0
 Grew faults = Rose faults.0 faults.1
 

@@ -20,6 +20,7 @@ use Rattle.abt_run.specs.Outputs.{ended_units}
 abbrev pub alone : ℕ → Bool → Stream
 alone r empty = record { mark = Plain; top = frame_at 0 r empty; below = [] }
 
+-- the desk of a unit that nobody has asked anything
 abbrev pub first_desk : Desk
 first_desk = record { life = 1; cancel = false; migrate = None; migratable = true }
 
@@ -40,6 +41,7 @@ abbrev pub CountedFrom : ℕ → List Event → Type 0
 CountedFrom t [] = Unit {0}
 CountedFrom t (e ∷ es) = (e.stamp ≡ t) × (e.stream ≡ stream_no 0) × CountedFrom (suc t) es
 
+-- no event is a miss
 abbrev pub HasNoMiss : List Event → Type 0
 HasNoMiss [] = Unit {0}
 HasNoMiss (e ∷ es) = (IsMiss e.what → ⊥) × HasNoMiss es
