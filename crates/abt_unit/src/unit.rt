@@ -142,6 +142,7 @@ impl Unit {
     /// Takes room for one more piece of output, where there is none.
     pub fn reserve_output(&mut self) -> Result<(), Want>
         ensures room { OnOk result (0 < self.new.spare) }
+        ensures kept { self.old.spare ≤ self.new.spare }
         ensures same { self.new ≡ record self.old { spare = self.new.spare } }
         ensures err { OnErr result (self.new ≡ self.old) }
         ensures only_full { OnErr result (self.old.spare ≡ 0) }
