@@ -54,7 +54,7 @@ fn output(alloc: Global, w: &Workload, ran: &Ran, with_journal: bool) -> Result<
     let steps = count_steps(&ran.journal);
     match &ran.unit {
         Some(unit) => push_report(&mut text, w, unit.output(), steps)?,
-        None => push_empty_report(&mut text, w, steps)?,
+        None => push_empty_report(&mut text, steps)?,
     }
     Ok(text)
 }

@@ -1,7 +1,7 @@
 //! The texts of journals and reports.
 
 ghost use Rattle.std.specs.Prelude.{◌≡◌, ◌++◌, ◌∷◌, [], All, codes, decimal, None, OnOk, Some, map};
-ghost use Rattle.abt_machine.specs.Texts.{cause_name, code_name, empty_tally, event_words, journal_text, outcome_words, piece_word, report_of, tally_words, unit_line, what_words};
+ghost use Rattle.abt_machine.specs.Texts.{cause_name, code_name, empty_tally, event_words, journal_text, outcome_words, piece_word, report_of, tally_and_outcome, tally_words, unit_line, what_words};
 ghost use Rattle.abt_machine.specs.Words.{ended, line_of, spaced, text_of};
 ghost use Rattle.abt_machine.specs.declared.events.Outcome.TheVariants as outcome;
 ghost use Rattle.abt_run.specs.Outputs.{ended_unit, ended_units};
@@ -193,11 +193,10 @@ fn push_end(out: &mut Vec<u8>, units: u32, steps: u64) -> Result<(), Want>
     Ok(())
 }
 
-// Appends the report of a finished workload that has no unit.
-pub(crate) fn push_empty_report(out: &mut Vec<u8>, w: &Workload, steps: u64) -> Result<(), Want>
-    ensures { OnOk result (out.new.items ≡ out.old.items ++ report_of w.now (ended_units None) steps outcome.Finished) }
+// Appends the report of a finished workload that has no unit: the tally and the outcome.
+pub(crate) fn push_empty_report(out: &mut Vec<u8>, steps: u64) -> Result<(), Want>
+    ensures { OnOk result (out.new.items ≡ out.old.items ++ tally_and_outcome [] steps outcome.Finished) }
 {
-    let _ = w;
     push_end(out, 0, steps)
 }
 
