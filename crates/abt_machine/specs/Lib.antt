@@ -20,6 +20,7 @@ pub mod Next
 pub mod Numbers
 pub mod Operations
 pub mod Outcomes
+pub mod Pieces
 pub mod Plans
 pub mod Pools
 pub mod Queues

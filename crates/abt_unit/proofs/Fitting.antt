@@ -16,7 +16,8 @@ use Rattle.abt_machine.specs.Operations.{IsDeclared}
 use Rattle.abt_machine.specs.Valid.{IsValid}
 use Rattle.abt_machine.specs.Values.{Owned}
 use Rattle.abt_machine.specs.Workloads.{body_at, op_at, ops_of}
-use Rattle.abt_unit.specs.Fits.{Fits, IsPieceOf}
+use Rattle.abt_machine.specs.Pieces.{IsPieceOf}
+use Rattle.abt_unit.specs.Fits.{Fits}
 use Rattle.abt_unit.specs.Local.{NamesKeyBelow, back, local_step, local_step_at}
 
 -- the position of a unit that fits a valid workload is a small number

@@ -1,0 +1,6 @@
+mod ComparedTexts
+mod Guessing
+mod Joining
+mod JournalTexts
+mod LineBreaks
+mod Numbering

@@ -1,0 +1,67 @@
+-- Texts that are cut at their first line feed.
+use Rattle.std.proofs.Common.{◌≡◌, ◌≢◌, ◌==◌, not, true, false, ap, get_or, ℕ, suc, List, [], ◌∷◌, ◌++◌, refl, subst, sym, arith}
+use Rattle.std.specs.List.{All, list_all}
+use Rattle.std.proofs.lemmas.Bool.{eqb-false, not-true}
+use Rattle.std.proofs.lemmas.List.Sums.{AllPass-from_list_all}
+use Rattle.abt_machine.specs.Words.{Text}
+
+-- a byte that is no line feed
+abbrev pub IsNoFeed : ℕ → Type 0
+IsNoFeed b = b ≢ 10
+
+-- no byte is a line feed
+abbrev pub IsUnbroken : Text → Type 0
+IsUnbroken = All IsNoFeed
+
+-- a text that is written out is unbroken by a test
+pub unbroken-by : (text : Text) → list_all (λ b. not (b == 10)) text ≡ true → IsUnbroken text
+unbroken-by text e k d lt = eqb-false (get_or text k d) 10 (not-true (get_or text k d == 10) (AllPass-from_list_all (λ b. not (b == 10)) text e k d lt))
+
+-- the first element of a list whose elements all pass
+pub All-head : {X : Type 0} (P : X → Type 0) (x : X) (xs : List X) → All P (x ∷ xs) → P x
+All-head P x xs all = all 0 x (omega arith)
+
+-- the rest of such a list
+pub All-tail : {X : Type 0} (P : X → Type 0) (x : X) (xs : List X) → All P (x ∷ xs) → All P xs
+All-tail P x xs all = λ k d lt. all (suc k) d (omega arith)
+
+-- the first byte
+first_or : ℕ → Text → ℕ
+first_or d [] = d
+first_or d (x ∷ xs) = x
+
+-- texts that are the same begin with the same byte
+pub heads-same : (a b : ℕ) (xs ys : Text) → a ∷ xs ≡ b ∷ ys → a ≡ b
+unfolding first_or
+heads-same a b xs ys e = ap (first_or a) e
+
+-- texts are not the same where their first bytes differ
+pub apart : (a b : ℕ) (xs ys : Text) → (a == b) ≡ false → a ∷ xs ≡ b ∷ ys → ⊥
+apart a b xs ys differ e = eqb-false a b differ (heads-same a b xs ys e)
+
+-- the text without its first byte
+rest_of : Text → Text
+rest_of [] = []
+rest_of (x ∷ xs) = xs
+
+-- texts that are the same go on the same
+pub tails-same : (a b : ℕ) (xs ys : Text) → a ∷ xs ≡ b ∷ ys → xs ≡ ys
+unfolding rest_of
+tails-same a b xs ys e = ap rest_of e
+
+-- what stands before the first line feed, and after it, is one pair
+pub cut-same : (xs ys us vs : Text) → IsUnbroken xs → IsUnbroken ys → xs ++ 10 ∷ us ≡ ys ++ 10 ∷ vs → (xs ≡ ys) × (us ≡ vs)
+cut-same [] [] us vs hx hy e = (refl, cc)
+cut-same [] (y ∷ ys) us vs hx hy e = absurd (All-head IsNoFeed y ys hy cc)
+cut-same (x ∷ xs) [] us vs hx hy e = absurd (All-head IsNoFeed x xs hx cc)
+cut-same (x ∷ xs) (y ∷ ys) us vs hx hy e =
+    let same : x ≡ y = heads-same x y (xs ++ 10 ∷ us) (ys ++ 10 ∷ vs) e in
+    let rest = tails-same x y (xs ++ 10 ∷ us) (ys ++ 10 ∷ vs) e in
+    let cut = cut-same xs ys us vs (All-tail IsNoFeed x xs hx) (All-tail IsNoFeed y ys hy) rest in
+    let tails : xs ≡ ys = cut.0 in
+    (cc, cut.1)
+
+-- a text with a line feed is not unbroken
+pub broken : (xs us text : Text) → xs ++ 10 ∷ us ≡ text → IsUnbroken text → ⊥
+broken [] us text e h = let e' : 10 ∷ us ≡ text = e in All-head IsNoFeed 10 us (subst IsUnbroken (sym e') h) refl
+broken (x ∷ xs) us text e h = broken xs us (xs ++ 10 ∷ us) refl (All-tail IsNoFeed x (xs ++ 10 ∷ us) (subst IsUnbroken (sym e) h))

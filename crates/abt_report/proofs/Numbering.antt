@@ -1,0 +1,52 @@
+-- Lists of numbered elements, one element more at a time.
+use Rattle.std.proofs.Common.{◌≡◌, ◌∙◌, ◌+◌, ◌<◌, ℕ, List, [], ◌∷◌, ◌++◌, length, take, get_or, map, flat_map, refl, subst, sym, arith, add-zero, zero-add}
+use Rattle.std.proofs.lemmas.Grind.{flat_map-append}
+use Rattle.std.proofs.lemmas.List.{append-nil, map_more, map_push, length-map, length-take-le}
+use Rattle.std.specs.List.{enumerate_from}
+use Rattle.abt_machine.specs.declared.events.Outcome.{Outcome}
+use Rattle.abt_machine.specs.declared.workload.Parts.{Parts}
+use Rattle.abt_machine.specs.Queues.{first_alone}
+use Rattle.abt_machine.specs.Texts.{ShownUnit, short_of, tally_and_outcome, unit_line}
+use Rattle.abt_machine.specs.Words.{Text, ended, numbered}
+use Rattle.abt_report.specs.Pictures.{unit_of, units_of}
+use Rattle.abt_report.specs.declared.pictures.Row.{Row}
+
+-- the element behind a list has the next number
+pub enumerate-behind : {A : Type 0} (n : ℕ) (xs : List A) (x : A) → enumerate_from n (xs ++ x ∷ []) ≡ enumerate_from n xs ++ (n + length xs, x) ∷ []
+enumerate-behind n [] x = rw (add-zero n) refl
+enumerate-behind n (y ∷ xs) x =
+    let next : n + 1 + length xs ≡ n + length (y ∷ xs) = omega arith in
+    rw (enumerate-behind (n + 1) xs x, next) refl
+
+-- so it is with what is made of each
+pub numbered-behind : {A B : Type 0} (f : ℕ → A → B) (xs : List A) (x : A) → numbered f (xs ++ x ∷ []) ≡ numbered f xs ++ f (length xs) x ∷ []
+numbered-behind f xs x = rw (enumerate-behind 0 xs x, zero-add (length xs)) (map_push (λ p. f p.0 p.1) (enumerate_from 0 xs) (length xs, x))
+
+-- the lines of the units up to i are those of the units before, and that of unit i
+lines-up-to : (f : ℕ → ShownUnit → Text) (rows : List Row) (i : ℕ) (d : Row) → i < length rows →
+    flat_map ended (numbered f (units_of (take (i + 1) rows))) ≡ flat_map ended (numbered f (units_of (take i rows))) ++ ended (f i (unit_of (get_or rows i d)))
+lines-up-to f rows i d lt =
+    let long : length (units_of (take i rows)) ≡ i = rw (length-map (take i rows) unit_of) (length-take-le i rows (omega arith)) in
+    rw (map_more unit_of rows i d lt, numbered-behind f (units_of (take i rows)) (unit_of (get_or rows i d)), long, flat_map-append ended (numbered f (units_of (take i rows))) (f i (unit_of (get_or rows i d)) ∷ []), append-nil (ended (f i (unit_of (get_or rows i d))))) refl
+
+pub lines-more : (f : ℕ → ShownUnit → Text) (rows : List Row) (i : ℕ) (row : Row) → i < length rows → row ≡ get_or rows i row →
+    flat_map ended (numbered f (units_of (take (i + 1) rows))) ≡ flat_map ended (numbered f (units_of (take i rows))) ++ ended (f i (unit_of row))
+lines-more f rows i row lt is =
+    let Is : Row → Type 0 = λ x. flat_map ended (numbered f (units_of (take (i + 1) rows))) ≡ flat_map ended (numbered f (units_of (take i rows))) ++ ended (f i (unit_of x)) in
+    subst Is (sym is) (lines-up-to f rows i row lt)
+
+-- the line of the first unit alone
+line-alone : (f : ℕ → ShownUnit → Text) (rows : List Row) (row : Row) → 0 < length rows → row ≡ get_or rows 0 row →
+    flat_map ended (first_alone (numbered f (units_of rows))) ≡ ended (f 0 (unit_of row))
+line-alone f [] row some is = absurd (omega arith)
+line-alone f (x ∷ rows) row some is =
+    let first : row ≡ x = is in
+    rw (first, append-nil (ended (f 0 (unit_of x)))) refl
+
+-- the short report: that line, and the end of every report
+pub short-built : (W : Parts) (rows : List Row) (row : Row) (steps : ℕ) (o : Outcome) (line new : Text) → 0 < length rows → row ≡ get_or rows 0 row →
+    line ≡ ended (unit_line W 0 (unit_of row)) → new ≡ line ++ tally_and_outcome (units_of rows) steps o → new ≡ short_of W (units_of rows) steps o
+short-built W rows row steps o line new some is first all =
+    let alone = line-alone (unit_line W) rows row some is in
+    let Is : Text → Type 0 = λ text. new ≡ text ++ tally_and_outcome (units_of rows) steps o in
+    subst Is (first ∙ sym alone) all

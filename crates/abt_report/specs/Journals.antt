@@ -1,0 +1,61 @@
+-- Texts that are read as journals.
+use Rattle.std.specs.Prelude.{ℕ, suc, ◌≡◌, ◌≢◌, ◌<◌, ◌^◌, List, [], ◌++◌, length, All, MatchOption, Option, ⊤}
+use Rattle.abt_machine.specs.declared.events.Event.{Event}
+use Rattle.abt_machine.specs.declared.events.What.{What}
+use Rattle.abt_machine.specs.declared.events.What.TheVariants as what
+use Rattle.abt_machine.specs.Texts.{event_words, journal_text}
+use Rattle.abt_machine.specs.Words.{Text, ended, line_of}
+use Rattle.abt_report.specs.declared.not_journal.NotJournal.{NotJournal}
+use Rattle.abt_report.specs.declared.not_journal.NotJournal.TheVariants as cause
+
+-- numbers of streams, pools, units and positions have 32 bits
+abbrev pub IsShort : ℕ → Type 0
+IsShort n = n < 2 ^ 32
+
+abbrev pub HasShortNumbers : What → Type 0
+HasShortNumbers (what.Miss p) = IsShort p.0
+HasShortNumbers (what.Take p u) = IsShort p.0 × IsShort u.0
+HasShortNumbers (what.Look u) = IsShort u.0
+HasShortNumbers (what.Step u k c) = IsShort u.0 × IsShort k
+HasShortNumbers (what.Put u p) = IsShort u.0 × IsShort p.0
+HasShortNumbers (what.End u c) = IsShort u.0
+HasShortNumbers (what.Enter u) = IsShort u.0
+HasShortNumbers (what.Leave u) = IsShort u.0
+
+-- an event whose numbers are within their types: its stamp has 64 bits
+pub record IsEvent (e : Event) : Type 0 where
+  pub stamp : e.stamp < 2 ^ 64
+  pub stream : IsShort e.stream.0
+  pub what : HasShortNumbers e.what
+
+-- the line of an event
+abbrev pub event_line : Event → Text
+event_line e = line_of (event_words e)
+
+-- the rest stands from line l of the bytes on, behind the lines of these events
+pub record StandsAfter (bytes : Text) (l : ℕ) (J : List Event) (rest : Text) : Type 0 where
+  pub text : journal_text J ++ rest ≡ bytes
+  pub events : All IsEvent J
+  pub line : suc (length J) ≡ l
+
+-- no event's line begins the text
+abbrev pub BeginsNoEvent : Text → Type 0
+BeginsNoEvent rest = (e : Event) (more : Text) → IsEvent e → ended (event_line e) ++ more ≡ rest → ⊥
+
+-- line l is the first at which no journal's text agrees with the bytes: the lines before it are those of events, and it is
+-- there and is none
+abbrev pub IsBadAt : Text → ℕ → Type 0
+IsBadAt bytes l = (J : List Event) × (rest : Text) × StandsAfter bytes l J rest × (rest ≢ []) × BeginsNoEvent rest
+
+-- the bytes are no journal's text
+abbrev pub IsNoJournal : Text → Type 0
+IsNoJournal bytes = (J : List Event) → All IsEvent J → journal_text J ≡ bytes → ⊥
+
+-- a value of this kind whose text it is, or nothing where there is none
+abbrev pub Reads : {A : Type 0} → (A → Type 0) → (A → Text) → Text → Option A → Type 0
+Reads {A} Is text_from text found = MatchOption found ((x : A) → Is x → text_from x ≡ text → ⊥) (λ x. Is x × (text_from x ≡ text))
+
+-- why bytes were not read
+abbrev pub IsCause : Text → NotJournal → Type 0
+IsCause bytes (cause.Bad line) = IsBadAt bytes line × IsNoJournal bytes
+IsCause bytes cause.Memory = ⊤

@@ -1,0 +1,4 @@
+pub mod Guesses
+pub mod Journals
+pub mod Pictures
+pub mod Tallies

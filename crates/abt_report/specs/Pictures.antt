@@ -1,0 +1,18 @@
+-- What contracts see of a picture.
+use Rattle.std.specs.Prelude.{List, map, All}
+use Rattle.abt_machine.specs.declared.workload.Parts.{Parts}
+use Rattle.abt_machine.specs.Pieces.{IsPieceOf}
+use Rattle.abt_machine.specs.Texts.{ShownUnit}
+use Rattle.abt_report.specs.declared.pictures.Row.{Row}
+
+-- a row as a report shows it
+abbrev pub unit_of : Row → ShownUnit
+unit_of row = record { shown = row.shown; output = row.output }
+
+-- the units of a picture, as a report shows them
+abbrev pub units_of : List Row → List ShownUnit
+units_of = map unit_of
+
+-- the words that the unit said are the workload's
+abbrev pub SaysWordsOf : Parts → Row → Type 0
+SaysWordsOf W row = All (IsPieceOf W) row.output

@@ -1,0 +1,185 @@
+//! The event that words may be those of: where they are the words of an event, it is that one.
+
+ghost use Rattle.std.specs.Prelude.{◌≡◌, ◌<◌, ◌^◌, ℕ, [], ◌∷◌, IsTrue, OnOk, Some, decimal, map};
+ghost use Rattle.std.specs.List.{slice_split};
+ghost use Rattle.std.specs.Str.{bytes_eq};
+ghost use Rattle.abt_machine.specs.declared.events.Cause.{Cause};
+ghost use Rattle.abt_machine.specs.declared.events.Code.{Code};
+ghost use Rattle.abt_machine.specs.declared.events.Event.{Event};
+ghost use Rattle.abt_machine.specs.declared.events.What.{What};
+ghost use Rattle.abt_machine.specs.Texts.{cause_name, code_name, event_words, what_words};
+ghost use Rattle.abt_report.specs.Guesses.{cause_of, code_of, is_space, what_of_one, what_of_two};
+ghost use Rattle.abt_report.specs.Journals.{HasShortNumbers, IsEvent};
+
+use crate::cuts::cut;
+use abt_machine::{Cause, Code, Event, PoolNo, StreamNo, UnitNo, Want, What};
+use std::str;
+
+// The number of 64 bits that a word is.
+fn long(word: &[u8]) -> Option<u64>
+    ensures { (n : ℕ) → n < 2 ^ 64 → decimal n ≡ word.now → result ≡ Some n }
+{
+    let Ok(text) = str::from_utf8(word) else {
+        return None;
+    };
+    let Ok(n) = text.parse::<u64>() else {
+        return None;
+    };
+    Some(n)
+}
+
+// The number of 32 bits that a word is.
+fn short(word: &[u8]) -> Option<u32>
+    ensures { (n : ℕ) → n < 2 ^ 32 → decimal n ≡ word.now → result ≡ Some n }
+{
+    let Ok(text) = str::from_utf8(word) else {
+        return None;
+    };
+    let Ok(n) = text.parse::<u32>() else {
+        return None;
+    };
+    Some(n)
+}
+
+fn is(word: &[u8], text: &[u8]) -> bool
+    ensures { result ≡ bytes_eq word.now text.now }
+{
+    word == text
+}
+
+fn cause(word: &[u8]) -> Option<Cause>
+    ensures { result ≡ cause_of word.now }
+{
+    if is(word, b"done") {
+        Some(Cause::Done)
+    } else if is(word, b"asked") {
+        Some(Cause::Asked)
+    } else if is(word, b"access") {
+        Some(Cause::Access)
+    } else {
+        None
+    }
+}
+
+fn code(word: &[u8]) -> Option<Code>
+    ensures { result ≡ code_of word.now }
+{
+    if is(word, b"ok") {
+        Some(Code::Ok)
+    } else if is(word, b"pool-access") {
+        Some(Code::PoolAccess)
+    } else if is(word, b"exists") {
+        Some(Code::Exists)
+    } else if is(word, b"unit-state") {
+        Some(Code::UnitState)
+    } else if is(word, b"not-migratable") {
+        Some(Code::NotMigratable)
+    } else if is(word, b"absent") {
+        Some(Code::Absent)
+    } else if is(word, b"mutex-locked") {
+        Some(Code::MutexLocked)
+    } else if is(word, b"not-owner") {
+        Some(Code::NotOwner)
+    } else if is(word, b"eventual-set") {
+        Some(Code::EventualSet)
+    } else if is(word, b"future-full") {
+        Some(Code::FutureFull)
+    } else {
+        None
+    }
+}
+
+fn with_one(kind: &[u8], n: u32) -> Option<What>
+    ensures { result ≡ what_of_one kind.now n }
+{
+    if is(kind, b"miss") {
+        Some(What::Miss(PoolNo(n)))
+    } else if is(kind, b"look") {
+        Some(What::Look(UnitNo(n)))
+    } else if is(kind, b"enter") {
+        Some(What::Enter(UnitNo(n)))
+    } else if is(kind, b"leave") {
+        Some(What::Leave(UnitNo(n)))
+    } else {
+        None
+    }
+}
+
+fn with_two(kind: &[u8], n: u32, m: u32) -> Option<What>
+    ensures { result ≡ what_of_two kind.now n m }
+{
+    if is(kind, b"take") {
+        Some(What::Take(PoolNo(n), UnitNo(m)))
+    } else if is(kind, b"put") {
+        Some(What::Put(UnitNo(n), PoolNo(m)))
+    } else {
+        None
+    }
+}
+
+// What two words say.
+fn of_two(kind: &[u8], a: &[u8]) -> Option<What>
+    ensures { (w : What) → HasShortNumbers w → what_words w ≡ kind.now ∷ a.now ∷ [] → result ≡ Some w }
+{
+    with_one(kind, short(a)?)
+}
+
+// What three words say.
+fn of_three(kind: &[u8], a: &[u8], b: &[u8]) -> Option<What>
+    ensures { (w : What) → HasShortNumbers w → what_words w ≡ kind.now ∷ a.now ∷ b.now ∷ [] → result ≡ Some w }
+{
+    let n = short(a)?;
+    if is(kind, b"end") {
+        return Some(What::End(UnitNo(n), cause(b)?));
+    }
+    with_two(kind, n, short(b)?)
+}
+
+// What four words say.
+fn of_four(kind: &[u8], a: &[u8], b: &[u8], c: &[u8]) -> Option<What>
+    ensures { (w : What) → HasShortNumbers w → what_words w ≡ kind.now ∷ a.now ∷ b.now ∷ c.now ∷ [] → result ≡ Some w }
+{
+    if !is(kind, b"step") {
+        return None;
+    }
+    Some(What::Step(UnitNo(short(a)?), short(b)?, code(c)?))
+}
+
+// What the words say.
+fn what(words: &[&[u8]]) -> Option<What>
+    ensures { (w : What) → HasShortNumbers w → what_words w ≡ map (λ word. word.now) words.now → result ≡ Some w }
+{
+    match words {
+        [kind, a] => of_two(kind, a),
+        [kind, a, b] => of_three(kind, a, b),
+        [kind, a, b, c] => of_four(kind, a, b, c),
+        _ => None,
+    }
+}
+
+/// The event that the words say.
+pub(crate) fn event(words: &[&[u8]]) -> Option<Event>
+    ensures { (e : Event) → IsEvent e → event_words e ≡ map (λ word. word.now) words.now → result ≡ Some e }
+{
+    let (stamp, words) = words.split_first()?;
+    let (stream, words) = words.split_first()?;
+    Some(Event {
+        stamp: long(stamp)?,
+        stream: StreamNo(short(stream)?),
+        what: what(words)?,
+    })
+}
+
+/// The words of a line, which stand between single spaces.
+pub(crate) fn split<'a>(words: &mut Vec<&'a [u8]>, line: &'a [u8]) -> Result<(), Want>
+    ensures { OnOk result (map (λ word. word.now) words.new.items ≡ slice_split is_space line.entry.now) }
+{
+    words.clear();
+    let mut rest = line;
+    while let Some((word, more)) = cut(rest, b' ') {
+        words.push(word)?;
+        rest = more;
+    }
+    words.push(rest)?;
+    Ok(())
+}

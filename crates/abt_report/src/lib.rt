@@ -1,0 +1,20 @@
+//! The texts of runs: journals, both ways, and reports.
+#![tactic(auto)]
+
+mod cuts;
+mod guesses;
+mod journals;
+mod not_journal;
+mod pictures;
+mod reading;
+mod reports;
+mod tallies;
+#[cfg(test)]
+mod tests;
+mod words;
+
+pub use journals::journal_text;
+pub use not_journal::NotJournal;
+pub use pictures::{Picture, Row};
+pub use reading::read_journal;
+pub use reports::{report, short_report};

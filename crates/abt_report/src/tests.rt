@@ -1,0 +1,126 @@
+//! Journals, written and read back.
+
+use crate::{NotJournal, journal_text, read_journal};
+use abt_machine::{Cause, Code, Event, Journal, PoolNo, StreamNo, UnitNo, What};
+use std::alloc::Global;
+use std::process::Abort;
+use std::test::Fail;
+
+const HI_TEXT: &str = "1 0 take 0 0\n2 0 look 0\n3 0 step 0 0 ok\n4 0 end 0 done\n5 0 miss 0\n";
+
+const HI: &[What] = &[
+    What::Take(PoolNo(0), UnitNo(0)),
+    What::Look(UnitNo(0)),
+    What::Step(UnitNo(0), 0, Code::Ok),
+    What::End(UnitNo(0), Cause::Done),
+    What::Miss(PoolNo(0)),
+];
+
+const OTHERS_TEXT: &str = "1 0 take 3 7\n2 0 put 7 3\n3 0 end 7 asked\n4 0 end 7 access\n5 0 enter 7\n6 0 leave 7\n7 0 step 4294967295 4294967295 future-full\n";
+
+const OTHERS: &[What] = &[
+    What::Take(PoolNo(3), UnitNo(7)),
+    What::Put(UnitNo(7), PoolNo(3)),
+    What::End(UnitNo(7), Cause::Asked),
+    What::End(UnitNo(7), Cause::Access),
+    What::Enter(UnitNo(7)),
+    What::Leave(UnitNo(7)),
+    What::Step(UnitNo(u32::MAX), u32::MAX, Code::FutureFull),
+];
+
+const CODES_TEXT: &str = "1 0 step 0 0 ok\n2 0 step 0 0 pool-access\n3 0 step 0 0 exists\n4 0 step 0 0 unit-state\n5 0 step 0 0 not-migratable\n6 0 step 0 0 absent\n7 0 step 0 0 mutex-locked\n8 0 step 0 0 not-owner\n9 0 step 0 0 eventual-set\n10 0 step 0 0 future-full\n";
+
+const CODES: &[What] = &[
+    What::Step(UnitNo(0), 0, Code::Ok),
+    What::Step(UnitNo(0), 0, Code::PoolAccess),
+    What::Step(UnitNo(0), 0, Code::Exists),
+    What::Step(UnitNo(0), 0, Code::UnitState),
+    What::Step(UnitNo(0), 0, Code::NotMigratable),
+    What::Step(UnitNo(0), 0, Code::Absent),
+    What::Step(UnitNo(0), 0, Code::MutexLocked),
+    What::Step(UnitNo(0), 0, Code::NotOwner),
+    What::Step(UnitNo(0), 0, Code::EventualSet),
+    What::Step(UnitNo(0), 0, Code::FutureFull),
+];
+
+// Texts of journals on stream 0 whose stamps are 1, 2, 3 and so on, and what happened.
+const JOURNALS: [(&str, &[What]); 4] = [
+    ("", &[]),
+    (HI_TEXT, HI),
+    (OTHERS_TEXT, OTHERS),
+    (CODES_TEXT, CODES),
+];
+
+// The events have this text, and the text is read as these events.
+fn check(rt: &impl Abort, alloc: Global, text: &str, happened: &[What]) -> Result<(), Fail> {
+    let mut events = Vec::new(alloc);
+    for (earlier, what) in happened.iter().enumerate() {
+        events.push(Event {
+            stamp: earlier as u64 + 1,
+            stream: StreamNo(0),
+            what: *what,
+        })?;
+    }
+    let journal = Journal::new(events);
+    let written = journal_text(alloc, &journal).expect(rt, "there is memory");
+    assert_eq!(rt; written.as_slice(), text.as_bytes());
+    assert!(rt; text.len() < 1000);
+    let read = read_journal(alloc, text.as_bytes()).expect(rt, "it is a journal's text");
+    assert_eq!(rt; read.items(), journal.items());
+    Ok(())
+}
+
+#[test]
+fn journals_are_written_and_read_back(rt: HostRuntime) -> Result<(), Fail> {
+    for (text, happened) in JOURNALS {
+        check(&rt, rt.alloc(), text, happened)?;
+    }
+    Ok(())
+}
+
+// Texts that are no journal's, and the first line at which none agrees.
+const BAD: [(&str, u32); 26] = [
+    // row hi's, each line spoilt
+    ("1 0 take 0 x\n2 0 look 0\n", 1),
+    ("1 0 take 0 0\n2 0 lock 0\n3 0 step 0 0 ok\n", 2),
+    ("1 0 take 0 0\n2 0 look 0\n3 0 step 0 ok\n4 0 end 0 done\n", 3),
+    ("1 0 take 0 0\n2 0 look 0\n3 0 step 0 0 ok\n4 0 end 0 finished\n5 0 miss 0\n", 4),
+    ("1 0 take 0 0\n2 0 look 0\n3 0 step 0 0 ok\n4 0 end 0 done\n5 0 miss\n", 5),
+    ("1 0 take 0 0\n2 0 look 0\n3 0 step 0 0 ok\n4 0 end 0 done\n5 0 miss 0", 5),
+    ("1 0 take 0 0\n2 0 look 0\n3 0 step 0 0 ok\n4 0 end 0 done\n5 0 miss 0\n\n", 6),
+    // line feeds
+    ("\n", 1),
+    ("1 0 miss 0\r\n", 1),
+    ("1 0 miss 0\n\n2 0 miss 0\n", 2),
+    // blanks
+    (" 1 0 miss 0\n", 1),
+    ("1 0 miss 0 \n", 1),
+    ("1  0 miss 0\n", 1),
+    ("1\t0 miss 0\n", 1),
+    // numbers
+    ("01 0 miss 0\n", 1),
+    ("1 00 miss 0\n", 1),
+    ("1 0 miss 00\n", 1),
+    ("+1 0 miss 0\n", 1),
+    ("18446744073709551616 0 miss 0\n", 1),
+    ("1 4294967296 miss 0\n", 1),
+    ("1 0 miss 4294967296\n", 1),
+    ("1 0 step 0 4294967296 ok\n", 1),
+    // words
+    ("1 0 Miss 0\n", 1),
+    ("1 0 miss 0 0\n", 1),
+    ("1 0 step 0 0 refused\n", 1),
+    ("1 0\n", 1),
+];
+
+#[test]
+fn other_texts_are_refused_at_their_first_bad_line(rt: HostRuntime) -> Result<(), Fail> {
+    for (text, line) in BAD {
+        assert!(&rt; text.len() < 1000);
+        match read_journal(rt.alloc(), text.as_bytes()) {
+            Err(fault) => assert_eq!(&rt; fault, NotJournal::Bad { line }),
+            Ok(_) => panic!(&rt; "it is no journal's text"),
+        }
+    }
+    Ok(())
+}
