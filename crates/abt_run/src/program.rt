@@ -6,7 +6,7 @@ ghost use Rattle.abt_machine.specs.declared.program.Command.TheVariants as comma
 ghost use Rattle.abt_machine.specs.Outcomes.{is_step, steps_in};
 ghost use Rattle.abt_machine.specs.Runs.{last_state};
 ghost use Rattle.abt_machine.specs.Texts.{output_text};
-ghost use Rattle.abt_unit.specs.Fits.{IsPieceOf};
+ghost use Rattle.abt_machine.specs.Pieces.{IsPieceOf};
 ghost use Rattle.abt_run.specs.Call.{Holds, IsAnswered, IsTold};
 ghost use Rattle.abt_run.specs.Going.{HasRun};
 ghost use Rattle.abt_run.specs.Status.{message_of};

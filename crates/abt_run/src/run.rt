@@ -2,7 +2,8 @@
 
 ghost use Rattle.std.specs.Prelude.{◌≡◌, ◌<◌, ◌++◌, ◌∷◌, [], All, IfOk, IfSome, OnOk, length};
 ghost use Rattle.abt_machine.specs.Workloads.{body_at, ops_of};
-ghost use Rattle.abt_unit.specs.Fits.{Fits, IsPieceOf};
+ghost use Rattle.abt_machine.specs.Pieces.{IsPieceOf};
+ghost use Rattle.abt_unit.specs.Fits.{Fits};
 ghost use Rattle.abt_run.specs.Built.{IsBuilt};
 ghost use Rattle.abt_run.specs.Going.{HasRun, IsGoing, next_event};
 ghost use Rattle.abt_run.specs.Outputs.{output_of};

@@ -5,7 +5,7 @@ ghost use Rattle.abt_machine.specs.Texts.{cause_name, code_name, empty_tally, ev
 ghost use Rattle.abt_machine.specs.Words.{ended, line_of, spaced, text_of};
 ghost use Rattle.abt_machine.specs.declared.events.Outcome.TheVariants as outcome;
 ghost use Rattle.abt_run.specs.Outputs.{ended_unit, ended_units};
-ghost use Rattle.abt_unit.specs.Fits.{IsPieceOf};
+ghost use Rattle.abt_machine.specs.Pieces.{IsPieceOf};
 
 use abt_machine::{Cause, Code, Event, Piece, Want, What, Workload};
 use itoa::Buffer;
