@@ -1,0 +1,5 @@
+pub mod Deeds
+pub mod Laws
+pub mod Logs
+pub mod Machines
+pub mod Stamps
