@@ -1,12 +1,12 @@
 -- One turn more, and one wave more.
-use Rattle.std.proofs.Common.{◌≡◌, ℕ, List, [], ◌∷◌, ◌++◌, map, Option, Some, None, refl, sym, ◌∙◌, ap, subst, ◌⊎◌, inl, inr}
+use Rattle.std.proofs.Common.{◌≡◌, ℕ, ◌<◌, ◌≤◌, List, [], ◌∷◌, ◌++◌, map, Option, Some, None, refl, sym, ◌∙◌, ap, subst, arith, ◌⊎◌, inl, inr}
 use Rattle.std.specs.Prelude.{Contains}
 use Rattle.std.proofs.lemmas.Bool.{cases_eq}
 use Rattle.std.proofs.lemmas.List.Elements.{Contains-append_left, Contains-append_right, Contains-append_cases, Contains-push, Contains-push_cases}
-use Rattle.abt_interleave.specs.Deeds.{Heard, RisesAbove, last_from, Does, Leads}
+use Rattle.abt_interleave.specs.Deeds.{Heard, RisesAbove, last_from, last_stamp, deed_stamps, Does, Course, Leads, Legal, Answered}
 use Rattle.abt_interleave.specs.Logs.{Matched}
 use Rattle.abt_interleave.specs.Machines.{Machine, DeedOf, EntryOf, TellsPlaces}
-use Rattle.abt_interleave.specs.Laws.{CourseGrows, LegalGrows, LogGrows, HistoryGrows, MatchedGrows, CoursesJoin, HistoriesJoin, MatchedJoin}
+use Rattle.abt_interleave.specs.Laws.{CourseGrows, LegalGrows, LogGrows, HistoryGrows, MatchedGrows, IsLate, GatheredGrows, CoursesJoin, HistoriesJoin, MatchedJoin, GatheredJoin}
 use Rattle.abt_interleave.proofs.Parts.{cases-place}
 
 -- stamps behind stamps
@@ -130,3 +130,43 @@ module _ (M : Machine) where
 
   pub matched-grows : MatchedGrows M
   matched-grows tells logs more histories longer d old log grown = grown-matched tells logs more histories longer d old log grown
+
+  -- A turn, and a wave, of all logs and histories.
+
+  grown-legal : TellsPlaces M → (objects finals results : M.Place → M.Object) (histories longer : M.Place → List (EntryOf M)) (logs : ℕ → List (DeedOf M)) (d : DeedOf M) (heard : Option (Heard M.Place M.Act M.Answer)) →
+      ((x : M.Place) → Legal M.Gives (objects x) (histories x) (finals x)) → IsLate M logs histories d heard → Answered M.Gives finals heard results → HistoryGrows M histories d heard longer →
+      (x : M.Place) → Legal M.Gives (objects x) (longer x) (results x)
+  grown-legal tells objects finals results histories longer logs d None legal late same stay x = subst (λ es. Legal M.Gives (objects x) es (results x)) (sym (stay x)) (subst (Legal M.Gives (objects x) (histories x)) (sym (same x)) (legal x))
+  grown-legal tells objects finals results histories longer logs d (Some h) legal late answered grown x = elim (cases-place M tells h.0 x) [
+    | inl q ↦ subst (λ y. Legal M.Gives (objects y) (longer y) (results y)) q
+        (subst (λ es. Legal M.Gives (objects h.0) es (results h.0)) (sym grown.0)
+        (legal-grows (objects h.0) (finals h.0) (results h.0) (histories h.0) (record { stamp = d.stamp; stream = d.stream; act = h.1; answer = h.2 }) (legal h.0) late.1 answered.0))
+    | inr ne ↦ subst (λ es. Legal M.Gives (objects x) es (results x)) (sym (grown.1 x ne)) (subst (Legal M.Gives (objects x) (histories x)) (sym (answered.1 x ne)) (legal x))
+  ]
+
+  late-stream : (logs : ℕ → List (DeedOf M)) (histories : M.Place → List (EntryOf M)) (d : DeedOf M) (heard : Option (Heard M.Place M.Act M.Answer)) → IsLate M logs histories d heard → last_stamp (deed_stamps (logs d.stream)) < d.stamp
+  late-stream logs histories d None late = late
+  late-stream logs histories d (Some h) late = late.0
+
+  pub gathered-grows : GatheredGrows M
+  gathered-grows tells parts ends news objects finals results logs more histories longer d old declared late step stay answered log grown = record {
+    courses = λ s lt. elim (cases_eq d.stream s) [
+      | inl e ↦ subst (λ r. Course M.Steps r (parts r) (more r) (news r)) e
+          (subst (λ ds. Course M.Steps d.stream (parts d.stream) ds (news d.stream)) (sym log.0)
+          (course-grows d.stream (parts d.stream) (ends d.stream) (news d.stream) (logs d.stream) d (old.courses d.stream declared) refl (late-stream logs histories d d.heard late) step))
+      | inr ne ↦ subst (λ ds. Course M.Steps s (parts s) ds (news s)) (sym (log.1 s ne)) (subst (Course M.Steps s (parts s) (logs s)) (sym (stay s ne)) (old.courses s lt))
+    ];
+    undeclared = λ s ge. log.1 s (λ e. absurd (apart s ge e)) ∙ old.undeclared s ge;
+    legal = grown-legal tells objects finals results histories longer logs d d.heard old.legal late answered grown;
+    matched = matched-grows tells logs more histories longer d old.matched log grown;
+  } where
+    apart : (s : ℕ) → M.streams ≤ s → d.stream ≡ s → ⊥
+    apart s ge e = omega arith
+
+  pub gathered-join : GatheredJoin M
+  gathered-join parts ends news objects finals results logs more histories longer old new rises climbs = record {
+    courses = λ s lt. courses-join s (parts s) (ends s) (news s) (logs s) (more s) (old.courses s lt) (new.courses s lt) (rises s);
+    undeclared = λ s ge. λ i. old.undeclared s ge i ++ new.undeclared s ge i;
+    legal = λ x. histories-join (objects x) (finals x) (results x) (histories x) (longer x) (old.legal x) (new.legal x) (climbs x);
+    matched = matched-join logs more histories longer old.matched new.matched;
+  }

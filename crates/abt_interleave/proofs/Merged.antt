@@ -3,7 +3,7 @@ use Rattle.std.proofs.Common.{◌≡◌, ℕ, ◌<◌, List, [], ◌∷◌, refl
 use Rattle.std.proofs.lemmas.Bool.{cases_lt}
 use Rattle.abt_interleave.specs.Deeds.{RisesAbove, deed_stamps, Does, Leads}
 use Rattle.abt_interleave.specs.Logs.{Leaves, IsBefore, IsSorted}
-use Rattle.abt_interleave.specs.Machines.{Machine, DeedOf, EntryOf, IsSimulated, TellsPlaces, Gathered, IsRunTo}
+use Rattle.abt_interleave.specs.Machines.{Machine, DeedOf, EntryOf, TellsPlaces, Gathered}
 use Rattle.abt_interleave.specs.Laws.{LogsMerge}
 use Rattle.abt_interleave.proofs.Members.{Among, to-among, from-among}
 use Rattle.abt_interleave.proofs.Orders.{in-order-unique, before-one-way, entry-one-way, IsEntryBefore, stamps-in-order}
@@ -16,10 +16,10 @@ module _ (M : Machine) where
   own-deeds s p q [] c d m = absurd m
   own-deeds s p q (e ∷ es) c d m = elim m [ inl i ↦ ap (λ (z : DeedOf M). z.stream) i ∙ c.0 | inr n ↦ own-deeds s c.1 q es c.3 d n ]
 
-  module _ (S : M.State) (logs : ℕ → List (DeedOf M)) (histories : M.Place → List (EntryOf M)) (ends : ℕ → M.Part) (finals : M.Place → M.Object) (gathered : Gathered M S logs histories ends finals) where
+  module _ (parts : ℕ → M.Part) (objects : M.Place → M.Object) (logs : ℕ → List (DeedOf M)) (histories : M.Place → List (EntryOf M)) (ends : ℕ → M.Part) (finals : M.Place → M.Object) (gathered : Gathered M parts objects logs histories ends finals) where
     pub log-is-own : (s : ℕ) (d : DeedOf M) → Among d (logs s) → d.stream ≡ s
     log-is-own s d m = elim (cases_lt s M.streams) [
-      | inl lt ↦ own-deeds s (M.part_of S s) (ends s) (logs s) (gathered.courses s lt).1 d m
+      | inl lt ↦ own-deeds s (parts s) (ends s) (logs s) (gathered.courses s lt).1 d m
       | inr ge ↦ absurd (subst (Among d) (gathered.undeclared s ge) m)
     ]
 
@@ -50,15 +50,13 @@ module _ (M : Machine) where
           (λ e m. let r = gathered.matched.has_deed x e (from-among (histories x) e m) in
           to-of_place M tells x e r.0 J (to-among J r.0 (sorted.all e.stream r.0 r.1)) r.2)
 
-      all-declared : (ds : List (DeedOf M)) → ((d : DeedOf M) → Among d ds → d.stream < M.streams) → AllDeclared M ds
-      all-declared [] h = tt
-      all-declared (d ∷ ds) h = (h d (inl refl), all-declared ds (λ e m. h e (inr m)))
-
-      pub merged : TellsPlaces M → IsSimulated M → M.Sound S → IsRunTo M S J ends finals
-      merged tells simulated sound =
-          interleaved M tells simulated J S ends finals sound (all-declared J (λ d m. log-declared d.stream d (only-logged d m)))
-          (λ s lt. subst (λ ds. Does M.Steps s (M.part_of S s) ds (ends s)) (sym (log-is s)) (gathered.courses s lt).1)
-          (λ x. subst (λ es. Leads M.Gives (M.object_of S x) es (finals x)) (sym (history-is tells x)) (gathered.legal x).1)
+  all-declared : (ds : List (DeedOf M)) → ((d : DeedOf M) → Among d ds → d.stream < M.streams) → AllDeclared M ds
+  all-declared [] h = tt
+  all-declared (d ∷ ds) h = (h d (inl refl), all-declared ds (λ e m. h e (inr m)))
 
   pub logs-merge : LogsMerge M
-  logs-merge tells simulated S sound logs histories ends finals J gathered sorted = merged S logs histories ends finals gathered J sorted tells simulated sound
+  logs-merge tells simulated S sound logs histories ends finals J gathered sorted =
+      interleaved M tells simulated J S ends finals sound
+      (all-declared J (λ d m. log-declared (M.part_of S) (M.object_of S) logs histories ends finals gathered d.stream d (only-logged (M.part_of S) (M.object_of S) logs histories ends finals gathered J sorted d m)))
+      (λ s lt. subst (λ ds. Does M.Steps s (M.part_of S s) ds (ends s)) (sym (log-is (M.part_of S) (M.object_of S) logs histories ends finals gathered J sorted s)) (gathered.courses s lt).1)
+      (λ x. subst (λ es. Leads M.Gives (M.object_of S x) es (finals x)) (sym (history-is (M.part_of S) (M.object_of S) logs histories ends finals gathered J sorted tells x)) (gathered.legal x).1)

@@ -1,7 +1,7 @@
 -- Lists in order: two with the same members are one.
-use Rattle.std.proofs.Common.{◌≡◌, ℕ, ◌<◌, ◌≤◌, ◌⊎◌, inl, inr, List, [], ◌∷◌, map, refl, sym, ap, ap₂, ◌∙◌, subst, arith}
+use Rattle.std.proofs.Common.{◌≡◌, ℕ, ◌<◌, ◌≤◌, inl, inr, List, [], ◌∷◌, map, refl, sym, ap, ap₂, ◌∙◌, subst, arith}
 use Rattle.abt_interleave.specs.Deeds.{Deed, Entry, RisesAbove}
-use Rattle.abt_interleave.specs.Logs.{IsBefore, BeforeAll, InOrder}
+use Rattle.abt_interleave.specs.Logs.{IsSooner, IsBefore, BeforeAll, InOrder}
 use Rattle.abt_interleave.proofs.Members.{Among}
 
 -- Of an order that does not go both ways.
@@ -28,9 +28,6 @@ module _ {A : Type 0} (R : A → A → Type 0) (one-way : (a b : A) → R a b �
         heads m n = elim m [ inl e ↦ e | inr i ↦ elim n [ inl e ↦ sym e | inr j ↦ absurd (one-way y x (before-among y x ys ry.0 i) (before-among x y xs rx.0 j)) ] ]
 
 -- By stamp and stream.
-
-abbrev IsSooner : ℕ → ℕ → ℕ → ℕ → Type 0
-IsSooner t s u r = (t < u) ⊎ ((t ≡ u) × (s < r))
 
 sooner-one-way : (t s u r : ℕ) → IsSooner t s u r → IsSooner u r t s → ⊥
 sooner-one-way t s u r h g =

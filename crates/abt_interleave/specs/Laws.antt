@@ -1,7 +1,7 @@
 -- The laws of merging, of any machine.
-use Rattle.std.specs.Prelude.{ℕ, ◌≡◌, ◌≢◌, ◌<◌, List, [], ◌∷◌, ◌++◌, if◌then◌else◌, Option, Some, None}
+use Rattle.std.specs.Prelude.{ℕ, ◌≡◌, ◌≢◌, ◌<◌, List, [], ◌∷◌, ◌++◌, if◌then◌else◌, Option, Some, None, map, Contains}
 use Rattle.abt_interleave.specs.Deeds.{Heard, Entry, RisesAbove, last_stamp, deed_stamps, entry_stamps, Course, Legal, Answered}
-use Rattle.abt_interleave.specs.Logs.{Matched, IsSorted}
+use Rattle.abt_interleave.specs.Logs.{Matched, IsSorted, IsSortedAs}
 use Rattle.abt_interleave.specs.Machines.{Machine, DeedOf, EntryOf, IsSimulated, TellsPlaces, Gathered, IsRunTo}
 use Rattle.abt_interleave.specs.Stamps.{LeavesNoGap, AllTimed, Stamped, Lamport}
 
@@ -10,7 +10,13 @@ use Rattle.abt_interleave.specs.Stamps.{LeavesNoGap, AllTimed, Stamped, Lamport}
 abbrev pub LogsMerge : Machine → Type 0
 LogsMerge M = TellsPlaces M → IsSimulated M → (S : M.State) → M.Sound S →
     (logs : ℕ → List (DeedOf M)) (histories : M.Place → List (EntryOf M)) (ends : ℕ → M.Part) (finals : M.Place → M.Object) (J : List (DeedOf M)) →
-    Gathered M S logs histories ends finals → IsSorted logs J → IsRunTo M S J ends finals
+    Gathered M (M.part_of S) (M.object_of S) logs histories ends finals → IsSorted logs J → IsRunTo M S J ends finals
+
+-- a sorted list of what the deeds are seen as is the sorted list of the deeds, seen so
+abbrev pub EventsLift : Machine → Type 0 → Type 0
+EventsLift M Event = (event : DeedOf M → Event) (stamp stream : Event → ℕ) → ((d : DeedOf M) → (stamp (event d) ≡ d.stamp) × (stream (event d) ≡ d.stream)) →
+    (logs : ℕ → List (DeedOf M)) (J : List Event) → ((s : ℕ) → RisesAbove 0 (deed_stamps (logs s))) → ((s : ℕ) (d : DeedOf M) → Contains (logs s) d → d.stream ≡ s) →
+    IsSortedAs event stamp stream logs J → (ds : List (DeedOf M)) × IsSorted logs ds × (map event ds ≡ J)
 
 -- One turn more.
 
@@ -37,6 +43,20 @@ abbrev pub MatchedGrows : Machine → Type 0
 MatchedGrows M = TellsPlaces M → (logs more : ℕ → List (DeedOf M)) (histories longer : M.Place → List (EntryOf M)) (d : DeedOf M) →
     Matched logs histories → LogGrows M logs d more → HistoryGrows M histories d d.heard longer → Matched more longer
 
+-- the deed's stamp is above the last of its stream, and of the object that it called
+abbrev pub IsLate : (M : Machine) → (ℕ → List (DeedOf M)) → (M.Place → List (EntryOf M)) → DeedOf M → Option (Heard M.Place M.Act M.Answer) → Type 0
+IsLate M logs histories d None = last_stamp (deed_stamps (logs d.stream)) < d.stamp
+IsLate M logs histories d (Some h) = (last_stamp (deed_stamps (logs d.stream)) < d.stamp) × (last_stamp (entry_stamps (histories h.0)) < d.stamp)
+
+-- logs and histories of a turn more, and what they lead to
+abbrev pub GatheredGrows : Machine → Type 0
+GatheredGrows M = TellsPlaces M →
+    (parts ends news : ℕ → M.Part) (objects finals results : M.Place → M.Object)
+    (logs more : ℕ → List (DeedOf M)) (histories longer : M.Place → List (EntryOf M)) (d : DeedOf M) →
+    Gathered M parts objects logs histories ends finals → d.stream < M.streams → IsLate M logs histories d d.heard →
+    M.Steps d.stream (ends d.stream) d.what d.heard (news d.stream) → ((s : ℕ) → d.stream ≢ s → news s ≡ ends s) → Answered M.Gives finals d.heard results →
+    LogGrows M logs d more → HistoryGrows M histories d d.heard longer → Gathered M parts objects more longer news results
+
 -- One wave more: the logs and histories of a wave behind those of the waves before it.
 
 abbrev pub CoursesJoin : Machine → Type 0
@@ -50,6 +70,15 @@ HistoriesJoin M = (o p q : M.Object) (history more : List (EntryOf M)) → Legal
 abbrev pub MatchedJoin : Machine → Type 0
 MatchedJoin M = (logs more : ℕ → List (DeedOf M)) (histories longer : M.Place → List (EntryOf M)) → Matched logs histories → Matched more longer →
     Matched (λ s. logs s ++ more s) (λ x. histories x ++ longer x)
+
+-- logs and histories of two waves, and what they lead to
+abbrev pub GatheredJoin : Machine → Type 0
+GatheredJoin M = (parts ends news : ℕ → M.Part) (objects finals results : M.Place → M.Object)
+    (logs more : ℕ → List (DeedOf M)) (histories longer : M.Place → List (EntryOf M)) →
+    Gathered M parts objects logs histories ends finals → Gathered M ends finals more longer news results →
+    ((s : ℕ) → RisesAbove (last_stamp (deed_stamps (logs s))) (deed_stamps (more s))) →
+    ((x : M.Place) → RisesAbove (last_stamp (entry_stamps (histories x))) (entry_stamps (longer x))) →
+    Gathered M parts objects (λ s. logs s ++ more s) (λ x. histories x ++ longer x) news results
 
 -- One history of all objects.
 
@@ -71,10 +100,10 @@ HistorySplits M = TellsPlaces M → (old new : M.Place → M.Object) (history : 
 
 -- where each stamp is 1 or one more than another, the sorted list is stamped
 abbrev pub StampsClose : Machine → Type 0
-StampsClose M = (S : M.State) (logs : ℕ → List (DeedOf M)) (histories : M.Place → List (EntryOf M)) (ends : ℕ → M.Part) (finals : M.Place → M.Object) (J : List (DeedOf M)) →
-    Gathered M S logs histories ends finals → LeavesNoGap logs → IsSorted logs J → Stamped J
+StampsClose M = (parts : ℕ → M.Part) (objects : M.Place → M.Object) (logs : ℕ → List (DeedOf M)) (histories : M.Place → List (EntryOf M)) (ends : ℕ → M.Part) (finals : M.Place → M.Object) (J : List (DeedOf M)) →
+    Gathered M parts objects logs histories ends finals → LeavesNoGap logs → IsSorted logs J → Stamped J
 
 -- where each stamp is one more than the greater of its stream's last and its object's last, so it is in the sorted list
 abbrev pub StampsAreLamports : Machine → Type 0
-StampsAreLamports M = (S : M.State) (logs : ℕ → List (DeedOf M)) (histories : M.Place → List (EntryOf M)) (ends : ℕ → M.Part) (finals : M.Place → M.Object) (J : List (DeedOf M)) →
-    Gathered M S logs histories ends finals → ((s : ℕ) → AllTimed histories 0 (logs s)) → IsSorted logs J → Lamport J
+StampsAreLamports M = (parts : ℕ → M.Part) (objects : M.Place → M.Object) (logs : ℕ → List (DeedOf M)) (histories : M.Place → List (EntryOf M)) (ends : ℕ → M.Part) (finals : M.Place → M.Object) (J : List (DeedOf M)) →
+    Gathered M parts objects logs histories ends finals → ((s : ℕ) → AllTimed histories 0 (logs s)) → IsSorted logs J → Lamport J

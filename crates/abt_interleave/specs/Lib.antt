@@ -1,3 +1,4 @@
+pub mod Counters
 pub mod Deeds
 pub mod Laws
 pub mod Logs

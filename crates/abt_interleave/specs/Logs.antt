@@ -12,8 +12,11 @@ pub record Matched {Place Act Answer What : Type 0} (logs : ℕ → List (Deed P
   pub has_deed : (x : Place) (e : Entry Act Answer) → Contains (histories x) e → (d : Deed Place Act Answer What) × Contains (logs e.stream) d × Leaves d x e
 
 -- first by stamp, then by stream
+abbrev pub IsSooner : ℕ → ℕ → ℕ → ℕ → Type 0
+IsSooner stamp stream later other = (stamp < later) ⊎ ((stamp ≡ later) × (stream < other))
+
 abbrev pub IsBefore : {Place Act Answer What : Type 0} → Deed Place Act Answer What → Deed Place Act Answer What → Type 0
-IsBefore d e = (d.stamp < e.stamp) ⊎ ((d.stamp ≡ e.stamp) × (d.stream < e.stream))
+IsBefore d e = IsSooner d.stamp d.stream e.stamp e.stream
 
 abbrev pub BeforeAll : {A : Type 0} → (A → A → Type 0) → A → List A → Type 0
 BeforeAll R a [] = Unit {0}
@@ -29,3 +32,9 @@ pub record IsSorted {Place Act Answer What : Type 0} (logs : ℕ → List (Deed 
   pub in_order : InOrder IsBefore J
   pub all : (s : ℕ) (d : Deed Place Act Answer What) → Contains (logs s) d → Contains J d
   pub only : (d : Deed Place Act Answer What) → Contains J d → Contains (logs d.stream) d
+
+-- J is the sorted list of all deeds, each of which is seen as an event with its stamp and its stream
+pub record IsSortedAs {Place Act Answer What Event : Type 0} (event : Deed Place Act Answer What → Event) (stamp stream : Event → ℕ) (logs : ℕ → List (Deed Place Act Answer What)) (J : List Event) : Type 0 where
+  pub in_order : InOrder (λ e f. IsSooner (stamp e) (stream e) (stamp f) (stream f)) J
+  pub all : (s : ℕ) (d : Deed Place Act Answer What) → Contains (logs s) d → Contains J (event d)
+  pub only : (e : Event) → Contains J e → (d : Deed Place Act Answer What) × Contains (logs d.stream) d × (event d ≡ e)

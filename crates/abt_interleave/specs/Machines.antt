@@ -62,11 +62,12 @@ IsSimulated M = (S : M.State) (s : ℕ) (w : M.What) (heard : Option (Heard M.Pl
 abbrev pub TellsPlaces : Machine → Type 0
 TellsPlaces M = (x y : M.Place) → (M.same x y ≡ true) ↔ (x ≡ y)
 
--- from state S each stream's log leads to its end, each object's history to its own, and logs and histories fit each other
-pub record Gathered (M : Machine) (S : M.State) (logs : ℕ → List (DeedOf M)) (histories : M.Place → List (EntryOf M)) (ends : ℕ → M.Part) (finals : M.Place → M.Object) : Type 0 where
-  pub courses : (s : ℕ) → s < M.streams → Course M.Steps s (M.part_of S s) (logs s) (ends s)
+-- each stream's log leads from one part to the other, each object's history from one object to the other, and logs and
+-- histories fit each other
+pub record Gathered (M : Machine) (parts : ℕ → M.Part) (objects : M.Place → M.Object) (logs : ℕ → List (DeedOf M)) (histories : M.Place → List (EntryOf M)) (ends : ℕ → M.Part) (finals : M.Place → M.Object) : Type 0 where
+  pub courses : (s : ℕ) → s < M.streams → Course M.Steps s (parts s) (logs s) (ends s)
   pub undeclared : (s : ℕ) → M.streams ≤ s → logs s ≡ []
-  pub legal : (x : M.Place) → Legal M.Gives (M.object_of S x) (histories x) (finals x)
+  pub legal : (x : M.Place) → Legal M.Gives (objects x) (histories x) (finals x)
   pub matched : Matched logs histories
 
 -- from state S these deeds are a run, which ends in a sound state with these parts and objects
