@@ -1,0 +1,9 @@
+pub mod Conditions
+pub mod Filters
+pub mod LinesAfter
+pub mod Others
+pub mod OwnParts
+pub mod OwnedLines
+pub mod Pushes
+pub mod Rows
+pub mod Shapes
