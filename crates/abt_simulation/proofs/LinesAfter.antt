@@ -78,17 +78,17 @@ module _ (n : ℕ) (l : Line) (f : ℕ → Place) (ms : List (ℕ × Place)) (to
 
 -- Moves to the end of the line.
 
-module _ (n : ℕ) (l : Line) (has : (t : ℕ) → ticket_in l (place_in l t) ≡ Some t) where
-  -- one unit
-  pub line-gets : (f : ℕ → Place) (u t : ℕ) → u < n → ticket_in l (f u) ≡ None → IsBelow l t f → line_at n l (put_at f u (place_in l t)) ≡ line_at n l f ++ u ∷ []
-  line-gets f u t less none below =
-      queue-cong _ (put_at (λ v. ticket_in l (f v)) u (Some t)) n
-      (λ v _. elim (put_at-cases f u (place_in l t) v) [
-        | inl x ↦ ap (ticket_in l) x.1 ∙ (has t ∙ sym (ap (put_at (λ v. ticket_in l (f v)) u (Some t)) x.0 ∙ put_at-same (λ v. ticket_in l (f v)) u (Some t)))
-        | inr x ↦ ap (ticket_in l) x.1 ∙ sym (put_at-other (λ v. ticket_in l (f v)) u (Some t) v x.0)
-      ])
-      ∙ queue-push (λ v. ticket_in l (f v)) u t none below n less
+-- one unit
+pub line-gets : (n : ℕ) (l : Line) (f : ℕ → Place) (u t : ℕ) → ticket_in l (place_in l t) ≡ Some t → u < n → ticket_in l (f u) ≡ None → IsBelow l t f → line_at n l (put_at f u (place_in l t)) ≡ line_at n l f ++ u ∷ []
+line-gets n l f u t has less none below =
+    queue-cong _ (put_at (λ v. ticket_in l (f v)) u (Some t)) n
+    (λ v _. elim (put_at-cases f u (place_in l t) v) [
+      | inl x ↦ ap (ticket_in l) x.1 ∙ (has ∙ sym (ap (put_at (λ v. ticket_in l (f v)) u (Some t)) x.0 ∙ put_at-same (λ v. ticket_in l (f v)) u (Some t)))
+      | inr x ↦ ap (ticket_in l) x.1 ∙ sym (put_at-other (λ v. ticket_in l (f v)) u (Some t) v x.0)
+    ])
+    ∙ queue-push (λ v. ticket_in l (f v)) u t none below n less
 
+module _ (n : ℕ) (l : Line) (has : (t : ℕ) → ticket_in l (place_in l t) ≡ Some t) where
   below-next : (f : ℕ → Place) (u t : ℕ) → IsBelow l t f → IsBelow l (suc t) (put_at f u (place_in l t))
   below-next f u t below v k h =
       elim (put_at-cases f u (place_in l t) v) [
@@ -104,7 +104,7 @@ module _ (n : ℕ) (l : Line) (has : (t : ℕ) → ticket_in l (place_in l t) �
   line-gets_all [] t f apart new below = sym (append-nil (line_at n l f))
   line-gets_all (u ∷ us) t f apart new below =
       line-gets_all us (suc t) (put_at f u (place_in l t)) apart.1 (others-away f u t us apart.0 (λ v m. new v (inr m))) (below-next f u t below)
-      ∙ (ap (λ vs. vs ++ us) (line-gets f u t (new u (inl refl)).0 (new u (inl refl)).1 below) ∙ append_assoc (line_at n l f) (u ∷ []) us)
+      ∙ (ap (λ vs. vs ++ us) (line-gets n l f u t (has t) (new u (inl refl)).0 (new u (inl refl)).1 below) ∙ append_assoc (line_at n l f) (u ∷ []) us)
 
 -- who stands nowhere in an empty line, and the line is empty
 pub line-empty : (n : ℕ) (l : Line) (f : ℕ → Place) → IsEmpty l f → line_at n l f ≡ []
@@ -125,3 +125,26 @@ empty-after_moves l f ms to empty u t h =
 pub put_all-append : {A : Type 0} (f : ℕ → A) (ps qs : List (ℕ × A)) → put_all f (ps ++ qs) ≡ put_all (put_all f ps) qs
 put_all-append f [] qs = refl
 put_all-append f (p ∷ ps) qs = put_all-append (put_at f p.0 p.1) ps qs
+
+-- One unit that leaves a line.
+
+abbrev pub all_but : {A : Type 0} → ℕ → A → List ℕ → List ℕ
+all_but u x us = filter (stays ((u, x) ∷ [])) us
+
+all_but-none : {A : Type 0} (u : ℕ) (x : A) (us : List ℕ) → (Among u us → ⊥) → all_but u x us ≡ us
+all_but-none u x [] out = refl
+all_but-none u x (v ∷ vs) out =
+    cond-true (stays ((u, x) ∷ []) v) _ _ (stays-other ((u, x) ∷ []) v (λ k. elim k [ inl e ↦ out (inl (sym e)) | inr none ↦ none ])) ∙ ap (λ ws. v ∷ ws) (all_but-none u x vs (λ m. out (inr m)))
+
+pub all_but-first : {A : Type 0} (u : ℕ) (x : A) (us : List ℕ) → IsDistinct (u ∷ us) → all_but u x (u ∷ us) ≡ us
+all_but-first u x us d = cond-false (stays ((u, x) ∷ []) u) _ _ (stays-key ((u, x) ∷ []) u (inl refl)) ∙ all_but-none u x us d.0
+
+among-end : (v : ℕ) (us : List ℕ) → Among v (us ++ v ∷ [])
+among-end v [] = inl refl
+among-end v (u ∷ us) = inr (among-end v us)
+
+pub all_but-last : {A : Type 0} (u : ℕ) (x : A) (us : List ℕ) → IsDistinct (us ++ u ∷ []) → all_but u x (us ++ u ∷ []) ≡ us
+all_but-last u x [] d = all_but-first u x [] d
+all_but-last u x (v ∷ vs) d =
+    cond-true (stays ((u, x) ∷ []) v) _ _ (stays-other ((u, x) ∷ []) v (λ k. elim k [ inl e ↦ d.0 (subst (λ w. Among w (vs ++ u ∷ [])) (sym e) (among-end u vs)) | inr none ↦ none ]))
+    ∙ ap (λ ws. v ∷ ws) (all_but-last u x vs d.1)

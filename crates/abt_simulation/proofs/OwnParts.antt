@@ -23,7 +23,7 @@ use Rattle.abt_laws.proofs.Places.{place_in, same-self, line_of, line_of-place_i
 use Rattle.abt_laws.proofs.Arrivals.{IsEmpty, IsBelow-empty}
 use Rattle.abt_laws.proofs.LineMoves.{line_moves-tray, tray_moves-each, tray_moves-places}
 use Rattle.abt_laws.proofs.Standing.{StandsIn, each-stands}
-use Rattle.abt_laws.proofs.SoundSteps.{IsStepping}
+use Rattle.abt_simulation.proofs.Acting.{IsActing}
 use Rattle.abt_simulation.proofs.Pushes.{IsDistinct, EachOf-among, queue-distinct}
 use Rattle.abt_simulation.proofs.LinesAfter.{line_at, stays, stays-key, NoneTo, NoneFrom, line-left, line-stays, line-empty, line-gets_all, empty-after_moves, put_all-append}
 use Rattle.abt_simulation.proofs.OwnedLines.{owned-stays}
@@ -124,23 +124,23 @@ moving ms cs c = record c { moves = ms; carried = cs; streams = [] }
 
 -- The lines of s after moves of some units, and then of others to its tray.
 
-module _ (W : Parts) (Z : List OrderShape) (S : State) (s u : ℕ) (step : IsStepping W Z S s u) where
+module _ (W : Parts) (Z : List OrderShape) (S : State) (s u : ℕ) (acts : IsActing W Z S s u) where
   pub hand-standing : standing W S (InHand s) ≡ u ∷ []
-  hand-standing = alone-standing W S (InHand s) u (λ k v t. step.sound.one_each (InHand s) k v t) (λ t. refl) step.declared step.in_hand
+  hand-standing = alone-standing W S (InHand s) u (λ k v t. acts.sound.one_each (InHand s) k v t) (λ t. refl) acts.declared acts.in_hand
 
   pub tray-standing : standing W S (InTray s) ≡ []
-  tray-standing = line-empty (length W.units) (InTray s) S.place step.no_tray
+  tray-standing = line-empty (length W.units) (InTray s) S.place acts.no_tray
 
   pub next-standing : standing W S (InNext s) ≡ []
-  next-standing = line-empty (length W.units) (InNext s) S.place step.no_next
+  next-standing = line-empty (length W.units) (InNext s) S.place acts.no_next
 
   -- u stands in no line but the hand
   pub hand-only : (l : Line) → ticket_in l (place.Hand (stream_no s)) ≡ None → ticket_in l (S.place u) ≡ None
-  hand-only l e = ap (ticket_in l) step.in_hand ∙ e
+  hand-only l e = ap (ticket_in l) acts.in_hand ∙ e
 
   -- u in its hand is no unit that s does not hold
   pub away-other : (v : ℕ) → IsOff s (S.place v) → v ≢ u
-  away-other v off e = none≢some (sym (off (InHand s) refl) ∙ (ap (λ n. ticket_in (InHand s) (S.place n)) e ∙ (ap (ticket_in (InHand s)) step.in_hand ∙ same-self s 0)))
+  away-other v off e = none≢some (sym (off (InHand s) refl) ∙ (ap (λ n. ticket_in (InHand s) (S.place n)) e ∙ (ap (ticket_in (InHand s)) acts.in_hand ∙ same-self s 0)))
 
   -- a unit that s does not hold or holds in its hand
   abbrev pub IsLoose : ℕ → Type 0
@@ -160,7 +160,7 @@ module _ (W : Parts) (Z : List OrderShape) (S : State) (s u : ℕ) (step : IsSte
     tray-filled : IsDistinct us → EachOf (λ v. v < length W.units) us → line_at (length W.units) (InTray s) (put_all S.place (pre ++ to_tray W S s us)) ≡ us
     tray-filled distinct declared =
         let g : ℕ → Place = put_all S.place pre in
-        let empty : IsEmpty (InTray s) g = empty-after_moves (InTray s) S.place pre (EachOf-then (λ (m : ℕ × Place). IsOff s m.1) (λ (m : ℕ × Place). ticket_in (InTray s) m.1 ≡ None) pre (λ m off. off (InTray s) refl) to) step.no_tray in
+        let empty : IsEmpty (InTray s) g = empty-after_moves (InTray s) S.place pre (EachOf-then (λ (m : ℕ × Place). IsOff s m.1) (λ (m : ℕ × Place). ticket_in (InTray s) m.1 ≡ None) pre (λ m off. off (InTray s) refl) to) acts.no_tray in
         ap (line_at (length W.units) (InTray s)) (put_all-append S.place pre (to_tray W S s us) ∙ ap (put_all g) (line_moves-tray s (tray_end W S s) us))
         ∙ (line-gets_all (length W.units) (InTray s) (same-self s) us (tray_end W S s) g distinct
         (λ v m. (EachOf-among (λ v. v < length W.units) us v declared m, nobody (ticket_in (InTray s) (g v)) v refl empty))
@@ -185,7 +185,7 @@ module _ (W : Parts) (Z : List OrderShape) (S : State) (s u : ℕ) (step : IsSte
           λ i. record {
             own = S.stream s;
             hand = ap (λ vs. first (map (owned_at T) vs)) hands i;
-            next = ap (λ vs. first (map (owned_at T) vs)) (line-empty (length W.units) (InNext s) T.place (empty-after_moves (InNext s) S.place d.moves (to-none (InNext s) refl (λ t. refl)) step.no_next)) i;
+            next = ap (λ vs. first (map (owned_at T) vs)) (line-empty (length W.units) (InNext s) T.place (empty-after_moves (InNext s) S.place d.moves (to-none (InNext s) refl (λ t. refl)) acts.no_next)) i;
             tray = (ap (map (owned_at T)) (tray-filled distinct declared) ∙ ap (λ vs. map (owned_at S) vs ++ map (owned_at T) us) (sym tray-standing)) i;
             framed = owned-stays W S d (InFrames s) (to-none (InFrames s) refl (λ t. refl)) unframed (EachOf-then (λ (m : ℕ × Carried). IsLoose m.0) (λ (m : ℕ × Carried). ticket_in (InFrames s) (S.place m.0) ≡ None) cs (λ m l. loose-unframed m.0 l) keys) i;
           }

@@ -68,5 +68,5 @@ pub owned-joined : (W : Parts) (S : State) (l : Line) (u t : ℕ) (ms : List (�
     owned_in W (changed S (record c { moves = (u, place_in l t) ∷ ms })) l ≡ owned_in W S l ++ owned_at (changed S (record c { moves = (u, place_in l t) ∷ ms })) u ∷ []
 owned-joined W S l u t ms c has declared none below to from keys =
     let T : State = changed S (record c { moves = (u, place_in l t) ∷ ms }) in
-    ap (map (owned_at T)) (line-stays (length W.units) l (put_at S.place u (place_in l t)) ms to from ∙ line-gets (length W.units) l has S.place u t declared none below)
+    ap (map (owned_at T)) (line-stays (length W.units) l (put_at S.place u (place_in l t)) ms to from ∙ line-gets (length W.units) l S.place u t (has t) declared none below)
     ∙ (map-append (owned_at T) (standing W S l) (u ∷ []) ∙ ap (λ os. os ++ owned_at T u ∷ []) (owned-same S T (standing W S l) (carried-stays W S (record c { moves = (u, place_in l t) ∷ ms }) l keys)))

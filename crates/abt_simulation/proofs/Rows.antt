@@ -33,7 +33,7 @@ use Rattle.abt_laws.proofs.Options.{none≢some}
 use Rattle.abt_laws.proofs.Codes.{IsRefusal}
 use Rattle.abt_laws.proofs.Keeping.{hand-kept}
 use Rattle.abt_laws.proofs.Local.{IsLocal, local-none, local-carried}
-use Rattle.abt_laws.proofs.SoundSteps.{IsStepping}
+use Rattle.abt_simulation.proofs.Acting.{IsActing}
 use Rattle.abt_simulation.proofs.Others.{objects-stay}
 use Rattle.abt_simulation.proofs.OwnParts.{hand-standing}
 use Rattle.abt_simulation.proofs.Shapes.{goes-part}
@@ -99,9 +99,9 @@ module _ (W : Parts) where
 
 -- Steps that change nothing but what u carries.
 
-module _ (W : Parts) (Z : List OrderShape) (S : State) (s u : ℕ) (step : IsStepping W Z S s u) where
+module _ (W : Parts) (Z : List OrderShape) (S : State) (s u : ℕ) (acts : IsActing W Z S s u) where
   pub in-hand : hand W S s ≡ Some u
-  in-hand = λ i. first_of (hand-standing W Z S s u step i) where
+  in-hand = λ i. first_of (hand-standing W Z S s u acts i) where
     first_of : List ℕ → Option ℕ
     first_of [] = None
     first_of (v ∷ vs) = Some v
@@ -127,6 +127,6 @@ module _ (W : Parts) (Z : List OrderShape) (S : State) (s u : ℕ) (step : IsSte
       ValueDone W S s u a value (refusal (owned_at S u) c) new
   refuses a c x Is value Gives new at r is same = record {
     code = is;
-    own = ap (λ d. part_of W (changed S d) s) (refused-row a c r) ∙ goes-part W Z S s u step (refused c (S.carried u)) no_change;
+    own = ap (λ d. part_of W (changed S d) s) (refused-row a c r) ∙ goes-part W Z S s u acts (refused c (S.carried u)) no_change;
     called = ap (λ d. value (changed S d)) (refused-row a c r) ∙ (value-same x Is value Gives (refused c (S.carried u)) at ∙ sym same);
   }

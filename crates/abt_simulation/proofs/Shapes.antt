@@ -1,10 +1,11 @@
 -- What most steps do: the unit in hand goes on, and perhaps wakes others; or it leaves the hand for an object's line, and perhaps wakes others. Unit u, in the hand of stream s, makes the step.
-use Rattle.std.proofs.Common.{◌≡◌, ◌≢◌, ℕ, suc, true, List, [], ◌∷◌, ◌++◌, length, map, Some, None, refl, ◌∙◌, ap, subst, inl, inr}
+use Rattle.std.proofs.Common.{◌≡◌, ◌≢◌, ℕ, suc, List, [], ◌∷◌, ◌++◌, length, map, Some, None, refl, ◌∙◌, ap, inl, inr}
 use Rattle.std.specs.Prelude.{filter}
-use Rattle.std.proofs.lemmas.Bool.{cond-false}
 use Rattle.abt_machine.specs.declared.events.Place.{Place}
+use Rattle.abt_machine.specs.declared.events.Place.TheVariants as place
 use Rattle.abt_machine.specs.declared.operations.OrderShape.{OrderShape}
 use Rattle.abt_machine.specs.declared.workload.Parts.{Parts}
+use Rattle.abt_machine.specs.Numbers.{stream_no}
 use Rattle.abt_machine.specs.Maps.{put_at}
 use Rattle.abt_machine.specs.Queues.{first_alone}
 use Rattle.abt_machine.specs.State.{State, Carried}
@@ -19,10 +20,9 @@ use Rattle.abt_laws.proofs.Maps.{KeyOf, put_at-same, put_at-other}
 use Rattle.abt_laws.proofs.Places.{place_in}
 use Rattle.abt_laws.proofs.Arrivals.{IsBelow}
 use Rattle.abt_laws.proofs.LineMoves.{tray_moves-places, tray_moves-key}
-use Rattle.abt_laws.proofs.SoundSteps.{IsStepping}
-use Rattle.abt_simulation.proofs.Filters.{filter-all}
+use Rattle.abt_simulation.proofs.Acting.{IsActing}
 use Rattle.abt_simulation.proofs.Pushes.{IsDistinct}
-use Rattle.abt_simulation.proofs.LinesAfter.{stays, stays-key, stays-other, NoneTo, NoneFrom, line-left}
+use Rattle.abt_simulation.proofs.LinesAfter.{all_but-first, stays, NoneTo, NoneFrom, line-left}
 use Rattle.abt_simulation.proofs.OwnedLines.{owned-same, carried-stays, owned-stays, owned-emptied, owned-joined}
 use Rattle.abt_simulation.proofs.OwnParts.{IsObjects, IsOff, IsAway, hand-elsewhere, tray-elsewhere, standing-distinct, moving, part-keeps, part-empties, away-other, away-declared, away-loose, hand-only}
 
@@ -50,21 +50,19 @@ none-to_tray W S s l us objects = tray_moves-places (λ pl. ticket_in l pl ≡ N
 -- the first of a line is gone
 pub others-stay : (s i : ℕ) (us : List ℕ) → IsDistinct us → filter (stays (tray_moves s i (first_alone us))) us ≡ others us
 others-stay s i [] d = refl
-others-stay s i (u ∷ us) d =
-    cond-false (stays (tray_moves s i (u ∷ [])) u) _ _ (stays-key (tray_moves s i (u ∷ [])) u (inl refl))
-    ∙ filter-all (stays (tray_moves s i (u ∷ []))) us (each-among (λ v. stays (tray_moves s i (u ∷ [])) v ≡ true) us (λ v m. stays-other (tray_moves s i (u ∷ [])) v (λ k. elim k [ inl e ↦ d.0 (subst (λ w. Among w us) e m) | inr none ↦ none ])))
+others-stay s i (u ∷ us) d = all_but-first u (place.Tray (stream_no s) i) us d
 
-module _ (W : Parts) (Z : List OrderShape) (S : State) (s u : ℕ) (step : IsStepping W Z S s u) where
+module _ (W : Parts) (Z : List OrderShape) (S : State) (s u : ℕ) (acts : IsActing W Z S s u) where
   -- who is away carries the same where only u's own changes
   away-same : (k : Carried) (us : List ℕ) → EachOf (IsAway W S s) us → EachOf (λ v. put_at S.carried u k v ≡ S.carried v) us
-  away-same k us away = EachOf-then (IsAway W S s) (λ v. put_at S.carried u k v ≡ S.carried v) us (λ v a. put_at-other S.carried u k v (away-other W Z S s u step v a.off)) away
+  away-same k us away = EachOf-then (IsAway W S s) (λ v. put_at S.carried u k v ≡ S.carried v) us (λ v a. put_at-other S.carried u k v (away-other W Z S s u acts v a.off)) away
 
   -- u goes on with this to carry, and wakes units that are away
   pub wakes-part : (us : List ℕ) (k : Carried) (c : Change) → IsDistinct us → EachOf (IsAway W S s) us →
       part_of W (changed S (moving (to_tray W S s us) ((u, k) ∷ []) c)) s ≡ stepped (part_of W S s) (keeps (owned u k) (map (owned_at S) us))
   wakes-part us k c distinct away =
       let T : State = changed S (moving (to_tray W S s us) ((u, k) ∷ []) c) in
-      part-keeps W Z S s u step [] us ((u, k) ∷ []) c tt distinct away (inl refl, tt)
+      part-keeps W Z S s u acts [] us ((u, k) ∷ []) c tt distinct away (inl refl, tt)
       ∙ (λ i. stepped (part_of W S s) (keeps (owned u (put_at-same S.carried u k i)) (owned-same S T us (away-same k us away) i)))
 
   -- u goes on with this to carry
@@ -76,20 +74,20 @@ module _ (W : Parts) (Z : List OrderShape) (S : State) (s u : ℕ) (step : IsSte
       part_of W (changed S (moving ((u, pl) ∷ to_tray W S s us) ((u, k) ∷ []) c)) s ≡ stepped (part_of W S s) (empties (map (owned_at S) us))
   blocks-part pl us k c off distinct away =
       let T : State = changed S (moving ((u, pl) ∷ to_tray W S s us) ((u, k) ∷ []) c) in
-      part-empties W Z S s u step ((u, pl) ∷ []) us ((u, k) ∷ []) c ((inl refl, off), tt) distinct (away-declared W Z S s u step us away) (away-loose W Z S s u step us away) (inl refl, tt) (inl refl)
+      part-empties W Z S s u acts ((u, pl) ∷ []) us ((u, k) ∷ []) c ((inl refl, off), tt) distinct (away-declared W Z S s u acts us away) (away-loose W Z S s u acts us away) (inl refl, tt) (inl refl)
       ∙ ap (λ os. stepped (part_of W S s) (empties os)) (owned-same S T us (away-same k us away))
 
   -- Lines of objects.
 
   module _ (l : Line) (objects : IsObjects l) where
     not-in : ticket_in l (S.place u) ≡ None
-    not-in = hand-only W Z S s u step l (hand-elsewhere s l objects)
+    not-in = hand-only W Z S s u acts l (hand-elsewhere s l objects)
 
     -- u is at the end of the line, with this to carry, and others of other lines are woken
     pub line-joined : (t : ℕ) (us : List ℕ) (k : Carried) (c : Change) → ((j : ℕ) → ticket_in l (place_in l j) ≡ Some j) → IsBelow l t S.place → EachOf (λ v. (v ≢ u) × (ticket_in l (S.place v) ≡ None)) us →
         owned_in W (changed S (moving ((u, place_in l t) ∷ to_tray W S s us) ((u, k) ∷ []) c)) l ≡ owned_in W S l ++ owned u k ∷ []
     line-joined t us k c has below elsewhere =
-        owned-joined W S l u t (to_tray W S s us) (record c { carried = (u, k) ∷ []; streams = [] }) has step.declared not-in below (none-to_tray W S s l us objects) (from us (tray_end W S s) elsewhere) (not-in, tt)
+        owned-joined W S l u t (to_tray W S s us) (record c { carried = (u, k) ∷ []; streams = [] }) has acts.declared not-in below (none-to_tray W S s l us objects) (from us (tray_end W S s) elsewhere) (not-in, tt)
         ∙ ap (λ (q : Carried). owned_in W S l ++ owned u q ∷ []) (put_at-same S.carried u k) where
           from : (us : List ℕ) (i : ℕ) → EachOf (λ v. (v ≢ u) × (ticket_in l (S.place v) ≡ None)) us → NoneFrom l (put_at S.place u (place_in l t)) (tray_moves s i us)
           from [] i a = tt
