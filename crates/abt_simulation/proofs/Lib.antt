@@ -1,0 +1,12 @@
+pub mod Acting
+pub mod Conditions
+pub mod Filters
+pub mod LinesAfter
+pub mod Others
+pub mod OwnParts
+pub mod OwnedLines
+pub mod PoolEvents
+pub mod Pushes
+pub mod Rows
+pub mod Shapes
+pub mod Simulated
