@@ -1,7 +1,9 @@
 pub mod Acting
 pub mod Conditions
+pub mod EventualRows
 pub mod Filters
 pub mod LinesAfter
+pub mod ObjectShapes
 pub mod Others
 pub mod OwnParts
 pub mod OwnedLines
