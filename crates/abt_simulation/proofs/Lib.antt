@@ -1,7 +1,9 @@
 pub mod Acting
+pub mod BarrierRows
 pub mod Conditions
 pub mod EventualRows
 pub mod Filters
+pub mod FutureRows
 pub mod LinesAfter
 pub mod ObjectShapes
 pub mod Others
