@@ -5,6 +5,8 @@ pub mod EventualRows
 pub mod Filters
 pub mod FutureRows
 pub mod LinesAfter
+pub mod MonitorRows
+pub mod MonitorShapes
 pub mod ObjectShapes
 pub mod Others
 pub mod OwnParts
