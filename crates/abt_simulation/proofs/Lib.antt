@@ -1,5 +1,6 @@
 pub mod Acting
 pub mod BarrierRows
+pub mod ConditionLists
 pub mod Conditions
 pub mod EventualRows
 pub mod Filters
