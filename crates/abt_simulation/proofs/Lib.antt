@@ -1,6 +1,9 @@
 pub mod Acting
 pub mod Conditions
+pub mod DeskEvents
 pub mod Filters
+pub mod FrameEvents
+pub mod Lasts
 pub mod LinesAfter
 pub mod Others
 pub mod OwnParts
