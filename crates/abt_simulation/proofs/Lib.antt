@@ -7,8 +7,10 @@ pub mod Lasts
 pub mod LinesAfter
 pub mod Others
 pub mod OwnParts
+pub mod OwnRows
 pub mod OwnedLines
 pub mod PoolEvents
+pub mod PoolRows
 pub mod Pushes
 pub mod Rows
 pub mod Shapes
