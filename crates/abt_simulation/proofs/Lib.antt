@@ -1,6 +1,7 @@
 pub mod Acting
 pub mod Conditions
 pub mod DeskEvents
+pub mod DeskRows
 pub mod Filters
 pub mod FrameEvents
 pub mod Lasts
@@ -9,6 +10,7 @@ pub mod Others
 pub mod OwnParts
 pub mod OwnRows
 pub mod OwnedLines
+pub mod Phases
 pub mod PoolEvents
 pub mod PoolRows
 pub mod Pushes

@@ -63,6 +63,9 @@ no-ticket l pl other = by (ticket_in l pl) refl where
   by None e = e
   by (Some t) e = absurd (other (line_of-ticket l pl t e))
 
+pub nowhere-ticket : (l : Line) (pl : Place) → line_of pl ≡ None → ticket_in l pl ≡ None
+nowhere-ticket l pl nowhere = no-ticket l pl (λ e. none≢some (sym nowhere ∙ e))
+
 -- a place in an object's line
 pub off-object : (s : ℕ) (l : Line) (t : ℕ) → IsObjects l → IsOff s (place_in l t)
 off-object s l t objects m own =
@@ -70,7 +73,7 @@ off-object s l t objects m own =
 
 -- a place in no line
 pub off-nowhere : (s : ℕ) (pl : Place) → line_of pl ≡ None → IsOff s pl
-off-nowhere s pl nowhere m own = no-ticket m pl (λ e. none≢some (sym nowhere ∙ e))
+off-nowhere s pl nowhere m own = nowhere-ticket m pl nowhere
 
 -- a place of a stream is in no object's line
 pub hand-elsewhere : (s : ℕ) (l : Line) → IsObjects l → ticket_in l (place.Hand (stream_no s)) ≡ None
