@@ -1,11 +1,15 @@
 pub mod Acting
+pub mod BarrierRows
 pub mod Conditions
 pub mod DeskEvents
 pub mod DeskRows
+pub mod EventualRows
 pub mod Filters
 pub mod FrameEvents
+pub mod FutureRows
 pub mod Lasts
 pub mod LinesAfter
+pub mod ObjectShapes
 pub mod Others
 pub mod OwnParts
 pub mod OwnRows
