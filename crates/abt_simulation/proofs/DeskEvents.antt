@@ -86,7 +86,6 @@ module _ (W : Parts) (Z : List OrderShape) (S : State) (s : ℕ) (sound : Sound 
       let new : gives.0 ≡ with_ended o cause (desk_value W S o.number) = gives.2.1 ∙ cond-true (takes_back (desk_value W S o.number) o) _ _ back in
       record {
         may = (due-same W S s ∙ is, h.is);
-        site = refl;
         own = end-part cause acts ∙ ap (λ us. record (part_of W S s) { hand = None; tray = (part_of W S s).tray ++ us }) (sym woken);
         called = ap DeskIs (end-desk cause acts h.owns ∙ sym new) ∙ sym gives.1;
       }
@@ -165,7 +164,6 @@ module _ (W : Parts) (Z : List OrderShape) (S : State) (s : ℕ) (sound : Sound 
       let no_tray : IsEmpty (InTray s) S.place = due-no_tray W S s sound.undeclared LookDue (due-same W S s ∙ is) tt in
       record {
         may = (due-same W S s ∙ is, h.is);
-        site = refl;
         own = look-part at.declared at.at no_hand no_tray h.owns (S.desk o.number).cancel (S.desk o.number).migrate ∙ (λ i. looked (part_of W S s) o (sym gives.2.0 i) (sym gives.2.1 i));
         called = ap DeskIs (look-desk at.declared at.at no_hand no_tray h.owns (S.desk o.number).cancel (S.desk o.number).migrate ∙ sym gives.2.2) ∙ sym gives.1;
       }

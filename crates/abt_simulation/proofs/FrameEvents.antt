@@ -43,7 +43,6 @@ module _ (W : Parts) (Z : List OrderShape) (S : State) (s : ℕ) (sound : Sound 
       let pl : Place = place.Frame (stream_no s) d in
       record {
         may = (due-same W S s ∙ is, h.is);
-        site = refl;
         own = λ i. record {
           own = put_at-same S.stream s (entered (sched_of (body_at W o.number)) (S.stream s)) i;
           hand = ap (λ us. first (map (owned_at S) us))
@@ -83,7 +82,6 @@ module _ (W : Parts) (Z : List OrderShape) (S : State) (s : ℕ) (sound : Sound 
       let pl : Place = place.Hand (stream_no s) in
       record {
         may = (due-same W S s ∙ is, at);
-        site = refl;
         own = λ i. record {
           own = put_at-same S.stream s (left (S.stream s)) i;
           hand = (ap (λ us. first (map (owned_at S) us))

@@ -1,5 +1,6 @@
 pub mod Acting
 pub mod BarrierRows
+pub mod CalledSites
 pub mod Conditions
 pub mod DeskEvents
 pub mod DeskRows
