@@ -1,5 +1,5 @@
 -- The rows of operations on eventuals. Unit u, in the hand of stream s, makes the step.
-use Rattle.std.proofs.Common.{◌≡◌, ℕ, is_none, is_some, true, false, List, [], ◌∷◌, Option, Some, None, refl, sym, ◌∙◌, ap}
+use Rattle.std.proofs.Common.{◌≡◌, ℕ, is_none, is_some, false, List, [], ◌∷◌, Option, Some, None, refl, sym, ◌∙◌, ap}
 use Rattle.std.specs.Prelude.{option_map}
 use Rattle.abt_machine.specs.declared.events.Code.TheVariants as code
 use Rattle.abt_machine.specs.declared.events.Site.TheVariants as site
@@ -25,16 +25,7 @@ use Rattle.abt_simulation.proofs.Acting.{IsActing}
 use Rattle.abt_simulation.proofs.OwnParts.{moving}
 use Rattle.abt_simulation.proofs.Shapes.{goes-part, line-same}
 use Rattle.abt_simulation.proofs.Rows.{Row, ValueRow, ValueDone, row-by_value, eventual-at, refuses}
-use Rattle.abt_simulation.proofs.ObjectShapes.{unless-true, unless-false, goes-through, waits-part, waits-line, giving, giving-part, giving-line}
-
--- who has nothing has none
-none-test : (o : Option ℕ) → is_some o ≡ false → is_none o ≡ true
-none-test None e = refl
-none-test (Some n) e = absurd cc
-
-some-test : (o : Option ℕ) → is_some o ≡ true → is_none o ≡ false
-some-test None e = absurd cc
-some-test (Some n) e = refl
+use Rattle.abt_simulation.proofs.ObjectShapes.{none-test, some-test, unless-true, unless-false, goes-through, waits-part, waits-line, giving, giving-part, giving-line}
 
 module _ (W : Parts) (Z : List OrderShape) (S : State) (s u : ℕ) (acts : IsActing W Z S s u) (x : ObjectNo) (is : IsEventual W x.0) where
   abbrev value : State → EventualValue

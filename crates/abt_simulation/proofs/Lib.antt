@@ -10,6 +10,8 @@ pub mod FrameEvents
 pub mod FutureRows
 pub mod Lasts
 pub mod LinesAfter
+pub mod MonitorRows
+pub mod MonitorShapes
 pub mod ObjectShapes
 pub mod Others
 pub mod OwnParts

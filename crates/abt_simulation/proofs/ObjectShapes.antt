@@ -1,5 +1,5 @@
 -- What the rows of operations on objects share: a unit waits at an object, or gives all that wait there a value. Unit u, in the hand of stream s, makes the step.
-use Rattle.std.proofs.Common.{◌≡◌, ◌≢◌, ℕ, suc, Bool, true, false, List, [], ◌∷◌, ◌++◌, map, Option, Some, None, refl, sym, ◌∙◌, ap, ap₂, inl, inr}
+use Rattle.std.proofs.Common.{is_none, is_some, ◌≡◌, ◌≢◌, ℕ, suc, Bool, true, false, List, [], ◌∷◌, ◌++◌, map, Option, Some, None, refl, sym, ◌∙◌, ap, ap₂, inl, inr}
 use Rattle.std.proofs.lemmas.Bool.{cond-true, cond-false, eq-eqb, ne_eqb}
 use Rattle.abt_machine.specs.declared.events.Code.{Code}
 use Rattle.abt_machine.specs.declared.events.Code.TheVariants as code
@@ -41,6 +41,15 @@ is-some_of u o e = ap (is_some_of u) e ∙ eq-eqb u u refl
 pub not-some_of : (u : ℕ) (o : Option ℕ) → o ≢ Some u → is_some_of u o ≡ false
 not-some_of u None ne = refl
 not-some_of u (Some v) ne = ne_eqb v u (λ e. ne (ap (λ n. Some n) e))
+
+-- a test that there is none
+pub none-test : (o : Option ℕ) → is_some o ≡ false → is_none o ≡ true
+none-test None e = refl
+none-test (Some n) e = absurd cc
+
+pub some-test : (o : Option ℕ) → is_some o ≡ true → is_none o ≡ false
+some-test None e = absurd cc
+some-test (Some n) e = refl
 
 -- Values that are given.
 
