@@ -113,3 +113,7 @@ filter-all stays (u ∷ us) a = cond-true (stays u) _ _ a.0 ∙ ap (λ vs. u ∷
 pub filter-none : (stays : ℕ → Bool) (us : List ℕ) → EachOf (λ u. stays u ≡ false) us → filter stays us ≡ []
 filter-none stays [] a = refl
 filter-none stays (u ∷ us) a = cond-false (stays u) _ _ a.0 ∙ filter-none stays us a.1
+
+pub EachOf-filter : (P : ℕ → Type 0) (stays : ℕ → Bool) (us : List ℕ) → EachOf P us → EachOf P (filter stays us)
+EachOf-filter P stays [] a = tt
+EachOf-filter P stays (u ∷ us) a = cond_both (stays u) (u ∷ filter stays us) (filter stays us) (EachOf P) (λ _. (a.0, EachOf-filter P stays us a.1)) (λ _. EachOf-filter P stays us a.1)

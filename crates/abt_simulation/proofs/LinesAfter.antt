@@ -131,7 +131,7 @@ put_all-append f (p ∷ ps) qs = put_all-append (put_at f p.0 p.1) ps qs
 abbrev pub all_but : {A : Type 0} → ℕ → A → List ℕ → List ℕ
 all_but u x us = filter (stays ((u, x) ∷ [])) us
 
-all_but-none : {A : Type 0} (u : ℕ) (x : A) (us : List ℕ) → (Among u us → ⊥) → all_but u x us ≡ us
+pub all_but-none : {A : Type 0} (u : ℕ) (x : A) (us : List ℕ) → (Among u us → ⊥) → all_but u x us ≡ us
 all_but-none u x [] out = refl
 all_but-none u x (v ∷ vs) out =
     cond-true (stays ((u, x) ∷ []) v) _ _ (stays-other ((u, x) ∷ []) v (λ k. elim k [ inl e ↦ out (inl (sym e)) | inr none ↦ none ])) ∙ ap (λ ws. v ∷ ws) (all_but-none u x vs (λ m. out (inr m)))

@@ -63,6 +63,9 @@ no-ticket l pl other = by (ticket_in l pl) refl where
   by None e = e
   by (Some t) e = absurd (other (line_of-ticket l pl t e))
 
+pub nowhere-ticket : (l : Line) (pl : Place) → line_of pl ≡ None → ticket_in l pl ≡ None
+nowhere-ticket l pl nowhere = no-ticket l pl (λ e. none≢some (sym nowhere ∙ e))
+
 -- a place in an object's line
 pub off-object : (s : ℕ) (l : Line) (t : ℕ) → IsObjects l → IsOff s (place_in l t)
 off-object s l t objects m own =
@@ -70,7 +73,7 @@ off-object s l t objects m own =
 
 -- a place in no line
 pub off-nowhere : (s : ℕ) (pl : Place) → line_of pl ≡ None → IsOff s pl
-off-nowhere s pl nowhere m own = no-ticket m pl (λ e. none≢some (sym nowhere ∙ e))
+off-nowhere s pl nowhere m own = nowhere-ticket m pl nowhere
 
 -- a place of a stream is in no object's line
 pub hand-elsewhere : (s : ℕ) (l : Line) → IsObjects l → ticket_in l (place.Hand (stream_no s)) ≡ None
@@ -146,8 +149,22 @@ module _ (W : Parts) (Z : List OrderShape) (S : State) (s u : ℕ) (acts : IsAct
   abbrev pub IsLoose : ℕ → Type 0
   IsLoose v = (v ≡ u) ⊎ IsOff s (S.place v)
 
-  loose-unframed : (v : ℕ) → IsLoose v → ticket_in (InFrames s) (S.place v) ≡ None
+  pub loose-unframed : (v : ℕ) → IsLoose v → ticket_in (InFrames s) (S.place v) ≡ None
   loose-unframed v loose = elim loose [ inl e ↦ ap (λ n. ticket_in (InFrames s) (S.place n)) e ∙ hand-only (InFrames s) refl | inr off ↦ off (InFrames s) refl ]
+
+  -- the tray holds those who come to it
+  pub tray-filled : (pre : List (ℕ × Place)) (us : List ℕ) → NoneTo (InTray s) pre → IsDistinct us → EachOf (λ v. v < length W.units) us → line_at (length W.units) (InTray s) (put_all S.place (pre ++ to_tray W S s us)) ≡ us
+  tray-filled pre us to distinct declared =
+      let g : ℕ → Place = put_all S.place pre in
+      let empty : IsEmpty (InTray s) g = empty-after_moves (InTray s) S.place pre to acts.no_tray in
+      ap (line_at (length W.units) (InTray s)) (put_all-append S.place pre (to_tray W S s us) ∙ ap (put_all g) (line_moves-tray s (tray_end W S s) us))
+      ∙ (line-gets_all (length W.units) (InTray s) (same-self s) us (tray_end W S s) g distinct
+      (λ v m. (EachOf-among (λ v. v < length W.units) us v declared m, nobody (ticket_in (InTray s) (g v)) v refl empty))
+      (IsBelow-empty (InTray s) (tray_end W S s) g empty)
+      ∙ ap (λ vs. vs ++ us) (line-empty (length W.units) (InTray s) g empty)) where
+        nobody : (o : Option ℕ) (v : ℕ) → ticket_in (InTray s) (put_all S.place pre v) ≡ o → IsEmpty (InTray s) (put_all S.place pre) → ticket_in (InTray s) (put_all S.place pre v) ≡ None
+        nobody None v e empty = e
+        nobody (Some t) v e empty = absurd (empty v t e)
 
   -- the moves of a step: some to places of no line of s, and then some to its tray
   module _ (pre : List (ℕ × Place)) (us : List ℕ) (to : EachOf (λ (m : ℕ × Place). IsOff s m.1) pre) where
@@ -156,19 +173,6 @@ module _ (W : Parts) (Z : List OrderShape) (S : State) (s u : ℕ) (acts : IsAct
         EachOf-append (λ (m : ℕ × Place). ticket_in l m.1 ≡ None) pre (to_tray W S s us)
         (EachOf-then (λ (m : ℕ × Place). IsOff s m.1) (λ (m : ℕ × Place). ticket_in l m.1 ≡ None) pre (λ m off. off l own) to)
         (tray_moves-places (λ pl. ticket_in l pl ≡ None) s (tray_end W S s) us none)
-
-    tray-filled : IsDistinct us → EachOf (λ v. v < length W.units) us → line_at (length W.units) (InTray s) (put_all S.place (pre ++ to_tray W S s us)) ≡ us
-    tray-filled distinct declared =
-        let g : ℕ → Place = put_all S.place pre in
-        let empty : IsEmpty (InTray s) g = empty-after_moves (InTray s) S.place pre (EachOf-then (λ (m : ℕ × Place). IsOff s m.1) (λ (m : ℕ × Place). ticket_in (InTray s) m.1 ≡ None) pre (λ m off. off (InTray s) refl) to) acts.no_tray in
-        ap (line_at (length W.units) (InTray s)) (put_all-append S.place pre (to_tray W S s us) ∙ ap (put_all g) (line_moves-tray s (tray_end W S s) us))
-        ∙ (line-gets_all (length W.units) (InTray s) (same-self s) us (tray_end W S s) g distinct
-        (λ v m. (EachOf-among (λ v. v < length W.units) us v declared m, nobody (ticket_in (InTray s) (g v)) v refl empty))
-        (IsBelow-empty (InTray s) (tray_end W S s) g empty)
-        ∙ ap (λ vs. vs ++ us) (line-empty (length W.units) (InTray s) g empty)) where
-          nobody : (o : Option ℕ) (v : ℕ) → ticket_in (InTray s) (put_all S.place pre v) ≡ o → IsEmpty (InTray s) (put_all S.place pre) → ticket_in (InTray s) (put_all S.place pre v) ≡ None
-          nobody None v e empty = e
-          nobody (Some t) v e empty = absurd (empty v t e)
 
     -- the part of s, by who is then in its hand
     module _ (cs : List (ℕ × Carried)) (c : Change) (distinct : IsDistinct us) (declared : EachOf (λ v. v < length W.units) us) (from : EachOf (λ (m : ℕ × Place). IsLoose m.0) pre) (loose : EachOf IsLoose us) (keys : EachOf (λ (m : ℕ × Carried). IsLoose m.0) cs) where
@@ -186,7 +190,7 @@ module _ (W : Parts) (Z : List OrderShape) (S : State) (s u : ℕ) (acts : IsAct
             own = S.stream s;
             hand = ap (λ vs. first (map (owned_at T) vs)) hands i;
             next = ap (λ vs. first (map (owned_at T) vs)) (line-empty (length W.units) (InNext s) T.place (empty-after_moves (InNext s) S.place d.moves (to-none (InNext s) refl (λ t. refl)) acts.no_next)) i;
-            tray = (ap (map (owned_at T)) (tray-filled distinct declared) ∙ ap (λ vs. map (owned_at S) vs ++ map (owned_at T) us) (sym tray-standing)) i;
+            tray = (ap (map (owned_at T)) (tray-filled pre us (EachOf-then (λ (m : ℕ × Place). IsOff s m.1) (λ (m : ℕ × Place). ticket_in (InTray s) m.1 ≡ None) pre (λ m off. off (InTray s) refl) to) distinct declared) ∙ ap (λ vs. map (owned_at S) vs ++ map (owned_at T) us) (sym tray-standing)) i;
             framed = owned-stays W S d (InFrames s) (to-none (InFrames s) refl (λ t. refl)) unframed (EachOf-then (λ (m : ℕ × Carried). IsLoose m.0) (λ (m : ℕ × Carried). ticket_in (InFrames s) (S.place m.0) ≡ None) cs (λ m l. loose-unframed m.0 l) keys) i;
           }
 

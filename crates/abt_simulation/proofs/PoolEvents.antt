@@ -117,7 +117,6 @@ module _ (W : Parts) (Z : List OrderShape) (S : State) (s p : ℕ) (sound : Soun
       Simulated W Z S s (what.Miss (pool_no p)) (Some (site.Pool (pool_no p), act.Take (side_of W s p), act.Miss)) (record (part_of W S s) { own = round_missed W p (S.stream s) }) object
   simulate-miss is order gives = record {
     may = (due-same W S s ∙ is, no-front (kind_of W p) (owns W s p) (standing W S (InPool p)) (nobody-owned S (standing W S (InPool p)) gives.2.1), order);
-    site = refl;
     own = λ i. record (part_of W S s) { own = put_at-same S.stream s (round_missed W p (S.stream s)) i };
     called = ap PoolIs (sym gives.2.2) ∙ sym gives.1;
   }
@@ -133,7 +132,6 @@ module _ (W : Parts) (Z : List OrderShape) (S : State) (s p : ℕ) (sound : Soun
       let c : Change = change W S s (what.Take (pool_no p) (unit_no u)) in
       record {
         may = (due-same W S s ∙ is, f.is, order);
-        site = refl;
         own = λ i. record {
           own = put_at-same S.stream s (round_taken (S.stream s)) i;
           hand = first (owned-stays W S c (InHand s) (refl, tt) (out (InHand s) refl, tt) tt i);
@@ -155,7 +153,6 @@ module _ (W : Parts) (Z : List OrderShape) (S : State) (s p : ℕ) (sound : Soun
       let pl : Place = place.Pool (pool_no p) (S.pool_next p) in
       record {
         may = (due-same W S s ∙ is, ap first f.is, ap (λ (q : Owned). q.carried.home) f.owns ∙ home);
-        site = refl;
         own = λ i. record {
           own = S.stream s;
           hand = first (owned-stays W S c (InHand s) (refl, tt) (ap (ticket_in (InHand s)) at.at, tt) tt i);

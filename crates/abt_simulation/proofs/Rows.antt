@@ -118,7 +118,7 @@ module _ (W : Parts) (Z : List OrderShape) (S : State) (s u : ℕ) (acts : IsAct
       value (changed S (record no_change { carried = (u, k) ∷ [] })) ≡ value S
   value-same x Is value Gives k at = at.one _ _ (sym (at.here (changed S (record no_change { carried = (u, k) ∷ [] }))) ∙ (objects-same k x ∙ at.here S))
 
-  refused-row : (a : Op) (c : Code) → IsRefusal c → step_row W S s u (Some a) c ≡ record no_change { carried = (u, refused c (S.carried u)) ∷ [] }
+  pub refused-row : (a : Op) (c : Code) → IsRefusal c → step_row W S s u (Some a) c ≡ record no_change { carried = (u, refused c (S.carried u)) ∷ [] }
   refused-row a code.Ok r = absurd r
   refused-row a _ r = refl
 

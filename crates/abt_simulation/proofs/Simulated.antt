@@ -9,7 +9,7 @@ use Rattle.abt_machine.specs.declared.workload.Parts.{Parts}
 use Rattle.abt_machine.specs.Valid.{IsValid}
 use Rattle.abt_machine.specs.Queues.{first}
 use Rattle.abt_machine.specs.State.{State, Stream}
-use Rattle.abt_machine.specs.Sites.{what_site}
+use Rattle.abt_machine.specs.Sites.{event_site}
 use Rattle.abt_machine.specs.Lines.{InTray, InHand, InNext, standing}
 use Rattle.abt_machine.specs.Next.{due_by, at_position, due}
 use Rattle.abt_machine.specs.Events.{May, change, after}
@@ -38,10 +38,9 @@ due-same W S s = due-by_lists W S s (S.stream s) (standing W S (InTray s)) (stan
 
 -- Events.
 
--- an event may come, at the site that was called, and leaves this part of its stream and this object
+-- an event may come, and leaves this part of its stream and, where it called one, this object
 pub record Simulated (W : Parts) (Z : List OrderShape) (S : State) (s : ℕ) (w : What) (heard : Option Heard) (part : Held) (object : Object) : Type 0 where
   pub may : May W Z S s w
-  pub site : site_heard heard ≡ what_site W s w
   pub own : part_of W (after W S s w) s ≡ part
   pub called : Leaves W (after W S s w) heard object
 
@@ -57,15 +56,15 @@ pub without-call : (W : Parts) (Z : List OrderShape) (S : State) (s : ℕ) (w : 
 without-call W Z S s w heard part p object e f done = subst (λ (q : Option Heard × Held). Simulated W Z S s w q.0 q.1 object) (λ i. (sym e i, sym f i)) done
 
 -- what an event owes is all: the rest stays since the change is local
-pub is-event : (W : Parts) (Z : List OrderShape) (S : State) (e : Event) (heard : Option Heard) (part : Held) (object : Object) → IsValid W → e.stream.0 < W.streams →
+pub is-event : (W : Parts) (Z : List OrderShape) (S : State) (e : Event) (heard : Option Heard) (part : Held) (object : Object) → IsValid W → e.stream.0 < W.streams → site_heard heard ≡ event_site W e →
     Simulated W Z S e.stream.0 e.what heard part object → IsEvent W Z S e heard part object (after W S e.stream.0 e.what)
-is-event W Z S e heard part object valid declared done =
-    let local : IsLocal W S e.stream.0 (what_site W e.stream.0 e.what) (change W S e.stream.0 e.what) = event-local W valid Z S e.stream.0 e.what done.may in
+is-event W Z S e heard part object valid declared site done =
+    let local : IsLocal W S e.stream.0 (event_site W e) (change W S e.stream.0 e.what) = event-local W valid Z S e.stream.0 e.what done.may in
     record {
       comes = (declared, done.may, refl);
-      site = done.site;
+      site = site;
       own = done.own;
       called = done.called;
-      other_parts = parts-stay W S e.stream.0 (what_site W e.stream.0 e.what) (change W S e.stream.0 e.what) local;
-      other_objects = λ x ne. objects-stay W S e.stream.0 (what_site W e.stream.0 e.what) (change W S e.stream.0 e.what) local x (λ at. ne (done.site ∙ at));
+      other_parts = parts-stay W S e.stream.0 (event_site W e) (change W S e.stream.0 e.what) local;
+      other_objects = λ x ne. objects-stay W S e.stream.0 (event_site W e) (change W S e.stream.0 e.what) local x (λ at. ne (site ∙ at));
     }
