@@ -18,6 +18,7 @@ pub mod Others
 pub mod OwnParts
 pub mod OwnRows
 pub mod OwnedLines
+pub mod Passes
 pub mod Phases
 pub mod PoolEvents
 pub mod PoolRows
