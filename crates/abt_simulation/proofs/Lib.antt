@@ -2,6 +2,7 @@ pub mod Acting
 pub mod BarrierRows
 pub mod CalledSites
 pub mod ConditionLists
+pub mod ConditionRows
 pub mod Conditions
 pub mod DeskEvents
 pub mod DeskRows
