@@ -1,22 +1,32 @@
 -- The meeting at a barrier: what the laws suppose is computed, and what they say follows.
-use Rattle.std.proofs.Common.{◌≡◌, ℕ, zero, suc, ◌<◌, ◌≤◌, true, false, List, [], ◌∷◌, slice_get, Option, Some, None, refl, sym, subst, arith, ◌⊎◌, inl, inr}
-use Rattle.std.specs.Prelude.{Contains, take, drop}
+use Rattle.std.proofs.Common.{◌≡◌, ◌≢◌, ℕ, zero, suc, ◌<◌, ◌≤◌, true, false, List, [], ◌∷◌, length, slice_get, Option, Some, None, refl, sym, ◌∙◌, ap, subst, arith, inl, inr}
+use Rattle.std.specs.Prelude.{All, AllPairs, Contains, take, drop}
 use Rattle.std.specs.Fmt.{digits}
+use Rattle.std.proofs.lemmas.Bool.{leb-true}
+use Rattle.std.proofs.lemmas.List.Elements.{All-cons, All-nil}
+use Rattle.std.proofs.lemmas.List.Kept.{AllPairs-cons}
 use Rattle.abt_machine.specs.declared.events.Cause.TheVariants as cause
 use Rattle.abt_machine.specs.declared.events.Event.{Event}
 use Rattle.abt_machine.specs.declared.events.Site.{Site}
 use Rattle.abt_machine.specs.declared.events.Site.TheVariants as site
+use Rattle.abt_machine.specs.declared.operations.Body.TheVariants as body
 use Rattle.abt_machine.specs.declared.operations.Kind.TheVariants as kind
+use Rattle.abt_machine.specs.declared.operations.Op.{Op}
 use Rattle.abt_machine.specs.declared.operations.Op.TheVariants as op
+use Rattle.abt_machine.specs.declared.operations.Rule.TheVariants as rule
+use Rattle.abt_machine.specs.declared.operations.Thing.{Thing}
 use Rattle.abt_machine.specs.Numbers.{object_no}
-use Rattle.abt_machine.specs.Valid.{IsValid}
+use Rattle.abt_machine.specs.Canonical.{canonical_text}
+use Rattle.abt_machine.specs.Operations.{IsDeclared}
+use Rattle.abt_machine.specs.Valid.{IsAccess, IsBody, IsRule, IsScheduler, IsStream, IsThing, IsUnit, IsValid, IsWord}
 use Rattle.abt_machine.specs.Rounds.{OrdersStored}
+use Rattle.abt_machine.specs.Workloads.{access_of, body_at, ops_of, pools_of, rule_of, start_of, thing_at}
 use Rattle.abt_machine.specs.Frames.{round_taken}
 use Rattle.abt_machine.specs.Start.{start}
 use Rattle.abt_machine.specs.Sound.{Sound}
 use Rattle.abt_machine.specs.Values.{Owned, Held, Object, PoolIs, DeskIs, BarrierIs, PoolValue, DeskValue, BarrierValue, Out, Ended, part_of, object_of}
 use Rattle.abt_machine.specs.Acts as act
-use Rattle.abt_machine.specs.Acts.{Act, Answer, moved}
+use Rattle.abt_machine.specs.Acts.{moved}
 use Rattle.abt_machine.specs.Gives.{SiteGives}
 use Rattle.abt_machine.specs.Plans.{keeps, empties}
 use Rattle.abt_machine.specs.Turns.{Heard, Steps, looked, stepped}
@@ -28,16 +38,78 @@ use Rattle.abt_interleave.specs.Logs.{Leaves, Matched, IsSooner, BeforeAll, InOr
 use Rattle.abt_interleave.specs.Machines.{Gathered}
 use Rattle.abt_interleave.specs.Stamps.{AllTimed}
 use Rattle.abt_interleave.proofs.Members.{Among, to-among, from-among}
-use Rattle.abt_rows.proofs.Deciding.{given, holds, is_less, same}
-use Rattle.abt_rows.proofs.Validity.{validity}
 use Rattle.abt_simulation.specs.Merging.{machine_of, StreamDeed, SiteEntry, event_of, IsJournalOf, LeadsTo}
 use Rattle.abt_simulation.specs.Meeting.{meeting, no_orders, fresh, takes, looks, arrives, puts, ends, logs, entry, pool_history, desk_history, barrier_history, histories, parts, pool_object, desk_object, barrier_object, objects, journal, MeetingMerges}
 use Rattle.abt_simulation.proofs.Merged.{merging}
 use Rattle.abt_simulation.proofs.MergedStamps.{merged-is-lamport}
 
-valid : IsValid meeting
+-- The workload.
+
+-- what holds of 0 and of 1 holds of each number below 2
+below-two : (P : ℕ → Type 0) → P 0 → P 1 → (k : ℕ) → k < 2 → P k
+below-two P a b zero l = a
+below-two P a b (suc zero) l = b
+below-two P a b (suc (suc k)) l = absurd (omega arith)
+
+-- a scheduler that takes the pool in turn
+prio : (g : ℕ) → rule_of meeting g ≡ Some rule.Prio → pools_of meeting g ≡ 0 ∷ [] → IsScheduler meeting g
+prio g is pools = record {
+  rule = λ r e. subst IsRule (some-injective (sym is ∙ e)) tt;
+  some_pool = subst (λ ps. 0 < length ps) (sym pools) (omega arith);
+  few_pools = subst (λ ps. length ps ≤ 8) (sym pools) (omega arith);
+  pools = subst (All (λ p. p < 1)) (sym pools) (All-cons (λ p. p < 1) 0 [] (omega arith) (All-nil (λ p. p < 1)));
+  once = subst (AllPairs (λ a b. a ≢ b)) (sym pools) (AllPairs-cons (λ a b. a ≢ b) 0 [] (All-nil (λ b. 0 ≢ b)) no_pairs);
+} where
+  no_pairs : AllPairs (λ (a b : ℕ). a ≢ b) []
+  no_pairs = λ i j d l m. absurd (omega arith)
+
+-- a unit with the one operation
+program : (u : ℕ) → body_at meeting u ≡ body.Ult (op.BarWait (object_no 0) ∷ []) → start_of meeting u ≡ Some 0 → IsUnit meeting u
+program u is starts = record {
+  kind = subst (IsBody meeting) (sym is) tt;
+  few_ops = subst (λ b. length (ops_of b) ≤ 256) (sym is) (omega arith);
+  ops = λ k o e. by k o (ap (λ b. slice_get (ops_of b) k) (sym is) ∙ e);
+  start = λ p e. subst (λ q. q < 1) (some-injective (sym starts ∙ e)) (omega arith);
+} where
+  by : (k : ℕ) (o : Op) → slice_get (op.BarWait (object_no 0) ∷ []) k ≡ Some o → IsDeclared meeting o
+  by zero o e = subst (IsDeclared meeting) (some-injective e) (2, refl)
+  by (suc k) o e = absurd (none≢some e)
+
+thing : (x : ℕ) (t : Thing) → thing_at meeting x ≡ Some t → IsThing meeting x t
+thing zero t e = subst (IsThing meeting 0) (some-injective e) (omega arith, omega arith)
+thing (suc x) t e = absurd (none≢some e)
+
+two_places : AllPairs (λ (a b : ℕ). a ≢ b) (0 ∷ 1 ∷ [])
+two_places =
+    AllPairs-cons (λ a b. a ≢ b) 0 (1 ∷ []) (All-cons (λ b. 0 ≢ b) 1 [] (λ e. absurd (omega arith)) (All-nil (λ b. 0 ≢ b)))
+    (AllPairs-cons (λ a b. a ≢ b) 1 [] (All-nil (λ b. 1 ≢ b)) (λ i j d l m. absurd (omega arith)))
+
+short : length (canonical_text meeting) ≤ 4194304
 unfolding digits
-valid = holds (validity meeting) refl
+short = leb-true (length (canonical_text meeting)) 4194304 refl
+
+valid : IsValid meeting
+valid = record {
+  some_stream = omega arith;
+  few_streams = omega arith;
+  few_keys = omega arith;
+  some_pool = omega arith;
+  few_pools = omega arith;
+  pools = λ p l. below-two (λ q. IsAccess meeting (access_of meeting q)) tt tt p (omega arith);
+  some_sched = omega arith;
+  few_scheds = omega arith;
+  scheds = below-two (IsScheduler meeting) (prio 0 refl refl) (prio 1 refl refl);
+  mains = refl;
+  streams = below-two (IsStream meeting) (record { main = omega arith; takes = refl }) (record { main = omega arith; takes = refl });
+  one_place = two_places;
+  few_objects = omega arith;
+  objects = thing;
+  few_units = omega arith;
+  units = below-two (IsUnit meeting) (program 0 refl refl) (program 1 refl refl);
+  said = refl;
+  words = All-nil IsWord;
+  few_bytes = short;
+}
 
 stored : OrdersStored meeting no_orders
 stored zero k e = absurd cc
@@ -267,21 +339,41 @@ gathered = record { courses = course; undeclared = undeclared; legal = legal; ma
 abbrev Sooner : Event → Event → Type 0
 Sooner e f = IsSooner e.stamp e.stream.0 f.stamp f.stream.0
 
-abbrev either : {A B : Type 0} → Option A → Option B → Option (A ⊎ B)
-either (Some a) o = Some (inl a)
-either None (Some b) = Some (inr b)
-either None None = None
+sooner-then : (e f g : Event) → Sooner e f → Sooner f g → Sooner e g
+sooner-then e f g a b = by a b where
+  by : Sooner e f → Sooner f g → Sooner e g
+  by (inl l) (inl m) = let k : e.stamp < f.stamp = l in let n : f.stamp < g.stamp = m in inl (omega arith)
+  by (inl l) (inr m) = let k : e.stamp < f.stamp = l in let n : f.stamp ≡ g.stamp = m.0 in inl (omega arith)
+  by (inr l) (inl m) = let k : e.stamp ≡ f.stamp = l.0 in let n : f.stamp < g.stamp = m in inl (omega arith)
+  by (inr l) (inr m) = let k : e.stream.0 < f.stream.0 = l.1 in let n : f.stream.0 < g.stream.0 = m.1 in inr (l.0 ∙ m.0, omega arith)
 
-abbrev is_sooner : (e f : Event) → Option (Sooner e f)
-is_sooner e f = either (is_less e.stamp f.stamp) (given (same e.stamp f.stamp) (λ equal. given (is_less e.stream.0 f.stream.0) (λ less. Some (equal, less))))
+-- each comes before the next
+abbrev AllNext : Event → List Event → Type 0
+AllNext e [] = Unit {0}
+AllNext e (f ∷ fs) = Sooner e f × AllNext f fs
 
-abbrev before_all : (e : Event) (es : List Event) → Option (BeforeAll Sooner e es)
-before_all e [] = Some tt
-before_all e (f ∷ fs) = given (is_sooner e f) (λ here. given (before_all e fs) (λ rest. Some (here, rest)))
+before-all : (e f : Event) (fs : List Event) → Sooner e f → AllNext f fs → BeforeAll Sooner e (f ∷ fs)
+before-all e f [] h n = (h, tt)
+before-all e f (g ∷ gs) h n = (h, before-all e g gs (sooner-then e f g h n.0) n.1)
 
-abbrev in_order : (es : List Event) → Option (InOrder Sooner es)
-in_order [] = Some tt
-in_order (e ∷ es) = given (before_all e es) (λ here. given (in_order es) (λ rest. Some (here, rest)))
+in-order : (e : Event) (es : List Event) → AllNext e es → InOrder Sooner (e ∷ es)
+in-order e [] n = (tt, tt)
+in-order e (f ∷ fs) n = (before-all e f fs n.0 n.1, in-order f fs n.1)
+
+abbrev Adjacent : List Event → Type 0
+Adjacent [] = Unit {0}
+Adjacent (e ∷ es) = AllNext e es
+
+all-in-order : (es : List Event) → Adjacent es → InOrder Sooner es
+all-in-order [] n = tt
+all-in-order (e ∷ es) n = in-order e es n
+
+by_stamp : InOrder Sooner journal
+by_stamp =
+    all-in-order journal (
+      inl (omega arith),
+      (inr (refl, omega arith), (inl (omega arith), (inr (refl, omega arith), (inl (omega arith), (inl (omega arith), (inl (omega arith), (inr (refl, omega arith), (inl (omega arith), (inl (omega arith), tt))))))))),
+    )
 
 logged : (s : ℕ) → EachOf (λ d. Among (event_of d) journal) (logs s)
 logged zero = (at journal 0 _ refl, (at journal 1 _ refl, (at journal 3 _ refl, (at journal 7 _ refl, (at journal 9 _ refl, (at journal 10 _ refl, tt))))))
@@ -323,7 +415,7 @@ done = (
 
 sorted : IsJournalOf logs journal
 sorted = record {
-  in_order = holds (in_order journal) refl;
+  in_order = by_stamp;
   all = λ s d m. from-among journal (event_of d) (each (λ f. Among (event_of f) journal) (logs s) d (logged s) (to-among (logs s) d m));
   only = λ e m. each OfDeed journal e done (to-among journal e m);
 }

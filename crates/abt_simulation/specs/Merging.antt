@@ -20,7 +20,7 @@ use Rattle.abt_machine.specs.Gives.{SiteGives}
 use Rattle.abt_machine.specs.Turns.{Steps}
 use Rattle.abt_interleave.specs.Deeds.{Deed, Entry}
 use Rattle.abt_interleave.specs.Logs.{IsSortedAs}
-use Rattle.abt_interleave.specs.Machines.{Machine, TellsPlaces, IsSimulated, Gathered}
+use Rattle.abt_interleave.specs.Machines.{Machine, IsSimulated, Gathered}
 use Rattle.abt_interleave.specs.Stamps.{LeavesNoGap, AllTimed}
 
 -- The machine, as merging sees it.
@@ -55,9 +55,9 @@ machine_of W Z = record {
   Sound = Sound W Z;
 }
 
--- the test tells sites apart, and a step of a stream with the answer of the object that it called is an event
-abbrev pub IsMachine : Parts → List OrderShape → Type 0
-IsMachine W Z = TellsPlaces (machine_of W Z) × (IsValid W → OrdersStored W Z → IsSimulated (machine_of W Z))
+-- a step of a stream, with the answer of the object that it called, is an event
+abbrev pub StepsAreEvents : Parts → List OrderShape → Type 0
+StepsAreEvents W Z = IsValid W → OrdersStored W Z → IsSimulated (machine_of W Z)
 
 -- Logs and histories.
 

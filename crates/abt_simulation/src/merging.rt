@@ -3,11 +3,13 @@
 ghost use Rattle.std.specs.Prelude.{List};
 ghost use Rattle.abt_machine.specs.declared.operations.OrderShape.{OrderShape};
 ghost use Rattle.abt_machine.specs.declared.workload.Parts.{Parts};
-ghost use Rattle.abt_simulation.specs.Merging.{IsMachine, MergedIsLamport, MergedIsStamped, Merging};
+ghost use Rattle.abt_interleave.specs.Machines.{TellsPlaces};
+ghost use Rattle.abt_simulation.specs.Merging.{MergedIsLamport, MergedIsStamped, Merging, StepsAreEvents, machine_of};
 
-/// The machine has streams and objects as merging wants them.
+/// The machine is one of streams and objects, as merging wants it.
 pub fn is_machine()
-    ensures { (W : Parts) (Z : List OrderShape) → IsMachine W Z }
+    ensures sites_apart { (W : Parts) (Z : List OrderShape) → TellsPlaces (machine_of W Z) }
+    ensures steps { (W : Parts) (Z : List OrderShape) → StepsAreEvents W Z }
 {}
 
 /// The events of all logs, sorted by stamp and then by stream, are a run.

@@ -1,6 +1,9 @@
--- The machine has streams and objects as merging wants them.
+-- The machine is one of streams and objects, as merging wants it.
 use Rattle.abt_simulation.proofs.Merged.{tells-sites, is-simulated}
 use Rattle.abt_simulation.proofs.merging.is_machine.Goals as goal
 
-pub returns : goal.returns
-returns c = λ W Z. (tells-sites W Z, is-simulated W Z)
+pub returns-clause-sites_apart : goal.returns-clause-sites_apart
+returns-clause-sites_apart c = tells-sites
+
+pub returns-clause-steps : goal.returns-clause-steps
+returns-clause-steps c = is-simulated
