@@ -1,4 +1,5 @@
 pub mod Acting
+pub mod BarrierMeeting
 pub mod BarrierRows
 pub mod CalledSites
 pub mod ConditionLists
@@ -6,12 +7,15 @@ pub mod ConditionRows
 pub mod Conditions
 pub mod DeskEvents
 pub mod DeskRows
+pub mod Events
 pub mod EventualRows
 pub mod Filters
 pub mod FrameEvents
 pub mod FutureRows
 pub mod Lasts
 pub mod LinesAfter
+pub mod Merged
+pub mod MergedStamps
 pub mod MonitorRows
 pub mod MonitorShapes
 pub mod ObjectShapes
@@ -27,3 +31,4 @@ pub mod Pushes
 pub mod Rows
 pub mod Shapes
 pub mod Simulated
+pub mod StepEvents
