@@ -97,7 +97,6 @@ module _ (M : Machine) (parts : ℕ → M.Part) (objects : M.Place → M.Object)
   timed-successor : (s clock : ℕ) (d : DeedOf M) (heard : Option (Heard M.Place M.Act M.Answer)) → d.heard ≡ heard → Among d (logs s) → IsClock s clock → IsTimed histories clock d heard → IsSuccessor d
   timed-successor s clock d None q m is timed = after-clock s clock d m is timed
   timed-successor s clock d (Some h) q m is timed =
-      let last : ℕ = last_stamp (entry_stamps timed.0) in
       let rule : d.stamp ≡ suc (max clock (last_stamp (entry_stamps timed.0))) = timed.3 in
       elim (cases_lt clock (last_stamp (entry_stamps timed.0))) [
         | inl l ↦ elim (last-among (λ (e : EntryOf M). e.stamp) 0 timed.0) [

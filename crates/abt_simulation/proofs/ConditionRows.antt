@@ -1,9 +1,7 @@
 -- The rows of operations on conditions. Unit u, in the hand of stream s, makes the step.
 use Rattle.std.proofs.Common.{◌≡◌, ◌≢◌, ℕ, suc, ◌+◌, List, [], ◌∷◌, ◌++◌, length, map, slice_get, set, Option, Some, None, refl, sym, ◌∙◌, ap, ap₂, subst, append_assoc}
-use Rattle.std.specs.Prelude.{filter}
 use Rattle.std.proofs.lemmas.List.{append-nil}
 use Rattle.abt_machine.specs.declared.events.Code.TheVariants as code
-use Rattle.abt_machine.specs.declared.events.Place.{Place}
 use Rattle.abt_machine.specs.declared.operations.Op.{Op}
 use Rattle.abt_machine.specs.declared.operations.OrderShape.{OrderShape}
 use Rattle.abt_machine.specs.declared.operations.Thing.TheVariants as thing
@@ -14,10 +12,10 @@ use Rattle.abt_machine.specs.Operations.{IsMutex}
 use Rattle.abt_machine.specs.Queues.{first, first_alone}
 use Rattle.abt_machine.specs.State.{State, Mutex}
 use Rattle.abt_machine.specs.Carrying.{advanced}
-use Rattle.abt_machine.specs.Lines.{Waiting, ticket_in, standing, tray_end}
+use Rattle.abt_machine.specs.Lines.{Waiting, ticket_in, standing}
 use Rattle.abt_machine.specs.Maps.{put_at}
 use Rattle.abt_machine.specs.Codes.{code_of, unless, owned_by}
-use Rattle.abt_machine.specs.Changes.{Change, no_change, changed, to_tray, waiting_moves, goes_on}
+use Rattle.abt_machine.specs.Changes.{Change, no_change, changed, to_tray, waiting_moves}
 use Rattle.abt_machine.specs.Steps.{op_row, owned, releases, queues, passes}
 use Rattle.abt_machine.specs.Values.{Owned, owned_at, MonitorValue, monitor_value, waiters_at, conditions_of, part_of, MonitorIs}
 use Rattle.abt_machine.specs.Acts.{moved}
@@ -37,10 +35,8 @@ use Rattle.abt_laws.proofs.Places.{place_in, same-self}
 use Rattle.abt_laws.proofs.SoundSteps.{waiting-below}
 use Rattle.abt_laws.proofs.Standing.{StandsIn, each-stands}
 use Rattle.abt_simulation.proofs.Acting.{IsActing}
-use Rattle.abt_simulation.proofs.LinesAfter.{stays, line-left, line-stays}
-use Rattle.abt_simulation.proofs.OwnedLines.{owned-same, carried-stays}
 use Rattle.abt_simulation.proofs.OwnParts.{IsOff, off-object, hand-elsewhere, hand-only, away-first, away-other, standing-distinct, distinct-first, moving}
-use Rattle.abt_simulation.proofs.Shapes.{none-to_tray, others, owned-others, others-stay, goes-part, blocks-part, line-joined, line-same}
+use Rattle.abt_simulation.proofs.Shapes.{none-to_tray, others, owned-others, blocks-part, line-joined, line-first_woken, line-same}
 use Rattle.abt_simulation.proofs.Conditions.{conditions-declared}
 use Rattle.abt_simulation.proofs.ConditionLists.{conditions-distinct, get-map, map-changed, condition-at}
 use Rattle.abt_simulation.proofs.Rows.{ValueDone, Row, ValueRow, row-by_value, mutex-at, refuses}
@@ -123,19 +119,8 @@ module _ (W : Parts) (Z : List OrderShape) (S : State) (s u : ℕ) (acts : IsAct
 
   released-mutex : waiters_at W (changed S (releases W S s u x m)) m ≡ rest (waiters_at W S m)
   released-mutex =
-      let T : State = changed S (releases W S s u x m) in
-      let pl : Place = place_in (Waiting x) (S.object_next x) in
-      let out : ticket_in (Waiting m) (S.place u) ≡ None = hand-only W Z S s u acts (Waiting m) (hand-elsewhere s (Waiting m) tt) in
-      ap (map (owned_at T))
-      (line-left (length W.units) (Waiting m) (put_at S.place u (place_in (Waiting x) (S.object_next x))) (to_tray W S s (first_alone (standing W S (Waiting m)))) (none-to_tray W S s (Waiting m) (first_alone (standing W S (Waiting m))) tt)
-      ∙ (ap (filter (stays (to_tray W S s (first_alone (standing W S (Waiting m))))))
-      (line-stays (length W.units) (Waiting m) S.place ((u, place_in (Waiting x) (S.object_next x)) ∷ []) (waits-elsewhere m x (S.object_next x) (λ e. apart (sym e)), tt) (out, tt))
-      ∙ others-stay s (tray_end W S s) (standing W S (Waiting m)) (standing-distinct W S (Waiting m))))
-      ∙ (owned-same S T (others (standing W S (Waiting m))) (each-other (λ v. T.carried v ≡ S.carried v) (standing W S (Waiting m)) (carried-stays W S (releases W S s u x m) (Waiting m) (out, tt)))
-      ∙ owned-others S (standing W S (Waiting m))) where
-        each-other : (P : ℕ → Type 0) (us : List ℕ) → EachOf P us → EachOf P (others us)
-        each-other P [] a = tt
-        each-other P (v ∷ vs) a = a.1
+      line-first_woken W Z S s u acts (Waiting m) tt ((u, place_in (Waiting x) (S.object_next x)) ∷ []) (advanced (S.carried u)) rest_of
+      (waits-elsewhere m x (S.object_next x) (λ e. apart (sym e)), tt) (hand-only W Z S s u acts (Waiting m) (hand-elsewhere s (Waiting m) tt), tt)
 
   released-others : (y : ℕ) → y ≢ m → y ≢ x → waiters_at W (changed S (releases W S s u x m)) y ≡ waiters_at W S y
   released-others y off other =
@@ -161,20 +146,7 @@ module _ (W : Parts) (Z : List OrderShape) (S : State) (s u : ℕ) (acts : IsAct
   -- A signal or a broadcast: of those that wait at the condition, these go to the mutex and the others stay.
 
   module _ (a : Op) (vs left : List ℕ) (split : standing W S (Waiting x) ≡ vs ++ left) (ok : code_of W S s u a ≡ code.Ok) (row : op_row W S s u a ≡ passes W S s u m (S.mutex m).owner vs) where
-    -- nobody goes
-    nobody : (new : MonitorValue) → vs ≡ [] → op_row W S s u a ≡ goes_on S u → new ≡ all_admitted [] (with_condition k (map (owned_at S) left) (value S)) → ValueDone W S s u a value (keeps (moved (owned_at S u)) []) new
-    nobody new none goes same =
-        let here : waiters_at W S x ≡ map (owned_at S) left = ap (map (owned_at S)) (split ∙ ap (λ us. us ++ left) none) in
-        goes-through W Z S s u acts a value (keeps (moved (owned_at S u)) []) new (goes_on S u) refl ok goes (goes-part W Z S s u acts (advanced (S.carried u)) no_change)
-        ((λ i. record {
-          owner = (S.mutex m).owner;
-          number = (S.mutex m).number;
-          waiters = line-same W Z S s u acts (Waiting m) tt [] (advanced (S.carried u)) no_change tt tt i;
-          conds = one-changed (changed S (goes_on S u)) (λ y off other. line-same W Z S s u acts (Waiting y) tt [] (advanced (S.carried u)) no_change tt tt) (map (owned_at S) left)
-              (line-same W Z S s u acts (Waiting x) tt [] (advanced (S.carried u)) no_change tt tt ∙ here) i;
-        }) ∙ sym same)
-
-    -- some go: these are woken, and those wait at the mutex
+    -- these are woken, and those wait at the mutex
     some : (us ws : List ℕ) (c : Change) (mutex : Mutex) (new : MonitorValue) → vs ≡ us ++ ws → op_row W S s u a ≡ moving (waiting_moves m (S.object_next m) ws ++ to_tray W S s us) ((u, advanced (S.carried u)) ∷ []) c →
         (changed S c).mutex m ≡ mutex → new ≡ record (with_condition k (map (owned_at S) left) (value S)) { owner = mutex.owner; number = mutex.number; waiters = waiters_at W S m ++ map (owned_at S) ws } →
         ValueDone W S s u a value (keeps (moved (owned_at S u)) (map (owned_at S) us)) new
@@ -190,10 +162,14 @@ module _ (W : Parts) (Z : List OrderShape) (S : State) (s u : ℕ) (acts : IsAct
           conds = one-changed (changed S d) (passing-others W Z S s u acts x m apart us ws left parts c) (map (owned_at S) left) (passing-left W Z S s u acts x m apart us ws left parts c) i;
         }) ∙ sym same)
 
+    -- nobody goes
+    nobody : with_condition k (map (owned_at S) left) (value S) ≡ record (with_condition k (map (owned_at S) left) (value S)) { owner = (S.mutex m).owner; number = (S.mutex m).number; waiters = waiters_at W S m ++ [] }
+    nobody = λ i. record (with_condition k (map (owned_at S) left) (value S)) { waiters = sym (append-nil (waiters_at W S m)) i }
+
     goes : (o : Option ℕ) (ns : List ℕ) (new : MonitorValue) → (S.mutex m).owner ≡ o → vs ≡ ns → new ≡ all_admitted (map (owned_at S) ns) (with_condition k (map (owned_at S) left) (value S)) →
         ValueDone W S s u a value (keeps (moved (owned_at S u)) (map (owned_at S) (woken_by o ns))) new
-    goes None [] new free are same = nobody new are (row ∙ ap₂ (passes W S s u m) free are) same
-    goes (Some v) [] new free are same = nobody new are (row ∙ ap₂ (passes W S s u m) free are) same
+    goes None [] new free are same = some [] [] no_change (S.mutex m) new are (row ∙ ap₂ (passes W S s u m) free are) refl (same ∙ nobody)
+    goes (Some v) [] new held are same = some [] [] no_change (S.mutex m) new are (row ∙ ap₂ (passes W S s u m) held are) refl (same ∙ nobody)
     goes (Some v) (w ∷ ws) new held are same =
         some [] (w ∷ ws) (record no_change { object_next = (m, S.object_next m + length (w ∷ ws)) ∷ [] }) (S.mutex m) new are
         (row ∙ (ap₂ (passes W S s u m) held are ∙ (λ i. record (queues S u m (w ∷ ws)) { moves = sym (append-nil (waiting_moves m (S.object_next m) (w ∷ ws))) i })))

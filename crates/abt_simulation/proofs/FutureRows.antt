@@ -55,7 +55,6 @@ module _ (W : Parts) (Z : List OrderShape) (S : State) (s u : ℕ) (acts : IsAct
 
   await : ValueRow W S s u (op.FuWait x) value FutureGives (act.Await (moved (owned_at S u)))
   await (act.Given b) new gives =
-      let v : ℕ = (S.future x.0).value in
       goes-through W Z S s u acts (op.FuWait x) value (keeps b []) new (goes_with u (with_acc (S.future x.0).value (S.carried u))) refl refl
       (ap (awaits S u x.0) (cond-true (is_full W S x.0) (Some (S.future x.0).value) None (full-is ∙ gives.0)))
       (goes-part W Z S s u acts (advanced (with_acc (S.future x.0).value (S.carried u))) no_change ∙ ap (λ o. stepped (part_of W S s) (keeps o [])) (sym gives.1))
@@ -110,7 +109,6 @@ module _ (W : Parts) (Z : List OrderShape) (S : State) (s u : ℕ) (acts : IsAct
 
   reset : ValueRow W S s u (op.FuReset x) value FutureGives act.Reset
   reset act.Rested new gives =
-      let none : Future = record { filled = 0; value = 0 } in
       let d : Change = record no_change { futures = (x.0, record { filled = 0; value = 0 }) ∷ [] } in
       goes-through W Z S s u acts (op.FuReset x) value (keeps (moved (owned_at S u)) []) new (moving [] ((u, advanced (S.carried u)) ∷ []) d) refl refl refl
       (goes-part W Z S s u acts (advanced (S.carried u)) d)

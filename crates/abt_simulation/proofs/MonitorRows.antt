@@ -84,8 +84,6 @@ module _ (W : Parts) (Z : List OrderShape) (S : State) (s u : ℕ) (acts : IsAct
   hands : (woken : List Owned) (new : MonitorValue) → (S.mutex x.0).owner ≡ Some u → map (owned_at S) (first_alone (standing W S (Waiting x.0))) ≡ woken → new ≡ handed_over (value S) →
       ValueDone W S s u (op.Unlock x) value (keeps (moved (owned_at S u)) woken) new
   hands woken new own first-is same =
-      let us : List ℕ = first_alone (standing W S (Waiting x.0)) in
-      let mutex : Mutex = owned (first (standing W S (Waiting x.0))) (S.mutex x.0) in
       let c : Change = record no_change { mutexes = (x.0, owned (first (standing W S (Waiting x.0))) (S.mutex x.0)) ∷ [] } in
       goes-through W Z S s u acts (op.Unlock x) value (keeps (moved (owned_at S u)) woken) new (hands_over W S s u x.0) refl (own-mutex own) refl
       (wakes-part W Z S s u acts (first_alone (standing W S (Waiting x.0))) (advanced (S.carried u)) c (distinct-first (standing W S (Waiting x.0)) (standing-distinct W S (Waiting x.0))) (away-first W S s (Waiting x.0) tt)
@@ -93,7 +91,7 @@ module _ (W : Parts) (Z : List OrderShape) (S : State) (s u : ℕ) (acts : IsAct
       ((λ i. record {
         owner = (ap (λ (k : Mutex). k.owner) (put_at-same S.mutex x.0 (owned (first (standing W S (Waiting x.0))) (S.mutex x.0))) ∙ first-number S (standing W S (Waiting x.0))) i;
         number = ap (λ (k : Mutex). k.number) (put_at-same S.mutex x.0 (owned (first (standing W S (Waiting x.0))) (S.mutex x.0))) i;
-        waiters = line-first_woken W Z S s u acts (Waiting x.0) tt (advanced (S.carried u)) c i;
+        waiters = line-first_woken W Z S s u acts (Waiting x.0) tt [] (advanced (S.carried u)) c tt tt i;
         conds = conditions-stay W Z S s u acts x.0 is (to_tray W S s (first_alone (standing W S (Waiting x.0)))) (advanced (S.carried u)) c
             (λ y ne. (none-to_tray W S s (Waiting y) (first_alone (standing W S (Waiting x.0))) tt, first-from W Z S s u acts x.0 is y ne)) i;
       }) ∙ sym same)
@@ -114,7 +112,6 @@ module _ (W : Parts) (Z : List OrderShape) (S : State) (s u : ℕ) (acts : IsAct
 
   store : ValueRow W S s u (op.Store x) value MonitorGives (act.Store u (S.carried u).acc)
   store (act.Coded code.Ok) new gives =
-      let mutex : Mutex = record (S.mutex x.0) { number = (S.carried u).acc } in
       goes-through W Z S s u acts (op.Store x) value (keeps (moved (owned_at S u)) []) new (holding W Z S s u acts x.0 is (advanced (S.carried u)) (record (S.mutex x.0) { number = (S.carried u).acc })) refl (own-mutex gives.0) refl
       (goes-part W Z S s u acts (advanced (S.carried u)) (record no_change { mutexes = (x.0, record (S.mutex x.0) { number = (S.carried u).acc }) ∷ [] }))
       (holding-value W Z S s u acts x.0 is (advanced (S.carried u)) (record (S.mutex x.0) { number = (S.carried u).acc }) ∙ sym gives.1)

@@ -6,7 +6,7 @@ use Rattle.abt_machine.specs.declared.events.Place.TheVariants as place
 use Rattle.abt_machine.specs.declared.operations.OrderShape.{OrderShape}
 use Rattle.abt_machine.specs.declared.workload.Parts.{Parts}
 use Rattle.abt_machine.specs.Numbers.{stream_no}
-use Rattle.abt_machine.specs.Maps.{put_at}
+use Rattle.abt_machine.specs.Maps.{put_at, put_all}
 use Rattle.abt_machine.specs.Queues.{first_alone}
 use Rattle.abt_machine.specs.State.{State, Carried}
 use Rattle.abt_machine.specs.Lines.{Line, ticket_in, standing, tray_end}
@@ -22,7 +22,7 @@ use Rattle.abt_laws.proofs.Arrivals.{IsBelow}
 use Rattle.abt_laws.proofs.LineMoves.{tray_moves-places, tray_moves-key}
 use Rattle.abt_simulation.proofs.Acting.{IsActing}
 use Rattle.abt_simulation.proofs.Pushes.{IsDistinct}
-use Rattle.abt_simulation.proofs.LinesAfter.{all_but-first, stays, NoneTo, NoneFrom, line-left}
+use Rattle.abt_simulation.proofs.LinesAfter.{all_but-first, line_at, stays, NoneTo, NoneFrom, line-left, line-stays, put_all-append}
 use Rattle.abt_simulation.proofs.OwnedLines.{owned-same, carried-stays, owned-stays, owned-emptied, owned-joined}
 use Rattle.abt_simulation.proofs.OwnParts.{IsObjects, IsOff, IsAway, hand-elsewhere, tray-elsewhere, standing-distinct, moving, part-keeps, part-empties, away-other, away-declared, away-loose, hand-only}
 
@@ -103,13 +103,16 @@ module _ (W : Parts) (Z : List OrderShape) (S : State) (s u : ℕ) (acts : IsAct
         owned-emptied W S (moving (to_tray W S s (standing W S l)) cs c) l (none-to_tray W S s l (standing W S l) objects)
         (each-among (λ v. KeyOf v (to_tray W S s (standing W S l))) (standing W S l) (λ v m. tray_moves-key s (tray_end W S s) (standing W S l) v m))
 
-    -- the first of the line is woken
-    pub line-first_woken : (k : Carried) (c : Change) → owned_in W (changed S (moving (to_tray W S s (first_alone (standing W S l))) ((u, k) ∷ []) c)) l ≡ rest (owned_in W S l)
-    line-first_woken k c =
-        let d : Change = moving (to_tray W S s (first_alone (standing W S l))) ((u, k) ∷ []) c in
+    -- the first of the line is woken, and before that nobody of the line moves
+    pub line-first_woken : (pre : List (ℕ × Place)) (k : Carried) (c : Change) → NoneTo l pre → NoneFrom l S.place pre →
+        owned_in W (changed S (moving (pre ++ to_tray W S s (first_alone (standing W S l))) ((u, k) ∷ []) c)) l ≡ rest (owned_in W S l)
+    line-first_woken pre k c to from =
+        let d : Change = moving (pre ++ to_tray W S s (first_alone (standing W S l))) ((u, k) ∷ []) c in
         ap (map (owned_at (changed S d)))
-        (line-left (length W.units) l S.place (to_tray W S s (first_alone (standing W S l))) (none-to_tray W S s l (first_alone (standing W S l)) objects)
-        ∙ others-stay s (tray_end W S s) (standing W S l) (standing-distinct W S l))
+        (ap (line_at (length W.units) l) (put_all-append S.place pre (to_tray W S s (first_alone (standing W S l))))
+        ∙ (line-left (length W.units) l (put_all S.place pre) (to_tray W S s (first_alone (standing W S l))) (none-to_tray W S s l (first_alone (standing W S l)) objects)
+        ∙ (ap (filter (stays (to_tray W S s (first_alone (standing W S l))))) (line-stays (length W.units) l S.place pre to from)
+        ∙ others-stay s (tray_end W S s) (standing W S l) (standing-distinct W S l))))
         ∙ (owned-same S (changed S d) (others (standing W S l)) (each-other _ (standing W S l) (carried-stays W S d l (not-in, tt))) ∙ owned-others S (standing W S l)) where
           each-other : (P : ℕ → Type 0) (us : List ℕ) → EachOf P us → EachOf P (others us)
           each-other P [] a = tt
