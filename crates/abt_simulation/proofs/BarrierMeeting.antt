@@ -75,19 +75,23 @@ program u is starts = record {
   by zero o e = subst (IsDeclared meeting) (some-injective e) (2, refl)
   by (suc k) o e = absurd (none≢some e)
 
+-- its one object is a barrier of two
 thing : (x : ℕ) (t : Thing) → thing_at meeting x ≡ Some t → IsThing meeting x t
 thing zero t e = subst (IsThing meeting 0) (some-injective e) (omega arith, omega arith)
 thing (suc x) t e = absurd (none≢some e)
 
+-- no scheduler has two places
 two_places : AllPairs (λ (a b : ℕ). a ≢ b) (0 ∷ 1 ∷ [])
 two_places =
     AllPairs-cons (λ a b. a ≢ b) 0 (1 ∷ []) (All-cons (λ b. 0 ≢ b) 1 [] (λ e. absurd (omega arith)) (All-nil (λ b. 0 ≢ b)))
     (AllPairs-cons (λ a b. a ≢ b) 1 [] (All-nil (λ b. 1 ≢ b)) (λ i j d l m. absurd (omega arith)))
 
+-- its text is short
 short : length (canonical_text meeting) ≤ 4194304
 unfolding digits
 short = leb-true (length (canonical_text meeting)) 4194304 refl
 
+-- it is a workload
 valid : IsValid meeting
 valid = record {
   some_stream = omega arith;
@@ -111,6 +115,7 @@ valid = record {
   few_bytes = short;
 }
 
+-- no order is asked for
 stored : OrdersStored meeting no_orders
 stored zero k e = absurd cc
 stored (suc zero) k e = absurd cc
@@ -124,6 +129,7 @@ at [] k x e = absurd (none≢some e)
 at (y ∷ ys) zero x e = inl (some-injective (sym e))
 at (y ∷ ys) (suc k) x e = inr (at ys k x e)
 
+-- what holds of each item holds of each that is among them
 each : {A : Type 0} (P : A → Type 0) (xs : List A) (x : A) → EachOf P xs → Among x xs → P x
 each P [] x a m = absurd m
 each P (y ∷ ys) x a m = elim m [ inl e ↦ subst P (sym e) a.0 | inr later ↦ each P ys x a.1 later ]
@@ -135,9 +141,11 @@ abbrev HasEntry : StreamDeed → Option Heard → Type 0
 HasEntry d None = Unit {0}
 HasEntry d (Some h) = Among (entry d.stamp d.stream h.1 h.2) (histories h.0)
 
+-- an entry at x is a deed of its stream
 abbrev HasDeed : Site → SiteEntry → Type 0
 HasDeed x e = (d : StreamDeed) × Among d (logs e.stream) × Leaves d x e
 
+-- a call that is in the history of its object is the entry that the deed leaves
 entry-is : (d : StreamDeed) (heard : Option Heard) (x : Site) (e : SiteEntry) → HasEntry d heard → d.stamp ≡ e.stamp → d.stream ≡ e.stream → heard ≡ Some (x, e.act, e.answer) → Among e (histories x)
 entry-is d None x e has t s h = absurd (none≢some h)
 entry-is d (Some h) x e has t s q =
@@ -146,12 +154,14 @@ entry-is d (Some h) x e has t s q =
     (subst (λ n. Among (entry n e.stream h.1 h.2) (histories h.0)) t (subst (λ n. Among (entry d.stamp n h.1 h.2) (histories h.0)) s has))
 
 module _ (entries : (s : ℕ) → EachOf (λ d. HasEntry d d.heard) (logs s)) (deeds : (x : Site) → EachOf (HasDeed x) (histories x)) where
+  -- so they fit each other
   matched-by : Matched logs histories
   matched-by = record {
     has_entry = λ d x e m leaves. from-among (histories x) e (entry-is d d.heard x e (each (λ f. HasEntry f f.heard) (logs d.stream) d (entries d.stream) (to-among (logs d.stream) d m)) leaves.0 leaves.1 leaves.2);
     has_deed = λ x e m. let has : HasDeed x e = each (HasDeed x) (histories x) e (deeds x) (to-among (histories x) e m) in (has.0, from-among (logs e.stream) has.0 has.1, has.2);
   }
 
+-- each call is in the history of its object
 entries : (s : ℕ) → EachOf (λ d. HasEntry d d.heard) (logs s)
 entries zero = (
   at (pool_history 0) 0 _ refl,
@@ -164,19 +174,23 @@ entries (suc (suc s)) = tt
 left : (s k : ℕ) (d : StreamDeed) (x : Site) (e : SiteEntry) → e.stream ≡ s → slice_get (logs s) k ≡ Some d → Leaves d x e → HasDeed x e
 left s k d x e same is leaves = (d, subst (λ n. Among d (logs n)) (sym same) (at (logs s) k d is), leaves)
 
+-- each entry at the pool is a deed
 pool-deeds : (p : ℕ) → EachOf (HasDeed (site.Pool (record { 0 = p }))) (pool_history p)
 pool-deeds zero = (left 0 0 _ _ _ refl refl (refl, refl, refl), (left 1 0 _ _ _ refl refl (refl, refl, refl), (left 1 3 _ _ _ refl refl (refl, refl, refl), (left 0 3 _ _ _ refl refl (refl, refl, refl), tt))))
 pool-deeds (suc p) = tt
 
+-- each entry at a desk is one
 desk-deeds : (u : ℕ) → EachOf (HasDeed (site.Desk (record { 0 = u }))) (desk_history u)
 desk-deeds zero = (left 0 1 _ _ _ refl refl (refl, refl, refl), (left 0 4 _ _ _ refl refl (refl, refl, refl), (left 0 5 _ _ _ refl refl (refl, refl, refl), tt)))
 desk-deeds (suc zero) = (left 1 1 _ _ _ refl refl (refl, refl, refl), (left 1 4 _ _ _ refl refl (refl, refl, refl), tt))
 desk-deeds (suc (suc u)) = tt
 
+-- each entry at the barrier is one
 barrier-deeds : (x : ℕ) → EachOf (HasDeed (site.Barrier (record { 0 = x }))) (barrier_history x)
 barrier-deeds zero = (left 0 2 _ _ _ refl refl (refl, refl, refl), (left 1 2 _ _ _ refl refl (refl, refl, refl), tt))
 barrier-deeds (suc x) = tt
 
+-- each entry is a deed
 deeds : (x : Site) → EachOf (HasDeed x) (histories x)
 deeds (site.Pool p) = pool-deeds p.0
 deeds (site.Desk u) = desk-deeds u.0
@@ -191,15 +205,19 @@ deeds (site.Barrier x) = barrier-deeds x.0
 abbrev taken : Held → Owned → Held
 taken old o = record old { own = round_taken old.own; next = Some o }
 
+-- the unit in hand waits
 abbrev waiting : Held → Held
 waiting old = stepped old (empties [])
 
+-- what a stream has at the start
 abbrev begins : ℕ → Held
 begins s = part_of meeting (start meeting) s
 
+-- unit o was taken, and looked at
 abbrev in_hand : ℕ → Owned → Held → Held
 in_hand s o old = looked (taken old o) o false None
 
+-- stream 0 goes by its log
 course-0 : Course (Steps meeting no_orders) 0 (begins 0) (logs 0) (parts 0)
 course-0 = (
   (omega arith, (omega arith, (omega arith, (omega arith, (omega arith, (omega arith, tt)))))),
@@ -235,6 +253,7 @@ course-0 = (
 abbrev through : Held → Held
 through old = stepped old (keeps (moved (fresh 1)) (moved (fresh 0) ∷ []))
 
+-- stream 1 goes by its log
 course-1 : Course (Steps meeting no_orders) 1 (begins 1) (logs 1) (parts 1)
 course-1 = (
   (omega arith, (omega arith, (omega arith, (omega arith, (omega arith, tt))))),
@@ -261,11 +280,13 @@ course-1 = (
   ),
 )
 
+-- each stream goes by its log
 course : (s : ℕ) → s < 2 → Course (Steps meeting no_orders) s (begins s) (logs s) (parts s)
 course zero l = course-0
 course (suc zero) l = course-1
 course (suc (suc s)) l = absurd (omega arith)
 
+-- no other stream does anything
 undeclared : (s : ℕ) → 2 ≤ s → logs s ≡ []
 undeclared zero l = absurd (omega arith)
 undeclared (suc zero) l = absurd (omega arith)
@@ -273,12 +294,15 @@ undeclared (suc (suc s)) l = refl
 
 -- The histories of the objects.
 
+-- an object at the start
 abbrev first_object : Site → Object
 first_object x = object_of meeting (start meeting) x
 
+-- the pool with these units
 abbrev pool_of_units : List Owned → PoolValue
 pool_of_units os = record { kind = kind.Fifo; units = os }
 
+-- the history of the pool is legal
 legal-pool : (p : ℕ) → Legal SiteGives (first_object (site.Pool (record { 0 = p }))) (pool_history p) (pool_object p)
 legal-pool zero = (
   (omega arith, (omega arith, (omega arith, (omega arith, tt)))),
@@ -298,9 +322,11 @@ legal-pool (suc p) = (tt, refl)
 abbrev desk_out : ℕ → DeskValue
 desk_out u = record { number = u; sched = false; phase = Out; joiners = []; cancel = false; migrate = None; migratable = true }
 
+-- the desk of unit u, which has ended
 abbrev desk_ended : ℕ → DeskValue
 desk_ended u = record { number = u; sched = false; phase = Ended (moved (fresh u)) cause.Done; joiners = []; cancel = false; migrate = None; migratable = true }
 
+-- the histories of the desks are legal
 legal-desk : (u : ℕ) → Legal SiteGives (first_object (site.Desk (record { 0 = u }))) (desk_history u) (desk_object u)
 legal-desk zero = (
   (omega arith, (omega arith, (omega arith, tt))),
@@ -313,9 +339,11 @@ legal-desk zero = (
 legal-desk (suc zero) = ((omega arith, (omega arith, tt)), (DeskIs (desk_out 1), (desk_out 1, refl, (refl, refl, refl)), (DeskIs (desk_ended 1), (desk_ended 1, refl, (refl, refl)), refl)))
 legal-desk (suc (suc u)) = (tt, refl)
 
+-- the barrier with these waiters
 abbrev barrier_of : List Owned → BarrierValue
 barrier_of os = record { size = 2; waiters = os }
 
+-- the history of the barrier is legal
 legal-barrier : (x : ℕ) → Legal SiteGives (first_object (site.Barrier (record { 0 = x }))) (barrier_history x) (barrier_object x)
 legal-barrier zero = (
   (omega arith, (omega arith, tt)),
@@ -323,6 +351,7 @@ legal-barrier zero = (
 )
 legal-barrier (suc x) = (tt, refl)
 
+-- all histories are legal
 legal : (x : Site) → Legal SiteGives (first_object x) (histories x) (objects x)
 legal (site.Pool p) = legal-pool p.0
 legal (site.Desk u) = legal-desk u.0
@@ -331,14 +360,17 @@ legal (site.Eventual x) = (tt, refl)
 legal (site.Future x) = (tt, refl)
 legal (site.Barrier x) = legal-barrier x.0
 
+-- so logs and histories are gathered from the start
 gathered : Gathered (machine_of meeting no_orders) (part_of meeting (start meeting)) (object_of meeting (start meeting)) logs histories parts objects
 gathered = record { courses = course; undeclared = undeclared; legal = legal; matched = matched-by entries deeds }
 
 -- The journal.
 
+-- first by stamp, then by stream
 abbrev Sooner : Event → Event → Type 0
 Sooner e f = IsSooner e.stamp e.stream.0 f.stamp f.stream.0
 
+-- whoever comes before one that comes before another, comes before that
 sooner-then : (e f g : Event) → Sooner e f → Sooner f g → Sooner e g
 sooner-then e f g a b = by a b where
   by : Sooner e f → Sooner f g → Sooner e g
@@ -352,22 +384,27 @@ abbrev AllNext : Event → List Event → Type 0
 AllNext e [] = Unit {0}
 AllNext e (f ∷ fs) = Sooner e f × AllNext f fs
 
+-- then the first comes before all
 before-all : (e f : Event) (fs : List Event) → Sooner e f → AllNext f fs → BeforeAll Sooner e (f ∷ fs)
 before-all e f [] h n = (h, tt)
 before-all e f (g ∷ gs) h n = (h, before-all e g gs (sooner-then e f g h n.0) n.1)
 
+-- and they are in order
 in-order : (e : Event) (es : List Event) → AllNext e es → InOrder Sooner (e ∷ es)
 in-order e [] n = (tt, tt)
 in-order e (f ∷ fs) n = (before-all e f fs n.0 n.1, in-order f fs n.1)
 
+-- of a whole list
 abbrev Adjacent : List Event → Type 0
 Adjacent [] = Unit {0}
 Adjacent (e ∷ es) = AllNext e es
 
+-- such a list is in order
 all-in-order : (es : List Event) → Adjacent es → InOrder Sooner es
 all-in-order [] n = tt
 all-in-order (e ∷ es) n = in-order e es n
 
+-- the journal is in order
 by_stamp : InOrder Sooner journal
 by_stamp =
     all-in-order journal (
@@ -375,17 +412,21 @@ by_stamp =
       (inr (refl, omega arith), (inl (omega arith), (inr (refl, omega arith), (inl (omega arith), (inl (omega arith), (inl (omega arith), (inr (refl, omega arith), (inl (omega arith), (inl (omega arith), tt))))))))),
     )
 
+-- the journal has the event of each deed
 logged : (s : ℕ) → EachOf (λ d. Among (event_of d) journal) (logs s)
 logged zero = (at journal 0 _ refl, (at journal 1 _ refl, (at journal 3 _ refl, (at journal 7 _ refl, (at journal 9 _ refl, (at journal 10 _ refl, tt))))))
 logged (suc zero) = (at journal 2 _ refl, (at journal 4 _ refl, (at journal 5 _ refl, (at journal 6 _ refl, (at journal 8 _ refl, tt)))))
 logged (suc (suc s)) = tt
 
+-- an event is that of a deed in a log
 abbrev OfDeed : Event → Type 0
 OfDeed e = (d : StreamDeed) × Contains (logs d.stream) d × (event_of d ≡ e)
 
+-- the deed at a place of a log
 of-log : (s k : ℕ) (d : StreamDeed) → d.stream ≡ s → slice_get (logs s) k ≡ Some d → OfDeed (event_of d)
 of-log s k d same is = (d, from-among (logs d.stream) d (subst (λ n. Among d (logs n)) (sym same) (at (logs s) k d is)), refl)
 
+-- each event of the journal is one
 done : EachOf OfDeed journal
 done = (
   of-log 0 0 (takes 1 0 (fresh 0)) refl refl,
@@ -413,6 +454,7 @@ done = (
   ),
 )
 
+-- it is the journal of the logs
 sorted : IsJournalOf logs journal
 sorted = record {
   in_order = by_stamp;
@@ -438,6 +480,7 @@ timed (suc zero) = (
 )
 timed (suc (suc s)) = tt
 
+-- the laws hold of the meeting
 pub meeting-merges : MeetingMerges
 meeting-merges =
     let sound : Sound meeting no_orders (start meeting) = start-is-sound meeting no_orders valid stored in

@@ -18,10 +18,12 @@ use Rattle.abt_machine.specs.Plans.{Plan, Does, Calls, denied, plan_of}
 use Rattle.abt_machine.specs.Turns.{Heard, Performs, Steps}
 use Rattle.abt_simulation.specs.Simulation.{site_heard}
 
+-- the site that a plan calls, if it calls one
 abbrev plan_site : Plan → Option Site
 plan_site (Does e) = None
 plan_site (Calls x asked) = Some x
 
+-- a plan that calls only where the stream may reach the pool
 reached-site : (may : Bool) (x : Site) (asked : Act) (o : Owned) → plan_site (if may then Calls x asked else denied o) ≡ (if may then Some x else None)
 reached-site true x asked o = refl
 reached-site false x asked o = refl
@@ -63,6 +65,7 @@ plan-site W s (op.FuReset x) o = refl
 plan-site W s (op.FuTest x) o = refl
 plan-site W s (op.BarWait x) o = refl
 
+-- what is heard comes from the site of the plan
 performs-site : (old : Held) (a : Op) (o : Owned) (plan : Plan) (heard : Option Heard) (c : Code) (new : Held) → Performs old a o plan heard c new → site_heard heard ≡ plan_site plan
 performs-site old a o (Does e) heard c new st = ap site_heard st.0
 performs-site old a o (Calls x asked) heard c new st = ap site_heard st.1

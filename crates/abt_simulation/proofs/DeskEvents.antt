@@ -44,9 +44,11 @@ module _ (W : Parts) (Z : List OrderShape) (S : State) (s : ℕ) (sound : Sound 
   -- End.
 
   module _ (cause : Cause) (acts : IsActing W Z S s o.number) where
+    -- a desk takes back its own unit, where it is in a hand
     takes-own : takes_back (desk_value W S o.number) o ≡ true
     takes-own = ap (λ pl. is_out (phase_at (owned_at S o.number) pl) && o.number == o.number) acts.in_hand ∙ eq-eqb o.number o.number refl
 
+    -- the unit has ended afterwards
     end-place : put_all (put_at S.place o.number (place.Ended cause)) (to_tray W S s (standing W S (Joining o.number))) o.number ≡ place.Ended cause
     end-place =
         put_all-other (put_at S.place o.number (place.Ended cause)) (to_tray W S s (standing W S (Joining o.number))) o.number
@@ -55,12 +57,14 @@ module _ (W : Parts) (Z : List OrderShape) (S : State) (s : ℕ) (sound : Sound 
         k refl)
         ∙ put_at-same S.place o.number (place.Ended cause)
 
+    -- it leaves the hand, and its joiners come to the tray
     end-part : part_of W (after W S s (what.End (unit_no o.number) cause)) s ≡ record (part_of W S s) { hand = None; tray = (part_of W S s).tray ++ owned_in W S (Joining o.number) }
     end-part =
         part-empties W Z S s o.number acts ((o.number, place.Ended cause) ∷ []) (standing W S (Joining o.number)) [] (record no_change { desks = (o.number, without_requests (S.desk o.number)) ∷ [] }) ((inl refl, off-nowhere s (place.Ended cause) refl), tt)
         (standing-distinct W S (Joining o.number)) (away-declared W Z S s o.number acts (standing W S (Joining o.number)) (away-line W S s (Joining o.number) tt)) (away-loose W Z S s o.number acts (standing W S (Joining o.number)) (away-line W S s (Joining o.number) tt)) tt (inl refl)
         ∙ (λ i. record (part_of W S s) { hand = None; next = first (map (owned_at S) (sym (next-standing W Z S s o.number acts) i)); tray = (part_of W S s).tray ++ owned_in W S (Joining o.number) })
 
+    -- its desk has it, and nobody joins it any more
     end-desk : owned_at S o.number ≡ o → desk_value W (after W S s (what.End (unit_no o.number) cause)) o.number ≡ with_ended o cause (desk_value W S o.number)
     end-desk owns =
         let T : State = after W S s (what.End (unit_no o.number) cause) in
@@ -76,6 +80,7 @@ module _ (W : Parts) (Z : List OrderShape) (S : State) (s : ℕ) (sound : Sound 
           migratable = (d i).migratable;
         }
 
+  -- an end, where the desk answers with its joiners
   pub simulate-end : (cause : Cause) (os : List Owned) → due_of W s (part_of W S s) ≡ EndDue cause → first (owned_in W S (InHand s)) ≡ Some o → SiteGives (object_of W S (site.Desk (unit_no o.number))) (act.End o cause) (act.Woke os) object →
       Simulated W Z S s (what.End (unit_no o.number) cause) (Some (site.Desk (unit_no o.number), act.End o cause, act.Woke os)) (record (part_of W S s) { hand = None; tray = (part_of W S s).tray ++ os }) object
   simulate-end cause os is hands gives =
@@ -94,13 +99,16 @@ module _ (W : Parts) (Z : List OrderShape) (S : State) (s : ℕ) (sound : Sound 
 
   -- u in the Next of s, whose hand and tray are empty
   module _ (declared : o.number < length W.units) (at : S.place o.number ≡ place.Next (stream_no s)) (no_hand : IsEmpty (InHand s) S.place) (no_tray : IsEmpty (InTray s) S.place) (owns : owned_at S o.number ≡ o) where
+    -- it alone is in Next
     next-is : standing W S (InNext s) ≡ o.number ∷ []
     next-is = alone-standing W S (InNext s) o.number (λ k v t. sound.one_each (InNext s) k v t) (λ t. refl) declared at
 
+    -- nobody is in Next once it has moved
     next-left : (pl : Place) → ticket_in (InNext s) pl ≡ None → line_at (length W.units) (InNext s) (put_at S.place o.number pl) ≡ []
     next-left pl none =
         line-left (length W.units) (InNext s) S.place ((o.number, pl) ∷ []) (none, tt) ∙ (ap (all_but o.number pl) next-is ∙ all_but-first o.number pl [] ((λ m. m), tt))
 
+    -- it comes to the hand, with a mark
     to-hand : (mark : Mark) (c : Change) → let d : Change = record c { moves = (o.number, place.Hand (stream_no s)) ∷ []; carried = []; streams = (s, marked mark (S.stream s)) ∷ [] } in
         part_of W (changed S d) s ≡ record (part_of W S s) { own = marked mark (S.stream s); hand = Some o; next = None }
     to-hand mark c =
@@ -115,6 +123,7 @@ module _ (W : Parts) (Z : List OrderShape) (S : State) (s : ℕ) (sound : Sound 
           framed = owned-stays W S d (InFrames s) (refl, tt) (ap (ticket_in (InFrames s)) at, tt) tt i;
         }
 
+    -- the part afterwards, by the requests that were found
     look-part : (b : Bool) (m : Option ℕ) → part_of W (changed S (look_row W S s o.number b m)) s ≡ looked (part_of W S s) o b m
     look-part true m = to-hand Asked (record no_change { desks = (o.number, without_requests (S.desk o.number)) ∷ [] })
     look-part false None = to-hand Plain (record no_change { desks = (o.number, without_requests (S.desk o.number)) ∷ [] })
@@ -134,6 +143,7 @@ module _ (W : Parts) (Z : List OrderShape) (S : State) (s : ℕ) (sound : Sound 
     look-phase : (q : Owned) (pl : Place) → phase_at q pl ≡ Out → phase_at q (put_at S.place o.number pl o.number) ≡ phase_at (owned_at S o.number) (S.place o.number)
     look-phase q pl out = ap (phase_at q) (put_at-same S.place o.number pl) ∙ (out ∙ sym (ap (phase_at (owned_at S o.number)) at))
 
+    -- its desk is asked nothing afterwards, wherever the unit went
     look-desk_by : (pl : Place) (c : Change) → let d : Change = record c { moves = (o.number, pl) ∷ []; desks = (o.number, without_requests (S.desk o.number)) ∷ [] } in
         ((q : Owned) → phase_at q pl ≡ Out) → ticket_in (Joining o.number) pl ≡ None → EachOf (λ (m : ℕ × Carried). m.0 ≡ o.number) c.carried → desk_value W (changed S d) o.number ≡ unasked (desk_value W S o.number)
     look-desk_by pl c out none keys =
@@ -150,11 +160,13 @@ module _ (W : Parts) (Z : List OrderShape) (S : State) (s : ℕ) (sound : Sound 
           migratable = (e i).migratable;
         }
 
+    -- so it is for all requests
     look-desk : (b : Bool) (m : Option ℕ) → desk_value W (changed S (look_row W S s o.number b m)) o.number ≡ unasked (desk_value W S o.number)
     look-desk true m = look-desk_by (place.Hand (stream_no s)) (record no_change { streams = (s, marked Asked (S.stream s)) ∷ [] }) (λ q. refl) refl tt
     look-desk false None = look-desk_by (place.Hand (stream_no s)) (record no_change { streams = (s, marked Plain (S.stream s)) ∷ [] }) (λ q. refl) refl tt
     look-desk false (Some p) = look-desk_by (place.Tray (stream_no s) (tray_end W S s)) (record no_change { carried = (o.number, with_home p (S.carried o.number)) ∷ [] }) (λ q. refl) refl (refl, tt)
 
+  -- a look, where the desk answers with its requests
   pub simulate-look : (b : Bool) (m : Option ℕ) → due_of W s (part_of W S s) ≡ LookDue → first (owned_in W S (InNext s)) ≡ Some o → SiteGives (object_of W S (site.Desk (unit_no o.number))) act.Look (act.Asks b m) object →
       Simulated W Z S s (what.Look (unit_no o.number)) (Some (site.Desk (unit_no o.number), act.Look, act.Asks b m)) (looked (part_of W S s) o b m) object
   simulate-look b m is nexts gives =

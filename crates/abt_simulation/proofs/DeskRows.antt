@@ -55,12 +55,15 @@ module _ (W : Parts) (Z : List OrderShape) (S : State) (s u : ℕ) (acts : IsAct
 
   -- Requests: the desk of v becomes d.
 
+  -- u goes on
   asks-own : (v : ℕ) (d : Desk) → part_of W (changed S (asks S u v d)) s ≡ stepped (part_of W S s) (keeps (moved (owned_at S u)) [])
   asks-own v d = goes-part W Z S s u acts (advanced (S.carried u)) (record no_change { desks = (v, d) ∷ [] })
 
+  -- a desk stays where only what u carries changes
   desk-same : (v : ℕ) → desk_value W (changed S (goes_on S u)) v ≡ desk_value W S v
   desk-same v = value-same W Z S s u acts (site.Desk (unit_no v)) DeskIs (λ T. desk_value W T v) DeskGives (advanced (S.carried u)) (desk-at W v)
 
+  -- the desk has the new requests
   asks-desk : (v : ℕ) (d : Desk) → desk_value W (changed S (asks S u v d)) v ≡ record (desk_value W S v) { cancel = d.cancel; migrate = d.migrate; migratable = d.migratable }
   asks-desk v d = λ i. record {
     number = v;
@@ -76,20 +79,24 @@ module _ (W : Parts) (Z : List OrderShape) (S : State) (s u : ℕ) (acts : IsAct
   by-life : (v : ℕ) (b : Bool) (rest : Code) → is_living (desk_value W S v).phase ≡ b → unless (is_alive (S.place v)) code.UnitState rest ≡ unless b code.UnitState rest
   by-life v b rest e = ap (λ t. unless t code.UnitState rest) (sym (living-at (owned_at S v) (S.place v)) ∙ e)
 
+  -- a request to cancel, by the answer
   cancel-value : (v : UnitNo) → ValueRow W S s u (op.Cancel v) (λ T. desk_value W T v.0) DeskGives act.AskCancel
   cancel-value v (act.Coded code.Ok) new gives = record { code = sym (by-life v.0 true code.Ok gives.0); own = asks-own v.0 (record (S.desk v.0) { cancel = true }); called = asks-desk v.0 (record (S.desk v.0) { cancel = true }) ∙ sym gives.1 }
   cancel-value v (act.Coded code.UnitState) new gives = desk-refuses (op.Cancel v) code.UnitState v new tt (sym (by-life v.0 false code.Ok gives.0)) gives.1
   cancel-value v (act.Coded _) new gives = absurd gives
   cancel-value v _ new gives = absurd gives
 
+  -- the row of cancel
   pub cancel-row : (v : UnitNo) → Row W S s u (op.Cancel v) (site.Desk v) act.AskCancel
   cancel-row v = desk-row (op.Cancel v) v act.AskCancel (cancel-value v)
 
   -- a request to migrate to pool p
   module _ (a : Op) (v : UnitNo) (p : ℕ) (is : code_of W S s u a ≡ unless (is_alive (S.place v.0)) code.UnitState (unless (S.desk v.0).migratable code.NotMigratable code.Ok)) (row : op_row W S s u a ≡ asks S u v.0 (record (S.desk v.0) { migrate = Some p })) where
+    -- the code of such a request of a unit that lives
     by-both : (b : Bool) → is_living (desk_value W S v.0).phase ≡ true → (S.desk v.0).migratable ≡ b → code_of W S s u a ≡ unless b code.NotMigratable code.Ok
     by-both b living e = is ∙ (by-life v.0 true (unless (S.desk v.0).migratable code.NotMigratable code.Ok) living ∙ ap (λ t. unless t code.NotMigratable code.Ok) e)
 
+    -- the request, by the answer
     migrates : (b : Answer) (new : DeskValue) → DeskGives (desk_value W S v.0) (act.AskMigrate p) b new → ValueDone W S s u a (λ T. desk_value W T v.0) (to_caller (owned_at S u) b) new
     migrates (act.Coded code.Ok) new gives = record {
       code = sym (by-both true gives.0 gives.1);
@@ -101,21 +108,26 @@ module _ (W : Parts) (Z : List OrderShape) (S : State) (s u : ℕ) (acts : IsAct
     migrates (act.Coded _) new gives = absurd gives
     migrates _ new gives = absurd gives
 
+  -- the row of migrate
   pub migrate-row : (v : UnitNo) (p : PoolNo) → may_put W s p.0 ≡ true → Row W S s u (op.Migrate v p) (site.Desk v) (act.AskMigrate p.0)
   migrate-row v p may = desk-row (op.Migrate v p) v (act.AskMigrate p.0) (migrates (op.Migrate v p) v p.0 (cond-true (may_put W s p.0) _ _ may) refl)
 
+  -- the row of migrateto
   pub migrateto-row : (v : UnitNo) (r : StreamNo) → may_put W s (first_pool W r.0) ≡ true → Row W S s u (op.MigrateTo v r) (site.Desk v) (act.AskMigrate (first_pool W r.0))
   migrateto-row v r may = desk-row (op.MigrateTo v r) v (act.AskMigrate (first_pool W r.0)) (migrates (op.MigrateTo v r) v (first_pool W r.0) (cond-true (may_put W s (first_pool W r.0)) _ _ may) refl)
 
+  -- the code of migratable by whether the unit is a scheduler
   by-body : (v : ℕ) (b : Bool) → is_sched (body_at W v) ≡ b → unless (not (is_sched (body_at W v))) code.NotMigratable code.Ok ≡ unless (not b) code.NotMigratable code.Ok
   by-body v b e = ap (λ t. unless (not t) code.NotMigratable code.Ok) e
 
+  -- whether a unit may migrate, by the answer
   migratable-value : (v : UnitNo) (b : Bool) → ValueRow W S s u (op.Migratable v b) (λ T. desk_value W T v.0) DeskGives (act.SetMigratable b)
   migratable-value v b (act.Coded code.Ok) new gives = record { code = sym (by-body v.0 false gives.0); own = asks-own v.0 (record (S.desk v.0) { migratable = b }); called = asks-desk v.0 (record (S.desk v.0) { migratable = b }) ∙ sym gives.1 }
   migratable-value v b (act.Coded code.NotMigratable) new gives = desk-refuses (op.Migratable v b) code.NotMigratable v new tt (sym (by-body v.0 true gives.0)) gives.1
   migratable-value v b (act.Coded _) new gives = absurd gives
   migratable-value v b _ new gives = absurd gives
 
+  -- the row of migratable
   pub migratable-row : (v : UnitNo) (b : Bool) → Row W S s u (op.Migratable v b) (site.Desk v) (act.SetMigratable b)
   migratable-row v b = desk-row (op.Migratable v b) v (act.SetMigratable b) (migratable-value v b)
 
@@ -129,14 +141,17 @@ module _ (W : Parts) (Z : List OrderShape) (S : State) (s u : ℕ) (acts : IsAct
         | inr x ↦ (λ i. phase_at (owned v (put_at-other S.carried u k v x.0 i)) (x.1 i))
       ]
 
+  -- where v has ended, u goes on
   joins-ended : (v : ℕ) (pl : Place) → is_ended pl ≡ true → joins S u v pl ≡ goes_on S u
   joins-ended v (place.Ended c) e = refl
   joins-ended v _ e = absurd cc
 
+  -- where it has not, u joins it
   joins-waits : (v : ℕ) (pl : Place) → is_ended pl ≡ false → joins S u v pl ≡ record (goes_on S u) { moves = (u, place_in (Joining v) (S.join_next v)) ∷ []; join_next = (v, suc (S.join_next v)) ∷ [] }
   joins-waits v (place.Ended c) e = absurd cc
   joins-waits v _ e = refl
 
+  -- u is the last joiner then
   joins-desk : (v : ℕ) → desk_value W (changed S (record (goes_on S u) { moves = (u, place_in (Joining v) (S.join_next v)) ∷ []; join_next = (v, suc (S.join_next v)) ∷ [] })) v
       ≡ record (desk_value W S v) { joiners = owned_in W S (Joining v) ++ moved (owned_at S u) ∷ [] }
   joins-desk v = λ i. record {
@@ -149,6 +164,7 @@ module _ (W : Parts) (Z : List OrderShape) (S : State) (s u : ℕ) (acts : IsAct
     migratable = (S.desk v).migratable;
   }
 
+  -- a join, by the answer
   join-value : (v : UnitNo) → ValueRow W S s u (op.Join v) (λ T. desk_value W T v.0) DeskGives (act.Join (moved (owned_at S u)))
   join-value v (act.Given b) new gives =
       let row : joins S u v.0 (S.place v.0) ≡ goes_on S u = joins-ended v.0 (S.place v.0) (sym (ended-at (owned_at S v.0) (S.place v.0)) ∙ gives.0) in
@@ -167,6 +183,7 @@ module _ (W : Parts) (Z : List OrderShape) (S : State) (s u : ℕ) (acts : IsAct
       }
   join-value v _ new gives = absurd gives
 
+  -- the row of join
   pub join-row : (v : UnitNo) → Row W S s u (op.Join v) (site.Desk v) (act.Join (moved (owned_at S u)))
   join-row v = desk-row (op.Join v) v (act.Join (moved (owned_at S u))) (join-value v)
 
@@ -174,6 +191,7 @@ module _ (W : Parts) (Z : List OrderShape) (S : State) (s u : ℕ) (acts : IsAct
   takes-own : takes_back (desk_value W S u) (moved (owned_at S u)) ≡ true
   takes-own = ap (λ pl. is_out (phase_at (owned_at S u) pl) && u == u) acts.in_hand ∙ eq-eqb u u refl
 
+  -- the desk has its unit, suspended
   suspends-desk : desk_value W (changed S (op_row W S s u op.Suspend)) u ≡ with_phase (Suspended (moved (owned_at S u))) (desk_value W S u)
   suspends-desk =
       let pl : Place = place.Blocked spot.Suspended 0 in
@@ -188,6 +206,7 @@ module _ (W : Parts) (Z : List OrderShape) (S : State) (s u : ℕ) (acts : IsAct
         migratable = (S.desk u).migratable;
       }
 
+  -- a suspension, by the answer
   suspend-value : ValueRow W S s u op.Suspend (λ T. desk_value W T u) DeskGives (act.Suspend (moved (owned_at S u)))
   suspend-value act.Rested new gives = record {
     code = refl;
@@ -196,21 +215,26 @@ module _ (W : Parts) (Z : List OrderShape) (S : State) (s u : ℕ) (acts : IsAct
   }
   suspend-value _ new gives = absurd gives
 
+  -- the row of suspend
   pub suspend-row : Row W S s u op.Suspend (site.Desk (unit_no u)) (act.Suspend (moved (owned_at S u)))
   suspend-row = desk-row op.Suspend (unit_no u) (act.Suspend (moved (owned_at S u))) suspend-value
 
   -- Units that come out of their desk, which stand in no line.
 
   module _ (v : ℕ) (declared : v < length W.units) (nowhere : line_of (S.place v) ≡ None) where
+    -- v is not with stream s
     away : IsAway W S s v
     away = record { declared = declared; off = off-nowhere s (S.place v) nowhere }
 
+    -- v is not u
     v-other : v ≢ u
     v-other = away-other W Z S s u acts v away.off
 
+    -- v is resumed: it comes to the tray
     resumes-part : part_of W (changed S (op_row W S s u (op.Resume (unit_no v)))) s ≡ stepped (part_of W S s) (keeps (moved (owned_at S u)) (owned_at S v ∷ []))
     resumes-part = wakes-part W Z S s u acts (v ∷ []) (advanced (S.carried u)) no_change ((λ m. m), tt) (away, tt)
 
+    -- and its desk is out
     resumes-desk : desk_value W (changed S (op_row W S s u (op.Resume (unit_no v)))) v ≡ with_phase Out (desk_value W S v)
     resumes-desk =
         let T : State = changed S (op_row W S s u (op.Resume (unit_no v))) in
@@ -224,6 +248,7 @@ module _ (W : Parts) (Z : List OrderShape) (S : State) (s u : ℕ) (acts : IsAct
           migratable = (S.desk v).migratable;
         }
 
+    -- v begins a life with home p: it comes to the tray so
     begins-part : (p : ℕ) → part_of W (changed S (begins W S s u v p)) s ≡ stepped (part_of W S s) (keeps (moved (owned_at S u)) (reborn p (owned_at S v) ∷ []))
     begins-part p =
         let f : ℕ → Carried = put_at S.carried u (advanced (S.carried u)) in
@@ -231,6 +256,7 @@ module _ (W : Parts) (Z : List OrderShape) (S : State) (s u : ℕ) (acts : IsAct
         part-keeps W Z S s u acts [] (v ∷ []) ((u, advanced (S.carried u)) ∷ (v, k) ∷ []) (begins W S s u v p) tt ((λ m. m), tt) (away, tt) (inl refl, (inr away.off, tt))
         ∙ (λ i. stepped (part_of W S s) (keeps (owned u ((put_at-other f v k u (λ e. v-other (sym e)) ∙ put_at-same S.carried u (advanced (S.carried u))) i)) (owned v (put_at-same f v k i) ∷ [])))
 
+    -- and its desk is out
     begins-desk : (p : ℕ) → desk_value W (changed S (begins W S s u v p)) v ≡ with_phase Out (desk_value W S v)
     begins-desk p =
         let T : State = changed S (begins W S s u v p) in
@@ -250,6 +276,7 @@ module _ (W : Parts) (Z : List OrderShape) (S : State) (s u : ℕ) (acts : IsAct
   by-test : (a : Op) (test : Bool) (b : Bool) (c : Code) → code_of W S s u a ≡ unless test c code.Ok → test ≡ b → unless b c code.Ok ≡ code_of W S s u a
   by-test a test b c is e = sym (is ∙ ap (λ t. unless t c code.Ok) e)
 
+  -- a resumption, by the answer
   resume-value : (v : UnitNo) → v.0 < length W.units → ValueRow W S s u (op.Resume v) (λ T. desk_value W T v.0) DeskGives act.Resume
   resume-value v declared (act.Given o) new gives =
       let out : (is_suspended (S.place v.0) ≡ true) × (owned_at S v.0 ≡ o) = so-some (is_suspended (S.place v.0)) (owned_at S v.0) o (sym (suspended_in-at (owned_at S v.0) (S.place v.0)) ∙ gives.0) in
@@ -266,9 +293,11 @@ module _ (W : Parts) (Z : List OrderShape) (S : State) (s u : ℕ) (acts : IsAct
   resume-value v declared (act.Coded _) new gives = absurd gives
   resume-value v declared _ new gives = absurd gives
 
+  -- the row of resume
   pub resume-row : (v : UnitNo) → v.0 < length W.units → Row W S s u (op.Resume v) (site.Desk v) act.Resume
   resume-row v declared = desk-row (op.Resume v) v act.Resume (resume-value v declared)
 
+  -- a creation, by the answer
   create-value : (v : UnitNo) (p : PoolNo) → v.0 < length W.units → may_put W s p.0 ≡ true → ValueRow W S s u (op.Create v p) (λ T. desk_value W T v.0) DeskGives (act.Create p.0)
   create-value v p declared may (act.Given o) new gives =
       let out : (is_unborn (S.place v.0) ≡ true) × (reborn p.0 (owned_at S v.0) ≡ o) =
@@ -286,9 +315,11 @@ module _ (W : Parts) (Z : List OrderShape) (S : State) (s u : ℕ) (acts : IsAct
   create-value v p declared may (act.Coded _) new gives = absurd gives
   create-value v p declared may _ new gives = absurd gives
 
+  -- the row of create
   pub create-row : (v : UnitNo) (p : PoolNo) → v.0 < length W.units → may_put W s p.0 ≡ true → Row W S s u (op.Create v p) (site.Desk v) (act.Create p.0)
   create-row v p declared may = desk-row (op.Create v p) v (act.Create p.0) (create-value v p declared may)
 
+  -- a revival, by the answer
   revive-value : (v : UnitNo) (p : PoolNo) → v.0 < length W.units → may_put W s p.0 ≡ true → ValueRow W S s u (op.Revive v p) (λ T. desk_value W T v.0) DeskGives (act.Revive p.0)
   revive-value v p declared may (act.Given o) new gives =
       let out : (is_ended (S.place v.0) ≡ true) × (reborn p.0 (owned_at S v.0) ≡ o) =
@@ -306,5 +337,6 @@ module _ (W : Parts) (Z : List OrderShape) (S : State) (s u : ℕ) (acts : IsAct
   revive-value v p declared may (act.Coded _) new gives = absurd gives
   revive-value v p declared may _ new gives = absurd gives
 
+  -- the row of revive
   pub revive-row : (v : UnitNo) (p : PoolNo) → v.0 < length W.units → may_put W s p.0 ≡ true → Row W S s u (op.Revive v p) (site.Desk v) (act.Revive p.0)
   revive-row v p declared may = desk-row (op.Revive v p) v (act.Revive p.0) (revive-value v p declared may)

@@ -27,6 +27,7 @@ module _ (W : Parts) (Z : List OrderShape) (S : State) (s : ℕ) (heard : Option
   of-unit : (w : ℕ → What) (n m : ℕ) → n ≡ m → Simulated W Z S s (w n) heard part object → Simulated W Z S s (w m) heard part object
   of-unit w n m e done = subst (λ k. Simulated W Z S s (w k) heard part object) e done
 
+  -- each event
   pub simulate : (w : What) → Steps W Z s (part_of W S s) w heard part → Simulated W Z S s w heard part object
   simulate (what.Miss p) st = with-call W Z S s (what.Miss p) heard part _ object _ _ _ st.2 st.3 answers (simulate-miss W Z S s p.0 sound object st.0 st.1)
   simulate (what.Take p u) st =

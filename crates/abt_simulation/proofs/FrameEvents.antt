@@ -29,10 +29,11 @@ use Rattle.abt_simulation.proofs.LinesAfter.{line-left, line-gets, line-empty, a
 use Rattle.abt_simulation.proofs.Lasts.{IsLast, last-queue}
 use Rattle.abt_simulation.proofs.OwnedLines.{Head, head-of, owned-stays, owned-joined}
 use Rattle.abt_simulation.proofs.OwnParts.{hand-standing, standing-distinct}
-use Rattle.abt_simulation.proofs.PoolEvents.{AtBack, at-back, last-append}
+use Rattle.abt_simulation.proofs.Ends.{AtBack, at-back, last-append}
 use Rattle.abt_simulation.proofs.Simulated.{Simulated, due-same}
 
 module _ (W : Parts) (Z : List OrderShape) (S : State) (s : ℕ) (sound : Sound W Z S) (object : Object) (o : Owned) where
+  -- an entry: the unit goes from the hand to a frame of its own
   pub simulate-enter : due_of W s (part_of W S s) ≡ EnterDue → first (owned_in W S (InHand s)) ≡ Some o →
       Simulated W Z S s (what.Enter (unit_no o.number)) None (record (part_of W S s) { own = entered (sched_of (body_at W o.number)) (S.stream s); hand = None; framed = (part_of W S s).framed ++ o ∷ [] }) object
   simulate-enter is hands =
@@ -57,6 +58,7 @@ module _ (W : Parts) (Z : List OrderShape) (S : State) (s : ℕ) (sound : Sound 
 
   -- the last of the frames is the top one
   module _ (is : due_of W s (part_of W S s) ≡ LeaveDue) (before : List ℕ) (frames : standing W S (InFrames s) ≡ before ++ o.number ∷ []) where
+    -- its place is that of the top frame
     top-frame : S.place o.number ≡ place.Frame (stream_no s) (length (S.stream s).below - 1)
     top-frame =
         let below : (f : Frame) × (rest : List Frame) × ((S.stream s).below ≡ f ∷ rest) = leave-below W S s (due-same W S s ∙ is) in
@@ -71,6 +73,7 @@ module _ (W : Parts) (Z : List OrderShape) (S : State) (s : ℕ) (sound : Sound 
         let exact : it.ticket ≡ length (S.stream s).below - 1 = omega arith in
         at ∙ ap (place.Frame (stream_no s)) exact
 
+  -- a leave: the unit of the top frame goes to the hand
   pub simulate-leave : (os : List Owned) → due_of W s (part_of W S s) ≡ LeaveDue → owned_in W S (InFrames s) ≡ os ++ o ∷ [] →
       Simulated W Z S s (what.Leave (unit_no o.number)) None (record (part_of W S s) { own = left (S.stream s); hand = Some o; framed = os }) object
   simulate-leave os is frames =

@@ -7,6 +7,7 @@ pub mod ConditionRows
 pub mod Conditions
 pub mod DeskEvents
 pub mod DeskRows
+pub mod Ends
 pub mod Events
 pub mod EventualRows
 pub mod Filters

@@ -26,6 +26,7 @@ abbrev pub stays : {A : Type 0} → List (ℕ × A) → ℕ → Bool
 stays [] u = true
 stays (m ∷ ms) u = if u == m.0 then false else stays ms u
 
+-- a unit that is moved does not stay
 pub stays-key : {A : Type 0} (ms : List (ℕ × A)) (u : ℕ) → KeyOf u ms → stays ms u ≡ false
 stays-key [] u k = absurd k
 stays-key (m ∷ ms) u k =
@@ -34,6 +35,7 @@ stays-key (m ∷ ms) u k =
       | inr other ↦ cond-false (u == m.0) _ _ (ne_eqb u m.0 other) ∙ stays-key ms u (elim k [ inl e ↦ absurd (other e) | inr b ↦ b ])
     ]
 
+-- any other stays
 pub stays-other : {A : Type 0} (ms : List (ℕ × A)) (u : ℕ) → (KeyOf u ms → ⊥) → stays ms u ≡ true
 stays-other [] u out = refl
 stays-other (m ∷ ms) u out = cond-false (u == m.0) _ _ (ne_eqb u m.0 (λ e. out (inl e))) ∙ stays-other ms u (λ k. out (inr k))
@@ -46,6 +48,7 @@ NoneTo l ms = EachOf (λ (m : ℕ × Place). ticket_in l m.1 ≡ None) ms
 abbrev pub NoneFrom : {A : Type 0} → Line → (ℕ → Place) → List (ℕ × A) → Type 0
 NoneFrom l f ms = EachOf (λ m. ticket_in l (f m.0) ≡ None) ms
 
+-- who stands in the line is not moved then
 pub none-from : {A : Type 0} (l : Line) (f : ℕ → Place) (ms : List (ℕ × A)) → NoneFrom l f ms → (u t : ℕ) → ticket_in l (f u) ≡ Some t → KeyOf u ms → ⊥
 none-from l f [] a u t h k = k
 none-from l f (m ∷ ms) a u t h k = elim k [ inl e ↦ none≢some (sym a.0 ∙ (ap (λ n. ticket_in l (f n)) (sym e) ∙ h)) | inr b ↦ none-from l f ms a.1 u t h b ]
@@ -89,6 +92,7 @@ line-gets n l f u t has less none below =
     ∙ queue-push (λ v. ticket_in l (f v)) u t none below n less
 
 module _ (n : ℕ) (l : Line) (has : (t : ℕ) → ticket_in l (place_in l t) ≡ Some t) where
+  -- the next ticket is above all
   below-next : (f : ℕ → Place) (u t : ℕ) → IsBelow l t f → IsBelow l (suc t) (put_at f u (place_in l t))
   below-next f u t below v k h =
       elim (put_at-cases f u (place_in l t) v) [
@@ -96,6 +100,7 @@ module _ (n : ℕ) (l : Line) (has : (t : ℕ) → ticket_in l (place_in l t) �
         | inr x ↦ (let b : k < t = below v k (ap (ticket_in l) (sym x.1) ∙ h) in omega arith)
       ]
 
+  -- the others are as they were
   others-away : (f : ℕ → Place) (u t : ℕ) (us : List ℕ) → (Among u us → ⊥) → ((v : ℕ) → Among v us → (v < n) × (ticket_in l (f v) ≡ None)) → (v : ℕ) → Among v us → (v < n) × (ticket_in l (put_at f u (place_in l t) v) ≡ None)
   others-away f u t us out new v m = ((new v m).0, ap (ticket_in l) (put_at-other f u (place_in l t) v (λ e. out (subst (λ w. Among w us) e m))) ∙ (new v m).1)
 
@@ -128,21 +133,26 @@ put_all-append f (p ∷ ps) qs = put_all-append (put_at f p.0 p.1) ps qs
 
 -- One unit that leaves a line.
 
+-- the list without unit u, which goes to x
 abbrev pub all_but : {A : Type 0} → ℕ → A → List ℕ → List ℕ
 all_but u x us = filter (stays ((u, x) ∷ [])) us
 
+-- the list without a unit that is not in it
 pub all_but-none : {A : Type 0} (u : ℕ) (x : A) (us : List ℕ) → (Among u us → ⊥) → all_but u x us ≡ us
 all_but-none u x [] out = refl
 all_but-none u x (v ∷ vs) out =
     cond-true (stays ((u, x) ∷ []) v) _ _ (stays-other ((u, x) ∷ []) v (λ k. elim k [ inl e ↦ out (inl (sym e)) | inr none ↦ none ])) ∙ ap (λ ws. v ∷ ws) (all_but-none u x vs (λ m. out (inr m)))
 
+-- without its first
 pub all_but-first : {A : Type 0} (u : ℕ) (x : A) (us : List ℕ) → IsDistinct (u ∷ us) → all_but u x (u ∷ us) ≡ us
 all_but-first u x us d = cond-false (stays ((u, x) ∷ []) u) _ _ (stays-key ((u, x) ∷ []) u (inl refl)) ∙ all_but-none u x us d.0
 
+-- the last is among them
 among-end : (v : ℕ) (us : List ℕ) → Among v (us ++ v ∷ [])
 among-end v [] = inl refl
 among-end v (u ∷ us) = inr (among-end v us)
 
+-- without its last
 pub all_but-last : {A : Type 0} (u : ℕ) (x : A) (us : List ℕ) → IsDistinct (us ++ u ∷ []) → all_but u x (us ++ u ∷ []) ≡ us
 all_but-last u x [] d = all_but-first u x [] d
 all_but-last u x (v ∷ vs) d =

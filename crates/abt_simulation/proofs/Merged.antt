@@ -30,6 +30,7 @@ use Rattle.abt_simulation.proofs.Events.{simulation}
 
 -- Sites.
 
+-- sites of which the test holds are one
 site-is : (x y : Site) → same_site x y ≡ true → x ≡ y
 site-is (site.Pool p) (site.Pool q) e = ap (λ n. site.Pool (pool_no n)) (eqb-true p.0 q.0 e)
 site-is (site.Desk u) (site.Desk v) e = ap (λ n. site.Desk (unit_no n)) (eqb-true u.0 v.0 e)
@@ -39,6 +40,7 @@ site-is (site.Future x) (site.Future y) e = ap (λ n. site.Future (object_no n))
 site-is (site.Barrier x) (site.Barrier y) e = ap (λ n. site.Barrier (object_no n)) (eqb-true x.0 y.0 e)
 site-is _ _ e = absurd (false≢true e)
 
+-- it holds of each site and itself
 site-self : (x : Site) → same_site x x ≡ true
 site-self (site.Pool p) = eq-eqb p.0 p.0 refl
 site-self (site.Desk u) = eq-eqb u.0 u.0 refl
@@ -47,6 +49,7 @@ site-self (site.Eventual x) = eq-eqb x.0 x.0 refl
 site-self (site.Future x) = eq-eqb x.0 x.0 refl
 site-self (site.Barrier x) = eq-eqb x.0 x.0 refl
 
+-- so it tells sites apart
 pub tells-sites : (W : Parts) (Z : List OrderShape) → TellsPlaces (machine_of W Z)
 tells-sites W Z x y = (site-is x y, λ e. subst (λ z. same_site x z ≡ true) e (site-self x))
 
@@ -61,6 +64,7 @@ abbrev called_at : Option Heard → (Site → Object) → Object
 called_at None objects = NotHere
 called_at (Some h) objects = objects h.0
 
+-- the called object answers
 called-answers : (W : Parts) (S : State) (heard : Option Heard) (objects : Site → Object) → Answered SiteGives (object_of W S) heard objects → Answers W S heard (called_at heard objects)
 called-answers W S None objects a = tt
 called-answers W S (Some h) objects a = a.0
@@ -76,6 +80,7 @@ called-all W Z S T e (Some h) part objects is a x =
     ]
 
 module _ (W : Parts) (Z : List OrderShape) (valid : IsValid W) (stored : OrdersStored W Z) where
+  -- a step of a stream with its call is an event
   pub is-simulated : IsSimulated (machine_of W Z)
   is-simulated S s w heard part objects sound declared steps answered =
       let e : Event = record { stamp = 0; stream = stream_no s; what = w } in
@@ -90,14 +95,17 @@ module _ (W : Parts) (Z : List OrderShape) (valid : IsValid W) (stored : OrdersS
 
   -- Runs of deeds are runs of their events.
 
+  -- a run
   runs-from : (S : State) (ds : List StreamDeed) → Runs (machine_of W Z) S ds → RunFrom W Z S (map event_of ds)
   runs-from S [] r = tt
   runs-from S (d ∷ ds) r = (r.0, r.1, runs-from (after W S d.stream d.what) ds r.2)
 
+  -- its last state
   same-end : (S : State) (ds : List StreamDeed) → ends_at (machine_of W Z) S ds ≡ state_after W S (map event_of ds)
   same-end S [] = refl
   same-end S (d ∷ ds) = same-end (after W S d.stream d.what) ds
 
+  -- and what stands there
   leads-to : (S : State) (ds : List StreamDeed) (ends : ℕ → Held) (finals : Site → Object) → IsRunTo (machine_of W Z) S ds ends finals → LeadsTo W Z S (map event_of ds) ends finals
   leads-to S ds ends finals is = record {
     run = runs-from S ds is.run;

@@ -28,11 +28,13 @@ use Rattle.abt_simulation.proofs.OwnedLines.{owned-same}
 -- What is alike in two states, is the same as a value.
 
 module _ (W : Parts) (s : ℕ) (x : Option Site) (S T : State) (alike : IsAlike W s x S T) where
+  -- a line
   pub owned-alike : (l : Line) → Within s x (line_holder W l) → owned_in W T l ≡ owned_in W S l
   owned-alike l w =
       ap (map (owned_at T)) (sym (standing-alike W s x S T alike l w))
       ∙ owned-same S T (standing W S l) (EachOf-then (IsKept W S s x) (λ u. T.carried u ≡ S.carried u) (standing W S l) (λ u kept. sym (alike.units u (inl kept)).1) (standing-kept W S s x l w))
 
+  -- the part of the stream
   pub part-alike : part_of W T s ≡ part_of W S s
   part-alike = λ i. record {
     own = sym alike.stream i;
@@ -49,6 +51,7 @@ phase-elsewhere W s u o (place.Blocked spot.Suspended t) = inl refl
 phase-elsewhere W s u o (place.Ended c) = inl refl
 phase-elsewhere W s u o _ = inr refl
 
+-- where a desk's unit is
 phase-alike : (W : Parts) (s u : ℕ) (S T : State) → IsAlike W s (Some (site.Desk (unit_no u))) S T → phase_at (owned_at T u) (T.place u) ≡ phase_at (owned_at S u) (S.place u)
 phase-alike W s u S T alike =
     elim (phase-elsewhere W s u (owned_at S u) (S.place u)) [
@@ -63,6 +66,7 @@ module _ (W : Parts) (s : ℕ) (S T : State) where
   waiters-alike : (x : Site) (y : ℕ) (t : Option Thing) → IsAlike W s (Some x) S T → thing_at W y ≡ t → x ≡ thing_site y t → waiters_at W T y ≡ waiters_at W S y
   waiters-alike x y t alike is at = owned-alike W s (Some x) S T alike (Waiting y) (ap (λ z. Some z) (at ∙ ap (thing_site y) (sym is)))
 
+  -- a monitor
   monitor-alike : (m : ℕ) → thing_at W m ≡ Some thing.Mutex → IsAlike W s (Some (site.Monitor (object_no m))) S T → monitor_value W T m ≡ monitor_value W S m
   monitor-alike m is alike =
       let same : S.mutex m ≡ T.mutex m = alike.mutex m refl in
@@ -75,6 +79,7 @@ module _ (W : Parts) (s : ℕ) (S T : State) where
             (λ y e. waiters-alike (site.Monitor (object_no m)) y (Some (thing.Cond (object_no m))) alike e refl) (conditions-declared W m)) i;
       }
 
+  -- a desk
   desk-alike : (u : ℕ) → IsAlike W s (Some (site.Desk (unit_no u))) S T → desk_value W T u ≡ desk_value W S u
   desk-alike u alike =
       let same : S.desk u ≡ T.desk u = alike.desk u refl in
@@ -88,6 +93,7 @@ module _ (W : Parts) (s : ℕ) (S T : State) where
         migratable = (sym same i).migratable;
       }
 
+  -- the object at the site
   object-alike : (x : Site) → IsAlike W s (Some x) S T → object_of W T x ≡ object_of W S x
   object-alike (site.Pool p) alike = ap (λ os. PoolIs (record { kind = kind_of W p.0; units = os })) (owned-alike W s _ S T alike (InPool p.0) refl)
   object-alike (site.Desk u) alike = ap DeskIs (desk-alike u.0 alike)
@@ -113,9 +119,11 @@ module _ (W : Parts) (s : ℕ) (S T : State) where
 -- A local change of stream s and site x leaves all other parts and objects.
 
 module _ (W : Parts) (S : State) (s : ℕ) (x : Option Site) (c : Change) (local : IsLocal W S s x c) where
+  -- the parts of other streams
   pub parts-stay : (r : ℕ) → r ≢ s → part_of W (changed S c) r ≡ part_of W S r
   parts-stay r ne = part-alike W r None S (changed S c) (alike-after W S s r x None c (λ e. ne (sym e)) (λ z e f. none≢some f) local)
 
+  -- the objects at other sites
   pub objects-stay : (y : Site) → x ≢ Some y → object_of W (changed S c) y ≡ object_of W S y
   objects-stay y ne =
       object-alike W (suc s) S (changed S c) y (alike-after W S s (suc s) x (Some y) c (λ (e : s ≡ suc s). absurd (omega arith)) (λ z e f. ne (e ∙ sym f)) local)

@@ -30,6 +30,7 @@ use Rattle.abt_simulation.proofs.OwnedLines.{owned-stays}
 
 -- Lines of a stream, and lines of an object.
 
+-- a line of stream s
 abbrev pub IsOwn : ℕ → Line → Type 0
 IsOwn s (InTray r) = r ≡ s
 IsOwn s (InHand r) = r ≡ s
@@ -37,6 +38,7 @@ IsOwn s (InNext r) = r ≡ s
 IsOwn s (InFrames r) = r ≡ s
 IsOwn s _ = ⊥
 
+-- a line that an object keeps
 abbrev pub IsObjects : Line → Type 0
 IsObjects (InPool p) = Unit {0}
 IsObjects (Joining v) = Unit {0}
@@ -47,6 +49,7 @@ IsObjects _ = ⊥
 abbrev pub IsOff : ℕ → Place → Type 0
 IsOff s pl = (l : Line) → IsOwn s l → ticket_in l pl ≡ None
 
+-- no line is both
 own-or-objects : (s : ℕ) (l : Line) → IsOwn s l → IsObjects l → ⊥
 own-or-objects s (InPool p) own objects = own
 own-or-objects s (Joining v) own objects = own
@@ -63,6 +66,7 @@ no-ticket l pl other = by (ticket_in l pl) refl where
   by None e = e
   by (Some t) e = absurd (other (line_of-ticket l pl t e))
 
+-- a place in no line has no ticket
 pub nowhere-ticket : (l : Line) (pl : Place) → line_of pl ≡ None → ticket_in l pl ≡ None
 nowhere-ticket l pl nowhere = no-ticket l pl (λ e. none≢some (sym nowhere ∙ e))
 
@@ -79,34 +83,38 @@ off-nowhere s pl nowhere m own = nowhere-ticket m pl nowhere
 pub hand-elsewhere : (s : ℕ) (l : Line) → IsObjects l → ticket_in l (place.Hand (stream_no s)) ≡ None
 hand-elsewhere s l objects = no-ticket l (place.Hand (stream_no s)) (λ e. let same : InHand s ≡ l = some-injective e in subst (λ m. IsObjects m → ⊥) same (λ h. h) objects)
 
+-- nor is a tray
 pub tray-elsewhere : (s t : ℕ) (l : Line) → IsObjects l → ticket_in l (place.Tray (stream_no s) t) ≡ None
 tray-elsewhere s t l objects = no-ticket l (place.Tray (stream_no s) t) (λ e. let same : InTray s ≡ l = some-injective e in subst (λ m. IsObjects m → ⊥) same (λ h. h) objects)
 
-pub next-elsewhere : (s : ℕ) (l : Line) → IsObjects l → ticket_in l (place.Next (stream_no s)) ≡ None
-next-elsewhere s l objects = no-ticket l (place.Next (stream_no s)) (λ e. let same : InNext s ≡ l = some-injective e in subst (λ m. IsObjects m → ⊥) same (λ h. h) objects)
-
 -- Units that stream s does not hold.
 
+-- a declared unit in no line of stream s
 pub record IsAway (W : Parts) (S : State) (s v : ℕ) : Type 0 where
   pub declared : v < length W.units
   pub off : IsOff s (S.place v)
 
+-- so are all that stand in an object's line
 pub away-line : (W : Parts) (S : State) (s : ℕ) (l : Line) → IsObjects l → EachOf (IsAway W S s) (standing W S l)
 away-line W S s l objects =
     EachOf-then (StandsIn W S l) (IsAway W S s) (standing W S l) (λ v h. record { declared = h.declared; off = subst (IsOff s) (sym h.at) (off-object s l h.ticket objects) }) (each-stands W S l)
 
+-- so is the first of them
 pub away-first : (W : Parts) (S : State) (s : ℕ) (l : Line) → IsObjects l → EachOf (IsAway W S s) (first_alone (standing W S l))
 away-first W S s l objects = EachOf-first_alone (IsAway W S s) (standing W S l) (away-line W S s l objects)
 
+-- nobody stands twice in a line
 pub standing-distinct : (W : Parts) (S : State) (l : Line) → IsDistinct (standing W S l)
 standing-distinct W S l = queue-distinct (λ v. ticket_in l (S.place v)) (length W.units)
 
+-- one alone is not twice there
 pub distinct-first : (us : List ℕ) → IsDistinct us → IsDistinct (first_alone us)
 distinct-first [] d = tt
 distinct-first (u ∷ us) d = ((λ m. m), tt)
 
 -- A hand or a Next holds one unit.
 
+-- who stands in such a line stands there alone
 pub alone-standing : (W : Parts) (S : State) (l : Line) (u : ℕ) → ((k v t : ℕ) → ticket_in l (S.place k) ≡ Some t → ticket_in l (S.place v) ≡ Some t → k ≡ v) → ((t : ℕ) → place_in l t ≡ place_in l 0) →
     u < length W.units → S.place u ≡ place_in l 0 → standing W S l ≡ u ∷ []
 alone-standing W S l u one same declared at = by (standing W S l) (each-stands W S l) (standing-distinct W S l) (queue-among (λ v. ticket_in l (S.place v)) (length W.units) u (ticket_at l 0) declared (ticket-here u at ∙ ticket_in-place_in l 0)) where
@@ -128,12 +136,15 @@ moving ms cs c = record c { moves = ms; carried = cs; streams = [] }
 -- The lines of s after moves of some units, and then of others to its tray.
 
 module _ (W : Parts) (Z : List OrderShape) (S : State) (s u : ℕ) (acts : IsActing W Z S s u) where
+  -- u alone is in the hand
   pub hand-standing : standing W S (InHand s) ≡ u ∷ []
   hand-standing = alone-standing W S (InHand s) u (λ k v t. acts.sound.one_each (InHand s) k v t) (λ t. refl) acts.declared acts.in_hand
 
+  -- nobody is on the tray
   pub tray-standing : standing W S (InTray s) ≡ []
   tray-standing = line-empty (length W.units) (InTray s) S.place acts.no_tray
 
+  -- nobody is in Next
   pub next-standing : standing W S (InNext s) ≡ []
   next-standing = line-empty (length W.units) (InNext s) S.place acts.no_next
 
@@ -149,6 +160,7 @@ module _ (W : Parts) (Z : List OrderShape) (S : State) (s u : ℕ) (acts : IsAct
   abbrev pub IsLoose : ℕ → Type 0
   IsLoose v = (v ≡ u) ⊎ IsOff s (S.place v)
 
+  -- such a unit is in no frame
   pub loose-unframed : (v : ℕ) → IsLoose v → ticket_in (InFrames s) (S.place v) ≡ None
   loose-unframed v loose = elim loose [ inl e ↦ ap (λ n. ticket_in (InFrames s) (S.place n)) e ∙ hand-only (InFrames s) refl | inr off ↦ off (InFrames s) refl ]
 
@@ -168,6 +180,7 @@ module _ (W : Parts) (Z : List OrderShape) (S : State) (s u : ℕ) (acts : IsAct
 
   -- the moves of a step: some to places of no line of s, and then some to its tray
   module _ (pre : List (ℕ × Place)) (us : List ℕ) (to : EachOf (λ (m : ℕ × Place). IsOff s m.1) pre) where
+    -- nobody comes to another line of s
     to-none : (l : Line) → IsOwn s l → ((t : ℕ) → ticket_in l (place.Tray (stream_no s) t) ≡ None) → NoneTo l (pre ++ to_tray W S s us)
     to-none l own none =
         EachOf-append (λ (m : ℕ × Place). ticket_in l m.1 ≡ None) pre (to_tray W S s us)
@@ -176,6 +189,7 @@ module _ (W : Parts) (Z : List OrderShape) (S : State) (s u : ℕ) (acts : IsAct
 
     -- the part of s, by who is then in its hand
     module _ (cs : List (ℕ × Carried)) (c : Change) (distinct : IsDistinct us) (declared : EachOf (λ v. v < length W.units) us) (from : EachOf (λ (m : ℕ × Place). IsLoose m.0) pre) (loose : EachOf IsLoose us) (keys : EachOf (λ (m : ℕ × Carried). IsLoose m.0) cs) where
+      -- nothing but the tray and perhaps the hand is other than before
       pub part-by_hand : (hs : List ℕ) → standing W (changed S (moving (pre ++ to_tray W S s us) cs c)) (InHand s) ≡ hs →
           part_of W (changed S (moving (pre ++ to_tray W S s us) cs c)) s
           ≡ stepped (part_of W S s) (record (empties (map (owned_at (changed S (moving (pre ++ to_tray W S s us) cs c))) us)) { hand = first (map (owned_at (changed S (moving (pre ++ to_tray W S s us) cs c))) hs) })
@@ -194,18 +208,15 @@ module _ (W : Parts) (Z : List OrderShape) (S : State) (s u : ℕ) (acts : IsAct
             framed = owned-stays W S d (InFrames s) (to-none (InFrames s) refl (λ t. refl)) unframed (EachOf-then (λ (m : ℕ × Carried). IsLoose m.0) (λ (m : ℕ × Carried). ticket_in (InFrames s) (S.place m.0) ≡ None) cs (λ m l. loose-unframed m.0 l) keys) i;
           }
 
-  loose-off : (v : ℕ) → IsOff s (S.place v) → IsLoose v
-  loose-off v off = inr off
-
-  not-among : (us : List ℕ) → EachOf (IsAway W S s) us → Among u us → ⊥
-  not-among us away m = let a : IsAway W S s u = EachOf-among (IsAway W S s) us u away m in away-other u a.off refl
-
+  -- units that s does not hold are not in its hand
   off-others : {A : Type 0} (ms : List (ℕ × A)) → EachOf (λ m. IsOff s (S.place m.0)) ms → NoneFrom (InHand s) S.place ms
   off-others ms off = EachOf-then (λ m. IsOff s (S.place m.0)) (λ m. ticket_in (InHand s) (S.place m.0) ≡ None) ms (λ m o. o (InHand s) refl) off
 
+  -- they are declared
   pub away-declared : (us : List ℕ) → EachOf (IsAway W S s) us → EachOf (λ v. v < length W.units) us
   away-declared us away = EachOf-then (IsAway W S s) (λ v. v < length W.units) us (λ v a. a.declared) away
 
+  -- they are loose
   pub away-loose : (us : List ℕ) → EachOf (IsAway W S s) us → EachOf IsLoose us
   away-loose us away = EachOf-then (IsAway W S s) IsLoose us (λ v a. inr a.off) away
 

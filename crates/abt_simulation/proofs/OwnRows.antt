@@ -32,6 +32,7 @@ module _ (W : Parts) (Z : List OrderShape) (S : State) (s u : ℕ) (acts : IsAct
   pub local-row : (a : Op) (f : Carried → Carried) → code.Ok ≡ code_of W S s u a → op_row W S s u a ≡ goes_with u (f (S.carried u)) → OwnDone W S s u a (local f (owned_at S u))
   local-row a f is row = record { code = is; own = ap (λ c. part_of W (changed S c) s) row ∙ goes-part W Z S s u acts (advanced (f (S.carried u))) no_change }
 
+  -- u goes to the tray
   pub yield-row : OwnDone W S s u op.Yield (empties (moved (owned_at S u) ∷ []))
   yield-row = record {
     code = refl;

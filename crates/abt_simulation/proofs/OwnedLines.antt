@@ -24,21 +24,19 @@ pub owned-same : (S T : State) (us : List ℕ) → EachOf (λ u. T.carried u ≡
 owned-same S T [] a = refl
 owned-same S T (u ∷ us) a = ap₂ (λ (c : Carried) (os : List Owned). record { number = u; carried = c } ∷ os) a.0 (owned-same S T us a.1)
 
-pub map-first : (S : State) (us : List ℕ) (u : ℕ) → first us ≡ Some u → first (map (owned_at S) us) ≡ Some (owned_at S u)
-map-first S [] u e = absurd (none≢some e)
-map-first S (v ∷ vs) u e = ap (λ n. Some (owned_at S n)) (some-injective e)
-
 -- the unit that stands first, by what it carries
 pub record Head (S : State) (us : List ℕ) (o : Owned) : Type 0 where
   pub is : first us ≡ Some o.number
   pub owns : owned_at S o.number ≡ o
 
+-- the first of the units is the first of the numbers
 pub head-of : (S : State) (us : List ℕ) (o : Owned) → first (map (owned_at S) us) ≡ Some o → Head S us o
 head-of S [] o e = absurd (none≢some e)
 head-of S (u ∷ us) o e =
     let same : owned_at S u ≡ o = some-injective e in
     subst (Head S (u ∷ us)) same (record { is = refl; owns = refl })
 
+-- where there is no unit there is no number
 pub nobody-owned : (S : State) (us : List ℕ) → map (owned_at S) us ≡ [] → us ≡ []
 nobody-owned S [] e = refl
 nobody-owned S (u ∷ us) e = absurd cc

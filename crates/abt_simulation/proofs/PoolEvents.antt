@@ -1,5 +1,5 @@
 -- Take, Miss and Put: where a pool answers so, they are events.
-use Rattle.std.proofs.Common.{◌≡◌, ℕ, Bool, true, false, List, [], ◌∷◌, ◌++◌, length, map, Some, None, refl, sym, ◌∙◌, ap, ap₂, subst}
+use Rattle.std.proofs.Common.{◌≡◌, ℕ, Bool, true, false, List, [], ◌∷◌, ◌++◌, length, map, Some, None, refl, sym, ◌∙◌, ap, subst}
 use Rattle.abt_machine.specs.declared.events.Place.{Place}
 use Rattle.abt_machine.specs.declared.events.Place.TheVariants as place
 use Rattle.abt_machine.specs.declared.events.Site.TheVariants as site
@@ -33,55 +33,21 @@ use Rattle.abt_laws.proofs.SoundChanges.{placed-below}
 use Rattle.abt_laws.proofs.Dues.{due-no_next}
 use Rattle.abt_simulation.proofs.Pushes.{IsDistinct}
 use Rattle.abt_simulation.proofs.LinesAfter.{line-left, line-gets, line-empty, all_but, all_but-first, all_but-last}
+use Rattle.abt_simulation.proofs.Ends.{AtFront, at-front, AtBack, at-back, last-append}
 use Rattle.abt_simulation.proofs.OwnedLines.{nobody-owned, owned-stays, owned-joined}
 use Rattle.abt_simulation.proofs.OwnParts.{IsOwn, IsOff, off-object, standing-distinct}
 use Rattle.abt_simulation.proofs.Simulated.{Simulated, due-same}
 
--- The end of a list.
-
-pub last-append : {A : Type 0} (xs : List A) (x : A) → last (xs ++ x ∷ []) ≡ Some x
-last-append [] x = refl
-last-append (a ∷ []) x = refl
-last-append (a ∷ b ∷ xs) x = last-append (b ∷ xs) x
-
--- the numbers of a list of units, by its ends
-
-pub record AtFront (S : State) (us : List ℕ) (o : Owned) (os : List Owned) : Type 0 where
-  pub rest : List ℕ
-  pub is : us ≡ o.number ∷ rest
-  pub owns : owned_at S o.number ≡ o
-  pub others : map (owned_at S) rest ≡ os
-
-pub at-front : (S : State) (us : List ℕ) (o : Owned) (os : List Owned) → map (owned_at S) us ≡ o ∷ os → AtFront S us o os
-at-front S [] o os e = absurd cc
-at-front S (u ∷ us) o os e =
-    let same : owned_at S u ≡ o = cc in
-    let rest : map (owned_at S) us ≡ os = cc in
-    subst (λ p. AtFront S (u ∷ us) p os) same (record { rest = us; is = refl; owns = refl; others = rest })
-
-pub record AtBack (S : State) (us : List ℕ) (o : Owned) (os : List Owned) : Type 0 where
-  pub before : List ℕ
-  pub is : us ≡ before ++ o.number ∷ []
-  pub owns : owned_at S o.number ≡ o
-  pub others : map (owned_at S) before ≡ os
-
-pub at-back : (S : State) (us : List ℕ) (o : Owned) (os : List Owned) → map (owned_at S) us ≡ os ++ o ∷ [] → AtBack S us o os
-at-back S us o [] e =
-    let f : AtFront S us o [] = at-front S us o [] e in
-    record { before = []; is = f.is ∙ ap (λ vs. o.number ∷ vs) (nobody-owned S f.rest f.others); owns = f.owns; others = refl }
-at-back S us o (p ∷ os) e =
-    let f : AtFront S us p (os ++ o ∷ []) = at-front S us p (os ++ o ∷ []) e in
-    let b : AtBack S f.rest o os = at-back S f.rest o os f.others in
-    record { before = p.number ∷ b.before; is = f.is ∙ ap (λ vs. p.number ∷ vs) b.is; owns = b.owns; others = ap₂ (λ (q : Owned) (qs : List Owned). q ∷ qs) f.owns b.others }
-
 -- What a pool gives.
 
+-- unit o is the one that is taken, and the others are left
 pub record Fronted (S : State) (k : Kind) (own : Bool) (us : List ℕ) (o : Owned) (os : List Owned) : Type 0 where
   pub is : front_by k own us ≡ Some o.number
   pub owns : owned_at S o.number ≡ o
   pub others : (pl : Place) → map (owned_at S) (all_but o.number pl us) ≡ os
 
 module _ (S : State) (us : List ℕ) (o : Owned) (os : List Owned) (distinct : IsDistinct us) where
+  -- a take of the first
   from-front : (k : Kind) (own : Bool) → ((vs : List ℕ) → front_by k own vs ≡ first vs) → map (owned_at S) us ≡ o ∷ os → Fronted S k own us o os
   from-front k own is_first e =
       let f : AtFront S us o os = at-front S us o os e in
@@ -91,6 +57,7 @@ module _ (S : State) (us : List ℕ) (o : Owned) (os : List Owned) (distinct : I
         others = λ pl. ap (λ vs. map (owned_at S) (all_but o.number pl vs)) f.is ∙ (ap (map (owned_at S)) (all_but-first o.number pl f.rest (subst IsDistinct f.is distinct)) ∙ f.others);
       }
 
+  -- a take of the last
   from-back : map (owned_at S) us ≡ os ++ o ∷ [] → Fronted S kind.Deque true us o os
   from-back e =
       let f : AtBack S us o os = at-back S us o os e in
@@ -100,11 +67,13 @@ module _ (S : State) (us : List ℕ) (o : Owned) (os : List Owned) (distinct : I
         others = λ pl. ap (λ vs. map (owned_at S) (all_but o.number pl vs)) f.is ∙ (ap (map (owned_at S)) (all_but-last o.number pl f.before (subst IsDistinct f.is distinct)) ∙ f.others);
       }
 
+  -- each take by the pool's kind
   fronted : (k : Kind) (own : Bool) → map (owned_at S) us ≡ with_end (side_by k own) o os → Fronted S k own us o os
   fronted kind.Fifo own e = from-front kind.Fifo own (λ vs. refl) e
   fronted kind.Deque false e = from-front kind.Deque false (λ vs. refl) e
   fronted kind.Deque true e = from-back e
 
+-- there is none in an empty pool
 no-front : (k : Kind) (own : Bool) (us : List ℕ) → us ≡ [] → front_by k own us ≡ None
 no-front kind.Fifo own us e = ap first e
 no-front kind.Deque false us e = ap first e
@@ -113,6 +82,7 @@ no-front kind.Deque true us e = ap last e
 -- Events at pool p.
 
 module _ (W : Parts) (Z : List OrderShape) (S : State) (s p : ℕ) (sound : Sound W Z S) (object : Object) where
+  -- a miss, where the pool answers so
   pub simulate-miss : due_of W s (part_of W S s) ≡ RoundDue → IsNextPool W Z (S.stream s).top p → SiteGives (object_of W S (site.Pool (pool_no p))) (act.Take (side_of W s p)) act.Miss object →
       Simulated W Z S s (what.Miss (pool_no p)) (Some (site.Pool (pool_no p), act.Take (side_of W s p), act.Miss)) (record (part_of W S s) { own = round_missed W p (S.stream s) }) object
   simulate-miss is order gives = record {
@@ -121,6 +91,7 @@ module _ (W : Parts) (Z : List OrderShape) (S : State) (s p : ℕ) (sound : Soun
     called = ap PoolIs (sym gives.2.2) ∙ sym gives.1;
   }
 
+  -- a take of the unit that the pool gives
   pub simulate-take : (o : Owned) → due_of W s (part_of W S s) ≡ RoundDue → IsNextPool W Z (S.stream s).top p → SiteGives (object_of W S (site.Pool (pool_no p))) (act.Take (side_of W s p)) (act.Given o) object →
       Simulated W Z S s (what.Take (pool_no p) (unit_no o.number)) (Some (site.Pool (pool_no p), act.Take (side_of W s p), act.Given o)) (record (part_of W S s) { own = round_taken (S.stream s); next = Some o }) object
   simulate-take o is order gives =
@@ -143,6 +114,7 @@ module _ (W : Parts) (Z : List OrderShape) (S : State) (s p : ℕ) (sound : Soun
         called = (λ i. PoolIs (record { kind = sym gives.2.2 i; units = (ap (map (owned_at S)) (line-left (length W.units) (InPool p) S.place ((u, place.Next (stream_no s)) ∷ []) (refl, tt)) ∙ f.others (place.Next (stream_no s))) i })) ∙ sym gives.1;
       }
 
+  -- a put of the first of the tray
   pub simulate-put : (o : Owned) (os : List Owned) → due_of W s (part_of W S s) ≡ PutDue → owned_in W S (InTray s) ≡ o ∷ os → o.carried.home ≡ p → SiteGives (object_of W S (site.Pool (pool_no p))) (act.Put o) act.Rested object →
       Simulated W Z S s (what.Put (unit_no o.number) (pool_no p)) (Some (site.Pool (pool_no p), act.Put o, act.Rested)) (record (part_of W S s) { tray = os }) object
   simulate-put o os is trays home gives =

@@ -44,6 +44,7 @@ use Rattle.abt_simulation.proofs.Rows.{Row, ValueRow, row-by_value, pool-at, ref
 
 -- A unit of a list, by its number.
 
+-- the unit that is found stands there
 found-among : (S : State) (v : ℕ) (us : List ℕ) (o : Owned) → find (is_unit v) (map (owned_at S) us) ≡ Some o → Among v us × (owned_at S v ≡ o)
 found-among S v [] o e = absurd (none≢some e)
 found-among S v (w ∷ ws) o e =
@@ -52,6 +53,7 @@ found-among S v (w ∷ ws) o e =
       | inr other ↦ (let later : Among v ws × (owned_at S v ≡ o) = found-among S v ws o (sym (cond-false (w == v) _ _ (ne_eqb w v other)) ∙ e) in (inr later.0, later.1))
     ]
 
+-- where none is found, none stands there
 found-none : (S : State) (v : ℕ) (us : List ℕ) → find (is_unit v) (map (owned_at S) us) ≡ None → Among v us → ⊥
 found-none S v [] e m = m
 found-none S v (w ∷ ws) e m =
@@ -73,6 +75,7 @@ without-owned S v pl (w ∷ ws) d =
           ∙ (ap (λ os. owned_at S w ∷ os) (without-owned S v pl ws d.1) ∙ sym (cond-false (w == v) _ _ (ne_eqb w v other)))
     ]
 
+-- who is in pool p has a ticket there
 in-pool : (p : ℕ) (pl : Place) → is_in_pool p pl ≡ true → (t : ℕ) × (ticket_in (InPool p) pl ≡ Some t)
 in-pool p (place.Pool q t) e = (t, cond-true (q.0 == p) (Some t) None e)
 in-pool p _ e = absurd cc
@@ -80,6 +83,7 @@ in-pool p _ e = absurd cc
 module _ (W : Parts) (Z : List OrderShape) (S : State) (s u : ℕ) (acts : IsActing W Z S s u) (v : UnitNo) (p : PoolNo) where
   -- v stands in p
   module _ (at : StandsIn W S (InPool p.0) v.0) where
+    -- v is in no line of s
     v-off : IsOff s (S.place v.0)
     v-off = subst (IsOff s) (sym at.at) (off-object s (InPool p.0) at.ticket tt)
 
@@ -87,9 +91,11 @@ module _ (W : Parts) (Z : List OrderShape) (S : State) (s u : ℕ) (acts : IsAct
     u-there : put_at S.place v.0 (place.Next (stream_no s)) u ≡ place.Hand (stream_no s)
     u-there = put_at-other S.place v.0 (place.Next (stream_no s)) u (λ e. away-other W Z S s u acts v.0 v-off (sym e)) ∙ acts.in_hand
 
+    -- v carries what it carried
     v-carries : put_at S.carried u (advanced (S.carried u)) v.0 ≡ S.carried v.0
     v-carries = put_at-other S.carried u (advanced (S.carried u)) v.0 (away-other W Z S s u acts v.0 v-off)
 
+    -- v comes to Next, and u to the tray
     yields-part : part_of W (changed S (op_row W S s u (op.YieldTo v p))) s ≡ stepped (part_of W S s) (record { hand = None; next = Some (owned_at S v.0); wakes = moved (owned_at S u) ∷ []; code = code.Ok })
     yields-part =
         let c : Change = op_row W S s u (op.YieldTo v p) in
@@ -109,6 +115,7 @@ module _ (W : Parts) (Z : List OrderShape) (S : State) (s u : ℕ) (acts : IsAct
           framed = owned-stays W S c (InFrames s) (refl, (refl, tt)) (v-off (InFrames s) refl, (hand-only W Z S s u acts (InFrames s) refl, tt)) (hand-only W Z S s u acts (InFrames s) refl, tt) i;
         }
 
+    -- the pool is without v
     yields-pool : owned_in W (changed S (op_row W S s u (op.YieldTo v p))) (InPool p.0) ≡ without v.0 (owned_in W S (InPool p.0))
     yields-pool =
         let T : State = changed S (op_row W S s u (op.YieldTo v p)) in
@@ -120,21 +127,26 @@ module _ (W : Parts) (Z : List OrderShape) (S : State) (s u : ℕ) (acts : IsAct
         ∙ (owned-same S T (all_but v.0 pl (standing W S (InPool p.0))) (EachOf-filter (λ w. T.carried w ≡ S.carried w) (stays ((v.0, pl) ∷ [])) (standing W S (InPool p.0)) same)
         ∙ without-owned S v.0 pl (standing W S (InPool p.0)) (standing-distinct W S (InPool p.0)))
 
+  -- the code by whether v is in p
   in-pool_code : (may : may_take W s p.0 ≡ true) (b : Bool) → is_in_pool p.0 (S.place v.0) ≡ b → code_of W S s u (op.YieldTo v p) ≡ unless b code.Absent code.Ok
   in-pool_code may b is = cond-true (may_take W s p.0) _ _ may ∙ ap (λ t. unless t code.Absent code.Ok) is
 
+  -- who is found stands in p
   found-standing : Among v.0 (standing W S (InPool p.0)) → StandsIn W S (InPool p.0) v.0
   found-standing m = EachOf-among (StandsIn W S (InPool p.0)) (standing W S (InPool p.0)) v.0 (each-stands W S (InPool p.0)) m
 
+  -- who stands in p is in p
   stands-in_pool : StandsIn W S (InPool p.0) v.0 → is_in_pool p.0 (S.place v.0) ≡ true
   stands-in_pool at = ap (is_in_pool p.0) at.at ∙ eq-eqb p.0 p.0 refl
 
+  -- who does not is not
   not-in_pool : (Among v.0 (standing W S (InPool p.0)) → ⊥) → is_in_pool p.0 (S.place v.0) ≡ false
   not-in_pool out = by (is_in_pool p.0 (S.place v.0)) refl where
     by : (b : Bool) → is_in_pool p.0 (S.place v.0) ≡ b → is_in_pool p.0 (S.place v.0) ≡ false
     by false e = e
     by true e = let t : (t : ℕ) × (ticket_in (InPool p.0) (S.place v.0) ≡ Some t) = in-pool p.0 (S.place v.0) e in absurd (out (among-standing W S acts.sound.undeclared (InPool p.0) v.0 t.0 t.1))
 
+  -- yielding to v, by the answer
   yieldto-value : may_take W s p.0 ≡ true → ValueRow W S s u (op.YieldTo v p) (λ T. pool_value W T p.0) PoolGives (act.Remove v.0)
   yieldto-value may (act.Given o) new gives =
       let found : Among v.0 (standing W S (InPool p.0)) × (owned_at S v.0 ≡ o) = found-among S v.0 (standing W S (InPool p.0)) o gives.0 in
@@ -149,5 +161,6 @@ module _ (W : Parts) (Z : List OrderShape) (S : State) (s u : ℕ) (acts : IsAct
   yieldto-value may (act.Coded _) new gives = absurd gives
   yieldto-value may _ new gives = absurd gives
 
+  -- the row of yieldto
   pub yieldto-row : may_take W s p.0 ≡ true → Row W S s u (op.YieldTo v p) (site.Pool p) (act.Remove v.0)
   yieldto-row may = row-by_value W S s u (op.YieldTo v p) (site.Pool p) PoolIs (λ T. pool_value W T p.0) PoolGives (act.Remove v.0) (pool-at W p.0) (yieldto-value may)

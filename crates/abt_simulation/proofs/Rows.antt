@@ -59,6 +59,7 @@ pub record ValueDone {V : Type 0} (W : Parts) (S : State) (s u : ℕ) (a : Op) (
   pub own : part_of W (after_step W S s u a e.code) s ≡ stepped (part_of W S s) e
   pub called : value (after_step W S s u a e.code) ≡ new
 
+-- what the row owes then
 abbrev pub ValueRow : {V : Type 0} → Parts → State → ℕ → ℕ → Op → (State → V) → (V → Act → Answer → V → Type 0) → Act → Type 0
 ValueRow {V = V} W S s u a value Gives asked = (b : Answer) (new : V) → Gives (value S) asked b new → ValueDone W S s u a value (effect_of a (owned_at S u) b) new
 
@@ -79,33 +80,41 @@ row-by_value {V = V} W S s u a x Is value Gives asked at row b new gives =
 -- The kinds.
 
 module _ (W : Parts) where
+  -- pool p
   pub pool-at : (p : ℕ) → IsAt W (site.Pool (pool_no p)) PoolIs (λ T. pool_value W T p) PoolGives
   pool-at p = record { here = λ T. refl; answers = λ old asked b new g. g; one = λ v w e. cc }
 
+  -- the desk of v
   pub desk-at : (v : ℕ) → IsAt W (site.Desk (unit_no v)) DeskIs (λ T. desk_value W T v) DeskGives
   desk-at v = record { here = λ T. refl; answers = λ old asked b new g. g; one = λ v w e. cc }
 
+  -- the monitor of mutex x
   pub mutex-at : (x : ℕ) → IsMutex W x → IsAt W (site.Monitor (object_no x)) MonitorIs (λ T. monitor_value W T x) MonitorGives
   mutex-at x is = record { here = λ T. ap (monitor_at W T x) is; answers = λ old asked b new g. g; one = λ v w e. cc }
 
+  -- eventual x
   pub eventual-at : (x : ℕ) → IsEventual W x → IsAt W (site.Eventual (object_no x)) EventualIs (λ T. eventual_value W T x) EventualGives
   eventual-at x is = record { here = λ T. ap (eventual_at W T x) is; answers = λ old asked b new g. g; one = λ v w e. cc }
 
+  -- future x
   pub future-at : (x n : ℕ) (c : Combine) → thing_at W x ≡ Some (thing.Future n c) → IsAt W (site.Future (object_no x)) FutureIs (λ T. future_value W T x n c) FutureGives
   future-at x n c is = record { here = λ T. ap (future_at W T x) is; answers = λ old asked b new g. g; one = λ v w e. cc }
 
+  -- barrier x
   pub barrier-at : (x n : ℕ) → thing_at W x ≡ Some (thing.Barrier n) → IsAt W (site.Barrier (object_no x)) BarrierIs (λ T. barrier_value W T x n) BarrierGives
   barrier-at x n is = record { here = λ T. ap (barrier_at W T x) is; answers = λ old asked b new g. g; one = λ v w e. cc }
 
 -- Steps that change nothing but what u carries.
 
 module _ (W : Parts) (Z : List OrderShape) (S : State) (s u : ℕ) (acts : IsActing W Z S s u) where
+  -- u is in the hand
   pub in-hand : hand W S s ≡ Some u
   in-hand = λ i. first_of (hand-standing W Z S s u acts i) where
     first_of : List ℕ → Option ℕ
     first_of [] = None
     first_of (v ∷ vs) = Some v
 
+  -- they touch no site
   carried-local : (k : Carried) → IsLocal W S s None (record no_change { carried = (u, k) ∷ [] })
   carried-local k = local-carried W S s None no_change (local-none W S s None) ((u, k) ∷ []) (hand-kept W S s None u in-hand, tt)
 
@@ -118,6 +127,7 @@ module _ (W : Parts) (Z : List OrderShape) (S : State) (s u : ℕ) (acts : IsAct
       value (changed S (record no_change { carried = (u, k) ∷ [] })) ≡ value S
   value-same x Is value Gives k at = at.one _ _ (sym (at.here (changed S (record no_change { carried = (u, k) ∷ [] }))) ∙ (objects-same k x ∙ at.here S))
 
+  -- a refusal changes nothing else
   pub refused-row : (a : Op) (c : Code) → IsRefusal c → step_row W S s u (Some a) c ≡ record no_change { carried = (u, refused c (S.carried u)) ∷ [] }
   refused-row a code.Ok r = absurd r
   refused-row a _ r = refl

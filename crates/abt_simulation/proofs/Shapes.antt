@@ -26,6 +26,7 @@ use Rattle.abt_simulation.proofs.LinesAfter.{all_but-first, line_at, stays, None
 use Rattle.abt_simulation.proofs.OwnedLines.{owned-same, carried-stays, owned-stays, owned-emptied, owned-joined}
 use Rattle.abt_simulation.proofs.OwnParts.{IsObjects, IsOff, IsAway, hand-elsewhere, tray-elsewhere, standing-distinct, moving, part-keeps, part-empties, away-other, away-declared, away-loose, hand-only}
 
+-- what holds of all that are among them holds of each
 pub each-among : (P : ℕ → Type 0) (us : List ℕ) → ((v : ℕ) → Among v us → P v) → EachOf P us
 each-among P [] h = tt
 each-among P (u ∷ us) h = (h u (inl refl), each-among P us (λ v m. h v (inr m)))
@@ -35,6 +36,7 @@ abbrev pub others : List ℕ → List ℕ
 others [] = []
 others (u ∷ us) = us
 
+-- all units but the first
 pub owned-others : (S : State) (us : List ℕ) → map (owned_at S) (others us) ≡ rest (map (owned_at S) us)
 owned-others S [] = refl
 owned-others S (u ∷ us) = refl
@@ -80,6 +82,7 @@ module _ (W : Parts) (Z : List OrderShape) (S : State) (s u : ℕ) (acts : IsAct
   -- Lines of objects.
 
   module _ (l : Line) (objects : IsObjects l) where
+    -- u does not stand in the line
     not-in : ticket_in l (S.place u) ≡ None
     not-in = hand-only W Z S s u acts l (hand-elsewhere s l objects)
 

@@ -24,6 +24,7 @@ use Rattle.abt_simulation.proofs.Others.{parts-stay, objects-stay}
 
 -- What stream s does next.
 
+-- by who stands in which line
 due-by_lists : (W : Parts) (S : State) (s : ℕ) (own : Stream) (us vs ws : List ℕ) →
     due_by W s own us (first vs) (option_map (at_position S) (first ws))
     ≡ due_by W s own (map (owned_at S) us) (first (map (owned_at S) vs)) (option_map number_and_position (first (map (owned_at S) ws)))

@@ -59,6 +59,7 @@ module _ (W : Parts) (Z : List OrderShape) (S : State) (s u : ℕ) (acts : IsAct
   abbrev Goes : Op → Plan → Type 0
   Goes a plan = Performs (part_of W S s) a (owned_at S u) plan heard c part
 
+  -- an operation that calls an object
   by-call : (a : Op) (x : Site) (asked : Act) → Row W S s u a x asked → Goes a (Calls x asked) → Stepped a
   by-call a x asked row goes =
       let e : Effect = effect_of a (owned_at S u) goes.0 in
@@ -69,6 +70,7 @@ module _ (W : Parts) (Z : List OrderShape) (S : State) (s u : ℕ) (acts : IsAct
         called = subst (λ h. Leaves W (after_step W S s u a c) h object) (sym goes.1) (ap (λ d. object_of W (after_step W S s u a d) x) goes.2 ∙ done.called);
       }
 
+  -- one that calls none
   by-itself : (a : Op) (e : Effect) → OwnDone W S s u a e → Goes a (Does e) → Stepped a
   by-itself a e done goes = record {
     code = goes.1 ∙ done.code;
@@ -119,6 +121,7 @@ module _ (W : Parts) (Z : List OrderShape) (S : State) (s u : ℕ) (acts : IsAct
   step-by-op valid (op.FuTest x) d goes = by-call (op.FuTest x) (site.Future x) _ (futest-row W Z S s u acts x d) goes
   step-by-op valid (op.BarWait x) d goes = by-call (op.BarWait x) (site.Barrier x) _ (barwait-row W Z S s u acts x d) goes
 
+-- a step, by its operation
 pub simulate-step : (W : Parts) (Z : List OrderShape) (S : State) (s : ℕ) (heard : Option Heard) (part : Held) (object : Object) (o : Owned) (c : Code) (a : Op) → IsValid W → Sound W Z S →
     due_of W s (part_of W S s) ≡ StepDue → first (owned_in W S (InHand s)) ≡ Some o → op_at W o.number o.carried.position ≡ Some a → Performs (part_of W S s) a o (plan_of W s a o) heard c part → Answers W S heard object →
     Simulated W Z S s (what.Step (unit_no o.number) o.carried.position c) heard part object
