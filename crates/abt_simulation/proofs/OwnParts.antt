@@ -190,9 +190,8 @@ module _ (W : Parts) (Z : List OrderShape) (S : State) (s u : ℕ) (acts : IsAct
     -- the part of s, by who is then in its hand
     module _ (cs : List (ℕ × Carried)) (c : Change) (distinct : IsDistinct us) (declared : EachOf (λ v. v < length W.units) us) (from : EachOf (λ (m : ℕ × Place). IsLoose m.0) pre) (loose : EachOf IsLoose us) (keys : EachOf (λ (m : ℕ × Carried). IsLoose m.0) cs) where
       -- nothing but the tray and perhaps the hand is other than before
-      pub part-by_hand : (hs : List ℕ) → standing W (changed S (moving (pre ++ to_tray W S s us) cs c)) (InHand s) ≡ hs →
-          part_of W (changed S (moving (pre ++ to_tray W S s us) cs c)) s
-          ≡ stepped (part_of W S s) (record (empties (map (owned_at (changed S (moving (pre ++ to_tray W S s us) cs c))) us)) { hand = first (map (owned_at (changed S (moving (pre ++ to_tray W S s us) cs c))) hs) })
+      part-by_hand : (hs : List ℕ) → let T : State = changed S (moving (pre ++ to_tray W S s us) cs c) in
+          standing W T (InHand s) ≡ hs → part_of W T s ≡ stepped (part_of W S s) (record (empties (map (owned_at T) us)) { hand = first (map (owned_at T) hs) })
       part-by_hand hs hands =
           let d : Change = moving (pre ++ to_tray W S s us) cs c in
           let T : State = changed S d in
@@ -221,9 +220,9 @@ module _ (W : Parts) (Z : List OrderShape) (S : State) (s u : ℕ) (acts : IsAct
   away-loose us away = EachOf-then (IsAway W S s) IsLoose us (λ v a. inr a.off) away
 
   -- u stays in the hand, others that s does not hold move elsewhere, and these go to the tray
-  pub part-keeps : (pre : List (ℕ × Place)) (us : List ℕ) (cs : List (ℕ × Carried)) (c : Change) → EachOf (λ (m : ℕ × Place). IsOff s (S.place m.0) × IsOff s m.1) pre → IsDistinct us → EachOf (IsAway W S s) us → EachOf (λ (m : ℕ × Carried). IsLoose m.0) cs →
-      part_of W (changed S (moving (pre ++ to_tray W S s us) cs c)) s
-      ≡ stepped (part_of W S s) (keeps (owned_at (changed S (moving (pre ++ to_tray W S s us) cs c)) u) (map (owned_at (changed S (moving (pre ++ to_tray W S s us) cs c))) us))
+  pub part-keeps : (pre : List (ℕ × Place)) (us : List ℕ) (cs : List (ℕ × Carried)) (c : Change) → let T : State = changed S (moving (pre ++ to_tray W S s us) cs c) in
+      EachOf (λ (m : ℕ × Place). IsOff s (S.place m.0) × IsOff s m.1) pre → IsDistinct us → EachOf (IsAway W S s) us → EachOf (λ (m : ℕ × Carried). IsLoose m.0) cs →
+      part_of W T s ≡ stepped (part_of W S s) (keeps (owned_at T u) (map (owned_at T) us))
   part-keeps pre us cs c moved distinct away keys =
       let to : EachOf (λ (m : ℕ × Place). IsOff s m.1) pre = EachOf-then (λ (m : ℕ × Place). IsOff s (S.place m.0) × IsOff s m.1) (λ (m : ℕ × Place). IsOff s m.1) pre (λ m o. o.1) moved in
       let from : EachOf (λ (m : ℕ × Place). IsOff s (S.place m.0)) pre = EachOf-then (λ (m : ℕ × Place). IsOff s (S.place m.0) × IsOff s m.1) (λ (m : ℕ × Place). IsOff s (S.place m.0)) pre (λ m o. o.0) moved in
@@ -234,10 +233,9 @@ module _ (W : Parts) (Z : List OrderShape) (S : State) (s u : ℕ) (acts : IsAct
       (line-stays (length W.units) (InHand s) S.place (pre ++ to_tray W S s us) (to-none pre us to (InHand s) refl (λ t. refl)) out ∙ hand-standing)
 
   -- u leaves the hand, and these go to the tray
-  pub part-empties : (pre : List (ℕ × Place)) (us : List ℕ) (cs : List (ℕ × Carried)) (c : Change) → EachOf (λ (m : ℕ × Place). IsLoose m.0 × IsOff s m.1) pre → IsDistinct us → EachOf (λ v. v < length W.units) us → EachOf IsLoose us → EachOf (λ (m : ℕ × Carried). IsLoose m.0) cs →
-      KeyOf u (pre ++ to_tray W S s us) →
-      part_of W (changed S (moving (pre ++ to_tray W S s us) cs c)) s
-      ≡ stepped (part_of W S s) (empties (map (owned_at (changed S (moving (pre ++ to_tray W S s us) cs c))) us))
+  pub part-empties : (pre : List (ℕ × Place)) (us : List ℕ) (cs : List (ℕ × Carried)) (c : Change) → let T : State = changed S (moving (pre ++ to_tray W S s us) cs c) in
+      EachOf (λ (m : ℕ × Place). IsLoose m.0 × IsOff s m.1) pre → IsDistinct us → EachOf (λ v. v < length W.units) us → EachOf IsLoose us → EachOf (λ (m : ℕ × Carried). IsLoose m.0) cs → KeyOf u (pre ++ to_tray W S s us) →
+      part_of W T s ≡ stepped (part_of W S s) (empties (map (owned_at T) us))
   part-empties pre us cs c moved distinct declared loose keys goes =
       let to : EachOf (λ (m : ℕ × Place). IsOff s m.1) pre = EachOf-then (λ (m : ℕ × Place). IsLoose m.0 × IsOff s m.1) (λ (m : ℕ × Place). IsOff s m.1) pre (λ m o. o.1) moved in
       part-by_hand pre us to cs c distinct declared (EachOf-then (λ (m : ℕ × Place). IsLoose m.0 × IsOff s m.1) (λ (m : ℕ × Place). IsLoose m.0) pre (λ m o. o.0) moved) loose keys []
