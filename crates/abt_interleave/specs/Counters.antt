@@ -10,6 +10,7 @@ pub record Counts : Type 0 where
   pub noted : ℕ → ℕ
   pub count : Bool → ℕ
 
+-- there are two counters
 abbrev pub same_counter : Bool → Bool → Bool
 same_counter true true = true
 same_counter false false = true
@@ -31,6 +32,7 @@ Adds s old w heard new = heard ≡ Some (w.0, w.1, new)
 abbrev pub CountsUp : ℕ → ℕ → ℕ → ℕ → Type 0
 CountsUp old n found new = (found ≡ old) × (new ≡ old + n)
 
+-- the machine: every event may come, and every state is sound
 abbrev pub counters : Machine
 counters = record {
   State = Counts;
@@ -51,35 +53,43 @@ counters = record {
   Sound = λ S. Unit {0};
 }
 
+-- at the start all is 0
 abbrev pub zeros : Counts
 zeros = record { noted = λ s. 0; count = λ x. 0 }
 
+-- a stream added n to counter x, which was at what it found
 abbrev pub adds : ℕ → ℕ → Bool → ℕ → ℕ → DeedOf counters
 adds stamp stream x n found = record { stamp = stamp; stream = stream; what = (x, n); heard = Some (x, n, found) }
 
+-- so a counter saw it
 abbrev pub entry : ℕ → ℕ → ℕ → ℕ → EntryOf counters
 entry stamp stream n found = record { stamp = stamp; stream = stream; act = n; answer = found }
 
 -- both streams add to one counter and then to the other
 
+-- what the streams did
 abbrev pub logs : ℕ → List (DeedOf counters)
 logs zero = adds 1 0 true 5 0 ∷ adds 2 0 false 1 0 ∷ []
 logs (suc zero) = adds 2 1 true 2 5 ∷ adds 3 1 false 4 1 ∷ []
 logs (suc (suc s)) = []
 
+-- what the counters saw
 abbrev pub histories : Bool → List (EntryOf counters)
 histories true = entry 1 0 5 0 ∷ entry 2 1 2 5 ∷ []
 histories false = entry 2 0 1 0 ∷ entry 3 1 4 1 ∷ []
 
+-- what the streams note in the end
 abbrev pub notes : ℕ → ℕ
 notes zero = 0
 notes (suc zero) = 1
 notes (suc (suc s)) = 0
 
+-- where the counters are in the end
 abbrev pub totals : Bool → ℕ
 totals true = 7
 totals false = 5
 
+-- all deeds, sorted
 abbrev pub merged : List (DeedOf counters)
 merged = adds 1 0 true 5 0 ∷ adds 2 0 false 1 0 ∷ adds 2 1 true 2 5 ∷ adds 3 1 false 4 1 ∷ []
 

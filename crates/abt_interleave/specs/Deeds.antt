@@ -31,12 +31,15 @@ abbrev pub last_from : ℕ → List ℕ → ℕ
 last_from n [] = n
 last_from n (t ∷ ts) = last_from t ts
 
+-- the last stamp, 0 where there is none
 abbrev pub last_stamp : List ℕ → ℕ
 last_stamp ts = last_from 0 ts
 
+-- the stamps of a log
 abbrev pub deed_stamps : {Place Act Answer What : Type 0} → List (Deed Place Act Answer What) → List ℕ
 deed_stamps log = map (λ d. d.stamp) log
 
+-- the stamps of a history
 abbrev pub entry_stamps : {Act Answer : Type 0} → List (Entry Act Answer) → List ℕ
 entry_stamps history = map (λ e. e.stamp) history
 

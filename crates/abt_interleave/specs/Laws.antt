@@ -20,10 +20,12 @@ EventsLift M Event = (event : DeedOf M → Event) (stamp stream : Event → ℕ)
 
 -- One turn more.
 
+-- a log, and a deed of its stream with a later stamp
 abbrev pub CourseGrows : Machine → Type 0
 CourseGrows M = (s : ℕ) (p q r : M.Part) (log : List (DeedOf M)) (d : DeedOf M) → Course M.Steps s p log q →
     d.stream ≡ s → last_stamp (deed_stamps log) < d.stamp → M.Steps s q d.what d.heard r → Course M.Steps s p (log ++ d ∷ []) r
 
+-- a history, and an entry with a later stamp
 abbrev pub LegalGrows : Machine → Type 0
 LegalGrows M = (o p q : M.Object) (history : List (EntryOf M)) (e : EntryOf M) → Legal M.Gives o history p →
     last_stamp (entry_stamps history) < e.stamp → M.Gives p e.act e.answer q → Legal M.Gives o (history ++ e ∷ []) q
@@ -39,6 +41,7 @@ HistoryGrows M histories d (Some h) longer =
     (longer h.0 ≡ histories h.0 ++ record { stamp = d.stamp; stream = d.stream; act = h.1; answer = h.2 } ∷ [])
     × ((x : M.Place) → h.0 ≢ x → longer x ≡ histories x)
 
+-- logs and histories that fit each other, and a deed with its entry
 abbrev pub MatchedGrows : Machine → Type 0
 MatchedGrows M = TellsPlaces M → (logs more : ℕ → List (DeedOf M)) (histories longer : M.Place → List (EntryOf M)) (d : DeedOf M) →
     Matched logs histories → LogGrows M logs d more → HistoryGrows M histories d d.heard longer → Matched more longer
@@ -59,14 +62,17 @@ GatheredGrows M = TellsPlaces M →
 
 -- One wave more: the logs and histories of a wave behind those of the waves before it.
 
+-- two logs of a stream, the stamps of the second above those of the first
 abbrev pub CoursesJoin : Machine → Type 0
 CoursesJoin M = (s : ℕ) (p q r : M.Part) (log more : List (DeedOf M)) → Course M.Steps s p log q → Course M.Steps s q more r →
     RisesAbove (last_stamp (deed_stamps log)) (deed_stamps more) → Course M.Steps s p (log ++ more) r
 
+-- two histories of an object, likewise
 abbrev pub HistoriesJoin : Machine → Type 0
 HistoriesJoin M = (o p q : M.Object) (history more : List (EntryOf M)) → Legal M.Gives o history p → Legal M.Gives p more q →
     RisesAbove (last_stamp (entry_stamps history)) (entry_stamps more) → Legal M.Gives o (history ++ more) q
 
+-- logs and histories that fit each other, in both waves
 abbrev pub MatchedJoin : Machine → Type 0
 MatchedJoin M = (logs more : ℕ → List (DeedOf M)) (histories longer : M.Place → List (EntryOf M)) → Matched logs histories → Matched more longer →
     Matched (λ s. logs s ++ more s) (λ x. histories x ++ longer x)

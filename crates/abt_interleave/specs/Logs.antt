@@ -15,9 +15,11 @@ pub record Matched {Place Act Answer What : Type 0} (logs : ℕ → List (Deed P
 abbrev pub IsSooner : ℕ → ℕ → ℕ → ℕ → Type 0
 IsSooner stamp stream later other = (stamp < later) ⊎ ((stamp ≡ later) × (stream < other))
 
+-- d comes before e
 abbrev pub IsBefore : {Place Act Answer What : Type 0} → Deed Place Act Answer What → Deed Place Act Answer What → Type 0
 IsBefore d e = IsSooner d.stamp d.stream e.stamp e.stream
 
+-- a comes before each of these, by R
 abbrev pub BeforeAll : {A : Type 0} → (A → A → Type 0) → A → List A → Type 0
 BeforeAll R a [] = Unit {0}
 BeforeAll R a (x ∷ xs) = R a x × BeforeAll R a xs

@@ -28,9 +28,11 @@ pub record Machine : Type 1 where
   pub after : State → ℕ → What → State
   pub Sound : State → Type 0
 
+-- what the machine's streams do
 abbrev pub DeedOf : Machine → Type 0
 DeedOf M = Deed M.Place M.Act M.Answer M.What
 
+-- what its objects see
 abbrev pub EntryOf : Machine → Type 0
 EntryOf M = Entry M.Act M.Answer
 
@@ -39,6 +41,7 @@ abbrev pub Runs : (M : Machine) → M.State → List (DeedOf M) → Type 0
 Runs M S [] = Unit {0}
 Runs M S (d ∷ ds) = (d.stream < M.streams) × M.May S d.stream d.what × Runs M (M.after S d.stream d.what) ds
 
+-- the state after these deeds
 abbrev pub ends_at : (M : Machine) → M.State → List (DeedOf M) → M.State
 ends_at M S [] = S
 ends_at M S (d ∷ ds) = ends_at M (M.after S d.stream d.what) ds

@@ -19,6 +19,7 @@ abbrev pub AllAfter : {Place Act Answer What : Type 0} → Deed Place Act Answer
 AllAfter d [] = Unit {0}
 AllAfter d (e ∷ es) = (Shares d e → d.stamp < e.stamp) × AllAfter d es
 
+-- what follows d is stamped
 abbrev pub StampedFrom : {Place Act Answer What : Type 0} → Deed Place Act Answer What → List (Deed Place Act Answer What) → Type 0
 StampedFrom d [] = Unit {0}
 StampedFrom d (e ∷ es) = Follows d e × AllAfter d (e ∷ es) × StampedFrom e es
@@ -32,6 +33,7 @@ Stamped (d ∷ ds) = (d.stamp ≡ 1) × StampedFrom d ds
 abbrev pub IsLeast : {Place Act Answer What : Type 0} → List (Deed Place Act Answer What) → Deed Place Act Answer What → Type 0
 IsLeast {Place} {Act} {Answer} {What} earlier d = (d.stamp ≡ 1) ⊎ ((e : Deed Place Act Answer What) × Contains earlier e × Shares e d × (d.stamp ≡ e.stamp + 1))
 
+-- each of these has a stamp above those before it that share a stream or an object with it, and no greater one than it needs
 abbrev pub LamportFrom : {Place Act Answer What : Type 0} → List (Deed Place Act Answer What) → List (Deed Place Act Answer What) → Type 0
 LamportFrom earlier [] = Unit {0}
 LamportFrom {Place} {Act} {Answer} {What} earlier (d ∷ ds) =
