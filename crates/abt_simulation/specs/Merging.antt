@@ -25,6 +25,7 @@ use Rattle.abt_interleave.specs.Stamps.{LeavesNoGap, AllTimed}
 
 -- The machine, as merging sees it.
 
+-- whether two sites are one
 abbrev pub same_site : Site → Site → Bool
 same_site (site.Pool p) (site.Pool q) = p.0 == q.0
 same_site (site.Desk u) (site.Desk v) = u.0 == v.0
@@ -61,10 +62,11 @@ StepsAreEvents W Z = IsValid W → OrdersStored W Z → IsSimulated (machine_of 
 
 -- Logs and histories.
 
--- what a stream did, with the call that it made and what it was answered; and what an object was asked, and what it answered
+-- what a stream did, with the call that it made and what it was answered
 abbrev pub StreamDeed : Type 0
 StreamDeed = Deed Site Act Answer What
 
+-- what an object was asked, and what it answered
 abbrev pub SiteEntry : Type 0
 SiteEntry = Entry Act Answer
 
