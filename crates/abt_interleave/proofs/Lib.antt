@@ -1,0 +1,11 @@
+pub mod Clocks
+pub mod Counted
+pub mod Grown
+pub mod Histories
+pub mod Interleaved
+pub mod Lifted
+pub mod Members
+pub mod Merged
+pub mod Orders
+pub mod Parts
+pub mod Stamping

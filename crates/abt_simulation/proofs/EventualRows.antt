@@ -1,0 +1,102 @@
+-- The rows of operations on eventuals. Unit u, in the hand of stream s, makes the step.
+use Rattle.std.proofs.Common.{◌≡◌, ℕ, is_none, is_some, false, List, [], ◌∷◌, Option, Some, None, refl, sym, ◌∙◌, ap}
+use Rattle.std.specs.Prelude.{option_map}
+use Rattle.abt_machine.specs.declared.events.Code.TheVariants as code
+use Rattle.abt_machine.specs.declared.events.Site.TheVariants as site
+use Rattle.abt_machine.specs.declared.numbers.ObjectNo.{ObjectNo}
+use Rattle.abt_machine.specs.declared.operations.Op.TheVariants as op
+use Rattle.abt_machine.specs.declared.operations.OrderShape.{OrderShape}
+use Rattle.abt_machine.specs.declared.workload.Parts.{Parts}
+use Rattle.abt_machine.specs.Operations.{IsEventual}
+use Rattle.abt_machine.specs.State.{State, Carried}
+use Rattle.abt_machine.specs.Carrying.{advanced, with_acc}
+use Rattle.abt_machine.specs.Lines.{Waiting}
+use Rattle.abt_machine.specs.Changes.{Change, no_change, changed, goes_with}
+use Rattle.abt_machine.specs.Steps.{waits, awaits, learns, truth}
+use Rattle.abt_machine.specs.Values.{owned_at, EventualIs, EventualValue, eventual_value, waiters_at, part_of}
+use Rattle.abt_machine.specs.Acts.{moved, received}
+use Rattle.abt_machine.specs.Acts as act
+use Rattle.abt_machine.specs.Plans.{keeps, empties}
+use Rattle.abt_machine.specs.Turns.{stepped}
+use Rattle.abt_machine.specs.Eventuals.{EventualGives}
+use Rattle.abt_laws.proofs.Maps.{put_at-same}
+use Rattle.abt_laws.proofs.Options.{none≢some, some-injective}
+use Rattle.abt_simulation.proofs.Acting.{IsActing}
+use Rattle.abt_simulation.proofs.OwnParts.{moving}
+use Rattle.abt_simulation.proofs.Shapes.{goes-part, line-same}
+use Rattle.abt_simulation.proofs.Rows.{Row, ValueRow, ValueDone, row-by_value, eventual-at, refuses}
+use Rattle.abt_simulation.proofs.ObjectShapes.{none-test, some-test, unless-true, unless-false, goes-through, waits-part, waits-line, giving, giving-part, giving-line}
+
+module _ (W : Parts) (Z : List OrderShape) (S : State) (s u : ℕ) (acts : IsActing W Z S s u) (x : ObjectNo) (is : IsEventual W x.0) where
+  abbrev value : State → EventualValue
+  value T = eventual_value W T x.0
+
+  -- where only u changes, and perhaps the value, the waiters stay
+  same-waiters : (k : Carried) (c : Change) → waiters_at W (changed S (moving [] ((u, k) ∷ []) c)) x.0 ≡ waiters_at W S x.0
+  same-waiters k c = line-same W Z S s u acts (Waiting x.0) tt [] k c tt tt
+
+  -- A wait.
+
+  await : ValueRow W S s u (op.EvWait x) value EventualGives (act.Await (moved (owned_at S u)))
+  await (act.Given b) new gives = by (S.eventual x.0) refl gives.0 where
+    by : (o : Option ℕ) → S.eventual x.0 ≡ o → option_map (λ n. received n (moved (owned_at S u))) o ≡ Some b → ValueDone W S s u (op.EvWait x) value (keeps b []) new
+    by None e given = absurd (none≢some given)
+    by (Some n) e given =
+        goes-through W Z S s u acts (op.EvWait x) value (keeps b []) new (goes_with u (with_acc n (S.carried u))) refl refl (ap (awaits S u x.0) e)
+        (goes-part W Z S s u acts (advanced (with_acc n (S.carried u))) no_change ∙ ap (λ o. stepped (part_of W S s) (keeps o [])) (some-injective given))
+        (ap (λ os. record { value = S.eventual x.0; waiters = os }) (same-waiters (advanced (with_acc n (S.carried u))) no_change) ∙ sym gives.1)
+  await act.Rested new gives = by (S.eventual x.0) refl gives.0 where
+    by : (o : Option ℕ) → S.eventual x.0 ≡ o → is_some o ≡ false → ValueDone W S s u (op.EvWait x) value (empties []) new
+    by None e none =
+        goes-through W Z S s u acts (op.EvWait x) value (empties []) new (waits S u x.0) refl refl (ap (awaits S u x.0) e)
+        (waits-part W Z S s u acts x.0)
+        (ap (λ os. record { value = S.eventual x.0; waiters = os }) (waits-line W Z S s u acts x.0) ∙ sym gives.1)
+    by (Some n) e none = absurd cc
+  await _ new gives = absurd gives
+
+  -- A value.
+
+  fill : ValueRow W S s u (op.EvSet x) value EventualGives (act.Fill (S.carried u).acc)
+  fill (act.Woke os) new gives =
+      let c : Change = record no_change { eventuals = (x.0, Some (S.carried u).acc) ∷ [] } in
+      let d : Change = giving W Z S s u acts x.0 (S.carried u).acc c in
+      goes-through W Z S s u acts (op.EvSet x) value (keeps (moved (owned_at S u)) os) new d refl (unless-true (is_none (S.eventual x.0)) code.EventualSet code.Ok (none-test (S.eventual x.0) gives.0)) refl
+      (giving-part W Z S s u acts x.0 (S.carried u).acc c ∙ ap (λ us. stepped (part_of W S s) (keeps (moved (owned_at S u)) us)) (sym gives.1))
+      ((λ i. record { value = put_at-same S.eventual x.0 (Some (S.carried u).acc) i; waiters = giving-line W Z S s u acts x.0 (S.carried u).acc c i }) ∙ sym gives.2)
+  fill (act.Coded code.EventualSet) new gives =
+      refuses W Z S s u acts (op.EvSet x) code.EventualSet (site.Eventual x) EventualIs value EventualGives new (eventual-at W x.0 is) tt
+      (sym (unless-false (is_none (S.eventual x.0)) code.EventualSet code.Ok (some-test (S.eventual x.0) gives.0))) gives.1
+  fill _ new gives = absurd gives
+
+  -- A reset.
+
+  reset : ValueRow W S s u (op.EvReset x) value EventualGives act.Reset
+  reset act.Rested new gives =
+      let c : Change = record no_change { eventuals = (x.0, None) ∷ [] } in
+      goes-through W Z S s u acts (op.EvReset x) value (keeps (moved (owned_at S u)) []) new (moving [] ((u, advanced (S.carried u)) ∷ []) c) refl refl refl
+      (goes-part W Z S s u acts (advanced (S.carried u)) c)
+      ((λ i. record { value = put_at-same S.eventual x.0 None i; waiters = same-waiters (advanced (S.carried u)) c i }) ∙ sym gives)
+  reset _ new gives = absurd gives
+
+  -- A test.
+
+  test : ValueRow W S s u (op.EvTest x) value EventualGives act.Test
+  test (act.Number n) new gives =
+      goes-through W Z S s u acts (op.EvTest x) value (keeps (received n (moved (owned_at S u))) []) new (learns S u (is_some (S.eventual x.0))) refl refl refl
+      (goes-part W Z S s u acts (advanced (with_acc (truth (is_some (S.eventual x.0))) (S.carried u))) no_change ∙ ap (λ m. stepped (part_of W S s) (keeps (received m (moved (owned_at S u))) [])) (sym gives.0))
+      (ap (λ os. record { value = S.eventual x.0; waiters = os }) (same-waiters (advanced (with_acc (truth (is_some (S.eventual x.0))) (S.carried u))) no_change) ∙ sym gives.1)
+  test _ new gives = absurd gives
+
+  -- The rows.
+
+  pub evwait-row : Row W S s u (op.EvWait x) (site.Eventual x) (act.Await (moved (owned_at S u)))
+  evwait-row = row-by_value W S s u (op.EvWait x) (site.Eventual x) EventualIs value EventualGives (act.Await (moved (owned_at S u))) (eventual-at W x.0 is) await
+
+  pub evset-row : Row W S s u (op.EvSet x) (site.Eventual x) (act.Fill (S.carried u).acc)
+  evset-row = row-by_value W S s u (op.EvSet x) (site.Eventual x) EventualIs value EventualGives (act.Fill (S.carried u).acc) (eventual-at W x.0 is) fill
+
+  pub evreset-row : Row W S s u (op.EvReset x) (site.Eventual x) act.Reset
+  evreset-row = row-by_value W S s u (op.EvReset x) (site.Eventual x) EventualIs value EventualGives act.Reset (eventual-at W x.0 is) reset
+
+  pub evtest-row : Row W S s u (op.EvTest x) (site.Eventual x) act.Test
+  evtest-row = row-by_value W S s u (op.EvTest x) (site.Eventual x) EventualIs value EventualGives act.Test (eventual-at W x.0 is) test

@@ -1,0 +1,45 @@
+-- Steps without a call: what a unit carries changes, the unit yields, or the stream refuses by itself. Unit u, in the hand of stream s, makes the step.
+use Rattle.std.proofs.Common.{◌≡◌, ℕ, List, [], ◌∷◌, refl, ◌∙◌, ap, inl}
+use Rattle.abt_machine.specs.declared.events.Code.{Code}
+use Rattle.abt_machine.specs.declared.events.Code.TheVariants as code
+use Rattle.abt_machine.specs.declared.operations.Op.{Op}
+use Rattle.abt_machine.specs.declared.operations.Op.TheVariants as op
+use Rattle.abt_machine.specs.declared.operations.OrderShape.{OrderShape}
+use Rattle.abt_machine.specs.declared.workload.Parts.{Parts}
+use Rattle.abt_machine.specs.State.{State, Carried}
+use Rattle.abt_machine.specs.Carrying.{advanced, refused}
+use Rattle.abt_machine.specs.Changes.{no_change, changed, goes_with}
+use Rattle.abt_machine.specs.Codes.{code_of}
+use Rattle.abt_machine.specs.Steps.{op_row}
+use Rattle.abt_machine.specs.Values.{owned_at, part_of}
+use Rattle.abt_machine.specs.Acts.{moved}
+use Rattle.abt_machine.specs.Plans.{Effect, local, empties, refusal}
+use Rattle.abt_machine.specs.Turns.{stepped}
+use Rattle.abt_laws.proofs.Maps.{put_at-same}
+use Rattle.abt_laws.proofs.Codes.{IsRefusal}
+use Rattle.abt_simulation.proofs.Acting.{IsActing}
+use Rattle.abt_simulation.proofs.OwnParts.{part-empties}
+use Rattle.abt_simulation.proofs.Shapes.{owned, goes-part}
+use Rattle.abt_simulation.proofs.Rows.{after_step, refused-row}
+
+-- operation a, which calls nothing, with this effect
+pub record OwnDone (W : Parts) (S : State) (s u : ℕ) (a : Op) (e : Effect) : Type 0 where
+  pub code : e.code ≡ code_of W S s u a
+  pub own : part_of W (after_step W S s u a e.code) s ≡ stepped (part_of W S s) e
+
+module _ (W : Parts) (Z : List OrderShape) (S : State) (s u : ℕ) (acts : IsActing W Z S s u) where
+  -- what u carries changes
+  pub local-row : (a : Op) (f : Carried → Carried) → code.Ok ≡ code_of W S s u a → op_row W S s u a ≡ goes_with u (f (S.carried u)) → OwnDone W S s u a (local f (owned_at S u))
+  local-row a f is row = record { code = is; own = ap (λ c. part_of W (changed S c) s) row ∙ goes-part W Z S s u acts (advanced (f (S.carried u))) no_change }
+
+  -- u goes to the tray
+  pub yield-row : OwnDone W S s u op.Yield (empties (moved (owned_at S u) ∷ []))
+  yield-row = record {
+    code = refl;
+    own = part-empties W Z S s u acts [] (u ∷ []) ((u, advanced (S.carried u)) ∷ []) no_change tt ((λ m. m), tt) (acts.declared, tt) (inl refl, tt) (inl refl, tt) (inl refl)
+        ∙ ap (λ k. stepped (part_of W S s) (empties (owned u k ∷ []))) (put_at-same S.carried u (advanced (S.carried u)));
+  }
+
+  -- a refusal by the stream itself
+  pub denied-row : (a : Op) (c : Code) → IsRefusal c → c ≡ code_of W S s u a → OwnDone W S s u a (refusal (owned_at S u) c)
+  denied-row a c r is = record { code = is; own = ap (λ d. part_of W (changed S d) s) (refused-row W Z S s u acts a c r) ∙ goes-part W Z S s u acts (refused c (S.carried u)) no_change }

@@ -1,0 +1,85 @@
+-- Where a desk's unit is, by its place.
+use Rattle.std.proofs.Common.{◌≡◌, Bool, true, false, Option, Some, None, refl, sym}
+use Rattle.std.proofs.lemmas.Bool.{false≢true}
+use Rattle.std.specs.Prelude.{if◌then◌else◌, option_map}
+use Rattle.abt_machine.specs.declared.events.Place.{Place}
+use Rattle.abt_machine.specs.declared.events.Place.TheVariants as place
+use Rattle.abt_machine.specs.declared.events.Spot.TheVariants as spot
+use Rattle.abt_machine.specs.Codes.{is_unborn, is_ended, is_alive, is_suspended}
+use Rattle.abt_machine.specs.Values.{Owned, phase_at}
+use Rattle.abt_machine.specs.Desks.{unborn_in, suspended_in, ended_in, has_ended, is_living}
+use Rattle.abt_laws.proofs.Options.{none≢some, some-injective}
+use Rattle.abt_laws.proofs.Places.{line_of}
+
+-- the unit where the test holds
+abbrev pub if_so : Bool → Owned → Option Owned
+if_so b o = if b then Some o else None
+
+-- whether it lives
+pub living-at : (o : Owned) (pl : Place) → is_living (phase_at o pl) ≡ is_alive pl
+living-at o place.Unborn = refl
+living-at o (place.Ended c) = refl
+living-at o (place.Blocked spot.Suspended t) = refl
+living-at o _ = refl
+
+-- whether it has ended
+pub ended-at : (o : Owned) (pl : Place) → has_ended (phase_at o pl) ≡ is_ended pl
+ended-at o place.Unborn = refl
+ended-at o (place.Ended c) = refl
+ended-at o (place.Blocked spot.Suspended t) = refl
+ended-at o _ = refl
+
+-- it is at its desk, unborn
+pub unborn_in-at : (o : Owned) (pl : Place) → unborn_in (phase_at o pl) ≡ if_so (is_unborn pl) o
+unborn_in-at o place.Unborn = refl
+unborn_in-at o (place.Ended c) = refl
+unborn_in-at o (place.Blocked spot.Suspended t) = refl
+unborn_in-at o _ = refl
+
+-- suspended
+pub suspended_in-at : (o : Owned) (pl : Place) → suspended_in (phase_at o pl) ≡ if_so (is_suspended pl) o
+suspended_in-at o place.Unborn = refl
+suspended_in-at o (place.Ended c) = refl
+suspended_in-at o (place.Blocked spot.Suspended t) = refl
+suspended_in-at o _ = refl
+
+-- ended
+pub ended_in-at : (o : Owned) (pl : Place) → ended_in (phase_at o pl) ≡ if_so (is_ended pl) o
+ended_in-at o place.Unborn = refl
+ended_in-at o (place.Ended c) = refl
+ended_in-at o (place.Blocked spot.Suspended t) = refl
+ended_in-at o _ = refl
+
+-- Units that such a test finds.
+
+-- it is found where the test holds
+pub so-some : (b : Bool) (o p : Owned) → if_so b o ≡ Some p → (b ≡ true) × (o ≡ p)
+so-some true o p e = (refl, some-injective e)
+so-some false o p e = absurd (none≢some e)
+
+-- it is not found where the test fails
+pub so-none : (b : Bool) (o : Owned) → if_so b o ≡ None → b ≡ false
+so-none true o e = absurd (none≢some (sym e))
+so-none false o e = refl
+
+-- what is made of it
+pub so-mapped : (f : Owned → Owned) (b : Bool) (o p : Owned) → option_map f (if_so b o) ≡ Some p → (b ≡ true) × (f o ≡ p)
+so-mapped f true o p e = (refl, some-injective e)
+so-mapped f false o p e = absurd (none≢some e)
+
+-- They stand in no line.
+
+-- an unborn unit
+pub unborn-nowhere : (pl : Place) → is_unborn pl ≡ true → line_of pl ≡ None
+unborn-nowhere place.Unborn e = refl
+unborn-nowhere _ e = absurd (false≢true e)
+
+-- an ended one
+pub ended-nowhere : (pl : Place) → is_ended pl ≡ true → line_of pl ≡ None
+ended-nowhere (place.Ended c) e = refl
+ended-nowhere _ e = absurd (false≢true e)
+
+-- a suspended one
+pub suspended-nowhere : (pl : Place) → is_suspended pl ≡ true → line_of pl ≡ None
+suspended-nowhere (place.Blocked spot.Suspended t) e = refl
+suspended-nowhere _ e = absurd (false≢true e)

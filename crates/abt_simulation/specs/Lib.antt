@@ -1,0 +1,3 @@
+pub mod Meeting
+pub mod Merging
+pub mod Simulation
