@@ -8,7 +8,7 @@ use Rattle.abt_machine.specs.Pools.{is_unit, without}
 use Rattle.abt_machine.specs.Values.{Owned}
 use Rattle.abt_unit.specs.Fits.{Fits}
 use Rattle.abt_unit.proofs.Fitting.{Fits-received, Fits-reborn}
-use Rattle.abt_chain.specs.Keeping.{IsPoolOf, LastsWith}
+use Rattle.abt_chain.specs.Keeping.{Have, IsPoolOf, LastsWith, nothing, only_pool, only_unit, only_units}
 
 -- what objects do to a unit keeps it fit for its workload
 pub Fits-lasts : (W : Parts) → LastsWith (IsPoolOf W) (Fits W)
@@ -37,3 +37,17 @@ pub All-received : (F : Owned → Type 0) (D : ℕ → Type 0) → LastsWith D F
 All-received F D lasts n [] all = All-nil F
 All-received F D lasts n (x ∷ xs) all =
     All-cons F (received n x) (map (received n) xs) (lasts.received x n (All-head F x xs all)) (All-received F D lasts n xs (All-tail F x xs all))
+
+-- facts of nothing, of one unit, of units and of one pool
+
+pub Have-nothing : (F : Owned → Type 0) (D : ℕ → Type 0) → Have F D nothing
+Have-nothing F D = (All-nil F, All-nil D)
+
+pub Have-unit : (F : Owned → Type 0) (D : ℕ → Type 0) (o : Owned) → F o → Have F D (only_unit o)
+Have-unit F D o has = (All-cons F o [] has (All-nil F), All-nil D)
+
+pub Have-units : (F : Owned → Type 0) (D : ℕ → Type 0) (os : List Owned) → All F os → Have F D (only_units os)
+Have-units F D os all = (all, All-nil D)
+
+pub Have-pool : (F : Owned → Type 0) (D : ℕ → Type 0) (p : ℕ) → D p → Have F D (only_pool p)
+Have-pool F D p has = (All-nil F, All-cons D p [] has (All-nil D))
