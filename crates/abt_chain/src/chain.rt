@@ -6,7 +6,9 @@ ghost use Rattle.abt_machine.specs.Pools.{is_unit, without};
 ghost use Rattle.abt_unit.specs.Units.{IsFree};
 
 use crate::Steps;
-use crate::parts::{Part, find_first, find_last, flipped, part_at, pop, reversed_onto, turned};
+use crate::parts::{
+    Part, find_first, find_last, flipped, halved, part_at, pop, reversed_onto, turned,
+};
 use abt_machine::UnitNo;
 use abt_unit::Unit;
 use std::marker::{Brand, Model};
@@ -68,14 +70,17 @@ impl Chain {
         self.take_front_by::<Brand>(Blank::new(1))
     }
 
-    /// Takes the last unit.
+    /// Takes the last unit. Where the back part is empty it gets half of the front part, so that units that are taken from both
+    /// ends in turn are not turned over again and again.
     pub fn take_back(&mut self) -> Option<Box<Unit>>
         ensures none { IfNone result ((self.old.units ≡ []) × (self.new.units ≡ [])) }
         ensures free { IfSome result (λ unit. IsFree unit.value) }
         ensures last { IfSome result (λ unit. self.old.units ≡ self.new.units ++ unit.value.owned ∷ []) }
     {
         if self.back.is_none() {
-            self.back = flipped(self.front.take());
+            let halves = halved(self.front.take());
+            self.front = halves.front;
+            self.back = halves.back;
         }
         pop(&mut self.back)
     }
