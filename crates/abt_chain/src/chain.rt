@@ -145,7 +145,7 @@ impl Chain {
         ensures free { IfSome result (λ unit. IsFree unit.value) }
         ensures first { IfSome result (λ unit. self.old.units ≡ unit.value.owned ∷ self.new.units) }
         ensures links { IfSome result (λ _. steps.new + self.new.owed ≡ steps.old + self.old.owed + 1) }
-        ensures no_link { IfNone result (steps.new ≡ steps.old) }
+        ensures no_link { IfNone result ((steps.new ≡ steps.old) × (self.new.owed ≡ self.old.owed)) }
     {
         if self.front.is_none() {
             self.front = turned(self.back.take(), None, steps);
