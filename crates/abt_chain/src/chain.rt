@@ -4,6 +4,7 @@ ghost use Rattle.std.specs.Prelude.{◌≡◌, ◌<◌, ◌≤◌, ◌+◌, ℕ,
 ghost use Rattle.std.specs.List.{find};
 ghost use Rattle.abt_machine.specs.Pools.{is_unit, without};
 ghost use Rattle.abt_unit.specs.Units.{IsFree};
+ghost use Rattle.abt_chain.specs.Links.{RisesByOne, walk_of};
 
 use crate::Steps;
 use crate::parts::{
@@ -133,7 +134,7 @@ impl Chain {
     pub fn push_back_counted<L: Ledger>(&mut self, mut unit: Box<Unit>, steps: &mut Steps<L>)
         requires free { IsFree unit.value }
         ensures units { self.new.units ≡ self.old.units ++ unit.value.owned ∷ [] }
-        ensures links { steps.new + self.new.owed ≡ steps.old + self.old.owed + 1 }
+        ensures links { RisesByOne (walk_of steps.old self.old) (walk_of steps.new self.new) }
     {
         unit.link = self.back.take();
         self.back = Some(unit);
@@ -144,8 +145,8 @@ impl Chain {
         ensures none { IfNone result ((self.old.units ≡ []) × (self.new.units ≡ [])) }
         ensures free { IfSome result (λ unit. IsFree unit.value) }
         ensures first { IfSome result (λ unit. self.old.units ≡ unit.value.owned ∷ self.new.units) }
-        ensures links { IfSome result (λ _. steps.new + self.new.owed ≡ steps.old + self.old.owed + 1) }
-        ensures no_link { IfNone result ((steps.new ≡ steps.old) × (self.new.owed ≡ self.old.owed)) }
+        ensures links { IfSome result (λ _. RisesByOne (walk_of steps.old self.old) (walk_of steps.new self.new)) }
+        ensures no_link { IfNone result (walk_of steps.new self.new ≡ walk_of steps.old self.old) }
     {
         if self.front.is_none() {
             self.front = turned(self.back.take(), None, steps);
