@@ -3,7 +3,7 @@ use Rattle.std.proofs.lemmas.List.{append-nil}
 use Rattle.std.proofs.lemmas.List.Elements.{All-pop}
 use Rattle.abt_booth.specs.declared.history.Entry.{Entry}
 use Rattle.abt_booth.specs.Seats.{known_of, gathered_of, seats_of, IsSeatOf, HasEachNumber}
-use Rattle.abt_booth.proofs.Seats.{known_pop}
+use Rattle.abt_booth.proofs.Gathering.{known_pop}
 use Rattle.abt_booth.proofs.booth.Booth.close.Goals as goal
 
 pub loop-seat-init : goal.loop-seat-init

@@ -4,7 +4,8 @@ use Rattle.std.proofs.lemmas.List.Elements.{All-nil, All-push}
 use Rattle.abt_booth.specs.Rule.{SeatState, keeping, left}
 use Rattle.abt_booth.specs.Seats.{opening_of, seen_of, IsSeatOf, AreInOrder}
 use Rattle.abt_booth.specs.declared.booth.Seat.{Seat}
-use Rattle.abt_booth.proofs.Seats.{deals, in_order_push}
+use Rattle.abt_booth.proofs.Dealing.{deals}
+use Rattle.abt_booth.proofs.Seats.{in_order_push}
 use Rattle.abt_booth.proofs.booth.Booth.deal.Goals as goal
 
 pub loop-i-init : goal.loop-i-init

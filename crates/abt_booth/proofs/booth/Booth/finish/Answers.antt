@@ -4,7 +4,8 @@ use Rattle.std.specs.Mem.Slots.{slots_items}
 use Rattle.abt_booth.specs.declared.rule.Lot.{Lot}
 use Rattle.abt_booth.specs.Calls.{IsClosed}
 use Rattle.abt_booth.specs.Seats.{opening_of, seats_of, gathered_of}
-use Rattle.abt_booth.proofs.Seats.{closes, same_some}
+use Rattle.abt_booth.proofs.Gathering.{closes}
+use Rattle.abt_booth.proofs.Places.{same_some}
 use Rattle.abt_booth.proofs.booth.Booth.finish.Goals as goal
 
 pub unreachable-requires : goal.unreachable-requires

@@ -1,6 +1,6 @@
 use Rattle.std.proofs.Common.{rules, ◌<◌, ap, sym, subst, ◌∙◌, arith}
 use Rattle.abt_booth.specs.Rule.{all_known}
-use Rattle.abt_booth.proofs.Seats.{gathers}
+use Rattle.abt_booth.proofs.Gathering.{gathers}
 use Rattle.abt_booth.proofs.booth.Booth.gather.Goals as goal
 
 pub join_seat-requires : goal.join_seat-requires

@@ -2,7 +2,7 @@ use Rattle.std.proofs.Common.{refl, sym, ap, subst, ◌∙◌, List, [], ◌∷�
 use Rattle.atomic_table.specs.Table.{opening}
 use Rattle.abt_booth.specs.declared.rule.Lot.{Lot}
 use Rattle.abt_booth.specs.Rule.{Slot, Kept, keeper}
-use Rattle.abt_booth.proofs.Seats.{opens}
+use Rattle.abt_booth.proofs.Dealing.{opens}
 use Rattle.abt_booth.proofs.booth.Booth.open.Goals as goal
 
 pub new-requires : goal.new-requires
