@@ -7,7 +7,7 @@ use Rattle.atomic_table.proofs.Lists.{at_map}
 use Rattle.abt_booth.specs.declared.object.Object.{Ghosts}
 use Rattle.abt_booth.specs.declared.booth.Booth.{Booth}
 use Rattle.abt_booth.specs.declared.booth.Seat.{Seat}
-use Rattle.abt_booth.specs.Seats.{number_of, known_of, seats_of, AreInOrder, AreAllSeatsOf, IsSeatOf}
+use Rattle.abt_booth.specs.Seats.{number_of, known_of, seats_of, AreInOrder, AreNewSeatsOf, AreAllSeatsOf, IsSeatOf}
 use Rattle.abt_booth.proofs.Places.{index_at, at_or, at_end}
 
 module _ {O A R : Type 0} {g : Ghosts O A R} where
@@ -35,6 +35,10 @@ module _ {O A R : Type 0} {g : Ghosts O A R} where
         let q = index_at seats number t.0 t.0 t.1 in
         (number, k, p.0, p.1, ap number_of (sym q.1) ∙ in_order number t.0 below),
   )
+
+  -- a booth's new seats are all its seats
+  pub new_seats : (booth : Booth O A R) (seats : List (Seat O A R g)) → AreNewSeatsOf booth seats → AreAllSeatsOf booth seats
+  new_seats booth seats new = all_seats booth seats new.many new.each new.in_order
 
 -- what was written through a slice of a whole vector is the whole vector
 pub written_back : {X : Type 0} (n : ℕ) (xs ys : List X) → length xs ≡ n → length ys ≡ n → take n (xs ++ drop (length xs) ys) ≡ xs
