@@ -1,7 +1,6 @@
 -- Laws of histories.
 use Rattle.std.proofs.Common.{◌≡◌, ℕ, ◌+◌, ◌<◌, ◌≤◌, List, [], ◌∷◌, ◌++◌, length, cond, eqb, ne_eqb, refl, sym, ap, ◌∙◌, subst, arith}
 use Rattle.std.proofs.lemmas.List.{append_assoc, append-nil}
-use mathlib.Core.List.{IsPrefix}
 use Rattle.abt_booth.specs.declared.history.Entry.{Entry}
 use Rattle.abt_booth.specs.History.{calls_of, last_from, Rises, Extends, Leads}
 

@@ -1,9 +1,11 @@
 //! A counter behind a booth, and threads that add to it.
-ghost use Rattle.std.specs.Prelude.{◌≡◌};
+ghost use Rattle.std.specs.Prelude.{◌≡◌, ◌≤◌, IfSome};
 ghost use Rattle.std.specs.List.{All};
 ghost use Rattle.abt_booth.specs.Seats.{number_of, IsSeatOf, AreInOrder};
+ghost use Rattle.booth_caller.specs.Counts.{IsCounted};
 
-use abt_booth::{Booth, Object, Seat};
+use abt_booth::{Booth, Closed, Object, Seat};
+use std::alloc::Global;
 use std::sync::Wait;
 use std::thread;
 use std::thread::Threads;
@@ -15,7 +17,7 @@ pub struct Counter {
 }
 
 impl Object for Counter {
-    ghost use Rattle.std.specs.Prelude.{◌≡◌, ◌+◌, ◌%◌, ◌^◌};
+    ghost use Rattle.booth_caller.specs.Counters.{Adds};
 
     type Act = u64;
 
@@ -23,7 +25,7 @@ impl Object for Counter {
 
     ghost allowed = { λ counter act. Unit {0} };
 
-    ghost does = { λ old act answer new. (new.sum ≡ (old.sum + act) % 2 ^ 64) × (answer ≡ new.sum) };
+    ghost does = { Adds };
 
     ghost keeps = { λ _ _ _ _ _ _ _. tt };
 
@@ -31,6 +33,24 @@ impl Object for Counter {
         self.sum = self.sum.wrapping_add(act);
         self.sum
     }
+}
+
+/// Counts from 0 with as many threads as are said, each adding 1 as often as is said, and closes the booth. None is
+/// want of memory.
+pub fn count<R: Threads + Wait + Sync>(
+    rt: &R,
+    alloc: Global,
+    threads: u32,
+    times: u32,
+) -> Option<Closed<Counter>>
+    requires { 1 ≤ threads }
+    ensures { IfSome result (λ closed. IsCounted threads closed.object.sum closed.clock) }
+{
+    let Ok((booth, mut seats)) = Booth::make(alloc, Counter { sum: 0 }, threads) else {
+        return None;
+    };
+    add_on_threads(rt, &booth, seats.as_mut_slice(), times);
+    Some(booth.close(seats))
 }
 
 /// Adds 1 as often as is said, with one seat.

@@ -7,5 +7,5 @@ mod letters;
 #[cfg(test)]
 mod tests;
 
-pub use counter::{Counter, add, add_on_threads};
+pub use counter::{Counter, add, add_on_threads, count};
 pub use letters::{Ask, Letter, Told, Tray, deliver};

@@ -73,11 +73,9 @@ fn counter_booth(rt: HostRuntime) {
 
 #[test]
 fn four_threads_add_a_thousand_times_each(rt: HostRuntime) {
-    let Ok((booth, mut seats)) = Booth::make(rt.alloc(), Counter { sum: 0 }, 4) else {
+    let Some(closed) = count(&rt, rt.alloc(), 4, 1000) else {
         panic!(rt; "no memory")
     };
-    add_on_threads(&rt, &booth, seats.as_mut_slice(), 1000);
-    let closed = booth.close(seats);
     assert_eq!(rt; (closed.object.sum, closed.clock), (4000, 4000));
 }
 

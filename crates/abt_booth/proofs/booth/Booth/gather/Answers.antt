@@ -1,5 +1,4 @@
-use Rattle.std.proofs.Common.{rules, ◌<◌, ap, sym, subst, ◌∙◌, arith}
-use Rattle.abt_booth.specs.Rule.{all_known}
+use Rattle.std.proofs.Common.{rules, ◌<◌, arith}
 use Rattle.abt_booth.proofs.Gathering.{gathers}
 use Rattle.abt_booth.proofs.booth.Booth.gather.Goals as goal
 
