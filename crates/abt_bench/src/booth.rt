@@ -9,9 +9,10 @@ use std::thread::Threads;
 use std::time::{Duration, Instant};
 use std::{io, thread};
 
-const CALLS: u32 = 400_000;
+// Calls of each thread in a round: few, so that some rounds run without a pause on a busy machine.
+const CALLS: u32 = 20_000;
 
-const ROUNDS: u32 = 9;
+const ROUNDS: u32 = 201;
 
 /// Four threads with a thousand calls each.
 pub fn small<R: Threads + Wait + Sync + Print>(rt: &R, alloc: Global) -> io::Result<()> {
@@ -26,44 +27,33 @@ pub fn small<R: Threads + Wait + Sync + Print>(rt: &R, alloc: Global) -> io::Res
     }
 }
 
-/// Nanoseconds a call, the least and the greatest of some rounds, of a booth and of a mutex.
+/// Nanoseconds a call, the least and the middle of many rounds, of a booth and of a mutex in turn.
 pub fn times<R: Threads + Wait + Sync + Print + Clock>(rt: &R, alloc: Global) -> io::Result<()> {
     for threads in [1u32, 2, 4, 16] {
-        let mut booth = Range::new();
-        let mut mutex = Range::new();
+        let mut booth = Vec::new(alloc);
+        let mut mutex = Vec::new(alloc);
         for _ in 0..ROUNDS {
-            booth.add(booth_time(rt, alloc, threads)?, threads);
-            mutex.add(mutex_time(rt, alloc, threads)?, threads);
+            booth.push(each(booth_time(rt, alloc, threads)?, threads))?;
+            mutex.push(each(mutex_time(rt, alloc, threads)?, threads))?;
         }
+        let (booth_least, booth_middle) = least_and_middle(&mut booth)?;
+        let (mutex_least, mutex_middle) = least_and_middle(&mut mutex)?;
         println!(rt;
-            "threads {threads}: booth {} to {} ns a call, mutex {} to {} ns a call",
-            booth.least, booth.greatest, mutex.least, mutex.greatest
+            "threads {threads}: booth {booth_least} least, {booth_middle} middle; mutex {mutex_least} least, {mutex_middle} middle (ns a call)"
         )?;
     }
     Ok(())
 }
 
-// The least and the greatest of some times, in nanoseconds a call.
-#[derive(Drop)]
-struct Range {
-    least: u128,
-    greatest: u128,
+fn each(took: Duration, threads: u32) -> u128 {
+    took.as_nanos() / (threads as u128 * CALLS as u128).max(1)
 }
 
-impl Range {
-    fn new() -> Self {
-        Range {
-            least: u128::MAX,
-            greatest: 0,
-        }
-    }
-
-    fn add(&mut self, took: Duration, threads: u32) {
-        let calls = (threads as u128 * CALLS as u128).max(1);
-        let each = took.as_nanos() / calls;
-        self.least = self.least.min(each);
-        self.greatest = self.greatest.max(each);
-    }
+fn least_and_middle(times: &mut Vec<u128>) -> io::Result<(u128, u128)> {
+    times.sort()?;
+    let least = times.first().copied().unwrap_or(0);
+    let middle = times.get(times.len() / 2).copied().unwrap_or(0);
+    Ok((least, middle))
 }
 
 fn booth_time<R: Threads + Wait + Sync + Clock>(
