@@ -16,8 +16,8 @@ use std::thread::yield_now;
 /// No stamp is greater: 2^62. A clock that is there is worn.
 pub const LAST_STAMP: u64 = 1 << 62;
 
-// How often a caller looks for the turn before it lets other threads run.
-const SPINS: u32 = 100;
+// A caller that finds the turn held pauses ever longer, and after a pause of this length lets other threads run.
+const LONGEST_PAUSE: u32 = 128;
 
 impl<O: Object> Booth<O> {
     /// Asks the object, once the seat has the turn. The stamp is one more than the greater of `at` and the
@@ -57,7 +57,7 @@ impl<O: Object> Booth<O> {
         ensures same { (seat.new.table_id ≡ seat.old.table_id) × (seat.new.id ≡ seat.old.id) }
         ensures turn { Takes O.does seat.old.me result seat.new.me }
     {
-        let mut spins = 0;
+        let mut pause = 1;
         for _ in rt.forever() {
             let free = self.table.shared.peek(0);
             if free % 2 == 0
@@ -69,9 +69,9 @@ impl<O: Object> Booth<O> {
             {
                 return free;
             }
-            if spins < SPINS {
-                spins += 1;
-                spin_loop();
+            if pause < LONGEST_PAUSE {
+                spin(pause);
+                pause *= 2;
             } else {
                 yield_now();
             }
@@ -147,5 +147,12 @@ impl<O: Object> Booth<O> {
         };
         self.put(seat, lot);
         self.table.shared.store::<Release>(seat, 0, free + 2);
+    }
+}
+
+// Pauses, without letting other threads run.
+fn spin(times: u32) {
+    for _ in 0..times {
+        spin_loop();
     }
 }
