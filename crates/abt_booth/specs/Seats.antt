@@ -66,5 +66,7 @@ module _ {O A R : Type 0} {g : Ghosts O A R} where
 
   -- what a call answered, and what its seat has then seen
   abbrev pub Replies : (O → A → R → O → Type 0) → Booth O A R → Seat O A R g → Seat O A R g → ℕ → A → Called O A R → Type 0
-  Replies does booth old new at act (called.Done stamp answer) = IsAnswered does (opening_of booth) (number_of old) (seen_of old) (seen_of new) at act stamp answer
-  Replies does booth old new at act (called.Worn back) = IsWorn does (opening_of booth) (number_of old) (seen_of old) (seen_of new) at act back
+  Replies does booth old new at act (called.Done stamp answer) =
+      IsAnswered does (opening_of booth) (number_of old) (seen_of old) (seen_of new) at act stamp answer
+  Replies does booth old new at act (called.Worn back) =
+      IsWorn does (opening_of booth) (number_of old) (seen_of old) (seen_of new) at act back
