@@ -1,13 +1,12 @@
 //! Who owns a mutex and who waits, on rows of calls.
 
-ghost use Rattle.std.specs.Prelude.{◌≡◌, ◌<◌, IfOk, IfSome, length};
+ghost use Rattle.std.specs.Prelude.{◌≡◌, ◌<◌, IfSome, length};
 ghost use Rattle.abt_unit.specs.Units.{IsFree};
 
 use crate::Monitor;
 use abt_machine::{Code, UnitNo};
 use abt_sample::unit;
 use abt_unit::Unit;
-use std::alloc::Global;
 use std::process::Abort;
 use std::test::Fail;
 
