@@ -1,0 +1,10 @@
+//! Pools: FIFO and deque pools of ready units.
+#![tactic(auto)]
+
+mod laws;
+mod pool;
+#[cfg(test)]
+mod tests;
+
+pub use laws::pools_keep_what_fits;
+pub use pool::Pool;
