@@ -2,6 +2,7 @@
 
 ghost use Rattle.std.specs.Prelude.{◌≡◌, ◌<◌, ◌↔◌, Box, [], length, replicate, IfErr, IfNone, IfOk, IfSome, IsTrue, None, Some, option_copied, option_map};
 ghost use Rattle.std.specs.List.{find};
+ghost use Rattle.std.specs.Option.{ForSome};
 ghost use Rattle.std.specs.declared.alloc.Global.{Global};
 ghost use Rattle.abt_machine.specs.declared.events.Code.TheVariants as code;
 ghost use Rattle.abt_machine.specs.Acts.{Back, Broadcast, Coded, Given, Load, Lock, Number, Rested, Signal, Store, TryLock, Unlock, Wait};
@@ -169,9 +170,10 @@ impl Monitor {
         woken
     }
 
-    /// The unit of that number that waits for the mutex, or at the condition that is given.
+    /// The first unit of that number among those that wait for the mutex, or at the condition that is given. The time is that
+    /// of a walk over them.
     pub fn waiter(&self, cond: Option<u32>, u: UnitNo) -> Option<&Unit>
-        requires { IfSome cond (λ cond. cond < length self.now.conds) }
+        requires { ForSome cond (λ cond. cond < length self.now.conds) }
         ensures mutex { IfNone cond (option_map (λ (unit : UnitValue). unit.owned) (option_copied result) ≡ find (is_unit u.0) self.now.waiters) }
         ensures condition { IfSome cond (λ cond. option_map (λ (unit : UnitValue). unit.owned) (option_copied result) ≡ find (is_unit u.0) (at_condition cond self.now)) }
     {
