@@ -79,7 +79,7 @@ fn four_threads_add_a_thousand_times_each(rt: HostRuntime) {
     assert_eq!(rt; (closed.object.sum, closed.clock), (4000, 4000));
 }
 
-// Run it also with each allocation refused in turn.
+// `rt try --test --fail-alloc N`, for N from 1 to 4, refuses each allocation of `make` in turn.
 #[test]
 fn make_gives_all_seats_or_hands_the_object_back(rt: HostRuntime) {
     match Booth::make(rt.alloc(), Counter { sum: 7 }, 3) {
