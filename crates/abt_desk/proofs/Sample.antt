@@ -1,5 +1,5 @@
 -- The workload of the tests is valid: one stream, a pool, its scheduler, and three units without operations.
-use Rattle.std.proofs.Common.{◌≡◌, ◌<◌, ◌≤◌, ◌-◌, ◌^◌, ℕ, suc, zero, [], ◌∷◌, List, None, Some, length, refl, subst, arith, lit<, lit≤}
+use Rattle.std.proofs.Common.{◌≡◌, ◌<◌, ◌≤◌, ℕ, suc, zero, [], ◌∷◌, None, Some, length, refl, subst, arith, lit<, lit≤}
 use Rattle.std.specs.Fmt.{digits}
 use Rattle.std.proofs.lemmas.List.Elements.{All-cons, All-nil}
 use Rattle.abt_machine.specs.declared.operations.Access.TheVariants as access

@@ -7,6 +7,7 @@ ghost use Rattle.abt_machine.specs.declared.events.Code.TheVariants as code;
 ghost use Rattle.abt_machine.specs.declared.events.Shown.TheVariants as shows;
 ghost use Rattle.abt_machine.specs.declared.numbers.PoolNo.{PoolNo};
 ghost use Rattle.abt_machine.specs.Acts as act;
+ghost use Rattle.abt_machine.specs.Acts.{reborn};
 ghost use Rattle.abt_machine.specs.Desks.{DeskGives, ended_in, suspended_in, unborn_in};
 ghost use Rattle.abt_machine.specs.Pools.{is_unit};
 ghost use Rattle.abt_machine.specs.Values.{Ended, Out, Owned, Suspended, Unborn};
@@ -101,10 +102,7 @@ impl Desk {
         ensures refused { IfErr result (λ code. DeskGives self.old (act.Create home.0) (act.Coded code) self.new) }
     {
         match mem::replace(&mut self.phase, Phase::Out) {
-            Phase::Unborn(mut unit) => {
-                unit.begin_life(home);
-                Ok(unit)
-            }
+            Phase::Unborn(unit) => Ok(begun(unit, home)),
             other => {
                 self.phase = other;
                 Err(Code::Exists)
@@ -220,10 +218,7 @@ impl Desk {
         ensures refused { IfNone result (DeskGives self.old (act.Revive home.0) (act.Coded code.UnitState) self.new) }
     {
         match mem::replace(&mut self.phase, Phase::Out) {
-            Phase::Ended(mut unit, _) => {
-                unit.begin_life(home);
-                Some(unit)
-            }
+            Phase::Ended(unit, _) => Some(begun(unit, home)),
             other => {
                 self.phase = other;
                 None
@@ -308,4 +303,12 @@ impl Desk {
             migrate: None,
         };
     }
+}
+
+// The unit at the beginning of a life, with that home.
+fn begun(mut unit: Box<Unit>, home: PoolNo) -> Box<Unit>
+    ensures { result.value ≡ record unit.value { owned = reborn home.0 unit.value.owned } }
+{
+    unit.begin_life(home);
+    unit
 }

@@ -50,13 +50,15 @@ fn workload(alloc: Global) -> Result<Workload, AllocError>
 }
 
 // The unit of that number among the three, with that in its accumulator.
-fn unit(alloc: Global, w: &Workload, number: u32, acc: u64) -> Result<Box<Unit>, Fail>
+fn unit(rt: &impl Abort, alloc: Global, w: &Workload, number: u32, acc: u64) -> Box<Unit>
     requires { number < length w.now.units }
-    ensures free { IfOk result (λ unit. IsFree unit.value) }
+    ensures { IsFree result.value }
 {
-    let mut unit = Unit::make(alloc, w, UnitNo(number))?;
+    let mut unit = Unit::make(alloc, w, UnitNo(number))
+        .ok()
+        .expect(rt, "there is memory");
     unit.receive(acc);
-    Ok(unit)
+    unit
 }
 
 // The unit that came out, which has that number.
@@ -75,128 +77,31 @@ fn next_is(rt: &impl Abort, chain: &mut Chain, number: u32, acc: u64) {
     assert_eq!(rt; unit.acc(), acc);
 }
 
-#[test]
-fn a_life_goes_its_way(rt: HostRuntime) -> Result<(), Fail> {
-    let w = workload(rt.alloc())?;
-    let mut desk = Desk::new(unit(rt.alloc(), &w, 0, 7)?, false);
-    assert_eq!(rt; desk.number(), UnitNo(0));
-    assert_eq!(rt; desk.shown(), Some(Shown::Unborn));
-
-    let own = desk.create(PoolNo(4)).ok();
-    let own = came_out(&rt, own, 0);
-    assert_eq!(rt; own.home(), PoolNo(4));
-    assert_eq!(rt; own.acc(), 0);
-    assert!(rt; desk.held().is_none());
-    assert!(rt; desk.shown().is_none());
-
-    desk.suspend(own);
-    assert_eq!(rt; desk.shown(), Some(Shown::Suspended));
-    let own = came_out(&rt, desk.resume(), 0);
-    assert!(rt; desk.resume().is_none());
-
-    assert!(rt; desk.join(unit(rt.alloc(), &w, 1, 5)?).is_none());
-    assert!(rt; desk.join(unit(rt.alloc(), &w, 2, 6)?).is_none());
-    let mut woken = desk.end(own, Cause::Done);
-    next_is(&rt, &mut woken, 1, 5);
-    next_is(&rt, &mut woken, 2, 6);
-    assert!(rt; woken.is_empty());
-    assert_eq!(rt; desk.shown(), Some(Shown::Ended(Cause::Done)));
-
-    let joining = came_out(&rt, desk.join(unit(rt.alloc(), &w, 1, 5)?), 1);
-    assert_eq!(rt; joining.acc(), 5);
-    let own = came_out(&rt, desk.revive(PoolNo(3)), 0);
-    assert_eq!(rt; own.home(), PoolNo(3));
-    assert!(rt; desk.revive(PoolNo(3)).is_none());
-    Ok(())
-}
-
-// What a desk answers to requests, one after the other.
-fn requested(desk: &mut Desk) -> [Code; 6] {
-    [
-        desk.ask_migrate(PoolNo(1)),
-        desk.ask_migrate(PoolNo(2)),
-        desk.set_migratable(false),
-        desk.ask_migrate(PoolNo(3)),
-        desk.set_migratable(true),
-        desk.ask_cancel(),
-    ]
-}
-
-// A desk whose unit is out in its first life, and is not created again.
-fn born(rt: &impl Abort, unit: Box<Unit>, sched: bool) -> Desk
+// The desk of a unit that is out in its first life and can't be created again, and the unit.
+fn born(rt: &impl Abort, unit: Box<Unit>, sched: bool) -> (Desk, Box<Unit>)
     requires { IsFree unit.value }
+    ensures { IsFree result.1.value }
 {
     let mut desk = Desk::new(unit, sched);
-    assert!(rt; desk.create(PoolNo(4)).is_ok());
+    assert_eq!(rt; desk.shown(), Some(Shown::Unborn));
+    let own = desk.create(PoolNo(4)).ok().expect(rt, "the unit is unborn");
     assert_eq!(rt; desk.create(PoolNo(4)).err(), Some(Code::Exists));
-    desk
+    assert!(rt; desk.shown().is_none());
+    (desk, own)
 }
 
-// A desk answers so to those requests, and the unit's next look finds these; a further look finds nothing.
-fn row(rt: &impl Abort, mut desk: Desk, answers: [Code; 6], asks: Asks) {
-    assert_eq!(rt; requested(&mut desk), answers);
-    assert_eq!(rt; desk.look(), asks);
-    assert_eq!(rt; desk.look().migrate, None);
-}
-
-// Each row is a desk, what it answers to those requests, and what the unit's next look finds.
 #[test]
-fn requests_are_answered_row_by_row(rt: HostRuntime) -> Result<(), Fail> {
+fn a_suspended_unit_is_resumed_once(rt: HostRuntime) -> Result<(), Fail> {
     let w = workload(rt.alloc())?;
-    let unborn = Desk::new(unit(rt.alloc(), &w, 0, 0)?, false);
-    let living = born(&rt, unit(rt.alloc(), &w, 1, 0)?, false);
-    let sched = born(&rt, unit(rt.alloc(), &w, 2, 0)?, true);
-    let all = Asks {
-        cancel: true,
-        migrate: Some(PoolNo(2)),
-    };
-    let cancel = Asks {
-        cancel: true,
-        migrate: None,
-    };
-    let nothing = Asks {
-        cancel: false,
-        migrate: None,
-    };
-    row(
-        &rt,
-        unborn,
-        [
-            Code::UnitState,
-            Code::UnitState,
-            Code::Ok,
-            Code::UnitState,
-            Code::Ok,
-            Code::UnitState,
-        ],
-        nothing,
-    );
-    row(
-        &rt,
-        living,
-        [
-            Code::Ok,
-            Code::Ok,
-            Code::Ok,
-            Code::NotMigratable,
-            Code::Ok,
-            Code::Ok,
-        ],
-        all,
-    );
-    row(
-        &rt,
-        sched,
-        [
-            Code::NotMigratable,
-            Code::NotMigratable,
-            Code::NotMigratable,
-            Code::NotMigratable,
-            Code::NotMigratable,
-            Code::Ok,
-        ],
-        cancel,
-    );
+    let (mut desk, own) = born(&rt, unit(&rt, rt.alloc(), &w, 2, 7), false);
+    assert_eq!(rt; desk.number(), UnitNo(2));
+    assert_eq!(rt; own.home(), PoolNo(4));
+    assert_eq!(rt; own.acc(), 0);
+    desk.suspend(own);
+    assert_eq!(rt; desk.shown(), Some(Shown::Suspended));
+    came_out(&rt, desk.resume(), 2);
+    assert!(rt; desk.resume().is_none());
+    assert!(rt; desk.held().is_none());
     Ok(())
 }
 
@@ -208,17 +113,87 @@ fn ended(desk: &mut Desk, unit: Box<Unit>, cause: Cause) -> Chain
 }
 
 #[test]
+fn joiners_come_out_in_order(rt: HostRuntime) -> Result<(), Fail> {
+    let w = workload(rt.alloc())?;
+    let (mut desk, own) = born(&rt, unit(&rt, rt.alloc(), &w, 0, 0), false);
+    assert!(rt; desk.join(unit(&rt, rt.alloc(), &w, 1, 5)).is_none());
+    assert!(rt; desk.join(unit(&rt, rt.alloc(), &w, 2, 6)).is_none());
+    let mut woken = ended(&mut desk, own, Cause::Done);
+    next_is(&rt, &mut woken, 1, 5);
+    next_is(&rt, &mut woken, 2, 6);
+    assert!(rt; woken.is_empty());
+    came_out(&rt, desk.join(unit(&rt, rt.alloc(), &w, 1, 5)), 1);
+    let own = came_out(&rt, desk.revive(PoolNo(3)), 0);
+    assert_eq!(rt; own.home(), PoolNo(3));
+    assert!(rt; desk.revive(PoolNo(3)).is_none());
+    Ok(())
+}
+
+#[test]
 fn a_second_end_keeps_its_unit(rt: HostRuntime) -> Result<(), Fail> {
     let w = workload(rt.alloc())?;
-    let mut desk = Desk::new(unit(rt.alloc(), &w, 0, 0)?, false);
-    let own = came_out(&rt, desk.create(PoolNo(0)).ok(), 0);
+    let (mut desk, own) = born(&rt, unit(&rt, rt.alloc(), &w, 0, 0), false);
     assert!(rt; ended(&mut desk, own, Cause::Asked).is_empty());
-    let second = unit(rt.alloc(), &w, 0, 9)?;
+    let second = unit(&rt, rt.alloc(), &w, 0, 9);
     assert!(rt; ended(&mut desk, second, Cause::Done).is_empty());
     assert_eq!(rt; desk.shown(), Some(Shown::Ended(Cause::Asked)));
     let held = desk.held().expect(&rt, "the desk holds its unit");
     assert_eq!(rt; held.acc(), 0);
     let joiner = desk.joiner(UnitNo(0)).expect(&rt, "the second unit joins");
     assert_eq!(rt; joiner.acc(), 9);
+    Ok(())
+}
+
+// What a desk answers to these requests, one after the other.
+fn answers(desk: &mut Desk) -> [Code; 5] {
+    [
+        desk.ask_migrate(PoolNo(1)),
+        desk.ask_migrate(PoolNo(2)),
+        desk.set_migratable(false),
+        desk.ask_migrate(PoolNo(3)),
+        desk.ask_cancel(),
+    ]
+}
+
+// A desk answers so, and a look then finds a cancel request and a migrate request so; a further look finds neither.
+fn is_row(rt: &impl Abort, mut desk: Desk, want: [Code; 5], cancel: bool, migrate: Option<PoolNo>) {
+    assert_eq!(rt; answers(&mut desk), want);
+    assert_eq!(rt; desk.look(), Asks { cancel, migrate });
+    assert_eq!(rt;
+        desk.look(),
+        Asks {
+            cancel: false,
+            migrate: None
+        }
+    );
+}
+
+const WHERE_UNBORN: [Code; 5] = [
+    Code::UnitState,
+    Code::UnitState,
+    Code::Ok,
+    Code::UnitState,
+    Code::UnitState,
+];
+
+const WHERE_OUT: [Code; 5] = [Code::Ok, Code::Ok, Code::Ok, Code::NotMigratable, Code::Ok];
+
+const OF_A_SCHEDULER_UNIT: [Code; 5] = [
+    Code::NotMigratable,
+    Code::NotMigratable,
+    Code::NotMigratable,
+    Code::NotMigratable,
+    Code::Ok,
+];
+
+#[test]
+fn requests_are_answered_row_by_row(rt: HostRuntime) -> Result<(), Fail> {
+    let w = workload(rt.alloc())?;
+    let unborn = Desk::new(unit(&rt, rt.alloc(), &w, 0, 0), false);
+    is_row(&rt, unborn, WHERE_UNBORN, false, None);
+    let (out, _own) = born(&rt, unit(&rt, rt.alloc(), &w, 0, 0), false);
+    is_row(&rt, out, WHERE_OUT, true, Some(PoolNo(2)));
+    let (sched, _own) = born(&rt, unit(&rt, rt.alloc(), &w, 0, 0), true);
+    is_row(&rt, sched, OF_A_SCHEDULER_UNIT, true, None);
     Ok(())
 }
