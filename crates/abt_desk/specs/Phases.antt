@@ -1,0 +1,19 @@
+-- What a desk's phase is in the machine.
+use Rattle.std.specs.Prelude.{List, []}
+use Rattle.abt_machine.specs.Values.{Owned}
+use Rattle.abt_machine.specs.Values as value
+use Rattle.abt_desk.specs.declared.desk.Phase.{Phase}
+use Rattle.abt_desk.specs.declared.desk.Phase.TheVariants as phase
+
+abbrev pub phase_of : Phase → value.Phase
+phase_of (phase.Unborn unit) = value.Unborn unit.value.owned
+phase_of phase.Out = value.Out
+phase_of (phase.Suspended unit) = value.Suspended unit.value.owned
+phase_of (phase.Ended unit cause) = value.Ended unit.value.owned cause
+
+-- the units that are linked behind the one that is held
+abbrev pub behind_in : Phase → List Owned
+behind_in (phase.Unborn unit) = unit.value.behind
+behind_in phase.Out = []
+behind_in (phase.Suspended unit) = unit.value.behind
+behind_in (phase.Ended unit cause) = unit.value.behind
