@@ -119,7 +119,7 @@ pub one-word-more : (words : List Text) (line word rest more : Text) → words +
     All (λ b. b ≢ 32) word → word ++ 32 ∷ more ≡ rest → (words ++ word ∷ []) ++ slice_split is_space more ≡ slice_split is_space line
 one-word-more words line word rest more before plain is =
     let split : slice_split is_space rest ≡ word ∷ slice_split is_space more =
-        rw (sym is) (slice_split_at is_space word 32 more (λ k d lt. eqb-other (get_or word k d) (plain k d lt)) refl) in
+    rw (sym is) (slice_split_at is_space word 32 more (λ k d lt. eqb-other (get_or word k d) (plain k d lt)) refl) in
     append_assoc words (word ∷ []) (slice_split is_space more) ∙ (ap (λ (ws : List Text). words ++ ws) (sym split) ∙ before)
 
 -- a text without spaces is the last word

@@ -46,4 +46,4 @@ pub tally-built : (out : Text) (n : ℕ) (t : Tally) (steps : ℕ) (front units 
 tally-built out n t steps front units unborn pool stream blocked done asked access taken new e0 e1 e2 e3 e4 e5 e6 e7 e8 e9 e10 =
     rw (e10, e9, e8, e7, e6, e5, e4, e3, e2, e1, e0, append-nil (decimal steps))
     (ten-joined out (codes "tally") (count (codes "units") n) (count (codes "unborn") t.unborn) (count (codes "pool") t.pool) (count (codes "stream") t.stream)
-        (count (codes "blocked") t.blocked) (count (codes "done") t.done) (count (codes "asked") t.asked) (count (codes "access") t.access) (count (codes "steps") steps) (10 ∷ []))
+    (count (codes "blocked") t.blocked) (count (codes "done") t.done) (count (codes "asked") t.asked) (count (codes "access") t.access) (count (codes "steps") steps) (10 ∷ []))

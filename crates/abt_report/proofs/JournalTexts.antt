@@ -27,11 +27,11 @@ no-journal [] [] rest bytes at events some none events' same = some (at ∙ sym 
 no-journal [] (e ∷ es) rest bytes at events some none events' same = none e (journal_text es) (All-head IsEvent e es events') (same ∙ sym at)
 no-journal (e ∷ es) [] rest bytes at events some none events' same =
     let whole : event_line e ++ 10 ∷ (journal_text es ++ rest) ≡ [] =
-        sym (ended-front (event_line e) (journal_text es ++ rest)) ∙ (sym (append_assoc (ended (event_line e)) (journal_text es) rest) ∙ (at ∙ sym same)) in
+    sym (ended-front (event_line e) (journal_text es ++ rest)) ∙ (sym (append_assoc (ended (event_line e)) (journal_text es) rest) ∙ (at ∙ sym same)) in
     not-empty (event_line e) (journal_text es ++ rest) whole
 no-journal (e ∷ es) (k ∷ ks) rest bytes at events some none events' same =
     let whole : event_line e ++ 10 ∷ (journal_text es ++ rest) ≡ event_line k ++ 10 ∷ journal_text ks =
-        sym (ended-front (event_line e) (journal_text es ++ rest)) ∙ (sym (append_assoc (ended (event_line e)) (journal_text es) rest) ∙ (at ∙ (sym same ∙ ended-front (event_line k) (journal_text ks)))) in
+    sym (ended-front (event_line e) (journal_text es ++ rest)) ∙ (sym (append_assoc (ended (event_line e)) (journal_text es) rest) ∙ (at ∙ (sym same ∙ ended-front (event_line k) (journal_text ks)))) in
     let cut = cut-same (event_line e) (event_line k) (journal_text es ++ rest) (journal_text ks) (unbroken-line e (All-head IsEvent e es events)) (unbroken-line k (All-head IsEvent k ks events')) whole in
     no-journal es ks rest (journal_text ks) cut.1 (All-tail IsEvent e es events) some none (All-tail IsEvent k ks events') refl
 
@@ -62,7 +62,7 @@ pub one-line-more : (bytes rest line more : Text) (l : ℕ) (J : List Event) (e 
 one-line-more bytes rest line more l J e stands at is same = record {
   text =
       let front : journal_text (J ++ e ∷ []) ++ more ≡ journal_text J ++ (event_line e ++ 10 ∷ more) =
-          ap (λ text. text ++ more) (journal-push J e) ∙ (append_assoc (journal_text J) (ended (event_line e)) more ∙ ap (λ text. journal_text J ++ text) (ended-front (event_line e) more)) in
+      ap (λ text. text ++ more) (journal-push J e) ∙ (append_assoc (journal_text J) (ended (event_line e)) more ∙ ap (λ text. journal_text J ++ text) (ended-front (event_line e) more)) in
       let here : event_line e ++ 10 ∷ more ≡ rest = ap (λ text. text ++ 10 ∷ more) same ∙ at in
       front ∙ (ap (λ text. journal_text J ++ text) here ∙ stands.text);
   events = All-push IsEvent J e stands.events is;

@@ -134,12 +134,7 @@ fn push_outcome(out: &mut Vec<u8>, outcome: Outcome) -> Result<(), Want>
 }
 
 // Appends the tally of these units, and how the run ended.
-fn push_end(
-    out: &mut Vec<u8>,
-    rows: &[Row],
-    outcome: Outcome,
-    steps: u64,
-) -> Result<(), Want>
+fn push_end(out: &mut Vec<u8>, rows: &[Row], outcome: Outcome, steps: u64) -> Result<(), Want>
     ensures { OnOk result (out.new.items ≡ out.old.items ++ tally_and_outcome (units_of rows.now) steps outcome) }
 {
     push_tally(out, rows.len() as u64, &tally_of(rows), steps)?;

@@ -27,7 +27,13 @@ impl Model for Tally {
     ghost Value = { Counts };
 
     ghost view = { λ t. record {
-      unborn = t.unborn; pool = t.pool; stream = t.stream; blocked = t.blocked; done = t.done; asked = t.asked; access = t.access;
+      unborn = t.unborn;
+      pool = t.pool;
+      stream = t.stream;
+      blocked = t.blocked;
+      done = t.done;
+      asked = t.asked;
+      access = t.access;
     } };
 }
 

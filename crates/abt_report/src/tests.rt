@@ -16,7 +16,8 @@ const HI: &[What] = &[
     What::Miss(PoolNo(0)),
 ];
 
-const OTHERS_TEXT: &str = "1 0 take 3 7\n2 0 put 7 3\n3 0 end 7 asked\n4 0 end 7 access\n5 0 enter 7\n6 0 leave 7\n7 0 step 4294967295 4294967295 future-full\n";
+const OTHERS_TEXT: &str =
+    "1 0 take 3 7\n2 0 put 7 3\n3 0 end 7 asked\n4 0 end 7 access\n5 0 enter 7\n6 0 leave 7\n7 0 step 4294967295 4294967295 future-full\n";
 
 const OTHERS: &[What] = &[
     What::Take(PoolNo(3), UnitNo(7)),
@@ -28,7 +29,8 @@ const OTHERS: &[What] = &[
     What::Step(UnitNo(u32::MAX), u32::MAX, Code::FutureFull),
 ];
 
-const CODES_TEXT: &str = "1 0 step 0 0 ok\n2 0 step 0 0 pool-access\n3 0 step 0 0 exists\n4 0 step 0 0 unit-state\n5 0 step 0 0 not-migratable\n6 0 step 0 0 absent\n7 0 step 0 0 mutex-locked\n8 0 step 0 0 not-owner\n9 0 step 0 0 eventual-set\n10 0 step 0 0 future-full\n";
+const CODES_TEXT: &str =
+    "1 0 step 0 0 ok\n2 0 step 0 0 pool-access\n3 0 step 0 0 exists\n4 0 step 0 0 unit-state\n5 0 step 0 0 not-migratable\n6 0 step 0 0 absent\n7 0 step 0 0 mutex-locked\n8 0 step 0 0 not-owner\n9 0 step 0 0 eventual-set\n10 0 step 0 0 future-full\n";
 
 const CODES: &[What] = &[
     What::Step(UnitNo(0), 0, Code::Ok),
@@ -83,11 +85,26 @@ const BAD: [(&str, u32); 26] = [
     // row hi's, each line spoilt
     ("1 0 take 0 x\n2 0 look 0\n", 1),
     ("1 0 take 0 0\n2 0 lock 0\n3 0 step 0 0 ok\n", 2),
-    ("1 0 take 0 0\n2 0 look 0\n3 0 step 0 ok\n4 0 end 0 done\n", 3),
-    ("1 0 take 0 0\n2 0 look 0\n3 0 step 0 0 ok\n4 0 end 0 finished\n5 0 miss 0\n", 4),
-    ("1 0 take 0 0\n2 0 look 0\n3 0 step 0 0 ok\n4 0 end 0 done\n5 0 miss\n", 5),
-    ("1 0 take 0 0\n2 0 look 0\n3 0 step 0 0 ok\n4 0 end 0 done\n5 0 miss 0", 5),
-    ("1 0 take 0 0\n2 0 look 0\n3 0 step 0 0 ok\n4 0 end 0 done\n5 0 miss 0\n\n", 6),
+    (
+        "1 0 take 0 0\n2 0 look 0\n3 0 step 0 ok\n4 0 end 0 done\n",
+        3,
+    ),
+    (
+        "1 0 take 0 0\n2 0 look 0\n3 0 step 0 0 ok\n4 0 end 0 finished\n5 0 miss 0\n",
+        4,
+    ),
+    (
+        "1 0 take 0 0\n2 0 look 0\n3 0 step 0 0 ok\n4 0 end 0 done\n5 0 miss\n",
+        5,
+    ),
+    (
+        "1 0 take 0 0\n2 0 look 0\n3 0 step 0 0 ok\n4 0 end 0 done\n5 0 miss 0",
+        5,
+    ),
+    (
+        "1 0 take 0 0\n2 0 look 0\n3 0 step 0 0 ok\n4 0 end 0 done\n5 0 miss 0\n\n",
+        6,
+    ),
     // line feeds
     ("\n", 1),
     ("1 0 miss 0\r\n", 1),

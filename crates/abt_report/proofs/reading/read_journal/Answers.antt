@@ -12,7 +12,7 @@ pub returns-in_default-2-clause-cause : goal.returns-in_default-2-clause-cause
 returns-in_default-2-clause-cause c =
     let some : 0 < length c.loop-rest.rest.now = search rules in
     bad c.args.bytes.now c.loop-rest.rest.now c.loop-rest.line c.loop-rest.events.items c.loop-rest.invariant.stands some
-        (no-event-line c.loop-rest.rest.now c.in-Some.found.now c.in-Some.more.now c.in-Some.ensures.0 c.in-Some.ensures.1 (rw c.in_default-2.is at c.in_ok-event.ensures))
+    (no-event-line c.loop-rest.rest.now c.in-Some.found.now c.in-Some.more.now c.in-Some.ensures.0 c.in-Some.ensures.1 (rw c.in_default-2.is at c.in_ok-event.ensures))
 
 pub loop-rest-preserved : goal.loop-rest-preserved
 loop-rest-preserved c =
