@@ -1,0 +1,4 @@
+pub mod Places
+pub mod Schedulers
+pub mod Shapes
+pub mod Stored
