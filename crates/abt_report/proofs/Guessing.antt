@@ -1,5 +1,5 @@
 -- The words of an event's line are those of the event.
-use Rattle.std.proofs.Common.{◌≡◌, ◌≢◌, ◌<◌, ◌≤◌, ◌^◌, ◌==◌, ◌∙◌, ℕ, suc, Bool, true, false, List, [], ◌∷◌, ◌++◌, length, get_or, nat_lt, Result, Ok, refl, ap, sym, arith, append_assoc, decimal, codes}
+use Rattle.std.proofs.Common.{◌≡◌, ◌≢◌, ◌<◌, ◌^◌, ◌∙◌, ℕ, true, false, List, [], ◌∷◌, ◌++◌, get_or, nat_lt, Result, Ok, refl, ap, sym, arith, append_assoc, decimal, codes}
 use Rattle.std.proofs.lemmas.Bool.Decides.{nat_tests}
 use borrow.Author.Tests.{ltb-true}
 use Rattle.std.specs.List.{All, AllByRecursion, list_all, slice_split}
@@ -17,7 +17,7 @@ use Rattle.abt_machine.specs.declared.events.Event.{Event}
 use Rattle.abt_machine.specs.declared.events.What.{What}
 use Rattle.abt_machine.specs.declared.events.What.TheVariants as what
 use Rattle.abt_machine.specs.Texts.{cause_name, code_name, event_words, what_words}
-use Rattle.abt_machine.specs.Words.{Text, line_of, spaced}
+use Rattle.abt_machine.specs.Words.{Text, spaced}
 use Rattle.abt_report.specs.Guesses.{is_space}
 use Rattle.abt_report.specs.Journals.{HasShortNumbers, IsEvent, IsShort, event_line}
 

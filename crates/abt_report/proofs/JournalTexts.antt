@@ -1,16 +1,16 @@
 -- Texts that begin with the lines of events.
-use Rattle.std.proofs.Common.{◌≡◌, ◌≢◌, ◌<◌, ◌≤◌, ◌+◌, ◌∙◌, ℕ, suc, List, [], ◌∷◌, ◌++◌, length, map, ap, refl, sym, subst, arith, append_assoc, length-append}
+use Rattle.std.proofs.Common.{◌≡◌, ◌≢◌, ◌<◌, ◌≤◌, ◌+◌, ◌∙◌, ℕ, List, [], ◌∷◌, ◌++◌, length, map, ap, refl, sym, arith, append_assoc, length-append}
 use Rattle.std.specs.List.{All}
 use Rattle.std.proofs.lemmas.Grind.{flat_map-append}
-use Rattle.std.proofs.lemmas.List.{append-nil, map_push, length-map}
+use Rattle.std.proofs.lemmas.List.{append-nil, map_push}
 use Rattle.std.proofs.lemmas.List.Elements.{All-push}
 use Rattle.abt_machine.specs.declared.events.Event.{Event}
 use Rattle.abt_machine.specs.Texts.{event_words, journal_text}
-use Rattle.abt_machine.specs.Words.{Text, ended, line_of, text_of}
+use Rattle.abt_machine.specs.Words.{Text, ended, line_of}
 use Rattle.abt_report.specs.declared.not_journal.NotJournal.TheVariants.{Bad}
-use Rattle.abt_report.specs.Journals.{BeginsNoEvent, IsCause, IsEvent, IsNoJournal, StandsAfter, event_line}
+use Rattle.abt_report.specs.Journals.{BeginsNoEvent, IsCause, IsEvent, StandsAfter, event_line}
 use Rattle.abt_report.proofs.Guessing.{unbroken-line}
-use Rattle.abt_report.proofs.LineBreaks.{All-head, All-tail, IsNoFeed, IsUnbroken, broken, cut-same}
+use Rattle.abt_report.proofs.LineBreaks.{All-head, All-tail, IsUnbroken, broken, cut-same}
 
 -- a line with its line feed, and what follows
 ended-front : (line rest : Text) → ended line ++ rest ≡ line ++ 10 ∷ rest

@@ -1,5 +1,5 @@
 -- Lists of numbered elements, one element more at a time.
-use Rattle.std.proofs.Common.{◌≡◌, ◌∙◌, ◌+◌, ◌<◌, ℕ, List, [], ◌∷◌, ◌++◌, length, take, get_or, map, flat_map, refl, subst, sym, arith, add-zero, zero-add}
+use Rattle.std.proofs.Common.{◌≡◌, ◌∙◌, ◌+◌, ◌<◌, ℕ, List, [], ◌∷◌, ◌++◌, length, take, get_or, flat_map, refl, subst, sym, arith, add-zero, zero-add}
 use Rattle.std.proofs.lemmas.Grind.{flat_map-append}
 use Rattle.std.proofs.lemmas.List.{append-nil, map_more, map_push, length-map, length-take-le}
 use Rattle.std.specs.List.{enumerate_from}

@@ -1,4 +1,4 @@
-use Rattle.std.proofs.Common.{◌≡◌, ◌∙◌, ap, List, map, Bor}
+use Rattle.std.proofs.Common.{map, Bor}
 use Rattle.std.proofs.lemmas.List.{map_push}
 use Rattle.abt_machine.specs.Words.{Text}
 use Rattle.abt_report.proofs.Guessing.{last-word, one-word-more}

@@ -1,4 +1,4 @@
-use Rattle.std.proofs.Common.{◌≡◌, ◌∙◌, ap, sym, subst, List, Option, Some, None, map, Bor}
+use Rattle.std.proofs.Common.{◌≡◌, ◌∙◌, ap, sym, List, map, Bor}
 use Rattle.std.specs.List.{slice_split}
 use Rattle.abt_machine.specs.declared.events.Event.{Event}
 use Rattle.abt_machine.specs.Texts.{event_words}

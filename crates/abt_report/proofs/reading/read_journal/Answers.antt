@@ -1,5 +1,4 @@
 use Rattle.std.proofs.Common.{arith, rules, ◌<◌, length}
-use Rattle.std.proofs.lemmas.Bool.Decides.{nat_tests}
 use Rattle.abt_report.proofs.JournalTexts.{bad, fewer-left, no-event-line, no-feed-at-all, one-line-more}
 use Rattle.abt_report.proofs.reading.read_journal.Goals as goal
 

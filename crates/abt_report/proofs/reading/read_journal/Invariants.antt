@@ -1,4 +1,4 @@
-use Rattle.std.proofs.Common.{◌≡◌, ◌+◌, ◌≤◌, length}
+use Rattle.std.proofs.Common.{◌+◌, ◌≤◌, length}
 use Rattle.abt_report.specs.Journals.{StandsAfter}
 use Rattle.abt_report.proofs.reading.read_journal.Given as goal
 
