@@ -1,6 +1,7 @@
 //! The calls of a booth, beside the kit's mutex round a number.
 ghost use Rattle.std.specs.Prelude.{◌≤◌};
 
+use crate::rounds::least_and_middle;
 use booth_caller::count;
 use std::alloc::Global;
 use std::rt::Clock;
@@ -47,13 +48,6 @@ pub fn times<R: Threads + Wait + Sync + Print + Clock>(rt: &R, alloc: Global) ->
 
 fn each(took: Duration, threads: u32) -> u128 {
     took.as_nanos() / (threads as u128 * CALLS as u128).max(1)
-}
-
-fn least_and_middle(times: &mut Vec<u128>) -> io::Result<(u128, u128)> {
-    times.sort()?;
-    let least = times.first().copied().unwrap_or(0);
-    let middle = times.get(times.len() / 2).copied().unwrap_or(0);
-    Ok((least, middle))
 }
 
 fn booth_time<R: Threads + Wait + Sync + Clock>(

@@ -3,17 +3,23 @@
 #![tactic(auto)]
 
 mod booth;
+mod chains;
+mod rounds;
 
 use std::{env, io};
 
 fn main(rt: HostRuntime) -> io::Result<()> {
     let mut words = env::args(&rt)?.skip(1);
     let Some(word) = words.next() else {
-        return eprintln!(&rt; "usage: abt_bench small|booth");
+        return eprintln!(&rt; "usage: abt_bench small|booth|chains");
     };
     match word.as_str() {
-        "small" => booth::small(&rt, rt.alloc()),
+        "small" => {
+            booth::small(&rt, rt.alloc())?;
+            chains::small(&rt, rt.alloc())
+        }
         "booth" => booth::times(&rt, rt.alloc()),
-        _ => eprintln!(&rt; "usage: abt_bench small|booth"),
+        "chains" => chains::times(&rt, rt.alloc()),
+        _ => eprintln!(&rt; "usage: abt_bench small|booth|chains"),
     }
 }
