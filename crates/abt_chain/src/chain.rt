@@ -4,9 +4,12 @@ ghost use Rattle.std.specs.Prelude.{◌≡◌, ◌<◌, ◌≤◌, ◌+◌, ℕ,
 ghost use Rattle.std.specs.List.{find};
 ghost use Rattle.abt_machine.specs.Pools.{is_unit, without};
 ghost use Rattle.abt_unit.specs.Units.{IsFree};
+ghost use Rattle.abt_chain.specs.Links.{RisesByOne, walk_of};
 
 use crate::Steps;
-use crate::parts::{Part, find_first, find_last, flipped, part_at, pop, reversed_onto, turned};
+use crate::parts::{
+    Part, find_first, find_last, flipped, halved, part_at, pop, reversed_onto, turned,
+};
 use abt_machine::UnitNo;
 use abt_unit::Unit;
 use std::marker::{Brand, Model};
@@ -68,14 +71,17 @@ impl Chain {
         self.take_front_by::<Brand>(Blank::new(1))
     }
 
-    /// Takes the last unit.
+    /// Takes the last unit. Where the back part is empty it gets half of the front part, so that units that are taken from both
+    /// ends in turn are not turned over again and again.
     pub fn take_back(&mut self) -> Option<Box<Unit>>
         ensures none { IfNone result ((self.old.units ≡ []) × (self.new.units ≡ [])) }
         ensures free { IfSome result (λ unit. IsFree unit.value) }
         ensures last { IfSome result (λ unit. self.old.units ≡ self.new.units ++ unit.value.owned ∷ []) }
     {
         if self.back.is_none() {
-            self.back = flipped(self.front.take());
+            let halves = halved(self.front.take());
+            self.front = halves.front;
+            self.back = halves.back;
         }
         pop(&mut self.back)
     }
@@ -128,7 +134,7 @@ impl Chain {
     pub fn push_back_counted<L: Ledger>(&mut self, mut unit: Box<Unit>, steps: &mut Steps<L>)
         requires free { IsFree unit.value }
         ensures units { self.new.units ≡ self.old.units ++ unit.value.owned ∷ [] }
-        ensures links { steps.new + self.new.owed ≡ steps.old + self.old.owed + 1 }
+        ensures links { RisesByOne (walk_of steps.old self.old) (walk_of steps.new self.new) }
     {
         unit.link = self.back.take();
         self.back = Some(unit);
@@ -139,8 +145,8 @@ impl Chain {
         ensures none { IfNone result ((self.old.units ≡ []) × (self.new.units ≡ [])) }
         ensures free { IfSome result (λ unit. IsFree unit.value) }
         ensures first { IfSome result (λ unit. self.old.units ≡ unit.value.owned ∷ self.new.units) }
-        ensures links { IfSome result (λ _. steps.new + self.new.owed ≡ steps.old + self.old.owed + 1) }
-        ensures no_link { IfNone result (steps.new ≡ steps.old) }
+        ensures links { IfSome result (λ _. RisesByOne (walk_of steps.old self.old) (walk_of steps.new self.new)) }
+        ensures no_link { IfNone result (walk_of steps.new self.new ≡ walk_of steps.old self.old) }
     {
         if self.front.is_none() {
             self.front = turned(self.back.take(), None, steps);

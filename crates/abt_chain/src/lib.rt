@@ -5,6 +5,8 @@ mod chain;
 mod laws;
 mod parts;
 mod steps;
+#[cfg(test)]
+mod tests;
 
 pub use chain::Chain;
 pub use laws::calls_walk_few_links;

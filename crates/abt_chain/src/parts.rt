@@ -1,6 +1,6 @@
 //! A chain's parts: units linked one behind the other.
 
-ghost use Rattle.std.specs.Prelude.{◌≡◌, ◌+◌, [], ◌∷◌, ◌++◌, None, Some, IfNone, IfSome, length, reverse};
+ghost use Rattle.std.specs.Prelude.{◌≡◌, ◌+◌, ◌≤◌, [], ◌∷◌, ◌++◌, None, Some, IfNone, IfSome, length, reverse};
 ghost use Rattle.std.specs.List.{find};
 ghost use Rattle.abt_machine.specs.Pools.{is_unit, without};
 ghost use Rattle.abt_unit.specs.Units.{IsFree, units_in};
@@ -60,6 +60,59 @@ pub fn flipped(part: Part) -> Part
     ensures { units_in part ≡ reverse (units_in result) }
 {
     reversed_onto(part, None)
+}
+
+/// A part cut in two.
+#[derive(Drop)]
+pub struct Halves {
+    /// The first units, in order.
+    pub front: Part,
+    /// The others, in reverse order.
+    pub back: Part,
+}
+
+/// Cuts a part in the middle; of an odd number of units the back has one more.
+#[tactic(auto, using(crate::proofs::Halves::halves))]
+pub fn halved(part: Part) -> Halves
+    ensures units { units_in part ≡ units_in result.front ++ reverse (units_in result.back) }
+    ensures some { units_in result.back ≡ [] → units_in part ≡ [] }
+{
+    let mut left = counted(&part) / 2;
+    let mut passed = None;
+    let mut rest = part;
+    while 0 < left {
+        left -= 1;
+        shift(&mut rest, &mut passed);
+    }
+    Halves {
+        front: flipped(passed),
+        back: flipped(rest),
+    }
+}
+
+// How many units a part has, as far as a number goes.
+fn counted(part: &Part) -> usize
+    ensures { result ≤ length (units_in part.now) }
+{
+    let mut count: usize = 0;
+    let mut at = part;
+    while let Some(unit) = at {
+        count = count.saturating_add(1);
+        at = &unit.link;
+    }
+    count
+}
+
+// Moves the first unit of one part to the head of another.
+fn shift(rest: &mut Part, passed: &mut Part)
+    ensures units { reverse (units_in passed.new) ++ units_in rest.new ≡ reverse (units_in passed.old) ++ units_in rest.old }
+    ensures one { length (units_in passed.new) ≤ length (units_in passed.old) + 1 }
+{
+    if let Some(mut unit) = rest.take() {
+        *rest = unit.link.take();
+        unit.link = passed.take();
+        *passed = Some(unit);
+    }
 }
 
 /// A part without the first unit of some number.

@@ -56,6 +56,7 @@ impl Pool {
         requires side { HasSide self.old.kind side }
         ensures given { IfSome result (λ unit. PoolGives self.old (Take side) (Given unit.value.owned) self.new) }
         ensures miss { IfNone result (PoolGives self.old (Take side) Miss self.new) }
+        ensures kind { self.new.kind ≡ self.old.kind }
         ensures free { IfSome result (λ unit. IsFree unit.value) }
     {
         match side {
@@ -69,6 +70,7 @@ impl Pool {
     pub fn remove(&mut self, u: UnitNo) -> Option<Box<Unit>>
         ensures given { IfSome result (λ unit. PoolGives self.old (Remove u.0) (Given unit.value.owned) self.new) }
         ensures absent { IfNone result (PoolGives self.old (Remove u.0) (Coded Absent) self.new) }
+        ensures kind { self.new.kind ≡ self.old.kind }
         ensures free { IfSome result (λ unit. IsFree unit.value) }
     {
         self.units.remove(u)

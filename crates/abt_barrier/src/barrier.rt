@@ -1,0 +1,76 @@
+//! A barrier, and its calls.
+
+ghost use Rattle.std.specs.Prelude.{◌≡◌, ◌<◌, [], None, Some, IfNone, IfSome, ⊤};
+ghost use Rattle.std.specs.List.{find};
+ghost use Rattle.abt_machine.specs.Acts.{Arrive};
+ghost use Rattle.abt_machine.specs.Acts as answer;
+ghost use Rattle.abt_machine.specs.Barriers.{BarrierGives};
+ghost use Rattle.abt_machine.specs.Pools.{is_unit};
+ghost use Rattle.abt_barrier.specs.declared.arrival.Arrival.TheVariants as arrival;
+ghost use Rattle.abt_unit.specs.Units.{IsFree};
+
+use crate::Arrival;
+use abt_chain::Chain;
+use abt_machine::UnitNo;
+use abt_unit::Unit;
+use std::marker::Model;
+use std::mem;
+
+/// A barrier of some number of parties, and the units that wait at it in order of arrival.
+#[derive(Drop)]
+pub struct Barrier {
+    size: u32,
+    waiting: u32,
+    waiters: Chain,
+}
+
+impl Model for Barrier {
+    ghost use Rattle.std.specs.Prelude.{◌≡◌, ◌<◌, length};
+    ghost use Rattle.abt_machine.specs.Values.{BarrierValue};
+
+    ghost Value = { BarrierValue };
+
+    ghost view = { λ b. record { size = b.size; waiters = b.waiters.units } };
+
+    ghost invariant = { λ b. (b.waiting ≡ length b.waiters.units) × (b.waiting < b.size) };
+}
+
+impl Barrier {
+    /// A barrier of that many parties, at which none waits.
+    pub fn new(n: u32) -> Barrier
+        requires { 0 < n }
+        ensures { result ≡ record { size = n; waiters = [] } }
+    {
+        Barrier {
+            size: n,
+            waiting: 0,
+            waiters: Chain::new(),
+        }
+    }
+
+    /// The unit waits, or is the last that the barrier waited for.
+    pub fn arrive(&mut self, unit: Box<Unit>) -> Arrival
+        requires free { IsFree unit.value }
+        ensures gives { elim result as (λ _. Type 0) [
+          | arrival.Rested ↦ BarrierGives self.old (Arrive unit.value.owned) answer.Rested self.new
+          | arrival.Through caller others ↦ BarrierGives self.old (Arrive unit.value.owned) (answer.Through caller.value.owned others.units) self.new
+        ] }
+        ensures caller { elim result as (λ _. Type 0) [ arrival.Rested ↦ ⊤ | arrival.Through caller others ↦ caller.value ≡ unit.value ] }
+    {
+        if self.waiting + 1 < self.size {
+            self.waiting += 1;
+            self.waiters.push_back(unit);
+            return Arrival::Rested;
+        }
+        self.waiting = 0;
+        Arrival::Through(unit, mem::replace(&mut self.waiters, Chain::new()))
+    }
+
+    /// The waiter of that number. The time is that of a walk over those that wait.
+    pub fn waiter(&self, u: UnitNo) -> Option<&Unit>
+        ensures found { IfSome result (λ unit. find (is_unit u.0) self.now.waiters ≡ Some unit.now.owned) }
+        ensures absent { IfNone result (find (is_unit u.0) self.now.waiters ≡ None) }
+    {
+        self.waiters.find(u)
+    }
+}

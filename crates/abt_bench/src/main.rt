@@ -1,0 +1,19 @@
+//! Benchmarks, a module for each subject. `abt_bench SUBJECT` prints times; `abt_bench small` does one small round
+//! of each subject, and prints what is the same in every run.
+#![tactic(auto)]
+
+mod booth;
+
+use std::{env, io};
+
+fn main(rt: HostRuntime) -> io::Result<()> {
+    let mut words = env::args(&rt)?.skip(1);
+    let Some(word) = words.next() else {
+        return eprintln!(&rt; "usage: abt_bench small|booth");
+    };
+    match word.as_str() {
+        "small" => booth::small(&rt, rt.alloc()),
+        "booth" => booth::times(&rt, rt.alloc()),
+        _ => eprintln!(&rt; "usage: abt_bench small|booth"),
+    }
+}

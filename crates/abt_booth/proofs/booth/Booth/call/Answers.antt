@@ -1,0 +1,49 @@
+use Rattle.std.proofs.Common.{arith, ◌≡◌, ◌+◌, ◌<◌, [], ◌∷◌, ◌++◌, List, max, refl, ap, sym, ◌∙◌, subst}
+use Rattle.std.proofs.Math.Nat.{le-max_right}
+use Rattle.abt_booth.specs.declared.history.Entry.{Entry}
+use Rattle.abt_booth.specs.History.{last_stamp, Legal}
+use Rattle.abt_booth.specs.Calls.{IsWorn}
+use Rattle.abt_booth.specs.Seats.{opening_of, number_of, seen_of}
+use Rattle.abt_booth.proofs.Histories.{allowed_after, length_below, leads_more, rises_more}
+use Rattle.abt_booth.proofs.booth.Booth.call.Goals as goal
+
+pub returns-then-greater-eq-LAST_STAMP-clause-reply : goal.returns-then-greater-eq-LAST_STAMP-clause-reply
+returns-then-greater-eq-LAST_STAMP-clause-reply g c = let b = c.begin-free.ensures in let s = c.args.seat.now in
+    subst (λ (l : List (Entry g.row.O-Act.Denot g.row.O-Answer.Denot)). IsWorn g.O.Object.does (opening_of c.args.self.now) (number_of s) (seen_of s) l c.args.at c.args.act c.args.act)
+    (sym (ap (λ m. m.0.seen) c.give_back.ensures.view))
+    (record {
+      left = c.begin-free.result.1.object;
+      returned = refl;
+      extends = b.met;
+      legal = (b.object, b.rises);
+      worn = ap (max c.args.at) (sym b.clock.0) ∙ (sym c.max-greater.ensures ∙ c.if-greater-eq-LAST_STAMP.true);
+    })
+
+pub run-answer-requires : goal.run-answer-requires
+run-answer-requires g c =
+    allowed_after g.O.Object.does g.O.Object.allowed g.met.O.Object.keeps (opening_of c.args.self.now) c.begin-free.new.seat.me.0.seen c.begin-free.result.1.object c.args.act c.begin-free.ensures.object c.requires.act
+
+pub release-requires-clause-free : goal.release-requires-clause-free
+release-requires-clause-free g c = let b = c.begin-free.ensures in (b.free, omega (arith, b.free, b.clock.0, b.clock.1, length_below 0 c.begin-free.new.seat.me.0.seen b.rises))
+
+pub returns-clause-reply : goal.returns-clause-reply
+returns-clause-reply g c =
+    let b = c.begin-free.ensures in
+    let n = number_of c.args.seat.now in
+    let o = opening_of c.args.self.now in
+    let p = c.begin-free.new.seat.me.0.seen in
+    let stamp = c.max-greater.result + 1 in
+    let e : Entry g.row.O-Act.Denot g.row.O-Answer.Denot = record { seat = n; stamp = stamp; act = c.args.act; answer = c.run-answer.result } in
+    let greatest : c.max-greater.result ≡ max c.args.at (last_stamp p) = c.max-greater.ensures ∙ ap (max c.args.at) b.clock.0 in
+    let most : max c.args.at (last_stamp p) ≡ c.max-greater.result = sym greatest in
+    let later : last_stamp p < stamp = omega (arith, le-max_right c.args.at (last_stamp p), most) in
+    let entered = ap (λ m. m.0.seen) c.release.ensures.view ∙ (λ i. p ++ record { seat = ap (λ m. m.0.number) b.view i; stamp = stamp; act = c.of-asked.ensures i; answer = c.of-told.ensures i } ∷ []) in record {
+      met = p;
+      left = c.run-answer.new.self;
+      extends = b.met;
+      entered = entered;
+      legal = subst (λ (l : List (Entry g.row.O-Act.Denot g.row.O-Answer.Denot)). Legal g.O.Object.does o l c.run-answer.new.self) (sym entered)
+          (leads_more g.O.Object.does o p c.begin-free.result.1.object e c.run-answer.new.self b.object c.run-answer.ensures, rises_more 0 p e b.rises later);
+      stamped = omega (arith, greatest);
+      capped = omega (arith, c.if-greater-eq-LAST_STAMP.false, c.requires.at, b.clock.1, c.max-greater.ensures);
+    }

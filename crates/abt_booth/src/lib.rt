@@ -1,0 +1,17 @@
+//! A lock round one object, with a seat for each caller: all calls together are one legal history, and each
+//! seat knows the part of it that it has seen.
+#![tactic(auto)]
+
+mod booth;
+mod calls;
+mod close;
+mod history;
+mod make;
+mod object;
+mod plays;
+mod rule;
+
+pub use booth::{Booth, Called, Closed, Gathered, Seat};
+pub use calls::LAST_STAMP;
+pub use history::Entry;
+pub use object::Object;

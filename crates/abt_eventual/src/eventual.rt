@@ -1,0 +1,99 @@
+//! An eventual, and its calls. None of them takes memory.
+
+ghost use Rattle.std.specs.Prelude.{◌≡◌, [], IfErr, IfNone, IfOk, IfSome, None, Some};
+ghost use Rattle.std.specs.List.{find};
+ghost use Rattle.abt_machine.specs.Acts.{Await, Coded, Fill, Given, Number, Reset, Rested, Test, Woke};
+ghost use Rattle.abt_machine.specs.Eventuals.{EventualGives};
+ghost use Rattle.abt_machine.specs.Pools.{is_unit};
+ghost use Rattle.abt_machine.specs.Steps.{truth};
+ghost use Rattle.abt_unit.specs.Units.{IsFree};
+
+use crate::waking::woken_with;
+use abt_chain::Chain;
+use abt_machine::{Code, UnitNo};
+use abt_unit::Unit;
+use std::marker::Model;
+
+/// A value that is set once, and the units that wait for it.
+#[derive(Drop)]
+pub struct Eventual {
+    value: Option<u64>,
+    waiters: Chain,
+}
+
+impl Model for Eventual {
+    ghost use Rattle.abt_machine.specs.Values.{EventualValue};
+
+    ghost Value = { EventualValue };
+
+    ghost view = { λ e. record { value = e.value; waiters = e.waiters.units } };
+}
+
+impl Eventual {
+    /// Not ready, and nobody waits.
+    pub fn new() -> Eventual
+        ensures { result ≡ record { value = None; waiters = [] } }
+    {
+        Eventual {
+            value: None,
+            waiters: Chain::new(),
+        }
+    }
+
+    /// The unit goes on with the value in its accumulator where the eventual is ready. Else it waits.
+    pub fn wait(&mut self, mut unit: Box<Unit>) -> Option<Box<Unit>>
+        requires { IsFree unit.value }
+        ensures given { IfSome result (λ given. EventualGives self.old (Await unit.value.owned) (Given given.value.owned) self.new) }
+        ensures free { IfSome result (λ given. IsFree given.value) }
+        ensures room { IfSome result (λ given. given.value.spare ≡ unit.value.spare) }
+        ensures rested { IfNone result (EventualGives self.old (Await unit.value.owned) Rested self.new) }
+    {
+        match self.value {
+            None => {
+                self.waiters.push_back(unit);
+                None
+            }
+            Some(value) => {
+                unit.receive(value);
+                Some(unit)
+            }
+        }
+    }
+
+    /// Makes the eventual ready with that value: all units that wait come out in order, each with the value in its
+    /// accumulator. `EventualSet` where it is ready.
+    pub fn set(&mut self, value: u64) -> Result<Chain, Code>
+        ensures woke { IfOk result (λ woken. EventualGives self.old (Fill value) (Woke woken.units) self.new) }
+        ensures err { IfErr result (λ refused. EventualGives self.old (Fill value) (Coded refused) self.new) }
+    {
+        match self.value {
+            None => {
+                self.value = Some(value);
+                Ok(woken_with(value, &mut self.waiters))
+            }
+            Some(_) => Err(Code::EventualSet),
+        }
+    }
+
+    /// The eventual is not ready any longer. Who waits goes on waiting.
+    pub fn reset(&mut self)
+        ensures { EventualGives self.old Reset Rested self.new }
+    {
+        self.value = None;
+    }
+
+    /// Whether the eventual is ready.
+    pub fn test(&self) -> bool
+        ensures { EventualGives self.now Test (Number (truth result)) self.now }
+    {
+        self.value.is_some()
+    }
+
+    /// The first unit of that number among those that wait. The time is that of a walk over them.
+    pub fn waiter(&self, u: UnitNo) -> Option<&Unit>
+        ensures found { IfSome result (λ unit. find (is_unit u.0) self.now.waiters ≡ Some unit.now.owned) }
+        ensures absent { IfNone result (find (is_unit u.0) self.now.waiters ≡ None) }
+    {
+        self.waiters.find(u)
+    }
+}

@@ -1,0 +1,132 @@
+//! A future, and its calls. None of them takes memory.
+
+ghost use Rattle.std.specs.Prelude.{◌≡◌, ◌≢◌, ◌<◌, ◌↔◌, [], IfErr, IfNone, IfOk, IfSome, IsTrue, None, Some};
+ghost use Rattle.std.specs.List.{find};
+ghost use Rattle.abt_machine.specs.Acts.{Await, Coded, Fill, Given, Number, Reset, Rested, Test, Woke};
+ghost use Rattle.abt_machine.specs.Futures.{FutureGives, with_one_more};
+ghost use Rattle.abt_machine.specs.Pools.{is_unit};
+ghost use Rattle.abt_machine.specs.Steps.{truth};
+ghost use Rattle.abt_unit.specs.Units.{IsFree};
+
+use crate::waking::woken_with;
+use abt_chain::Chain;
+use abt_machine::{Code, Combine, UnitNo};
+use abt_unit::Unit;
+use std::marker::Model;
+
+/// A value that is made of several: it is ready when all of its compartments are filled. Units wait for it.
+#[derive(Drop)]
+pub struct Future {
+    size: u32,
+    combine: Combine,
+    filled: u32,
+    value: u64,
+    waiters: Chain,
+}
+
+impl Model for Future {
+    ghost use Rattle.std.specs.Prelude.{◌≤◌};
+    ghost use Rattle.abt_machine.specs.Values.{FutureValue};
+
+    ghost Value = { FutureValue };
+
+    ghost view = { λ f. record {
+      size = f.size;
+      combine = f.combine;
+      filled = f.filled;
+      value = f.value;
+      waiters = f.waiters.units;
+    } };
+
+    ghost invariant = { λ f. f.filled ≤ f.size };
+}
+
+impl Future {
+    /// A future of that many compartments, none of which is filled, and of that rule. Nobody waits.
+    pub fn new(size: u32, combine: Combine) -> Future
+        requires { 0 < size }
+        ensures { result ≡ record { size = size; combine = combine; filled = 0; value = 0; waiters = [] } }
+    {
+        Future {
+            size,
+            combine,
+            filled: 0,
+            value: 0,
+            waiters: Chain::new(),
+        }
+    }
+
+    /// The unit goes on with the value in its accumulator where the future is ready. Else it waits.
+    pub fn wait(&mut self, mut unit: Box<Unit>) -> Option<Box<Unit>>
+        requires { IsFree unit.value }
+        ensures given { IfSome result (λ given. FutureGives self.old (Await unit.value.owned) (Given given.value.owned) self.new) }
+        ensures free { IfSome result (λ given. IsFree given.value) }
+        ensures room { IfSome result (λ given. given.value.spare ≡ unit.value.spare) }
+        ensures rested { IfNone result (FutureGives self.old (Await unit.value.owned) Rested self.new) }
+    {
+        if self.is_ready() {
+            unit.receive(self.value);
+            return Some(unit);
+        }
+        self.waiters.push_back(unit);
+        None
+    }
+
+    /// Fills one compartment. With the last the future is ready: all units that wait come out in order, each with the
+    /// future's value in its accumulator. `FutureFull` where it is ready.
+    pub fn set(&mut self, value: u64) -> Result<Chain, Code>
+        ensures woke { IfOk result (λ woken. FutureGives self.old (Fill value) (Woke woken.units) self.new) }
+        ensures err { IfErr result (λ refused. FutureGives self.old (Fill value) (Coded refused) self.new) }
+    {
+        if self.is_ready() {
+            return Err(Code::FutureFull);
+        }
+        self.fill(value);
+        if self.is_ready() {
+            return Ok(woken_with(self.value, &mut self.waiters));
+        }
+        Ok(Chain::new())
+    }
+
+    /// No compartment is filled any longer. Who waits goes on waiting.
+    pub fn reset(&mut self)
+        ensures { FutureGives self.old Reset Rested self.new }
+    {
+        self.filled = 0;
+        self.value = 0;
+    }
+
+    /// Whether the future is ready.
+    pub fn test(&self) -> bool
+        ensures { FutureGives self.now Test (Number (truth result)) self.now }
+    {
+        self.is_ready()
+    }
+
+    /// The first unit of that number among those that wait. The time is that of a walk over them.
+    pub fn waiter(&self, u: UnitNo) -> Option<&Unit>
+        ensures found { IfSome result (λ unit. find (is_unit u.0) self.now.waiters ≡ Some unit.now.owned) }
+        ensures absent { IfNone result (find (is_unit u.0) self.now.waiters ≡ None) }
+    {
+        self.waiters.find(u)
+    }
+
+    fn is_ready(&self) -> bool
+        ensures { IsTrue result ↔ (self.now.filled ≡ self.now.size) }
+    {
+        self.filled == self.size
+    }
+
+    // Fills one more compartment, by the future's rule.
+    fn fill(&mut self, value: u64)
+        requires { self.old.filled ≢ self.old.size }
+        ensures { self.new ≡ with_one_more value self.old }
+    {
+        self.filled += 1;
+        self.value = match self.combine {
+            Combine::Sum => self.value.wrapping_add(value),
+            Combine::Max => self.value.max(value),
+            Combine::Count => u64::from(self.filled),
+        };
+    }
+}

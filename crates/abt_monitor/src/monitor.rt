@@ -1,0 +1,203 @@
+//! A mutex with the number that it guards, and its conditions.
+
+ghost use Rattle.std.specs.Prelude.{◌≡◌, ◌<◌, ◌↔◌, Box, [], length, replicate, IfErr, IfNone, IfOk, IfSome, IsTrue, None, Some, option_copied, option_map};
+ghost use Rattle.std.specs.List.{find};
+ghost use Rattle.std.specs.declared.alloc.Global.{Global};
+ghost use Rattle.abt_machine.specs.declared.events.Code.TheVariants as code;
+ghost use Rattle.abt_machine.specs.Acts.{Back, Broadcast, Coded, Given, Load, Lock, Number, Rested, Signal, Store, TryLock, Unlock, Wait};
+ghost use Rattle.abt_machine.specs.Monitors.{MonitorGives, at_condition, handed_over};
+ghost use Rattle.abt_machine.specs.Pools.{is_unit};
+ghost use Rattle.abt_machine.specs.Queues.{first};
+ghost use Rattle.abt_unit.specs.Units.{IsFree, UnitValue};
+
+use crate::waiters::Waiters;
+use abt_chain::Chain;
+use abt_machine::{Code, UnitNo, Want};
+use abt_unit::Unit;
+use std::alloc::Global;
+use std::marker::Model;
+
+/// A mutex with its owner, the number that it guards, the units that wait for it, and those that wait at its conditions,
+/// which are numbered from 0.
+#[derive(Drop)]
+pub struct Monitor {
+    owner: Option<UnitNo>,
+    number: u64,
+    waiters: Chain,
+    conds: Vec<Waiters>,
+}
+
+impl Model for Monitor {
+    ghost use Rattle.std.specs.Prelude.{option_map};
+    ghost use Rattle.abt_machine.specs.declared.numbers.UnitNo.{UnitNo};
+    ghost use Rattle.abt_machine.specs.Values.{MonitorValue};
+
+    ghost Value = { MonitorValue };
+
+    ghost view = { λ m. record {
+      owner = option_map (λ (owner : UnitNo). owner.0) m.owner;
+      number = m.number;
+      waiters = m.waiters.units;
+      conds = m.conds.items;
+    } };
+}
+
+impl Monitor {
+    /// A free mutex that guards 0, with so many conditions. It alone of a monitor's calls takes memory.
+    pub fn new(alloc: Global, conds: u32) -> Result<Monitor, Want>
+        ensures { IfOk result (λ monitor. monitor ≡ record { owner = None; number = 0; waiters = []; conds = replicate conds [] }) }
+    {
+        let mut chains = Vec::with_capacity(alloc, conds as usize)?;
+        for _ in 0..conds {
+            chains.push(Waiters::new())?;
+        }
+        Ok(Monitor {
+            owner: None,
+            number: 0,
+            waiters: Chain::new(),
+            conds: chains,
+        })
+    }
+
+    /// The unit goes on as the owner where the mutex is free. Else it waits, also where it is itself the owner.
+    pub fn lock(&mut self, unit: Box<Unit>) -> Option<Box<Unit>>
+        requires { IsFree unit.value }
+        ensures given { IfSome result (λ given. MonitorGives self.old (Lock unit.value.owned) (Given given.value.owned) self.new) }
+        ensures same { IfSome result (λ given. given.value ≡ unit.value) }
+        ensures rested { IfNone result (MonitorGives self.old (Lock unit.value.owned) Rested self.new) }
+    {
+        match self.owner {
+            None => {
+                self.owner = Some(unit.number());
+                Some(unit)
+            }
+            Some(_) => {
+                self.waiters.push_back(unit);
+                None
+            }
+        }
+    }
+
+    /// The unit of that number is the owner where the mutex is free, and `MutexLocked` comes where it is held.
+    pub fn trylock(&mut self, who: UnitNo) -> Code
+        ensures { MonitorGives self.old (TryLock who.0) (Coded result) self.new }
+    {
+        match self.owner {
+            None => {
+                self.owner = Some(who);
+                Code::Ok
+            }
+            Some(_) => Code::MutexLocked,
+        }
+    }
+
+    /// The mutex goes to the first unit that waits for it, which comes out, and is free where there is none. `NotOwner`
+    /// where it isn't `who`'s.
+    pub fn unlock(&mut self, who: UnitNo) -> Result<Option<Box<Unit>>, Code>
+        ensures given { IfOk result (λ next. IfSome next (λ unit. MonitorGives self.old (Unlock who.0) (Given unit.value.owned) self.new)) }
+        ensures free { IfOk result (λ next. IfSome next (λ unit. IsFree unit.value)) }
+        ensures rested { IfOk result (λ next. IfNone next (MonitorGives self.old (Unlock who.0) Rested self.new)) }
+        ensures err { IfErr result (λ refused. MonitorGives self.old (Unlock who.0) (Coded refused) self.new) }
+    {
+        if !self.is_owner(who) {
+            return Err(Code::NotOwner);
+        }
+        Ok(self.hand_over())
+    }
+
+    /// The number that the mutex guards, for its owner. `NotOwner` for any other unit.
+    pub fn load(&self, who: UnitNo) -> Result<u64, Code>
+        ensures ok { IfOk result (λ number. MonitorGives self.now (Load who.0) (Number number) self.now) }
+        ensures err { IfErr result (λ refused. MonitorGives self.now (Load who.0) (Coded refused) self.now) }
+    {
+        if !self.is_owner(who) {
+            return Err(Code::NotOwner);
+        }
+        Ok(self.number)
+    }
+
+    /// Sets the number that the mutex guards, for its owner. `NotOwner` for any other unit.
+    pub fn store(&mut self, who: UnitNo, value: u64) -> Code
+        ensures { MonitorGives self.old (Store who.0 value) (Coded result) self.new }
+    {
+        if !self.is_owner(who) {
+            return Code::NotOwner;
+        }
+        self.number = value;
+        Code::Ok
+    }
+
+    /// In one step the unit, which is the owner, waits at the condition and the mutex is handed over as by `unlock`: the
+    /// unit that owns it now comes out, if there is one. The unit comes back where it isn't the owner.
+    pub fn wait(&mut self, cond: u32, unit: Box<Unit>) -> Result<Option<Box<Unit>>, Box<Unit>>
+        requires free { IsFree unit.value }
+        requires cond { cond < length self.old.conds }
+        ensures given { IfOk result (λ next. IfSome next (λ given. MonitorGives self.old (Wait cond unit.value.owned) (Given given.value.owned) self.new)) }
+        ensures free { IfOk result (λ next. IfSome next (λ given. IsFree given.value)) }
+        ensures rested { IfOk result (λ next. IfNone next (MonitorGives self.old (Wait cond unit.value.owned) Rested self.new)) }
+        ensures err { IfErr result (λ back. MonitorGives self.old (Wait cond unit.value.owned) (Back back.value.owned code.NotOwner) self.new) }
+        ensures same { IfErr result (λ back. back.value ≡ unit.value) }
+    {
+        if !self.is_owner(unit.number()) {
+            return Err(unit);
+        }
+        self.conds[cond as usize].push_back(unit);
+        Ok(self.hand_over())
+    }
+
+    /// The first unit that waits at the condition is the owner and comes out where the mutex is free; where it is held, that
+    /// unit is the last that waits for it.
+    pub fn signal(&mut self, cond: u32) -> Option<Box<Unit>>
+        requires { cond < length self.old.conds }
+        ensures given { IfSome result (λ unit. MonitorGives self.old (Signal cond) (Given unit.value.owned) self.new) }
+        ensures free { IfSome result (λ unit. IsFree unit.value) }
+        ensures rested { IfNone result (MonitorGives self.old (Signal cond) Rested self.new) }
+    {
+        let unit = self.conds[cond as usize].take_front()?;
+        self.lock(unit)
+    }
+
+    /// As `signal` for each unit that waits at the condition, in order.
+    pub fn broadcast(&mut self, cond: u32) -> Option<Box<Unit>>
+        requires { cond < length self.old.conds }
+        ensures given { IfSome result (λ unit. MonitorGives self.old (Broadcast cond) (Given unit.value.owned) self.new) }
+        ensures free { IfSome result (λ unit. IsFree unit.value) }
+        ensures rested { IfNone result (MonitorGives self.old (Broadcast cond) Rested self.new) }
+    {
+        let woken = self.signal(cond);
+        self.conds[cond as usize].drain_into(&mut self.waiters);
+        woken
+    }
+
+    /// The unit of that number that waits for the mutex, or at the condition that is given.
+    pub fn waiter(&self, cond: Option<u32>, u: UnitNo) -> Option<&Unit>
+        requires { IfSome cond (λ cond. cond < length self.now.conds) }
+        ensures mutex { IfNone cond (option_map (λ (unit : UnitValue). unit.owned) (option_copied result) ≡ find (is_unit u.0) self.now.waiters) }
+        ensures condition { IfSome cond (λ cond. option_map (λ (unit : UnitValue). unit.owned) (option_copied result) ≡ find (is_unit u.0) (at_condition cond self.now)) }
+    {
+        match cond {
+            None => self.waiters.find(u),
+            Some(cond) => self.conds[cond as usize].find(u),
+        }
+    }
+
+    fn is_owner(&self, who: UnitNo) -> bool
+        ensures { IsTrue result ↔ (self.now.owner ≡ Some who.0) }
+    {
+        self.owner == Some(who)
+    }
+
+    // The mutex goes to the first unit that waits for it, which comes out, and is free where there is none.
+    fn hand_over(&mut self) -> Option<Box<Unit>>
+        ensures new { self.new ≡ handed_over self.old }
+        ensures first { option_map (λ (unit : Box UnitValue Global). unit.value.owned) result ≡ first self.old.waiters }
+        ensures free { IfSome result (λ unit. IsFree unit.value) }
+    {
+        let next = self.waiters.take_front();
+        self.owner = match &next {
+            None => None,
+            Some(unit) => Some(unit.number()),
+        };
+        next
+    }
+}

@@ -1,0 +1,11 @@
+//! Callers of a booth, proved from its public contracts: threads that count, and a letter that goes from one
+//! seat to another.
+#![tactic(auto)]
+
+mod counter;
+mod letters;
+#[cfg(test)]
+mod tests;
+
+pub use counter::{Counter, add, add_on_threads, count};
+pub use letters::{Ask, Letter, Told, Tray, deliver};
