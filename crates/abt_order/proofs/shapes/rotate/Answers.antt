@@ -1,4 +1,3 @@
-use Rattle.std.proofs.Common.{arith}
 use Rattle.std.proofs.Math.Nat.{mod-add-mod}
 use Rattle.abt_order.proofs.shapes.rotate.Goals as goal
 
