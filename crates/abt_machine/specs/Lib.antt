@@ -5,6 +5,7 @@ pub mod Canonical
 pub mod Carrying
 pub mod Changes
 pub mod Codes
+pub mod Commands
 pub mod Desks
 pub mod Events
 pub mod Eventuals

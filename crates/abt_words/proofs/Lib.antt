@@ -1,0 +1,9 @@
+pub mod Endings
+pub mod OneCommand
+pub mod Passed
+pub mod Readings
+pub mod Rows
+pub mod SelfReadings
+pub mod Spellings
+pub mod Told
+pub mod Turns

@@ -1,0 +1,144 @@
+-- From what `clap` found to what the definition says.
+use Rattle.std.proofs.Common.{◌≡◌, ◌≢◌, ℕ, zero, suc, Bool, true, false, true≢false, refl, sym, ap, ap₂, subst, ◌∙◌, List, [], ◌∷◌, map, codes, Option, Some, None, is_some}
+use Rattle.std.specs.Prelude.{String, string_bytes}
+use Rattle.std.proofs.lemmas.Str.{IsUtf8-string_bytes}
+use Rattle.clap.specs.Words.{App, fault_of, first_of, first_value, found_of, matches_of, one_of, one_text, rows_of}
+use Rattle.clap.specs.declared.parser.matches.ArgMatches.{ArgMatches}
+use Rattle.clap.proofs.WalkLemmas.{first_value-rows, one_text-rows}
+use Rattle.abt_machine.specs.declared.program.Command.{Command}
+use Rattle.abt_machine.specs.declared.program.Command.TheVariants as command
+use Rattle.abt_machine.specs.Words.{Text}
+use Rattle.abt_machine.specs.Commands.{Rest, SaysNumber, SaysSteps, journal_count, only, rest_of}
+use Rattle.abt_words.specs.Apps.{run_app, self_app}
+use Rattle.abt_words.specs.Asked.{RunSays, SelfSays, at_most_one}
+use Rattle.abt_words.proofs.Endings.{AllTexts}
+use Rattle.abt_words.proofs.Readings.{Joins, JoinsFlag, Total, nothing_seen, run_fault, run_matches, run_outcome}
+use Rattle.abt_words.proofs.Rows.{Seen, flag_text}
+use Rattle.abt_words.proofs.SelfReadings.{OneWord, self_fault, self_matches, self_outcome}
+
+pub all_texts : {Z : Type 0} (words : List (String Z)) → AllTexts (map string_bytes words)
+all_texts [] = tt
+all_texts (w ∷ ws) = (IsUtf8-string_bytes w, all_texts ws)
+
+-- ---- `run`
+
+joined : (ws : List Text) (all : Option Text) → Joins None ws all → ws ≡ at_most_one all
+joined [] all e = ap at_most_one (sym e)
+joined (w ∷ []) all e = ap at_most_one (sym e)
+joined (w ∷ v ∷ ws) all e = absurd e
+
+joined_flag : (n : ℕ) (all : Bool) → JoinsFlag false n all → n ≡ journal_count all
+joined_flag zero all e = ap journal_count (sym e)
+joined_flag (suc zero) all e = ap journal_count (sym e)
+joined_flag (suc (suc n)) all e = absurd e
+
+abbrev rest_with : Text → Option Text → Bool → Rest
+rest_with f v j = record { words = f ∷ []; steps = at_most_one v; journals = journal_count j; others = 0 }
+
+total_rest : (r : Rest) (s : Seen) (f : Text) → Total nothing_seen r s → s.file ≡ Some f → r ≡ rest_with f s.steps s.journal
+total_rest r s f t is =
+    let words : r.words ≡ f ∷ [] = joined r.words s.file t.0 ∙ ap at_most_one is in
+    let steps : r.steps ≡ at_most_one s.steps = joined r.steps s.steps t.1 in
+    let journals : r.journals ≡ journal_count s.journal = joined_flag r.journals s.journal t.2 in
+    let others : r.others ≡ 0 = t.3 in
+    λ i. record { words = words i; steps = steps i; journals = journals i; others = others i }
+
+flag_is : (o : Option Text) (j b : Bool) → o ≡ Some (flag_text j) → (o ≡ Some (codes "true") → b ≡ true) → (o ≡ Some (codes "false") → b ≡ false) → b ≡ j
+flag_is o true b e on off = on e
+flag_is o false b e on off = off e
+
+module _ (words : List Text) (texts : AllTexts words) (a : App) (is : a ≡ run_app) where
+  -- the words that `clap` takes, as it tells them apart
+  pub told : (m : ArgMatches) (f : Text) (v : Option Text) (j : Bool) → fault_of a words ≡ [] → rows_of (found_of m) ≡ matches_of a words
+      → Some f ≡ first_value (found_of m) (codes "file") → v ≡ first_value (found_of m) (codes "steps")
+      → (one_text (found_of m) (codes "journal") ≡ Some (codes "true") → j ≡ true)
+      → (one_text (found_of m) (codes "journal") ≡ Some (codes "false") → j ≡ false)
+      → rest_of false words ≡ rest_with f v j
+  told m f v j passes finds file steps on off =
+      let got = (run_outcome words texts).taken (sym (run_fault words) ∙ ap (λ (x : App). fault_of x words) (sym is) ∙ passes) in
+      let rows : rows_of (found_of m) ≡ matches_of run_app words = finds ∙ ap (λ (x : App). matches_of x words) is in
+      let s = got.0 in
+      let same_file : s.file ≡ Some f = sym got.3.file ∙ ap (first_of (codes "file")) (sym (run_matches words) ∙ sym rows) ∙ sym (first_value-rows (found_of m) (codes "file")) ∙ sym file in
+      let same_steps : s.steps ≡ v = sym got.3.steps ∙ ap (first_of (codes "steps")) (sym (run_matches words) ∙ sym rows) ∙ sym (first_value-rows (found_of m) (codes "steps")) ∙ sym steps in
+      let text : one_text (found_of m) (codes "journal") ≡ Some (flag_text s.journal) =
+      one_text-rows (found_of m) (codes "journal") ∙ ap (one_of (codes "journal")) (rows ∙ run_matches words) ∙ got.3.journal in
+      let same_journal : j ≡ s.journal = flag_is _ s.journal j text on off in
+      total_rest (rest_of false words) s f got.1 same_file ∙ ap₂ (rest_with f) same_steps (sym same_journal)
+
+  -- a file is there
+  pub has_file : (m : ArgMatches) → fault_of a words ≡ [] → rows_of (found_of m) ≡ matches_of a words → None ≡ first_value (found_of m) (codes "file") → ⊥
+  has_file m passes finds none =
+      let got = (run_outcome words texts).taken (sym (run_fault words) ∙ ap (λ (x : App). fault_of x words) (sym is) ∙ passes) in
+      let rows : rows_of (found_of m) ≡ matches_of run_app words = finds ∙ ap (λ (x : App). matches_of x words) is in
+      let same : got.0.file ≡ None = sym got.3.file ∙ ap (first_of (codes "file")) (sym (run_matches words) ∙ sym rows) ∙ sym (first_value-rows (found_of m) (codes "file")) ∙ sym none in
+      true≢false (sym got.2 ∙ ap is_some same)
+
+  joins_one : (r : List Text) (f : Text) → r ≡ f ∷ [] → Joins None r (Some f)
+  joins_one r f e = subst (λ (l : List Text). Joins None l (Some f)) (sym e) refl
+
+  joins_steps : (vs : List Text) (n : ℕ) → SaysSteps vs n → (v : Option Text) × Joins None vs v
+  joins_steps [] n h = (None, refl)
+  joins_steps (v ∷ []) n h = (Some v, refl)
+  joins_steps (v ∷ w ∷ vs) n h = absurd h
+
+  joins_flag : (n : ℕ) (j : Bool) → n ≡ journal_count j → JoinsFlag false n j
+  joins_flag n j e = subst (λ (k : ℕ). JoinsFlag false k j) (sym e) (by j)
+    where
+      by : (j : Bool) → JoinsFlag false (journal_count j) j
+      by true = refl
+      by false = refl
+
+  -- words that `clap` refuses say nothing
+  pub refused : fault_of a words ≢ [] → (c : Command) → RunSays (rest_of false words) c → ⊥
+  refused bad (command.SelfRun n) says = says
+  refused bad (command.Run f n j) says =
+      let steps = joins_steps (rest_of false words).steps n says.2 in
+      bad (ap (λ (x : App). fault_of x words) is ∙ run_fault words ∙ (run_outcome words texts).takes (record { file = Some f; steps = steps.0; journal = j })
+      (joins_one _ f says.0, steps.1, joins_flag _ j says.3, says.4) refl)
+
+-- ---- `self`
+
+some_is : (a b : Text) → ◌≡◌ {A = Option Text} (Some a) (Some b) → a ≡ b
+some_is a b e = cc
+
+one_word : (r : Rest) (n : Text) → OneWord None r n → r ≡ only (n ∷ [])
+one_word r n t =
+    let words : r.words ≡ n ∷ [] = joined r.words (Some n) t.0 in
+    λ i. record { words = words i; steps = t.1 i; journals = t.2 i; others = t.3 i }
+
+module _ (words : List Text) (texts : AllTexts words) (a : App) (is : a ≡ self_app) where
+  found_self : (m : ArgMatches) (o : Option Text) → fault_of a words ≡ [] → rows_of (found_of m) ≡ matches_of a words
+      → o ≡ first_value (found_of m) (codes "units") → (n : Text) × (o ≡ Some n) × (rest_of false words ≡ only (n ∷ []))
+  found_self m o passes finds word =
+      let got = (self_outcome words texts).taken (sym (self_fault words) ∙ ap (λ (x : App). fault_of x words) (sym is) ∙ passes) in
+      let rows : rows_of (found_of m) ≡ matches_of self_app words = finds ∙ ap (λ (x : App). matches_of x words) is in
+      let same : o ≡ Some got.0 = word ∙ first_value-rows (found_of m) (codes "units") ∙ ap (first_of (codes "units")) (rows ∙ self_matches words) ∙ got.2 in
+      (got.0, same, one_word (rest_of false words) got.0 got.1)
+
+  pub told_self : (m : ArgMatches) (n : Text) → fault_of a words ≡ [] → rows_of (found_of m) ≡ matches_of a words
+      → Some n ≡ first_value (found_of m) (codes "units") → rest_of false words ≡ only (n ∷ [])
+  told_self m n passes finds word =
+      let got = found_self m (Some n) passes finds word in
+      let same : n ≡ got.0 = some_is n got.0 got.1 in
+      got.2 ∙ ap (λ (t : Text). only (t ∷ [])) (sym same)
+
+  pub has_word : (m : ArgMatches) → fault_of a words ≡ [] → rows_of (found_of m) ≡ matches_of a words → None ≡ first_value (found_of m) (codes "units") → ⊥
+  has_word m passes finds none =
+      let got = found_self m None passes finds none in
+      true≢false (sym (ap is_some got.1))
+
+  pub refused_self : fault_of a words ≢ [] → (c : Command) → SelfSays (rest_of false words) c → ⊥
+  refused_self bad (command.Run f n j) says = says
+  refused_self bad (command.SelfRun n) says =
+      bad (ap (λ (x : App). fault_of x words) is ∙ self_fault words ∙ (self_outcome words texts).takes says.0
+      (subst (λ (r : Rest). OneWord None r says.0) (sym says.1) (refl, refl, refl, refl)))
+
+head_of : (v w : Text) → ◌≡◌ {A = List Text} (v ∷ []) (w ∷ []) → v ≡ w
+head_of v w e = cc
+
+-- one word that is no number says nothing
+pub no_number : (r : Rest) (w : Text) → r ≡ only (w ∷ []) → ((n : ℕ) → SaysNumber 126 w n → ⊥) → (c : Command) → SelfSays r c → ⊥
+no_number r w is none (command.Run f n j) says = says
+no_number r w is none (command.SelfRun n) says =
+    let same : says.0 ≡ w = head_of says.0 w (ap (λ (x : Rest). x.words) (sym says.1 ∙ is)) in
+    none n (subst (λ (t : Text). SaysNumber 126 t n) same says.2)

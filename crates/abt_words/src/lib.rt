@@ -1,0 +1,18 @@
+//! The words of the command line, read by one `clap` command for each command of the program.
+//!
+//! `clap` says which word is a file, an option or an option's value, and refuses what is none of these. Its texts, those
+//! of its errors among them, are never printed. Numbers are read here, since its parsers of numbers take a plus sign, and
+//! so is the test that a file's name is not empty.
+#![tactic(auto)]
+
+mod clap_commands;
+mod command;
+mod fault;
+mod number;
+mod run;
+mod self_run;
+#[cfg(test)]
+mod tests;
+
+pub use command::words;
+pub use fault::WordFault;

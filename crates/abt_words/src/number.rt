@@ -1,0 +1,18 @@
+//! The numbers among the words.
+
+ghost use Rattle.std.specs.Prelude.{ℕ, MatchOption};
+ghost use Rattle.abt_machine.specs.Commands.{SaysNumber};
+
+/// The number that one or more ASCII digits write, where it is from 1 to `most`. Leading zeros are allowed, signs are not:
+/// `parse` alone would take a plus.
+pub(crate) fn number(text: &str, most: u64) -> Option<u64>
+    ensures { MatchOption result ((n : ℕ) → SaysNumber most text.now n → ⊥) (λ n. SaysNumber most text.now n) }
+{
+    if text.as_bytes().first() == Some(&b'+') {
+        return None;
+    }
+    match text.parse::<u64>() {
+        Ok(n) if 1 <= n && n <= most => Some(n),
+        _ => None,
+    }
+}

@@ -1,0 +1,158 @@
+use crate::{WordFault, words};
+use abt_machine::Command;
+use std::alloc::Global;
+use std::test::Fail;
+
+// Words that run a file, with a comma between each two: the file, the steps, and whether the journal is wanted.
+static RUNS: [(&str, &str, u64, bool); 20] = [
+    ("run,f", "f", 10_000, false),
+    ("run,run", "run", 10_000, false),
+    ("run,-", "-", 10_000, false),
+    ("run,f,--journal", "f", 10_000, true),
+    ("run,--journal,f", "f", 10_000, true),
+    ("run,f,--steps,5", "f", 5, false),
+    ("run,--steps,5,f", "f", 5, false),
+    ("run,f,--steps=5", "f", 5, false),
+    ("run,--steps=5,--journal,f", "f", 5, true),
+    ("run,--journal,f,--steps,5", "f", 5, true),
+    ("run,f,--steps,1", "f", 1, false),
+    ("run,f,--steps,100000", "f", 100_000, false),
+    (
+        "run,f,--steps,000000000000000000000000000007",
+        "f",
+        7,
+        false,
+    ),
+    ("run,--,f", "f", 10_000, false),
+    ("run,--,-x", "-x", 10_000, false),
+    ("run,--journal,--,--steps", "--steps", 10_000, true),
+    ("run,--,--", "--", 10_000, false),
+    ("run,f,--", "f", 10_000, false),
+    ("run,f,--steps,7,--", "f", 7, false),
+    ("run,a b=c", "a b=c", 10_000, false),
+];
+
+// Words that run what the program generates, and the number of units.
+static GENERATED: [(&str, u32); 5] = [
+    ("self,1", 1),
+    ("self,126", 126),
+    ("self,007", 7),
+    ("self,--,9", 9),
+    ("self,9,--", 9),
+];
+
+// Words that spell nothing.
+static REFUSED: [&str; 58] = [
+    "",
+    "walk",
+    "Run,f",
+    "f,run",
+    "--,run,f",
+    "--journal,run,f",
+    "--help",
+    "run",
+    "run,",
+    "run,f,",
+    "run,f,g",
+    "run,-,-",
+    "run,--journal",
+    "run,--journal,f,--journal",
+    "run,f,--journal=x",
+    "run,f,--journal=",
+    "run,f,--journals",
+    "run,f,--jour",
+    "run,f,-journal",
+    "run,f,--steps,0",
+    "run,f,--steps,100001",
+    "run,f,--steps,18446744073709551621",
+    "run,f,--steps,+5",
+    "run,f,--steps,-5",
+    "run,f,--steps,-",
+    "run,f,--steps,5x",
+    "run,f,--steps, 5",
+    "run,f,--steps,",
+    "run,f,--steps=",
+    "run,f,--steps=+5",
+    "run,f,--steps=-5",
+    "run,f,--steps==5",
+    "run,f,--steps",
+    "run,--steps,f",
+    "run,f,--steps,--journal",
+    "run,--steps,--,5,f",
+    "run,f,--steps,5,--steps,5",
+    "run,f,--steps=5,--steps,6",
+    "run,f,--step,5",
+    "run,f,--help",
+    "run,-h",
+    "run,--version",
+    "run,-V",
+    "run,-x",
+    "run,f,--=5",
+    "run,--",
+    "run,--,f,--journal",
+    "run,--,",
+    "self",
+    "self,0",
+    "self,127",
+    "self,+1",
+    "self,-1",
+    "self,-",
+    "self,1,2",
+    "self,1,--journal",
+    "self,--steps,1",
+    "self,--help",
+];
+
+// What the words of a row say.
+fn said(alloc: Global, row: &str) -> Result<Result<Command, WordFault>, Fail> {
+    let mut list = Vec::new(alloc);
+    for word in row.split(',') {
+        list.push(String::from_str(alloc, word)?)?;
+    }
+    Ok(words(alloc, &list))
+}
+
+#[test]
+fn runs_a_file(rt: HostRuntime) -> Result<(), Fail> {
+    for (row, wanted, most, wants) in &RUNS {
+        match said(rt.alloc(), row)? {
+            Ok(
+                Command::Run {
+                    file,
+                    steps,
+                    journal,
+                },
+            ) => {
+                assert!(rt;
+                    file.as_str() == *wanted && steps == *most && journal == *wants,
+                    "{row}"
+                );
+            }
+            _ => assert!(rt; false, "{row}"),
+        }
+    }
+    Ok(())
+}
+
+#[test]
+fn runs_what_it_generates(rt: HostRuntime) -> Result<(), Fail> {
+    for (row, wanted) in &GENERATED {
+        match said(rt.alloc(), row)? {
+            Ok(Command::SelfRun { units }) => assert!(rt; units == *wanted, "{row}"),
+            _ => assert!(rt; false, "{row}"),
+        }
+    }
+    Ok(())
+}
+
+#[test]
+fn refuses_other_words(rt: HostRuntime) -> Result<(), Fail> {
+    assert!(rt; matches!(words(rt.alloc(), &[]), Err(WordFault::Bad)));
+    for row in &REFUSED {
+        assert!(rt;
+            matches!(said(rt.alloc(), row)?, Err(WordFault::Bad)),
+            "{row}"
+        );
+    }
+    Ok(())
+}
