@@ -6,13 +6,17 @@ pub mod Carrying
 pub mod Changes
 pub mod Codes
 pub mod Commands
+pub mod Declaring
 pub mod Desks
 pub mod Events
 pub mod Eventuals
+pub mod Faults
+pub mod Forms
 pub mod Frames
 pub mod Fronts
 pub mod Futures
 pub mod Gives
+pub mod Grammar
 pub mod Lines
 pub mod Lives
 pub mod Maps
@@ -30,6 +34,7 @@ pub mod Runs
 pub mod Says
 pub mod Sites
 pub mod Sound
+pub mod Spelling
 pub mod Stamps
 pub mod Start
 pub mod State

@@ -2,6 +2,7 @@
 #![tactic(auto)]
 
 mod events;
+mod grammar;
 mod items;
 mod numbers;
 mod operations;
@@ -13,6 +14,7 @@ mod workload;
 pub use events::{
     Cause, Code, Event, Journal, Log, Outcome, Output, Piece, Place, Shown, Site, Spot, What,
 };
+pub use grammar::{Form, Number, Role};
 pub use items::{Items, Text};
 pub use numbers::{ObjectNo, PoolNo, SchedNo, StreamNo, UnitNo};
 pub use operations::{Access, Body, Combine, Kind, Op, Ops, OrderShape, Pools, Rule, Side, Thing};

@@ -1,0 +1,248 @@
+-- The faults of a line, by the lines above it.
+use Rattle.std.specs.Prelude.{ℕ, ◌==◌, ◌&&◌, ◌||◌, if◌then◌else◌, Bool, true, false, not, is_none, is_some, length, List, [], ◌∷◌, find, map, nat_le, nat_lt, Option, Some, None, slice_get, unwrap_or}
+use Rattle.std.specs.List.{list_all, list_any}
+use Rattle.std.specs.Option.{option_map_or}
+use Rattle.std.specs.Str.{is_utf8}
+use Rattle.abt_machine.specs.declared.grammar.Form.{Form}
+use Rattle.abt_machine.specs.declared.grammar.Form.TheVariants as form
+use Rattle.abt_machine.specs.declared.grammar.Number.{Number}
+use Rattle.abt_machine.specs.declared.grammar.Number.TheVariants as number
+use Rattle.abt_machine.specs.declared.grammar.Role.TheVariants as role
+use Rattle.abt_machine.specs.declared.operations.Body.{Body}
+use Rattle.abt_machine.specs.declared.operations.Body.TheVariants as body
+use Rattle.abt_machine.specs.declared.operations.Op.{Op}
+use Rattle.abt_machine.specs.declared.operations.Op.TheVariants as op
+use Rattle.abt_machine.specs.declared.operations.Thing.{Thing}
+use Rattle.abt_machine.specs.declared.operations.Thing.TheVariants as thing
+use Rattle.abt_machine.specs.declared.program.Fault.{Fault}
+use Rattle.abt_machine.specs.declared.program.Fault.TheVariants as fault
+use Rattle.abt_machine.specs.declared.workload.UnitPart.{UnitPart}
+use Rattle.abt_machine.specs.Access.{may_take_all}
+use Rattle.abt_machine.specs.Declaring.{Above, at, declared_units, listed, parts_of, word_in}
+use Rattle.abt_machine.specs.Forms.{begins, fits, form_of, forms, numerals, section, slots}
+use Rattle.abt_machine.specs.Operations.{may_block}
+use Rattle.abt_machine.specs.Spelling.{has_control, is_number, value_of, words_of}
+use Rattle.abt_machine.specs.Valid.{placed_scheds}
+use Rattle.abt_machine.specs.Words.{Text}
+use Rattle.abt_machine.specs.Workloads.{is_sched, ops_of}
+
+-- Skipped lines.
+
+abbrev pub begins_comment : Text → Bool
+begins_comment [] = false
+begins_comment (b ∷ bs) = b == 35
+
+-- a line without words, and a line whose first word begins with `#`, is skipped
+abbrev pub is_skipped : List Text → Bool
+is_skipped [] = true
+is_skipped (word ∷ words) = begins_comment word
+
+-- Version.
+
+-- it is the first line that is not skipped, and its words are not `abt`, `1`
+abbrev pub is_no_version : Above → List Text → Bool
+is_no_version a words = not a.begun && not (fits (slots form.Version) words)
+
+-- Unknown.
+
+-- its first word begins no line
+abbrev pub is_unknown : List Text → Bool
+is_unknown words = not (list_any (λ f. begins (slots f) words) forms)
+
+-- Shape.
+
+-- of sections 1, 2, 3 and 8 a text has one line at most
+abbrev pub is_single : ℕ → Bool
+is_single n = (n == 1) || (n == 2) || (n == 3) || (n == 8)
+
+-- operations belong to a unit that is no scheduler
+abbrev pub takes_operations : Option UnitPart → Bool
+takes_operations None = false
+takes_operations (Some part) = not (is_sched part.body)
+
+-- an operation before any `unit` line, or for a scheduler unit
+abbrev pub is_homeless : Above → Form → Bool
+is_homeless a (form.Operation o) = not (takes_operations a.last)
+is_homeless a f = false
+
+-- it belongs to a section before the one that was reached; it is a second line of a section that has one; it is an
+-- operation that belongs to no unit; it follows `end`
+abbrev pub is_misplaced : Above → Form → Bool
+is_misplaced a f = nat_lt (section f) a.section || ((section f == a.section) && is_single (section f)) || is_homeless a f || (a.section == 10)
+
+-- Twice.
+
+-- the scheduler is the main one of a stream, or the body of a unit
+abbrev pub is_placed : Above → ℕ → Bool
+is_placed a g = list_any (λ h. h == g) (placed_scheds (parts_of a))
+
+abbrev pub has_main : Above → ℕ → Bool
+has_main a s = option_map_or is_some (slice_get a.mains s) false
+
+-- a number stands twice in a list
+abbrev pub has_repeated : List ℕ → Bool
+has_repeated [] = false
+has_repeated (n ∷ ns) = list_any (λ m. m == n) ns || has_repeated ns
+
+-- it declares a number that is declared; it names a pool twice; it gives a stream a second main scheduler; it gives a
+-- scheduler a second place
+abbrev pub is_twice : Above → Form → List ℕ → Bool
+is_twice a (form.Pool access) numbers = nat_lt (at numbers 0) (length a.pools)
+is_twice a (form.Sched rule) numbers = nat_lt (at numbers 0) (length a.scheds) || has_repeated (listed rule numbers)
+is_twice a form.Stream numbers = has_main a (at numbers 0) || is_placed a (at numbers 1)
+is_twice a (form.Object thing) numbers = nat_lt (at numbers 0) (length a.objects)
+is_twice a (form.Unit role.Sched start) numbers = nat_lt (at numbers 0) (declared_units a) || is_placed a (at numbers 1)
+is_twice a (form.Unit r start) numbers = nat_lt (at numbers 0) (declared_units a)
+is_twice a f numbers = false
+
+-- Undeclared.
+
+abbrev pub is_mutex : Thing → Bool
+is_mutex thing.Mutex = true
+is_mutex t = false
+
+abbrev pub is_condition : Thing → Bool
+is_condition (thing.Cond m) = true
+is_condition t = false
+
+abbrev pub is_eventual : Thing → Bool
+is_eventual thing.Eventual = true
+is_eventual t = false
+
+abbrev pub is_future : Thing → Bool
+is_future (thing.Future n c) = true
+is_future t = false
+
+abbrev pub is_barrier : Thing → Bool
+is_barrier (thing.Barrier n) = true
+is_barrier t = false
+
+-- object x is there, and is such a thing
+abbrev pub has_object : Above → (Thing → Bool) → ℕ → Bool
+has_object a test x = option_map_or test (slice_get a.objects x) false
+
+-- a number that is declared here skips none of its kind, and a unit's is one of those that `units` has; what is named is
+-- there, an object as the thing that its word needs
+abbrev pub is_there : Above → Number → ℕ → Bool
+is_there a (number.Within low high) n = true
+is_there a number.NewPool n = nat_le n (length a.pools)
+is_there a number.NewSched n = nat_le n (length a.scheds)
+is_there a number.NewObject n = nat_le n (length a.objects)
+is_there a number.NewUnit n = nat_le n (declared_units a) && nat_lt n (unwrap_or a.unit_count 0)
+is_there a number.Stream n = nat_lt n (unwrap_or a.streams 0)
+is_there a number.Pool n = nat_lt n (length a.pools)
+is_there a number.Sched n = nat_lt n (length a.scheds)
+is_there a number.Key n = nat_lt n a.keys
+is_there a number.Unit n = nat_lt n (unwrap_or a.unit_count 0)
+is_there a number.Mutex n = has_object a is_mutex n
+is_there a number.Cond n = has_object a is_condition n
+is_there a number.Eventual n = has_object a is_eventual n
+is_there a number.Future n = has_object a is_future n
+is_there a number.Barrier n = has_object a is_barrier n
+
+-- Limit.
+
+-- a number that has bounds keeps them
+abbrev pub is_within : Number → ℕ → Bool
+is_within (number.Within low high) n = nat_le low n && nat_le n high
+is_within kind n = true
+
+-- a unit that may have no further operation
+abbrev pub is_long : Option UnitPart → Bool
+is_long None = false
+is_long (Some part) = nat_le 256 (length (ops_of part.body))
+
+-- a said word of more than 64 bytes
+abbrev pub is_long_word : Op → List Text → Bool
+is_long_word (op.Say w) words = nat_lt 64 (length (word_in words 1))
+is_long_word o words = false
+
+-- there are as many as there may be: 64 pools, 64 schedulers with 8 pools each, 256 objects, 256 operations of a unit, and
+-- 64 bytes of a word; the numbers of streams, keys and units have their bounds in the table of forms
+abbrev pub is_past_limit : Above → Form → List Text → List ℕ → Bool
+is_past_limit a (form.Pool access) words numbers = nat_le 64 (length a.pools)
+is_past_limit a (form.Sched rule) words numbers = nat_le 64 (length a.scheds) || nat_lt 8 (length (listed rule numbers))
+is_past_limit a (form.Object thing) words numbers = nat_le 256 (length a.objects)
+is_past_limit a (form.Operation o) words numbers = is_long a.last || is_long_word o words
+is_past_limit a f words numbers = false
+
+-- TaskBlocks and Access.
+
+abbrev pub is_task_body : Body → Bool
+is_task_body (body.Ult ops) = false
+is_task_body (body.Task ops) = true
+is_task_body (body.Sched g) = false
+
+abbrev pub is_task : Option UnitPart → Bool
+is_task None = false
+is_task (Some part) = is_task_body part.body
+
+-- it is an operation that may block or yield, for a task
+abbrev pub blocks_task : Above → Form → Bool
+blocks_task a (form.Operation o) = is_task a.last && may_block o
+blocks_task a f = false
+
+-- it is a `stream` line whose scheduler lists a pool from which that stream may not take
+abbrev pub is_barred : Above → Form → List ℕ → Bool
+is_barred a form.Stream numbers = not (may_take_all (parts_of a) (at numbers 0) (at numbers 1))
+is_barred a f numbers = false
+
+-- Missing.
+
+-- a line of section 3 to 10 comes before `streams`; a `units` line comes while there is no pool or a stream has no main
+-- scheduler; a line of section 9 or 10 comes before `units`; `end` comes while a unit is not declared
+abbrev pub is_early : Above → Form → Bool
+is_early a form.Version = false
+is_early a form.Streams = false
+is_early a form.Units = is_none a.streams || (length a.pools == 0) || list_any is_none a.mains
+is_early a (form.Unit r start) = is_none a.streams || is_none a.unit_count
+is_early a (form.Operation o) = is_none a.streams || is_none a.unit_count
+is_early a form.End = is_none a.streams || is_none a.unit_count || nat_lt (declared_units a) (unwrap_or a.unit_count 0)
+is_early a f = is_none a.streams
+
+-- The table of faults.
+
+-- the numbers of a line of this form
+abbrev pub numbers_of : Form → List Text → List (Number × ℕ)
+numbers_of f words = map (λ (p : Number × Text). (p.0, value_of p.1)) (numerals (slots f) words)
+
+abbrev pub values_of : Form → List Text → List ℕ
+values_of f words = map (λ (p : Number × ℕ). p.1) (numbers_of f words)
+
+-- what is asked of a line's form holds where it has one
+abbrev pub of_form : (Form → Bool) → List Text → Bool
+of_form test words = option_map_or test (form_of words) false
+
+-- a line that is not skipped has a fault
+abbrev pub has : Above → Text → List Text → Fault → Bool
+has a line words fault.Utf8 = not (is_utf8 line)
+has a line words fault.Version = is_no_version a words
+has a line words fault.Unknown = is_unknown words
+has a line words fault.Shape = is_none (form_of words) || has_control line || of_form (is_misplaced a) words
+has a line words fault.Number = of_form (λ f. not (list_all (λ p. is_number p.1) (numerals (slots f) words))) words
+has a line words fault.Twice = of_form (λ f. is_twice a f (values_of f words)) words
+has a line words fault.Undeclared = of_form (λ f. not (list_all (λ p. is_there a p.0 p.1) (numbers_of f words))) words
+has a line words fault.Limit = of_form (λ f. not (list_all (λ p. is_within p.0 p.1) (numbers_of f words)) || is_past_limit a f words (values_of f words)) words
+has a line words fault.TaskBlocks = of_form (blocks_task a) words
+has a line words fault.Access = of_form (λ f. is_barred a f (values_of f words)) words
+has a line words fault.NoEnd = false
+has a line words fault.Missing = of_form (is_early a) words
+
+-- a line that is skipped has no fault but `utf8`
+abbrev pub has_skipped : Text → Fault → Bool
+has_skipped line fault.Utf8 = not (is_utf8 line)
+has_skipped line f = false
+
+-- the line has this fault below lines that declare a
+abbrev pub line_has : Above → Text → Fault → Bool
+line_has a line f = if is_skipped (words_of line) then has_skipped line f else has a line (words_of line) f
+
+-- in the order in which they are looked for
+abbrev pub faults : List Fault
+faults =
+    fault.Utf8 ∷ fault.Version ∷ fault.Unknown ∷ fault.Shape ∷ fault.Number ∷ fault.Twice ∷ fault.Undeclared ∷ fault.Limit ∷
+    fault.TaskBlocks ∷ fault.Access ∷ fault.NoEnd ∷ fault.Missing ∷ []
+
+-- the first fault of a line below lines that declare a
+abbrev pub line_fault : Above → Text → Option Fault
+line_fault a line = find (line_has a line) faults
