@@ -115,6 +115,13 @@ impl Workload {
         self.parts.pools.items().len() as u32
     }
 
+    /// The number of schedulers.
+    pub fn scheds(&self) -> u32
+        ensures { result ≡ length self.now.scheds }
+    {
+        self.parts.scheds.items().len() as u32
+    }
+
     /// The number of units.
     pub fn units(&self) -> u32
         ensures { result ≡ length self.now.units }
