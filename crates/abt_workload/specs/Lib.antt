@@ -1,2 +1,4 @@
+pub mod Declarable
 pub mod Judging
+pub mod Reading
 pub mod Slots

@@ -162,7 +162,7 @@ fn op_slots(op: Op) -> &'static [Slot]
     }
 }
 
-fn is(word: &[u8], text: &str) -> bool
+pub(crate) fn is(word: &[u8], text: &str) -> bool
     ensures { result ≡ bytes_eq word.now text.now }
 {
     word == text.as_bytes()
