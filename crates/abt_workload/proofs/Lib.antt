@@ -1,5 +1,15 @@
+pub mod Bounds
+pub mod Firm
+pub mod Keeping
 pub mod LineEnds
+pub mod Naming
 pub mod Numerals
+pub mod Places
+pub mod Operating
+pub mod Proper
 pub mod Repeats
+pub mod Seen
+pub mod Soundness
+pub mod Taken
 pub mod Verdicts
 pub mod WordEnds

@@ -1,6 +1,6 @@
 //! What a sound line adds to what the lines above it declare.
 
-ghost use Rattle.std.specs.Prelude.{◌≡◌, ◌++◌, ◌∷◌, [], All, IfOk, IsUtf8, OnOk, false, map, replicate, slice_set};
+ghost use Rattle.std.specs.Prelude.{◌≡◌, ◌++◌, ◌∷◌, [], All, IfOk, IsUtf8, OnOk, false, length, map, option_map, replicate, slice_set};
 ghost use Rattle.abt_machine.specs.Declaring.{access_with, at, body_and, body_with, combine_named, declared_with, kind_named, listed, op_with, pool_with, rule_with, said_in, sched_with, start_with, thing_with, unit_and, unit_with, word_in};
 ghost use Rattle.abt_machine.specs.Numbers.{pool_no, sched_no};
 ghost use Rattle.abt_machine.specs.declared.grammar.Form.TheVariants as form;
@@ -156,12 +156,27 @@ impl Draft {
         requires { IsDeclarable self.old (form.Operation op) (map (λ w. w.now) words.now) (values numbers.now) }
         ensures { OnOk result (self.new ≡ declared_with self.old (form.Operation op) (map (λ w. w.now) words.now) (values numbers.now)) }
     {
-        let op_here = op_with(op, self.words.len() as u32, value(numbers, 0), value(numbers, 1));
+        let said = self.said_count();
         self.add_said(alloc, op, words)?;
+        self.add_op(op_with(op, said, value(numbers, 0), value(numbers, 1)))
+    }
+
+    // Adds an operation to the last unit.
+    fn add_op(&mut self, op: Op) -> Result<(), Want>
+        ensures { OnOk result (self.new ≡ record self.old { last = option_map (unit_and op) self.old.last }) }
+    {
         if let Some(part) = self.last.take() {
-            self.last = Some(unit_and(part, op_here)?);
+            self.last = Some(unit_and(part, op)?);
         }
         Ok(())
+    }
+
+    // How many words are said.
+    fn said_count(&self) -> u32
+        requires { IsSmall (length self.now.words) }
+        ensures { result ≡ length self.now.words }
+    {
+        self.words.len() as u32
     }
 
     // Adds the word that an operation's line says, if it says one.
@@ -236,13 +251,20 @@ fn rule_with(rule: Rule, numbers: &[Numbered]) -> Rule
     }
 }
 
+fn small(n: u64) -> u32
+    requires { IsSmall n }
+    ensures { result ≡ n }
+{
+    n as u32
+}
+
 fn pools_in(alloc: Global, numbers: &[Numbered]) -> Result<Pools, Want>
     requires { All IsSmall (values numbers.now) }
     ensures { IfOk result (λ pools. pools ≡ map pool_no (values numbers.now)) }
 {
     let mut pools = Vec::with_capacity(alloc, numbers.len())?;
     for (_, n) in numbers {
-        pools.push(PoolNo(*n as u32))?;
+        pools.push(PoolNo(small(*n)))?;
     }
     Ok(Pools::new(pools))
 }

@@ -64,6 +64,13 @@ impl Draft {
         }
     }
 
+    /// Whether `end` was the last line.
+    pub(crate) fn has_ended(&self) -> bool
+        ensures { result ≡ (self.now.section == 10) }
+    {
+        self.section == 10
+    }
+
     /// How many units are declared.
     pub(crate) fn declared_units(&self) -> usize
         ensures { result ≡ declared_units self.now }

@@ -6,9 +6,9 @@ mod draft;
 mod forms;
 mod judge;
 mod numbers;
-mod read;
+mod reading;
 #[cfg(test)]
 mod tests;
 mod text;
 
-pub use read::{NotRead, read};
+pub use reading::{NotRead, read};

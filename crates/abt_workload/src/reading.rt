@@ -1,10 +1,11 @@
 //! The reader.
 
-ghost use Rattle.std.specs.Prelude.{◌≡◌, IfErr, IfOk, None, flat_map, map, option_to_list};
+ghost use Rattle.std.specs.Prelude.{◌≡◌, ◌++◌, ◌≤◌, length, IfErr, IfOk, OnOk, flat_map, map, option_to_list};
 ghost use Rattle.abt_machine.specs.Declaring.{parts_of};
 ghost use Rattle.abt_machine.specs.Faults.{line_fault};
 ghost use Rattle.abt_machine.specs.Grammar.{Reads, and_line};
-ghost use Rattle.abt_workload.specs.Reading.{IsCause, IsFirm};
+ghost use Rattle.abt_machine.specs.Spelling.{words_of};
+ghost use Rattle.abt_workload.specs.Reading.{IsCause, IsFirm, IsSeen};
 
 use crate::draft::Draft;
 use crate::judge::Verdict;
@@ -27,12 +28,6 @@ pub enum NotRead {
     Memory,
 }
 
-impl From<Want> for NotRead {
-    fn from(_: Want) -> Self {
-        NotRead::Memory
-    }
-}
-
 impl Draft {
     // Takes one line: its first fault, or what is declared with it.
     fn take_line<'a>(
@@ -47,17 +42,33 @@ impl Draft {
         ensures declared { IfOk result (λ fault. fault ≡ None → self.new ≡ and_line self.old line.entry.now) }
     {
         words(line, found)?;
-        if is_skipped(found) {
+        self.take_words(alloc, line, found, numbers)
+    }
+
+    // Takes a line of these words.
+    fn take_words(
+        &mut self,
+        alloc: Global,
+        line: &[u8],
+        words: &[&[u8]],
+        numbers: &mut Vec<Numbered>,
+    ) -> Result<Option<Fault>, Want>
+        requires firm { IsFirm self.old }
+        requires words { map (λ w. w.now) words.now ≡ words_of line.now }
+        ensures fault { IfOk result (λ fault. fault ≡ line_fault self.old line.now) }
+        ensures declared { IfOk result (λ fault. fault ≡ None → self.new ≡ and_line self.old line.now) }
+    {
+        if is_skipped(words) {
             return Ok(if is_utf8(line) {
                 None
             } else {
                 Some(Fault::Utf8)
             });
         }
-        match self.judge(alloc, line, found, numbers)? {
+        match self.judge(alloc, line, words, numbers)? {
             Verdict::Faulty(fault) => Ok(Some(fault)),
             Verdict::Sound(form) => {
-                self.declare(alloc, form, found, numbers)?;
+                self.declare(alloc, form, words, numbers)?;
                 Ok(None)
             }
         }
@@ -102,11 +113,53 @@ fn all_mains(alloc: Global, mains: &[Option<SchedNo>]) -> Result<Vec<SchedNo>, W
 {
     let mut all = Vec::with_capacity(alloc, mains.len())?;
     for main in mains {
-        if let Some(g) = *main {
-            all.push(g)?;
-        }
+        add_main(&mut all, *main)?;
     }
     Ok(all)
+}
+
+fn add_main(all: &mut Vec<SchedNo>, main: Option<SchedNo>) -> Result<(), Want>
+    ensures { OnOk result (all.new.items ≡ all.old.items ++ option_to_list main) }
+{
+    if let Some(g) = main {
+        all.push(g)?;
+    }
+    Ok(())
+}
+
+// What the lines of a text declare, or the least that has a fault.
+fn read_lines(alloc: Global, bytes: &[u8]) -> Result<Draft, NotRead>
+    requires { length bytes.now ≤ 4194304 }
+    ensures ok { IfOk result (IsSeen bytes.now) }
+    ensures refused { IfErr result (IsCause bytes.now) }
+{
+    let mut draft = Draft::new(alloc);
+    let mut found = Vec::new(alloc);
+    let mut numbers = Vec::new(alloc);
+    let mut rest = bytes;
+    let mut line = 0u32;
+    while !rest.is_empty() {
+        let (text, after) = first_line(rest);
+        match draft.take_line(alloc, text, &mut found, &mut numbers) {
+            Ok(None) => {}
+            Ok(Some(fault)) => {
+                return Err(NotRead::Refused {
+                    line: line + 1,
+                    fault,
+                });
+            }
+            Err(_) => return Err(NotRead::Memory),
+        }
+        line += 1;
+        rest = after;
+    }
+    if !draft.has_ended() {
+        return Err(NotRead::Refused {
+            line: line + 1,
+            fault: Fault::NoEnd,
+        });
+    }
+    Ok(draft)
 }
 
 /// Reads a workload text in one pass over its bytes.
@@ -115,7 +168,7 @@ fn all_mains(alloc: Global, mains: &[Option<SchedNo>]) -> Result<Vec<SchedNo>, W
 /// `Refused` has the least line that has a fault, and that line's first fault in the order of the
 /// variants of `Fault`; `Memory` is want of memory.
 pub fn read(alloc: Global, bytes: &[u8]) -> Result<Workload, NotRead>
-    ensures ok { IfOk result (λ w. Reads bytes.now w) }
+    ensures ok { IfOk result (Reads bytes.now) }
     ensures refused { IfErr result (IsCause bytes.now) }
 {
     if bytes.len() > MOST_BYTES {
@@ -124,24 +177,9 @@ pub fn read(alloc: Global, bytes: &[u8]) -> Result<Workload, NotRead>
             fault: Fault::Limit,
         });
     }
-    let mut draft = Draft::new(alloc);
-    let mut found = Vec::new(alloc);
-    let mut numbers = Vec::new(alloc);
-    let mut rest = bytes;
-    let mut line = 0u32;
-    while !rest.is_empty() {
-        let (text, after) = first_line(rest);
-        line += 1;
-        if let Some(fault) = draft.take_line(alloc, text, &mut found, &mut numbers)? {
-            return Err(NotRead::Refused { line, fault });
-        }
-        rest = after;
+    let draft = read_lines(alloc, bytes)?;
+    match draft.into_parts(alloc) {
+        Ok(parts) => Ok(Workload::new(parts)),
+        Err(_) => Err(NotRead::Memory),
     }
-    if draft.section != 10 {
-        return Err(NotRead::Refused {
-            line: line + 1,
-            fault: Fault::NoEnd,
-        });
-    }
-    Ok(Workload::new(draft.into_parts(alloc)?))
 }
