@@ -1,6 +1,8 @@
 pub mod Bounds
 pub mod Firm
+pub mod Growing
 pub mod Keeping
+pub mod KeepingUnits
 pub mod LineEnds
 pub mod Naming
 pub mod Numerals

@@ -55,7 +55,7 @@ module _ (a : Above) where
   named number.Future n e = future-there a.objects n e
   named number.Barrier n e = barrier-there a.objects n e
 
-any-fits : (n : ℕ) → is_within (number.Within 0 (2 ^ 64 - 1)) n ≡ true → n < 2 ^ 64
+pub any-fits : (n : ℕ) → is_within (number.Within 0 (2 ^ 64 - 1)) n ≡ true → n < 2 ^ 64
 any-fits n e = let le = le-from n (2 ^ 64 - 1) (and-right (nat_le 0 n) (nat_le n (2 ^ 64 - 1)) e) in omega arith
 
 module _ {a : Above} {line : Text} {words : List Text} where

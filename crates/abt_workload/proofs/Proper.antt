@@ -122,6 +122,7 @@ pub record IsInOrder (a : Above) : Type 0 where
   pub no_mains : a.section < 6 → (s : ℕ) (g : SchedNo) → slice_get a.mains s ≡ Some (Some g) → ⊥
   pub no_units : a.section < 9 → a.units ≡ []
   pub no_last : a.section < 9 → a.last ≡ None
+  pub no_count : a.section < 8 → a.unit_count ≡ None
   pub has_streams : 2 < a.section → is_none a.streams ≡ false
   pub has_pools : 7 < a.section → 0 < length a.pools
   pub has_mains : 7 < a.section → list_any is_none a.mains ≡ false
@@ -142,10 +143,10 @@ pub record IsProper (a : Above) : Type 0 where
   pub few_words : length a.words ≤ 256 * length a.units + op_count a.last
   pub order : IsInOrder a
 
-no-pair : {A : Type 0} (R : A → A → Type 0) → AllPairs R []
+pub no-pair : {A : Type 0} (R : A → A → Type 0) → AllPairs R []
 no-pair R i j d lt within = absurd (omega arith)
 
-none-of : {A : Type 0} (P : A → Type 0) → All P []
+pub none-of : {A : Type 0} (P : A → Type 0) → All P []
 none-of P k d lt = absurd (omega arith)
 
 -- nothing is proper
@@ -162,5 +163,5 @@ proper-nothing = record {
   said = refl;
   words = none-of _;
   few_words = omega arith;
-  order = record { no_streams = λ _. refl; no_keys = λ _. refl; no_mains = λ _ s g e. cc; no_units = λ _. refl; no_last = λ _. refl; has_streams = λ lt. absurd (omega arith); has_pools = λ lt. absurd (omega arith); has_mains = λ lt. refl; has_count = λ lt. absurd (omega arith); has_units = λ lt. omega arith };
+  order = record { no_streams = λ _. refl; no_keys = λ _. refl; no_mains = λ _ s g e. cc; no_units = λ _. refl; no_last = λ _. refl; no_count = λ _. refl; has_streams = λ lt. absurd (omega arith); has_pools = λ lt. absurd (omega arith); has_mains = λ lt. refl; has_count = λ lt. absurd (omega arith); has_units = λ lt. omega arith };
 }
