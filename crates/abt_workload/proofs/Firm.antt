@@ -15,6 +15,7 @@ use Rattle.abt_workload.specs.Reading.{IsFirm, IsSeen}
 use Rattle.abt_workload.proofs.Naming.{declared-op}
 use Rattle.abt_workload.proofs.Keeping.{keeps-version}
 use Rattle.abt_workload.proofs.KeepingUnits.{keeps-unit}
+use Rattle.abt_workload.proofs.LineWords.{words-utf8}
 use Rattle.abt_workload.proofs.Seen.{fault-length}
 use Rattle.abt_workload.specs.Slots.{values}
 

@@ -4,6 +4,7 @@ pub mod Growing
 pub mod Keeping
 pub mod KeepingUnits
 pub mod LineEnds
+pub mod LineWords
 pub mod Naming
 pub mod Numerals
 pub mod Places
