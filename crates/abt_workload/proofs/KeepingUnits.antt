@@ -68,11 +68,11 @@ late {a} h some = by (leb_tells 8 a.section)
     by (inl x) = x.1
     by (inr x) = absurd (some-none a.unit_count (h.order.no_count x.1) some)
 
-last-of : {A : Type 0} (P : A → Type 0) (xs : List A) (x : A) → All P (xs ++ x ∷ []) → P x
+pub last-of : {A : Type 0} (P : A → Type 0) (xs : List A) (x : A) → All P (xs ++ x ∷ []) → P x
 last-of P [] x h = all-head P x [] h
 last-of P (y ∷ ys) x h = last-of P ys x (all-tail P y (ys ++ x ∷ []) h)
 
-front-of : {A : Type 0} (P : A → Type 0) (xs : List A) (x : A) → All P (xs ++ x ∷ []) → All P xs
+pub front-of : {A : Type 0} (P : A → Type 0) (xs : List A) (x : A) → All P (xs ++ x ∷ []) → All P xs
 front-of P [] x h = none-of P
 front-of P (y ∷ ys) x h = all-cons P y ys (all-head P y (ys ++ x ∷ []) h) (front-of P ys x (all-tail P y (ys ++ x ∷ []) h))
 
@@ -245,7 +245,7 @@ said-few (op.Say w) ws = omega arith
 said-few _ ws = omega arith
 
 -- the word that a line says
-two-words : (w : ℕ) (ws : List Text) → fits (op_slots (op.Say w)) ws ≡ true → 1 < length ws
+pub two-words : (w : ℕ) (ws : List Text) → fits (op_slots (op.Say w)) ws ≡ true → 1 < length ws
 two-words w [] e = cc
 two-words w (x ∷ []) e = let bad = and-right (suits (Fixed (codes "say")) x) false e in cc
 two-words w (x ∷ y ∷ zs) e = omega arith
