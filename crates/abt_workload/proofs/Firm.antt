@@ -43,6 +43,7 @@ use Rattle.abt_workload.proofs.Proper.{IsProper, IsUnitIn, counted, op_count, pr
 use Rattle.abt_workload.proofs.Seen.{fault-length}
 use Rattle.abt_workload.proofs.Soundness.{IsSound, sound-of}
 use Rattle.abt_workload.proofs.Taken.{line_fault-of}
+use Rattle.abt_workload.proofs.Validity.{valid-of}
 
 -- What lines declare is proper.
 
@@ -205,7 +206,7 @@ declarable a line words f numbers firm ew es sound ef en =
     subst (λ (ns : List (Number × ℕ)). IsDeclarable a f words (values ns)) (sym en) here
 
 pub valid-end : (text : Text) → length text ≤ 4194304 → ((declared_by (lines_of text)).section == 10) ≡ true → IsValid (parts_of (declared_by (lines_of text)))
-valid-end text le end = ?
+valid-end text le end = valid-of (declared_by (lines_of text)) (proper-lines (lines_of text)) end ?
 
 -- the parts that are made of what was seen
 pub seen-valid : (text : Text) (a : Above) (W : Parts) → length text ≤ 4194304 → IsSeen text a → W ≡ parts_of a → IsValid W

@@ -14,5 +14,6 @@ pub mod Repeats
 pub mod Seen
 pub mod Soundness
 pub mod Taken
+pub mod Validity
 pub mod Verdicts
 pub mod WordEnds
