@@ -44,6 +44,7 @@ use Rattle.abt_workload.proofs.Seen.{fault-length}
 use Rattle.abt_workload.proofs.Soundness.{IsSound, sound-of}
 use Rattle.abt_workload.proofs.Taken.{line_fault-of}
 use Rattle.abt_workload.proofs.Validity.{valid-of}
+use Rattle.abt_workload.proofs.Weights.{lighter}
 
 -- What lines declare is proper.
 

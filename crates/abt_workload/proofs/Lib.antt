@@ -16,4 +16,5 @@ pub mod Soundness
 pub mod Taken
 pub mod Validity
 pub mod Verdicts
+pub mod Weights
 pub mod WordEnds
