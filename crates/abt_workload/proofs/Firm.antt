@@ -45,6 +45,7 @@ use Rattle.abt_workload.proofs.Soundness.{IsSound, sound-of}
 use Rattle.abt_workload.proofs.Taken.{line_fault-of}
 use Rattle.abt_workload.proofs.Validity.{valid-of}
 use Rattle.abt_workload.proofs.Weights.{lighter}
+use Rattle.abt_workload.proofs.Costs.{fitted-length}
 
 -- What lines declare is proper.
 

@@ -1,4 +1,5 @@
 pub mod Bounds
+pub mod Costs
 pub mod Firm
 pub mod Growing
 pub mod Keeping
