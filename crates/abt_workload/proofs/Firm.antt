@@ -1,6 +1,8 @@
 -- What lines declare is sound so far.
-use Rattle.std.proofs.Common.{◌≡◌, ◌<◌, ◌≤◌, ◌+◌, ◌*◌, ◌^◌, ◌==◌, ◌&&◌, ◌∙◌, ℕ, zero, suc, Bool, true, false, not, List, [], ◌∷◌, ◌++◌, All, IsUtf8, Option, Some, None, ap, arith, cond, find, fold, length, nat_le, nat_lt, option_to_list, refl, slice_get, subst, sym, take, if◌then◌else◌}
-use Rattle.std.specs.List.{list_all}
+use Rattle.std.proofs.Common.{append_assoc, codes, decimal, drop, flat_map, get_or, inl, inr, is_none, length-append, unwrap_or, ◌⊎◌, ◌||◌, ◌≡◌, ◌<◌, ◌≤◌, ◌+◌, ◌*◌, ◌^◌, ◌==◌, ◌&&◌, ◌∙◌, ℕ, zero, suc, Bool, true, false, not, List, [], ◌∷◌, ◌++◌, All, IsUtf8, Option, Some, None, ap, arith, cond, find, fold, length, nat_le, nat_lt, option_to_list, refl, slice_get, subst, sym, take, if◌then◌else◌}
+use Rattle.std.specs.List.{enumerate_from, list_all}
+use Rattle.std.proofs.lemmas.Bool.{eqb-true}
+use Rattle.std.proofs.Math.Seq.{take-append_seam}
 use Rattle.std.specs.Option.{option_map_or}
 use Rattle.std.proofs.lemmas.Option.{slice_get_within}
 use Rattle.std.proofs.lemmas.Str.{IsUtf8-from_is_utf8}
@@ -20,15 +22,17 @@ use Rattle.abt_machine.specs.declared.operations.Rule.TheVariants as rule
 use Rattle.abt_machine.specs.declared.operations.Thing.{Thing}
 use Rattle.abt_machine.specs.declared.operations.Thing.TheVariants as thing
 use Rattle.abt_machine.specs.declared.program.Fault.{Fault}
+use Rattle.abt_machine.specs.declared.program.Fault.TheVariants as fault
+use Rattle.abt_machine.specs.Canonical.{keys_lines, object_line, pool_line, sched_line, stream_line, unit_lines, version_line, workload_lines}
 use Rattle.abt_machine.specs.declared.workload.Parts.{Parts}
 use Rattle.abt_machine.specs.declared.workload.UnitPart.{UnitPart}
 use Rattle.abt_machine.specs.Declaring.{Above, at, listed, nothing, parts_of, word_in}
 use Rattle.abt_machine.specs.Faults.{faults, has, is_skipped, is_there, is_within, line_fault, numbers_of, values_of}
-use Rattle.abt_machine.specs.Forms.{fits, form_of, op_slots, slots}
-use Rattle.abt_machine.specs.Grammar.{Reads, and_form, and_line, and_words, declared_by, fault_at}
-use Rattle.abt_machine.specs.Spelling.{lines_of, words_of}
+use Rattle.abt_machine.specs.Forms.{fits, form_of, forms, op_slots, section, slots}
+use Rattle.abt_machine.specs.Grammar.{Reads, and_form, and_line, and_words, declared_by, fault_at, has_at}
+use Rattle.abt_machine.specs.Spelling.{has_control, lines_of, words_of}
 use Rattle.abt_machine.specs.Valid.{IsValid}
-use Rattle.abt_machine.specs.Words.{Text}
+use Rattle.abt_machine.specs.Words.{Text, text_of}
 use Rattle.abt_machine.specs.Workloads.{ops_of}
 use Rattle.abt_workload.specs.Declarable.{AreSmall, IsDeclarable, IsSaid, IsSmall, IsSmallRule, is_wide, with_line}
 use Rattle.abt_workload.specs.Reading.{IsFirm, IsSeen}
@@ -38,14 +42,16 @@ use Rattle.abt_workload.proofs.Growing.{tail-all}
 use Rattle.abt_workload.proofs.Keeping.{keeps-keys, keeps-object, keeps-pool, keeps-sched, keeps-stream, keeps-streams, keeps-units, keeps-version}
 use Rattle.abt_workload.proofs.KeepingUnits.{front-of, keeps-end, keeps-operation, keeps-unit, last-of, two-words}
 use Rattle.abt_workload.proofs.LineWords.{words-utf8}
-use Rattle.abt_workload.proofs.Places.{all-both, and-left, and-right, is_big, is_small_at, small-at}
+use Rattle.abt_workload.proofs.Places.{not-false, all-both, and-left, and-right, is_big, is_small_at, small-at}
 use Rattle.abt_workload.proofs.Proper.{IsProper, IsUnitIn, counted, op_count, proper-nothing, unit_count}
-use Rattle.abt_workload.proofs.Seen.{fault-length}
-use Rattle.abt_workload.proofs.Soundness.{IsSound, sound-of}
+use Rattle.abt_workload.proofs.Seen.{fault-in, fault-length}
+use Rattle.abt_workload.proofs.Soundness.{IsSound, none-passes, sound-of}
 use Rattle.abt_workload.proofs.Taken.{line_fault-of}
 use Rattle.abt_workload.proofs.Validity.{valid-of}
-use Rattle.abt_workload.proofs.Weights.{lighter}
-use Rattle.abt_workload.proofs.Costs.{fitted-length}
+use Rattle.abt_workload.proofs.Weights.{weight, words-weight}
+use Rattle.abt_workload.proofs.Costs.{all-said, cost, cost-append, cost-cons, cost_all, fitted-length, lines_from, mains-full, mains_cost, size, size-lines, units-said}
+use Rattle.abt_workload.proofs.Measures.{count_cost, end_cost, streams_cost, total, version_cost}
+use Rattle.abt_workload.proofs.Totals.{step}
 
 -- What lines declare is proper.
 
@@ -207,13 +213,145 @@ declarable a line words f numbers firm ew es sound ef en =
     let here : IsDeclarable a f words (values_of f words) = record { small = all-small a line words h f s; said = said-utf8 a line words h f ew s; few_words = words-small a line words h } in
     subst (λ (ns : List (Number × ℕ)). IsDeclarable a f words (values ns)) (sym en) here
 
-pub valid-end : (text : Text) → length text ≤ 4194304 → ((declared_by (lines_of text)).section == 10) ≡ true → IsValid (parts_of (declared_by (lines_of text)))
-valid-end text le end = valid-of (declared_by (lines_of text)) (proper-lines (lines_of text)) end ?
+-- The length of the text that is written for what lines declare.
+
+-- where a line was not skipped, a section was reached
+abbrev IsReady : Above → Type 0
+IsReady a = a.begun ≡ true → 0 < a.section
+
+some-section : (f : Form) → 0 < section f
+some-section form.Version = omega arith
+some-section _ = omega arith
+
+-- the first line that is not skipped is the version
+first-form : (words : List Text) (f : Form) → fits (slots form.Version) words ≡ true → form_of words ≡ Some f → f ≡ form.Version
+first-form words f e is =
+    let P : Bool → Option Form = λ b. cond b (Some form.Version) (find (λ g. fits (slots g) words) (drop 1 forms)) in
+    let here : Some form.Version ≡ Some f = sym (ap P e) ∙ is in
+    cc
+
+ready-form : (a : Above) (line : Text) (words : List Text) (f : Form) → IsReady a → IsSound a line words f → form_of words ≡ Some f → (f ≡ form.Version) ⊎ (0 < a.section)
+ready-form a line words f ready s is = by a.begun refl
+  where
+    by : (b : Bool) → a.begun ≡ b → (f ≡ form.Version) ⊎ (0 < a.section)
+    by true e = inr (ready e)
+    by false e = inl (first-form words f (not-false (fits (slots form.Version) words) (subst (λ (b : Bool). (not b && not (fits (slots form.Version) words)) ≡ false) e s.version)) is)
+
+no-form : (a : Above) (line : Text) (words : List Text) → find (has a line words None) faults ≡ None → ⊥
+no-form a line words e = let shape : (true || has_control line || false) ≡ false = none-passes (has a line words None) faults fault.Utf8 3 e (omega arith) in cc
+
+step-line : (a : Above) (line : Text) → IsProper a → IsReady a → line_fault a line ≡ None → (total (and_line a line) ≤ total a + (length line + 1)) × IsReady (and_line a line)
+step-line a line h ready none = by (is_skipped (words_of line)) refl
+  where
+    T : Above → Type 0
+    T b = (total b ≤ total a + (length line + 1)) × (b.begun ≡ true → 0 < b.section)
+    form-by : (o : Option Form) → form_of (words_of line) ≡ o → find (has a line (words_of line) (form_of (words_of line))) faults ≡ None
+        → (total (record (and_form a (words_of line) o) { begun = true }) ≤ total a + (length line + 1)) × IsReady (record (and_form a (words_of line) o) { begun = true })
+    form-by None eo sound = absurd (no-form a line (words_of line) (sym (ap (λ (o : Option Form). find (has a line (words_of line) o) faults) eo) ∙ sound))
+    form-by (Some f) eo sound =
+        let s : IsSound a line (words_of line) f = sound-of a line (words_of line) f sound eo in
+        let l : total (with_line a f (words_of line) (values_of f (words_of line))) ≤ total a + weight (words_of line) = step h f s (ready-form a line (words_of line) f ready s eo) in
+        let w = words-weight line in
+        (omega (arith, l), λ _. some-section f)
+    by : (b : Bool) → is_skipped (words_of line) ≡ b → (total (and_line a line) ≤ total a + (length line + 1)) × IsReady (and_line a line)
+    by true e = subst (λ (c : Bool). (total (cond c a (record (and_words a (words_of line) (line_fault a line)) { begun = true })) ≤ total a + (length line + 1)) × IsReady (cond c a (record (and_words a (words_of line) (line_fault a line)) { begun = true }))) (sym e) (omega arith, ready)
+    by false e = subst (λ (c : Bool). (total (cond c a (record (and_words a (words_of line) (line_fault a line)) { begun = true })) ≤ total a + (length line + 1)) × IsReady (cond c a (record (and_words a (words_of line) (line_fault a line)) { begun = true }))) (sym e)
+        (subst (λ (o : Option Fault). (total (record (and_words a (words_of line) o) { begun = true }) ≤ total a + (length line + 1)) × IsReady (record (and_words a (words_of line) o) { begun = true })) (sym none) (form-by (form_of (words_of line)) refl (sym (line_fault-of a line e) ∙ none)))
+
+-- no line has a fault
+abbrev AllNone : Above → List Text → Type 0
+AllNone a [] = Unit {0}
+AllNone a (line ∷ lines) = (line_fault a line ≡ None) × AllNone (and_line a line) lines
+
+total-lines : (a : Above) (lines : List Text) → IsProper a → IsReady a → AllNone a lines → total (fold and_line a lines) ≤ total a + size lines
+total-lines a [] h ready none = omega arith
+total-lines a (line ∷ lines) h ready none =
+    let s = step-line a line h ready none.0 in
+    let r = total-lines (and_line a line) lines (keeps-line a line h) s.1 none.1 in
+    let t = s.0 in
+    omega arith
+
+push-line : (s : Above) (xs : List Text) (x : Text) → fold and_line s (xs ++ x ∷ []) ≡ and_line (fold and_line s xs) x
+push-line s [] x = refl
+push-line s (y ∷ ys) x = push-line (and_line s y) ys x
+
+seam : (pre : List Text) (x : Text) (xs : List Text) → get_or (pre ++ x ∷ xs) (length pre) [] ≡ x
+seam [] x xs = refl
+seam (p ∷ pre) x xs = seam pre x xs
+
+none-from : (L pre rest : List Text) → L ≡ pre ++ rest → ((i : ℕ) → i < length L → line_fault (declared_by (take i L)) (get_or L i []) ≡ None) → AllNone (declared_by pre) rest
+none-from L pre [] e f = tt
+none-from L pre (x ∷ rest) e f =
+    let lt : length pre < length L = let l : length L ≡ length (pre ++ x ∷ rest) = ap length e in let m : length (pre ++ x ∷ rest) ≡ length pre + length (x ∷ rest) = length-append pre _ in omega arith in
+    let front : take (length pre) L ≡ pre = ap (take (length pre)) e ∙ take-append_seam pre (x ∷ rest) in
+    let item : get_or L (length pre) [] ≡ x = ap (λ (ls : List Text). get_or ls (length pre) []) e ∙ seam pre x rest in
+    let here : line_fault (declared_by pre) x ≡ None = ap (λ (t : Text). line_fault (declared_by pre) t) (sym item) ∙ (ap (λ (p : List Text). line_fault (declared_by p) (get_or L (length pre) [])) (sym front) ∙ f (length pre) lt) in
+    let more : AllNone (declared_by (pre ++ x ∷ [])) rest = none-from L (pre ++ x ∷ []) rest (e ∙ sym (append_assoc pre (x ∷ []) rest)) f in
+    (here, subst (λ (b : Above). AllNone b rest) (push-line nothing pre x) more)
+
+-- what is written for a faultless text is at most one byte longer, a last line feed
+pub total-text : (text : Text) → ((i : ℕ) → find (has_at (lines_of text) i) faults ≡ None) → total (declared_by (lines_of text)) ≤ length text + 1
+total-text text faultless =
+    let none : AllNone nothing (lines_of text) = none-from (lines_of text) [] (lines_of text) refl (λ i lt. sym (fault-in (lines_of text) i lt) ∙ faultless i) in
+    let t = total-lines nothing (lines_of text) proper-nothing (λ e. cc) none in
+    let s = size-lines text in
+    omega arith
+
+-- The whole text.
+
+count-some : (o : Option ℕ) (n : ℕ) → is_none o ≡ false → unwrap_or o 0 ≡ n → count_cost o ≡ cost (codes "units" ∷ decimal n ∷ [])
+count-some None n e f = cc
+count-some (Some m) n e f = ap (λ (k : ℕ). cost (codes "units" ∷ decimal k ∷ [])) f
+
+streams-some : (o : Option ℕ) → is_none o ≡ false → streams_cost o ≡ cost (codes "streams" ∷ decimal (unwrap_or o 0) ∷ [])
+streams-some None e = cc
+streams-some (Some m) e = refl
+
+pub whole-length : (a : Above) → IsProper a → (a.section == 10) ≡ true → cost_all (workload_lines (parts_of a)) ≡ total a
+whole-length a h ended =
+    let ten : a.section ≡ 10 = eqb-true a.section 10 ended in
+    let W : Parts = parts_of a in
+    let st : List Text = codes "streams" ∷ decimal W.streams ∷ [] in
+    let P : List (List Text) = lines_from pool_line 0 a.pools in
+    let S : List (List Text) = lines_from sched_line 0 a.scheds in
+    let M : List (List Text) = lines_from stream_line 0 W.mains in
+    let O : List (List Text) = lines_from object_line 0 a.objects in
+    let ul : List Text = codes "units" ∷ decimal (length W.units) ∷ [] in
+    let U : List (List Text) = flat_map (λ p. unit_lines W p.0 p.1) (enumerate_from 0 W.units) in
+    let K : List (List Text) = keys_lines a.keys in
+    let c1 = cost-append ((((((version_line ∷ st ∷ K) ++ P) ++ S) ++ M) ++ O) ++ ul ∷ U) ((codes "end" ∷ []) ∷ []) in
+    let c2 = cost-append (((((version_line ∷ st ∷ K) ++ P) ++ S) ++ M) ++ O) (ul ∷ U) in
+    let c3 = cost-append ((((version_line ∷ st ∷ K) ++ P) ++ S) ++ M) O in
+    let c4 = cost-append (((version_line ∷ st ∷ K) ++ P) ++ S) M in
+    let c5 = cost-append ((version_line ∷ st ∷ K) ++ P) S in
+    let c6 = cost-append (version_line ∷ st ∷ K) P in
+    let c7 = cost-cons version_line (st ∷ K) in
+    let c8 = cost-cons st K in
+    let c9 = cost-cons ul U in
+    let e1 : streams_cost a.streams ≡ cost st = streams-some a.streams (h.order.has_streams (omega arith)) in
+    let all : length W.units ≡ length a.units + length (option_to_list a.last) = length-append a.units _ in
+    let most = h.order.has_units (omega arith) in
+    let least = h.units.declared in
+    let e2 : count_cost a.unit_count ≡ cost ul = count-some a.unit_count (length W.units) (h.order.has_count (omega arith)) (omega arith) in
+    let e3 : mains_cost 0 a.mains ≡ cost_all M = mains-full 0 a.mains (h.order.has_mains (omega arith)) in
+    let e4 = units-said W 0 W.units in
+    let e5 = all-said W _ h.said in
+    let v : version_cost a.section ≡ 6 = ap version_cost ten in
+    let n : end_cost a.section ≡ 4 = ap end_cost ten in
+    omega arith
+
+pub valid-end : (text : Text) → length text ≤ 4194304 → ((i : ℕ) → find (has_at (lines_of text) i) faults ≡ None) → ((declared_by (lines_of text)).section == 10) ≡ true → IsValid (parts_of (declared_by (lines_of text)))
+valid-end text le faultless end =
+    let a : Above = declared_by (lines_of text) in
+    let h : IsProper a = proper-lines (lines_of text) in
+    let w : cost_all (workload_lines (parts_of a)) ≡ total a = whole-length a h end in
+    let t : total a ≤ length text + 1 = total-text text faultless in
+    valid-of a h end (fitted-length (text_of (workload_lines (parts_of a))) (omega arith))
 
 -- the parts that are made of what was seen
 pub seen-valid : (text : Text) (a : Above) (W : Parts) → length text ≤ 4194304 → IsSeen text a → W ≡ parts_of a → IsValid W
 seen-valid text a W le seen is =
-    subst IsValid (sym (is ∙ ap parts_of seen.declared)) (valid-end text le (ap (λ (b : Above). b.section == 10) (sym seen.declared) ∙ seen.ended))
+    subst IsValid (sym (is ∙ ap parts_of seen.declared)) (valid-end text le seen.faultless (ap (λ (b : Above). b.section == 10) (sym seen.declared) ∙ seen.ended))
 
 pub seen-reads : (text : Text) (a : Above) (W : Parts) → length text ≤ 4194304 → IsSeen text a → W ≡ parts_of a → Reads text W
 seen-reads text a W le seen is = record { faultless = by; parts = is ∙ ap parts_of seen.declared }

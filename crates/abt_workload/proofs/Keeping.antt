@@ -55,6 +55,13 @@ unpooled (n ∷ ns) = ap (λ (ms : List ℕ). n ∷ ms) (unpooled ns)
 below-all : (count : ℕ) (ns : List ℕ) → All (λ n. nat_lt n count ≡ true) ns → All (λ n. n < count) ns
 below-all count ns all = λ k d lt. lt-from _ _ (all k d lt)
 
+-- a scheduler lists a pool
+pub listed-some : {a : Above} {line : Text} {words : List Text} (r : Rule) → IsSound a line words (form.Sched r) → 0 < length (listed r (values_of (form.Sched r) words))
+listed-some {a} {line} {words} rule.Basic t = tail-some (slots (form.Sched rule.Basic)) words t.form_fits refl
+listed-some {a} {line} {words} rule.Prio t = tail-some (slots (form.Sched rule.Prio)) words t.form_fits refl
+listed-some {a} {line} {words} (rule.Randws n) t = tail-some (slots (form.Sched (rule.Randws n))) words t.form_fits refl
+listed-some {a} {line} {words} (rule.User n) t = tail-some (slots (form.Sched (rule.User n))) words t.form_fits refl
+
 sched-in : {a : Above} {line : Text} {words : List Text} (r : Rule) → IsSound a line words (form.Sched r) → IsSchedIn (length a.pools) (sched_with r (values_of (form.Sched r) words))
 sched-in {a} {line} {words} r s =
     let vals : List ℕ = values_of (form.Sched r) words in
@@ -73,11 +80,6 @@ sched-in {a} {line} {words} r s =
     listed-there rule.Prio t = tail-all (is_there a) (slots (form.Sched rule.Prio)) words t.form_fits refl t.there
     listed-there (rule.Randws n) t = tail-all (is_there a) (slots (form.Sched (rule.Randws n))) words t.form_fits refl t.there
     listed-there (rule.User n) t = tail-all (is_there a) (slots (form.Sched (rule.User n))) words t.form_fits refl t.there
-    listed-some : (q : Rule) → IsSound a line words (form.Sched q) → 0 < length (listed q (values_of (form.Sched q) words))
-    listed-some rule.Basic t = tail-some (slots (form.Sched rule.Basic)) words t.form_fits refl
-    listed-some rule.Prio t = tail-some (slots (form.Sched rule.Prio)) words t.form_fits refl
-    listed-some (rule.Randws n) t = tail-some (slots (form.Sched (rule.Randws n))) words t.form_fits refl
-    listed-some (rule.User n) t = tail-some (slots (form.Sched (rule.User n))) words t.form_fits refl
     rule-in : (q : Rule) → IsSound a line words (form.Sched q) → IsRule (rule_with q (values_of (form.Sched q) words))
     rule-in rule.Basic t = tt
     rule-in rule.Prio t = tt

@@ -172,12 +172,12 @@ same-blocks : (o : Op) (said : ℕ) (ns : List ℕ) → may_block (op_with o sai
 same-blocks (op.Set n) said ns = refl
 same-blocks _ said ns = refl
 
-body-ops : (o : Op) (b : Body) → is_sched b ≡ false → ops_of (body_and o b) ≡ ops_of b ++ o ∷ []
+pub body-ops : (o : Op) (b : Body) → is_sched b ≡ false → ops_of (body_and o b) ≡ ops_of b ++ o ∷ []
 body-ops o (body.Ult ops) e = refl
 body-ops o (body.Task ops) e = refl
 body-ops o (body.Sched g) e = cc
 
-body-sched : (o : Op) (b : Body) → sched_in (body_and o b) ≡ sched_in b
+pub body-sched : (o : Op) (b : Body) → sched_in (body_and o b) ≡ sched_in b
 body-sched o (body.Ult ops) = refl
 body-sched o (body.Task ops) = refl
 body-sched o (body.Sched g) = refl
@@ -202,7 +202,7 @@ said-more (op.Say w) words ws ns =
 said-more _ words ws ns = append-nil (range_with_len 0 (length words)) ∙ ap (λ (xs : List Text). range_with_len 0 (length xs)) (sym (append-nil words))
 
 -- a unit that takes operations
-home : (last : Option UnitPart) → takes_operations last ≡ true → (part : UnitPart) × (last ≡ Some part) × (is_sched part.body ≡ false)
+pub home : (last : Option UnitPart) → takes_operations last ≡ true → (part : UnitPart) × (last ≡ Some part) × (is_sched part.body ≡ false)
 home None e = cc
 home (Some part) e = (part, refl, not-true (is_sched part.body) e)
 

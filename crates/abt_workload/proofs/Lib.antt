@@ -6,6 +6,7 @@ pub mod Keeping
 pub mod KeepingUnits
 pub mod LineEnds
 pub mod LineWords
+pub mod Measures
 pub mod Naming
 pub mod Numerals
 pub mod Places
@@ -15,6 +16,7 @@ pub mod Repeats
 pub mod Seen
 pub mod Soundness
 pub mod Taken
+pub mod Totals
 pub mod Validity
 pub mod Verdicts
 pub mod Weights

@@ -13,7 +13,7 @@ use Rattle.abt_machine.specs.Words.{Text}
 use Rattle.abt_workload.proofs.Places.{not-false, or-left, or-right}
 
 -- where nothing is found, no element passes
-none-passes : (p : Fault → Bool) (fs : List Fault) (d : Fault) (k : ℕ) → find p fs ≡ None → k < length fs → p (get_or fs k d) ≡ false
+pub none-passes : (p : Fault → Bool) (fs : List Fault) (d : Fault) (k : ℕ) → find p fs ≡ None → k < length fs → p (get_or fs k d) ≡ false
 none-passes p [] d k e lt = absurd (omega arith)
 none-passes p (f ∷ fs) d k e lt = by k (p f) refl e lt (λ j g h. none-passes p fs d j g h)
   where
