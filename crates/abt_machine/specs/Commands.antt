@@ -35,8 +35,8 @@ is_option [] = false
 is_option (c ∷ []) = false
 is_option (c ∷ d ∷ cs) = c == 45
 
--- the words that stand after the word `--steps`, where `due`, and else after any other; no option is a value, so a
--- `--steps` that has none counts with the other options
+-- the rest that these words are, where the word before them is `--steps`, so that its value is `due`, and where it is not.
+-- The first `--` ends the options. No option is a value: a `--steps` without one counts with the other options
 abbrev pub rest_of : Bool → List Text → Rest
 rest_of true [] = and_other (only [])
 rest_of true (v ∷ ws) = if is_option v then and_other (rest_of false ws) else and_steps v (rest_of false ws)
