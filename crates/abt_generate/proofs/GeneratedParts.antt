@@ -1,10 +1,9 @@
 -- The generator's parts are those of a valid workload.
-use Rattle.std.proofs.Common.{◌≡◌, ◌≢◌, ℕ, zero, suc, ◌<◌, ◌≤◌, ◌+◌, ◌*◌, ◌^◌, List, [], ◌∷◌, ◌++◌, Option, Some, None, length, map, slice_get, get_or, refl, sym, ◌∙◌, ap, subst, arith, lit<, lit≤, length-append}
-use Rattle.std.specs.Prelude.{◌%◌, All, AllPairs, flat_map, ⊤}
+use Rattle.std.proofs.Common.{◌≡◌, ◌≢◌, ℕ, zero, suc, ◌<◌, ◌≤◌, ◌+◌, ◌^◌, List, [], ◌∷◌, ◌++◌, Option, Some, length, map, slice_get, refl, sym, ◌∙◌, ap, subst, arith, lit<, lit≤}
+use Rattle.std.specs.Prelude.{◌%◌, AllPairs, flat_map}
 use Rattle.std.specs.List.{range_with_len}
-use Rattle.std.proofs.lemmas.List.{length-map}
 use Rattle.std.proofs.lemmas.List.Elements.{All-nil}
-use Rattle.std.proofs.lemmas.List.FromFn.{length-range_with_len, get_or-map-range_with_len, length-map-range_with_len}
+use Rattle.std.proofs.lemmas.List.FromFn.{get_or-map-range_with_len, length-map-range_with_len}
 use Rattle.std.proofs.lemmas.Option.{slice_get-get_or}
 use Rattle.abt_machine.specs.declared.numbers.SchedNo.{SchedNo}
 use Rattle.abt_machine.specs.declared.operations.Op.{Op}
@@ -17,14 +16,14 @@ use Rattle.abt_machine.specs.declared.workload.Parts.{Parts}
 use Rattle.abt_machine.specs.declared.workload.PoolPart.{PoolPart}
 use Rattle.abt_machine.specs.declared.workload.SchedPart.{SchedPart}
 use Rattle.abt_machine.specs.declared.workload.UnitPart.{UnitPart}
-use Rattle.abt_machine.specs.Numbers.{object_no, pool_no, sched_no, unit_no}
-use Rattle.abt_machine.specs.Operations.{IsDeclared, IsMutex, said_by}
+use Rattle.abt_machine.specs.Numbers.{object_no, sched_no}
+use Rattle.abt_machine.specs.Operations.{IsDeclared, said_by}
 use Rattle.abt_machine.specs.Valid.{IsAccess, IsBody, IsRule, IsScheduler, IsStream, IsThing, IsUnit, IsValid, IsWord, sched_in, words_said}
 use Rattle.abt_machine.specs.Words.{Text}
 use Rattle.abt_machine.specs.Workloads.{access_of, body_from, ops_of, start_from, thing_at}
 use Rattle.abt_generate.specs.Generated.{adder, adder_ops, adders, deque, first_ops, first_unit, generated, sched_for}
 use Rattle.abt_generate.proofs.GeneratedText.{create, join, length-first_ops, text-short}
-use Rattle.abt_generate.proofs.Lists.{Each, EachPair, each-all, each-always, each-append, each-at, each-map, each-pairs, each-weaker, flat_map-nothing, none-some, some-same}
+use Rattle.abt_generate.proofs.Lists.{Each, each-all, each-always, each-append, each-at, each-map, each-pairs, flat_map-nothing, none-some, some-same}
 
 -- Operations.
 

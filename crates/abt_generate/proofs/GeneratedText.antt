@@ -1,7 +1,7 @@
 -- The generator's workload has a short text.
 use Rattle.std.proofs.Common.{◌≡◌, ℕ, ◌≤◌, ◌+◌, ◌*◌, List, [], ◌∷◌, ◌++◌, length, map, refl, ◌∙◌, arith, lit≤, length-append}
 use Rattle.std.specs.Prelude.{◌%◌, codes, decimal, flat_map}
-use Rattle.std.specs.List.{enumerate_from, range_with_len}
+use Rattle.std.specs.List.{enumerate_from}
 use Rattle.std.proofs.lemmas.List.{length-map}
 use Rattle.std.proofs.lemmas.List.FromFn.{length-enumerate_from, length-range_with_len}
 use Rattle.abt_machine.specs.declared.operations.Op.{Op}

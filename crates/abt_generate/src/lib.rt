@@ -4,5 +4,6 @@
 mod generated;
 #[cfg(test)]
 mod tests;
+pub mod worked;
 
 pub use generated::generate;

@@ -1,7 +1,5 @@
-use Rattle.std.proofs.Common.{◌≡◌, subst, sym, ◌∙◌}
-use Rattle.abt_machine.specs.declared.workload.Parts.{Parts}
+use Rattle.std.proofs.Common.{subst, sym, ◌∙◌}
 use Rattle.abt_machine.specs.Valid.{IsValid}
-use Rattle.abt_generate.specs.Generated.{generated}
 use Rattle.abt_generate.proofs.GeneratedParts.{IsValid-generated, parts-generated}
 use Rattle.abt_generate.proofs.generated.generate.Goals as goal
 
