@@ -30,6 +30,7 @@ words_drawn [] round = 0
 words_drawn (p ∷ []) round = 0
 words_drawn (p ∷ q ∷ ps) round = round
 
+-- the generator that a rule has before a round
 abbrev pub words_by : Option Rule → List ℕ → ℕ → ℕ → Option Lcg
 words_by None ps g round = None
 words_by (Some rule.Basic) ps g round = None

@@ -1,0 +1,4 @@
+pub mod Lists
+pub mod TextLength
+pub mod GeneratedText
+pub mod GeneratedParts
