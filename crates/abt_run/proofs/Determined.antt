@@ -22,7 +22,7 @@ use Rattle.abt_machine.specs.Codes.{code_at}
 use Rattle.abt_machine.specs.Events.{May}
 use Rattle.abt_machine.specs.Runs.{Run, RunFrom, last_state}
 use Rattle.abt_machine.specs.Start.{start}
-use Rattle.abt_run.specs.Runs.{EndsRound, EndsWithOnlyEmptyRound, IsOnlyRun}
+use Rattle.abt_run.specs.Runs.{GoesToItsStop, IsOnlyRun, Stops}
 use Rattle.abt_laws.proofs.RunParts.{run-rest, run-front}
 use Rattle.abt_run.proofs.Counted.{stamped-counted}
 use Rattle.abt_run.specs.Going.{CountedFrom}
@@ -128,50 +128,43 @@ first-is W Z S e f t es fs one sound run other counted also =
     ap (λ t. event-of t e.stream e.what) (counted.0 ∙ sym also.0)
     ∙ (ap (λ r. event-of f.stamp r e.what) (counted.1 ∙ sym also.1) ∙ ap (event-of f.stamp f.stream) (event-is W Z S e.what f.what one sound w v))
 
--- no empty round ends before the end
-abbrev NoRoundBefore : Parts → List Event → List Event → Type 0
-NoRoundBefore W P front = (before rest : List Event) (e : Event) → front ≡ before ++ e ∷ rest → EndsRound W (P ++ before) e → ⊥
+-- no front stops
+abbrev NoStopBefore : Parts → ℕ → List Event → List Event → Type 0
+NoStopBefore W n P es = (before rest : List Event) (e : Event) → es ≡ before ++ e ∷ rest → Stops W n (P ++ before) → ⊥
 
 cons-is : {A : Type 0} (P es : List A) (e : A) → P ++ e ∷ es ≡ (P ++ e ∷ []) ++ es
 cons-is P es e = sym (append_assoc P (e ∷ []) es)
 
 -- after the first event, which both have
-further : (W : Parts) (P es : List Event) (e : Event) → NoRoundBefore W P (e ∷ es) → NoRoundBefore W (P ++ e ∷ []) es
-further W P es e none before rest f is = λ ends. none (e ∷ before) rest f (ap (λ xs. e ∷ xs) is) (subst (λ xs. EndsRound W xs f) (sym (cons-is P before e)) ends)
+further : (W : Parts) (n : ℕ) (P es : List Event) (e : Event) → NoStopBefore W n P (e ∷ es) → NoStopBefore W n (P ++ e ∷ []) es
+further W n P es e none before rest f is = λ stops. none (e ∷ before) rest f (ap (λ xs. e ∷ xs) is) (subst (Stops W n) (sym (cons-is P before e)) stops)
 
 -- the first events of two runs that go on from the same events are one
 same-first : (W : Parts) (Z : List OrderShape) (t : ℕ) (P es fs : List Event) (e f : Event) → LeavesNoChoice W Z → Run W Z (P ++ e ∷ es) → Run W Z (P ++ f ∷ fs) → CountedFrom t (e ∷ es) → CountedFrom t (f ∷ fs) → e ≡ f
 same-first W Z t P es fs e f none run other counted also =
     first-is W Z (last_state W P) e f t es fs none.one_order (none.sound P (run-front W Z (start W) P (e ∷ es) run)) (run-rest W Z (start W) P (e ∷ es) run) (run-rest W Z (start W) P (f ∷ fs) other) counted also
 
-pub one-run : (W : Parts) (Z : List OrderShape) (t : ℕ) (P es fs : List Event) (m n : Event) → LeavesNoChoice W Z →
-    Run W Z (P ++ (es ++ m ∷ [])) → Run W Z (P ++ (fs ++ n ∷ [])) → CountedFrom t (es ++ m ∷ []) → CountedFrom t (fs ++ n ∷ []) →
-    EndsRound W (P ++ es) m → EndsRound W (P ++ fs) n → NoRoundBefore W P es → NoRoundBefore W P fs → es ++ m ∷ [] ≡ fs ++ n ∷ []
-one-run W Z t P [] [] m n choice run other counted also ends end none nor =
-    ap (λ e. e ∷ []) (same-first W Z t P [] [] m n choice run other counted also)
-one-run W Z t P [] (f ∷ fs) m n choice run other counted also ends end none nor =
-    let same : m ≡ f = same-first W Z t P [] (fs ++ n ∷ []) m f choice run other counted also in
-    absurd (nor [] fs f refl (subst (EndsRound W (P ++ [])) same ends))
-one-run W Z t P (e ∷ es) [] m n choice run other counted also ends end none nor =
-    let same : e ≡ n = same-first W Z t P (es ++ m ∷ []) [] e n choice run other counted also in
-    absurd (none [] es e refl (subst (EndsRound W (P ++ [])) (sym same) end))
-one-run W Z t P (e ∷ es) (f ∷ fs) m n choice run other counted also ends end none nor =
-    let same : e ≡ f = same-first W Z t P (es ++ m ∷ []) (fs ++ n ∷ []) e f choice run other counted also in
-    let rest : es ++ m ∷ [] ≡ fs ++ n ∷ [] =
-    one-run W Z (suc t) (P ++ e ∷ []) es fs m n choice
-    (subst (Run W Z) (cons-is P (es ++ m ∷ []) e) run)
-    (subst (λ x. Run W Z ((P ++ x ∷ []) ++ (fs ++ n ∷ []))) (sym same) (subst (Run W Z) (cons-is P (fs ++ n ∷ []) f) other))
+-- two runs that go on from the same events to their stops are one
+one-run : (W : Parts) (Z : List OrderShape) (n t : ℕ) (P es fs : List Event) → LeavesNoChoice W Z → Run W Z (P ++ es) → Run W Z (P ++ fs) → CountedFrom t es → CountedFrom t fs →
+    Stops W n (P ++ es) → Stops W n (P ++ fs) → NoStopBefore W n P es → NoStopBefore W n P fs → es ≡ fs
+one-run W Z n t P [] [] choice run other counted also stops stop none nor = refl
+one-run W Z n t P [] (f ∷ fs) choice run other counted also stops stop none nor = absurd (nor [] fs f refl stops)
+one-run W Z n t P (e ∷ es) [] choice run other counted also stops stop none nor = absurd (none [] es e refl stop)
+one-run W Z n t P (e ∷ es) (f ∷ fs) choice run other counted also stops stop none nor =
+    let same : e ≡ f = same-first W Z t P es fs e f choice run other counted also in
+    let rest : es ≡ fs =
+    one-run W Z n (suc t) (P ++ e ∷ []) es fs choice
+    (subst (Run W Z) (cons-is P es e) run)
+    (subst (λ x. Run W Z ((P ++ x ∷ []) ++ fs)) (sym same) (subst (Run W Z) (cons-is P fs f) other))
     counted.2 also.2
-    (subst (λ xs. EndsRound W xs m) (cons-is P es e) ends)
-    (subst (λ x. EndsRound W ((P ++ x ∷ []) ++ fs) n) (sym same) (subst (λ xs. EndsRound W xs n) (cons-is P fs f) end))
-    (further W P es e none)
-    (subst (λ x. NoRoundBefore W (P ++ x ∷ []) fs) (sym same) (further W P fs f nor))
-    in ap (λ x. x ∷ (es ++ m ∷ [])) same ∙ ap (λ xs. f ∷ xs) rest
+    (subst (Stops W n) (cons-is P es e) stops)
+    (subst (λ x. Stops W n ((P ++ x ∷ []) ++ fs)) (sym same) (subst (Stops W n) (cons-is P fs f) stop))
+    (further W n P es e none)
+    (subst (λ x. NoStopBefore W n (P ++ x ∷ []) fs) (sym same) (further W n P fs f nor))
+    in ap (λ x. x ∷ es) same ∙ ap (λ xs. f ∷ xs) rest
 
--- so a journal that is a stamped run and ends with its only empty round is the only such one
-pub only-run : (W : Parts) (Z : List OrderShape) (J : List Event) → LeavesNoChoice W Z → Run W Z J → CountedFrom 1 J → EndsWithOnlyEmptyRound W J → IsOnlyRun W Z J
-only-run W Z J choice run counted ends K other stamped end =
-    let also : CountedFrom 1 K = stamped-counted W Z (start W) K choice.one_stream other stamped in
-    end.is
-    ∙ (sym (one-run W Z 1 [] ends.front end.front ends.miss end.miss choice (subst (Run W Z) ends.is run) (subst (Run W Z) end.is other) (subst (CountedFrom 1) ends.is counted) (subst (CountedFrom 1) end.is also) ends.ends end.ends ends.only end.only)
-    ∙ sym ends.is)
+-- so a journal that is a stamped run and goes to its stop is the only such one
+pub only-run : (W : Parts) (Z : List OrderShape) (n : ℕ) (J : List Event) → LeavesNoChoice W Z → Run W Z J → CountedFrom 1 J → GoesToItsStop W n J → IsOnlyRun W Z n J
+only-run W Z n J choice run counted goes K other stamped also =
+    let count : CountedFrom 1 K = stamped-counted W Z (start W) K choice.one_stream other stamped in
+    one-run W Z n 1 [] K J choice other run count counted also.stops goes.stops also.not_before goes.not_before

@@ -59,10 +59,14 @@ IsBuiltBody (body.Ult ops) = IsTrue (list_all is_built_op ops)
 IsBuiltBody (body.Task ops) = ⊥
 IsBuiltBody (body.Sched g) = ⊥
 
--- no unit, or one that starts in pool 0
+-- a unit that starts in pool 0
+abbrev pub IsBuiltUnit : UnitPart → Type 0
+IsBuiltUnit part = (part.start ≡ Some (pool_no 0)) × IsBuiltBody part.body
+
+-- no unit, or one such
 abbrev pub AreBuiltUnits : List UnitPart → Type 0
 AreBuiltUnits [] = Unit {0}
-AreBuiltUnits (part ∷ []) = (part.start ≡ Some (pool_no 0)) × IsBuiltBody part.body
+AreBuiltUnits (part ∷ []) = IsBuiltUnit part
 AreBuiltUnits (part ∷ other ∷ parts) = ⊥
 
 -- the only pool
@@ -85,6 +89,13 @@ built_parts units words = record {
   units = units;
   words = words;
 }
+
+-- one stream, which runs scheduler 0, and no key and no object
+pub record IsAlone (W : Parts) : Type 0 where
+  pub streams : W.streams ≡ 1
+  pub keys : W.keys ≡ 0
+  pub mains : W.mains ≡ sched_no 0 ∷ []
+  pub objects : W.objects ≡ []
 
 -- a valid workload that the program runs
 pub record IsBuilt (W : Parts) : Type 0 where

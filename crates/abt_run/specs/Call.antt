@@ -1,13 +1,16 @@
 -- What a call of the program was given, and what each status says of what it left.
 use Rattle.std.specs.Prelude.{◌≡◌, ◌⊎◌, ℕ, Bool, List, [], Option, Some, IfSome}
 use Rattle.abt_machine.specs.declared.events.Event.{Event}
+use Rattle.abt_machine.specs.declared.events.Outcome.{Outcome}
 use Rattle.abt_machine.specs.declared.events.Outcome.TheVariants as outcome
 use Rattle.abt_machine.specs.declared.program.Command.{Command}
 use Rattle.abt_machine.specs.declared.program.Command.TheVariants as command
+use Rattle.abt_machine.specs.declared.program.Fault.{Fault}
 use Rattle.abt_machine.specs.declared.workload.Parts.{Parts}
-use Rattle.abt_machine.specs.Canonical.{canonical_text}
+use Rattle.abt_machine.specs.Commands.{Says}
+use Rattle.abt_machine.specs.Grammar.{Reads, Refuses}
+use Rattle.abt_machine.specs.Numbers.{stream_no}
 use Rattle.abt_machine.specs.Runs.{last_state}
-use Rattle.abt_machine.specs.Says.{Says}
 use Rattle.abt_machine.specs.Texts.{output_text}
 use Rattle.abt_machine.specs.Words.{Text}
 use Rattle.abt_source.specs.Source.{Rose, Took, TookFront}
@@ -15,7 +18,7 @@ use Rattle.abt_run.specs.Built.{IsBuilt}
 use Rattle.abt_run.specs.Runs.{IsTheRun}
 use Rattle.abt_run.specs.Status.{message_of, number_of}
 use Rattle.abt_run.specs.declared.status.Status.{Status}
-use Rattle.abt_run.specs.declared.status.Status.TheVariants.{Finished, BadWords, NotBuilt, CannotRead, CannotWrite, OutOfMemory}
+use Rattle.abt_run.specs.declared.status.Status.TheVariants.{Finished, BadWords, Refused, NotBuilt, Budget, CannotRead, CannotWrite, OutOfMemory}
 
 -- the words, the bytes of each file where they are told, and for reading, output and messages the count of faults and the bytes taken, before and afterwards; then the journal that was answered
 pub record Call : Type 0 where
@@ -44,55 +47,79 @@ GainedFront sink bytes = TookFront sink.0 sink.1 bytes
 abbrev pub IsTold : Option Text × Option Text → ℕ × ℕ → Text → Type 0
 IsTold sink faults text = Gained sink text ⊎ (GainedFront sink text × Grew faults)
 
--- the words name a file, and whether the journal is to be printed
-abbrev pub Asks : List Text → Text → Bool → Type 0
-Asks words file journal = Says words (command.Run file 10000 journal)
+-- What the words ask for.
+
+-- to run a file's workload, each stream making so many steps at most, and whether the journal is to be printed
+pub record Asked : Type 0 where
+  pub file : Text
+  pub steps : ℕ
+  pub journal : Bool
+
+abbrev pub command_of : Asked → Command
+command_of asked = command.Run asked.file asked.steps asked.journal
+
+abbrev pub Asks : List Text → Asked → Type 0
+Asks words asked = Says words (command_of asked)
 
 -- no command is said by the words
 abbrev pub SaysNothing : List Text → Type 0
-SaysNothing words = (asked : Command) → Says words asked → ⊥
+SaysNothing words = (c : Command) → Says words c → ⊥
 
--- the bytes are the canonical text of no workload that the program runs
-abbrev pub IsNoBuiltText : Text → Type 0
-IsNoBuiltText bytes = (W : Parts) → IsBuilt W → canonical_text W ≡ bytes → ⊥
+-- to run the workload that the program makes of a number
+abbrev pub AsksForSelf : List Text → Type 0
+AsksForSelf words = (units : ℕ) × Says words (command.SelfRun units)
+
+-- What is known of the file.
 
 -- the words name a file
 pub record NamesFile (words : List Text) : Type 0 where
-  pub file : Text
-  pub journal : Bool
-  pub asks : Asks words file journal
+  pub asked : Asked
+  pub asks : Asks words asked
 
--- the words name a file whose bytes, where they are told, are no text of a workload that the program runs
-pub record NamesNoBuilt (words : List Text) (file_of : Text → Option Text) : Type 0 where
-  pub file : Text
-  pub journal : Bool
-  pub asks : Asks words file journal
-  pub reads : IfSome (file_of file) IsNoBuiltText
+-- the bytes of the named file, where they are told, have this fact
+abbrev pub TellsSuch : Asked → (Text → Option Text) → (Text → Type 0) → Type 0
+TellsSuch asked file_of Is = IfSome (file_of asked.file) Is
 
--- the words name a file whose bytes, where they are told, are the text of a workload that the program runs, and J is its run
-pub record RunsFile (words : List Text) (file_of : Text → Option Text) (J : List Event) : Type 0 where
+-- the words name a file, and that is so of it
+pub record NamesSuch (words : List Text) (file_of : Text → Option Text) (Is : Text → Type 0) : Type 0 where
+  pub asked : Asked
+  pub asks : Asks words asked
+  pub reads : TellsSuch asked file_of Is
+
+-- the bytes are the text of a workload that the program does not run
+abbrev pub IsNotBuilt : Text → Type 0
+IsNotBuilt bytes = (W : Parts) × Reads bytes W × (IsBuilt W → ⊥)
+
+-- the bytes of the named file, where they are told, are the text of a workload that the program runs, and J is its run, which ended so
+pub record IsRunOf (asked : Asked) (file_of : Text → Option Text) (J : List Event) (o : Outcome) : Type 0 where
   pub workload : Parts
-  pub file : Text
-  pub journal : Bool
-  pub asks : Asks words file journal
-  pub reads : IfSome (file_of file) (λ bytes. canonical_text workload ≡ bytes)
+  pub reads : TellsSuch asked file_of (λ bytes. Reads bytes workload)
   pub built : IsBuilt workload
-  pub run : IsTheRun workload J
+  pub run : IsTheRun workload asked.steps J o
 
 -- what the program prints of that run: its journal, where it is asked for, and its report
-abbrev pub printed_text : {words : List Text} {file_of : Text → Option Text} {J : List Event} → RunsFile words file_of J → Text
-printed_text {words} {file_of} {J} ran = output_text ran.workload (last_state ran.workload J) J outcome.Finished (command.Run ran.file 10000 ran.journal)
+abbrev pub printed_text : {asked : Asked} {file_of : Text → Option Text} {J : List Event} {o : Outcome} → IsRunOf asked file_of J o → Text
+printed_text {asked} {file_of} {J} {o} of = output_text of.workload (last_state of.workload J) J o (command_of asked)
 
--- the workload ran, and its output was written
-pub record Wrote (c : Call) : Type 0 where
-  pub ran : RunsFile c.words c.file c.journal
-  pub out : Gained c.out (printed_text ran)
+-- the words name a file, whose workload ran
+pub record RunsFile (words : List Text) (file_of : Text → Option Text) (J : List Event) (o : Outcome) : Type 0 where
+  pub asked : Asked
+  pub asks : Asks words asked
+  pub run : IsRunOf asked file_of J o
+
+-- What each status says.
+
+-- the workload ran and ended so, and its output was written
+pub record Wrote (c : Call) (o : Outcome) : Type 0 where
+  pub ran : RunsFile c.words c.file c.journal o
+  pub out : Gained c.out (printed_text ran.run)
   pub err : Gained c.err []
 
 -- the workload ran, and a front of its output was written, where the count of faults of the output rose
 pub record WroteFront (c : Call) : Type 0 where
-  pub ran : RunsFile c.words c.file c.journal
-  pub out : GainedFront c.out (printed_text ran)
+  pub outcome : Outcome
+  pub ran : RunsFile c.words c.file c.journal outcome
+  pub out : GainedFront c.out (printed_text ran.run)
   pub faults : Grew c.out_faults
   pub err : IsTold c.err c.err_faults (message_of CannotWrite)
 
@@ -102,11 +129,12 @@ pub record StoppedBy (status : Status) (c : Call) : Type 0 where
   pub err : IsTold c.err c.err_faults (message_of status)
   pub journal : c.journal ≡ []
 
--- what each status says
 abbrev pub Holds : Status → Call → Type 0
-Holds Finished c = Wrote c
+Holds Finished c = Wrote c outcome.Finished
 Holds BadWords c = SaysNothing c.words × StoppedBy BadWords c
-Holds NotBuilt c = NamesNoBuilt c.words c.file × StoppedBy NotBuilt c
+Holds (Refused line f) c = NamesSuch c.words c.file (λ bytes. Refuses bytes line f) × StoppedBy (Refused line f) c
+Holds NotBuilt c = (NamesSuch c.words c.file IsNotBuilt ⊎ AsksForSelf c.words) × StoppedBy NotBuilt c
+Holds Budget c = Wrote c (outcome.Budget (stream_no 0))
 Holds CannotRead c = NamesFile c.words × Grew c.read_faults × StoppedBy CannotRead c
 Holds CannotWrite c = WroteFront c
 Holds OutOfMemory c = StoppedBy OutOfMemory c
@@ -115,16 +143,23 @@ Holds OutOfMemory c = StoppedBy OutOfMemory c
 abbrev pub EndsBy : ℕ → Call → Type 0
 EndsBy n c = (status : Status) × (n ≡ number_of status) × Holds status c
 
--- where the words name a file whose bytes are told and are a built workload's text, and no fault of reading or writing comes, the workload runs, unless memory runs out
+-- Where each status must come, unless memory runs out.
+
+-- where the words name a file whose bytes are told and are a built workload's text, and no fault of reading or writing comes, the workload runs
 abbrev pub IsComplete : ℕ → Call → Type 0
-IsComplete n c = (W : Parts) (file bytes : Text) (journal : Bool) → Asks c.words file journal → c.file file ≡ Some bytes → IsBuilt W → canonical_text W ≡ bytes
-    → (Grew c.read_faults → ⊥) → (Grew c.out_faults → ⊥) → (n ≡ 0) ⊎ (n ≡ 7)
+IsComplete n c = (asked : Asked) (bytes : Text) (W : Parts) → Asks c.words asked → c.file asked.file ≡ Some bytes → Reads bytes W → IsBuilt W
+    → (Grew c.read_faults → ⊥) → (Grew c.out_faults → ⊥) → (n ≡ 0) ⊎ ((n ≡ 4) ⊎ (n ≡ 7))
 
--- where the words name a file whose bytes are told and are no such text, and no fault of reading comes, the file is refused, unless memory runs out
+-- where the words name a file whose bytes are told and are refused, or are no built workload's text, and no fault of reading comes, it ends with 3
 abbrev pub RefusesTexts : ℕ → Call → Type 0
-RefusesTexts n c = (file bytes : Text) (journal : Bool) → Asks c.words file journal → c.file file ≡ Some bytes → IsNoBuiltText bytes → (Grew c.read_faults → ⊥) → (n ≡ 3) ⊎ (n ≡ 7)
+RefusesTexts n c = (asked : Asked) (bytes : Text) → Asks c.words asked → c.file asked.file ≡ Some bytes → ((W : Parts) → Reads bytes W → IsBuilt W → ⊥)
+    → (Grew c.read_faults → ⊥) → (n ≡ 3) ⊎ (n ≡ 7)
 
--- where the words say no command, they are refused, unless memory runs out
+-- the workload that the program makes is not run
+abbrev pub RefusesSelf : ℕ → Call → Type 0
+RefusesSelf n c = AsksForSelf c.words → (n ≡ 3) ⊎ (n ≡ 7)
+
+-- where the words say no command, they are refused
 abbrev pub RefusesWords : ℕ → Call → Type 0
 RefusesWords n c = SaysNothing c.words → (n ≡ 2) ⊎ (n ≡ 7)
 
@@ -133,4 +168,5 @@ pub record IsAnswered (n : ℕ) (c : Call) : Type 0 where
   pub cause : EndsBy n c
   pub complete : IsComplete n c
   pub texts : RefusesTexts n c
+  pub made : RefusesSelf n c
   pub words : RefusesWords n c

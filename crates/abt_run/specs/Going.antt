@@ -1,9 +1,9 @@
 -- What holds of the journal and the state while the one unit of a workload runs.
-use Rattle.std.specs.Prelude.{ℕ, suc, ◌≡◌, ◌≢◌, ◌+◌, Bool, true, false, List, [], ◌∷◌, length, Option, None}
+use Rattle.std.specs.Prelude.{ℕ, suc, ◌≡◌, ◌≢◌, ◌+◌, Bool, true, false, List, [], ◌∷◌, length, None}
 use Rattle.abt_machine.specs.declared.events.Event.{Event}
 use Rattle.abt_machine.specs.declared.events.Place.{Place}
 use Rattle.abt_machine.specs.declared.events.Place.TheVariants as place
-use Rattle.abt_machine.specs.declared.events.Piece.{Piece}
+use Rattle.abt_machine.specs.declared.events.Outcome.{Outcome}
 use Rattle.abt_machine.specs.declared.events.What.{What}
 use Rattle.abt_machine.specs.declared.workload.Parts.{Parts}
 use Rattle.abt_machine.specs.Numbers.{stream_no}
@@ -13,8 +13,9 @@ use Rattle.abt_machine.specs.Outcomes.{steps_in}
 use Rattle.abt_machine.specs.Runs.{Run, last_state}
 use Rattle.abt_machine.specs.Texts.{shown_units}
 use Rattle.abt_laws.specs.Laws.{IsMiss}
+use Rattle.abt_report.specs.Pictures.{units_of}
+use Rattle.abt_report.specs.declared.pictures.Row.{Row}
 use Rattle.abt_run.specs.Runs.{IsTheRun}
-use Rattle.abt_run.specs.Outputs.{ended_units}
 
 -- the stream before round r, the round before having ended empty or not
 abbrev pub alone : ℕ → Bool → Stream
@@ -58,7 +59,7 @@ pub record IsGoing (W : Parts) (J : List Event) (c : Carried) : Type 0 where
   pub comes : Comes W J (place.Hand (stream_no 0)) c (alone 1 false)
   pub no_miss : HasNoMiss J
 
--- the journal is the run, and the workload's unit, if it has one, ended by its steps with this output
-pub record HasRun (W : Parts) (J : List Event) (output : Option (List Piece)) : Type 0 where
-  pub is : IsTheRun W J
-  pub shown : shown_units W (last_state W J) ≡ ended_units output
+-- the journal is the run, which ended so, and the rows show the workload's units as they are at its end
+pub record HasRun (W : Parts) (n : ℕ) (J : List Event) (o : Outcome) (rows : List Row) : Type 0 where
+  pub is : IsTheRun W n J o
+  pub shown : shown_units W (last_state W J) ≡ units_of rows

@@ -1,9 +1,6 @@
 pub mod Built
 pub mod Call
 pub mod Going
-pub mod OpLines
-pub mod Outputs
 pub mod Prepared
-pub mod Reading
 pub mod Runs
 pub mod Status

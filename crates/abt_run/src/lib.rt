@@ -1,14 +1,13 @@
 //! The top call: from words and files to the written output of a run.
 #![tactic(auto)]
 
-mod command;
+mod built;
 mod program;
-mod read;
 mod run;
 mod status;
 #[cfg(test)]
 mod tests;
-mod texts;
 
+pub use built::is_built;
 pub use program::abtrun;
 pub use status::Status;

@@ -1,22 +1,24 @@
-use Rattle.std.proofs.Common.{◌∙◌, subst, rules}
-use Rattle.abt_run.specs.Call.{Gained, GainedFront}
+use Rattle.std.proofs.Common.{◌∙◌, sym, subst, rules}
+use Rattle.abt_run.specs.Call.{Gained, GainedFront, Holds}
+use Rattle.abt_run.proofs.Preparing.{written}
 use Rattle.abt_run.proofs.program.call.Goals as goal
 
 pub returns-in-Ok-write_whole : goal.returns-in-Ok-write_whole
 returns-in-Ok-write_whole g c =
     let prepared = c.in-Ok.ensures.done in
-    record {
-      ran = prepared.ran;
-      out = subst (Gained (g.K.Sink.taken c.args.out.now, g.K.Sink.taken c.write_whole.new.sink)) (c.deref.ensures.value ∙ prepared.output) c.in-Ok-write_whole.ensures.whole;
+    rw c.status_by.ensures (written c.in-Ok.field-0.outcome _ c.in-Ok.ensures.ended (record {
+      ran = record { asked = prepared.asked; asks = prepared.asks; run = prepared.file.run };
+      out = subst (Gained (g.K.Sink.taken c.args.out.now, g.K.Sink.taken c.write_whole.new.sink)) (c.deref.ensures.value ∙ prepared.file.output) c.in-Ok-write_whole.ensures.whole;
       err = search rules;
-    }
+    }))
 
 pub returns-in-Ok : goal.returns-in-Ok
 returns-in-Ok g c =
     let prepared = c.in-Ok.ensures.done in
     record {
-      ran = prepared.ran;
-      out = subst (GainedFront (g.K.Sink.taken c.args.out.now, g.K.Sink.taken c.write_whole.new.sink)) (c.deref.ensures.value ∙ prepared.output) c.in-Err-write_whole.ensures.front;
+      outcome = c.in-Ok.field-0.outcome;
+      ran = record { asked = prepared.asked; asks = prepared.asks; run = prepared.file.run };
+      out = subst (GainedFront (g.K.Sink.taken c.args.out.now, g.K.Sink.taken c.write_whole.new.sink)) (c.deref.ensures.value ∙ prepared.file.output) c.in-Err-write_whole.ensures.front;
       faults = c.in-Err-write_whole.ensures.cause;
-      err = c.tell.ensures.told;
+      err = rw c.message.ensures at c.tell.ensures.told;
     }

@@ -1,4 +1,5 @@
-use Rattle.std.proofs.Common.{◌≡◌, ◌++◌, [], ◌∷◌, length, None, sym, ◌∙◌, ap, subst, arith}
+use Rattle.std.proofs.Common.{◌≡◌, ◌++◌, [], ◌∷◌, length, sym, ◌∙◌, ap, subst, arith}
+use Rattle.abt_machine.specs.declared.events.Outcome.TheVariants as outcome
 use Rattle.abt_machine.specs.declared.events.What.TheVariants as what
 use Rattle.abt_machine.specs.Numbers.{pool_no}
 use Rattle.abt_run.specs.Going.{HasRun, next_event}
@@ -10,4 +11,4 @@ pub returns-clause-run : goal.returns-clause-run
 returns-clause-run c =
     let none : length c.args.w.now.units ≡ 0 = omega arith in
     let journal : c.record.new.journal.items ≡ first_miss = c.in_ok-record.ensures ∙ ap (λ J. J ++ next_event J (what.Miss (pool_no 0)) ∷ []) c.new-journal.ensures.items in
-    subst (λ J. HasRun c.args.w.now J None) (sym journal) (misses-whole c.args.w.now c.requires none)
+    rw (c.new.ensures, c.new-3.ensures, c.new-2.ensures.items, journal) (misses-whole c.args.w.now c.args.steps c.requires none)

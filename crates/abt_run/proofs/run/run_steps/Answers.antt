@@ -1,5 +1,4 @@
 use Rattle.std.proofs.Common.{◌≡◌, ◌<◌, ◌+◌, ◌++◌, [], ◌∷◌, length, sym, ◌∙◌, ap, subst, arith}
-use Rattle.abt_machine.specs.Workloads.{body_at, body_from, ops_of}
 use Rattle.abt_machine.specs.declared.events.Code.TheVariants as code
 use Rattle.abt_machine.specs.declared.events.What.TheVariants as what
 use Rattle.abt_machine.specs.Numbers.{unit_no}
@@ -12,9 +11,8 @@ use Rattle.abt_run.proofs.run.run_steps.Goals as goal
 pub step_local-requires-clause-local : goal.step_local-requires-clause-local
 step_local-requires-clause-local c =
     let same : c.reserve_output.new.self.owned ≡ c.loop-done.unit.owned = ap (λ u. u.owned) c.in_ok-reserve_output.ensures.same in
-    let count : length c.ops_of-count.result.now ≡ length (ops_of (body_at c.args.w.now 0)) = ap length c.ops_of-count.ensures ∙ ap (λ p. length (ops_of (body_from p))) (sym c.unit.ensures) in
     let at : c.loop-done.unit.owned.carried.position ≡ c.loop-done.done = c.loop-done.invariant.1 in
-    subst (IsLocal c.args.w.now) (sym same) (local-there c.args.w.now c.loop-done.unit.owned c.requires.built c.loop-done.invariant.0 (omega arith))
+    subst (IsLocal c.args.w.now) (sym same) (local-there c.args.w.now c.loop-done.unit.owned c.requires.built c.loop-done.invariant.0 (omega (arith, c.count_ops.ensures, c.min-count.ensures)))
 
 pub loop-done-preserved : goal.loop-done-preserved
 loop-done-preserved c =
