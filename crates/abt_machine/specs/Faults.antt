@@ -210,23 +210,23 @@ abbrev pub values_of : Form → List Text → List ℕ
 values_of f words = map (λ (p : Number × ℕ). p.1) (numbers_of f words)
 
 -- what is asked of a line's form holds where it has one
-abbrev pub of_form : (Form → Bool) → List Text → Bool
-of_form test words = option_map_or test (form_of words) false
+abbrev pub of_form : (Form → Bool) → Option Form → Bool
+of_form test form = option_map_or test form false
 
--- a line that is not skipped has a fault
-abbrev pub has : Above → Text → List Text → Fault → Bool
-has a line words fault.Utf8 = not (is_utf8 line)
-has a line words fault.Version = is_no_version a words
-has a line words fault.Unknown = is_unknown words
-has a line words fault.Shape = is_none (form_of words) || has_control line || of_form (is_misplaced a) words
-has a line words fault.Number = of_form (λ f. not (list_all (λ p. is_number p.1) (numerals (slots f) words))) words
-has a line words fault.Twice = of_form (λ f. is_twice a f (values_of f words)) words
-has a line words fault.Undeclared = of_form (λ f. not (list_all (λ p. is_there a p.0 p.1) (numbers_of f words))) words
-has a line words fault.Limit = of_form (λ f. not (list_all (λ p. is_within p.0 p.1) (numbers_of f words)) || is_past_limit a f words (values_of f words)) words
-has a line words fault.TaskBlocks = of_form (blocks_task a) words
-has a line words fault.Access = of_form (λ f. is_barred a f (values_of f words)) words
-has a line words fault.NoEnd = false
-has a line words fault.Missing = of_form (is_early a) words
+-- a line of these words that is not skipped, and has this form if it has any, has a fault
+abbrev pub has : Above → Text → List Text → Option Form → Fault → Bool
+has a line words form fault.Utf8 = not (is_utf8 line)
+has a line words form fault.Version = is_no_version a words
+has a line words form fault.Unknown = is_unknown words
+has a line words form fault.Shape = is_none form || has_control line || of_form (is_misplaced a) form
+has a line words form fault.Number = of_form (λ f. not (list_all (λ p. is_number p.1) (numerals (slots f) words))) form
+has a line words form fault.Twice = of_form (λ f. is_twice a f (values_of f words)) form
+has a line words form fault.Undeclared = of_form (λ f. not (list_all (λ p. is_there a p.0 p.1) (numbers_of f words))) form
+has a line words form fault.Limit = of_form (λ f. not (list_all (λ p. is_within p.0 p.1) (numbers_of f words)) || is_past_limit a f words (values_of f words)) form
+has a line words form fault.TaskBlocks = of_form (blocks_task a) form
+has a line words form fault.Access = of_form (λ f. is_barred a f (values_of f words)) form
+has a line words form fault.NoEnd = false
+has a line words form fault.Missing = of_form (is_early a) form
 
 -- a line that is skipped has no fault but `utf8`
 abbrev pub has_skipped : Text → Fault → Bool
@@ -235,7 +235,7 @@ has_skipped line f = false
 
 -- the line has this fault below lines that declare a
 abbrev pub line_has : Above → Text → Fault → Bool
-line_has a line f = if is_skipped (words_of line) then has_skipped line f else has a line (words_of line) f
+line_has a line f = if is_skipped (words_of line) then has_skipped line f else has a line (words_of line) (form_of (words_of line)) f
 
 -- in the order in which they are looked for
 abbrev pub faults : List Fault
