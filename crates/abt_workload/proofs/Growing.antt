@@ -1,0 +1,193 @@
+-- What is declared, with one thing more.
+use Rattle.std.proofs.Common.{◌≡◌, ◌≢◌, ◌<◌, ◌≤◌, ◌==◌, ℕ, zero, suc, Bool, true, false, List, [], ◌∷◌, ◌++◌, All, Option, Some, None, ap, arith, drop, inl, inr, ◌⊎◌, flat_map, is_some, length, map, option_to_list, refl, replicate, slice_get, slice_set, subst, sym}
+use Rattle.std.specs.Option.{option_map_or}
+use Rattle.std.specs.List.{AllPairs, list_all, list_any}
+use Rattle.std.proofs.lemmas.Bool.{eqb-false}
+use Rattle.std.proofs.lemmas.List.Kept.{AllPairs-cons}
+use Rattle.std.proofs.lemmas.List.Elements.{All-append}
+use Rattle.abt_machine.specs.declared.grammar.Number.{Number}
+use Rattle.abt_machine.specs.declared.grammar.Number.TheVariants as number
+use Rattle.abt_machine.specs.declared.numbers.SchedNo.{SchedNo}
+use Rattle.abt_machine.specs.declared.operations.Access.{Access}
+use Rattle.abt_machine.specs.declared.operations.Access.TheVariants as access
+use Rattle.abt_machine.specs.declared.operations.Thing.{Thing}
+use Rattle.abt_machine.specs.declared.operations.Thing.TheVariants as thing
+use Rattle.abt_machine.specs.declared.workload.Parts.{Parts}
+use Rattle.abt_machine.specs.declared.workload.SchedPart.{SchedPart}
+use Rattle.abt_machine.specs.declared.workload.UnitPart.{UnitPart}
+use Rattle.abt_machine.specs.Faults.{has_repeated}
+use Rattle.abt_machine.specs.Forms.{Slot, Fixed, KindWord, CombineWord, AnyWord, Numeral, PoolList, fits, numerals, suits}
+use Rattle.abt_machine.specs.Spelling.{value_of}
+use Rattle.abt_machine.specs.Words.{Text}
+use Rattle.abt_workload.specs.Slots.{numbered, values}
+use Rattle.abt_workload.proofs.Places.{and-left, and-right, kinds, or-left, or-right}
+use Rattle.abt_workload.proofs.Proper.{HasUnits, IsAccessIn, IsSchedIn, IsThingIn, no-pair, none-of}
+
+-- one element more
+
+pub all-one : {A : Type 0} (P : A → Type 0) (x : A) → P x → All P (x ∷ [])
+all-one P x h zero d lt = h
+all-one P x h (suc k) d lt = absurd (omega arith)
+
+pub all-cons : {A : Type 0} (P : A → Type 0) (x : A) (xs : List A) → P x → All P xs → All P (x ∷ xs)
+all-cons P x xs h hs zero d lt = h
+all-cons P x xs h hs (suc k) d lt = hs k d (omega arith)
+
+pub all-head : {A : Type 0} (P : A → Type 0) (x : A) (xs : List A) → All P (x ∷ xs) → P x
+all-head P x xs all = all 0 x (omega arith)
+
+pub all-tail : {A : Type 0} (P : A → Type 0) (x : A) (xs : List A) → All P (x ∷ xs) → All P xs
+all-tail P x xs all = λ k d lt. all (suc k) d (omega arith)
+
+pairs-head : (x : ℕ) (xs : List ℕ) → AllPairs (λ a b. a ≢ b) (x ∷ xs) → All (λ b. x ≢ b) xs
+pairs-head x xs h = λ k d lt. h 0 (suc k) d (omega arith) (omega arith)
+
+pairs-tail : (x : ℕ) (xs : List ℕ) → AllPairs (λ a b. a ≢ b) (x ∷ xs) → AllPairs (λ a b. a ≢ b) xs
+pairs-tail x xs h = λ i j d lt within. h (suc i) (suc j) d (omega arith) (omega arith)
+
+pub all-and : {A : Type 0} (P : A → Type 0) (xs : List A) (x : A) → All P xs → P x → All P (xs ++ x ∷ [])
+all-and P xs x all h = All-append P xs (x ∷ []) all (all-one P x h)
+
+pub empty-of : {A : Type 0} (xs : List A) → length xs ≡ 0 → xs ≡ []
+empty-of [] e = refl
+empty-of (x ∷ xs) e = absurd (omega arith)
+
+-- no stream has a main scheduler yet
+pub get-replicate : (n s : ℕ) (g : SchedNo) → slice_get (replicate n None) s ≡ Some (Some g) → ⊥
+get-replicate zero s g e = cc
+get-replicate (suc n) zero g e = cc
+get-replicate (suc n) (suc s) g e = get-replicate n s g e
+
+pub any-none : (n : ℕ) → flat_map option_to_list (let none : Option SchedNo = None in replicate n none) ≡ []
+any-none zero = refl
+any-none (suc n) = any-none n
+
+pub access-grows : (m n : ℕ) → m ≤ n → (x : Access) → IsAccessIn m x → IsAccessIn n x
+access-grows m n le (access.Priv s) h = omega arith
+access-grows m n le (access.Spsc s t) h = let x = h.0 in let y = h.1 in (omega arith, omega arith)
+access-grows m n le (access.Mpsc t) h = omega arith
+access-grows m n le (access.Spmc s) h = omega arith
+access-grows m n le access.Mpmc h = tt
+
+pub sched-grows : (m n : ℕ) → m ≤ n → (part : SchedPart) → IsSchedIn m part → IsSchedIn n part
+sched-grows m n le part h = record { rule = h.rule; some_pool = h.some_pool; few_pools = h.few_pools; listed = λ k d lt. let x = h.listed k d lt in omega (arith, x); once = h.once }
+
+pub no-units : (W : Parts) (count : ℕ) (units : List UnitPart) (last : Option UnitPart) → units ≡ [] → last ≡ None → count ≤ 256 → HasUnits W count units last
+no-units W count units last eu el le =
+    let nothing : HasUnits W count [] None = record { few = le; declared = omega arith; all = none-of _ } in
+    subst (λ (us : List UnitPart). HasUnits W count us last) (sym eu) (subst (λ (o : Option UnitPart). HasUnits W count [] o) (sym el) nothing)
+
+-- Lists with one element more.
+
+pub get-and : {A : Type 0} (xs : List A) (y : A) (k : ℕ) (x : A) → slice_get (xs ++ y ∷ []) k ≡ Some x → (slice_get xs k ≡ Some x) ⊎ ((k ≡ length xs) × (y ≡ x))
+get-and [] y zero x e = inr (refl, cc)
+get-and [] y (suc k) x e = cc
+get-and (z ∷ zs) y zero x e = inl e
+get-and (z ∷ zs) y (suc k) x e = by (get-and zs y k x e)
+  where
+    by : (slice_get zs k ≡ Some x) ⊎ ((k ≡ length zs) × (y ≡ x)) → (slice_get (z ∷ zs) (suc k) ≡ Some x) ⊎ ((suc k ≡ length (z ∷ zs)) × (y ≡ x))
+    by (inl h) = inl h
+    by (inr h) = inr (ap suc h.0, h.1)
+
+pub get-more : {A : Type 0} (xs ys : List A) (k : ℕ) (x : A) → slice_get xs k ≡ Some x → slice_get (xs ++ ys) k ≡ Some x
+get-more [] ys k x e = cc
+get-more (z ∷ zs) ys zero x e = e
+get-more (z ∷ zs) ys (suc k) x e = get-more zs ys k x e
+
+pub thing-grows : (xs : List Thing) (y : Thing) (x : ℕ) (t : Thing) → IsThingIn xs x t → IsThingIn (xs ++ y ∷ []) x t
+thing-grows xs y x thing.Mutex h = tt
+thing-grows xs y x (thing.Cond m) h = (h.0, get-more xs (y ∷ []) m.0 thing.Mutex h.1)
+thing-grows xs y x thing.Eventual h = tt
+thing-grows xs y x (thing.Future n c) h = h
+thing-grows xs y x (thing.Barrier n) h = h
+
+-- Numbers that stand once.
+
+others : (n : ℕ) (ns : List ℕ) → list_any (λ m. m == n) ns ≡ false → All (λ m. n ≢ m) ns
+others n [] e = none-of _
+others n (m ∷ ms) e = all-cons (λ k. n ≢ k) m ms (λ is. eqb-false m n (or-left (m == n) _ e) (sym is)) (others n ms (or-right (m == n) _ e))
+
+pub once-pairs : (ns : List ℕ) → has_repeated ns ≡ false → AllPairs (λ x y. x ≢ y) ns
+once-pairs [] e = no-pair (λ (x y : ℕ). x ≢ y)
+once-pairs (n ∷ ns) e = AllPairs-cons (λ (x y : ℕ). x ≢ y) n ns (others n ns (or-left (list_any (λ m. m == n) ns) _ e)) (once-pairs ns (or-right (list_any (λ m. m == n) ns) _ e))
+
+-- Pools that are listed.
+
+abbrev pub ends_list : List Slot → Bool
+ends_list [] = false
+ends_list (PoolList ∷ places) = true
+ends_list (slot ∷ places) = ends_list places
+
+module _ (P : Number → ℕ → Bool) where
+  all-pools : (ws : List Text) → list_all (λ p. P p.0 p.1) (numbered (map (λ w. (number.Pool, w)) ws)) ≡ true → All (λ n. P number.Pool n ≡ true) (values (numbered (map (λ w. (number.Pool, w)) ws)))
+  all-pools [] h = none-of _
+  all-pools (w ∷ ws) h = all-cons (λ n. P number.Pool n ≡ true) (value_of w) _ (and-left (P number.Pool (value_of w)) _ h) (all-pools ws (and-right (P number.Pool (value_of w)) _ h))
+
+  pub tail-all : (places : List Slot) (words : List Text) → fits places words ≡ true → ends_list places ≡ true → list_all (λ p. P p.0 p.1) (numbered (numerals places words)) ≡ true
+      → All (λ n. P number.Pool n ≡ true) (drop (length (kinds places)) (values (numbered (numerals places words))))
+  tail-all [] words f e h = cc
+  tail-all (slot ∷ places) [] f e h = cc
+  tail-all (PoolList ∷ places) (w ∷ ws) f e h = all-pools (w ∷ ws) h
+  tail-all (Numeral n ∷ places) (w ∷ ws) f e h = tail-all places ws f e (and-right (P n (value_of w)) _ h)
+  tail-all (Fixed t ∷ places) (w ∷ ws) f e h = tail-all places ws (and-right (suits (Fixed t) w) _ f) e h
+  tail-all (KindWord ∷ places) (w ∷ ws) f e h = tail-all places ws (and-right (suits KindWord w) _ f) e h
+  tail-all (CombineWord ∷ places) (w ∷ ws) f e h = tail-all places ws (and-right (suits CombineWord w) _ f) e h
+  tail-all (AnyWord ∷ places) (w ∷ ws) f e h = tail-all places ws f e h
+
+pub tail-some : (places : List Slot) (words : List Text) → fits places words ≡ true → ends_list places ≡ true → 0 < length (drop (length (kinds places)) (values (numbered (numerals places words))))
+tail-some [] words f e = cc
+tail-some (slot ∷ places) [] f e = cc
+tail-some (PoolList ∷ places) (w ∷ ws) f e = omega arith
+tail-some (Numeral n ∷ places) (w ∷ ws) f e = tail-some places ws f e
+tail-some (Fixed t ∷ places) (w ∷ ws) f e = tail-some places ws (and-right (suits (Fixed t) w) _ f) e
+tail-some (KindWord ∷ places) (w ∷ ws) f e = tail-some places ws (and-right (suits KindWord w) _ f) e
+tail-some (CombineWord ∷ places) (w ∷ ws) f e = tail-some places ws (and-right (suits CombineWord w) _ f) e
+tail-some (AnyWord ∷ places) (w ∷ ws) f e = tail-some places ws f e
+
+-- Main schedulers.
+
+abbrev pub mains_list : List (Option SchedNo) → List ℕ
+mains_list mains = map (λ (g : SchedNo). g.0) (flat_map option_to_list mains)
+
+all-set : (P : ℕ → Type 0) (mains : List (Option SchedNo)) (rest : List ℕ) (s : ℕ) (g : SchedNo) → P g.0 → All P (mains_list mains ++ rest) → All P (mains_list (slice_set mains s (Some g)) ++ rest)
+all-set P [] rest s g pg h = h
+all-set P (None ∷ ms) rest zero g pg h = all-cons P g.0 (mains_list ms ++ rest) pg h
+all-set P (Some x ∷ ms) rest zero g pg h = all-cons P g.0 (mains_list ms ++ rest) pg (all-tail P x.0 (mains_list ms ++ rest) h)
+all-set P (None ∷ ms) rest (suc s) g pg h = all-set P ms rest s g pg h
+all-set P (Some x ∷ ms) rest (suc s) g pg h = all-cons P x.0 _ (all-head P x.0 (mains_list ms ++ rest) h) (all-set P ms rest s g pg (all-tail P x.0 (mains_list ms ++ rest) h))
+
+-- a stream that has no main scheduler gets one that has no place
+pub pairs-set : (mains : List (Option SchedNo)) (rest : List ℕ) (s : ℕ) (g : SchedNo) → slice_get mains s ≡ Some None → All (λ m. m ≢ g.0) (mains_list mains ++ rest)
+    → AllPairs (λ x y. x ≢ y) (mains_list mains ++ rest) → AllPairs (λ x y. x ≢ y) (mains_list (slice_set mains s (Some g)) ++ rest)
+pairs-set [] rest s g e out h = cc
+pairs-set (None ∷ ms) rest zero g e out h = AllPairs-cons (λ (x y : ℕ). x ≢ y) g.0 (mains_list ms ++ rest) (λ k d lt is. out k d lt (sym is)) h
+pairs-set (Some x ∷ ms) rest zero g e out h = cc
+pairs-set (None ∷ ms) rest (suc s) g e out h = pairs-set ms rest s g e out h
+pairs-set (Some x ∷ ms) rest (suc s) g e out h =
+    AllPairs-cons (λ (a b : ℕ). a ≢ b) x.0 (mains_list (slice_set ms s (Some g)) ++ rest)
+    (all-set (λ m. x.0 ≢ m) ms rest s g (all-head (λ m. m ≢ g.0) x.0 (mains_list ms ++ rest) out) (pairs-head x.0 (mains_list ms ++ rest) h))
+    (pairs-set ms rest s g e (all-tail (λ m. m ≢ g.0) x.0 (mains_list ms ++ rest) out) (pairs-tail x.0 (mains_list ms ++ rest) h))
+
+-- a stream's main scheduler, after one is given
+pub get-set : (mains : List (Option SchedNo)) (s t : ℕ) (g h : SchedNo) → slice_get (slice_set mains s (Some g)) t ≡ Some (Some h) → ((t ≡ s) × (g ≡ h)) ⊎ (slice_get mains t ≡ Some (Some h))
+get-set [] s t g h e = inr e
+get-set (m ∷ ms) zero zero g h e = inl (refl, cc)
+get-set (m ∷ ms) zero (suc t) g h e = inr e
+get-set (m ∷ ms) (suc s) zero g h e = inr e
+get-set (m ∷ ms) (suc s) (suc t) g h e = by (get-set ms s t g h e)
+  where
+    by : ((t ≡ s) × (g ≡ h)) ⊎ (slice_get ms t ≡ Some (Some h)) → ((suc t ≡ suc s) × (g ≡ h)) ⊎ (slice_get (m ∷ ms) (suc t) ≡ Some (Some h))
+    by (inl x) = inl (ap suc x.0, x.1)
+    by (inr x) = inr x
+
+-- a declared stream without a main scheduler
+pub main-none : (mains : List (Option SchedNo)) (s : ℕ) → s < length mains → option_map_or is_some (slice_get mains s) false ≡ false → slice_get mains s ≡ Some None
+main-none [] s lt e = absurd (omega arith)
+main-none (None ∷ ms) zero lt e = refl
+main-none (Some x ∷ ms) zero lt e = cc
+main-none (m ∷ ms) (suc s) lt e = main-none ms s (omega arith) e
+
+-- what is not among numbers
+pub not-among : (ns : List ℕ) (g : ℕ) → list_any (λ h. h == g) ns ≡ false → All (λ m. m ≢ g) ns
+not-among [] g e = none-of _
+not-among (n ∷ ns) g e = all-cons (λ m. m ≢ g) n ns (eqb-false n g (or-left (n == g) _ e)) (not-among ns g (or-right (n == g) _ e))

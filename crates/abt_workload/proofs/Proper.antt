@@ -1,0 +1,160 @@
+-- What sound lines declare is part of a valid workload.
+use Rattle.std.proofs.Common.{◌≡◌, ◌≢◌, ◌<◌, ◌≤◌, ◌+◌, ◌*◌, ℕ, Bool, true, false, List, [], ◌++◌, All, Option, Some, None, IsFalse, arith, is_none, length, map, option_to_list, refl, replicate, slice_get, unwrap_or}
+use Rattle.std.specs.Bool.{⊤}
+use Rattle.std.specs.List.{AllPairs, list_all, list_any, range_with_len}
+use Rattle.abt_machine.specs.declared.numbers.PoolNo.{PoolNo}
+use Rattle.abt_machine.specs.declared.numbers.SchedNo.{SchedNo}
+use Rattle.abt_machine.specs.declared.operations.Access.{Access}
+use Rattle.abt_machine.specs.declared.operations.Access.TheVariants as access
+use Rattle.abt_machine.specs.declared.operations.Body.{Body}
+use Rattle.abt_machine.specs.declared.operations.Body.TheVariants as body
+use Rattle.abt_machine.specs.declared.operations.Thing.{Thing}
+use Rattle.abt_machine.specs.declared.operations.Thing.TheVariants as thing
+use Rattle.abt_machine.specs.declared.workload.Parts.{Parts}
+use Rattle.abt_machine.specs.declared.workload.PoolPart.{PoolPart}
+use Rattle.abt_machine.specs.declared.workload.SchedPart.{SchedPart}
+use Rattle.abt_machine.specs.declared.workload.UnitPart.{UnitPart}
+use Rattle.abt_machine.specs.Access.{takes}
+use Rattle.abt_machine.specs.Declaring.{Above, declared_units, nothing, parts_of}
+use Rattle.abt_machine.specs.Operations.{IsDeclared, may_block}
+use Rattle.abt_machine.specs.Valid.{IsRule, IsWord, placed_scheds, words_said}
+use Rattle.abt_machine.specs.Workloads.{access_from, ops_of, pools_from}
+
+abbrev pub stream_count : Above → ℕ
+stream_count a = unwrap_or a.streams 0
+
+abbrev pub unit_count : Above → ℕ
+unit_count a = unwrap_or a.unit_count 0
+
+-- the streams of an access are declared
+abbrev pub IsAccessIn : ℕ → Access → Type 0
+IsAccessIn n (access.Priv s) = s.0 < n
+IsAccessIn n (access.Spsc s t) = (s.0 < n) × (t.0 < n)
+IsAccessIn n (access.Mpsc t) = t.0 < n
+IsAccessIn n (access.Spmc s) = s.0 < n
+IsAccessIn n access.Mpmc = ⊤
+
+-- a scheduler among this many pools
+pub record IsSchedIn (pools : ℕ) (part : SchedPart) : Type 0 where
+  pub rule : IsRule part.rule
+  pub some_pool : 0 < length part.pools
+  pub few_pools : length part.pools ≤ 8
+  pub listed : All (λ p. p < pools) (map (λ (p : PoolNo). p.0) part.pools)
+  pub once : AllPairs (λ a b. a ≢ b) (map (λ (p : PoolNo). p.0) part.pools)
+
+-- an object among these
+abbrev pub IsThingIn : List Thing → ℕ → Thing → Type 0
+IsThingIn things x thing.Mutex = ⊤
+IsThingIn things x (thing.Cond m) = (m.0 < x) × (slice_get things m.0 ≡ Some thing.Mutex)
+IsThingIn things x thing.Eventual = ⊤
+IsThingIn things x (thing.Future n c) = (0 < n) × (n ≤ 4096)
+IsThingIn things x (thing.Barrier n) = (0 < n) × (n ≤ 4096)
+
+-- a unit of no operation
+abbrev pub idle : UnitPart
+idle = record { body = body.Ult []; start = None }
+
+-- the workload that operations may name things of: all units that there will be
+abbrev pub counted : Above → Parts
+counted a = record (parts_of a) { mains = []; units = replicate (unit_count a) idle }
+
+abbrev pub IsBodyIn : ℕ → Body → Type 0
+IsBodyIn scheds (body.Ult ops) = ⊤
+IsBodyIn scheds (body.Task ops) = IsFalse (list_any may_block ops)
+IsBodyIn scheds (body.Sched g) = g.0 < scheds
+
+abbrev pub IsStartIn : ℕ → Option PoolNo → Type 0
+IsStartIn pools None = ⊤
+IsStartIn pools (Some p) = p.0 < pools
+
+-- a unit of this workload
+pub record IsUnitIn (W : Parts) (part : UnitPart) : Type 0 where
+  pub kind : IsBodyIn (length W.scheds) part.body
+  pub few_ops : length (ops_of part.body) ≤ 256
+  pub ops : All (IsDeclared W) (ops_of part.body)
+  pub start : IsStartIn (length W.pools) part.start
+
+abbrev pub op_count : Option UnitPart → ℕ
+op_count None = 0
+op_count (Some part) = length (ops_of part.body)
+
+pub record HasStreams (streams : Option ℕ) : Type 0 where
+  pub low : (n : ℕ) → streams ≡ Some n → 0 < n
+  pub high : unwrap_or streams 0 ≤ 8
+
+pub record HasPools (streams : ℕ) (pools : List PoolPart) : Type 0 where
+  pub few : length pools ≤ 64
+  pub all : All (λ (part : PoolPart). IsAccessIn streams part.access) pools
+
+pub record HasScheds (pools : ℕ) (scheds : List SchedPart) : Type 0 where
+  pub few : length scheds ≤ 64
+  pub all : All (IsSchedIn pools) scheds
+
+-- stream s may take from each pool of scheduler g
+abbrev pub takes_all : List PoolPart → List SchedPart → ℕ → ℕ → Bool
+takes_all pools scheds s g = list_all (λ p. takes (access_from (slice_get pools p)) s) (pools_from (slice_get scheds g))
+
+pub record HasMains (streams : ℕ) (pools : List PoolPart) (scheds : List SchedPart) (mains : List (Option SchedNo)) : Type 0 where
+  pub count : length mains ≡ streams
+  pub there : (s : ℕ) (g : SchedNo) → slice_get mains s ≡ Some (Some g) → g.0 < length scheds
+  pub taking : (s : ℕ) (g : SchedNo) → slice_get mains s ≡ Some (Some g) → takes_all pools scheds s g.0 ≡ true
+
+pub record HasObjects (objects : List Thing) : Type 0 where
+  pub few : length objects ≤ 256
+  pub all : (x : ℕ) (t : Thing) → slice_get objects x ≡ Some t → IsThingIn objects x t
+
+pub record HasUnits (W : Parts) (count : ℕ) (units : List UnitPart) (last : Option UnitPart) : Type 0 where
+  pub few : count ≤ 256
+  pub declared : length units + length (option_to_list last) ≤ count
+  pub all : All (IsUnitIn W) (units ++ option_to_list last)
+
+-- what comes later is not declared yet, and what comes first is declared
+pub record IsInOrder (a : Above) : Type 0 where
+  pub no_streams : a.section < 2 → a.streams ≡ None
+  pub no_keys : a.section < 3 → a.keys ≡ 0
+  pub no_mains : a.section < 6 → (s : ℕ) (g : SchedNo) → slice_get a.mains s ≡ Some (Some g) → ⊥
+  pub no_units : a.section < 9 → a.units ≡ []
+  pub no_last : a.section < 9 → a.last ≡ None
+  pub no_count : a.section < 8 → a.unit_count ≡ None
+  pub has_streams : 2 < a.section → is_none a.streams ≡ false
+  pub has_pools : 7 < a.section → 0 < length a.pools
+  pub has_mains : 7 < a.section → list_any is_none a.mains ≡ false
+  pub has_count : 8 < a.section → is_none a.unit_count ≡ false
+  pub has_units : 9 < a.section → unit_count a ≤ declared_units a
+
+pub record IsProper (a : Above) : Type 0 where
+  pub streams : HasStreams a.streams
+  pub keys : a.keys ≤ 16
+  pub pools : HasPools (stream_count a) a.pools
+  pub scheds : HasScheds (length a.pools) a.scheds
+  pub mains : HasMains (stream_count a) a.pools a.scheds a.mains
+  pub places : AllPairs (λ x y. x ≢ y) (placed_scheds (parts_of a))
+  pub objects : HasObjects a.objects
+  pub units : HasUnits (counted a) (unit_count a) a.units a.last
+  pub said : words_said (parts_of a) ≡ range_with_len 0 (length a.words)
+  pub words : All IsWord a.words
+  pub few_words : length a.words ≤ 256 * length a.units + op_count a.last
+  pub order : IsInOrder a
+
+pub no-pair : {A : Type 0} (R : A → A → Type 0) → AllPairs R []
+no-pair R i j d lt within = absurd (omega arith)
+
+pub none-of : {A : Type 0} (P : A → Type 0) → All P []
+none-of P k d lt = absurd (omega arith)
+
+-- nothing is proper
+pub proper-nothing : IsProper nothing
+proper-nothing = record {
+  streams = record { low = λ n e. cc; high = omega arith };
+  keys = omega arith;
+  pools = record { few = omega arith; all = none-of _ };
+  scheds = record { few = omega arith; all = none-of _ };
+  mains = record { count = refl; there = λ s g e. cc; taking = λ s g e. cc };
+  places = no-pair (λ (x y : ℕ). x ≢ y);
+  objects = record { few = omega arith; all = λ x t e. cc };
+  units = record { few = omega arith; declared = omega arith; all = none-of _ };
+  said = refl;
+  words = none-of _;
+  few_words = omega arith;
+  order = record { no_streams = λ _. refl; no_keys = λ _. refl; no_mains = λ _ s g e. cc; no_units = λ _. refl; no_last = λ _. refl; no_count = λ _. refl; has_streams = λ lt. absurd (omega arith); has_pools = λ lt. absurd (omega arith); has_mains = λ lt. refl; has_count = λ lt. absurd (omega arith); has_units = λ lt. omega arith };
+}

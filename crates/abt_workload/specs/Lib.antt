@@ -1,0 +1,5 @@
+pub mod Declarable
+pub mod Judging
+pub mod Laws
+pub mod Reading
+pub mod Slots

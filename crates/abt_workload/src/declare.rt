@@ -1,0 +1,402 @@
+//! What a sound line adds to what the lines above it declare.
+
+ghost use Rattle.std.specs.Prelude.{◌≡◌, ◌++◌, ◌∷◌, [], All, IfOk, IsUtf8, OnOk, false, length, map, option_map, replicate, slice_set};
+ghost use Rattle.abt_machine.specs.Declaring.{access_with, at, body_and, body_with, combine_named, declared_with, kind_named, listed, op_with, pool_with, rule_with, said_in, sched_with, start_with, thing_with, unit_and, unit_with, word_in};
+ghost use Rattle.abt_machine.specs.Numbers.{pool_no, sched_no};
+ghost use Rattle.abt_machine.specs.declared.grammar.Form.TheVariants as form;
+ghost use Rattle.abt_workload.specs.Declarable.{AreSmall, IsDeclarable, IsSaid, IsSmall, IsSmallRule, is_wide, with_line};
+ghost use Rattle.abt_workload.specs.Slots.{values};
+
+use crate::draft::Draft;
+use crate::forms::is;
+use crate::judge::section;
+use crate::numbers::{Numbered, listed, value};
+use abt_machine::{
+    Access, Body, Combine, Form, Kind, ObjectNo, Op, Ops, PoolNo, PoolPart, Pools, Role, Rule,
+    SchedNo, SchedPart, StreamNo, Text, Thing, UnitNo, UnitPart, Want,
+};
+use std::alloc::Global;
+use std::str;
+
+impl Draft {
+    /// Adds what a sound line declares.
+    pub(crate) fn declare(
+        &mut self,
+        alloc: Global,
+        form: Form,
+        words: &[&[u8]],
+        numbers: &[Numbered],
+    ) -> Result<(), Want>
+        requires { IsDeclarable self.old form (map (λ w. w.now) words.now) (values numbers.now) }
+        ensures { OnOk result (self.new ≡ with_line self.old form (map (λ w. w.now) words.now) (values numbers.now)) }
+    {
+        self.add(alloc, form, words, numbers)?;
+        self.section = section(form);
+        self.begun = true;
+        Ok(())
+    }
+
+    // The same but for the section.
+    fn add(
+        &mut self,
+        alloc: Global,
+        form: Form,
+        words: &[&[u8]],
+        numbers: &[Numbered],
+    ) -> Result<(), Want>
+        requires { IsDeclarable self.old form (map (λ w. w.now) words.now) (values numbers.now) }
+        ensures { OnOk result (self.new ≡ declared_with self.old form (map (λ w. w.now) words.now) (values numbers.now)) }
+    {
+        match form {
+            Form::Version | Form::End => Ok(()),
+            Form::Streams => self.add_streams(value(numbers, 0)),
+            Form::Keys => {
+                self.keys = value(numbers, 0) as u32;
+                Ok(())
+            }
+            Form::Pool(access) => self.add_pool(access, words, numbers),
+            Form::Sched(rule) => self.add_sched(alloc, rule, numbers),
+            Form::Stream => {
+                self.set_main(value(numbers, 0), value(numbers, 1));
+                Ok(())
+            }
+            Form::Object(thing) => self.add_object(thing, words, numbers),
+            Form::Units => {
+                self.unit_count = Some(value(numbers, 0) as u32);
+                Ok(())
+            }
+            Form::Unit(role, start) => self.add_unit(alloc, role, start, numbers),
+            Form::Operation(op) => self.add_operation(alloc, op, words, numbers),
+        }
+    }
+
+    fn add_streams(&mut self, n: u64) -> Result<(), Want>
+        requires { IsSmall n }
+        ensures { OnOk result (self.new ≡ record self.old { streams = Some n; mains = replicate n None }) }
+    {
+        self.streams = Some(n as u32);
+        self.mains.clear();
+        self.mains.resize(n as usize, None)?;
+        Ok(())
+    }
+
+    fn add_pool(
+        &mut self,
+        access: Access,
+        words: &[&[u8]],
+        numbers: &[Numbered],
+    ) -> Result<(), Want>
+        requires { AreSmall (form.Pool access) (values numbers.now) }
+        ensures { OnOk result (self.new ≡ declared_with self.old (form.Pool access) (map (λ w. w.now) words.now) (values numbers.now)) }
+    {
+        let kind = kind_named(word_in(words, 2));
+        let access = access_with(access, numbers);
+        self.pools.push(PoolPart { kind, access })?;
+        Ok(())
+    }
+
+    fn add_sched(&mut self, alloc: Global, rule: Rule, numbers: &[Numbered]) -> Result<(), Want>
+        requires { AreSmall (form.Sched rule) (values numbers.now) }
+        ensures { OnOk result (self.new ≡ record self.old { scheds = self.old.scheds ++ sched_with rule (values numbers.now) ∷ [] }) }
+    {
+        let pools = pools_in(alloc, listed(rule, numbers))?;
+        let rule = rule_with(rule, numbers);
+        self.scheds.push(SchedPart { rule, pools })?;
+        Ok(())
+    }
+
+    fn set_main(&mut self, s: u64, g: u64)
+        requires { IsSmall g }
+        ensures { self.new ≡ record self.old { mains = slice_set self.old.mains s (Some (sched_no g)) } }
+    {
+        if let Some(main) = self.mains.get_mut(s as usize) {
+            *main = Some(SchedNo(g as u32));
+        }
+    }
+
+    fn add_object(
+        &mut self,
+        thing: Thing,
+        words: &[&[u8]],
+        numbers: &[Numbered],
+    ) -> Result<(), Want>
+        requires { AreSmall (form.Object thing) (values numbers.now) }
+        ensures { OnOk result (self.new ≡ declared_with self.old (form.Object thing) (map (λ w. w.now) words.now) (values numbers.now)) }
+    {
+        self.objects.push(thing_with(thing, words, numbers))?;
+        Ok(())
+    }
+
+    fn add_unit(
+        &mut self,
+        alloc: Global,
+        role: Role,
+        start: Option<PoolNo>,
+        numbers: &[Numbered],
+    ) -> Result<(), Want>
+        requires { AreSmall (form.Unit role start) (values numbers.now) }
+        ensures { OnOk result (self.new ≡ declared_with self.old (form.Unit role start) [] (values numbers.now)) }
+    {
+        if let Some(part) = self.last.take() {
+            self.units.push(part)?;
+        }
+        let body = body_with(alloc, role, numbers);
+        let start = start_with(role, start, numbers);
+        self.last = Some(UnitPart { body, start });
+        Ok(())
+    }
+
+    fn add_operation(
+        &mut self,
+        alloc: Global,
+        op: Op,
+        words: &[&[u8]],
+        numbers: &[Numbered],
+    ) -> Result<(), Want>
+        requires { IsDeclarable self.old (form.Operation op) (map (λ w. w.now) words.now) (values numbers.now) }
+        ensures { OnOk result (self.new ≡ declared_with self.old (form.Operation op) (map (λ w. w.now) words.now) (values numbers.now)) }
+    {
+        let said = self.said_count();
+        self.add_said(alloc, op, words)?;
+        self.add_op(op_with(op, said, value(numbers, 0), value(numbers, 1)))
+    }
+
+    // Adds an operation to the last unit.
+    fn add_op(&mut self, op: Op) -> Result<(), Want>
+        ensures { OnOk result (self.new ≡ record self.old { last = option_map (unit_and op) self.old.last }) }
+    {
+        if let Some(part) = self.last.take() {
+            self.last = Some(unit_and(part, op)?);
+        }
+        Ok(())
+    }
+
+    // How many words are said.
+    fn said_count(&self) -> u32
+        requires { IsSmall (length self.now.words) }
+        ensures { result ≡ length self.now.words }
+    {
+        self.words.len() as u32
+    }
+
+    // Adds the word that an operation's line says, if it says one.
+    fn add_said(&mut self, alloc: Global, op: Op, words: &[&[u8]]) -> Result<(), Want>
+        requires { IsSaid (form.Operation op) (map (λ w. w.now) words.now) }
+        ensures { OnOk result (self.new ≡ record self.old { words = self.old.words ++ said_in op (map (λ w. w.now) words.now) }) }
+    {
+        if let Op::Say(_) = op {
+            self.words.push(said_text(alloc, word_in(words, 1))?)?;
+        }
+        Ok(())
+    }
+}
+
+// The word at a place, counted from 0, and none where there is none.
+fn word_in<'a>(words: &[&'a [u8]], k: usize) -> &'a [u8]
+    ensures { result.now ≡ word_in (map (λ w. w.now) words.now) k }
+{
+    match words.get(k) {
+        Some(word) => word,
+        None => &[],
+    }
+}
+
+fn kind_named(word: &[u8]) -> Kind
+    ensures { result ≡ kind_named word.now }
+{
+    if is(word, "fifo") {
+        Kind::Fifo
+    } else {
+        Kind::Deque
+    }
+}
+
+fn combine_named(word: &[u8]) -> Combine
+    ensures { result ≡ combine_named word.now }
+{
+    if is(word, "sum") {
+        Combine::Sum
+    } else if is(word, "max") {
+        Combine::Max
+    } else {
+        Combine::Count
+    }
+}
+
+fn access_with(access: Access, numbers: &[Numbered]) -> Access
+    requires { AreSmall (form.Pool access) (values numbers.now) }
+    ensures { result ≡ access_with access (values numbers.now) }
+{
+    let first = StreamNo(value(numbers, 1) as u32);
+    let second = StreamNo(value(numbers, 2) as u32);
+    match access {
+        Access::Priv(_) => Access::Priv(first),
+        Access::Spsc(_, _) => Access::Spsc(first, second),
+        Access::Mpsc(_) => Access::Mpsc(first),
+        Access::Spmc(_) => Access::Spmc(first),
+        Access::Mpmc => Access::Mpmc,
+    }
+}
+
+fn rule_with(rule: Rule, numbers: &[Numbered]) -> Rule
+    requires { IsSmallRule rule (values numbers.now) }
+    ensures { result ≡ rule_with rule (values numbers.now) }
+{
+    let n = value(numbers, 1);
+    match rule {
+        Rule::Basic => Rule::Basic,
+        Rule::Prio => Rule::Prio,
+        Rule::Randws(_) => Rule::Randws(n),
+        Rule::User(_) => Rule::User(n as u32),
+    }
+}
+
+fn small(n: u64) -> u32
+    requires { IsSmall n }
+    ensures { result ≡ n }
+{
+    n as u32
+}
+
+fn pools_in(alloc: Global, numbers: &[Numbered]) -> Result<Pools, Want>
+    requires { All IsSmall (values numbers.now) }
+    ensures { IfOk result (λ pools. pools ≡ map pool_no (values numbers.now)) }
+{
+    let mut pools = Vec::with_capacity(alloc, numbers.len())?;
+    for (_, n) in numbers {
+        pools.push(PoolNo(small(*n)))?;
+    }
+    Ok(Pools::new(pools))
+}
+
+fn thing_with(thing: Thing, words: &[&[u8]], numbers: &[Numbered]) -> Thing
+    requires { AreSmall (form.Object thing) (values numbers.now) }
+    ensures { result ≡ thing_with thing (map (λ w. w.now) words.now) (values numbers.now) }
+{
+    let n = value(numbers, 1) as u32;
+    match thing {
+        Thing::Mutex => Thing::Mutex,
+        Thing::Cond(_) => Thing::Cond(ObjectNo(n)),
+        Thing::Eventual => Thing::Eventual,
+        Thing::Future(_, _) => Thing::Future(n, combine_named(word_in(words, 4))),
+        Thing::Barrier(_) => Thing::Barrier(n),
+    }
+}
+
+fn body_with(alloc: Global, role: Role, numbers: &[Numbered]) -> Body
+    requires { IsSmall (at (values numbers.now) 1) }
+    ensures { result ≡ body_with role (values numbers.now) }
+{
+    match role {
+        Role::Ult => Body::Ult(Ops::new(Vec::new(alloc))),
+        Role::Task => Body::Task(Ops::new(Vec::new(alloc))),
+        Role::Sched => Body::Sched(SchedNo(value(numbers, 1) as u32)),
+    }
+}
+
+fn start_with(role: Role, start: Option<PoolNo>, numbers: &[Numbered]) -> Option<PoolNo>
+    requires first { IsSmall (at (values numbers.now) 1) }
+    requires second { IsSmall (at (values numbers.now) 2) }
+    ensures { result ≡ start_with role start (values numbers.now) }
+{
+    let place = match role {
+        Role::Ult | Role::Task => value(numbers, 1),
+        Role::Sched => value(numbers, 2),
+    };
+    match start {
+        Some(_) => Some(PoolNo(place as u32)),
+        None => None,
+    }
+}
+
+// The text of a word that is said.
+fn said_text(alloc: Global, word: &[u8]) -> Result<Text, Want>
+    requires { IsUtf8 word.now }
+    ensures { IfOk result (λ text. text ≡ word.now) }
+{
+    match str::from_utf8(word) {
+        Ok(text) => Ok(Text::new(String::from_str(alloc, text)?)),
+        Err(_) => unreachable!(),
+    }
+}
+
+// A unit with one operation more.
+fn unit_and(part: UnitPart, op: Op) -> Result<UnitPart, Want>
+    ensures { IfOk result (λ new. new ≡ unit_and op part) }
+{
+    let UnitPart { body, start } = part;
+    let body = body_and(body, op)?;
+    Ok(UnitPart { body, start })
+}
+
+fn body_and(body: Body, op: Op) -> Result<Body, Want>
+    ensures { IfOk result (λ new. new ≡ body_and op body) }
+{
+    match body {
+        Body::Ult(ops) => Ok(Body::Ult(ops_and(ops, op)?)),
+        Body::Task(ops) => Ok(Body::Task(ops_and(ops, op)?)),
+        Body::Sched(g) => Ok(Body::Sched(g)),
+    }
+}
+
+fn ops_and(ops: Ops, op: Op) -> Result<Ops, Want>
+    ensures { IfOk result (λ new. new ≡ ops ++ op ∷ []) }
+{
+    let mut items = ops.into_items();
+    items.push(op)?;
+    Ok(Ops::new(items))
+}
+
+// The operation with these numbers; this many words are said above it.
+fn op_with(op: Op, said: u32, first: u64, second: u64) -> Op
+    requires first_small { is_wide op ≡ false → IsSmall first }
+    requires second_small { IsSmall second }
+    ensures { result ≡ op_with op said (first ∷ second ∷ []) }
+{
+    match op {
+        Op::Set(_) => Op::Set(first),
+        Op::Add(_) => Op::Add(first),
+        other => named_op(other, said, first as u32, second as u32),
+    }
+}
+
+fn named_op(op: Op, said: u32, m: u32, n: u32) -> Op
+    requires { is_wide op ≡ false }
+    ensures { result ≡ op_with op said (m ∷ n ∷ []) }
+{
+    match op {
+        Op::Set(_) | Op::Add(_) => unreachable!(),
+        Op::Say(_) => Op::Say(said),
+        Op::Print => Op::Print,
+        Op::KeySet(_) => Op::KeySet(m),
+        Op::KeyGet(_) => Op::KeyGet(m),
+        Op::Yield => Op::Yield,
+        Op::YieldTo(_, _) => Op::YieldTo(UnitNo(m), PoolNo(n)),
+        Op::Suspend => Op::Suspend,
+        Op::Resume(_) => Op::Resume(UnitNo(m)),
+        Op::Create(_, _) => Op::Create(UnitNo(m), PoolNo(n)),
+        Op::Join(_) => Op::Join(UnitNo(m)),
+        Op::Cancel(_) => Op::Cancel(UnitNo(m)),
+        Op::Migrate(_, _) => Op::Migrate(UnitNo(m), PoolNo(n)),
+        Op::MigrateTo(_, _) => Op::MigrateTo(UnitNo(m), StreamNo(n)),
+        Op::Migratable(_, _) => Op::Migratable(UnitNo(m), n == 1),
+        Op::Revive(_, _) => Op::Revive(UnitNo(m), PoolNo(n)),
+        Op::Lock(_) => Op::Lock(ObjectNo(m)),
+        Op::TryLock(_) => Op::TryLock(ObjectNo(m)),
+        Op::Unlock(_) => Op::Unlock(ObjectNo(m)),
+        Op::Load(_) => Op::Load(ObjectNo(m)),
+        Op::Store(_) => Op::Store(ObjectNo(m)),
+        Op::CondWait(_) => Op::CondWait(ObjectNo(m)),
+        Op::Signal(_) => Op::Signal(ObjectNo(m)),
+        Op::Broadcast(_) => Op::Broadcast(ObjectNo(m)),
+        Op::EvWait(_) => Op::EvWait(ObjectNo(m)),
+        Op::EvSet(_) => Op::EvSet(ObjectNo(m)),
+        Op::EvReset(_) => Op::EvReset(ObjectNo(m)),
+        Op::EvTest(_) => Op::EvTest(ObjectNo(m)),
+        Op::FuWait(_) => Op::FuWait(ObjectNo(m)),
+        Op::FuSet(_) => Op::FuSet(ObjectNo(m)),
+        Op::FuReset(_) => Op::FuReset(ObjectNo(m)),
+        Op::FuTest(_) => Op::FuTest(ObjectNo(m)),
+        Op::BarWait(_) => Op::BarWait(ObjectNo(m)),
+    }
+}

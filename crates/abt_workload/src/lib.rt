@@ -1,0 +1,16 @@
+//! Workload texts: read to a workload or refused, and written.
+#![tactic(auto)]
+
+mod declare;
+mod draft;
+mod forms;
+mod judge;
+mod laws;
+mod numbers;
+mod reading;
+#[cfg(test)]
+mod tests;
+mod text;
+
+pub use laws::each_text_has_one_answer;
+pub use reading::{NotRead, read};

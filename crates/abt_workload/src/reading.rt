@@ -1,0 +1,185 @@
+//! The reader.
+
+ghost use Rattle.std.specs.Prelude.{◌≡◌, ◌++◌, ◌≤◌, length, IfErr, IfOk, OnOk, flat_map, map, option_to_list};
+ghost use Rattle.abt_machine.specs.Declaring.{parts_of};
+ghost use Rattle.abt_machine.specs.Faults.{line_fault};
+ghost use Rattle.abt_machine.specs.Grammar.{Reads, and_line};
+ghost use Rattle.abt_machine.specs.Spelling.{words_of};
+ghost use Rattle.abt_workload.specs.Reading.{IsCause, IsFirm, IsSeen};
+
+use crate::draft::Draft;
+use crate::judge::Verdict;
+use crate::numbers::Numbered;
+use crate::text::{first_line, is_skipped, is_utf8, words};
+use abt_machine::{Fault, Items, Parts, SchedNo, Want, Workload};
+use std::alloc::Global;
+use thiserror::Error;
+
+/// The most bytes that a workload text has.
+const MOST_BYTES: usize = 4_194_304;
+
+/// Why a text was not read.
+#[derive(Clone, Copy, Debug, Drop, PartialEq, Eq, Error)]
+pub enum NotRead {
+    /// The least line that has a fault, counted from 1, and its first fault; line 0 is the text's length.
+    #[error("line {line}: {fault:?}")]
+    Refused { line: u32, fault: Fault },
+    #[error("out of memory")]
+    Memory,
+}
+
+impl Draft {
+    // Takes one line: its first fault, or what is declared with it.
+    fn take_line<'a>(
+        &mut self,
+        alloc: Global,
+        line: &'a [u8],
+        found: &mut Vec<&'a [u8]>,
+        numbers: &mut Vec<Numbered>,
+    ) -> Result<Option<Fault>, Want>
+        requires { IsFirm self.old }
+        ensures fault { IfOk result (λ fault. fault ≡ line_fault self.old line.entry.now) }
+        ensures declared { IfOk result (λ fault. fault ≡ None → self.new ≡ and_line self.old line.entry.now) }
+    {
+        words(line, found)?;
+        self.take_words(alloc, line, found, numbers)
+    }
+
+    // Takes a line of these words.
+    fn take_words(
+        &mut self,
+        alloc: Global,
+        line: &[u8],
+        words: &[&[u8]],
+        numbers: &mut Vec<Numbered>,
+    ) -> Result<Option<Fault>, Want>
+        requires firm { IsFirm self.old }
+        requires words { map (λ w. w.now) words.now ≡ words_of line.now }
+        ensures fault { IfOk result (λ fault. fault ≡ line_fault self.old line.now) }
+        ensures declared { IfOk result (λ fault. fault ≡ None → self.new ≡ and_line self.old line.now) }
+    {
+        if is_skipped(words) {
+            return Ok(if is_utf8(line) {
+                None
+            } else {
+                Some(Fault::Utf8)
+            });
+        }
+        match self.judge(alloc, line, words, numbers)? {
+            Verdict::Faulty(fault) => Ok(Some(fault)),
+            Verdict::Sound(form) => {
+                self.declare(alloc, form, words, numbers)?;
+                Ok(None)
+            }
+        }
+    }
+
+    // The parts that are declared.
+    fn into_parts(self, alloc: Global) -> Result<Parts, Want>
+        ensures { IfOk result (λ parts. parts ≡ parts_of self) }
+    {
+        let Draft {
+            streams,
+            keys,
+            pools,
+            scheds,
+            mains,
+            objects,
+            mut units,
+            last,
+            words,
+            ..
+        } = self;
+        let mains = all_mains(alloc, &mains)?;
+        if let Some(part) = last {
+            units.push(part)?;
+        }
+        Ok(Parts {
+            streams: streams.unwrap_or(0),
+            keys,
+            pools: Items::new(pools),
+            scheds: Items::new(scheds),
+            mains: Items::new(mains),
+            objects: Items::new(objects),
+            units: Items::new(units),
+            words: Items::new(words),
+        })
+    }
+}
+
+// The main schedulers that are declared.
+fn all_mains(alloc: Global, mains: &[Option<SchedNo>]) -> Result<Vec<SchedNo>, Want>
+    ensures { IfOk result (λ all. all.items ≡ flat_map option_to_list mains.now) }
+{
+    let mut all = Vec::with_capacity(alloc, mains.len())?;
+    for main in mains {
+        add_main(&mut all, *main)?;
+    }
+    Ok(all)
+}
+
+fn add_main(all: &mut Vec<SchedNo>, main: Option<SchedNo>) -> Result<(), Want>
+    ensures { OnOk result (all.new.items ≡ all.old.items ++ option_to_list main) }
+{
+    if let Some(g) = main {
+        all.push(g)?;
+    }
+    Ok(())
+}
+
+// What the lines of a text declare, or the least that has a fault.
+fn read_lines(alloc: Global, bytes: &[u8]) -> Result<Draft, NotRead>
+    requires { length bytes.now ≤ 4194304 }
+    ensures ok { IfOk result (IsSeen bytes.now) }
+    ensures refused { IfErr result (IsCause bytes.now) }
+{
+    let mut draft = Draft::new(alloc);
+    let mut found = Vec::new(alloc);
+    let mut numbers = Vec::new(alloc);
+    let mut rest = bytes;
+    let mut line = 0u32;
+    while !rest.is_empty() {
+        let (text, after) = first_line(rest);
+        match draft.take_line(alloc, text, &mut found, &mut numbers) {
+            Ok(None) => {}
+            Ok(Some(fault)) => {
+                return Err(NotRead::Refused {
+                    line: line + 1,
+                    fault,
+                });
+            }
+            Err(_) => return Err(NotRead::Memory),
+        }
+        line += 1;
+        rest = after;
+    }
+    if !draft.has_ended() {
+        return Err(NotRead::Refused {
+            line: line + 1,
+            fault: Fault::NoEnd,
+        });
+    }
+    Ok(draft)
+}
+
+/// Reads a workload text in one pass over its bytes.
+///
+/// # Errors
+/// `Refused` has the least line that has a fault, and that line's first fault in the order of the
+/// variants of `Fault`; `Memory` is want of memory.
+pub fn read(alloc: Global, bytes: &[u8]) -> Result<Workload, NotRead>
+    ensures ok { IfOk result (Reads bytes.now) }
+    ensures refused { IfErr result (IsCause bytes.now) }
+{
+    if bytes.len() > MOST_BYTES {
+        return Err(NotRead::Refused {
+            line: 0,
+            fault: Fault::Limit,
+        });
+    }
+    let draft = read_lines(alloc, bytes)?;
+    match draft.into_parts(alloc) {
+        Ok(parts) => Ok(Workload::new(parts)),
+        Err(_) => Err(NotRead::Memory),
+    }
+}
