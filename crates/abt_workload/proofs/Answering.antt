@@ -1,11 +1,9 @@
 -- Each text has one answer.
-use Rattle.std.proofs.Common.{◌≡◌, ◌<◌, ◌≤◌, ◌+◌, ◌∙◌, ℕ, zero, suc, Option, Some, None, arith, inl, inr, ◌⊎◌, length, refl, sym, find}
+use Rattle.std.proofs.Common.{◌≡◌, ◌<◌, ◌≤◌, ◌+◌, ◌∙◌, ℕ, zero, suc, Option, Some, None, arith, inl, inr, ◌⊎◌, length, refl, sym}
 use Rattle.std.proofs.lemmas.Bool.{cases_order}
 use Rattle.abt_machine.specs.declared.program.Fault.{Fault}
-use Rattle.abt_machine.specs.declared.workload.Parts.{Parts}
 use Rattle.abt_machine.specs.Declaring.{parts_of}
-use Rattle.abt_machine.specs.Faults.{faults}
-use Rattle.abt_machine.specs.Grammar.{Reads, Refuses, declared_by, fault_at, has_at}
+use Rattle.abt_machine.specs.Grammar.{Refuses, declared_by, fault_at}
 use Rattle.abt_machine.specs.Spelling.{lines_of}
 use Rattle.abt_machine.specs.Words.{Text}
 use Rattle.abt_workload.specs.Laws.{IsNotBoth, IsReadOrRefused, ReadsOnce, RefusesOnce}
@@ -22,6 +20,7 @@ refuses-once text k l f g r s = by (cases_order k l)
   where
     same-fault : k ≡ l → f ≡ g
     same-fault e = let a = r.first in let b = s.first in cc
+
     by : (k ≡ l) ⊎ ((k < l) ⊎ (l < k)) → (k ≡ l) × (f ≡ g)
     by (inl e) = (e, same-fault e)
     by (inr (inl lt)) = let none = s.least k lt in let some = r.first in cc
@@ -42,6 +41,7 @@ search-lines text (suc n) = by (search-lines text n) (fault_at text n) refl
         on (inl same) = cc
         on (inr (inl less)) = h m less
         on (inr (inr more)) = absurd (omega arith)
+
     by : Searched text n → (o : Option Fault) → fault_at text n ≡ o → Searched text (suc n)
     by (inr found) o e = inr found
     by (inl h) None e = inl (below h e)
@@ -53,6 +53,7 @@ read-or-refused text = by (search-lines text (length (lines_of text) + 2))
     past : (k : ℕ) → length (lines_of text) + 2 ≤ k → fault_at text k ≡ None
     past zero le = absurd (omega arith)
     past (suc i) le = fault-past (lines_of text) i (omega arith)
+
     all : ((m : ℕ) → m < length (lines_of text) + 2 → fault_at text m ≡ None) → (k : ℕ) → fault_at text k ≡ None
     all h k = on (cases_order k (length (lines_of text) + 2))
       where
@@ -60,6 +61,7 @@ read-or-refused text = by (search-lines text (length (lines_of text) + 2))
         on (inl e) = past k (omega arith)
         on (inr (inl lt)) = h k lt
         on (inr (inr gt)) = past k (omega arith)
+
     by : Searched text (length (lines_of text) + 2) → IsReadOrRefused text
     by (inl h) = inl (parts_of (declared_by (lines_of text)), record { faultless = all h; parts = refl })
     by (inr found) = inr found

@@ -1,6 +1,5 @@
 -- What a line without a fault says of its numbers and its place.
-use Rattle.std.proofs.Common.{refl, suc, ◌≡◌, ◌<◌, ◌≤◌, ◌^◌, ◌==◌, ◌&&◌, ◌||◌, ◌∙◌, ℕ, Bool, true, false, not, List, Option, Some, None, arith, length, nat_le, nat_lt, replicate, slice_get, subst, sym, unwrap_or, eqb, ltb, leb, inl, inr, ◌⊎◌, ◌≢◌, map}
-use Rattle.std.specs.List.{list_all}
+use Rattle.std.proofs.Common.{refl, suc, ◌≡◌, ◌<◌, ◌≤◌, ◌==◌, ◌&&◌, ℕ, Bool, true, false, List, Option, Some, None, arith, nat_le, nat_lt, slice_get, subst, leb, inl, inr, ◌⊎◌}
 use Rattle.std.specs.Option.{option_map_or}
 use Rattle.std.proofs.lemmas.Bool.{eqb-false, ltb-true}
 use Rattle.std.proofs.lemmas.Bool.Decides.{leb_tells}
@@ -12,11 +11,10 @@ use Rattle.abt_machine.specs.declared.operations.Combine.{Combine}
 use Rattle.abt_machine.specs.declared.operations.Thing.{Thing}
 use Rattle.abt_machine.specs.declared.operations.Thing.TheVariants as thing
 use Rattle.abt_machine.specs.Declaring.{Above, at}
-use Rattle.abt_machine.specs.Faults.{is_barrier, is_condition, is_eventual, is_future, is_mutex, is_homeless, is_misplaced, is_single, is_there, is_within, values_of}
+use Rattle.abt_machine.specs.Faults.{is_barrier, is_condition, is_eventual, is_future, is_mutex, is_homeless, is_single, is_there, is_within, values_of}
 use Rattle.abt_machine.specs.Forms.{section, slots}
 use Rattle.abt_machine.specs.Words.{Text}
-use Rattle.abt_workload.proofs.Places.{and-both, at-kind, is_big, kinds, or-left, or-right}
-use Rattle.abt_workload.proofs.Proper.{IsProper}
+use Rattle.abt_workload.proofs.Places.{at-kind, kinds, or-left, or-right}
 use Rattle.abt_workload.proofs.Soundness.{IsSound}
 
 pub le-from : (x y : ℕ) → nat_le x y ≡ true → x ≤ y

@@ -1,27 +1,18 @@
 -- The length of the text that is written for what lines declare.
-use Rattle.std.proofs.Common.{append_assoc, length-take, ◌≡◌, ◌≢◌, ◌<◌, ◌≤◌, ◌+◌, ◌-◌, ◌^◌, ◌==◌, ◌&&◌, ◌||◌, ◌∙◌, ℕ, zero, suc, Bool, true, false, not, List, [], ◌∷◌, ◌++◌, Option, Some, None, ap, arith, bytes_eq, codes, cond, decimal, flat_map, get_or, is_none, length, length-append, map, nat_le, nat_lt, option_to_list, refl, replicate, slice_set, slice_get, subst, sym, take, if◌then◌else◌}
-use Rattle.std.specs.Cmp.Lexicographic.{same_text}
+use Rattle.std.proofs.Common.{append_assoc, length-take, ◌≡◌, ◌≤◌, ◌+◌, ◌-◌, ◌==◌, ◌∙◌, ℕ, zero, suc, Bool, true, false, List, [], ◌∷◌, ◌++◌, Option, Some, None, ap, arith, codes, cond, decimal, flat_map, get_or, is_none, length, length-append, map, option_to_list, refl, replicate, slice_set, slice_get, subst, sym, take}
 use Rattle.std.specs.List.{enumerate_from, list_any, onto_first, range_with_len}
-use Rattle.std.proofs.lemmas.Grind.{flat_map-append}
 use Rattle.std.proofs.lemmas.Bool.{eqb-false}
-use Rattle.std.proofs.lemmas.List.{append-nil}
-use Rattle.abt_machine.specs.declared.grammar.Form.{Form}
-use Rattle.abt_machine.specs.declared.grammar.Form.TheVariants as form
-use Rattle.abt_machine.specs.declared.grammar.Number.TheVariants as number
 use Rattle.abt_machine.specs.declared.numbers.SchedNo.{SchedNo}
 use Rattle.abt_machine.specs.declared.operations.Op.{Op}
 use Rattle.abt_machine.specs.declared.operations.Op.TheVariants as op
 use Rattle.abt_machine.specs.declared.workload.Parts.{Parts}
-use Rattle.abt_machine.specs.declared.workload.PoolPart.{PoolPart}
-use Rattle.abt_machine.specs.declared.workload.SchedPart.{SchedPart}
 use Rattle.abt_machine.specs.declared.workload.UnitPart.{UnitPart}
-use Rattle.abt_machine.specs.Canonical.{body_words, canonical_text, fitted, keys_lines, object_line, op_words, pool_line, sched_line, start_words, stream_line, unit_lines, version_line, word_at, workload_lines}
-use Rattle.abt_machine.specs.Declaring.{Above, nothing, parts_of}
+use Rattle.abt_machine.specs.Canonical.{body_words, fitted, op_words, start_words, stream_line, unit_lines, word_at}
+use Rattle.abt_machine.specs.Declaring.{nothing, parts_of}
 use Rattle.abt_machine.specs.Operations.{said_by}
-use Rattle.abt_machine.specs.Spelling.{lines_of, with_byte}
-use Rattle.abt_machine.specs.Words.{Text, ended, line_of, numbered, text_of}
+use Rattle.abt_machine.specs.Spelling.{lines_of}
+use Rattle.abt_machine.specs.Words.{Text, ended, line_of, text_of}
 use Rattle.abt_machine.specs.Workloads.{ops_of}
-use Rattle.abt_workload.proofs.Places.{or-left, or-right}
 use Rattle.abt_workload.proofs.Weights.{ended-length, weight}
 
 -- the bytes of a line of these words, with its line feed

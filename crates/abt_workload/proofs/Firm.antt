@@ -1,6 +1,6 @@
 -- What lines declare is sound so far.
-use Rattle.std.proofs.Common.{append_assoc, codes, decimal, drop, flat_map, get_or, inl, inr, is_none, length-append, unwrap_or, ◌⊎◌, ◌||◌, ◌≡◌, ◌<◌, ◌≤◌, ◌+◌, ◌*◌, ◌^◌, ◌==◌, ◌&&◌, ◌∙◌, ℕ, zero, suc, Bool, true, false, not, List, [], ◌∷◌, ◌++◌, All, IsUtf8, Option, Some, None, ap, arith, cond, find, fold, length, nat_le, nat_lt, option_to_list, refl, slice_get, subst, sym, take, if◌then◌else◌}
-use Rattle.std.specs.List.{enumerate_from, list_all}
+use Rattle.std.proofs.Common.{append_assoc, codes, decimal, drop, flat_map, get_or, inl, inr, is_none, length-append, unwrap_or, ◌⊎◌, ◌||◌, ◌≡◌, ◌<◌, ◌≤◌, ◌+◌, ◌*◌, ◌^◌, ◌==◌, ◌&&◌, ◌∙◌, ℕ, zero, suc, Bool, true, false, not, List, [], ◌∷◌, ◌++◌, All, IsUtf8, Option, Some, None, ap, arith, cond, find, fold, length, nat_le, nat_lt, option_to_list, refl, slice_get, subst, sym, take}
+use Rattle.std.specs.List.{enumerate_from}
 use Rattle.std.proofs.lemmas.Bool.{eqb-true}
 use Rattle.std.proofs.Math.Seq.{take-append_seam}
 use Rattle.std.specs.Option.{option_map_or}
@@ -37,10 +37,10 @@ use Rattle.abt_machine.specs.Workloads.{ops_of}
 use Rattle.abt_workload.specs.Declarable.{AreSmall, IsDeclarable, IsSaid, IsSmall, IsSmallRule, is_wide, with_line}
 use Rattle.abt_workload.specs.Reading.{IsFirm, IsSeen}
 use Rattle.abt_workload.specs.Slots.{values}
-use Rattle.abt_workload.proofs.Bounds.{le-from, le-not, lt-from, within-at}
+use Rattle.abt_workload.proofs.Bounds.{le-from, lt-from}
 use Rattle.abt_workload.proofs.Growing.{tail-all}
 use Rattle.abt_workload.proofs.Keeping.{keeps-keys, keeps-object, keeps-pool, keeps-sched, keeps-stream, keeps-streams, keeps-units, keeps-version}
-use Rattle.abt_workload.proofs.KeepingUnits.{front-of, keeps-end, keeps-operation, keeps-unit, last-of, two-words}
+use Rattle.abt_workload.proofs.KeepingUnits.{keeps-end, keeps-operation, keeps-unit, last-of, two-words}
 use Rattle.abt_workload.proofs.LineWords.{words-utf8}
 use Rattle.abt_workload.proofs.Places.{not-false, all-both, and-left, and-right, is_big, is_small_at, small-at}
 use Rattle.abt_workload.proofs.Proper.{IsProper, IsUnitIn, counted, op_count, proper-nothing, unit_count}
@@ -57,10 +57,30 @@ use Rattle.abt_workload.proofs.Totals.{step}
 
 begun-proper : (a : Above) → IsProper a → IsProper (record a { begun = true })
 begun-proper a h = record {
-  streams = h.streams; keys = h.keys; pools = h.pools; scheds = h.scheds; mains = h.mains; places = h.places; objects = h.objects;
-  units = h.units; said = h.said; words = h.words; few_words = h.few_words;
-  order = record { no_streams = h.order.no_streams; no_keys = h.order.no_keys; no_mains = h.order.no_mains; no_units = h.order.no_units; no_last = h.order.no_last; no_count = h.order.no_count;
-    has_streams = h.order.has_streams; has_pools = h.order.has_pools; has_mains = h.order.has_mains; has_count = h.order.has_count; has_units = h.order.has_units };
+  streams = h.streams;
+  keys = h.keys;
+  pools = h.pools;
+  scheds = h.scheds;
+  mains = h.mains;
+  places = h.places;
+  objects = h.objects;
+  units = h.units;
+  said = h.said;
+  words = h.words;
+  few_words = h.few_words;
+  order = record {
+    no_streams = h.order.no_streams;
+    no_keys = h.order.no_keys;
+    no_mains = h.order.no_mains;
+    no_units = h.order.no_units;
+    no_last = h.order.no_last;
+    no_count = h.order.no_count;
+    has_streams = h.order.has_streams;
+    has_pools = h.order.has_pools;
+    has_mains = h.order.has_mains;
+    has_count = h.order.has_count;
+    has_units = h.order.has_units;
+  };
 }
 
 keeps-form : (a : Above) (line : Text) (words : List Text) (f : Form) → IsProper a → words ≡ words_of line → IsSound a line words f → IsProper (with_line a f words (values_of f words))
@@ -82,9 +102,11 @@ keeps-line a line h = by (is_skipped (words_of line)) refl
     form-by : (o : Option Form) → form_of (words_of line) ≡ o → find (has a line (words_of line) (form_of (words_of line))) faults ≡ None → IsProper (record (and_form a (words_of line) o) { begun = true })
     form-by None eo sound = begun-proper a h
     form-by (Some f) eo sound = keeps-form a line (words_of line) f h refl (sound-of a line (words_of line) f sound eo)
+
     fault-by : (o : Option Fault) → find (has a line (words_of line) (form_of (words_of line))) faults ≡ o → IsProper (record (and_words a (words_of line) o) { begun = true })
     fault-by (Some f) eo = begun-proper a h
     fault-by None eo = form-by (form_of (words_of line)) refl eo
+
     by : (b : Bool) → is_skipped (words_of line) ≡ b → IsProper (and_line a line)
     by true e = subst (λ (c : Bool). IsProper (cond c a (record (and_words a (words_of line) (line_fault a line)) { begun = true }))) (sym e) h
     by false e = subst (λ (c : Bool). IsProper (cond c a (record (and_words a (words_of line) (line_fault a line)) { begun = true }))) (sym e)
@@ -108,6 +130,7 @@ there-small a h kind n e both = by kind e (and-left (is_there a kind n) _ both) 
         on : (o : Option Thing) → slice_get a.objects n ≡ o → n < 2 ^ 32
         on None is = let bad = rw is at f in cc
         on (Some t) is = let lt = slice_get_within a.objects n t is in let few = h.objects.few in omega arith
+
     by : (k : Number) → is_big k ≡ false → is_there a k n ≡ true → is_within k n ≡ true → n < 2 ^ 32
     by (number.Within low high) f t w = let le : n ≤ high = le-from n high (and-right (nat_le low n) _ w) in let small : high < 2 ^ 32 = lt-from high (2 ^ 32) (not-not (nat_lt high (2 ^ 32)) f) in omega arith
       where
@@ -245,6 +268,7 @@ step-line a line h ready none = by (is_skipped (words_of line)) refl
   where
     T : Above → Type 0
     T b = (total b ≤ total a + (length line + 1)) × (b.begun ≡ true → 0 < b.section)
+
     form-by : (o : Option Form) → form_of (words_of line) ≡ o → find (has a line (words_of line) (form_of (words_of line))) faults ≡ None
         → (total (record (and_form a (words_of line) o) { begun = true }) ≤ total a + (length line + 1)) × IsReady (record (and_form a (words_of line) o) { begun = true })
     form-by None eo sound = absurd (no-form a line (words_of line) (sym (ap (λ (o : Option Form). find (has a line (words_of line) o) faults) eo) ∙ sound))
@@ -253,6 +277,7 @@ step-line a line h ready none = by (is_skipped (words_of line)) refl
         let l : total (with_line a f (words_of line) (values_of f (words_of line))) ≤ total a + weight (words_of line) = step h f s (ready-form a line (words_of line) f ready s eo) in
         let w = words-weight line in
         (omega (arith, l), λ _. some-section f)
+
     by : (b : Bool) → is_skipped (words_of line) ≡ b → (total (and_line a line) ≤ total a + (length line + 1)) × IsReady (and_line a line)
     by true e = subst (λ (c : Bool). (total (cond c a (record (and_words a (words_of line) (line_fault a line)) { begun = true })) ≤ total a + (length line + 1)) × IsReady (cond c a (record (and_words a (words_of line) (line_fault a line)) { begun = true }))) (sym e) (omega arith, ready)
     by false e = subst (λ (c : Bool). (total (cond c a (record (and_words a (words_of line) (line_fault a line)) { begun = true })) ≤ total a + (length line + 1)) × IsReady (cond c a (record (and_words a (words_of line) (line_fault a line)) { begun = true }))) (sym e)

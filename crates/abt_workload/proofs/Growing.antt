@@ -1,15 +1,10 @@
 -- What is declared, with one thing more.
-use Rattle.std.proofs.Common.{◌≡◌, ◌≢◌, ◌<◌, ◌≤◌, ◌+◌, ◌-◌, ◌*◌, ◌^◌, ◌==◌, ◌&&◌, ◌||◌, ◌∙◌, ℕ, zero, suc, Bool, true, false, not, List, [], ◌∷◌, ◌++◌, All, Option, Some, None, IsTrue, ap, arith, drop, inl, inr, ◌⊎◌, flat_map, get_or, is_none, is_some, length, length-append, map, nat_le, nat_lt, option_to_list, option_map, refl, replicate, slice_get, slice_set, subst, sym, take, unwrap_or}
-use Rattle.std.specs.Bool.{⊤}
+use Rattle.std.proofs.Common.{◌≡◌, ◌≢◌, ◌<◌, ◌≤◌, ◌==◌, ℕ, zero, suc, Bool, true, false, List, [], ◌∷◌, ◌++◌, All, Option, Some, None, ap, arith, drop, inl, inr, ◌⊎◌, flat_map, is_some, length, map, option_to_list, refl, replicate, slice_get, slice_set, subst, sym}
 use Rattle.std.specs.Option.{option_map_or}
-use Rattle.std.specs.List.{AllByRecursion, AllPairs, list_all, list_any, range_with_len}
+use Rattle.std.specs.List.{AllPairs, list_all, list_any}
 use Rattle.std.proofs.lemmas.Bool.{eqb-false}
-use Rattle.std.proofs.lemmas.List.{append-nil, length-replicate}
 use Rattle.std.proofs.lemmas.List.Kept.{AllPairs-cons}
 use Rattle.std.proofs.lemmas.List.Elements.{All-append}
-use Rattle.std.proofs.lemmas.Option.{slice_get_past, slice_get_within}
-use Rattle.abt_machine.specs.declared.grammar.Form.{Form}
-use Rattle.abt_machine.specs.declared.grammar.Form.TheVariants as form
 use Rattle.abt_machine.specs.declared.grammar.Number.{Number}
 use Rattle.abt_machine.specs.declared.grammar.Number.TheVariants as number
 use Rattle.abt_machine.specs.declared.numbers.SchedNo.{SchedNo}
@@ -18,20 +13,15 @@ use Rattle.abt_machine.specs.declared.operations.Access.TheVariants as access
 use Rattle.abt_machine.specs.declared.operations.Thing.{Thing}
 use Rattle.abt_machine.specs.declared.operations.Thing.TheVariants as thing
 use Rattle.abt_machine.specs.declared.workload.Parts.{Parts}
-use Rattle.abt_machine.specs.declared.workload.PoolPart.{PoolPart}
 use Rattle.abt_machine.specs.declared.workload.SchedPart.{SchedPart}
 use Rattle.abt_machine.specs.declared.workload.UnitPart.{UnitPart}
-use Rattle.abt_machine.specs.Declaring.{Above, access_with, at, declared_units, declared_with, parts_of, pool_with}
-use Rattle.abt_machine.specs.Faults.{has_repeated, is_early, is_twice, values_of}
+use Rattle.abt_machine.specs.Faults.{has_repeated}
 use Rattle.abt_machine.specs.Forms.{Slot, Fixed, KindWord, CombineWord, AnyWord, Numeral, PoolList, fits, numerals, suits}
 use Rattle.abt_machine.specs.Spelling.{value_of}
 use Rattle.abt_machine.specs.Words.{Text}
-use Rattle.abt_workload.specs.Declarable.{with_line}
 use Rattle.abt_workload.specs.Slots.{numbered, values}
-use Rattle.abt_workload.proofs.Bounds.{after-section, after-single, le-from, le-not, lt-from, lt-not, there-at, within-at}
 use Rattle.abt_workload.proofs.Places.{and-left, and-right, kinds, or-left, or-right}
-use Rattle.abt_workload.proofs.Proper.{HasMains, HasObjects, HasPools, HasScheds, HasStreams, HasUnits, IsAccessIn, IsInOrder, IsProper, IsSchedIn, IsThingIn, IsUnitIn, counted, idle, no-pair, none-of, op_count, stream_count, takes_all, unit_count}
-use Rattle.abt_workload.proofs.Soundness.{IsSound}
+use Rattle.abt_workload.proofs.Proper.{HasUnits, IsAccessIn, IsSchedIn, IsThingIn, no-pair, none-of}
 
 -- one element more
 
@@ -175,8 +165,8 @@ pairs-set (Some x ∷ ms) rest zero g e out h = cc
 pairs-set (None ∷ ms) rest (suc s) g e out h = pairs-set ms rest s g e out h
 pairs-set (Some x ∷ ms) rest (suc s) g e out h =
     AllPairs-cons (λ (a b : ℕ). a ≢ b) x.0 (mains_list (slice_set ms s (Some g)) ++ rest)
-      (all-set (λ m. x.0 ≢ m) ms rest s g (all-head (λ m. m ≢ g.0) x.0 (mains_list ms ++ rest) out) (pairs-head x.0 (mains_list ms ++ rest) h))
-      (pairs-set ms rest s g e (all-tail (λ m. m ≢ g.0) x.0 (mains_list ms ++ rest) out) (pairs-tail x.0 (mains_list ms ++ rest) h))
+    (all-set (λ m. x.0 ≢ m) ms rest s g (all-head (λ m. m ≢ g.0) x.0 (mains_list ms ++ rest) out) (pairs-head x.0 (mains_list ms ++ rest) h))
+    (pairs-set ms rest s g e (all-tail (λ m. m ≢ g.0) x.0 (mains_list ms ++ rest) out) (pairs-tail x.0 (mains_list ms ++ rest) h))
 
 -- a stream's main scheduler, after one is given
 pub get-set : (mains : List (Option SchedNo)) (s t : ℕ) (g h : SchedNo) → slice_get (slice_set mains s (Some g)) t ≡ Some (Some h) → ((t ≡ s) × (g ≡ h)) ⊎ (slice_get mains t ≡ Some (Some h))

@@ -1,16 +1,9 @@
 -- A sound line keeps what is declared proper.
-use Rattle.std.proofs.Common.{◌≡◌, ◌≢◌, ◌<◌, ◌≤◌, ◌+◌, ◌-◌, ◌*◌, ◌^◌, ◌==◌, ◌&&◌, ◌||◌, ◌∙◌, ℕ, zero, suc, Bool, true, false, not, List, [], ◌∷◌, ◌++◌, All, Option, Some, None, IsTrue, ap, arith, drop, inl, inr, ◌⊎◌, flat_map, get_or, is_none, is_some, length, length-append, map, nat_le, nat_lt, option_to_list, option_map, refl, replicate, slice_get, slice_set, subst, sym, take, unwrap_or}
-use Rattle.std.specs.Bool.{⊤}
-use Rattle.std.specs.Option.{option_map_or}
-use Rattle.std.specs.List.{AllByRecursion, AllPairs, list_all, list_any, range_with_len}
-use Rattle.std.proofs.lemmas.Bool.{eqb-false}
-use Rattle.std.proofs.lemmas.List.{append-nil, length-map, length-replicate, length-set}
-use Rattle.std.proofs.lemmas.List.Kept.{AllPairs-cons}
-use Rattle.std.proofs.lemmas.List.Elements.{All-append}
-use Rattle.std.proofs.lemmas.Option.{slice_get_past, slice_get_within}
-use Rattle.abt_machine.specs.declared.grammar.Form.{Form}
+use Rattle.std.proofs.Common.{◌≡◌, ◌≢◌, ◌<◌, ◌≤◌, ◌+◌, ◌-◌, ◌^◌, ◌==◌, ◌||◌, ◌∙◌, ℕ, zero, suc, true, false, List, [], ◌∷◌, ◌++◌, All, Option, Some, None, ap, arith, inl, inr, ◌⊎◌, flat_map, is_none, length, length-append, map, nat_le, nat_lt, option_to_list, refl, replicate, slice_get, subst, sym, unwrap_or}
+use Rattle.std.specs.List.{AllPairs, list_any}
+use Rattle.std.proofs.lemmas.List.{length-map, length-replicate, length-set}
+use Rattle.std.proofs.lemmas.Option.{slice_get_within}
 use Rattle.abt_machine.specs.declared.grammar.Form.TheVariants as form
-use Rattle.abt_machine.specs.declared.grammar.Number.{Number}
 use Rattle.abt_machine.specs.declared.grammar.Number.TheVariants as number
 use Rattle.abt_machine.specs.declared.numbers.PoolNo.{PoolNo}
 use Rattle.abt_machine.specs.declared.numbers.SchedNo.{SchedNo}
@@ -20,26 +13,21 @@ use Rattle.abt_machine.specs.declared.operations.Rule.{Rule}
 use Rattle.abt_machine.specs.declared.operations.Rule.TheVariants as rule
 use Rattle.abt_machine.specs.declared.operations.Thing.{Thing}
 use Rattle.abt_machine.specs.declared.operations.Thing.TheVariants as thing
-use Rattle.abt_machine.specs.declared.workload.Parts.{Parts}
 use Rattle.abt_machine.specs.declared.workload.PoolPart.{PoolPart}
-use Rattle.abt_machine.specs.declared.workload.SchedPart.{SchedPart}
 use Rattle.abt_machine.specs.declared.workload.UnitPart.{UnitPart}
-use Rattle.abt_machine.specs.Declaring.{Above, access_with, at, declared_units, declared_with, listed, parts_of, pool_with, rule_with, sched_with, thing_with}
+use Rattle.abt_machine.specs.Declaring.{Above, access_with, at, listed, parts_of, pool_with, rule_with, sched_with, thing_with}
 use Rattle.abt_machine.specs.Numbers.{pool_no, sched_no}
 use Rattle.abt_machine.specs.Valid.{IsRule, placed_scheds, sched_in}
-use Rattle.abt_machine.specs.Faults.{has_main, has_repeated, is_early, is_there, is_twice, values_of}
-use Rattle.abt_machine.specs.Forms.{Slot, Fixed, KindWord, CombineWord, AnyWord, Numeral, PoolList, fits, numerals, slots, suits}
-use Rattle.abt_machine.specs.Spelling.{value_of}
+use Rattle.abt_machine.specs.Faults.{has_main, is_there, values_of}
+use Rattle.abt_machine.specs.Forms.{slots}
 use Rattle.abt_machine.specs.Words.{Text}
 use Rattle.abt_workload.specs.Declarable.{with_line}
-use Rattle.abt_workload.specs.Slots.{numbered, values}
 use Rattle.abt_workload.proofs.Bounds.{after-section, after-single, le-from, le-not, lt-from, lt-not, mutex-there, there-at, within-at}
 use Rattle.abt_workload.proofs.Naming.{any-fits}
-use Rattle.abt_workload.proofs.Growing.{access-grows, all-and, all-cons, all-head, all-one, all-tail, any-none, empty-of, ends_list, get-and, get-more, get-replicate, get-set, main-none, mains_list, no-units, not-among, once-pairs, pairs-set, sched-grows, tail-all, tail-some, thing-grows}
-use Rattle.abt_workload.proofs.Places.{and-left, and-right, kinds, not-false, or-left, or-right}
-use Rattle.abt_workload.proofs.Proper.{HasMains, HasObjects, HasPools, HasScheds, HasStreams, HasUnits, IsAccessIn, IsInOrder, IsProper, IsSchedIn, IsThingIn, IsUnitIn, counted, idle, no-pair, none-of, op_count, stream_count, takes_all, unit_count}
+use Rattle.abt_workload.proofs.Growing.{access-grows, all-and, any-none, empty-of, get-and, get-replicate, get-set, main-none, no-units, not-among, once-pairs, pairs-set, sched-grows, tail-all, tail-some, thing-grows}
+use Rattle.abt_workload.proofs.Places.{and-left, and-right, not-false, or-left, or-right}
+use Rattle.abt_workload.proofs.Proper.{IsAccessIn, IsProper, IsSchedIn, IsThingIn, stream_count, takes_all}
 use Rattle.abt_workload.proofs.Soundness.{IsSound}
-
 
 access-in : {a : Above} {line : Text} {words : List Text} (x : Access) → IsSound a line words (form.Pool x) → IsAccessIn (stream_count a) (access_with x (values_of (form.Pool x) words))
 access-in (access.Priv x) s = lt-from _ _ (there-at (form.Pool (access.Priv x)) s 1 number.Stream refl)
@@ -80,6 +68,7 @@ sched-in {a} {line} {words} r s =
     listed-there rule.Prio t = tail-all (is_there a) (slots (form.Sched rule.Prio)) words t.form_fits refl t.there
     listed-there (rule.Randws n) t = tail-all (is_there a) (slots (form.Sched (rule.Randws n))) words t.form_fits refl t.there
     listed-there (rule.User n) t = tail-all (is_there a) (slots (form.Sched (rule.User n))) words t.form_fits refl t.there
+
     rule-in : (q : Rule) → IsSound a line words (form.Sched q) → IsRule (rule_with q (values_of (form.Sched q) words))
     rule-in rule.Basic t = tt
     rule-in rule.Prio t = tt
@@ -110,13 +99,29 @@ module _ {a : Above} {line : Text} {words : List Text} (h : IsProper a) where
   keeps-version s =
       let le = after-single form.Version s refl in
       record {
-        streams = h.streams; keys = h.keys; pools = h.pools; scheds = h.scheds; mains = h.mains; places = h.places;
-        objects = h.objects; units = h.units; said = h.said; words = h.words; few_words = h.few_words;
+        streams = h.streams;
+        keys = h.keys;
+        pools = h.pools;
+        scheds = h.scheds;
+        mains = h.mains;
+        places = h.places;
+        objects = h.objects;
+        units = h.units;
+        said = h.said;
+        words = h.words;
+        few_words = h.few_words;
         order = record {
-          no_streams = λ lt. h.order.no_streams (omega arith); no_keys = λ lt. h.order.no_keys (omega arith); no_mains = λ lt. h.order.no_mains (omega arith);
-          no_units = λ lt. h.order.no_units (omega arith); no_last = λ lt. h.order.no_last (omega arith); no_count = λ lt. h.order.no_count (omega arith);
-          has_streams = λ lt. absurd (omega arith); has_pools = λ lt. absurd (omega arith); has_mains = λ lt. absurd (omega arith);
-          has_count = λ lt. absurd (omega arith); has_units = λ lt. absurd (omega arith);
+          no_streams = λ lt. h.order.no_streams (omega arith);
+          no_keys = λ lt. h.order.no_keys (omega arith);
+          no_mains = λ lt. h.order.no_mains (omega arith);
+          no_units = λ lt. h.order.no_units (omega arith);
+          no_last = λ lt. h.order.no_last (omega arith);
+          no_count = λ lt. h.order.no_count (omega arith);
+          has_streams = λ lt. absurd (omega arith);
+          has_pools = λ lt. absurd (omega arith);
+          has_mains = λ lt. absurd (omega arith);
+          has_count = λ lt. absurd (omega arith);
+          has_units = λ lt. absurd (omega arith);
         };
       }
 
@@ -140,12 +145,21 @@ module _ {a : Above} {line : Text} {words : List Text} (h : IsProper a) where
         places = subst (λ (gs : List SchedNo). AllPairs (λ x y. x ≢ y) (map (λ (g : SchedNo). g.0) gs ++ U)) mains_same h.places;
         objects = h.objects;
         units = no-units _ _ _ _ (h.order.no_units (omega arith)) (h.order.no_last (omega arith)) h.units.few;
-        said = h.said; words = h.words; few_words = h.few_words;
+        said = h.said;
+        words = h.words;
+        few_words = h.few_words;
         order = record {
-          no_streams = λ lt. absurd (omega arith); no_keys = λ lt. h.order.no_keys (omega arith); no_mains = λ lt t g e. get-replicate n t g e;
-          no_units = λ lt. h.order.no_units (omega arith); no_last = λ lt. h.order.no_last (omega arith); no_count = λ lt. h.order.no_count (omega arith);
-          has_streams = λ lt. absurd (omega arith); has_pools = λ lt. absurd (omega arith); has_mains = λ lt. absurd (omega arith);
-          has_count = λ lt. absurd (omega arith); has_units = λ lt. absurd (omega arith);
+          no_streams = λ lt. absurd (omega arith);
+          no_keys = λ lt. h.order.no_keys (omega arith);
+          no_mains = λ lt t g e. get-replicate n t g e;
+          no_units = λ lt. h.order.no_units (omega arith);
+          no_last = λ lt. h.order.no_last (omega arith);
+          no_count = λ lt. h.order.no_count (omega arith);
+          has_streams = λ lt. absurd (omega arith);
+          has_pools = λ lt. absurd (omega arith);
+          has_mains = λ lt. absurd (omega arith);
+          has_count = λ lt. absurd (omega arith);
+          has_units = λ lt. absurd (omega arith);
         };
       }
 
@@ -154,15 +168,29 @@ module _ {a : Above} {line : Text} {words : List Text} (h : IsProper a) where
       let le = after-single form.Keys s refl in
       let w = within-at form.Keys s 0 0 16 refl in
       record {
-        streams = h.streams; keys = le-from _ 16 (and-right (nat_le 0 (at (values_of form.Keys words) 0)) _ w); pools = h.pools; scheds = h.scheds; mains = h.mains; places = h.places;
+        streams = h.streams;
+        keys = le-from _ 16 (and-right (nat_le 0 (at (values_of form.Keys words) 0)) _ w);
+        pools = h.pools;
+        scheds = h.scheds;
+        mains = h.mains;
+        places = h.places;
         objects = h.objects;
         units = no-units _ _ _ _ (h.order.no_units (omega arith)) (h.order.no_last (omega arith)) h.units.few;
-        said = h.said; words = h.words; few_words = h.few_words;
+        said = h.said;
+        words = h.words;
+        few_words = h.few_words;
         order = record {
-          no_streams = λ lt. absurd (omega arith); no_keys = λ lt. absurd (omega arith); no_mains = λ lt. h.order.no_mains (omega arith);
-          no_units = λ lt. h.order.no_units (omega arith); no_last = λ lt. h.order.no_last (omega arith); no_count = λ lt. h.order.no_count (omega arith);
-          has_streams = λ lt. s.early; has_pools = λ lt. absurd (omega arith); has_mains = λ lt. absurd (omega arith);
-          has_count = λ lt. absurd (omega arith); has_units = λ lt. absurd (omega arith);
+          no_streams = λ lt. absurd (omega arith);
+          no_keys = λ lt. absurd (omega arith);
+          no_mains = λ lt. h.order.no_mains (omega arith);
+          no_units = λ lt. h.order.no_units (omega arith);
+          no_last = λ lt. h.order.no_last (omega arith);
+          no_count = λ lt. h.order.no_count (omega arith);
+          has_streams = λ lt. s.early;
+          has_pools = λ lt. absurd (omega arith);
+          has_mains = λ lt. absurd (omega arith);
+          has_count = λ lt. absurd (omega arith);
+          has_units = λ lt. absurd (omega arith);
         };
       }
 
@@ -172,18 +200,29 @@ module _ {a : Above} {line : Text} {words : List Text} (h : IsProper a) where
       let few = lt-not 64 (length a.pools) s.limit in
       let grown : length (a.pools ++ pool_with x words (values_of (form.Pool x) words) ∷ []) ≡ length a.pools + 1 = length-append a.pools _ in
       record {
-        streams = h.streams; keys = h.keys;
+        streams = h.streams;
+        keys = h.keys;
         pools = record { few = omega arith; all = all-and (λ (part : PoolPart). IsAccessIn (stream_count a) part.access) a.pools _ h.pools.all (access-in x s) };
         scheds = record { few = h.scheds.few; all = λ k d lt. sched-grows (length a.pools) _ (omega arith) _ (h.scheds.all k d lt) };
         mains = record { count = h.mains.count; there = h.mains.there; taking = λ t g e. absurd (h.order.no_mains (omega arith) t g e) };
-        places = h.places; objects = h.objects;
+        places = h.places;
+        objects = h.objects;
         units = no-units _ _ _ _ (h.order.no_units (omega arith)) (h.order.no_last (omega arith)) h.units.few;
-        said = h.said; words = h.words; few_words = h.few_words;
+        said = h.said;
+        words = h.words;
+        few_words = h.few_words;
         order = record {
-          no_streams = λ lt. absurd (omega arith); no_keys = λ lt. absurd (omega arith); no_mains = λ lt. h.order.no_mains (omega arith);
-          no_units = λ lt. h.order.no_units (omega arith); no_last = λ lt. h.order.no_last (omega arith); no_count = λ lt. h.order.no_count (omega arith);
-          has_streams = λ lt. s.early; has_pools = λ lt. absurd (omega arith); has_mains = λ lt. absurd (omega arith);
-          has_count = λ lt. absurd (omega arith); has_units = λ lt. absurd (omega arith);
+          no_streams = λ lt. absurd (omega arith);
+          no_keys = λ lt. absurd (omega arith);
+          no_mains = λ lt. h.order.no_mains (omega arith);
+          no_units = λ lt. h.order.no_units (omega arith);
+          no_last = λ lt. h.order.no_last (omega arith);
+          no_count = λ lt. h.order.no_count (omega arith);
+          has_streams = λ lt. s.early;
+          has_pools = λ lt. absurd (omega arith);
+          has_mains = λ lt. absurd (omega arith);
+          has_count = λ lt. absurd (omega arith);
+          has_units = λ lt. absurd (omega arith);
         };
       }
 
@@ -193,17 +232,29 @@ module _ {a : Above} {line : Text} {words : List Text} (h : IsProper a) where
       let few = lt-not 64 (length a.scheds) (or-left (nat_le 64 (length a.scheds)) _ s.limit) in
       let grown : length (a.scheds ++ sched_with r (values_of (form.Sched r) words) ∷ []) ≡ length a.scheds + 1 = length-append a.scheds _ in
       record {
-        streams = h.streams; keys = h.keys; pools = h.pools;
+        streams = h.streams;
+        keys = h.keys;
+        pools = h.pools;
         scheds = record { few = omega arith; all = all-and (IsSchedIn (length a.pools)) a.scheds _ h.scheds.all (sched-in r s) };
         mains = record { count = h.mains.count; there = λ t g e. absurd (h.order.no_mains (omega arith) t g e); taking = λ t g e. absurd (h.order.no_mains (omega arith) t g e) };
-        places = h.places; objects = h.objects;
+        places = h.places;
+        objects = h.objects;
         units = no-units _ _ _ _ (h.order.no_units (omega arith)) (h.order.no_last (omega arith)) h.units.few;
-        said = h.said; words = h.words; few_words = h.few_words;
+        said = h.said;
+        words = h.words;
+        few_words = h.few_words;
         order = record {
-          no_streams = λ lt. absurd (omega arith); no_keys = λ lt. absurd (omega arith); no_mains = λ lt. h.order.no_mains (omega arith);
-          no_units = λ lt. h.order.no_units (omega arith); no_last = λ lt. h.order.no_last (omega arith); no_count = λ lt. h.order.no_count (omega arith);
-          has_streams = λ lt. s.early; has_pools = λ lt. absurd (omega arith); has_mains = λ lt. absurd (omega arith);
-          has_count = λ lt. absurd (omega arith); has_units = λ lt. absurd (omega arith);
+          no_streams = λ lt. absurd (omega arith);
+          no_keys = λ lt. absurd (omega arith);
+          no_mains = λ lt. h.order.no_mains (omega arith);
+          no_units = λ lt. h.order.no_units (omega arith);
+          no_last = λ lt. h.order.no_last (omega arith);
+          no_count = λ lt. h.order.no_count (omega arith);
+          has_streams = λ lt. s.early;
+          has_pools = λ lt. absurd (omega arith);
+          has_mains = λ lt. absurd (omega arith);
+          has_count = λ lt. absurd (omega arith);
+          has_units = λ lt. absurd (omega arith);
         };
       }
 
@@ -218,25 +269,40 @@ module _ {a : Above} {line : Text} {words : List Text} (h : IsProper a) where
       let free : slice_get a.mains t ≡ Some None = main-none a.mains t (let c = h.mains.count in omega arith) (or-left (has_main a t) _ s.once) in
       let out = not-among (placed_scheds (parts_of a)) g (or-right (has_main a t) _ s.once) in
       record {
-        streams = h.streams; keys = h.keys; pools = h.pools; scheds = h.scheds;
+        streams = h.streams;
+        keys = h.keys;
+        pools = h.pools;
+        scheds = h.scheds;
         mains = record {
           count = length-set a.mains t _ ∙ h.mains.count;
           there = λ u k e. there-by u k (get-set a.mains t u (sched_no g) k e) sched;
           taking = λ u k e. taking-by u k (get-set a.mains t u (sched_no g) k e) takes';
         };
         places = pairs-set a.mains _ t (sched_no g) free out h.places;
-        objects = h.objects; units = h.units; said = h.said; words = h.words; few_words = h.few_words;
+        objects = h.objects;
+        units = h.units;
+        said = h.said;
+        words = h.words;
+        few_words = h.few_words;
         order = record {
-          no_streams = λ lt. absurd (omega arith); no_keys = λ lt. absurd (omega arith); no_mains = λ lt. absurd (omega arith);
-          no_units = λ lt. h.order.no_units (omega arith); no_last = λ lt. h.order.no_last (omega arith); no_count = λ lt. h.order.no_count (omega arith);
-          has_streams = λ lt. s.early; has_pools = λ lt. absurd (omega arith); has_mains = λ lt. absurd (omega arith);
-          has_count = λ lt. absurd (omega arith); has_units = λ lt. absurd (omega arith);
+          no_streams = λ lt. absurd (omega arith);
+          no_keys = λ lt. absurd (omega arith);
+          no_mains = λ lt. absurd (omega arith);
+          no_units = λ lt. h.order.no_units (omega arith);
+          no_last = λ lt. h.order.no_last (omega arith);
+          no_count = λ lt. h.order.no_count (omega arith);
+          has_streams = λ lt. s.early;
+          has_pools = λ lt. absurd (omega arith);
+          has_mains = λ lt. absurd (omega arith);
+          has_count = λ lt. absurd (omega arith);
+          has_units = λ lt. absurd (omega arith);
         };
       }
     where
       there-by : {t g : ℕ} (u : ℕ) (k : SchedNo) → ((u ≡ t) × (sched_no g ≡ k)) ⊎ (slice_get a.mains u ≡ Some (Some k)) → g < length a.scheds → k.0 < length a.scheds
       there-by u k (inl x) lt = subst (λ (q : SchedNo). q.0 < length a.scheds) x.1 lt
       there-by u k (inr x) lt = h.mains.there u k x
+
       taking-by : {t g : ℕ} (u : ℕ) (k : SchedNo) → ((u ≡ t) × (sched_no g ≡ k)) ⊎ (slice_get a.mains u ≡ Some (Some k)) → takes_all a.pools a.scheds t g ≡ true → takes_all a.pools a.scheds u k.0 ≡ true
       taking-by {t} {g} u k (inl x) e = subst (λ (v : ℕ). takes_all a.pools a.scheds v k.0 ≡ true) (sym x.0) (subst (λ (q : SchedNo). takes_all a.pools a.scheds t q.0 ≡ true) x.1 e)
       taking-by {t} {g} u k (inr x) e = h.mains.taking u k x
@@ -248,15 +314,29 @@ module _ {a : Above} {line : Text} {words : List Text} (h : IsProper a) where
       let new : Thing = thing_with x words (values_of (form.Object x) words) in
       let grown : length (a.objects ++ new ∷ []) ≡ length a.objects + 1 = length-append a.objects _ in
       record {
-        streams = h.streams; keys = h.keys; pools = h.pools; scheds = h.scheds; mains = h.mains; places = h.places;
+        streams = h.streams;
+        keys = h.keys;
+        pools = h.pools;
+        scheds = h.scheds;
+        mains = h.mains;
+        places = h.places;
         objects = record { few = omega arith; all = λ k t e. thing-grows a.objects new k t (thing-by new k t (get-and a.objects new k t e) (thing-in x s)) };
         units = no-units _ _ _ _ (h.order.no_units (omega arith)) (h.order.no_last (omega arith)) h.units.few;
-        said = h.said; words = h.words; few_words = h.few_words;
+        said = h.said;
+        words = h.words;
+        few_words = h.few_words;
         order = record {
-          no_streams = λ lt. absurd (omega arith); no_keys = λ lt. absurd (omega arith); no_mains = λ lt. absurd (omega arith);
-          no_units = λ lt. h.order.no_units (omega arith); no_last = λ lt. h.order.no_last (omega arith); no_count = λ lt. h.order.no_count (omega arith);
-          has_streams = λ lt. s.early; has_pools = λ lt. absurd (omega arith); has_mains = λ lt. absurd (omega arith);
-          has_count = λ lt. absurd (omega arith); has_units = λ lt. absurd (omega arith);
+          no_streams = λ lt. absurd (omega arith);
+          no_keys = λ lt. absurd (omega arith);
+          no_mains = λ lt. absurd (omega arith);
+          no_units = λ lt. h.order.no_units (omega arith);
+          no_last = λ lt. h.order.no_last (omega arith);
+          no_count = λ lt. h.order.no_count (omega arith);
+          has_streams = λ lt. s.early;
+          has_pools = λ lt. absurd (omega arith);
+          has_mains = λ lt. absurd (omega arith);
+          has_count = λ lt. absurd (omega arith);
+          has_units = λ lt. absurd (omega arith);
         };
       }
     where
@@ -269,16 +349,29 @@ module _ {a : Above} {line : Text} {words : List Text} (h : IsProper a) where
       let le = after-single form.Units s refl in
       let w = within-at form.Units s 0 0 256 refl in
       record {
-        streams = h.streams; keys = h.keys; pools = h.pools; scheds = h.scheds; mains = h.mains; places = h.places; objects = h.objects;
+        streams = h.streams;
+        keys = h.keys;
+        pools = h.pools;
+        scheds = h.scheds;
+        mains = h.mains;
+        places = h.places;
+        objects = h.objects;
         units = no-units _ _ _ _ (h.order.no_units (omega arith)) (h.order.no_last (omega arith)) (le-from _ 256 (and-right (nat_le 0 (at (values_of form.Units words) 0)) _ w));
-        said = h.said; words = h.words; few_words = h.few_words;
+        said = h.said;
+        words = h.words;
+        few_words = h.few_words;
         order = record {
-          no_streams = λ lt. absurd (omega arith); no_keys = λ lt. absurd (omega arith); no_mains = λ lt. absurd (omega arith);
-          no_units = λ lt. h.order.no_units (omega arith); no_last = λ lt. h.order.no_last (omega arith); no_count = λ lt. absurd (omega arith);
+          no_streams = λ lt. absurd (omega arith);
+          no_keys = λ lt. absurd (omega arith);
+          no_mains = λ lt. absurd (omega arith);
+          no_units = λ lt. h.order.no_units (omega arith);
+          no_last = λ lt. h.order.no_last (omega arith);
+          no_count = λ lt. absurd (omega arith);
           has_streams = λ lt. or-left (is_none a.streams) _ (or-left _ (list_any is_none a.mains) s.early);
           has_pools = λ lt. some-length (length a.pools) (or-right (is_none a.streams) _ (or-left _ (list_any is_none a.mains) s.early));
           has_mains = λ lt. or-right (is_none a.streams || (length a.pools == 0)) _ s.early;
-          has_count = λ lt. refl; has_units = λ lt. absurd (omega arith);
+          has_count = λ lt. refl;
+          has_units = λ lt. absurd (omega arith);
         };
       }
     where

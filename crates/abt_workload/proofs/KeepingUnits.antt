@@ -1,60 +1,40 @@
 -- A sound line of a unit keeps what is declared proper.
-use Rattle.std.proofs.Common.{leb, append_assoc, codes, ◌≡◌, ◌≢◌, ◌<◌, ◌≤◌, ◌+◌, ◌-◌, ◌*◌, ◌^◌, ◌==◌, ◌&&◌, ◌||◌, ◌∙◌, ℕ, zero, suc, Bool, true, false, not, List, [], ◌∷◌, ◌++◌, All, Option, Some, None, IsTrue, ap, arith, drop, inl, inr, ◌⊎◌, flat_map, get_or, is_none, is_some, length, length-append, map, nat_le, nat_lt, option_to_list, option_map, refl, replicate, slice_get, slice_set, subst, sym, take, unwrap_or}
-use Rattle.std.specs.Bool.{⊤}
-use Rattle.std.specs.Option.{option_map_or}
-use Rattle.std.specs.List.{AllByRecursion, AllPairs, list_all, list_any, range_with_len, slice_split}
-use Rattle.std.proofs.lemmas.Bool.{eqb-false}
-use Rattle.std.proofs.lemmas.List.{append-nil, length-map, length-replicate, length-set}
+use Rattle.std.proofs.Common.{leb, append_assoc, codes, ◌≡◌, ◌≢◌, ◌<◌, ◌≤◌, ◌+◌, ◌*◌, ◌&&◌, ◌||◌, ◌∙◌, ℕ, zero, suc, true, false, List, [], ◌∷◌, ◌++◌, All, Option, Some, None, ap, arith, inl, inr, ◌⊎◌, flat_map, get_or, is_none, length, length-append, nat_le, nat_lt, option_to_list, option_map, refl, subst, sym}
+use Rattle.std.specs.List.{AllPairs, range_with_len}
+use Rattle.std.proofs.lemmas.List.{append-nil}
 use Rattle.std.proofs.lemmas.Bool.Decides.{leb_tells}
 use Rattle.std.proofs.lemmas.List.Quantifiers.{all_pairs_push}
-use Rattle.std.proofs.lemmas.List.Elements.{All-append}
-use Rattle.std.proofs.lemmas.Option.{slice_get_past, slice_get_within}
-use Rattle.abt_machine.specs.declared.grammar.Form.{Form}
 use Rattle.abt_machine.specs.declared.grammar.Form.TheVariants as form
-use Rattle.abt_machine.specs.declared.grammar.Number.{Number}
 use Rattle.abt_machine.specs.declared.grammar.Number.TheVariants as number
 use Rattle.abt_machine.specs.declared.numbers.PoolNo.{PoolNo}
-use Rattle.abt_machine.specs.declared.numbers.SchedNo.{SchedNo}
 use Rattle.abt_machine.specs.declared.operations.Body.{Body}
 use Rattle.abt_machine.specs.declared.operations.Body.TheVariants as body
-use Rattle.abt_machine.specs.declared.operations.Access.{Access}
-use Rattle.abt_machine.specs.declared.operations.Access.TheVariants as access
 use Rattle.abt_machine.specs.declared.grammar.Role.{Role}
 use Rattle.abt_machine.specs.declared.grammar.Role.TheVariants as role
 use Rattle.abt_machine.specs.declared.operations.Op.{Op}
 use Rattle.abt_machine.specs.declared.operations.Op.TheVariants as op
-use Rattle.abt_machine.specs.declared.operations.Rule.{Rule}
-use Rattle.abt_machine.specs.declared.operations.Rule.TheVariants as rule
-use Rattle.abt_machine.specs.declared.operations.Thing.{Thing}
-use Rattle.abt_machine.specs.declared.operations.Thing.TheVariants as thing
 use Rattle.abt_machine.specs.declared.workload.Parts.{Parts}
-use Rattle.abt_machine.specs.declared.workload.PoolPart.{PoolPart}
-use Rattle.abt_machine.specs.declared.workload.SchedPart.{SchedPart}
 use Rattle.abt_machine.specs.declared.workload.UnitPart.{UnitPart}
-use Rattle.abt_machine.specs.Declaring.{Above, body_and, body_with, unit_with, unit_and, op_with, said_in, access_with, at, declared_units, declared_with, listed, word_in, parts_of, pool_with, rule_with, sched_with, thing_with}
-use Rattle.abt_machine.specs.Numbers.{pool_no, sched_no}
-use Rattle.abt_machine.specs.Valid.{IsWord, words_said, IsRule, placed_scheds, sched_in}
-use Rattle.abt_machine.specs.Faults.{is_long, is_task, takes_operations, is_task_body, has_main, has_repeated, is_early, is_there, is_twice, values_of}
-use Rattle.abt_machine.specs.Forms.{Slot, Fixed, KindWord, CombineWord, AnyWord, Numeral, PoolList, op_slots, fits, numerals, slots, suits}
+use Rattle.abt_machine.specs.Declaring.{Above, body_and, body_with, unit_with, unit_and, op_with, said_in, at, declared_units, word_in, parts_of}
+use Rattle.abt_machine.specs.Valid.{IsWord, placed_scheds, sched_in}
+use Rattle.abt_machine.specs.Faults.{is_long, is_task, takes_operations, is_task_body, values_of}
+use Rattle.abt_machine.specs.Forms.{Fixed, op_slots, fits, suits}
 use Rattle.abt_machine.specs.Operations.{IsDeclared, may_block, said_by}
-use Rattle.abt_machine.specs.Spelling.{has_control, is_empty, is_separator, value_of, words_of}
+use Rattle.abt_machine.specs.Spelling.{is_empty, words_of}
 use Rattle.abt_machine.specs.Workloads.{is_sched, ops_of}
 use Rattle.std.proofs.lemmas.Grind.{flat_map-append}
 use Rattle.std.proofs.lemmas.List.Folds.{list_any-append}
 use Rattle.abt_machine.specs.Words.{Text}
 use Rattle.abt_workload.specs.Declarable.{with_line}
-use Rattle.abt_workload.specs.Slots.{numbered, values}
-use Rattle.abt_workload.proofs.Bounds.{at-home, after-section, after-single, le-from, le-not, lt-from, lt-not, mutex-there, there-at, within-at}
-use Rattle.abt_workload.proofs.Naming.{any-fits, declared-op, still-declared}
+use Rattle.abt_workload.proofs.Bounds.{at-home, after-section, le-not, lt-from, lt-not, there-at}
+use Rattle.abt_workload.proofs.Naming.{declared-op, still-declared}
 use Rattle.abt_workload.proofs.LineWords.{words-some, words-utf8, words-visible}
 use Rattle.std.proofs.lemmas.Bool.{not-true}
 use Rattle.std.proofs.lemmas.Str.{IsUtf8-from_is_utf8}
-use Rattle.abt_workload.proofs.Growing.{access-grows, all-and, all-cons, all-head, all-one, all-tail, any-none, empty-of, ends_list, get-and, get-more, get-replicate, get-set, main-none, mains_list, no-units, not-among, once-pairs, pairs-set, sched-grows, tail-all, tail-some, thing-grows}
-use Rattle.abt_workload.proofs.Places.{and-left, and-right, kinds, not-false, or-left, or-right}
-use Rattle.abt_workload.proofs.Proper.{IsBodyIn, HasMains, HasObjects, HasPools, HasScheds, HasStreams, HasUnits, IsAccessIn, IsInOrder, IsProper, IsSchedIn, IsThingIn, IsUnitIn, counted, idle, no-pair, none-of, op_count, stream_count, takes_all, unit_count}
+use Rattle.abt_workload.proofs.Growing.{all-and, all-cons, all-head, all-tail, mains_list, not-among}
+use Rattle.abt_workload.proofs.Places.{and-right, not-false, or-left, or-right}
+use Rattle.abt_workload.proofs.Proper.{IsBodyIn, IsProper, IsUnitIn, counted, none-of, op_count, unit_count}
 use Rattle.abt_workload.proofs.Soundness.{IsSound}
-
-
 
 -- what the lines above say is there once units are declared
 some-none : (c : Option ℕ) → c ≡ None → is_none c ≡ false → ⊥
@@ -93,13 +73,29 @@ module _ {a : Above} {line : Text} {words : List Text} (h : IsProper a) where
       let count : is_none a.unit_count ≡ false = or-right (is_none a.streams) _ (or-left _ (nat_lt (declared_units a) (unit_count a)) s.early) in
       let at_least : 8 ≤ a.section = late h count in
       record {
-        streams = h.streams; keys = h.keys; pools = h.pools; scheds = h.scheds; mains = h.mains; places = h.places;
-        objects = h.objects; units = h.units; said = h.said; words = h.words; few_words = h.few_words;
+        streams = h.streams;
+        keys = h.keys;
+        pools = h.pools;
+        scheds = h.scheds;
+        mains = h.mains;
+        places = h.places;
+        objects = h.objects;
+        units = h.units;
+        said = h.said;
+        words = h.words;
+        few_words = h.few_words;
         order = record {
-          no_streams = λ lt. absurd (omega arith); no_keys = λ lt. absurd (omega arith); no_mains = λ lt. absurd (omega arith);
-          no_units = λ lt. absurd (omega arith); no_last = λ lt. absurd (omega arith); no_count = λ lt. absurd (omega arith);
-          has_streams = λ lt. streams; has_pools = λ lt. h.order.has_pools (omega arith); has_mains = λ lt. h.order.has_mains (omega arith);
-          has_count = λ lt. count; has_units = λ lt. le-not (declared_units a) (unit_count a) (or-right (is_none a.streams || is_none a.unit_count) _ s.early);
+          no_streams = λ lt. absurd (omega arith);
+          no_keys = λ lt. absurd (omega arith);
+          no_mains = λ lt. absurd (omega arith);
+          no_units = λ lt. absurd (omega arith);
+          no_last = λ lt. absurd (omega arith);
+          no_count = λ lt. absurd (omega arith);
+          has_streams = λ lt. streams;
+          has_pools = λ lt. h.order.has_pools (omega arith);
+          has_mains = λ lt. h.order.has_mains (omega arith);
+          has_count = λ lt. count;
+          has_units = λ lt. le-not (declared_units a) (unit_count a) (or-right (is_none a.streams || is_none a.unit_count) _ s.early);
         };
       }
 
@@ -116,6 +112,7 @@ module _ {a : Above} {line : Text} {words : List Text} (h : IsProper a) where
     where
       old : List ℕ
       old = flat_map (λ (part : UnitPart). sched_in part.body) (a.units ++ option_to_list a.last)
+
       by : (q : Role) (start : Option PoolNo) → IsSound a line words (form.Unit q start) → AllPairs (λ x y. x ≢ y) (mains_list a.mains ++ (old ++ (sched_in (body_with q (values_of (form.Unit q start) words)) ++ [])))
       by role.Ult t u = rw append-nil h.places
       by role.Task t u = rw append-nil h.places
@@ -136,7 +133,11 @@ module _ {a : Above} {line : Text} {words : List Text} (h : IsProper a) where
       let new_here : declared_units a ≤ at vals 0 = le-not _ _ (new-unit r start s) in
       let grown : length (a.units ++ option_to_list a.last) ≡ length a.units + length (option_to_list a.last) = length-append a.units _ in
       record {
-        streams = h.streams; keys = h.keys; pools = h.pools; scheds = h.scheds; mains = h.mains;
+        streams = h.streams;
+        keys = h.keys;
+        pools = h.pools;
+        scheds = h.scheds;
+        mains = h.mains;
         places = places-unit r start s;
         objects = h.objects;
         units = record { few = h.units.few; declared = omega arith; all = all-and (IsUnitIn (counted a)) (a.units ++ option_to_list a.last) _ h.units.all (unit-in r start s) };
@@ -144,10 +145,17 @@ module _ {a : Above} {line : Text} {words : List Text} (h : IsProper a) where
         words = h.words;
         few_words = words-by a.last refl;
         order = record {
-          no_streams = λ lt. absurd (omega arith); no_keys = λ lt. absurd (omega arith); no_mains = λ lt. absurd (omega arith);
-          no_units = λ lt. absurd (omega arith); no_last = λ lt. absurd (omega arith); no_count = λ lt. absurd (omega arith);
-          has_streams = λ lt. streams; has_pools = λ lt. h.order.has_pools (omega arith); has_mains = λ lt. h.order.has_mains (omega arith);
-          has_count = λ lt. count; has_units = λ lt. absurd (omega arith);
+          no_streams = λ lt. absurd (omega arith);
+          no_keys = λ lt. absurd (omega arith);
+          no_mains = λ lt. absurd (omega arith);
+          no_units = λ lt. absurd (omega arith);
+          no_last = λ lt. absurd (omega arith);
+          no_count = λ lt. absurd (omega arith);
+          has_streams = λ lt. streams;
+          has_pools = λ lt. h.order.has_pools (omega arith);
+          has_mains = λ lt. h.order.has_mains (omega arith);
+          has_count = λ lt. count;
+          has_units = λ lt. absurd (omega arith);
         };
       }
     where
@@ -155,6 +163,7 @@ module _ {a : Above} {line : Text} {words : List Text} (h : IsProper a) where
       new-unit role.Ult t u = u.once
       new-unit role.Task t u = u.once
       new-unit role.Sched t u = or-left (nat_lt (at (values_of (form.Unit role.Sched t) words) 0) (declared_units a)) _ u.once
+
       words-by : (last : Option UnitPart) → a.last ≡ last → length a.words ≤ 256 * length (a.units ++ option_to_list a.last) + op_count (Some (unit_with r start (values_of (form.Unit r start) words)))
       words-by None is =
           let few : length a.words ≤ 256 * length a.units + 0 = subst (λ (l : Option UnitPart). length a.words ≤ 256 * length a.units + op_count l) is h.few_words in
@@ -294,9 +303,13 @@ module _ {a : Above} {line : Text} {words : List Text} (h : IsProper a) (ew : wo
           let ops : length (ops_of (body_and p part.body)) ≡ length (ops_of part.body) + 1 = ap length (body-ops p part.body takes') ∙ length-append (ops_of part.body) (p ∷ []) in
           let grows : All (IsUnitIn (record (counted a) { words = a.words ++ more })) (a.units ++ part ∷ []) = λ k d lt. unit-grows (counted a) more _ (all k d lt) in
           let new : IsUnitIn (record (counted a) { words = a.words ++ more }) (unit_and p part) =
-                unit-more (record (counted a) { words = a.words ++ more }) o p part (last-of (IsUnitIn (record (counted a) { words = a.words ++ more })) a.units part grows) takes' (same-blocks o (length a.words) vals) task short (declared-op o s) in
+          unit-more (record (counted a) { words = a.words ++ more }) o p part (last-of (IsUnitIn (record (counted a) { words = a.words ++ more })) a.units part grows) takes' (same-blocks o (length a.words) vals) task short (declared-op o s) in
           let proper : IsProper (record a { last = Some (unit_and p part); words = a.words ++ more; section = 9; begun = true }) = record {
-            streams = h.streams; keys = h.keys; pools = h.pools; scheds = h.scheds; mains = h.mains;
+            streams = h.streams;
+            keys = h.keys;
+            pools = h.pools;
+            scheds = h.scheds;
+            mains = h.mains;
             places = subst (λ (gs : List ℕ). AllPairs (λ x y. x ≢ y) (mains_list a.mains ++ gs)) (sym (same-places p a.units part)) places;
             objects = h.objects;
             units = record { few = h.units.few; declared = units_declared; all = all-and (IsUnitIn (record (counted a) { words = a.words ++ more })) a.units (unit_and p part) (front-of (IsUnitIn (record (counted a) { words = a.words ++ more })) a.units part grows) new };
@@ -304,10 +317,17 @@ module _ {a : Above} {line : Text} {words : List Text} (h : IsProper a) (ew : wo
             words = words-in o s;
             few_words = omega arith;
             order = record {
-              no_streams = λ lt. absurd (omega arith); no_keys = λ lt. absurd (omega arith); no_mains = λ lt. absurd (omega arith);
-              no_units = λ lt. absurd (omega arith); no_last = λ lt. absurd (omega arith); no_count = λ lt. absurd (omega arith);
-              has_streams = λ lt. streams; has_pools = λ lt. h.order.has_pools (omega arith); has_mains = λ lt. h.order.has_mains (omega arith);
-              has_count = λ lt. count; has_units = λ lt. absurd (omega arith);
+              no_streams = λ lt. absurd (omega arith);
+              no_keys = λ lt. absurd (omega arith);
+              no_mains = λ lt. absurd (omega arith);
+              no_units = λ lt. absurd (omega arith);
+              no_last = λ lt. absurd (omega arith);
+              no_count = λ lt. absurd (omega arith);
+              has_streams = λ lt. streams;
+              has_pools = λ lt. h.order.has_pools (omega arith);
+              has_mains = λ lt. h.order.has_mains (omega arith);
+              has_count = λ lt. count;
+              has_units = λ lt. absurd (omega arith);
             };
           } in
           subst (λ (l : Option UnitPart). IsProper (record a { last = option_map (unit_and p) l; words = a.words ++ more; section = 9; begun = true })) (sym is) proper

@@ -1,6 +1,6 @@
 -- The words of a line.
-use Rattle.std.proofs.Common.{◌≡◌, ◌≢◌, ◌<◌, ◌≤◌, ◌+◌, ◌-◌, ◌==◌, ◌&&◌, ◌||◌, ◌∙◌, ℕ, zero, suc, Bool, true, false, not, List, [], ◌∷◌, All, IsUtf8, arith, cond, drop, filter, get_or, length, nat_lt, refl, subst, sym, take, eqb, ltb, length-drop, inl, inr, ◌⊎◌}
-use Rattle.std.specs.List.{list_any, onto_first, position_or_len, slice_split}
+use Rattle.std.proofs.Common.{◌≡◌, ◌≢◌, ◌<◌, ◌≤◌, ◌+◌, ◌==◌, ◌&&◌, ◌||◌, ℕ, zero, suc, Bool, true, false, not, List, [], ◌∷◌, All, IsUtf8, arith, drop, filter, get_or, length, nat_lt, refl, subst, sym, take, length-drop, inl, inr, ◌⊎◌}
+use Rattle.std.specs.List.{onto_first, position_or_len, slice_split}
 use Rattle.std.proofs.lemmas.Bool.{cases_order, eqb-false, eqb-true}
 use Rattle.std.proofs.lemmas.List.Elements.{All-filter}
 use Rattle.std.proofs.lemmas.List.Splits.{slice_split_first, slice_split_none}
@@ -80,6 +80,7 @@ parts-utf8 (suc n) line le u = by (cases_order (position_or_len is_separator lin
   where
     whole : length line ≤ position_or_len is_separator line → All IsUtf8 (slice_split is_separator line)
     whole past = subst (λ (ps : List Text). All IsUtf8 ps) (sym (slice_split_none is_separator line (λ k d lt. fails_before_first is_separator line k d (omega arith)))) (all-cons IsUtf8 line [] u (none-of _))
+
     by : (position_or_len is_separator line ≡ length line) ⊎ ((position_or_len is_separator line < length line) ⊎ (length line < position_or_len is_separator line))
         → ((rest : Text) → length rest ≤ n → IsUtf8 rest → All IsUtf8 (slice_split is_separator rest)) → All IsUtf8 (slice_split is_separator line)
     by (inl e) rec = whole (omega arith)

@@ -1,5 +1,5 @@
 -- What an operation names is declared.
-use Rattle.std.proofs.Common.{◌≡◌, ◌<◌, ◌≤◌, ◌+◌, ◌-◌, ◌^◌, ◌&&◌, ℕ, Bool, true, false, List, [], ◌∷◌, ◌++◌, All, arith, length, nat_le, refl, replicate, length-append}
+use Rattle.std.proofs.Common.{◌≡◌, ◌<◌, ◌-◌, ◌^◌, ℕ, true, List, ◌++◌, arith, length, nat_le, refl, length-append}
 use Rattle.std.proofs.lemmas.List.{length-replicate}
 use Rattle.std.specs.Bool.{⊤}
 use Rattle.abt_machine.specs.declared.grammar.Form.TheVariants as form
@@ -9,14 +9,14 @@ use Rattle.abt_machine.specs.declared.operations.Op.{Op}
 use Rattle.abt_machine.specs.declared.operations.Op.TheVariants as op
 use Rattle.abt_machine.specs.declared.workload.Parts.{Parts}
 use Rattle.abt_machine.specs.declared.workload.UnitPart.{UnitPart}
-use Rattle.abt_machine.specs.Declaring.{Above, declared_with, op_with, said_in}
+use Rattle.abt_machine.specs.Declaring.{Above, op_with, said_in}
 use Rattle.abt_machine.specs.Faults.{is_there, is_within, values_of}
 use Rattle.abt_machine.specs.Operations.{IsBarrier, IsDeclared, IsEventual, IsFuture, IsMutex}
 use Rattle.abt_machine.specs.Words.{Text}
 use Rattle.abt_machine.specs.Workloads.{IsCondition}
 use Rattle.abt_workload.proofs.Bounds.{barrier-there, condition-there, eventual-there, future-there, le-from, lt-from, mutex-there, there-at, within-at}
 use Rattle.abt_workload.proofs.Places.{and-right}
-use Rattle.abt_workload.proofs.Proper.{counted, idle, unit_count}
+use Rattle.abt_workload.proofs.Proper.{counted}
 use Rattle.abt_workload.proofs.Soundness.{IsSound}
 
 -- what a number names is declared in a workload

@@ -1,19 +1,13 @@
 -- What sound lines declare is part of a valid workload.
-use Rattle.std.proofs.Common.{◌≡◌, ◌≢◌, ◌<◌, ◌≤◌, ◌+◌, ◌*◌, ◌^◌, ◌==◌, ◌&&◌, ◌||◌, ◌∙◌, ℕ, zero, suc, Bool, true, false, not, List, [], ◌∷◌, ◌++◌, All, Option, Some, None, IsTrue, IsFalse, ap, arith, flat_map, get_or, is_none, length, map, option_to_list, option_map, refl, replicate, slice_get, slice_set, subst, sym, unwrap_or}
+use Rattle.std.proofs.Common.{◌≡◌, ◌≢◌, ◌<◌, ◌≤◌, ◌+◌, ◌*◌, ℕ, Bool, true, false, List, [], ◌++◌, All, Option, Some, None, IsFalse, arith, is_none, length, map, option_to_list, refl, replicate, slice_get, unwrap_or}
 use Rattle.std.specs.Bool.{⊤}
 use Rattle.std.specs.List.{AllPairs, list_all, list_any, range_with_len}
-use Rattle.abt_machine.specs.declared.grammar.Form.{Form}
-use Rattle.abt_machine.specs.declared.grammar.Form.TheVariants as form
 use Rattle.abt_machine.specs.declared.numbers.PoolNo.{PoolNo}
 use Rattle.abt_machine.specs.declared.numbers.SchedNo.{SchedNo}
 use Rattle.abt_machine.specs.declared.operations.Access.{Access}
 use Rattle.abt_machine.specs.declared.operations.Access.TheVariants as access
 use Rattle.abt_machine.specs.declared.operations.Body.{Body}
 use Rattle.abt_machine.specs.declared.operations.Body.TheVariants as body
-use Rattle.abt_machine.specs.declared.operations.Op.{Op}
-use Rattle.abt_machine.specs.declared.operations.Op.TheVariants as op
-use Rattle.abt_machine.specs.declared.operations.Rule.{Rule}
-use Rattle.abt_machine.specs.declared.operations.Rule.TheVariants as rule
 use Rattle.abt_machine.specs.declared.operations.Thing.{Thing}
 use Rattle.abt_machine.specs.declared.operations.Thing.TheVariants as thing
 use Rattle.abt_machine.specs.declared.workload.Parts.{Parts}
@@ -21,10 +15,9 @@ use Rattle.abt_machine.specs.declared.workload.PoolPart.{PoolPart}
 use Rattle.abt_machine.specs.declared.workload.SchedPart.{SchedPart}
 use Rattle.abt_machine.specs.declared.workload.UnitPart.{UnitPart}
 use Rattle.abt_machine.specs.Access.{takes}
-use Rattle.abt_machine.specs.Declaring.{Above, at, declared_units, declared_with, nothing, parts_of}
+use Rattle.abt_machine.specs.Declaring.{Above, declared_units, nothing, parts_of}
 use Rattle.abt_machine.specs.Operations.{IsDeclared, may_block}
 use Rattle.abt_machine.specs.Valid.{IsRule, IsWord, placed_scheds, words_said}
-use Rattle.abt_machine.specs.Words.{Text}
 use Rattle.abt_machine.specs.Workloads.{access_from, ops_of, pools_from}
 
 abbrev pub stream_count : Above → ℕ

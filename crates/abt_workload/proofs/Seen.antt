@@ -1,14 +1,12 @@
 -- Lines that are taken one after the other.
-use Rattle.std.proofs.Common.{◌≡◌, ◌≢◌, ◌<◌, ◌≤◌, ◌+◌, ◌==◌, ◌&&◌, ◌∙◌, ℕ, zero, suc, Bool, true, false, not, List, [], ◌∷◌, ◌++◌, length, take, drop, get_or, find, Option, Some, None, arith, refl, sym, ap, add-one, fold, length-drop, if◌then◌else◌, nat_lt, nat_eq, eqb, ltb, rules, tests, subst, inl, inr, ◌⊎◌}
+use Rattle.std.proofs.Common.{◌≡◌, ◌<◌, ◌≤◌, ◌+◌, ◌==◌, ◌&&◌, ◌∙◌, ℕ, zero, suc, Bool, true, false, List, [], ◌∷◌, ◌++◌, length, take, drop, get_or, find, Option, Some, None, arith, refl, sym, ap, add-one, fold, length-drop, if◌then◌else◌, nat_lt, rules, tests, subst, inl, inr, ◌⊎◌}
 use Rattle.std.proofs.lemmas.Bool.{cases_order, lt-ltb}
-use Rattle.std.proofs.lemmas.Bool.Decides.{eqb_tells}
 use Rattle.std.proofs.lemmas.List.{take_all, take_more}
 use Rattle.abt_machine.specs.declared.program.Fault.{Fault}
 use Rattle.abt_machine.specs.declared.program.Fault.TheVariants as fault
-use Rattle.abt_machine.specs.declared.workload.Parts.{Parts}
-use Rattle.abt_machine.specs.Declaring.{Above, nothing, parts_of}
+use Rattle.abt_machine.specs.Declaring.{Above, nothing}
 use Rattle.abt_machine.specs.Faults.{faults, line_fault, line_has}
-use Rattle.abt_machine.specs.Grammar.{Reads, Refuses, and_line, declared_by, ends_early, fault_at, has_at, has_fault, is_too_long}
+use Rattle.abt_machine.specs.Grammar.{Refuses, and_line, declared_by, ends_early, fault_at, has_at}
 use Rattle.abt_machine.specs.Spelling.{lines_of}
 use Rattle.abt_machine.specs.Words.{Text}
 
@@ -131,6 +129,7 @@ faultless-end L n a en at least ended i = by (cases_order i (length L))
   where
     ended' : ((declared_by L).section == 10) ≡ true
     ended' = ap (λ (b : Above). b.section == 10) (sym at) ∙ ended
+
     by : (i ≡ length L) ⊎ ((i < length L) ⊎ (length L < i)) → find (has_at L i) faults ≡ None
     by (inl e) = ap (λ (j : ℕ). find (has_at L j) faults) e ∙ (fault-after L ∙ ap after-by ended')
     by (inr (inl lt)) = least i (omega arith)

@@ -1,12 +1,12 @@
 -- What is known of a line without a fault.
-use Rattle.std.proofs.Common.{◌≡◌, ◌<◌, ◌∙◌, ◌||◌, ℕ, zero, suc, Bool, true, false, not, List, [], ◌∷◌, Option, Some, None, ap, cond, find, get_or, is_none, length, refl, subst, sym, arith}
+use Rattle.std.proofs.Common.{◌≡◌, ◌<◌, ◌∙◌, ℕ, zero, suc, Bool, true, false, not, List, [], ◌∷◌, Option, Some, None, ap, cond, find, get_or, length, refl, subst, sym, arith}
 use Rattle.std.specs.List.{list_all}
 use Rattle.std.specs.Str.{is_utf8}
 use Rattle.abt_machine.specs.declared.grammar.Form.{Form}
 use Rattle.abt_machine.specs.declared.program.Fault.{Fault}
 use Rattle.abt_machine.specs.declared.program.Fault.TheVariants as fault
 use Rattle.abt_machine.specs.Declaring.{Above}
-use Rattle.abt_machine.specs.Faults.{blocks_task, faults, has, is_barred, is_early, is_misplaced, is_no_version, is_past_limit, is_there, is_twice, is_within, numbers_of, of_form, values_of}
+use Rattle.abt_machine.specs.Faults.{blocks_task, faults, has, is_barred, is_early, is_misplaced, is_no_version, is_past_limit, is_there, is_twice, is_within, numbers_of, values_of}
 use Rattle.abt_machine.specs.Forms.{fits, form_of, forms, numerals, slots}
 use Rattle.abt_machine.specs.Spelling.{has_control, is_number}
 use Rattle.abt_machine.specs.Words.{Text}

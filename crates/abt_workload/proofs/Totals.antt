@@ -1,52 +1,36 @@
 -- What is written for lines is no longer than they are.
-use Rattle.std.proofs.Common.{inl, inr, ◌⊎◌, unwrap_or, ◌≡◌, ◌≢◌, ◌<◌, ◌≤◌, ◌+◌, ◌-◌, ◌^◌, ◌==◌, ◌&&◌, ◌||◌, ◌∙◌, ℕ, zero, suc, Bool, true, false, not, List, [], ◌∷◌, ◌++◌, Option, Some, None, ap, arith, bytes_eq, codes, cond, decimal, drop, length, length-append, map, nat_le, nat_lt, option_to_list, option_map, refl, replicate, slice_set, slice_get, subst, sym}
-use Rattle.std.specs.Cmp.Lexicographic.{same_text}
-use Rattle.std.specs.Fmt.{digits}
-use Rattle.std.specs.List.{list_all}
-use Rattle.std.specs.Option.{option_map_or}
-use Rattle.std.proofs.lemmas.Bool.{eqb-false, eqb-true, lt-ltb, not-true}
-use Rattle.std.proofs.lemmas.List.{append-nil}
+use Rattle.std.proofs.Common.{inl, inr, ◌⊎◌, unwrap_or, ◌≡◌, ◌<◌, ◌≤◌, ◌+◌, ◌∙◌, ℕ, false, List, [], ◌∷◌, ◌++◌, Option, Some, None, ap, arith, codes, decimal, length, length-append, nat_le, nat_lt, option_to_list, option_map, refl, replicate, slice_get}
 use Rattle.abt_machine.specs.declared.grammar.Form.{Form}
 use Rattle.abt_machine.specs.declared.grammar.Form.TheVariants as form
-use Rattle.abt_machine.specs.declared.grammar.Number.{Number}
 use Rattle.abt_machine.specs.declared.grammar.Number.TheVariants as number
 use Rattle.abt_machine.specs.declared.grammar.Role.{Role}
 use Rattle.abt_machine.specs.declared.grammar.Role.TheVariants as role
-use Rattle.abt_machine.specs.declared.numbers.PoolNo.{PoolNo}
-use Rattle.abt_machine.specs.declared.numbers.SchedNo.{SchedNo}
-use Rattle.abt_machine.specs.declared.operations.Access.{Access}
-use Rattle.abt_machine.specs.declared.operations.Access.TheVariants as access
 use Rattle.abt_machine.specs.declared.operations.Body.{Body}
 use Rattle.abt_machine.specs.declared.operations.Body.TheVariants as body
 use Rattle.abt_machine.specs.declared.operations.Op.{Op}
-use Rattle.abt_machine.specs.declared.operations.Op.TheVariants as op
 use Rattle.abt_machine.specs.declared.operations.Rule.{Rule}
-use Rattle.abt_machine.specs.declared.operations.Rule.TheVariants as rule
 use Rattle.abt_machine.specs.declared.operations.Thing.{Thing}
-use Rattle.abt_machine.specs.declared.operations.Thing.TheVariants as thing
 use Rattle.abt_machine.specs.declared.workload.PoolPart.{PoolPart}
 use Rattle.abt_machine.specs.declared.workload.SchedPart.{SchedPart}
 use Rattle.abt_machine.specs.declared.workload.UnitPart.{UnitPart}
-use Rattle.abt_machine.specs.Canonical.{start_words, body_words, combine_name, digit_of, keys_lines, kind_name, object_line, op_words, pool_line, sched_line, stream_line}
-use Rattle.abt_machine.specs.Declaring.{Above, body_with, at, body_and, combine_named, declared_units, kind_named, listed, op_with, parts_of, pool_with, said_in, sched_with, thing_with, unit_and, unit_with, word_in}
-use Rattle.abt_machine.specs.Faults.{has_main, is_there, is_twice, is_within, takes_operations, values_of}
-use Rattle.abt_machine.specs.Forms.{Slot, Fixed, KindWord, CombineWord, AnyWord, Numeral, PoolList, access_slots, fits, numerals, op_slots, slots, suits}
-use Rattle.abt_machine.specs.Numbers.{pool_no, sched_no}
+use Rattle.abt_machine.specs.Canonical.{start_words, body_words, object_line, pool_line, sched_line, stream_line}
+use Rattle.abt_machine.specs.Declaring.{Above, body_with, at, body_and, declared_units, op_with, pool_with, said_in, sched_with, thing_with, unit_and, unit_with}
+use Rattle.abt_machine.specs.Faults.{has_main, values_of}
+use Rattle.abt_machine.specs.Forms.{slots}
+use Rattle.abt_machine.specs.Numbers.{sched_no}
 use Rattle.abt_machine.specs.Words.{Text}
 use Rattle.abt_machine.specs.Workloads.{is_sched, ops_of}
 use Rattle.abt_workload.specs.Declarable.{with_line}
-use Rattle.abt_workload.specs.Slots.{numbered, values}
-use Rattle.abt_workload.proofs.Bounds.{after-section, after-single, at-home, le-from, le-not, lt-from, there-at, within-at}
-use Rattle.abt_workload.proofs.Costs.{bare, bytes-append, bytes_of, cost, cost-cons, cost-weight, cost_all, header, lines-and, lines_from, mains-none, mains-set, mains_cost, op_cost, ops-and, ops_cost, some_words, units-and, units_cost}
-use Rattle.abt_workload.proofs.Growing.{empty-of, main-none, tail-some}
+use Rattle.abt_workload.proofs.Bounds.{after-section, after-single, at-home, le-from, le-not, lt-from, there-at}
+use Rattle.abt_workload.proofs.Costs.{bytes-append, cost, header, lines-and, mains-none, mains-set, mains_cost, op_cost, ops-and, ops_cost, units-and, units_cost}
+use Rattle.abt_workload.proofs.Growing.{main-none}
 use Rattle.abt_workload.proofs.Keeping.{listed-some}
 use Rattle.abt_workload.proofs.KeepingUnits.{body-ops, home}
-use Rattle.abt_workload.proofs.Places.{and-left, and-right, kinds, not-false, or-left, or-right}
+use Rattle.abt_workload.proofs.Places.{and-left, kinds, not-false, or-left}
 use Rattle.abt_workload.proofs.Proper.{IsProper, stream_count}
 use Rattle.abt_workload.proofs.Soundness.{IsSound}
 use Rattle.abt_workload.proofs.Measures.{count_cost, end_cost, light-end, light-keys, light-object, light-op, light-pool, light-sched, light-stream, light-streams, light-unit, light-units, light-version, not-ended, streams_cost, total, under-way, version_cost}
-use Rattle.abt_workload.proofs.Weights.{NoLonger, filled, lighter, weight}
-
+use Rattle.abt_workload.proofs.Weights.{weight}
 
 same-header : (k : ℕ) (o : Op) (part : UnitPart) → header k (unit_and o part) ≡ header k part
 same-header k o part = ap (λ (ws : List Text). codes "unit" ∷ decimal k ∷ ws ++ start_words part.start) (by part.body)

@@ -1,9 +1,8 @@
 -- Proper parts, all of which are declared, are those of a workload.
-use Rattle.std.proofs.Common.{◌≡◌, ◌≢◌, ◌<◌, ◌≤◌, ◌+◌, ◌==◌, ◌∙◌, ℕ, zero, suc, Bool, true, false, List, [], ◌∷◌, ◌++◌, All, Option, Some, None, ap, arith, flat_map, get_or, is_none, length, length-append, map, option_to_list, option_map, refl, replicate, slice_get, subst, sym, unwrap_or}
-use Rattle.std.specs.List.{list_all, list_any}
+use Rattle.std.proofs.Common.{◌≡◌, ◌≢◌, ◌<◌, ◌≤◌, ◌+◌, ◌==◌, ◌∙◌, ℕ, zero, suc, true, false, List, [], ◌∷◌, ◌++◌, All, Option, Some, None, ap, arith, flat_map, get_or, is_none, length, length-append, map, option_to_list, option_map, refl, replicate, slice_get, subst, sym, unwrap_or}
+use Rattle.std.specs.List.{list_any}
 use Rattle.std.proofs.lemmas.Bool.{eqb-true}
 use Rattle.std.proofs.lemmas.List.{length-map, length-replicate}
-use Rattle.std.proofs.lemmas.Option.{slice_get_within}
 use Rattle.abt_machine.specs.declared.numbers.PoolNo.{PoolNo}
 use Rattle.abt_machine.specs.declared.numbers.SchedNo.{SchedNo}
 use Rattle.abt_machine.specs.declared.operations.Access.{Access}
@@ -20,13 +19,12 @@ use Rattle.abt_machine.specs.declared.workload.PoolPart.{PoolPart}
 use Rattle.abt_machine.specs.declared.workload.SchedPart.{SchedPart}
 use Rattle.abt_machine.specs.declared.workload.UnitPart.{UnitPart}
 use Rattle.abt_machine.specs.Canonical.{canonical_text}
-use Rattle.abt_machine.specs.Declaring.{Above, declared_units, parts_of}
+use Rattle.abt_machine.specs.Declaring.{Above, parts_of}
 use Rattle.abt_machine.specs.Operations.{IsDeclared}
 use Rattle.abt_machine.specs.Valid.{IsAccess, IsBody, IsRule, IsScheduler, IsStream, IsThing, IsUnit, IsValid}
 use Rattle.abt_machine.specs.Workloads.{access_from, body_from, main_from, ops_of, pools_from, start_from}
 use Rattle.abt_workload.proofs.Growing.{all-head, all-tail}
 use Rattle.abt_workload.proofs.Naming.{others-declared}
-use Rattle.abt_workload.proofs.Places.{or-left, or-right}
 use Rattle.abt_workload.proofs.Proper.{IsAccessIn, IsBodyIn, IsProper, IsSchedIn, IsStartIn, IsThingIn, IsUnitIn, counted, idle, stream_count, takes_all, unit_count}
 
 -- Elements by number.
@@ -177,10 +175,13 @@ module _ (a : Above) (h : IsProper a) (ended : (a.section == 10) ≡ true) where
     where
       pool-by : (p : ℕ) → ((part : PoolPart) × (slice_get a.pools p ≡ Some part)) → IsAccess (parts_of a) (access_from (slice_get a.pools p))
       pool-by p (part, is) = subst (λ (o : Option PoolPart). IsAccess (parts_of a) (access_from o)) (sym is) (access-valid (parts_of a) part.access (all-get (λ (x : PoolPart). IsAccessIn (stream_count a) x.access) a.pools p part h.pools.all is))
+
       sched-some : 0 < length a.scheds
       sched-some = let m = (stream-valid 0 streams-some).main in omega (arith, m)
+
       sched-by : (g : ℕ) → ((part : SchedPart) × (slice_get a.scheds g ≡ Some part)) → IsScheduler (parts_of a) g
       sched-by g (part, is) = sched-valid (parts_of a) g part is (all-get (IsSchedIn (length a.pools)) a.scheds g part h.scheds.all is)
+
       unit-by : (u : ℕ) → ((part : UnitPart) × (slice_get (a.units ++ option_to_list a.last) u ≡ Some part)) → IsUnit (parts_of a) u
       unit-by u (part, is) =
           let i : IsUnitIn (counted a) part = all-get (IsUnitIn (counted a)) (a.units ++ option_to_list a.last) u part h.units.all is in

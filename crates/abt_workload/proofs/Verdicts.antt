@@ -1,5 +1,5 @@
 -- The first fault of a line, by the faults that it has.
-use Rattle.std.proofs.Common.{◌≡◌, ◌∙◌, ◌&&◌, ◌||◌, ℕ, Bool, true, false, not, List, [], ◌∷◌, Option, Some, None, find, map, refl, ap, sym, is_none, if◌then◌else◌}
+use Rattle.std.proofs.Common.{◌≡◌, ◌∙◌, ◌&&◌, ◌||◌, ℕ, Bool, true, false, not, List, [], ◌∷◌, Option, Some, None, find, refl, ap, sym, is_none, if◌then◌else◌}
 use Rattle.std.specs.Bool.{OnTrue}
 use Rattle.std.specs.List.{list_all, list_any}
 use Rattle.std.specs.Str.{is_utf8}
@@ -12,7 +12,7 @@ use Rattle.abt_machine.specs.declared.program.Fault.{Fault}
 use Rattle.abt_machine.specs.declared.program.Fault.TheVariants as fault
 use Rattle.abt_machine.specs.Declaring.{Above}
 use Rattle.abt_machine.specs.Faults.{faults, has, is_misplaced, is_no_version, is_unknown, numbers_of, of_form}
-use Rattle.abt_machine.specs.Forms.{Slot, PoolList, Fixed, begins, fits, form_of, forms, numerals, op_slots, slots, suits}
+use Rattle.abt_machine.specs.Forms.{Slot, PoolList, begins, fits, form_of, forms, numerals, op_slots, slots, suits}
 use Rattle.abt_machine.specs.Spelling.{has_control, is_number}
 use Rattle.abt_machine.specs.Words.{Text}
 use Rattle.abt_workload.specs.Judging.{HasForm, later_fault}

@@ -1,5 +1,5 @@
 -- How long a line is that is written with its words, and how long at least one is that is read.
-use Rattle.std.proofs.Common.{◌≡◌, ◌<◌, ◌≤◌, ◌+◌, ◌^◌, ◌&&◌, ◌||◌, ◌∙◌, ℕ, zero, suc, Bool, true, false, not, List, [], ◌∷◌, ◌++◌, ap, arith, codes, cond, decimal, filter, flat_map, length, length-append, map, nat_lt, refl, rules, subst, sym}
+use Rattle.std.proofs.Common.{◌≡◌, ◌<◌, ◌≤◌, ◌+◌, ◌^◌, ◌&&◌, ℕ, Bool, true, false, not, List, [], ◌∷◌, ◌++◌, ap, arith, cond, decimal, filter, length, length-append, map, refl, sym}
 use Rattle.std.specs.List.{list_all, onto_first, slice_split}
 use Rattle.std.specs.Str.{all_ascii_digits}
 use Rattle.std.specs.Cmp.Lexicographic.{same_text}
@@ -9,7 +9,7 @@ use Rattle.abt_machine.specs.declared.grammar.Number.{Number}
 use Rattle.abt_machine.specs.declared.grammar.Number.TheVariants as number
 use Rattle.abt_machine.specs.Forms.{Slot, Fixed, KindWord, CombineWord, AnyWord, Numeral, PoolList, fits, numerals, suits}
 use Rattle.abt_machine.specs.Spelling.{is_empty, is_number, is_separator, value_from, value_of, words_of}
-use Rattle.abt_machine.specs.Words.{Text, ended, line_of, spaced, text_of}
+use Rattle.abt_machine.specs.Words.{Text, ended, line_of, spaced}
 use Rattle.abt_workload.specs.Slots.{numbered, values}
 use Rattle.abt_workload.proofs.Bounds.{lt-from}
 use Rattle.abt_workload.proofs.Places.{and-both, and-left, and-right}

@@ -1,6 +1,6 @@
 -- Where the first word of a line begins and ends.
-use Rattle.std.proofs.Common.{◌≡◌, ◌<◌, ◌≤◌, ◌+◌, ◌-◌, ◌==◌, ◌∙◌, ℕ, zero, suc, true, false, not, List, [], ◌∷◌, ◌++◌, length, take, drop, get_or, refl, ap, sym, arith, rules, tests, append-nil, length-take, length-drop}
-use Rattle.std.specs.List.{All, filter, slice_split}
+use Rattle.std.proofs.Common.{◌≡◌, ◌<◌, ◌≤◌, ◌+◌, ◌-◌, ◌==◌, ◌∙◌, ℕ, zero, suc, true, false, List, [], ◌∷◌, ◌++◌, length, take, drop, get_or, refl, ap, sym, arith, rules, tests, append-nil, length-take, length-drop}
+use Rattle.std.specs.List.{All}
 use Rattle.std.proofs.lemmas.List.{get_or-drop, get_or-take, get_or_default, take-append-drop, take_all}
 use Rattle.std.proofs.lemmas.List.Splits.{slice_split_at, slice_split_none}
 use Rattle.abt_machine.specs.Spelling.{is_empty, is_separator, words_of}
@@ -29,14 +29,14 @@ pub words_cut : (k : ℕ) (line : Text) → 0 < k → k ≤ length line → (k <
 words_cut k line some le at before =
     let whole : take k line ++ drop k line ≡ line = take-append-drop k line in
     let all : All (λ b. is_separator b ≡ false) (take k line) = λ j d lt.
-          let lt' : j < k = omega (arith, length-take k line) in
-          let there : j < length line = omega arith in
-          rw (get_or-take k line j d lt', get_or_default line j d 0 there) (before j lt') in
+    let lt' : j < k = omega (arith, length-take k line) in
+    let there : j < length line = omega arith in
+    rw (get_or-take k line j d lt', get_or_default line j d 0 there) (before j lt') in
     let after : 0 < length (drop k line) → is_separator (get_or (drop k line) 0 0) ≡ true = λ lt.
-          let there : k < length line = omega (arith, length-drop k line) in
-          let e : get_or (drop k line) 0 0 ≡ get_or line (k + 0) 0 = get_or-drop k line 0 0 in
-          let z : k + 0 ≡ k = omega arith in
-          rw (e, z) (at there) in
+    let there : k < length line = omega (arith, length-drop k line) in
+    let e : get_or (drop k line) 0 0 ≡ get_or line (k + 0) 0 = get_or-drop k line 0 0 in
+    let z : k + 0 ≡ k = omega arith in
+    rw (e, z) (at there) in
     ap words_of (sym whole) ∙ words_first (take k line) (drop k line) all (some_byte k line some le) after
 
 rest_whole : (at : ℕ) (bytes : Text) → take (length bytes - at) (drop at bytes) ≡ drop at bytes

@@ -1,5 +1,5 @@
 -- Lines whose numbers and words fit the types of what they declare.
-use Rattle.std.specs.Prelude.{ℕ, ◌≡◌, ◌<◌, ◌^◌, All, Bool, true, false, IsUtf8, List, length, Option, ⊤}
+use Rattle.std.specs.Prelude.{ℕ, ◌≡◌, ◌<◌, ◌^◌, All, Bool, true, false, IsUtf8, List, length, ⊤}
 use Rattle.abt_machine.specs.declared.grammar.Form.{Form}
 use Rattle.abt_machine.specs.declared.grammar.Form.TheVariants as form
 use Rattle.abt_machine.specs.declared.operations.Op.{Op}

@@ -12,9 +12,7 @@ ghost use Rattle.abt_machine.specs.declared.grammar.Number.TheVariants as number
 ghost use Rattle.abt_machine.specs.declared.numbers.SchedNo.{SchedNo};
 ghost use Rattle.abt_machine.specs.declared.workload.UnitPart.{UnitPart};
 
-use abt_machine::{
-    Access, Body, Number, PoolPart, SchedNo, SchedPart, Text, Thing, UnitPart,
-};
+use abt_machine::{Access, Body, Number, PoolPart, SchedNo, SchedPart, Text, Thing, UnitPart};
 use std::alloc::Global;
 use std::marker::Model;
 

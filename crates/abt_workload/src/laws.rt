@@ -9,5 +9,4 @@ pub fn each_text_has_one_answer()
     ensures not_both { (text : Text) → IsNotBoth text }
     ensures one_workload { (text : Text) → ReadsOnce text }
     ensures one_refusal { (text : Text) → RefusesOnce text }
-{
-}
+{}

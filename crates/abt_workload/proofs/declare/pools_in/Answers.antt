@@ -1,4 +1,4 @@
-use Rattle.std.proofs.Common.{◌≡◌, ◌<◌, ◌^◌, ℕ, List, All, arith, get_or, length, map, rules, subst}
+use Rattle.std.proofs.Common.{◌<◌, ℕ, List, All, arith, get_or, length, subst}
 use Rattle.std.proofs.lemmas.List.{length-map}
 use Rattle.std.proofs.Math.ListN.{get_or-map}
 use Rattle.abt_machine.specs.declared.grammar.Number.{Number}

@@ -1,4 +1,4 @@
-use Rattle.std.proofs.Common.{◌≡◌, ◌∙◌, ◌-◌, ◌≤◌, ℕ, List, ap, arith, drop, length, length-drop, map, sym, take}
+use Rattle.std.proofs.Common.{◌≡◌, ◌∙◌, ◌-◌, ◌≤◌, ℕ, List, ap, arith, drop, length, length-drop, sym, take}
 use Rattle.std.proofs.lemmas.List.{drop-map, take_all}
 use Rattle.abt_machine.specs.declared.grammar.Number.{Number}
 use Rattle.abt_workload.specs.Slots.{values}

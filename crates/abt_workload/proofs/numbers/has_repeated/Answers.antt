@@ -17,7 +17,7 @@ returns-then-not-branch c =
 
 pub loop-left-preserved : goal.loop-left-preserved
 loop-left-preserved c =
-        let some : 0 < c.loop-left.left = omega arith in
+    let some : 0 < c.loop-left.left = omega arith in
     let within = c.loop-left.invariant.within in
     record {
       within = omega arith;

@@ -1,4 +1,4 @@
-use Rattle.std.proofs.Common.{◌≡◌, ◌≤◌, ◌+◌, ◌∙◌, ◌∷◌, [], arith, below_more, drop, length, sym}
+use Rattle.std.proofs.Common.{◌≡◌, ◌∙◌, ◌∷◌, [], arith, below_more, drop, sym}
 use Rattle.abt_machine.specs.Spelling.{lines_of}
 use Rattle.abt_workload.proofs.Seen.{all-taken, declared-more, drop-more, fault-here, faultless-end, lines-none, refuses-end, refuses-line, within-more}
 use Rattle.abt_workload.proofs.reading.read_lines.Goals as goal

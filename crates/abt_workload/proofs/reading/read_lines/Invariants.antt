@@ -1,4 +1,4 @@
-use Rattle.std.proofs.Common.{◌≡◌, ◌<◌, ◌≤◌, ◌+◌, ℕ, length, take, drop}
+use Rattle.std.proofs.Common.{◌≡◌, ◌≤◌, ◌+◌, length, take, drop}
 use Rattle.abt_machine.specs.Grammar.{declared_by}
 use Rattle.abt_machine.specs.Spelling.{lines_of}
 use Rattle.abt_workload.proofs.Seen.{IsFaultless}

@@ -1,4 +1,4 @@
-use Rattle.std.proofs.Common.{◌≡◌, ◌<◌, ◌∙◌, length, sym, arith}
+use Rattle.std.proofs.Common.{◌<◌, ◌∙◌, length, sym}
 use Rattle.abt_workload.proofs.WordEnds.{some_at, word_taken}
 use Rattle.abt_workload.proofs.text.first_word.Goals as goal
 
