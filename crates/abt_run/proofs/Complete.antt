@@ -45,7 +45,7 @@ runs CannotWrite c asked bytes W h asks e reads built still quiet = absurd (quie
 runs (Refused line f) c asked bytes W h asks e reads built still quiet =
     absurd (not-refused bytes W line f reads (of-asked c (λ text. Refuses text line f) h.0.asked asked bytes h.0.asks asks e h.0.reads))
 runs NotBuilt c asked bytes W h asks e reads built still quiet = absurd (elim h.0 [
-  inl names ↦ no-such names
+  | inl names ↦ no-such names
   | inr self ↦ run-or-self c.words asked self.0 asks self.1
 ]) where
   no-such : NamesSuch c.words c.file IsNotBuilt → ⊥

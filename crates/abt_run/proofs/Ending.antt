@@ -78,7 +78,7 @@ goes-empty : (W : Parts) (n : ℕ) (J : List Event) (last : Event) → Run W [] 
 goes-empty W n J last run counted few none ends = record {
   stops = inl (J, last, refl, ends);
   not_before = λ front rest e is stops. elim stops [
-    inl empty ↦ no-miss-before-last J empty.0 rest last empty.1 e none (miss-in-front (J ++ last ∷ []) empty.0 rest empty.1 e front is empty.2) empty.3.0
+    | inl empty ↦ no-miss-before-last J empty.0 rest last empty.1 e none (miss-in-front (J ++ last ∷ []) empty.0 rest empty.1 e front is empty.2) empty.3.0
     | inr spent ↦ not-spent-before W [] n (J ++ last ∷ []) front rest e run counted few is spent
   ];
 }
@@ -88,7 +88,7 @@ goes-spent : (W : Parts) (n : ℕ) (J : List Event) → Run W [] J → CountedFr
 goes-spent W n J run counted few none spent = record {
   stops = inr spent;
   not_before = λ front rest e is stops. elim stops [
-    inl empty ↦ no-miss-among J empty.0 (e ∷ rest) empty.1 none (miss-in-front J empty.0 rest empty.1 e front is empty.2) empty.3.0
+    | inl empty ↦ no-miss-among J empty.0 (e ∷ rest) empty.1 none (miss-in-front J empty.0 rest empty.1 e front is empty.2) empty.3.0
     | inr spent ↦ not-spent-before W [] n J front rest e run counted few is spent
   ];
 }
@@ -178,7 +178,7 @@ runs-whole ops words n J c rows valid past few going rows-are =
     let S : State = last_state (single ops words) (closed J) in
     let goes : GoesToItsStop (single ops words) n (closed J) =
     goes-empty (single ops words) n (J ++ end_event J ∷ []) (miss_event (J ++ end_event J ∷ [])) comes.run comes.counted (omega (arith, comes.steps))
-        (no-miss-more J (end_event J) going.no_miss (λ m. m)) (tt, empty-round _ 2 comes.state.stream) in
+    (no-miss-more J (end_event J) going.no_miss (λ m. m)) (tt, empty-round _ 2 comes.state.stream) in
     record {
       is = the-run _ words n (closed J) outcome.Finished valid comes.run comes.counted (quiet ops words S c comes.state, all-ended S c _ comes.state) goes;
       shown = shows-at ops words S _ c _ comes.state ∙ sym rows-are;
@@ -194,7 +194,7 @@ runs-spent ops words n J c rows valid at more going rows-are =
     let spent : Spent (single ops words) n J 0 = (lit< tt, steps-alone 1 J going.comes.counted ∙ (going.comes.steps ∙ at), step) in
     record {
       is = the-run _ words n J (outcome.Budget (stream_no 0)) valid going.comes.run going.comes.counted (spent, λ r below. absurd (omega arith))
-        (goes-spent (single ops words) n J going.comes.run going.comes.counted (omega (arith, going.comes.steps)) going.no_miss spent);
+          (goes-spent (single ops words) n J going.comes.run going.comes.counted (omega (arith, going.comes.steps)) going.no_miss spent);
       shown = shows-at ops words S _ c _ going.comes.state ∙ sym rows-are;
     }
 

@@ -43,7 +43,7 @@ told-reads (Some xs) front W e reads = subst (λ text. Reads text W) (whole fron
 pub told-refuses : (told : Option Text) (front : Text) (line : ℕ) (f : Fault) → IfSome told (λ xs. front ≡ take 4194305 xs) → Refuses front line f → IfSome told (λ xs. Refuses xs line f)
 told-refuses None front line f e refuses = tt
 told-refuses (Some xs) front line f e refuses = elim (cases_lt 4194304 (length front)) [
-  inl long ↦ refused-whole long
+  | inl long ↦ refused-whole long
   | inr short ↦ subst (λ text. Refuses text line f) (whole front xs e short) refuses
 ] where
   refused-whole : 4194304 < length front → Refuses xs line f
@@ -57,4 +57,4 @@ told-refuses (Some xs) front line f e refuses = elim (cases_lt 4194304 (length f
 pub told-refused : (told : Option Text) (front : Text) (c : NotRead) (line l : ℕ) (f g : Fault) → IfSome told (λ xs. front ≡ take 4194305 xs) → c ≡ cause.Refused line f → l ≡ line → g ≡ f → IsCause front c → IfSome told (λ xs. Refuses xs l g)
 told-refused told front c line l f g e is same equal why =
     subst (λ k. IfSome told (λ xs. Refuses xs k g)) (sym same)
-        (subst (λ h. IfSome told (λ xs. Refuses xs line h)) (sym equal) (told-refuses told front line f e (subst (IsCause front) is why)))
+    (subst (λ h. IfSome told (λ xs. Refuses xs line h)) (sym equal) (told-refuses told front line f e (subst (IsCause front) is why)))

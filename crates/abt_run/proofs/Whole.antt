@@ -30,7 +30,7 @@ pub closes-whole : (W : Parts) (n : ℕ) (J : List Event) (c : Carried) (rows : 
 closes-whole W n J c rows built some past few going rows-are =
     let is : W ≡ single (ops_of (body_at W 0)) W.words = single-is W built some in
     subst (λ V. HasRun V n (closed J) outcome.Finished rows) (sym is)
-        (runs-whole (ops_of (body_at W 0)) W.words n J c rows (subst IsValid is built.valid) past few (subst (λ V. IsGoing V J c) is going) rows-are)
+    (runs-whole (ops_of (body_at W 0)) W.words n J c rows (subst IsValid is built.valid) past few (subst (λ V. IsGoing V J c) is going) rows-are)
 
 -- after the last step that the stream may make
 pub spends-whole : (W : Parts) (n : ℕ) (J : List Event) (c : Carried) (rows : List Row) → IsBuilt W → 0 < length W.units → c.position ≡ n → n < length (ops_of (body_at W 0)) →
@@ -38,7 +38,7 @@ pub spends-whole : (W : Parts) (n : ℕ) (J : List Event) (c : Carried) (rows : 
 spends-whole W n J c rows built some at more going rows-are =
     let is : W ≡ single (ops_of (body_at W 0)) W.words = single-is W built some in
     subst (λ V. HasRun V n J (outcome.Budget (stream_no 0)) rows) (sym is)
-        (runs-spent (ops_of (body_at W 0)) W.words n J c rows (subst IsValid is built.valid) at more (subst (λ V. IsGoing V J c) is going) rows-are)
+    (runs-spent (ops_of (body_at W 0)) W.words n J c rows (subst IsValid is built.valid) at more (subst (λ V. IsGoing V J c) is going) rows-are)
 
 -- where there is no unit
 pub misses-whole : (W : Parts) (n : ℕ) → IsBuilt W → length W.units ≡ 0 → HasRun W n first_miss outcome.Finished []

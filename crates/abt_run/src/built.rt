@@ -7,7 +7,8 @@ ghost use Rattle.abt_machine.specs.Valid.{IsValid};
 ghost use Rattle.abt_run.specs.Built.{AreBuiltUnits, IsAlone, IsBuilt, IsBuiltBody, IsBuiltUnit, built_pool, built_sched, is_built_op};
 
 use abt_machine::{
-    Access, Body, Kind, Op, PoolNo, PoolPart, Rule, SchedNo, SchedPart, StreamNo, UnitNo, UnitPart, Workload,
+    Access, Body, Kind, Op, PoolNo, PoolPart, Rule, SchedNo, SchedPart, StreamNo, UnitNo, UnitPart,
+    Workload,
 };
 
 /// Whether the program runs the workload: one stream over one FIFO pool that all may reach, and at most one unit, a

@@ -44,7 +44,13 @@ impl From<Want> for Status {
 }
 
 // The output of a run: its journal, where it is asked for, and its report.
-fn output(alloc: Global, w: &Workload, steps: u64, ran: &Ran, with_journal: bool) -> Result<Vec<u8>, Want>
+fn output(
+    alloc: Global,
+    w: &Workload,
+    steps: u64,
+    ran: &Ran,
+    with_journal: bool,
+) -> Result<Vec<u8>, Want>
     requires run { HasRun w.now steps ran.now.journal ran.now.outcome ran.now.picture }
     requires words { All (SaysWordsOf w.now) ran.now.picture }
     ensures { (file : List ℕ) → IfOk result (λ text. text.items ≡ output_text w.now (last_state w.now ran.now.journal) ran.now.journal ran.now.outcome (command.Run file steps with_journal)) }
@@ -72,8 +78,13 @@ fn prepare<F: Files>(alloc: Global, words: &[String], files: &mut F) -> Result<P
     ensures later { F.faults files.old ≤ F.faults files.new }
 {
     match command(alloc, words) {
-        Ok(Command::Run { file, steps, journal }) =>
-            { prepare_file(alloc, file.as_str(), steps, journal, files) }
+        Ok(
+            Command::Run {
+                file,
+                steps,
+                journal,
+            },
+        ) => { prepare_file(alloc, file.as_str(), steps, journal, files) }
         Ok(Command::SelfRun { units: _ }) => Err(Status::NotBuilt),
         Err(WordFault::Bad) => Err(Status::BadWords),
         Err(WordFault::Memory) => Err(Status::OutOfMemory),
@@ -108,8 +119,16 @@ fn prepare_file<F: Files>(
     }
     let ran = run(alloc, &w, steps)?;
     let text = output(alloc, &w, steps, &ran, with_journal)?;
-    let Ran { journal, picture: _, outcome } = ran;
-    Ok(Prepared { journal, text, outcome })
+    let Ran {
+        journal,
+        picture: _,
+        outcome,
+    } = ran;
+    Ok(Prepared {
+        journal,
+        text,
+        outcome,
+    })
 }
 
 // How many events are steps.
@@ -216,7 +235,13 @@ fn call<F: Files, K: Sink, E: Sink>(
     }) }
 {
     match prepare(alloc, words, files) {
-        Ok(Prepared { journal, text, outcome }) => match write_whole(out, &text) {
+        Ok(
+            Prepared {
+                journal,
+                text,
+                outcome,
+            },
+        ) => match write_whole(out, &text) {
             Ok(()) => (status_by(outcome), journal),
             Err(Failed) => {
                 tell(err, message(Status::CannotWrite));

@@ -9,8 +9,8 @@ ghost use Rattle.abt_run.specs.Prepared.{IsRunOutcome};
 ghost use Rattle.abt_unit.specs.Fits.{Fits};
 
 use abt_machine::{
-    Body, Cause, Code, Event, Journal, Op, Outcome, Output, PoolNo, Shown, StreamNo, UnitNo, Want, What,
-    Workload,
+    Body, Cause, Code, Event, Journal, Op, Outcome, Output, PoolNo, Shown, StreamNo, UnitNo, Want,
+    What, Workload,
 };
 use abt_report::{Picture, Row};
 use abt_unit::Unit;
@@ -48,7 +48,12 @@ fn ops_of(body: &Body) -> &[Op]
 }
 
 // The steps of the unit, from its first operation on: all of them, or as many as its stream may make.
-fn run_steps(w: &Workload, unit: &mut Unit, journal: &mut Vec<Event>, steps: u64) -> Result<(), Want>
+fn run_steps(
+    w: &Workload,
+    unit: &mut Unit,
+    journal: &mut Vec<Event>,
+    steps: u64,
+) -> Result<(), Want>
     requires built { IsBuilt w.now }
     requires number { unit.old.owned.number ≡ 0 }
     requires position { unit.old.owned.carried.position ≡ 0 }

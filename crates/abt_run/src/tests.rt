@@ -178,14 +178,8 @@ const REFUSED: [(&[u8], &str); 7] = [
         b"abt 1\nstreams 1\npool 0 fifo mpmc\nsched 0 prio 0\nstream 0 main 0\nunits 1\nunit 0 ult at 0\nsay \xff\nend\n",
         "abtrun: line 8: utf8\n",
     ),
-    (
-        b"abt 1\nstreams 9\nend\n",
-        "abtrun: line 2: limit\n",
-    ),
-    (
-        b"",
-        "abtrun: line 1: no-end\n",
-    ),
+    (b"abt 1\nstreams 9\nend\n", "abtrun: line 2: limit\n"),
+    (b"", "abtrun: line 1: no-end\n"),
 ];
 
 // One byte more than a text may have.
@@ -265,7 +259,13 @@ fn calls_leave_what_their_rows_say(rt: HostRuntime) -> Result<(), Fail> {
     }
     for lines in NOT_BUILT {
         let text = below_the_head(alloc, lines)?;
-        check(&rt, alloc, lines, text, stopped(RUN, 3, "abtrun: not built\n"))?;
+        check(
+            &rt,
+            alloc,
+            lines,
+            text,
+            stopped(RUN, 3, "abtrun: not built\n"),
+        )?;
     }
     for words in BAD_WORDS {
         let text = below_the_head(alloc, HI)?;

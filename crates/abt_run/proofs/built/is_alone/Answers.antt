@@ -12,6 +12,6 @@ returns-clause-alone c =
     let empty : length W.objects ≡ 0 = omega arith in
     let one : length W.mains ≡ 1 = omega (arith, c.streams.ensures.valid.mains, c.streams.ensures.count) in
     as-well c.is_first.result (W.mains ≡ sched_no 0 ∷ []) (IsAlone W)
-        (λ mains. record { streams = streams; keys = keys; mains = mains; objects = none-is W.objects empty })
-        (λ alone. alone.mains)
-        (one-element c.is_first.result W.mains c.main.result (sched_no 0) one c.main.ensures c.is_first.ensures)
+    (λ mains. record { streams = streams; keys = keys; mains = mains; objects = none-is W.objects empty })
+    (λ alone. alone.mains)
+    (one-element c.is_first.result W.mains c.main.result (sched_no 0) one c.main.ensures c.is_first.ensures)

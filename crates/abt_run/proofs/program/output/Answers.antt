@@ -20,11 +20,11 @@ reported W n steps J o rows text ran count is = is ∙ (ap (λ units. report_of 
 pub returns-then-not-with_journal : goal.returns-then-not-with_journal
 returns-then-not-with_journal c = λ file.
     let report = reported c.args.w.now c.args.steps c.count_steps.result c.args.ran.now.journal c.args.ran.now.outcome c.args.ran.now.picture c.in_ok-report.report.items c.requires.run
-        (c.count_steps.ensures ∙ ap steps_in c.items.ensures) c.in_ok-report.ensures in
+    (c.count_steps.ensures ∙ ap steps_in c.items.ensures) c.in_ok-report.ensures in
     rw c.if-not-with_journal.true report
 
 pub returns : goal.returns
 returns c = λ file.
     let report = reported c.args.w.now c.args.steps c.count_steps.result c.args.ran.now.journal c.args.ran.now.outcome c.args.ran.now.picture c.in_ok-report.report.items c.requires.run
-        (c.count_steps.ensures ∙ ap steps_in c.items.ensures) c.in_ok-report.ensures in
+    (c.count_steps.ensures ∙ ap steps_in c.items.ensures) c.in_ok-report.ensures in
     rw (c.if-not-with_journal.false, c.in_ok-extend_from_slice.ensures.items, c.in_ok-text.ensures, c.deref.ensures.value) (ap (λ (t : Text). journal_text c.args.ran.now.journal ++ t) report)

@@ -10,8 +10,8 @@ returns-in-Err-Refused-clause-stop g c =
 pub returns-then-not-is_built-clause-stop : goal.returns-then-not-is_built-clause-stop
 returns-then-not-is_built-clause-stop g c =
     told-not-built (g.F.Files.file c.args.files.now c.args.file.now) c.in-Ok-read.w
-        (told-reads (g.F.Files.file c.args.files.now c.args.file.now) c.in-Ok.bytes.items c.in-Ok-read.w c.in-Ok.ensures.bytes (rw c.deref.ensures.value at c.in-Ok-read.ensures.ok))
-        (λ built. let yes = c.is_built.ensures.1 built in let not = c.if-not-is_built.true in cc)
+    (told-reads (g.F.Files.file c.args.files.now c.args.file.now) c.in-Ok.bytes.items c.in-Ok-read.w c.in-Ok.ensures.bytes (rw c.deref.ensures.value at c.in-Ok-read.ensures.ok))
+    (λ built. let yes = c.is_built.ensures.1 built in let not = c.if-not-is_built.true in cc)
 
 pub returns-clause-done : goal.returns-clause-done
 returns-clause-done g c = record {

@@ -35,7 +35,7 @@ returns-then-steps-count_ops-clause-run c =
     let more : c.args.steps < length (ops_of (body_at c.args.w.now 0)) = omega (arith, c.count_ops.ensures) in
     rw c.new.ensures
     (spends-whole c.args.w.now c.args.steps c.run_steps.new.journal.items unit.carried c.in_ok-picture.field-0 c.requires.built c.requires.unit at more c.in_ok-run_steps.ensures.going
-        (row-is c.in_ok-picture.field-0 (place.Hand (stream_no 0)) unit (rw c.deref.ensures at c.in_ok-picture.ensures)))
+    (row-is c.in_ok-picture.field-0 (place.Hand (stream_no 0)) unit (rw c.deref.ensures at c.in_ok-picture.ensures)))
 
 pub returns-clause-run : goal.returns-clause-run
 returns-clause-run c =
@@ -45,4 +45,4 @@ returns-clause-run c =
     let journal : c.record-4.new.journal.items ≡ closed c.run_steps.new.journal.items = c.in_ok-record-4.ensures ∙ ap (λ J. J ++ next_event J (what.Miss (pool_no 0)) ∷ []) c.in_ok-record-3.ensures in
     rw (c.new-2.ensures, journal)
     (closes-whole c.args.w.now c.args.steps c.run_steps.new.journal.items unit.carried c.in_ok-picture-2.field-0 c.requires.built c.requires.unit past few c.in_ok-run_steps.ensures.going
-        (row-is c.in_ok-picture-2.field-0 (place.Ended cause.Done) unit (rw c.deref-2.ensures at c.in_ok-picture-2.ensures)))
+    (row-is c.in_ok-picture-2.field-0 (place.Ended cause.Done) unit (rw c.deref-2.ensures at c.in_ok-picture-2.ensures)))
