@@ -31,7 +31,6 @@ pub mod Pools
 pub mod Queues
 pub mod Rounds
 pub mod Runs
-pub mod Says
 pub mod Sites
 pub mod Sound
 pub mod Spelling
