@@ -1,10 +1,9 @@
 -- Words say one command at most.
-use Rattle.std.proofs.Common.{◌≡◌, ◌∙◌, ℕ, Bool, true, false, List, [], ◌∷◌, codes, refl, ap, sym}
-use Rattle.abt_machine.specs.declared.program.Command.{Command}
+use Rattle.std.proofs.Common.{◌≡◌, ◌∙◌, ℕ, Bool, true, false, List, [], ◌∷◌, refl, sym}
 use Rattle.abt_machine.specs.declared.program.Command.TheVariants as command
-use Rattle.abt_machine.specs.Commands.{Rest, Says, SaysNumber, SaysRun, SaysSelf, SaysSteps, journal_count, only, rest_of}
+use Rattle.abt_machine.specs.Commands.{Rest, Says, SaysNumber, SaysRun, SaysSteps, journal_count, rest_of}
 use Rattle.abt_machine.specs.Words.{Text}
-use Rattle.abt_run.specs.Call.{Asked, Asks, command_of}
+use Rattle.abt_run.specs.Call.{Asked, Asks}
 
 one-number : (most : ℕ) (digits : Text) (n m : ℕ) → SaysNumber most digits n → SaysNumber most digits m → n ≡ m
 one-number most digits n m one two = one.1 ∙ sym two.1

@@ -1,15 +1,13 @@
 -- Which status a call answers where its cause is at hand.
-use Rattle.std.proofs.Common.{◌≡◌, ◌⊎◌, ℕ, Bool, List, Option, Some, None, inl, inr, refl, sym, subst, ◌∙◌}
+use Rattle.std.proofs.Common.{◌≡◌, ◌⊎◌, ℕ, Option, Some, None, inl, inr, refl, sym, subst, ◌∙◌}
 use Rattle.std.specs.Prelude.{IfSome}
-use Rattle.abt_machine.specs.declared.program.Command.{Command}
 use Rattle.abt_machine.specs.declared.program.Command.TheVariants as command
 use Rattle.abt_machine.specs.declared.program.Fault.{Fault}
 use Rattle.abt_machine.specs.declared.workload.Parts.{Parts}
-use Rattle.abt_machine.specs.Commands.{Says}
 use Rattle.abt_machine.specs.Grammar.{Reads, Refuses}
 use Rattle.abt_machine.specs.Words.{Text}
 use Rattle.abt_run.specs.Built.{IsBuilt}
-use Rattle.abt_run.specs.Call.{Asked, Asks, AsksForSelf, Call, Grew, Holds, IsAnswered, IsNotBuilt, IsRunOf, NamesSuch, RunsFile, SaysNothing, TellsSuch, command_of}
+use Rattle.abt_run.specs.Call.{Asked, Asks, AsksForSelf, Call, Grew, Holds, IsAnswered, IsNotBuilt, IsRunOf, NamesSuch, SaysNothing, TellsSuch, command_of}
 use Rattle.abt_run.specs.Status.{number_of}
 use Rattle.abt_run.specs.declared.status.Status.{Status}
 use Rattle.abt_run.specs.declared.status.Status.TheVariants.{Finished, BadWords, Refused, NotBuilt, Budget, CannotRead, CannotWrite, OutOfMemory}

@@ -1,7 +1,6 @@
 -- From what is known of a file to what is known of a call.
-use Rattle.std.proofs.Common.{◌≡◌, ℕ, List, Option, Some, None, Result, Ok, Err, inl, inr, subst, sym}
+use Rattle.std.proofs.Common.{◌≡◌, ℕ, List, Option, Some, None, Result, Ok, Err, inl, subst, sym}
 use Rattle.std.specs.Prelude.{IfErr, IfOk, IfSome}
-use Rattle.abt_machine.specs.declared.events.Event.{Event}
 use Rattle.abt_machine.specs.declared.events.Outcome.{Outcome}
 use Rattle.abt_machine.specs.declared.events.Outcome.TheVariants as outcome
 use Rattle.abt_machine.specs.declared.workload.Parts.{Parts}

@@ -1,12 +1,12 @@
 -- A file of which a front was read that is short enough was read whole; one that is too long is refused, as its front is.
 use Rattle.std.proofs.Common.{◌≡◌, ◌<◌, ◌≤◌, ℕ, zero, suc, length, take, Option, Some, None, min, arith, refl, sym, ap, subst, ◌∙◌, inl, inr}
-use Rattle.std.specs.Prelude.{IfSome, nat_lt, find}
+use Rattle.std.specs.Prelude.{IfSome}
 use Rattle.std.proofs.lemmas.Bool.{cases_lt, lt-ltb}
 use Rattle.std.proofs.lemmas.List.{take_all, length-take}
 use Rattle.abt_machine.specs.declared.program.Fault.{Fault}
 use Rattle.abt_machine.specs.declared.program.Fault.TheVariants as fault
 use Rattle.abt_machine.specs.declared.workload.Parts.{Parts}
-use Rattle.abt_machine.specs.Grammar.{Reads, Refuses, fault_at, has_fault}
+use Rattle.abt_machine.specs.Grammar.{Reads, Refuses, fault_at}
 use Rattle.abt_machine.specs.Words.{Text}
 use Rattle.abt_workload.specs.Reading.{IsCause}
 use Rattle.abt_workload.specs.declared.reading.NotRead.{NotRead}

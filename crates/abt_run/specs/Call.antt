@@ -5,7 +5,6 @@ use Rattle.abt_machine.specs.declared.events.Outcome.{Outcome}
 use Rattle.abt_machine.specs.declared.events.Outcome.TheVariants as outcome
 use Rattle.abt_machine.specs.declared.program.Command.{Command}
 use Rattle.abt_machine.specs.declared.program.Command.TheVariants as command
-use Rattle.abt_machine.specs.declared.program.Fault.{Fault}
 use Rattle.abt_machine.specs.declared.workload.Parts.{Parts}
 use Rattle.abt_machine.specs.Commands.{Says}
 use Rattle.abt_machine.specs.Grammar.{Reads, Refuses}

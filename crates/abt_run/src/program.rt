@@ -3,7 +3,6 @@
 ghost use Rattle.std.specs.Prelude.{◌≡◌, ◌≤◌, ◌⊎◌, ℕ, List, All, IfErr, IfOk, map, string_bytes};
 ghost use Rattle.abt_machine.specs.declared.events.Outcome.TheVariants as outcome;
 ghost use Rattle.abt_machine.specs.declared.program.Command.TheVariants as command;
-ghost use Rattle.abt_machine.specs.Numbers.{stream_no};
 ghost use Rattle.abt_machine.specs.Outcomes.{is_step, steps_in};
 ghost use Rattle.abt_machine.specs.Runs.{last_state};
 ghost use Rattle.abt_machine.specs.Texts.{output_text};

@@ -1,4 +1,3 @@
-use Rattle.std.proofs.Common.{◌≡◌}
 use Rattle.abt_run.specs.Built.{AreBuiltUnits, IsAlone, IsBuilt}
 use Rattle.abt_run.proofs.BuiltWorkloads.{decides}
 use Rattle.abt_run.proofs.built.is_built.Goals as goal

@@ -1,5 +1,5 @@
-use Rattle.std.proofs.Common.{◌∙◌, sym, subst, rules}
-use Rattle.abt_run.specs.Call.{Gained, GainedFront, Holds}
+use Rattle.std.proofs.Common.{◌∙◌, subst, rules}
+use Rattle.abt_run.specs.Call.{Gained, GainedFront}
 use Rattle.abt_run.proofs.Preparing.{written}
 use Rattle.abt_run.proofs.program.call.Goals as goal
 

@@ -1,6 +1,5 @@
-use Rattle.std.proofs.Common.{◌≡◌, subst}
+use Rattle.std.proofs.Common.{subst}
 use Rattle.abt_machine.specs.Commands.{Says}
-use Rattle.abt_run.specs.Call.{Asked, Asks}
 use Rattle.abt_run.proofs.Preparing.{asks-such, if-err, if-ok, stops-file}
 use Rattle.abt_run.proofs.program.prepare.Goals as goal
 

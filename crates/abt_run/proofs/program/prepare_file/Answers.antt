@@ -1,4 +1,3 @@
-use Rattle.std.proofs.Common.{refl, sym, ◌∙◌}
 use Rattle.abt_run.proofs.Preparing.{told-not-built}
 use Rattle.abt_run.proofs.Told.{told-reads, told-refused}
 use Rattle.abt_run.proofs.program.prepare_file.Goals as goal

@@ -1,8 +1,7 @@
-use Rattle.std.proofs.Common.{◌≡◌, ◌++◌, [], ◌∷◌, length, sym, ◌∙◌, ap, subst, arith}
-use Rattle.abt_machine.specs.declared.events.Outcome.TheVariants as outcome
+use Rattle.std.proofs.Common.{◌≡◌, ◌++◌, [], ◌∷◌, length, ◌∙◌, ap, arith}
 use Rattle.abt_machine.specs.declared.events.What.TheVariants as what
 use Rattle.abt_machine.specs.Numbers.{pool_no}
-use Rattle.abt_run.specs.Going.{HasRun, next_event}
+use Rattle.abt_run.specs.Going.{next_event}
 use Rattle.abt_run.proofs.Ending.{first_miss}
 use Rattle.abt_run.proofs.Whole.{misses-whole}
 use Rattle.abt_run.proofs.run.run.Goals as goal

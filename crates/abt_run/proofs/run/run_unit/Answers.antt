@@ -10,7 +10,7 @@ use Rattle.abt_machine.specs.Workloads.{body_at, ops_of}
 use Rattle.abt_machine.specs.Values.{Owned, owned_at}
 use Rattle.abt_report.specs.Pictures.{units_of}
 use Rattle.abt_report.specs.declared.pictures.Row.{Row}
-use Rattle.abt_run.specs.Going.{HasRun, IsGoing, next_event}
+use Rattle.abt_run.specs.Going.{IsGoing, next_event}
 use Rattle.abt_run.proofs.Ending.{closed, row_at}
 use Rattle.abt_run.proofs.Running.{look_event, take_event}
 use Rattle.abt_run.proofs.Whole.{going-in, closes-whole, spends-whole}
