@@ -1,4 +1,4 @@
-//! Workload texts: read to a workload or refused, and written.
+//! Workload texts: read to a workload, or refused at a line.
 #![tactic(auto)]
 
 mod declare;
