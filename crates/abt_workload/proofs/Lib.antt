@@ -17,8 +17,10 @@ pub mod Repeats
 pub mod Seen
 pub mod Soundness
 pub mod Taken
+pub mod Taking
 pub mod Totals
 pub mod Validity
 pub mod Verdicts
 pub mod Weights
 pub mod WordEnds
+pub mod WrittenLines
