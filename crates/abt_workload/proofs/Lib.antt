@@ -3,6 +3,7 @@ pub mod Bounds
 pub mod Costs
 pub mod Firm
 pub mod Growing
+pub mod Heads
 pub mod Keeping
 pub mod KeepingUnits
 pub mod LineEnds
