@@ -1,25 +1,24 @@
 -- Lines that are taken one after the other.
-use Rattle.std.proofs.Common.{◌≡◌, ◌<◌, ◌≤◌, ◌+◌, ◌*◌, ◌-◌, ◌^◌, ◌==◌, ◌&&◌, ◌∙◌, ℕ, zero, suc, Bool, true, false, not, List, [], ◌∷◌, ◌++◌, All, IsAscii, IsUtf8, Option, Some, None, ap, arith, decimal, find, get_or, length, nat_le, nat_lt, refl, subst, sym}
+use Rattle.std.proofs.Common.{◌≡◌, ◌<◌, ◌≤◌, ◌+◌, ◌-◌, ◌^◌, ◌&&◌, ◌∙◌, ℕ, zero, suc, Bool, true, false, not, List, [], ◌∷◌, ◌++◌, All, IsAscii, Some, None, ap, arith, decimal, find, length, nat_le, nat_lt, refl, subst, sym}
 use Rattle.std.specs.List.{list_all}
-use Rattle.std.specs.Str.{all_ascii_digits, is_utf8}
+use Rattle.std.specs.Str.{all_ascii_digits}
 use Rattle.std.proofs.lemmas.Bool.{lt-ltb}
-use Rattle.std.proofs.lemmas.Fmt.{IsAscii-decimal, decimal_is_IsNumeral, decimal_nonempty, digits_decimal, digits_value-decimal, length-decimal-le}
+use Rattle.std.proofs.lemmas.Fmt.{IsAscii-decimal, decimal_nonempty, digits_decimal, digits_value-decimal, length-decimal-le}
 use Rattle.std.proofs.lemmas.Str.{IsUtf8-from_ascii}
 use Rattle.std.proofs.lemmas.Str.Parse.{IsNumeralModel, numerals_by_fold, tells_all_ascii_digits}
 use Rattle.abt_machine.specs.declared.grammar.Form.{Form}
-use Rattle.abt_machine.specs.declared.program.Fault.{Fault}
 use Rattle.abt_machine.specs.Declaring.{Above}
 use Rattle.abt_machine.specs.Faults.{faults, has, is_misplaced, is_no_version, is_skipped, line_fault, numbers_of, values_of}
 use Rattle.abt_machine.specs.Forms.{form_of, numerals, slots}
 use Rattle.abt_machine.specs.Grammar.{and_line}
-use Rattle.abt_machine.specs.Spelling.{has_control, is_empty, is_number, value_from, value_of, words_of}
+use Rattle.abt_machine.specs.Spelling.{is_empty, is_number, value_from, value_of, words_of}
 use Rattle.abt_machine.specs.Valid.{IsVisible, IsWord}
 use Rattle.abt_machine.specs.Words.{Text, line_of}
 use Rattle.abt_workload.specs.Declarable.{with_line}
 use Rattle.abt_workload.specs.Judging.{HasForm, later_fault}
 use Rattle.abt_workload.proofs.Bounds.{le-from, lt-from}
 use Rattle.abt_workload.proofs.Growing.{all-cons}
-use Rattle.abt_workload.proofs.Places.{and-both, and-left, and-right, not-false}
+use Rattle.abt_workload.proofs.Places.{and-both, and-left, and-right}
 use Rattle.abt_workload.proofs.Proper.{none-of}
 use Rattle.abt_workload.proofs.Taken as line
 use Rattle.abt_workload.proofs.Verdicts.{line-judged}
