@@ -1,6 +1,7 @@
 pub mod Answering
 pub mod Bounds
 pub mod Costs
+pub mod Filled
 pub mod Firm
 pub mod Growing
 pub mod Heads
