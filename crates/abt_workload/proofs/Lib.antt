@@ -5,6 +5,7 @@ pub mod Filled
 pub mod Firm
 pub mod Growing
 pub mod Heads
+pub mod InOrder
 pub mod Keeping
 pub mod KeepingUnits
 pub mod LineEnds
