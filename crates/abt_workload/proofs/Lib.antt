@@ -14,6 +14,7 @@ pub mod Measures
 pub mod Naming
 pub mod Numerals
 pub mod Places
+pub mod PoolLines
 pub mod Operating
 pub mod Proper
 pub mod Repeats
