@@ -18,6 +18,7 @@ pub mod PoolLines
 pub mod Operating
 pub mod Proper
 pub mod Repeats
+pub mod SchedLines
 pub mod Seen
 pub mod Soundness
 pub mod Taken
