@@ -21,6 +21,7 @@ pub mod Repeats
 pub mod SchedLines
 pub mod Seen
 pub mod Soundness
+pub mod StreamLines
 pub mod Taken
 pub mod Taking
 pub mod Totals
