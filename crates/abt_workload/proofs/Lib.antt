@@ -13,6 +13,7 @@ pub mod LineWords
 pub mod Measures
 pub mod Naming
 pub mod Numerals
+pub mod ObjectLines
 pub mod Places
 pub mod PoolLines
 pub mod Operating
