@@ -4,6 +4,7 @@ pub mod Costs
 pub mod Filled
 pub mod Firm
 pub mod Growing
+pub mod HeadLines
 pub mod Heads
 pub mod InOrder
 pub mod Keeping
