@@ -10,6 +10,7 @@ pub mod LineEnds
 pub mod LineWords
 pub mod Measures
 pub mod Naming
+pub mod NumberedLines
 pub mod Numerals
 pub mod Places
 pub mod Operating
