@@ -14,7 +14,10 @@ pub mod NumberedLines
 pub mod Numerals
 pub mod Places
 pub mod Operating
+pub mod OperationForms
+pub mod OperationLines
 pub mod Proper
+pub mod Reaching
 pub mod Repeats
 pub mod Seen
 pub mod Soundness
