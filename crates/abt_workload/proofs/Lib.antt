@@ -24,6 +24,8 @@ pub mod Soundness
 pub mod Taken
 pub mod Taking
 pub mod Totals
+pub mod UnitForms
+pub mod UnitLines
 pub mod Validity
 pub mod Verdicts
 pub mod Weights
