@@ -13,12 +13,16 @@ pub mod LineEnds
 pub mod LineWords
 pub mod Measures
 pub mod Naming
+pub mod NumberedLines
 pub mod Numerals
 pub mod ObjectLines
 pub mod Places
 pub mod PoolLines
 pub mod Operating
+pub mod OperationForms
+pub mod OperationLines
 pub mod Proper
+pub mod Reaching
 pub mod Repeats
 pub mod SchedLines
 pub mod Seen
@@ -27,6 +31,8 @@ pub mod StreamLines
 pub mod Taken
 pub mod Taking
 pub mod Totals
+pub mod UnitForms
+pub mod UnitLines
 pub mod Validity
 pub mod Verdicts
 pub mod Weights
