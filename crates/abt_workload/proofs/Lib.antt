@@ -24,6 +24,7 @@ pub mod OperationLines
 pub mod Proper
 pub mod Reaching
 pub mod Repeats
+pub mod RoundTrip
 pub mod SchedLines
 pub mod Seen
 pub mod Soundness

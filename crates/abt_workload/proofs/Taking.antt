@@ -1,5 +1,5 @@
 -- Lines that are taken one after the other.
-use Rattle.std.proofs.Common.{◌≡◌, ◌<◌, ◌≤◌, ◌+◌, ◌-◌, ◌^◌, ◌&&◌, ◌∙◌, ℕ, zero, suc, Bool, true, false, not, List, [], ◌∷◌, ◌++◌, All, IsAscii, Some, None, ap, arith, decimal, find, length, nat_le, nat_lt, refl, subst, sym}
+use Rattle.std.proofs.Common.{◌≡◌, ◌<◌, ◌≤◌, ◌^◌, ◌&&◌, ◌∙◌, ℕ, zero, suc, Bool, true, false, not, List, [], ◌∷◌, ◌++◌, All, IsAscii, Some, None, ap, arith, decimal, find, length, nat_le, nat_lt, refl, subst, sym}
 use Rattle.std.specs.List.{list_all}
 use Rattle.std.specs.Str.{all_ascii_digits}
 use Rattle.std.proofs.lemmas.Bool.{lt-ltb}
@@ -35,6 +35,7 @@ abbrev pub TakesAll : Above → List (List Text) → Above → Type 0
 TakesAll a [] b = a ≡ b
 TakesAll a (words ∷ rest) b = (c : Above) × Takes a words c × TakesAll c rest b
 
+-- lines after lines
 pub takes-append : (a b c : Above) (xs ys : List (List Text)) → TakesAll a xs b → TakesAll b ys c → TakesAll a (xs ++ ys) c
 takes-append a b c [] ys h t = subst (λ (d : Above). TakesAll d ys c) (sym h) t
 takes-append a b c (x ∷ xs) ys h t = (h.0, h.1, takes-append h.0 b c xs ys h.2 t)
@@ -56,6 +57,7 @@ taken a words f written kept version form_is placed numbers later =
 
 -- Words of digits.
 
+-- digits, and the number that they say
 own : IsNumeralModel (λ ds. all_ascii_digits ds ≡ true) (value_from 0)
 own = numerals_by_fold _ tells_all_ascii_digits value_from (record { empty = λ n. refl; more = λ n c cs r. refl })
 
@@ -81,6 +83,7 @@ is_plain_byte b = nat_lt 32 b && nat_lt b 127
 abbrev pub is_plain : Text → Bool
 is_plain w = nat_lt 0 (length w) && nat_le (length w) 64 && list_all is_plain_byte w
 
+-- such bytes are visible
 plain-visible : (w : Text) → list_all is_plain_byte w ≡ true → All IsVisible w
 plain-visible [] e = none-of _
 plain-visible (b ∷ bs) e =
@@ -89,6 +92,7 @@ plain-visible (b ∷ bs) e =
     let high : b < 127 = lt-from b 127 (and-right (nat_lt 32 b) _ here) in
     all-cons IsVisible b bs (low, omega arith) (plain-visible bs (and-right (is_plain_byte b) _ e))
 
+-- and are ASCII
 plain-ascii : (w : Text) → list_all is_plain_byte w ≡ true → IsAscii w
 plain-ascii [] e i = omega arith
 plain-ascii (b ∷ bs) e zero = let high : b < 127 = lt-from b 127 (and-right (nat_lt 32 b) _ (and-left (is_plain_byte b) _ e)) in omega arith

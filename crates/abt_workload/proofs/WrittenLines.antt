@@ -1,5 +1,5 @@
 -- Lines that are written of words, and texts of lines: they are read as they were written.
-use Rattle.std.proofs.Common.{◌≡◌, ◌≢◌, ◌<◌, ◌≤◌, ◌+◌, ◌-◌, ◌==◌, ◌∙◌, ℕ, zero, suc, Bool, true, false, List, [], ◌∷◌, ◌++◌, All, IsAscii, IsUtf8, ap, append-nil, append_assoc, arith, cond, get_or, length, length-append, map, nat_lt, refl, rules, sym, tests, take}
+use Rattle.std.proofs.Common.{◌≡◌, ◌≢◌, ◌<◌, ◌≤◌, ◌-◌, ◌==◌, ◌∙◌, ℕ, zero, suc, Bool, true, false, List, [], ◌∷◌, ◌++◌, All, IsAscii, IsUtf8, ap, append-nil, append_assoc, arith, cond, get_or, length, length-append, map, nat_lt, refl, rules, sym, tests, take}
 use Rattle.std.specs.Str.{is_utf8}
 use Rattle.std.proofs.lemmas.List.Concat.{flat_map-append}
 use Rattle.std.proofs.lemmas.List.Elements.{All-append}
@@ -38,9 +38,11 @@ spaced-first : (ws : List Text) → 0 < length (spaced ws) → is_separator (get
 spaced-first [] some = absurd (omega arith)
 spaced-first (w ∷ ws) some = refl
 
+-- a word, and the words that are written after it
 words-after : (w : Text) (ws : List Text) → IsWord w → words_of (spaced ws) ≡ ws → words_of (w ++ spaced ws) ≡ w ∷ ws
 words-after w ws h rest = words_first w (spaced ws) (unseparated w h.visible) (word-some w h.some_byte) (spaced-first ws) ∙ ap (λ (vs : List Text). w ∷ vs) rest
 
+-- words with a space before each
 words-spaced : (ws : List Text) → All IsWord ws → words_of (spaced ws) ≡ ws
 words-spaced [] h = refl
 words-spaced (w ∷ ws) h = words_past 32 (w ++ spaced ws) refl ∙ words-after w ws (all-head IsWord w ws h) (words-spaced ws (all-tail IsWord w ws h))
@@ -52,16 +54,19 @@ words-of-line (w ∷ ws) h = words-after w ws (all-head IsWord w ws h) (words-sp
 
 -- UTF-8.
 
+-- a space is ASCII
 space-ascii : IsAscii (32 ∷ [])
 space-ascii zero = omega arith
 space-ascii (suc i) = omega arith
 
+-- words with a space before each are UTF-8
 spaced-utf8 : (ws : List Text) → All IsWord ws → IsUtf8 (spaced ws)
 spaced-utf8 [] h = IsUtf8-nil
 spaced-utf8 (w ∷ ws) h =
     let here : IsUtf8 (32 ∷ w) = IsUtf8-append (32 ∷ []) w (IsUtf8-from_ascii (32 ∷ []) space-ascii) (all-head IsWord w ws h).utf8 in
     IsUtf8-append (32 ∷ w) (spaced ws) here (spaced-utf8 ws (all-tail IsWord w ws h))
 
+-- and so is a line
 line-utf8 : (words : List Text) → All IsWord words → IsUtf8 (line_of words)
 line-utf8 [] h = IsUtf8-nil
 line-utf8 (w ∷ ws) h = IsUtf8-append w (spaced ws) (all-head IsWord w ws h).utf8 (spaced-utf8 ws (all-tail IsWord w ws h))
@@ -76,19 +81,23 @@ utf8-of-line words h = is_utf8-from_IsUtf8 (line_of words) (line-utf8 words h)
 abbrev IsWritten : ℕ → Type 0
 IsWritten b = (32 ≤ b) × (b ≢ 127)
 
+-- the bytes of a word
 word-written : (w : Text) → All IsVisible w → All IsWritten w
 word-written w h k d lt = let v : IsVisible (get_or w k d) = h k d lt in let above = v.0 in (omega arith, v.1)
 
+-- the bytes of words with a space before each
 spaced-written : (ws : List Text) → All IsWord ws → All IsWritten (spaced ws)
 spaced-written [] h = none-of _
 spaced-written (w ∷ ws) h =
     let here : All IsWritten (32 ∷ w) = all-cons IsWritten 32 w (omega arith, omega arith) (word-written w (all-head IsWord w ws h).visible) in
     All-append IsWritten (32 ∷ w) (spaced ws) here (spaced-written ws (all-tail IsWord w ws h))
 
+-- the bytes of a line
 line-written : (words : List Text) → All IsWord words → All IsWritten (line_of words)
 line-written [] h = none-of _
 line-written (w ∷ ws) h = All-append IsWritten w (spaced ws) (word-written w (all-head IsWord w ws h).visible) (spaced-written ws (all-tail IsWord w ws h))
 
+-- none is a control character
 no-control : (b : ℕ) → IsWritten b → is_control b ≡ false
 no-control b h =
     let above : 32 ≤ b = h.0 in
@@ -103,10 +112,11 @@ no-control-in-line words h = let all = line-written words h in list_any_none is_
 
 -- The lines of a text.
 
--- no byte is a line feed
+-- it has no line feed
 abbrev IsUnended : Text → Type 0
 IsUnended line = All (λ b. (b == 10) ≡ false) line
 
+-- so is a line that is written of words
 line-unended : (words : List Text) → All IsWord words → IsUnended (line_of words)
 line-unended words h = let all = line-written words h in λ k d lt. by (get_or (line_of words) k d) (all k d lt)
   where
@@ -129,6 +139,7 @@ lines-before (ws ∷ lines) rest h =
     let shape : (ended (line_of ws) ++ text_of lines) ++ rest ≡ line_of ws ++ 10 ∷ (text_of lines ++ rest) = simp append_assoc in
     ap lines_of shape ∙ (lines-cut (line_of ws) (text_of lines ++ rest) here ∙ ap (λ (ls : List Text). line_of ws ∷ ls) (lines-before lines rest (all-tail (All IsWord) ws lines h)))
 
+-- the empty text has no line
 lines-nil : lines_of [] ≡ []
 unfolding lines_of
 lines-nil = refl
@@ -143,6 +154,7 @@ without-end front =
     let size : length (front ++ 10 ∷ []) - 1 ≡ length front = simp length-append (omega arith) in
     ap (λ (n : ℕ). take n (front ++ 10 ∷ [])) size ∙ take-append_seam front (10 ∷ [])
 
+-- a line of some word has a byte
 line-some : (words : List Text) → All IsWord words → 0 < length words → 0 < length (line_of words)
 line-some [] h some = absurd (omega arith)
 line-some (w ∷ ws) h some = let byte = (all-head IsWord w ws h).some_byte in simp length-append (omega arith)

@@ -12,5 +12,5 @@ mod reading;
 mod tests;
 mod text;
 
-pub use laws::each_text_has_one_answer;
+pub use laws::{each_text_has_one_answer, valid_parts_have_a_text};
 pub use reading::{NotRead, read};
