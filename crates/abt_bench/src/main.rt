@@ -5,21 +5,24 @@
 mod booth;
 mod chains;
 mod rounds;
+mod texts;
 
 use std::{env, io};
 
 fn main(rt: HostRuntime) -> io::Result<()> {
     let mut words = env::args(&rt)?.skip(1);
     let Some(word) = words.next() else {
-        return eprintln!(&rt; "usage: abt_bench small|booth|chains");
+        return eprintln!(&rt; "usage: abt_bench small|booth|chains|texts");
     };
     match word.as_str() {
         "small" => {
             booth::small(&rt, rt.alloc())?;
-            chains::small(&rt, rt.alloc())
+            chains::small(&rt, rt.alloc())?;
+            texts::small(&rt, rt.alloc())
         }
         "booth" => booth::times(&rt, rt.alloc()),
         "chains" => chains::times(&rt, rt.alloc()),
-        _ => eprintln!(&rt; "usage: abt_bench small|booth|chains"),
+        "texts" => texts::times(&rt, rt.alloc()),
+        _ => eprintln!(&rt; "usage: abt_bench small|booth|chains|texts"),
     }
 }
