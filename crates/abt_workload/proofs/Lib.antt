@@ -21,4 +21,6 @@ pub mod Totals
 pub mod Validity
 pub mod Verdicts
 pub mod Weights
+pub mod WholeTexts
 pub mod WordEnds
+pub mod WritingLines
