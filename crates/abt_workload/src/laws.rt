@@ -1,7 +1,8 @@
 //! Laws of the grammar.
 
+ghost use Rattle.abt_machine.specs.declared.workload.Parts.{Parts};
 ghost use Rattle.abt_machine.specs.Words.{Text};
-ghost use Rattle.abt_workload.specs.Laws.{IsNotBoth, IsReadOrRefused, ReadsOnce, RefusesOnce};
+ghost use Rattle.abt_workload.specs.Laws.{HasText, IsNotBoth, IsReadOrRefused, ReadsOnce, ReadsValid, RefusesOnce};
 
 /// Each text either reads to one workload, or is refused at one line with one fault.
 pub fn each_text_has_one_answer()
@@ -9,4 +10,10 @@ pub fn each_text_has_one_answer()
     ensures not_both { (text : Text) → IsNotBoth text }
     ensures one_workload { (text : Text) → ReadsOnce text }
     ensures one_refusal { (text : Text) → RefusesOnce text }
+{}
+
+/// Parts are those of a workload exactly where some text reads to them; then the canonical text does.
+pub fn valid_parts_have_a_text()
+    ensures canonical { (W : Parts) → HasText W }
+    ensures only_valid { (text : Text) (W : Parts) → ReadsValid text W }
 {}

@@ -15,6 +15,6 @@ mod writing;
 #[cfg(test)]
 mod writing_tests;
 
-pub use laws::each_text_has_one_answer;
+pub use laws::{each_text_has_one_answer, valid_parts_have_a_text};
 pub use reading::{NotRead, read};
 pub use writing::write;

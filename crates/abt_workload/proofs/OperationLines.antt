@@ -1,0 +1,156 @@
+-- The lines of a unit's operations are taken.
+use Rattle.std.proofs.Common.{◌≡◌, ◌<◌, ◌≤◌, ◌+◌, ◌&&◌, ◌||◌, ◌∙◌, ℕ, zero, suc, Bool, true, false, List, [], ◌∷◌, ◌++◌, All, Option, Some, ap, append_assoc, arith, flat_map, length, length-append, map, nat_le, refl, rules, subst, sym, tests}
+use Rattle.std.specs.List.{list_any, range_with_len}
+use Rattle.std.proofs.lemmas.List.{append-nil, length-map, map-append}
+use Rattle.std.proofs.lemmas.List.Elements.{All-append}
+use Rattle.abt_machine.specs.declared.grammar.Form.TheVariants as form
+use Rattle.abt_machine.specs.declared.numbers.PoolNo.{PoolNo}
+use Rattle.abt_machine.specs.declared.operations.Body.{Body}
+use Rattle.abt_machine.specs.declared.operations.Body.TheVariants as body
+use Rattle.abt_machine.specs.declared.operations.Op.{Op}
+use Rattle.abt_machine.specs.declared.operations.Op.TheVariants as op
+use Rattle.abt_machine.specs.declared.workload.Parts.{Parts}
+use Rattle.abt_machine.specs.declared.workload.UnitPart.{UnitPart}
+use Rattle.abt_machine.specs.Canonical.{op_words, word_at}
+use Rattle.abt_machine.specs.Declaring.{Above, body_and, op_with, said_in, unit_and}
+use Rattle.abt_machine.specs.Faults.{blocks_task, is_long_word, is_misplaced, is_past_limit, is_task_body}
+use Rattle.abt_machine.specs.Operations.{IsDeclared, may_block, said_by}
+use Rattle.abt_machine.specs.Valid.{IsValid, IsWord, words_said}
+use Rattle.abt_machine.specs.Words.{Text}
+use Rattle.abt_machine.specs.Workloads.{is_sched, ops_of}
+use Rattle.abt_workload.specs.Slots.{values}
+use Rattle.abt_workload.proofs.Growing.{all-cons, all-head, all-tail}
+use Rattle.abt_workload.proofs.NumberedLines.{AreFit, fit-words, line-taken}
+use Rattle.abt_workload.proofs.OperationForms.{IsFormed, first, formed, op_numbers}
+use Rattle.abt_workload.proofs.Proper.{none-of}
+use Rattle.abt_workload.proofs.Reaching.{AreMet, all-fit, reached}
+use Rattle.abt_workload.proofs.Taking.{Takes, TakesAll, plain-word}
+
+-- the numbers of an operation name what is declared
+op-met : (W : Parts) (u : ℕ) (o : Op) → IsDeclared W o → AreMet W u (op_numbers o)
+op-met W u (op.Set n) h = (omega arith, omega arith, h)
+op-met W u (op.Add n) h = (omega arith, omega arith, h)
+op-met W u (op.Say w) h = tt
+op-met W u (op.Migratable v true) h = (h, (omega arith, omega arith, omega arith))
+op-met W u (op.Migratable v false) h = (h, (omega arith, omega arith, omega arith))
+op-met W u o h = h
+
+-- the numbers of words that are declared
+said-there : (W : Parts) (o : Op) → IsDeclared W o → All (λ w. w < length W.words) (said_by o)
+said-there W (op.Say w) h = all-cons (λ k. k < length W.words) w [] h (none-of _)
+said-there W o h = none-of _
+
+-- said words are words
+all-words : (W : Parts) → IsValid W → (ns : List ℕ) → All (λ w. w < length W.words) ns → All IsWord (map (word_at W) ns)
+all-words W v [] h = none-of IsWord
+all-words W v (n ∷ ns) h = all-cons IsWord (word_at W n) _ (v.words n [] (all-head (λ w. w < length W.words) n ns h)) (all-words W v ns (λ k d lt. h (suc k) d (omega arith)))
+
+-- they are short
+all-short : (W : Parts) → IsValid W → (ns : List ℕ) → All (λ w. w < length W.words) ns → All (λ w. length (word_at W w) ≤ 64) ns
+all-short W v ns h = λ k d lt. (v.words _ [] (h k d lt)).few_bytes
+
+module _ (W : Parts) (v : IsValid W) (units : List UnitPart) where
+  -- the line of an operation is taken below a unit's that may have one more
+  pub op-taken : (part : UnitPart) (said : List ℕ) (o : Op) → is_sched part.body ≡ false → length (ops_of part.body) < 256 → (is_task_body part.body && may_block o) ≡ false → IsDeclared W o → All (λ w. w ≡ length said) (said_by o)
+      → Takes (reached W 9 units (Some part) said) (op_words W o) (reached W 9 units (Some (unit_and o part)) (said ++ said_by o))
+  op-taken part said o takes' few task h next = by (formed W o)
+    where
+      by : ((f : Op) × IsFormed W o f) → Takes (reached W 9 units (Some part) said) (op_words W o) (reached W 9 units (Some (unit_and o part)) (said ++ said_by o))
+      by (f, d) =
+          let a : Above = reached W 9 units (Some part) said in
+          let there = said-there W o h in
+          let fit : AreFit a (op_numbers o) = all-fit W v 9 units (Some part) said (op_numbers o) (op-met W (length units + 1) o h) in
+          let words : All IsWord (op_words W o) = subst (λ (ws : List Text). All IsWord ws) (sym d.words) (all-cons IsWord (first (op_words W o)) _ (plain-word _ d.plain) (All-append IsWord _ _ (fit-words a (op_numbers o) fit) (all-words W v (said_by o) there))) in
+          let long : nat_le 256 (length (ops_of part.body)) ≡ false = search (rules, tests) in
+          let short : is_long_word f (op_words W o) ≡ false = d.short (all-short W v (said_by o) there) in
+          let limit : is_past_limit a (form.Operation f) (op_words W o) (values (op_numbers o)) ≡ false = rw (long, short) refl in
+          let blocks : blocks_task a (form.Operation f) ≡ false = ap (λ (b : Bool). is_task_body part.body && b) d.blocks ∙ task in
+          let placed : is_misplaced a (form.Operation f) ≡ false = rw takes' refl in
+          let took = line-taken a (op_words W o) (form.Operation f) (op_numbers o) words d.kept refl d.form_is placed d.numbers fit refl limit blocks refl refl in
+          let made : op_with f (length (map (word_at W) said)) (values (op_numbers o)) ≡ o = d.made (length (map (word_at W) said)) (subst (λ (n : ℕ). All (λ w. w ≡ n) (said_by o)) (sym (length-map said (word_at W))) next) in
+          let more : map (word_at W) said ++ said_in f (op_words W o) ≡ map (word_at W) (said ++ said_by o) = ap (λ (ws : List Text). map (word_at W) said ++ ws) d.said ∙ sym (map-append (word_at W) said (said_by o)) in
+          subst (λ (b : Above). Takes a (op_words W o) b)
+          (ap (λ (p : Op). record a { last = Some (unit_and p part); words = map (word_at W) said ++ said_in f (op_words W o) }) made ∙ ap (λ (ws : List Text). record a { last = Some (unit_and o part); words = ws }) more)
+          took
+
+-- Operations one after the other.
+
+-- a body like this one, with these operations if it has any
+abbrev pub body_like : Body → List Op → Body
+body_like (body.Ult os) ops = body.Ult ops
+body_like (body.Task os) ops = body.Task ops
+body_like (body.Sched g) ops = body.Sched g
+
+-- it is a scheduler where the other is
+like-sched : (b : Body) (ops : List Op) → is_sched (body_like b ops) ≡ is_sched b
+like-sched (body.Ult os) ops = refl
+like-sched _ ops = refl
+
+-- it is a tasklet's where the other is
+like-task : (b : Body) (ops : List Op) → is_task_body (body_like b ops) ≡ is_task_body b
+like-task (body.Ult os) ops = refl
+like-task _ ops = refl
+
+-- these are its operations
+like-ops : (b : Body) (ops : List Op) → is_sched b ≡ false → ops_of (body_like b ops) ≡ ops
+like-ops (body.Ult os) ops e = refl
+like-ops (body.Task os) ops e = refl
+like-ops (body.Sched g) ops e = cc
+
+-- one operation more
+like-and : (b : Body) (ops : List Op) (o : Op) → body_and o (body_like b ops) ≡ body_like b (ops ++ o ∷ [])
+like-and (body.Ult os) ops o = refl
+like-and _ ops o = refl
+
+-- a body is like itself
+pub like-whole : (b : Body) → body_like b (ops_of b) ≡ b
+like-whole (body.Ult os) = refl
+like-whole _ = refl
+
+-- a number of a range, by those before it
+range-place : (k n w : ℕ) (xs ys : List ℕ) → range_with_len k n ≡ xs ++ w ∷ ys → w ≡ k + length xs
+range-place k zero w [] ys e = cc
+range-place k (suc n) w [] ys e = let same : k ≡ w = cc in omega arith
+range-place k zero w (x ∷ xs) ys e = cc
+range-place k (suc n) w (x ∷ xs) ys e = let rest : range_with_len (k + 1) n ≡ xs ++ w ∷ ys = cc in let h = range-place (k + 1) n w xs ys rest in omega arith
+
+-- the word that is said next has the count of those before it as its number
+next-said : (o : Op) (n : ℕ) (said rest : List ℕ) → range_with_len 0 n ≡ said ++ (said_by o ++ rest) → All (λ w. w ≡ length said) (said_by o)
+next-said (op.Say w) n said rest e = let h = range-place 0 n w said rest e in all-cons (λ k. k ≡ length said) w [] (omega arith) (none-of _)
+next-said _ n said rest e = none-of _
+
+module _ (W : Parts) (v : IsValid W) (units : List UnitPart) (b : Body) (start : Option PoolNo) (takes' : is_sched b ≡ false) where
+  -- the unit with these operations
+  abbrev with_ops : List Op → UnitPart
+  with_ops ops = record { body = body_like b ops; start = start }
+
+  -- the lines of a unit's operations are taken below those of the operations before them
+  pub ops-taken : (done ops : List Op) (said after : List ℕ) → length done + length ops ≤ 256 → (is_task_body b && list_any may_block ops) ≡ false → All (IsDeclared W) ops → words_said W ≡ said ++ (flat_map said_by ops ++ after)
+      → TakesAll (reached W 9 units (Some (record { body = body_like b done; start = start })) said) (map (op_words W) ops) (reached W 9 units (Some (record { body = body_like b (done ++ ops); start = start })) (said ++ flat_map said_by ops))
+  ops-taken done [] said after few task all all_said =
+      ap (λ (os : List Op). reached W 9 units (Some (with_ops os)) said) (sym (append-nil done)) ∙ ap (λ (ns : List ℕ). reached W 9 units (Some (with_ops (done ++ []))) ns) (sym (append-nil said))
+  ops-taken done (o ∷ os) said after few task all all_said =
+      let here : IsDeclared W o = all-head (IsDeclared W) o os all in
+      let count : ops_of (body_like b done) ≡ done = like-ops b done takes' in
+      let short : length (ops_of (body_like b done)) < 256 = rw count (omega arith) in
+      let no_task : (is_task_body (body_like b done) && may_block o) ≡ false = ap (λ (t : Bool). t && may_block o) (like-task b done) ∙ and-first (is_task_body b) (may_block o) (list_any may_block os) task in
+      let seam : words_said W ≡ said ++ (said_by o ++ (flat_map said_by os ++ after)) = all_said ∙ ap (λ (ns : List ℕ). said ++ ns) (append_assoc (said_by o) (flat_map said_by os) after) in
+      let next = next-said o (length W.words) said (flat_map said_by os ++ after) (sym v.said ∙ seam) in
+      let took = op-taken W v units (with_ops done) said o (like-sched b done ∙ takes') short no_task here next in
+      let more : Takes (reached W 9 units (Some (with_ops done)) said) (op_words W o) (reached W 9 units (Some (with_ops (done ++ o ∷ []))) (said ++ said_by o)) =
+      subst (λ (c : Body). Takes (reached W 9 units (Some (with_ops done)) said) (op_words W o) (reached W 9 units (Some (record { body = c; start = start })) (said ++ said_by o))) (like-and b done o) took in
+      let counted : length (done ++ o ∷ []) ≡ length done + 1 = length-append done (o ∷ []) in
+      let rest = ops-taken (done ++ o ∷ []) os (said ++ said_by o) after (omega arith) (and-rest (is_task_body b) (may_block o) (list_any may_block os) task) (all-tail (IsDeclared W) o os all) (seam ∙ sym (append_assoc said (said_by o) (flat_map said_by os ++ after))) in
+      let at_end : reached W 9 units (Some (with_ops ((done ++ o ∷ []) ++ os))) ((said ++ said_by o) ++ flat_map said_by os) ≡ reached W 9 units (Some (with_ops (done ++ o ∷ os))) (said ++ (said_by o ++ flat_map said_by os)) =
+      ap (λ (ps : List Op). reached W 9 units (Some (with_ops ps)) ((said ++ said_by o) ++ flat_map said_by os)) (append_assoc done (o ∷ []) os) ∙ ap (λ (ns : List ℕ). reached W 9 units (Some (with_ops (done ++ o ∷ os))) ns) (append_assoc said (said_by o) (flat_map said_by os)) in
+      (reached W 9 units (Some (with_ops (done ++ o ∷ []))) (said ++ said_by o), more, subst (λ (c : Above). TakesAll (reached W 9 units (Some (with_ops (done ++ o ∷ []))) (said ++ said_by o)) (map (op_words W) os) c) at_end rest)
+    where
+      and-first : (t x y : Bool) → (t && (x || y)) ≡ false → (t && x) ≡ false
+      and-first true true y e = e
+      and-first true false y e = refl
+      and-first false x y e = refl
+
+      and-rest : (t x y : Bool) → (t && (x || y)) ≡ false → (t && y) ≡ false
+      and-rest true true y e = cc
+      and-rest true false y e = e
+      and-rest false x y e = refl
