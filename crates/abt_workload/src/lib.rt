@@ -11,6 +11,10 @@ mod reading;
 #[cfg(test)]
 mod tests;
 mod text;
+mod writing;
+#[cfg(test)]
+mod writing_tests;
 
 pub use laws::{each_text_has_one_answer, valid_parts_have_a_text};
 pub use reading::{NotRead, read};
+pub use writing::write;
