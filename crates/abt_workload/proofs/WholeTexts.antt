@@ -1,5 +1,5 @@
 -- A workload's text, appended section by section.
-use Rattle.std.proofs.Common.{◌≡◌, ◌==◌, ◌-◌, ◌<◌, ◌∙◌, ℕ, true, List, [], ◌∷◌, ◌++◌, Some, ap, append_assoc, codes, decimal, flat_map, get_or, length, refl, slice_get, sym, take}
+use Rattle.std.proofs.Common.{◌≡◌, ◌==◌, ◌∙◌, ℕ, true, List, [], ◌∷◌, ◌++◌, Some, ap, append_assoc, codes, decimal, flat_map, get_or, length, slice_get, sym, take}
 use Rattle.std.specs.List.{All, enumerate_from}
 use Rattle.std.proofs.lemmas.Bool.{eq-eqb}
 use Rattle.std.proofs.lemmas.Option.{slice_get-get_or, slice_get_within}

@@ -1,10 +1,9 @@
 -- Lines, appended one behind the other.
-use Rattle.std.proofs.Common.{◌≡◌, ◌<◌, ◌+◌, ◌∙◌, ℕ, List, [], ◌∷◌, ◌++◌, Some, add-zero, ap, append_assoc, arith, flat_map, get_or, length, map, refl, slice_get, sym, take, zero-add}
+use Rattle.std.proofs.Common.{◌≡◌, ◌<◌, ◌+◌, ◌∙◌, ℕ, List, [], ◌∷◌, ◌++◌, Some, add-zero, ap, append_assoc, arith, flat_map, get_or, length, refl, slice_get, take, zero-add}
 use Rattle.std.specs.List.{enumerate_from}
 use Rattle.std.proofs.lemmas.Grind.{flat_map-append}
 use Rattle.std.proofs.lemmas.List.{append-nil, length-take-le, map_push, take_more}
 use Rattle.std.proofs.lemmas.Option.{get_or_from_slice_get, slice_get_within}
-use Rattle.std.proofs.Math.Seq.{take-length}
 use Rattle.abt_machine.specs.Words.{Text, ended, line_of, numbered, spaced, text_of}
 
 -- the element behind a list has the next number

@@ -1,4 +1,4 @@
-//! Workload texts: read to a workload, or refused at a line.
+//! Workload texts: read to a workload, or refused at a line; workloads, written as their canonical text.
 #![tactic(auto)]
 
 mod declare;

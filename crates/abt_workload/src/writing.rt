@@ -3,6 +3,7 @@
 ghost use Rattle.std.specs.Prelude.{◌≡◌, ◌<◌, ◌++◌, ◌∷◌, [], All, IfOk, OnOk, codes, decimal, flat_map, length, map};
 ghost use Rattle.std.specs.List.{enumerate_from};
 ghost use Rattle.abt_machine.specs.Canonical.{access_words, body_words, canonical_text, combine_name, digit_of, fitted, keys_lines, kind_name, object_line, op_words, pool_line, rule_words, sched_line, start_words, stream_line, thing_words, unit_lines, version_line};
+ghost use Rattle.abt_machine.specs.Grammar.{Reads};
 ghost use Rattle.abt_machine.specs.Operations.{IsDeclared};
 ghost use Rattle.abt_machine.specs.Valid.{IsValid};
 ghost use Rattle.abt_machine.specs.Words.{ended, line_of, numbered, spaced, text_of};
@@ -412,7 +413,8 @@ fn fit(text: &mut Vec<u8>)
 /// # Errors
 /// Want of memory.
 pub fn write(alloc: Global, w: &Workload) -> Result<Vec<u8>, Want>
-    ensures { IfOk result (λ text. text.items ≡ canonical_text w.now) }
+    ensures text { IfOk result (λ text. text.items ≡ canonical_text w.now) }
+    ensures read_back { IfOk result (λ text. Reads text.items w.now) }
 {
     let mut out = Vec::new(alloc);
     push_head(&mut out, w.streams(), w.keys())?;
