@@ -152,8 +152,8 @@ pub enum Body {
 }
 
 impl Body {
-    // The operations of the body, none of a scheduler.
-    pub(crate) fn ops(&self) -> &[Op]
+    /// The operations of the body; a scheduler has none.
+    pub fn ops(&self) -> &[Op]
         ensures { result.now ≡ ops_of self.now }
     {
         match self {

@@ -341,17 +341,6 @@ fn push_ops(out: &mut Vec<u8>, w: &Workload, ops: &[Op]) -> Result<(), Want>
     Ok(())
 }
 
-// The operations of a body.
-fn ops(body: &Body) -> &[Op]
-    ensures { result.now ≡ ops_of body.now }
-{
-    match body {
-        Body::Ult(ops) => ops.items(),
-        Body::Task(ops) => ops.items(),
-        Body::Sched(_) => &[],
-    }
-}
-
 // Appends what a unit is, with a space before each word.
 fn push_body(out: &mut Vec<u8>, body: &Body) -> Result<(), Want>
     ensures { OnOk result (out.new.items ≡ out.old.items ++ spaced (body_words body.now)) }
@@ -382,7 +371,7 @@ fn push_unit(out: &mut Vec<u8>, w: &Workload, u: u32, part: &UnitPart) -> Result
     push_body(out, &part.body)?;
     push_start(out, part.start)?;
     end_line(out)?;
-    push_ops(out, w, ops(&part.body))
+    push_ops(out, w, part.body.ops())
 }
 
 // Appends the lines of the units, each with those of its operations.
