@@ -59,11 +59,13 @@ fn is_too_long(alloc: Global, text: &[u8]) -> bool {
     }
 }
 
+// Appends a word and a number, which begin a line.
 fn begin(out: &mut Vec<u8>, word: &[u8], n: u64) -> Result<(), Want> {
     out.extend_from_slice(word)?;
     push_number(out, n)
 }
 
+// Appends 64 pools.
 fn push_pools(out: &mut Vec<u8>) -> Result<(), Want> {
     for p in 0..64u64 {
         begin(out, b"pool ", p)?;
@@ -72,7 +74,7 @@ fn push_pools(out: &mut Vec<u8>) -> Result<(), Want> {
     Ok(())
 }
 
-// Appends eight pools, from pool p on.
+// Appends the numbers of eight pools, from pool p on.
 fn push_eight(out: &mut Vec<u8>, p: u64) -> Result<(), Want>
     requires { p < 64 }
 {
@@ -82,6 +84,7 @@ fn push_eight(out: &mut Vec<u8>, p: u64) -> Result<(), Want>
     Ok(())
 }
 
+// Appends 64 schedulers, each of eight pools.
 fn push_scheds(out: &mut Vec<u8>) -> Result<(), Want> {
     for g in 0..64u64 {
         begin(out, b"sched ", g)?;
@@ -92,6 +95,7 @@ fn push_scheds(out: &mut Vec<u8>) -> Result<(), Want> {
     Ok(())
 }
 
+// Appends eight streams.
 fn push_streams(out: &mut Vec<u8>) -> Result<(), Want> {
     for s in 0..8u64 {
         begin(out, b"stream ", s)?;
@@ -102,6 +106,7 @@ fn push_streams(out: &mut Vec<u8>) -> Result<(), Want> {
     Ok(())
 }
 
+// Appends 256 objects.
 fn push_objects(out: &mut Vec<u8>) -> Result<(), Want> {
     for x in 0..256u64 {
         begin(out, b"object ", x)?;
