@@ -2,7 +2,8 @@
 use Rattle.std.proofs.Common.{append_assoc, codes, decimal, drop, flat_map, get_or, inl, inr, is_none, length-append, unwrap_or, ◌⊎◌, ◌||◌, ◌≡◌, ◌<◌, ◌≤◌, ◌+◌, ◌*◌, ◌^◌, ◌==◌, ◌&&◌, ◌∙◌, ℕ, zero, suc, Bool, true, false, not, List, [], ◌∷◌, ◌++◌, All, IsUtf8, Option, Some, None, ap, arith, cond, find, fold, length, nat_le, nat_lt, option_to_list, refl, slice_get, subst, sym, take}
 use Rattle.std.specs.List.{enumerate_from}
 use Rattle.std.proofs.lemmas.Bool.{eqb-true}
-use Rattle.std.proofs.Math.Seq.{take-append_seam}
+use Rattle.std.proofs.lemmas.List.Sums.{fold-append}
+use Rattle.std.proofs.Math.Seq.{get_or-append_seam, take-append_seam}
 use Rattle.std.specs.Option.{option_map_or}
 use Rattle.std.proofs.lemmas.Option.{slice_get_within}
 use Rattle.std.proofs.lemmas.Str.{IsUtf8-from_is_utf8}
@@ -296,23 +297,15 @@ total-lines a (line ∷ lines) h ready none =
     let t = s.0 in
     omega arith
 
-push-line : (s : Above) (xs : List Text) (x : Text) → fold and_line s (xs ++ x ∷ []) ≡ and_line (fold and_line s xs) x
-push-line s [] x = refl
-push-line s (y ∷ ys) x = push-line (and_line s y) ys x
-
-seam : (pre : List Text) (x : Text) (xs : List Text) → get_or (pre ++ x ∷ xs) (length pre) [] ≡ x
-seam [] x xs = refl
-seam (p ∷ pre) x xs = seam pre x xs
-
 none-from : (L pre rest : List Text) → L ≡ pre ++ rest → ((i : ℕ) → i < length L → line_fault (declared_by (take i L)) (get_or L i []) ≡ None) → AllNone (declared_by pre) rest
 none-from L pre [] e f = tt
 none-from L pre (x ∷ rest) e f =
     let lt : length pre < length L = let l : length L ≡ length (pre ++ x ∷ rest) = ap length e in let m : length (pre ++ x ∷ rest) ≡ length pre + length (x ∷ rest) = length-append pre _ in omega arith in
     let front : take (length pre) L ≡ pre = ap (take (length pre)) e ∙ take-append_seam pre (x ∷ rest) in
-    let item : get_or L (length pre) [] ≡ x = ap (λ (ls : List Text). get_or ls (length pre) []) e ∙ seam pre x rest in
+    let item : get_or L (length pre) [] ≡ x = ap (λ (ls : List Text). get_or ls (length pre) []) e ∙ get_or-append_seam pre x rest [] in
     let here : line_fault (declared_by pre) x ≡ None = ap (λ (t : Text). line_fault (declared_by pre) t) (sym item) ∙ (ap (λ (p : List Text). line_fault (declared_by p) (get_or L (length pre) [])) (sym front) ∙ f (length pre) lt) in
     let more : AllNone (declared_by (pre ++ x ∷ [])) rest = none-from L (pre ++ x ∷ []) rest (e ∙ sym (append_assoc pre (x ∷ []) rest)) f in
-    (here, subst (λ (b : Above). AllNone b rest) (push-line nothing pre x) more)
+    (here, subst (λ (b : Above). AllNone b rest) (fold-append and_line nothing pre (x ∷ [])) more)
 
 -- what is written for a faultless text is at most one byte longer, a last line feed
 pub total-text : (text : Text) → ((i : ℕ) → find (has_at (lines_of text) i) faults ≡ None) → total (declared_by (lines_of text)) ≤ length text + 1

@@ -2,6 +2,7 @@
 use Rattle.std.proofs.Common.{◌≡◌, ◌<◌, ◌≤◌, ◌+◌, ◌==◌, ◌&&◌, ◌∙◌, ℕ, zero, suc, Bool, true, false, List, [], ◌∷◌, ◌++◌, length, take, drop, get_or, find, Option, Some, None, arith, refl, sym, ap, add-one, fold, length-drop, if◌then◌else◌, nat_lt, rules, tests, subst, inl, inr, ◌⊎◌}
 use Rattle.std.proofs.lemmas.Bool.{cases_order, lt-ltb}
 use Rattle.std.proofs.lemmas.List.{take_all, take_more}
+use Rattle.std.proofs.lemmas.List.Sums.{fold-append}
 use Rattle.abt_machine.specs.declared.program.Fault.{Fault}
 use Rattle.abt_machine.specs.declared.program.Fault.TheVariants as fault
 use Rattle.abt_machine.specs.Declaring.{Above, nothing}
@@ -23,14 +24,10 @@ front [] (suc n) x xs e = cc
 front (y ∷ ys) zero x xs e = record { lt = omega arith; item = cc; next = cc }
 front (y ∷ ys) (suc n) x xs e = let h = front ys n x xs e in record { lt = omega (arith, h.lt); item = h.item; next = h.next }
 
-fold_push : (s : Above) (xs : List Text) (x : Text) → fold and_line s (xs ++ x ∷ []) ≡ and_line (fold and_line s xs) x
-fold_push s [] x = refl
-fold_push s (y ∷ ys) x = fold_push (and_line s y) ys x
-
 pub declared-more : (L : List Text) (n : ℕ) (x : Text) (xs : List Text) (a b : Above) → drop n L ≡ x ∷ xs → a ≡ declared_by (take n L) → b ≡ and_line a x → b ≡ declared_by (take (n + 1) L)
 declared-more L n x xs a b e at is =
     let h = front L n x xs e in
-    is ∙ (ap (λ (s : Above). and_line s x) at ∙ (ap (λ (t : Text). and_line (declared_by (take n L)) t) (sym h.item) ∙ sym (ap declared_by (take_more L n [] h.lt) ∙ fold_push nothing (take n L) (get_or L n []))))
+    is ∙ (ap (λ (s : Above). and_line s x) at ∙ (ap (λ (t : Text). and_line (declared_by (take n L)) t) (sym h.item) ∙ sym (ap declared_by (take_more L n [] h.lt) ∙ fold-append and_line nothing (take n L) (get_or L n [] ∷ []))))
 
 pub drop-more : (L : List Text) (n : ℕ) (x : Text) (xs : List Text) → drop n L ≡ x ∷ xs → drop (n + 1) L ≡ xs
 drop-more L n x xs e = rw add-one ((front L n x xs e).next)

@@ -1,6 +1,7 @@
 -- Lines that are written of words, and texts of lines: they are read as they were written.
 use Rattle.std.proofs.Common.{◌≡◌, ◌≢◌, ◌<◌, ◌≤◌, ◌-◌, ◌==◌, ◌∙◌, ℕ, zero, suc, Bool, true, false, List, [], ◌∷◌, ◌++◌, All, IsAscii, IsUtf8, ap, append-nil, append_assoc, arith, cond, get_or, length, length-append, map, nat_lt, refl, rules, sym, tests, take}
 use Rattle.std.specs.Str.{is_utf8}
+use Rattle.std.proofs.lemmas.List.{map-append}
 use Rattle.std.proofs.lemmas.List.Concat.{flat_map-append}
 use Rattle.std.proofs.lemmas.List.Elements.{All-append}
 use Rattle.std.proofs.lemmas.List.Folds.{list_any_none}
@@ -164,11 +165,7 @@ lines-without-end : (lines : List (List Text)) (last : List Text) → All (All I
 lines-without-end lines last h here some =
     let unended : IsUnended (line_of last) = line-unended last here in
     let whole : lines_of (line_of last) ≡ line_of last ∷ [] = lines_whole (line_of last) (line-some last here some) (λ j lt. unended j 0 lt) in
-    lines-before lines (line_of last) h ∙ (ap (λ (ls : List Text). map line_of lines ++ ls) whole ∙ sym (map-append lines))
-  where
-    map-append : (xs : List (List Text)) → map line_of (xs ++ last ∷ []) ≡ map line_of xs ++ line_of last ∷ []
-    map-append [] = refl
-    map-append (x ∷ xs) = ap (λ (ls : List Text). line_of x ∷ ls) (map-append xs)
+    lines-before lines (line_of last) h ∙ (ap (λ (ls : List Text). map line_of lines ++ ls) whole ∙ sym (map-append line_of lines (last ∷ [])))
 
 -- so they are where the text goes without its last line feed
 pub lines-of-fitted : (lines : List (List Text)) (last : List Text) → All (All IsWord) lines → All IsWord last → 0 < length last → lines_of (fitted (text_of (lines ++ last ∷ []))) ≡ map line_of (lines ++ last ∷ [])
