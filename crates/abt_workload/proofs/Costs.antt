@@ -104,6 +104,10 @@ ops-and (p ∷ os) o = let h = ops-and os o in omega arith
 abbrev pub header : ℕ → UnitPart → List Text
 header u part = codes "unit" ∷ decimal u ∷ body_words part.body ++ start_words part.start
 
+-- the lines of units, from a number on
+abbrev pub units_lines : Parts → ℕ → List UnitPart → List (List Text)
+units_lines W k us = flat_map (λ p. unit_lines W p.0 p.1) (enumerate_from k us)
+
 abbrev pub units_cost : ℕ → List UnitPart → ℕ
 units_cost k [] = 0
 units_cost k (part ∷ parts) = cost (header k part) + ops_cost (ops_of part.body) + units_cost (k + 1) parts
@@ -143,12 +147,12 @@ ops-said W (o ∷ os) =
     let s = said-append W (said_by o) (flat_map said_by os) in
     omega arith
 
-pub units-said : (W : Parts) (k : ℕ) (us : List UnitPart) → cost_all (flat_map (λ p. unit_lines W p.0 p.1) (enumerate_from k us)) ≡ units_cost k us + bytes_of (map (word_at W) (flat_map (λ (part : UnitPart). flat_map said_by (ops_of part.body)) us))
+pub units-said : (W : Parts) (k : ℕ) (us : List UnitPart) → cost_all (units_lines W k us) ≡ units_cost k us + bytes_of (map (word_at W) (flat_map (λ (part : UnitPart). flat_map said_by (ops_of part.body)) us))
 units-said W k [] = refl
 units-said W k (u ∷ us) =
     let h = units-said W (k + 1) us in
     let o = ops-said W (ops_of u.body) in
-    let c = cost-append (unit_lines W k u) (flat_map (λ p. unit_lines W p.0 p.1) (enumerate_from (k + 1) us)) in
+    let c = cost-append (unit_lines W k u) (units_lines W (k + 1) us) in
     let d = cost-cons (header k u) (map (op_words W) (ops_of u.body)) in
     let s = said-append W (flat_map said_by (ops_of u.body)) (flat_map (λ (part : UnitPart). flat_map said_by (ops_of part.body)) us) in
     omega arith

@@ -1,6 +1,5 @@
 -- What lines declare is sound so far.
-use Rattle.std.proofs.Common.{append_assoc, codes, decimal, drop, flat_map, get_or, inl, inr, is_none, length-append, unwrap_or, ◌⊎◌, ◌||◌, ◌≡◌, ◌<◌, ◌≤◌, ◌+◌, ◌*◌, ◌^◌, ◌==◌, ◌&&◌, ◌∙◌, ℕ, zero, suc, Bool, true, false, not, List, [], ◌∷◌, ◌++◌, All, IsUtf8, Option, Some, None, ap, arith, cond, find, fold, length, nat_le, nat_lt, option_to_list, refl, slice_get, subst, sym, take}
-use Rattle.std.specs.List.{enumerate_from}
+use Rattle.std.proofs.Common.{append_assoc, codes, decimal, drop, get_or, inl, inr, is_none, length-append, unwrap_or, ◌⊎◌, ◌||◌, ◌≡◌, ◌<◌, ◌≤◌, ◌+◌, ◌*◌, ◌^◌, ◌==◌, ◌&&◌, ◌∙◌, ℕ, zero, suc, Bool, true, false, not, List, [], ◌∷◌, ◌++◌, All, IsUtf8, Option, Some, None, ap, arith, cond, find, fold, length, nat_le, nat_lt, option_to_list, refl, slice_get, subst, sym, take}
 use Rattle.std.proofs.lemmas.Bool.{eqb-true}
 use Rattle.std.proofs.lemmas.List.Sums.{fold-append}
 use Rattle.std.proofs.Math.Seq.{get_or-append_seam, take-append_seam}
@@ -24,7 +23,7 @@ use Rattle.abt_machine.specs.declared.operations.Thing.{Thing}
 use Rattle.abt_machine.specs.declared.operations.Thing.TheVariants as thing
 use Rattle.abt_machine.specs.declared.program.Fault.{Fault}
 use Rattle.abt_machine.specs.declared.program.Fault.TheVariants as fault
-use Rattle.abt_machine.specs.Canonical.{keys_lines, object_line, pool_line, sched_line, stream_line, unit_lines, version_line, workload_lines}
+use Rattle.abt_machine.specs.Canonical.{keys_lines, object_line, pool_line, sched_line, stream_line, version_line, workload_lines}
 use Rattle.abt_machine.specs.declared.workload.Parts.{Parts}
 use Rattle.abt_machine.specs.declared.workload.UnitPart.{UnitPart}
 use Rattle.abt_machine.specs.Declaring.{Above, at, listed, nothing, parts_of, word_in}
@@ -50,7 +49,7 @@ use Rattle.abt_workload.proofs.Soundness.{IsSound, none-passes, sound-of}
 use Rattle.abt_workload.proofs.Taken.{line_fault-of}
 use Rattle.abt_workload.proofs.Validity.{valid-of}
 use Rattle.abt_workload.proofs.Weights.{weight, words-weight}
-use Rattle.abt_workload.proofs.Costs.{all-said, cost, cost-append, cost-cons, cost_all, fitted-length, lines_from, mains-full, mains_cost, size, size-lines, units-said}
+use Rattle.abt_workload.proofs.Costs.{all-said, cost, cost-append, cost-cons, cost_all, fitted-length, lines_from, mains-full, mains_cost, size, size-lines, units-said, units_lines}
 use Rattle.abt_workload.proofs.Measures.{count_cost, end_cost, streams_cost, total, version_cost}
 use Rattle.abt_workload.proofs.Totals.{step}
 
@@ -335,7 +334,7 @@ whole-length a h ended =
     let M : List (List Text) = lines_from stream_line 0 W.mains in
     let O : List (List Text) = lines_from object_line 0 a.objects in
     let ul : List Text = codes "units" ∷ decimal (length W.units) ∷ [] in
-    let U : List (List Text) = flat_map (λ p. unit_lines W p.0 p.1) (enumerate_from 0 W.units) in
+    let U : List (List Text) = units_lines W 0 W.units in
     let K : List (List Text) = keys_lines a.keys in
     let c1 = cost-append ((((((version_line ∷ st ∷ K) ++ P) ++ S) ++ M) ++ O) ++ ul ∷ U) ((codes "end" ∷ []) ∷ []) in
     let c2 = cost-append (((((version_line ∷ st ∷ K) ++ P) ++ S) ++ M) ++ O) (ul ∷ U) in

@@ -187,17 +187,13 @@ pooled : (ns : List ℕ) → map (λ (p : PoolNo). decimal p.0) (map pool_no ns)
 pooled [] = refl
 pooled (n ∷ ns) = ap (λ (ws : List Text). decimal n ∷ ws) (pooled ns)
 
-sched-line : (r : Rule) (vals : List ℕ) → 0 < length (listed r vals) → sched_line (at vals 0) (sched_with r vals) ≡ filled (slots (form.Sched r)) [] vals
-sched-line rule.Basic [] lt = absurd (omega arith)
-sched-line rule.Basic (g ∷ vs) lt = ap (λ (ws : List Text). codes "sched" ∷ decimal g ∷ codes "basic" ∷ ws) (pooled vs)
-sched-line rule.Prio [] lt = absurd (omega arith)
-sched-line rule.Prio (g ∷ vs) lt = ap (λ (ws : List Text). codes "sched" ∷ decimal g ∷ codes "prio" ∷ ws) (pooled vs)
-sched-line (rule.Randws n) [] lt = absurd (omega arith)
-sched-line (rule.Randws n) (g ∷ []) lt = absurd (omega arith)
-sched-line (rule.Randws n) (g ∷ k ∷ vs) lt = ap (λ (ws : List Text). codes "sched" ∷ decimal g ∷ codes "randws" ∷ decimal k ∷ ws) (pooled vs)
-sched-line (rule.User n) [] lt = absurd (omega arith)
-sched-line (rule.User n) (g ∷ []) lt = absurd (omega arith)
-sched-line (rule.User n) (g ∷ k ∷ vs) lt = ap (λ (ws : List Text). codes "sched" ∷ decimal g ∷ codes "user" ∷ decimal k ∷ ws) (pooled vs)
+-- the line that is written for a scheduler has its form's words
+pub sched-line : (word : Text) (r : Rule) (vals : List ℕ) → 0 < length (listed r vals) → sched_line (at vals 0) (sched_with r vals) ≡ filled (slots (form.Sched r)) word vals
+sched-line word rule.Basic (g ∷ vs) lt = ap (λ (ws : List Text). codes "sched" ∷ decimal g ∷ codes "basic" ∷ ws) (pooled vs)
+sched-line word rule.Prio (g ∷ vs) lt = ap (λ (ws : List Text). codes "sched" ∷ decimal g ∷ codes "prio" ∷ ws) (pooled vs)
+sched-line word (rule.Randws n) (g ∷ k ∷ vs) lt = ap (λ (ws : List Text). codes "sched" ∷ decimal g ∷ codes "randws" ∷ decimal k ∷ ws) (pooled vs)
+sched-line word (rule.User n) (g ∷ k ∷ vs) lt = ap (λ (ws : List Text). codes "sched" ∷ decimal g ∷ codes "user" ∷ decimal k ∷ ws) (pooled vs)
+sched-line word r vals lt = absurd (omega arith)
 
 unit-line : (r : Role) (start : Option PoolNo) (vals : List ℕ) → header (at vals 0) (unit_with r start vals) ≡ filled (slots (form.Unit r start)) [] (at vals 0 ∷ at vals 1 ∷ at vals 2 ∷ [])
 unit-line role.Ult None vals = refl
@@ -263,7 +259,7 @@ module _ {a : Above} {line : Text} {words : List Text} where
   light-pool x s = cost-of _ _ (weight words) (pool-line x words (values_of (form.Pool x) words)) refl (light (form.Pool x) (kind_name (kind_named (word_in words 2))) s (pool-plain x).0 (pool-plain x).1 (pool-choice x words s.form_fits))
 
   pub light-sched : (r : Rule) → 0 < length (listed r (values_of (form.Sched r) words)) → IsSound a line words (form.Sched r) → cost (sched_line (at (values_of (form.Sched r) words) 0) (sched_with r (values_of (form.Sched r) words))) ≤ weight words
-  light-sched r some s = cost-of _ _ (weight words) (sched-line r (values_of (form.Sched r) words) some) refl (lighter [] (slots (form.Sched r)) words s.form_fits s.numbers (plain [] (slots (form.Sched r)) words (choiceless r)))
+  light-sched r some s = cost-of _ _ (weight words) (sched-line [] r (values_of (form.Sched r) words) some) refl (lighter [] (slots (form.Sched r)) words s.form_fits s.numbers (plain [] (slots (form.Sched r)) words (choiceless r)))
     where
       choiceless : (q : Rule) → no_choice (slots (form.Sched q)) ≡ true
       choiceless rule.Basic = refl

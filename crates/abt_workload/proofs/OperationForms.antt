@@ -68,6 +68,10 @@ abbrev op_in : Option Form → Op
 op_in (Some (form.Operation o)) = o
 op_in o = op.Print
 
+-- the operation that stands in the table of forms for lines such as o's
+abbrev pub op_form : Parts → Op → Op
+op_form W o = op_in (form_of (op_words W o))
+
 -- f stands for the lines of operations such as o, and o's line is this
 pub record IsFormed (W : Parts) (o f : Op) : Type 0 where
   pub form_is : form_of (op_words W o) ≡ Some (form.Operation f)
@@ -87,9 +91,18 @@ module _ (W : Parts) where
   not-long w h = let le : length (word_at W w) ≤ 64 = all-head (λ k. length (word_at W k) ≤ 64) w [] h in search (rules, tests)
 
   -- each operation has a form
-  pub formed : (o : Op) → (f : Op) × IsFormed W o f
+  pub formed : (o : Op) → IsFormed W o (op_form W o)
   unfolding digits
-  formed (op.Say w) = (op_in (form_of (op_words W (op.Say w))), record { form_is = refl; kept = refl; plain = refl; words = refl; numbers = refl; said = refl; blocks = refl; made = λ k h. ap op.Say (sym (all-head (λ n. n ≡ k) w [] h)); short = not-long w })
-  formed (op.Migratable v true) = (op_in (form_of (op_words W (op.Migratable v true))), record { form_is = refl; kept = refl; plain = refl; words = refl; numbers = refl; said = refl; blocks = refl; made = λ k h. refl; short = λ h. refl })
-  formed (op.Migratable v false) = (op_in (form_of (op_words W (op.Migratable v false))), record { form_is = refl; kept = refl; plain = refl; words = refl; numbers = refl; said = refl; blocks = refl; made = λ k h. refl; short = λ h. refl })
-  formed o = (op_in (form_of (op_words W o)), record { form_is = refl; kept = refl; plain = refl; words = refl; numbers = refl; said = refl; blocks = refl; made = λ k h. refl; short = λ h. refl })
+  formed (op.Say w) = record {
+    form_is = refl;
+    kept = refl;
+    plain = refl;
+    words = refl;
+    numbers = refl;
+    said = refl;
+    blocks = refl;
+    made = λ k h. ap op.Say (sym (all-head (λ n. n ≡ k) w [] h));
+    short = not-long w;
+  }
+  formed (op.Migratable v true) = record { form_is = refl; kept = refl; plain = refl; words = refl; numbers = refl; said = refl; blocks = refl; made = λ k h. refl; short = λ h. refl }
+  formed o = record { form_is = refl; kept = refl; plain = refl; words = refl; numbers = refl; said = refl; blocks = refl; made = λ k h. refl; short = λ h. refl }

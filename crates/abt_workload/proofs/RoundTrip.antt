@@ -1,16 +1,16 @@
 -- Valid parts are those that texts read to.
-use Rattle.std.proofs.Common.{inl, inr, ◌⊎◌, ◌≡◌, ◌<◌, ◌≤◌, ◌+◌, ◌==◌, ◌∙◌, ℕ, zero, suc, Bool, true, false, List, [], ◌∷◌, ◌++◌, All, Some, None, ap, append_assoc, arith, codes, decimal, find, flat_map, fold, get_or, length, map, nat_lt, refl, rules, subst, sym, tests, take}
-use Rattle.std.specs.List.{enumerate_from}
+use Rattle.std.proofs.Common.{inl, inr, ◌⊎◌, ◌≡◌, ◌<◌, ◌≤◌, ◌+◌, ◌==◌, ◌∙◌, ℕ, zero, suc, Bool, true, false, List, [], ◌∷◌, ◌++◌, All, Some, None, ap, append_assoc, arith, codes, decimal, find, fold, get_or, length, map, nat_lt, refl, rules, subst, sym, tests, take}
 use Rattle.std.proofs.lemmas.Bool.{cases_lt}
 use Rattle.abt_machine.specs.declared.grammar.Form.TheVariants as form
 use Rattle.abt_machine.specs.declared.workload.Parts.{Parts}
-use Rattle.abt_machine.specs.Canonical.{canonical_text, fitted, keys_lines, object_line, pool_line, sched_line, stream_line, unit_lines, version_line, workload_lines}
+use Rattle.abt_machine.specs.Canonical.{canonical_text, fitted, keys_lines, object_line, pool_line, sched_line, stream_line, version_line, workload_lines}
 use Rattle.abt_machine.specs.Declaring.{Above, declared_units, nothing, parts_of}
 use Rattle.abt_machine.specs.Faults.{faults, is_early, is_misplaced, line_fault}
 use Rattle.abt_machine.specs.Grammar.{Reads, and_line, declared_by, fault_at, has_at}
 use Rattle.abt_machine.specs.Spelling.{lines_of}
 use Rattle.abt_machine.specs.Valid.{IsValid, IsWord}
 use Rattle.abt_machine.specs.Words.{Text, line_of, numbered, text_of}
+use Rattle.abt_workload.proofs.Costs.{units_lines}
 use Rattle.abt_workload.proofs.Firm.{valid-end}
 use Rattle.abt_workload.proofs.Growing.{all-cons, all-one}
 use Rattle.abt_workload.proofs.HeadLines.{head-taken}
@@ -85,13 +85,9 @@ module _ (b : Above) (streams count : ℕ) (begun : b.begun ≡ true) (has_strea
 
 -- The whole text.
 
--- the lines of the units
-abbrev units_lines : Parts → List (List Text)
-units_lines W = flat_map (λ p. unit_lines W p.0 p.1) (enumerate_from 0 W.units)
-
 -- the lines of a workload but the last
 abbrev front_lines : Parts → List (List Text)
-front_lines W = head_lines W ++ units_lines W
+front_lines W = head_lines W ++ units_lines W 0 W.units
 
 -- the lines before that of `units`
 abbrev first_lines : Parts → List (List Text)
@@ -102,7 +98,7 @@ first_lines W =
 all-lines : (W : Parts) → workload_lines W ≡ front_lines W ++ end_words ∷ []
 all-lines W =
     let count : List Text = codes "units" ∷ decimal (length W.units) ∷ [] in
-    ap (λ (ls : List (List Text)). ls ++ end_words ∷ []) (sym (append_assoc (first_lines W) (count ∷ []) (units_lines W)))
+    ap (λ (ls : List (List Text)). ls ++ end_words ∷ []) (sym (append_assoc (first_lines W) (count ∷ []) (units_lines W 0 W.units)))
 
 -- the canonical text of valid parts reads to them
 pub reads-canonical : (W : Parts) → IsValid W → Reads (canonical_text W) W
@@ -110,7 +106,7 @@ reads-canonical W v =
     let whole = units-taken W v in
     let b : Above = whole.0 in
     let h : IsWhole W b = whole.2 in
-    let front : TakesAll nothing (front_lines W) b = takes-append nothing (head W) b (head_lines W) (units_lines W) (head-taken W v) whole.1 in
+    let front : TakesAll nothing (front_lines W) b = takes-append nothing (head W) b (head_lines W) (units_lines W 0 W.units) (head-taken W v) whole.1 in
     let last : Takes b end_words (closed b) = end-taken b W.streams (length W.units) h.begun h.streams h.unit_count h.declared h.section in
     let all : TakesAll nothing (front_lines W ++ end_words ∷ []) (closed b) = takes-append nothing b (closed b) (front_lines W) (end_words ∷ []) front (closed b, last, refl) in
     let same : lines_of (canonical_text W) ≡ map line_of (front_lines W ++ end_words ∷ []) =
