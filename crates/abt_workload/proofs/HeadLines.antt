@@ -11,9 +11,10 @@ use Rattle.abt_machine.specs.Valid.{IsValid}
 use Rattle.abt_machine.specs.Words.{Text, numbered}
 use Rattle.abt_workload.proofs.Filled.{takes}
 use Rattle.abt_workload.proofs.Fitting.{fit-within}
-use Rattle.abt_workload.proofs.Heads.{all_mains, head, head_lines, placing}
-use Rattle.abt_workload.proofs.InOrder.{or-both, placed-alone, reached, reached-le}
+use Rattle.abt_workload.proofs.Heads.{all_mains, head, head_lines, placing, units_words}
+use Rattle.abt_workload.proofs.InOrder.{placed-alone, reached, reached-le}
 use Rattle.abt_workload.proofs.ObjectLines.{objects-taken}
+use Rattle.abt_workload.proofs.Places.{or-both}
 use Rattle.abt_workload.proofs.PoolLines.{pooling, pools-taken}
 use Rattle.abt_workload.proofs.SchedLines.{scheduling, scheds-taken}
 use Rattle.abt_workload.proofs.StreamLines.{mains-full, mains_from, streams-taken}
@@ -156,17 +157,13 @@ module _ (W : Parts) (v : IsValid W) where
       takes-append below_count below_mains below_objects up_to_mains (numbered object_line W.objects)
           streams-from (objects-taken W v mains_reached (let le = mains-low in omega arith))
 
-  -- the words of the line of the number of units
-  abbrev units_words : List Text
-  units_words = codes "units" ∷ decimal (length W.units) ∷ []
-
   -- the line of the number of units
-  units-taken : Takes below_objects units_words (head W)
+  units-taken : Takes below_objects (units_words W) (head W)
   units-taken =
       let low : objects_reached ≤ 7 = objects-low in
       let few : length W.units ≤ 256 = v.few_units in
       let some : 0 < length W.pools = v.some_pool in
-      takes below_objects (head W) form.Units (codes "units") (length W.units ∷ []) units_words
+      takes below_objects (head W) form.Units (codes "units") (length W.units ∷ []) (units_words W)
       record { words_are = refl; form_is = refl; skipped = refl; plain = refl; chosen = plain-word (codes "units") refl }
       (fit-within below_objects 0 256 (length W.units) (omega arith) few (omega arith), tt)
       record {
@@ -183,5 +180,5 @@ module _ (W : Parts) (v : IsValid W) where
   -- the lines before the units are taken, and declare all but the units
   pub head-taken : TakesAll nothing (head_lines W) (head W)
   head-taken =
-      let rest = takes-append below_count below_objects (head W) up_to_objects (units_words ∷ []) objects-from (head W, units-taken, refl) in
+      let rest = takes-append below_count below_objects (head W) up_to_objects (units_words W ∷ []) objects-from (head W, units-taken, refl) in
       (versioned, version-taken, (below_count, count-taken W.streams v.some_stream v.few_streams, rest))

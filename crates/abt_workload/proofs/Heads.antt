@@ -9,17 +9,24 @@ use Rattle.abt_machine.specs.Canonical.{keys_lines, object_line, pool_line, sche
 use Rattle.abt_machine.specs.Declaring.{Above}
 use Rattle.abt_machine.specs.Words.{Text, numbered}
 
--- the lines before the units
-abbrev pub head_lines : Parts → List (List Text)
-head_lines W =
+-- the lines before that of the number of units
+abbrev pub first_lines : Parts → List (List Text)
+first_lines W =
     version_line ∷
     (codes "streams" ∷ decimal W.streams ∷ []) ∷
     keys_lines W.keys ++
     numbered pool_line W.pools ++
     numbered sched_line W.scheds ++
     numbered stream_line W.mains ++
-    numbered object_line W.objects ++
-    (codes "units" ∷ decimal (length W.units) ∷ []) ∷ []
+    numbered object_line W.objects
+
+-- the line of the number of units
+abbrev pub units_words : Parts → List Text
+units_words W = codes "units" ∷ decimal (length W.units) ∷ []
+
+-- the lines before the units
+abbrev pub head_lines : Parts → List (List Text)
+head_lines W = first_lines W ++ units_words W ∷ []
 
 -- what is declared below the first lines
 abbrev pub placing : ℕ → ℕ → ℕ → List PoolPart → List SchedPart → List (Option SchedNo) → List Thing → Above

@@ -1,5 +1,5 @@
 -- Lines that are taken in the order of their numbers.
-use Rattle.std.proofs.Common.{◌≡◌, ◌≢◌, ◌<◌, ◌≤◌, ◌+◌, ◌==◌, ◌&&◌, ◌||◌, ◌∙◌, ℕ, zero, suc, Bool, true, false, List, [], ◌∷◌, ◌++◌, Some, ap, arith, length, length-append, map, nat_lt, refl, slice_get, subst, sym}
+use Rattle.std.proofs.Common.{◌≡◌, ◌≢◌, ◌<◌, ◌≤◌, ◌+◌, ◌==◌, ◌&&◌, ◌∙◌, ℕ, zero, suc, Bool, true, false, List, [], ◌∷◌, ◌++◌, Some, ap, arith, length, length-append, map, nat_lt, refl, slice_get, subst, sym}
 use Rattle.std.specs.List.{AllPairs, enumerate_from, list_any}
 use Rattle.std.proofs.lemmas.Bool.{le-ltb, ne_eqb}
 use Rattle.std.proofs.lemmas.List.{append-nil, append_assoc}
@@ -9,6 +9,7 @@ use Rattle.abt_machine.specs.Declaring.{Above}
 use Rattle.abt_machine.specs.Faults.{is_homeless, is_misplaced, is_single}
 use Rattle.abt_machine.specs.Forms.{section}
 use Rattle.abt_machine.specs.Words.{Text, numbered}
+use Rattle.abt_workload.proofs.Places.{or-both}
 use Rattle.abt_workload.proofs.Taking.{Takes, TakesAll}
 
 -- Sections.
@@ -27,10 +28,6 @@ reached-and before section (y ∷ ys) x = refl
 pub reached-le : {A : Type 0} (before section : ℕ) (xs : List A) → before ≤ section → reached before section xs ≤ section
 reached-le before section [] le = le
 reached-le before section (x ∷ xs) le = omega arith
-
-pub or-both : (x y : Bool) → x ≡ false → y ≡ false → (x || y) ≡ false
-or-both true y e f = cc
-or-both false y e f = f
 
 no-and : (x y : Bool) → y ≡ false → (x && y) ≡ false
 no-and true y e = e

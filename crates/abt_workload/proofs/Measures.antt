@@ -198,18 +198,14 @@ sched-line word r vals lt = absurd (omega arith)
 unit-line : (r : Role) (start : Option PoolNo) (vals : List ℕ) → header (at vals 0) (unit_with r start vals) ≡ filled (slots (form.Unit r start)) [] (at vals 0 ∷ at vals 1 ∷ at vals 2 ∷ [])
 unit-line role.Ult None vals = refl
 unit-line role.Ult (Some p) vals = refl
-unit-line role.Task None vals = refl
-unit-line role.Task (Some p) vals = refl
-unit-line role.Sched None vals = refl
-unit-line role.Sched (Some p) vals = refl
+unit-line _ None vals = refl
+unit-line _ (Some p) vals = refl
 
 unit-plain : (r : Role) (start : Option PoolNo) → (no_list (slots (form.Unit r start)) ≡ true) × (length (kinds (slots (form.Unit r start))) ≤ 3) × (no_choice (slots (form.Unit r start)) ≡ true)
 unit-plain role.Ult None = (refl, omega arith, refl)
 unit-plain role.Ult (Some p) = (refl, omega arith, refl)
-unit-plain role.Task None = (refl, omega arith, refl)
-unit-plain role.Task (Some p) = (refl, omega arith, refl)
-unit-plain role.Sched None = (refl, omega arith, refl)
-unit-plain role.Sched (Some p) = (refl, omega arith, refl)
+unit-plain _ None = (refl, omega arith, refl)
+unit-plain _ (Some p) = (refl, omega arith, refl)
 
 op-plain : (o : Op) → (no_list (op_slots o) ≡ true) × (length (kinds (op_slots o)) ≤ 3)
 op-plain (op.Set n) = (refl, omega arith)

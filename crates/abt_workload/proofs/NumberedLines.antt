@@ -1,5 +1,5 @@
 -- Lines whose numbers are in order are taken.
-use Rattle.std.proofs.Common.{◌≡◌, ◌∙◌, ℕ, true, false, List, [], ◌∷◌, All, Some, None, ap, decimal, map, refl, subst}
+use Rattle.std.proofs.Common.{◌≡◌, ◌∙◌, ℕ, Bool, true, false, List, [], ◌∷◌, All, Some, None, ap, decimal, map, refl, subst}
 use Rattle.std.specs.List.{list_all}
 use Rattle.abt_machine.specs.declared.grammar.Form.{Form}
 use Rattle.abt_machine.specs.declared.grammar.Number.{Number}
@@ -12,11 +12,9 @@ use Rattle.abt_machine.specs.Words.{Text}
 use Rattle.abt_workload.specs.Declarable.{with_line}
 use Rattle.abt_workload.specs.Judging.{later_fault}
 use Rattle.abt_workload.specs.Slots.{numbered, values}
-use Rattle.abt_workload.proofs.Fitting.{AreFit}
-use Rattle.abt_workload.proofs.Growing.{all-cons}
+use Rattle.abt_workload.proofs.Fitting.{AreFit, IsFit}
 use Rattle.abt_workload.proofs.Places.{and-both}
-use Rattle.abt_workload.proofs.Proper.{none-of}
-use Rattle.abt_workload.proofs.Taking.{Takes, decimal-number, decimal-value, decimal-word, taken}
+use Rattle.abt_workload.proofs.Taking.{Takes, decimal-number, decimal-value, taken}
 
 -- numbers as their digits
 abbrev pub spelled : List (Number × ℕ) → List (Number × Text)
@@ -46,28 +44,19 @@ module _ (a : Above) where
       let rest : numbered (spelled ps) ≡ ps = all-read ps h.1 in
       ap (λ (n : ℕ). (p.0, n) ∷ numbered (spelled ps)) here ∙ ap (λ (qs : List (Number × ℕ)). p ∷ qs) rest
 
-  -- what they name is there
-  all-there : (ps : List (Number × ℕ)) → AreFit a ps → list_all (λ (p : Number × ℕ). is_there a p.0 p.1) ps ≡ true
-  all-there [] h = refl
-  all-there (p ∷ ps) h = and-both (is_there a p.0 p.1) _ h.0.there (all-there ps h.1)
-
-  -- they keep their bounds
-  all-within : (ps : List (Number × ℕ)) → AreFit a ps → list_all (λ (p : Number × ℕ). is_within p.0 p.1) ps ≡ true
-  all-within [] h = refl
-  all-within (p ∷ ps) h = and-both (is_within p.0 p.1) _ h.0.within (all-within ps h.1)
-
-  -- their digits are words
-  pub fit-words : (ps : List (Number × ℕ)) → AreFit a ps → All IsWord (map decimal (values ps))
-  fit-words [] h = none-of IsWord
-  fit-words (p ∷ ps) h = all-cons IsWord (decimal p.1) _ (decimal-word p.1 h.0.small) (fit-words ps h.1)
+  -- what holds of each holds of all
+  all-hold : (P : Number → ℕ → Bool) → ((kind : Number) (n : ℕ) → IsFit a kind n → P kind n ≡ true) → (ps : List (Number × ℕ)) → AreFit a ps
+      → list_all (λ (p : Number × ℕ). P p.0 p.1) ps ≡ true
+  all-hold P each [] h = refl
+  all-hold P each (p ∷ ps) h = and-both (P p.0 p.1) _ (each p.0 p.1 h.0) (all-hold P each ps h.1)
 
   -- a line of these numbers is taken where it has a form, and no other fault
   pub line-taken : (b : Above) (words : List Text) (f : Form) (ps : List (Number × ℕ)) → All IsWord words → is_skipped words ≡ false
       → form_of words ≡ Some f → numerals (slots f) words ≡ spelled ps → AreFit a ps → IsFine a f words (values ps)
       → with_line a f words (values ps) ≡ b → Takes a words b
   line-taken b words f ps written kept formed numbers fit fine is =
-      let there = all-there ps fit in
-      let within = all-within ps fit in
+      let there = all-hold (is_there a) (λ kind n h. h.there) ps fit in
+      let within = all-hold is_within (λ kind n h. h.within) ps fit in
       let read : numbers_of f words ≡ ps = ap numbered numbers ∙ all-read ps fit in
       let digits : list_all (λ (p : Number × Text). is_number p.1) (numerals (slots f) words) ≡ true =
           ap (list_all (λ (p : Number × Text). is_number p.1)) numbers ∙ all-numbers ps fit in

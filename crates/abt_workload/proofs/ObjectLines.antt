@@ -1,26 +1,24 @@
 -- The lines of objects are taken.
-use Rattle.std.proofs.Common.{◌≡◌, ◌<◌, ◌≤◌, ◌∙◌, ℕ, true, List, [], ◌∷◌, ◌++◌, Some, ap, arith, codes, length, refl, slice_get, sym}
+use Rattle.std.proofs.Common.{◌≡◌, ◌<◌, ◌≤◌, ◌∙◌, ℕ, List, [], ◌∷◌, ◌++◌, ap, arith, codes, length, refl, slice_get, sym}
 use Rattle.std.proofs.lemmas.Bool.{le-ltb, lt-leb}
 use Rattle.abt_machine.specs.declared.grammar.Form.{Form}
 use Rattle.abt_machine.specs.declared.grammar.Form.TheVariants as form
-use Rattle.abt_machine.specs.declared.operations.Combine.{Combine}
 use Rattle.abt_machine.specs.declared.operations.Combine.TheVariants as combine
 use Rattle.abt_machine.specs.declared.operations.Thing.{Thing}
 use Rattle.abt_machine.specs.declared.operations.Thing.TheVariants as thing
 use Rattle.abt_machine.specs.declared.workload.Parts.{Parts}
 use Rattle.abt_machine.specs.Canonical.{combine_name, object_line}
-use Rattle.abt_machine.specs.Declaring.{Above, combine_named, thing_with}
-use Rattle.abt_machine.specs.Forms.{form_of, slots}
+use Rattle.abt_machine.specs.Declaring.{Above, thing_with}
+use Rattle.abt_machine.specs.Forms.{slots}
 use Rattle.abt_machine.specs.Numbers.{object_no}
-use Rattle.abt_machine.specs.Valid.{IsThing, IsValid, IsWord}
+use Rattle.abt_machine.specs.Valid.{IsThing, IsValid}
 use Rattle.abt_machine.specs.Words.{Text, numbered}
 use Rattle.abt_workload.specs.Slots.{values}
-use Rattle.abt_workload.proofs.Filled.{given, plain_places, takes}
+use Rattle.abt_workload.proofs.Filled.{IsWritten, given, takes}
 use Rattle.abt_workload.proofs.Fitting.{AreMet, IsSmall, all-fit}
 use Rattle.abt_workload.proofs.Heads.{all_mains, placing}
 use Rattle.abt_workload.proofs.InOrder.{front-shorter, get-front, get-here, placed-among, reached, section-taken}
 use Rattle.abt_workload.proofs.Taking.{Takes, TakesAll, plain-word}
-use Rattle.abt_workload.proofs.Weights.{filled}
 
 -- a thing as the table of forms has it
 abbrev form_thing : Thing → Thing
@@ -47,38 +45,11 @@ thing_word t = codes "sum"
 abbrev below : Parts → ℕ → List Thing → Above
 below W section objects = placing section W.streams W.keys W.pools W.scheds (all_mains W) objects
 
--- The words of a line.
-
--- an object's line has its form's words
-words-are : (x : ℕ) (t : Thing) → object_line x t ≡ filled (slots (form.Object (form_thing t))) (thing_word t) (x ∷ thing_numbers t)
-words-are x thing.Mutex = refl
-words-are x _ = refl
-
--- the form of a future's line
-future-form : (x n : ℕ) (c : Combine) → form_of (object_line x (thing.Future n c)) ≡ Some (form.Object (thing.Future 0 combine.Sum))
-future-form x n combine.Sum = refl
-future-form x n combine.Max = refl
-future-form x n combine.Count = refl
-
--- the form of an object's line
-form-is : (x : ℕ) (t : Thing) → form_of (object_line x t) ≡ Some (form.Object (form_thing t))
-form-is x (thing.Future n c) = future-form x n c
-form-is x _ = refl
-
--- the fixed words of a line are words
-plain : (t : Thing) → plain_places (slots (form.Object (form_thing t))) ≡ true
-plain thing.Mutex = refl
-plain _ = refl
-
--- the word of a future's values is a word
-combine-plain : (c : Combine) → IsWord (combine_name c)
-combine-plain combine.Sum = plain-word (combine_name combine.Sum) refl
-combine-plain combine.Max = plain-word (combine_name combine.Max) refl
-combine-plain combine.Count = plain-word (combine_name combine.Count) refl
-
-word-plain : (t : Thing) → IsWord (thing_word t)
-word-plain (thing.Future n c) = combine-plain c
-word-plain _ = plain-word (codes "sum") refl
+-- an object's line is written of its form
+written : (x : ℕ) (t : Thing) → IsWritten (form.Object (form_thing t)) (thing_word t) (x ∷ thing_numbers t) (object_line x t)
+written x (thing.Future n combine.Max) = record { words_are = refl; form_is = refl; skipped = refl; plain = refl; chosen = plain-word (codes "max") refl }
+written x (thing.Future n combine.Count) = record { words_are = refl; form_is = refl; skipped = refl; plain = refl; chosen = plain-word (codes "count") refl }
+written x _ = record { words_are = refl; form_is = refl; skipped = refl; plain = refl; chosen = plain-word (codes "sum") refl }
 
 -- the numbers of a line are in order
 met : (W : Parts) (section : ℕ) (front rest : List Thing) (t : Thing) → front ++ rest ≡ W.objects → IsThing W (length front) t
@@ -90,15 +61,10 @@ met W section front rest _ e h = refl
 
 -- What a line declares.
 
--- the word says what is made of a future's values
-combine-again : (c : Combine) → combine_named (combine_name c) ≡ c
-combine-again combine.Sum = refl
-combine-again combine.Max = refl
-combine-again combine.Count = refl
-
 -- the line says the object
 thing-again : (x : ℕ) (t : Thing) → thing_with (form_thing t) (object_line x t) (values (given (slots (form.Object (form_thing t))) (x ∷ thing_numbers t))) ≡ t
-thing-again x (thing.Future n c) = ap (λ (d : Combine). thing.Future n d) (combine-again c)
+thing-again x (thing.Future n combine.Sum) = refl
+thing-again x (thing.Future n _) = refl
 thing-again x _ = refl
 
 -- the line of the next object is taken
@@ -114,13 +80,7 @@ object-taken W v section le front t rest e =
     let h : IsThing W x t = v.objects x t (get-here front t rest W.objects e) in
     let small : IsSmall a = record { streams = v.few_streams; keys = v.few_keys; pools = v.few_pools; scheds = v.few_scheds; objects = omega arith; units = omega arith } in
     takes a (below W 7 (front ++ t ∷ [])) f (thing_word t) ns (object_line x t)
-    record {
-      words_are = words-are x t;
-      form_is = form-is x t;
-      skipped = refl;
-      plain = plain t;
-      chosen = word-plain t;
-    }
+    (written x t)
     (all-fit a small (given (slots f) ns) (met W section front (t ∷ rest) t e h))
     record {
       version = refl;

@@ -1,8 +1,7 @@
 -- The lines of a unit's operations are taken.
-use Rattle.std.proofs.Common.{◌≡◌, ◌<◌, ◌≤◌, ◌+◌, ◌&&◌, ◌||◌, ◌∙◌, ℕ, zero, suc, Bool, true, false, List, [], ◌∷◌, ◌++◌, All, Option, Some, ap, append_assoc, arith, decimal, flat_map, length, length-append, map, nat_le, refl, rules, subst, sym, tests}
+use Rattle.std.proofs.Common.{◌≡◌, ◌<◌, ◌≤◌, ◌+◌, ◌&&◌, ◌||◌, ◌∙◌, ℕ, zero, suc, Bool, true, false, List, [], ◌∷◌, ◌++◌, All, Option, Some, ap, append_assoc, arith, flat_map, length, length-append, map, nat_le, refl, rules, subst, sym, tests}
 use Rattle.std.specs.List.{list_any, range_with_len}
 use Rattle.std.proofs.lemmas.List.{append-nil, length-map, map-append}
-use Rattle.std.proofs.lemmas.List.Elements.{All-append}
 use Rattle.abt_machine.specs.declared.grammar.Form.TheVariants as form
 use Rattle.abt_machine.specs.declared.numbers.PoolNo.{PoolNo}
 use Rattle.abt_machine.specs.declared.operations.Body.{Body}
@@ -14,61 +13,40 @@ use Rattle.abt_machine.specs.declared.workload.UnitPart.{UnitPart}
 use Rattle.abt_machine.specs.Canonical.{op_words, word_at}
 use Rattle.abt_machine.specs.Declaring.{Above, body_and, op_with, said_in, unit_and}
 use Rattle.abt_machine.specs.Faults.{is_long_word, is_task_body}
+use Rattle.abt_machine.specs.Forms.{op_slots}
 use Rattle.abt_machine.specs.Operations.{IsDeclared, may_block, said_by}
-use Rattle.abt_machine.specs.Valid.{IsValid, IsWord, words_said}
+use Rattle.abt_machine.specs.Valid.{IsValid, words_said}
 use Rattle.abt_machine.specs.Words.{Text}
 use Rattle.abt_machine.specs.Workloads.{is_sched, ops_of}
 use Rattle.abt_workload.specs.Slots.{values}
 use Rattle.abt_workload.proofs.Growing.{all-cons, all-head, all-tail}
-use Rattle.abt_workload.proofs.Fitting.{AreFit, AreMet, all-fit}
-use Rattle.abt_workload.proofs.NumberedLines.{IsFine, fit-words, line-taken}
-use Rattle.abt_workload.proofs.OperationForms.{IsFormed, first, formed, op_form, op_numbers}
+use Rattle.abt_workload.proofs.Filled.{given, takes}
+use Rattle.abt_workload.proofs.Fitting.{AreMet, all-fit}
+use Rattle.abt_workload.proofs.OperationForms.{IsFormed, formed, op-chosen, op-met, op_form, op_numbers, op_word}
 use Rattle.abt_workload.proofs.Proper.{none-of}
 use Rattle.abt_workload.proofs.Reaching.{reached, reached-small}
-use Rattle.abt_workload.proofs.Taking.{Takes, TakesAll, plain-word}
-
--- the numbers of an operation name what is declared
-op-met : (W : Parts) (units : List UnitPart) (last : Option UnitPart) (said : List ℕ) (o : Op) → IsDeclared W o → AreMet (reached W 9 units last said) (op_numbers o)
-op-met W units last said (op.Set n) h = (omega arith, omega arith, h)
-op-met W units last said (op.Add n) h = (omega arith, omega arith, h)
-op-met W units last said (op.Say w) h = tt
-op-met W units last said (op.Migratable v true) h = (h, (omega arith, omega arith, omega arith))
-op-met W units last said (op.Migratable v false) h = (h, (omega arith, omega arith, omega arith))
-op-met W units last said o h = h
-
--- the numbers of words that are declared
-said-there : (W : Parts) (o : Op) → IsDeclared W o → All (λ w. w < length W.words) (said_by o)
-said-there W (op.Say w) h = all-cons (λ k. k < length W.words) w [] h (none-of _)
-said-there W o h = none-of _
-
--- said words are words
-all-words : (W : Parts) → IsValid W → (ns : List ℕ) → All (λ w. w < length W.words) ns → All IsWord (map (word_at W) ns)
-all-words W v [] h = none-of IsWord
-all-words W v (n ∷ ns) h =
-    all-cons IsWord (word_at W n) _ (v.words n [] (all-head (λ w. w < length W.words) n ns h)) (all-words W v ns (all-tail (λ w. w < length W.words) n ns h))
-
--- they are short
-all-short : (W : Parts) → IsValid W → (ns : List ℕ) → All (λ w. w < length W.words) ns → All (λ w. length (word_at W w) ≤ 64) ns
-all-short W v ns h = λ k d lt. (v.words _ [] (h k d lt)).few_bytes
+use Rattle.abt_workload.proofs.Taking.{Takes, TakesAll}
 
 module _ (W : Parts) (v : IsValid W) (units : List UnitPart) where
   -- the line of an operation is taken below a unit's that may have one more
   op-taken : (part : UnitPart) (said : List ℕ) (o : Op) → is_sched part.body ≡ false → length (ops_of part.body) < 256 → (is_task_body part.body && may_block o) ≡ false
       → IsDeclared W o → All (λ w. w ≡ length said) (said_by o)
       → Takes (reached W 9 units (Some part) said) (op_words W o) (reached W 9 units (Some (unit_and o part)) (said ++ said_by o))
-  op-taken part said o no_sched few task h next = by (op_form W o) (formed W o)
+  op-taken part said o no_sched few task h next = by (op_form W o) (formed W o (op-chosen W v o h)) (op-met W units (Some part) said o h)
     where
-      by : (f : Op) → IsFormed W o f → Takes (reached W 9 units (Some part) said) (op_words W o) (reached W 9 units (Some (unit_and o part)) (said ++ said_by o))
-      by f d =
+      by : (f : Op) → IsFormed W o f → AreMet (reached W 9 units (Some part) said) (given (op_slots f) (op_numbers o))
+          → Takes (reached W 9 units (Some part) said) (op_words W o) (reached W 9 units (Some (unit_and o part)) (said ++ said_by o))
+      by f d met =
           let a : Above = reached W 9 units (Some part) said in
-          let there = said-there W o h in
-          let fit : AreFit a (op_numbers o) = all-fit a (reached-small W v 9 units (Some part) said) (op_numbers o) (op-met W units (Some part) said o h) in
-          let parts : All IsWord (map decimal (values (op_numbers o)) ++ map (word_at W) (said_by o)) =
-              All-append IsWord _ _ (fit-words a (op_numbers o) fit) (all-words W v (said_by o) there) in
-          let words : All IsWord (op_words W o) = subst (All IsWord) (sym d.words) (all-cons IsWord (first (op_words W o)) _ (plain-word _ d.plain) parts) in
+          let texts : List ℕ → List Text = map (word_at W) in
+          let ns : List ℕ = values (given (op_slots f) (op_numbers o)) in
           let long : nat_le 256 (length (ops_of part.body)) ≡ false = search (rules, tests) in
-          let short : is_long_word f (op_words W o) ≡ false = d.short (all-short W v (said_by o) there) in
-          let fine : IsFine a (form.Operation f) (op_words W o) (values (op_numbers o)) = record {
+          let short : is_long_word f (op_words W o) ≡ false = d.short in
+          let made : op_with f (length (texts said)) ns ≡ o = d.made _ (subst (λ (n : ℕ). All (λ w. w ≡ n) (said_by o)) (sym (length-map said (word_at W))) next) in
+          let more : texts said ++ said_in f (op_words W o) ≡ texts (said ++ said_by o) = ap (λ (ws : List Text). texts said ++ ws) d.said ∙ sym (map-append (word_at W) said (said_by o)) in
+          takes a (reached W 9 units (Some (unit_and o part)) (said ++ said_by o)) (form.Operation f) (op_word W o) (op_numbers o) (op_words W o) d.written
+          (all-fit a (reached-small W v 9 units (Some part) said) (given (op_slots f) (op_numbers o)) met)
+          record {
             version = refl;
             placed = rw no_sched refl;
             once = refl;
@@ -76,14 +54,9 @@ module _ (W : Parts) (v : IsValid W) (units : List UnitPart) where
             task = ap (λ (b : Bool). is_task_body part.body && b) d.blocks ∙ task;
             access = refl;
             early = refl;
-          } in
-          let count : length (map (word_at W) said) ≡ length said = length-map said (word_at W) in
-          let made : op_with f (length (map (word_at W) said)) (values (op_numbers o)) ≡ o = d.made _ (subst (λ (n : ℕ). All (λ w. w ≡ n) (said_by o)) (sym count) next) in
-          let more : map (word_at W) said ++ said_in f (op_words W o) ≡ map (word_at W) (said ++ said_by o) =
-              ap (λ (ws : List Text). map (word_at W) said ++ ws) d.said ∙ sym (map-append (word_at W) said (said_by o)) in
-          line-taken a (reached W 9 units (Some (unit_and o part)) (said ++ said_by o)) (op_words W o) (form.Operation f) (op_numbers o) words d.kept d.form_is d.numbers fit fine
-              (ap (λ (p : Op). record a { last = Some (unit_and p part); words = map (word_at W) said ++ said_in f (op_words W o) }) made
-              ∙ ap (λ (ws : List Text). record a { last = Some (unit_and o part); words = ws }) more)
+          }
+          (ap (λ (p : Op). record a { last = Some (unit_and p part); words = texts said ++ said_in f (op_words W o) }) made
+          ∙ ap (λ (ws : List Text). record a { last = Some (unit_and o part); words = ws }) more)
 
 -- Operations one after the other.
 

@@ -1,5 +1,5 @@
 -- The lines of pools are taken.
-use Rattle.std.proofs.Common.{◌≡◌, ◌<◌, ◌≤◌, ℕ, true, List, [], ◌∷◌, ◌++◌, Option, Some, None, ap, arith, length, refl, replicate, subst}
+use Rattle.std.proofs.Common.{◌≡◌, ◌<◌, ◌≤◌, ℕ, List, [], ◌∷◌, ◌++◌, Option, None, ap, arith, codes, length, refl, replicate, subst}
 use Rattle.std.proofs.lemmas.Bool.{le-ltb, lt-leb}
 use Rattle.abt_machine.specs.declared.grammar.Form.{Form}
 use Rattle.abt_machine.specs.declared.grammar.Form.TheVariants as form
@@ -11,18 +11,17 @@ use Rattle.abt_machine.specs.declared.workload.Parts.{Parts}
 use Rattle.abt_machine.specs.declared.workload.PoolPart.{PoolPart}
 use Rattle.abt_machine.specs.Canonical.{kind_name, pool_line}
 use Rattle.abt_machine.specs.Declaring.{Above, access_with, kind_named, pool_with}
-use Rattle.abt_machine.specs.Forms.{form_of, slots}
+use Rattle.abt_machine.specs.Forms.{slots}
 use Rattle.abt_machine.specs.Numbers.{stream_no}
-use Rattle.abt_machine.specs.Valid.{IsAccess, IsValid, IsWord}
+use Rattle.abt_machine.specs.Valid.{IsAccess, IsValid}
 use Rattle.abt_machine.specs.Words.{numbered}
 use Rattle.abt_machine.specs.Workloads.{access_from}
 use Rattle.abt_workload.specs.Slots.{values}
-use Rattle.abt_workload.proofs.Filled.{given, plain_places, takes}
+use Rattle.abt_workload.proofs.Filled.{IsWritten, given, takes}
 use Rattle.abt_workload.proofs.Fitting.{AreMet, IsSmall, all-fit}
 use Rattle.abt_workload.proofs.Heads.{placing}
 use Rattle.abt_workload.proofs.InOrder.{front-shorter, get-here, placed-among, reached, section-taken}
 use Rattle.abt_workload.proofs.Taking.{Takes, TakesAll, plain-word}
-use Rattle.abt_workload.proofs.Weights.{filled}
 
 -- an access as the table of forms has it
 abbrev form_access : Access → Access
@@ -44,35 +43,12 @@ streams_in access.Mpmc = []
 abbrev pub pooling : ℕ → ℕ → ℕ → List PoolPart → Above
 pooling section streams keys pools = placing section streams keys pools [] (replicate streams None) []
 
--- The words of a line.
-
--- a pool's line has its form's words
-words-are : (p : ℕ) (k : Kind) (x : Access) → pool_line p (record { kind = k; access = x }) ≡ filled (slots (form.Pool (form_access x))) (kind_name k) (p ∷ streams_in x)
-words-are p k (access.Priv s) = refl
-words-are p k _ = refl
-
--- the form of a pool's line
-fifo-form : (p : ℕ) (x : Access) → form_of (pool_line p (record { kind = kind.Fifo; access = x })) ≡ Some (form.Pool (form_access x))
-fifo-form p (access.Priv s) = refl
-fifo-form p _ = refl
-
-deque-form : (p : ℕ) (x : Access) → form_of (pool_line p (record { kind = kind.Deque; access = x })) ≡ Some (form.Pool (form_access x))
-deque-form p (access.Priv s) = refl
-deque-form p _ = refl
-
-form-is : (p : ℕ) (k : Kind) (x : Access) → form_of (pool_line p (record { kind = k; access = x })) ≡ Some (form.Pool (form_access x))
-form-is p kind.Fifo x = fifo-form p x
-form-is p kind.Deque x = deque-form p x
-
--- the fixed words of a line are words
-plain : (x : Access) → plain_places (slots (form.Pool (form_access x))) ≡ true
-plain (access.Priv s) = refl
-plain _ = refl
-
--- the name of a kind is a word
-kind-plain : (k : Kind) → IsWord (kind_name k)
-kind-plain kind.Fifo = plain-word (kind_name kind.Fifo) refl
-kind-plain kind.Deque = plain-word (kind_name kind.Deque) refl
+-- a pool's line is written of its form
+written : (p : ℕ) (k : Kind) (x : Access) → IsWritten (form.Pool (form_access x)) (kind_name k) (p ∷ streams_in x) (pool_line p (record { kind = k; access = x }))
+written p kind.Fifo (access.Priv s) = record { words_are = refl; form_is = refl; skipped = refl; plain = refl; chosen = plain-word (codes "fifo") refl }
+written p kind.Fifo _ = record { words_are = refl; form_is = refl; skipped = refl; plain = refl; chosen = plain-word (codes "fifo") refl }
+written p kind.Deque (access.Priv s) = record { words_are = refl; form_is = refl; skipped = refl; plain = refl; chosen = plain-word (codes "deque") refl }
+written p kind.Deque _ = record { words_are = refl; form_is = refl; skipped = refl; plain = refl; chosen = plain-word (codes "deque") refl }
 
 -- the numbers of a line are in order
 met : (W : Parts) (section : ℕ) (front : List PoolPart) (x : Access) → IsAccess W x → AreMet (pooling section W.streams W.keys front) (given (slots (form.Pool (form_access x))) (length front ∷ streams_in x))
@@ -108,13 +84,7 @@ pool-taken W v section le front part rest e =
     let h : IsAccess W part.access = subst (λ (o : Option PoolPart). IsAccess W (access_from o)) (get-here front part rest W.pools e) (v.pools p lt) in
     let small : IsSmall a = record { streams = v.few_streams; keys = v.few_keys; pools = omega arith; scheds = omega arith; objects = omega arith; units = omega arith } in
     takes a (pooling 4 W.streams W.keys (front ++ part ∷ [])) f (kind_name part.kind) ns (pool_line p part)
-    record {
-      words_are = words-are p part.kind part.access;
-      form_is = form-is p part.kind part.access;
-      skipped = refl;
-      plain = plain part.access;
-      chosen = kind-plain part.kind;
-    }
+    (written p part.kind part.access)
     (all-fit a small (given (slots f) ns) (met W section front part.access h))
     record {
       version = refl;

@@ -1,20 +1,20 @@
 -- Valid parts are those that texts read to.
-use Rattle.std.proofs.Common.{inl, inr, ◌⊎◌, ◌≡◌, ◌<◌, ◌≤◌, ◌+◌, ◌==◌, ◌∙◌, ℕ, zero, suc, Bool, true, false, List, [], ◌∷◌, ◌++◌, All, Some, None, ap, append_assoc, arith, codes, decimal, find, fold, get_or, length, map, nat_lt, refl, rules, subst, sym, tests, take}
+use Rattle.std.proofs.Common.{inl, inr, ◌⊎◌, ◌≡◌, ◌<◌, ◌≤◌, ◌+◌, ◌==◌, ◌∙◌, ℕ, zero, suc, Bool, true, false, List, [], ◌∷◌, ◌++◌, All, Some, None, ap, append_assoc, arith, codes, find, fold, get_or, length, map, nat_lt, refl, rules, subst, sym, tests, take}
 use Rattle.std.proofs.lemmas.Bool.{cases_lt}
 use Rattle.abt_machine.specs.declared.grammar.Form.TheVariants as form
 use Rattle.abt_machine.specs.declared.workload.Parts.{Parts}
-use Rattle.abt_machine.specs.Canonical.{canonical_text, fitted, keys_lines, object_line, pool_line, sched_line, stream_line, version_line, workload_lines}
+use Rattle.abt_machine.specs.Canonical.{canonical_text, fitted, workload_lines}
 use Rattle.abt_machine.specs.Declaring.{Above, declared_units, nothing, parts_of}
 use Rattle.abt_machine.specs.Faults.{faults, is_early, is_misplaced, line_fault}
 use Rattle.abt_machine.specs.Grammar.{Reads, and_line, declared_by, fault_at, has_at}
 use Rattle.abt_machine.specs.Spelling.{lines_of}
 use Rattle.abt_machine.specs.Valid.{IsValid, IsWord}
-use Rattle.abt_machine.specs.Words.{Text, line_of, numbered, text_of}
+use Rattle.abt_machine.specs.Words.{Text, line_of, text_of}
 use Rattle.abt_workload.proofs.Costs.{units_lines}
 use Rattle.abt_workload.proofs.Firm.{valid-end}
 use Rattle.abt_workload.proofs.Growing.{all-cons, all-one}
 use Rattle.abt_workload.proofs.HeadLines.{head-taken}
-use Rattle.abt_workload.proofs.Heads.{head, head_lines}
+use Rattle.abt_workload.proofs.Heads.{first_lines, head, head_lines, units_words}
 use Rattle.abt_workload.proofs.Proper.{none-of}
 use Rattle.abt_workload.proofs.Seen.{fault-in, fault-length, faultless-end, refuses-end, refuses-length}
 use Rattle.abt_workload.proofs.Taking.{Takes, TakesAll, plain-word, taken, takes-append}
@@ -89,16 +89,10 @@ module _ (b : Above) (streams count : ℕ) (begun : b.begun ≡ true) (has_strea
 abbrev front_lines : Parts → List (List Text)
 front_lines W = head_lines W ++ units_lines W 0 W.units
 
--- the lines before that of `units`
-abbrev first_lines : Parts → List (List Text)
-first_lines W =
-    version_line ∷ (codes "streams" ∷ decimal W.streams ∷ []) ∷ keys_lines W.keys ++ numbered pool_line W.pools ++ numbered sched_line W.scheds ++ numbered stream_line W.mains ++ numbered object_line W.objects
-
 -- the lines of a workload, parted before the last
 all-lines : (W : Parts) → workload_lines W ≡ front_lines W ++ end_words ∷ []
 all-lines W =
-    let count : List Text = codes "units" ∷ decimal (length W.units) ∷ [] in
-    ap (λ (ls : List (List Text)). ls ++ end_words ∷ []) (sym (append_assoc (first_lines W) (count ∷ []) (units_lines W 0 W.units)))
+    ap (λ (ls : List (List Text)). ls ++ end_words ∷ []) (sym (append_assoc (first_lines W) (units_words W ∷ []) (units_lines W 0 W.units)))
 
 -- the canonical text of valid parts reads to them
 pub reads-canonical : (W : Parts) → IsValid W → Reads (canonical_text W) W

@@ -1,5 +1,5 @@
 -- The lines of schedulers are taken.
-use Rattle.std.proofs.Common.{◌≡◌, ◌≢◌, ◌<◌, ◌≤◌, ◌^◌, ◌-◌, ◌∙◌, ◌==◌, ℕ, suc, All, true, false, List, [], ◌∷◌, ◌++◌, Option, Some, None, ap, arith, codes, length, map, nat_le, nat_lt, option_map, refl, replicate, slice_get, subst, sym}
+use Rattle.std.proofs.Common.{◌≡◌, ◌≢◌, ◌<◌, ◌≤◌, ◌^◌, ◌-◌, ◌∙◌, ◌==◌, ℕ, suc, All, false, List, [], ◌∷◌, ◌++◌, Option, Some, None, ap, arith, codes, length, map, nat_le, nat_lt, option_map, refl, replicate, slice_get, subst, sym}
 use Rattle.std.specs.List.{AllPairs, list_any}
 use Rattle.std.proofs.lemmas.Bool.{le-ltb, lt-leb, ne_eqb}
 use Rattle.std.proofs.lemmas.List.{length-map}
@@ -16,19 +16,20 @@ use Rattle.abt_machine.specs.declared.workload.SchedPart.{SchedPart}
 use Rattle.abt_machine.specs.Canonical.{sched_line}
 use Rattle.abt_machine.specs.Declaring.{Above, listed, sched_with}
 use Rattle.abt_machine.specs.Faults.{has_repeated}
-use Rattle.abt_machine.specs.Forms.{form_of, rule_slots, slots}
+use Rattle.abt_machine.specs.Forms.{rule_slots, slots}
 use Rattle.abt_machine.specs.Numbers.{pool_no}
 use Rattle.abt_machine.specs.Valid.{IsRule, IsScheduler, IsValid}
 use Rattle.abt_machine.specs.Words.{numbered}
 use Rattle.abt_machine.specs.Workloads.{pools_from}
 use Rattle.abt_workload.specs.Slots.{values}
-use Rattle.abt_workload.proofs.Filled.{as_pools, given, plain_places, takes}
+use Rattle.abt_workload.proofs.Filled.{IsWritten, as_pools, given, takes}
 use Rattle.abt_workload.proofs.Fitting.{AreFit, IsSmall, fit, fit-within}
 use Rattle.abt_workload.proofs.Growing.{all-head, all-tail}
 use Rattle.abt_workload.proofs.Heads.{placing}
-use Rattle.abt_workload.proofs.InOrder.{front-shorter, get-here, or-both, placed-among, reached, section-taken}
+use Rattle.abt_workload.proofs.InOrder.{front-shorter, get-here, placed-among, reached, section-taken}
 use Rattle.abt_workload.proofs.Measures.{sched-line}
 use Rattle.abt_workload.proofs.Proper.{IsSchedIn}
+use Rattle.abt_workload.proofs.Places.{or-both}
 use Rattle.abt_workload.proofs.Taking.{Takes, TakesAll, plain-word}
 use Rattle.abt_workload.proofs.Weights.{filled}
 
@@ -81,19 +82,14 @@ words-are g r ps some =
     ap (sched_line g) (sym (part-again g r ps))
     ∙ sched-line (codes "sched") (form_rule r) (numbers_in g r (pools_in ps)) (rw (listed-again g r (pools_in ps), length-map) some)
 
--- the form of a scheduler's line, which lists a pool
-form-is : (g : ℕ) (r : Rule) (ps : List PoolNo) → 0 < length ps → form_of (sched_line g (record { rule = r; pools = ps })) ≡ Some (form.Sched (form_rule r))
-form-is g r [] some = absurd (omega arith)
-form-is g r (p ∷ ps) some = by r
+-- a scheduler's line, which lists a pool, is written of its form
+written : (g : ℕ) (r : Rule) (ps : List PoolNo) → 0 < length ps → IsWritten (form.Sched (form_rule r)) (codes "sched") (numbers_in g r (pools_in ps)) (sched_line g (record { rule = r; pools = ps }))
+written g r [] some = absurd (omega arith)
+written g r (p ∷ ps) some = by r
   where
-    by : (q : Rule) → form_of (sched_line g (record { rule = q; pools = p ∷ ps })) ≡ Some (form.Sched (form_rule q))
-    by rule.Basic = refl
-    by _ = refl
-
--- the fixed words of a line are words
-plain : (r : Rule) → plain_places (slots (form.Sched (form_rule r))) ≡ true
-plain rule.Basic = refl
-plain _ = refl
+    by : (q : Rule) → IsWritten (form.Sched (form_rule q)) (codes "sched") (numbers_in g q (pools_in (p ∷ ps))) (sched_line g (record { rule = q; pools = p ∷ ps }))
+    by rule.Basic = record { words_are = words-are g rule.Basic (p ∷ ps) some; form_is = refl; skipped = refl; plain = refl; chosen = plain-word (codes "sched") refl }
+    by q = record { words_are = words-are g q (p ∷ ps) some; form_is = refl; skipped = refl; plain = refl; chosen = plain-word (codes "sched") refl }
 
 -- The numbers of a line.
 
@@ -159,13 +155,7 @@ sched-taken W v section le front part rest e =
     let pools : listed (form_rule part.rule) (values (given (slots f) (numbers_in g part.rule ps))) ≡ ps = ap (listed (form_rule part.rule)) read ∙ listed-again g part.rule ps in
     let few_listed : length ps ≤ 8 = let most = h.few_pools in rw length-map most in
     takes a (scheduling 5 W.streams W.keys W.pools (front ++ part ∷ [])) f (codes "sched") (numbers_in g part.rule ps) (sched_line g part)
-    record {
-      words_are = words-are g part.rule part.pools h.some_pool;
-      form_is = form-is g part.rule part.pools h.some_pool;
-      skipped = refl;
-      plain = plain part.rule;
-      chosen = plain-word (codes "sched") refl;
-    }
+    (written g part.rule part.pools h.some_pool)
     (fit a small number.NewSched g refl, rule-fit a small part.rule ps h.rule h.listed)
     record {
       version = refl;

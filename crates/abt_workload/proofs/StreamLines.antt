@@ -18,7 +18,8 @@ use Rattle.abt_workload.proofs.Filled.{given, takes}
 use Rattle.abt_workload.proofs.Fitting.{IsSmall, all-fit}
 use Rattle.abt_workload.proofs.Growing.{any-none}
 use Rattle.abt_workload.proofs.Heads.{placing}
-use Rattle.abt_workload.proofs.InOrder.{front-shorter, get-here, not-before, or-both, placed-among, reached, section-taken}
+use Rattle.abt_workload.proofs.InOrder.{front-shorter, get-here, not-before, placed-among, reached, section-taken}
+use Rattle.abt_workload.proofs.Places.{or-both}
 use Rattle.abt_workload.proofs.Taking.{Takes, TakesAll, plain-word}
 
 -- Main schedulers.

@@ -79,27 +79,27 @@ utf8-of-line words h = is_utf8-from_IsUtf8 (line_of words) (line-utf8 words h)
 -- Its bytes.
 
 -- a space or a visible byte
-abbrev IsWritten : ℕ → Type 0
-IsWritten b = (32 ≤ b) × (b ≢ 127)
+abbrev IsWrittenByte : ℕ → Type 0
+IsWrittenByte b = (32 ≤ b) × (b ≢ 127)
 
 -- the bytes of a word
-word-written : (w : Text) → All IsVisible w → All IsWritten w
+word-written : (w : Text) → All IsVisible w → All IsWrittenByte w
 word-written w h k d lt = let v : IsVisible (get_or w k d) = h k d lt in let above = v.0 in (omega arith, v.1)
 
 -- the bytes of words with a space before each
-spaced-written : (ws : List Text) → All IsWord ws → All IsWritten (spaced ws)
+spaced-written : (ws : List Text) → All IsWord ws → All IsWrittenByte (spaced ws)
 spaced-written [] h = none-of _
 spaced-written (w ∷ ws) h =
-    let here : All IsWritten (32 ∷ w) = all-cons IsWritten 32 w (omega arith, omega arith) (word-written w (all-head IsWord w ws h).visible) in
-    All-append IsWritten (32 ∷ w) (spaced ws) here (spaced-written ws (all-tail IsWord w ws h))
+    let here : All IsWrittenByte (32 ∷ w) = all-cons IsWrittenByte 32 w (omega arith, omega arith) (word-written w (all-head IsWord w ws h).visible) in
+    All-append IsWrittenByte (32 ∷ w) (spaced ws) here (spaced-written ws (all-tail IsWord w ws h))
 
 -- the bytes of a line
-line-written : (words : List Text) → All IsWord words → All IsWritten (line_of words)
+line-written : (words : List Text) → All IsWord words → All IsWrittenByte (line_of words)
 line-written [] h = none-of _
-line-written (w ∷ ws) h = All-append IsWritten w (spaced ws) (word-written w (all-head IsWord w ws h).visible) (spaced-written ws (all-tail IsWord w ws h))
+line-written (w ∷ ws) h = All-append IsWrittenByte w (spaced ws) (word-written w (all-head IsWord w ws h).visible) (spaced-written ws (all-tail IsWord w ws h))
 
 -- none is a control character
-no-control : (b : ℕ) → IsWritten b → is_control b ≡ false
+no-control : (b : ℕ) → IsWrittenByte b → is_control b ≡ false
 no-control b h =
     let above : 32 ≤ b = h.0 in
     let other : b ≢ 127 = h.1 in
@@ -121,7 +121,7 @@ IsUnended line = All (λ b. (b == 10) ≡ false) line
 line-unended : (words : List Text) → All IsWord words → IsUnended (line_of words)
 line-unended words h = let all = line-written words h in λ k d lt. by (get_or (line_of words) k d) (all k d lt)
   where
-    by : (b : ℕ) → IsWritten b → (b == 10) ≡ false
+    by : (b : ℕ) → IsWrittenByte b → (b == 10) ≡ false
     by b w = let above : 32 ≤ b = w.0 in search (rules, tests)
 
 -- a line feed ends a line
