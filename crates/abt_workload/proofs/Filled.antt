@@ -56,7 +56,8 @@ module _ (a : Above) where
   pools-words (n ∷ ns) h = all-cons IsWord (decimal n) (map decimal ns) (decimal-word n h.0.small) (pools-words ns h.1)
 
   -- the words of a line are words
-  words-filled : (places : List Slot) (word : Text) (ns : List ℕ) → plain_places places ≡ true → IsWord word → AreFit a (given places ns) → All IsWord (filled places word ns)
+  words-filled : (places : List Slot) (word : Text) (ns : List ℕ) → plain_places places ≡ true → IsWord word → AreFit a (given places ns)
+      → All IsWord (filled places word ns)
   words-filled [] word ns e w h = none-of _
   words-filled (Fixed t ∷ places) word ns e w h =
       all-cons IsWord t (filled places word ns) (plain-word t (and-left (is_plain t) _ e)) (words-filled places word ns (and-right (is_plain t) _ e) w h)

@@ -146,8 +146,8 @@ module _ (W : Parts) (v : IsValid W) where
 
   stream-lines : TakesAll below_scheds (numbered stream_line W.mains) below_mains
   stream-lines =
-      subst (λ (ms : List (Option SchedNo)). TakesAll below_scheds (numbered stream_line W.mains) (placing mains_reached W.streams W.keys W.pools W.scheds ms [])) mains-all
-          (streams-taken W v scheds_reached (let le = scheds-low in omega arith))
+      subst (λ (ms : List (Option SchedNo)). TakesAll below_scheds (numbered stream_line W.mains) (placing mains_reached W.streams W.keys W.pools W.scheds ms []))
+          mains-all (streams-taken W v scheds_reached (let le = scheds-low in omega arith))
 
   streams-from : TakesAll below_count up_to_mains below_mains
   streams-from = takes-append below_count below_scheds below_mains up_to_scheds (numbered stream_line W.mains) scheds-from stream-lines

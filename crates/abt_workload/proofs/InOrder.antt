@@ -85,7 +85,8 @@ not-before (m ∷ front) n rest h =
 -- Lines.
 
 module _ {A : Type 0} (make : ℕ → A → List Text) (below : ℕ → List A → Above) (before section : ℕ) (low : before ≤ section) (all : List A)
-    (step : (at : ℕ) → at ≤ section → (front : List A) (x : A) (rest : List A) → front ++ x ∷ rest ≡ all → Takes (below at front) (make (length front) x) (below section (front ++ x ∷ []))) where
+    (step : (at : ℕ) → at ≤ section → (front : List A) (x : A) (rest : List A) → front ++ x ∷ rest ≡ all
+        → Takes (below at front) (make (length front) x) (below section (front ++ x ∷ []))) where
   -- below these lines
   abbrev after : List A → Above
   after xs = below (reached before section xs) xs

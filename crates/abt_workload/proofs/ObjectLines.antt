@@ -94,5 +94,6 @@ object-taken W v section le front t rest e =
     (ap (λ (u : Thing). below W 7 (front ++ u ∷ [])) (thing-again x t))
 
 -- the lines of a workload's objects are taken
-pub objects-taken : (W : Parts) → IsValid W → (section : ℕ) → section ≤ 7 → TakesAll (below W section []) (numbered object_line W.objects) (below W (reached section 7 W.objects) W.objects)
+pub objects-taken : (W : Parts) → IsValid W → (section : ℕ) → section ≤ 7
+    → TakesAll (below W section []) (numbered object_line W.objects) (below W (reached section 7 W.objects) W.objects)
 objects-taken W v section le = section-taken object_line (below W) section 7 le W.objects (object-taken W v)

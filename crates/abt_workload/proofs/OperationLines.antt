@@ -43,7 +43,8 @@ module _ (W : Parts) (v : IsValid W) (units : List UnitPart) where
           let long : nat_le 256 (length (ops_of part.body)) ≡ false = search (rules, tests) in
           let short : is_long_word f (op_words W o) ≡ false = d.short in
           let made : op_with f (length (texts said)) ns ≡ o = d.made _ (subst (λ (n : ℕ). All (λ w. w ≡ n) (said_by o)) (sym (length-map said (word_at W))) next) in
-          let more : texts said ++ said_in f (op_words W o) ≡ texts (said ++ said_by o) = ap (λ (ws : List Text). texts said ++ ws) d.said ∙ sym (map-append (word_at W) said (said_by o)) in
+          let more : texts said ++ said_in f (op_words W o) ≡ texts (said ++ said_by o) =
+              ap (λ (ws : List Text). texts said ++ ws) d.said ∙ sym (map-append (word_at W) said (said_by o)) in
           takes a (reached W 9 units (Some (unit_and o part)) (said ++ said_by o)) (form.Operation f) (op_word W o) (op_numbers o) (op_words W o) d.written
           (all-fit a (reached-small W v 9 units (Some part) said) (given (op_slots f) (op_numbers o)) met)
           record {
@@ -114,19 +115,23 @@ module _ (W : Parts) (v : IsValid W) (units : List UnitPart) (b : Body) (start :
   after_ops ops said = reached W 9 units (Some (with_ops ops)) said
 
   -- the lines of a unit's operations are taken below those of the operations before them
-  pub ops-taken : (done ops : List Op) (said after : List ℕ) → length done + length ops ≤ 256 → (is_task_body b && list_any may_block ops) ≡ false → All (IsDeclared W) ops
-      → words_said W ≡ said ++ (flat_map said_by ops ++ after) → TakesAll (after_ops done said) (map (op_words W) ops) (after_ops (done ++ ops) (said ++ flat_map said_by ops))
+  pub ops-taken : (done ops : List Op) (said after : List ℕ) → length done + length ops ≤ 256 → (is_task_body b && list_any may_block ops) ≡ false
+      → All (IsDeclared W) ops
+      → words_said W ≡ said ++ (flat_map said_by ops ++ after)
+      → TakesAll (after_ops done said) (map (op_words W) ops) (after_ops (done ++ ops) (said ++ flat_map said_by ops))
   ops-taken done [] said after few task all all_said =
       ap (λ (os : List Op). after_ops os said) (sym (append-nil done)) ∙ ap (λ (ns : List ℕ). after_ops (done ++ []) ns) (sym (append-nil said))
   ops-taken done (o ∷ os) said after few task all all_said =
       let short : length (ops_of (body_like b done)) < 256 = rw (like-ops b done no_sched) (omega arith) in
       let no_block : (is_task_body (body_like b done) && may_block o) ≡ false =
           ap (λ (t : Bool). t && may_block o) (like-task b done) ∙ and-first (is_task_body b) (may_block o) (list_any may_block os) task in
-      let seam : words_said W ≡ said ++ (said_by o ++ (flat_map said_by os ++ after)) = all_said ∙ ap (λ (ns : List ℕ). said ++ ns) (append_assoc (said_by o) (flat_map said_by os) after) in
+      let seam : words_said W ≡ said ++ (said_by o ++ (flat_map said_by os ++ after)) =
+          all_said ∙ ap (λ (ns : List ℕ). said ++ ns) (append_assoc (said_by o) (flat_map said_by os) after) in
       let next = next-said o (length W.words) said (flat_map said_by os ++ after) (sym v.said ∙ seam) in
       let took = op-taken W v units (with_ops done) said o (like-sched b done ∙ no_sched) short no_block (all-head (IsDeclared W) o os all) next in
       let more : Takes (after_ops done said) (op_words W o) (after_ops (done ++ o ∷ []) (said ++ said_by o)) =
-          subst (λ (c : Body). Takes (after_ops done said) (op_words W o) (reached W 9 units (Some (record { body = c; start = start })) (said ++ said_by o))) (like-and b done o) took in
+          subst (λ (c : Body). Takes (after_ops done said) (op_words W o) (reached W 9 units (Some (record { body = c; start = start })) (said ++ said_by o)))
+              (like-and b done o) took in
       let counted : length (done ++ o ∷ []) ≡ length done + 1 = length-append done (o ∷ []) in
       let rest =
           ops-taken (done ++ o ∷ []) os (said ++ said_by o) after (omega arith) (and-rest (is_task_body b) (may_block o) (list_any may_block os) task)

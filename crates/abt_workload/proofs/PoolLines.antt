@@ -51,7 +51,8 @@ written p kind.Deque (access.Priv s) = record { words_are = refl; form_is = refl
 written p kind.Deque _ = record { words_are = refl; form_is = refl; skipped = refl; plain = refl; chosen = plain-word (codes "deque") refl }
 
 -- the numbers of a line are in order
-met : (W : Parts) (section : ℕ) (front : List PoolPart) (x : Access) → IsAccess W x → AreMet (pooling section W.streams W.keys front) (given (slots (form.Pool (form_access x))) (length front ∷ streams_in x))
+met : (W : Parts) (section : ℕ) (front : List PoolPart) (x : Access) → IsAccess W x
+    → AreMet (pooling section W.streams W.keys front) (given (slots (form.Pool (form_access x))) (length front ∷ streams_in x))
 met W section front access.Mpmc h = refl
 met W section front _ h = (refl, h)
 
@@ -68,7 +69,8 @@ access-again p (access.Priv s) = refl
 access-again p _ = refl
 
 -- the line says the pool
-part-again : (p : ℕ) (part : PoolPart) → pool_with (form_access part.access) (pool_line p part) (values (given (slots (form.Pool (form_access part.access))) (p ∷ streams_in part.access))) ≡ part
+part-again : (p : ℕ) (part : PoolPart)
+    → pool_with (form_access part.access) (pool_line p part) (values (given (slots (form.Pool (form_access part.access))) (p ∷ streams_in part.access))) ≡ part
 part-again p part = let k = kind-again part.kind in let x = access-again p part.access in rw (k, x) refl
 
 -- the line of the next pool is taken

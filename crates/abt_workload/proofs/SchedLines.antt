@@ -77,13 +77,15 @@ part-again g rule.Basic ps = ap (λ (qs : List PoolNo). record { rule = rule.Bas
 part-again g r ps = ap (λ (qs : List PoolNo). record { rule = r; pools = qs }) (pools-again ps)
 
 -- a scheduler's line has its form's words
-words-are : (g : ℕ) (r : Rule) (ps : List PoolNo) → 0 < length ps → sched_line g (record { rule = r; pools = ps }) ≡ filled (slots (form.Sched (form_rule r))) (codes "sched") (numbers_in g r (pools_in ps))
+words-are : (g : ℕ) (r : Rule) (ps : List PoolNo) → 0 < length ps
+    → sched_line g (record { rule = r; pools = ps }) ≡ filled (slots (form.Sched (form_rule r))) (codes "sched") (numbers_in g r (pools_in ps))
 words-are g r ps some =
     ap (sched_line g) (sym (part-again g r ps))
     ∙ sched-line (codes "sched") (form_rule r) (numbers_in g r (pools_in ps)) (rw (listed-again g r (pools_in ps), length-map) some)
 
 -- a scheduler's line, which lists a pool, is written of its form
-written : (g : ℕ) (r : Rule) (ps : List PoolNo) → 0 < length ps → IsWritten (form.Sched (form_rule r)) (codes "sched") (numbers_in g r (pools_in ps)) (sched_line g (record { rule = r; pools = ps }))
+written : (g : ℕ) (r : Rule) (ps : List PoolNo) → 0 < length ps
+    → IsWritten (form.Sched (form_rule r)) (codes "sched") (numbers_in g r (pools_in ps)) (sched_line g (record { rule = r; pools = ps }))
 written g r [] some = absurd (omega arith)
 written g r (p ∷ ps) some = by r
   where
@@ -152,7 +154,8 @@ sched-taken W v section le front part rest e =
     let h : IsSchedIn (length W.pools) part = sched-in W g part (get-here front part rest W.scheds e) (v.scheds g lt) in
     let small : IsSmall a = record { streams = v.few_streams; keys = v.few_keys; pools = v.few_pools; scheds = omega arith; objects = omega arith; units = omega arith } in
     let read : values (given (slots f) (numbers_in g part.rule ps)) ≡ numbers_in g part.rule ps = numbers-read g part.rule ps in
-    let pools : listed (form_rule part.rule) (values (given (slots f) (numbers_in g part.rule ps))) ≡ ps = ap (listed (form_rule part.rule)) read ∙ listed-again g part.rule ps in
+    let pools : listed (form_rule part.rule) (values (given (slots f) (numbers_in g part.rule ps))) ≡ ps =
+        ap (listed (form_rule part.rule)) read ∙ listed-again g part.rule ps in
     let few_listed : length ps ≤ 8 = let most = h.few_pools in rw length-map most in
     takes a (scheduling 5 W.streams W.keys W.pools (front ++ part ∷ [])) f (codes "sched") (numbers_in g part.rule ps) (sched_line g part)
     (written g part.rule part.pools h.some_pool)
@@ -166,7 +169,8 @@ sched-taken W v section le front part rest e =
       access = refl;
       early = refl;
     }
-    (ap (λ (x : SchedPart). scheduling 5 W.streams W.keys W.pools (front ++ x ∷ [])) (ap (sched_with (form_rule part.rule)) read ∙ part-again g part.rule part.pools))
+    (ap (λ (x : SchedPart). scheduling 5 W.streams W.keys W.pools (front ++ x ∷ []))
+        (ap (sched_with (form_rule part.rule)) read ∙ part-again g part.rule part.pools))
 
 -- the lines of a workload's schedulers are taken
 pub scheds-taken : (W : Parts) → IsValid W → (section : ℕ) → section ≤ 5

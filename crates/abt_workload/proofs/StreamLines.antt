@@ -72,7 +72,8 @@ unplaced n front g rest more h =
     let declared : numbers_of_scheds (flat_map option_to_list (mains_from n front)) ++ [] ≡ numbers_of_scheds front =
         append-nil _ ∙ ap numbers_of_scheds (mains-declared n front) in
     let parted : numbers_of_scheds (front ++ g ∷ rest) ++ more ≡ numbers_of_scheds front ++ g.0 ∷ (numbers_of_scheds rest ++ more) =
-        ap (λ (ns : List ℕ). ns ++ more) (map-append (λ (h : SchedNo). h.0) front (g ∷ rest)) ∙ append_assoc (numbers_of_scheds front) (numbers_of_scheds (g ∷ rest)) more in
+        ap (λ (ns : List ℕ). ns ++ more) (map-append (λ (h : SchedNo). h.0) front (g ∷ rest))
+        ∙ append_assoc (numbers_of_scheds front) (numbers_of_scheds (g ∷ rest)) more in
     ap (list_any (λ m. m == g.0)) declared
     ∙ not-before (numbers_of_scheds front) g.0 (numbers_of_scheds rest ++ more) (subst (λ (ns : List ℕ). AllPairs (λ x y. x ≢ y) ns) parted h)
 
@@ -114,5 +115,6 @@ stream-taken W v section le front g rest e =
     (ap (λ (ms : List (Option SchedNo)). placing 6 W.streams W.keys W.pools W.scheds ms []) (mains-and W.streams front g within))
 
 -- the lines of a workload's main schedulers are taken
-pub streams-taken : (W : Parts) → IsValid W → (section : ℕ) → section ≤ 6 → TakesAll (below W section []) (numbered stream_line W.mains) (below W (reached section 6 W.mains) W.mains)
+pub streams-taken : (W : Parts) → IsValid W → (section : ℕ) → section ≤ 6
+    → TakesAll (below W section []) (numbered stream_line W.mains) (below W (reached section 6 W.mains) W.mains)
 streams-taken W v section le = section-taken stream_line (below W) section 6 le W.mains (stream-taken W v)

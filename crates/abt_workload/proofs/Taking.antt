@@ -45,8 +45,15 @@ pub taken : (a : Above) (words : List Text) (f : Form) → All IsWord words → 
     → form_of words ≡ Some f → is_misplaced a f ≡ false → list_all (λ p. is_number p.1) (numerals (slots f) words) ≡ true
     → later_fault a f words (numbers_of f words) ≡ None → Takes a words (with_line a f words (values_of f words))
 taken a words f written kept version form_is placed numbers later =
-    let h : HasForm a (line_of words) words f = record { utf8 = utf8-of-line words written; version = version; form_is = form_is; control = no-control-in-line words written; placed = placed } in
-    let sound : find (has a (line_of words) words (form_of words)) faults ≡ None = line-judged a (line_of words) words f h (numbers_of f words) None numbers refl (sym later) in
+    let h : HasForm a (line_of words) words f = record {
+      utf8 = utf8-of-line words written;
+      version = version;
+      form_is = form_is;
+      control = no-control-in-line words written;
+      placed = placed;
+    } in
+    let sound : find (has a (line_of words) words (form_of words)) faults ≡ None =
+        line-judged a (line_of words) words f h (numbers_of f words) None numbers refl (sym later) in
     let same : words ≡ words_of (line_of words) = sym (words-of-line words written) in
     let new : Above = with_line a f words (values_of f words) in
     record {

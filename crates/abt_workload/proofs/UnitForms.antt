@@ -57,14 +57,16 @@ abbrev pub unit_given : ℕ → Body → Option PoolNo → List (Number × ℕ)
 unit_given u b start = given (slots (unit_form b start)) (unit_numbers u b start)
 
 -- each unit's line is written of its form
-pub unit-written : (u : ℕ) (b : Body) (start : Option PoolNo) → IsWritten (unit_form b start) (codes "unit") (unit_numbers u b start) (header u (record { body = b; start = start }))
+pub unit-written : (u : ℕ) (b : Body) (start : Option PoolNo)
+    → IsWritten (unit_form b start) (codes "unit") (unit_numbers u b start) (header u (record { body = b; start = start }))
 unit-written u (body.Ult ops) None = record { words_are = refl; form_is = refl; skipped = refl; plain = refl; chosen = plain-word (codes "unit") refl }
 unit-written u (body.Ult ops) (Some p) = record { words_are = refl; form_is = refl; skipped = refl; plain = refl; chosen = plain-word (codes "unit") refl }
 unit-written u _ None = record { words_are = refl; form_is = refl; skipped = refl; plain = refl; chosen = plain-word (codes "unit") refl }
 unit-written u _ (Some p) = record { words_are = refl; form_is = refl; skipped = refl; plain = refl; chosen = plain-word (codes "unit") refl }
 
 -- and declares the unit without its operations
-pub unit-made : (u : ℕ) (b : Body) (start : Option PoolNo) → unit_with (role_of b) (start_form start) (values (unit_given u b start)) ≡ record { body = body_like b []; start = start }
+pub unit-made : (u : ℕ) (b : Body) (start : Option PoolNo)
+    → unit_with (role_of b) (start_form start) (values (unit_given u b start)) ≡ record { body = body_like b []; start = start }
 unit-made u (body.Ult ops) None = refl
 unit-made u (body.Ult ops) (Some p) = refl
 unit-made u _ None = refl
@@ -72,7 +74,8 @@ unit-made u _ (Some p) = refl
 
 -- its numbers name what is declared
 pub unit-met : (W : Parts) (s : ℕ) (units : List UnitPart) (last : Option UnitPart) (said : List ℕ) (u : ℕ) (b : Body) (start : Option PoolNo)
-    → u ≡ declared_units (reached W s units last said) → u < length W.units → IsBody W b → IsStartIn (length W.pools) start → AreMet (reached W s units last said) (unit_given u b start)
+    → u ≡ declared_units (reached W s units last said) → u < length W.units → IsBody W b → IsStartIn (length W.pools) start
+    → AreMet (reached W s units last said) (unit_given u b start)
 unit-met W s units last said u (body.Sched g) None e lt kind there = ((e, lt), kind)
 unit-met W s units last said u (body.Sched g) (Some p) e lt kind there = ((e, lt), (kind, there))
 unit-met W s units last said u _ None e lt kind there = (e, lt)

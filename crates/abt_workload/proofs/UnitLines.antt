@@ -77,7 +77,8 @@ module _ (W : Parts) (v : IsValid W) (front : List UnitPart) (part : UnitPart) (
   start = starts (length W.pools) part.start (λ p d. (v.units (length front) below).start p (ap start_from here ∙ d))
 
   -- a unit's scheduler is in no place above
-  not-placed : (g : ℕ) → sched_in part.body ≡ g ∷ [] → list_any (λ h. h == g) (map (λ (m : SchedNo). m.0) W.mains ++ flat_map (λ (p : UnitPart). sched_in p.body) front) ≡ false
+  not-placed : (g : ℕ) → sched_in part.body ≡ g ∷ []
+      → list_any (λ h. h == g) (map (λ (m : SchedNo). m.0) W.mains ++ flat_map (λ (p : UnitPart). sched_in p.body) front) ≡ false
   not-placed g is =
       let S : UnitPart → List ℕ = λ p. sched_in p.body in
       let M : List ℕ = map (λ (m : SchedNo). m.0) W.mains in
@@ -114,16 +115,20 @@ module _ (W : Parts) (v : IsValid W) (front : List UnitPart) (part : UnitPart) (
         let a : Above = reached W s units last said in
         let u : ℕ = length front in
         let f : Form = unit_form part.body part.start in
+        let made : UnitPart = unit_with (role_of part.body) (start_form part.start) (values (unit_given u part.body part.start)) in
         takes a (reached W 9 front (Some (record { body = body_like part.body []; start = part.start })) said) f (codes "unit") (unit_numbers u part.body part.start) (header u part)
         (unit-written u part.body part.start)
-        (all-fit a (reached-small W v s units last said) (unit_given u part.body part.start) (unit-met W s units last said u part.body part.start (sym count) below kind start))
+        (all-fit a (reached-small W v s units last said) (unit_given u part.body part.start)
+            (unit-met W s units last said u part.body part.start (sym count) below kind start))
         record { version = refl; placed = late s at; once = once part.body part.start refl; limit = refl; task = refl; access = refl; early = refl }
-        (ap (λ (us : List UnitPart). record a { section = 9; units = us; last = Some (unit_with (role_of part.body) (start_form part.start) (values (unit_given u part.body part.start))) }) reach
+        (ap (λ (us : List UnitPart). record a { section = 9; units = us; last = Some made }) reach
         ∙ ap (λ (p : UnitPart). record a { section = 9; units = front; last = Some p }) (unit-made u part.body part.start))
 
   -- what its operations name is declared
   ops-declared : All (IsDeclared W) (ops_of part.body)
-  ops-declared = λ k d lt. (v.units (length front) below).ops k _ (ap (λ (o : Option UnitPart). slice_get (ops_of (body_from o)) k) here ∙ slice_get-get_or (ops_of part.body) k d lt)
+  ops-declared = λ k d lt.
+      (v.units (length front) below).ops k _
+          (ap (λ (o : Option UnitPart). slice_get (ops_of (body_from o)) k) here ∙ slice_get-get_or (ops_of part.body) k d lt)
 
   -- they are few
   ops-few : length (ops_of part.body) ≤ 256
@@ -156,7 +161,8 @@ module _ (W : Parts) (v : IsValid W) where
   all-words said is = ap (map (word_at W)) (sym is ∙ v.said) ∙ sym (fill_by_all (word_at W) W.words (length W.words) [] refl (λ k lt. refl))
 
   -- below all units the workload is declared
-  whole : (s : ℕ) → (s ≡ 8) ⊎ (s ≡ 9) → (units : List UnitPart) (last : Option UnitPart) (said : List ℕ) → units ++ option_to_list last ≡ W.units → words_said W ≡ said → IsWhole W (reached W s units last said)
+  whole : (s : ℕ) → (s ≡ 8) ⊎ (s ≡ 9) → (units : List UnitPart) (last : Option UnitPart) (said : List ℕ) → units ++ option_to_list last ≡ W.units → words_said W ≡ said
+      → IsWhole W (reached W s units last said)
   whole s at units last said e is = record {
     begun = refl;
     streams = refl;
@@ -170,7 +176,8 @@ module _ (W : Parts) (v : IsValid W) where
   }
 
   -- the lines of the units after a front are taken
-  units-from : (front rest : List UnitPart) → front ++ rest ≡ W.units → (s : ℕ) → (s ≡ 8) ⊎ (s ≡ 9) → (units : List UnitPart) (last : Option UnitPart) → units ++ option_to_list last ≡ front
+  units-from : (front rest : List UnitPart) → front ++ rest ≡ W.units → (s : ℕ) → (s ≡ 8) ⊎ (s ≡ 9)
+      → (units : List UnitPart) (last : Option UnitPart) → units ++ option_to_list last ≡ front
       → (said : List ℕ) → words_said W ≡ said ++ flat_map (λ (part : UnitPart). flat_map said_by (ops_of part.body)) rest
       → (b : Above) × TakesAll (reached W s units last said) (units_lines W (length front) rest) b × IsWhole W b
   units-from front [] e s at units last reach said is =
@@ -180,7 +187,9 @@ module _ (W : Parts) (v : IsValid W) where
       let after : List ℕ = flat_map (λ (p : UnitPart). flat_map said_by (ops_of p.body)) rest in
       let below : Above = reached W 9 front (Some part) (said ++ more) in
       let first = unit-whole W v front part rest e s at units last reach said after is in
-      let next = units-from (front ++ part ∷ []) rest (append_assoc front (part ∷ []) rest ∙ e) 9 (inr refl) front (Some part) refl (said ++ more) (is ∙ sym (append_assoc said more after)) in
+      let next =
+          units-from (front ++ part ∷ []) rest (append_assoc front (part ∷ []) rest ∙ e) 9 (inr refl) front (Some part) refl
+              (said ++ more) (is ∙ sym (append_assoc said more after)) in
       let count : length (front ++ part ∷ []) ≡ length front + 1 = length-append front (part ∷ []) in
       let others : TakesAll below (units_lines W (length front + 1) rest) next.0 = subst (λ (n : ℕ). TakesAll below (units_lines W n rest) next.0) count next.1 in
       (next.0, takes-append (reached W s units last said) below next.0 (unit_lines W (length front) part) (units_lines W (length front + 1) rest) first others, next.2)

@@ -138,7 +138,8 @@ lines-before [] rest h = refl
 lines-before (ws ∷ lines) rest h =
     let here : IsUnended (line_of ws) = line-unended ws (all-head (All IsWord) ws lines h) in
     let shape : (ended (line_of ws) ++ text_of lines) ++ rest ≡ line_of ws ++ 10 ∷ (text_of lines ++ rest) = simp append_assoc in
-    ap lines_of shape ∙ (lines-cut (line_of ws) (text_of lines ++ rest) here ∙ ap (λ (ls : List Text). line_of ws ∷ ls) (lines-before lines rest (all-tail (All IsWord) ws lines h)))
+    let more = lines-before lines rest (all-tail (All IsWord) ws lines h) in
+    ap lines_of shape ∙ (lines-cut (line_of ws) (text_of lines ++ rest) here ∙ ap (λ (ls : List Text). line_of ws ∷ ls) more)
 
 -- the empty text has no line
 lines-nil : lines_of [] ≡ []
@@ -147,7 +148,9 @@ lines-nil = refl
 
 -- the lines that a text is written of are its lines
 pub lines-of-text : (lines : List (List Text)) → All (All IsWord) lines → lines_of (text_of lines) ≡ map line_of lines
-lines-of-text lines h = ap lines_of (sym (append-nil (text_of lines))) ∙ (lines-before lines [] h ∙ (ap (λ (ls : List Text). map line_of lines ++ ls) lines-nil ∙ append-nil (map line_of lines)))
+lines-of-text lines h =
+    ap lines_of (sym (append-nil (text_of lines)))
+    ∙ (lines-before lines [] h ∙ (ap (λ (ls : List Text). map line_of lines ++ ls) lines-nil ∙ append-nil (map line_of lines)))
 
 -- a text without its last line feed
 without-end : (front : Text) → take (length (front ++ 10 ∷ []) - 1) (front ++ 10 ∷ []) ≡ front
@@ -161,14 +164,16 @@ line-some [] h some = absurd (omega arith)
 line-some (w ∷ ws) h some = let byte = (all-head IsWord w ws h).some_byte in simp length-append (omega arith)
 
 -- the last line needs no line feed
-lines-without-end : (lines : List (List Text)) (last : List Text) → All (All IsWord) lines → All IsWord last → 0 < length last → lines_of (text_of lines ++ line_of last) ≡ map line_of (lines ++ last ∷ [])
+lines-without-end : (lines : List (List Text)) (last : List Text) → All (All IsWord) lines → All IsWord last → 0 < length last
+    → lines_of (text_of lines ++ line_of last) ≡ map line_of (lines ++ last ∷ [])
 lines-without-end lines last h here some =
     let unended : IsUnended (line_of last) = line-unended last here in
     let whole : lines_of (line_of last) ≡ line_of last ∷ [] = lines_whole (line_of last) (line-some last here some) (λ j lt. unended j 0 lt) in
     lines-before lines (line_of last) h ∙ (ap (λ (ls : List Text). map line_of lines ++ ls) whole ∙ sym (map-append line_of lines (last ∷ [])))
 
 -- so they are where the text goes without its last line feed
-pub lines-of-fitted : (lines : List (List Text)) (last : List Text) → All (All IsWord) lines → All IsWord last → 0 < length last → lines_of (fitted (text_of (lines ++ last ∷ []))) ≡ map line_of (lines ++ last ∷ [])
+pub lines-of-fitted : (lines : List (List Text)) (last : List Text) → All (All IsWord) lines → All IsWord last → 0 < length last
+    → lines_of (fitted (text_of (lines ++ last ∷ []))) ≡ map line_of (lines ++ last ∷ [])
 lines-of-fitted lines last h here some = by (length (text_of (lines ++ last ∷ [])) == 4194305)
   where
     shape : text_of (lines ++ last ∷ []) ≡ (text_of lines ++ line_of last) ++ 10 ∷ []
@@ -180,6 +185,7 @@ lines-of-fitted lines last h here some = by (length (text_of (lines ++ last ∷ 
     cut : take (length (text_of (lines ++ last ∷ [])) - 1) (text_of (lines ++ last ∷ [])) ≡ text_of lines ++ line_of last
     cut = ap (λ (t : Text). take (length t - 1) t) shape ∙ without-end (text_of lines ++ line_of last)
 
-    by : (b : Bool) → lines_of (cond b (take (length (text_of (lines ++ last ∷ [])) - 1) (text_of (lines ++ last ∷ []))) (text_of (lines ++ last ∷ []))) ≡ map line_of (lines ++ last ∷ [])
+    by : (b : Bool)
+        → lines_of (cond b (take (length (text_of (lines ++ last ∷ [])) - 1) (text_of (lines ++ last ∷ []))) (text_of (lines ++ last ∷ []))) ≡ map line_of (lines ++ last ∷ [])
     by true = ap lines_of cut ∙ lines-without-end lines last h here some
     by false = lines-of-text (lines ++ last ∷ []) all
