@@ -30,19 +30,19 @@ versioned = record nothing { begun = true; section = 1 }
 version-taken : Takes nothing version_line versioned
 version-taken =
     takes nothing versioned form.Version (codes "abt") [] version_line
-    record { words_are = refl; form_is = refl; skipped = refl; plain = refl; chosen = plain-word (codes "abt") refl }
-    tt
-    record { version = refl; placed = refl; once = refl; limit = refl; task = refl; access = refl; early = refl }
-    refl
+        record { words_are = refl; form_is = refl; skipped = refl; plain = refl; chosen = plain-word (codes "abt") refl }
+        tt
+        record { version = refl; placed = refl; once = refl; limit = refl; task = refl; access = refl; early = refl }
+        refl
 
 -- the line of the number of streams
 count-taken : (n : ℕ) → 0 < n → n ≤ 8 → Takes versioned (codes "streams" ∷ decimal n ∷ []) (pooling 2 n 0 [])
 count-taken n some few =
     takes versioned (pooling 2 n 0 []) form.Streams (codes "streams") (n ∷ []) (codes "streams" ∷ decimal n ∷ [])
-    record { words_are = refl; form_is = refl; skipped = refl; plain = refl; chosen = plain-word (codes "streams") refl }
-    (fit-within versioned 1 8 n (omega arith) few (omega arith), tt)
-    record { version = refl; placed = refl; once = refl; limit = refl; task = refl; access = refl; early = refl }
-    refl
+        record { words_are = refl; form_is = refl; skipped = refl; plain = refl; chosen = plain-word (codes "streams") refl }
+        (fit-within versioned 1 8 n (omega arith) few (omega arith), tt)
+        record { version = refl; placed = refl; once = refl; limit = refl; task = refl; access = refl; early = refl }
+        refl
 
 -- the section before the pools
 abbrev keys_section : ℕ → ℕ
@@ -62,10 +62,10 @@ keys-taken n (suc k) few = (pooling 3 n (suc k) [], line, refl)
     line : Takes (pooling 2 n 0 []) (codes "keys" ∷ decimal (suc k) ∷ []) (pooling 3 n (suc k) [])
     line =
         takes (pooling 2 n 0 []) (pooling 3 n (suc k) []) form.Keys (codes "keys") (suc k ∷ []) (codes "keys" ∷ decimal (suc k) ∷ [])
-        record { words_are = refl; form_is = refl; skipped = refl; plain = refl; chosen = plain-word (codes "keys") refl }
-        (fit-within (pooling 2 n 0 []) 0 16 (suc k) (omega arith) few (omega arith), tt)
-        record { version = refl; placed = refl; once = refl; limit = refl; task = refl; access = refl; early = refl }
-        refl
+            record { words_are = refl; form_is = refl; skipped = refl; plain = refl; chosen = plain-word (codes "keys") refl }
+            (fit-within (pooling 2 n 0 []) 0 16 (suc k) (omega arith) few (omega arith), tt)
+            record { version = refl; placed = refl; once = refl; limit = refl; task = refl; access = refl; early = refl }
+            refl
 
 -- each stream has a main scheduler
 all-some : (gs : List SchedNo) → list_any is_none (map (λ (g : SchedNo). Some g) gs) ≡ false
@@ -164,18 +164,18 @@ module _ (W : Parts) (v : IsValid W) where
       let few : length W.units ≤ 256 = v.few_units in
       let some : 0 < length W.pools = v.some_pool in
       takes below_objects (head W) form.Units (codes "units") (length W.units ∷ []) (units_words W)
-      record { words_are = refl; form_is = refl; skipped = refl; plain = refl; chosen = plain-word (codes "units") refl }
-      (fit-within below_objects 0 256 (length W.units) (omega arith) few (omega arith), tt)
-      record {
-        version = refl;
-        placed = placed-alone below_objects form.Units (omega arith) (omega arith) refl;
-        once = refl;
-        limit = refl;
-        task = refl;
-        access = refl;
-        early = or-both (length W.pools == 0) _ (ne_eqb (length W.pools) 0 (λ e. omega (arith, e))) (all-some W.mains);
-      }
-      refl
+          record { words_are = refl; form_is = refl; skipped = refl; plain = refl; chosen = plain-word (codes "units") refl }
+          (fit-within below_objects 0 256 (length W.units) (omega arith) few (omega arith), tt)
+          record {
+            version = refl;
+            placed = placed-alone below_objects form.Units (omega arith) (omega arith) refl;
+            once = refl;
+            limit = refl;
+            task = refl;
+            access = refl;
+            early = or-both (length W.pools == 0) _ (ne_eqb (length W.pools) 0 (λ e. omega (arith, e))) (all-some W.mains);
+          }
+          refl
 
   -- the lines before the units are taken, and declare all but the units
   pub head-taken : TakesAll nothing (head_lines W) (head W)

@@ -1,8 +1,9 @@
 -- Lines that are taken in the order of their numbers.
-use Rattle.std.proofs.Common.{◌≡◌, ◌≢◌, ◌<◌, ◌≤◌, ◌+◌, ◌==◌, ◌&&◌, ◌∙◌, ℕ, zero, suc, Bool, true, false, List, [], ◌∷◌, ◌++◌, Some, ap, arith, length, length-append, map, nat_lt, refl, slice_get, subst, sym}
+use Rattle.std.proofs.Common.{◌≡◌, ◌≢◌, ◌<◌, ◌≤◌, ◌+◌, ◌==◌, ◌&&◌, ◌∙◌, ℕ, suc, Bool, true, false, List, [], ◌∷◌, ◌++◌, Some, ap, arith, get_or, length, length-append, map, nat_lt, refl, slice_get, subst, sym}
 use Rattle.std.specs.List.{AllPairs, enumerate_from, list_any}
 use Rattle.std.proofs.lemmas.Bool.{le-ltb, ne_eqb}
-use Rattle.std.proofs.lemmas.List.{append-nil, append_assoc}
+use Rattle.std.proofs.lemmas.List.{append-nil, append_assoc, get_or_append_left}
+use Rattle.std.proofs.lemmas.Option.{get_or_from_slice_get, slice_get-get_or}
 use Rattle.std.proofs.Math.Seq.{get_or-append_seam}
 use Rattle.abt_machine.specs.declared.grammar.Form.{Form}
 use Rattle.abt_machine.specs.Declaring.{Above}
@@ -42,7 +43,7 @@ placed-among a f le low single home =
     or-both _ (a.section == 10) (or-both _ (is_homeless a f) first home) unended
 
 -- a line of a section that has one line
-pub placed-alone : (a : Above) (f : Form) → a.section < section f → section f < 10 → is_homeless a f ≡ false → is_misplaced a f ≡ false
+pub placed-alone : (a : Above) (f : Form) → a.section < section f → section f ≤ 10 → is_homeless a f ≡ false → is_misplaced a f ≡ false
 placed-alone a f lt low home =
     let later : nat_lt (section f) a.section ≡ false = le-ltb (section f) a.section (omega arith) in
     let other : (section f == a.section) ≡ false = ne_eqb (section f) a.section (λ e. omega (arith, e)) in
@@ -52,27 +53,24 @@ placed-alone a f lt low home =
 
 -- Elements.
 
--- the element after those in front
-get-at : {A : Type 0} (front : List A) (x : A) (rest : List A) → slice_get (front ++ x ∷ rest) (length front) ≡ Some x
-get-at [] x rest = refl
-get-at (y ∷ front) x rest = get-at front x rest
-
--- it is that of all
-pub get-here : {A : Type 0} (front : List A) (x : A) (rest all : List A) → front ++ x ∷ rest ≡ all → slice_get all (length front) ≡ Some x
-get-here front x rest all e = ap (λ xs. slice_get xs (length front)) (sym e) ∙ get-at front x rest
-
--- an element of those in front
-pub get-front : {A : Type 0} (front rest : List A) (k : ℕ) → k < length front → slice_get (front ++ rest) k ≡ slice_get front k
-get-front [] rest k lt = absurd (omega arith)
-get-front (y ∷ front) rest zero lt = refl
-get-front (y ∷ front) rest (suc k) lt = get-front front rest k (omega arith)
-
 -- there are fewer in front than in all
 pub front-shorter : {A : Type 0} (front : List A) (x : A) (rest all : List A) → front ++ x ∷ rest ≡ all → length front < length all
 front-shorter front x rest all e =
     let l : length (front ++ x ∷ rest) ≡ length front + length (x ∷ rest) = length-append front (x ∷ rest) in
     let m : length (front ++ x ∷ rest) ≡ length all = ap length e in
     omega arith
+
+-- the element after those in front
+pub get-here : {A : Type 0} (front : List A) (x : A) (rest all : List A) → front ++ x ∷ rest ≡ all → slice_get all (length front) ≡ Some x
+get-here front x rest all e =
+    slice_get-get_or all (length front) x (front-shorter front x rest all e)
+    ∙ ap (λ y. Some y) (ap (λ xs. get_or xs (length front) x) (sym e) ∙ get_or-append_seam front x rest x)
+
+-- an element of those in front
+pub get-front : {A : Type 0} (front rest all : List A) (k : ℕ) (x : A) → front ++ rest ≡ all → k < length front → slice_get all k ≡ Some x → slice_get front k ≡ Some x
+get-front front rest all k x e lt is =
+    slice_get-get_or front k x lt
+    ∙ ap (λ y. Some y) (sym (get_or_append_left front rest x k lt) ∙ (ap (λ xs. get_or xs k x) e ∙ get_or_from_slice_get all k x x is))
 
 -- a number that stands once is none of those in front
 pub not-before : (front : List ℕ) (n : ℕ) (rest : List ℕ) → AllPairs (λ x y. x ≢ y) (front ++ n ∷ rest) → list_any (λ m. m == n) front ≡ false

@@ -1,5 +1,5 @@
 -- The lines of objects are taken.
-use Rattle.std.proofs.Common.{◌≡◌, ◌<◌, ◌≤◌, ◌∙◌, ℕ, List, [], ◌∷◌, ◌++◌, ap, arith, codes, length, refl, slice_get, sym}
+use Rattle.std.proofs.Common.{◌≡◌, ◌<◌, ◌≤◌, ℕ, List, [], ◌∷◌, ◌++◌, ap, arith, codes, length, refl}
 use Rattle.std.proofs.lemmas.Bool.{le-ltb, lt-leb}
 use Rattle.abt_machine.specs.declared.grammar.Form.{Form}
 use Rattle.abt_machine.specs.declared.grammar.Form.TheVariants as form
@@ -54,12 +54,10 @@ written x _ = record { words_are = refl; form_is = refl; skipped = refl; plain =
 -- the numbers of a line are in order
 met : (W : Parts) (section : ℕ) (front rest : List Thing) (t : Thing) → front ++ rest ≡ W.objects → IsThing W (length front) t
     → AreMet (below W section front) (given (slots (form.Object (form_thing t))) (length front ∷ thing_numbers t))
-met W section front rest (thing.Cond m) e h = (refl, sym (get-front front rest m.0 h.0) ∙ (ap (λ (ts : List Thing). slice_get ts m.0) e ∙ h.1))
+met W section front rest (thing.Cond m) e h = (refl, get-front front rest W.objects m.0 thing.Mutex e h.0 h.1)
 met W section front rest (thing.Future n c) e h = let low = h.0 in let high = h.1 in (refl, (omega arith, high, omega arith))
 met W section front rest (thing.Barrier n) e h = let low = h.0 in let high = h.1 in (refl, (omega arith, high, omega arith))
 met W section front rest _ e h = refl
-
--- What a line declares.
 
 -- the line says the object
 thing-again : (x : ℕ) (t : Thing) → thing_with (form_thing t) (object_line x t) (values (given (slots (form.Object (form_thing t))) (x ∷ thing_numbers t))) ≡ t
@@ -80,18 +78,18 @@ object-taken W v section le front t rest e =
     let h : IsThing W x t = v.objects x t (get-here front t rest W.objects e) in
     let small : IsSmall a = record { streams = v.few_streams; keys = v.few_keys; pools = v.few_pools; scheds = v.few_scheds; objects = omega arith; units = omega arith } in
     takes a (below W 7 (front ++ t ∷ [])) f (thing_word t) ns (object_line x t)
-    (written x t)
-    (all-fit a small (given (slots f) ns) (met W section front (t ∷ rest) t e h))
-    record {
-      version = refl;
-      placed = placed-among a f le (omega arith) refl refl;
-      once = le-ltb x x (omega arith);
-      limit = lt-leb 256 x (omega arith);
-      task = refl;
-      access = refl;
-      early = refl;
-    }
-    (ap (λ (u : Thing). below W 7 (front ++ u ∷ [])) (thing-again x t))
+        (written x t)
+        (all-fit a small (given (slots f) ns) (met W section front (t ∷ rest) t e h))
+        record {
+          version = refl;
+          placed = placed-among a f le (omega arith) refl refl;
+          once = le-ltb x x (omega arith);
+          limit = lt-leb 256 x (omega arith);
+          task = refl;
+          access = refl;
+          early = refl;
+        }
+        (ap (λ (u : Thing). below W 7 (front ++ u ∷ [])) (thing-again x t))
 
 -- the lines of a workload's objects are taken
 pub objects-taken : (W : Parts) → IsValid W → (section : ℕ) → section ≤ 7

@@ -19,9 +19,9 @@ use Rattle.abt_machine.specs.Valid.{IsValid, words_said}
 use Rattle.abt_machine.specs.Words.{Text}
 use Rattle.abt_machine.specs.Workloads.{is_sched, ops_of}
 use Rattle.abt_workload.specs.Slots.{values}
-use Rattle.abt_workload.proofs.Growing.{all-cons, all-head, all-tail}
 use Rattle.abt_workload.proofs.Filled.{given, takes}
 use Rattle.abt_workload.proofs.Fitting.{AreMet, all-fit}
+use Rattle.abt_workload.proofs.Growing.{all-cons, all-head, all-tail}
 use Rattle.abt_workload.proofs.OperationForms.{IsFormed, formed, op-chosen, op-met, op_form, op_numbers, op_word}
 use Rattle.abt_workload.proofs.Proper.{none-of}
 use Rattle.abt_workload.proofs.Reaching.{reached, reached-small}
@@ -46,18 +46,18 @@ module _ (W : Parts) (v : IsValid W) (units : List UnitPart) where
           let more : texts said ++ said_in f (op_words W o) ≡ texts (said ++ said_by o) =
               ap (λ (ws : List Text). texts said ++ ws) d.said ∙ sym (map-append (word_at W) said (said_by o)) in
           takes a (reached W 9 units (Some (unit_and o part)) (said ++ said_by o)) (form.Operation f) (op_word W o) (op_numbers o) (op_words W o) d.written
-          (all-fit a (reached-small W v 9 units (Some part) said) (given (op_slots f) (op_numbers o)) met)
-          record {
-            version = refl;
-            placed = rw no_sched refl;
-            once = refl;
-            limit = rw (long, short) refl;
-            task = ap (λ (b : Bool). is_task_body part.body && b) d.blocks ∙ task;
-            access = refl;
-            early = refl;
-          }
-          (ap (λ (p : Op). record a { last = Some (unit_and p part); words = texts said ++ said_in f (op_words W o) }) made
-          ∙ ap (λ (ws : List Text). record a { last = Some (unit_and o part); words = ws }) more)
+              (all-fit a (reached-small W v 9 units (Some part) said) (given (op_slots f) (op_numbers o)) met)
+              record {
+                version = refl;
+                placed = rw no_sched refl;
+                once = refl;
+                limit = rw (long, short) refl;
+                task = ap (λ (b : Bool). is_task_body part.body && b) d.blocks ∙ task;
+                access = refl;
+                early = refl;
+              }
+              (ap (λ (p : Op). record a { last = Some (unit_and p part); words = texts said ++ said_in f (op_words W o) }) made
+              ∙ ap (λ (ws : List Text). record a { last = Some (unit_and o part); words = ws }) more)
 
 -- Operations one after the other.
 
@@ -87,11 +87,6 @@ like-ops (body.Sched g) ops e = cc
 like-and : (b : Body) (ops : List Op) (o : Op) → body_and o (body_like b ops) ≡ body_like b (ops ++ o ∷ [])
 like-and (body.Ult os) ops o = refl
 like-and _ ops o = refl
-
--- a body is like itself
-pub like-whole : (b : Body) → body_like b (ops_of b) ≡ b
-like-whole (body.Ult os) = refl
-like-whole _ = refl
 
 -- a number of a range, by those before it
 range-place : (k n w : ℕ) (xs ys : List ℕ) → range_with_len k n ≡ xs ++ w ∷ ys → w ≡ k + length xs

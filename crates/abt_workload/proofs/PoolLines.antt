@@ -10,7 +10,7 @@ use Rattle.abt_machine.specs.declared.operations.Kind.TheVariants as kind
 use Rattle.abt_machine.specs.declared.workload.Parts.{Parts}
 use Rattle.abt_machine.specs.declared.workload.PoolPart.{PoolPart}
 use Rattle.abt_machine.specs.Canonical.{kind_name, pool_line}
-use Rattle.abt_machine.specs.Declaring.{Above, access_with, kind_named, pool_with}
+use Rattle.abt_machine.specs.Declaring.{Above, pool_with}
 use Rattle.abt_machine.specs.Forms.{slots}
 use Rattle.abt_machine.specs.Numbers.{stream_no}
 use Rattle.abt_machine.specs.Valid.{IsAccess, IsValid}
@@ -56,22 +56,14 @@ met : (W : Parts) (section : ℕ) (front : List PoolPart) (x : Access) → IsAcc
 met W section front access.Mpmc h = refl
 met W section front _ h = (refl, h)
 
--- What a line declares.
-
--- the name of a kind says the kind
-kind-again : (k : Kind) → kind_named (kind_name k) ≡ k
-kind-again kind.Fifo = refl
-kind-again kind.Deque = refl
-
--- the streams and the form say the access
-access-again : (p : ℕ) (x : Access) → access_with (form_access x) (values (given (slots (form.Pool (form_access x))) (p ∷ streams_in x))) ≡ x
-access-again p (access.Priv s) = refl
-access-again p _ = refl
-
 -- the line says the pool
-part-again : (p : ℕ) (part : PoolPart)
-    → pool_with (form_access part.access) (pool_line p part) (values (given (slots (form.Pool (form_access part.access))) (p ∷ streams_in part.access))) ≡ part
-part-again p part = let k = kind-again part.kind in let x = access-again p part.access in rw (k, x) refl
+part-again : (p : ℕ) (k : Kind) (x : Access)
+    → pool_with (form_access x) (pool_line p (record { kind = k; access = x })) (values (given (slots (form.Pool (form_access x))) (p ∷ streams_in x)))
+    ≡ record { kind = k; access = x }
+part-again p kind.Fifo (access.Priv s) = refl
+part-again p kind.Fifo _ = refl
+part-again p kind.Deque (access.Priv s) = refl
+part-again p kind.Deque _ = refl
 
 -- the line of the next pool is taken
 pool-taken : (W : Parts) → IsValid W → (section : ℕ) → section ≤ 4 → (front : List PoolPart) (part : PoolPart) (rest : List PoolPart) → front ++ part ∷ rest ≡ W.pools
@@ -86,18 +78,18 @@ pool-taken W v section le front part rest e =
     let h : IsAccess W part.access = subst (λ (o : Option PoolPart). IsAccess W (access_from o)) (get-here front part rest W.pools e) (v.pools p lt) in
     let small : IsSmall a = record { streams = v.few_streams; keys = v.few_keys; pools = omega arith; scheds = omega arith; objects = omega arith; units = omega arith } in
     takes a (pooling 4 W.streams W.keys (front ++ part ∷ [])) f (kind_name part.kind) ns (pool_line p part)
-    (written p part.kind part.access)
-    (all-fit a small (given (slots f) ns) (met W section front part.access h))
-    record {
-      version = refl;
-      placed = placed-among a f le (omega arith) refl refl;
-      once = le-ltb p p (omega arith);
-      limit = lt-leb 64 p (omega arith);
-      task = refl;
-      access = refl;
-      early = refl;
-    }
-    (ap (λ (x : PoolPart). pooling 4 W.streams W.keys (front ++ x ∷ [])) (part-again p part))
+        (written p part.kind part.access)
+        (all-fit a small (given (slots f) ns) (met W section front part.access h))
+        record {
+          version = refl;
+          placed = placed-among a f le (omega arith) refl refl;
+          once = le-ltb p p (omega arith);
+          limit = lt-leb 64 p (omega arith);
+          task = refl;
+          access = refl;
+          early = refl;
+        }
+        (ap (λ (x : PoolPart). pooling 4 W.streams W.keys (front ++ x ∷ [])) (part-again p part.kind part.access))
 
 -- the lines of a workload's pools are taken
 pub pools-taken : (W : Parts) → IsValid W → (section : ℕ) → section ≤ 4

@@ -5,7 +5,7 @@ use Rattle.abt_machine.specs.declared.grammar.Form.TheVariants as form
 use Rattle.abt_machine.specs.declared.workload.Parts.{Parts}
 use Rattle.abt_machine.specs.Canonical.{canonical_text, fitted, workload_lines}
 use Rattle.abt_machine.specs.Declaring.{Above, declared_units, nothing, parts_of}
-use Rattle.abt_machine.specs.Faults.{faults, is_early, is_misplaced, line_fault}
+use Rattle.abt_machine.specs.Faults.{faults, is_early, line_fault}
 use Rattle.abt_machine.specs.Grammar.{Reads, and_line, declared_by, fault_at, has_at}
 use Rattle.abt_machine.specs.Spelling.{lines_of}
 use Rattle.abt_machine.specs.Valid.{IsValid, IsWord}
@@ -16,6 +16,7 @@ use Rattle.abt_workload.proofs.Firm.{valid-end}
 use Rattle.abt_workload.proofs.Growing.{all-cons}
 use Rattle.abt_workload.proofs.HeadLines.{head-taken}
 use Rattle.abt_workload.proofs.Heads.{first_lines, head, head_lines, units_words}
+use Rattle.abt_workload.proofs.InOrder.{placed-alone}
 use Rattle.abt_workload.proofs.Proper.{none-of}
 use Rattle.abt_workload.proofs.Seen.{fault-in, fault-length, faultless-end, refuses-end, refuses-length}
 use Rattle.abt_workload.proofs.Taking.{Takes, TakesAll, plain-word, takes-append}
@@ -70,11 +71,6 @@ end_words = codes "end" ∷ []
 abbrev closed : Above → Above
 closed b = record b { section = 10; begun = true }
 
--- it follows `units` and the units
-end-placed : (b : Above) → (b.section ≡ 8) ⊎ (b.section ≡ 9) → is_misplaced b form.End ≡ false
-end-placed b (inl e) = rw e refl
-end-placed b (inr e) = rw e refl
-
 module _ (b : Above) (streams count : ℕ) (begun : b.begun ≡ true) (has_streams : b.streams ≡ Some streams) (has_count : b.unit_count ≡ Some count)
     (all : declared_units b ≡ count) where
   -- nothing is missing above it
@@ -82,13 +78,13 @@ module _ (b : Above) (streams count : ℕ) (begun : b.begun ≡ true) (has_strea
   end-there = let no : nat_lt (declared_units b) count ≡ false = le-ltb (declared_units b) count (omega arith) in rw (has_streams, has_count, no) refl
 
   -- the line is taken where all units are declared
-  end-taken : (b.section ≡ 8) ⊎ (b.section ≡ 9) → Takes b end_words (closed b)
+  end-taken : b.section ≤ 9 → Takes b end_words (closed b)
   end-taken place =
       takes b (closed b) form.End (codes "end") [] end_words
-      record { words_are = refl; form_is = refl; skipped = refl; plain = refl; chosen = plain-word (codes "end") refl }
-      tt
-      record { version = rw begun refl; placed = end-placed b place; once = refl; limit = refl; task = refl; access = refl; early = end-there }
-      refl
+          record { words_are = refl; form_is = refl; skipped = refl; plain = refl; chosen = plain-word (codes "end") refl }
+          tt
+          record { version = rw begun refl; placed = placed-alone b form.End (omega arith) (omega arith) refl; once = refl; limit = refl; task = refl; access = refl; early = end-there }
+          refl
 
 -- The whole text.
 

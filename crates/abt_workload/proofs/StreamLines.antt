@@ -101,18 +101,18 @@ stream-taken W v section le front g rest e =
         subst (λ (gs : List SchedNo). AllPairs (λ x y. x ≢ y) (numbers_of_scheds gs ++ more)) (sym e) v.one_place in
     let small : IsSmall a = record { streams = v.few_streams; keys = v.few_keys; pools = v.few_pools; scheds = v.few_scheds; objects = omega arith; units = omega arith } in
     takes a (below W 6 (front ++ g ∷ [])) form.Stream (codes "main") (s ∷ g.0 ∷ []) (stream_line s g)
-    record { words_are = refl; form_is = refl; skipped = refl; plain = refl; chosen = plain-word (codes "main") refl }
-    (all-fit a small (given (slots form.Stream) (s ∷ g.0 ∷ [])) (within, there))
-    record {
-      version = refl;
-      placed = placed-among a form.Stream le (omega arith) refl refl;
-      once = or-both _ _ (no-main W.streams front) (unplaced W.streams front g rest more places);
-      limit = refl;
-      task = refl;
-      access = ap not taking;
-      early = refl;
-    }
-    (ap (λ (ms : List (Option SchedNo)). placing 6 W.streams W.keys W.pools W.scheds ms []) (mains-and W.streams front g within))
+        record { words_are = refl; form_is = refl; skipped = refl; plain = refl; chosen = plain-word (codes "main") refl }
+        (all-fit a small (given (slots form.Stream) (s ∷ g.0 ∷ [])) (within, there))
+        record {
+          version = refl;
+          placed = placed-among a form.Stream le (omega arith) refl refl;
+          once = or-both _ _ (no-main W.streams front) (unplaced W.streams front g rest more places);
+          limit = refl;
+          task = refl;
+          access = ap not taking;
+          early = refl;
+        }
+        (ap (λ (ms : List (Option SchedNo)). placing 6 W.streams W.keys W.pools W.scheds ms []) (mains-and W.streams front g within))
 
 -- the lines of a workload's main schedulers are taken
 pub streams-taken : (W : Parts) → IsValid W → (section : ℕ) → section ≤ 6

@@ -1,5 +1,5 @@
 -- The lines of units and of their operations are taken.
-use Rattle.std.proofs.Common.{◌≡◌, ◌≢◌, ◌<◌, ◌≤◌, ◌+◌, ◌&&◌, ◌||◌, ◌==◌, ◌∙◌, ℕ, false, true, List, [], ◌∷◌, ◌++◌, All, Option, Some, None, ap, append_assoc, arith, codes, flat_map, inl, inr, ◌⊎◌, length, length-append, map, nat_lt, option_map, option_to_list, refl, rules, slice_get, subst, sym, tests}
+use Rattle.std.proofs.Common.{◌≡◌, ◌≢◌, ◌<◌, ◌≤◌, ◌+◌, ◌==◌, ◌∙◌, ℕ, false, true, List, [], ◌∷◌, ◌++◌, All, Option, Some, None, ap, append_assoc, arith, codes, flat_map, length, length-append, map, nat_lt, option_map, option_to_list, refl, rules, slice_get, subst, sym, tests}
 use Rattle.std.specs.List.{AllPairs, list_any}
 use Rattle.std.proofs.lemmas.Grind.{flat_map-append}
 use Rattle.std.proofs.lemmas.List.{append-nil}
@@ -14,7 +14,7 @@ use Rattle.abt_machine.specs.declared.workload.Parts.{Parts}
 use Rattle.abt_machine.specs.declared.workload.UnitPart.{UnitPart}
 use Rattle.abt_machine.specs.Canonical.{op_words, unit_lines, word_at}
 use Rattle.abt_machine.specs.Declaring.{Above, declared_units, parts_of, unit_with}
-use Rattle.abt_machine.specs.Faults.{is_placed, is_single, is_twice}
+use Rattle.abt_machine.specs.Faults.{is_placed, is_twice}
 use Rattle.abt_machine.specs.Operations.{IsDeclared, said_by}
 use Rattle.abt_machine.specs.Valid.{IsBody, IsValid, placed_scheds, sched_in, words_said}
 use Rattle.abt_machine.specs.Words.{Text}
@@ -24,7 +24,7 @@ use Rattle.abt_workload.proofs.Costs.{header, units_lines}
 use Rattle.abt_workload.proofs.Filled.{takes}
 use Rattle.abt_workload.proofs.Fitting.{all-fit}
 use Rattle.abt_workload.proofs.Heads.{head}
-use Rattle.abt_workload.proofs.InOrder.{front-shorter, get-here, not-before}
+use Rattle.abt_workload.proofs.InOrder.{front-shorter, get-here, not-before, placed-among}
 use Rattle.abt_workload.proofs.OperationLines.{body_like, ops-taken}
 use Rattle.abt_workload.proofs.Proper.{IsStartIn}
 use Rattle.abt_workload.proofs.Reaching.{reached, reached-small}
@@ -36,7 +36,7 @@ pub record IsWhole (W : Parts) (b : Above) : Type 0 where
   pub begun : b.begun ≡ true
   pub streams : b.streams ≡ Some W.streams
   pub unit_count : b.unit_count ≡ Some (length W.units)
-  pub section : (b.section ≡ 8) ⊎ (b.section ≡ 9)
+  pub section : b.section ≤ 9
   pub declared : declared_units b ≡ length W.units
   pub parts : parts_of b ≡ W
 
@@ -52,12 +52,7 @@ starts : (n : ℕ) (o : Option PoolNo) → ((p : ℕ) → option_map (λ (q : Po
 starts n None h = tt
 starts n (Some p) h = h p.0 refl
 
--- The line of a unit.
-
--- a unit's line belongs to no section that is over
-late : (s : ℕ) → (s ≡ 8) ⊎ (s ≡ 9) → (nat_lt 9 s || ((9 == s) && is_single 9) || false || (s == 10)) ≡ false
-late s (inl e) = rw e refl
-late s (inr e) = rw e refl
+-- The lines of a unit.
 
 module _ (W : Parts) (v : IsValid W) (front : List UnitPart) (part : UnitPart) (rest : List UnitPart) (e : front ++ part ∷ rest ≡ W.units) where
   -- the next unit is one of the workload
@@ -88,7 +83,7 @@ module _ (W : Parts) (v : IsValid W) (front : List UnitPart) (part : UnitPart) (
           ap (λ (ns : List ℕ). M ++ ns) all ∙ sym (append_assoc M (flat_map S front) (g ∷ flat_map S rest)) in
       not-before (M ++ flat_map S front) g (flat_map S rest) (subst (λ (ns : List ℕ). AllPairs (λ x y. x ≢ y) ns) places v.one_place)
 
-  module _ (s : ℕ) (at : (s ≡ 8) ⊎ (s ≡ 9)) (units : List UnitPart) (last : Option UnitPart) (reach : units ++ option_to_list last ≡ front) (said : List ℕ) where
+  module _ (s : ℕ) (at : s ≤ 9) (units : List UnitPart) (last : Option UnitPart) (reach : units ++ option_to_list last ≡ front) (said : List ℕ) where
     -- as many units are declared as the front has
     count : length units + length (option_to_list last) ≡ length front
     count = let all : length (units ++ option_to_list last) ≡ length front = ap length reach in let more = length-append units (option_to_list last) in omega arith
@@ -117,12 +112,12 @@ module _ (W : Parts) (v : IsValid W) (front : List UnitPart) (part : UnitPart) (
         let f : Form = unit_form part.body part.start in
         let made : UnitPart = unit_with (role_of part.body) (start_form part.start) (values (unit_given u part.body part.start)) in
         takes a (reached W 9 front (Some (record { body = body_like part.body []; start = part.start })) said) f (codes "unit") (unit_numbers u part.body part.start) (header u part)
-        (unit-written u part.body part.start)
-        (all-fit a (reached-small W v s units last said) (unit_given u part.body part.start)
-            (unit-met W s units last said u part.body part.start (sym count) below kind start))
-        record { version = refl; placed = late s at; once = once part.body part.start refl; limit = refl; task = refl; access = refl; early = refl }
-        (ap (λ (us : List UnitPart). record a { section = 9; units = us; last = Some made }) reach
-        ∙ ap (λ (p : UnitPart). record a { section = 9; units = front; last = Some p }) (unit-made u part.body part.start))
+            (unit-written u part.body part.start)
+            (all-fit a (reached-small W v s units last said) (unit_given u part.body part.start)
+                (unit-met W s units last said u part.body part.start (sym count) below kind start))
+            record { version = refl; placed = placed-among a f at (omega arith) refl refl; once = once part.body part.start refl; limit = refl; task = refl; access = refl; early = refl }
+            (ap (λ (us : List UnitPart). record a { section = 9; units = us; last = Some made }) reach
+            ∙ ap (λ (p : UnitPart). record a { section = 9; units = front; last = Some p }) (unit-made u part.body part.start))
 
   -- what its operations name is declared
   ops-declared : All (IsDeclared W) (ops_of part.body)
@@ -144,7 +139,7 @@ module _ (W : Parts) (v : IsValid W) (front : List UnitPart) (part : UnitPart) (
   ops-of-body (body.Sched g) o said after h few all is = ap (λ (ns : List ℕ). reached W 9 front (Some (record { body = body.Sched g; start = o })) ns) (sym (append-nil said))
 
   -- the lines of the next unit are taken
-  unit-whole : (s : ℕ) → (s ≡ 8) ⊎ (s ≡ 9) → (units : List UnitPart) (last : Option UnitPart) → units ++ option_to_list last ≡ front
+  unit-whole : (s : ℕ) → s ≤ 9 → (units : List UnitPart) (last : Option UnitPart) → units ++ option_to_list last ≡ front
       → (said after : List ℕ) → words_said W ≡ said ++ (flat_map said_by (ops_of part.body) ++ after)
       → TakesAll (reached W s units last said) (unit_lines W (length front) part) (reached W 9 front (Some part) (said ++ flat_map said_by (ops_of part.body)))
   unit-whole s at units last reach said after is = (
@@ -161,7 +156,7 @@ module _ (W : Parts) (v : IsValid W) where
   all-words said is = ap (map (word_at W)) (sym is ∙ v.said) ∙ sym (fill_by_all (word_at W) W.words (length W.words) [] refl (λ k lt. refl))
 
   -- below all units the workload is declared
-  whole : (s : ℕ) → (s ≡ 8) ⊎ (s ≡ 9) → (units : List UnitPart) (last : Option UnitPart) (said : List ℕ) → units ++ option_to_list last ≡ W.units → words_said W ≡ said
+  whole : (s : ℕ) → s ≤ 9 → (units : List UnitPart) (last : Option UnitPart) (said : List ℕ) → units ++ option_to_list last ≡ W.units → words_said W ≡ said
       → IsWhole W (reached W s units last said)
   whole s at units last said e is = record {
     begun = refl;
@@ -176,7 +171,7 @@ module _ (W : Parts) (v : IsValid W) where
   }
 
   -- the lines of the units after a front are taken
-  units-from : (front rest : List UnitPart) → front ++ rest ≡ W.units → (s : ℕ) → (s ≡ 8) ⊎ (s ≡ 9)
+  units-from : (front rest : List UnitPart) → front ++ rest ≡ W.units → (s : ℕ) → s ≤ 9
       → (units : List UnitPart) (last : Option UnitPart) → units ++ option_to_list last ≡ front
       → (said : List ℕ) → words_said W ≡ said ++ flat_map (λ (part : UnitPart). flat_map said_by (ops_of part.body)) rest
       → (b : Above) × TakesAll (reached W s units last said) (units_lines W (length front) rest) b × IsWhole W b
@@ -188,7 +183,7 @@ module _ (W : Parts) (v : IsValid W) where
       let below : Above = reached W 9 front (Some part) (said ++ more) in
       let first = unit-whole W v front part rest e s at units last reach said after is in
       let next =
-          units-from (front ++ part ∷ []) rest (append_assoc front (part ∷ []) rest ∙ e) 9 (inr refl) front (Some part) refl
+          units-from (front ++ part ∷ []) rest (append_assoc front (part ∷ []) rest ∙ e) 9 (omega arith) front (Some part) refl
               (said ++ more) (is ∙ sym (append_assoc said more after)) in
       let count : length (front ++ part ∷ []) ≡ length front + 1 = length-append front (part ∷ []) in
       let others : TakesAll below (units_lines W (length front + 1) rest) next.0 = subst (λ (n : ℕ). TakesAll below (units_lines W n rest) next.0) count next.1 in
@@ -196,4 +191,4 @@ module _ (W : Parts) (v : IsValid W) where
 
 -- the lines of units are taken below those before them, and then all of the workload is declared
 pub units-taken : (W : Parts) → IsValid W → (b : Above) × TakesAll (head W) (units_lines W 0 W.units) b × IsWhole W b
-units-taken W v = units-from W v [] W.units refl 8 (inl refl) [] None refl [] refl
+units-taken W v = units-from W v [] W.units refl 8 (omega arith) [] None refl [] refl

@@ -12,7 +12,7 @@ use Rattle.abt_machine.specs.Spelling.{has_control, is_control, is_empty, is_sep
 use Rattle.abt_machine.specs.Valid.{IsVisible, IsWord}
 use Rattle.abt_machine.specs.Words.{Text, ended, line_of, spaced, text_of}
 use Rattle.abt_workload.proofs.Growing.{all-cons, all-head, all-tail, all-one}
-use Rattle.abt_workload.proofs.LineEnds.{lines_whole}
+use Rattle.abt_workload.proofs.LineEnds.{lines_nil, lines_whole}
 use Rattle.abt_workload.proofs.Proper.{none-of}
 use Rattle.abt_workload.proofs.WordEnds.{words_first, words_past}
 
@@ -141,16 +141,11 @@ lines-before (ws ∷ lines) rest h =
     let more = lines-before lines rest (all-tail (All IsWord) ws lines h) in
     ap lines_of shape ∙ (lines-cut (line_of ws) (text_of lines ++ rest) here ∙ ap (λ (ls : List Text). line_of ws ∷ ls) more)
 
--- the empty text has no line
-lines-nil : lines_of [] ≡ []
-unfolding lines_of
-lines-nil = refl
-
 -- the lines that a text is written of are its lines
 pub lines-of-text : (lines : List (List Text)) → All (All IsWord) lines → lines_of (text_of lines) ≡ map line_of lines
 lines-of-text lines h =
     ap lines_of (sym (append-nil (text_of lines)))
-    ∙ (lines-before lines [] h ∙ (ap (λ (ls : List Text). map line_of lines ++ ls) lines-nil ∙ append-nil (map line_of lines)))
+    ∙ (lines-before lines [] h ∙ (ap (λ (ls : List Text). map line_of lines ++ ls) lines_nil ∙ append-nil (map line_of lines)))
 
 -- a text without its last line feed
 without-end : (front : Text) → take (length (front ++ 10 ∷ []) - 1) (front ++ 10 ∷ []) ≡ front
