@@ -80,4 +80,4 @@ pub takes : (a b : Above) (f : Form) (word : Text) (ns : List ℕ) (words : List
     → IsFine a f words (values (given (slots f) ns)) → with_line a f words (values (given (slots f) ns)) ≡ b → Takes a words b
 takes a b f word ns words w fit =
     line-taken a b words f (given (slots f) ns) (subst (All IsWord) (sym w.words_are) (words-filled a (slots f) word ns w.plain w.chosen fit))
-        w.skipped w.form_is (ap (numerals (slots f)) w.words_are ∙ numerals-filled (slots f) word ns) fit
+    w.skipped w.form_is (ap (numerals (slots f)) w.words_are ∙ numerals-filled (slots f) word ns) fit

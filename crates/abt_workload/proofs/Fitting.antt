@@ -34,7 +34,7 @@ IsMet a number.NewUnit n = (n ≡ declared_units a) × (n < unit_count a)
 IsMet a number.Unit n = n < unit_count a
 IsMet a kind n = IsNamed (parts_of a) kind n
 
--- all of these do
+-- all of these keep their bounds and name such things
 abbrev pub AreMet : Above → List (Number × ℕ) → Type 0
 AreMet a [] = ⊤
 AreMet a (p ∷ []) = IsMet a p.0 p.1

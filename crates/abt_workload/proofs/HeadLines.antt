@@ -30,19 +30,19 @@ versioned = record nothing { begun = true; section = 1 }
 version-taken : Takes nothing version_line versioned
 version-taken =
     takes nothing versioned form.Version (codes "abt") [] version_line
-        record { words_are = refl; form_is = refl; skipped = refl; plain = refl; chosen = plain-word (codes "abt") refl }
-        tt
-        record { version = refl; placed = refl; once = refl; limit = refl; task = refl; access = refl; early = refl }
-        refl
+    record { words_are = refl; form_is = refl; skipped = refl; plain = refl; chosen = plain-word (codes "abt") refl }
+    tt
+    record { version = refl; placed = refl; once = refl; limit = refl; task = refl; access = refl; early = refl }
+    refl
 
 -- the line of the number of streams
 count-taken : (n : ℕ) → 0 < n → n ≤ 8 → Takes versioned (codes "streams" ∷ decimal n ∷ []) (pooling 2 n 0 [])
 count-taken n some few =
     takes versioned (pooling 2 n 0 []) form.Streams (codes "streams") (n ∷ []) (codes "streams" ∷ decimal n ∷ [])
-        record { words_are = refl; form_is = refl; skipped = refl; plain = refl; chosen = plain-word (codes "streams") refl }
-        (fit-within versioned 1 8 n (omega arith) few (omega arith), tt)
-        record { version = refl; placed = refl; once = refl; limit = refl; task = refl; access = refl; early = refl }
-        refl
+    record { words_are = refl; form_is = refl; skipped = refl; plain = refl; chosen = plain-word (codes "streams") refl }
+    (fit-within versioned 1 8 n (omega arith) few (omega arith), tt)
+    record { version = refl; placed = refl; once = refl; limit = refl; task = refl; access = refl; early = refl }
+    refl
 
 -- the section before the pools
 abbrev keys_section : ℕ → ℕ
@@ -62,10 +62,10 @@ keys-taken n (suc k) few = (pooling 3 n (suc k) [], line, refl)
     line : Takes (pooling 2 n 0 []) (codes "keys" ∷ decimal (suc k) ∷ []) (pooling 3 n (suc k) [])
     line =
         takes (pooling 2 n 0 []) (pooling 3 n (suc k) []) form.Keys (codes "keys") (suc k ∷ []) (codes "keys" ∷ decimal (suc k) ∷ [])
-            record { words_are = refl; form_is = refl; skipped = refl; plain = refl; chosen = plain-word (codes "keys") refl }
-            (fit-within (pooling 2 n 0 []) 0 16 (suc k) (omega arith) few (omega arith), tt)
-            record { version = refl; placed = refl; once = refl; limit = refl; task = refl; access = refl; early = refl }
-            refl
+        record { words_are = refl; form_is = refl; skipped = refl; plain = refl; chosen = plain-word (codes "keys") refl }
+        (fit-within (pooling 2 n 0 []) 0 16 (suc k) (omega arith) few (omega arith), tt)
+        record { version = refl; placed = refl; once = refl; limit = refl; task = refl; access = refl; early = refl }
+        refl
 
 -- each stream has a main scheduler
 all-some : (gs : List SchedNo) → list_any is_none (map (λ (g : SchedNo). Some g) gs) ≡ false
@@ -77,85 +77,107 @@ all-some (g ∷ gs) = all-some gs
 module _ (W : Parts) (v : IsValid W) where
   -- What is declared below the lines of each section, and which section they reached.
 
+  -- below the number of streams
   abbrev below_count : Above
   below_count = pooling 2 W.streams 0 []
 
+  -- the section below the pools
   abbrev pools_reached : ℕ
   pools_reached = reached (keys_section W.keys) 4 W.pools
 
+  -- below the pools
   abbrev below_pools : Above
   below_pools = pooling pools_reached W.streams W.keys W.pools
 
+  -- it is not past that of pools
   pools-low : pools_reached ≤ 4
   pools-low = reached-le (keys_section W.keys) 4 W.pools (keys-low W.keys)
 
+  -- the section below the schedulers
   abbrev scheds_reached : ℕ
   scheds_reached = reached pools_reached 5 W.scheds
 
+  -- below the schedulers
   abbrev below_scheds : Above
   below_scheds = scheduling scheds_reached W.streams W.keys W.pools W.scheds
 
+  -- it is not past that of schedulers
   scheds-low : scheds_reached ≤ 5
   scheds-low = let le = pools-low in reached-le pools_reached 5 W.scheds (omega arith)
 
+  -- the section below the streams
   abbrev mains_reached : ℕ
   mains_reached = reached scheds_reached 6 W.mains
 
+  -- below the streams
   abbrev below_mains : Above
   below_mains = placing mains_reached W.streams W.keys W.pools W.scheds (all_mains W) []
 
+  -- it is not past that of streams
   mains-low : mains_reached ≤ 6
   mains-low = let le = scheds-low in reached-le scheds_reached 6 W.mains (omega arith)
 
+  -- the section below the objects
   abbrev objects_reached : ℕ
   objects_reached = reached mains_reached 7 W.objects
 
+  -- below the objects
   abbrev below_objects : Above
   below_objects = placing objects_reached W.streams W.keys W.pools W.scheds (all_mains W) W.objects
 
+  -- it is not past that of objects
   objects-low : objects_reached ≤ 7
   objects-low = let le = mains-low in reached-le mains_reached 7 W.objects (omega arith)
 
   -- The lines from the keys on.
 
+  -- the lines from the keys to the pools
   abbrev up_to_pools : List (List Text)
   up_to_pools = keys_lines W.keys ++ numbered pool_line W.pools
 
+  -- those from the keys to the schedulers
   abbrev up_to_scheds : List (List Text)
   up_to_scheds = up_to_pools ++ numbered sched_line W.scheds
 
+  -- those from the keys to the streams
   abbrev up_to_mains : List (List Text)
   up_to_mains = up_to_scheds ++ numbered stream_line W.mains
 
+  -- those from the keys to the objects
   abbrev up_to_objects : List (List Text)
   up_to_objects = up_to_mains ++ numbered object_line W.objects
 
+  -- the lines to the pools are taken
   pools-from : TakesAll below_count up_to_pools below_pools
   pools-from =
       takes-append below_count (pooling (keys_section W.keys) W.streams W.keys []) below_pools (keys_lines W.keys) (numbered pool_line W.pools)
-          (keys-taken W.streams W.keys v.few_keys) (pools-taken W v (keys_section W.keys) (keys-low W.keys))
+      (keys-taken W.streams W.keys v.few_keys) (pools-taken W v (keys_section W.keys) (keys-low W.keys))
 
+  -- the lines to the schedulers are taken
   scheds-from : TakesAll below_count up_to_scheds below_scheds
   scheds-from =
       takes-append below_count below_pools below_scheds up_to_pools (numbered sched_line W.scheds)
-          pools-from (scheds-taken W v pools_reached (let le = pools-low in omega arith))
+      pools-from (scheds-taken W v pools_reached (let le = pools-low in omega arith))
 
   -- all streams have their main schedulers then
   mains-all : mains_from W.streams W.mains ≡ all_mains W
   mains-all = ap (λ (n : ℕ). mains_from n W.mains) (sym v.mains) ∙ mains-full W.mains
 
+  -- the lines of streams are taken
   stream-lines : TakesAll below_scheds (numbered stream_line W.mains) below_mains
   stream-lines =
       subst (λ (ms : List (Option SchedNo)). TakesAll below_scheds (numbered stream_line W.mains) (placing mains_reached W.streams W.keys W.pools W.scheds ms []))
-          mains-all (streams-taken W v scheds_reached (let le = scheds-low in omega arith))
+      mains-all (streams-taken W v scheds_reached (let le = scheds-low in omega arith))
 
+  -- the lines to the streams are taken
   streams-from : TakesAll below_count up_to_mains below_mains
   streams-from = takes-append below_count below_scheds below_mains up_to_scheds (numbered stream_line W.mains) scheds-from stream-lines
 
+  -- the lines to the objects are taken
   objects-from : TakesAll below_count up_to_objects below_objects
   objects-from =
       takes-append below_count below_mains below_objects up_to_mains (numbered object_line W.objects)
-          streams-from (objects-taken W v mains_reached (let le = mains-low in omega arith))
+      streams-from (objects-taken W v mains_reached (let le = mains-low in omega arith))
 
   -- the line of the number of units
   units-taken : Takes below_objects (units_words W) (head W)
@@ -164,18 +186,18 @@ module _ (W : Parts) (v : IsValid W) where
       let few : length W.units ≤ 256 = v.few_units in
       let some : 0 < length W.pools = v.some_pool in
       takes below_objects (head W) form.Units (codes "units") (length W.units ∷ []) (units_words W)
-          record { words_are = refl; form_is = refl; skipped = refl; plain = refl; chosen = plain-word (codes "units") refl }
-          (fit-within below_objects 0 256 (length W.units) (omega arith) few (omega arith), tt)
-          record {
-            version = refl;
-            placed = placed-alone below_objects form.Units (omega arith) (omega arith) refl;
-            once = refl;
-            limit = refl;
-            task = refl;
-            access = refl;
-            early = or-both (length W.pools == 0) _ (ne_eqb (length W.pools) 0 (λ e. omega (arith, e))) (all-some W.mains);
-          }
-          refl
+      record { words_are = refl; form_is = refl; skipped = refl; plain = refl; chosen = plain-word (codes "units") refl }
+      (fit-within below_objects 0 256 (length W.units) (omega arith) few (omega arith), tt)
+      record {
+        version = refl;
+        placed = placed-alone below_objects form.Units (omega arith) (omega arith) refl;
+        once = refl;
+        limit = refl;
+        task = refl;
+        access = refl;
+        early = or-both (length W.pools == 0) _ (ne_eqb (length W.pools) 0 (λ e. omega (arith, e))) (all-some W.mains);
+      }
+      refl
 
   -- the lines before the units are taken, and declare all but the units
   pub head-taken : TakesAll nothing (head_lines W) (head W)

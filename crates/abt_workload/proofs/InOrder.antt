@@ -30,6 +30,7 @@ pub reached-le : {A : Type 0} (before section : ℕ) (xs : List A) → before �
 reached-le before section [] le = le
 reached-le before section (x ∷ xs) le = omega arith
 
+-- a conjunction whose second part is false is false
 no-and : (x y : Bool) → y ≡ false → (x && y) ≡ false
 no-and true y e = e
 no-and false y e = refl
@@ -84,7 +85,7 @@ not-before (m ∷ front) n rest h =
 
 module _ {A : Type 0} (make : ℕ → A → List Text) (below : ℕ → List A → Above) (before section : ℕ) (low : before ≤ section) (all : List A)
     (step : (at : ℕ) → at ≤ section → (front : List A) (x : A) (rest : List A) → front ++ x ∷ rest ≡ all
-        → Takes (below at front) (make (length front) x) (below section (front ++ x ∷ []))) where
+    → Takes (below at front) (make (length front) x) (below section (front ++ x ∷ []))) where
   -- below these lines
   abbrev after : List A → Above
   after xs = below (reached before section xs) xs
@@ -93,15 +94,14 @@ module _ {A : Type 0} (make : ℕ → A → List Text) (below : ℕ → List A �
   next-taken : (front : List A) (x : A) (rest : List A) → front ++ x ∷ rest ≡ all → Takes (after front) (make (length front) x) (after (front ++ x ∷ []))
   next-taken front x rest e =
       subst (λ (s : ℕ). Takes (after front) (make (length front) x) (below s (front ++ x ∷ []))) (reached-and before section front x)
-          (step (reached before section front) (reached-le before section front low) front x rest e)
+      (step (reached before section front) (reached-le before section front low) front x rest e)
 
   -- the lines after those in front are taken
   rest-taken : (front rest : List A) → front ++ rest ≡ all → TakesAll (after front) (map (λ p. make p.0 p.1) (enumerate_from (length front) rest)) (after all)
   rest-taken front [] e = ap after (sym (append-nil front) ∙ e)
   rest-taken front (x ∷ rest) e =
       let longer : length (front ++ x ∷ []) ≡ length front + 1 = length-append front (x ∷ []) in
-      let others = rest-taken (front ++ x ∷ []) rest (append_assoc front (x ∷ []) rest ∙ e) in
-      (
+      let others = rest-taken (front ++ x ∷ []) rest (append_assoc front (x ∷ []) rest ∙ e) in (
         after (front ++ x ∷ []),
         next-taken front x rest e,
         subst (λ k. TakesAll (after (front ++ x ∷ [])) (map (λ p. make p.0 p.1) (enumerate_from k rest)) (after all)) longer others,

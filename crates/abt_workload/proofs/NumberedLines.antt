@@ -59,8 +59,8 @@ module _ (a : Above) where
       let within = all-hold is_within (λ kind n h. h.within) ps fit in
       let read : numbers_of f words ≡ ps = ap numbered numbers ∙ all-read ps fit in
       let digits : list_all (λ (p : Number × Text). is_number p.1) (numerals (slots f) words) ≡ true =
-          ap (list_all (λ (p : Number × Text). is_number p.1)) numbers ∙ all-numbers ps fit in
+      ap (list_all (λ (p : Number × Text). is_number p.1)) numbers ∙ all-numbers ps fit in
       let sound : later_fault a f words ps ≡ None = rw (fine.once, there, within, fine.limit, fine.task, fine.access, fine.early) refl in
       let took : Takes a words (with_line a f words (values_of f words)) =
-          taken a words f written kept fine.version formed fine.placed digits (ap (later_fault a f words) read ∙ sound) in
+      taken a words f written kept fine.version formed fine.placed digits (ap (later_fault a f words) read ∙ sound) in
       subst (Takes a words) (ap (λ (qs : List (Number × ℕ)). with_line a f words (values qs)) read ∙ is) took

@@ -78,18 +78,18 @@ object-taken W v section le front t rest e =
     let h : IsThing W x t = v.objects x t (get-here front t rest W.objects e) in
     let small : IsSmall a = record { streams = v.few_streams; keys = v.few_keys; pools = v.few_pools; scheds = v.few_scheds; objects = omega arith; units = omega arith } in
     takes a (below W 7 (front ++ t ∷ [])) f (thing_word t) ns (object_line x t)
-        (written x t)
-        (all-fit a small (given (slots f) ns) (met W section front (t ∷ rest) t e h))
-        record {
-          version = refl;
-          placed = placed-among a f le (omega arith) refl refl;
-          once = le-ltb x x (omega arith);
-          limit = lt-leb 256 x (omega arith);
-          task = refl;
-          access = refl;
-          early = refl;
-        }
-        (ap (λ (u : Thing). below W 7 (front ++ u ∷ [])) (thing-again x t))
+    (written x t)
+    (all-fit a small (given (slots f) ns) (met W section front (t ∷ rest) t e h))
+    record {
+      version = refl;
+      placed = placed-among a f le (omega arith) refl refl;
+      once = le-ltb x x (omega arith);
+      limit = lt-leb 256 x (omega arith);
+      task = refl;
+      access = refl;
+      early = refl;
+    }
+    (ap (λ (u : Thing). below W 7 (front ++ u ∷ [])) (thing-again x t))
 
 -- the lines of a workload's objects are taken
 pub objects-taken : (W : Parts) → IsValid W → (section : ℕ) → section ≤ 7

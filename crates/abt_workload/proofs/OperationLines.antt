@@ -44,20 +44,20 @@ module _ (W : Parts) (v : IsValid W) (units : List UnitPart) where
           let short : is_long_word f (op_words W o) ≡ false = d.short in
           let made : op_with f (length (texts said)) ns ≡ o = d.made _ (subst (λ (n : ℕ). All (λ w. w ≡ n) (said_by o)) (sym (length-map said (word_at W))) next) in
           let more : texts said ++ said_in f (op_words W o) ≡ texts (said ++ said_by o) =
-              ap (λ (ws : List Text). texts said ++ ws) d.said ∙ sym (map-append (word_at W) said (said_by o)) in
+          ap (λ (ws : List Text). texts said ++ ws) d.said ∙ sym (map-append (word_at W) said (said_by o)) in
           takes a (reached W 9 units (Some (unit_and o part)) (said ++ said_by o)) (form.Operation f) (op_word W o) (op_numbers o) (op_words W o) d.written
-              (all-fit a (reached-small W v 9 units (Some part) said) (given (op_slots f) (op_numbers o)) met)
-              record {
-                version = refl;
-                placed = rw no_sched refl;
-                once = refl;
-                limit = rw (long, short) refl;
-                task = ap (λ (b : Bool). is_task_body part.body && b) d.blocks ∙ task;
-                access = refl;
-                early = refl;
-              }
-              (ap (λ (p : Op). record a { last = Some (unit_and p part); words = texts said ++ said_in f (op_words W o) }) made
-              ∙ ap (λ (ws : List Text). record a { last = Some (unit_and o part); words = ws }) more)
+          (all-fit a (reached-small W v 9 units (Some part) said) (given (op_slots f) (op_numbers o)) met)
+          record {
+            version = refl;
+            placed = rw no_sched refl;
+            once = refl;
+            limit = rw (long, short) refl;
+            task = ap (λ (b : Bool). is_task_body part.body && b) d.blocks ∙ task;
+            access = refl;
+            early = refl;
+          }
+          (ap (λ (p : Op). record a { last = Some (unit_and p part); words = texts said ++ said_in f (op_words W o) }) made
+          ∙ ap (λ (ws : List Text). record a { last = Some (unit_and o part); words = ws }) more)
 
 -- Operations one after the other.
 
@@ -119,21 +119,21 @@ module _ (W : Parts) (v : IsValid W) (units : List UnitPart) (b : Body) (start :
   ops-taken done (o ∷ os) said after few task all all_said =
       let short : length (ops_of (body_like b done)) < 256 = rw (like-ops b done no_sched) (omega arith) in
       let no_block : (is_task_body (body_like b done) && may_block o) ≡ false =
-          ap (λ (t : Bool). t && may_block o) (like-task b done) ∙ and-first (is_task_body b) (may_block o) (list_any may_block os) task in
+      ap (λ (t : Bool). t && may_block o) (like-task b done) ∙ and-first (is_task_body b) (may_block o) (list_any may_block os) task in
       let seam : words_said W ≡ said ++ (said_by o ++ (flat_map said_by os ++ after)) =
-          all_said ∙ ap (λ (ns : List ℕ). said ++ ns) (append_assoc (said_by o) (flat_map said_by os) after) in
+      all_said ∙ ap (λ (ns : List ℕ). said ++ ns) (append_assoc (said_by o) (flat_map said_by os) after) in
       let next = next-said o (length W.words) said (flat_map said_by os ++ after) (sym v.said ∙ seam) in
       let took = op-taken W v units (with_ops done) said o (like-sched b done ∙ no_sched) short no_block (all-head (IsDeclared W) o os all) next in
       let more : Takes (after_ops done said) (op_words W o) (after_ops (done ++ o ∷ []) (said ++ said_by o)) =
-          subst (λ (c : Body). Takes (after_ops done said) (op_words W o) (reached W 9 units (Some (record { body = c; start = start })) (said ++ said_by o)))
-              (like-and b done o) took in
+      subst (λ (c : Body). Takes (after_ops done said) (op_words W o) (reached W 9 units (Some (record { body = c; start = start })) (said ++ said_by o)))
+      (like-and b done o) took in
       let counted : length (done ++ o ∷ []) ≡ length done + 1 = length-append done (o ∷ []) in
       let rest =
-          ops-taken (done ++ o ∷ []) os (said ++ said_by o) after (omega arith) (and-rest (is_task_body b) (may_block o) (list_any may_block os) task)
-              (all-tail (IsDeclared W) o os all) (seam ∙ sym (append_assoc said (said_by o) (flat_map said_by os ++ after))) in
+      ops-taken (done ++ o ∷ []) os (said ++ said_by o) after (omega arith) (and-rest (is_task_body b) (may_block o) (list_any may_block os) task)
+      (all-tail (IsDeclared W) o os all) (seam ∙ sym (append_assoc said (said_by o) (flat_map said_by os ++ after))) in
       let at_end : after_ops ((done ++ o ∷ []) ++ os) ((said ++ said_by o) ++ flat_map said_by os) ≡ after_ops (done ++ o ∷ os) (said ++ (said_by o ++ flat_map said_by os)) =
-          ap (λ (ps : List Op). after_ops ps ((said ++ said_by o) ++ flat_map said_by os)) (append_assoc done (o ∷ []) os)
-          ∙ ap (λ (ns : List ℕ). after_ops (done ++ o ∷ os) ns) (append_assoc said (said_by o) (flat_map said_by os)) in
+      ap (λ (ps : List Op). after_ops ps ((said ++ said_by o) ++ flat_map said_by os)) (append_assoc done (o ∷ []) os)
+      ∙ ap (λ (ns : List ℕ). after_ops (done ++ o ∷ os) ns) (append_assoc said (said_by o) (flat_map said_by os)) in
       let below : Above = after_ops (done ++ o ∷ []) (said ++ said_by o) in
       (below, more, subst (λ (c : Above). TakesAll below (map (op_words W) os) c) at_end rest)
     where

@@ -78,18 +78,18 @@ pool-taken W v section le front part rest e =
     let h : IsAccess W part.access = subst (λ (o : Option PoolPart). IsAccess W (access_from o)) (get-here front part rest W.pools e) (v.pools p lt) in
     let small : IsSmall a = record { streams = v.few_streams; keys = v.few_keys; pools = omega arith; scheds = omega arith; objects = omega arith; units = omega arith } in
     takes a (pooling 4 W.streams W.keys (front ++ part ∷ [])) f (kind_name part.kind) ns (pool_line p part)
-        (written p part.kind part.access)
-        (all-fit a small (given (slots f) ns) (met W section front part.access h))
-        record {
-          version = refl;
-          placed = placed-among a f le (omega arith) refl refl;
-          once = le-ltb p p (omega arith);
-          limit = lt-leb 64 p (omega arith);
-          task = refl;
-          access = refl;
-          early = refl;
-        }
-        (ap (λ (x : PoolPart). pooling 4 W.streams W.keys (front ++ x ∷ [])) (part-again p part.kind part.access))
+    (written p part.kind part.access)
+    (all-fit a small (given (slots f) ns) (met W section front part.access h))
+    record {
+      version = refl;
+      placed = placed-among a f le (omega arith) refl refl;
+      once = le-ltb p p (omega arith);
+      limit = lt-leb 64 p (omega arith);
+      task = refl;
+      access = refl;
+      early = refl;
+    }
+    (ap (λ (x : PoolPart). pooling 4 W.streams W.keys (front ++ x ∷ [])) (part-again p part.kind part.access))
 
 -- the lines of a workload's pools are taken
 pub pools-taken : (W : Parts) → IsValid W → (section : ℕ) → section ≤ 4

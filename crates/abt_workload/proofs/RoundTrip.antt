@@ -81,10 +81,10 @@ module _ (b : Above) (streams count : ℕ) (begun : b.begun ≡ true) (has_strea
   end-taken : b.section ≤ 9 → Takes b end_words (closed b)
   end-taken place =
       takes b (closed b) form.End (codes "end") [] end_words
-          record { words_are = refl; form_is = refl; skipped = refl; plain = refl; chosen = plain-word (codes "end") refl }
-          tt
-          record { version = rw begun refl; placed = placed-alone b form.End (omega arith) (omega arith) refl; once = refl; limit = refl; task = refl; access = refl; early = end-there }
-          refl
+      record { words_are = refl; form_is = refl; skipped = refl; plain = refl; chosen = plain-word (codes "end") refl }
+      tt
+      record { version = rw begun refl; placed = placed-alone b form.End (omega arith) (omega arith) refl; once = refl; limit = refl; task = refl; access = refl; early = end-there }
+      refl
 
 -- The whole text.
 
@@ -106,12 +106,12 @@ reads-canonical W v =
     let front : TakesAll nothing (front_lines W) b = takes-append nothing (head W) b (head_lines W) (units_lines W 0 W.units) (head-taken W v) whole.1 in
     let last : Takes b end_words (closed b) = end-taken b W.streams (length W.units) h.begun h.streams h.unit_count h.declared h.section in
     let all : TakesAll nothing (front_lines W ++ end_words ∷ []) (closed b) =
-        takes-append nothing b (closed b) (front_lines W) (end_words ∷ []) front (closed b, last, refl) in
+    takes-append nothing b (closed b) (front_lines W) (end_words ∷ []) front (closed b, last, refl) in
     let same : lines_of (canonical_text W) ≡ map line_of (front_lines W ++ end_words ∷ []) =
-        ap (λ (ls : List (List Text)). lines_of (fitted (text_of ls))) (all-lines W)
-        ∙ lines-of-fitted (front_lines W) end_words (written-all nothing b (front_lines W) front) last.written (omega arith) in
+    ap (λ (ls : List (List Text)). lines_of (fitted (text_of ls))) (all-lines W)
+    ∙ lines-of-fitted (front_lines W) end_words (written-all nothing b (front_lines W) front) last.written (omega arith) in
     subst (λ (V : Parts). Reads (canonical_text W) V) h.parts
-        (reads-written (canonical_text W) (front_lines W ++ end_words ∷ []) (closed b) v.few_bytes same all refl)
+    (reads-written (canonical_text W) (front_lines W ++ end_words ∷ []) (closed b) v.few_bytes same all refl)
 
 -- The other direction.
 
@@ -119,7 +119,7 @@ reads-canonical W v =
 pub only-valid : (text : Text) (W : Parts) → Reads text W → IsValid W
 only-valid text W reads =
     subst IsValid (sym reads.parts)
-        (valid-end text short (λ i. reads.faultless (suc i)) (ended ((declared_by (lines_of text)).section == 10) refl))
+    (valid-end text short (λ i. reads.faultless (suc i)) (ended ((declared_by (lines_of text)).section == 10) refl))
   where
     long : 4194304 < length text → length text ≤ 4194304
     long lt = let some = (refuses-length text lt).first in let none = reads.faultless 0 in cc

@@ -124,8 +124,8 @@ none-repeated : (ns : List ℕ) → AllPairs (λ x y. x ≢ y) ns → has_repeat
 none-repeated [] h = refl
 none-repeated (n ∷ ns) h =
     or-both (list_any (λ m. m == n) ns) _
-        (list_any_none (λ m. m == n) ns (λ k d lt. ne_eqb _ n (λ e. h 0 (suc k) d (omega arith) (omega arith) (sym e))))
-        (none-repeated ns (λ i j d lt within. h (suc i) (suc j) d (omega arith) (omega arith)))
+    (list_any_none (λ m. m == n) ns (λ k d lt. ne_eqb _ n (λ e. h 0 (suc k) d (omega arith) (omega arith) (sym e))))
+    (none-repeated ns (λ i j d lt within. h (suc i) (suc j) d (omega arith) (omega arith)))
 
 -- Lines.
 
@@ -155,22 +155,22 @@ sched-taken W v section le front part rest e =
     let small : IsSmall a = record { streams = v.few_streams; keys = v.few_keys; pools = v.few_pools; scheds = omega arith; objects = omega arith; units = omega arith } in
     let read : values (given (slots f) (numbers_in g part.rule ps)) ≡ numbers_in g part.rule ps = numbers-read g part.rule ps in
     let pools : listed (form_rule part.rule) (values (given (slots f) (numbers_in g part.rule ps))) ≡ ps =
-        ap (listed (form_rule part.rule)) read ∙ listed-again g part.rule ps in
+    ap (listed (form_rule part.rule)) read ∙ listed-again g part.rule ps in
     let few_listed : length ps ≤ 8 = let most = h.few_pools in rw length-map most in
     takes a (scheduling 5 W.streams W.keys W.pools (front ++ part ∷ [])) f (codes "sched") (numbers_in g part.rule ps) (sched_line g part)
-        (written g part.rule part.pools h.some_pool)
-        (fit a small number.NewSched g refl, rule-fit a small part.rule ps h.rule h.listed)
-        record {
-          version = refl;
-          placed = placed-among a f le (omega arith) refl refl;
-          once = or-both (nat_lt g g) _ (le-ltb g g (omega arith)) (ap has_repeated pools ∙ none-repeated ps h.once);
-          limit = or-both (nat_le 64 g) _ (lt-leb 64 g (omega arith)) (ap (λ (ns : List ℕ). nat_lt 8 (length ns)) pools ∙ le-ltb 8 (length ps) few_listed);
-          task = refl;
-          access = refl;
-          early = refl;
-        }
-        (ap (λ (x : SchedPart). scheduling 5 W.streams W.keys W.pools (front ++ x ∷ []))
-            (ap (sched_with (form_rule part.rule)) read ∙ part-again g part.rule part.pools))
+    (written g part.rule part.pools h.some_pool)
+    (fit a small number.NewSched g refl, rule-fit a small part.rule ps h.rule h.listed)
+    record {
+      version = refl;
+      placed = placed-among a f le (omega arith) refl refl;
+      once = or-both (nat_lt g g) _ (le-ltb g g (omega arith)) (ap has_repeated pools ∙ none-repeated ps h.once);
+      limit = or-both (nat_le 64 g) _ (lt-leb 64 g (omega arith)) (ap (λ (ns : List ℕ). nat_lt 8 (length ns)) pools ∙ le-ltb 8 (length ps) few_listed);
+      task = refl;
+      access = refl;
+      early = refl;
+    }
+    (ap (λ (x : SchedPart). scheduling 5 W.streams W.keys W.pools (front ++ x ∷ []))
+    (ap (sched_with (form_rule part.rule)) read ∙ part-again g part.rule part.pools))
 
 -- the lines of a workload's schedulers are taken
 pub scheds-taken : (W : Parts) → IsValid W → (section : ℕ) → section ≤ 5

@@ -70,10 +70,10 @@ unplaced : (n : ℕ) (front : List SchedNo) (g : SchedNo) (rest : List SchedNo) 
     → list_any (λ h. h == g.0) (numbers_of_scheds (flat_map option_to_list (mains_from n front)) ++ []) ≡ false
 unplaced n front g rest more h =
     let declared : numbers_of_scheds (flat_map option_to_list (mains_from n front)) ++ [] ≡ numbers_of_scheds front =
-        append-nil _ ∙ ap numbers_of_scheds (mains-declared n front) in
+    append-nil _ ∙ ap numbers_of_scheds (mains-declared n front) in
     let parted : numbers_of_scheds (front ++ g ∷ rest) ++ more ≡ numbers_of_scheds front ++ g.0 ∷ (numbers_of_scheds rest ++ more) =
-        ap (λ (ns : List ℕ). ns ++ more) (map-append (λ (h : SchedNo). h.0) front (g ∷ rest))
-        ∙ append_assoc (numbers_of_scheds front) (numbers_of_scheds (g ∷ rest)) more in
+    ap (λ (ns : List ℕ). ns ++ more) (map-append (λ (h : SchedNo). h.0) front (g ∷ rest))
+    ∙ append_assoc (numbers_of_scheds front) (numbers_of_scheds (g ∷ rest)) more in
     ap (list_any (λ m. m == g.0)) declared
     ∙ not-before (numbers_of_scheds front) g.0 (numbers_of_scheds rest ++ more) (subst (λ (ns : List ℕ). AllPairs (λ x y. x ≢ y) ns) parted h)
 
@@ -98,21 +98,21 @@ stream-taken W v section le front g rest e =
     let taking : may_take_all W s g.0 ≡ true = subst (λ n. may_take_all W s n ≡ true) is stream.takes in
     let more : List ℕ = flat_map (λ (part : UnitPart). sched_in part.body) W.units in
     let places : AllPairs (λ x y. x ≢ y) (numbers_of_scheds (front ++ g ∷ rest) ++ more) =
-        subst (λ (gs : List SchedNo). AllPairs (λ x y. x ≢ y) (numbers_of_scheds gs ++ more)) (sym e) v.one_place in
+    subst (λ (gs : List SchedNo). AllPairs (λ x y. x ≢ y) (numbers_of_scheds gs ++ more)) (sym e) v.one_place in
     let small : IsSmall a = record { streams = v.few_streams; keys = v.few_keys; pools = v.few_pools; scheds = v.few_scheds; objects = omega arith; units = omega arith } in
     takes a (below W 6 (front ++ g ∷ [])) form.Stream (codes "main") (s ∷ g.0 ∷ []) (stream_line s g)
-        record { words_are = refl; form_is = refl; skipped = refl; plain = refl; chosen = plain-word (codes "main") refl }
-        (all-fit a small (given (slots form.Stream) (s ∷ g.0 ∷ [])) (within, there))
-        record {
-          version = refl;
-          placed = placed-among a form.Stream le (omega arith) refl refl;
-          once = or-both _ _ (no-main W.streams front) (unplaced W.streams front g rest more places);
-          limit = refl;
-          task = refl;
-          access = ap not taking;
-          early = refl;
-        }
-        (ap (λ (ms : List (Option SchedNo)). placing 6 W.streams W.keys W.pools W.scheds ms []) (mains-and W.streams front g within))
+    record { words_are = refl; form_is = refl; skipped = refl; plain = refl; chosen = plain-word (codes "main") refl }
+    (all-fit a small (given (slots form.Stream) (s ∷ g.0 ∷ [])) (within, there))
+    record {
+      version = refl;
+      placed = placed-among a form.Stream le (omega arith) refl refl;
+      once = or-both _ _ (no-main W.streams front) (unplaced W.streams front g rest more places);
+      limit = refl;
+      task = refl;
+      access = ap not taking;
+      early = refl;
+    }
+    (ap (λ (ms : List (Option SchedNo)). placing 6 W.streams W.keys W.pools W.scheds ms []) (mains-and W.streams front g within))
 
 -- the lines of a workload's main schedulers are taken
 pub streams-taken : (W : Parts) → IsValid W → (section : ℕ) → section ≤ 6

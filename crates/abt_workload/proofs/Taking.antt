@@ -53,7 +53,7 @@ taken a words f written kept version form_is placed numbers later =
       placed = placed;
     } in
     let sound : find (has a (line_of words) words (form_of words)) faults ≡ None =
-        line-judged a (line_of words) words f h (numbers_of f words) None numbers refl (sym later) in
+    line-judged a (line_of words) words f h (numbers_of f words) None numbers refl (sym later) in
     let same : words ≡ words_of (line_of words) = sym (words-of-line words written) in
     let new : Above = with_line a f words (values_of f words) in
     record {

@@ -78,9 +78,9 @@ module _ (W : Parts) (v : IsValid W) (front : List UnitPart) (part : UnitPart) (
       let S : UnitPart → List ℕ = λ p. sched_in p.body in
       let M : List ℕ = map (λ (m : SchedNo). m.0) W.mains in
       let all : flat_map S W.units ≡ flat_map S front ++ (g ∷ flat_map S rest) =
-          ap (flat_map S) (sym e) ∙ (flat_map-append S front (part ∷ rest) ∙ ap (λ (ns : List ℕ). flat_map S front ++ (ns ++ flat_map S rest)) is) in
+      ap (flat_map S) (sym e) ∙ (flat_map-append S front (part ∷ rest) ∙ ap (λ (ns : List ℕ). flat_map S front ++ (ns ++ flat_map S rest)) is) in
       let places : placed_scheds W ≡ (M ++ flat_map S front) ++ (g ∷ flat_map S rest) =
-          ap (λ (ns : List ℕ). M ++ ns) all ∙ sym (append_assoc M (flat_map S front) (g ∷ flat_map S rest)) in
+      ap (λ (ns : List ℕ). M ++ ns) all ∙ sym (append_assoc M (flat_map S front) (g ∷ flat_map S rest)) in
       not-before (M ++ flat_map S front) g (flat_map S rest) (subst (λ (ns : List ℕ). AllPairs (λ x y. x ≢ y) ns) places v.one_place)
 
   module _ (s : ℕ) (at : s ≤ 9) (units : List UnitPart) (last : Option UnitPart) (reach : units ++ option_to_list last ≡ front) (said : List ℕ) where
@@ -112,18 +112,18 @@ module _ (W : Parts) (v : IsValid W) (front : List UnitPart) (part : UnitPart) (
         let f : Form = unit_form part.body part.start in
         let made : UnitPart = unit_with (role_of part.body) (start_form part.start) (values (unit_given u part.body part.start)) in
         takes a (reached W 9 front (Some (record { body = body_like part.body []; start = part.start })) said) f (codes "unit") (unit_numbers u part.body part.start) (header u part)
-            (unit-written u part.body part.start)
-            (all-fit a (reached-small W v s units last said) (unit_given u part.body part.start)
-                (unit-met W s units last said u part.body part.start (sym count) below kind start))
-            record { version = refl; placed = placed-among a f at (omega arith) refl refl; once = once part.body part.start refl; limit = refl; task = refl; access = refl; early = refl }
-            (ap (λ (us : List UnitPart). record a { section = 9; units = us; last = Some made }) reach
-            ∙ ap (λ (p : UnitPart). record a { section = 9; units = front; last = Some p }) (unit-made u part.body part.start))
+        (unit-written u part.body part.start)
+        (all-fit a (reached-small W v s units last said) (unit_given u part.body part.start)
+        (unit-met W s units last said u part.body part.start (sym count) below kind start))
+        record { version = refl; placed = placed-among a f at (omega arith) refl refl; once = once part.body part.start refl; limit = refl; task = refl; access = refl; early = refl }
+        (ap (λ (us : List UnitPart). record a { section = 9; units = us; last = Some made }) reach
+        ∙ ap (λ (p : UnitPart). record a { section = 9; units = front; last = Some p }) (unit-made u part.body part.start))
 
   -- what its operations name is declared
   ops-declared : All (IsDeclared W) (ops_of part.body)
   ops-declared = λ k d lt.
       (v.units (length front) below).ops k _
-          (ap (λ (o : Option UnitPart). slice_get (ops_of (body_from o)) k) here ∙ slice_get-get_or (ops_of part.body) k d lt)
+      (ap (λ (o : Option UnitPart). slice_get (ops_of (body_from o)) k) here ∙ slice_get-get_or (ops_of part.body) k d lt)
 
   -- they are few
   ops-few : length (ops_of part.body) ≤ 256
@@ -133,7 +133,7 @@ module _ (W : Parts) (v : IsValid W) (front : List UnitPart) (part : UnitPart) (
   ops-of-body : (b : Body) (o : Option PoolNo) (said after : List ℕ) → IsBody W b → length (ops_of b) ≤ 256 → All (IsDeclared W) (ops_of b)
       → words_said W ≡ said ++ (flat_map said_by (ops_of b) ++ after)
       → TakesAll (reached W 9 front (Some (record { body = body_like b []; start = o })) said) (map (op_words W) (ops_of b))
-          (reached W 9 front (Some (record { body = b; start = o })) (said ++ flat_map said_by (ops_of b)))
+      (reached W 9 front (Some (record { body = b; start = o })) (said ++ flat_map said_by (ops_of b)))
   ops-of-body (body.Ult ops) o said after h few all is = ops-taken W v front (body.Ult ops) o refl [] ops said after (omega arith) refl all is
   ops-of-body (body.Task ops) o said after h few all is = ops-taken W v front (body.Task ops) o refl [] ops said after (omega arith) h all is
   ops-of-body (body.Sched g) o said after h few all is = ap (λ (ns : List ℕ). reached W 9 front (Some (record { body = body.Sched g; start = o })) ns) (sym (append-nil said))
@@ -183,8 +183,8 @@ module _ (W : Parts) (v : IsValid W) where
       let below : Above = reached W 9 front (Some part) (said ++ more) in
       let first = unit-whole W v front part rest e s at units last reach said after is in
       let next =
-          units-from (front ++ part ∷ []) rest (append_assoc front (part ∷ []) rest ∙ e) 9 (omega arith) front (Some part) refl
-              (said ++ more) (is ∙ sym (append_assoc said more after)) in
+      units-from (front ++ part ∷ []) rest (append_assoc front (part ∷ []) rest ∙ e) 9 (omega arith) front (Some part) refl
+      (said ++ more) (is ∙ sym (append_assoc said more after)) in
       let count : length (front ++ part ∷ []) ≡ length front + 1 = length-append front (part ∷ []) in
       let others : TakesAll below (units_lines W (length front + 1) rest) next.0 = subst (λ (n : ℕ). TakesAll below (units_lines W n rest) next.0) count next.1 in
       (next.0, takes-append (reached W s units last said) below next.0 (unit_lines W (length front) part) (units_lines W (length front + 1) rest) first others, next.2)
