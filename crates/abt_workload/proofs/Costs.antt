@@ -128,9 +128,6 @@ pub bytes-append : (xs ys : List Text) → bytes_of (xs ++ ys) ≡ bytes_of xs +
 bytes-append [] ys = omega arith
 bytes-append (x ∷ xs) ys = let h = bytes-append xs ys in omega arith
 
-said_bytes : Parts → List ℕ → ℕ
-said_bytes W ns = bytes_of (map (word_at W) ns)
-
 said-append : (W : Parts) (xs ys : List ℕ) → bytes_of (map (word_at W) (xs ++ ys)) ≡ bytes_of (map (word_at W) xs) + bytes_of (map (word_at W) ys)
 said-append W xs ys = ap bytes_of (map-append (word_at W) xs ys) ∙ bytes-append (map (word_at W) xs) (map (word_at W) ys)
 

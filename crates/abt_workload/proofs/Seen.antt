@@ -34,13 +34,14 @@ drop-more L n x xs e = rw add-one ((front L n x xs e).next)
 
 -- The fault at a place.
 
-by-place : List Text → ℕ → Bool → Fault → Bool
+-- a line's fault, where there is a line, and that of an end that is missing
+abbrev by-place : List Text → ℕ → Bool → Fault → Bool
 by-place L n there f = if there then line_has (declared_by (take n L)) (get_or L n []) f else ((n == length L) && ends_early (declared_by L) f)
 
 pub fault-in : (L : List Text) (n : ℕ) → n < length L → find (has_at L n) faults ≡ line_fault (declared_by (take n L)) (get_or L n [])
 fault-in L n lt =
     let yes : nat_lt n (length L) ≡ true = lt-ltb n (length L) lt in
-    ap (λ (b : Bool). find (λ f. if b then line_has (declared_by (take n L)) (get_or L n []) f else ((n == length L) && ends_early (declared_by L) f)) faults) yes
+    ap (λ (b : Bool). find (by-place L n b) faults) yes
 
 pub fault-here : (L : List Text) (n : ℕ) (x : Text) (xs : List Text) (a : Above) → drop n L ≡ x ∷ xs → a ≡ declared_by (take n L) → find (has_at L n) faults ≡ line_fault a x
 fault-here L n x xs a e at =
@@ -56,7 +57,7 @@ pub fault-after : (L : List Text) → find (has_at L (length L)) faults ≡ afte
 fault-after L =
     let no : nat_lt (length L) (length L) ≡ false = search (rules, tests) in
     let yes : (length L == length L) ≡ true = search (rules, tests) in
-    ap (λ (b : Bool). find (λ f. if b then line_has (declared_by (take (length L) L)) (get_or L (length L) []) f else ((length L == length L) && ends_early (declared_by L) f)) faults) no
+    ap (λ (b : Bool). find (by-place L (length L) b) faults) no
     ∙ (ap (λ (b : Bool). find (λ f. b && ends_early (declared_by L) f) faults) yes ∙ by ((declared_by L).section == 10) refl)
   where
     by : (b : Bool) → ((declared_by L).section == 10) ≡ b → find (λ f. ends_early (declared_by L) f) faults ≡ after-by ((declared_by L).section == 10)
@@ -67,7 +68,7 @@ pub fault-past : (L : List Text) (n : ℕ) → length L < n → find (has_at L n
 fault-past L n lt =
     let no : nat_lt n (length L) ≡ false = search (rules, tests) in
     let other : (n == length L) ≡ false = search (rules, tests) in
-    ap (λ (b : Bool). find (λ f. if b then line_has (declared_by (take n L)) (get_or L n []) f else ((n == length L) && ends_early (declared_by L) f)) faults) no
+    ap (λ (b : Bool). find (by-place L n b) faults) no
     ∙ ap (λ (b : Bool). find (λ f. b && ends_early (declared_by L) f) faults) other
 
 -- The text's length.
