@@ -1,5 +1,5 @@
 //! Workload texts, reports and journals, in megabytes a second.
-ghost use Rattle.std.specs.Prelude.{◌≡◌, ◌<◌, All, IfOk, OnSome, length};
+ghost use Rattle.std.specs.Prelude.{◌≡◌, ◌<◌, All, IfOk, IfSome, length};
 ghost use Rattle.abt_machine.specs.Pieces.{IsPieceOf};
 ghost use Rattle.abt_report.specs.Pictures.{SaysWordsOf};
 
@@ -91,7 +91,7 @@ fn add_lines(text: &mut String, lines: u32, line: &str) -> io::Result<()> {
 // What an operation says.
 fn piece(w: &Workload, u: UnitNo, at: u32) -> Option<Piece>
     requires { u.0 < length w.now.units }
-    ensures { OnSome result (IsPieceOf w.now) }
+    ensures { IfSome result (IsPieceOf w.now) }
 {
     let _valid = w.streams();
     match w.op(u, at) {

@@ -4,6 +4,7 @@ pub mod Barriers
 pub mod Canonical
 pub mod Carrying
 pub mod Changes
+pub mod Checks
 pub mod Codes
 pub mod Commands
 pub mod Declaring
@@ -42,5 +43,6 @@ pub mod Texts
 pub mod Turns
 pub mod Valid
 pub mod Values
+pub mod Weights
 pub mod Words
 pub mod Workloads

@@ -4,11 +4,13 @@
 mod events;
 mod grammar;
 mod items;
+mod lengths;
 mod numbers;
 mod operations;
 mod program;
 #[cfg(test)]
 mod tests;
+mod validity;
 mod workload;
 
 pub use events::{

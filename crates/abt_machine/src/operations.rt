@@ -1,5 +1,10 @@
 //! What a workload is made of: pools, schedulers, objects, units and their operations.
 
+ghost use Rattle.std.specs.Prelude.{◌≡◌};
+ghost use Rattle.abt_machine.specs.Access.{puts, takes};
+ghost use Rattle.abt_machine.specs.Operations.{may_block};
+ghost use Rattle.abt_machine.specs.Workloads.{ops_of};
+
 use crate::items::Items;
 use crate::numbers::{ObjectNo, PoolNo, SchedNo, StreamNo, UnitNo};
 
@@ -20,6 +25,28 @@ pub enum Access {
     Mpsc(StreamNo),
     Spmc(StreamNo),
     Mpmc,
+}
+
+impl Access {
+    /// Whether the stream of this number may put into a pool of this access.
+    pub fn puts(self, stream: u64) -> bool
+        ensures { result ≡ puts self stream }
+    {
+        match self {
+            Access::Priv(a) | Access::Spsc(a, _) | Access::Spmc(a) => stream == u64::from(a.0),
+            Access::Mpsc(_) | Access::Mpmc => true,
+        }
+    }
+
+    /// Whether the stream of this number may take from a pool of this access.
+    pub fn takes(self, stream: u64) -> bool
+        ensures { result ≡ takes self stream }
+    {
+        match self {
+            Access::Priv(b) | Access::Spsc(_, b) | Access::Mpsc(b) => stream == u64::from(b.0),
+            Access::Spmc(_) | Access::Mpmc => true,
+        }
+    }
 }
 
 /// In which order a scheduler visits its pools. `Randws` has the seed of its generator, `User` the
@@ -90,6 +117,26 @@ pub enum Op {
     BarWait(ObjectNo),
 }
 
+impl Op {
+    /// Whether the operation may block or yield, which a tasklet may not.
+    pub fn may_block(self) -> bool
+        ensures { result ≡ may_block self }
+    {
+        matches!(
+            self,
+            Op::Yield
+                | Op::YieldTo(_, _)
+                | Op::Suspend
+                | Op::Join(_)
+                | Op::Lock(_)
+                | Op::CondWait(_)
+                | Op::EvWait(_)
+                | Op::FuWait(_)
+                | Op::BarWait(_)
+        )
+    }
+}
+
 /// A unit's program.
 pub type Ops = Items<Op>;
 
@@ -102,6 +149,19 @@ pub enum Body {
     Ult(Ops),
     Task(Ops),
     Sched(SchedNo),
+}
+
+impl Body {
+    /// The operations of the body; a scheduler has none.
+    pub fn ops(&self) -> &[Op]
+        ensures { result.now ≡ ops_of self.now }
+    {
+        match self {
+            Body::Ult(ops) => ops.items(),
+            Body::Task(ops) => ops.items(),
+            Body::Sched(_) => &[],
+        }
+    }
 }
 
 /// Which of a pool's ends.

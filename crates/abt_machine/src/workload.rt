@@ -2,8 +2,8 @@
 
 ghost use Rattle.std.specs.Prelude.{◌≡◌, ◌<◌, length, slice_get, Some, None, map, if◌then◌else◌};
 ghost use Rattle.abt_machine.specs.Valid.{IsValid};
-ghost use Rattle.abt_machine.specs.Workloads.{IsCondition, access_of, condition_number, is_condition_of, main_of, mutex_of, op_at, ops_of, pools_of};
-ghost use Rattle.abt_machine.specs.Access.{may_put, may_take, puts, takes};
+ghost use Rattle.abt_machine.specs.Workloads.{IsCondition, access_of, condition_number, is_condition_of, main_of, mutex_of, op_at, pools_of, thing_at};
+ghost use Rattle.abt_machine.specs.Access.{may_put, may_take};
 ghost use Rattle.abt_machine.specs.Queues.{first};
 ghost use Rattle.abt_machine.specs.Sites.{first_pool, home_from, op_site, step_site};
 ghost use Rattle.abt_machine.specs.declared.numbers.PoolNo.{PoolNo};
@@ -185,7 +185,7 @@ impl Workload {
         requires { u.0 < length self.now.units }
         ensures { result ≡ op_at self.now u.0 at }
     {
-        op_of(&self.unit(u).body, at)
+        self.unit(u).body.ops().get(at as usize).copied()
     }
 
     /// Whether a stream may put into a pool, by the pool's declared access.
@@ -194,7 +194,7 @@ impl Workload {
         requires pool { p.0 < length self.now.pools }
         ensures { result ≡ may_put self.now s.0 p.0 }
     {
-        puts(self.access(p), s)
+        self.parts.may_put(s, p)
     }
 
     /// Whether a stream may take from a pool, by the pool's declared access.
@@ -203,7 +203,7 @@ impl Workload {
         requires pool { p.0 < length self.now.pools }
         ensures { result ≡ may_take self.now s.0 p.0 }
     {
-        takes(self.access(p), s)
+        self.parts.may_take(s, p)
     }
 
     /// The object that a unit's step at a position touches when a stream makes it, where it touches one.
@@ -232,44 +232,67 @@ impl Workload {
     }
 }
 
-impl Workload {
+impl Parts {
     // The access of a pool, and `Mpmc` where it is not declared.
-    fn access(&self, p: PoolNo) -> Access
+    pub(crate) fn access(&self, p: PoolNo) -> Access
         ensures { result ≡ access_of self.now p.0 }
     {
-        match self.parts.pools.items().get(p.0 as usize) {
+        match self.pools.items().get(p.0 as usize) {
             Some(part) => part.access,
             None => Access::Mpmc,
         }
     }
 
-    // The mutex of a condition, and the object itself where it is no condition.
-    fn mutex(&self, x: ObjectNo) -> ObjectNo
-        ensures { result.0 ≡ mutex_of self.now x.0 }
+    // The object of a number, where it is declared.
+    pub(crate) fn object(&self, x: ObjectNo) -> Option<Thing>
+        ensures { result ≡ thing_at self.now x.0 }
     {
-        match self.parts.objects.items().get(x.0 as usize) {
-            Some(Thing::Cond(m)) => *m,
-            _ => x,
-        }
+        self.objects.items().get(x.0 as usize).copied()
     }
 
     // The main scheduler of a stream, and scheduler 0 where the stream is not declared.
-    fn main_or_first(&self, s: StreamNo) -> SchedNo
+    pub(crate) fn main(&self, s: StreamNo) -> SchedNo
         ensures { result.0 ≡ main_of self.now s.0 }
     {
-        match self.parts.mains.items().get(s.0 as usize) {
+        match self.mains.items().get(s.0 as usize) {
             Some(g) => *g,
             None => SchedNo(0),
         }
     }
 
     // The pools that a scheduler lists, and none where it is not declared.
-    fn listed(&self, g: SchedNo) -> &[PoolNo]
+    pub(crate) fn listed(&self, g: SchedNo) -> &[PoolNo]
         ensures { map (λ (p : PoolNo). p.0) result.now ≡ pools_of self.now g.0 }
     {
-        match self.parts.scheds.items().get(g.0 as usize) {
+        match self.scheds.items().get(g.0 as usize) {
             Some(part) => part.pools.items(),
             None => &[],
+        }
+    }
+
+    // Whether a stream may take from a pool, by the pool's declared access.
+    pub(crate) fn may_take(&self, s: StreamNo, p: PoolNo) -> bool
+        ensures { result ≡ may_take self.now s.0 p.0 }
+    {
+        self.access(p).takes(u64::from(s.0))
+    }
+
+    // Whether a stream may put into a pool, by the pool's declared access.
+    pub(crate) fn may_put(&self, s: StreamNo, p: PoolNo) -> bool
+        ensures { result ≡ may_put self.now s.0 p.0 }
+    {
+        self.access(p).puts(u64::from(s.0))
+    }
+}
+
+impl Workload {
+    // The mutex of a condition, and the object itself where it is no condition.
+    fn mutex(&self, x: ObjectNo) -> ObjectNo
+        ensures { result.0 ≡ mutex_of self.now x.0 }
+    {
+        match self.parts.object(x) {
+            Some(Thing::Cond(m)) => m,
+            _ => x,
         }
     }
 
@@ -277,7 +300,7 @@ impl Workload {
     fn first_pool(&self, s: StreamNo) -> PoolNo
         ensures { result.0 ≡ first_pool self.now s.0 }
     {
-        first_of(self.listed(self.main_or_first(s)))
+        first_of(self.parts.listed(self.parts.main(s)))
     }
 
     // The object that an operation touches when a stream makes it.
@@ -292,7 +315,7 @@ impl Workload {
             | Op::KeySet(_)
             | Op::KeyGet(_)
             | Op::Yield => None,
-            Op::YieldTo(_, p) => takes(self.access(p), s).then_some(Site::Pool(p)),
+            Op::YieldTo(_, p) => self.parts.may_take(s, p).then_some(Site::Pool(p)),
             Op::Suspend => Some(Site::Desk(u)),
             Op::Create(v, p) | Op::Migrate(v, p) | Op::Revive(v, p) => self.desk_by(s, p, v),
             Op::MigrateTo(v, r) => self.desk_by(s, self.first_pool(r), v),
@@ -317,7 +340,7 @@ impl Workload {
     fn desk_by(&self, s: StreamNo, p: PoolNo, v: UnitNo) -> Option<Site>
         ensures { result ≡ (if may_put self.now s.0 p.0 then Some (site.Desk v) else None) }
     {
-        puts(self.access(p), s).then_some(Site::Desk(v))
+        self.parts.may_put(s, p).then_some(Site::Desk(v))
     }
 }
 
@@ -327,36 +350,6 @@ fn first_of(pools: &[PoolNo]) -> PoolNo
     match pools {
         [p, ..] => *p,
         [] => PoolNo(0),
-    }
-}
-
-fn op_of(body: &Body, at: u32) -> Option<Op>
-    ensures { result ≡ slice_get (ops_of body.now) at }
-{
-    match body {
-        Body::Ult(ops) => ops.items().get(at as usize).copied(),
-        Body::Task(ops) => ops.items().get(at as usize).copied(),
-        Body::Sched(_) => None,
-    }
-}
-
-// Whether a stream may put into a pool of this access.
-fn puts(access: Access, s: StreamNo) -> bool
-    ensures { result ≡ puts access s.0 }
-{
-    match access {
-        Access::Priv(a) | Access::Spsc(a, _) | Access::Spmc(a) => s.0 == a.0,
-        Access::Mpsc(_) | Access::Mpmc => true,
-    }
-}
-
-// Whether a stream may take from a pool of this access.
-fn takes(access: Access, s: StreamNo) -> bool
-    ensures { result ≡ takes access s.0 }
-{
-    match access {
-        Access::Priv(b) | Access::Spsc(_, b) | Access::Mpsc(b) => s.0 == b.0,
-        Access::Spmc(_) | Access::Mpmc => true,
     }
 }
 

@@ -4,7 +4,8 @@ ghost use Rattle.std.specs.Prelude.{◌≡◌, ◌++◌, IfOk, OnOk};
 ghost use Rattle.abt_machine.specs.Texts.{event_words, journal_text as text_of_journal, what_words};
 ghost use Rattle.abt_machine.specs.Words.{ended, line_of, spaced};
 
-use crate::words::{end_line, name_of_cause, name_of_code, push_decimal, push_number, push_word};
+use crate::words::{name_of_cause, name_of_code};
+use abt_lines::{end_line, push_decimal, push_number, push_word};
 use abt_machine::{Event, Journal, Want, What};
 use std::alloc::Global;
 

@@ -10,7 +10,8 @@ ghost use Rattle.abt_report.specs.Pictures.{SaysWordsOf, unit_of, units_of};
 
 use crate::pictures::{Picture, Row};
 use crate::tallies::{Tally, tally_of};
-use crate::words::{end_line, name_of_cause, name_of_code, push_decimal, push_number, push_word};
+use crate::words::{name_of_cause, name_of_code};
+use abt_lines::{end_line, push_decimal, push_word};
 use abt_machine::{Outcome, Piece, Shown, Want, Workload};
 use std::alloc::Global;
 

@@ -9,8 +9,8 @@ ghost use Rattle.abt_run.specs.Prepared.{IsRunOutcome};
 ghost use Rattle.abt_unit.specs.Fits.{Fits};
 
 use abt_machine::{
-    Body, Cause, Code, Event, Journal, Op, Outcome, Output, PoolNo, Shown, StreamNo, UnitNo, Want,
-    What, Workload,
+    Cause, Code, Event, Journal, Outcome, Output, PoolNo, Shown, StreamNo, UnitNo, Want, What,
+    Workload,
 };
 use abt_report::{Picture, Row};
 use abt_unit::Unit;
@@ -35,16 +35,6 @@ fn record(journal: &mut Vec<Event>, what: What) -> Result<(), Want>
         what,
     })?;
     Ok(())
-}
-
-// The operations of a unit.
-fn ops_of(body: &Body) -> &[Op]
-    ensures { result.now ≡ ops_of body.now }
-{
-    match body {
-        Body::Ult(ops) | Body::Task(ops) => ops.items(),
-        Body::Sched(_) => &[],
-    }
 }
 
 // The steps of the unit, from its first operation on: all of them, or as many as its stream may make.
@@ -78,7 +68,7 @@ fn count_ops(w: &Workload) -> usize
     requires { 0 < length w.now.units }
     ensures { result ≡ length (ops_of (body_at w.now 0)) }
 {
-    ops_of(&w.unit(UnitNo(0)).body).len()
+    w.unit(UnitNo(0)).body.ops().len()
 }
 
 // The run of the one unit, from the first take to the last miss, or to the last step that the stream may make.

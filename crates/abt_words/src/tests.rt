@@ -103,20 +103,24 @@ static REFUSED: [&str; 58] = [
     "self,--help",
 ];
 
-// What the words of a row say.
-fn said(alloc: Global, row: &str) -> Result<Result<Command, WordFault>, Fail> {
+// The command that the words of a row say, where they say one. Want of memory is the test's own failure.
+fn said(alloc: Global, row: &str) -> Result<Option<Command>, Fail> {
     let mut list = Vec::new(alloc);
     for word in row.split(',') {
         list.push(String::from_str(alloc, word)?)?;
     }
-    Ok(words(alloc, &list))
+    match words(alloc, &list) {
+        Ok(command) => Ok(Some(command)),
+        Err(WordFault::Bad) => Ok(None),
+        Err(WordFault::Memory) => Err(WordFault::Memory)?,
+    }
 }
 
 #[test]
 fn runs_a_file(rt: HostRuntime) -> Result<(), Fail> {
     for (row, wanted, most, wants) in &RUNS {
         match said(rt.alloc(), row)? {
-            Ok(
+            Some(
                 Command::Run {
                     file,
                     steps,
@@ -138,7 +142,7 @@ fn runs_a_file(rt: HostRuntime) -> Result<(), Fail> {
 fn runs_what_it_generates(rt: HostRuntime) -> Result<(), Fail> {
     for (row, wanted) in &GENERATED {
         match said(rt.alloc(), row)? {
-            Ok(Command::SelfRun { units }) => assert!(rt; units == *wanted, "{row}"),
+            Some(Command::SelfRun { units }) => assert!(rt; units == *wanted, "{row}"),
             _ => assert!(rt; false, "{row}"),
         }
     }
@@ -149,10 +153,7 @@ fn runs_what_it_generates(rt: HostRuntime) -> Result<(), Fail> {
 fn refuses_other_words(rt: HostRuntime) -> Result<(), Fail> {
     assert!(rt; matches!(words(rt.alloc(), &[]), Err(WordFault::Bad)));
     for row in &REFUSED {
-        assert!(rt;
-            matches!(said(rt.alloc(), row)?, Err(WordFault::Bad)),
-            "{row}"
-        );
+        assert!(rt; said(rt.alloc(), row)?.is_none(), "{row}");
     }
     Ok(())
 }

@@ -38,5 +38,7 @@ pub mod UnitLines
 pub mod Validity
 pub mod Verdicts
 pub mod Weights
+pub mod WholeTexts
 pub mod WordEnds
+pub mod WritingLines
 pub mod WrittenLines

@@ -1,13 +1,13 @@
 //! What the lines above a line declare.
 
-ghost use Rattle.std.specs.Prelude.{◌≡◌, ◌==◌, ◌+◌, length, map, flat_map, option_to_list, option_map, slice_get, is_none, unwrap_or, Some, None};
+ghost use Rattle.std.specs.Prelude.{◌≡◌, ◌==◌, ◌+◌, map, flat_map, option_to_list, option_map, slice_get, is_none, unwrap_or, Some, None};
 ghost use Rattle.std.specs.List.{list_all, list_any};
 ghost use Rattle.std.specs.Option.{option_map_or};
-ghost use Rattle.abt_machine.specs.Access.{may_take, may_take_all, takes};
+ghost use Rattle.abt_machine.specs.Access.{may_take, may_take_all};
 ghost use Rattle.abt_machine.specs.Declaring.{declared_units, nothing, parts_of};
 ghost use Rattle.abt_machine.specs.Faults.{has_main, has_object, is_barrier, is_condition, is_eventual, is_future, is_long, is_mutex, is_placed, is_task, is_there, takes_operations};
 ghost use Rattle.abt_machine.specs.Valid.{sched_in};
-ghost use Rattle.abt_machine.specs.Workloads.{access_from, ops_of};
+ghost use Rattle.abt_machine.specs.Workloads.{access_from};
 ghost use Rattle.abt_machine.specs.declared.grammar.Number.TheVariants as number;
 ghost use Rattle.abt_machine.specs.declared.numbers.SchedNo.{SchedNo};
 ghost use Rattle.abt_machine.specs.declared.workload.UnitPart.{UnitPart};
@@ -148,7 +148,7 @@ impl Draft {
     {
         match &self.last {
             None => false,
-            Some(part) => op_count(&part.body) >= 256,
+            Some(part) => part.body.ops().len() >= 256,
         }
     }
 
@@ -170,7 +170,7 @@ impl Draft {
             return true;
         };
         for p in sched.pools.items() {
-            if !takes(self.access(u64::from(p.0)), s) {
+            if !self.access(u64::from(p.0)).takes(s) {
                 return false;
             }
         }
@@ -197,25 +197,6 @@ impl Draft {
             }
         }
         false
-    }
-}
-
-// Whether a stream may take from a pool of this access.
-fn takes(access: Access, s: u64) -> bool
-    ensures { result ≡ takes access s }
-{
-    match access {
-        Access::Priv(b) | Access::Spsc(_, b) | Access::Mpsc(b) => s == u64::from(b.0),
-        Access::Spmc(_) | Access::Mpmc => true,
-    }
-}
-
-fn op_count(body: &Body) -> usize
-    ensures { result ≡ length (ops_of body.now) }
-{
-    match body {
-        Body::Ult(ops) | Body::Task(ops) => ops.items().len(),
-        Body::Sched(_) => 0,
     }
 }
 

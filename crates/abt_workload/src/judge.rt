@@ -6,7 +6,6 @@ ghost use Rattle.std.specs.List.{list_all};
 ghost use Rattle.abt_machine.specs.Faults.{blocks_task, is_barred, is_early, is_long_word, is_misplaced, is_no_version, is_past_limit, is_there, is_twice, is_within, numbers_of};
 ghost use Rattle.abt_machine.specs.Spelling.{is_number};
 ghost use Rattle.abt_machine.specs.Forms.{numerals, section, slots};
-ghost use Rattle.abt_machine.specs.Operations.{may_block};
 ghost use Rattle.abt_machine.specs.Declaring.{declared_units};
 ghost use Rattle.abt_workload.specs.Judging.{IsJudged, IsShaped, later_fault};
 ghost use Rattle.abt_workload.specs.Slots.{values};
@@ -44,23 +43,6 @@ fn find_numbers(form: Form, words: &[&[u8]], numbers: &mut Vec<Numbered>) -> Res
 {
     numbers.clear();
     add_numbers(slots(form), words, numbers)
-}
-
-fn may_block(op: Op) -> bool
-    ensures { result ≡ may_block op }
-{
-    matches!(
-        op,
-        Op::Yield
-            | Op::YieldTo(_, _)
-            | Op::Suspend
-            | Op::Join(_)
-            | Op::Lock(_)
-            | Op::CondWait(_)
-            | Op::EvWait(_)
-            | Op::FuWait(_)
-            | Op::BarWait(_)
-    )
 }
 
 /// What was found of a line.
@@ -192,7 +174,7 @@ impl Draft {
         ensures { result ≡ blocks_task self.now form }
     {
         match form {
-            Form::Operation(op) => self.is_task() && may_block(op),
+            Form::Operation(op) => self.is_task() && op.may_block(),
             _ => false,
         }
     }

@@ -1,4 +1,4 @@
-//! Workload texts: read to a workload, or refused at a line.
+//! Workload texts: read to a workload, or refused at a line; workloads, written as their canonical text.
 #![tactic(auto)]
 
 mod declare;
@@ -11,6 +11,10 @@ mod reading;
 #[cfg(test)]
 mod tests;
 mod text;
+mod writing;
+#[cfg(test)]
+mod writing_tests;
 
 pub use laws::{each_text_has_one_answer, valid_parts_have_a_text};
 pub use reading::{NotRead, read};
+pub use writing::write;

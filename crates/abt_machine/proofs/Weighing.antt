@@ -1,0 +1,191 @@
+-- How long a text of lines is, as the sum of what its lines weigh.
+use Rattle.std.proofs.Common.{◌↔◌, IsTrue, Option, Some, None, is_some, ◌≡◌, ◌≤◌, ◌<◌, ◌+◌, ◌-◌, ◌==◌, ◌∙◌, ℕ, zero, suc, Bool, true, false, List, [], ◌∷◌, ◌++◌, add-one, ap, arith, subst, sym, codes, cond, decimal, drop, flat_map, get_or, length, length-append, length-take, map, refl, take}
+use Rattle.std.proofs.Math.Seq.{drop-cons}
+use Rattle.std.specs.List.{enumerate_from}
+use Rattle.std.proofs.lemmas.Bool.{eqb-false, eqb-true}
+use Rattle.abt_machine.specs.declared.operations.Op.{Op}
+use Rattle.abt_machine.specs.declared.operations.Op.TheVariants as op
+use Rattle.abt_machine.specs.declared.workload.Parts.{Parts}
+use Rattle.abt_machine.specs.declared.workload.UnitPart.{UnitPart}
+use Rattle.abt_machine.specs.Canonical.{body_words, canonical_text, fitted, keys_lines, object_line, op_words, pool_line, sched_line, start_words, stream_line, unit_lines, version_line, workload_lines}
+use Rattle.abt_machine.specs.Workloads.{ops_of}
+use Rattle.abt_machine.specs.Weights.{IsLeft, weight, size}
+use Rattle.abt_machine.specs.Words.{Text, ended, line_of, numbered, spaced, text_of}
+
+pub weight-append : (xs ys : List Text) → weight (xs ++ ys) ≡ weight xs + weight ys
+weight-append [] ys = omega arith
+weight-append (x ∷ xs) ys = let h = weight-append xs ys in omega arith
+
+spaced-length : (ws : List Text) → length (spaced ws) ≡ weight ws
+spaced-length [] = refl
+spaced-length (w ∷ ws) = let h = spaced-length ws in let e : length ((32 ∷ w) ++ spaced ws) ≡ length (32 ∷ w) + length (spaced ws) = length-append (32 ∷ w) (spaced ws) in omega arith
+
+-- a line with its line feed has the bytes of its words, each with the one after it
+pub ended-length : (w : Text) (ws : List Text) → length (ended (line_of (w ∷ ws))) ≡ weight (w ∷ ws)
+ended-length w ws =
+    let h = spaced-length ws in
+    let inner : length (w ++ spaced ws) ≡ length w + length (spaced ws) = length-append w (spaced ws) in
+    let outer : length ((w ++ spaced ws) ++ 10 ∷ []) ≡ length (w ++ spaced ws) + 1 = length-append (w ++ spaced ws) (10 ∷ []) in
+    omega arith
+
+pub size-cons : (w : Text) (ws : List Text) (lines : List (List Text)) → size ((w ∷ ws) ∷ lines) ≡ weight (w ∷ ws) + size lines
+unfolding size
+size-cons w ws lines = let e = length-append (ended (line_of (w ∷ ws))) (text_of lines) in let f = ended-length w ws in omega arith
+
+pub size-nil : size [] ≡ 0
+unfolding size
+size-nil = refl
+
+-- a line that has words
+abbrev pub has_words : List Text → Bool
+has_words [] = false
+has_words (w ∷ ws) = true
+
+pub size-line : (line : List Text) (lines : List (List Text)) → has_words line ≡ true → size (line ∷ lines) ≡ weight line + size lines
+size-line [] lines some = cc
+size-line (w ∷ ws) lines some = size-cons w ws lines
+
+pub size-append : (xs ys : List (List Text)) → size (xs ++ ys) ≡ size xs + size ys
+unfolding size
+size-append [] ys = omega arith
+size-append (x ∷ xs) ys =
+    let h = size-append xs ys in
+    let e = length-append (ended (line_of x)) (text_of (xs ++ ys)) in
+    let f = length-append (ended (line_of x)) (text_of xs) in
+    omega arith
+
+pub drop-more : {A : Type 0} (xs : List A) (i : ℕ) (x : A) → x ≡ get_or xs i x → i < length xs → drop i xs ≡ x ∷ drop (i + 1) xs
+drop-more xs i x is within = rw add-one (drop-cons xs i x within) ∙ ap (λ y. y ∷ drop (i + 1) xs) (sym is)
+
+-- an element at a place within stays whatever stands for those past the end
+get_or-get_or : {A : Type 0} (xs : List A) (i : ℕ) (d : A) → i < length xs → get_or xs i d ≡ get_or xs i (get_or xs i d)
+get_or-get_or [] i d within = absurd (omega arith)
+get_or-get_or (x ∷ xs) zero d within = refl
+get_or-get_or (x ∷ xs) (suc i) d within = get_or-get_or xs i d (omega arith)
+
+-- the lines of things from one on are its line and those from the next on
+pub size-drop : {A : Type 0} (f : A → List Text) (xs : List A) (i : ℕ) (d : A) → has_words (f (get_or xs i d)) ≡ true → i < length xs
+    → size (map f (drop i xs)) ≡ weight (f (get_or xs i d)) + size (map f (drop (i + 1) xs))
+size-drop f xs i d some within =
+    ap (λ ys. size (map f ys)) (drop-more xs i (get_or xs i d) (get_or-get_or xs i d within) within) ∙ size-line (f (get_or xs i d)) (map f (drop (i + 1) xs)) some
+
+-- numbered lines, from a number on
+abbrev pub lines_from : {A : Type 0} → (ℕ → A → List Text) → ℕ → List A → List (List Text)
+lines_from f k xs = map (λ p. f p.0 p.1) (enumerate_from k xs)
+
+pub size-from_item : {A : Type 0} (f : ℕ → A → List Text) (xs ys : List A) (i : ℕ) (x : A) → ys ≡ xs → x ≡ get_or ys i x → has_words (f i x) ≡ true → i < length ys
+    → size (lines_from f i (drop i xs)) ≡ weight (f i x) + size (lines_from f (i + 1) (drop (i + 1) xs))
+size-from_item {A = A} f xs ys i x same is some within =
+    let P : List A → Type 0 = λ zs. size (lines_from f i (drop i zs)) ≡ weight (f i x) + size (lines_from f (i + 1) (drop (i + 1) zs)) in
+    subst P same (ap (λ zs. size (lines_from f i zs)) (drop-more ys i x is within) ∙ size-line (f i x) (lines_from f (i + 1) (drop (i + 1) ys)) some)
+
+pub size-from : {A : Type 0} (f : ℕ → A → List Text) (xs ys : List A) (i : ℕ) (d : A) → ys ≡ xs → has_words (f i (get_or ys i d)) ≡ true → i < length ys
+    → size (lines_from f i (drop i xs)) ≡ weight (f i (get_or ys i d)) + size (lines_from f (i + 1) (drop (i + 1) xs))
+size-from f xs ys i d same some within = size-from_item f xs ys i (get_or ys i d) same (get_or-get_or ys i d within) some within
+
+-- the lines that things make from one on are its lines and those from the next on
+pub size-groups : {A : Type 0} (f : ℕ → A → List (List Text)) (xs ys : List A) (i : ℕ) (x : A) → ys ≡ xs → x ≡ get_or ys i x → i < length ys
+    → size (flat_map (λ p. f p.0 p.1) (enumerate_from i (drop i xs))) ≡ size (f i x) + size (flat_map (λ p. f p.0 p.1) (enumerate_from (i + 1) (drop (i + 1) xs)))
+size-groups {A = A} f xs ys i x same is within =
+    let P : List A → Type 0 = λ zs. size (flat_map (λ p. f p.0 p.1) (enumerate_from i (drop i zs))) ≡ size (f i x) + size (flat_map (λ p. f p.0 p.1) (enumerate_from (i + 1) (drop (i + 1) zs))) in
+    subst P same
+    (ap (λ zs. size (flat_map (λ p. f p.0 p.1) (enumerate_from i zs))) (drop-more ys i x is within)
+    ∙ size-append (f i x) (flat_map (λ p. f p.0 p.1) (enumerate_from (i + 1) (drop (i + 1) ys))))
+
+pub size-past : {A : Type 0} (f : A → List Text) (xs : List A) → size (map f (drop (length xs) xs)) ≡ 0
+size-past f [] = size-nil
+size-past f (x ∷ xs) = size-past f xs
+
+pub size-from_past : {A : Type 0} (f : ℕ → A → List Text) (k : ℕ) (xs : List A) → size (lines_from f k (drop (length xs) xs)) ≡ 0
+size-from_past f k [] = size-nil
+size-from_past f k (x ∷ xs) = size-from_past f k xs
+
+pub size-groups_past : {A : Type 0} (f : ℕ → A → List (List Text)) (k : ℕ) (xs : List A) → size (flat_map (λ p. f p.0 p.1) (enumerate_from k (drop (length xs) xs))) ≡ 0
+size-groups_past f k [] = size-nil
+size-groups_past f k (x ∷ xs) = size-groups_past f k xs
+
+-- a text of one byte too many goes without its last line feed
+fitted-le : (text : Text) → length text ≤ 4194305 → length (fitted text) ≤ 4194304
+fitted-le text le = by (length text == 4194305) refl
+  where
+    by : (c : Bool) → (length text == 4194305) ≡ c → length (cond c (take (length text - 1) text) text) ≤ 4194304
+    by true e = let l = length-take (length text - 1) text in omega arith
+    by false e = let other = eqb-false (length text) 4194305 e in omega (arith, other)
+
+le-fitted : (text : Text) → length (fitted text) ≤ 4194304 → length text ≤ 4194305
+le-fitted text = by (length text == 4194305) refl
+  where
+    by : (c : Bool) → (length text == 4194305) ≡ c → length (cond c (take (length text - 1) text) text) ≤ 4194304 → length text ≤ 4194305
+    by true e le = let same = eqb-true (length text) 4194305 e in omega arith
+    by false e le = omega arith
+
+-- the canonical text is short enough exactly where its lines have at most one byte more
+pub canonical-short : (W : Parts) → length (canonical_text W) ≤ 4194304 → size (workload_lines W) ≤ 4194305
+unfolding size
+canonical-short W le = le-fitted (text_of (workload_lines W)) le
+
+pub short-canonical : (W : Parts) → size (workload_lines W) ≤ 4194305 → length (canonical_text W) ≤ 4194304
+unfolding size
+short-canonical W le = fitted-le (text_of (workload_lines W)) le
+
+-- the lines of a workload
+pub size-workload : (W : Parts) → size (workload_lines W)
+    ≡ 6 + weight (codes "streams" ∷ decimal W.streams ∷ []) + size (keys_lines W.keys) + size (numbered pool_line W.pools) + size (numbered sched_line W.scheds) + size (numbered stream_line W.mains)
+    + size (numbered object_line W.objects) + weight (codes "units" ∷ decimal (length W.units) ∷ []) + size (flat_map (λ p. unit_lines W p.0 p.1) (enumerate_from 0 W.units)) + 4
+size-workload W =
+    let streams : List Text = codes "streams" ∷ decimal W.streams ∷ [] in
+    let units : List Text = codes "units" ∷ decimal (length W.units) ∷ [] in
+    let K : List (List Text) = keys_lines W.keys in
+    let P : List (List Text) = numbered pool_line W.pools in
+    let S : List (List Text) = numbered sched_line W.scheds in
+    let M : List (List Text) = numbered stream_line W.mains in
+    let O : List (List Text) = numbered object_line W.objects in
+    let U : List (List Text) = flat_map (λ p. unit_lines W p.0 p.1) (enumerate_from 0 W.units) in
+    let a = size-append ((((((version_line ∷ streams ∷ K) ++ P) ++ S) ++ M) ++ O) ++ units ∷ U) ((codes "end" ∷ []) ∷ []) in
+    let b = size-append (((((version_line ∷ streams ∷ K) ++ P) ++ S) ++ M) ++ O) (units ∷ U) in
+    let c = size-append ((((version_line ∷ streams ∷ K) ++ P) ++ S) ++ M) O in
+    let d = size-append (((version_line ∷ streams ∷ K) ++ P) ++ S) M in
+    let e = size-append ((version_line ∷ streams ∷ K) ++ P) S in
+    let f = size-append (version_line ∷ streams ∷ K) P in
+    let g = size-cons (codes "abt") (codes "1" ∷ []) (streams ∷ K) in
+    let h = size-cons (codes "streams") (decimal W.streams ∷ []) K in
+    let i = size-cons (codes "units") (decimal (length W.units) ∷ []) U in
+    let j = size-cons (codes "end") [] [] in
+    let k = size-nil in
+    omega arith
+
+-- Words that a line has besides its first.
+
+-- an operation's line has words
+pub some-op : (W : Parts) (o : Op) → has_words (op_words W o) ≡ true
+some-op W (op.Set n) = refl
+some-op W _ = refl
+
+pub weight-unit : (u : ℕ) (body start : List Text) → weight (codes "unit" ∷ decimal u ∷ body ++ start) ≡ 5 + (length (decimal u) + 1) + weight body + weight start
+weight-unit u body start = let h = weight-append body start in omega arith
+
+pub size-unit : (W : Parts) (u : ℕ) (part : UnitPart)
+    → size (unit_lines W u part) ≡ 5 + (length (decimal u) + 1) + weight (body_words part.body) + weight (start_words part.start) + size (map (op_words W) (ops_of part.body))
+size-unit W u part =
+    let h = size-cons (codes "unit") (decimal u ∷ body_words part.body ++ start_words part.start) (map (op_words W) (ops_of part.body)) in
+    let k = weight-unit u (body_words part.body) (start_words part.start) in
+    omega arith
+
+pub size-keys : (k : ℕ) → 0 < k → size (keys_lines k) ≡ 5 + (length (decimal k) + 1)
+size-keys zero some = absurd (omega arith)
+size-keys (suc n) some = let h = size-cons (codes "keys") (decimal (suc n) ∷ []) [] in let k = size-nil in omega arith
+
+pub size-no_keys : (k : ℕ) → k ≡ 0 → size (keys_lines k) ≡ 0
+size-no_keys k none = ap (λ n. size (keys_lines n)) none ∙ size-nil
+
+-- Room.
+
+-- what is left after all, where it is what the rest leaves of what is left after the first
+pub left-after : (room first left rest all : ℕ) (o : Option ℕ) → left + first ≡ room → first + rest ≡ all → IsLeft left rest o → IsLeft room all o
+left-after room first left rest all None e f h = omega (arith, h)
+left-after room first left rest all (Some n) e f h = omega (arith, h)
+
+-- a text fits where something is left of the room of 4,194,305 bytes
+pub short-left : (W : Parts) (o : Option ℕ) → IsLeft 4194305 (size (workload_lines W)) o → IsTrue (is_some o) ↔ (length (canonical_text W) ≤ 4194304)
+short-left W None h = (λ e. cc, λ le. absurd (let few = canonical-short W le in omega (arith, h)))
+short-left W (Some n) h = (λ e. short-canonical W (omega (arith, h)), λ le. refl)

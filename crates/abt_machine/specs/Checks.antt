@@ -1,0 +1,60 @@
+-- The facts of a valid workload's parts, as each is looked at.
+use Rattle.std.specs.Prelude.{ℕ, ◌≡◌, ◌≢◌, ◌==◌, ◌+◌, ◌<◌, ◌≤◌, ◌&&◌, Bool, true, false, not, nat_lt, option_and_then, if◌then◌else◌, List, [], ◌∷◌, length, slice_index_or, slice_set, All, AllPairs, Option, Some, None}
+use Rattle.abt_machine.specs.declared.numbers.PoolNo.{PoolNo}
+use Rattle.abt_machine.specs.declared.workload.Parts.{Parts}
+use Rattle.abt_machine.specs.declared.workload.SchedPart.{SchedPart}
+use Rattle.abt_machine.specs.declared.workload.UnitPart.{UnitPart}
+use Rattle.abt_machine.specs.Operations.{IsDeclared}
+use Rattle.abt_machine.specs.Valid.{IsBody, IsRule}
+use Rattle.abt_machine.specs.Workloads.{ops_of}
+
+-- there are as many of each as there may be
+pub record AreCounts (W : Parts) : Type 0 where
+  pub some_stream : 0 < W.streams
+  pub few_streams : W.streams ≤ 8
+  pub few_keys : W.keys ≤ 16
+  pub some_pool : 0 < length W.pools
+  pub few_pools : length W.pools ≤ 64
+  pub some_sched : 0 < length W.scheds
+  pub few_scheds : length W.scheds ≤ 64
+  pub mains : length W.mains ≡ W.streams
+  pub few_objects : length W.objects ≤ 256
+  pub few_units : length W.units ≤ 256
+
+-- these are 1 to 8 declared pools, each once
+pub record AreListed (W : Parts) (pools : List PoolNo) : Type 0 where
+  pub some_pool : 0 < length pools
+  pub few_pools : length pools ≤ 8
+  pub declared : All (λ (p : PoolNo). p.0 < length W.pools) pools
+  pub once : AllPairs (λ (a b : PoolNo). a.0 ≢ b.0) pools
+
+-- a scheduler's rule and pools
+pub record IsSchedPart (W : Parts) (part : SchedPart) : Type 0 where
+  pub rule : IsRule part.rule
+  pub pools : AreListed W part.pools
+
+-- a unit that starts, starts in a declared pool
+abbrev pub IsStart : Parts → Option PoolNo → Type 0
+IsStart W None = Unit {0}
+IsStart W (Some p) = p.0 < length W.pools
+
+-- a unit's body, operations and pool
+pub record IsUnitPart (W : Parts) (part : UnitPart) : Type 0 where
+  pub kind : IsBody W part.body
+  pub few_ops : length (ops_of part.body) ≤ 256
+  pub ops : All (IsDeclared W) (ops_of part.body)
+  pub start : IsStart W part.start
+
+-- the number after these, where they count up from n
+abbrev pub after_said : ℕ → List ℕ → Option ℕ
+after_said n [] = Some n
+after_said n (w ∷ ws) = if w == n then after_said (n + 1) ws else None
+
+-- the table of the schedulers that have a place, with this one too, if it is in the table and has none yet
+abbrev pub place : ℕ → List Bool → Option (List Bool)
+place g taken = if nat_lt g (length taken) && not (slice_index_or taken g false) then Some (slice_set taken g true) else None
+
+-- the same for one after the other
+abbrev pub places : List ℕ → List Bool → Option (List Bool)
+places [] taken = Some taken
+places (g ∷ gs) taken = option_and_then (places gs) (place g taken)

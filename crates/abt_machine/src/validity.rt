@@ -1,0 +1,419 @@
+//! Whether parts are those of a workload.
+
+ghost use Rattle.std.specs.Prelude.{◌↔◌, ◌≡◌, ◌≢◌, ◌==◌, ◌<◌, ◌≤◌, ℕ, All, AllPairs, IsTrue, None, Some, flat_map, if◌then◌else◌, length, map};
+ghost use Rattle.std.specs.List.{list_all, list_any, range_with_len};
+ghost use Rattle.abt_machine.specs.Access.{may_take, may_take_all};
+ghost use Rattle.abt_machine.specs.Checks.{AreCounts, AreListed, IsSchedPart, IsStart, IsUnitPart, after_said, place, places};
+ghost use Rattle.abt_machine.specs.Operations.{IsBarrier, IsDeclared, IsEventual, IsFuture, IsMutex, may_block, said_by};
+ghost use Rattle.abt_machine.specs.Valid.{IsAccess, IsBody, IsRule, IsStream, IsThing, IsValid, IsVisible, IsWord, placed_scheds, sched_in, words_said};
+ghost use Rattle.abt_machine.specs.Workloads.{IsCondition, ops_of, thing_at};
+ghost use Rattle.abt_machine.specs.declared.numbers.PoolNo.{PoolNo};
+ghost use Rattle.abt_machine.specs.declared.numbers.SchedNo.{SchedNo};
+ghost use Rattle.abt_machine.specs.declared.workload.PoolPart.{PoolPart};
+ghost use Rattle.abt_machine.specs.declared.workload.UnitPart.{UnitPart};
+
+use crate::items::Text;
+use crate::numbers::{ObjectNo, PoolNo, SchedNo, StreamNo, UnitNo};
+use crate::operations::{Access, Body, Op, Rule, Thing};
+use crate::workload::{Parts, PoolPart, SchedPart, UnitPart};
+
+// Whether a number is above 0 and no greater than another.
+fn is_among(n: usize, most: usize) -> bool
+    ensures { IsTrue result ↔ ((0 < n) × (n ≤ most)) }
+{
+    0 < n && n <= most
+}
+
+// Whether a rule's numbers are in range.
+fn is_rule(rule: Rule) -> bool
+    ensures { IsTrue result ↔ IsRule rule }
+{
+    match rule {
+        Rule::Basic | Rule::Prio | Rule::Randws(_) => true,
+        Rule::User(k) => k < 2,
+    }
+}
+
+fn lists(pools: &[PoolNo], pool: PoolNo) -> bool
+    ensures { result ≡ list_any (λ (p : PoolNo). p.0 == pool.0) pools.now }
+{
+    pools.iter().any(|p| p.0 == pool.0)
+}
+
+// Whether no pool is listed twice.
+fn are_distinct(pools: &[PoolNo]) -> bool
+    ensures { IsTrue result ↔ AllPairs (λ (a b : PoolNo). a.0 ≢ b.0) pools.now }
+{
+    for (i, pool) in pools.iter().enumerate() {
+        if lists(&pools[..i], *pool) {
+            return false;
+        }
+    }
+    true
+}
+
+// Whether a byte is no blank and no control character.
+fn is_visible(byte: u8) -> bool
+    ensures { IsTrue result ↔ IsVisible byte }
+{
+    byte > b' ' && byte != 127
+}
+
+// Whether a text is a word that can be said.
+fn is_word(text: &Text) -> bool
+    ensures { IsTrue result ↔ IsWord text.now }
+{
+    let bytes = text.as_str().as_bytes();
+    is_among(bytes.len(), 64) && bytes.iter().all(|b| is_visible(*b))
+}
+
+// Whether one of these operations may block or yield.
+fn may_block(ops: &[Op]) -> bool
+    ensures { result ≡ list_any may_block ops.now }
+{
+    ops.iter().any(|op| op.may_block())
+}
+
+// The number after the words that these operations say, where they say them in order from a number on.
+fn next_word(ops: &[Op], from: u64) -> Option<u64>
+    ensures { result ≡ after_said from (flat_map said_by ops.now) }
+{
+    let mut next = from;
+    for op in ops {
+        if let Op::Say(word) = op {
+            if u64::from(*word) != next {
+                return None;
+            }
+            next += 1;
+        }
+    }
+    Some(next)
+}
+
+// Whether a scheduler is in the table and has no place yet; then from now on it has one.
+fn take_place(g: SchedNo, taken: &mut [bool]) -> bool
+    ensures { (if result then Some taken.new else None) ≡ place g.0 taken.old }
+{
+    let g = g.0 as usize;
+    if g >= taken.len() || taken[g] {
+        return false;
+    }
+    taken[g] = true;
+    true
+}
+
+// Whether main schedulers have no place yet, one after the other.
+fn take_main_places(mains: &[SchedNo], taken: &mut [bool]) -> bool
+    ensures { (if result then Some taken.new else None) ≡ places (map (λ (g : SchedNo). g.0) mains.now) taken.old }
+{
+    for g in mains {
+        if !take_place(*g, taken) {
+            return false;
+        }
+    }
+    true
+}
+
+// Whether the scheduler that a body is, if it is one, has no place yet.
+fn take_body_place(body: &Body, taken: &mut [bool]) -> bool
+    ensures { (if result then Some taken.new else None) ≡ places (sched_in body.now) taken.old }
+{
+    match body {
+        Body::Ult(_) | Body::Task(_) => true,
+        Body::Sched(g) => take_place(*g, taken),
+    }
+}
+
+// Whether the schedulers that units are have no place yet, one after the other.
+fn take_body_places(units: &[UnitPart], taken: &mut [bool]) -> bool
+    ensures { (if result then Some taken.new else None) ≡ places (flat_map (λ (part : UnitPart). sched_in part.body) units.now) taken.old }
+{
+    for part in units {
+        if !take_body_place(&part.body, taken) {
+            return false;
+        }
+    }
+    true
+}
+
+// The number after the words that units say, where they say them in order from a number on.
+fn next_unit_word(units: &[UnitPart], from: u64) -> Option<u64>
+    ensures { result ≡ after_said from (flat_map (λ (part : UnitPart). flat_map said_by (ops_of part.body)) units.now) }
+{
+    let mut next = from;
+    for part in units {
+        next = next_word(part.body.ops(), next)?;
+    }
+    Some(next)
+}
+
+impl Parts {
+    // Whether there are as many streams, keys, pools, schedulers, objects and units as there may be.
+    fn has_counts(&self) -> bool
+        ensures { IsTrue result ↔ AreCounts self.now }
+    {
+        is_among(self.streams as usize, 8)
+            && self.keys <= 16
+            && is_among(self.pools.items().len(), 64)
+            && is_among(self.scheds.items().len(), 64)
+            && self.mains.items().len() == self.streams as usize
+            && self.objects.items().len() <= 256
+            && self.units.items().len() <= 256
+    }
+
+    fn has_stream(&self, s: StreamNo) -> bool
+        ensures { IsTrue result ↔ (s.0 < self.now.streams) }
+    {
+        s.0 < self.streams
+    }
+
+    fn has_pool(&self, p: PoolNo) -> bool
+        ensures { IsTrue result ↔ (p.0 < length self.now.pools) }
+    {
+        (p.0 as usize) < self.pools.items().len()
+    }
+
+    fn has_sched(&self, g: SchedNo) -> bool
+        ensures { IsTrue result ↔ (g.0 < length self.now.scheds) }
+    {
+        (g.0 as usize) < self.scheds.items().len()
+    }
+
+    fn has_unit(&self, u: UnitNo) -> bool
+        ensures { IsTrue result ↔ (u.0 < length self.now.units) }
+    {
+        (u.0 as usize) < self.units.items().len()
+    }
+
+    // Whether the streams that an access names are declared.
+    fn is_access(&self, access: Access) -> bool
+        ensures { IsTrue result ↔ IsAccess self.now access }
+    {
+        match access {
+            Access::Priv(s) | Access::Mpsc(s) | Access::Spmc(s) => self.has_stream(s),
+            Access::Spsc(s, t) => self.has_stream(s) && self.has_stream(t),
+            Access::Mpmc => true,
+        }
+    }
+
+    // Whether each pool's access names declared streams.
+    fn has_accesses(&self) -> bool
+        ensures { IsTrue result ↔ All (λ (part : PoolPart). IsAccess self.now part.access) self.now.pools }
+    {
+        self.pools
+            .items()
+            .iter()
+            .all(|part| self.is_access(part.access))
+    }
+
+    fn are_declared(&self, pools: &[PoolNo]) -> bool
+        ensures { IsTrue result ↔ All (λ (p : PoolNo). p.0 < length self.now.pools) pools.now }
+    {
+        pools.iter().all(|p| self.has_pool(*p))
+    }
+
+    // Whether these are 1 to 8 declared pools, each once.
+    fn are_listed(&self, pools: &[PoolNo]) -> bool
+        ensures { IsTrue result ↔ AreListed self.now pools.now }
+    {
+        is_among(pools.len(), 8) && self.are_declared(pools) && are_distinct(pools)
+    }
+
+    fn is_sched(&self, part: &SchedPart) -> bool
+        ensures { IsTrue result ↔ IsSchedPart self.now part.now }
+    {
+        is_rule(part.rule) && self.are_listed(part.pools.items())
+    }
+
+    fn has_listings(&self) -> bool
+        ensures { IsTrue result ↔ All (IsSchedPart self.now) self.now.scheds }
+    {
+        self.scheds.items().iter().all(|part| self.is_sched(part))
+    }
+
+    fn may_take_each(&self, s: StreamNo, pools: &[PoolNo]) -> bool
+        ensures { result ≡ list_all (λ (p : PoolNo). may_take self.now s.0 p.0) pools.now }
+    {
+        pools.iter().all(|p| self.may_take(s, *p))
+    }
+
+    // Whether a stream may take from each pool of a scheduler.
+    fn may_take_all(&self, s: StreamNo, g: SchedNo) -> bool
+        ensures { result ≡ may_take_all self.now s.0 g.0 }
+    {
+        self.may_take_each(s, self.listed(g))
+    }
+
+    // Whether a stream has a declared main scheduler, and may take from all of its pools.
+    fn is_stream(&self, s: StreamNo) -> bool
+        ensures { IsTrue result ↔ IsStream self.now s.0 }
+    {
+        let main = self.main(s);
+        self.has_sched(main) && self.may_take_all(s, main)
+    }
+
+    fn has_mains(&self) -> bool
+        ensures { IsTrue result ↔ ((s : ℕ) → s < self.now.streams → IsStream self.now s) }
+    {
+        for s in 0..self.streams {
+            if !self.is_stream(StreamNo(s)) {
+                return false;
+            }
+        }
+        true
+    }
+
+    fn is_mutex(&self, x: ObjectNo) -> bool
+        ensures { IsTrue result ↔ IsMutex self.now x.0 }
+    {
+        matches!(self.object(x), Some(Thing::Mutex))
+    }
+
+    fn is_condition(&self, x: ObjectNo) -> bool
+        ensures { IsTrue result ↔ IsCondition self.now x.0 }
+    {
+        matches!(self.object(x), Some(Thing::Cond(_)))
+    }
+
+    fn is_eventual(&self, x: ObjectNo) -> bool
+        ensures { IsTrue result ↔ IsEventual self.now x.0 }
+    {
+        matches!(self.object(x), Some(Thing::Eventual))
+    }
+
+    fn is_future(&self, x: ObjectNo) -> bool
+        ensures { IsTrue result ↔ IsFuture self.now x.0 }
+    {
+        matches!(self.object(x), Some(Thing::Future(_, _)))
+    }
+
+    fn is_barrier(&self, x: ObjectNo) -> bool
+        ensures { IsTrue result ↔ IsBarrier self.now x.0 }
+    {
+        matches!(self.object(x), Some(Thing::Barrier(_)))
+    }
+
+    // Whether an object of this number may be this.
+    fn is_thing(&self, x: usize, thing: Thing) -> bool
+        ensures { IsTrue result ↔ IsThing self.now x thing }
+    {
+        match thing {
+            Thing::Mutex | Thing::Eventual => true,
+            Thing::Cond(m) => (m.0 as usize) < x && self.is_mutex(m),
+            Thing::Future(n, _) | Thing::Barrier(n) => is_among(n as usize, 4096),
+        }
+    }
+
+    fn has_things(&self) -> bool
+        ensures { IsTrue result ↔ ((x : ℕ) (t : Thing) → thing_at self.now x ≡ Some t → IsThing self.now x t) }
+    {
+        for (x, thing) in self.objects.items().iter().enumerate() {
+            if !self.is_thing(x, *thing) {
+                return false;
+            }
+        }
+        true
+    }
+
+    fn is_body(&self, body: &Body) -> bool
+        ensures { IsTrue result ↔ IsBody self.now body.now }
+    {
+        match body {
+            Body::Ult(_) => true,
+            Body::Task(ops) => !may_block(ops.items()),
+            Body::Sched(g) => self.has_sched(*g),
+        }
+    }
+
+    // Whether what an operation names is declared.
+    fn is_declared(&self, op: Op) -> bool
+        ensures { IsTrue result ↔ IsDeclared self.now op }
+    {
+        match op {
+            Op::Set(_) | Op::Add(_) | Op::Print | Op::Yield | Op::Suspend => true,
+            Op::Say(w) => (w as usize) < self.words.items().len(),
+            Op::KeySet(k) | Op::KeyGet(k) => k < self.keys,
+            Op::Resume(v) | Op::Join(v) | Op::Cancel(v) | Op::Migratable(v, _) => self.has_unit(v),
+            Op::YieldTo(v, p) | Op::Create(v, p) | Op::Migrate(v, p) | Op::Revive(v, p) => {
+                self.has_unit(v) && self.has_pool(p)
+            }
+            Op::MigrateTo(v, s) => self.has_unit(v) && self.has_stream(s),
+            Op::Lock(x) | Op::TryLock(x) | Op::Unlock(x) | Op::Load(x) | Op::Store(x) => {
+                self.is_mutex(x)
+            }
+            Op::CondWait(x) | Op::Signal(x) | Op::Broadcast(x) => self.is_condition(x),
+            Op::EvWait(x) | Op::EvSet(x) | Op::EvReset(x) | Op::EvTest(x) => self.is_eventual(x),
+            Op::FuWait(x) | Op::FuSet(x) | Op::FuReset(x) | Op::FuTest(x) => self.is_future(x),
+            Op::BarWait(x) => self.is_barrier(x),
+        }
+    }
+
+    fn are_declared_ops(&self, ops: &[Op]) -> bool
+        ensures { IsTrue result ↔ All (IsDeclared self.now) ops.now }
+    {
+        ops.iter().all(|op| self.is_declared(*op))
+    }
+
+    fn is_start(&self, start: Option<PoolNo>) -> bool
+        ensures { IsTrue result ↔ IsStart self.now start }
+    {
+        match start {
+            None => true,
+            Some(p) => self.has_pool(p),
+        }
+    }
+
+    fn is_unit(&self, part: &UnitPart) -> bool
+        ensures { IsTrue result ↔ IsUnitPart self.now part.now }
+    {
+        let ops = part.body.ops();
+        self.is_body(&part.body)
+            && ops.len() <= 256
+            && self.are_declared_ops(ops)
+            && self.is_start(part.start)
+    }
+
+    fn has_units(&self) -> bool
+        ensures { IsTrue result ↔ All (IsUnitPart self.now) self.now.units }
+    {
+        self.units.items().iter().all(|part| self.is_unit(part))
+    }
+
+    fn has_words(&self) -> bool
+        ensures { IsTrue result ↔ All IsWord self.now.words }
+    {
+        self.words.items().iter().all(is_word)
+    }
+
+    // Whether each scheduler that has a place is one of 64, and none has two places.
+    fn has_own_places(&self) -> bool
+        ensures { IsTrue result ↔ (All (λ g. g < 64) (placed_scheds self.now) × AllPairs (λ a b. a ≢ b) (placed_scheds self.now)) }
+    {
+        let mut taken = [false; 64];
+        take_main_places(self.mains.items(), &mut taken)
+            && take_body_places(self.units.items(), &mut taken)
+    }
+
+    // Whether the words are said in their order, each by one operation.
+    fn says_words(&self) -> bool
+        ensures { IsTrue result ↔ (words_said self.now ≡ range_with_len 0 (length self.now.words)) }
+    {
+        next_unit_word(self.units.items(), 0) == Some(self.words.items().len() as u64)
+    }
+
+    /// Whether these are the parts of a workload: what a text of at most 4,194,304 bytes can declare.
+    pub fn is_valid(&self) -> bool
+        ensures { IsTrue result ↔ IsValid self.now }
+    {
+        self.has_counts()
+            && self.has_accesses()
+            && self.has_listings()
+            && self.has_mains()
+            && self.has_things()
+            && self.has_units()
+            && self.has_own_places()
+            && self.says_words()
+            && self.has_words()
+            && self.is_short()
+    }
+}

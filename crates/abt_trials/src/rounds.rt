@@ -1,0 +1,287 @@
+//! Rounds of one scheduler over one, two, four and eight pools, by each rule.
+
+ghost use Rattle.std.specs.Prelude.{◌≡◌, ◌<◌, ◌≤◌, ◌+◌, ◌-◌, ◌%◌, ◌^◌};
+ghost use Rattle.abt_order.specs.Schedulers.{IsSchedulerOf, IsStored};
+
+use abt_machine::{OrderShape, PoolNo, SchedNo, Want, Workload};
+use abt_order::{Scheduler, StoredOrder, mirror, rotate};
+use abt_workload::read;
+use std::alloc::{AllocError, Global};
+use std::process::Abort;
+use std::test::Fail;
+
+// Eight pools: for BASIC 1 and 6 are of the first class, 2, 3 and 7 of the second, and 0, 4 and 5 of the last.
+const HEAD: &str = "abt 1
+streams 2
+pool 0 fifo mpmc
+pool 1 fifo priv of 0
+pool 2 deque spsc from 0 to 1
+pool 3 fifo mpsc to 0
+pool 4 deque spmc from 1
+pool 5 fifo mpmc
+pool 6 deque priv of 1
+pool 7 fifo mpsc to 1
+";
+
+const END: &str = "stream 0 main 0\nstream 1 main 1\nunits 0\nend\n";
+
+// The number of the scheduler that is tried. PCG32's published words are those of stream 54 with seed 42.
+const TRIED: u32 = 54;
+
+// The rule and the pools of the scheduler that is tried, and the pools of its rounds, from round 0 on.
+type Row = (&'static str, &'static [&'static [u32]]);
+
+// PRIO, BASIC and RANDWS. The published words are a15c02b7, 7b47f409, ba1d3330, 83d2f293, bfa4784b and cbed606e: their
+// remainders by 3 are 0, 0, 2, 1, 1 and 1, and by 7 they are 4, 4, 6, 0, 3 and 2.
+const PLAIN: [Row; 13] = [
+    ("prio 5", &[&[5], &[5]]),
+    ("prio 5 2", &[&[5, 2], &[5, 2]]),
+    ("prio 4 1 7 0", &[&[4, 1, 7, 0], &[4, 1, 7, 0]]),
+    (
+        "prio 7 4 1 5 3 0 6 2",
+        &[&[7, 4, 1, 5, 3, 0, 6, 2], &[7, 4, 1, 5, 3, 0, 6, 2]],
+    ),
+    ("basic 5", &[&[5], &[5]]),
+    ("basic 0 1", &[&[1, 0], &[1, 0]]),
+    ("basic 4 3", &[&[3, 4], &[3, 4]]),
+    ("basic 0 7 2 6", &[&[6, 7, 2, 0], &[6, 7, 2, 0]]),
+    (
+        "basic 5 4 3 2 6 0 1 7",
+        &[&[6, 1, 3, 2, 7, 5, 4, 0], &[6, 1, 3, 2, 7, 5, 4, 0]],
+    ),
+    ("randws 42 5", &[&[5], &[5], &[5], &[5], &[5], &[5]]),
+    (
+        "randws 42 5 2",
+        &[&[5, 2], &[5, 2], &[5, 2], &[5, 2], &[5, 2], &[5, 2]],
+    ),
+    (
+        "randws 42 4 1 7 0",
+        &[
+            &[4, 1, 7, 0],
+            &[4, 1, 7, 0],
+            &[4, 0, 1, 7],
+            &[4, 7, 0, 1],
+            &[4, 7, 0, 1],
+            &[4, 7, 0, 1],
+        ],
+    ),
+    (
+        "randws 42 7 4 1 5 3 0 6 2",
+        &[
+            &[7, 0, 6, 2, 4, 1, 5, 3],
+            &[7, 0, 6, 2, 4, 1, 5, 3],
+            &[7, 2, 4, 1, 5, 3, 0, 6],
+            &[7, 4, 1, 5, 3, 0, 6, 2],
+            &[7, 3, 0, 6, 2, 4, 1, 5],
+            &[7, 5, 3, 0, 6, 2, 4, 1],
+        ],
+    ),
+];
+
+// Order 0 rotates, and order 1 mirrors.
+const SHAPED: [Row; 8] = [
+    ("user 0 5", &[&[5], &[5]]),
+    ("user 0 5 2", &[&[5, 2], &[2, 5], &[5, 2]]),
+    (
+        "user 0 4 1 7 0",
+        &[
+            &[4, 1, 7, 0],
+            &[1, 7, 0, 4],
+            &[7, 0, 4, 1],
+            &[0, 4, 1, 7],
+            &[4, 1, 7, 0],
+        ],
+    ),
+    (
+        "user 0 7 4 1 5 3 0 6 2",
+        &[
+            &[7, 4, 1, 5, 3, 0, 6, 2],
+            &[4, 1, 5, 3, 0, 6, 2, 7],
+            &[1, 5, 3, 0, 6, 2, 7, 4],
+        ],
+    ),
+    ("user 1 5", &[&[5], &[5]]),
+    ("user 1 5 2", &[&[2, 5], &[2, 5]]),
+    ("user 1 4 1 7 0", &[&[0, 7, 1, 4], &[0, 7, 1, 4]]),
+    (
+        "user 1 7 4 1 5 3 0 6 2",
+        &[&[2, 6, 0, 3, 5, 1, 4, 7], &[2, 6, 0, 3, 5, 1, 4, 7]],
+    ),
+];
+
+// Two free orders. Order 0 answers the places from the last one down, so for two places 1 and 0. Order 1 answers the last
+// place each time, so for two places 1 and 1; each place but the first then gets the one that follows cyclically.
+const FREE: [Row; 8] = [
+    ("user 0 5", &[&[5], &[5]]),
+    ("user 0 5 2", &[&[2, 5], &[2, 5]]),
+    ("user 0 4 1 7 0", &[&[0, 7, 1, 4], &[0, 7, 1, 4]]),
+    (
+        "user 0 7 4 1 5 3 0 6 2",
+        &[&[2, 6, 0, 3, 5, 1, 4, 7], &[2, 6, 0, 3, 5, 1, 4, 7]],
+    ),
+    ("user 1 5", &[&[5], &[5]]),
+    ("user 1 5 2", &[&[2, 5], &[2, 5]]),
+    ("user 1 4 1 7 0", &[&[0, 4, 1, 7], &[0, 4, 1, 7]]),
+    (
+        "user 1 7 4 1 5 3 0 6 2",
+        &[&[2, 7, 4, 1, 5, 3, 0, 6], &[2, 7, 4, 1, 5, 3, 0, 6]],
+    ),
+];
+
+// The text of a workload whose scheduler that is tried has this rule and these pools.
+fn text(alloc: Global, rule: &str) -> Result<String, AllocError> {
+    let mut text = String::from_str(alloc, HEAD)?;
+    for g in 0..TRIED {
+        text.push_str(&format!(in alloc; "sched {g} prio 0\n")?)?;
+    }
+    text.push_str(&format!(in alloc; "sched {TRIED} {rule}\n{END}")?)?;
+    Ok(text)
+}
+
+// The scheduler that is tried, before its round 0. It names order 0 or 1, where it names one.
+fn tried(rt: &impl Abort, w: &Workload) -> Scheduler
+    ensures scheduler { IsSchedulerOf w.now result }
+    ensures stored { IsStored w.now result.number 2 }
+    ensures round { result.round ≡ 0 }
+{
+    assert!(rt; TRIED < w.scheds());
+    // The count is of no use here, but its contract says that the workload is valid.
+    w.streams();
+    Scheduler::new(w, SchedNo(TRIED))
+}
+
+// The next round's list. Where memory is refused the round is asked for once more: it is the same one.
+fn next_round(
+    alloc: Global,
+    scheduler: &mut Scheduler,
+    w: &Workload,
+    orders: &[StoredOrder; 2],
+) -> Result<Vec<PoolNo>, Want>
+    requires scheduler { IsSchedulerOf w.now scheduler.old }
+    requires stored { IsStored w.now scheduler.old.number 2 }
+    requires counted { scheduler.old.round + 1 < 2 ^ 64 }
+    ensures scheduler { IsSchedulerOf w.now scheduler.new }
+    ensures number { scheduler.new.number ≡ scheduler.old.number }
+    ensures round { scheduler.new.round ≤ scheduler.old.round + 1 }
+{
+    match scheduler.round(alloc, w, orders) {
+        Ok(order) => Ok(order),
+        Err(Want) => scheduler.round(alloc, w, orders),
+    }
+}
+
+// As `next_round`, in the memory of the list of an earlier round.
+fn next_round_into(
+    scheduler: &mut Scheduler,
+    w: &Workload,
+    orders: &[StoredOrder; 2],
+    order: &mut Vec<PoolNo>,
+) -> Result<(), Want>
+    requires scheduler { IsSchedulerOf w.now scheduler.old }
+    requires stored { IsStored w.now scheduler.old.number 2 }
+    requires counted { scheduler.old.round + 1 < 2 ^ 64 }
+    ensures scheduler { IsSchedulerOf w.now scheduler.new }
+    ensures number { scheduler.new.number ≡ scheduler.old.number }
+    ensures round { scheduler.new.round ≤ scheduler.old.round + 1 }
+{
+    match scheduler.round_into(w, orders, order) {
+        Ok(()) => Ok(()),
+        Err(Want) => scheduler.round_into(w, orders, order),
+    }
+}
+
+// Whether these are the pools of these numbers.
+fn are(order: &[PoolNo], wanted: &[u32]) -> bool {
+    order.len() == wanted.len() && order.iter().zip(wanted).all(|(p, number)| p.0 == *number)
+}
+
+// The rounds of a row are those that it says.
+fn check(
+    rt: &impl Abort,
+    alloc: Global,
+    orders: &[StoredOrder; 2],
+    (rule, rounds): Row,
+) -> Result<(), Fail> {
+    let w = read(alloc, text(alloc, rule)?.as_bytes())?;
+    let mut scheduler = tried(rt, &w);
+    for wanted in rounds {
+        let order = next_round(alloc, &mut scheduler, &w, orders)?;
+        assert!(rt; are(&order, wanted), "{rule}");
+    }
+    Ok(())
+}
+
+// As `check`, each round in the list of the round before.
+fn check_into(
+    rt: &impl Abort,
+    alloc: Global,
+    orders: &[StoredOrder; 2],
+    (rule, rounds): Row,
+) -> Result<(), Fail> {
+    let w = read(alloc, text(alloc, rule)?.as_bytes())?;
+    let mut scheduler = tried(rt, &w);
+    let mut order = Vec::new(alloc);
+    for wanted in rounds {
+        next_round_into(&mut scheduler, &w, orders, &mut order)?;
+        assert!(rt; are(&order, wanted), "{rule}");
+    }
+    Ok(())
+}
+
+// The answer of shape Rotate. A value may be made of a function of this crate alone.
+fn turn(round: u64, n: u32, i: u32) -> u32
+    requires count { (0 < n) × (n ≤ 8) }
+    requires place { i < n }
+    ensures { result ≡ (round + i) % n }
+{
+    rotate(round, n, i)
+}
+
+// The answer of shape Mirror.
+fn turn_round(round: u64, n: u32, i: u32) -> u32
+    requires count { (0 < n) × (n ≤ 8) }
+    requires place { i < n }
+    ensures { result ≡ n - 1 - i }
+{
+    mirror(round, n, i)
+}
+
+// The last place, whatever place is asked for.
+fn last(_round: u64, n: u32, _i: u32) -> u32
+    requires { 0 < n }
+    ensures { result + 1 ≡ n }
+{
+    n - 1
+}
+
+#[test]
+fn rounds_go_by_the_rule(rt: HostRuntime) -> Result<(), Fail> {
+    let alloc = rt.alloc();
+    let orders = [
+        StoredOrder::new(OrderShape::Rotate, Box::new(alloc, turn)?),
+        StoredOrder::new(OrderShape::Mirror, Box::new(alloc, turn_round)?),
+    ];
+    for row in PLAIN {
+        check(&rt, alloc, &orders, row)?;
+        check_into(&rt, alloc, &orders, row)?;
+    }
+    for row in SHAPED {
+        check(&rt, alloc, &orders, row)?;
+        check_into(&rt, alloc, &orders, row)?;
+    }
+    Ok(())
+}
+
+#[test]
+fn free_orders_are_made_permutations(rt: HostRuntime) -> Result<(), Fail> {
+    let alloc = rt.alloc();
+    let orders = [
+        StoredOrder::new(OrderShape::Free, Box::new(alloc, turn_round)?),
+        StoredOrder::new(OrderShape::Free, Box::new(alloc, last)?),
+    ];
+    for row in FREE {
+        check(&rt, alloc, &orders, row)?;
+        check_into(&rt, alloc, &orders, row)?;
+    }
+    Ok(())
+}

@@ -1,0 +1,59 @@
+-- Lines, appended one behind the other.
+use Rattle.std.proofs.Common.{◌≡◌, ◌<◌, ◌+◌, ◌∙◌, ℕ, List, [], ◌∷◌, ◌++◌, Some, add-zero, ap, append_assoc, arith, flat_map, get_or, length, refl, slice_get, take, zero-add}
+use Rattle.std.specs.List.{enumerate_from}
+use Rattle.std.proofs.lemmas.Grind.{flat_map-append}
+use Rattle.std.proofs.lemmas.List.{append-nil, length-take-le, map_push, take_more}
+use Rattle.std.proofs.lemmas.Option.{get_or_from_slice_get, slice_get_within}
+use Rattle.abt_machine.specs.Words.{Text, ended, line_of, numbered, spaced, text_of}
+
+-- the element behind a list has the next number
+enumerate-behind : {A : Type 0} (n : ℕ) (xs : List A) (x : A) → enumerate_from n (xs ++ x ∷ []) ≡ enumerate_from n xs ++ (n + length xs, x) ∷ []
+enumerate-behind n [] x = rw (add-zero n) refl
+enumerate-behind n (y ∷ xs) x =
+    let next : n + 1 + length xs ≡ n + length (y ∷ xs) = omega arith in
+    rw (enumerate-behind (n + 1) xs x, next) refl
+
+-- the elements up to i, with their numbers, are those before and element i
+numbered-more : {A : Type 0} (xs : List A) (i : ℕ) (x : A) → slice_get xs i ≡ Some x → enumerate_from 0 (take (i + 1) xs) ≡ enumerate_from 0 (take i xs) ++ (i, x) ∷ []
+numbered-more xs i x at =
+    let lt : i < length xs = slice_get_within xs i x at in
+    let here : get_or xs i x ≡ x = get_or_from_slice_get xs i x x at in
+    let long : length (take i xs) ≡ i = length-take-le i xs (omega arith) in
+    rw (take_more xs i x lt, here, enumerate-behind 0 (take i xs) x, long, zero-add i) refl
+
+-- the text of lines and more lines is their texts
+pub text-append : (lines more : List (List Text)) → text_of (lines ++ more) ≡ text_of lines ++ text_of more
+text-append lines more = flat_map-append (λ (words : List Text). ended (line_of words)) lines more
+
+-- so it is with one line more
+pub text-and : (lines : List (List Text)) (words : List Text) → text_of (lines ++ words ∷ []) ≡ text_of lines ++ ended (line_of words)
+text-and lines words = text-append lines (words ∷ []) ∙ ap (λ (text : Text). text_of lines ++ text) (append-nil (ended (line_of words)))
+
+-- words behind words behind words
+pub words-behind : (out old new : Text) (first second third : List Text) → old ≡ out ++ spaced first → new ≡ old ++ spaced second → new ++ spaced third ≡ out ++ spaced (first ++ (second ++ third))
+words-behind out old new first second third before after =
+    rw (after, before, flat_map-append (λ (word : Text). 32 ∷ word) first (second ++ third), flat_map-append (λ (word : Text). 32 ∷ word) second third)
+    (append_assoc (out ++ spaced first) (spaced second) (spaced third) ∙ append_assoc out (spaced first) (spaced second ++ spaced third))
+
+-- a text behind what stands there goes on with one piece more
+behind : (out pieces piece old new : Text) → old ≡ out ++ pieces → new ≡ old ++ piece → new ≡ out ++ (pieces ++ piece)
+behind out pieces piece old new before after =
+    let joined : (out ++ pieces) ++ piece ≡ out ++ (pieces ++ piece) = append_assoc out pieces piece in
+    cc
+
+-- where a text goes on with the line of element i, it has the lines of the elements up to i
+pub line-more : {A : Type 0} (f : ℕ → A → List Text) (xs : List A) (i : ℕ) (x : A) (out old new : Text) → slice_get xs i ≡ Some x →
+    old ≡ out ++ text_of (numbered f (take i xs)) → new ≡ old ++ ended (line_of (f i x)) → new ≡ out ++ text_of (numbered f (take (i + 1) xs))
+line-more f xs i x out old new at before after =
+    rw (numbered-more xs i x at, map_push (λ p. f p.0 p.1) (enumerate_from 0 (take i xs)) (i, x), text-and (numbered f (take i xs)) (f i x))
+    (behind out (text_of (numbered f (take i xs))) (ended (line_of (f i x))) old new before after)
+
+-- so it is with several lines of each element
+pub lines-more : {A : Type 0} (f : ℕ → A → List (List Text)) (xs : List A) (i : ℕ) (x : A) (out old new : Text) → slice_get xs i ≡ Some x →
+    old ≡ out ++ text_of (flat_map (λ p. f p.0 p.1) (enumerate_from 0 (take i xs))) → new ≡ old ++ text_of (f i x) → new ≡ out ++ text_of (flat_map (λ p. f p.0 p.1) (enumerate_from 0 (take (i + 1) xs)))
+lines-more {A} f xs i x out old new at before after =
+    let g : ℕ × A → List (List Text) = λ p. f p.0 p.1 in
+    let before' : List (ℕ × A) = enumerate_from 0 (take i xs) in
+    let one : flat_map g ((i, x) ∷ []) ≡ f i x = append-nil (f i x) in
+    rw (numbered-more xs i x at, flat_map-append g before' ((i, x) ∷ []), one, text-append (flat_map g before') (f i x))
+    (behind out (text_of (flat_map g before')) (text_of (f i x)) old new before after)

@@ -1,0 +1,419 @@
+//! The writer.
+
+ghost use Rattle.std.specs.Prelude.{◌≡◌, ◌<◌, ◌++◌, ◌∷◌, [], All, IfOk, OnOk, codes, decimal, flat_map, length, map};
+ghost use Rattle.std.specs.List.{enumerate_from};
+ghost use Rattle.abt_machine.specs.Canonical.{access_words, body_words, canonical_text, combine_name, digit_of, fitted, keys_lines, kind_name, object_line, op_words, pool_line, rule_words, sched_line, start_words, stream_line, thing_words, unit_lines, version_line};
+ghost use Rattle.abt_machine.specs.Grammar.{Reads};
+ghost use Rattle.abt_machine.specs.Operations.{IsDeclared};
+ghost use Rattle.abt_machine.specs.Valid.{IsValid};
+ghost use Rattle.abt_machine.specs.Words.{ended, line_of, numbered, spaced, text_of};
+ghost use Rattle.abt_machine.specs.Workloads.{ops_of};
+ghost use Rattle.abt_machine.specs.declared.numbers.PoolNo.{PoolNo};
+
+use abt_lines::{end_line, push_decimal, push_word};
+use abt_machine::{
+    Access, Body, Combine, Kind, ObjectNo, Op, PoolNo, PoolPart, Rule, SchedNo, SchedPart,
+    StreamNo, Thing, UnitNo, UnitPart, Want, Workload,
+};
+use std::alloc::Global;
+
+// The length of a text that is one byte too long to be read.
+const ONE_TOO_LONG: usize = 4_194_305;
+
+// Appends a word and a number, which begin a line.
+fn begin_line(out: &mut Vec<u8>, word: &[u8], n: u64) -> Result<(), Want>
+    ensures { OnOk result (out.new.items ≡ out.old.items ++ line_of (word.now ∷ decimal n ∷ [])) }
+{
+    out.extend_from_slice(word)?;
+    push_decimal(out, n)
+}
+
+// Appends a word and a number, with a space before each.
+fn push_pair(out: &mut Vec<u8>, word: &[u8], n: u64) -> Result<(), Want>
+    ensures { OnOk result (out.new.items ≡ out.old.items ++ spaced (word.now ∷ decimal n ∷ [])) }
+{
+    push_word(out, word)?;
+    push_decimal(out, n)
+}
+
+// Appends the line of a word.
+fn push_bare(out: &mut Vec<u8>, word: &[u8]) -> Result<(), Want>
+    ensures { OnOk result (out.new.items ≡ out.old.items ++ ended (line_of (word.now ∷ []))) }
+{
+    out.extend_from_slice(word)?;
+    end_line(out)
+}
+
+// Appends the line of a word and a number.
+fn push_one(out: &mut Vec<u8>, word: &[u8], n: u64) -> Result<(), Want>
+    ensures { OnOk result (out.new.items ≡ out.old.items ++ ended (line_of (word.now ∷ decimal n ∷ []))) }
+{
+    begin_line(out, word, n)?;
+    end_line(out)
+}
+
+// Appends the line of a word and two numbers.
+fn push_two(out: &mut Vec<u8>, word: &[u8], n: u64, m: u64) -> Result<(), Want>
+    ensures { OnOk result (out.new.items ≡ out.old.items ++ ended (line_of (word.now ∷ decimal n ∷ decimal m ∷ []))) }
+{
+    begin_line(out, word, n)?;
+    push_decimal(out, m)?;
+    end_line(out)
+}
+
+// Appends the line of the version.
+fn push_version(out: &mut Vec<u8>) -> Result<(), Want>
+    ensures { OnOk result (out.new.items ≡ out.old.items ++ ended (line_of version_line)) }
+{
+    out.extend_from_slice(b"abt 1\n")?;
+    Ok(())
+}
+
+// Appends the line of the keys, where there are some.
+fn push_keys(out: &mut Vec<u8>, keys: u32) -> Result<(), Want>
+    ensures { OnOk result (out.new.items ≡ out.old.items ++ text_of (keys_lines keys)) }
+{
+    if keys > 0 {
+        push_one(out, b"keys", u64::from(keys))?;
+    }
+    Ok(())
+}
+
+// Appends the lines before those of pools.
+fn push_head(out: &mut Vec<u8>, streams: u32, keys: u32) -> Result<(), Want>
+    ensures { OnOk result (out.new.items ≡ out.old.items ++ text_of (version_line ∷ (codes "streams" ∷ decimal streams ∷ []) ∷ keys_lines keys)) }
+{
+    push_version(out)?;
+    push_one(out, b"streams", u64::from(streams))?;
+    push_keys(out, keys)
+}
+
+// Pools.
+
+// The word of a kind of pools.
+fn name_of_kind(kind: Kind) -> &'static [u8]
+    ensures { result.now ≡ kind_name kind }
+{
+    match kind {
+        Kind::Fifo => b"fifo",
+        Kind::Deque => b"deque",
+    }
+}
+
+// Appends an access, with a space before each word.
+fn push_access(out: &mut Vec<u8>, access: Access) -> Result<(), Want>
+    ensures { OnOk result (out.new.items ≡ out.old.items ++ spaced (access_words access)) }
+{
+    match access {
+        Access::Priv(s) => {
+            push_word(out, b"priv")?;
+            push_pair(out, b"of", u64::from(s.0))
+        }
+        Access::Spsc(s, t) => {
+            push_word(out, b"spsc")?;
+            push_pair(out, b"from", u64::from(s.0))?;
+            push_pair(out, b"to", u64::from(t.0))
+        }
+        Access::Mpsc(t) => {
+            push_word(out, b"mpsc")?;
+            push_pair(out, b"to", u64::from(t.0))
+        }
+        Access::Spmc(s) => {
+            push_word(out, b"spmc")?;
+            push_pair(out, b"from", u64::from(s.0))
+        }
+        Access::Mpmc => push_word(out, b"mpmc"),
+    }
+}
+
+// Appends the line of pool p.
+fn push_pool(out: &mut Vec<u8>, p: u32, part: PoolPart) -> Result<(), Want>
+    ensures { OnOk result (out.new.items ≡ out.old.items ++ ended (line_of (pool_line p part))) }
+{
+    begin_line(out, b"pool", u64::from(p))?;
+    push_word(out, name_of_kind(part.kind))?;
+    push_access(out, part.access)?;
+    end_line(out)
+}
+
+// Appends the lines of the pools.
+fn push_pools(out: &mut Vec<u8>, w: &Workload) -> Result<(), Want>
+    ensures { OnOk result (out.new.items ≡ out.old.items ++ text_of (numbered pool_line w.now.pools)) }
+{
+    for p in 0..w.pools() {
+        push_pool(out, p, w.pool(PoolNo(p)))?;
+    }
+    Ok(())
+}
+
+// Schedulers.
+
+// Appends a rule, with a space before each word.
+fn push_rule(out: &mut Vec<u8>, rule: Rule) -> Result<(), Want>
+    ensures { OnOk result (out.new.items ≡ out.old.items ++ spaced (rule_words rule)) }
+{
+    match rule {
+        Rule::Basic => push_word(out, b"basic"),
+        Rule::Prio => push_word(out, b"prio"),
+        Rule::Randws(seed) => push_pair(out, b"randws", seed),
+        Rule::User(k) => push_pair(out, b"user", u64::from(k)),
+    }
+}
+
+// Appends the numbers of pools, with a space before each.
+fn push_listed(out: &mut Vec<u8>, pools: &[PoolNo]) -> Result<(), Want>
+    ensures { OnOk result (out.new.items ≡ out.old.items ++ spaced (map (λ (p : PoolNo). decimal p.0) pools.now)) }
+{
+    for p in pools {
+        push_decimal(out, u64::from(p.0))?;
+    }
+    Ok(())
+}
+
+// Appends the line of scheduler g.
+fn push_sched(out: &mut Vec<u8>, g: u32, part: &SchedPart) -> Result<(), Want>
+    ensures { OnOk result (out.new.items ≡ out.old.items ++ ended (line_of (sched_line g part.now))) }
+{
+    begin_line(out, b"sched", u64::from(g))?;
+    push_rule(out, part.rule)?;
+    push_listed(out, part.pools.items())?;
+    end_line(out)
+}
+
+// Appends the lines of the schedulers.
+fn push_scheds(out: &mut Vec<u8>, w: &Workload) -> Result<(), Want>
+    ensures { OnOk result (out.new.items ≡ out.old.items ++ text_of (numbered sched_line w.now.scheds)) }
+{
+    for g in 0..w.scheds() {
+        push_sched(out, g, w.sched(SchedNo(g)))?;
+    }
+    Ok(())
+}
+
+// Streams.
+
+// Appends the line of stream s.
+fn push_stream(out: &mut Vec<u8>, s: u32, main: SchedNo) -> Result<(), Want>
+    ensures { OnOk result (out.new.items ≡ out.old.items ++ ended (line_of (stream_line s main))) }
+{
+    begin_line(out, b"stream", u64::from(s))?;
+    push_pair(out, b"main", u64::from(main.0))?;
+    end_line(out)
+}
+
+// Appends the lines of the streams.
+fn push_streams(out: &mut Vec<u8>, w: &Workload) -> Result<(), Want>
+    ensures { OnOk result (out.new.items ≡ out.old.items ++ text_of (numbered stream_line w.now.mains)) }
+{
+    for s in 0..w.streams() {
+        push_stream(out, s, w.main(StreamNo(s)))?;
+    }
+    Ok(())
+}
+
+// Objects.
+
+// The word of what a future makes of its values.
+fn name_of_combine(combine: Combine) -> &'static [u8]
+    ensures { result.now ≡ combine_name combine }
+{
+    match combine {
+        Combine::Sum => b"sum",
+        Combine::Max => b"max",
+        Combine::Count => b"count",
+    }
+}
+
+// Appends what an object is, with a space before each word.
+fn push_thing(out: &mut Vec<u8>, thing: Thing) -> Result<(), Want>
+    ensures { OnOk result (out.new.items ≡ out.old.items ++ spaced (thing_words thing)) }
+{
+    match thing {
+        Thing::Mutex => push_word(out, b"mutex"),
+        Thing::Cond(m) => push_pair(out, b"cond", u64::from(m.0)),
+        Thing::Eventual => push_word(out, b"eventual"),
+        Thing::Future(n, combine) => {
+            push_pair(out, b"future", u64::from(n))?;
+            push_word(out, name_of_combine(combine))
+        }
+        Thing::Barrier(n) => push_pair(out, b"barrier", u64::from(n)),
+    }
+}
+
+// Appends the line of object x.
+fn push_object(out: &mut Vec<u8>, x: u32, thing: Thing) -> Result<(), Want>
+    ensures { OnOk result (out.new.items ≡ out.old.items ++ ended (line_of (object_line x thing))) }
+{
+    begin_line(out, b"object", u64::from(x))?;
+    push_thing(out, thing)?;
+    end_line(out)
+}
+
+// Appends the lines of the objects.
+fn push_objects(out: &mut Vec<u8>, w: &Workload) -> Result<(), Want>
+    ensures { OnOk result (out.new.items ≡ out.old.items ++ text_of (numbered object_line w.now.objects)) }
+{
+    for x in 0..w.objects() {
+        push_object(out, x, w.thing(ObjectNo(x)))?;
+    }
+    Ok(())
+}
+
+// Units.
+
+// The word of a flag.
+fn digit(flag: bool) -> &'static [u8]
+    ensures { result.now ≡ digit_of flag }
+{
+    if flag { b"1" } else { b"0" }
+}
+
+// Appends the line of an operation.
+fn push_op(out: &mut Vec<u8>, w: &Workload, op: Op) -> Result<(), Want>
+    requires { IsDeclared w.now op }
+    ensures { OnOk result (out.new.items ≡ out.old.items ++ ended (line_of (op_words w.now op))) }
+{
+    match op {
+        Op::Set(n) => push_one(out, b"set", n),
+        Op::Add(n) => push_one(out, b"add", n),
+        Op::Say(word) => push_say(out, w, word),
+        Op::Print => push_bare(out, b"print"),
+        Op::KeySet(k) => push_one(out, b"kset", u64::from(k)),
+        Op::KeyGet(k) => push_one(out, b"kget", u64::from(k)),
+        Op::Yield => push_bare(out, b"yield"),
+        Op::YieldTo(v, p) => push_two(out, b"yieldto", u64::from(v.0), u64::from(p.0)),
+        Op::Suspend => push_bare(out, b"suspend"),
+        Op::Resume(v) => push_one(out, b"resume", u64::from(v.0)),
+        Op::Create(v, p) => push_two(out, b"create", u64::from(v.0), u64::from(p.0)),
+        Op::Join(v) => push_one(out, b"join", u64::from(v.0)),
+        Op::Cancel(v) => push_one(out, b"cancel", u64::from(v.0)),
+        Op::Migrate(v, p) => push_two(out, b"migrate", u64::from(v.0), u64::from(p.0)),
+        Op::MigrateTo(v, s) => push_two(out, b"migrateto", u64::from(v.0), u64::from(s.0)),
+        Op::Migratable(v, flag) => push_migratable(out, v, flag),
+        Op::Revive(v, p) => push_two(out, b"revive", u64::from(v.0), u64::from(p.0)),
+        Op::Lock(x) => push_one(out, b"lock", u64::from(x.0)),
+        Op::TryLock(x) => push_one(out, b"trylock", u64::from(x.0)),
+        Op::Unlock(x) => push_one(out, b"unlock", u64::from(x.0)),
+        Op::Load(x) => push_one(out, b"load", u64::from(x.0)),
+        Op::Store(x) => push_one(out, b"store", u64::from(x.0)),
+        Op::CondWait(x) => push_one(out, b"cwait", u64::from(x.0)),
+        Op::Signal(x) => push_one(out, b"signal", u64::from(x.0)),
+        Op::Broadcast(x) => push_one(out, b"broadcast", u64::from(x.0)),
+        Op::EvWait(x) => push_one(out, b"ewait", u64::from(x.0)),
+        Op::EvSet(x) => push_one(out, b"eset", u64::from(x.0)),
+        Op::EvReset(x) => push_one(out, b"ereset", u64::from(x.0)),
+        Op::EvTest(x) => push_one(out, b"etest", u64::from(x.0)),
+        Op::FuWait(x) => push_one(out, b"fwait", u64::from(x.0)),
+        Op::FuSet(x) => push_one(out, b"fset", u64::from(x.0)),
+        Op::FuReset(x) => push_one(out, b"freset", u64::from(x.0)),
+        Op::FuTest(x) => push_one(out, b"ftest", u64::from(x.0)),
+        Op::BarWait(x) => push_one(out, b"bwait", u64::from(x.0)),
+    }
+}
+
+// Appends the line that says a word.
+fn push_say(out: &mut Vec<u8>, w: &Workload, word: u32) -> Result<(), Want>
+    requires { word < length w.now.words }
+    ensures { OnOk result (out.new.items ≡ out.old.items ++ ended (line_of (op_words w.now (Op.Say word)))) }
+{
+    out.extend_from_slice(b"say")?;
+    push_word(out, w.word(word).as_bytes())?;
+    end_line(out)
+}
+
+// Appends the line that says whether a unit may migrate.
+fn push_migratable(out: &mut Vec<u8>, v: UnitNo, flag: bool) -> Result<(), Want>
+    ensures { OnOk result (out.new.items ≡ out.old.items ++ ended (line_of (codes "migratable" ∷ decimal v.0 ∷ digit_of flag ∷ []))) }
+{
+    begin_line(out, b"migratable", u64::from(v.0))?;
+    push_word(out, digit(flag))?;
+    end_line(out)
+}
+
+// Appends the lines of operations.
+fn push_ops(out: &mut Vec<u8>, w: &Workload, ops: &[Op]) -> Result<(), Want>
+    requires { All (IsDeclared w.now) ops.now }
+    ensures { OnOk result (out.new.items ≡ out.old.items ++ text_of (map (op_words w.now) ops.now)) }
+{
+    for op in ops {
+        push_op(out, w, *op)?;
+    }
+    Ok(())
+}
+
+// Appends what a unit is, with a space before each word.
+fn push_body(out: &mut Vec<u8>, body: &Body) -> Result<(), Want>
+    ensures { OnOk result (out.new.items ≡ out.old.items ++ spaced (body_words body.now)) }
+{
+    match body {
+        Body::Ult(_) => push_word(out, b"ult"),
+        Body::Task(_) => push_word(out, b"task"),
+        Body::Sched(g) => push_pair(out, b"sched", u64::from(g.0)),
+    }
+}
+
+// Appends where a unit starts, with a space before each word.
+fn push_start(out: &mut Vec<u8>, start: Option<PoolNo>) -> Result<(), Want>
+    ensures { OnOk result (out.new.items ≡ out.old.items ++ spaced (start_words start)) }
+{
+    match start {
+        None => push_word(out, b"later"),
+        Some(p) => push_pair(out, b"at", u64::from(p.0)),
+    }
+}
+
+// Appends the line of unit u, and the lines of its operations.
+fn push_unit(out: &mut Vec<u8>, w: &Workload, u: u32, part: &UnitPart) -> Result<(), Want>
+    requires { All (IsDeclared w.now) (ops_of part.now.body) }
+    ensures { OnOk result (out.new.items ≡ out.old.items ++ text_of (unit_lines w.now u part.now)) }
+{
+    begin_line(out, b"unit", u64::from(u))?;
+    push_body(out, &part.body)?;
+    push_start(out, part.start)?;
+    end_line(out)?;
+    push_ops(out, w, part.body.ops())
+}
+
+// Appends the lines of the units, each with those of its operations.
+fn push_units(out: &mut Vec<u8>, w: &Workload) -> Result<(), Want>
+    requires { IsValid w.now }
+    ensures { OnOk result (out.new.items ≡ out.old.items ++ text_of (flat_map (λ p. unit_lines w.now p.0 p.1) (enumerate_from 0 w.now.units))) }
+{
+    for u in 0..w.units() {
+        push_unit(out, w, u, w.unit(UnitNo(u)))?;
+    }
+    Ok(())
+}
+
+// The whole text.
+
+// Leaves out the last line feed of a text that is one byte too long to be read.
+fn fit(text: &mut Vec<u8>)
+    ensures { text.new.items ≡ fitted text.old.items }
+{
+    if text.len() == ONE_TOO_LONG {
+        text.truncate(ONE_TOO_LONG - 1);
+    }
+}
+
+/// The canonical text of a workload: the text in which it is written, which reads to it again. A text that
+/// would be one byte too long to be read goes without its last line feed.
+///
+/// # Errors
+/// Want of memory.
+pub fn write(alloc: Global, w: &Workload) -> Result<Vec<u8>, Want>
+    ensures text { IfOk result (λ text. text.items ≡ canonical_text w.now) }
+    ensures read_back { IfOk result (λ text. Reads text.items w.now) }
+{
+    let mut out = Vec::new(alloc);
+    push_head(&mut out, w.streams(), w.keys())?;
+    push_pools(&mut out, w)?;
+    push_scheds(&mut out, w)?;
+    push_streams(&mut out, w)?;
+    push_objects(&mut out, w)?;
+    push_one(&mut out, b"units", u64::from(w.units()))?;
+    push_units(&mut out, w)?;
+    push_bare(&mut out, b"end")?;
+    fit(&mut out);
+    Ok(out)
+}
