@@ -2,6 +2,8 @@
 use Rattle.std.proofs.Common.{append_assoc, length-take, ◌≡◌, ◌≤◌, ◌+◌, ◌-◌, ◌==◌, ◌∙◌, ℕ, zero, suc, Bool, true, false, List, [], ◌∷◌, ◌++◌, Option, Some, None, ap, arith, codes, cond, decimal, flat_map, get_or, is_none, length, length-append, map, option_to_list, refl, replicate, slice_set, slice_get, subst, sym, take}
 use Rattle.std.specs.List.{enumerate_from, list_any, onto_first, range_with_len}
 use Rattle.std.proofs.lemmas.Bool.{eqb-false}
+use Rattle.std.proofs.lemmas.List.{map-append}
+use Rattle.std.proofs.Math.Seq.{get_or-append_seam}
 use Rattle.abt_machine.specs.declared.numbers.SchedNo.{SchedNo}
 use Rattle.abt_machine.specs.declared.operations.Op.{Op}
 use Rattle.abt_machine.specs.declared.operations.Op.TheVariants as op
@@ -102,6 +104,10 @@ ops-and (p ∷ os) o = let h = ops-and os o in omega arith
 abbrev pub header : ℕ → UnitPart → List Text
 header u part = codes "unit" ∷ decimal u ∷ body_words part.body ++ start_words part.start
 
+-- the lines of units, from a number on
+abbrev pub units_lines : Parts → ℕ → List UnitPart → List (List Text)
+units_lines W k us = flat_map (λ p. unit_lines W p.0 p.1) (enumerate_from k us)
+
 abbrev pub units_cost : ℕ → List UnitPart → ℕ
 units_cost k [] = 0
 units_cost k (part ∷ parts) = cost (header k part) + ops_cost (ops_of part.body) + units_cost (k + 1) parts
@@ -122,12 +128,8 @@ pub bytes-append : (xs ys : List Text) → bytes_of (xs ++ ys) ≡ bytes_of xs +
 bytes-append [] ys = omega arith
 bytes-append (x ∷ xs) ys = let h = bytes-append xs ys in omega arith
 
-said_bytes : Parts → List ℕ → ℕ
-said_bytes W ns = bytes_of (map (word_at W) ns)
-
 said-append : (W : Parts) (xs ys : List ℕ) → bytes_of (map (word_at W) (xs ++ ys)) ≡ bytes_of (map (word_at W) xs) + bytes_of (map (word_at W) ys)
-said-append W [] ys = omega arith
-said-append W (x ∷ xs) ys = let h = said-append W xs ys in omega arith
+said-append W xs ys = ap bytes_of (map-append (word_at W) xs ys) ∙ bytes-append (map (word_at W) xs) (map (word_at W) ys)
 
 op-said : (W : Parts) (o : Op) → cost (op_words W o) ≡ op_cost o + bytes_of (map (word_at W) (said_by o))
 op-said W (op.Say w) = let e = ended-length (codes "say") (word_at W w ∷ []) in let f = ended-length (codes "say") ([] ∷ []) in omega arith
@@ -142,25 +144,21 @@ ops-said W (o ∷ os) =
     let s = said-append W (said_by o) (flat_map said_by os) in
     omega arith
 
-pub units-said : (W : Parts) (k : ℕ) (us : List UnitPart) → cost_all (flat_map (λ p. unit_lines W p.0 p.1) (enumerate_from k us)) ≡ units_cost k us + bytes_of (map (word_at W) (flat_map (λ (part : UnitPart). flat_map said_by (ops_of part.body)) us))
+pub units-said : (W : Parts) (k : ℕ) (us : List UnitPart) → cost_all (units_lines W k us) ≡ units_cost k us + bytes_of (map (word_at W) (flat_map (λ (part : UnitPart). flat_map said_by (ops_of part.body)) us))
 units-said W k [] = refl
 units-said W k (u ∷ us) =
     let h = units-said W (k + 1) us in
     let o = ops-said W (ops_of u.body) in
-    let c = cost-append (unit_lines W k u) (flat_map (λ p. unit_lines W p.0 p.1) (enumerate_from (k + 1) us)) in
+    let c = cost-append (unit_lines W k u) (units_lines W (k + 1) us) in
     let d = cost-cons (header k u) (map (op_words W) (ops_of u.body)) in
     let s = said-append W (flat_map said_by (ops_of u.body)) (flat_map (λ (part : UnitPart). flat_map said_by (ops_of part.body)) us) in
     omega arith
-
-seam : (pre : List Text) (w : Text) (ws : List Text) → get_or (pre ++ w ∷ ws) (length pre) [] ≡ w
-seam [] w ws = refl
-seam (p ∷ pre) w ws = seam pre w ws
 
 -- each word is said once, in order
 said-all : (W : Parts) (pre ws : List Text) → W.words ≡ pre ++ ws → bytes_of (map (word_at W) (range_with_len (length pre) (length ws))) ≡ bytes_of ws
 said-all W pre [] e = refl
 said-all W pre (w ∷ ws) e =
-    let here : word_at W (length pre) ≡ w = ap (λ (ts : List Text). get_or ts (length pre) []) e ∙ seam pre w ws in
+    let here : word_at W (length pre) ≡ w = ap (λ (ts : List Text). get_or ts (length pre) []) e ∙ get_or-append_seam pre w ws [] in
     let whole : W.words ≡ (pre ++ w ∷ []) ++ ws = e ∙ sym (append_assoc pre (w ∷ []) ws) in
     let h = said-all W (pre ++ w ∷ []) ws whole in
     let n : length (pre ++ w ∷ []) ≡ length pre + 1 = length-append pre (w ∷ []) in

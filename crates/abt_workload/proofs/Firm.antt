@@ -1,8 +1,8 @@
 -- What lines declare is sound so far.
-use Rattle.std.proofs.Common.{append_assoc, codes, decimal, drop, flat_map, get_or, inl, inr, is_none, length-append, unwrap_or, ◌⊎◌, ◌||◌, ◌≡◌, ◌<◌, ◌≤◌, ◌+◌, ◌*◌, ◌^◌, ◌==◌, ◌&&◌, ◌∙◌, ℕ, zero, suc, Bool, true, false, not, List, [], ◌∷◌, ◌++◌, All, IsUtf8, Option, Some, None, ap, arith, cond, find, fold, length, nat_le, nat_lt, option_to_list, refl, slice_get, subst, sym, take}
-use Rattle.std.specs.List.{enumerate_from}
+use Rattle.std.proofs.Common.{append_assoc, codes, decimal, drop, get_or, inl, inr, is_none, length-append, unwrap_or, ◌⊎◌, ◌||◌, ◌≡◌, ◌<◌, ◌≤◌, ◌+◌, ◌*◌, ◌^◌, ◌==◌, ◌&&◌, ◌∙◌, ℕ, zero, suc, Bool, true, false, not, List, [], ◌∷◌, ◌++◌, All, IsUtf8, Option, Some, None, ap, arith, cond, find, fold, length, nat_le, nat_lt, option_to_list, refl, slice_get, subst, sym, take}
 use Rattle.std.proofs.lemmas.Bool.{eqb-true}
-use Rattle.std.proofs.Math.Seq.{take-append_seam}
+use Rattle.std.proofs.lemmas.List.Sums.{fold-append}
+use Rattle.std.proofs.Math.Seq.{get_or-append_seam, take-append_seam}
 use Rattle.std.specs.Option.{option_map_or}
 use Rattle.std.proofs.lemmas.Option.{slice_get_within}
 use Rattle.std.proofs.lemmas.Str.{IsUtf8-from_is_utf8}
@@ -23,7 +23,7 @@ use Rattle.abt_machine.specs.declared.operations.Thing.{Thing}
 use Rattle.abt_machine.specs.declared.operations.Thing.TheVariants as thing
 use Rattle.abt_machine.specs.declared.program.Fault.{Fault}
 use Rattle.abt_machine.specs.declared.program.Fault.TheVariants as fault
-use Rattle.abt_machine.specs.Canonical.{keys_lines, object_line, pool_line, sched_line, stream_line, unit_lines, version_line, workload_lines}
+use Rattle.abt_machine.specs.Canonical.{keys_lines, object_line, pool_line, sched_line, stream_line, version_line, workload_lines}
 use Rattle.abt_machine.specs.declared.workload.Parts.{Parts}
 use Rattle.abt_machine.specs.declared.workload.UnitPart.{UnitPart}
 use Rattle.abt_machine.specs.Declaring.{Above, at, listed, nothing, parts_of, word_in}
@@ -49,7 +49,7 @@ use Rattle.abt_workload.proofs.Soundness.{IsSound, none-passes, sound-of}
 use Rattle.abt_workload.proofs.Taken.{line_fault-of}
 use Rattle.abt_workload.proofs.Validity.{valid-of}
 use Rattle.abt_workload.proofs.Weights.{weight, words-weight}
-use Rattle.abt_workload.proofs.Costs.{all-said, cost, cost-append, cost-cons, cost_all, fitted-length, lines_from, mains-full, mains_cost, size, size-lines, units-said}
+use Rattle.abt_workload.proofs.Costs.{all-said, cost, cost-append, cost-cons, cost_all, fitted-length, lines_from, mains-full, mains_cost, size, size-lines, units-said, units_lines}
 use Rattle.abt_workload.proofs.Measures.{count_cost, end_cost, streams_cost, total, version_cost}
 use Rattle.abt_workload.proofs.Totals.{step}
 
@@ -296,23 +296,15 @@ total-lines a (line ∷ lines) h ready none =
     let t = s.0 in
     omega arith
 
-push-line : (s : Above) (xs : List Text) (x : Text) → fold and_line s (xs ++ x ∷ []) ≡ and_line (fold and_line s xs) x
-push-line s [] x = refl
-push-line s (y ∷ ys) x = push-line (and_line s y) ys x
-
-seam : (pre : List Text) (x : Text) (xs : List Text) → get_or (pre ++ x ∷ xs) (length pre) [] ≡ x
-seam [] x xs = refl
-seam (p ∷ pre) x xs = seam pre x xs
-
 none-from : (L pre rest : List Text) → L ≡ pre ++ rest → ((i : ℕ) → i < length L → line_fault (declared_by (take i L)) (get_or L i []) ≡ None) → AllNone (declared_by pre) rest
 none-from L pre [] e f = tt
 none-from L pre (x ∷ rest) e f =
     let lt : length pre < length L = let l : length L ≡ length (pre ++ x ∷ rest) = ap length e in let m : length (pre ++ x ∷ rest) ≡ length pre + length (x ∷ rest) = length-append pre _ in omega arith in
     let front : take (length pre) L ≡ pre = ap (take (length pre)) e ∙ take-append_seam pre (x ∷ rest) in
-    let item : get_or L (length pre) [] ≡ x = ap (λ (ls : List Text). get_or ls (length pre) []) e ∙ seam pre x rest in
+    let item : get_or L (length pre) [] ≡ x = ap (λ (ls : List Text). get_or ls (length pre) []) e ∙ get_or-append_seam pre x rest [] in
     let here : line_fault (declared_by pre) x ≡ None = ap (λ (t : Text). line_fault (declared_by pre) t) (sym item) ∙ (ap (λ (p : List Text). line_fault (declared_by p) (get_or L (length pre) [])) (sym front) ∙ f (length pre) lt) in
     let more : AllNone (declared_by (pre ++ x ∷ [])) rest = none-from L (pre ++ x ∷ []) rest (e ∙ sym (append_assoc pre (x ∷ []) rest)) f in
-    (here, subst (λ (b : Above). AllNone b rest) (push-line nothing pre x) more)
+    (here, subst (λ (b : Above). AllNone b rest) (fold-append and_line nothing pre (x ∷ [])) more)
 
 -- what is written for a faultless text is at most one byte longer, a last line feed
 pub total-text : (text : Text) → ((i : ℕ) → find (has_at (lines_of text) i) faults ≡ None) → total (declared_by (lines_of text)) ≤ length text + 1
@@ -342,7 +334,7 @@ whole-length a h ended =
     let M : List (List Text) = lines_from stream_line 0 W.mains in
     let O : List (List Text) = lines_from object_line 0 a.objects in
     let ul : List Text = codes "units" ∷ decimal (length W.units) ∷ [] in
-    let U : List (List Text) = flat_map (λ p. unit_lines W p.0 p.1) (enumerate_from 0 W.units) in
+    let U : List (List Text) = units_lines W 0 W.units in
     let K : List (List Text) = keys_lines a.keys in
     let c1 = cost-append ((((((version_line ∷ st ∷ K) ++ P) ++ S) ++ M) ++ O) ++ ul ∷ U) ((codes "end" ∷ []) ∷ []) in
     let c2 = cost-append (((((version_line ∷ st ∷ K) ++ P) ++ S) ++ M) ++ O) (ul ∷ U) in

@@ -1,25 +1,24 @@
 -- The lines before the units are taken.
-use Rattle.std.proofs.Common.{◌≡◌, ◌<◌, ◌≤◌, ◌∙◌, ◌==◌, ℕ, zero, suc, true, false, List, [], ◌∷◌, ◌++◌, Option, Some, ap, arith, codes, decimal, is_none, length, map, nat_le, refl, subst, sym}
+use Rattle.std.proofs.Common.{◌≡◌, ◌<◌, ◌≤◌, ◌∙◌, ◌==◌, ℕ, zero, suc, true, false, List, [], ◌∷◌, ◌++◌, Option, Some, ap, arith, codes, decimal, is_none, length, map, refl, subst, sym}
 use Rattle.std.specs.List.{list_any}
-use Rattle.std.proofs.lemmas.Bool.{le-leb, ne_eqb}
+use Rattle.std.proofs.lemmas.Bool.{ne_eqb}
 use Rattle.abt_machine.specs.declared.grammar.Form.TheVariants as form
 use Rattle.abt_machine.specs.declared.numbers.SchedNo.{SchedNo}
 use Rattle.abt_machine.specs.declared.workload.Parts.{Parts}
 use Rattle.abt_machine.specs.Canonical.{keys_lines, object_line, pool_line, sched_line, stream_line, version_line}
 use Rattle.abt_machine.specs.Declaring.{Above, nothing}
 use Rattle.abt_machine.specs.Valid.{IsValid}
-use Rattle.abt_machine.specs.Words.{numbered}
-use Rattle.abt_workload.proofs.Growing.{all-one}
-use Rattle.abt_workload.proofs.Heads.{head, head_lines}
-use Rattle.abt_workload.proofs.InOrder.{or-both, placed-alone, reached, reached-le}
-use Rattle.abt_workload.proofs.ObjectLines.{objects-taken, placing}
-use Rattle.abt_workload.proofs.Places.{and-both}
+use Rattle.abt_machine.specs.Words.{Text, numbered}
+use Rattle.abt_workload.proofs.Filled.{takes}
+use Rattle.abt_workload.proofs.Fitting.{fit-within}
+use Rattle.abt_workload.proofs.Heads.{all_mains, head, head_lines, placing, units_words}
+use Rattle.abt_workload.proofs.InOrder.{placed-alone, reached, reached-le}
+use Rattle.abt_workload.proofs.ObjectLines.{objects-taken}
+use Rattle.abt_workload.proofs.Places.{or-both}
 use Rattle.abt_workload.proofs.PoolLines.{pooling, pools-taken}
-use Rattle.abt_workload.proofs.Proper.{none-of}
 use Rattle.abt_workload.proofs.SchedLines.{scheduling, scheds-taken}
 use Rattle.abt_workload.proofs.StreamLines.{mains-full, mains_from, streams-taken}
 use Rattle.abt_workload.proofs.Taking.{Takes, TakesAll, takes-append, plain-word}
-use Rattle.abt_workload.proofs.Filled.{IsWide, takes}
 
 -- Lines of sections that have one line.
 
@@ -31,20 +30,18 @@ versioned = record nothing { begun = true; section = 1 }
 version-taken : Takes nothing version_line versioned
 version-taken =
     takes nothing versioned form.Version (codes "abt") [] version_line
-    record { words_are = refl; form_is = refl; skipped = refl; plain = refl; chosen = plain-word (codes "abt") refl; wide = none-of _ }
-    refl
-    refl
-    record { once = refl; there = refl; within = refl; limit = refl; task = refl; access = refl; early = refl }
+    record { words_are = refl; form_is = refl; skipped = refl; plain = refl; chosen = plain-word (codes "abt") refl }
+    tt
+    record { version = refl; placed = refl; once = refl; limit = refl; task = refl; access = refl; early = refl }
     refl
 
 -- the line of the number of streams
 count-taken : (n : ℕ) → 0 < n → n ≤ 8 → Takes versioned (codes "streams" ∷ decimal n ∷ []) (pooling 2 n 0 [])
 count-taken n some few =
     takes versioned (pooling 2 n 0 []) form.Streams (codes "streams") (n ∷ []) (codes "streams" ∷ decimal n ∷ [])
-    record { words_are = refl; form_is = refl; skipped = refl; plain = refl; chosen = plain-word (codes "streams") refl; wide = all-one IsWide n (omega arith) }
-    refl
-    refl
-    record { once = refl; there = refl; within = and-both _ true (and-both (nat_le 1 n) _ (le-leb 1 n (omega arith)) (le-leb n 8 few)) refl; limit = refl; task = refl; access = refl; early = refl }
+    record { words_are = refl; form_is = refl; skipped = refl; plain = refl; chosen = plain-word (codes "streams") refl }
+    (fit-within versioned 1 8 n (omega arith) few (omega arith), tt)
+    record { version = refl; placed = refl; once = refl; limit = refl; task = refl; access = refl; early = refl }
     refl
 
 -- the section before the pools
@@ -65,10 +62,9 @@ keys-taken n (suc k) few = (pooling 3 n (suc k) [], line, refl)
     line : Takes (pooling 2 n 0 []) (codes "keys" ∷ decimal (suc k) ∷ []) (pooling 3 n (suc k) [])
     line =
         takes (pooling 2 n 0 []) (pooling 3 n (suc k) []) form.Keys (codes "keys") (suc k ∷ []) (codes "keys" ∷ decimal (suc k) ∷ [])
-        record { words_are = refl; form_is = refl; skipped = refl; plain = refl; chosen = plain-word (codes "keys") refl; wide = all-one IsWide (suc k) (omega arith) }
-        refl
-        refl
-        record { once = refl; there = refl; within = and-both _ true (and-both (nat_le 0 (suc k)) _ (le-leb 0 (suc k) (omega arith)) (le-leb (suc k) 16 few)) refl; limit = refl; task = refl; access = refl; early = refl }
+        record { words_are = refl; form_is = refl; skipped = refl; plain = refl; chosen = plain-word (codes "keys") refl }
+        (fit-within (pooling 2 n 0 []) 0 16 (suc k) (omega arith) few (omega arith), tt)
+        record { version = refl; placed = refl; once = refl; limit = refl; task = refl; access = refl; early = refl }
         refl
 
 -- each stream has a main scheduler
@@ -76,109 +72,135 @@ all-some : (gs : List SchedNo) → list_any is_none (map (λ (g : SchedNo). Some
 all-some [] = refl
 all-some (g ∷ gs) = all-some gs
 
--- the line of the number of units
-units-taken : (W : Parts) → IsValid W → (section : ℕ) → section ≤ 7
-    → Takes (placing section W.streams W.keys W.pools W.scheds (map (λ (g : SchedNo). Some g) W.mains) W.objects) (codes "units" ∷ decimal (length W.units) ∷ []) (head W)
-units-taken W v section le =
-    let a : Above = placing section W.streams W.keys W.pools W.scheds (map (λ (g : SchedNo). Some g) W.mains) W.objects in
-    let n : ℕ = length W.units in
-    let few : length W.units ≤ 256 = v.few_units in
-    let some : 0 < length W.pools = v.some_pool in
-    takes a (head W) form.Units (codes "units") (n ∷ []) (codes "units" ∷ decimal n ∷ [])
-    record { words_are = refl; form_is = refl; skipped = refl; plain = refl; chosen = plain-word (codes "units") refl; wide = all-one IsWide n (omega arith) }
-    refl
-    (placed-alone a form.Units (omega arith) (omega arith) refl)
-    record {
-      once = refl;
-      there = refl;
-      within = and-both _ true (and-both (nat_le 0 n) _ (le-leb 0 n (omega arith)) (le-leb n 256 few)) refl;
-      limit = refl;
-      task = refl;
-      access = refl;
-      early = or-both (length W.pools == 0) _ (ne_eqb (length W.pools) 0 (λ e. omega (arith, e))) (all-some W.mains);
-    }
-    refl
-
 -- All lines.
 
 module _ (W : Parts) (v : IsValid W) where
-  -- What is declared after the lines of each kind.
+  -- What is declared below the lines of each section, and which section they reached.
 
-  abbrev after_keys : Above
-  after_keys = pooling (keys_section W.keys) W.streams W.keys []
+  -- below the number of streams
+  abbrev below_count : Above
+  below_count = pooling 2 W.streams 0 []
 
+  -- the section below the pools
   abbrev pools_reached : ℕ
   pools_reached = reached (keys_section W.keys) 4 W.pools
 
-  abbrev after_pools : Above
-  after_pools = pooling pools_reached W.streams W.keys W.pools
+  -- below the pools
+  abbrev below_pools : Above
+  below_pools = pooling pools_reached W.streams W.keys W.pools
 
-  abbrev scheds_reached : ℕ
-  scheds_reached = reached pools_reached 5 W.scheds
-
-  abbrev after_scheds : Above
-  after_scheds = scheduling scheds_reached W.streams W.keys W.pools W.scheds
-
-  abbrev mains_reached : ℕ
-  mains_reached = reached scheds_reached 6 W.mains
-
-  abbrev after_mains : Above
-  after_mains = placing mains_reached W.streams W.keys W.pools W.scheds (map (λ (g : SchedNo). Some g) W.mains) []
-
-  abbrev objects_reached : ℕ
-  objects_reached = reached mains_reached 7 W.objects
-
-  abbrev after_objects : Above
-  after_objects = placing objects_reached W.streams W.keys W.pools W.scheds (map (λ (g : SchedNo). Some g) W.mains) W.objects
-
-  -- The sections that are reached.
-
+  -- it is not past that of pools
   pools-low : pools_reached ≤ 4
   pools-low = reached-le (keys_section W.keys) 4 W.pools (keys-low W.keys)
 
+  -- the section below the schedulers
+  abbrev scheds_reached : ℕ
+  scheds_reached = reached pools_reached 5 W.scheds
+
+  -- below the schedulers
+  abbrev below_scheds : Above
+  below_scheds = scheduling scheds_reached W.streams W.keys W.pools W.scheds
+
+  -- it is not past that of schedulers
   scheds-low : scheds_reached ≤ 5
   scheds-low = let le = pools-low in reached-le pools_reached 5 W.scheds (omega arith)
 
+  -- the section below the streams
+  abbrev mains_reached : ℕ
+  mains_reached = reached scheds_reached 6 W.mains
+
+  -- below the streams
+  abbrev below_mains : Above
+  below_mains = placing mains_reached W.streams W.keys W.pools W.scheds (all_mains W) []
+
+  -- it is not past that of streams
   mains-low : mains_reached ≤ 6
   mains-low = let le = scheds-low in reached-le scheds_reached 6 W.mains (omega arith)
 
+  -- the section below the objects
+  abbrev objects_reached : ℕ
+  objects_reached = reached mains_reached 7 W.objects
+
+  -- below the objects
+  abbrev below_objects : Above
+  below_objects = placing objects_reached W.streams W.keys W.pools W.scheds (all_mains W) W.objects
+
+  -- it is not past that of objects
   objects-low : objects_reached ≤ 7
   objects-low = let le = mains-low in reached-le mains_reached 7 W.objects (omega arith)
 
   -- The lines from the keys on.
 
-  mains-all : mains_from W.streams W.mains ≡ map (λ (g : SchedNo). Some g) W.mains
+  -- the lines from the keys to the pools
+  abbrev up_to_pools : List (List Text)
+  up_to_pools = keys_lines W.keys ++ numbered pool_line W.pools
+
+  -- those from the keys to the schedulers
+  abbrev up_to_scheds : List (List Text)
+  up_to_scheds = up_to_pools ++ numbered sched_line W.scheds
+
+  -- those from the keys to the streams
+  abbrev up_to_mains : List (List Text)
+  up_to_mains = up_to_scheds ++ numbered stream_line W.mains
+
+  -- those from the keys to the objects
+  abbrev up_to_objects : List (List Text)
+  up_to_objects = up_to_mains ++ numbered object_line W.objects
+
+  -- the lines to the pools are taken
+  pools-from : TakesAll below_count up_to_pools below_pools
+  pools-from =
+      takes-append below_count (pooling (keys_section W.keys) W.streams W.keys []) below_pools (keys_lines W.keys) (numbered pool_line W.pools)
+      (keys-taken W.streams W.keys v.few_keys) (pools-taken W v (keys_section W.keys) (keys-low W.keys))
+
+  -- the lines to the schedulers are taken
+  scheds-from : TakesAll below_count up_to_scheds below_scheds
+  scheds-from =
+      takes-append below_count below_pools below_scheds up_to_pools (numbered sched_line W.scheds)
+      pools-from (scheds-taken W v pools_reached (let le = pools-low in omega arith))
+
+  -- all streams have their main schedulers then
+  mains-all : mains_from W.streams W.mains ≡ all_mains W
   mains-all = ap (λ (n : ℕ). mains_from n W.mains) (sym v.mains) ∙ mains-full W.mains
 
-  pools-from : TakesAll (pooling 2 W.streams 0 []) (keys_lines W.keys ++ numbered pool_line W.pools) after_pools
-  pools-from = takes-append (pooling 2 W.streams 0 []) after_keys after_pools (keys_lines W.keys) (numbered pool_line W.pools) (keys-taken W.streams W.keys v.few_keys) (pools-taken W v (keys_section W.keys) (keys-low W.keys))
-
-  scheds-from : TakesAll (pooling 2 W.streams 0 []) (keys_lines W.keys ++ numbered pool_line W.pools ++ numbered sched_line W.scheds) after_scheds
-  scheds-from = takes-append (pooling 2 W.streams 0 []) after_pools after_scheds (keys_lines W.keys ++ numbered pool_line W.pools) (numbered sched_line W.scheds) pools-from (scheds-taken W v pools_reached (let le = pools-low in omega arith))
-
-  stream-lines : TakesAll after_scheds (numbered stream_line W.mains) after_mains
+  -- the lines of streams are taken
+  stream-lines : TakesAll below_scheds (numbered stream_line W.mains) below_mains
   stream-lines =
-      subst (λ (ms : List (Option SchedNo)). TakesAll after_scheds (numbered stream_line W.mains) (placing mains_reached W.streams W.keys W.pools W.scheds ms [])) mains-all
-      (streams-taken W v scheds_reached (let le = scheds-low in omega arith))
+      subst (λ (ms : List (Option SchedNo)). TakesAll below_scheds (numbered stream_line W.mains) (placing mains_reached W.streams W.keys W.pools W.scheds ms []))
+      mains-all (streams-taken W v scheds_reached (let le = scheds-low in omega arith))
 
-  streams-from : TakesAll (pooling 2 W.streams 0 []) (keys_lines W.keys ++ numbered pool_line W.pools ++ numbered sched_line W.scheds ++ numbered stream_line W.mains) after_mains
-  streams-from = takes-append (pooling 2 W.streams 0 []) after_scheds after_mains (keys_lines W.keys ++ numbered pool_line W.pools ++ numbered sched_line W.scheds) (numbered stream_line W.mains) scheds-from stream-lines
+  -- the lines to the streams are taken
+  streams-from : TakesAll below_count up_to_mains below_mains
+  streams-from = takes-append below_count below_scheds below_mains up_to_scheds (numbered stream_line W.mains) scheds-from stream-lines
 
-  objects-from : TakesAll (pooling 2 W.streams 0 []) (keys_lines W.keys ++ numbered pool_line W.pools ++ numbered sched_line W.scheds ++ numbered stream_line W.mains ++ numbered object_line W.objects) after_objects
+  -- the lines to the objects are taken
+  objects-from : TakesAll below_count up_to_objects below_objects
   objects-from =
-      takes-append (pooling 2 W.streams 0 []) after_mains after_objects (keys_lines W.keys ++ numbered pool_line W.pools ++ numbered sched_line W.scheds ++ numbered stream_line W.mains) (numbered object_line W.objects)
-      streams-from (objects-taken W v mains_reached (let le = mains-low in omega arith) (map (λ (g : SchedNo). Some g) W.mains))
+      takes-append below_count below_mains below_objects up_to_mains (numbered object_line W.objects)
+      streams-from (objects-taken W v mains_reached (let le = mains-low in omega arith))
 
--- the lines before the units are taken, and declare all but the units
-pub head-taken : (W : Parts) → IsValid W → TakesAll nothing (head_lines W) (head W)
-head-taken W v = (
-  versioned,
-  version-taken,
-  (
-    pooling 2 W.streams 0 [],
-    count-taken W.streams v.some_stream v.few_streams,
-    takes-append (pooling 2 W.streams 0 []) (after_objects W v) (head W)
-        (keys_lines W.keys ++ numbered pool_line W.pools ++ numbered sched_line W.scheds ++ numbered stream_line W.mains ++ numbered object_line W.objects) ((codes "units" ∷ decimal (length W.units) ∷ []) ∷ [])
-        (objects-from W v) (head W, units-taken W v (objects_reached W v) (objects-low W v), refl),
-  ),
-)
+  -- the line of the number of units
+  units-taken : Takes below_objects (units_words W) (head W)
+  units-taken =
+      let low : objects_reached ≤ 7 = objects-low in
+      let few : length W.units ≤ 256 = v.few_units in
+      let some : 0 < length W.pools = v.some_pool in
+      takes below_objects (head W) form.Units (codes "units") (length W.units ∷ []) (units_words W)
+      record { words_are = refl; form_is = refl; skipped = refl; plain = refl; chosen = plain-word (codes "units") refl }
+      (fit-within below_objects 0 256 (length W.units) (omega arith) few (omega arith), tt)
+      record {
+        version = refl;
+        placed = placed-alone below_objects form.Units (omega arith) (omega arith) refl;
+        once = refl;
+        limit = refl;
+        task = refl;
+        access = refl;
+        early = or-both (length W.pools == 0) _ (ne_eqb (length W.pools) 0 (λ e. omega (arith, e))) (all-some W.mains);
+      }
+      refl
+
+  -- the lines before the units are taken, and declare all but the units
+  pub head-taken : TakesAll nothing (head_lines W) (head W)
+  head-taken =
+      let rest = takes-append below_count below_objects (head W) up_to_objects (units_words W ∷ []) objects-from (head W, units-taken, refl) in
+      (versioned, version-taken, (below_count, count-taken W.streams v.some_stream v.few_streams, rest))

@@ -3,6 +3,7 @@ pub mod Bounds
 pub mod Costs
 pub mod Filled
 pub mod Firm
+pub mod Fitting
 pub mod Growing
 pub mod HeadLines
 pub mod Heads

@@ -187,33 +187,25 @@ pooled : (ns : List ℕ) → map (λ (p : PoolNo). decimal p.0) (map pool_no ns)
 pooled [] = refl
 pooled (n ∷ ns) = ap (λ (ws : List Text). decimal n ∷ ws) (pooled ns)
 
-sched-line : (r : Rule) (vals : List ℕ) → 0 < length (listed r vals) → sched_line (at vals 0) (sched_with r vals) ≡ filled (slots (form.Sched r)) [] vals
-sched-line rule.Basic [] lt = absurd (omega arith)
-sched-line rule.Basic (g ∷ vs) lt = ap (λ (ws : List Text). codes "sched" ∷ decimal g ∷ codes "basic" ∷ ws) (pooled vs)
-sched-line rule.Prio [] lt = absurd (omega arith)
-sched-line rule.Prio (g ∷ vs) lt = ap (λ (ws : List Text). codes "sched" ∷ decimal g ∷ codes "prio" ∷ ws) (pooled vs)
-sched-line (rule.Randws n) [] lt = absurd (omega arith)
-sched-line (rule.Randws n) (g ∷ []) lt = absurd (omega arith)
-sched-line (rule.Randws n) (g ∷ k ∷ vs) lt = ap (λ (ws : List Text). codes "sched" ∷ decimal g ∷ codes "randws" ∷ decimal k ∷ ws) (pooled vs)
-sched-line (rule.User n) [] lt = absurd (omega arith)
-sched-line (rule.User n) (g ∷ []) lt = absurd (omega arith)
-sched-line (rule.User n) (g ∷ k ∷ vs) lt = ap (λ (ws : List Text). codes "sched" ∷ decimal g ∷ codes "user" ∷ decimal k ∷ ws) (pooled vs)
+-- the line that is written for a scheduler has its form's words
+pub sched-line : (word : Text) (r : Rule) (vals : List ℕ) → 0 < length (listed r vals) → sched_line (at vals 0) (sched_with r vals) ≡ filled (slots (form.Sched r)) word vals
+sched-line word rule.Basic (g ∷ vs) lt = ap (λ (ws : List Text). codes "sched" ∷ decimal g ∷ codes "basic" ∷ ws) (pooled vs)
+sched-line word rule.Prio (g ∷ vs) lt = ap (λ (ws : List Text). codes "sched" ∷ decimal g ∷ codes "prio" ∷ ws) (pooled vs)
+sched-line word (rule.Randws n) (g ∷ k ∷ vs) lt = ap (λ (ws : List Text). codes "sched" ∷ decimal g ∷ codes "randws" ∷ decimal k ∷ ws) (pooled vs)
+sched-line word (rule.User n) (g ∷ k ∷ vs) lt = ap (λ (ws : List Text). codes "sched" ∷ decimal g ∷ codes "user" ∷ decimal k ∷ ws) (pooled vs)
+sched-line word r vals lt = absurd (omega arith)
 
 unit-line : (r : Role) (start : Option PoolNo) (vals : List ℕ) → header (at vals 0) (unit_with r start vals) ≡ filled (slots (form.Unit r start)) [] (at vals 0 ∷ at vals 1 ∷ at vals 2 ∷ [])
 unit-line role.Ult None vals = refl
 unit-line role.Ult (Some p) vals = refl
-unit-line role.Task None vals = refl
-unit-line role.Task (Some p) vals = refl
-unit-line role.Sched None vals = refl
-unit-line role.Sched (Some p) vals = refl
+unit-line _ None vals = refl
+unit-line _ (Some p) vals = refl
 
 unit-plain : (r : Role) (start : Option PoolNo) → (no_list (slots (form.Unit r start)) ≡ true) × (length (kinds (slots (form.Unit r start))) ≤ 3) × (no_choice (slots (form.Unit r start)) ≡ true)
 unit-plain role.Ult None = (refl, omega arith, refl)
 unit-plain role.Ult (Some p) = (refl, omega arith, refl)
-unit-plain role.Task None = (refl, omega arith, refl)
-unit-plain role.Task (Some p) = (refl, omega arith, refl)
-unit-plain role.Sched None = (refl, omega arith, refl)
-unit-plain role.Sched (Some p) = (refl, omega arith, refl)
+unit-plain _ None = (refl, omega arith, refl)
+unit-plain _ (Some p) = (refl, omega arith, refl)
 
 op-plain : (o : Op) → (no_list (op_slots o) ≡ true) × (length (kinds (op_slots o)) ≤ 3)
 op-plain (op.Set n) = (refl, omega arith)
@@ -263,7 +255,7 @@ module _ {a : Above} {line : Text} {words : List Text} where
   light-pool x s = cost-of _ _ (weight words) (pool-line x words (values_of (form.Pool x) words)) refl (light (form.Pool x) (kind_name (kind_named (word_in words 2))) s (pool-plain x).0 (pool-plain x).1 (pool-choice x words s.form_fits))
 
   pub light-sched : (r : Rule) → 0 < length (listed r (values_of (form.Sched r) words)) → IsSound a line words (form.Sched r) → cost (sched_line (at (values_of (form.Sched r) words) 0) (sched_with r (values_of (form.Sched r) words))) ≤ weight words
-  light-sched r some s = cost-of _ _ (weight words) (sched-line r (values_of (form.Sched r) words) some) refl (lighter [] (slots (form.Sched r)) words s.form_fits s.numbers (plain [] (slots (form.Sched r)) words (choiceless r)))
+  light-sched r some s = cost-of _ _ (weight words) (sched-line [] r (values_of (form.Sched r) words) some) refl (lighter [] (slots (form.Sched r)) words s.form_fits s.numbers (plain [] (slots (form.Sched r)) words (choiceless r)))
     where
       choiceless : (q : Rule) → no_choice (slots (form.Sched q)) ≡ true
       choiceless rule.Basic = refl

@@ -1,5 +1,5 @@
 -- Lines whose numbers are in order are taken.
-use Rattle.std.proofs.Common.{◌≡◌, ◌<◌, ◌^◌, ◌∙◌, ℕ, true, false, List, [], ◌∷◌, All, Some, None, ap, decimal, map, refl, subst}
+use Rattle.std.proofs.Common.{◌≡◌, ◌∙◌, ℕ, Bool, true, false, List, [], ◌∷◌, All, Some, None, ap, decimal, map, refl, subst}
 use Rattle.std.specs.List.{list_all}
 use Rattle.abt_machine.specs.declared.grammar.Form.{Form}
 use Rattle.abt_machine.specs.declared.grammar.Number.{Number}
@@ -12,28 +12,26 @@ use Rattle.abt_machine.specs.Words.{Text}
 use Rattle.abt_workload.specs.Declarable.{with_line}
 use Rattle.abt_workload.specs.Judging.{later_fault}
 use Rattle.abt_workload.specs.Slots.{numbered, values}
-use Rattle.abt_workload.proofs.Growing.{all-cons}
+use Rattle.abt_workload.proofs.Fitting.{AreFit, IsFit}
 use Rattle.abt_workload.proofs.Places.{and-both}
-use Rattle.abt_workload.proofs.Proper.{none-of}
-use Rattle.abt_workload.proofs.Taking.{Takes, decimal-number, decimal-value, decimal-word, taken}
+use Rattle.abt_workload.proofs.Taking.{Takes, decimal-number, decimal-value, taken}
 
 -- numbers as their digits
 abbrev pub spelled : List (Number × ℕ) → List (Number × Text)
 spelled = map (λ (p : Number × ℕ). (p.0, decimal p.1))
 
--- a number may stand in a line below lines that declare a
-pub record IsFit (a : Above) (kind : Number) (n : ℕ) : Type 0 where
-  pub there : is_there a kind n ≡ true
-  pub within : is_within kind n ≡ true
-  pub small : n < 2 ^ 64
-
--- all of these may
-abbrev pub AreFit : Above → List (Number × ℕ) → Type 0
-AreFit a [] = Unit {0}
-AreFit a (p ∷ ps) = IsFit a p.0 p.1 × AreFit a ps
+-- a line of this form, these words and these numbers has no fault but in a number
+pub record IsFine (a : Above) (f : Form) (words : List Text) (ns : List ℕ) : Type 0 where
+  pub version : is_no_version a words ≡ false
+  pub placed : is_misplaced a f ≡ false
+  pub once : is_twice a f ns ≡ false
+  pub limit : is_past_limit a f words ns ≡ false
+  pub task : blocks_task a f ≡ false
+  pub access : is_barred a f ns ≡ false
+  pub early : is_early a f ≡ false
 
 module _ (a : Above) where
-  -- their digits are numbers
+  -- the digits of numbers that may stand in a line are numbers
   all-numbers : (ps : List (Number × ℕ)) → AreFit a ps → list_all (λ (p : Number × Text). is_number p.1) (spelled ps) ≡ true
   all-numbers [] h = refl
   all-numbers (p ∷ ps) h = and-both (is_number (decimal p.1)) _ (decimal-number p.1 h.0.small) (all-numbers ps h.1)
@@ -46,30 +44,23 @@ module _ (a : Above) where
       let rest : numbered (spelled ps) ≡ ps = all-read ps h.1 in
       ap (λ (n : ℕ). (p.0, n) ∷ numbered (spelled ps)) here ∙ ap (λ (qs : List (Number × ℕ)). p ∷ qs) rest
 
-  -- what they name is there
-  all-there : (ps : List (Number × ℕ)) → AreFit a ps → list_all (λ (p : Number × ℕ). is_there a p.0 p.1) ps ≡ true
-  all-there [] h = refl
-  all-there (p ∷ ps) h = and-both (is_there a p.0 p.1) _ h.0.there (all-there ps h.1)
-
-  -- they keep their bounds
-  all-within : (ps : List (Number × ℕ)) → AreFit a ps → list_all (λ (p : Number × ℕ). is_within p.0 p.1) ps ≡ true
-  all-within [] h = refl
-  all-within (p ∷ ps) h = and-both (is_within p.0 p.1) _ h.0.within (all-within ps h.1)
-
-  -- their digits are words
-  pub fit-words : (ps : List (Number × ℕ)) → AreFit a ps → All IsWord (map decimal (values ps))
-  fit-words [] h = none-of IsWord
-  fit-words (p ∷ ps) h = all-cons IsWord (decimal p.1) _ (decimal-word p.1 h.0.small) (fit-words ps h.1)
+  -- what holds of each holds of all
+  all-hold : (P : Number → ℕ → Bool) → ((kind : Number) (n : ℕ) → IsFit a kind n → P kind n ≡ true) → (ps : List (Number × ℕ)) → AreFit a ps
+      → list_all (λ (p : Number × ℕ). P p.0 p.1) ps ≡ true
+  all-hold P each [] h = refl
+  all-hold P each (p ∷ ps) h = and-both (P p.0 p.1) _ (each p.0 p.1 h.0) (all-hold P each ps h.1)
 
   -- a line of these numbers is taken where it has a form, and no other fault
-  pub line-taken : (words : List Text) (f : Form) (ps : List (Number × ℕ)) → All IsWord words → is_skipped words ≡ false → is_no_version a words ≡ false → form_of words ≡ Some f → is_misplaced a f ≡ false
-      → numerals (slots f) words ≡ spelled ps → AreFit a ps → is_twice a f (values ps) ≡ false → is_past_limit a f words (values ps) ≡ false → blocks_task a f ≡ false → is_barred a f (values ps) ≡ false → is_early a f ≡ false
-      → Takes a words (with_line a f words (values ps))
-  line-taken words f ps w kept version formed placed numbers fit twice limit blocks barred early =
-      let there = all-there ps fit in
-      let within = all-within ps fit in
+  pub line-taken : (b : Above) (words : List Text) (f : Form) (ps : List (Number × ℕ)) → All IsWord words → is_skipped words ≡ false
+      → form_of words ≡ Some f → numerals (slots f) words ≡ spelled ps → AreFit a ps → IsFine a f words (values ps)
+      → with_line a f words (values ps) ≡ b → Takes a words b
+  line-taken b words f ps written kept formed numbers fit fine is =
+      let there = all-hold (is_there a) (λ kind n h. h.there) ps fit in
+      let within = all-hold is_within (λ kind n h. h.within) ps fit in
       let read : numbers_of f words ≡ ps = ap numbered numbers ∙ all-read ps fit in
-      let digits : list_all (λ (p : Number × Text). is_number p.1) (numerals (slots f) words) ≡ true = ap (list_all (λ (p : Number × Text). is_number p.1)) numbers ∙ all-numbers ps fit in
-      let sound : later_fault a f words ps ≡ None = rw (twice, there, within, limit, blocks, barred, early) refl in
-      let took : Takes a words (with_line a f words (values_of f words)) = taken a words f w kept version formed placed digits (ap (later_fault a f words) read ∙ sound) in
-      subst (λ (qs : List (Number × ℕ)). Takes a words (with_line a f words (values qs))) read took
+      let digits : list_all (λ (p : Number × Text). is_number p.1) (numerals (slots f) words) ≡ true =
+      ap (list_all (λ (p : Number × Text). is_number p.1)) numbers ∙ all-numbers ps fit in
+      let sound : later_fault a f words ps ≡ None = rw (fine.once, there, within, fine.limit, fine.task, fine.access, fine.early) refl in
+      let took : Takes a words (with_line a f words (values_of f words)) =
+      taken a words f written kept fine.version formed fine.placed digits (ap (later_fault a f words) read ∙ sound) in
+      subst (Takes a words) (ap (λ (qs : List (Number × ℕ)). with_line a f words (values qs)) read ∙ is) took

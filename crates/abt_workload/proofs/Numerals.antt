@@ -12,9 +12,6 @@ number_from n ds = if all_ascii_digits ds && nat_lt (value_from n ds) 1844674407
 pub number_digit : (n d : ℕ) (ds : List ℕ) → is_ascii_digit d ≡ true → number_from n (d ∷ ds) ≡ number_from (n * 10 + (d - 48)) ds
 number_digit n d ds e = rw e refl
 
-pub number_other : (n d : ℕ) (ds : List ℕ) → is_ascii_digit d ≡ false → number_from n (d ∷ ds) ≡ None
-number_other n d ds e = rw e refl
-
 pub value_grows : (n : ℕ) (ds : List ℕ) → n ≤ value_from n ds
 value_grows n [] = omega arith
 value_grows n (d ∷ ds) = let h = value_grows (n * 10 + (d - 48)) ds in omega (arith, h)
@@ -28,9 +25,6 @@ number_whole (d ∷ ds) some = let one : (length (d ∷ ds) == 0) ≡ false = se
 
 front : (word : List ℕ) (k : ℕ) → k < length word → drop k word ≡ get_or word k 0 ∷ drop (k + 1) word
 front word k lt = rw (add-one, drop-cons word k 0) refl
-
-pub number_ends : (word : List ℕ) (k n : ℕ) → k < length word → 0 < length word → is_ascii_digit (get_or word k 0) ≡ false → number_from n (drop k word) ≡ number_from 0 word → number_in word ≡ None
-number_ends word k n lt some e so_far = number_whole word some ∙ (sym so_far ∙ (ap (number_from n) (front word k lt) ∙ number_other n (get_or word k 0) (drop (k + 1) word) e))
 
 pub number_passes : (word : List ℕ) (k n : ℕ) → k < length word → 0 < length word → is_ascii_digit (get_or word k 0) ≡ true → 18446744073709551616 ≤ n * 10 + (get_or word k 0 - 48) → number_from n (drop k word) ≡ number_from 0 word → number_in word ≡ None
 number_passes word k n lt some e big so_far = number_whole word some ∙ (sym so_far ∙ (ap (number_from n) (front word k lt) ∙ (number_digit n (get_or word k 0) (drop (k + 1) word) e ∙ number_too_big (n * 10 + (get_or word k 0 - 48)) (drop (k + 1) word) big)))

@@ -2,7 +2,6 @@
 use Rattle.std.proofs.Common.{◌≡◌, ◌<◌, ◌≤◌, ◌+◌, ◌&&◌, ◌||◌, ◌∙◌, ℕ, zero, suc, Bool, true, false, List, [], ◌∷◌, ◌++◌, All, Option, Some, ap, append_assoc, arith, flat_map, length, length-append, map, nat_le, refl, rules, subst, sym, tests}
 use Rattle.std.specs.List.{list_any, range_with_len}
 use Rattle.std.proofs.lemmas.List.{append-nil, length-map, map-append}
-use Rattle.std.proofs.lemmas.List.Elements.{All-append}
 use Rattle.abt_machine.specs.declared.grammar.Form.TheVariants as form
 use Rattle.abt_machine.specs.declared.numbers.PoolNo.{PoolNo}
 use Rattle.abt_machine.specs.declared.operations.Body.{Body}
@@ -13,65 +12,52 @@ use Rattle.abt_machine.specs.declared.workload.Parts.{Parts}
 use Rattle.abt_machine.specs.declared.workload.UnitPart.{UnitPart}
 use Rattle.abt_machine.specs.Canonical.{op_words, word_at}
 use Rattle.abt_machine.specs.Declaring.{Above, body_and, op_with, said_in, unit_and}
-use Rattle.abt_machine.specs.Faults.{blocks_task, is_long_word, is_misplaced, is_past_limit, is_task_body}
+use Rattle.abt_machine.specs.Faults.{is_long_word, is_task_body}
+use Rattle.abt_machine.specs.Forms.{op_slots}
 use Rattle.abt_machine.specs.Operations.{IsDeclared, may_block, said_by}
-use Rattle.abt_machine.specs.Valid.{IsValid, IsWord, words_said}
+use Rattle.abt_machine.specs.Valid.{IsValid, words_said}
 use Rattle.abt_machine.specs.Words.{Text}
 use Rattle.abt_machine.specs.Workloads.{is_sched, ops_of}
 use Rattle.abt_workload.specs.Slots.{values}
+use Rattle.abt_workload.proofs.Filled.{given, takes}
+use Rattle.abt_workload.proofs.Fitting.{AreMet, all-fit}
 use Rattle.abt_workload.proofs.Growing.{all-cons, all-head, all-tail}
-use Rattle.abt_workload.proofs.NumberedLines.{AreFit, fit-words, line-taken}
-use Rattle.abt_workload.proofs.OperationForms.{IsFormed, first, formed, op_numbers}
+use Rattle.abt_workload.proofs.OperationForms.{IsFormed, formed, op-chosen, op-met, op_form, op_numbers, op_word}
 use Rattle.abt_workload.proofs.Proper.{none-of}
-use Rattle.abt_workload.proofs.Reaching.{AreMet, all-fit, reached}
-use Rattle.abt_workload.proofs.Taking.{Takes, TakesAll, plain-word}
-
--- the numbers of an operation name what is declared
-op-met : (W : Parts) (u : ℕ) (o : Op) → IsDeclared W o → AreMet W u (op_numbers o)
-op-met W u (op.Set n) h = (omega arith, omega arith, h)
-op-met W u (op.Add n) h = (omega arith, omega arith, h)
-op-met W u (op.Say w) h = tt
-op-met W u (op.Migratable v true) h = (h, (omega arith, omega arith, omega arith))
-op-met W u (op.Migratable v false) h = (h, (omega arith, omega arith, omega arith))
-op-met W u o h = h
-
--- the numbers of words that are declared
-said-there : (W : Parts) (o : Op) → IsDeclared W o → All (λ w. w < length W.words) (said_by o)
-said-there W (op.Say w) h = all-cons (λ k. k < length W.words) w [] h (none-of _)
-said-there W o h = none-of _
-
--- said words are words
-all-words : (W : Parts) → IsValid W → (ns : List ℕ) → All (λ w. w < length W.words) ns → All IsWord (map (word_at W) ns)
-all-words W v [] h = none-of IsWord
-all-words W v (n ∷ ns) h = all-cons IsWord (word_at W n) _ (v.words n [] (all-head (λ w. w < length W.words) n ns h)) (all-words W v ns (λ k d lt. h (suc k) d (omega arith)))
-
--- they are short
-all-short : (W : Parts) → IsValid W → (ns : List ℕ) → All (λ w. w < length W.words) ns → All (λ w. length (word_at W w) ≤ 64) ns
-all-short W v ns h = λ k d lt. (v.words _ [] (h k d lt)).few_bytes
+use Rattle.abt_workload.proofs.Reaching.{reached, reached-small}
+use Rattle.abt_workload.proofs.Taking.{Takes, TakesAll}
 
 module _ (W : Parts) (v : IsValid W) (units : List UnitPart) where
   -- the line of an operation is taken below a unit's that may have one more
-  pub op-taken : (part : UnitPart) (said : List ℕ) (o : Op) → is_sched part.body ≡ false → length (ops_of part.body) < 256 → (is_task_body part.body && may_block o) ≡ false → IsDeclared W o → All (λ w. w ≡ length said) (said_by o)
+  op-taken : (part : UnitPart) (said : List ℕ) (o : Op) → is_sched part.body ≡ false → length (ops_of part.body) < 256 → (is_task_body part.body && may_block o) ≡ false
+      → IsDeclared W o → All (λ w. w ≡ length said) (said_by o)
       → Takes (reached W 9 units (Some part) said) (op_words W o) (reached W 9 units (Some (unit_and o part)) (said ++ said_by o))
-  op-taken part said o takes' few task h next = by (formed W o)
+  op-taken part said o no_sched few task h next = by (op_form W o) (formed W o (op-chosen W v o h)) (op-met W units (Some part) said o h)
     where
-      by : ((f : Op) × IsFormed W o f) → Takes (reached W 9 units (Some part) said) (op_words W o) (reached W 9 units (Some (unit_and o part)) (said ++ said_by o))
-      by (f, d) =
+      by : (f : Op) → IsFormed W o f → AreMet (reached W 9 units (Some part) said) (given (op_slots f) (op_numbers o))
+          → Takes (reached W 9 units (Some part) said) (op_words W o) (reached W 9 units (Some (unit_and o part)) (said ++ said_by o))
+      by f d met =
           let a : Above = reached W 9 units (Some part) said in
-          let there = said-there W o h in
-          let fit : AreFit a (op_numbers o) = all-fit W v 9 units (Some part) said (op_numbers o) (op-met W (length units + 1) o h) in
-          let words : All IsWord (op_words W o) = subst (λ (ws : List Text). All IsWord ws) (sym d.words) (all-cons IsWord (first (op_words W o)) _ (plain-word _ d.plain) (All-append IsWord _ _ (fit-words a (op_numbers o) fit) (all-words W v (said_by o) there))) in
+          let texts : List ℕ → List Text = map (word_at W) in
+          let ns : List ℕ = values (given (op_slots f) (op_numbers o)) in
           let long : nat_le 256 (length (ops_of part.body)) ≡ false = search (rules, tests) in
-          let short : is_long_word f (op_words W o) ≡ false = d.short (all-short W v (said_by o) there) in
-          let limit : is_past_limit a (form.Operation f) (op_words W o) (values (op_numbers o)) ≡ false = rw (long, short) refl in
-          let blocks : blocks_task a (form.Operation f) ≡ false = ap (λ (b : Bool). is_task_body part.body && b) d.blocks ∙ task in
-          let placed : is_misplaced a (form.Operation f) ≡ false = rw takes' refl in
-          let took = line-taken a (op_words W o) (form.Operation f) (op_numbers o) words d.kept refl d.form_is placed d.numbers fit refl limit blocks refl refl in
-          let made : op_with f (length (map (word_at W) said)) (values (op_numbers o)) ≡ o = d.made (length (map (word_at W) said)) (subst (λ (n : ℕ). All (λ w. w ≡ n) (said_by o)) (sym (length-map said (word_at W))) next) in
-          let more : map (word_at W) said ++ said_in f (op_words W o) ≡ map (word_at W) (said ++ said_by o) = ap (λ (ws : List Text). map (word_at W) said ++ ws) d.said ∙ sym (map-append (word_at W) said (said_by o)) in
-          subst (λ (b : Above). Takes a (op_words W o) b)
-          (ap (λ (p : Op). record a { last = Some (unit_and p part); words = map (word_at W) said ++ said_in f (op_words W o) }) made ∙ ap (λ (ws : List Text). record a { last = Some (unit_and o part); words = ws }) more)
-          took
+          let short : is_long_word f (op_words W o) ≡ false = d.short in
+          let made : op_with f (length (texts said)) ns ≡ o = d.made _ (subst (λ (n : ℕ). All (λ w. w ≡ n) (said_by o)) (sym (length-map said (word_at W))) next) in
+          let more : texts said ++ said_in f (op_words W o) ≡ texts (said ++ said_by o) =
+          ap (λ (ws : List Text). texts said ++ ws) d.said ∙ sym (map-append (word_at W) said (said_by o)) in
+          takes a (reached W 9 units (Some (unit_and o part)) (said ++ said_by o)) (form.Operation f) (op_word W o) (op_numbers o) (op_words W o) d.written
+          (all-fit a (reached-small W v 9 units (Some part) said) (given (op_slots f) (op_numbers o)) met)
+          record {
+            version = refl;
+            placed = rw no_sched refl;
+            once = refl;
+            limit = rw (long, short) refl;
+            task = ap (λ (b : Bool). is_task_body part.body && b) d.blocks ∙ task;
+            access = refl;
+            early = refl;
+          }
+          (ap (λ (p : Op). record a { last = Some (unit_and p part); words = texts said ++ said_in f (op_words W o) }) made
+          ∙ ap (λ (ws : List Text). record a { last = Some (unit_and o part); words = ws }) more)
 
 -- Operations one after the other.
 
@@ -102,11 +88,6 @@ like-and : (b : Body) (ops : List Op) (o : Op) → body_and o (body_like b ops) 
 like-and (body.Ult os) ops o = refl
 like-and _ ops o = refl
 
--- a body is like itself
-pub like-whole : (b : Body) → body_like b (ops_of b) ≡ b
-like-whole (body.Ult os) = refl
-like-whole _ = refl
-
 -- a number of a range, by those before it
 range-place : (k n w : ℕ) (xs ys : List ℕ) → range_with_len k n ≡ xs ++ w ∷ ys → w ≡ k + length xs
 range-place k zero w [] ys e = cc
@@ -119,31 +100,42 @@ next-said : (o : Op) (n : ℕ) (said rest : List ℕ) → range_with_len 0 n ≡
 next-said (op.Say w) n said rest e = let h = range-place 0 n w said rest e in all-cons (λ k. k ≡ length said) w [] (omega arith) (none-of _)
 next-said _ n said rest e = none-of _
 
-module _ (W : Parts) (v : IsValid W) (units : List UnitPart) (b : Body) (start : Option PoolNo) (takes' : is_sched b ≡ false) where
+module _ (W : Parts) (v : IsValid W) (units : List UnitPart) (b : Body) (start : Option PoolNo) (no_sched : is_sched b ≡ false) where
   -- the unit with these operations
   abbrev with_ops : List Op → UnitPart
   with_ops ops = record { body = body_like b ops; start = start }
 
+  -- below these operations of the unit
+  abbrev after_ops : List Op → List ℕ → Above
+  after_ops ops said = reached W 9 units (Some (with_ops ops)) said
+
   -- the lines of a unit's operations are taken below those of the operations before them
-  pub ops-taken : (done ops : List Op) (said after : List ℕ) → length done + length ops ≤ 256 → (is_task_body b && list_any may_block ops) ≡ false → All (IsDeclared W) ops → words_said W ≡ said ++ (flat_map said_by ops ++ after)
-      → TakesAll (reached W 9 units (Some (record { body = body_like b done; start = start })) said) (map (op_words W) ops) (reached W 9 units (Some (record { body = body_like b (done ++ ops); start = start })) (said ++ flat_map said_by ops))
+  pub ops-taken : (done ops : List Op) (said after : List ℕ) → length done + length ops ≤ 256 → (is_task_body b && list_any may_block ops) ≡ false
+      → All (IsDeclared W) ops
+      → words_said W ≡ said ++ (flat_map said_by ops ++ after)
+      → TakesAll (after_ops done said) (map (op_words W) ops) (after_ops (done ++ ops) (said ++ flat_map said_by ops))
   ops-taken done [] said after few task all all_said =
-      ap (λ (os : List Op). reached W 9 units (Some (with_ops os)) said) (sym (append-nil done)) ∙ ap (λ (ns : List ℕ). reached W 9 units (Some (with_ops (done ++ []))) ns) (sym (append-nil said))
+      ap (λ (os : List Op). after_ops os said) (sym (append-nil done)) ∙ ap (λ (ns : List ℕ). after_ops (done ++ []) ns) (sym (append-nil said))
   ops-taken done (o ∷ os) said after few task all all_said =
-      let here : IsDeclared W o = all-head (IsDeclared W) o os all in
-      let count : ops_of (body_like b done) ≡ done = like-ops b done takes' in
-      let short : length (ops_of (body_like b done)) < 256 = rw count (omega arith) in
-      let no_task : (is_task_body (body_like b done) && may_block o) ≡ false = ap (λ (t : Bool). t && may_block o) (like-task b done) ∙ and-first (is_task_body b) (may_block o) (list_any may_block os) task in
-      let seam : words_said W ≡ said ++ (said_by o ++ (flat_map said_by os ++ after)) = all_said ∙ ap (λ (ns : List ℕ). said ++ ns) (append_assoc (said_by o) (flat_map said_by os) after) in
+      let short : length (ops_of (body_like b done)) < 256 = rw (like-ops b done no_sched) (omega arith) in
+      let no_block : (is_task_body (body_like b done) && may_block o) ≡ false =
+      ap (λ (t : Bool). t && may_block o) (like-task b done) ∙ and-first (is_task_body b) (may_block o) (list_any may_block os) task in
+      let seam : words_said W ≡ said ++ (said_by o ++ (flat_map said_by os ++ after)) =
+      all_said ∙ ap (λ (ns : List ℕ). said ++ ns) (append_assoc (said_by o) (flat_map said_by os) after) in
       let next = next-said o (length W.words) said (flat_map said_by os ++ after) (sym v.said ∙ seam) in
-      let took = op-taken W v units (with_ops done) said o (like-sched b done ∙ takes') short no_task here next in
-      let more : Takes (reached W 9 units (Some (with_ops done)) said) (op_words W o) (reached W 9 units (Some (with_ops (done ++ o ∷ []))) (said ++ said_by o)) =
-      subst (λ (c : Body). Takes (reached W 9 units (Some (with_ops done)) said) (op_words W o) (reached W 9 units (Some (record { body = c; start = start })) (said ++ said_by o))) (like-and b done o) took in
+      let took = op-taken W v units (with_ops done) said o (like-sched b done ∙ no_sched) short no_block (all-head (IsDeclared W) o os all) next in
+      let more : Takes (after_ops done said) (op_words W o) (after_ops (done ++ o ∷ []) (said ++ said_by o)) =
+      subst (λ (c : Body). Takes (after_ops done said) (op_words W o) (reached W 9 units (Some (record { body = c; start = start })) (said ++ said_by o)))
+      (like-and b done o) took in
       let counted : length (done ++ o ∷ []) ≡ length done + 1 = length-append done (o ∷ []) in
-      let rest = ops-taken (done ++ o ∷ []) os (said ++ said_by o) after (omega arith) (and-rest (is_task_body b) (may_block o) (list_any may_block os) task) (all-tail (IsDeclared W) o os all) (seam ∙ sym (append_assoc said (said_by o) (flat_map said_by os ++ after))) in
-      let at_end : reached W 9 units (Some (with_ops ((done ++ o ∷ []) ++ os))) ((said ++ said_by o) ++ flat_map said_by os) ≡ reached W 9 units (Some (with_ops (done ++ o ∷ os))) (said ++ (said_by o ++ flat_map said_by os)) =
-      ap (λ (ps : List Op). reached W 9 units (Some (with_ops ps)) ((said ++ said_by o) ++ flat_map said_by os)) (append_assoc done (o ∷ []) os) ∙ ap (λ (ns : List ℕ). reached W 9 units (Some (with_ops (done ++ o ∷ os))) ns) (append_assoc said (said_by o) (flat_map said_by os)) in
-      (reached W 9 units (Some (with_ops (done ++ o ∷ []))) (said ++ said_by o), more, subst (λ (c : Above). TakesAll (reached W 9 units (Some (with_ops (done ++ o ∷ []))) (said ++ said_by o)) (map (op_words W) os) c) at_end rest)
+      let rest =
+      ops-taken (done ++ o ∷ []) os (said ++ said_by o) after (omega arith) (and-rest (is_task_body b) (may_block o) (list_any may_block os) task)
+      (all-tail (IsDeclared W) o os all) (seam ∙ sym (append_assoc said (said_by o) (flat_map said_by os ++ after))) in
+      let at_end : after_ops ((done ++ o ∷ []) ++ os) ((said ++ said_by o) ++ flat_map said_by os) ≡ after_ops (done ++ o ∷ os) (said ++ (said_by o ++ flat_map said_by os)) =
+      ap (λ (ps : List Op). after_ops ps ((said ++ said_by o) ++ flat_map said_by os)) (append_assoc done (o ∷ []) os)
+      ∙ ap (λ (ns : List ℕ). after_ops (done ++ o ∷ os) ns) (append_assoc said (said_by o) (flat_map said_by os)) in
+      let below : Above = after_ops (done ++ o ∷ []) (said ++ said_by o) in
+      (below, more, subst (λ (c : Above). TakesAll below (map (op_words W) os) c) at_end rest)
     where
       and-first : (t x y : Bool) → (t && (x || y)) ≡ false → (t && x) ≡ false
       and-first true true y e = e

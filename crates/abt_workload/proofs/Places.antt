@@ -29,6 +29,11 @@ pub or-right : (x y : Bool) → (x || y) ≡ false → y ≡ false
 or-right true y e = cc
 or-right false y e = e
 
+-- neither of two is true
+pub or-both : (x y : Bool) → x ≡ false → y ≡ false → (x || y) ≡ false
+or-both true y e f = cc
+or-both false y e f = f
+
 pub not-false : (x : Bool) → not x ≡ false → x ≡ true
 not-false true e = refl
 not-false false e = cc

@@ -1,23 +1,25 @@
 -- Valid parts are those that texts read to.
-use Rattle.std.proofs.Common.{inl, inr, ◌⊎◌, ◌≡◌, ◌<◌, ◌≤◌, ◌+◌, ◌==◌, ◌∙◌, ℕ, zero, suc, Bool, true, false, List, [], ◌∷◌, ◌++◌, All, Some, None, ap, append_assoc, arith, codes, decimal, find, flat_map, fold, get_or, length, map, nat_lt, refl, rules, subst, sym, tests, take}
-use Rattle.std.specs.List.{enumerate_from}
-use Rattle.std.proofs.lemmas.Bool.{cases_lt}
+use Rattle.std.proofs.Common.{inl, inr, ◌⊎◌, ◌≡◌, ◌<◌, ◌≤◌, ◌+◌, ◌==◌, ◌∙◌, ℕ, zero, suc, Bool, true, false, List, [], ◌∷◌, ◌++◌, All, Some, None, ap, append_assoc, arith, codes, find, fold, get_or, length, map, nat_lt, refl, subst, sym, take}
+use Rattle.std.proofs.lemmas.Bool.{cases_lt, le-ltb}
 use Rattle.abt_machine.specs.declared.grammar.Form.TheVariants as form
 use Rattle.abt_machine.specs.declared.workload.Parts.{Parts}
-use Rattle.abt_machine.specs.Canonical.{canonical_text, fitted, keys_lines, object_line, pool_line, sched_line, stream_line, unit_lines, version_line, workload_lines}
+use Rattle.abt_machine.specs.Canonical.{canonical_text, fitted, workload_lines}
 use Rattle.abt_machine.specs.Declaring.{Above, declared_units, nothing, parts_of}
-use Rattle.abt_machine.specs.Faults.{faults, is_early, is_misplaced, line_fault}
+use Rattle.abt_machine.specs.Faults.{faults, is_early, line_fault}
 use Rattle.abt_machine.specs.Grammar.{Reads, and_line, declared_by, fault_at, has_at}
 use Rattle.abt_machine.specs.Spelling.{lines_of}
 use Rattle.abt_machine.specs.Valid.{IsValid, IsWord}
-use Rattle.abt_machine.specs.Words.{Text, line_of, numbered, text_of}
+use Rattle.abt_machine.specs.Words.{Text, line_of, text_of}
+use Rattle.abt_workload.proofs.Costs.{units_lines}
+use Rattle.abt_workload.proofs.Filled.{takes}
 use Rattle.abt_workload.proofs.Firm.{valid-end}
-use Rattle.abt_workload.proofs.Growing.{all-cons, all-one}
+use Rattle.abt_workload.proofs.Growing.{all-cons}
 use Rattle.abt_workload.proofs.HeadLines.{head-taken}
-use Rattle.abt_workload.proofs.Heads.{head, head_lines}
+use Rattle.abt_workload.proofs.Heads.{first_lines, head, head_lines, units_words}
+use Rattle.abt_workload.proofs.InOrder.{placed-alone}
 use Rattle.abt_workload.proofs.Proper.{none-of}
 use Rattle.abt_workload.proofs.Seen.{fault-in, fault-length, faultless-end, refuses-end, refuses-length}
-use Rattle.abt_workload.proofs.Taking.{Takes, TakesAll, plain-word, taken, takes-append}
+use Rattle.abt_workload.proofs.Taking.{Takes, TakesAll, plain-word, takes-append}
 use Rattle.abt_workload.proofs.UnitLines.{IsWhole, units-taken}
 use Rattle.abt_workload.proofs.WrittenLines.{lines-of-fitted}
 
@@ -34,7 +36,8 @@ declared-all a b [] h = h
 declared-all a b (words ∷ rest) h = ap (λ (s : Above). fold and_line s (map line_of rest)) h.1.declared ∙ declared-all h.0 b rest h.2
 
 -- none has a fault
-faultless-all : (a b : Above) (lines : List (List Text)) → TakesAll a lines b → (i : ℕ) → i < length (map line_of lines) → line_fault (fold and_line a (take i (map line_of lines))) (get_or (map line_of lines) i []) ≡ None
+faultless-all : (a b : Above) (lines : List (List Text)) → TakesAll a lines b → (i : ℕ) → i < length (map line_of lines)
+    → line_fault (fold and_line a (take i (map line_of lines))) (get_or (map line_of lines) i []) ≡ None
 faultless-all a b [] h i lt = absurd (omega arith)
 faultless-all a b (words ∷ rest) h zero lt = h.1.faultless
 faultless-all a b (words ∷ rest) h (suc i) lt =
@@ -42,7 +45,8 @@ faultless-all a b (words ∷ rest) h (suc i) lt =
     subst (λ (s : Above). line_fault (fold and_line s (take i (map line_of rest))) (get_or (map line_of rest) i []) ≡ None) (sym h.1.declared) rec
 
 -- a text of lines that are taken one after the other reads to what they declare, where the last is `end`
-reads-written : (text : Text) (lines : List (List Text)) (b : Above) → length text ≤ 4194304 → lines_of text ≡ map line_of lines → TakesAll nothing lines b → (b.section == 10) ≡ true → Reads text (parts_of b)
+reads-written : (text : Text) (lines : List (List Text)) (b : Above) → length text ≤ 4194304 → lines_of text ≡ map line_of lines → TakesAll nothing lines b → (b.section == 10) ≡ true
+    → Reads text (parts_of b)
 reads-written text lines b le same h ended = record { faultless = none; parts = ap parts_of (sym declared ∙ sym (ap declared_by same)) }
   where
     declared : declared_by (map line_of lines) ≡ b
@@ -53,7 +57,9 @@ reads-written text lines b le same h ended = record { faultless = none; parts = 
 
     none : (line : ℕ) → fault_at text line ≡ None
     none zero = fault-length text le
-    none (suc i) = ap (λ (ls : List Text). find (has_at ls i) faults) same ∙ faultless-end (map line_of lines) (length (map line_of lines)) b refl (sym declared) each ended i
+    none (suc i) =
+        ap (λ (ls : List Text). find (has_at ls i) faults) same
+        ∙ faultless-end (map line_of lines) (length (map line_of lines)) b refl (sym declared) each ended i
 
 -- The last line.
 
@@ -65,44 +71,31 @@ end_words = codes "end" ∷ []
 abbrev closed : Above → Above
 closed b = record b { section = 10; begun = true }
 
--- it follows `units` and the units
-end-placed : (b : Above) → (b.section ≡ 8) ⊎ (b.section ≡ 9) → is_misplaced b form.End ≡ false
-end-placed b (inl e) = rw e refl
-end-placed b (inr e) = rw e refl
-
--- no number is below its like
-not-below : (m n : ℕ) → m ≡ n → nat_lt m n ≡ false
-not-below m n e = search (rules, tests)
-
-module _ (b : Above) (streams count : ℕ) (begun : b.begun ≡ true) (has_streams : b.streams ≡ Some streams) (has_count : b.unit_count ≡ Some count) (all : declared_units b ≡ count) where
+module _ (b : Above) (streams count : ℕ) (begun : b.begun ≡ true) (has_streams : b.streams ≡ Some streams) (has_count : b.unit_count ≡ Some count)
+    (all : declared_units b ≡ count) where
   -- nothing is missing above it
   end-there : is_early b form.End ≡ false
-  end-there = let no : nat_lt (declared_units b) count ≡ false = not-below (declared_units b) count all in rw (has_streams, has_count, no) refl
+  end-there = let no : nat_lt (declared_units b) count ≡ false = le-ltb (declared_units b) count (omega arith) in rw (has_streams, has_count, no) refl
 
   -- the line is taken where all units are declared
-  end-taken : (b.section ≡ 8) ⊎ (b.section ≡ 9) → Takes b end_words (closed b)
-  end-taken place = taken b end_words form.End (all-one IsWord (codes "end") (plain-word (codes "end") refl)) refl (rw begun refl) refl (end-placed b place) refl (rw end-there refl)
+  end-taken : b.section ≤ 9 → Takes b end_words (closed b)
+  end-taken place =
+      takes b (closed b) form.End (codes "end") [] end_words
+      record { words_are = refl; form_is = refl; skipped = refl; plain = refl; chosen = plain-word (codes "end") refl }
+      tt
+      record { version = rw begun refl; placed = placed-alone b form.End (omega arith) (omega arith) refl; once = refl; limit = refl; task = refl; access = refl; early = end-there }
+      refl
 
 -- The whole text.
 
--- the lines of the units
-abbrev units_lines : Parts → List (List Text)
-units_lines W = flat_map (λ p. unit_lines W p.0 p.1) (enumerate_from 0 W.units)
-
 -- the lines of a workload but the last
 abbrev front_lines : Parts → List (List Text)
-front_lines W = head_lines W ++ units_lines W
-
--- the lines before that of `units`
-abbrev first_lines : Parts → List (List Text)
-first_lines W =
-    version_line ∷ (codes "streams" ∷ decimal W.streams ∷ []) ∷ keys_lines W.keys ++ numbered pool_line W.pools ++ numbered sched_line W.scheds ++ numbered stream_line W.mains ++ numbered object_line W.objects
+front_lines W = head_lines W ++ units_lines W 0 W.units
 
 -- the lines of a workload, parted before the last
 all-lines : (W : Parts) → workload_lines W ≡ front_lines W ++ end_words ∷ []
 all-lines W =
-    let count : List Text = codes "units" ∷ decimal (length W.units) ∷ [] in
-    ap (λ (ls : List (List Text)). ls ++ end_words ∷ []) (sym (append_assoc (first_lines W) (count ∷ []) (units_lines W)))
+    ap (λ (ls : List (List Text)). ls ++ end_words ∷ []) (sym (append_assoc (first_lines W) (units_words W ∷ []) (units_lines W 0 W.units)))
 
 -- the canonical text of valid parts reads to them
 pub reads-canonical : (W : Parts) → IsValid W → Reads (canonical_text W) W
@@ -110,18 +103,23 @@ reads-canonical W v =
     let whole = units-taken W v in
     let b : Above = whole.0 in
     let h : IsWhole W b = whole.2 in
-    let front : TakesAll nothing (front_lines W) b = takes-append nothing (head W) b (head_lines W) (units_lines W) (head-taken W v) whole.1 in
+    let front : TakesAll nothing (front_lines W) b = takes-append nothing (head W) b (head_lines W) (units_lines W 0 W.units) (head-taken W v) whole.1 in
     let last : Takes b end_words (closed b) = end-taken b W.streams (length W.units) h.begun h.streams h.unit_count h.declared h.section in
-    let all : TakesAll nothing (front_lines W ++ end_words ∷ []) (closed b) = takes-append nothing b (closed b) (front_lines W) (end_words ∷ []) front (closed b, last, refl) in
+    let all : TakesAll nothing (front_lines W ++ end_words ∷ []) (closed b) =
+    takes-append nothing b (closed b) (front_lines W) (end_words ∷ []) front (closed b, last, refl) in
     let same : lines_of (canonical_text W) ≡ map line_of (front_lines W ++ end_words ∷ []) =
-    ap (λ (ls : List (List Text)). lines_of (fitted (text_of ls))) (all-lines W) ∙ lines-of-fitted (front_lines W) end_words (written-all nothing b (front_lines W) front) (all-one IsWord (codes "end") (plain-word (codes "end") refl)) (omega arith) in
-    subst (λ (V : Parts). Reads (canonical_text W) V) h.parts (reads-written (canonical_text W) (front_lines W ++ end_words ∷ []) (closed b) v.few_bytes same all refl)
+    ap (λ (ls : List (List Text)). lines_of (fitted (text_of ls))) (all-lines W)
+    ∙ lines-of-fitted (front_lines W) end_words (written-all nothing b (front_lines W) front) last.written (omega arith) in
+    subst (λ (V : Parts). Reads (canonical_text W) V) h.parts
+    (reads-written (canonical_text W) (front_lines W ++ end_words ∷ []) (closed b) v.few_bytes same all refl)
 
 -- The other direction.
 
 -- the parts that a text reads to are valid
 pub only-valid : (text : Text) (W : Parts) → Reads text W → IsValid W
-only-valid text W reads = subst IsValid (sym reads.parts) (valid-end text short (λ i. reads.faultless (suc i)) (ended ((declared_by (lines_of text)).section == 10) refl))
+only-valid text W reads =
+    subst IsValid (sym reads.parts)
+    (valid-end text short (λ i. reads.faultless (suc i)) (ended ((declared_by (lines_of text)).section == 10) refl))
   where
     long : 4194304 < length text → length text ≤ 4194304
     long lt = let some = (refuses-length text lt).first in let none = reads.faultless 0 in cc

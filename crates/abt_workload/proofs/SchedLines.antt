@@ -1,11 +1,11 @@
 -- The lines of schedulers are taken.
-use Rattle.std.proofs.Common.{◌≡◌, ◌≢◌, ◌<◌, ◌≤◌, ◌∙◌, ◌==◌, ◌&&◌, ℕ, suc, All, true, false, List, [], ◌∷◌, ◌++◌, Option, Some, None, ap, arith, codes, decimal, length, map, nat_le, nat_lt, option_map, refl, replicate, slice_get, subst, sym}
-use Rattle.std.specs.List.{AllPairs, list_all, list_any}
-use Rattle.std.proofs.lemmas.Bool.{le-leb, le-ltb, lt-leb, lt-ltb, ne_eqb}
+use Rattle.std.proofs.Common.{◌≡◌, ◌≢◌, ◌<◌, ◌≤◌, ◌^◌, ◌-◌, ◌∙◌, ◌==◌, ℕ, suc, All, false, List, [], ◌∷◌, ◌++◌, Option, Some, None, ap, arith, codes, length, map, nat_le, nat_lt, option_map, refl, replicate, slice_get, subst, sym}
+use Rattle.std.specs.List.{AllPairs, list_any}
+use Rattle.std.proofs.lemmas.Bool.{le-ltb, lt-leb, ne_eqb}
 use Rattle.std.proofs.lemmas.List.{length-map}
-use Rattle.std.proofs.lemmas.List.Elements.{All-append}
+use Rattle.std.proofs.lemmas.List.Folds.{list_any_none}
+use Rattle.abt_machine.specs.declared.grammar.Form.{Form}
 use Rattle.abt_machine.specs.declared.grammar.Form.TheVariants as form
-use Rattle.abt_machine.specs.declared.grammar.Number.{Number}
 use Rattle.abt_machine.specs.declared.grammar.Number.TheVariants as number
 use Rattle.abt_machine.specs.declared.numbers.PoolNo.{PoolNo}
 use Rattle.abt_machine.specs.declared.operations.Rule.{Rule}
@@ -13,22 +13,25 @@ use Rattle.abt_machine.specs.declared.operations.Rule.TheVariants as rule
 use Rattle.abt_machine.specs.declared.workload.Parts.{Parts}
 use Rattle.abt_machine.specs.declared.workload.PoolPart.{PoolPart}
 use Rattle.abt_machine.specs.declared.workload.SchedPart.{SchedPart}
-use Rattle.abt_machine.specs.Canonical.{rule_words, sched_line}
-use Rattle.abt_machine.specs.Declaring.{Above, listed, rule_with, sched_with}
-use Rattle.abt_machine.specs.Faults.{has_repeated, is_there, is_within}
-use Rattle.abt_machine.specs.Forms.{form_of, rule_slots, slots}
+use Rattle.abt_machine.specs.Canonical.{sched_line}
+use Rattle.abt_machine.specs.Declaring.{Above, listed, sched_with}
+use Rattle.abt_machine.specs.Faults.{has_repeated}
+use Rattle.abt_machine.specs.Forms.{rule_slots, slots}
 use Rattle.abt_machine.specs.Numbers.{pool_no}
 use Rattle.abt_machine.specs.Valid.{IsRule, IsScheduler, IsValid}
-use Rattle.abt_machine.specs.Words.{Text, numbered}
+use Rattle.abt_machine.specs.Words.{numbered}
 use Rattle.abt_machine.specs.Workloads.{pools_from}
 use Rattle.abt_workload.specs.Slots.{values}
-use Rattle.abt_workload.proofs.Growing.{all-cons, all-head, all-tail}
-use Rattle.abt_workload.proofs.InOrder.{all-taken, front-shorter, get-at, or-both, placed-among, reached, reached-and, reached-le}
-use Rattle.abt_workload.proofs.Places.{and-both}
-use Rattle.abt_workload.proofs.Proper.{IsSchedIn, none-of}
+use Rattle.abt_workload.proofs.Filled.{IsWritten, as_pools, given, takes}
+use Rattle.abt_workload.proofs.Fitting.{AreFit, IsSmall, fit, fit-within}
+use Rattle.abt_workload.proofs.Growing.{all-head, all-tail}
+use Rattle.abt_workload.proofs.Heads.{placing}
+use Rattle.abt_workload.proofs.InOrder.{front-shorter, get-here, placed-among, reached, section-taken}
+use Rattle.abt_workload.proofs.Measures.{sched-line}
+use Rattle.abt_workload.proofs.Proper.{IsSchedIn}
+use Rattle.abt_workload.proofs.Places.{or-both}
 use Rattle.abt_workload.proofs.Taking.{Takes, TakesAll, plain-word}
 use Rattle.abt_workload.proofs.Weights.{filled}
-use Rattle.abt_workload.proofs.Filled.{AreWide, IsWide, given, plain_places, takes}
 
 -- a rule as the table of forms has it
 abbrev form_rule : Rule → Rule
@@ -54,151 +57,77 @@ numbers_in g r ps = g ∷ rule_number r ++ ps
 
 -- what is declared while schedulers are
 abbrev pub scheduling : ℕ → ℕ → ℕ → List PoolPart → List SchedPart → Above
-scheduling section streams keys pools scheds = record {
-  begun = true;
-  section = section;
-  streams = Some streams;
-  keys = keys;
-  pools = pools;
-  scheds = scheds;
-  mains = replicate streams None;
-  objects = [];
-  unit_count = None;
-  units = [];
-  last = None;
-  words = [];
-}
+scheduling section streams keys pools scheds = placing section streams keys pools scheds (replicate streams None) []
 
--- The words of a line.
+-- What a line says.
 
--- pools are written as their numbers
-decimals : (ps : List PoolNo) → map (λ (p : PoolNo). decimal p.0) ps ≡ map decimal (pools_in ps)
-decimals [] = refl
-decimals (p ∷ ps) = ap (λ (ws : List Text). decimal p.0 ∷ ws) (decimals ps)
+-- a line's numbers end with its pools
+listed-again : (g : ℕ) (r : Rule) (ps : List ℕ) → listed (form_rule r) (numbers_in g r ps) ≡ ps
+listed-again g rule.Basic ps = refl
+listed-again g _ ps = refl
 
--- a scheduler's line has its form's words
-words-are : (g : ℕ) (r : Rule) (ps : List PoolNo) → sched_line g (record { rule = r; pools = ps }) ≡ filled (slots (form.Sched (form_rule r))) (codes "sched") (numbers_in g r (pools_in ps))
-words-are g r ps = ap (λ (ws : List Text). codes "sched" ∷ decimal g ∷ rule_words r ++ ws) (decimals ps) ∙ by r
-  where
-    by : (q : Rule) → codes "sched" ∷ decimal g ∷ rule_words q ++ map decimal (pools_in ps) ≡ filled (slots (form.Sched (form_rule q))) (codes "sched") (numbers_in g q (pools_in ps))
-    by rule.Basic = refl
-    by _ = refl
-
--- the form of a scheduler's line, which lists a pool
-form-is : (g : ℕ) (r : Rule) (ps : List PoolNo) → 0 < length ps → form_of (sched_line g (record { rule = r; pools = ps })) ≡ Some (form.Sched (form_rule r))
-form-is g r [] some = absurd (omega arith)
-form-is g r (p ∷ ps) some = by r
-  where
-    by : (q : Rule) → form_of (sched_line g (record { rule = q; pools = p ∷ ps })) ≡ Some (form.Sched (form_rule q))
-    by rule.Basic = refl
-    by _ = refl
-
--- the fixed words of a line are words
-plain : (r : Rule) → plain_places (slots (form.Sched (form_rule r))) ≡ true
-plain rule.Basic = refl
-plain _ = refl
-
--- a rule's number has 64 bits
-rule-wide : (r : Rule) → IsRule r → AreWide (rule_number r)
-rule-wide rule.Basic h = none-of _
-rule-wide rule.Prio h = none-of _
-rule-wide (rule.Randws seed) h = all-cons IsWide seed [] h (none-of _)
-rule-wide (rule.User k) h = all-cons IsWide k [] (omega arith) (none-of _)
-
--- The numbers of a line.
-
--- the pools that are read are those that were written
-values-pools : (ps : List ℕ) → values (map (λ m. (number.Pool, m)) ps) ≡ ps
-values-pools [] = refl
-values-pools (p ∷ ps) = ap (λ (ms : List ℕ). p ∷ ms) (values-pools ps)
-
-listed-again : (g : ℕ) (r : Rule) (ps : List ℕ) → listed (form_rule r) (values (given (slots (form.Sched (form_rule r))) (numbers_in g r ps))) ≡ ps
-listed-again g rule.Basic ps = values-pools ps
-listed-again g rule.Prio ps = values-pools ps
-listed-again g (rule.Randws seed) ps = values-pools ps
-listed-again g (rule.User k) ps = values-pools ps
-
--- the number and the form say the rule
-rule-again : (g : ℕ) (r : Rule) (ps : List ℕ) → rule_with (form_rule r) (values (given (slots (form.Sched (form_rule r))) (numbers_in g r ps))) ≡ r
-rule-again g rule.Basic ps = refl
-rule-again g _ ps = refl
-
--- the numbers say the pools
+-- pools are those of their numbers
 pools-again : (ps : List PoolNo) → map pool_no (pools_in ps) ≡ ps
 pools-again [] = refl
 pools-again (p ∷ ps) = ap (λ (qs : List PoolNo). p ∷ qs) (pools-again ps)
 
--- the line says the scheduler
-part-again : (g : ℕ) (part : SchedPart) → sched_with (form_rule part.rule) (values (given (slots (form.Sched (form_rule part.rule))) (numbers_in g part.rule (pools_in part.pools)))) ≡ part
-part-again g part =
-    let r = rule-again g part.rule (pools_in part.pools) in
-    let ps : map pool_no (listed (form_rule part.rule) (values (given (slots (form.Sched (form_rule part.rule))) (numbers_in g part.rule (pools_in part.pools))))) ≡ part.pools = ap (map pool_no) (listed-again g part.rule (pools_in part.pools)) ∙ pools-again part.pools in
-    rw (r, ps) refl
+-- the numbers and the form say the scheduler
+part-again : (g : ℕ) (r : Rule) (ps : List PoolNo) → sched_with (form_rule r) (numbers_in g r (pools_in ps)) ≡ record { rule = r; pools = ps }
+part-again g rule.Basic ps = ap (λ (qs : List PoolNo). record { rule = rule.Basic; pools = qs }) (pools-again ps)
+part-again g r ps = ap (λ (qs : List PoolNo). record { rule = r; pools = qs }) (pools-again ps)
 
--- The faults of a line.
+-- a scheduler's line has its form's words
+words-are : (g : ℕ) (r : Rule) (ps : List PoolNo) → 0 < length ps
+    → sched_line g (record { rule = r; pools = ps }) ≡ filled (slots (form.Sched (form_rule r))) (codes "sched") (numbers_in g r (pools_in ps))
+words-are g r ps some =
+    ap (sched_line g) (sym (part-again g r ps))
+    ∙ sched-line (codes "sched") (form_rule r) (numbers_in g r (pools_in ps)) (rw (listed-again g r (pools_in ps), length-map) some)
 
--- a number that differs from each of these is none of them
-not-again : (n : ℕ) (ns : List ℕ) → All (λ m. n ≢ m) ns → list_any (λ m. m == n) ns ≡ false
-not-again n [] h = refl
-not-again n (m ∷ ms) h = or-both (m == n) _ (ne_eqb m n (λ e. all-head (λ k. n ≢ k) m ms h (sym e))) (not-again n ms (all-tail (λ k. n ≢ k) m ms h))
+-- a scheduler's line, which lists a pool, is written of its form
+written : (g : ℕ) (r : Rule) (ps : List PoolNo) → 0 < length ps
+    → IsWritten (form.Sched (form_rule r)) (codes "sched") (numbers_in g r (pools_in ps)) (sched_line g (record { rule = r; pools = ps }))
+written g r [] some = absurd (omega arith)
+written g r (p ∷ ps) some = by r
+  where
+    by : (q : Rule) → IsWritten (form.Sched (form_rule q)) (codes "sched") (numbers_in g q (pools_in (p ∷ ps))) (sched_line g (record { rule = q; pools = p ∷ ps }))
+    by rule.Basic = record { words_are = words-are g rule.Basic (p ∷ ps) some; form_is = refl; skipped = refl; plain = refl; chosen = plain-word (codes "sched") refl }
+    by q = record { words_are = words-are g q (p ∷ ps) some; form_is = refl; skipped = refl; plain = refl; chosen = plain-word (codes "sched") refl }
+
+-- The numbers of a line.
+
+-- pools are read as they were written
+pools-read : (ps : List ℕ) → values (as_pools ps) ≡ ps
+pools-read [] = refl
+pools-read (p ∷ ps) = ap (λ (ms : List ℕ). p ∷ ms) (pools-read ps)
+
+-- and so are all numbers of a line
+numbers-read : (g : ℕ) (r : Rule) (ps : List ℕ) → values (given (slots (form.Sched (form_rule r))) (numbers_in g r ps)) ≡ numbers_in g r ps
+numbers-read g rule.Basic ps = ap (λ (ms : List ℕ). g ∷ ms) (pools-read ps)
+numbers-read g rule.Prio ps = ap (λ (ms : List ℕ). g ∷ ms) (pools-read ps)
+numbers-read g (rule.Randws seed) ps = ap (λ (ms : List ℕ). g ∷ seed ∷ ms) (pools-read ps)
+numbers-read g (rule.User k) ps = ap (λ (ms : List ℕ). g ∷ k ∷ ms) (pools-read ps)
+
+module _ (a : Above) (small : IsSmall a) where
+  -- declared pools may stand in a line
+  pools-fit : (ps : List ℕ) → All (λ p. p < length a.pools) ps → AreFit a (as_pools ps)
+  pools-fit [] h = tt
+  pools-fit (p ∷ ps) h = (fit a small number.Pool p (all-head (λ q. q < length a.pools) p ps h), pools-fit ps (all-tail (λ q. q < length a.pools) p ps h))
+
+  -- so may a rule's number before them
+  rule-fit : (r : Rule) (ps : List ℕ) → IsRule r → All (λ p. p < length a.pools) ps → AreFit a (given (rule_slots (form_rule r)) (rule_number r ++ ps))
+  rule-fit (rule.Randws seed) ps h there = (fit-within a 0 (2 ^ 64 - 1) seed (omega arith) (omega arith) h, pools-fit ps there)
+  rule-fit (rule.User k) ps h there = (fit-within a 0 1 k (omega arith) (omega arith) (omega arith), pools-fit ps there)
+  rule-fit _ ps h there = pools-fit ps there
 
 -- of numbers that differ none stands twice
 none-repeated : (ns : List ℕ) → AllPairs (λ x y. x ≢ y) ns → has_repeated ns ≡ false
 none-repeated [] h = refl
 none-repeated (n ∷ ns) h =
-    or-both (list_any (λ m. m == n) ns) _ (not-again n ns (λ k d lt. h 0 (suc k) d (omega arith) (omega arith))) (none-repeated ns (λ i j d lt within. h (suc i) (suc j) d (omega arith) (omega arith)))
+    or-both (list_any (λ m. m == n) ns) _
+    (list_any_none (λ m. m == n) ns (λ k d lt. ne_eqb _ n (λ e. h 0 (suc k) d (omega arith) (omega arith) (sym e))))
+    (none-repeated ns (λ i j d lt within. h (suc i) (suc j) d (omega arith) (omega arith)))
 
--- the pools are declared
-pools-there : (a : Above) (ps : List ℕ) → All (λ p. p < length a.pools) ps → list_all (λ (p : Number × ℕ). is_there a p.0 p.1) (map (λ m. (number.Pool, m)) ps) ≡ true
-pools-there a [] h = refl
-pools-there a (p ∷ ps) h = and-both (nat_lt p (length a.pools)) _ (lt-ltb p (length a.pools) (all-head (λ q. q < length a.pools) p ps h)) (pools-there a ps (all-tail (λ q. q < length a.pools) p ps h))
-
-named : (a : Above) (r : Rule) (ps : List ℕ) → All (λ p. p < length a.pools) ps → list_all (λ (p : Number × ℕ). is_there a p.0 p.1) (given (rule_slots (form_rule r)) (rule_number r ++ ps)) ≡ true
-named a rule.Basic ps h = pools-there a ps h
-named a rule.Prio ps h = pools-there a ps h
-named a (rule.Randws seed) ps h = pools-there a ps h
-named a (rule.User k) ps h = pools-there a ps h
-
--- a number of a pool has no bounds
-pools-within : (ps : List ℕ) → list_all (λ (p : Number × ℕ). is_within p.0 p.1) (map (λ m. (number.Pool, m)) ps) ≡ true
-pools-within [] = refl
-pools-within (p ∷ ps) = pools-within ps
-
--- a rule's number keeps its bounds
-in-bounds : (r : Rule) (ps : List ℕ) → IsRule r → list_all (λ (p : Number × ℕ). is_within p.0 p.1) (given (rule_slots (form_rule r)) (rule_number r ++ ps)) ≡ true
-in-bounds rule.Basic ps h = pools-within ps
-in-bounds rule.Prio ps h = pools-within ps
-in-bounds (rule.Randws seed) ps h = and-both (nat_le 0 seed && nat_le seed 18446744073709551615) _ (and-both (nat_le 0 seed) _ (le-leb 0 seed (omega arith)) (le-leb seed 18446744073709551615 (omega arith))) (pools-within ps)
-in-bounds (rule.User k) ps h = and-both (nat_le 0 k && nat_le k 1) _ (and-both (nat_le 0 k) _ (le-leb 0 k (omega arith)) (le-leb k 1 (omega arith))) (pools-within ps)
-
--- the line of the next scheduler is taken
-sched-taken : (section n keys : ℕ) (pools : List PoolPart) (gs : List SchedPart) (part : SchedPart) → section ≤ 5 → length pools ≤ 64 → length gs < 64 → IsSchedIn (length pools) part
-    → Takes (scheduling section n keys pools gs) (sched_line (length gs) part) (scheduling 5 n keys pools (gs ++ part ∷ []))
-sched-taken section n keys pools gs part le few_pools few h =
-    let a : Above = scheduling section n keys pools gs in
-    let ps : List ℕ = pools_in part.pools in
-    let again : listed (form_rule part.rule) (values (given (slots (form.Sched (form_rule part.rule))) (numbers_in (length gs) part.rule ps))) ≡ ps = listed-again (length gs) part.rule ps in
-    takes a (scheduling 5 n keys pools (gs ++ part ∷ [])) (form.Sched (form_rule part.rule)) (codes "sched") (numbers_in (length gs) part.rule ps) (sched_line (length gs) part)
-    record {
-      words_are = words-are (length gs) part.rule part.pools;
-      form_is = form-is (length gs) part.rule part.pools h.some_pool;
-      skipped = refl;
-      plain = plain part.rule;
-      chosen = plain-word (codes "sched") refl;
-      wide = all-cons IsWide (length gs) (rule_number part.rule ++ ps) (omega arith) (All-append IsWide (rule_number part.rule) ps (rule-wide part.rule h.rule) (λ k d lt. let l = h.listed k d lt in omega (arith, l)));
-    }
-    refl
-    (placed-among a (form.Sched (form_rule part.rule)) le (omega arith) refl refl)
-    record {
-      once = or-both (nat_lt (length gs) (length gs)) _ (le-ltb (length gs) (length gs) (omega arith)) (ap has_repeated again ∙ none-repeated ps h.once);
-      there = and-both (nat_le (length gs) (length gs)) _ (le-leb (length gs) (length gs) (omega arith)) (named a part.rule ps h.listed);
-      within = in-bounds part.rule ps h.rule;
-      limit = or-both (nat_le 64 (length gs)) _ (lt-leb 64 (length gs) few) (ap (λ (ns : List ℕ). nat_lt 8 (length ns)) again ∙ le-ltb 8 (length ps) (let few_listed = h.few_pools in rw length-map few_listed));
-      task = refl;
-      access = refl;
-      early = refl;
-    }
-    (ap (λ (x : SchedPart). scheduling 5 n keys pools (gs ++ x ∷ [])) (part-again (length gs) part))
+-- Lines.
 
 -- a scheduler of a workload is among its pools
 sched-in : (W : Parts) (g : ℕ) (part : SchedPart) → slice_get W.scheds g ≡ Some part → IsScheduler W g → IsSchedIn (length W.pools) part
@@ -212,14 +141,38 @@ sched-in W g part is h =
       once = subst (λ (ns : List ℕ). AllPairs (λ x y. x ≢ y) ns) same h.once;
     }
 
+-- the line of the next scheduler is taken
+sched-taken : (W : Parts) → IsValid W → (section : ℕ) → section ≤ 5 → (front : List SchedPart) (part : SchedPart) (rest : List SchedPart) → front ++ part ∷ rest ≡ W.scheds
+    → Takes (scheduling section W.streams W.keys W.pools front) (sched_line (length front) part) (scheduling 5 W.streams W.keys W.pools (front ++ part ∷ []))
+sched-taken W v section le front part rest e =
+    let a : Above = scheduling section W.streams W.keys W.pools front in
+    let g : ℕ = length front in
+    let f : Form = form.Sched (form_rule part.rule) in
+    let ps : List ℕ = pools_in part.pools in
+    let lt : g < length W.scheds = front-shorter front part rest W.scheds e in
+    let few : length W.scheds ≤ 64 = v.few_scheds in
+    let h : IsSchedIn (length W.pools) part = sched-in W g part (get-here front part rest W.scheds e) (v.scheds g lt) in
+    let small : IsSmall a = record { streams = v.few_streams; keys = v.few_keys; pools = v.few_pools; scheds = omega arith; objects = omega arith; units = omega arith } in
+    let read : values (given (slots f) (numbers_in g part.rule ps)) ≡ numbers_in g part.rule ps = numbers-read g part.rule ps in
+    let pools : listed (form_rule part.rule) (values (given (slots f) (numbers_in g part.rule ps))) ≡ ps =
+    ap (listed (form_rule part.rule)) read ∙ listed-again g part.rule ps in
+    let few_listed : length ps ≤ 8 = let most = h.few_pools in rw length-map most in
+    takes a (scheduling 5 W.streams W.keys W.pools (front ++ part ∷ [])) f (codes "sched") (numbers_in g part.rule ps) (sched_line g part)
+    (written g part.rule part.pools h.some_pool)
+    (fit a small number.NewSched g refl, rule-fit a small part.rule ps h.rule h.listed)
+    record {
+      version = refl;
+      placed = placed-among a f le (omega arith) refl refl;
+      once = or-both (nat_lt g g) _ (le-ltb g g (omega arith)) (ap has_repeated pools ∙ none-repeated ps h.once);
+      limit = or-both (nat_le 64 g) _ (lt-leb 64 g (omega arith)) (ap (λ (ns : List ℕ). nat_lt 8 (length ns)) pools ∙ le-ltb 8 (length ps) few_listed);
+      task = refl;
+      access = refl;
+      early = refl;
+    }
+    (ap (λ (x : SchedPart). scheduling 5 W.streams W.keys W.pools (front ++ x ∷ []))
+    (ap (sched_with (form_rule part.rule)) read ∙ part-again g part.rule part.pools))
+
 -- the lines of a workload's schedulers are taken
 pub scheds-taken : (W : Parts) → IsValid W → (section : ℕ) → section ≤ 5
     → TakesAll (scheduling section W.streams W.keys W.pools []) (numbered sched_line W.scheds) (scheduling (reached section 5 W.scheds) W.streams W.keys W.pools W.scheds)
-scheds-taken W v section le =
-    all-taken sched_line (λ (gs : List SchedPart). scheduling (reached section 5 gs) W.streams W.keys W.pools gs) W.scheds
-    (λ front part rest e.
-    let lt = front-shorter front part rest W.scheds e in
-    let few = v.few_scheds in
-    let is : slice_get W.scheds (length front) ≡ Some part = sym (ap (λ (gs : List SchedPart). slice_get gs (length front)) e) ∙ get-at front part rest in
-    subst (λ s. Takes (scheduling (reached section 5 front) W.streams W.keys W.pools front) (sched_line (length front) part) (scheduling s W.streams W.keys W.pools (front ++ part ∷ []))) (reached-and section 5 front part)
-    (sched-taken (reached section 5 front) W.streams W.keys W.pools front part (reached-le section 5 front le) v.few_pools (omega arith) (sched-in W (length front) part is (v.scheds (length front) lt))))
+scheds-taken W v section le = section-taken sched_line (λ s front. scheduling s W.streams W.keys W.pools front) section 5 le W.scheds (sched-taken W v)

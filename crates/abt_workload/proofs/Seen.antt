@@ -1,7 +1,8 @@
 -- Lines that are taken one after the other.
-use Rattle.std.proofs.Common.{◌≡◌, ◌<◌, ◌≤◌, ◌+◌, ◌==◌, ◌&&◌, ◌∙◌, ℕ, zero, suc, Bool, true, false, List, [], ◌∷◌, ◌++◌, length, take, drop, get_or, find, Option, Some, None, arith, refl, sym, ap, add-one, fold, length-drop, if◌then◌else◌, nat_lt, rules, tests, subst, inl, inr, ◌⊎◌}
+use Rattle.std.proofs.Common.{◌≡◌, ◌<◌, ◌≤◌, ◌+◌, ◌==◌, ◌&&◌, ◌∙◌, ℕ, zero, suc, Bool, true, false, List, [], ◌∷◌, length, take, drop, get_or, find, Option, Some, None, arith, refl, sym, ap, add-one, length-drop, if◌then◌else◌, nat_lt, rules, tests, subst, inl, inr, ◌⊎◌}
 use Rattle.std.proofs.lemmas.Bool.{cases_order, lt-ltb}
 use Rattle.std.proofs.lemmas.List.{take_all, take_more}
+use Rattle.std.proofs.lemmas.List.Sums.{fold-append}
 use Rattle.abt_machine.specs.declared.program.Fault.{Fault}
 use Rattle.abt_machine.specs.declared.program.Fault.TheVariants as fault
 use Rattle.abt_machine.specs.Declaring.{Above, nothing}
@@ -23,27 +24,24 @@ front [] (suc n) x xs e = cc
 front (y ∷ ys) zero x xs e = record { lt = omega arith; item = cc; next = cc }
 front (y ∷ ys) (suc n) x xs e = let h = front ys n x xs e in record { lt = omega (arith, h.lt); item = h.item; next = h.next }
 
-fold_push : (s : Above) (xs : List Text) (x : Text) → fold and_line s (xs ++ x ∷ []) ≡ and_line (fold and_line s xs) x
-fold_push s [] x = refl
-fold_push s (y ∷ ys) x = fold_push (and_line s y) ys x
-
 pub declared-more : (L : List Text) (n : ℕ) (x : Text) (xs : List Text) (a b : Above) → drop n L ≡ x ∷ xs → a ≡ declared_by (take n L) → b ≡ and_line a x → b ≡ declared_by (take (n + 1) L)
 declared-more L n x xs a b e at is =
     let h = front L n x xs e in
-    is ∙ (ap (λ (s : Above). and_line s x) at ∙ (ap (λ (t : Text). and_line (declared_by (take n L)) t) (sym h.item) ∙ sym (ap declared_by (take_more L n [] h.lt) ∙ fold_push nothing (take n L) (get_or L n []))))
+    is ∙ (ap (λ (s : Above). and_line s x) at ∙ (ap (λ (t : Text). and_line (declared_by (take n L)) t) (sym h.item) ∙ sym (ap declared_by (take_more L n [] h.lt) ∙ fold-append and_line nothing (take n L) (get_or L n [] ∷ []))))
 
 pub drop-more : (L : List Text) (n : ℕ) (x : Text) (xs : List Text) → drop n L ≡ x ∷ xs → drop (n + 1) L ≡ xs
 drop-more L n x xs e = rw add-one ((front L n x xs e).next)
 
 -- The fault at a place.
 
-by-place : List Text → ℕ → Bool → Fault → Bool
+-- a line's fault, where there is a line, and that of an end that is missing
+abbrev by-place : List Text → ℕ → Bool → Fault → Bool
 by-place L n there f = if there then line_has (declared_by (take n L)) (get_or L n []) f else ((n == length L) && ends_early (declared_by L) f)
 
 pub fault-in : (L : List Text) (n : ℕ) → n < length L → find (has_at L n) faults ≡ line_fault (declared_by (take n L)) (get_or L n [])
 fault-in L n lt =
     let yes : nat_lt n (length L) ≡ true = lt-ltb n (length L) lt in
-    ap (λ (b : Bool). find (λ f. if b then line_has (declared_by (take n L)) (get_or L n []) f else ((n == length L) && ends_early (declared_by L) f)) faults) yes
+    ap (λ (b : Bool). find (by-place L n b) faults) yes
 
 pub fault-here : (L : List Text) (n : ℕ) (x : Text) (xs : List Text) (a : Above) → drop n L ≡ x ∷ xs → a ≡ declared_by (take n L) → find (has_at L n) faults ≡ line_fault a x
 fault-here L n x xs a e at =
@@ -59,7 +57,7 @@ pub fault-after : (L : List Text) → find (has_at L (length L)) faults ≡ afte
 fault-after L =
     let no : nat_lt (length L) (length L) ≡ false = search (rules, tests) in
     let yes : (length L == length L) ≡ true = search (rules, tests) in
-    ap (λ (b : Bool). find (λ f. if b then line_has (declared_by (take (length L) L)) (get_or L (length L) []) f else ((length L == length L) && ends_early (declared_by L) f)) faults) no
+    ap (λ (b : Bool). find (by-place L (length L) b) faults) no
     ∙ (ap (λ (b : Bool). find (λ f. b && ends_early (declared_by L) f) faults) yes ∙ by ((declared_by L).section == 10) refl)
   where
     by : (b : Bool) → ((declared_by L).section == 10) ≡ b → find (λ f. ends_early (declared_by L) f) faults ≡ after-by ((declared_by L).section == 10)
@@ -70,7 +68,7 @@ pub fault-past : (L : List Text) (n : ℕ) → length L < n → find (has_at L n
 fault-past L n lt =
     let no : nat_lt n (length L) ≡ false = search (rules, tests) in
     let other : (n == length L) ≡ false = search (rules, tests) in
-    ap (λ (b : Bool). find (λ f. if b then line_has (declared_by (take n L)) (get_or L n []) f else ((n == length L) && ends_early (declared_by L) f)) faults) no
+    ap (λ (b : Bool). find (by-place L n b) faults) no
     ∙ ap (λ (b : Bool). find (λ f. b && ends_early (declared_by L) f) faults) other
 
 -- The text's length.

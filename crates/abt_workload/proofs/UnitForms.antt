@@ -1,8 +1,8 @@
 -- What a unit's line is in the table of forms.
-use Rattle.std.proofs.Common.{◌≡◌, ◌<◌, ℕ, List, [], ◌∷◌, ◌++◌, Option, Some, None, length, option_map, refl}
+use Rattle.std.proofs.Common.{◌≡◌, ◌<◌, ℕ, List, [], ◌∷◌, ◌++◌, Option, Some, None, codes, length, option_map, refl}
+use Rattle.abt_machine.specs.declared.grammar.Form.{Form}
 use Rattle.abt_machine.specs.declared.grammar.Form.TheVariants as form
 use Rattle.abt_machine.specs.declared.grammar.Number.{Number}
-use Rattle.abt_machine.specs.declared.grammar.Number.TheVariants as number
 use Rattle.abt_machine.specs.declared.grammar.Role.{Role}
 use Rattle.abt_machine.specs.declared.grammar.Role.TheVariants as role
 use Rattle.abt_machine.specs.declared.numbers.PoolNo.{PoolNo}
@@ -10,16 +10,18 @@ use Rattle.abt_machine.specs.declared.operations.Body.{Body}
 use Rattle.abt_machine.specs.declared.operations.Body.TheVariants as body
 use Rattle.abt_machine.specs.declared.workload.Parts.{Parts}
 use Rattle.abt_machine.specs.declared.workload.UnitPart.{UnitPart}
-use Rattle.abt_machine.specs.Declaring.{unit_with}
-use Rattle.abt_machine.specs.Forms.{form_of, numerals, slots}
+use Rattle.abt_machine.specs.Declaring.{declared_units, unit_with}
+use Rattle.abt_machine.specs.Forms.{slots}
 use Rattle.abt_machine.specs.Numbers.{pool_no}
 use Rattle.abt_machine.specs.Valid.{IsBody}
 use Rattle.abt_workload.specs.Slots.{values}
 use Rattle.abt_workload.proofs.Costs.{header}
-use Rattle.abt_workload.proofs.NumberedLines.{spelled}
+use Rattle.abt_workload.proofs.Filled.{IsWritten, given}
+use Rattle.abt_workload.proofs.Fitting.{AreMet}
 use Rattle.abt_workload.proofs.OperationLines.{body_like}
 use Rattle.abt_workload.proofs.Proper.{IsStartIn}
-use Rattle.abt_workload.proofs.Reaching.{AreMet}
+use Rattle.abt_workload.proofs.Reaching.{reached}
+use Rattle.abt_workload.proofs.Taking.{plain-word}
 
 -- what a body is
 abbrev pub role_of : Body → Role
@@ -31,41 +33,50 @@ role_of (body.Sched g) = role.Sched
 abbrev pub start_form : Option PoolNo → Option PoolNo
 start_form = option_map (λ (p : PoolNo). pool_no 0)
 
+-- a unit's form
+abbrev pub unit_form : Body → Option PoolNo → Form
+unit_form b start = form.Unit (role_of b) (start_form start)
+
 -- the numbers of a body's words
-abbrev body_numbers : Body → List (Number × ℕ)
+abbrev body_numbers : Body → List ℕ
 body_numbers (body.Ult ops) = []
 body_numbers (body.Task ops) = []
-body_numbers (body.Sched g) = (number.Sched, g.0) ∷ []
+body_numbers (body.Sched g) = g.0 ∷ []
 
 -- the numbers of a start's words
-abbrev start_numbers : Option PoolNo → List (Number × ℕ)
+abbrev start_numbers : Option PoolNo → List ℕ
 start_numbers None = []
-start_numbers (Some p) = (number.Pool, p.0) ∷ []
+start_numbers (Some p) = p.0 ∷ []
 
--- the numbers of a unit's line, each with what it is
-abbrev pub unit_numbers : ℕ → UnitPart → List (Number × ℕ)
-unit_numbers u part = (number.NewUnit, u) ∷ (body_numbers part.body ++ start_numbers part.start)
+-- the numbers of a unit's line
+abbrev pub unit_numbers : ℕ → Body → Option PoolNo → List ℕ
+unit_numbers u b start = u ∷ body_numbers b ++ start_numbers start
 
--- a unit's line is this, and declares the unit without its operations
-pub record IsUnitFormed (u : ℕ) (part : UnitPart) : Type 0 where
-  pub form_is : form_of (header u part) ≡ Some (form.Unit (role_of part.body) (start_form part.start))
-  pub numbers : numerals (slots (form.Unit (role_of part.body) (start_form part.start))) (header u part) ≡ spelled (unit_numbers u part)
-  pub made : unit_with (role_of part.body) (start_form part.start) (values (unit_numbers u part)) ≡ record { body = body_like part.body []; start = part.start }
+-- the numbers that are read of it, each with what it is
+abbrev pub unit_given : ℕ → Body → Option PoolNo → List (Number × ℕ)
+unit_given u b start = given (slots (unit_form b start)) (unit_numbers u b start)
 
--- each unit has a form
-pub unit-formed : (u : ℕ) (b : Body) (start : Option PoolNo) → IsUnitFormed u (record { body = b; start = start })
-unit-formed u (body.Ult ops) None = record { form_is = refl; numbers = refl; made = refl }
-unit-formed u (body.Ult ops) (Some p) = record { form_is = refl; numbers = refl; made = refl }
-unit-formed u (body.Task ops) None = record { form_is = refl; numbers = refl; made = refl }
-unit-formed u (body.Task ops) (Some p) = record { form_is = refl; numbers = refl; made = refl }
-unit-formed u (body.Sched g) None = record { form_is = refl; numbers = refl; made = refl }
-unit-formed u (body.Sched g) (Some p) = record { form_is = refl; numbers = refl; made = refl }
+-- each unit's line is written of its form
+pub unit-written : (u : ℕ) (b : Body) (start : Option PoolNo)
+    → IsWritten (unit_form b start) (codes "unit") (unit_numbers u b start) (header u (record { body = b; start = start }))
+unit-written u (body.Ult ops) None = record { words_are = refl; form_is = refl; skipped = refl; plain = refl; chosen = plain-word (codes "unit") refl }
+unit-written u (body.Ult ops) (Some p) = record { words_are = refl; form_is = refl; skipped = refl; plain = refl; chosen = plain-word (codes "unit") refl }
+unit-written u _ None = record { words_are = refl; form_is = refl; skipped = refl; plain = refl; chosen = plain-word (codes "unit") refl }
+unit-written u _ (Some p) = record { words_are = refl; form_is = refl; skipped = refl; plain = refl; chosen = plain-word (codes "unit") refl }
+
+-- and declares the unit without its operations
+pub unit-made : (u : ℕ) (b : Body) (start : Option PoolNo)
+    → unit_with (role_of b) (start_form start) (values (unit_given u b start)) ≡ record { body = body_like b []; start = start }
+unit-made u (body.Ult ops) None = refl
+unit-made u (body.Ult ops) (Some p) = refl
+unit-made u _ None = refl
+unit-made u _ (Some p) = refl
 
 -- its numbers name what is declared
-pub unit-met : (W : Parts) (u n : ℕ) (b : Body) (start : Option PoolNo) → u ≡ n → u < length W.units → IsBody W b → IsStartIn (length W.pools) start → AreMet W n (unit_numbers u (record { body = b; start = start }))
-unit-met W u n (body.Ult ops) None e lt kind there = (e, lt)
-unit-met W u n (body.Ult ops) (Some p) e lt kind there = ((e, lt), there)
-unit-met W u n (body.Task ops) None e lt kind there = (e, lt)
-unit-met W u n (body.Task ops) (Some p) e lt kind there = ((e, lt), there)
-unit-met W u n (body.Sched g) None e lt kind there = ((e, lt), kind)
-unit-met W u n (body.Sched g) (Some p) e lt kind there = ((e, lt), (kind, there))
+pub unit-met : (W : Parts) (s : ℕ) (units : List UnitPart) (last : Option UnitPart) (said : List ℕ) (u : ℕ) (b : Body) (start : Option PoolNo)
+    → u ≡ declared_units (reached W s units last said) → u < length W.units → IsBody W b → IsStartIn (length W.pools) start
+    → AreMet (reached W s units last said) (unit_given u b start)
+unit-met W s units last said u (body.Sched g) None e lt kind there = ((e, lt), kind)
+unit-met W s units last said u (body.Sched g) (Some p) e lt kind there = ((e, lt), (kind, there))
+unit-met W s units last said u _ None e lt kind there = (e, lt)
+unit-met W s units last said u _ (Some p) e lt kind there = ((e, lt), there)

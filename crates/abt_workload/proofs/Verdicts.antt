@@ -20,15 +20,6 @@ use Rattle.abt_workload.specs.Judging.{HasForm, later_fault}
 -- The order of the faults.
 
 module _ (test : Fault → Bool) where
-  pub first-utf8 : test fault.Utf8 ≡ true → find test faults ≡ Some fault.Utf8
-  first-utf8 e = rw e refl
-
-  pub first-version : test fault.Utf8 ≡ false → test fault.Version ≡ true → find test faults ≡ Some fault.Version
-  first-version u e = rw (u, e) refl
-
-  pub first-unknown : test fault.Utf8 ≡ false → test fault.Version ≡ false → test fault.Unknown ≡ true → find test faults ≡ Some fault.Unknown
-  first-unknown u v e = rw (u, v, e) refl
-
   pub first-shape : test fault.Utf8 ≡ false → test fault.Version ≡ false → test fault.Unknown ≡ false → test fault.Shape ≡ true → find test faults ≡ Some fault.Shape
   first-shape u v k e = rw (u, v, k, e) refl
 

@@ -61,7 +61,8 @@ words-weight line = let f = filter-lighter (λ w. not (is_empty w)) (slice_split
 
 -- Numbers.
 
-own : IsNumeralModel (λ ds. all_ascii_digits ds ≡ true) (value_from 0)
+-- digits, and the number that they say
+pub own : IsNumeralModel (λ ds. all_ascii_digits ds ≡ true) (value_from 0)
 own = numerals_by_fold _ tells_all_ascii_digits value_from (record { empty = λ n. refl; more = λ n c cs r. refl })
 
 some-length : (w : Text) → not (is_empty w) ≡ true → 0 < length w

@@ -1,6 +1,7 @@
 -- Lines that are written of words, and texts of lines: they are read as they were written.
 use Rattle.std.proofs.Common.{◌≡◌, ◌≢◌, ◌<◌, ◌≤◌, ◌-◌, ◌==◌, ◌∙◌, ℕ, zero, suc, Bool, true, false, List, [], ◌∷◌, ◌++◌, All, IsAscii, IsUtf8, ap, append-nil, append_assoc, arith, cond, get_or, length, length-append, map, nat_lt, refl, rules, sym, tests, take}
 use Rattle.std.specs.Str.{is_utf8}
+use Rattle.std.proofs.lemmas.List.{map-append}
 use Rattle.std.proofs.lemmas.List.Concat.{flat_map-append}
 use Rattle.std.proofs.lemmas.List.Elements.{All-append}
 use Rattle.std.proofs.lemmas.List.Folds.{list_any_none}
@@ -11,7 +12,7 @@ use Rattle.abt_machine.specs.Spelling.{has_control, is_control, is_empty, is_sep
 use Rattle.abt_machine.specs.Valid.{IsVisible, IsWord}
 use Rattle.abt_machine.specs.Words.{Text, ended, line_of, spaced, text_of}
 use Rattle.abt_workload.proofs.Growing.{all-cons, all-head, all-tail, all-one}
-use Rattle.abt_workload.proofs.LineEnds.{lines_whole}
+use Rattle.abt_workload.proofs.LineEnds.{lines_nil, lines_whole}
 use Rattle.abt_workload.proofs.Proper.{none-of}
 use Rattle.abt_workload.proofs.WordEnds.{words_first, words_past}
 
@@ -78,27 +79,27 @@ utf8-of-line words h = is_utf8-from_IsUtf8 (line_of words) (line-utf8 words h)
 -- Its bytes.
 
 -- a space or a visible byte
-abbrev IsWritten : ℕ → Type 0
-IsWritten b = (32 ≤ b) × (b ≢ 127)
+abbrev IsWrittenByte : ℕ → Type 0
+IsWrittenByte b = (32 ≤ b) × (b ≢ 127)
 
 -- the bytes of a word
-word-written : (w : Text) → All IsVisible w → All IsWritten w
+word-written : (w : Text) → All IsVisible w → All IsWrittenByte w
 word-written w h k d lt = let v : IsVisible (get_or w k d) = h k d lt in let above = v.0 in (omega arith, v.1)
 
 -- the bytes of words with a space before each
-spaced-written : (ws : List Text) → All IsWord ws → All IsWritten (spaced ws)
+spaced-written : (ws : List Text) → All IsWord ws → All IsWrittenByte (spaced ws)
 spaced-written [] h = none-of _
 spaced-written (w ∷ ws) h =
-    let here : All IsWritten (32 ∷ w) = all-cons IsWritten 32 w (omega arith, omega arith) (word-written w (all-head IsWord w ws h).visible) in
-    All-append IsWritten (32 ∷ w) (spaced ws) here (spaced-written ws (all-tail IsWord w ws h))
+    let here : All IsWrittenByte (32 ∷ w) = all-cons IsWrittenByte 32 w (omega arith, omega arith) (word-written w (all-head IsWord w ws h).visible) in
+    All-append IsWrittenByte (32 ∷ w) (spaced ws) here (spaced-written ws (all-tail IsWord w ws h))
 
 -- the bytes of a line
-line-written : (words : List Text) → All IsWord words → All IsWritten (line_of words)
+line-written : (words : List Text) → All IsWord words → All IsWrittenByte (line_of words)
 line-written [] h = none-of _
-line-written (w ∷ ws) h = All-append IsWritten w (spaced ws) (word-written w (all-head IsWord w ws h).visible) (spaced-written ws (all-tail IsWord w ws h))
+line-written (w ∷ ws) h = All-append IsWrittenByte w (spaced ws) (word-written w (all-head IsWord w ws h).visible) (spaced-written ws (all-tail IsWord w ws h))
 
 -- none is a control character
-no-control : (b : ℕ) → IsWritten b → is_control b ≡ false
+no-control : (b : ℕ) → IsWrittenByte b → is_control b ≡ false
 no-control b h =
     let above : 32 ≤ b = h.0 in
     let other : b ≢ 127 = h.1 in
@@ -120,7 +121,7 @@ IsUnended line = All (λ b. (b == 10) ≡ false) line
 line-unended : (words : List Text) → All IsWord words → IsUnended (line_of words)
 line-unended words h = let all = line-written words h in λ k d lt. by (get_or (line_of words) k d) (all k d lt)
   where
-    by : (b : ℕ) → IsWritten b → (b == 10) ≡ false
+    by : (b : ℕ) → IsWrittenByte b → (b == 10) ≡ false
     by b w = let above : 32 ≤ b = w.0 in search (rules, tests)
 
 -- a line feed ends a line
@@ -137,16 +138,14 @@ lines-before [] rest h = refl
 lines-before (ws ∷ lines) rest h =
     let here : IsUnended (line_of ws) = line-unended ws (all-head (All IsWord) ws lines h) in
     let shape : (ended (line_of ws) ++ text_of lines) ++ rest ≡ line_of ws ++ 10 ∷ (text_of lines ++ rest) = simp append_assoc in
-    ap lines_of shape ∙ (lines-cut (line_of ws) (text_of lines ++ rest) here ∙ ap (λ (ls : List Text). line_of ws ∷ ls) (lines-before lines rest (all-tail (All IsWord) ws lines h)))
-
--- the empty text has no line
-lines-nil : lines_of [] ≡ []
-unfolding lines_of
-lines-nil = refl
+    let more = lines-before lines rest (all-tail (All IsWord) ws lines h) in
+    ap lines_of shape ∙ (lines-cut (line_of ws) (text_of lines ++ rest) here ∙ ap (λ (ls : List Text). line_of ws ∷ ls) more)
 
 -- the lines that a text is written of are its lines
 pub lines-of-text : (lines : List (List Text)) → All (All IsWord) lines → lines_of (text_of lines) ≡ map line_of lines
-lines-of-text lines h = ap lines_of (sym (append-nil (text_of lines))) ∙ (lines-before lines [] h ∙ (ap (λ (ls : List Text). map line_of lines ++ ls) lines-nil ∙ append-nil (map line_of lines)))
+lines-of-text lines h =
+    ap lines_of (sym (append-nil (text_of lines)))
+    ∙ (lines-before lines [] h ∙ (ap (λ (ls : List Text). map line_of lines ++ ls) lines_nil ∙ append-nil (map line_of lines)))
 
 -- a text without its last line feed
 without-end : (front : Text) → take (length (front ++ 10 ∷ []) - 1) (front ++ 10 ∷ []) ≡ front
@@ -160,18 +159,16 @@ line-some [] h some = absurd (omega arith)
 line-some (w ∷ ws) h some = let byte = (all-head IsWord w ws h).some_byte in simp length-append (omega arith)
 
 -- the last line needs no line feed
-lines-without-end : (lines : List (List Text)) (last : List Text) → All (All IsWord) lines → All IsWord last → 0 < length last → lines_of (text_of lines ++ line_of last) ≡ map line_of (lines ++ last ∷ [])
+lines-without-end : (lines : List (List Text)) (last : List Text) → All (All IsWord) lines → All IsWord last → 0 < length last
+    → lines_of (text_of lines ++ line_of last) ≡ map line_of (lines ++ last ∷ [])
 lines-without-end lines last h here some =
     let unended : IsUnended (line_of last) = line-unended last here in
     let whole : lines_of (line_of last) ≡ line_of last ∷ [] = lines_whole (line_of last) (line-some last here some) (λ j lt. unended j 0 lt) in
-    lines-before lines (line_of last) h ∙ (ap (λ (ls : List Text). map line_of lines ++ ls) whole ∙ sym (map-append lines))
-  where
-    map-append : (xs : List (List Text)) → map line_of (xs ++ last ∷ []) ≡ map line_of xs ++ line_of last ∷ []
-    map-append [] = refl
-    map-append (x ∷ xs) = ap (λ (ls : List Text). line_of x ∷ ls) (map-append xs)
+    lines-before lines (line_of last) h ∙ (ap (λ (ls : List Text). map line_of lines ++ ls) whole ∙ sym (map-append line_of lines (last ∷ [])))
 
 -- so they are where the text goes without its last line feed
-pub lines-of-fitted : (lines : List (List Text)) (last : List Text) → All (All IsWord) lines → All IsWord last → 0 < length last → lines_of (fitted (text_of (lines ++ last ∷ []))) ≡ map line_of (lines ++ last ∷ [])
+pub lines-of-fitted : (lines : List (List Text)) (last : List Text) → All (All IsWord) lines → All IsWord last → 0 < length last
+    → lines_of (fitted (text_of (lines ++ last ∷ []))) ≡ map line_of (lines ++ last ∷ [])
 lines-of-fitted lines last h here some = by (length (text_of (lines ++ last ∷ [])) == 4194305)
   where
     shape : text_of (lines ++ last ∷ []) ≡ (text_of lines ++ line_of last) ++ 10 ∷ []
@@ -183,6 +180,7 @@ lines-of-fitted lines last h here some = by (length (text_of (lines ++ last ∷ 
     cut : take (length (text_of (lines ++ last ∷ [])) - 1) (text_of (lines ++ last ∷ [])) ≡ text_of lines ++ line_of last
     cut = ap (λ (t : Text). take (length t - 1) t) shape ∙ without-end (text_of lines ++ line_of last)
 
-    by : (b : Bool) → lines_of (cond b (take (length (text_of (lines ++ last ∷ [])) - 1) (text_of (lines ++ last ∷ []))) (text_of (lines ++ last ∷ []))) ≡ map line_of (lines ++ last ∷ [])
+    by : (b : Bool)
+        → lines_of (cond b (take (length (text_of (lines ++ last ∷ [])) - 1) (text_of (lines ++ last ∷ []))) (text_of (lines ++ last ∷ []))) ≡ map line_of (lines ++ last ∷ [])
     by true = ap lines_of cut ∙ lines-without-end lines last h here some
     by false = lines-of-text (lines ++ last ∷ []) all
