@@ -1,5 +1,5 @@
 -- A workload's text, appended section by section.
-use Rattle.std.proofs.Common.{◌≡◌, ◌==◌, ◌∙◌, ℕ, true, List, [], ◌∷◌, ◌++◌, Some, ap, append_assoc, codes, decimal, flat_map, get_or, length, slice_get, sym, take}
+use Rattle.std.proofs.Common.{◌≡◌, ◌==◌, ◌-◌, ◌∙◌, ℕ, true, List, [], ◌∷◌, ◌++◌, Some, ap, append_assoc, codes, decimal, flat_map, get_or, length, slice_get, sym, take}
 use Rattle.std.specs.List.{All, enumerate_from}
 use Rattle.std.proofs.lemmas.Bool.{eq-eqb}
 use Rattle.std.proofs.lemmas.Option.{slice_get-get_or, slice_get_within}
@@ -17,10 +17,10 @@ pub unit-declared : (W : Parts) (u : ℕ) (part : UnitPart) → IsValid W → sl
 unit-declared W u part valid at = λ k d lt. (valid.units u (slice_get_within W.units u part at)).ops k (get_or (ops_of part.body) k d) (rw at (slice_get-get_or (ops_of part.body) k d lt))
 
 -- a text that is one byte too long goes without its last byte
-pub fitted-long : (text new : Text) → length text ≡ 4194305 → new ≡ take 4194304 text → new ≡ fitted text
-fitted-long text new long is =
+pub fitted-long : (text new : Text) (n : ℕ) → n ≡ length text → length text ≡ 4194305 → new ≡ take (n - 1) text → new ≡ fitted text
+fitted-long text new n is long taken =
     let test : (length text == 4194305) ≡ true = eq-eqb (length text) 4194305 long in
-    rw (test, long) is
+    rw (test, sym is) taken
 
 -- the text of lines goes on with the text of more lines
 more-lines : (lines more : List (List Text)) (old new : Text) → old ≡ text_of lines → new ≡ old ++ text_of more → new ≡ text_of (lines ++ more)

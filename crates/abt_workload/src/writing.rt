@@ -392,7 +392,7 @@ fn fit(text: &mut Vec<u8>)
     ensures { text.new.items ≡ fitted text.old.items }
 {
     if text.len() == ONE_TOO_LONG {
-        text.truncate(ONE_TOO_LONG - 1);
+        let _ = text.pop();
     }
 }
 
