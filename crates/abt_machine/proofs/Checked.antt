@@ -1,5 +1,5 @@
 -- The facts that are looked at one by one are those of a valid workload.
-use Rattle.std.proofs.Common.{◌≡◌, ◌≢◌, ◌≤◌, ◌<◌, ◌∙◌, ◌↔◌, ℕ, zero, suc, Bool, false, List, [], ◌∷◌, Option, Some, None, IsTrue, ap, arith, flat_map, get_or, length, map, option_map, refl, slice_get, subst, sym}
+use Rattle.std.proofs.Common.{◌≡◌, ◌≢◌, ◌≤◌, ◌<◌, ◌∙◌, ℕ, zero, suc, List, [], ◌∷◌, Option, Some, None, ap, arith, flat_map, get_or, length, map, option_map, refl, slice_get, subst, sym}
 use Rattle.std.specs.Prelude.{All, AllPairs}
 use Rattle.std.specs.List.{range_with_len}
 use Rattle.std.proofs.lemmas.List.{length-map}
@@ -25,26 +25,31 @@ use Rattle.abt_machine.specs.Workloads.{access_from, body_at, body_from, main_fr
 abbrev IfAt : {A : Type 0} → (A → Type 0) → List A → Type 0
 IfAt {A} P xs = (i : ℕ) (x : A) → slice_get xs i ≡ Some x → P x
 
+-- what all elements have, the one at a place has
 all-at : {A : Type 0} (P : A → Type 0) (xs : List A) → All P xs → IfAt P xs
 all-at P [] h i x is = cc
 all-at {A = A} P (y ∷ xs) h zero x is = let same : y ≡ x = cc in subst P same (h 0 x (omega arith))
 all-at P (y ∷ xs) h (suc i) x is = all-at P xs (λ k d within. h (suc k) d (omega arith)) i x is
 
+-- what the elements at all places have, all have
 at-all : {A : Type 0} (P : A → Type 0) (xs : List A) → IfAt P xs → All P xs
 at-all P [] h k d within = absurd (omega arith)
 at-all P (x ∷ xs) h zero d within = h 0 x refl
 at-all P (x ∷ xs) h (suc k) d within = at-all P xs (λ i y is. h (suc i) y is) k d (omega arith)
 
+-- there is an element at a place within
 at-within : {A : Type 0} (xs : List A) (i : ℕ) → i < length xs → (x : A) × (slice_get xs i ≡ Some x)
 at-within [] i within = absurd (omega arith)
 at-within (x ∷ xs) zero within = (x, refl)
 at-within (x ∷ xs) (suc i) within = at-within xs i (omega arith)
 
+-- where there is an element, the place is within
 within-at : {A : Type 0} (xs : List A) (i : ℕ) (x : A) → slice_get xs i ≡ Some x → i < length xs
 within-at [] i x is = cc
 within-at (y ∷ xs) zero x is = omega arith
 within-at (y ∷ xs) (suc i) x is = let rest = within-at xs i x is in omega arith
 
+-- what all images have, as elements
 map-all : {A B : Type 0} (f : A → B) (P : B → Type 0) (xs : List A) → All P (map f xs) → All (λ x. P (f x)) xs
 map-all f P [] h = λ k d within. absurd (omega arith)
 map-all {A = A} f P (x ∷ xs) h = λ k d within. by k d within (map-all f P xs (λ j e inside. h (suc j) e (omega arith)))
@@ -53,6 +58,7 @@ map-all {A = A} f P (x ∷ xs) h = λ k d within. by k d within (map-all f P xs 
     by zero d within rest = h 0 (f x) (omega arith)
     by (suc k) d within rest = rest k d (omega arith)
 
+-- the image of an element at a place
 get_or-map : {A B : Type 0} (f : A → B) (xs : List A) (k : ℕ) (a : A) (b : B) → k < length xs → get_or (map f xs) k b ≡ f (get_or xs k a)
 get_or-map f [] k a b within = absurd (omega arith)
 get_or-map f (x ∷ xs) zero a b within = refl
@@ -67,6 +73,7 @@ pairs-map pools h = λ i j d before within same.
     let second = get_or-map (λ (p : PoolNo). p.0) pools j p d (omega arith) in
     h i j p before (omega arith) (sym first ∙ same ∙ second)
 
+-- and the pools are apart where their numbers are
 map-pairs : (pools : List PoolNo) → AllPairs (λ a b. a ≢ b) (map (λ (p : PoolNo). p.0) pools) → AllPairs (λ (a b : PoolNo). a.0 ≢ b.0) pools
 map-pairs pools h = λ i j d before within same.
     let size : length (map (λ (p : PoolNo). p.0) pools) ≡ length pools = length-map pools (λ (p : PoolNo). p.0) in
@@ -76,6 +83,7 @@ map-pairs pools h = λ i j d before within same.
 
 -- Schedulers.
 
+-- a scheduler whose part is right is right
 sched-from : (W : Parts) (g : ℕ) (part : SchedPart) → slice_get W.scheds g ≡ Some part → IsSchedPart W part → IsScheduler W g
 sched-from W g part at h =
     let listed : pools_of W g ≡ map (λ (p : PoolNo). p.0) part.pools = ap pools_from at in
@@ -91,6 +99,7 @@ sched-from W g part at h =
       once = subst (λ (ps : List ℕ). AllPairs (λ a b. a ≢ b) ps) (sym listed) (pairs-map part.pools h.pools.once);
     }
 
+-- a right scheduler's part is right
 from-sched : (W : Parts) (g : ℕ) (part : SchedPart) → slice_get W.scheds g ≡ Some part → IsScheduler W g → IsSchedPart W part
 from-sched W g part at h =
     let listed : pools_of W g ≡ map (λ (p : PoolNo). p.0) part.pools = ap pools_from at in
@@ -110,14 +119,17 @@ from-sched W g part at h =
 
 -- Units.
 
+-- a start that is right names a declared pool
 start-from : (W : Parts) (o : Option PoolNo) → IsStart W o → (p : ℕ) → option_map (λ (q : PoolNo). q.0) o ≡ Some p → p < length W.pools
 start-from W None h p is = cc
 start-from W (Some q) h p is = let same : q.0 ≡ p = cc in subst (λ (n : ℕ). n < length W.pools) same h
 
+-- a start that names a declared pool is right
 from-start : (W : Parts) (o : Option PoolNo) → ((p : ℕ) → option_map (λ (q : PoolNo). q.0) o ≡ Some p → p < length W.pools) → IsStart W o
 from-start W None h = tt
 from-start W (Some q) h = h q.0 refl
 
+-- a unit whose part is right is right
 unit-from : (W : Parts) (u : ℕ) (part : UnitPart) → slice_get W.units u ≡ Some part → IsUnitPart W part → IsUnit W u
 unit-from W u part at h =
     let mine : body_at W u ≡ part.body = ap body_from at in
@@ -129,6 +141,7 @@ unit-from W u part at h =
       start = λ p is. start-from W part.start h.start p (sym start ∙ is);
     }
 
+-- a right unit's part is right
 from-unit : (W : Parts) (u : ℕ) (part : UnitPart) → slice_get W.units u ≡ Some part → IsUnit W u → IsUnitPart W part
 from-unit W u part at h =
     let mine : body_at W u ≡ part.body = ap body_from at in
@@ -142,6 +155,7 @@ from-unit W u part at h =
 
 -- Places.
 
+-- the scheduler that a right body is, is one of 64
 body-places : (W : Parts) (b : Body) → IsBody W b → length W.scheds ≤ 64 → All (λ g. g < 64) (sched_in b)
 body-places W (body.Ult ops) h few = λ k d within. absurd (omega arith)
 body-places W (body.Task ops) h few = λ k d within. absurd (omega arith)
@@ -151,6 +165,7 @@ body-places W (body.Sched g) h few = by
     by zero d within = omega arith
     by (suc k) d within = absurd (omega arith)
 
+-- the schedulers that right units are, are of the 64
 units-places : (W : Parts) (units : List UnitPart) → All (IsUnitPart W) units → length W.scheds ≤ 64 → All (λ g. g < 64) (flat_map (λ (part : UnitPart). sched_in part.body) units)
 units-places W [] h few = λ k d within. absurd (omega arith)
 units-places W (part ∷ units) h few =
@@ -158,6 +173,7 @@ units-places W (part ∷ units) h few =
     (body-places W part.body (h 0 part (omega arith)).kind few)
     (units-places W units (λ k d within. h (suc k) d (omega arith)) few)
 
+-- the main schedulers of a valid workload are of the 64
 mains-places : (W : Parts) → IsValid W → All (λ (g : SchedNo). g.0 < 64) W.mains
 mains-places W h = at-all (λ (g : SchedNo). g.0 < 64) W.mains (λ s g at.
     let inside = within-at W.mains s g at in
@@ -168,6 +184,7 @@ mains-places W h = at-all (λ (g : SchedNo). g.0 < 64) W.mains (λ s g at.
 
 -- What a valid workload's parts are.
 
+-- there are as many of each as there may be
 pub valid-counts : (W : Parts) → IsValid W → AreCounts W
 valid-counts W h = record {
   some_stream = h.some_stream;
@@ -182,15 +199,19 @@ valid-counts W h = record {
   few_units = h.few_units;
 }
 
+-- each pool's access names declared streams
 pub valid-accesses : (W : Parts) → IsValid W → All (λ (part : PoolPart). IsAccess W part.access) W.pools
 valid-accesses W h = at-all (λ (part : PoolPart). IsAccess W part.access) W.pools (λ p part at. subst (IsAccess W) (ap access_from at) (h.pools p (within-at W.pools p part at)))
 
+-- each scheduler's part is right
 pub valid-listings : (W : Parts) → IsValid W → All (IsSchedPart W) W.scheds
 valid-listings W h = at-all (IsSchedPart W) W.scheds (λ g part at. from-sched W g part at (h.scheds g (within-at W.scheds g part at)))
 
+-- each unit's part is right
 pub valid-units : (W : Parts) → IsValid W → All (IsUnitPart W) W.units
 valid-units W h = at-all (IsUnitPart W) W.units (λ u part at. from-unit W u part at (h.units u (within-at W.units u part at)))
 
+-- the schedulers that have a place are apart, and of the 64
 pub valid-places : (W : Parts) → IsValid W → All (λ g. g < 64) (placed_scheds W) × AllPairs (λ a b. a ≢ b) (placed_scheds W)
 valid-places W h = (
   All-append (λ g. g < 64) (map (λ (g : SchedNo). g.0) W.mains) (flat_map (λ (part : UnitPart). sched_in part.body) W.units)
@@ -199,6 +220,7 @@ valid-places W h = (
   h.one_place,
 )
 
+-- parts of which all of this holds are those of a workload
 pub valid-from : (W : Parts) → AreCounts W → All (λ (part : PoolPart). IsAccess W part.access) W.pools → All (IsSchedPart W) W.scheds → ((s : ℕ) → s < W.streams → IsStream W s)
     → ((x : ℕ) (t : Thing) → thing_at W x ≡ Some t → IsThing W x t) → All (IsUnitPart W) W.units → All (λ g. g < 64) (placed_scheds W) × AllPairs (λ a b. a ≢ b) (placed_scheds W)
     → words_said W ≡ range_with_len 0 (length W.words) → All IsWord W.words → length (canonical_text W) ≤ 4194304 → IsValid W
@@ -223,13 +245,3 @@ valid-from W counts accesses listings streams things units places said words sho
   words = words;
   few_bytes = short;
 }
-
--- Tests.
-
--- a test of a fact that failed fails for all that has the fact
-pub unless : (b : Bool) (P Q : Type 0) → b ≡ false → IsTrue b ↔ P → (Q → P) → IsTrue b ↔ Q
-unless b P Q was tells has = (λ t. cc, λ q. tells.1 (has q))
-
--- the last test tells
-pub lastly : (b : Bool) (P Q : Type 0) → IsTrue b ↔ P → (P → Q) → (Q → P) → IsTrue b ↔ Q
-lastly b P Q tells makes has = (λ t. makes (tells.0 t), λ q. tells.1 (has q))

@@ -12,11 +12,13 @@ use Rattle.abt_machine.specs.declared.numbers.PoolNo.{PoolNo}
 abbrev stands : List PoolNo → PoolNo → Bool
 stands pools pool = list_any (λ (p : PoolNo). p.0 == pool.0) pools
 
+-- an element at a place within is the same whatever stands for those past the end
 get_or-same : {A : Type 0} (xs : List A) (i : ℕ) (a b : A) → i < length xs → get_or xs i a ≡ get_or xs i b
 get_or-same [] i a b within = absurd (omega arith)
 get_or-same (x ∷ xs) zero a b within = refl
 get_or-same (x ∷ xs) (suc i) a b within = get_or-same xs i a b (omega arith)
 
+-- a pool that stands before is listed twice
 pub repeated : (pools : List PoolNo) (i : ℕ) (d : PoolNo) → i < length pools → stands (take i pools) (get_or pools i d) ≡ true → AllPairs (λ (a b : PoolNo). a.0 ≢ b.0) pools → ⊥
 repeated pools i d within found apart =
     let any = Any-from_list_any (λ (p : PoolNo). p.0 == (get_or pools i d).0) (take i pools) found in
@@ -29,6 +31,7 @@ repeated pools i d within found apart =
     let other : get_or pools i d ≡ get_or pools i x = get_or-same pools i d x within in
     apart k i x before within (ap (λ (p : PoolNo). p.0) here ∙ same ∙ ap (λ (p : PoolNo). p.0) other)
 
+-- pools are apart with one more that does not stand before
 pub not-repeated : (pools : List PoolNo) (i : ℕ) (d : PoolNo) → i < length pools → stands (take i pools) (get_or pools i d) ≡ false
     → AllPairs (λ (a b : PoolNo). a.0 ≢ b.0) (take i pools) → AllPairs (λ (a b : PoolNo). a.0 ≢ b.0) (take (i + 1) pools)
 not-repeated pools i d within none apart =

@@ -10,6 +10,7 @@ use Rattle.abt_machine.specs.Checks.{place, places}
 pub pairs-head : {A : Type 0} (R : A → A → Type 0) (x : A) (xs : List A) → AllPairs R (x ∷ xs) → All (R x) xs
 pairs-head R x xs h = λ k d within. h 0 (suc k) d (omega arith) (omega arith)
 
+-- and of each pair of those after the first
 pub pairs-tail : {A : Type 0} (R : A → A → Type 0) (x : A) (xs : List A) → AllPairs R (x ∷ xs) → AllPairs R xs
 pairs-tail R x xs h = λ i j d before within. h (suc i) (suc j) d (omega arith) (omega arith)
 
@@ -19,6 +20,7 @@ record ArePlaceable (taken : List Bool) (xs : List ℕ) : Type 0 where
   pub apart : AllPairs (λ a b. a ≢ b) xs
   pub free : All (λ g. get_or taken g false ≡ false) xs
 
+-- schedulers that were placed are apart and had no place
 placed-free : (xs : List ℕ) (taken new : List Bool) → places xs taken ≡ Some new → ArePlaceable taken xs
 placed-free [] taken new e = record {
   below = λ k d within. absurd (omega arith);
@@ -47,6 +49,7 @@ placed-free (g ∷ gs) taken new e = by (nat_lt g (length taken) && not (get_or 
               (λ k d within. sym (get_or-set_other taken g (get_or gs k d) true false (λ same. other k d within (sym same))) ∙ rest.free k d within);
         }
 
+-- schedulers that are apart and have no place are placed
 free-placed : (xs : List ℕ) (taken : List Bool) → ArePlaceable taken xs → is_some (places xs taken) ≡ true
 free-placed [] taken h = refl
 free-placed (g ∷ gs) taken h =
@@ -78,9 +81,11 @@ never zero k = refl
 never (suc n) zero = refl
 never (suc n) (suc k) = never n k
 
+-- schedulers of a table of 64, apart
 abbrev pub HaveOwnPlaces : List ℕ → Type 0
 HaveOwnPlaces xs = All (λ g. g < 64) xs × AllPairs (λ a b. a ≢ b) xs
 
+-- a test that tells whether all were placed tells whether they are apart
 pub own-places : (b : Bool) (xs : List ℕ) (o : Option (List Bool)) → o ≡ places xs (replicate 64 false) → b ≡ is_some o → IsTrue b ↔ HaveOwnPlaces xs
 own-places b xs None is e = (
   λ t. cc,
@@ -91,6 +96,7 @@ own-places b xs None is e = (
 )
 own-places b xs (Some new) is e = (λ t. let h = placed-free xs (replicate 64 false) new (sym is) in (h.below, h.apart), λ h. e)
 
+-- the second test tells, where the first passed
 pub own-then : (m b : Bool) (t1 t2 : List Bool) (xs ys : List ℕ) → m ≡ true → cond m (Some t1) None ≡ places xs (replicate 64 false) → cond b (Some t2) None ≡ places ys t1 → IsTrue b ↔ HaveOwnPlaces (xs ++ ys)
 own-then m b t1 t2 xs ys was first then =
     own-places b (xs ++ ys) (cond b (Some t2) None)
@@ -101,6 +107,7 @@ own-then m b t1 t2 xs ys was first then =
     by true = refl
     by false = refl
 
+-- the first test tells, where it failed
 pub own-else : (m : Bool) (t : List Bool) (xs ys : List ℕ) → m ≡ false → cond m (Some t) None ≡ places xs (replicate 64 false) → IsTrue m ↔ HaveOwnPlaces (xs ++ ys)
 own-else m t xs ys was first =
     own-places m (xs ++ ys) None

@@ -11,6 +11,7 @@ use Rattle.abt_machine.specs.Operations.{said_by}
 use Rattle.abt_machine.specs.Workloads.{ops_of}
 use Rattle.abt_machine.proofs.Weighing.{drop-more}
 
+-- the words of two lists are said in order where those of the first are, and then those of the second
 said-append : (n : ℕ) (xs ys : List ℕ) → after_said n (xs ++ ys) ≡ option_and_then (λ m. after_said m ys) (after_said n xs)
 said-append n [] ys = refl
 said-append n (w ∷ ws) ys = by (w == n) (said-append (n + 1) ws ys)
@@ -35,12 +36,14 @@ said-step units i part ops next o p is within made says same =
     ∙ sym (said-append next (flat_map said_by (ops_of part.body)) rest)
     ∙ sym (ap (λ us. after_said next (said_by_units us)) (drop-more units i part is within))
 
+-- numbers that count up are in order
 said-range : (n k : ℕ) → after_said n (range_with_len n k) ≡ Some (n + k)
 said-range n zero = ap Some (let e : n ≡ n + 0 = omega arith in e)
 said-range n (suc k) =
     subst (λ (t : Bool). cond t (after_said (n + 1) (range_with_len (n + 1) k)) None ≡ Some (n + suc k)) (sym (eq-eqb n n refl))
     (said-range (n + 1) k ∙ ap Some (let e : (n + 1) + k ≡ n + suc k = omega arith in e))
 
+-- numbers in order count up
 range-said : (n m : ℕ) (xs : List ℕ) → after_said n xs ≡ Some m → (m ≡ n + length xs) × (xs ≡ range_with_len n (length xs))
 range-said n m [] e = (let same : n ≡ m = cc in omega arith, refl)
 range-said n m (w ∷ ws) e = by (w == n) refl (range-said (n + 1) m ws) e
@@ -61,6 +64,7 @@ said-order xs k = (
   λ e. ap (after_said 0) e ∙ said-range 0 k ∙ ap Some (let same : 0 + k ≡ k = omega arith in same),
 )
 
+-- what the comparison with the number of words tells
 pub said-test : (b : Bool) (o : Option ℕ) (xs : List ℕ) (k : ℕ) → b ≡ option_eq eqb o (Some k) → o ≡ after_said 0 xs → IsTrue b ↔ (xs ≡ range_with_len 0 k)
 said-test b None xs k test is = (λ t. cc, λ e. absurd (let after = (said-order xs k).1 e in let P : ⊥ = cc in P))
 said-test b (Some n) xs k test is = (

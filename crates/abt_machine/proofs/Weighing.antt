@@ -12,10 +12,12 @@ use Rattle.abt_machine.specs.Workloads.{ops_of}
 use Rattle.abt_machine.specs.Weights.{IsLeft, weight, size}
 use Rattle.abt_machine.specs.Words.{Text, ended, line_of, numbered, spaced, text_of}
 
+-- the words of two lists weigh what each list's weigh
 pub weight-append : (xs ys : List Text) → weight (xs ++ ys) ≡ weight xs + weight ys
 weight-append [] ys = omega arith
 weight-append (x ∷ xs) ys = let h = weight-append xs ys in omega arith
 
+-- words with a space before each have their weight
 spaced-length : (ws : List Text) → length (spaced ws) ≡ weight ws
 spaced-length [] = refl
 spaced-length (w ∷ ws) = let h = spaced-length ws in let e : length ((32 ∷ w) ++ spaced ws) ≡ length (32 ∷ w) + length (spaced ws) = length-append (32 ∷ w) (spaced ws) in omega arith
@@ -28,10 +30,12 @@ ended-length w ws =
     let outer : length ((w ++ spaced ws) ++ 10 ∷ []) ≡ length (w ++ spaced ws) + 1 = length-append (w ++ spaced ws) (10 ∷ []) in
     omega arith
 
+-- a first line adds its words' weight
 pub size-cons : (w : Text) (ws : List Text) (lines : List (List Text)) → size ((w ∷ ws) ∷ lines) ≡ weight (w ∷ ws) + size lines
 unfolding size
 size-cons w ws lines = let e = length-append (ended (line_of (w ∷ ws))) (text_of lines) in let f = ended-length w ws in omega arith
 
+-- no line has no byte
 pub size-nil : size [] ≡ 0
 unfolding size
 size-nil = refl
@@ -41,10 +45,12 @@ abbrev pub has_words : List Text → Bool
 has_words [] = false
 has_words (w ∷ ws) = true
 
+-- the same of a line that has words
 pub size-line : (line : List Text) (lines : List (List Text)) → has_words line ≡ true → size (line ∷ lines) ≡ weight line + size lines
 size-line [] lines some = cc
 size-line (w ∷ ws) lines some = size-cons w ws lines
 
+-- the lines of two lists have the bytes of each list's
 pub size-append : (xs ys : List (List Text)) → size (xs ++ ys) ≡ size xs + size ys
 unfolding size
 size-append [] ys = omega arith
@@ -54,6 +60,7 @@ size-append (x ∷ xs) ys =
     let f = length-append (ended (line_of x)) (text_of xs) in
     omega arith
 
+-- the list from a place on is its element there and the list from the next place on
 pub drop-more : {A : Type 0} (xs : List A) (i : ℕ) (x : A) → x ≡ get_or xs i x → i < length xs → drop i xs ≡ x ∷ drop (i + 1) xs
 drop-more xs i x is within = rw add-one (drop-cons xs i x within) ∙ ap (λ y. y ∷ drop (i + 1) xs) (sym is)
 
@@ -73,12 +80,14 @@ size-drop f xs i d some within =
 abbrev pub lines_from : {A : Type 0} → (ℕ → A → List Text) → ℕ → List A → List (List Text)
 lines_from f k xs = map (λ p. f p.0 p.1) (enumerate_from k xs)
 
+-- numbered lines from one on are its line and those from the next on, where the element is named
 pub size-from_item : {A : Type 0} (f : ℕ → A → List Text) (xs ys : List A) (i : ℕ) (x : A) → ys ≡ xs → x ≡ get_or ys i x → has_words (f i x) ≡ true → i < length ys
     → size (lines_from f i (drop i xs)) ≡ weight (f i x) + size (lines_from f (i + 1) (drop (i + 1) xs))
 size-from_item {A = A} f xs ys i x same is some within =
     let P : List A → Type 0 = λ zs. size (lines_from f i (drop i zs)) ≡ weight (f i x) + size (lines_from f (i + 1) (drop (i + 1) zs)) in
     subst P same (ap (λ zs. size (lines_from f i zs)) (drop-more ys i x is within) ∙ size-line (f i x) (lines_from f (i + 1) (drop (i + 1) ys)) some)
 
+-- the same of the element at a place
 pub size-from : {A : Type 0} (f : ℕ → A → List Text) (xs ys : List A) (i : ℕ) (d : A) → ys ≡ xs → has_words (f i (get_or ys i d)) ≡ true → i < length ys
     → size (lines_from f i (drop i xs)) ≡ weight (f i (get_or ys i d)) + size (lines_from f (i + 1) (drop (i + 1) xs))
 size-from f xs ys i d same some within = size-from_item f xs ys i (get_or ys i d) same (get_or-get_or ys i d within) some within
@@ -92,19 +101,22 @@ size-groups {A = A} f xs ys i x same is within =
     (ap (λ zs. size (flat_map (λ p. f p.0 p.1) (enumerate_from i zs))) (drop-more ys i x is within)
     ∙ size-append (f i x) (flat_map (λ p. f p.0 p.1) (enumerate_from (i + 1) (drop (i + 1) ys))))
 
+-- past the end there is no line
 pub size-past : {A : Type 0} (f : A → List Text) (xs : List A) → size (map f (drop (length xs) xs)) ≡ 0
 size-past f [] = size-nil
 size-past f (x ∷ xs) = size-past f xs
 
+-- past the end there is no numbered line
 pub size-from_past : {A : Type 0} (f : ℕ → A → List Text) (k : ℕ) (xs : List A) → size (lines_from f k (drop (length xs) xs)) ≡ 0
 size-from_past f k [] = size-nil
 size-from_past f k (x ∷ xs) = size-from_past f k xs
 
+-- past the end there are no lines that things make
 pub size-groups_past : {A : Type 0} (f : ℕ → A → List (List Text)) (k : ℕ) (xs : List A) → size (flat_map (λ p. f p.0 p.1) (enumerate_from k (drop (length xs) xs))) ≡ 0
 size-groups_past f k [] = size-nil
 size-groups_past f k (x ∷ xs) = size-groups_past f k xs
 
--- a text of one byte too many goes without its last line feed
+-- a text of one byte more is short enough without its last line feed
 fitted-le : (text : Text) → length text ≤ 4194305 → length (fitted text) ≤ 4194304
 fitted-le text le = by (length text == 4194305) refl
   where
@@ -112,6 +124,7 @@ fitted-le text le = by (length text == 4194305) refl
     by true e = let l = length-take (length text - 1) text in omega arith
     by false e = let other = eqb-false (length text) 4194305 e in omega (arith, other)
 
+-- a text that is short enough as it is written has at most one byte more
 le-fitted : (text : Text) → length (fitted text) ≤ 4194304 → length text ≤ 4194305
 le-fitted text = by (length text == 4194305) refl
   where
@@ -124,6 +137,7 @@ pub canonical-short : (W : Parts) → length (canonical_text W) ≤ 4194304 → 
 unfolding size
 canonical-short W le = le-fitted (text_of (workload_lines W)) le
 
+-- and the other way
 pub short-canonical : (W : Parts) → size (workload_lines W) ≤ 4194305 → length (canonical_text W) ≤ 4194304
 unfolding size
 short-canonical W le = fitted-le (text_of (workload_lines W)) le
@@ -161,9 +175,11 @@ pub some-op : (W : Parts) (o : Op) → has_words (op_words W o) ≡ true
 some-op W (op.Set n) = refl
 some-op W _ = refl
 
+-- the words of a unit's line weigh what its parts do
 pub weight-unit : (u : ℕ) (body start : List Text) → weight (codes "unit" ∷ decimal u ∷ body ++ start) ≡ 5 + (length (decimal u) + 1) + weight body + weight start
 weight-unit u body start = let h = weight-append body start in omega arith
 
+-- the lines of a unit
 pub size-unit : (W : Parts) (u : ℕ) (part : UnitPart)
     → size (unit_lines W u part) ≡ 5 + (length (decimal u) + 1) + weight (body_words part.body) + weight (start_words part.start) + size (map (op_words W) (ops_of part.body))
 size-unit W u part =
@@ -171,10 +187,12 @@ size-unit W u part =
     let k = weight-unit u (body_words part.body) (start_words part.start) in
     omega arith
 
+-- the line of keys, where there are some
 pub size-keys : (k : ℕ) → 0 < k → size (keys_lines k) ≡ 5 + (length (decimal k) + 1)
 size-keys zero some = absurd (omega arith)
 size-keys (suc n) some = let h = size-cons (codes "keys") (decimal (suc n) ∷ []) [] in let k = size-nil in omega arith
 
+-- no keys have no line
 pub size-no_keys : (k : ℕ) → k ≡ 0 → size (keys_lines k) ≡ 0
 size-no_keys k none = ap (λ n. size (keys_lines n)) none ∙ size-nil
 

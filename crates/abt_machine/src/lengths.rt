@@ -26,6 +26,7 @@ fn number(n: u64) -> usize
     bytes
 }
 
+// The bytes of a number of 32 bits, and the one after it.
 fn small(n: u32) -> usize
     ensures exact { result ≡ length (decimal n) + 1 }
     ensures short { result ≤ 21 }
@@ -33,6 +34,7 @@ fn small(n: u32) -> usize
     number(u64::from(n))
 }
 
+// The bytes of an access's words.
 fn access_len(access: Access) -> usize
     ensures exact { result ≡ weight (access_words access) }
     ensures short { result ≤ 60 }
@@ -46,6 +48,7 @@ fn access_len(access: Access) -> usize
     }
 }
 
+// The bytes of a pool's line.
 fn pool_len(p: usize, part: PoolPart) -> usize
     ensures { result ≡ weight (pool_line p part) }
 {
@@ -56,6 +59,7 @@ fn pool_len(p: usize, part: PoolPart) -> usize
     "pool ".len() + number(p as u64) + kind + access_len(part.access)
 }
 
+// The bytes of a rule's words.
 fn rule_len(rule: Rule) -> usize
     ensures exact { result ≡ weight (rule_words rule) }
     ensures short { result ≤ 60 }
@@ -68,6 +72,7 @@ fn rule_len(rule: Rule) -> usize
     }
 }
 
+// The bytes of an object's words.
 fn thing_len(thing: Thing) -> usize
     ensures exact { result ≡ weight (thing_words thing) }
     ensures short { result ≤ 60 }
@@ -83,6 +88,7 @@ fn thing_len(thing: Thing) -> usize
     }
 }
 
+// The bytes of a body's words.
 fn body_len(body: &Body) -> usize
     ensures exact { result ≡ weight (body_words body.now) }
     ensures short { result ≤ 60 }
@@ -94,6 +100,7 @@ fn body_len(body: &Body) -> usize
     }
 }
 
+// The bytes of a start's words.
 fn start_len(start: Option<PoolNo>) -> usize
     ensures exact { result ≡ weight (start_words start) }
     ensures short { result ≤ 60 }
@@ -104,6 +111,7 @@ fn start_len(start: Option<PoolNo>) -> usize
     }
 }
 
+// What is left of room after the numbers of pools, where there is enough.
 fn pool_words(pools: &[PoolNo], room: usize) -> Option<usize>
     ensures { IsLeft room (weight (map (λ (p : PoolNo). decimal p.0) pools.now)) result }
 {
@@ -114,6 +122,7 @@ fn pool_words(pools: &[PoolNo], room: usize) -> Option<usize>
     Some(left)
 }
 
+// What is left of room after a scheduler's line, where there is enough.
 fn sched_words(g: usize, part: &SchedPart, room: usize) -> Option<usize>
     ensures { IsLeft room (weight (sched_line g part.now)) result }
 {
@@ -121,12 +130,14 @@ fn sched_words(g: usize, part: &SchedPart, room: usize) -> Option<usize>
     pool_words(part.pools.items(), room.checked_sub(head)?)
 }
 
+// The bytes of a stream's line.
 fn main_len(s: usize, g: SchedNo) -> usize
     ensures { result ≡ weight (stream_line s g) }
 {
     "stream ".len() + number(s as u64) + "main ".len() + small(g.0)
 }
 
+// The bytes of an object's line.
 fn object_len(x: usize, thing: Thing) -> usize
     ensures { result ≡ weight (object_line x thing) }
 {
@@ -134,6 +145,7 @@ fn object_len(x: usize, thing: Thing) -> usize
 }
 
 impl Parts {
+    // The bytes of a word that is said, and the one after it.
     fn word_len(&self, w: u32) -> usize
         requires { All (λ word. length word ≤ 64) self.now.words }
         ensures exact { result ≡ length (word_at self.now w) + 1 }
@@ -145,6 +157,7 @@ impl Parts {
         }
     }
 
+    // The bytes of an operation's line.
     fn op_len(&self, op: Op) -> usize
         requires { All (λ word. length word ≤ 64) self.now.words }
         ensures { result ≡ weight (op_words self.now op) }
@@ -187,6 +200,7 @@ impl Parts {
         }
     }
 
+    // What is left of room after the lines of operations, where there is enough.
     fn op_lines(&self, ops: &[Op], room: usize) -> Option<usize>
         requires { All (λ word. length word ≤ 64) self.now.words }
         ensures { IsLeft room (size (map (op_words self.now) ops.now)) result }
@@ -198,6 +212,7 @@ impl Parts {
         Some(left)
     }
 
+    // What is left of room after a unit's lines, where there is enough.
     fn unit_lines(&self, u: usize, part: &UnitPart, room: usize) -> Option<usize>
         requires { All (λ word. length word ≤ 64) self.now.words }
         ensures { IsLeft room (size (unit_lines self.now u part.now)) result }
@@ -206,6 +221,7 @@ impl Parts {
         self.op_lines(part.body.ops(), room.checked_sub(head)?)
     }
 
+    // What is left of room after the lines of all units, where there is enough.
     fn units_lines(&self, room: usize) -> Option<usize>
         requires { All (λ word. length word ≤ 64) self.now.words }
         ensures { IsLeft room (size (flat_map (λ p. unit_lines self.now p.0 p.1) (enumerate_from 0 self.now.units))) result }
@@ -217,6 +233,7 @@ impl Parts {
         Some(left)
     }
 
+    // What is left of room after the lines of all pools, where there is enough.
     fn pool_lines(&self, room: usize) -> Option<usize>
         ensures { IsLeft room (size (numbered pool_line self.now.pools)) result }
     {
@@ -227,6 +244,7 @@ impl Parts {
         Some(left)
     }
 
+    // What is left of room after the lines of all schedulers, where there is enough.
     fn sched_lines(&self, room: usize) -> Option<usize>
         ensures { IsLeft room (size (numbered sched_line self.now.scheds)) result }
     {
@@ -237,6 +255,7 @@ impl Parts {
         Some(left)
     }
 
+    // What is left of room after the lines of all streams, where there is enough.
     fn main_lines(&self, room: usize) -> Option<usize>
         ensures { IsLeft room (size (numbered stream_line self.now.mains)) result }
     {
@@ -247,6 +266,7 @@ impl Parts {
         Some(left)
     }
 
+    // What is left of room after the lines of all objects, where there is enough.
     fn object_lines(&self, room: usize) -> Option<usize>
         ensures { IsLeft room (size (numbered object_line self.now.objects)) result }
     {
@@ -257,6 +277,7 @@ impl Parts {
         Some(left)
     }
 
+    // The bytes of the line of keys, which stands only where there are some.
     fn keys_len(&self) -> usize
         ensures exact { result ≡ size (keys_lines self.now.keys) }
         ensures short { result ≤ 60 }

@@ -2,10 +2,11 @@
 
 use super::*;
 use std::alloc::{AllocError, Global};
+use std::process::Abort;
 use std::test::Fail;
 
-// Two streams, pools of each access, conditions of two mutexes, and a unit whose steps touch each kind of site.
-fn workload(alloc: Global) -> Result<Workload, AllocError> {
+// Pools of each access.
+fn pools(alloc: Global) -> Result<PoolParts, AllocError> {
     let pools = vec![in alloc;
         PoolPart {
             kind: Kind::Fifo,
@@ -28,24 +29,26 @@ fn workload(alloc: Global) -> Result<Workload, AllocError> {
             access: Access::Mpmc
         },
     ]?;
-    let listed_by_main = vec![in alloc; PoolNo(1), PoolNo(0)]?;
-    let listed_by_other_main = vec![in alloc; PoolNo(4)]?;
-    let listed_by_unit = vec![in alloc; PoolNo(2)]?;
-    let scheds = vec![in alloc;
-        SchedPart {
-            rule: Rule::Basic,
-            pools: Pools::new(listed_by_main)
-        },
-        SchedPart {
-            rule: Rule::Prio,
-            pools: Pools::new(listed_by_other_main)
-        },
-        SchedPart {
-            rule: Rule::User(1),
-            pools: Pools::new(listed_by_unit)
-        },
-    ]?;
-    let mains = vec![in alloc; SchedNo(1), SchedNo(0)]?;
+    Ok(PoolParts::new(pools))
+}
+
+fn sched(alloc: Global, rule: Rule, pools: &[PoolNo]) -> Result<SchedPart, AllocError> {
+    Ok(SchedPart {
+        rule,
+        pools: Pools::new(pools.to_vec(alloc)?),
+    })
+}
+
+fn scheds(alloc: Global) -> Result<SchedParts, AllocError> {
+    let mut scheds = Vec::new(alloc);
+    scheds.push(sched(alloc, Rule::Basic, &[PoolNo(1), PoolNo(0)])?)?;
+    scheds.push(sched(alloc, Rule::Prio, &[PoolNo(4)])?)?;
+    scheds.push(sched(alloc, Rule::User(1), &[PoolNo(2)])?)?;
+    Ok(SchedParts::new(scheds))
+}
+
+// Conditions of two mutexes, and one object of each other kind.
+fn objects(alloc: Global) -> Result<Things, AllocError> {
     let objects = vec![in alloc;
         Thing::Mutex,
         Thing::Mutex,
@@ -56,6 +59,11 @@ fn workload(alloc: Global) -> Result<Workload, AllocError> {
         Thing::Future(2, Combine::Sum),
         Thing::Barrier(3),
     ]?;
+    Ok(Things::new(objects))
+}
+
+// Steps that touch each kind of site.
+fn steps(alloc: Global) -> Result<Ops, AllocError> {
     let steps = vec![in alloc;
         Op::Say(0),
         Op::Yield,
@@ -71,56 +79,83 @@ fn workload(alloc: Global) -> Result<Workload, AllocError> {
         Op::FuSet(ObjectNo(6)),
         Op::BarWait(ObjectNo(7)),
     ]?;
-    let task = vec![in alloc; Op::Say(1)]?;
-    let units = vec![in alloc;
-        UnitPart {
-            body: Body::Ult(Ops::new(steps)),
-            start: Some(PoolNo(4))
-        },
-        UnitPart {
-            body: Body::Sched(SchedNo(2)),
-            start: None
-        },
-        UnitPart {
-            body: Body::Task(Ops::new(task)),
-            start: None
-        },
-    ]?;
-    let hi = String::from_str(alloc, "hi")?;
-    let on = String::from_str(alloc, "on")?;
-    let words = vec![in alloc; Text::new(hi), Text::new(on)]?;
-    let w = Workload::new(Parts {
+    Ok(Ops::new(steps))
+}
+
+fn units(alloc: Global) -> Result<UnitParts, AllocError> {
+    let mut units = Vec::new(alloc);
+    units.push(UnitPart {
+        body: Body::Ult(steps(alloc)?),
+        start: Some(PoolNo(4)),
+    })?;
+    units.push(UnitPart {
+        body: Body::Sched(SchedNo(2)),
+        start: None,
+    })?;
+    units.push(UnitPart {
+        body: Body::Task(Ops::new(vec![in alloc; Op::Say(1)]?)),
+        start: None,
+    })?;
+    Ok(UnitParts::new(units))
+}
+
+fn texts(alloc: Global, words: &[&str]) -> Result<Texts, AllocError> {
+    let mut texts = Vec::new(alloc);
+    for word in words {
+        texts.push(Text::new(String::from_str(alloc, word)?))?;
+    }
+    Ok(Texts::new(texts))
+}
+
+// A workload of two streams.
+fn workload(rt: &impl Abort, alloc: Global) -> Result<Workload, AllocError> {
+    let parts = Parts {
         streams: 2,
         keys: 4,
-        pools: PoolParts::new(pools),
-        scheds: SchedParts::new(scheds),
-        mains: Mains::new(mains),
-        objects: Things::new(objects),
-        units: UnitParts::new(units),
-        words: Texts::new(words),
-    });
-    Ok(w)
+        pools: pools(alloc)?,
+        scheds: scheds(alloc)?,
+        mains: Mains::new(vec![in alloc; SchedNo(1), SchedNo(0)]?),
+        objects: objects(alloc)?,
+        units: units(alloc)?,
+        words: texts(alloc, &["hi", "on"])?,
+    };
+    assert!(rt; parts.is_valid());
+    Ok(Workload::new(parts))
 }
 
 #[test]
-fn reads_back_what_is_declared(rt: HostRuntime) -> Result<(), Fail> {
-    let w = workload(rt.alloc())?;
-    assert_eq!(rt; w.streams(), 2);
-    assert_eq!(rt; w.keys(), 4);
-    assert_eq!(rt; w.pools(), 5);
-    assert_eq!(rt; w.objects(), 8);
-    assert_eq!(rt; w.units(), 3);
+fn reads_back_how_much_is_declared(rt: HostRuntime) -> Result<(), Fail> {
+    let w = workload(&rt, rt.alloc())?;
+    assert!(rt; w.streams() == 2);
+    assert!(rt; w.keys() == 4);
+    assert!(rt; w.pools() == 5);
+    assert!(rt; w.objects() == 8);
+    assert!(rt; w.units() == 3);
+    Ok(())
+}
+
+#[test]
+fn reads_back_pools_and_schedulers(rt: HostRuntime) -> Result<(), Fail> {
+    let w = workload(&rt, rt.alloc())?;
+    assert!(rt; w.streams() == 2 && w.pools() == 5);
     let deque = PoolPart {
         kind: Kind::Deque,
         access: Access::Priv(StreamNo(1)),
     };
-    assert_eq!(rt; w.pool(PoolNo(1)), deque);
+    assert!(rt; w.pool(PoolNo(1)) == deque);
     let main = w.main(StreamNo(0));
-    assert_eq!(rt; main, SchedNo(1));
-    assert_eq!(rt; w.sched(main).rule, Rule::Prio);
-    assert_eq!(rt; w.sched(main).pools.items(), [PoolNo(4)].as_slice());
-    assert_eq!(rt; w.thing(ObjectNo(7)), Thing::Barrier(3));
-    assert_eq!(rt; w.unit(UnitNo(0)).start, Some(PoolNo(4)));
+    assert!(rt; main == SchedNo(1));
+    assert!(rt; w.sched(main).rule == Rule::Prio);
+    assert!(rt; w.sched(main).pools.items() == [PoolNo(4)].as_slice());
+    Ok(())
+}
+
+#[test]
+fn reads_back_objects_and_units(rt: HostRuntime) -> Result<(), Fail> {
+    let w = workload(&rt, rt.alloc())?;
+    assert!(rt; w.objects() == 8 && w.units() == 3);
+    assert!(rt; w.thing(ObjectNo(7)) == Thing::Barrier(3));
+    assert!(rt; w.unit(UnitNo(0)).start == Some(PoolNo(4)));
     for (u, at, wanted) in [
         (0, 5, Some(Op::Join(UnitNo(2)))),
         (0, 13, None),
@@ -129,17 +164,25 @@ fn reads_back_what_is_declared(rt: HostRuntime) -> Result<(), Fail> {
         (2, 1, None),
     ] {
         assert!(rt; u < 3);
-        assert_eq!(rt; w.op(UnitNo(u), at), wanted, "unit {u} at {at}");
+        assert!(rt; w.op(UnitNo(u), at) == wanted);
     }
+    Ok(())
+}
+
+#[test]
+fn reads_back_a_word(rt: HostRuntime) -> Result<(), Fail> {
+    let w = workload(&rt, rt.alloc())?;
+    assert!(rt; w.streams() == 2);
+    assert!(rt; w.units() == 3);
     if let Some(Op::Say(word)) = w.op(UnitNo(2), 0) {
-        assert_eq!(rt; w.word(word), "on");
+        assert!(rt; w.word(word) == "on");
     }
     Ok(())
 }
 
 #[test]
 fn tells_who_may_put_and_take(rt: HostRuntime) -> Result<(), Fail> {
-    let w = workload(rt.alloc())?;
+    let w = workload(&rt, rt.alloc())?;
     let mut puts = Vec::new(rt.alloc());
     let mut takes = Vec::new(rt.alloc());
     for s in 0..w.streams() {
@@ -154,14 +197,14 @@ fn tells_who_may_put_and_take(rt: HostRuntime) -> Result<(), Fail> {
     let may_take = [
         false, false, true, true, true, true, true, false, true, true,
     ];
-    assert_eq!(rt; puts.as_slice(), may_put.as_slice());
-    assert_eq!(rt; takes.as_slice(), may_take.as_slice());
+    assert!(rt; puts.as_slice() == may_put.as_slice());
+    assert!(rt; takes.as_slice() == may_take.as_slice());
     Ok(())
 }
 
 #[test]
 fn names_the_site_of_each_step(rt: HostRuntime) -> Result<(), Fail> {
-    let w = workload(rt.alloc())?;
+    let w = workload(&rt, rt.alloc())?;
     assert!(rt; w.streams() == 2 && w.units() == 3);
     for (at, by_first, by_second) in [
         (0, None, None),
@@ -203,23 +246,15 @@ fn names_the_site_of_each_step(rt: HostRuntime) -> Result<(), Fail> {
         ),
         (13, None, None),
     ] {
-        assert_eq!(rt;
-            w.site(StreamNo(0), UnitNo(0), at),
-            by_first,
-            "stream 0 at {at}"
-        );
-        assert_eq!(rt;
-            w.site(StreamNo(1), UnitNo(0), at),
-            by_second,
-            "stream 1 at {at}"
-        );
+        assert!(rt; w.site(StreamNo(0), UnitNo(0), at) == by_first);
+        assert!(rt; w.site(StreamNo(1), UnitNo(0), at) == by_second);
     }
     Ok(())
 }
 
 #[test]
 fn numbers_the_conditions_of_each_mutex(rt: HostRuntime) -> Result<(), Fail> {
-    let w = workload(rt.alloc())?;
+    let w = workload(&rt, rt.alloc())?;
     let mut conditions = Vec::new(rt.alloc());
     for x in 0..w.objects() {
         if let Thing::Cond(_) = w.thing(ObjectNo(x)) {
@@ -227,13 +262,12 @@ fn numbers_the_conditions_of_each_mutex(rt: HostRuntime) -> Result<(), Fail> {
         }
     }
     let wanted = [(ObjectNo(0), 0), (ObjectNo(1), 0), (ObjectNo(0), 1)];
-    assert_eq!(rt; conditions.as_slice(), wanted.as_slice());
+    assert!(rt; conditions.as_slice() == wanted.as_slice());
     Ok(())
 }
 
 #[test]
-fn lists_keep_their_items(rt: HostRuntime) -> Result<(), Fail> {
-    let alloc = rt.alloc();
+fn lists_keep_their_events(rt: HostRuntime) -> Result<(), Fail> {
     let look = Event {
         stamp: 2,
         stream: StreamNo(0),
@@ -244,15 +278,17 @@ fn lists_keep_their_items(rt: HostRuntime) -> Result<(), Fail> {
         stream: StreamNo(0),
         what: What::End(UnitNo(0), Cause::Done),
     };
-    let journal = Journal::new(vec![in alloc; look, end]?);
-    assert_eq!(rt; journal.items(), [look, end].as_slice());
-    assert_eq!(rt; journal.into_items().as_slice(), [look, end].as_slice());
-    let output = Output::new(vec![in alloc; Piece::Said(0), Piece::Number(7)]?);
-    assert_eq!(rt;
-        output.items(),
-        [Piece::Said(0), Piece::Number(7)].as_slice()
-    );
-    let text = Text::new(String::from_str(alloc, "hi")?);
-    assert_eq!(rt; text.as_str(), "hi");
+    let journal = Journal::new(vec![in rt.alloc(); look, end]?);
+    assert!(rt; journal.items() == [look, end].as_slice());
+    assert!(rt; journal.into_items().as_slice() == [look, end].as_slice());
+    Ok(())
+}
+
+#[test]
+fn lists_keep_their_pieces(rt: HostRuntime) -> Result<(), Fail> {
+    let output = Output::new(vec![in rt.alloc(); Piece::Said(0), Piece::Number(7)]?);
+    assert!(rt; output.items() == [Piece::Said(0), Piece::Number(7)].as_slice());
+    let text = Text::new(String::from_str(rt.alloc(), "hi")?);
+    assert!(rt; text.as_str() == "hi");
     Ok(())
 }

@@ -17,6 +17,9 @@ use crate::numbers::{ObjectNo, PoolNo, SchedNo, StreamNo, UnitNo};
 use crate::operations::{Access, Body, Op, Rule, Thing};
 use crate::workload::{Parts, PoolPart, SchedPart, UnitPart};
 
+#[cfg(test)]
+mod tests;
+
 // Whether a number is above 0 and no greater than another.
 fn is_among(n: usize, most: usize) -> bool
     ensures { IsTrue result ↔ ((0 < n) × (n ≤ most)) }
@@ -34,6 +37,7 @@ fn is_rule(rule: Rule) -> bool
     }
 }
 
+// Whether a pool is one of these.
 fn lists(pools: &[PoolNo], pool: PoolNo) -> bool
     ensures { result ≡ list_any (λ (p : PoolNo). p.0 == pool.0) pools.now }
 {
@@ -161,24 +165,28 @@ impl Parts {
             && self.units.items().len() <= 256
     }
 
+    // Whether a stream is declared.
     fn has_stream(&self, s: StreamNo) -> bool
         ensures { IsTrue result ↔ (s.0 < self.now.streams) }
     {
         s.0 < self.streams
     }
 
+    // Whether a pool is declared.
     fn has_pool(&self, p: PoolNo) -> bool
         ensures { IsTrue result ↔ (p.0 < length self.now.pools) }
     {
         (p.0 as usize) < self.pools.items().len()
     }
 
+    // Whether a scheduler is declared.
     fn has_sched(&self, g: SchedNo) -> bool
         ensures { IsTrue result ↔ (g.0 < length self.now.scheds) }
     {
         (g.0 as usize) < self.scheds.items().len()
     }
 
+    // Whether a unit is declared.
     fn has_unit(&self, u: UnitNo) -> bool
         ensures { IsTrue result ↔ (u.0 < length self.now.units) }
     {
@@ -206,6 +214,7 @@ impl Parts {
             .all(|part| self.is_access(part.access))
     }
 
+    // Whether these pools are declared.
     fn are_declared(&self, pools: &[PoolNo]) -> bool
         ensures { IsTrue result ↔ All (λ (p : PoolNo). p.0 < length self.now.pools) pools.now }
     {
@@ -219,18 +228,21 @@ impl Parts {
         is_among(pools.len(), 8) && self.are_declared(pools) && are_distinct(pools)
     }
 
+    // Whether a scheduler's rule and pools are as they may be.
     fn is_sched(&self, part: &SchedPart) -> bool
         ensures { IsTrue result ↔ IsSchedPart self.now part.now }
     {
         is_rule(part.rule) && self.are_listed(part.pools.items())
     }
 
+    // Whether each scheduler's rule and pools are as they may be.
     fn has_listings(&self) -> bool
         ensures { IsTrue result ↔ All (IsSchedPart self.now) self.now.scheds }
     {
         self.scheds.items().iter().all(|part| self.is_sched(part))
     }
 
+    // Whether a stream may take from each of these pools.
     fn may_take_each(&self, s: StreamNo, pools: &[PoolNo]) -> bool
         ensures { result ≡ list_all (λ (p : PoolNo). may_take self.now s.0 p.0) pools.now }
     {
@@ -252,6 +264,7 @@ impl Parts {
         self.has_sched(main) && self.may_take_all(s, main)
     }
 
+    // Whether each stream has a declared main scheduler, and may take from all of its pools.
     fn has_mains(&self) -> bool
         ensures { IsTrue result ↔ ((s : ℕ) → s < self.now.streams → IsStream self.now s) }
     {
@@ -263,30 +276,35 @@ impl Parts {
         true
     }
 
+    // Whether an object of this number is declared as a mutex.
     fn is_mutex(&self, x: ObjectNo) -> bool
         ensures { IsTrue result ↔ IsMutex self.now x.0 }
     {
         matches!(self.object(x), Some(Thing::Mutex))
     }
 
+    // Whether an object of this number is declared as a condition.
     fn is_condition(&self, x: ObjectNo) -> bool
         ensures { IsTrue result ↔ IsCondition self.now x.0 }
     {
         matches!(self.object(x), Some(Thing::Cond(_)))
     }
 
+    // Whether an object of this number is declared as an eventual.
     fn is_eventual(&self, x: ObjectNo) -> bool
         ensures { IsTrue result ↔ IsEventual self.now x.0 }
     {
         matches!(self.object(x), Some(Thing::Eventual))
     }
 
+    // Whether an object of this number is declared as a future.
     fn is_future(&self, x: ObjectNo) -> bool
         ensures { IsTrue result ↔ IsFuture self.now x.0 }
     {
         matches!(self.object(x), Some(Thing::Future(_, _)))
     }
 
+    // Whether an object of this number is declared as a barrier.
     fn is_barrier(&self, x: ObjectNo) -> bool
         ensures { IsTrue result ↔ IsBarrier self.now x.0 }
     {
@@ -304,6 +322,7 @@ impl Parts {
         }
     }
 
+    // Whether each object may be what it is declared as.
     fn has_things(&self) -> bool
         ensures { IsTrue result ↔ ((x : ℕ) (t : Thing) → thing_at self.now x ≡ Some t → IsThing self.now x t) }
     {
@@ -315,6 +334,7 @@ impl Parts {
         true
     }
 
+    // Whether a tasklet has no operation that may block or yield, and a unit's scheduler is declared.
     fn is_body(&self, body: &Body) -> bool
         ensures { IsTrue result ↔ IsBody self.now body.now }
     {
@@ -348,12 +368,14 @@ impl Parts {
         }
     }
 
+    // Whether what these operations name is declared.
     fn are_declared_ops(&self, ops: &[Op]) -> bool
         ensures { IsTrue result ↔ All (IsDeclared self.now) ops.now }
     {
         ops.iter().all(|op| self.is_declared(*op))
     }
 
+    // Whether a unit that starts, starts in a declared pool.
     fn is_start(&self, start: Option<PoolNo>) -> bool
         ensures { IsTrue result ↔ IsStart self.now start }
     {
@@ -363,6 +385,7 @@ impl Parts {
         }
     }
 
+    // Whether a unit's body, operations and pool are as they may be.
     fn is_unit(&self, part: &UnitPart) -> bool
         ensures { IsTrue result ↔ IsUnitPart self.now part.now }
     {
@@ -373,12 +396,14 @@ impl Parts {
             && self.is_start(part.start)
     }
 
+    // Whether each unit is as it may be.
     fn has_units(&self) -> bool
         ensures { IsTrue result ↔ All (IsUnitPart self.now) self.now.units }
     {
         self.units.items().iter().all(|part| self.is_unit(part))
     }
 
+    // Whether each text is a word that can be said.
     fn has_words(&self) -> bool
         ensures { IsTrue result ↔ All IsWord self.now.words }
     {

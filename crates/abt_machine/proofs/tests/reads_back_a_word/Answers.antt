@@ -1,7 +1,7 @@
 -- An operation of a declared unit is declared, its word too.
 use Rattle.std.proofs.Common.{◌<◌, length, sym, arith}
 use Rattle.abt_machine.specs.declared.operations.Op.TheVariants as op
-use Rattle.abt_machine.proofs.tests.reads_back_what_is_declared.Goals as goal
+use Rattle.abt_machine.proofs.tests.reads_back_a_word.Goals as goal
 
 pub word-requires : goal.word-requires
 word-requires g c =
