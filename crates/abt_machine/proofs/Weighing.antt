@@ -117,7 +117,7 @@ size-groups_past f k [] = size-nil
 size-groups_past f k (x ∷ xs) = size-groups_past f k xs
 
 -- a text of one byte more is short enough without its last line feed
-fitted-le : (text : Text) → length text ≤ 4194305 → length (fitted text) ≤ 4194304
+pub fitted-le : (text : Text) → length text ≤ 4194305 → length (fitted text) ≤ 4194304
 fitted-le text le = by (length text == 4194305) refl
   where
     by : (c : Bool) → (length text == 4194305) ≡ c → length (cond c (take (length text - 1) text) text) ≤ 4194304
@@ -125,7 +125,7 @@ fitted-le text le = by (length text == 4194305) refl
     by false e = let other = eqb-false (length text) 4194305 e in omega (arith, other)
 
 -- a text that is short enough as it is written has at most one byte more
-le-fitted : (text : Text) → length (fitted text) ≤ 4194304 → length text ≤ 4194305
+pub le-fitted : (text : Text) → length (fitted text) ≤ 4194304 → length text ≤ 4194305
 le-fitted text = by (length text == 4194305) refl
   where
     by : (c : Bool) → (length text == 4194305) ≡ c → length (cond c (take (length text - 1) text) text) ≤ 4194304 → length text ≤ 4194305
