@@ -1,5 +1,5 @@
 -- How long a text of lines is, as the sum of what its lines weigh.
-use Rattle.std.proofs.Common.{◌↔◌, IsTrue, Option, Some, None, is_some, ◌≡◌, ◌≤◌, ◌<◌, ◌+◌, ◌-◌, ◌==◌, ◌∙◌, ℕ, zero, suc, Bool, true, false, List, [], ◌∷◌, ◌++◌, add-one, ap, arith, subst, sym, codes, cond, decimal, drop, flat_map, get_or, length, length-append, length-take, map, refl, take}
+use Rattle.std.proofs.Common.{◌↔◌, IsTrue, Option, Some, None, is_some, ◌≡◌, ◌≤◌, ◌<◌, ◌+◌, ◌-◌, ◌==◌, ◌∙◌, ℕ, zero, suc, Bool, true, false, List, [], ◌∷◌, ◌++◌, add-one, add-zero, ap, arith, subst, sym, codes, cond, decimal, drop, flat_map, get_or, length, length-append, length-take, map, refl, take}
 use Rattle.std.proofs.Math.Seq.{drop-cons}
 use Rattle.std.specs.List.{enumerate_from}
 use Rattle.std.proofs.lemmas.Bool.{eqb-false, eqb-true}
@@ -75,6 +75,13 @@ pub size-drop : {A : Type 0} (f : A → List Text) (xs : List A) (i : ℕ) (d : 
     → size (map f (drop i xs)) ≡ weight (f (get_or xs i d)) + size (map f (drop (i + 1) xs))
 size-drop f xs i d some within =
     ap (λ ys. size (map f ys)) (drop-more xs i (get_or xs i d) (get_or-get_or xs i d within) within) ∙ size-line (f (get_or xs i d)) (map f (drop (i + 1) xs)) some
+
+-- the element behind a list has the next number
+pub enumerate-behind : {A : Type 0} (n : ℕ) (xs : List A) (x : A) → enumerate_from n (xs ++ x ∷ []) ≡ enumerate_from n xs ++ (n + length xs, x) ∷ []
+enumerate-behind n [] x = rw (add-zero n) refl
+enumerate-behind n (y ∷ xs) x =
+    let next : n + 1 + length xs ≡ n + length (y ∷ xs) = omega arith in
+    rw (enumerate-behind (n + 1) xs x, next) refl
 
 -- numbered lines, from a number on
 abbrev pub lines_from : {A : Type 0} → (ℕ → A → List Text) → ℕ → List A → List (List Text)
