@@ -19,6 +19,7 @@ use Rattle.abt_machine.specs.Faults.{has_repeated}
 use Rattle.abt_machine.specs.Forms.{Slot, Fixed, KindWord, CombineWord, AnyWord, Numeral, PoolList, fits, numerals, suits}
 use Rattle.abt_machine.specs.Spelling.{value_of}
 use Rattle.abt_machine.specs.Words.{Text}
+use Rattle.abt_machine.proofs.Placing.{pairs-head, pairs-tail}
 use Rattle.abt_workload.specs.Slots.{numbered, values}
 use Rattle.abt_workload.proofs.Places.{and-left, and-right, kinds, or-left, or-right}
 use Rattle.abt_workload.proofs.Proper.{HasUnits, IsAccessIn, IsSchedIn, IsThingIn, no-pair, none-of}
@@ -38,12 +39,6 @@ all-head P x xs all = all 0 x (omega arith)
 
 pub all-tail : {A : Type 0} (P : A → Type 0) (x : A) (xs : List A) → All P (x ∷ xs) → All P xs
 all-tail P x xs all = λ k d lt. all (suc k) d (omega arith)
-
-pairs-head : (x : ℕ) (xs : List ℕ) → AllPairs (λ a b. a ≢ b) (x ∷ xs) → All (λ b. x ≢ b) xs
-pairs-head x xs h = λ k d lt. h 0 (suc k) d (omega arith) (omega arith)
-
-pairs-tail : (x : ℕ) (xs : List ℕ) → AllPairs (λ a b. a ≢ b) (x ∷ xs) → AllPairs (λ a b. a ≢ b) xs
-pairs-tail x xs h = λ i j d lt within. h (suc i) (suc j) d (omega arith) (omega arith)
 
 pub all-and : {A : Type 0} (P : A → Type 0) (xs : List A) (x : A) → All P xs → P x → All P (xs ++ x ∷ [])
 all-and P xs x all h = All-append P xs (x ∷ []) all (all-one P x h)
@@ -165,8 +160,8 @@ pairs-set (Some x ∷ ms) rest zero g e out h = cc
 pairs-set (None ∷ ms) rest (suc s) g e out h = pairs-set ms rest s g e out h
 pairs-set (Some x ∷ ms) rest (suc s) g e out h =
     AllPairs-cons (λ (a b : ℕ). a ≢ b) x.0 (mains_list (slice_set ms s (Some g)) ++ rest)
-    (all-set (λ m. x.0 ≢ m) ms rest s g (all-head (λ m. m ≢ g.0) x.0 (mains_list ms ++ rest) out) (pairs-head x.0 (mains_list ms ++ rest) h))
-    (pairs-set ms rest s g e (all-tail (λ m. m ≢ g.0) x.0 (mains_list ms ++ rest) out) (pairs-tail x.0 (mains_list ms ++ rest) h))
+    (all-set (λ m. x.0 ≢ m) ms rest s g (all-head (λ m. m ≢ g.0) x.0 (mains_list ms ++ rest) out) (pairs-head (λ a b. a ≢ b) x.0 (mains_list ms ++ rest) h))
+    (pairs-set ms rest s g e (all-tail (λ m. m ≢ g.0) x.0 (mains_list ms ++ rest) out) (pairs-tail (λ a b. a ≢ b) x.0 (mains_list ms ++ rest) h))
 
 -- a stream's main scheduler, after one is given
 pub get-set : (mains : List (Option SchedNo)) (s t : ℕ) (g h : SchedNo) → slice_get (slice_set mains s (Some g)) t ≡ Some (Some h) → ((t ≡ s) × (g ≡ h)) ⊎ (slice_get mains t ≡ Some (Some h))

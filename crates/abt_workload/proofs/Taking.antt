@@ -3,7 +3,7 @@ use Rattle.std.proofs.Common.{◌≡◌, ◌<◌, ◌≤◌, ◌^◌, ◌&&◌, 
 use Rattle.std.specs.List.{list_all}
 use Rattle.std.specs.Str.{all_ascii_digits}
 use Rattle.std.proofs.lemmas.Bool.{lt-ltb}
-use Rattle.std.proofs.lemmas.Fmt.{IsAscii-decimal, decimal_nonempty, digits_decimal, digits_value-decimal, length-decimal-le}
+use Rattle.std.proofs.lemmas.Fmt.{IsAscii-decimal, decimal_nonempty, digits_decimal, digits_value-decimal}
 use Rattle.std.proofs.lemmas.Str.{IsUtf8-from_ascii}
 use Rattle.abt_machine.specs.declared.grammar.Form.{Form}
 use Rattle.abt_machine.specs.Declaring.{Above}
@@ -13,6 +13,7 @@ use Rattle.abt_machine.specs.Grammar.{and_line}
 use Rattle.abt_machine.specs.Spelling.{is_empty, is_number, value_of, words_of}
 use Rattle.abt_machine.specs.Valid.{IsVisible, IsWord}
 use Rattle.abt_machine.specs.Words.{Text, line_of}
+use Rattle.abt_machine.proofs.Decimals.{few-digits}
 use Rattle.abt_workload.specs.Declarable.{with_line}
 use Rattle.abt_workload.specs.Judging.{HasForm, later_fault}
 use Rattle.abt_workload.proofs.Bounds.{le-from, lt-from}
@@ -125,7 +126,7 @@ digits-visible (b ∷ bs) e =
 -- a number's digits are a word
 pub decimal-word : (n : ℕ) → n < 2 ^ 64 → IsWord (decimal n)
 decimal-word n lt =
-    let short : length (decimal n) ≤ 20 = length-decimal-le 20 n (omega arith) (omega arith) lt in
+    let short : length (decimal n) ≤ 20 = few-digits n lt in
     record {
       some_byte = decimal_nonempty n lt;
       few_bytes = omega arith;
