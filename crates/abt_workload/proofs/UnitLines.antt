@@ -19,6 +19,7 @@ use Rattle.abt_machine.specs.Operations.{IsDeclared, said_by}
 use Rattle.abt_machine.specs.Valid.{IsBody, IsValid, placed_scheds, sched_in, words_said}
 use Rattle.abt_machine.specs.Words.{Text}
 use Rattle.abt_machine.specs.Workloads.{body_from, ops_of, start_from}
+use Rattle.abt_machine.proofs.Saying.{said_by_units}
 use Rattle.abt_workload.specs.Slots.{values}
 use Rattle.abt_workload.proofs.Costs.{header, units_lines}
 use Rattle.abt_workload.proofs.Filled.{takes}
@@ -173,13 +174,13 @@ module _ (W : Parts) (v : IsValid W) where
   -- the lines of the units after a front are taken
   units-from : (front rest : List UnitPart) → front ++ rest ≡ W.units → (s : ℕ) → s ≤ 9
       → (units : List UnitPart) (last : Option UnitPart) → units ++ option_to_list last ≡ front
-      → (said : List ℕ) → words_said W ≡ said ++ flat_map (λ (part : UnitPart). flat_map said_by (ops_of part.body)) rest
+      → (said : List ℕ) → words_said W ≡ said ++ said_by_units rest
       → (b : Above) × TakesAll (reached W s units last said) (units_lines W (length front) rest) b × IsWhole W b
   units-from front [] e s at units last reach said is =
       (reached W s units last said, refl, whole s at units last said (reach ∙ (sym (append-nil front) ∙ e)) (is ∙ append-nil said))
   units-from front (part ∷ rest) e s at units last reach said is =
       let more : List ℕ = flat_map said_by (ops_of part.body) in
-      let after : List ℕ = flat_map (λ (p : UnitPart). flat_map said_by (ops_of p.body)) rest in
+      let after : List ℕ = said_by_units rest in
       let below : Above = reached W 9 front (Some part) (said ++ more) in
       let first = unit-whole W v front part rest e s at units last reach said after is in
       let next =
