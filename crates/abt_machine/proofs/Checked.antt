@@ -50,7 +50,7 @@ within-at (y ∷ xs) zero x is = omega arith
 within-at (y ∷ xs) (suc i) x is = let rest = within-at xs i x is in omega arith
 
 -- what all images have, as elements
-map-all : {A B : Type 0} (f : A → B) (P : B → Type 0) (xs : List A) → All P (map f xs) → All (λ x. P (f x)) xs
+pub map-all : {A B : Type 0} (f : A → B) (P : B → Type 0) (xs : List A) → All P (map f xs) → All (λ x. P (f x)) xs
 map-all f P [] h = λ k d within. absurd (omega arith)
 map-all {A = A} f P (x ∷ xs) h = λ k d within. by k d within (map-all f P xs (λ j e inside. h (suc j) e (omega arith)))
   where
@@ -74,7 +74,7 @@ pairs-map pools h = λ i j d before within same.
     h i j p before (omega arith) (sym first ∙ same ∙ second)
 
 -- and the pools are apart where their numbers are
-map-pairs : (pools : List PoolNo) → AllPairs (λ a b. a ≢ b) (map (λ (p : PoolNo). p.0) pools) → AllPairs (λ (a b : PoolNo). a.0 ≢ b.0) pools
+pub map-pairs : (pools : List PoolNo) → AllPairs (λ a b. a ≢ b) (map (λ (p : PoolNo). p.0) pools) → AllPairs (λ (a b : PoolNo). a.0 ≢ b.0) pools
 map-pairs pools h = λ i j d before within same.
     let size : length (map (λ (p : PoolNo). p.0) pools) ≡ length pools = length-map pools (λ (p : PoolNo). p.0) in
     let first = get_or-map (λ (p : PoolNo). p.0) pools i d d.0 (omega arith) in
@@ -222,7 +222,7 @@ valid-places W h = (
 
 -- parts of which all of this holds are those of a workload
 pub valid-from : (W : Parts) → AreCounts W → All (λ (part : PoolPart). IsAccess W part.access) W.pools → All (IsSchedPart W) W.scheds → ((s : ℕ) → s < W.streams → IsStream W s)
-    → ((x : ℕ) (t : Thing) → thing_at W x ≡ Some t → IsThing W x t) → All (IsUnitPart W) W.units → All (λ g. g < 64) (placed_scheds W) × AllPairs (λ a b. a ≢ b) (placed_scheds W)
+    → ((x : ℕ) (t : Thing) → thing_at W x ≡ Some t → IsThing W x t) → All (IsUnitPart W) W.units → AllPairs (λ a b. a ≢ b) (placed_scheds W)
     → words_said W ≡ range_with_len 0 (length W.words) → All IsWord W.words → length (canonical_text W) ≤ 4194304 → IsValid W
 valid-from W counts accesses listings streams things units places said words short = record {
   some_stream = counts.some_stream;
@@ -236,7 +236,7 @@ valid-from W counts accesses listings streams things units places said words sho
   scheds = λ g within. let at = at-within W.scheds g within in sched-from W g at.0 at.1 (all-at (IsSchedPart W) W.scheds listings g at.0 at.1);
   mains = counts.mains;
   streams = streams;
-  one_place = places.1;
+  one_place = places;
   few_objects = counts.few_objects;
   objects = things;
   few_units = counts.few_units;
