@@ -3,6 +3,7 @@ use Rattle.std.proofs.Common.{◌↔◌, IsTrue, Option, Some, None, is_some, �
 use Rattle.std.proofs.Math.Seq.{drop-cons}
 use Rattle.std.specs.List.{enumerate_from}
 use Rattle.std.proofs.lemmas.Bool.{eqb-false, eqb-true}
+use Rattle.std.proofs.lemmas.List.{get_or_default}
 use Rattle.abt_machine.specs.declared.operations.Op.{Op}
 use Rattle.abt_machine.specs.declared.operations.Op.TheVariants as op
 use Rattle.abt_machine.specs.declared.workload.Parts.{Parts}
@@ -64,17 +65,11 @@ size-append (x ∷ xs) ys =
 pub drop-more : {A : Type 0} (xs : List A) (i : ℕ) (x : A) → x ≡ get_or xs i x → i < length xs → drop i xs ≡ x ∷ drop (i + 1) xs
 drop-more xs i x is within = rw add-one (drop-cons xs i x within) ∙ ap (λ y. y ∷ drop (i + 1) xs) (sym is)
 
--- an element at a place within stays whatever stands for those past the end
-get_or-get_or : {A : Type 0} (xs : List A) (i : ℕ) (d : A) → i < length xs → get_or xs i d ≡ get_or xs i (get_or xs i d)
-get_or-get_or [] i d within = absurd (omega arith)
-get_or-get_or (x ∷ xs) zero d within = refl
-get_or-get_or (x ∷ xs) (suc i) d within = get_or-get_or xs i d (omega arith)
-
 -- the lines of things from one on are its line and those from the next on
 pub size-drop : {A : Type 0} (f : A → List Text) (xs : List A) (i : ℕ) (d : A) → has_words (f (get_or xs i d)) ≡ true → i < length xs
     → size (map f (drop i xs)) ≡ weight (f (get_or xs i d)) + size (map f (drop (i + 1) xs))
 size-drop f xs i d some within =
-    ap (λ ys. size (map f ys)) (drop-more xs i (get_or xs i d) (get_or-get_or xs i d within) within) ∙ size-line (f (get_or xs i d)) (map f (drop (i + 1) xs)) some
+    ap (λ ys. size (map f ys)) (drop-more xs i (get_or xs i d) (get_or_default xs i d (get_or xs i d) within) within) ∙ size-line (f (get_or xs i d)) (map f (drop (i + 1) xs)) some
 
 -- the element behind a list has the next number
 pub enumerate-behind : {A : Type 0} (n : ℕ) (xs : List A) (x : A) → enumerate_from n (xs ++ x ∷ []) ≡ enumerate_from n xs ++ (n + length xs, x) ∷ []
@@ -97,7 +92,7 @@ size-from_item {A = A} f xs ys i x same is some within =
 -- the same of the element at a place
 pub size-from : {A : Type 0} (f : ℕ → A → List Text) (xs ys : List A) (i : ℕ) (d : A) → ys ≡ xs → has_words (f i (get_or ys i d)) ≡ true → i < length ys
     → size (lines_from f i (drop i xs)) ≡ weight (f i (get_or ys i d)) + size (lines_from f (i + 1) (drop (i + 1) xs))
-size-from f xs ys i d same some within = size-from_item f xs ys i (get_or ys i d) same (get_or-get_or ys i d within) some within
+size-from f xs ys i d same some within = size-from_item f xs ys i (get_or ys i d) same (get_or_default ys i d (get_or ys i d) within) some within
 
 -- the lines that things make from one on are its lines and those from the next on
 pub size-groups : {A : Type 0} (f : ℕ → A → List (List Text)) (xs ys : List A) (i : ℕ) (x : A) → ys ≡ xs → x ≡ get_or ys i x → i < length ys
