@@ -32,7 +32,8 @@ use Rattle.abt_workload.proofs.Naming.{declared-op, still-declared}
 use Rattle.abt_workload.proofs.LineWords.{words-some, words-utf8, words-visible}
 use Rattle.std.proofs.lemmas.Bool.{not-true}
 use Rattle.std.proofs.lemmas.Str.{IsUtf8-from_is_utf8}
-use Rattle.abt_workload.proofs.Growing.{all-and, all-cons, all-head, all-tail, mains_list, not-among}
+use Rattle.std.proofs.lemmas.List.Elements.{All-cons, All-head, All-tail}
+use Rattle.abt_workload.proofs.Growing.{all-and, mains_list, not-among}
 use Rattle.abt_workload.proofs.Places.{and-right, not-false, or-left, or-right}
 use Rattle.abt_workload.proofs.Proper.{IsBodyIn, IsProper, IsUnitIn, counted, none-of, op_count, unit_count}
 use Rattle.abt_workload.proofs.Soundness.{IsSound}
@@ -50,12 +51,12 @@ late {a} h some = by (leb_tells 8 a.section)
     by (inr x) = absurd (some-none a.unit_count (h.order.no_count x.1) some)
 
 pub last-of : {A : Type 0} (P : A → Type 0) (xs : List A) (x : A) → All P (xs ++ x ∷ []) → P x
-last-of P [] x h = all-head P x [] h
-last-of P (y ∷ ys) x h = last-of P ys x (all-tail P y (ys ++ x ∷ []) h)
+last-of P [] x h = All-head P x [] h
+last-of P (y ∷ ys) x h = last-of P ys x (All-tail P y (ys ++ x ∷ []) h)
 
 pub front-of : {A : Type 0} (P : A → Type 0) (xs : List A) (x : A) → All P (xs ++ x ∷ []) → All P xs
 front-of P [] x h = none-of P
-front-of P (y ∷ ys) x h = all-cons P y ys (all-head P y (ys ++ x ∷ []) h) (front-of P ys x (all-tail P y (ys ++ x ∷ []) h))
+front-of P (y ∷ ys) x h = All-cons P y ys (All-head P y (ys ++ x ∷ []) h) (front-of P ys x (All-tail P y (ys ++ x ∷ []) h))
 
 -- no words are said by a unit without operations
 said-still : (r : Role) (start : Option PoolNo) (ns : List ℕ) (units : List UnitPart) → said_by_units (units ++ unit_with r start ns ∷ []) ≡ said_by_units units

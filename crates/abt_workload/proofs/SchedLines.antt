@@ -4,6 +4,7 @@ use Rattle.std.specs.List.{AllPairs, list_any}
 use Rattle.std.proofs.lemmas.Bool.{le-ltb, lt-leb, ne_eqb}
 use Rattle.std.proofs.lemmas.List.{length-map}
 use Rattle.std.proofs.lemmas.List.Folds.{list_any_none}
+use Rattle.std.proofs.lemmas.List.Elements.{All-head, All-tail}
 use Rattle.abt_machine.specs.declared.grammar.Form.{Form}
 use Rattle.abt_machine.specs.declared.grammar.Form.TheVariants as form
 use Rattle.abt_machine.specs.declared.grammar.Number.TheVariants as number
@@ -24,7 +25,6 @@ use Rattle.abt_machine.specs.Workloads.{pools_from}
 use Rattle.abt_workload.specs.Slots.{values}
 use Rattle.abt_workload.proofs.Filled.{IsWritten, as_pools, given, takes}
 use Rattle.abt_workload.proofs.Fitting.{AreFit, IsSmall, fit, fit-within}
-use Rattle.abt_workload.proofs.Growing.{all-head, all-tail}
 use Rattle.abt_workload.proofs.Heads.{placing}
 use Rattle.abt_workload.proofs.InOrder.{front-shorter, get-here, placed-among, reached, section-taken}
 use Rattle.abt_workload.proofs.Measures.{sched-line}
@@ -111,7 +111,7 @@ module _ (a : Above) (small : IsSmall a) where
   -- declared pools may stand in a line
   pools-fit : (ps : List ℕ) → All (λ p. p < length a.pools) ps → AreFit a (as_pools ps)
   pools-fit [] h = tt
-  pools-fit (p ∷ ps) h = (fit a small number.Pool p (all-head (λ q. q < length a.pools) p ps h), pools-fit ps (all-tail (λ q. q < length a.pools) p ps h))
+  pools-fit (p ∷ ps) h = (fit a small number.Pool p (All-head (λ q. q < length a.pools) p ps h), pools-fit ps (All-tail (λ q. q < length a.pools) p ps h))
 
   -- so may a rule's number before them
   rule-fit : (r : Rule) (ps : List ℕ) → IsRule r → All (λ p. p < length a.pools) ps → AreFit a (given (rule_slots (form_rule r)) (rule_number r ++ ps))
