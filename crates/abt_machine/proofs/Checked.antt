@@ -56,7 +56,7 @@ get_or-map f (x ∷ xs) zero a b within = refl
 get_or-map f (x ∷ xs) (suc k) a b within = get_or-map f xs k a b (omega arith)
 
 -- the numbers of pools are apart where the pools are
-pairs-map : (pools : List PoolNo) → AllPairs (λ (a b : PoolNo). a.0 ≢ b.0) pools → AllPairs (λ a b. a ≢ b) (map (λ (p : PoolNo). p.0) pools)
+pub pairs-map : (pools : List PoolNo) → AllPairs (λ (a b : PoolNo). a.0 ≢ b.0) pools → AllPairs (λ a b. a ≢ b) (map (λ (p : PoolNo). p.0) pools)
 pairs-map pools h = λ i j d before within same.
     let size : length (map (λ (p : PoolNo). p.0) pools) ≡ length pools = length-map pools (λ (p : PoolNo). p.0) in
     let p : PoolNo = record { 0 = d } in
@@ -91,7 +91,7 @@ sched-from W g part at h =
     }
 
 -- a right scheduler's part is right
-from-sched : (W : Parts) (g : ℕ) (part : SchedPart) → slice_get W.scheds g ≡ Some part → IsScheduler W g → IsSchedPart W part
+pub from-sched : (W : Parts) (g : ℕ) (part : SchedPart) → slice_get W.scheds g ≡ Some part → IsScheduler W g → IsSchedPart W part
 from-sched W g part at h =
     let listed : pools_of W g ≡ map (λ (p : PoolNo). p.0) part.pools = ap pools_from at in
     let size : length (map (λ (p : PoolNo). p.0) part.pools) ≡ length part.pools = length-map part.pools (λ (p : PoolNo). p.0) in
@@ -133,7 +133,7 @@ unit-from W u part at h =
     }
 
 -- a right unit's part is right
-from-unit : (W : Parts) (u : ℕ) (part : UnitPart) → slice_get W.units u ≡ Some part → IsUnit W u → IsUnitPart W part
+pub from-unit : (W : Parts) (u : ℕ) (part : UnitPart) → slice_get W.units u ≡ Some part → IsUnit W u → IsUnitPart W part
 from-unit W u part at h =
     let mine : body_at W u ≡ part.body = ap body_from at in
     let start : start_of W u ≡ option_map (λ (q : PoolNo). q.0) part.start = ap start_from at in
