@@ -1,8 +1,8 @@
 -- A workload's text, appended section by section.
-use Rattle.std.proofs.Common.{◌≡◌, ◌==◌, ◌-◌, ◌∙◌, ℕ, true, List, [], ◌∷◌, ◌++◌, Some, ap, append_assoc, codes, decimal, get_or, length, slice_get, sym, take}
+use Rattle.std.proofs.Common.{◌≡◌, ◌==◌, ◌-◌, ◌∙◌, ℕ, true, List, [], ◌∷◌, ◌++◌, Some, ap, append_assoc, codes, decimal, length, slice_get, sym, take}
 use Rattle.std.specs.List.{All}
 use Rattle.std.proofs.lemmas.Bool.{eq-eqb}
-use Rattle.std.proofs.lemmas.Option.{slice_get-get_or, slice_get_within}
+use Rattle.std.proofs.lemmas.Option.{slice_get_within}
 use Rattle.abt_machine.specs.declared.workload.Parts.{Parts}
 use Rattle.abt_machine.specs.declared.workload.UnitPart.{UnitPart}
 use Rattle.abt_machine.specs.Canonical.{canonical_text, fitted, keys_lines, object_line, pool_line, sched_line, stream_line, version_line}
@@ -10,12 +10,13 @@ use Rattle.abt_machine.specs.Operations.{IsDeclared}
 use Rattle.abt_machine.specs.Valid.{IsValid}
 use Rattle.abt_machine.specs.Words.{Text, ended, line_of, numbered, text_of}
 use Rattle.abt_machine.specs.Workloads.{ops_of}
+use Rattle.abt_machine.proofs.Checked.{from-unit}
 use Rattle.abt_workload.proofs.Costs.{units_lines}
 use Rattle.abt_workload.proofs.WritingLines.{text-and, text-append}
 
 -- what the operations of a unit name is declared
 pub unit-declared : (W : Parts) (u : ℕ) (part : UnitPart) → IsValid W → slice_get W.units u ≡ Some part → All (IsDeclared W) (ops_of part.body)
-unit-declared W u part valid at = λ k d lt. (valid.units u (slice_get_within W.units u part at)).ops k (get_or (ops_of part.body) k d) (rw at (slice_get-get_or (ops_of part.body) k d lt))
+unit-declared W u part valid at = (from-unit W u part at (valid.units u (slice_get_within W.units u part at))).ops
 
 -- a text that is one byte too long goes without its last byte
 pub fitted-long : (text new : Text) (n : ℕ) → n ≡ length text → length text ≡ 4194305 → new ≡ take (n - 1) text → new ≡ fitted text
