@@ -11,9 +11,10 @@ use Rattle.abt_machine.specs.declared.workload.UnitPart.{UnitPart}
 use Rattle.abt_machine.specs.Canonical.{canonical_text, keys_lines, object_line, op_words, pool_line, sched_line, stream_line, unit_lines, version_line, workload_lines}
 use Rattle.abt_machine.specs.Numbers.{object_no, pool_no, unit_no}
 use Rattle.abt_machine.specs.Words.{Text, numbered, text_of}
+use Rattle.abt_machine.proofs.Weighing.{fitted-le}
 use Rattle.abt_generate.specs.Generated.{adder, adders, deque, first_ops, first_unit, generated}
 use Rattle.abt_generate.proofs.Lists.{Each, each-always, each-append, each-enumerate, each-flat_map, each-map, each-weaker, length-flat_map-most}
-use Rattle.abt_generate.proofs.TextLength.{IsShortLine, decimal-short, length-fitted, length-text-most}
+use Rattle.abt_generate.proofs.TextLength.{IsShortLine, decimal-short, length-text-most}
 
 abbrev pub create : ℕ → Op
 create v = op.Create (unit_no v) (pool_no (v % 4))
@@ -175,4 +176,4 @@ pub text-short : (n : ℕ) → n ≤ 126 → length (canonical_text (generated n
 text-short n few =
     let lines : length (workload_lines (generated n)) ≤ (n + n + 5) + n * 7 + 17 = length-lines n in
     let most : length (text_of (workload_lines (generated n))) ≤ length (workload_lines (generated n)) * 601 = length-text-most (workload_lines (generated n)) (lines-short n) in
-    length-fitted (text_of (workload_lines (generated n))) (omega arith)
+    fitted-le (text_of (workload_lines (generated n))) (omega arith)

@@ -4,6 +4,7 @@ use Rattle.std.specs.Prelude.{All, AllPairs}
 use Rattle.std.specs.List.{range_with_len}
 use Rattle.std.proofs.lemmas.List.{length-map}
 use Rattle.std.proofs.lemmas.List.Elements.{All-append, All-map}
+use Rattle.std.proofs.lemmas.Option.{get_or_from_slice_get, slice_get-get_or, slice_get_within}
 use Rattle.abt_machine.specs.declared.numbers.PoolNo.{PoolNo}
 use Rattle.abt_machine.specs.declared.numbers.SchedNo.{SchedNo}
 use Rattle.abt_machine.specs.declared.operations.Body.{Body}
@@ -27,15 +28,11 @@ IfAt {A} P xs = (i : ℕ) (x : A) → slice_get xs i ≡ Some x → P x
 
 -- what all elements have, the one at a place has
 all-at : {A : Type 0} (P : A → Type 0) (xs : List A) → All P xs → IfAt P xs
-all-at P [] h i x is = cc
-all-at {A = A} P (y ∷ xs) h zero x is = let same : y ≡ x = cc in subst P same (h 0 x (omega arith))
-all-at P (y ∷ xs) h (suc i) x is = all-at P xs (λ k d within. h (suc k) d (omega arith)) i x is
+all-at P xs h i x is = subst P (get_or_from_slice_get xs i x x is) (h i x (slice_get_within xs i x is))
 
 -- what the elements at all places have, all have
 at-all : {A : Type 0} (P : A → Type 0) (xs : List A) → IfAt P xs → All P xs
-at-all P [] h k d within = absurd (omega arith)
-at-all P (x ∷ xs) h zero d within = h 0 x refl
-at-all P (x ∷ xs) h (suc k) d within = at-all P xs (λ i y is. h (suc i) y is) k d (omega arith)
+at-all P xs h = λ k d within. h k (get_or xs k d) (slice_get-get_or xs k d within)
 
 -- there is an element at a place within
 at-within : {A : Type 0} (xs : List A) (i : ℕ) → i < length xs → (x : A) × (slice_get xs i ≡ Some x)
@@ -43,14 +40,8 @@ at-within [] i within = absurd (omega arith)
 at-within (x ∷ xs) zero within = (x, refl)
 at-within (x ∷ xs) (suc i) within = at-within xs i (omega arith)
 
--- where there is an element, the place is within
-within-at : {A : Type 0} (xs : List A) (i : ℕ) (x : A) → slice_get xs i ≡ Some x → i < length xs
-within-at [] i x is = cc
-within-at (y ∷ xs) zero x is = omega arith
-within-at (y ∷ xs) (suc i) x is = let rest = within-at xs i x is in omega arith
-
 -- what all images have, as elements
-map-all : {A B : Type 0} (f : A → B) (P : B → Type 0) (xs : List A) → All P (map f xs) → All (λ x. P (f x)) xs
+pub map-all : {A B : Type 0} (f : A → B) (P : B → Type 0) (xs : List A) → All P (map f xs) → All (λ x. P (f x)) xs
 map-all f P [] h = λ k d within. absurd (omega arith)
 map-all {A = A} f P (x ∷ xs) h = λ k d within. by k d within (map-all f P xs (λ j e inside. h (suc j) e (omega arith)))
   where
@@ -65,7 +56,7 @@ get_or-map f (x ∷ xs) zero a b within = refl
 get_or-map f (x ∷ xs) (suc k) a b within = get_or-map f xs k a b (omega arith)
 
 -- the numbers of pools are apart where the pools are
-pairs-map : (pools : List PoolNo) → AllPairs (λ (a b : PoolNo). a.0 ≢ b.0) pools → AllPairs (λ a b. a ≢ b) (map (λ (p : PoolNo). p.0) pools)
+pub pairs-map : (pools : List PoolNo) → AllPairs (λ (a b : PoolNo). a.0 ≢ b.0) pools → AllPairs (λ a b. a ≢ b) (map (λ (p : PoolNo). p.0) pools)
 pairs-map pools h = λ i j d before within same.
     let size : length (map (λ (p : PoolNo). p.0) pools) ≡ length pools = length-map pools (λ (p : PoolNo). p.0) in
     let p : PoolNo = record { 0 = d } in
@@ -74,7 +65,7 @@ pairs-map pools h = λ i j d before within same.
     h i j p before (omega arith) (sym first ∙ same ∙ second)
 
 -- and the pools are apart where their numbers are
-map-pairs : (pools : List PoolNo) → AllPairs (λ a b. a ≢ b) (map (λ (p : PoolNo). p.0) pools) → AllPairs (λ (a b : PoolNo). a.0 ≢ b.0) pools
+pub map-pairs : (pools : List PoolNo) → AllPairs (λ a b. a ≢ b) (map (λ (p : PoolNo). p.0) pools) → AllPairs (λ (a b : PoolNo). a.0 ≢ b.0) pools
 map-pairs pools h = λ i j d before within same.
     let size : length (map (λ (p : PoolNo). p.0) pools) ≡ length pools = length-map pools (λ (p : PoolNo). p.0) in
     let first = get_or-map (λ (p : PoolNo). p.0) pools i d d.0 (omega arith) in
@@ -100,7 +91,7 @@ sched-from W g part at h =
     }
 
 -- a right scheduler's part is right
-from-sched : (W : Parts) (g : ℕ) (part : SchedPart) → slice_get W.scheds g ≡ Some part → IsScheduler W g → IsSchedPart W part
+pub from-sched : (W : Parts) (g : ℕ) (part : SchedPart) → slice_get W.scheds g ≡ Some part → IsScheduler W g → IsSchedPart W part
 from-sched W g part at h =
     let listed : pools_of W g ≡ map (λ (p : PoolNo). p.0) part.pools = ap pools_from at in
     let size : length (map (λ (p : PoolNo). p.0) part.pools) ≡ length part.pools = length-map part.pools (λ (p : PoolNo). p.0) in
@@ -142,7 +133,7 @@ unit-from W u part at h =
     }
 
 -- a right unit's part is right
-from-unit : (W : Parts) (u : ℕ) (part : UnitPart) → slice_get W.units u ≡ Some part → IsUnit W u → IsUnitPart W part
+pub from-unit : (W : Parts) (u : ℕ) (part : UnitPart) → slice_get W.units u ≡ Some part → IsUnit W u → IsUnitPart W part
 from-unit W u part at h =
     let mine : body_at W u ≡ part.body = ap body_from at in
     let start : start_of W u ≡ option_map (λ (q : PoolNo). q.0) part.start = ap start_from at in
@@ -176,7 +167,7 @@ units-places W (part ∷ units) h few =
 -- the main schedulers of a valid workload are of the 64
 mains-places : (W : Parts) → IsValid W → All (λ (g : SchedNo). g.0 < 64) W.mains
 mains-places W h = at-all (λ (g : SchedNo). g.0 < 64) W.mains (λ s g at.
-    let inside = within-at W.mains s g at in
+    let inside = slice_get_within W.mains s g at in
     let same : main_of W s ≡ g.0 = ap main_from at in
     let main = (h.streams s (let n = h.mains in omega arith)).main in
     let few = h.few_scheds in
@@ -201,15 +192,15 @@ valid-counts W h = record {
 
 -- each pool's access names declared streams
 pub valid-accesses : (W : Parts) → IsValid W → All (λ (part : PoolPart). IsAccess W part.access) W.pools
-valid-accesses W h = at-all (λ (part : PoolPart). IsAccess W part.access) W.pools (λ p part at. subst (IsAccess W) (ap access_from at) (h.pools p (within-at W.pools p part at)))
+valid-accesses W h = at-all (λ (part : PoolPart). IsAccess W part.access) W.pools (λ p part at. subst (IsAccess W) (ap access_from at) (h.pools p (slice_get_within W.pools p part at)))
 
 -- each scheduler's part is right
 pub valid-listings : (W : Parts) → IsValid W → All (IsSchedPart W) W.scheds
-valid-listings W h = at-all (IsSchedPart W) W.scheds (λ g part at. from-sched W g part at (h.scheds g (within-at W.scheds g part at)))
+valid-listings W h = at-all (IsSchedPart W) W.scheds (λ g part at. from-sched W g part at (h.scheds g (slice_get_within W.scheds g part at)))
 
 -- each unit's part is right
 pub valid-units : (W : Parts) → IsValid W → All (IsUnitPart W) W.units
-valid-units W h = at-all (IsUnitPart W) W.units (λ u part at. from-unit W u part at (h.units u (within-at W.units u part at)))
+valid-units W h = at-all (IsUnitPart W) W.units (λ u part at. from-unit W u part at (h.units u (slice_get_within W.units u part at)))
 
 -- the schedulers that have a place are apart, and of the 64
 pub valid-places : (W : Parts) → IsValid W → All (λ g. g < 64) (placed_scheds W) × AllPairs (λ a b. a ≢ b) (placed_scheds W)
@@ -222,7 +213,7 @@ valid-places W h = (
 
 -- parts of which all of this holds are those of a workload
 pub valid-from : (W : Parts) → AreCounts W → All (λ (part : PoolPart). IsAccess W part.access) W.pools → All (IsSchedPart W) W.scheds → ((s : ℕ) → s < W.streams → IsStream W s)
-    → ((x : ℕ) (t : Thing) → thing_at W x ≡ Some t → IsThing W x t) → All (IsUnitPart W) W.units → All (λ g. g < 64) (placed_scheds W) × AllPairs (λ a b. a ≢ b) (placed_scheds W)
+    → ((x : ℕ) (t : Thing) → thing_at W x ≡ Some t → IsThing W x t) → All (IsUnitPart W) W.units → AllPairs (λ a b. a ≢ b) (placed_scheds W)
     → words_said W ≡ range_with_len 0 (length W.words) → All IsWord W.words → length (canonical_text W) ≤ 4194304 → IsValid W
 valid-from W counts accesses listings streams things units places said words short = record {
   some_stream = counts.some_stream;
@@ -236,7 +227,7 @@ valid-from W counts accesses listings streams things units places said words sho
   scheds = λ g within. let at = at-within W.scheds g within in sched-from W g at.0 at.1 (all-at (IsSchedPart W) W.scheds listings g at.0 at.1);
   mains = counts.mains;
   streams = streams;
-  one_place = places.1;
+  one_place = places;
   few_objects = counts.few_objects;
   objects = things;
   few_units = counts.few_units;

@@ -1,9 +1,9 @@
 -- Pools that are listed, each once.
-use Rattle.std.proofs.Common.{◌≡◌, ◌≢◌, ◌<◌, ◌+◌, ◌==◌, ◌∙◌, ℕ, zero, suc, refl, ap, Bool, true, false, List, [], ◌∷◌, arith, get_or, length, subst, sym, take}
+use Rattle.std.proofs.Common.{◌≡◌, ◌≢◌, ◌<◌, ◌+◌, ◌==◌, ◌∙◌, ℕ, ap, Bool, true, false, List, arith, get_or, length, subst, sym, take}
 use Rattle.std.specs.Prelude.{AllPairs}
 use Rattle.std.specs.List.{list_any}
 use Rattle.std.proofs.lemmas.Bool.{eq-eqb, eqb-true}
-use Rattle.std.proofs.lemmas.List.{get_or-take, length-take-le, take_more}
+use Rattle.std.proofs.lemmas.List.{get_or-take, get_or_default, length-take-le, take_more}
 use Rattle.std.proofs.lemmas.List.Folds.{Any-from_list_any, list_any_at}
 use Rattle.std.proofs.lemmas.List.Quantifiers.{all_pairs_push}
 use Rattle.abt_machine.specs.declared.numbers.PoolNo.{PoolNo}
@@ -11,12 +11,6 @@ use Rattle.abt_machine.specs.declared.numbers.PoolNo.{PoolNo}
 -- a pool that stands before
 abbrev stands : List PoolNo → PoolNo → Bool
 stands pools pool = list_any (λ (p : PoolNo). p.0 == pool.0) pools
-
--- an element at a place within is the same whatever stands for those past the end
-get_or-same : {A : Type 0} (xs : List A) (i : ℕ) (a b : A) → i < length xs → get_or xs i a ≡ get_or xs i b
-get_or-same [] i a b within = absurd (omega arith)
-get_or-same (x ∷ xs) zero a b within = refl
-get_or-same (x ∷ xs) (suc i) a b within = get_or-same xs i a b (omega arith)
 
 -- a pool that stands before is listed twice
 pub repeated : (pools : List PoolNo) (i : ℕ) (d : PoolNo) → i < length pools → stands (take i pools) (get_or pools i d) ≡ true → AllPairs (λ (a b : PoolNo). a.0 ≢ b.0) pools → ⊥
@@ -28,7 +22,7 @@ repeated pools i d within found apart =
     let before : k < i = omega (arith, any.2) in
     let here : get_or pools k x ≡ x = sym (get_or-take i pools k x before) ∙ any.3 in
     let same : x.0 ≡ (get_or pools i d).0 = eqb-true x.0 (get_or pools i d).0 any.4 in
-    let other : get_or pools i d ≡ get_or pools i x = get_or-same pools i d x within in
+    let other : get_or pools i d ≡ get_or pools i x = get_or_default pools i d x within in
     apart k i x before within (ap (λ (p : PoolNo). p.0) here ∙ same ∙ ap (λ (p : PoolNo). p.0) other)
 
 -- pools are apart with one more that does not stand before

@@ -1,8 +1,9 @@
 -- How long a text of lines is, as the sum of what its lines weigh.
-use Rattle.std.proofs.Common.{◌↔◌, IsTrue, Option, Some, None, is_some, ◌≡◌, ◌≤◌, ◌<◌, ◌+◌, ◌-◌, ◌==◌, ◌∙◌, ℕ, zero, suc, Bool, true, false, List, [], ◌∷◌, ◌++◌, add-one, ap, arith, subst, sym, codes, cond, decimal, drop, flat_map, get_or, length, length-append, length-take, map, refl, take}
+use Rattle.std.proofs.Common.{◌↔◌, IsTrue, Option, Some, None, is_some, ◌≡◌, ◌≤◌, ◌<◌, ◌+◌, ◌-◌, ◌==◌, ◌∙◌, ℕ, zero, suc, Bool, true, false, List, [], ◌∷◌, ◌++◌, add-one, add-zero, ap, arith, subst, sym, codes, cond, decimal, drop, flat_map, get_or, length, length-append, length-take, map, refl, take}
 use Rattle.std.proofs.Math.Seq.{drop-cons}
 use Rattle.std.specs.List.{enumerate_from}
 use Rattle.std.proofs.lemmas.Bool.{eqb-false, eqb-true}
+use Rattle.std.proofs.lemmas.List.{get_or_default}
 use Rattle.abt_machine.specs.declared.operations.Op.{Op}
 use Rattle.abt_machine.specs.declared.operations.Op.TheVariants as op
 use Rattle.abt_machine.specs.declared.workload.Parts.{Parts}
@@ -64,17 +65,18 @@ size-append (x ∷ xs) ys =
 pub drop-more : {A : Type 0} (xs : List A) (i : ℕ) (x : A) → x ≡ get_or xs i x → i < length xs → drop i xs ≡ x ∷ drop (i + 1) xs
 drop-more xs i x is within = rw add-one (drop-cons xs i x within) ∙ ap (λ y. y ∷ drop (i + 1) xs) (sym is)
 
--- an element at a place within stays whatever stands for those past the end
-get_or-get_or : {A : Type 0} (xs : List A) (i : ℕ) (d : A) → i < length xs → get_or xs i d ≡ get_or xs i (get_or xs i d)
-get_or-get_or [] i d within = absurd (omega arith)
-get_or-get_or (x ∷ xs) zero d within = refl
-get_or-get_or (x ∷ xs) (suc i) d within = get_or-get_or xs i d (omega arith)
-
 -- the lines of things from one on are its line and those from the next on
 pub size-drop : {A : Type 0} (f : A → List Text) (xs : List A) (i : ℕ) (d : A) → has_words (f (get_or xs i d)) ≡ true → i < length xs
     → size (map f (drop i xs)) ≡ weight (f (get_or xs i d)) + size (map f (drop (i + 1) xs))
 size-drop f xs i d some within =
-    ap (λ ys. size (map f ys)) (drop-more xs i (get_or xs i d) (get_or-get_or xs i d within) within) ∙ size-line (f (get_or xs i d)) (map f (drop (i + 1) xs)) some
+    ap (λ ys. size (map f ys)) (drop-more xs i (get_or xs i d) (get_or_default xs i d (get_or xs i d) within) within) ∙ size-line (f (get_or xs i d)) (map f (drop (i + 1) xs)) some
+
+-- the element behind a list has the next number
+pub enumerate-behind : {A : Type 0} (n : ℕ) (xs : List A) (x : A) → enumerate_from n (xs ++ x ∷ []) ≡ enumerate_from n xs ++ (n + length xs, x) ∷ []
+enumerate-behind n [] x = rw (add-zero n) refl
+enumerate-behind n (y ∷ xs) x =
+    let next : n + 1 + length xs ≡ n + length (y ∷ xs) = omega arith in
+    rw (enumerate-behind (n + 1) xs x, next) refl
 
 -- numbered lines, from a number on
 abbrev pub lines_from : {A : Type 0} → (ℕ → A → List Text) → ℕ → List A → List (List Text)
@@ -90,7 +92,7 @@ size-from_item {A = A} f xs ys i x same is some within =
 -- the same of the element at a place
 pub size-from : {A : Type 0} (f : ℕ → A → List Text) (xs ys : List A) (i : ℕ) (d : A) → ys ≡ xs → has_words (f i (get_or ys i d)) ≡ true → i < length ys
     → size (lines_from f i (drop i xs)) ≡ weight (f i (get_or ys i d)) + size (lines_from f (i + 1) (drop (i + 1) xs))
-size-from f xs ys i d same some within = size-from_item f xs ys i (get_or ys i d) same (get_or-get_or ys i d within) some within
+size-from f xs ys i d same some within = size-from_item f xs ys i (get_or ys i d) same (get_or_default ys i d (get_or ys i d) within) some within
 
 -- the lines that things make from one on are its lines and those from the next on
 pub size-groups : {A : Type 0} (f : ℕ → A → List (List Text)) (xs ys : List A) (i : ℕ) (x : A) → ys ≡ xs → x ≡ get_or ys i x → i < length ys
@@ -117,7 +119,7 @@ size-groups_past f k [] = size-nil
 size-groups_past f k (x ∷ xs) = size-groups_past f k xs
 
 -- a text of one byte more is short enough without its last line feed
-fitted-le : (text : Text) → length text ≤ 4194305 → length (fitted text) ≤ 4194304
+pub fitted-le : (text : Text) → length text ≤ 4194305 → length (fitted text) ≤ 4194304
 fitted-le text le = by (length text == 4194305) refl
   where
     by : (c : Bool) → (length text == 4194305) ≡ c → length (cond c (take (length text - 1) text) text) ≤ 4194304
@@ -125,7 +127,7 @@ fitted-le text le = by (length text == 4194305) refl
     by false e = let other = eqb-false (length text) 4194305 e in omega (arith, other)
 
 -- a text that is short enough as it is written has at most one byte more
-le-fitted : (text : Text) → length (fitted text) ≤ 4194304 → length text ≤ 4194305
+pub le-fitted : (text : Text) → length (fitted text) ≤ 4194304 → length text ≤ 4194305
 le-fitted text = by (length text == 4194305) refl
   where
     by : (c : Bool) → (length text == 4194305) ≡ c → length (cond c (take (length text - 1) text) text) ≤ 4194304 → length text ≤ 4194305

@@ -1,5 +1,5 @@
 -- Lists of numbered elements, one element more at a time.
-use Rattle.std.proofs.Common.{◌≡◌, ◌∙◌, ◌+◌, ◌<◌, ℕ, List, [], ◌∷◌, ◌++◌, length, take, get_or, flat_map, refl, subst, sym, arith, add-zero, zero-add}
+use Rattle.std.proofs.Common.{◌≡◌, ◌∙◌, ◌+◌, ◌<◌, ℕ, List, [], ◌∷◌, ◌++◌, length, take, get_or, flat_map, refl, subst, sym, arith, zero-add}
 use Rattle.std.proofs.lemmas.Grind.{flat_map-append}
 use Rattle.std.proofs.lemmas.List.{append-nil, map_more, map_push, length-map, length-take-le}
 use Rattle.std.specs.List.{enumerate_from}
@@ -8,17 +8,11 @@ use Rattle.abt_machine.specs.declared.workload.Parts.{Parts}
 use Rattle.abt_machine.specs.Queues.{first_alone}
 use Rattle.abt_machine.specs.Texts.{ShownUnit, short_of, tally_and_outcome, unit_line}
 use Rattle.abt_machine.specs.Words.{Text, ended, numbered}
+use Rattle.abt_machine.proofs.Weighing.{enumerate-behind}
 use Rattle.abt_report.specs.Pictures.{unit_of, units_of}
 use Rattle.abt_report.specs.declared.pictures.Row.{Row}
 
--- the element behind a list has the next number
-pub enumerate-behind : {A : Type 0} (n : ℕ) (xs : List A) (x : A) → enumerate_from n (xs ++ x ∷ []) ≡ enumerate_from n xs ++ (n + length xs, x) ∷ []
-enumerate-behind n [] x = rw (add-zero n) refl
-enumerate-behind n (y ∷ xs) x =
-    let next : n + 1 + length xs ≡ n + length (y ∷ xs) = omega arith in
-    rw (enumerate-behind (n + 1) xs x, next) refl
-
--- so it is with what is made of each
+-- what is made of each element and its number, with one element behind
 pub numbered-behind : {A B : Type 0} (f : ℕ → A → B) (xs : List A) (x : A) → numbered f (xs ++ x ∷ []) ≡ numbered f xs ++ f (length xs) x ∷ []
 numbered-behind f xs x = rw (enumerate-behind 0 xs x, zero-add (length xs)) (map_push (λ p. f p.0 p.1) (enumerate_from 0 xs) (length xs, x))
 

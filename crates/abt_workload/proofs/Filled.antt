@@ -1,5 +1,6 @@
 -- Lines that are written of their form's words and of numbers are taken.
 use Rattle.std.proofs.Common.{◌≡◌, ◌&&◌, ◌∙◌, ℕ, All, Bool, true, false, List, [], ◌∷◌, Some, ap, decimal, map, refl, subst, sym}
+use Rattle.std.proofs.lemmas.List.Elements.{All-cons}
 use Rattle.abt_machine.specs.declared.grammar.Form.{Form}
 use Rattle.abt_machine.specs.declared.grammar.Number.{Number}
 use Rattle.abt_machine.specs.declared.grammar.Number.TheVariants as number
@@ -11,7 +12,6 @@ use Rattle.abt_machine.specs.Words.{Text}
 use Rattle.abt_workload.specs.Declarable.{with_line}
 use Rattle.abt_workload.specs.Slots.{values}
 use Rattle.abt_workload.proofs.Fitting.{AreFit}
-use Rattle.abt_workload.proofs.Growing.{all-cons}
 use Rattle.abt_workload.proofs.NumberedLines.{IsFine, line-taken, spelled}
 use Rattle.abt_workload.proofs.Places.{and-left, and-right}
 use Rattle.abt_workload.proofs.Proper.{none-of}
@@ -53,19 +53,19 @@ module _ (a : Above) where
   -- the digits of pools are words
   pools-words : (ns : List ℕ) → AreFit a (as_pools ns) → All IsWord (map decimal ns)
   pools-words [] h = none-of _
-  pools-words (n ∷ ns) h = all-cons IsWord (decimal n) (map decimal ns) (decimal-word n h.0.small) (pools-words ns h.1)
+  pools-words (n ∷ ns) h = All-cons IsWord (decimal n) (map decimal ns) (decimal-word n h.0.small) (pools-words ns h.1)
 
   -- the words of a line are words
   words-filled : (places : List Slot) (word : Text) (ns : List ℕ) → plain_places places ≡ true → IsWord word → AreFit a (given places ns)
       → All IsWord (filled places word ns)
   words-filled [] word ns e w h = none-of _
   words-filled (Fixed t ∷ places) word ns e w h =
-      all-cons IsWord t (filled places word ns) (plain-word t (and-left (is_plain t) _ e)) (words-filled places word ns (and-right (is_plain t) _ e) w h)
+      All-cons IsWord t (filled places word ns) (plain-word t (and-left (is_plain t) _ e)) (words-filled places word ns (and-right (is_plain t) _ e) w h)
   words-filled (Numeral n ∷ places) word [] e w h = none-of _
   words-filled (Numeral n ∷ places) word (m ∷ ms) e w h =
-      all-cons IsWord (decimal m) (filled places word ms) (decimal-word m h.0.small) (words-filled places word ms e w h.1)
+      All-cons IsWord (decimal m) (filled places word ms) (decimal-word m h.0.small) (words-filled places word ms e w h.1)
   words-filled (PoolList ∷ places) word ns e w h = pools-words ns h
-  words-filled (slot ∷ places) word ns e w h = all-cons IsWord word (filled places word ns) w (words-filled places word ns e w h)
+  words-filled (slot ∷ places) word ns e w h = All-cons IsWord word (filled places word ns) w (words-filled places word ns e w h)
 
 -- words that are written for a line of this form, of this word where there is a choice, and of these numbers
 pub record IsWritten (f : Form) (word : Text) (ns : List ℕ) (words : List Text) : Type 0 where

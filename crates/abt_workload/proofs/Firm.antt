@@ -23,7 +23,7 @@ use Rattle.abt_machine.specs.declared.operations.Thing.{Thing}
 use Rattle.abt_machine.specs.declared.operations.Thing.TheVariants as thing
 use Rattle.abt_machine.specs.declared.program.Fault.{Fault}
 use Rattle.abt_machine.specs.declared.program.Fault.TheVariants as fault
-use Rattle.abt_machine.specs.Canonical.{keys_lines, object_line, pool_line, sched_line, stream_line, version_line, workload_lines}
+use Rattle.abt_machine.specs.Canonical.{stream_line, workload_lines}
 use Rattle.abt_machine.specs.declared.workload.Parts.{Parts}
 use Rattle.abt_machine.specs.declared.workload.UnitPart.{UnitPart}
 use Rattle.abt_machine.specs.Declaring.{Above, at, listed, nothing, parts_of, word_in}
@@ -32,8 +32,10 @@ use Rattle.abt_machine.specs.Forms.{fits, form_of, forms, op_slots, section, slo
 use Rattle.abt_machine.specs.Grammar.{Reads, and_form, and_line, and_words, declared_by, fault_at, has_at}
 use Rattle.abt_machine.specs.Spelling.{has_control, lines_of, words_of}
 use Rattle.abt_machine.specs.Valid.{IsValid}
-use Rattle.abt_machine.specs.Words.{Text, text_of}
+use Rattle.abt_machine.specs.Weights.{size, weight}
+use Rattle.abt_machine.specs.Words.{Text}
 use Rattle.abt_machine.specs.Workloads.{ops_of}
+use Rattle.abt_machine.proofs.Weighing.{lines_from, short-canonical, size-nil, size-workload}
 use Rattle.abt_workload.specs.Declarable.{AreSmall, IsDeclarable, IsSaid, IsSmall, IsSmallRule, is_wide, with_line}
 use Rattle.abt_workload.specs.Reading.{IsFirm, IsSeen}
 use Rattle.abt_workload.specs.Slots.{values}
@@ -48,8 +50,8 @@ use Rattle.abt_workload.proofs.Seen.{fault-in, fault-length}
 use Rattle.abt_workload.proofs.Soundness.{IsSound, none-passes, sound-of}
 use Rattle.abt_workload.proofs.Taken.{line_fault-of}
 use Rattle.abt_workload.proofs.Validity.{valid-of}
-use Rattle.abt_workload.proofs.Weights.{weight, words-weight}
-use Rattle.abt_workload.proofs.Costs.{all-said, cost, cost-append, cost-cons, cost_all, fitted-length, lines_from, mains-full, mains_cost, size, size-lines, units-said, units_lines}
+use Rattle.abt_workload.proofs.Weights.{words-weight}
+use Rattle.abt_workload.proofs.Costs.{all-said, lines-weight, mains-full, mains_cost, units-said}
 use Rattle.abt_workload.proofs.Measures.{count_cost, end_cost, streams_cost, total, version_cost}
 use Rattle.abt_workload.proofs.Totals.{step}
 
@@ -288,7 +290,7 @@ abbrev AllNone : Above → List Text → Type 0
 AllNone a [] = Unit {0}
 AllNone a (line ∷ lines) = (line_fault a line ≡ None) × AllNone (and_line a line) lines
 
-total-lines : (a : Above) (lines : List Text) → IsProper a → IsReady a → AllNone a lines → total (fold and_line a lines) ≤ total a + size lines
+total-lines : (a : Above) (lines : List Text) → IsProper a → IsReady a → AllNone a lines → total (fold and_line a lines) ≤ total a + weight lines
 total-lines a [] h ready none = omega arith
 total-lines a (line ∷ lines) h ready none =
     let s = step-line a line h ready none.0 in
@@ -311,46 +313,32 @@ pub total-text : (text : Text) → ((i : ℕ) → find (has_at (lines_of text) i
 total-text text faultless =
     let none : AllNone nothing (lines_of text) = none-from (lines_of text) [] (lines_of text) refl (λ i lt. sym (fault-in (lines_of text) i lt) ∙ faultless i) in
     let t = total-lines nothing (lines_of text) proper-nothing (λ e. cc) none in
-    let s = size-lines text in
+    let s = lines-weight text in
+    let z = size-nil in
     omega arith
 
 -- The whole text.
 
-count-some : (o : Option ℕ) (n : ℕ) → is_none o ≡ false → unwrap_or o 0 ≡ n → count_cost o ≡ cost (codes "units" ∷ decimal n ∷ [])
+count-some : (o : Option ℕ) (n : ℕ) → is_none o ≡ false → unwrap_or o 0 ≡ n → count_cost o ≡ weight (codes "units" ∷ decimal n ∷ [])
 count-some None n e f = cc
-count-some (Some m) n e f = ap (λ (k : ℕ). cost (codes "units" ∷ decimal k ∷ [])) f
+count-some (Some m) n e f = ap (λ (k : ℕ). weight (codes "units" ∷ decimal k ∷ [])) f
 
-streams-some : (o : Option ℕ) → is_none o ≡ false → streams_cost o ≡ cost (codes "streams" ∷ decimal (unwrap_or o 0) ∷ [])
+streams-some : (o : Option ℕ) → is_none o ≡ false → streams_cost o ≡ weight (codes "streams" ∷ decimal (unwrap_or o 0) ∷ [])
 streams-some None e = cc
 streams-some (Some m) e = refl
 
-pub whole-length : (a : Above) → IsProper a → (a.section == 10) ≡ true → cost_all (workload_lines (parts_of a)) ≡ total a
+-- the text that is written has the bytes that were counted
+pub whole-length : (a : Above) → IsProper a → (a.section == 10) ≡ true → size (workload_lines (parts_of a)) ≡ total a
 whole-length a h ended =
     let ten : a.section ≡ 10 = eqb-true a.section 10 ended in
     let W : Parts = parts_of a in
-    let st : List Text = codes "streams" ∷ decimal W.streams ∷ [] in
-    let P : List (List Text) = lines_from pool_line 0 a.pools in
-    let S : List (List Text) = lines_from sched_line 0 a.scheds in
-    let M : List (List Text) = lines_from stream_line 0 W.mains in
-    let O : List (List Text) = lines_from object_line 0 a.objects in
-    let ul : List Text = codes "units" ∷ decimal (length W.units) ∷ [] in
-    let U : List (List Text) = units_lines W 0 W.units in
-    let K : List (List Text) = keys_lines a.keys in
-    let c1 = cost-append ((((((version_line ∷ st ∷ K) ++ P) ++ S) ++ M) ++ O) ++ ul ∷ U) ((codes "end" ∷ []) ∷ []) in
-    let c2 = cost-append (((((version_line ∷ st ∷ K) ++ P) ++ S) ++ M) ++ O) (ul ∷ U) in
-    let c3 = cost-append ((((version_line ∷ st ∷ K) ++ P) ++ S) ++ M) O in
-    let c4 = cost-append (((version_line ∷ st ∷ K) ++ P) ++ S) M in
-    let c5 = cost-append ((version_line ∷ st ∷ K) ++ P) S in
-    let c6 = cost-append (version_line ∷ st ∷ K) P in
-    let c7 = cost-cons version_line (st ∷ K) in
-    let c8 = cost-cons st K in
-    let c9 = cost-cons ul U in
-    let e1 : streams_cost a.streams ≡ cost st = streams-some a.streams (h.order.has_streams (omega arith)) in
+    let whole = size-workload W in
+    let e1 : streams_cost a.streams ≡ weight (codes "streams" ∷ decimal W.streams ∷ []) = streams-some a.streams (h.order.has_streams (omega arith)) in
     let all : length W.units ≡ length a.units + length (option_to_list a.last) = length-append a.units _ in
     let most = h.order.has_units (omega arith) in
     let least = h.units.declared in
-    let e2 : count_cost a.unit_count ≡ cost ul = count-some a.unit_count (length W.units) (h.order.has_count (omega arith)) (omega arith) in
-    let e3 : mains_cost 0 a.mains ≡ cost_all M = mains-full 0 a.mains (h.order.has_mains (omega arith)) in
+    let e2 : count_cost a.unit_count ≡ weight (codes "units" ∷ decimal (length W.units) ∷ []) = count-some a.unit_count (length W.units) (h.order.has_count (omega arith)) (omega arith) in
+    let e3 : mains_cost 0 a.mains ≡ size (lines_from stream_line 0 W.mains) = mains-full 0 a.mains (h.order.has_mains (omega arith)) in
     let e4 = units-said W 0 W.units in
     let e5 = all-said W _ h.said in
     let v : version_cost a.section ≡ 6 = ap version_cost ten in
@@ -361,9 +349,9 @@ pub valid-end : (text : Text) → length text ≤ 4194304 → ((i : ℕ) → fin
 valid-end text le faultless end =
     let a : Above = declared_by (lines_of text) in
     let h : IsProper a = proper-lines (lines_of text) in
-    let w : cost_all (workload_lines (parts_of a)) ≡ total a = whole-length a h end in
+    let w : size (workload_lines (parts_of a)) ≡ total a = whole-length a h end in
     let t : total a ≤ length text + 1 = total-text text faultless in
-    valid-of a h end (fitted-length (text_of (workload_lines (parts_of a))) (omega arith))
+    valid-of a h end (short-canonical (parts_of a) (omega arith))
 
 -- the parts that are made of what was seen
 pub seen-valid : (text : Text) (a : Above) (W : Parts) → length text ≤ 4194304 → IsSeen text a → W ≡ parts_of a → IsValid W

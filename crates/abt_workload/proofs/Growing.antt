@@ -4,7 +4,7 @@ use Rattle.std.specs.Option.{option_map_or}
 use Rattle.std.specs.List.{AllPairs, list_all, list_any}
 use Rattle.std.proofs.lemmas.Bool.{eqb-false}
 use Rattle.std.proofs.lemmas.List.Kept.{AllPairs-cons}
-use Rattle.std.proofs.lemmas.List.Elements.{All-append}
+use Rattle.std.proofs.lemmas.List.Elements.{All-append, All-cons, All-head, All-tail}
 use Rattle.abt_machine.specs.declared.grammar.Number.{Number}
 use Rattle.abt_machine.specs.declared.grammar.Number.TheVariants as number
 use Rattle.abt_machine.specs.declared.numbers.SchedNo.{SchedNo}
@@ -19,6 +19,7 @@ use Rattle.abt_machine.specs.Faults.{has_repeated}
 use Rattle.abt_machine.specs.Forms.{Slot, Fixed, KindWord, CombineWord, AnyWord, Numeral, PoolList, fits, numerals, suits}
 use Rattle.abt_machine.specs.Spelling.{value_of}
 use Rattle.abt_machine.specs.Words.{Text}
+use Rattle.abt_machine.proofs.Placing.{pairs-head, pairs-tail}
 use Rattle.abt_workload.specs.Slots.{numbered, values}
 use Rattle.abt_workload.proofs.Places.{and-left, and-right, kinds, or-left, or-right}
 use Rattle.abt_workload.proofs.Proper.{HasUnits, IsAccessIn, IsSchedIn, IsThingIn, no-pair, none-of}
@@ -28,22 +29,6 @@ use Rattle.abt_workload.proofs.Proper.{HasUnits, IsAccessIn, IsSchedIn, IsThingI
 pub all-one : {A : Type 0} (P : A → Type 0) (x : A) → P x → All P (x ∷ [])
 all-one P x h zero d lt = h
 all-one P x h (suc k) d lt = absurd (omega arith)
-
-pub all-cons : {A : Type 0} (P : A → Type 0) (x : A) (xs : List A) → P x → All P xs → All P (x ∷ xs)
-all-cons P x xs h hs zero d lt = h
-all-cons P x xs h hs (suc k) d lt = hs k d (omega arith)
-
-pub all-head : {A : Type 0} (P : A → Type 0) (x : A) (xs : List A) → All P (x ∷ xs) → P x
-all-head P x xs all = all 0 x (omega arith)
-
-pub all-tail : {A : Type 0} (P : A → Type 0) (x : A) (xs : List A) → All P (x ∷ xs) → All P xs
-all-tail P x xs all = λ k d lt. all (suc k) d (omega arith)
-
-pairs-head : (x : ℕ) (xs : List ℕ) → AllPairs (λ a b. a ≢ b) (x ∷ xs) → All (λ b. x ≢ b) xs
-pairs-head x xs h = λ k d lt. h 0 (suc k) d (omega arith) (omega arith)
-
-pairs-tail : (x : ℕ) (xs : List ℕ) → AllPairs (λ a b. a ≢ b) (x ∷ xs) → AllPairs (λ a b. a ≢ b) xs
-pairs-tail x xs h = λ i j d lt within. h (suc i) (suc j) d (omega arith) (omega arith)
 
 pub all-and : {A : Type 0} (P : A → Type 0) (xs : List A) (x : A) → All P xs → P x → All P (xs ++ x ∷ [])
 all-and P xs x all h = All-append P xs (x ∷ []) all (all-one P x h)
@@ -105,7 +90,7 @@ thing-grows xs y x (thing.Barrier n) h = h
 
 others : (n : ℕ) (ns : List ℕ) → list_any (λ m. m == n) ns ≡ false → All (λ m. n ≢ m) ns
 others n [] e = none-of _
-others n (m ∷ ms) e = all-cons (λ k. n ≢ k) m ms (λ is. eqb-false m n (or-left (m == n) _ e) (sym is)) (others n ms (or-right (m == n) _ e))
+others n (m ∷ ms) e = All-cons (λ k. n ≢ k) m ms (λ is. eqb-false m n (or-left (m == n) _ e) (sym is)) (others n ms (or-right (m == n) _ e))
 
 pub once-pairs : (ns : List ℕ) → has_repeated ns ≡ false → AllPairs (λ x y. x ≢ y) ns
 once-pairs [] e = no-pair (λ (x y : ℕ). x ≢ y)
@@ -121,7 +106,7 @@ ends_list (slot ∷ places) = ends_list places
 module _ (P : Number → ℕ → Bool) where
   all-pools : (ws : List Text) → list_all (λ p. P p.0 p.1) (numbered (map (λ w. (number.Pool, w)) ws)) ≡ true → All (λ n. P number.Pool n ≡ true) (values (numbered (map (λ w. (number.Pool, w)) ws)))
   all-pools [] h = none-of _
-  all-pools (w ∷ ws) h = all-cons (λ n. P number.Pool n ≡ true) (value_of w) _ (and-left (P number.Pool (value_of w)) _ h) (all-pools ws (and-right (P number.Pool (value_of w)) _ h))
+  all-pools (w ∷ ws) h = All-cons (λ n. P number.Pool n ≡ true) (value_of w) _ (and-left (P number.Pool (value_of w)) _ h) (all-pools ws (and-right (P number.Pool (value_of w)) _ h))
 
   pub tail-all : (places : List Slot) (words : List Text) → fits places words ≡ true → ends_list places ≡ true → list_all (λ p. P p.0 p.1) (numbered (numerals places words)) ≡ true
       → All (λ n. P number.Pool n ≡ true) (drop (length (kinds places)) (values (numbered (numerals places words))))
@@ -151,10 +136,10 @@ mains_list mains = map (λ (g : SchedNo). g.0) (flat_map option_to_list mains)
 
 all-set : (P : ℕ → Type 0) (mains : List (Option SchedNo)) (rest : List ℕ) (s : ℕ) (g : SchedNo) → P g.0 → All P (mains_list mains ++ rest) → All P (mains_list (slice_set mains s (Some g)) ++ rest)
 all-set P [] rest s g pg h = h
-all-set P (None ∷ ms) rest zero g pg h = all-cons P g.0 (mains_list ms ++ rest) pg h
-all-set P (Some x ∷ ms) rest zero g pg h = all-cons P g.0 (mains_list ms ++ rest) pg (all-tail P x.0 (mains_list ms ++ rest) h)
+all-set P (None ∷ ms) rest zero g pg h = All-cons P g.0 (mains_list ms ++ rest) pg h
+all-set P (Some x ∷ ms) rest zero g pg h = All-cons P g.0 (mains_list ms ++ rest) pg (All-tail P x.0 (mains_list ms ++ rest) h)
 all-set P (None ∷ ms) rest (suc s) g pg h = all-set P ms rest s g pg h
-all-set P (Some x ∷ ms) rest (suc s) g pg h = all-cons P x.0 _ (all-head P x.0 (mains_list ms ++ rest) h) (all-set P ms rest s g pg (all-tail P x.0 (mains_list ms ++ rest) h))
+all-set P (Some x ∷ ms) rest (suc s) g pg h = All-cons P x.0 _ (All-head P x.0 (mains_list ms ++ rest) h) (all-set P ms rest s g pg (All-tail P x.0 (mains_list ms ++ rest) h))
 
 -- a stream that has no main scheduler gets one that has no place
 pub pairs-set : (mains : List (Option SchedNo)) (rest : List ℕ) (s : ℕ) (g : SchedNo) → slice_get mains s ≡ Some None → All (λ m. m ≢ g.0) (mains_list mains ++ rest)
@@ -165,8 +150,8 @@ pairs-set (Some x ∷ ms) rest zero g e out h = cc
 pairs-set (None ∷ ms) rest (suc s) g e out h = pairs-set ms rest s g e out h
 pairs-set (Some x ∷ ms) rest (suc s) g e out h =
     AllPairs-cons (λ (a b : ℕ). a ≢ b) x.0 (mains_list (slice_set ms s (Some g)) ++ rest)
-    (all-set (λ m. x.0 ≢ m) ms rest s g (all-head (λ m. m ≢ g.0) x.0 (mains_list ms ++ rest) out) (pairs-head x.0 (mains_list ms ++ rest) h))
-    (pairs-set ms rest s g e (all-tail (λ m. m ≢ g.0) x.0 (mains_list ms ++ rest) out) (pairs-tail x.0 (mains_list ms ++ rest) h))
+    (all-set (λ m. x.0 ≢ m) ms rest s g (All-head (λ m. m ≢ g.0) x.0 (mains_list ms ++ rest) out) (pairs-head (λ a b. a ≢ b) x.0 (mains_list ms ++ rest) h))
+    (pairs-set ms rest s g e (All-tail (λ m. m ≢ g.0) x.0 (mains_list ms ++ rest) out) (pairs-tail (λ a b. a ≢ b) x.0 (mains_list ms ++ rest) h))
 
 -- a stream's main scheduler, after one is given
 pub get-set : (mains : List (Option SchedNo)) (s t : ℕ) (g h : SchedNo) → slice_get (slice_set mains s (Some g)) t ≡ Some (Some h) → ((t ≡ s) × (g ≡ h)) ⊎ (slice_get mains t ≡ Some (Some h))
@@ -190,4 +175,4 @@ main-none (m ∷ ms) (suc s) lt e = main-none ms s (omega arith) e
 -- what is not among numbers
 pub not-among : (ns : List ℕ) (g : ℕ) → list_any (λ h. h == g) ns ≡ false → All (λ m. m ≢ g) ns
 not-among [] g e = none-of _
-not-among (n ∷ ns) g e = all-cons (λ m. m ≢ g) n ns (eqb-false n g (or-left (n == g) _ e)) (not-among ns g (or-right (n == g) _ e))
+not-among (n ∷ ns) g e = All-cons (λ m. m ≢ g) n ns (eqb-false n g (or-left (n == g) _ e)) (not-among ns g (or-right (n == g) _ e))

@@ -25,13 +25,15 @@ use Rattle.abt_machine.specs.Workloads.{is_sched, ops_of}
 use Rattle.std.proofs.lemmas.Grind.{flat_map-append}
 use Rattle.std.proofs.lemmas.List.Folds.{list_any-append}
 use Rattle.abt_machine.specs.Words.{Text}
+use Rattle.abt_machine.proofs.Saying.{said_by_units}
 use Rattle.abt_workload.specs.Declarable.{with_line}
 use Rattle.abt_workload.proofs.Bounds.{at-home, after-section, le-not, lt-from, lt-not, there-at}
 use Rattle.abt_workload.proofs.Naming.{declared-op, still-declared}
 use Rattle.abt_workload.proofs.LineWords.{words-some, words-utf8, words-visible}
 use Rattle.std.proofs.lemmas.Bool.{not-true}
 use Rattle.std.proofs.lemmas.Str.{IsUtf8-from_is_utf8}
-use Rattle.abt_workload.proofs.Growing.{all-and, all-cons, all-head, all-tail, mains_list, not-among}
+use Rattle.std.proofs.lemmas.List.Elements.{All-cons, All-head, All-tail}
+use Rattle.abt_workload.proofs.Growing.{all-and, mains_list, not-among}
 use Rattle.abt_workload.proofs.Places.{and-right, not-false, or-left, or-right}
 use Rattle.abt_workload.proofs.Proper.{IsBodyIn, IsProper, IsUnitIn, counted, none-of, op_count, unit_count}
 use Rattle.abt_workload.proofs.Soundness.{IsSound}
@@ -49,16 +51,16 @@ late {a} h some = by (leb_tells 8 a.section)
     by (inr x) = absurd (some-none a.unit_count (h.order.no_count x.1) some)
 
 pub last-of : {A : Type 0} (P : A → Type 0) (xs : List A) (x : A) → All P (xs ++ x ∷ []) → P x
-last-of P [] x h = all-head P x [] h
-last-of P (y ∷ ys) x h = last-of P ys x (all-tail P y (ys ++ x ∷ []) h)
+last-of P [] x h = All-head P x [] h
+last-of P (y ∷ ys) x h = last-of P ys x (All-tail P y (ys ++ x ∷ []) h)
 
 pub front-of : {A : Type 0} (P : A → Type 0) (xs : List A) (x : A) → All P (xs ++ x ∷ []) → All P xs
 front-of P [] x h = none-of P
-front-of P (y ∷ ys) x h = all-cons P y ys (all-head P y (ys ++ x ∷ []) h) (front-of P ys x (all-tail P y (ys ++ x ∷ []) h))
+front-of P (y ∷ ys) x h = All-cons P y ys (All-head P y (ys ++ x ∷ []) h) (front-of P ys x (All-tail P y (ys ++ x ∷ []) h))
 
 -- no words are said by a unit without operations
-said-still : (r : Role) (start : Option PoolNo) (ns : List ℕ) (units : List UnitPart) → flat_map (λ (part : UnitPart). flat_map said_by (ops_of part.body)) (units ++ unit_with r start ns ∷ []) ≡ flat_map (λ (part : UnitPart). flat_map said_by (ops_of part.body)) units
-said-still r start ns units = flat_map-append (λ (part : UnitPart). flat_map said_by (ops_of part.body)) units (unit_with r start ns ∷ []) ∙ (ap (λ (xs : List ℕ). flat_map (λ (part : UnitPart). flat_map said_by (ops_of part.body)) units ++ xs) (none-said r) ∙ append-nil (flat_map (λ (part : UnitPart). flat_map said_by (ops_of part.body)) units))
+said-still : (r : Role) (start : Option PoolNo) (ns : List ℕ) (units : List UnitPart) → said_by_units (units ++ unit_with r start ns ∷ []) ≡ said_by_units units
+said-still r start ns units = flat_map-append (λ (part : UnitPart). flat_map said_by (ops_of part.body)) units (unit_with r start ns ∷ []) ∙ (ap (λ (xs : List ℕ). said_by_units units ++ xs) (none-said r) ∙ append-nil (said_by_units units))
   where
     none-said : (q : Role) → flat_map said_by (ops_of (body_with q ns)) ++ [] ≡ []
     none-said role.Ult = refl
@@ -237,7 +239,7 @@ same-places p units part =
     ∙ (ap (λ (gs : List ℕ). flat_map (λ (x : UnitPart). sched_in x.body) units ++ (gs ++ [])) (body-sched p part.body)
     ∙ sym (flat_map-append (λ (x : UnitPart). sched_in x.body) units (part ∷ [])))
 
-said-and : (p : Op) (units : List UnitPart) (part : UnitPart) → is_sched part.body ≡ false → flat_map (λ (x : UnitPart). flat_map said_by (ops_of x.body)) (units ++ unit_and p part ∷ []) ≡ flat_map (λ (x : UnitPart). flat_map said_by (ops_of x.body)) (units ++ part ∷ []) ++ said_by p
+said-and : (p : Op) (units : List UnitPart) (part : UnitPart) → is_sched part.body ≡ false → said_by_units (units ++ unit_and p part ∷ []) ≡ said_by_units (units ++ part ∷ []) ++ said_by p
 said-and p units part takes' =
     let S : UnitPart → List ℕ = λ x. flat_map said_by (ops_of x.body) in
     let ops : ops_of (body_and p part.body) ≡ ops_of part.body ++ p ∷ [] = body-ops p part.body takes' in
@@ -296,7 +298,7 @@ module _ {a : Above} {line : Text} {words : List Text} (h : IsProper a) (ew : wo
           let short : length (ops_of part.body) < 256 = lt-not 256 (length (ops_of part.body)) (subst (λ (l : Option UnitPart). is_long l ≡ false) is (or-left (is_long a.last) _ s.limit)) in
           let task : (is_task_body part.body && may_block o) ≡ false = subst (λ (l : Option UnitPart). (is_task l && may_block o) ≡ false) is s.task in
           let places : AllPairs (λ x y. x ≢ y) (mains_list a.mains ++ flat_map (λ (x : UnitPart). sched_in x.body) (a.units ++ part ∷ [])) = subst (λ (l : Option UnitPart). AllPairs (λ x y. x ≢ y) (mains_list a.mains ++ flat_map (λ (x : UnitPart). sched_in x.body) (a.units ++ option_to_list l))) is h.places in
-          let said : flat_map (λ (x : UnitPart). flat_map said_by (ops_of x.body)) (a.units ++ part ∷ []) ≡ range_with_len 0 (length a.words) = subst (λ (l : Option UnitPart). flat_map (λ (x : UnitPart). flat_map said_by (ops_of x.body)) (a.units ++ option_to_list l) ≡ range_with_len 0 (length a.words)) is h.said in
+          let said : said_by_units (a.units ++ part ∷ []) ≡ range_with_len 0 (length a.words) = subst (λ (l : Option UnitPart). said_by_units (a.units ++ option_to_list l) ≡ range_with_len 0 (length a.words)) is h.said in
           let few : length a.words ≤ 256 * length a.units + length (ops_of part.body) = subst (λ (l : Option UnitPart). length a.words ≤ 256 * length a.units + op_count l) is h.few_words in
           let one = said-few o words in
           let grown : length (a.words ++ more) ≡ length a.words + length more = length-append a.words more in

@@ -2,7 +2,7 @@
 use Rattle.std.proofs.Common.{◌≡◌, ◌≢◌, ◌<◌, ◌≤◌, ◌+◌, ◌==◌, ◌&&◌, ◌||◌, ℕ, zero, suc, Bool, true, false, not, List, [], ◌∷◌, All, IsUtf8, arith, drop, filter, get_or, length, nat_lt, refl, subst, sym, take, length-drop, inl, inr, ◌⊎◌}
 use Rattle.std.specs.List.{onto_first, position_or_len, slice_split}
 use Rattle.std.proofs.lemmas.Bool.{cases_order, eqb-false, eqb-true}
-use Rattle.std.proofs.lemmas.List.Elements.{All-filter}
+use Rattle.std.proofs.lemmas.List.Elements.{All-cons, All-filter, All-head, All-tail}
 use Rattle.std.proofs.lemmas.List.Splits.{slice_split_first, slice_split_none}
 use Rattle.std.proofs.lemmas.List.Sums.{fails_before_first, passes_at_first}
 use Rattle.std.proofs.lemmas.Str.{IsCharBoundary-after_ascii, IsUtf8-drop, IsUtf8-take}
@@ -11,7 +11,6 @@ use Rattle.abt_machine.specs.Spelling.{has_control, is_control, is_empty, is_sep
 use Rattle.abt_machine.specs.Valid.{IsVisible}
 use Rattle.abt_machine.specs.Words.{Text}
 use Rattle.abt_workload.proofs.Bounds.{le-not}
-use Rattle.abt_workload.proofs.Growing.{all-cons, all-head, all-tail}
 use Rattle.abt_workload.proofs.Places.{or-left, or-right}
 use Rattle.abt_workload.proofs.Proper.{none-of}
 
@@ -23,7 +22,7 @@ kept (w ∷ ws) = by (is_empty w) refl (kept ws)
   where
     by : (b : Bool) → is_empty w ≡ b → All (λ v. is_empty v ≡ false) (filter (λ v. not (is_empty v)) ws) → All (λ v. is_empty v ≡ false) (filter (λ v. not (is_empty v)) (w ∷ ws))
     by true e rest = rw e rest
-    by false e rest = rw e (all-cons (λ v. is_empty v ≡ false) w _ e rest)
+    by false e rest = rw e (All-cons (λ v. is_empty v ≡ false) w _ e rest)
 
 pub words-some : (line : Text) → All (λ w. is_empty w ≡ false) (words_of line)
 words-some line = kept (slice_split is_separator line)
@@ -46,15 +45,15 @@ visible b es ec =
     by false e f ns nt = let le = le-not b 32 e in omega arith
 
 front-visible : (b : ℕ) (parts : List Text) → IsVisible b → All (All IsVisible) parts → All (All IsVisible) (onto_first b parts)
-front-visible b [] v h = all-cons (All IsVisible) (b ∷ []) [] (all-cons IsVisible b [] v (none-of _)) (none-of _)
-front-visible b (p ∷ ps) v h = all-cons (All IsVisible) (b ∷ p) ps (all-cons IsVisible b p v (all-head (All IsVisible) p ps h)) (all-tail (All IsVisible) p ps h)
+front-visible b [] v h = All-cons (All IsVisible) (b ∷ []) [] (All-cons IsVisible b [] v (none-of _)) (none-of _)
+front-visible b (p ∷ ps) v h = All-cons (All IsVisible) (b ∷ p) ps (All-cons IsVisible b p v (All-head (All IsVisible) p ps h)) (All-tail (All IsVisible) p ps h)
 
 parts-visible : (line : Text) → has_control line ≡ false → All (All IsVisible) (slice_split is_separator line)
-parts-visible [] e = all-cons (All IsVisible) [] [] (none-of _) (none-of _)
+parts-visible [] e = All-cons (All IsVisible) [] [] (none-of _) (none-of _)
 parts-visible (b ∷ bs) e = by (is_separator b) refl (parts-visible bs (or-right (is_control b) _ e))
   where
     by : (s : Bool) → is_separator b ≡ s → All (All IsVisible) (slice_split is_separator bs) → All (All IsVisible) (slice_split is_separator (b ∷ bs))
-    by true es rest = rw es (all-cons (All IsVisible) [] _ (none-of _) rest)
+    by true es rest = rw es (All-cons (All IsVisible) [] _ (none-of _) rest)
     by false es rest = rw es (front-visible b (slice_split is_separator bs) (visible b es (or-left (is_control b) _ e)) rest)
 
 pub words-visible : (line : Text) → has_control line ≡ false → All (All IsVisible) (words_of line)
@@ -74,12 +73,12 @@ at-separator : (line : Text) (i : ℕ) → i < length line → is_separator (get
 at-separator line i lt e = let low = separator-low (get_or line i 0) e in (omega arith, λ _ high. absurd (omega arith))
 
 parts-utf8 : (n : ℕ) (line : Text) → length line ≤ n → IsUtf8 line → All IsUtf8 (slice_split is_separator line)
-parts-utf8 zero [] le u = all-cons IsUtf8 [] [] u (none-of _)
+parts-utf8 zero [] le u = All-cons IsUtf8 [] [] u (none-of _)
 parts-utf8 zero (b ∷ bs) le u = absurd (omega arith)
 parts-utf8 (suc n) line le u = by (cases_order (position_or_len is_separator line) (length line)) (λ rest less v. parts-utf8 n rest less v)
   where
     whole : length line ≤ position_or_len is_separator line → All IsUtf8 (slice_split is_separator line)
-    whole past = subst (λ (ps : List Text). All IsUtf8 ps) (sym (slice_split_none is_separator line (λ k d lt. fails_before_first is_separator line k d (omega arith)))) (all-cons IsUtf8 line [] u (none-of _))
+    whole past = subst (λ (ps : List Text). All IsUtf8 ps) (sym (slice_split_none is_separator line (λ k d lt. fails_before_first is_separator line k d (omega arith)))) (All-cons IsUtf8 line [] u (none-of _))
 
     by : (position_or_len is_separator line ≡ length line) ⊎ ((position_or_len is_separator line < length line) ⊎ (length line < position_or_len is_separator line))
         → ((rest : Text) → length rest ≤ n → IsUtf8 rest → All IsUtf8 (slice_split is_separator rest)) → All IsUtf8 (slice_split is_separator line)
@@ -91,7 +90,7 @@ parts-utf8 (suc n) line le u = by (cases_order (position_or_len is_separator lin
         let before : IsUtf8 (take i line) = IsUtf8-take line i u (at-separator line i lt sep) in
         let after : IsUtf8 (drop (i + 1) line) = IsUtf8-drop line (i + 1) u (IsCharBoundary-after_ascii line i u lt (separator-low (get_or line i 0) sep)) in
         let shorter : length (drop (i + 1) line) ≤ n = simp length-drop (omega arith) in
-        subst (λ (ps : List Text). All IsUtf8 ps) (sym (slice_split_first is_separator line 0 lt)) (all-cons IsUtf8 (take i line) _ before (rec (drop (i + 1) line) shorter after))
+        subst (λ (ps : List Text). All IsUtf8 ps) (sym (slice_split_first is_separator line 0 lt)) (All-cons IsUtf8 (take i line) _ before (rec (drop (i + 1) line) shorter after))
 
 pub words-utf8 : (line : Text) → IsUtf8 line → All IsUtf8 (words_of line)
 words-utf8 line u = All-filter (λ w. not (is_empty w)) IsUtf8 (slice_split is_separator line) (parts-utf8 (length line) line (omega arith) u)

@@ -21,13 +21,15 @@ use Rattle.abt_machine.specs.Declaring.{Above, at, combine_named, kind_named, li
 use Rattle.abt_machine.specs.Faults.{values_of}
 use Rattle.abt_machine.specs.Forms.{Slot, Fixed, KindWord, CombineWord, AnyWord, Numeral, PoolList, access_slots, fits, numerals, op_slots, slots, suits}
 use Rattle.abt_machine.specs.Numbers.{pool_no, sched_no}
+use Rattle.abt_machine.specs.Weights.{size, weight}
 use Rattle.abt_machine.specs.Words.{Text}
+use Rattle.abt_machine.proofs.Weighing.{lines_from, size-keys, size-nil}
 use Rattle.abt_workload.specs.Slots.{numbered, values}
 use Rattle.abt_workload.proofs.Bounds.{le-from, within-at}
-use Rattle.abt_workload.proofs.Costs.{bare, bytes_of, cost, cost-cons, cost-weight, cost_all, header, lines_from, mains_cost, op_cost, some_words, units_cost}
+use Rattle.abt_workload.proofs.Costs.{bare, bytes_of, header, mains_cost, op_cost, units_cost}
 use Rattle.abt_workload.proofs.Places.{and-left, and-right, kinds}
 use Rattle.abt_workload.proofs.Soundness.{IsSound}
-use Rattle.abt_workload.proofs.Weights.{NoLonger, filled, lighter, weight}
+use Rattle.abt_workload.proofs.Weights.{NoLonger, filled, lighter}
 
 abbrev pub version_cost : ℕ → ℕ
 version_cost s = cond (nat_lt 0 s) 6 0
@@ -37,17 +39,17 @@ end_cost s = cond (s == 10) 4 0
 
 abbrev pub streams_cost : Option ℕ → ℕ
 streams_cost None = 0
-streams_cost (Some n) = cost (codes "streams" ∷ decimal n ∷ [])
+streams_cost (Some n) = weight (codes "streams" ∷ decimal n ∷ [])
 
 abbrev pub count_cost : Option ℕ → ℕ
 count_cost None = 0
-count_cost (Some n) = cost (codes "units" ∷ decimal n ∷ [])
+count_cost (Some n) = weight (codes "units" ∷ decimal n ∷ [])
 
 -- the bytes of the lines that are written for what is declared
 abbrev pub total : Above → ℕ
 total a =
-    version_cost a.section + streams_cost a.streams + cost_all (keys_lines a.keys) + cost_all (lines_from pool_line 0 a.pools) + cost_all (lines_from sched_line 0 a.scheds)
-    + mains_cost 0 a.mains + cost_all (lines_from object_line 0 a.objects) + count_cost a.unit_count + units_cost 0 (a.units ++ option_to_list a.last) + bytes_of a.words + end_cost a.section
+    version_cost a.section + streams_cost a.streams + size (keys_lines a.keys) + size (lines_from pool_line 0 a.pools) + size (lines_from sched_line 0 a.scheds)
+    + mains_cost 0 a.mains + size (lines_from object_line 0 a.objects) + count_cost a.unit_count + units_cost 0 (a.units ++ option_to_list a.last) + bytes_of a.words + end_cost a.section
 
 pub under-way : (s : ℕ) → 0 < s → version_cost s ≡ 6
 under-way s lt = let e : nat_lt 0 s ≡ true = lt-ltb 0 s lt in rw e refl
@@ -164,9 +166,6 @@ op-choice o words = plain (word_in words 1) (op_slots o) words refl
 
 -- The line that is written for what a line declares.
 
-cost-of : (ws vs : List Text) (n : ℕ) → ws ≡ vs → some_words ws ≡ true → weight vs ≤ n → cost ws ≤ n
-cost-of ws vs n e some le = let c = cost-weight ws some in let w : weight ws ≡ weight vs = ap weight e in omega arith
-
 pool-line : (x : Access) (words : List Text) (vals : List ℕ) → pool_line (at vals 0) (pool_with x words vals) ≡ filled (slots (form.Pool x)) (kind_name (kind_named (word_in words 2))) (at vals 0 ∷ at vals 1 ∷ at vals 2 ∷ [])
 pool-line (access.Priv s) words vals = refl
 pool-line _ words vals = refl
@@ -225,10 +224,6 @@ digit-line zero le = digit-zero
 digit-line (suc zero) le = digit-one
 digit-line (suc (suc n)) le = absurd (omega arith)
 
-op-some : (o : Op) → some_words (op_words bare o) ≡ true
-op-some (op.Set n) = refl
-op-some _ = refl
-
 -- What is written for a line.
 
 module _ {a : Above} {line : Text} {words : List Text} where
@@ -241,37 +236,37 @@ module _ {a : Above} {line : Text} {words : List Text} where
   pub light-version : IsSound a line words form.Version → 6 ≤ weight words
   light-version s = light form.Version [] s refl (omega arith) (plain [] (slots form.Version) words refl)
 
-  pub light-streams : IsSound a line words form.Streams → cost (codes "streams" ∷ decimal (at (values_of form.Streams words) 0) ∷ []) ≤ weight words
-  light-streams s = cost-of (codes "streams" ∷ decimal (at (values_of form.Streams words) 0) ∷ []) (codes "streams" ∷ decimal (at (values_of form.Streams words) 0) ∷ []) (weight words) refl refl (light form.Streams [] s refl (omega arith) (plain [] (slots form.Streams) words refl))
+  pub light-streams : IsSound a line words form.Streams → weight (codes "streams" ∷ decimal (at (values_of form.Streams words) 0) ∷ []) ≤ weight words
+  light-streams s = light form.Streams [] s refl (omega arith) (plain [] (slots form.Streams) words refl)
 
-  pub light-keys : IsSound a line words form.Keys → cost_all (keys_lines (at (values_of form.Keys words) 0)) ≤ weight words
-  light-keys s = by (at (values_of form.Keys words) 0) (cost-of (codes "keys" ∷ decimal (at (values_of form.Keys words) 0) ∷ []) _ (weight words) refl refl (light form.Keys [] s refl (omega arith) (plain [] (slots form.Keys) words refl)))
+  pub light-keys : IsSound a line words form.Keys → size (keys_lines (at (values_of form.Keys words) 0)) ≤ weight words
+  light-keys s = by (at (values_of form.Keys words) 0) (light form.Keys [] s refl (omega arith) (plain [] (slots form.Keys) words refl))
     where
-      by : (n : ℕ) → cost (codes "keys" ∷ decimal n ∷ []) ≤ weight words → cost_all (keys_lines n) ≤ weight words
-      by zero h = omega arith
-      by (suc n) h = let c = cost-cons (codes "keys" ∷ decimal (suc n) ∷ []) [] in omega arith
+      by : (n : ℕ) → weight (codes "keys" ∷ decimal n ∷ []) ≤ weight words → size (keys_lines n) ≤ weight words
+      by zero h = let none = size-nil in omega arith
+      by (suc n) h = let one = size-keys (suc n) (omega arith) in omega arith
 
-  pub light-pool : (x : Access) → IsSound a line words (form.Pool x) → cost (pool_line (at (values_of (form.Pool x) words) 0) (pool_with x words (values_of (form.Pool x) words))) ≤ weight words
-  light-pool x s = cost-of _ _ (weight words) (pool-line x words (values_of (form.Pool x) words)) refl (light (form.Pool x) (kind_name (kind_named (word_in words 2))) s (pool-plain x).0 (pool-plain x).1 (pool-choice x words s.form_fits))
+  pub light-pool : (x : Access) → IsSound a line words (form.Pool x) → weight (pool_line (at (values_of (form.Pool x) words) 0) (pool_with x words (values_of (form.Pool x) words))) ≤ weight words
+  light-pool x s = subst (λ (ws : List Text). weight ws ≤ weight words) (sym (pool-line x words (values_of (form.Pool x) words))) (light (form.Pool x) (kind_name (kind_named (word_in words 2))) s (pool-plain x).0 (pool-plain x).1 (pool-choice x words s.form_fits))
 
-  pub light-sched : (r : Rule) → 0 < length (listed r (values_of (form.Sched r) words)) → IsSound a line words (form.Sched r) → cost (sched_line (at (values_of (form.Sched r) words) 0) (sched_with r (values_of (form.Sched r) words))) ≤ weight words
-  light-sched r some s = cost-of _ _ (weight words) (sched-line [] r (values_of (form.Sched r) words) some) refl (lighter [] (slots (form.Sched r)) words s.form_fits s.numbers (plain [] (slots (form.Sched r)) words (choiceless r)))
+  pub light-sched : (r : Rule) → 0 < length (listed r (values_of (form.Sched r) words)) → IsSound a line words (form.Sched r) → weight (sched_line (at (values_of (form.Sched r) words) 0) (sched_with r (values_of (form.Sched r) words))) ≤ weight words
+  light-sched r some s = subst (λ (ws : List Text). weight ws ≤ weight words) (sym (sched-line [] r (values_of (form.Sched r) words) some)) (lighter [] (slots (form.Sched r)) words s.form_fits s.numbers (plain [] (slots (form.Sched r)) words (choiceless r)))
     where
       choiceless : (q : Rule) → no_choice (slots (form.Sched q)) ≡ true
       choiceless rule.Basic = refl
       choiceless _ = refl
 
-  pub light-stream : IsSound a line words form.Stream → cost (stream_line (at (values_of form.Stream words) 0) (sched_no (at (values_of form.Stream words) 1))) ≤ weight words
-  light-stream s = cost-of (stream_line (at (values_of form.Stream words) 0) (sched_no (at (values_of form.Stream words) 1))) (stream_line (at (values_of form.Stream words) 0) (sched_no (at (values_of form.Stream words) 1))) (weight words) refl refl (light form.Stream [] s refl (omega arith) (plain [] (slots form.Stream) words refl))
+  pub light-stream : IsSound a line words form.Stream → weight (stream_line (at (values_of form.Stream words) 0) (sched_no (at (values_of form.Stream words) 1))) ≤ weight words
+  light-stream s = light form.Stream [] s refl (omega arith) (plain [] (slots form.Stream) words refl)
 
-  pub light-object : (x : Thing) → IsSound a line words (form.Object x) → cost (object_line (at (values_of (form.Object x) words) 0) (thing_with x words (values_of (form.Object x) words))) ≤ weight words
-  light-object x s = cost-of _ _ (weight words) (thing-line x words (values_of (form.Object x) words)) refl (light (form.Object x) (combine_name (combine_named (word_in words 4))) s (thing-plain x).0 (thing-plain x).1 (thing-choice x words s.form_fits))
+  pub light-object : (x : Thing) → IsSound a line words (form.Object x) → weight (object_line (at (values_of (form.Object x) words) 0) (thing_with x words (values_of (form.Object x) words))) ≤ weight words
+  light-object x s = subst (λ (ws : List Text). weight ws ≤ weight words) (sym (thing-line x words (values_of (form.Object x) words))) (light (form.Object x) (combine_name (combine_named (word_in words 4))) s (thing-plain x).0 (thing-plain x).1 (thing-choice x words s.form_fits))
 
-  pub light-units : IsSound a line words form.Units → cost (codes "units" ∷ decimal (at (values_of form.Units words) 0) ∷ []) ≤ weight words
-  light-units s = cost-of (codes "units" ∷ decimal (at (values_of form.Units words) 0) ∷ []) (codes "units" ∷ decimal (at (values_of form.Units words) 0) ∷ []) (weight words) refl refl (light form.Units [] s refl (omega arith) (plain [] (slots form.Units) words refl))
+  pub light-units : IsSound a line words form.Units → weight (codes "units" ∷ decimal (at (values_of form.Units words) 0) ∷ []) ≤ weight words
+  light-units s = light form.Units [] s refl (omega arith) (plain [] (slots form.Units) words refl)
 
-  pub light-unit : (r : Role) (start : Option PoolNo) → IsSound a line words (form.Unit r start) → cost (header (at (values_of (form.Unit r start) words) 0) (unit_with r start (values_of (form.Unit r start) words))) ≤ weight words
-  light-unit r start s = cost-of _ _ (weight words) (unit-line r start (values_of (form.Unit r start) words)) refl (light (form.Unit r start) [] s (unit-plain r start).0 (unit-plain r start).1 (plain [] (slots (form.Unit r start)) words (unit-plain r start).2))
+  pub light-unit : (r : Role) (start : Option PoolNo) → IsSound a line words (form.Unit r start) → weight (header (at (values_of (form.Unit r start) words) 0) (unit_with r start (values_of (form.Unit r start) words))) ≤ weight words
+  light-unit r start s = subst (λ (ws : List Text). weight ws ≤ weight words) (sym (unit-line r start (values_of (form.Unit r start) words))) (light (form.Unit r start) [] s (unit-plain r start).0 (unit-plain r start).1 (plain [] (slots (form.Unit r start)) words (unit-plain r start).2))
 
   pub light-end : IsSound a line words form.End → 4 ≤ weight words
   light-end s = light form.End [] s refl (omega arith) (plain [] (slots form.End) words refl)
@@ -287,7 +282,6 @@ module _ {a : Above} {line : Text} {words : List Text} where
 
   pub light-op : (o : Op) (n : ℕ) → IsSound a line words (form.Operation o) → op_cost (op_with o n (values_of (form.Operation o) words)) + bytes_of (said_in o words) ≤ weight words
   light-op o n s =
-      let c = cost-weight (op_words bare (op_with o n (values_of (form.Operation o) words))) (op-some _) in
       let e = op-weight o n s in
       let l = light (form.Operation o) (word_in words 1) s (op-plain o).0 (op-plain o).1 (op-choice o words) in
       omega (arith, l)

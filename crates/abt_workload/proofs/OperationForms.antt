@@ -2,6 +2,7 @@
 use Rattle.std.proofs.Common.{◌≡◌, ℕ, Bool, true, false, List, [], ◌∷◌, All, Option, Some, ap, arith, codes, length, map, refl, sym}
 use Rattle.std.specs.Fmt.{digits}
 use Rattle.std.proofs.lemmas.Bool.{le-ltb}
+use Rattle.std.proofs.lemmas.List.Elements.{All-head}
 use Rattle.abt_machine.specs.declared.grammar.Form.{Form}
 use Rattle.abt_machine.specs.declared.grammar.Form.TheVariants as form
 use Rattle.abt_machine.specs.declared.operations.Op.{Op}
@@ -18,7 +19,6 @@ use Rattle.abt_machine.specs.Words.{Text}
 use Rattle.abt_workload.specs.Slots.{values}
 use Rattle.abt_workload.proofs.Filled.{IsWritten, given}
 use Rattle.abt_workload.proofs.Fitting.{AreMet}
-use Rattle.abt_workload.proofs.Growing.{all-head}
 use Rattle.abt_workload.proofs.Reaching.{reached}
 use Rattle.abt_workload.proofs.Taking.{plain-word}
 
@@ -97,7 +97,7 @@ formed W (op.Say w) h = record {
   said = refl;
   blocks = refl;
   short = le-ltb 64 (length (word_at W w)) h.few_bytes;
-  made = λ k all. ap op.Say (sym (all-head (λ n. n ≡ k) w [] all));
+  made = λ k all. ap op.Say (sym (All-head (λ n. n ≡ k) w [] all));
 }
 formed W (op.Migratable v true) h = record {
   written = record { words_are = refl; form_is = refl; skipped = refl; plain = refl; chosen = h };

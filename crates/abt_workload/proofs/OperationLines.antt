@@ -2,6 +2,7 @@
 use Rattle.std.proofs.Common.{◌≡◌, ◌<◌, ◌≤◌, ◌+◌, ◌&&◌, ◌||◌, ◌∙◌, ℕ, zero, suc, Bool, true, false, List, [], ◌∷◌, ◌++◌, All, Option, Some, ap, append_assoc, arith, flat_map, length, length-append, map, nat_le, refl, rules, subst, sym, tests}
 use Rattle.std.specs.List.{list_any, range_with_len}
 use Rattle.std.proofs.lemmas.List.{append-nil, length-map, map-append}
+use Rattle.std.proofs.lemmas.List.Elements.{All-cons, All-head, All-tail}
 use Rattle.abt_machine.specs.declared.grammar.Form.TheVariants as form
 use Rattle.abt_machine.specs.declared.numbers.PoolNo.{PoolNo}
 use Rattle.abt_machine.specs.declared.operations.Body.{Body}
@@ -21,7 +22,6 @@ use Rattle.abt_machine.specs.Workloads.{is_sched, ops_of}
 use Rattle.abt_workload.specs.Slots.{values}
 use Rattle.abt_workload.proofs.Filled.{given, takes}
 use Rattle.abt_workload.proofs.Fitting.{AreMet, all-fit}
-use Rattle.abt_workload.proofs.Growing.{all-cons, all-head, all-tail}
 use Rattle.abt_workload.proofs.OperationForms.{IsFormed, formed, op-chosen, op-met, op_form, op_numbers, op_word}
 use Rattle.abt_workload.proofs.Proper.{none-of}
 use Rattle.abt_workload.proofs.Reaching.{reached, reached-small}
@@ -97,7 +97,7 @@ range-place k (suc n) w (x ∷ xs) ys e = let rest : range_with_len (k + 1) n �
 
 -- the word that is said next has the count of those before it as its number
 next-said : (o : Op) (n : ℕ) (said rest : List ℕ) → range_with_len 0 n ≡ said ++ (said_by o ++ rest) → All (λ w. w ≡ length said) (said_by o)
-next-said (op.Say w) n said rest e = let h = range-place 0 n w said rest e in all-cons (λ k. k ≡ length said) w [] (omega arith) (none-of _)
+next-said (op.Say w) n said rest e = let h = range-place 0 n w said rest e in All-cons (λ k. k ≡ length said) w [] (omega arith) (none-of _)
 next-said _ n said rest e = none-of _
 
 module _ (W : Parts) (v : IsValid W) (units : List UnitPart) (b : Body) (start : Option PoolNo) (no_sched : is_sched b ≡ false) where
@@ -123,14 +123,14 @@ module _ (W : Parts) (v : IsValid W) (units : List UnitPart) (b : Body) (start :
       let seam : words_said W ≡ said ++ (said_by o ++ (flat_map said_by os ++ after)) =
       all_said ∙ ap (λ (ns : List ℕ). said ++ ns) (append_assoc (said_by o) (flat_map said_by os) after) in
       let next = next-said o (length W.words) said (flat_map said_by os ++ after) (sym v.said ∙ seam) in
-      let took = op-taken W v units (with_ops done) said o (like-sched b done ∙ no_sched) short no_block (all-head (IsDeclared W) o os all) next in
+      let took = op-taken W v units (with_ops done) said o (like-sched b done ∙ no_sched) short no_block (All-head (IsDeclared W) o os all) next in
       let more : Takes (after_ops done said) (op_words W o) (after_ops (done ++ o ∷ []) (said ++ said_by o)) =
       subst (λ (c : Body). Takes (after_ops done said) (op_words W o) (reached W 9 units (Some (record { body = c; start = start })) (said ++ said_by o)))
       (like-and b done o) took in
       let counted : length (done ++ o ∷ []) ≡ length done + 1 = length-append done (o ∷ []) in
       let rest =
       ops-taken (done ++ o ∷ []) os (said ++ said_by o) after (omega arith) (and-rest (is_task_body b) (may_block o) (list_any may_block os) task)
-      (all-tail (IsDeclared W) o os all) (seam ∙ sym (append_assoc said (said_by o) (flat_map said_by os ++ after))) in
+      (All-tail (IsDeclared W) o os all) (seam ∙ sym (append_assoc said (said_by o) (flat_map said_by os ++ after))) in
       let at_end : after_ops ((done ++ o ∷ []) ++ os) ((said ++ said_by o) ++ flat_map said_by os) ≡ after_ops (done ++ o ∷ os) (said ++ (said_by o ++ flat_map said_by os)) =
       ap (λ (ps : List Op). after_ops ps ((said ++ said_by o) ++ flat_map said_by os)) (append_assoc done (o ∷ []) os)
       ∙ ap (λ (ns : List ℕ). after_ops (done ++ o ∷ os) ns) (append_assoc said (said_by o) (flat_map said_by os)) in

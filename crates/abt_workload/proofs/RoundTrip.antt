@@ -1,6 +1,7 @@
 -- Valid parts are those that texts read to.
 use Rattle.std.proofs.Common.{inl, inr, ◌⊎◌, ◌≡◌, ◌<◌, ◌≤◌, ◌+◌, ◌==◌, ◌∙◌, ℕ, zero, suc, Bool, true, false, List, [], ◌∷◌, ◌++◌, All, Some, None, ap, append_assoc, arith, codes, find, fold, get_or, length, map, nat_lt, refl, subst, sym, take}
 use Rattle.std.proofs.lemmas.Bool.{cases_lt, le-ltb}
+use Rattle.std.proofs.lemmas.List.Elements.{All-cons}
 use Rattle.abt_machine.specs.declared.grammar.Form.TheVariants as form
 use Rattle.abt_machine.specs.declared.workload.Parts.{Parts}
 use Rattle.abt_machine.specs.Canonical.{canonical_text, fitted, workload_lines}
@@ -13,7 +14,6 @@ use Rattle.abt_machine.specs.Words.{Text, line_of, text_of}
 use Rattle.abt_workload.proofs.Costs.{units_lines}
 use Rattle.abt_workload.proofs.Filled.{takes}
 use Rattle.abt_workload.proofs.Firm.{valid-end}
-use Rattle.abt_workload.proofs.Growing.{all-cons}
 use Rattle.abt_workload.proofs.HeadLines.{head-taken}
 use Rattle.abt_workload.proofs.Heads.{first_lines, head, head_lines, units_words}
 use Rattle.abt_workload.proofs.InOrder.{placed-alone}
@@ -28,7 +28,7 @@ use Rattle.abt_workload.proofs.WrittenLines.{lines-of-fitted}
 -- each is written of words
 written-all : (a b : Above) (lines : List (List Text)) → TakesAll a lines b → All (All IsWord) lines
 written-all a b [] h = none-of _
-written-all a b (words ∷ rest) h = all-cons (All IsWord) words rest h.1.written (written-all h.0 b rest h.2)
+written-all a b (words ∷ rest) h = All-cons (All IsWord) words rest h.1.written (written-all h.0 b rest h.2)
 
 -- what they declare
 declared-all : (a b : Above) (lines : List (List Text)) → TakesAll a lines b → fold and_line a (map line_of lines) ≡ b

@@ -1,9 +1,10 @@
 -- The lines of schedulers are taken.
-use Rattle.std.proofs.Common.{◌≡◌, ◌≢◌, ◌<◌, ◌≤◌, ◌^◌, ◌-◌, ◌∙◌, ◌==◌, ℕ, suc, All, false, List, [], ◌∷◌, ◌++◌, Option, Some, None, ap, arith, codes, length, map, nat_le, nat_lt, option_map, refl, replicate, slice_get, subst, sym}
+use Rattle.std.proofs.Common.{◌≡◌, ◌≢◌, ◌<◌, ◌≤◌, ◌^◌, ◌-◌, ◌∙◌, ◌==◌, ℕ, suc, All, false, List, [], ◌∷◌, ◌++◌, None, ap, arith, codes, length, map, nat_le, nat_lt, refl, replicate, sym}
 use Rattle.std.specs.List.{AllPairs, list_any}
 use Rattle.std.proofs.lemmas.Bool.{le-ltb, lt-leb, ne_eqb}
 use Rattle.std.proofs.lemmas.List.{length-map}
 use Rattle.std.proofs.lemmas.List.Folds.{list_any_none}
+use Rattle.std.proofs.lemmas.List.Elements.{All-head, All-map, All-tail}
 use Rattle.abt_machine.specs.declared.grammar.Form.{Form}
 use Rattle.abt_machine.specs.declared.grammar.Form.TheVariants as form
 use Rattle.abt_machine.specs.declared.grammar.Number.TheVariants as number
@@ -14,21 +15,20 @@ use Rattle.abt_machine.specs.declared.workload.Parts.{Parts}
 use Rattle.abt_machine.specs.declared.workload.PoolPart.{PoolPart}
 use Rattle.abt_machine.specs.declared.workload.SchedPart.{SchedPart}
 use Rattle.abt_machine.specs.Canonical.{sched_line}
+use Rattle.abt_machine.specs.Checks.{IsSchedPart}
 use Rattle.abt_machine.specs.Declaring.{Above, listed, sched_with}
 use Rattle.abt_machine.specs.Faults.{has_repeated}
 use Rattle.abt_machine.specs.Forms.{rule_slots, slots}
 use Rattle.abt_machine.specs.Numbers.{pool_no}
-use Rattle.abt_machine.specs.Valid.{IsRule, IsScheduler, IsValid}
+use Rattle.abt_machine.specs.Valid.{IsRule, IsValid}
 use Rattle.abt_machine.specs.Words.{numbered}
-use Rattle.abt_machine.specs.Workloads.{pools_from}
+use Rattle.abt_machine.proofs.Checked.{from-sched, pairs-map}
 use Rattle.abt_workload.specs.Slots.{values}
 use Rattle.abt_workload.proofs.Filled.{IsWritten, as_pools, given, takes}
 use Rattle.abt_workload.proofs.Fitting.{AreFit, IsSmall, fit, fit-within}
-use Rattle.abt_workload.proofs.Growing.{all-head, all-tail}
 use Rattle.abt_workload.proofs.Heads.{placing}
 use Rattle.abt_workload.proofs.InOrder.{front-shorter, get-here, placed-among, reached, section-taken}
 use Rattle.abt_workload.proofs.Measures.{sched-line}
-use Rattle.abt_workload.proofs.Proper.{IsSchedIn}
 use Rattle.abt_workload.proofs.Places.{or-both}
 use Rattle.abt_workload.proofs.Taking.{Takes, TakesAll, plain-word}
 use Rattle.abt_workload.proofs.Weights.{filled}
@@ -111,7 +111,7 @@ module _ (a : Above) (small : IsSmall a) where
   -- declared pools may stand in a line
   pools-fit : (ps : List ℕ) → All (λ p. p < length a.pools) ps → AreFit a (as_pools ps)
   pools-fit [] h = tt
-  pools-fit (p ∷ ps) h = (fit a small number.Pool p (all-head (λ q. q < length a.pools) p ps h), pools-fit ps (all-tail (λ q. q < length a.pools) p ps h))
+  pools-fit (p ∷ ps) h = (fit a small number.Pool p (All-head (λ q. q < length a.pools) p ps h), pools-fit ps (All-tail (λ q. q < length a.pools) p ps h))
 
   -- so may a rule's number before them
   rule-fit : (r : Rule) (ps : List ℕ) → IsRule r → All (λ p. p < length a.pools) ps → AreFit a (given (rule_slots (form_rule r)) (rule_number r ++ ps))
@@ -129,18 +129,6 @@ none-repeated (n ∷ ns) h =
 
 -- Lines.
 
--- a scheduler of a workload is among its pools
-sched-in : (W : Parts) (g : ℕ) (part : SchedPart) → slice_get W.scheds g ≡ Some part → IsScheduler W g → IsSchedIn (length W.pools) part
-sched-in W g part is h =
-    let same : pools_from (slice_get W.scheds g) ≡ pools_in part.pools = ap pools_from is in
-    record {
-      rule = h.rule part.rule (ap (λ (o : Option SchedPart). option_map (λ (x : SchedPart). x.rule) o) is);
-      some_pool = let some = subst (λ (ns : List ℕ). 0 < length ns) same h.some_pool in rw length-map at some;
-      few_pools = let few = subst (λ (ns : List ℕ). length ns ≤ 8) same h.few_pools in rw length-map at few;
-      listed = subst (λ (ns : List ℕ). All (λ p. p < length W.pools) ns) same h.pools;
-      once = subst (λ (ns : List ℕ). AllPairs (λ x y. x ≢ y) ns) same h.once;
-    }
-
 -- the line of the next scheduler is taken
 sched-taken : (W : Parts) → IsValid W → (section : ℕ) → section ≤ 5 → (front : List SchedPart) (part : SchedPart) (rest : List SchedPart) → front ++ part ∷ rest ≡ W.scheds
     → Takes (scheduling section W.streams W.keys W.pools front) (sched_line (length front) part) (scheduling 5 W.streams W.keys W.pools (front ++ part ∷ []))
@@ -151,19 +139,20 @@ sched-taken W v section le front part rest e =
     let ps : List ℕ = pools_in part.pools in
     let lt : g < length W.scheds = front-shorter front part rest W.scheds e in
     let few : length W.scheds ≤ 64 = v.few_scheds in
-    let h : IsSchedIn (length W.pools) part = sched-in W g part (get-here front part rest W.scheds e) (v.scheds g lt) in
+    let h : IsSchedPart W part = from-sched W g part (get-here front part rest W.scheds e) (v.scheds g lt) in
+    let there : All (λ p. p < length W.pools) ps = All-map (λ p. p < length W.pools) (λ (p : PoolNo). p.0) part.pools h.pools.declared in
     let small : IsSmall a = record { streams = v.few_streams; keys = v.few_keys; pools = v.few_pools; scheds = omega arith; objects = omega arith; units = omega arith } in
     let read : values (given (slots f) (numbers_in g part.rule ps)) ≡ numbers_in g part.rule ps = numbers-read g part.rule ps in
     let pools : listed (form_rule part.rule) (values (given (slots f) (numbers_in g part.rule ps))) ≡ ps =
     ap (listed (form_rule part.rule)) read ∙ listed-again g part.rule ps in
-    let few_listed : length ps ≤ 8 = let most = h.few_pools in rw length-map most in
+    let few_listed : length ps ≤ 8 = let most = h.pools.few_pools in rw length-map most in
     takes a (scheduling 5 W.streams W.keys W.pools (front ++ part ∷ [])) f (codes "sched") (numbers_in g part.rule ps) (sched_line g part)
-    (written g part.rule part.pools h.some_pool)
-    (fit a small number.NewSched g refl, rule-fit a small part.rule ps h.rule h.listed)
+    (written g part.rule part.pools h.pools.some_pool)
+    (fit a small number.NewSched g refl, rule-fit a small part.rule ps h.rule there)
     record {
       version = refl;
       placed = placed-among a f le (omega arith) refl refl;
-      once = or-both (nat_lt g g) _ (le-ltb g g (omega arith)) (ap has_repeated pools ∙ none-repeated ps h.once);
+      once = or-both (nat_lt g g) _ (le-ltb g g (omega arith)) (ap has_repeated pools ∙ none-repeated ps (pairs-map part.pools h.pools.once));
       limit = or-both (nat_le 64 g) _ (lt-leb 64 g (omega arith)) (ap (λ (ns : List ℕ). nat_lt 8 (length ns)) pools ∙ le-ltb 8 (length ps) few_listed);
       task = refl;
       access = refl;

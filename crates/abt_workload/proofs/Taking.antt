@@ -3,8 +3,9 @@ use Rattle.std.proofs.Common.{◌≡◌, ◌<◌, ◌≤◌, ◌^◌, ◌&&◌, 
 use Rattle.std.specs.List.{list_all}
 use Rattle.std.specs.Str.{all_ascii_digits}
 use Rattle.std.proofs.lemmas.Bool.{lt-ltb}
-use Rattle.std.proofs.lemmas.Fmt.{IsAscii-decimal, decimal_nonempty, digits_decimal, digits_value-decimal, length-decimal-le}
+use Rattle.std.proofs.lemmas.Fmt.{IsAscii-decimal, decimal_nonempty, digits_decimal, digits_value-decimal}
 use Rattle.std.proofs.lemmas.Str.{IsUtf8-from_ascii}
+use Rattle.std.proofs.lemmas.List.Elements.{All-cons}
 use Rattle.abt_machine.specs.declared.grammar.Form.{Form}
 use Rattle.abt_machine.specs.Declaring.{Above}
 use Rattle.abt_machine.specs.Faults.{faults, has, is_misplaced, is_no_version, is_skipped, line_fault, numbers_of, values_of}
@@ -13,10 +14,10 @@ use Rattle.abt_machine.specs.Grammar.{and_line}
 use Rattle.abt_machine.specs.Spelling.{is_empty, is_number, value_of, words_of}
 use Rattle.abt_machine.specs.Valid.{IsVisible, IsWord}
 use Rattle.abt_machine.specs.Words.{Text, line_of}
+use Rattle.abt_machine.proofs.Decimals.{few-digits}
 use Rattle.abt_workload.specs.Declarable.{with_line}
 use Rattle.abt_workload.specs.Judging.{HasForm, later_fault}
 use Rattle.abt_workload.proofs.Bounds.{le-from, lt-from}
-use Rattle.abt_workload.proofs.Growing.{all-cons}
 use Rattle.abt_workload.proofs.Places.{and-both, and-left, and-right}
 use Rattle.abt_workload.proofs.Proper.{none-of}
 use Rattle.abt_workload.proofs.Taken as line
@@ -93,7 +94,7 @@ plain-visible (b ∷ bs) e =
     let here = and-left (is_plain_byte b) _ e in
     let low : 32 < b = lt-from 32 b (and-left (nat_lt 32 b) _ here) in
     let high : b < 127 = lt-from b 127 (and-right (nat_lt 32 b) _ here) in
-    all-cons IsVisible b bs (low, omega arith) (plain-visible bs (and-right (is_plain_byte b) _ e))
+    All-cons IsVisible b bs (low, omega arith) (plain-visible bs (and-right (is_plain_byte b) _ e))
 
 -- and are ASCII
 plain-ascii : (w : Text) → list_all is_plain_byte w ≡ true → IsAscii w
@@ -120,12 +121,12 @@ digits-visible (b ∷ bs) e =
     let digit = and-left (nat_le 48 b && nat_le b 57) _ e in
     let low : 48 ≤ b = le-from 48 b (and-left (nat_le 48 b) _ digit) in
     let high : b ≤ 57 = le-from b 57 (and-right (nat_le 48 b) _ digit) in
-    all-cons IsVisible b bs (omega arith, omega arith) (digits-visible bs (and-right (nat_le 48 b && nat_le b 57) _ e))
+    All-cons IsVisible b bs (omega arith, omega arith) (digits-visible bs (and-right (nat_le 48 b && nat_le b 57) _ e))
 
 -- a number's digits are a word
 pub decimal-word : (n : ℕ) → n < 2 ^ 64 → IsWord (decimal n)
 decimal-word n lt =
-    let short : length (decimal n) ≤ 20 = length-decimal-le 20 n (omega arith) (omega arith) lt in
+    let short : length (decimal n) ≤ 20 = few-digits n lt in
     record {
       some_byte = decimal_nonempty n lt;
       few_bytes = omega arith;

@@ -18,11 +18,12 @@ use Rattle.abt_machine.specs.Declaring.{Above, body_with, at, body_and, declared
 use Rattle.abt_machine.specs.Faults.{has_main, values_of}
 use Rattle.abt_machine.specs.Forms.{slots}
 use Rattle.abt_machine.specs.Numbers.{sched_no}
+use Rattle.abt_machine.specs.Weights.{weight}
 use Rattle.abt_machine.specs.Words.{Text}
 use Rattle.abt_machine.specs.Workloads.{is_sched, ops_of}
 use Rattle.abt_workload.specs.Declarable.{with_line}
 use Rattle.abt_workload.proofs.Bounds.{after-section, after-single, at-home, le-from, le-not, lt-from, there-at}
-use Rattle.abt_workload.proofs.Costs.{bytes-append, cost, header, lines-and, mains-none, mains-set, mains_cost, op_cost, ops-and, ops_cost, units-and, units_cost}
+use Rattle.abt_workload.proofs.Costs.{bytes-append, header, lines-and, mains-none, mains-set, mains_cost, op_cost, ops-and, ops_cost, units-and, units_cost}
 use Rattle.abt_workload.proofs.Growing.{main-none}
 use Rattle.abt_workload.proofs.Keeping.{listed-some}
 use Rattle.abt_workload.proofs.KeepingUnits.{body-ops, home}
@@ -30,7 +31,6 @@ use Rattle.abt_workload.proofs.Places.{and-left, kinds, not-false, or-left}
 use Rattle.abt_workload.proofs.Proper.{IsProper, stream_count}
 use Rattle.abt_workload.proofs.Soundness.{IsSound}
 use Rattle.abt_workload.proofs.Measures.{count_cost, end_cost, light-end, light-keys, light-object, light-op, light-pool, light-sched, light-stream, light-streams, light-unit, light-units, light-version, not-ended, streams_cost, total, under-way, version_cost}
-use Rattle.abt_workload.proofs.Weights.{weight}
 
 same-header : (k : ℕ) (o : Op) (part : UnitPart) → header k (unit_and o part) ≡ header k part
 same-header k o part = ap (λ (ws : List Text). codes "unit" ∷ decimal k ∷ ws ++ start_words part.start) (by part.body)
@@ -80,11 +80,11 @@ module _ {a : Above} {line : Text} {words : List Text} (h : IsProper a) where
       let hd = heads a.section 4 lt (omega arith) (omega arith) (omega arith) in
       let vals : List ℕ = values_of (form.Pool x) words in
       let new : PoolPart = pool_with x words vals in
-      let g = lines-and pool_line 0 a.pools new in
+      let g = lines-and pool_line 0 a.pools new refl in
       let high = le-from (at vals 0) (length a.pools) (there-at (form.Pool x) s 0 number.NewPool refl) in
       let low = le-not (at vals 0) (length a.pools) s.once in
       let e : 0 + length a.pools ≡ at vals 0 = omega arith in
-      let same : cost (pool_line (0 + length a.pools) new) ≡ cost (pool_line (at vals 0) new) = ap (λ (k : ℕ). cost (pool_line k new)) e in
+      let same : weight (pool_line (0 + length a.pools) new) ≡ weight (pool_line (at vals 0) new) = ap (λ (k : ℕ). weight (pool_line k new)) e in
       omega (arith, l)
   step (form.Sched r) s (inl e) = cc
   step (form.Sched r) s (inr lt) =
@@ -94,11 +94,11 @@ module _ {a : Above} {line : Text} {words : List Text} (h : IsProper a) where
       let l = light-sched r some s in
       let hd = heads a.section 5 lt (omega arith) (omega arith) (omega arith) in
       let new : SchedPart = sched_with r vals in
-      let g = lines-and sched_line 0 a.scheds new in
+      let g = lines-and sched_line 0 a.scheds new refl in
       let high = le-from (at vals 0) (length a.scheds) (there-at (form.Sched r) s 0 number.NewSched (first r)) in
       let low = le-not (at vals 0) (length a.scheds) (or-left (nat_lt (at vals 0) (length a.scheds)) _ s.once) in
       let e : 0 + length a.scheds ≡ at vals 0 = omega arith in
-      let same : cost (sched_line (0 + length a.scheds) new) ≡ cost (sched_line (at vals 0) new) = ap (λ (k : ℕ). cost (sched_line k new)) e in
+      let same : weight (sched_line (0 + length a.scheds) new) ≡ weight (sched_line (at vals 0) new) = ap (λ (k : ℕ). weight (sched_line k new)) e in
       omega (arith, l)
     where
       first : (q : Rule) → slice_get (kinds (slots (form.Sched q))) 0 ≡ Some number.NewSched
@@ -113,7 +113,7 @@ module _ {a : Above} {line : Text} {words : List Text} (h : IsProper a) where
       let free : slice_get a.mains t ≡ Some None = main-none a.mains t (let c = h.mains.count in omega arith) (or-left (has_main a t) _ s.once) in
       let g = mains-set 0 a.mains t (sched_no (at (values_of form.Stream words) 1)) free in
       let e : 0 + t ≡ t = omega arith in
-      let same : cost (stream_line (0 + t) (sched_no (at (values_of form.Stream words) 1))) ≡ cost (stream_line t (sched_no (at (values_of form.Stream words) 1))) = ap (λ (k : ℕ). cost (stream_line k (sched_no (at (values_of form.Stream words) 1)))) e in
+      let same : weight (stream_line (0 + t) (sched_no (at (values_of form.Stream words) 1))) ≡ weight (stream_line t (sched_no (at (values_of form.Stream words) 1))) = ap (λ (k : ℕ). weight (stream_line k (sched_no (at (values_of form.Stream words) 1)))) e in
       omega (arith, l)
   step (form.Object x) s (inl e) = cc
   step (form.Object x) s (inr lt) =
@@ -122,11 +122,11 @@ module _ {a : Above} {line : Text} {words : List Text} (h : IsProper a) where
       let hd = heads a.section 7 lt (omega arith) (omega arith) (omega arith) in
       let vals : List ℕ = values_of (form.Object x) words in
       let new : Thing = thing_with x words vals in
-      let g = lines-and object_line 0 a.objects new in
+      let g = lines-and object_line 0 a.objects new refl in
       let high = le-from (at vals 0) (length a.objects) (there-at (form.Object x) s 0 number.NewObject refl) in
       let low = le-not (at vals 0) (length a.objects) s.once in
       let e : 0 + length a.objects ≡ at vals 0 = omega arith in
-      let same : cost (object_line (0 + length a.objects) new) ≡ cost (object_line (at vals 0) new) = ap (λ (k : ℕ). cost (object_line k new)) e in
+      let same : weight (object_line (0 + length a.objects) new) ≡ weight (object_line (at vals 0) new) = ap (λ (k : ℕ). weight (object_line k new)) e in
       omega (arith, l)
   step form.Units s (inl e) = cc
   step form.Units s (inr lt) =
@@ -149,7 +149,7 @@ module _ {a : Above} {line : Text} {words : List Text} (h : IsProper a) where
       let high = le-from (at vals 0) (declared_units a) (and-left (nat_le (at vals 0) (declared_units a)) _ (there-at (form.Unit r start) s 0 number.NewUnit refl)) in
       let low = le-not (at vals 0) (declared_units a) (fresh r s) in
       let e : 0 + length us ≡ at vals 0 = omega arith in
-      let same : cost (header (0 + length us) new) ≡ cost (header (at vals 0) new) = ap (λ (k : ℕ). cost (header k new)) e in
+      let same : weight (header (0 + length us) new) ≡ weight (header (at vals 0) new) = ap (λ (k : ℕ). weight (header k new)) e in
       omega (arith, l)
     where
       fresh : (q : Role) → IsSound a line words (form.Unit q start) → nat_lt (at (values_of (form.Unit q start) words) 0) (declared_units a) ≡ false
@@ -175,7 +175,7 @@ module _ {a : Above} {line : Text} {words : List Text} (h : IsProper a) where
           let new : units_cost 0 (a.units ++ option_to_list (option_map (unit_and p) a.last)) ≡ units_cost 0 (a.units ++ unit_and p part ∷ []) = ap (λ (q : Option UnitPart). units_cost 0 (a.units ++ option_to_list (option_map (unit_and p) q))) is in
           let u = units-and 0 a.units part in
           let v = units-and 0 a.units (unit_and p part) in
-          let hs : cost (header (0 + length a.units) (unit_and p part)) ≡ cost (header (0 + length a.units) part) = ap cost (same-header (0 + length a.units) p part) in
+          let hs : weight (header (0 + length a.units) (unit_and p part)) ≡ weight (header (0 + length a.units) part) = ap weight (same-header (0 + length a.units) p part) in
           let ops : ops_cost (ops_of (body_and p part.body)) ≡ ops_cost (ops_of part.body) + op_cost p = ap ops_cost (body-ops p part.body takes') ∙ ops-and (ops_of part.body) p in
           let b = bytes-append a.words (said_in o words) in
           omega (arith, l)

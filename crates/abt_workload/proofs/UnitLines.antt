@@ -1,10 +1,9 @@
 -- The lines of units and of their operations are taken.
-use Rattle.std.proofs.Common.{◌≡◌, ◌≢◌, ◌<◌, ◌≤◌, ◌+◌, ◌==◌, ◌∙◌, ℕ, false, true, List, [], ◌∷◌, ◌++◌, All, Option, Some, None, ap, append_assoc, arith, codes, flat_map, length, length-append, map, nat_lt, option_map, option_to_list, refl, rules, slice_get, subst, sym, tests}
+use Rattle.std.proofs.Common.{◌≡◌, ◌≢◌, ◌<◌, ◌≤◌, ◌+◌, ◌==◌, ◌∙◌, ℕ, false, true, List, [], ◌∷◌, ◌++◌, All, Option, Some, None, ap, append_assoc, arith, codes, flat_map, length, length-append, map, nat_lt, option_to_list, refl, rules, slice_get, subst, sym, tests}
 use Rattle.std.specs.List.{AllPairs, list_any}
 use Rattle.std.proofs.lemmas.Grind.{flat_map-append}
 use Rattle.std.proofs.lemmas.List.{append-nil}
 use Rattle.std.proofs.lemmas.List.FromFn.{fill_by_all}
-use Rattle.std.proofs.lemmas.Option.{slice_get-get_or}
 use Rattle.abt_machine.specs.declared.grammar.Form.{Form}
 use Rattle.abt_machine.specs.declared.numbers.PoolNo.{PoolNo}
 use Rattle.abt_machine.specs.declared.numbers.SchedNo.{SchedNo}
@@ -13,12 +12,15 @@ use Rattle.abt_machine.specs.declared.operations.Body.TheVariants as body
 use Rattle.abt_machine.specs.declared.workload.Parts.{Parts}
 use Rattle.abt_machine.specs.declared.workload.UnitPart.{UnitPart}
 use Rattle.abt_machine.specs.Canonical.{op_words, unit_lines, word_at}
+use Rattle.abt_machine.specs.Checks.{IsStart, IsUnitPart}
 use Rattle.abt_machine.specs.Declaring.{Above, declared_units, parts_of, unit_with}
 use Rattle.abt_machine.specs.Faults.{is_placed, is_twice}
 use Rattle.abt_machine.specs.Operations.{IsDeclared, said_by}
 use Rattle.abt_machine.specs.Valid.{IsBody, IsValid, placed_scheds, sched_in, words_said}
 use Rattle.abt_machine.specs.Words.{Text}
-use Rattle.abt_machine.specs.Workloads.{body_from, ops_of, start_from}
+use Rattle.abt_machine.specs.Workloads.{ops_of}
+use Rattle.abt_machine.proofs.Checked.{from-unit}
+use Rattle.abt_machine.proofs.Saying.{said_by_units}
 use Rattle.abt_workload.specs.Slots.{values}
 use Rattle.abt_workload.proofs.Costs.{header, units_lines}
 use Rattle.abt_workload.proofs.Filled.{takes}
@@ -48,9 +50,9 @@ mains-back [] = refl
 mains-back (m ∷ ms) = ap (λ (gs : List SchedNo). m ∷ gs) (mains-back ms)
 
 -- a start that is declared, if there is one
-starts : (n : ℕ) (o : Option PoolNo) → ((p : ℕ) → option_map (λ (q : PoolNo). q.0) o ≡ Some p → p < n) → IsStartIn n o
-starts n None h = tt
-starts n (Some p) h = h p.0 refl
+starts : (W : Parts) (o : Option PoolNo) → IsStart W o → IsStartIn (length W.pools) o
+starts W None h = tt
+starts W (Some p) h = h
 
 -- The lines of a unit.
 
@@ -63,13 +65,13 @@ module _ (W : Parts) (v : IsValid W) (front : List UnitPart) (part : UnitPart) (
   here : slice_get W.units (length front) ≡ Some part
   here = get-here front part rest W.units e
 
-  -- its scheduler is declared, and as a task it has no operation that blocks
-  kind : IsBody W part.body
-  kind = subst (λ (b : Body). IsBody W b) (ap body_from here) ((v.units (length front) below).kind)
+  -- its part is right
+  right : IsUnitPart W part
+  right = from-unit W (length front) part here (v.units (length front) below)
 
   -- its pool is declared
   start : IsStartIn (length W.pools) part.start
-  start = starts (length W.pools) part.start (λ p d. (v.units (length front) below).start p (ap start_from here ∙ d))
+  start = starts W part.start right.start
 
   -- a unit's scheduler is in no place above
   not-placed : (g : ℕ) → sched_in part.body ≡ g ∷ []
@@ -114,22 +116,12 @@ module _ (W : Parts) (v : IsValid W) (front : List UnitPart) (part : UnitPart) (
         takes a (reached W 9 front (Some (record { body = body_like part.body []; start = part.start })) said) f (codes "unit") (unit_numbers u part.body part.start) (header u part)
         (unit-written u part.body part.start)
         (all-fit a (reached-small W v s units last said) (unit_given u part.body part.start)
-        (unit-met W s units last said u part.body part.start (sym count) below kind start))
+        (unit-met W s units last said u part.body part.start (sym count) below right.kind start))
         record { version = refl; placed = placed-among a f at (omega arith) refl refl; once = once part.body part.start refl; limit = refl; task = refl; access = refl; early = refl }
         (ap (λ (us : List UnitPart). record a { section = 9; units = us; last = Some made }) reach
         ∙ ap (λ (p : UnitPart). record a { section = 9; units = front; last = Some p }) (unit-made u part.body part.start))
 
-  -- what its operations name is declared
-  ops-declared : All (IsDeclared W) (ops_of part.body)
-  ops-declared = λ k d lt.
-      (v.units (length front) below).ops k _
-      (ap (λ (o : Option UnitPart). slice_get (ops_of (body_from o)) k) here ∙ slice_get-get_or (ops_of part.body) k d lt)
-
-  -- they are few
-  ops-few : length (ops_of part.body) ≤ 256
-  ops-few = subst (λ (b : Body). length (ops_of b) ≤ 256) (ap body_from here) ((v.units (length front) below).few_ops)
-
-  -- their lines are taken, if there are any
+  -- the lines of its operations are taken, if there are any
   ops-of-body : (b : Body) (o : Option PoolNo) (said after : List ℕ) → IsBody W b → length (ops_of b) ≤ 256 → All (IsDeclared W) (ops_of b)
       → words_said W ≡ said ++ (flat_map said_by (ops_of b) ++ after)
       → TakesAll (reached W 9 front (Some (record { body = body_like b []; start = o })) said) (map (op_words W) (ops_of b))
@@ -145,7 +137,7 @@ module _ (W : Parts) (v : IsValid W) (front : List UnitPart) (part : UnitPart) (
   unit-whole s at units last reach said after is = (
     reached W 9 front (Some (record { body = body_like part.body []; start = part.start })) said,
     unit-taken s at units last reach said,
-    ops-of-body part.body part.start said after kind ops-few ops-declared is,
+    ops-of-body part.body part.start said after right.kind right.few_ops right.ops is,
   )
 
 -- Units one after the other.
@@ -173,13 +165,13 @@ module _ (W : Parts) (v : IsValid W) where
   -- the lines of the units after a front are taken
   units-from : (front rest : List UnitPart) → front ++ rest ≡ W.units → (s : ℕ) → s ≤ 9
       → (units : List UnitPart) (last : Option UnitPart) → units ++ option_to_list last ≡ front
-      → (said : List ℕ) → words_said W ≡ said ++ flat_map (λ (part : UnitPart). flat_map said_by (ops_of part.body)) rest
+      → (said : List ℕ) → words_said W ≡ said ++ said_by_units rest
       → (b : Above) × TakesAll (reached W s units last said) (units_lines W (length front) rest) b × IsWhole W b
   units-from front [] e s at units last reach said is =
       (reached W s units last said, refl, whole s at units last said (reach ∙ (sym (append-nil front) ∙ e)) (is ∙ append-nil said))
   units-from front (part ∷ rest) e s at units last reach said is =
       let more : List ℕ = flat_map said_by (ops_of part.body) in
-      let after : List ℕ = flat_map (λ (p : UnitPart). flat_map said_by (ops_of p.body)) rest in
+      let after : List ℕ = said_by_units rest in
       let below : Above = reached W 9 front (Some part) (said ++ more) in
       let first = unit-whole W v front part rest e s at units last reach said after is in
       let next =

@@ -1,8 +1,8 @@
 -- Proper parts, all of which are declared, are those of a workload.
-use Rattle.std.proofs.Common.{◌≡◌, ◌≢◌, ◌<◌, ◌≤◌, ◌+◌, ◌==◌, ◌∙◌, ℕ, zero, suc, true, false, List, [], ◌∷◌, ◌++◌, All, Option, Some, None, ap, arith, flat_map, get_or, is_none, length, length-append, map, option_to_list, option_map, refl, replicate, slice_get, subst, sym, unwrap_or}
+use Rattle.std.proofs.Common.{◌≡◌, ◌<◌, ◌≤◌, ◌+◌, ◌==◌, ◌∙◌, ℕ, zero, suc, true, false, List, [], ◌∷◌, ◌++◌, Option, Some, None, ap, arith, flat_map, get_or, is_none, length, length-append, option_to_list, refl, replicate, slice_get, subst, sym, unwrap_or}
 use Rattle.std.specs.List.{list_any}
 use Rattle.std.proofs.lemmas.Bool.{eqb-true}
-use Rattle.std.proofs.lemmas.List.{length-map, length-replicate}
+use Rattle.std.proofs.lemmas.List.{length-replicate}
 use Rattle.abt_machine.specs.declared.numbers.PoolNo.{PoolNo}
 use Rattle.abt_machine.specs.declared.numbers.SchedNo.{SchedNo}
 use Rattle.abt_machine.specs.declared.operations.Access.{Access}
@@ -11,33 +11,22 @@ use Rattle.abt_machine.specs.declared.operations.Body.{Body}
 use Rattle.abt_machine.specs.declared.operations.Body.TheVariants as body
 use Rattle.abt_machine.specs.declared.operations.Op.{Op}
 use Rattle.abt_machine.specs.declared.operations.Op.TheVariants as op
-use Rattle.abt_machine.specs.declared.operations.Rule.{Rule}
 use Rattle.abt_machine.specs.declared.operations.Thing.{Thing}
 use Rattle.abt_machine.specs.declared.operations.Thing.TheVariants as thing
 use Rattle.abt_machine.specs.declared.workload.Parts.{Parts}
-use Rattle.abt_machine.specs.declared.workload.PoolPart.{PoolPart}
 use Rattle.abt_machine.specs.declared.workload.SchedPart.{SchedPart}
 use Rattle.abt_machine.specs.declared.workload.UnitPart.{UnitPart}
 use Rattle.abt_machine.specs.Canonical.{canonical_text}
 use Rattle.abt_machine.specs.Declaring.{Above, parts_of}
+use Rattle.abt_machine.specs.Checks.{AreCounts, IsSchedPart, IsStart, IsUnitPart}
 use Rattle.abt_machine.specs.Operations.{IsDeclared}
-use Rattle.abt_machine.specs.Valid.{IsAccess, IsBody, IsRule, IsScheduler, IsStream, IsThing, IsUnit, IsValid}
-use Rattle.abt_machine.specs.Workloads.{access_from, body_from, main_from, ops_of, pools_from, start_from}
-use Rattle.abt_workload.proofs.Growing.{all-head, all-tail}
+use Rattle.abt_machine.specs.Valid.{IsAccess, IsBody, IsStream, IsThing, IsValid}
+use Rattle.abt_machine.specs.Workloads.{main_from}
+use Rattle.abt_machine.proofs.Checked.{map-all, map-pairs, valid-from}
 use Rattle.abt_workload.proofs.Naming.{others-declared}
 use Rattle.abt_workload.proofs.Proper.{IsAccessIn, IsBodyIn, IsProper, IsSchedIn, IsStartIn, IsThingIn, IsUnitIn, counted, idle, stream_count, takes_all, unit_count}
 
--- Elements by number.
-
-get-there : {A : Type 0} (xs : List A) (k : ℕ) → k < length xs → (x : A) × (slice_get xs k ≡ Some x)
-get-there [] k lt = absurd (omega arith)
-get-there (x ∷ xs) zero lt = (x, refl)
-get-there (x ∷ xs) (suc k) lt = get-there xs k (omega arith)
-
-all-get : {A : Type 0} (P : A → Type 0) (xs : List A) (k : ℕ) (x : A) → All P xs → slice_get xs k ≡ Some x → P x
-all-get P [] k x all e = cc
-all-get P (y ∷ ys) zero x all e = let same : y ≡ x = cc in subst P same (all-head P y ys all)
-all-get P (y ∷ ys) (suc k) x all e = all-get P ys k x (all-tail P y ys all) e
+-- Main schedulers.
 
 -- each stream's main scheduler, where all have one
 full-main : (ms : List (Option SchedNo)) (s : ℕ) → list_any is_none ms ≡ false → s < length ms → (g : SchedNo) × (slice_get ms s ≡ Some (Some g)) × (slice_get (flat_map option_to_list ms) s ≡ Some g)
@@ -81,40 +70,26 @@ mains-declared : (W : Parts) (ms : List SchedNo) (o : Op) → IsDeclared (record
 mains-declared W ms (op.Set n) h = h
 mains-declared W ms _ h = h
 
-sched-valid : (W : Parts) (g : ℕ) (part : SchedPart) → slice_get W.scheds g ≡ Some part → IsSchedIn (length W.pools) part → IsScheduler W g
-sched-valid W g part is h =
-    let same : pools_from (slice_get W.scheds g) ≡ map (λ (p : PoolNo). p.0) part.pools = ap pools_from is in
-    record {
-      rule = λ r e. subst IsRule (rule-of r (ap (option_map (λ (x : SchedPart). x.rule)) (sym is) ∙ e)) h.rule;
-      some_pool = subst (λ (ns : List ℕ). 0 < length ns) (sym same) (let some = h.some_pool in rw length-map some);
-      few_pools = subst (λ (ns : List ℕ). length ns ≤ 8) (sym same) (let few = h.few_pools in rw length-map few);
-      pools = subst (λ (ns : List ℕ). All (λ p. p < length W.pools) ns) (sym same) h.listed;
-      once = subst (λ (ns : List ℕ). (i j : ℕ) (d : ℕ) → i < j → j < length ns → get_or ns i d ≢ get_or ns j d) (sym same) h.once;
-    }
-  where
-    rule-of : (r : Rule) → Some part.rule ≡ Some r → part.rule ≡ r
-    rule-of r e = cc
+-- a start in a pool that is there is one in a declared pool
+start-valid : (W : Parts) (o : Option PoolNo) → IsStartIn (length W.pools) o → IsStart W o
+start-valid W None h = tt
+start-valid W (Some p) h = h
 
-unit-valid : (W : Parts) (u : ℕ) (part : UnitPart) → slice_get W.units u ≡ Some part → IsBodyIn (length W.scheds) part.body → length (ops_of part.body) ≤ 256 → All (IsDeclared W) (ops_of part.body) → IsStartIn (length W.pools) part.start → IsUnit W u
-unit-valid W u part is kind few ops start =
-    let same : body_from (slice_get W.units u) ≡ part.body = ap body_from is in
-    record {
-      kind = subst (λ (b : Body). IsBody W b) (sym same) (body-valid W part.body kind);
-      few_ops = subst (λ (b : Body). length (ops_of b) ≤ 256) (sym same) few;
-      ops = λ k o e. all-get (IsDeclared W) (ops_of part.body) k o ops (subst (λ (b : Body). slice_get (ops_of b) k ≡ Some o) same e);
-      start = λ p e. start-by part.start start p (sym (ap start_from is) ∙ e);
-    }
-  where
-    start-by : (o : Option PoolNo) → IsStartIn (length W.pools) o → (p : ℕ) → option_map (λ (q : PoolNo). q.0) o ≡ Some p → p < length W.pools
-    start-by None h p e = cc
-    start-by (Some q) h p e = let same : q.0 ≡ p = cc in subst (λ (n : ℕ). n < length W.pools) same h
+-- a scheduler among the pools is one of the workload
+sched-valid : (W : Parts) (part : SchedPart) → IsSchedIn (length W.pools) part → IsSchedPart W part
+sched-valid W part h = record {
+  rule = h.rule;
+  pools = record {
+    some_pool = h.some_pool;
+    few_pools = h.few_pools;
+    declared = map-all (λ (p : PoolNo). p.0) (λ p. p < length W.pools) part.pools h.listed;
+    once = map-pairs part.pools h.once;
+  };
+}
 
 module _ (a : Above) (h : IsProper a) (ended : (a.section == 10) ≡ true) where
   section-ten : a.section ≡ 10
   section-ten = eqb-true a.section 10 ended
-
-  W : Parts
-  W = parts_of a
 
   all-mains : list_any is_none a.mains ≡ false
   all-mains = let e = section-ten in h.order.has_mains (omega arith)
@@ -145,8 +120,16 @@ module _ (a : Above) (h : IsProper a) (ended : (a.section == 10) ≡ true) where
             takes = subst (λ (n : ℕ). takes_all a.pools a.scheds s n ≡ true) (sym same) (h.mains.taking s g is);
           }
 
-  pub valid-of : length (canonical_text (parts_of a)) ≤ 4194304 → IsValid (parts_of a)
-  valid-of few_bytes =
+  unit-valid : (part : UnitPart) → IsUnitIn (counted a) part → IsUnitPart (parts_of a) part
+  unit-valid part i = record {
+    kind = body-valid (parts_of a) part.body i.kind;
+    few_ops = i.few_ops;
+    ops = λ k d lt. mains-declared (parts_of a) [] _ (others-declared (record (parts_of a) { mains = [] }) (replicate (unit_count a) idle) (a.units ++ option_to_list a.last) units-same _ (i.ops k d lt));
+    start = start-valid (parts_of a) part.start i.start;
+  }
+
+  counts-valid : AreCounts (parts_of a)
+  counts-valid =
       let ten = section-ten in
       let count = h.units.few in
       let declared = h.units.declared in
@@ -157,32 +140,19 @@ module _ (a : Above) (h : IsProper a) (ended : (a.section == 10) ≡ true) where
         few_keys = h.keys;
         some_pool = h.order.has_pools (omega arith);
         few_pools = h.pools.few;
-        pools = λ p lt. pool-by p (get-there a.pools p lt);
-        some_sched = sched-some;
+        some_sched = let m = (stream-valid 0 streams-some).main in omega (arith, m);
         few_scheds = h.scheds.few;
-        scheds = λ g lt. sched-by g (get-there a.scheds g lt);
         mains = full-length a.mains all-mains ∙ h.mains.count;
-        streams = stream-valid;
-        one_place = h.places;
         few_objects = h.objects.few;
-        objects = λ x t e. thing-valid (parts_of a) x t (h.objects.all x t e);
         few_units = omega arith;
-        units = λ u lt. unit-by u (get-there (a.units ++ option_to_list a.last) u lt);
-        said = h.said;
-        words = h.words;
-        few_bytes = few_bytes;
       }
-    where
-      pool-by : (p : ℕ) → ((part : PoolPart) × (slice_get a.pools p ≡ Some part)) → IsAccess (parts_of a) (access_from (slice_get a.pools p))
-      pool-by p (part, is) = subst (λ (o : Option PoolPart). IsAccess (parts_of a) (access_from o)) (sym is) (access-valid (parts_of a) part.access (all-get (λ (x : PoolPart). IsAccessIn (stream_count a) x.access) a.pools p part h.pools.all is))
 
-      sched-some : 0 < length a.scheds
-      sched-some = let m = (stream-valid 0 streams-some).main in omega (arith, m)
-
-      sched-by : (g : ℕ) → ((part : SchedPart) × (slice_get a.scheds g ≡ Some part)) → IsScheduler (parts_of a) g
-      sched-by g (part, is) = sched-valid (parts_of a) g part is (all-get (IsSchedIn (length a.pools)) a.scheds g part h.scheds.all is)
-
-      unit-by : (u : ℕ) → ((part : UnitPart) × (slice_get (a.units ++ option_to_list a.last) u ≡ Some part)) → IsUnit (parts_of a) u
-      unit-by u (part, is) =
-          let i : IsUnitIn (counted a) part = all-get (IsUnitIn (counted a)) (a.units ++ option_to_list a.last) u part h.units.all is in
-          unit-valid (parts_of a) u part is i.kind i.few_ops (λ k d lt. mains-declared (parts_of a) [] _ (others-declared (record (parts_of a) { mains = [] }) (replicate (unit_count a) idle) (a.units ++ option_to_list a.last) units-same _ (i.ops k d lt))) i.start
+  pub valid-of : length (canonical_text (parts_of a)) ≤ 4194304 → IsValid (parts_of a)
+  valid-of few_bytes =
+      valid-from (parts_of a) counts-valid
+      (λ p d lt. access-valid (parts_of a) (get_or a.pools p d).access (h.pools.all p d lt))
+      (λ g d lt. sched-valid (parts_of a) (get_or a.scheds g d) (h.scheds.all g d lt))
+      stream-valid
+      (λ x t e. thing-valid (parts_of a) x t (h.objects.all x t e))
+      (λ u d lt. unit-valid (get_or (a.units ++ option_to_list a.last) u d) (h.units.all u d lt))
+      h.places h.said h.words few_bytes

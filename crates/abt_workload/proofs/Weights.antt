@@ -1,5 +1,5 @@
--- How long a line is that is written with its words, and how long at least one is that is read.
-use Rattle.std.proofs.Common.{◌≡◌, ◌<◌, ◌≤◌, ◌+◌, ◌^◌, ◌&&◌, ℕ, Bool, true, false, not, List, [], ◌∷◌, ◌++◌, ap, arith, cond, decimal, filter, length, length-append, map, refl, sym}
+-- How long at least a line is that is read, beside the one that is written with its words.
+use Rattle.std.proofs.Common.{◌≡◌, ◌<◌, ◌≤◌, ◌+◌, ◌^◌, ◌&&◌, ℕ, Bool, true, false, not, List, [], ◌∷◌, ap, arith, cond, decimal, filter, length, map, refl, sym}
 use Rattle.std.specs.List.{list_all, onto_first, slice_split}
 use Rattle.std.specs.Str.{all_ascii_digits}
 use Rattle.std.specs.Cmp.Lexicographic.{same_text}
@@ -9,30 +9,11 @@ use Rattle.abt_machine.specs.declared.grammar.Number.{Number}
 use Rattle.abt_machine.specs.declared.grammar.Number.TheVariants as number
 use Rattle.abt_machine.specs.Forms.{Slot, Fixed, KindWord, CombineWord, AnyWord, Numeral, PoolList, fits, numerals, suits}
 use Rattle.abt_machine.specs.Spelling.{is_empty, is_number, is_separator, value_from, value_of, words_of}
-use Rattle.abt_machine.specs.Words.{Text, ended, line_of, spaced}
+use Rattle.abt_machine.specs.Weights.{weight}
+use Rattle.abt_machine.specs.Words.{Text}
 use Rattle.abt_workload.specs.Slots.{numbered, values}
 use Rattle.abt_workload.proofs.Bounds.{lt-from}
 use Rattle.abt_workload.proofs.Places.{and-both, and-left, and-right}
-
--- the bytes of words, each with a byte beside it
-abbrev pub weight : List Text → ℕ
-weight [] = 0
-weight (w ∷ ws) = length w + 1 + weight ws
-
-pub weight-append : (xs ys : List Text) → weight (xs ++ ys) ≡ weight xs + weight ys
-weight-append [] ys = omega arith
-weight-append (x ∷ xs) ys = let h = weight-append xs ys in omega arith
-
-spaced-length : (ws : List Text) → length (spaced ws) ≡ weight ws
-spaced-length [] = refl
-spaced-length (w ∷ ws) = let h = spaced-length ws in let e : length ((32 ∷ w) ++ spaced ws) ≡ length (32 ∷ w) + length (spaced ws) = length-append (32 ∷ w) (spaced ws) in omega arith
-
-pub ended-length : (w : Text) (ws : List Text) → length (ended (line_of (w ∷ ws))) ≡ weight (w ∷ ws)
-ended-length w ws =
-    let h = spaced-length ws in
-    let inner : length (w ++ spaced ws) ≡ length w + length (spaced ws) = length-append w (spaced ws) in
-    let outer : length ((w ++ spaced ws) ++ 10 ∷ []) ≡ length (w ++ spaced ws) + 1 = length-append (w ++ spaced ws) (10 ∷ []) in
-    omega arith
 
 -- Lines that are read.
 

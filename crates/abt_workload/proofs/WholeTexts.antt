@@ -1,20 +1,22 @@
 -- A workload's text, appended section by section.
-use Rattle.std.proofs.Common.{◌≡◌, ◌==◌, ◌-◌, ◌∙◌, ℕ, true, List, [], ◌∷◌, ◌++◌, Some, ap, append_assoc, codes, decimal, flat_map, get_or, length, slice_get, sym, take}
-use Rattle.std.specs.List.{All, enumerate_from}
+use Rattle.std.proofs.Common.{◌≡◌, ◌==◌, ◌-◌, ◌∙◌, ℕ, true, List, [], ◌∷◌, ◌++◌, Some, ap, append_assoc, codes, decimal, length, slice_get, sym, take}
+use Rattle.std.specs.List.{All}
 use Rattle.std.proofs.lemmas.Bool.{eq-eqb}
-use Rattle.std.proofs.lemmas.Option.{slice_get-get_or, slice_get_within}
+use Rattle.std.proofs.lemmas.Option.{slice_get_within}
 use Rattle.abt_machine.specs.declared.workload.Parts.{Parts}
 use Rattle.abt_machine.specs.declared.workload.UnitPart.{UnitPart}
-use Rattle.abt_machine.specs.Canonical.{canonical_text, fitted, keys_lines, object_line, pool_line, sched_line, stream_line, unit_lines, version_line}
+use Rattle.abt_machine.specs.Canonical.{canonical_text, fitted, keys_lines, object_line, pool_line, sched_line, stream_line, version_line}
 use Rattle.abt_machine.specs.Operations.{IsDeclared}
 use Rattle.abt_machine.specs.Valid.{IsValid}
 use Rattle.abt_machine.specs.Words.{Text, ended, line_of, numbered, text_of}
 use Rattle.abt_machine.specs.Workloads.{ops_of}
+use Rattle.abt_machine.proofs.Checked.{from-unit}
+use Rattle.abt_workload.proofs.Costs.{units_lines}
 use Rattle.abt_workload.proofs.WritingLines.{text-and, text-append}
 
 -- what the operations of a unit name is declared
 pub unit-declared : (W : Parts) (u : ℕ) (part : UnitPart) → IsValid W → slice_get W.units u ≡ Some part → All (IsDeclared W) (ops_of part.body)
-unit-declared W u part valid at = λ k d lt. (valid.units u (slice_get_within W.units u part at)).ops k (get_or (ops_of part.body) k d) (rw at (slice_get-get_or (ops_of part.body) k d lt))
+unit-declared W u part valid at = (from-unit W u part at (valid.units u (slice_get_within W.units u part at))).ops
 
 -- a text that is one byte too long goes without its last byte
 pub fitted-long : (text new : Text) (n : ℕ) → n ≡ length text → length text ≡ 4194305 → new ≡ take (n - 1) text → new ≡ fitted text
@@ -34,12 +36,12 @@ pub written : (W : Parts) (head pools scheds mains objects count units whole : T
     mains ≡ scheds ++ text_of (numbered stream_line W.mains) →
     objects ≡ mains ++ text_of (numbered object_line W.objects) →
     count ≡ objects ++ ended (line_of (codes "units" ∷ decimal (length W.units) ∷ [])) →
-    units ≡ count ++ text_of (flat_map (λ p. unit_lines W p.0 p.1) (enumerate_from 0 W.units)) →
+    units ≡ count ++ text_of (units_lines W 0 W.units) →
     whole ≡ units ++ ended (line_of (codes "end" ∷ [])) → fitted whole ≡ canonical_text W
 written W head pools scheds mains objects count units whole e0 e1 e2 e3 e4 e5 e6 e7 =
     let first : List (List Text) = version_line ∷ (codes "streams" ∷ decimal W.streams ∷ []) ∷ keys_lines W.keys in
     let line : List Text = codes "units" ∷ decimal (length W.units) ∷ [] in
-    let U : List (List Text) = flat_map (λ p. unit_lines W p.0 p.1) (enumerate_from 0 W.units) in
+    let U : List (List Text) = units_lines W 0 W.units in
     let t1 = more-lines first (numbered pool_line W.pools) head pools e0 e1 in
     let t2 = more-lines (first ++ numbered pool_line W.pools) (numbered sched_line W.scheds) pools scheds t1 e2 in
     let t3 = more-lines (first ++ numbered pool_line W.pools ++ numbered sched_line W.scheds) (numbered stream_line W.mains) scheds mains t2 e3 in

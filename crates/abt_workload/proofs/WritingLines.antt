@@ -1,17 +1,11 @@
 -- Lines, appended one behind the other.
-use Rattle.std.proofs.Common.{◌≡◌, ◌<◌, ◌+◌, ◌∙◌, ℕ, List, [], ◌∷◌, ◌++◌, Some, add-zero, ap, append_assoc, arith, flat_map, get_or, length, refl, slice_get, take, zero-add}
+use Rattle.std.proofs.Common.{◌≡◌, ◌<◌, ◌+◌, ◌∙◌, ℕ, List, [], ◌∷◌, ◌++◌, Some, ap, append_assoc, arith, flat_map, get_or, length, refl, slice_get, take, zero-add}
 use Rattle.std.specs.List.{enumerate_from}
 use Rattle.std.proofs.lemmas.Grind.{flat_map-append}
 use Rattle.std.proofs.lemmas.List.{append-nil, length-take-le, map_push, take_more}
 use Rattle.std.proofs.lemmas.Option.{get_or_from_slice_get, slice_get_within}
 use Rattle.abt_machine.specs.Words.{Text, ended, line_of, numbered, spaced, text_of}
-
--- the element behind a list has the next number
-enumerate-behind : {A : Type 0} (n : ℕ) (xs : List A) (x : A) → enumerate_from n (xs ++ x ∷ []) ≡ enumerate_from n xs ++ (n + length xs, x) ∷ []
-enumerate-behind n [] x = rw (add-zero n) refl
-enumerate-behind n (y ∷ xs) x =
-    let next : n + 1 + length xs ≡ n + length (y ∷ xs) = omega arith in
-    rw (enumerate-behind (n + 1) xs x, next) refl
+use Rattle.abt_machine.proofs.Weighing.{enumerate-behind}
 
 -- the elements up to i, with their numbers, are those before and element i
 numbered-more : {A : Type 0} (xs : List A) (i : ℕ) (x : A) → slice_get xs i ≡ Some x → enumerate_from 0 (take (i + 1) xs) ≡ enumerate_from 0 (take i xs) ++ (i, x) ∷ []

@@ -3,7 +3,7 @@ use Rattle.std.proofs.Common.{◌≡◌, ◌≢◌, ◌<◌, ◌≤◌, ◌-◌,
 use Rattle.std.specs.Str.{is_utf8}
 use Rattle.std.proofs.lemmas.List.{map-append}
 use Rattle.std.proofs.lemmas.List.Concat.{flat_map-append}
-use Rattle.std.proofs.lemmas.List.Elements.{All-append}
+use Rattle.std.proofs.lemmas.List.Elements.{All-append, All-cons, All-head, All-tail}
 use Rattle.std.proofs.lemmas.List.Folds.{list_any_none}
 use Rattle.std.proofs.lemmas.Str.{IsUtf8-append, IsUtf8-from_ascii, IsUtf8-nil, is_utf8-from_IsUtf8}
 use Rattle.std.proofs.Math.Seq.{take-append_seam}
@@ -11,7 +11,7 @@ use Rattle.abt_machine.specs.Canonical.{fitted}
 use Rattle.abt_machine.specs.Spelling.{has_control, is_control, is_empty, is_separator, lines_of, with_byte, words_of}
 use Rattle.abt_machine.specs.Valid.{IsVisible, IsWord}
 use Rattle.abt_machine.specs.Words.{Text, ended, line_of, spaced, text_of}
-use Rattle.abt_workload.proofs.Growing.{all-cons, all-head, all-tail, all-one}
+use Rattle.abt_workload.proofs.Growing.{all-one}
 use Rattle.abt_workload.proofs.LineEnds.{lines_nil, lines_whole}
 use Rattle.abt_workload.proofs.Proper.{none-of}
 use Rattle.abt_workload.proofs.WordEnds.{words_first, words_past}
@@ -46,12 +46,12 @@ words-after w ws h rest = words_first w (spaced ws) (unseparated w h.visible) (w
 -- words with a space before each
 words-spaced : (ws : List Text) → All IsWord ws → words_of (spaced ws) ≡ ws
 words-spaced [] h = refl
-words-spaced (w ∷ ws) h = words_past 32 (w ++ spaced ws) refl ∙ words-after w ws (all-head IsWord w ws h) (words-spaced ws (all-tail IsWord w ws h))
+words-spaced (w ∷ ws) h = words_past 32 (w ++ spaced ws) refl ∙ words-after w ws (All-head IsWord w ws h) (words-spaced ws (All-tail IsWord w ws h))
 
 -- the words that a line is written of are its words
 pub words-of-line : (words : List Text) → All IsWord words → words_of (line_of words) ≡ words
 words-of-line [] h = refl
-words-of-line (w ∷ ws) h = words-after w ws (all-head IsWord w ws h) (words-spaced ws (all-tail IsWord w ws h))
+words-of-line (w ∷ ws) h = words-after w ws (All-head IsWord w ws h) (words-spaced ws (All-tail IsWord w ws h))
 
 -- UTF-8.
 
@@ -64,13 +64,13 @@ space-ascii (suc i) = omega arith
 spaced-utf8 : (ws : List Text) → All IsWord ws → IsUtf8 (spaced ws)
 spaced-utf8 [] h = IsUtf8-nil
 spaced-utf8 (w ∷ ws) h =
-    let here : IsUtf8 (32 ∷ w) = IsUtf8-append (32 ∷ []) w (IsUtf8-from_ascii (32 ∷ []) space-ascii) (all-head IsWord w ws h).utf8 in
-    IsUtf8-append (32 ∷ w) (spaced ws) here (spaced-utf8 ws (all-tail IsWord w ws h))
+    let here : IsUtf8 (32 ∷ w) = IsUtf8-append (32 ∷ []) w (IsUtf8-from_ascii (32 ∷ []) space-ascii) (All-head IsWord w ws h).utf8 in
+    IsUtf8-append (32 ∷ w) (spaced ws) here (spaced-utf8 ws (All-tail IsWord w ws h))
 
 -- and so is a line
 line-utf8 : (words : List Text) → All IsWord words → IsUtf8 (line_of words)
 line-utf8 [] h = IsUtf8-nil
-line-utf8 (w ∷ ws) h = IsUtf8-append w (spaced ws) (all-head IsWord w ws h).utf8 (spaced-utf8 ws (all-tail IsWord w ws h))
+line-utf8 (w ∷ ws) h = IsUtf8-append w (spaced ws) (All-head IsWord w ws h).utf8 (spaced-utf8 ws (All-tail IsWord w ws h))
 
 -- a line that is written of words is UTF-8
 pub utf8-of-line : (words : List Text) → All IsWord words → is_utf8 (line_of words) ≡ true
@@ -90,13 +90,13 @@ word-written w h k d lt = let v : IsVisible (get_or w k d) = h k d lt in let abo
 spaced-written : (ws : List Text) → All IsWord ws → All IsWrittenByte (spaced ws)
 spaced-written [] h = none-of _
 spaced-written (w ∷ ws) h =
-    let here : All IsWrittenByte (32 ∷ w) = all-cons IsWrittenByte 32 w (omega arith, omega arith) (word-written w (all-head IsWord w ws h).visible) in
-    All-append IsWrittenByte (32 ∷ w) (spaced ws) here (spaced-written ws (all-tail IsWord w ws h))
+    let here : All IsWrittenByte (32 ∷ w) = All-cons IsWrittenByte 32 w (omega arith, omega arith) (word-written w (All-head IsWord w ws h).visible) in
+    All-append IsWrittenByte (32 ∷ w) (spaced ws) here (spaced-written ws (All-tail IsWord w ws h))
 
 -- the bytes of a line
 line-written : (words : List Text) → All IsWord words → All IsWrittenByte (line_of words)
 line-written [] h = none-of _
-line-written (w ∷ ws) h = All-append IsWrittenByte w (spaced ws) (word-written w (all-head IsWord w ws h).visible) (spaced-written ws (all-tail IsWord w ws h))
+line-written (w ∷ ws) h = All-append IsWrittenByte w (spaced ws) (word-written w (All-head IsWord w ws h).visible) (spaced-written ws (All-tail IsWord w ws h))
 
 -- none is a control character
 no-control : (b : ℕ) → IsWrittenByte b → is_control b ≡ false
@@ -129,16 +129,16 @@ lines-cut : (line rest : Text) → IsUnended line → lines_of (line ++ 10 ∷ r
 unfolding lines_of
 lines-cut [] rest h = refl
 lines-cut (b ∷ bs) rest h =
-    let other : (b == 10) ≡ false = all-head (λ c. (c == 10) ≡ false) b bs h in
-    ap (with_byte b) (lines-cut bs rest (all-tail (λ c. (c == 10) ≡ false) b bs h)) ∙ rw other refl
+    let other : (b == 10) ≡ false = All-head (λ c. (c == 10) ≡ false) b bs h in
+    ap (with_byte b) (lines-cut bs rest (All-tail (λ c. (c == 10) ≡ false) b bs h)) ∙ rw other refl
 
 -- the lines of a text are those that were written, and those of what follows
 lines-before : (lines : List (List Text)) (rest : Text) → All (All IsWord) lines → lines_of (text_of lines ++ rest) ≡ map line_of lines ++ lines_of rest
 lines-before [] rest h = refl
 lines-before (ws ∷ lines) rest h =
-    let here : IsUnended (line_of ws) = line-unended ws (all-head (All IsWord) ws lines h) in
+    let here : IsUnended (line_of ws) = line-unended ws (All-head (All IsWord) ws lines h) in
     let shape : (ended (line_of ws) ++ text_of lines) ++ rest ≡ line_of ws ++ 10 ∷ (text_of lines ++ rest) = simp append_assoc in
-    let more = lines-before lines rest (all-tail (All IsWord) ws lines h) in
+    let more = lines-before lines rest (All-tail (All IsWord) ws lines h) in
     ap lines_of shape ∙ (lines-cut (line_of ws) (text_of lines ++ rest) here ∙ ap (λ (ls : List Text). line_of ws ∷ ls) more)
 
 -- the lines that a text is written of are its lines
@@ -156,7 +156,7 @@ without-end front =
 -- a line of some word has a byte
 line-some : (words : List Text) → All IsWord words → 0 < length words → 0 < length (line_of words)
 line-some [] h some = absurd (omega arith)
-line-some (w ∷ ws) h some = let byte = (all-head IsWord w ws h).some_byte in simp length-append (omega arith)
+line-some (w ∷ ws) h some = let byte = (All-head IsWord w ws h).some_byte in simp length-append (omega arith)
 
 -- the last line needs no line feed
 lines-without-end : (lines : List (List Text)) (last : List Text) → All (All IsWord) lines → All IsWord last → 0 < length last
