@@ -11,10 +11,10 @@ use Rattle.abt_interleave.proofs.Members.{Among, to-among, from-among}
 use Rattle.abt_interleave.proofs.Merged.{logs-merge}
 use Rattle.abt_interleave.proofs.Stamping.{stamps-are-lamports}
 
-differ : {A : Type 0} → false ≡ true → A
+pub differ : {A : Type 0} → false ≡ true → A
 differ e = absurd cc
 
-tells : TellsPlaces counters
+pub tells : TellsPlaces counters
 tells true true = (λ e. refl, λ e. refl)
 tells false false = (λ e. refl, λ e. refl)
 tells true false = (λ e. differ e, λ e. differ (sym e))

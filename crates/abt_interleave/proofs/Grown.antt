@@ -15,7 +15,7 @@ rises-join stamp n [] ys r l = l
 rises-join stamp n (x ∷ xs) ys r l = (r.0, rises-join stamp (stamp x) xs ys r.1 l)
 
 module _ (M : Machine) where
-  does-join : (s : ℕ) (p q r : M.Part) (ds es : List (DeedOf M)) → Does M.Steps s p ds q → Does M.Steps s q es r → Does M.Steps s p (ds ++ es) r
+  pub does-join : (s : ℕ) (p q r : M.Part) (ds es : List (DeedOf M)) → Does M.Steps s p ds q → Does M.Steps s q es r → Does M.Steps s p (ds ++ es) r
   does-join s p q r [] es c d = subst (λ m. Does M.Steps s m es r) (sym c) d
   does-join s p q r (f ∷ fs) es c d = (c.0, c.1, c.2, does-join s c.1 q r fs es c.3 d)
 

@@ -5,19 +5,19 @@ use Rattle.abt_interleave.specs.Deeds.{Entry, RisesAbove, entry_stamps, Leads}
 use Rattle.abt_interleave.specs.Machines.{Machine, TellsPlaces}
 use Rattle.abt_interleave.specs.Laws.{at_place, AllGive, HistorySplits}
 
-rises-lower : (n m : ℕ) (ts : List ℕ) → n ≤ m → RisesAbove m ts → RisesAbove n ts
+pub rises-lower : (n m : ℕ) (ts : List ℕ) → n ≤ m → RisesAbove m ts → RisesAbove n ts
 rises-lower n m [] l r = tt
 rises-lower n m (t ∷ ts) l r = (let k : m < t = r.0 in omega arith, r.1)
 
 module _ (M : Machine) where
-  rises-at : (x : M.Place) (n : ℕ) (es : List (Entry (M.Place × M.Act) M.Answer)) → RisesAbove n (entry_stamps es) → RisesAbove n (entry_stamps (at_place M x es))
+  pub rises-at : (x : M.Place) (n : ℕ) (es : List (Entry (M.Place × M.Act) M.Answer)) → RisesAbove n (entry_stamps es) → RisesAbove n (entry_stamps (at_place M x es))
   rises-at x n [] r = tt
   rises-at x n (e ∷ es) r =
       cond_both (M.same e.act.0 x) (record { stamp = e.stamp; stream = e.stream; act = e.act.1; answer = e.answer } ∷ at_place M x es) (at_place M x es) (λ fs. RisesAbove n (entry_stamps fs))
       (λ _. (r.0, rises-at x e.stamp es r.1))
       (λ _. rises-at x n es (let k : n < e.stamp = r.0 in rises-lower n e.stamp (entry_stamps es) (omega arith) r.1))
 
-  leads-at : TellsPlaces M → (x : M.Place) (es : List (Entry (M.Place × M.Act) M.Answer)) (old new : M.Place → M.Object) → Leads (AllGive M) old es new → Leads M.Gives (old x) (at_place M x es) (new x)
+  pub leads-at : TellsPlaces M → (x : M.Place) (es : List (Entry (M.Place × M.Act) M.Answer)) (old new : M.Place → M.Object) → Leads (AllGive M) old es new → Leads M.Gives (old x) (at_place M x es) (new x)
   leads-at tells x [] old new l = ap (λ (f : M.Place → M.Object). f x) l
   leads-at tells x (e ∷ es) old new l =
       let ends : Leads M.Gives (l.0 x) (at_place M x es) (new x) = leads-at tells x es l.0 new l.2 in

@@ -20,3 +20,8 @@ from-among (y ∷ ys) x m = elim m [
   | inl e ↦ subst (Contains (y ∷ ys)) (sym e) (Contains-get_or (y ∷ ys) 0 y (omega arith))
   | inr n ↦ Contains-append_right (y ∷ []) ys x (from-among ys x n)
 ]
+
+-- what holds of each member
+pub all-from-among : {A : Type 0} (P : A → Type 0) (xs : List A) → ((x : A) → Among x xs → P x) → All P xs
+all-from-among P [] h = All-nil P
+all-from-among P (x ∷ xs) h = All-cons P x xs (h x (inl refl)) (all-from-among P xs (λ y m. h y (inr m)))

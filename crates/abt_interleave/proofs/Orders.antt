@@ -29,7 +29,7 @@ module _ {A : Type 0} (R : A → A → Type 0) (one-way : (a b : A) → R a b �
 
 -- By stamp and stream.
 
-sooner-one-way : (t s u r : ℕ) → IsSooner t s u r → IsSooner u r t s → ⊥
+pub sooner-one-way : (t s u r : ℕ) → IsSooner t s u r → IsSooner u r t s → ⊥
 sooner-one-way t s u r h g =
     elim h [
       | inl l ↦ (let k : t < u = l in elim g [ inl m ↦ (let n : u < t = m in absurd (omega arith)) | inr q ↦ (let n : u ≡ t = q.0 in absurd (omega arith)) ])
@@ -80,7 +80,7 @@ module _ {A : Type 0} (stamp : A → ℕ) where
 -- What rises strictly by stamp is in any order in which what is earlier comes first.
 
 module _ {A : Type 0} (stamp : A → ℕ) (R : A → A → Type 0) (goes : (a b : A) → IsEarlier stamp a b → R a b) where
-  earlier-first : (a : A) (xs : List A) → BeforeAll (IsEarlier stamp) a xs → BeforeAll R a xs
+  pub earlier-first : (a : A) (xs : List A) → BeforeAll (IsEarlier stamp) a xs → BeforeAll R a xs
   earlier-first a [] h = tt
   earlier-first a (x ∷ xs) h = (goes a x h.0, earlier-first a xs h.1)
 

@@ -121,7 +121,7 @@ module _ (M : Machine) (parts : ℕ → M.Part) (objects : M.Place → M.Object)
     successor : (s : ℕ) (d : DeedOf M) → Among d (logs s) → IsSuccessor d
     successor s d m = all-successors s 0 (logs s) (λ e k. k) (inl refl) (timed s) d m
 
-    no-gap : LeavesNoGap logs
+    pub no-gap : LeavesNoGap logs
     no-gap s d m = elim (successor s d (to-among (logs s) d m)) [ inl e ↦ inl e | inr r ↦ inr (r.0, from-among (logs r.0.stream) r.0 r.1, r.3) ]
 
     -- what this deed is one more than stands before it

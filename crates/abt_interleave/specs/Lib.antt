@@ -1,6 +1,16 @@
+pub mod Bounds
+pub mod Carrying
+pub mod CounterLocks
 pub mod Counters
 pub mod Deeds
 pub mod Laws
+pub mod Lines
 pub mod Logs
 pub mod Machines
+pub mod MergeLaws
+pub mod Merges
+pub mod Passes
+pub mod Passing
 pub mod Stamps
+pub mod Ticking
+pub mod Weaving
