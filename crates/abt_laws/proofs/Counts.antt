@@ -14,7 +14,7 @@ length-insert t u (p ∷ ps) =
 abbrev pub Implies : Option ℕ → Option ℕ → Type 0
 Implies o p = (t : ℕ) → o ≡ Some t → (k : ℕ) × (p ≡ Some k)
 
-abbrev ticket_count : Option ℕ → ℕ
+abbrev pub ticket_count : Option ℕ → ℕ
 ticket_count None = 0
 ticket_count (Some t) = 1
 
@@ -23,11 +23,11 @@ ticket_count-implies None p h = omega arith
 ticket_count-implies (Some t) (Some k) h = omega arith
 ticket_count-implies (Some t) None h = absurd (none≢some (h t refl).1)
 
-ticket_count-one : (o : Option ℕ) → ticket_count o ≤ 1
+pub ticket_count-one : (o : Option ℕ) → ticket_count o ≤ 1
 ticket_count-one None = omega arith
 ticket_count-one (Some t) = omega arith
 
-length-step : (n : ℕ) (o : Option ℕ) (ps : List (ℕ × ℕ)) → length (ticketed_step n o ps) ≡ ticket_count o + length ps
+pub length-step : (n : ℕ) (o : Option ℕ) (ps : List (ℕ × ℕ)) → length (ticketed_step n o ps) ≡ ticket_count o + length ps
 length-step n None ps = omega arith
 length-step n (Some t) ps = omega (arith, length-insert t n ps)
 

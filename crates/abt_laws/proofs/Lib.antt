@@ -8,6 +8,7 @@ pub mod Codes
 pub mod Commute
 pub mod Counts
 pub mod Declared
+pub mod DueParts
 pub mod Dues
 pub mod Falls
 pub mod Keeping
@@ -61,6 +62,7 @@ pub mod SoundStart
 pub mod SoundSteps
 pub mod SoundUnits
 pub mod Standing
+pub mod StepStreams
 pub mod StepsLeft
 pub mod Sums
 pub mod Wakes

@@ -20,7 +20,6 @@ use Rattle.abt_machine.specs.Lines.{Line, InPool, InTray, InHand, InNext, ticket
 use Rattle.abt_machine.specs.Next.{StepDue, LeaveDue, at_position, due, due_by, due_by_hand, due_by_next, due_of_frames}
 use Rattle.abt_machine.specs.Fronts.{front, front_by, owns}
 use Rattle.abt_machine.specs.Rounds.{IsNextPool}
-use Rattle.abt_machine.specs.Frames.{round_missed}
 use Rattle.abt_machine.specs.Events.{After, May, after}
 use Rattle.abt_machine.specs.Runs.{last_state}
 use Rattle.abt_machine.specs.Sound.{Sound}
@@ -90,7 +89,7 @@ nobody-in-front kind.Deque false us u e h = nobody-first us u e h
 nobody-in-front kind.Deque true us u e h = none≢some (ap last (sym e) ∙ h)
 
 -- without stacked frames the top frame is the main scheduler's
-lone-frame-main : (W : Parts) (Z : List OrderShape) (S : State) (s : ℕ) → s < W.streams → Sound W Z S → (S.stream s).below ≡ [] → (S.stream s).top.sched ≡ main_of W s
+pub lone-frame-main : (W : Parts) (Z : List OrderShape) (S : State) (s : ℕ) → s < W.streams → Sound W Z S → (S.stream s).below ≡ [] → (S.stream s).top.sched ≡ main_of W s
 lone-frame-main W Z S s declared sound alone =
     subst (λ (fs : List Frame). IfSome (last ((S.stream s).top ∷ fs)) (λ (f : Frame). f.sched ≡ main_of W s)) alone (sound.lowest s declared)
 
@@ -113,19 +112,20 @@ quiet-misses W Z S s (what.Leave u) declared sound quiet may = absurd (no-leave 
 -- After a miss.
 
 -- a miss stacks no frame
-miss-stacks-none : (W : Parts) (p : ℕ) (S : State) (s r : ℕ) → (put_at S.stream s (round_missed W p (S.stream s)) r).below ≡ (S.stream r).below
-miss-stacks-none W p S s r =
+pub miss-stacks-none : (W : Parts) (S : State) (r s : ℕ) (w : What) → IsMiss w → ((after W S s w).stream r).below ≡ (S.stream r).below
+miss-stacks-none W S r s (what.Miss p) miss =
     elim (cases_eq r s) [
       | inl same ↦ ap (λ (own : Stream). own.below) (ap (put_at S.stream s _) same ∙ put_at-same S.stream s _) ∙ ap (λ q. (S.stream q).below) (sym same)
       | inr other ↦ ap (λ (own : Stream). own.below) (put_at-other S.stream s _ r other)
     ]
+miss-stacks-none W S r s _ miss = absurd miss
 
 quiet-after : (W : Parts) (S : State) (s : ℕ) (w : What) → IsMiss w → Quiet W S → Quiet W (after W S s w)
 quiet-after W S s (what.Miss p) miss quiet = record {
   trays = quiet.trays;
   nexts = quiet.nexts;
   hands = quiet.hands;
-  frames = λ r declared. miss-stacks-none W p.0 S s r ∙ quiet.frames r declared;
+  frames = λ r declared. miss-stacks-none W S r s (what.Miss p) miss ∙ quiet.frames r declared;
   pools = quiet.pools;
 }
 quiet-after W S s _ miss quiet = absurd miss

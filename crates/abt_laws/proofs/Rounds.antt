@@ -27,7 +27,7 @@ has-rule W g l =
     ]
 
 -- only a declared scheduler has orders
-order-declared : (W : Parts) (Z : List OrderShape) (g r : ℕ) (order : List ℕ) → IsOrder W Z g r order → g < length W.scheds
+pub order-declared : (W : Parts) (Z : List OrderShape) (g r : ℕ) (order : List ℕ) → IsOrder W Z g r order → g < length W.scheds
 order-declared W Z g r order h =
     elim (cases_lt g (length W.scheds)) [
       | inl l ↦ l
