@@ -33,12 +33,13 @@ use Rattle.abt_laws.proofs.Arrivals.{IsEmpty, IsBelow-empty}
 use Rattle.abt_laws.proofs.LineMoves.{tray_moves-each, tray_moves-key}
 use Rattle.abt_laws.proofs.Standing.{StandsIn, first-stands}
 use Rattle.abt_laws.proofs.Dues.{due-no_tray}
+use Rattle.abt_laws.proofs.DueParts.{due-same}
 use Rattle.abt_simulation.proofs.Acting.{IsActing, acting}
 use Rattle.abt_simulation.proofs.LinesAfter.{line_at, line-left, line-gets, line-empty, all_but, all_but-first}
 use Rattle.abt_simulation.proofs.OwnedLines.{Head, head-of, owned-stays, owned-emptied, owned-joined}
 use Rattle.abt_simulation.proofs.OwnParts.{IsAway, off-nowhere, alone-standing, away-line, away-other, standing-distinct, next-standing, away-declared, away-loose, part-empties}
 use Rattle.abt_simulation.proofs.Shapes.{each-among, none-to_tray}
-use Rattle.abt_simulation.proofs.Simulated.{Simulated, due-same}
+use Rattle.abt_simulation.proofs.Simulated.{Simulated}
 
 module _ (W : Parts) (Z : List OrderShape) (S : State) (s : ℕ) (sound : Sound W Z S) (object : Object) (o : Owned) where
   -- End.

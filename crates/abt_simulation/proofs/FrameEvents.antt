@@ -23,6 +23,7 @@ use Rattle.abt_laws.proofs.Arrivals.{IsEmpty, IsBelow-empty}
 use Rattle.abt_laws.proofs.Standing.{among-standing, is-declared}
 use Rattle.abt_laws.proofs.SoundChanges.{placed-below}
 use Rattle.abt_laws.proofs.Dues.{due-no_hand, leave-below}
+use Rattle.abt_laws.proofs.DueParts.{due-same}
 use Rattle.abt_simulation.proofs.Acting.{IsActing, acting}
 use Rattle.abt_simulation.proofs.Pushes.{IsDistinct}
 use Rattle.abt_simulation.proofs.LinesAfter.{line-left, line-gets, line-empty, all_but, all_but-first, all_but-last}
@@ -30,7 +31,7 @@ use Rattle.abt_simulation.proofs.Lasts.{IsLast, last-queue}
 use Rattle.abt_simulation.proofs.OwnedLines.{Head, head-of, owned-stays, owned-joined}
 use Rattle.abt_simulation.proofs.OwnParts.{hand-standing, standing-distinct}
 use Rattle.abt_simulation.proofs.Ends.{AtBack, at-back, last-append}
-use Rattle.abt_simulation.proofs.Simulated.{Simulated, due-same}
+use Rattle.abt_simulation.proofs.Simulated.{Simulated}
 
 module _ (W : Parts) (Z : List OrderShape) (S : State) (s : ℕ) (sound : Sound W Z S) (object : Object) (o : Owned) where
   -- an entry: the unit goes from the hand to a frame of its own

@@ -33,3 +33,4 @@ pub mod Rows
 pub mod Shapes
 pub mod Simulated
 pub mod StepEvents
+pub mod Tallied

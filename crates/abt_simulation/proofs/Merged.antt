@@ -31,7 +31,7 @@ use Rattle.abt_simulation.proofs.Events.{simulation}
 -- Sites.
 
 -- sites of which the test holds are one
-site-is : (x y : Site) → same_site x y ≡ true → x ≡ y
+pub site-is : (x y : Site) → same_site x y ≡ true → x ≡ y
 site-is (site.Pool p) (site.Pool q) e = ap (λ n. site.Pool (pool_no n)) (eqb-true p.0 q.0 e)
 site-is (site.Desk u) (site.Desk v) e = ap (λ n. site.Desk (unit_no n)) (eqb-true u.0 v.0 e)
 site-is (site.Monitor x) (site.Monitor y) e = ap (λ n. site.Monitor (object_no n)) (eqb-true x.0 y.0 e)

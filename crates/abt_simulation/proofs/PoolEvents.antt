@@ -31,12 +31,13 @@ use Rattle.abt_laws.proofs.Arrivals.{IsEmpty, IsBelow-empty}
 use Rattle.abt_laws.proofs.Standing.{StandsIn, front-stands, first-stands}
 use Rattle.abt_laws.proofs.SoundChanges.{placed-below}
 use Rattle.abt_laws.proofs.Dues.{due-no_next}
+use Rattle.abt_laws.proofs.DueParts.{due-same}
 use Rattle.abt_simulation.proofs.Pushes.{IsDistinct}
 use Rattle.abt_simulation.proofs.LinesAfter.{line-left, line-gets, line-empty, all_but, all_but-first, all_but-last}
 use Rattle.abt_simulation.proofs.Ends.{AtFront, at-front, AtBack, at-back, last-append}
 use Rattle.abt_simulation.proofs.OwnedLines.{nobody-owned, owned-stays, owned-joined}
 use Rattle.abt_simulation.proofs.OwnParts.{IsOwn, IsOff, off-object, standing-distinct}
-use Rattle.abt_simulation.proofs.Simulated.{Simulated, due-same}
+use Rattle.abt_simulation.proofs.Simulated.{Simulated}
 
 -- What a pool gives.
 

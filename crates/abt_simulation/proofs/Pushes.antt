@@ -12,11 +12,11 @@ use Rattle.abt_laws.proofs.Queues.{HasTicket, queue-each}
 -- The end of a queue.
 
 -- every ticket is below k
-abbrev AllBelow : ℕ → List (ℕ × ℕ) → Type 0
+abbrev pub AllBelow : ℕ → List (ℕ × ℕ) → Type 0
 AllBelow k ps = EachOf (λ (p : ℕ × ℕ). p.0 < k) ps
 
 -- an insertion keeps it
-AllBelow-insert : (k t u : ℕ) (ps : List (ℕ × ℕ)) → t < k → AllBelow k ps → AllBelow k (insert_by_ticket t u ps)
+pub AllBelow-insert : (k t u : ℕ) (ps : List (ℕ × ℕ)) → t < k → AllBelow k ps → AllBelow k (insert_by_ticket t u ps)
 AllBelow-insert k t u [] h a = (h, tt)
 AllBelow-insert k t u (p ∷ ps) h a =
     cond_both (nat_le t p.0) ((t, u) ∷ p ∷ ps) (p ∷ insert_by_ticket t u ps) (AllBelow k) (λ _. (h, a)) (λ _. (a.0, AllBelow-insert k t u ps h a.1))
@@ -32,7 +32,7 @@ AllBelow-ticketed at k zero h = tt
 AllBelow-ticketed at k (suc n) h = AllBelow-step k n (at n) (ticketed at n) (h n) (AllBelow-ticketed at k n h)
 
 -- a ticket above all comes to the end
-insert_at_end : (k u : ℕ) (ps : List (ℕ × ℕ)) → AllBelow k ps → insert_by_ticket k u ps ≡ ps ++ (k, u) ∷ []
+pub insert_at_end : (k u : ℕ) (ps : List (ℕ × ℕ)) → AllBelow k ps → insert_by_ticket k u ps ≡ ps ++ (k, u) ∷ []
 insert_at_end k u [] a = refl
 insert_at_end k u (p ∷ ps) a = cond-false (nat_le k p.0) _ _ (lt-leb k p.0 a.0) ∙ ap (λ qs. p ∷ qs) (insert_at_end k u ps a.1)
 

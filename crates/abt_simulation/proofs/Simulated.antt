@@ -1,41 +1,22 @@
 -- What an event owes, and that a stream's next event is decided by its own part.
-use Rattle.std.proofs.Common.{◌≡◌, ℕ, ◌<◌, List, [], ◌∷◌, map, Option, Some, None, refl, sym, ◌∙◌, subst}
-use Rattle.std.specs.Prelude.{option_map}
+use Rattle.std.proofs.Common.{◌≡◌, ℕ, ◌<◌, List, [], Option, Some, None, refl, sym, ◌∙◌, subst}
 use Rattle.abt_machine.specs.declared.events.Event.{Event}
 use Rattle.abt_machine.specs.declared.events.Site.{Site}
 use Rattle.abt_machine.specs.declared.events.What.{What}
 use Rattle.abt_machine.specs.declared.operations.OrderShape.{OrderShape}
 use Rattle.abt_machine.specs.declared.workload.Parts.{Parts}
 use Rattle.abt_machine.specs.Valid.{IsValid}
-use Rattle.abt_machine.specs.Queues.{first}
-use Rattle.abt_machine.specs.State.{State, Stream}
+use Rattle.abt_machine.specs.State.{State}
 use Rattle.abt_machine.specs.Sites.{event_site}
-use Rattle.abt_machine.specs.Lines.{InTray, InHand, InNext, standing}
-use Rattle.abt_machine.specs.Next.{due_by, at_position, due}
 use Rattle.abt_machine.specs.Events.{May, change, after}
-use Rattle.abt_machine.specs.Values.{Held, Object, owned_at, part_of, object_of}
+use Rattle.abt_machine.specs.Values.{Held, Object, part_of, object_of}
 use Rattle.abt_machine.specs.Acts.{Act, Answer}
 use Rattle.abt_machine.specs.Gives.{SiteGives}
-use Rattle.abt_machine.specs.Turns.{Heard, number_and_position, due_of}
+use Rattle.abt_machine.specs.Turns.{Heard}
 use Rattle.abt_laws.proofs.LocalEvents.{event-local}
 use Rattle.abt_laws.proofs.Local.{IsLocal}
 use Rattle.abt_simulation.specs.Simulation.{site_heard, Answers, Leaves, IsEvent}
 use Rattle.abt_simulation.proofs.Others.{parts-stay, objects-stay}
-
--- What stream s does next.
-
--- by who stands in which line
-due-by_lists : (W : Parts) (S : State) (s : ℕ) (own : Stream) (us vs ws : List ℕ) →
-    due_by W s own us (first vs) (option_map (at_position S) (first ws))
-    ≡ due_by W s own (map (owned_at S) us) (first (map (owned_at S) vs)) (option_map number_and_position (first (map (owned_at S) ws)))
-due-by_lists W S s own (u ∷ us) vs ws = refl
-due-by_lists W S s own [] (v ∷ vs) ws = refl
-due-by_lists W S s own [] [] (w ∷ ws) = refl
-due-by_lists W S s own [] [] [] = refl
-
--- what is due is decided by the part
-pub due-same : (W : Parts) (S : State) (s : ℕ) → due W S s ≡ due_of W s (part_of W S s)
-due-same W S s = due-by_lists W S s (S.stream s) (standing W S (InTray s)) (standing W S (InNext s)) (standing W S (InHand s))
 
 -- Events.
 

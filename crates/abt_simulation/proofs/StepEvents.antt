@@ -32,6 +32,7 @@ use Rattle.abt_machine.specs.Acts as act
 use Rattle.abt_machine.specs.Plans.{Effect, Plan, Does, Calls, denied, refusal, plan_of, effect_of}
 use Rattle.abt_machine.specs.Turns.{Heard, due_of, Performs}
 use Rattle.abt_laws.proofs.Declared.{op-declared}
+use Rattle.abt_laws.proofs.DueParts.{due-same}
 use Rattle.abt_simulation.specs.Simulation.{Answers, Leaves}
 use Rattle.abt_simulation.proofs.Acting.{IsActing, acting}
 use Rattle.abt_simulation.proofs.OwnedLines.{Head, head-of}
@@ -44,7 +45,7 @@ use Rattle.abt_simulation.proofs.ConditionRows.{condwait-row, signal-row, broadc
 use Rattle.abt_simulation.proofs.EventualRows.{evwait-row, evset-row, evreset-row, evtest-row}
 use Rattle.abt_simulation.proofs.FutureRows.{fuwait-row, fuset-row, fureset-row, futest-row}
 use Rattle.abt_simulation.proofs.BarrierRows.{barwait-row}
-use Rattle.abt_simulation.proofs.Simulated.{Simulated, due-same}
+use Rattle.abt_simulation.proofs.Simulated.{Simulated}
 
 -- Unit u, in the hand of stream s, makes the step with this code.
 

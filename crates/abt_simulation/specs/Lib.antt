@@ -1,3 +1,4 @@
+pub mod Journals
 pub mod Meeting
 pub mod Merging
 pub mod Simulation
