@@ -15,11 +15,11 @@ use Rattle.abt_monitor.specs.Keeps.{MonitorsKeepWhatFits, contents_of_monitor}
 
 -- Facts of parts of lists.
 
-All-left : {A : Type 0} (F : A → Type 0) (xs ys : List A) → All F (xs ++ ys) → All F xs
+pub All-left : {A : Type 0} (F : A → Type 0) (xs ys : List A) → All F (xs ++ ys) → All F xs
 All-left F [] ys all = All-nil F
 All-left F (x ∷ xs) ys all = All-cons F x xs (All-head F x (xs ++ ys) all) (All-left F xs ys (All-tail F x (xs ++ ys) all))
 
-All-right : {A : Type 0} (F : A → Type 0) (xs ys : List A) → All F (xs ++ ys) → All F ys
+pub All-right : {A : Type 0} (F : A → Type 0) (xs ys : List A) → All F (xs ++ ys) → All F ys
 All-right F [] ys all = all
 All-right F (x ∷ xs) ys all = All-right F xs ys (All-tail F x (xs ++ ys) all)
 

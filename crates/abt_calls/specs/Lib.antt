@@ -1,0 +1,14 @@
+pub mod Allowed
+pub mod Asking
+pub mod Effects
+pub mod Holders
+pub mod Keeps
+pub mod Losing
+pub mod OwnDesks
+pub mod Returns
+pub mod Showing
+pub mod Starts
+pub mod Streams
+pub mod Suits
+pub mod Totals
+pub mod Units

@@ -1,0 +1,8 @@
+//! What an act may get for an answer.
+
+ghost use Rattle.abt_calls.specs.Suits.{AnswersSuit};
+
+/// An act is answered in a way that suits it.
+pub fn answers_suit()
+    ensures { AnswersSuit }
+{}
