@@ -1,0 +1,12 @@
+pub mod Accesses
+pub mod Budgets
+pub mod Choosing
+pub mod Coming
+pub mod Counting
+pub mod Denied
+pub mod FewLives
+pub mod Freedom
+pub mod JournalTexts
+pub mod Naming
+pub mod Stamping
+pub mod Turns

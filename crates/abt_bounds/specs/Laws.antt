@@ -1,0 +1,194 @@
+-- Laws that bound the machine from above: what a stream may do next, and what no run does. W is a workload and Z the list of the shapes of the stored orders.
+use Rattle.std.specs.Prelude.{ℕ, suc, ◌≡◌, ◌≢◌, ◌<◌, ◌≤◌, ◌*◌, ◌^◌, ◌↔◌, List, [], ◌∷◌, length, map, sum_by, Option, Some, None, Bool, Contains, IsTrue, slice_get}
+use Rattle.std.specs.List.{AllByRecursion}
+use Rattle.abt_machine.specs.declared.events.Code.TheVariants as code
+use Rattle.abt_machine.specs.declared.events.Event.{Event}
+use Rattle.abt_machine.specs.declared.events.What.{What}
+use Rattle.abt_machine.specs.declared.events.What.TheVariants as what
+use Rattle.abt_machine.specs.declared.numbers.PoolNo.{PoolNo}
+use Rattle.abt_machine.specs.declared.numbers.UnitNo.{UnitNo}
+use Rattle.abt_machine.specs.declared.operations.Op.{Op}
+use Rattle.abt_machine.specs.declared.operations.Op.TheVariants as op
+use Rattle.abt_machine.specs.declared.operations.OrderShape.{OrderShape}
+use Rattle.abt_machine.specs.declared.operations.OrderShape.TheVariants as shape
+use Rattle.abt_machine.specs.declared.operations.Rule.TheVariants as rule
+use Rattle.abt_machine.specs.declared.workload.Parts.{Parts}
+use Rattle.abt_machine.specs.Valid.{IsValid}
+use Rattle.abt_machine.specs.Rounds.{IsNextPool, IsOrder, OrdersStored}
+use Rattle.abt_machine.specs.Workloads.{body_at, op_at, ops_of, pools_of, rule_of}
+use Rattle.abt_machine.specs.State.{Frame, State}
+use Rattle.abt_machine.specs.Codes.{code_of}
+use Rattle.abt_machine.specs.Events.{After, May}
+use Rattle.abt_machine.specs.Runs.{Run, last_state}
+use Rattle.abt_machine.specs.Start.{start}
+use Rattle.abt_machine.specs.Sound.{IsUnderWay, Sound}
+use Rattle.abt_machine.specs.Lives.{count_up, last_life}
+use Rattle.abt_machine.specs.Outcomes.{Spent, steps_in}
+use Rattle.abt_machine.specs.Stamps.{Stamped}
+use Rattle.abt_machine.specs.Texts.{journal_text}
+use Rattle.abt_bounds.specs.Accesses.{FramesHaveAccess, IsWithinAccess, KeepsAccess}
+
+-- What comes next.
+
+-- no user scheduler's order is free
+abbrev pub HasNoFreeOrder : Parts → List OrderShape → Type 0
+HasNoFreeOrder W Z = (g k : ℕ) → rule_of W g ≡ Some (rule.User k) → slice_get Z k ≡ Some shape.Free → ⊥
+
+-- where no order is free, a round of a scheduler has one order at most
+abbrev pub OrdersAreOne : Parts → List OrderShape → Type 0
+OrdersAreOne W Z = HasNoFreeOrder W Z → (g r : ℕ) (one two : List ℕ) → IsOrder W Z g r one → IsOrder W Z g r two → one ≡ two
+
+-- where no order is free, a stream of a sound state has one event at most that may come
+abbrev pub OneNext : Parts → List OrderShape → Type 0
+OneNext W Z = HasNoFreeOrder W Z → (S : State) (s : ℕ) (w v : What) → Sound W Z S → May W Z S s w → May W Z S s v → w ≡ v
+
+-- the pool that a round visits
+abbrev pub visited : What → Option ℕ
+visited (what.Miss p) = Some p.0
+visited (what.Take p u) = Some p.0
+visited _ = None
+
+-- whatever the orders, two events that may come are one, unless they visit different pools
+abbrev pub OneAtEachPool : Parts → List OrderShape → Type 0
+OneAtEachPool W Z = (S : State) (s : ℕ) (w v : What) → Sound W Z S → May W Z S s w → May W Z S s v → visited w ≡ visited v → w ≡ v
+
+-- in a free order each pool of the scheduler that the round has not seen may be next
+abbrev pub FreeOrdersAreFree : Parts → List OrderShape → Type 0
+FreeOrdersAreFree W Z = (f : Frame) (k p : ℕ) → IsUnderWay W Z f → rule_of W f.sched ≡ Some (rule.User k) → slice_get Z k ≡ Some shape.Free →
+    Contains (pools_of W f.sched) p → (Contains f.seen p → ⊥) → IsNextPool W Z f p
+
+-- each declared stream of a sound state has an event that may come
+abbrev pub SomeNext : Parts → List OrderShape → Type 0
+SomeNext W Z = (S : State) (s : ℕ) → Sound W Z S → s < W.streams → (w : What) × May W Z S s w
+
+-- and one that leads to some state
+abbrev pub SomeAfter : Parts → List OrderShape → Type 0
+SomeAfter W Z = (S : State) (s : ℕ) → Sound W Z S → s < W.streams → (e : Event) × (T : State) × (e.stream.0 ≡ s) × After W Z S e T
+
+-- so a wider relation that has one event at most has no event that May has not
+abbrev pub NothingWider : Parts → List OrderShape → Type 0
+NothingWider W Z = (wide : State → ℕ → What → Bool) →
+    ((S : State) (s : ℕ) (w : What) → May W Z S s w → IsTrue (wide S s w)) →
+    ((S : State) (s : ℕ) (w v : What) → Sound W Z S → IsTrue (wide S s w) → IsTrue (wide S s v) → w ≡ v) →
+    (S : State) (s : ℕ) (w : What) → Sound W Z S → s < W.streams → IsTrue (wide S s w) → May W Z S s w
+
+-- the stamps and streams of a journal, in order: whose turn it was each time
+abbrev pub turns : List Event → List (ℕ × ℕ)
+turns J = map (λ e. (e.stamp, e.stream.0)) J
+
+-- where no order is free, whose turn it is determines the run
+abbrev pub OneRunOfTurns : Parts → List OrderShape → Type 0
+OneRunOfTurns W Z = IsValid W → OrdersStored W Z → HasNoFreeOrder W Z → (J K : List Event) → Run W Z J → Run W Z K → turns J ≡ turns K → J ≡ K
+
+-- and declared streams may take their turns in any order
+abbrev pub SomeRunOfTurns : Parts → List OrderShape → Type 0
+SomeRunOfTurns W Z = IsValid W → OrdersStored W Z → (ts : List (ℕ × ℕ)) → AllByRecursion (λ (t : ℕ × ℕ). t.1 < W.streams) ts → (J : List Event) × Run W Z J × (turns J ≡ ts)
+
+-- Access.
+
+-- at the start each stream may take from all pools of the schedulers that it runs
+abbrev pub StartHasAccess : Parts → Type 0
+StartHasAccess W = IsValid W → FramesHaveAccess W (start W)
+
+-- where this holds, each event keeps to the access of pools, and it holds afterwards
+abbrev pub EventsKeepAccess : Parts → List OrderShape → Type 0
+EventsKeepAccess W Z = (S T : State) (e : Event) → FramesHaveAccess W S → After W Z S e T → KeepsAccess W e.stream.0 e.what × FramesHaveAccess W T
+
+-- in every run each event keeps to the access of pools, and in its last state each stream may take from all pools of the schedulers that it runs
+abbrev pub RunsKeepAccess : Parts → List OrderShape → Type 0
+RunsKeepAccess W Z = IsValid W → (J : List Event) → Run W Z J →
+    ((e : Event) → Contains J e → KeepsAccess W e.stream.0 e.what) × FramesHaveAccess W (last_state W J)
+
+-- an operation is refused for access exactly where its stream may not reach the pool that it names
+abbrev pub DeniedAreRefused : Parts → Type 0
+DeniedAreRefused W = (S : State) (s u : ℕ) (o : Op) → (code_of W S s u o ≡ code.PoolAccess) ↔ (IsWithinAccess W s (Some o) → ⊥)
+
+-- Stamps.
+
+-- in a stamped journal the stamp of event number i, counted from 0, is at most i + 1
+abbrev pub StampsFitPlaces : Parts → Type 0
+StampsFitPlaces W = (J : List Event) (i : ℕ) (e : Event) → Stamped W J → slice_get J i ≡ Some e → e.stamp ≤ suc i
+
+-- so each stamp is at most the number of events
+abbrev pub StampsFitLength : Parts → Type 0
+StampsFitLength W = (J : List Event) (e : Event) → Stamped W J → Contains J e → e.stamp ≤ length J
+
+-- Numbers.
+
+-- pools and units of what happened are declared, and a step is of an operation of its unit
+abbrev pub NamesDeclared : Parts → What → Type 0
+NamesDeclared W (what.Miss p) = p.0 < length W.pools
+NamesDeclared W (what.Take p u) = (p.0 < length W.pools) × (u.0 < length W.units)
+NamesDeclared W (what.Look u) = u.0 < length W.units
+NamesDeclared W (what.Step u k c) = (u.0 < length W.units) × (k < length (ops_of (body_at W u.0)))
+NamesDeclared W (what.Put u p) = (u.0 < length W.units) × (p.0 < length W.pools)
+NamesDeclared W (what.End u c) = u.0 < length W.units
+NamesDeclared W (what.Enter u) = u.0 < length W.units
+NamesDeclared W (what.Leave u) = u.0 < length W.units
+
+-- every event of a run is of a declared stream and names declared things
+abbrev pub RunsNameDeclared : Parts → List OrderShape → Type 0
+RunsNameDeclared W Z = IsValid W → OrdersStored W Z → (J : List Event) (e : Event) → Run W Z J → Contains J e → (e.stream.0 < W.streams) × NamesDeclared W e.what
+
+-- Steps.
+
+-- the operations of a unit
+abbrev pub ops_of_unit : Parts → ℕ → ℕ
+ops_of_unit W u = length (ops_of (body_at W u))
+
+-- the operations of all units together
+abbrev pub ops_in : Parts → ℕ
+ops_in W = sum_by (ops_of_unit W) (count_up (length W.units))
+
+-- the operations of all lives of all units together
+abbrev pub ops_lived : Parts → List Event → ℕ
+ops_lived W J = sum_by (λ u. last_life W J u * ops_of_unit W u) (count_up (length W.units))
+
+-- a run has at most as many steps as its lives have operations
+abbrev pub StepsAreOfLives : Parts → List OrderShape → Type 0
+StepsAreOfLives W Z = IsValid W → OrdersStored W Z → (J : List Event) → Run W Z J → steps_in J ≤ ops_lived W J
+
+-- no unit has an operation that revives
+abbrev pub HasNoRevive : Parts → Type 0
+HasNoRevive W = (u k : ℕ) (v : UnitNo) (p : PoolNo) → op_at W u k ≡ Some (op.Revive v p) → ⊥
+
+-- without revivals each unit has one life at most
+abbrev pub LivesAreFew : Parts → List OrderShape → Type 0
+LivesAreFew W Z = IsValid W → OrdersStored W Z → HasNoRevive W → (J : List Event) (u : ℕ) → Run W Z J → u < length W.units → last_life W J u ≤ 1
+
+-- so a run has at most as many steps as there are operations
+abbrev pub StepsAreFew : Parts → List OrderShape → Type 0
+StepsAreFew W Z = IsValid W → OrdersStored W Z → HasNoRevive W → (J : List Event) → Run W Z J → steps_in J ≤ ops_in W
+
+-- and where each stream may make that many, none is ever spent
+abbrev pub StepsBoundBudgets : Parts → List OrderShape → Type 0
+StepsBoundBudgets W Z = IsValid W → OrdersStored W Z → HasNoRevive W → (n s : ℕ) (J : List Event) → ops_in W ≤ n → Run W Z J → Spent W n J s → ⊥
+
+-- Texts.
+
+-- the numbers of what happened
+abbrev pub what_numbers : What → List ℕ
+what_numbers (what.Miss p) = p.0 ∷ []
+what_numbers (what.Take p u) = p.0 ∷ u.0 ∷ []
+what_numbers (what.Look u) = u.0 ∷ []
+what_numbers (what.Step u k c) = u.0 ∷ k ∷ []
+what_numbers (what.Put u p) = u.0 ∷ p.0 ∷ []
+what_numbers (what.End u c) = u.0 ∷ []
+what_numbers (what.Enter u) = u.0 ∷ []
+what_numbers (what.Leave u) = u.0 ∷ []
+
+-- each number of the event has 64 digits at most: of a longer one a text has the last 64 alone
+abbrev pub IsWritten : Event → Type 0
+IsWritten e = AllByRecursion (λ n. n < 10 ^ 64) (e.stamp ∷ e.stream.0 ∷ what_numbers e.what)
+
+-- journals that are not the same have texts that are not the same
+abbrev pub JournalTextsDiffer : Type 0
+JournalTextsDiffer = (J K : List Event) → AllByRecursion IsWritten J → AllByRecursion IsWritten K → journal_text J ≡ journal_text K → J ≡ K
+
+-- that numbers are short is needed: some two journals, of a look each, have one text
+abbrev pub LongNumbersCoincide : Type 0
+LongNumbersCoincide = (J : List Event) × (K : List Event) × (journal_text J ≡ journal_text K) × (J ≢ K)
+
+-- so stamped runs that are not the same have texts that are not the same
+abbrev pub RunTextsDiffer : Parts → List OrderShape → Type 0
+RunTextsDiffer W Z = IsValid W → OrdersStored W Z → (J K : List Event) → Run W Z J → Run W Z K → Stamped W J → Stamped W K → length J < 10 ^ 64 → length K < 10 ^ 64 → journal_text J ≡ journal_text K → J ≡ K
