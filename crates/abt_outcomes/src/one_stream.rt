@@ -1,0 +1,36 @@
+//! Laws of runs of one stream.
+
+ghost use Rattle.std.specs.Prelude.{List};
+ghost use Rattle.abt_machine.specs.declared.operations.OrderShape.{OrderShape};
+ghost use Rattle.abt_machine.specs.declared.workload.Parts.{Parts};
+ghost use Rattle.abt_outcomes.specs.Laws.{EmptyRoundsEnd, StampsCount, StopsAreLast, StopsAreOne, StopsGrow, StopsHaveOutcomes};
+
+/// A run of one stream is stamped exactly where its stamps count its events.
+pub fn stamps_count()
+    ensures { (W : Parts) (Z : List OrderShape) → StampsCount W Z }
+{}
+
+/// Of one stream an empty round of the main scheduler leaves nothing to do.
+pub fn empty_rounds_end()
+    ensures { (W : Parts) (Z : List OrderShape) → EmptyRoundsEnd W Z }
+{}
+
+/// Of one stream a run that stops has an outcome.
+pub fn stops_have_outcomes()
+    ensures { (W : Parts) (Z : List OrderShape) → StopsHaveOutcomes W Z }
+{}
+
+/// Of one stream and without a free order there is one stamped run that goes to its stop, at most.
+pub fn stops_are_one()
+    ensures { (W : Parts) (Z : List OrderShape) → StopsAreOne W Z }
+{}
+
+/// A journal that has not stopped grows by one event, or goes to its stop by it.
+pub fn stops_grow()
+    ensures { (W : Parts) → StopsGrow W }
+{}
+
+/// A journal stops by its last event.
+pub fn stops_are_last()
+    ensures { (W : Parts) → StopsAreLast W }
+{}
