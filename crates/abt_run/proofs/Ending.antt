@@ -27,25 +27,19 @@ use Rattle.abt_machine.specs.Words.{Text}
 use Rattle.abt_laws.specs.Laws.{IsMiss}
 use Rattle.abt_report.specs.Pictures.{units_of}
 use Rattle.abt_report.specs.declared.pictures.Row.{Row}
-use Rattle.abt_run.specs.Runs.{EndsRound, GoesToItsStop, HasEmptyRound, IsTheRun}
-use Rattle.abt_run.specs.Going.{At, alone, CountedFrom, HasNoMiss, Comes, IsGoing, HasRun, next_event}
+use Rattle.abt_run.specs.Runs.{IsTheRun}
+use Rattle.abt_bounds.specs.Laws.{HasNoFreeOrder}
+use Rattle.abt_outcomes.specs.OneStream.{CountedFrom, EndsRound, GoesToItsStop, HasEmptyRound}
+use Rattle.abt_outcomes.proofs.Counted.{counted-stamped}
+use Rattle.abt_outcomes.proofs.Determined.{LeavesNoChoice, only-run}
+use Rattle.abt_run.specs.Going.{At, alone, HasNoMiss, Comes, IsGoing, HasRun, next_event}
 use Rattle.abt_laws.proofs.SoundRuns.{runs-are-sound}
 use Rattle.abt_laws.proofs.LifeRuns.{runs-live}
 use Rattle.abt_laws.proofs.RunParts.{last_state-sound}
 use Rattle.abt_run.specs.Built.{built_parts}
 use Rattle.abt_run.proofs.Single.{due-at, single, standing-at, ends, misses}
-use Rattle.abt_run.proofs.Counted.{counted-stamped}
-use Rattle.abt_run.proofs.Determined.{HasOneOrder, LeavesNoChoice, only-run}
 use Rattle.abt_run.proofs.Running.{comes-on, no-miss-more}
 use Rattle.abt_run.proofs.Spending.{not-spent-before, steps-alone}
-
--- the only scheduler has one order, and no other is declared
-order-is : (units : List UnitPart) (words : List Text) (g r : ℕ) (order : List ℕ) → IsOrder (built_parts units words) [] g r order → order ≡ 0 ∷ []
-order-is units words zero r order is = is
-order-is units words (suc g) r order is = absurd is
-
-pub one-order : (units : List UnitPart) (words : List Text) → HasOneOrder (built_parts units words) []
-one-order units words g r one two a b = order-is units words g r one a ∙ sym (order-is units words g r two b)
 
 head-is : {A : Type 0} {x y : A} {xs ys : List A} → x ∷ xs ≡ y ∷ ys → x ≡ y
 head-is e = cc
@@ -140,11 +134,15 @@ orders-stored : (units : List UnitPart) (words : List Text) → OrdersStored (bu
 orders-stored units words zero k is = cc
 orders-stored units words (suc g) k is = cc
 
+no-free : (units : List UnitPart) (words : List Text) → HasNoFreeOrder (built_parts units words) []
+no-free units words zero k is free = cc
+no-free units words (suc g) k is free = cc
+
 -- of a valid workload there is no other run
 no-choice : (units : List UnitPart) (words : List Text) → IsValid (built_parts units words) → LeavesNoChoice (built_parts units words) []
 no-choice units words valid = record {
   one_stream = refl;
-  one_order = one-order units words;
+  no_free = no-free units words;
   sound = λ J run. last_state-sound (built_parts units words) [] J (runs-are-sound (built_parts units words) []) valid (orders-stored units words) run;
 }
 

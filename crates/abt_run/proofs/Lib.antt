@@ -2,7 +2,6 @@ pub mod Asking
 pub mod BuiltWorkloads
 pub mod Complete
 pub mod Counted
-pub mod Determined
 pub mod Ending
 pub mod Preparing
 pub mod Running

@@ -15,7 +15,7 @@ use Rattle.abt_machine.specs.Runs.{Run, last_state}
 use Rattle.abt_machine.specs.Start.{start}
 use Rattle.abt_machine.specs.State.{State}
 use Rattle.abt_laws.proofs.RunParts.{run-rest}
-use Rattle.abt_run.specs.Going.{CountedFrom}
+use Rattle.abt_outcomes.specs.OneStream.{CountedFrom}
 
 -- where a step is due, no other event may come
 step-due : (W : Parts) (Z : List OrderShape) (S : State) (s : ℕ) (w : What) → May W Z S s w → due W S s ≡ StepDue → is_step w ≡ true

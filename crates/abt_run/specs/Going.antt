@@ -1,5 +1,5 @@
 -- What holds of the journal and the state while the one unit of a workload runs.
-use Rattle.std.specs.Prelude.{ℕ, suc, ◌≡◌, ◌≢◌, ◌+◌, Bool, true, false, List, [], ◌∷◌, length, None}
+use Rattle.std.specs.Prelude.{ℕ, ◌≡◌, ◌≢◌, ◌+◌, Bool, true, false, List, [], ◌∷◌, length, None}
 use Rattle.abt_machine.specs.declared.events.Event.{Event}
 use Rattle.abt_machine.specs.declared.events.Place.{Place}
 use Rattle.abt_machine.specs.declared.events.Place.TheVariants as place
@@ -15,6 +15,7 @@ use Rattle.abt_machine.specs.Texts.{shown_units}
 use Rattle.abt_laws.specs.Laws.{IsMiss}
 use Rattle.abt_report.specs.Pictures.{units_of}
 use Rattle.abt_report.specs.declared.pictures.Row.{Row}
+use Rattle.abt_outcomes.specs.OneStream.{CountedFrom}
 use Rattle.abt_run.specs.Runs.{IsTheRun}
 
 -- the stream before round r, the round before having ended empty or not
@@ -36,11 +37,6 @@ pub record At (S : State) (p : Place) (c : Carried) (own : Stream) : Type 0 wher
 -- the next event of a journal of stream 0
 abbrev pub next_event : List Event → What → Event
 next_event J w = record { stamp = length J + 1; stream = stream_no 0; what = w }
-
--- all events are of stream 0, and their stamps are t, t + 1 and so on
-abbrev pub CountedFrom : ℕ → List Event → Type 0
-CountedFrom t [] = Unit {0}
-CountedFrom t (e ∷ es) = (e.stamp ≡ t) × (e.stream ≡ stream_no 0) × CountedFrom (suc t) es
 
 -- no event is a miss
 abbrev pub HasNoMiss : List Event → Type 0
