@@ -1,3 +1,4 @@
+pub mod Crosses
 pub mod Finds
 mod Halves
 pub mod Kept
