@@ -3,11 +3,14 @@
 ghost use Rattle.std.specs.Prelude.{◌≡◌, ◌<◌, IfOk};
 
 use crate::Pool;
+use abt_chain::Chain;
 use abt_machine::{Kind, Side, UnitNo, Want};
 use abt_sample::unit;
 use abt_unit::Unit;
 use std::alloc::Global;
 use std::test::Fail;
+use std::thread;
+use std::thread::Threads;
 
 fn number(unit: Option<Box<Unit>>) -> Option<u32> {
     Some(unit?.number().0)
@@ -70,5 +73,24 @@ fn units_are_found_and_removed_by_number(rt: HostRuntime) -> Result<(), Fail> {
     for wanted in [2, 0, 1] {
         assert_eq!(rt; number(pool.take(Side::Front)), Some(wanted));
     }
+    Ok(())
+}
+
+// The value, after another thread had it.
+fn there_and_back<R: Threads, T: Send + Drop>(rt: &R, value: T) -> T
+    ensures { result ≡ value }
+{
+    thread::join(rt, move || value, || ()).0
+}
+
+#[test]
+fn units_chains_and_pools_go_to_other_threads(rt: HostRuntime) -> Result<(), Fail> {
+    let unit = there_and_back(&rt, unit(rt.alloc(), 2, 0)?);
+    let mut chain = Chain::new();
+    chain.push_back(unit);
+    let mut chain = there_and_back(&rt, chain);
+    assert_eq!(rt; number(chain.take_front()), Some(2));
+    let mut pool = there_and_back(&rt, pool_of_four(rt.alloc(), Kind::Fifo)?);
+    assert_eq!(rt; number(pool.take(Side::Front)), Some(2));
     Ok(())
 }
