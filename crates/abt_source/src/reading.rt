@@ -45,7 +45,9 @@ pub trait Files {
         ensures left { OnOk result (left self.new ≡ file self.old name.now) }
         ensures nothing { OnErr result (NothingLeft (left self.new)) }
         ensures later { faults self.old ≤ faults self.new }
-        ensures cause { IsErrOf result NotFetched.Failed → Rose (faults self.old) (faults self.new) };
+        ensures cause { IsErrOf result NotFetched.Failed → Rose (faults self.old) (faults self.new) }
+        ensures quiet { OnOk result (faults self.new ≡ faults self.old) }
+        ensures memory { IsErrOf result NotFetched.Memory → faults self.new ≡ faults self.old };
 
     /// Gives the next bytes, and none only at the end.
     fn read(&mut self, into: &mut [u8]) -> Result<usize, Failed>
@@ -54,7 +56,8 @@ pub trait Files {
         ensures bound { IfOk result (λ n. n ≤ length into.new) }
         ensures gives { ReadGives (left self.old) (left self.new) result into.new }
         ensures later { faults self.old ≤ faults self.new }
-        ensures cause { OnErr result (Rose (faults self.old) (faults self.new)) };
+        ensures cause { OnErr result (Rose (faults self.old) (faults self.new)) }
+        ensures quiet { OnOk result (faults self.new ≡ faults self.old) };
 }
 
 // How many bytes one read asks for at most.
@@ -77,6 +80,7 @@ pub fn read_all<F: Files>(
     // After a failure, or where memory ran out, an end of the file is left.
     ensures stands { OnErr result (LeavesAnEnd (F.file files.old name.now) (F.left files.new)) }
     ensures cause { IsErrOf result NotFetched.Failed → Rose (F.faults files.old) (F.faults files.new) }
+    ensures memory { IsErrOf result NotFetched.Memory → F.faults files.new ≡ F.faults files.old }
 
     ensures file { (n : List ℕ) → F.file files.new n ≡ F.file files.old n }
     ensures later { F.faults files.old ≤ F.faults files.new }

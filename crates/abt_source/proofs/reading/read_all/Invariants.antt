@@ -8,6 +8,7 @@ invariant-loop-piece g l = record {
   file : (n : List ℕ) → g.F.Files.file l.files n ≡ g.F.Files.file l.fn.files n;
   split : IsSplit (g.F.Files.file l.fn.files l.name) l.bytes.items (g.F.Files.left l.files);
   later : g.F.Files.faults l.fn.files ≤ g.F.Files.faults l.files;
+  quiet : g.F.Files.faults l.files ≡ g.F.Files.faults l.fn.files;
 }
 
 abbrev pub decreases-loop-piece : goal.decreases-loop-piece

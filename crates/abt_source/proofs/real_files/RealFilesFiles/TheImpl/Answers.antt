@@ -10,6 +10,8 @@ begin-tells g c =
       nothing = untold.1;
       later = begin_later c.result c.args.self.now c.new.self.now c.ensures.ok c.ensures.failed c.ensures.memory;
       cause = λ failed. next_count-Rose c.args.self.now c.new.self.now (c.ensures.failed failed);
+      quiet = c.ensures.ok;
+      memory = c.ensures.memory;
     }
 
 pub read-tells : goal.read-tells
@@ -19,4 +21,5 @@ read-tells g c = record {
   gives = untold_read c.result c.new.into.now;
   later = later c.result c.args.self.now c.new.self.now c.ensures.ok c.ensures.failed;
   cause = cause c.result c.args.self.now c.new.self.now c.ensures.failed;
+  quiet = c.ensures.ok;
 }
