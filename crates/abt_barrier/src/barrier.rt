@@ -66,6 +66,13 @@ impl Barrier {
         Arrival::Through(unit, mem::replace(&mut self.waiters, Chain::new()))
     }
 
+    /// All units that wait, in order.
+    pub fn into_units(self) -> Chain
+        ensures { result.units ≡ self.waiters }
+    {
+        self.waiters
+    }
+
     /// The waiter of that number. The time is that of a walk over those that wait.
     pub fn waiter(&self, u: UnitNo) -> Option<&Unit>
         ensures found { IfSome result (λ unit. find (is_unit u.0) self.now.waiters ≡ Some unit.now.owned) }

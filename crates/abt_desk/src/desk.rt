@@ -12,6 +12,7 @@ ghost use Rattle.abt_machine.specs.Desks.{DeskGives, ended_in, suspended_in, unb
 ghost use Rattle.abt_machine.specs.Pools.{is_unit};
 ghost use Rattle.abt_machine.specs.Values.{Ended, Out, Owned, Suspended, Unborn};
 ghost use Rattle.abt_unit.specs.Units.{IsFree};
+ghost use Rattle.abt_desk.specs.Phases.{behind_in, phase_of, shown_in, shown_unit};
 
 use abt_chain::Chain;
 use abt_machine::{Cause, Code, PoolNo, Shown, UnitNo};
@@ -265,6 +266,15 @@ impl Desk {
         }
     }
 
+    /// The unit that the desk holds, with how a report shows it, and all joiners in order. No unit where the desk is out.
+    pub fn into_units(self) -> (Option<(Shown, Box<Unit>)>, Chain)
+        ensures own { option_map shown_unit result.0 ≡ shown_in self.phase }
+        ensures free { IfSome result.0 (λ held. IsFree held.1.value) }
+        ensures joiners { result.1.units ≡ self.joiners }
+    {
+        (shown_in(self.phase), self.joiners)
+    }
+
     /// The first joiner of that number. None where there is none.
     pub fn joiner(&self, u: UnitNo) -> Option<&Unit>
         ensures none { IfNone result (find (is_unit u.0) self.now.joiners ≡ None) }
@@ -302,6 +312,20 @@ impl Desk {
             cancel: false,
             migrate: None,
         };
+    }
+}
+
+// The unit that is held, with how a report shows it.
+fn shown_in(phase: Phase) -> Option<(Shown, Box<Unit>)>
+    requires { behind_in phase ≡ [] }
+    ensures own { option_map shown_unit result ≡ shown_in (phase_of phase) }
+    ensures free { IfSome result (λ held. IsFree held.1.value) }
+{
+    match phase {
+        Phase::Unborn(unit) => Some((Shown::Unborn, unit)),
+        Phase::Out => None,
+        Phase::Suspended(unit) => Some((Shown::Suspended, unit)),
+        Phase::Ended(unit, cause) => Some((Shown::Ended(cause), unit)),
     }
 }
 

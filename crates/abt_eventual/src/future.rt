@@ -103,6 +103,13 @@ impl Future {
         self.is_ready()
     }
 
+    /// All units that wait, in order.
+    pub fn into_units(self) -> Chain
+        ensures { result.units ≡ self.waiters }
+    {
+        self.waiters
+    }
+
     /// The first unit of that number among those that wait. The time is that of a walk over them.
     pub fn waiter(&self, u: UnitNo) -> Option<&Unit>
         ensures found { IfSome result (λ unit. find (is_unit u.0) self.now.waiters ≡ Some unit.now.owned) }

@@ -6,7 +6,7 @@ ghost use Rattle.std.specs.Option.{ForSome};
 ghost use Rattle.std.specs.declared.alloc.Global.{Global};
 ghost use Rattle.abt_machine.specs.declared.events.Code.TheVariants as code;
 ghost use Rattle.abt_machine.specs.Acts.{Back, Broadcast, Coded, Given, Load, Lock, Number, Rested, Signal, Store, TryLock, Unlock, Wait};
-ghost use Rattle.abt_machine.specs.Monitors.{MonitorGives, at_condition, handed_over};
+ghost use Rattle.abt_machine.specs.Monitors.{MonitorGives, at_condition, handed_over, with_condition};
 ghost use Rattle.abt_machine.specs.Pools.{is_unit};
 ghost use Rattle.abt_machine.specs.Queues.{first};
 ghost use Rattle.abt_unit.specs.Units.{IsFree, UnitValue};
@@ -17,6 +17,7 @@ use abt_machine::{Code, UnitNo, Want};
 use abt_unit::Unit;
 use std::alloc::Global;
 use std::marker::Model;
+use std::mem;
 
 /// A mutex with its owner, the number that it guards, the units that wait for it, and those that wait at its conditions,
 /// which are numbered from 0.
@@ -180,6 +181,24 @@ impl Monitor {
         match cond {
             None => self.waiters.find(u),
             Some(cond) => self.conds[cond as usize].find(u),
+        }
+    }
+
+    /// Takes out, in order, all units that wait for the mutex, or at the condition that is given: none where there is no
+    /// condition of that number.
+    pub fn take_waiters(&mut self, cond: Option<u32>) -> Chain
+        ensures mutex { IfNone cond (result.units ≡ self.old.waiters) }
+        ensures mutex_left { IfNone cond (self.new ≡ record self.old { waiters = [] }) }
+        ensures condition { IfSome cond (λ cond. result.units ≡ at_condition cond self.old) }
+        ensures condition_left { IfSome cond (λ cond. self.new ≡ with_condition cond [] self.old) }
+    {
+        let Some(cond) = cond else {
+            return mem::replace(&mut self.waiters, Chain::new());
+        };
+        if (cond as usize) < self.conds.len() {
+            self.conds[cond as usize].take_all()
+        } else {
+            Chain::new()
         }
     }
 

@@ -9,6 +9,7 @@ use abt_chain::Chain;
 use abt_machine::UnitNo;
 use abt_unit::Unit;
 use std::marker::Model;
+use std::mem;
 
 /// The units that wait at one condition, which contracts see as their list.
 #[derive(Drop)]
@@ -47,6 +48,13 @@ impl Waiters {
         ensures free { IfSome result (λ unit. IsFree unit.value) }
     {
         self.units.take_front()
+    }
+
+    pub fn take_all(&mut self) -> Chain
+        ensures all { result.units ≡ self.old }
+        ensures none_left { self.new ≡ [] }
+    {
+        mem::replace(&mut self.units, Chain::new())
     }
 
     pub fn drain_into(&mut self, other: &mut Chain)

@@ -76,6 +76,13 @@ impl Pool {
         self.units.remove(u)
     }
 
+    /// All units, in order.
+    pub fn into_units(self) -> Chain
+        ensures { result.units ≡ self.units }
+    {
+        self.units
+    }
+
     /// The first unit of that number. The time is that of a walk over the pool.
     pub fn find(&self, u: UnitNo) -> Option<&Unit>
         ensures found { IfSome result (λ unit. find (is_unit u.0) self.now.units ≡ Some unit.now.owned) }

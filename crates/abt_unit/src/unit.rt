@@ -12,9 +12,10 @@ ghost use Rattle.abt_unit.specs.Fits.{Fits};
 ghost use Rattle.abt_unit.specs.Local.{IsLocal, NamesKeyBelow, after_local, back, local_step, local_step_at};
 ghost use Rattle.abt_unit.specs.Units.{IsFree};
 
-use abt_machine::{Code, Op, Piece, PoolNo, UnitNo, Want, Workload};
+use abt_machine::{Code, Op, Output, Piece, PoolNo, UnitNo, Want, Workload};
 use std::alloc::Global;
 use std::marker::Model;
+use std::mem;
 
 /// What a unit carries, with room for pieces of output that was taken ahead.
 #[derive(Drop)]
@@ -129,6 +130,15 @@ impl Unit {
         ensures { result.now ≡ self.now.owned.carried.output }
     {
         self.body.output.as_slice()
+    }
+
+    /// What the unit has said and printed in all of its lives, moved out of it.
+    pub fn into_output(mut self) -> Output
+        ensures { result ≡ self.owned.carried.output }
+    {
+        let output = &mut self.body.output;
+        let empty = Vec::new(*output.allocator());
+        Output::new(mem::replace(output, empty))
     }
 
     /// The value of a key.
