@@ -1,8 +1,7 @@
 -- The event that comes first of all streams is found stream by stream.
-use Rattle.std.proofs.Common.{◌≡◌, ◌≢◌, ℕ, ◌+◌, ◌<◌, ◌≤◌, List, Option, Some, None, cond, Bool, true, false, nat_le, refl, sym, ◌∙◌, ap, subst, inl, inr, arith, ◌⊎◌}
+use Rattle.std.proofs.Common.{◌≡◌, ◌≢◌, ℕ, ◌+◌, ◌<◌, ◌≤◌, List, Option, Some, None, nat_le, sym, ◌∙◌, ap, subst, inl, inr, arith}
 use Rattle.std.proofs.lemmas.Bool.{cond-true, cond-false, le-leb, lt-leb, cases_lt, cases_eq}
 use Rattle.abt_machine.specs.declared.events.Event.{Event}
-use Rattle.abt_interleave.specs.Logs.{IsSooner}
 use Rattle.abt_merge.specs.Heads.{next_stamp, IsAhead, IsFirst, AreUsedUp, FirstOf, sooner_of}
 
 -- below n + 1, and not n

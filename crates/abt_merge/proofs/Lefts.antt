@@ -1,5 +1,5 @@
 -- What is left of the logs, event by event.
-use Rattle.std.proofs.Common.{◌≡◌, ◌≢◌, ℕ, suc, ◌+◌, ◌-◌, ◌<◌, ◌≤◌, List, [], ◌∷◌, ◌++◌, All, Option, Some, None, length, get_or, set, drop, refl, sym, ◌∙◌, ap, subst, inl, inr, arith, ◌⊎◌, zero, add-one}
+use Rattle.std.proofs.Common.{◌≡◌, ℕ, suc, ◌+◌, ◌<◌, ◌≤◌, List, [], ◌∷◌, ◌++◌, All, Option, Some, None, length, get_or, set, drop, refl, sym, ◌∙◌, ap, subst, inl, inr, arith, zero}
 use Rattle.std.proofs.Math.Seq.{drop-cons, drop-nil}
 use Rattle.std.proofs.lemmas.Bool.{cases_lt}
 use Rattle.std.proofs.lemmas.List.{get_or_past, get_or_default, length-set, drop_all, get_or-set_same, get_or-set_other}
@@ -8,8 +8,8 @@ use Rattle.std.proofs.lemmas.List.Elements.{All-get_or}
 use Rattle.std.specs.Prelude.{slice_get, option_map}
 use Rattle.abt_machine.specs.declared.events.Event.{Event}
 use Rattle.abt_interleave.specs.Logs.{IsSooner}
-use Rattle.abt_interleave.specs.Merges.{IsMerging, IsMergeOf}
-use Rattle.abt_interleave.proofs.HalfMerged.{merging-begins, merging-goes-on, merging-ends}
+use Rattle.abt_interleave.specs.Merges.{IsMerging}
+use Rattle.abt_interleave.proofs.HalfMerged.{merging-goes-on, merging-ends}
 use Rattle.abt_simulation.specs.Journals.{MergesTo}
 use Rattle.abt_merge.specs.Logs.{log_of, AreLogs}
 use Rattle.abt_merge.specs.Heads.{left_of, next_stamp, count_left, IsAhead, IsFirst, AreUsedUp}

@@ -1,5 +1,4 @@
 -- So far the first event of the streams before is known.
-use Rattle.std.proofs.Common.{length}
 use Rattle.abt_merge.specs.Heads.{FirstOf}
 use Rattle.abt_merge.proofs.heads.first.Given as goal
 
