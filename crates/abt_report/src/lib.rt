@@ -17,4 +17,4 @@ pub use journals::journal_text;
 pub use not_journal::NotJournal;
 pub use pictures::{Picture, Row};
 pub use reading::read_journal;
-pub use reports::{report, short_report};
+pub use reports::{append_report, report, short_report};

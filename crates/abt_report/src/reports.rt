@@ -143,7 +143,22 @@ fn push_end(out: &mut Vec<u8>, rows: &[Row], outcome: Outcome, steps: u64) -> Re
     Ok(())
 }
 
-/// The report of a run after so many steps: a line for each unit of the picture, the tally, and how the run ended.
+/// Appends the report of a run after so many steps: a line for each unit of the picture, the tally, and how the run ended.
+pub fn append_report(
+    out: &mut Vec<u8>,
+    w: &Workload,
+    picture: &Picture,
+    outcome: Outcome,
+    steps: u64,
+) -> Result<(), Want>
+    requires words { All (SaysWordsOf w.now) picture.now }
+    ensures { OnOk result (out.new.items ≡ out.old.items ++ report_of w.now (units_of picture.now) steps outcome) }
+{
+    push_units(out, w, picture.items())?;
+    push_end(out, picture.items(), outcome, steps)
+}
+
+/// The report alone.
 pub fn report(
     alloc: Global,
     w: &Workload,
@@ -155,8 +170,7 @@ pub fn report(
     ensures { IfOk result (λ text. text.items ≡ report_of w.now (units_of picture.now) steps outcome) }
 {
     let mut out = Vec::new(alloc);
-    push_units(&mut out, w, picture.items())?;
-    push_end(&mut out, picture.items(), outcome, steps)?;
+    append_report(&mut out, w, picture, outcome, steps)?;
     Ok(out)
 }
 
