@@ -70,7 +70,8 @@ impl Barrier {
     pub fn into_units(self) -> Chain
         ensures { result.units ≡ self.waiters }
     {
-        self.waiters
+        let Barrier { waiters, .. } = self;
+        waiters
     }
 
     /// The waiter of that number. The time is that of a walk over those that wait.

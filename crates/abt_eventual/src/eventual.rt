@@ -93,7 +93,8 @@ impl Eventual {
     pub fn into_units(self) -> Chain
         ensures { result.units ≡ self.waiters }
     {
-        self.waiters
+        let Eventual { value: _, waiters } = self;
+        waiters
     }
 
     /// The first unit of that number among those that wait. The time is that of a walk over them.

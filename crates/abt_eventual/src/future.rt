@@ -107,7 +107,8 @@ impl Future {
     pub fn into_units(self) -> Chain
         ensures { result.units ≡ self.waiters }
     {
-        self.waiters
+        let Future { waiters, .. } = self;
+        waiters
     }
 
     /// The first unit of that number among those that wait. The time is that of a walk over them.

@@ -80,7 +80,8 @@ impl Pool {
     pub fn into_units(self) -> Chain
         ensures { result.units ≡ self.units }
     {
-        self.units
+        let Pool { kind: _, units } = self;
+        units
     }
 
     /// The first unit of that number. The time is that of a walk over the pool.
