@@ -1,0 +1,152 @@
+-- Seats are dealt to passes.
+use Rattle.std.proofs.Common.{◌≡◌, ℕ, suc, ◌+◌, ◌<◌, ◌≤◌, List, [], ◌∷◌, ◌++◌, reverse, set, length, get_or, refl, sym, ◌∙◌, ap, subst, arith, inl, inr, length-append, length-set, append_assoc}
+use Rattle.std.specs.Prelude.{vec_capacity}
+use Rattle.std.specs.List.{All}
+use Rattle.std.proofs.Math.Seq.{get_or-append_seam}
+use Rattle.std.proofs.lemmas.Bool.Decides.{eqb_tells}
+use Rattle.std.proofs.lemmas.List.{get_or-set_same, get_or-set_other, get_or_default, get_or_append_left, reverse-append}
+use Rattle.std.proofs.lemmas.List.Elements.{All-nil, All-cons, All-append}
+use Rattle.abt_booth.specs.declared.booth.Booth.{Booth}
+use Rattle.abt_booth.specs.Seats.{AreNewSeatsOf, IsSeatOf, number_of, seen_of}
+use Rattle.abt_commons.specs.declared.acts.Act.{Act}
+use Rattle.abt_commons.specs.declared.acts.Answer.{Answer}
+use Rattle.abt_commons.specs.declared.split.SplitPass.{SplitPass}
+use Rattle.abt_commons.specs.AllPasses.{AreAll}
+use Rattle.abt_commons.specs.Held.{OneValue}
+use Rattle.abt_commons.specs.Locking.{AreDealt, Gets, HaveGot, IsDealt}
+use Rattle.abt_commons.specs.Parting.{SiteSeat}
+use Rattle.abt_commons.specs.Splits.{AreSeats, HasSeenNothing, IsPassOf, SplitValue, stream_of}
+
+abbrev pub SiteBooth : Type 0
+SiteBooth = Booth OneValue Act Answer
+
+-- A seat goes to the pass of its number.
+
+-- the last of the seats that are left
+pub gets-last : (booth : SiteBooth) (all now rest : List SiteSeat) (seat : SiteSeat) → AreNewSeatsOf booth all → all ≡ (now ++ seat ∷ []) ++ rest
+    → IsSeatOf booth seat × (number_of seat ≡ length now) × (seen_of seat ≡ [])
+gets-last booth all now rest seat new is =
+    let split : all ≡ now ++ seat ∷ rest = is ∙ append_assoc now (seat ∷ []) rest in
+    let here : get_or all (length now) seat ≡ seat = ap (λ xs. get_or xs (length now) seat) split ∙ get_or-append_seam now seat rest seat in
+    let many : length all ≡ length now + suc (length rest) = ap length split ∙ length-append now (seat ∷ rest) in
+    let lt : length now < length all = omega (arith, many) in (
+      subst (IsSeatOf booth) here (new.each (length now) seat lt),
+      subst (λ s. number_of s ≡ length now) here (new.in_order (length now) seat lt),
+      subst (λ s. seen_of s ≡ []) here (new.fresh (length now) seat lt),
+    )
+
+module _ (booth : SiteBooth) (old : List SplitPass) where
+  pub got-none : (n : ℕ) → n ≡ length old → HaveGot booth n old old
+  got-none n is = record { many = refl; got = λ k p q le lt. absurd (omega (arith, le, lt, is)); others = λ k p lt. refl }
+
+  pub got-more : (left : ℕ) (mid : List SplitPass) (q : SplitPass) → HaveGot booth (left + 1) old mid → left < length old → ((p : SplitPass) → Gets booth left (get_or old left p) q) → HaveGot booth left old (set mid left q)
+  got-more left mid q got lt gets = record {
+    many = length-set mid left q ∙ got.many;
+    got = λ k p r le less. elim (eqb_tells k left) [
+      | inl s ↦
+          let within : left < length mid = subst (λ n. left < n) (sym got.many) lt in
+          let now : q ≡ get_or (set mid left q) k r = sym (get_or-set_same mid left q r within) ∙ ap (λ j. get_or (set mid left q) j r) (sym s.1) in
+          subst (λ v. Gets booth k (get_or old k p) v) now (subst (λ j. Gets booth j (get_or old j p) q) (sym s.1) (gets p))
+      | inr s ↦
+          let more : left + 1 ≤ k = (let ne = s.1 in omega (arith, le, ne)) in
+          subst (λ v. Gets booth k (get_or old k p) v) (sym (get_or-set_other mid left k q r s.1)) (got.got k p r more less)
+    ];
+    others = λ k p less. get_or-set_other mid left k q p (λ e. omega (arith, less, e)) ∙ got.others k p (omega (arith, less));
+  }
+
+-- the pass of the last seat that is left gets it
+pub got-last : (booth : SiteBooth) (old mid : List SplitPass) (all now rest : List SiteSeat) (seat : SiteSeat) (left : ℕ) (d q : SplitPass) → AreNewSeatsOf booth all → all ≡ (now ++ seat ∷ []) ++ rest → length all ≡ length old
+    → left ≡ length now → HaveGot booth (left + 1) old mid → q.stream ≡ (get_or mid left d).stream → q.seats.items ≡ (get_or mid left d).seats.items ++ seat ∷ [] → vec_capacity q.seats ≡ vec_capacity (get_or mid left d).seats → HaveGot booth left old (set mid left q)
+got-last booth old mid all now rest seat left d q new is many at got stream more room =
+    let its = gets-last booth all now rest seat new is in
+    let n : length all ≡ length now + suc (length rest) = ap length (is ∙ append_assoc now (seat ∷ []) rest) ∙ length-append now (seat ∷ rest) in
+    let lt : left < length old = omega (arith, n, many, at) in
+    let in-mid : left < length mid = subst (λ m. left < m) (sym got.many) lt in
+    got-more booth old left mid q got lt (λ p.
+    (let was : get_or mid left d ≡ get_or old left p = get_or_default mid left d p in-mid ∙ got.others left p (omega arith) in
+    subst (λ v. Gets booth left v q) was (record { stream = stream; seat = seat; more = more; its = its.0; number = its.1 ∙ sym at; fresh = its.2; room = room })))
+
+-- One booth more, with a seat for each pass.
+
+module _ (booths : List SiteBooth) (booth : SiteBooth) (number : ℕ) where
+  seats-more : (seats : List SiteSeat) (seat : SiteSeat) → AreSeats number booths seats → IsSeatOf booth seat → number_of seat ≡ number → AreSeats number (booths ++ booth ∷ []) (seats ++ seat ∷ [])
+  seats-more seats seat have its is = record {
+    many = length-append seats (seat ∷ []) ∙ (ap (λ n. n + 1) have.many ∙ sym (length-append booths (booth ∷ [])));
+    own = λ i b s lt. elim (eqb_tells i (length booths)) [
+      | inl e ↦
+          let bo : booth ≡ get_or (booths ++ booth ∷ []) i b = sym (get_or-append_seam booths booth [] b) ∙ ap (λ j. get_or (booths ++ booth ∷ []) j b) (sym e.1) in
+          let se : seat ≡ get_or (seats ++ seat ∷ []) i s = sym (get_or-append_seam seats seat [] s) ∙ ap (λ j. get_or (seats ++ seat ∷ []) j s) (have.many ∙ sym e.1) in
+          subst (λ v. IsSeatOf v (get_or (seats ++ seat ∷ []) i s) × (number_of (get_or (seats ++ seat ∷ []) i s) ≡ number)) bo (subst (λ v. IsSeatOf booth v × (number_of v ≡ number)) se (its, is))
+      | inr e ↦
+          let many : length (booths ++ booth ∷ []) ≡ length booths + 1 = length-append booths (booth ∷ []) in
+          let less : i < length booths = (let ne = e.1 in omega (arith, lt, many, ne)) in
+          let less' : i < length seats = subst (λ n. i < n) (sym have.many) less in
+          subst (λ v. IsSeatOf v (get_or (seats ++ seat ∷ []) i s) × (number_of (get_or (seats ++ seat ∷ []) i s) ≡ number)) (sym (get_or_append_left booths (booth ∷ []) b i less))
+          (subst (λ v. IsSeatOf (get_or booths i b) v × (number_of v ≡ number)) (sym (get_or_append_left seats (seat ∷ []) s i less')) (have.own i b s less))
+    ];
+  }
+
+  dealt-by : (room : ℕ) (old new : SplitPass) → IsDealt booths (room + 1) number old → Gets booth number old new → IsDealt (booths ++ booth ∷ []) room number new
+  dealt-by room old new dealt gets = record {
+    stream = gets.stream ∙ dealt.stream;
+    seats = subst (AreSeats number (booths ++ booth ∷ [])) (sym gets.more) (seats-more old.seats.items gets.seat dealt.seats gets.its gets.number);
+    fresh = subst (λ seats. All (λ seat. seen_of seat ≡ []) seats) (sym gets.more)
+        (All-append (λ (seat : SiteSeat). seen_of seat ≡ []) old.seats.items (gets.seat ∷ []) dealt.fresh (All-cons (λ (seat : SiteSeat). seen_of seat ≡ []) gets.seat [] gets.fresh (All-nil (λ (seat : SiteSeat). seen_of seat ≡ []))));
+    room =
+        (let many : length new.seats.items ≡ length old.seats.items + 1 = ap length gets.more ∙ length-append old.seats.items (gets.seat ∷ []) in
+        let r = dealt.room in
+        let s = gets.room in
+        omega (arith, many, r, s));
+  }
+
+pub dealt-more : (booths : List SiteBooth) (booth : SiteBooth) (room n : ℕ) (old new : List SplitPass) → AreDealt booths (room + 1) n old → HaveGot booth 0 old new → AreDealt (booths ++ booth ∷ []) room n new
+dealt-more booths booth room n old new dealt got = record {
+  many = got.many ∙ dealt.many;
+  each = λ k pass lt. dealt-by booths booth k room (get_or old k pass) (get_or new k pass) (dealt.each k pass lt) (got.got k pass pass (omega arith) (subst (λ m. k < m) (sym dealt.many) lt));
+}
+
+-- a pass that is dealt for one more has room
+pub room-for-one : (booths : List SiteBooth) (room n : ℕ) (passes : List SplitPass) → AreDealt booths (room + 1) n passes → (k : ℕ) (pass : SplitPass) → k < length passes
+    → length (get_or passes k pass).seats.items < vec_capacity (get_or passes k pass).seats
+room-for-one booths room n passes dealt k pass lt =
+    let r = (dealt.each k pass (subst (λ m. k < m) dealt.many lt)).room in
+    omega (arith, r)
+
+-- the object that goes from the room into a booth stays where it is among all
+pub one-locked : (os room : List OneValue) (one : OneValue) → (os ++ one ∷ []) ++ reverse room ≡ os ++ reverse (room ++ one ∷ [])
+one-locked os room one = append_assoc os (one ∷ []) (reverse room) ∙ ap (λ xs. os ++ xs) (sym (reverse-append room (one ∷ [])))
+
+-- One pass more.
+
+module _ (room : ℕ) where
+  pub seatless-more : (passes : List SplitPass) (k : ℕ) (pass : SplitPass) → AreDealt [] room k passes → pass.stream ≡ k → pass.seats.items ≡ [] → room ≤ vec_capacity pass.seats → AreDealt [] room (k + 1) (passes ++ pass ∷ [])
+  seatless-more passes k pass dealt stream none place = record {
+    many = length-append passes (pass ∷ []) ∙ ap (λ n. n + 1) dealt.many;
+    each = λ j p lt. elim (eqb_tells j k) [
+      | inl e ↦
+          let here : pass ≡ get_or (passes ++ pass ∷ []) j p = sym (get_or-append_seam passes pass [] p) ∙ ap (λ i. get_or (passes ++ pass ∷ []) i p) (dealt.many ∙ sym e.1) in
+          let dealt-here : IsDealt [] room k pass = record {
+            stream = stream;
+            seats = subst (λ (seats : List SiteSeat). AreSeats k [] seats) (sym none) (record { many = refl; own = λ i b s less. absurd (omega (arith, less)) });
+            fresh = subst (λ (seats : List SiteSeat). All (λ seat. seen_of seat ≡ []) seats) (sym none) (All-nil (λ (seat : SiteSeat). seen_of seat ≡ []));
+            room = (let n : length pass.seats.items ≡ 0 = ap length none in omega (arith, n, place));
+          } in
+          subst (λ v. IsDealt [] room j v) here (subst (λ i. IsDealt [] room i pass) (sym e.1) dealt-here)
+      | inr e ↦
+          let less : j < k = (let ne = e.1 in omega (arith, lt, ne)) in
+          subst (λ v. IsDealt [] room j v) (sym (get_or_append_left passes (pass ∷ []) p j (subst (λ n. j < n) (sym dealt.many) less))) (dealt.each j p less)
+    ];
+  }
+
+-- passes that are dealt are those of a split
+pub dealt-passes : (split : SplitValue) (room n : ℕ) (passes : List SplitPass) → AreDealt split.booths room n passes → AreAll (IsPassOf split) stream_of n passes × All HasSeenNothing passes
+dealt-passes split room n passes dealt = (
+  record {
+    many = dealt.many;
+    each = λ k pass lt.
+        (let d = dealt.each k pass (subst (λ m. k < m) dealt.many lt) in
+        subst (λ s. AreSeats s split.booths (get_or passes k pass).seats.items) (sym d.stream) d.seats);
+    in_order = λ k pass lt. (dealt.each k pass (subst (λ m. k < m) dealt.many lt)).stream;
+  },
+  λ k pass lt. (dealt.each k pass (subst (λ m. k < m) dealt.many lt)).fresh,
+)

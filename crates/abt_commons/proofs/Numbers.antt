@@ -1,0 +1,138 @@
+-- The numbers of sites.
+use Rattle.std.proofs.Common.{◌≡◌, ◌≢◌, ℕ, zero, suc, ◌+◌, ◌-◌, ◌<◌, nat_lt, List, [], ◌∷◌, map, set, length, slice_get, replicate, Option, Some, None, refl, sym, ◌∙◌, ap, subst, arith, inl, inr}
+use Rattle.std.proofs.lemmas.Bool.{cond-true, cond-false, lt-ltb, le-ltb}
+use Rattle.std.proofs.lemmas.Option.{slice_get_within, slice_get_cases}
+use Rattle.abt_machine.specs.declared.events.Site.{Site}
+use Rattle.abt_machine.specs.declared.events.Site.TheVariants as site
+use Rattle.abt_machine.specs.declared.numbers.ObjectNo.{ObjectNo}
+use Rattle.abt_machine.specs.declared.operations.Thing.{Thing}
+use Rattle.abt_machine.specs.declared.operations.Thing.TheVariants as thing
+use Rattle.abt_machine.specs.declared.workload.Parts.{Parts}
+use Rattle.abt_machine.specs.Numbers.{pool_no, unit_no}
+use Rattle.abt_machine.specs.Workloads.{thing_at}
+use Rattle.abt_laws.proofs.Options.{none≢some, some-injective}
+use Rattle.abt_calls.specs.Asking.{IsSite}
+use Rattle.abt_commons.specs.Sites.{sites, site_at, site_of, site_number, thing_number, declared_number, monitor_number, eventual_number, future_number, barrier_number}
+
+module _ (W : Parts) where
+  abbrev before : ℕ
+  before = length W.pools + length W.units
+
+  pub pool-there : (p : ℕ) → p < length W.pools → site_at W p ≡ Some (site.Pool (pool_no p))
+  pool-there p lt = cond-true (nat_lt p (length W.pools)) _ _ (lt-ltb p (length W.pools) lt)
+
+  pub desk-there : (u : ℕ) → u < length W.units → site_at W (length W.pools + u) ≡ Some (site.Desk (unit_no u))
+  desk-there u lt =
+      let e : length W.pools + u - length W.pools ≡ u = omega arith in
+      cond-false (nat_lt (length W.pools + u) (length W.pools)) _ _ (le-ltb (length W.pools + u) (length W.pools) (omega arith))
+      ∙ (cond-true (nat_lt (length W.pools + u) before) _ _ (lt-ltb (length W.pools + u) before (omega (arith, lt)))
+      ∙ ap (λ n. Some (site.Desk (unit_no n))) e)
+
+  pub thing-there : (x : ℕ) (t : Option Thing) → thing_at W x ≡ t → site_at W (thing_number W x) ≡ site_of x t
+  thing-there x t is =
+      let e : thing_number W x - before ≡ x = omega arith in
+      cond-false (nat_lt (thing_number W x) (length W.pools)) _ _ (le-ltb (thing_number W x) (length W.pools) (omega arith))
+      ∙ (cond-false (nat_lt (thing_number W x) before) _ _ (le-ltb (thing_number W x) before (omega arith))
+      ∙ (ap (λ n. site_of n (thing_at W n)) e ∙ ap (site_of x) is))
+
+  -- it is a number, and that of the site
+  abbrev Numbers : Site → ℕ → Type 0
+  Numbers x i = (i < sites W) × (site_at W i ≡ Some x)
+
+  declared-by : {Part : Type 0} (x : Site) (k i : ℕ) (part : Option Part) → ((t : Part) → part ≡ Some t → Numbers x k) → declared_number k part ≡ Some i → Numbers x i
+  declared-by x k i (Some t) there is = subst (Numbers x) (some-injective is) (there t refl)
+  declared-by x k i None there is = absurd (none≢some is)
+
+  thing-numbered : (x : ObjectNo) (y : Site) (i : ℕ) (t : Thing) → thing_at W x.0 ≡ Some t → site_of x.0 (Some t) ≡ Some y → Some (thing_number W x.0) ≡ Some i → Numbers y i
+  thing-numbered x y i t is there e =
+      let lt = slice_get_within W.objects x.0 t is in
+      subst (Numbers y) (some-injective e) (omega (arith, lt), thing-there x.0 (Some t) is ∙ there)
+
+  monitor-by : (x : ObjectNo) (i : ℕ) (t : Option Thing) → thing_at W x.0 ≡ t → monitor_number (thing_number W x.0) t ≡ Some i → Numbers (site.Monitor x) i
+  monitor-by x i None is e = absurd (none≢some e)
+  monitor-by x i (Some thing.Mutex) is e = thing-numbered x (site.Monitor x) i thing.Mutex is refl e
+  monitor-by x i (Some (thing.Cond m)) is e = absurd (none≢some e)
+  monitor-by x i (Some thing.Eventual) is e = absurd (none≢some e)
+  monitor-by x i (Some (thing.Future n c)) is e = absurd (none≢some e)
+  monitor-by x i (Some (thing.Barrier n)) is e = absurd (none≢some e)
+
+  eventual-by : (x : ObjectNo) (i : ℕ) (t : Option Thing) → thing_at W x.0 ≡ t → eventual_number (thing_number W x.0) t ≡ Some i → Numbers (site.Eventual x) i
+  eventual-by x i None is e = absurd (none≢some e)
+  eventual-by x i (Some thing.Mutex) is e = absurd (none≢some e)
+  eventual-by x i (Some (thing.Cond m)) is e = absurd (none≢some e)
+  eventual-by x i (Some thing.Eventual) is e = thing-numbered x (site.Eventual x) i thing.Eventual is refl e
+  eventual-by x i (Some (thing.Future n c)) is e = absurd (none≢some e)
+  eventual-by x i (Some (thing.Barrier n)) is e = absurd (none≢some e)
+
+  future-by : (x : ObjectNo) (i : ℕ) (t : Option Thing) → thing_at W x.0 ≡ t → future_number (thing_number W x.0) t ≡ Some i → Numbers (site.Future x) i
+  future-by x i None is e = absurd (none≢some e)
+  future-by x i (Some thing.Mutex) is e = absurd (none≢some e)
+  future-by x i (Some (thing.Cond m)) is e = absurd (none≢some e)
+  future-by x i (Some thing.Eventual) is e = absurd (none≢some e)
+  future-by x i (Some (thing.Future n c)) is e = thing-numbered x (site.Future x) i (thing.Future n c) is refl e
+  future-by x i (Some (thing.Barrier n)) is e = absurd (none≢some e)
+
+  barrier-by : (x : ObjectNo) (i : ℕ) (t : Option Thing) → thing_at W x.0 ≡ t → barrier_number (thing_number W x.0) t ≡ Some i → Numbers (site.Barrier x) i
+  barrier-by x i None is e = absurd (none≢some e)
+  barrier-by x i (Some thing.Mutex) is e = absurd (none≢some e)
+  barrier-by x i (Some (thing.Cond m)) is e = absurd (none≢some e)
+  barrier-by x i (Some thing.Eventual) is e = absurd (none≢some e)
+  barrier-by x i (Some (thing.Future n c)) is e = absurd (none≢some e)
+  barrier-by x i (Some (thing.Barrier n)) is e = thing-numbered x (site.Barrier x) i (thing.Barrier n) is refl e
+
+  numbered : (x : Site) (i : ℕ) → site_number W x ≡ Some i → Numbers x i
+  numbered (site.Pool p) i = declared-by (site.Pool p) p.0 i (slice_get W.pools p.0)
+      (λ t is. (let lt = slice_get_within W.pools p.0 t is in omega (arith, lt), pool-there p.0 (slice_get_within W.pools p.0 t is)))
+  numbered (site.Desk u) i = declared-by (site.Desk u) (length W.pools + u.0) i (slice_get W.units u.0)
+      (λ t is. (let lt = slice_get_within W.units u.0 t is in omega (arith, lt), desk-there u.0 (slice_get_within W.units u.0 t is)))
+  numbered (site.Monitor x) i = monitor-by x i (thing_at W x.0) refl
+  numbered (site.Eventual x) i = eventual-by x i (thing_at W x.0) refl
+  numbered (site.Future x) i = future-by x i (thing_at W x.0) refl
+  numbered (site.Barrier x) i = barrier-by x i (thing_at W x.0) refl
+
+  pub number-within : (x : Site) (i : ℕ) → site_number W x ≡ Some i → i < sites W
+  number-within x i is = (numbered x i is).0
+
+  -- no number is of two sites
+  pub one-site : (x y : Site) (i : ℕ) → site_number W x ≡ Some i → site_number W y ≡ Some i → x ≡ y
+  one-site x y i is is' = some-injective (sym (numbered x i is).1 ∙ (numbered y i is').1)
+
+  -- A declared site has a number.
+
+  pub declared-some : {Part : Type 0} (i : ℕ) (parts : List Part) (k : ℕ) → k < length parts → declared_number i (slice_get parts k) ≡ Some i
+  declared-some i parts k lt = elim (slice_get_cases parts k).1 [
+    | inl x ↦ ap (declared_number i) x.2
+    | inr past ↦ absurd (omega (arith, past.0, lt))
+  ]
+
+  pub site-numbered : (x : Site) → IsSite W x → (i : ℕ) × (site_number W x ≡ Some i)
+  site-numbered (site.Pool p) is = (p.0, declared-some p.0 W.pools p.0 is)
+  site-numbered (site.Desk u) is = (length W.pools + u.0, declared-some (length W.pools + u.0) W.units u.0 is)
+  site-numbered (site.Monitor x) is = (thing_number W x.0, ap (monitor_number (thing_number W x.0)) is)
+  site-numbered (site.Eventual x) is = (thing_number W x.0, ap (eventual_number (thing_number W x.0)) is)
+  site-numbered (site.Future x) is = (thing_number W x.0, ap (future_number (thing_number W x.0)) is.2)
+  site-numbered (site.Barrier x) is = (thing_number W x.0, ap (barrier_number (thing_number W x.0)) is.1)
+
+-- Lists of one item many times, and with one item set.
+
+pub get-replicate : {B : Type 0} (n i : ℕ) (v : B) → i < n → slice_get (replicate n v) i ≡ Some v
+get-replicate zero i v lt = absurd (omega (arith, lt))
+get-replicate (suc n) zero v lt = refl
+get-replicate (suc n) (suc i) v lt = get-replicate n i v (omega (arith, lt))
+
+pub get-set-other : {B : Type 0} (xs : List B) (i j : ℕ) (v : B) → j ≢ i → slice_get (set xs i v) j ≡ slice_get xs j
+get-set-other [] i j v ne = refl
+get-set-other (x ∷ xs) zero zero v ne = absurd (ne refl)
+get-set-other (x ∷ xs) zero (suc j) v ne = refl
+get-set-other (x ∷ xs) (suc i) zero v ne = refl
+get-set-other (x ∷ xs) (suc i) (suc j) v ne = get-set-other xs i j v (λ e. ne (ap suc e))
+
+pub get-set-here : {B : Type 0} (xs : List B) (i : ℕ) (v : B) → i < length xs → slice_get (set xs i v) i ≡ Some v
+get-set-here [] i v lt = absurd (omega (arith, lt))
+get-set-here (x ∷ xs) zero v lt = refl
+get-set-here (x ∷ xs) (suc i) v lt = get-set-here xs i v (omega (arith, lt))
+
+pub map-set : {A B : Type 0} (f : A → B) (xs : List A) (i : ℕ) (v : A) → map f (set xs i v) ≡ set (map f xs) i (f v)
+map-set f [] i v = refl
+map-set f (x ∷ xs) zero v = refl
+map-set f (x ∷ xs) (suc i) v = ap (λ ys. f x ∷ ys) (map-set f xs i v)

@@ -1,0 +1,96 @@
+-- What is read off objects.
+use Rattle.std.specs.Prelude.{ℕ, ◌≡◌, ◌≢◌, Bool, false, is_some, not, List, [], slice_get, Option, Some, None, Contains}
+use Rattle.std.specs.List.{All}
+use Rattle.abt_machine.specs.declared.events.Site.{Site}
+use Rattle.abt_machine.specs.declared.operations.Thing.{Thing}
+use Rattle.abt_machine.specs.declared.operations.Thing.TheVariants as thing
+use Rattle.abt_machine.specs.Workloads.{condition_number, thing_at}
+use Rattle.abt_machine.specs.Values.{Object, Owned, PoolIs, DeskIs, MonitorIs, EventualIs, FutureIs, BarrierIs, NotHere}
+use Rattle.abt_machine.specs.Futures as future
+use Rattle.abt_machine.specs.Desks.{is_living}
+use Rattle.abt_machine.specs.Monitors.{at_condition}
+use Rattle.abt_machine.specs.Pools.{is_unit}
+use Rattle.abt_calls.specs.Asking.{IsSite}
+use Rattle.abt_calls.specs.Showing.{Row, rows_of_object}
+use Rattle.abt_commons.specs.Held.{ObjectsValue, object_at, object_from}
+use Rattle.abt_commons.specs.Sites.{thing_number}
+
+-- the eventual or the future is ready
+abbrev pub is_ready : Object → Bool
+is_ready (PoolIs pool) = false
+is_ready (DeskIs desk) = false
+is_ready (MonitorIs m) = false
+is_ready (EventualIs e) = is_some e.value
+is_ready (FutureIs f) = future.is_ready f
+is_ready (BarrierIs b) = false
+is_ready NotHere = false
+
+-- the object is a desk whose unit is there, unborn or ended
+abbrev pub is_over : Object → Bool
+is_over (PoolIs pool) = false
+is_over (DeskIs desk) = not (is_living desk.phase)
+is_over (MonitorIs m) = false
+is_over (EventualIs e) = false
+is_over (FutureIs f) = false
+is_over (BarrierIs b) = false
+is_over NotHere = false
+
+-- Units that objects hold, each with what a report shows of its place.
+
+-- of the units at a site
+abbrev pub rows_at_site : ObjectsValue → Site → List Row
+rows_at_site held x = rows_of_object held.workload x (object_at held x)
+
+-- the objects hold unit u, with this row
+pub record IsHeldAs (held : ObjectsValue) (u : ℕ) (row : Row) : Type 0 where
+  pub site : Site
+  pub declared : IsSite held.workload site
+  pub there : Contains (rows_at_site held site) row
+  pub number : row.1.number ≡ u
+
+-- the objects hold no unit u
+abbrev pub HoldNone : ObjectsValue → ℕ → Type 0
+HoldNone held u = (x : Site) → IsSite held.workload x → All (λ (row : Row). row.1.number ≢ u) (rows_at_site held x)
+
+-- the row is of unit u
+abbrev pub is_row_of : ℕ → Row → Bool
+is_row_of u row = is_unit u row.1
+
+-- Units that wait for an object, where it is of the kind.
+
+abbrev pub waiters_of_monitor : Object → List Owned
+waiters_of_monitor (MonitorIs m) = m.waiters
+waiters_of_monitor object = []
+
+-- at condition k
+abbrev pub waiters_of_condition : ℕ → Object → List Owned
+waiters_of_condition k (MonitorIs m) = at_condition k m
+waiters_of_condition k object = []
+
+abbrev pub waiters_of_eventual : Object → List Owned
+waiters_of_eventual (EventualIs e) = e.waiters
+waiters_of_eventual object = []
+
+abbrev pub waiters_of_future : Object → List Owned
+waiters_of_future (FutureIs f) = f.waiters
+waiters_of_future object = []
+
+abbrev pub waiters_of_barrier : Object → List Owned
+waiters_of_barrier (BarrierIs b) = b.waiters
+waiters_of_barrier object = []
+
+-- the object of a thing
+abbrev pub object_of_thing : ObjectsValue → ℕ → Object
+object_of_thing held x = object_from (slice_get held.objects (thing_number held.workload x))
+
+-- units that wait at a thing, by its kind; at a condition they are with its mutex
+abbrev pub waiters_by : ObjectsValue → ℕ → Option Thing → List Owned
+waiters_by held x None = []
+waiters_by held x (Some thing.Mutex) = waiters_of_monitor (object_of_thing held x)
+waiters_by held x (Some (thing.Cond m)) = waiters_of_condition (condition_number held.workload x) (object_of_thing held m.0)
+waiters_by held x (Some thing.Eventual) = waiters_of_eventual (object_of_thing held x)
+waiters_by held x (Some (thing.Future n c)) = waiters_of_future (object_of_thing held x)
+waiters_by held x (Some (thing.Barrier n)) = waiters_of_barrier (object_of_thing held x)
+
+abbrev pub waiters_at_thing : ObjectsValue → ℕ → List Owned
+waiters_at_thing held x = waiters_by held x (thing_at held.workload x)

@@ -1,0 +1,166 @@
+//! Each object behind a lock of its own.
+
+ghost use Rattle.std.specs.Prelude.{◌≡◌, ◌≤◌, IfErr, IfOk};
+ghost use Rattle.std.specs.List.{All};
+ghost use Rattle.abt_commons.specs.AllPasses.{AreAll};
+ghost use Rattle.abt_commons.specs.Splits.{HasSeenNothing, IsPassOf, SplitLeft, opening_of_split, stream_of};
+
+use crate::acts::{Act, Reply};
+use crate::commons::Commons;
+use crate::locking::{lock_all, seatless};
+use crate::objects::Objects;
+use crate::one::One;
+use crate::sites::site_number;
+use crate::unlocking::unlock_all;
+use abt_booth::{Booth, Called, Seat};
+use abt_machine::{Site, Workload};
+use std::alloc::Global;
+use std::marker::Model;
+use std::sync::Wait;
+
+/// One lock for each object, with a clock for each.
+#[derive(Drop)]
+pub struct Split<'w, R> {
+    rt: &'w R,
+    w: &'w Workload,
+    streams: u32,
+    booths: Vec<Booth<One<'w>>>,
+    // The clocks that were carried to the locks.
+    clocks: Vec<u64>,
+    // Where the objects go when the locks are closed.
+    room: Vec<One<'w>>,
+}
+
+impl<'w, R> Model for Split<'w, R> {
+    ghost use Rattle.std.specs.Prelude.{◌≡◌, ◌≤◌, [], length, vec_capacity};
+    ghost use Rattle.abt_commons.specs.Splits.{AreBooths, SplitValue};
+
+    ghost Value = { SplitValue };
+
+    ghost view = { λ s. record { workload = s.w.now; streams = s.streams; booths = s.booths.items; clocks = s.clocks.items } };
+
+    ghost invariant = { λ s. AreBooths s.w.now s.streams s.booths.items s.clocks.items × (s.room.items ≡ []) × (length s.booths.items ≤ vec_capacity s.room) };
+}
+
+/// The right of one stream to call: a seat of each lock.
+#[derive(Drop)]
+pub struct SplitPass<'w> {
+    pub(crate) stream: u32,
+    pub(crate) seats: Vec<Seat<One<'w>>>,
+}
+
+impl<'w, R: Wait> Commons<'w> for Split<'w, R> {
+    ghost use Rattle.abt_commons.specs.AllPasses.{AreAll};
+    ghost use Rattle.abt_commons.specs.Splits.{IsPassOf, SplitLeft, SplitMoves, stream_of};
+
+    type Pass = SplitPass<'w>;
+
+    ghost workload = { λ split. split.workload };
+
+    ghost is_of = { λ split pass. IsPassOf split pass };
+
+    ghost number = { λ pass. stream_of pass };
+
+    ghost moves = { λ split old x at act told new. SplitMoves split old x at act told new };
+
+    ghost streams = { λ split. split.streams };
+
+    ghost leaves = { λ split passes held. SplitLeft split passes held };
+
+    fn call(&self, pass: &mut SplitPass<'w>, site: Site, at: u64, act: Act) -> Reply {
+        let number = site_number(self.w, site);
+        let raised = at.max(self.clocks[number]);
+        match self.booths[number].call(self.rt, &mut pass.seats[number], raised, act) {
+            Called::Done { stamp, answer } => Reply::Done { stamp, answer },
+            Called::Worn(act) => Reply::Worn(act),
+        }
+    }
+
+    fn close(self, mut passes: Vec<SplitPass<'w>>) -> Objects<'w>
+        requires passes { AreAll (IsPassOf self) stream_of self.streams passes.items }
+        ensures leaves { SplitLeft self.entry passes.entry.items result }
+    {
+        let Split {
+            rt: _,
+            w,
+            streams: _,
+            booths,
+            mut clocks,
+            mut room,
+        } = self;
+        unlock_all(
+            booths,
+            passes.as_mut_slice(),
+            &mut room,
+            clocks.as_mut_slice(),
+        );
+        room.reverse();
+        Objects {
+            w,
+            ones: room,
+            clocks,
+        }
+    }
+}
+
+impl<'w, R: Wait> Split<'w, R> {
+    /// One booth for each object, with a pass for each stream. Err hands the objects back: no memory was found.
+    pub fn make(
+        alloc: Global,
+        rt: &'w R,
+        objects: Objects<'w>,
+        streams: u32,
+    ) -> Result<(Split<'w, R>, Vec<SplitPass<'w>>), Objects<'w>>
+        requires { 1 ≤ streams }
+        ensures objects { IfOk result (λ made. opening_of_split made.0 ≡ objects.entry) }
+        ensures streams { IfOk result (λ made. made.0.streams ≡ streams) }
+        ensures passes { IfOk result (λ made. AreAll (IsPassOf made.0) stream_of streams made.1.items) }
+        ensures fresh { IfOk result (λ made. All HasSeenNothing made.1.items) }
+        ensures refused { IfErr result (λ back. back ≡ objects.entry) }
+    {
+        let count = objects.ones.len();
+        let Ok(mut booths) = Vec::with_capacity(alloc, count) else {
+            return Err(objects);
+        };
+        let Ok(mut passes) = seatless(alloc, streams, count) else {
+            return Err(objects);
+        };
+        let Objects {
+            w,
+            ones: mut room,
+            mut clocks,
+        } = objects;
+        room.reverse();
+        if lock_all(
+            alloc,
+            streams,
+            &mut room,
+            &mut booths,
+            passes.as_mut_slice(),
+        ) {
+            return Ok((
+                Split {
+                    rt,
+                    w,
+                    streams,
+                    booths,
+                    clocks,
+                    room,
+                },
+                passes,
+            ));
+        }
+        unlock_all(
+            booths,
+            passes.as_mut_slice(),
+            &mut room,
+            clocks.as_mut_slice(),
+        );
+        room.reverse();
+        Err(Objects {
+            w,
+            ones: room,
+            clocks,
+        })
+    }
+}
