@@ -1,0 +1,198 @@
+-- What each event keeps.
+use Rattle.std.proofs.Common.{◌≡◌, ◌≢◌, ◌≤◌, ◌++◌, ℕ, suc, List, [], ◌∷◌, length, refl, sym, ap, ◌∙◌, subst, arith}
+use Rattle.std.proofs.lemmas.List.{length-append}
+use Rattle.std.proofs.lemmas.List.Elements.{All-cons, All-head, All-nil, All-push, All-tail}
+use Rattle.std.specs.List.{All}
+use Rattle.abt_machine.specs.declared.events.Event.{Event}
+use Rattle.abt_machine.specs.declared.numbers.PoolNo.{PoolNo}
+use Rattle.abt_machine.specs.declared.workload.Parts.{Parts}
+use Rattle.abt_stream.specs.Keeping.{FitsFrames, Keeps}
+use Rattle.abt_order.specs.Schedulers.{IsSchedulerOf, SchedulerValue, pool_numbers}
+use Rattle.abt_machine.specs.Rounds.{IsOrder}
+use Rattle.abt_machine.specs.declared.operations.OrderShape.{OrderShape}
+use Rattle.abt_machine.specs.declared.events.What.{What}
+use Rattle.abt_machine.specs.Values.{Held, Owned}
+use Rattle.abt_machine.specs.Numbers.{unit_no}
+use Rattle.abt_machine.specs.declared.events.What.TheVariants as what
+use Rattle.abt_stream.specs.Events.{IsFresh, Leaves, emptied, entering, holding, passed, took, wrote}
+use Rattle.abt_stream.specs.Streams.{FrameValue, IsFrame, IsOrderFor, FitsShapes, Rooms, StreamValue, ahead}
+
+-- after more events
+grows : (W : Parts) (n m : ℕ) (order : List PoolNo) (f : FrameValue) → n ≤ m → IsFrame W n order f → IsFrame W m order f
+grows W n m order f h is = record { scheduler = is.scheduler; round = is.round; few = let few = is.few in omega arith }
+
+all-grow : (W : Parts) (n m : ℕ) (fs : List FrameValue) → n ≤ m → All (IsFrame W n []) fs → All (IsFrame W m []) fs
+all-grow W n m fs h all = λ k d lt. grows W n m [] _ h (all k d lt)
+
+-- one event more
+longer : (old new : List Event) (e : Event) → new ≡ old ++ e ∷ [] → length old ≤ length new
+longer old new e is = let n : length new ≡ length (old ++ e ∷ []) = ap (λ (l : List Event). length l) is in let m = length-append old (e ∷ []) in omega arith
+
+-- where scheduler, round, frames below and order are as before
+frames-same : (W : Parts) (old new : StreamValue) (e : Event) → new.log ≡ old.log ++ e ∷ [] → new.top.scheduler ≡ old.top.scheduler → new.top.round ≡ old.top.round
+    → new.below ≡ old.below → new.order ≡ old.order → FitsFrames W old → FitsFrames W new
+frames-same W old new e log scheduler round below order fits =
+    let more = longer old.log new.log e log in
+    record {
+      top = record {
+        scheduler = subst (λ (s : SchedulerValue). IsSchedulerOf W s) (sym scheduler) fits.top.scheduler;
+        round = ap (λ (s : SchedulerValue). s.round) scheduler ∙ (fits.top.round ∙ (ap (ahead old.order) (sym round) ∙ ap (λ (ps : List PoolNo). ahead ps new.top.round) (sym order)));
+        few = let few = fits.top.few in omega arith;
+      };
+      below = subst (λ (fs : List FrameValue). All (IsFrame W (length new.log) []) fs) (sym below) (all-grow W (length old.log) (length new.log) old.below more fits.below);
+      order = subst (λ (s : SchedulerValue). IsOrderFor W s.number new.order) (sym scheduler)
+          (subst (λ (ps : List PoolNo). IsOrderFor W old.top.scheduler.number ps) (sym order) fits.order);
+    }
+
+-- and so many more
+grown : (old new : List Event) (e : Event) → new ≡ old ++ e ∷ [] → suc (length old) ≤ length new
+grown old new e is = let n : length new ≡ length (old ++ e ∷ []) = ap (λ (l : List Event). length l) is in let m = length-append old (e ∷ []) in omega arith
+
+ahead-of : (order : List PoolNo) (round : ℕ) → order ≢ [] → (n : ℕ) → n ≡ ahead order round → n ≡ suc round
+ahead-of [] round some n e = absurd (some refl)
+ahead-of (p ∷ ps) round some n e = e
+
+-- where a round has ended: the top frame has the next round, and no order is held
+round-ended : (W : Parts) (old new : StreamValue) (e : Event) → new.log ≡ old.log ++ e ∷ [] → new.top.scheduler ≡ old.top.scheduler → new.top.round ≡ suc old.top.round
+    → new.below ≡ old.below → new.order ≡ [] → old.order ≢ [] → FitsFrames W old → FitsFrames W new
+round-ended W old new e log scheduler round below order some fits =
+    let more = longer old.log new.log e log in
+    let one : suc (length old.log) ≤ length new.log = grown old.log new.log e log in
+    let was : old.top.scheduler.round ≡ suc old.top.round = ahead-of old.order old.top.round some old.top.scheduler.round fits.top.round in
+    record {
+      top = record {
+        scheduler = subst (λ (s : SchedulerValue). IsSchedulerOf W s) (sym scheduler) fits.top.scheduler;
+        round = ap (λ (s : SchedulerValue). s.round) scheduler ∙ (was ∙ (sym round ∙ ap (λ (ps : List PoolNo). ahead ps new.top.round) (sym order)));
+        few = let few = fits.top.few in omega arith;
+      };
+      below = subst (λ (fs : List FrameValue). All (IsFrame W (length new.log) []) fs) (sym below) (all-grow W (length old.log) (length new.log) old.below more fits.below);
+      order = λ holds. absurd (holds order);
+    }
+
+last-of : (W : Parts) (n : ℕ) (fs : List FrameValue) (f : FrameValue) → All (IsFrame W n []) (fs ++ f ∷ []) → IsFrame W n [] f
+last-of W n [] f all = All-head (IsFrame W n []) f [] all
+last-of W n (g ∷ fs) f all = last-of W n fs f (All-tail (IsFrame W n []) g (fs ++ f ∷ []) all)
+
+front-of : (W : Parts) (n : ℕ) (fs : List FrameValue) (f : FrameValue) → All (IsFrame W n []) (fs ++ f ∷ []) → All (IsFrame W n []) fs
+front-of W n [] f all = All-nil (IsFrame W n [])
+front-of W n (g ∷ fs) f all =
+    All-cons (IsFrame W n []) g fs (All-head (IsFrame W n []) g (fs ++ f ∷ []) all) (front-of W n fs f (All-tail (IsFrame W n []) g (fs ++ f ∷ []) all))
+
+-- where a frame is stacked on those that there are
+frame-entered : (W : Parts) (g : ℕ) (old new : StreamValue) (e : Event) → new.log ≡ old.log ++ e ∷ [] → IsFresh W g new.top → new.below ≡ old.below ++ old.top ∷ [] → new.order ≡ old.order → old.order ≡ []
+    → FitsFrames W old → FitsFrames W new
+frame-entered W g old new e log fresh below order none fits =
+    let more = longer old.log new.log e log in
+    let empty : new.order ≡ [] = order ∙ none in
+    record {
+      top = record {
+        scheduler = fresh.scheduler;
+        round = fresh.before ∙ (sym fresh.round ∙ ap (λ (ps : List PoolNo). ahead ps new.top.round) (sym empty));
+        few = let first = fresh.round in omega arith;
+      };
+      below = subst (λ (fs : List FrameValue). All (IsFrame W (length new.log) []) fs) (sym below)
+          (All-push (IsFrame W (length new.log) []) old.below old.top (all-grow W (length old.log) (length new.log) old.below more fits.below)
+          (grows W (length old.log) (length new.log) [] old.top more (subst (λ (ps : List PoolNo). IsFrame W (length old.log) ps old.top) none fits.top)));
+      order = λ holds. absurd (holds empty);
+    }
+
+-- where the top frame is gone
+frame-left : (W : Parts) (old new : StreamValue) (e : Event) → new.log ≡ old.log ++ e ∷ [] → old.below ≡ new.below ++ new.top ∷ [] → new.order ≡ [] → FitsFrames W old → FitsFrames W new
+frame-left W old new e log below order fits =
+    let more = longer old.log new.log e log in
+    let both = subst (λ (fs : List FrameValue). All (IsFrame W (length new.log) []) fs) below (all-grow W (length old.log) (length new.log) old.below more fits.below) in
+    record {
+      top = subst (λ (ps : List PoolNo). IsFrame W (length new.log) ps new.top) (sym order) (last-of W (length new.log) new.below new.top both);
+      below = front-of W (length new.log) new.below new.top both;
+      order = λ holds. absurd (holds order);
+    }
+
+-- what is held stays of its shape
+shapes-same : (W : Parts) (Z : List OrderShape) (old new : StreamValue) → new.top.scheduler ≡ old.top.scheduler → new.top.round ≡ old.top.round → new.order ≡ old.order → FitsShapes W Z old → FitsShapes W Z new
+shapes-same W Z old new scheduler round order shaped =
+    subst (λ (ps : List PoolNo). (ps ≢ []) → IsOrder W Z new.top.scheduler.number new.top.round (pool_numbers ps)) (sym order)
+    (subst (λ (s : SchedulerValue). (old.order ≢ []) → IsOrder W Z s.number new.top.round (pool_numbers old.order)) (sym scheduler)
+    (subst (λ n. (old.order ≢ []) → IsOrder W Z old.top.scheduler.number n (pool_numbers old.order)) (sym round) shaped))
+
+shapes-none : (W : Parts) (Z : List OrderShape) (new : StreamValue) → new.order ≡ [] → FitsShapes W Z new
+shapes-none W Z new order = λ holds. absurd (holds order)
+
+-- The events.
+
+-- no event
+pub keeps_same : (W : Parts) (old new : StreamValue) → new ≡ old → Keeps W old new
+keeps_same W old new same = subst (λ (s : StreamValue). Keeps W old s) (sym same) (record { number = refl; budget = refl; frames = λ fits. fits; shapes = λ Z shaped. shaped })
+
+module _ (W : Parts) (old new : StreamValue) (w : What) (n : ℕ) (rooms : Rooms) where
+  abbrev written : Event
+  written = record { stamp = n; stream = old.number; what = w }
+
+  -- an event that leaves the frames alone
+  pub keeps_holding : (held : Held) → new ≡ wrote (holding old held) w n rooms → Keeps W old new
+  keeps_holding held same =
+      let scheduler : new.top.scheduler ≡ old.top.scheduler = ap (λ (s : StreamValue). s.top.scheduler) same in
+      let round : new.top.round ≡ old.top.round = ap (λ (s : StreamValue). s.top.round) same in
+      let order : new.order ≡ old.order = ap (λ (s : StreamValue). s.order) same in
+      record {
+        number = ap (λ (s : StreamValue). s.number) same;
+        budget = ap (λ (s : StreamValue). s.budget) same;
+        frames = frames-same W old new written (ap (λ (s : StreamValue). s.log) same) scheduler round (ap (λ (s : StreamValue). s.below) same) order;
+        shapes = λ Z. shapes-same W Z old new scheduler round order;
+      }
+
+  -- a missed pool, after which the round goes on
+  pub keeps_passed : (p : PoolNo) → new ≡ wrote (passed old p) w n rooms → Keeps W old new
+  keeps_passed p same =
+      let scheduler : new.top.scheduler ≡ old.top.scheduler = ap (λ (s : StreamValue). s.top.scheduler) same in
+      let round : new.top.round ≡ old.top.round = ap (λ (s : StreamValue). s.top.round) same in
+      let order : new.order ≡ old.order = ap (λ (s : StreamValue). s.order) same in
+      record {
+        number = ap (λ (s : StreamValue). s.number) same;
+        budget = ap (λ (s : StreamValue). s.budget) same;
+        frames = frames-same W old new written (ap (λ (s : StreamValue). s.log) same) scheduler round (ap (λ (s : StreamValue). s.below) same) order;
+        shapes = λ Z. shapes-same W Z old new scheduler round order;
+      }
+
+  -- a taken unit, which ends the round
+  pub keeps_took : (o : Owned) → old.order ≢ [] → new ≡ wrote (took old o) w n rooms → Keeps W old new
+  keeps_took o some same =
+      let order : new.order ≡ [] = ap (λ (s : StreamValue). s.order) same in
+      record {
+        number = ap (λ (s : StreamValue). s.number) same;
+        budget = ap (λ (s : StreamValue). s.budget) same;
+        frames = round-ended W old new written (ap (λ (s : StreamValue). s.log) same) (ap (λ (s : StreamValue). s.top.scheduler) same) (ap (λ (s : StreamValue). s.top.round) same) (ap (λ (s : StreamValue). s.below) same) order some;
+        shapes = λ Z shaped. shapes-none W Z new order;
+      }
+
+  -- a missed pool, which ends the round empty
+  pub keeps_emptied : old.order ≢ [] → new ≡ wrote (emptied old) w n rooms → Keeps W old new
+  keeps_emptied some same =
+      let order : new.order ≡ [] = ap (λ (s : StreamValue). s.order) same in
+      record {
+        number = ap (λ (s : StreamValue). s.number) same;
+        budget = ap (λ (s : StreamValue). s.budget) same;
+        frames = round-ended W old new written (ap (λ (s : StreamValue). s.log) same) (ap (λ (s : StreamValue). s.top.scheduler) same) (ap (λ (s : StreamValue). s.top.round) same) (ap (λ (s : StreamValue). s.below) same) order some;
+        shapes = λ Z shaped. shapes-none W Z new order;
+      }
+
+  -- a frame that is entered
+  pub keeps_entered : (g : ℕ) (o : Owned) → IsFresh W g new.top → old.order ≡ [] → new ≡ wrote (entering g old new.top o) w n rooms → Keeps W old new
+  keeps_entered g o fresh none same =
+      let order : new.order ≡ old.order = ap (λ (s : StreamValue). s.order) same in
+      record {
+        number = ap (λ (s : StreamValue). s.number) same;
+        budget = ap (λ (s : StreamValue). s.budget) same;
+        frames = frame-entered W g old new written (ap (λ (s : StreamValue). s.log) same) fresh (ap (λ (s : StreamValue). s.below) same) order none;
+        shapes = λ Z shaped. shapes-none W Z new (order ∙ none);
+      }
+
+-- a frame that is left
+pub keeps_left : (W : Parts) (old new : StreamValue) (os : List Owned) (o : Owned) → Leaves old new os o → Keeps W old new
+keeps_left W old new os o leaves =
+    let order : new.order ≡ [] = ap (λ (s : StreamValue). s.order) leaves.same in
+    record {
+      number = ap (λ (s : StreamValue). s.number) leaves.same;
+      budget = ap (λ (s : StreamValue). s.budget) leaves.same;
+      frames = frame-left W old new (record { stamp = suc old.clock; stream = old.number; what = what.Leave (unit_no o.number) }) (ap (λ (s : StreamValue). s.log) leaves.same) leaves.below order;
+      shapes = λ Z shaped. shapes-none W Z new order;
+    }

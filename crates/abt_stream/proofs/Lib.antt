@@ -1,0 +1,16 @@
+pub mod Able
+pub mod Answered
+pub mod Calls
+pub mod Fitted
+pub mod Kept
+pub mod Logs
+pub mod Made
+pub mod Operated
+pub mod Planned
+pub mod Pools
+pub mod Rounding
+pub mod Spending
+pub mod Stacks
+pub mod Starting
+pub mod Turning
+pub mod Visits

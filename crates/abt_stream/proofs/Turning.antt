@@ -1,0 +1,213 @@
+-- From what each kind of event makes of a stream to its turn.
+use Rattle.std.proofs.Common.{◌≡◌, ◌<◌, ◌++◌, ℕ, suc, false, List, [], ◌∷◌, Option, None, Some, option_map, inl, inr, refl, sym, ap, ◌∙◌, subst, arith}
+use Rattle.abt_machine.specs.declared.events.Cause.{Cause}
+use Rattle.abt_machine.specs.declared.events.Site.{Site}
+use Rattle.abt_machine.specs.declared.events.Site.TheVariants as site
+use Rattle.abt_machine.specs.declared.events.What.{What}
+use Rattle.abt_machine.specs.declared.events.What.TheVariants as what
+use Rattle.abt_machine.specs.declared.numbers.PoolNo.{PoolNo}
+use Rattle.abt_machine.specs.declared.numbers.SchedNo.{SchedNo}
+use Rattle.abt_machine.specs.declared.operations.Body.{Body}
+use Rattle.abt_machine.specs.declared.operations.Body.TheVariants as body
+use Rattle.abt_machine.specs.declared.operations.Op.{Op}
+use Rattle.abt_machine.specs.declared.operations.OrderShape.{OrderShape}
+use Rattle.abt_machine.specs.declared.workload.Parts.{Parts}
+use Rattle.abt_machine.specs.Acts.{Act, Answer}
+use Rattle.abt_machine.specs.Acts as act
+use Rattle.abt_machine.specs.Frames.{entered, sched_of}
+use Rattle.abt_machine.specs.Next.{Due, EndDue, EnterDue, LookDue, PutDue, StepDue, due_by, due_of_unit}
+use Rattle.abt_machine.specs.Numbers.{pool_no, unit_no}
+use Rattle.abt_machine.specs.Outcomes.{steps_in}
+use Rattle.abt_machine.specs.Plans.{Plan, effect_of}
+use Rattle.abt_machine.specs.Turns.{Heard, Performs, Steps, due_of, looked, number_and_position, stepped}
+use Rattle.abt_machine.specs.Values.{Held, Owned}
+use Rattle.abt_machine.specs.Workloads.{body_at, op_at}
+use Rattle.abt_commons.specs.Replies.{Told}
+use Rattle.abt_stream.specs.declared.turns.Turn.{Turn}
+use Rattle.abt_stream.specs.declared.turns.Turn.TheVariants as turn
+use Rattle.abt_stream.specs.declared.dues.HandDue.{HandDue}
+use Rattle.abt_stream.specs.declared.dues.HandDue.TheVariants as hands
+use Rattle.abt_stream.specs.Dues.{DueIs}
+use Rattle.abt_stream.specs.Events.{EndBy, EnterBy, IfFirst, IfHeld, LookBy, PutBy, step_of, wrote}
+use Rattle.abt_stream.specs.Streams.{FrameValue, StreamValue}
+use Rattle.abt_stream.specs.Keeping.{Keeps}
+use Rattle.abt_stream.specs.Operated.{OpBy}
+use Rattle.abt_stream.specs.Turned.{IsSpent, Made, Turned, Went}
+use Rattle.abt_stream.proofs.Kept.{keeps_entered, keeps_holding, keeps_same}
+
+-- what is due for a unit in hand is what is due for the stream
+pub hand-due : (W : Parts) (s : ℕ) (held : Held) (o : Owned) (d : Due) → held.tray ≡ [] → held.next ≡ None → held.hand ≡ Some o
+    → due_of_unit W s held.own.mark (body_at W o.number) o.carried.position ≡ d → due_of W s held ≡ d
+hand-due W s held o d tray next hand e =
+    ap (λ (os : List Owned). due_by {X = Owned} {Y = Owned} W s held.own os held.next (option_map number_and_position held.hand)) tray ∙
+    (ap (λ (n : Option Owned). due_by {X = Owned} {Y = Owned} W s held.own [] n (option_map number_and_position held.hand)) next ∙
+    (ap (λ (h : Option Owned). due_by {X = Owned} {Y = Owned} W s held.own [] None (option_map number_and_position h)) hand ∙ e))
+
+module _ (W : Parts) (s : ℕ) (held : Held) (d : HandDue) (tray : held.tray ≡ []) (next : held.next ≡ None) where
+  pub end_due : (hand : Option Owned) (cause : Cause) → held.hand ≡ hand → IfHeld hand (λ o. DueIs W s held.own.mark o d) → d ≡ hands.End cause → due_of W s held ≡ EndDue cause
+  end_due None cause is h e = absurd h
+  end_due (Some o) cause is h e = hand-due W s held o (EndDue cause) tray next is (subst (λ (x : HandDue). DueIs W s held.own.mark o x) e h)
+
+  pub enter_due : (hand : Option Owned) (g : SchedNo) → held.hand ≡ hand → IfHeld hand (λ o. DueIs W s held.own.mark o d) → d ≡ hands.Enter g → due_of W s held ≡ EnterDue
+  enter_due None g is h e = absurd h
+  enter_due (Some o) g is h e = hand-due W s held o EnterDue tray next is (subst (λ (x : HandDue). DueIs W s held.own.mark o x) e h).0
+
+  pub enter_body : (hand : Option Owned) (g : SchedNo) → IfHeld hand (λ o. DueIs W s held.own.mark o d) → d ≡ hands.Enter g → IfHeld hand (λ o. body_at W o.number ≡ body.Sched g)
+  enter_body None g h e = absurd h
+  enter_body (Some o) g h e = (subst (λ (x : HandDue). DueIs W s held.own.mark o x) e h).1
+
+  pub step_due : (hand : Option Owned) (a : Op) → held.hand ≡ hand → IfHeld hand (λ o. DueIs W s held.own.mark o d) → d ≡ hands.Step a → due_of W s held ≡ StepDue
+  step_due None a is h e = absurd h
+  step_due (Some o) a is h e = hand-due W s held o StepDue tray next is (subst (λ (x : HandDue). DueIs W s held.own.mark o x) e h).0
+
+  pub step_op : (hand : Option Owned) (a : Op) → IfHeld hand (λ o. DueIs W s held.own.mark o d) → d ≡ hands.Step a → IfHeld hand (λ o. op_at W o.number o.carried.position ≡ Some a)
+  step_op None a h e = absurd h
+  step_op (Some o) a h e = (subst (λ (x : HandDue). DueIs W s held.own.mark o x) e h).1
+
+module _ {P : Type 0} (moves : P → Site → ℕ → Act → Told → P → Type 0) (W : Parts) (old : StreamValue) (before : P) (new : StreamValue) (after : P) where
+  -- an event that was written
+  pub made : (held : Held) (top : FrameValue) (below : List FrameValue) (order : List PoolNo) (at n : ℕ) (w : What) (heard : Option Heard) (Z : List OrderShape)
+      → new ≡ wrote (record old { held = held; top = top; below = below; order = order; at = at }) w n new.rooms
+      → Steps W Z old.number.0 old.held w heard held → Went moves old.clock before heard n after → Made moves W Z old before w new after
+  made held top below order at n w heard Z same steps went =
+      let clock : new.clock ≡ n = ap (λ (s : StreamValue). s.clock) same in
+      record {
+        heard = heard;
+        steps = subst (λ (h : Held). Steps W Z old.number.0 old.held w heard h) (sym (ap (λ (s : StreamValue). s.held) same)) steps;
+        went = subst (λ k. Went moves old.clock before heard k after) (sym clock) went;
+        log = subst (λ k. new.log ≡ old.log ++ record { stamp = k; stream = old.number; what = w } ∷ []) (sym clock) (ap (λ (s : StreamValue). s.log) same);
+      }
+
+  -- one that left the frames alone
+  holding-made : (held : Held) (w : What) (heard : Option Heard) (Z : List OrderShape) → new ≡ wrote (record old { held = held }) w new.clock new.rooms
+      → Steps W Z old.number.0 old.held w heard held → Went moves old.clock before heard new.clock after → Made moves W Z old before w new after
+  holding-made held w heard Z same steps went = made held old.top old.below old.order old.at new.clock w heard Z same steps went
+
+  -- the frame that is entered is the one of the unit's scheduler
+  entered-held : (o : Owned) (g : SchedNo) → body_at W o.number ≡ body.Sched g
+      → ◌≡◌ {A = Held} (record old.held { own = entered g.0 old.held.own; hand = None; framed = old.held.framed ++ o ∷ [] })
+      (record old.held { own = entered (sched_of (body_at W o.number)) old.held.own; hand = None; framed = old.held.framed ++ o ∷ [] })
+  entered-held o g bodied = ap (λ (b : Body). record old.held { own = entered (sched_of b) old.held.own; hand = None; framed = old.held.framed ++ o ∷ [] }) (sym bodied)
+
+  module _ (Z : List OrderShape) where
+    pub end_turned : (hand : Option Owned) (cause : Cause) (t : Turn) → old.held.hand ≡ hand → due_of W old.number.0 old.held ≡ EndDue cause
+        → IfHeld hand (EndBy moves old before cause t new after) → Turned moves W Z old before t new after
+    end_turned None cause t is due h = absurd h
+    end_turned (Some o) cause turn.Moved is due h =
+        let event = what.End (unit_no o.number) cause in
+        let held : Held = record old.held { hand = None; tray = old.held.tray ++ h.0 } in
+        (event, holding-made held event (Some (site.Desk (unit_no o.number), act.End o cause, act.Woke h.0)) Z h.1.same (due, o, is, refl, h.0, refl, refl) h.1.went, tt)
+    end_turned (Some o) cause turn.Worn is due h =
+        let x = site.Desk (unit_no o.number) in
+        let later : Held = record old.held { hand = None; tray = old.held.tray ++ [] } in
+        (h.same, inr (x, act.End o cause, (what.End (unit_no o.number) cause, act.Woke [], later, (due, o, is, refl, [], refl, refl)), h.went), λ spent. let e : EndDue cause ≡ StepDue = sym due ∙ spent.0 in cc)
+    end_turned (Some o) cause turn.Stepped is due h = absurd h
+    end_turned (Some o) cause turn.EmptyRound is due h = absurd h
+    end_turned (Some o) cause turn.Spent is due h = absurd h
+
+    pub look_turned : (next : Option Owned) (t : Turn) → old.held.next ≡ next → due_of W old.number.0 old.held ≡ LookDue
+        → IfHeld next (LookBy moves old before t new after) → Turned moves W Z old before t new after
+    look_turned None t is due h = absurd h
+    look_turned (Some o) turn.Moved is due h =
+        let event = what.Look (unit_no o.number) in
+        (event, holding-made (looked old.held o h.0 h.1) event (Some (site.Desk (unit_no o.number), act.Look, act.Asks h.0 h.1)) Z h.2.same (due, o, is, refl, h.0, h.1, refl, refl) h.2.went, tt)
+    look_turned (Some o) turn.Worn is due h =
+        let x = site.Desk (unit_no o.number) in
+        (h.same, inr (x, act.Look, (what.Look (unit_no o.number), act.Asks false None, looked old.held o false None, (due, o, is, refl, false, None, refl, refl)), h.went), λ spent. let e : LookDue ≡ StepDue = sym due ∙ spent.0 in cc)
+    look_turned (Some o) turn.Stepped is due h = absurd h
+    look_turned (Some o) turn.EmptyRound is due h = absurd h
+    look_turned (Some o) turn.Spent is due h = absurd h
+
+    pub put_turned : (tray : List Owned) (t : Turn) → old.held.tray ≡ tray → due_of W old.number.0 old.held ≡ PutDue
+        → IfFirst tray (PutBy moves old before t new after) → Turned moves W Z old before t new after
+    put_turned [] t is due h = absurd h
+    put_turned (o ∷ os) turn.Moved is due h =
+        let p = pool_no o.carried.home in
+        let event = what.Put (unit_no o.number) p in
+        let held : Held = record old.held { tray = os } in
+        (event, holding-made held event (Some (site.Pool p, act.Put o, act.Rested)) Z h.same (due, o, os, is, refl, refl, refl, refl) h.went, tt)
+    put_turned (o ∷ os) turn.Worn is due h =
+        let p = pool_no o.carried.home in
+        let later : Held = record old.held { tray = os } in
+        (h.same, inr (site.Pool p, act.Put o, (what.Put (unit_no o.number) p, act.Rested, later, (due, o, os, is, refl, refl, refl, refl)), h.went), λ spent. let e : PutDue ≡ StepDue = sym due ∙ spent.0 in cc)
+    put_turned (o ∷ os) turn.Stepped is due h = absurd h
+    put_turned (o ∷ os) turn.EmptyRound is due h = absurd h
+    put_turned (o ∷ os) turn.Spent is due h = absurd h
+
+    -- a stream with a step left is not spent
+    unspent : steps_in old.log < old.budget → IsSpent W old → ⊥
+    unspent few spent = let made = spent.1 in omega arith
+
+    pub step_turned : (hand : Option Owned) (a : Op) (t : Turn) → old.held.hand ≡ hand → steps_in old.log < old.budget → due_of W old.number.0 old.held ≡ StepDue
+        → IfHeld hand (λ o. op_at W o.number o.carried.position ≡ Some a)
+        → IfHeld hand (OpBy moves W old before a t new after) → Turned moves W Z old before t new after
+    step_turned None a t is few due at h = absurd h
+    step_turned (Some o) a turn.Stepped is few due at h =
+        (unit_no o.number, o.carried.position, h.1, holding-made new.held (step_of o h.1) h.0 Z h.4 (due, o, is, refl, refl, a, at, h.2) h.3, few)
+    step_turned (Some o) a turn.Worn is few due at (same, inl h) =
+        let Q : Plan → Type 0 = λ p. Performs old.held a o p None h.0.code (stepped old.held h.0) in
+        (same, inl ((step_of o h.0.code, stepped old.held h.0, (due, o, is, refl, refl, a, at, subst Q (sym h.1) (refl, refl, refl))), h.2, h.3), unspent few)
+    step_turned (Some o) a turn.Worn is few due at (same, inr h) =
+        let e = effect_of a o act.Rested in
+        let Q : Plan → Type 0 = λ p. Performs old.held a o p (Some (h.0, h.1, act.Rested)) e.code (stepped old.held e) in
+        (same, inr (h.0, h.1, (step_of o e.code, act.Rested, stepped old.held e, (due, o, is, refl, refl, a, at, subst Q (sym h.2) (act.Rested, refl, refl, refl))), h.3), unspent few)
+    step_turned (Some o) a turn.EmptyRound is few due at h = absurd h
+    step_turned (Some o) a turn.Moved is few due at h = absurd h
+    step_turned (Some o) a turn.Spent is few due at h = absurd h
+
+    pub enter_turned : (hand : Option Owned) (g : SchedNo) (t : Turn) → old.held.hand ≡ hand → due_of W old.number.0 old.held ≡ EnterDue
+        → IfHeld hand (λ o. body_at W o.number ≡ body.Sched g) → after ≡ before
+        → IfHeld hand (EnterBy W g.0 old t new) → Turned moves W Z old before t new after
+    enter_turned None g t is due bodied stays h = absurd h
+    enter_turned (Some o) g turn.Moved is due bodied stays h =
+        let event = what.Enter (unit_no o.number) in
+        let held : Held = record old.held { own = entered g.0 old.held.own; hand = None; framed = old.held.framed ++ o ∷ [] } in
+        (event, made held new.top (old.below ++ old.top ∷ []) old.order old.at (suc old.clock) event None Z h.1 (due, o, is, refl, refl, entered-held o g bodied) (refl, stays), tt)
+    enter_turned (Some o) g turn.Worn is due bodied stays h =
+        let later : Held = record old.held { own = entered (sched_of (body_at W o.number)) old.held.own; hand = None; framed = old.held.framed ++ o ∷ [] } in
+        (h.1, inl ((what.Enter (unit_no o.number), later, (due, o, is, refl, refl, refl)), h.0, stays), λ spent. let e : EnterDue ≡ StepDue = sym due ∙ spent.0 in cc)
+    enter_turned (Some o) g turn.Stepped is due bodied stays h = absurd h
+    enter_turned (Some o) g turn.EmptyRound is due bodied stays h = absurd h
+    enter_turned (Some o) g turn.Spent is due bodied stays h = absurd h
+
+  -- the frames stay
+
+  pub end_keeps : (hand : Option Owned) (cause : Cause) (t : Turn) → IfHeld hand (EndBy moves old before cause t new after) → Keeps W old new
+  end_keeps None cause t h = absurd h
+  end_keeps (Some o) cause turn.Moved h = keeps_holding W old new (what.End (unit_no o.number) cause) new.clock new.rooms (record old.held { hand = None; tray = old.held.tray ++ h.0 }) h.1.same
+  end_keeps (Some o) cause turn.Worn h = keeps_same W old new h.same
+  end_keeps (Some o) cause turn.Stepped h = absurd h
+  end_keeps (Some o) cause turn.EmptyRound h = absurd h
+  end_keeps (Some o) cause turn.Spent h = absurd h
+
+  pub look_keeps : (next : Option Owned) (t : Turn) → IfHeld next (LookBy moves old before t new after) → Keeps W old new
+  look_keeps None t h = absurd h
+  look_keeps (Some o) turn.Moved h = keeps_holding W old new (what.Look (unit_no o.number)) new.clock new.rooms (looked old.held o h.0 h.1) h.2.same
+  look_keeps (Some o) turn.Worn h = keeps_same W old new h.same
+  look_keeps (Some o) turn.Stepped h = absurd h
+  look_keeps (Some o) turn.EmptyRound h = absurd h
+  look_keeps (Some o) turn.Spent h = absurd h
+
+  pub put_keeps : (tray : List Owned) (t : Turn) → IfFirst tray (PutBy moves old before t new after) → Keeps W old new
+  put_keeps [] t h = absurd h
+  put_keeps (o ∷ os) turn.Moved h = keeps_holding W old new (what.Put (unit_no o.number) (pool_no o.carried.home)) new.clock new.rooms (record old.held { tray = os }) h.same
+  put_keeps (o ∷ os) turn.Worn h = keeps_same W old new h.same
+  put_keeps (o ∷ os) turn.Stepped h = absurd h
+  put_keeps (o ∷ os) turn.EmptyRound h = absurd h
+  put_keeps (o ∷ os) turn.Spent h = absurd h
+
+  pub step_keeps : (hand : Option Owned) (a : Op) (t : Turn) → IfHeld hand (OpBy moves W old before a t new after) → Keeps W old new
+  step_keeps None a t h = absurd h
+  step_keeps (Some o) a turn.Stepped h = keeps_holding W old new (step_of o h.1) new.clock new.rooms new.held h.4
+  step_keeps (Some o) a turn.Worn h = keeps_same W old new h.0
+  step_keeps (Some o) a turn.EmptyRound h = absurd h
+  step_keeps (Some o) a turn.Moved h = absurd h
+  step_keeps (Some o) a turn.Spent h = absurd h
+
+  pub enter_keeps : (hand : Option Owned) (g : SchedNo) (t : Turn) → old.order ≡ [] → IfHeld hand (EnterBy W g.0 old t new) → Keeps W old new
+  enter_keeps None g t none h = absurd h
+  enter_keeps (Some o) g turn.Moved none h = keeps_entered W old new (what.Enter (unit_no o.number)) (suc old.clock) new.rooms g.0 o h.0 none h.1
+  enter_keeps (Some o) g turn.Worn none h = keeps_same W old new h.1
+  enter_keeps (Some o) g turn.Stepped none h = absurd h
+  enter_keeps (Some o) g turn.EmptyRound none h = absurd h
+  enter_keeps (Some o) g turn.Spent none h = absurd h

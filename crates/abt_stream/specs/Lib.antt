@@ -1,0 +1,9 @@
+pub mod Dues
+pub mod Events
+pub mod Hearing
+pub mod Heeding
+pub mod Keeping
+pub mod Operated
+pub mod Shapes
+pub mod Streams
+pub mod Turned

@@ -1,0 +1,246 @@
+//! A stream and its turns.
+
+ghost use Rattle.std.specs.Prelude.{◌≡◌, ◌<◌, ◌≤◌, ◌↔◌, [], IfOk, option_map, map, IsTrue, List};
+ghost use Rattle.abt_stream.specs.Streams.{FitsShapes, FitsStream, IsIdle, hand_of, next_of, owned, IsLog};
+ghost use Rattle.abt_stream.specs.Dues.{HasStep};
+ghost use Rattle.abt_stream.specs.Heeding.{Heeds};
+ghost use Rattle.abt_stream.specs.Turned.{IsReady, Turned, IsSpent};
+ghost use Rattle.abt_machine.specs.declared.operations.OrderShape.{OrderShape};
+ghost use Rattle.abt_calls.specs.Starts.{start_part};
+ghost use Rattle.abt_machine.specs.Valid.{IsValid};
+ghost use Rattle.abt_machine.specs.Outcomes.{steps_in};
+
+mod idling;
+mod looking;
+mod preparing;
+mod putting;
+mod running;
+mod stepping;
+mod writing;
+
+use crate::dues::HandDue;
+use crate::parts::{Frame, Marking, Work};
+use crate::turns::{Pace, Turn};
+use abt_chain::Chain;
+use abt_commons::Commons;
+use abt_machine::{Event, Items, Log, PoolNo, StreamNo, Want, What, Workload};
+use abt_order::Scheduler;
+use abt_unit::Unit;
+use std::alloc::Global;
+use std::marker::Model;
+
+/// The clock's last stamp.
+const LAST: u64 = 1 << 62;
+
+/// The scheduler units of stacked frames, the lowest first.
+pub type Frames = Items<Box<Unit>>;
+
+/// What a stream leaves.
+#[derive(Drop)]
+pub struct StreamParts {
+    pub log: Log,
+    pub hand: Option<Box<Unit>>,
+    pub next: Option<Box<Unit>>,
+    pub tray: Chain,
+    pub frames: Frames,
+}
+
+/// An execution stream.
+#[derive(Drop)]
+pub struct Stream {
+    number: StreamNo,
+    budget: u64,
+    left: u64,
+    clock: u64,
+    mark: Marking,
+    work: Work,
+    tray: Chain,
+    top: Frame,
+    below: Vec<Frame>,
+    framed: Vec<Box<Unit>>,
+    order: Vec<PoolNo>,
+    at: usize,
+    log: Vec<Event>,
+}
+
+impl Model for Stream {
+    ghost use Rattle.std.specs.Prelude.{ℕ, ◌≡◌, ◌≤◌, ◌+◌, ◌-◌, ◌^◌, [], length, map, take, vec_capacity, vec_len};
+    ghost use Rattle.std.specs.List.{All};
+    ghost use Rattle.abt_machine.specs.Outcomes.{steps_in};
+    ghost use Rattle.abt_stream.specs.Streams.{IsFreeUnit, IsLog, IsOrderly, StreamValue, behind_of, hand_of, next_of, own_of, owned, spare_of};
+
+    ghost Value = { StreamValue };
+
+    ghost view = { λ s. record {
+      number = s.number;
+      budget = s.budget;
+      clock = s.clock;
+      held = record {
+        own = own_of s.mark s.top (take s.at s.order.items) s.below.items;
+        hand = hand_of s.work;
+        next = next_of s.work;
+        tray = s.tray.units;
+        framed = map owned s.framed.items;
+      };
+      top = s.top;
+      below = s.below.items;
+      order = s.order.items;
+      at = s.at;
+      log = s.log.items;
+      rooms = record {
+        events = vec_capacity s.log - vec_len s.log;
+        frames = vec_capacity s.below - vec_len s.below;
+        units = vec_capacity s.framed - vec_len s.framed;
+        output = spare_of s.work;
+      };
+    } };
+
+    ghost invariant = { λ s. (behind_of s.work ≡ []) × All IsFreeUnit s.framed.items × (length s.framed.items ≡ length s.below.items)
+        × (s.at ≤ length s.order.items - 1) × IsOrderly s.order.items s.work × IsLog s.number s.clock s.log.items × (s.clock ≤ 2 ^ 62)
+        × (s.left + steps_in s.log.items ≡ s.budget) };
+}
+
+impl Stream {
+    /// The stream at the start, which may make so many steps.
+    #[tactic(auto, using(crate::proofs::Starting::main_is))]
+    pub fn new(alloc: Global, w: &Workload, s: StreamNo, steps: u64) -> Result<Stream, Want>
+        requires { s.0 < w.now.streams }
+        ensures number { IfOk result (λ r. r.number ≡ s) }
+        ensures budget { IfOk result (λ r. r.budget ≡ steps) }
+        ensures clock { IfOk result (λ r. r.clock ≡ 0) }
+        ensures held { IfOk result (λ r. r.held ≡ start_part w.now s.0) }
+        ensures log { IfOk result (λ r. r.log ≡ []) }
+        ensures order { IfOk result (λ r. r.order ≡ []) }
+        ensures fits { IfOk result (FitsStream w.now) }
+    {
+        // The count is of no use here, but its contract says that the workload is valid.
+        w.streams();
+        let top = Frame {
+            scheduler: Scheduler::new(w, w.main(s)),
+            round: 0,
+            empty: false,
+        };
+        Ok(Stream {
+            number: s,
+            budget: steps,
+            left: steps,
+            clock: 0,
+            mark: Marking::Plain,
+            work: Work::Idle,
+            tray: Chain::new(),
+            top,
+            below: Vec::new(alloc),
+            framed: Vec::new(alloc),
+            order: Vec::new(alloc),
+            at: 0,
+            log: Vec::new(alloc),
+        })
+    }
+
+    /// One turn: the stream's next event, or none.
+    pub fn turn<'w, C: Commons<'w>, P: Pace>(
+        &mut self,
+        commons: &C,
+        pass: &mut C::Pass,
+        w: &Workload,
+        pace: &P,
+    ) -> Turn
+        requires pass { C.is_of commons.now pass.old }
+        requires w { C.workload commons.now ≡ w.now }
+        requires fits { FitsStream w.now self.old }
+        requires ready { IsReady w.now self.old }
+        ensures turned { (Z : List OrderShape) → FitsShapes w.now Z self.old → Turned (Heeds (C.moves commons.now) (C.workload commons.now)) w.now Z self.old pass.old result self.new pass.new }
+        ensures stream { self.new.number ≡ self.old.number }
+        ensures budget { self.new.budget ≡ self.old.budget }
+        ensures fits { FitsStream w.now self.new }
+        ensures shapes { (Z : List OrderShape) → FitsShapes w.now Z self.old → FitsShapes w.now Z self.new }
+        ensures pass { C.is_of commons.now pass.new }
+        ensures number { C.number pass.new ≡ C.number pass.old }
+    {
+        // The count is of no use here, but its contract says that the workload is valid.
+        w.streams();
+        if !self.tray.is_empty() {
+            return self.put(commons, pass);
+        }
+        match &self.work {
+            Work::Taken(_) => self.look(commons, pass),
+            Work::Running(_) => self.run(commons, pass, w, pace),
+            Work::Idle => self.idle(commons, pass, w),
+        }
+    }
+
+    /// Whether the stream has made its steps, and its next event is a step.
+    #[tactic(auto, using(crate::proofs::Spending::spending))]
+    pub fn is_spent(&self, w: &Workload) -> bool
+        requires fits { FitsStream w.now self.now }
+        ensures { IsTrue result ↔ IsSpent w.now self.now }
+    {
+        // The count is of no use here, but its contract says that the workload is valid.
+        w.streams();
+        !self.may_step() && self.tray.is_empty() && self.has_step(w)
+    }
+
+    // Whether a step of the unit in hand is due.
+    fn has_step(&self, w: &Workload) -> bool
+        requires valid { IsValid w.now }
+        requires fits { FitsStream w.now self.now }
+        ensures { IsTrue result ↔ HasStep w.now self.now.number.0 self.now.held }
+    {
+        match &self.work {
+            Work::Running(_) => match self.hand_due(w) {
+                HandDue::Step(_) => true,
+                HandDue::End(_) => false,
+                HandDue::Enter(_) => false,
+            },
+            Work::Taken(_) | Work::Idle => false,
+        }
+    }
+
+    /// Whether hand, Next and tray are empty and there is no stacked frame.
+    pub fn is_idle(&self) -> bool
+        ensures { IsTrue result ↔ (IsIdle self.now × (self.now.held.own.below ≡ [])) }
+    {
+        self.tray.is_empty() && matches!(&self.work, Work::Idle) && self.below.is_empty()
+    }
+
+    /// The events so far.
+    pub fn log(&self) -> &[Event]
+        ensures log { result.now ≡ self.now.log }
+        ensures own { IsLog self.now.number self.now.clock self.now.log }
+        ensures steps { steps_in self.now.log ≤ self.now.budget }
+    {
+        self.log.as_slice()
+    }
+
+    /// What the stream leaves.
+    pub fn into_parts(self) -> StreamParts
+        ensures log { result.log ≡ self.log }
+        ensures own { IsLog self.number self.clock self.log }
+        ensures steps { steps_in self.log ≤ self.budget }
+        ensures hand { option_map owned result.hand ≡ self.held.hand }
+        ensures next { option_map owned result.next ≡ self.held.next }
+        ensures tray { result.tray.units ≡ self.held.tray }
+        ensures frames { map owned result.frames ≡ self.held.framed }
+    {
+        let (hand, next) = parted(self.work);
+        StreamParts {
+            log: Items::new(self.log),
+            hand,
+            next,
+            tray: self.tray,
+            frames: Items::new(self.framed),
+        }
+    }
+}
+
+// The unit in hand, and the one in Next.
+fn parted(work: Work) -> (Option<Box<Unit>>, Option<Box<Unit>>)
+    ensures hand { option_map owned result.0 ≡ hand_of work }
+    ensures next { option_map owned result.1 ≡ next_of work }
+{
+    match work {
+        Work::Idle => (None, None),
+        Work::Taken(unit) => (None, Some(unit)),
+        Work::Running(unit) => (Some(unit), None),
+    }
+}

@@ -1,0 +1,95 @@
+//! The memory that a turn needs.
+
+ghost use Rattle.std.specs.Prelude.{◌≡◌, ◌<◌, ◌+◌, ◌^◌, ◌↔◌, ℕ, [], OnOk, OnErr, IsSome, false, ◌⊎◌, IsTrue, length, ◌≢◌, IsPermutation};
+ghost use Rattle.abt_stream.specs.Streams.{FitsShapes, FitsStream, IsIdle};
+ghost use Rattle.abt_stream.specs.Turned.{IsPrepared, IsReady};
+ghost use Rattle.abt_machine.specs.Rounds.{IsOrder};
+ghost use Rattle.abt_machine.specs.Workloads.{pools_of};
+ghost use Rattle.abt_order.specs.Schedulers.{IsSchedulerOf, IsStored, pool_numbers};
+ghost use Rattle.abt_machine.specs.Valid.{IsValid};
+
+use super::Stream;
+use crate::parts::Work;
+use abt_machine::{Want, Workload};
+use abt_order::StoredOrder;
+
+impl Stream {
+    ghost use Rattle.abt_order.specs.Stored.{shapes_of};
+
+    /// Takes what one turn needs: room for one event, for one frame, and for one piece of output of the unit in hand, and the
+    /// next round's order, where the next event starts a round and none is held.
+    pub fn prepare(&mut self, w: &Workload, orders: &[StoredOrder]) -> Result<(), Want>
+        requires stored { (g : ℕ) → IsStored w.now g (length orders.now) }
+        requires fits { FitsStream w.now self.old }
+        ensures held { self.new.held ≡ self.old.held }
+        ensures ready { OnOk result (IsReady w.now self.new) }
+        ensures fits { FitsStream w.now self.new }
+        ensures shapes { FitsShapes w.now (shapes_of orders.now) self.old → FitsShapes w.now (shapes_of orders.now) self.new }
+        ensures same { OnOk result (IsPrepared self.old self.new) }
+        ensures kept { self.old.order ≢ [] → self.new ≡ record self.old { rooms = self.new.rooms } }
+        ensures err { OnErr result (self.new ≡ record self.old { rooms = self.new.rooms }) }
+    {
+        // The count is of no use here, but its contract says that the workload is valid.
+        w.streams();
+        if self.log.len() >= 1 << 57 {
+            return Err(Want);
+        }
+        self.make_room()?;
+        if self.starts_round() {
+            self.order_round(w, orders)?;
+        }
+        Ok(())
+    }
+
+    // Whether the next event starts a round.
+    fn starts_round(&self) -> bool
+        ensures { IsTrue result ↔ (IsIdle self.now × ((self.now.top.empty ≡ false) ⊎ (self.now.below ≡ [])) × (self.now.order ≡ [])) }
+    {
+        self.tray.is_empty()
+            && matches!(&self.work, Work::Idle)
+            && (!self.top.empty || self.below.is_empty())
+            && self.order.is_empty()
+    }
+
+    // Room for one event, one frame and its unit, and one piece of output.
+    fn make_room(&mut self) -> Result<(), Want>
+        ensures events { OnOk result (0 < self.new.rooms.events) }
+        ensures frames { OnOk result (0 < self.new.rooms.frames) }
+        ensures units { OnOk result (0 < self.new.rooms.units) }
+        ensures output { OnOk result (IsSome self.new.held.hand → 0 < self.new.rooms.output) }
+        ensures same { self.new ≡ record self.old { rooms = self.new.rooms } }
+    {
+        self.log.reserve(1)?;
+        self.below.reserve(1)?;
+        self.framed.reserve(1)?;
+        match &mut self.work {
+            Work::Running(unit) => unit.reserve_output()?,
+            Work::Taken(_) | Work::Idle => {}
+        }
+        Ok(())
+    }
+
+    // The next round's order.
+    #[tactic(auto, using(crate::proofs::Rounding::ordered_some))]
+    fn order_round(&mut self, w: &Workload, orders: &[StoredOrder]) -> Result<(), Want>
+        requires valid { IsValid w.now }
+        requires stored { IsStored w.now self.old.top.scheduler.number (length orders.now) }
+        requires scheduler { IsSchedulerOf w.now self.old.top.scheduler }
+        requires few { self.old.top.scheduler.round + 1 < 2 ^ 64 }
+        requires order { self.old.order ≡ [] }
+        requires idle { IsIdle self.old }
+        ensures order { OnOk result (IsOrder w.now (shapes_of orders.now) self.old.top.scheduler.number self.old.top.scheduler.round (pool_numbers self.new.order)) }
+        ensures permutes { OnOk result (IsPermutation (pools_of w.now self.old.top.scheduler.number) (pool_numbers self.new.order)) }
+        ensures number { OnOk result (self.new.top.scheduler.number ≡ self.old.top.scheduler.number) }
+        ensures next { OnOk result (self.new.top.scheduler.round ≡ self.old.top.scheduler.round + 1) }
+        ensures scheduler { OnOk result (IsSchedulerOf w.now self.new.top.scheduler) }
+        ensures some { OnOk result (self.new.order ≢ []) }
+        ensures held { self.new.held ≡ self.old.held }
+        ensures same { OnOk result (IsPrepared self.old self.new) }
+        ensures rooms { self.new.rooms ≡ self.old.rooms }
+        ensures err { OnErr result (self.new ≡ self.old) }
+    {
+        self.top.scheduler.round_into(w, orders, &mut self.order)?;
+        Ok(())
+    }
+}

@@ -1,0 +1,245 @@
+//! The unit in hand ends, goes on top as a scheduler, or makes a step.
+
+ghost use Rattle.std.specs.Prelude.{◌≡◌, ◌<◌, ◌≤◌, ◌^◌, [], ◌++◌, IsSome, None, Some, length, List};
+ghost use Rattle.abt_machine.specs.declared.events.What.TheVariants as what;
+ghost use Rattle.abt_stream.specs.Dues.{DueIs};
+ghost use Rattle.abt_stream.specs.Heeding.{Heeds};
+ghost use Rattle.abt_stream.specs.Turned.{IsReady, Turned};
+ghost use Rattle.abt_machine.specs.declared.operations.OrderShape.{OrderShape};
+ghost use Rattle.abt_machine.specs.Operations.{IsDeclared};
+ghost use Rattle.abt_machine.specs.Workloads.{op_at};
+ghost use Rattle.abt_machine.specs.Valid.{IsValid};
+ghost use Rattle.abt_unit.specs.Fits.{Fits};
+ghost use Rattle.abt_stream.specs.Events.{IfHeld, EndBy, CanStep, EnterBy, holding, wrote};
+ghost use Rattle.abt_stream.specs.Shapes.{IsPlan};
+ghost use Rattle.abt_stream.specs.Keeping.{Keeps};
+ghost use Rattle.abt_stream.specs.Operated.{OpBy};
+
+use super::{LAST, Stream};
+use crate::dues;
+use crate::dues::HandDue;
+use crate::parts::{Frame, Marking, Work};
+use crate::plans::{Plan, name, planned};
+use crate::turns::{Pace, Turn};
+use abt_chain::Chain;
+use abt_commons::{Act, Answer, Commons, Reply};
+use abt_machine::{Cause, Op, SchedNo, Site, UnitNo, What, Workload};
+use abt_order::Scheduler;
+use std::mem;
+
+impl Stream {
+    // The unit in hand goes on, or ends.
+    pub(super) fn run<'w, C: Commons<'w>, P: Pace>(
+        &mut self,
+        commons: &C,
+        pass: &mut C::Pass,
+        w: &Workload,
+        pace: &P,
+    ) -> Turn
+        requires pass { C.is_of commons.now pass.old }
+        requires w { C.workload commons.now ≡ w.now }
+        requires valid { IsValid w.now }
+        requires stream { self.old.number.0 < w.now.streams }
+        requires ready { IsReady w.now self.old }
+        requires tray { self.old.held.tray ≡ [] }
+        requires next { self.old.held.next ≡ None }
+        requires fits { IfHeld self.old.held.hand (Fits w.now) }
+        requires order { self.old.order ≡ [] }
+        ensures turned { (Z : List OrderShape) → Turned (Heeds (C.moves commons.now) (C.workload commons.now)) w.now Z self.old pass.old result self.new pass.new }
+        ensures pass { C.is_of commons.now pass.new }
+        ensures number { C.number pass.new ≡ C.number pass.old }
+        ensures keeps { Keeps w.now self.old self.new }
+    {
+        match self.hand_due(w) {
+            HandDue::End(cause) => self.end(commons, pass, cause),
+            HandDue::Enter(g) => self.enter(w, g),
+            HandDue::Step(op) => {
+                if self.may_step() {
+                    return self.operate(commons, pass, w, pace, op);
+                }
+                Turn::Spent
+            }
+        }
+    }
+
+    // What is due for the unit in hand.
+    pub(super) fn hand_due(&self, w: &Workload) -> HandDue
+        requires valid { IsValid w.now }
+        requires stream { self.now.number.0 < w.now.streams }
+        requires fits { IfHeld self.now.held.hand (Fits w.now) }
+        ensures { IfHeld self.now.held.hand (λ o. DueIs w.now self.now.number.0 self.now.held.own.mark o result) }
+    {
+        match &self.work {
+            Work::Running(unit) => match self.mark {
+                Marking::Asked => HandDue::End(Cause::Asked),
+                Marking::Plain => dues::plain(w, self.number, unit),
+                Marking::Left => dues::left(w, unit),
+            },
+            _ => unreachable!(),
+        }
+    }
+
+    // The unit in hand ends.
+    #[tactic(auto, using(crate::proofs::Calls::end_may))]
+    fn end<'w, C: Commons<'w>>(&mut self, commons: &C, pass: &mut C::Pass, cause: Cause) -> Turn
+        requires pass { C.is_of commons.now pass.old }
+        requires hand { IfHeld self.old.held.hand (Fits (C.workload commons.now)) }
+        requires room { 0 < self.old.rooms.events }
+        ensures end { IfHeld self.old.held.hand (EndBy (Heeds (C.moves commons.now) (C.workload commons.now)) self.old pass.old cause result self.new pass.new) }
+        ensures pass { C.is_of commons.now pass.new }
+        ensures number { C.number pass.new ≡ C.number pass.old }
+    {
+        match mem::replace(&mut self.work, Work::Idle) {
+            Work::Running(unit) => {
+                let number = name(&unit);
+                match commons.call(pass, Site::Desk(number), self.clock, Act::End(unit, cause)) {
+                    Reply::Done { stamp, answer } => {
+                        match answer {
+                            Answer::Woke(woken) => self.ended(stamp, number, cause, woken),
+                            _ => unreachable!(),
+                        }
+                        Turn::Moved
+                    }
+                    Reply::Worn(act) => {
+                        match act {
+                            Act::End(unit, _) => self.work = Work::Running(unit),
+                            _ => unreachable!(),
+                        }
+                        Turn::Worn
+                    }
+                }
+            }
+            _ => unreachable!(),
+        }
+    }
+
+    // A unit has ended, and those that joined it are woken.
+    fn ended(&mut self, stamp: u64, number: UnitNo, cause: Cause, mut woken: Chain)
+        requires room { 0 < self.old.rooms.events }
+        requires above { self.old.clock < stamp }
+        requires bound { stamp ≤ 2 ^ 62 }
+        ensures clock { self.new.clock ≡ stamp }
+        ensures same { self.new ≡ wrote (holding self.old (record self.old.held { tray = self.old.held.tray ++ woken.units })) (what.End number cause) stamp self.new.rooms }
+    {
+        woken.drain_into(&mut self.tray);
+        self.write(stamp, What::End(number, cause));
+    }
+
+    // The scheduler unit in hand runs on top.
+    #[tactic(auto, using(crate::proofs::Stacks::stacked))]
+    fn enter(&mut self, w: &Workload, g: SchedNo) -> Turn
+        requires sched { g.0 < length w.now.scheds }
+        requires hand { IsSome self.old.held.hand }
+        requires order { self.old.order ≡ [] }
+        requires events { 0 < self.old.rooms.events }
+        requires frames { 0 < self.old.rooms.frames }
+        requires units { 0 < self.old.rooms.units }
+        ensures { IfHeld self.old.held.hand (EnterBy w.now g.0 self.old result self.new) }
+    {
+        if self.clock == LAST {
+            return Turn::Worn;
+        }
+        match mem::replace(&mut self.work, Work::Idle) {
+            Work::Running(unit) => {
+                let number = name(&unit);
+                let frame = Frame {
+                    scheduler: Scheduler::new(w, g),
+                    round: 0,
+                    empty: false,
+                };
+                self.below.push_reserved(mem::replace(&mut self.top, frame));
+                self.framed.push_reserved(unit);
+                self.write(self.clock + 1, What::Enter(number));
+                Turn::Moved
+            }
+            _ => unreachable!(),
+        }
+    }
+
+    // The operation of the unit in hand.
+    fn operate<'w, C: Commons<'w>, P: Pace>(
+        &mut self,
+        commons: &C,
+        pass: &mut C::Pass,
+        w: &Workload,
+        pace: &P,
+        op: Op,
+    ) -> Turn
+        requires pass { C.is_of commons.now pass.old }
+        requires w { C.workload commons.now ≡ w.now }
+        requires valid { IsValid w.now }
+        requires stream { self.old.number.0 < w.now.streams }
+        requires can { CanStep self.old }
+        requires fits { IfHeld self.old.held.hand (Fits w.now) }
+        requires at { IfHeld self.old.held.hand (λ o. op_at w.now o.number o.carried.position ≡ Some op) }
+        requires declared { IsDeclared w.now op }
+        ensures step { IfHeld self.old.held.hand (OpBy (Heeds (C.moves commons.now) (C.workload commons.now)) w.now self.old pass.old op result self.new pass.new) }
+        ensures pass { C.is_of commons.now pass.new }
+        ensures number { C.number pass.new ≡ C.number pass.old }
+    {
+        self.announce(pace);
+        let plan = self.plan(w, op);
+        self.step(commons, pass, w, plan, op)
+    }
+
+    // The step is about to come.
+    fn announce<P: Pace>(&self, pace: &P)
+        requires { IsSome self.now.held.hand }
+    {
+        match &self.work {
+            Work::Running(unit) => {
+                pace.before_step(self.number, unit.number(), unit.position());
+            }
+            _ => unreachable!(),
+        }
+    }
+
+    // What the operation of the unit in hand asks of the stream.
+    fn plan(&self, w: &Workload, op: Op) -> Plan
+        requires valid { IsValid w.now }
+        requires stream { self.now.number.0 < w.now.streams }
+        requires hand { IsSome self.now.held.hand }
+        requires declared { IsDeclared w.now op }
+        ensures { IfHeld self.now.held.hand (λ o. IsPlan w.now self.now.number.0 op o result) }
+    {
+        match &self.work {
+            Work::Running(unit) => planned(w, self.number, op, unit),
+            _ => unreachable!(),
+        }
+    }
+
+    // The operation of the unit in hand, as it is planned.
+    #[tactic(auto, using(crate::proofs::Operated::operations))]
+    fn step<'w, C: Commons<'w>>(
+        &mut self,
+        commons: &C,
+        pass: &mut C::Pass,
+        w: &Workload,
+        plan: Plan,
+        op: Op,
+    ) -> Turn
+        requires pass { C.is_of commons.now pass.old }
+        requires w { C.workload commons.now ≡ w.now }
+        requires valid { IsValid w.now }
+        requires can { CanStep self.old }
+        requires fits { IfHeld self.old.held.hand (Fits w.now) }
+        requires at { IfHeld self.old.held.hand (λ o. op_at w.now o.number o.carried.position ≡ Some op) }
+        requires plan { IfHeld self.old.held.hand (λ o. IsPlan w.now self.old.number.0 op o plan) }
+        ensures step { IfHeld self.old.held.hand (OpBy (Heeds (C.moves commons.now) (C.workload commons.now)) w.now self.old pass.old op result self.new pass.new) }
+        ensures pass { C.is_of commons.now pass.new }
+        ensures number { C.number pass.new ≡ C.number pass.old }
+    {
+        match &self.work {
+            Work::Running(_) => match plan {
+                Plan::Own => self.own(w),
+                Plan::Yield => self.yields(),
+                Plan::Deny => self.deny(),
+                Plan::Ask(site, act) => self.ask(commons, pass, site, act),
+                Plan::Give(site, giving) => self.give(commons, pass, site, giving),
+                Plan::Wait(site, condition) => self.wait(commons, pass, site, condition),
+                Plan::YieldTo(site, v) => self.yields_to(commons, pass, site, v),
+            },
+            _ => unreachable!(),
+        }
+    }
+}

@@ -1,0 +1,317 @@
+//! A step, by the shape of the call that it makes.
+
+ghost use Rattle.std.specs.Prelude.{◌≡◌, ◌<◌, ◌≤◌, ◌^◌, [], ◌∷◌, None, Some};
+ghost use Rattle.abt_machine.specs.declared.events.Code.TheVariants as code;
+ghost use Rattle.abt_machine.specs.Plans.{empties, refusal, to_caller, to_condition, to_giver, to_yielder};
+ghost use Rattle.abt_machine.specs.Acts.{carrying, moved};
+ghost use Rattle.abt_machine.specs.Acts as asked;
+ghost use Rattle.abt_calls.specs.Asking.{MayCall};
+ghost use Rattle.abt_commons.specs.Acts.{IsFreeAct, IsFreeAnswer, act_of, answer_of};
+ghost use Rattle.abt_stream.specs.Heeding.{Heeds};
+ghost use Rattle.abt_stream.specs.Hearing.{IsForCaller, IsForYielder};
+ghost use Rattle.abt_unit.specs.Units.{IsFree};
+ghost use Rattle.abt_unit.specs.Fits.{Fits};
+ghost use Rattle.abt_unit.specs.Local.{IsLocal, back};
+ghost use Rattle.abt_stream.specs.Events.{IfHeld, CanStep, OwnBy, StepsAlone, StepsBy, after_step, step_of, wrote};
+ghost use Rattle.abt_stream.specs.Shapes.{IsAsked, given};
+
+use super::{LAST, Stream};
+use crate::hearing;
+use crate::parts::Work;
+use crate::plans::{Giving, name};
+use crate::turns::Turn;
+use abt_commons::{Act, Answer, Commons, Reply};
+use abt_machine::{Code, Site, UnitNo, What, Workload};
+use abt_unit::Unit;
+use std::mem;
+
+impl Stream {
+    // A local operation of the unit in hand.
+    pub(super) fn own(&mut self, w: &Workload) -> Turn
+        requires can { CanStep self.old }
+        requires fits { IfHeld self.old.held.hand (Fits w.now) }
+        requires local { IfHeld self.old.held.hand (IsLocal w.now) }
+        ensures { IfHeld self.old.held.hand (OwnBy w.now self.old result self.new) }
+    {
+        if self.clock == LAST {
+            return Turn::Worn;
+        }
+        match mem::replace(&mut self.work, Work::Idle) {
+            Work::Running(mut unit) => {
+                let number = name(&unit);
+                let at = unit.position();
+                unit.step_local(w);
+                self.work = Work::Running(unit);
+                self.write_step(self.clock + 1, number, at, Code::Ok);
+                Turn::Stepped
+            }
+            _ => unreachable!(),
+        }
+    }
+
+    // The unit in hand yields.
+    pub(super) fn yields(&mut self) -> Turn
+        requires can { CanStep self.old }
+        ensures { IfHeld self.old.held.hand (λ o. StepsAlone self.old (empties (moved o ∷ [])) result self.new o) }
+    {
+        if self.clock == LAST {
+            return Turn::Worn;
+        }
+        match mem::replace(&mut self.work, Work::Idle) {
+            Work::Running(mut unit) => {
+                let number = name(&unit);
+                let at = unit.position();
+                unit.advance();
+                self.tray.push_back(unit);
+                self.write_step(self.clock + 1, number, at, Code::Ok);
+                Turn::Stepped
+            }
+            _ => unreachable!(),
+        }
+    }
+
+    // The unit in hand names a pool that the stream may not reach.
+    pub(super) fn deny(&mut self) -> Turn
+        requires can { CanStep self.old }
+        ensures { IfHeld self.old.held.hand (λ o. StepsAlone self.old (refusal o code.PoolAccess) result self.new o) }
+    {
+        if self.clock == LAST {
+            return Turn::Worn;
+        }
+        match mem::replace(&mut self.work, Work::Idle) {
+            Work::Running(mut unit) => {
+                let number = name(&unit);
+                let at = unit.position();
+                hearing::refuse(&mut unit, Code::PoolAccess);
+                self.work = Work::Running(unit);
+                self.write_step(self.clock + 1, number, at, Code::PoolAccess);
+                Turn::Stepped
+            }
+            _ => unreachable!(),
+        }
+    }
+
+    // A call by the unit in hand, which stays there.
+    #[tactic(auto, using(crate::proofs::Answered::for_caller))]
+    pub(super) fn ask<'w, C: Commons<'w>>(
+        &mut self,
+        commons: &C,
+        pass: &mut C::Pass,
+        site: Site,
+        act: Act,
+    ) -> Turn
+        requires pass { C.is_of commons.now pass.old }
+        requires can { CanStep self.old }
+        requires asked { IsAsked (act_of act) }
+        requires free { IsFreeAct act }
+        requires may { MayCall (C.workload commons.now) site (act_of act) }
+        ensures step { IfHeld self.old.held.hand (λ o. StepsBy (Heeds (C.moves commons.now) (C.workload commons.now)) self.old pass.old site (act_of act) (to_caller o) result self.new pass.new o) }
+        ensures pass { C.is_of commons.now pass.new }
+        ensures number { C.number pass.new ≡ C.number pass.old }
+    {
+        match commons.call(pass, site, self.clock, act) {
+            Reply::Done { stamp, answer } => {
+                self.heard(stamp, answer);
+                Turn::Stepped
+            }
+            Reply::Worn(_) => Turn::Worn,
+        }
+    }
+
+    // What it is answered.
+    fn heard(&mut self, stamp: u64, answer: Answer)
+        requires can { CanStep self.old }
+        requires answer { IsForCaller (answer_of answer) }
+        requires free { IsFreeAnswer answer }
+        requires above { self.old.clock < stamp }
+        requires bound { stamp ≤ 2 ^ 62 }
+        ensures clock { self.new.clock ≡ stamp }
+        ensures same { IfHeld self.old.held.hand (λ o. self.new ≡ wrote (after_step self.old (to_caller o (answer_of answer))) (step_of o (to_caller o (answer_of answer)).code) stamp self.new.rooms) }
+    {
+        match mem::replace(&mut self.work, Work::Idle) {
+            Work::Running(mut unit) => {
+                let number = name(&unit);
+                let at = unit.position();
+                let code = hearing::hear(&mut unit, &mut self.tray, answer);
+                self.work = Work::Running(unit);
+                self.write_step(stamp, number, at, code);
+            }
+            _ => unreachable!(),
+        }
+    }
+
+    // A call that takes the unit in hand with it.
+    #[tactic(auto, using(crate::proofs::Answered::for_giver))]
+    pub(super) fn give<'w, C: Commons<'w>>(
+        &mut self,
+        commons: &C,
+        pass: &mut C::Pass,
+        site: Site,
+        giving: Giving,
+    ) -> Turn
+        requires pass { C.is_of commons.now pass.old }
+        requires can { CanStep self.old }
+        requires may { IfHeld self.old.held.hand (λ o. MayCall (C.workload commons.now) site (given giving (moved o))) }
+        ensures step { IfHeld self.old.held.hand (λ o. StepsBy (Heeds (C.moves commons.now) (C.workload commons.now)) self.old pass.old site (given giving (moved o)) to_giver result self.new pass.new o) }
+        ensures pass { C.is_of commons.now pass.new }
+        ensures number { C.number pass.new ≡ C.number pass.old }
+    {
+        match mem::replace(&mut self.work, Work::Idle) {
+            Work::Running(mut unit) => {
+                let number = name(&unit);
+                let at = unit.position();
+                unit.advance();
+                let act = hearing::give(giving, unit);
+                match commons.call(pass, site, self.clock, act) {
+                    Reply::Done { stamp, answer } => {
+                        self.work = hearing::returned(&mut self.tray, answer);
+                        self.write_step(stamp, number, at, Code::Ok);
+                        Turn::Stepped
+                    }
+                    Reply::Worn(act) => {
+                        self.take_back(hearing::given(act));
+                        Turn::Worn
+                    }
+                }
+            }
+            _ => unreachable!(),
+        }
+    }
+
+    // The unit that went with an act for nothing is in the hand again, at the same operation.
+    fn take_back(&mut self, mut unit: Box<Unit>)
+        requires free { IsFree unit.value }
+        requires position { 0 < unit.value.owned.carried.position }
+        requires hand { self.old.held.hand ≡ None }
+        requires next { self.old.held.next ≡ None }
+        requires order { self.old.order ≡ [] }
+        ensures { self.new ≡ record self.old { held = record self.old.held { hand = Some (carrying back unit.value.owned) }; rooms = record self.old.rooms { output = unit.value.spare } } }
+    {
+        unit.retreat();
+        self.work = Work::Running(unit);
+    }
+
+    // The unit in hand waits at a condition.
+    #[tactic(auto, using(crate::proofs::Answered::waiting))]
+    pub(super) fn wait<'w, C: Commons<'w>>(
+        &mut self,
+        commons: &C,
+        pass: &mut C::Pass,
+        site: Site,
+        condition: u32,
+    ) -> Turn
+        requires pass { C.is_of commons.now pass.old }
+        requires can { CanStep self.old }
+        requires may { IfHeld self.old.held.hand (λ o. MayCall (C.workload commons.now) site (asked.Wait condition (moved o))) }
+        ensures step { IfHeld self.old.held.hand (λ o. StepsBy (Heeds (C.moves commons.now) (C.workload commons.now)) self.old pass.old site (asked.Wait condition (moved o)) to_condition result self.new pass.new o) }
+        ensures pass { C.is_of commons.now pass.new }
+        ensures number { C.number pass.new ≡ C.number pass.old }
+    {
+        match mem::replace(&mut self.work, Work::Idle) {
+            Work::Running(mut unit) => {
+                let number = name(&unit);
+                let at = unit.position();
+                unit.advance();
+                match commons.call(pass, site, self.clock, Act::Wait(condition, unit)) {
+                    Reply::Done { stamp, answer } => {
+                        let (work, code) = hearing::refused(&mut self.tray, answer);
+                        self.work = work;
+                        self.write_step(stamp, number, at, code);
+                        Turn::Stepped
+                    }
+                    Reply::Worn(act) => {
+                        match act {
+                            Act::Wait(_, unit) => self.take_back(unit),
+                            _ => unreachable!(),
+                        }
+                        Turn::Worn
+                    }
+                }
+            }
+            _ => unreachable!(),
+        }
+    }
+
+    // The unit in hand yields to another one of a pool.
+    #[tactic(auto, using(crate::proofs::Answered::for_yielder))]
+    pub(super) fn yields_to<'w, C: Commons<'w>>(
+        &mut self,
+        commons: &C,
+        pass: &mut C::Pass,
+        site: Site,
+        v: UnitNo,
+    ) -> Turn
+        requires pass { C.is_of commons.now pass.old }
+        requires can { CanStep self.old }
+        requires may { MayCall (C.workload commons.now) site (asked.Remove v.0) }
+        ensures step { IfHeld self.old.held.hand (λ o. StepsBy (Heeds (C.moves commons.now) (C.workload commons.now)) self.old pass.old site (asked.Remove v.0) (to_yielder o) result self.new pass.new o) }
+        ensures pass { C.is_of commons.now pass.new }
+        ensures number { C.number pass.new ≡ C.number pass.old }
+    {
+        match commons.call(pass, site, self.clock, Act::Remove(v)) {
+            Reply::Done { stamp, answer } => {
+                self.answered(stamp, answer);
+                Turn::Stepped
+            }
+            Reply::Worn(_) => Turn::Worn,
+        }
+    }
+
+    // What the yielding unit is answered.
+    fn answered(&mut self, stamp: u64, answer: Answer)
+        requires can { CanStep self.old }
+        requires answer { IsForYielder (answer_of answer) }
+        requires free { IsFreeAnswer answer }
+        requires above { self.old.clock < stamp }
+        requires bound { stamp ≤ 2 ^ 62 }
+        ensures clock { self.new.clock ≡ stamp }
+        ensures same { IfHeld self.old.held.hand (λ o. self.new ≡ wrote (after_step self.old (to_yielder o (answer_of answer))) (step_of o (to_yielder o (answer_of answer)).code) stamp self.new.rooms) }
+    {
+        match answer {
+            Answer::Given(other) => self.yielded(stamp, other),
+            Answer::Code(code) => self.refused(stamp, code),
+            _ => unreachable!(),
+        }
+    }
+
+    // The other unit is taken.
+    fn yielded(&mut self, stamp: u64, other: Box<Unit>)
+        requires can { CanStep self.old }
+        requires free { IsFree other.value }
+        requires above { self.old.clock < stamp }
+        requires bound { stamp ≤ 2 ^ 62 }
+        ensures clock { self.new.clock ≡ stamp }
+        ensures same { IfHeld self.old.held.hand (λ o. self.new ≡ wrote (after_step self.old (to_yielder o (asked.Given other.value.owned))) (step_of o (to_yielder o (asked.Given other.value.owned)).code) stamp self.new.rooms) }
+    {
+        match mem::replace(&mut self.work, Work::Taken(other)) {
+            Work::Running(mut unit) => {
+                let number = name(&unit);
+                let at = unit.position();
+                unit.advance();
+                self.tray.push_back(unit);
+                self.write_step(stamp, number, at, Code::Ok);
+            }
+            _ => unreachable!(),
+        }
+    }
+
+    // The operation of the unit in hand is refused.
+    fn refused(&mut self, stamp: u64, code: Code)
+        requires can { CanStep self.old }
+        requires above { self.old.clock < stamp }
+        requires bound { stamp ≤ 2 ^ 62 }
+        ensures clock { self.new.clock ≡ stamp }
+        ensures same { IfHeld self.old.held.hand (λ o. self.new ≡ wrote (after_step self.old (to_yielder o (asked.Coded code))) (step_of o (to_yielder o (asked.Coded code)).code) stamp self.new.rooms) }
+    {
+        match mem::replace(&mut self.work, Work::Idle) {
+            Work::Running(mut unit) => {
+                let number = name(&unit);
+                let at = unit.position();
+                hearing::refuse(&mut unit, code);
+                self.work = Work::Running(unit);
+                self.write_step(stamp, number, at, code);
+            }
+            _ => unreachable!(),
+        }
+    }
+}
