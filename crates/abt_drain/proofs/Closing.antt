@@ -1,0 +1,107 @@
+-- What a crew leaves at the end.
+use Rattle.std.proofs.Common.{◌≡◌, ℕ, zero, suc, ◌<◌, List, [], ◌∷◌, ◌++◌, length, Some, slice_get, refl, sym, ◌∙◌, ap, subst, inl, inr, All}
+use Rattle.std.proofs.lemmas.Option.{slice_get_within}
+use Rattle.abt_machine.specs.declared.events.Event.{Event}
+use Rattle.abt_machine.specs.declared.events.Outcome.{Outcome}
+use Rattle.abt_machine.specs.declared.operations.OrderShape.{OrderShape}
+use Rattle.abt_machine.specs.declared.workload.Parts.{Parts}
+use Rattle.abt_machine.specs.Runs.{last_state}
+use Rattle.abt_machine.specs.Texts.{shown_units}
+use Rattle.abt_calls.specs.Holders.{units_of}
+use Rattle.abt_interleave.specs.Merges.{IsLogOf}
+use Rattle.abt_interleave.proofs.Members.{Among, all-from-among}
+use Rattle.abt_merge.specs.Logs.{AreLogs, log_of}
+use Rattle.abt_report.specs.declared.pictures.Row.{Row}
+use Rattle.abt_report.specs.Pictures as picture
+use Rattle.abt_simulation.specs.Journals.{MergesTo}
+use Rattle.abt_stream.specs.declared.stream.StreamParts.{StreamParts}
+use Rattle.abt_stream.specs.Streams.{FitsStream, StreamValue}
+use Rattle.abt_laws.proofs.Options.{some-injective}
+use Rattle.abt_drain.specs.Crews.{CrewValue, HaveLeft, HaveStopped, IsCrew, log_from, logs_in, moment_in}
+use Rattle.abt_drain.specs.Looks.{held_from}
+use Rattle.abt_drain.specs.Moments.{LeadTo}
+use Rattle.abt_drain.specs.Pictures.{LeavesWhatFits, ShowsUnits, units_left}
+use Rattle.abt_drain.specs.Runs.{HasRun}
+use Rattle.abt_drain.proofs.Ending.{has-run}
+use Rattle.abt_drain.proofs.Journals.{log-is, merged-lead}
+use Rattle.abt_drain.proofs.Leading.{lead-sound}
+use Rattle.abt_drain.proofs.Leaving.{left-fits}
+
+-- Lists.
+
+-- the log of a stream among those of all
+log-at : (streams : List StreamValue) (s : ℕ) → log_of (logs_in streams) s ≡ log_from (slice_get streams s)
+log-at [] s = refl
+log-at (stream ∷ streams) zero = refl
+log-at (stream ∷ streams) (suc s) = log-at streams s
+
+-- the only element of a list is one
+pub only-one : {A : Type 0} (x y : A) (xs : List A) → xs ≡ x ∷ [] → xs ≡ y ∷ [] → x ≡ y
+only-one x y xs e f = head-is (sym e ∙ f) where
+  head-is : {A : Type 0} {x y : A} → x ∷ [] ≡ y ∷ [] → x ≡ y
+  head-is e = cc
+
+pub none-left : HaveLeft [] []
+none-left = tt
+
+-- one stream more
+pub left-push : (streams : List StreamValue) (rest : List StreamParts) (stream : StreamValue) (parts : StreamParts) → HaveLeft streams rest → units_left parts ≡ units_of stream.held →
+    HaveLeft (streams ++ stream ∷ []) (rest ++ parts ∷ [])
+left-push [] [] stream parts all next = (next, tt)
+left-push [] (p ∷ rest) stream parts all next = absurd all
+left-push (s ∷ streams) [] stream parts all next = absurd all
+left-push (s ∷ streams) (p ∷ rest) stream parts all next = (all.0, left-push streams rest stream parts all.1 next)
+
+pub left-many : (streams : List StreamValue) (rest : List StreamParts) → HaveLeft streams rest → length rest ≡ length streams
+left-many [] [] all = refl
+left-many [] (p ∷ rest) all = absurd all
+left-many (s ∷ streams) [] all = absurd all
+left-many (s ∷ streams) (p ∷ rest) all = ap suc (left-many streams rest all.1)
+
+-- what stream s left
+left-at : (streams : List StreamValue) (rest : List StreamParts) (s : ℕ) (parts : StreamParts) → HaveLeft streams rest → slice_get rest s ≡ Some parts →
+    (stream : StreamValue) × (slice_get streams s ≡ Some stream) × (units_left parts ≡ units_of stream.held)
+left-at [] [] s parts all e = cc
+left-at [] (p ∷ rest) s parts all e = absurd all
+left-at (stream ∷ streams) [] s parts all e = absurd all
+left-at (stream ∷ streams) (p ∷ rest) zero parts all e = (stream, refl, subst (λ q. units_left q ≡ units_of stream.held) (some-injective e) all.0)
+left-at (stream ∷ streams) (p ∷ rest) (suc s) parts all e = left-at streams rest s parts all.1 e
+
+-- the units that they left fit the workload
+pub all-fit : (W : Parts) (streams : List StreamValue) (rest : List StreamParts) → HaveLeft streams rest → ((s : ℕ) (stream : StreamValue) → slice_get streams s ≡ Some stream → FitsStream W stream) → All (LeavesWhatFits W) rest
+all-fit W streams rest left fits = all-from-among (LeavesWhatFits W) rest (λ parts m. among streams rest parts left fits m) where
+  among : (streams : List StreamValue) (rest : List StreamParts) (parts : StreamParts) → HaveLeft streams rest → ((s : ℕ) (stream : StreamValue) → slice_get streams s ≡ Some stream → FitsStream W stream) → Among parts rest → LeavesWhatFits W parts
+  among streams [] parts left fits m = absurd m
+  among [] (p ∷ rest) parts left fits m = absurd left
+  among (stream ∷ streams) (p ∷ rest) parts left fits m = elim m [
+    | inl e ↦ subst (LeavesWhatFits W) (sym e) (left-fits stream p W (fits 0 stream refl) left.0)
+    | inr later ↦ among streams rest parts left.1 (λ s other at. fits (suc s) other at) later
+  ]
+
+module _ (W : Parts) (Z : List OrderShape) (n : ℕ) (crew : CrewValue) (is : IsCrew W Z n crew) where
+  -- the logs of its streams are logs
+  pub are-logs : AreLogs (logs_in crew.streams)
+  are-logs s = subst (IsLogOf (λ (e : Event). e.stamp) (λ (e : Event). e.stream.0) s) (sym (log-at crew.streams s)) (log-is W Z is.valid is.stored n (moment_in W crew) is.reached s)
+
+  module _ (J : List Event) (merged : MergesTo (log_of (logs_in crew.streams)) J) where
+    merges : MergesTo (moment_in W crew).logs J
+    merges = record { in_order = merged.in_order; each = λ s. merged.each s ∙ log-at crew.streams s }
+
+    -- the merged journal is the crew's run
+    pub crew-ran : (o : Outcome) → HaveStopped W Z n (moment_in W crew) o → HasRun W Z n J o
+    crew-ran o stopped = has-run W Z is.valid is.stored n stopped.before (moment_in W crew) is.reached is.going stopped.turned J merges o stopped.looks
+
+    lead : LeadTo W Z J (moment_in W crew)
+    lead = merged-lead W Z is.valid is.stored n (moment_in W crew) is.reached J merges
+
+    -- the picture shows its units
+    pub crew-shows : (rest : List StreamParts) (rows : List Row) → HaveLeft crew.streams rest → ShowsUnits W rest crew.objects rows → shown_units W (last_state W J) ≡ picture.units_of rows
+    crew-shows rest rows left shows = shows Z (last_state W J) (lead-sound W Z is.valid is.stored J (moment_in W crew) lead) (record {
+      many = left-many crew.streams rest left ∙ is.streams.many;
+      left = λ s parts e. (
+          let at : (stream : StreamValue) × (slice_get crew.streams s ≡ Some stream) × (units_left parts ≡ units_of stream.held) = left-at crew.streams rest s parts left e in
+          at.2 ∙ ap units_of (sym (lead.stand.streams s (declared s at.0 at.1) ∙ ap (held_from _) at.1)));
+      held = lead.stand.sites;
+    }) where
+      declared : (s : ℕ) (stream : StreamValue) → slice_get crew.streams s ≡ Some stream → s < W.streams
+      declared s stream e = subst (λ k. s < k) is.streams.many (slice_get_within crew.streams s stream e)

@@ -1,0 +1,169 @@
+-- What streams and objects show of a run's end.
+use Rattle.std.proofs.Common.{◌≡◌, ℕ, ◌<◌, ◌+◌, ◌==◌, true, false, List, [], ◌∷◌, length, map, get_or, slice_get, Option, Some, None, refl, sym, ◌∙◌, ap, subst, arith, inl, inr}
+use Rattle.std.specs.Prelude.{◌↔◌}
+use Rattle.std.specs.List.{All}
+use Rattle.std.proofs.lemmas.Bool.{eq-eqb, ne_eqb}
+use Rattle.std.proofs.lemmas.Bool.Decides.{eqb_tells}
+use Rattle.std.proofs.lemmas.List.Elements.{All-contains, All-map, Contains-get_or}
+use Rattle.std.proofs.lemmas.Option.{slice_get_read}
+use Rattle.abt_machine.specs.declared.events.Outcome.{Outcome}
+use Rattle.abt_machine.specs.declared.numbers.PoolNo.{PoolNo}
+use Rattle.abt_machine.specs.declared.numbers.SchedNo.{SchedNo}
+use Rattle.abt_machine.specs.declared.workload.Parts.{Parts}
+use Rattle.abt_machine.specs.declared.workload.SchedPart.{SchedPart}
+use Rattle.abt_machine.specs.Acts.{Remove}
+use Rattle.abt_machine.specs.Outcomes.{steps_in}
+use Rattle.abt_machine.specs.Runs.{last_state}
+use Rattle.abt_machine.specs.Turns.{due_of}
+use Rattle.abt_machine.specs.Valid.{IsValid}
+use Rattle.abt_machine.proofs.Checked.{map-all}
+use Rattle.abt_machine.specs.Values.{Owned, Object, PoolIs, DeskIs, MonitorIs, EventualIs, FutureIs, BarrierIs, NotHere, Phase, Unborn, Out, Suspended, Ended}
+use Rattle.abt_machine.specs.Workloads.{main_from, main_of, pools_from, pools_of}
+use Rattle.abt_calls.specs.Allowed.{Allows}
+use Rattle.abt_calls.specs.Keeps.{contents_of}
+use Rattle.abt_calls.specs.Starts.{start_part}
+use Rattle.abt_commons.specs.Held.{ObjectsValue, object_at}
+use Rattle.abt_commons.specs.Reading.{is_over}
+use Rattle.abt_outcomes.specs.Values.{IsEmptyPool, IsIdle, IsOverAt}
+use Rattle.abt_outcomes.proofs.Outcomes.{outcome-seen}
+use Rattle.abt_outcomes.proofs.Seen.{quiet-seen, spent-seen}
+use Rattle.abt_stream.specs.Streams.{StreamValue}
+use Rattle.abt_stream.specs.Streams as stream
+use Rattle.abt_stream.specs.Turned.{IsSpent}
+use Rattle.abt_drain.specs.Looks.{EndedWith, HasEmptyPools, IsEmptyAt, IsOutcomeOfRuns, IsQuietAt, IsQuietWith, IsSpentAt, IsStream, held_from, parts_of, steps_from, steps_made}
+
+-- One stream.
+
+module _ (W : Parts) (streams : List StreamValue) (many : length streams ≡ W.streams) (s : ℕ) (one : StreamValue) (lt : s < W.streams) (at : one ≡ get_or streams s one) where
+  pub here : slice_get streams s ≡ Some one
+  here = slice_get_read streams W.streams s one (sym many) lt at
+
+  part-here : parts_of W streams s ≡ one.held
+  part-here = ap (held_from (start_part W s)) here
+
+  -- it is idle
+  pub idle-here : IsIdle (parts_of W streams s) ↔ (stream.IsIdle one × (one.held.own.below ≡ []))
+  idle-here = (
+    λ idle. (
+      (subst (λ held. held.tray ≡ []) part-here idle.tray, subst (λ held. held.next ≡ None) part-here idle.next, subst (λ held. held.hand ≡ None) part-here idle.hand),
+      subst (λ held. held.own.below ≡ []) part-here idle.frames,
+    ),
+    λ idle. subst IsIdle (sym part-here) (record { tray = idle.0.0; next = idle.0.1; hand = idle.0.2; frames = idle.1 }),
+  )
+
+  module _ (n : ℕ) (is : IsStream W n s one) where
+    steps-here : steps_made streams s ≡ steps_in one.log
+    steps-here = ap steps_from here
+
+    due-here : due_of W s (parts_of W streams s) ≡ due_of W one.number.0 one.held
+    due-here = (let number = is.number in ap (due_of W s) part-here ∙ ap (λ r. due_of W r one.held) (sym number))
+
+    -- it is spent
+    pub spent-here : IsSpentAt W n streams s ↔ IsSpent W one
+    spent-here = (
+      λ spent. (sym due-here ∙ spent.2, (let budget = is.budget in sym steps-here ∙ (spent.1 ∙ sym budget))),
+      λ spent. (lt, (let budget = is.budget in steps-here ∙ (spent.1 ∙ budget)), due-here ∙ spent.0),
+    )
+
+-- Facts of all numbers below one.
+
+pub one-further : (F : ℕ → Type 0) (i : ℕ) → ((k : ℕ) → k < i → F k) → F i → (k : ℕ) → k < i + 1 → F k
+one-further F i before here k lt = elim (eqb_tells k i) [
+  | inl same ↦ subst F (sym same.1) here
+  | inr other ↦ before k (let ne = other.1 in omega (arith, lt, ne))
+]
+
+-- Pools.
+
+nothing_in : {A : Type 0} (xs : List A) → length xs ≡ 0 → xs ≡ []
+nothing_in [] none = refl
+nothing_in (x ∷ xs) none = absurd (omega (arith, none))
+
+-- a pool that has no unit
+pub empty-pool : (o : Object) → Allows o (Remove 0) → (length (contents_of o).units == 0) ≡ true → IsEmptyPool o
+empty-pool (PoolIs pool) may none = elim (eqb_tells (length pool.units) 0) [
+  | inl same ↦ nothing_in pool.units same.1
+  | inr other ↦ (let some = ne_eqb (length pool.units) 0 other.1 in cc)
+]
+empty-pool (DeskIs d) may none = absurd may
+empty-pool (MonitorIs m) may none = absurd may
+empty-pool (EventualIs e) may none = absurd may
+empty-pool (FutureIs f) may none = absurd may
+empty-pool (BarrierIs b) may none = absurd may
+empty-pool NotHere may none = absurd may
+
+pub used-pool : (o : Object) → (length (contents_of o).units == 0) ≡ false → IsEmptyPool o → ⊥
+used-pool (PoolIs pool) some empty = (let none : length pool.units ≡ 0 = ap (λ (us : List Owned). length us) empty in let yes : (length pool.units == 0) ≡ true = eq-eqb (length pool.units) 0 none in cc)
+used-pool (DeskIs d) some empty = empty
+used-pool (MonitorIs m) some empty = empty
+used-pool (EventualIs e) some empty = empty
+used-pool (FutureIs f) some empty = empty
+used-pool (BarrierIs b) some empty = empty
+used-pool NotHere some empty = empty
+
+module _ (W : Parts) (s : ℕ) (g : SchedNo) (part : SchedPart) (pools : List PoolNo) (main : slice_get W.mains s ≡ Some g) (sched : slice_get W.scheds g.0 ≡ Some part) (same : pools ≡ part.pools) where
+  listed : pools_of W (main_of W s) ≡ map (λ (p : PoolNo). p.0) pools
+  listed = ap (pools_of W) (ap main_from main) ∙ (ap pools_from sched ∙ ap (map (λ (p : PoolNo). p.0)) (sym same))
+
+  -- the pools that the main scheduler lists are declared
+  pub one-declared : IsValid W → s < W.streams → (k : ℕ) (d : PoolNo) → k < length pools → (get_or pools k d).0 < length W.pools
+  one-declared valid declared =
+      map-all (λ (p : PoolNo). p.0) (λ p. p < length W.pools) pools (subst (All (λ p. p < length W.pools)) listed (valid.scheds (main_of W s) (valid.streams s declared).main).pools)
+
+  module _ (objects : ObjectsValue) where
+    pub all-empty : All (λ (p : PoolNo). IsEmptyAt objects p.0) pools → HasEmptyPools W objects s
+    all-empty all = subst (All (IsEmptyAt objects)) (sym listed) (All-map (IsEmptyAt objects) (λ (p : PoolNo). p.0) pools all)
+
+    pub one-empty : HasEmptyPools W objects s → (k : ℕ) (d : PoolNo) → k < length pools → IsEmptyAt objects (get_or pools k d).0
+    one-empty all = map-all (λ (p : PoolNo). p.0) (IsEmptyAt objects) pools (subst (All (IsEmptyAt objects)) listed all)
+
+-- All streams.
+
+pub quiet-all : (W : Parts) (streams : List StreamValue) (objects : ObjectsValue) → ((s : ℕ) → s < W.streams → IsQuietAt W streams objects s) ↔ IsQuietWith W streams objects
+quiet-all W streams objects = (
+  λ each. record {
+    idle = λ s lt. (each s lt).0;
+    pools = λ s p lt listed. All-contains (IsEmptyAt objects) (pools_of W (main_of W s)) p (each s lt).1 listed;
+  },
+  λ quiet s lt. (quiet.idle s lt, λ k d within. quiet.pools s (get_or (pools_of W (main_of W s)) k d) lt (Contains-get_or (pools_of W (main_of W s)) k d within)),
+)
+
+-- Desks.
+
+pub over-desk : (o : Object) → is_over o ≡ true → IsOverAt o
+over-desk (DeskIs desk) is = by desk.phase is where
+  by : (phase : Phase) → is_over (DeskIs (record desk { phase = phase })) ≡ true → IsOverAt (DeskIs (record desk { phase = phase }))
+  by (Unborn o) is = tt
+  by Out is = cc
+  by (Suspended o) is = cc
+  by (Ended o c) is = tt
+over-desk (PoolIs pool) is = cc
+over-desk (MonitorIs m) is = cc
+over-desk (EventualIs e) is = cc
+over-desk (FutureIs f) is = cc
+over-desk (BarrierIs b) is = cc
+over-desk NotHere is = cc
+
+pub living-desk : (o : Object) → is_over o ≡ false → IsOverAt o → ⊥
+living-desk (DeskIs desk) is over = by desk.phase is over where
+  by : (phase : Phase) → is_over (DeskIs (record desk { phase = phase })) ≡ false → IsOverAt (DeskIs (record desk { phase = phase })) → ⊥
+  by (Unborn o) is over = cc
+  by Out is over = over
+  by (Suspended o) is over = over
+  by (Ended o c) is over = cc
+living-desk (PoolIs pool) is over = over
+living-desk (MonitorIs m) is over = over
+living-desk (EventualIs e) is over = over
+living-desk (FutureIs f) is over = over
+living-desk (BarrierIs b) is over = over
+living-desk NotHere is over = over
+
+-- Runs.
+
+pub runs-end : (W : Parts) (n : ℕ) (streams : List StreamValue) (objects : ObjectsValue) (o : Option Outcome) → IsValid W → EndedWith W n streams objects o → IsOutcomeOfRuns W n streams objects o
+runs-end W n streams objects (Some o) valid ended = λ Z J stored run stand made.
+    (let seen = outcome-seen W Z valid stored n J o (parts_of W streams) (object_at objects) (steps_made streams) run stand made in seen.1 ended)
+runs-end W n streams objects None valid goes = λ Z J stored run stand made. (
+  λ quiet. goes.busy ((quiet-seen W (last_state W J) (parts_of W streams) (object_at objects) stand).0 quiet),
+  λ s spent. goes.steps s ((spent-seen W n s J (parts_of W streams) (object_at objects) (steps_made streams) stand made).0 spent),
+)

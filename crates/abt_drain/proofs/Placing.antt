@@ -1,0 +1,98 @@
+-- Units that are put into a picture.
+use Rattle.std.proofs.Common.{◌≡◌, ℕ, zero, suc, ◌<◌, List, [], ◌∷◌, ◌++◌, set, replicate, length, refl, sym, ◌∙◌, ap, length-set}
+use Rattle.std.specs.List.{All}
+use Rattle.std.proofs.lemmas.List.{map-append}
+use Rattle.std.proofs.lemmas.List.Elements.{All-append, All-cons, All-head, All-map, All-nil, All-set, All-tail}
+use Rattle.abt_machine.specs.declared.events.Shown.{Shown}
+use Rattle.abt_machine.specs.declared.events.Shown.TheVariants as shows
+use Rattle.abt_machine.specs.declared.workload.Parts.{Parts}
+use Rattle.abt_machine.specs.Numbers.{stream_no}
+use Rattle.abt_machine.specs.Pieces.{IsPieceOf}
+use Rattle.abt_machine.specs.Values.{Owned}
+use Rattle.abt_machine.proofs.Checked.{map-all}
+use Rattle.abt_unit.specs.Fits.{Fits}
+use Rattle.abt_calls.specs.Showing as held
+use Rattle.abt_calls.specs.Showing.{rows_as}
+use Rattle.abt_commons.specs.Groups.{FitsRow}
+use Rattle.abt_report.specs.declared.pictures.Row.{Row}
+use Rattle.abt_report.specs.Pictures.{SaysWordsOf}
+use Rattle.abt_stream.specs.declared.stream.StreamParts.{StreamParts}
+use Rattle.abt_drain.specs.Pictures.{AreBelow, LeavesWhatFits, blank, placed, row_of, rows_left, units_left}
+
+pub placed-append : (xs ys : List held.Row) (rows : List Row) → placed (xs ++ ys) rows ≡ placed ys (placed xs rows)
+placed-append [] ys rows = refl
+placed-append (x ∷ xs) ys rows = placed-append xs ys (set rows x.1.number (row_of x))
+
+pub length-placed : (xs : List held.Row) (rows : List Row) → length (placed xs rows) ≡ length rows
+length-placed [] rows = refl
+length-placed (x ∷ xs) rows = length-placed xs (set rows x.1.number (row_of x)) ∙ length-set rows x.1.number (row_of x)
+
+pub alike-append : (x : Shown) (os qs : List Owned) (rows : List Row) → placed (rows_as x (os ++ qs)) rows ≡ placed (rows_as x qs) (placed (rows_as x os) rows)
+alike-append x os qs rows = ap (λ rs. placed rs rows) (map-append (λ o. (x, o)) os qs) ∙ placed-append (rows_as x os) (rows_as x qs) rows
+
+module _ (xs ys : List held.Row) (old new : List Row) (put : new ≡ placed xs old) where
+  -- what is left to put in, when the first of it was put in
+  pub some-put : (all : List Row) → placed (xs ++ ys) old ≡ all → placed ys new ≡ all
+  some-put all before = ap (placed ys) put ∙ (sym (placed-append xs ys old) ∙ before)
+
+  pub some-length : length new ≡ length old
+  some-length = ap (λ (rows : List Row). length rows) put ∙ length-placed xs old
+
+-- the four kinds of units that a stream leaves
+pub four-put : (x : Shown) (hand next tray framed : List Owned) (a b c d e : List Row) → b ≡ placed (rows_as x hand) a → c ≡ placed (rows_as x next) b → d ≡ placed (rows_as x tray) c
+    → e ≡ placed (rows_as x framed) d → e ≡ placed (rows_as x (hand ++ next ++ tray ++ framed)) a
+four-put x hand next tray framed a b c d e first second third fourth =
+    fourth
+    ∙ (ap (placed (rows_as x framed)) (third ∙ ap (placed (rows_as x tray)) (second ∙ ap (placed (rows_as x next)) first))
+    ∙ sym (alike-append x (hand ++ next ++ tray) framed a
+    ∙ ap (placed (rows_as x framed)) (alike-append x (hand ++ next) tray a ∙ ap (placed (rows_as x tray)) (alike-append x hand next a))))
+
+-- Numbers below a bound.
+
+all-left : {A : Type 0} (F : A → Type 0) (xs ys : List A) → All F (xs ++ ys) → All F xs
+all-left F [] ys all = All-nil F
+all-left F (x ∷ xs) ys all = All-cons F x xs (All-head F x (xs ++ ys) all) (all-left F xs ys (All-tail F x (xs ++ ys) all))
+
+all-right : {A : Type 0} (F : A → Type 0) (xs ys : List A) → All F (xs ++ ys) → All F ys
+all-right F [] ys all = all
+all-right F (x ∷ xs) ys all = all-right F xs ys (All-tail F x (xs ++ ys) all)
+
+pub below-left : (n : ℕ) (os qs : List Owned) → AreBelow n (os ++ qs) → AreBelow n os
+below-left n os qs all = all-left (λ (o : Owned). o.number < n) os qs all
+
+pub below-right : (n : ℕ) (os qs : List Owned) → AreBelow n (os ++ qs) → AreBelow n qs
+below-right n os qs all = all-right (λ (o : Owned). o.number < n) os qs all
+
+module _ (n : ℕ) (x : Shown) (os : List Owned) (ys : List held.Row) (all : All (λ (row : held.Row). row.1.number < n) (rows_as x os ++ ys)) where
+  pub units-below : AreBelow n os
+  units-below = map-all (λ o. (x, o)) (λ (row : held.Row). row.1.number < n) os (all-left (λ (row : held.Row). row.1.number < n) (rows_as x os) ys all)
+
+  pub others-below : All (λ (row : held.Row). row.1.number < n) ys
+  others-below = all-right (λ (row : held.Row). row.1.number < n) (rows_as x os) ys all
+
+-- units that fit have numbers below the workload's number of units
+pub fitting-below : (W : Parts) (os : List Owned) → All (Fits W) os → AreBelow (length W.units) os
+fitting-below W os all = λ k d lt. (all k d lt).number
+
+pub rows-below : (W : Parts) (rows : List held.Row) → All (FitsRow W) rows → All (λ (row : held.Row). row.1.number < length W.units) rows
+rows-below W rows all = λ k d lt. (all k d lt).number
+
+-- Words.
+
+-- rows of units that fit say words of the workload
+pub words-placed : (W : Parts) (xs : List held.Row) (rows : List Row) → All (FitsRow W) xs → All (SaysWordsOf W) rows → All (SaysWordsOf W) (placed xs rows)
+words-placed W [] rows fit said = said
+words-placed W (x ∷ xs) rows fit said =
+    words-placed W xs (set rows x.1.number (row_of x)) (All-tail (FitsRow W) x xs fit)
+    (All-set (SaysWordsOf W) rows x.1.number (row_of x) (let fits = All-head (FitsRow W) x xs fit in fits.output) said)
+
+pub left-fit : (W : Parts) (s : ℕ) (streams : List StreamParts) → All (LeavesWhatFits W) streams → All (FitsRow W) (rows_left s streams)
+left-fit W s [] all = All-nil (FitsRow W)
+left-fit W s (parts ∷ rest) all =
+    All-append (FitsRow W) (rows_as (shows.Stream (stream_no s)) (units_left parts)) (rows_left (suc s) rest)
+    (All-map (FitsRow W) (λ o. (shows.Stream (stream_no s), o)) (units_left parts) (All-head (LeavesWhatFits W) parts rest all))
+    (left-fit W (suc s) rest (All-tail (LeavesWhatFits W) parts rest all))
+
+pub blanks-say : (W : Parts) (n : ℕ) → All (SaysWordsOf W) (replicate n blank)
+blanks-say W zero = All-nil (SaysWordsOf W)
+blanks-say W (suc n) = All-cons (SaysWordsOf W) blank (replicate n blank) (All-nil (IsPieceOf W)) (blanks-say W n)

@@ -1,0 +1,45 @@
+-- The start of a run is reached.
+use Rattle.std.proofs.Common.{◌≡◌, ℕ, ◌<◌, ◌≤◌, ◌^◌, inl, List, [], ◌∷◌, ◌++◌, length, refl, sym, ◌∙◌, ap, subst, arith}
+use Rattle.std.specs.Prelude.{Contains}
+use Rattle.abt_machine.specs.declared.events.Event.{Event}
+use Rattle.abt_machine.specs.declared.operations.OrderShape.{OrderShape}
+use Rattle.abt_machine.specs.declared.workload.Parts.{Parts}
+use Rattle.abt_machine.specs.Outcomes.{steps_in}
+use Rattle.abt_interleave.proofs.Members.{to-among}
+use Rattle.abt_drain.specs.Moments.{IsReached, IsStart, Moment}
+use Rattle.abt_drain.specs.Rotations.{IsAwake, IsFresh, IsGoing}
+
+no-member : {A : Type 0} (x : A) → Contains [] x → ⊥
+no-member x m = to-among [] x m
+
+no-last : (front : List Event) (e : Event) → [] ≡ front ++ e ∷ [] → ⊥
+no-last [] e is = cc
+no-last (f ∷ front) e is = cc
+
+module _ (W : Parts) (m : Moment) (is : IsStart W m) where
+  pub start-reached : (Z : List OrderShape) (n : ℕ) → IsReached W Z n m
+  start-reached Z n = record {
+    deeds = λ s. [];
+    histories = λ x. [];
+    gathered = record {
+      courses = λ s lt. (tt, is.parts s lt);
+      undeclared = λ s ge. refl;
+      legal = λ x. (tt, is.objects x);
+      matched = record { has_entry = λ d x e a l. absurd (no-member d a); has_deed = λ x e a. absurd (no-member e a) };
+    };
+    timed = λ s. tt;
+    logs = λ s. sym (is.logs s);
+    clocks = λ s. sym (is.clocks s);
+    times = λ x. sym (is.times x);
+    few = λ s. subst (λ log. length log ≤ 2 ^ 57) (sym (is.logs s)) (omega arith);
+    within = λ s. subst (λ log. steps_in log ≤ n) (sym (is.logs s)) (omega arith);
+  }
+
+  pub start-going : (n : ℕ) → IsGoing W n m
+  start-going n alone = inl (is.logs 0)
+
+  pub start-awake : IsAwake W m
+  start-awake alone ended = no-last ended.0 ended.1 (sym (is.logs 0) ∙ ended.2)
+
+  pub start-fresh : (s : ℕ) → s < W.streams → IsFresh m s
+  start-fresh s lt = sym (ap (λ p. p.own.top.seen) (is.parts s lt))

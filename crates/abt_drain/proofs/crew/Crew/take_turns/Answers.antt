@@ -1,0 +1,48 @@
+-- The turns of one stream.
+use Rattle.std.proofs.Common.{false, sym, subst}
+use Rattle.abt_order.specs.Stored.{shapes_of}
+use Rattle.abt_stream.specs.declared.turns.Turn.TheVariants as turn
+use Rattle.abt_drain.specs.Crews.{TurnBy, moment_in}
+use Rattle.abt_drain.specs.Rotations.{HasTurned}
+use Rattle.abt_drain.proofs.Crewed.{own-awake, own-crew, own-turn}
+use Rattle.abt_drain.proofs.Taking.{move-lowers, move-more, turned-by-round, turned-by-step, turned-spent}
+use Rattle.abt_drain.proofs.crew.Crew.take_turns.Goals as goal
+
+pub turns-smaller : goal.turns-smaller
+turns-smaller g c =
+    move-lowers c.args.self.now.workload (shapes_of c.args.orders.now) c.turns.invariant.crew.valid c.turns.invariant.crew.stored c.args.self.now.steps c.args.s
+    (moment_in c.args.self.now.workload c.turns.self) (moment_in c.args.self.now.workload c.turn.new.self) c.turns.invariant.crew.reached
+    (own-turn c.args.self.now.workload (shapes_of c.args.orders.now) c.args.self.now.steps c.turns.self c.turn.new.self c.turns.invariant.crew c.args.s c.in_ok-turn.field-0 turn.Moved c.in-Moved.is c.in_ok-turn.ensures.turn)
+
+pub turns-preserved : goal.turns-preserved
+turns-preserved g c = record {
+  crew = own-crew c.args.self.now.workload (shapes_of c.args.orders.now) c.args.self.now.steps c.turns.self c.turn.new.self c.turns.invariant.crew c.in_ok-turn.ensures.crew;
+  moves = move-more c.args.self.now.workload (shapes_of c.args.orders.now) c.turns.invariant.crew.valid c.turns.invariant.crew.stored c.args.self.now.steps c.args.s
+      (moment_in c.args.self.now.workload c.args.self.now) (moment_in c.args.self.now.workload c.turns.self) (moment_in c.args.self.now.workload c.turn.new.self) c.turns.invariant.moves
+      (own-turn c.args.self.now.workload (shapes_of c.args.orders.now) c.args.self.now.steps c.turns.self c.turn.new.self c.turns.invariant.crew c.args.s c.in_ok-turn.field-0 turn.Moved c.in-Moved.is c.in_ok-turn.ensures.turn);
+  awake = own-awake c.args.self.now.workload (shapes_of c.args.orders.now) c.args.self.now.steps c.turns.self c.turn.new.self c.turns.invariant.crew c.in_ok-turn.field-0 turn.Moved c.in-Moved.is c.in_ok-turn.ensures.awake;
+}
+
+pub returns-in-Stepped-clause-turned : goal.returns-in-Stepped-clause-turned
+returns-in-Stepped-clause-turned g c =
+    turned-by-step c.args.self.now.workload (shapes_of c.args.orders.now) c.turns.invariant.crew.valid c.turns.invariant.crew.stored c.args.self.now.steps c.args.s
+    (moment_in c.args.self.now.workload c.args.self.now) (moment_in c.args.self.now.workload c.turns.self) (moment_in c.args.self.now.workload c.turn.new.self) c.turns.invariant.moves c.turns.invariant.crew.reached
+    (own-turn c.args.self.now.workload (shapes_of c.args.orders.now) c.args.self.now.steps c.turns.self c.turn.new.self c.turns.invariant.crew c.args.s c.in_ok-turn.field-0 turn.Stepped c.in-Stepped.is c.in_ok-turn.ensures.turn)
+
+pub returns-in-Stepped-clause-awake : goal.returns-in-Stepped-clause-awake
+returns-in-Stepped-clause-awake g c =
+    λ stepped. own-awake c.args.self.now.workload (shapes_of c.args.orders.now) c.args.self.now.steps c.turns.self c.turn.new.self c.turns.invariant.crew c.in_ok-turn.field-0 turn.Stepped c.in-Stepped.is c.in_ok-turn.ensures.awake
+
+pub returns-in-EmptyRound-clause-turned : goal.returns-in-EmptyRound-clause-turned
+returns-in-EmptyRound-clause-turned g c =
+    turned-by-round c.args.self.now.workload (shapes_of c.args.orders.now) c.turns.invariant.crew.valid c.turns.invariant.crew.stored c.args.self.now.steps c.args.s
+    (moment_in c.args.self.now.workload c.args.self.now) (moment_in c.args.self.now.workload c.turns.self) (moment_in c.args.self.now.workload c.turn.new.self) c.turns.invariant.moves c.turns.invariant.crew.reached
+    (own-turn c.args.self.now.workload (shapes_of c.args.orders.now) c.args.self.now.steps c.turns.self c.turn.new.self c.turns.invariant.crew c.args.s c.in_ok-turn.field-0 turn.EmptyRound c.in-EmptyRound.is c.in_ok-turn.ensures.turn)
+
+pub returns-in-Spent-clause-turned : goal.returns-in-Spent-clause-turned
+returns-in-Spent-clause-turned g c =
+    let spent : TurnBy c.args.self.now.workload (shapes_of c.args.orders.now) c.args.self.now.steps c.args.s (moment_in c.args.self.now.workload c.turns.self) turn.Spent (moment_in c.args.self.now.workload c.turn.new.self) =
+    own-turn c.args.self.now.workload (shapes_of c.args.orders.now) c.args.self.now.steps c.turns.self c.turn.new.self c.turns.invariant.crew c.args.s c.in_ok-turn.field-0 turn.Spent c.in-Spent.is c.in_ok-turn.ensures.turn in
+    subst (HasTurned c.args.self.now.workload (shapes_of c.args.orders.now) c.args.self.now.steps c.args.s (moment_in c.args.self.now.workload c.args.self.now) false) (sym spent.1)
+    (turned-spent c.args.self.now.workload (shapes_of c.args.orders.now) c.turns.invariant.crew.valid c.turns.invariant.crew.stored c.args.self.now.steps c.args.s
+    (moment_in c.args.self.now.workload c.args.self.now) (moment_in c.args.self.now.workload c.turns.self) c.turns.invariant.moves c.turns.invariant.crew.reached spent.0)

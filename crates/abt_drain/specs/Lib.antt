@@ -1,0 +1,6 @@
+pub mod Crews
+pub mod Looks
+pub mod Moments
+pub mod Pictures
+pub mod Rotations
+pub mod Runs

@@ -1,0 +1,117 @@
+-- Turns and rotations: what streams do one after the other.
+use Rattle.std.specs.Prelude.{ℕ, ◌≡◌, ◌≢◌, ◌<◌, ◌≤◌, ◌⊎◌, Bool, true, false, List, [], ◌∷◌, ◌++◌}
+use Rattle.abt_machine.specs.declared.events.Event.{Event}
+use Rattle.abt_machine.specs.declared.events.What.{What}
+use Rattle.abt_machine.specs.declared.events.What.TheVariants as what
+use Rattle.abt_machine.specs.declared.numbers.PoolNo.{PoolNo}
+use Rattle.abt_machine.specs.declared.operations.OrderShape.{OrderShape}
+use Rattle.abt_machine.specs.declared.workload.Parts.{Parts}
+use Rattle.abt_machine.specs.Outcomes.{is_step}
+use Rattle.abt_machine.specs.Runs.{last_state}
+use Rattle.abt_laws.specs.Laws.{IsMiss}
+use Rattle.abt_outcomes.specs.OneStream.{HasEndedEmpty, HasNotStopped}
+use Rattle.abt_outcomes.specs.Rotations.{HasEmptied, HasNoStep}
+use Rattle.abt_outcomes.specs.Values.{LooksQuiet, LooksSpent}
+use Rattle.abt_outcomes.specs.Measured.{turns_seen, work_seen}
+use Rattle.abt_drain.specs.Moments.{LeadTo, Makes, Moment, Stays, event_at, made_at}
+
+-- stream s has made its n steps, and would make another
+abbrev pub IsSpentIn : Parts → ℕ → Moment → ℕ → Type 0
+IsSpentIn W n m s = LooksSpent W n m.parts (made_at m) s
+
+-- nothing is left to do
+abbrev pub IsQuietIn : Parts → Moment → Type 0
+IsQuietIn W m = LooksQuiet W m.parts m.objects
+
+-- the round of stream s has seen no pool
+abbrev pub IsFresh : Moment → ℕ → Type 0
+IsFresh m s = (m.parts s).own.top.seen ≡ []
+
+-- the last round of the top frame of stream s ended empty, and so the last event of its log is a miss
+pub record HasMissed (m : Moment) (s : ℕ) : Type 0 where
+  pub before : List Event
+  pub pool : PoolNo
+  pub log : m.logs s ≡ before ++ event_at m s (what.Miss pool) ∷ []
+  pub empty : (m.parts s).own.top.empty ≡ true
+
+-- Turns.
+
+-- stream s made a step
+pub record MakesStep (W : Parts) (Z : List OrderShape) (s : ℕ) (old new : Moment) : Type 0 where
+  pub what : What
+  pub makes : Makes W Z s what old new
+  pub step : is_step what ≡ true
+
+-- stream s missed the last pool of a round, which so ended empty
+pub record EndsRound (W : Parts) (Z : List OrderShape) (s : ℕ) (old new : Moment) : Type 0 where
+  pub pool : PoolNo
+  pub makes : Makes W Z s (what.Miss pool) old new
+  pub empty : (new.parts s).own.top.empty ≡ true
+
+-- stream s made another event
+pub record MakesMove (W : Parts) (Z : List OrderShape) (s : ℕ) (old new : Moment) : Type 0 where
+  pub what : What
+  pub makes : Makes W Z s what old new
+  pub other : is_step what ≡ false
+  pub goes_on : IsMiss what → (new.parts s).own.top.empty ≡ false
+
+-- Events that lead on.
+
+-- these events lead from one moment to the other
+abbrev pub Lead : Parts → List OrderShape → Moment → List Event → Moment → Type 0
+Lead W Z old es new = (J : List Event) → LeadTo W Z J old → LeadTo W Z (J ++ es) new
+
+-- within these events from the moment on a round of stream s ends empty
+abbrev pub Empties : Parts → List OrderShape → Moment → List Event → ℕ → Type 0
+Empties W Z old es s = (J : List Event) → LeadTo W Z J old → HasEmptied W s (last_state W J) es
+
+-- stream s went on by events that are no steps
+pub record Moves (W : Parts) (Z : List OrderShape) (s : ℕ) (old new : Moment) : Type 0 where
+  pub events : List Event
+  pub lead : Lead W Z old events new
+  pub no_step : HasNoStep events
+  pub others : (r : ℕ) → s ≢ r → Stays old new r
+
+-- stream s had its turns, and whether the last was a step; else it ended a round empty, or is spent
+pub record HasTurned (W : Parts) (Z : List OrderShape) (n s : ℕ) (old : Moment) (stepped : Bool) (new : Moment) : Type 0 where
+  pub events : List Event
+  pub lead : Lead W Z old events new
+  pub no_step : stepped ≡ false → HasNoStep events
+  pub step : stepped ≡ true → HasNoStep events → ⊥
+  pub emptied : stepped ≡ false → (Empties W Z old events s × HasMissed new s) ⊎ IsSpentIn W n new s
+  pub fresh : IsFresh new s
+  pub others : (r : ℕ) → s ≢ r → Stays old new r
+
+-- the streams below s had their turns since the first moment, and whether one of them made a step
+pub record HaveTurned (W : Parts) (Z : List OrderShape) (n s : ℕ) (old : Moment) (stepped : Bool) (new : Moment) : Type 0 where
+  pub events : List Event
+  pub lead : Lead W Z old events new
+  pub no_step : stepped ≡ false → HasNoStep events
+  pub step : stepped ≡ true → HasNoStep events → ⊥
+  pub emptied : stepped ≡ false → (r : ℕ) → r < s → (Empties W Z old events r × HasMissed new r) ⊎ IsSpentIn W n new r
+  pub fresh : (r : ℕ) → r < s → IsFresh new r
+  pub others : (r : ℕ) → s ≤ r → Stays old new r
+
+-- What is left to do.
+
+-- to all streams
+abbrev pub work_at : Parts → ℕ → Moment → ℕ
+work_at W n m = work_seen W n m.parts m.objects (made_at m)
+
+-- to the turn of stream s
+abbrev pub turns_at : Parts → Moment → ℕ → ℕ
+turns_at W m s = turns_seen W m.parts m.objects s
+
+-- One stream.
+
+-- the journal has no event, or no proper front of it stops
+abbrev pub HasNotStoppedBefore : Parts → ℕ → List Event → Type 0
+HasNotStoppedBefore W n J = (J ≡ []) ⊎ ((front : List Event) × (e : Event) × (J ≡ front ++ e ∷ []) × HasNotStopped W n front)
+
+-- the log of a workload's only stream has not stopped before its last event
+abbrev pub IsGoing : Parts → ℕ → Moment → Type 0
+IsGoing W n m = W.streams ≡ 1 → HasNotStoppedBefore W n (m.logs 0)
+
+-- nor has it ended in an empty round of the main scheduler
+abbrev pub IsAwake : Parts → Moment → Type 0
+IsAwake W m = W.streams ≡ 1 → HasEndedEmpty W (m.logs 0) → ⊥

@@ -1,0 +1,265 @@
+//! All streams of a workload, and the objects that they share.
+
+ghost use Rattle.std.specs.Prelude.{◌≡◌, ◌<◌, ◌≤◌, ◌^◌, ℕ, true, IfOk, List, OnOk, length};
+ghost use Rattle.std.specs.List.{All};
+ghost use Rattle.abt_machine.specs.declared.events.Outcome.{Outcome};
+ghost use Rattle.abt_machine.specs.declared.operations.OrderShape.{OrderShape};
+ghost use Rattle.abt_machine.specs.Rounds.{OrdersStored};
+ghost use Rattle.abt_machine.specs.Runs.{last_state};
+ghost use Rattle.abt_machine.specs.Texts.{shown_units};
+ghost use Rattle.abt_order.specs.Stored.{shapes_of};
+ghost use Rattle.abt_calls.specs.Holders.{units_of};
+ghost use Rattle.abt_report.specs.Pictures.{SaysWordsOf};
+ghost use Rattle.abt_report.specs.Pictures as picture;
+ghost use Rattle.abt_machine.specs.Outcomes.{steps_in};
+ghost use Rattle.abt_stream.specs.Streams.{FitsShapes, FitsStream};
+ghost use Rattle.abt_drain.specs.Crews.{AreStarted, HaveLeft, HaveStopped, IsCrew, IsEnd, logs_in, StaysAwake, TurnBy, TurnsBy, moment_in};
+ghost use Rattle.abt_drain.specs.Looks.{AreStreams};
+ghost use Rattle.abt_drain.specs.Pictures.{units_left};
+ghost use Rattle.abt_drain.specs.Rotations.{HasTurned, HaveTurned, IsAwake, IsFresh};
+ghost use Rattle.abt_drain.specs.Runs.{HasRun};
+
+use crate::outcomes::outcome;
+use crate::pictures::picture;
+use abt_commons::{Commons, Objects, Plain, PlainPass};
+use abt_machine::{Journal, Log, Outcome, StreamNo, Want, Workload};
+use abt_merge::merge;
+use abt_order::StoredOrder;
+use abt_report::Picture;
+use abt_stream::{NoPace, Stream, StreamParts, Turn};
+use std::alloc::Global;
+use std::marker::Model;
+
+/// The streams of a workload in the hands of one caller, with the objects that they share.
+#[derive(Drop)]
+pub(crate) struct Crew<'w> {
+    w: &'w Workload,
+    steps: u64,
+    plain: Plain<'w>,
+    pass: PlainPass<'w>,
+    streams: Vec<Stream>,
+}
+
+impl<'w> Model for Crew<'w> {
+    ghost use Rattle.std.specs.Prelude.{◌≡◌};
+    ghost use Rattle.abt_drain.specs.Crews.{CrewValue};
+
+    ghost Value = { CrewValue };
+
+    ghost view = { λ c. record { workload = c.w.now; steps = c.steps; objects = c.pass; streams = c.streams.items } };
+
+    ghost invariant = { λ c. c.plain ≡ c.w.now };
+}
+
+impl<'w> Crew<'w> {
+    /// All streams and objects at the start.
+    pub(crate) fn new(
+        alloc: Global,
+        w: &'w Workload,
+        orders: &[StoredOrder],
+        steps: u64,
+    ) -> Result<Crew<'w>, Want>
+        requires orders { 2 ≤ length orders.now }
+        ensures crew { IfOk result (IsCrew w.now (shapes_of orders.now) steps) }
+        ensures fresh { IfOk result (λ crew. (s : ℕ) → s < w.now.streams → IsFresh (moment_in w.now crew) s) }
+        ensures awake { IfOk result (λ crew. IsAwake w.now (moment_in w.now crew)) }
+    {
+        // The count is of no use here, but its contract says that the workload is valid.
+        w.streams();
+        let streams = start(alloc, w, steps)?;
+        let (plain, pass) = Plain::make(Objects::place(alloc, w)?);
+        Ok(Crew {
+            w,
+            steps,
+            plain,
+            pass,
+            streams,
+        })
+    }
+
+    // One turn of a stream.
+    fn turn(&mut self, orders: &[StoredOrder], s: u32) -> Result<Turn, Want>
+        requires stream { s < self.old.workload.streams }
+        requires crew { IsCrew self.old.workload (shapes_of orders.now) self.old.steps self.old }
+        requires awake { IsAwake self.old.workload (moment_in self.old.workload self.old) }
+        ensures turn { IfOk result (λ turn. TurnBy self.old.workload (shapes_of orders.now) self.old.steps s (moment_in self.old.workload self.old) turn (moment_in self.old.workload self.new)) }
+        ensures crew { OnOk result (IsCrew self.old.workload (shapes_of orders.now) self.old.steps self.new) }
+        ensures awake { IfOk result (λ turn. StaysAwake self.old.workload turn (moment_in self.old.workload self.new)) }
+    {
+        advance(
+            &mut self.streams[s as usize],
+            self.w,
+            orders,
+            &self.plain,
+            &mut self.pass,
+        )
+    }
+
+    // A stream's turns until one is a step, ends a round empty, or is none; whether it was a step.
+    fn take_turns(&mut self, orders: &[StoredOrder], s: u32) -> Result<bool, Want>
+        requires stream { s < self.old.workload.streams }
+        requires crew { IsCrew self.old.workload (shapes_of orders.now) self.old.steps self.old }
+        requires awake { IsAwake self.old.workload (moment_in self.old.workload self.old) }
+        ensures turned { IfOk result (λ stepped. HasTurned self.old.workload (shapes_of orders.now) self.old.steps s (moment_in self.old.workload self.old) stepped (moment_in self.old.workload self.new)) }
+        ensures crew { OnOk result (IsCrew self.old.workload (shapes_of orders.now) self.old.steps self.new) }
+        ensures awake { IfOk result (λ stepped. stepped ≡ true → IsAwake self.old.workload (moment_in self.old.workload self.new)) }
+    {
+        'turns: loop {
+            match self.turn(orders, s)? {
+                Turn::Moved => {}
+                Turn::Stepped => return Ok(true),
+                Turn::EmptyRound => return Ok(false),
+                Turn::Spent => return Ok(false),
+                Turn::Worn => unreachable!(),
+            }
+        }
+    }
+
+    // The turns of each stream, in order of number; whether one of them made a step.
+    fn rotate(&mut self, orders: &[StoredOrder]) -> Result<bool, Want>
+        requires crew { IsCrew self.old.workload (shapes_of orders.now) self.old.steps self.old }
+        requires awake { IsAwake self.old.workload (moment_in self.old.workload self.old) }
+        ensures turned { IfOk result (λ stepped. HaveTurned self.old.workload (shapes_of orders.now) self.old.steps self.old.workload.streams (moment_in self.old.workload self.old) stepped (moment_in self.old.workload self.new)) }
+        ensures crew { OnOk result (IsCrew self.old.workload (shapes_of orders.now) self.old.steps self.new) }
+        ensures awake { IfOk result (λ stepped. stepped ≡ true → IsAwake self.old.workload (moment_in self.old.workload self.new)) }
+    {
+        let mut stepped = false;
+        'streams: for s in 0..self.w.streams() {
+            let step = self.take_turns(orders, s)?;
+            stepped = stepped || step;
+        }
+        Ok(stepped)
+    }
+
+    // How the run ended, if it did, after a rotation in which a step was made or none.
+    fn ended(&self, stepped: bool) -> Option<Outcome>
+        requires objects { self.now.objects.workload ≡ self.now.workload }
+        requires streams { AreStreams self.now.workload self.now.steps self.now.streams }
+        ensures { IsEnd self.now.workload self.now.steps self.now stepped result }
+    {
+        if stepped {
+            return None;
+        }
+        outcome(self.w, self.pass.objects(), &self.streams, self.steps)
+    }
+
+    /// Rotations, until one without a step leaves nothing to do or a stream spent.
+    pub(crate) fn run(&mut self, orders: &[StoredOrder]) -> Result<Outcome, Want>
+        requires crew { IsCrew self.old.workload (shapes_of orders.now) self.old.steps self.old }
+        requires fresh { (s : ℕ) → s < self.old.workload.streams → IsFresh (moment_in self.old.workload self.old) s }
+        requires awake { IsAwake self.old.workload (moment_in self.old.workload self.old) }
+        ensures stopped { IfOk result (HaveStopped self.old.workload (shapes_of orders.now) self.old.steps (moment_in self.old.workload self.new)) }
+        ensures crew { OnOk result (IsCrew self.old.workload (shapes_of orders.now) self.old.steps self.new) }
+    {
+        'rotations: loop {
+            let stepped = self.rotate(orders)?;
+            match self.ended(stepped) {
+                Some(outcome) => return Ok(outcome),
+                None => {}
+            }
+        }
+    }
+
+    /// The journal of all events, and where each unit is.
+    pub(crate) fn end(self, alloc: Global) -> Result<(Journal, Picture), Want>
+        requires crew { (Z : List OrderShape) × IsCrew self.workload Z self.steps self }
+        ensures run { IfOk result (λ ended. (Z : List OrderShape) (o : Outcome) → IsCrew self.entry.workload Z self.entry.steps self.entry → HaveStopped self.entry.workload Z self.entry.steps (moment_in self.entry.workload self.entry) o → HasRun self.entry.workload Z self.entry.steps ended.0 o) }
+        ensures shown { IfOk result (λ ended. shown_units self.entry.workload (last_state self.entry.workload ended.0) ≡ picture.units_of ended.1) }
+        ensures words { IfOk result (λ ended. All (SaysWordsOf self.entry.workload) ended.1) }
+    {
+        let Crew {
+            w,
+            steps: _,
+            plain,
+            pass,
+            streams,
+        } = self;
+        let (logs, rest) = split(alloc, streams)?;
+        let journal = merge(alloc, logs)?;
+        let objects = plain.close(vec![in alloc; pass]?);
+        let picture = picture(alloc, w, objects, rest)?;
+        Ok((journal, picture))
+    }
+}
+
+// Each stream of the workload, in order of number.
+fn start(alloc: Global, w: &Workload, steps: u64) -> Result<Vec<Stream>, Want>
+    ensures { IfOk result (λ streams. AreStarted w.now steps w.now.streams streams.items) }
+{
+    let mut streams = Vec::new(alloc);
+    'streams: for s in 0..w.streams() {
+        streams.push(Stream::new(alloc, w, StreamNo(s), steps)?)?;
+    }
+    Ok(streams)
+}
+
+// What a stream needs for one turn, and the turn.
+fn advance<'w>(
+    stream: &mut Stream,
+    w: &Workload,
+    orders: &[StoredOrder],
+    plain: &Plain<'w>,
+    pass: &mut PlainPass<'w>,
+) -> Result<Turn, Want>
+    requires orders { OrdersStored w.now (shapes_of orders.now) }
+    requires plain { plain.now ≡ w.now }
+    requires pass { pass.old.workload ≡ w.now }
+    requires fits { FitsStream w.now stream.old }
+    requires shapes { FitsShapes w.now (shapes_of orders.now) stream.old }
+    ensures turn { IfOk result (λ turn. TurnsBy w.now (shapes_of orders.now) stream.old pass.old turn stream.new pass.new) }
+    ensures fits { OnOk result (FitsStream w.now stream.new) }
+    ensures shapes { OnOk result (FitsShapes w.now (shapes_of orders.now) stream.new) }
+    ensures number { OnOk result (stream.new.number ≡ stream.old.number) }
+    ensures budget { OnOk result (stream.new.budget ≡ stream.old.budget) }
+    ensures few { OnOk result (length stream.new.log ≤ 2 ^ 57) }
+    ensures within { OnOk result (steps_in stream.new.log ≤ stream.new.budget) }
+    ensures pass { OnOk result (pass.new.workload ≡ w.now) }
+{
+    // The count is of no use here, but its contract says that the workload is valid.
+    w.streams();
+    stream.prepare(w, orders)?;
+    let turn = stream.turn(plain, pass, w, &NoPace);
+    // The log is of no use here, but its contract says that it has no more steps than the stream may make.
+    stream.log();
+    Ok(turn)
+}
+
+// What the streams leave, their logs apart from the rest.
+fn split(alloc: Global, streams: Vec<Stream>) -> Result<(Vec<Log>, Vec<StreamParts>), Want>
+    ensures logs { IfOk result (λ split. split.0.items ≡ logs_in streams.items) }
+    ensures parts { IfOk result (λ split. HaveLeft streams.items split.1.items) }
+{
+    let mut logs = Vec::with_capacity(alloc, streams.len())?;
+    let mut rest = Vec::with_capacity(alloc, streams.len())?;
+    'streams: for stream in streams {
+        let (log, parts) = split_log(alloc, stream);
+        logs.push(log)?;
+        rest.push(parts)?;
+    }
+    Ok((logs, rest))
+}
+
+// What a stream leaves, its log apart from the rest.
+fn split_log(alloc: Global, stream: Stream) -> (Log, StreamParts)
+    ensures log { result.0 ≡ stream.log }
+    ensures parts { units_left result.1 ≡ units_of stream.held }
+{
+    let StreamParts {
+        log,
+        hand,
+        next,
+        tray,
+        frames,
+    } = stream.into_parts();
+    let none = Log::new(Vec::new(alloc));
+    (
+        log,
+        StreamParts {
+            log: none,
+            hand,
+            next,
+            tray,
+            frames,
+        },
+    )
+}

@@ -1,0 +1,42 @@
+//! A run on the caller's thread.
+
+ghost use Rattle.std.specs.Prelude.{◌≡◌, ◌≤◌, IfOk, length};
+ghost use Rattle.std.specs.List.{All};
+ghost use Rattle.abt_machine.specs.Runs.{last_state};
+ghost use Rattle.abt_machine.specs.Texts.{shown_units};
+ghost use Rattle.abt_order.specs.Stored.{shapes_of};
+ghost use Rattle.abt_report.specs.Pictures.{SaysWordsOf, units_of};
+ghost use Rattle.abt_drain.specs.Runs.{HasRun};
+
+use crate::crew::Crew;
+use abt_machine::{Journal, Outcome, Want, Workload};
+use abt_order::StoredOrder;
+use abt_report::Picture;
+use std::alloc::Global;
+
+/// A run: its journal, its units at the end, and how it ended.
+#[derive(Drop)]
+pub struct Run {
+    pub journal: Journal,
+    pub picture: Picture,
+    pub outcome: Outcome,
+}
+
+/// Runs a workload whose streams may make so many steps each. In order of number each stream makes turns until one is a step,
+/// ends a round empty, or is none since the stream is spent; this goes on until a rotation without a step leaves nothing to do
+/// or a stream spent.
+pub fn drain(alloc: Global, w: &Workload, orders: &[StoredOrder], steps: u64) -> Result<Run, Want>
+    requires orders { 2 ≤ length orders.now }
+    ensures run { IfOk result (λ run. HasRun w.now (shapes_of orders.now) steps run.journal run.outcome) }
+    ensures shown { IfOk result (λ run. shown_units w.now (last_state w.now run.journal) ≡ units_of run.picture) }
+    ensures words { IfOk result (λ run. All (SaysWordsOf w.now) run.picture) }
+{
+    let mut crew = Crew::new(alloc, w, orders, steps)?;
+    let outcome = crew.run(orders)?;
+    let (journal, picture) = crew.end(alloc)?;
+    Ok(Run {
+        journal,
+        picture,
+        outcome,
+    })
+}
