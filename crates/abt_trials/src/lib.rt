@@ -1,6 +1,8 @@
-//! Trials of rounds and of reports, on workloads that are read from texts.
+//! Trials of rounds, of reports and of runs, on workloads that are read from texts.
 #![tactic(auto)]
 
+#[cfg(test)]
+mod drains;
 #[cfg(test)]
 mod reports;
 #[cfg(test)]

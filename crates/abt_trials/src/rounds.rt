@@ -229,7 +229,7 @@ fn check_into(
 }
 
 // The answer of shape Rotate. A value may be made of a function of this crate alone.
-fn turn(round: u64, n: u32, i: u32) -> u32
+pub(crate) fn turn(round: u64, n: u32, i: u32) -> u32
     requires count { (0 < n) × (n ≤ 8) }
     requires place { i < n }
     ensures { result ≡ (round + i) % n }
@@ -238,7 +238,7 @@ fn turn(round: u64, n: u32, i: u32) -> u32
 }
 
 // The answer of shape Mirror.
-fn turn_round(round: u64, n: u32, i: u32) -> u32
+pub(crate) fn turn_round(round: u64, n: u32, i: u32) -> u32
     requires count { (0 < n) × (n ≤ 8) }
     requires place { i < n }
     ensures { result ≡ n - 1 - i }
