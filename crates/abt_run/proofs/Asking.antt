@@ -1,9 +1,13 @@
 -- Words say one command at most.
-use Rattle.std.proofs.Common.{◌≡◌, ◌∙◌, ℕ, Bool, true, false, List, [], ◌∷◌, refl, sym}
+use Rattle.std.proofs.Common.{◌≡◌, ◌∙◌, ℕ, Bool, true, false, List, [], ◌∷◌, refl, sym, ap}
+use Rattle.std.specs.Str.Parse.{digits_value}
+use Rattle.abt_machine.specs.declared.program.Command.{Command}
 use Rattle.abt_machine.specs.declared.program.Command.TheVariants as command
-use Rattle.abt_machine.specs.Commands.{Rest, Says, SaysNumber, SaysRun, SaysSteps, journal_count, rest_of}
+use Rattle.abt_machine.specs.Commands.{Rest, Says, SaysNumber, SaysRun, SaysSelf, SaysSteps, journal_count, rest_of}
 use Rattle.abt_machine.specs.Words.{Text}
-use Rattle.abt_run.specs.Call.{Asked, Asks}
+
+head-is : {A : Type 0} {x y : A} {xs ys : List A} → x ∷ xs ≡ y ∷ ys → x ≡ y
+head-is e = cc
 
 one-number : (most : ℕ) (digits : Text) (n m : ℕ) → SaysNumber most digits n → SaysNumber most digits m → n ≡ m
 one-number most digits n m one two = one.1 ∙ sym two.1
@@ -20,19 +24,22 @@ one-count true false e = cc
 one-count false true e = cc
 
 -- the words of a run ask for one thing
-one-run : (r : Rest) (a b : Asked) → SaysRun r a.file a.steps a.journal → SaysRun r b.file b.steps b.journal → a ≡ b
-one-run r a b one two =
-    let file : a.file ≡ b.file = head-is (sym one.0 ∙ two.0) in
-    let steps : a.steps ≡ b.steps = one-step r.steps a.steps b.steps one.2 two.2 in
-    let journal : a.journal ≡ b.journal = one-count a.journal b.journal (sym one.3 ∙ two.3) in
-    rw (file, steps, journal) refl where
-      head-is : {A : Type 0} {x y : A} {xs ys : List A} → x ∷ xs ≡ y ∷ ys → x ≡ y
-      head-is e = cc
+one-run : (r : Rest) (f g : Text) (n m : ℕ) (i j : Bool) → SaysRun r f n i → SaysRun r g m j → command.Run f n i ≡ command.Run g m j
+one-run r f g n m i j one two =
+    let file : f ≡ g = head-is (sym one.0 ∙ two.0) in
+    let steps : n ≡ m = one-step r.steps n m one.2 two.2 in
+    let journal : i ≡ j = one-count i j (sym one.3 ∙ two.3) in
+    rw (file, steps, journal) refl
 
-pub one-asked : (words : List Text) (a b : Asked) → Asks words a → Asks words b → a ≡ b
-one-asked [] a b one two = absurd one
-one-asked (name ∷ ws) a b one two = one-run (rest_of false ws) a b one.1 two.1
+-- and so do those of `self`
+one-self : (r : Rest) (n m : ℕ) → SaysSelf r n → SaysSelf r m → n ≡ m
+one-self r n m one two =
+    let word : one.0 ≡ two.0 = head-is (ap (λ (s : Rest). s.words) (sym one.1 ∙ two.1)) in
+    one.2.1 ∙ (ap (digits_value 10) word ∙ sym two.2.1)
 
-pub run-or-self : (words : List Text) (a : Asked) (units : ℕ) → Asks words a → Says words (command.SelfRun units) → ⊥
-run-or-self [] a units one two = absurd one
-run-or-self (name ∷ ws) a units one two = let run = one.0 in let self = two.0 in cc
+pub one-command : (words : List Text) (a b : Command) → Says words a → Says words b → a ≡ b
+one-command [] a b one two = absurd one
+one-command (name ∷ ws) (command.Run f n i) (command.Run g m j) one two = one-run (rest_of false ws) f g n m i j one.1 two.1
+one-command (name ∷ ws) (command.SelfRun n) (command.SelfRun m) one two = ap command.SelfRun (one-self (rest_of false ws) n m one.1 two.1)
+one-command (name ∷ ws) (command.Run f n i) (command.SelfRun m) one two = let run = one.0 in let self = two.0 in cc
+one-command (name ∷ ws) (command.SelfRun n) (command.Run g m j) one two = let self = one.0 in let run = two.0 in cc

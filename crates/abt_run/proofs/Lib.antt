@@ -1,12 +1,4 @@
 pub mod Asking
-pub mod BuiltWorkloads
 pub mod Complete
-pub mod Counted
-pub mod Ending
 pub mod Preparing
-pub mod Running
-pub mod Single
-pub mod Spending
-pub mod Stepping
 pub mod Told
-pub mod Whole

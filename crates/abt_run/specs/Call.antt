@@ -1,27 +1,30 @@
 -- What a call of the program was given, and what each status says of what it left.
-use Rattle.std.specs.Prelude.{◌≡◌, ◌⊎◌, ℕ, Bool, List, [], Option, Some, IfSome}
+use Rattle.std.specs.Prelude.{◌≡◌, ◌≢◌, ◌≤◌, ◌⊎◌, ℕ, Bool, List, [], Option, Some, IfSome}
 use Rattle.abt_machine.specs.declared.events.Event.{Event}
 use Rattle.abt_machine.specs.declared.events.Outcome.{Outcome}
 use Rattle.abt_machine.specs.declared.events.Outcome.TheVariants as outcome
+use Rattle.abt_machine.specs.declared.numbers.StreamNo.{StreamNo}
+use Rattle.abt_machine.specs.declared.operations.OrderShape.{OrderShape}
 use Rattle.abt_machine.specs.declared.program.Command.{Command}
 use Rattle.abt_machine.specs.declared.program.Command.TheVariants as command
 use Rattle.abt_machine.specs.declared.workload.Parts.{Parts}
 use Rattle.abt_machine.specs.Commands.{Says}
 use Rattle.abt_machine.specs.Grammar.{Reads, Refuses}
-use Rattle.abt_machine.specs.Numbers.{stream_no}
 use Rattle.abt_machine.specs.Runs.{last_state}
 use Rattle.abt_machine.specs.Texts.{output_text}
 use Rattle.abt_machine.specs.Words.{Text}
+use Rattle.abt_bounds.specs.Laws.{HasNoRevive, ops_in}
+use Rattle.abt_drain.specs.Runs.{HasRun}
+use Rattle.abt_generate.specs.Generated.{generated}
 use Rattle.abt_source.specs.Source.{Rose, Took, TookFront}
-use Rattle.abt_run.specs.Built.{IsBuilt}
-use Rattle.abt_run.specs.Runs.{IsTheRun}
 use Rattle.abt_run.specs.Status.{message_of, number_of}
 use Rattle.abt_run.specs.declared.status.Status.{Status}
-use Rattle.abt_run.specs.declared.status.Status.TheVariants.{Finished, BadWords, Refused, NotBuilt, Budget, CannotRead, CannotWrite, OutOfMemory}
+use Rattle.abt_run.specs.declared.status.Status.TheVariants.{Finished, Stuck, BadWords, Refused, Budget, CannotRead, CannotWrite, OutOfMemory}
 
--- the words, the bytes of each file where they are told, and for reading, output and messages the count of faults and the bytes taken, before and afterwards; then the journal that was answered
+-- the words, the shapes of the stored orders, the bytes of each file where they are told, and for reading, output and messages the count of faults and the bytes taken, before and afterwards; then the journal that was answered
 pub record Call : Type 0 where
   pub words : List Text
+  pub orders : List OrderShape
   pub file : Text → Option Text
   pub read_faults : ℕ × ℕ
   pub out : Option Text × Option Text
@@ -38,11 +41,11 @@ Grew faults = Rose faults.0 faults.1
 abbrev pub Gained : Option Text × Option Text → Text → Type 0
 Gained sink bytes = Took sink.0 sink.1 bytes
 
--- the sink took a front of these bytes, which lacks at least one
+-- the sink took a prefix of these bytes, which lacks at least one
 abbrev pub GainedFront : Option Text × Option Text → Text → Type 0
 GainedFront sink bytes = TookFront sink.0 sink.1 bytes
 
--- the message was written, or a front of it where the count of faults rose
+-- the message was written, or a prefix of it where the count of faults rose
 abbrev pub IsTold : Option Text × Option Text → ℕ × ℕ → Text → Type 0
 IsTold sink faults text = Gained sink text ⊎ (GainedFront sink text × Grew faults)
 
@@ -64,10 +67,6 @@ Asks words asked = Says words (command_of asked)
 abbrev pub SaysNothing : List Text → Type 0
 SaysNothing words = (c : Command) → Says words c → ⊥
 
--- to run the workload that the program makes of a number
-abbrev pub AsksForSelf : List Text → Type 0
-AsksForSelf words = (units : ℕ) × Says words (command.SelfRun units)
-
 -- What is known of the file.
 
 -- the words name a file
@@ -85,39 +84,46 @@ pub record NamesSuch (words : List Text) (file_of : Text → Option Text) (Is : 
   pub asks : Asks words asked
   pub reads : TellsSuch asked file_of Is
 
--- the bytes are the text of a workload that the program does not run
-abbrev pub IsNotBuilt : Text → Type 0
-IsNotBuilt bytes = (W : Parts) × Reads bytes W × (IsBuilt W → ⊥)
+-- What runs.
 
--- the bytes of the named file, where they are told, are the text of a workload that the program runs, and J is its run, which ended so
-pub record IsRunOf (asked : Asked) (file_of : Text → Option Text) (J : List Event) (o : Outcome) : Type 0 where
+-- how many steps a command lets each stream make
+abbrev pub steps_for : Command → ℕ
+steps_for (command.Run file steps journal) = steps
+steps_for (command.SelfRun units) = 10000
+
+-- the command runs W: the bytes of its file, where they are told, are W's text, or W is made of the number of units
+abbrev pub IsFor : Command → (Text → Option Text) → Parts → Type 0
+IsFor (command.Run file steps journal) file_of W = IfSome (file_of file) (λ bytes. Reads bytes W)
+IsFor (command.SelfRun units) file_of W = W ≡ generated units
+
+-- J is a run of the command's workload, and ended so
+pub record IsRunOf (command : Command) (Z : List OrderShape) (file_of : Text → Option Text) (J : List Event) (o : Outcome) : Type 0 where
   pub workload : Parts
-  pub reads : TellsSuch asked file_of (λ bytes. Reads bytes workload)
-  pub built : IsBuilt workload
-  pub run : IsTheRun workload asked.steps J o
+  pub reads : IsFor command file_of workload
+  pub run : HasRun workload Z (steps_for command) J o
 
--- what the program prints of that run: its journal, where it is asked for, and its report
-abbrev pub printed_text : {asked : Asked} {file_of : Text → Option Text} {J : List Event} {o : Outcome} → IsRunOf asked file_of J o → Text
-printed_text {asked} {file_of} {J} {o} of = output_text of.workload (last_state of.workload J) J o (command_of asked)
+-- what the program prints of that run: its journal, where it is asked for, and its report, or its short report
+abbrev pub printed_text : {command : Command} {Z : List OrderShape} {file_of : Text → Option Text} {J : List Event} {o : Outcome} → IsRunOf command Z file_of J o → Text
+printed_text {command} {Z} {file_of} {J} {o} of = output_text of.workload (last_state of.workload J) J o command
 
--- the words name a file, whose workload ran
-pub record RunsFile (words : List Text) (file_of : Text → Option Text) (J : List Event) (o : Outcome) : Type 0 where
-  pub asked : Asked
-  pub asks : Asks words asked
-  pub run : IsRunOf asked file_of J o
+-- the workload of the words' command ran
+pub record Ran (words : List Text) (Z : List OrderShape) (file_of : Text → Option Text) (J : List Event) (o : Outcome) : Type 0 where
+  pub command : Command
+  pub says : Says words command
+  pub run : IsRunOf command Z file_of J o
 
 -- What each status says.
 
 -- the workload ran and ended so, and its output was written
 pub record Wrote (c : Call) (o : Outcome) : Type 0 where
-  pub ran : RunsFile c.words c.file c.journal o
+  pub ran : Ran c.words c.orders c.file c.journal o
   pub out : Gained c.out (printed_text ran.run)
   pub err : Gained c.err []
 
--- the workload ran, and a front of its output was written, where the count of faults of the output rose
+-- the workload ran, and a prefix of its output was written, where the count of faults of the output rose
 pub record WroteFront (c : Call) : Type 0 where
   pub outcome : Outcome
-  pub ran : RunsFile c.words c.file c.journal outcome
+  pub ran : Ran c.words c.orders c.file c.journal outcome
   pub out : GainedFront c.out (printed_text ran.run)
   pub faults : Grew c.out_faults
   pub err : IsTold c.err c.err_faults (message_of CannotWrite)
@@ -130,10 +136,10 @@ pub record StoppedBy (status : Status) (c : Call) : Type 0 where
 
 abbrev pub Holds : Status → Call → Type 0
 Holds Finished c = Wrote c outcome.Finished
+Holds Stuck c = Wrote c outcome.Stuck
 Holds BadWords c = SaysNothing c.words × StoppedBy BadWords c
 Holds (Refused line f) c = NamesSuch c.words c.file (λ bytes. Refuses bytes line f) × StoppedBy (Refused line f) c
-Holds NotBuilt c = (NamesSuch c.words c.file IsNotBuilt ⊎ AsksForSelf c.words) × StoppedBy NotBuilt c
-Holds Budget c = Wrote c (outcome.Budget (stream_no 0))
+Holds Budget c = (s : StreamNo) × Wrote c (outcome.Budget s)
 Holds CannotRead c = NamesFile c.words × Grew c.read_faults × StoppedBy CannotRead c
 Holds CannotWrite c = WroteFront c
 Holds OutOfMemory c = StoppedBy OutOfMemory c
@@ -144,28 +150,39 @@ EndsBy n c = (status : Status) × (n ≡ number_of status) × Holds status c
 
 -- Where each status must come, unless memory runs out.
 
--- where the words name a file whose bytes are told and are a built workload's text, and no fault of reading or writing comes, the workload runs
+-- the command's workload is W, and no byte of it is unknown: those of its file are told, or W is made of the number of units
+abbrev pub Tells : Command → (Text → Option Text) → Parts → Type 0
+Tells (command.Run file steps journal) file_of W = (bytes : Text) × (file_of file ≡ Some bytes) × Reads bytes W
+Tells (command.SelfRun units) file_of W = W ≡ generated units
+
+-- the status of a run that was written whole
+abbrev pub IsOfRun : ℕ → Type 0
+IsOfRun n = (n ≡ 0) ⊎ ((n ≡ 1) ⊎ (n ≡ 4))
+
+-- where a command's workload is told, and no fault of reading or writing comes, it runs
 abbrev pub IsComplete : ℕ → Call → Type 0
-IsComplete n c = (asked : Asked) (bytes : Text) (W : Parts) → Asks c.words asked → c.file asked.file ≡ Some bytes → Reads bytes W → IsBuilt W
-    → (Grew c.read_faults → ⊥) → (Grew c.out_faults → ⊥) → (n ≡ 0) ⊎ ((n ≡ 4) ⊎ (n ≡ 7))
+IsComplete n c = (command : Command) (W : Parts) → Says c.words command → Tells command c.file W
+    → (Grew c.read_faults → ⊥) → (Grew c.out_faults → ⊥) → IsOfRun n ⊎ (n ≡ 7)
 
--- where the words name a file whose bytes are told and are refused, or are no built workload's text, and no fault of reading comes, it ends with 3
+-- where the words name a file whose bytes are told and are no workload's text, and no fault of reading comes, it ends with 3
 abbrev pub RefusesTexts : ℕ → Call → Type 0
-RefusesTexts n c = (asked : Asked) (bytes : Text) → Asks c.words asked → c.file asked.file ≡ Some bytes → ((W : Parts) → Reads bytes W → IsBuilt W → ⊥)
+RefusesTexts n c = (asked : Asked) (bytes : Text) → Asks c.words asked → c.file asked.file ≡ Some bytes → ((W : Parts) → Reads bytes W → ⊥)
     → (Grew c.read_faults → ⊥) → (n ≡ 3) ⊎ (n ≡ 7)
-
--- the workload that the program makes is not run
-abbrev pub RefusesSelf : ℕ → Call → Type 0
-RefusesSelf n c = AsksForSelf c.words → (n ≡ 3) ⊎ (n ≡ 7)
 
 -- where the words say no command, they are refused
 abbrev pub RefusesWords : ℕ → Call → Type 0
 RefusesWords n c = SaysNothing c.words → (n ≡ 2) ⊎ (n ≡ 7)
+
+-- where each stream may make as many steps as the workload has operations, and none of these revives a unit, no stream uses up its steps
+abbrev pub SpendsNone : ℕ → Call → Type 0
+SpendsNone n c = (command : Command) (W : Parts) → Says c.words command → Tells command c.file W → HasNoRevive W → ops_in W ≤ steps_for command → n ≢ 4
 
 -- the exit status of a call has its cause, and where that cause is at hand the status comes
 pub record IsAnswered (n : ℕ) (c : Call) : Type 0 where
   pub cause : EndsBy n c
   pub complete : IsComplete n c
   pub texts : RefusesTexts n c
-  pub made : RefusesSelf n c
   pub words : RefusesWords n c
+  pub spends : SpendsNone n c
+  pub reads : (Grew c.read_faults → ⊥) → n ≢ 5
+  pub writes : (Grew c.out_faults → ⊥) → n ≢ 6

@@ -1,6 +1,3 @@
-pub mod Built
 pub mod Call
-pub mod Going
 pub mod Prepared
-pub mod Runs
 pub mod Status

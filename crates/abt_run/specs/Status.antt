@@ -4,14 +4,14 @@ use Rattle.abt_machine.specs.declared.program.Fault.{Fault}
 use Rattle.abt_machine.specs.declared.program.Fault.TheVariants as fault
 use Rattle.abt_machine.specs.Words.{Text}
 use Rattle.abt_run.specs.declared.status.Status.{Status}
-use Rattle.abt_run.specs.declared.status.Status.TheVariants.{Finished, BadWords, Refused, NotBuilt, Budget, CannotRead, CannotWrite, OutOfMemory}
+use Rattle.abt_run.specs.declared.status.Status.TheVariants.{Finished, Stuck, BadWords, Refused, Budget, CannotRead, CannotWrite, OutOfMemory}
 
 -- the exit status
 abbrev pub number_of : Status → ℕ
 number_of Finished = 0
+number_of Stuck = 1
 number_of BadWords = 2
 number_of (Refused line f) = 3
-number_of NotBuilt = 3
 number_of Budget = 4
 number_of CannotRead = 5
 number_of CannotWrite = 6
@@ -35,9 +35,9 @@ fault_word fault.Missing = codes "missing"
 -- the message, which is empty where the workload ran
 abbrev pub message_of : Status → Text
 message_of Finished = []
+message_of Stuck = []
 message_of BadWords = codes "abtrun: bad command line\n"
 message_of (Refused line f) = codes "abtrun: line " ++ (decimal line ++ (codes ": " ++ (fault_word f ++ codes "\n")))
-message_of NotBuilt = codes "abtrun: not built\n"
 message_of Budget = []
 message_of CannotRead = codes "abtrun: cannot read\n"
 message_of CannotWrite = codes "abtrun: cannot write\n"
@@ -47,8 +47,8 @@ message_of OutOfMemory = codes "abtrun: out of memory\n"
 abbrev pub IsFixed : Status → Type 0
 IsFixed (Refused line f) = ⊥
 IsFixed Finished = ⊤
+IsFixed Stuck = ⊤
 IsFixed BadWords = ⊤
-IsFixed NotBuilt = ⊤
 IsFixed Budget = ⊤
 IsFixed CannotRead = ⊤
 IsFixed CannotWrite = ⊤

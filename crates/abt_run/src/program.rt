@@ -1,23 +1,25 @@
 //! The top call.
 
-ghost use Rattle.std.specs.Prelude.{◌≡◌, ◌≤◌, ◌⊎◌, ℕ, List, All, IfErr, IfOk, map, string_bytes};
-ghost use Rattle.abt_machine.specs.declared.events.Outcome.TheVariants as outcome;
+ghost use Rattle.std.specs.Prelude.{◌≡◌, ◌≤◌, ◌<◌, ◌⊎◌, ◌++◌, ℕ, List, All, IfErr, IfOk, IfSome, OnOk, Option, [], if◌then◌else◌, length, map, string_bytes};
 ghost use Rattle.abt_machine.specs.declared.program.Command.TheVariants as command;
+ghost use Rattle.abt_machine.specs.Grammar.{Reads};
 ghost use Rattle.abt_machine.specs.Outcomes.{is_step, steps_in};
 ghost use Rattle.abt_machine.specs.Runs.{last_state};
-ghost use Rattle.abt_machine.specs.Texts.{output_text};
-ghost use Rattle.abt_report.specs.Pictures.{SaysWordsOf};
+ghost use Rattle.abt_machine.specs.Texts.{journal_text as text_of_journal, output_text, shown_units};
+ghost use Rattle.abt_machine.specs.Words.{Text};
+ghost use Rattle.abt_order.specs.Stored.{shapes_of};
+ghost use Rattle.abt_report.specs.Pictures.{SaysWordsOf, units_of};
 ghost use Rattle.abt_run.specs.Call.{Holds, IsAnswered, IsTold};
-ghost use Rattle.abt_run.specs.Going.{HasRun};
-ghost use Rattle.abt_run.specs.Prepared.{FileStops, IsFilePrepared, IsPrepared, IsRunOutcome, Stops, status_of};
+ghost use Rattle.abt_run.specs.Prepared.{FileStops, IsPrepared, IsPreparedFor, Stops, status_of};
 ghost use Rattle.abt_run.specs.Status.{message_of};
 ghost use Rattle.abt_run.specs.declared.status.Status.TheVariants as status;
 
-use crate::built::is_built;
-use crate::run::{Ran, run};
-use crate::status::{Status, message, number, refusal};
+use crate::status::{Status, refusal};
+use abt_drain::{Run, drain};
+use abt_generate::generate;
 use abt_machine::{Command, Ended, Event, Journal, Outcome, Want, What, Workload};
-use abt_report::{journal_text, report};
+use abt_order::StoredOrder;
+use abt_report::{append_report, journal_text, short_report};
 use abt_source::{Failed, Files, NotFetched, Sink, read_all, write_whole};
 use abt_words::{WordFault, words as command};
 use abt_workload::{NotRead, read};
@@ -26,12 +28,35 @@ use std::alloc::Global;
 // The most bytes that a workload text has.
 const MOST: usize = 4_194_304;
 
+// The steps that each stream of a workload made of a number may make.
+const SELF_STEPS: u64 = 10_000;
+
 // What a call writes, the run's journal, and how the run ended.
 #[derive(Drop)]
 struct Prepared {
     journal: Journal,
     text: Vec<u8>,
     outcome: Outcome,
+}
+
+impl Prepared {
+    // Of a run, and what it prints.
+    fn new(run: Run, text: Vec<u8>) -> Prepared
+        ensures journal { result.journal ≡ run.journal }
+        ensures outcome { result.outcome ≡ run.outcome }
+        ensures text { result.text.items ≡ text.items }
+    {
+        let Run {
+            journal,
+            picture: _,
+            outcome,
+        } = run;
+        Prepared {
+            journal,
+            text,
+            outcome,
+        }
+    }
 }
 
 impl From<Want> for Status {
@@ -42,37 +67,49 @@ impl From<Want> for Status {
     }
 }
 
-// The output of a run: its journal, where it is asked for, and its report.
-fn output(
-    alloc: Global,
-    w: &Workload,
-    steps: u64,
-    ran: &Ran,
-    with_journal: bool,
-) -> Result<Vec<u8>, Want>
-    requires run { HasRun w.now steps ran.now.journal ran.now.outcome ran.now.picture }
-    requires words { All (SaysWordsOf w.now) ran.now.picture }
-    ensures { (file : List ℕ) → IfOk result (λ text. text.items ≡ output_text w.now (last_state w.now ran.now.journal) ran.now.journal ran.now.outcome (command.Run file steps with_journal)) }
+// The text of the journal, where it is asked for.
+fn asked_journal(alloc: Global, journal: &Journal, with_journal: bool) -> Result<Vec<u8>, Want>
+    ensures { IfOk result (λ text. text.items ≡ (if with_journal then text_of_journal journal.now else [])) }
 {
-    let report = report(
-        alloc,
-        w,
-        &ran.picture,
-        ran.outcome,
-        count_steps(ran.journal.items()),
-    )?;
-    if !with_journal {
-        return Ok(report);
+    if with_journal {
+        journal_text(alloc, journal)
+    } else {
+        Ok(Vec::new(alloc))
     }
-    let mut text = journal_text(alloc, &ran.journal)?;
-    text.extend_from_slice(&report)?;
+}
+
+// The output of a run: its journal, where it is asked for, and its report.
+fn output(alloc: Global, w: &Workload, run: &Run, with_journal: bool) -> Result<Vec<u8>, Want>
+    requires shown { shown_units w.now (last_state w.now run.now.journal) ≡ units_of run.now.picture }
+    requires words { All (SaysWordsOf w.now) run.now.picture }
+    ensures { (file : Text) (steps : ℕ) → IfOk result (λ text. text.items ≡ output_text w.now (last_state w.now run.now.journal) run.now.journal run.now.outcome (command.Run file steps with_journal)) }
+{
+    let mut text = asked_journal(alloc, &run.journal, with_journal)?;
+    let steps = count_steps(run.journal.items());
+    append_report(&mut text, w, &run.picture, run.outcome, steps)?;
     Ok(text)
 }
 
+// The output of the run of a workload that is made of a number: its short report.
+fn short_output(alloc: Global, w: &Workload, run: &Run) -> Result<Vec<u8>, Want>
+    requires shown { shown_units w.now (last_state w.now run.now.journal) ≡ units_of run.now.picture }
+    requires words { All (SaysWordsOf w.now) run.now.picture }
+    requires unit { 0 < length w.now.units }
+    ensures { (units : ℕ) → IfOk result (λ text. text.items ≡ output_text w.now (last_state w.now run.now.journal) run.now.journal run.now.outcome (command.SelfRun units)) }
+{
+    let steps = count_steps(run.journal.items());
+    short_report(alloc, w, &run.picture, run.outcome, steps)
+}
+
 // All of a call but its writes.
-fn prepare<F: Files>(alloc: Global, words: &[String], files: &mut F) -> Result<Prepared, Status>
-    ensures done { IfOk result (λ p. IsPrepared (map string_bytes words.now) (λ name. F.file files.old name) p.journal p.outcome p.text.items) }
-    ensures ended { IfOk result (λ p. IsRunOutcome p.outcome) }
+fn prepare<F: Files>(
+    alloc: Global,
+    words: &[String],
+    files: &mut F,
+    orders: &[StoredOrder],
+) -> Result<Prepared, Status>
+    requires orders { 2 ≤ length orders.now }
+    ensures done { IfOk result (λ p. IsPrepared (map string_bytes words.now) (shapes_of orders.now) (λ name. F.file files.old name) p.journal p.outcome p.text.items) }
     ensures stop { IfErr result (λ stop. Stops stop (map string_bytes words.now) (λ name. F.file files.old name) (F.faults files.old, F.faults files.new)) }
     ensures later { F.faults files.old ≤ F.faults files.new }
 {
@@ -83,8 +120,8 @@ fn prepare<F: Files>(alloc: Global, words: &[String], files: &mut F) -> Result<P
                 steps,
                 journal,
             },
-        ) => { prepare_file(alloc, file.as_str(), steps, journal, files) }
-        Ok(Command::SelfRun { units: _ }) => Err(Status::NotBuilt),
+        ) => { prepare_file(alloc, file.as_str(), steps, journal, files, orders) }
+        Ok(Command::SelfRun { units }) => prepare_self(alloc, units, orders),
         Err(WordFault::Bad) => Err(Status::BadWords),
         Err(WordFault::Memory) => Err(Status::OutOfMemory),
     }
@@ -97,10 +134,36 @@ fn prepare_file<F: Files>(
     steps: u64,
     with_journal: bool,
     files: &mut F,
+    orders: &[StoredOrder],
 ) -> Result<Prepared, Status>
-    ensures done { IfOk result (λ p. IsFilePrepared (record { file = file.now; steps = steps; journal = with_journal }) (λ name. F.file files.old name) p.journal p.outcome p.text.items) }
-    ensures ended { IfOk result (λ p. IsRunOutcome p.outcome) }
-    ensures stop { IfErr result (λ stop. FileStops stop (record { file = file.now; steps = steps; journal = with_journal }) (λ name. F.file files.old name) (F.faults files.old, F.faults files.new)) }
+    requires orders { 2 ≤ length orders.now }
+    ensures done { IfOk result (λ p. IsPreparedFor (command.Run file.now steps with_journal) (shapes_of orders.now) (λ name. F.file files.old name) p.journal p.outcome p.text.items) }
+    ensures stop { IfErr result (λ stop. FileStops stop file.now (λ name. F.file files.old name) (F.faults files.old, F.faults files.new)) }
+    ensures later { F.faults files.old ≤ F.faults files.new }
+{
+    let w = fetch(alloc, file, files)?;
+    let ran = drain(alloc, &w, orders, steps)?;
+    let text = output(alloc, &w, &ran, with_journal)?;
+    Ok(Prepared::new(ran, text))
+}
+
+// The run of the workload that is made of so many units, and what it prints.
+fn prepare_self(alloc: Global, units: u32, orders: &[StoredOrder]) -> Result<Prepared, Status>
+    requires orders { 2 ≤ length orders.now }
+    requires units { (0 < units) × (units ≤ 126) }
+    ensures done { (file_of : Text → Option Text) → IfOk result (λ p. IsPreparedFor (command.SelfRun units) (shapes_of orders.now) file_of p.journal p.outcome p.text.items) }
+    ensures stop { IfErr result (λ stop. stop ≡ status.OutOfMemory) }
+{
+    let w = generate(alloc, units)?;
+    let ran = drain(alloc, &w, orders, SELF_STEPS)?;
+    let text = short_output(alloc, &w, &ran)?;
+    Ok(Prepared::new(ran, text))
+}
+
+// The workload of a file.
+fn fetch<F: Files>(alloc: Global, file: &str, files: &mut F) -> Result<Workload, Status>
+    ensures reads { IfOk result (λ w. IfSome (F.file files.old file.now) (λ bytes. Reads bytes w)) }
+    ensures stop { IfErr result (λ stop. FileStops stop file.now (λ name. F.file files.old name) (F.faults files.old, F.faults files.new)) }
     ensures later { F.faults files.old ≤ F.faults files.new }
 {
     let bytes = match read_all(alloc, files, file, MOST) {
@@ -108,26 +171,11 @@ fn prepare_file<F: Files>(
         Err(NotFetched::Failed) => return Err(Status::CannotRead),
         Err(NotFetched::Memory) => return Err(Status::OutOfMemory),
     };
-    let w = match read(alloc, &bytes) {
-        Ok(w) => w,
-        Err(NotRead::Refused { line, fault }) => return Err(Status::Refused { line, fault }),
-        Err(NotRead::Memory) => return Err(Status::OutOfMemory),
-    };
-    if !is_built(&w) {
-        return Err(Status::NotBuilt);
+    match read(alloc, &bytes) {
+        Ok(w) => Ok(w),
+        Err(NotRead::Refused { line, fault }) => Err(Status::Refused { line, fault }),
+        Err(NotRead::Memory) => Err(Status::OutOfMemory),
     }
-    let ran = run(alloc, &w, steps)?;
-    let text = output(alloc, &w, steps, &ran, with_journal)?;
-    let Ran {
-        journal,
-        picture: _,
-        outcome,
-    } = ran;
-    Ok(Prepared {
-        journal,
-        text,
-        outcome,
-    })
 }
 
 // How many events are steps.
@@ -143,7 +191,7 @@ fn is_step(what: What) -> bool
     matches!(what, What::Step(_, _, _))
 }
 
-// Writes the message; where that fails, a front of it stands there.
+// Writes the message; where that fails, a prefix of it stands there.
 fn tell<E: Sink>(err: &mut E, text: &[u8])
     ensures told { IsTold (E.taken err.old, E.taken err.new) (E.faults err.old, E.faults err.new) text.now }
     ensures later { E.faults err.old ≤ E.faults err.new }
@@ -158,7 +206,7 @@ fn stop_by<E: Sink>(alloc: Global, err: &mut E, stop: Status) -> Status
     ensures later { E.faults err.old ≤ E.faults err.new }
 {
     let Status::Refused { line, fault } = stop else {
-        tell(err, message(stop));
+        tell(err, stop.message());
         return stop;
     };
     match refusal(alloc, line, fault) {
@@ -167,7 +215,7 @@ fn stop_by<E: Sink>(alloc: Global, err: &mut E, stop: Status) -> Status
             stop
         }
         Err(Want) => {
-            tell(err, message(Status::OutOfMemory));
+            tell(err, Status::OutOfMemory.message());
             Status::OutOfMemory
         }
     }
@@ -178,26 +226,31 @@ fn status_by(outcome: Outcome) -> Status
     ensures { result ≡ status_of outcome }
 {
     match outcome {
+        Outcome::Finished => Status::Finished,
+        Outcome::Stuck => Status::Stuck,
         Outcome::Budget(_) => Status::Budget,
-        Outcome::Finished | Outcome::Stuck => Status::Finished,
     }
 }
 
-/// What the command of the program does: reads the words, the file and the workload in it, runs the workload, and writes
-/// the run's journal, where `--journal` asks for it, and its report. The words are those after the program's name.
+/// What the command of the program does. `run` reads the file and the workload in it, runs the workload, and writes the run's
+/// journal, where `--journal` asks for it, and its report; `self` runs the workload that it makes of a number, and writes the
+/// short report. The words are those after the program's name. User schedulers name the stored orders by number.
 ///
-/// Exit statuses: 0 finished, 2 bad command line, 3 the file is refused or its workload is not run, 4 a stream made all the
-/// steps that it may make, 5 cannot read, 6 cannot write, 7 out of memory. In statuses 0, 4 and 6 the journal is the run's,
-/// in all others it is empty.
+/// Exit statuses: 0 finished, 1 stuck, 2 bad command line, 3 the file is refused, 4 a stream made all the steps that it may
+/// make, 5 cannot read, 6 cannot write, 7 out of memory. In statuses 0, 1, 4 and 6 the journal is the run's, in all others it
+/// is empty.
 pub fn abtrun<F: Files, K: Sink, E: Sink>(
     alloc: Global,
     words: &[String],
     files: &mut F,
     out: &mut K,
     err: &mut E,
+    orders: &[StoredOrder],
 ) -> Ended
+    requires orders { 2 ≤ length orders.now }
     ensures { IsAnswered result.status (record {
       words = map string_bytes words.now;
+      orders = shapes_of orders.now;
       file = λ name. F.file files.old name;
       read_faults = (F.faults files.old, F.faults files.new);
       out = (K.taken out.old, K.taken out.new);
@@ -207,9 +260,9 @@ pub fn abtrun<F: Files, K: Sink, E: Sink>(
       journal = result.journal;
     }) }
 {
-    let (status, journal) = call(alloc, words, files, out, err);
+    let (status, journal) = call(alloc, words, files, out, err, orders);
     Ended {
-        status: number(status),
+        status: status.number(),
         journal,
     }
 }
@@ -221,9 +274,12 @@ fn call<F: Files, K: Sink, E: Sink>(
     files: &mut F,
     out: &mut K,
     err: &mut E,
+    orders: &[StoredOrder],
 ) -> (Status, Journal)
+    requires orders { 2 ≤ length orders.now }
     ensures { Holds result.0 (record {
       words = map string_bytes words.now;
+      orders = shapes_of orders.now;
       file = λ name. F.file files.old name;
       read_faults = (F.faults files.old, F.faults files.new);
       out = (K.taken out.old, K.taken out.new);
@@ -233,7 +289,7 @@ fn call<F: Files, K: Sink, E: Sink>(
       journal = result.1;
     }) }
 {
-    match prepare(alloc, words, files) {
+    match prepare(alloc, words, files, orders) {
         Ok(
             Prepared {
                 journal,
@@ -243,7 +299,7 @@ fn call<F: Files, K: Sink, E: Sink>(
         ) => match write_whole(out, &text) {
             Ok(()) => (status_by(outcome), journal),
             Err(Failed) => {
-                tell(err, message(Status::CannotWrite));
+                tell(err, Status::CannotWrite.message());
                 (Status::CannotWrite, journal)
             }
         },

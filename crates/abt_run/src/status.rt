@@ -12,28 +12,46 @@ use std::alloc::Global;
 #[derive(Clone, Copy, Debug, PartialEq, Eq)]
 pub enum Status {
     Finished,
+    Stuck,
     BadWords,
     /// A line of the workload text, counted from 1, and what it has wrong; line 0 stands for the text's length.
     Refused { line: u32, fault: Fault },
-    NotBuilt,
     Budget,
     CannotRead,
     CannotWrite,
     OutOfMemory,
 }
 
-// The exit status.
-pub(crate) fn number(status: Status) -> u8
-    ensures { result ≡ number_of status }
-{
-    match status {
-        Status::Finished => 0,
-        Status::BadWords => 2,
-        Status::Refused { line: _, fault: _ } | Status::NotBuilt => 3,
-        Status::Budget => 4,
-        Status::CannotRead => 5,
-        Status::CannotWrite => 6,
-        Status::OutOfMemory => 7,
+impl Status {
+    /// The exit status.
+    pub fn number(self) -> u8
+        ensures { result ≡ number_of self }
+    {
+        match self {
+            Status::Finished => 0,
+            Status::Stuck => 1,
+            Status::BadWords => 2,
+            Status::Refused { line: _, fault: _ } => 3,
+            Status::Budget => 4,
+            Status::CannotRead => 5,
+            Status::CannotWrite => 6,
+            Status::OutOfMemory => 7,
+        }
+    }
+
+    /// What is written to the error sink, where it names no line.
+    pub fn message(self) -> &'static [u8]
+        requires { IsFixed self }
+        ensures { result.now ≡ message_of self }
+    {
+        match self {
+            Status::Refused { line: _, fault: _ } => unreachable!(),
+            Status::Finished | Status::Stuck | Status::Budget => b"",
+            Status::BadWords => b"abtrun: bad command line\n",
+            Status::CannotRead => b"abtrun: cannot read\n",
+            Status::CannotWrite => b"abtrun: cannot write\n",
+            Status::OutOfMemory => b"abtrun: out of memory\n",
+        }
     }
 }
 
@@ -54,22 +72,6 @@ fn word(fault: Fault) -> &'static [u8]
         Fault::Access => b"access",
         Fault::NoEnd => b"no-end",
         Fault::Missing => b"missing",
-    }
-}
-
-// What is written to the error sink, where it names no line.
-pub(crate) fn message(status: Status) -> &'static [u8]
-    requires { IsFixed status }
-    ensures { result.now ≡ message_of status }
-{
-    match status {
-        Status::Refused { line: _, fault: _ } => unreachable!(),
-        Status::Finished | Status::Budget => b"",
-        Status::BadWords => b"abtrun: bad command line\n",
-        Status::NotBuilt => b"abtrun: not built\n",
-        Status::CannotRead => b"abtrun: cannot read\n",
-        Status::CannotWrite => b"abtrun: cannot write\n",
-        Status::OutOfMemory => b"abtrun: out of memory\n",
     }
 }
 

@@ -1,12 +1,34 @@
 //! The command `abtrun`: runs a workload text, and prints its report and, if asked, its journal.
 #![tactic(auto)]
 
-use abt_run::abtrun;
-use abt_source::{RealFiles, RealSink};
+ghost use Rattle.std.specs.Prelude.{◌≡◌, ◌<◌, ◌≤◌, ◌+◌, ◌-◌, ◌%◌};
+
+use abt_machine::OrderShape;
+use abt_order::{StoredOrder, mirror, rotate};
+use abt_run::{Status, abtrun};
+use abt_source::{RealFiles, RealSink, write_whole};
 use std::alloc::Global;
 use std::process::ExitCode;
 use std::rt::Runtime;
 use std::{env, io};
+
+// The answer of shape Rotate. A value may be made of a function of this crate alone.
+fn turn(round: u64, n: u32, i: u32) -> u32
+    requires count { (0 < n) × (n ≤ 8) }
+    requires place { i < n }
+    ensures { result ≡ (round + i) % n }
+{
+    rotate(round, n, i)
+}
+
+// The answer of shape Mirror.
+fn turn_round(round: u64, n: u32, i: u32) -> u32
+    requires count { (0 < n) × (n ≤ 8) }
+    requires place { i < n }
+    ensures { result ≡ n - 1 - i }
+{
+    mirror(round, n, i)
+}
 
 // The words after the program's name.
 fn words_of<R: Runtime>(rt: &R, alloc: Global) -> io::Result<Vec<String<R::A>>> {
@@ -19,20 +41,29 @@ fn words_of<R: Runtime>(rt: &R, alloc: Global) -> io::Result<Vec<String<R::A>>> 
 
 fn main(rt: HostRuntime) -> ExitCode {
     let alloc = rt.alloc();
-    let words = match words_of(&rt, alloc) {
-        Ok(words) => words,
-        Err(e) if e.kind() == io::ErrorKind::OutOfMemory => {
-            let _ = rt.eprint("abtrun: out of memory\n");
-            return ExitCode::from(7);
-        }
-        Err(_) => {
-            let _ = rt.eprint("abtrun: bad command line\n");
-            return ExitCode::from(2);
-        }
-    };
     let mut files = RealFiles::new(&rt);
     let mut out = RealSink::out(&rt);
     let mut err = RealSink::err(&rt);
-    let ended = abtrun(alloc, &words, &mut files, &mut out, &mut err);
+    let words = match words_of(&rt, alloc) {
+        Ok(words) => words,
+        Err(e) => {
+            let status = if e.kind() == io::ErrorKind::OutOfMemory {
+                Status::OutOfMemory
+            } else {
+                Status::BadWords
+            };
+            let _ = write_whole(&mut err, status.message());
+            return ExitCode::from(status.number());
+        }
+    };
+    let (Ok(rotation), Ok(mirroring)) = (Box::new(alloc, turn), Box::new(alloc, turn_round)) else {
+        let _ = write_whole(&mut err, Status::OutOfMemory.message());
+        return ExitCode::from(Status::OutOfMemory.number());
+    };
+    let orders = [
+        StoredOrder::new(OrderShape::Rotate, rotation),
+        StoredOrder::new(OrderShape::Mirror, mirroring),
+    ];
+    let ended = abtrun(alloc, &words, &mut files, &mut out, &mut err, &orders);
     ExitCode::from(ended.status)
 }

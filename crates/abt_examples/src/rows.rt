@@ -1,0 +1,626 @@
+//! Worked rows: a call over one file `f`, and what it leaves.
+
+/// The lines of the file in two parts, and what a call with these words leaves.
+#[derive(Clone, Copy)]
+pub(crate) struct Row {
+    pub(crate) words: &'static [&'static str],
+    pub(crate) head: &'static str,
+    pub(crate) lines: &'static [u8],
+    /// The number of the write to the output that fails.
+    pub(crate) failing: u64,
+    pub(crate) status: u8,
+    pub(crate) out: &'static str,
+    pub(crate) err: &'static str,
+    /// The text of the answered journal, where it is worked.
+    pub(crate) journal: Option<&'static str>,
+}
+
+// No write fails.
+const NEVER: u64 = 1000;
+
+// The heads of texts.
+const ONE_POOL: &str = "abt 1\nstreams 1\npool 0 fifo mpmc\nsched 0 prio 0\nstream 0 main 0\n";
+
+const TWO_POOLS: &str =
+    "abt 1\nstreams 1\npool 0 fifo mpmc\npool 1 fifo mpmc\nsched 0 prio 0 1\nstream 0 main 0\n";
+
+const STACKED: &str =
+    "abt 1\nstreams 1\npool 0 fifo mpmc\npool 1 fifo mpmc\nsched 0 prio 0\nsched 1 prio 1\nstream 0 main 0\n";
+
+const TWO_STREAMS: &str =
+    "abt 1\nstreams 2\npool 0 fifo priv of 0\npool 1 fifo priv of 1\npool 2 fifo spsc from 0 to 1\nsched 0 prio 0\nsched 1 prio 1 2\nstream 0 main 0\nstream 1 main 1\n";
+
+static UNITS: [Row; 8] = [
+    // empty
+    Row {
+        words: &["run", "f"],
+        head: ONE_POOL,
+        lines: b"units 0\nend\n",
+        failing: NEVER,
+        status: 0,
+        out: "tally units 0 unborn 0 pool 0 stream 0 blocked 0 done 0 asked 0 access 0 steps 0\nfinished\n",
+        err: "",
+        journal: Some("1 0 miss 0\n"),
+    },
+    // hi
+    Row {
+        words: &["run", "f", "--journal"],
+        head: ONE_POOL,
+        lines: b"units 1\nunit 0 ult at 0\nsay hi\nend\n",
+        failing: NEVER,
+        status: 0,
+        out: "1 0 take 0 0\n2 0 look 0\n3 0 step 0 0 ok\n4 0 end 0 done\n5 0 miss 0\nunit 0 done: hi\ntally units 1 unborn 0 pool 0 stream 0 blocked 0 done 1 asked 0 access 0 steps 1\nfinished\n",
+        err: "",
+        journal: Some("1 0 take 0 0\n2 0 look 0\n3 0 step 0 0 ok\n4 0 end 0 done\n5 0 miss 0\n"),
+    },
+    // two yields
+    Row {
+        words: &["run", "f"],
+        head: ONE_POOL,
+        lines: b"units 2\nunit 0 ult at 0\nsay a\nyield\nsay b\nunit 1 ult at 0\nsay a\nyield\nsay b\nend\n",
+        failing: NEVER,
+        status: 0,
+        out: "unit 0 done: a b\nunit 1 done: a b\ntally units 2 unborn 0 pool 0 stream 0 blocked 0 done 2 asked 0 access 0 steps 6\nfinished\n",
+        err: "",
+        journal: Some(
+            "1 0 take 0 0\n2 0 look 0\n3 0 step 0 0 ok\n4 0 step 0 1 ok\n5 0 put 0 0\n6 0 take 0 1\n7 0 look 1\n8 0 step 1 0 ok\n9 0 step 1 1 ok\n10 0 put 1 0\n11 0 take 0 0\n12 0 look 0\n13 0 step 0 2 ok\n14 0 end 0 done\n15 0 take 0 1\n16 0 look 1\n17 0 step 1 2 ok\n18 0 end 1 done\n19 0 miss 0\n",
+        ),
+    },
+    // wrap
+    Row {
+        words: &["run", "f"],
+        head: ONE_POOL,
+        lines: b"units 1\nunit 0 ult at 0\nset 18446744073709551615\nadd 1\nprint\nend\n",
+        failing: NEVER,
+        status: 0,
+        out: "unit 0 done: 0\ntally units 1 unborn 0 pool 0 stream 0 blocked 0 done 1 asked 0 access 0 steps 3\nfinished\n",
+        err: "",
+        journal: None,
+    },
+    // yieldto absent
+    Row {
+        words: &["run", "f"],
+        head: ONE_POOL,
+        lines: b"units 2\nunit 0 ult at 0\nyieldto 1 0\nsay on\nunit 1 ult later\nend\n",
+        failing: NEVER,
+        status: 0,
+        out: "unit 0 done: !absent on\nunit 1 unborn:\ntally units 2 unborn 1 pool 0 stream 0 blocked 0 done 1 asked 0 access 0 steps 2\nfinished\n",
+        err: "",
+        journal: None,
+    },
+    // yieldto
+    Row {
+        words: &["run", "f"],
+        head: ONE_POOL,
+        lines: b"units 3\nunit 0 ult at 0\nyieldto 2 0\nsay zero\nunit 1 ult at 0\nsay one\nunit 2 ult at 0\nsay two\nend\n",
+        failing: NEVER,
+        status: 0,
+        out: "unit 0 done: zero\nunit 1 done: one\nunit 2 done: two\ntally units 3 unborn 0 pool 0 stream 0 blocked 0 done 3 asked 0 access 0 steps 4\nfinished\n",
+        err: "",
+        journal: Some(
+            "1 0 take 0 0\n2 0 look 0\n3 0 step 0 0 ok\n4 0 put 0 0\n5 0 look 2\n6 0 step 2 0 ok\n7 0 end 2 done\n8 0 take 0 1\n9 0 look 1\n10 0 step 1 0 ok\n11 0 end 1 done\n12 0 take 0 0\n13 0 look 0\n14 0 step 0 1 ok\n15 0 end 0 done\n16 0 miss 0\n",
+        ),
+    },
+    // deque
+    Row {
+        words: &["run", "f"],
+        head: "",
+        lines: b"abt 1\nstreams 1\npool 0 deque mpmc\nsched 0 prio 0\nstream 0 main 0\nunits 2\nunit 0 ult at 0\nunit 1 ult at 0\nend\n",
+        failing: NEVER,
+        status: 0,
+        out: "unit 0 done:\nunit 1 done:\ntally units 2 unborn 0 pool 0 stream 0 blocked 0 done 2 asked 0 access 0 steps 0\nfinished\n",
+        err: "",
+        journal: Some(
+            "1 0 take 0 1\n2 0 look 1\n3 0 end 1 done\n4 0 take 0 0\n5 0 look 0\n6 0 end 0 done\n7 0 miss 0\n",
+        ),
+    },
+    // join
+    Row {
+        words: &["run", "f"],
+        head: ONE_POOL,
+        lines: b"units 2\nunit 0 ult at 0\njoin 1\nsay after\nunit 1 ult at 0\nsay first\nend\n",
+        failing: NEVER,
+        status: 0,
+        out: "unit 0 done: after\nunit 1 done: first\ntally units 2 unborn 0 pool 0 stream 0 blocked 0 done 2 asked 0 access 0 steps 3\nfinished\n",
+        err: "",
+        journal: None,
+    },
+];
+
+/// Units that run, yield, join and end.
+pub(crate) fn units() -> &'static [Row] {
+    &UNITS
+}
+
+static SCHEDULERS: [Row; 5] = [
+    // prio
+    Row {
+        words: &["run", "f"],
+        head: "",
+        lines: b"abt 1\nstreams 1\npool 0 fifo mpmc\npool 1 fifo priv of 0\nsched 0 prio 0 1\nstream 0 main 0\nunits 2\nunit 0 ult at 0\nunit 1 ult at 1\nend\n",
+        failing: NEVER,
+        status: 0,
+        out: "unit 0 done:\nunit 1 done:\ntally units 2 unborn 0 pool 0 stream 0 blocked 0 done 2 asked 0 access 0 steps 0\nfinished\n",
+        err: "",
+        journal: Some(
+            "1 0 take 0 0\n2 0 look 0\n3 0 end 0 done\n4 0 miss 0\n5 0 take 1 1\n6 0 look 1\n7 0 end 1 done\n8 0 miss 0\n9 0 miss 1\n",
+        ),
+    },
+    // basic
+    Row {
+        words: &["run", "f"],
+        head: "",
+        lines: b"abt 1\nstreams 1\npool 0 fifo mpmc\npool 1 fifo priv of 0\nsched 0 basic 0 1\nstream 0 main 0\nunits 2\nunit 0 ult at 0\nunit 1 ult at 1\nend\n",
+        failing: NEVER,
+        status: 0,
+        out: "unit 0 done:\nunit 1 done:\ntally units 2 unborn 0 pool 0 stream 0 blocked 0 done 2 asked 0 access 0 steps 0\nfinished\n",
+        err: "",
+        journal: Some(
+            "1 0 take 1 1\n2 0 look 1\n3 0 end 1 done\n4 0 miss 1\n5 0 take 0 0\n6 0 look 0\n7 0 end 0 done\n8 0 miss 1\n9 0 miss 0\n",
+        ),
+    },
+    // stacked
+    Row {
+        words: &["run", "f"],
+        head: STACKED,
+        lines: b"units 4\nunit 0 sched 1 at 0\nunit 1 ult at 1\nsay in\nunit 2 ult at 0\njoin 0\ncreate 3 1\nrevive 0 0\nunit 3 ult later\nsay again\nend\n",
+        failing: NEVER,
+        status: 0,
+        out: "unit 0 done:\nunit 1 done: in\nunit 2 done:\nunit 3 done: again\ntally units 4 unborn 0 pool 0 stream 0 blocked 0 done 4 asked 0 access 0 steps 5\nfinished\n",
+        err: "",
+        journal: Some(
+            "1 0 take 0 0\n2 0 look 0\n3 0 enter 0\n4 0 take 1 1\n5 0 look 1\n6 0 step 1 0 ok\n7 0 end 1 done\n8 0 miss 1\n9 0 leave 0\n10 0 end 0 done\n11 0 take 0 2\n12 0 look 2\n13 0 step 2 0 ok\n14 0 step 2 1 ok\n15 0 put 3 1\n16 0 step 2 2 ok\n17 0 put 0 0\n18 0 end 2 done\n19 0 take 0 0\n20 0 look 0\n21 0 enter 0\n22 0 take 1 3\n23 0 look 3\n24 0 step 3 0 ok\n25 0 end 3 done\n26 0 miss 1\n27 0 leave 0\n28 0 end 0 done\n29 0 miss 0\n",
+        ),
+    },
+    // woken too late
+    Row {
+        words: &["run", "f"],
+        head: STACKED,
+        lines: b"units 3\nunit 0 sched 1 at 0\nunit 1 ult at 1\nsuspend\nsay late\nunit 2 ult at 0\nresume 1\nend\n",
+        failing: NEVER,
+        status: 1,
+        out: "unit 0 done:\nunit 1 pool 1:\nunit 2 done:\ntally units 3 unborn 0 pool 1 stream 0 blocked 0 done 2 asked 0 access 0 steps 2\nstuck\n",
+        err: "",
+        journal: None,
+    },
+    // user order
+    Row {
+        words: &["run", "f"],
+        head: "",
+        lines: b"abt 1\nstreams 1\npool 0 fifo mpmc\npool 1 fifo mpmc\nsched 0 user 0 0 1\nstream 0 main 0\nunits 2\nunit 0 ult at 0\nunit 1 ult at 0\nend\n",
+        failing: NEVER,
+        status: 0,
+        out: "unit 0 done:\nunit 1 done:\ntally units 2 unborn 0 pool 0 stream 0 blocked 0 done 2 asked 0 access 0 steps 0\nfinished\n",
+        err: "",
+        journal: Some(
+            "1 0 take 0 0\n2 0 look 0\n3 0 end 0 done\n4 0 miss 1\n5 0 take 0 1\n6 0 look 1\n7 0 end 1 done\n8 0 miss 0\n9 0 miss 1\n",
+        ),
+    },
+];
+
+/// Orders of pools, and schedulers that are units.
+pub(crate) fn schedulers() -> &'static [Row] {
+    &SCHEDULERS
+}
+
+static REQUESTS: [Row; 7] = [
+    // cancel suspended
+    Row {
+        words: &["run", "f"],
+        head: ONE_POOL,
+        lines: b"units 2\nunit 0 ult at 0\nsuspend\nsay never\nunit 1 ult at 0\ncancel 0\nresume 0\nend\n",
+        failing: NEVER,
+        status: 0,
+        out: "unit 0 asked:\nunit 1 done:\ntally units 2 unborn 0 pool 0 stream 0 blocked 0 done 1 asked 1 access 0 steps 3\nfinished\n",
+        err: "",
+        journal: None,
+    },
+    // cancel before migrate
+    Row {
+        words: &["run", "f"],
+        head: TWO_POOLS,
+        lines: b"units 2\nunit 0 ult at 0\ncancel 1\nmigrate 1 1\nunit 1 ult at 0\nsay never\nend\n",
+        failing: NEVER,
+        status: 0,
+        out: "unit 0 done:\nunit 1 asked:\ntally units 2 unborn 0 pool 0 stream 0 blocked 0 done 1 asked 1 access 0 steps 2\nfinished\n",
+        err: "",
+        journal: None,
+    },
+    // migrate
+    Row {
+        words: &["run", "f"],
+        head: TWO_POOLS,
+        lines: b"units 2\nunit 0 ult at 0\nmigrate 1 1\nunit 1 ult at 0\nsay moved\nend\n",
+        failing: NEVER,
+        status: 0,
+        out: "unit 0 done:\nunit 1 done: moved\ntally units 2 unborn 0 pool 0 stream 0 blocked 0 done 2 asked 0 access 0 steps 2\nfinished\n",
+        err: "",
+        journal: Some(
+            "1 0 take 0 0\n2 0 look 0\n3 0 step 0 0 ok\n4 0 end 0 done\n5 0 take 0 1\n6 0 look 1\n7 0 put 1 1\n8 0 miss 0\n9 0 take 1 1\n10 0 look 1\n11 0 step 1 0 ok\n12 0 end 1 done\n13 0 miss 0\n14 0 miss 1\n",
+        ),
+    },
+    // migrateto
+    Row {
+        words: &["run", "f"],
+        head: TWO_POOLS,
+        lines: b"units 2\nunit 0 ult at 0\nmigrateto 1 0\nunit 1 ult at 0\nsay moved\nend\n",
+        failing: NEVER,
+        status: 0,
+        out: "unit 0 done:\nunit 1 done: moved\ntally units 2 unborn 0 pool 0 stream 0 blocked 0 done 2 asked 0 access 0 steps 2\nfinished\n",
+        err: "",
+        journal: Some(
+            "1 0 take 0 0\n2 0 look 0\n3 0 step 0 0 ok\n4 0 end 0 done\n5 0 take 0 1\n6 0 look 1\n7 0 put 1 0\n8 0 take 0 1\n9 0 look 1\n10 0 step 1 0 ok\n11 0 end 1 done\n12 0 miss 0\n13 0 miss 1\n",
+        ),
+    },
+    // resume too early
+    Row {
+        words: &["run", "f"],
+        head: ONE_POOL,
+        lines: b"units 2\nunit 0 ult at 0\nresume 1\nunit 1 ult at 0\nsuspend\nend\n",
+        failing: NEVER,
+        status: 1,
+        out: "unit 0 done: !unit-state\nunit 1 suspended:\ntally units 2 unborn 0 pool 0 stream 0 blocked 1 done 1 asked 0 access 0 steps 2\nstuck\n",
+        err: "",
+        journal: None,
+    },
+    // budget
+    Row {
+        words: &["run", "f", "--steps", "50"],
+        head: ONE_POOL,
+        lines: b"units 2\nunit 0 ult at 0\nrevive 1 0\nunit 1 ult at 0\nrevive 0 0\nend\n",
+        failing: NEVER,
+        status: 4,
+        out: "unit 0 stream 0: !unit-state\nunit 1 done:\ntally units 2 unborn 0 pool 0 stream 1 blocked 0 done 1 asked 0 access 0 steps 50\nbudget 0\n",
+        err: "",
+        journal: None,
+    },
+    // exists
+    Row {
+        words: &["run", "f"],
+        head: ONE_POOL,
+        lines: b"units 2\nunit 0 ult at 0\ncreate 1 0\nmigratable 1 0\nmigrate 1 0\nunit 1 ult at 0\nend\n",
+        failing: NEVER,
+        status: 0,
+        out: "unit 0 done: !exists !not-migratable\nunit 1 done:\ntally units 2 unborn 0 pool 0 stream 0 blocked 0 done 2 asked 0 access 0 steps 3\nfinished\n",
+        err: "",
+        journal: None,
+    },
+];
+
+/// Requests, resumption and revival.
+pub(crate) fn requests() -> &'static [Row] {
+    &REQUESTS
+}
+
+static OBJECTS: [Row; 6] = [
+    // self lock
+    Row {
+        words: &["run", "f"],
+        head: ONE_POOL,
+        lines: b"object 0 mutex\nunits 1\nunit 0 ult at 0\nlock 0\nlock 0\nend\n",
+        failing: NEVER,
+        status: 1,
+        out: "unit 0 object 0:\ntally units 1 unborn 0 pool 0 stream 0 blocked 1 done 0 asked 0 access 0 steps 2\nstuck\n",
+        err: "",
+        journal: None,
+    },
+    // eventual
+    Row {
+        words: &["run", "f"],
+        head: ONE_POOL,
+        lines: b"object 0 eventual\nunits 3\nunit 0 ult at 0\newait 0\nprint\nunit 1 ult at 0\newait 0\nprint\nunit 2 ult at 0\nset 7\neset 0\nset 8\neset 0\nereset 0\netest 0\nprint\nend\n",
+        failing: NEVER,
+        status: 0,
+        out: "unit 0 done: 7\nunit 1 done: 7\nunit 2 done: !eventual-set 0\ntally units 3 unborn 0 pool 0 stream 0 blocked 0 done 3 asked 0 access 0 steps 11\nfinished\n",
+        err: "",
+        journal: None,
+    },
+    // condition
+    Row {
+        words: &["run", "f"],
+        head: ONE_POOL,
+        lines: b"object 0 mutex\nobject 1 cond 0\nunits 2\nunit 0 ult at 0\nlock 0\ncwait 1\nload 0\nprint\nunlock 0\nunit 1 ult at 0\nlock 0\nset 5\nstore 0\nsignal 1\nunlock 0\nend\n",
+        failing: NEVER,
+        status: 0,
+        out: "unit 0 done: 5\nunit 1 done:\ntally units 2 unborn 0 pool 0 stream 0 blocked 0 done 2 asked 0 access 0 steps 10\nfinished\n",
+        err: "",
+        journal: None,
+    },
+    // trylock
+    Row {
+        words: &["run", "f"],
+        head: ONE_POOL,
+        lines: b"object 0 mutex\nunits 2\nunit 0 ult at 0\nlock 0\nyield\nunlock 0\nunit 1 ult at 0\ntrylock 0\nunlock 0\nend\n",
+        failing: NEVER,
+        status: 0,
+        out: "unit 0 done:\nunit 1 done: !mutex-locked !not-owner\ntally units 2 unborn 0 pool 0 stream 0 blocked 0 done 2 asked 0 access 0 steps 5\nfinished\n",
+        err: "",
+        journal: None,
+    },
+    // future and barrier
+    Row {
+        words: &["run", "f"],
+        head: ONE_POOL,
+        lines: b"object 0 future 2 sum\nobject 1 barrier 2\nunits 2\nunit 0 ult at 0\nset 3\nfset 0\nfwait 0\nprint\nbwait 1\nunit 1 ult at 0\nset 4\nfset 0\nfset 0\nbwait 1\nsay end\nend\n",
+        failing: NEVER,
+        status: 0,
+        out: "unit 0 done: 7\nunit 1 done: !future-full end\ntally units 2 unborn 0 pool 0 stream 0 blocked 0 done 2 asked 0 access 0 steps 10\nfinished\n",
+        err: "",
+        journal: None,
+    },
+    // keys
+    Row {
+        words: &["run", "f"],
+        head: "",
+        lines: b"abt 1\nstreams 1\nkeys 1\npool 0 fifo mpmc\nsched 0 prio 0\nstream 0 main 0\nunits 2\nunit 0 ult at 0\nset 9\nkset 0\nset 0\nkget 0\nprint\nunit 1 ult at 0\nkget 0\nprint\nend\n",
+        failing: NEVER,
+        status: 0,
+        out: "unit 0 done: 9\nunit 1 done: 0\ntally units 2 unborn 0 pool 0 stream 0 blocked 0 done 2 asked 0 access 0 steps 7\nfinished\n",
+        err: "",
+        journal: None,
+    },
+];
+
+/// Objects and keys.
+pub(crate) fn objects() -> &'static [Row] {
+    &OBJECTS
+}
+
+static STREAMS: [Row; 6] = [
+    // foreign create
+    Row {
+        words: &["run", "f"],
+        head: TWO_STREAMS,
+        lines: b"units 2\nunit 0 ult at 1\ncreate 1 2\nunit 1 ult later\nsay never\nend\n",
+        failing: NEVER,
+        status: 0,
+        out: "unit 0 done: !pool-access\nunit 1 unborn:\ntally units 2 unborn 1 pool 0 stream 0 blocked 0 done 1 asked 0 access 0 steps 1\nfinished\n",
+        err: "",
+        journal: None,
+    },
+    // home return
+    Row {
+        words: &["run", "f"],
+        head: TWO_STREAMS,
+        lines: b"units 1\nunit 0 ult at 2\nyield\nsay back\nend\n",
+        failing: NEVER,
+        status: 0,
+        out: "unit 0 done: back\ntally units 1 unborn 0 pool 0 stream 0 blocked 0 done 1 asked 0 access 0 steps 2\nfinished\n",
+        err: "",
+        journal: None,
+    },
+    // foreign yieldto
+    Row {
+        words: &["run", "f"],
+        head: TWO_STREAMS,
+        lines: b"units 2\nunit 0 ult at 0\nyieldto 1 1\nsay on\nunit 1 ult at 1\nsay one\nend\n",
+        failing: NEVER,
+        status: 0,
+        out: "unit 0 done: !pool-access on\nunit 1 done: one\ntally units 2 unborn 0 pool 0 stream 0 blocked 0 done 2 asked 0 access 0 steps 3\nfinished\n",
+        err: "",
+        journal: None,
+    },
+    // access
+    Row {
+        words: &["run", "f"],
+        head: "",
+        lines: b"abt 1\nstreams 2\npool 0 fifo priv of 0\npool 1 fifo priv of 1\nsched 0 prio 0\nsched 1 prio 1\nsched 2 prio 1\nstream 0 main 0\nstream 1 main 1\nunits 1\nunit 0 sched 2 at 0\nend\n",
+        failing: NEVER,
+        status: 0,
+        out: "unit 0 access:\ntally units 1 unborn 0 pool 0 stream 0 blocked 0 done 0 asked 0 access 1 steps 0\nfinished\n",
+        err: "",
+        journal: None,
+    },
+    // self 100
+    Row {
+        words: &["self", "100"],
+        head: "",
+        lines: b"",
+        failing: NEVER,
+        status: 0,
+        out: "unit 0 done: 5050\ntally units 101 unborn 0 pool 0 stream 0 blocked 0 done 101 asked 0 access 0 steps 804\nfinished\n",
+        err: "",
+        journal: None,
+    },
+    // self 126
+    Row {
+        words: &["self", "126"],
+        head: "",
+        lines: b"",
+        failing: NEVER,
+        status: 0,
+        out: "unit 0 done: 8001\ntally units 127 unborn 0 pool 0 stream 0 blocked 0 done 127 asked 0 access 0 steps 1012\nfinished\n",
+        err: "",
+        journal: None,
+    },
+];
+
+/// Several streams.
+pub(crate) fn streams() -> &'static [Row] {
+    &STREAMS
+}
+
+static REFUSALS: [Row; 15] = [
+    // task yields
+    Row {
+        words: &["run", "f"],
+        head: ONE_POOL,
+        lines: b"units 1\nunit 0 task at 0\nyield\nend\n",
+        failing: NEVER,
+        status: 3,
+        out: "",
+        err: "abtrun: line 8: task-blocks\n",
+        journal: Some(""),
+    },
+    // too great
+    Row {
+        words: &["run", "f"],
+        head: ONE_POOL,
+        lines: b"units 1\nunit 0 ult at 0\nset 18446744073709551616\nadd 1\nprint\nend\n",
+        failing: NEVER,
+        status: 3,
+        out: "",
+        err: "abtrun: line 8: number\n",
+        journal: Some(""),
+    },
+    // no end
+    Row {
+        words: &["run", "f"],
+        head: ONE_POOL,
+        lines: b"units 1\nunit 0 ult at 0\nsay hi\n",
+        failing: NEVER,
+        status: 3,
+        out: "",
+        err: "abtrun: line 9: no-end\n",
+        journal: Some(""),
+    },
+    // carriage return
+    Row {
+        words: &["run", "f"],
+        head: "",
+        lines: b"abt 1\nstreams 1\r\npool 0 fifo mpmc\nsched 0 prio 0\nstream 0 main 0\nunits 1\nunit 0 ult at 0\nsay hi\nend\n",
+        failing: NEVER,
+        status: 3,
+        out: "",
+        err: "abtrun: line 2: shape\n",
+        journal: Some(""),
+    },
+    // not utf8
+    Row {
+        words: &["run", "f"],
+        head: ONE_POOL,
+        lines: b"units 1\nunit 0 ult at 0\nsay \xff\nend\n",
+        failing: NEVER,
+        status: 3,
+        out: "",
+        err: "abtrun: line 8: utf8\n",
+        journal: Some(""),
+    },
+    // short write
+    Row {
+        words: &["run", "f"],
+        head: ONE_POOL,
+        lines: b"units 1\nunit 0 ult at 0\nsay hi\nend\n",
+        failing: 1,
+        status: 6,
+        out: "unit 0 don",
+        err: "abtrun: cannot write\n",
+        journal: Some("1 0 take 0 0\n2 0 look 0\n3 0 step 0 0 ok\n4 0 end 0 done\n5 0 miss 0\n"),
+    },
+    // bad words
+    Row {
+        words: &["walk"],
+        head: "",
+        lines: b"",
+        failing: NEVER,
+        status: 2,
+        out: "",
+        err: "abtrun: bad command line\n",
+        journal: Some(""),
+    },
+    // bad words
+    Row {
+        words: &["run"],
+        head: "",
+        lines: b"",
+        failing: NEVER,
+        status: 2,
+        out: "",
+        err: "abtrun: bad command line\n",
+        journal: Some(""),
+    },
+    // bad words
+    Row {
+        words: &["run", "f", "--steps", "0"],
+        head: "",
+        lines: b"",
+        failing: NEVER,
+        status: 2,
+        out: "",
+        err: "abtrun: bad command line\n",
+        journal: Some(""),
+    },
+    // bad words
+    Row {
+        words: &["run", "f", "--steps", "100001"],
+        head: "",
+        lines: b"",
+        failing: NEVER,
+        status: 2,
+        out: "",
+        err: "abtrun: bad command line\n",
+        journal: Some(""),
+    },
+    // bad words
+    Row {
+        words: &["run", "f", "g"],
+        head: "",
+        lines: b"",
+        failing: NEVER,
+        status: 2,
+        out: "",
+        err: "abtrun: bad command line\n",
+        journal: Some(""),
+    },
+    // bad words
+    Row {
+        words: &["self", "127"],
+        head: "",
+        lines: b"",
+        failing: NEVER,
+        status: 2,
+        out: "",
+        err: "abtrun: bad command line\n",
+        journal: Some(""),
+    },
+    // bad words
+    Row {
+        words: &["self"],
+        head: "",
+        lines: b"",
+        failing: NEVER,
+        status: 2,
+        out: "",
+        err: "abtrun: bad command line\n",
+        journal: Some(""),
+    },
+    // no such file
+    Row {
+        words: &["run", "none"],
+        head: "",
+        lines: b"",
+        failing: NEVER,
+        status: 5,
+        out: "",
+        err: "abtrun: cannot read\n",
+        journal: Some(""),
+    },
+    // nine streams
+    Row {
+        words: &["run", "f"],
+        head: "",
+        lines: b"abt 1\nstreams 9\nend\n",
+        failing: NEVER,
+        status: 3,
+        out: "",
+        err: "abtrun: line 2: limit\n",
+        journal: Some(""),
+    },
+];
+
+/// Words, files and texts that are refused, and an output that is.
+pub(crate) fn refusals() -> &'static [Row] {
+    &REFUSALS
+}
+
+/// For a text with one byte more than a text may have.
+pub(crate) const TOO_LONG: Row = Row {
+    words: &["run", "f"],
+    head: "",
+    lines: b"",
+    failing: NEVER,
+    status: 3,
+    out: "",
+    err: "abtrun: line 0: limit\n",
+    journal: Some(""),
+};

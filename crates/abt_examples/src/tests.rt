@@ -1,0 +1,97 @@
+//! The calls of the worked rows.
+
+ghost use Rattle.std.specs.Prelude.{◌≤◌, length};
+
+use crate::orders::{turn, turn_round};
+use crate::rows::{Row, TOO_LONG, objects, refusals, requests, schedulers, streams, units};
+use abt_machine::OrderShape;
+use abt_order::StoredOrder;
+use abt_report::journal_text;
+use abt_run::abtrun;
+use abt_source::{MemoryFiles, MemorySink, NamedBytes};
+use std::alloc::Global;
+use std::process::Abort;
+use std::test::Fail;
+
+// One byte more than a text may have.
+const TOO_LONG_LENGTH: usize = 4_194_305;
+
+// More bytes than any output has.
+const ROOM: usize = 10_000;
+
+// The words of a row.
+fn words_of(alloc: Global, row: &Row) -> Result<Vec<String>, Fail> {
+    let mut words = Vec::new(alloc);
+    for word in row.words {
+        words.push(String::from_str(alloc, word)?)?;
+    }
+    Ok(words)
+}
+
+// The text of a row.
+fn text_of(alloc: Global, row: &Row) -> Result<Vec<u8>, Fail> {
+    let mut text = Vec::from_slice(alloc, row.head.as_bytes())?;
+    text.extend_from_slice(row.lines)?;
+    Ok(text)
+}
+
+// What a row's call over this text leaves is what the row says. No write of the output takes more than 10 bytes.
+fn check(
+    rt: &impl Abort,
+    alloc: Global,
+    orders: &[StoredOrder],
+    row: &Row,
+    text: Vec<u8>,
+) -> Result<(), Fail>
+    requires { 2 ≤ length orders.now }
+{
+    let words = words_of(alloc, row)?;
+    let file = NamedBytes {
+        name: String::from_str(alloc, "f")?,
+        bytes: text,
+    };
+    let mut files = MemoryFiles::new(vec![in alloc; file]?, Vec::new(alloc));
+    let mut out = MemorySink::new(alloc, ROOM, 10, vec![in alloc; row.failing]?)?;
+    let mut err = MemorySink::new(alloc, ROOM, ROOM, Vec::new(alloc))?;
+    let ended = abtrun(alloc, &words, &mut files, &mut out, &mut err, orders);
+    assert!(rt; ended.status == row.status, "{}", row.out);
+    assert!(rt; out.bytes() == row.out.as_bytes(), "{}", row.out);
+    assert!(rt; err.bytes() == row.err.as_bytes(), "{}", row.err);
+    if let Some(journal) = row.journal {
+        let text = journal_text(alloc, &ended.journal)?;
+        assert!(rt; text.as_slice() == journal.as_bytes(), "{}", journal);
+    }
+    Ok(())
+}
+
+// So it is of all these rows.
+fn check_all(
+    rt: &impl Abort,
+    alloc: Global,
+    orders: &[StoredOrder],
+    rows: &[Row],
+) -> Result<(), Fail>
+    requires { 2 ≤ length orders.now }
+{
+    for row in rows {
+        check(rt, alloc, orders, row, text_of(alloc, row)?)?;
+    }
+    Ok(())
+}
+
+#[test]
+fn calls_leave_what_their_rows_say(rt: HostRuntime) -> Result<(), Fail> {
+    let alloc = rt.alloc();
+    let orders = [
+        StoredOrder::new(OrderShape::Rotate, Box::new(alloc, turn)?),
+        StoredOrder::new(OrderShape::Mirror, Box::new(alloc, turn_round)?),
+    ];
+    check_all(&rt, alloc, &orders, units())?;
+    check_all(&rt, alloc, &orders, schedulers())?;
+    check_all(&rt, alloc, &orders, requests())?;
+    check_all(&rt, alloc, &orders, objects())?;
+    check_all(&rt, alloc, &orders, streams())?;
+    check_all(&rt, alloc, &orders, refusals())?;
+    let long = vec![in alloc; b'#'; TOO_LONG_LENGTH]?;
+    check(&rt, alloc, &orders, &TOO_LONG, long)
+}
