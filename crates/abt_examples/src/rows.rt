@@ -132,7 +132,7 @@ pub(crate) fn units() -> &'static [Row] {
     &UNITS
 }
 
-static SCHEDULERS: [Row; 5] = [
+static SCHEDULERS: [Row; 7] = [
     // prio
     Row {
         words: &["run", "f"],
@@ -157,6 +157,19 @@ static SCHEDULERS: [Row; 5] = [
         err: "",
         journal: Some(
             "1 0 take 1 1\n2 0 look 1\n3 0 end 1 done\n4 0 miss 1\n5 0 take 0 0\n6 0 look 0\n7 0 end 0 done\n8 0 miss 1\n9 0 miss 0\n",
+        ),
+    },
+    // random stealing over two pools
+    Row {
+        words: &["run", "f"],
+        head: "",
+        lines: b"abt 1\nstreams 1\npool 0 fifo mpmc\npool 1 fifo priv of 0\nsched 0 randws 9 0 1\nstream 0 main 0\nunits 2\nunit 0 ult at 0\nunit 1 ult at 1\nend\n",
+        failing: NEVER,
+        status: 0,
+        out: "unit 0 done:\nunit 1 done:\ntally units 2 unborn 0 pool 0 stream 0 blocked 0 done 2 asked 0 access 0 steps 0\nfinished\n",
+        err: "",
+        journal: Some(
+            "1 0 take 0 0\n2 0 look 0\n3 0 end 0 done\n4 0 miss 0\n5 0 take 1 1\n6 0 look 1\n7 0 end 1 done\n8 0 miss 0\n9 0 miss 1\n",
         ),
     },
     // stacked
@@ -194,6 +207,19 @@ static SCHEDULERS: [Row; 5] = [
         err: "",
         journal: Some(
             "1 0 take 0 0\n2 0 look 0\n3 0 end 0 done\n4 0 miss 1\n5 0 take 0 1\n6 0 look 1\n7 0 end 1 done\n8 0 miss 0\n9 0 miss 1\n",
+        ),
+    },
+    // mirror order
+    Row {
+        words: &["run", "f"],
+        head: "",
+        lines: b"abt 1\nstreams 1\npool 0 fifo mpmc\npool 1 fifo mpmc\nsched 0 user 1 0 1\nstream 0 main 0\nunits 2\nunit 0 ult at 0\nunit 1 ult at 0\nend\n",
+        failing: NEVER,
+        status: 0,
+        out: "unit 0 done:\nunit 1 done:\ntally units 2 unborn 0 pool 0 stream 0 blocked 0 done 2 asked 0 access 0 steps 0\nfinished\n",
+        err: "",
+        journal: Some(
+            "1 0 miss 1\n2 0 take 0 0\n3 0 look 0\n4 0 end 0 done\n5 0 miss 1\n6 0 take 0 1\n7 0 look 1\n8 0 end 1 done\n9 0 miss 1\n10 0 miss 0\n",
         ),
     },
 ];
