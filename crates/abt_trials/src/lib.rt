@@ -1,4 +1,4 @@
-//! Trials of rounds, of reports and of runs, on workloads that are read from texts.
+//! Trials of rounds, of turns, of reports and of runs, on workloads that are read from texts.
 #![tactic(auto)]
 
 #[cfg(test)]
@@ -7,3 +7,5 @@ mod drains;
 mod reports;
 #[cfg(test)]
 mod rounds;
+#[cfg(test)]
+mod turns;
