@@ -1,6 +1,16 @@
+ghost use Rattle.std.specs.Prelude.{◌≡◌};
+
+mod asking;
+mod players;
+mod rows;
+
+use self::players::play_all;
+use self::rows::{BARRIERS, DESKS, EVENTUALS, FUTURES, KINDS, MONITORS, POOLS};
 use super::looked;
-use abt_commons::{Commons, Hall, Objects, Split};
+use abt_chain::Chain;
+use abt_commons::{Commons, Hall, Objects, Plain, Split};
 use abt_machine::*;
+use abt_workload::read;
 use std::alloc::{AllocError, Global};
 use std::process::Abort;
 use std::test::*;
@@ -82,4 +92,81 @@ fn a_split_gives_the_objects_back(rt: HostRuntime) -> Result<(), Fail> {
     };
     as_placed(&rt, &objects);
     Ok(())
+}
+
+// Plays the rows of all kinds, with one hand.
+fn play_every_kind<'w, C: Commons<'w>>(
+    rt: &impl Abort,
+    commons: &C,
+    pass: &mut C::Pass,
+    w: &Workload,
+)
+    requires workload { C.workload commons.now ≡ w.now }
+    requires pass { C.is_of commons.now pass.old }
+    ensures { C.is_of commons.now pass.new }
+{
+    let mut hand = Chain::new();
+    play_all(rt, commons, pass, w, &mut hand, &POOLS);
+    play_all(rt, commons, pass, w, &mut hand, &DESKS);
+    play_all(rt, commons, pass, w, &mut hand, &MONITORS);
+    play_all(rt, commons, pass, w, &mut hand, &EVENTUALS);
+    play_all(rt, commons, pass, w, &mut hand, &FUTURES);
+    play_all(rt, commons, pass, w, &mut hand, &BARRIERS);
+}
+
+// The workload with objects of all kinds, and so many units that start in pool 0 besides an unborn one.
+fn workload_of(rt: &impl Abort, alloc: Global, started: u8) -> Result<Workload, AllocError> {
+    let text = text_of(alloc, started)?;
+    match read(alloc, text.as_bytes()) {
+        Ok(w) => Ok(w),
+        Err(_) => panic!(rt; "not read"),
+    }
+}
+
+#[test]
+fn plain_answers_each_act(rt: HostRuntime) -> Result<(), Fail> {
+    let w = workload_of(&rt, rt.alloc(), 3)?;
+    let objects = Objects::place(rt.alloc(), &w)?;
+    let (plain, mut pass) = Plain::make(objects);
+    play_every_kind(&rt, &plain, &mut pass, &w);
+    Ok(())
+}
+
+#[test]
+fn a_hall_answers_each_act(rt: HostRuntime) -> Result<(), Fail> {
+    let w = workload_of(&rt, rt.alloc(), 3)?;
+    let objects = Objects::place(rt.alloc(), &w)?;
+    let Ok((hall, mut passes)) = Hall::make(rt.alloc(), &rt, objects, 1) else {
+        panic!(&rt; "no memory")
+    };
+    let Some(mut pass) = passes.pop() else {
+        panic!(&rt; "no pass")
+    };
+    play_every_kind(&rt, &hall, &mut pass, &w);
+    Ok(())
+}
+
+#[test]
+fn a_split_answers_each_act(rt: HostRuntime) -> Result<(), Fail> {
+    let w = workload_of(&rt, rt.alloc(), 3)?;
+    let objects = Objects::place(rt.alloc(), &w)?;
+    let Ok((split, mut passes)) = Split::make(rt.alloc(), &rt, objects, 1) else {
+        panic!(&rt; "no memory")
+    };
+    let Some(mut pass) = passes.pop() else {
+        panic!(&rt; "no pass")
+    };
+    play_every_kind(&rt, &split, &mut pass, &w);
+    Ok(())
+}
+
+// The text of a workload with objects of all kinds, and so many units that start in pool 0 besides an unborn one.
+fn text_of(alloc: Global, started: u8) -> Result<String, AllocError> {
+    let mut text = String::from_str(alloc, KINDS)?;
+    text.push_str(&format!(in alloc; "units {units}\n", units = u32::from(started) + 1)?)?;
+    for u in 0..started {
+        text.push_str(&format!(in alloc; "unit {u} ult at 0\n")?)?;
+    }
+    text.push_str(&format!(in alloc; "unit {started} ult later\nend\n")?)?;
+    Ok(text)
 }
