@@ -35,7 +35,7 @@ use Rattle.abt_outcomes.proofs.GoingOn.{stops-are-last, stops-grow}
 use Rattle.abt_outcomes.proofs.Seen.{quiet-seen, spent-seen}
 use Rattle.abt_outcomes.proofs.Stopping.{empty-rounds-end}
 use Rattle.abt_drain.specs.Moments.{IsReached, LeadTo, Makes, Moment, event_at, made_at}
-use Rattle.abt_drain.specs.Rotations.{HasMissed, HasNotStoppedBefore, HaveTurned, IsAwake, IsGoing, IsQuietIn, IsSpentIn}
+use Rattle.abt_drain.specs.Rotations.{HasMissed, HasNotStoppedBefore, IsAtStop, IsAwake, IsGoing, IsQuietIn, IsSpentIn}
 use Rattle.abt_drain.proofs.Journals.{merged-lead}
 use Rattle.abt_drain.proofs.Taking.{differ}
 
@@ -159,7 +159,7 @@ module _ (W : Parts) (Z : List OrderShape) (valid : IsValid W) (stored : OrdersS
 
   -- The end.
 
-  module _ (old new : Moment) (reached : IsReached W Z n new) (turned : HaveTurned W Z n W.streams old false new) (alone : W.streams ≡ 1) where
+  module _ (new : Moment) (reached : IsReached W Z n new) (at_stop : IsAtStop W n new) (alone : W.streams ≡ 1) where
     lead : LeadTo W Z (new.logs 0) new
     lead = log-leads new reached alone
 
@@ -181,8 +181,8 @@ module _ (W : Parts) (Z : List OrderShape) (valid : IsValid W) (stored : OrdersS
       some = omega arith
 
     quiet-stops : Quiet W (last_state W (new.logs 0)) → Stops W n (new.logs 0)
-    quiet-stops quiet = elim (turned.emptied refl 0 (omega arith)) [
-      | inl m ↦ inl (ended-empty quiet m.1)
+    quiet-stops quiet = elim (at_stop alone) [
+      | inl missed ↦ inl (ended-empty quiet missed)
       | inr spent ↦ absurd (spent-not-quiet W n 0 (new.logs 0) ((spent-seen W n 0 (new.logs 0) new.parts new.objects (made_at new) lead.stand lead.made).1 spent) quiet)
     ]
 

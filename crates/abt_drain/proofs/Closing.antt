@@ -1,5 +1,5 @@
 -- What a crew leaves at the end.
-use Rattle.std.proofs.Common.{◌≡◌, ℕ, zero, suc, ◌<◌, List, [], ◌∷◌, ◌++◌, length, Some, slice_get, refl, sym, ◌∙◌, ap, subst, inl, inr, All}
+use Rattle.std.proofs.Common.{◌≡◌, ℕ, zero, suc, ◌<◌, List, [], ◌∷◌, ◌++◌, length, Some, slice_get, refl, sym, ◌∙◌, ap, subst, inl, inr, All, arith}
 use Rattle.std.proofs.lemmas.Option.{slice_get_within}
 use Rattle.abt_machine.specs.declared.events.Event.{Event}
 use Rattle.abt_machine.specs.declared.events.Outcome.{Outcome}
@@ -11,6 +11,7 @@ use Rattle.abt_calls.specs.Holders.{units_of}
 use Rattle.abt_interleave.specs.Merges.{IsLogOf}
 use Rattle.abt_interleave.proofs.Members.{Among, all-from-among}
 use Rattle.abt_merge.specs.Logs.{AreLogs, log_of}
+use Rattle.abt_outcomes.specs.Values.{LooksAs}
 use Rattle.abt_report.specs.declared.pictures.Row.{Row}
 use Rattle.abt_report.specs.Pictures as picture
 use Rattle.abt_simulation.specs.Journals.{MergesTo}
@@ -19,8 +20,9 @@ use Rattle.abt_stream.specs.Streams.{FitsStream, StreamValue}
 use Rattle.abt_laws.proofs.Options.{some-injective}
 use Rattle.abt_drain.specs.Crews.{CrewValue, HaveLeft, HaveStopped, IsCrew, log_from, logs_in, moment_in}
 use Rattle.abt_drain.specs.Looks.{held_from}
-use Rattle.abt_drain.specs.Moments.{LeadTo}
+use Rattle.abt_drain.specs.Moments.{LeadTo, Moment, made_at}
 use Rattle.abt_drain.specs.Pictures.{LeavesWhatFits, ShowsUnits, units_left}
+use Rattle.abt_drain.specs.Rotations.{IsAtStop}
 use Rattle.abt_drain.specs.Runs.{HasRun}
 use Rattle.abt_drain.proofs.Ending.{has-run}
 use Rattle.abt_drain.proofs.Journals.{log-is, merged-lead}
@@ -30,7 +32,7 @@ use Rattle.abt_drain.proofs.Leaving.{left-fits}
 -- Lists.
 
 -- the log of a stream among those of all
-log-at : (streams : List StreamValue) (s : ℕ) → log_of (logs_in streams) s ≡ log_from (slice_get streams s)
+pub log-at : (streams : List StreamValue) (s : ℕ) → log_of (logs_in streams) s ≡ log_from (slice_get streams s)
 log-at [] s = refl
 log-at (stream ∷ streams) zero = refl
 log-at (stream ∷ streams) (suc s) = log-at streams s
@@ -59,7 +61,7 @@ left-many (s ∷ streams) [] all = absurd all
 left-many (s ∷ streams) (p ∷ rest) all = ap suc (left-many streams rest all.1)
 
 -- what stream s left
-left-at : (streams : List StreamValue) (rest : List StreamParts) (s : ℕ) (parts : StreamParts) → HaveLeft streams rest → slice_get rest s ≡ Some parts →
+pub left-at : (streams : List StreamValue) (rest : List StreamParts) (s : ℕ) (parts : StreamParts) → HaveLeft streams rest → slice_get rest s ≡ Some parts →
     (stream : StreamValue) × (slice_get streams s ≡ Some stream) × (units_left parts ≡ units_of stream.held)
 left-at [] [] s parts all e = cc
 left-at [] (p ∷ rest) s parts all e = absurd all
@@ -78,6 +80,10 @@ all-fit W streams rest left fits = all-from-among (LeavesWhatFits W) rest (λ pa
     | inr later ↦ among streams rest parts left.1 (λ s other at. fits (suc s) other at) later
   ]
 
+-- after a rotation without a step an only stream is at its stop
+stopped-at-stop : (W : Parts) (Z : List OrderShape) (n : ℕ) (m : Moment) (o : Outcome) → HaveStopped W Z n m o → IsAtStop W n m
+stopped-at-stop W Z n m o stopped alone = elim (stopped.turned.emptied refl 0 (omega arith)) [ inl emptied ↦ inl emptied.1 | inr spent ↦ inr spent ]
+
 module _ (W : Parts) (Z : List OrderShape) (n : ℕ) (crew : CrewValue) (is : IsCrew W Z n crew) where
   -- the logs of its streams are logs
   pub are-logs : AreLogs (logs_in crew.streams)
@@ -87,9 +93,13 @@ module _ (W : Parts) (Z : List OrderShape) (n : ℕ) (crew : CrewValue) (is : Is
     merges : MergesTo (moment_in W crew).logs J
     merges = record { in_order = merged.in_order; each = λ s. merged.each s ∙ log-at crew.streams s }
 
-    -- the merged journal is the crew's run
+    -- the merged journal is the run of a crew that looks as it ended so
+    pub crew-ended : (o : Outcome) → IsAtStop W n (moment_in W crew) → LooksAs W n (moment_in W crew).parts (moment_in W crew).objects (made_at (moment_in W crew)) o → HasRun W Z n J o
+    crew-ended o at_stop looks = has-run W Z is.valid is.stored n (moment_in W crew) is.reached is.going at_stop J merges o looks
+
+    -- and of one that stopped
     pub crew-ran : (o : Outcome) → HaveStopped W Z n (moment_in W crew) o → HasRun W Z n J o
-    crew-ran o stopped = has-run W Z is.valid is.stored n stopped.before (moment_in W crew) is.reached is.going stopped.turned J merges o stopped.looks
+    crew-ran o stopped = crew-ended o (stopped-at-stop W Z n (moment_in W crew) o stopped) stopped.looks
 
     lead : LeadTo W Z J (moment_in W crew)
     lead = merged-lead W Z is.valid is.stored n (moment_in W crew) is.reached J merges

@@ -15,7 +15,7 @@ use Rattle.abt_machine.specs.Next.{StepDue}
 use Rattle.abt_machine.specs.Numbers.{stream_no}
 use Rattle.abt_machine.specs.Turns.{Steps, due_of}
 use Rattle.abt_machine.specs.Values.{Held}
-use Rattle.abt_machine.specs.Outcomes.{is_step, steps_in}
+use Rattle.abt_machine.specs.Outcomes.{steps_in}
 use Rattle.abt_laws.specs.Laws.{IsMiss}
 use Rattle.abt_laws.proofs.Options.{some-injective}
 use Rattle.abt_commons.specs.Held.{ObjectsValue, clock_at, object_at}

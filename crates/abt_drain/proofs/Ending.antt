@@ -1,5 +1,5 @@
 -- Where the streams stop, the merged journal is the run that they made.
-use Rattle.std.proofs.Common.{◌≡◌, ℕ, ◌≤◌, false, List, sym, subst}
+use Rattle.std.proofs.Common.{◌≡◌, ℕ, ◌≤◌, List, sym, subst}
 use Rattle.abt_machine.specs.declared.events.Event.{Event}
 use Rattle.abt_machine.specs.declared.events.Outcome.{Outcome}
 use Rattle.abt_machine.specs.declared.operations.OrderShape.{OrderShape}
@@ -16,13 +16,13 @@ use Rattle.abt_outcomes.specs.OneStream.{GoesToItsStop, IsOnlyRun}
 use Rattle.abt_outcomes.specs.Values.{LooksAs}
 use Rattle.abt_outcomes.proofs.Outcomes.{outcome-seen}
 use Rattle.abt_drain.specs.Moments.{IsReached, LeadTo, Moment, made_at}
-use Rattle.abt_drain.specs.Rotations.{HaveTurned, IsGoing}
+use Rattle.abt_drain.specs.Rotations.{IsAtStop, IsGoing}
 use Rattle.abt_drain.specs.Runs.{HasRun}
 use Rattle.abt_drain.proofs.Alone.{log-is-only, log-merges, log-stops}
 use Rattle.abt_drain.proofs.Journals.{merged-lamport, merged-lead}
 
-module _ (W : Parts) (Z : List OrderShape) (valid : IsValid W) (stored : OrdersStored W Z) (n : ℕ) (old new : Moment) (reached : IsReached W Z n new) (going : IsGoing W n new)
-    (turned : HaveTurned W Z n W.streams old false new) (J : List Event) (merged : MergesTo new.logs J) (o : Outcome) (looks : LooksAs W n new.parts new.objects (made_at new) o) where
+module _ (W : Parts) (Z : List OrderShape) (valid : IsValid W) (stored : OrdersStored W Z) (n : ℕ) (new : Moment) (reached : IsReached W Z n new) (going : IsGoing W n new)
+    (at_stop : IsAtStop W n new) (J : List Event) (merged : MergesTo new.logs J) (o : Outcome) (looks : LooksAs W n new.parts new.objects (made_at new) o) where
   lead : LeadTo W Z J new
   lead = merged-lead W Z valid stored n new reached J merged
 
@@ -37,7 +37,7 @@ module _ (W : Parts) (Z : List OrderShape) (valid : IsValid W) (stored : OrdersS
   one-log alone = merges-are-one Event (λ e. e.stamp) (λ e. e.stream.0) new.logs J (new.logs 0) merged (log-merges W Z n new reached alone)
 
   stops : W.streams ≡ 1 → GoesToItsStop W n J
-  stops alone = subst (GoesToItsStop W n) (sym (one-log alone)) (log-stops W Z valid stored n old new reached turned alone going o (subst (λ K. EndsAs W n K o) (one-log alone) ended))
+  stops alone = subst (GoesToItsStop W n) (sym (one-log alone)) (log-stops W Z valid stored n new reached at_stop alone going o (subst (λ K. EndsAs W n K o) (one-log alone) ended))
 
   pub has-run : HasRun W Z n J o
   has-run = record {
@@ -50,5 +50,5 @@ module _ (W : Parts) (Z : List OrderShape) (valid : IsValid W) (stored : OrdersS
     ended = ended;
     stops = stops;
     only = λ alone bound. subst (IsOnlyRun W Z n) (sym (one-log alone))
-        (log-is-only W Z valid stored n old new reached turned alone bound (subst (Stamped W) (one-log alone) stamped) (subst (GoesToItsStop W n) (one-log alone) (stops alone)));
+        (log-is-only W Z valid stored n new reached at_stop alone bound (subst (Stamped W) (one-log alone) stamped) (subst (GoesToItsStop W n) (one-log alone) (stops alone)));
   }

@@ -35,7 +35,7 @@ map-of-map f g [] = refl
 map-of-map f g (x ∷ xs) = ap (λ ys. g (f x) ∷ ys) (map-of-map f g xs)
 
 module _ (W : Parts) (Z : List OrderShape) (valid : IsValid W) (stored : OrdersStored W Z) (n : ℕ) (m : Moment) (reached : IsReached W Z n m) where
-  no-gap : LeavesNoGap reached.deeds
+  pub no-gap : LeavesNoGap reached.deeds
   no-gap = timed-leaves-no-gap (machine_of W Z) (part_of W (start W)) (object_of W (start W)) reached.deeds reached.histories m.parts m.objects reached.gathered reached.timed
 
   -- what the logs merge to is the journal of all deeds
@@ -92,7 +92,7 @@ module _ (W : Parts) (Z : List OrderShape) (valid : IsValid W) (stored : OrdersS
     few-streams : W.streams ≤ 8
     few-streams = valid.few_streams
 
-  low-clock : (clock : ℕ) → IsClock (machine_of W Z) reached.deeds clock → clock < 2 ^ 62
+  pub low-clock : (clock : ℕ) → IsClock (machine_of W Z) reached.deeds clock → clock < 2 ^ 62
   low-clock clock is = elim is [
     | inl e ↦ (let z : clock ≡ 0 = e in omega arith)
     | inr r ↦ (

@@ -18,7 +18,7 @@ use Rattle.abt_drain.specs.Moments.{IsStart}
 use Rattle.abt_drain.proofs.Starting.{start-going, start-reached}
 
 -- an element of a list with one more is one of the list, or the last one
-get-push : {A : Type 0} (xs : List A) (x y : A) (i : ℕ) → slice_get (xs ++ x ∷ []) i ≡ Some y → (slice_get xs i ≡ Some y) ⊎ ((i ≡ length xs) × (x ≡ y))
+pub get-push : {A : Type 0} (xs : List A) (x y : A) (i : ℕ) → slice_get (xs ++ x ∷ []) i ≡ Some y → (slice_get xs i ≡ Some y) ⊎ ((i ≡ length xs) × (x ≡ y))
 get-push [] x y zero e = inr (refl, some-injective e)
 get-push [] x y (suc i) e = cc
 get-push (z ∷ xs) x y zero e = inl e
@@ -60,7 +60,7 @@ module _ (W : Parts) (n : ℕ) where
       times = λ x. placed.clocks x;
     }
 
-    are-streams : AreStreams W n streams
+    pub are-streams : AreStreams W n streams
     are-streams = record {
       many = all.many;
       own = λ s stream e. record { number = ap (λ (k : StreamNo). k.0) (all.own s stream e).number; fits = (all.own s stream e).fits; budget = (all.own s stream e).budget };

@@ -8,18 +8,24 @@ use Rattle.abt_machine.specs.declared.workload.Parts.{Parts}
 use Rattle.abt_machine.specs.Outcomes.{steps_in}
 use Rattle.abt_outcomes.specs.Values.{LooksAs}
 use Rattle.abt_stream.specs.Streams.{StreamValue}
-use Rattle.abt_drain.specs.Crews.{CrewValue, HaveStopped, IsCrew, log_from, moment_in}
+use Rattle.abt_drain.specs.Crews.{CrewValue, HaveStopped, IsCrew, log_from, moment_in, moment_of}
 use Rattle.abt_drain.specs.Looks.{EndedWith, parts_of, steps_from, steps_made}
 use Rattle.abt_drain.specs.Moments.{made_at}
 use Rattle.abt_drain.specs.Rotations.{HaveTurned, IsAwake, IsFresh, IsSpentIn, work_at}
-use Rattle.abt_commons.specs.Held.{object_at}
+use Rattle.abt_commons.specs.Held.{ObjectsValue, object_at}
 use Rattle.abt_drain.proofs.Alone.{busy-awake}
 use Rattle.abt_drain.proofs.Rotating.{rounds-lower, steps-lower}
 
 -- the steps of a stream are those in its log
-made-same : (o : Option StreamValue) → steps_from o ≡ steps_in (log_from o)
+pub made-same : (o : Option StreamValue) → steps_from o ≡ steps_in (log_from o)
 made-same None = refl
 made-same (Some stream) = refl
+
+-- how the run ended, by the moment
+pub looks-at : (W : Parts) (n : ℕ) (streams : List StreamValue) (objects : ObjectsValue) (o : Outcome) → EndedWith W n streams objects (Some o)
+    → LooksAs W n (parts_of W streams) (object_at objects) (made_at (moment_of W streams objects)) o
+looks-at W n streams objects o ended =
+    subst (λ made. LooksAs W n (parts_of W streams) (object_at objects) made o) (fun_ext {f = steps_made streams} {g = made_at (moment_of W streams objects)} (λ s. made-same (slice_get streams s))) ended
 
 module _ (W : Parts) (Z : List OrderShape) (n : ℕ) (crew next : CrewValue) (before : IsCrew W Z n crew) (after : IsCrew W Z n next) (stepped : Bool)
     (turned : HaveTurned W Z n W.streams (moment_in W crew) stepped (moment_in W next)) where
@@ -52,5 +58,5 @@ module _ (W : Parts) (Z : List OrderShape) (n : ℕ) (crew next : CrewValue) (be
   has-stopped o end = record {
     before = moment_in W crew;
     turned = subst (λ b. HaveTurned W Z n W.streams (moment_in W crew) b (moment_in W next)) end.0 turned;
-    looks = subst (λ made. LooksAs W n (parts_of W next.streams) (object_at next.objects) made o) (fun_ext {f = steps_made next.streams} {g = made_at (moment_in W next)} (λ s. made-same (slice_get next.streams s))) end.1;
+    looks = looks-at W n next.streams next.objects o end.1;
   }

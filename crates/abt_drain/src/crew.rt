@@ -8,25 +8,24 @@ ghost use Rattle.abt_machine.specs.Rounds.{OrdersStored};
 ghost use Rattle.abt_machine.specs.Runs.{last_state};
 ghost use Rattle.abt_machine.specs.Texts.{shown_units};
 ghost use Rattle.abt_order.specs.Stored.{shapes_of};
-ghost use Rattle.abt_calls.specs.Holders.{units_of};
 ghost use Rattle.abt_report.specs.Pictures.{SaysWordsOf};
 ghost use Rattle.abt_report.specs.Pictures as picture;
 ghost use Rattle.abt_machine.specs.Outcomes.{steps_in};
 ghost use Rattle.abt_stream.specs.Streams.{FitsShapes, FitsStream};
-ghost use Rattle.abt_drain.specs.Crews.{AreStarted, HaveLeft, HaveStopped, IsCrew, IsEnd, logs_in, StaysAwake, TurnBy, TurnsBy, moment_in};
+ghost use Rattle.abt_drain.specs.Crews.{HaveStopped, IsCrew, IsEnd, StaysAwake, TurnBy, TurnsBy, moment_in};
 ghost use Rattle.abt_drain.specs.Looks.{AreStreams};
-ghost use Rattle.abt_drain.specs.Pictures.{units_left};
 ghost use Rattle.abt_drain.specs.Rotations.{HasTurned, HaveTurned, IsAwake, IsFresh};
 ghost use Rattle.abt_drain.specs.Runs.{HasRun};
 
 use crate::outcomes::outcome;
 use crate::pictures::picture;
+use crate::streams::{split_logs, start_streams};
 use abt_commons::{Commons, Objects, Plain, PlainPass};
-use abt_machine::{Journal, Log, Outcome, StreamNo, Want, Workload};
+use abt_machine::{Journal, Outcome, Want, Workload};
 use abt_merge::merge;
 use abt_order::StoredOrder;
 use abt_report::Picture;
-use abt_stream::{NoPace, Stream, StreamParts, Turn};
+use abt_stream::{Pace, Stream, Turn};
 use std::alloc::Global;
 use std::marker::Model;
 
@@ -66,7 +65,7 @@ impl<'w> Crew<'w> {
     {
         // The count is of no use here, but its contract says that the workload is valid.
         w.streams();
-        let streams = start(alloc, w, steps)?;
+        let streams = start_streams(alloc, w, steps)?;
         let (plain, pass) = Plain::make(Objects::place(alloc, w)?);
         Ok(Crew {
             w,
@@ -78,7 +77,7 @@ impl<'w> Crew<'w> {
     }
 
     // One turn of a stream.
-    fn turn(&mut self, orders: &[StoredOrder], s: u32) -> Result<Turn, Want>
+    fn turn<P: Pace>(&mut self, orders: &[StoredOrder], pace: &P, s: u32) -> Result<Turn, Want>
         requires stream { s < self.old.workload.streams }
         requires crew { IsCrew self.old.workload (shapes_of orders.now) self.old.steps self.old }
         requires awake { IsAwake self.old.workload (moment_in self.old.workload self.old) }
@@ -92,11 +91,17 @@ impl<'w> Crew<'w> {
             orders,
             &self.plain,
             &mut self.pass,
+            pace,
         )
     }
 
     // A stream's turns until one is a step, ends a round empty, or is none; whether it was a step.
-    fn take_turns(&mut self, orders: &[StoredOrder], s: u32) -> Result<bool, Want>
+    fn take_turns<P: Pace>(
+        &mut self,
+        orders: &[StoredOrder],
+        pace: &P,
+        s: u32,
+    ) -> Result<bool, Want>
         requires stream { s < self.old.workload.streams }
         requires crew { IsCrew self.old.workload (shapes_of orders.now) self.old.steps self.old }
         requires awake { IsAwake self.old.workload (moment_in self.old.workload self.old) }
@@ -105,7 +110,7 @@ impl<'w> Crew<'w> {
         ensures awake { IfOk result (λ stepped. stepped ≡ true → IsAwake self.old.workload (moment_in self.old.workload self.new)) }
     {
         'turns: loop {
-            match self.turn(orders, s)? {
+            match self.turn(orders, pace, s)? {
                 Turn::Moved => {}
                 Turn::Stepped => return Ok(true),
                 Turn::EmptyRound => return Ok(false),
@@ -116,7 +121,7 @@ impl<'w> Crew<'w> {
     }
 
     // The turns of each stream, in order of number; whether one of them made a step.
-    fn rotate(&mut self, orders: &[StoredOrder]) -> Result<bool, Want>
+    fn rotate<P: Pace>(&mut self, orders: &[StoredOrder], pace: &P) -> Result<bool, Want>
         requires crew { IsCrew self.old.workload (shapes_of orders.now) self.old.steps self.old }
         requires awake { IsAwake self.old.workload (moment_in self.old.workload self.old) }
         ensures turned { IfOk result (λ stepped. HaveTurned self.old.workload (shapes_of orders.now) self.old.steps self.old.workload.streams (moment_in self.old.workload self.old) stepped (moment_in self.old.workload self.new)) }
@@ -125,7 +130,7 @@ impl<'w> Crew<'w> {
     {
         let mut stepped = false;
         'streams: for s in 0..self.w.streams() {
-            let step = self.take_turns(orders, s)?;
+            let step = self.take_turns(orders, pace, s)?;
             stepped = stepped || step;
         }
         Ok(stepped)
@@ -144,7 +149,7 @@ impl<'w> Crew<'w> {
     }
 
     /// Rotations, until one without a step leaves nothing to do or a stream spent.
-    pub(crate) fn run(&mut self, orders: &[StoredOrder]) -> Result<Outcome, Want>
+    pub(crate) fn run<P: Pace>(&mut self, orders: &[StoredOrder], pace: &P) -> Result<Outcome, Want>
         requires crew { IsCrew self.old.workload (shapes_of orders.now) self.old.steps self.old }
         requires fresh { (s : ℕ) → s < self.old.workload.streams → IsFresh (moment_in self.old.workload self.old) s }
         requires awake { IsAwake self.old.workload (moment_in self.old.workload self.old) }
@@ -152,7 +157,7 @@ impl<'w> Crew<'w> {
         ensures crew { OnOk result (IsCrew self.old.workload (shapes_of orders.now) self.old.steps self.new) }
     {
         'rotations: loop {
-            let stepped = self.rotate(orders)?;
+            let stepped = self.rotate(orders, pace)?;
             match self.ended(stepped) {
                 Some(outcome) => return Ok(outcome),
                 None => {}
@@ -174,7 +179,7 @@ impl<'w> Crew<'w> {
             pass,
             streams,
         } = self;
-        let (logs, rest) = split(alloc, streams)?;
+        let (logs, rest) = split_logs(alloc, streams)?;
         let journal = merge(alloc, logs)?;
         let objects = plain.close(vec![in alloc; pass]?);
         let picture = picture(alloc, w, objects, rest)?;
@@ -182,24 +187,14 @@ impl<'w> Crew<'w> {
     }
 }
 
-// Each stream of the workload, in order of number.
-fn start(alloc: Global, w: &Workload, steps: u64) -> Result<Vec<Stream>, Want>
-    ensures { IfOk result (λ streams. AreStarted w.now steps w.now.streams streams.items) }
-{
-    let mut streams = Vec::new(alloc);
-    'streams: for s in 0..w.streams() {
-        streams.push(Stream::new(alloc, w, StreamNo(s), steps)?)?;
-    }
-    Ok(streams)
-}
-
 // What a stream needs for one turn, and the turn.
-fn advance<'w>(
+fn advance<'w, P: Pace>(
     stream: &mut Stream,
     w: &Workload,
     orders: &[StoredOrder],
     plain: &Plain<'w>,
     pass: &mut PlainPass<'w>,
+    pace: &P,
 ) -> Result<Turn, Want>
     requires orders { OrdersStored w.now (shapes_of orders.now) }
     requires plain { plain.now ≡ w.now }
@@ -218,48 +213,8 @@ fn advance<'w>(
     // The count is of no use here, but its contract says that the workload is valid.
     w.streams();
     stream.prepare(w, orders)?;
-    let turn = stream.turn(plain, pass, w, &NoPace);
+    let turn = stream.turn(plain, pass, w, pace);
     // The log is of no use here, but its contract says that it has no more steps than the stream may make.
     stream.log();
     Ok(turn)
-}
-
-// What the streams leave, their logs apart from the rest.
-fn split(alloc: Global, streams: Vec<Stream>) -> Result<(Vec<Log>, Vec<StreamParts>), Want>
-    ensures logs { IfOk result (λ split. split.0.items ≡ logs_in streams.items) }
-    ensures parts { IfOk result (λ split. HaveLeft streams.items split.1.items) }
-{
-    let mut logs = Vec::with_capacity(alloc, streams.len())?;
-    let mut rest = Vec::with_capacity(alloc, streams.len())?;
-    'streams: for stream in streams {
-        let (log, parts) = split_log(alloc, stream);
-        logs.push(log)?;
-        rest.push(parts)?;
-    }
-    Ok((logs, rest))
-}
-
-// What a stream leaves, its log apart from the rest.
-fn split_log(alloc: Global, stream: Stream) -> (Log, StreamParts)
-    ensures log { result.0 ≡ stream.log }
-    ensures parts { units_left result.1 ≡ units_of stream.held }
-{
-    let StreamParts {
-        log,
-        hand,
-        next,
-        tray,
-        frames,
-    } = stream.into_parts();
-    let none = Log::new(Vec::new(alloc));
-    (
-        log,
-        StreamParts {
-            log: none,
-            hand,
-            next,
-            tray,
-            frames,
-        },
-    )
 }

@@ -5,7 +5,9 @@ mod crew;
 mod outcomes;
 mod pictures;
 mod run;
+mod streams;
 
 pub use outcomes::outcome;
 pub use pictures::picture;
-pub use run::{Run, drain};
+pub use run::{Run, drain, drain_at_pace};
+pub use streams::{split_logs, start_streams};

@@ -12,6 +12,7 @@ use crate::crew::Crew;
 use abt_machine::{Journal, Outcome, Want, Workload};
 use abt_order::StoredOrder;
 use abt_report::Picture;
+use abt_stream::{NoPace, Pace};
 use std::alloc::Global;
 
 /// A run: its journal, its units at the end, and how it ended.
@@ -31,8 +32,24 @@ pub fn drain(alloc: Global, w: &Workload, orders: &[StoredOrder], steps: u64) ->
     ensures shown { IfOk result (λ run. shown_units w.now (last_state w.now run.journal) ≡ units_of run.picture) }
     ensures words { IfOk result (λ run. All (SaysWordsOf w.now) run.picture) }
 {
+    drain_at_pace(alloc, w, orders, &NoPace, steps)
+}
+
+/// As `drain`; `pace` is called before each step.
+pub fn drain_at_pace<P: Pace>(
+    alloc: Global,
+    w: &Workload,
+    orders: &[StoredOrder],
+    pace: &P,
+    steps: u64,
+) -> Result<Run, Want>
+    requires orders { 2 ≤ length orders.now }
+    ensures run { IfOk result (λ run. HasRun w.now (shapes_of orders.now) steps run.journal run.outcome) }
+    ensures shown { IfOk result (λ run. shown_units w.now (last_state w.now run.journal) ≡ units_of run.picture) }
+    ensures words { IfOk result (λ run. All (SaysWordsOf w.now) run.picture) }
+{
     let mut crew = Crew::new(alloc, w, orders, steps)?;
-    let outcome = crew.run(orders)?;
+    let outcome = crew.run(orders, pace)?;
     let (journal, picture) = crew.end(alloc)?;
     Ok(Run {
         journal,

@@ -14,9 +14,11 @@ use abt_machine::OrderShape;
 use abt_order::StoredOrder;
 use abt_run::abtrun;
 use abt_source::{MemorySink, RealFiles, read_all};
+use abt_stream::NoPace;
 use std::alloc::Global;
-use std::process::ExitCode;
+use std::sync::Wait;
 use std::test::Fail;
+use std::thread::Threads;
 
 // The words of a call, the file with what it prints, and its exit status.
 #[derive(Clone, Copy)]
@@ -148,7 +150,8 @@ static EXAMPLES: [Example; 23] = [
 const ROOM: usize = 10_000;
 
 // Whether a call over the files here ends as the example says.
-fn is_as_stored(
+fn is_as_stored<R: Threads + Wait + Sync>(
+    rt: &R,
     alloc: Global,
     files: &mut RealFiles<'_, HostRuntime>,
     orders: &[StoredOrder],
@@ -162,7 +165,9 @@ fn is_as_stored(
     }
     let mut out = MemorySink::new(alloc, ROOM, ROOM, Vec::new(alloc))?;
     let mut err = MemorySink::new(alloc, ROOM, ROOM, Vec::new(alloc))?;
-    let ended = abtrun(alloc, &words, files, &mut out, &mut err, orders);
+    let ended = abtrun(
+        rt, alloc, &words, files, &mut out, &mut err, &NoPace, orders,
+    );
     let stored = read_all(alloc, files, example.output, ROOM)?;
     Ok(ended.status == example.status && out.bytes() == stored.as_slice())
 }
@@ -175,7 +180,7 @@ fn main(rt: HostRuntime) -> Result<(), Fail> {
     ];
     let mut files = RealFiles::new(&rt);
     for example in &EXAMPLES {
-        let is = is_as_stored(alloc, &mut files, &orders, example)?;
+        let is = is_as_stored(&rt, alloc, &mut files, &orders, example)?;
         println!(rt;
             "{}: {}",
             example.output,

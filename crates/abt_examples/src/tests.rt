@@ -9,15 +9,21 @@ use abt_order::StoredOrder;
 use abt_report::journal_text;
 use abt_run::abtrun;
 use abt_source::{MemoryFiles, MemorySink, NamedBytes};
+use abt_stream::NoPace;
 use std::alloc::Global;
 use std::process::Abort;
+use std::sync::Wait;
 use std::test::Fail;
+use std::thread::Threads;
 
 // One byte more than a text may have.
 const TOO_LONG_LENGTH: usize = 4_194_305;
 
 // More bytes than any output has.
 const ROOM: usize = 10_000;
+
+// How many times each row of several streams is called.
+const TIMES: u32 = 10;
 
 // The words of a row.
 fn words_of(alloc: Global, row: &Row) -> Result<Vec<String>, Fail> {
@@ -36,8 +42,8 @@ fn text_of(alloc: Global, row: &Row) -> Result<Vec<u8>, Fail> {
 }
 
 // What a row's call over this text leaves is what the row says. No write of the output takes more than 10 bytes.
-fn check(
-    rt: &impl Abort,
+fn check<R: Threads + Wait + Sync + Abort>(
+    rt: &R,
     alloc: Global,
     orders: &[StoredOrder],
     row: &Row,
@@ -53,7 +59,9 @@ fn check(
     let mut files = MemoryFiles::new(vec![in alloc; file]?, Vec::new(alloc));
     let mut out = MemorySink::new(alloc, ROOM, 10, vec![in alloc; row.failing]?)?;
     let mut err = MemorySink::new(alloc, ROOM, ROOM, Vec::new(alloc))?;
-    let ended = abtrun(alloc, &words, &mut files, &mut out, &mut err, orders);
+    let ended = abtrun(
+        rt, alloc, &words, &mut files, &mut out, &mut err, &NoPace, orders,
+    );
     assert!(rt; ended.status == row.status, "{}", row.out);
     assert!(rt; out.bytes() == row.out.as_bytes(), "{}", row.out);
     assert!(rt; err.bytes() == row.err.as_bytes(), "{}", row.err);
@@ -65,8 +73,8 @@ fn check(
 }
 
 // So it is of all these rows.
-fn check_all(
-    rt: &impl Abort,
+fn check_all<R: Threads + Wait + Sync + Abort>(
+    rt: &R,
     alloc: Global,
     orders: &[StoredOrder],
     rows: &[Row],
@@ -90,7 +98,9 @@ fn calls_leave_what_their_rows_say(rt: HostRuntime) -> Result<(), Fail> {
     check_all(&rt, alloc, &orders, schedulers())?;
     check_all(&rt, alloc, &orders, requests())?;
     check_all(&rt, alloc, &orders, objects())?;
-    check_all(&rt, alloc, &orders, streams())?;
+    for _ in 0..TIMES {
+        check_all(&rt, alloc, &orders, streams())?;
+    }
     check_all(&rt, alloc, &orders, refusals())?;
     let long = vec![in alloc; b'#'; TOO_LONG_LENGTH]?;
     check(&rt, alloc, &orders, &TOO_LONG, long)

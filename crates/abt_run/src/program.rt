@@ -15,15 +15,19 @@ ghost use Rattle.abt_run.specs.Status.{message_of};
 ghost use Rattle.abt_run.specs.declared.status.Status.TheVariants as status;
 
 use crate::status::{Status, refusal};
-use abt_drain::{Run, drain};
+use abt_drain::Run;
 use abt_generate::generate;
 use abt_machine::{Command, Ended, Event, Journal, Outcome, Want, What, Workload};
 use abt_order::StoredOrder;
 use abt_report::{append_report, journal_text, short_report};
 use abt_source::{Failed, Files, NotFetched, Sink, read_all, write_whole};
+use abt_stream::Pace;
+use abt_waves::run_streams;
 use abt_words::{WordFault, words as command};
 use abt_workload::{NotRead, read};
 use std::alloc::Global;
+use std::sync::Wait;
+use std::thread::Threads;
 
 // The most bytes that a workload text has.
 const MOST: usize = 4_194_304;
@@ -102,10 +106,12 @@ fn short_output(alloc: Global, w: &Workload, run: &Run) -> Result<Vec<u8>, Want>
 }
 
 // All of a call but its writes.
-fn prepare<F: Files>(
+fn prepare<R: Threads + Wait + Sync, F: Files, P: Pace + Sync>(
+    rt: &R,
     alloc: Global,
     words: &[String],
     files: &mut F,
+    pace: &P,
     orders: &[StoredOrder],
 ) -> Result<Prepared, Status>
     requires orders { 2 ≤ length orders.now }
@@ -120,20 +126,33 @@ fn prepare<F: Files>(
                 steps,
                 journal,
             },
-        ) => { prepare_file(alloc, file.as_str(), steps, journal, files, orders) }
-        Ok(Command::SelfRun { units }) => prepare_self(alloc, units, orders),
+        ) => {
+            prepare_file(
+                rt,
+                alloc,
+                file.as_str(),
+                steps,
+                journal,
+                files,
+                pace,
+                orders,
+            )
+        }
+        Ok(Command::SelfRun { units }) => prepare_self(rt, alloc, units, pace, orders),
         Err(WordFault::Bad) => Err(Status::BadWords),
         Err(WordFault::Memory) => Err(Status::OutOfMemory),
     }
 }
 
 // The run of a file's workload, and what it prints.
-fn prepare_file<F: Files>(
+fn prepare_file<R: Threads + Wait + Sync, F: Files, P: Pace + Sync>(
+    rt: &R,
     alloc: Global,
     file: &str,
     steps: u64,
     with_journal: bool,
     files: &mut F,
+    pace: &P,
     orders: &[StoredOrder],
 ) -> Result<Prepared, Status>
     requires orders { 2 ≤ length orders.now }
@@ -142,20 +161,26 @@ fn prepare_file<F: Files>(
     ensures later { F.faults files.old ≤ F.faults files.new }
 {
     let w = fetch(alloc, file, files)?;
-    let ran = drain(alloc, &w, orders, steps)?;
+    let ran = run_streams(alloc, rt, &w, orders, pace, steps)?;
     let text = output(alloc, &w, &ran, with_journal)?;
     Ok(Prepared::new(ran, text))
 }
 
 // The run of the workload that is made of so many units, and what it prints.
-fn prepare_self(alloc: Global, units: u32, orders: &[StoredOrder]) -> Result<Prepared, Status>
+fn prepare_self<R: Threads + Wait + Sync, P: Pace + Sync>(
+    rt: &R,
+    alloc: Global,
+    units: u32,
+    pace: &P,
+    orders: &[StoredOrder],
+) -> Result<Prepared, Status>
     requires orders { 2 ≤ length orders.now }
     requires units { (0 < units) × (units ≤ 126) }
     ensures done { (file_of : Text → Option Text) → IfOk result (λ p. IsPreparedFor (command.SelfRun units) (shapes_of orders.now) file_of p.journal p.outcome p.text.items) }
     ensures stop { IfErr result (λ stop. stop ≡ status.OutOfMemory) }
 {
     let w = generate(alloc, units)?;
-    let ran = drain(alloc, &w, orders, SELF_STEPS)?;
+    let ran = run_streams(alloc, rt, &w, orders, pace, SELF_STEPS)?;
     let text = short_output(alloc, &w, &ran)?;
     Ok(Prepared::new(ran, text))
 }
@@ -236,15 +261,20 @@ fn status_by(outcome: Outcome) -> Status
 /// journal, where `--journal` asks for it, and its report; `self` runs the workload that it makes of a number, and writes the
 /// short report. The words are those after the program's name. User schedulers name the stored orders by number.
 ///
+/// Each stream runs on a thread of its own, as far as threads can be started; `pace` is called before each step, outside every
+/// lock.
+///
 /// Exit statuses: 0 finished, 1 stuck, 2 bad command line, 3 the file is refused, 4 a stream made all the steps that it may
 /// make, 5 cannot read, 6 cannot write, 7 out of memory. In statuses 0, 1, 4 and 6 the journal is the run's, in all others it
 /// is empty.
-pub fn abtrun<F: Files, K: Sink, E: Sink>(
+pub fn abtrun<R: Threads + Wait + Sync, F: Files, K: Sink, E: Sink, P: Pace + Sync>(
+    rt: &R,
     alloc: Global,
     words: &[String],
     files: &mut F,
     out: &mut K,
     err: &mut E,
+    pace: &P,
     orders: &[StoredOrder],
 ) -> Ended
     requires orders { 2 ≤ length orders.now }
@@ -260,7 +290,7 @@ pub fn abtrun<F: Files, K: Sink, E: Sink>(
       journal = result.journal;
     }) }
 {
-    let (status, journal) = call(alloc, words, files, out, err, orders);
+    let (status, journal) = call(rt, alloc, words, files, out, err, pace, orders);
     Ended {
         status: status.number(),
         journal,
@@ -268,12 +298,14 @@ pub fn abtrun<F: Files, K: Sink, E: Sink>(
 }
 
 // A call of the program: its status and its journal.
-fn call<F: Files, K: Sink, E: Sink>(
+fn call<R: Threads + Wait + Sync, F: Files, K: Sink, E: Sink, P: Pace + Sync>(
+    rt: &R,
     alloc: Global,
     words: &[String],
     files: &mut F,
     out: &mut K,
     err: &mut E,
+    pace: &P,
     orders: &[StoredOrder],
 ) -> (Status, Journal)
     requires orders { 2 ≤ length orders.now }
@@ -289,7 +321,7 @@ fn call<F: Files, K: Sink, E: Sink>(
       journal = result.1;
     }) }
 {
-    match prepare(alloc, words, files, orders) {
+    match prepare(rt, alloc, words, files, pace, orders) {
         Ok(
             Prepared {
                 journal,

@@ -43,7 +43,7 @@ const SHARED: &str =
     "abt 1\nstreams 2\npool 0 deque mpmc\npool 1 deque mpmc\nsched 0 randws 1 0 1\nsched 1 randws 2 1 0\nstream 0 main 0\nstream 1 main 1\nobject 0 mutex\nunits 41\n";
 
 // How many events are steps.
-fn count_steps(events: &[Event]) -> u64 {
+pub(crate) fn count_steps(events: &[Event]) -> u64 {
     events
         .iter()
         .filter(|event| matches!(event.what, What::Step(_, _, _)))
@@ -64,7 +64,7 @@ fn texts(alloc: Global, text: &str, steps: u64) -> Result<(Vec<u8>, Vec<u8>), Fa
 }
 
 // The text of forty units that add, and of the one that joins them all and prints.
-fn shared(alloc: Global) -> Result<String, AllocError> {
+pub(crate) fn shared(alloc: Global) -> Result<String, AllocError> {
     let mut text = String::new(alloc);
     text.push_str(SHARED)?;
     for u in 0..40 {
@@ -82,7 +82,7 @@ fn shared(alloc: Global) -> Result<String, AllocError> {
 }
 
 // The report on them.
-fn shared_report(alloc: Global) -> Result<String, AllocError> {
+pub(crate) fn shared_report(alloc: Global) -> Result<String, AllocError> {
     let mut text = String::new(alloc);
     for u in 0..40 {
         text.push_str(format!(in alloc; "unit {u} done:\n")?.as_str())?;

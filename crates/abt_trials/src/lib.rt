@@ -9,3 +9,5 @@ mod reports;
 mod rounds;
 #[cfg(test)]
 mod turns;
+#[cfg(test)]
+mod waves;

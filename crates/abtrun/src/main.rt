@@ -7,6 +7,7 @@ use abt_machine::OrderShape;
 use abt_order::{StoredOrder, mirror, rotate};
 use abt_run::{Status, abtrun};
 use abt_source::{RealFiles, RealSink, write_whole};
+use abt_stream::NoPace;
 use std::alloc::Global;
 use std::process::ExitCode;
 use std::rt::Runtime;
@@ -64,6 +65,8 @@ fn main(rt: HostRuntime) -> ExitCode {
         StoredOrder::new(OrderShape::Rotate, rotation),
         StoredOrder::new(OrderShape::Mirror, mirroring),
     ];
-    let ended = abtrun(alloc, &words, &mut files, &mut out, &mut err, &orders);
+    let ended = abtrun(
+        &rt, alloc, &words, &mut files, &mut out, &mut err, &NoPace, &orders,
+    );
     ExitCode::from(ended.status)
 }

@@ -2,7 +2,7 @@
 use Rattle.std.proofs.Common.{sym, subst}
 use Rattle.abt_drain.specs.Crews.{AreStarted, IsStarted}
 use Rattle.abt_drain.proofs.Started.{started-push}
-use Rattle.abt_drain.proofs.crew.start.Goals as goal
+use Rattle.abt_drain.proofs.streams.start_streams.Goals as goal
 
 pub streams-preserved : goal.streams-preserved
 streams-preserved c =

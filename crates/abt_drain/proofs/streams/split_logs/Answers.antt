@@ -5,7 +5,7 @@ use Rattle.std.proofs.lemmas.List.{append_assoc, map-append}
 use Rattle.abt_stream.specs.Streams.{StreamValue}
 use Rattle.abt_drain.specs.Crews.{HaveLeft, log_in}
 use Rattle.abt_drain.proofs.Closing.{left-push}
-use Rattle.abt_drain.proofs.crew.split.Goals as goal
+use Rattle.abt_drain.proofs.streams.split_logs.Goals as goal
 
 pub streams-preserved : goal.streams-preserved
 streams-preserved c =

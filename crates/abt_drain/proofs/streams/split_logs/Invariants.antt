@@ -2,7 +2,7 @@
 use Rattle.std.proofs.Common.{◌≡◌, length}
 use Rattle.std.specs.Vec.Iter.{into_iter_items, into_iter_len}
 use Rattle.abt_drain.specs.Crews.{IsSplit}
-use Rattle.abt_drain.proofs.crew.split.Given as goal
+use Rattle.abt_drain.proofs.streams.split_logs.Given as goal
 
 abbrev pub invariant-streams : goal.invariant-streams
 invariant-streams l = record {
