@@ -1,0 +1,4 @@
+pub mod Jobs
+pub mod Stops
+pub mod Voyages
+pub mod Waves

@@ -1,0 +1,67 @@
+//! A run on threads.
+
+ghost use Rattle.std.specs.Prelude.{◌≡◌, ◌≤◌, IfOk, length};
+ghost use Rattle.std.specs.List.{All};
+ghost use Rattle.abt_machine.specs.Runs.{last_state};
+ghost use Rattle.abt_machine.specs.Texts.{shown_units};
+ghost use Rattle.abt_order.specs.Stored.{shapes_of};
+ghost use Rattle.abt_report.specs.Pictures.{SaysWordsOf, units_of};
+ghost use Rattle.abt_drain.specs.Runs.{HasRun};
+
+use crate::fleet::Fleet;
+use abt_drain::{Run, drain_at_pace};
+use abt_machine::{Want, Workload};
+use abt_order::StoredOrder;
+use abt_stream::Pace;
+use std::alloc::Global;
+use std::sync::Wait;
+use std::thread::Threads;
+
+/// Runs a workload whose streams may make so many steps each; `pace` is called before each step. In a wave each stream makes
+/// turns on a thread of its own, over objects that have a lock each, until it is spent, or finds nothing while no other stream
+/// has work. Waves go on until one leaves nothing to do or a stream spent. Where no thread can be started the caller's does its
+/// work. A workload with one stream runs on the caller's thread, without a lock. Err: memory was refused, to one stream or to
+/// all; its wave is the last.
+pub fn run_streams<'w, R: Threads + Wait + Sync, P: Pace + Sync>(
+    alloc: Global,
+    rt: &'w R,
+    w: &'w Workload,
+    orders: &[StoredOrder],
+    pace: &P,
+    steps: u64,
+) -> Result<Run, Want>
+    requires orders { 2 ≤ length orders.now }
+    ensures run { IfOk result (λ run. HasRun w.now (shapes_of orders.now) steps run.journal run.outcome) }
+    ensures shown { IfOk result (λ run. shown_units w.now (last_state w.now run.journal) ≡ units_of run.picture) }
+    ensures words { IfOk result (λ run. All (SaysWordsOf w.now) run.picture) }
+{
+    if w.streams() == 1 {
+        return drain_at_pace(alloc, w, orders, pace, steps);
+    }
+    run_waves(alloc, rt, w, orders, pace, steps)
+}
+
+// The run of a workload with several streams.
+fn run_waves<'w, R: Threads + Wait + Sync, P: Pace + Sync>(
+    alloc: Global,
+    rt: &'w R,
+    w: &'w Workload,
+    orders: &[StoredOrder],
+    pace: &P,
+    steps: u64,
+) -> Result<Run, Want>
+    requires orders { 2 ≤ length orders.now }
+    requires several { 2 ≤ w.now.streams }
+    ensures run { IfOk result (λ run. HasRun w.now (shapes_of orders.now) steps run.journal run.outcome) }
+    ensures shown { IfOk result (λ run. shown_units w.now (last_state w.now run.journal) ≡ units_of run.picture) }
+    ensures words { IfOk result (λ run. All (SaysWordsOf w.now) run.picture) }
+{
+    let fleet = Fleet::new(alloc, w, orders, steps)?;
+    let (fleet, outcome) = fleet.run(alloc, rt, orders, pace)?;
+    let (journal, picture) = fleet.end(alloc)?;
+    Ok(Run {
+        journal,
+        picture,
+        outcome,
+    })
+}
