@@ -114,41 +114,43 @@ finished' ""
     came "a file without an end" 3 "" "abtrun: line 0: limit"
 }
 
-# A text of a megabyte and more in which no two lines are alike, and the report that it must have.
+# A text of a megabyte in which no two lines are alike, and the report that it must have.
 write_varied() {
     awk -v text="$room/varied.abt" -v report="$room/varied.out" 'BEGIN {
-        printf "abt 1\nstreams 1\npool 0 fifo mpmc\nsched 0 prio 0\nstream 0 main 0\nunits 256\n" >text
-        for (u = 0; u < 256; u++) {
+        printf "abt 1\nstreams 1\npool 0 fifo mpmc\nsched 0 prio 0\nstream 0 main 0\nunits 40\n" >text
+        for (u = 0; u < 40; u++) {
             printf "unit %d ult at 0\n", u >text
             printf "unit %d done:", u >report
             for (k = 0; k < 200; k++) {
-                printf "# %d comes before %d of %d\nsay u%dw%dx%d\n", u + k, k, u, u, k, u * k >text
+                printf "# %d comes before %d of %d", u + k, k, u >text
+                for (i = 0; i < 20; i++) printf " %d", (u + 1) * (k + 1) * (i + 1) >text
+                printf "\nsay u%dw%dx%d\n", u, k, u * k >text
                 printf " u%dw%dx%d", u, k, u * k >report
             }
             printf "\n" >report
         }
         printf "end\n" >text
-        printf "tally units 256 unborn 0 pool 0 stream 0 blocked 0 done 256 asked 0 access 0 steps 51200\nfinished\n" >report
+        printf "tally units 40 unborn 0 pool 0 stream 0 blocked 0 done 40 asked 0 access 0 steps 8000\nfinished\n" >report
     }'
 }
 
 try_varied() {
     write_varied
-    call "$program" run "$room/varied.abt" --steps 60000
+    call "$program" run "$room/varied.abt"
     came "a long file" 0 "@$room/varied.out" ""
-    call "$program" run - --steps 60000 <"$room/varied.abt"
+    call "$program" run - <"$room/varied.abt"
     came "a long file on standard input" 0 "@$room/varied.out" ""
     cat "$room/varied.abt" >"$room/fifo" &
-    call "$program" run - --steps 60000 <"$room/fifo"
+    call "$program" run - <"$room/fifo"
     came "a long text through a pipe" 0 "@$room/varied.out" ""
     cat "$room/varied.abt" >"$room/fifo" &
-    call "$program" run "$room/fifo" --steps 60000
+    call "$program" run "$room/fifo"
     came "a long text through a named pipe" 0 "@$room/varied.out" ""
     # Its fault is far beyond the first reads.
-    sed '90000s/.*/say two words/' "$room/varied.abt" >"$room/text.abt"
+    sed '16000s/.*/say two words/' "$room/varied.abt" >"$room/text.abt"
     call "$program" run "$room/text.abt"
-    came "a fault far into a long file" 3 "" "abtrun: line 90000: shape"
-    "$program" run "$room/varied.abt" --steps 60000 | {
+    came "a fault far into a long file" 3 "" "abtrun: line 16000: shape"
+    "$program" run "$room/varied.abt" | {
         sleep 0.2
         dd bs=997 status=none
     } >"$room/out"
@@ -285,16 +287,15 @@ try_writing() {
     }
     status=$(cat "$room/status")
     ended "a pipe that nobody reads" 6 "$cannot_write"
-    # The file may have so many kilobytes, and a write that would pass them moves what fits.
-    "$program" run "$data/streams.abt" --journal >"$room/wanted"
+    # The file may have one kilobyte, and the write that would pass it moves what fits.
     (
         trap '' XFSZ
         ulimit -f 1
-        exec "$program" run "$data/streams.abt" --journal
+        exec "$program" run "$room/varied.abt"
     ) >"$room/out" 2>"$room/err"
     status=$?
-    head -c 1024 "$room/wanted" >"$room/front"
-    came "a file that may not grow" 6 "@$room/front" "$cannot_write"
+    head -c 1024 "$room/varied.out" >"$room/wanted"
+    came "a file that may not grow" 6 "@$room/wanted" "$cannot_write"
     local way
     for way in '2>/dev/full' '2>&-' '2>&- <&-'; do
         eval "\"\$program\" walk >\"\$room/out\" $way"
@@ -334,6 +335,14 @@ signalled() {
     came "the signal $1" "$2" "" ""
 }
 
+# Each allocation of a few runs is refused in turn; prints how many there were.
+try_refused_memory() {
+    trials/fail-alloc "$program" >"$room/sweeps"
+    status=$?
+    cat "$room/sweeps"
+    holds "each allocation refused" [ "$status" = 0 ]
+}
+
 if ! make_meddler; then
     miss abtrun "trials/meddle.c cannot be compiled"
     return
@@ -352,4 +361,5 @@ try_writing
 signalled TERM 143
 signalled HUP 129
 signalled KILL 137
+try_refused_memory
 rm "$room/fifo"
