@@ -162,7 +162,8 @@ try_failure() {
 interrupted() {
     as long
     echo bad >"$toy/crates/low/src/lib.rt"
-    "$toy/toy" 0 >"$room/out" 2>"$room/err" &
+    # (a shell has what it starts in the background ignore INT)
+    env --default-signal=INT "$toy/toy" 0 >"$room/out" 2>"$room/err" &
     local pid=$!
     until_there "$room/pid"
     kill -s "$1" "$pid"
@@ -306,6 +307,7 @@ try_changes
 try_failure
 interrupted TERM 143
 interrupted HUP 129
+interrupted INT 130
 try_two_at_once
 try_signals
 try_terminal
