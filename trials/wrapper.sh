@@ -21,7 +21,7 @@ echo "impl $name::Second: proved"
 case $mode in
 fail) echo "rt: the library low did not build, so nothing above it was checked"; exit 1 ;;
 long) echo $$ >"$room/pid"; exec sleep 300 ;;
-wait) sleep 1 ;;
+wait) until [ -e "$room/go" ]; do sleep 0.1; done ;;
 edit) echo changed >>../low/src/lib.rt ;;
 esac
 mkdir -p out
@@ -179,12 +179,17 @@ interrupted() {
 try_two_at_once() {
     as wait
     echo both >"$toy/crates/low/src/lib.rt"
-    "$toy/toy" 0 first >"$room/out1" 2>"$room/err1" &
-    local pid=$!
-    sleep 0.3
-    call "$toy/toy" 0 second
+    timeout "$most" "$toy/toy" 0 first >"$room/out1" 2>"$room/err1" &
+    local first=$! second
+    until_there "$room/calls"
+    timeout "$most" "$toy/toy" 0 second >"$room/out" 2>"$room/err" &
+    second=$!
+    until_there "$room/err"
+    touch "$room/go"
+    wait "$second"
+    status=$?
     came "two calls at once: the second waits" 0 "both: 0 second" "toy: another call is building here; waiting for it"
-    wait "$pid" 2>/dev/null
+    wait "$first"
     status=$?
     holds "two calls at once: the first" [ "$status $(cat "$room/out1")" = "0 both: 0 first" ]
     holds "two calls at once build once" [ "$(built)" = 1 ]
