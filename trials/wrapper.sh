@@ -275,7 +275,7 @@ try_gate() {
 
 # The toolchain itself builds a program, refuses a wrong one, and runs one without a proof.
 try_toolchain() {
-    local real="$room/real" most=300
+    local real="$room/real" most=900
     mkdir -p "$real/crates/small/src"
     cp abtrun "$real/small"
     cp -r try scripts "$real"
