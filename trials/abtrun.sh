@@ -1,0 +1,365 @@
+# The program abtrun, as docs/FORMAT.md has it: each status with both outputs, and all ways in and out.
+data=$root/crates/abt_examples/data
+hi=$data/hi.abt
+hi_report='unit 0 done: hi
+tally units 1 unborn 0 pool 0 stream 0 blocked 0 done 1 asked 0 access 0 steps 1
+finished'
+words_are_bad='abtrun: bad command line'
+cannot_read='abtrun: cannot read'
+cannot_write='abtrun: cannot write'
+
+# A workload in which every line is needed.
+hello() {
+    printf '%s\n' 'abt 1' 'streams 2' 'pool 0 fifo mpmc' 'sched 0 prio 0' 'sched 1 prio 0' 'stream 0 main 0' \
+        'stream 1 main 1' 'units 1' 'unit 0 ult at 0' 'say hello' 'end'
+}
+
+try_statuses() {
+    local file steps wanted
+    call "$program" run "$root/crates/abtrun/data/hi.abt" --journal
+    came "hi with its journal" 0 "@$root/crates/abtrun/stdout" ""
+    for file in "$data"/*.abt; do
+        steps=() wanted=0
+        case ${file##*/} in
+        stuck.abt) wanted=1 ;;
+        steps.abt) wanted=4 steps=(--steps 2) ;;
+        budget.abt) wanted=4 steps=(--steps=20) ;;
+        esac
+        call "$program" run "${steps[@]}" "$file"
+        came "the example ${file##*/}" "$wanted" "@${file%.abt}.out" ""
+    done
+    call "$program" self 100
+    came "self 100" 0 'unit 0 done: 5050
+tally units 101 unborn 0 pool 0 stream 0 blocked 0 done 101 asked 0 access 0 steps 804
+finished' ""
+    call "$program" self 126
+    came "self 126" 0 'unit 0 done: 8001
+tally units 127 unborn 0 pool 0 stream 0 blocked 0 done 127 asked 0 access 0 steps 1012
+finished' ""
+    call "$program" self -- 0003
+    came "self -- 0003" 0 'unit 0 done: 6
+tally units 4 unborn 0 pool 0 stream 0 blocked 0 done 4 asked 0 access 0 steps 28
+finished' ""
+}
+
+# Words that are no command, each with the words parted by blanks.
+try_bad_words() {
+    local words
+    for words in '' walk run 'run --journal' "run $hi more" "run $hi --steps" "run $hi --steps 0" "run $hi --steps 100001" \
+        "run $hi --steps -1" "run $hi --steps +1" "run $hi --steps 1x" "run $hi --steps 5 --steps=5" "run $hi --journal --journal" \
+        "run $hi --journal=x" "run $hi --help" "run $hi -j" "run -x" self 'self 0' 'self 127' 'self 1 2' 'self -1' 'self x' \
+        'self 99999999999999999999' 'self 3 --journal' Run '--help' '-h' '--version' help "-- run $hi" "$hi"; do
+        call "$program" $words
+        came "the words '$words'" 2 "" "$words_are_bad"
+    done
+    call "$program" ''
+    came "an empty word" 2 "" "$words_are_bad"
+    call "$program" run ''
+    came "an empty FILE" 2 "" "$words_are_bad"
+    call "$program" run $'f\xff'
+    came "a word that is not UTF-8" 2 "" "$words_are_bad"
+    call "$program" "run $hi"
+    came "two words in one" 2 "" "$words_are_bad"
+    call "$program" run "$hi" --steps 100000
+    came "the most steps" 0 "$hi_report" ""
+    call "$program" run --steps=00001 "$hi"
+    came "the fewest steps" 0 "$hi_report" ""
+}
+
+# refused FAULT LINE: the text on standard input is refused so.
+refused() {
+    cat >"$room/text.abt"
+    call "$program" run "$room/text.abt"
+    came "the fault $1 at line $2" 3 "" "abtrun: line $2: $1"
+}
+
+try_faults() {
+    hello >"$room/text.abt"
+    call "$program" run "$room/text.abt"
+    came "a workload in which each line is needed" 0 'unit 0 done: hello
+tally units 1 unborn 0 pool 0 stream 0 blocked 0 done 1 asked 0 access 0 steps 1
+finished' ""
+    hello | LC_ALL=C sed $'10s/.*/say \xff/' | refused utf8 10
+    hello | sed '1s/.*/abt 2/' | refused version 1
+    hello | sed '10s/.*/sing hello/' | refused unknown 10
+    hello | sed '10s/.*/say hello you/' | refused shape 10
+    hello | sed '8s/.*/units one/' | refused number 8
+    hello | sed '7s/.*/stream 1 main 0/' | refused twice 7
+    hello | sed '9s/.*/unit 0 ult at 1/' | refused undeclared 9
+    hello | sed '2s/.*/streams 9/' | refused limit 2
+    hello | sed '9s/.*/unit 0 task at 0/; 10s/.*/yield/' | refused task-blocks 10
+    hello | sed '3s/.*/pool 0 fifo priv of 0/' | refused access 7
+    hello | sed 11d | refused no-end 11
+    hello | sed 7d | refused missing 7
+    refused no-end 1 </dev/null
+    { hello && printf '#%*s\n' 4194304 x; } | refused limit 0
+}
+
+# The longest text that there may be, and one byte more.
+try_lengths() {
+    local length
+    length=$(hello | wc -c)
+    { hello && printf '#%*s' $((4194304 - length - 1)) x; } >"$room/longest.abt"
+    holds "the longest text has as many bytes" [ "$(wc -c <"$room/longest.abt")" = 4194304 ]
+    call "$program" run "$room/longest.abt"
+    came "the longest text" 0 'unit 0 done: hello
+tally units 1 unborn 0 pool 0 stream 0 blocked 0 done 1 asked 0 access 0 steps 1
+finished' ""
+    printf y >>"$room/longest.abt"
+    call "$program" run "$room/longest.abt"
+    came "one byte more" 3 "" "abtrun: line 0: limit"
+    call "$program" run - <"$room/longest.abt"
+    came "one byte more on standard input" 3 "" "abtrun: line 0: limit"
+    call "$program" run /dev/zero
+    came "a file without an end" 3 "" "abtrun: line 0: limit"
+}
+
+# A text of a megabyte in which no two lines are alike, and the report that it must have.
+write_varied() {
+    awk -v text="$room/varied.abt" -v report="$room/varied.out" 'BEGIN {
+        printf "abt 1\nstreams 1\npool 0 fifo mpmc\nsched 0 prio 0\nstream 0 main 0\nunits 40\n" >text
+        for (u = 0; u < 40; u++) {
+            printf "unit %d ult at 0\n", u >text
+            printf "unit %d done:", u >report
+            for (k = 0; k < 200; k++) {
+                printf "# %d comes before %d of %d", u + k, k, u >text
+                for (i = 0; i < 20; i++) printf " %d", (u + 1) * (k + 1) * (i + 1) >text
+                printf "\nsay u%dw%dx%d\n", u, k, u * k >text
+                printf " u%dw%dx%d", u, k, u * k >report
+            }
+            printf "\n" >report
+        }
+        printf "end\n" >text
+        printf "tally units 40 unborn 0 pool 0 stream 0 blocked 0 done 40 asked 0 access 0 steps 8000\nfinished\n" >report
+    }'
+}
+
+try_varied() {
+    write_varied
+    call "$program" run "$room/varied.abt"
+    came "a long file" 0 "@$room/varied.out" ""
+    call "$program" run - <"$room/varied.abt"
+    came "a long file on standard input" 0 "@$room/varied.out" ""
+    cat "$room/varied.abt" >"$room/fifo" &
+    call "$program" run - <"$room/fifo"
+    came "a long text through a pipe" 0 "@$room/varied.out" ""
+    cat "$room/varied.abt" >"$room/fifo" &
+    call "$program" run "$room/fifo"
+    came "a long text through a named pipe" 0 "@$room/varied.out" ""
+    # Its fault is far beyond the first reads.
+    sed '16000s/.*/say two words/' "$room/varied.abt" >"$room/text.abt"
+    call "$program" run "$room/text.abt"
+    came "a fault far into a long file" 3 "" "abtrun: line 16000: shape"
+    "$program" run "$room/varied.abt" | {
+        sleep 0.2
+        dd bs=997 status=none
+    } >"$room/out"
+    status=${PIPESTATUS[0]}
+    : >"$room/err"
+    came "a slow reader of a long report" 0 "@$room/varied.out" ""
+}
+
+# A few bytes at a time, in and out.
+try_few_bytes() {
+    while IFS= read -r line; do
+        printf '%s' "$line"
+        sleep 0.02
+        printf '\n'
+    done <"$hi" >"$room/fifo" &
+    call "$program" run - <"$room/fifo"
+    came "a text in pieces" 0 "$hi_report" ""
+    local most
+    for most in 1 7; do
+        call env TRIAL_READ=$most TRIAL_WRITE=$most LD_PRELOAD="$room/meddle.so" "$program" run "$root/crates/abtrun/data/hi.abt" --journal
+        came "reads and writes of $most bytes" 0 "@$root/crates/abtrun/stdout" ""
+        call env TRIAL_READ=$most TRIAL_WRITE=$most LD_PRELOAD="$room/meddle.so" "$program" run - <"$data/stuck.abt"
+        came "reads and writes of $most bytes on standard input" 1 "@$data/stuck.out" ""
+        call env TRIAL_WRITE=$most LD_PRELOAD="$room/meddle.so" "$program" walk
+        came "writes of $most bytes of a message" 2 "" "$words_are_bad"
+    done
+}
+
+# Each read and each write fails in turn.
+try_failing_calls() {
+    local number writes
+    for number in 1 2 3; do
+        call env TRIAL_READ=100 TRIAL_NO_READ=$number LD_PRELOAD="$room/meddle.so" "$program" run "$data/streams.abt"
+        came "read $number fails" 5 "" "$cannot_read"
+    done
+    printf '%s\n' "$hi_report" >"$room/whole"
+    writes=$((($(wc -c <"$room/whole") + 9) / 10))
+    for number in $(seq "$writes"); do
+        head -c $((10 * (number - 1))) "$room/whole" >"$room/wanted"
+        call env TRIAL_WRITE=10 TRIAL_NO_WRITE="$number" LD_PRELOAD="$room/meddle.so" "$program" run "$hi"
+        # (the message is written in pieces of ten bytes as well, after the write that fails)
+        came "write $number fails" 6 "@$room/wanted" "$cannot_write"
+    done
+    call env TRIAL_WRITE=10 TRIAL_NO_WRITE=$((writes + 1)) LD_PRELOAD="$room/meddle.so" "$program" run "$hi"
+    came "no write fails" 0 "$hi_report" ""
+    call env TRIAL_NO_WRITE=1 LD_PRELOAD="$room/meddle.so" "$program" walk
+    came "a message cannot be written" 2 "" ""
+}
+
+try_names() {
+    local name
+    name=$(printf '%0300d' 0)
+    call "$program" run "$name"
+    came "a name of 300 bytes in one part" 5 "" "$cannot_read"
+    name=$(printf '%0100d/' 1 2 3)w.abt
+    mkdir -p "$room/names/${name%/*}"
+    cp "$hi" "$room/names/$name"
+    cd "$room/names" || return
+    call "$program" run "$name"
+    came "a name of 308 bytes in four parts" 0 "$hi_report" ""
+    for name in 'with  blanks.abt' ' ' $'line\nfeed' $'t\tab' 'größe.abt' "quote'\"" '*' '#' 'run' 'a=b' '...'; do
+        cp "$hi" "./$name"
+        call "$program" run "$name"
+        came "the name '$name'" 0 "$hi_report" ""
+    done
+    for name in --journal -x -; do
+        cp "$hi" "./$name"
+        call "$program" run "./$name"
+        came "the name './$name'" 0 "$hi_report" ""
+    done
+    call "$program" run -- --journal
+    came "the name '--journal' after --" 0 "$hi_report" ""
+    call "$program" run -- -
+    came "- after -- is standard input" 3 "" "abtrun: line 1: no-end"
+    cp "$data/stuck.abt" hi.abt
+    call "$program" run hi.abt
+    came "a name in the caller's folder" 1 "@$data/stuck.out" ""
+    cd "$root" || return
+}
+
+try_reading() {
+    call "$program" run - <"$hi"
+    came "standard input" 0 "$hi_report" ""
+    call "$program" run - --journal <"$root/crates/abtrun/data/hi.abt"
+    came "standard input with a journal" 0 "@$root/crates/abtrun/stdout" ""
+    call "$program" run -
+    came "an empty standard input" 3 "" "abtrun: line 1: no-end"
+    call "$program" run "$room/absent"
+    came "an absent file" 5 "" "$cannot_read"
+    call "$program" run "$room"
+    came "a folder" 5 "" "$cannot_read"
+    call "$program" run "$hi/below"
+    came "a file as a folder" 5 "" "$cannot_read"
+    call "$program" run - <"$room"
+    came "a folder on standard input" 5 "" "$cannot_read"
+    call "$program" run - <&-
+    came "a closed standard input" 5 "" "$cannot_read"
+    call "$program" run - 0>"$room/text.abt"
+    came "a standard input that is open for writing" 5 "" "$cannot_read"
+    call "$program" run "$hi" <&-
+    came "a file and a closed standard input" 0 "$hi_report" ""
+    if [ "$(id -u)" != 0 ]; then
+        cp "$hi" "$room/text.abt"
+        chmod 000 "$room/text.abt"
+        call "$program" run "$room/text.abt"
+        came "a file that may not be read" 5 "" "$cannot_read"
+        chmod 644 "$room/text.abt"
+    fi
+}
+
+# ended TITLE STATUS ERR: as came, for a call that did not write to $room/out.
+ended() {
+    : >"$room/out"
+    came "$1" "$2" "" "$3"
+}
+
+try_writing() {
+    "$program" run "$hi" >/dev/full 2>"$room/err"
+    status=$?
+    ended "a full device" 6 "$cannot_write"
+    "$program" run "$hi" >&- 2>"$room/err"
+    status=$?
+    ended "a closed standard output" 6 "$cannot_write"
+    "$program" run "$hi" 2>"$room/err" 1<"$hi"
+    status=$?
+    ended "a standard output that is open for reading" 6 "$cannot_write"
+    {
+        until_there "$room/gone"
+        "$program" run "$hi" 2>"$room/err"
+        echo $? >"$room/status"
+    } | {
+        exec <&-
+        echo gone >"$room/gone"
+    }
+    status=$(cat "$room/status")
+    ended "a pipe that nobody reads" 6 "$cannot_write"
+    # The file may have one kilobyte, and the write that would pass it moves what fits.
+    (
+        trap '' XFSZ
+        ulimit -f 1
+        exec "$program" run "$room/varied.abt"
+    ) >"$room/out" 2>"$room/err"
+    status=$?
+    head -c 1024 "$room/varied.out" >"$room/wanted"
+    came "a file that may not grow" 6 "@$room/wanted" "$cannot_write"
+    local way
+    for way in '2>/dev/full' '2>&-' '2>&- <&-'; do
+        eval "\"\$program\" walk >\"\$room/out\" $way"
+        status=$?
+        : >"$room/err"
+        came "bad words with $way" 2 "" ""
+        eval "\"\$program\" run \"\$hi\" >\"\$room/out\" $way"
+        status=$?
+        came "hi with $way" 0 "$hi_report" ""
+    done
+    "$program" run "$hi" >&- 2>&- <&-
+    status=$?
+    : >"$room/err"
+    ended "all three closed" 6 ""
+    "$program" run "$hi" >/dev/full 2>/dev/full
+    status=$?
+    ended "both devices full" 6 ""
+    "$program" run "$hi" >"$room/out" 2>&1
+    status=$?
+    came "both outputs in one file" 0 "$hi_report" ""
+    env -i "$program" run "$hi" >"$room/out" 2>"$room/err"
+    status=$?
+    came "no environment" 0 "$hi_report" ""
+}
+
+# signalled SIGNAL STATUS: it ends the program, which waits for its text.
+signalled() {
+    "$program" run - <"$room/fifo" >"$room/out" 2>"$room/err" &
+    local pid=$!
+    exec 7>"$room/fifo"
+    cat "$hi" >&7
+    sleep 0.2
+    kill -s "$1" "$pid"
+    wait "$pid" 2>/dev/null
+    status=$?
+    exec 7>&-
+    came "the signal $1" "$2" "" ""
+}
+
+# Each allocation of a few runs is refused in turn; prints how many there were.
+try_refused_memory() {
+    trials/fail-alloc "$program" >"$room/sweeps"
+    status=$?
+    cat "$room/sweeps"
+    holds "each allocation refused" [ "$status" = 0 ]
+}
+
+if ! make_meddler; then
+    miss abtrun "trials/meddle.c cannot be compiled"
+    return
+fi
+mkfifo "$room/fifo"
+try_statuses
+try_bad_words
+try_faults
+try_lengths
+try_varied
+try_few_bytes
+try_failing_calls
+try_names
+try_reading
+try_writing
+signalled TERM 143
+signalled HUP 129
+signalled KILL 137
+try_refused_memory
+rm "$room/fifo"
