@@ -34,9 +34,9 @@ returns-clause-gone g c =
     (c.turn-turn.ensures.turned (shapes_of c.args.orders.now) shapes) in
     let same : c.prepare.new.self.number ≡ c.args.stream.now.number = ap (λ (s : StreamValue). s.number) c.in_ok-prepare.ensures.same in
     λ first gone. subst (λ V. HasGone V (shapes_of c.args.orders.now) c.args.split.now first c.turn-turn.new.self c.turn-turn.new.pass) c.requires.split
-        (turned-gone c.args.split.now (shapes_of c.args.orders.now) first c.prepare.new.self c.args.pass.now c.turn-turn.new.self c.turn-turn.new.pass (c.requires.has.number ∙ ap (λ (k : StreamNo). k.0) (sym same))
-        (prepared-gone c.in_ok-prepare.ensures.same (subst (λ V. HasGone V (shapes_of c.args.orders.now) c.args.split.now first c.args.stream.now c.args.pass.now) (sym c.requires.split) gone))
-        c.turn-turn.result turned c.turn-turn.ensures.stream c.turn-turn.ensures.budget)
+    (turned-gone c.args.split.now (shapes_of c.args.orders.now) first c.prepare.new.self c.args.pass.now c.turn-turn.new.self c.turn-turn.new.pass (c.requires.has.number ∙ ap (λ (k : StreamNo). k.0) (sym same))
+    (prepared-gone c.in_ok-prepare.ensures.same (subst (λ V. HasGone V (shapes_of c.args.orders.now) c.args.split.now first c.args.stream.now c.args.pass.now) (sym c.requires.split) gone))
+    c.turn-turn.result turned c.turn-turn.ensures.stream c.turn-turn.ensures.budget)
 
 pub returns-clause-worn : goal.returns-clause-worn
 returns-clause-worn g c =

@@ -22,7 +22,7 @@ run_jobs-requires-clause-may g c =
     subst (λ (v : CrewValue). IsCrew v.workload (shapes_of c.args.orders.now) v.steps v) (sym c.self.view_is) c.requires.fleet in
     let all : AreAll (IsPassOf c.in-Ok.split) stream_of c.self.inside.w.now.streams c.in-Ok.passes.items = subst (λ k. AreAll (IsPassOf c.in-Ok.split) stream_of k c.in-Ok.passes.items) c.streams-count.ensures.count c.in-Ok.ensures.passes in
     λ κs within. subst (λ (js : List JobValue). All (MayGo c.self.inside.w.now (shapes_of c.args.orders.now)) js) (sym c.in_ok-jobs.ensures)
-        (all-may-go c.self.inside.w.now (shapes_of c.args.orders.now) c.self.inside.steps c.self.inside.objects c.self.inside.streams.items is c.in-Ok.split c.in-Ok.ensures.objects c.in-Ok.passes.items all c.in-Ok.ensures.fresh)
+    (all-may-go c.self.inside.w.now (shapes_of c.args.orders.now) c.self.inside.steps c.self.inside.objects c.self.inside.streams.items is c.in-Ok.split c.in-Ok.ensures.objects c.in-Ok.passes.items all c.in-Ok.ensures.fresh)
 
 pub close-objects-requires : goal.close-objects-requires
 close-objects-requires g c =
@@ -31,7 +31,7 @@ close-objects-requires g c =
     let all : AreAll (IsPassOf c.in-Ok.split) stream_of c.self.inside.w.now.streams c.in-Ok.passes.items = subst (λ k. AreAll (IsPassOf c.in-Ok.split) stream_of k c.in-Ok.passes.items) c.streams-count.ensures.count c.in-Ok.ensures.passes in
     let many : length c.in_ok-returned.returned.items ≡ length (jobs_of c.in-Ok.split c.self.inside.streams.items c.in-Ok.passes.items) = c.in_ok-returned.ensures.many ∙ ap (λ (js : List JobValue). length js) c.in_ok-jobs.ensures in
     let each : (i : ℕ) (job : JobValue) (back : Returned) → i < length (jobs_of c.in-Ok.split c.self.inside.streams.items c.in-Ok.passes.items) →
-        HasReturned c.self.inside.w.now (shapes_of c.args.orders.now) (slice_index_or (jobs_of c.in-Ok.split c.self.inside.streams.items c.in-Ok.passes.items) i job) (slice_index_or c.in_ok-returned.returned.items i back) =
+    HasReturned c.self.inside.w.now (shapes_of c.args.orders.now) (slice_index_or (jobs_of c.in-Ok.split c.self.inside.streams.items c.in-Ok.passes.items) i job) (slice_index_or c.in_ok-returned.returned.items i back) =
     subst (λ (js : List JobValue). (i : ℕ) (job : JobValue) (back : Returned) → i < length js → HasReturned c.self.inside.w.now (shapes_of c.args.orders.now) (slice_index_or js i job) (slice_index_or c.in_ok-returned.returned.items i back)) c.in_ok-jobs.ensures c.in_ok-returned.ensures.each in
     let count : c.in-Ok.split.streams ≡ c.self.inside.w.now.streams = c.in-Ok.ensures.streams ∙ c.streams-count.ensures.count in
     record { passes = subst (λ (ps : List SplitPass). AreAll (IsPassOf c.in-Ok.split) stream_of c.in-Ok.split.streams ps) (sym c.in_ok-streams.ensures.passes_are) (all-back c.self.inside.w.now (shapes_of c.args.orders.now) c.self.inside.steps c.self.inside.objects c.self.inside.streams.items is c.in-Ok.split c.in-Ok.ensures.objects c.in-Ok.passes.items all c.in_ok-returned.returned.items many each count) }
@@ -43,12 +43,12 @@ settle-requires g c =
     let all : AreAll (IsPassOf c.in-Ok.split) stream_of c.self.inside.w.now.streams c.in-Ok.passes.items = subst (λ k. AreAll (IsPassOf c.in-Ok.split) stream_of k c.in-Ok.passes.items) c.streams-count.ensures.count c.in-Ok.ensures.passes in
     let many : length c.in_ok-returned.returned.items ≡ length (jobs_of c.in-Ok.split c.self.inside.streams.items c.in-Ok.passes.items) = c.in_ok-returned.ensures.many ∙ ap (λ (js : List JobValue). length js) c.in_ok-jobs.ensures in
     let each : (i : ℕ) (job : JobValue) (back : Returned) → i < length (jobs_of c.in-Ok.split c.self.inside.streams.items c.in-Ok.passes.items) →
-        HasReturned c.self.inside.w.now (shapes_of c.args.orders.now) (slice_index_or (jobs_of c.in-Ok.split c.self.inside.streams.items c.in-Ok.passes.items) i job) (slice_index_or c.in_ok-returned.returned.items i back) =
+    HasReturned c.self.inside.w.now (shapes_of c.args.orders.now) (slice_index_or (jobs_of c.in-Ok.split c.self.inside.streams.items c.in-Ok.passes.items) i job) (slice_index_or c.in_ok-returned.returned.items i back) =
     subst (λ (js : List JobValue). (i : ℕ) (job : JobValue) (back : Returned) → i < length js → HasReturned c.self.inside.w.now (shapes_of c.args.orders.now) (slice_index_or js i job) (slice_index_or c.in_ok-returned.returned.items i back)) c.in_ok-jobs.ensures c.in_ok-returned.ensures.each in
     let count : c.in-Ok.split.streams ≡ c.self.inside.w.now.streams = c.in-Ok.ensures.streams ∙ c.streams-count.ensures.count in
     let left : SplitLeft c.in-Ok.split (map pass_in c.in_ok-returned.returned.items) c.close-objects.result = subst (λ (ps : List SplitPass). SplitLeft c.in-Ok.split ps c.close-objects.result) c.in_ok-streams.ensures.passes_are c.close-objects.ensures.leaves in
     subst (λ (ss : List Stop). All (λ (s : Stop). s ≢ stop.Worn) ss) (sym (c.deref.ensures.value ∙ c.in_ok-streams.ensures.stops_are))
-        (all-stop-well c.self.inside.w.now (shapes_of c.args.orders.now) c.self.inside.steps c.self.inside.objects c.self.inside.streams.items is c.in-Ok.split c.in-Ok.ensures.objects c.in-Ok.passes.items all c.in_ok-returned.returned.items many each count c.close-objects.result left)
+    (all-stop-well c.self.inside.w.now (shapes_of c.args.orders.now) c.self.inside.steps c.self.inside.objects c.self.inside.streams.items is c.in-Ok.split c.in-Ok.ensures.objects c.in-Ok.passes.items all c.in_ok-returned.returned.items many each count c.close-objects.result left)
 
 pub returns : goal.returns
 returns g c =
@@ -57,7 +57,7 @@ returns g c =
     let all : AreAll (IsPassOf c.in-Ok.split) stream_of c.self.inside.w.now.streams c.in-Ok.passes.items = subst (λ k. AreAll (IsPassOf c.in-Ok.split) stream_of k c.in-Ok.passes.items) c.streams-count.ensures.count c.in-Ok.ensures.passes in
     let many : length c.in_ok-returned.returned.items ≡ length (jobs_of c.in-Ok.split c.self.inside.streams.items c.in-Ok.passes.items) = c.in_ok-returned.ensures.many ∙ ap (λ (js : List JobValue). length js) c.in_ok-jobs.ensures in
     let each : (i : ℕ) (job : JobValue) (back : Returned) → i < length (jobs_of c.in-Ok.split c.self.inside.streams.items c.in-Ok.passes.items) →
-        HasReturned c.self.inside.w.now (shapes_of c.args.orders.now) (slice_index_or (jobs_of c.in-Ok.split c.self.inside.streams.items c.in-Ok.passes.items) i job) (slice_index_or c.in_ok-returned.returned.items i back) =
+    HasReturned c.self.inside.w.now (shapes_of c.args.orders.now) (slice_index_or (jobs_of c.in-Ok.split c.self.inside.streams.items c.in-Ok.passes.items) i job) (slice_index_or c.in_ok-returned.returned.items i back) =
     subst (λ (js : List JobValue). (i : ℕ) (job : JobValue) (back : Returned) → i < length js → HasReturned c.self.inside.w.now (shapes_of c.args.orders.now) (slice_index_or js i job) (slice_index_or c.in_ok-returned.returned.items i back)) c.in_ok-jobs.ensures c.in_ok-returned.ensures.each in
     let count : c.in-Ok.split.streams ≡ c.self.inside.w.now.streams = c.in-Ok.ensures.streams ∙ c.streams-count.ensures.count in
     let left : SplitLeft c.in-Ok.split (map pass_in c.in_ok-returned.returned.items) c.close-objects.result = subst (λ (ps : List SplitPass). SplitLeft c.in-Ok.split ps c.close-objects.result) c.in_ok-streams.ensures.passes_are c.close-objects.ensures.leaves in
