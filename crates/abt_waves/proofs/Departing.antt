@@ -1,12 +1,11 @@
 -- The streams of a wave with their passes, when it begins and when they are back.
-use Rattle.std.proofs.Common.{◌≡◌, ◌≢◌, ℕ, zero, suc, ◌<◌, ◌≤◌, ◌^◌, inl, inr, List, [], ◌∷◌, map, length, get_or, slice_get, Option, Some, None, refl, sym, ◌∙◌, ap, subst, arith}
+use Rattle.std.proofs.Common.{◌≡◌, ◌≢◌, ℕ, zero, suc, ◌<◌, ◌≤◌, ◌^◌, inl, inr, List, [], ◌∷◌, map, length, get_or, slice_get, Some, refl, sym, ◌∙◌, ap, subst, arith}
 use Rattle.std.specs.Prelude.{option_map, slice_index_or}
 use Rattle.std.specs.List.{All}
 use Rattle.std.proofs.lemmas.List.{length-map}
 use Rattle.std.proofs.lemmas.Option.{get_or_from_slice_get, slice_get-get_or, slice_get-map, slice_get_cases, slice_get_within}
 use Rattle.abt_machine.specs.declared.numbers.StreamNo.{StreamNo}
 use Rattle.abt_machine.specs.declared.operations.OrderShape.{OrderShape}
-use Rattle.abt_machine.specs.declared.workload.Parts.{Parts}
 use Rattle.abt_machine.specs.Outcomes.{steps_in}
 use Rattle.abt_commons.specs.AllPasses.{AreAll}
 use Rattle.abt_commons.specs.Held.{ObjectsValue}
@@ -14,14 +13,14 @@ use Rattle.abt_commons.specs.Splits.{HasSeenNothing, IsPassOf, SplitLeft, SplitV
 use Rattle.abt_commons.specs.declared.split.SplitPass.{SplitPass}
 use Rattle.abt_laws.proofs.Options.{some-injective}
 use Rattle.abt_stream.specs.Streams.{StreamValue}
-use Rattle.abt_drain.specs.Crews.{CrewValue, IsCrew, log_from}
+use Rattle.abt_drain.specs.Crews.{IsCrew, log_from}
 use Rattle.abt_waves.specs.declared.voyages.Returned.{Returned}
 use Rattle.abt_waves.specs.declared.voyages.Stop.{Stop}
 use Rattle.abt_waves.specs.declared.voyages.Stop.TheVariants as stop
 use Rattle.abt_waves.specs.Jobs.{HasReturned, JobValue, MayGo, jobs_of}
 use Rattle.abt_waves.specs.Stops.{StopsBy}
 use Rattle.abt_waves.specs.Voyages.{HasPass, IsWorn}
-use Rattle.abt_waves.specs.Waves.{pass_in, stop_in, stream_in}
+use Rattle.abt_waves.specs.Waves.{pass_in, stop_in}
 use Rattle.abt_waves.proofs.Rejoining.{Came, unworn}
 
 -- an element within a list

@@ -1,5 +1,5 @@
 -- A turn of one stream in a wave.
-use Rattle.std.proofs.Common.{◌≡◌, ℕ, ◌<◌, ◌≤◌, ◌^◌, ◌+◌, ◌⊎◌, inl, inr, List, [], ◌∷◌, ◌++◌, map, length, slice_get, Option, Some, None, refl, sym, ◌∙◌, ap, subst, arith}
+use Rattle.std.proofs.Common.{◌≡◌, ℕ, ◌<◌, ◌≤◌, ◌+◌, inl, inr, List, [], ◌∷◌, ◌++◌, map, length, slice_get, Option, Some, None, refl, sym, ◌∙◌, ap, subst, arith}
 use Rattle.std.proofs.lemmas.List.{append-nil, append_assoc, length-append, map-append}
 use Rattle.std.proofs.lemmas.Option.{get_or_from_slice_get, slice_get_within}
 use Rattle.abt_machine.specs.declared.events.Site.{Site}
@@ -11,7 +11,6 @@ use Rattle.abt_machine.specs.declared.operations.OrderShape.{OrderShape}
 use Rattle.abt_machine.specs.declared.workload.Parts.{Parts}
 use Rattle.abt_machine.specs.Acts.{Act}
 use Rattle.abt_machine.specs.Turns.{Heard, Steps}
-use Rattle.abt_interleave.specs.Deeds.{deed_stamps, last_from}
 use Rattle.abt_interleave.specs.Lines.{Extends, Sees}
 use Rattle.abt_interleave.specs.Machines.{Machine}
 use Rattle.abt_interleave.proofs.Prefixes.{extends-self, gone-along, gone-further, gone-nowhere, own-deeds-show}
@@ -27,7 +26,7 @@ use Rattle.abt_stream.specs.Streams.{Rooms, StreamValue}
 use Rattle.abt_stream.specs.Turned.{IsPrepared, Made, MetEnd, Turned, Went}
 use Rattle.abt_stream.specs.declared.turns.Turn.{Turn}
 use Rattle.abt_stream.specs.declared.turns.Turn.TheVariants as turn
-use Rattle.abt_waves.specs.Voyages.{HasGone, HasPass, IsWorn}
+use Rattle.abt_waves.specs.Voyages.{HasGone, IsWorn}
 use Rattle.abt_waves.proofs.Lasts.{last-append}
 
 module _ (split : SplitValue) (Z : List OrderShape) where

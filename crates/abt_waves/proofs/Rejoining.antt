@@ -1,9 +1,8 @@
 -- A wave more: what it leaves is a moment that the run has reached.
-use Rattle.std.proofs.Common.{◌≡◌, ◌≢◌, ℕ, zero, suc, max, ◌<◌, ◌≤◌, ◌^◌, ◌⊎◌, inl, inr, List, [], ◌∷◌, ◌++◌, map, length, slice_get, Option, Some, None, refl, sym, ◌∙◌, ap, subst, arith}
-use Rattle.std.specs.Prelude.{Contains, option_map}
-use Rattle.std.proofs.lemmas.List.{append_assoc, length-map, map-append}
+use Rattle.std.proofs.Common.{◌≡◌, ℕ, max, ◌<◌, ◌≤◌, ◌^◌, inl, inr, List, [], ◌++◌, map, length, slice_get, Option, Some, None, refl, sym, ◌∙◌, ap, subst, arith}
+use Rattle.std.specs.Prelude.{option_map}
+use Rattle.std.proofs.lemmas.List.{length-map, map-append}
 use Rattle.std.proofs.lemmas.Option.{slice_get-map, slice_get_cases, slice_get_past, slice_get_within}
-use Rattle.abt_machine.specs.declared.events.Event.{Event}
 use Rattle.abt_machine.specs.declared.events.Site.{Site}
 use Rattle.abt_machine.specs.declared.numbers.StreamNo.{StreamNo}
 use Rattle.abt_machine.specs.declared.operations.OrderShape.{OrderShape}
@@ -25,13 +24,12 @@ use Rattle.abt_interleave.proofs.Weaves.{waves-weave}
 use Rattle.abt_simulation.specs.Journals.{events_of}
 use Rattle.abt_simulation.specs.Merging.{SiteEntry, StreamDeed, event_of, machine_of}
 use Rattle.abt_simulation.proofs.Merged.{tells-sites}
-use Rattle.abt_commons.specs.Held.{ObjectsValue, clock_at, object_at}
+use Rattle.abt_commons.specs.Held.{ObjectsValue, clock_at}
 use Rattle.abt_commons.specs.Sights.{Call}
 use Rattle.abt_commons.specs.Splits.{SplitLeft, SplitValue, carried_to, opening_of_split, own_lock, sights_from, sights_of}
-use Rattle.abt_commons.specs.declared.split.SplitPass.{SplitPass}
 use Rattle.abt_laws.proofs.Options.{some-injective}
 use Rattle.abt_stream.specs.Streams.{FitsShapes, StreamValue}
-use Rattle.abt_drain.specs.Crews.{CrewValue, IsCrew, clock_from, log_from, moment_in, moment_of}
+use Rattle.abt_drain.specs.Crews.{CrewValue, IsCrew, clock_from, log_from, moment_in}
 use Rattle.abt_drain.specs.Looks.{AreStreams, IsStream, held_from}
 use Rattle.abt_drain.specs.Moments.{IsReached, Moment, made_at}
 use Rattle.abt_drain.proofs.Journals.{no-gap, site-unworn, stream-unworn}

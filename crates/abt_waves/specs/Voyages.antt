@@ -1,5 +1,5 @@
 -- What a stream does in a wave, by what its pass sees.
-use Rattle.std.specs.Prelude.{ℕ, max, ◌≡◌, ◌≤◌, ◌^◌, ◌⊎◌, ◌++◌, List, length, map}
+use Rattle.std.specs.Prelude.{max, ◌≡◌, ◌≤◌, ◌^◌, ◌⊎◌, ◌++◌, List, length, map}
 use Rattle.abt_machine.specs.declared.events.Site.{Site}
 use Rattle.abt_machine.specs.declared.operations.OrderShape.{OrderShape}
 use Rattle.abt_machine.specs.declared.workload.Parts.{Parts}

@@ -1,5 +1,4 @@
 -- The stream so far.
-use Rattle.std.proofs.Common.{◌≡◌}
 use Rattle.abt_order.specs.Stored.{shapes_of}
 use Rattle.abt_stream.specs.Streams.{StreamValue}
 use Rattle.abt_waves.specs.Voyages.{HasGone, HasPass}

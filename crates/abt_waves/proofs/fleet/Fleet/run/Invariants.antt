@@ -1,5 +1,4 @@
 -- The fleet between waves.
-use Rattle.std.proofs.Common.{◌≡◌}
 use Rattle.abt_order.specs.Stored.{shapes_of}
 use Rattle.abt_drain.specs.Crews.{IsCrew}
 use Rattle.abt_waves.proofs.fleet.Fleet.run.Given as goal

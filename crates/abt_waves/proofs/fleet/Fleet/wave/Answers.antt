@@ -12,7 +12,7 @@ use Rattle.abt_waves.specs.declared.voyages.Returned.{Returned}
 use Rattle.abt_waves.specs.declared.voyages.Stop.{Stop}
 use Rattle.abt_waves.specs.declared.voyages.Stop.TheVariants as stop
 use Rattle.abt_waves.specs.Jobs.{HasReturned, JobValue, MayGo, jobs_of}
-use Rattle.abt_waves.specs.Waves.{pass_in, stop_in, stream_in}
+use Rattle.abt_waves.specs.Waves.{pass_in}
 use Rattle.abt_waves.proofs.Waving.{all-back, all-may-go, all-stop-well, fleet_of, next-fleet}
 use Rattle.abt_waves.proofs.fleet.Fleet.wave.Goals as goal
 
