@@ -243,12 +243,12 @@ module _ {O A R : Type 0} {g : Ghosts O A R} where
       subst (C (length after)) (written_back n after items len old) (subst (λ m. C m (take n (after ++ drop (length after) items))) (is ∙ sym len) closed)
 
 -- a list has as many elements as ones add up to
-sum_by-one : {X : Type 0} (xs : List X) → sum_by (λ x. 1) xs ≡ length xs
+pub sum_by-one : {X : Type 0} (xs : List X) → sum_by (λ x. 1) xs ≡ length xs
 sum_by-one [] = refl
 sum_by-one {X} (x ∷ xs) = let c = sum_by-cons (λ (y : X). 1) x xs in let rest = sum_by-one xs in omega arith
 
 -- what f gives to elements that g makes
-sum_by-of_map : {X Y : Type 0} (f : Y → ℕ) (g : X → Y) (xs : List X) → sum_by f (map g xs) ≡ sum_by (λ x. f (g x)) xs
+pub sum_by-of_map : {X Y : Type 0} (f : Y → ℕ) (g : X → Y) (xs : List X) → sum_by f (map g xs) ≡ sum_by (λ x. f (g x)) xs
 sum_by-of_map f g [] = refl
 sum_by-of_map {X} f g (x ∷ xs) =
     let a = sum_by-cons f (g x) (map g xs) in let b = sum_by-cons (λ (y : X). f (g y)) x xs in let rest = sum_by-of_map f g xs in omega arith
