@@ -19,16 +19,16 @@ loop-key-preserved g c =
     let same : get_or (same_of ends) k false ≡ end.same = get_or-map (λ e. e.same) ends k end false lt ∙ ap (λ e. e.same) (sym c.index-ends-key.is) in
     let R : List ℕ → Type 0 = λ l. Answers (take (k + 1) (same_of ends)) (take (k + 1) values) l in
     elim c.match-values-key.branch [
-      in-Some w ↦
-        let pushed : c.match-values-key.answers.items ≡ c.loop-key.answers.items ++ w.answer.result ∷ [] = ap (λ v. v.items) w.answers-is ∙ w.push_reserved.ensures.items in record {
-          few = let n = ap length pushed in let m = length-append c.loop-key.answers.items (w.answer.result ∷ []) in omega arith;
-          room = search rules;
-          answered = subst R (sym pushed) (next_some (same_of ends) values c.loop-key.answers.items k in_range many i.answered w.in-Some.value w.answer.result w.in-Some.is (λ e. w.answer.ensures (sym same ∙ e)));
-        }
+      | in-Some w ↦
+          let pushed : c.match-values-key.answers.items ≡ c.loop-key.answers.items ++ w.answer.result ∷ [] = ap (λ v. v.items) w.answers-is ∙ w.push_reserved.ensures.items in record {
+            few = let n = ap length pushed in let m = length-append c.loop-key.answers.items (w.answer.result ∷ []) in omega arith;
+            room = search rules;
+            answered = subst R (sym pushed) (next_some (same_of ends) values c.loop-key.answers.items k in_range many i.answered w.in-Some.value w.answer.result w.in-Some.is (λ e. w.answer.ensures (sym same ∙ e)));
+          }
       | in_default w ↦
-        let kept : c.match-values-key.answers.items ≡ c.loop-key.answers.items = ap (λ v. v.items) w.answers-is in record {
-          few = let n = ap length kept in omega arith;
-          room = search rules;
-          answered = subst R (sym kept) (next_none (same_of ends) values c.loop-key.answers.items k in_range many i.answered w.in_default.is);
-        }
+          let kept : c.match-values-key.answers.items ≡ c.loop-key.answers.items = ap (λ v. v.items) w.answers-is in record {
+            few = let n = ap length kept in omega arith;
+            room = search rules;
+            answered = subst R (sym kept) (next_none (same_of ends) values c.loop-key.answers.items k in_range many i.answered w.in_default.is);
+          }
     ]
