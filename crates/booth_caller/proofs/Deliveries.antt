@@ -1,5 +1,5 @@
 -- A letter that goes from one seat to another.
-use Rattle.std.proofs.Common.{◌≡◌, ℕ, ◌<◌, List, [], ◌∷◌, ◌++◌, length, length-append, Box, None, Option, cond, eq-eqb, ne_eqb, refl, sym, ap, ◌∙◌, subst, arith}
+use Rattle.std.proofs.Common.{◌≡◌, ℕ, ◌<◌, List, [], ◌∷◌, ◌++◌, length, length-append, Box, None, Option, refl, sym, ap, ◌∙◌, subst, arith}
 use Rattle.std.specs.declared.alloc.Global.{Global}
 use Rattle.std.specs.List.{All}
 use Rattle.std.proofs.lemmas.List.Elements.{All-head, All-tail}
@@ -21,15 +21,16 @@ use Rattle.booth_caller.specs.declared.letters.Ask.TheVariants as ask
 use Rattle.booth_caller.specs.declared.letters.Told.{Told}
 use Rattle.booth_caller.specs.declared.letters.Told.TheVariants as told
 use Rattle.booth_caller.specs.Trays.{Answers, Does}
+use Rattle.booth_caller.proofs.Calling.{class_mine, class_other}
 
 module _ {A R : Type 0} where
   -- a call of the seat stands first among its calls
   first_mine : (k : ℕ) (x : Entry A R) (xs : List (Entry A R)) → x.seat ≡ k → calls_of k (x ∷ xs) ≡ x ∷ calls_of k xs
-  first_mine k x xs e = ap (λ b. cond b (x ∷ calls_of k xs) (calls_of k xs)) (eq-eqb x.seat k e)
+  first_mine = class_mine (λ x. x.seat)
 
   -- a call of another seat is none of its calls
   first_other : (k : ℕ) (x : Entry A R) (xs : List (Entry A R)) → ¬ (x.seat ≡ k) → calls_of k (x ∷ xs) ≡ calls_of k xs
-  first_other k x xs ne = ap (λ b. cond b (x ∷ calls_of k xs) (calls_of k xs)) (ne_eqb x.seat k ne)
+  first_other = class_other (λ x. x.seat)
 
   -- where one of two seats has no call, all are the other's
   all_second : (xs : List (Entry A R)) → All (λ e. e.seat < 2) xs → calls_of 0 xs ≡ [] → calls_of 1 xs ≡ xs

@@ -1,3 +1,4 @@
+pub mod Calling
 pub mod Counters
 pub mod Counts
 pub mod Trays

@@ -1,7 +1,8 @@
 //! A counter behind a booth, and threads that add to it.
-ghost use Rattle.std.specs.Prelude.{◌≡◌, ◌≤◌, IfSome};
+ghost use Rattle.std.specs.Prelude.{◌≡◌, ◌<◌, ◌≤◌, ℕ, IfSome, length, replicate, slice_index_or};
 ghost use Rattle.std.specs.List.{All};
-ghost use Rattle.abt_booth.specs.Seats.{number_of, IsSeatOf, AreInOrder};
+ghost use Rattle.abt_booth.specs.Seats.{number_of, seen_of, IsSeatOf, AreInOrder};
+ghost use Rattle.booth_caller.specs.Calling.{AsksMore};
 ghost use Rattle.booth_caller.specs.Counts.{IsCounted};
 
 use abt_booth::{Booth, Closed, Object, Seat};
@@ -44,7 +45,7 @@ pub fn count<R: Threads + Wait + Sync>(
     times: u32,
 ) -> Option<Closed<Counter>>
     requires { 1 ≤ threads }
-    ensures { IfSome result (λ closed. IsCounted threads closed.object.sum closed.clock) }
+    ensures { IfSome result (λ closed. IsCounted threads times closed.object.sum closed.clock) }
 {
     let Ok((booth, mut seats)) = Booth::make(alloc, Counter { sum: 0 }, threads) else {
         return None;
@@ -58,6 +59,7 @@ pub fn add<R: Wait>(rt: &R, booth: &Booth<Counter>, seat: &mut Seat<Counter>, ti
     requires { IsSeatOf booth.now seat.old }
     ensures seat { IsSeatOf booth.now seat.new }
     ensures number { number_of seat.new ≡ number_of seat.old }
+    ensures asked { AsksMore (number_of seat.old) (replicate times 1) (seen_of seat.old) (seen_of seat.new) }
 {
     for _ in 0..times {
         booth.call(rt, seat, 0, 1);
@@ -75,6 +77,7 @@ pub fn add_on_threads<R: Threads + Wait + Sync>(
     requires order { AreInOrder seats.old }
     ensures seats { All (IsSeatOf booth.now) seats.new }
     ensures order { AreInOrder seats.new }
+    ensures asked { (i : ℕ) (d : _) → i < length seats.old → AsksMore i (replicate times 1) (seen_of (slice_index_or seats.old i d)) (seen_of (slice_index_or seats.new i d)) }
 {
     let threads = seats.len();
     if threads == 0 {
@@ -86,7 +89,7 @@ pub fn add_on_threads<R: Threads + Wait + Sync>(
         threads,
         &|_, seat: &mut Seat<Counter>|
             requires { IsSeatOf booth.now seat.now }
-            ensures { IsSeatOf booth.entry.now seat.exit.now × (number_of seat.exit.now ≡ number_of seat.entry.now) }
+            ensures { IsSeatOf booth.entry.now seat.exit.now × (number_of seat.exit.now ≡ number_of seat.entry.now) × AsksMore (number_of seat.entry.now) (replicate times 1) (seen_of seat.entry.now) (seen_of seat.exit.now) }
         { add(rt, booth, seat, times) },
     );
 }

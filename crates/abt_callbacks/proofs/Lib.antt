@@ -1,0 +1,5 @@
+pub mod Answered
+pub mod Crosses
+pub mod Folded
+pub mod Numbers
+pub mod Rounds

@@ -1,0 +1,42 @@
+-- What a future is left with, when workers have set numbers on it.
+use Rattle.std.specs.Prelude.{◌≡◌, ℕ, ◌+◌, ◌*◌, ◌/◌, ◌%◌, ◌<◌, ◌==◌, Bool, true, false, List, map, Some}
+use Rattle.std.specs.List.{All, count_by, filter, range_with_len}
+use Rattle.abt_booth.specs.declared.history.Entry.{Entry}
+use Rattle.abt_booth.specs.History.{last_stamp, Legal}
+use Rattle.booth_caller.specs.Calling.{acts_of}
+use Rattle.abt_callbacks.specs.declared.fold.FoldShape.TheVariants.{Sum}
+use Rattle.abt_callbacks.specs.declared.acts.FutureAct.{FutureAct}
+use Rattle.abt_callbacks.specs.declared.acts.FutureAct.TheVariants.{Set}
+use Rattle.abt_callbacks.specs.declared.acts.FutureAnswer.{FutureAnswer}
+use Rattle.abt_callbacks.specs.declared.acts.FutureAnswer.TheVariants.{Kept, Ready, Vacant, Full}
+use Rattle.abt_callbacks.specs.Futures.{Does, Future, empty}
+
+-- the numbers of one worker: those from 1 to n whose remainder is the worker's number, rising
+abbrev pub numbers_of : ℕ → ℕ → ℕ → List ℕ
+numbers_of workers n worker = filter (λ v. v % workers == worker) (range_with_len 1 n)
+
+-- the acts by which it sets them
+abbrev pub sets_of : ℕ → ℕ → ℕ → List FutureAct
+sets_of workers n worker = map Set (numbers_of workers n worker)
+
+-- the answer is the fold's
+abbrev pub is_ready : FutureAnswer → Bool
+is_ready Kept = false
+is_ready (Ready r) = true
+is_ready Vacant = false
+is_ready Full = false
+
+-- the sum of the numbers from 1 to n
+abbrev pub plain_sum : ℕ → ℕ
+plain_sum n = n * (n + 1) / 2
+
+-- One legal history leads from the empty future to this one: each worker set its numbers, each once, in order, and nothing else was asked; exactly one
+-- set was answered with the fold's answer; and the future keeps the plain sum.
+pub record IsFolded (workers n : ℕ) (future : Future) (clock : ℕ) : Type 0 where
+  pub history : List (Entry FutureAct FutureAnswer)
+  pub legal : Legal Does (empty Sum n) history future
+  pub last : clock ≡ last_stamp history
+  pub of_workers : All (λ e. e.seat < workers) history
+  pub sets : (worker : ℕ) → worker < workers → acts_of worker history ≡ sets_of workers n worker
+  pub once : count_by (λ e. is_ready e.answer) history ≡ 1
+  pub kept : future.answer ≡ Some (plain_sum n)
