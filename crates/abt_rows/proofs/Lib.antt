@@ -3,4 +3,7 @@ pub mod Running
 pub mod Validity
 pub mod Ending
 pub mod Reporting
+pub mod Stamping
+pub mod Refusing
+pub mod Working
 pub mod Workloads

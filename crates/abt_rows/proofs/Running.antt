@@ -114,7 +114,7 @@ by_due W Z S s StepDue d = by_step W Z S s d (hand W S s) refl
 by_due W Z S s LeaveDue d = by_framed W Z S s d (last (standing W S (InFrames s)))
 by_due W Z S s RoundDue d = by_pool W Z S s d (next_pool W Z (S.stream s).top)
 
-abbrev coming : (W : Parts) (Z : List OrderShape) (S : State) (s : ℕ) → Option (Coming W Z S s)
+abbrev pub coming : (W : Parts) (Z : List OrderShape) (S : State) (s : ℕ) → Option (Coming W Z S s)
 coming W Z S s = by_due W Z S s (due W S s) refl
 
 -- The run.
@@ -128,7 +128,7 @@ stamped t s w = record { stamp = t; stream = stream_no s; what = w }
 abbrev ran_on : (W : Parts) (Z : List OrderShape) (S : State) (s : ℕ) → s < W.streams → ℕ → (c : Coming W Z S s) → Ran W Z (after W S s c.0) → Ran W Z S
 ran_on W Z S s is t c rest = (stamped t s c.0 ∷ rest.0, (is, c.1, rest.1))
 
-abbrev ran_from : (W : Parts) (Z : List OrderShape) (S : State) (s : ℕ) → Option (s < W.streams) → ℕ → Option (Coming W Z S s) → ((c : Coming W Z S s) → Ran W Z (after W S s c.0)) → Ran W Z S
+abbrev pub ran_from : (W : Parts) (Z : List OrderShape) (S : State) (s : ℕ) → Option (s < W.streams) → ℕ → Option (Coming W Z S s) → ((c : Coming W Z S s) → Ran W Z (after W S s c.0)) → Ran W Z S
 ran_from W Z S s (Some is) t (Some c) rest = ran_on W Z S s is t c (rest c)
 ran_from W Z S s (Some is) t None rest = ([], tt)
 ran_from W Z S s None t o rest = ([], tt)

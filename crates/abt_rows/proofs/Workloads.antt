@@ -49,6 +49,10 @@ declared_for streams keys pools scheds objects units words = record {
   words = words;
 }
 
+-- the same, with these main schedulers, in order of stream
+abbrev pub with_mains : List ℕ → Parts → Parts
+with_mains gs W = record W { mains = map sched_no gs }
+
 -- one stream
 abbrev pub declared : ℕ → List PoolPart → List SchedPart → List Thing → List UnitPart → List Text → Parts
 declared = declared_for 1

@@ -9,3 +9,8 @@ pub mod Mutexes
 pub mod Eventuals
 pub mod Budgets
 pub mod Streams
+pub mod Sharing
+pub mod Accumulators
+pub mod ThreePools
+pub mod Conditions
+pub mod Refused

@@ -217,3 +217,23 @@ abbrev pub yieldto_migrates_report : Text
 yieldto_migrates_report =
     codes "unit 0 done:\nunit 1 done: moved\n" ++
     codes "tally units 2 unborn 0 pool 0 stream 0 blocked 0 done 2 asked 0 access 0 steps 3\nfinished\n"
+
+-- A unit that has ended can be barred from migrating, and stays so when it is revived.
+
+abbrev pub ban_outlives_the_end_text : Text
+ban_outlives_the_end_text =
+    base ++
+    codes "units 2\nunit 0 ult at 0\njoin 1\nmigratable 1 0\nrevive 1 0\nmigrate 1 0\nunit 1 ult at 0\n" ++
+    codes "end\n"
+
+abbrev pub ban_outlives_the_end_journal : Text
+ban_outlives_the_end_journal =
+    codes "1 0 take 0 0\n2 0 look 0\n3 0 step 0 0 ok\n4 0 take 0 1\n5 0 look 1\n6 0 end 1 done\n" ++
+    codes "7 0 put 0 0\n8 0 take 0 0\n9 0 look 0\n10 0 step 0 1 ok\n11 0 step 0 2 ok\n12 0 put 1 0\n" ++
+    codes "13 0 step 0 3 not-migratable\n14 0 end 0 done\n15 0 take 0 1\n16 0 look 1\n17 0 end 1 done\n" ++
+    codes "18 0 miss 0\n"
+
+abbrev pub ban_outlives_the_end_report : Text
+ban_outlives_the_end_report =
+    codes "unit 0 done: !not-migratable\nunit 1 done:\n" ++
+    codes "tally units 2 unborn 0 pool 0 stream 0 blocked 0 done 2 asked 0 access 0 steps 4\nfinished\n"

@@ -8,6 +8,7 @@ use Rattle.abt_machine.specs.declared.workload.Parts.{Parts}
 use Rattle.abt_machine.specs.Canonical.{canonical_text}
 use Rattle.abt_machine.specs.Outcomes.{EndsAs, steps_in}
 use Rattle.abt_machine.specs.Runs.{Run, last_state}
+use Rattle.abt_machine.specs.Stamps.{Lamport}
 use Rattle.abt_machine.specs.Texts.{journal_text, report_text}
 use Rattle.abt_machine.specs.Valid.{IsValid}
 use Rattle.abt_machine.specs.Words.{Text}
@@ -30,6 +31,6 @@ pub record Reports (shapes : List OrderShape) (n : ℕ) (text report : Text) (J 
 abbrev pub IsReported : List OrderShape → ℕ → Text → Text → Type 0
 IsReported shapes n text report = (J : List Event) × Reports shapes n text report J
 
--- the workload of this text has a run with this journal, of which this is the report
+-- the workload of this text has a run with this journal, with Lamport's stamps, of which this is the report
 abbrev pub IsWorked : List OrderShape → ℕ → Text → Text → Text → Type 0
-IsWorked shapes n text journal report = (J : List Event) × (journal_text J ≡ journal) × Reports shapes n text report J
+IsWorked shapes n text journal report = (J : List Event) × (journal_text J ≡ journal) × (r : Reports shapes n text report J) × Lamport r.workload J

@@ -2,12 +2,17 @@
 //! computed from the definitions of the machine. Each function's contract is a row, and its body is empty.
 #![tactic(auto)]
 
+pub mod accumulators;
 pub mod budgets;
+pub mod conditions;
 pub mod eventuals;
 pub mod locals;
 pub mod mutexes;
+pub mod refused;
 pub mod requests;
 pub mod rounds;
 pub mod schedulers;
+pub mod sharing;
 pub mod streams;
+pub mod three_pools;
 pub mod units;

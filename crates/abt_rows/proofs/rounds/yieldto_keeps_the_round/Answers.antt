@@ -8,7 +8,7 @@ use Rattle.abt_machine.specs.declared.operations.Rule.TheVariants as rule
 use Rattle.abt_machine.specs.declared.workload.Parts.{Parts}
 use Rattle.abt_machine.specs.Numbers.{pool_no, unit_no}
 use Rattle.abt_rows.specs.Rows.{orders}
-use Rattle.abt_rows.proofs.Reporting.{ran, reported}
+use Rattle.abt_rows.proofs.Working.{worked}
 use Rattle.abt_rows.proofs.Workloads.{declared, pool, sched, ult_at}
 use Rattle.abt_rows.proofs.rounds.yieldto_keeps_the_round.Goals as goal
 
@@ -21,4 +21,4 @@ workload = declared 0 (pool kind.Fifo access.Mpmc ∷ pool kind.Fifo access.Mpmc
 
 pub returns : goal.returns
 unfolding digits
-returns c = (_, refl, reported workload orders 10000 (ran workload orders 14) outcome.Finished _ _ refl refl refl refl)
+returns c = worked workload orders 10000 14 outcome.Finished _ _ _ refl refl refl refl refl

@@ -9,7 +9,7 @@ use Rattle.abt_machine.specs.declared.operations.Rule.TheVariants as rule
 use Rattle.abt_machine.specs.declared.workload.Parts.{Parts}
 use Rattle.abt_machine.specs.Numbers.{unit_no}
 use Rattle.abt_rows.specs.Rows.{orders}
-use Rattle.abt_rows.proofs.Reporting.{ran, reported}
+use Rattle.abt_rows.proofs.Working.{worked}
 use Rattle.abt_rows.proofs.Workloads.{declared, pool, sched, sched_at, ult_at}
 use Rattle.abt_rows.proofs.schedulers.scheduler_cancelled.Goals as goal
 
@@ -22,4 +22,4 @@ workload = declared 0 (pool kind.Fifo access.Mpmc ∷ pool kind.Fifo access.Mpmc
 
 pub returns : goal.returns
 unfolding digits
-returns c = (_, refl, reported workload orders 10000 (ran workload orders 8) outcome.Stuck _ _ refl refl refl refl)
+returns c = worked workload orders 10000 8 outcome.Stuck _ _ _ refl refl refl refl refl

@@ -1,0 +1,21 @@
+use Rattle.std.proofs.Common.{[], ◌∷◌, refl}
+use Rattle.std.specs.Fmt.{digits}
+use Rattle.abt_machine.specs.declared.events.Outcome.TheVariants as outcome
+use Rattle.abt_machine.specs.declared.operations.Op.TheVariants as op
+use Rattle.abt_machine.specs.declared.operations.Thing.TheVariants as thing
+use Rattle.abt_machine.specs.declared.workload.Parts.{Parts}
+use Rattle.abt_machine.specs.Numbers.{object_no}
+use Rattle.abt_rows.specs.Rows.{orders}
+use Rattle.abt_rows.proofs.Working.{worked}
+use Rattle.abt_rows.proofs.Workloads.{based, ult_at}
+use Rattle.abt_rows.proofs.accumulators.kept_by_a_lock.Goals as goal
+
+abbrev workload : Parts
+workload = based 0 (thing.Mutex ∷ []) (
+    ult_at 0 (op.Lock (object_no 0) ∷ op.Set 9 ∷ op.Yield ∷ op.Unlock (object_no 0) ∷ op.Print ∷ []) ∷
+    ult_at 0 (op.Set 7 ∷ op.Lock (object_no 0) ∷ op.Print ∷ []) ∷
+    []) []
+
+pub returns : goal.returns
+unfolding digits
+returns c = worked workload orders 10000 21 outcome.Finished _ _ _ refl refl refl refl refl

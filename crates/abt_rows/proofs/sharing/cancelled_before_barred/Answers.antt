@@ -1,0 +1,24 @@
+use Rattle.std.proofs.Common.{[], ◌∷◌, refl}
+use Rattle.std.specs.Fmt.{digits}
+use Rattle.abt_machine.specs.declared.events.Outcome.TheVariants as outcome
+use Rattle.abt_machine.specs.declared.operations.Access.TheVariants as access
+use Rattle.abt_machine.specs.declared.operations.Kind.TheVariants as kind
+use Rattle.abt_machine.specs.declared.operations.Op.TheVariants as op
+use Rattle.abt_machine.specs.declared.operations.Rule.TheVariants as rule
+use Rattle.abt_machine.specs.declared.workload.Parts.{Parts}
+use Rattle.abt_machine.specs.Numbers.{stream_no, unit_no}
+use Rattle.abt_rows.specs.Rows.{orders}
+use Rattle.abt_rows.proofs.Working.{worked_at}
+use Rattle.abt_rows.proofs.Workloads.{declared_for, pool, sched, sched_at, ult_at}
+use Rattle.abt_rows.proofs.sharing.cancelled_before_barred.Goals as goal
+
+abbrev workload : Parts
+workload = declared_for 2 0 (pool kind.Fifo access.Mpmc ∷ pool kind.Fifo (access.Priv (stream_no 1)) ∷ []) (sched rule.Prio (0 ∷ []) ∷ sched rule.Prio (1 ∷ []) ∷ sched rule.Prio (0 ∷ 1 ∷ []) ∷ [])
+    [] (
+    ult_at 0 (op.Cancel (unit_no 1) ∷ []) ∷
+    sched_at 2 0 ∷
+    []) []
+
+pub returns : goal.returns
+unfolding digits
+returns c = worked_at workload orders 10000 ((1, 0) ∷ (1, 1) ∷ (2, 0) ∷ (3, 0) ∷ (4, 0) ∷ (5, 0) ∷ (6, 0) ∷ (7, 0) ∷ (8, 0) ∷ []) outcome.Finished _ _ _ refl refl refl refl refl refl

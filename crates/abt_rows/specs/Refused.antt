@@ -1,0 +1,80 @@
+-- What is no life of a unit, and what are no stamps.
+use Rattle.std.specs.Prelude.{ℕ, List, [], ◌∷◌}
+use Rattle.abt_machine.specs.declared.events.Cause.TheVariants as cause
+use Rattle.abt_machine.specs.declared.events.Code.TheVariants as code
+use Rattle.abt_machine.specs.declared.events.Event.{Event}
+use Rattle.abt_machine.specs.declared.events.What.{What}
+use Rattle.abt_machine.specs.declared.events.What.TheVariants as what
+use Rattle.abt_machine.specs.declared.operations.Body.{Body}
+use Rattle.abt_machine.specs.declared.operations.Body.TheVariants as body
+use Rattle.abt_machine.specs.declared.operations.Op.TheVariants as op
+use Rattle.abt_machine.specs.declared.workload.Parts.{Parts}
+use Rattle.abt_machine.specs.Lives.{IsLife}
+use Rattle.abt_machine.specs.Numbers.{pool_no, sched_no, stream_no, unit_no}
+use Rattle.abt_machine.specs.Stamps.{Lamport, Stamped}
+
+-- Lives.
+
+-- these events are no life of a unit of this body
+abbrev pub IsNoLife : Body → List What → Type 0
+IsNoLife b es = IsLife b es → ⊥
+
+-- a thread of one operation, a tasklet of one, and a scheduler unit
+abbrev pub thread : Body
+thread = body.Ult (op.Yield ∷ [])
+
+abbrev pub tasklet : Body
+tasklet = body.Task (op.Print ∷ [])
+
+abbrev pub scheduler : Body
+scheduler = body.Sched (sched_no 0)
+
+-- done without its step
+abbrev pub stepless : List What
+stepless = what.Look (unit_no 0) ∷ what.End (unit_no 0) cause.Done ∷ []
+
+-- its first step twice
+abbrev pub repeated : List What
+repeated = what.Step (unit_no 0) 0 code.Ok ∷ what.Step (unit_no 0) 0 code.Ok ∷ []
+
+-- a look after its end
+abbrev pub going_on : List What
+going_on = what.Step (unit_no 0) 0 code.Ok ∷ what.End (unit_no 0) cause.Done ∷ what.Look (unit_no 0) ∷ []
+
+-- ended for lack of access
+abbrev pub barred : List What
+barred = what.Look (unit_no 0) ∷ what.End (unit_no 0) cause.Access ∷ []
+
+-- ended by a request after it entered
+abbrev pub asked_inside : List What
+asked_inside = what.Enter (unit_no 0) ∷ what.End (unit_no 0) cause.Asked ∷ []
+
+-- Stamps.
+
+-- a miss of stream s at the pool of its number
+abbrev pub miss : ℕ → ℕ → Event
+miss t s = record { stamp = t; stream = stream_no s; what = what.Miss (pool_no s) }
+
+-- the stamps pass over a number
+abbrev pub gap : List Event
+gap = miss 1 0 ∷ miss 3 0 ∷ []
+
+-- events of equal stamp stand in falling order of stream
+abbrev pub falling : List Event
+falling = miss 1 1 ∷ miss 1 0 ∷ []
+
+-- two events of one stream have one stamp
+abbrev pub level : List Event
+level = miss 1 0 ∷ miss 1 0 ∷ []
+
+-- the second stream's first event has stamp 2, although it shares nothing with the event before it
+abbrev pub late : List Event
+late = miss 1 0 ∷ miss 2 1 ∷ []
+
+-- this journal is stamped, but not by Lamport's rule
+abbrev pub IsNotLeast : List Event → Type 0
+IsNotLeast J = (W : Parts) → Stamped W J × (Lamport W J → ⊥)
+
+-- this journal is not stamped
+abbrev pub IsNotStamped : List Event → Type 0
+IsNotStamped J = (W : Parts) → Stamped W J → ⊥

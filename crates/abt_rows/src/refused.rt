@@ -1,0 +1,58 @@
+//! Rows on what is no life of a unit, and on what are no stamps.
+
+ghost use Rattle.abt_rows.specs.Refused.{IsNoLife, IsNotLeast, IsNotStamped, asked_inside, barred, falling, gap, going_on, late, level, repeated, scheduler, stepless, tasklet, thread};
+
+/// A thread is not done without all its steps.
+pub fn thread_done_too_early()
+    ensures { IsNoLife thread stepless }
+{}
+
+/// Nor is a tasklet.
+pub fn tasklet_done_too_early()
+    ensures { IsNoLife tasklet stepless }
+{}
+
+/// A scheduler unit is not done if it did not enter.
+pub fn scheduler_done_too_early()
+    ensures { IsNoLife scheduler stepless }
+{}
+
+/// No operation is made twice.
+pub fn step_made_twice()
+    ensures { IsNoLife thread repeated }
+{}
+
+/// Nothing comes after an end.
+pub fn event_after_the_end()
+    ensures { IsNoLife thread going_on }
+{}
+
+/// A thread does not end for lack of access.
+pub fn thread_barred()
+    ensures { IsNoLife thread barred }
+{}
+
+/// A scheduler unit that has entered does not end by a request.
+pub fn scheduler_asked_inside()
+    ensures { IsNoLife scheduler asked_inside }
+{}
+
+/// Stamps leave no gap.
+pub fn stamps_with_a_gap()
+    ensures { IsNotStamped gap }
+{}
+
+/// Events of equal stamp stand in order of stream.
+pub fn stamps_out_of_order()
+    ensures { IsNotStamped falling }
+{}
+
+/// Stamps rise along each stream.
+pub fn stamps_that_stay()
+    ensures { IsNotStamped level }
+{}
+
+/// A stamp is the least that the rule allows.
+pub fn stamp_above_the_least()
+    ensures { IsNotLeast late }
+{}
