@@ -63,10 +63,11 @@ below_with earlier e t is below f at = elim (Contains-push_cases earlier e f at)
 counting : (W : Parts) (earlier es : List Event) (t : ℕ) → ((f : Event) → Contains earlier f → f.stamp < t) → IsNext earlier t → Counts t es → LamportFrom W earlier es
 counting W earlier [] t below is c = tt
 counting W earlier (e ∷ es) t below is c =
-    let here : e.stamp ≡ t = c.1 in
-    (λ f at h. (let lt : f.stamp < t = below f at in omega arith),
-    least W earlier e c.0 (subst (IsNext earlier) (sym here) is),
-    counting W (earlier ++ e ∷ []) es (suc t) (below_with earlier e t here below) (inr (e, Contains-push earlier e, c.0, omega arith)) c.2)
+    let here : e.stamp ≡ t = c.1 in (
+      λ f at h. (let lt : f.stamp < t = below f at in omega arith),
+      least W earlier e c.0 (subst (IsNext earlier) (sym here) is),
+      counting W (earlier ++ e ∷ []) es (suc t) (below_with earlier e t here below) (inr (e, Contains-push earlier e, c.0, omega arith)) c.2,
+    )
 
 stamped_by_count : (W : Parts) (J : List Event) → Counts 1 J → Stamped W J
 stamped_by_count W [] c = tt
@@ -103,7 +104,7 @@ own_number (site.Barrier x) = x.0
 abbrev other_site : (a b : Site) → Option (a ≢ b)
 other_site a b =
     either (given (apart (kind_number a) (kind_number b)) (λ no. Some (λ e. no (ap kind_number e))))
-        (given (apart (own_number a) (own_number b)) (λ no. Some (λ e. no (ap own_number e))))
+    (given (apart (own_number a) (own_number b)) (λ no. Some (λ e. no (ap own_number e))))
 
 abbrev same_site : (a b : Site) → Option (a ≡ b)
 same_site (site.Pool p) (site.Pool q) = given (same p.0 q.0) (λ e. Some (ap (λ n. site.Pool (pool_no n)) e))
@@ -139,12 +140,12 @@ one_site W e f (Some x) None is also = None
 abbrev shared : (W : Parts) (e f : Event) → Option (Shares W e f)
 shared W e f =
     either (given (same e.stream.0 f.stream.0) (λ own. Some (inl (ap stream_no own))))
-        (given (one_site W e f (event_site W e) (event_site W f) refl refl) (λ site. Some (inr site)))
+    (given (one_site W e f (event_site W e) (event_site W f) refl refl) (λ site. Some (inr site)))
 
 abbrev rises : (W : Parts) (e f : Event) → Option (Shares W e f → e.stamp < f.stamp)
 rises W e f =
     either (given (is_less e.stamp f.stamp) (λ lt. Some (λ h. lt)))
-        (given (unshared W e f) (λ no. Some (λ h. absurd (no h))))
+    (given (unshared W e f) (λ no. Some (λ h. absurd (no h))))
 
 abbrev follows : (e f : Event) → Option (Follows e f)
 follows e f =
@@ -180,7 +181,7 @@ abbrev caused : (W : Parts) (earlier : List Event) (e : Event) → Option (Cause
 caused W [] e = None
 caused W (f ∷ fs) e =
     either (given (same e.stamp (f.stamp + 1)) (λ is. given (shared W f e) (λ h. Some (at_first W f fs e h is))))
-        (given (caused W fs e) (λ c. Some (further W f fs e c)))
+    (given (caused W fs e) (λ c. Some (further W f fs e c)))
 
 abbrev is_least : (W : Parts) (earlier : List Event) (e : Event) → Option (IsLeast W earlier e)
 is_least W earlier e = either (given (same e.stamp 1) (λ one. Some (inl one))) (given (caused W earlier e) (λ c. Some (inr c)))

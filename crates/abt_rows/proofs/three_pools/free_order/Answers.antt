@@ -53,16 +53,39 @@ one : 0 < 1
 one = omega arith
 
 run : RunFrom workload free_alone (start workload) journal
-run =
-    (one, (refl, refl, (1 ∷ 2 ∷ 0 ∷ [], first_order, (2 ∷ 0 ∷ [], refl))),
-    (one, (refl, refl, (1 ∷ 2 ∷ 0 ∷ [], first_order, (0 ∷ [], refl))),
-    (one, (refl, refl, (1 ∷ 2 ∷ 0 ∷ [], first_order, ([], refl))),
-    (one, (refl, refl),
-    (one, (refl, refl),
-    (one, (refl, refl, (2 ∷ 0 ∷ 1 ∷ [], second_order, (0 ∷ 1 ∷ [], refl))),
-    (one, (refl, refl, (2 ∷ 0 ∷ 1 ∷ [], second_order, (1 ∷ [], refl))),
-    (one, (refl, refl, (2 ∷ 0 ∷ 1 ∷ [], second_order, ([], refl))),
-    tt))))))))
+run = (
+  one,
+  (refl, refl, (1 ∷ 2 ∷ 0 ∷ [], first_order, (2 ∷ 0 ∷ [], refl))),
+  (
+    one,
+    (refl, refl, (1 ∷ 2 ∷ 0 ∷ [], first_order, (0 ∷ [], refl))),
+    (
+      one,
+      (refl, refl, (1 ∷ 2 ∷ 0 ∷ [], first_order, ([], refl))),
+      (
+        one,
+        (refl, refl),
+        (
+          one,
+          (refl, refl),
+          (
+            one,
+            (refl, refl, (2 ∷ 0 ∷ 1 ∷ [], second_order, (0 ∷ 1 ∷ [], refl))),
+            (
+              one,
+              (refl, refl, (2 ∷ 0 ∷ 1 ∷ [], second_order, (1 ∷ [], refl))),
+              (
+                one,
+                (refl, refl, (2 ∷ 0 ∷ 1 ∷ [], second_order, ([], refl))),
+                tt,
+              ),
+            ),
+          ),
+        ),
+      ),
+    ),
+  ),
+)
 
 pub returns : goal.returns
 unfolding digits
