@@ -1,9 +1,11 @@
 ghost use Rattle.std.specs.Prelude.{◌≡◌};
 
 mod asking;
+mod crossing;
 mod players;
 mod rows;
 
+use self::crossing::{THREADS, are_held_once, play_on_threads};
 use self::players::play_all;
 use self::rows::{BARRIERS, DESKS, EVENTUALS, FUTURES, KINDS, MONITORS, POOLS};
 use super::looked;
@@ -13,6 +15,7 @@ use abt_machine::*;
 use abt_workload::read;
 use std::alloc::{AllocError, Global};
 use std::process::Abort;
+use std::sync::Mutex;
 use std::test::*;
 
 // A unit that starts in pool 0, and one that is unborn.
@@ -158,6 +161,42 @@ fn a_split_answers_each_act(rt: HostRuntime) -> Result<(), Fail> {
     };
     play_every_kind(&rt, &split, &mut pass, &w);
     Ok(())
+}
+
+#[test]
+fn threads_lose_no_unit_in_a_hall(rt: HostRuntime) -> Result<(), Fail> {
+    let w = workload_of(&rt, rt.alloc(), 255)?;
+    let objects = Objects::place(rt.alloc(), &w)?;
+    let Ok((hall, passes)) = Hall::make(rt.alloc(), &rt, objects, THREADS) else {
+        panic!(&rt; "no memory")
+    };
+    let kept = Mutex::new(Chain::new());
+    let passes = play_on_threads(&rt, &hall, passes, &w, &kept)?;
+    are_held_once(
+        &rt,
+        rt.alloc(),
+        hall.close(passes),
+        kept.into_inner(),
+        w.units(),
+    )
+}
+
+#[test]
+fn threads_lose_no_unit_in_a_split(rt: HostRuntime) -> Result<(), Fail> {
+    let w = workload_of(&rt, rt.alloc(), 255)?;
+    let objects = Objects::place(rt.alloc(), &w)?;
+    let Ok((split, passes)) = Split::make(rt.alloc(), &rt, objects, THREADS) else {
+        panic!(&rt; "no memory")
+    };
+    let kept = Mutex::new(Chain::new());
+    let passes = play_on_threads(&rt, &split, passes, &w, &kept)?;
+    are_held_once(
+        &rt,
+        rt.alloc(),
+        split.close(passes),
+        kept.into_inner(),
+        w.units(),
+    )
 }
 
 // The text of a workload with objects of all kinds, and so many units that start in pool 0 besides an unborn one.
