@@ -43,10 +43,10 @@ journal =
     []
 
 -- the orders of its two rounds
-first_order : IsPermutation (0 ∷ 1 ∷ 2 ∷ []) (1 ∷ 2 ∷ 0 ∷ [])
+first_order : IsPermutation {X = ℕ} (0 ∷ 1 ∷ 2 ∷ []) (1 ∷ 2 ∷ 0 ∷ [])
 first_order = IsPermutation-append_comm (0 ∷ []) (1 ∷ 2 ∷ [])
 
-second_order : IsPermutation (0 ∷ 1 ∷ 2 ∷ []) (2 ∷ 0 ∷ 1 ∷ [])
+second_order : IsPermutation {X = ℕ} (0 ∷ 1 ∷ 2 ∷ []) (2 ∷ 0 ∷ 1 ∷ [])
 second_order = IsPermutation-append_comm (0 ∷ 1 ∷ []) (2 ∷ [])
 
 one : 0 < 1
