@@ -4,25 +4,33 @@
 
 mod booth;
 mod chains;
+mod commons;
 mod rounds;
+mod streams;
 mod texts;
 
 use std::{env, io};
 
+const USAGE: &str = "usage: abt_bench small|booth|chains|commons|streams|texts";
+
 fn main(rt: HostRuntime) -> io::Result<()> {
     let mut words = env::args(&rt)?.skip(1);
     let Some(word) = words.next() else {
-        return eprintln!(&rt; "usage: abt_bench small|booth|chains|texts");
+        return eprintln!(&rt; "{USAGE}");
     };
     match word.as_str() {
         "small" => {
             booth::small(&rt, rt.alloc())?;
             chains::small(&rt, rt.alloc())?;
+            commons::small(&rt, rt.alloc())?;
+            streams::small(&rt, rt.alloc())?;
             texts::small(&rt, rt.alloc())
         }
         "booth" => booth::times(&rt, rt.alloc()),
         "chains" => chains::times(&rt, rt.alloc()),
+        "commons" => commons::times(&rt, rt.alloc()),
+        "streams" => streams::times(&rt, rt.alloc()),
         "texts" => texts::times(&rt, rt.alloc()),
-        _ => eprintln!(&rt; "usage: abt_bench small|booth|chains|texts"),
+        _ => eprintln!(&rt; "{USAGE}"),
     }
 }

@@ -1,0 +1,113 @@
+-- All objects may go to another thread, and so may passes; a hall and a split may be shared.
+use denote.RattleType.{RattleType}
+use denote.Param.Send.{IsSend, IsSync, sendable}
+use denote.Param.SendFields.{as_row_sync}
+use denote.Ref.{NamedLft}
+use Rattle.std.proofs.Crossing.{Box-sync, Vec-send, Vec-sync, crosses}
+use Rattle.abt_unit.specs.contracts.unit.UnitBody as UnitBody
+use Rattle.abt_unit.specs.contracts.unit.Unit as Unit
+use Rattle.abt_unit.proofs.unit.Unit.TheLaws.TheKnot.{sync-Unit}
+use Rattle.abt_unit.proofs.Crosses.{Unit-send, Workload-sync}
+use Rattle.abt_chain.specs.contracts.chain.Chain as Chain
+use Rattle.abt_chain.proofs.Crosses.{Chain-send}
+use Rattle.abt_pool.specs.contracts.pool.Pool as Pool
+use Rattle.abt_desk.specs.contracts.desk.Desk as Desk
+use Rattle.abt_monitor.specs.contracts.monitor.Monitor as Monitor
+use Rattle.abt_eventual.specs.contracts.eventual.Eventual as Eventual
+use Rattle.abt_eventual.specs.contracts.future.Future as Future
+use Rattle.abt_barrier.specs.contracts.barrier.Barrier as Barrier
+use Rattle.abt_booth.proofs.Crosses.{Booth-field-sync, Booth-sync, Seat-send}
+use Rattle.abt_commons.specs.contracts.acts.Act as Act
+use Rattle.abt_commons.specs.contracts.acts.Answer as Answer
+use Rattle.abt_commons.specs.contracts.shared.Shared as Shared
+use Rattle.abt_commons.specs.contracts.one.One as One
+use Rattle.abt_commons.specs.contracts.one.OneObject.TheImpl as OneObject
+use Rattle.abt_commons.specs.contracts.objects.Objects as Objects
+use Rattle.abt_commons.specs.contracts.hall.Hall as Hall
+use Rattle.abt_commons.specs.contracts.hall.ObjectsObject.TheImpl as ObjectsObject
+use Rattle.abt_commons.specs.contracts.acts.Ask as Ask
+use Rattle.abt_commons.specs.contracts.split.Split as Split
+use Rattle.abt_commons.specs.contracts.split.SplitPass as SplitPass
+use Rattle.abt_booth.specs.contracts.booth.Seat as Seat
+
+UnitBody-sync : IsSync UnitBody.the_row
+UnitBody-sync = search (sendable, crosses) depth 90 fits 20000
+
+Unit-sync : IsSync Unit.the_row
+Unit-sync = sync-Unit (as_row_sync UnitBody.the_field UnitBody-sync) (λ h s. let box = Box-sync h s in search sendable depth 20)
+
+Chain-sync : IsSync Chain.the_row
+Chain-sync = let box = Box-sync Unit.the_row Unit-sync in search sendable depth 30
+
+-- An object of each kind.
+
+Pool-send : IsSend Pool.the_row
+Pool-send = search (sendable, Chain-send) depth 30
+
+Pool-sync : IsSync Pool.the_row
+Pool-sync = search (sendable, Chain-sync) depth 30
+
+Desk-send : IsSend Desk.the_row
+Desk-send = search (sendable, crosses, Chain-send, Unit-send) depth 40
+
+Desk-sync : IsSync Desk.the_row
+Desk-sync = search (sendable, crosses, Chain-sync, Unit-sync) depth 40
+
+Monitor-send : IsSend Monitor.the_row
+Monitor-send = search (sendable, crosses, Chain-send) depth 40
+
+Monitor-sync : IsSync Monitor.the_row
+Monitor-sync = search (sendable, crosses, Vec-sync, Chain-sync) depth 40
+
+Eventual-send : IsSend Eventual.the_row
+Eventual-send = search (sendable, Chain-send) depth 30
+
+Eventual-sync : IsSync Eventual.the_row
+Eventual-sync = search (sendable, Chain-sync) depth 30
+
+Future-send : IsSend Future.the_row
+Future-send = search (sendable, Chain-send) depth 30
+
+Future-sync : IsSync Future.the_row
+Future-sync = search (sendable, Chain-sync) depth 30
+
+Barrier-send : IsSend Barrier.the_row
+Barrier-send = search (sendable, Chain-send) depth 30
+
+Barrier-sync : IsSync Barrier.the_row
+Barrier-sync = search (sendable, Chain-sync) depth 30
+
+Shared-send : IsSend (Shared.the_field).row
+Shared-send = search (sendable, Pool-send, Desk-send, Monitor-send, Eventual-send, Future-send, Barrier-send) depth 30
+
+Shared-sync : IsSync (Shared.the_field).row
+Shared-sync = search (sendable, Pool-sync, Desk-sync, Monitor-sync, Eventual-sync, Future-sync, Barrier-sync) depth 30
+
+One-send : (a : NamedLft) → IsSend (One.the_row a)
+One-send a = search (sendable, Workload-sync, Shared-send) depth 30
+
+One-sync : (a : NamedLft) → IsSync (One.the_row a)
+One-sync a = search (sendable, Workload-sync, Shared-sync) depth 30
+
+Objects-send : (a : NamedLft) → IsSend (Objects.the_row a)
+Objects-send a = search (sendable, crosses, Workload-sync, One-send) depth 30
+
+-- Locks round them.
+
+pub HallPass-send : (a : NamedLft) → IsSend (Seat.the_row (Objects.the_row a) Ask.the_row Answer.the_row ObjectsObject.ghosts)
+HallPass-send a = Seat-send (Objects.the_row a) Ask.the_row Answer.the_row ObjectsObject.ghosts (Objects-send a)
+
+pub Hall-sync : (a : NamedLft) (R : RattleType) → IsSync R → IsSync (Hall.the_row a R)
+Hall-sync a R s =
+    let booth = Booth-field-sync (Objects.the_row a) Ask.the_row Answer.the_row ObjectsObject.ghosts (Objects-send a) in
+    search sendable depth 30
+
+pub SplitPass-send : (a : NamedLft) → IsSend (SplitPass.the_row a)
+SplitPass-send a =
+    let seats = Vec-send (Seat.the_row (One.the_row a) Act.the_row Answer.the_row OneObject.ghosts) (Seat-send (One.the_row a) Act.the_row Answer.the_row OneObject.ghosts (One-send a)) in
+    search sendable depth 30
+
+pub Split-sync : (a : NamedLft) (R : RattleType) → IsSync R → IsSync (Split.the_row a R)
+Split-sync a R s =
+    let booth = Booth-sync (One.the_row a) Act.the_row Answer.the_row OneObject.ghosts (One-send a) in
+    search (sendable, crosses, Vec-sync, Workload-sync, One-sync) depth 40

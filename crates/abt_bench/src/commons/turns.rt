@@ -1,0 +1,80 @@
+//! Turns of a pool: its first unit is taken out and put back, in two calls.
+
+ghost use Rattle.std.specs.Prelude.{◌≡◌, ◌<◌, length, IfSome};
+ghost use Rattle.abt_unit.specs.Fits.{Fits};
+ghost use Rattle.abt_unit.specs.Units.{IsFree};
+
+use abt_commons::{Act, Answer, Commons, Reply};
+use abt_machine::{PoolNo, Side, Site};
+use abt_pool::Pool;
+use abt_unit::Unit;
+
+// The pool's first unit. None: it has no unit, or its clock is worn.
+fn take<'w, C: Commons<'w>>(commons: &C, pass: &mut C::Pass, p: PoolNo) -> Option<Box<Unit>>
+    requires pass { C.is_of commons.now pass.old }
+    requires pool { p.0 < length (C.workload commons.now).pools }
+    ensures pass { C.is_of commons.now pass.new }
+    ensures number { C.number pass.new ≡ C.number pass.old }
+    ensures free { IfSome result (λ unit. IsFree unit.value) }
+    ensures fits { IfSome result (λ unit. Fits (C.workload commons.now) unit.value.owned) }
+{
+    match commons.call(pass, Site::Pool(p), 0, Act::Take(Side::Front)) {
+        Reply::Done { stamp: _, answer } => match answer {
+            Answer::Given(unit) => Some(unit),
+            _ => None,
+        },
+        Reply::Worn(_) => None,
+    }
+}
+
+// The unit is the pool's last.
+fn put<'w, C: Commons<'w>>(commons: &C, pass: &mut C::Pass, p: PoolNo, unit: Box<Unit>)
+    requires pass { C.is_of commons.now pass.old }
+    requires pool { p.0 < length (C.workload commons.now).pools }
+    requires free { IsFree unit.value }
+    requires fits { Fits (C.workload commons.now) unit.value.owned }
+    ensures pass { C.is_of commons.now pass.new }
+    ensures number { C.number pass.new ≡ C.number pass.old }
+{
+    commons.call(pass, Site::Pool(p), 0, Act::Put(unit));
+}
+
+// One turn. False: the pool gave no unit.
+fn turn<'w, C: Commons<'w>>(commons: &C, pass: &mut C::Pass, p: PoolNo) -> bool
+    requires pass { C.is_of commons.now pass.old }
+    requires pool { p.0 < length (C.workload commons.now).pools }
+    ensures pass { C.is_of commons.now pass.new }
+    ensures number { C.number pass.new ≡ C.number pass.old }
+{
+    match take(commons, pass, p) {
+        Some(unit) => {
+            put(commons, pass, p, unit);
+            true
+        }
+        None => false,
+    }
+}
+
+/// So many turns, fewer where the pool gives no unit. The result is how many were made.
+pub fn turns<'w, C: Commons<'w>>(commons: &C, pass: &mut C::Pass, p: PoolNo, times: u32) -> u32
+    requires pass { C.is_of commons.now pass.old }
+    requires pool { p.0 < length (C.workload commons.now).pools }
+    ensures pass { C.is_of commons.now pass.new }
+    ensures number { C.number pass.new ≡ C.number pass.old }
+{
+    for made in 0..times {
+        if !turn(commons, pass, p) {
+            return made;
+        }
+    }
+    times
+}
+
+/// The same of a pool with nothing round it.
+pub fn bare_turns(pool: &mut Pool, times: u32) {
+    for _ in 0..times {
+        if let Some(unit) = pool.take(Side::Front) {
+            pool.put(unit);
+        }
+    }
+}

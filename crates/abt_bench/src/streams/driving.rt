@@ -1,0 +1,83 @@
+//! One stream over all objects in the hands of one caller.
+
+ghost use Rattle.std.specs.Prelude.{ℕ, ◌≡◌, ◌<◌, IfOk, IsTrue};
+ghost use Rattle.abt_order.specs.Schedulers.{IsStored};
+ghost use Rattle.abt_stream.specs.Streams.{FitsStream};
+
+use crate::commons::{no_memory, placed};
+use abt_commons::{Plain, PlainPass};
+use abt_machine::{Rule, SchedNo, StreamNo, Want, Workload};
+use abt_stream::{NoPace, Stream, Turn};
+use std::alloc::Global;
+use std::io;
+use std::rt::Clock;
+use std::time::{Duration, Instant};
+
+// More turns than any run here has, and more steps.
+const MOST: u32 = 1_000_000;
+
+/// Whether no scheduler goes by a stored order.
+pub fn is_ruled(w: &Workload) -> bool
+    ensures { IsTrue result → (g : ℕ) → IsStored w.now g 0 }
+{
+    for g in 0..w.scheds() {
+        if matches!(w.sched(SchedNo(g)).rule, Rule::User(_)) {
+            return false;
+        }
+    }
+    true
+}
+
+fn stream_of(alloc: Global, w: &Workload) -> io::Result<Stream>
+    requires { 0 < w.now.streams }
+    ensures { IfOk result (FitsStream w.now) }
+{
+    match Stream::new(alloc, w, StreamNo(0), u64::from(MOST)) {
+        Ok(stream) => Ok(stream),
+        Err(Want) => Err(no_memory()),
+    }
+}
+
+/// How many events stream 0 made until it had nothing to do, and what they took.
+pub fn stream_time<R: Clock>(rt: &R, alloc: Global, w: &Workload) -> io::Result<(u64, Duration)>
+    requires some { 0 < w.now.streams }
+    requires stored { (g : ℕ) → IsStored w.now g 0 }
+{
+    let (plain, mut pass) = Plain::make(placed(alloc, w)?);
+    let mut stream = stream_of(alloc, w)?;
+    let start = Instant::now(rt)?;
+    if turns(&mut stream, &plain, &mut pass, w).is_err() {
+        return Err(no_memory());
+    }
+    let took = start.elapsed(rt)?;
+    Ok((stream.log().len() as u64, took))
+}
+
+// Turns until there is nothing to do.
+fn turns<'w>(
+    stream: &mut Stream,
+    plain: &Plain<'w>,
+    pass: &mut PlainPass<'w>,
+    w: &Workload,
+) -> Result<(), Want>
+    requires plain { plain.now ≡ w.now }
+    requires pass { pass.old.workload ≡ w.now }
+    requires stored { (g : ℕ) → IsStored w.now g 0 }
+    requires fits { FitsStream w.now stream.old }
+{
+    for _ in 0..MOST {
+        stream.prepare(w, &[])?;
+        let turn = stream.turn(plain, pass, w, &NoPace);
+        if is_last(turn) {
+            return Ok(());
+        }
+    }
+    Ok(())
+}
+
+fn is_last(turn: Turn) -> bool {
+    match turn {
+        Turn::Stepped | Turn::Moved => false,
+        Turn::EmptyRound | Turn::Spent | Turn::Worn => true,
+    }
+}
