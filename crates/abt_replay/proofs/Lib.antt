@@ -1,0 +1,9 @@
+mod Admitting
+pub mod Answered
+mod Asking
+pub mod Classes
+pub mod Listed
+pub mod Operating
+pub mod Outcomes
+pub mod Running
+pub mod Turned

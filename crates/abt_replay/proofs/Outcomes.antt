@@ -1,0 +1,7 @@
+-- What a result brings where it is there.
+use Rattle.std.specs.Prelude.{IfOk}
+use Rattle.std.proofs.Common.{Result, Ok, Err}
+
+pub if_ok : {A E : Type 0} (P Q : A → Type 0) (r : Result A E) → ((a : A) → P a → Q a) → IfOk r P → IfOk r Q
+if_ok P Q (Ok a) f h = f a h
+if_ok P Q (Err e) f h = h

@@ -1,0 +1,125 @@
+//! What an answer brings to the unit in hand.
+
+ghost use Rattle.std.specs.Prelude.{◌≡◌, ◌<◌, ◌++◌, ◌^◌, ◌-◌, IfOk, None, Some};
+ghost use Rattle.abt_replay.specs.Acts.{act_of, answer_of};
+ghost use Rattle.abt_replay.specs.Hearing.{IsForCaller, IsForGiver, IsForWaiter};
+ghost use Rattle.abt_replay.specs.Shapes.{given};
+ghost use Rattle.abt_machine.specs.declared.events.Code.TheVariants.{Ok};
+ghost use Rattle.abt_machine.specs.Acts.{Coded};
+ghost use Rattle.abt_machine.specs.Plans.{to_caller, to_condition, to_giver};
+
+use crate::acts::{Act, Answer};
+use crate::plans::Giving;
+use crate::unit::Unit;
+use abt_machine::{Code, Want};
+use std::collections::VecDeque;
+
+// How the call of a unit went.
+fn coded(unit: &mut Unit, code: Code) -> Result<(), Want>
+    requires position { unit.old.carried.position < 2 ^ 32 - 1 }
+    ensures { IfOk result (λ _. Some unit.new ≡ (to_caller unit.old (Coded code)).hand) }
+{
+    match code {
+        Code::Ok => {
+            unit.advance();
+            Ok(())
+        }
+        _ => unit.refuse(code),
+    }
+}
+
+/// What an answer brings to a unit that stayed in the hand, and how its call went.
+pub(crate) fn hear(unit: &mut Unit, tray: &mut VecDeque<Unit>, answer: Answer) -> Result<Code, Want>
+    requires position { unit.old.carried.position < 2 ^ 32 - 1 }
+    requires answer { IsForCaller (answer_of answer) }
+    ensures hand { IfOk result (λ _. Some unit.new ≡ (to_caller unit.old (answer_of answer)).hand) }
+    ensures tray { IfOk result (λ _. tray.new.items ≡ tray.old.items ++ (to_caller unit.old (answer_of answer)).wakes) }
+    ensures next { (to_caller unit.old (answer_of answer)).next ≡ None }
+    ensures code { IfOk result (λ code. code ≡ (to_caller unit.old (answer_of answer)).code) }
+{
+    match answer {
+        Answer::Given(woken) => {
+            unit.advance();
+            tray.push_back(woken)?;
+            Ok(Code::Ok)
+        }
+        Answer::Woke(mut woken) => {
+            unit.advance();
+            tray.append(&mut woken)?;
+            Ok(Code::Ok)
+        }
+        Answer::Rested => {
+            unit.advance();
+            Ok(Code::Ok)
+        }
+        Answer::Number(n) => {
+            unit.advance();
+            unit.receive(n);
+            Ok(Code::Ok)
+        }
+        Answer::Code(code) => {
+            coded(unit, code)?;
+            Ok(code)
+        }
+        _ => unreachable!(),
+    }
+}
+
+/// The act that takes the unit with it.
+pub(crate) fn give(giving: Giving, unit: Unit) -> Act
+    ensures { act_of result ≡ given giving unit }
+{
+    match giving {
+        Giving::Suspend => Act::Suspend(unit),
+        Giving::Join => Act::Join(unit),
+        Giving::Lock => Act::Lock(unit),
+        Giving::Await => Act::Await(unit),
+        Giving::Arrive => Act::Arrive(unit),
+    }
+}
+
+/// What an answer brings to a stream whose unit went with the act: if the unit comes back it is in the hand again, and
+/// those that it let go are in the tray.
+pub(crate) fn returned(tray: &mut VecDeque<Unit>, answer: Answer) -> Result<Option<Unit>, Want>
+    requires answer { IsForGiver (answer_of answer) }
+    ensures hand { IfOk result (λ hand. hand ≡ (to_giver (answer_of answer)).hand) }
+    ensures next { (to_giver (answer_of answer)).next ≡ None }
+    ensures tray { IfOk result (λ _. tray.new.items ≡ tray.old.items ++ (to_giver (answer_of answer)).wakes) }
+    ensures code { (to_giver (answer_of answer)).code ≡ Ok }
+{
+    match answer {
+        Answer::Given(unit) => Ok(Some(unit)),
+        Answer::Through(unit, mut others) => {
+            tray.append(&mut others)?;
+            Ok(Some(unit))
+        }
+        Answer::Rested => Ok(None),
+        _ => unreachable!(),
+    }
+}
+
+/// What an answer brings to a stream whose unit went to a condition: a unit that comes out is woken, and one that is refused
+/// goes on.
+pub(crate) fn refused(
+    tray: &mut VecDeque<Unit>,
+    answer: Answer,
+) -> Result<(Option<Unit>, Code), Want>
+    requires answer { IsForWaiter (answer_of answer) }
+    ensures hand { IfOk result (λ r. r.0 ≡ (to_condition (answer_of answer)).hand) }
+    ensures next { (to_condition (answer_of answer)).next ≡ None }
+    ensures tray { IfOk result (λ _. tray.new.items ≡ tray.old.items ++ (to_condition (answer_of answer)).wakes) }
+    ensures code { IfOk result (λ r. r.1 ≡ (to_condition (answer_of answer)).code) }
+{
+    match answer {
+        Answer::Given(unit) => {
+            tray.push_back(unit)?;
+            Ok((None, Code::Ok))
+        }
+        Answer::Rested => Ok((None, Code::Ok)),
+        Answer::Back(mut unit, code) => {
+            unit.note(code)?;
+            Ok((Some(unit), code))
+        }
+        _ => unreachable!(),
+    }
+}

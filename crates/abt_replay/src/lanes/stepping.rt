@@ -1,0 +1,183 @@
+//! Steps of the unit in hand.
+
+ghost use Rattle.std.specs.Prelude.{◌≡◌, ◌<◌, ◌-◌, ◌^◌, IfOk, IsSome, None, Some, [], ◌∷◌, length};
+ghost use Rattle.abt_calls.specs.Allowed.{Allows};
+ghost use Rattle.abt_replay.specs.Acts.{act_of};
+ghost use Rattle.abt_replay.specs.Events.{Alone, AreObjects, Asked, Operated, OwnStep};
+ghost use Rattle.abt_replay.specs.Objects.{object_at};
+ghost use Rattle.abt_replay.specs.Shapes.{IsAsked, given};
+ghost use Rattle.abt_machine.specs.declared.events.Code.TheVariants as code;
+ghost use Rattle.abt_machine.specs.Acts as asked;
+ghost use Rattle.abt_machine.specs.Acts.{moved};
+ghost use Rattle.abt_machine.specs.Plans.{empties, refusal, to_caller, to_condition, to_giver, to_yielder};
+ghost use Rattle.abt_machine.specs.Valid.{IsValid};
+ghost use Rattle.abt_machine.specs.Workloads.{op_at};
+ghost use Rattle.abt_unit.specs.Local.{after_local};
+
+use super::Lane;
+use crate::acts::{Act, Answer};
+use crate::hearing;
+use crate::objects::Objects;
+use crate::plans::{Giving, Plan, planned};
+use crate::unit::Unit;
+use abt_machine::{Code, Op, Site, StreamNo, UnitNo, Want, Workload};
+
+impl Lane {
+    /// An operation of the unit in hand.
+    #[tactic(auto, using(crate::proofs::Operating::operations))]
+    pub(super) fn step(
+        &mut self,
+        objects: &mut Objects,
+        w: &Workload,
+        s: StreamNo,
+        op: Op,
+        unit: Unit,
+    ) -> Result<Code, Want>
+        requires valid { IsValid w.now }
+        requires stream { s.0 < w.now.streams }
+        requires number { unit.number < length w.now.units }
+        requires at { op_at w.now unit.number unit.carried.position ≡ Some op }
+        requires objects { AreObjects w.now objects.old }
+        requires hand { self.old.hand ≡ None }
+        requires next { self.old.next ≡ None }
+        ensures { IfOk result (λ c. Operated w.now s.0 op unit self.old objects.old c self.new objects.new) }
+    {
+        match planned(w, s, op, &unit) {
+            Plan::Own => self.own(op, unit),
+            Plan::Yield => self.yields(unit),
+            Plan::Deny => self.deny(unit),
+            Plan::Ask(site, act) => self.ask(objects, site, act, unit),
+            Plan::Give(site, giving) => self.give(objects, site, giving, unit),
+            Plan::Wait(site, condition) => self.wait(objects, site, condition, unit),
+            Plan::YieldTo(site, v) => self.yield_to(objects, site, v, unit),
+        }
+    }
+
+    // A local operation.
+    fn own(&mut self, op: Op, mut unit: Unit) -> Result<Code, Want>
+        requires local { IsSome (after_local op unit.carried) }
+        requires position { unit.carried.position < 2 ^ 32 - 1 }
+        requires next { self.old.next ≡ None }
+        ensures { IfOk result (λ c. OwnStep op unit self.old c self.new) }
+    {
+        unit.step(op)?;
+        self.hand = Some(unit);
+        Ok(Code::Ok)
+    }
+
+    // The unit yields.
+    fn yields(&mut self, mut unit: Unit) -> Result<Code, Want>
+        requires position { unit.carried.position < 2 ^ 32 - 1 }
+        requires hand { self.old.hand ≡ None }
+        requires next { self.old.next ≡ None }
+        ensures { IfOk result (λ c. Alone (empties (moved unit ∷ [])) self.old c self.new) }
+    {
+        unit.advance();
+        self.tray.push_back(unit)?;
+        Ok(Code::Ok)
+    }
+
+    // The unit names a pool that the stream may not reach.
+    fn deny(&mut self, mut unit: Unit) -> Result<Code, Want>
+        requires position { unit.carried.position < 2 ^ 32 - 1 }
+        requires next { self.old.next ≡ None }
+        ensures { IfOk result (λ c. Alone (refusal unit code.PoolAccess) self.old c self.new) }
+    {
+        unit.refuse(Code::PoolAccess)?;
+        self.hand = Some(unit);
+        Ok(Code::PoolAccess)
+    }
+
+    // A call by the unit, which stays in the hand.
+    #[tactic(auto, using(crate::proofs::Answered::for_caller))]
+    fn ask(
+        &mut self,
+        objects: &mut Objects,
+        site: Site,
+        act: Act,
+        mut unit: Unit,
+    ) -> Result<Code, Want>
+        requires asked { IsAsked (act_of act) }
+        requires allowed { Allows (object_at objects.old site) (act_of act) }
+        requires position { unit.carried.position < 2 ^ 32 - 1 }
+        requires next { self.old.next ≡ None }
+        ensures { IfOk result (λ c. Asked site (act_of act) (to_caller unit) self.old objects.old c self.new objects.new) }
+    {
+        let answer = objects.call(site, act)?;
+        let code = hearing::hear(&mut unit, &mut self.tray, answer)?;
+        self.hand = Some(unit);
+        Ok(code)
+    }
+
+    // A call that takes the unit with it.
+    #[tactic(auto, using(crate::proofs::Answered::for_giver))]
+    fn give(
+        &mut self,
+        objects: &mut Objects,
+        site: Site,
+        giving: Giving,
+        mut unit: Unit,
+    ) -> Result<Code, Want>
+        requires allowed { Allows (object_at objects.old site) (given giving (moved unit)) }
+        requires position { unit.carried.position < 2 ^ 32 - 1 }
+        requires next { self.old.next ≡ None }
+        ensures { IfOk result (λ c. Asked site (given giving (moved unit)) to_giver self.old objects.old c self.new objects.new) }
+    {
+        unit.advance();
+        let answer = objects.call(site, hearing::give(giving, unit))?;
+        self.hand = hearing::returned(&mut self.tray, answer)?;
+        Ok(Code::Ok)
+    }
+
+    // The unit waits at a condition.
+    #[tactic(auto, using(crate::proofs::Answered::for_waiter))]
+    fn wait(
+        &mut self,
+        objects: &mut Objects,
+        site: Site,
+        condition: u32,
+        mut unit: Unit,
+    ) -> Result<Code, Want>
+        requires allowed { Allows (object_at objects.old site) (asked.Wait condition (moved unit)) }
+        requires position { unit.carried.position < 2 ^ 32 - 1 }
+        requires next { self.old.next ≡ None }
+        ensures { IfOk result (λ c. Asked site (asked.Wait condition (moved unit)) to_condition self.old objects.old c self.new objects.new) }
+    {
+        unit.advance();
+        let answer = objects.call(site, Act::Wait(condition, unit))?;
+        let (hand, code) = hearing::refused(&mut self.tray, answer)?;
+        self.hand = hand;
+        Ok(code)
+    }
+
+    // The unit yields to another one of a pool.
+    #[tactic(auto, using(crate::proofs::Answered::for_yielder))]
+    fn yield_to(
+        &mut self,
+        objects: &mut Objects,
+        site: Site,
+        v: UnitNo,
+        mut unit: Unit,
+    ) -> Result<Code, Want>
+        requires allowed { Allows (object_at objects.old site) (asked.Remove v.0) }
+        requires position { unit.carried.position < 2 ^ 32 - 1 }
+        requires hand { self.old.hand ≡ None }
+        requires next { self.old.next ≡ None }
+        ensures { IfOk result (λ c. Asked site (asked.Remove v.0) (to_yielder unit) self.old objects.old c self.new objects.new) }
+    {
+        match objects.call(site, Act::Remove(v))? {
+            Answer::Given(other) => {
+                unit.advance();
+                self.tray.push_back(unit)?;
+                self.next = Some(other);
+                Ok(Code::Ok)
+            }
+            Answer::Code(code) => {
+                unit.refuse(code)?;
+                self.hand = Some(unit);
+                Ok(code)
+            }
+            _ => unreachable!(),
+        }
+    }
+}

@@ -1,0 +1,32 @@
+//! Units, objects and streams over plain lists: what a call of an object answers, and what an event makes of a stream.
+#![tactic(auto)]
+
+mod acts;
+mod barriers;
+mod desks;
+mod dues;
+mod eventuals;
+mod frames;
+mod hearing;
+mod lanes;
+mod marks;
+mod monitors;
+mod objects;
+mod plans;
+mod pools;
+mod rounds;
+#[cfg(test)]
+mod tests;
+mod unit;
+
+pub use acts::{Act, Answer, Asks};
+pub use barriers::Barrier;
+pub use desks::{Desk, Phase};
+pub use eventuals::{Eventual, Future};
+pub use frames::Frame;
+pub use lanes::Lane;
+pub use monitors::Monitor;
+pub use objects::{Kept, Objects, Slot};
+pub use pools::Pool;
+pub use rounds::{Next, pool_at};
+pub use unit::Unit;

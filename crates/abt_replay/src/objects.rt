@@ -1,0 +1,113 @@
+//! All objects of a workload, by their sites.
+
+ghost use Rattle.std.specs.Prelude.{◌≡◌, ◌<◌, false, IfOk, length};
+ghost use Rattle.abt_calls.specs.Allowed.{Allows};
+ghost use Rattle.abt_calls.specs.Suits.{Suits};
+ghost use Rattle.abt_replay.specs.Acts.{act_of, answer_of};
+ghost use Rattle.abt_machine.specs.Gives.{SiteGives};
+
+use crate::acts::{Act, Answer};
+use crate::barriers::Barrier;
+use crate::desks::Desk;
+use crate::eventuals::{Eventual, Future};
+use crate::monitors::Monitor;
+use crate::pools::Pool;
+use abt_machine::{Site, Want};
+use std::marker::Model;
+
+/// An object that the workload declares. A condition has none of its own: its waiters are with its mutex.
+#[derive(Drop)]
+pub enum Kept {
+    Monitor(Monitor),
+    Eventual(Eventual),
+    Future(Future),
+    Barrier(Barrier),
+    WithItsMutex,
+}
+
+/// A place for an object that the workload declares.
+#[derive(Drop)]
+pub struct Slot {
+    pub kept: Kept,
+}
+
+impl Model for Slot {
+    ghost use Rattle.abt_replay.specs.Slots.{object_in};
+    ghost use Rattle.abt_machine.specs.Values.{Object};
+
+    ghost Value = { Object };
+
+    ghost view = { λ s. object_in s.kept };
+}
+
+impl Slot {
+    fn answer(&mut self, act: Act) -> Result<Answer, Want>
+        requires { Allows self.old (act_of act) }
+        ensures { IfOk result (λ answer. SiteGives self.old (act_of act) (answer_of answer) self.new) }
+    {
+        match &mut self.kept {
+            Kept::Monitor(monitor) => monitor.answer(act),
+            Kept::Eventual(eventual) => eventual.answer(act),
+            Kept::Future(future) => future.answer(act),
+            Kept::Barrier(barrier) => barrier.answer(act),
+            Kept::WithItsMutex => unreachable!(),
+        }
+    }
+}
+
+/// The pools, the desks of all units, and the objects that the workload declares, each in order of number.
+#[derive(Drop)]
+pub struct Objects {
+    pools: Vec<Pool>,
+    desks: Vec<Desk>,
+    slots: Vec<Slot>,
+}
+
+impl Model for Objects {
+    ghost use Rattle.abt_replay.specs.Objects.{ObjectsValue};
+
+    ghost Value = { ObjectsValue };
+
+    ghost view = { λ o. record { pools = o.pools.items; desks = o.desks.items; slots = o.slots.items } };
+}
+
+impl Objects {
+    ghost use Rattle.abt_replay.specs.Objects.{Called, object_at};
+
+    /// The objects of these lists, each numbered by its place in its list.
+    pub fn new(pools: Vec<Pool>, desks: Vec<Desk>, slots: Vec<Slot>) -> Objects
+        ensures { result ≡ record { pools = pools.items; desks = desks.items; slots = slots.items } }
+    {
+        Objects {
+            pools,
+            desks,
+            slots,
+        }
+    }
+
+    /// The object at the site answers the act, and all others stay as they are. Out of memory is the only error.
+    #[tactic(auto, using(crate::proofs::Answered::called_suits))]
+    pub fn call(&mut self, site: Site, act: Act) -> Result<Answer, Want>
+        requires { Allows (object_at self.old site) (act_of act) }
+        ensures called { IfOk result (λ answer. Called self.old site (act_of act) (answer_of answer) self.new) }
+        ensures suits { IfOk result (λ answer. Suits (act_of act) (answer_of answer)) }
+    {
+        let answer = self.answered(site, act)?;
+        Ok(answer)
+    }
+
+    // The object at the site answers the act.
+    fn answered(&mut self, site: Site, act: Act) -> Result<Answer, Want>
+        requires { Allows (object_at self.old site) (act_of act) }
+        ensures { IfOk result (λ answer. Called self.old site (act_of act) (answer_of answer) self.new) }
+    {
+        match site {
+            Site::Pool(p) => self.pools[p.0 as usize].answer(act),
+            Site::Desk(u) => self.desks[u.0 as usize].answer(act),
+            Site::Monitor(x) => self.slots[x.0 as usize].answer(act),
+            Site::Eventual(x) => self.slots[x.0 as usize].answer(act),
+            Site::Future(x) => self.slots[x.0 as usize].answer(act),
+            Site::Barrier(x) => self.slots[x.0 as usize].answer(act),
+        }
+    }
+}
