@@ -1,0 +1,4 @@
+pub mod Complete
+pub mod Preparing
+pub mod Ranges
+pub mod Joining

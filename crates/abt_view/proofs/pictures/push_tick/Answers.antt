@@ -1,0 +1,6 @@
+use Rattle.abt_view.proofs.Joining.{three}
+use Rattle.abt_view.proofs.Preparing.{if-ok}
+use Rattle.abt_view.proofs.pictures.push_tick.Goals as goal
+
+pub returns : goal.returns
+returns c = if-ok c.push_around-3.result _ _ (λ _ last. three _ _ _ _ _ _ _ c.in_ok-push_around.ensures c.in_ok-push_around-2.ensures last) c.push_around-3.ensures

@@ -1,0 +1,10 @@
+use Rattle.abt_view.proofs.Preparing.{if-err, if-ok, stops-file}
+use Rattle.abt_view.proofs.program.prepare.Goals as goal
+
+pub returns-in-Some-clause-done : goal.returns-in-Some-clause-done
+returns-in-Some-clause-done g c =
+    if-ok c.prepare_view.result _ _ (λ text shown. record { view = c.in-Some.view; file = c.in-Some.file.now; asks = c.in-Some.ensures; shown = shown }) c.prepare_view.ensures.done
+
+pub returns-in-Some-clause-stop : goal.returns-in-Some-clause-stop
+returns-in-Some-clause-stop g c =
+    if-err c.prepare_view.result _ _ (λ s h. stops-file s _ c.in-Some.view c.in-Some.file.now _ _ c.in-Some.ensures h) c.prepare_view.ensures.stop

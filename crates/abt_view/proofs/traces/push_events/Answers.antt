@@ -1,0 +1,7 @@
+use Rattle.abt_view.specs.Trace.{event_text}
+use Rattle.abt_view.proofs.Ranges.{one-further}
+use Rattle.abt_view.proofs.traces.push_events.Goals as goal
+
+pub loop-event-preserved : goal.loop-event-preserved
+loop-event-preserved c =
+    one-further event_text c.args.out.now.items c.loop-event.out.items c.push_event.new.out.items c.args.journal.now c.loop-event.event-index _ c.loop-event-test.true c.loop-event.invariant c.in_ok-push_event.ensures

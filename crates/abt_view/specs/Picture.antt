@@ -1,0 +1,72 @@
+-- The picture of a journal, as an svg: streams are lanes of 40 pixels, and a stamp is 10 pixels wide.
+use Rattle.std.specs.Prelude.{ℕ, ◌+◌, ◌-◌, ◌*◌, ◌/◌, ◌%◌, ◌&&◌, nat_le, Bool, if◌then◌else◌, List, [], ◌++◌, codes, decimal, flat_map, length, max}
+use Rattle.std.specs.List.{range_with_len}
+use Rattle.abt_machine.specs.declared.events.Event.{Event}
+use Rattle.abt_machine.specs.Outcomes.{steps_in}
+use Rattle.abt_machine.specs.Texts.{journal_text}
+use Rattle.abt_machine.specs.Words.{Text}
+use Rattle.abt_view.specs.declared.pictures.TheConstants.{FOOT, LEGEND, STYLE, TOO_LONG}
+use Rattle.abt_view.specs.declared.stretches.Stretch.{Stretch}
+use Rattle.abt_view.specs.Kinds.{kind_word, last_stamp, refused_in}
+use Rattle.abt_view.specs.Stretches.{all_stretches, streams_in}
+
+-- a number between two texts
+abbrev pub around : Text → ℕ → Text → Text
+around before n after = before ++ (decimal n ++ after)
+
+-- The bar of a stretch, with its unit's number, its colour by the number's last digit, and the lines of its events.
+abbrev pub bar_place : Stretch → Text
+bar_place b = around (codes "<g class='u") (b.unit % 10) (codes "' transform='translate(") ++ (around [] b.since (codes "0 ") ++ around [] (40 * b.stream) (codes ")'>"))
+
+abbrev pub bar_shape : Stretch → Text
+bar_shape b = around (codes "<rect width='") (b.until - b.since) (codes "8' height='20' rx='2'/>") ++ around (codes "<text x='2' y='14'>") b.unit (codes "</text>")
+
+abbrev pub bar_title : Stretch → Text
+bar_title b = codes "<title>" ++ (journal_text b.events ++ codes "</title></g>\n")
+
+abbrev pub bar_text : Stretch → Text
+bar_text b = bar_place b ++ (bar_shape b ++ bar_title b)
+
+-- the mark of an event, a shape of its kind
+abbrev pub mark_text : Event → Text
+mark_text e = codes "<use href='#" ++ (kind_word e.what ++ (around (codes "' x='") e.stamp (codes "0' y='") ++ around [] (40 * e.stream.0) (codes "'/>\n")))
+
+-- the name of a stream before its lane
+abbrev pub lane_text : ℕ → Text
+lane_text s = around (codes "<text class='lane' x='-62' y='") (40 * s + 14) (codes "'>") ++ around (codes "stream ") s (codes "</text>\n")
+
+-- each tenth stamp on the axis
+abbrev pub tick_text : ℕ → Text
+tick_text t = around (codes "<use href='#tick' x='") t (codes "00'/>") ++ (around (codes "<text class='tick' x='") t (codes "00' y='-8'>") ++ around [] t (codes "0</text>\n"))
+
+-- the size in pixels
+abbrev pub size_text : ℕ → ℕ → Text
+size_text width height = around (codes "<svg xmlns='http://www.w3.org/2000/svg' width='") width (codes "' ") ++ (around (codes "height='") height (codes "' ") ++ (around (codes "viewBox='-70 -60 ") width (codes " ") ++ around [] height (codes "'>\n")))
+
+-- the line with counts
+abbrev pub counts_text : List Event → Text
+counts_text J = around (codes "<text class='counts' x='-62' y='-36'>events ") (length J) (codes ", steps ") ++ (around [] (steps_in J) (codes ", refused ") ++ (around [] (refused_in J) (codes ", streams ") ++ around [] (streams_in J) (codes "</text>\n")))
+
+-- what stands before the bars
+abbrev pub head_text : List Event → Text
+head_text J = size_text (max (10 * last_stamp J + 120) 560) (40 * streams_in J + 100) ++ (STYLE.now ++ counts_text J)
+
+-- the kinds of marks, below so many lanes
+abbrev pub legend_text : ℕ → Text
+legend_text streams = around (codes "<g transform='translate(-62 ") (40 * streams + 10) (codes ")'>") ++ LEGEND.now
+
+-- the axis, the names of the streams, and the kinds of marks
+abbrev pub axis_text : List Event → Text
+axis_text J = flat_map tick_text (range_with_len 1 (last_stamp J / 10)) ++ (flat_map lane_text (range_with_len 0 (streams_in J)) ++ legend_text (streams_in J))
+
+-- the picture
+abbrev pub picture_text : List Event → Text
+picture_text J = head_text J ++ (axis_text J ++ (flat_map bar_text (all_stretches J) ++ (flat_map mark_text J ++ FOOT.now)))
+
+-- a journal that is drawn: of at most 20,000 events, and with no stamp beyond
+abbrev pub is_small : List Event → Bool
+is_small J = nat_le (length J) 20000 && nat_le (last_stamp J) 20000
+
+-- the svg: the picture, or a line that says that it would be too long
+abbrev pub svg_text : List Event → Text
+svg_text J = if is_small J then picture_text J else TOO_LONG.now

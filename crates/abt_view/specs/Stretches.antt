@@ -1,0 +1,77 @@
+-- The stretches of a stream: each is a time for which one unit is in the stream's hand.
+use Rattle.std.specs.Prelude.{ℕ, ◌+◌, ◌==◌, min, Bool, false, if◌then◌else◌, List, [], ◌∷◌, ◌++◌, flat_map, fold, max, Option, Some, None, option_map}
+use Rattle.std.specs.List.{range_with_len}
+use Rattle.abt_machine.specs.declared.events.Event.{Event}
+use Rattle.abt_machine.specs.declared.events.What.{What}
+use Rattle.abt_machine.specs.declared.events.What.TheVariants as what
+use Rattle.abt_view.specs.declared.stretches.Cut.{Cut}
+use Rattle.abt_view.specs.declared.stretches.Stretch.{Stretch}
+use Rattle.abt_view.specs.declared.stretches.Turn.{Turn}
+use Rattle.abt_view.specs.declared.stretches.Turn.TheVariants.{Begins, GoesOn, Ends, Stays}
+
+-- whether that unit is in hand
+abbrev pub is_held : Option Stretch → ℕ → Bool
+is_held None u = false
+is_held (Some stretch) u = stretch.unit == u
+
+-- an event of unit u is one more of its stretch, and begins one where another unit or none was in hand
+abbrev pub goes_on_or_begins : Option Stretch → ℕ → Turn
+goes_on_or_begins held u = if is_held held u then GoesOn else Begins u
+
+-- the way home of unit u is the last event of its own stretch, and leaves that of another unit as it is
+abbrev pub goes_on_or_stays : Option Stretch → ℕ → Turn
+goes_on_or_stays held u = if is_held held u then GoesOn else Stays
+
+-- what an event of the stream is for the stretch so far: a take begins one, and at a miss and when a stacked scheduler
+-- leaves no unit is in hand
+abbrev pub turn_of : Option Stretch → What → Turn
+turn_of held (what.Miss p) = Ends
+turn_of held (what.Take p u) = Begins u.0
+turn_of held (what.Look u) = goes_on_or_begins held u.0
+turn_of held (what.Step u k c) = goes_on_or_begins held u.0
+turn_of held (what.Put u p) = goes_on_or_stays held u.0
+turn_of held (what.End u c) = goes_on_or_begins held u.0
+turn_of held (what.Enter u) = goes_on_or_begins held u.0
+turn_of held (what.Leave u) = Ends
+
+-- a stretch that begins with an event, and one with an event more
+abbrev pub begun : ℕ → Event → Stretch
+begun u e = record { stream = e.stream.0; unit = u; since = e.stamp; until = e.stamp; events = e ∷ [] }
+
+abbrev pub longer : Stretch → Event → Stretch
+longer stretch e = record stretch { until = e.stamp; events = stretch.events ++ e ∷ [] }
+
+-- the stretch so far is over
+abbrev pub closed_by : List Stretch → Option Stretch → Cut
+closed_by past None = record { past = past; held = None }
+closed_by past (Some stretch) = record { past = past ++ stretch ∷ []; held = None }
+
+abbrev pub closed : Cut → Cut
+closed cut = closed_by cut.past cut.held
+
+-- what an event makes of the stretches so far
+abbrev pub turned : Cut → Event → Turn → Cut
+turned cut e (Begins u) = record { past = (closed cut).past; held = Some (begun u e) }
+turned cut e GoesOn = record { past = cut.past; held = option_map (λ (stretch : Stretch). longer stretch e) cut.held }
+turned cut e Ends = closed cut
+turned cut e Stays = cut
+
+-- an event of stream s is judged, and that of another is none of its stretches
+abbrev pub advanced : ℕ → Cut → Event → Cut
+advanced s cut e = if e.stream.0 == s then turned cut e (turn_of cut.held e.what) else cut
+
+-- before the first event
+abbrev pub uncut : Cut
+uncut = record { past = []; held = None }
+
+-- the stretches of stream s in a journal
+abbrev pub stretches_of : List Event → ℕ → List Stretch
+stretches_of J s = (closed (fold (advanced s) uncut J)).past
+
+-- how many streams a picture shows: up to the greatest that has an event, and at most 8
+abbrev pub streams_in : List Event → ℕ
+streams_in J = min 8 (fold (λ n (e : Event). max n (e.stream.0 + 1)) 0 J)
+
+-- the stretches of all streams that it shows, in order of stream
+abbrev pub all_stretches : List Event → List Stretch
+all_stretches J = flat_map (stretches_of J) (range_with_len 0 (streams_in J))

@@ -1,0 +1,20 @@
+//! The picture of a journal: the stretches for which units are in a stream's hand, drawn as an svg or listed as a trace.
+#![tactic(auto)]
+
+mod kinds;
+mod pictures;
+mod program;
+mod status;
+mod stretches;
+#[cfg(test)]
+mod tests;
+mod texts;
+mod traces;
+mod views;
+
+pub use pictures::svg;
+pub use program::abtview;
+pub use status::Status;
+pub use stretches::{Stretch, all_stretches};
+pub use traces::trace;
+pub use views::{View, asked, view_text};

@@ -1,0 +1,283 @@
+//! The picture of a journal.
+
+ghost use Rattle.std.specs.Prelude.{◌≡◌, ◌*◌, ◌++◌, ◌<◌, ◌≤◌, IfOk, OnOk, flat_map};
+ghost use Rattle.std.specs.List.{range_with_len};
+ghost use Rattle.abt_view.specs.Kinds.{last_stamp};
+ghost use Rattle.abt_view.specs.Picture.{axis_text, bar_place, bar_shape, bar_text, bar_title, counts_text, head_text, lane_text, legend_text, mark_text, picture_text, size_text, svg_text, is_small, tick_text};
+ghost use Rattle.abt_view.specs.Stretches.{all_stretches as stretches_of_all, streams_in};
+
+use crate::kinds::{count_refused, count_steps, greatest_stamp, word};
+use crate::stretches::{Stretch, all_stretches, count_streams};
+use crate::texts::push_around;
+use abt_machine::{Event, Want};
+use abt_report::journal_text;
+use std::alloc::Global;
+
+// Colours of the bars, the shapes of the marks, and a white ground.
+const STYLE: &[u8] = b"<style>
+text{font:11px sans-serif}
+.lane,.tick{fill:#555}
+.counts{font-weight:bold}
+g>rect{stroke:#333;stroke-width:.5}
+.u0{fill:#9ecae1}.u1{fill:#fdae6b}.u2{fill:#a1d99b}.u3{fill:#fa9fb5}.u4{fill:#bcbddc}
+.u5{fill:#ffe066}.u6{fill:#80d8c3}.u7{fill:#d9b38c}.u8{fill:#c7e59a}.u9{fill:#d0d0d0}
+g>text{fill:#000}
+use{pointer-events:none}
+</style>
+<defs>
+<path id='tick' d='M0 -4V312' stroke='#eee'/>
+<path id='miss' d='M3 26h4' stroke='#bbb'/>
+<path id='look' d='M5 24v4' stroke='#bbb'/>
+<path id='take' d='M5 30v-8m-3 3l3 -3l3 3' fill='none' stroke='#333'/>
+<path id='put' d='M5 22v8m-3 -3l3 3l3 -3' fill='none' stroke='#333'/>
+<path id='step' d='M5 23v6' stroke='#333' stroke-width='2'/>
+<path id='refused' d='M1 22l8 8m0 -8l-8 8' stroke='#d00' stroke-width='2'/>
+<path id='done' d='M2 23h6v6h-6z' fill='#333'/>
+<path id='asked' d='M2 23h6v6h-6z' fill='none' stroke='#d00'/>
+<path id='access' d='M5 22l4 8h-8z' fill='none' stroke='#d00'/>
+<path id='enter' d='M9 -4h-5v38h5' fill='none' stroke='#06c' stroke-width='2'/>
+<path id='leave' d='M1 -4h5v38h-5' fill='none' stroke='#06c' stroke-width='2'/>
+</defs>
+<rect x='-70' y='-60' width='100%' height='100%' fill='#fff'/>
+";
+
+// The kinds of marks, in a row.
+const LEGEND: &[u8] = b"<use href='#take' y='-20'/><text x='12' y='10'>take</text>
+<use href='#look' x='42' y='-20'/><text x='54' y='10'>look</text>
+<use href='#step' x='84' y='-20'/><text x='96' y='10'>step</text>
+<use href='#refused' x='126' y='-20'/><text x='140' y='10'>refused</text>
+<use href='#put' x='188' y='-20'/><text x='200' y='10'>put</text>
+<use href='#miss' x='226' y='-20'/><text x='238' y='10'>miss</text>
+<use href='#done' x='270' y='-20'/><text x='283' y='10'>done</text>
+<use href='#asked' x='318' y='-20'/><text x='331' y='10'>asked</text>
+<use href='#access' x='370' y='-20'/><text x='383' y='10'>access</text>
+<path d='M434 -2h-5v14h5m104 0h5v-14h-5' fill='none' stroke='#06c' stroke-width='2'/><text x='440' y='10'>stacked scheduler</text>
+</g>
+";
+
+const FOOT: &[u8] = b"</svg>\n";
+
+// The picture of a line of text.
+const TOO_LONG: &[u8] =
+    b"<svg xmlns='http://www.w3.org/2000/svg' width='480' height='40'><text x='10' y='25'>a picture has at most 20,000 events: use abtview trace</text></svg>\n";
+
+// The top of a stream's lane.
+fn lane_top(stream: u32) -> u64
+    ensures { result ≡ 40 * stream }
+{
+    40 * u64::from(stream)
+}
+
+// Appends the place of a bar, and its colour.
+fn push_place(out: &mut Vec<u8>, bar: &Stretch) -> Result<(), Want>
+    ensures { OnOk result (out.new.items ≡ out.old.items ++ bar_place bar.now) }
+{
+    push_around(
+        out,
+        b"<g class='u",
+        u64::from(bar.unit % 10),
+        b"' transform='translate(",
+    )?;
+    push_around(out, b"", bar.since, b"0 ")?;
+    push_around(out, b"", lane_top(bar.stream), b")'>")
+}
+
+// Appends the bar itself, with its unit.
+fn push_shape(out: &mut Vec<u8>, bar: &Stretch) -> Result<(), Want>
+    ensures { OnOk result (out.new.items ≡ out.old.items ++ bar_shape bar.now) }
+{
+    let width = bar.until.saturating_sub(bar.since);
+    push_around(out, b"<rect width='", width, b"8' height='20' rx='2'/>")?;
+    push_around(out, b"<text x='2' y='14'>", u64::from(bar.unit), b"</text>")
+}
+
+// Appends what is shown over the bar.
+fn push_title(alloc: Global, out: &mut Vec<u8>, bar: &Stretch) -> Result<(), Want>
+    ensures { OnOk result (out.new.items ≡ out.old.items ++ bar_title bar.now) }
+{
+    let lines = journal_text(alloc, &bar.events)?;
+    out.extend_from_slice(b"<title>")?;
+    out.extend_from_slice(&lines)?;
+    out.extend_from_slice(b"</title></g>\n")?;
+    Ok(())
+}
+
+// Appends the bar of a stretch.
+fn push_bar(alloc: Global, out: &mut Vec<u8>, bar: &Stretch) -> Result<(), Want>
+    ensures { OnOk result (out.new.items ≡ out.old.items ++ bar_text bar.now) }
+{
+    push_place(out, bar)?;
+    push_shape(out, bar)?;
+    push_title(alloc, out, bar)
+}
+
+// Appends the mark of an event.
+fn push_mark(out: &mut Vec<u8>, event: &Event) -> Result<(), Want>
+    ensures { OnOk result (out.new.items ≡ out.old.items ++ mark_text event.now) }
+{
+    out.extend_from_slice(b"<use href='#")?;
+    out.extend_from_slice(word(event.what))?;
+    push_around(out, b"' x='", event.stamp, b"0' y='")?;
+    push_around(out, b"", lane_top(event.stream.0), b"'/>\n")
+}
+
+// Appends the name of a stream.
+fn push_lane(out: &mut Vec<u8>, s: u64) -> Result<(), Want>
+    requires { s < 8 }
+    ensures { OnOk result (out.new.items ≡ out.old.items ++ lane_text s) }
+{
+    push_around(out, b"<text class='lane' x='-62' y='", 40 * s + 14, b"'>")?;
+    push_around(out, b"stream ", s, b"</text>\n")
+}
+
+// Appends a tenth stamp.
+fn push_tick(out: &mut Vec<u8>, t: u64) -> Result<(), Want>
+    ensures { OnOk result (out.new.items ≡ out.old.items ++ tick_text t) }
+{
+    push_around(out, b"<use href='#tick' x='", t, b"00'/>")?;
+    push_around(out, b"<text class='tick' x='", t, b"00' y='-8'>")?;
+    push_around(out, b"", t, b"0</text>\n")
+}
+
+fn push_size(out: &mut Vec<u8>, width: u64, height: u64) -> Result<(), Want>
+    ensures { OnOk result (out.new.items ≡ out.old.items ++ size_text width height) }
+{
+    push_around(
+        out,
+        b"<svg xmlns='http://www.w3.org/2000/svg' width='",
+        width,
+        b"' ",
+    )?;
+    push_around(out, b"height='", height, b"' ")?;
+    push_around(out, b"viewBox='-70 -60 ", width, b" ")?;
+    push_around(out, b"", height, b"'>\n")
+}
+
+// Appends the line with counts.
+fn push_counts(out: &mut Vec<u8>, journal: &[Event]) -> Result<(), Want>
+    ensures { OnOk result (out.new.items ≡ out.old.items ++ counts_text journal.now) }
+{
+    push_around(
+        out,
+        b"<text class='counts' x='-62' y='-36'>events ",
+        journal.len() as u64,
+        b", steps ",
+    )?;
+    push_around(out, b"", count_steps(journal), b", refused ")?;
+    push_around(out, b"", count_refused(journal), b", streams ")?;
+    push_around(out, b"", count_streams(journal), b"</text>\n")
+}
+
+// Appends what stands before the bars.
+fn push_head(out: &mut Vec<u8>, journal: &[Event]) -> Result<(), Want>
+    requires { last_stamp journal.now ≤ 20000 }
+    ensures { OnOk result (out.new.items ≡ out.old.items ++ head_text journal.now) }
+{
+    let last = greatest_stamp(journal);
+    let streams = count_streams(journal);
+    push_size(out, (10 * last + 120).max(560), 40 * streams + 100)?;
+    out.extend_from_slice(STYLE)?;
+    push_counts(out, journal)?;
+    Ok(())
+}
+
+// Appends each tenth stamp up to ten times that many.
+fn push_ticks(out: &mut Vec<u8>, count: u64) -> Result<(), Want>
+    requires { count ≤ 2000 }
+    ensures { OnOk result (out.new.items ≡ out.old.items ++ flat_map tick_text (range_with_len 1 count)) }
+{
+    for t in 0..count {
+        push_tick(out, t + 1)?;
+    }
+    Ok(())
+}
+
+// Appends the names of so many streams.
+fn push_lanes(out: &mut Vec<u8>, count: u64) -> Result<(), Want>
+    requires { count ≤ 8 }
+    ensures { OnOk result (out.new.items ≡ out.old.items ++ flat_map lane_text (range_with_len 0 count)) }
+{
+    for s in 0..count {
+        push_lane(out, s)?;
+    }
+    Ok(())
+}
+
+// Appends the kinds of marks, below so many lanes.
+fn push_legend(out: &mut Vec<u8>, streams: u64) -> Result<(), Want>
+    requires { streams ≤ 8 }
+    ensures { OnOk result (out.new.items ≡ out.old.items ++ legend_text streams) }
+{
+    push_around(
+        out,
+        b"<g transform='translate(-62 ",
+        40 * streams + 10,
+        b")'>",
+    )?;
+    out.extend_from_slice(LEGEND)?;
+    Ok(())
+}
+
+// Appends the axis, the names of the streams and the kinds of marks.
+fn push_axis(out: &mut Vec<u8>, journal: &[Event]) -> Result<(), Want>
+    requires { last_stamp journal.now ≤ 20000 }
+    ensures { OnOk result (out.new.items ≡ out.old.items ++ axis_text journal.now) }
+{
+    let last = greatest_stamp(journal);
+    push_ticks(out, last / 10)?;
+    let streams = count_streams(journal);
+    push_lanes(out, streams)?;
+    push_legend(out, streams)
+}
+
+// Appends the bars of stretches.
+fn push_bars(alloc: Global, out: &mut Vec<u8>, bars: &[Stretch]) -> Result<(), Want>
+    ensures { OnOk result (out.new.items ≡ out.old.items ++ flat_map bar_text bars.now) }
+{
+    for bar in bars {
+        push_bar(alloc, out, bar)?;
+    }
+    Ok(())
+}
+
+// Appends the marks of events.
+fn push_marks(out: &mut Vec<u8>, journal: &[Event]) -> Result<(), Want>
+    ensures { OnOk result (out.new.items ≡ out.old.items ++ flat_map mark_text journal.now) }
+{
+    for event in journal {
+        push_mark(out, event)?;
+    }
+    Ok(())
+}
+
+// The picture of a journal whose stamps are small.
+fn picture(alloc: Global, journal: &[Event]) -> Result<Vec<u8>, Want>
+    requires { last_stamp journal.now ≤ 20000 }
+    ensures { IfOk result (λ text. text.items ≡ picture_text journal.now) }
+{
+    let bars = all_stretches(alloc, journal)?;
+    let mut out = Vec::new(alloc);
+    push_head(&mut out, journal)?;
+    push_axis(&mut out, journal)?;
+    push_bars(alloc, &mut out, &bars)?;
+    push_marks(&mut out, journal)?;
+    out.extend_from_slice(FOOT)?;
+    Ok(out)
+}
+
+// Whether a picture of the journal is drawn: it has at most 20,000 events, and no stamp beyond them.
+fn is_drawn(journal: &[Event]) -> bool
+    ensures { result ≡ is_small journal.now }
+{
+    journal.len() <= 20_000 && greatest_stamp(journal) <= 20_000
+}
+
+/// The picture of a journal; of a long one the picture of a line that says so.
+pub fn svg(alloc: Global, journal: &[Event]) -> Result<Vec<u8>, Want>
+    ensures { IfOk result (λ text. text.items ≡ svg_text journal.now) }
+{
+    if is_drawn(journal) {
+        return picture(alloc, journal);
+    }
+    Ok(Vec::from_slice(alloc, TOO_LONG)?)
+}

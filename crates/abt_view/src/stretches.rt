@@ -1,0 +1,228 @@
+//! The stretches of a stream.
+
+ghost use Rattle.std.specs.Prelude.{◌≡◌, ◌++◌, ◌∷◌, [], IfOk};
+ghost use Rattle.abt_view.specs.Stretches.{advanced, all_stretches as stretches_of_all, begun, closed, goes_on_or_begins as turn_by, goes_on_or_stays as stays_by, is_held as is_held_by, longer as longer_by, streams_in, stretches_of, turn_of as turn_at, turned};
+
+use abt_machine::{Event, Items, Journal, Want, What};
+use std::alloc::Global;
+
+/// A time for which one unit is in a stream's hand: its first and last stamp, and the events of the unit there.
+#[derive(Drop)]
+pub struct Stretch {
+    pub stream: u32,
+    pub unit: u32,
+    pub since: u64,
+    pub until: u64,
+    pub events: Journal,
+}
+
+// Stretches that are over, and the one that may go on.
+#[derive(Drop)]
+pub(crate) struct Cut {
+    past: Items<Stretch>,
+    held: Option<Stretch>,
+}
+
+// What an event is for the stretch so far.
+#[derive(Clone, Copy)]
+pub(crate) enum Turn {
+    Begins(u32),
+    GoesOn,
+    Ends,
+    Stays,
+}
+
+// Whether that unit is in hand.
+fn is_held(held: &Option<Stretch>, u: u32) -> bool
+    ensures { result ≡ is_held_by held.now u }
+{
+    match held {
+        Some(stretch) => stretch.unit == u,
+        None => false,
+    }
+}
+
+fn goes_on_or_begins(held: &Option<Stretch>, u: u32) -> Turn
+    ensures { result ≡ turn_by held.now u }
+{
+    if is_held(held, u) {
+        Turn::GoesOn
+    } else {
+        Turn::Begins(u)
+    }
+}
+
+fn goes_on_or_stays(held: &Option<Stretch>, u: u32) -> Turn
+    ensures { result ≡ stays_by held.now u }
+{
+    if is_held(held, u) {
+        Turn::GoesOn
+    } else {
+        Turn::Stays
+    }
+}
+
+fn turn_of(held: &Option<Stretch>, what: What) -> Turn
+    ensures { result ≡ turn_at held.now what }
+{
+    match what {
+        What::Miss(_) => Turn::Ends,
+        What::Take(_, u) => Turn::Begins(u.0),
+        What::Look(u) => goes_on_or_begins(held, u.0),
+        What::Step(u, _, _) => goes_on_or_begins(held, u.0),
+        What::Put(u, _) => goes_on_or_stays(held, u.0),
+        What::End(u, _) => goes_on_or_begins(held, u.0),
+        What::Enter(u) => goes_on_or_begins(held, u.0),
+        What::Leave(_) => Turn::Ends,
+    }
+}
+
+// The list with one item more.
+fn more<T: Drop>(items: Items<T>, item: T) -> Result<Items<T>, Want>
+    ensures { IfOk result (λ more. more ≡ items ++ item ∷ []) }
+{
+    let mut list = items.into_items();
+    list.push(item)?;
+    Ok(Items::new(list))
+}
+
+// A stretch that begins with an event.
+fn begin(alloc: Global, u: u32, event: Event) -> Result<Stretch, Want>
+    ensures { IfOk result (λ stretch. stretch ≡ begun u event) }
+{
+    let events = more(Items::new(Vec::new(alloc)), event)?;
+    Ok(Stretch {
+        stream: event.stream.0,
+        unit: u,
+        since: event.stamp,
+        until: event.stamp,
+        events,
+    })
+}
+
+// A stretch with an event more.
+fn longer(stretch: Stretch, event: Event) -> Result<Stretch, Want>
+    ensures { IfOk result (λ longer. longer ≡ longer_by stretch event) }
+{
+    let Stretch {
+        stream,
+        unit,
+        since,
+        until: _,
+        events,
+    } = stretch;
+    let events = more(events, event)?;
+    Ok(Stretch {
+        stream,
+        unit,
+        since,
+        until: event.stamp,
+        events,
+    })
+}
+
+// The stretch so far is over.
+fn close(cut: Cut) -> Result<Cut, Want>
+    ensures { IfOk result (λ new. new ≡ closed cut) }
+{
+    let Cut { past, held } = cut;
+    match held {
+        None => Ok(Cut { past, held: None }),
+        Some(stretch) => {
+            let past = more(past, stretch)?;
+            Ok(Cut { past, held: None })
+        }
+    }
+}
+
+// The stretch so far is over, and an event begins another.
+fn begin_another(alloc: Global, cut: Cut, u: u32, event: Event) -> Result<Cut, Want>
+    ensures { IfOk result (λ new. new ≡ turned cut event (Turn.Begins u)) }
+{
+    let Cut { past, held: _ } = close(cut)?;
+    let stretch = begin(alloc, u, event)?;
+    Ok(Cut {
+        past,
+        held: Some(stretch),
+    })
+}
+
+// The stretch so far goes on with an event.
+fn go_on(cut: Cut, event: Event) -> Result<Cut, Want>
+    ensures { IfOk result (λ new. new ≡ turned cut event Turn.GoesOn) }
+{
+    let Cut { past, held } = cut;
+    match held {
+        None => Ok(Cut { past, held: None }),
+        Some(stretch) => {
+            let stretch = longer(stretch, event)?;
+            Ok(Cut {
+                past,
+                held: Some(stretch),
+            })
+        }
+    }
+}
+
+// What an event makes of the stretches so far.
+fn take_turn(alloc: Global, cut: Cut, event: Event, turn: Turn) -> Result<Cut, Want>
+    ensures { IfOk result (λ new. new ≡ turned cut event turn) }
+{
+    match turn {
+        Turn::Begins(u) => begin_another(alloc, cut, u, event),
+        Turn::GoesOn => go_on(cut, event),
+        Turn::Ends => close(cut),
+        Turn::Stays => Ok(cut),
+    }
+}
+
+// What an event makes of the stretches of stream s.
+fn advance(alloc: Global, s: u64, cut: Cut, event: Event) -> Result<Cut, Want>
+    ensures { IfOk result (λ new. new ≡ advanced s cut event) }
+{
+    if u64::from(event.stream.0) == s {
+        let turn = turn_of(&cut.held, event.what);
+        take_turn(alloc, cut, event, turn)
+    } else {
+        Ok(cut)
+    }
+}
+
+// The stretches of stream s.
+fn stretches(alloc: Global, journal: &[Event], s: u64) -> Result<Items<Stretch>, Want>
+    ensures { IfOk result (λ stretches. stretches ≡ stretches_of journal.now s) }
+{
+    let mut cut = Cut {
+        past: Items::new(Vec::new(alloc)),
+        held: None,
+    };
+    for event in journal {
+        cut = advance(alloc, s, cut, *event)?;
+    }
+    let Cut { past, held: _ } = close(cut)?;
+    Ok(past)
+}
+
+/// How many streams a picture shows: up to the greatest that has an event, and at most 8.
+pub(crate) fn count_streams(journal: &[Event]) -> u64
+    ensures { result ≡ streams_in journal.now }
+{
+    let mut count = 0;
+    for event in journal {
+        count = count.max(u64::from(event.stream.0) + 1);
+    }
+    count.min(8)
+}
+
+/// The stretches of streams 0 to 7, in order of stream, and of each stream in order of time.
+pub fn all_stretches(alloc: Global, journal: &[Event]) -> Result<Vec<Stretch>, Want>
+    ensures { IfOk result (λ all. all.items ≡ stretches_of_all journal.now) }
+{
+    let mut all = Vec::new(alloc);
+    let streams = count_streams(journal);
+    for s in 0..streams {
+        let mut found = stretches(alloc, journal, s)?.into_items();
+        all.append(&mut found)?;
+    }
+    Ok(all)
+}

@@ -1,0 +1,208 @@
+//! The trace of a journal.
+
+ghost use Rattle.std.specs.Prelude.{◌≡◌, ◌++◌, IfOk, OnOk, flat_map};
+ghost use Rattle.std.specs.List.{range_with_len};
+ghost use Rattle.abt_view.specs.Trace.{event_text, instant_text, item_text, leave_text, moment_text, more_text, naming_text, slice_text, step_more, trace_text, track_text};
+
+use crate::kinds::word;
+use crate::stretches::{Stretch, all_stretches, count_streams};
+use crate::texts::push_around;
+use abt_machine::{Code, Event, Want, What};
+use std::alloc::Global;
+
+const TRACE_HEAD: &[u8] = b"{\"traceEvents\":[
+{\"ph\":\"M\",\"pid\":0,\"name\":\"process_name\",\"args\":{\"name\":\"abtrun\"}}";
+
+const TRACE_FOOT: &[u8] = b"\n]}\n";
+
+// Appends the name of a stream's track.
+fn push_track(out: &mut Vec<u8>, s: u64) -> Result<(), Want>
+    ensures { OnOk result (out.new.items ≡ out.old.items ++ track_text s) }
+{
+    push_around(
+        out,
+        b",\n{\"ph\":\"M\",\"pid\":0,\"tid\":",
+        s,
+        b",\"name\":\"thread_name\",\"args\":{\"name\":\"stream ",
+    )?;
+    push_around(out, b"", s, b"\"}}")
+}
+
+// Appends the names of so many tracks.
+fn push_tracks(out: &mut Vec<u8>, count: u64) -> Result<(), Want>
+    ensures { OnOk result (out.new.items ≡ out.old.items ++ flat_map track_text (range_with_len 0 count)) }
+{
+    for s in 0..count {
+        push_track(out, s)?;
+    }
+    Ok(())
+}
+
+// Appends the slice of a stretch.
+fn push_slice(out: &mut Vec<u8>, slice: &Stretch) -> Result<(), Want>
+    ensures { OnOk result (out.new.items ≡ out.old.items ++ slice_text slice.now) }
+{
+    let length = slice.until.saturating_sub(slice.since);
+    push_around(
+        out,
+        b",\n{\"ph\":\"X\",\"pid\":0,\"tid\":",
+        u64::from(slice.stream),
+        b",\"ts\":",
+    )?;
+    push_around(out, b"", slice.since, b".0,\"dur\":")?;
+    push_around(out, b"", length, b".8,\"name\":\"unit ")?;
+    push_around(out, b"", u64::from(slice.unit), b"\"}")
+}
+
+// Appends the slices of stretches.
+fn push_slices(out: &mut Vec<u8>, slices: &[Stretch]) -> Result<(), Want>
+    ensures { OnOk result (out.new.items ≡ out.old.items ++ flat_map slice_text slices.now) }
+{
+    for slice in slices {
+        push_slice(out, slice)?;
+    }
+    Ok(())
+}
+
+// Appends the beginning of an item of that phase on the event's track, that fraction of a microsecond after its stamp.
+fn push_item(out: &mut Vec<u8>, phase: &[u8], event: &Event, fraction: &[u8]) -> Result<(), Want>
+    ensures { OnOk result (out.new.items ≡ out.old.items ++ item_text phase.now event.now fraction.now) }
+{
+    out.extend_from_slice(b",\n{\"ph\":\"")?;
+    out.extend_from_slice(phase)?;
+    push_around(
+        out,
+        b"\",\"pid\":0,\"tid\":",
+        u64::from(event.stream.0),
+        b",\"ts\":",
+    )?;
+    push_around(out, b"", event.stamp, fraction)
+}
+
+// Appends the slice of an event.
+fn push_moment(out: &mut Vec<u8>, event: &Event) -> Result<(), Want>
+    ensures { OnOk result (out.new.items ≡ out.old.items ++ moment_text event.now) }
+{
+    push_item(out, b"X", event, b".1")?;
+    out.extend_from_slice(b",\"dur\":0.6,\"name\":\"")?;
+    out.extend_from_slice(word(event.what))?;
+    out.extend_from_slice(b"\"}")?;
+    Ok(())
+}
+
+// Appends an instant that stands out.
+fn push_instant(out: &mut Vec<u8>, event: &Event, u: u32) -> Result<(), Want>
+    ensures { OnOk result (out.new.items ≡ out.old.items ++ instant_text event.now u) }
+{
+    push_item(out, b"i", event, b".4")?;
+    out.extend_from_slice(b",\"s\":\"t\",\"name\":\"")?;
+    out.extend_from_slice(word(event.what))?;
+    push_around(out, b", unit ", u64::from(u), b"\"}")
+}
+
+// Appends an item that names a unit.
+fn push_naming(
+    out: &mut Vec<u8>,
+    phase: &[u8],
+    event: &Event,
+    fraction: &[u8],
+    before: &[u8],
+    u: u32,
+    after: &[u8],
+) -> Result<(), Want>
+    ensures { OnOk result (out.new.items ≡ out.old.items ++ naming_text phase.now event.now fraction.now before.now u after.now) }
+{
+    push_item(out, phase, event, fraction)?;
+    push_around(out, before, u64::from(u), after)
+}
+
+// Appends what a step has beside its slice.
+fn push_step(out: &mut Vec<u8>, event: &Event, u: u32, code: Code) -> Result<(), Want>
+    ensures { OnOk result (out.new.items ≡ out.old.items ++ step_more event.now u code) }
+{
+    match code {
+        Code::Ok => Ok(()),
+        _ => push_instant(out, event, u),
+    }
+}
+
+// Appends the end of a frame.
+fn push_leave(out: &mut Vec<u8>, event: &Event) -> Result<(), Want>
+    ensures { OnOk result (out.new.items ≡ out.old.items ++ leave_text event.now) }
+{
+    push_item(out, b"E", event, b".9")?;
+    out.extend_from_slice(b"}")?;
+    Ok(())
+}
+
+// Appends what an event has beside its slice.
+fn push_more(out: &mut Vec<u8>, event: &Event, what: What) -> Result<(), Want>
+    ensures { OnOk result (out.new.items ≡ out.old.items ++ more_text event.now what) }
+{
+    match what {
+        What::Miss(_) => Ok(()),
+        What::Take(_, u) => push_naming(
+            out,
+            b"f",
+            event,
+            b".4",
+            b",\"bp\":\"e\",\"cat\":\"pool\",\"name\":\"pool\",\"id\":",
+            u.0,
+            b"}",
+        ),
+        What::Look(_) => Ok(()),
+        What::Step(u, _, code) => push_step(out, event, u.0, code),
+        What::Put(u, _) => push_naming(
+            out,
+            b"s",
+            event,
+            b".4",
+            b",\"cat\":\"pool\",\"name\":\"pool\",\"id\":",
+            u.0,
+            b"}",
+        ),
+        What::End(u, _) => push_instant(out, event, u.0),
+        What::Enter(u) => push_naming(
+            out,
+            b"B",
+            event,
+            b".9",
+            b",\"name\":\"scheduler unit ",
+            u.0,
+            b"\"}",
+        ),
+        What::Leave(_) => push_leave(out, event),
+    }
+}
+
+// Appends all items of an event.
+fn push_event(out: &mut Vec<u8>, event: &Event) -> Result<(), Want>
+    ensures { OnOk result (out.new.items ≡ out.old.items ++ event_text event.now) }
+{
+    push_moment(out, event)?;
+    push_more(out, event, event.what)
+}
+
+// Appends the items of events.
+fn push_events(out: &mut Vec<u8>, journal: &[Event]) -> Result<(), Want>
+    ensures { OnOk result (out.new.items ≡ out.old.items ++ flat_map event_text journal.now) }
+{
+    for event in journal {
+        push_event(out, event)?;
+    }
+    Ok(())
+}
+
+/// The trace of a journal, as JSON in the trace event format.
+pub fn trace(alloc: Global, journal: &[Event]) -> Result<Vec<u8>, Want>
+    ensures { IfOk result (λ text. text.items ≡ trace_text journal.now) }
+{
+    let slices = all_stretches(alloc, journal)?;
+    let mut out = Vec::new(alloc);
+    out.extend_from_slice(TRACE_HEAD)?;
+    push_tracks(&mut out, count_streams(journal))?;
+    push_slices(&mut out, &slices)?;
+    push_events(&mut out, journal)?;
+    out.extend_from_slice(TRACE_FOOT)?;
+    Ok(out)
+}
