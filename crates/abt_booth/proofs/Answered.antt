@@ -1,14 +1,29 @@
--- What follows from a call that was answered: for callers.
-use Rattle.std.proofs.Common.{◌≡◌, ℕ, List, [], ◌∷◌, ◌++◌, cond, eq-eqb, refl, ap, ◌∙◌}
+-- What a call adds to what its seat had seen.
+use Rattle.std.proofs.Common.{◌≡◌, ℕ, List, [], ◌∷◌, ◌++◌, cond, eq-eqb, refl, sym, ap, ◌∙◌}
+use Rattle.std.proofs.lemmas.List.{append_assoc, append-nil}
 use Rattle.std.proofs.lemmas.List.Elements.{filter-append}
 use Rattle.std.specs.Prelude.{◌==◌}
 use Rattle.abt_booth.specs.declared.history.Entry.{Entry}
 use Rattle.abt_booth.specs.History.{calls_of}
-use Rattle.abt_booth.specs.Calls.{IsAnswered}
+use Rattle.abt_booth.specs.Calls.{IsAnswered, IsWorn, GrowsBy}
 
--- the seat's calls are those before it, and this one
-pub calls_answered : {O A R : Type 0} (does : O → A → R → O → Type 0) (opening : O) (number : ℕ) (before after : List (Entry A R)) (at : ℕ) (act : A) (stamp : ℕ) (answer : R)
-    → IsAnswered does opening number before after at act stamp answer → calls_of number after ≡ calls_of number before ++ record { seat = number; stamp = stamp; act = act; answer = answer } ∷ []
-calls_answered {O} {A} {R} does opening number before after at act stamp answer a =
-    let e : Entry A R = record { seat = number; stamp = stamp; act = act; answer = answer } in
-    ap (calls_of number) a.entered ∙ (filter-append (λ (x : Entry A R). x.seat == number) a.met (e ∷ []) ∙ ((λ i. a.extends.1 i ++ cond (eq-eqb number number refl i) (e ∷ []) [])))
+module _ {O A R : Type 0} (does : O → A → R → O → Type 0) (opening : O) (number : ℕ) (before after : List (Entry A R)) (at : ℕ) (act : A) where
+  -- the seat's calls are those before it, and this one
+  pub calls_answered : (stamp : ℕ) (answer : R) → IsAnswered does opening number before after at act stamp answer
+      → calls_of number after ≡ calls_of number before ++ record { seat = number; stamp = stamp; act = act; answer = answer } ∷ []
+  calls_answered stamp answer a =
+      let e : Entry A R = record { seat = number; stamp = stamp; act = act; answer = answer } in
+      ap (calls_of number) a.entered ∙ (filter-append (λ (x : Entry A R). x.seat == number) a.met (e ∷ []) ∙ ((λ i. a.extends.1 i ++ cond (eq-eqb number number refl i) (e ∷ []) [])))
+
+  -- an answered call adds itself
+  pub grows_answered : (stamp : ℕ) (answer : R) → IsAnswered does opening number before after at act stamp answer → GrowsBy number before after (record { seat = number; stamp = stamp; act = act; answer = answer } ∷ [])
+  grows_answered stamp answer a =
+      let e : Entry A R = record { seat = number; stamp = stamp; act = act; answer = answer } in
+      let p = a.extends.0 in record {
+        prefix = (p.0 ++ e ∷ [], sym (append_assoc before p.0 (e ∷ [])) ∙ (ap (λ (l : List (Entry A R)). l ++ e ∷ []) p.1 ∙ sym a.entered));
+        calls = calls_answered stamp answer a;
+      }
+
+  -- a call that found the clock worn adds nothing
+  pub grows_worn : (back : A) → IsWorn does opening number before after at act back → GrowsBy number before after []
+  grows_worn back w = record { prefix = w.extends.0; calls = w.extends.1 ∙ sym (append-nil (calls_of number before)) }

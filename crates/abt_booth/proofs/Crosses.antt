@@ -1,4 +1,4 @@
--- Where the object may go to another thread, so may a seat and a booth, and a booth may be shared.
+-- If the object may go to another thread, so may a seat and a booth, and a booth may be shared.
 use denote.RattleType.{RattleType}
 use denote.Param.Send.{IsSend, IsSync, sendable}
 use Rattle.std.proofs.alloc.Global.TheSendSync as heap

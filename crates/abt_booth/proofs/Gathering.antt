@@ -1,6 +1,7 @@
 -- A booth's table as its seats are gathered, and at its end.
 use Rattle.std.proofs.Common.{◌≡◌, ◌≢◌, ℕ, zero, suc, ◌<◌, ◌≤◌, ◌^◌, ◌⊎◌, inl, inr, ⊎_elim, true, false, List, [], ◌∷◌, ◌++◌, length, map, set, slice_index_or, refl, sym, ap, ◌∙◌, subst, arith, le_refl, true≢false, Some}
 use Rattle.std.proofs.lemmas.List.{append_assoc, map-append}
+use Rattle.std.proofs.lemmas.List.Quantifiers.{Any-push}
 use Rattle.std.proofs.lemmas.Bool.{false_from_ne_true}
 use mathlib.Core.Option.{Option as Maybe, some, some-injective}
 use lib.ListN.{get_elem?}
@@ -13,7 +14,7 @@ use Rattle.abt_booth.specs.declared.rule.View.{View}
 use Rattle.abt_booth.specs.declared.rule.Lot.{Lot}
 use Rattle.abt_booth.specs.Rule.{Slot, Has, Free, Held, Kept, gathered, spent, all_known}
 use Rattle.abt_booth.specs.Calls.{IsClosed}
-use Rattle.abt_booth.specs.Seats.{known_of, HasEachNumber}
+use Rattle.abt_booth.specs.Seats.{known_of, HasEachNumber, HasNumber}
 use Rattle.abt_booth.proofs.Places.{at_end, at_or, nowhere, same_place}
 
 -- a view that was taken in has no number
@@ -121,6 +122,19 @@ module _ {O A R : Type 0} (does : O → A → R → O → Type 0) (o : O) (n : �
       let has : Has v t.1.number x.1 = subst (λ (k : ℕ). Has v k x.1) mine.4 (has_known v one mine.0 x (at_index (all_known v) mine.0 x mine.2 (sym mine.3))) in
       let is = r.unique t.0 id t.1 v t.1.number t.1.seen x.1 t.4 at here has in
       absurd (true≢false (sym t.6 ∙ (ap (λ (y : View O A R). y.holds) (same_place s.views t.0 t.1 v t.4 (subst (λ (i : ℕ). get_elem? s.views i ≡ some v) (sym is) at)) ∙ hv)))) r.turn
+
+module _ {O A R : Type 0} (v : View O A R) where
+  -- a view's number is among those that it is known by
+  pub number_mine : HasNumber v.number (all_known v)
+  number_mine = Any-push (λ k. k.0 ≡ v.number) v.taken (v.number, v.seen) refl
+
+  -- so is that of a view which it gathered
+  pub number_gathered : (w : View O A R) → HasNumber w.number (all_known (gathered v w))
+  number_gathered w = (0, (w.number, w.seen), omega arith, refl, refl)
+
+  -- and each that it had
+  pub numbers_kept : (w : View O A R) (number : ℕ) → HasNumber number (all_known v) → HasNumber number (all_known (gathered v w))
+  numbers_kept w number h = let lt = h.2 in (suc h.0, h.1, omega arith, h.3, h.4)
 
 module _ {O A R : Type 0} {g : Ghosts O A R} where
   -- the last seat goes from the seats to the lists that are known

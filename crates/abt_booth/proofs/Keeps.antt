@@ -17,7 +17,8 @@ use Rattle.abt_booth.specs.declared.rule.Lot.{Lot}
 use Rattle.std.specs.List.{All}
 use Rattle.std.proofs.lemmas.List.Elements.{All-push}
 use Rattle.abt_booth.specs.History.{last_stamp, Extends, Rises, Leads}
-use Rattle.abt_booth.specs.Rule.{Slot, TableState, SeatState, Has, Fits, Free, Held, Kept, holding, resting, took, called, released, yielded}
+use Rattle.abt_booth.specs.Rule.{counting, Slot, TableState, SeatState, Has, Fits, Free, Held, Kept, holding, resting, took, called, released, yielded}
+use Rattle.abt_booth.proofs.Places.{index_at}
 use Rattle.abt_booth.proofs.Histories.{rises_more, last_more, extends_self, extends_more, leads_more}
 
 module _ {O A R : Type 0} where
@@ -41,7 +42,7 @@ module _ {O A R : Type 0} where
   unique_after vs me v w at same un j j' u u' k l l' e e' h h' = let b = before vs me v w at same j u k l e h in let b' = before vs me v w at same j' u' k l' e' h' in
       un j j' b.0 b'.0 k b.1 b'.1 b.2 b'.2 b.3 b'.3
 
-  -- a fact of each view, where one becomes w
+  -- a fact of each view, when one becomes w
   pub each_after : (F G : ℕ → View O A R → Type 0) (vs : List (View O A R)) (me : ℕ) (w : View O A R) → ((j : ℕ) (u : View O A R) → At vs j u → F j u) → G me w → ((j : ℕ) (u : View O A R) → j ≢ me → At vs j u → F j u → G j u)
       → (j : ℕ) (u : View O A R) → At (set vs me w) j u → G j u
   each_after F G vs me w all mine others j u e = ⊎_elim
@@ -69,18 +70,18 @@ module _ {O A R : Type 0} (does : O → A → R → O → Type 0) (o : O) (n : �
   Rule = Kept does o n
 
   abbrev word : TableState O A R → ℕ
-  word s = get_or s.words 0 0
+  word s = get_or s.words counting 0
 
   -- a step that changes nothing
-  unmoved : (s : TableState O A R) (id : ℕ) (v : View O A R) (x : ℕ) → x ≡ word s → get_elem? s.views id ≡ some v → Rule s → Rule record { words = set s.words 0 x; homes = s.homes; views = set s.views id v }
+  unmoved : (s : TableState O A R) (id : ℕ) (v : View O A R) (x : ℕ) → x ≡ word s → get_elem? s.views id ≡ some v → Rule s → Rule record { words = set s.words counting x; homes = s.homes; views = set s.views id v }
   unmoved s id v x e at r = subst (λ (z : List ℕ × List (View O A R)). Rule record { words = z.0; homes = s.homes; views = z.1 })
-      (λ i. (sym (ap (set s.words 0) e ∙ set-get_or s.words 0 0) i, sym (set_again s.views id v at) i)) r
+      (λ i. (sym (ap (set s.words counting) e ∙ set-get_or s.words counting 0) i, sym (set_again s.views id v at) i)) r
 
   own : (log : List (Entry A R)) (v : View O A R) → v.number < v.next → Fits o n log v → (v.opening ≡ Some o) × (v.number < n) × Extends v.number v.seen log
   own log v lt f = f v.number v.seen (inl (le_refl v.number, lt, refl))
 
   takes_free : (slots : ℕ) (s : TableState O A R) (r : Rule s) (id : ℕ) (me : SeatState O A R) (free : ℕ) → me.0.number < me.0.next → get_elem? s.views id ≡ some me.0 → word s ≡ free → Free does o r.log s
-      → (w : View O A R) × (a : Act (Slot O A R)) × Valid s.homes me.1 a × Rule (stepped s 0 (either (eqb (word s) free) (free + 1) (word s)) id me.1 w a) × took does (step slots 0 free (free + 1) none) me (word s) (w, carried_after me.1 a)
+      → (w : View O A R) × (a : Act (Slot O A R)) × Valid s.homes me.1 a × Rule (stepped s counting (either (eqb (word s) free) (free + 1) (word s)) id me.1 w a) × took does (step slots counting free (free + 1) none) me (word s) (w, carried_after me.1 a)
   takes_free slots s r id me free lt at hit t =
       let lot = t.0 in
       let words = t.1 in
@@ -88,7 +89,7 @@ module _ {O A R : Type 0} (does : O → A → R → O → Type 0) (o : O) (n : �
       let v = me.0 in
       let w = holding v r.log in
       let x : ℕ = word s in
-      let wd : x ≡ 2 * length r.log = ap (λ (ws : List ℕ). get_or ws 0 0) words in
+      let wd : x ≡ 2 * length r.log = (index_at s.words counting (2 * length r.log) 0 words).1 in
       let next : either (eqb x free) (free + 1) x ≡ 2 * length r.log + 1 = ap (λ b. either b (free + 1) x) (eq-eqb x free hit) ∙ ap (λ (z : ℕ). z + 1) (sym hit ∙ wd) in
       let f = own r.log v lt (r.fits id v at) in (
         w,
@@ -104,7 +105,7 @@ module _ {O A R : Type 0} (does : O → A → R → O → Type 0) (o : O) (n : �
           turn = inr (
             id,
             w,
-            (λ i. set (words i) 0 (next i)),
+            put_there s.words counting (2 * length r.log) _ words ∙ ap some next,
             ap (λ (hs : List (Maybe (Slot O A R))). set hs 0 none) homes,
             put_there s.views id v w at,
             lt,
@@ -118,13 +119,13 @@ module _ {O A R : Type 0} (does : O → A → R → O → Type 0) (o : O) (n : �
       )
 
   pub takes_turn : (slots id : ℕ) (me : SeatState O A R) (free : ℕ) → free % 2 ≡ 0 → me.0.number < me.0.next
-      → Allows Rule slots id me 0 (λ r. either (eqb r free) (free + 1) r) (took does (step slots 0 free (free + 1) none) me)
+      → Allows Rule slots id me counting (λ r. either (eqb r free) (free + 1) r) (took does (step slots counting free (free + 1) none) me)
   takes_turn slots id me free even lt s r sized at small = let x : ℕ = word s in dite (ℕ_discrete x free)
       (λ hit. ⊎_elim (λ (t : Free does o r.log s). takes_free slots s r id me free lt at hit t)
-      (λ (t : Held r.log s). let words = t.2 in let wd : x ≡ 2 * length r.log + 1 = ap (λ (ws : List ℕ). get_or ws 0 0) words in let odd : free ≡ 2 * length r.log + 1 = sym hit ∙ wd in absurd (omega arith)) r.turn)
+      (λ (t : Held r.log s). let words = t.2 in let wd : x ≡ 2 * length r.log + 1 = (index_at s.words counting (2 * length r.log + 1) 0 words).1 in let odd : free ≡ 2 * length r.log + 1 = sym hit ∙ wd in absurd (omega arith)) r.turn)
       (λ miss. (me.0, keeps, tt, unmoved s id me.0 (either (eqb x free) (free + 1) x) (ap (λ b. either b (free + 1) x) (ne_eqb x free miss)) at r, ((λ hit. absurd (miss hit)), λ _. refl)))
 
-  -- no view of a free table holds the turn, where the seat's view held it and holds it no more
+  -- no view of a free table holds the turn, if the seat's view held it and holds it no more
   let_go : (vs : List (View O A R)) (id holder : ℕ) (v w : View O A R) → get_elem? vs id ≡ some v → v.holds ≡ true → w.holds ≡ false
       → ((j : ℕ) (u : View O A R) → get_elem? vs j ≡ some u → u.holds ≡ true → j ≡ holder) → (j : ℕ) (u : View O A R) → get_elem? (set vs id w) j ≡ some u → u.holds ≡ false
   let_go vs id holder v w at hv hw only j u e = ⊎_elim
@@ -134,7 +135,7 @@ module _ {O A R : Type 0} (does : O → A → R → O → Type 0) (o : O) (n : �
   releases_held : (slots : ℕ) (s : TableState O A R) (r : Rule s) (id : ℕ) (v : View O A R) (m ob : O) (clock : ℕ) (x : Snapshot A × Snapshot R) (new : ℕ)
       → v.holds ≡ true → v.number < v.next → v.taken ≡ [] → Leads does o v.seen m → does m x.0.value x.1.value ob → last_stamp v.seen < clock → clock ≤ 2 ^ 62 → new ≡ 2 * length v.seen + 2 → get_elem? s.views id ≡ some v
       → Held r.log s
-      → let lot : Lot O A R = record { object = ob; clock = clock; last = Some x } in Rule (stepped s 0 new id ((0, Some lot) ∷ []) (resting v (v.seen ++ called v.number ((0, Some lot) ∷ []))) gives)
+      → let lot : Lot O A R = record { object = ob; clock = clock; last = Some x } in Rule (stepped s counting new id ((0, Some lot) ∷ []) (resting v (v.seen ++ called v.number ((0, Some lot) ∷ []))) gives)
   releases_held slots s r id v m ob clock x new hv lt tk leads done later cap is at t =
       let lot : Lot O A R = record { object = ob; clock = clock; last = Some x } in
       let e : Entry A R = record { seat = v.number; stamp = clock; act = x.0.value; answer = x.1.value } in
@@ -160,7 +161,7 @@ module _ {O A R : Type 0} (does : O → A → R → O → Type 0) (o : O) (n : �
         unique = unique_after s.views id v w at (narrows_seen v false more) r.unique;
         turn = inl (
           lot,
-          (λ i. set (t.2 i) 0 (size i)),
+          put_there s.words counting (2 * length r.log + 1) new t.2 ∙ ap some size,
           ap (λ (hs : List (Maybe (Slot O A R))). set hs 0 (some (Some lot))) t.3,
           leads_more does o v.seen m e ob leads done,
           sym (last_more 0 v.seen e),
@@ -170,7 +171,7 @@ module _ {O A R : Type 0} (does : O → A → R → O → Type 0) (o : O) (n : �
 
   pub releases : (slots id : ℕ) (v : View O A R) (m ob : O) (clock : ℕ) (x : Snapshot A × Snapshot R) (new : ℕ)
       → v.holds ≡ true → v.number < v.next → v.taken ≡ [] → Leads does o v.seen m → does m x.0.value x.1.value ob → last_stamp v.seen < clock → clock ≤ 2 ^ 62 → new ≡ 2 * length v.seen + 2
-      → let lot : Lot O A R = record { object = ob; clock = clock; last = Some x } in let me : SeatState O A R = (v, (0, Some lot) ∷ []) in Allows Rule slots id me 0 (λ _. new) (λ _. released (step slots 0 new 0 none) me new)
+      → let lot : Lot O A R = record { object = ob; clock = clock; last = Some x } in let me : SeatState O A R = (v, (0, Some lot) ∷ []) in Allows Rule slots id me counting (λ _. new) (λ _. released (step slots counting new 0 none) me new)
   releases slots id v m ob clock x new hv lt tk leads done later cap is s r sized at small =
       let lot : Lot O A R = record { object = ob; clock = clock; last = Some x } in (
         resting v (v.seen ++ called v.number ((0, Some lot) ∷ [])),
@@ -182,7 +183,7 @@ module _ {O A R : Type 0} (does : O → A → R → O → Type 0) (o : O) (n : �
 
   yields_held : (slots : ℕ) (s : TableState O A R) (r : Rule s) (id : ℕ) (v : View O A R) (lot : Lot O A R) (new : ℕ)
       → v.holds ≡ true → Leads does o v.seen lot.object → lot.clock ≡ last_stamp v.seen → new ≡ 2 * length v.seen → get_elem? s.views id ≡ some v
-      → Held r.log s → Rule (stepped s 0 new id ((0, Some lot) ∷ []) (resting v v.seen) gives)
+      → Held r.log s → Rule (stepped s counting new id ((0, Some lot) ∷ []) (resting v v.seen) gives)
   yields_held slots s r id v lot new hv leads clock is at t =
       let only = t.7 in
       let sl : v.seen ≡ r.log = (only id v at hv).1 in
@@ -196,7 +197,7 @@ module _ {O A R : Type 0} (does : O → A → R → O → Type 0) (o : O) (n : �
         unique = unique_after s.views id v w at (narrows_seen v false v.seen) r.unique;
         turn = inl (
           lot,
-          (λ i. set (t.2 i) 0 (is i)),
+          put_there s.words counting (2 * length r.log + 1) new t.2 ∙ ap some is,
           ap (λ (hs : List (Maybe (Slot O A R))). set hs 0 (some (Some lot))) t.3,
           leads,
           clock,
@@ -206,7 +207,7 @@ module _ {O A R : Type 0} (does : O → A → R → O → Type 0) (o : O) (n : �
 
   pub yields : (slots id : ℕ) (v : View O A R) (lot : Lot O A R) (new : ℕ)
       → v.holds ≡ true → Leads does o v.seen lot.object → lot.clock ≡ last_stamp v.seen → new ≡ 2 * length v.seen
-      → let me : SeatState O A R = (v, (0, Some lot) ∷ []) in Allows Rule slots id me 0 (λ _. new) (λ _. yielded (step slots 0 new 0 none) me new)
+      → let me : SeatState O A R = (v, (0, Some lot) ∷ []) in Allows Rule slots id me counting (λ _. new) (λ _. yielded (step slots counting new 0 none) me new)
   yields slots id v lot new hv leads clock is s r sized at small = (
     resting v v.seen,
     gives,

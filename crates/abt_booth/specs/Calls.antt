@@ -1,8 +1,14 @@
 -- What a call answered, and what a booth left when it was closed.
 use Rattle.std.specs.Prelude.{◌≡◌, ℕ, suc, ◌<◌, ◌≤◌, ◌^◌, List, [], ◌∷◌, ◌++◌, max}
 use Rattle.std.specs.List.{All}
+use mathlib.Core.List.{IsPrefix}
 use Rattle.abt_booth.specs.declared.history.Entry.{Entry}
-use Rattle.abt_booth.specs.History.{last_stamp, Extends, Legal}
+use Rattle.abt_booth.specs.History.{calls_of, last_stamp, Extends, Legal}
+
+-- What a seat had seen is a prefix of what it has seen, and to the calls of its number just these were added.
+pub record GrowsBy {A R : Type 0} (number : ℕ) (before after added : List (Entry A R)) : Type 0 where
+  pub prefix : IsPrefix before after
+  pub calls : calls_of number after ≡ calls_of number before ++ added
 
 -- for objects whose meaning is `does`, and the object that the booth was made round
 module _ {O A R : Type 0} (does : O → A → R → O → Type 0) (opening : O) where
@@ -25,7 +31,7 @@ module _ {O A R : Type 0} (does : O → A → R → O → Type 0) (opening : O) 
     pub worn : max at (last_stamp after) ≡ 2 ^ 62
 
   -- The booth was closed: one legal history leads to the object, its calls are those of the seats, and each seat,
-  -- known by its number and what it had seen, had seen a front of it with all its own calls.
+  -- known by its number and what it had seen, had seen a prefix of it with all its own calls.
   pub record IsClosed (seats : ℕ) (known : List (ℕ × List (Entry A R))) (object : O) (clock : ℕ) : Type 0 where
     pub history : List (Entry A R)
     pub legal : Legal does opening history object

@@ -9,12 +9,12 @@ module _ {A R : Type 0} where
   abbrev pub calls_of : ℕ → List (Entry A R) → List (Entry A R)
   calls_of number history = filter (λ e. e.seat == number) history
 
-  -- the last stamp, or the given one where there is none
+  -- the last stamp, or the given one if there is none
   abbrev pub last_from : ℕ → List (Entry A R) → ℕ
   last_from s [] = s
   last_from s (e ∷ es) = last_from e.stamp es
 
-  -- the last stamp, 0 where there is none
+  -- the last stamp, 0 if there is none
   abbrev pub last_stamp : List (Entry A R) → ℕ
   last_stamp history = last_from 0 history
 

@@ -1,4 +1,4 @@
--- The rule of a booth's table, and what each step tells.
+-- The rule of a booth's table, and what each step ensures.
 use Rattle.std.specs.Prelude.{◌≡◌, ℕ, suc, ◌+◌, ◌*◌, ◌<◌, ◌≤◌, ◌^◌, List, [], ◌∷◌, ◌++◌, length, true, false, ◌⊎◌, Some, None, Option}
 use mathlib.Core.Option as m
 use lib.ListN.{get_elem?}
@@ -29,7 +29,15 @@ abbrev pub entry_at : {A R : Type 0} → ℕ → ℕ → Option (Snapshot A × S
 entry_at n stamp (Some x) = record { seat = n; stamp = stamp; act = x.0.value; answer = x.1.value } ∷ []
 entry_at n stamp None = []
 
+-- the word that counts the calls: the words before and after it are never used, so that nothing else is in its cache line
+abbrev pub counting : ℕ
+counting = 15
+
 module _ {O A R : Type 0} where
+  -- the counting word is n
+  abbrev pub Counts : TableState O A R → ℕ → Type 0
+  Counts s n = get_elem? s.words counting ≡ m.some n
+
   -- it has the numbers from i to before n, and has seen nothing
   abbrev pub keeping : O → ℕ → ℕ → View O A R
   keeping o i n = record { opening = Some o; number = i; next = n; seen = []; holds = false; taken = [] }
@@ -50,18 +58,18 @@ module _ {O A R : Type 0} where
   abbrev pub IsOf : TableId → O → Raw (Slot O A R) (View O A R) → Type 0
   IsOf z o s = (s.table_id ≡ z) × (s.me.0.opening ≡ Some o)
 
-  -- the view knows the opening object, and each list that it has is a front of the log with all calls of its number
+  -- the view knows the opening object, and each list that it has is a prefix of the log with all calls of its number
   abbrev pub Fits : O → ℕ → List (Entry A R) → View O A R → Type 0
   Fits o n log v = (k : ℕ) (l : List (Entry A R)) → Has v k l → (v.opening ≡ Some o) × (k < n) × Extends k l log
 
   -- the turn is free: the word is twice the calls made, the slot has the object that the log leads to, and no view holds the turn
   abbrev pub Free : (O → A → R → O → Type 0) → O → List (Entry A R) → TableState O A R → Type 0
-  Free does o log s = (lot : Lot O A R) × (s.words ≡ (2 * length log) ∷ []) × (s.homes ≡ m.some (Some lot) ∷ []) × Leads does o log lot.object × (lot.clock ≡ last_stamp log)
+  Free does o log s = (lot : Lot O A R) × Counts s (2 * length log) × (s.homes ≡ m.some (Some lot) ∷ []) × Leads does o log lot.object × (lot.clock ≡ last_stamp log)
       × ((j : ℕ) (v : View O A R) → get_elem? s.views j ≡ m.some v → v.holds ≡ false)
 
   -- the turn is held: the word is one more, the slot is out, and one live view holds the turn, which has seen the log
   abbrev pub Held : List (Entry A R) → TableState O A R → Type 0
-  Held log s = (holder : ℕ) × (who : View O A R) × (s.words ≡ (2 * length log + 1) ∷ []) × (s.homes ≡ m.none ∷ []) × (get_elem? s.views holder ≡ m.some who) × (who.number < who.next) × (who.holds ≡ true)
+  Held log s = (holder : ℕ) × (who : View O A R) × Counts s (2 * length log + 1) × (s.homes ≡ m.none ∷ []) × (get_elem? s.views holder ≡ m.some who) × (who.number < who.next) × (who.holds ≡ true)
       × ((j : ℕ) (v : View O A R) → get_elem? s.views j ≡ m.some v → v.holds ≡ true → (j ≡ holder) × (v.seen ≡ log))
 
   -- The rule. The log is the one history: its stamps rise from above 0 to at most 2^62, each call is of a number below n, and no number is with two views.

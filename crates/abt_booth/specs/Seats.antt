@@ -1,5 +1,5 @@
 -- What callers see of a booth and its seats.
-use Rattle.std.specs.Prelude.{◌≡◌, ℕ, ◌<◌, List, [], length, map, slice_index_or}
+use Rattle.std.specs.Prelude.{◌≡◌, ℕ, ◌<◌, List, [], ◌∷◌, length, map, slice_index_or}
 use Rattle.std.specs.List.{All, Any}
 use Rattle.abt_booth.specs.declared.history.Entry.{Entry}
 use Rattle.abt_booth.specs.declared.object.Object.{Ghosts}
@@ -11,26 +11,35 @@ use Rattle.abt_booth.specs.declared.booth.Called.TheVariants as called
 use Rattle.abt_booth.specs.Rule.{IsOf, all_known}
 use Rattle.abt_booth.specs.Calls.{IsAnswered, IsWorn}
 
+-- the number is that of a seat in the list
+abbrev pub HasNumber : {A R : Type 0} → ℕ → List (ℕ × List (Entry A R)) → Type 0
+HasNumber number known = Any (λ k. k.0 ≡ number) known
+
 -- each number below n is that of a seat in the list
 abbrev pub HasEachNumber : {A R : Type 0} → ℕ → List (ℕ × List (Entry A R)) → Type 0
-HasEachNumber n known = (number : ℕ) → number < n → Any (λ k. k.0 ≡ number) known
+HasEachNumber n known = (number : ℕ) → number < n → HasNumber number known
 
 module _ {O A R : Type 0} where
   -- the object that the booth was made round
-  abbrev pub opening_of : Booth O A R → O
+  unfoldable pub opening_of : Booth O A R → O
   opening_of booth = booth.table.shared.key.object.value
 
   -- how many seats the booth was made with
-  abbrev pub seats_of : Booth O A R → ℕ
+  unfoldable pub seats_of : Booth O A R → ℕ
   seats_of booth = booth.table.shared.key.seats
+
+  -- the calls that a call adds to those of its seat: itself if it was answered, and none if the clock is worn
+  abbrev pub added_by : ℕ → A → Called O A R → List (Entry A R)
+  added_by number act (called.Done stamp answer) = record { seat = number; stamp = stamp; act = act; answer = answer } ∷ []
+  added_by number act (called.Worn back) = []
 
 module _ {O A R : Type 0} {g : Ghosts O A R} where
   -- the seat's number, by which its calls are known
-  abbrev pub number_of : Seat O A R g → ℕ
+  unfoldable pub number_of : Seat O A R g → ℕ
   number_of seat = seat.raw.me.0.number
 
   -- the calls that the seat has seen, in order of stamp
-  abbrev pub seen_of : Seat O A R g → List (Entry A R)
+  unfoldable pub seen_of : Seat O A R g → List (Entry A R)
   seen_of seat = seat.raw.me.0.seen
 
   -- the seat's number and the calls that it has seen
@@ -38,7 +47,7 @@ module _ {O A R : Type 0} {g : Ghosts O A R} where
   known_of seat = (number_of seat, seen_of seat)
 
   -- the seat was made with this booth
-  abbrev pub IsSeatOf : Booth O A R → Seat O A R g → Type 0
+  unfoldable pub IsSeatOf : Booth O A R → Seat O A R g → Type 0
   IsSeatOf booth seat = IsOf booth.table.shared.table_id (opening_of booth) seat.raw
 
   -- the seats are numbered from 0 in the order of the list
@@ -57,11 +66,11 @@ module _ {O A R : Type 0} {g : Ghosts O A R} where
   AreAllSeatsOf booth seats = All (IsSeatOf booth) seats × HasEachNumber (seats_of booth) (map known_of seats)
 
   -- the seats gathered so far, each by its number and the calls that it had seen
-  abbrev pub gathered_of : Gathered O A R g → List (ℕ × List (Entry A R))
+  unfoldable pub gathered_of : Gathered O A R g → List (ℕ × List (Entry A R))
   gathered_of gathered = all_known gathered.raw.me.0
 
   -- they were seats of this booth
-  abbrev pub AreGatheredOf : Booth O A R → Gathered O A R g → Type 0
+  unfoldable pub AreGatheredOf : Booth O A R → Gathered O A R g → Type 0
   AreGatheredOf booth gathered = IsOf booth.table.shared.table_id (opening_of booth) gathered.raw
 
   -- what a call answered, and what its seat has then seen

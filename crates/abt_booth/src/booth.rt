@@ -12,7 +12,7 @@ pub(crate) type Raw<O> = atomic_table::Seat<Kept<O>, Knows<O>>;
 #[derive(Drop)]
 pub struct Booth<O: Object> {
     pub(crate) table: Table<Kept<O>, Knows<O>, Opening<O>, Turns<O>, Global>,
-    ghost shape: { (table.shared.table_id.words ≡ 1) × (table.shared.table_id.slots ≡ 1) },
+    ghost shape: { (table.shared.table_id.words ≡ 31) × (table.shared.table_id.slots ≡ 1) },
     ghost seated: { 1 ≤ table.shared.key.seats },
 }
 
@@ -44,6 +44,6 @@ pub enum Called<O: Object> {
 pub struct Closed<O> {
     /// The object after all calls.
     pub object: O,
-    /// The last stamp, 0 where there was no call.
+    /// The last stamp, 0 if there was no call.
     pub clock: u64,
 }

@@ -1,13 +1,14 @@
 //! The call: waiting for the turn, running the object, and giving the turn back.
 ghost use Rattle.std.specs.Prelude.{length, ◌≡◌, ◌+◌, ◌*◌, ◌<◌, ◌≤◌, ◌^◌, [], ◌∷◌, ◌++◌, false, true, None, Some};
 ghost use Rattle.abt_booth.specs.History.{last_stamp, Extends, Rises, Leads};
+ghost use Rattle.abt_booth.specs.Calls.{GrowsBy};
 ghost use Rattle.abt_booth.specs.Rule.{Takes, IsOf, holding, resting};
-ghost use Rattle.abt_booth.specs.Seats.{opening_of, number_of, IsSeatOf, Replies};
+ghost use Rattle.abt_booth.specs.Seats.{opening_of, number_of, seen_of, IsSeatOf, Replies, added_by};
 
 use crate::booth::{Booth, Called, Raw, Seat};
 use crate::object::Object;
 use crate::plays::{Release, Take, Yield};
-use crate::rule::Lot;
+use crate::rule::{COUNTING, Lot};
 use std::hint::spin_loop;
 use std::snapshot::Snapshot;
 use std::sync::Wait;
@@ -30,6 +31,7 @@ impl<O: Object> Booth<O> {
         ensures seat { IsSeatOf self.now seat.new }
         ensures number { number_of seat.new ≡ number_of seat.old }
         ensures reply { Replies O.does self.now seat.old seat.new at act result }
+        ensures grows { GrowsBy (number_of seat.old) (seen_of seat.old) (seen_of seat.new) (added_by (number_of seat.old) act result) }
     {
         let (free, lot) = self.begin(rt, &mut seat.raw);
         let greater = at.max(lot.clock);
@@ -45,8 +47,8 @@ impl<O: Object> Booth<O> {
         } = lot;
         let asked = Snapshot::of(&act);
         let answer = object.run(act);
-        let told = Snapshot::of(&answer);
-        self.release(&mut seat.raw, free, object, stamp, asked, told);
+        let answered = Snapshot::of(&answer);
+        self.release(&mut seat.raw, free, object, stamp, asked, answered);
         Called::Done { stamp, answer }
     }
 
@@ -59,12 +61,12 @@ impl<O: Object> Booth<O> {
     {
         let mut pause = 1;
         for _ in rt.forever() {
-            let free = self.table.shared.peek(0);
+            let free = self.table.shared.peek(COUNTING);
             if free % 2 == 0
                 && self
                     .table
                     .shared
-                    .compare_exchange::<Take<O>>(seat, 0, free, free + 1)
+                    .compare_exchange::<Take<O>>(seat, COUNTING, free, free + 1)
                     == free
             {
                 return free;
@@ -119,7 +121,7 @@ impl<O: Object> Booth<O> {
         ensures view { seat.new.me ≡ (resting seat.old.me.0 seat.old.me.0.seen, []) }
     {
         self.put(seat, lot);
-        self.table.shared.store::<Yield>(seat, 0, free);
+        self.table.shared.store::<Yield>(seat, COUNTING, free);
     }
 
     // Gives the turn back after a call.
@@ -146,7 +148,7 @@ impl<O: Object> Booth<O> {
             last: Some((act, answer)),
         };
         self.put(seat, lot);
-        self.table.shared.store::<Release>(seat, 0, free + 2);
+        self.table.shared.store::<Release>(seat, COUNTING, free + 2);
     }
 }
 

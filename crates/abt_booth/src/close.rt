@@ -1,7 +1,7 @@
 //! Closing a booth, from its seats.
-ghost use Rattle.std.specs.Prelude.{◌≡◌, ◌∷◌, [], map};
+ghost use Rattle.std.specs.Prelude.{◌≡◌, ◌∷◌, ℕ, [], map};
 ghost use Rattle.abt_booth.specs.Calls.{IsClosed};
-ghost use Rattle.abt_booth.specs.Seats.{opening_of, seats_of, known_of, gathered_of, IsSeatOf, AreAllSeatsOf, AreGatheredOf, HasEachNumber};
+ghost use Rattle.abt_booth.specs.Seats.{opening_of, seats_of, known_of, number_of, gathered_of, IsSeatOf, AreAllSeatsOf, AreGatheredOf, HasEachNumber, HasNumber};
 
 use crate::booth::{Booth, Closed, Gathered, Seat};
 use crate::object::Object;
@@ -12,6 +12,7 @@ impl<O: Object> Seat<O> {
     /// The seat makes no more calls, and others of its booth can be gathered to it.
     pub fn retire(self) -> Gathered<O>
         ensures seats { gathered_of result ≡ known_of self ∷ [] }
+        ensures number { HasNumber (number_of self) (gathered_of result) }
         ensures booth { (booth : _) → IsSeatOf booth self → AreGatheredOf booth result }
     {
         let Seat { raw } = self;
@@ -42,6 +43,8 @@ impl<O: Object> Booth<O> {
         requires seat { IsSeatOf self.now seat }
         ensures booth { AreGatheredOf self.now gathered.new }
         ensures seats { gathered_of gathered.new ≡ known_of seat ∷ gathered_of gathered.old }
+        ensures number { HasNumber (number_of seat) (gathered_of gathered.new) }
+        ensures others { (number : ℕ) → HasNumber number (gathered_of gathered.old) → HasNumber number (gathered_of gathered.new) }
     {
         let Seat { raw } = seat;
         self.table

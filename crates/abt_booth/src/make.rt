@@ -1,22 +1,23 @@
 //! Making a booth and its seats.
 ghost use Rattle.std.specs.Prelude.{vec_len, vec_capacity, ◌≡◌, ◌≤◌, ◌∷◌, [], Some, IfOk, IfErr};
 ghost use Rattle.abt_booth.specs.Rule.{keeper};
-ghost use Rattle.abt_booth.specs.Seats.{opening_of, seats_of, AreNewSeatsOf};
+ghost use Rattle.abt_booth.specs.Seats.{opening_of, seats_of, AreAllSeatsOf, AreNewSeatsOf};
 
 use crate::booth::{Booth, Raw, Seat};
 use crate::object::Object;
 use crate::plays::Deal;
-use crate::rule::{Kept, Lot, Opening};
+use crate::rule::{Kept, Lot, Opening, WORDS};
 use atomic_table::{Refused, Table};
 use std::alloc::Global;
 use std::snapshot::Snapshot;
 
 impl<O: Object> Booth<O> {
-    /// A booth round the object, with seats numbered from 0. Err hands the object back: no memory was found.
+    /// A booth round the object, with seats numbered from 0. Err hands the object back: out of memory.
     pub fn make(alloc: Global, object: O, seats: u32) -> Result<(Booth<O>, Vec<Seat<O>>), O>
         requires { 1 ≤ seats }
         ensures booth { IfOk result (λ made. (opening_of made.0 ≡ object) × (seats_of made.0 ≡ seats)) }
         ensures seats { IfOk result (λ made. AreNewSeatsOf made.0 made.1.items) }
+        ensures all { IfOk result (λ made. AreAllSeatsOf made.0 made.1.items) }
         ensures refused { IfErr result (λ back. back ≡ object) }
     {
         let room = match Vec::with_capacity(alloc, seats as usize) {
@@ -48,7 +49,7 @@ impl<O: Object> Booth<O> {
             clock: 0,
             last: None,
         }));
-        match Table::new(alloc, &[0], slots, &opening) {
+        match Table::new(alloc, &[0; WORDS], slots, &opening) {
             Ok((table, first)) => Ok((Booth { table }, first)),
             Err(Refused { slots }) => Err(object_in(slots)),
         }

@@ -1,4 +1,4 @@
-//! What each step on the table tells.
+//! What each step on the table ensures.
 
 use crate::object::Object;
 use crate::rule::{Lot, View};

@@ -7,6 +7,12 @@ use std::collections::LinkedList;
 use std::marker::PhantomData;
 use std::snapshot::Snapshot;
 
+/// How many words the table has. Fifteen stand on each side of the one that counts, so that nothing else is in its two cache lines.
+pub(crate) const WORDS: usize = 31;
+
+/// The word that counts the calls.
+pub(crate) const COUNTING: usize = 15;
+
 /// What a seat knows. No value of it is made.
 /// The seat has the numbers from `number` to before `next`, and those in `taken`, each with the list that its
 /// seat had seen.
@@ -33,7 +39,7 @@ pub type Kept<O> = Option<Lot<O, <O as Object>::Act, <O as Object>::Answer>>;
 /// What a seat of a booth round this object knows.
 pub type Knows<O> = View<O, <O as Object>::Act, <O as Object>::Answer>;
 
-/// What a table is told when it is made.
+/// What a table is made with.
 #[derive(Drop)]
 pub struct Opening<O> {
     pub object: Snapshot<O>,

@@ -12,7 +12,7 @@ refused BadWords c holds nothing = refl
 refused CannotWrite c holds nothing = absurd (nothing holds.0 holds.1 holds.2)
 refused OutOfMemory c holds nothing = absurd (nothing holds.0 holds.1 holds.2)
 
--- a write failed only where the count of faults rose
+-- a write failed only if the count of faults rose
 unwritten : (status : Status) (c : Call) → Holds status c → (Rose c.faults.0 c.faults.1 → ⊥) → number_of status ≢ 6
 unwritten Written c holds quiet = λ e. cc
 unwritten BadWords c holds quiet = λ e. cc

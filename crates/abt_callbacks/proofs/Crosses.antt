@@ -1,4 +1,4 @@
--- Where the fold may go to another thread, so may a future that calls it.
+-- If the fold may go to another thread, so may a future that calls it.
 use denote.RattleType.{RattleType}
 use denote.Param.Send.{IsSend, sendable}
 use Rattle.std.proofs.Crossing.{Vec-send}

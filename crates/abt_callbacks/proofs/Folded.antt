@@ -79,7 +79,7 @@ small_sum : (n : ℕ) → n ≤ 4096 → plain_sum n % 2 ^ 64 ≡ plain_sum n
 small_sum n few = let m : n * (n + 1) ≤ 4096 * 4097 = mul-le-mul {n₂ = 4096} {m₂ = 4097} few (omega arith) in omega arith
 
 module _ (workers n : ℕ) (some : 0 < workers) (numbers : (1 ≤ n) × (n ≤ 4096)) where
-  -- what a closed booth round a future is left with, where each seat was to set its numbers
+  -- what a closed booth round a future is left with, if each seat was to set its numbers
   pub folded_whole : {O : Type 0} (see : O → Future) (opening object : O) (known : List (ℕ × List (Entry FutureAct FutureAnswer))) (clock : ℕ) → see opening ≡ empty Sum n
       → (closed : IsClosed (λ old act answer new. Does (see old) act answer (see new)) opening workers known object clock)
       → ((k : ℕ) → k < workers → HasAsked k (sets_of workers n k) closed.history) → IsFolded workers n (see object) clock

@@ -62,7 +62,7 @@ module _ (workers n : ℕ) (some : 0 < workers) where
   each_in : All (λ v. v % workers < workers) (range_with_len 1 n)
   each_in k d lt = omega arith
 
-  -- what f gives to the numbers of all workers
+  -- what f makes of the numbers of all workers
   pub shares : (f : ℕ → ℕ) → sum_below (λ k. sum_by f (numbers_of workers n k)) workers ≡ sum_by f (range_with_len 1 n)
   shares f = sym (sum_of_classes (λ v. v % workers) f workers (range_with_len 1 n) each_in)
 

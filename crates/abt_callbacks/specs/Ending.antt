@@ -1,7 +1,7 @@
 -- What a ring of keys answers when it ends.
 use Rattle.std.specs.Prelude.{◌≡◌, ℕ, Bool, true, List, [], ◌∷◌, Option, Some, None}
 
--- One answer for each key that is set, in order of key: the key's value, where its function answers the number that it is called
+-- One answer for each key that is set, in order of key: the key's value, if its function answers the number that it is called
 -- for. The keys are given by whether their functions do, and by their values.
 abbrev pub Answers : List Bool → List (Option ℕ) → List ℕ → Type 0
 Answers [] [] answers = answers ≡ []

@@ -23,7 +23,7 @@ abbrev pub last_or : ℕ → List ℕ → ℕ
 last_or n [] = n
 last_or n (x ∷ xs) = last_or x xs
 
--- what a fold of this shape answers of a list: v itself where any number will do
+-- what a fold of this shape answers of a list: v itself if any number will do
 abbrev pub folded : FoldShape → List ℕ → ℕ → ℕ
 folded Sum list v = sum list % 2 ^ 64
 folded Most list v = greatest list

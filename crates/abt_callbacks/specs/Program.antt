@@ -1,13 +1,13 @@
 -- What a call of the program was given, and what each status says of what it left.
 use Rattle.std.specs.Prelude.{◌≡◌, ◌≢◌, ◌⊎◌, ℕ, List, [], ◌∷◌, ◌++◌, Option, codes, decimal}
-use Rattle.abt_machine.specs.Commands.{SaysNumber}
+use Rattle.abt_machine.specs.Spelling.{SaysNumber}
 use Rattle.abt_machine.specs.Words.{Text, ended}
 use Rattle.abt_source.specs.Source.{Rose, Took, TookFront}
 use Rattle.abt_callbacks.specs.Runs.{plain_sum}
 use Rattle.abt_callbacks.specs.declared.status.Status.{Status}
 use Rattle.abt_callbacks.specs.declared.status.Status.TheVariants.{Written, BadWords, CannotWrite, OutOfMemory}
 
--- the words, and of the output the bytes taken, where they are told, and the count of faults, before and afterwards
+-- the words, and of the output the bytes taken, if they are observable, and the count of faults, before and afterwards
 pub record Call : Type 0 where
   pub words : List Text
   pub out : Option Text × Option Text
@@ -43,7 +43,7 @@ Holds BadWords c = AsksNothing c.words × Took c.out.0 c.out.1 []
 Holds CannotWrite c = (workers n : ℕ) × Asks c.words workers n × TookFront c.out.0 c.out.1 (sum_line n) × Rose c.faults.0 c.faults.1
 Holds OutOfMemory c = (workers n : ℕ) × Asks c.words workers n × Took c.out.0 c.out.1 []
 
--- The exit status has its cause. The words decide whether it is 2, and where no write fails it is 0, 2 or 7.
+-- The exit status has its cause. The words decide whether it is 2, and if no write fails it is 0, 2 or 7.
 pub record IsAnswered (status : ℕ) (c : Call) : Type 0 where
   pub cause : (of : Status) × (status ≡ number_of of) × Holds of c
   pub words : AsksNothing c.words → status ≡ 2

@@ -13,7 +13,7 @@ module _ {X : Type 0} {F : X → Type 0} {called : Mut ((x : X) × F x) (ℕ × 
   abbrev pub sames_of : KeyRing X F called → List Bool
   sames_of ring = same_of ring.ends.items
 
-  -- the value of each key, None where it is not set
+  -- the value of each key, None if it is not set
   abbrev pub values_of : KeyRing X F called → List (Option ℕ)
   values_of ring = ring.values.items
 

@@ -9,7 +9,7 @@ use abt_booth::Object;
 pub enum FutureAct {
     /// To set one more value.
     Set(u64),
-    /// To tell its answer.
+    /// To return its answer.
     Read,
     /// To take all values away.
     Reset,

@@ -5,7 +5,7 @@ ghost use Rattle.std.specs.Prelude.{◌≡◌, ◌<◌, ◌^◌, ℕ, true};
 /// A function of a number.
 pub type EndFunction = Box<dyn Fn(u64) -> u64 + Send + Sync>;
 
-/// The function of a key, stored beside what it answers: the number that it is called for, where `same` is true, or any number.
+/// The function of a key, stored beside what it answers: the number that it is called for if `same` is true, else any number.
 #[derive(Drop)]
 pub struct StoredEnd {
     pub same: bool,

@@ -1,7 +1,7 @@
 //! The top call of the program.
 
 ghost use Rattle.std.specs.Prelude.{◌≡◌, ◌≤◌, ℕ, IfOk, MatchOption, map, string_bytes};
-ghost use Rattle.abt_machine.specs.Commands.{SaysNumber};
+ghost use Rattle.abt_machine.specs.Spelling.{SaysNumber};
 ghost use Rattle.abt_callbacks.specs.declared.fold.FoldShape.TheVariants as shape;
 ghost use Rattle.abt_callbacks.specs.Program.{Asks, AsksNothing, Holds, IsAnswered, sum_line};
 
@@ -80,7 +80,7 @@ fn asked(words: &[String]) -> Option<(u32, u32)>
     Some((workers, n))
 }
 
-// The number that one or more ASCII digits write, where it is from 1 to `most`. `parse` alone would take a plus.
+// The number that one or more ASCII digits write, if it is from 1 to `most`. `parse` alone would take a plus.
 fn number(text: &str, most: u32) -> Option<u32>
     ensures { MatchOption result ((n : ℕ) → SaysNumber most text.now n → ⊥) (λ n. SaysNumber most text.now n) }
 {

@@ -43,7 +43,7 @@ impl<F: Fold> CalledFuture<F> {
         Ok(Some(answer))
     }
 
-    /// The kept answer, None where fewer values stand than the future is for.
+    /// The kept answer, None if fewer values stand than the future is for.
     pub fn value(&self) -> Option<u64>
         ensures kept { result ≡ (future_of F.shape self.now).answer }
         ensures vacant { (result ≡ None) ↔ (length (future_of F.shape self.now).values < (future_of F.shape self.now).most) }

@@ -22,7 +22,7 @@ pub record SeesWorn (M : Machine) {Lock : Type 0} (l : Lock) (s at : ℕ) (old n
 
 -- Of booths round objects that mean `does`.
 module _ (M : Machine) {O A R : Type 0} (does : O → A → R → O → Type 0) where
-  -- where the booth of the lock answered a call of stream s, made at the greater of the stream's clock and the clock carried
+  -- if the booth of the lock answered a call of stream s, made at the greater of the stream's clock and the clock carried
   -- to the lock, the deed with that stamp and that call is seen by the stream
   abbrev pub AnswersShow : Type 0 → Type 0
   AnswersShow Lock = (asks : A → M.Place × M.Act) (tells : R → M.Answer) (opening : O)
@@ -31,14 +31,14 @@ module _ (M : Machine) {O A R : Type 0} (does : O → A → R → O → Type 0) 
       IsAnswered does opening s before after at act stamp answer → d.stamp ≡ stamp → d.stream ≡ s →
       Sees M lock carried s old clock d (Some ((asks act).0, (asks act).1, tells answer)) new
 
-  -- where the clock was worn the stream may see more of the line, and the greater of `at` and its last stamp is 2^62
+  -- if the clock was worn, the stream may see more of the line, and the greater of `at` and its last stamp is 2^62
   abbrev pub WornShows : Type 0 → Type 0
   WornShows Lock = TellsLocks Lock → (asks : A → M.Place × M.Act) (tells : R → M.Answer) (opening : O)
       (l : Lock) (old new : Lock → List (CallOf M)) (s at : ℕ) (before after : List (Entry A R)) (act back : A) →
       ChangesAt M asks tells l old new before after → IsWorn does opening s before after at act back → SeesWorn M l s at old new
 
-  -- a closed booth round the one object behind a lock has left what its lock has left: where its acts are of that object and
-  -- mean what the machine's object gives, and each stream's seat was there with what it had seen
+  -- a closed booth round the one object behind a lock has left what its lock has left, if its acts are of that object and
+  -- mean what the machine's object means, and each stream's seat was there with what it had seen
   abbrev pub OneIsLeft : Type 0 → Type 0
   OneIsLeft Lock = TellsPlaces M → (lock : M.Place → Lock) (x : M.Place) → ((y : M.Place) → lock y ≡ lock x → y ≡ x) →
       (object_of : O → M.Object) (asks : A → M.Place × M.Act) (tells : R → M.Answer) →

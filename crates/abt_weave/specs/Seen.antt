@@ -4,7 +4,7 @@ use Rattle.abt_booth.specs.declared.history.Entry.{Entry}
 use Rattle.abt_interleave.specs.Machines.{Machine}
 use Rattle.abt_interleave.specs.Lines.{CallOf}
 
--- what a booth's acts and answers mean to the machine: an act asks the object at a place, and an answer tells
+-- what a booth's acts and answers mean to the machine: an act asks the object at a place, and an answer is
 module _ (M : Machine) {A R : Type 0} (asks : A → M.Place × M.Act) (tells : R → M.Answer) where
   -- a seat's number is its stream's
   abbrev pub call_seen : Entry A R → CallOf M

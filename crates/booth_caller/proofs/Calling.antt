@@ -29,7 +29,7 @@ no_more (x ∷ xs) ys e = let t : xs ++ ys ≡ xs = cc in no_more xs ys t
 
 -- A list in classes, of which each element has one.
 
--- the numbers that f gives to those below n, added up
+-- the numbers that f makes of those below n, added up
 abbrev pub sum_below : (ℕ → ℕ) → ℕ → ℕ
 sum_below f zero = 0
 sum_below f (suc n) = sum_below f n + f n
@@ -98,7 +98,7 @@ module _ {X : Type 0} (class_of : X → ℕ) where
       All-cons P x xs (All-head P x (in_class (class_of x) xs) here) (all_of_classes P n xs (All-tail C x xs below) rest)
 
 module _ {A R : Type 0} where
-  -- where a history has no call of a seat, that seat's calls follow
+  -- if a history has no call of a seat, that seat's calls follow
   follows_none : (k s : ℕ) (h : List (Entry A R)) → calls_of k h ≡ [] → Follows k s h
   follows_none k s [] none = tt
   follows_none k s (e ∷ es) none = dite (ℕ_discrete e.seat k)
@@ -121,7 +121,7 @@ module _ {A R : Type 0} where
       let same : calls_of k (seen ++ rest) ≡ calls_of k seen = ap (calls_of k) x.0.1 ∙ x.1 in
       subst (Follows k 0) x.0.1 (follows_append k 0 seen rest f (follows_none k (last_from 0 seen) rest (none_added k seen rest same)))
 
-  -- where stamps rise, the last is no less than the first
+  -- if stamps rise, the last is no less than the first
   last_above : (s : ℕ) (h : List (Entry A R)) → Rises s h → s ≤ last_from s h
   last_above s [] r = omega arith
   last_above s (x ∷ xs) r = let l = last_above x.stamp xs r.1 in let m = r.0 in omega arith
@@ -132,7 +132,7 @@ module _ {A R : Type 0} where
   last_grows s (x ∷ xs) ys r = last_grows x.stamp xs ys r.1
 
   -- what was seen of a history has no later stamp than the history
-  last_seen : (k : ℕ) (seen h : List (Entry A R)) → Extends k seen h → Rises 0 h → last_stamp seen ≤ last_stamp h
+  pub last_seen : (k : ℕ) (seen h : List (Entry A R)) → Extends k seen h → Rises 0 h → last_stamp seen ≤ last_stamp h
   last_seen k seen h x r = let P : List (Entry A R) → Type 0 = λ z. last_stamp seen ≤ last_stamp z in
       subst P x.0.1 (last_grows 0 seen x.0.0 (subst (Rises 0) (sym x.0.1) r))
 
@@ -141,7 +141,7 @@ module _ {A R : Type 0} where
   rises_front s [] e r = tt
   rises_front s (x ∷ xs) e r = (r.0, rises_front x.stamp xs e r.1)
 
-  -- where the calls of all seats follow, there are as many as the last stamp says
+  -- if the calls of all seats follow, there are as many as the last stamp says
   follow_all : (n s : ℕ) (h : List (Entry A R)) → All (λ e. e.seat < n) h → ((k : ℕ) → k < n → Follows k s h) → last_from s h ≡ s + length h
   follow_all n s [] below each = omega arith
   follow_all n s (e ∷ es) below each =
@@ -247,7 +247,7 @@ pub sum_by-one : {X : Type 0} (xs : List X) → sum_by (λ x. 1) xs ≡ length x
 sum_by-one [] = refl
 sum_by-one {X} (x ∷ xs) = let c = sum_by-cons (λ (y : X). 1) x xs in let rest = sum_by-one xs in omega arith
 
--- what f gives to elements that g makes
+-- what f makes of elements that g makes
 pub sum_by-of_map : {X Y : Type 0} (f : Y → ℕ) (g : X → Y) (xs : List X) → sum_by f (map g xs) ≡ sum_by (λ x. f (g x)) xs
 sum_by-of_map f g [] = refl
 sum_by-of_map {X} f g (x ∷ xs) =
@@ -276,18 +276,18 @@ module _ {A R : Type 0} (n : ℕ) (acts : ℕ → List A) (h : List (Entry A R))
   whole_or_worn = dite (ℕ_discrete (last_stamp h) (2 ^ 62)) inr
       (λ fresh. inl (λ k lt. ⊎_elim (λ e. e) (λ worn. absurd (fresh worn)) (asked k lt).whole))
 
-  -- all acts were asked, where there are fewer than stamps
+  -- all acts were asked, if there are fewer than stamps
   pub wholly_asked : sum_below (λ k. length (acts k)) n < 2 ^ 62 → (k : ℕ) → k < n → acts_of k h ≡ acts k
   wholly_asked few = ⊎_elim (λ all. all) (λ worn. absurd (let a = stamps_count in let b = calls_below in omega arith)) whole_or_worn
 
-  -- what f gives to the acts of all calls, where each seat asked its acts
+  -- what f makes of the acts of all calls, if each seat asked its acts
   pub weighed : (f : A → ℕ) → ((k : ℕ) → k < n → acts_of k h ≡ acts k) → sum_by (λ e. f e.act) h ≡ sum_below (λ k. sum_by f (acts k)) n
   weighed f all =
       sum_of_classes (λ (e : Entry A R). e.seat) (λ e. f e.act) n h of_seats
       ∙ same_sums (λ k. sum_by (λ (e : Entry A R). f e.act) (calls_of k h)) (λ k. sum_by f (acts k)) n
       (λ k lt. sym (sum_by-of_map f (λ (e : Entry A R). e.act) (calls_of k h)) ∙ ap (sum_by f) (all k lt))
 
-  -- the calls are as many as the acts, where each seat asked its acts
+  -- the calls are as many as the acts, if each seat asked its acts
   pub calls_count : ((k : ℕ) → k < n → acts_of k h ≡ acts k) → length h ≡ sum_below (λ k. length (acts k)) n
   calls_count all = sym (sum_by-one h) ∙ (weighed (λ a. 1) all ∙ same_sums (λ k. sum_by (λ a. 1) (acts k)) (λ k. length (acts k)) n (λ k lt. sum_by-one (acts k)))
 

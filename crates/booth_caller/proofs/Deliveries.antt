@@ -1,27 +1,30 @@
 -- A letter that goes from one seat to another.
-use Rattle.std.proofs.Common.{◌≡◌, ℕ, ◌<◌, List, [], ◌∷◌, ◌++◌, length, length-append, Box, None, Option, refl, sym, ap, ◌∙◌, subst, arith}
+use Rattle.std.proofs.Common.{◌≡◌, ℕ, suc, max, ◌<◌, ◌≤◌, ◌^◌, List, [], ◌∷◌, ◌++◌, length, length-append, Box, None, Option, refl, sym, ap, ◌∙◌, subst, arith}
 use Rattle.std.specs.declared.alloc.Global.{Global}
 use Rattle.std.specs.List.{All}
+use Rattle.std.proofs.lemmas.List.{append_assoc}
 use Rattle.std.proofs.lemmas.List.Elements.{All-head, All-tail}
-use Rattle.std.proofs.Math.Nat.{le-max_left}
+use Rattle.std.proofs.Math.Nat.{le-max_left, max-le, zero-max}
 use mathlib.Core.Logic.{dite}
 use native.Mathlib.Decide.{ℕ_discrete}
 use Rattle.abt_booth.specs.declared.history.Entry.{Entry}
 use Rattle.abt_booth.specs.declared.object.Object.{Ghosts}
 use Rattle.abt_booth.specs.declared.booth.Booth.{Booth}
 use Rattle.abt_booth.specs.declared.booth.Seat.{Seat}
-use Rattle.abt_booth.specs.Seats.{number_of, seen_of, HasEachNumber, AreInOrder, AreNewSeatsOf}
+use Rattle.abt_booth.specs.declared.booth.Called.{Called}
+use Rattle.abt_booth.specs.declared.booth.Called.TheVariants as called
+use Rattle.abt_booth.specs.Seats.{added_by, known_of, number_of, opening_of, seats_of, seen_of, HasNumber, HasEachNumber, AreInOrder, AreNewSeatsOf}
 use Rattle.abt_booth.specs.History.{calls_of, last_stamp, Rises, Extends, Leads}
-use Rattle.abt_booth.specs.Calls.{IsAnswered, IsClosed}
-use Rattle.abt_booth.proofs.Answered.{calls_answered}
+use Rattle.abt_booth.specs.Calls.{GrowsBy, IsAnswered, IsClosed}
 use Rattle.booth_caller.specs.declared.letters.Letter.{Letter}
 use Rattle.booth_caller.specs.declared.letters.Tray.{Tray}
 use Rattle.booth_caller.specs.declared.letters.Ask.{Ask}
 use Rattle.booth_caller.specs.declared.letters.Ask.TheVariants as ask
-use Rattle.booth_caller.specs.declared.letters.Told.{Told}
-use Rattle.booth_caller.specs.declared.letters.Told.TheVariants as told
+use Rattle.booth_caller.specs.declared.letters.Reply.{Reply}
+use Rattle.booth_caller.specs.declared.letters.Reply.TheVariants as reply
 use Rattle.booth_caller.specs.Trays.{Answers, Does}
-use Rattle.booth_caller.proofs.Calling.{class_mine, class_other}
+use Rattle.booth_caller.specs.Letters.{ArePassed, stamp_in}
+use Rattle.booth_caller.proofs.Calling.{class_mine, class_other, last_seen}
 
 module _ {A R : Type 0} where
   -- a call of the seat stands first among its calls
@@ -32,12 +35,33 @@ module _ {A R : Type 0} where
   first_other : (k : ℕ) (x : Entry A R) (xs : List (Entry A R)) → ¬ (x.seat ≡ k) → calls_of k (x ∷ xs) ≡ calls_of k xs
   first_other = class_other (λ x. x.seat)
 
-  -- where one of two seats has no call, all are the other's
+  -- if one of two seats has no call, all are the other's
   all_second : (xs : List (Entry A R)) → All (λ e. e.seat < 2) xs → calls_of 0 xs ≡ [] → calls_of 1 xs ≡ xs
   all_second [] two none = refl
   all_second (x ∷ xs) two none = let lt = All-head (λ (e : Entry A R). e.seat < 2) x xs two in dite (ℕ_discrete x.seat 0)
       (λ first. absurd (let e = sym (first_mine 0 x xs first) ∙ none in cc))
       (λ other. let one : x.seat ≡ 1 = omega arith in first_mine 1 x xs one ∙ ap (λ l. x ∷ l) (all_second xs (All-tail (λ (e : Entry A R). e.seat < 2) x xs two) (sym (first_other 0 x xs other) ∙ none)))
+
+  -- the same of the other seat
+  all_first : (xs : List (Entry A R)) → All (λ e. e.seat < 2) xs → calls_of 1 xs ≡ [] → calls_of 0 xs ≡ xs
+  all_first [] two none = refl
+  all_first (x ∷ xs) two none = let lt = All-head (λ (e : Entry A R). e.seat < 2) x xs two in dite (ℕ_discrete x.seat 1)
+      (λ second. absurd (let e = sym (first_mine 1 x xs second) ∙ none in cc))
+      (λ other. let zero : x.seat ≡ 0 = omega arith in first_mine 0 x xs zero ∙ ap (λ l. x ∷ l) (all_first xs (All-tail (λ (e : Entry A R). e.seat < 2) x xs two) (sym (first_other 1 x xs other) ∙ none)))
+
+  -- a prefix that has no call of the seat of the first call is empty
+  prefix_none : (x : Entry A R) (xs met rest : List (Entry A R)) → met ++ rest ≡ x ∷ xs → calls_of x.seat met ≡ [] → met ≡ []
+  prefix_none x xs [] rest e none = refl
+  prefix_none x xs (y ∷ ys) rest e none = let is : y ≡ x = cc in absurd (let f = sym (first_mine x.seat y ys (ap (λ (z : Entry A R). z.seat) is)) ∙ none in cc)
+
+  -- a seat's first call of a history, at 0, has the stamp 1 if it is the only one there
+  first_stamp : {O : Type 0} (does : O → A → R → O → Type 0) (opening : O) (number : ℕ) (seen h : List (Entry A R)) (act : A) (stamp : ℕ) (answer : R)
+      → IsAnswered does opening number [] seen 0 act stamp answer → Extends number seen h → h ≡ record { seat = number; stamp = stamp; act = act; answer = answer } ∷ [] → stamp ≡ 1
+  first_stamp does opening number seen h act stamp answer a x is =
+      let e : Entry A R = record { seat = number; stamp = stamp; act = act; answer = answer } in
+      let whole : a.met ++ (e ∷ x.0.0) ≡ e ∷ [] = sym (append_assoc a.met (e ∷ []) x.0.0) ∙ (ap (λ (l : List (Entry A R)). l ++ x.0.0) (sym a.entered) ∙ (x.0.1 ∙ is)) in
+      let none : a.met ≡ [] = prefix_none e [] a.met (e ∷ x.0.0) whole a.extends.1 in
+      a.stamped ∙ ap (λ (l : List (Entry A R)). suc (max 0 (last_stamp l))) none
 
   -- a seat's first call has a greater stamp than all before the history
   later : (k s : ℕ) (xs : List (Entry A R)) (a : Entry A R) → Rises s xs → calls_of k xs ≡ a ∷ [] → s < a.stamp
@@ -70,11 +94,10 @@ two_of seats xs (y ∷ ys) last first e f n =
     absurd (omega (arith, ap length e, ap length f, length-append xs (last ∷ []), length-append ys (first ∷ [])))
 
 -- each of two numbers is that of a seat
-pub each_of_two : {A R : Type 0} (known : List (ℕ × List (Entry A R))) (n m : ℕ) (l l' : List (Entry A R)) → known ≡ (n, l) ∷ (m, l') ∷ [] → n ≡ 0 → m ≡ 1 → HasEachNumber 2 known
-each_of_two {A} {R} known n m l l' e first second = subst (λ (k : List (ℕ × List (Entry A R))). HasEachNumber 2 k) (sym e)
-    (λ number lt. dite (ℕ_discrete number 0)
-    (λ is. (0, (n, l), omega arith, refl, first ∙ sym is))
-    (λ other. (1, (m, l'), omega arith, refl, omega arith)))
+each_of_two : {A R : Type 0} (known : List (ℕ × List (Entry A R))) (n m : ℕ) → HasNumber n known → HasNumber m known → n ≡ 0 → m ≡ 1 → HasEachNumber 2 known
+each_of_two known n m has has' first second number lt = dite (ℕ_discrete number 0)
+    (λ is. subst (λ (k : ℕ). HasNumber k known) (first ∙ sym is) has)
+    (λ other. let one : m ≡ number = omega arith in subst (λ (k : ℕ). HasNumber k known) one has')
 
 module _ {O A R : Type 0} {g : Ghosts O A R} where
   -- the numbers of two new seats, which have seen nothing
@@ -87,28 +110,107 @@ module _ {O A R : Type 0} {g : Ghosts O A R} where
       let fresh : All P (first ∷ last ∷ []) = subst (λ (l : List S). All P l) e new.fresh in
       (order 0 first (omega arith), order 1 first (omega arith), All-head P first (last ∷ []) fresh, All-head P last [] (All-tail P first (last ∷ []) fresh))
 
--- what the second seat took out is what the first put in
-pub delivered : (opening object : Tray) (seats n m n' m' at stamp stamp' clock : ℕ) (before after before' after' : List (Entry Ask Told)) (known : List (ℕ × List (Entry Ask Told))) (letter : Box Letter Global) (stored given : Told)
-    → opening.letter ≡ None → seats ≡ 2 → n ≡ 0 → m ≡ 1 → n' ≡ n → m' ≡ m → before ≡ [] → before' ≡ []
-    → IsAnswered Does opening n before after at (ask.Put letter) stamp stored
-    → IsAnswered Does opening m before' after' stamp ask.Take stamp' given
-    → known ≡ (n', after) ∷ (m', after') ∷ []
-    → IsClosed Does opening seats known object clock
-    → given ≡ told.Given letter
-delivered opening object seats n m n' m' at stamp stamp' clock before after before' after' known letter stored given empty two first second same same' fresh fresh' put take is closed =
-    let E : Type 0 = Entry Ask Told in
-    let h = closed.history in
-    let a : E = record { seat = n; stamp = stamp; act = ask.Put letter; answer = stored } in
-    let b : E = record { seat = m; stamp = stamp'; act = ask.Take; answer = given } in
-    let P : ℕ × List E → Type 0 = λ k. Extends k.0 k.1 h in
-    let seen : All P ((n', after) ∷ (m', after') ∷ []) = subst (λ (l : List (ℕ × List E)). All P l) is closed.seen in
-    let mine = subst (λ (k : ℕ). calls_of k h ≡ calls_of k after) same (All-head P (n', after) ((m', after') ∷ []) seen).1 in
-    let theirs = subst (λ (k : ℕ). calls_of k h ≡ calls_of k after') same' (All-head P (m', after') [] (All-tail P (n', after) ((m', after') ∷ []) seen)).1 in
-    let a_is : calls_of n h ≡ a ∷ [] = mine ∙ (calls_answered Does opening n before after at (ask.Put letter) stamp stored put ∙ ap (λ (l : List E). calls_of n l ++ a ∷ []) fresh) in
-    let b_is : calls_of m h ≡ b ∷ [] = theirs ∙ (calls_answered Does opening m before' after' stamp ask.Take stamp' given take ∙ ap (λ (l : List E). calls_of m l ++ b ∷ []) fresh') in
-    let below : All (λ (e : E). e.seat < 2) h = subst (λ (n : ℕ). All (λ (e : E). e.seat < n) h) two closed.of_seats in
-    let later : stamp < stamp' = omega (arith, le-max_left stamp (last_stamp take.met), take.stamped) in
-    let pair : h ≡ a ∷ b ∷ [] = two_calls 0 h a b below (subst (λ (k : ℕ). calls_of k h ≡ a ∷ []) first a_is) (subst (λ (k : ℕ). calls_of k h ≡ b ∷ []) second b_is) later closed.legal.1 in
-    let leads = subst (λ (l : List E). Leads Does opening l object) pair closed.legal.0 in
-    let held = subst (λ (l : Option (Box Letter Global)). Answers l (ask.Put letter) stored leads.0.letter) empty leads.1 in
-    (subst (λ (l : Option (Box Letter Global)). Answers l ask.Take given leads.2.0.letter) held.1 leads.2.1).0
+-- the call was answered with the letter
+abbrev pub IsGiven : Box Letter Global → Called Tray Ask Reply → Type 0
+IsGiven letter (called.Done stamp answer) = answer ≡ reply.Given letter
+IsGiven letter (called.Worn back) = ⊥
+
+-- what the second seat took out is what the first put in, and both calls were answered
+module _ {g : Ghosts Tray Ask Reply} (booth : Booth Tray Ask Reply) (p p' t t' : Seat Tray Ask Reply g) (letter : Box Letter Global)
+    (first : number_of p ≡ 0) (second : number_of t ≡ 1) (fresh : seen_of p ≡ []) (fresh' : seen_of t ≡ []) (empty : (opening_of booth).letter ≡ None)
+    (object : Tray) (clock : ℕ) (known : List (ℕ × List (Entry Ask Reply))) (is : known ≡ (0, seen_of p') ∷ (1, seen_of t') ∷ []) (closed : IsClosed Does (opening_of booth) 2 known object clock) where
+  abbrev E : Type 0
+  E = Entry Ask Reply
+
+  abbrev h : List E
+  h = closed.history
+
+  abbrev Fits : ℕ × List E → Type 0
+  Fits k = Extends k.0 k.1 h
+
+  seen : All Fits ((0, seen_of p') ∷ (1, seen_of t') ∷ [])
+  seen = subst (λ (l : List (ℕ × List E)). All Fits l) is closed.seen
+
+  mine : Extends 0 (seen_of p') h
+  mine = All-head Fits (0, seen_of p') ((1, seen_of t') ∷ []) seen
+
+  theirs : Extends 1 (seen_of t') h
+  theirs = All-head Fits (1, seen_of t') [] (All-tail Fits (0, seen_of p') ((1, seen_of t') ∷ []) seen)
+
+  -- the calls of the two seats in the history
+  put_calls : (added : List E) → GrowsBy (number_of p) (seen_of p) (seen_of p') added → calls_of 0 h ≡ added
+  put_calls added grows = mine.1 ∙ (ap (λ (n : ℕ). calls_of n (seen_of p')) (sym first) ∙ (grows.calls ∙ ap (λ (l : List E). calls_of (number_of p) l ++ added) fresh))
+
+  taken_calls : (added : List E) → GrowsBy (number_of t) (seen_of t) (seen_of t') added → calls_of 1 h ≡ added
+  taken_calls added grows = theirs.1 ∙ (ap (λ (n : ℕ). calls_of n (seen_of t')) (sym second) ∙ (grows.calls ∙ ap (λ (l : List E). calls_of (number_of t) l ++ added) fresh'))
+
+  -- the last stamp that a seat has seen is at most that of the history
+  low : (l : List E) (number : ℕ) (seen : List E) → Extends number seen h → h ≡ l → last_stamp seen ≤ last_stamp l
+  low l number seen x same = subst (λ (z : List E). last_stamp seen ≤ last_stamp z) same (last_seen number seen h x closed.legal.1)
+
+  answered_first : (stamp : ℕ) (stored : Reply) → IsAnswered Does (opening_of booth) (number_of p) (seen_of p) (seen_of p') 0 (ask.Put letter) stamp stored → IsAnswered Does (opening_of booth) 0 [] (seen_of p') 0 (ask.Put letter) stamp stored
+  answered_first stamp stored a =
+      subst (λ (k : ℕ). IsAnswered Does (opening_of booth) k [] (seen_of p') 0 (ask.Put letter) stamp stored) first
+      (subst (λ (l : List E). IsAnswered Does (opening_of booth) (number_of p) l (seen_of p') 0 (ask.Put letter) stamp stored) fresh a)
+
+  answered_second : (at stamp : ℕ) (given : Reply) → IsAnswered Does (opening_of booth) (number_of t) (seen_of t) (seen_of t') at ask.Take stamp given → IsAnswered Does (opening_of booth) 1 [] (seen_of t') at ask.Take stamp given
+  answered_second at stamp given a =
+      subst (λ (k : ℕ). IsAnswered Does (opening_of booth) k [] (seen_of t') at ask.Take stamp given) second
+      (subst (λ (l : List E). IsAnswered Does (opening_of booth) (number_of t) l (seen_of t') at ask.Take stamp given) fresh' a)
+
+  -- what a call adds, by its seat's number
+  added_first : (put : Called Tray Ask Reply) → GrowsBy (number_of p) (seen_of p) (seen_of p') (added_by (number_of p) (ask.Put letter) put) → calls_of 0 h ≡ added_by 0 (ask.Put letter) put
+  added_first put grows = put_calls (added_by (number_of p) (ask.Put letter) put) grows ∙ ap (λ (k : ℕ). added_by k (ask.Put letter) put) first
+
+  added_second : (taken : Called Tray Ask Reply) → GrowsBy (number_of t) (seen_of t) (seen_of t') (added_by (number_of t) ask.Take taken) → calls_of 1 h ≡ added_by 1 ask.Take taken
+  added_second taken grows = taken_calls (added_by (number_of t) ask.Take taken) grows ∙ ap (λ (k : ℕ). added_by k ask.Take taken) second
+
+  delivered : (put taken : Called Tray Ask Reply) → ArePassed booth p p' t t' letter put taken → IsGiven letter taken
+  delivered (called.Worn back) (called.Worn back') pass =
+      let none : h ≡ [] = sym (all_second h closed.of_seats (added_first (called.Worn back) pass.put_grows)) ∙ added_second (called.Worn back') pass.taken_grows in
+      let seen_low = low [] 0 (seen_of p') mine none in
+      let worn = sym (zero-max (last_stamp (seen_of p'))) ∙ pass.put_replies.worn in absurd (omega arith)
+  delivered (called.Worn back) (called.Done stamp' given) pass =
+      let b : E = record { seat = 1; stamp = stamp'; act = ask.Take; answer = given } in
+      let one : h ≡ b ∷ [] = sym (all_second h closed.of_seats (added_first (called.Worn back) pass.put_grows)) ∙ added_second (called.Done stamp' given) pass.taken_grows in
+      let is_one = first_stamp Does (opening_of booth) 1 (seen_of t') h ask.Take stamp' given (answered_second 0 stamp' given pass.taken_replies) theirs one in
+      let seen_low = low (b ∷ []) 0 (seen_of p') mine one in
+      let worn = sym (zero-max (last_stamp (seen_of p'))) ∙ pass.put_replies.worn in absurd (omega arith)
+  delivered (called.Done stamp stored) (called.Worn back') pass =
+      let a : E = record { seat = 0; stamp = stamp; act = ask.Put letter; answer = stored } in
+      let one : h ≡ a ∷ [] = sym (all_first h closed.of_seats (added_second (called.Worn back') pass.taken_grows)) ∙ added_first (called.Done stamp stored) pass.put_grows in
+      let is_one = first_stamp Does (opening_of booth) 0 (seen_of p') h (ask.Put letter) stamp stored (answered_first stamp stored pass.put_replies) mine one in
+      let seen_low = low (a ∷ []) 1 (seen_of t') theirs one in
+      let worn = pass.taken_replies.worn in
+      let small : stamp ≤ 1 = omega arith in
+      let seen_small : last_stamp (seen_of t') ≤ 1 = omega arith in
+      let most : max stamp (last_stamp (seen_of t')) ≤ 1 = max-le small seen_small in absurd (omega arith)
+  delivered (called.Done stamp stored) (called.Done stamp' given) pass =
+      let take = pass.taken_replies in
+      let a : E = record { seat = 0; stamp = stamp; act = ask.Put letter; answer = stored } in
+      let b : E = record { seat = 1; stamp = stamp'; act = ask.Take; answer = given } in
+      let later : stamp < stamp' = omega (arith, le-max_left stamp (last_stamp take.met), take.stamped) in
+      let pair : h ≡ a ∷ b ∷ [] = two_calls 0 h a b closed.of_seats (added_first (called.Done stamp stored) pass.put_grows) (added_second (called.Done stamp' given) pass.taken_grows) later closed.legal.1 in
+      let leads = subst (λ (l : List E). Leads Does (opening_of booth) l object) pair closed.legal.0 in
+      let held = subst (λ (l : Option (Box Letter Global)). Answers l (ask.Put letter) stored leads.0.letter) empty leads.1 in
+      (subst (λ (l : Option (Box Letter Global)). Answers l ask.Take given leads.2.0.letter) held.1 leads.2.1).0
+
+-- so with the two new seats of a booth, which were taken off the end of a list and are gathered when their calls are made
+pub sent : {g : Ghosts Tray Ask Reply} (booth : Booth Tray Ask Reply) (items rest rest' : List (Seat Tray Ask Reply g)) (p p' t t' : Seat Tray Ask Reply g) (letter : Box Letter Global) (put taken : Called Tray Ask Reply)
+    (object : Tray) (clock : ℕ) (known : List (ℕ × List (Entry Ask Reply))) → AreNewSeatsOf booth items → items ≡ rest ++ t ∷ [] → rest ≡ rest' ++ p ∷ [] → seats_of booth ≡ 2 → (opening_of booth).letter ≡ None
+    → number_of p' ≡ number_of p → number_of t' ≡ number_of t → ArePassed booth p p' t t' letter put taken
+    → known ≡ known_of p' ∷ known_of t' ∷ [] → IsClosed Does (opening_of booth) (seats_of booth) known object clock → IsGiven letter taken
+sent booth items rest rest' p p' t t' letter put taken object clock known new last before two empty same same' pass is closed =
+    let are = new_pair booth items p t new (two_of items rest rest' t p last before (new.many ∙ two)) in
+    delivered booth p p' t t' letter are.0 are.1 are.2 are.3 empty object clock known
+    (is ∙ (λ i. ((same ∙ are.0) i, seen_of p') ∷ ((same' ∙ are.1) i, seen_of t') ∷ []))
+    (subst (λ (n : ℕ). IsClosed Does (opening_of booth) n known object clock) two closed) put taken pass
+
+module _ {O A R : Type 0} {g : Ghosts O A R} where
+  -- two new seats that were taken off the end of a list, and gathered when their calls are made, are all there are
+  pub all_two : (booth : Booth O A R) (items rest rest' : List (Seat O A R g)) (p p' t t' : Seat O A R g) (known : List (ℕ × List (Entry A R))) → AreNewSeatsOf booth items
+      → items ≡ rest ++ t ∷ [] → rest ≡ rest' ++ p ∷ [] → seats_of booth ≡ 2 → number_of p' ≡ number_of p → number_of t' ≡ number_of t
+      → HasNumber (number_of p') known → HasNumber (number_of t') known → HasEachNumber (seats_of booth) known
+  all_two booth items rest rest' p p' t t' known new last before two same same' has has' =
+      let are = new_pair booth items p t new (two_of items rest rest' t p last before (new.many ∙ two)) in
+      subst (λ (n : ℕ). HasEachNumber n known) (sym two) (each_of_two known (number_of p') (number_of t') has has' (same ∙ are.0) (same' ∙ are.1))

@@ -1,4 +1,5 @@
 pub mod Calling
 pub mod Counters
 pub mod Counts
+pub mod Letters
 pub mod Trays

@@ -36,8 +36,8 @@ impl Object for Counter {
     }
 }
 
-/// Counts from 0 with as many threads as are said, each adding 1 as often as is said, and closes the booth. None is
-/// want of memory.
+/// Counts from 0 with as many threads as are said, each adding 1 as often as is said, and closes the booth. None
+/// means out of memory.
 pub fn count<R: Threads + Wait + Sync>(
     rt: &R,
     alloc: Global,

@@ -1,7 +1,9 @@
 //! A tray for one letter behind a booth: an object that owns boxes, and that nothing can copy.
-ghost use Rattle.std.specs.Prelude.{◌≡◌, IfSome};
+ghost use Rattle.std.specs.Prelude.{◌≡◌, ◌≤◌, ◌^◌, IfErr, IfOk, [], None};
+ghost use Rattle.abt_booth.specs.Seats.{number_of, opening_of, seats_of, IsSeatOf};
+ghost use Rattle.booth_caller.specs.Letters.{ArePassed, stamp_in};
 
-use abt_booth::{Booth, Called, Closed, Object};
+use abt_booth::{Booth, Called, Object, Seat};
 use std::alloc::Global;
 use std::sync::Wait;
 
@@ -26,7 +28,7 @@ pub enum Ask {
 
 /// What a tray answers.
 #[derive(Drop)]
-pub enum Told {
+pub enum Reply {
     /// The letter is in the tray.
     Stored,
     /// The tray has a letter, and this one comes back.
@@ -42,7 +44,7 @@ impl Object for Tray {
 
     type Act = Ask;
 
-    type Answer = Told;
+    type Answer = Reply;
 
     ghost allowed = { λ tray ask. Unit {0} };
 
@@ -50,34 +52,36 @@ impl Object for Tray {
 
     ghost keeps = { λ _ _ _ _ _ _ _. tt };
 
-    fn run(&mut self, ask: Ask) -> Told {
+    fn run(&mut self, ask: Ask) -> Reply {
         match ask {
             Ask::Put(letter) => {
                 if self.letter.is_some() {
-                    Told::Full(letter)
+                    Reply::Full(letter)
                 } else {
                     self.letter = Some(letter);
-                    Told::Stored
+                    Reply::Stored
                 }
             }
             Ask::Take => match self.letter.take() {
-                Some(letter) => Told::Given(letter),
-                None => Told::Empty,
+                Some(letter) => Reply::Given(letter),
+                None => Reply::Empty,
             },
         }
     }
 }
 
-/// Sends a letter from one seat of a booth to another, and tells what the other was told. None is want of memory,
-/// or a worn clock.
+/// Sends a letter from one seat of a booth to another. Err hands the letter back: out of memory.
 ///
 /// The second call's `at` is the first one's stamp, so its own stamp is greater. Once the booth is closed there is
-/// one history, which has just these two calls in order of stamp: so what came out is what went in.
-pub fn deliver<R: Wait>(rt: &R, alloc: Global, letter: Box<Letter>) -> Option<Told>
-    ensures { IfSome result (λ told. told ≡ Told.Given letter) }
+/// one history, which has just these two calls in order of stamp: so what came out is what went in, and the clock was
+/// not worn.
+pub fn deliver<R: Wait>(rt: &R, alloc: Global, letter: Box<Letter>) -> Result<Reply, Box<Letter>>
+    ensures given { IfOk result (λ reply. reply ≡ Reply.Given letter) }
+    ensures refused { IfErr result (λ back. back ≡ letter) }
 {
-    let Ok((booth, mut seats)) = Booth::make(alloc, Tray { letter: None }, 2) else {
-        return None;
+    let (booth, mut seats) = match Booth::make(alloc, Tray { letter: None }, 2) {
+        Ok(made) => made,
+        Err(_) => return Err(letter),
     };
     let Some(mut taker) = seats.pop() else {
         unreachable!()
@@ -85,17 +89,42 @@ pub fn deliver<R: Wait>(rt: &R, alloc: Global, letter: Box<Letter>) -> Option<To
     let Some(mut putter) = seats.pop() else {
         unreachable!()
     };
-    let Called::Done { stamp, answer: _ } = booth.call(rt, &mut putter, 0, Ask::Put(letter)) else {
-        return None;
-    };
-    let Called::Done { stamp: _, answer } = booth.call(rt, &mut taker, stamp, Ask::Take) else {
-        return None;
-    };
+    let (_, taken) = pass_on(rt, &booth, &mut putter, &mut taker, letter);
     let mut gathered = taker.retire();
     booth.gather(&mut gathered, putter);
-    let Closed {
-        object: _,
-        clock: _,
-    } = booth.finish(gathered);
-    Some(answer)
+    booth.finish(gathered);
+    let Called::Done { stamp: _, answer } = taken else {
+        unreachable!()
+    };
+    Ok(answer)
+}
+
+/// Puts a letter into the tray with one seat, and then takes a letter out with the other. What each call was answered.
+pub fn pass_on<R: Wait>(
+    rt: &R,
+    booth: &Booth<Tray>,
+    putter: &mut Seat<Tray>,
+    taker: &mut Seat<Tray>,
+    letter: Box<Letter>,
+) -> (Called<Tray>, Called<Tray>)
+    requires putter { IsSeatOf booth.now putter.old }
+    requires taker { IsSeatOf booth.now taker.old }
+    ensures putter { IsSeatOf booth.now putter.new × (number_of putter.new ≡ number_of putter.old) }
+    ensures taker { IsSeatOf booth.now taker.new × (number_of taker.new ≡ number_of taker.old) }
+    ensures passed { ArePassed booth.now putter.old putter.new taker.old taker.new letter result.0 result.1 }
+{
+    let put = booth.call(rt, putter, 0, Ask::Put(letter));
+    let at = stamp_of(&put);
+    let taken = booth.call(rt, taker, at, Ask::Take);
+    (put, taken)
+}
+
+// The stamp of a call that was answered, else 0.
+fn stamp_of(called: &Called<Tray>) -> u64
+    ensures { result ≡ stamp_in called.now }
+{
+    match called {
+        Called::Done { stamp, answer: _ } => *stamp,
+        Called::Worn(_) => 0,
+    }
 }

@@ -8,4 +8,4 @@ mod letters;
 mod tests;
 
 pub use counter::{Counter, add, add_on_threads, count};
-pub use letters::{Ask, Letter, Told, Tray, deliver};
+pub use letters::{Ask, Letter, Reply, Tray, deliver, pass_on};

@@ -7,7 +7,7 @@ use std::sync::Wait;
 use std::test::*;
 
 #[derive(Drop, Debug, PartialEq)]
-enum Reply {
+enum Counted {
     Done { stamp: u64, answer: u64 },
     Worn { act: u64 },
 }
@@ -18,15 +18,15 @@ fn ask<R: Wait>(
     seat: &mut Seat<Counter>,
     at: u64,
     add: u64,
-) -> Reply
+) -> Counted
     requires seat { IsSeatOf booth.now seat.old }
     requires at { at ≤ 2 ^ 62 }
     ensures seat { IsSeatOf booth.now seat.new }
     ensures number { number_of seat.new ≡ number_of seat.old }
 {
     match booth.call(rt, seat, at, add) {
-        Called::Done { stamp, answer } => Reply::Done { stamp, answer },
-        Called::Worn(act) => Reply::Worn { act },
+        Called::Done { stamp, answer } => Counted::Done { stamp, answer },
+        Called::Worn(act) => Counted::Worn { act },
     }
 }
 
@@ -40,33 +40,33 @@ fn counter_booth(rt: HostRuntime) {
     };
     assert_eq!(rt;
         ask(&rt, &booth, &mut seat, 0, 5),
-        Reply::Done {
+        Counted::Done {
             stamp: 1,
             answer: 5
         }
     );
     assert_eq!(rt;
         ask(&rt, &booth, &mut seat, 5, 1),
-        Reply::Done {
+        Counted::Done {
             stamp: 6,
             answer: 6
         }
     );
     assert_eq!(rt;
         ask(&rt, &booth, &mut seat, 0, 1),
-        Reply::Done {
+        Counted::Done {
             stamp: 7,
             answer: 7
         }
     );
     assert_eq!(rt;
         ask(&rt, &booth, &mut seat, (1 << 62) - 1, 1),
-        Reply::Done {
+        Counted::Done {
             stamp: 1 << 62,
             answer: 8
         }
     );
-    assert_eq!(rt; ask(&rt, &booth, &mut seat, 0, 1), Reply::Worn { act: 1 });
+    assert_eq!(rt; ask(&rt, &booth, &mut seat, 0, 1), Counted::Worn { act: 1 });
     let closed = booth.finish(seat.retire());
     assert_eq!(rt; (closed.object.sum, closed.clock), (8, 1 << 62));
 }
@@ -95,7 +95,7 @@ fn make_gives_all_seats_or_hands_the_object_back(rt: HostRuntime) {
 fn a_letter_is_delivered(rt: HostRuntime) -> Result<(), Fail> {
     let text = String::from_str(rt.alloc(), "who reads this?")?;
     let letter = Box::new(rt.alloc(), Letter { text })?;
-    let Some(Told::Given(given)) = deliver(&rt, rt.alloc(), letter) else {
+    let Ok(Reply::Given(given)) = deliver(&rt, rt.alloc(), letter) else {
         panic!(rt; "not delivered")
     };
     assert_eq!(rt; given.text.as_str(), "who reads this?");

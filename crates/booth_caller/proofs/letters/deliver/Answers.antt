@@ -1,29 +1,31 @@
-use Rattle.std.proofs.Common.{ℕ, ◌∷◌, ap, sym, subst, ◌∙◌}
-use Rattle.abt_booth.specs.Seats.{gathered_of, known_of, seats_of, opening_of, number_of, seen_of, HasEachNumber}
-use Rattle.booth_caller.proofs.Deliveries.{two_of, each_of_two, new_pair, delivered}
+use Rattle.std.proofs.Common.{◌≡◌, ◌∷◌, [], ap, subst, ◌∙◌}
+use Rattle.abt_booth.specs.Seats.{gathered_of, known_of}
+use Rattle.booth_caller.proofs.Deliveries.{all_two, sent, IsGiven}
 use Rattle.booth_caller.proofs.letters.deliver.Goals as goal
 
 pub finish-requires-clause-seats : goal.finish-requires-clause-seats
 finish-requires-clause-seats g c =
-    let new = c.in-Ok.ensures.seats in
-    let p = c.call.new.seat in
-    let t = c.call-2.new.seat in
-    let two = two_of c.in-Ok.seats.items c.pop.new.self.items c.pop-2.new.self.items c.in-Some.taker c.in-Some-pop.putter c.in-Some.ensures.items c.in-Some-pop.ensures.items (new.many ∙ c.in-Ok.ensures.booth.1) in
-    let are = new_pair c.in-Ok.booth c.in-Ok.seats.items c.in-Some-pop.putter c.in-Some.taker new two in
-    let known = c.gather.ensures.seats ∙ ap (λ l. known_of p ∷ l) c.retire-gathered.ensures.seats in
-    subst (λ (n : ℕ). HasEachNumber n (gathered_of c.gather.new.gathered)) (sym c.in-Ok.ensures.booth.1)
-    (each_of_two (gathered_of c.gather.new.gathered) (number_of p) (number_of t) (seen_of p) (seen_of t) known (c.in-Done.ensures.number ∙ are.0) (c.in-Done-call.ensures.number ∙ are.1))
+    let made = c.in-Ok.made in
+    let now = c.pass_on-taken.new in
+    all_two made.0 made.1.items c.pop.new.self.items c.pop-2.new.self.items c.in-Some-pop.putter now.putter c.in-Some.taker now.taker (gathered_of c.gather.new.gathered) c.in-Ok.ensures.seats
+    c.in-Some.ensures.items c.in-Some-pop.ensures.items c.in-Ok.ensures.booth.1 c.pass_on-taken.ensures.putter.1 c.pass_on-taken.ensures.taker.1 c.gather.ensures.number (c.gather.ensures.others _ c.retire-gathered.ensures.number)
 
-pub returns : goal.returns
-returns g c =
-    let new = c.in-Ok.ensures.seats in
-    let b = c.in-Ok.booth in
-    let p = c.in-Some-pop.putter in
-    let t = c.in-Some.taker in
-    let p' = c.call.new.seat in
-    let t' = c.call-2.new.seat in
-    let two = two_of c.in-Ok.seats.items c.pop.new.self.items c.pop-2.new.self.items t p c.in-Some.ensures.items c.in-Some-pop.ensures.items (new.many ∙ c.in-Ok.ensures.booth.1) in
-    let are = new_pair b c.in-Ok.seats.items p t new two in
-    let known = c.gather.ensures.seats ∙ ap (λ l. known_of p' ∷ l) c.retire-gathered.ensures.seats in
-    delivered (opening_of b) c.finish.result.object (seats_of b) (number_of p) (number_of t) (number_of p') (number_of t') 0 c.in-Done.stamp c.in-Done-call.stamp c.finish.result.clock (seen_of p) (seen_of p') (seen_of t) (seen_of t') (gathered_of c.gather.new.gathered) c.args.letter c.in-Done.answer c.in-Done-call.answer
-    (ap (λ tray. tray.letter) c.in-Ok.ensures.booth.0) c.in-Ok.ensures.booth.1 are.0 are.1 c.in-Done.ensures.number c.in-Done-call.ensures.number are.2 are.3 c.in-Done.ensures.reply c.in-Done-call.ensures.reply known c.finish.ensures
+pub unreachable-requires-in_default-taken : goal.unreachable-requires-in_default-taken
+unreachable-requires-in_default-taken g c =
+    let made = c.in-Ok.made in
+    let now = c.pass_on-taken.new in
+    let known = c.gather.ensures.seats ∙ ap (λ l. known_of now.putter ∷ l) c.retire-gathered.ensures.seats in
+    subst (IsGiven c.args.letter) c.in_default-taken.is
+    (sent made.0 made.1.items c.pop.new.self.items c.pop-2.new.self.items c.in-Some-pop.putter now.putter c.in-Some.taker now.taker c.args.letter c.pass_on-taken.result.0 c.pass_on-taken.result.1 c.finish.result.object c.finish.result.clock
+    (gathered_of c.gather.new.gathered) c.in-Ok.ensures.seats c.in-Some.ensures.items c.in-Some-pop.ensures.items c.in-Ok.ensures.booth.1 (ap (λ tray. tray.letter) c.in-Ok.ensures.booth.0)
+    c.pass_on-taken.ensures.putter.1 c.pass_on-taken.ensures.taker.1 c.pass_on-taken.ensures.passed known c.finish.ensures)
+
+pub returns-clause-given : goal.returns-clause-given
+returns-clause-given g c =
+    let made = c.in-Ok.made in
+    let now = c.pass_on-taken.new in
+    let known = c.gather.ensures.seats ∙ ap (λ l. known_of now.putter ∷ l) c.retire-gathered.ensures.seats in
+    subst (IsGiven c.args.letter) c.in-Done.is
+    (sent made.0 made.1.items c.pop.new.self.items c.pop-2.new.self.items c.in-Some-pop.putter now.putter c.in-Some.taker now.taker c.args.letter c.pass_on-taken.result.0 c.pass_on-taken.result.1 c.finish.result.object c.finish.result.clock
+    (gathered_of c.gather.new.gathered) c.in-Ok.ensures.seats c.in-Some.ensures.items c.in-Some-pop.ensures.items c.in-Ok.ensures.booth.1 (ap (λ tray. tray.letter) c.in-Ok.ensures.booth.0)
+    c.pass_on-taken.ensures.putter.1 c.pass_on-taken.ensures.taker.1 c.pass_on-taken.ensures.passed known c.finish.ensures)

@@ -1,20 +1,14 @@
 -- Two streams add.
-use Rattle.std.proofs.Common.{ℕ, ◌∷◌, ap, sym, subst, ◌∙◌}
-use Rattle.abt_booth.specs.Seats.{gathered_of, known_of, seats_of, opening_of, number_of, seen_of, HasEachNumber}
-use Rattle.booth_caller.proofs.Deliveries.{two_of, each_of_two, new_pair}
+use Rattle.std.proofs.Common.{◌∷◌, ap, ◌∙◌}
+use Rattle.abt_booth.specs.Seats.{gathered_of, known_of, seats_of, opening_of, number_of, seen_of}
+use Rattle.booth_caller.proofs.Deliveries.{two_of, all_two, new_pair}
 use Rattle.weave_caller.proofs.Added.{two-added}
 use Rattle.weave_caller.proofs.adding.add_twice.Goals as goal
 
 pub finish-requires-clause-seats : goal.finish-requires-clause-seats
 finish-requires-clause-seats g c =
-    let new = c.in-Ok.ensures.seats in
-    let p = c.call.new.seat in
-    let t = c.call-2.new.seat in
-    let two = two_of c.in-Ok.seats.items c.pop.new.self.items c.pop-2.new.self.items c.in-Some.second c.in-Some-pop.first c.in-Some.ensures.items c.in-Some-pop.ensures.items (new.many ∙ c.in-Ok.ensures.booth.1) in
-    let are = new_pair c.in-Ok.booth c.in-Ok.seats.items c.in-Some-pop.first c.in-Some.second new two in
-    let known = c.gather.ensures.seats ∙ ap (λ l. known_of p ∷ l) c.retire-gathered.ensures.seats in
-    subst (λ (n : ℕ). HasEachNumber n (gathered_of c.gather.new.gathered)) (sym c.in-Ok.ensures.booth.1)
-    (each_of_two (gathered_of c.gather.new.gathered) (number_of p) (number_of t) (seen_of p) (seen_of t) known (c.in-Done.ensures.number ∙ are.0) (c.in-Done-call.ensures.number ∙ are.1))
+    all_two c.in-Ok.booth c.in-Ok.seats.items c.pop.new.self.items c.pop-2.new.self.items c.in-Some-pop.first c.call.new.seat c.in-Some.second c.call-2.new.seat (gathered_of c.gather.new.gathered) c.in-Ok.ensures.seats
+    c.in-Some.ensures.items c.in-Some-pop.ensures.items c.in-Ok.ensures.booth.1 c.in-Done.ensures.number c.in-Done-call.ensures.number c.gather.ensures.number (c.gather.ensures.others _ c.retire-gathered.ensures.number)
 
 pub returns : goal.returns
 returns g c =

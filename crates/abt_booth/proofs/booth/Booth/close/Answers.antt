@@ -33,3 +33,7 @@ finish-requires-clause-seats g c =
     let none : c.loop-seat.seats.items ≡ [] = search rules in
     let all : gathered_of c.loop-seat.gathered ≡ map known_of c.args.seats.items = ap (λ l. map known_of l ++ gathered_of c.loop-seat.gathered) (sym none) ∙ c.loop-seat.invariant.known in
     subst (λ (l : List (ℕ × List (Entry g.row.O-Act.Denot g.row.O-Answer.Denot))). HasEachNumber (seats_of c.args.self) l) (sym all) c.requires.1
+
+pub unreachable-requires : goal.unreachable-requires
+unfolding seats_of
+unreachable-requires g c = search rules

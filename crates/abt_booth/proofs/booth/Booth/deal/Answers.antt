@@ -2,7 +2,7 @@ use Rattle.std.proofs.Common.{rules, ◌≡◌, ◌<◌, ◌+◌, suc, ℕ, [], 
 use Rattle.std.specs.List.{All}
 use Rattle.std.proofs.lemmas.List.Elements.{All-nil, All-push}
 use Rattle.abt_booth.specs.Rule.{SeatState, keeping, left}
-use Rattle.abt_booth.specs.Seats.{opening_of, seen_of, IsSeatOf, AreInOrder}
+use Rattle.abt_booth.specs.Seats.{opening_of, seen_of, IsSeatOf, AreInOrder, number_of, seats_of}
 use Rattle.abt_booth.specs.declared.booth.Seat.{Seat}
 use Rattle.abt_booth.proofs.Dealing.{deals}
 use Rattle.abt_booth.proofs.Seats.{in_order_push}
@@ -21,6 +21,7 @@ loop-i-init g c = let S = Seat g.row.O.Denot g.row.O-Act.Denot g.row.O-Answer.De
 }
 
 pub split_seat-raw-requires : goal.split_seat-raw-requires
+unfolding opening_of
 split_seat-raw-requires g c = let inv = c.loop-i.invariant in let k = c.args.self.now.table.shared in
     let lt : c.loop-i.first.me.0.number < c.loop-i.first.me.0.next = subst (λ (m : SeatState g.row.O.Denot g.row.O-Act.Denot g.row.O-Answer.Denot). m.0.number < m.0.next) (sym inv.left) (omega arith) in
     (inv.table, search rules, deals g.O.Object.does k.key.object.value k.key.seats c.loop-i.first.id c.loop-i.first.me.0 lt (ap (λ m. m.0.holds) inv.left) (ap (λ m. m.0.taken) inv.left))
@@ -29,6 +30,7 @@ pub push_reserved-requires : goal.push_reserved-requires
 push_reserved-requires g c = let inv = c.loop-i.invariant in let lt = c.loop-i-test.true in omega (arith, inv.len, inv.roomy)
 
 pub loop-i-preserved : goal.loop-i-preserved
+unfolding opening_of number_of seen_of IsSeatOf
 loop-i-preserved g c =
     let S = Seat g.row.O.Denot g.row.O-Act.Denot g.row.O-Answer.Denot g.O.Object in
     let inv = c.loop-i.invariant in
@@ -49,6 +51,7 @@ loop-i-preserved g c =
     }
 
 pub returns : goal.returns
+unfolding number_of seen_of seats_of opening_of IsSeatOf
 returns g c =
     let S = Seat g.row.O.Denot g.row.O-Act.Denot g.row.O-Answer.Denot g.O.Object in
     let inv = c.loop-i.invariant in
