@@ -41,13 +41,14 @@ module _ {g : Ghosts ObjectsValue Ask Answer} where
   seen_from (Some seat) = seen_of seat
 
   -- the hall was closed: its line leads all objects from what they were to what they are, the passes' calls are its calls, and
-  -- each site has the greater of the clock that was carried to the hall and the last stamp
+  -- each site has the greater of the clock that was carried to the hall and the last stamp, and so has every other number
   pub record HallLeft (booth : Booth ObjectsValue Ask Answer) (carried : ℕ) (passes : List (Seat ObjectsValue Ask Answer g)) (held : ObjectsValue) : Type 0 where
     pub workload : held.workload ≡ (opening_of booth).workload
     pub closing : ℕ
     pub left : Leaves (opening_of booth).workload the_lock (λ l. carried) tt (seats_of booth) (λ s l. hall_line (opening_of booth).workload (seen_from (slice_get passes s)))
         (object_at (opening_of booth)) (object_at held) closing
     pub clocks : (x : Site) → IsSite (opening_of booth).workload x → clock_at held x ≡ max carried closing
+    pub every : All (λ clock. clock ≡ max carried closing) held.clocks
 
 -- the greatest of these clocks, 0 where there is none
 pub record IsGreatest (clock : ℕ) (clocks : List ℕ) : Type 0 where

@@ -54,7 +54,7 @@ impl<'w> One<'w> {
         ensures fits { All (FitsRow self.entry.workload) (rows_by self.entry.workload site self.entry.object) }
     {
         match site {
-            Some(site) => give_shared(self.w, site, self.shared, groups),
+            Some(site) => give_shared(self.w, site, Box::into_inner(self.shared), groups),
             None => Ok(()),
         }
     }

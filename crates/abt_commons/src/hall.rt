@@ -32,6 +32,7 @@ impl<'w> Object for Objects<'w> {
 
     ghost keeps = { may_ask_all_stays };
 
+    #[inline(always)]
     fn run(&mut self, ask: Ask) -> Answer {
         let Ask { site, act } = ask;
         let number = site_number(self.w, site);
@@ -84,6 +85,7 @@ impl<'w, R: Wait> Commons<'w> for Hall<'w, R> {
 
     ghost leaves = { λ hall passes held. HallLeft hall.booth hall.clock passes held };
 
+    #[inline(always)]
     fn call(&self, pass: &mut Seat<Objects<'w>>, site: Site, at: u64, act: Act) -> Reply {
         let raised = at.max(self.clock);
         match self.booth.call(self.rt, pass, raised, Ask { site, act }) {
@@ -147,6 +149,7 @@ impl<'w> Objects<'w> {
         ensures workload { result.workload ≡ self.entry.workload }
         ensures objects { result.objects ≡ self.entry.objects }
         ensures clocks { (x : Site) → IsSite self.entry.workload x → clock_at result x ≡ clock }
+        ensures every { All (λ c. c ≡ clock) result.clocks }
     {
         self.clocks.fill(clock);
         self

@@ -29,7 +29,7 @@ impl<'w> Objects<'w> {
         let count = w.pools() as usize + w.units() as usize + w.objects() as usize;
         let clocks = vec![in alloc; 0; count]?;
         let mut ones = Vec::with_capacity(alloc, count)?;
-        place_pools(w, &mut ones)?;
+        place_pools(alloc, w, &mut ones)?;
         place_units(alloc, w, &mut ones)?;
         place_things(alloc, w, &mut ones)?;
         Ok(Objects { w, ones, clocks })
@@ -37,16 +37,14 @@ impl<'w> Objects<'w> {
 }
 
 // All pools, with no unit.
-fn place_pools<'w>(w: &'w Workload, ones: &mut Vec<One<'w>>) -> Result<(), Want>
+fn place_pools<'w>(alloc: Global, w: &'w Workload, ones: &mut Vec<One<'w>>) -> Result<(), Want>
     requires { length ones.old.items ≡ 0 }
     ensures { OnOk result (ones.new.items ≡ empty_pools w.now (length w.now.pools)) }
 {
     for p in 0..w.pools() {
         let pool = Pool::new(w.pool(PoolNo(p)).kind);
-        ones.push(One {
-            w,
-            shared: Shared::Pool(pool),
-        })?;
+        let shared = Box::new(alloc, Shared::Pool(pool))?;
+        ones.push(One { w, shared })?;
     }
     Ok(())
 }
@@ -75,10 +73,8 @@ fn place_unit<'w>(
 {
     let unit = Unit::make(alloc, w, u)?;
     let desk = desk_of(w, u, unit, ones);
-    ones.push(One {
-        w,
-        shared: Shared::Desk(desk),
-    })?;
+    let shared = Box::new(alloc, Shared::Desk(desk))?;
+    ones.push(One { w, shared })?;
     Ok(())
 }
 
@@ -120,7 +116,8 @@ fn place_things<'w>(alloc: Global, w: &'w Workload, ones: &mut Vec<One<'w>>) -> 
     ensures { OnOk result (ones.new.items ≡ placed_things w.now (length w.now.objects)) }
 {
     for x in 0..w.objects() {
-        let shared = placed_thing(alloc, w, ObjectNo(x))?;
+        let thing = placed_thing(alloc, w, ObjectNo(x))?;
+        let shared = Box::new(alloc, thing)?;
         ones.push(One { w, shared })?;
     }
     Ok(())

@@ -72,6 +72,7 @@ impl<'w> Commons<'w> for Plain<'w> {
 
     ghost leaves = { λ plain passes held. passes ≡ held ∷ [] };
 
+    #[inline(always)]
     fn call(&self, pass: &mut PlainPass<'w>, site: Site, at: u64, act: Act) -> Reply {
         pass.objects.call(site, at, act)
     }
@@ -89,6 +90,7 @@ impl<'w> Commons<'w> for Plain<'w> {
 
 impl<'w> Objects<'w> {
     // One call of one object.
+    #[inline(always)]
     fn call(&mut self, site: Site, at: u64, act: Act) -> Reply
         requires free { IsFreeAct act }
         requires may { MayCall self.old.workload site (act_of act) }

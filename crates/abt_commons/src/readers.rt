@@ -81,7 +81,7 @@ impl<'w> One<'w> {
         requires { Allows self.now.object (Remove 0) }
         ensures { result ≡ (length (contents_of self.now.object).units == 0) }
     {
-        match &self.shared {
+        match &*self.shared {
             Shared::Pool(pool) => pool.is_empty(),
             _ => unreachable!(),
         }
@@ -91,7 +91,7 @@ impl<'w> One<'w> {
     fn is_over(&self) -> bool
         ensures { result ≡ is_over self.now.object }
     {
-        match &self.shared {
+        match &*self.shared {
             Shared::Desk(desk) => is_over(desk),
             _ => false,
         }
@@ -101,7 +101,7 @@ impl<'w> One<'w> {
     fn is_ready(&self) -> bool
         ensures { result ≡ is_ready self.now.object }
     {
-        match &self.shared {
+        match &*self.shared {
             Shared::Eventual(eventual) => eventual.test(),
             Shared::Future(future) => future.test(),
             _ => false,

@@ -8,6 +8,7 @@ ghost use Rattle.abt_commons.specs.Sites.{site_at, site_number, site_of, sites, 
 use abt_machine::{ObjectNo, PoolNo, Site, Thing, UnitNo, Workload};
 
 /// The number of a site: pools come first, then desks, then the things that the workload declares as objects.
+#[inline(always)]
 pub(crate) fn site_number(w: &Workload, site: Site) -> usize
     requires { IsSite w.now site }
     ensures { site_number w.now site ≡ Some result }

@@ -67,6 +67,7 @@ impl<'w, R: Wait> Commons<'w> for Split<'w, R> {
 
     ghost leaves = { λ split passes held. SplitLeft split passes held };
 
+    #[inline(always)]
     fn call(&self, pass: &mut SplitPass<'w>, site: Site, at: u64, act: Act) -> Reply {
         let number = site_number(self.w, site);
         let raised = at.max(self.clocks[number]);

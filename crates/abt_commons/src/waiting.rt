@@ -23,7 +23,7 @@ impl<'w> One<'w> {
         ensures none { IfNone result (find (is_row_of u.0) (rows_of_object self.now.workload (site.Pool p) self.now.object) ≡ None) }
         ensures found { IfSome result (λ found. find (is_row_of u.0) (rows_of_object self.now.workload (site.Pool p) self.now.object) ≡ Some (found.0, found.1.now.owned)) }
     {
-        match &self.shared {
+        match &*self.shared {
             Shared::Pool(pool) => match pool.find(u) {
                 Some(unit) => Some((Shown::Pool(p), unit)),
                 None => None,
@@ -38,7 +38,7 @@ impl<'w> One<'w> {
         ensures none { IfNone result (find (is_row_of u.0) (rows_of_object self.now.workload (site.Desk v) self.now.object) ≡ None) }
         ensures found { IfSome result (λ found. find (is_row_of u.0) (rows_of_object self.now.workload (site.Desk v) self.now.object) ≡ Some (found.0, found.1.now.owned)) }
     {
-        match &self.shared {
+        match &*self.shared {
             Shared::Desk(desk) => found_at_desk(desk, v, u),
             _ => unreachable!(),
         }
@@ -81,7 +81,7 @@ impl<'w> One<'w> {
         ensures none { IfNone result (find (is_unit u.0) (waiters_of_monitor self.now.object) ≡ None) }
         ensures found { IfSome result (λ unit. find (is_unit u.0) (waiters_of_monitor self.now.object) ≡ Some unit.now.owned) }
     {
-        match &self.shared {
+        match &*self.shared {
             Shared::Monitor(monitor) => monitor.waiter(None, u),
             _ => None,
         }
@@ -92,7 +92,7 @@ impl<'w> One<'w> {
         ensures none { IfNone result (find (is_unit u.0) (waiters_of_condition cond self.now.object) ≡ None) }
         ensures found { IfSome result (λ unit. find (is_unit u.0) (waiters_of_condition cond self.now.object) ≡ Some unit.now.owned) }
     {
-        match &self.shared {
+        match &*self.shared {
             Shared::Monitor(monitor) => monitor.waiter(Some(cond), u),
             _ => unreachable!(),
         }
@@ -102,7 +102,7 @@ impl<'w> One<'w> {
         ensures none { IfNone result (find (is_unit u.0) (waiters_of_eventual self.now.object) ≡ None) }
         ensures found { IfSome result (λ unit. find (is_unit u.0) (waiters_of_eventual self.now.object) ≡ Some unit.now.owned) }
     {
-        match &self.shared {
+        match &*self.shared {
             Shared::Eventual(eventual) => eventual.waiter(u),
             _ => None,
         }
@@ -112,7 +112,7 @@ impl<'w> One<'w> {
         ensures none { IfNone result (find (is_unit u.0) (waiters_of_future self.now.object) ≡ None) }
         ensures found { IfSome result (λ unit. find (is_unit u.0) (waiters_of_future self.now.object) ≡ Some unit.now.owned) }
     {
-        match &self.shared {
+        match &*self.shared {
             Shared::Future(future) => future.waiter(u),
             _ => None,
         }
@@ -122,7 +122,7 @@ impl<'w> One<'w> {
         ensures none { IfNone result (find (is_unit u.0) (waiters_of_barrier self.now.object) ≡ None) }
         ensures found { IfSome result (λ unit. find (is_unit u.0) (waiters_of_barrier self.now.object) ≡ Some unit.now.owned) }
     {
-        match &self.shared {
+        match &*self.shared {
             Shared::Barrier(barrier) => barrier.waiter(u),
             _ => None,
         }

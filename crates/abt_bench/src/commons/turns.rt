@@ -39,7 +39,7 @@ fn put<'w, C: Commons<'w>>(commons: &C, pass: &mut C::Pass, p: PoolNo, unit: Box
     commons.call(pass, Site::Pool(p), 0, Act::Put(unit));
 }
 
-// One turn. False: the pool gave no unit.
+// One turn. False: the pool had no unit.
 fn turn<'w, C: Commons<'w>>(commons: &C, pass: &mut C::Pass, p: PoolNo) -> bool
     requires pass { C.is_of commons.now pass.old }
     requires pool { p.0 < length (C.workload commons.now).pools }
@@ -55,7 +55,7 @@ fn turn<'w, C: Commons<'w>>(commons: &C, pass: &mut C::Pass, p: PoolNo) -> bool
     }
 }
 
-/// So many turns, fewer where the pool gives no unit. The result is how many were made.
+/// So many turns, fewer if a pool has no unit to take. Returns how many were made.
 pub fn turns<'w, C: Commons<'w>>(commons: &C, pass: &mut C::Pass, p: PoolNo, times: u32) -> u32
     requires pass { C.is_of commons.now pass.old }
     requires pool { p.0 < length (C.workload commons.now).pools }

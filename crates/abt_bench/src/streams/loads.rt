@@ -1,4 +1,4 @@
-//! What a stream is given to do.
+//! The units that a timed stream runs.
 
 use abt_machine::Workload;
 use abt_workload::{NotRead, read};

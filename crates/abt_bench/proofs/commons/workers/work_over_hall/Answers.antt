@@ -1,12 +1,12 @@
 use denote.Param.Send.{sendable}
 use Rattle.std.proofs.Crossing.{crosses}
 use Rattle.abt_unit.proofs.Crosses.{Workload-sync}
-use Rattle.abt_bench.proofs.Crosses.{Hall-sync, HallPass-send}
+use Rattle.abt_commons.proofs.Crosses.{commons_crosses}
 use Rattle.abt_bench.proofs.commons.workers.work_over_hall.Goals as goal
 
 pub map_vec-requires-send-J : goal.map_vec-requires-send-J
-map_vec-requires-send-J g c κs within = search (sendable, HallPass-send) depth 30
+map_vec-requires-send-J g c κs within = search (sendable, commons_crosses) depth 30
 
 pub map_vec-requires-sync-F : goal.map_vec-requires-sync-F
 map_vec-requires-sync-F g c κs within =
-    let shared = c.type_bounds.sync-R in search (sendable, crosses, Hall-sync, Workload-sync) depth 40
+    let shared = c.type_bounds.sync-R in search (sendable, crosses, commons_crosses, Workload-sync) depth 40

@@ -10,4 +10,4 @@ use Rattle.abt_commons.proofs.one.One.give.Goals as goal
 pub returns-in-Some-clause-fits : goal.returns-in-Some-clause-fits
 returns-in-Some-clause-fits c =
     let s = c.self.inside in
-    subst (λ (one : OneValue). All (FitsRow one.workload) (rows_by one.workload c.args.site one.object)) c.self.view_is (by-fit s.w.now c.args.site (object_in s.shared) c.self.invariant.0)
+    subst (λ (one : OneValue). All (FitsRow one.workload) (rows_by one.workload c.args.site one.object)) c.self.view_is (by-fit s.w.now c.args.site (object_in s.shared.value) c.self.invariant.0)

@@ -14,10 +14,10 @@ use Rattle.abt_commons.proofs.one.One.in_pool.Goals as goal
 
 pub returns-in-Some-clause-found : goal.returns-in-Some-clause-found
 returns-in-Some-clause-found c =
-    let rows = ap (λ (one : OneValue). rows_of_object one.workload (site.Pool c.args.p) one.object) (sym c.self.view_is) ∙ ap (λ s. rows_of_object c.self.inside.w.now (site.Pool c.args.p) (object_in s)) c.in-Pool.is in
+    let rows = ap (λ (one : OneValue). rows_of_object one.workload (site.Pool c.args.p) one.object) (sym c.self.view_is) ∙ ap (λ s. rows_of_object c.self.inside.w.now (site.Pool c.args.p) (object_in s)) (sym c.deref.ensures ∙ c.in-Pool.is) in
     ap (find (is_row_of c.args.u.0)) rows ∙ (found-as c.args.u.0 (shows.Pool c.args.p) c.in-Pool.pool.units ∙ ap (option_map (λ (o : Owned). (shows.Pool c.args.p, o))) c.in-Some.ensures.found)
 
 pub returns-in-None-clause-none : goal.returns-in-None-clause-none
 returns-in-None-clause-none c =
-    let rows = ap (λ (one : OneValue). rows_of_object one.workload (site.Pool c.args.p) one.object) (sym c.self.view_is) ∙ ap (λ s. rows_of_object c.self.inside.w.now (site.Pool c.args.p) (object_in s)) c.in-Pool.is in
+    let rows = ap (λ (one : OneValue). rows_of_object one.workload (site.Pool c.args.p) one.object) (sym c.self.view_is) ∙ ap (λ s. rows_of_object c.self.inside.w.now (site.Pool c.args.p) (object_in s)) (sym c.deref.ensures ∙ c.in-Pool.is) in
     ap (find (is_row_of c.args.u.0)) rows ∙ (found-as c.args.u.0 (shows.Pool c.args.p) c.in-Pool.pool.units ∙ ap (option_map (λ (o : Owned). (shows.Pool c.args.p, o))) c.in-None.ensures.absent)

@@ -1,9 +1,9 @@
--- All objects may go to another thread, and so may passes; a hall and a split may be shared.
+-- Objects may go to another thread, and so may the passes of a hall and of a split, which may be shared with it.
 use denote.RattleType.{RattleType}
 use denote.Param.Send.{IsSend, IsSync, sendable}
 use denote.Param.SendFields.{as_row_sync}
 use denote.Ref.{NamedLft}
-use Rattle.std.proofs.Crossing.{Box-sync, Vec-send, Vec-sync, crosses}
+use Rattle.std.proofs.Crossing.{Box-send, Box-sync, Vec-send, Vec-sync, crosses}
 use Rattle.abt_unit.specs.contracts.unit.UnitBody as UnitBody
 use Rattle.abt_unit.specs.contracts.unit.Unit as Unit
 use Rattle.abt_unit.proofs.unit.Unit.TheLaws.TheKnot.{sync-Unit}
@@ -77,19 +77,19 @@ Barrier-send = search (sendable, Chain-send) depth 30
 Barrier-sync : IsSync Barrier.the_row
 Barrier-sync = search (sendable, Chain-sync) depth 30
 
-Shared-send : IsSend (Shared.the_field).row
+Shared-send : IsSend Shared.the_row
 Shared-send = search (sendable, Pool-send, Desk-send, Monitor-send, Eventual-send, Future-send, Barrier-send) depth 30
 
-Shared-sync : IsSync (Shared.the_field).row
+Shared-sync : IsSync Shared.the_row
 Shared-sync = search (sendable, Pool-sync, Desk-sync, Monitor-sync, Eventual-sync, Future-sync, Barrier-sync) depth 30
 
-One-send : (a : NamedLft) → IsSend (One.the_row a)
-One-send a = search (sendable, Workload-sync, Shared-send) depth 30
+pub One-send : (a : NamedLft) → IsSend (One.the_row a)
+One-send a = let shared = Box-send Shared.the_row Shared-send in search (sendable, Workload-sync) depth 30
 
-One-sync : (a : NamedLft) → IsSync (One.the_row a)
-One-sync a = search (sendable, Workload-sync, Shared-sync) depth 30
+pub One-sync : (a : NamedLft) → IsSync (One.the_row a)
+One-sync a = let shared = Box-sync Shared.the_row Shared-sync in search (sendable, Workload-sync) depth 30
 
-Objects-send : (a : NamedLft) → IsSend (Objects.the_row a)
+pub Objects-send : (a : NamedLft) → IsSend (Objects.the_row a)
 Objects-send a = search (sendable, crosses, Workload-sync, One-send) depth 30
 
 -- Locks round them.
@@ -107,7 +107,16 @@ SplitPass-send a =
     let seats = Vec-send (Seat.the_row (One.the_row a) Act.the_row Answer.the_row OneObject.ghosts) (Seat-send (One.the_row a) Act.the_row Answer.the_row OneObject.ghosts (One-send a)) in
     search sendable depth 30
 
+-- the same, as a field of another struct
+pub SplitPass-field-send : (a : NamedLft) → IsSend (SplitPass.the_field a).row
+SplitPass-field-send a =
+    let seats = Vec-send (Seat.the_row (One.the_row a) Act.the_row Answer.the_row OneObject.ghosts) (Seat-send (One.the_row a) Act.the_row Answer.the_row OneObject.ghosts (One-send a)) in
+    search sendable depth 30
+
 pub Split-sync : (a : NamedLft) (R : RattleType) → IsSync R → IsSync (Split.the_row a R)
 Split-sync a R s =
     let booth = Booth-sync (One.the_row a) Act.the_row Answer.the_row OneObject.ghosts (One-send a) in
     search (sendable, crosses, Vec-sync, Workload-sync, One-sync) depth 40
+
+-- all of these of passes and locks, for `search`
+pub ruleset commons_crosses = (Objects-send, HallPass-send, Hall-sync, SplitPass-send, SplitPass-field-send, Split-sync)
