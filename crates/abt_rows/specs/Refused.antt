@@ -1,4 +1,4 @@
--- What is no life of a unit, and what are no stamps.
+-- What is no life of a unit, what are no stamps, and which stream is not spent.
 use Rattle.std.specs.Prelude.{ℕ, List, [], ◌∷◌}
 use Rattle.abt_machine.specs.declared.events.Cause.TheVariants as cause
 use Rattle.abt_machine.specs.declared.events.Code.TheVariants as code
@@ -11,6 +11,7 @@ use Rattle.abt_machine.specs.declared.operations.Op.TheVariants as op
 use Rattle.abt_machine.specs.declared.workload.Parts.{Parts}
 use Rattle.abt_machine.specs.Lives.{IsLife}
 use Rattle.abt_machine.specs.Numbers.{pool_no, sched_no, stream_no, unit_no}
+use Rattle.abt_machine.specs.Outcomes.{Spent}
 use Rattle.abt_machine.specs.Stamps.{Lamport, Stamped}
 
 -- Lives.
@@ -78,3 +79,18 @@ IsNotLeast J = (W : Parts) → Stamped W J × (Lamport W J → ⊥)
 -- this journal is not stamped
 abbrev pub IsNotStamped : List Event → Type 0
 IsNotStamped J = (W : Parts) → Stamped W J → ⊥
+
+-- Budgets.
+
+-- stream 0 takes unit 0, looks at it and makes its first two steps
+abbrev pub two_steps : List Event
+two_steps =
+    record { stamp = 1; stream = stream_no 0; what = what.Take (pool_no 0) (unit_no 0) }
+    ∷ record { stamp = 2; stream = stream_no 0; what = what.Look (unit_no 0) }
+    ∷ record { stamp = 3; stream = stream_no 0; what = what.Step (unit_no 0) 0 code.Ok }
+    ∷ record { stamp = 4; stream = stream_no 0; what = what.Step (unit_no 0) 1 code.Ok }
+    ∷ []
+
+-- where each stream may make n steps, stream 0 is not spent after this journal, whatever the workload
+abbrev pub IsNotSpent : ℕ → List Event → Type 0
+IsNotSpent n J = (W : Parts) → Spent W n J 0 → ⊥

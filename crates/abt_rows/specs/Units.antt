@@ -197,3 +197,21 @@ abbrev pub yieldto_other_pool_report : Text
 yieldto_other_pool_report =
     codes "unit 0 done: !absent on\nunit 1 done: one\n" ++
     codes "tally units 2 unborn 0 pool 0 stream 0 blocked 0 done 2 asked 0 access 0 steps 3\nfinished\n"
+
+-- A unit that yields to another goes to its own home, and the other keeps its own, whichever pool it was taken from.
+
+abbrev pub yield_keeps_homes_text : Text
+yield_keeps_homes_text =
+    codes "abt 1\nstreams 1\npool 0 fifo mpmc\npool 1 fifo mpmc\nsched 0 prio 0 1\nstream 0 main 0\n" ++
+    codes "units 2\nunit 0 ult at 0\nyieldto 1 1\nprint\nunit 1 ult at 1\nyield\nend\n"
+
+abbrev pub yield_keeps_homes_journal : Text
+yield_keeps_homes_journal =
+    codes "1 0 take 0 0\n2 0 look 0\n3 0 step 0 0 ok\n4 0 put 0 0\n5 0 look 1\n6 0 step 1 0 ok\n" ++
+    codes "7 0 put 1 1\n8 0 take 0 0\n9 0 look 0\n10 0 step 0 1 ok\n11 0 end 0 done\n12 0 miss 0\n" ++
+    codes "13 0 take 1 1\n14 0 look 1\n15 0 end 1 done\n16 0 miss 0\n17 0 miss 1\n"
+
+abbrev pub yield_keeps_homes_report : Text
+yield_keeps_homes_report =
+    codes "unit 0 done: 0\nunit 1 done:\n" ++
+    codes "tally units 2 unborn 0 pool 0 stream 0 blocked 0 done 2 asked 0 access 0 steps 3\nfinished\n"

@@ -1,6 +1,6 @@
-//! Rows on what is no life of a unit, and on what are no stamps.
+//! Rows on what is no life of a unit, on what are no stamps, and on streams that are not spent.
 
-ghost use Rattle.abt_rows.specs.Refused.{IsNoLife, IsNotLeast, IsNotStamped, asked_inside, barred, falling, gap, going_on, late, level, repeated, scheduler, stepless, tasklet, thread};
+ghost use Rattle.abt_rows.specs.Refused.{IsNoLife, IsNotLeast, IsNotSpent, IsNotStamped, asked_inside, barred, falling, gap, going_on, late, level, repeated, scheduler, stepless, tasklet, thread, two_steps};
 
 /// A thread is not done without all its steps.
 pub fn thread_done_too_early()
@@ -55,4 +55,14 @@ pub fn stamps_that_stay()
 /// A stamp is the least that the rule allows.
 pub fn stamp_above_the_least()
     ensures { IsNotLeast late }
+{}
+
+/// A stream that has made more steps than it may make is not spent.
+pub fn past_its_budget()
+    ensures { IsNotSpent 1 two_steps }
+{}
+
+/// Nor is one that has made fewer.
+pub fn below_its_budget()
+    ensures { IsNotSpent 3 two_steps }
 {}

@@ -1,0 +1,5 @@
+pub mod Allowing
+pub mod Doing
+pub mod Events
+pub mod Forgotten
+pub mod RoundEnds

@@ -1,0 +1,3 @@
+pub mod Requests
+pub mod Rounds
+pub mod Steps
