@@ -1,0 +1,21 @@
+mod Named
+pub mod Outputs
+mod Passing
+mod Plain
+mod Points
+mod Creating
+mod Finds
+mod Goes
+mod Keys
+mod Marks
+mod Moving
+mod Rows
+mod Runs
+mod Running
+mod Setting
+mod Stepping
+mod Stuck
+mod Tells
+mod Unique
+mod Waiting
+mod Woken

@@ -1,0 +1,6 @@
+pub mod Checks
+pub mod Confluent
+pub mod Effects
+pub mod Flow
+pub mod Laws
+pub mod Tables

@@ -1,0 +1,17 @@
+//! Confluent workloads, in which the schedule can't matter: their outputs by a recursion over units.
+#![tactic(auto)]
+
+mod beginning;
+mod confluence;
+mod finding;
+mod laws;
+mod memory;
+mod naming;
+mod reaching;
+mod table;
+#[cfg(test)]
+mod tests;
+
+pub use confluence::confluent;
+pub use finding::{Flow, FlowRow, find_flow};
+pub use laws::{flow_is_one, outputs_are_flow};

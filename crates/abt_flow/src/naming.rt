@@ -1,0 +1,96 @@
+//! Whether no two operations set one eventual, or create one unit.
+
+ghost use Rattle.std.specs.Prelude.{◌+◌, ◌<◌, ◌≡◌, ◌↔◌, IfOk, IsTrue, MatchBool, length};
+ghost use Rattle.abt_machine.specs.Workloads.{body_at, ops_of};
+ghost use Rattle.abt_flow.specs.Checks.{HasNamed, NamesOnce, named_by, names_in};
+
+use abt_machine::{Op, UnitNo, Want, Workload};
+use std::alloc::Global;
+
+// What operations name: the eventual that one sets, or the unit that one creates.
+#[derive(Clone, Copy)]
+pub(crate) enum Naming {
+    Sets,
+    Creates,
+}
+
+impl Naming {
+    fn of(self, op: Op) -> Option<u32>
+        ensures { result ≡ named_by self op }
+    {
+        match (self, op) {
+            (Naming::Sets, Op::EvSet(x)) => Some(x.0),
+            (Naming::Creates, Op::Create(v, _)) => Some(v.0),
+            _ => None,
+        }
+    }
+
+    // How many numbers may be named.
+    fn count(self, w: &Workload) -> u32
+        ensures { result ≡ names_in w.now self }
+    {
+        match self {
+            Naming::Sets => w.objects(),
+            Naming::Creates => w.units(),
+        }
+    }
+}
+
+// How many operations a unit has.
+pub(crate) fn ops_count(w: &Workload, u: UnitNo) -> u32
+    requires { u.0 < length w.now.units }
+    ensures { result ≡ length (ops_of (body_at w.now u.0)) }
+{
+    // The count is of no use here, but its contract says that the workload is valid.
+    w.streams();
+    w.unit(u).body.ops().len() as u32
+}
+
+// Marks what an operation names, and says whether it wasn't marked.
+fn mark(w: &Workload, naming: Naming, u: UnitNo, k: u32, seen: &mut [bool]) -> bool
+    requires unit { u.0 < length w.now.units }
+    requires named { HasNamed w.now naming u.0 k seen.old }
+    ensures { MatchBool result (HasNamed w.now naming u.0 (k + 1) seen.new) (NamesOnce w.now naming → ⊥) }
+{
+    let Some(op) = w.op(u, k) else {
+        return true;
+    };
+    let Some(x) = naming.of(op) else {
+        return true;
+    };
+    // The count is of no use here, but its contract says that the workload is valid.
+    w.streams();
+    let x = x as usize;
+    if seen[x] {
+        return false;
+    }
+    seen[x] = true;
+    true
+}
+
+// Marks what a unit's operations name, and says whether nothing of it was marked.
+fn mark_unit(w: &Workload, naming: Naming, u: UnitNo, seen: &mut [bool]) -> bool
+    requires unit { u.0 < length w.now.units }
+    requires named { HasNamed w.now naming u.0 0 seen.old }
+    ensures { MatchBool result (HasNamed w.now naming (u.0 + 1) 0 seen.new) (NamesOnce w.now naming → ⊥) }
+{
+    for k in 0..ops_count(w, u) {
+        if !mark(w, naming, u, k, seen) {
+            return false;
+        }
+    }
+    true
+}
+
+// Whether no two operations name one number.
+pub(crate) fn names_once(alloc: Global, w: &Workload, naming: Naming) -> Result<bool, Want>
+    ensures { IfOk result (λ once. IsTrue once ↔ NamesOnce w.now naming) }
+{
+    let mut seen = vec![in alloc; false; naming.count(w) as usize]?;
+    for u in 0..w.units() {
+        if !mark_unit(w, naming, UnitNo(u), &mut seen) {
+            return Ok(false);
+        }
+    }
+    Ok(true)
+}

@@ -1,0 +1,161 @@
+//! The programs of all units, run on as values of eventuals are found.
+
+ghost use Rattle.std.specs.Prelude.{Contains, ℕ, ◌+◌, ◌<◌, ◌≡◌, ◌≤◌, IfOk, MatchBool, MatchOption, Some, length};
+ghost use Rattle.abt_machine.specs.Numbers.{unit_no};
+ghost use Rattle.abt_machine.specs.declared.numbers.UnitNo.{UnitNo};
+ghost use Rattle.abt_machine.specs.declared.operations.Op.TheVariants as op;
+ghost use Rattle.abt_flow.specs.Confluent.{Confluent};
+ghost use Rattle.abt_flow.specs.Flow.{IsReached};
+ghost use Rattle.abt_flow.specs.Tables.{AllRest, AllRun, IsNext, IsOther, IsOver, Rests, Runs, executed, work};
+
+use crate::beginning::{fresh_units, no_values, wait_lists};
+use crate::memory::Progress;
+use abt_machine::{ObjectNo, Op, UnitNo, Want, Workload};
+use std::alloc::Global;
+
+// Each unit's program, each eventual's value, once it is set, the units that are to be run on once it
+// is, and those that are to be run now.
+#[derive(Drop)]
+pub(crate) struct Table {
+    pub(crate) units: Vec<Progress>,
+    values: Vec<Option<u64>>,
+    waiting: Vec<Vec<UnitNo>>,
+    ready: Vec<UnitNo>,
+}
+
+impl Table {
+    // Every unit at its beginning, and ready if it is reached.
+    pub(crate) fn make(alloc: Global, w: &Workload, reached: Vec<UnitNo>) -> Result<Self, Want>
+        requires only { (v : UnitNo) → Contains reached.items v → IsReached w.now v.0 }
+        requires every { (u : ℕ) → IsReached w.now u → Contains reached.items (unit_no u) }
+        ensures { IfOk result (λ table. AllRun w.now table) }
+    {
+        Ok(Table {
+            units: fresh_units(alloc, w)?,
+            values: no_values(alloc, w.objects())?,
+            waiting: wait_lists(alloc, w, &reached)?,
+            ready: reached,
+        })
+    }
+
+    // Goes on past a wait, if the eventual has a value.
+    fn await_value(&mut self, w: &Workload, u: UnitNo, x: ObjectNo) -> bool
+        requires confluent { Confluent w.now }
+        requires reached { IsReached w.now u.0 }
+        requires runs { Runs w.now u.0 self.old }
+        requires here { IsNext w.now self.old.units.items u.0 (op.EvWait x) }
+        ensures runs { Runs w.now u.0 self.new }
+        ensures work { work self.new ≡ work self.old }
+        ensures more { MatchBool result (executed self.new.units.items ≡ executed self.old.units.items + 1) (Rests w.now self.new.units.items self.new.values.items u.0) }
+    {
+        // The count is of no use here, but its contract says that the workload is valid.
+        w.streams();
+        match self.values[x.0 as usize] {
+            None => false,
+            Some(value) => {
+                self.units[u.0 as usize].receive(value);
+                true
+            }
+        }
+    }
+
+    // Sets an eventual, after which those that wait for it are to be run.
+    fn set_value(&mut self, w: &Workload, u: UnitNo, x: ObjectNo) -> Result<(), Want>
+        requires confluent { Confluent w.now }
+        requires reached { IsReached w.now u.0 }
+        requires runs { Runs w.now u.0 self.old }
+        requires here { IsNext w.now self.old.units.items u.0 (op.EvSet x) }
+        ensures runs { IfOk result (λ _. Runs w.now u.0 self.new) }
+        ensures work { IfOk result (λ _. work self.new ≡ work self.old) }
+        ensures more { IfOk result (λ _. executed self.new.units.items ≡ executed self.old.units.items + 1) }
+    {
+        // The count is of no use here, but its contract says that the workload is valid.
+        w.streams();
+        let i = x.0 as usize;
+        self.ready.extend_from_slice(&self.waiting[i])?;
+        self.waiting[i].clear();
+        self.values[i] = Some(self.units[u.0 as usize].acc);
+        self.units[u.0 as usize].pass();
+        Ok(())
+    }
+
+    // Does an operation that looks at nothing else.
+    fn compute(&mut self, w: &Workload, u: UnitNo, op: Op) -> Result<(), Want>
+        requires confluent { Confluent w.now }
+        requires reached { IsReached w.now u.0 }
+        requires runs { Runs w.now u.0 self.old }
+        requires here { IsNext w.now self.old.units.items u.0 op }
+        requires other { IsOther op }
+        ensures runs { IfOk result (λ _. Runs w.now u.0 self.new) }
+        ensures work { IfOk result (λ _. work self.new ≡ work self.old) }
+        ensures more { IfOk result (λ _. executed self.new.units.items ≡ executed self.old.units.items + 1) }
+    {
+        // The count is of no use here, but its contract says that the workload is valid.
+        w.streams();
+        self.units[u.0 as usize].compute(op)
+    }
+
+    // The next operation of a unit, if it doesn't rest.
+    fn next(&self, w: &Workload, u: UnitNo) -> Option<Op>
+        requires reached { IsReached w.now u.0 }
+        requires runs { Runs w.now u.0 self.now }
+        ensures { MatchOption result (IsOver w.now self.now.units.items u.0) (IsNext w.now self.now.units.items u.0) }
+    {
+        // The count is of no use here, but its contract says that the workload is valid.
+        w.streams();
+        w.op(u, self.units[u.0 as usize].position)
+    }
+
+    // Does the next operation of a unit, unless it rests.
+    fn step(&mut self, w: &Workload, u: UnitNo) -> Result<bool, Want>
+        requires confluent { Confluent w.now }
+        requires reached { IsReached w.now u.0 }
+        requires runs { Runs w.now u.0 self.old }
+        ensures runs { IfOk result (λ _. Runs w.now u.0 self.new) }
+        ensures work { IfOk result (λ _. work self.new ≡ work self.old) }
+        ensures more { IfOk result (λ more. MatchBool more (executed self.new.units.items ≡ executed self.old.units.items + 1) (Rests w.now self.new.units.items self.new.values.items u.0)) }
+    {
+        let Some(op) = self.next(w, u) else {
+            return Ok(false);
+        };
+        match op {
+            Op::EvWait(x) => Ok(self.await_value(w, u, x)),
+            Op::EvSet(x) => {
+                self.set_value(w, u, x)?;
+                Ok(true)
+            }
+            _ => {
+                self.compute(w, u, op)?;
+                Ok(true)
+            }
+        }
+    }
+
+    // Runs a unit on until it rests.
+    fn run(&mut self, w: &Workload, u: UnitNo) -> Result<(), Want>
+        requires confluent { Confluent w.now }
+        requires reached { IsReached w.now u.0 }
+        requires runs { Runs w.now u.0 self.old }
+        ensures runs { IfOk result (λ _. Runs w.now u.0 self.new) }
+        ensures work { IfOk result (λ _. work self.new ≡ work self.old) }
+        ensures rests { IfOk result (λ _. Rests w.now self.new.units.items self.new.values.items u.0) }
+    {
+        'steps: loop {
+            if !self.step(w, u)? {
+                return Ok(());
+            }
+        }
+    }
+
+    // Runs units on until all of them rest.
+    pub(crate) fn run_all(&mut self, w: &Workload) -> Result<(), Want>
+        requires confluent { Confluent w.now }
+        requires run { AllRun w.now self.old }
+        ensures { IfOk result (λ _. AllRest w.now self.new) }
+    {
+        while let Some(u) = self.ready.pop() {
+            self.run(w, u)?;
+        }
+        Ok(())
+    }
+}
