@@ -1,6 +1,6 @@
 mod Admitting
 pub mod Answered
-mod Asking
+pub mod Asking
 pub mod Classes
 pub mod Listed
 pub mod Operating

@@ -1,6 +1,6 @@
 //! What a stream holds, and what each kind of event makes of it.
 
-ghost use Rattle.std.specs.Prelude.{◌≡◌, ◌<◌, ◌-◌, ◌^◌, ◌≢◌, ◌++◌, [], ◌∷◌, IfNone, IfOk, IfSome, List, None, Some, length, option_map};
+ghost use Rattle.std.specs.Prelude.{◌≡◌, ◌<◌, ◌-◌, ◌^◌, ◌≢◌, ◌↔◌, ◌++◌, [], ◌∷◌, IfNone, IfOk, IfSome, IsTrue, List, None, Some, length, option_map};
 ghost use Rattle.abt_calls.specs.Allowed.{Allows};
 ghost use Rattle.abt_calls.specs.Starts.{start_part};
 ghost use Rattle.abt_replay.specs.Events.{AreObjects, Ends, Entered, Leaves, Looks, Moves, Stepped, Visits, Woken, in_hand};
@@ -84,6 +84,13 @@ impl Lane {
         ensures { result.now ≡ self.now.own.top }
     {
         &self.top
+    }
+
+    /// Whether a frame is stacked on the main scheduler's.
+    pub fn is_stacked(&self) -> bool
+        ensures { IsTrue result ↔ (self.now.own.below ≢ []) }
+    {
+        !self.below.is_empty()
     }
 
     /// Takes the first unit of the tray out of it.

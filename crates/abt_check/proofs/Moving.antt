@@ -1,0 +1,199 @@
+-- What each part of the code makes of a stream is a step of it.
+use Rattle.std.proofs.Common.{◌≡◌, ◌≢◌, ◌∙◌, ℕ, ◌<◌, Bool, true, false, List, [], ◌∷◌, Option, None, Some, Result, ap, length, option_map, refl, subst, sym}
+use Rattle.std.proofs.lemmas.List.Elements.{All-contains}
+use Rattle.std.specs.Prelude.{IfOk, IfSome, if◌then◌else◌, nat_lt}
+use Rattle.abt_machine.specs.declared.events.Cause.TheVariants as cause
+use Rattle.abt_machine.specs.declared.events.Site.TheVariants as site
+use Rattle.abt_machine.specs.declared.events.What.{What}
+use Rattle.abt_machine.specs.declared.events.What.TheVariants as what
+use Rattle.abt_machine.specs.declared.numbers.PoolNo.{PoolNo}
+use Rattle.abt_machine.specs.declared.numbers.UnitNo.{UnitNo}
+use Rattle.abt_machine.specs.declared.operations.Body.{Body}
+use Rattle.abt_machine.specs.declared.operations.Body.TheVariants as body
+use Rattle.abt_machine.specs.declared.operations.OrderShape.{OrderShape}
+use Rattle.abt_machine.specs.declared.workload.Parts.{Parts}
+use Rattle.abt_machine.specs.Access.{may_take_all}
+use Rattle.abt_machine.specs.Acts.{Answer}
+use Rattle.abt_machine.specs.Acts as act
+use Rattle.abt_machine.specs.Next.{Due, EndDue, EnterDue, LeaveDue, LookDue, PutDue, RoundDue, StepDue, due_by, due_of_frames, due_of_unit}
+use Rattle.abt_machine.specs.Numbers.{pool_no, unit_no}
+use Rattle.abt_machine.specs.Queues.{first}
+use Rattle.abt_machine.specs.Rounds.{IsNextPool}
+use Rattle.abt_machine.specs.State.{Asked, Frame, Left, Mark, Plain}
+use Rattle.abt_machine.specs.Turns.{Heard, Steps, due_of, looked, number_and_position, side_of}
+use Rattle.abt_machine.specs.Values.{Held, Object, Owned}
+use Rattle.abt_machine.specs.Valid.{IsScheduler, IsValid}
+use Rattle.abt_machine.specs.Workloads.{body_at, pools_of}
+use Rattle.abt_machine.specs.declared.program.Want.{Want}
+use Rattle.abt_laws.proofs.Orders.{next_pool-listed}
+use Rattle.abt_laws.proofs.Rounds.{order-declared}
+use Rattle.abt_bounds.specs.Laws.{visited}
+use Rattle.abt_calls.specs.Allowed.{Allows}
+use Rattle.abt_calls.specs.Suits.{Suits}
+use Rattle.abt_calls.proofs.Asked.{takes-may-call}
+use Rattle.abt_calls.proofs.Suited.{answers-suit}
+use Rattle.abt_replay.specs.Events.{AreObjects, Leaves, Looks, Moves, Visits, Woken, in_hand}
+use Rattle.abt_replay.specs.Objects.{ObjectsValue, object_at}
+use Rattle.abt_check.specs.Turns.{IsOfWorkload, MovesAs}
+
+-- What may be asked.
+
+pub put_allowed : (W : Parts) (objects : ObjectsValue) (o : Owned) → AreObjects W objects → o.carried.home < length W.pools → Allows (object_at objects (site.Pool (pool_no o.carried.home))) (act.Put o)
+put_allowed W objects o are home = subst (λ (q : Object). Allows q (act.Put o)) (sym (are.1 (site.Pool (pool_no o.carried.home)) home)) tt
+
+pub look_allowed : (W : Parts) (objects : ObjectsValue) (o : Owned) → AreObjects W objects → o.number < length W.units → Allows (object_at objects (site.Desk (unit_no o.number))) act.Look
+look_allowed W objects o are number = subst (λ (q : Object). Allows q act.Look) (sym (are.1 (site.Desk (unit_no o.number)) number)) tt
+
+pub take_allowed : (W : Parts) (objects : ObjectsValue) (s : ℕ) (p : PoolNo) → AreObjects W objects → p.0 < length W.pools → Allows (object_at objects (site.Pool p)) (act.Take (side_of W s p.0))
+take_allowed W objects s p are declared =
+    subst (λ (q : Object). Allows q (act.Take (side_of W s p.0))) (sym (are.1 (site.Pool p) declared)) ((takes-may-call W s p declared).allowed are.0)
+
+-- a unit that is there is the workload's
+pub some-of : (W : Parts) (held : Option Owned) (o : Owned) → held ≡ Some o → IfSome held (IsOfWorkload W) → IsOfWorkload W o
+some-of W held o is h = subst (λ (x : Option Owned). IfSome x (IsOfWorkload W)) is h
+
+pub first-of : (W : Parts) (tray os : List Owned) (o : Owned) → tray ≡ o ∷ os → IfSome (first tray) (IsOfWorkload W) → IsOfWorkload W o
+first-of W tray os o is h = some-of W (first tray) o (ap first is) h
+
+-- What is due.
+
+no-round-of-ops : (b : Bool) → (if b then StepDue else EndDue cause.Done) ≡ RoundDue → ⊥
+no-round-of-ops true e = cc
+no-round-of-ops false e = cc
+
+no-round-of-sched : (b : Bool) → (if b then EnterDue else EndDue cause.Access) ≡ RoundDue → ⊥
+no-round-of-sched true e = cc
+no-round-of-sched false e = cc
+
+no-round-of-unit : (W : Parts) (s : ℕ) (m : Mark) (b : Body) (k : ℕ) → due_of_unit W s m b k ≡ RoundDue → ⊥
+no-round-of-unit W s Asked b k e = cc
+no-round-of-unit W s Plain (body.Sched g) k e = no-round-of-sched (may_take_all W s g.0) e
+no-round-of-unit W s Left (body.Sched g) k e = cc
+no-round-of-unit W s Plain (body.Ult ops) k e = no-round-of-ops (nat_lt k (length ops)) e
+no-round-of-unit W s Left (body.Ult ops) k e = no-round-of-ops (nat_lt k (length ops)) e
+no-round-of-unit W s Plain (body.Task ops) k e = no-round-of-ops (nat_lt k (length ops)) e
+no-round-of-unit W s Left (body.Task ops) k e = no-round-of-ops (nat_lt k (length ops)) e
+
+-- what is due for these parts of a stream
+abbrev due_for : Parts → ℕ → Held → List Owned → Option Owned → Option Owned → Due
+due_for W s held tray next hand = due_by {X = Owned} {Y = Owned} W s held.own tray next (option_map number_and_position hand)
+
+module _ (W : Parts) (s : ℕ) (held : Held) where
+  put-due : (o : Owned) (os : List Owned) → held.tray ≡ o ∷ os → due_of W s held ≡ PutDue
+  put-due o os tray = ap (λ (t : List Owned). due_for W s held t held.next held.hand) tray
+
+  look-due : (o : Owned) → held.tray ≡ [] → held.next ≡ Some o → due_of W s held ≡ LookDue
+  look-due o tray next = ap (λ (t : List Owned). due_for W s held t held.next held.hand) tray ∙ ap (λ (n : Option Owned). due_for W s held [] n held.hand) next
+
+  hand-due : (o : Owned) → held.tray ≡ [] → held.next ≡ None → held.hand ≡ Some o → due_of W s held ≡ due_of_unit W s held.own.mark (body_at W o.number) o.carried.position
+  hand-due o tray next hand =
+      ap (λ (t : List Owned). due_for W s held t held.next held.hand) tray ∙ (ap (λ (n : Option Owned). due_for W s held [] n held.hand) next ∙ ap (λ (h : Option Owned). due_for W s held [] None h) hand)
+
+  idle-due : held.tray ≡ [] → held.next ≡ None → held.hand ≡ None → due_of W s held ≡ due_of_frames held.own.top.empty held.own.below
+  idle-due tray next hand =
+      ap (λ (t : List Owned). due_for W s held t held.next held.hand) tray ∙ (ap (λ (n : Option Owned). due_for W s held [] n held.hand) next ∙ ap (λ (h : Option Owned). due_for W s held [] None h) hand)
+
+  leave-by : (b : Bool) (fs : List Frame) → b ≡ true → fs ≢ [] → due_of_frames b fs ≡ LeaveDue
+  leave-by true [] on some = absurd (some refl)
+  leave-by true (f ∷ fs) on some = refl
+  leave-by false fs on some = cc
+
+  leave-due : held.tray ≡ [] → held.next ≡ None → held.hand ≡ None → held.own.top.empty ≡ true → held.own.below ≢ [] → due_of W s held ≡ LeaveDue
+  leave-due tray next hand empty some = idle-due tray next hand ∙ leave-by held.own.top.empty held.own.below empty some
+
+  -- a round is due if the last one did not end empty, and on the lowest frame
+  pub round-due : held.tray ≡ [] → held.next ≡ None → held.hand ≡ None → held.own.top.empty ≡ false → due_of W s held ≡ RoundDue
+  round-due tray next hand going = idle-due tray next hand ∙ ap (λ (b : Bool). due_of_frames b held.own.below) going
+
+  lowest-by : (b : Bool) (fs : List Frame) → (fs ≢ [] → ⊥) → due_of_frames b fs ≡ RoundDue
+  lowest-by true [] none = refl
+  lowest-by true (f ∷ fs) none = absurd (none (λ e. cc))
+  lowest-by false fs none = refl
+
+  pub lowest-due : held.tray ≡ [] → held.next ≡ None → held.hand ≡ None → (held.own.below ≢ [] → ⊥) → due_of W s held ≡ RoundDue
+  lowest-due tray next hand none = idle-due tray next hand ∙ lowest-by held.own.top.empty held.own.below none
+
+-- Steps.
+
+put-rested : (o : Owned) (a : Answer) → Suits (act.Put o) a → a ≡ act.Rested
+put-rested o act.Rested h = refl
+put-rested o a h = absurd h
+
+looked-taken : (old : Held) (o : Owned) (cancel : Bool) (migrate : Option ℕ) → looked (record old { next = None }) o cancel migrate ≡ looked old o cancel migrate
+looked-taken old o true migrate = refl
+looked-taken old o false None = refl
+looked-taken old o false (Some p) = refl
+
+module _ (W : Parts) (Z : List OrderShape) (s : ℕ) (old : Held) (before : ObjectsValue) (named : What) (made : What) (new : Held) (after : ObjectsValue) where
+  -- a kind of event that is no round
+  no-round : (d : Due) → due_of W s old ≡ d → (d ≡ RoundDue → ⊥) → Moves W Z s old before made new after → MovesAs W Z s old before named (Some made) new after
+  no-round d due other moves = (moves, λ r. absurd (other (sym due ∙ r)))
+
+  pub put_moves : (o : Owned) → old.tray ≡ o ∷ new.tray → new ≡ record old { tray = new.tray } → Woken before o made after → MovesAs W Z s old before named (Some made) new after
+  put_moves o tray others h =
+      let x = site.Pool (pool_no o.carried.home) in
+      let is : h.call.0 ≡ act.Rested = put-rested o h.call.0 (answers-suit (object_at before x) (act.Put o) h.call.0 (object_at after x) h.call.1.gives) in
+      let due : due_of W s old ≡ PutDue = put-due W s old o new.tray tray in
+      let heard : Option Heard = Some (x, act.Put o, h.call.0) in
+      no-round PutDue due (λ e. cc)
+      (heard, subst (λ (w : What). Steps W Z s old w heard new) (sym h.made_is) (due, o, new.tray, tray, refl, refl, ap (λ (a : Answer). Some (x, act.Put o, a)) is, others), h.call.1)
+
+  pub look_moves : (o : Owned) (taken : Held) → old.tray ≡ [] → old.next ≡ Some o → taken ≡ record old { next = None } → Looks taken before o made new after → MovesAs W Z s old before named (Some made) new after
+  look_moves o taken tray next rest h =
+      let due : due_of W s old ≡ LookDue = look-due W s old o tray next in
+      let heard : Option Heard = Some (site.Desk (unit_no o.number), act.Look, act.Asks h.call.0 h.call.1) in
+      no-round LookDue due (λ e. cc) (
+        heard,
+        subst (λ (w : What). Steps W Z s old w heard new) (sym h.made_is)
+            (due, o, next, refl, h.call.0, h.call.1, refl, h.call.3 ∙ (ap (λ (held : Held). looked held o h.call.0 h.call.1) rest ∙ looked-taken old o h.call.0 h.call.1)),
+        h.call.2,
+      )
+
+  pub run_moves : (o : Owned) (taken : Held) → old.tray ≡ [] → old.next ≡ None → old.hand ≡ Some o → taken ≡ record old { hand = None } → Moves W Z s (in_hand o taken) before made new after → MovesAs W Z s old before named (Some made) new after
+  run_moves o taken tray next hand rest moves =
+      let same : in_hand o taken ≡ old = ap (in_hand o) rest ∙ ap (λ (h : Option Owned). record old { hand = h }) (sym hand) in
+      no-round (due_of_unit W s old.own.mark (body_at W o.number) o.carried.position) (hand-due W s old o tray next hand) (no-round-of-unit W s old.own.mark (body_at W o.number) o.carried.position)
+      (subst (λ (held : Held). Moves W Z s held before made new after) same moves)
+
+  pub leave_moves : old.tray ≡ [] → old.next ≡ None → old.hand ≡ None → old.own.top.empty ≡ true → old.own.below ≢ [] → after ≡ before → Leaves old made new → MovesAs W Z s old before named (Some made) new after
+  leave_moves tray next hand empty some stays h =
+      let due : due_of W s old ≡ LeaveDue = leave-due W s old tray next hand empty some in
+      no-round LeaveDue due (λ e. cc)
+      (None, subst (λ (w : What). Steps W Z s old w None new) (sym h.made_is) (due, h.unit, new.framed, h.framed, refl, refl, h.new_is), stays)
+
+-- a round at a pool that may be next
+pub visit_moves : (W : Parts) (Z : List OrderShape) (s : ℕ) (old : Held) (before : ObjectsValue) (named : What) (p : PoolNo) (made : What) (new : Held) (after : ObjectsValue) → due_of W s old ≡ RoundDue
+    → IsNextPool W Z old.own.top p.0 → visited named ≡ Some p.0 → Visits W s old before p made new after → MovesAs W Z s old before named (Some made) new after
+visit_moves W Z s old before named p (what.Miss q) new after due next is h =
+    let same : q.0 ≡ p.0 = ap (λ (x : PoolNo). x.0) h.0 in
+    let heard : Option Heard = Some (site.Pool p, act.Take (side_of W s p.0), act.Miss) in
+    (subst (λ (x : PoolNo). Moves W Z s old before (what.Miss x) new after) (sym h.0) (heard, (due, next, refl, h.2), h.1), λ r. ap (λ n. Some n) same ∙ sym is)
+visit_moves W Z s old before named p (what.Take q u) new after due next is h =
+    let same : q.0 ≡ p.0 = ap (λ (x : PoolNo). x.0) h.0 in
+    let heard : Option Heard = Some (site.Pool p, act.Take (side_of W s p.0), act.Given h.1) in
+    (subst (λ (x : PoolNo). Moves W Z s old before (what.Take x u) new after) (sym h.0) (heard, (due, next, h.1, sym (ap (λ (v : UnitNo). v.0) h.2), refl, h.4), h.3), λ r. ap (λ n. Some n) same ∙ sym is)
+visit_moves W Z s old before named p made new after due next is h = absurd h
+
+-- no pool that may be next
+pub no_visit : (W : Parts) (Z : List OrderShape) (s : ℕ) (old : Held) (before : ObjectsValue) (named : What) (new : Held) (after : ObjectsValue) → due_of W s old ≡ RoundDue
+    → ((p : ℕ) → visited named ≡ Some p → IsNextPool W Z old.own.top p → ⊥) → MovesAs W Z s old before named None new after
+no_visit W Z s old before named new after due none = (due, none)
+
+-- A stream from which nothing was taken is as it was.
+
+pub with_no_next : (old taken : Held) → taken ≡ record old { next = None } → old.next ≡ None → taken ≡ old
+with_no_next old taken rest none = rest ∙ ap (λ (n : Option Owned). record old { next = n }) (sym none)
+
+pub with_no_hand : (old taken : Held) → taken ≡ record old { hand = None } → old.hand ≡ None → taken ≡ old
+with_no_hand old taken rest none = rest ∙ ap (λ (h : Option Owned). record old { hand = h }) (sym none)
+
+-- so what it makes then is what it makes
+pub from_same : (W : Parts) (Z : List OrderShape) (s : ℕ) (old taken : Held) (before : ObjectsValue) (named : What) (made : Result (Option What) Want) (new : Held) (after : ObjectsValue) → taken ≡ old
+    → IfOk made (λ m. MovesAs W Z s taken before named m new after) → IfOk made (λ m. MovesAs W Z s old before named m new after)
+from_same W Z s old taken before named made new after same h = subst (λ (held : Held). IfOk made (λ m. MovesAs W Z s held before named m new after)) same h
+
+-- the pools of a round
+pub next-declared : (W : Parts) (Z : List OrderShape) (f : Frame) (p : ℕ) → IsValid W → IsNextPool W Z f p → p < length W.pools
+next-declared W Z f p valid next =
+    let sched : IsScheduler W f.sched = valid.scheds f.sched (order-declared W Z f.sched f.round next.0 next.1) in
+    All-contains (λ q. q < length W.pools) (pools_of W f.sched) p sched.pools (next_pool-listed W Z f p next)

@@ -1,0 +1,48 @@
+-- Lists by number.
+use Rattle.std.proofs.Common.{◌≡◌, ◌≢◌, ◌∙◌, ℕ, ◌+◌, ◌<◌, List, [], ◌∷◌, ◌++◌, Some, ap, arith, get_or, get_or-set_same, inl, inr, length, refl, slice_set, sym}
+use Rattle.std.proofs.lemmas.Bool.{cases_lt}
+use Rattle.std.proofs.lemmas.List.{get_or-set_other, get_or_append_left, get_or_push, length-set, length_push}
+use Rattle.std.proofs.lemmas.Option.{get_or_from_slice_get, slice_get-get_or}
+use Rattle.abt_check.specs.Lists.{AreNumbered}
+
+module _ {A : Type 0} (item : ℕ → A) where
+  pub numbered_none : AreNumbered 0 item []
+  numbered_none = record { many = refl; own = λ k l. absurd (omega arith) }
+
+  -- what stands at a number
+  pub numbered_at : (n k : ℕ) (xs : List A) (d : A) → AreNumbered n item xs → k < n → get_or xs k d ≡ item k
+  numbered_at n k xs d h l = get_or_from_slice_get xs k (item k) d (h.own k l)
+
+  -- one item more
+  pub numbered_push : (n : ℕ) (xs ys : List A) (x : A) → ys ≡ xs ++ x ∷ [] → AreNumbered n item xs → x ≡ item n → AreNumbered (n + 1) item ys
+  numbered_push n xs ys x e h is =
+      let more : length (xs ++ x ∷ []) ≡ length xs + 1 = length_push xs x in
+      let many : length xs ≡ n = h.many in
+      rw e (record {
+        many = omega arith;
+        own = λ k l.
+            slice_get-get_or (xs ++ x ∷ []) k x (omega arith) ∙ ap (λ y. Some y) (elim (cases_lt k n) [
+              | inl below ↦ get_or_append_left xs (x ∷ []) x k (omega arith) ∙ numbered_at n k xs x h below
+              | inr above ↦ (let there : n ≡ k = omega arith in get_or_push xs x x k (many ∙ there) ∙ (is ∙ ap item there))
+            ]);
+      })
+
+  -- another item in its place
+  pub numbered_set : (n s : ℕ) (xs : List A) (x : A) (other : ℕ → A) → AreNumbered n item xs → s < n → x ≡ other s → ((k : ℕ) → k ≢ s → other k ≡ item k) → AreNumbered n other (slice_set xs s x)
+  numbered_set n s xs x other h within is others =
+      let many : length xs ≡ n = h.many in
+      let long : length (slice_set xs s x) ≡ length xs = length-set xs s x in
+      let here : s < length xs = omega arith in
+      let same : (k : ℕ) → k ≡ s → get_or (slice_set xs s x) k x ≡ other k = λ k e. rw e (get_or-set_same xs s x x here ∙ is) in
+      let differ : (k : ℕ) → k < n → k ≢ s → get_or (slice_set xs s x) k x ≡ other k = λ k l d. get_or-set_other xs s k x x d ∙ (numbered_at n k xs x h l ∙ sym (others k d)) in
+      record {
+        many = long ∙ many;
+        own = λ k l.
+            slice_get-get_or (slice_set xs s x) k x (omega arith) ∙ ap (λ y. Some y) (elim (cases_lt k s) [
+              | inl below ↦ differ k l (λ e. omega arith)
+              | inr above ↦ elim (cases_lt s k) [
+                | inl over ↦ differ k l (λ e. omega arith)
+                | inr under ↦ same k (omega arith)
+              ]
+            ]);
+      }

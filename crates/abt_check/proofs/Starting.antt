@@ -1,0 +1,102 @@
+-- Streams and objects at the start of a run.
+use Rattle.std.proofs.Common.{◌≡◌, ◌∙◌, ℕ, ◌+◌, Bool, true, false, List, [], ◌∷◌, ◌++◌, Option, Some, ap, append-nil, arith, refl, slice_get, subst, sym, take}
+use Rattle.std.specs.Prelude.{cond, count_by}
+use Rattle.std.specs.List.{filter}
+use Rattle.std.proofs.lemmas.List.FromFn.{filter_of_map_range_with_len_more}
+use Rattle.std.proofs.lemmas.List.Sums.{count_by_more_no, count_by_more_yes}
+use Rattle.std.proofs.lemmas.Option.{get_or_from_slice_get, slice_get_within}
+use Rattle.abt_machine.specs.declared.events.Site.{Site}
+use Rattle.abt_machine.specs.declared.events.Site.TheVariants as site
+use Rattle.abt_machine.specs.declared.operations.Combine.{Combine}
+use Rattle.abt_machine.specs.declared.operations.OrderShape.{OrderShape}
+use Rattle.abt_machine.specs.declared.operations.Thing.{Thing}
+use Rattle.abt_machine.specs.declared.operations.Thing.TheVariants as thing
+use Rattle.abt_machine.specs.declared.workload.Parts.{Parts}
+use Rattle.abt_machine.specs.Fronts.{is_some_of}
+use Rattle.abt_machine.specs.Rounds.{OrdersStored}
+use Rattle.abt_machine.specs.Start.{start}
+use Rattle.abt_machine.specs.Valid.{IsValid}
+use Rattle.abt_machine.specs.Values.{Held, Owned, owned_at}
+use Rattle.abt_machine.specs.Workloads.{start_of, thing_at}
+use Rattle.abt_calls.specs.Asking.{IsSite}
+use Rattle.abt_calls.specs.Starts.{first_units, start_barrier, start_eventual, start_future, start_monitor, start_object, start_part, starts_in}
+use Rattle.abt_calls.proofs.Started.{objects-start, parts-start}
+use Rattle.abt_laws.proofs.SoundStart.{start-is-sound}
+use Rattle.abt_replay.specs.Objects.{ObjectsValue, desk_from, object_at, pool_from, slot_from}
+use Rattle.abt_check.specs.Clocks.{AreClocks, ClocksValue}
+use Rattle.abt_check.specs.Judges.{HasJudged}
+use Rattle.abt_check.specs.Lists.{AreNumbered}
+use Rattle.abt_check.specs.Replays.{ReplayValue, StandsFor}
+use Rattle.abt_check.specs.Starts.{AreObjectsAtStart, slot_at, slot_for}
+
+-- Pools.
+
+module _ (W : Parts) (p n : ℕ) (units more : List Owned) (before : units ≡ filter (starts_in W p) (first_units W n)) where
+  all-more : filter (starts_in W p) (first_units W (n + 1)) ≡ filter (starts_in W p) (first_units W n) ++ cond (is_some_of p (start_of W n)) (owned_at (start W) n ∷ []) []
+  all-more = filter_of_map_range_with_len_more (starts_in W p) (owned_at (start W)) 0 n n (omega arith)
+
+  -- a unit that starts there
+  pub pool_more : (o : Owned) (b : Bool) → b ≡ is_some_of p (start_of W n) → b ≡ true → o ≡ owned_at (start W) n → more ≡ units ++ o ∷ [] → more ≡ filter (starts_in W p) (first_units W (n + 1))
+  pool_more o b is on unit pushed =
+      let here : is_some_of p (start_of W n) ≡ true = sym is ∙ on in
+      pushed ∙ (ap (λ (us : List Owned). us ++ o ∷ []) before ∙ (ap (λ (u : Owned). filter (starts_in W p) (first_units W n) ++ u ∷ []) unit
+      ∙ (ap (λ b. filter (starts_in W p) (first_units W n) ++ cond b (owned_at (start W) n ∷ []) []) (sym here) ∙ sym all-more)))
+
+  -- and one that does not
+  pub pool_same : (b : Bool) → b ≡ is_some_of p (start_of W n) → b ≡ false → more ≡ units → more ≡ filter (starts_in W p) (first_units W (n + 1))
+  pool_same b is off same =
+      let there : is_some_of p (start_of W n) ≡ false = sym is ∙ off in
+      same ∙ (before ∙ (sym (append-nil (filter (starts_in W p) (first_units W n)))
+      ∙ (ap (λ b. filter (starts_in W p) (first_units W n) ++ cond b (owned_at (start W) n ∷ []) []) (sym there) ∙ sym all-more)))
+
+-- Objects.
+
+slot-monitor : (W : Parts) (x : ℕ) (t : Option Thing) → t ≡ Some thing.Mutex → slot_for W x t ≡ start_monitor W x t
+slot-monitor W x t is = subst (λ t. slot_for W x t ≡ start_monitor W x t) (sym is) refl
+
+slot-eventual : (W : Parts) (x : ℕ) (t : Option Thing) → t ≡ Some thing.Eventual → slot_for W x t ≡ start_eventual t
+slot-eventual W x t is = subst (λ t. slot_for W x t ≡ start_eventual t) (sym is) refl
+
+slot-future : (W : Parts) (x : ℕ) (t : Option Thing) (n : ℕ) (c : Combine) → t ≡ Some (thing.Future n c) → slot_for W x t ≡ start_future t
+slot-future W x t n c is = subst (λ t. slot_for W x t ≡ start_future t) (sym is) refl
+
+slot-barrier : (W : Parts) (x n : ℕ) (t : Option Thing) → t ≡ Some (thing.Barrier n) → slot_for W x t ≡ start_barrier t
+slot-barrier W x n t is = subst (λ t. slot_for W x t ≡ start_barrier t) (sym is) refl
+
+slot-there : (W : Parts) (objects : ObjectsValue) (x : ℕ) (t : Thing) → AreObjectsAtStart W objects → thing_at W x ≡ Some t → slot_from (slice_get objects.slots x) ≡ slot_at W x
+slot-there W objects x t are is = ap slot_from (are.slots.own x (slice_get_within W.objects x t is))
+
+-- the objects are those of the first state
+pub objects-stand : (W : Parts) (objects : ObjectsValue) → AreObjectsAtStart W objects → (x : Site) → IsSite W x → object_at objects x ≡ start_object W x
+objects-stand W objects are (site.Pool p) here = ap pool_from (are.pools.own p.0 here)
+objects-stand W objects are (site.Desk u) here = ap desk_from (are.desks.own u.0 here)
+objects-stand W objects are (site.Monitor x) here = slot-there W objects x.0 thing.Mutex are here ∙ slot-monitor W x.0 (thing_at W x.0) here
+objects-stand W objects are (site.Eventual x) here = slot-there W objects x.0 thing.Eventual are here ∙ slot-eventual W x.0 (thing_at W x.0) here
+objects-stand W objects are (site.Future x) here = slot-there W objects x.0 (thing.Future here.0 here.1) are here.2 ∙ slot-future W x.0 (thing_at W x.0) here.0 here.1 here.2
+objects-stand W objects are (site.Barrier x) here = slot-there W objects x.0 (thing.Barrier here.0) are here.1 ∙ slot-barrier W x.0 here.0 (thing_at W x.0) here.1
+
+-- streams and objects are those of the first state
+pub replay-starts : (W : Parts) (lanes : List Held) (objects : ObjectsValue) → AreNumbered W.streams (start_part W) lanes → AreObjectsAtStart W objects → StandsFor W (start W) (record { lanes = lanes; objects = objects })
+replay-starts W lanes objects numbered are = record {
+  lanes = record { many = numbered.many; own = λ k l. numbered.own k l ∙ ap (λ (held : Held). Some held) (sym (parts-start W k)) };
+  objects = λ x here. objects-stand W objects are x here ∙ sym (objects-start W x);
+}
+
+-- the empty journal is judged
+pub judge-starts : (W : Parts) (Z : List OrderShape) (replay : ReplayValue) (clocks : ClocksValue) → IsValid W → OrdersStored W Z → StandsFor W (start W) replay → AreClocks W [] clocks → HasJudged W Z [] (record { replay = replay; clocks = clocks })
+judge-starts W Z replay clocks valid stored stands are = record {
+  run = tt;
+  stamped = tt;
+  state = record { sound = start-is-sound W Z valid stored; rounds = λ s. (omega arith, tt) };
+  stands = stands;
+  clocks = are;
+}
+
+-- Conditions.
+
+module _ {X : Type 0} (p : X → Bool) (xs : List X) (i : ℕ) (x : X) (here : slice_get xs i ≡ Some x) where
+  pub one-more : (n : ℕ) → n ≡ count_by p (take i xs) → p x ≡ true → n + 1 ≡ count_by p (take (i + 1) xs)
+  one-more n is on = ap (λ k. k + 1) is ∙ sym (count_by_more_yes p xs i x (slice_get_within xs i x here) (ap p (get_or_from_slice_get xs i x x here) ∙ on))
+
+  pub none-more : (n : ℕ) → n ≡ count_by p (take i xs) → p x ≡ false → n ≡ count_by p (take (i + 1) xs)
+  none-more n is off = is ∙ sym (count_by_more_no p xs i x (slice_get_within xs i x here) (ap p (get_or_from_slice_get xs i x x here) ∙ off))

@@ -1,0 +1,63 @@
+//! A journal judged event by event.
+
+ghost use Rattle.std.specs.Prelude.{◌≡◌, ◌<◌, ◌-◌, ◌^◌, ◌++◌, [], ◌∷◌, IfOk, List, length};
+ghost use Rattle.abt_check.specs.Judges.{HasJudged, Judges};
+ghost use Rattle.abt_machine.specs.Rounds.{OrdersStored};
+ghost use Rattle.abt_machine.specs.Valid.{IsValid};
+ghost use Rattle.abt_machine.specs.declared.events.Event.{Event};
+ghost use Rattle.abt_machine.specs.declared.operations.OrderShape.{OrderShape};
+
+use crate::clocks::Clocks;
+use crate::replay::Replay;
+use abt_machine::{Event, OrderShape, Want, Workload};
+use std::alloc::Global;
+use std::marker::Model;
+
+/// Streams, objects and clocks after the events that were judged.
+#[derive(Drop)]
+pub(crate) struct Judge {
+    replay: Replay,
+    clocks: Clocks,
+}
+
+impl Model for Judge {
+    ghost use Rattle.abt_check.specs.Judges.{JudgeValue};
+
+    ghost Value = { JudgeValue };
+
+    ghost view = { λ j. record { replay = j.replay; clocks = j.clocks } };
+}
+
+impl Judge {
+    /// Before the first event. Out of memory is the only error.
+    pub(crate) fn start(alloc: Global, w: &Workload) -> Result<Judge, Want>
+        requires { IsValid w.now }
+        ensures { IfOk result (λ judge. (Z : List OrderShape) → OrdersStored w.now Z → HasJudged w.now Z [] judge) }
+    {
+        let replay = Replay::start(alloc, w)?;
+        let clocks = Clocks::start(alloc, w)?;
+        Ok(Judge { replay, clocks })
+    }
+
+    /// Whether the events judged so far, all of which were right, are a stamped run with this event too. `z` has the shapes of
+    /// the stored orders. Out of memory is the only error.
+    pub(crate) fn follow(
+        &mut self,
+        w: &Workload,
+        z: &[OrderShape],
+        event: Event,
+    ) -> Result<bool, Want>
+        requires valid { IsValid w.now }
+        requires stored { OrdersStored w.now z.now }
+        requires judged { (J : List Event) × (length J < 2 ^ 64 - 1) × HasJudged w.now z.now J self.old }
+        ensures { IfOk result (λ right. (J : List Event) → HasJudged w.now z.now J self.old → Judges w.now z.now (J ++ event ∷ []) right self.new) }
+    {
+        if event.stream.0 >= w.streams() {
+            return Ok(false);
+        }
+        if !self.replay.follow(w, z, event.stream, event.what)? {
+            return Ok(false);
+        }
+        Ok(self.clocks.follow(w, event))
+    }
+}

@@ -1,0 +1,61 @@
+//! Whether a journal is a run of a workload.
+
+ghost use Rattle.std.specs.Prelude.{◌≡◌, ◌≤◌, IfOk, List, length};
+ghost use Rattle.abt_check.specs.Verdicts.{IsJudged, OneVerdict};
+ghost use Rattle.abt_machine.specs.declared.operations.OrderShape.{OrderShape};
+ghost use Rattle.abt_machine.specs.declared.workload.Parts.{Parts};
+ghost use Rattle.abt_order.specs.Stored.{shapes_of};
+
+use crate::judge::Judge;
+use crate::verdict::Verdict;
+use abt_machine::{Journal, OrderShape, Want, Workload};
+use abt_order::StoredOrder;
+use std::alloc::Global;
+
+/// Judges a journal: it is a run of the workload with stamps, or the verdict has the greatest number of its first events that
+/// are one. Of the stored orders only the shapes count: a round by a free order may visit its pools in any order, and no
+/// order is called. Out of memory is the only error.
+pub fn check(
+    alloc: Global,
+    w: &Workload,
+    orders: &[StoredOrder],
+    journal: &Journal,
+) -> Result<Verdict, Want>
+    requires orders { 2 ≤ length orders.now }
+    ensures { IfOk result (IsJudged w.now (shapes_of orders.now) journal.now) }
+{
+    let shapes = shapes(alloc, orders)?;
+    judge(alloc, w, &shapes, journal)
+}
+
+/// A journal has one right verdict.
+pub fn one_verdict()
+    ensures { (W : Parts) (Z : List OrderShape) → OneVerdict W Z }
+{}
+
+// The shapes of stored orders.
+fn shapes(alloc: Global, orders: &[StoredOrder]) -> Result<Vec<OrderShape>, Want>
+    ensures { IfOk result (λ shapes. shapes.items ≡ shapes_of orders.now) }
+{
+    let mut shapes = Vec::with_capacity(alloc, orders.len())?;
+    for order in orders {
+        shapes.push(order.shape)?;
+    }
+    Ok(shapes)
+}
+
+// Judges a journal. `z` has the shapes of the stored orders.
+fn judge(alloc: Global, w: &Workload, z: &[OrderShape], journal: &Journal) -> Result<Verdict, Want>
+    requires { 2 ≤ length z.now }
+    ensures { IfOk result (IsJudged w.now z.now journal.now) }
+{
+    // The count is of no use here, but its contract says that the workload is valid.
+    w.streams();
+    let mut judge = Judge::start(alloc, w)?;
+    for (at, event) in journal.items().iter().enumerate() {
+        if !judge.follow(w, z, *event)? {
+            return Ok(Verdict::Bad { at: at as u64 });
+        }
+    }
+    Ok(Verdict::Run)
+}

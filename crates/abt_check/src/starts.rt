@@ -1,0 +1,160 @@
+//! Streams and objects at the start of a run.
+
+ghost use Rattle.std.specs.Prelude.{◌≡◌, ◌<◌, IfOk, length};
+ghost use Rattle.abt_calls.specs.Starts.{conditions, start_desk, start_part, start_phase, start_pool};
+ghost use Rattle.abt_check.specs.Lists.{AreNumbered};
+ghost use Rattle.abt_check.specs.Starts.{AreObjectsAtStart, slot_at};
+ghost use Rattle.abt_machine.specs.Fronts.{is_some_of};
+ghost use Rattle.abt_machine.specs.Start.{start};
+ghost use Rattle.abt_machine.specs.Values.{owned_at};
+ghost use Rattle.abt_replay.specs.Phases.{phase_of};
+ghost use Rattle.abt_machine.specs.Workloads.{is_condition_of, start_of};
+
+use abt_machine::{Body, ObjectNo, PoolNo, StreamNo, Thing, UnitNo, Want, Workload};
+use abt_replay::{
+    Barrier, Desk, Eventual, Future, Kept, Lane, Monitor, Objects, Phase, Pool, Slot, Unit,
+};
+use std::alloc::Global;
+use std::collections::VecDeque;
+
+/// What each stream holds. Out of memory is the only error.
+pub(crate) fn lanes(alloc: Global, w: &Workload) -> Result<Vec<Lane>, Want>
+    ensures { IfOk result (λ lanes. AreNumbered w.now.streams (start_part w.now) lanes.items) }
+{
+    let count = w.streams();
+    let mut lanes = Vec::with_capacity(alloc, count as usize)?;
+    for s in 0..count {
+        lanes.push(Lane::new(alloc, w, StreamNo(s)))?;
+    }
+    Ok(lanes)
+}
+
+/// All objects. Out of memory is the only error.
+pub(crate) fn objects(alloc: Global, w: &Workload) -> Result<Objects, Want>
+    ensures { IfOk result (AreObjectsAtStart w.now) }
+{
+    let pools = pools(alloc, w)?;
+    let desks = desks(alloc, w)?;
+    let slots = slots(alloc, w)?;
+    Ok(Objects::new(pools, desks, slots))
+}
+
+// All pools.
+fn pools(alloc: Global, w: &Workload) -> Result<Vec<Pool>, Want>
+    ensures { IfOk result (λ pools. AreNumbered (length w.now.pools) (start_pool w.now) pools.items) }
+{
+    let count = w.pools();
+    let mut pools = Vec::with_capacity(alloc, count as usize)?;
+    for p in 0..count {
+        pools.push(pool(alloc, w, PoolNo(p))?)?;
+    }
+    Ok(pools)
+}
+
+// A pool, with the units that start there in order of number.
+fn pool(alloc: Global, w: &Workload, p: PoolNo) -> Result<Pool, Want>
+    requires { p.0 < length w.now.pools }
+    ensures { IfOk result (λ pool. pool ≡ start_pool w.now p.0) }
+{
+    let mut units = VecDeque::new(alloc);
+    for u in 0..w.units() {
+        if starts_in(w, p, UnitNo(u)) {
+            units.push_back(Unit::make(alloc, w, UnitNo(u))?)?;
+        }
+    }
+    Ok(Pool::new(w.pool(p).kind, units))
+}
+
+// Whether the unit starts in the pool.
+fn starts_in(w: &Workload, p: PoolNo, u: UnitNo) -> bool
+    requires { u.0 < length w.now.units }
+    ensures { result ≡ is_some_of p.0 (start_of w.now u.0) }
+{
+    match w.unit(u).start {
+        Some(start) => start.0 == p.0,
+        None => false,
+    }
+}
+
+// All desks.
+fn desks(alloc: Global, w: &Workload) -> Result<Vec<Desk>, Want>
+    ensures { IfOk result (λ desks. AreNumbered (length w.now.units) (start_desk w.now) desks.items) }
+{
+    let count = w.units();
+    let mut desks = Vec::with_capacity(alloc, count as usize)?;
+    for u in 0..count {
+        desks.push(desk(alloc, w, UnitNo(u))?)?;
+    }
+    Ok(desks)
+}
+
+// The desk of a unit, which has the unit if that starts in no pool.
+fn desk(alloc: Global, w: &Workload, u: UnitNo) -> Result<Desk, Want>
+    requires { u.0 < length w.now.units }
+    ensures { IfOk result (λ desk. desk ≡ start_desk w.now u.0) }
+{
+    let sched = matches!(&w.unit(u).body, Body::Sched(_));
+    let phase = phase(alloc, w, u)?;
+    Ok(Desk::new(u, sched, phase, VecDeque::new(alloc)))
+}
+
+// Where the unit is: at its desk if it starts in no pool.
+fn phase(alloc: Global, w: &Workload, u: UnitNo) -> Result<Phase, Want>
+    requires { u.0 < length w.now.units }
+    ensures { IfOk result (λ phase. phase_of phase ≡ start_phase (owned_at (start w.now) u.0) (start_of w.now u.0)) }
+{
+    match w.unit(u).start {
+        Some(_) => Ok(Phase::Out),
+        None => Ok(Phase::Unborn(Unit::make(alloc, w, u)?)),
+    }
+}
+
+// All declared objects.
+fn slots(alloc: Global, w: &Workload) -> Result<Vec<Slot>, Want>
+    ensures { IfOk result (λ slots. AreNumbered (length w.now.objects) (slot_at w.now) slots.items) }
+{
+    let count = w.objects();
+    let mut slots = Vec::with_capacity(alloc, count as usize)?;
+    for x in 0..count {
+        slots.push(slot(alloc, w, ObjectNo(x))?)?;
+    }
+    Ok(slots)
+}
+
+// A declared object.
+fn slot(alloc: Global, w: &Workload, x: ObjectNo) -> Result<Slot, Want>
+    requires { x.0 < length w.now.objects }
+    ensures { IfOk result (λ slot. slot ≡ slot_at w.now x.0) }
+{
+    let kept = match w.thing(x) {
+        Thing::Mutex => Kept::Monitor(Monitor::new(alloc, conditions(w, x))?),
+        Thing::Cond(_) => Kept::WithItsMutex,
+        Thing::Eventual => Kept::Eventual(Eventual::new(alloc)),
+        Thing::Future(size, combine) => Kept::Future(Future::new(alloc, size, combine)),
+        Thing::Barrier(size) => Kept::Barrier(Barrier::new(alloc, size)),
+    };
+    Ok(Slot { kept })
+}
+
+// How many conditions the mutex has.
+fn conditions(w: &Workload, x: ObjectNo) -> u32
+    ensures { result ≡ conditions w.now x.0 }
+{
+    let mut count = 0;
+    for y in 0..w.objects() {
+        if is_condition_of(x, w.thing(ObjectNo(y))) {
+            count += 1;
+        }
+    }
+    count
+}
+
+// Whether a declared object is a condition of the mutex.
+fn is_condition_of(mutex: ObjectNo, thing: Thing) -> bool
+    ensures { result ≡ is_condition_of mutex.0 thing }
+{
+    match thing {
+        Thing::Cond(m) => m.0 == mutex.0,
+        _ => false,
+    }
+}

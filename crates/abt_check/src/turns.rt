@@ -1,0 +1,148 @@
+//! The next event of a stream.
+
+ghost use Rattle.std.specs.Prelude.{◌≡◌, ◌≢◌, ◌<◌, [], IfOk, None};
+ghost use Rattle.abt_check.specs.Turns.{CanMove, MovesAs};
+ghost use Rattle.abt_machine.specs.Next.{RoundDue};
+ghost use Rattle.abt_machine.specs.Rounds.{OrdersStored};
+ghost use Rattle.abt_machine.specs.Turns.{due_of};
+ghost use Rattle.abt_machine.specs.Valid.{IsValid};
+ghost use Rattle.abt_replay.specs.Events.{AreObjects};
+
+use crate::visits::{may_visit, visited};
+use abt_machine::{OrderShape, StreamNo, Want, What, Workload};
+use abt_replay::{Lane, Objects};
+
+/// Lets stream `s` make its next event; if a round is due, at the pool that `named` visits. None if that is no pool that the
+/// round may visit next. `z` has the shapes of the stored orders. Out of memory is the only error.
+pub(crate) fn move_as(
+    lane: &mut Lane,
+    objects: &mut Objects,
+    w: &Workload,
+    z: &[OrderShape],
+    s: StreamNo,
+    named: What,
+) -> Result<Option<What>, Want>
+    requires valid { IsValid w.now }
+    requires stored { OrdersStored w.now z.now }
+    requires stream { s.0 < w.now.streams }
+    requires lane { CanMove w.now z.now lane.old }
+    requires objects { AreObjects w.now objects.old }
+    ensures { IfOk result (λ made. MovesAs w.now z.now s.0 lane.old objects.old named made lane.new objects.new) }
+{
+    match lane.take_from_tray() {
+        Some(unit) => {
+            let made = Lane::put(objects, unit)?;
+            Ok(Some(made))
+        }
+        None => past_tray(lane, objects, w, z, s, named),
+    }
+}
+
+// The same if the tray is empty.
+fn past_tray(
+    lane: &mut Lane,
+    objects: &mut Objects,
+    w: &Workload,
+    z: &[OrderShape],
+    s: StreamNo,
+    named: What,
+) -> Result<Option<What>, Want>
+    requires valid { IsValid w.now }
+    requires stored { OrdersStored w.now z.now }
+    requires stream { s.0 < w.now.streams }
+    requires lane { CanMove w.now z.now lane.old }
+    requires objects { AreObjects w.now objects.old }
+    requires tray { lane.old.tray ≡ [] }
+    ensures { IfOk result (λ made. MovesAs w.now z.now s.0 lane.old objects.old named made lane.new objects.new) }
+{
+    match lane.take_next() {
+        Some(unit) => {
+            let made = lane.look(objects, unit)?;
+            Ok(Some(made))
+        }
+        None => past_next(lane, objects, w, z, s, named),
+    }
+}
+
+// The same if besides no taken unit is to be looked at.
+fn past_next(
+    lane: &mut Lane,
+    objects: &mut Objects,
+    w: &Workload,
+    z: &[OrderShape],
+    s: StreamNo,
+    named: What,
+) -> Result<Option<What>, Want>
+    requires valid { IsValid w.now }
+    requires stored { OrdersStored w.now z.now }
+    requires stream { s.0 < w.now.streams }
+    requires lane { CanMove w.now z.now lane.old }
+    requires objects { AreObjects w.now objects.old }
+    requires tray { lane.old.tray ≡ [] }
+    requires next { lane.old.next ≡ None }
+    ensures { IfOk result (λ made. MovesAs w.now z.now s.0 lane.old objects.old named made lane.new objects.new) }
+{
+    match lane.take_hand() {
+        Some(unit) => {
+            let made = lane.run(objects, w, s, unit)?;
+            Ok(Some(made))
+        }
+        None => past_hand(lane, objects, w, z, s, named),
+    }
+}
+
+// The same if the stream holds no unit: it leaves its top frame, or goes on with a round.
+fn past_hand(
+    lane: &mut Lane,
+    objects: &mut Objects,
+    w: &Workload,
+    z: &[OrderShape],
+    s: StreamNo,
+    named: What,
+) -> Result<Option<What>, Want>
+    requires valid { IsValid w.now }
+    requires stored { OrdersStored w.now z.now }
+    requires stream { s.0 < w.now.streams }
+    requires lane { CanMove w.now z.now lane.old }
+    requires objects { AreObjects w.now objects.old }
+    requires tray { lane.old.tray ≡ [] }
+    requires next { lane.old.next ≡ None }
+    requires hand { lane.old.hand ≡ None }
+    ensures { IfOk result (λ made. MovesAs w.now z.now s.0 lane.old objects.old named made lane.new objects.new) }
+{
+    if !lane.top().empty {
+        return go_round(lane, objects, w, z, s, named);
+    }
+    if !lane.is_stacked() {
+        return go_round(lane, objects, w, z, s, named);
+    }
+    Ok(Some(lane.leave()))
+}
+
+// The same if a round is due.
+fn go_round(
+    lane: &mut Lane,
+    objects: &mut Objects,
+    w: &Workload,
+    z: &[OrderShape],
+    s: StreamNo,
+    named: What,
+) -> Result<Option<What>, Want>
+    requires valid { IsValid w.now }
+    requires stored { OrdersStored w.now z.now }
+    requires stream { s.0 < w.now.streams }
+    requires lane { CanMove w.now z.now lane.old }
+    requires objects { AreObjects w.now objects.old }
+    requires next { lane.old.next ≡ None }
+    requires due { due_of w.now s.0 lane.old ≡ RoundDue }
+    ensures { IfOk result (λ made. MovesAs w.now z.now s.0 lane.old objects.old named made lane.new objects.new) }
+{
+    let Some(p) = visited(named) else {
+        return Ok(None);
+    };
+    if !may_visit(w, z, lane.top(), p) {
+        return Ok(None);
+    }
+    let made = lane.visit(objects, w, s, p)?;
+    Ok(Some(made))
+}

@@ -1,0 +1,5 @@
+//! Trials of judging journals, on workloads and journals that are read from texts.
+#![tactic(auto)]
+
+#[cfg(test)]
+mod checks;
