@@ -67,7 +67,7 @@ module _ (W : Parts) (Z : List OrderShape) (n : ℕ) (m : Moment) (reached : IsR
 
 -- Going on.
 
--- an event that is no step comes where none is due
+-- an event that is no step comes if no step is due
 step-due : (W : Parts) (Z : List OrderShape) (s : ℕ) (old : Held) (w : What) (heard : Option Heard) (new : Held) → Steps W Z s old w heard new → is_step w ≡ false → due_of W s old ≡ StepDue → ⊥
 step-due W Z s old (what.Miss p) heard new steps other e = let d : due_of W s old ≡ RoundDue = steps.0 in cc
 step-due W Z s old (what.Take p u) heard new steps other e = let d : due_of W s old ≡ RoundDue = steps.0 in cc
@@ -151,7 +151,7 @@ module _ (W : Parts) (Z : List OrderShape) (valid : IsValid W) (stored : OrdersS
         let f : (new.parts 0).own.top.empty ≡ false = subst (λ r. (new.parts r).own.top.empty ≡ false) (first alone) (goes_on ends.0) in
         differ (sym e ∙ f)
 
-  -- where something is left to do, the stream is awake
+  -- if something is left to do, the stream is awake
   pub busy-awake : (m : Moment) → IsReached W Z n m → (IsQuietIn W m → ⊥) → IsAwake W m
   busy-awake m reached busy alone ended =
       let lead : LeadTo W Z (m.logs 0) m = log-leads m reached alone in

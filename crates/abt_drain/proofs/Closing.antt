@@ -5,11 +5,14 @@ use Rattle.abt_machine.specs.declared.events.Event.{Event}
 use Rattle.abt_machine.specs.declared.events.Outcome.{Outcome}
 use Rattle.abt_machine.specs.declared.operations.OrderShape.{OrderShape}
 use Rattle.abt_machine.specs.declared.workload.Parts.{Parts}
+use Rattle.abt_machine.specs.Rounds.{OrdersStored}
 use Rattle.abt_machine.specs.Runs.{last_state}
 use Rattle.abt_machine.specs.Texts.{shown_units}
+use Rattle.abt_machine.specs.Valid.{IsValid}
 use Rattle.abt_calls.specs.Holders.{units_of}
 use Rattle.abt_interleave.specs.Merges.{IsLogOf}
 use Rattle.abt_interleave.proofs.Members.{Among, all-from-among}
+use Rattle.abt_commons.specs.Held.{ObjectsValue}
 use Rattle.abt_merge.specs.Logs.{AreLogs, log_of}
 use Rattle.abt_outcomes.specs.Values.{LooksAs}
 use Rattle.abt_report.specs.declared.pictures.Row.{Row}
@@ -18,14 +21,15 @@ use Rattle.abt_simulation.specs.Journals.{MergesTo}
 use Rattle.abt_stream.specs.declared.stream.StreamParts.{StreamParts}
 use Rattle.abt_stream.specs.Streams.{FitsStream, StreamValue}
 use Rattle.abt_laws.proofs.Options.{some-injective}
-use Rattle.abt_drain.specs.Crews.{CrewValue, HaveLeft, HaveStopped, IsCrew, log_from, logs_in, moment_in}
-use Rattle.abt_drain.specs.Looks.{held_from}
-use Rattle.abt_drain.specs.Moments.{LeadTo, Moment, made_at}
+use Rattle.abt_drain.specs.Crews.{CrewValue, HaveLeft, HaveStopped, IsCrew, log_from, logs_in, moment_in, moment_of}
+use Rattle.abt_drain.specs.Looks.{AreStreams, held_from}
+use Rattle.abt_drain.specs.Moments.{HasCome, LeadTo, Moment, made_at}
 use Rattle.abt_drain.specs.Pictures.{LeavesWhatFits, ShowsUnits, units_left}
 use Rattle.abt_drain.specs.Rotations.{IsAtStop}
 use Rattle.abt_drain.specs.Runs.{HasRun}
+use Rattle.abt_drain.proofs.Coming.{come-lead, come-log}
 use Rattle.abt_drain.proofs.Ending.{has-run}
-use Rattle.abt_drain.proofs.Journals.{log-is, merged-lead}
+use Rattle.abt_drain.proofs.Journals.{has-come}
 use Rattle.abt_drain.proofs.Leading.{lead-sound}
 use Rattle.abt_drain.proofs.Leaving.{left-fits}
 
@@ -84,14 +88,42 @@ all-fit W streams rest left fits = all-from-among (LeavesWhatFits W) rest (λ pa
 stopped-at-stop : (W : Parts) (Z : List OrderShape) (n : ℕ) (m : Moment) (o : Outcome) → HaveStopped W Z n m o → IsAtStop W n m
 stopped-at-stop W Z n m o stopped alone = elim (stopped.turned.emptied refl 0 (omega arith)) [ inl emptied ↦ inl emptied.1 | inr spent ↦ inr spent ]
 
+module _ (W : Parts) (Z : List OrderShape) (valid : IsValid W) (stored : OrdersStored W Z) (n : ℕ) (streams : List StreamValue) (objects : ObjectsValue) (are : AreStreams W n streams)
+    (come : HasCome W Z n (moment_of W streams objects)) where
+  -- the logs of streams that have come to a moment are logs
+  pub come-logs : AreLogs (logs_in streams)
+  come-logs s = subst (IsLogOf (λ (e : Event). e.stamp) (λ (e : Event). e.stream.0) s) (sym (log-at streams s)) (come-log W Z valid stored n (moment_of W streams objects) come s)
+
+  module _ (J : List Event) (merged : MergesTo (log_of (logs_in streams)) J) where
+    pub come-merges : MergesTo (moment_of W streams objects).logs J
+    come-merges = record { in_order = merged.in_order; each = λ s. merged.each s ∙ log-at streams s }
+
+    lead : LeadTo W Z J (moment_of W streams objects)
+    lead = come-lead W Z valid stored n (moment_of W streams objects) come J come-merges
+
+    -- the picture shows their units
+    pub come-shows : (rest : List StreamParts) (rows : List Row) → HaveLeft streams rest → ShowsUnits W rest objects rows → shown_units W (last_state W J) ≡ picture.units_of rows
+    come-shows rest rows left shows = shows Z (last_state W J) (lead-sound W Z valid stored J (moment_of W streams objects) lead) (record {
+      many = left-many streams rest left ∙ are.many;
+      left = λ s parts e. (
+          let at : (stream : StreamValue) × (slice_get streams s ≡ Some stream) × (units_left parts ≡ units_of stream.held) = left-at streams rest s parts left e in
+          at.2 ∙ ap units_of (sym (lead.stand.streams s (declared s at.0 at.1) ∙ ap (held_from _) at.1)));
+      held = lead.stand.sites;
+    }) where
+      declared : (s : ℕ) (stream : StreamValue) → slice_get streams s ≡ Some stream → s < W.streams
+      declared s stream e = subst (λ k. s < k) are.many (slice_get_within streams s stream e)
+
 module _ (W : Parts) (Z : List OrderShape) (n : ℕ) (crew : CrewValue) (is : IsCrew W Z n crew) where
+  come : HasCome W Z n (moment_in W crew)
+  come = has-come W Z is.valid is.stored n (moment_in W crew) is.reached
+
   -- the logs of its streams are logs
   pub are-logs : AreLogs (logs_in crew.streams)
-  are-logs s = subst (IsLogOf (λ (e : Event). e.stamp) (λ (e : Event). e.stream.0) s) (sym (log-at crew.streams s)) (log-is W Z is.valid is.stored n (moment_in W crew) is.reached s)
+  are-logs = come-logs W Z is.valid is.stored n crew.streams crew.objects is.streams come
 
   module _ (J : List Event) (merged : MergesTo (log_of (logs_in crew.streams)) J) where
     merges : MergesTo (moment_in W crew).logs J
-    merges = record { in_order = merged.in_order; each = λ s. merged.each s ∙ log-at crew.streams s }
+    merges = come-merges W Z is.valid is.stored n crew.streams crew.objects is.streams come J merged
 
     -- the merged journal is the run of a crew that looks as it ended so
     pub crew-ended : (o : Outcome) → IsAtStop W n (moment_in W crew) → LooksAs W n (moment_in W crew).parts (moment_in W crew).objects (made_at (moment_in W crew)) o → HasRun W Z n J o
@@ -101,17 +133,6 @@ module _ (W : Parts) (Z : List OrderShape) (n : ℕ) (crew : CrewValue) (is : Is
     pub crew-ran : (o : Outcome) → HaveStopped W Z n (moment_in W crew) o → HasRun W Z n J o
     crew-ran o stopped = crew-ended o (stopped-at-stop W Z n (moment_in W crew) o stopped) stopped.looks
 
-    lead : LeadTo W Z J (moment_in W crew)
-    lead = merged-lead W Z is.valid is.stored n (moment_in W crew) is.reached J merges
-
     -- the picture shows its units
     pub crew-shows : (rest : List StreamParts) (rows : List Row) → HaveLeft crew.streams rest → ShowsUnits W rest crew.objects rows → shown_units W (last_state W J) ≡ picture.units_of rows
-    crew-shows rest rows left shows = shows Z (last_state W J) (lead-sound W Z is.valid is.stored J (moment_in W crew) lead) (record {
-      many = left-many crew.streams rest left ∙ is.streams.many;
-      left = λ s parts e. (
-          let at : (stream : StreamValue) × (slice_get crew.streams s ≡ Some stream) × (units_left parts ≡ units_of stream.held) = left-at crew.streams rest s parts left e in
-          at.2 ∙ ap units_of (sym (lead.stand.streams s (declared s at.0 at.1) ∙ ap (held_from _) at.1)));
-      held = lead.stand.sites;
-    }) where
-      declared : (s : ℕ) (stream : StreamValue) → slice_get crew.streams s ≡ Some stream → s < W.streams
-      declared s stream e = subst (λ k. s < k) is.streams.many (slice_get_within crew.streams s stream e)
+    crew-shows = come-shows W Z is.valid is.stored n crew.streams crew.objects is.streams come J merged

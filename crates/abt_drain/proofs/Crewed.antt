@@ -132,7 +132,7 @@ module _ (W : Parts) (Z : List OrderShape) (n : ℕ) (crew : CrewValue) (is : Is
   step-awake : (w : What) → Advances W Z old crew.objects w new after → (IsMiss w → new.held.own.top.empty ≡ false) → IsAwake W there
   step-awake w a goes_on = awake-after W Z is.valid is.stored n s w here there is.reached (reached-after w a) (made w a) (λ miss. ap (λ h. h.own.top.empty) part-after ∙ goes_on miss)
 
-  -- where nothing changed, the moment is the same
+  -- if nothing changed, the moment is the same
   same-moment : new.held ≡ old.held → new.log ≡ old.log → new.clock ≡ old.clock → after ≡ crew.objects → there ≡ here
   same-moment held log clock same = λ i. record {
     parts = fun_ext {f = there.parts} {g = here.parts} (λ r. own (λ q. there.parts q ≡ here.parts q) (part-after ∙ (held ∙ sym part-before)) (λ q ne. (others-stay q ne).part) r) i;

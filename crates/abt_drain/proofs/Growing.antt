@@ -45,7 +45,7 @@ module _ (W : Parts) (Z : List OrderShape) where
     λ x ne. cond-false (same_site h.0 x) (histories x ++ entry_by d h ∷ []) (histories x) (false_from_ne_true (same_site h.0 x) (λ e. ne ((tells-sites W Z h.0 x).0 e))),
   )
 
-  -- the last stamps of histories, where they were the sites' clocks
+  -- the last stamps of histories, if they were the sites' clocks
   times-grow : (histories longer : Site → List SiteEntry) (d : StreamDeed) (heard : Option Heard) (old new : Site → ℕ) → HistoryGrows (machine_of W Z) histories d heard longer →
       ((x : Site) → last_stamp (entry_stamps (histories x)) ≡ old x) → Timed old heard d.stamp new → (x : Site) → last_stamp (entry_stamps (longer x)) ≡ new x
   times-grow histories longer d None old new grown was timed x = ap (λ es. last_stamp (entry_stamps es)) (grown x) ∙ (was x ∙ sym (timed x))

@@ -28,7 +28,7 @@ use Rattle.abt_laws.proofs.SoundRuns.{runs-are-sound}
 use Rattle.abt_drain.specs.Moments.{LeadTo, Makes, Moment, event_at}
 use Rattle.abt_drain.specs.Rotations.{Lead}
 
--- 1 where it is so
+-- 1 if it is so
 abbrev one_if : Bool → ℕ
 one_if b = cond b 1 0
 

@@ -1,6 +1,7 @@
 pub mod Advancing
 pub mod Alone
 pub mod Closing
+pub mod Coming
 pub mod Crewed
 pub mod Ending
 pub mod Growing

@@ -46,7 +46,7 @@ module _ (S : State) where
   right-row : (row : held.Row) → IsRowOf S row → picture.unit_of (row_of row) ≡ unit_at row.1.number
   right-row row is = ap₂ (λ x (o : Owned). record { shown = x; output = o.carried.output }) is.0 is.1
 
-  -- after right rows were put in, the row of a number is right where it was, and where one was put in
+  -- after right rows were put in, the row of a number is right if it was before, or if one was put in for it
   placed-right : (xs : List held.Row) (rows : List Row) (u : ℕ) (d : Row) → All (IsRowOf S) xs → u < length rows
       → (picture.unit_of (get_or rows u d) ≡ unit_at u → picture.unit_of (get_or (placed xs rows) u d) ≡ unit_at u)
       × (Contains (map (λ (row : held.Row). row.1.number) xs) u → picture.unit_of (get_or (placed xs rows) u d) ≡ unit_at u)

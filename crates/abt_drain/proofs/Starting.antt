@@ -1,15 +1,19 @@
--- The start of a run is reached.
+-- The start of a run is reached, and streams have come to it.
 use Rattle.std.proofs.Common.{◌≡◌, ℕ, ◌<◌, ◌≤◌, ◌^◌, inl, List, [], ◌∷◌, ◌++◌, length, refl, sym, ◌∙◌, ap, subst, arith}
 use Rattle.std.specs.Prelude.{Contains}
 use Rattle.abt_machine.specs.declared.events.Event.{Event}
 use Rattle.abt_machine.specs.declared.operations.OrderShape.{OrderShape}
 use Rattle.abt_machine.specs.declared.workload.Parts.{Parts}
 use Rattle.abt_machine.specs.Outcomes.{steps_in}
+use Rattle.abt_machine.specs.Start.{start}
+use Rattle.abt_machine.specs.Values.{object_of, part_of}
+use Rattle.abt_interleave.specs.Machines.{Gathered}
 use Rattle.abt_interleave.proofs.Members.{to-among}
-use Rattle.abt_drain.specs.Moments.{IsReached, IsStart, Moment}
+use Rattle.abt_simulation.specs.Merging.{machine_of}
+use Rattle.abt_drain.specs.Moments.{HasCome, IsReached, IsStart, Moment, made_at}
 use Rattle.abt_drain.specs.Rotations.{IsAwake, IsFresh, IsGoing}
 
-no-member : {A : Type 0} (x : A) → Contains [] x → ⊥
+pub no-member : {A : Type 0} (x : A) → Contains [] x → ⊥
 no-member x m = to-among [] x m
 
 no-last : (front : List Event) (e : Event) → [] ≡ front ++ e ∷ [] → ⊥
@@ -17,22 +21,43 @@ no-last [] e is = cc
 no-last (f ∷ front) e is = cc
 
 module _ (W : Parts) (m : Moment) (is : IsStart W m) where
+  pub start-gathered : (Z : List OrderShape) → Gathered (machine_of W Z) (part_of W (start W)) (object_of W (start W)) (λ s. []) (λ x. []) m.parts m.objects
+  start-gathered Z = record {
+    courses = λ s lt. (tt, is.parts s lt);
+    undeclared = λ s ge. refl;
+    legal = λ x. (tt, is.objects x);
+    matched = record { has_entry = λ d x e a l. absurd (no-member d a); has_deed = λ x e a. absurd (no-member e a) };
+  }
+
+  pub start-few : (s : ℕ) → length (m.logs s) ≤ 2 ^ 57
+  start-few s = subst (λ log. length log ≤ 2 ^ 57) (sym (is.logs s)) (omega arith)
+
+  pub start-within : (n s : ℕ) → made_at m s ≤ n
+  start-within n s = subst (λ log. steps_in log ≤ n) (sym (is.logs s)) (omega arith)
+
   pub start-reached : (Z : List OrderShape) (n : ℕ) → IsReached W Z n m
   start-reached Z n = record {
     deeds = λ s. [];
     histories = λ x. [];
-    gathered = record {
-      courses = λ s lt. (tt, is.parts s lt);
-      undeclared = λ s ge. refl;
-      legal = λ x. (tt, is.objects x);
-      matched = record { has_entry = λ d x e a l. absurd (no-member d a); has_deed = λ x e a. absurd (no-member e a) };
-    };
+    gathered = start-gathered Z;
     timed = λ s. tt;
     logs = λ s. sym (is.logs s);
     clocks = λ s. sym (is.clocks s);
     times = λ x. sym (is.times x);
-    few = λ s. subst (λ log. length log ≤ 2 ^ 57) (sym (is.logs s)) (omega arith);
-    within = λ s. subst (λ log. steps_in log ≤ n) (sym (is.logs s)) (omega arith);
+    few = start-few;
+    within = start-within n;
+  }
+
+  abbrev pub start-come : (Z : List OrderShape) (n : ℕ) → HasCome W Z n m
+  start-come Z n = record {
+    deeds = λ s. [];
+    histories = λ x. [];
+    gathered = start-gathered Z;
+    no_gap = λ s d a. absurd (no-member d a);
+    logs = λ s. sym (is.logs s);
+    clocks = λ s. sym (is.clocks s);
+    few = start-few;
+    within = start-within n;
   }
 
   pub start-going : (n : ℕ) → IsGoing W n m

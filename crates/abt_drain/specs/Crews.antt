@@ -81,7 +81,7 @@ pub record Advances (W : Parts) (Z : List OrderShape) (old : StreamValue) (befor
   pub times : Timed (clock_at before) heard new.clock (clock_at after)
   pub log : new.log ≡ old.log ++ record { stamp = new.clock; stream = old.number; what = w } ∷ []
 
--- a turn of a stream, by its answer; it is worn only where its own clock or that of an object is at its end
+-- a turn of a stream, by its answer; it is worn only if its own clock or that of an object is at its end
 abbrev pub TurnsBy : Parts → List OrderShape → StreamValue → ObjectsValue → Turn → StreamValue → ObjectsValue → Type 0
 TurnsBy W Z old before turn.Stepped new after = (w : What) × Advances W Z old before w new after × (is_step w ≡ true)
 TurnsBy W Z old before turn.EmptyRound new after = (p : PoolNo) × Advances W Z old before (what.Miss p) new after × (new.held.own.top.empty ≡ true)
@@ -101,7 +101,7 @@ TurnBy W Z n s old turn.Moved new = MakesMove W Z s old new
 TurnBy W Z n s old turn.Spent new = IsSpentIn W n old s × (new ≡ old)
 TurnBy W Z n s old turn.Worn new = ⊥
 
--- an only stream stays awake, but where its round ended empty
+-- an only stream stays awake, unless its round ended empty
 abbrev pub StaysAwake : Parts → Turn → Moment → Type 0
 StaysAwake W turn.Stepped m = IsAwake W m
 StaysAwake W turn.EmptyRound m = ⊤

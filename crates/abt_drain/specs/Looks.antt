@@ -80,7 +80,7 @@ abbrev pub EndedWith : Parts → ℕ → List StreamValue → ObjectsValue → O
 EndedWith W n streams objects (Some o) = LooksAs W n (parts_of W streams) (object_at objects) (steps_made streams) o
 EndedWith W n streams objects None = GoesOn W n streams objects
 
--- the journal ended so, where each stream may make n steps, or nothing of an end is in it
+-- if each stream may make n steps, the journal ended so, or it has no end yet
 abbrev pub EndsWith : Parts → ℕ → List Event → Option Outcome → Type 0
 EndsWith W n J (Some o) = EndsAs W n J o
 EndsWith W n J None = (Quiet W (last_state W J) → ⊥) × ((s : ℕ) → Spent W n J s → ⊥)

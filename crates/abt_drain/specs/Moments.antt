@@ -14,7 +14,7 @@ use Rattle.abt_machine.specs.Turns.{Heard, Steps}
 use Rattle.abt_machine.specs.Values.{Held, Object, part_of, object_of}
 use Rattle.abt_interleave.specs.Deeds.{Answered, last_stamp, deed_stamps, entry_stamps}
 use Rattle.abt_interleave.specs.Machines.{Gathered}
-use Rattle.abt_interleave.specs.Stamps.{AllTimed}
+use Rattle.abt_interleave.specs.Stamps.{AllTimed, LeavesNoGap}
 use Rattle.abt_outcomes.specs.Values.{StandFor, HaveMade}
 use Rattle.abt_simulation.specs.Journals.{events_of}
 use Rattle.abt_simulation.specs.Merging.{StreamDeed, SiteEntry, machine_of}
@@ -93,5 +93,16 @@ pub record IsReached (W : Parts) (Z : List OrderShape) (n : ℕ) (m : Moment) : 
   pub logs : (s : ℕ) → events_of deeds s ≡ m.logs s
   pub clocks : (s : ℕ) → last_stamp (deed_stamps (deeds s)) ≡ m.clocks s
   pub times : (x : Site) → last_stamp (entry_stamps (histories x)) ≡ m.times x
+  pub few : (s : ℕ) → length (m.logs s) ≤ 2 ^ 57
+  pub within : (s : ℕ) → made_at m s ≤ n
+
+-- the same, whatever clocks the objects' stamps went by: no more is known of stamps than that they leave no gap
+pub record HasCome (W : Parts) (Z : List OrderShape) (n : ℕ) (m : Moment) : Type 0 where
+  pub deeds : ℕ → List StreamDeed
+  pub histories : Site → List SiteEntry
+  pub gathered : Gathered (machine_of W Z) (part_of W (start W)) (object_of W (start W)) deeds histories m.parts m.objects
+  pub no_gap : LeavesNoGap deeds
+  pub logs : (s : ℕ) → events_of deeds s ≡ m.logs s
+  pub clocks : (s : ℕ) → last_stamp (deed_stamps (deeds s)) ≡ m.clocks s
   pub few : (s : ℕ) → length (m.logs s) ≤ 2 ^ 57
   pub within : (s : ℕ) → made_at m s ≤ n

@@ -108,7 +108,7 @@ turns_at W m s = turns_seen W m.parts m.objects s
 abbrev pub IsAtStop : Parts → ℕ → Moment → Type 0
 IsAtStop W n m = W.streams ≡ 1 → HasMissed m 0 ⊎ IsSpentIn W n m 0
 
--- the journal has no event, or no proper front of it stops
+-- the journal has no event, or no proper prefix of it stops
 abbrev pub HasNotStoppedBefore : Parts → ℕ → List Event → Type 0
 HasNotStoppedBefore W n J = (J ≡ []) ⊎ ((front : List Event) × (e : Event) × (J ≡ front ++ e ∷ []) × HasNotStopped W n front)
 

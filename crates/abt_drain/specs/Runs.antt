@@ -1,20 +1,34 @@
--- The run that all streams make in rotation.
+-- The run that all streams make.
 use Rattle.std.specs.Prelude.{ℕ, ◌≡◌, List}
 use Rattle.abt_machine.specs.declared.events.Event.{Event}
 use Rattle.abt_machine.specs.declared.events.Outcome.{Outcome}
+use Rattle.abt_machine.specs.declared.events.Outcome.TheVariants as outcome
 use Rattle.abt_machine.specs.declared.operations.OrderShape.{OrderShape}
 use Rattle.abt_machine.specs.declared.workload.Parts.{Parts}
 use Rattle.abt_machine.specs.Lives.{LivesOf}
 use Rattle.abt_machine.specs.Outcomes.{EndsAs}
-use Rattle.abt_machine.specs.Runs.{Run, state_at}
+use Rattle.abt_machine.specs.Runs.{Run, last_state, state_at}
 use Rattle.abt_machine.specs.Sound.{Sound}
 use Rattle.abt_machine.specs.Stamps.{Stamped, Lamport}
 use Rattle.abt_bounds.specs.Laws.{HasNoFreeOrder}
+use Rattle.abt_flow.specs.Confluent.{Confluent}
+use Rattle.abt_flow.specs.Flow.{IsFlow}
+use Rattle.abt_flow.specs.Laws.{outputs}
 use Rattle.abt_outcomes.specs.OneStream.{GoesToItsStop, IsOnlyRun}
 use Rattle.abt_outcomes.specs.Rotations.{IsWithin}
 
--- the journal is a run of the workload whose streams may make n steps each, with Lamport's stamps, through sound states, with lives
--- as they go, and it ended so; of one stream it goes to its stop, and where no order is free there is no other such run
+-- the journal is a run of the workload whose streams may make n steps each, stamped, through sound states, with lives as they go, and it
+-- ended so; if it finished and W is confluent, the units put out what its flow says
+pub record IsRunOf (W : Parts) (Z : List OrderShape) (n : ℕ) (J : List Event) (o : Outcome) : Type 0 where
+  pub run : Run W Z J
+  pub stamped : Stamped W J
+  pub sound : (i : ℕ) → Sound W Z (state_at W J i)
+  pub lives : LivesOf W J
+  pub within : IsWithin W n J
+  pub ended : EndsAs W n J o
+  pub flow : o ≡ outcome.Finished → Confluent W → IsFlow W (outputs W (last_state W J))
+
+-- the same with Lamport's stamps; of one stream it goes to its stop, and if no order is free there is no other such run
 pub record HasRun (W : Parts) (Z : List OrderShape) (n : ℕ) (J : List Event) (o : Outcome) : Type 0 where
   pub run : Run W Z J
   pub stamped : Stamped W J
@@ -23,5 +37,6 @@ pub record HasRun (W : Parts) (Z : List OrderShape) (n : ℕ) (J : List Event) (
   pub lives : LivesOf W J
   pub within : IsWithin W n J
   pub ended : EndsAs W n J o
+  pub flow : o ≡ outcome.Finished → Confluent W → IsFlow W (outputs W (last_state W J))
   pub stops : W.streams ≡ 1 → GoesToItsStop W n J
   pub only : W.streams ≡ 1 → HasNoFreeOrder W Z → IsOnlyRun W Z n J

@@ -7,7 +7,7 @@ mod pictures;
 mod run;
 mod streams;
 
-pub use outcomes::outcome;
+pub use outcomes::{has_empty_pools, has_ended, outcome};
 pub use pictures::picture;
 pub use run::{Run, drain, drain_at_pace};
 pub use streams::{split_logs, start_streams};

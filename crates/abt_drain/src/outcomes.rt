@@ -9,9 +9,9 @@ use abt_commons::Objects;
 use abt_machine::{Outcome, StreamNo, UnitNo, Workload};
 use abt_stream::Stream;
 
-/// How the run ended that these objects and streams are of: `Finished` where nothing is left to do and every unit is unborn or
-/// ended, `Stuck` where nothing is left to do and some unit is neither, and `Budget` of the least stream that has made its
-/// steps and would make another. None where it goes on. It takes no memory.
+/// How the run ended that these objects and streams are of: `Finished` if nothing is left to do and every unit is unborn or
+/// ended, `Stuck` if nothing is left to do and some unit is neither, and `Budget` of the least stream that has made its
+/// steps and would make another. None if it goes on. It allocates nothing.
 pub fn outcome<'w>(
     w: &Workload,
     objects: &Objects<'w>,
@@ -78,8 +78,8 @@ fn is_quiet<'w>(w: &Workload, objects: &Objects<'w>, streams: &[Stream]) -> bool
     true
 }
 
-// Whether the pools that the main scheduler of the stream lists are empty.
-fn has_empty_pools<'w>(w: &Workload, objects: &Objects<'w>, s: StreamNo) -> bool
+/// Whether the pools that the main scheduler of the stream lists are empty.
+pub fn has_empty_pools<'w>(w: &Workload, objects: &Objects<'w>, s: StreamNo) -> bool
     requires stream { s.0 < w.now.streams }
     requires objects { objects.now.workload ≡ w.now }
     ensures { IsTrue result ↔ HasEmptyPools w.now objects.now s.0 }
@@ -94,8 +94,8 @@ fn has_empty_pools<'w>(w: &Workload, objects: &Objects<'w>, s: StreamNo) -> bool
     true
 }
 
-// Whether every unit is at its desk, unborn or ended.
-fn has_ended<'w>(w: &Workload, objects: &Objects<'w>) -> bool
+/// Whether every unit is at its desk, unborn or ended.
+pub fn has_ended<'w>(w: &Workload, objects: &Objects<'w>) -> bool
     requires { objects.now.workload ≡ w.now }
     ensures { IsTrue result ↔ LooksEnded w.now (object_at objects.now) }
 {

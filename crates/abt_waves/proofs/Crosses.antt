@@ -1,104 +1,25 @@
--- A stream with its pass may go to another thread, and the objects behind their locks may be shared with it.
+-- A stream with its pass may go to another thread, with what came of it.
 use denote.RattleType.{RattleType}
 use denote.Param.Send.{IsSend, IsSync, sendable}
-use denote.Param.SendFields.{as_row_sync}
 use denote.Ref.{NamedLft}
-use Rattle.std.proofs.Crossing.{Box-send, Box-sync, Vec-send, Vec-sync, crosses}
-use Rattle.abt_unit.specs.contracts.unit.UnitBody as UnitBody
-use Rattle.abt_unit.specs.contracts.unit.Unit as Unit
-use Rattle.abt_unit.proofs.unit.Unit.TheLaws.TheKnot.{sync-Unit}
-use Rattle.abt_unit.proofs.Crosses.{Unit-send, Workload-sync}
-use Rattle.abt_chain.specs.contracts.chain.Chain as Chain
-use Rattle.abt_chain.proofs.Crosses.{Chain-send}
-use Rattle.abt_pool.specs.contracts.pool.Pool as Pool
-use Rattle.abt_desk.specs.contracts.desk.Desk as Desk
-use Rattle.abt_monitor.specs.contracts.monitor.Monitor as Monitor
-use Rattle.abt_eventual.specs.contracts.eventual.Eventual as Eventual
-use Rattle.abt_eventual.specs.contracts.future.Future as Future
-use Rattle.abt_barrier.specs.contracts.barrier.Barrier as Barrier
-use Rattle.abt_booth.proofs.Crosses.{Booth-sync, Seat-send}
-use Rattle.abt_commons.specs.contracts.acts.Act as Act
-use Rattle.abt_commons.specs.contracts.acts.Answer as Answer
-use Rattle.abt_commons.specs.contracts.shared.Shared as Shared
-use Rattle.abt_commons.specs.contracts.one.One as One
-use Rattle.abt_commons.specs.contracts.one.OneObject.TheImpl as OneObject
-use Rattle.abt_commons.specs.contracts.split.Split as Split
-use Rattle.abt_commons.specs.contracts.split.SplitPass as SplitPass
-use Rattle.abt_booth.specs.contracts.booth.Seat as Seat
+use denote.Param.Members.{Shared}
+use denote.Param.Object.{Ghosts, Vt, table_of}
+use denote.Param.Table.{Table}
+use mir.Syntax.{Dict, Slots}
+use denote.Param.Sent.{Syncs}
+use denote.Struct.Field.{u32-field, u64-field}
+use Rattle.std.proofs.Crossing.{Box-send, crosses, dyn_box_sync}
 use Rattle.abt_machine.specs.contracts.events.Event as Event
+use Rattle.abt_unit.specs.contracts.unit.Unit as Unit
+use Rattle.abt_unit.proofs.Crosses.{Unit-send}
+use Rattle.abt_chain.proofs.Crosses.{Chain-send}
 use Rattle.abt_order.specs.contracts.rounds.Scheduler as Scheduler
+use Rattle.abt_order.specs.contracts.stored.StoredOrder as StoredOrder
 use Rattle.abt_stream.specs.contracts.parts.Frame as Frame
 use Rattle.abt_stream.specs.contracts.stream.Stream as Stream
+use Rattle.abt_waves.specs.contracts.locks.StoredOrders as StoredOrders
 use Rattle.abt_waves.specs.contracts.voyages.Job as Job
 use Rattle.abt_waves.specs.contracts.voyages.Returned as Returned
-
-UnitBody-sync : IsSync UnitBody.the_row
-UnitBody-sync = search (sendable, crosses) depth 90 fits 20000
-
-Unit-sync : IsSync Unit.the_row
-Unit-sync = sync-Unit (as_row_sync UnitBody.the_field UnitBody-sync) (λ h s. let box = Box-sync h s in search sendable depth 20)
-
-Chain-sync : IsSync Chain.the_row
-Chain-sync = let box = Box-sync Unit.the_row Unit-sync in search sendable depth 30
-
--- An object of each kind.
-
-Pool-send : IsSend Pool.the_row
-Pool-send = search (sendable, Chain-send) depth 30
-
-Pool-sync : IsSync Pool.the_row
-Pool-sync = search (sendable, Chain-sync) depth 30
-
-Desk-send : IsSend Desk.the_row
-Desk-send = search (sendable, crosses, Chain-send, Unit-send) depth 40
-
-Desk-sync : IsSync Desk.the_row
-Desk-sync = search (sendable, crosses, Chain-sync, Unit-sync) depth 40
-
-Monitor-send : IsSend Monitor.the_row
-Monitor-send = search (sendable, crosses, Chain-send) depth 40
-
-Monitor-sync : IsSync Monitor.the_row
-Monitor-sync = search (sendable, crosses, Vec-sync, Chain-sync) depth 40
-
-Eventual-send : IsSend Eventual.the_row
-Eventual-send = search (sendable, Chain-send) depth 30
-
-Eventual-sync : IsSync Eventual.the_row
-Eventual-sync = search (sendable, Chain-sync) depth 30
-
-Future-send : IsSend Future.the_row
-Future-send = search (sendable, Chain-send) depth 30
-
-Future-sync : IsSync Future.the_row
-Future-sync = search (sendable, Chain-sync) depth 30
-
-Barrier-send : IsSend Barrier.the_row
-Barrier-send = search (sendable, Chain-send) depth 30
-
-Barrier-sync : IsSync Barrier.the_row
-Barrier-sync = search (sendable, Chain-sync) depth 30
-
-Shared-send : IsSend (Shared.the_field).row
-Shared-send = search (sendable, Pool-send, Desk-send, Monitor-send, Eventual-send, Future-send, Barrier-send) depth 30
-
-Shared-sync : IsSync (Shared.the_field).row
-Shared-sync = search (sendable, Pool-sync, Desk-sync, Monitor-sync, Eventual-sync, Future-sync, Barrier-sync) depth 30
-
-One-send : (a : NamedLft) → IsSend (One.the_row a)
-One-send a = search (sendable, Workload-sync, Shared-send) depth 30
-
-One-sync : (a : NamedLft) → IsSync (One.the_row a)
-One-sync a = search (sendable, Workload-sync, Shared-sync) depth 30
-
--- Passes and locks.
-
-Split-sync : (a : NamedLft) (R : RattleType) → IsSync R → IsSync (Split.the_row a R)
-Split-sync a R s =
-    let booth = Booth-sync (One.the_row a) Act.the_row Answer.the_row OneObject.ghosts (One-send a) in
-    search (sendable, crosses, Vec-sync, Workload-sync, One-sync) depth 40
-
--- Streams.
 
 Event-send : IsSend Event.the_row
 Event-send = search sendable depth 60 fits 20000
@@ -114,18 +35,20 @@ Stream-send = let box = Box-send Unit.the_row Unit-send in search (sendable, cro
 
 -- What goes to a thread, and what comes back.
 
-SplitPass-send : (a : NamedLft) → IsSend (SplitPass.the_field a).row
-SplitPass-send a =
-    let seats = Vec-send (Seat.the_row (One.the_row a) Act.the_row Answer.the_row OneObject.ghosts) (Seat-send (One.the_row a) Act.the_row Answer.the_row OneObject.ghosts (One-send a)) in
-    search sendable depth 30
+pub Job-send : (a : NamedLft) (C X : RattleType) → IsSync C → IsSend X → IsSend (Job.the_row a C X)
+Job-send a C X shared own = search (sendable, Stream-send) depth 30
 
-pub Job-send : (a b : NamedLft) (R : RattleType) → IsSync R → IsSend (Job.the_row a b R)
-Job-send a b R s =
-    let split = Split-sync b R s in
-    let pass = SplitPass-send b in
-    search (sendable, Stream-send) depth 30
+pub Returned-send : (X : RattleType) → IsSend X → IsSend (Returned.the_row X)
+Returned-send X own = search (sendable, Stream-send) depth 30
 
-pub Returned-send : (a : NamedLft) → IsSend (Returned.the_row a)
-Returned-send a =
-    let pass = SplitPass-send a in
-    search (sendable, Stream-send) depth 30
+-- Stored orders may be shared by threads, as their functions may.
+module _ (D : RattleType) (own : Ghosts D.Denot) (f : Shared ((x : D.Denot) × (own.1.0 x).0.Denot) (u64-field.Value × (u32-field.Value × (u32-field.Value × Unit {0}))) u32-field.Value) where
+  StoredOrder-sync : Syncs (table_of D.Denot own) → IsSync D → IsSync (StoredOrder.the_row D own f)
+  StoredOrder-sync all d = let box = dyn_box_sync D own all d in search sendable depth 30
+
+  pub StoredOrders-sync : (a : NamedLft) → Syncs (table_of D.Denot own) → IsSync D → IsSync (StoredOrders.the_row a D own f)
+  StoredOrders-sync a all d = let order = StoredOrder-sync all d in search sendable depth 30
+
+-- What names the function of a stored order may be.
+pub vtable-sync : {G : Type 0 → Type 1} (slots : Dict → Slots) (T : Table G Dict) → IsSync (Vt slots T)
+vtable-sync slots T = search sendable depth 20

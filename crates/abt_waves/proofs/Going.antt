@@ -1,7 +1,6 @@
 -- A turn of one stream in a wave.
-use Rattle.std.proofs.Common.{◌≡◌, ℕ, ◌<◌, ◌≤◌, ◌+◌, inl, inr, List, [], ◌∷◌, ◌++◌, map, length, slice_get, Option, Some, None, refl, sym, ◌∙◌, ap, subst, arith}
+use Rattle.std.proofs.Common.{◌≡◌, ℕ, ◌<◌, ◌≤◌, ◌+◌, inl, inr, List, [], ◌∷◌, ◌++◌, map, length, Option, Some, None, refl, sym, ◌∙◌, ap, subst, arith}
 use Rattle.std.proofs.lemmas.List.{append-nil, append_assoc, length-append, map-append}
-use Rattle.std.proofs.lemmas.Option.{get_or_from_slice_get, slice_get_within}
 use Rattle.abt_machine.specs.declared.events.Site.{Site}
 use Rattle.abt_machine.specs.declared.events.What.{What}
 use Rattle.abt_machine.specs.declared.events.What.TheVariants as what
@@ -16,52 +15,52 @@ use Rattle.abt_interleave.specs.Machines.{Machine}
 use Rattle.abt_interleave.proofs.Prefixes.{extends-self, gone-along, gone-further, gone-nowhere, own-deeds-show}
 use Rattle.abt_simulation.specs.Merging.{StreamDeed, event_of, machine_of}
 use Rattle.abt_order.specs.Schedulers.{SchedulerValue}
-use Rattle.abt_commons.specs.declared.split.SplitPass.{SplitPass}
-use Rattle.abt_booth.specs.Seats.{seen_of}
 use Rattle.abt_commons.specs.Replies.{Told}
-use Rattle.abt_commons.specs.Sites.{site_number}
-use Rattle.abt_commons.specs.Splits.{HasSeenNothing, SplitMoves, SplitValue, carried_to, own_lock, seen_by, seen_from, sights_of, site_line}
 use Rattle.abt_stream.specs.Heeding.{Heeds}
 use Rattle.abt_stream.specs.Streams.{Rooms, StreamValue}
 use Rattle.abt_stream.specs.Turned.{IsPrepared, Made, MetEnd, Turned, Went}
 use Rattle.abt_stream.specs.declared.turns.Turn.{Turn}
 use Rattle.abt_stream.specs.declared.turns.Turn.TheVariants as turn
+use Rattle.abt_waves.specs.Locks.{HasSeenNothing, LocksValue, Moves}
 use Rattle.abt_waves.specs.Voyages.{HasGone, IsWorn}
 use Rattle.abt_waves.proofs.Lasts.{last-append}
 
-module _ (split : SplitValue) (Z : List OrderShape) where
-  abbrev M : Machine
-  M = machine_of split.workload Z
+module _ {Lock Pass : Type 0} (locks : LocksValue Lock Pass) (lock : Site → Lock) (Z : List OrderShape) where
+  abbrev W : Parts
+  W = locks.objects.workload
 
-  abbrev Moves : SplitPass → Site → ℕ → Act → Told → SplitPass → Type 0
-  Moves = Heeds (SplitMoves split) split.workload
+  abbrev M : Machine
+  M = machine_of W Z
+
+  abbrev Heeded : Pass → Site → ℕ → Act → Told → Pass → Type 0
+  Heeded = Heeds (Moves locks lock) W
 
   -- what stream s does with these stamp, event and call
   abbrev doing : ℕ → ℕ → What → Option Heard → StreamDeed
   doing s stamp w heard = record { stamp = stamp; stream = s; what = w; heard = heard }
 
   -- the call of a deed is seen
-  sees : (s at stamp : ℕ) (w : What) (before after : SplitPass) (heard : Option Heard) → before.stream ≡ s → Went Moves at before heard stamp after →
-      Sees M own_lock (carried_to split) s (sights_of split before) at (doing s stamp w heard) heard (sights_of split after)
+  sees : (s at stamp : ℕ) (w : What) (before after : Pass) (heard : Option Heard) → locks.number before ≡ s → Went Heeded at before heard stamp after →
+      Sees M lock locks.carried s (locks.sights before) at (doing s stamp w heard) heard (locks.sights after)
   sees s at stamp w before after None own went =
-      subst (λ p. Sees M own_lock (carried_to split) s (sights_of split before) at (doing s stamp w None) None (sights_of split p)) (sym went.1)
-      (own-deeds-show M Site own_lock (carried_to split) s at (sights_of split before) (doing s stamp w None) went.0)
+      subst (λ p. Sees M lock locks.carried s (locks.sights before) at (doing s stamp w None) None (locks.sights p)) (sym went.1)
+      (own-deeds-show M Lock lock locks.carried s at (locks.sights before) (doing s stamp w None) went.0)
   sees s at stamp w before after (Some h) own went =
-      subst (λ r. Sees M own_lock (carried_to split) r (sights_of split before) at (doing r stamp w (Some h)) (Some h) (sights_of split after)) own (went.0 Z w)
+      subst (λ r. Sees M lock locks.carried r (locks.sights before) at (doing r stamp w (Some h)) (Some h) (locks.sights after)) own (went.0 Z w)
 
-  module _ (first old : StreamValue) (before : SplitPass) (new : StreamValue) (after : SplitPass) (own : before.stream ≡ old.number.0) (gone : HasGone split.workload Z split first old before) where
-    numbered : before.stream ≡ first.number.0
+  module _ (first old : StreamValue) (before : Pass) (new : StreamValue) (after : Pass) (own : locks.number before ≡ old.number.0) (gone : HasGone locks lock W Z first old before) where
+    numbered : locks.number before ≡ first.number.0
     numbered = own ∙ ap (λ (k : StreamNo). k.0) gone.number
 
     -- one deed more
-    made-gone : (w : What) → Made Moves split.workload Z old before w new after → new.number ≡ old.number → new.budget ≡ old.budget → HasGone split.workload Z split first new after
+    made-gone : (w : What) → Made Heeded W Z old before w new after → new.number ≡ old.number → new.budget ≡ old.budget → HasGone locks lock W Z first new after
     made-gone w made number budget =
         let d : StreamDeed = doing first.number.0 new.clock w made.heard in
         record {
           deeds = gone.deeds ++ d ∷ [];
-          gone = gone-further M Site own_lock (carried_to split) first.number.0 first.clock first.held old.held new.held gone.deeds (sights_of split before) (sights_of split after) d gone.gone refl
-              (subst (λ (k : StreamNo). Steps split.workload Z k.0 old.held w made.heard new.held) gone.number made.steps)
-              (subst (λ t. Sees M own_lock (carried_to split) first.number.0 (sights_of split before) t d made.heard (sights_of split after)) gone.clock
+          gone = gone-further M Lock lock locks.carried first.number.0 first.clock first.held old.held new.held gone.deeds (locks.sights before) (locks.sights after) d gone.gone refl
+              (subst (λ (k : StreamNo). Steps W Z k.0 old.held w made.heard new.held) gone.number made.steps)
+              (subst (λ t. Sees M lock locks.carried first.number.0 (locks.sights before) t d made.heard (locks.sights after)) gone.clock
               (sees first.number.0 old.clock new.clock w before after made.heard numbered made.went));
           log = made.log ∙ ((λ i. gone.log i ++ record { stamp = new.clock; stream = gone.number i; what = w } ∷ [])
               ∙ (append_assoc first.log (map event_of gone.deeds) (event_of d ∷ []) ∙ ap (λ es. first.log ++ es) (sym (map-append event_of gone.deeds (d ∷ [])))));
@@ -71,16 +70,16 @@ module _ (split : SplitValue) (Z : List OrderShape) where
         }
 
     -- none
-    same-gone : new ≡ old → after ≡ before → HasGone split.workload Z split first new after
-    same-gone stream pass = subst (λ (q : StreamValue × SplitPass). HasGone split.workload Z split first q.0 q.1) (λ i. (sym stream i, sym pass i)) gone
+    same-gone : new ≡ old → after ≡ before → HasGone locks lock W Z first new after
+    same-gone stream pass = subst (λ (q : StreamValue × Pass). HasGone locks lock W Z first q.0 q.1) (λ i. (sym stream i, sym pass i)) gone
 
-    met-gone : new ≡ old → MetEnd Moves split.workload Z old before after → HasGone split.workload Z split first new after
+    met-gone : new ≡ old → MetEnd Heeded W Z old before after → HasGone locks lock W Z first new after
     met-gone same met = elim met [
       | inl own ↦ same-gone same own.2
-      | inr call ↦ subst (λ s. HasGone split.workload Z split first s after) (sym same) (record {
+      | inr call ↦ subst (λ s. HasGone locks lock W Z first s after) (sym same) (record {
         deeds = gone.deeds;
-        gone = gone-along M Site own_lock (carried_to split) first.number.0 first.clock first.held old.held gone.deeds (sights_of split before) (sights_of split after) gone.gone
-            (subst (λ r. (l : Site) → Extends M r (sights_of split before l) (sights_of split after l)) numbered (call.3.0 Z).extends);
+        gone = gone-along M Lock lock locks.carried first.number.0 first.clock first.held old.held gone.deeds (locks.sights before) (locks.sights after) gone.gone
+            (subst (λ r. (l : Lock) → Extends M r (locks.sights before l) (locks.sights after l)) numbered (call.3.0 Z).extends);
         log = gone.log;
         clock = gone.clock;
         number = gone.number;
@@ -88,29 +87,29 @@ module _ (split : SplitValue) (Z : List OrderShape) where
       })
     ]
 
-    pub turned-gone : (t : Turn) → Turned Moves split.workload Z old before t new after → new.number ≡ old.number → new.budget ≡ old.budget → HasGone split.workload Z split first new after
+    pub turned-gone : (t : Turn) → Turned Heeded W Z old before t new after → new.number ≡ old.number → new.budget ≡ old.budget → HasGone locks lock W Z first new after
     turned-gone turn.Stepped h number budget = made-gone (what.Step h.0 h.1 h.2) h.3 number budget
     turned-gone turn.EmptyRound h number budget = made-gone (what.Miss h.0) h.1 number budget
     turned-gone turn.Moved h number budget = made-gone h.0 h.1 number budget
     turned-gone turn.Spent h number budget = same-gone h.1 h.2
     turned-gone turn.Worn h number budget = met-gone h.0 h.1
 
-  module _ (old : StreamValue) (before : SplitPass) (new : StreamValue) (after : SplitPass) where
+  module _ (old : StreamValue) (before : Pass) (new : StreamValue) (after : Pass) where
     -- a turn that met a worn clock
-    pub turned-worn : (t : Turn) → t ≡ turn.Worn → Turned Moves split.workload Z old before t new after → IsWorn split new after
-    turned-worn t e turned = worn (subst (λ u. Turned Moves split.workload Z old before u new after) e turned) where
-      worn : Turned Moves split.workload Z old before turn.Worn new after → IsWorn split new after
-      worn h = subst (λ s. IsWorn split s after) (sym h.0) (elim h.1 [ inl own ↦ inl own.1 | inr call ↦ inr (call.0, (call.3.0 Z).worn) ])
+    pub turned-worn : (t : Turn) → t ≡ turn.Worn → Turned Heeded W Z old before t new after → IsWorn locks lock new after
+    turned-worn t e turned = worn (subst (λ u. Turned Heeded W Z old before u new after) e turned) where
+      worn : Turned Heeded W Z old before turn.Worn new after → IsWorn locks lock new after
+      worn h = subst (λ s. IsWorn locks lock s after) (sym h.0) (elim h.1 [ inl own ↦ inl own.1 | inr call ↦ inr (call.0, (call.3.0 Z).worn) ])
 
     module _ (n : ℕ) (short : length old.log < n) where
-      grown : (w : What) → Made Moves split.workload Z old before w new after → length new.log ≤ n
+      grown : (w : What) → Made Heeded W Z old before w new after → length new.log ≤ n
       grown w made = let e : length new.log ≡ length old.log + 1 = ap length made.log ∙ length-append old.log (_ ∷ []) in omega arith
 
       kept : new ≡ old → length new.log ≤ n
       kept e = let q : length new.log ≡ length old.log = ap (λ (s : StreamValue). length s.log) e in omega arith
 
       -- a log that was shorter than a bound is at most as long after the turn
-      pub few-after : (t : Turn) → Turned Moves split.workload Z old before t new after → length new.log ≤ n
+      pub few-after : (t : Turn) → Turned Heeded W Z old before t new after → length new.log ≤ n
       few-after turn.Stepped h = grown (what.Step h.0 h.1 h.2) h.3
       few-after turn.EmptyRound h = grown (what.Miss h.0) h.1
       few-after turn.Moved h = grown h.0 h.1
@@ -121,29 +120,22 @@ module _ (split : SplitValue) (Z : List OrderShape) where
 abbrev prepared : StreamValue → SchedulerValue → List PoolNo → Rooms → StreamValue
 prepared s scheduler order rooms = record s { top = record s.top { scheduler = scheduler }; order = order; rooms = rooms }
 
--- what a stream has done does not depend on what it took for a turn
-pub prepared-gone : {W : Parts} {Z : List OrderShape} {split : SplitValue} {first old ready : StreamValue} {pass : SplitPass} → IsPrepared old ready → HasGone W Z split first old pass → HasGone W Z split first ready pass
-prepared-gone {W} {Z} {split} {first} {old} {ready} {pass} is g =
-    subst (λ s. HasGone W Z split first s pass) (sym is) (same ready.top.scheduler ready.order ready.rooms) where
-      same : (scheduler : SchedulerValue) (order : List PoolNo) (rooms : Rooms) → HasGone W Z split first (prepared old scheduler order rooms) pass
-      same scheduler order rooms = record { deeds = g.deeds; gone = g.gone; log = g.log; clock = g.clock; number = g.number; budget = g.budget }
+module _ {Lock Pass : Type 0} (locks : LocksValue Lock Pass) (lock : Site → Lock) (W : Parts) (Z : List OrderShape) where
+  -- what a stream has done does not depend on what it took for a turn
+  pub prepared-gone : (first old ready : StreamValue) (pass : Pass) → IsPrepared old ready → HasGone locks lock W Z first old pass → HasGone locks lock W Z first ready pass
+  prepared-gone first old ready pass is g = subst (λ s. HasGone locks lock W Z first s pass) (sym is) (same ready.top.scheduler ready.order ready.rooms) where
+    same : (scheduler : SchedulerValue) (order : List PoolNo) (rooms : Rooms) → HasGone locks lock W Z first (prepared old scheduler order rooms) pass
+    same scheduler order rooms = record { deeds = g.deeds; gone = g.gone; log = g.log; clock = g.clock; number = g.number; budget = g.budget }
 
--- when the wave begins a stream has done nothing, and its pass has seen nothing
-pub none-gone : {W : Parts} {Z : List OrderShape} {split : SplitValue} → split.workload ≡ W → (stream : StreamValue) (pass : SplitPass) → HasSeenNothing pass → HasGone W Z split stream stream pass
-none-gone {W} {Z} {split} same stream pass fresh = record {
-  deeds = [];
-  gone = gone-along (machine_of W Z) Site own_lock (carried_to split) stream.number.0 stream.clock stream.held stream.held [] (λ l. []) (sights_of split pass)
-      (gone-nowhere (machine_of W Z) Site own_lock (carried_to split) stream.number.0 stream.clock stream.held) (λ x. subst (λ line. Extends (machine_of W Z) stream.number.0 [] line) (sym (nothing x)) (extends-self (machine_of W Z) stream.number.0 []));
-  log = sym (append-nil stream.log);
-  clock = refl;
-  number = refl;
-  budget = refl;
-} where
-  nothing : (x : Site) → sights_of split pass x ≡ []
-  nothing x = by (site_number split.workload x) where
-    by : (o : Option ℕ) → site_line split.workload x (seen_by pass.seats.items o) ≡ []
-    by None = refl
-    by (Some i) = ap (λ h. site_line split.workload x h) (none-seen (slice_get pass.seats.items i) refl) where
-      none-seen : (o : _) → slice_get pass.seats.items i ≡ o → seen_from o ≡ []
-      none-seen None e = refl
-      none-seen (Some seat) e = subst (λ s. seen_of s ≡ []) (get_or_from_slice_get pass.seats.items i seat seat e) (fresh i seat (slice_get_within pass.seats.items i seat e))
+  -- when the wave begins a stream has done nothing, and its pass has seen nothing
+  pub none-gone : (stream : StreamValue) (pass : Pass) → HasSeenNothing locks pass → HasGone locks lock W Z stream stream pass
+  none-gone stream pass fresh = record {
+    deeds = [];
+    gone = gone-along (machine_of W Z) Lock lock locks.carried stream.number.0 stream.clock stream.held stream.held [] (λ l. []) (locks.sights pass)
+        (gone-nowhere (machine_of W Z) Lock lock locks.carried stream.number.0 stream.clock stream.held)
+        (λ l. subst (λ line. Extends (machine_of W Z) stream.number.0 [] line) (sym (fresh l)) (extends-self (machine_of W Z) stream.number.0 []));
+    log = sym (append-nil stream.log);
+    clock = refl;
+    number = refl;
+    budget = refl;
+  }

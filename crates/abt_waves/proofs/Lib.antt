@@ -1,6 +1,8 @@
 pub mod Crosses
 pub mod Departing
+pub mod Fleets
 pub mod Going
 pub mod Lasts
 pub mod Rejoining
+pub mod SplitSeen
 pub mod Waving

@@ -1,76 +1,106 @@
--- A wave, from the objects that locks are made round to those that the closed locks leave.
-use Rattle.std.proofs.Common.{◌≡◌, ◌≢◌, ℕ, ◌<◌, ◌≤◌, List, map, length, Some, sym, ◌∙◌, ap, subst, arith}
+-- A wave, from the objects that locks are made round to those that the opened locks leave.
+use Rattle.std.proofs.Common.{◌≡◌, ◌≢◌, ℕ, ◌<◌, Bool, false, List, map, length, slice_get, Some, sym, ◌∙◌, ap, subst}
 use Rattle.std.specs.Prelude.{slice_index_or}
 use Rattle.std.specs.List.{All}
-use Rattle.abt_machine.specs.declared.events.Outcome.{Outcome}
+use Rattle.abt_machine.specs.declared.events.Site.{Site}
 use Rattle.abt_machine.specs.declared.operations.OrderShape.{OrderShape}
 use Rattle.abt_machine.specs.declared.workload.Parts.{Parts}
+use Rattle.abt_machine.specs.Valid.{IsValid}
+use Rattle.abt_interleave.specs.Weaving.{TellsLocks}
 use Rattle.abt_commons.specs.AllPasses.{AreAll}
 use Rattle.abt_commons.specs.Held.{ObjectsValue}
-use Rattle.abt_commons.specs.Splits.{HasSeenNothing, IsPassOf, SplitLeft, SplitValue, opening_of_split, stream_of}
-use Rattle.abt_commons.specs.declared.split.SplitPass.{SplitPass}
 use Rattle.abt_stream.specs.Streams.{StreamValue}
-use Rattle.abt_drain.specs.Crews.{CrewValue, IsCrew}
-use Rattle.abt_drain.specs.Looks.{EndedWith}
-use Rattle.abt_drain.proofs.Crewed.{from-own}
-use Rattle.abt_drain.proofs.Stopping.{looks-at}
 use Rattle.abt_waves.specs.declared.voyages.Returned.{Returned}
 use Rattle.abt_waves.specs.declared.voyages.Stop.{Stop}
 use Rattle.abt_waves.specs.declared.voyages.Stop.TheVariants as stop
+use Rattle.abt_waves.specs.Fleets.{IsFleetOver, MakesWaveOver, moment_over}
 use Rattle.abt_waves.specs.Jobs.{HasReturned, JobValue, MayGo, jobs_of}
-use Rattle.abt_waves.specs.Waves.{HasEnded, pass_in, stop_in, stream_in}
+use Rattle.abt_waves.specs.Locks.{AreClosed, HasSeenNothing, LocksValue}
+use Rattle.abt_waves.specs.Waves.{pass_in, stop_in, stream_in}
 use Rattle.abt_waves.proofs.Departing.{came, may-go, passes-back, passes-many, returned-many, stops-well}
-use Rattle.abt_waves.proofs.Rejoining.{rejoined}
+use Rattle.abt_waves.proofs.Rejoining.{Came, makes-wave, rejoined, stays}
 
--- the fleet as a value
-abbrev pub fleet_of : Parts → ℕ → ObjectsValue → List StreamValue → CrewValue
-fleet_of W n objects streams = record { workload = W; steps = n; objects = objects; streams = streams }
+module _ {Locks Lock Pass : Type 0} (IsOf : Locks → Pass → Type 0) (value : Locks → LocksValue Lock Pass) (lock : Site → Lock) (clock : ObjectsValue → Lock → ℕ) (tells : TellsLocks Lock)
+    (W : Parts) (Z : List OrderShape) (n : ℕ) (objects : ObjectsValue) (streams : List StreamValue) (is : IsFleetOver lock clock W Z n objects streams)
+    (own : Locks) (opening : (value own).objects ≡ objects) (clocks : (value own).carried ≡ clock objects) where
+  abbrev locks : LocksValue Lock Pass
+  locks = value own
 
-module _ (W : Parts) (Z : List OrderShape) (n : ℕ) (objects : ObjectsValue) (streams : List StreamValue) (is : IsCrew W Z n (fleet_of W n objects streams))
-    (split : SplitValue) (opening : opening_of_split split ≡ objects) where
-  pub same-workload : split.workload ≡ W
-  same-workload = ap (λ (o : ObjectsValue). o.workload) opening ∙ is.objects
+  abbrev V : Parts
+  V = locks.objects.workload
+
+  same-workload : V ≡ W
+  same-workload = ap (λ (o : ObjectsValue). o.workload) opening ∙ is.workload
+
+  same-clocks : locks.carried ≡ clock locks.objects
+  same-clocks = clocks ∙ ap clock (sym opening)
+
+  pub valid-own : IsValid V
+  valid-own = subst IsValid (sym same-workload) is.valid
 
   -- the fleet at the wave's beginning
-  opened : IsCrew split.workload Z n (fleet_of split.workload n (opening_of_split split) streams)
-  opened = subst (λ (q : Parts × ObjectsValue). IsCrew q.0 Z n (fleet_of q.0 n q.1 streams)) (λ i. (sym same-workload i, sym opening i)) is
+  opened : IsFleetOver lock clock V Z n locks.objects streams
+  opened = subst (λ (q : Parts × ObjectsValue). IsFleetOver lock clock q.0 Z n q.1 streams) (λ i. (sym same-workload i, sym opening i)) is
 
-  module _ (passes : List SplitPass) (all : AreAll (IsPassOf split) stream_of W.streams passes) where
-    all-own : AreAll (IsPassOf split) stream_of split.workload.streams passes
-    all-own = subst (λ (V : Parts). AreAll (IsPassOf split) stream_of V.streams passes) (sym same-workload) all
+  module _ (k : ℕ) (counted : k ≡ W.streams) (passes : List Pass) (all : AreAll (IsOf own) locks.number k passes) (flags : List Bool) (marked : length flags ≡ W.streams) where
+    streams-own : W.streams ≡ V.streams
+    streams-own = ap (λ (U : Parts). U.streams) (sym same-workload)
+
+    all-own : AreAll (IsOf own) locks.number V.streams passes
+    all-own = subst (λ m. AreAll (IsOf own) locks.number m passes) (counted ∙ streams-own) all
+
+    marked-own : length flags ≡ V.streams
+    marked-own = marked ∙ streams-own
 
     pub many-passes : length streams ≡ length passes
-    many-passes = sym (passes-many split Z n streams opened passes all-own)
+    many-passes = sym (passes-many IsOf value lock clock own Z n streams opened passes all-own flags marked-own)
 
-    pub all-may-go : All HasSeenNothing passes → All (MayGo W Z) (jobs_of split streams passes)
-    all-may-go fresh = subst (λ V. All (MayGo V Z) (jobs_of split streams passes)) same-workload (may-go split Z n streams opened passes all-own fresh)
+    pub many-flags : length streams ≡ length flags
+    many-flags = is.streams_are.many ∙ sym marked
 
-    module _ (returned : List Returned) (many : length returned ≡ length (jobs_of split streams passes))
-        (each : (i : ℕ) (job : JobValue) (back : Returned) → i < length (jobs_of split streams passes) → HasReturned W Z (slice_index_or (jobs_of split streams passes) i job) (slice_index_or returned i back)) where
-      each-own : (i : ℕ) (job : JobValue) (back : Returned) → i < length (jobs_of split streams passes) →
-          HasReturned split.workload Z (slice_index_or (jobs_of split streams passes) i job) (slice_index_or returned i back)
-      each-own i job back lt = subst (λ V. HasReturned V Z (slice_index_or (jobs_of split streams passes) i job) (slice_index_or returned i back)) (sym same-workload) (each i job back lt)
+    module _ (jobs : List (JobValue Locks Pass)) (jobs_are : jobs ≡ jobs_of own streams passes flags) where
+      pub all-may-go : All (HasSeenNothing locks) passes → All (MayGo IsOf value W Z) jobs
+      all-may-go fresh = subst (λ (q : Parts × List (JobValue Locks Pass)). All (MayGo IsOf value q.0 Z) q.1) (λ i. (same-workload i, sym jobs_are i)) (may-go IsOf value lock clock own Z n streams opened passes all-own flags marked-own fresh)
 
-      module _ (count : split.streams ≡ W.streams) where
-        count-own : split.streams ≡ split.workload.streams
-        count-own = count ∙ ap (λ (V : Parts). V.streams) (sym same-workload)
+      module _ (returned : List (Returned Pass)) (many : length returned ≡ length jobs)
+          (each : (i : ℕ) (job : JobValue Locks Pass) (back : Returned Pass) → i < length jobs → HasReturned IsOf value lock W Z (slice_index_or jobs i job) (slice_index_or returned i back)) (made : locks.streams ≡ k) where
+        many-own : length returned ≡ length (jobs_of own streams passes flags)
+        many-own = many ∙ ap length jobs_are
 
-        pub all-back : AreAll (IsPassOf split) stream_of split.streams (map pass_in returned)
-        all-back = passes-back split Z n streams opened passes all-own returned many each-own split.streams count-own
+        each-own : (i : ℕ) (job : JobValue Locks Pass) (back : Returned Pass) → i < length (jobs_of own streams passes flags) →
+            HasReturned IsOf value lock V Z (slice_index_or (jobs_of own streams passes flags) i job) (slice_index_or returned i back)
+        each-own = subst (λ (q : Parts × List (JobValue Locks Pass)). (i : ℕ) (job : JobValue Locks Pass) (back : Returned Pass) → i < length q.1 → HasReturned IsOf value lock q.0 Z (slice_index_or q.1 i job) (slice_index_or returned i back))
+            (λ i. (sym same-workload i, jobs_are i)) each
 
-        module _ (held : ObjectsValue) (left : SplitLeft split (map pass_in returned) held) where
-          pub all-stop-well : All (λ (s : Stop). s ≢ stop.Worn) (map stop_in returned)
-          all-stop-well = stops-well split Z n streams opened passes all-own returned many each-own held left count-own
+        count-own : locks.streams ≡ V.streams
+        count-own = made ∙ (counted ∙ streams-own)
 
-          pub next-fleet : 2 ≤ W.streams → IsCrew W Z n (fleet_of W n held (map stream_in returned))
-          next-fleet several = subst (λ V. IsCrew V Z n (fleet_of V n held (map stream_in returned))) same-workload
-              (rejoined split Z n streams opened count-own returned (returned-many split Z n streams opened passes all-own returned many each-own) (came split Z n streams opened passes all-own returned many each-own) held left
-              (λ alone. (let s : split.workload.streams ≡ W.streams = ap (λ (V : Parts). V.streams) same-workload in omega arith)))
+        module _ (back : List Pass) (back_are : back ≡ map pass_in returned) where
+          pub all-back : AreAll (IsOf own) locks.number locks.streams back
+          all-back = subst (AreAll (IsOf own) locks.number locks.streams) (sym back_are) (passes-back IsOf value lock clock own Z n streams opened passes all-own flags marked-own returned many-own each-own locks.streams count-own)
 
--- where the fleet looks ended, it has ended so
-pub has-ended : (W : Parts) (Z : List OrderShape) (n : ℕ) (fleet : CrewValue) (is : IsCrew W Z n fleet) (o : Outcome) → EndedWith fleet.workload fleet.steps fleet.streams fleet.objects (Some o) → 2 ≤ W.streams → HasEnded W Z n fleet o
-has-ended W Z n fleet is o ended several = record {
-  crew = is;
-  looks = looks-at W n fleet.streams fleet.objects o (from-own (λ V k. EndedWith V k fleet.streams fleet.objects (Some o)) W Z n fleet is ended);
-  several = λ alone. omega arith;
-}
+          module _ (held : ObjectsValue) (left : AreClosed locks lock clock back held) where
+            left-own : AreClosed locks lock clock (map pass_in returned) held
+            left-own = subst (λ ps. AreClosed locks lock clock ps held) back_are left
+
+            back-many : length returned ≡ length streams
+            back-many = returned-many IsOf value lock clock own Z n streams opened passes all-own flags marked-own returned many-own each-own
+
+            all-came : (s : ℕ) (stream : StreamValue) → slice_get streams s ≡ Some stream → Came (IsOf own) locks lock Z flags returned s stream
+            all-came = came IsOf value lock clock own Z n streams opened passes all-own flags marked-own returned many-own each-own
+
+            pub all-stop-well : (stops : List Stop) → stops ≡ map stop_in returned → All (λ (s : Stop). s ≢ stop.Worn) stops
+            all-stop-well stops are = subst (All (λ (s : Stop). s ≢ stop.Worn)) (sym are)
+                (stops-well IsOf value lock clock own Z n streams opened passes all-own flags marked-own returned many-own each-own tells same-clocks held left-own count-own)
+
+            module _ (out : List StreamValue) (out_are : out ≡ map stream_in returned) where
+              pub next-fleet : IsFleetOver lock clock W Z n held out
+              next-fleet = subst (λ (q : Parts × List StreamValue). IsFleetOver lock clock q.0 Z n held q.1) (λ i. (same-workload i, sym out_are i))
+                  (rejoined (IsOf own) locks lock clock tells same-clocks Z n streams flags opened count-own returned back-many all-came held left-own)
+
+              pub wave-made : MakesWaveOver lock clock W Z flags (moment_over lock clock W streams objects) (moment_over lock clock W out held)
+              wave-made = subst (λ (q : Parts × ObjectsValue × List StreamValue). MakesWaveOver lock clock q.0 Z flags (moment_over lock clock q.0 streams q.1) (moment_over lock clock q.0 q.2 held)) (λ i. (same-workload i, opening i, sym out_are i))
+                  (makes-wave (IsOf own) locks lock clock tells same-clocks Z n streams flags opened count-own returned back-many all-came held left-own)
+
+              pub others-stay : (s : ℕ) → slice_get flags s ≡ Some false → slice_get out s ≡ slice_get streams s
+              others-stay s dead = ap (λ ss. slice_get ss s) out_are ∙ stays (IsOf own) locks lock clock tells same-clocks Z n streams flags opened count-own returned back-many all-came held left-own s dead

@@ -1,34 +1,38 @@
 -- The streams of a wave with their passes.
-use Rattle.std.specs.Prelude.{◌≡◌, List, [], ◌∷◌}
+use Rattle.std.specs.Prelude.{◌≡◌, Bool, false, List, [], ◌∷◌}
+use Rattle.abt_machine.specs.declared.events.Site.{Site}
 use Rattle.abt_machine.specs.declared.operations.OrderShape.{OrderShape}
 use Rattle.abt_machine.specs.declared.workload.Parts.{Parts}
-use Rattle.abt_commons.specs.declared.split.SplitPass.{SplitPass}
-use Rattle.abt_commons.specs.Splits.{HasSeenNothing, SplitValue}
 use Rattle.abt_stream.specs.Streams.{StreamValue}
 use Rattle.abt_waves.specs.declared.voyages.Returned.{Returned}
+use Rattle.abt_waves.specs.Locks.{HasSeenNothing, LocksValue}
 use Rattle.abt_waves.specs.Stops.{StopsBy}
 use Rattle.abt_waves.specs.Voyages.{HasGone, HasPass}
 
--- the objects behind locks, a stream, and its pass
-pub record JobValue : Type 0 where
-  pub split : SplitValue
+-- the objects behind locks, a stream, its pass, and whether it is live
+pub record JobValue (Locks Pass : Type 0) : Type 0 where
+  pub locks : Locks
   pub stream : StreamValue
-  pub pass : SplitPass
+  pub pass : Pass
+  pub live : Bool
 
--- each stream with the pass at its place
-abbrev pub jobs_of : SplitValue → List StreamValue → List SplitPass → List JobValue
-jobs_of split [] passes = []
-jobs_of split (stream ∷ streams) [] = []
-jobs_of split (stream ∷ streams) (pass ∷ passes) = record { split = split; stream = stream; pass = pass } ∷ jobs_of split streams passes
+-- each stream with the pass and the flag at its place
+abbrev pub jobs_of : {Locks Pass : Type 0} → Locks → List StreamValue → List Pass → List Bool → List (JobValue Locks Pass)
+jobs_of locks [] passes flags = []
+jobs_of locks (stream ∷ streams) [] flags = []
+jobs_of locks (stream ∷ streams) (pass ∷ passes) [] = []
+jobs_of locks (stream ∷ streams) (pass ∷ passes) (live ∷ flags) = record { locks = locks; stream = stream; pass = pass; live = live } ∷ jobs_of locks streams passes flags
 
--- a stream of W, whose pass has seen no call
-pub record MayGo (W : Parts) (Z : List OrderShape) (job : JobValue) : Type 0 where
-  pub workload : job.split.workload ≡ W
-  pub has : HasPass W Z job.split job.stream job.pass
-  pub fresh : HasSeenNothing job.pass
+module _ {Locks Lock Pass : Type 0} (IsOf : Locks → Pass → Type 0) (value : Locks → LocksValue Lock Pass) where
+  -- a stream of W, whose pass has seen no call
+  pub record MayGo (W : Parts) (Z : List OrderShape) (job : JobValue Locks Pass) : Type 0 where
+    pub workload : (value job.locks).objects.workload ≡ W
+    pub has : HasPass (IsOf job.locks) (value job.locks) W Z job.stream job.pass
+    pub fresh : HasSeenNothing (value job.locks) job.pass
 
--- what came of it in the wave
-pub record HasReturned (W : Parts) (Z : List OrderShape) (job : JobValue) (back : Returned) : Type 0 where
-  pub has : HasPass W Z job.split back.stream back.pass
-  pub gone : HasGone W Z job.split job.stream back.stream back.pass
-  pub stops : StopsBy job.split back.stream back.pass back.stop
+  -- what came of it in the wave: a stream that is not live is as it was
+  pub record HasReturned (lock : Site → Lock) (W : Parts) (Z : List OrderShape) (job : JobValue Locks Pass) (back : Returned Pass) : Type 0 where
+    pub has : HasPass (IsOf job.locks) (value job.locks) W Z back.stream back.pass
+    pub gone : HasGone (value job.locks) lock W Z job.stream back.stream back.pass
+    pub stops : StopsBy (value job.locks) lock back.stream back.pass back.stop
+    pub still : job.live ≡ false → back.stream ≡ job.stream

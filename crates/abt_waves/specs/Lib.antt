@@ -1,4 +1,7 @@
+pub mod Fleets
 pub mod Jobs
+pub mod Locks
+pub mod SplitLocks
 pub mod Stops
 pub mod Voyages
 pub mod Waves

@@ -1,15 +1,15 @@
 -- Why a stream leaves a wave.
 use Rattle.std.specs.Prelude.{⊤}
-use Rattle.abt_commons.specs.declared.split.SplitPass.{SplitPass}
-use Rattle.abt_commons.specs.Splits.{SplitValue}
+use Rattle.abt_machine.specs.declared.events.Site.{Site}
 use Rattle.abt_stream.specs.Streams.{StreamValue}
 use Rattle.abt_waves.specs.declared.voyages.Stop.{Stop}
 use Rattle.abt_waves.specs.declared.voyages.Stop.TheVariants as stop
+use Rattle.abt_waves.specs.Locks.{LocksValue}
 use Rattle.abt_waves.specs.Voyages.{IsWorn}
 
 -- where it says that a clock is at its end, one is
-abbrev pub StopsBy : SplitValue → StreamValue → SplitPass → Stop → Type 0
-StopsBy split stream pass stop.Idle = ⊤
-StopsBy split stream pass stop.Spent = ⊤
-StopsBy split stream pass stop.Refused = ⊤
-StopsBy split stream pass stop.Worn = IsWorn split stream pass
+abbrev pub StopsBy : {Lock Pass : Type 0} → LocksValue Lock Pass → (Site → Lock) → StreamValue → Pass → Stop → Type 0
+StopsBy locks lock stream pass stop.Idle = ⊤
+StopsBy locks lock stream pass stop.Spent = ⊤
+StopsBy locks lock stream pass stop.Refused = ⊤
+StopsBy locks lock stream pass stop.Worn = IsWorn locks lock stream pass

@@ -1,28 +1,25 @@
 //! All streams of a workload, and the objects that they share, between waves.
 
-ghost use Rattle.std.specs.Prelude.{◌≡◌, ◌≢◌, ◌≤◌, IfOk, List, length};
+ghost use Rattle.std.specs.Prelude.{◌≡◌, ◌≤◌, IfOk, List, length};
 ghost use Rattle.std.specs.List.{All};
 ghost use Rattle.abt_machine.specs.declared.events.Outcome.{Outcome};
 ghost use Rattle.abt_machine.specs.declared.operations.OrderShape.{OrderShape};
 ghost use Rattle.abt_machine.specs.Runs.{last_state};
+ghost use Rattle.abt_machine.specs.Stamps.{Lamport};
 ghost use Rattle.abt_machine.specs.Texts.{shown_units};
-ghost use Rattle.abt_order.specs.Stored.{shapes_of};
 ghost use Rattle.abt_report.specs.Pictures.{SaysWordsOf};
 ghost use Rattle.abt_report.specs.Pictures as picture;
-ghost use Rattle.abt_drain.specs.Crews.{IsCrew};
 ghost use Rattle.abt_drain.specs.Looks.{AreStreams, EndedWith};
-ghost use Rattle.abt_drain.specs.Runs.{HasRun};
-ghost use Rattle.abt_waves.specs.declared.voyages.Stop.TheVariants as why;
-ghost use Rattle.abt_waves.specs.Waves.{AreBack, HasEnded};
+ghost use Rattle.abt_drain.specs.Runs.{IsRunOf};
+ghost use Rattle.abt_waves.specs.Locks.{TellsSites};
+ghost use Rattle.abt_waves.specs.Waves.{HasEnded, IsFleetOf};
 
-use crate::threads::{jobs, run_jobs};
-use crate::voyages::{Returned, Stop};
-use crate::watch::Watch;
-use abt_commons::{Commons, Objects, Split, SplitPass};
+use crate::locks::{Locked, Locking, Orders};
+use crate::wave::sail;
+use abt_commons::Objects;
 use abt_drain::{outcome, picture, split_logs, start_streams};
 use abt_machine::{Journal, Outcome, Want, Workload};
 use abt_merge::merge;
-use abt_order::StoredOrder;
 use abt_report::Picture;
 use abt_stream::{Pace, Stream};
 use std::alloc::Global;
@@ -49,15 +46,15 @@ impl<'w> Model for Fleet<'w> {
 
 impl<'w> Fleet<'w> {
     /// All streams and objects at the start.
-    pub(crate) fn new(
+    pub(crate) fn new<R, O: Orders, L: Locking<'w, R>>(
         alloc: Global,
         w: &'w Workload,
-        orders: &[StoredOrder],
+        orders: &O,
         steps: u64,
     ) -> Result<Fleet<'w>, Want>
-        requires orders { 2 ≤ length orders.now }
+        requires orders { 2 ≤ length (O.shapes orders.now) }
         ensures workload { IfOk result (λ fleet. fleet.workload ≡ w.now) }
-        ensures fleet { IfOk result (IsCrew w.now (shapes_of orders.now) steps) }
+        ensures fleet { IfOk result (IsFleetOf L.lock L.clock w.now (O.shapes orders.now) steps) }
     {
         // The count is of no use here, but its contract says that the workload is valid.
         w.streams();
@@ -71,17 +68,24 @@ impl<'w> Fleet<'w> {
         })
     }
 
-    /// A wave: each stream makes turns on a thread of its own, until it finds nothing, is spent, or memory is refused.
-    fn wave<R: Threads + Wait + Sync, P: Pace + Sync>(
+    // A wave over all streams.
+    fn wave<
+        R: Threads + Wait + Sync,
+        P: Pace + Sync,
+        O: Orders + Sync,
+        X: Send + Drop,
+        L: Locking<'w, R> + Locked<Pass = X> + Sync + Drop,
+    >(
         self,
         alloc: Global,
         rt: &'w R,
-        orders: &[StoredOrder],
+        orders: &O,
         pace: &P,
+        live: &[bool],
     ) -> Result<Fleet<'w>, Want>
-        requires fleet { IsCrew self.workload (shapes_of orders.now) self.steps self }
-        requires several { 2 ≤ self.workload.streams }
-        ensures fleet { IfOk result (IsCrew self.entry.workload (shapes_of orders.now) self.entry.steps) }
+        requires fleet { IsFleetOf L.lock L.clock self.workload (O.shapes orders.now) self.steps self }
+        requires flags { length live.now ≡ self.workload.streams }
+        ensures fleet { IfOk result (IsFleetOf L.lock L.clock self.entry.workload (O.shapes orders.now) self.entry.steps) }
     {
         let Fleet {
             w,
@@ -89,16 +93,9 @@ impl<'w> Fleet<'w> {
             objects,
             streams,
         } = self;
-        let count = w.streams();
-        let Ok((split, passes)) = Split::make(alloc, rt, objects, count) else {
-            return Err(Want);
-        };
-        let watch = Watch::new(count);
-        let jobs = jobs(alloc, &split, streams, passes)?;
-        let returned = run_jobs(rt, w, orders, pace, &watch, jobs)?;
-        let (streams, passes, stops) = parted(alloc, returned)?;
-        let objects = split.close(passes);
-        settle(&stops)?;
+        let (objects, streams) = sail::<R, P, O, X, L>(
+            alloc, rt, w, orders, pace, objects, streams, live,
+        )?;
         Ok(Fleet {
             w,
             steps,
@@ -117,20 +114,20 @@ impl<'w> Fleet<'w> {
     }
 
     /// Waves, until one leaves nothing to do or a stream spent.
-    pub(crate) fn run<R: Threads + Wait + Sync, P: Pace + Sync>(
-        self,
-        alloc: Global,
-        rt: &'w R,
-        orders: &[StoredOrder],
-        pace: &P,
-    ) -> Result<(Fleet<'w>, Outcome), Want>
-        requires fleet { IsCrew self.workload (shapes_of orders.now) self.steps self }
-        requires several { 2 ≤ self.workload.streams }
-        ensures { IfOk result (λ ended. HasEnded self.entry.workload (shapes_of orders.now) self.entry.steps ended.0 ended.1) }
+    pub(crate) fn run<
+        R: Threads + Wait + Sync,
+        P: Pace + Sync,
+        O: Orders + Sync,
+        X: Send + Drop,
+        L: Locking<'w, R> + Locked<Pass = X> + Sync + Drop,
+    >(self, alloc: Global, rt: &'w R, orders: &O, pace: &P) -> Result<(Fleet<'w>, Outcome), Want>
+        requires fleet { IsFleetOf L.lock L.clock self.workload (O.shapes orders.now) self.steps self }
+        ensures { IfOk result (λ ended. HasEnded L.lock L.clock self.entry.workload (O.shapes orders.now) self.entry.steps ended.0 ended.1) }
     {
+        let live = vec![in alloc; true; self.w.streams() as usize]?;
         let mut fleet = self;
         'waves: for _ in rt.forever() {
-            fleet = fleet.wave(alloc, rt, orders, pace)?;
+            fleet = fleet.wave::<R, P, O, X, L>(alloc, rt, orders, pace, &live)?;
             match fleet.ended() {
                 Some(outcome) => return Ok((fleet, outcome)),
                 None => {}
@@ -140,9 +137,10 @@ impl<'w> Fleet<'w> {
     }
 
     /// The journal of all events, and where each unit is.
-    pub(crate) fn end(self, alloc: Global) -> Result<(Journal, Picture), Want>
-        requires fleet { (Z : List OrderShape) × IsCrew self.workload Z self.steps self }
-        ensures run { IfOk result (λ ended. (Z : List OrderShape) (o : Outcome) → HasEnded self.entry.workload Z self.entry.steps self.entry o → HasRun self.entry.workload Z self.entry.steps ended.0 o) }
+    pub(crate) fn end<R, L: Locking<'w, R>>(self, alloc: Global) -> Result<(Journal, Picture), Want>
+        requires fleet { (Z : List OrderShape) × IsFleetOf L.lock L.clock self.workload Z self.steps self }
+        ensures run { IfOk result (λ ended. (Z : List OrderShape) (o : Outcome) → HasEnded L.lock L.clock self.entry.workload Z self.entry.steps self.entry o → IsRunOf self.entry.workload Z self.entry.steps ended.0 o) }
+        ensures lamport { IfOk result (λ ended. TellsSites L.lock → Lamport self.entry.workload ended.0) }
         ensures shown { IfOk result (λ ended. shown_units self.entry.workload (last_state self.entry.workload ended.0) ≡ picture.units_of ended.1) }
         ensures words { IfOk result (λ ended. All (SaysWordsOf self.entry.workload) ended.1) }
     {
@@ -157,38 +155,4 @@ impl<'w> Fleet<'w> {
         let picture = picture(alloc, w, objects, rest)?;
         Ok((journal, picture))
     }
-}
-
-// The streams, their passes, and why each stopped.
-fn parted<'w>(
-    alloc: Global,
-    returned: Vec<Returned<'w>>,
-) -> Result<(Vec<Stream>, Vec<SplitPass<'w>>, Vec<Stop>), Want>
-    ensures { IfOk result (λ parted. AreBack returned.entry.items parted.0.items parted.1.items parted.2.items) }
-{
-    let mut streams = Vec::with_capacity(alloc, returned.len())?;
-    let mut passes = Vec::with_capacity(alloc, returned.len())?;
-    let mut stops = Vec::with_capacity(alloc, returned.len())?;
-    'returned: for back in returned {
-        let Returned { stream, pass, stop } = back;
-        streams.push(stream)?;
-        passes.push(pass)?;
-        stops.push(stop)?;
-    }
-    Ok((streams, passes, stops))
-}
-
-// Err: memory was refused to a stream.
-fn settle(stops: &[Stop]) -> Result<(), Want>
-    requires { All (λ stop. stop ≢ why.Worn) stops.now }
-{
-    for stop in stops {
-        match stop {
-            Stop::Idle => {}
-            Stop::Spent => {}
-            Stop::Refused => return Err(Want),
-            Stop::Worn => unreachable!(),
-        }
-    }
-    Ok(())
 }

@@ -2,9 +2,13 @@
 #![tactic(auto)]
 
 mod fleet;
+mod locks;
 mod run;
 mod threads;
 mod voyages;
 mod watch;
+mod wave;
 
-pub use run::run_streams;
+pub use locks::{Locked, Locking, Orders, StoredOrders};
+pub use run::{run_over, run_streams};
+pub use wave::run_wave;

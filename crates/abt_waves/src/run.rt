@@ -3,12 +3,16 @@
 ghost use Rattle.std.specs.Prelude.{◌≡◌, ◌≤◌, IfOk, length};
 ghost use Rattle.std.specs.List.{All};
 ghost use Rattle.abt_machine.specs.Runs.{last_state};
+ghost use Rattle.abt_machine.specs.Stamps.{Lamport};
 ghost use Rattle.abt_machine.specs.Texts.{shown_units};
 ghost use Rattle.abt_order.specs.Stored.{shapes_of};
 ghost use Rattle.abt_report.specs.Pictures.{SaysWordsOf, units_of};
-ghost use Rattle.abt_drain.specs.Runs.{HasRun};
+ghost use Rattle.abt_drain.specs.Runs.{HasRun, IsRunOf};
+ghost use Rattle.abt_waves.specs.Locks.{TellsSites};
 
 use crate::fleet::Fleet;
+use crate::locks::{Locked, Locking, Orders, StoredOrders};
+use abt_commons::{Split, SplitPass};
 use abt_drain::{Run, drain_at_pace};
 use abt_machine::{Want, Workload};
 use abt_order::StoredOrder;
@@ -56,9 +60,34 @@ fn run_waves<'w, R: Threads + Wait + Sync, P: Pace + Sync>(
     ensures shown { IfOk result (λ run. shown_units w.now (last_state w.now run.journal) ≡ units_of run.picture) }
     ensures words { IfOk result (λ run. All (SaysWordsOf w.now) run.picture) }
 {
-    let fleet = Fleet::new(alloc, w, orders, steps)?;
-    let (fleet, outcome) = fleet.run(alloc, rt, orders, pace)?;
-    let (journal, picture) = fleet.end(alloc)?;
+    run_over::<R, P, StoredOrders<'_>, SplitPass<'w>, Split<'w, R>>(
+        alloc,
+        rt,
+        w,
+        &StoredOrders { orders },
+        pace,
+        steps,
+    )
+}
+
+/// The run in waves over any locks. Stamps are Lamport's where each site has a lock of its own.
+pub fn run_over<
+    'w,
+    R: Threads + Wait + Sync,
+    P: Pace + Sync,
+    O: Orders + Sync,
+    X: Send + Drop,
+    L: Locking<'w, R> + Locked<Pass = X> + Sync + Drop,
+>(alloc: Global, rt: &'w R, w: &'w Workload, orders: &O, pace: &P, steps: u64) -> Result<Run, Want>
+    requires orders { 2 ≤ length (O.shapes orders.now) }
+    ensures run { IfOk result (λ run. IsRunOf w.now (O.shapes orders.now) steps run.journal run.outcome) }
+    ensures lamport { IfOk result (λ run. TellsSites L.lock → Lamport w.now run.journal) }
+    ensures shown { IfOk result (λ run. shown_units w.now (last_state w.now run.journal) ≡ units_of run.picture) }
+    ensures words { IfOk result (λ run. All (SaysWordsOf w.now) run.picture) }
+{
+    let fleet = Fleet::new::<R, O, L>(alloc, w, orders, steps)?;
+    let (fleet, outcome) = fleet.run::<R, P, O, X, L>(alloc, rt, orders, pace)?;
+    let (journal, picture) = fleet.end::<R, L>(alloc)?;
     Ok(Run {
         journal,
         picture,

@@ -2,7 +2,6 @@
 
 ghost use Rattle.std.specs.Prelude.{◌≡◌, IfOk, IfSome};
 ghost use Rattle.abt_machine.specs.Rounds.{OrdersStored};
-ghost use Rattle.abt_order.specs.Stored.{shapes_of};
 ghost use Rattle.abt_stream.specs.Streams.{StreamValue};
 ghost use Rattle.abt_stream.specs.declared.turns.Turn.TheVariants as turn;
 ghost use Rattle.abt_waves.specs.Voyages.{HasGone, HasPass, IsWorn};
@@ -10,28 +9,28 @@ ghost use Rattle.abt_waves.specs.Stops.{StopsBy};
 ghost use Rattle.abt_waves.specs.declared.voyages.Stop.TheVariants as stops;
 ghost use Rattle.abt_waves.specs.Jobs.{HasReturned, MayGo};
 
+use crate::locks::{Locked, Orders};
 use crate::watch::{Shift, Watch};
-use abt_commons::{Split, SplitPass};
 use abt_machine::{Want, Workload};
-use abt_order::StoredOrder;
 use abt_stream::{Pace, Stream, Turn};
 use std::marker::Model;
 use std::sync::Wait;
 
-/// A stream with its pass, and the objects that it calls.
+/// A stream with its pass, the objects that it calls, and whether it is live: one that is not makes no turn.
 #[derive(Drop)]
-pub(crate) struct Job<'a, 'w, R> {
-    pub(crate) split: &'a Split<'w, R>,
+pub(crate) struct Job<'a, C, X> {
+    pub(crate) locks: &'a C,
     pub(crate) stream: Stream,
-    pub(crate) pass: SplitPass<'w>,
+    pub(crate) pass: X,
+    pub(crate) live: bool,
 }
 
-impl<'a, 'w, R> Model for Job<'a, 'w, R> {
+impl<'a, C, X> Model for Job<'a, C, X> {
     ghost use Rattle.abt_waves.specs.Jobs.{JobValue};
 
-    ghost Value = { JobValue };
+    ghost Value = { JobValue C X };
 
-    ghost view = { λ job. record { split = job.split.now; stream = job.stream; pass = job.pass } };
+    ghost view = { λ job. record { locks = job.locks.now; stream = job.stream; pass = job.pass; live = job.live } };
 }
 
 /// Why a stream left a wave: it found nothing, it has made its steps, its memory was refused, or a clock is at its end.
@@ -45,55 +44,63 @@ pub(crate) enum Stop {
 
 /// What a stream leaves of a wave.
 #[derive(Drop)]
-pub(crate) struct Returned<'w> {
+pub(crate) struct Returned<X> {
     pub(crate) stream: Stream,
-    pub(crate) pass: SplitPass<'w>,
+    pub(crate) pass: X,
     pub(crate) stop: Stop,
 }
 
 /// All that a stream does in a wave.
-pub(crate) fn voyage<'a, 'w, R: Wait, P: Pace>(
+pub(crate) fn voyage<'a, R: Wait, P: Pace, O: Orders, C: Locked>(
     rt: &R,
     w: &Workload,
-    orders: &[StoredOrder],
+    orders: &O,
     pace: &P,
     watch: &Watch,
-    job: Job<'a, 'w, R>,
-) -> Returned<'w>
-    requires stored { OrdersStored w.now (shapes_of orders.now) }
-    requires may { MayGo w.now (shapes_of orders.now) job }
-    ensures { HasReturned w.now (shapes_of orders.now) job.entry result }
+    job: Job<'a, C, C::Pass>,
+) -> Returned<C::Pass>
+    requires stored { OrdersStored w.now (O.shapes orders.now) }
+    requires may { MayGo C.is_of C.locks w.now (O.shapes orders.now) job }
+    ensures { HasReturned C.is_of C.locks C.lock w.now (O.shapes orders.now) job.entry result }
 {
     let Job {
-        split,
+        locks,
         mut stream,
         mut pass,
+        live,
     } = job;
-    let stop = turns(rt, w, orders, pace, watch, split, &mut stream, &mut pass);
+    if !live {
+        return Returned {
+            stream,
+            pass,
+            stop: Stop::Idle,
+        };
+    }
+    let stop = turns(rt, w, orders, pace, watch, locks, &mut stream, &mut pass);
     Returned { stream, pass, stop }
 }
 
 // The turns of a stream, until it stops.
-fn turns<'w, R: Wait, P: Pace>(
+fn turns<R: Wait, P: Pace, O: Orders, C: Locked>(
     rt: &R,
     w: &Workload,
-    orders: &[StoredOrder],
+    orders: &O,
     pace: &P,
     watch: &Watch,
-    split: &Split<'w, R>,
+    locks: &C,
     stream: &mut Stream,
-    pass: &mut SplitPass<'w>,
+    pass: &mut C::Pass,
 ) -> Stop
-    requires stored { OrdersStored w.now (shapes_of orders.now) }
-    requires split { split.now.workload ≡ w.now }
-    requires has { HasPass w.now (shapes_of orders.now) split.now stream.old pass.old }
-    ensures has { HasPass w.now (shapes_of orders.now) split.now stream.new pass.new }
-    ensures gone { (first : StreamValue) → HasGone w.now (shapes_of orders.now) split.now first stream.old pass.old → HasGone w.now (shapes_of orders.now) split.now first stream.new pass.new }
-    ensures worn { StopsBy split.now stream.new pass.new result }
+    requires stored { OrdersStored w.now (O.shapes orders.now) }
+    requires locks { (C.locks locks.now).objects.workload ≡ w.now }
+    requires has { HasPass (C.is_of locks.now) (C.locks locks.now) w.now (O.shapes orders.now) stream.old pass.old }
+    ensures has { HasPass (C.is_of locks.now) (C.locks locks.now) w.now (O.shapes orders.now) stream.new pass.new }
+    ensures gone { (first : StreamValue) → HasGone (C.locks locks.now) C.lock w.now (O.shapes orders.now) first stream.old pass.old → HasGone (C.locks locks.now) C.lock w.now (O.shapes orders.now) first stream.new pass.new }
+    ensures worn { StopsBy (C.locks locks.now) C.lock stream.new pass.new result }
 {
     let mut shift = watch.start();
     'turns: for _ in rt.forever() {
-        match take_turn(rt, w, orders, pace, watch, &mut shift, split, stream, pass) {
+        match take_turn(rt, w, orders, pace, watch, &mut shift, locks, stream, pass) {
             Some(stop) => {
                 watch.leave(shift);
                 return stop;
@@ -105,25 +112,25 @@ fn turns<'w, R: Wait, P: Pace>(
 }
 
 // One turn, and why the stream stops after it, if it does.
-fn take_turn<'w, R: Wait, P: Pace>(
+fn take_turn<R: Wait, P: Pace, O: Orders, C: Locked>(
     rt: &R,
     w: &Workload,
-    orders: &[StoredOrder],
+    orders: &O,
     pace: &P,
     watch: &Watch,
     shift: &mut Shift,
-    split: &Split<'w, R>,
+    locks: &C,
     stream: &mut Stream,
-    pass: &mut SplitPass<'w>,
+    pass: &mut C::Pass,
 ) -> Option<Stop>
-    requires stored { OrdersStored w.now (shapes_of orders.now) }
-    requires split { split.now.workload ≡ w.now }
-    requires has { HasPass w.now (shapes_of orders.now) split.now stream.old pass.old }
-    ensures has { HasPass w.now (shapes_of orders.now) split.now stream.new pass.new }
-    ensures gone { (first : StreamValue) → HasGone w.now (shapes_of orders.now) split.now first stream.old pass.old → HasGone w.now (shapes_of orders.now) split.now first stream.new pass.new }
-    ensures worn { IfSome result (StopsBy split.now stream.new pass.new) }
+    requires stored { OrdersStored w.now (O.shapes orders.now) }
+    requires locks { (C.locks locks.now).objects.workload ≡ w.now }
+    requires has { HasPass (C.is_of locks.now) (C.locks locks.now) w.now (O.shapes orders.now) stream.old pass.old }
+    ensures has { HasPass (C.is_of locks.now) (C.locks locks.now) w.now (O.shapes orders.now) stream.new pass.new }
+    ensures gone { (first : StreamValue) → HasGone (C.locks locks.now) C.lock w.now (O.shapes orders.now) first stream.old pass.old → HasGone (C.locks locks.now) C.lock w.now (O.shapes orders.now) first stream.new pass.new }
+    ensures worn { IfSome result (StopsBy (C.locks locks.now) C.lock stream.new pass.new) }
 {
-    let Ok(turn) = advance(w, orders, pace, split, stream, pass) else {
+    let Ok(turn) = advance(w, orders, pace, locks, stream, pass) else {
         watch.refuse();
         return Some(Stop::Refused);
     };
@@ -143,25 +150,25 @@ fn idle_unless(goes_on: bool) -> Option<Stop>
 }
 
 // What a stream needs for one turn, and the turn.
-fn advance<'w, R: Wait, P: Pace>(
+fn advance<P: Pace, O: Orders, C: Locked>(
     w: &Workload,
-    orders: &[StoredOrder],
+    orders: &O,
     pace: &P,
-    split: &Split<'w, R>,
+    locks: &C,
     stream: &mut Stream,
-    pass: &mut SplitPass<'w>,
+    pass: &mut C::Pass,
 ) -> Result<Turn, Want>
-    requires stored { OrdersStored w.now (shapes_of orders.now) }
-    requires split { split.now.workload ≡ w.now }
-    requires has { HasPass w.now (shapes_of orders.now) split.now stream.old pass.old }
-    ensures has { HasPass w.now (shapes_of orders.now) split.now stream.new pass.new }
-    ensures gone { (first : StreamValue) → HasGone w.now (shapes_of orders.now) split.now first stream.old pass.old → HasGone w.now (shapes_of orders.now) split.now first stream.new pass.new }
-    ensures worn { IfOk result (λ t. t ≡ turn.Worn → IsWorn split.now stream.new pass.new) }
+    requires stored { OrdersStored w.now (O.shapes orders.now) }
+    requires locks { (C.locks locks.now).objects.workload ≡ w.now }
+    requires has { HasPass (C.is_of locks.now) (C.locks locks.now) w.now (O.shapes orders.now) stream.old pass.old }
+    ensures has { HasPass (C.is_of locks.now) (C.locks locks.now) w.now (O.shapes orders.now) stream.new pass.new }
+    ensures gone { (first : StreamValue) → HasGone (C.locks locks.now) C.lock w.now (O.shapes orders.now) first stream.old pass.old → HasGone (C.locks locks.now) C.lock w.now (O.shapes orders.now) first stream.new pass.new }
+    ensures worn { IfOk result (λ t. t ≡ turn.Worn → IsWorn (C.locks locks.now) C.lock stream.new pass.new) }
 {
     // The count is of no use here, but its contract says that the workload is valid.
     w.streams();
-    stream.prepare(w, orders)?;
-    let turn = stream.turn(split, pass, w, pace);
+    orders.prepare(stream, w)?;
+    let turn = locks.turn(stream, pass, w, pace);
     // The log is of no use here, but its contract says that it has no more steps than the stream may make.
     stream.log();
     Ok(turn)

@@ -11,7 +11,7 @@ const TURNS: u32 = 2048;
 // So often a stream without work lets other threads run while there are streams that have not started.
 const PATIENCE: u32 = 1000;
 
-/// Of the streams of a wave: how many have started, have work, and wait for some.
+/// Of the streams that are live in a wave: how many have started, have work, and wait for some.
 #[derive(Drop)]
 pub(crate) struct Watch {
     streams: u64,
@@ -33,10 +33,10 @@ pub(crate) struct Shift {
 }
 
 impl Watch {
-    /// For so many streams, none of which has started.
-    pub(crate) fn new(streams: u32) -> Watch {
+    /// For the streams that are live, none of which has started.
+    pub(crate) fn new(live: &[bool]) -> Watch {
         Watch {
-            streams: u64::from(streams),
+            streams: live.iter().filter(|live| **live).count() as u64,
             started: AtomicU64::new(0),
             busy: AtomicU64::new(0),
             waiting: AtomicU64::new(0),
@@ -88,7 +88,7 @@ impl Watch {
             return false;
         }
         if self.busy.load(Ordering::SeqCst) == 0 {
-            let again = !shift.last;
+            let again = !shift.last && self.streams > 1;
             shift.last = true;
             return again;
         }

@@ -1,14 +1,16 @@
--- The run of all waves.
+-- The run of all waves over a lock for each site.
+use denote.Param.Send.{sendable}
+use Rattle.abt_commons.proofs.Crosses.{Split-sync, SplitPass-send}
+use Rattle.std.proofs.Common.{refl, ◌≤◌, sym, subst}
+use Rattle.std.proofs.lemmas.List.{length-map}
 use Rattle.abt_order.specs.Stored.{shapes_of}
-use Rattle.abt_drain.specs.Runs.{HasRun}
-use Rattle.abt_drain.proofs.Crewed.{from-own, to-own}
-use Rattle.abt_waves.specs.Waves.{HasEnded}
+use Rattle.abt_waves.proofs.Crosses.{StoredOrders-sync, vtable-sync}
+use Rattle.abt_waves.proofs.Fleets.{if-both, own-run}
 use Rattle.abt_waves.proofs.run.run_waves.Goals as goal
+
+pub run_over-requires : goal.run_over-requires
+run_over-requires g c κs = (search (sendable, SplitPass-send) depth 30, (search sendable depth 30, (search sendable depth 30, (search (sendable, StoredOrders-sync, vtable-sync, g.dyn-1.3) depth 30, (search (sendable, Split-sync) depth 30, ((refl, tt), subst (λ k. 2 ≤ k) (sym (length-map c.args.orders.now _)) c.requires.orders))))))
 
 pub returns-clause-run : goal.returns-clause-run
 returns-clause-run g c =
-    let ended : HasEnded c.args.w.now (shapes_of c.args.orders.now) c.args.steps c.in_ok-fleet-2.fleet c.in_ok-fleet-2.outcome =
-    from-own (λ V k. HasEnded V (shapes_of c.args.orders.now) k c.in_ok-fleet-2.fleet c.in_ok-fleet-2.outcome) c.args.w.now (shapes_of c.args.orders.now) c.args.steps c.in_ok-fleet.fleet c.in_ok-fleet.ensures.fleet c.in_ok-fleet-2.ensures in
-    from-own (λ V k. HasRun V (shapes_of c.args.orders.now) k c.in_ok-journal.journal c.in_ok-fleet-2.outcome) c.args.w.now (shapes_of c.args.orders.now) c.args.steps c.in_ok-fleet-2.fleet ended.crew
-    (c.in_ok-journal.ensures.run (shapes_of c.args.orders.now) c.in_ok-fleet-2.outcome
-    (to-own (λ V k. HasEnded V (shapes_of c.args.orders.now) k c.in_ok-fleet-2.fleet c.in_ok-fleet-2.outcome) c.args.w.now (shapes_of c.args.orders.now) c.args.steps c.in_ok-fleet-2.fleet ended.crew ended))
+    if-both c.run_over.result _ _ _ (λ run is lamport. own-run c.args.w.now (shapes_of c.args.orders.now) c.args.steps run.journal run.outcome c.requires.several is (lamport (λ x y e. e))) c.run_over.ensures.run c.run_over.ensures.lamport

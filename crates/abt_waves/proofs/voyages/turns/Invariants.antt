@@ -1,5 +1,4 @@
 -- The stream so far.
-use Rattle.abt_order.specs.Stored.{shapes_of}
 use Rattle.abt_stream.specs.Streams.{StreamValue}
 use Rattle.abt_waves.specs.Voyages.{HasGone, HasPass}
 use Rattle.abt_waves.proofs.voyages.turns.Given as goal
@@ -8,6 +7,6 @@ abbrev pub invariant-turns : goal.invariant-turns
 invariant-turns g l = record {
   next : (goal.iterator-turns g).can_next l.iterator';
   finite : (goal.iterator-turns g).is_finite l.iterator';
-  has : HasPass l.w (shapes_of l.orders) l.split l.stream l.pass;
-  gone : (first : StreamValue) → HasGone l.w (shapes_of l.orders) l.split first l.fn.stream l.fn.pass → HasGone l.w (shapes_of l.orders) l.split first l.stream l.pass;
+  has : HasPass (g.C.Locked.is_of l.locks) (g.C.Locked.locks l.locks) l.w (g.O.Orders.shapes l.orders) l.stream l.pass;
+  gone : (first : StreamValue) → HasGone (g.C.Locked.locks l.locks) g.C.Locked.lock l.w (g.O.Orders.shapes l.orders) first l.fn.stream l.fn.pass → HasGone (g.C.Locked.locks l.locks) g.C.Locked.lock l.w (g.O.Orders.shapes l.orders) first l.stream l.pass;
 }

@@ -2,37 +2,45 @@
 use Rattle.std.proofs.Common.{◌≡◌, length, sym, ◌∙◌, ap, subst}
 use Rattle.abt_merge.specs.Logs.{AreLogs, log_of}
 use Rattle.abt_simulation.specs.Journals.{MergesTo}
-use Rattle.abt_drain.specs.Crews.{CrewValue, HaveLeft, IsCrew, logs_in}
+use Rattle.abt_drain.specs.Crews.{CrewValue, HaveLeft, logs_in}
 use Rattle.abt_drain.specs.Pictures.{ShowsUnits}
-use Rattle.abt_drain.proofs.Closing.{all-fit, are-logs, crew-ended, crew-shows, left-many}
+use Rattle.abt_drain.proofs.Closing.{all-fit, left-many}
+use Rattle.abt_waves.specs.Waves.{IsFleetOf}
+use Rattle.abt_waves.proofs.Fleets.{fleet-lamport, fleet-logs, fleet-ran, fleet-shows, fleet_of}
 use Rattle.abt_waves.proofs.fleet.Fleet.end.Goals as goal
 
 pub merge-requires : goal.merge-requires
-merge-requires c =
+merge-requires g c =
     let same : logs_in c.args.self.streams ≡ c.in_ok-logs.logs.items = ap (λ (v : CrewValue). logs_in v.streams) (sym c.self.view_is) ∙ sym c.in_ok-logs.ensures.logs in
-    record { logs = subst AreLogs same (are-logs c.args.self.workload c.requires.fleet.0 c.args.self.steps c.args.self c.requires.fleet.1) }
+    record { logs = subst AreLogs same (fleet-logs g.L.Locked.lock g.L.Locked.clock c.args.self.workload c.requires.fleet.0 c.args.self.steps c.args.self c.requires.fleet.1) }
 
 pub picture-requires-clause-streams : goal.picture-requires-clause-streams
-picture-requires-clause-streams c =
+picture-requires-clause-streams g c =
     left-many c.self.inside.streams.items c.in_ok-logs.rest.items c.in_ok-logs.ensures.parts
-    ∙ (ap (λ (v : CrewValue). length v.streams) c.self.view_is ∙ (c.requires.fleet.1.streams.many ∙ ap (λ (v : CrewValue). v.workload.streams) (sym c.self.view_is)))
+    ∙ (ap (λ (v : CrewValue). length v.streams) c.self.view_is ∙ (c.requires.fleet.1.fleet_is.streams_are.many ∙ ap (λ (v : CrewValue). v.workload.streams) (sym c.self.view_is)))
 
 pub picture-requires-clause-fits : goal.picture-requires-clause-fits
-picture-requires-clause-fits c =
-    let is : IsCrew c.self.inside.w.now c.requires.fleet.0 c.self.inside.steps (record { workload = c.self.inside.w.now; steps = c.self.inside.steps; objects = c.self.inside.objects; streams = c.self.inside.streams.items }) =
-    subst (λ (v : CrewValue). IsCrew v.workload c.requires.fleet.0 v.steps v) (sym c.self.view_is) c.requires.fleet.1 in
-    all-fit c.self.inside.w.now c.self.inside.streams.items c.in_ok-logs.rest.items c.in_ok-logs.ensures.parts (λ s stream at. (is.streams.own s stream at).fits)
+picture-requires-clause-fits g c =
+    let is : IsFleetOf g.L.Locked.lock g.L.Locked.clock c.self.inside.w.now c.requires.fleet.0 c.self.inside.steps (fleet_of c.self.inside.w.now c.self.inside.steps c.self.inside.objects c.self.inside.streams.items) =
+    subst (λ (v : CrewValue). IsFleetOf g.L.Locked.lock g.L.Locked.clock v.workload c.requires.fleet.0 v.steps v) (sym c.self.view_is) c.requires.fleet.1 in
+    all-fit c.self.inside.w.now c.self.inside.streams.items c.in_ok-logs.rest.items c.in_ok-logs.ensures.parts (λ s stream at. (is.fleet_is.streams_are.own s stream at).fits)
 
 pub returns-clause-run : goal.returns-clause-run
-returns-clause-run c =
+returns-clause-run g c =
     let same : c.in_ok-logs.logs.items ≡ logs_in c.args.self.streams = c.in_ok-logs.ensures.logs ∙ ap (λ (v : CrewValue). logs_in v.streams) c.self.view_is in
-    λ Z o ended. crew-ended c.args.self.workload Z c.args.self.steps c.args.self ended.crew c.in_ok-journal.journal
-    (subst (λ logs. MergesTo (log_of logs) c.in_ok-journal.journal) same c.in_ok-journal.ensures.merged) o (λ alone. absurd (ended.several alone)) ended.looks
+    λ Z o ended. fleet-ran g.L.Locked.lock g.L.Locked.clock c.args.self.workload Z c.args.self.steps c.args.self ended.fleet_is c.in_ok-journal.journal
+    (subst (λ logs. MergesTo (log_of logs) c.in_ok-journal.journal) same c.in_ok-journal.ensures.merged) o ended.looks
+
+pub returns-clause-lamport : goal.returns-clause-lamport
+returns-clause-lamport g c =
+    let same : c.in_ok-logs.logs.items ≡ logs_in c.args.self.streams = c.in_ok-logs.ensures.logs ∙ ap (λ (v : CrewValue). logs_in v.streams) c.self.view_is in
+    λ apart. fleet-lamport g.L.Locked.lock g.L.Locked.clock c.args.self.workload c.requires.fleet.0 c.args.self.steps c.args.self c.requires.fleet.1 c.in_ok-journal.journal
+    (subst (λ logs. MergesTo (log_of logs) c.in_ok-journal.journal) same c.in_ok-journal.ensures.merged) apart
 
 pub returns-clause-shown : goal.returns-clause-shown
-returns-clause-shown c =
+returns-clause-shown g c =
     let same : c.in_ok-logs.logs.items ≡ logs_in c.args.self.streams = c.in_ok-logs.ensures.logs ∙ ap (λ (v : CrewValue). logs_in v.streams) c.self.view_is in
-    crew-shows c.args.self.workload c.requires.fleet.0 c.args.self.steps c.args.self c.requires.fleet.1 c.in_ok-journal.journal
+    fleet-shows g.L.Locked.lock g.L.Locked.clock c.args.self.workload c.requires.fleet.0 c.args.self.steps c.args.self c.requires.fleet.1 c.in_ok-journal.journal
     (subst (λ logs. MergesTo (log_of logs) c.in_ok-journal.journal) same c.in_ok-journal.ensures.merged)
     c.in_ok-logs.rest.items c.in_ok-picture.picture
     (subst (λ (v : CrewValue). HaveLeft v.streams c.in_ok-logs.rest.items) c.self.view_is c.in_ok-logs.ensures.parts)

@@ -1,12 +1,37 @@
 -- The last wave.
-use Rattle.abt_order.specs.Stored.{shapes_of}
-use Rattle.abt_drain.specs.Crews.{IsCrew}
-use Rattle.abt_drain.proofs.Crewed.{from-own}
-use Rattle.abt_waves.proofs.Waving.{has-ended}
+use denote.Param.Send.{sendable}
+use Rattle.std.proofs.Common.{length, refl, sym, ◌∙◌, ap}
+use Rattle.abt_machine.specs.declared.workload.Parts.{Parts}
+use Rattle.abt_waves.specs.Waves.{IsFleetOf}
+use Rattle.abt_waves.proofs.Fleets.{fleet-own, has-ended, own-fleet}
 use Rattle.abt_waves.proofs.fleet.Fleet.run.Goals as goal
+
+pub wave-requires : goal.wave-requires
+wave-requires g c κs = (
+  search sendable depth 20,
+  (
+    search sendable depth 20,
+    (
+      search sendable depth 20,
+      (
+        search sendable depth 20,
+        (
+          search sendable depth 20,
+          (
+            (refl, tt),
+            (
+              fleet-own g.L.Locked.lock g.L.Locked.clock (λ V k. IsFleetOf g.L.Locked.lock g.L.Locked.clock V (g.O.Orders.shapes c.args.orders.now) k c.waves.fleet) c.args.self.workload (g.O.Orders.shapes c.args.orders.now) c.args.self.steps c.waves.fleet c.waves.invariant.fleet c.waves.invariant.fleet,
+              ap (λ flags. length flags) c.deref.ensures.value ∙ (c.waves.invariant.flags ∙ ap (λ (V : Parts). V.streams) (sym c.waves.invariant.fleet.workload)),
+            ),
+          ),
+        ),
+      ),
+    ),
+  ),
+)
 
 pub returns-in-Some-ended : goal.returns-in-Some-ended
 returns-in-Some-ended g c =
-    has-ended c.args.self.workload (shapes_of c.args.orders.now) c.args.self.steps c.in_ok-fleet.fleet
-    (from-own (λ V k. IsCrew V (shapes_of c.args.orders.now) k c.in_ok-fleet.fleet) c.args.self.workload (shapes_of c.args.orders.now) c.args.self.steps c.waves.fleet c.waves.invariant.fleet c.in_ok-fleet.ensures.fleet)
-    c.in-Some-ended.outcome c.in-Some-ended.ensures c.requires.several
+    has-ended g.L.Locked.lock g.L.Locked.clock c.args.self.workload (g.O.Orders.shapes c.args.orders.now) c.args.self.steps c.in_ok-fleet.fleet
+    (own-fleet g.L.Locked.lock g.L.Locked.clock (λ V k. IsFleetOf g.L.Locked.lock g.L.Locked.clock V (g.O.Orders.shapes c.args.orders.now) k c.in_ok-fleet.fleet) c.args.self.workload (g.O.Orders.shapes c.args.orders.now) c.args.self.steps c.waves.fleet c.waves.invariant.fleet c.in_ok-fleet.ensures.fleet)
+    c.in-Some-ended.outcome c.in-Some-ended.ensures

@@ -1,11 +1,12 @@
 -- The fleet between waves.
-use Rattle.abt_order.specs.Stored.{shapes_of}
-use Rattle.abt_drain.specs.Crews.{IsCrew}
+use Rattle.std.proofs.Common.{◌≡◌, length}
+use Rattle.abt_waves.specs.Waves.{IsFleetOf}
 use Rattle.abt_waves.proofs.fleet.Fleet.run.Given as goal
 
 abbrev pub invariant-waves : goal.invariant-waves
 invariant-waves g l = record {
   next : (goal.iterator-waves g).can_next l.iterator';
   finite : (goal.iterator-waves g).is_finite l.iterator';
-  fleet : IsCrew l.fn.self.workload (shapes_of l.orders) l.fn.self.steps l.fleet;
+  fleet : IsFleetOf g.L.Locked.lock g.L.Locked.clock l.fn.self.workload (g.O.Orders.shapes l.orders) l.fn.self.steps l.fleet;
+  flags : length l.live.items ≡ l.fn.self.workload.streams;
 }

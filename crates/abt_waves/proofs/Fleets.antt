@@ -1,0 +1,180 @@
+-- Fleets at the start, over a lock for each site, and at the end.
+use Rattle.std.proofs.Common.{◌≡◌, ℕ, ◌≤◌, inl, Bool, List, Some, Result, Ok, Err, refl, sym, subst, arith}
+use Rattle.std.specs.Prelude.{IfOk}
+use Rattle.abt_machine.specs.declared.events.Event.{Event}
+use Rattle.abt_machine.specs.declared.events.Outcome.{Outcome}
+use Rattle.abt_machine.specs.declared.events.Site.{Site}
+use Rattle.abt_machine.specs.declared.operations.OrderShape.{OrderShape}
+use Rattle.abt_machine.specs.declared.workload.Parts.{Parts}
+use Rattle.abt_machine.specs.Rounds.{OrdersStored}
+use Rattle.abt_machine.specs.Runs.{last_state}
+use Rattle.abt_machine.specs.Stamps.{Lamport}
+use Rattle.abt_machine.specs.Start.{start}
+use Rattle.abt_machine.specs.Texts.{shown_units}
+use Rattle.abt_machine.specs.Valid.{IsValid}
+use Rattle.abt_machine.specs.Values.{object_of, part_of}
+use Rattle.abt_interleave.specs.Ticking.{IsClock}
+use Rattle.abt_interleave.proofs.Ticks.{lasts-are-clocks}
+use Rattle.abt_simulation.specs.Merging.{machine_of}
+use Rattle.abt_commons.specs.Held.{ObjectsValue, clock_at}
+use Rattle.abt_commons.specs.Placing.{ArePlaced}
+use Rattle.abt_commons.specs.Splits.{own_lock}
+use Rattle.abt_merge.specs.Logs.{AreLogs, log_of}
+use Rattle.abt_outcomes.specs.Values.{LooksAs}
+use Rattle.abt_report.specs.declared.pictures.Row.{Row}
+use Rattle.abt_report.specs.Pictures as picture
+use Rattle.abt_simulation.specs.Journals.{MergesTo}
+use Rattle.abt_stream.specs.declared.stream.StreamParts.{StreamParts}
+use Rattle.abt_stream.specs.Streams.{StreamValue}
+use Rattle.abt_drain.specs.Crews.{AreStarted, CrewValue, HaveLeft, IsCrew, logs_in, moment_of}
+use Rattle.abt_drain.specs.Looks.{EndedWith}
+use Rattle.abt_drain.specs.Moments.{made_at}
+use Rattle.abt_drain.specs.Pictures.{ShowsUnits}
+use Rattle.abt_drain.specs.Runs.{HasRun, IsRunOf}
+use Rattle.abt_drain.proofs.Closing.{come-logs, come-merges, come-shows}
+use Rattle.abt_drain.proofs.Coming.{come-ran}
+use Rattle.abt_drain.proofs.Journals.{come-lamport, has-come}
+use Rattle.abt_drain.proofs.Started.{are-streams, is-start}
+use Rattle.abt_drain.proofs.Starting.{start-come}
+use Rattle.abt_drain.proofs.Stopping.{looks-at}
+use Rattle.abt_waves.specs.Fleets.{IsFleet, IsFleetOver, MakesWave, MakesWaveOver, moment_over}
+use Rattle.abt_waves.specs.Locks.{TellsSites}
+use Rattle.abt_waves.specs.Waves.{HasEnded, IsFleetOf}
+
+-- the fleet as a value
+abbrev pub fleet_of : Parts → ℕ → ObjectsValue → List StreamValue → CrewValue
+fleet_of W n objects streams = record { workload = W; steps = n; objects = objects; streams = streams }
+
+-- A lock for each site.
+
+-- a crew's streams and objects are a fleet
+pub crew-is-fleet : (W : Parts) (Z : List OrderShape) (n : ℕ) (crew : CrewValue) → IsCrew W Z n crew → IsFleet W Z n crew.objects crew.streams
+crew-is-fleet W Z n crew is = record {
+  valid = is.valid;
+  stored = is.stored;
+  workload = is.objects;
+  streams_are = is.streams;
+  shapes = is.shapes;
+  reached = is.reached;
+}
+
+pub own-over : (W : Parts) (Z : List OrderShape) (n : ℕ) (objects : ObjectsValue) (streams : List StreamValue) → IsFleet W Z n objects streams → IsFleetOver own_lock clock_at W Z n objects streams
+own-over W Z n objects streams is = record {
+  valid = is.valid;
+  stored = is.stored;
+  workload = is.workload;
+  streams_are = is.streams_are;
+  shapes = is.shapes;
+  come = has-come W Z is.valid is.stored n (moment_of W streams objects) is.reached;
+  have = record {
+    above = λ x. subst (λ t. t ≤ clock_at objects x) (sym (is.reached.times x)) (omega arith);
+    clocks = λ x. subst (IsClock (machine_of W Z) is.reached.deeds) (is.reached.times x)
+        ((lasts-are-clocks (machine_of W Z) (part_of W (start W)) (object_of W (start W)) is.reached.deeds is.reached.histories (moment_of W streams objects).parts (moment_of W streams objects).objects is.reached.gathered).1 x);
+    timed = λ apart. is.reached.timed;
+    times = λ apart. is.reached.times;
+  };
+}
+
+pub over-own : (W : Parts) (Z : List OrderShape) (n : ℕ) (objects : ObjectsValue) (streams : List StreamValue) → IsFleetOver own_lock clock_at W Z n objects streams → IsFleet W Z n objects streams
+over-own W Z n objects streams is = record {
+  valid = is.valid;
+  stored = is.stored;
+  workload = is.workload;
+  streams_are = is.streams_are;
+  shapes = is.shapes;
+  reached = record {
+    deeds = is.come.deeds;
+    histories = is.come.histories;
+    gathered = is.come.gathered;
+    timed = is.have.timed (λ x y e. e);
+    logs = is.come.logs;
+    clocks = is.come.clocks;
+    times = is.have.times (λ x y e. e);
+    few = is.come.few;
+    within = is.come.within;
+  };
+}
+
+pub own-wave : (W : Parts) (Z : List OrderShape) (live : List Bool) (objects held : ObjectsValue) (streams out : List StreamValue) →
+    MakesWaveOver own_lock clock_at W Z live (moment_over own_lock clock_at W streams objects) (moment_over own_lock clock_at W out held) → MakesWave W Z live (moment_of W streams objects) (moment_of W out held)
+own-wave W Z live objects held streams out made = record { wave = made.wave; times = made.times (λ x y e. e) }
+
+-- two facts of an answer, together
+pub if-both : {X Y : Type 0} (r : Result X Y) (P Q F : X → Type 0) → ((x : X) → P x → Q x → F x) → IfOk r P → IfOk r Q → IfOk r F
+if-both (Ok x) P Q F f p q = f x p q
+if-both (Err y) P Q F f p q = tt
+
+-- what ran so with several streams is a run
+pub own-run : (W : Parts) (Z : List OrderShape) (n : ℕ) (J : List Event) (o : Outcome) → 2 ≤ W.streams → IsRunOf W Z n J o → Lamport W J → HasRun W Z n J o
+own-run W Z n J o several is lamport = record {
+  run = is.run;
+  stamped = is.stamped;
+  lamport = lamport;
+  sound = is.sound;
+  lives = is.lives;
+  within = is.within;
+  ended = is.ended;
+  flow = is.flow;
+  stops = λ alone. absurd (let one : W.streams ≡ 1 = alone in omega arith);
+  only = λ alone. absurd (let one : W.streams ≡ 1 = alone in omega arith);
+}
+
+-- Any locks.
+
+module _ {Lock : Type 0} (lock : Site → Lock) (clock : ObjectsValue → Lock → ℕ) where
+  -- the fleet at the start
+  pub fleet-starts : (W : Parts) (Z : List OrderShape) (n : ℕ) (objects : ObjectsValue) (streams : List StreamValue) → IsValid W → OrdersStored W Z → AreStarted W n W.streams streams → ArePlaced W objects →
+      ((l : Lock) → clock objects l ≡ 0) → IsFleetOf lock clock W Z n (fleet_of W n objects streams)
+  fleet-starts W Z n objects streams valid stored started placed begins = record {
+    workload = refl;
+    steps = refl;
+    fleet_is = record {
+      valid = valid;
+      stored = stored;
+      workload = placed.workload;
+      streams_are = are-streams W n streams objects started placed;
+      shapes = λ s stream e held. absurd (held (started.own s stream e).order);
+      come = start-come W (moment_of W streams objects) (is-start W n streams objects started placed) Z n;
+      have = record {
+        above = λ x. omega arith;
+        clocks = λ l. inl (begins l);
+        timed = λ apart s. tt;
+        times = λ apart x. sym (begins (lock x));
+      };
+    };
+  }
+
+  -- its own workload and number of steps are those that it is of
+  pub own-fleet : (P : Parts → ℕ → Type 0) (W : Parts) (Z : List OrderShape) (n : ℕ) (fleet : CrewValue) → IsFleetOf lock clock W Z n fleet → P fleet.workload fleet.steps → P W n
+  own-fleet P W Z n fleet is p = subst (P W) is.steps (subst (λ V. P V fleet.steps) is.workload p)
+
+  pub fleet-own : (P : Parts → ℕ → Type 0) (W : Parts) (Z : List OrderShape) (n : ℕ) (fleet : CrewValue) → IsFleetOf lock clock W Z n fleet → P W n → P fleet.workload fleet.steps
+  fleet-own P W Z n fleet is p = subst (λ V. P V fleet.steps) (sym is.workload) (subst (P W) (sym is.steps) p)
+
+  -- where the fleet looks ended, it has ended so
+  pub has-ended : (W : Parts) (Z : List OrderShape) (n : ℕ) (fleet : CrewValue) (is : IsFleetOf lock clock W Z n fleet) (o : Outcome) → EndedWith fleet.workload fleet.steps fleet.streams fleet.objects (Some o) → HasEnded lock clock W Z n fleet o
+  has-ended W Z n fleet is o ended = record {
+    fleet_is = is;
+    looks = looks-at W n fleet.streams fleet.objects o (own-fleet (λ V k. EndedWith V k fleet.streams fleet.objects (Some o)) W Z n fleet is ended);
+  }
+
+  module _ (W : Parts) (Z : List OrderShape) (n : ℕ) (fleet : CrewValue) (is : IsFleetOf lock clock W Z n fleet) where
+    -- the logs of its streams are logs
+    pub fleet-logs : AreLogs (logs_in fleet.streams)
+    fleet-logs = come-logs W Z is.fleet_is.valid is.fleet_is.stored n fleet.streams fleet.objects is.fleet_is.streams_are is.fleet_is.come
+
+    module _ (J : List Event) (merged : MergesTo (log_of (logs_in fleet.streams)) J) where
+      merges : MergesTo (moment_of W fleet.streams fleet.objects).logs J
+      merges = come-merges W Z is.fleet_is.valid is.fleet_is.stored n fleet.streams fleet.objects is.fleet_is.streams_are is.fleet_is.come J merged
+
+      -- the merged journal is the run of one that ended
+      pub fleet-ran : (o : Outcome) → LooksAs W n (moment_of W fleet.streams fleet.objects).parts (moment_of W fleet.streams fleet.objects).objects (made_at (moment_of W fleet.streams fleet.objects)) o → IsRunOf W Z n J o
+      fleet-ran o looks = come-ran W Z is.fleet_is.valid is.fleet_is.stored n (moment_of W fleet.streams fleet.objects) is.fleet_is.come J merges o looks
+
+      -- with Lamport's stamps, where each site has a lock of its own
+      pub fleet-lamport : TellsSites lock → Lamport W J
+      fleet-lamport apart = come-lamport W Z is.fleet_is.valid is.fleet_is.stored n (moment_of W fleet.streams fleet.objects) is.fleet_is.come (is.fleet_is.have.timed apart) J merges
+
+      -- the picture shows its units
+      pub fleet-shows : (rest : List StreamParts) (rows : List Row) → HaveLeft fleet.streams rest → ShowsUnits W rest fleet.objects rows → shown_units W (last_state W J) ≡ picture.units_of rows
+      fleet-shows = come-shows W Z is.fleet_is.valid is.fleet_is.stored n fleet.streams fleet.objects is.fleet_is.streams_are is.fleet_is.come J merged

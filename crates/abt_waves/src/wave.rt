@@ -1,0 +1,123 @@
+//! One wave of streams.
+
+ghost use Rattle.std.specs.Prelude.{ℕ, ◌≡◌, ◌≢◌, IfOk, Some, false, length, slice_get};
+ghost use Rattle.std.specs.List.{All};
+ghost use Rattle.abt_order.specs.Stored.{shapes_of};
+ghost use Rattle.abt_drain.specs.Crews.{moment_of};
+ghost use Rattle.abt_waves.specs.declared.voyages.Stop.TheVariants as why;
+ghost use Rattle.abt_waves.specs.Fleets.{IsFleet, IsFleetOver, MakesWave, MakesWaveOver, moment_over};
+ghost use Rattle.abt_waves.specs.Waves.{AreBack};
+
+use crate::locks::{Locked, Locking, Orders, StoredOrders};
+use crate::threads::{jobs, run_jobs};
+use crate::voyages::{Returned, Stop};
+use crate::watch::Watch;
+use abt_commons::{Objects, Split, SplitPass};
+use abt_machine::{Want, Workload};
+use abt_order::StoredOrder;
+use abt_stream::{Pace, Stream};
+use std::alloc::Global;
+use std::sync::Wait;
+use std::thread::Threads;
+
+/// One wave: each stream that `live` marks makes turns on a thread of its own, over objects that have a lock each, until it is
+/// spent, or finds nothing while no other stream has work. All others stay as they are. Where no thread can be started the
+/// caller's does its work. Err: memory was refused, to one stream or to all.
+pub fn run_wave<'w, R: Threads + Wait + Sync, P: Pace + Sync>(
+    alloc: Global,
+    rt: &'w R,
+    w: &'w Workload,
+    orders: &[StoredOrder],
+    pace: &P,
+    objects: Objects<'w>,
+    streams: Vec<Stream>,
+    live: &[bool],
+) -> Result<(Objects<'w>, Vec<Stream>), Want>
+    requires fleet { (n : ℕ) × IsFleet w.now (shapes_of orders.now) n objects streams.items }
+    requires flags { length live.now ≡ w.now.streams }
+    ensures fleet { IfOk result (λ left. (n : ℕ) → IsFleet w.now (shapes_of orders.now) n objects.entry streams.items → IsFleet w.now (shapes_of orders.now) n left.0 left.1.items) }
+    ensures wave { IfOk result (λ left. MakesWave w.now (shapes_of orders.now) live.now (moment_of w.now streams.items objects.entry) (moment_of w.now left.1.items left.0)) }
+    ensures still { IfOk result (λ left. (s : ℕ) → slice_get live.now s ≡ Some false → slice_get left.1.items s ≡ slice_get streams.items s) }
+{
+    sail::<R, P, StoredOrders<'_>, SplitPass<'w>, Split<'w, R>>(
+        alloc,
+        rt,
+        w,
+        &StoredOrders { orders },
+        pace,
+        objects,
+        streams,
+        live,
+    )
+}
+
+/// The same over any locks.
+pub(crate) fn sail<
+    'w,
+    R: Threads + Wait + Sync,
+    P: Pace + Sync,
+    O: Orders + Sync,
+    X: Send + Drop,
+    L: Locking<'w, R> + Locked<Pass = X> + Sync + Drop,
+>(
+    alloc: Global,
+    rt: &'w R,
+    w: &'w Workload,
+    orders: &O,
+    pace: &P,
+    objects: Objects<'w>,
+    streams: Vec<Stream>,
+    live: &[bool],
+) -> Result<(Objects<'w>, Vec<Stream>), Want>
+    requires fleet { (n : ℕ) × IsFleetOver L.lock L.clock w.now (O.shapes orders.now) n objects streams.items }
+    requires flags { length live.now ≡ w.now.streams }
+    ensures fleet { IfOk result (λ left. (n : ℕ) → IsFleetOver L.lock L.clock w.now (O.shapes orders.now) n objects.entry streams.items → IsFleetOver L.lock L.clock w.now (O.shapes orders.now) n left.0 left.1.items) }
+    ensures wave { IfOk result (λ left. MakesWaveOver L.lock L.clock w.now (O.shapes orders.now) live.now (moment_over L.lock L.clock w.now streams.items objects.entry) (moment_over L.lock L.clock w.now left.1.items left.0)) }
+    ensures still { IfOk result (λ left. (s : ℕ) → slice_get live.now s ≡ Some false → slice_get left.1.items s ≡ slice_get streams.items s) }
+{
+    let count = w.streams();
+    let Ok((locks, passes)) = L::make(alloc, rt, objects, count) else {
+        return Err(Want);
+    };
+    let watch = Watch::new(live);
+    let jobs = jobs(alloc, &locks, streams, passes, live)?;
+    let returned = run_jobs(rt, w, orders, pace, &watch, jobs)?;
+    let (streams, passes, stops) = parted(alloc, returned)?;
+    let objects = locks.open(passes);
+    settle(&stops)?;
+    Ok((objects, streams))
+}
+
+// The streams, their passes, and why each stopped.
+fn parted<X: Drop>(
+    alloc: Global,
+    returned: Vec<Returned<X>>,
+) -> Result<(Vec<Stream>, Vec<X>, Vec<Stop>), Want>
+    ensures { IfOk result (λ parted. AreBack returned.items parted.0.items parted.1.items parted.2.items) }
+{
+    let mut streams = Vec::with_capacity(alloc, returned.len())?;
+    let mut passes = Vec::with_capacity(alloc, returned.len())?;
+    let mut stops = Vec::with_capacity(alloc, returned.len())?;
+    'returned: for back in returned {
+        let Returned { stream, pass, stop } = back;
+        streams.push(stream)?;
+        passes.push(pass)?;
+        stops.push(stop)?;
+    }
+    Ok((streams, passes, stops))
+}
+
+// Err: memory was refused to a stream.
+fn settle(stops: &[Stop]) -> Result<(), Want>
+    requires { All (λ stop. stop ≢ why.Worn) stops.now }
+{
+    for stop in stops {
+        match stop {
+            Stop::Idle => {}
+            Stop::Spent => {}
+            Stop::Refused => return Err(Want),
+            Stop::Worn => unreachable!(),
+        }
+    }
+    Ok(())
+}

@@ -1,0 +1,3 @@
+pub mod Crosses
+pub mod HallClocks
+pub mod HallClosed

@@ -1,0 +1,11 @@
+-- The run of all waves over one lock.
+use denote.Param.Send.{sendable}
+use Rattle.abt_commons.proofs.Crosses.{HallPass-send}
+use Rattle.std.proofs.Common.{refl, ◌≤◌, sym, subst}
+use Rattle.std.proofs.lemmas.List.{length-map}
+use Rattle.abt_waves.proofs.Crosses.{StoredOrders-sync, vtable-sync}
+use Rattle.hall_waves.proofs.Crosses.{OneLock-sync}
+use Rattle.hall_waves.proofs.hall.run_in_hall.Goals as goal
+
+pub run_over-requires : goal.run_over-requires
+run_over-requires g c κs = (search (sendable, HallPass-send) depth 30, (search sendable depth 30, (search sendable depth 30, (search (sendable, StoredOrders-sync, vtable-sync, g.dyn-1.3) depth 30, (search (sendable, OneLock-sync) depth 30, ((refl, tt), subst (λ k. 2 ≤ k) (sym (length-map c.args.orders.now _)) c.requires.orders))))))

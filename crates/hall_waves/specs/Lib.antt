@@ -1,0 +1,2 @@
+pub mod HallLaws
+pub mod HallLocks

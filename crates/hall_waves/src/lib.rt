@@ -1,0 +1,8 @@
+//! Runs on threads over one lock round all objects: the crate of waves takes any locks.
+#![tactic(auto)]
+
+mod hall;
+#[cfg(test)]
+mod tests;
+
+pub use hall::{OneLock, run_in_hall};
