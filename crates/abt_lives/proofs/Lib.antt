@@ -1,0 +1,5 @@
+mod Complete
+mod Lines
+mod Naming
+mod Preparing
+mod Told

@@ -1,0 +1,113 @@
+-- From what is known of files to what is known of a call.
+use Rattle.std.proofs.Common.{◌≡◌, ◌<◌, ◌≤◌, ◌^◌, ◌-◌, ◌∙◌, ℕ, List, length, map, Option, Result, Ok, Err, inl, inr, subst, sym, arith}
+use Rattle.std.specs.Prelude.{IfErr, IfOk, IfSome}
+use Rattle.std.proofs.lemmas.Bool.{cases_lt}
+use Rattle.std.proofs.lemmas.List.{length-map}
+use Rattle.abt_machine.specs.declared.events.Event.{Event}
+use Rattle.abt_machine.specs.declared.events.Outcome.{Outcome}
+use Rattle.abt_machine.specs.declared.events.Outcome.TheVariants as outcome
+use Rattle.abt_machine.specs.declared.operations.OrderShape.{OrderShape}
+use Rattle.abt_machine.specs.declared.workload.Parts.{Parts}
+use Rattle.abt_machine.specs.Grammar.{Reads}
+use Rattle.abt_machine.specs.Words.{Text}
+use Rattle.abt_run.specs.Call.{Grew}
+use Rattle.abt_lives.specs.Call.{Call, Holds, Wrote}
+use Rattle.abt_lives.specs.Lives.{ReadsLives, RefusesLives}
+use Rattle.abt_lives.specs.Prepared.{IsAsked, IsPrepared, IsPreparedFor, LivesStop, Stops, StopsAt, WorkloadStops, status_of}
+use Rattle.abt_lives.specs.Words.{Asks}
+use Rattle.abt_lives.specs.declared.status.Status.{Status}
+use Rattle.abt_lives.specs.declared.status.Status.TheVariants.{Finished, Stuck, BadWords, Refused, BadLife, Budget, CannotRead, CannotWrite, OutOfMemory}
+
+-- what is known where it went well
+pub if-ok : {A E : Type 0} (r : Result A E) (P Q : A → Type 0) → ((a : A) → P a → Q a) → IfOk r P → IfOk r Q
+if-ok (Ok a) P Q more known = more a known
+if-ok (Err e) P Q more known = known
+
+-- and where it did not
+pub if-err : {A E : Type 0} (r : Result A E) (P Q : E → Type 0) → ((e : E) → P e → Q e) → IfErr r P → IfErr r Q
+if-err (Ok a) P Q more known = known
+if-err (Err e) P Q more known = more e known
+
+-- a count that rose later rose
+later-grew : (old mid new : ℕ) → old ≤ mid → mid ≤ new → Grew (mid, new) → Grew (old, new)
+later-grew old mid new before after grew small = elim (cases_lt mid (2 ^ 64 - 1)) [
+  | inl less ↦ (let more = grew less in omega (arith, before, more))
+  | inr most ↦ omega (arith, before, after, small, most)
+]
+
+-- the workload's file has stopped the call
+pub stops-first : (s : Status) (workload lives : Text) (file_of : Text → Option Text) (faults : ℕ × ℕ) → WorkloadStops s workload file_of faults → StopsAt s workload lives file_of faults
+stops-first Finished workload lives file_of faults h = h
+stops-first Stuck workload lives file_of faults h = h
+stops-first BadWords workload lives file_of faults h = h
+stops-first (Refused line f) workload lives file_of faults h = h
+stops-first (BadLife line) workload lives file_of faults h = absurd h
+stops-first Budget workload lives file_of faults h = h
+stops-first CannotRead workload lives file_of faults h = h
+stops-first CannotWrite workload lives file_of faults h = h
+stops-first OutOfMemory workload lives file_of faults h = h
+
+module _ (W : Parts) (workload lives : Text) (mid old : Text → Option Text) (same : mid lives ≡ old lives) (reads : IfSome (old workload) (λ bytes. Reads bytes W)) where
+  -- or the lives' file has
+  pub stops-second : (s : Status) (a b c : ℕ) → a ≤ b → b ≤ c → LivesStop s W lives mid (b, c) → StopsAt s workload lives old (a, c)
+  stops-second Finished a b c before after h = h
+  stops-second Stuck a b c before after h = h
+  stops-second BadWords a b c before after h = h
+  stops-second (Refused line f) a b c before after h = absurd h
+  stops-second (BadLife line) a b c before after h = record { parts = W; reads = reads; refuses = subst (λ (o : Option Text). IfSome o (λ bytes. RefusesLives W bytes line)) same h }
+  stops-second Budget a b c before after h = h
+  stops-second CannotRead a b c before after h = later-grew a b c before after h
+  stops-second CannotWrite a b c before after h = h
+  stops-second OutOfMemory a b c before after h = h
+
+  -- or both are right
+  pub prepared-first : (Z : List OrderShape) (J : List Event) (o : Outcome) (text : Text) → IsPreparedFor W lives Z mid J o text → IsPrepared workload lives Z old J o text
+  prepared-first Z J o text h = record {
+    parts = W;
+    reads = reads;
+    prepared = record {
+      run = record {
+        lives = h.run.lives;
+        waves = h.run.waves;
+        reads = subst (λ (seen : Option Text). IfSome seen (λ bytes. ReadsLives W bytes h.run.lives)) same h.run.reads;
+        run = h.run.run;
+      };
+      output = h.output;
+    };
+  }
+
+module _ (words : List Text) (workload lives : Text) (asks : Asks words workload lives) where
+  -- the words name the files that stopped the call
+  pub stops-asked : (s : Status) (file_of : Text → Option Text) (faults : ℕ × ℕ) → StopsAt s workload lives file_of faults → Stops s words file_of faults
+  stops-asked Finished file_of faults h = h
+  stops-asked Stuck file_of faults h = h
+  stops-asked BadWords file_of faults h = absurd h
+  stops-asked (Refused line f) file_of faults h = record { named = record { workload = workload; lives = lives; asks = asks }; refuses = h }
+  stops-asked (BadLife line) file_of faults h = record { named = record { workload = workload; lives = lives; asks = asks }; workload = h.parts; reads = h.reads; refuses = h.refuses }
+  stops-asked Budget file_of faults h = h
+  stops-asked CannotRead file_of faults h = (record { workload = workload; lives = lives; asks = asks }, h)
+  stops-asked CannotWrite file_of faults h = h
+  stops-asked OutOfMemory file_of faults h = h
+
+  -- or those that ran
+  pub asked-prepared : (Z : List OrderShape) (file_of : Text → Option Text) (J : List Event) (o : Outcome) (text : Text) → IsPrepared workload lives Z file_of J o text → IsAsked words Z file_of J o text
+  asked-prepared Z file_of J o text h = record {
+    ran = record { named = record { workload = workload; lives = lives; asks = asks }; workload = h.parts; reads = h.reads; run = h.prepared.run };
+    output = h.prepared.output;
+  }
+
+-- a run that was written whole has its status
+pub written : (o : Outcome) (c : Call) → Wrote c o → Holds (status_of o) c
+written outcome.Finished c wrote = wrote
+written outcome.Stuck c wrote = wrote
+written (outcome.Budget s) c wrote = (s, wrote)
+
+-- what is prepared is what was run and printed
+pub prepared-as : (W : Parts) (file : Text) (Z : List OrderShape) (file_of : Text → Option Text) (J K : List Event) (o p : Outcome) (text printed : Text) → K ≡ J → p ≡ o → printed ≡ text →
+    IsPreparedFor W file Z file_of J o text → IsPreparedFor W file Z file_of K p printed
+prepared-as W file Z file_of J K o p text printed j e t h =
+    subst (λ x. IsPreparedFor W file Z file_of x p printed) (sym j) (subst (λ x. IsPreparedFor W file Z file_of J x printed) (sym e) (subst (λ x. IsPreparedFor W file Z file_of J o x) (sym t) h))
+
+-- as many shapes as orders
+pub as-many : {A B : Type 0} (f : A → B) (xs : List A) (n : ℕ) → n ≤ length xs → n ≤ length (map f xs)
+as-many f xs n h = let e : length (map f xs) ≡ length xs = simp length-map in omega arith

@@ -1,0 +1,26 @@
+-- What the text of lives is, and what is written of waves.
+use Rattle.std.specs.Prelude.{ℕ, ◌≡◌, ◌<◌, ◌≤◌, ◌⊎◌, List, [], ◌∷◌, ◌++◌, codes, decimal, length, map}
+use Rattle.abt_machine.specs.declared.workload.Parts.{Parts}
+use Rattle.abt_machine.specs.Words.{Text, numbered, text_of}
+use Rattle.abt_streams.specs.declared.life.Life.{Life}
+use Rattle.abt_streams.specs.declared.wave.Wave.{Wave}
+use Rattle.abt_streams.specs.Lives.{AreLives}
+use Rattle.abt_streams.specs.Texts.{IsBadAt, IsNoLivesText, lives_text}
+
+-- the bytes, which are few enough, are the text of these lives of streams of W
+pub record ReadsLives (W : Parts) (bytes : Text) (lives : List Life) : Type 0 where
+  pub few : length bytes ≤ 65536
+  pub are : AreLives W lives
+  pub text : lives_text lives ≡ bytes
+
+-- why the bytes are not: they are too many, which line 0 stands for, or line l is the first that breaks a rule
+abbrev pub RefusesLives : Parts → Text → ℕ → Type 0
+RefusesLives W bytes l = ((65536 < length bytes) × (l ≡ 0)) ⊎ ((length bytes ≤ 65536) × IsBadAt W bytes l × IsNoLivesText W bytes)
+
+-- what is written of wave i
+abbrev pub wave_words : ℕ → Wave → List Text
+wave_words i wave = codes "wave" ∷ decimal i ∷ codes "from" ∷ decimal wave.from ∷ codes "streams" ∷ map decimal wave.streams
+
+-- and of all
+abbrev pub waves_text : List Wave → Text
+waves_text waves = text_of (numbered wave_words waves)

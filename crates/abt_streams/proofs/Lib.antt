@@ -1,0 +1,13 @@
+mod Alive
+mod Behind
+mod Cutting
+mod Endings
+mod FirstLines
+mod Joined
+mod Journeys
+mod Many
+mod NoLives
+mod OneWave
+mod Quieted
+mod Rising
+mod Words

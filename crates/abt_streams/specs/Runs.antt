@@ -1,0 +1,30 @@
+-- A run on lives between two waves.
+use Rattle.std.specs.Prelude.{ℕ, ◌≡◌, ◌≤◌, List, Some, All}
+use Rattle.abt_machine.specs.declared.events.Event.{Event}
+use Rattle.abt_machine.specs.declared.events.Outcome.{Outcome}
+use Rattle.abt_machine.specs.declared.events.Site.{Site}
+use Rattle.abt_machine.specs.declared.operations.OrderShape.{OrderShape}
+use Rattle.abt_machine.specs.declared.workload.Parts.{Parts}
+use Rattle.abt_machine.specs.Sites.{event_site}
+use Rattle.abt_machine.specs.Start.{start}
+use Rattle.abt_commons.specs.Held.{ObjectsValue}
+use Rattle.abt_stream.specs.Streams.{StreamValue}
+use Rattle.abt_drain.specs.Crews.{moment_of}
+use Rattle.abt_drain.specs.Moments.{LeadTo, Moment}
+use Rattle.abt_waves.specs.Fleets.{IsFleet}
+use Rattle.abt_streams.specs.declared.life.Life.{Life}
+use Rattle.abt_streams.specs.declared.wave.Wave.{Wave}
+use Rattle.abt_streams.specs.Waves.{AreWaves, RiseWhereShared}
+
+-- no clock of the moment is below the event's stamp where it is of the clock's stream or object
+pub record IsBelow (W : Parts) (m : Moment) (e : Event) : Type 0 where
+  pub stream : e.stamp ≤ m.clocks e.stream.0
+  pub site : (x : Site) → event_site W e ≡ Some x → e.stamp ≤ m.times x
+
+-- the journal, in these waves, has led to these objects and streams
+pub record IsUnderWay (W : Parts) (Z : List OrderShape) (n : ℕ) (lives : List Life) (objects : ObjectsValue) (streams : List StreamValue) (J : List Event) (waves : List Wave) : Type 0 where
+  pub fleet : IsFleet W Z n objects streams
+  pub lead : LeadTo W Z J (moment_of W streams objects)
+  pub below : All (IsBelow W (moment_of W streams objects)) J
+  pub rise : RiseWhereShared W J
+  pub waves_are : AreWaves W lives (start W) 0 waves J

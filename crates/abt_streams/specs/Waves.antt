@@ -1,0 +1,47 @@
+-- The waves of a run, and what is said of runs on lives.
+use Rattle.std.specs.Prelude.{ℕ, ◌≡◌, ◌≢◌, ◌+◌, List, [], ◌∷◌, ◌++◌, length, All, Contains, ⊤}
+use Rattle.abt_machine.specs.declared.events.Event.{Event}
+use Rattle.abt_machine.specs.declared.events.Outcome.{Outcome}
+use Rattle.abt_machine.specs.declared.operations.OrderShape.{OrderShape}
+use Rattle.abt_machine.specs.declared.workload.Parts.{Parts}
+use Rattle.abt_machine.specs.Lives.{LivesOf}
+use Rattle.abt_machine.specs.Runs.{Run, state_after, state_at}
+use Rattle.abt_machine.specs.Sound.{Sound}
+use Rattle.abt_machine.specs.Stamps.{AllAfter}
+use Rattle.abt_machine.specs.Start.{start}
+use Rattle.abt_machine.specs.State.{State}
+use Rattle.abt_outcomes.specs.Rotations.{IsWithin}
+use Rattle.abt_streams.specs.declared.life.Life.{Life}
+use Rattle.abt_streams.specs.declared.wave.Wave.{Wave}
+use Rattle.abt_streams.specs.Ends.{EndsOn}
+use Rattle.abt_streams.specs.Living.{live_streams}
+
+-- a wave that starts behind n events, in state S, with these events: its streams are those that live in S, and each event is of
+-- one of them
+pub record IsWaveOf (W : Parts) (lives : List Life) (S : State) (n : ℕ) (wave : Wave) (es : List Event) : Type 0 where
+  pub from : wave.from ≡ n
+  pub streams : wave.streams ≡ live_streams W lives S
+  pub own : All (λ e. Contains wave.streams e.stream.0) es
+
+-- the events from state S on, behind n events, are those of these waves, one after the other
+abbrev pub AreWaves : Parts → List Life → State → ℕ → List Wave → List Event → Type 0
+AreWaves W lives S n [] J = J ≡ []
+AreWaves W lives S n (wave ∷ waves) J =
+    (es : List Event) × (rest : List Event) × (J ≡ es ++ rest) × IsWaveOf W lives S n wave es × AreWaves W lives (state_after W S es) (n + length es) waves rest
+
+-- of events that share a stream or an object the later one has the greater stamp
+abbrev pub RiseWhereShared : Parts → List Event → Type 0
+RiseWhereShared W [] = ⊤
+RiseWhereShared W (e ∷ es) = AllAfter W e es × RiseWhereShared W es
+
+-- the journal is a run of the workload on these lives, whose streams may make n steps each, in these waves, of which there is one
+-- at least; it ended so
+pub record HasRunOn (W : Parts) (Z : List OrderShape) (n : ℕ) (lives : List Life) (J : List Event) (waves : List Wave) (o : Outcome) : Type 0 where
+  pub run : Run W Z J
+  pub sound : (i : ℕ) → Sound W Z (state_at W J i)
+  pub lives_are : LivesOf W J
+  pub rise : RiseWhereShared W J
+  pub within : IsWithin W n J
+  pub some_wave : waves ≢ []
+  pub waves_are : AreWaves W lives (start W) 0 waves J
+  pub ended : EndsOn W lives n J o

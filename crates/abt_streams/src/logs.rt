@@ -1,0 +1,59 @@
+//! What a wave appends to the journal.
+
+ghost use Rattle.std.specs.Prelude.{◌≡◌, ◌++◌, IfOk, List, OnOk, drop, length};
+ghost use Rattle.abt_machine.specs.declared.events.Event.{Event};
+ghost use Rattle.abt_merge.specs.Logs.{AreLogs, log_of};
+ghost use Rattle.abt_simulation.specs.Journals.{MergesTo};
+ghost use Rattle.abt_streams.specs.Cutting.{behind, log_lengths};
+
+use abt_machine::{Event, Log, Want};
+use abt_merge::merge;
+use abt_stream::Stream;
+use std::alloc::Global;
+
+/// How many events each log has.
+pub(crate) fn log_lengths(alloc: Global, streams: &[Stream]) -> Result<Vec<usize>, Want>
+    ensures { IfOk result (λ lengths. lengths.items ≡ log_lengths streams.now) }
+{
+    let mut lengths = Vec::with_capacity(alloc, streams.len())?;
+    for stream in streams {
+        lengths.push(stream.log().len())?;
+    }
+    Ok(lengths)
+}
+
+// What a log has behind so many events.
+fn log_behind(alloc: Global, log: &[Event], from: usize) -> Result<Log, Want>
+    ensures { IfOk result (λ rest. rest ≡ drop from log.now) }
+{
+    let from = from.min(log.len());
+    Ok(Log::new(Vec::from_slice(alloc, &log[from..])?))
+}
+
+// What each log has behind so many events.
+fn logs_behind(alloc: Global, streams: &[Stream], lengths: &[usize]) -> Result<Vec<Log>, Want>
+    requires { length lengths.now ≡ length streams.now }
+    ensures { IfOk result (λ logs. logs.items ≡ behind streams.now lengths.now) }
+{
+    let mut logs = Vec::with_capacity(alloc, streams.len())?;
+    for s in 0..streams.len() {
+        logs.push(log_behind(alloc, streams[s].log(), lengths[s])?)?;
+    }
+    Ok(logs)
+}
+
+/// Appends the events of a wave, merged; the logs had so many before it.
+pub(crate) fn append_wave(
+    alloc: Global,
+    journal: &mut Vec<Event>,
+    streams: &[Stream],
+    lengths: &[usize],
+) -> Result<(), Want>
+    requires lengths { length lengths.now ≡ length streams.now }
+    requires logs { AreLogs (behind streams.now lengths.now) }
+    ensures { OnOk result ((es : List Event) × MergesTo (log_of (behind streams.now lengths.now)) es × (journal.new.items ≡ journal.old.items ++ es)) }
+{
+    let wave = merge(alloc, logs_behind(alloc, streams, lengths)?)?;
+    journal.extend_from_slice(wave.items())?;
+    Ok(())
+}

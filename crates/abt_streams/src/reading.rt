@@ -1,0 +1,164 @@
+//! The lives of streams, read from a text.
+
+ghost use Rattle.std.specs.Prelude.{ℕ, ◌≡◌, ◌≢◌, ◌<◌, ◌++◌, ◌↔◌, All, IfErr, IfOk, IsTrue, MatchBool, MatchOption, OnOk, Some, decimal, length, slice_index, take};
+ghost use Rattle.abt_machine.specs.Operations.{IsEventual};
+ghost use Rattle.abt_machine.specs.Words.{Text, ended};
+ghost use Rattle.abt_report.specs.Journals.{IsShort, Reads};
+ghost use Rattle.abt_streams.specs.declared.life.Life.{Life};
+ghost use Rattle.abt_streams.specs.Lives.{AreLives, MayFollow};
+ghost use Rattle.abt_streams.specs.Texts.{HasShortNumbers, IsCause, IsNoFeed, SpellNumbers, life_line, lives_text};
+
+use crate::life::{Life, Lives};
+use crate::not_lives::NotLives;
+use abt_lines::{end_line, push_decimal};
+use abt_machine::{ObjectNo, StreamNo, Thing, Want, Workload};
+use std::alloc::Global;
+use std::str;
+
+// Where the first line feed stands.
+fn feed_at(text: &[u8]) -> Option<usize>
+    ensures { MatchOption result (All IsNoFeed text.now) (λ i. (i < length text.now) × All IsNoFeed (take i text.now) × (slice_index text.now i ≡ 10)) }
+{
+    text.iter().position(|b| *b == b'\n')
+}
+
+// The first line with its line feed, or the whole text if it has none; and what follows.
+fn first_line(text: &[u8]) -> (&[u8], &[u8])
+    ensures joined { result.0.now ++ result.1.now ≡ text.now }
+    ensures some { 0 < length text.now → 0 < length result.0.now }
+    ensures first { (line more : Text) → All IsNoFeed line → ended line ++ more ≡ text.now → ended line ≡ result.0.now }
+{
+    match feed_at(text) {
+        Some(end) => text.split_at(end + 1),
+        None => (text, &[]),
+    }
+}
+
+// The number that a word is.
+fn number(word: &str) -> Option<u32>
+    ensures { (n : ℕ) → IsShort n → decimal n ≡ word.now → result ≡ Some n }
+{
+    word.parse().ok()
+}
+
+// The life with these numbers.
+fn life_of(stream: &str, begins: &str, ends: &str) -> Option<Life>
+    ensures { (life : Life) → HasShortNumbers life → SpellNumbers life stream.now begins.now ends.now → result ≡ Some life }
+{
+    Some(Life {
+        stream: StreamNo(number(stream)?),
+        begins: ObjectNo(number(begins)?),
+        ends: ObjectNo(number(ends)?),
+    })
+}
+
+// The words of a line behind its first.
+fn numbers<'a>(line: &'a str) -> Option<(&'a str, &'a str, &'a str)>
+    ensures { (life : Life) → HasShortNumbers life → life_line life ≡ line.entry.now → MatchOption result ⊥ (λ words. SpellNumbers life words.0.now words.1.now words.2.now) }
+{
+    let (_, numbers) = line.split_once(' ')?;
+    let (stream, objects) = numbers.split_once(' ')?;
+    let (begins, end) = objects.split_once(' ')?;
+    let (ends, _) = end.split_once('\n')?;
+    Some((stream, begins, ends))
+}
+
+// The life that the line may be that of: if it is the line of a life, it is of that one.
+fn guess(line: &[u8]) -> Option<Life>
+    ensures { (life : Life) → HasShortNumbers life → life_line life ≡ line.now → result ≡ Some life }
+{
+    let Ok(line) = str::from_utf8(line) else {
+        return None;
+    };
+    let (stream, begins, ends) = numbers(line)?;
+    life_of(stream, begins, ends)
+}
+
+// Writes the line of the life into the text.
+fn write_line(text: &mut Vec<u8>, life: &Life) -> Result<(), Want>
+    ensures { OnOk result (text.new.items ≡ life_line life.now) }
+{
+    text.clear();
+    text.extend_from_slice(b"life")?;
+    push_decimal(text, u64::from(life.stream.0))?;
+    push_decimal(text, u64::from(life.begins.0))?;
+    push_decimal(text, u64::from(life.ends.0))?;
+    end_line(text)
+}
+
+// Whether the line is that of the life, which is written into the text for it.
+fn is_line_of(line: &[u8], life: &Life, text: &mut Vec<u8>) -> Result<bool, Want>
+    ensures { IfOk result (λ is. MatchBool is (life_line life.now ≡ line.now) (life_line life.now ≢ line.now)) }
+{
+    write_line(text, life)?;
+    Ok(text.as_slice() == line)
+}
+
+fn is_eventual(w: &Workload, x: ObjectNo) -> bool
+    ensures { IsTrue result ↔ IsEventual w.now x.0 }
+{
+    x.0 < w.objects() && matches!(w.thing(x), Thing::Eventual)
+}
+
+// Whether the life is one of a stream of the workload that has none of these.
+fn may_follow(w: &Workload, before: &[Life], life: &Life) -> bool
+    ensures { IsTrue result ↔ MayFollow w.now before.now life.now }
+{
+    life.stream.0 < w.streams()
+        && before.iter().all(|other| other.stream.0 != life.stream.0)
+        && is_eventual(w, life.begins)
+        && is_eventual(w, life.ends)
+        && life.begins.0 != life.ends.0
+}
+
+// The life that this line adds to these. The text is room that is used again.
+fn read_life(
+    w: &Workload,
+    before: &[Life],
+    line: &[u8],
+    text: &mut Vec<u8>,
+) -> Result<Option<Life>, Want>
+    ensures { IfOk result (Reads (MayFollow w.now before.now) life_line line.now) }
+{
+    // The count is of no use here, but its contract says that the workload is valid.
+    w.streams();
+    let Some(life) = guess(line) else {
+        return Ok(None);
+    };
+    if !may_follow(w, before, &life) {
+        return Ok(None);
+    }
+    if is_line_of(line, &life, text)? {
+        return Ok(Some(life));
+    }
+    Ok(None)
+}
+
+/// The lives of streams of the workload whose text this is. Each line is `life S X Y`, with single spaces, numbers without
+/// leading zeros, and a line feed: S is a stream that no earlier line names, and X and Y are two different eventuals.
+///
+/// # Errors
+///
+/// `Bad` with the first line, counted from 1, that breaks a rule; `Memory` if memory is refused.
+pub fn read_lives(alloc: Global, w: &Workload, bytes: &[u8]) -> Result<Lives, NotLives>
+    ensures lives { IfOk result (λ lives. AreLives w.now lives) }
+    ensures text { IfOk result (λ lives. lives_text lives ≡ bytes.now) }
+    ensures cause { IfErr result (IsCause w.now bytes.now) }
+{
+    // The count is of no use here, but its contract says that the workload is valid.
+    w.streams();
+    let mut lives = Vec::new(alloc);
+    let mut text = Vec::new(alloc);
+    let mut rest = bytes;
+    while !rest.is_empty() {
+        let (line, more) = first_line(rest);
+        let Some(life) = read_life(w, &lives, line, &mut text)? else {
+            return Err(NotLives::Bad {
+                line: lives.len() as u32 + 1,
+            });
+        };
+        lives.push(life)?;
+        rest = more;
+    }
+    Ok(Lives::new(lives))
+}

@@ -1,0 +1,66 @@
+//! A run whose streams are started and ended by units.
+
+ghost use Rattle.std.specs.Prelude.{◌≡◌, ◌≤◌, IfOk, length};
+ghost use Rattle.std.specs.List.{All};
+ghost use Rattle.abt_machine.specs.Runs.{last_state};
+ghost use Rattle.abt_machine.specs.Texts.{shown_units};
+ghost use Rattle.abt_order.specs.Stored.{shapes_of};
+ghost use Rattle.abt_report.specs.Pictures.{SaysWordsOf, units_of};
+ghost use Rattle.abt_streams.specs.Lives.{AreLives};
+ghost use Rattle.abt_streams.specs.Waves.{HasRunOn};
+
+use crate::journey::{Journey, go, picture_of, start};
+use crate::life::Lives;
+use crate::wave::Waves;
+use abt_machine::{Journal, Outcome, Want, Workload};
+use abt_order::StoredOrder;
+use abt_report::Picture;
+use abt_stream::Pace;
+use std::alloc::Global;
+use std::sync::Wait;
+use std::thread::Threads;
+
+/// A run on lives: its journal, its waves, its units at the end, and how it ended.
+#[derive(Drop)]
+pub struct LivesRun {
+    pub journal: Journal,
+    pub waves: Waves,
+    pub picture: Picture,
+    pub outcome: Outcome,
+}
+
+/// Runs a workload whose streams may make so many steps each, and live as these lives say; `pace` is called before each step.
+/// In a wave each stream that lives when the wave begins makes turns on a thread of its own, as in `run_streams`: a stream that
+/// ends within the wave leaves at the wave's end. Waves go on until one leaves nothing to do on these lives, or a stream spent; there
+/// is always one. Err: memory was refused, to one stream or to all; its wave is the last.
+pub fn run_lives<'w, R: Threads + Wait + Sync, P: Pace + Sync>(
+    alloc: Global,
+    rt: &'w R,
+    w: &'w Workload,
+    lives: &Lives,
+    orders: &[StoredOrder],
+    pace: &P,
+    steps: u64,
+) -> Result<LivesRun, Want>
+    requires orders { 2 ≤ length orders.now }
+    requires lives { AreLives w.now lives.now }
+    ensures run { IfOk result (λ run. HasRunOn w.now (shapes_of orders.now) steps lives.now run.journal run.waves run.outcome) }
+    ensures shown { IfOk result (λ run. shown_units w.now (last_state w.now run.journal) ≡ units_of run.picture) }
+    ensures words { IfOk result (λ run. All (SaysWordsOf w.now) run.picture) }
+{
+    let journey = start(alloc, w, orders, steps)?;
+    let (journey, outcome) = go(alloc, rt, w, lives.items(), orders, pace, steps, journey)?;
+    let Journey {
+        objects,
+        streams,
+        journal,
+        waves,
+    } = journey;
+    let picture = picture_of(alloc, w, objects, streams)?;
+    Ok(LivesRun {
+        journal: Journal::new(journal),
+        waves: Waves::new(waves),
+        picture,
+        outcome,
+    })
+}
