@@ -17,7 +17,7 @@ const STREAMS: u32 = 4;
 const SUM: ObjectNo = ObjectNo(0);
 
 /// The workload of n units that each add their number, 1 to n, to one sum under a mutex, on four streams that steal from one
-/// another. Unit 0 creates them, joins them and prints the sum, which is n(n + 1)/2.
+/// another. Unit 0 creates them, joins them and prints the sum.
 pub fn generate(alloc: Global, n: u32) -> Result<Workload, Want>
     requires { (0 < n) × (n ≤ 126) }
     ensures { IfOk result (λ w. w ≡ generated n) }

@@ -55,7 +55,7 @@ pub data Answer : Type 0 where
   Number : ℕ → Answer
   -- a cancel request, and the pool of a migrate request
   Asks : Bool → Option ℕ → Answer
-  -- how it went, where no unit came with the act
+  -- how it went, if no unit came with the act
   Coded : Code → Answer
   -- the unit that came with the act is refused
   Back : Owned → Code → Answer

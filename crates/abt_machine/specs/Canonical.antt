@@ -133,7 +133,7 @@ unit_lines W u part = (codes "unit" ∷ decimal u ∷ body_words part.body ++ st
 
 -- The whole text.
 
--- keys are declared only where there are some
+-- keys are declared only if there are some
 abbrev pub keys_lines : ℕ → List (List Text)
 keys_lines zero = []
 keys_lines (suc n) = (codes "keys" ∷ decimal (suc n) ∷ []) ∷ []

@@ -45,7 +45,7 @@ pub record IsUnitPart (W : Parts) (part : UnitPart) : Type 0 where
   pub ops : All (IsDeclared W) (ops_of part.body)
   pub start : IsStart W part.start
 
--- the number after these, where they count up from n
+-- the number after these, if they count up from n
 abbrev pub after_said : ℕ → List ℕ → Option ℕ
 after_said n [] = Some n
 after_said n (w ∷ ws) = if w == n then after_said (n + 1) ws else None

@@ -43,7 +43,7 @@ owned_by S u x = is_some_of u (S.mutex x).owner
 abbrev pub is_full : Parts → State → ℕ → Bool
 is_full W S x = (S.future x).filled == size_of W x
 
--- the code where the test fails, else what follows
+-- the code if the test fails, else what follows
 abbrev pub unless : Bool → Code → Code → Code
 unless test c rest = if test then rest else c
 

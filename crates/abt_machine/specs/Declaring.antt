@@ -31,18 +31,18 @@ use Rattle.abt_machine.specs.Words.{Text}
 pub record Above : Type 0 where
   -- whether a line is among them that is not skipped
   pub begun : Bool
-  -- the section of the last line that declares something, 0 where there is none
+  -- the section of the last line that declares something, 0 if there is none
   pub section : ℕ
-  -- the number of streams, where it is declared
+  -- the number of streams, if it is declared
   pub streams : Option ℕ
-  -- the number of keys, 0 where it is not declared
+  -- the number of keys, 0 if it is not declared
   pub keys : ℕ
   pub pools : List PoolPart
   pub scheds : List SchedPart
-  -- the main scheduler of each stream, where it is declared
+  -- the main scheduler of each stream, if it is declared
   pub mains : List (Option SchedNo)
   pub objects : List Thing
-  -- the number of units, where it is declared
+  -- the number of units, if it is declared
   pub unit_count : Option ℕ
   -- the units that are declared but the last
   pub units : List UnitPart

@@ -209,7 +209,7 @@ numbers_of f words = map (λ (p : Number × Text). (p.0, value_of p.1)) (numeral
 abbrev pub values_of : Form → List Text → List ℕ
 values_of f words = map (λ (p : Number × ℕ). p.1) (numbers_of f words)
 
--- what is asked of a line's form holds where it has one
+-- what is asked of a line's form holds if it has one
 abbrev pub of_form : (Form → Bool) → Option Form → Bool
 of_form test form = option_map_or test form false
 

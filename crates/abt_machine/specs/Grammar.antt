@@ -37,7 +37,7 @@ abbrev pub is_too_long : Text → Fault → Bool
 is_too_long text fault.Limit = nat_lt 4194304 (length text)
 is_too_long text f = false
 
--- the line after the last has a fault where there was no `end`
+-- the line after the last has a fault if there was no `end`
 abbrev pub ends_early : Above → Fault → Bool
 ends_early a fault.NoEnd = not (a.section == 10)
 ends_early a f = false

@@ -6,7 +6,6 @@ pub mod Carrying
 pub mod Changes
 pub mod Checks
 pub mod Codes
-pub mod Commands
 pub mod Declaring
 pub mod Desks
 pub mod Events

@@ -50,6 +50,6 @@ abbrev pub end_from : State → Line → Option ℕ → ℕ
 end_from S l None = 0
 end_from S l (Some u) = end_of (ticket_in l (S.place u))
 
--- one more than the greatest number of a tray, 0 where it is empty
+-- one more than the greatest number of a tray, 0 if it is empty
 abbrev pub tray_end : Parts → State → ℕ → ℕ
 tray_end W S s = end_from S (InTray s) (last (standing W S (InTray s)))

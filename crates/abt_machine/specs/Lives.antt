@@ -61,7 +61,7 @@ abbrev pub last_life_from : Parts → ℕ → ℕ → List Event → ℕ
 last_life_from W u now [] = now
 last_life_from W u now (e ∷ es) = last_life_from W u (life_after W u now e.what) es
 
--- the life that unit u is in after a journal, 0 where it is unborn
+-- the life that unit u is in after a journal, 0 if it is unborn
 abbrev pub last_life : Parts → List Event → ℕ → ℕ
 last_life W J u = last_life_from W u (first_life (start_of W u)) J
 

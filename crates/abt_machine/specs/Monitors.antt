@@ -35,7 +35,7 @@ abbrev pub admitted_by : Option ℕ → Owned → MonitorValue → MonitorValue
 admitted_by None o m = with_owner (Some o.number) m
 admitted_by (Some v) o m = record m { waiters = m.waiters ++ o ∷ [] }
 
--- a unit that waits no longer at its condition is the owner where the mutex is free, else the last of its waiters
+-- a unit that waits no longer at its condition is the owner if the mutex is free, else the last of its waiters
 abbrev pub admitted : Owned → MonitorValue → MonitorValue
 admitted o m = admitted_by m.owner o m
 
@@ -43,7 +43,7 @@ abbrev pub all_admitted : List Owned → MonitorValue → MonitorValue
 all_admitted [] m = m
 all_admitted (o ∷ os) m = all_admitted os (admitted o m)
 
--- of units that are admitted in order, the first is the owner where the mutex is free, and no other is
+-- of units that are admitted in order, the first is the owner if the mutex is free, and no other is
 abbrev pub new_owner : Option ℕ → List Owned → Option Owned
 new_owner None os = first os
 new_owner (Some v) os = None

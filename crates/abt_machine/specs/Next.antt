@@ -21,12 +21,12 @@ pub data Due : Type 0 where
   LeaveDue : Due
   RoundDue : Due
 
--- a step where an operation is left, else the end
+-- a step if an operation is left, else the end
 abbrev pub due_of_ops : List Op → ℕ → Due
 due_of_ops ops k = if nat_lt k (length ops) then StepDue else EndDue cause.Done
 
--- what is due for a unit in hand at position k: its end where its look found a cancel request; for a scheduler unit its
--- entry, where s may take from all of its pools, or its end, where it may not or has left; for any other its program
+-- what is due for a unit in hand at position k: its end if its look found a cancel request; for a scheduler unit its
+-- entry if s can take from all of its pools, or its end if s can not or it has left; for any other its program
 abbrev pub due_of_unit : Parts → ℕ → Mark → Body → ℕ → Due
 due_of_unit W s Asked b k = EndDue cause.Asked
 due_of_unit W s Plain (body.Sched g) k = if may_take_all W s g.0 then EnterDue else EndDue cause.Access

@@ -47,7 +47,7 @@ steps_of s J = count_by (λ (e : Event). is_step e.what && (e.stream.0 == s)) J
 abbrev pub Spent : Parts → ℕ → List Event → ℕ → Type 0
 Spent W n J s = (s < W.streams) × (steps_of s J ≡ n) × (due W (last_state W J) s ≡ StepDue)
 
--- how a journal ended, where each stream may make n steps: quiet with every unit ended; quiet with some unit that isn't; or by the least stream that is spent
+-- how a journal ended when each stream may make n steps: quiet with every unit ended; quiet with some unit that isn't; or by the least stream that is spent
 abbrev pub EndsAs : Parts → ℕ → List Event → Outcome → Type 0
 EndsAs W n J outcome.Finished = Quiet W (last_state W J) × AllEnded (last_state W J)
 EndsAs W n J outcome.Stuck = Quiet W (last_state W J) × (AllEnded (last_state W J) → ⊥)

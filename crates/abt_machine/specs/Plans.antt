@@ -102,7 +102,7 @@ to_caller o (act.Coded code.Ok) = keeps (moved o) []
 to_caller o (act.Coded c) = refusal o c
 to_caller o answer = keeps (moved o) []
 
--- to a unit that went with the act: it goes on where it comes back, and those that waited for it are woken; else it waits
+-- to a unit that went with the act: it goes on if it comes back, and those that waited for it are woken; else it waits
 abbrev pub to_giver : Answer → Effect
 to_giver (act.Given b) = keeps b []
 to_giver (act.Through b os) = keeps b os

@@ -39,7 +39,7 @@ home_from (Some p) = p
 abbrev pub first_pool : Parts → ℕ → ℕ
 first_pool W s = home_from (first (pools_of W (main_of W s)))
 
--- the site of an operation that stream s makes: none where it is local, where it yields, and where s may not reach the pool that it names
+-- the site of an operation that stream s makes: none if it is local, if it yields, or if s can not reach the pool that it names
 abbrev pub op_site : Parts → ℕ → ℕ → Op → Option Site
 op_site W s u (op.Set n) = None
 op_site W s u (op.Add n) = None

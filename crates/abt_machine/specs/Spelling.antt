@@ -1,7 +1,8 @@
 -- Lines, words and numbers of a text.
-use Rattle.std.specs.Prelude.{ℕ, ◌+◌, ◌-◌, ◌*◌, ◌^◌, ◌==◌, ◌&&◌, ◌||◌, Bool, not, List, [], ◌∷◌, filter, length, nat_lt, if◌then◌else◌}
+use Rattle.std.specs.Prelude.{◌≡◌, ◌≤◌, ℕ, ◌+◌, ◌-◌, ◌*◌, ◌^◌, ◌==◌, ◌&&◌, ◌||◌, Bool, not, List, [], ◌∷◌, filter, length, nat_lt, if◌then◌else◌}
 use Rattle.std.specs.List.{list_any, onto_first, slice_split}
 use Rattle.std.specs.Str.{all_ascii_digits}
+use Rattle.std.specs.Str.Parse.{IsNumeral, digits_value}
 use Rattle.abt_machine.specs.Words.{Text}
 
 -- what a byte makes of the lines that follow it: a line feed ends a line, any other byte begins the first of them
@@ -43,3 +44,7 @@ value_of word = value_from 0 word
 -- a number is one or more digits, leading zeros among them, of a value below 2 ^ 64
 abbrev pub is_number : Text → Bool
 is_number word = not (is_empty word) && all_ascii_digits word && nat_lt (value_of word) (2 ^ 64)
+
+-- one or more ASCII digits of a value from 1 to `most`; leading zeros are allowed
+abbrev pub SaysNumber : ℕ → Text → ℕ → Type 0
+SaysNumber most digits n = IsNumeral 10 digits × (n ≡ digits_value 10 digits) × (1 ≤ n) × (n ≤ most)

@@ -17,7 +17,7 @@ Shares W e f = (e.stream ≡ f.stream) ⊎ SameSite W e f
 abbrev pub Follows : Event → Event → Type 0
 Follows e f = (e.stamp ≤ f.stamp) × (f.stamp ≤ e.stamp + 1) × (e.stamp ≡ f.stamp → e.stream.0 < f.stream.0)
 
--- each of these has a greater stamp than e where it shares a stream or an object with it
+-- each of these has a greater stamp than e if it shares a stream or an object with it
 abbrev pub AllAfter : Parts → Event → List Event → Type 0
 AllAfter W e [] = Unit {0}
 AllAfter W e (f ∷ fs) = (Shares W e f → e.stamp < f.stamp) × AllAfter W e fs

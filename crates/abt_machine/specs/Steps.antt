@@ -41,7 +41,7 @@ begins W S s u v p = record (wakes W S s u (v ∷ [])) {
 abbrev pub asks : State → ℕ → ℕ → Desk → Change
 asks S u v d = record (goes_on S u) { desks = (v, d) ∷ [] }
 
--- unit u goes on where v has ended, else it joins v
+-- unit u goes on if v has ended, else it joins v
 abbrev pub joins : State → ℕ → ℕ → Place → Change
 joins S u v (place.Ended c) = goes_on S u
 joins S u v _ = record (goes_on S u) { moves = (u, place.Blocked (spot.Join (unit_no v)) (S.join_next v)) ∷ []; join_next = (v, suc (S.join_next v)) ∷ [] }
@@ -52,12 +52,12 @@ joins S u v _ = record (goes_on S u) { moves = (u, place.Blocked (spot.Join (uni
 abbrev pub waits : State → ℕ → ℕ → Change
 waits S u x = record (goes_on S u) { moves = (u, place.Blocked (spot.Object (object_no x)) (S.object_next x)) ∷ []; object_next = (x, suc (S.object_next x)) ∷ [] }
 
--- the mutex is unit u's where it was free, else u waits
+-- the mutex is unit u's if it was free, else u waits
 abbrev pub locks : State → ℕ → ℕ → Option ℕ → Change
 locks S u x None = record (goes_on S u) { mutexes = (x, owned (Some u) (S.mutex x)) ∷ [] }
 locks S u x (Some v) = waits S u x
 
--- mutex m goes to the first of its waiters, who is woken, and is free where there is none
+-- mutex m goes to the first of its waiters, who is woken, and is free if there is none
 abbrev pub hands_over : Parts → State → ℕ → ℕ → ℕ → Change
 hands_over W S s u m = record (wakes W S s u (first_alone (standing W S (Waiting m)))) {
   mutexes = (m, owned (first (standing W S (Waiting m))) (S.mutex m)) ∷ [];
@@ -74,7 +74,7 @@ releases W S s u x m = record (hands_over W S s u m) {
 abbrev pub queues : State → ℕ → ℕ → List ℕ → Change
 queues S u m vs = record (goes_on S u) { moves = waiting_moves m (S.object_next m) vs; object_next = (m, S.object_next m + length vs) ∷ [] }
 
--- these units come from a condition to mutex m, in order; where it is free the first of them is its owner and woken
+-- these units come from a condition to mutex m, in order; if it is free the first of them is its owner and woken
 abbrev pub passes : Parts → State → ℕ → ℕ → ℕ → Option ℕ → List ℕ → Change
 passes W S s u m o [] = goes_on S u
 passes W S s u m (Some v) (w ∷ ws) = queues S u m (w ∷ ws)
@@ -92,7 +92,7 @@ gives_all W S s u x value = record (wakes W S s u (standing W S (Waiting x))) {
   carried = (u, advanced (S.carried u)) ∷ map (receives S value) (standing W S (Waiting x));
 }
 
--- unit u gets the value of x where there is one, else it waits at x
+-- unit u gets the value of x if there is one, else it waits at x
 abbrev pub awaits : State → ℕ → ℕ → Option ℕ → Change
 awaits S u x None = waits S u x
 awaits S u x (Some value) = goes_with u (with_acc value (S.carried u))

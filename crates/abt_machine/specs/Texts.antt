@@ -17,8 +17,6 @@ use Rattle.abt_machine.specs.declared.events.Shown.TheVariants as shows
 use Rattle.abt_machine.specs.declared.events.Spot.TheVariants as spot
 use Rattle.abt_machine.specs.declared.events.What.{What}
 use Rattle.abt_machine.specs.declared.events.What.TheVariants as what
-use Rattle.abt_machine.specs.declared.program.Command.{Command}
-use Rattle.abt_machine.specs.declared.program.Command.TheVariants as command
 use Rattle.abt_machine.specs.declared.workload.Parts.{Parts}
 use Rattle.abt_machine.specs.Canonical.{word_at}
 use Rattle.abt_machine.specs.Outcomes.{steps_in}
@@ -170,8 +168,3 @@ report_text W S steps o = report_of W (shown_units W S) steps o
 -- the short report on a state
 abbrev pub short_text : Parts → State → ℕ → Outcome → Text
 short_text W S steps o = short_of W (shown_units W S) steps o
-
--- what a command prints of a run, by its last state, its journal and its outcome
-abbrev pub output_text : Parts → State → List Event → Outcome → Command → Text
-output_text W S J o (command.Run file steps journal) = (if journal then journal_text J else []) ++ report_text W S (steps_in J) o
-output_text W S J o (command.SelfRun units) = short_text W S (steps_in J) o

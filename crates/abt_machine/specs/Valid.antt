@@ -1,4 +1,4 @@
--- When parts are those of a workload: exactly where some workload text declares them.
+-- When parts are those of a workload: exactly if some workload text declares them.
 use Rattle.std.specs.Prelude.{ℕ, ◌≡◌, ◌≢◌, ◌<◌, ◌≤◌, ◌^◌, ◌++◌, IsTrue, IsFalse, IsUtf8, List, [], ◌∷◌, length, map, flat_map, All, AllPairs, EachIndex, Some, ⊤}
 use Rattle.std.specs.List.{list_any, range_with_len}
 use Rattle.abt_machine.specs.declared.numbers.SchedNo.{SchedNo}

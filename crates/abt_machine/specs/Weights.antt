@@ -11,7 +11,7 @@ weight (w ∷ ws) = length w + 1 + weight ws
 unfoldable pub size : List (List Text) → ℕ
 size lines = length (text_of lines)
 
--- what is left of room where so many bytes are taken of it, if they are there
+-- what is left of room after so many bytes are taken of it, if they are there
 abbrev pub IsLeft : ℕ → ℕ → Option ℕ → Type 0
 IsLeft room bytes None = room < bytes
 IsLeft room bytes (Some left) = left + bytes ≡ room

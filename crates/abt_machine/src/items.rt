@@ -4,7 +4,7 @@ ghost use Rattle.std.specs.Prelude.{◌≡◌, string_bytes};
 
 use std::marker::Model;
 
-/// A list, which contracts see as its items. It is made from a `Vec` and gives it back without taking memory.
+/// A list, which contracts see as its items. It is made from a `Vec` and returns it without taking memory.
 #[derive(Drop)]
 pub struct Items<T> {
     items: Vec<T>,

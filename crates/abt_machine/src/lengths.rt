@@ -111,7 +111,7 @@ fn start_len(start: Option<PoolNo>) -> usize
     }
 }
 
-// What is left of room after the numbers of pools, where there is enough.
+// What is left of room after the numbers of pools, if there is enough.
 fn pool_words(pools: &[PoolNo], room: usize) -> Option<usize>
     ensures { IsLeft room (weight (map (λ (p : PoolNo). decimal p.0) pools.now)) result }
 {
@@ -122,7 +122,7 @@ fn pool_words(pools: &[PoolNo], room: usize) -> Option<usize>
     Some(left)
 }
 
-// What is left of room after a scheduler's line, where there is enough.
+// What is left of room after a scheduler's line, if there is enough.
 fn sched_words(g: usize, part: &SchedPart, room: usize) -> Option<usize>
     ensures { IsLeft room (weight (sched_line g part.now)) result }
 {
@@ -200,7 +200,7 @@ impl Parts {
         }
     }
 
-    // What is left of room after the lines of operations, where there is enough.
+    // What is left of room after the lines of operations, if there is enough.
     fn op_lines(&self, ops: &[Op], room: usize) -> Option<usize>
         requires { All (λ word. length word ≤ 64) self.now.words }
         ensures { IsLeft room (size (map (op_words self.now) ops.now)) result }
@@ -212,7 +212,7 @@ impl Parts {
         Some(left)
     }
 
-    // What is left of room after a unit's lines, where there is enough.
+    // What is left of room after a unit's lines, if there is enough.
     fn unit_lines(&self, u: usize, part: &UnitPart, room: usize) -> Option<usize>
         requires { All (λ word. length word ≤ 64) self.now.words }
         ensures { IsLeft room (size (unit_lines self.now u part.now)) result }
@@ -221,7 +221,7 @@ impl Parts {
         self.op_lines(part.body.ops(), room.checked_sub(head)?)
     }
 
-    // What is left of room after the lines of all units, where there is enough.
+    // What is left of room after the lines of all units, if there is enough.
     fn units_lines(&self, room: usize) -> Option<usize>
         requires { All (λ word. length word ≤ 64) self.now.words }
         ensures { IsLeft room (size (flat_map (λ p. unit_lines self.now p.0 p.1) (enumerate_from 0 self.now.units))) result }
@@ -233,7 +233,7 @@ impl Parts {
         Some(left)
     }
 
-    // What is left of room after the lines of all pools, where there is enough.
+    // What is left of room after the lines of all pools, if there is enough.
     fn pool_lines(&self, room: usize) -> Option<usize>
         ensures { IsLeft room (size (numbered pool_line self.now.pools)) result }
     {
@@ -244,7 +244,7 @@ impl Parts {
         Some(left)
     }
 
-    // What is left of room after the lines of all schedulers, where there is enough.
+    // What is left of room after the lines of all schedulers, if there is enough.
     fn sched_lines(&self, room: usize) -> Option<usize>
         ensures { IsLeft room (size (numbered sched_line self.now.scheds)) result }
     {
@@ -255,7 +255,7 @@ impl Parts {
         Some(left)
     }
 
-    // What is left of room after the lines of all streams, where there is enough.
+    // What is left of room after the lines of all streams, if there is enough.
     fn main_lines(&self, room: usize) -> Option<usize>
         ensures { IsLeft room (size (numbered stream_line self.now.mains)) result }
     {
@@ -266,7 +266,7 @@ impl Parts {
         Some(left)
     }
 
-    // What is left of room after the lines of all objects, where there is enough.
+    // What is left of room after the lines of all objects, if there is enough.
     fn object_lines(&self, room: usize) -> Option<usize>
         ensures { IsLeft room (size (numbered object_line self.now.objects)) result }
     {
@@ -277,7 +277,7 @@ impl Parts {
         Some(left)
     }
 
-    // The bytes of the line of keys, which stands only where there are some.
+    // The bytes of the line of keys, which stands only if there are some.
     fn keys_len(&self) -> usize
         ensures exact { result ≡ size (keys_lines self.now.keys) }
         ensures short { result ≤ 60 }
@@ -288,7 +288,7 @@ impl Parts {
         "keys ".len() + small(self.keys)
     }
 
-    // What is left of room for a text after the lines of these parts, where there is enough.
+    // What is left of room for a text after the lines of these parts, if there is enough.
     fn text_lines(&self, room: usize) -> Option<usize>
         requires { All (λ word. length word ≤ 64) self.now.words }
         ensures { IsLeft room (size (workload_lines self.now)) result }

@@ -20,7 +20,7 @@ pub use grammar::{Form, Number, Role};
 pub use items::{Items, Text};
 pub use numbers::{ObjectNo, PoolNo, SchedNo, StreamNo, UnitNo};
 pub use operations::{Access, Body, Combine, Kind, Op, Ops, OrderShape, Pools, Rule, Side, Thing};
-pub use program::{Command, Ended, Fault, Want};
+pub use program::{Ended, Fault, Want};
 pub use workload::{
     Mains, Parts, PoolPart, PoolParts, SchedPart, SchedParts, Texts, Things, UnitPart, UnitParts,
     Workload,

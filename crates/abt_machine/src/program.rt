@@ -1,10 +1,9 @@
 //! What the program is asked and what it answers.
 
 use crate::events::Journal;
-use crate::items::Text;
 use std::alloc::{AllocError, AllocFailed};
 
-/// Want of memory.
+/// Out of memory.
 #[derive(Clone, Copy, Debug, PartialEq, Eq)]
 pub struct Want;
 
@@ -35,19 +34,6 @@ pub enum Fault {
     Access,
     NoEnd,
     Missing,
-}
-
-/// What the command's words ask for.
-#[derive(Drop)]
-pub enum Command {
-    Run {
-        file: Text,
-        steps: u64,
-        journal: bool,
-    },
-    SelfRun {
-        units: u32,
-    },
 }
 
 /// How the program ended: its exit status and the run's journal.

@@ -78,7 +78,7 @@ fn may_block(ops: &[Op]) -> bool
     ops.iter().any(|op| op.may_block())
 }
 
-// The number after the words that these operations say, where they say them in order from a number on.
+// The number after the words that these operations say, if they say them in order from a number on.
 fn next_word(ops: &[Op], from: u64) -> Option<u64>
     ensures { result ≡ after_said from (flat_map said_by ops.now) }
 {
@@ -140,7 +140,7 @@ fn take_body_places(units: &[UnitPart], taken: &mut [bool]) -> bool
     true
 }
 
-// The number after the words that units say, where they say them in order from a number on.
+// The number after the words that units say, if they say them in order from a number on.
 fn next_unit_word(units: &[UnitPart], from: u64) -> Option<u64>
     ensures { result ≡ after_said from (flat_map (λ (part : UnitPart). flat_map said_by (ops_of part.body)) units.now) }
 {

@@ -29,7 +29,7 @@ pub struct SchedPart {
     pub pools: Pools,
 }
 
-/// A unit: what it is, and the pool that it starts in, where it has one.
+/// A unit: what it is, and the pool that it starts in, if it has one.
 #[derive(Drop)]
 pub struct UnitPart {
     pub body: Body,
@@ -180,7 +180,7 @@ impl Workload {
         self.parts.words.items()[w as usize].as_str()
     }
 
-    /// The operation of a unit at a position, where it has one.
+    /// The operation of a unit at a position, if it has one.
     pub fn op(&self, u: UnitNo, at: u32) -> Option<Op>
         requires { u.0 < length self.now.units }
         ensures { result ≡ op_at self.now u.0 at }
@@ -206,7 +206,7 @@ impl Workload {
         self.parts.may_take(s, p)
     }
 
-    /// The object that a unit's step at a position touches when a stream makes it, where it touches one.
+    /// The object that a unit's step at a position touches when a stream makes it, if it touches one.
     pub fn site(&self, s: StreamNo, u: UnitNo, at: u32) -> Option<Site>
         requires stream { s.0 < self.now.streams }
         requires unit { u.0 < length self.now.units }
@@ -233,7 +233,7 @@ impl Workload {
 }
 
 impl Parts {
-    // The access of a pool, and `Mpmc` where it is not declared.
+    // The access of a pool, and `Mpmc` if it is not declared.
     pub(crate) fn access(&self, p: PoolNo) -> Access
         ensures { result ≡ access_of self.now p.0 }
     {
@@ -243,14 +243,14 @@ impl Parts {
         }
     }
 
-    // The object of a number, where it is declared.
+    // The object of a number, if it is declared.
     pub(crate) fn object(&self, x: ObjectNo) -> Option<Thing>
         ensures { result ≡ thing_at self.now x.0 }
     {
         self.objects.items().get(x.0 as usize).copied()
     }
 
-    // The main scheduler of a stream, and scheduler 0 where the stream is not declared.
+    // The main scheduler of a stream, and scheduler 0 if the stream is not declared.
     pub(crate) fn main(&self, s: StreamNo) -> SchedNo
         ensures { result.0 ≡ main_of self.now s.0 }
     {
@@ -260,7 +260,7 @@ impl Parts {
         }
     }
 
-    // The pools that a scheduler lists, and none where it is not declared.
+    // The pools that a scheduler lists, and none if it is not declared.
     pub(crate) fn listed(&self, g: SchedNo) -> &[PoolNo]
         ensures { map (λ (p : PoolNo). p.0) result.now ≡ pools_of self.now g.0 }
     {
@@ -286,7 +286,7 @@ impl Parts {
 }
 
 impl Workload {
-    // The mutex of a condition, and the object itself where it is no condition.
+    // The mutex of a condition, and the object itself if it is no condition.
     fn mutex(&self, x: ObjectNo) -> ObjectNo
         ensures { result.0 ≡ mutex_of self.now x.0 }
     {
@@ -336,7 +336,7 @@ impl Workload {
         }
     }
 
-    // The desk of v, where the stream may put into the pool.
+    // The desk of v, if the stream may put into the pool.
     fn desk_by(&self, s: StreamNo, p: PoolNo, v: UnitNo) -> Option<Site>
         ensures { result ≡ (if may_put self.now s.0 p.0 then Some (site.Desk v) else None) }
     {

@@ -62,7 +62,7 @@ module _ (logs : List (List Event)) (are : AreLogs logs) (used : List ℕ) where
   none-past : (r : ℕ) → length logs ≤ r → left_of logs used r ≡ []
   none-past r l = ap (drop (get_or used r 0)) (get_or_past logs r [] l) ∙ drop-nil (get_or used r 0)
 
-  -- nor where nothing comes next
+  -- nor if nothing comes next
   none-next : (r : ℕ) → next_stamp logs used r ≡ None → left_of logs used r ≡ []
   none-next r e = drop_all (get_or used r 0) (log_of logs r) (past (log_of logs r) (get_or used r 0) (next-none (slice_get (log_of logs r) (get_or used r 0)) e))
 

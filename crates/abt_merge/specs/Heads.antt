@@ -4,7 +4,7 @@ use Rattle.abt_machine.specs.declared.events.Event.{Event}
 use Rattle.abt_interleave.specs.Logs.{IsSooner}
 use Rattle.abt_merge.specs.Logs.{log_of}
 
--- what is left of the log of stream s, where so many events of each log are used up
+-- what is left of the log of stream s, if so many events of each log are used up
 abbrev pub left_of : List (List Event) → List ℕ → ℕ → List Event
 left_of logs used s = drop (get_or used s 0) (log_of logs s)
 

@@ -5,8 +5,8 @@ ghost use Rattle.abt_merge.specs.Heads.{FirstOf, next_stamp, sooner_of};
 
 use abt_machine::Log;
 
-/// Stamp and stream of the event that comes first, by stamp and then by stream, where so many events of each log are used
-/// up; None where nothing is left.
+/// Stamp and stream of the event that comes first, by stamp and then by stream, if so many events of each log are used
+/// up; None if nothing is left.
 pub(crate) fn first(logs: &[Log], used: &[usize]) -> Option<(u64, usize)>
     requires { length used.now ≡ length logs.now }
     ensures { FirstOf logs.now used.now (length logs.now) result }

@@ -114,7 +114,7 @@ unbroken-line e is =
     let solid = solid-event e is in
     All-append IsNoFeed (decimal e.stamp) (spaced (decimal e.stream.0 ∷ what_words e.what)) (λ k d lt. no-feed (get_or (decimal e.stamp) k d) (solid.0 k d lt)) (unbroken-words (decimal e.stream.0 ∷ what_words e.what) solid.1)
 
--- a word in front of a space is split off
+-- a word before a space is split off
 pub one-word-more : (words : List Text) (line word rest more : Text) → words ++ slice_split is_space rest ≡ slice_split is_space line →
     All (λ b. b ≢ 32) word → word ++ 32 ∷ more ≡ rest → (words ++ word ∷ []) ++ slice_split is_space more ≡ slice_split is_space line
 one-word-more words line word rest more before plain is =

@@ -21,7 +21,7 @@ not-empty : (line rest : Text) → line ++ 10 ∷ rest ≡ [] → ⊥
 not-empty [] rest e = cc
 not-empty (x ∷ line) rest e = cc
 
--- behind the lines of events no journal's text goes on where no event's line begins
+-- after the lines of events no journal's text goes on if no event's line begins there
 no-journal : (J K : List Event) (rest bytes : Text) → journal_text J ++ rest ≡ bytes → All IsEvent J → rest ≢ [] → BeginsNoEvent rest → All IsEvent K → journal_text K ≡ bytes → ⊥
 no-journal [] [] rest bytes at events some none events' same = some (at ∙ sym same)
 no-journal [] (e ∷ es) rest bytes at events some none events' same = none e (journal_text es) (All-head IsEvent e es events') (same ∙ sym at)

@@ -35,7 +35,7 @@ pub heads-same : (a b : ℕ) (xs ys : Text) → a ∷ xs ≡ b ∷ ys → a ≡ 
 unfolding first_or
 heads-same a b xs ys e = ap (first_or a) e
 
--- texts are not the same where their first bytes differ
+-- texts differ if their first bytes differ
 pub apart : (a b : ℕ) (xs ys : Text) → (a == b) ≡ false → a ∷ xs ≡ b ∷ ys → ⊥
 apart a b xs ys differ e = eqb-false a b differ (heads-same a b xs ys e)
 

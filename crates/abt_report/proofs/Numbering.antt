@@ -1,7 +1,7 @@
 -- Lists of numbered elements, one element more at a time.
 use Rattle.std.proofs.Common.{◌≡◌, ◌∙◌, ◌+◌, ◌<◌, ℕ, List, [], ◌∷◌, ◌++◌, length, take, get_or, flat_map, refl, subst, sym, arith, zero-add}
 use Rattle.std.proofs.lemmas.Grind.{flat_map-append}
-use Rattle.std.proofs.lemmas.List.{append-nil, map_more, map_push, length-map, length-take-le}
+use Rattle.std.proofs.lemmas.List.{append-nil, map_more, take_more, map_push, length-map, length-take-le}
 use Rattle.std.specs.List.{enumerate_from}
 use Rattle.abt_machine.specs.declared.events.Outcome.{Outcome}
 use Rattle.abt_machine.specs.declared.workload.Parts.{Parts}
@@ -15,6 +15,18 @@ use Rattle.abt_report.specs.declared.pictures.Row.{Row}
 -- what is made of each element and its number, with one element behind
 pub numbered-behind : {A B : Type 0} (f : ℕ → A → B) (xs : List A) (x : A) → numbered f (xs ++ x ∷ []) ≡ numbered f xs ++ f (length xs) x ∷ []
 numbered-behind f xs x = rw (enumerate-behind 0 xs x, zero-add (length xs)) (map_push (λ p. f p.0 p.1) (enumerate_from 0 xs) (length xs, x))
+
+-- the lines up to i are those before, and that of i
+lines-before : {A : Type 0} (f : ℕ → A → Text) (xs : List A) (i : ℕ) (d : A) → i < length xs →
+    flat_map ended (numbered f (take (i + 1) xs)) ≡ flat_map ended (numbered f (take i xs)) ++ ended (f i (get_or xs i d))
+lines-before f xs i d lt =
+    let long : length (take i xs) ≡ i = length-take-le i xs (omega arith) in
+    rw (take_more xs i d lt, numbered-behind f (take i xs) (get_or xs i d), long, flat_map-append ended (numbered f (take i xs)) (f i (get_or xs i d) ∷ []), append-nil (ended (f i (get_or xs i d)))) refl
+
+pub one-line-more : {A : Type 0} (f : ℕ → A → Text) (xs : List A) (i : ℕ) (x : A) → i < length xs → x ≡ get_or xs i x →
+    flat_map ended (numbered f (take (i + 1) xs)) ≡ flat_map ended (numbered f (take i xs)) ++ ended (f i x)
+one-line-more f xs i x lt is =
+    subst (λ y. flat_map ended (numbered f (take (i + 1) xs)) ≡ flat_map ended (numbered f (take i xs)) ++ ended (f i y)) (sym is) (lines-before f xs i x lt)
 
 -- the lines of the units up to i are those of the units before, and that of unit i
 lines-up-to : (f : ℕ → ShownUnit → Text) (rows : List Row) (i : ℕ) (d : Row) → i < length rows →

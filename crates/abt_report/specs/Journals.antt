@@ -32,7 +32,7 @@ pub record IsEvent (e : Event) : Type 0 where
 abbrev pub event_line : Event → Text
 event_line e = line_of (event_words e)
 
--- the rest stands from line l of the bytes on, behind the lines of these events
+-- the rest stands from line l of the bytes on, after the lines of these events
 pub record StandsAfter (bytes : Text) (l : ℕ) (J : List Event) (rest : Text) : Type 0 where
   pub text : journal_text J ++ rest ≡ bytes
   pub events : All IsEvent J
@@ -51,7 +51,7 @@ IsBadAt bytes l = (J : List Event) × (rest : Text) × StandsAfter bytes l J res
 abbrev pub IsNoJournal : Text → Type 0
 IsNoJournal bytes = (J : List Event) → All IsEvent J → journal_text J ≡ bytes → ⊥
 
--- a value of this kind whose text it is, or nothing where there is none
+-- a value of this kind whose text it is, or nothing if there is none
 abbrev pub Reads : {A : Type 0} → (A → Type 0) → (A → Text) → Text → Option A → Type 0
 Reads {A} Is text_from text found = MatchOption found ((x : A) → Is x → text_from x ≡ text → ⊥) (λ x. Is x × (text_from x ≡ text))
 

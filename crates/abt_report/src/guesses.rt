@@ -1,4 +1,4 @@
-//! The event that words may be those of: where they are the words of an event, it is that one.
+//! The event that words may be those of: if they are the words of an event, it is that one.
 
 ghost use Rattle.std.specs.Prelude.{◌≡◌, ◌<◌, ◌^◌, ℕ, [], ◌∷◌, IsTrue, OnOk, Some, decimal, map};
 ghost use Rattle.std.specs.List.{slice_split};

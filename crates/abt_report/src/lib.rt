@@ -5,6 +5,7 @@ mod cuts;
 mod guesses;
 mod journals;
 mod not_journal;
+mod outputs;
 mod pictures;
 mod reading;
 mod reports;
@@ -15,6 +16,7 @@ mod words;
 
 pub use journals::journal_text;
 pub use not_journal::NotJournal;
+pub use outputs::outputs_text;
 pub use pictures::{Picture, Row};
 pub use reading::read_journal;
 pub use reports::{append_report, report, short_report};

@@ -1,6 +1,6 @@
 //! Journals, read back from their texts.
 
-ghost use Rattle.std.specs.Prelude.{◌≡◌, ◌≢◌, ◌<◌, ◌-◌, ◌^◌, IfErr, IfOk, MatchBool, length};
+ghost use Rattle.std.specs.Prelude.{◌≡◌, ◌≢◌, ◌<◌, ◌-◌, ◌^◌, All, IfErr, IfOk, MatchBool, length};
 ghost use Rattle.abt_machine.specs.Texts.{journal_text};
 ghost use Rattle.abt_report.specs.Journals.{IsCause, IsEvent, Reads, event_line};
 
@@ -42,10 +42,11 @@ fn read_event<'a>(
 ///
 /// # Errors
 ///
-/// `Bad` with the first line, counted from 1, at which no journal's text agrees with the bytes; `Memory` for want of memory.
+/// `Bad` with the first line, counted from 1, at which no journal's text agrees with the bytes; `Memory` if memory is refused.
 pub fn read_journal(alloc: Global, bytes: &[u8]) -> Result<Journal, NotJournal>
     requires { length bytes.now < 2 ^ 32 - 1 }
     ensures ok { IfOk result (λ journal. journal_text journal ≡ bytes.now) }
+    ensures events { IfOk result (All IsEvent) }
     ensures cause { IfErr result (IsCause bytes.now) }
 {
     let mut events = Vec::new(alloc);

@@ -59,7 +59,7 @@ fn push_piece(out: &mut Vec<u8>, w: &Workload, piece: Piece) -> Result<(), Want>
 }
 
 // Appends pieces of output, with a space before each.
-fn push_output(out: &mut Vec<u8>, w: &Workload, output: &[Piece]) -> Result<(), Want>
+pub(crate) fn push_output(out: &mut Vec<u8>, w: &Workload, output: &[Piece]) -> Result<(), Want>
     requires { All (IsPieceOf w.now) output.now }
     ensures { OnOk result (out.new.items ≡ out.old.items ++ spaced (map (piece_word w.now) output.now)) }
 {

@@ -1,158 +1,416 @@
--- Which status a call answers where its cause is at hand.
-use Rattle.std.proofs.Common.{◌≡◌, ◌≢◌, ◌≤◌, ◌⊎◌, ℕ, List, [], ◌∷◌, length, Option, Some, None, inl, inr, refl, sym, subst, ◌∙◌, arith}
+-- Which status a call answers if its cause holds.
+use Rattle.std.proofs.Common.{◌≡◌, ◌≢◌, ◌<◌, ◌≤◌, ◌⊎◌, ℕ, zero, suc, List, [], ◌∷◌, length, take, Option, Some, None, inl, inr, refl, sym, ap, subst, ◌∙◌, arith}
 use Rattle.std.specs.Prelude.{IfSome}
+use Rattle.std.proofs.lemmas.List.{take_all}
+use Rattle.abt_machine.specs.declared.events.Event.{Event}
 use Rattle.abt_machine.specs.declared.events.Outcome.{Outcome}
 use Rattle.abt_machine.specs.declared.events.Outcome.TheVariants as outcome
+use Rattle.abt_machine.specs.declared.events.Piece.{Piece}
 use Rattle.abt_machine.specs.declared.numbers.StreamNo.{StreamNo}
-use Rattle.abt_machine.specs.declared.program.Command.{Command}
-use Rattle.abt_machine.specs.declared.program.Command.TheVariants as command
+use Rattle.abt_machine.specs.declared.operations.OrderShape.{OrderShape}
 use Rattle.abt_machine.specs.declared.program.Fault.{Fault}
 use Rattle.abt_machine.specs.declared.workload.Parts.{Parts}
-use Rattle.abt_machine.specs.Commands.{Says}
 use Rattle.abt_machine.specs.Grammar.{Reads, Refuses}
 use Rattle.abt_machine.specs.Valid.{IsValid}
 use Rattle.abt_machine.specs.Words.{Text}
 use Rattle.abt_bounds.specs.Laws.{HasNoRevive, ops_in}
 use Rattle.abt_bounds.proofs.Budgets.{steps-bound-budgets}
+use Rattle.abt_check.specs.declared.verdict.Verdict.{Verdict}
+use Rattle.abt_check.specs.declared.verdict.Verdict.TheVariants as verdict
+use Rattle.abt_check.specs.Verdicts.{IsBadAt, IsJudged, IsStampedRun}
+use Rattle.abt_flow.specs.Confluent.{Confluent}
+use Rattle.abt_flow.specs.Flow.{IsFlow}
 use Rattle.abt_generate.proofs.GeneratedParts.{IsValid-generated}
 use Rattle.abt_outcomes.proofs.Stored.{orders-stored}
+use Rattle.abt_words.specs.declared.commands.Command.{Command}
+use Rattle.abt_words.specs.declared.commands.Command.TheVariants as command
+use Rattle.abt_words.specs.Commands.{Says}
+use Rattle.abt_words.proofs.OneCommand.{one_command}
 use Rattle.abt_workload.proofs.RoundTrip.{only-valid}
-use Rattle.abt_run.specs.Call.{Asked, Asks, Call, Grew, Holds, IsAnswered, IsFor, IsOfRun, Ran, SaysNothing, Tells, TellsSuch, command_of, steps_for}
-use Rattle.abt_run.specs.Status.{number_of}
+use Rattle.abt_run.specs.Call.{Call, ChecksJournals, Decides, FindsFlows, Grew, Holds, IsAnswered, IsOfRun, IsStill, RunsKnown}
+use Rattle.abt_run.specs.Given.{Compares, Given, IsNoJournalAt, IsReadFrom, IsTextOf, NamesFile, SaysNothing, Tells, workload_file}
+use Rattle.abt_run.specs.Printed.{AsksFlow, HasVerdict, IsFor, Prints, Ran, steps_for}
+use Rattle.abt_run.specs.Status.{number_of, number_of_conclusion}
+use Rattle.abt_run.specs.declared.status.Conclusion.{Conclusion}
+use Rattle.abt_run.specs.declared.status.Conclusion.TheVariants.{Finished, Stuck, Budget, Judged, Flows, NotConfluent, Undefined}
 use Rattle.abt_run.specs.declared.status.Status.{Status}
-use Rattle.abt_run.specs.declared.status.Status.TheVariants.{Finished, Stuck, BadWords, Refused, Budget, CannotRead, CannotWrite, OutOfMemory}
-use Rattle.abt_run.proofs.Asking.{one-command}
+use Rattle.abt_run.specs.declared.status.Status.TheVariants.{Concluded, Stopped, CannotWrite}
+use Rattle.abt_run.specs.declared.status.Stop.{Stop}
+use Rattle.abt_run.specs.declared.status.Stop.TheVariants.{BadWords, Refused, NoJournal, CannotRead, OutOfMemory}
+use Rattle.abt_run.proofs.Texts.{one-journal}
 
--- what is known of the bytes of a file holds of those that are told
+-- Files.
+
+-- what holds of the bytes of a file, if they are observable, holds of these bytes
 of-told : (P : Text → Type 0) (o : Option Text) (bytes : Text) → o ≡ Some bytes → IfSome o P → P bytes
 of-told P None bytes e known = cc
 of-told P (Some b) bytes e known = let same : b ≡ bytes = cc in subst P same known
 
--- a text is that of one workload
-one-reading : (bytes : Text) (W V : Parts) → Reads bytes W → Reads bytes V → W ≡ V
-one-reading bytes W V one two = one.parts ∙ sym two.parts
+module _ (g : Given) (file : Text) where
+  -- a text is that of one workload
+  same-workload : (W V : Parts) → Tells g file (λ bytes. Reads bytes W) → IsReadFrom g file V → V ≡ W
+  same-workload W V tells is =
+      let reads : Reads tells.0 V = of-told (λ text. Reads text V) (g.file file) tells.0 tells.1 is in
+      reads.parts ∙ sym tells.2.parts
 
--- and is not refused
-not-refused : (bytes : Text) (W : Parts) (line : ℕ) (f : Fault) → Reads bytes W → Refuses bytes line f → ⊥
-not-refused bytes W line f reads refuses = let none = reads.faultless line in let some = refuses.first in cc
+  -- and is not refused
+  not-refused : (W : Parts) (line : ℕ) (f : Fault) → Tells g file (λ bytes. Reads bytes W) → IfSome (g.file file) (λ bytes. Refuses bytes line f) → ⊥
+  not-refused W line f tells is =
+      let refuses : Refuses tells.0 line f = of-told (λ text. Refuses text line f) (g.file file) tells.0 tells.1 is in
+      let none = tells.2.faultless line in
+      let some = refuses.first in
+      cc
 
--- Commands whose workload is told.
+  not-read : (V : Parts) → Tells g file (λ bytes. (W : Parts) → Reads bytes W → ⊥) → IsReadFrom g file V → ⊥
+  not-read V tells is = tells.2 V (of-told (λ text. Reads text V) (g.file file) tells.0 tells.1 is)
 
--- the text of the file that is asked for is not refused
-told-not-refused : (command : Command) (asked : Asked) (file_of : Text → Option Text) (W : Parts) (line : ℕ) (f : Fault) → command ≡ command_of asked → Tells command file_of W →
-    TellsSuch asked file_of (λ bytes. Refuses bytes line f) → ⊥
-told-not-refused command asked file_of W line f e tells refuses =
-    let told : Tells (command_of asked) file_of W = subst (λ c. Tells c file_of W) e tells in
-    not-refused told.0 W line f told.2 (of-told (λ text. Refuses text line f) (file_of asked.file) told.0 told.1 refuses)
+  -- a text is that of one journal
+  same-journal : (J K : List Event) → Tells g file (IsTextOf J) → IfSome (g.file file) (IsTextOf K) → K ≡ J
+  same-journal J K tells is = one-journal tells.0 K J (of-told (IsTextOf K) (g.file file) tells.0 tells.1 is) tells.2
 
--- what ran is what was told
-same-workload : (command : Command) (file_of : Text → Option Text) (W V : Parts) → Tells command file_of W → IsFor command file_of V → V ≡ W
-same-workload (command.Run file steps journal) file_of W V tells is = one-reading tells.0 V W (of-told (λ text. Reads text V) (file_of file) tells.0 tells.1 is) tells.2
-same-workload (command.SelfRun units) file_of W V tells is = is ∙ sym tells
+  not-bad : (J : List Event) (line : ℕ) → Tells g file (IsTextOf J) → IfSome (g.file file) (λ bytes. IsNoJournalAt bytes line) → ⊥
+  not-bad J zero tells is =
+      let long : 1073741824 < length tells.0 = of-told (λ text. IsNoJournalAt text 0) (g.file file) tells.0 tells.1 is in
+      let short : length tells.0 ≤ 1073741824 = tells.2.short in
+      absurd (omega arith)
+  not-bad J (suc l) tells is =
+      let bad : IsNoJournalAt tells.0 (suc l) = of-told (λ text. IsNoJournalAt text (suc l)) (g.file file) tells.0 tells.1 is in
+      bad.2 J tells.2.events tells.2.text
 
--- which is valid
-valid-workload : (words : List Text) (command : Command) (file_of : Text → Option Text) (W : Parts) → Says words command → Tells command file_of W → IsValid W
-valid-workload words (command.Run file steps journal) file_of W says tells = only-valid tells.0 W tells.2
-valid-workload [] (command.SelfRun units) file_of W says tells = absurd says
-valid-workload (name ∷ ws) (command.SelfRun units) file_of W says tells = subst IsValid (sym tells) (IsValid-generated units says.1.2.3)
+  not-journal : (K : List Event) → Tells g file (λ bytes. (J : List Event) → IsTextOf J bytes → ⊥) → IfSome (g.file file) (IsTextOf K) → ⊥
+  not-journal K tells is = tells.2 K (of-told (IsTextOf K) (g.file file) tells.0 tells.1 is)
 
--- it runs
-runs : (s : Status) (c : Call) (command : Command) (W : Parts) → Holds s c → Says c.words command → Tells command c.file W → (Grew c.read_faults → ⊥) → (Grew c.out_faults → ⊥) →
-    IsOfRun (number_of s) ⊎ (number_of s ≡ 7)
-runs Finished c command W h says tells still quiet = inl (inl refl)
-runs Stuck c command W h says tells still quiet = inl (inr (inl refl))
-runs Budget c command W h says tells still quiet = inl (inr (inr refl))
-runs OutOfMemory c command W h says tells still quiet = inr refl
-runs BadWords c command W h says tells still quiet = absurd (h.0 command says)
-runs CannotRead c command W h says tells still quiet = absurd (still h.1)
-runs CannotWrite c command W h says tells still quiet = absurd (quiet h.faults)
-runs (Refused line f) c command W h says tells still quiet =
-    absurd (told-not-refused command h.0.asked c.file W line f (one-command c.words command (command_of h.0.asked) says h.0.asks) tells h.0.reads)
+-- Commands.
 
--- and is not spent, where it can't be
-no-budget : (c : Call) (command : Command) (W : Parts) (s : StreamNo) → 2 ≤ length c.orders → Says c.words command → Tells command c.file W → HasNoRevive W → ops_in W ≤ steps_for command →
-    Ran c.words c.orders c.file c.journal (outcome.Budget s) → ⊥
-no-budget c command W s two says tells none few ran =
-    let same : ran.command ≡ command = one-command c.words ran.command command ran.says says in
-    let is : ran.run.workload ≡ W = same-workload command c.file W ran.run.workload tells (subst (λ d. IsFor d c.file ran.run.workload) same ran.run.reads) in
-    let valid : IsValid W = valid-workload c.words command c.file W says tells in
-    let most : ops_in ran.run.workload ≤ steps_for ran.command = subst (λ d. ops_in ran.run.workload ≤ steps_for d) (sym same) (subst (λ V. ops_in V ≤ steps_for command) (sym is) few) in
-    let sound : IsValid ran.run.workload = subst IsValid (sym is) valid in
-    steps-bound-budgets ran.run.workload c.orders sound (orders-stored ran.run.workload c.orders sound two) (subst HasNoRevive (sym is) none) (steps_for ran.command) s.0 c.journal most ran.run.run.run
-    ran.run.run.ended.0
+some-is : (a b : Text) → ◌≡◌ {A = Option Text} (Some a) (Some b) → a ≡ b
+some-is a b e = cc
 
-spends : (s : Status) (c : Call) (command : Command) (W : Parts) → Holds s c → 2 ≤ length c.orders → Says c.words command → Tells command c.file W → HasNoRevive W →
-    ops_in W ≤ steps_for command → number_of s ≢ 4
-spends Finished c command W h two says tells none few = λ e. absurd (omega arith)
-spends Stuck c command W h two says tells none few = λ e. absurd (omega arith)
-spends BadWords c command W h two says tells none few = λ e. absurd (omega arith)
-spends (Refused line f) c command W h two says tells none few = λ e. absurd (omega arith)
-spends CannotRead c command W h two says tells none few = λ e. absurd (omega arith)
-spends CannotWrite c command W h two says tells none few = λ e. absurd (omega arith)
-spends OutOfMemory c command W h two says tells none few = λ e. absurd (omega arith)
-spends Budget c command W h two says tells none few = λ e. no-budget c command W h.0 two says tells none few h.1.ran
+none-is : (a : Text) → ◌≡◌ {A = Option Text} None (Some a) → ⊥
+none-is a e = cc
 
--- Texts and words that say nothing.
+check-first : (v w j k : Text) → command.Check v j ≡ command.Check w k → v ≡ w
+check-first v w j k e = cc
 
--- what ran was told to be a workload's text
-no-run : (c : Call) (asked : Asked) (bytes : Text) (o : Outcome) → Ran c.words c.orders c.file c.journal o → Asks c.words asked → c.file asked.file ≡ Some bytes → ((W : Parts) → Reads bytes W → ⊥) → ⊥
-no-run c asked bytes o ran asks e none =
-    let is : IsFor (command_of asked) c.file ran.run.workload = subst (λ d. IsFor d c.file ran.run.workload) (one-command c.words ran.command (command_of asked) ran.says asks) ran.run.reads in
-    none ran.run.workload (of-told (λ text. Reads text ran.run.workload) (c.file asked.file) bytes e is)
+check-second : (v w j k : Text) → command.Check v j ≡ command.Check w k → j ≡ k
+check-second v w j k e = cc
 
--- another text is refused
-refuses : (s : Status) (c : Call) (asked : Asked) (bytes : Text) → Holds s c → Asks c.words asked → c.file asked.file ≡ Some bytes → ((W : Parts) → Reads bytes W → ⊥)
-    → (Grew c.read_faults → ⊥) → (number_of s ≡ 3) ⊎ (number_of s ≡ 7)
-refuses Finished c asked bytes h asks e none still = absurd (no-run c asked bytes outcome.Finished h.ran asks e none)
-refuses Stuck c asked bytes h asks e none still = absurd (no-run c asked bytes outcome.Stuck h.ran asks e none)
-refuses Budget c asked bytes h asks e none still = absurd (no-run c asked bytes (outcome.Budget h.0) h.1.ran asks e none)
-refuses CannotWrite c asked bytes h asks e none still = absurd (no-run c asked bytes h.outcome h.ran asks e none)
-refuses BadWords c asked bytes h asks e none still = absurd (h.0 (command_of asked) asks)
-refuses (Refused line f) c asked bytes h asks e none still = inl refl
-refuses CannotRead c asked bytes h asks e none still = absurd (still h.1)
-refuses OutOfMemory c asked bytes h asks e none still = inr refl
+flow-is : (f e : Text) → command.Flow f ≡ command.Flow e → f ≡ e
+flow-is f e same = cc
+
+check-is-no-flow : (w j f : Text) → command.Check w j ≡ command.Flow f → ⊥
+check-is-no-flow w j f e = cc
+
+-- a command that runs a workload reads it from its file
+runs-read : (g : Given) (d : Command) (file : Text) (W : Parts) → IsFor d g W → workload_file d ≡ Some file → IsReadFrom g file W
+runs-read g (command.Run f steps journal) file W is names = subst (λ (n : Text). IsReadFrom g n W) (some-is f file names) is
+runs-read g (command.SelfRun units) file W is names = absurd (none-is file names)
+runs-read g (command.Check w j) file W is names = absurd is
+runs-read g (command.Flow f) file W is names = absurd is
+
+-- the known workload of a command is that which it runs
+runs-same : (g : Given) (d : Command) (W V : Parts) → RunsKnown d g W → IsFor d g V → V ≡ W
+runs-same g (command.Run file steps journal) W V known is = same-workload g file W V known is
+runs-same g (command.SelfRun units) W V known is = is ∙ sym known
+runs-same g (command.Check w j) W V known is = absurd known
+runs-same g (command.Flow f) W V known is = absurd known
+
+-- and it is not refused
+runs-not-refused : (g : Given) (d : Command) (file : Text) (W : Parts) (line : ℕ) (f : Fault) → RunsKnown d g W → workload_file d ≡ Some file
+    → IfSome (g.file file) (λ bytes. Refuses bytes line f) → ⊥
+runs-not-refused g (command.Run name steps journal) file W line f known names is =
+    not-refused g name W line f known (subst (λ (n : Text). IfSome (g.file n) (λ bytes. Refuses bytes line f)) (sym (some-is name file names)) is)
+runs-not-refused g (command.SelfRun units) file W line f known names is = none-is file names
+runs-not-refused g (command.Check w j) file W line f known names is = known
+runs-not-refused g (command.Flow name) file W line f known names is = known
+
+-- and is valid
+runs-valid : (g : Given) (d : Command) (W : Parts) → Says g.words d → RunsKnown d g W → IsValid W
+runs-valid g (command.Run file steps journal) W says known = only-valid known.0 W known.2
+runs-valid g (command.SelfRun units) W says known = by g.words says
+  where
+    by : (words : List Text) → Says words (command.SelfRun units) → IsValid W
+    by [] said = absurd said
+    by (name ∷ ws) said = subst IsValid (sym known) (IsValid-generated units said.1.2.3)
+runs-valid g (command.Check w j) W says known = absurd known
+runs-valid g (command.Flow f) W says known = absurd known
+
+-- What is printed tells the command.
+
+module _ (g : Given) (J : List Event) (text : Text) where
+  printed-says : (c : Conclusion) → Prints g c J text → (d : Command) × Says g.words d
+  printed-says Finished prints = (prints.command, prints.says)
+  printed-says Stuck prints = (prints.command, prints.says)
+  printed-says Budget prints = (prints.1.command, prints.1.says)
+  printed-says (Judged v) prints = (_, prints.0.compares.says)
+  printed-says Flows prints = (_, prints.0.asks.says)
+  printed-says NotConfluent prints = (_, prints.0.asks.says)
+  printed-says Undefined prints = (_, prints.0.asks.says)
+
+  module _ (d : Command) (file : Text) (says : Says g.words d) (names : workload_file d ≡ Some file) where
+    ran-reads : (o : Outcome) → Ran g J o text → (W : Parts) × IsReadFrom g file W
+    ran-reads o ran = (ran.workload, runs-read g d file ran.workload (subst (λ (x : Command). IsFor x g ran.workload) (one_command g.words ran.command d ran.says says) ran.is) names)
+
+    flow-reads : (W : Parts) → AsksFlow g W → (V : Parts) × IsReadFrom g file V
+    flow-reads W asks =
+        let same : asks.file ≡ file = some-is asks.file file (ap workload_file (one_command g.words (command.Flow asks.file) d asks.says says) ∙ names) in
+        (W, subst (λ (n : Text). IsReadFrom g n W) same asks.reads)
+
+    -- a workload is read from the file that the words name
+    printed-reads : (c : Conclusion) → Prints g c J text → (W : Parts) × IsReadFrom g file W
+    printed-reads Finished prints = ran-reads outcome.Finished prints
+    printed-reads Stuck prints = ran-reads outcome.Stuck prints
+    printed-reads Budget prints = ran-reads (outcome.Budget prints.0) prints.1
+    printed-reads (Judged v) prints =
+        let compares = prints.0.compares in
+        let same : compares.workload ≡ file = some-is compares.workload file (ap workload_file (one_command g.words (command.Check compares.workload compares.journal) d compares.says says) ∙ names) in
+        (prints.0.workload, subst (λ (n : Text). IsReadFrom g n prints.0.workload) same compares.reads)
+    printed-reads Flows prints = flow-reads prints.0.workload prints.0.asks
+    printed-reads NotConfluent prints = flow-reads prints.0.workload prints.0.asks
+    printed-reads Undefined prints = flow-reads prints.0.workload prints.0.asks
+
+  -- words that ask for a check print a verdict
+  module _ (w j : Text) (says : Says g.words (command.Check w j)) where
+    no-run : (o : Outcome) → Ran g J o text → ⊥
+    no-run o ran = subst (λ (x : Command). IsFor x g ran.workload) (one_command g.words ran.command (command.Check w j) ran.says says) ran.is
+
+    no-flow : (W : Parts) → AsksFlow g W → ⊥
+    no-flow W asks = check-is-no-flow w j asks.file (one_command g.words (command.Check w j) (command.Flow asks.file) says asks.says)
+
+    printed-verdict : (c : Conclusion) → Prints g c J text → (v : Verdict) × HasVerdict g v × (c ≡ Judged v)
+    printed-verdict Finished prints = absurd (no-run outcome.Finished prints)
+    printed-verdict Stuck prints = absurd (no-run outcome.Stuck prints)
+    printed-verdict Budget prints = absurd (no-run (outcome.Budget prints.0) prints.1)
+    printed-verdict (Judged v) prints = (v, prints.0, refl)
+    printed-verdict Flows prints = absurd (no-flow prints.0.workload prints.0.asks)
+    printed-verdict NotConfluent prints = absurd (no-flow prints.0.workload prints.0.asks)
+    printed-verdict Undefined prints = absurd (no-flow prints.0.workload prints.0.asks)
+
+    -- and the journal is read from the second file
+    compared-journal : (W : Parts) (Is : Text → Type 0) → Compares g W Is → IsReadFrom g w W × IfSome (g.file j) Is
+    compared-journal W Is compares =
+        let same = one_command g.words (command.Check compares.workload compares.journal) (command.Check w j) compares.says says in (
+          subst (λ (n : Text). IsReadFrom g n W) (check-first _ _ _ _ same) compares.reads,
+          subst (λ (n : Text). IfSome (g.file n) Is) (check-second _ _ _ _ same) compares.is,
+        )
+
+  module _ (file : Text) (says : Says g.words (command.Flow file)) where
+    flow-no-run : (o : Outcome) → Ran g J o text → ⊥
+    flow-no-run o ran = subst (λ (x : Command). IsFor x g ran.workload) (one_command g.words ran.command (command.Flow file) ran.says says) ran.is
+
+    flow-no-check : (W : Parts) (Is : Text → Type 0) → Compares g W Is → ⊥
+    flow-no-check W Is compares = check-is-no-flow _ _ file (one_command g.words (command.Check compares.workload compares.journal) (command.Flow file) compares.says says)
+
+    flow-asked : (W V : Parts) → Tells g file (λ bytes. Reads bytes W) → AsksFlow g V → V ≡ W
+    flow-asked W V tells asks =
+        let same : asks.file ≡ file = flow-is asks.file file (one_command g.words (command.Flow asks.file) (command.Flow file) asks.says says) in
+        same-workload g file W V tells (subst (λ (n : Text). IsReadFrom g n V) same asks.reads)
+
+-- Statuses.
+
+-- the command of a known workload runs it
+runs-concluded : (c : Conclusion) (call : Call) (text : Text) (d : Command) (W : Parts) → Prints call.given c call.journal text → Says call.given.words d → RunsKnown d call.given W
+    → IsOfRun (number_of_conclusion c)
+runs-concluded Finished call text d W prints says known = inl refl
+runs-concluded Stuck call text d W prints says known = inr (inl refl)
+runs-concluded Budget call text d W prints says known = inr (inr refl)
+runs-concluded (Judged v) call text d W prints says known =
+    absurd (subst (λ (x : Command). RunsKnown x call.given W) (one_command call.given.words d _ says prints.0.compares.says) known)
+runs-concluded Flows call text d W prints says known = absurd (subst (λ (x : Command). RunsKnown x call.given W) (one_command call.given.words d _ says prints.0.asks.says) known)
+runs-concluded NotConfluent call text d W prints says known = absurd (subst (λ (x : Command). RunsKnown x call.given W) (one_command call.given.words d _ says prints.0.asks.says) known)
+runs-concluded Undefined call text d W prints says known = absurd (subst (λ (x : Command). RunsKnown x call.given W) (one_command call.given.words d _ says prints.0.asks.says) known)
+
+runs : (s : Status) (c : Call) (d : Command) (W : Parts) → Holds s c → Says c.given.words d → RunsKnown d c.given W → IsStill c → IsOfRun (number_of s) ⊎ (number_of s ≡ 7)
+runs (Concluded k) c d W h says known still = inl (runs-concluded k c h.text d W h.prints says known)
+runs (Stopped BadWords) c d W h says known still = absurd (h.cause d says)
+runs (Stopped (Refused line f)) c d W h says known still =
+    let named = h.cause.named in
+    let same = one_command c.given.words named.command d named.says says in
+    absurd (runs-not-refused c.given d named.file W line f known (ap workload_file (sym same) ∙ named.names) h.cause.is)
+runs (Stopped (NoJournal line)) c d W h says known still =
+    absurd (subst (λ (x : Command). RunsKnown x c.given W) (one_command c.given.words d _ says h.cause.1.says) known)
+runs (Stopped CannotRead) c d W h says known still = absurd (still.0 h.cause.1)
+runs (Stopped OutOfMemory) c d W h says known still = inr refl
+runs CannotWrite c d W h says known still = absurd (still.1 h.faults)
+
+-- the verdict decides
+decided : (W : Parts) (Z : List OrderShape) (J : List Event) (v : Verdict) → IsJudged W Z J v → Decides (number_of_conclusion (Judged v)) (IsStampedRun W Z J)
+decided W Z J verdict.Run is = inl (is, refl)
+decided W Z J (verdict.Bad at) is = inr (
+  λ run.
+      let most : length J ≤ at = is.greatest (length J) (omega arith) (subst (IsStampedRun W Z) (sym (take_all (length J) J (omega arith))) run) in
+      let within : at < length J = is.within in
+      absurd (omega arith),
+  refl,
+)
+
+module _ (c : Call) (w j : Text) (W : Parts) (J : List Event) (says : Says c.given.words (command.Check w j))
+    (tells : Tells c.given w (λ bytes. Reads bytes W)) (also : Tells c.given j (IsTextOf J)) where
+  checked-verdict : (v : Verdict) → HasVerdict c.given v → Decides (number_of_conclusion (Judged v)) (IsStampedRun W c.given.orders J)
+  checked-verdict v has =
+      let read = compared-journal c.given c.journal [] w j says has.workload (IsTextOf has.journal) has.compares in
+      let same : has.workload ≡ W = same-workload c.given w W has.workload tells read.0 in
+      let equal : has.journal ≡ J = same-journal c.given j J has.journal also read.1 in
+      decided W c.given.orders J v (subst (λ (V : Parts). IsJudged V c.given.orders J v) same (subst (λ (K : List Event). IsJudged has.workload c.given.orders K v) equal has.judged))
+
+  checks : (s : Status) → Holds s c → IsStill c → Decides (number_of s) (IsStampedRun W c.given.orders J) ⊎ (number_of s ≡ 7)
+  checks (Concluded k) h still =
+      let has = printed-verdict c.given c.journal h.text w j says k h.prints in
+      inl (subst (λ (x : Conclusion). Decides (number_of_conclusion x) (IsStampedRun W c.given.orders J)) (sym has.2) (checked-verdict has.0 has.1))
+  checks (Stopped BadWords) h still = absurd (h.cause _ says)
+  checks (Stopped (Refused line f)) h still =
+      let named = h.cause.named in
+      let same : named.file ≡ w = some-is _ _ (sym named.names ∙ ap workload_file (one_command c.given.words named.command (command.Check w j) named.says says)) in
+      absurd (not-refused c.given w W line f tells (subst (λ (n : Text). IfSome (c.given.file n) (λ bytes. Refuses bytes line f)) same h.cause.is))
+  checks (Stopped (NoJournal line)) h still =
+      absurd (not-bad c.given j J line also (compared-journal c.given c.journal [] w j says h.cause.0 (λ bytes. IsNoJournalAt bytes line) h.cause.1).1)
+  checks (Stopped CannotRead) h still = absurd (still.0 h.cause.1)
+  checks (Stopped OutOfMemory) h still = inr refl
+  checks CannotWrite h still = absurd (still.1 h.faults)
+
+abbrev HasFlows : Parts → Type 0
+HasFlows W = Confluent W × ((rows : List (List Piece)) × IsFlow W rows)
+
+module _ (c : Call) (file : Text) (W : Parts) (says : Says c.given.words (command.Flow file)) (tells : Tells c.given file (λ bytes. Reads bytes W)) where
+  flow-concluded : (k : Conclusion) (text : Text) → Prints c.given k c.journal text → Decides (number_of_conclusion k) (HasFlows W)
+  flow-concluded Finished text prints = absurd (flow-no-run c.given c.journal text file says outcome.Finished prints)
+  flow-concluded Stuck text prints = absurd (flow-no-run c.given c.journal text file says outcome.Stuck prints)
+  flow-concluded Budget text prints = absurd (flow-no-run c.given c.journal text file says (outcome.Budget prints.0) prints.1)
+  flow-concluded (Judged v) text prints = absurd (flow-no-check c.given c.journal text file says prints.0.workload (IsTextOf prints.0.journal) prints.0.compares)
+  flow-concluded Flows text prints =
+      let same = flow-asked c.given c.journal text file says W prints.0.workload tells prints.0.asks in
+      inl (subst HasFlows same (prints.0.confluent, (prints.0.rows, prints.0.flow)), refl)
+  flow-concluded NotConfluent text prints =
+      let same = flow-asked c.given c.journal text file says W prints.0.workload tells prints.0.asks in
+      inr (λ has. prints.0.other (subst Confluent (sym same) has.0), refl)
+  flow-concluded Undefined text prints =
+      let same = flow-asked c.given c.journal text file says W prints.0.workload tells prints.0.asks in
+      inr (λ has. prints.0.none has.1.0 (subst (λ (V : Parts). IsFlow V has.1.0) (sym same) has.1.1), refl)
+
+  flows : (s : Status) → Holds s c → IsStill c → Decides (number_of s) (HasFlows W) ⊎ (number_of s ≡ 7)
+  flows (Concluded k) h still = inl (flow-concluded k h.text h.prints)
+  flows (Stopped BadWords) h still = absurd (h.cause _ says)
+  flows (Stopped (Refused line f)) h still =
+      let named = h.cause.named in
+      let same : named.file ≡ file = some-is _ _ (sym named.names ∙ ap workload_file (one_command c.given.words named.command (command.Flow file) named.says says)) in
+      absurd (not-refused c.given file W line f tells (subst (λ (n : Text). IfSome (c.given.file n) (λ bytes. Refuses bytes line f)) same h.cause.is))
+  flows (Stopped (NoJournal line)) h still = absurd (flow-no-check c.given c.journal [] file says h.cause.0 (λ bytes. IsNoJournalAt bytes line) h.cause.1)
+  flows (Stopped CannotRead) h still = absurd (still.0 h.cause.1)
+  flows (Stopped OutOfMemory) h still = inr refl
+  flows CannotWrite h still = absurd (still.1 h.faults)
+
+-- no stream is spent, if it can't be
+no-budget : (c : Call) (d : Command) (W : Parts) (s : StreamNo) (text : Text) → 2 ≤ length c.given.orders → Says c.given.words d → RunsKnown d c.given W → HasNoRevive W
+    → ops_in W ≤ steps_for d → Ran c.given c.journal (outcome.Budget s) text → ⊥
+no-budget c d W s text two says known none few ran =
+    let same : ran.command ≡ d = one_command c.given.words ran.command d ran.says says in
+    let is : ran.workload ≡ W = runs-same c.given d W ran.workload known (subst (λ (x : Command). IsFor x c.given ran.workload) same ran.is) in
+    let most : ops_in ran.workload ≤ steps_for ran.command = subst (λ (x : Command). ops_in ran.workload ≤ steps_for x) (sym same) (subst (λ V. ops_in V ≤ steps_for d) (sym is) few) in
+    let sound : IsValid ran.workload = subst IsValid (sym is) (runs-valid c.given d W says known) in
+    steps-bound-budgets ran.workload c.given.orders sound (orders-stored ran.workload c.given.orders sound two) (subst HasNoRevive (sym is) none) (steps_for ran.command) s.0 c.journal most ran.run.run
+    ran.run.ended.0
+
+spends-concluded : (k : Conclusion) (c : Call) (text : Text) (d : Command) (W : Parts) → Prints c.given k c.journal text → 2 ≤ length c.given.orders → Says c.given.words d → RunsKnown d c.given W
+    → HasNoRevive W → ops_in W ≤ steps_for d → number_of_conclusion k ≢ 4
+spends-concluded Finished c text d W prints two says known none few = λ e. absurd (omega arith)
+spends-concluded Stuck c text d W prints two says known none few = λ e. absurd (omega arith)
+spends-concluded Budget c text d W prints two says known none few = λ e. no-budget c d W prints.0 text two says known none few prints.1
+spends-concluded (Judged verdict.Run) c text d W prints two says known none few = λ e. absurd (omega arith)
+spends-concluded (Judged (verdict.Bad at)) c text d W prints two says known none few = λ e. absurd (omega arith)
+spends-concluded Flows c text d W prints two says known none few = λ e. absurd (omega arith)
+spends-concluded NotConfluent c text d W prints two says known none few = λ e. absurd (omega arith)
+spends-concluded Undefined c text d W prints two says known none few = λ e. absurd (omega arith)
+
+spends : (s : Status) (c : Call) (d : Command) (W : Parts) → Holds s c → 2 ≤ length c.given.orders → Says c.given.words d → RunsKnown d c.given W → HasNoRevive W
+    → ops_in W ≤ steps_for d → number_of s ≢ 4
+spends (Concluded k) c d W h two says known none few = spends-concluded k c h.text d W h.prints two says known none few
+spends (Stopped BadWords) c d W h two says known none few = λ e. absurd (omega arith)
+spends (Stopped (Refused line f)) c d W h two says known none few = λ e. absurd (omega arith)
+spends (Stopped (NoJournal line)) c d W h two says known none few = λ e. absurd (omega arith)
+spends (Stopped CannotRead) c d W h two says known none few = λ e. absurd (omega arith)
+spends (Stopped OutOfMemory) c d W h two says known none few = λ e. absurd (omega arith)
+spends CannotWrite c d W h two says known none few = λ e. absurd (omega arith)
+
+-- a text that is no workload's is refused
+refuses : (s : Status) (c : Call) (d : Command) (file : Text) → Holds s c → Says c.given.words d → workload_file d ≡ Some file
+    → Tells c.given file (λ bytes. (W : Parts) → Reads bytes W → ⊥) → (Grew c.read_faults → ⊥) → (number_of s ≡ 3) ⊎ (number_of s ≡ 7)
+refuses (Concluded k) c d file h says names tells still =
+    let read = printed-reads c.given c.journal h.text d file says names k h.prints in
+    absurd (not-read c.given file read.0 tells read.1)
+refuses (Stopped BadWords) c d file h says names tells still = absurd (h.cause d says)
+refuses (Stopped (Refused line f)) c d file h says names tells still = inl refl
+refuses (Stopped (NoJournal line)) c d file h says names tells still = inl refl
+refuses (Stopped CannotRead) c d file h says names tells still = absurd (still h.cause.1)
+refuses (Stopped OutOfMemory) c d file h says names tells still = inr refl
+refuses CannotWrite c d file h says names tells still =
+    let read = printed-reads c.given c.journal h.text d file says names h.conclusion h.prints in
+    absurd (not-read c.given file read.0 tells read.1)
+
+-- and one that is no journal's
+refuses-journal : (s : Status) (c : Call) (w j : Text) → Holds s c → Says c.given.words (command.Check w j)
+    → Tells c.given j (λ bytes. (J : List Event) → IsTextOf J bytes → ⊥) → (Grew c.read_faults → ⊥) → (number_of s ≡ 3) ⊎ (number_of s ≡ 7)
+refuses-journal (Concluded k) c w j h says tells still =
+    let has = printed-verdict c.given c.journal h.text w j says k h.prints in
+    absurd (not-journal c.given j has.1.journal tells (compared-journal c.given c.journal [] w j says has.1.workload (IsTextOf has.1.journal) has.1.compares).1)
+refuses-journal (Stopped BadWords) c w j h says tells still = absurd (h.cause _ says)
+refuses-journal (Stopped (Refused line f)) c w j h says tells still = inl refl
+refuses-journal (Stopped (NoJournal line)) c w j h says tells still = inl refl
+refuses-journal (Stopped CannotRead) c w j h says tells still = absurd (still h.cause.1)
+refuses-journal (Stopped OutOfMemory) c w j h says tells still = inr refl
+refuses-journal CannotWrite c w j h says tells still =
+    let has = printed-verdict c.given c.journal h.text w j says h.conclusion h.prints in
+    absurd (not-journal c.given j has.1.journal tells (compared-journal c.given c.journal [] w j says has.1.workload (IsTextOf has.1.journal) has.1.compares).1)
 
 -- words that say no command are refused
-refuses-words : (s : Status) (c : Call) → Holds s c → SaysNothing c.words → (number_of s ≡ 2) ⊎ (number_of s ≡ 7)
-refuses-words Finished c h none = absurd (none h.ran.command h.ran.says)
-refuses-words Stuck c h none = absurd (none h.ran.command h.ran.says)
-refuses-words Budget c h none = absurd (none h.1.ran.command h.1.ran.says)
-refuses-words CannotWrite c h none = absurd (none h.ran.command h.ran.says)
-refuses-words BadWords c h none = inl refl
-refuses-words (Refused line f) c h none = absurd (none (command_of h.0.asked) h.0.asks)
-refuses-words CannotRead c h none = absurd (none (command_of h.0.asked) h.0.asks)
-refuses-words OutOfMemory c h none = inr refl
+refuses-words : (s : Status) (c : Call) → Holds s c → SaysNothing c.given.words → (number_of s ≡ 2) ⊎ (number_of s ≡ 7)
+refuses-words (Concluded k) c h none = let said = printed-says c.given c.journal h.text k h.prints in absurd (none said.0 said.1)
+refuses-words (Stopped BadWords) c h none = inl refl
+refuses-words (Stopped (Refused line f)) c h none = absurd (none h.cause.named.command h.cause.named.says)
+refuses-words (Stopped (NoJournal line)) c h none = absurd (none _ h.cause.1.says)
+refuses-words (Stopped CannotRead) c h none = absurd (none h.cause.0.command h.cause.0.says)
+refuses-words (Stopped OutOfMemory) c h none = inr refl
+refuses-words CannotWrite c h none = let said = printed-says c.given c.journal h.text h.conclusion h.prints in absurd (none said.0 said.1)
 
 -- Faults.
 
+no-fault : (k : Conclusion) (n : ℕ) → 5 ≤ n → number_of_conclusion k ≢ n
+no-fault Finished n high = λ e. absurd (omega arith)
+no-fault Stuck n high = λ e. absurd (omega arith)
+no-fault Budget n high = λ e. absurd (omega arith)
+no-fault (Judged verdict.Run) n high = λ e. absurd (omega arith)
+no-fault (Judged (verdict.Bad at)) n high = λ e. absurd (omega arith)
+no-fault Flows n high = λ e. absurd (omega arith)
+no-fault NotConfluent n high = λ e. absurd (omega arith)
+no-fault Undefined n high = λ e. absurd (omega arith)
+
 reads-well : (s : Status) (c : Call) → Holds s c → (Grew c.read_faults → ⊥) → number_of s ≢ 5
-reads-well CannotRead c h still = absurd (still h.1)
-reads-well Finished c h still = λ e. absurd (omega arith)
-reads-well Stuck c h still = λ e. absurd (omega arith)
-reads-well BadWords c h still = λ e. absurd (omega arith)
-reads-well (Refused line f) c h still = λ e. absurd (omega arith)
-reads-well Budget c h still = λ e. absurd (omega arith)
+reads-well (Concluded k) c h still = no-fault k 5 (omega arith)
+reads-well (Stopped BadWords) c h still = λ e. absurd (omega arith)
+reads-well (Stopped (Refused line f)) c h still = λ e. absurd (omega arith)
+reads-well (Stopped (NoJournal line)) c h still = λ e. absurd (omega arith)
+reads-well (Stopped CannotRead) c h still = absurd (still h.cause.1)
+reads-well (Stopped OutOfMemory) c h still = λ e. absurd (omega arith)
 reads-well CannotWrite c h still = λ e. absurd (omega arith)
-reads-well OutOfMemory c h still = λ e. absurd (omega arith)
 
 writes-well : (s : Status) (c : Call) → Holds s c → (Grew c.out_faults → ⊥) → number_of s ≢ 6
-writes-well CannotWrite c h quiet = absurd (quiet h.faults)
-writes-well Finished c h quiet = λ e. absurd (omega arith)
-writes-well Stuck c h quiet = λ e. absurd (omega arith)
-writes-well BadWords c h quiet = λ e. absurd (omega arith)
-writes-well (Refused line f) c h quiet = λ e. absurd (omega arith)
-writes-well Budget c h quiet = λ e. absurd (omega arith)
-writes-well CannotRead c h quiet = λ e. absurd (omega arith)
-writes-well OutOfMemory c h quiet = λ e. absurd (omega arith)
+writes-well (Concluded k) c h still = no-fault k 6 (omega arith)
+writes-well (Stopped BadWords) c h still = λ e. absurd (omega arith)
+writes-well (Stopped (Refused line f)) c h still = λ e. absurd (omega arith)
+writes-well (Stopped (NoJournal line)) c h still = λ e. absurd (omega arith)
+writes-well (Stopped CannotRead) c h still = λ e. absurd (omega arith)
+writes-well (Stopped OutOfMemory) c h still = λ e. absurd (omega arith)
+writes-well CannotWrite c h still = absurd (still h.faults)
 
 -- the number of a status of which its line holds
-pub answered : (s : Status) (n : ℕ) (c : Call) → 2 ≤ length c.orders → n ≡ number_of s → Holds s c → IsAnswered n c
+pub answered : (s : Status) (n : ℕ) (c : Call) → 2 ≤ length c.given.orders → n ≡ number_of s → Holds s c → IsAnswered n c
 answered s n c two is h = subst (λ m. IsAnswered m c) (sym is) (record {
   cause = (s, refl, h);
-  complete = λ command W says tells still quiet. runs s c command W h says tells still quiet;
-  texts = λ asked bytes asks e none still. refuses s c asked bytes h asks e none still;
+  complete = λ d W says known still. runs s c d W h says known still;
+  checks = λ w j W J says tells also still. checks c w j W J says tells also s h still;
+  flows = λ file W says tells still. flows c file W says tells s h still;
+  texts = λ d file says names tells still. refuses s c d file h says names tells still;
+  journals = λ w j W says tells also still. refuses-journal s c w j h says also still;
   words = refuses-words s c h;
-  spends = λ command W says tells none few. spends s c command W h two says tells none few;
+  spends = λ d W says known none few. spends s c d W h two says known none few;
   reads = reads-well s c h;
   writes = writes-well s c h;
 })

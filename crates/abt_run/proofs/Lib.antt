@@ -1,4 +1,4 @@
-pub mod Asking
 pub mod Complete
+pub mod FlowWords
 pub mod Preparing
-pub mod Told
+pub mod Texts

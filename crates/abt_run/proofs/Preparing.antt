@@ -1,57 +1,52 @@
--- From what is known of a command to what is known of a call.
-use Rattle.std.proofs.Common.{◌≡◌, ◌<◌, ◌≤◌, ℕ, List, length, map, Option, Result, Ok, Err, subst, sym, arith}
+-- From what is known of one file to what is known of a call.
+use Rattle.std.proofs.Common.{◌≡◌, ◌<◌, ◌≤◌, ◌-◌, ◌^◌, ℕ, List, length, map, Option, Some, Result, Ok, Err, refl, subst, sym, arith, inl, inr}
+use Rattle.std.proofs.lemmas.Bool.{cases_lt}
 use Rattle.std.proofs.lemmas.List.{length-map}
-use Rattle.std.specs.Prelude.{IfErr, IfOk}
+use Rattle.std.specs.Prelude.{IfErr, IfSome, IsErrAnd}
 use Rattle.abt_machine.specs.declared.events.Event.{Event}
 use Rattle.abt_machine.specs.declared.events.Outcome.{Outcome}
 use Rattle.abt_machine.specs.declared.events.Outcome.TheVariants as outcome
-use Rattle.abt_machine.specs.declared.operations.OrderShape.{OrderShape}
-use Rattle.abt_machine.specs.declared.program.Command.{Command}
-use Rattle.abt_machine.specs.declared.program.Command.TheVariants as command
-use Rattle.abt_machine.specs.Commands.{Says}
+use Rattle.abt_machine.specs.declared.workload.Parts.{Parts}
 use Rattle.abt_machine.specs.Words.{Text}
-use Rattle.abt_run.specs.Call.{Asked, Asks, Call, Holds, Wrote}
 use Rattle.abt_generate.specs.Generated.{generated}
-use Rattle.abt_run.specs.Prepared.{FileStops, IsPreparedFor, Stops, status_of}
-use Rattle.abt_run.specs.declared.status.Status.{Status}
-use Rattle.abt_run.specs.declared.status.Status.TheVariants.{Finished, Stuck, BadWords, Refused, Budget, CannotRead, CannotWrite, OutOfMemory}
+use Rattle.abt_source.specs.Source.{Rose}
+use Rattle.abt_words.specs.declared.commands.Command.{Command}
+use Rattle.abt_words.specs.declared.commands.Command.TheVariants as command
+use Rattle.abt_words.specs.Commands.{Says}
+use Rattle.abt_run.specs.Given.{Given, IsReadFrom, workload_file}
+use Rattle.abt_run.specs.Prepared.{HasNoJournal, HasNoWorkload, Stops}
+use Rattle.abt_run.specs.Printed.{Prints, Ran, conclusion_of}
+use Rattle.abt_run.specs.declared.status.Conclusion.{Conclusion}
+use Rattle.abt_run.specs.declared.status.Stop.{Stop}
+use Rattle.abt_run.specs.declared.status.Stop.TheVariants.{BadWords, Refused, NoJournal, CannotRead, OutOfMemory}
 
--- what is known where it went well
-pub if-ok : {A E : Type 0} (r : Result A E) (P Q : A → Type 0) → ((a : A) → P a → Q a) → IfOk r P → IfOk r Q
-if-ok (Ok a) P Q more known = more a known
-if-ok (Err e) P Q more known = known
+-- what is passed on by `?` stops for the reason that was found
+pub passed : {T : Type 0} (r : Result T Stop) (s : Stop) (P : Stop → Type 0) → IsErrAnd r (λ y. y ≡ s) → P s → IfErr r P
+passed (Err y) s P same h = subst P (sym same) h
+passed (Ok x) s P same h = absurd same
 
--- and where it did not
-pub if-err : {A E : Type 0} (r : Result A E) (P Q : E → Type 0) → ((e : E) → P e → Q e) → IfErr r P → IfErr r Q
-if-err (Ok a) P Q more known = known
-if-err (Err e) P Q more known = more e known
+-- why a file has no workload is why the call stops
+pub stops-file : (s : Stop) (g : Given) (d : Command) (file : Text) (faults : ℕ × ℕ) → Says g.words d → workload_file d ≡ Some file → HasNoWorkload (g.file file) faults s → Stops g faults s
+stops-file BadWords g d file faults says names h = absurd h
+stops-file (Refused line f) g d file faults says names h = record { named = record { command = d; file = file; says = says; names = names }; is = h }
+stops-file (NoJournal line) g d file faults says names h = absurd h
+stops-file CannotRead g d file faults says names h = (record { command = d; file = file; says = says; names = names }, h)
+stops-file OutOfMemory g d file faults says names h = h
 
--- why the file has no workload to run is why the call stops
-pub stops-file : (s : Status) (words : List Text) (asked : Asked) (file_of : Text → Option Text) (faults : ℕ × ℕ) → Asks words asked → FileStops s asked.file file_of faults → Stops s words file_of faults
-stops-file Finished words asked file_of faults asks h = h
-stops-file Stuck words asked file_of faults asks h = h
-stops-file BadWords words asked file_of faults asks h = absurd h
-stops-file (Refused line f) words asked file_of faults asks h = record { asked = asked; asks = asks; reads = h }
-stops-file Budget words asked file_of faults asks h = h
-stops-file CannotRead words asked file_of faults asks h = (record { asked = asked; asks = asks }, h)
-stops-file CannotWrite words asked file_of faults asks h = h
-stops-file OutOfMemory words asked file_of faults asks h = h
+-- a count that rose after it had grown rose since then
+rose-later : (a b c : ℕ) → a ≤ b → b ≤ c → Rose b c → Rose a c
+rose-later a b c first second rose low = elim (cases_lt b (2 ^ 64 - 1)) [ inl below ↦ let more : b < c = rose below in omega arith | inr last ↦ omega arith ]
 
--- a run that was written whole has its status
-pub written : (o : Outcome) (c : Call) → Wrote c o → Holds (status_of o) c
-written outcome.Finished c wrote = wrote
-written outcome.Stuck c wrote = wrote
-written (outcome.Budget s) c wrote = (s, wrote)
-
--- words that say a run of a file ask for it
-pub asks-such : (words : List Text) (asked : Asked) (file : Text) → asked.file ≡ file → Says words (command.Run file asked.steps asked.journal) → Asks words asked
-asks-such words asked file e said = subst (λ f. Says words (command.Run f asked.steps asked.journal)) (sym e) said
-
--- what is prepared is what was run and printed
-pub prepared-as : (c : Command) (Z : List OrderShape) (file_of : Text → Option Text) (J K : List Event) (o p : Outcome) (text printed : Text) → K ≡ J → p ≡ o → printed ≡ text →
-    IsPreparedFor c Z file_of J o text → IsPreparedFor c Z file_of K p printed
-prepared-as c Z file_of J K o p text printed j e t h =
-    subst (λ x. IsPreparedFor c Z file_of x p printed) (sym j) (subst (λ x. IsPreparedFor c Z file_of J x printed) (sym e) (subst (λ x. IsPreparedFor c Z file_of J o x) (sym t) h))
+-- and so is why the other file has no journal
+pub stops-journal : (s : Stop) (g : Given) (w j : Text) (W : Parts) (told : Option Text) (a b c : ℕ) → Says g.words (command.Check w j) → IsReadFrom g w W → told ≡ g.file j
+    → a ≤ b → b ≤ c → HasNoJournal told (b, c) s → Stops g (a, c) s
+stops-journal BadWords g w j W told a b c says reads same first second h = absurd h
+stops-journal (Refused line f) g w j W told a b c says reads same first second h = absurd h
+stops-journal (NoJournal line) g w j W told a b c says reads same first second h =
+    (W, record { workload = w; journal = j; says = says; reads = reads; is = subst (λ (o : Option Text). HasNoJournal o (b, c) (NoJournal line)) same h })
+stops-journal CannotRead g w j W told a b c says reads same first second h =
+    (record { command = command.Check w j; file = w; says = says; names = refl }, rose-later a b c first second h)
+stops-journal OutOfMemory g w j W told a b c says reads same first second h = h
 
 -- a workload that is made of a number has a unit
 pub some-unit : (n : ℕ) → 0 < length (generated n).units
@@ -61,3 +56,15 @@ some-unit n = omega arith
 -- as many shapes as orders
 pub as-many : {A B : Type 0} (f : A → B) (xs : List A) (n : ℕ) → n ≤ length xs → n ≤ length (map f xs)
 as-many f xs n h = let e : length (map f xs) ≡ length xs = simp length-map in omega arith
+
+-- what is printed of a run that ended so
+prints-ran : (o : Outcome) (g : Given) (J : List Event) (text : Text) → Ran g J o text → Prints g (conclusion_of o) J text
+prints-ran outcome.Finished g J text ran = ran
+prints-ran outcome.Stuck g J text ran = ran
+prints-ran (outcome.Budget s) g J text ran = (s, ran)
+
+pub prints-as : (o : Outcome) (g : Given) (c : Conclusion) (J K : List Event) (text printed : Text) → c ≡ conclusion_of o → K ≡ J → printed ≡ text → Ran g J o text → Prints g c K printed
+prints-as o g c J K text printed concludes same equal ran =
+    subst (λ (k : Conclusion). Prints g k K printed) (sym concludes)
+    (subst (λ (L : List Event). Prints g (conclusion_of o) L printed) (sym same)
+    (subst (λ (t : Text). Prints g (conclusion_of o) J t) (sym equal) (prints-ran o g J text ran)))

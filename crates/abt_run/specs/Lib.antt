@@ -1,3 +1,5 @@
 pub mod Call
+pub mod Given
 pub mod Prepared
+pub mod Printed
 pub mod Status

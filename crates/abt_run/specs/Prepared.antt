@@ -1,52 +1,43 @@
--- What is known before the first write.
-use Rattle.std.specs.Prelude.{◌≡◌, ℕ, List, Option, IfSome}
-use Rattle.abt_machine.specs.declared.events.Event.{Event}
-use Rattle.abt_machine.specs.declared.events.Outcome.{Outcome}
-use Rattle.abt_machine.specs.declared.events.Outcome.TheVariants as outcome
-use Rattle.abt_machine.specs.declared.operations.OrderShape.{OrderShape}
-use Rattle.abt_machine.specs.declared.program.Command.{Command}
-use Rattle.abt_machine.specs.Commands.{Says}
+-- Why a command is not carried out.
+use Rattle.std.specs.Prelude.{ℕ, Option, IfSome}
+use Rattle.abt_machine.specs.declared.workload.Parts.{Parts}
 use Rattle.abt_machine.specs.Grammar.{Refuses}
 use Rattle.abt_machine.specs.Words.{Text}
-use Rattle.abt_run.specs.Call.{Grew, IsRunOf, NamesFile, NamesSuch, SaysNothing, printed_text}
-use Rattle.abt_run.specs.declared.status.Status.{Status}
-use Rattle.abt_run.specs.declared.status.Status.TheVariants.{Finished, Stuck, BadWords, Refused, Budget, CannotRead, CannotWrite, OutOfMemory}
+use Rattle.abt_source.specs.Source.{Rose}
+use Rattle.abt_run.specs.Given.{Compares, Given, IsNoJournalAt, NamesFile, NamesSuch, SaysNothing}
+use Rattle.abt_run.specs.declared.status.Stop.{Stop}
+use Rattle.abt_run.specs.declared.status.Stop.TheVariants.{BadWords, Refused, NoJournal, CannotRead, OutOfMemory}
 
--- the journal and the text of a command's workload that ran and ended so
-pub record IsPreparedFor (command : Command) (Z : List OrderShape) (file_of : Text → Option Text) (J : List Event) (o : Outcome) (text : Text) : Type 0 where
-  pub run : IsRunOf command Z file_of J o
-  pub output : text ≡ printed_text run
+-- by the words, the files, and the count of faults of reading before and afterwards
+abbrev pub Stops : Given → ℕ × ℕ → Stop → Type 0
+Stops g faults BadWords = SaysNothing g.words
+Stops g faults (Refused line f) = NamesSuch g (λ bytes. Refuses bytes line f)
+Stops g faults (NoJournal line) = (W : Parts) × Compares g W (λ bytes. IsNoJournalAt bytes line)
+Stops g faults CannotRead = NamesFile g.words × Rose faults.0 faults.1
+Stops g faults OutOfMemory = Unit {0}
 
--- the same of the words' command
-pub record IsPrepared (words : List Text) (Z : List OrderShape) (file_of : Text → Option Text) (J : List Event) (o : Outcome) (text : Text) : Type 0 where
-  pub command : Command
-  pub says : Says words command
-  pub prepared : IsPreparedFor command Z file_of J o text
+-- One file, by its bytes, if they are observable.
 
--- why a file has no workload to run, by the files and the faults of reading
-abbrev pub FileStops : Status → Text → (Text → Option Text) → ℕ × ℕ → Type 0
-FileStops Finished file file_of faults = ⊥
-FileStops Stuck file file_of faults = ⊥
-FileStops BadWords file file_of faults = ⊥
-FileStops (Refused line f) file file_of faults = IfSome (file_of file) (λ bytes. Refuses bytes line f)
-FileStops Budget file file_of faults = ⊥
-FileStops CannotRead file file_of faults = Grew faults
-FileStops CannotWrite file file_of faults = ⊥
-FileStops OutOfMemory file file_of faults = Unit {0}
+-- why the bytes are not known
+abbrev pub Unread : ℕ × ℕ → Stop → Type 0
+Unread faults BadWords = ⊥
+Unread faults (Refused line f) = ⊥
+Unread faults (NoJournal line) = ⊥
+Unread faults CannotRead = Rose faults.0 faults.1
+Unread faults OutOfMemory = Unit {0}
 
--- why a call stops before its first write, by its words, the files and the faults of reading
-abbrev pub Stops : Status → List Text → (Text → Option Text) → ℕ × ℕ → Type 0
-Stops Finished words file_of faults = ⊥
-Stops Stuck words file_of faults = ⊥
-Stops BadWords words file_of faults = SaysNothing words
-Stops (Refused line f) words file_of faults = NamesSuch words file_of (λ bytes. Refuses bytes line f)
-Stops Budget words file_of faults = ⊥
-Stops CannotRead words file_of faults = NamesFile words × Grew faults
-Stops CannotWrite words file_of faults = ⊥
-Stops OutOfMemory words file_of faults = Unit {0}
+-- why the file has no workload
+abbrev pub HasNoWorkload : Option Text → ℕ × ℕ → Stop → Type 0
+HasNoWorkload told faults BadWords = ⊥
+HasNoWorkload told faults (Refused line f) = IfSome told (λ bytes. Refuses bytes line f)
+HasNoWorkload told faults (NoJournal line) = ⊥
+HasNoWorkload told faults CannotRead = Rose faults.0 faults.1
+HasNoWorkload told faults OutOfMemory = Unit {0}
 
--- the status of a run that was written whole
-abbrev pub status_of : Outcome → Status
-status_of outcome.Finished = Finished
-status_of outcome.Stuck = Stuck
-status_of (outcome.Budget s) = Budget
+-- why the file has no journal
+abbrev pub HasNoJournal : Option Text → ℕ × ℕ → Stop → Type 0
+HasNoJournal told faults BadWords = ⊥
+HasNoJournal told faults (Refused line f) = ⊥
+HasNoJournal told faults (NoJournal line) = IfSome told (λ bytes. IsNoJournalAt bytes line)
+HasNoJournal told faults CannotRead = Rose faults.0 faults.1
+HasNoJournal told faults OutOfMemory = Unit {0}

@@ -1,8 +1,15 @@
 //! The top call: from words and files to the written output of a run.
 #![tactic(auto)]
 
+mod checking;
+mod fetching;
+mod following;
+mod prepared;
 mod program;
+mod running;
 mod status;
 
-pub use program::abtrun;
-pub use status::Status;
+pub use fetching::fetch;
+pub use program::{abtrun, tell};
+pub use running::count_steps;
+pub use status::{Conclusion, Status, Stop, fault_word};

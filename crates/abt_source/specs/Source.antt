@@ -1,4 +1,4 @@
--- What a source gives, what a sink takes, and when a fault may be told.
+-- What a source returns, what a sink takes, and when a fault may be reported.
 use Rattle.std.specs.Prelude.{◌≡◌, ◌<◌, ◌-◌, ◌+◌, ◌^◌, if◌then◌else◌, nat_lt, ℕ, List, [], ◌++◌, length, take, drop}
 use Rattle.std.specs.Prelude.{Option, Some, None, IfSome, option_map, Result, Ok, Err}
 use Rattle.abt_source.specs.declared.Failed.{Failed}
@@ -11,7 +11,7 @@ next_count n = if nat_lt n (2 ^ 64 - 1) then n + 1 else n
 abbrev pub Rose : ℕ → ℕ → Type 0
 Rose before now = before < 2 ^ 64 - 1 → before < now
 
--- Nothing is left, where it is told.
+-- Nothing is left, if it is observable.
 abbrev pub NothingLeft : Option (List ℕ) → Type 0
 NothingLeft left = IfSome left (λ xs. xs ≡ [])
 
@@ -26,7 +26,7 @@ abbrev pub ReadGives : Option (List ℕ) → Option (List ℕ) → Result ℕ Fa
 ReadGives before left (Ok n) into = GivesNext before left n into
 ReadGives before left (Err _) into = left ≡ before
 
--- What is left is an end of the file, where both are told.
+-- What is left is an end of the file, if both are observable.
 abbrev pub LeavesAnEnd : Option (List ℕ) → Option (List ℕ) → Type 0
 LeavesAnEnd file left =
     IfSome file (λ xs. IfSome left (λ rest. (front : List ℕ) × (xs ≡ front ++ rest)))
@@ -35,7 +35,7 @@ LeavesAnEnd file left =
 abbrev pub Took : Option (List ℕ) → Option (List ℕ) → List ℕ → Type 0
 Took before now bytes = now ≡ option_map (λ xs. xs ++ bytes) before
 
--- The sink took a front of these bytes, which lacks at least one.
+-- The sink took a prefix of these bytes, which lacks at least one.
 abbrev pub TookFront : Option (List ℕ) → Option (List ℕ) → List ℕ → Type 0
 TookFront before now bytes = (n : ℕ) × (n < length bytes) × Took before now (take n bytes)
 

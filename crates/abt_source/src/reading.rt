@@ -29,10 +29,10 @@ impl From<AllocError> for NotFetched {
 
 /// Files that are read by name, each from its first byte on. No bytes are left before the first `begin`.
 pub trait Files {
-    /// The bytes of a name, where they are told. No call changes them.
+    /// The bytes of a name, if they are observable. No call changes them.
     ghost file: { Self → List ℕ → Option (List ℕ) };
 
-    /// The bytes that are left of the file that was begun last, where they are told.
+    /// The bytes that are left of the file that was begun last, if they are observable.
     ghost left: { Self → Option (List ℕ) };
 
     /// How often a call has failed. It never falls.

@@ -1,4 +1,4 @@
-//! The files and the standard input of the process. What they hold is not told; each failed call is
+//! The files and the standard input of the process. What they hold is not observable; each failed call is
 //! counted.
 
 ghost use Rattle.std.specs.Prelude.{◌≡◌, ◌<◌, ◌≤◌, length, None, IfOk, OnOk, OnErr, IsErrOf};

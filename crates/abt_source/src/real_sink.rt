@@ -1,4 +1,4 @@
-//! The standard output and the standard error of the process. What they took is not told; each failed write
+//! The standard output and the standard error of the process. What they took is not observable; each failed write
 //! is counted.
 
 ghost use Rattle.std.specs.Prelude.{◌≡◌, ◌<◌, ◌≤◌, length, None, IfOk, OnOk, OnErr};

@@ -7,7 +7,7 @@ use crate::Failed;
 
 /// Takes bytes in order.
 pub trait Sink {
-    /// The bytes that were taken, where they are told.
+    /// The bytes that were taken, if they are observable.
     ghost taken: { Self → Option (List ℕ) };
 
     /// How often a write has failed. It never falls.

@@ -1,9 +1,14 @@
 pub mod Endings
+pub mod Names
 pub mod OneCommand
+pub mod OneWord
 pub mod Passed
+pub mod Plain
 pub mod Readings
 pub mod Rows
-pub mod SelfReadings
 pub mod Spellings
 pub mod Told
+pub mod ToldAlone
 pub mod Turns
+pub mod TwoWords
+pub mod WordsAlone

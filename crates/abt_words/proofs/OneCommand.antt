@@ -1,17 +1,21 @@
 -- Words say at most one command.
-use Rattle.std.proofs.Common.{◌≡◌, ℕ, Bool, true, false, refl, sym, ap, subst, ◌∙◌, List, [], ◌∷◌, codes, length, arith}
+use Rattle.std.proofs.Common.{◌≡◌, ℕ, Bool, true, false, refl, sym, ap, ap₂, subst, ◌∙◌, List, [], ◌∷◌, codes, arith}
 use Rattle.std.specs.Str.Parse.{digits_value}
 use Rattle.std.specs.Prelude.{IfOk, Result, Ok, Err}
 use Rattle.std.proofs.lemmas.Result.{IfOk-weaker}
-use Rattle.abt_words.specs.Asked.{RunSays, SelfSays}
 use Rattle.abt_words.specs.declared.fault.WordFault.{WordFault}
-use Rattle.abt_machine.specs.declared.program.Command.{Command}
-use Rattle.abt_machine.specs.declared.program.Command.TheVariants as command
+use Rattle.abt_words.specs.declared.commands.Command.{Command}
+use Rattle.abt_words.specs.declared.commands.Command.TheVariants as command
 use Rattle.abt_machine.specs.Words.{Text}
-use Rattle.abt_machine.specs.Commands.{Rest, Says, SaysNumber, SaysRun, SaysSelf, SaysSteps, journal_count, rest_of}
+use Rattle.abt_machine.specs.Spelling.{SaysNumber}
+use Rattle.abt_words.specs.Commands.{Rest, Says, SaysBy, SaysFile, SaysFiles, SaysRun, SaysSelf, SaysSteps, journal_count, name_of, rest_of}
+use Rattle.abt_words.proofs.Names.{by_check, by_flow, by_run, by_self}
 
 head_of : (x y : Text) (xs ys : List Text) → x ∷ xs ≡ y ∷ ys → x ≡ y
 head_of x y xs ys e = cc
+
+tail_of : (x y : Text) (xs ys : List Text) → x ∷ xs ≡ y ∷ ys → xs ≡ ys
+tail_of x y xs ys e = cc
 
 one_number : (most : ℕ) (digits : Text) (m n : ℕ) → SaysNumber most digits m → SaysNumber most digits n → m ≡ n
 one_number most digits m n a b = a.1 ∙ sym b.1
@@ -27,67 +31,53 @@ one_journal true false e = absurd (omega (arith, e))
 one_journal false true e = absurd (omega (arith, e))
 one_journal false false e = refl
 
-one_run : (r : Rest) (f g : Text) (m n : ℕ) (j k : Bool) → SaysRun r f m j → SaysRun r g n k → ◌≡◌ {A = Command} (command.Run f m j) (command.Run g n k)
-one_run r f g m n j k a b =
-    let file : f ≡ g = head_of f g [] [] (sym a.0 ∙ b.0) in
-    let steps : m ≡ n = one_steps r.steps m n a.2 b.2 in
-    let journal : j ≡ k = one_journal j k (sym a.3 ∙ b.3) in
-    λ i. command.Run (file i) (steps i) (journal i)
+module _ (r : Rest) where
+  one_run : (f : Text) (m : ℕ) (j : Bool) → SaysRun r f m j → (d : Command) → SaysBy (codes "run") r d → command.Run f m j ≡ d
+  one_run f m j a = by_run r (λ d. command.Run f m j ≡ d) (λ g n k b.
+      let file : f ≡ g = head_of f g [] [] (sym a.0 ∙ b.0) in
+      let steps : m ≡ n = one_steps r.steps m n a.2 b.2 in
+      let journal : j ≡ k = one_journal j k (sym a.3 ∙ b.3) in
+      λ i. command.Run (file i) (steps i) (journal i))
 
-one_self : (r : Rest) (m n : ℕ) → SaysSelf r m → SaysSelf r n → m ≡ n
-one_self r m n a b =
-    let word : a.0 ≡ b.0 = head_of a.0 b.0 [] [] (ap (λ (r : Rest). r.words) (sym a.1 ∙ b.1)) in
-    a.2.1 ∙ (ap (digits_value 10) word ∙ sym b.2.1)
+  one_self : (m : ℕ) → SaysSelf r m → (d : Command) → SaysBy (codes "self") r d → command.SelfRun m ≡ d
+  one_self m a = by_self r (λ d. command.SelfRun m ≡ d) (λ n b.
+      let word : a.0 ≡ b.0 = head_of a.0 b.0 [] [] (ap (λ (r : Rest). r.words) (sym a.1 ∙ b.1)) in
+      ap (λ (u : ℕ). command.SelfRun u) (a.2.1 ∙ (ap (digits_value 10) word ∙ sym b.2.1)))
 
-names_differ : (name : Text) → name ≡ codes "run" → name ≡ codes "self" → ⊥
-names_differ name a b = absurd (omega (arith, ap length (sym a ∙ b)))
+  one_check : (w j : Text) → SaysFiles r w j → (d : Command) → SaysBy (codes "check") r d → command.Check w j ≡ d
+  one_check w j a = by_check r (λ d. command.Check w j ≡ d) (λ v k b.
+      let words : w ∷ j ∷ [] ≡ v ∷ k ∷ [] = ap (λ (r : Rest). r.words) (sym a.0 ∙ b.0) in
+      ap₂ (λ (v k : Text). command.Check v k) (head_of w v _ _ words) (head_of j k [] [] (tail_of w v _ _ words)))
+
+  one_flow : (f : Text) → SaysFile r f → (d : Command) → SaysBy (codes "flow") r d → command.Flow f ≡ d
+  one_flow f a = by_flow r (λ d. command.Flow f ≡ d) (λ g b.
+      ap (λ (f : Text). command.Flow f) (head_of f g [] [] (ap (λ (r : Rest). r.words) (sym a.0 ∙ b.0))))
+
+  one_by : (name : Text) (c d : Command) → SaysBy name r c → SaysBy name r d → c ≡ d
+  one_by name (command.Run f n j) d a b = one_run f n j a.1 d (sym a.0 ∙ b.0, b.1)
+  one_by name (command.SelfRun n) d a b = one_self n a.1 d (sym a.0 ∙ b.0, b.1)
+  one_by name (command.Check w j) d a b = one_check w j a.1 d (sym a.0 ∙ b.0, b.1)
+  one_by name (command.Flow f) d a b = one_flow f a.1 d (sym a.0 ∙ b.0, b.1)
 
 pub one_command : (words : List Text) (c d : Command) → Says words c → Says words d → c ≡ d
 one_command [] c d a b = absurd a
-one_command (name ∷ ws) (command.Run f m j) (command.Run g n k) a b = one_run _ f g m n j k a.1 b.1
-one_command (name ∷ ws) (command.Run f m j) (command.SelfRun n) a b = absurd (names_differ name a.0 b.0)
-one_command (name ∷ ws) (command.SelfRun m) (command.Run g n k) a b = absurd (names_differ name b.0 a.0)
-one_command (name ∷ ws) (command.SelfRun m) (command.SelfRun n) a b = ap (λ (u : ℕ). command.SelfRun u) (one_self _ m n a.1 b.1)
+one_command (name ∷ ws) c d a b = one_by (rest_of false ws) name c d a b
 
 -- ---- from the rest to the words
 
-module _ (words : List Text) (name : Text) (rest : List Text) (are : words ≡ name ∷ rest) where
-  said_alone : (r : Result Command WordFault) → IfOk r (Says words) → IfOk r (λ c. (d : Command) → Says words d → d ≡ c)
-  said_alone (Ok c) says = λ d other. one_command words d c other says
-  said_alone (Err e) says = says
+module _ (words : List Text) (name : Text) (rest : List Text) (are : words ≡ name ∷ rest) (given : Text) (is : name ≡ given) where
+  by_says : (c : Command) → SaysBy given (rest_of false rest) c → Says words c
+  by_says c says = subst (λ (l : List Text). Says l c) (sym are) (is ∙ says.0, says.1)
 
-  module _ (is : name ≡ codes "run") where
-    run_says : (c : Command) → RunSays (rest_of false rest) c → Says words c
-    run_says (command.Run f n j) says = subst (λ (l : List Text). Says l (command.Run f n j)) (sym are) (is, says)
-    run_says (command.SelfRun n) says = absurd says
+  says_by : (c : Command) → Says words c → SaysBy given (rest_of false rest) c
+  says_by c says = let at = subst (λ (l : List Text). Says l c) are says in (sym is ∙ at.0, at.1)
 
-    says_run : (c : Command) → Says words c → RunSays (rest_of false rest) c
-    says_run (command.Run f n j) says = (subst (λ (l : List Text). Says l (command.Run f n j)) are says).1
-    says_run (command.SelfRun n) says = names_differ name is (subst (λ (l : List Text). Says l (command.SelfRun n)) are says).0
+  pub by_said : (r : Result Command WordFault) → IfOk r (SaysBy given (rest_of false rest)) → IfOk r (Says words)
+  by_said r h = IfOk-weaker r _ _ by_says h
 
-    pub run_said : (r : Result Command WordFault) → IfOk r (RunSays (rest_of false rest)) → IfOk r (Says words)
-    run_said r h = IfOk-weaker r _ _ run_says h
+  pub by_only : (r : Result Command WordFault) → IfOk r (SaysBy given (rest_of false rest)) → IfOk r (λ c. (d : Command) → Says words d → d ≡ c)
+  by_only (Ok c) says = λ d other. one_command words d c other (by_says c says)
+  by_only (Err e) says = says
 
-    pub run_only : (r : Result Command WordFault) → IfOk r (RunSays (rest_of false rest)) → IfOk r (λ c. (d : Command) → Says words d → d ≡ c)
-    run_only r h = said_alone r (run_said r h)
-
-    pub run_bad : ((c : Command) → RunSays (rest_of false rest) c → ⊥) → (c : Command) → Says words c → ⊥
-    run_bad h c says = h c (says_run c says)
-
-  module _ (is : name ≡ codes "self") where
-    self_says : (c : Command) → SelfSays (rest_of false rest) c → Says words c
-    self_says (command.Run f n j) says = absurd says
-    self_says (command.SelfRun n) says = subst (λ (l : List Text). Says l (command.SelfRun n)) (sym are) (is, says)
-
-    says_self : (c : Command) → Says words c → SelfSays (rest_of false rest) c
-    says_self (command.Run f n j) says = names_differ name (subst (λ (l : List Text). Says l (command.Run f n j)) are says).0 is
-    says_self (command.SelfRun n) says = (subst (λ (l : List Text). Says l (command.SelfRun n)) are says).1
-
-    pub self_said : (r : Result Command WordFault) → IfOk r (SelfSays (rest_of false rest)) → IfOk r (Says words)
-    self_said r h = IfOk-weaker r _ _ self_says h
-
-    pub self_only : (r : Result Command WordFault) → IfOk r (SelfSays (rest_of false rest)) → IfOk r (λ c. (d : Command) → Says words d → d ≡ c)
-    self_only r h = said_alone r (self_said r h)
-
-    pub self_bad : ((c : Command) → SelfSays (rest_of false rest) c → ⊥) → (c : Command) → Says words c → ⊥
-    self_bad h c says = h c (says_self c says)
+  pub by_bad : ((c : Command) → SaysBy given (rest_of false rest) c → ⊥) → (c : Command) → Says words c → ⊥
+  by_bad h c says = h c (says_by c says)

@@ -9,7 +9,7 @@ use Rattle.clap.specs.declared.error.kind.ErrorKind.TheVariants.{InvalidValue}
 use Rattle.clap.proofs.FaultLemmas.{leaf_fault, past}
 use Rattle.clap.specs.Simple.{built}
 use Rattle.abt_machine.specs.Words.{Text}
-use Rattle.abt_machine.specs.Commands.{Rest, and_journal, and_other, and_steps, and_word, is_option, only, rest_of}
+use Rattle.abt_words.specs.Commands.{Rest, and_journal, and_other, and_steps, and_word, is_option, only, rest_of}
 use Rattle.abt_words.specs.Apps.{run_app}
 use Rattle.abt_words.proofs.Endings.{AllTexts, ending, fails, goes, last, lasts, no_cons}
 use Rattle.abt_words.proofs.Spellings.{Spelling, ends, journal, journal_value, long, plain, rest_long, rest_plain, rest_short, short, spelling, steps, steps_value}

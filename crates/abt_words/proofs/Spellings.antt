@@ -10,7 +10,7 @@ use Rattle.clap.specs.Lexer.{name_and_value}
 use Rattle.clap.proofs.CutLemmas.{Lacks}
 use Rattle.clap.proofs.LexerLemmas.{name_and_value-at, name_and_value-without}
 use Rattle.abt_machine.specs.Words.{Text}
-use Rattle.abt_machine.specs.Commands.{and_other, and_word, is_option, rest_of}
+use Rattle.abt_words.specs.Commands.{and_other, and_word, is_option, rest_of}
 
 -- a text that lacks `=`, or one that is cut at its first
 data Cut (text : Text) : Type 0 where

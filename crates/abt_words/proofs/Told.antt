@@ -5,16 +5,16 @@ use Rattle.std.proofs.lemmas.Str.{IsUtf8-string_bytes}
 use Rattle.clap.specs.Words.{App, fault_of, first_of, first_value, found_of, matches_of, one_of, one_text, rows_of}
 use Rattle.clap.specs.declared.parser.matches.ArgMatches.{ArgMatches}
 use Rattle.clap.proofs.WalkLemmas.{first_value-rows, one_text-rows}
-use Rattle.abt_machine.specs.declared.program.Command.{Command}
-use Rattle.abt_machine.specs.declared.program.Command.TheVariants as command
+use Rattle.abt_words.specs.declared.commands.Command.{Command}
 use Rattle.abt_machine.specs.Words.{Text}
-use Rattle.abt_machine.specs.Commands.{Rest, SaysNumber, SaysSteps, journal_count, only, rest_of}
-use Rattle.abt_words.specs.Apps.{run_app, self_app}
-use Rattle.abt_words.specs.Asked.{RunSays, SelfSays, at_most_one}
+use Rattle.abt_machine.specs.Spelling.{SaysNumber}
+use Rattle.abt_words.specs.Commands.{Rest, SaysBy, SaysSteps, journal_count, only, rest_of}
+use Rattle.abt_words.specs.Apps.{run_app}
+use Rattle.abt_words.specs.Asked.{at_most_one}
 use Rattle.abt_words.proofs.Endings.{AllTexts}
 use Rattle.abt_words.proofs.Readings.{Joins, JoinsFlag, Total, nothing_seen, run_fault, run_matches, run_outcome}
 use Rattle.abt_words.proofs.Rows.{Seen, flag_text}
-use Rattle.abt_words.proofs.SelfReadings.{OneWord, self_fault, self_matches, self_outcome}
+use Rattle.abt_words.proofs.Names.{by_run}
 
 pub all_texts : {Z : Type 0} (words : List (String Z)) → AllTexts (map string_bytes words)
 all_texts [] = tt
@@ -89,56 +89,8 @@ module _ (words : List Text) (texts : AllTexts words) (a : App) (is : a ≡ run_
       by false = refl
 
   -- words that `clap` refuses say nothing
-  pub refused : fault_of a words ≢ [] → (c : Command) → RunSays (rest_of false words) c → ⊥
-  refused bad (command.SelfRun n) says = says
-  refused bad (command.Run f n j) says =
+  pub refused : fault_of a words ≢ [] → (c : Command) → SaysBy (codes "run") (rest_of false words) c → ⊥
+  refused bad = by_run (rest_of false words) (λ c. ⊥) (λ f n j says.
       let steps = joins_steps (rest_of false words).steps n says.2 in
       bad (ap (λ (x : App). fault_of x words) is ∙ run_fault words ∙ (run_outcome words texts).takes (record { file = Some f; steps = steps.0; journal = j })
-      (joins_one _ f says.0, steps.1, joins_flag _ j says.3, says.4) refl)
-
--- ---- `self`
-
-some_is : (a b : Text) → ◌≡◌ {A = Option Text} (Some a) (Some b) → a ≡ b
-some_is a b e = cc
-
-one_word : (r : Rest) (n : Text) → OneWord None r n → r ≡ only (n ∷ [])
-one_word r n t =
-    let words : r.words ≡ n ∷ [] = joined r.words (Some n) t.0 in
-    λ i. record { words = words i; steps = t.1 i; journals = t.2 i; others = t.3 i }
-
-module _ (words : List Text) (texts : AllTexts words) (a : App) (is : a ≡ self_app) where
-  found_self : (m : ArgMatches) (o : Option Text) → fault_of a words ≡ [] → rows_of (found_of m) ≡ matches_of a words
-      → o ≡ first_value (found_of m) (codes "units") → (n : Text) × (o ≡ Some n) × (rest_of false words ≡ only (n ∷ []))
-  found_self m o passes finds word =
-      let got = (self_outcome words texts).taken (sym (self_fault words) ∙ ap (λ (x : App). fault_of x words) (sym is) ∙ passes) in
-      let rows : rows_of (found_of m) ≡ matches_of self_app words = finds ∙ ap (λ (x : App). matches_of x words) is in
-      let same : o ≡ Some got.0 = word ∙ first_value-rows (found_of m) (codes "units") ∙ ap (first_of (codes "units")) (rows ∙ self_matches words) ∙ got.2 in
-      (got.0, same, one_word (rest_of false words) got.0 got.1)
-
-  pub told_self : (m : ArgMatches) (n : Text) → fault_of a words ≡ [] → rows_of (found_of m) ≡ matches_of a words
-      → Some n ≡ first_value (found_of m) (codes "units") → rest_of false words ≡ only (n ∷ [])
-  told_self m n passes finds word =
-      let got = found_self m (Some n) passes finds word in
-      let same : n ≡ got.0 = some_is n got.0 got.1 in
-      got.2 ∙ ap (λ (t : Text). only (t ∷ [])) (sym same)
-
-  pub has_word : (m : ArgMatches) → fault_of a words ≡ [] → rows_of (found_of m) ≡ matches_of a words → None ≡ first_value (found_of m) (codes "units") → ⊥
-  has_word m passes finds none =
-      let got = found_self m None passes finds none in
-      true≢false (sym (ap is_some got.1))
-
-  pub refused_self : fault_of a words ≢ [] → (c : Command) → SelfSays (rest_of false words) c → ⊥
-  refused_self bad (command.Run f n j) says = says
-  refused_self bad (command.SelfRun n) says =
-      bad (ap (λ (x : App). fault_of x words) is ∙ self_fault words ∙ (self_outcome words texts).takes says.0
-      (subst (λ (r : Rest). OneWord None r says.0) (sym says.1) (refl, refl, refl, refl)))
-
-head_of : (v w : Text) → ◌≡◌ {A = List Text} (v ∷ []) (w ∷ []) → v ≡ w
-head_of v w e = cc
-
--- one word that is no number says nothing
-pub no_number : (r : Rest) (w : Text) → r ≡ only (w ∷ []) → ((n : ℕ) → SaysNumber 126 w n → ⊥) → (c : Command) → SelfSays r c → ⊥
-no_number r w is none (command.Run f n j) says = says
-no_number r w is none (command.SelfRun n) says =
-    let same : says.0 ≡ w = head_of says.0 w (ap (λ (x : Rest). x.words) (sym says.1 ∙ is)) in
-    none n (subst (λ (t : Text). SaysNumber 126 t n) same says.2)
+      (joins_one _ f says.0, steps.1, joins_flag _ j says.3, says.4) refl))

@@ -13,7 +13,7 @@ use Rattle.clap.specs.declared.error.kind.ErrorKind.TheVariants.{ArgumentConflic
 use Rattle.clap.proofs.FaultLemmas.{past}
 use Rattle.clap.proofs.OnLiterals.{clap_on_literals}
 use Rattle.abt_machine.specs.Words.{Text}
-use Rattle.abt_machine.specs.Commands.{is_option}
+use Rattle.abt_words.specs.Commands.{is_option}
 use Rattle.abt_words.specs.Apps.{run_app, needed, steps_rule, journal_rule}
 
 abbrev pub run_top : Shape

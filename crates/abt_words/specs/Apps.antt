@@ -1,4 +1,4 @@
--- The `clap` commands that read the words after `run` and after `self`.
+-- The `clap` commands that read the words after `run`, and one or two words alone.
 use Rattle.std.specs.Prelude.{true, codes, Some}
 use Rattle.clap.specs.Words.{App, Rule, Text, new_app, new_rule, with_rule}
 use Rattle.clap.specs.declared.builder.ArgAction.{ArgAction}
@@ -28,5 +28,9 @@ journal_rule = long_rule (codes "journal") SetTrue
 abbrev pub run_app : App
 run_app = with_rule (with_rule (with_rule (bare (codes "run")) (needed (codes "file"))) steps_rule) journal_rule
 
-abbrev pub self_app : App
-self_app = with_rule (bare (codes "self")) (needed (codes "units"))
+-- one word, and two words
+abbrev pub one_app : App
+one_app = with_rule (bare (codes "one")) (needed (codes "first"))
+
+abbrev pub two_app : App
+two_app = with_rule (with_rule (bare (codes "two")) (needed (codes "first"))) (needed (codes "second"))

@@ -2,15 +2,13 @@
 use Rattle.std.specs.Prelude.{List, [], ◌∷◌, Option, Some, None, option_map}
 use Rattle.clap.specs.declared.error.kind.ErrorKind.{ErrorKind}
 use Rattle.clap.specs.declared.error.kind.ErrorKind.TheVariants as kind
-use Rattle.abt_machine.specs.declared.program.Command.{Command}
-use Rattle.abt_machine.specs.declared.program.Command.TheVariants as command
 use Rattle.abt_machine.specs.Words.{Text}
-use Rattle.abt_machine.specs.Commands.{Rest, SaysRun, SaysSelf, journal_count}
+use Rattle.abt_words.specs.Commands.{Rest, journal_count}
 use Rattle.abt_words.specs.declared.fault.WordFault.{WordFault}
 use Rattle.abt_words.specs.declared.fault.WordFault.TheVariants as fault
 use Rattle.abt_words.specs.declared.run.RunWords.{RunWords}
 
--- of `clap`'s errors only want of memory is none of the words' own
+-- of `clap`'s errors only out of memory is none of the words' own
 abbrev pub fault_of_kind : ErrorKind → WordFault
 fault_of_kind kind.OutOfMemory = fault.Memory
 fault_of_kind _ = fault.Bad
@@ -27,12 +25,3 @@ rest_as asked = record {
   journals = journal_count asked.journal;
   others = 0;
 }
-
--- the rest of `run`, and that of `self`, says the command
-abbrev pub RunSays : Rest → Command → Type 0
-RunSays r (command.Run file steps journal) = SaysRun r file steps journal
-RunSays r (command.SelfRun units) = ⊥
-
-abbrev pub SelfSays : Rest → Command → Type 0
-SelfSays r (command.Run file steps journal) = ⊥
-SelfSays r (command.SelfRun units) = SaysSelf r units

@@ -1,8 +1,8 @@
-//! The commands of `clap` that read the words after `run` and after `self`, and what they find.
+//! The commands of `clap` that read the words after `run`, and one or two words alone, and what they find.
 
 ghost use Rattle.std.specs.Prelude.{◌≡◌, ◌≢◌, IfOk, [], true, false, map, string_bytes};
 ghost use Rattle.clap.specs.Words.{app_of, fault_of, found_of, is_simple_and_free, matches_of, rows_of, rule_of};
-ghost use Rattle.abt_words.specs.Apps.{bare, long_rule, needed, run_app, self_app};
+ghost use Rattle.abt_words.specs.Apps.{bare, long_rule, needed, one_app, run_app, two_app};
 
 use crate::WordFault;
 use clap::{Arg, ArgAction, ArgMatches};
@@ -44,10 +44,18 @@ pub(crate) fn run_command<'a>(alloc: Global) -> Result<clap::Command<'a>, AllocE
 }
 
 /// Reads one word.
-pub(crate) fn self_command<'a>(alloc: Global) -> Result<clap::Command<'a>, AllocError>
-    ensures { IfOk result (λ c. app_of c ≡ self_app) }
+pub(crate) fn one_command<'a>(alloc: Global) -> Result<clap::Command<'a>, AllocError>
+    ensures { IfOk result (λ c. app_of c ≡ one_app) }
 {
-    bare_command(alloc, "self").arg(needed_word(alloc, "units"))
+    bare_command(alloc, "one").arg(needed_word(alloc, "first"))
+}
+
+/// Reads two words.
+pub(crate) fn two_command<'a>(alloc: Global) -> Result<clap::Command<'a>, AllocError>
+    ensures { IfOk result (λ c. app_of c ≡ two_app) }
+{
+    let command = bare_command(alloc, "two").arg(needed_word(alloc, "first"))?;
+    command.arg(needed_word(alloc, "second"))
 }
 
 /// What the command finds in the words.

@@ -1,17 +1,18 @@
 //! The words after the program's name.
 
 ghost use Rattle.std.specs.Prelude.{◌≡◌, IfOk, map, string_bytes};
-ghost use Rattle.abt_machine.specs.declared.program.Command.{Command};
-ghost use Rattle.abt_machine.specs.Commands.{Says};
+ghost use Rattle.abt_words.specs.declared.commands.Command.{Command};
+ghost use Rattle.abt_words.specs.Commands.{Says};
 
 use crate::WordFault;
+use crate::commands::Command;
+use crate::on_files::{check, flow};
 use crate::run::run;
 use crate::self_run::self_run;
-use abt_machine::Command;
 use std::alloc::Global;
 
 /// The command that the words after the program's name say: `run FILE [--steps V] [--journal]`, with the options in any
-/// order, or `self N`.
+/// order, `self N`, `check WORKLOAD JOURNAL` or `flow FILE`.
 pub fn words(alloc: Global, list: &[String]) -> Result<Command, WordFault>
     ensures said { IfOk result (λ c. Says (map string_bytes list.now) c) }
     ensures only { IfOk result (λ c. (d : Command) → Says (map string_bytes list.now) d → d ≡ c) }
@@ -23,6 +24,8 @@ pub fn words(alloc: Global, list: &[String]) -> Result<Command, WordFault>
     match name.as_str() {
         "run" => run(alloc, rest),
         "self" => self_run(alloc, rest),
+        "check" => check(alloc, rest),
+        "flow" => flow(alloc, rest),
         _ => Err(WordFault::Bad),
     }
 }

@@ -5,14 +5,18 @@
 //! so is the test that a file's name is not empty.
 #![tactic(auto)]
 
+mod alone;
 mod clap_commands;
 mod command;
+mod commands;
 mod fault;
 mod number;
+mod on_files;
 mod run;
 mod self_run;
 #[cfg(test)]
 mod tests;
 
 pub use command::words;
+pub use commands::Command;
 pub use fault::WordFault;

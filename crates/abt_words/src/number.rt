@@ -1,7 +1,7 @@
 //! The numbers among the words.
 
 ghost use Rattle.std.specs.Prelude.{ℕ, MatchOption};
-ghost use Rattle.abt_machine.specs.Commands.{SaysNumber};
+ghost use Rattle.abt_machine.specs.Spelling.{SaysNumber};
 
 /// The number that one or more ASCII digits write, where it is from 1 to `most`. Leading zeros are allowed, signs are not:
 /// `parse` alone would take a plus.

@@ -1,14 +1,15 @@
 //! The words after `run`.
 
-ghost use Rattle.std.specs.Prelude.{◌≡◌, ℕ, IfOk, MatchOption, false, map, option_map, string_bytes};
-ghost use Rattle.abt_machine.specs.declared.program.Command.{Command};
-ghost use Rattle.abt_machine.specs.Commands.{SaysSteps, rest_of};
-ghost use Rattle.abt_words.specs.Asked.{RunSays, at_most_one, rest_as};
+ghost use Rattle.std.specs.Prelude.{◌≡◌, ℕ, IfOk, MatchOption, false, map, option_map, string_bytes, codes};
+ghost use Rattle.abt_words.specs.declared.commands.Command.{Command};
+ghost use Rattle.abt_words.specs.Commands.{SaysBy, SaysSteps, rest_of};
+ghost use Rattle.abt_words.specs.Asked.{at_most_one, rest_as};
 
 use crate::WordFault;
 use crate::clap_commands::{found, run_command};
+use crate::commands::Command;
 use crate::number::number;
-use abt_machine::{Command, Text};
+use abt_machine::Text;
 use std::alloc::Global;
 
 // The steps for each stream where no option says them.
@@ -28,7 +29,7 @@ pub(crate) struct RunWords<'a> {
 // Tells the words apart.
 fn run_words<'a>(alloc: Global, rest: &'a [String]) -> Result<RunWords<'a>, WordFault>
     ensures told { IfOk result (λ asked. rest_of false (map string_bytes rest.entry.now) ≡ rest_as asked) }
-    ensures bad { result ≡ Err WordFault.Bad → (c : Command) → RunSays (rest_of false (map string_bytes rest.entry.now)) c → ⊥ }
+    ensures bad { result ≡ Err WordFault.Bad → (c : Command) → SaysBy (codes "run") (rest_of false (map string_bytes rest.entry.now)) c → ⊥ }
 {
     let found = found(run_command(alloc)?, rest)?;
     let Some(file) = found.get_str("file") else {
@@ -54,8 +55,8 @@ fn steps(value: Option<&str>) -> Option<u64>
 
 // The command that the words ask for.
 fn asked_run(alloc: Global, asked: RunWords) -> Result<Command, WordFault>
-    ensures said { IfOk result (λ c. RunSays (rest_as asked.entry) c) }
-    ensures bad { result ≡ Err WordFault.Bad → (c : Command) → RunSays (rest_as asked.entry) c → ⊥ }
+    ensures said { IfOk result (λ c. SaysBy (codes "run") (rest_as asked.entry) c) }
+    ensures bad { result ≡ Err WordFault.Bad → (c : Command) → SaysBy (codes "run") (rest_as asked.entry) c → ⊥ }
 {
     if asked.file.is_empty() {
         return Err(WordFault::Bad);
@@ -72,8 +73,8 @@ fn asked_run(alloc: Global, asked: RunWords) -> Result<Command, WordFault>
 
 /// The command that the words after `run` say.
 pub(crate) fn run(alloc: Global, rest: &[String]) -> Result<Command, WordFault>
-    ensures said { IfOk result (λ c. RunSays (rest_of false (map string_bytes rest.now)) c) }
-    ensures bad { result ≡ Err WordFault.Bad → (c : Command) → RunSays (rest_of false (map string_bytes rest.now)) c → ⊥ }
+    ensures said { IfOk result (λ c. SaysBy (codes "run") (rest_of false (map string_bytes rest.now)) c) }
+    ensures bad { result ≡ Err WordFault.Bad → (c : Command) → SaysBy (codes "run") (rest_of false (map string_bytes rest.now)) c → ⊥ }
 {
     asked_run(alloc, run_words(alloc, rest)?)
 }

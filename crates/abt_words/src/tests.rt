@@ -1,5 +1,4 @@
-use crate::{WordFault, words};
-use abt_machine::Command;
+use crate::{Command, WordFault, words};
 use std::alloc::Global;
 use std::test::Fail;
 
@@ -41,8 +40,20 @@ static GENERATED: [(&str, u32); 5] = [
     ("self,9,--", 9),
 ];
 
+// Words that check a journal, and the names of its workload's file and its own.
+static CHECKED: [(&str, &str, &str); 5] = [
+    ("check,w,j", "w", "j"),
+    ("check,-,j", "-", "j"),
+    ("check,w,-", "w", "-"),
+    ("check,w,w", "w", "w"),
+    ("check,w,--,-j", "w", "-j"),
+];
+
+// Words that ask for what a workload's units print, and the name of its file.
+static FLOWS: [(&str, &str); 3] = [("flow,f", "f"), ("flow,-", "-"), ("flow,--,--", "--")];
+
 // Words that spell nothing.
-static REFUSED: [&str; 58] = [
+static REFUSED: [&str; 73] = [
     "",
     "walk",
     "Run,f",
@@ -101,9 +112,24 @@ static REFUSED: [&str; 58] = [
     "self,1,--journal",
     "self,--steps,1",
     "self,--help",
+    "check",
+    "check,w",
+    "check,w,j,k",
+    "check,-,-",
+    "check,,j",
+    "check,w,",
+    "check,,",
+    "check,w,j,--journal",
+    "check,w,-j",
+    "check,--steps,w,j",
+    "flow",
+    "flow,",
+    "flow,f,g",
+    "flow,-f",
+    "flow,f,--steps,5",
 ];
 
-// The command that the words of a row say, where they say one. Want of memory is the test's own failure.
+// The command that the words of a row say, if they say one. Out of memory is the test's own failure.
 fn said(alloc: Global, row: &str) -> Result<Option<Command>, Fail> {
     let mut list = Vec::new(alloc);
     for word in row.split(',') {
@@ -116,24 +142,52 @@ fn said(alloc: Global, row: &str) -> Result<Option<Command>, Fail> {
     }
 }
 
+// Whether the command runs this file, each stream making so many steps, and whether it prints the journal.
+fn runs(command: &Command, wanted: &str, most: u64, wants: bool) -> bool {
+    match command {
+        Command::Run {
+            file,
+            steps,
+            journal,
+        } => file.as_str() == wanted && *steps == most && *journal == wants,
+        _ => false,
+    }
+}
+
+// Whether the command runs what is made of so many units.
+fn generates(command: &Command, wanted: u32) -> bool {
+    match command {
+        Command::SelfRun { units } => *units == wanted,
+        _ => false,
+    }
+}
+
+// Whether the command checks the journal in one file against the workload in another.
+fn checks(command: &Command, first: &str, second: &str) -> bool {
+    match command {
+        Command::Check { workload, journal } => {
+            workload.as_str() == first && journal.as_str() == second
+        }
+        _ => false,
+    }
+}
+
+// Whether the command asks for the flow of this file's workload.
+fn follows(command: &Command, wanted: &str) -> bool {
+    match command {
+        Command::Flow { file } => file.as_str() == wanted,
+        _ => false,
+    }
+}
+
 #[test]
 fn runs_a_file(rt: HostRuntime) -> Result<(), Fail> {
     for (row, wanted, most, wants) in &RUNS {
-        match said(rt.alloc(), row)? {
-            Some(
-                Command::Run {
-                    file,
-                    steps,
-                    journal,
-                },
-            ) => {
-                assert!(rt;
-                    file.as_str() == *wanted && steps == *most && journal == *wants,
-                    "{row}"
-                );
-            }
-            _ => assert!(rt; false, "{row}"),
-        }
+        let command = said(rt.alloc(), row)?;
+        assert!(rt;
+            command.is_some_and(|c| runs(&c, wanted, *most, *wants)),
+            "{row}"
+        );
     }
     Ok(())
 }
@@ -141,10 +195,21 @@ fn runs_a_file(rt: HostRuntime) -> Result<(), Fail> {
 #[test]
 fn runs_what_it_generates(rt: HostRuntime) -> Result<(), Fail> {
     for (row, wanted) in &GENERATED {
-        match said(rt.alloc(), row)? {
-            Some(Command::SelfRun { units }) => assert!(rt; units == *wanted, "{row}"),
-            _ => assert!(rt; false, "{row}"),
-        }
+        let command = said(rt.alloc(), row)?;
+        assert!(rt; command.is_some_and(|c| generates(&c, *wanted)), "{row}");
+    }
+    Ok(())
+}
+
+#[test]
+fn asks_of_files(rt: HostRuntime) -> Result<(), Fail> {
+    for (row, first, second) in &CHECKED {
+        let command = said(rt.alloc(), row)?;
+        assert!(rt; command.is_some_and(|c| checks(&c, first, second)), "{row}");
+    }
+    for (row, wanted) in &FLOWS {
+        let command = said(rt.alloc(), row)?;
+        assert!(rt; command.is_some_and(|c| follows(&c, wanted)), "{row}");
     }
     Ok(())
 }

@@ -8,7 +8,7 @@ use Rattle.abt_machine.specs.Words.{Text}
 use Rattle.abt_workload.specs.declared.reading.NotRead.{NotRead}
 use Rattle.abt_workload.specs.declared.reading.NotRead.TheVariants as cause
 
--- a refused line has its fault; want of memory claims nothing
+-- a refused line has its fault; out of memory claims nothing
 abbrev pub IsCause : Text → NotRead → Type 0
 IsCause text (cause.Refused line f) = Refuses text line f
 IsCause text cause.Memory = ⊤

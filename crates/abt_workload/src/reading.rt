@@ -166,7 +166,7 @@ fn read_lines(alloc: Global, bytes: &[u8]) -> Result<Draft, NotRead>
 ///
 /// # Errors
 /// `Refused` has the least line that has a fault, and that line's first fault in the order of the
-/// variants of `Fault`; `Memory` is want of memory.
+/// variants of `Fault`; `Memory`: memory was refused.
 pub fn read(alloc: Global, bytes: &[u8]) -> Result<Workload, NotRead>
     ensures ok { IfOk result (Reads bytes.now) }
     ensures refused { IfErr result (IsCause bytes.now) }

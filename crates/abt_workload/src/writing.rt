@@ -400,7 +400,7 @@ fn fit(text: &mut Vec<u8>)
 /// would be one byte too long to be read goes without its last line feed.
 ///
 /// # Errors
-/// Want of memory.
+/// Out of memory.
 pub fn write(alloc: Global, w: &Workload) -> Result<Vec<u8>, Want>
     ensures text { IfOk result (λ text. text.items ≡ canonical_text w.now) }
     ensures read_back { IfOk result (λ text. Reads text.items w.now) }

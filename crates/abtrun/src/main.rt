@@ -1,11 +1,11 @@
-//! The command `abtrun`: runs a workload text, and prints its report and, if asked, its journal.
+//! The command `abtrun`: runs a workload text, and prints its report and, if asked, its journal; checks journals; finds flows.
 #![tactic(auto)]
 
 ghost use Rattle.std.specs.Prelude.{◌≡◌, ◌<◌, ◌≤◌, ◌+◌, ◌-◌, ◌%◌};
 
 use abt_machine::OrderShape;
 use abt_order::{StoredOrder, mirror, rotate};
-use abt_run::{Status, abtrun};
+use abt_run::{Status, Stop, abtrun};
 use abt_source::{RealFiles, RealSink, write_whole};
 use abt_stream::NoPace;
 use std::alloc::Global;
@@ -48,18 +48,18 @@ fn main(rt: HostRuntime) -> ExitCode {
     let words = match words_of(&rt, alloc) {
         Ok(words) => words,
         Err(e) => {
-            let status = if e.kind() == io::ErrorKind::OutOfMemory {
-                Status::OutOfMemory
+            let stop = if e.kind() == io::ErrorKind::OutOfMemory {
+                Stop::OutOfMemory
             } else {
-                Status::BadWords
+                Stop::BadWords
             };
-            let _ = write_whole(&mut err, status.message());
-            return ExitCode::from(status.number());
+            let _ = write_whole(&mut err, stop.message());
+            return ExitCode::from(Status::Stopped(stop).number());
         }
     };
     let (Ok(rotation), Ok(mirroring)) = (Box::new(alloc, turn), Box::new(alloc, turn_round)) else {
-        let _ = write_whole(&mut err, Status::OutOfMemory.message());
-        return ExitCode::from(Status::OutOfMemory.number());
+        let _ = write_whole(&mut err, Stop::OutOfMemory.message());
+        return ExitCode::from(Status::Stopped(Stop::OutOfMemory).number());
     };
     let orders = [
         StoredOrder::new(OrderShape::Rotate, rotation),

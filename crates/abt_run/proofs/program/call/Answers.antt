@@ -1,24 +1,21 @@
-use Rattle.std.proofs.Common.{◌∙◌, subst, rules}
+use Rattle.std.proofs.Common.{subst, rules}
 use Rattle.abt_run.specs.Call.{Gained, GainedFront}
-use Rattle.abt_run.proofs.Preparing.{written}
 use Rattle.abt_run.proofs.program.call.Goals as goal
 
 pub returns-in-Ok-write_whole : goal.returns-in-Ok-write_whole
-returns-in-Ok-write_whole g c =
-    let words = c.in-Ok.ensures.done in
-    rw c.status_by.ensures (written c.in-Ok.field-0.outcome _ (record {
-      ran = record { command = words.command; says = words.says; run = words.prepared.run };
-      out = subst (Gained (g.K.Sink.taken c.args.out.now, g.K.Sink.taken c.write_whole.new.sink)) (c.deref.ensures.value ∙ words.prepared.output) c.in-Ok-write_whole.ensures.whole;
-      err = search rules;
-    }))
+returns-in-Ok-write_whole g c = record {
+  text = c.in-Ok.field-0.text.items;
+  prints = c.in-Ok.ensures.done;
+  out = subst (Gained (g.K.Sink.taken c.args.out.now, g.K.Sink.taken c.write_whole.new.sink)) c.deref.ensures.value c.in-Ok-write_whole.ensures.whole;
+  err = search rules;
+}
 
 pub returns-in-Ok : goal.returns-in-Ok
-returns-in-Ok g c =
-    let words = c.in-Ok.ensures.done in
-    record {
-      outcome = c.in-Ok.field-0.outcome;
-      ran = record { command = words.command; says = words.says; run = words.prepared.run };
-      out = subst (GainedFront (g.K.Sink.taken c.args.out.now, g.K.Sink.taken c.write_whole.new.sink)) (c.deref.ensures.value ∙ words.prepared.output) c.in-Err-write_whole.ensures.front;
-      faults = c.in-Err-write_whole.ensures.cause;
-      err = rw c.message.ensures at c.tell.ensures.told;
-    }
+returns-in-Ok g c = record {
+  conclusion = c.in-Ok.field-0.conclusion;
+  text = c.in-Ok.field-0.text.items;
+  prints = c.in-Ok.ensures.done;
+  out = subst (GainedFront (g.K.Sink.taken c.args.out.now, g.K.Sink.taken c.write_whole.new.sink)) c.deref.ensures.value c.in-Err-write_whole.ensures.front;
+  faults = c.in-Err-write_whole.ensures.cause;
+  err = rw c.unwritten.ensures at c.tell.ensures.told;
+}

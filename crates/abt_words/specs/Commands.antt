@@ -1,10 +1,10 @@
 -- Which command the words after the program's name say.
-use Rattle.std.specs.Prelude.{◌≡◌, ◌≢◌, ◌≤◌, ◌==◌, ℕ, suc, if◌then◌else◌, Bool, true, false, List, [], ◌∷◌, take, drop, codes}
+use Rattle.std.specs.Prelude.{◌≡◌, ◌≢◌, ◌==◌, ℕ, suc, if◌then◌else◌, Bool, true, false, List, [], ◌∷◌, take, drop, codes}
 use Rattle.std.specs.Str.{bytes_eq}
-use Rattle.std.specs.Str.Parse.{IsNumeral, digits_value}
-use Rattle.abt_machine.specs.declared.program.Command.{Command}
-use Rattle.abt_machine.specs.declared.program.Command.TheVariants as command
+use Rattle.abt_machine.specs.Spelling.{SaysNumber}
 use Rattle.abt_machine.specs.Words.{Text}
+use Rattle.abt_words.specs.declared.commands.Command.{Command}
+use Rattle.abt_words.specs.declared.commands.Command.TheVariants as command
 
 -- the rest, which is the words after the command's name: its FILE or N words, the values of its steps options, and how often
 -- `--journal` and any other option stand in it
@@ -49,10 +49,6 @@ rest_of false (w ∷ ws) =
     else if is_option w then and_other (rest_of false ws)
     else and_word w (rest_of false ws)
 
--- one or more ASCII digits of a value from 1 to `most`; leading zeros are allowed
-abbrev pub SaysNumber : ℕ → Text → ℕ → Type 0
-SaysNumber most digits n = IsNumeral 10 digits × (n ≡ digits_value 10 digits) × (1 ≤ n) × (n ≤ most)
-
 -- 10,000 steps where no option says them, and at most one option does
 abbrev pub SaysSteps : List Text → ℕ → Type 0
 SaysSteps [] n = n ≡ 10000
@@ -72,8 +68,33 @@ SaysRun r file steps journal =
 abbrev pub SaysSelf : Rest → ℕ → Type 0
 SaysSelf r units = (n : Text) × (r ≡ only (n ∷ [])) × SaysNumber 126 n units
 
+-- exactly two FILEs, of at least one byte each, which are not both `-`
+abbrev pub SaysFiles : Rest → Text → Text → Type 0
+SaysFiles r first second =
+    (r ≡ only (first ∷ second ∷ [])) × (first ≢ []) × (second ≢ []) × (first ≡ codes "-" → second ≡ codes "-" → ⊥)
+
+-- exactly one FILE, of at least one byte
+abbrev pub SaysFile : Rest → Text → Type 0
+SaysFile r file = (r ≡ only (file ∷ [])) × (file ≢ [])
+
+abbrev pub name_of : Command → Text
+name_of (command.Run file steps journal) = codes "run"
+name_of (command.SelfRun units) = codes "self"
+name_of (command.Check workload journal) = codes "check"
+name_of (command.Flow file) = codes "flow"
+
+-- the rest is the command's own
+abbrev pub SaysRest : Rest → Command → Type 0
+SaysRest r (command.Run file steps journal) = SaysRun r file steps journal
+SaysRest r (command.SelfRun units) = SaysSelf r units
+SaysRest r (command.Check workload journal) = SaysFiles r workload journal
+SaysRest r (command.Flow file) = SaysFile r file
+
+-- a name and a rest say the command
+abbrev pub SaysBy : Text → Rest → Command → Type 0
+SaysBy name r c = (name ≡ name_of c) × SaysRest r c
+
 -- the words say the command: the first is its name, and the rest is its own
 abbrev pub Says : List Text → Command → Type 0
 Says [] c = ⊥
-Says (name ∷ ws) (command.Run file steps journal) = (name ≡ codes "run") × SaysRun (rest_of false ws) file steps journal
-Says (name ∷ ws) (command.SelfRun units) = (name ≡ codes "self") × SaysSelf (rest_of false ws) units
+Says (name ∷ ws) c = SaysBy name (rest_of false ws) c

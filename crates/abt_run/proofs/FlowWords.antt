@@ -1,0 +1,84 @@
+-- The words in a flow are the workload's.
+use Rattle.std.proofs.Common.{◌≡◌, ◌<◌, ◌++◌, ℕ, zero, suc, List, [], ◌∷◌, length, Option, Some, None, refl, sym, ap, subst, ◌∙◌, inl, inr}
+use Rattle.std.specs.Prelude.{slice_get}
+use Rattle.std.specs.List.{All}
+use Rattle.std.proofs.lemmas.List.Elements.{All-append, All-cons, All-nil}
+use Rattle.abt_machine.specs.declared.events.Piece.{Piece}
+use Rattle.abt_machine.specs.declared.events.Piece.TheVariants as piece
+use Rattle.abt_machine.specs.declared.operations.Op.{Op}
+use Rattle.abt_machine.specs.declared.operations.Op.TheVariants as op
+use Rattle.abt_machine.specs.declared.workload.Parts.{Parts}
+use Rattle.abt_machine.specs.Operations.{IsDeclared}
+use Rattle.abt_machine.specs.Pieces.{IsPieceOf}
+use Rattle.abt_machine.specs.Valid.{IsValid}
+use Rattle.abt_machine.specs.Workloads.{op_at}
+use Rattle.abt_laws.proofs.Declared.{op-declared}
+use Rattle.abt_flow.specs.Effects.{Memory, effect, fresh}
+use Rattle.abt_flow.specs.Flow.{AtPoint, Does, IsFlow, IsRow, Leads, Made}
+
+abbrev Says : Parts → Memory → Type 0
+Says W m = All (IsPieceOf W) m.output
+
+one-more : (W : Parts) (m : Memory) (x : Piece) → Says W m → IsPieceOf W x → All (IsPieceOf W) (m.output ++ x ∷ [])
+one-more W m x says is = All-append (IsPieceOf W) m.output (x ∷ []) says (All-cons (IsPieceOf W) x [] is (All-nil (IsPieceOf W)))
+
+same-output : (W : Parts) (old m : Memory) → m.output ≡ old.output → Says W old → Says W m
+same-output W old m e says = subst (All (IsPieceOf W)) (sym e) says
+
+module _ (W : Parts) (Found : ℕ → ℕ → Type 0) (old m : Memory) (says : Says W old) where
+  -- an operation says its own word, or none
+  led : (o : Op) → IsDeclared W o → Leads Found (effect o) old m → Says W m
+  led (op.Say w) declared is = subst (All (IsPieceOf W)) (ap (λ (x : Memory). x.output) (sym is)) (one-more W old (piece.Said w) says declared)
+  led op.Print declared is = subst (All (IsPieceOf W)) (ap (λ (x : Memory). x.output) (sym is)) (one-more W old (piece.Number old.acc) says tt)
+  led (op.Set n) declared is = same-output W old m (ap (λ (x : Memory). x.output) is) says
+  led (op.Add n) declared is = same-output W old m (ap (λ (x : Memory). x.output) is) says
+  led (op.KeySet k) declared is = same-output W old m (ap (λ (x : Memory). x.output) is) says
+  led (op.KeyGet k) declared is = same-output W old m (ap (λ (x : Memory). x.output) is) says
+  led op.Yield declared is = same-output W old m (ap (λ (x : Memory). x.output) is) says
+  led (op.Create v p) declared is = same-output W old m (ap (λ (x : Memory). x.output) is) says
+  led (op.Join v) declared is = same-output W old m (ap (λ (x : Memory). x.output) is) says
+  led (op.EvWait x) declared is = same-output W old m (ap (λ (x : Memory). x.output) is.2) says
+  led (op.EvSet x) declared is = same-output W old m (ap (λ (x : Memory). x.output) is) says
+  led (op.BarWait x) declared is = same-output W old m (ap (λ (x : Memory). x.output) is) says
+  led (op.YieldTo v p) declared is = absurd is
+  led op.Suspend declared is = absurd is
+  led (op.Resume v) declared is = absurd is
+  led (op.Cancel v) declared is = absurd is
+  led (op.Migrate v p) declared is = absurd is
+  led (op.MigrateTo v r) declared is = absurd is
+  led (op.Migratable v b) declared is = absurd is
+  led (op.Revive v p) declared is = absurd is
+  led (op.Lock x) declared is = absurd is
+  led (op.TryLock x) declared is = absurd is
+  led (op.Unlock x) declared is = absurd is
+  led (op.Load x) declared is = absurd is
+  led (op.Store x) declared is = absurd is
+  led (op.CondWait x) declared is = absurd is
+  led (op.Signal x) declared is = absurd is
+  led (op.Broadcast x) declared is = absurd is
+  led (op.EvReset x) declared is = absurd is
+  led (op.EvTest x) declared is = absurd is
+  led (op.FuWait x) declared is = absurd is
+  led (op.FuSet x) declared is = absurd is
+  led (op.FuReset x) declared is = absurd is
+  led (op.FuTest x) declared is = absurd is
+
+  done : (o : Option Op) → ((p : Op) → o ≡ Some p → IsDeclared W p) → Does Found o old m → Says W m
+  done None declared is = absurd is
+  done (Some o) declared is = led o (declared o refl) is
+
+module _ (W : Parts) (valid : IsValid W) where
+  made : (Found : ℕ → ℕ → Type 0) (u k : ℕ) (m : Memory) → Made W Found u k m → Says W m
+  made Found u zero m is = subst (Says W) (sym is) (All-nil (IsPieceOf W))
+  made Found u (suc k) m is = done W Found is.0 m (made Found u k is.0 is.1) (op_at W u k) (λ p e. op-declared W u k p valid e) is.2
+
+  row-says : (u : ℕ) (row : List Piece) → IsRow W u row → All (IsPieceOf W) row
+  row-says u row (inl is) = subst (All (IsPieceOf W)) is.1.2 (made _ u _ is.1.0 is.1.1)
+  row-says u row (inr none) = subst (All (IsPieceOf W)) (sym none.1) (All-nil (IsPieceOf W))
+
+  rows-say : (rows : List (List Piece)) → ((u : ℕ) (row : List Piece) → slice_get rows u ≡ Some row → All (IsPieceOf W) row) → All (All (IsPieceOf W)) rows
+  rows-say [] each = All-nil (All (IsPieceOf W))
+  rows-say (row ∷ rows) each = All-cons (All (IsPieceOf W)) row rows (each 0 row refl) (rows-say rows (λ u other at. each (suc u) other at))
+
+  pub flow-says : (rows : List (List Piece)) → IsFlow W rows → All (All (IsPieceOf W)) rows
+  flow-says rows flow = rows-say rows (λ u row at. row-says u row (flow.each u row at))

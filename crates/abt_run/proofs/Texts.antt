@@ -1,0 +1,135 @@
+-- What was read of a file, from what was read of its first bytes.
+use Rattle.std.proofs.Common.{◌≡◌, ◌<◌, ◌≤◌, ◌+◌, ◌^◌, ℕ, zero, suc, List, [], ◌∷◌, length, take, Option, Some, None, min, arith, refl, sym, ap, subst, ◌∙◌, inl, inr}
+use Rattle.std.specs.Prelude.{IfSome}
+use Rattle.std.specs.List.{All, AllByRecursion}
+use Rattle.std.proofs.lemmas.Bool.{cases_lt, lt-ltb}
+use Rattle.std.proofs.lemmas.List.{take_all, length-take}
+use Rattle.std.proofs.lemmas.List.Elements.{All-head, All-tail}
+use Rattle.abt_machine.specs.declared.events.Event.{Event}
+use Rattle.abt_machine.specs.declared.events.What.{What}
+use Rattle.abt_machine.specs.declared.events.What.TheVariants as what
+use Rattle.abt_machine.specs.declared.program.Fault.{Fault}
+use Rattle.abt_machine.specs.declared.program.Fault.TheVariants as fault
+use Rattle.abt_machine.specs.declared.workload.Parts.{Parts}
+use Rattle.abt_machine.specs.Grammar.{Reads, Refuses, fault_at}
+use Rattle.abt_machine.specs.Words.{Text}
+use Rattle.abt_bounds.specs.Laws.{IsWritten, what_numbers}
+use Rattle.abt_bounds.proofs.JournalTexts.{journal-texts-differ}
+use Rattle.abt_report.specs.Journals.{HasShortNumbers, IsEvent}
+use Rattle.abt_report.specs.Journals as journals
+use Rattle.abt_machine.specs.Texts.{journal_text}
+use Rattle.abt_report.specs.declared.not_journal.NotJournal.{NotJournal}
+use Rattle.abt_report.specs.declared.not_journal.NotJournal.TheVariants as bad
+use Rattle.abt_workload.specs.Reading.{IsCause}
+use Rattle.abt_workload.specs.declared.reading.NotRead.{NotRead}
+use Rattle.abt_workload.specs.declared.reading.NotRead.TheVariants as cause
+use Rattle.abt_run.specs.Given.{IsNoJournalAt, IsTextOf}
+
+-- Prefixes. The first bytes of a file are all of it, if they are fewer than were asked for.
+whole : (most : ℕ) (front xs : Text) → front ≡ take (most + 1) xs → length front ≤ most → front ≡ xs
+whole most front xs e short =
+    let n : length front ≡ min (most + 1) (length xs) = ap length e ∙ length-take (most + 1) xs in
+    let fits : length xs ≤ most + 1 = omega arith in
+    e ∙ take_all (most + 1) xs fits
+
+-- what holds of them holds of the observable bytes of the file
+of-whole : (most : ℕ) (P : Text → Type 0) (told : Option Text) (front : Text) → IfSome told (λ xs. front ≡ take (most + 1) xs) → length front ≤ most → P front → IfSome told P
+of-whole most P None front e short h = tt
+of-whole most P (Some xs) front e short h = subst P (whole most front xs e short) h
+
+-- Workloads.
+
+-- a text of too many bytes is refused for its length
+too-long : (text : Text) → 4194304 < length text → fault_at text 0 ≡ Some fault.Limit
+too-long text long = rw (lt-ltb 4194304 (length text) long) refl
+
+-- what is read is short
+reads-short : (text : Text) (W : Parts) → Reads text W → length text ≤ 4194304
+reads-short text W reads = elim (cases_lt 4194304 (length text)) [ inl long ↦ long-read long | inr short ↦ short ] where
+  long-read : 4194304 < length text → length text ≤ 4194304
+  long-read long = let one : fault_at text 0 ≡ None = reads.faultless 0 in let other = too-long text long in cc
+
+-- a long text is refused for its length alone
+refused-long : (text : Text) (line : ℕ) (f : Fault) → Refuses text line f → 4194304 < length text → (line ≡ 0) × (f ≡ fault.Limit)
+refused-long text zero f refuses long = let one = refuses.first in let other = too-long text long in (refl, cc)
+refused-long text (suc line) f refuses long = let one = refuses.least 0 (omega arith) in let other = too-long text long in absurd cc
+
+-- the observable bytes of the file read as the prefix does
+pub told-reads : (told : Option Text) (front : Text) (W : Parts) → IfSome told (λ xs. front ≡ take 4194305 xs) → Reads front W → IfSome told (λ xs. Reads xs W)
+told-reads told front W e reads = of-whole 4194304 (λ text. Reads text W) told front e (reads-short front W reads) reads
+
+-- and are refused as the prefix is
+told-refuses : (told : Option Text) (front : Text) (line : ℕ) (f : Fault) → IfSome told (λ xs. front ≡ take 4194305 xs) → Refuses front line f → IfSome told (λ xs. Refuses xs line f)
+told-refuses None front line f e refuses = tt
+told-refuses (Some xs) front line f e refuses = elim (cases_lt 4194304 (length front)) [
+  | inl long ↦ refused-whole long
+  | inr short ↦ subst (λ text. Refuses text line f) (whole 4194304 front xs e short) refuses
+] where
+  refused-whole : 4194304 < length front → Refuses xs line f
+  refused-whole long =
+      let is = refused-long front line f refuses long in
+      let n : length front ≡ min 4194305 (length xs) = ap length e ∙ length-take 4194305 xs in
+      let all : Refuses xs 0 fault.Limit = record { least = λ above below. absurd (omega arith); first = too-long xs (omega arith) } in
+      subst (λ l. Refuses xs l f) (sym is.0) (subst (λ g. Refuses xs 0 g) (sym is.1) all)
+
+-- and by the cause that its reader states
+pub told-refused : (told : Option Text) (front : Text) (c : NotRead) (line l : ℕ) (f g : Fault) → IfSome told (λ xs. front ≡ take 4194305 xs) → c ≡ cause.Refused line f → l ≡ line → g ≡ f → IsCause front c → IfSome told (λ xs. Refuses xs l g)
+told-refused told front c line l f g e is same equal why =
+    subst (λ k. IfSome told (λ xs. Refuses xs k g)) (sym same)
+    (subst (λ h. IfSome told (λ xs. Refuses xs line h)) (sym equal) (told-refuses told front line f e (subst (IsCause front) is why)))
+
+-- Journals.
+
+-- a text of more bytes than were asked for is too long
+pub told-long : (told : Option Text) (front : Text) → IfSome told (λ xs. front ≡ take 1073741825 xs) → 1073741824 < length front → IfSome told (λ bytes. IsNoJournalAt bytes 0)
+told-long None front e long = tt
+told-long (Some xs) front e long =
+    let n : length front ≡ min 1073741825 (length xs) = ap length e ∙ length-take 1073741825 xs in
+    let more : 1073741824 < length xs = omega arith in
+    more
+
+-- a shorter one is the journal's that was read
+pub told-journal : (told : Option Text) (front : Text) (J : List Event) → IfSome told (λ xs. front ≡ take 1073741825 xs) → length front ≤ 1073741824 → All IsEvent J
+    → journal_text J ≡ front → IfSome told (IsTextOf J)
+told-journal told front J e short events text = of-whole 1073741824 (IsTextOf J) told front e short (record { events = events; text = text; short = short })
+
+-- or has the bad line
+pub told-bad : (told : Option Text) (front : Text) (c : NotJournal) (line l : ℕ) → IfSome told (λ xs. front ≡ take 1073741825 xs) → length front ≤ 1073741824 → c ≡ bad.Bad line → l ≡ line
+    → journals.IsCause front c → IfSome told (λ bytes. IsNoJournalAt bytes l)
+told-bad told front c line l e short is same why =
+    subst (λ k. IfSome told (λ bytes. IsNoJournalAt bytes k)) (sym same)
+    (of-whole 1073741824 (λ bytes. IsNoJournalAt bytes line) told front e short (at line (subst (journals.IsCause front) is why)))
+  where
+    no-line-zero : journals.IsBadAt front 0 → ⊥
+    no-line-zero h = let line : suc (length h.0) ≡ 0 = h.2.line in absurd (omega arith)
+
+    at : (k : ℕ) → journals.IsCause front (bad.Bad k) → IsNoJournalAt front k
+    at zero h = absurd (no-line-zero h.0)
+    at (suc k) h = (short, h.0, h.1)
+
+-- One text, one journal.
+
+numbers-written : (w : What) → HasShortNumbers w → AllByRecursion (λ n. n < 10 ^ 64) (what_numbers w)
+numbers-written (what.Miss p) h = (omega arith, tt)
+numbers-written (what.Take p u) h = let a = h.0 in let b = h.1 in (omega arith, (omega arith, tt))
+numbers-written (what.Look u) h = (omega arith, tt)
+numbers-written (what.Step u k c) h = let a = h.0 in let b = h.1 in (omega arith, (omega arith, tt))
+numbers-written (what.Put u p) h = let a = h.0 in let b = h.1 in (omega arith, (omega arith, tt))
+numbers-written (what.End u c) h = (omega arith, tt)
+numbers-written (what.Enter u) h = (omega arith, tt)
+numbers-written (what.Leave u) h = (omega arith, tt)
+
+event-written : (e : Event) → IsEvent e → IsWritten e
+event-written e is =
+    let stamp : e.stamp < 2 ^ 64 = is.stamp in
+    let stream : e.stream.0 < 2 ^ 32 = is.stream in
+    let one : e.stamp < 10 ^ 64 = omega arith in
+    let two : e.stream.0 < 10 ^ 64 = omega arith in
+    (one, (two, numbers-written e.what is.what))
+
+all-written : (J : List Event) → All IsEvent J → AllByRecursion IsWritten J
+all-written [] h = tt
+all-written (e ∷ es) h = (event-written e (All-head IsEvent e es h), all-written es (All-tail IsEvent e es h))
+
+pub one-journal : (bytes : Text) (J K : List Event) → IsTextOf J bytes → IsTextOf K bytes → J ≡ K
+one-journal bytes J K one two = journal-texts-differ J K (all-written J one.events) (all-written K two.events) (one.text ∙ sym two.text)

@@ -1,0 +1,14 @@
+use Rattle.std.proofs.Common.{refl, subst}
+use Rattle.abt_machine.specs.Valid.{IsValid}
+use Rattle.abt_run.proofs.FlowWords.{flow-says}
+use Rattle.abt_run.proofs.Preparing.{passed, stops-file}
+use Rattle.abt_run.proofs.following.prepare_flow.Goals as goal
+
+pub returns-in_err-w-clause-stop : goal.returns-in_err-w-clause-stop
+returns-in_err-w-clause-stop g c = λ words orders says.
+    passed c.from_residual.result c.in_err-w.field-0.0 _ c.from_residual.ensures.1 (stops-file c.in_err-w.field-0.0 _ _ _ _ says refl c.in_err-w.ensures.stop)
+
+pub outputs_text-requires : goal.outputs_text-requires
+outputs_text-requires g c =
+    let flow = rw c.in-Some.is at c.in_ok-flow.ensures in
+    record { words = rw c.items.ensures (flow-says c.in_ok-w.w (subst IsValid c.w.view_is c.w.invariant) c.in-Some.flow flow) }

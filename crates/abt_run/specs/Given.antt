@@ -1,0 +1,75 @@
+-- What a call of the program is given, and what its words ask for.
+use Rattle.std.specs.Prelude.{◌≡◌, ◌<◌, ◌≤◌, ℕ, zero, suc, List, Option, Some, None, IfSome, length}
+use Rattle.std.specs.List.{All}
+use Rattle.abt_machine.specs.declared.events.Event.{Event}
+use Rattle.abt_machine.specs.declared.operations.OrderShape.{OrderShape}
+use Rattle.abt_machine.specs.declared.workload.Parts.{Parts}
+use Rattle.abt_machine.specs.Grammar.{Reads}
+use Rattle.abt_machine.specs.Texts.{journal_text}
+use Rattle.abt_machine.specs.Words.{Text}
+use Rattle.abt_report.specs.Journals.{IsBadAt, IsEvent, IsNoJournal}
+use Rattle.abt_words.specs.declared.commands.Command.{Command}
+use Rattle.abt_words.specs.declared.commands.Command.TheVariants as command
+use Rattle.abt_words.specs.Commands.{Says}
+
+-- the words, the shapes of the stored orders, and the bytes of each file, if they are observable
+pub record Given : Type 0 where
+  pub words : List Text
+  pub orders : List OrderShape
+  pub file : Text → Option Text
+
+abbrev pub given : List Text → List OrderShape → (Text → Option Text) → Given
+given words orders file = record { words = words; orders = orders; file = file }
+
+-- no command is said by the words
+abbrev pub SaysNothing : List Text → Type 0
+SaysNothing words = (c : Command) → Says words c → ⊥
+
+-- Files.
+
+-- the file of the command's workload, if it names one
+abbrev pub workload_file : Command → Option Text
+workload_file (command.Run file steps journal) = Some file
+workload_file (command.SelfRun units) = None
+workload_file (command.Check workload journal) = Some workload
+workload_file (command.Flow file) = Some file
+
+-- the words name a file with a workload
+pub record NamesFile (words : List Text) : Type 0 where
+  pub command : Command
+  pub file : Text
+  pub says : Says words command
+  pub names : workload_file command ≡ Some file
+
+-- and this holds of its bytes, if they are observable
+pub record NamesSuch (g : Given) (Is : Text → Type 0) : Type 0 where
+  pub named : NamesFile g.words
+  pub is : IfSome (g.file named.file) Is
+
+-- the bytes of the file are observable, and this holds of them
+abbrev pub Tells : Given → Text → (Text → Type 0) → Type 0
+Tells g file Is = (bytes : Text) × (g.file file ≡ Some bytes) × Is bytes
+
+-- W is the workload of the file
+abbrev pub IsReadFrom : Given → Text → Parts → Type 0
+IsReadFrom g file W = IfSome (g.file file) (λ bytes. Reads bytes W)
+
+-- Journals as texts. A text of more than 1,073,741,824 bytes is none.
+
+pub record IsTextOf (J : List Event) (bytes : Text) : Type 0 where
+  pub events : All IsEvent J
+  pub text : journal_text J ≡ bytes
+  pub short : length bytes ≤ 1073741824
+
+-- the line that keeps the bytes from being a journal's text, counted from 1; 0 is their length
+abbrev pub IsNoJournalAt : Text → ℕ → Type 0
+IsNoJournalAt bytes zero = 1073741824 < length bytes
+IsNoJournalAt bytes (suc l) = (length bytes ≤ 1073741824) × IsBadAt bytes (suc l) × IsNoJournal bytes
+
+-- the words ask to compare a workload, which is W, with a journal, of whose bytes this holds, if they are observable
+pub record Compares (g : Given) (W : Parts) (Is : Text → Type 0) : Type 0 where
+  pub workload : Text
+  pub journal : Text
+  pub says : Says g.words (command.Check workload journal)
+  pub reads : IsReadFrom g workload W
+  pub is : IfSome (g.file journal) Is

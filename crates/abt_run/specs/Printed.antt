@@ -1,0 +1,125 @@
+-- What the command of a call prints, by what it came to.
+use Rattle.std.specs.Prelude.{◌≡◌, ◌<◌, ◌+◌, ◌^◌, ℕ, suc, ◌++◌, if◌then◌else◌, List, [], codes, decimal}
+use Rattle.abt_machine.specs.declared.events.Event.{Event}
+use Rattle.abt_machine.specs.declared.events.Outcome.{Outcome}
+use Rattle.abt_machine.specs.declared.events.Outcome.TheVariants as outcome
+use Rattle.abt_machine.specs.declared.events.Piece.{Piece}
+use Rattle.abt_machine.specs.declared.numbers.StreamNo.{StreamNo}
+use Rattle.abt_machine.specs.declared.workload.Parts.{Parts}
+use Rattle.abt_machine.specs.Outcomes.{steps_in}
+use Rattle.abt_machine.specs.Runs.{last_state}
+use Rattle.abt_machine.specs.State.{State}
+use Rattle.abt_machine.specs.Texts.{journal_text, report_text, short_text}
+use Rattle.abt_machine.specs.Words.{Text}
+use Rattle.abt_check.specs.declared.verdict.Verdict.{Verdict}
+use Rattle.abt_check.specs.declared.verdict.Verdict.TheVariants as verdict
+use Rattle.abt_check.specs.Verdicts.{IsJudged}
+use Rattle.abt_drain.specs.Runs.{HasRun}
+use Rattle.abt_flow.specs.Confluent.{Confluent}
+use Rattle.abt_flow.specs.Flow.{IsFlow}
+use Rattle.abt_generate.specs.Generated.{generated}
+use Rattle.abt_report.specs.Outputs.{outputs_text}
+use Rattle.abt_words.specs.declared.commands.Command.{Command}
+use Rattle.abt_words.specs.declared.commands.Command.TheVariants as command
+use Rattle.abt_words.specs.Commands.{Says}
+use Rattle.abt_run.specs.Given.{Compares, Given, IsReadFrom, IsTextOf}
+use Rattle.abt_run.specs.declared.status.Conclusion.{Conclusion}
+use Rattle.abt_run.specs.declared.status.Conclusion.TheVariants.{Finished, Stuck, Budget, Judged, Flows, NotConfluent, Undefined}
+
+-- Runs.
+
+-- how many steps a command lets each stream make
+abbrev pub steps_for : Command → ℕ
+steps_for (command.Run file steps journal) = steps
+steps_for (command.SelfRun units) = 10000
+steps_for (command.Check workload journal) = 0
+steps_for (command.Flow file) = 0
+
+-- the command runs W: it is read from its file, or made of the number of units
+abbrev pub IsFor : Command → Given → Parts → Type 0
+IsFor (command.Run file steps journal) g W = IsReadFrom g file W
+IsFor (command.SelfRun units) g W = W ≡ generated units
+IsFor (command.Check workload journal) g W = ⊥
+IsFor (command.Flow file) g W = ⊥
+
+-- what a command prints of a run of W, by its last state, its journal and its outcome: the journal if it is asked for and the report, or
+-- the short report
+abbrev pub output_text : Parts → State → List Event → Outcome → Command → Text
+output_text W S J o (command.Run file steps journal) = (if journal then journal_text J else []) ++ report_text W S (steps_in J) o
+output_text W S J o (command.SelfRun units) = short_text W S (steps_in J) o
+output_text W S J o (command.Check workload journal) = []
+output_text W S J o (command.Flow file) = []
+
+-- J is a run of the workload of the words' command, ended so, and the text is its output
+pub record Ran (g : Given) (J : List Event) (o : Outcome) (text : Text) : Type 0 where
+  pub command : Command
+  pub says : Says g.words command
+  pub workload : Parts
+  pub is : IsFor command g workload
+  pub run : HasRun workload g.orders (steps_for command) J o
+  pub output : text ≡ output_text workload (last_state workload J) J o command
+
+-- Verdicts.
+
+-- the number of the journal's events has 64 bits
+abbrev pub IsCounted : Verdict → Type 0
+IsCounted verdict.Run = Unit {0}
+IsCounted (verdict.Bad at) = at + 1 < 2 ^ 64
+
+abbrev pub verdict_text : Verdict → Text
+verdict_text verdict.Run = codes "run\n"
+verdict_text (verdict.Bad at) = codes "bad " ++ (decimal (suc at) ++ codes "\n")
+
+-- this is the verdict on the journal that the words name
+pub record HasVerdict (g : Given) (v : Verdict) : Type 0 where
+  pub workload : Parts
+  pub journal : List Event
+  pub compares : Compares g workload (IsTextOf journal)
+  pub judged : IsJudged workload g.orders journal v
+
+-- Flows.
+
+-- the words ask for the flow of W
+pub record AsksFlow (g : Given) (W : Parts) : Type 0 where
+  pub file : Text
+  pub says : Says g.words (command.Flow file)
+  pub reads : IsReadFrom g file W
+
+-- the text is that of the flow
+pub record HasFlow (g : Given) (text : Text) : Type 0 where
+  pub workload : Parts
+  pub asks : AsksFlow g workload
+  pub confluent : Confluent workload
+  pub rows : List (List Piece)
+  pub flow : IsFlow workload rows
+  pub output : text ≡ outputs_text workload rows
+
+pub record IsNotConfluent (g : Given) : Type 0 where
+  pub workload : Parts
+  pub asks : AsksFlow g workload
+  pub other : Confluent workload → ⊥
+
+-- the workload is confluent, and has no flow
+pub record HasNoFlow (g : Given) : Type 0 where
+  pub workload : Parts
+  pub asks : AsksFlow g workload
+  pub confluent : Confluent workload
+  pub none : (rows : List (List Piece)) → IsFlow workload rows → ⊥
+
+-- All commands.
+
+-- the command was carried out and came to this, J is the journal that the call answers, and the command prints the text
+abbrev pub Prints : Given → Conclusion → List Event → Text → Type 0
+Prints g Finished J text = Ran g J outcome.Finished text
+Prints g Stuck J text = Ran g J outcome.Stuck text
+Prints g Budget J text = (s : StreamNo) × Ran g J (outcome.Budget s) text
+Prints g (Judged v) J text = HasVerdict g v × (text ≡ verdict_text v) × (J ≡ [])
+Prints g Flows J text = HasFlow g text × (J ≡ [])
+Prints g NotConfluent J text = IsNotConfluent g × (text ≡ codes "not confluent\n") × (J ≡ [])
+Prints g Undefined J text = HasNoFlow g × (text ≡ codes "undefined\n") × (J ≡ [])
+
+-- what a run that ended so came to
+abbrev pub conclusion_of : Outcome → Conclusion
+conclusion_of outcome.Finished = Finished
+conclusion_of outcome.Stuck = Stuck
+conclusion_of (outcome.Budget s) = Budget

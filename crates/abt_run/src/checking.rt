@@ -1,0 +1,66 @@
+//! The command `check`.
+
+ghost use Rattle.std.specs.Prelude.{◌≡◌, ◌<◌, ◌≤◌, ◌+◌, ◌^◌, IfErr, IfOk, List, length};
+ghost use Rattle.abt_machine.specs.Words.{Text};
+ghost use Rattle.abt_order.specs.Stored.{shapes_of};
+ghost use Rattle.abt_words.specs.Commands.{Says};
+ghost use Rattle.abt_words.specs.declared.commands.Command.TheVariants as command;
+ghost use Rattle.abt_check.specs.declared.verdict.Verdict.TheVariants as verdict;
+ghost use Rattle.abt_run.specs.Given.{given};
+ghost use Rattle.abt_run.specs.Prepared.{Stops};
+ghost use Rattle.abt_run.specs.Printed.{IsCounted, Prints, verdict_text};
+
+use crate::fetching::{fetch, fetch_journal};
+use crate::prepared::{Prepared, without_journal};
+use crate::status::{Conclusion, Stop};
+use abt_check::{Verdict, check};
+use abt_machine::Want;
+use abt_order::StoredOrder;
+use abt_source::Files;
+use itoa::Buffer;
+use std::alloc::Global;
+
+/// The verdict on a file's journal as a run of another file's workload. The workload is read first.
+pub(crate) fn prepare_check<F: Files>(
+    alloc: Global,
+    workload: &str,
+    journal: &str,
+    files: &mut F,
+    orders: &[StoredOrder],
+) -> Result<Prepared, Stop>
+    requires orders { 2 ≤ length orders.now }
+    ensures done { (words : List Text) → Says words (command.Check workload.now journal.now)
+        → IfOk result (λ p. Prints (given words (shapes_of orders.now) (λ name. F.file files.old name)) p.conclusion p.journal p.text.items) }
+    ensures stop { (words : List Text) → Says words (command.Check workload.now journal.now)
+        → IfErr result (Stops (given words (shapes_of orders.now) (λ name. F.file files.old name)) (F.faults files.old, F.faults files.new)) }
+    ensures later { F.faults files.old ≤ F.faults files.new }
+{
+    let w = fetch(alloc, workload, files)?;
+    let journal = fetch_journal(alloc, journal, files)?;
+    let verdict = check(alloc, &w, orders, &journal)?;
+    let text = text_of(alloc, verdict)?;
+    Ok(without_journal(alloc, text, Conclusion::Judged(verdict)))
+}
+
+// What is printed of a verdict.
+fn text_of(alloc: Global, verdict: Verdict) -> Result<Vec<u8>, Want>
+    requires { IsCounted verdict }
+    ensures { IfOk result (λ text. text.items ≡ verdict_text verdict) }
+{
+    match verdict {
+        Verdict::Run => Ok(Vec::from_slice(alloc, b"run\n")?),
+        Verdict::Bad { at } => bad_line(alloc, at),
+    }
+}
+
+// What is printed of a journal whose first events alone, so many of them, are a run.
+fn bad_line(alloc: Global, at: u64) -> Result<Vec<u8>, Want>
+    requires { at + 1 < 2 ^ 64 }
+    ensures { IfOk result (λ text. text.items ≡ verdict_text (verdict.Bad at)) }
+{
+    let mut text = Vec::from_slice(alloc, b"bad ")?;
+    let mut buffer = Buffer::new();
+    text.extend_from_slice(buffer.format(at + 1).as_bytes())?;
+    text.extend_from_slice(b"\n")?;
+    Ok(text)
+}

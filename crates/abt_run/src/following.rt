@@ -1,0 +1,47 @@
+//! The command `flow`.
+
+ghost use Rattle.std.specs.Prelude.{◌≡◌, ◌≤◌, IfErr, IfOk, List};
+ghost use Rattle.abt_machine.specs.Words.{Text};
+ghost use Rattle.abt_machine.specs.declared.operations.OrderShape.{OrderShape};
+ghost use Rattle.abt_words.specs.Commands.{Says};
+ghost use Rattle.abt_words.specs.declared.commands.Command.TheVariants as command;
+ghost use Rattle.abt_run.specs.Given.{given};
+ghost use Rattle.abt_run.specs.Prepared.{Stops};
+ghost use Rattle.abt_run.specs.Printed.{Prints};
+
+use crate::fetching::fetch;
+use crate::prepared::{Prepared, without_journal};
+use crate::status::{Conclusion, Stop};
+use abt_flow::{confluent, find_flow};
+use abt_report::outputs_text;
+use abt_source::Files;
+use std::alloc::Global;
+
+/// What each unit of a file's workload prints, if that does not depend on the schedule.
+pub(crate) fn prepare_flow<F: Files>(
+    alloc: Global,
+    file: &str,
+    files: &mut F,
+) -> Result<Prepared, Stop>
+    ensures done { (words : List Text) (orders : List OrderShape) → Says words (command.Flow file.now)
+        → IfOk result (λ p. Prints (given words orders (λ name. F.file files.old name)) p.conclusion p.journal p.text.items) }
+    ensures stop { (words : List Text) (orders : List OrderShape) → Says words (command.Flow file.now)
+        → IfErr result (Stops (given words orders (λ name. F.file files.old name)) (F.faults files.old, F.faults files.new)) }
+    ensures later { F.faults files.old ≤ F.faults files.new }
+{
+    let w = fetch(alloc, file, files)?;
+    if !confluent(alloc, &w)? {
+        let text = Vec::from_slice(alloc, b"not confluent\n")?;
+        return Ok(without_journal(alloc, text, Conclusion::NotConfluent));
+    }
+    match find_flow(alloc, &w)? {
+        Some(flow) => {
+            let text = outputs_text(alloc, &w, flow.items())?;
+            Ok(without_journal(alloc, text, Conclusion::Flows))
+        }
+        None => {
+            let text = Vec::from_slice(alloc, b"undefined\n")?;
+            Ok(without_journal(alloc, text, Conclusion::Undefined))
+        }
+    }
+}

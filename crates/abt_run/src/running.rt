@@ -1,0 +1,153 @@
+//! The commands `run` and `self`.
+
+ghost use Rattle.std.specs.Prelude.{◌≡◌, ◌≤◌, ◌<◌, ◌++◌, ℕ, List, All, IfErr, IfOk, [], if◌then◌else◌, length};
+ghost use Rattle.abt_machine.specs.Outcomes.{is_step, steps_in};
+ghost use Rattle.abt_machine.specs.Runs.{last_state};
+ghost use Rattle.abt_machine.specs.Texts.{journal_text as text_of_journal, shown_units};
+ghost use Rattle.abt_machine.specs.Words.{Text};
+ghost use Rattle.abt_order.specs.Stored.{shapes_of};
+ghost use Rattle.abt_report.specs.Pictures.{SaysWordsOf, units_of};
+ghost use Rattle.abt_words.specs.Commands.{Says};
+ghost use Rattle.abt_words.specs.declared.commands.Command.TheVariants as command;
+ghost use Rattle.std.specs.Prelude.{Option};
+ghost use Rattle.abt_run.specs.Given.{given};
+ghost use Rattle.abt_run.specs.Prepared.{Stops};
+ghost use Rattle.abt_run.specs.Printed.{Prints, conclusion_of, output_text};
+ghost use Rattle.abt_run.specs.declared.status.Stop.TheVariants as why;
+
+use crate::fetching::fetch;
+use crate::prepared::Prepared;
+use crate::status::{Conclusion, Stop};
+use abt_drain::Run;
+use abt_generate::generate;
+use abt_machine::{Event, Journal, Outcome, Want, What, Workload};
+use abt_order::StoredOrder;
+use abt_report::{append_report, journal_text, short_report};
+use abt_source::Files;
+use abt_stream::Pace;
+use abt_waves::run_streams;
+use std::alloc::Global;
+use std::sync::Wait;
+use std::thread::Threads;
+
+// The steps that each stream of a workload made of a number may make.
+const SELF_STEPS: u64 = 10_000;
+
+/// The run of a file's workload, and what it prints.
+pub(crate) fn prepare_file<R: Threads + Wait + Sync, F: Files, P: Pace + Sync>(
+    rt: &R,
+    alloc: Global,
+    file: &str,
+    steps: u64,
+    with_journal: bool,
+    files: &mut F,
+    pace: &P,
+    orders: &[StoredOrder],
+) -> Result<Prepared, Stop>
+    requires orders { 2 ≤ length orders.now }
+    ensures done { (words : List Text) → Says words (command.Run file.now steps with_journal)
+        → IfOk result (λ p. Prints (given words (shapes_of orders.now) (λ name. F.file files.old name)) p.conclusion p.journal p.text.items) }
+    ensures stop { (words : List Text) → Says words (command.Run file.now steps with_journal)
+        → IfErr result (Stops (given words (shapes_of orders.now) (λ name. F.file files.old name)) (F.faults files.old, F.faults files.new)) }
+    ensures later { F.faults files.old ≤ F.faults files.new }
+{
+    let w = fetch(alloc, file, files)?;
+    let ran = run_streams(alloc, rt, &w, orders, pace, steps)?;
+    let text = output(alloc, &w, &ran, with_journal)?;
+    Ok(ended(ran, text))
+}
+
+/// The run of the workload that is made of so many units, and what it prints.
+pub(crate) fn prepare_self<R: Threads + Wait + Sync, P: Pace + Sync>(
+    rt: &R,
+    alloc: Global,
+    units: u32,
+    pace: &P,
+    orders: &[StoredOrder],
+) -> Result<Prepared, Stop>
+    requires orders { 2 ≤ length orders.now }
+    requires units { (0 < units) × (units ≤ 126) }
+    ensures done { (words : List Text) (file_of : Text → Option Text) → Says words (command.SelfRun units)
+        → IfOk result (λ p. Prints (given words (shapes_of orders.now) file_of) p.conclusion p.journal p.text.items) }
+    ensures stop { IfErr result (λ stop. stop ≡ why.OutOfMemory) }
+{
+    let w = generate(alloc, units)?;
+    let ran = run_streams(alloc, rt, &w, orders, pace, SELF_STEPS)?;
+    let text = short_output(alloc, &w, &ran)?;
+    Ok(ended(ran, text))
+}
+
+// What a run came to, with what it prints.
+fn ended(run: Run, text: Vec<u8>) -> Prepared
+    ensures journal { result.journal ≡ run.journal }
+    ensures conclusion { result.conclusion ≡ conclusion_of run.outcome }
+    ensures text { result.text.items ≡ text.items }
+{
+    let Run {
+        journal,
+        picture: _,
+        outcome,
+    } = run;
+    Prepared {
+        journal,
+        text,
+        conclusion: conclusion_by(outcome),
+    }
+}
+
+fn conclusion_by(outcome: Outcome) -> Conclusion
+    ensures { result ≡ conclusion_of outcome }
+{
+    match outcome {
+        Outcome::Finished => Conclusion::Finished,
+        Outcome::Stuck => Conclusion::Stuck,
+        Outcome::Budget(_) => Conclusion::Budget,
+    }
+}
+
+// The text of the journal, if it is asked for.
+fn asked_journal(alloc: Global, journal: &Journal, with_journal: bool) -> Result<Vec<u8>, Want>
+    ensures { IfOk result (λ text. text.items ≡ (if with_journal then text_of_journal journal.now else [])) }
+{
+    if with_journal {
+        journal_text(alloc, journal)
+    } else {
+        Ok(Vec::new(alloc))
+    }
+}
+
+// The output of a run: its journal, if it is asked for, and its report.
+fn output(alloc: Global, w: &Workload, run: &Run, with_journal: bool) -> Result<Vec<u8>, Want>
+    requires shown { shown_units w.now (last_state w.now run.now.journal) ≡ units_of run.now.picture }
+    requires words { All (SaysWordsOf w.now) run.now.picture }
+    ensures { (file : Text) (steps : ℕ) → IfOk result (λ text. text.items ≡ output_text w.now (last_state w.now run.now.journal) run.now.journal run.now.outcome (command.Run file steps with_journal)) }
+{
+    let mut text = asked_journal(alloc, &run.journal, with_journal)?;
+    let steps = count_steps(run.journal.items());
+    append_report(&mut text, w, &run.picture, run.outcome, steps)?;
+    Ok(text)
+}
+
+// The output of the run of a workload that is made of a number: its short report.
+fn short_output(alloc: Global, w: &Workload, run: &Run) -> Result<Vec<u8>, Want>
+    requires shown { shown_units w.now (last_state w.now run.now.journal) ≡ units_of run.now.picture }
+    requires words { All (SaysWordsOf w.now) run.now.picture }
+    requires unit { 0 < length w.now.units }
+    ensures { (units : ℕ) → IfOk result (λ text. text.items ≡ output_text w.now (last_state w.now run.now.journal) run.now.journal run.now.outcome (command.SelfRun units)) }
+{
+    let steps = count_steps(run.journal.items());
+    short_report(alloc, w, &run.picture, run.outcome, steps)
+}
+
+/// How many events are steps.
+pub fn count_steps(journal: &[Event]) -> u64
+    ensures { result ≡ steps_in journal.now }
+{
+    journal.iter().filter(|event| is_step(event.what)).count() as u64
+}
+
+fn is_step(what: What) -> bool
+    ensures { result ≡ is_step what }
+{
+    matches!(what, What::Step(_, _, _))
+}

@@ -1,0 +1,27 @@
+//! The commands of the program.
+
+use abt_machine::Text;
+
+/// What the words after the program's name ask for.
+#[derive(Drop)]
+pub enum Command {
+    /// Runs the workload in a file, each stream making so many steps at most; whether the journal is printed.
+    Run {
+        file: Text,
+        steps: u64,
+        journal: bool,
+    },
+    /// Runs the workload that is generated of so many units.
+    SelfRun {
+        units: u32,
+    },
+    /// Whether the journal in a file is a run of the workload in another.
+    Check {
+        workload: Text,
+        journal: Text,
+    },
+    /// What each unit of the workload in a file prints, whatever the schedule.
+    Flow {
+        file: Text,
+    },
+}
