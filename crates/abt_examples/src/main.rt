@@ -3,11 +3,19 @@
 
 ghost use Rattle.std.specs.Prelude.{◌≤◌, length};
 
+#[cfg(test)]
+mod calls;
+#[cfg(test)]
+mod checks;
+#[cfg(test)]
+mod hostile;
 mod orders;
 #[cfg(test)]
 mod rows;
 #[cfg(test)]
 mod tests;
+#[cfg(test)]
+mod wide;
 
 use crate::orders::{turn, turn_round};
 use abt_machine::OrderShape;

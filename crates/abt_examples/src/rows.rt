@@ -11,12 +11,12 @@ pub(crate) struct Row {
     pub(crate) status: u8,
     pub(crate) out: &'static str,
     pub(crate) err: &'static str,
-    /// The text of the answered journal, where it is worked.
+    /// The text of the answered journal, if the row states it.
     pub(crate) journal: Option<&'static str>,
 }
 
 // No write fails.
-const NEVER: u64 = 1000;
+const NEVER: u64 = 1_000_000;
 
 // The heads of texts.
 const ONE_POOL: &str = "abt 1\nstreams 1\npool 0 fifo mpmc\nsched 0 prio 0\nstream 0 main 0\n";
@@ -30,7 +30,7 @@ const STACKED: &str =
 const TWO_STREAMS: &str =
     "abt 1\nstreams 2\npool 0 fifo priv of 0\npool 1 fifo priv of 1\npool 2 fifo spsc from 0 to 1\nsched 0 prio 0\nsched 1 prio 1 2\nstream 0 main 0\nstream 1 main 1\n";
 
-static UNITS: [Row; 8] = [
+static UNITS: [Row; 11] = [
     // empty
     Row {
         words: &["run", "f"],
@@ -125,6 +125,39 @@ static UNITS: [Row; 8] = [
         err: "",
         journal: None,
     },
+    // a comment of 41 words
+    Row {
+        words: &["run", "f"],
+        head: ONE_POOL,
+        lines: b"# a a a a a a a a a a a a a a a a a a a a a a a a a a a a a a a a a a a a a a a a a\nunits 1\nunit 0 ult at 0\nsay hi\nend\n",
+        failing: NEVER,
+        status: 0,
+        out: "unit 0 done: hi\ntally units 1 unborn 0 pool 0 stream 0 blocked 0 done 1 asked 0 access 0 steps 1\nfinished\n",
+        err: "",
+        journal: None,
+    },
+    // a numeral of 31 digits
+    Row {
+        words: &["run", "f"],
+        head: ONE_POOL,
+        lines: b"units 1\nunit 0 ult at 0\nset 0000000000000000000000000000007\nprint\nend\n",
+        failing: NEVER,
+        status: 0,
+        out: "unit 0 done: 7\ntally units 1 unborn 0 pool 0 stream 0 blocked 0 done 1 asked 0 access 0 steps 2\nfinished\n",
+        err: "",
+        journal: None,
+    },
+    // joins unit 0
+    Row {
+        words: &["run", "f"],
+        head: ONE_POOL,
+        lines: b"units 2\nunit 0 ult at 0\nsuspend\nunit 1 ult at 0\njoin 0\nend\n",
+        failing: NEVER,
+        status: 1,
+        out: "unit 0 suspended:\nunit 1 join 0:\ntally units 2 unborn 0 pool 0 stream 0 blocked 2 done 0 asked 0 access 0 steps 2\nstuck\n",
+        err: "",
+        journal: None,
+    },
 ];
 
 /// Units that run, yield, join and end.
@@ -132,7 +165,7 @@ pub(crate) fn units() -> &'static [Row] {
     &UNITS
 }
 
-static SCHEDULERS: [Row; 7] = [
+static SCHEDULERS: [Row; 9] = [
     // prio
     Row {
         words: &["run", "f"],
@@ -222,6 +255,32 @@ static SCHEDULERS: [Row; 7] = [
             "1 0 miss 1\n2 0 take 0 0\n3 0 look 0\n4 0 end 0 done\n5 0 miss 1\n6 0 take 0 1\n7 0 look 1\n8 0 end 1 done\n9 0 miss 1\n10 0 miss 0\n",
         ),
     },
+    // five pools
+    Row {
+        words: &["run", "f"],
+        head: "",
+        lines: b"abt 1\nstreams 1\npool 0 fifo mpmc\npool 1 fifo mpmc\npool 2 fifo mpmc\npool 3 fifo mpmc\npool 4 fifo mpmc\nsched 0 prio 0 1 2 3 4\nstream 0 main 0\nunits 1\nunit 0 ult at 4\nsay hi\nend\n",
+        failing: NEVER,
+        status: 0,
+        out: "unit 0 done: hi\ntally units 1 unborn 0 pool 0 stream 0 blocked 0 done 1 asked 0 access 0 steps 1\nfinished\n",
+        err: "",
+        journal: Some(
+            "1 0 miss 0\n2 0 miss 1\n3 0 miss 2\n4 0 miss 3\n5 0 take 4 0\n6 0 look 0\n7 0 step 0 0 ok\n8 0 end 0 done\n9 0 miss 0\n10 0 miss 1\n11 0 miss 2\n12 0 miss 3\n13 0 miss 4\n",
+        ),
+    },
+    // a deque of number 9
+    Row {
+        words: &["run", "f"],
+        head: "",
+        lines: b"abt 1\nstreams 1\npool 0 deque mpmc\npool 1 deque mpmc\npool 2 deque mpmc\npool 3 deque mpmc\npool 4 deque mpmc\npool 5 deque mpmc\npool 6 deque mpmc\npool 7 deque mpmc\npool 8 deque mpmc\npool 9 deque mpmc\nsched 0 prio 9\nstream 0 main 0\nunits 2\nunit 0 ult at 9\nsay last\nunit 1 ult at 9\nsay first\nend\n",
+        failing: NEVER,
+        status: 0,
+        out: "unit 0 done: last\nunit 1 done: first\ntally units 2 unborn 0 pool 0 stream 0 blocked 0 done 2 asked 0 access 0 steps 2\nfinished\n",
+        err: "",
+        journal: Some(
+            "1 0 take 9 1\n2 0 look 1\n3 0 step 1 0 ok\n4 0 end 1 done\n5 0 take 9 0\n6 0 look 0\n7 0 step 0 0 ok\n8 0 end 0 done\n9 0 miss 9\n",
+        ),
+    },
 ];
 
 /// Orders of pools, and schedulers that are units.
@@ -229,7 +288,7 @@ pub(crate) fn schedulers() -> &'static [Row] {
     &SCHEDULERS
 }
 
-static REQUESTS: [Row; 7] = [
+static REQUESTS: [Row; 9] = [
     // cancel suspended
     Row {
         words: &["run", "f"],
@@ -300,6 +359,19 @@ static REQUESTS: [Row; 7] = [
         err: "",
         journal: None,
     },
+    // budget of one step
+    Row {
+        words: &["run", "f", "--steps", "1"],
+        head: ONE_POOL,
+        lines: b"units 2\nunit 0 ult at 0\nrevive 1 0\nunit 1 ult at 0\nrevive 0 0\nend\n",
+        failing: NEVER,
+        status: 4,
+        out: "unit 0 done: !unit-state\nunit 1 stream 0:\ntally units 2 unborn 0 pool 0 stream 1 blocked 0 done 1 asked 0 access 0 steps 1\nbudget 0\n",
+        err: "",
+        journal: Some(
+            "1 0 take 0 0\n2 0 look 0\n3 0 step 0 0 unit-state\n4 0 end 0 done\n5 0 take 0 1\n6 0 look 1\n",
+        ),
+    },
     // exists
     Row {
         words: &["run", "f"],
@@ -308,6 +380,17 @@ static REQUESTS: [Row; 7] = [
         failing: NEVER,
         status: 0,
         out: "unit 0 done: !exists !not-migratable\nunit 1 done:\ntally units 2 unborn 0 pool 0 stream 0 blocked 0 done 2 asked 0 access 0 steps 3\nfinished\n",
+        err: "",
+        journal: None,
+    },
+    // budget of 31 digits
+    Row {
+        words: &["run", "f", "--steps", "0000000000000000000000000000050"],
+        head: ONE_POOL,
+        lines: b"units 2\nunit 0 ult at 0\nrevive 1 0\nunit 1 ult at 0\nrevive 0 0\nend\n",
+        failing: NEVER,
+        status: 4,
+        out: "unit 0 stream 0: !unit-state\nunit 1 done:\ntally units 2 unborn 0 pool 0 stream 1 blocked 0 done 1 asked 0 access 0 steps 50\nbudget 0\n",
         err: "",
         journal: None,
     },
@@ -392,7 +475,7 @@ pub(crate) fn objects() -> &'static [Row] {
     &OBJECTS
 }
 
-static STREAMS: [Row; 6] = [
+static STREAMS: [Row; 7] = [
     // foreign create
     Row {
         words: &["run", "f"],
@@ -459,6 +542,17 @@ static STREAMS: [Row; 6] = [
         err: "",
         journal: None,
     },
+    // self of 31 digits
+    Row {
+        words: &["self", "0000000000000000000000000000003"],
+        head: "",
+        lines: b"",
+        failing: NEVER,
+        status: 0,
+        out: "unit 0 done: 6\ntally units 4 unborn 0 pool 0 stream 0 blocked 0 done 4 asked 0 access 0 steps 28\nfinished\n",
+        err: "",
+        journal: None,
+    },
 ];
 
 /// Several streams.
@@ -466,7 +560,80 @@ pub(crate) fn streams() -> &'static [Row] {
     &STREAMS
 }
 
-static REFUSALS: [Row; 15] = [
+static FLOWS: [Row; 6] = [
+    // by an eventual
+    Row {
+        words: &["flow", "f"],
+        head: ONE_POOL,
+        lines: b"object 0 eventual\nunits 2\nunit 0 ult at 0\newait 0\nprint\nunit 1 ult at 0\nset 4\nadd 1\neset 0\nsay x\nend\n",
+        failing: NEVER,
+        status: 0,
+        out: "unit 0: 5\nunit 1: x\n",
+        err: "",
+        journal: Some(""),
+    },
+    // its run
+    Row {
+        words: &["run", "f"],
+        head: ONE_POOL,
+        lines: b"object 0 eventual\nunits 2\nunit 0 ult at 0\newait 0\nprint\nunit 1 ult at 0\nset 4\nadd 1\neset 0\nsay x\nend\n",
+        failing: NEVER,
+        status: 0,
+        out: "unit 0 done: 5\nunit 1 done: x\ntally units 2 unborn 0 pool 0 stream 0 blocked 0 done 2 asked 0 access 0 steps 6\nfinished\n",
+        err: "",
+        journal: None,
+    },
+    // undefined
+    Row {
+        words: &["flow", "f"],
+        head: ONE_POOL,
+        lines: b"object 0 eventual\nunits 1\nunit 0 ult at 0\newait 0\neset 0\nend\n",
+        failing: NEVER,
+        status: 1,
+        out: "undefined\n",
+        err: "",
+        journal: Some(""),
+    },
+    // its run
+    Row {
+        words: &["run", "f"],
+        head: ONE_POOL,
+        lines: b"object 0 eventual\nunits 1\nunit 0 ult at 0\newait 0\neset 0\nend\n",
+        failing: NEVER,
+        status: 1,
+        out: "unit 0 object 0:\ntally units 1 unborn 0 pool 0 stream 0 blocked 1 done 0 asked 0 access 0 steps 1\nstuck\n",
+        err: "",
+        journal: None,
+    },
+    // not confluent
+    Row {
+        words: &["flow", "f"],
+        head: ONE_POOL,
+        lines: b"object 0 mutex\nunits 2\nunit 0 ult at 0\nlock 0\nyield\nunlock 0\nunit 1 ult at 0\ntrylock 0\nunlock 0\nend\n",
+        failing: NEVER,
+        status: 1,
+        out: "not confluent\n",
+        err: "",
+        journal: Some(""),
+    },
+    // refused
+    Row {
+        words: &["flow", "f"],
+        head: ONE_POOL,
+        lines: b"units 1\nend\n",
+        failing: NEVER,
+        status: 3,
+        out: "",
+        err: "abtrun: line 7: missing\n",
+        journal: Some(""),
+    },
+];
+
+pub(crate) fn flows() -> &'static [Row] {
+    &FLOWS
+}
+
+static REFUSALS: [Row; 20] = [
     // task yields
     Row {
         words: &["run", "f"],
@@ -630,6 +797,61 @@ static REFUSALS: [Row; 15] = [
         status: 3,
         out: "",
         err: "abtrun: line 2: limit\n",
+        journal: Some(""),
+    },
+    // ten pools
+    Row {
+        words: &["run", "f"],
+        head: "",
+        lines: b"abt 1\nstreams 1\npool 0 deque mpmc\npool 1 deque mpmc\npool 2 deque mpmc\npool 3 deque mpmc\npool 4 deque mpmc\npool 5 deque mpmc\npool 6 deque mpmc\npool 7 deque mpmc\npool 8 deque mpmc\npool 9 deque mpmc\nsched 0 prio 0 1 2 3 4 5 6 7 8 9\nstream 0 main 0\nunits 0\nend\n",
+        failing: NEVER,
+        status: 3,
+        out: "",
+        err: "abtrun: line 13: limit\n",
+        journal: Some(""),
+    },
+    // a great numeral of 31 digits
+    Row {
+        words: &["run", "f"],
+        head: ONE_POOL,
+        lines: b"units 1\nunit 0 ult at 0\nset 1000000000000000000000000000000\nend\n",
+        failing: NEVER,
+        status: 3,
+        out: "",
+        err: "abtrun: line 8: number\n",
+        journal: Some(""),
+    },
+    // a word of 65 bytes
+    Row {
+        words: &["run", "f"],
+        head: ONE_POOL,
+        lines: b"units 1\nunit 0 ult at 0\nsay wwwwwwwwwwwwwwwwwwwwwwwwwwwwwwwwwwwwwwwwwwwwwwwwwwwwwwwwwwwwwwwww\nend\n",
+        failing: NEVER,
+        status: 3,
+        out: "",
+        err: "abtrun: line 8: limit\n",
+        journal: Some(""),
+    },
+    // bad words of 31 digits
+    Row {
+        words: &["run", "f", "--steps", "1000000000000000000000000000000"],
+        head: "",
+        lines: b"",
+        failing: NEVER,
+        status: 2,
+        out: "",
+        err: "abtrun: bad command line\n",
+        journal: Some(""),
+    },
+    // bad words of 31 digits
+    Row {
+        words: &["self", "1000000000000000000000000000000"],
+        head: "",
+        lines: b"",
+        failing: NEVER,
+        status: 2,
+        out: "",
+        err: "abtrun: bad command line\n",
         journal: Some(""),
     },
 ];

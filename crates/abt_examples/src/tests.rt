@@ -2,14 +2,11 @@
 
 ghost use Rattle.std.specs.Prelude.{◌≤◌, length};
 
+use crate::calls::{Failing, call};
 use crate::orders::{turn, turn_round};
-use crate::rows::{Row, TOO_LONG, objects, refusals, requests, schedulers, streams, units};
+use crate::rows::{Row, TOO_LONG, flows, objects, refusals, requests, schedulers, streams, units};
 use abt_machine::OrderShape;
 use abt_order::StoredOrder;
-use abt_report::journal_text;
-use abt_run::abtrun;
-use abt_source::{MemoryFiles, MemorySink, NamedBytes};
-use abt_stream::NoPace;
 use std::alloc::Global;
 use std::process::Abort;
 use std::sync::Wait;
@@ -19,20 +16,8 @@ use std::thread::Threads;
 // One byte more than a text may have.
 const TOO_LONG_LENGTH: usize = 4_194_305;
 
-// More bytes than any output has.
-const ROOM: usize = 10_000;
-
 // How many times each row of several streams is called.
 const TIMES: u32 = 10;
-
-// The words of a row.
-fn words_of(alloc: Global, row: &Row) -> Result<Vec<String>, Fail> {
-    let mut words = Vec::new(alloc);
-    for word in row.words {
-        words.push(String::from_str(alloc, word)?)?;
-    }
-    Ok(words)
-}
 
 // The text of a row.
 fn text_of(alloc: Global, row: &Row) -> Result<Vec<u8>, Fail> {
@@ -47,27 +32,28 @@ fn check<R: Threads + Wait + Sync + Abort>(
     alloc: Global,
     orders: &[StoredOrder],
     row: &Row,
-    text: Vec<u8>,
+    text: &[u8],
 ) -> Result<(), Fail>
     requires { 2 ≤ length orders.now }
 {
-    let words = words_of(alloc, row)?;
-    let file = NamedBytes {
-        name: String::from_str(alloc, "f")?,
-        bytes: text,
-    };
-    let mut files = MemoryFiles::new(vec![in alloc; file]?, Vec::new(alloc));
-    let mut out = MemorySink::new(alloc, ROOM, 10, vec![in alloc; row.failing]?)?;
-    let mut err = MemorySink::new(alloc, ROOM, ROOM, Vec::new(alloc))?;
-    let ended = abtrun(
-        rt, alloc, &words, &mut files, &mut out, &mut err, &NoPace, orders,
-    );
-    assert!(rt; ended.status == row.status, "{}", row.out);
-    assert!(rt; out.bytes() == row.out.as_bytes(), "{}", row.out);
-    assert!(rt; err.bytes() == row.err.as_bytes(), "{}", row.err);
+    let left = call(
+        rt,
+        alloc,
+        orders,
+        row.words,
+        text,
+        10,
+        Failing::out(row.failing),
+    )?;
+    assert!(rt; left.status == row.status, "{}", row.out);
+    assert!(rt; left.out.as_slice() == row.out.as_bytes(), "{}", row.out);
+    assert!(rt; left.err.as_slice() == row.err.as_bytes(), "{}", row.err);
     if let Some(journal) = row.journal {
-        let text = journal_text(alloc, &ended.journal)?;
-        assert!(rt; text.as_slice() == journal.as_bytes(), "{}", journal);
+        assert!(rt;
+            left.journal.as_slice() == journal.as_bytes(),
+            "{}",
+            journal
+        );
     }
     Ok(())
 }
@@ -82,7 +68,7 @@ fn check_all<R: Threads + Wait + Sync + Abort>(
     requires { 2 ≤ length orders.now }
 {
     for row in rows {
-        check(rt, alloc, orders, row, text_of(alloc, row)?)?;
+        check(rt, alloc, orders, row, &text_of(alloc, row)?)?;
     }
     Ok(())
 }
@@ -101,7 +87,8 @@ fn calls_leave_what_their_rows_say(rt: HostRuntime) -> Result<(), Fail> {
     for _ in 0..TIMES {
         check_all(&rt, alloc, &orders, streams())?;
     }
+    check_all(&rt, alloc, &orders, flows())?;
     check_all(&rt, alloc, &orders, refusals())?;
     let long = vec![in alloc; b'#'; TOO_LONG_LENGTH]?;
-    check(&rt, alloc, &orders, &TOO_LONG, long)
+    check(&rt, alloc, &orders, &TOO_LONG, &long)
 }

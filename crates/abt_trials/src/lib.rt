@@ -1,12 +1,22 @@
-//! Trials of rounds, of turns, of reports and of runs, on workloads that are read from texts.
+//! Trials of rounds, of turns, of texts, of reports, of runs and of booths.
 #![tactic(auto)]
 
 #[cfg(test)]
+mod booths;
+#[cfg(test)]
 mod drains;
+#[cfg(test)]
+mod flows;
+#[cfg(test)]
+mod lives;
+#[cfg(test)]
+mod lives_calls;
 #[cfg(test)]
 mod reports;
 #[cfg(test)]
 mod rounds;
+#[cfg(test)]
+mod texts;
 #[cfg(test)]
 mod turns;
 #[cfg(test)]

@@ -56,7 +56,7 @@ const OUTPUT: [Piece; 12] = [
     Piece::Refused(Code::FutureFull),
 ];
 
-// Where the units after unit 0 are.
+// The places of the units after unit 0.
 const PLACES: [Shown; 9] = [
     Shown::Unborn,
     Shown::Pool(PoolNo(1)),

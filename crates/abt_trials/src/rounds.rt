@@ -1,4 +1,4 @@
-//! Rounds of one scheduler over one, two, four and eight pools, by each rule.
+//! Rounds of one scheduler over one to eight pools, by each rule.
 
 ghost use Rattle.std.specs.Prelude.{◌≡◌, ◌<◌, ◌≤◌, ◌+◌, ◌-◌, ◌%◌, ◌^◌};
 ghost use Rattle.abt_order.specs.Schedulers.{IsSchedulerOf, IsStored};
@@ -128,6 +128,34 @@ const FREE: [Row; 8] = [
     ),
 ];
 
+// A free order that answers by the round, over three, five, six and seven pools.
+const TURNED: [Row; 4] = [
+    (
+        "user 0 4 1 7",
+        &[&[4, 1, 7], &[1, 7, 4], &[7, 4, 1], &[4, 1, 7]],
+    ),
+    (
+        "user 0 4 1 7 0 2",
+        &[&[4, 1, 7, 0, 2], &[1, 7, 0, 2, 4], &[7, 0, 2, 4, 1]],
+    ),
+    (
+        "user 0 4 1 7 0 2 6",
+        &[
+            &[4, 1, 7, 0, 2, 6],
+            &[1, 7, 0, 2, 6, 4],
+            &[7, 0, 2, 6, 4, 1],
+        ],
+    ),
+    (
+        "user 0 4 1 7 0 2 6 3",
+        &[
+            &[4, 1, 7, 0, 2, 6, 3],
+            &[1, 7, 0, 2, 6, 3, 4],
+            &[7, 0, 2, 6, 3, 4, 1],
+        ],
+    ),
+];
+
 // The text of a workload whose scheduler that is tried has this rule and these pools.
 fn text(alloc: Global, rule: &str) -> Result<String, AllocError> {
     let mut text = String::from_str(alloc, HEAD)?;
@@ -138,7 +166,7 @@ fn text(alloc: Global, rule: &str) -> Result<String, AllocError> {
     Ok(text)
 }
 
-// The scheduler that is tried, before its round 0. It names order 0 or 1, where it names one.
+// The scheduler that is tried, before its round 0. If it names a stored order, that is order 0 or 1.
 fn tried(rt: &impl Abort, w: &Workload) -> Scheduler
     ensures scheduler { IsSchedulerOf w.now result }
     ensures stored { IsStored w.now result.number 2 }
@@ -150,7 +178,7 @@ fn tried(rt: &impl Abort, w: &Workload) -> Scheduler
     Scheduler::new(w, SchedNo(TRIED))
 }
 
-// The next round's list. Where memory is refused the round is asked for once more: it is the same one.
+// The next round's list. If memory is refused the round is asked for once more: it is the same one.
 fn next_round(
     alloc: Global,
     scheduler: &mut Scheduler,
@@ -280,6 +308,14 @@ fn free_orders_are_made_permutations(rt: HostRuntime) -> Result<(), Fail> {
         StoredOrder::new(OrderShape::Free, Box::new(alloc, last)?),
     ];
     for row in FREE {
+        check(&rt, alloc, &orders, row)?;
+        check_into(&rt, alloc, &orders, row)?;
+    }
+    let orders = [
+        StoredOrder::new(OrderShape::Free, Box::new(alloc, turn)?),
+        StoredOrder::new(OrderShape::Free, Box::new(alloc, last)?),
+    ];
+    for row in TURNED {
         check(&rt, alloc, &orders, row)?;
         check_into(&rt, alloc, &orders, row)?;
     }

@@ -190,7 +190,7 @@ fn first_once(round: u64, n: u32, _i: u32) -> u32
     if round == 1 { 0 } else { n - 1 }
 }
 
-// Of two stored orders a workload names one where it names any.
+// If a workload names a stored order, that is one of the two.
 fn check_orders(w: &Workload)
     ensures { (g : ℕ) → IsStored w.now g 2 }
 {
@@ -198,7 +198,7 @@ fn check_orders(w: &Workload)
     w.streams();
 }
 
-// What the next turn needs. Where memory is refused it is asked for once more: the stream is as it was.
+// What the next turn needs. If memory is refused it is asked for once more: the stream is as it was.
 fn prepare(stream: &mut Stream, w: &Workload, orders: &[StoredOrder]) -> Result<(), Want>
     requires stored { (g : ℕ) → IsStored w.now g (length orders.now) }
     requires fits { FitsStream w.now stream.old }

@@ -4,7 +4,9 @@ ghost use Rattle.std.specs.Prelude.{◌≡◌, ◌<◌, ◌≤◌, ◌+◌, ◌-
 
 use crate::drains::{count_steps, shared, shared_report};
 use crate::rounds::{turn, turn_round};
-use abt_machine::{OrderShape, StreamNo, UnitNo};
+use abt_check::{Verdict, check};
+use abt_generate::generate;
+use abt_machine::{OrderShape, StreamNo, UnitNo, Workload};
 use abt_order::StoredOrder;
 use abt_report::report;
 use abt_stream::{NoPace, Pace};
@@ -94,6 +96,35 @@ fn streams_on_threads_share_a_number(rt: HostRuntime) -> Result<(), Fail> {
     for _ in 0..TIMES {
         let report = report_of(&rt, alloc, &NoPace, text.as_str())?;
         assert!(rt; report.as_slice() == wanted.as_bytes());
+    }
+    Ok(())
+}
+
+// Whether the journal of a run on threads is judged to be a run.
+fn is_judged_a_run<R: Threads + Wait + Sync>(
+    rt: &R,
+    alloc: Global,
+    w: &Workload,
+) -> Result<bool, Fail> {
+    let orders = [
+        StoredOrder::new(OrderShape::Rotate, Box::new(alloc, turn)?),
+        StoredOrder::new(OrderShape::Mirror, Box::new(alloc, turn_round)?),
+    ];
+    let run = run_streams(alloc, rt, w, &orders, &NoPace, 10_000)?;
+    Ok(check(alloc, w, &orders, &run.journal)? == Verdict::Run)
+}
+
+#[test]
+fn journals_of_threads_are_judged_runs(rt: HostRuntime) -> Result<(), Fail> {
+    let alloc = rt.alloc();
+    let text = shared(alloc)?;
+    let w = read(alloc, text.as_bytes())?;
+    for _ in 0..TIMES {
+        assert!(rt; is_judged_a_run(&rt, alloc, &w)?);
+    }
+    let made = generate(alloc, 126)?;
+    for _ in 0..TIMES {
+        assert!(rt; is_judged_a_run(&rt, alloc, &made)?);
     }
     Ok(())
 }
