@@ -1,4 +1,4 @@
--- What a call of the program was given, and what each status says of what it left.
+-- What a call of the program reads and writes, and what each status says of that.
 use Rattle.std.specs.Prelude.{◌≡◌, ◌≢◌, ◌⊎◌, ℕ, List, [], Option, Some, IfSome}
 use Rattle.std.specs.List.{All}
 use Rattle.abt_machine.specs.declared.events.Event.{Event}
@@ -12,7 +12,7 @@ use Rattle.abt_view.specs.declared.views.View.{View}
 use Rattle.abt_view.specs.Status.{message_of, number_of}
 use Rattle.abt_view.specs.Views.{Asks, view_text}
 
--- the words, the bytes of each file if they are seen, and for reading, output and messages the count of faults and the bytes
+-- the words, the bytes of each file if they are observable, and for reading, output and messages the count of faults and the bytes
 -- taken, before and afterwards
 pub record Call : Type 0 where
   pub words : List Text
@@ -35,7 +35,7 @@ Gained sink bytes = Took sink.0 sink.1 bytes
 abbrev pub GainedFront : Option Text × Option Text → Text → Type 0
 GainedFront sink bytes = TookFront sink.0 sink.1 bytes
 
--- the message was written, or a prefix of it if the count of faults rose
+-- the message was written, or a prefix of it, and then the count of faults rose
 abbrev pub IsTold : Option Text × Option Text → ℕ × ℕ → Text → Type 0
 IsTold sink faults text = Gained sink text ⊎ (GainedFront sink text × Grew faults)
 
@@ -49,14 +49,14 @@ pub record NamesFile (words : List Text) : Type 0 where
   pub file : Text
   pub asks : Asks words view file
 
--- and that is so of its bytes, if they are seen
+-- and that is so of its bytes, if they are observable
 pub record NamesSuch (words : List Text) (file_of : Text → Option Text) (Is : Text → Type 0) : Type 0 where
   pub view : View
   pub file : Text
   pub asks : Asks words view file
   pub reads : IfSome (file_of file) Is
 
--- the text is that view of the journal in a file, whose bytes, if they are seen, are the journal's text
+-- the text is that view of the journal in a file, whose bytes, if they are observable, are the journal's text
 pub record IsFileView (v : View) (file : Text) (file_of : Text → Option Text) (text : Text) : Type 0 where
   pub journal : List Event
   pub reads : IfSome (file_of file) (λ bytes. journal_text journal ≡ bytes)
@@ -110,7 +110,7 @@ abbrev pub IsComplete : ℕ → Call → Type 0
 IsComplete n c = (v : View) (file : Text) (J : List Event) → Asks c.words v file → c.file file ≡ Some (journal_text J) → All IsEvent J
     → (Grew c.read_faults → ⊥) → (Grew c.out_faults → ⊥) → (n ≡ 0) ⊎ (n ≡ 7)
 
--- if they name a file whose bytes are no journal's text, and no fault of reading comes, it ends with 3
+-- if they name a file whose bytes are no journal's text, and no fault of reading comes, the status is 3
 abbrev pub RefusesTexts : ℕ → Call → Type 0
 RefusesTexts n c = (v : View) (file bytes : Text) → Asks c.words v file → c.file file ≡ Some bytes → ((J : List Event) → journal_text J ≡ bytes → ⊥)
     → (Grew c.read_faults → ⊥) → (n ≡ 3) ⊎ (n ≡ 7)
@@ -119,7 +119,7 @@ RefusesTexts n c = (v : View) (file bytes : Text) → Asks c.words v file → c.
 abbrev pub RefusesWords : ℕ → Call → Type 0
 RefusesWords n c = AsksNothing c.words → (n ≡ 2) ⊎ (n ≡ 7)
 
--- the exit status of a call has its cause, and if that cause is at hand the status comes
+-- the exit status of a call has its cause, and the status comes if its cause holds
 pub record IsAnswered (n : ℕ) (c : Call) : Type 0 where
   pub cause : EndsBy n c
   pub complete : IsComplete n c

@@ -14,7 +14,7 @@ abbrev pub is_held : Option Stretch → ℕ → Bool
 is_held None u = false
 is_held (Some stretch) u = stretch.unit == u
 
--- an event of unit u is one more of its stretch, and begins one where another unit or none was in hand
+-- an event of unit u is one more of its stretch, and begins one if another unit or none was in hand
 abbrev pub goes_on_or_begins : Option Stretch → ℕ → Turn
 goes_on_or_begins held u = if is_held held u then GoesOn else Begins u
 

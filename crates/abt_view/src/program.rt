@@ -83,7 +83,7 @@ fn prepare<F: Files>(alloc: Global, words: &[String], files: &mut F) -> Result<V
     }
 }
 
-// Writes the message; if that fails, a prefix of it stands there.
+// Writes the message. If a write fails, the sink has a prefix of it.
 fn tell<E: Sink>(err: &mut E, text: &[u8])
     ensures told { IsTold (E.taken err.old, E.taken err.new) (E.faults err.old, E.faults err.new) text.now }
     ensures later { E.faults err.old ≤ E.faults err.new }

@@ -35,7 +35,7 @@ impl Status {
         }
     }
 
-    /// What is written to the error sink, if it names no line.
+    /// The message for the error sink, of a status that names no line. It is empty if the view was written.
     pub fn message(self) -> &'static [u8]
         requires { IsFixed self }
         ensures { result.now ≡ message_of self }
