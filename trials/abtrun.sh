@@ -28,18 +28,31 @@ try_statuses() {
         call "$program" run "${steps[@]}" "$file"
         came "the example ${file##*/}" "$wanted" "@${file%.abt}.out" ""
     done
-    call "$program" self 100
-    came "self 100" 0 'unit 0 done: 5050
-tally units 101 unborn 0 pool 0 stream 0 blocked 0 done 101 asked 0 access 0 steps 804
-finished' ""
-    call "$program" self 126
-    came "self 126" 0 'unit 0 done: 8001
-tally units 127 unborn 0 pool 0 stream 0 blocked 0 done 127 asked 0 access 0 steps 1012
-finished' ""
+    # Each of the workloads that it makes.
+    local units
+    for units in $(seq 126); do
+        call "$program" self "$units"
+        came "self $units" 0 "unit 0 done: $((units * (units + 1) / 2))
+tally units $((units + 1)) unborn 0 pool 0 stream 0 blocked 0 done $((units + 1)) asked 0 access 0 steps $((8 * units + 4))
+finished" ""
+    done
     call "$program" self -- 0003
     came "self -- 0003" 0 'unit 0 done: 6
 tally units 4 unborn 0 pool 0 stream 0 blocked 0 done 4 asked 0 access 0 steps 28
 finished' ""
+}
+
+# A run of the most steps that there may be: two units revive one another.
+try_most_steps() {
+    printf '%s\n' 'abt 1' 'streams 1' 'pool 0 fifo mpmc' 'sched 0 prio 0' 'stream 0 main 0' 'units 2' 'unit 0 ult at 0' 'revive 1 0' \
+        'unit 1 ult at 0' 'revive 0 0' end >"$room/text.abt"
+    call "$program" run "$room/text.abt" --steps 100000
+    came "the most steps" 4 'unit 0 stream 0: !unit-state
+unit 1 done:
+tally units 2 unborn 0 pool 0 stream 1 blocked 0 done 1 asked 0 access 0 steps 100000
+budget 0' ""
+    call "$program" run "$room/text.abt" --steps 100000 --journal
+    holds "the journal of the most steps" [ "$status $(grep -c ' step ' "$room/out")" = "4 100000" ]
 }
 
 # Words that are no command, each with the words parted by blanks.
@@ -61,7 +74,7 @@ try_bad_words() {
     call "$program" "run $hi"
     came "two words in one" 2 "" "$words_are_bad"
     call "$program" run "$hi" --steps 100000
-    came "the most steps" 0 "$hi_report" ""
+    came "as many steps as there may be" 0 "$hi_report" ""
     call "$program" run --steps=00001 "$hi"
     came "the fewest steps" 0 "$hi_report" ""
 }
@@ -150,12 +163,7 @@ try_varied() {
     sed '16000s/.*/say two words/' "$room/varied.abt" >"$room/text.abt"
     call "$program" run "$room/text.abt"
     came "a fault far into a long file" 3 "" "abtrun: line 16000: shape"
-    "$program" run "$room/varied.abt" | {
-        sleep 0.2
-        dd bs=997 status=none
-    } >"$room/out"
-    status=${PIPESTATUS[0]}
-    : >"$room/err"
+    slowly "$program" run "$room/varied.abt"
     came "a slow reader of a long report" 0 "@$room/varied.out" ""
 }
 
@@ -170,11 +178,11 @@ try_few_bytes() {
     came "a text in pieces" 0 "$hi_report" ""
     local most
     for most in 1 7; do
-        call env TRIAL_READ=$most TRIAL_WRITE=$most LD_PRELOAD="$room/meddle.so" "$program" run "$root/crates/abtrun/data/hi.abt" --journal
+        meddled TRIAL_READ=$most TRIAL_WRITE=$most "$program" run "$root/crates/abtrun/data/hi.abt" --journal
         came "reads and writes of $most bytes" 0 "@$root/crates/abtrun/stdout" ""
-        call env TRIAL_READ=$most TRIAL_WRITE=$most LD_PRELOAD="$room/meddle.so" "$program" run - <"$data/stuck.abt"
+        meddled TRIAL_READ=$most TRIAL_WRITE=$most "$program" run - <"$data/stuck.abt"
         came "reads and writes of $most bytes on standard input" 1 "@$data/stuck.out" ""
-        call env TRIAL_WRITE=$most LD_PRELOAD="$room/meddle.so" "$program" walk
+        meddled TRIAL_WRITE=$most "$program" walk
         came "writes of $most bytes of a message" 2 "" "$words_are_bad"
     done
 }
@@ -183,20 +191,20 @@ try_few_bytes() {
 try_failing_calls() {
     local number writes
     for number in 1 2 3; do
-        call env TRIAL_READ=100 TRIAL_NO_READ=$number LD_PRELOAD="$room/meddle.so" "$program" run "$data/streams.abt"
+        meddled TRIAL_READ=100 TRIAL_NO_READ=$number "$program" run "$data/streams.abt"
         came "read $number fails" 5 "" "$cannot_read"
     done
     printf '%s\n' "$hi_report" >"$room/whole"
     writes=$((($(wc -c <"$room/whole") + 9) / 10))
     for number in $(seq "$writes"); do
         head -c $((10 * (number - 1))) "$room/whole" >"$room/wanted"
-        call env TRIAL_WRITE=10 TRIAL_NO_WRITE="$number" LD_PRELOAD="$room/meddle.so" "$program" run "$hi"
+        meddled TRIAL_WRITE=10 TRIAL_NO_WRITE="$number" "$program" run "$hi"
         # (the message is written in pieces of ten bytes as well, after the write that fails)
         came "write $number fails" 6 "@$room/wanted" "$cannot_write"
     done
-    call env TRIAL_WRITE=10 TRIAL_NO_WRITE=$((writes + 1)) LD_PRELOAD="$room/meddle.so" "$program" run "$hi"
+    meddled TRIAL_WRITE=10 TRIAL_NO_WRITE=$((writes + 1)) "$program" run "$hi"
     came "no write fails" 0 "$hi_report" ""
-    call env TRIAL_NO_WRITE=1 LD_PRELOAD="$room/meddle.so" "$program" walk
+    meddled TRIAL_NO_WRITE=1 "$program" walk
     came "a message cannot be written" 2 "" ""
 }
 
@@ -261,12 +269,6 @@ try_reading() {
     fi
 }
 
-# ended TITLE STATUS ERR: as came, for a call that did not write to $room/out.
-ended() {
-    : >"$room/out"
-    came "$1" "$2" "" "$3"
-}
-
 try_writing() {
     "$program" run "$hi" >/dev/full 2>"$room/err"
     status=$?
@@ -277,23 +279,9 @@ try_writing() {
     "$program" run "$hi" 2>"$room/err" 1<"$hi"
     status=$?
     ended "a standard output that is open for reading" 6 "$cannot_write"
-    {
-        until_there "$room/gone"
-        "$program" run "$hi" 2>"$room/err"
-        echo $? >"$room/status"
-    } | {
-        exec <&-
-        echo gone >"$room/gone"
-    }
-    status=$(cat "$room/status")
+    unread "$program" run "$hi"
     ended "a pipe that nobody reads" 6 "$cannot_write"
-    # The file may have one kilobyte, and the write that would pass it moves what fits.
-    (
-        trap '' XFSZ
-        ulimit -f 1
-        exec "$program" run "$room/varied.abt"
-    ) >"$room/out" 2>"$room/err"
-    status=$?
+    limited "$program" run "$room/varied.abt"
     head -c 1024 "$room/varied.out" >"$room/wanted"
     came "a file that may not grow" 6 "@$room/wanted" "$cannot_write"
     local way
@@ -321,34 +309,48 @@ try_writing() {
     came "no environment" 0 "$hi_report" ""
 }
 
-# signalled SIGNAL STATUS: it ends the program, which waits for its text.
-signalled() {
-    "$program" run - <"$room/fifo" >"$room/out" 2>"$room/err" &
-    local pid=$!
-    exec 7>"$room/fifo"
-    cat "$hi" >&7
-    sleep 0.2
-    kill -s "$1" "$pid"
-    wait "$pid" 2>/dev/null
-    status=$?
-    exec 7>&-
-    came "the signal $1" "$2" "" ""
-}
-
-# Each allocation of a few runs is refused in turn; prints how many there were.
-try_refused_memory() {
-    trials/fail-alloc "$program" >"$room/sweeps"
-    status=$?
-    cat "$room/sweeps"
-    holds "each allocation refused" [ "$status" = 0 ]
+# Journals that are checked, and flows.
+try_checks() {
+    local hi=$data/hi.abt journal=crates/abtview/data/hi.journal
+    call "$program" check "$hi" "$journal"
+    came "a run is checked" 0 "run" ""
+    call "$program" check "$hi" - <"$journal"
+    came "a journal on standard input" 0 "run" ""
+    call "$program" check - "$journal" <"$hi"
+    came "a workload on standard input" 0 "run" ""
+    "$program" run "$data/streams.abt" --journal | sed '/^unit 0 /,$d' >"$room/streams.journal"
+    call "$program" check "$data/streams.abt" "$room/streams.journal"
+    came "a run on threads is checked" 0 "run" ""
+    sed '$d' "$room/streams.journal" >"$room/shorter.journal"
+    call "$program" check "$data/streams.abt" "$room/shorter.journal"
+    came "its first events" 0 "run" ""
+    sed '2d' "$journal" >"$room/less.journal"
+    call "$program" check "$hi" "$room/less.journal"
+    came "an event that is gone" 1 "bad 2" ""
+    sed '1s/^/0/' "$journal" >"$room/zero.journal"
+    call "$program" check "$hi" "$room/zero.journal"
+    came "a zero before a number" 3 "" "abtrun: line 1: journal"
+    call "$program" check "$room/absent" "$journal"
+    came "a workload that is absent" 5 "" "abtrun: cannot read"
+    call "$program" check "$hi" "$room/absent"
+    came "a journal that is absent" 5 "" "abtrun: cannot read"
+    call "$program" check - -
+    came "standard input twice" 2 "" "abtrun: bad command line"
+    call "$program" flow "$hi"
+    came "a flow" 0 "unit 0: hi" ""
+    call "$program" flow "$data/streams.abt"
+    came "a workload that is not confluent" 1 "not confluent" ""
+    call "$program" flow "$hi" "$hi"
+    came "a flow of two files" 2 "" "abtrun: bad command line"
 }
 
 if ! make_meddler; then
-    miss abtrun "trials/meddle.c cannot be compiled"
+    miss meddle "trials/meddle.c cannot be compiled"
     return
 fi
 mkfifo "$room/fifo"
 try_statuses
+try_most_steps
 try_bad_words
 try_faults
 try_lengths
@@ -358,8 +360,9 @@ try_failing_calls
 try_names
 try_reading
 try_writing
-signalled TERM 143
-signalled HUP 129
-signalled KILL 137
-try_refused_memory
+signalled TERM 143 "$hi" "$program" run -
+signalled HUP 129 "$hi" "$program" run -
+signalled KILL 137 "$hi" "$program" run -
+try_checks
+refuse_memory
 rm "$room/fifo"

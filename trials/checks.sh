@@ -5,12 +5,15 @@ most=60
 passed=0
 failed=0
 
+# What is tried, as the lines of failed trials name it.
+subject=
+
 pass() { passed=$((passed + 1)); }
 
 # miss TITLE WHY: a trial that failed.
 miss() {
     failed=$((failed + 1))
-    echo "FAILED: $1: $2"
+    echo "FAILED: $subject: $1: $2"
 }
 
 # call COMMAND WORDS..: its status, and its outputs in $room/out and $room/err.
@@ -41,6 +44,71 @@ came() {
     fi
 }
 
+# ended TITLE STATUS ERR: as came, for a call that did not write to $room/out.
+ended() {
+    : >"$room/out"
+    came "$1" "$2" "" "$3"
+}
+
+# unread COMMAND..: a call that writes to a pipe that nobody reads.
+unread() {
+    rm -f "$room/gone"
+    {
+        until_there "$room/gone"
+        "$@" 2>"$room/err"
+        echo $? >"$room/status"
+    } | {
+        exec <&-
+        echo gone >"$room/gone"
+    }
+    status=$(cat "$room/status")
+}
+
+# limited COMMAND..: a call whose output may have one kilobyte; the write that would pass it moves what fits.
+limited() {
+    (
+        trap '' XFSZ
+        ulimit -f 1
+        exec "$@"
+    ) >"$room/out" 2>"$room/err"
+    status=$?
+}
+
+# slowly COMMAND..: a call whose output is read after a while, in small pieces.
+slowly() {
+    "$@" 2>"$room/err" | {
+        sleep 0.2
+        dd bs=997 status=none
+    } >"$room/out"
+    status=${PIPESTATUS[0]}
+}
+
+# signalled SIGNAL STATUS FILE COMMAND..: the signal ends a command that waits for more on standard input than this file has.
+signalled() {
+    local signal=$1 wanted=$2 given=$3 pid
+    shift 3
+    mkfifo "$room/signal"
+    "$@" <"$room/signal" >"$room/out" 2>"$room/err" &
+    pid=$!
+    exec 7>"$room/signal"
+    cat "$given" >&7
+    sleep 0.2
+    kill -s "$signal" "$pid"
+    wait "$pid" 2>/dev/null
+    status=$?
+    exec 7>&-
+    rm "$room/signal"
+    came "the signal $signal" "$wanted" "" ""
+}
+
+# Each allocation of a few runs of the program is refused in turn; prints how many there were.
+refuse_memory() {
+    trials/fail-alloc "$program" >"$room/sweeps"
+    status=$?
+    cat "$room/sweeps"
+    holds "each allocation refused" [ "$status" = 0 ]
+}
+
 # holds TITLE TEST..: whether a test holds.
 holds() {
     local title=$1
@@ -54,9 +122,13 @@ until_there() {
     until [ -s "$1" ] || [ $((count += 1)) -gt 100 ]; do sleep 0.1; done
 }
 
-# Compiles what meddles with a program's calls of the C library (trials/meddle.c), by the toolchain's compiler.
+# meddled SETTING.. PROGRAM WORDS..: a call of a program that trials/meddle.c meddles with, by these settings.
+meddled() { call env LD_PRELOAD="$room/meddle.so" "$@"; }
+
+# Compiles what meddles with a program's calls of the C library (trials/meddle.c), by the toolchain's compiler. Once is enough.
 make_meddler() {
     local kit
+    [ ! -e "$room/meddle.so" ] || return 0
     kit=$(rt doc) && kit=${kit%/*}/toolchain/bin &&
         "$kit/clang" -shared -fPIC -nostdlib -O1 --ld-path="$kit/ld.lld" -o "$room/meddle.so" trials/meddle.c
 }

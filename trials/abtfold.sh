@@ -1,0 +1,108 @@
+# The program abtfold, as docs/FORMAT.md has it: each status with both outputs, and all ways out.
+
+# Folds, each with its words and what it prints.
+try_sums() {
+    local words sum
+    while read -r words sum; do
+        call "$program" ${words//,/ }
+        came "the words '${words//,/ }'" 0 "sum $sum" ""
+    done <<'ROWS'
+1,1 1
+8,1 1
+1,2 3
+2,3 6
+3,100 5050
+7,4095 8386560
+1,4096 8390656
+8,4096 8390656
+0008,004096 8390656
+ROWS
+    local time
+    for time in 1 2 3 4 5 6 7 8 9 10; do
+        call "$program" 8 4096
+        came "eight workers, time $time" 0 "sum 8390656" ""
+    done
+}
+
+# Words that are not as said, each with the words parted by blanks.
+try_bad_words() {
+    local words
+    for words in '' 3 '3 100 1' '0 5' '9 5' '3 0' '3 4097' '-3 5' '+3 5' '3 -5' '3 +5' '3x 5' '3 5x' '3.0 5' '0x3 5' 'three 5' \
+        '3 4294967297' '18446744073709551617 5' '3 99999999999999999999999999999999' '-- 3 100' '--help' '-h' '--version' help; do
+        call "$program" $words
+        came "the words '$words'" 2 "" ""
+    done
+    call "$program" '' 5
+    came "an empty word" 2 "" ""
+    call "$program" 3 ''
+    came "an empty second word" 2 "" ""
+    call "$program" '3 100'
+    came "two words in one" 2 "" ""
+    call "$program" ' 3' 100
+    came "a blank before a number" 2 "" ""
+    call "$program" 3 $'100\n'
+    came "a line feed after a number" 2 "" ""
+    call "$program" 3 $'1\xff'
+    came "a word that is not UTF-8" 2 "" ""
+    call "$program" ٣ 100
+    came "digits that are not ASCII" 2 "" ""
+}
+
+# Each write fails in turn, and writes move few bytes.
+try_few_bytes() {
+    local most number
+    for most in 1 7; do
+        meddled TRIAL_WRITE=$most "$program" 3 100
+        came "writes of $most bytes" 0 "sum 5050" ""
+    done
+    printf 'sum 5050\n' >"$room/whole"
+    for number in 1 2 3; do
+        head -c $((3 * (number - 1))) "$room/whole" >"$room/wanted"
+        meddled TRIAL_WRITE=3 TRIAL_NO_WRITE=$number "$program" 3 100
+        came "write $number fails" 6 "@$room/wanted" ""
+    done
+    meddled TRIAL_WRITE=3 TRIAL_NO_WRITE=4 "$program" 3 100
+    came "no write fails" 0 "sum 5050" ""
+}
+
+try_writing() {
+    "$program" 3 100 >/dev/full 2>"$room/err"
+    status=$?
+    ended "a full device" 6 ""
+    "$program" 3 100 >&- 2>"$room/err"
+    status=$?
+    ended "a closed standard output" 6 ""
+    "$program" 3 100 2>"$room/err" 1</dev/null
+    status=$?
+    ended "a standard output that is open for reading" 6 ""
+    unread "$program" 3 100
+    ended "a pipe that nobody reads" 6 ""
+    slowly "$program" 3 100
+    came "a slow reader" 0 "sum 5050" ""
+    "$program" 3 100 >"$room/out" 2>&- <&-
+    status=$?
+    : >"$room/err"
+    came "closed standard input and error" 0 "sum 5050" ""
+    "$program" 3 100 >&- 2>&- <&-
+    status=$?
+    ended "all three closed" 6 ""
+    "$program" 0 100 >&- 2>&- <&-
+    status=$?
+    ended "bad words with all three closed" 2 ""
+    echo 7 7 >"$room/in"
+    call "$program" 3 100 <"$room/in"
+    came "standard input is not read" 0 "sum 5050" ""
+    env -i "$program" 3 100 >"$room/out" 2>"$room/err"
+    status=$?
+    came "no environment" 0 "sum 5050" ""
+}
+
+if ! make_meddler; then
+    miss meddle "trials/meddle.c cannot be compiled"
+    return
+fi
+try_sums
+try_bad_words
+try_few_bytes
+try_writing
+refuse_memory

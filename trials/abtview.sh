@@ -1,0 +1,261 @@
+# The program abtview, as docs/VIEW.md has it: each status with both outputs, and all ways in and out.
+journal=$root/crates/abtview/data/hi.journal
+picture=$root/crates/abtview/stdout
+words_are_bad='abtview: bad command line'
+cannot_read='abtview: cannot read'
+cannot_write='abtview: cannot write'
+
+# A journal of a refused step, and its trace.
+write_refused() {
+    printf '%s\n' '1 0 take 0 7' '2 0 step 7 0 absent' >"$room/refused.journal"
+    cat >"$room/refused.json" <<'JSON'
+{"traceEvents":[
+{"ph":"M","pid":0,"name":"process_name","args":{"name":"abtrun"}},
+{"ph":"M","pid":0,"tid":0,"name":"thread_name","args":{"name":"stream 0"}},
+{"ph":"X","pid":0,"tid":0,"ts":1.0,"dur":1.8,"name":"unit 7"},
+{"ph":"X","pid":0,"tid":0,"ts":1.1,"dur":0.6,"name":"take"},
+{"ph":"f","pid":0,"tid":0,"ts":1.4,"bp":"e","cat":"pool","name":"pool","id":7},
+{"ph":"X","pid":0,"tid":0,"ts":2.1,"dur":0.6,"name":"refused"},
+{"ph":"i","pid":0,"tid":0,"ts":2.4,"s":"t","name":"refused, unit 7"}
+]}
+JSON
+}
+
+# A journal of so many misses, whose stamps go beyond 32 bits, and its trace.
+write_long() {
+    awk -v count="$1" -v journal="$room/long.journal" -v trace="$room/long.json" 'BEGIN {
+        printf "{\"traceEvents\":[\n{\"ph\":\"M\",\"pid\":0,\"name\":\"process_name\",\"args\":{\"name\":\"abtrun\"}}" >trace
+        printf ",\n{\"ph\":\"M\",\"pid\":0,\"tid\":0,\"name\":\"thread_name\",\"args\":{\"name\":\"stream 0\"}}" >trace
+        for (i = 0; i < count; i++) {
+            printf "%.0f 0 miss %d\n", 4294967290 + i, i >journal
+            printf ",\n{\"ph\":\"X\",\"pid\":0,\"tid\":0,\"ts\":%.0f.1,\"dur\":0.6,\"name\":\"miss\"}", 4294967290 + i >trace
+        }
+        printf "\n]}\n" >trace
+    }'
+}
+
+# A journal of so many misses with stamps from 1 on.
+misses() { awk -v count="$1" 'BEGIN { for (i = 1; i <= count; i++) printf "%d 0 miss 0\n", i }'; }
+
+try_views() {
+    call "$program" svg "$journal"
+    came "the svg of hi" 0 "@$picture" ""
+    call "$program" trace "$room/refused.journal"
+    came "the trace of a refused step" 0 "@$room/refused.json" ""
+    call "$program" trace "$room/long.journal"
+    came "a long trace" 0 "@$room/long.json" ""
+    call "$program" trace - <"$room/long.journal"
+    came "a long trace of standard input" 0 "@$room/long.json" ""
+    cat "$room/long.journal" >"$room/fifo" &
+    call "$program" trace "$room/fifo"
+    came "a long trace of a named pipe" 0 "@$room/long.json" ""
+    slowly "$program" trace "$room/long.journal"
+    came "a slow reader of a long trace" 0 "@$room/long.json" ""
+    call "$program" svg "$room/long.journal"
+    holds "a journal that is too long to be drawn names trace" grep -q 'use abtview trace</text></svg>$' "$room/out"
+    misses 20000 >"$room/text"
+    call "$program" svg "$room/text"
+    holds "the longest journal is drawn" [ "$status" = 0 -a "$(wc -l <"$room/out")" -gt 1000 ]
+    misses 20001 >"$room/text"
+    call "$program" svg "$room/text"
+    holds "one event more is not drawn" [ "$status $(wc -l <"$room/out")" = "0 1" ]
+    call "$program" trace - </dev/null
+    came "the trace of no event" 0 "$(printf '%s\n' '{"traceEvents":[' \
+        '{"ph":"M","pid":0,"name":"process_name","args":{"name":"abtrun"}}' ']}')" ""
+}
+
+# Whether a file is well-formed.
+is_xml() { python3 -c 'import sys, xml.dom.minidom; xml.dom.minidom.parse(sys.argv[1])' "$1" 2>/dev/null; }
+
+is_json() { python3 -c 'import json, sys; json.load(open(sys.argv[1]))' "$1" 2>/dev/null; }
+
+# What abtrun prints is drawn as in the documents, and the views are well-formed.
+try_runs() {
+    local run=${program%/*}/abtrun example
+    if [ ! -x "$run" ]; then
+        miss abtrun "there is no $run"
+        return
+    fi
+    "$run" run "$root/crates/abt_examples/data/stacked.abt" --journal | grep '^[0-9]' >"$room/text"
+    call "$program" svg "$room/text"
+    came "the picture of docs/VIEW.md" 0 "@$root/docs/stacked.svg" ""
+    for example in stacked streams stealing; do
+        "$run" run "$root/crates/abt_examples/data/$example.abt" --journal | grep '^[0-9]' >"$room/text"
+        call "$program" svg "$room/text"
+        holds "the svg of $example is XML" is_xml "$room/out"
+        call "$program" trace "$room/text"
+        holds "the trace of $example is JSON" is_json "$room/out"
+    done
+    "$run" run "$root/crates/abt_examples/data/stacked.abt" --journal >"$room/text"
+    call "$program" svg "$room/text"
+    came "a journal with its report" 3 "" "abtview: line $(($(grep -c '^[0-9]' "$room/text") + 1)): journal"
+}
+
+# Words that ask for no view, each with the words parted by blanks.
+try_bad_words() {
+    local words
+    for words in '' svg trace 'svg f f' 'draw f' 'Svg f' 'svgx f' 'f svg' '--svg f' '-- svg f' 'svg -- f' '--help' '-h' '--version' help; do
+        call "$program" $words
+        came "the words '$words'" 2 "" "$words_are_bad"
+    done
+    call "$program" '' f
+    came "an empty word" 2 "" "$words_are_bad"
+    call "$program" "svg $journal"
+    came "two words in one" 2 "" "$words_are_bad"
+    call "$program" svg $'f\xff'
+    came "a word that is not UTF-8" 2 "" "$words_are_bad"
+}
+
+# refused LINE: the journal on standard input is refused at this line, by both views.
+refused() {
+    cat >"$room/text"
+    local view
+    for view in svg trace; do
+        call "$program" "$view" "$room/text"
+        came "$view: refused at line $1" 3 "" "abtview: line $1: journal"
+    done
+}
+
+try_faults() {
+    printf '\n' | refused 1
+    printf '1 0 miss 0' | refused 1
+    printf '1 0 miss 0\n2 0 miss 00\n' | refused 2
+    printf '1 0 miss 0\r\n' | refused 1
+    printf '1 0 miss 0\n2 0 miss 0\n3 0 look  0\n' | refused 3
+    printf '1 0 miss 0\n2 0 step 0 0 fine\n' | refused 2
+    printf '1 0 miss 0\n2 0 miss \xff\n' | refused 2
+    printf '18446744073709551616 0 miss 0\n' | refused 1
+    printf '1 4294967296 miss 0\n' | refused 1
+    printf '1 0 miss 0\nfinished\n' | refused 2
+    { misses 5000 && echo end; } | refused 5001
+    call "$program" svg "$root/crates/abt_examples/data/hi.abt"
+    came "a workload is no journal" 3 "" "abtview: line 1: journal"
+}
+
+# A few bytes at a time, in and out; and each read and each write fails in turn.
+try_few_bytes() {
+    local most number writes
+    for most in 1 7; do
+        meddled TRIAL_READ=$most TRIAL_WRITE=$most "$program" svg "$journal"
+        came "reads and writes of $most bytes" 0 "@$picture" ""
+        meddled TRIAL_READ=$most TRIAL_WRITE=$most "$program" svg - <"$journal"
+        came "reads and writes of $most bytes on standard input" 0 "@$picture" ""
+        meddled TRIAL_WRITE=$most "$program" draw
+        came "writes of $most bytes of a message" 2 "" "$words_are_bad"
+    done
+    for number in 1 2 3; do
+        meddled TRIAL_READ=25 TRIAL_NO_READ=$number "$program" svg "$journal"
+        came "read $number fails" 5 "" "$cannot_read"
+    done
+    writes=$((($(wc -c <"$picture") + 99) / 100))
+    for number in $(seq "$writes"); do
+        head -c $((100 * (number - 1))) "$picture" >"$room/wanted"
+        meddled TRIAL_WRITE=100 TRIAL_NO_WRITE="$number" "$program" svg "$journal"
+        came "write $number fails" 6 "@$room/wanted" "$cannot_write"
+    done
+    meddled TRIAL_WRITE=100 TRIAL_NO_WRITE=$((writes + 1)) "$program" svg "$journal"
+    came "no write fails" 0 "@$picture" ""
+    meddled TRIAL_NO_WRITE=1 "$program" draw
+    came "a message cannot be written" 2 "" ""
+}
+
+try_names() {
+    local name
+    name=$(printf '%0300d' 0)
+    call "$program" svg "$name"
+    came "a name of 300 bytes in one part" 5 "" "$cannot_read"
+    name=$(printf '%0100d/' 1 2 3)w.journal
+    mkdir -p "$room/views/${name%/*}"
+    cp "$journal" "$room/views/$name"
+    cd "$room/views" || return
+    call "$program" svg "$name"
+    came "a name of 312 bytes in four parts" 0 "@$picture" ""
+    for name in 'with  blanks' ' ' $'line\nfeed' $'t\tab' 'größe' "quote'\"" '*' '#' svg --help -x -- 'a=b' '...'; do
+        cp "$journal" "./$name"
+        call "$program" svg "$name"
+        came "the name '$name'" 0 "@$picture" ""
+    done
+    cp "$journal" ./-
+    call "$program" svg ./-
+    came "the name './-'" 0 "@$picture" ""
+    cd "$root" || return
+}
+
+try_reading() {
+    call "$program" svg - <"$journal"
+    came "standard input" 0 "@$picture" ""
+    call "$program" svg "$room/absent"
+    came "an absent file" 5 "" "$cannot_read"
+    call "$program" svg ''
+    came "an empty name" 5 "" "$cannot_read"
+    call "$program" svg "$room"
+    came "a folder" 5 "" "$cannot_read"
+    call "$program" svg "$journal/below"
+    came "a file as a folder" 5 "" "$cannot_read"
+    call "$program" svg - <"$room"
+    came "a folder on standard input" 5 "" "$cannot_read"
+    call "$program" svg - <&-
+    came "a closed standard input" 5 "" "$cannot_read"
+    call "$program" svg - 0>"$room/text"
+    came "a standard input that is open for writing" 5 "" "$cannot_read"
+    call "$program" svg "$journal" <&-
+    came "a file and a closed standard input" 0 "@$picture" ""
+}
+
+try_writing() {
+    "$program" svg "$journal" >/dev/full 2>"$room/err"
+    status=$?
+    ended "a full device" 6 "$cannot_write"
+    "$program" svg "$journal" >&- 2>"$room/err"
+    status=$?
+    ended "a closed standard output" 6 "$cannot_write"
+    "$program" svg "$journal" 2>"$room/err" 1<"$journal"
+    status=$?
+    ended "a standard output that is open for reading" 6 "$cannot_write"
+    unread "$program" svg "$journal"
+    ended "a pipe that nobody reads" 6 "$cannot_write"
+    limited "$program" svg "$journal"
+    head -c 1024 "$picture" >"$room/wanted"
+    came "a file that may not grow" 6 "@$room/wanted" "$cannot_write"
+    local way
+    for way in '2>/dev/full' '2>&-' '2>&- <&-'; do
+        eval "\"\$program\" draw >\"\$room/out\" $way"
+        status=$?
+        : >"$room/err"
+        came "bad words with $way" 2 "" ""
+        eval "\"\$program\" svg \"\$journal\" >\"\$room/out\" $way"
+        status=$?
+        came "hi with $way" 0 "@$picture" ""
+    done
+    "$program" svg "$journal" >&- 2>&- <&-
+    status=$?
+    : >"$room/err"
+    ended "all three closed" 6 ""
+    "$program" svg "$journal" >"$room/out" 2>&1
+    status=$?
+    came "both outputs in one file" 0 "@$picture" ""
+    env -i "$program" svg "$journal" >"$room/out" 2>"$room/err"
+    status=$?
+    came "no environment" 0 "@$picture" ""
+}
+
+if ! make_meddler; then
+    miss meddle "trials/meddle.c cannot be compiled"
+    return
+fi
+mkfifo "$room/fifo"
+write_refused
+write_long 10000
+try_views
+try_runs
+try_bad_words
+try_faults
+try_few_bytes
+try_names
+try_reading
+try_writing
+signalled TERM 143 "$journal" "$program" svg -
+signalled HUP 129 "$journal" "$program" svg -
+signalled KILL 137 "$journal" "$program" svg -
+refuse_memory
+rm "$room/fifo"
