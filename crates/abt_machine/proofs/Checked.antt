@@ -14,11 +14,11 @@ use Rattle.abt_machine.specs.declared.workload.Parts.{Parts}
 use Rattle.abt_machine.specs.declared.workload.PoolPart.{PoolPart}
 use Rattle.abt_machine.specs.declared.workload.SchedPart.{SchedPart}
 use Rattle.abt_machine.specs.declared.workload.UnitPart.{UnitPart}
-use Rattle.abt_machine.specs.Canonical.{canonical_text}
 use Rattle.abt_machine.specs.Checks.{AreCounts, IsSchedPart, IsStart, IsUnitPart}
+use Rattle.abt_machine.specs.Limits.{operation_limit, unit_operation_limit}
 use Rattle.abt_machine.specs.Operations.{IsDeclared}
 use Rattle.abt_machine.specs.Valid.{IsAccess, IsBody, IsRule, IsScheduler, IsStream, IsThing, IsUnit, IsValid, IsWord, placed_scheds, sched_in, words_said}
-use Rattle.abt_machine.specs.Workloads.{access_from, body_at, body_from, main_from, main_of, ops_of, pools_from, pools_of, start_from, start_of, thing_at}
+use Rattle.abt_machine.specs.Workloads.{access_from, all_ops, body_at, body_from, main_from, main_of, ops_of, pools_from, pools_of, start_from, start_of, thing_at}
 
 -- Elements by their places.
 
@@ -127,7 +127,7 @@ unit-from W u part at h =
     let start : start_of W u ≡ option_map (λ (q : PoolNo). q.0) part.start = ap start_from at in
     record {
       kind = subst (IsBody W) (sym mine) h.kind;
-      few_ops = subst (λ (b : Body). length (ops_of b) ≤ 256) (sym mine) h.few_ops;
+      few_ops = subst (λ (b : Body). length (ops_of b) ≤ unit_operation_limit) (sym mine) h.few_ops;
       ops = λ k o is. all-at (IsDeclared W) (ops_of part.body) h.ops k o (sym (ap (λ (b : Body). slice_get (ops_of b) k) mine) ∙ is);
       start = λ p is. start-from W part.start h.start p (sym start ∙ is);
     }
@@ -139,7 +139,7 @@ from-unit W u part at h =
     let start : start_of W u ≡ option_map (λ (q : PoolNo). q.0) part.start = ap start_from at in
     record {
       kind = subst (IsBody W) mine h.kind;
-      few_ops = subst (λ (b : Body). length (ops_of b) ≤ 256) mine h.few_ops;
+      few_ops = subst (λ (b : Body). length (ops_of b) ≤ unit_operation_limit) mine h.few_ops;
       ops = at-all (IsDeclared W) (ops_of part.body) (λ k o is. h.ops k o (ap (λ (b : Body). slice_get (ops_of b) k) mine ∙ is));
       start = from-start W part.start (λ p is. h.start p (start ∙ is));
     }
@@ -214,8 +214,8 @@ valid-places W h = (
 -- parts of which all of this holds are those of a workload
 pub valid-from : (W : Parts) → AreCounts W → All (λ (part : PoolPart). IsAccess W part.access) W.pools → All (IsSchedPart W) W.scheds → ((s : ℕ) → s < W.streams → IsStream W s)
     → ((x : ℕ) (t : Thing) → thing_at W x ≡ Some t → IsThing W x t) → All (IsUnitPart W) W.units → AllPairs (λ a b. a ≢ b) (placed_scheds W)
-    → words_said W ≡ range_with_len 0 (length W.words) → All IsWord W.words → length (canonical_text W) ≤ 4194304 → IsValid W
-valid-from W counts accesses listings streams things units places said words short = record {
+    → words_said W ≡ range_with_len 0 (length W.words) → All IsWord W.words → length (all_ops W.units) ≤ operation_limit → IsValid W
+valid-from W counts accesses listings streams things units places said words few_ops = record {
   some_stream = counts.some_stream;
   few_streams = counts.few_streams;
   few_keys = counts.few_keys;
@@ -232,7 +232,7 @@ valid-from W counts accesses listings streams things units places said words sho
   objects = things;
   few_units = counts.few_units;
   units = λ u within. let at = at-within W.units u within in unit-from W u at.0 at.1 (all-at (IsUnitPart W) W.units units u at.0 at.1);
+  few_ops = few_ops;
   said = said;
   words = words;
-  few_bytes = short;
 }

@@ -1,17 +1,16 @@
 -- How long a text of lines is, as the sum of what its lines weigh.
-use Rattle.std.proofs.Common.{◌↔◌, IsTrue, Option, Some, None, is_some, ◌≡◌, ◌≤◌, ◌<◌, ◌+◌, ◌-◌, ◌==◌, ◌∙◌, ℕ, zero, suc, Bool, true, false, List, [], ◌∷◌, ◌++◌, add-one, add-zero, ap, arith, subst, sym, codes, cond, decimal, drop, flat_map, get_or, length, length-append, length-take, map, refl, take}
+use Rattle.std.proofs.Common.{◌≡◌, ◌<◌, ◌+◌, ◌∙◌, ℕ, zero, suc, Bool, true, false, List, [], ◌∷◌, ◌++◌, add-one, add-zero, ap, arith, subst, sym, codes, decimal, drop, flat_map, get_or, length, length-append, map, refl}
 use Rattle.std.proofs.Math.Seq.{drop-cons}
 use Rattle.std.specs.List.{enumerate_from}
-use Rattle.std.proofs.lemmas.Bool.{eqb-false, eqb-true}
 use Rattle.std.proofs.lemmas.List.{get_or_default}
 use Rattle.abt_machine.specs.declared.operations.Op.{Op}
 use Rattle.abt_machine.specs.declared.operations.Op.TheVariants as op
 use Rattle.abt_machine.specs.declared.workload.Parts.{Parts}
 use Rattle.abt_machine.specs.declared.workload.UnitPart.{UnitPart}
-use Rattle.abt_machine.specs.Canonical.{body_words, canonical_text, fitted, keys_lines, object_line, op_words, pool_line, sched_line, start_words, stream_line, unit_lines, version_line, workload_lines}
+use Rattle.abt_machine.specs.Canonical.{body_words, keys_lines, op_words, start_words, unit_lines}
 use Rattle.abt_machine.specs.Workloads.{ops_of}
-use Rattle.abt_machine.specs.Weights.{IsLeft, weight, size}
-use Rattle.abt_machine.specs.Words.{Text, ended, line_of, numbered, spaced, text_of}
+use Rattle.abt_machine.specs.Weights.{weight, size}
+use Rattle.abt_machine.specs.Words.{Text, ended, line_of, spaced, text_of}
 
 -- the words of two lists weigh what each list's weigh
 pub weight-append : (xs ys : List Text) → weight (xs ++ ys) ≡ weight xs + weight ys
@@ -118,58 +117,6 @@ pub size-groups_past : {A : Type 0} (f : ℕ → A → List (List Text)) (k : �
 size-groups_past f k [] = size-nil
 size-groups_past f k (x ∷ xs) = size-groups_past f k xs
 
--- a text of one byte more is short enough without its last line feed
-pub fitted-le : (text : Text) → length text ≤ 4194305 → length (fitted text) ≤ 4194304
-fitted-le text le = by (length text == 4194305) refl
-  where
-    by : (c : Bool) → (length text == 4194305) ≡ c → length (cond c (take (length text - 1) text) text) ≤ 4194304
-    by true e = let l = length-take (length text - 1) text in omega arith
-    by false e = let other = eqb-false (length text) 4194305 e in omega (arith, other)
-
--- a text that is short enough as it is written has at most one byte more
-pub le-fitted : (text : Text) → length (fitted text) ≤ 4194304 → length text ≤ 4194305
-le-fitted text = by (length text == 4194305) refl
-  where
-    by : (c : Bool) → (length text == 4194305) ≡ c → length (cond c (take (length text - 1) text) text) ≤ 4194304 → length text ≤ 4194305
-    by true e le = let same = eqb-true (length text) 4194305 e in omega arith
-    by false e le = omega arith
-
--- the canonical text is short enough exactly where its lines have at most one byte more
-pub canonical-short : (W : Parts) → length (canonical_text W) ≤ 4194304 → size (workload_lines W) ≤ 4194305
-unfolding size
-canonical-short W le = le-fitted (text_of (workload_lines W)) le
-
--- and the other way
-pub short-canonical : (W : Parts) → size (workload_lines W) ≤ 4194305 → length (canonical_text W) ≤ 4194304
-unfolding size
-short-canonical W le = fitted-le (text_of (workload_lines W)) le
-
--- the lines of a workload
-pub size-workload : (W : Parts) → size (workload_lines W)
-    ≡ 6 + weight (codes "streams" ∷ decimal W.streams ∷ []) + size (keys_lines W.keys) + size (numbered pool_line W.pools) + size (numbered sched_line W.scheds) + size (numbered stream_line W.mains)
-    + size (numbered object_line W.objects) + weight (codes "units" ∷ decimal (length W.units) ∷ []) + size (flat_map (λ p. unit_lines W p.0 p.1) (enumerate_from 0 W.units)) + 4
-size-workload W =
-    let streams : List Text = codes "streams" ∷ decimal W.streams ∷ [] in
-    let units : List Text = codes "units" ∷ decimal (length W.units) ∷ [] in
-    let K : List (List Text) = keys_lines W.keys in
-    let P : List (List Text) = numbered pool_line W.pools in
-    let S : List (List Text) = numbered sched_line W.scheds in
-    let M : List (List Text) = numbered stream_line W.mains in
-    let O : List (List Text) = numbered object_line W.objects in
-    let U : List (List Text) = flat_map (λ p. unit_lines W p.0 p.1) (enumerate_from 0 W.units) in
-    let a = size-append ((((((version_line ∷ streams ∷ K) ++ P) ++ S) ++ M) ++ O) ++ units ∷ U) ((codes "end" ∷ []) ∷ []) in
-    let b = size-append (((((version_line ∷ streams ∷ K) ++ P) ++ S) ++ M) ++ O) (units ∷ U) in
-    let c = size-append ((((version_line ∷ streams ∷ K) ++ P) ++ S) ++ M) O in
-    let d = size-append (((version_line ∷ streams ∷ K) ++ P) ++ S) M in
-    let e = size-append ((version_line ∷ streams ∷ K) ++ P) S in
-    let f = size-append (version_line ∷ streams ∷ K) P in
-    let g = size-cons (codes "abt") (codes "1" ∷ []) (streams ∷ K) in
-    let h = size-cons (codes "streams") (decimal W.streams ∷ []) K in
-    let i = size-cons (codes "units") (decimal (length W.units) ∷ []) U in
-    let j = size-cons (codes "end") [] [] in
-    let k = size-nil in
-    omega arith
-
 -- Words that a line has besides its first.
 
 -- an operation's line has words
@@ -197,15 +144,3 @@ size-keys (suc n) some = let h = size-cons (codes "keys") (decimal (suc n) ∷ [
 -- no keys have no line
 pub size-no_keys : (k : ℕ) → k ≡ 0 → size (keys_lines k) ≡ 0
 size-no_keys k none = ap (λ n. size (keys_lines n)) none ∙ size-nil
-
--- Room.
-
--- what is left after all, where it is what the rest leaves of what is left after the first
-pub left-after : (room first left rest all : ℕ) (o : Option ℕ) → left + first ≡ room → first + rest ≡ all → IsLeft left rest o → IsLeft room all o
-left-after room first left rest all None e f h = omega (arith, h)
-left-after room first left rest all (Some n) e f h = omega (arith, h)
-
--- a text fits where something is left of the room of 4,194,305 bytes
-pub short-left : (W : Parts) (o : Option ℕ) → IsLeft 4194305 (size (workload_lines W)) o → IsTrue (is_some o) ↔ (length (canonical_text W) ≤ 4194304)
-short-left W None h = (λ e. cc, λ le. absurd (let few = canonical-short W le in omega (arith, h)))
-short-left W (Some n) h = (λ e. short-canonical W (omega (arith, h)), λ le. refl)

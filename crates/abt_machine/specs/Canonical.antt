@@ -1,6 +1,8 @@
 -- The one text in which a workload is written.
-use Rattle.std.specs.Prelude.{ℕ, zero, suc, ◌-◌, ◌==◌, Bool, true, false, if◌then◌else◌, List, [], ◌∷◌, ◌++◌, length, take, map, flat_map, Option, Some, None, slice_index_or, codes, decimal}
+use Rattle.std.specs.Prelude.{ℕ, zero, suc, ◌&&◌, Bool, true, false, if◌then◌else◌, List, [], ◌∷◌, ◌++◌, length, nat_le, map, flat_map, Option, Some, None, slice_index_or, codes, decimal}
 use Rattle.std.specs.List.{enumerate_from}
+use Rattle.abt_machine.specs.declared.grammar.Format.{Format}
+use Rattle.abt_machine.specs.declared.grammar.Format.TheVariants as format
 use Rattle.abt_machine.specs.declared.numbers.PoolNo.{PoolNo}
 use Rattle.abt_machine.specs.declared.numbers.SchedNo.{SchedNo}
 use Rattle.abt_machine.specs.declared.operations.Access.{Access}
@@ -21,6 +23,7 @@ use Rattle.abt_machine.specs.declared.workload.Parts.{Parts}
 use Rattle.abt_machine.specs.declared.workload.PoolPart.{PoolPart}
 use Rattle.abt_machine.specs.declared.workload.SchedPart.{SchedPart}
 use Rattle.abt_machine.specs.declared.workload.UnitPart.{UnitPart}
+use Rattle.abt_machine.specs.Limits.{stream_limit, text_limit, unit_limit}
 use Rattle.abt_machine.specs.Words.{Text, text_of, numbered}
 use Rattle.abt_machine.specs.Workloads.{ops_of}
 
@@ -92,6 +95,7 @@ op_words W (op.KeyGet k) = codes "kget" ∷ decimal k ∷ []
 op_words W op.Yield = codes "yield" ∷ []
 op_words W (op.YieldTo v p) = codes "yieldto" ∷ decimal v.0 ∷ decimal p.0 ∷ []
 op_words W op.Suspend = codes "suspend" ∷ []
+op_words W op.Exit = codes "exit" ∷ []
 op_words W (op.Resume v) = codes "resume" ∷ decimal v.0 ∷ []
 op_words W (op.Create v p) = codes "create" ∷ decimal v.0 ∷ decimal p.0 ∷ []
 op_words W (op.Join v) = codes "join" ∷ decimal v.0 ∷ []
@@ -138,13 +142,14 @@ abbrev pub keys_lines : ℕ → List (List Text)
 keys_lines zero = []
 keys_lines (suc n) = (codes "keys" ∷ decimal (suc n) ∷ []) ∷ []
 
-abbrev pub version_line : List Text
-version_line = codes "abt" ∷ codes "1" ∷ []
+abbrev pub version_line : Format → List Text
+version_line format.One = codes "abt" ∷ codes "1" ∷ []
+version_line format.Two = codes "abt" ∷ codes "2" ∷ []
 
--- the lines of a workload, each as its words
-abbrev pub workload_lines : Parts → List (List Text)
-workload_lines W =
-    version_line ∷
+-- the lines of a workload in a format, each as its words
+abbrev pub workload_lines : Format → Parts → List (List Text)
+workload_lines F W =
+    version_line F ∷
     (codes "streams" ∷ decimal W.streams ∷ []) ∷
     keys_lines W.keys ++
     numbered pool_line W.pools ++
@@ -155,9 +160,17 @@ workload_lines W =
     flat_map (λ p. unit_lines W p.0 p.1) (enumerate_from 0 W.units) ++
     (codes "end" ∷ []) ∷ []
 
--- a text that is one byte longer than 4,194,304 goes without its last line feed
-abbrev pub fitted : Text → Text
-fitted text = if length text == 4194305 then take (length text - 1) text else text
+-- the text of a workload in a format
+abbrev pub text_in : Format → Parts → Text
+text_in F W = text_of (workload_lines F W)
+
+-- a format has a workload of as many streams and units, and a text of as many bytes as this one has in it
+abbrev pub has_text : Format → Parts → Bool
+has_text F W = nat_le W.streams (stream_limit F) && nat_le (length W.units) (unit_limit F) && nat_le (length (text_in F W)) (text_limit F)
+
+-- a workload is written in format 1 exactly if that has a text of it
+abbrev pub format_for : Parts → Format
+format_for W = if has_text format.One W then format.One else format.Two
 
 abbrev pub canonical_text : Parts → Text
-canonical_text W = fitted (text_of (workload_lines W))
+canonical_text W = text_in (format_for W) W

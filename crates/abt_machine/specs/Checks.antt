@@ -1,9 +1,11 @@
 -- The facts of a valid workload's parts, as each is looked at.
 use Rattle.std.specs.Prelude.{ℕ, ◌≡◌, ◌≢◌, ◌==◌, ◌+◌, ◌<◌, ◌≤◌, ◌&&◌, Bool, true, false, not, nat_lt, option_and_then, if◌then◌else◌, List, [], ◌∷◌, length, slice_index_or, slice_set, All, AllPairs, Option, Some, None}
+use Rattle.abt_machine.specs.declared.grammar.Format.TheVariants as format
 use Rattle.abt_machine.specs.declared.numbers.PoolNo.{PoolNo}
 use Rattle.abt_machine.specs.declared.workload.Parts.{Parts}
 use Rattle.abt_machine.specs.declared.workload.SchedPart.{SchedPart}
 use Rattle.abt_machine.specs.declared.workload.UnitPart.{UnitPart}
+use Rattle.abt_machine.specs.Limits.{stream_limit, unit_limit, unit_operation_limit}
 use Rattle.abt_machine.specs.Operations.{IsDeclared}
 use Rattle.abt_machine.specs.Valid.{IsBody, IsRule}
 use Rattle.abt_machine.specs.Workloads.{ops_of}
@@ -11,7 +13,7 @@ use Rattle.abt_machine.specs.Workloads.{ops_of}
 -- there are as many of each as there may be
 pub record AreCounts (W : Parts) : Type 0 where
   pub some_stream : 0 < W.streams
-  pub few_streams : W.streams ≤ 8
+  pub few_streams : W.streams ≤ stream_limit format.Two
   pub few_keys : W.keys ≤ 16
   pub some_pool : 0 < length W.pools
   pub few_pools : length W.pools ≤ 64
@@ -19,7 +21,7 @@ pub record AreCounts (W : Parts) : Type 0 where
   pub few_scheds : length W.scheds ≤ 64
   pub mains : length W.mains ≡ W.streams
   pub few_objects : length W.objects ≤ 256
-  pub few_units : length W.units ≤ 256
+  pub few_units : length W.units ≤ unit_limit format.Two
 
 -- these are 1 to 8 declared pools, each once
 pub record AreListed (W : Parts) (pools : List PoolNo) : Type 0 where
@@ -41,9 +43,14 @@ IsStart W (Some p) = p.0 < length W.pools
 -- a unit's body, operations and pool
 pub record IsUnitPart (W : Parts) (part : UnitPart) : Type 0 where
   pub kind : IsBody W part.body
-  pub few_ops : length (ops_of part.body) ≤ 256
+  pub few_ops : length (ops_of part.body) ≤ unit_operation_limit
   pub ops : All (IsDeclared W) (ops_of part.body)
   pub start : IsStart W part.start
+
+-- what is left of room after so much is taken of it, if there is enough
+abbrev pub IsLeft : ℕ → ℕ → Option ℕ → Type 0
+IsLeft room taken None = room < taken
+IsLeft room taken (Some left) = left + taken ≡ room
 
 -- the number after these, if they count up from n
 abbrev pub after_said : ℕ → List ℕ → Option ℕ

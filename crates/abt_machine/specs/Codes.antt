@@ -58,6 +58,7 @@ code_of W S s u (op.KeyGet k) = code.Ok
 code_of W S s u op.Yield = code.Ok
 code_of W S s u (op.YieldTo v p) = unless (may_take W s p.0) code.PoolAccess (unless (is_in_pool p.0 (S.place v.0)) code.Absent code.Ok)
 code_of W S s u op.Suspend = code.Ok
+code_of W S s u op.Exit = code.Ok
 code_of W S s u (op.Resume v) = unless (is_suspended (S.place v.0)) code.UnitState code.Ok
 code_of W S s u (op.Create v p) = unless (may_put W s p.0) code.PoolAccess (unless (is_unborn (S.place v.0)) code.Exists code.Ok)
 code_of W S s u (op.Join v) = code.Ok

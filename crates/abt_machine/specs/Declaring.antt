@@ -1,7 +1,9 @@
 -- What the lines of a workload text declare.
-use Rattle.std.specs.Prelude.{ℕ, ◌+◌, ◌==◌, if◌then◌else◌, Bool, false, List, [], ◌∷◌, ◌++◌, length, drop, flat_map, map, replicate, slice_index_or, slice_set, Option, Some, None, bytes_eq, codes, option_map, option_to_list, unwrap_or}
+use Rattle.std.specs.Prelude.{ℕ, zero, suc, ◌+◌, ◌==◌, if◌then◌else◌, Bool, false, List, [], ◌∷◌, ◌++◌, length, drop, flat_map, map, replicate, slice_index_or, slice_set, Option, Some, None, bytes_eq, codes, option_map, option_to_list, unwrap_or}
 use Rattle.abt_machine.specs.declared.grammar.Form.{Form}
 use Rattle.abt_machine.specs.declared.grammar.Form.TheVariants as form
+use Rattle.abt_machine.specs.declared.grammar.Format.{Format}
+use Rattle.abt_machine.specs.declared.grammar.Format.TheVariants as format
 use Rattle.abt_machine.specs.declared.grammar.Role.{Role}
 use Rattle.abt_machine.specs.declared.grammar.Role.TheVariants as role
 use Rattle.abt_machine.specs.declared.numbers.PoolNo.{PoolNo}
@@ -31,6 +33,8 @@ use Rattle.abt_machine.specs.Words.{Text}
 pub record Above : Type 0 where
   -- whether a line is among them that is not skipped
   pub begun : Bool
+  -- the format that the version line names
+  pub format : Format
   -- the section of the last line that declares something, 0 if there is none
   pub section : ℕ
   -- the number of streams, if it is declared
@@ -44,19 +48,61 @@ pub record Above : Type 0 where
   pub objects : List Thing
   -- the number of units, if it is declared
   pub unit_count : Option ℕ
-  -- the units that are declared but the last
+  -- the units that are declared but those of the last `unit` or `many` line
   pub units : List UnitPart
-  -- the unit that is declared last, which has the operation lines that follow
+  -- the unit that this last line declares, which has the operation lines that follow; the first of them if it is a `many` line
   pub last : Option UnitPart
-  -- the words that units say
+  -- how many such units the line declares
+  pub copies : ℕ
+  -- the words that the units before the last say
   pub words : List Text
+  -- the words that the last unit says, and each of its copies
+  pub said : List Text
 
 abbrev pub nothing : Above
-nothing = record { begun = false; section = 0; streams = None; keys = 0; pools = []; scheds = []; mains = []; objects = []; unit_count = None; units = []; last = None; words = [] }
+nothing = record { begun = false; format = format.One; section = 0; streams = None; keys = 0; pools = []; scheds = []; mains = []; objects = []; unit_count = None; units = []; last = None; copies = 0; words = []; said = [] }
+
+-- Copies of a unit.
+
+-- an operation whose word, if it says one, has a number that is so much higher
+abbrev pub op_later : ℕ → Op → Op
+op_later n (op.Say w) = op.Say (w + n)
+op_later n o = o
+
+abbrev pub body_later : ℕ → Body → Body
+body_later n (body.Ult ops) = body.Ult (map (op_later n) ops)
+body_later n (body.Task ops) = body.Task (map (op_later n) ops)
+body_later n (body.Sched g) = body.Sched g
+
+abbrev pub unit_later : ℕ → UnitPart → UnitPart
+unit_later n part = record part { body = body_later n part.body }
+
+-- so many units like this one, which says so many words: each unit says words of its own, whose numbers follow those of the unit before it
+abbrev pub alike : ℕ → ℕ → UnitPart → List UnitPart
+alike zero said part = []
+alike (suc n) said part = part ∷ alike n said (unit_later said part)
+
+-- the same words so many times
+abbrev pub repeated : ℕ → List Text → List Text
+repeated zero words = []
+repeated (suc n) words = words ++ repeated n words
+
+-- the units that the last `unit` or `many` line declares
+abbrev pub last_units : Above → Option UnitPart → List UnitPart
+last_units a None = []
+last_units a (Some part) = alike a.copies (length a.said) part
+
+-- the units that are declared
+abbrev pub units_of : Above → List UnitPart
+units_of a = a.units ++ last_units a a.last
+
+-- the words that they say, in order of unit and then of position
+abbrev pub said_words : Above → List Text
+said_words a = a.words ++ repeated a.copies a.said
 
 -- how many units are declared
 abbrev pub declared_units : Above → ℕ
-declared_units a = length a.units + length (option_to_list a.last)
+declared_units a = length (units_of a)
 
 -- what is declared, as a workload's parts
 abbrev pub parts_of : Above → Parts
@@ -67,8 +113,8 @@ parts_of a = record {
   scheds = a.scheds;
   mains = flat_map option_to_list a.mains;
   objects = a.objects;
-  units = a.units ++ option_to_list a.last;
-  words = a.words;
+  units = units_of a;
+  words = said_words a;
 }
 
 -- What a line's numbers and words are.
@@ -117,7 +163,7 @@ thing_with thing.Eventual words numbers = thing.Eventual
 thing_with (thing.Future n c) words numbers = thing.Future (at numbers 1) (combine_named (word_in words 4))
 thing_with (thing.Barrier n) words numbers = thing.Barrier (at numbers 1)
 
--- the body of a `unit` line, whose first number is the unit's
+-- the body of a unit, by the numbers of a `unit` line, of which the first is the unit's
 abbrev pub body_with : Role → List ℕ → Body
 body_with role.Ult numbers = body.Ult []
 body_with role.Task numbers = body.Task []
@@ -132,7 +178,7 @@ start_place role.Sched = 2
 abbrev pub start_with : Role → Option PoolNo → List ℕ → Option PoolNo
 start_with r start numbers = option_map (λ (p : PoolNo). pool_no (at numbers (start_place r))) start
 
--- the operation with these numbers; the words that units say are counted, and this many are said above
+-- the operation with these numbers; the words that units say are counted, and this many are said before it
 abbrev pub op_with : Op → ℕ → List ℕ → Op
 op_with (op.Set n) said numbers = op.Set (at numbers 0)
 op_with (op.Add n) said numbers = op.Add (at numbers 0)
@@ -143,6 +189,7 @@ op_with (op.KeyGet k) said numbers = op.KeyGet (at numbers 0)
 op_with op.Yield said numbers = op.Yield
 op_with (op.YieldTo v p) said numbers = op.YieldTo (unit_no (at numbers 0)) (pool_no (at numbers 1))
 op_with op.Suspend said numbers = op.Suspend
+op_with op.Exit said numbers = op.Exit
 op_with (op.Resume v) said numbers = op.Resume (unit_no (at numbers 0))
 op_with (op.Create v p) said numbers = op.Create (unit_no (at numbers 0)) (pool_no (at numbers 1))
 op_with (op.Join v) said numbers = op.Join (unit_no (at numbers 0))
@@ -194,9 +241,22 @@ body_and o (body.Sched g) = body.Sched g
 abbrev pub unit_and : Op → UnitPart → UnitPart
 unit_and o part = record part { body = body_and o part.body }
 
+-- what is declared with a line that declares so many units like this one
+abbrev pub with_units : Above → ℕ → UnitPart → Above
+with_units a n part = record a { units = units_of a; last = Some part; copies = n; words = said_words a; said = [] }
+
+-- what is declared with an operation line of these words and numbers
+abbrev pub with_operation : Op → List Text → List ℕ → Above → Above
+with_operation o words numbers a = record a { last = option_map (unit_and (op_with o (length a.words + length a.said) numbers)) a.last; said = a.said ++ said_in o words }
+
+-- with so many such lines
+abbrev pub with_operations : ℕ → Op → List Text → List ℕ → Above → Above
+with_operations zero o words numbers a = a
+with_operations (suc n) o words numbers a = with_operations n o words numbers (with_operation o words numbers a)
+
 -- what is declared with a line of this form, these words and these numbers
 abbrev pub declared_with : Above → Form → List Text → List ℕ → Above
-declared_with a form.Version words numbers = a
+declared_with a (form.Version F) words numbers = record a { format = F }
 declared_with a form.Streams words numbers = record a { streams = Some (at numbers 0); mains = replicate (at numbers 0) None }
 declared_with a form.Keys words numbers = record a { keys = at numbers 0 }
 declared_with a (form.Pool access) words numbers = record a { pools = a.pools ++ pool_with access words numbers ∷ [] }
@@ -204,6 +264,8 @@ declared_with a (form.Sched rule) words numbers = record a { scheds = a.scheds +
 declared_with a form.Stream words numbers = record a { mains = slice_set a.mains (at numbers 0) (Some (sched_no (at numbers 1))) }
 declared_with a (form.Object thing) words numbers = record a { objects = a.objects ++ thing_with thing words numbers ∷ [] }
 declared_with a form.Units words numbers = record a { unit_count = Some (at numbers 0) }
-declared_with a (form.Unit role start) words numbers = record a { units = a.units ++ option_to_list a.last; last = Some (unit_with role start numbers) }
+declared_with a (form.Unit role start) words numbers = with_units a 1 (unit_with role start numbers)
+declared_with a (form.Many role start) words numbers = with_units a (at numbers 1) (unit_with role start (drop 1 numbers))
 declared_with a form.End words numbers = a
-declared_with a (form.Operation o) words numbers = record a { last = option_map (unit_and (op_with o (length a.words) numbers)) a.last; words = a.words ++ said_in o words }
+declared_with a (form.Operation o) words numbers = with_operation o words numbers a
+declared_with a (form.Repeat o) words numbers = with_operations (at numbers 0) o (drop 2 words) (drop 1 numbers) a

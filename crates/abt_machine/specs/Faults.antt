@@ -1,10 +1,12 @@
 -- The faults of a line, by the lines above it.
-use Rattle.std.specs.Prelude.{ℕ, ◌==◌, ◌&&◌, ◌||◌, if◌then◌else◌, Bool, true, false, not, is_none, is_some, length, List, [], ◌∷◌, find, map, nat_le, nat_lt, Option, Some, None, slice_get, unwrap_or}
+use Rattle.std.specs.Prelude.{ℕ, ◌+◌, ◌*◌, ◌==◌, ◌&&◌, ◌||◌, if◌then◌else◌, Bool, true, false, not, is_none, is_some, length, drop, List, [], ◌∷◌, find, map, nat_le, nat_lt, Option, Some, None, slice_get, unwrap_or}
 use Rattle.std.specs.List.{list_all, list_any}
 use Rattle.std.specs.Option.{option_map_or}
 use Rattle.std.specs.Str.{is_utf8}
 use Rattle.abt_machine.specs.declared.grammar.Form.{Form}
 use Rattle.abt_machine.specs.declared.grammar.Form.TheVariants as form
+use Rattle.abt_machine.specs.declared.grammar.Format.{Format}
+use Rattle.abt_machine.specs.declared.grammar.Format.TheVariants as format
 use Rattle.abt_machine.specs.declared.grammar.Number.{Number}
 use Rattle.abt_machine.specs.declared.grammar.Number.TheVariants as number
 use Rattle.abt_machine.specs.declared.grammar.Role.TheVariants as role
@@ -18,13 +20,14 @@ use Rattle.abt_machine.specs.declared.program.Fault.{Fault}
 use Rattle.abt_machine.specs.declared.program.Fault.TheVariants as fault
 use Rattle.abt_machine.specs.declared.workload.UnitPart.{UnitPart}
 use Rattle.abt_machine.specs.Access.{may_take_all}
-use Rattle.abt_machine.specs.Declaring.{Above, at, declared_units, listed, parts_of, word_in}
-use Rattle.abt_machine.specs.Forms.{begins, fits, form_of, forms, numerals, section, slots}
+use Rattle.abt_machine.specs.Declaring.{Above, at, declared_units, listed, parts_of, units_of, word_in}
+use Rattle.abt_machine.specs.Forms.{begins, fits, form_of, forms, is_in, numerals, section, slots}
+use Rattle.abt_machine.specs.Limits.{operation_limit, stream_limit, unit_limit, unit_operation_limit}
 use Rattle.abt_machine.specs.Operations.{may_block}
 use Rattle.abt_machine.specs.Spelling.{has_control, is_number, value_of, words_of}
 use Rattle.abt_machine.specs.Valid.{placed_scheds}
 use Rattle.abt_machine.specs.Words.{Text}
-use Rattle.abt_machine.specs.Workloads.{is_sched, ops_of}
+use Rattle.abt_machine.specs.Workloads.{all_ops, is_sched, ops_of}
 
 -- Skipped lines.
 
@@ -39,15 +42,15 @@ is_skipped (word ∷ words) = begins_comment word
 
 -- Version.
 
--- it is the first line that is not skipped, and its words are not `abt`, `1`
+-- it is the first line that is not skipped, and its words are neither `abt`, `1` nor `abt`, `2`
 abbrev pub is_no_version : Above → List Text → Bool
-is_no_version a words = not a.begun && not (fits (slots form.Version) words)
+is_no_version a words = not a.begun && not (fits (slots (form.Version format.One)) words || fits (slots (form.Version format.Two)) words)
 
 -- Unknown.
 
--- its first word begins no line
-abbrev pub is_unknown : List Text → Bool
-is_unknown words = not (list_any (λ f. begins (slots f) words) forms)
+-- its first word begins no line of the text's format
+abbrev pub is_unknown : Format → List Text → Bool
+is_unknown F words = not (list_any (λ f. is_in F f && begins (slots f) words) forms)
 
 -- Shape.
 
@@ -60,13 +63,15 @@ abbrev pub takes_operations : Option UnitPart → Bool
 takes_operations None = false
 takes_operations (Some part) = not (is_sched part.body)
 
--- an operation before any `unit` line, or for a scheduler unit
+-- an operation before any `unit` or `many` line, or for a scheduler unit; a `many` line before `units`
 abbrev pub is_homeless : Above → Form → Bool
 is_homeless a (form.Operation o) = not (takes_operations a.last)
+is_homeless a (form.Repeat o) = not (takes_operations a.last)
+is_homeless a (form.Many r start) = is_none a.unit_count
 is_homeless a f = false
 
--- it belongs to a section before the one that was reached; it is a second line of a section that has one; it is an
--- operation that belongs to no unit; it follows `end`
+-- it belongs to a section before the one that was reached; it is a second line of a section that has one; it has no place
+-- yet; it follows `end`
 abbrev pub is_misplaced : Above → Form → Bool
 is_misplaced a f = nat_lt (section f) a.section || ((section f == a.section) && is_single (section f)) || is_homeless a f || (a.section == 10)
 
@@ -85,7 +90,7 @@ has_repeated [] = false
 has_repeated (n ∷ ns) = list_any (λ m. m == n) ns || has_repeated ns
 
 -- it declares a number that is declared; it names a pool twice; it gives a stream a second main scheduler; it gives a
--- scheduler a second place
+-- scheduler a second place, as does a `many` line of two or more units with a scheduler
 abbrev pub is_twice : Above → Form → List ℕ → Bool
 is_twice a (form.Pool access) numbers = nat_lt (at numbers 0) (length a.pools)
 is_twice a (form.Sched rule) numbers = nat_lt (at numbers 0) (length a.scheds) || has_repeated (listed rule numbers)
@@ -93,6 +98,8 @@ is_twice a form.Stream numbers = has_main a (at numbers 0) || is_placed a (at nu
 is_twice a (form.Object thing) numbers = nat_lt (at numbers 0) (length a.objects)
 is_twice a (form.Unit role.Sched start) numbers = nat_lt (at numbers 0) (declared_units a) || is_placed a (at numbers 1)
 is_twice a (form.Unit r start) numbers = nat_lt (at numbers 0) (declared_units a)
+is_twice a (form.Many role.Sched start) numbers = nat_lt (at numbers 0) (declared_units a) || nat_lt 1 (at numbers 1) || is_placed a (at numbers 2)
+is_twice a (form.Many r start) numbers = nat_lt (at numbers 0) (declared_units a)
 is_twice a f numbers = false
 
 -- Undeclared.
@@ -121,14 +128,15 @@ is_barrier t = false
 abbrev pub has_object : Above → (Thing → Bool) → ℕ → Bool
 has_object a test x = option_map_or test (slice_get a.objects x) false
 
--- a number that is declared here skips none of its kind, and a unit's is one of those that `units` has; what is named is
--- there, an object as the thing that its word needs
+-- a number that is declared here skips none of its kind; what is named is there, an object as the thing that its word needs
 abbrev pub is_there : Above → Number → ℕ → Bool
 is_there a (number.Within low high) n = true
+is_there a number.StreamCount n = true
+is_there a number.UnitCount n = true
 is_there a number.NewPool n = nat_le n (length a.pools)
 is_there a number.NewSched n = nat_le n (length a.scheds)
 is_there a number.NewObject n = nat_le n (length a.objects)
-is_there a number.NewUnit n = nat_le n (declared_units a) && nat_lt n (unwrap_or a.unit_count 0)
+is_there a number.NewUnit n = nat_le n (declared_units a)
 is_there a number.Stream n = nat_lt n (unwrap_or a.streams 0)
 is_there a number.Pool n = nat_lt n (length a.pools)
 is_there a number.Sched n = nat_lt n (length a.scheds)
@@ -140,30 +148,51 @@ is_there a number.Eventual n = has_object a is_eventual n
 is_there a number.Future n = has_object a is_future n
 is_there a number.Barrier n = has_object a is_barrier n
 
+-- there are fewer than n units
+abbrev pub lacks_units : Above → ℕ → Bool
+lacks_units a n = nat_lt (unwrap_or a.unit_count 0) n
+
+-- it declares a unit that is not one of those that `units` has
+abbrev pub is_beyond : Above → Form → List ℕ → Bool
+is_beyond a (form.Unit r start) numbers = lacks_units a (at numbers 0 + 1)
+is_beyond a (form.Many r start) numbers = lacks_units a (at numbers 0 + at numbers 1)
+is_beyond a f numbers = false
+
 -- Limit.
 
 -- a number that has bounds keeps them
-abbrev pub is_within : Number → ℕ → Bool
-is_within (number.Within low high) n = nat_le low n && nat_le n high
-is_within kind n = true
+abbrev pub is_within : Format → Number → ℕ → Bool
+is_within F (number.Within low high) n = nat_le low n && nat_le n high
+is_within F number.StreamCount n = nat_le 1 n && nat_le n (stream_limit F)
+is_within F number.UnitCount n = nat_le n (unit_limit F)
+is_within F kind n = true
 
--- a unit that may have no further operation
-abbrev pub is_long : Option UnitPart → Bool
-is_long None = false
-is_long (Some part) = nat_le 256 (length (ops_of part.body))
+-- a unit has too many operations with n more
+abbrev pub is_long : Option UnitPart → ℕ → Bool
+is_long None n = false
+is_long (Some part) n = nat_lt unit_operation_limit (length (ops_of part.body) + n)
+
+-- all units have too many operations, if each that the last `unit` or `many` line declares has n more
+abbrev pub is_crowded : Above → ℕ → Bool
+is_crowded a n = nat_lt operation_limit (length (all_ops (units_of a)) + a.copies * n)
+
+-- the last unit may not have n operations more
+abbrev pub has_no_room : Above → ℕ → Bool
+has_no_room a n = is_long a.last n || is_crowded a n
 
 -- a said word of more than 64 bytes
 abbrev pub is_long_word : Op → List Text → Bool
 is_long_word (op.Say w) words = nat_lt 64 (length (word_in words 1))
 is_long_word o words = false
 
--- there are as many as there may be: 64 pools, 64 schedulers with 8 pools each, 256 objects, 256 operations of a unit, and
--- 64 bytes of a word; the numbers of streams, keys and units have their bounds in the table of forms
+-- there are as many as there may be: 64 pools, 64 schedulers with 8 pools each, 256 objects, as many operations as a unit and
+-- all units may have, and 64 bytes of a word; the numbers of streams, keys and units are looked at by themselves
 abbrev pub is_past_limit : Above → Form → List Text → List ℕ → Bool
 is_past_limit a (form.Pool access) words numbers = nat_le 64 (length a.pools)
 is_past_limit a (form.Sched rule) words numbers = nat_le 64 (length a.scheds) || nat_lt 8 (length (listed rule numbers))
 is_past_limit a (form.Object thing) words numbers = nat_le 256 (length a.objects)
-is_past_limit a (form.Operation o) words numbers = is_long a.last || is_long_word o words
+is_past_limit a (form.Operation o) words numbers = has_no_room a 1 || is_long_word o words
+is_past_limit a (form.Repeat o) words numbers = has_no_room a (at numbers 0) || is_long_word o (drop 2 words)
 is_past_limit a f words numbers = false
 
 -- TaskBlocks and Access.
@@ -180,6 +209,7 @@ is_task (Some part) = is_task_body part.body
 -- it is an operation that may block or yield, for a task
 abbrev pub blocks_task : Above → Form → Bool
 blocks_task a (form.Operation o) = is_task a.last && may_block o
+blocks_task a (form.Repeat o) = is_task a.last && may_block o
 blocks_task a f = false
 
 -- it is a `stream` line whose scheduler lists a pool from which that stream may not take
@@ -192,11 +222,13 @@ is_barred a f numbers = false
 -- a line of section 3 to 10 comes before `streams`; a `units` line comes while there is no pool or a stream has no main
 -- scheduler; a line of section 9 or 10 comes before `units`; `end` comes while a unit is not declared
 abbrev pub is_early : Above → Form → Bool
-is_early a form.Version = false
+is_early a (form.Version F) = false
 is_early a form.Streams = false
 is_early a form.Units = is_none a.streams || (length a.pools == 0) || list_any is_none a.mains
 is_early a (form.Unit r start) = is_none a.streams || is_none a.unit_count
+is_early a (form.Many r start) = is_none a.streams || is_none a.unit_count
 is_early a (form.Operation o) = is_none a.streams || is_none a.unit_count
+is_early a (form.Repeat o) = is_none a.streams || is_none a.unit_count
 is_early a form.End = is_none a.streams || is_none a.unit_count || nat_lt (declared_units a) (unwrap_or a.unit_count 0)
 is_early a f = is_none a.streams
 
@@ -217,12 +249,12 @@ of_form test form = option_map_or test form false
 abbrev pub has : Above → Text → List Text → Option Form → Fault → Bool
 has a line words form fault.Utf8 = not (is_utf8 line)
 has a line words form fault.Version = is_no_version a words
-has a line words form fault.Unknown = is_unknown words
+has a line words form fault.Unknown = is_unknown a.format words
 has a line words form fault.Shape = is_none form || has_control line || of_form (is_misplaced a) form
 has a line words form fault.Number = of_form (λ f. not (list_all (λ p. is_number p.1) (numerals (slots f) words))) form
 has a line words form fault.Twice = of_form (λ f. is_twice a f (values_of f words)) form
-has a line words form fault.Undeclared = of_form (λ f. not (list_all (λ p. is_there a p.0 p.1) (numbers_of f words))) form
-has a line words form fault.Limit = of_form (λ f. not (list_all (λ p. is_within p.0 p.1) (numbers_of f words)) || is_past_limit a f words (values_of f words)) form
+has a line words form fault.Undeclared = of_form (λ f. not (list_all (λ p. is_there a p.0 p.1) (numbers_of f words)) || is_beyond a f (values_of f words)) form
+has a line words form fault.Limit = of_form (λ f. not (list_all (λ p. is_within a.format p.0 p.1) (numbers_of f words)) || is_past_limit a f words (values_of f words)) form
 has a line words form fault.TaskBlocks = of_form (blocks_task a) form
 has a line words form fault.Access = of_form (λ f. is_barred a f (values_of f words)) form
 has a line words form fault.NoEnd = false
@@ -235,7 +267,7 @@ has_skipped line f = false
 
 -- the line has this fault below lines that declare a
 abbrev pub line_has : Above → Text → Fault → Bool
-line_has a line f = if is_skipped (words_of line) then has_skipped line f else has a line (words_of line) (form_of (words_of line)) f
+line_has a line f = if is_skipped (words_of line) then has_skipped line f else has a line (words_of line) (form_of a.format (words_of line)) f
 
 -- in the order in which they are looked for
 abbrev pub faults : List Fault

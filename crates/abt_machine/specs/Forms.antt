@@ -2,6 +2,8 @@
 use Rattle.std.specs.Prelude.{ℕ, ◌-◌, ◌^◌, ◌||◌, ◌&&◌, Bool, true, false, List, [], ◌∷◌, ◌++◌, map, find, Option, Some, None, codes, bytes_eq}
 use Rattle.abt_machine.specs.declared.grammar.Form.{Form}
 use Rattle.abt_machine.specs.declared.grammar.Form.TheVariants as form
+use Rattle.abt_machine.specs.declared.grammar.Format.{Format}
+use Rattle.abt_machine.specs.declared.grammar.Format.TheVariants as format
 use Rattle.abt_machine.specs.declared.grammar.Number.{Number}
 use Rattle.abt_machine.specs.declared.grammar.Number.TheVariants as number
 use Rattle.abt_machine.specs.declared.grammar.Role.{Role}
@@ -16,6 +18,7 @@ use Rattle.abt_machine.specs.declared.operations.Rule.{Rule}
 use Rattle.abt_machine.specs.declared.operations.Rule.TheVariants as rule
 use Rattle.abt_machine.specs.declared.operations.Thing.{Thing}
 use Rattle.abt_machine.specs.declared.operations.Thing.TheVariants as thing
+use Rattle.abt_machine.specs.Limits.{unit_limit, unit_operation_limit}
 use Rattle.abt_machine.specs.Numbers.{object_no, pool_no, stream_no, unit_no}
 use Rattle.abt_machine.specs.Words.{Text}
 
@@ -83,6 +86,7 @@ op_slots (op.KeyGet k) = Fixed (codes "kget") ∷ Numeral number.Key ∷ []
 op_slots op.Yield = Fixed (codes "yield") ∷ []
 op_slots (op.YieldTo v p) = Fixed (codes "yieldto") ∷ Numeral number.Unit ∷ Numeral number.Pool ∷ []
 op_slots op.Suspend = Fixed (codes "suspend") ∷ []
+op_slots op.Exit = Fixed (codes "exit") ∷ []
 op_slots (op.Resume v) = Fixed (codes "resume") ∷ Numeral number.Unit ∷ []
 op_slots (op.Create v p) = Fixed (codes "create") ∷ Numeral number.Unit ∷ Numeral number.Pool ∷ []
 op_slots (op.Join v) = Fixed (codes "join") ∷ Numeral number.Unit ∷ []
@@ -111,21 +115,30 @@ op_slots (op.BarWait x) = Fixed (codes "bwait") ∷ Numeral number.Barrier ∷ [
 
 -- the places of a line of each form
 abbrev pub slots : Form → List Slot
-slots form.Version = Fixed (codes "abt") ∷ Fixed (codes "1") ∷ []
-slots form.Streams = Fixed (codes "streams") ∷ within 1 8 ∷ []
+slots (form.Version format.One) = Fixed (codes "abt") ∷ Fixed (codes "1") ∷ []
+slots (form.Version format.Two) = Fixed (codes "abt") ∷ Fixed (codes "2") ∷ []
+slots form.Streams = Fixed (codes "streams") ∷ Numeral number.StreamCount ∷ []
 slots form.Keys = Fixed (codes "keys") ∷ within 0 16 ∷ []
 slots (form.Pool a) = Fixed (codes "pool") ∷ Numeral number.NewPool ∷ KindWord ∷ access_slots a
 slots (form.Sched r) = Fixed (codes "sched") ∷ Numeral number.NewSched ∷ rule_slots r
 slots form.Stream = Fixed (codes "stream") ∷ Numeral number.Stream ∷ Fixed (codes "main") ∷ Numeral number.Sched ∷ []
 slots (form.Object t) = Fixed (codes "object") ∷ Numeral number.NewObject ∷ thing_slots t
-slots form.Units = Fixed (codes "units") ∷ within 0 256 ∷ []
+slots form.Units = Fixed (codes "units") ∷ Numeral number.UnitCount ∷ []
 slots (form.Unit r start) = Fixed (codes "unit") ∷ Numeral number.NewUnit ∷ role_slots r ++ start_slots start
+slots (form.Many r start) = Fixed (codes "many") ∷ Numeral number.NewUnit ∷ within 1 (unit_limit format.Two) ∷ role_slots r ++ start_slots start
 slots form.End = Fixed (codes "end") ∷ []
 slots (form.Operation o) = op_slots o
+slots (form.Repeat o) = Fixed (codes "repeat") ∷ within 1 unit_operation_limit ∷ op_slots o
+
+-- a line of this form stands in texts of this format
+abbrev pub is_in : Format → Form → Bool
+is_in format.One (form.Many r start) = false
+is_in format.One (form.Repeat o) = false
+is_in F f = true
 
 -- the section that a line belongs to
 abbrev pub section : Form → ℕ
-section form.Version = 1
+section (form.Version F) = 1
 section form.Streams = 2
 section form.Keys = 3
 section (form.Pool a) = 4
@@ -134,15 +147,17 @@ section form.Stream = 6
 section (form.Object t) = 7
 section form.Units = 8
 section (form.Unit r start) = 9
+section (form.Many r start) = 9
 section form.End = 10
 section (form.Operation o) = 9
+section (form.Repeat o) = 9
 
 -- All forms, one of each.
 
 abbrev pub operations : List Op
 operations =
     op.Set 0 ∷ op.Add 0 ∷ op.Say 0 ∷ op.Print ∷ op.KeySet 0 ∷ op.KeyGet 0 ∷ op.Yield ∷ op.YieldTo (unit_no 0) (pool_no 0) ∷
-    op.Suspend ∷ op.Resume (unit_no 0) ∷ op.Create (unit_no 0) (pool_no 0) ∷ op.Join (unit_no 0) ∷ op.Cancel (unit_no 0) ∷
+    op.Suspend ∷ op.Exit ∷ op.Resume (unit_no 0) ∷ op.Create (unit_no 0) (pool_no 0) ∷ op.Join (unit_no 0) ∷ op.Cancel (unit_no 0) ∷
     op.Migrate (unit_no 0) (pool_no 0) ∷ op.MigrateTo (unit_no 0) (stream_no 0) ∷ op.Migratable (unit_no 0) false ∷
     op.Revive (unit_no 0) (pool_no 0) ∷
     op.Lock (object_no 0) ∷ op.TryLock (object_no 0) ∷ op.Unlock (object_no 0) ∷ op.Load (object_no 0) ∷ op.Store (object_no 0) ∷
@@ -164,10 +179,15 @@ things = thing.Mutex ∷ thing.Cond (object_no 0) ∷ thing.Eventual ∷ thing.F
 abbrev pub unit_forms : Role → List Form
 unit_forms r = form.Unit r (Some (pool_no 0)) ∷ form.Unit r None ∷ []
 
+-- the same of a `many` line
+abbrev pub many_forms : Role → List Form
+many_forms r = form.Many r (Some (pool_no 0)) ∷ form.Many r None ∷ []
+
 abbrev pub forms : List Form
 forms =
-    form.Version ∷ form.Streams ∷ form.Keys ∷ map form.Pool accesses ++ map form.Sched rules ++ form.Stream ∷ map form.Object things ++
-    form.Units ∷ unit_forms role.Ult ++ unit_forms role.Task ++ unit_forms role.Sched ++ form.End ∷ map form.Operation operations
+    form.Version format.One ∷ form.Version format.Two ∷ form.Streams ∷ form.Keys ∷ map form.Pool accesses ++ map form.Sched rules ++ form.Stream ∷ map form.Object things ++
+    form.Units ∷ unit_forms role.Ult ++ unit_forms role.Task ++ unit_forms role.Sched ++ form.End ∷ map form.Operation operations ++
+    many_forms role.Ult ++ many_forms role.Task ++ many_forms role.Sched ++ map form.Repeat operations
 
 -- Which form a line has.
 
@@ -188,9 +208,9 @@ fits (slot ∷ places) [] = false
 fits (PoolList ∷ places) (word ∷ words) = true
 fits (slot ∷ places) (word ∷ words) = suits slot word && fits places words
 
--- the form of a line of these words, if it has one
-abbrev pub form_of : List Text → Option Form
-form_of words = find (λ f. fits (slots f) words) forms
+-- the form of a line of these words in a text of this format, if it has one
+abbrev pub form_of : Format → List Text → Option Form
+form_of F words = find (λ f. is_in F f && fits (slots f) words) forms
 
 -- a line may begin with the word that these words begin with
 abbrev pub begins : List Slot → List Text → Bool

@@ -1,12 +1,16 @@
 -- Which texts are workload texts, which workload each is, and why every other text is refused.
-use Rattle.std.specs.Prelude.{ℕ, zero, suc, ◌≡◌, ◌<◌, ◌==◌, ◌&&◌, if◌then◌else◌, Bool, true, false, not, IsTrue, List, [], find, fold, length, nat_lt, take, slice_index_or, Option, Some, None}
+use Rattle.std.specs.Prelude.{ℕ, zero, suc, ◌≡◌, ◌<◌, ◌==◌, ◌&&◌, if◌then◌else◌, Bool, true, false, not, IsTrue, List, [], ◌∷◌, find, fold, length, nat_lt, take, slice_index_or, Option, Some, None}
 use Rattle.abt_machine.specs.declared.grammar.Form.{Form}
+use Rattle.abt_machine.specs.declared.grammar.Form.TheVariants as form
+use Rattle.abt_machine.specs.declared.grammar.Format.{Format}
+use Rattle.abt_machine.specs.declared.grammar.Format.TheVariants as format
 use Rattle.abt_machine.specs.declared.program.Fault.{Fault}
 use Rattle.abt_machine.specs.declared.program.Fault.TheVariants as fault
 use Rattle.abt_machine.specs.declared.workload.Parts.{Parts}
 use Rattle.abt_machine.specs.Declaring.{Above, declared_with, nothing, parts_of}
 use Rattle.abt_machine.specs.Faults.{faults, is_skipped, line_fault, line_has, values_of}
-use Rattle.abt_machine.specs.Forms.{form_of, section}
+use Rattle.abt_machine.specs.Forms.{fits, form_of, section, slots}
+use Rattle.abt_machine.specs.Limits.{text_limit}
 use Rattle.abt_machine.specs.Spelling.{lines_of, words_of}
 use Rattle.abt_machine.specs.Words.{Text}
 
@@ -19,7 +23,7 @@ and_form a words (Some f) = record (declared_with a f words (values_of f words))
 
 -- a line with a fault declares nothing
 abbrev pub and_words : Above → List Text → Option Fault → Above
-and_words a words None = and_form a words (form_of words)
+and_words a words None = and_form a words (form_of a.format words)
 and_words a words (Some f) = a
 
 -- what is declared with one line more; a line that is skipped declares nothing
@@ -32,9 +36,18 @@ declared_by = fold and_line nothing
 
 -- The faults of a text.
 
--- a text has at most 4,194,304 bytes
+-- the format of a text whose first line that is not skipped has these words
+abbrev pub format_in : List Text → Format
+format_in words = if fits (slots (form.Version format.Two)) words then format.Two else format.One
+
+-- the format of a text of these lines
+abbrev pub format_of : List Text → Format
+format_of [] = format.One
+format_of (line ∷ lines) = if is_skipped (words_of line) then format_of lines else format_in (words_of line)
+
+-- a text has at most as many bytes as its format allows
 abbrev pub is_too_long : Text → Fault → Bool
-is_too_long text fault.Limit = nat_lt 4194304 (length text)
+is_too_long text fault.Limit = nat_lt (text_limit (format_of (lines_of text))) (length text)
 is_too_long text f = false
 
 -- the line after the last has a fault if there was no `end`

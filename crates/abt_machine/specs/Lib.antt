@@ -17,6 +17,7 @@ pub mod Fronts
 pub mod Futures
 pub mod Gives
 pub mod Grammar
+pub mod Limits
 pub mod Lines
 pub mod Lives
 pub mod Maps

@@ -1,5 +1,5 @@
 -- What a journal says of each life of each unit.
-use Rattle.std.specs.Prelude.{ℕ, zero, suc, ◌≡◌, ◌<◌, ◌≤◌, ◌==◌, ◌&&◌, if◌then◌else◌, Bool, true, false, List, [], ◌∷◌, ◌++◌, length, filter_map, count_by, Option, Some, None, Contains}
+use Rattle.std.specs.Prelude.{ℕ, zero, suc, ◌≡◌, ◌≢◌, ◌<◌, ◌≤◌, ◌==◌, ◌&&◌, if◌then◌else◌, Bool, true, false, List, [], ◌∷◌, ◌++◌, length, take, filter_map, count_by, Option, Some, None, Contains}
 use Rattle.abt_machine.specs.declared.events.Cause.{Cause}
 use Rattle.abt_machine.specs.declared.events.Cause.TheVariants as cause
 use Rattle.abt_machine.specs.declared.events.Code.TheVariants as code
@@ -12,6 +12,7 @@ use Rattle.abt_machine.specs.declared.operations.Op.{Op}
 use Rattle.abt_machine.specs.declared.operations.Op.TheVariants as op
 use Rattle.abt_machine.specs.declared.workload.Parts.{Parts}
 use Rattle.abt_machine.specs.Workloads.{body_at, op_at, start_of}
+use Rattle.abt_machine.specs.Queues.{last}
 use Rattle.abt_machine.specs.Start.{first_life}
 
 -- the operation gives unit u a life
@@ -26,6 +27,7 @@ is_birth u (Some (op.KeyGet k)) = false
 is_birth u (Some op.Yield) = false
 is_birth u (Some (op.YieldTo v p)) = false
 is_birth u (Some op.Suspend) = false
+is_birth u (Some op.Exit) = false
 is_birth u (Some (op.Resume v)) = false
 is_birth u (Some (op.Create v p)) = v.0 == u
 is_birth u (Some (op.Join v)) = false
@@ -123,27 +125,44 @@ enters_in es = count_by is_enter es
 abbrev pub leaves_in : List What → ℕ
 leaves_in es = count_by is_leave es
 
--- how a life of a unit with n operations may end: done after all of them, or asked after at most so many
-abbrev pub EndsSteps : ℕ → List What → Cause → Type 0
-EndsSteps n es cause.Done = length (positions_in es) ≡ n
-EndsSteps n es cause.Asked = length (positions_in es) ≤ n
-EndsSteps n es cause.Access = ⊥
+-- the operations that the steps among these events have done, of all that there are
+abbrev pub done_in : List Op → List What → List Op
+done_in ops es = take (length (positions_in es)) ops
+
+-- none of these operations is an `exit`
+abbrev pub NoExit : List Op → Type 0
+NoExit ops = Contains ops op.Exit → ⊥
+
+-- no operation but the last of these is an `exit`
+abbrev pub NoExitBefore : List Op → Type 0
+NoExitBefore ops = (before rest : List Op) → ops ≡ before ++ op.Exit ∷ rest → rest ≡ []
+
+-- how a life of a unit with these operations may end: done after all of them or asked after at most so many, none of them
+-- an `exit`, or by its own `exit`, its last step
+abbrev pub EndsSteps : List Op → List What → Cause → Type 0
+EndsSteps ops es cause.Done = (length (positions_in es) ≡ length ops) × NoExit ops
+EndsSteps ops es cause.Asked = (length (positions_in es) ≤ length ops) × NoExit (done_in ops es)
+EndsSteps ops es cause.Access = ⊥
+EndsSteps ops es cause.Own = last (done_in ops es) ≡ Some op.Exit
 
 -- how a life of a scheduler unit may end: done after one entry and one leave, or asked or for want of access without an entry
 abbrev pub EndsSched : List What → Cause → Type 0
 EndsSched es cause.Done = (enters_in es ≡ 1) × (leaves_in es ≡ 1)
 EndsSched es cause.Asked = enters_in es ≡ 0
 EndsSched es cause.Access = enters_in es ≡ 0
+EndsSched es cause.Own = ⊥
 
+-- only a thread ends itself
 abbrev pub EndsLife : Body → List What → Cause → Type 0
-EndsLife (body.Ult ops) es c = EndsSteps (length ops) es c
-EndsLife (body.Task ops) es c = EndsSteps (length ops) es c
+EndsLife (body.Ult ops) es c = EndsSteps ops es c
+EndsLife (body.Task ops) es c = EndsSteps ops es c × (c ≢ cause.Own)
 EndsLife (body.Sched g) es c = (positions_in es ≡ []) × EndsSched es c
 
--- a scheduler unit makes no steps, also in a life that goes on
+-- also in a life that goes on there are at most as many steps as operations, none but the last is an `exit`, and a
+-- scheduler unit makes none
 abbrev pub StepsFit : Body → List What → Type 0
-StepsFit (body.Ult ops) es = length (positions_in es) ≤ length ops
-StepsFit (body.Task ops) es = length (positions_in es) ≤ length ops
+StepsFit (body.Ult ops) es = (length (positions_in es) ≤ length ops) × NoExitBefore (done_in ops es)
+StepsFit (body.Task ops) es = (length (positions_in es) ≤ length ops) × NoExitBefore (done_in ops es)
 StepsFit (body.Sched g) es = positions_in es ≡ []
 
 -- a life with these events: its steps are 0, 1 and so on, each once in order; it has at most one end, and nothing after it

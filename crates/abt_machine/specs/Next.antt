@@ -8,7 +8,7 @@ use Rattle.abt_machine.specs.declared.operations.Op.{Op}
 use Rattle.abt_machine.specs.declared.workload.Parts.{Parts}
 use Rattle.abt_machine.specs.Workloads.{body_at}
 use Rattle.abt_machine.specs.Access.{may_take_all}
-use Rattle.abt_machine.specs.State.{State, Stream, Frame, Mark, Plain, Asked, Left}
+use Rattle.abt_machine.specs.State.{State, Stream, Frame, Mark, Plain, Asked, Left, Exited}
 use Rattle.abt_machine.specs.Lines.{standing, hand, next, InTray}
 
 -- the kind of the next event; RoundDue is a Take or a Miss at the next pool of the round
@@ -25,10 +25,12 @@ pub data Due : Type 0 where
 abbrev pub due_of_ops : List Op → ℕ → Due
 due_of_ops ops k = if nat_lt k (length ops) then StepDue else EndDue cause.Done
 
--- what is due for a unit in hand at position k: its end if its look found a cancel request; for a scheduler unit its
--- entry if s can take from all of its pools, or its end if s can not or it has left; for any other its program
+-- what is due for a unit in hand at position k: its end if its look found a cancel request or its last step was `exit`;
+-- for a scheduler unit its entry if s can take from all of its pools, or its end if s can not or it has left; for any
+-- other its program
 abbrev pub due_of_unit : Parts → ℕ → Mark → Body → ℕ → Due
 due_of_unit W s Asked b k = EndDue cause.Asked
+due_of_unit W s Exited b k = EndDue cause.Own
 due_of_unit W s Plain (body.Sched g) k = if may_take_all W s g.0 then EnterDue else EndDue cause.Access
 due_of_unit W s Left (body.Sched g) k = EndDue cause.Done
 due_of_unit W s Plain (body.Ult ops) k = due_of_ops ops k

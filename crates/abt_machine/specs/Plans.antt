@@ -45,9 +45,11 @@ refusal o c = notes (moved o) c
 abbrev pub local : (Carried → Carried) → Owned → Effect
 local f o = keeps (moved (carrying f o)) []
 
+-- by itself, by a call, or as the end of a thread, which stays in the hand as it is after its step
 pub data Plan : Type 0 where
   Does : Effect → Plan
   Calls : Site → Act → Plan
+  Exits : Owned → Plan
 
 -- an operation that names a pool which the stream may not reach is refused without a call
 abbrev pub denied : Owned → Plan
@@ -64,6 +66,7 @@ plan_of W s (op.KeyGet k) o = Does (local (from_key k) o)
 plan_of W s op.Yield o = Does (empties (moved o ∷ []))
 plan_of W s (op.YieldTo v p) o = if may_take W s p.0 then Calls (site.Pool p) (act.Remove v.0) else denied o
 plan_of W s op.Suspend o = Calls (site.Desk (unit_no o.number)) (act.Suspend (moved o))
+plan_of W s op.Exit o = Exits (moved o)
 plan_of W s (op.Resume v) o = Calls (site.Desk v) act.Resume
 plan_of W s (op.Create v p) o = if may_put W s p.0 then Calls (site.Desk v) (act.Create p.0) else denied o
 plan_of W s (op.Join v) o = Calls (site.Desk v) (act.Join (moved o))
@@ -122,7 +125,7 @@ to_yielder o (act.Given b) = record { hand = None; next = Some b; wakes = moved 
 to_yielder o (act.Coded c) = refusal o c
 to_yielder o answer = keeps (moved o) []
 
--- what the answer to an operation of unit o brings; the first seven operations make no call
+-- what the answer to an operation of unit o brings; `exit` and the first seven operations make no call
 abbrev pub effect_of : Op → Owned → Answer → Effect
 effect_of (op.Set n) o b = to_caller o b
 effect_of (op.Add n) o b = to_caller o b
@@ -133,6 +136,7 @@ effect_of (op.KeyGet k) o b = to_caller o b
 effect_of op.Yield o b = to_caller o b
 effect_of (op.YieldTo v p) o b = to_yielder o b
 effect_of op.Suspend o b = to_giver b
+effect_of op.Exit o b = to_caller o b
 effect_of (op.Resume v) o b = to_caller o b
 effect_of (op.Create v p) o b = to_caller o b
 effect_of (op.Join v) o b = to_giver b

@@ -50,6 +50,7 @@ op_site W s u (op.KeyGet k) = None
 op_site W s u op.Yield = None
 op_site W s u (op.YieldTo v p) = if may_take W s p.0 then Some (site.Pool p) else None
 op_site W s u op.Suspend = Some (site.Desk (unit_no u))
+op_site W s u op.Exit = None
 op_site W s u (op.Resume v) = Some (site.Desk v)
 op_site W s u (op.Create v p) = if may_put W s p.0 then Some (site.Desk v) else None
 op_site W s u (op.Join v) = Some (site.Desk v)

@@ -34,11 +34,12 @@ pub record Frame : Type 0 where
   pub seen : List ℕ
   pub empty : Bool
 
--- what is to become of the unit in hand: plain, asked to cancel, or a scheduler unit that has left
+-- what is to become of the unit in hand: plain, asked to cancel, a scheduler unit that has left, or a thread that has ended itself
 pub data Mark : Type 0 where
   Plain : Mark
   Asked : Mark
   Left : Mark
+  Exited : Mark
 
 -- the top frame, and those below it from above, the main scheduler's the last
 pub record Stream : Type 0 where

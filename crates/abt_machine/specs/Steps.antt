@@ -15,8 +15,9 @@ use Rattle.abt_machine.specs.Numbers.{stream_no, unit_no, object_no}
 use Rattle.abt_machine.specs.Workloads.{combine_of, mutex_of, size_of}
 use Rattle.abt_machine.specs.Sites.{first_pool}
 use Rattle.abt_machine.specs.Queues.{first, first_alone}
+use Rattle.abt_machine.specs.Frames.{marked}
 use Rattle.abt_machine.specs.Carrying.{added, advanced, from_key, newborn, printed, refused, with_acc, with_key}
-use Rattle.abt_machine.specs.State.{State, Carried, Desk, Mutex, Future}
+use Rattle.abt_machine.specs.State.{State, Carried, Desk, Mutex, Future, Exited}
 use Rattle.abt_machine.specs.Lines.{standing, Waiting}
 use Rattle.abt_machine.specs.Codes.{is_full}
 use Rattle.abt_machine.specs.Changes.{Change, no_change, to_tray, waiting_moves, goes_with, goes_on}
@@ -138,6 +139,7 @@ op_row W S s u (op.KeyGet k) = goes_with u (from_key k (S.carried u))
 op_row W S s u op.Yield = wakes W S s u (u ∷ [])
 op_row W S s u (op.YieldTo v p) = record (goes_on S u) { moves = (v.0, place.Next (stream_no s)) ∷ to_tray W S s (u ∷ []) }
 op_row W S s u op.Suspend = record (goes_on S u) { moves = (u, place.Blocked spot.Suspended 0) ∷ [] }
+op_row W S s u op.Exit = record (goes_on S u) { streams = (s, marked Exited (S.stream s)) ∷ [] }
 op_row W S s u (op.Resume v) = wakes W S s u (v.0 ∷ [])
 op_row W S s u (op.Create v p) = begins W S s u v.0 p.0
 op_row W S s u (op.Join v) = joins S u v.0 (S.place v.0)

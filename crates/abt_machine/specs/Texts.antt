@@ -42,6 +42,7 @@ abbrev pub cause_name : Cause → Text
 cause_name cause.Done = codes "done"
 cause_name cause.Asked = codes "asked"
 cause_name cause.Access = codes "access"
+cause_name cause.Own = codes "own"
 
 abbrev pub what_words : What → List Text
 what_words (what.Miss p) = codes "miss" ∷ decimal p.0 ∷ []
@@ -76,6 +77,13 @@ shown (place.Blocked (spot.Join v) t) = shows.Join v
 shown (place.Blocked (spot.Object x) t) = shows.Object x
 shown (place.Ended c) = shows.Ended c
 
+-- an end is shown by its cause, and a thread that ended itself as exited
+abbrev pub ended_name : Cause → Text
+ended_name cause.Done = codes "done"
+ended_name cause.Asked = codes "asked"
+ended_name cause.Access = codes "access"
+ended_name cause.Own = codes "exited"
+
 abbrev pub shown_words : Shown → List Text
 shown_words shows.Unborn = codes "unborn" ∷ []
 shown_words (shows.Pool p) = codes "pool" ∷ decimal p.0 ∷ []
@@ -83,7 +91,7 @@ shown_words (shows.Stream s) = codes "stream" ∷ decimal s.0 ∷ []
 shown_words shows.Suspended = codes "suspended" ∷ []
 shown_words (shows.Join v) = codes "join" ∷ decimal v.0 ∷ []
 shown_words (shows.Object x) = codes "object" ∷ decimal x.0 ∷ []
-shown_words (shows.Ended c) = cause_name c ∷ []
+shown_words (shows.Ended c) = ended_name c ∷ []
 
 -- a piece of output: the word that was said, the number, or `!` and why an operation was refused
 abbrev pub piece_word : Parts → Piece → Text
@@ -102,7 +110,7 @@ unit_line W u unit = line_of (codes "unit" ∷ decimal u ∷ shown_words unit.sh
 
 -- The tally.
 
--- how many units are shown at each kind of place
+-- how many units are shown at each kind of place; one that has exited counts as done
 pub record Tally : Type 0 where
   pub unborn : ℕ
   pub pool : ℕ
@@ -126,6 +134,7 @@ counted t (shows.Object x) = record t { blocked = suc t.blocked }
 counted t (shows.Ended cause.Done) = record t { done = suc t.done }
 counted t (shows.Ended cause.Asked) = record t { asked = suc t.asked }
 counted t (shows.Ended cause.Access) = record t { access = suc t.access }
+counted t (shows.Ended cause.Own) = record t { done = suc t.done }
 
 -- each unit is counted once
 abbrev pub tally_of : List ShownUnit → Tally

@@ -1,6 +1,7 @@
 -- An event of a stream as a change of what the stream holds, with the call that it made.
 use Rattle.std.specs.Prelude.{ℕ, ◌≡◌, Bool, true, false, List, [], ◌∷◌, ◌++◌, Option, Some, None, option_map}
 use Rattle.abt_machine.specs.declared.events.Code.{Code}
+use Rattle.abt_machine.specs.declared.events.Code.TheVariants as code
 use Rattle.abt_machine.specs.declared.events.Site.{Site}
 use Rattle.abt_machine.specs.declared.events.Site.TheVariants as site
 use Rattle.abt_machine.specs.declared.events.What.{What}
@@ -14,7 +15,7 @@ use Rattle.abt_machine.specs.declared.operations.Side.TheVariants as side
 use Rattle.abt_machine.specs.declared.workload.Parts.{Parts}
 use Rattle.abt_machine.specs.Workloads.{body_at, kind_of, op_at}
 use Rattle.abt_machine.specs.Carrying.{with_home}
-use Rattle.abt_machine.specs.State.{Plain, Asked}
+use Rattle.abt_machine.specs.State.{Plain, Asked, Exited}
 use Rattle.abt_machine.specs.Next.{Due, due_by, PutDue, LookDue, EndDue, EnterDue, StepDue, LeaveDue, RoundDue}
 use Rattle.abt_machine.specs.Fronts.{owns}
 use Rattle.abt_machine.specs.Rounds.{IsNextPool}
@@ -22,7 +23,7 @@ use Rattle.abt_machine.specs.Frames.{marked, round_taken, round_missed, entered,
 use Rattle.abt_machine.specs.Values.{Owned, Held}
 use Rattle.abt_machine.specs.Acts.{Act, Answer, carrying}
 use Rattle.abt_machine.specs.Acts as act
-use Rattle.abt_machine.specs.Plans.{Effect, Plan, Does, Calls, plan_of, effect_of}
+use Rattle.abt_machine.specs.Plans.{Effect, Plan, Does, Calls, Exits, plan_of, effect_of}
 
 abbrev pub number_and_position : Owned → ℕ × ℕ
 number_and_position o = (o.number, o.carried.position)
@@ -53,6 +54,10 @@ looked held o false None = record held { own = marked Plain held.own; hand = Som
 abbrev pub stepped : Held → Effect → Held
 stepped held e = record held { hand = e.hand; next = e.next; tray = held.tray ++ e.wakes }
 
+-- a thread stays in the hand, to be ended
+abbrev pub exited : Held → Owned → Held
+exited held o = record held { own = marked Exited held.own; hand = Some o; next = None }
+
 -- a call on an object and its answer, in this order: site, act, answer
 abbrev pub Heard : Type 0
 Heard = Site × Act × Answer
@@ -62,6 +67,7 @@ abbrev pub Performs : Held → Op → Owned → Plan → Option Heard → Code �
 Performs old a o (Does e) heard c new = (heard ≡ None) × (c ≡ e.code) × (new ≡ stepped old e)
 Performs old a o (Calls x asked) heard c new =
     (answer : Answer) × (heard ≡ Some (x, asked, answer)) × (c ≡ (effect_of a o answer).code) × (new ≡ stepped old (effect_of a o answer))
+Performs old a o (Exits b) heard c new = (heard ≡ None) × (c ≡ code.Ok) × (new ≡ exited old b)
 
 -- an event of stream s: when it comes, what was heard, and what the stream holds afterwards
 abbrev pub Steps : Parts → List OrderShape → ℕ → Held → What → Option Heard → Held → Type 0

@@ -1,6 +1,7 @@
 -- When parts are those of a workload: exactly if some workload text declares them.
 use Rattle.std.specs.Prelude.{ℕ, ◌≡◌, ◌≢◌, ◌<◌, ◌≤◌, ◌^◌, ◌++◌, IsTrue, IsFalse, IsUtf8, List, [], ◌∷◌, length, map, flat_map, All, AllPairs, EachIndex, Some, ⊤}
 use Rattle.std.specs.List.{list_any, range_with_len}
+use Rattle.abt_machine.specs.declared.grammar.Format.TheVariants as format
 use Rattle.abt_machine.specs.declared.numbers.SchedNo.{SchedNo}
 use Rattle.abt_machine.specs.declared.operations.Access.{Access}
 use Rattle.abt_machine.specs.declared.operations.Access.TheVariants as access
@@ -14,10 +15,10 @@ use Rattle.abt_machine.specs.declared.operations.Thing.TheVariants as thing
 use Rattle.abt_machine.specs.declared.workload.Parts.{Parts}
 use Rattle.abt_machine.specs.declared.workload.UnitPart.{UnitPart}
 use Rattle.abt_machine.specs.Access.{may_take_all}
-use Rattle.abt_machine.specs.Canonical.{canonical_text}
+use Rattle.abt_machine.specs.Limits.{operation_limit, stream_limit, unit_limit, unit_operation_limit}
 use Rattle.abt_machine.specs.Operations.{IsDeclared, IsMutex, may_block, said_by}
 use Rattle.abt_machine.specs.Words.{Text}
-use Rattle.abt_machine.specs.Workloads.{access_of, body_at, main_of, op_at, ops_of, pools_of, rule_of, start_of, thing_at}
+use Rattle.abt_machine.specs.Workloads.{access_of, all_ops, body_at, main_of, op_at, ops_of, pools_of, rule_of, start_of, thing_at}
 
 -- Pools.
 
@@ -79,10 +80,10 @@ IsBody W (body.Ult ops) = ⊤
 IsBody W (body.Task ops) = IsFalse (list_any may_block ops)
 IsBody W (body.Sched g) = g.0 < length W.scheds
 
--- unit u has at most 256 operations, and starts in a declared pool, if in any
+-- unit u has as many operations as a unit may have, and starts in a declared pool, if in any
 pub record IsUnit (W : Parts) (u : ℕ) : Type 0 where
   pub kind : IsBody W (body_at W u)
-  pub few_ops : length (ops_of (body_at W u)) ≤ 256
+  pub few_ops : length (ops_of (body_at W u)) ≤ unit_operation_limit
   pub ops : (k : ℕ) (o : Op) → op_at W u k ≡ Some o → IsDeclared W o
   pub start : (p : ℕ) → start_of W u ≡ Some p → p < length W.pools
 
@@ -103,10 +104,10 @@ pub record IsWord (word : Text) : Type 0 where
   pub visible : All IsVisible word
   pub utf8 : IsUtf8 word
 
--- in the order in which a text declares its parts
+-- in the order in which a text declares its parts; format 2 has the greater limits, and a text for whatever keeps them
 pub record IsValid (W : Parts) : Type 0 where
   pub some_stream : 0 < W.streams
-  pub few_streams : W.streams ≤ 8
+  pub few_streams : W.streams ≤ stream_limit format.Two
   pub few_keys : W.keys ≤ 16
   pub some_pool : 0 < length W.pools
   pub few_pools : length W.pools ≤ 64
@@ -121,10 +122,9 @@ pub record IsValid (W : Parts) : Type 0 where
   pub one_place : AllPairs (λ a b. a ≢ b) (placed_scheds W)
   pub few_objects : length W.objects ≤ 256
   pub objects : (x : ℕ) (t : Thing) → thing_at W x ≡ Some t → IsThing W x t
-  pub few_units : length W.units ≤ 256
+  pub few_units : length W.units ≤ unit_limit format.Two
   pub units : EachIndex W.units (IsUnit W)
+  pub few_ops : length (all_ops W.units) ≤ operation_limit
   -- the words are said in their order, each by one operation
   pub said : words_said W ≡ range_with_len 0 (length W.words)
   pub words : All IsWord W.words
-  -- a text may have 4,194,304 bytes
-  pub few_bytes : length (canonical_text W) ≤ 4194304

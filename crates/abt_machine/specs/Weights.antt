@@ -1,5 +1,5 @@
 -- How many bytes words take in a text.
-use Rattle.std.specs.Prelude.{ℕ, ◌≡◌, ◌+◌, ◌<◌, List, [], ◌∷◌, length, Option, Some, None}
+use Rattle.std.specs.Prelude.{ℕ, ◌+◌, List, [], ◌∷◌, length}
 use Rattle.abt_machine.specs.Words.{Text, text_of}
 
 -- the bytes of words, each with the space or the line feed after it
@@ -10,8 +10,3 @@ weight (w ∷ ws) = length w + 1 + weight ws
 -- the bytes of lines
 unfoldable pub size : List (List Text) → ℕ
 size lines = length (text_of lines)
-
--- what is left of room after so many bytes are taken of it, if they are there
-abbrev pub IsLeft : ℕ → ℕ → Option ℕ → Type 0
-IsLeft room bytes None = room < bytes
-IsLeft room bytes (Some left) = left + bytes ≡ room

@@ -1,5 +1,5 @@
 -- What a workload declares, by number.
-use Rattle.std.specs.Prelude.{ℕ, ◌≡◌, ◌==◌, Bool, true, false, List, [], Option, Some, None, slice_get, option_map, map, take, count_by}
+use Rattle.std.specs.Prelude.{ℕ, ◌≡◌, ◌==◌, Bool, true, false, List, [], Option, Some, None, slice_get, option_map, map, flat_map, take, count_by}
 use Rattle.abt_machine.specs.declared.numbers.PoolNo.{PoolNo}
 use Rattle.abt_machine.specs.declared.numbers.SchedNo.{SchedNo}
 use Rattle.abt_machine.specs.declared.numbers.ObjectNo.{ObjectNo}
@@ -26,6 +26,10 @@ abbrev pub ops_of : Body → List Op
 ops_of (body.Ult ops) = ops
 ops_of (body.Task ops) = ops
 ops_of (body.Sched g) = []
+
+-- the operations of units, one unit after the other
+abbrev pub all_ops : List UnitPart → List Op
+all_ops = flat_map (λ (part : UnitPart). ops_of part.body)
 
 abbrev pub body_from : Option UnitPart → Body
 body_from None = body.Ult []

@@ -1,7 +1,63 @@
-//! The lines of a workload text, as data.
+//! The formats of a workload text, and its lines, as data.
+
+ghost use Rattle.std.specs.Prelude.{◌≡◌};
+ghost use Rattle.abt_machine.specs.Limits.{operation_limit, unit_operation_limit, stream_limit, text_limit, unit_limit};
 
 use crate::numbers::PoolNo;
 use crate::operations::{Access, Op, Rule, Thing};
+
+/// A format of workload texts: `abt 1` or `abt 2`.
+#[derive(Clone, Copy, Debug, PartialEq, Eq)]
+pub enum Format {
+    One,
+    Two,
+}
+
+impl Format {
+    /// How many bytes a text has at most.
+    pub fn text_limit(self) -> usize
+        ensures { result ≡ text_limit self }
+    {
+        match self {
+            Format::One => 4_194_304,
+            Format::Two => 8_388_608,
+        }
+    }
+
+    /// How many streams a text declares at most.
+    pub fn stream_limit(self) -> u32
+        ensures { result ≡ stream_limit self }
+    {
+        match self {
+            Format::One => 8,
+            Format::Two => 16,
+        }
+    }
+
+    /// How many units a text declares at most.
+    pub fn unit_limit(self) -> u32
+        ensures { result ≡ unit_limit self }
+    {
+        match self {
+            Format::One => 256,
+            Format::Two => 4_096,
+        }
+    }
+}
+
+/// How many operations a unit has at most.
+pub fn unit_operation_limit() -> usize
+    ensures { result ≡ unit_operation_limit }
+{
+    256
+}
+
+/// How many operations all units have at most.
+pub fn operation_limit() -> usize
+    ensures { result ≡ operation_limit }
+{
+    65_536
+}
 
 /// What a unit's line says that it is.
 #[derive(Clone, Copy, Debug, PartialEq, Eq)]
@@ -15,7 +71,7 @@ pub enum Role {
 /// form, `Operation(Op::Lock(ObjectNo(0)))`, stands for every `lock` line.
 #[derive(Clone, Copy, Debug, PartialEq, Eq)]
 pub enum Form {
-    Version,
+    Version(Format),
     Streams,
     Keys,
     Pool(Access),
@@ -24,15 +80,20 @@ pub enum Form {
     Object(Thing),
     Units,
     Unit(Role, Option<PoolNo>),
+    Many(Role, Option<PoolNo>),
     End,
     Operation(Op),
+    Repeat(Op),
 }
 
-/// What a number of a line is. `Within` names nothing and has a least and a greatest value; the next four
-/// declare the number that comes next of their kind; all others name what is declared.
+/// What a number of a line is. `Within` names nothing and has a least and a greatest value; `StreamCount` and
+/// `UnitCount` say how many there are, which the text's format limits; the next four declare the number
+/// that comes next of their kind; all others name what is declared.
 #[derive(Clone, Copy, Debug, PartialEq, Eq)]
 pub enum Number {
     Within(u64, u64),
+    StreamCount,
+    UnitCount,
     NewPool,
     NewSched,
     NewObject,

@@ -4,7 +4,6 @@
 mod events;
 mod grammar;
 mod items;
-mod lengths;
 mod numbers;
 mod operations;
 mod program;
@@ -16,7 +15,7 @@ mod workload;
 pub use events::{
     Cause, Code, Event, Journal, Log, Outcome, Output, Piece, Place, Shown, Site, Spot, What,
 };
-pub use grammar::{Form, Number, Role};
+pub use grammar::{Form, Format, Number, Role, operation_limit, unit_operation_limit};
 pub use items::{Items, Text};
 pub use numbers::{ObjectNo, PoolNo, SchedNo, StreamNo, UnitNo};
 pub use operations::{Access, Body, Combine, Kind, Op, Ops, OrderShape, Pools, Rule, Side, Thing};

@@ -90,6 +90,7 @@ pub enum Op {
     Yield,
     YieldTo(UnitNo, PoolNo),
     Suspend,
+    Exit,
     Resume(UnitNo),
     Create(UnitNo, PoolNo),
     Join(UnitNo),
@@ -127,6 +128,7 @@ impl Op {
             Op::Yield
                 | Op::YieldTo(_, _)
                 | Op::Suspend
+                | Op::Exit
                 | Op::Join(_)
                 | Op::Lock(_)
                 | Op::CondWait(_)

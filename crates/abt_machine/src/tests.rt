@@ -69,6 +69,7 @@ fn steps(alloc: Global) -> Result<Ops, AllocError> {
         Op::Yield,
         Op::YieldTo(UnitNo(1), PoolNo(0)),
         Op::Suspend,
+        Op::Exit,
         Op::Create(UnitNo(2), PoolNo(1)),
         Op::Join(UnitNo(2)),
         Op::MigrateTo(UnitNo(2), StreamNo(1)),
@@ -157,8 +158,8 @@ fn reads_back_objects_and_units(rt: HostRuntime) -> Result<(), Fail> {
     assert!(rt; w.thing(ObjectNo(7)) == Thing::Barrier(3));
     assert!(rt; w.unit(UnitNo(0)).start == Some(PoolNo(4)));
     for (u, at, wanted) in [
-        (0, 5, Some(Op::Join(UnitNo(2)))),
-        (0, 13, None),
+        (0, 6, Some(Op::Join(UnitNo(2)))),
+        (0, 14, None),
         (1, 0, None),
         (2, 0, Some(Op::Say(1))),
         (2, 1, None),
@@ -211,14 +212,10 @@ fn names_the_site_of_each_step(rt: HostRuntime) -> Result<(), Fail> {
         (1, None, None),
         (2, None, Some(Site::Pool(PoolNo(0)))),
         (3, Some(Site::Desk(UnitNo(0))), Some(Site::Desk(UnitNo(0)))),
-        (4, None, Some(Site::Desk(UnitNo(2)))),
-        (5, Some(Site::Desk(UnitNo(2))), Some(Site::Desk(UnitNo(2)))),
-        (6, None, Some(Site::Desk(UnitNo(2)))),
-        (
-            7,
-            Some(Site::Monitor(ObjectNo(1))),
-            Some(Site::Monitor(ObjectNo(1))),
-        ),
+        (4, None, None),
+        (5, None, Some(Site::Desk(UnitNo(2)))),
+        (6, Some(Site::Desk(UnitNo(2))), Some(Site::Desk(UnitNo(2)))),
+        (7, None, Some(Site::Desk(UnitNo(2)))),
         (
             8,
             Some(Site::Monitor(ObjectNo(1))),
@@ -226,25 +223,30 @@ fn names_the_site_of_each_step(rt: HostRuntime) -> Result<(), Fail> {
         ),
         (
             9,
-            Some(Site::Monitor(ObjectNo(0))),
-            Some(Site::Monitor(ObjectNo(0))),
+            Some(Site::Monitor(ObjectNo(1))),
+            Some(Site::Monitor(ObjectNo(1))),
         ),
         (
             10,
-            Some(Site::Eventual(ObjectNo(5))),
-            Some(Site::Eventual(ObjectNo(5))),
+            Some(Site::Monitor(ObjectNo(0))),
+            Some(Site::Monitor(ObjectNo(0))),
         ),
         (
             11,
+            Some(Site::Eventual(ObjectNo(5))),
+            Some(Site::Eventual(ObjectNo(5))),
+        ),
+        (
+            12,
             Some(Site::Future(ObjectNo(6))),
             Some(Site::Future(ObjectNo(6))),
         ),
         (
-            12,
+            13,
             Some(Site::Barrier(ObjectNo(7))),
             Some(Site::Barrier(ObjectNo(7))),
         ),
-        (13, None, None),
+        (14, None, None),
     ] {
         assert!(rt; w.site(StreamNo(0), UnitNo(0), at) == by_first);
         assert!(rt; w.site(StreamNo(1), UnitNo(0), at) == by_second);

@@ -3,15 +3,17 @@
 ghost use Rattle.std.specs.Prelude.{◌↔◌, ◌≡◌, ◌≢◌, ◌==◌, ◌<◌, ◌≤◌, ℕ, All, AllPairs, IsTrue, None, Some, flat_map, if◌then◌else◌, length, map};
 ghost use Rattle.std.specs.List.{list_all, list_any, range_with_len};
 ghost use Rattle.abt_machine.specs.Access.{may_take, may_take_all};
-ghost use Rattle.abt_machine.specs.Checks.{AreCounts, AreListed, IsSchedPart, IsStart, IsUnitPart, after_said, place, places};
+ghost use Rattle.abt_machine.specs.Checks.{AreCounts, AreListed, IsLeft, IsSchedPart, IsStart, IsUnitPart, after_said, place, places};
+ghost use Rattle.abt_machine.specs.Limits.{operation_limit};
 ghost use Rattle.abt_machine.specs.Operations.{IsBarrier, IsDeclared, IsEventual, IsFuture, IsMutex, may_block, said_by};
 ghost use Rattle.abt_machine.specs.Valid.{IsAccess, IsBody, IsRule, IsStream, IsThing, IsValid, IsVisible, IsWord, placed_scheds, sched_in, words_said};
-ghost use Rattle.abt_machine.specs.Workloads.{IsCondition, ops_of, thing_at};
+ghost use Rattle.abt_machine.specs.Workloads.{IsCondition, all_ops, ops_of, thing_at};
 ghost use Rattle.abt_machine.specs.declared.numbers.PoolNo.{PoolNo};
 ghost use Rattle.abt_machine.specs.declared.numbers.SchedNo.{SchedNo};
 ghost use Rattle.abt_machine.specs.declared.workload.PoolPart.{PoolPart};
 ghost use Rattle.abt_machine.specs.declared.workload.UnitPart.{UnitPart};
 
+use crate::grammar::{Format, operation_limit, unit_operation_limit};
 use crate::items::Text;
 use crate::numbers::{ObjectNo, PoolNo, SchedNo, StreamNo, UnitNo};
 use crate::operations::{Access, Body, Op, Rule, Thing};
@@ -151,18 +153,29 @@ fn next_unit_word(units: &[UnitPart], from: u64) -> Option<u64>
     Some(next)
 }
 
+// What is left of room for operations after those of units, if there is enough.
+fn ops_left(units: &[UnitPart], room: usize) -> Option<usize>
+    ensures { IsLeft room (length (all_ops units.now)) result }
+{
+    let mut left = room;
+    for part in units {
+        left = left.checked_sub(part.body.ops().len())?;
+    }
+    Some(left)
+}
+
 impl Parts {
     // Whether there are as many streams, keys, pools, schedulers, objects and units as there may be.
     fn has_counts(&self) -> bool
         ensures { IsTrue result ↔ AreCounts self.now }
     {
-        is_among(self.streams as usize, 8)
+        is_among(self.streams as usize, Format::Two.stream_limit() as usize)
             && self.keys <= 16
             && is_among(self.pools.items().len(), 64)
             && is_among(self.scheds.items().len(), 64)
             && self.mains.items().len() == self.streams as usize
             && self.objects.items().len() <= 256
-            && self.units.items().len() <= 256
+            && self.units.items().len() <= Format::Two.unit_limit() as usize
     }
 
     // Whether a stream is declared.
@@ -350,7 +363,7 @@ impl Parts {
         ensures { IsTrue result ↔ IsDeclared self.now op }
     {
         match op {
-            Op::Set(_) | Op::Add(_) | Op::Print | Op::Yield | Op::Suspend => true,
+            Op::Set(_) | Op::Add(_) | Op::Print | Op::Yield | Op::Suspend | Op::Exit => true,
             Op::Say(w) => (w as usize) < self.words.items().len(),
             Op::KeySet(k) | Op::KeyGet(k) => k < self.keys,
             Op::Resume(v) | Op::Join(v) | Op::Cancel(v) | Op::Migratable(v, _) => self.has_unit(v),
@@ -391,7 +404,7 @@ impl Parts {
     {
         let ops = part.body.ops();
         self.is_body(&part.body)
-            && ops.len() <= 256
+            && ops.len() <= unit_operation_limit()
             && self.are_declared_ops(ops)
             && self.is_start(part.start)
     }
@@ -426,7 +439,14 @@ impl Parts {
         next_unit_word(self.units.items(), 0) == Some(self.words.items().len() as u64)
     }
 
-    /// Whether these are the parts of a workload: what a text of at most 4,194,304 bytes can declare.
+    // Whether all units together have as few operations as they may have.
+    fn has_few_ops(&self) -> bool
+        ensures { IsTrue result ↔ (length (all_ops self.now.units) ≤ operation_limit) }
+    {
+        ops_left(self.units.items(), operation_limit()).is_some()
+    }
+
+    /// Whether these are the parts of a workload: what a text can declare.
     pub fn is_valid(&self) -> bool
         ensures { IsTrue result ↔ IsValid self.now }
     {
@@ -439,6 +459,6 @@ impl Parts {
             && self.has_own_places()
             && self.says_words()
             && self.has_words()
-            && self.is_short()
+            && self.has_few_ops()
     }
 }

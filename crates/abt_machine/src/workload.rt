@@ -314,7 +314,8 @@ impl Workload {
             | Op::Print
             | Op::KeySet(_)
             | Op::KeyGet(_)
-            | Op::Yield => None,
+            | Op::Yield
+            | Op::Exit => None,
             Op::YieldTo(_, p) => self.parts.may_take(s, p).then_some(Site::Pool(p)),
             Op::Suspend => Some(Site::Desk(u)),
             Op::Create(v, p) | Op::Migrate(v, p) | Op::Revive(v, p) => self.desk_by(s, p, v),

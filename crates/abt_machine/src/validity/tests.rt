@@ -240,6 +240,7 @@ fn refuses_tasklets_that_may_block(rt: HostRuntime) -> Result<(), Fail> {
     for task_op in [
         Op::Yield,
         Op::Suspend,
+        Op::Exit,
         Op::Join(UnitNo(0)),
         Op::Lock(ObjectNo(0)),
     ] {
@@ -328,41 +329,81 @@ fn speakers(alloc: Global) -> Result<UnitParts, AllocError> {
     Ok(UnitParts::new(units))
 }
 
-// Words of 59 bytes, as many as are asked for, and of 58 bytes, 65,536 in all.
-fn many_words(alloc: Global, longer: u32) -> Result<Texts, AllocError> {
-    let word = "12345678901234567890123456789012345678901234567890123456789";
+// As many words of 64 bytes.
+fn long_words(alloc: Global, n: u32) -> Result<Texts, AllocError> {
+    let word = "1234567890123456789012345678901234567890123456789012345678901234";
     let mut words = Vec::new(alloc);
-    for w in 0..65536u32 {
-        let word = if w < longer { word } else { &word[..58] };
+    for _ in 0..n {
         words.push(Text::new(String::from_str(alloc, word)?))?;
     }
     Ok(Texts::new(words))
 }
 
-// 256 units that say 256 words each.
-fn long(alloc: Global, longer: u32) -> Result<Parts, AllocError> {
-    let access = Access::Mpmc;
+// As many streams, one scheduler for each, and these units, which say so many words.
+fn wide(alloc: Global, streams: u32, units: UnitParts, words: u32) -> Result<Parts, AllocError> {
     let pool = PoolPart {
         kind: Kind::Fifo,
-        access,
+        access: Access::Mpmc,
     };
-    let basic = sched(alloc, Rule::Basic, &[PoolNo(0)])?;
+    let mut scheds = Vec::new(alloc);
+    let mut mains = Vec::new(alloc);
+    for s in 0..streams {
+        scheds.push(sched(alloc, Rule::Basic, &[PoolNo(0)])?)?;
+        mains.push(SchedNo(s))?;
+    }
     Ok(Parts {
-        streams: 1,
+        streams,
         keys: 0,
         pools: PoolParts::new(vec![in alloc; pool]?),
-        scheds: SchedParts::new(vec![in alloc; basic]?),
-        mains: Mains::new(vec![in alloc; SchedNo(0)]?),
+        scheds: SchedParts::new(scheds),
+        mains: Mains::new(mains),
         objects: Things::new(Vec::new(alloc)),
-        units: speakers(alloc)?,
-        words: many_words(alloc, longer)?,
+        units,
+        words: long_words(alloc, words)?,
     })
 }
 
-// With 60,960 words of 59 bytes the text has 4,194,305 bytes, the last of them a line feed.
+// As many units that do nothing.
+fn idle(alloc: Global, n: u32) -> Result<UnitParts, AllocError> {
+    let mut units = Vec::new(alloc);
+    for _ in 0..n {
+        units.push(UnitPart {
+            body: Body::Ult(Ops::new(Vec::new(alloc))),
+            start: None,
+        })?;
+    }
+    Ok(UnitParts::new(units))
+}
+
 #[test]
-fn takes_a_text_of_4194304_bytes(rt: HostRuntime) -> Result<(), Fail> {
-    assert!(rt; long(rt.alloc(), 60960)?.is_valid());
-    assert!(rt; !long(rt.alloc(), 60961)?.is_valid());
+fn takes_16_streams(rt: HostRuntime) -> Result<(), Fail> {
+    for (streams, valid) in [(9, true), (16, true), (17, false)] {
+        let parts = wide(rt.alloc(), streams, idle(rt.alloc(), 0)?, 0)?;
+        assert!(rt; parts.is_valid() == valid);
+    }
+    Ok(())
+}
+
+#[test]
+fn takes_4096_units(rt: HostRuntime) -> Result<(), Fail> {
+    for (units, valid) in [(257, true), (4096, true), (4097, false)] {
+        let parts = wide(rt.alloc(), 1, idle(rt.alloc(), units)?, 0)?;
+        assert!(rt; parts.is_valid() == valid);
+    }
+    Ok(())
+}
+
+// The text of these 65,536 operations is longer than one of format 1 may be.
+#[test]
+fn takes_65536_operations_of_all_units(rt: HostRuntime) -> Result<(), Fail> {
+    let full = wide(rt.alloc(), 1, speakers(rt.alloc())?, 65536)?;
+    assert!(rt; full.is_valid());
+    let mut units = speakers(rt.alloc())?.into_items();
+    units.push(UnitPart {
+        body: Body::Ult(Ops::new(vec![in rt.alloc(); Op::Print]?)),
+        start: None,
+    })?;
+    let over = wide(rt.alloc(), 1, UnitParts::new(units), 65536)?;
+    assert!(rt; !over.is_valid());
     Ok(())
 }

@@ -29,8 +29,8 @@ returns-then-has_words c =
     elim c.if-has_accesses.branch [ then-has_accesses w ↦ (w.if-has_accesses.true, w.has_listings.ensures.0 (sym w.value-is ∙ streams.0)) | else-has_accesses w ↦ absurd (cc (w.value-is, streams.0)) ] in
     let accesses : (c.has_counts.result ≡ true) × All (λ (part : PoolPart). IsAccess W part.access) W.pools =
     elim c.if-has_counts.branch [ then-has_counts w ↦ (w.if-has_counts.true, w.has_accesses.ensures.0 (sym w.value-is ∙ listings.0)) | else-has_counts w ↦ absurd (cc) ] in (
-      λ short. valid-from W (c.has_counts.ensures.0 accesses.0) accesses.1 listings.1 streams.1 things.1 units.1 places.1.1 said.1 words.1 (c.is_short.ensures.0 short),
-      λ valid. c.is_short.ensures.1 valid.few_bytes,
+      λ few. valid-from W (c.has_counts.ensures.0 accesses.0) accesses.1 listings.1 streams.1 things.1 units.1 places.1.1 said.1 words.1 (c.has_few_ops.ensures.0 few),
+      λ valid. c.has_few_ops.ensures.1 valid.few_ops,
     )
 
 pub returns-else-has_words : goal.returns-else-has_words
