@@ -1,5 +1,5 @@
 -- Along every run streams keep to the access of pools.
-use Rattle.std.proofs.Common.{◌≡◌, ℕ, zero, suc, ◌<◌, ◌==◌, nat_lt, Bool, true, false, List, [], ◌∷◌, ◌++◌, length, Option, Some, None, slice_index_or, refl, sym, ◌∙◌, subst, arith, inl, inr}
+use Rattle.std.proofs.Common.{◌≡◌, ℕ, zero, suc, ◌<◌, ◌==◌, nat_lt, Bool, true, false, List, [], ◌∷◌, ◌++◌, length, Option, Some, None, slice_index_or, refl, sym, ◌∙◌, ap₂, subst, arith, inl, inr}
 use Rattle.std.specs.Prelude.{IsTrue}
 use Rattle.std.proofs.lemmas.Bool.{cond_both}
 use Rattle.std.proofs.lemmas.List.Elements.{All-contains}
@@ -26,14 +26,14 @@ use Rattle.abt_machine.specs.Runs.{RunFrom, state_after}
 use Rattle.abt_machine.specs.Sites.{first_pool}
 use Rattle.abt_machine.specs.Sound.{frames_of}
 use Rattle.abt_machine.specs.Start.{start}
-use Rattle.abt_machine.specs.State.{State, Stream, Frame, Mark, Plain, Asked, Left}
+use Rattle.abt_machine.specs.State.{State, Stream, Frame, Mark, Plain, Asked, Left, Exited}
 use Rattle.abt_machine.specs.Workloads.{body_at, op_at, pools_of}
 use Rattle.abt_laws.proofs.Codes.{unless-ok}
 use Rattle.abt_laws.proofs.Dues.{due-unit}
 use Rattle.abt_laws.proofs.Lists.{EachOf}
 use Rattle.abt_laws.proofs.Maps.{put_at-cases}
 use Rattle.abt_laws.proofs.Orders.{next_pool-listed}
-use Rattle.abt_laws.proofs.StepStreams.{step-keeps-streams}
+use Rattle.abt_laws.proofs.StepStreams.{step-keeps-frames}
 use Rattle.abt_bounds.specs.Accesses.{FramesHaveAccess, IsWithinAccess, KeepsAccess, MayRun}
 use Rattle.abt_bounds.specs.Laws.{EventsKeepAccess, RunsKeepAccess, StartHasAccess}
 
@@ -86,6 +86,7 @@ no-enter ops k e = cond_both (nat_lt k (length ops)) StepDue (EndDue cause.Done)
 -- a scheduler unit enters where its stream may take from all of its pools
 enter-access : (W : Parts) (s k : ℕ) (m : Mark) (b : Body) → due_of_unit W s m b k ≡ EnterDue → IsTrue (may_take_all W s (sched_of b))
 enter-access W s k Asked b e = cc
+enter-access W s k Exited b e = cc
 enter-access W s k Plain (body.Sched g) e = cond_both (may_take_all W s g.0) EnterDue (EndDue cause.Access) (λ d. d ≡ EnterDue → IsTrue (may_take_all W s g.0)) (λ yes _. yes) (λ _ e. cc) e
 enter-access W s k Left (body.Sched g) e = cc
 enter-access W s k Plain (body.Ult ops) e = absurd (no-enter ops k e)
@@ -107,7 +108,7 @@ frames-keep W Z S s (what.Miss p) declared has may =
     each-runs W S s (round_missed W p.0 (S.stream s)) has (subst (λ g. IsTrue (may_take_all W s g)) (sym (missed-sched W (S.stream s).top p.0)) (has s declared).0, (has s declared).1)
 frames-keep W Z S s (what.Take p u) declared has may = each-runs W S s (round_taken (S.stream s)) has (has s declared)
 frames-keep W Z S s (what.Look u) declared has may = look-runs W S s u.0 (S.desk u.0).cancel (S.desk u.0).migrate declared has
-frames-keep W Z S s (what.Step u k c) declared has may = λ r l. subst (λ own. MayRun W r (frames_of own)) (sym (step-keeps-streams W S s u.0 k c r)) (has r l)
+frames-keep W Z S s (what.Step u k c) declared has may = λ r l. subst (MayRun W r) (sym (ap₂ (λ (f : Frame) fs. f ∷ fs) (step-keeps-frames W S s u.0 k c r).0 (step-keeps-frames W S s u.0 k c r).1)) (has r l)
 frames-keep W Z S s (what.Put u p) declared has may = has
 frames-keep W Z S s (what.End u c) declared has may = has
 frames-keep W Z S s (what.Enter u) declared has may =

@@ -53,8 +53,8 @@ steps-by-unit W Z S (e ∷ es) run =
 -- Steps by life.
 
 life-fits : (b : Body) (es : List What) → StepsFit b es → length (positions_in es) ≤ length (ops_of b)
-life-fits (body.Ult ops) es fit = fit
-life-fits (body.Task ops) es fit = fit
+life-fits (body.Ult ops) es fit = fit.0
+life-fits (body.Task ops) es fit = fit.0
 life-fits (body.Sched g) es fit = let none : length (positions_in es) ≡ 0 = ap length fit in omega arith
 
 unit-steps : (W : Parts) (J : List Event) (u : ℕ) → LivesOf W J → u < length W.units → steps_by u J ≤ last_life W J u * ops_of_unit W u

@@ -40,7 +40,7 @@ finds : (W : Parts) (s : ℕ) (own : Stream) (us : List ℕ) (taken held : Optio
 finds W s own (u ∷ us) taken held at = (u, refl)
 finds W s own [] (Some v) held at = (v, refl)
 finds W s own [] None (Some u) at =
-    due_of_unit-cases W s (at u).1 (λ m b d. Finds None None (Some u) d) (λ b. (u, refl)) (λ g. (u, refl)) (λ g. (u, refl)) (λ g. (u, refl)) (λ m b program more. (u, refl)) (λ m b program over. (u, refl))
+    due_of_unit-cases W s (at u).1 (λ m b d. Finds None None (Some u) d) (λ b. (u, refl)) (λ b. (u, refl)) (λ g. (u, refl)) (λ g. (u, refl)) (λ g. (u, refl)) (λ m b program more. (u, refl)) (λ m b program over. (u, refl))
     own.mark (body_at W (at u).0)
 finds W s own [] None None at = finds-frames own.top.empty own.below
 

@@ -35,12 +35,14 @@ abbrev cause_read : Text → Cause
 cause_read name =
     if bytes_eq name (codes "done") then cause.Done
     else if bytes_eq name (codes "asked") then cause.Asked
-    else cause.Access
+    else if bytes_eq name (codes "access") then cause.Access
+    else cause.Own
 
 cause-back : (c : Cause) → cause_read (cause_name c) ≡ c
 cause-back cause.Done = refl
 cause-back cause.Asked = refl
 cause-back cause.Access = refl
+cause-back cause.Own = refl
 
 abbrev code_read : Text → Code
 code_read name =
@@ -146,6 +148,7 @@ solid-cause : (c : Cause) → IsSolid (cause_name c)
 solid-cause cause.Done = solid-by (codes "done") refl
 solid-cause cause.Asked = solid-by (codes "asked") refl
 solid-cause cause.Access = solid-by (codes "access") refl
+solid-cause cause.Own = solid-by (codes "own") refl
 
 solid-what : (w : What) → AllByRecursion (λ n. n < 10 ^ 64) (what_numbers w) → AllByRecursion IsSolid (what_words w)
 solid-what (what.Miss p) h = (solid-by (codes "miss") refl, (solid-decimal p.0 h.0, tt))

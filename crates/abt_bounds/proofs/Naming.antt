@@ -71,7 +71,7 @@ few-pools : (W : Parts) (p : ℕ) → IsValid W → p < length W.pools → p < 1
 few-pools W p valid l = let few : length W.pools ≤ 64 = valid.few_pools in omega arith
 
 few-units : (W : Parts) (u : ℕ) → IsValid W → u < length W.units → u < 10 ^ 64
-few-units W u valid l = let few : length W.units ≤ 256 = valid.few_units in omega arith
+few-units W u valid l = let few : length W.units ≤ 4096 = valid.few_units in omega arith
 
 few-ops : (W : Parts) (u k : ℕ) → IsValid W → u < length W.units → k < length (ops_of (body_at W u)) → k < 10 ^ 64
 few-ops W u k valid declared l =
@@ -90,7 +90,7 @@ what-written W (what.Leave u) valid h = (few-units W u.0 valid h, tt)
 
 event-written : (W : Parts) (e : Event) (n : ℕ) → IsValid W → IsNamed W e → e.stamp ≤ n → n < 10 ^ 64 → IsWritten e
 event-written W e n valid named few short =
-    let few_streams : W.streams ≤ 8 = valid.few_streams in
+    let few_streams : W.streams ≤ 16 = valid.few_streams in
     let declared : e.stream.0 < W.streams = named.0 in
     let stamp : e.stamp < 10 ^ 64 = omega arith in
     let stream : e.stream.0 < 10 ^ 64 = omega arith in (stamp, (stream, what-written W e.what valid named.1))

@@ -49,6 +49,7 @@ module _ (W : Parts) (s u : ℕ) (S T : State) where
   code-alike op.Yield alike = refl
   code-alike (op.YieldTo v p) alike = unless-alike W s S T (may_take W s p.0) (site.Pool p) code.PoolAccess _ _ (λ here. same-test W s _ S T here (is_in_pool p.0) false code.Absent code.Ok v.0 (λ pl. in_pool-seen W s _ v.0 p.0 pl refl)) alike
   code-alike op.Suspend alike = refl
+  code-alike op.Exit alike = refl
   code-alike (op.Resume v) alike = same-test W s _ S T alike is_suspended false code.UnitState code.Ok v.0 (λ pl. suspended-seen W s _ v.0 pl refl)
   code-alike (op.Create v p) alike = unless-alike W s S T (may_put W s p.0) (site.Desk v) code.PoolAccess _ _ (λ here. same-test W s _ S T here is_unborn false code.Exists code.Ok v.0 (λ pl. unborn-seen W s _ v.0 pl refl)) alike
   code-alike (op.Join v) alike = refl

@@ -21,7 +21,7 @@ use Rattle.abt_machine.specs.Access.{may_put}
 use Rattle.abt_machine.specs.Sites.{first_pool, op_site, site_at, what_site}
 use Rattle.abt_machine.specs.Queues.{first, first_alone}
 use Rattle.abt_machine.specs.Carrying.{added, from_key, printed, refused, with_acc, with_home, with_key}
-use Rattle.abt_machine.specs.State.{State, Stream, Carried, Desk, Future, Plain, Asked}
+use Rattle.abt_machine.specs.State.{State, Stream, Carried, Desk, Future, Plain, Asked, Exited}
 use Rattle.abt_machine.specs.Lines.{InTray, Joining, hand, standing}
 use Rattle.abt_machine.specs.Rounds.{IsNextPool}
 use Rattle.abt_machine.specs.Frames.{marked, round_taken, round_missed, entered, sched_of, left}
@@ -63,6 +63,7 @@ module _ (W : Parts) (valid : IsValid W) (S T : State) (s u : ℕ) (in_hand : ha
   op-alike op.Yield d h alike = AlikeRows.alike-wakes W S T s u _ alike in_hand (u ∷ []) (u ∷ []) refl
   op-alike (op.YieldTo v p) d h alike = λ i. record (AlikeRows.alike-goes_on W S T s u _ alike in_hand i) { moves = (v.0, place.Next (stream_no s)) ∷ tray_moves s (tray_end-alike W s _ S T alike i) (u ∷ []) }
   op-alike op.Suspend d h alike = ap (λ (c : Change). record c { moves = (u, place.Blocked spot.Suspended 0) ∷ [] }) (AlikeRows.alike-goes_on W S T s u _ alike in_hand)
+  op-alike op.Exit d h alike = λ i. record (AlikeRows.alike-goes_on W S T s u _ alike in_hand i) { streams = (s, marked Exited (alike.stream i)) ∷ [] }
   op-alike (op.Resume v) d h alike = AlikeRows.alike-wakes W S T s u _ alike in_hand (v.0 ∷ []) (v.0 ∷ []) refl
   op-alike (op.Create v p) d h alike =
       let kept : IsKept W S s (op_site W s u (op.Create v p)) v.0 = unit-reached W S s (may_put W s p.0) (site.Desk v) v.0 is_unborn code.Exists tt (λ x pl e. unborn-seen W s x v.0 pl e) h in

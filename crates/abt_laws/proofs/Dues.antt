@@ -1,6 +1,7 @@
 -- What it says of a stream that an event is due.
 use Rattle.std.proofs.Common.{◌≡◌, ◌≢◌, ℕ, ◌<◌, ◌≤◌, nat_lt, Bool, true, false, List, [], ◌∷◌, length, Option, Some, None, option_map, refl, sym, ◌∙◌, ap, subst}
 use Rattle.std.proofs.lemmas.Bool.{cond_both, ltb-true, ltb-false}
+use Rattle.abt_machine.specs.declared.events.Cause.{Cause}
 use Rattle.abt_machine.specs.declared.events.Cause.TheVariants as cause
 use Rattle.abt_machine.specs.declared.numbers.SchedNo.{SchedNo}
 use Rattle.abt_machine.specs.declared.operations.Body.{Body}
@@ -10,10 +11,11 @@ use Rattle.abt_machine.specs.declared.workload.Parts.{Parts}
 use Rattle.abt_machine.specs.Workloads.{body_at, ops_of, is_sched}
 use Rattle.abt_machine.specs.Access.{may_take_all}
 use Rattle.abt_machine.specs.Queues.{first}
-use Rattle.abt_machine.specs.State.{State, Stream, Frame, Mark, Plain, Asked, Left}
+use Rattle.abt_machine.specs.State.{State, Stream, Frame, Mark, Plain, Asked, Left, Exited}
 use Rattle.abt_machine.specs.Lines.{standing, hand, next, InTray, InHand, InNext}
 use Rattle.abt_machine.specs.Next.{Due, PutDue, LookDue, EndDue, EnterDue, StepDue, LeaveDue, RoundDue, at_position, due, due_by, due_by_hand, due_of_frames, due_of_ops, due_of_unit}
 use Rattle.abt_laws.proofs.Arrivals.{IsEmpty}
+use Rattle.abt_laws.proofs.Exits.{is_exited, is_own}
 use Rattle.abt_laws.proofs.Standing.{UndeclaredUnborn, none-first}
 
 -- The unit in hand.
@@ -21,12 +23,13 @@ use Rattle.abt_laws.proofs.Standing.{UndeclaredUnborn, none-first}
 due_of_ops-cases : (P : Due → Type 0) (ops : List Op) (k : ℕ) → (k < length ops → P StepDue) → (length ops ≤ k → P (EndDue cause.Done)) → P (due_of_ops ops k)
 due_of_ops-cases P ops k step end = cond_both (nat_lt k (length ops)) StepDue (EndDue cause.Done) P (λ yes. step (ltb-true k (length ops) yes)) (λ no. end (ltb-false k (length ops) no))
 
--- what holds in each case of what is due for a unit: it was asked to cancel, is a scheduler or has a program
-module _ (W : Parts) (s k : ℕ) (P : Mark → Body → Due → Type 0) (asked : (b : Body) → P Asked b (EndDue cause.Asked))
+-- what holds in each case of what is due for a unit: it was asked to cancel, has ended itself, is a scheduler or has a program
+module _ (W : Parts) (s k : ℕ) (P : Mark → Body → Due → Type 0) (asked : (b : Body) → P Asked b (EndDue cause.Asked)) (exited : (b : Body) → P Exited b (EndDue cause.Own))
     (enter : (g : SchedNo) → P Plain (body.Sched g) EnterDue) (access : (g : SchedNo) → P Plain (body.Sched g) (EndDue cause.Access)) (gone : (g : SchedNo) → P Left (body.Sched g) (EndDue cause.Done))
     (step : (m : Mark) (b : Body) → is_sched b ≡ false → k < length (ops_of b) → P m b StepDue) (done : (m : Mark) (b : Body) → is_sched b ≡ false → length (ops_of b) ≤ k → P m b (EndDue cause.Done)) where
   pub due_of_unit-cases : (m : Mark) (b : Body) → P m b (due_of_unit W s m b k)
   due_of_unit-cases Asked b = asked b
+  due_of_unit-cases Exited b = exited b
   due_of_unit-cases Plain (body.Sched g) = cond_both (may_take_all W s g.0) EnterDue (EndDue cause.Access) (P Plain (body.Sched g)) (λ _. enter g) (λ _. access g)
   due_of_unit-cases Left (body.Sched g) = gone g
   due_of_unit-cases Plain (body.Ult ops) = due_of_ops-cases (P Plain (body.Ult ops)) ops k (step Plain (body.Ult ops) refl) (done Plain (body.Ult ops) refl)
@@ -37,12 +40,34 @@ module _ (W : Parts) (s k : ℕ) (P : Mark → Body → Due → Type 0) (asked :
 -- a unit that is to make a step has a program, and an operation left
 pub step-due : (W : Parts) (s : ℕ) (m : Mark) (b : Body) (k : ℕ) → due_of_unit W s m b k ≡ StepDue → (is_sched b ≡ false) × (k < length (ops_of b))
 step-due W s m b k =
-    due_of_unit-cases W s k (λ m b d. d ≡ StepDue → (is_sched b ≡ false) × (k < length (ops_of b))) (λ b h. cc) (λ g h. cc) (λ g h. cc) (λ g h. cc) (λ m b program more h. (program, more)) (λ m b program over h. cc) m b
+    due_of_unit-cases W s k (λ m b d. d ≡ StepDue → (is_sched b ≡ false) × (k < length (ops_of b))) (λ b h. cc) (λ b h. cc) (λ g h. cc) (λ g h. cc) (λ g h. cc) (λ m b program more h. (program, more)) (λ m b program over h. cc) m b
+
+-- a unit that is to make a step has not ended itself
+pub step-mark : (W : Parts) (s : ℕ) (m : Mark) (b : Body) (k : ℕ) → due_of_unit W s m b k ≡ StepDue → is_exited m ≡ false
+step-mark W s Plain b k h = refl
+step-mark W s Asked b k h = refl
+step-mark W s Left b k h = refl
+step-mark W s Exited b k h = cc
+
+-- the end of a unit that has not ended itself
+not-own : (W : Parts) (s : ℕ) (m : Mark) (b : Body) (k : ℕ) (c : Cause) → due_of_unit W s m b k ≡ EndDue c → is_exited m ≡ false → false ≡ is_own c
+not-own W s m b k c =
+    due_of_unit-cases W s k (λ m b d. d ≡ EndDue c → is_exited m ≡ false → false ≡ is_own c)
+    (λ b h n. let e : cause.Asked ≡ c = cc in ap is_own e) (λ b h n. cc) (λ g h n. cc)
+    (λ g h n. let e : cause.Access ≡ c = cc in ap is_own e) (λ g h n. let e : cause.Done ≡ c = cc in ap is_own e)
+    (λ m b program more h n. cc) (λ m b program over h n. let e : cause.Done ≡ c = cc in ap is_own e) m b
+
+-- a unit whose end is due has ended itself exactly if that is the cause
+pub end-mark : (W : Parts) (s : ℕ) (m : Mark) (b : Body) (k : ℕ) (c : Cause) → due_of_unit W s m b k ≡ EndDue c → is_exited m ≡ is_own c
+end-mark W s Exited b k c h = let e : cause.Own ≡ c = cc in ap is_own e
+end-mark W s Asked b k c h = let e : cause.Asked ≡ c = cc in ap is_own e
+end-mark W s Plain b k c h = not-own W s Plain b k c h refl
+end-mark W s Left b k c h = not-own W s Left b k c h refl
 
 -- a unit that enters is a scheduler, neither asked to cancel nor has it left
 pub enter-due : (W : Parts) (s : ℕ) (m : Mark) (b : Body) (k : ℕ) → due_of_unit W s m b k ≡ EnterDue → (m ≡ Plain) × ((g : SchedNo) × (b ≡ body.Sched g))
 enter-due W s m b k =
-    due_of_unit-cases W s k (λ m b d. d ≡ EnterDue → (m ≡ Plain) × ((g : SchedNo) × (b ≡ body.Sched g))) (λ b h. cc) (λ g h. (refl, (g, refl))) (λ g h. cc) (λ g h. cc) (λ m b program more h. cc) (λ m b program over h. cc) m b
+    due_of_unit-cases W s k (λ m b d. d ≡ EnterDue → (m ≡ Plain) × ((g : SchedNo) × (b ≡ body.Sched g))) (λ b h. cc) (λ b h. cc) (λ g h. (refl, (g, refl))) (λ g h. cc) (λ g h. cc) (λ m b program more h. cc) (λ m b program over h. cc) m b
 
 -- The stream.
 
@@ -81,7 +106,7 @@ next-by W s own (u ∷ us) taken held h = absurd h
 hand-by : (W : Parts) (s : ℕ) (own : Stream) (o : Option ℕ) (at : ℕ → ℕ × ℕ) → AfterHand (due_by_hand W s own (option_map at o)) → o ≡ None
 hand-by W s own None at h = refl
 hand-by W s own (Some u) at h =
-    absurd (due_of_unit-cases W s (at u).1 (λ m b d. AfterHand d → ⊥) (λ b a. a) (λ g a. a) (λ g a. a) (λ g a. a) (λ m b program more a. a) (λ m b program over a. a) own.mark (body_at W (at u).0) h)
+    absurd (due_of_unit-cases W s (at u).1 (λ m b d. AfterHand d → ⊥) (λ b a. a) (λ b a. a) (λ g a. a) (λ g a. a) (λ g a. a) (λ m b program more a. a) (λ m b program over a. a) own.mark (body_at W (at u).0) h)
 
 module _ (W : Parts) (S : State) (s : ℕ) where
   by_hand : (d : Due) → due W S s ≡ d → AfterNext d → (first (standing W S (InTray s)) ≡ None) × (next W S s ≡ None) × (due_by_hand W s (S.stream s) (option_map (at_position S) (hand W S s)) ≡ d)

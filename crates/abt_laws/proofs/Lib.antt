@@ -10,6 +10,7 @@ pub mod Counts
 pub mod Declared
 pub mod DueParts
 pub mod Dues
+pub mod Exits
 pub mod Falls
 pub mod Keeping
 pub mod LifeActs

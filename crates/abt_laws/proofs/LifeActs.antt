@@ -1,5 +1,5 @@
 -- What an event means to its own unit and to the others, by its shape.
-use Rattle.std.proofs.Common.{◌≡◌, ◌≢◌, ℕ, ◌+◌, [], ◌∷◌, ◌++◌, Some, None, sym, ◌∙◌, ap, ap₂, subst, inl, inr}
+use Rattle.std.proofs.Common.{◌≡◌, ◌≢◌, ℕ, ◌+◌, false, [], ◌∷◌, ◌++◌, Some, None, sym, ◌∙◌, ap, ap₂, subst, inl, inr}
 use Rattle.std.specs.List.{cons_option}
 use Rattle.std.proofs.lemmas.Bool.{cases_eq}
 use Rattle.std.proofs.lemmas.List.{append-nil}
@@ -7,11 +7,12 @@ use Rattle.abt_machine.specs.declared.events.What.{What}
 use Rattle.abt_machine.specs.declared.numbers.UnitNo.{UnitNo}
 use Rattle.abt_machine.specs.declared.operations.Body.{Body}
 use Rattle.abt_machine.specs.declared.workload.Parts.{Parts}
-use Rattle.abt_machine.specs.Workloads.{body_at}
+use Rattle.abt_machine.specs.Workloads.{body_at, ops_of}
 use Rattle.abt_machine.specs.State.{State}
 use Rattle.abt_machine.specs.Lives.{life_after, unit_of, is_of, positions_in, cause_in, enters_in, leaves_in, count_up}
 use Rattle.abt_laws.proofs.Options.{none≢some}
-use Rattle.abt_laws.proofs.LifeTies.{IsOutside, IsBusy, IsBusy-outside, ends-busy, passage_at, passage-outside, Drifts, Acts, Fate, Drifting, Acting}
+use Rattle.abt_laws.proofs.Exits.{exited_at, done-kept}
+use Rattle.abt_laws.proofs.LifeTies.{IsOutside, IsBusy, IsBusy-outside, ends-busy, passage_at, passage-outside, exited-outside, Drifts, Acts, Fate, Drifting, Acting}
 use Rattle.abt_laws.proofs.LifeStepShapes.{not-of}
 
 -- an event of unit v that is an event of its life, and takes no other unit but from outside to outside
@@ -30,8 +31,8 @@ pub record IsQuiet (w : What) : Type 0 where
   pub leaves : leaves_in (w ∷ []) ≡ 0
 
 -- a unit that comes from outside by such an event
-pub acts-quietly : (b : Body) (u : ℕ) (w : What) (S T : State) → IsQuiet w → IsOutside (S.place u) → IsBusy (T.place u) → passage_at T.stream (T.place u) ≡ (0, 0) → (T.desk u).life ≡ (S.desk u).life → (T.carried u).position ≡ (S.carried u).position → Acts b u w S T
-acts-quietly b u w S T quiet out busy passage life position =
+pub acts-quietly : (b : Body) (u : ℕ) (w : What) (S T : State) → IsQuiet w → IsOutside (S.place u) → IsBusy (T.place u) → passage_at T.stream (T.place u) ≡ (0, 0) → exited_at T.stream (T.place u) ≡ false → (T.desk u).life ≡ (S.desk u).life → (T.carried u).position ≡ (S.carried u).position → Acts b u w S T
+acts-quietly b u w S T quiet out busy passage exited life position =
     let was : passage_at S.stream (S.place u) ≡ (0, 0) = passage-outside S.stream (S.place u) out in
     record {
       busy = IsBusy-outside (S.place u) out;
@@ -40,5 +41,6 @@ acts-quietly b u w S T quiet out busy passage life position =
       steps = ap count_up position ∙ (sym (append-nil (count_up (S.carried u).position)) ∙ ap (λ ks. count_up (S.carried u).position ++ ks) (sym quiet.positions));
       ends = ends-busy (T.place u) busy ∙ ap (λ o. cons_option o []) (sym quiet.cause);
       passes = λ h. passage ∙ (ap₂ (λ (m n : ℕ). (0 + m, 0 + n)) (sym quiet.enters) (sym quiet.leaves) ∙ ap (λ (p : ℕ × ℕ). (p.0 + enters_in (w ∷ []), p.1 + leaves_in (w ∷ []))) (sym was));
+      done = done-kept (ops_of b) (exited_at S.stream (S.place u)) (exited_at T.stream (T.place u)) (S.carried u).position (T.carried u).position (exited ∙ sym (exited-outside S.stream (S.place u) out)) position;
       cause = λ c h. absurd (none≢some (sym quiet.cause ∙ h));
     }

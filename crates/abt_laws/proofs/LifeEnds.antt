@@ -14,7 +14,7 @@ use Rattle.abt_machine.specs.declared.workload.Parts.{Parts}
 use Rattle.abt_machine.specs.Numbers.{stream_no}
 use Rattle.abt_machine.specs.Maps.{put_at}
 use Rattle.abt_machine.specs.Workloads.{body_at, ops_of, is_sched}
-use Rattle.abt_machine.specs.State.{State, Stream, Frame, Desk, Mark, Plain, Asked, Left}
+use Rattle.abt_machine.specs.State.{State, Stream, Frame, Desk, Mark, Plain, Asked, Left, Exited}
 use Rattle.abt_machine.specs.Lines.{Joining, standing, tray_end}
 use Rattle.abt_machine.specs.Frames.{entered, left, sched_of}
 use Rattle.abt_machine.specs.Next.{EndDue, LeaveDue, due_of_unit}
@@ -26,7 +26,8 @@ use Rattle.abt_laws.proofs.Marks.{marks-kept, marks-elsewhere, left-mark}
 use Rattle.abt_laws.proofs.Standing.{hand-place, hand-none}
 use Rattle.abt_laws.proofs.Options.{none≢some}
 use Rattle.abt_laws.proofs.Lists.{EachOf}
-use Rattle.abt_laws.proofs.Dues.{enters-plain, due-unit, leave-below, due-idle, due_of_unit-cases}
+use Rattle.abt_laws.proofs.Dues.{enters-plain, due-unit, leave-below, due-idle, due_of_unit-cases, end-mark}
+use Rattle.abt_laws.proofs.Exits.{is_exited, is_own, exited_at, done-kept}
 use Rattle.abt_laws.proofs.Maps.{put_at-same, put_at-other, put_all-kept}
 use Rattle.abt_laws.proofs.LifeLists.{MayEnd, passage_of_cause}
 use Rattle.abt_laws.proofs.LifeTies.{IsOutside, IsBusy, ends_at, passage_of_mark, passage_at, Acts, Fate}
@@ -43,6 +44,11 @@ asked-fits (body.Ult ops) k = (tt, λ h. refl)
 asked-fits (body.Task ops) k = (tt, λ h. refl)
 asked-fits (body.Sched g) k = (tt, λ h. refl)
 
+own-fits : (b : Body) (k : ℕ) → EndFits Exited b k cause.Own
+own-fits (body.Ult ops) k = (tt, λ h. refl)
+own-fits (body.Task ops) k = (tt, λ h. refl)
+own-fits (body.Sched g) k = (tt, λ h. refl)
+
 done-fits : (m : Mark) (b : Body) (k : ℕ) → is_sched b ≡ false → length (ops_of b) ≤ k → EndFits m b k cause.Done
 done-fits m (body.Ult ops) k program over = (over, λ h. cc)
 done-fits m (body.Task ops) k program over = (over, λ h. cc)
@@ -53,6 +59,7 @@ due-fits : (W : Parts) (s : ℕ) (m : Mark) (b : Body) (k : ℕ) (c : Cause) →
 due-fits W s m b k c =
     due_of_unit-cases W s k (λ m b d. d ≡ EndDue c → EndFits m b k c)
     (λ b h. let e : cause.Asked ≡ c = cc in subst (EndFits Asked b k) e (asked-fits b k))
+    (λ b h. let e : cause.Own ≡ c = cc in subst (EndFits Exited b k) e (own-fits b k))
     (λ g h. cc)
     (λ g h. let e : cause.Access ≡ c = cc in subst (EndFits Plain (body.Sched g) k) e (tt, λ i. refl))
     (λ g h. let e : cause.Done ≡ c = cc in subst (EndFits Left (body.Sched g) k) e (tt, λ i. refl))
@@ -92,6 +99,9 @@ module _ (W : Parts) (Z : List OrderShape) (S : State) (s u : ℕ) where
     end-fits : EndFits (S.stream s).mark (body_at W v.0) (S.carried v.0).position c
     end-fits = due-fits W s (S.stream s).mark (body_at W v.0) (S.carried v.0).position c (due-unit W S s (EndDue c) v.0 may.0 tt may.1)
 
+    ended-exited : exited_at S.stream (S.place v.0) ≡ is_own c
+    ended-exited = ap (exited_at S.stream) ends-from ∙ end-mark W s (S.stream s).mark (body_at W v.0) (S.carried v.0).position c (due-unit W S s (EndDue c) v.0 may.0 tt may.1)
+
     ended-passage : is_sched (body_at W v.0) ≡ true → passage_at S.stream (S.place v.0) ≡ passage_of_cause c
     ended-passage h = ap (passage_at S.stream) ends-from ∙ end-fits.1 h
 
@@ -103,12 +113,14 @@ module _ (W : Parts) (Z : List OrderShape) (S : State) (s u : ℕ) where
       steps = sym (append-nil (count_up (S.carried v.0).position));
       ends = ap ends_at ended-place;
       passes = λ h. ap (passage_at S.stream) ended-place ∙ (whole c ∙ ap (λ (p : ℕ × ℕ). (p.0 + 0, p.1 + 0)) (sym (ended-passage h)));
+      done = done-kept (ops_of (body_at W v.0)) (exited_at S.stream (S.place v.0)) (exited_at S.stream (ended.place v.0)) (S.carried v.0).position (S.carried v.0).position (ap (exited_at S.stream) ended-place ∙ sym ended-exited) refl;
       cause = λ d h. let same : c ≡ d = cc in (ended-place ∙ ap (λ (x : Cause). place.Ended x) same, subst (MayEnd (body_at W v.0) (S.carried v.0).position) same end-fits.0);
     } where
       whole : (d : Cause) → passage_of_cause d ≡ ((passage_of_cause d).0 + 0, (passage_of_cause d).1 + 0)
       whole cause.Done = refl
       whole cause.Asked = refl
       whole cause.Access = refl
+      whole cause.Own = refl
 
     pub end-fate : Fate W u (what.End v c) S ended
     end-fate =
@@ -131,6 +143,8 @@ module _ (W : Parts) (Z : List OrderShape) (S : State) (s u : ℕ) where
         steps = sym (append-nil (count_up (S.carried v.0).position));
         ends = ap ends_at there;
         passes = λ h. ap (passage_at T.stream) there ∙ ap (λ (p : ℕ × ℕ). (p.0 + 1, p.1 + 0)) (sym fresh);
+        done = done-kept (ops_of (body_at W v.0)) (exited_at S.stream (S.place v.0)) (exited_at T.stream (T.place v.0)) (S.carried v.0).position (S.carried v.0).position
+            (ap (exited_at T.stream) there ∙ sym (ap (exited_at S.stream) from ∙ ap is_exited (enters-plain W S s v.0 may.0 may.1))) refl;
         cause = λ c h. absurd (none≢some h);
       })
       (λ other. record { life = refl; position = refl; moves = inl (put_at-other S.place v.0 to u other); marks = λ r at. marks-kept S s (entered (sched_of (body_at W v.0)) (S.stream s)) refl r })
@@ -149,6 +163,8 @@ module _ (W : Parts) (Z : List OrderShape) (S : State) (s u : ℕ) where
         steps = sym (append-nil (count_up (S.carried v.0).position));
         ends = ap ends_at there;
         passes = λ h. ap (passage_at T.stream) there ∙ (ap passage_of_mark mark ∙ ap (λ (p : ℕ × ℕ). (p.0 + 0, p.1 + 1)) (sym (ap (passage_at S.stream) may.1)));
+        done = done-kept (ops_of (body_at W v.0)) (exited_at S.stream (S.place v.0)) (exited_at T.stream (T.place v.0)) (S.carried v.0).position (S.carried v.0).position
+            (ap (exited_at T.stream) there ∙ (ap is_exited mark ∙ sym (ap (exited_at S.stream) may.1))) refl;
         cause = λ c h. absurd (none≢some h);
       })
       (λ other. record { life = refl; position = refl; moves = inl (put_at-other S.place v.0 to u other); marks = marks-elsewhere S s u (left (S.stream s)) (hand-none W S s u declared (due-idle W S s LeaveDue may.0 tt).0) })

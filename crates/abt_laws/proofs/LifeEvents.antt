@@ -18,7 +18,7 @@ module _ (W : Parts) (Z : List OrderShape) (S : State) (sound : Sound W Z S) (s 
   fate (what.Miss p) may = miss-fate W Z S s u p
   fate (what.Take p v) may = take-fate W Z S s u p v may
   fate (what.Look v) may = look-fate W Z S s u sound v may
-  fate (what.Step v k c) may = stepped-fate W Z S s u v k c may
+  fate (what.Step v k c) may = stepped-fate W Z S sound s u v k c may
   fate (what.Put v p) may = put-fate W Z S s u v p may
   fate (what.End v c) may = end-fate W Z S s u v c may
   fate (what.Enter v) may = enter-fate W Z S s u v may

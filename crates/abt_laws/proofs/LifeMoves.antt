@@ -21,6 +21,7 @@ use Rattle.abt_laws.proofs.SoundEvents.{handed}
 use Rattle.abt_laws.proofs.Marks.{marks-kept, marks-elsewhere}
 use Rattle.abt_laws.proofs.Standing.{next-place, StandsIn, first-stands, front-stands}
 use Rattle.abt_laws.proofs.Maps.{put_at-same, put_at-other, put_all-kept}
+use Rattle.abt_laws.proofs.Exits.{is_exited, exited_at}
 use Rattle.abt_laws.proofs.LifeTies.{IsOutside, IsBusy, passage_of_mark, passage_at, Fate, Drifting}
 use Rattle.abt_laws.proofs.LifeActs.{event-fate, acts-quietly}
 
@@ -35,7 +36,7 @@ module _ (W : Parts) (Z : List OrderShape) (S : State) (s u : ℕ) where
       let there : put_at S.place v.0 (place.Next (stream_no s)) v.0 ≡ place.Next (stream_no s) = put_at-same S.place v.0 (place.Next (stream_no s)) in
       event-fate W (what.Take p v) S (after W S s (what.Take p v)) v u refl (λ n. refl)
       (acts-quietly (body_at W v.0) v.0 (what.Take p v) S (after W S s (what.Take p v)) (record { positions = refl; cause = refl; enters = refl; leaves = refl })
-      (subst IsOutside (sym from) tt) (subst IsBusy (sym there) tt) (ap (passage_at (after W S s (what.Take p v)).stream) there) refl refl)
+      (subst IsOutside (sym from) tt) (subst IsBusy (sym there) tt) (ap (passage_at (after W S s (what.Take p v)).stream) there) (ap (exited_at (after W S s (what.Take p v)).stream) there) refl refl)
       (λ other. record { life = refl; position = refl; moves = inl (put_at-other S.place v.0 (place.Next (stream_no s)) u other); marks = λ r at. marks-kept S s (round_taken (S.stream s)) refl r })
 
   pub put-fate : (v : UnitNo) (p : PoolNo) → May W Z S s (what.Put v p) → Fate W u (what.Put v p) S (after W S s (what.Put v p))
@@ -45,7 +46,7 @@ module _ (W : Parts) (Z : List OrderShape) (S : State) (s u : ℕ) where
       let there : put_at S.place v.0 (place.Pool p (S.pool_next p.0)) v.0 ≡ place.Pool p (S.pool_next p.0) = put_at-same S.place v.0 (place.Pool p (S.pool_next p.0)) in
       event-fate W (what.Put v p) S (after W S s (what.Put v p)) v u refl (λ n. refl)
       (acts-quietly (body_at W v.0) v.0 (what.Put v p) S (after W S s (what.Put v p)) (record { positions = refl; cause = refl; enters = refl; leaves = refl })
-      (subst IsOutside (sym from) tt) (subst IsBusy (sym there) tt) (ap (passage_at S.stream) there) refl refl)
+      (subst IsOutside (sym from) tt) (subst IsBusy (sym there) tt) (ap (passage_at S.stream) there) (ap (exited_at S.stream) there) refl refl)
       (λ other. record { life = refl; position = refl; moves = inl (put_at-other S.place v.0 (place.Pool p (S.pool_next p.0)) u other); marks = λ r at. refl })
 
   -- A look.
@@ -60,13 +61,13 @@ module _ (W : Parts) (Z : List OrderShape) (S : State) (s u : ℕ) where
     look-life : (n : ℕ) → (put_at S.desk v.0 (without_requests (S.desk v.0)) n).life ≡ (S.desk n).life
     look-life n = put_all-kept (λ m (d : Desk). d.life ≡ (S.desk m).life) S.desk ((v.0, without_requests (S.desk v.0)) ∷ []) n (refl, tt) refl
 
-    handed-fate : (m : Mark) → passage_of_mark m ≡ (0, 0) → Fate W u (what.Look v) S (changed S (handed S s v.0 m))
-    handed-fate m fresh =
+    handed-fate : (m : Mark) → passage_of_mark m ≡ (0, 0) → is_exited m ≡ false → Fate W u (what.Look v) S (changed S (handed S s v.0 m))
+    handed-fate m fresh alive =
         let there : (changed S (handed S s v.0 m)).place v.0 ≡ place.Hand (stream_no s) = put_at-same S.place v.0 (place.Hand (stream_no s)) in
         let mark : ((changed S (handed S s v.0 m)).stream s).mark ≡ m = ap (λ (own : Stream). own.mark) (put_at-same S.stream s (marked m (S.stream s))) in
         event-fate W (what.Look v) S (changed S (handed S s v.0 m)) v u refl (λ n. refl)
         (acts-quietly (body_at W v.0) v.0 (what.Look v) S (changed S (handed S s v.0 m)) (record { positions = refl; cause = refl; enters = refl; leaves = refl })
-        (subst IsOutside (sym from) tt) (subst IsBusy (sym there) tt) (ap (passage_at (changed S (handed S s v.0 m)).stream) there ∙ (ap passage_of_mark mark ∙ fresh)) (look-life v.0) refl)
+        (subst IsOutside (sym from) tt) (subst IsBusy (sym there) tt) (ap (passage_at (changed S (handed S s v.0 m)).stream) there ∙ (ap passage_of_mark mark ∙ fresh)) (ap (exited_at (changed S (handed S s v.0 m)).stream) there ∙ (ap is_exited mark ∙ alive)) (look-life v.0) refl)
         (λ other. record { life = look-life u; position = refl; moves = inl (put_at-other S.place v.0 (place.Hand (stream_no s)) u other); marks = marks-elsewhere S s u (marked m (S.stream s)) nobody-held })
 
     migrated-fate : (p : ℕ) → Fate W u (what.Look v) S (changed S (look_row W S s v.0 false (Some p)))
@@ -77,12 +78,12 @@ module _ (W : Parts) (Z : List OrderShape) (S : State) (s u : ℕ) where
         let position : (n : ℕ) → (T.carried n).position ≡ (S.carried n).position = λ n. put_all-kept (λ m (c : Carried). c.position ≡ (S.carried m).position) S.carried ((v.0, with_home p (S.carried v.0)) ∷ []) n (refl, tt) refl in
         event-fate W (what.Look v) S T v u refl (λ n. refl)
         (acts-quietly (body_at W v.0) v.0 (what.Look v) S T (record { positions = refl; cause = refl; enters = refl; leaves = refl })
-        (subst IsOutside (sym from) tt) (subst IsBusy (sym there) tt) (ap (passage_at T.stream) there) (look-life v.0) (position v.0))
+        (subst IsOutside (sym from) tt) (subst IsBusy (sym there) tt) (ap (passage_at T.stream) there) (ap (exited_at T.stream) there) (look-life v.0) (position v.0))
         (λ other. record { life = look-life u; position = position u; moves = inl (put_at-other S.place v.0 to u other); marks = λ r at. refl })
 
     pub look-fate : Fate W u (what.Look v) S (after W S s (what.Look v))
     look-fate = by (S.desk v.0).cancel (S.desk v.0).migrate where
       by : (b : Bool) (o : Option ℕ) → Fate W u (what.Look v) S (changed S (look_row W S s v.0 b o))
-      by true o = handed-fate Asked refl
+      by true o = handed-fate Asked refl refl
       by false (Some p) = migrated-fate p
-      by false None = handed-fate Plain refl
+      by false None = handed-fate Plain refl refl

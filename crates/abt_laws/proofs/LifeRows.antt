@@ -159,8 +159,9 @@ module _ (W : Parts) (S : State) (s x : ℕ) (held : IsOutside (S.place x) → �
 
   -- The operations.
 
-  -- what holds of an operation that goes through
+  -- what holds of an operation that goes through; an `exit` changes its stream, and a birth another unit's life
   abbrev pub Goes : Op → Type 0
+  Goes op.Exit = Unit {0}
   Goes (op.Create v p) = IsOver (S.place v.0)
   Goes (op.Revive v p) = IsOver (S.place v.0)
   Goes o = Steps S x (op_row W S s x o)
@@ -176,6 +177,7 @@ module _ (W : Parts) (S : State) (s x : ℕ) (held : IsOutside (S.place x) → �
   goes (op.YieldTo v p) h =
       row-yields_to v.0 (place.Next (stream_no s)) (pooled-outside p.0 (S.place v.0) (unless-second (may_take W s p.0) (is_in_pool p.0 (S.place v.0)) code.PoolAccess code.Absent _ tt tt h)) tt
   goes op.Suspend h = row-blocks (place.Blocked spot.Suspended 0) tt
+  goes op.Exit h = tt
   goes (op.Resume v) h = row-wakes (v.0 ∷ []) (suspended-outside (S.place v.0) (unless-ok (is_suspended (S.place v.0)) code.UnitState code.Ok tt h).0, tt)
   goes (op.Create v p) h = unborn-over (S.place v.0) (unless-second (may_put W s p.0) (is_unborn (S.place v.0)) code.PoolAccess code.Exists _ tt tt h)
   goes (op.Join v) h = row-joins v.0 (S.place v.0)

@@ -1,5 +1,5 @@
 -- In every run each life of each unit goes as lives do.
-use Rattle.std.proofs.Common.{◌≡◌, ℕ, ◌<◌, List, [], ◌∷◌, ◌++◌, length, Option, Some, None, refl, sym, subst, arith, inl, inr, ◌↔◌, append_assoc}
+use Rattle.std.proofs.Common.{◌≡◌, ℕ, ◌<◌, false, List, [], ◌∷◌, ◌++◌, length, Option, Some, None, refl, sym, subst, arith, inl, inr, ◌↔◌, append_assoc}
 use Rattle.std.proofs.lemmas.Bool.{cases_order}
 use Rattle.std.proofs.lemmas.List.{append-nil}
 use Rattle.abt_machine.specs.declared.events.Event.{Event}
@@ -9,7 +9,7 @@ use Rattle.abt_machine.specs.declared.operations.OrderShape.{OrderShape}
 use Rattle.abt_machine.specs.declared.workload.Parts.{Parts}
 use Rattle.abt_machine.specs.Valid.{IsValid}
 use Rattle.abt_machine.specs.Rounds.{OrdersStored}
-use Rattle.abt_machine.specs.Workloads.{body_at, start_of}
+use Rattle.abt_machine.specs.Workloads.{body_at, ops_of, start_of}
 use Rattle.abt_machine.specs.State.{State}
 use Rattle.abt_machine.specs.Start.{start, start_place, first_life}
 use Rattle.abt_machine.specs.Events.{May, after}
@@ -17,6 +17,7 @@ use Rattle.abt_machine.specs.Runs.{Run, last_state}
 use Rattle.abt_machine.specs.Sound.{Sound}
 use Rattle.abt_machine.specs.Lives.{last_life, life_events, IsLife}
 use Rattle.abt_laws.specs.Laws.{RunsAreSound, RunsLive}
+use Rattle.abt_laws.proofs.Exits.{exited_at, no-exit-nil, done-kept, tasks-never-exit}
 use Rattle.abt_laws.proofs.LifeLists.{IsLife-nil}
 use Rattle.abt_laws.proofs.LifeTies.{ends_at, passage_at, Tied, TiedTo, tied-after}
 use Rattle.abt_laws.proofs.LifeEvents.{fate}
@@ -40,6 +41,10 @@ start-passage : (W : Parts) (u : ℕ) (o : Option ℕ) → (0, 0) ≡ passage_at
 start-passage W u None = refl
 start-passage W u (Some p) = refl
 
+start-exited : (W : Parts) (u : ℕ) (o : Option ℕ) → exited_at (start W).stream (start_place W u o) ≡ false
+start-exited W u None = refl
+start-exited W u (Some p) = refl
+
 no-earlier : (o : Option ℕ) (l : ℕ) → 0 < l → l < first_life o → ⊥
 no-earlier None l some below = omega arith
 no-earlier (Some p) l some below = omega arith
@@ -54,6 +59,7 @@ start-tied W u = record {
   steps = refl;
   ends = start-ends W u (start_of W u);
   passed = λ h. start-passage W u (start_of W u);
+  done = done-kept (ops_of (body_at W u)) false (exited_at (start W).stream (start_place W u (start_of W u))) 0 0 (start-exited W u (start_of W u)) refl no-exit-nil;
   is_life = IsLife-nil (body_at W u);
   earlier = λ l some below. absurd (no-earlier (start_of W u) l some below);
   later = λ l above. refl;
@@ -70,7 +76,7 @@ module _ (W : Parts) (Z : List OrderShape) (sound : RunsAreSound W Z) (valid : I
       let is : last_state W (K ++ e ∷ []) ≡ T = state_after-append W (start W) K (e ∷ []) in
       let before : Sound W Z S = last_state-sound W Z K sound valid stored run in
       let afterwards : Sound W Z T = subst (Sound W Z) is (last_state-sound W Z (K ++ e ∷ []) sound valid stored more) in
-      subst (λ U. TiedTo W (K ++ e ∷ []) U u) (sym is) (tied-after W K e u S T tied (afterwards.positions u) (fate W Z S before e.stream.0 u declared e.what may))
+      subst (λ U. TiedTo W (K ++ e ∷ []) U u) (sym is) (tied-after W K e u S T tied (afterwards.positions u) (tasks-never-exit W (body_at W u) (valid.units u declared).kind) (fate W Z S before e.stream.0 u declared e.what may))
 
   tied-along-run : (K es : List Event) → Run W Z (K ++ es) → TiedTo W K (last_state W K) u → TiedTo W (K ++ es) (last_state W (K ++ es)) u
   tied-along-run K [] run tied = subst (λ J. TiedTo W J (last_state W J) u) (sym (append-nil K)) tied

@@ -1,5 +1,5 @@
 -- The shapes of steps: what a step of one unit means to it and to the others.
-use Rattle.std.proofs.Common.{◌≡◌, ◌≢◌, ℕ, suc, ◌==◌, if◌then◌else◌, false, List, [], ◌∷◌, ◌++◌, Some, refl, sym, ◌∙◌, ap, subst, ◌⊎◌, inl, inr}
+use Rattle.std.proofs.Common.{◌≡◌, ◌≢◌, ℕ, suc, ◌==◌, if◌then◌else◌, Bool, false, List, [], ◌∷◌, ◌++◌, take, Some, refl, sym, ◌∙◌, ap, subst, ◌⊎◌, inl, inr}
 use Rattle.std.proofs.lemmas.Bool.{cases_eq, cond-true, cond-false, eq-eqb, ne_eqb, true≢false}
 use Rattle.abt_machine.specs.declared.events.Code.{Code}
 use Rattle.abt_machine.specs.declared.events.Place.{Place}
@@ -10,7 +10,7 @@ use Rattle.abt_machine.specs.declared.operations.Body.{Body}
 use Rattle.abt_machine.specs.declared.workload.Parts.{Parts}
 use Rattle.abt_machine.specs.Numbers.{stream_no}
 use Rattle.abt_machine.specs.Maps.{put_at, put_all}
-use Rattle.abt_machine.specs.Workloads.{body_at, is_sched}
+use Rattle.abt_machine.specs.Workloads.{body_at, ops_of, is_sched}
 use Rattle.abt_machine.specs.Carrying.{advanced, newborn}
 use Rattle.abt_machine.specs.State.{State, Stream, Carried, Desk}
 use Rattle.abt_machine.specs.Lines.{tray_end}
@@ -21,7 +21,8 @@ use Rattle.abt_machine.specs.Lives.{life_after, is_of, count_up}
 use Rattle.abt_laws.proofs.Options.{none≢some}
 use Rattle.abt_laws.proofs.Lists.{EachOf, EachOf-then}
 use Rattle.abt_laws.proofs.Maps.{put_at-same, put_at-other, put_all-kept}
-use Rattle.abt_laws.proofs.LifeTies.{IsOutside, IsBusy, IsBusy-outside, ends-busy, Drifts, Acts, Begins, Fate, Drifting, Acting, Beginning}
+use Rattle.abt_laws.proofs.Exits.{exited_at, HasDone, done-kept}
+use Rattle.abt_laws.proofs.LifeTies.{IsOutside, IsBusy, IsBusy-outside, ends-busy, exited-outside, Drifts, Acts, Begins, Fate, Drifting, Acting, Beginning}
 
 -- Changes by a step.
 
@@ -89,21 +90,35 @@ carried-own S x (p ∷ ps) h =
 moved-own : (S : State) (x : ℕ) (ms : List (ℕ × Place)) → IsBusy (S.place x) → EachOf (StaysOutside S x) ms → IsBusy (put_all S.place ms x)
 moved-own S x ms busy h = put_all-kept (λ n pl. IsBusy pl) S.place ms x (EachOf-then (StaysOutside S x) (λ m. IsBusy m.1) ms (λ m stays. IsBusy-outside m.1 stays.1) h) busy
 
+-- where unit u has done an operation more than k, it has ended itself afterwards or not
+abbrev pub DoesNext : Body → ℕ → ℕ → State → Bool → Type 0
+DoesNext b u k S now = HasDone (exited_at S.stream (S.place u)) (take k (ops_of b)) → HasDone now (take (suc k) (ops_of b))
+
 -- a unit that makes a step goes on, whatever else changes
-acts-by_step : (b : Body) (v : UnitNo) (k : ℕ) (c : Code) (S T : State) → is_sched b ≡ false → (S.carried v.0).position ≡ k → IsBusy (S.place v.0) → IsBusy (T.place v.0) → (T.desk v.0).life ≡ (S.desk v.0).life → (T.carried v.0).position ≡ suc (S.carried v.0).position → Acts b v.0 (what.Step v k c) S T
-acts-by_step b v k c S T program at busy stays life position = record {
+pub acts-by_step : (b : Body) (v : UnitNo) (k : ℕ) (c : Code) (S T : State) (now : Bool) → is_sched b ≡ false → (S.carried v.0).position ≡ k → IsBusy (S.place v.0) → IsBusy (T.place v.0) → (T.desk v.0).life ≡ (S.desk v.0).life → (T.carried v.0).position ≡ suc (S.carried v.0).position →
+    exited_at T.stream (T.place v.0) ≡ now → DoesNext b v.0 k S now → Acts b v.0 (what.Step v k c) S T
+acts-by_step b v k c S T now program at busy stays life position exited does = record {
   busy = busy;
   born = λ e. subst IsBusy e stays;
   life = life;
   steps = ap count_up position ∙ ap (λ n. count_up (S.carried v.0).position ++ n ∷ []) at;
   ends = ends-busy (T.place v.0) stays;
   passes = λ h. absurd (true≢false (sym h ∙ program));
+  done = λ done.
+      done-kept (ops_of b) now (exited_at T.stream (T.place v.0)) (suc k) (T.carried v.0).position exited (position ∙ ap (λ n. suc n) at)
+      (does (subst (λ n. HasDone (exited_at S.stream (S.place v.0)) (take n (ops_of b))) at done));
   cause = λ x h. absurd (none≢some h);
 }
 
-step-acts : (b : Body) (v : UnitNo) (k : ℕ) (c : Code) (S : State) (ch : Change) → is_sched b ≡ false → (S.carried v.0).position ≡ k → IsBusy (S.place v.0) → Steps S v.0 ch → Acts b v.0 (what.Step v k c) S (changed S ch)
-step-acts b v k c S ch program at busy step =
-    acts-by_step b v k c S (changed S ch) program at busy (moved-own S v.0 ch.moves busy step.stay_outside) (same-life S v.0 ch.desks step.same_lives) (carried-own S v.0 ch.carried step.goes_on)
+-- a unit that has not ended itself has not after such a step
+alive-own : (S : State) (x : ℕ) (ch : Change) → exited_at S.stream (S.place x) ≡ false → Steps S x ch → exited_at (changed S ch).stream ((changed S ch).place x) ≡ false
+alive-own S x ch alive step =
+    subst (λ ss. exited_at (put_all S.stream ss) (put_all S.place ch.moves x) ≡ false) (sym step.same_streams)
+    (put_all-kept (λ n pl. exited_at S.stream pl ≡ false) S.place ch.moves x (EachOf-then (StaysOutside S x) (λ m. exited_at S.stream m.1 ≡ false) ch.moves (λ m stays. exited-outside S.stream m.1 stays.1) step.stay_outside) alive)
+
+step-acts : (b : Body) (v : UnitNo) (k : ℕ) (c : Code) (S : State) (ch : Change) → is_sched b ≡ false → (S.carried v.0).position ≡ k → IsBusy (S.place v.0) → exited_at S.stream (S.place v.0) ≡ false → DoesNext b v.0 k S false → Steps S v.0 ch → Acts b v.0 (what.Step v k c) S (changed S ch)
+step-acts b v k c S ch program at busy alive does step =
+    acts-by_step b v k c S (changed S ch) false program at busy (moved-own S v.0 ch.moves busy step.stay_outside) (same-life S v.0 ch.desks step.same_lives) (carried-own S v.0 ch.carried step.goes_on) (alive-own S v.0 ch alive step) does
 
 -- Fates.
 
@@ -111,11 +126,11 @@ pub not-of : (u : ℕ) (v : UnitNo) → u ≢ v.0 → is_of u (Some v.0) ≡ fal
 not-of u v ne = ne_eqb v.0 u (λ e. ne (sym e))
 
 -- what a step with which no life begins means to unit u
-pub step-fate : (W : Parts) (S : State) (v : UnitNo) (k : ℕ) (c : Code) (u : ℕ) (ch : Change) → is_sched (body_at W v.0) ≡ false → (S.carried v.0).position ≡ k → IsBusy (S.place v.0) →
-    ((n : ℕ) → life_after W u n (what.Step v k c) ≡ n) → Steps S v.0 ch → Fate W u (what.Step v k c) S (changed S ch)
-step-fate W S v k c u ch program at busy same step =
+pub step-fate : (W : Parts) (S : State) (v : UnitNo) (k : ℕ) (c : Code) (u : ℕ) (ch : Change) → is_sched (body_at W v.0) ≡ false → (S.carried v.0).position ≡ k → IsBusy (S.place v.0) → exited_at S.stream (S.place v.0) ≡ false →
+    DoesNext (body_at W v.0) v.0 k S false → ((n : ℕ) → life_after W u n (what.Step v k c) ≡ n) → Steps S v.0 ch → Fate W u (what.Step v k c) S (changed S ch)
+step-fate W S v k c u ch program at busy alive does same step =
     elim (cases_eq u v.0) [
-      | inl own ↦ Acting (ap (λ (n : ℕ). Some n) (sym own)) same (subst (λ n. Acts (body_at W n) n (what.Step v k c) S (changed S ch)) (sym own) (step-acts (body_at W v.0) v k c S ch program at busy step))
+      | inl own ↦ Acting (ap (λ (n : ℕ). Some n) (sym own)) same (subst (λ n. Acts (body_at W n) n (what.Step v k c) S (changed S ch)) (sym own) (step-acts (body_at W v.0) v k c S ch program at busy alive does step))
       | inr other ↦ Drifting (not-of u v other) same (step-drifts S v.0 u ch other step)
     ]
 
@@ -129,7 +144,7 @@ over-not-busy (place.Tray s t) over busy = over
 over-not-busy (place.Frame s d) over busy = over
 over-not-busy (place.Blocked x t) over busy = over
 
-module _ (W : Parts) (S : State) (s : ℕ) (v w : UnitNo) (p k : ℕ) (c : Code) (program : is_sched (body_at W v.0) ≡ false) (at : (S.carried v.0).position ≡ k) (busy : IsBusy (S.place v.0)) (over : IsOver (S.place w.0)) where
+module _ (W : Parts) (S : State) (s : ℕ) (v w : UnitNo) (p k : ℕ) (c : Code) (program : is_sched (body_at W v.0) ≡ false) (at : (S.carried v.0).position ≡ k) (busy : IsBusy (S.place v.0)) (alive : exited_at S.stream (S.place v.0) ≡ false) (does : DoesNext (body_at W v.0) v.0 k S false) (over : IsOver (S.place w.0)) where
   abbrev T : State
   T = changed S (begins W S s v.0 w.0 p)
 
@@ -164,8 +179,9 @@ module _ (W : Parts) (S : State) (s : ℕ) (v w : UnitNo) (p k : ℕ) (c : Code)
   birth-acts : Acts (body_at W v.0) v.0 (what.Step v k c) S T
   birth-acts =
       let other : v.0 ≢ w.0 = apart v.0 refl in
-      acts-by_step (body_at W v.0) v k c S T program at busy (subst IsBusy (sym (place-other v.0 other)) busy) (life-other v.0 other)
+      acts-by_step (body_at W v.0) v k c S T false program at busy (subst IsBusy (sym (place-other v.0 other)) busy) (life-other v.0 other)
       (ap (λ (d : Carried). d.position) (carried-before v.0 other ∙ put_at-same S.carried v.0 (advanced (S.carried v.0))))
+      (ap (exited_at S.stream) (place-other v.0 other) ∙ alive) does
 
   -- what a step with which a life of unit w begins means to unit u
   pub birth-fate : (u : ℕ) → ((n : ℕ) → life_after W u n (what.Step v k c) ≡ (if w.0 == u then suc n else n)) → Fate W u (what.Step v k c) S T

@@ -1,5 +1,5 @@
 -- What ties the events of a unit to its place and position, and how one event keeps it.
-use Rattle.std.proofs.Common.{◌≡◌, ℕ, suc, ◌+◌, ◌<◌, ◌≤◌, true, false, List, [], ◌∷◌, ◌++◌, length, Some, refl, sym, ◌∙◌, ap, ap₂, subst, arith, ◌⊎◌, inl, inr}
+use Rattle.std.proofs.Common.{◌≡◌, ℕ, suc, ◌+◌, ◌<◌, ◌≤◌, true, false, List, [], ◌∷◌, ◌++◌, length, take, Some, refl, sym, ◌∙◌, ap, ap₂, subst, arith, ◌⊎◌, inl, inr}
 use Rattle.std.proofs.Math.Path.{fun_ext}
 use Rattle.std.proofs.lemmas.Bool.{cases_eq}
 use Rattle.std.proofs.lemmas.List.{append-nil}
@@ -12,10 +12,11 @@ use Rattle.abt_machine.specs.declared.numbers.StreamNo.{StreamNo}
 use Rattle.abt_machine.specs.declared.operations.Body.{Body}
 use Rattle.abt_machine.specs.declared.workload.Parts.{Parts}
 use Rattle.abt_machine.specs.Workloads.{body_at, ops_of, is_sched}
-use Rattle.abt_machine.specs.State.{State, Stream, Mark, Plain, Asked, Left}
+use Rattle.abt_machine.specs.State.{State, Stream, Mark, Plain, Asked, Left, Exited}
 use Rattle.abt_machine.specs.Outcomes.{IsOver}
 use Rattle.abt_machine.specs.Lives.{life_after, last_life, unit_of, is_of, life_events, positions_in, ends_in, cause_in, enters_in, leaves_in, count_up, EndsLife, IsLife}
 use Rattle.abt_laws.proofs.LifeJournals.{last_life-append, life_events-append, added_event-other, added_event-now, added_event-another, positions_in-append, ends_in-append, enters_in-append, leaves_in-append}
+use Rattle.abt_laws.proofs.Exits.{exited_at, exited-marks, HasDone, NoTaskExits, no-exit-nil, done-kept}
 use Rattle.abt_laws.proofs.LifeLists.{passages_in, passage_of_cause, MayEnd, IsLife-push, IsLife-nil, ends-life}
 
 -- Places.
@@ -43,6 +44,7 @@ abbrev pub passage_of_mark : Mark → ℕ × ℕ
 passage_of_mark Plain = (0, 0)
 passage_of_mark Asked = (0, 0)
 passage_of_mark Left = (1, 1)
+passage_of_mark Exited = (0, 0)
 
 -- the entries and leaves of a scheduler unit in its life so far, by its place and the streams' marks
 abbrev pub passage_at : (ℕ → Stream) → Place → ℕ × ℕ
@@ -60,6 +62,16 @@ passage-outside streams place.Unborn h = absurd h
 passage-outside streams (place.Hand s) h = absurd h
 passage-outside streams (place.Frame s d) h = absurd h
 passage-outside streams (place.Ended c) h = absurd h
+
+pub exited-outside : (streams : ℕ → Stream) (pl : Place) → IsOutside pl → exited_at streams pl ≡ false
+exited-outside streams (place.Pool p t) h = refl
+exited-outside streams (place.Next s) h = refl
+exited-outside streams (place.Tray s t) h = refl
+exited-outside streams (place.Blocked x t) h = refl
+exited-outside streams place.Unborn h = absurd h
+exited-outside streams (place.Hand s) h = absurd h
+exited-outside streams (place.Frame s d) h = absurd h
+exited-outside streams (place.Ended c) h = absurd h
 
 passage-marks : (streams others : ℕ → Stream) (pl : Place) → ((r : StreamNo) → pl ≡ place.Hand r → (others r.0).mark ≡ (streams r.0).mark) → passage_at others pl ≡ passage_at streams pl
 passage-marks streams others (place.Hand s) h = ap passage_of_mark (h s refl)
@@ -95,6 +107,7 @@ pub record Tied (W : Parts) (u now : ℕ) (events : ℕ → List What) (S : Stat
   pub steps : positions_in (events now) ≡ count_up (S.carried u).position
   pub ends : ends_in (events now) ≡ ends_at (S.place u)
   pub passed : is_sched (body_at W u) ≡ true → passages_in (events now) ≡ passage_at S.stream (S.place u)
+  pub done : HasDone (exited_at S.stream (S.place u)) (take (S.carried u).position (ops_of (body_at W u)))
   pub is_life : IsLife (body_at W u) (events now)
   -- earlier lives have ended
   pub earlier : (l : ℕ) → 0 < l → l < now → IsLife (body_at W u) (events l) × ((c : Cause) × (ends_in (events l) ≡ c ∷ []))
@@ -115,6 +128,7 @@ pub record Acts (b : Body) (u : ℕ) (w : What) (S T : State) : Type 0 where
   pub steps : count_up (T.carried u).position ≡ count_up (S.carried u).position ++ positions_in (w ∷ [])
   pub ends : ends_at (T.place u) ≡ ends_in (w ∷ [])
   pub passes : is_sched b ≡ true → passage_at T.stream (T.place u) ≡ ((passage_at S.stream (S.place u)).0 + enters_in (w ∷ []), (passage_at S.stream (S.place u)).1 + leaves_in (w ∷ []))
+  pub done : HasDone (exited_at S.stream (S.place u)) (take (S.carried u).position (ops_of b)) → HasDone (exited_at T.stream (T.place u)) (take (T.carried u).position (ops_of b))
   pub cause : (c : Cause) → cause_in w ≡ Some c → (T.place u ≡ place.Ended c) × MayEnd b (T.carried u).position c
 
 -- unit u begins a life
@@ -138,6 +152,13 @@ module _ (W : Parts) (u now : ℕ) (events : ℕ → List What) (S T : State) (t
       elim d.moves [
         | inl same ↦ ap (passage_at T.stream) same ∙ passage-marks S.stream T.stream (S.place u) d.marks
         | inr away ↦ passage-outside T.stream (T.place u) away.1 ∙ sym (passage-outside S.stream (S.place u) away.0)
+      ]
+
+  drifts-exited : Drifts u S T → exited_at T.stream (T.place u) ≡ exited_at S.stream (S.place u)
+  drifts-exited d =
+      elim d.moves [
+        | inl same ↦ ap (exited_at T.stream) same ∙ exited-marks S.stream T.stream (S.place u) d.marks
+        | inr away ↦ exited-outside T.stream (T.place u) away.1 ∙ sym (exited-outside S.stream (S.place u) away.0)
       ]
 
   drifts-ends : Drifts u S T → ends_at (T.place u) ≡ ends_at (S.place u)
@@ -170,6 +191,7 @@ module _ (W : Parts) (u now : ℕ) (events : ℕ → List What) (S T : State) (t
     steps = tied.steps ∙ ap count_up (sym d.position);
     ends = tied.ends ∙ sym (drifts-ends d);
     passed = λ h. tied.passed h ∙ sym (drifts-passage d);
+    done = done-kept (ops_of (body_at W u)) (exited_at S.stream (S.place u)) (exited_at T.stream (T.place u)) (S.carried u).position (T.carried u).position (drifts-exited d) d.position tied.done;
     is_life = tied.is_life;
     earlier = tied.earlier;
     later = tied.later;
@@ -205,12 +227,13 @@ module _ (W : Parts) (u now : ℕ) (events : ℕ → List What) (S T : State) (t
         steps = ap positions_in fresh ∙ ap count_up (sym b.position);
         ends = ap ends_in fresh ∙ sym (ends-busy (T.place u) busy);
         passed = λ h. ap passages_in fresh ∙ sym (passage-outside T.stream (T.place u) b.outside);
+        done = done-kept (ops_of (body_at W u)) false (exited_at T.stream (T.place u)) 0 (T.carried u).position (exited-outside T.stream (T.place u) b.outside) b.position no-exit-nil;
         is_life = subst (IsLife (body_at W u)) (sym fresh) (IsLife-nil (body_at W u));
         earlier = begins-earlier b.over;
         later = λ l above. tied.later l (omega arith);
       }
 
-module _ (W : Parts) (u now : ℕ) (events : ℕ → List What) (S T : State) (tied : Tied W u now events S) (w : What) (acts : Acts (body_at W u) u w S T) (fits : (T.carried u).position ≤ length (ops_of (body_at W u))) where
+module _ (W : Parts) (u now : ℕ) (events : ℕ → List What) (S T : State) (tied : Tied W u now events S) (w : What) (acts : Acts (body_at W u) u w S T) (fits : (T.carried u).position ≤ length (ops_of (body_at W u))) (tasks : NoTaskExits (body_at W u)) where
   grown-steps : positions_in (events now ++ w ∷ []) ≡ count_up (T.carried u).position
   grown-steps = positions_in-append (events now) (w ∷ []) ∙ (ap (λ ks. ks ++ positions_in (w ∷ [])) tied.steps ∙ sym acts.steps)
 
@@ -229,7 +252,9 @@ module _ (W : Parts) (u now : ℕ) (events : ℕ → List What) (S T : State) (t
   grown-ending : (c : Cause) → cause_in w ≡ Some c → EndsLife (body_at W u) (events now ++ w ∷ []) c
   grown-ending c is =
       let end : (T.place u ≡ place.Ended c) × MayEnd (body_at W u) (T.carried u).position c = acts.cause c is in
-      ends-life (body_at W u) (events now ++ w ∷ []) (T.carried u).position c grown-steps fits (λ h. grown-passed h ∙ ap (passage_at T.stream) end.0) end.1
+      ends-life (body_at W u) (events now ++ w ∷ []) (T.carried u).position c grown-steps fits
+      (subst (λ exited. HasDone exited (take (T.carried u).position (ops_of (body_at W u)))) (ap (exited_at T.stream) end.0) (acts.done tied.done)) tasks
+      (λ h. grown-passed h ∙ ap (passage_at T.stream) end.0) end.1
 
   busy-alive : now ≡ 0 → ⊥
   busy-alive none = unborn-busy (S.place u) acts.busy (tied.born none)
@@ -243,7 +268,8 @@ module _ (W : Parts) (u now : ℕ) (events : ℕ → List What) (S T : State) (t
     steps = ap positions_in here ∙ grown-steps;
     ends = ap ends_in here ∙ grown-ends;
     passed = λ h. ap passages_in here ∙ grown-passed h;
-    is_life = subst (IsLife (body_at W u)) (sym here) (IsLife-push (body_at W u) (events now) w (T.carried u).position no-end-yet grown-steps fits grown-ending);
+    done = acts.done tied.done;
+    is_life = subst (IsLife (body_at W u)) (sym here) (IsLife-push (body_at W u) (events now) w (T.carried u).position (exited_at T.stream (T.place u)) no-end-yet grown-steps fits (acts.done tied.done) grown-ending);
     earlier = λ l some below.
         let same : grown l ≡ events l = elsewhere l (λ e. absurd (omega arith)) in
         subst (λ es. IsLife (body_at W u) es × ((c : Cause) × (ends_in es ≡ c ∷ []))) (sym same) (tied.earlier l some below);
@@ -257,7 +283,7 @@ tied-along W u m n es fs S same each tied = subst (λ k. Tied W u k fs S) same (
 abbrev pub TiedTo : Parts → List Event → State → ℕ → Type 0
 TiedTo W J S u = Tied W u (last_life W J u) (life_events W J u) S
 
-module _ (W : Parts) (J : List Event) (e : Event) (u : ℕ) (S T : State) (tied : TiedTo W J S u) (fits : (T.carried u).position ≤ length (ops_of (body_at W u))) where
+module _ (W : Parts) (J : List Event) (e : Event) (u : ℕ) (S T : State) (tied : TiedTo W J S u) (fits : (T.carried u).position ≤ length (ops_of (body_at W u))) (tasks : NoTaskExits (body_at W u)) where
   same-life : (n : ℕ) → life_after W u (last_life W J u) e.what ≡ n → n ≡ last_life W (J ++ e ∷ []) u
   same-life n h = sym h ∙ sym (last_life-append W J e u)
 
@@ -272,7 +298,7 @@ module _ (W : Parts) (J : List Event) (e : Event) (u : ℕ) (S T : State) (tied 
   tied-after (Acting own same acts) =
       tied-along W u (last_life W J u) (last_life W (J ++ e ∷ []) u) (life_events W (J ++ e ∷ []) u) (life_events W (J ++ e ∷ []) u) T
       (same-life (last_life W J u) (same (last_life W J u))) (λ l. refl)
-      (tied-acts W u (last_life W J u) (life_events W J u) S T tied e.what acts fits (life_events W (J ++ e ∷ []) u)
+      (tied-acts W u (last_life W J u) (life_events W J u) S T tied e.what acts fits tasks (life_events W (J ++ e ∷ []) u)
       (life_events-append W J e u (last_life W J u) ∙ ap (λ es. life_events W J u (last_life W J u) ++ es) (added_event-now u (last_life W J u) e.what own))
       (λ l ne. life_events-append W J e u l ∙ (ap (λ es. life_events W J u l ++ es) (added_event-another u l (last_life W J u) e.what own ne) ∙ append-nil (life_events W J u l))))
   tied-after (Beginning other more begins) =

@@ -1,5 +1,5 @@
 -- What holds of each item of a list, and what is among its items.
-use Rattle.std.proofs.Common.{◌≡◌, ℕ, List, [], ◌∷◌, ◌++◌, map, Some, None, sym, subst, ◌⊎◌}
+use Rattle.std.proofs.Common.{◌≡◌, ℕ, List, [], ◌∷◌, ◌++◌, map, Some, None, refl, sym, ◌∙◌, ap, subst, ◌⊎◌, inl, inr}
 use Rattle.abt_machine.specs.Queues.{first, last, first_alone}
 use Rattle.abt_laws.proofs.Options.{none≢some, some-injective}
 
@@ -7,6 +7,27 @@ use Rattle.abt_laws.proofs.Options.{none≢some, some-injective}
 abbrev pub EachOf : {A : Type 0} → (A → Type 0) → List A → Type 0
 EachOf P [] = Unit {0}
 EachOf P (x ∷ xs) = P x × EachOf P xs
+
+-- an item in the middle
+pub nil≢middle : {A : Type 0} (before rest : List A) (x : A) → [] ≡ before ++ x ∷ rest → ⊥
+nil≢middle [] rest x h = cc
+nil≢middle (y ∷ before) rest x h = cc
+
+-- an item of a list with one more at its end is that one or is in the list
+pub last-or-within : {A : Type 0} (xs before rest : List A) (v w : A) → xs ++ v ∷ [] ≡ before ++ w ∷ rest → (rest ≡ []) ⊎ ((r : List A) × (xs ≡ before ++ w ∷ r))
+last-or-within [] [] rest v w h = inl cc
+last-or-within [] (b ∷ before) rest v w h = let t : [] ≡ before ++ w ∷ rest = cc in absurd (nil≢middle before rest w t)
+last-or-within (x ∷ xs) [] rest v w h = inr (xs, cc)
+last-or-within (x ∷ xs) (b ∷ before) rest v w h =
+    let t : xs ++ v ∷ [] ≡ before ++ w ∷ rest = cc in
+    let same : x ≡ b = cc in
+    elim (last-or-within xs before rest v w t) [ inl end ↦ inl end | inr p ↦ inr (p.0, ap (λ ys. x ∷ ys) p.1 ∙ ap (λ y. y ∷ before ++ w ∷ p.0) same) ]
+
+-- the one at the end is the last
+pub last-push : {A : Type 0} (xs : List A) (x : A) → last (xs ++ x ∷ []) ≡ Some x
+last-push [] x = refl
+last-push (y ∷ []) x = refl
+last-push (y ∷ z ∷ ys) x = last-push (z ∷ ys) x
 
 pub EachOf-all : {A : Type 0} (P : A → Type 0) (xs : List A) → ((x : A) → P x) → EachOf P xs
 EachOf-all P [] f = tt

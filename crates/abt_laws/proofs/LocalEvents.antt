@@ -57,6 +57,7 @@ module _ (W : Parts) (valid : IsValid W) (S : State) (s u : ℕ) (in_hand : hand
   local-op (op.YieldTo v p) d h =
       LocalRows.local-yields_to W S s u _ in_hand v.0 (unit-reached W S s (may_take W s p.0) (site.Pool p) v.0 (is_in_pool p.0) code.Absent tt (λ x pl e. in_pool-seen W s x v.0 p.0 pl e) h)
   local-op op.Suspend d h = LocalRows.local-suspends W S s u _ in_hand refl
+  local-op op.Exit d h = local-stream W S s _ _ (LocalRows.local-goes_with W S s u _ in_hand _) _
   local-op (op.Resume v) d h = LocalRows.local-wakes W S s u _ in_hand (v.0 ∷ []) (kept-where_true (suspended-seen W s _ v.0 (S.place v.0) refl) (unless-ok _ code.UnitState code.Ok tt h).0, tt)
   local-op (op.Create v p) d h =
       LocalRows.local-begins W S s u _ in_hand v.0 p.0 (site-reached (may_put W s p.0) (site.Desk v) _ h)

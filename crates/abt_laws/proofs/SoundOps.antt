@@ -30,7 +30,7 @@ use Rattle.abt_laws.proofs.Declared.{op-declared, first_pool-declared, mutex-dec
 use Rattle.abt_laws.proofs.SoundChanges.{Keeps, sound-after}
 use Rattle.abt_laws.proofs.Wakes.{IsWakeable, wakeable-line, wakeable-first, frameless-by}
 use Rattle.abt_laws.proofs.SoundSteps.{IsStepping, stepping, may_wake, keeps-still, keeps-goes_with, keeps-wakes_only}
-use Rattle.abt_laws.proofs.SoundUnits.{keeps-suspends, keeps-joins, keeps-begins, keeps-yields_to}
+use Rattle.abt_laws.proofs.SoundUnits.{keeps-suspends, keeps-exits, keeps-joins, keeps-begins, keeps-yields_to}
 use Rattle.abt_laws.proofs.SoundDesks.{keeps-cancels, keeps-migrates, keeps-allows}
 use Rattle.abt_laws.proofs.SoundMutexes.{keeps-takes, keeps-stores, keeps-locks, keeps-hands_over}
 use Rattle.abt_laws.proofs.SoundConditions.{keeps-releases, keeps-passes}
@@ -58,6 +58,7 @@ module _ (W : Parts) (Z : List OrderShape) (S : State) (s u : ℕ) (valid : IsVa
   op-keeps op.Yield d e = keeps-wakes_only W Z S s u step (u ∷ []) (may_wake W Z S s u step, tt)
   op-keeps (op.YieldTo v p) d e = keeps-yields_to W Z S s u step v.0 p.0 d.0 (unless-second (may_take W s p.0) (is_in_pool p.0 (S.place v.0)) code.PoolAccess code.Absent _ tt tt e)
   op-keeps op.Suspend d e = keeps-suspends W Z S s u step
+  op-keeps op.Exit d e = keeps-exits W Z S s u step
   op-keeps (op.Resume v) d e = keeps-wakes_only W Z S s u step (v.0 ∷ []) (wakes-by v.0 is_suspended (λ r t. refl) d (unless-ok (is_suspended (S.place v.0)) code.UnitState code.Ok tt e).0, tt)
   op-keeps (op.Create v p) d e = keeps-begins W Z S s u step v.0 p.0 (wakes-by v.0 is_unborn (λ r t. refl) d.0 (unless-second (may_put W s p.0) (is_unborn (S.place v.0)) code.PoolAccess code.Exists _ tt tt e)) d.1
   op-keeps (op.Join v) d e = keeps-joins W Z S s u step v.0 (S.place v.0) d refl

@@ -1,4 +1,4 @@
--- Steps that move units keep a sound state sound: yielding to a unit, suspending, joining, and the beginning of a life. Unit u, in the hand of stream s, makes the step.
+-- Steps that move units keep a sound state sound: yielding to a unit, suspending, joining, the beginning of a life, and its end by the unit itself. Unit u, in the hand of stream s, makes the step.
 use Rattle.std.proofs.Common.{◌≡◌, ℕ, suc, ◌<◌, ◌≤◌, true, List, [], ◌∷◌, length, Some, refl, sym, ◌∙◌, ap, subst, arith, inl, inr}
 use Rattle.abt_machine.specs.declared.events.Place.{Place}
 use Rattle.abt_machine.specs.declared.events.Place.TheVariants as place
@@ -7,10 +7,11 @@ use Rattle.abt_machine.specs.declared.operations.OrderShape.{OrderShape}
 use Rattle.abt_machine.specs.declared.workload.Parts.{Parts}
 use Rattle.abt_machine.specs.Numbers.{stream_no, unit_no}
 use Rattle.abt_machine.specs.Maps.{put_at}
-use Rattle.abt_machine.specs.State.{State, Desk}
+use Rattle.abt_machine.specs.State.{State, Desk, Exited}
 use Rattle.abt_machine.specs.Lines.{InTray, InHand, InNext, Joining, ticket_in, tray_end}
 use Rattle.abt_machine.specs.Carrying.{advanced, newborn}
 use Rattle.abt_machine.specs.Codes.{is_in_pool}
+use Rattle.abt_machine.specs.Frames.{marked}
 use Rattle.abt_machine.specs.Changes.{Change, changed, to_tray, goes_on}
 use Rattle.abt_machine.specs.Steps.{begins, joins}
 use Rattle.abt_machine.specs.Sound.{IsPlaced, HasNotEnded}
@@ -21,6 +22,8 @@ use Rattle.abt_laws.proofs.Arrivals.{IsEmpty, IsBelow, IsBelow-move, IsFreeFor, 
 use Rattle.abt_laws.proofs.SoundChanges.{Keeps, places, IsAlone, placed-below}
 use Rattle.abt_laws.proofs.Barriers.{IsOffBarriers}
 use Rattle.abt_laws.proofs.Wakes.{IsWakeable, tray-well, tray-frameless, empty-after, frameless-by}
+use Rattle.abt_laws.proofs.SoundEvents.{keeps-event}
+use Rattle.abt_laws.proofs.SoundFrames.{frames-stay}
 use Rattle.abt_laws.proofs.SoundMoves.{keeps-moves}
 use Rattle.abt_laws.proofs.SoundSteps.{IsStepping, in_no_frame, may_wake, carries_on, keeps-goes_on, keeps-wakes, tray-below}
 
@@ -35,6 +38,13 @@ module _ (W : Parts) (Z : List OrderShape) (S : State) (s u : ℕ) (step : IsSte
 
   pub keeps-suspends : Keeps W Z S (record (goes_on S u) { moves = (u, place.Blocked spot.Suspended 0) ∷ [] })
   keeps-suspends = let pl : Place = place.Blocked spot.Suspended 0 in keeps-goes_to pl [] (free-nowhere S.place u pl refl) tt tt tt tt tt
+
+  -- u stays in the hand, to be ended
+  pub keeps-exits : Keeps W Z S (record (goes_on S u) { streams = (s, marked Exited (S.stream s)) ∷ [] })
+  keeps-exits =
+      let c : Change = record (goes_on S u) { streams = (s, marked Exited (S.stream s)) ∷ [] } in
+      keeps-event W Z S step.sound [] ((u, advanced (S.carried u)) ∷ []) [] [] ((s, marked Exited (S.stream s)) ∷ []) tt tt tt (carries_on W Z S s u step, tt) tt tt
+      (frames-stay W Z S c step.sound tt (record { below = refl; sched = refl; rest = λ v at h. h; under_way = λ k. (step.sound.under_way s k).0 }, tt))
 
   -- the tickets of those who join v are below the next
   joining-below : (v : ℕ) → IsBelow (Joining v) (S.join_next v) S.place

@@ -13,7 +13,7 @@ use Rattle.abt_machine.specs.Numbers.{stream_no}
 use Rattle.abt_machine.specs.Maps.{put_at, put_all}
 use Rattle.abt_machine.specs.Workloads.{body_at}
 use Rattle.abt_machine.specs.Queues.{first}
-use Rattle.abt_machine.specs.State.{State, Stream, Frame, Desk, Mark, Plain, Asked, Left}
+use Rattle.abt_machine.specs.State.{State, Stream, Frame, Desk, Mark, Plain, Asked, Left, Exited}
 use Rattle.abt_machine.specs.Lines.{InPool, InTray, InHand, InNext, Joining, hand, next, standing, ticket_in, tray_end}
 use Rattle.abt_machine.specs.Next.{EnterDue, LeaveDue, due}
 use Rattle.abt_machine.specs.Fronts.{front}
@@ -125,11 +125,13 @@ hand_weight-light : (m : Mark) → hand_weight m ≤ 3
 hand_weight-light Plain = omega arith
 hand_weight-light Asked = omega arith
 hand_weight-light Left = omega arith
+hand_weight-light Exited = omega arith
 
 hand_weight-some : (m : Mark) → 0 < hand_weight m
 hand_weight-some Plain = omega arith
 hand_weight-some Asked = omega arith
 hand_weight-some Left = omega arith
+hand_weight-some Exited = omega arith
 
 -- the places after unit u has ended and its joiners have gone to the tray weigh as those where it has ended and they still join it
 ended-joiners : (W : Parts) (S : State) (s u : ℕ) (c : Cause) → StandsIn W S (InHand s) u → (v : ℕ) →

@@ -7,7 +7,7 @@ use Rattle.abt_machine.specs.declared.events.Spot.TheVariants as spot
 use Rattle.abt_machine.specs.declared.events.What.{What}
 use Rattle.abt_machine.specs.declared.events.What.TheVariants as what
 use Rattle.abt_machine.specs.declared.workload.Parts.{Parts}
-use Rattle.abt_machine.specs.State.{State, Stream, Frame, Mark, Plain, Asked, Left}
+use Rattle.abt_machine.specs.State.{State, Stream, Frame, Mark, Plain, Asked, Left, Exited}
 use Rattle.abt_machine.specs.Sound.{frames_of}
 use Rattle.abt_machine.specs.Outcomes.{steps_of}
 use Rattle.abt_machine.specs.Lives.{count_up}
@@ -20,6 +20,7 @@ abbrev pub hand_weight : Mark → ℕ
 hand_weight Plain = 3
 hand_weight Asked = 3
 hand_weight Left = 1
+hand_weight Exited = 3
 
 -- how far a unit at this place is from its end
 abbrev pub place_weight : State → Place → ℕ

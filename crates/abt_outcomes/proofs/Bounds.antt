@@ -9,7 +9,7 @@ use Rattle.abt_machine.specs.declared.events.Spot.TheVariants as spot
 use Rattle.abt_machine.specs.declared.operations.OrderShape.{OrderShape}
 use Rattle.abt_machine.specs.declared.workload.Parts.{Parts}
 use Rattle.abt_machine.specs.Numbers.{stream_no}
-use Rattle.abt_machine.specs.State.{State, Frame, Mark, Plain, Asked, Left}
+use Rattle.abt_machine.specs.State.{State, Frame, Mark, Plain, Asked, Left, Exited}
 use Rattle.abt_machine.specs.Sound.{Sound}
 use Rattle.abt_laws.specs.Measure.{hand_weight, open_frames, open_frames_of, place_weight, request_weight, stacked, unit_weight, weight}
 use Rattle.abt_laws.proofs.Standing.{is-declared}
@@ -22,6 +22,7 @@ hand-most : (m : Mark) → hand_weight m ≤ 3
 hand-most Plain = omega arith
 hand-most Asked = omega arith
 hand-most Left = omega arith
+hand-most Exited = omega arith
 
 place-most : (S : State) (at : Place) → place_weight S at ≤ 6
 place-most S place.Unborn = omega arith
@@ -136,6 +137,6 @@ open_frames-most W Z S sound =
 
 pub numbers-are-bounded : (W : Parts) (Z : List OrderShape) → NumbersAreBounded W Z
 numbers-are-bounded W Z valid S sound =
-    let few : length W.units ≤ 256 = valid.few_units in
+    let few : length W.units ≤ 4096 = valid.few_units in
     let a : weight W S ≤ length W.units * 9 = weight-most W S in
     let b : open_frames W S ≤ length W.units = open_frames-most W Z S sound in (omega arith, omega arith)

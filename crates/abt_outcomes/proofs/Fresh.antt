@@ -18,7 +18,7 @@ use Rattle.abt_machine.specs.Sound.{Sound, AllAtRest, IsAtRest, IsPlaced}
 use Rattle.abt_laws.specs.Laws.{IsMiss}
 use Rattle.abt_laws.proofs.Dues.{leave-below}
 use Rattle.abt_laws.proofs.Maps.{put_at-same}
-use Rattle.abt_laws.proofs.StepStreams.{step-keeps-streams}
+use Rattle.abt_laws.proofs.StepStreams.{step-keeps-frames}
 use Rattle.abt_laws.proofs.Standing.{StandsIn, first-stands, hand-place, next-place}
 
 -- Streams that hold a unit.
@@ -60,7 +60,7 @@ others-fresh W Z S s (what.Miss p) declared sound may other = absurd (other tt)
 others-fresh W Z S s (what.Take p u) declared sound may other = ap (λ (own : Stream). own.top.seen) (put_at-same S.stream s (round_taken (S.stream s)))
 others-fresh W Z S s (what.Look u) declared sound may other = look-fresh W S s u.0 (S.desk u.0).cancel (S.desk u.0).migrate (next-fresh W Z S s u.0 sound (next-place W S s u.0 may.1))
 others-fresh W Z S s (what.Step u k c) declared sound may other =
-    ap (λ (own : Stream). own.top.seen) (step-keeps-streams W S s u.0 k c s) ∙ hand-fresh W Z S s u.0 sound (hand-place W S s u.0 may.1)
+    ap (λ (f : Frame). f.seen) (step-keeps-frames W S s u.0 k c s).0 ∙ hand-fresh W Z S s u.0 sound (hand-place W S s u.0 may.1)
 others-fresh W Z S s (what.Put u p) declared sound may other = tray-fresh W Z S s u.0 sound may.1
 others-fresh W Z S s (what.End u c) declared sound may other = hand-fresh W Z S s u.0 sound (hand-place W S s u.0 may.1)
 others-fresh W Z S s (what.Enter u) declared sound may other = ap (λ (own : Stream). own.top.seen) (put_at-same S.stream s (entered (sched_of (body_at W u.0)) (S.stream s)))

@@ -76,7 +76,7 @@ turn-falls W Z S e valid stored sound step still goes-on =
       | inr other ↦
           let later : Sound W Z T = events-keep-sound W Z valid stored S T e sound step in
           let lower : weight W T < weight W S = other-lowers W Z S e.stream.0 e.what sound step.1 still other in
-          let frames : open_frames W T ≤ 256 = (numbers-are-bounded W Z valid T later).1 in
+          let frames : open_frames W T ≤ 4096 = (numbers-are-bounded W Z valid T later).1 in
           let pools : unseen W T e.stream.0 ≤ 8 = unseen-most W Z T e.stream.0 valid step.0 later in omega arith
     ]
 

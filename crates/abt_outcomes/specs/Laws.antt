@@ -111,7 +111,7 @@ EmptiedGrows W = (s : ℕ) (S : State) (es fs : List Event) → (HasEmptied W s 
 
 -- in a sound state the units' weight and the number of open frames have bounds
 abbrev pub NumbersAreBounded : Parts → List OrderShape → Type 0
-NumbersAreBounded W Z = IsValid W → (S : State) → Sound W Z S → (weight W S ≤ 2304) × (open_frames W S ≤ 256)
+NumbersAreBounded W Z = IsValid W → (S : State) → Sound W Z S → (weight W S ≤ 36864) × (open_frames W S ≤ 4096)
 
 -- where no stream makes more than n steps, events among which there is a step lower the work that is left
 abbrev pub StepsFall : Parts → List OrderShape → Type 0

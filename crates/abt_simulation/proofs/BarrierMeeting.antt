@@ -1,8 +1,6 @@
 -- The meeting at a barrier: what the laws suppose is computed, and what they say follows.
 use Rattle.std.proofs.Common.{◌≡◌, ◌≢◌, ℕ, zero, suc, ◌<◌, ◌≤◌, true, false, List, [], ◌∷◌, length, slice_get, Option, Some, None, refl, sym, ◌∙◌, ap, subst, arith, inl, inr}
 use Rattle.std.specs.Prelude.{All, AllPairs, Contains, take, drop}
-use Rattle.std.specs.Fmt.{digits}
-use Rattle.std.proofs.lemmas.Bool.{leb-true}
 use Rattle.std.proofs.lemmas.List.Elements.{All-cons, All-nil}
 use Rattle.std.proofs.lemmas.List.Kept.{AllPairs-cons}
 use Rattle.abt_machine.specs.declared.events.Cause.TheVariants as cause
@@ -16,7 +14,6 @@ use Rattle.abt_machine.specs.declared.operations.Op.TheVariants as op
 use Rattle.abt_machine.specs.declared.operations.Rule.TheVariants as rule
 use Rattle.abt_machine.specs.declared.operations.Thing.{Thing}
 use Rattle.abt_machine.specs.Numbers.{object_no}
-use Rattle.abt_machine.specs.Canonical.{canonical_text}
 use Rattle.abt_machine.specs.Operations.{IsDeclared}
 use Rattle.abt_machine.specs.Valid.{IsAccess, IsBody, IsRule, IsScheduler, IsStream, IsThing, IsUnit, IsValid, IsWord}
 use Rattle.abt_machine.specs.Rounds.{OrdersStored}
@@ -86,11 +83,6 @@ two_places =
     AllPairs-cons (λ a b. a ≢ b) 0 (1 ∷ []) (All-cons (λ b. 0 ≢ b) 1 [] (λ e. absurd (omega arith)) (All-nil (λ b. 0 ≢ b)))
     (AllPairs-cons (λ a b. a ≢ b) 1 [] (All-nil (λ b. 1 ≢ b)) (λ i j d l m. absurd (omega arith)))
 
--- its text is short
-short : length (canonical_text meeting) ≤ 4194304
-unfolding digits
-short = leb-true (length (canonical_text meeting)) 4194304 refl
-
 -- it is a workload
 valid : IsValid meeting
 valid = record {
@@ -110,9 +102,9 @@ valid = record {
   objects = thing;
   few_units = omega arith;
   units = below-two (IsUnit meeting) (program 0 refl refl) (program 1 refl refl);
+  few_ops = omega arith;
   said = refl;
   words = All-nil IsWord;
-  few_bytes = short;
 }
 
 -- no order is asked for

@@ -14,7 +14,7 @@ use Rattle.abt_machine.specs.Access.{may_put, may_take}
 use Rattle.abt_machine.specs.Sites.{first_pool, op_site, site_at, what_site}
 use Rattle.abt_machine.specs.Values.{Owned, Held}
 use Rattle.abt_machine.specs.Acts.{Act}
-use Rattle.abt_machine.specs.Plans.{Plan, Does, Calls, denied, plan_of}
+use Rattle.abt_machine.specs.Plans.{Plan, Does, Calls, Exits, denied, plan_of}
 use Rattle.abt_machine.specs.Turns.{Heard, Performs, Steps}
 use Rattle.abt_simulation.specs.Simulation.{site_heard}
 
@@ -22,6 +22,7 @@ use Rattle.abt_simulation.specs.Simulation.{site_heard}
 abbrev plan_site : Plan → Option Site
 plan_site (Does e) = None
 plan_site (Calls x asked) = Some x
+plan_site (Exits o) = None
 
 -- a plan that calls only where the stream may reach the pool
 reached-site : (may : Bool) (x : Site) (asked : Act) (o : Owned) → plan_site (if may then Calls x asked else denied o) ≡ (if may then Some x else None)
@@ -39,6 +40,7 @@ plan-site W s (op.KeyGet k) o = refl
 plan-site W s op.Yield o = refl
 plan-site W s (op.YieldTo v p) o = reached-site (may_take W s p.0) (site.Pool p) _ o
 plan-site W s op.Suspend o = refl
+plan-site W s op.Exit o = refl
 plan-site W s (op.Resume v) o = refl
 plan-site W s (op.Create v p) o = reached-site (may_put W s p.0) (site.Desk v) _ o
 plan-site W s (op.Join v) o = refl
@@ -69,6 +71,7 @@ plan-site W s (op.BarWait x) o = refl
 performs-site : (old : Held) (a : Op) (o : Owned) (plan : Plan) (heard : Option Heard) (c : Code) (new : Held) → Performs old a o plan heard c new → site_heard heard ≡ plan_site plan
 performs-site old a o (Does e) heard c new st = ap site_heard st.0
 performs-site old a o (Calls x asked) heard c new st = ap site_heard st.1
+performs-site old a o (Exits b) heard c new st = ap site_heard st.0
 
 -- the site that is called by an event is the event's
 pub steps-site : (W : Parts) (Z : List OrderShape) (s : ℕ) (old : Held) (w : What) (heard : Option Heard) (new : Held) → Steps W Z s old w heard new → site_heard heard ≡ what_site W s w

@@ -1,20 +1,22 @@
--- Steps without a call: what a unit carries changes, the unit yields, or the stream refuses by itself. Unit u, in the hand of stream s, makes the step.
+-- Steps without a call: what a unit carries changes, the unit yields or ends itself, or the stream refuses by itself. Unit u, in the hand of stream s, makes the step.
 use Rattle.std.proofs.Common.{◌≡◌, ℕ, List, [], ◌∷◌, refl, ◌∙◌, ap, inl}
+use Rattle.std.proofs.lemmas.List.{append-nil}
 use Rattle.abt_machine.specs.declared.events.Code.{Code}
 use Rattle.abt_machine.specs.declared.events.Code.TheVariants as code
 use Rattle.abt_machine.specs.declared.operations.Op.{Op}
 use Rattle.abt_machine.specs.declared.operations.Op.TheVariants as op
 use Rattle.abt_machine.specs.declared.operations.OrderShape.{OrderShape}
 use Rattle.abt_machine.specs.declared.workload.Parts.{Parts}
-use Rattle.abt_machine.specs.State.{State, Carried}
+use Rattle.abt_machine.specs.State.{State, Stream, Carried, Exited}
 use Rattle.abt_machine.specs.Carrying.{advanced, refused}
-use Rattle.abt_machine.specs.Changes.{no_change, changed, goes_with}
+use Rattle.abt_machine.specs.Changes.{no_change, changed, goes_with, goes_on}
 use Rattle.abt_machine.specs.Codes.{code_of}
+use Rattle.abt_machine.specs.Frames.{marked}
 use Rattle.abt_machine.specs.Steps.{op_row}
-use Rattle.abt_machine.specs.Values.{owned_at, part_of}
+use Rattle.abt_machine.specs.Values.{Owned, owned_at, part_of}
 use Rattle.abt_machine.specs.Acts.{moved}
-use Rattle.abt_machine.specs.Plans.{Effect, local, empties, refusal}
-use Rattle.abt_machine.specs.Turns.{stepped}
+use Rattle.abt_machine.specs.Plans.{Effect, local, keeps, empties, refusal}
+use Rattle.abt_machine.specs.Turns.{stepped, exited}
 use Rattle.abt_laws.proofs.Maps.{put_at-same}
 use Rattle.abt_laws.proofs.Codes.{IsRefusal}
 use Rattle.abt_simulation.proofs.Acting.{IsActing}
@@ -39,6 +41,14 @@ module _ (W : Parts) (Z : List OrderShape) (S : State) (s u : ℕ) (acts : IsAct
     own = part-empties W Z S s u acts [] (u ∷ []) ((u, advanced (S.carried u)) ∷ []) no_change tt ((λ m. m), tt) (acts.declared, tt) (inl refl, tt) (inl refl, tt) (inl refl)
         ∙ ap (λ k. stepped (part_of W S s) (empties (owned u k ∷ []))) (put_at-same S.carried u (advanced (S.carried u)));
   }
+
+  -- u stays in the hand, to be ended
+  pub exit-row : part_of W (after_step W S s u op.Exit code.Ok) s ≡ exited (part_of W S s) (moved (owned_at S u))
+  exit-row =
+      let own : Stream = marked Exited (S.stream s) in
+      let goes : part_of W (changed S (goes_on S u)) s ≡ stepped (part_of W S s) (keeps (moved (owned_at S u)) []) = goes-part W Z S s u acts (advanced (S.carried u)) no_change in
+      (λ i. record (goes i) { own = put_at-same S.stream s own i })
+      ∙ ap (λ (us : List Owned). record (exited (part_of W S s) (moved (owned_at S u))) { tray = us }) (append-nil (part_of W S s).tray)
 
   -- a refusal by the stream itself
   pub denied-row : (a : Op) (c : Code) → IsRefusal c → c ≡ code_of W S s u a → OwnDone W S s u a (refusal (owned_at S u) c)

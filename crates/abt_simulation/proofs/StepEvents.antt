@@ -29,15 +29,15 @@ use Rattle.abt_machine.specs.Queues.{first}
 use Rattle.abt_machine.specs.Values.{Owned, owned_at, owned_in, Held, part_of, Object, object_of}
 use Rattle.abt_machine.specs.Acts.{Act, moved}
 use Rattle.abt_machine.specs.Acts as act
-use Rattle.abt_machine.specs.Plans.{Effect, Plan, Does, Calls, denied, refusal, plan_of, effect_of}
-use Rattle.abt_machine.specs.Turns.{Heard, due_of, Performs}
+use Rattle.abt_machine.specs.Plans.{Effect, Plan, Does, Calls, Exits, denied, refusal, plan_of, effect_of}
+use Rattle.abt_machine.specs.Turns.{Heard, due_of, Performs, exited}
 use Rattle.abt_laws.proofs.Declared.{op-declared}
 use Rattle.abt_laws.proofs.DueParts.{due-same}
 use Rattle.abt_simulation.specs.Simulation.{Answers, Leaves}
 use Rattle.abt_simulation.proofs.Acting.{IsActing, acting}
 use Rattle.abt_simulation.proofs.OwnedLines.{Head, head-of}
 use Rattle.abt_simulation.proofs.Rows.{Row, RowDone, after_step}
-use Rattle.abt_simulation.proofs.OwnRows.{OwnDone, local-row, yield-row, denied-row}
+use Rattle.abt_simulation.proofs.OwnRows.{OwnDone, local-row, yield-row, exit-row, denied-row}
 use Rattle.abt_simulation.proofs.PoolRows.{yieldto-row}
 use Rattle.abt_simulation.proofs.DeskRows.{suspend-row, resume-row, create-row, join-row, cancel-row, migrate-row, migrateto-row, migratable-row, revive-row}
 use Rattle.abt_simulation.proofs.MonitorRows.{lock-row, trylock-row, unlock-row, load-row, store-row}
@@ -79,6 +79,14 @@ module _ (W : Parts) (Z : List OrderShape) (S : State) (s u : ℕ) (acts : IsAct
     called = subst (λ h. Leaves W (after_step W S s u a c) h object) (sym goes.0) tt;
   }
 
+  -- one that ends its unit
+  by-exit : part_of W (after_step W S s u op.Exit code.Ok) s ≡ exited (part_of W S s) (moved (owned_at S u)) → Goes op.Exit (Exits (moved (owned_at S u))) → Stepped op.Exit
+  by-exit done goes = record {
+    code = goes.1;
+    own = ap (λ d. part_of W (after_step W S s u op.Exit d) s) goes.1 ∙ (done ∙ sym goes.2);
+    called = subst (λ h. Leaves W (after_step W S s u op.Exit c) h object) (sym goes.0) tt;
+  }
+
   -- an operation that names a pool which the stream may reach, or not
   by-access : (a : Op) (may : Bool) (x : Site) (asked : Act) (rest : Code) → code_of W S s u a ≡ unless may code.PoolAccess rest → (may ≡ true → Row W S s u a x asked) →
       Goes a (if may then Calls x asked else denied (owned_at S u)) → Stepped a
@@ -96,6 +104,7 @@ module _ (W : Parts) (Z : List OrderShape) (S : State) (s u : ℕ) (acts : IsAct
   step-by-op valid op.Yield d goes = by-itself op.Yield _ (yield-row W Z S s u acts) goes
   step-by-op valid (op.YieldTo v p) d goes = by-access (op.YieldTo v p) (may_take W s p.0) (site.Pool p) (act.Remove v.0) _ refl (yieldto-row W Z S s u acts v p) goes
   step-by-op valid op.Suspend d goes = by-call op.Suspend (site.Desk (unit_no u)) _ (suspend-row W Z S s u acts) goes
+  step-by-op valid op.Exit d goes = by-exit (exit-row W Z S s u acts) goes
   step-by-op valid (op.Resume v) d goes = by-call (op.Resume v) (site.Desk v) _ (resume-row W Z S s u acts v d) goes
   step-by-op valid (op.Create v p) d goes = by-access (op.Create v p) (may_put W s p.0) (site.Desk v) (act.Create p.0) _ refl (create-row W Z S s u acts v p d.0) goes
   step-by-op valid (op.Join v) d goes = by-call (op.Join v) (site.Desk v) _ (join-row W Z S s u acts v) goes

@@ -60,4 +60,4 @@ pub journals-count : (W : Parts) (Z : List OrderShape) → JournalsCount W Z
 journals-count W Z parts objects logs histories ends finals gathered J j = counts W Z parts objects logs histories ends finals gathered J j
 
 pub nothing-is-worn : (W : Parts) (Z : List OrderShape) → NothingIsWorn W Z
-nothing-is-worn W Z valid parts objects logs histories ends finals gathered rule short = never-worn (machine_of W Z) parts objects logs histories ends finals gathered rule (let k : W.streams ≤ 8 = valid.few_streams in omega arith) short
+nothing-is-worn W Z valid parts objects logs histories ends finals gathered rule short = never-worn (machine_of W Z) parts objects logs histories ends finals gathered rule (let k : W.streams ≤ 16 = valid.few_streams in omega arith) short
