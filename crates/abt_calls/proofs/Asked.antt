@@ -26,7 +26,7 @@ use Rattle.abt_machine.specs.Values.{Owned, barrier_at, conditions_from, conditi
 use Rattle.abt_machine.specs.Acts.{Act, Put, Take, Look, End, moved}
 use Rattle.abt_machine.specs.Acts as act
 use Rattle.abt_machine.specs.Pools.{HasSide}
-use Rattle.abt_machine.specs.Plans.{Plan, Does, Calls, denied, plan_of}
+use Rattle.abt_machine.specs.Plans.{Plan, Does, Calls, Exits, denied, plan_of}
 use Rattle.abt_machine.specs.Turns.{side_by}
 use Rattle.abt_laws.proofs.Declared.{first_pool-declared, mutex-declared, op-declared}
 use Rattle.abt_laws.proofs.Options.{none≢some, some-injective}
@@ -104,6 +104,7 @@ condition-call W x asked valid is allowed comes = monitor-call W (object_no (mut
 abbrev MayPlan : Parts → Plan → Type 0
 MayPlan W (Does e) = Unit {0}
 MayPlan W (Calls x asked) = MayCall W x asked
+MayPlan W (Exits b) = Unit {0}
 
 reached : (W : Parts) (may : Bool) (x : Site) (asked : Act) (o : Owned) → MayCall W x asked → MayPlan W (if may then Calls x asked else denied o)
 reached W true x asked o call = call
@@ -120,6 +121,7 @@ plan-may W s op.Yield o valid fits later is = tt
 plan-may W s (op.YieldTo v p) o valid fits later is =
     reached W (may_take W s p.0) (site.Pool p) (act.Remove v.0) o (record { site = is.1; allowed = λ S. tt; contents = nothing-comes W })
 plan-may W s op.Suspend o valid fits later is = desk-call W (unit_no o.number) (act.Suspend (moved o)) fits.number tt (unit-comes W (moved o) later)
+plan-may W s op.Exit o valid fits later is = tt
 plan-may W s (op.Resume v) o valid fits later is = desk-call W v act.Resume is tt (nothing-comes W)
 plan-may W s (op.Create v p) o valid fits later is =
     reached W (may_put W s p.0) (site.Desk v) (act.Create p.0) o (desk-call W v (act.Create p.0) is.0 tt (pool-comes W p.0 is.1))

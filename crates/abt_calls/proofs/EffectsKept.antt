@@ -16,7 +16,7 @@ use Rattle.abt_machine.specs.Carrying.{printed}
 use Rattle.abt_machine.specs.Values.{Owned}
 use Rattle.abt_machine.specs.Acts.{Act, Answer, Given, Through, Woke, Rested, Miss, Number, Asks, Coded, Back, carrying, moved, received}
 use Rattle.abt_machine.specs.Acts as act
-use Rattle.abt_machine.specs.Plans.{Effect, Plan, Does, Calls, denied, effect_of, plan_of, to_caller, to_condition, to_giver, to_yielder}
+use Rattle.abt_machine.specs.Plans.{Effect, Plan, Does, Calls, Exits, denied, effect_of, plan_of, to_caller, to_condition, to_giver, to_yielder}
 use Rattle.abt_chain.specs.Keeping.{contents_asked, contents_answered}
 use Rattle.abt_calls.specs.Keeps.{contents_of}
 use Rattle.abt_calls.specs.Suits.{Suits}
@@ -93,6 +93,7 @@ module _ (u : ℕ) where
   -- what is planned at operation a of unit o keeps each unit
   abbrev PlanKeeps : Op → Owned → Plan → Type 0
   PlanKeeps a o (Does e) = IsEven o [] e []
+  PlanKeeps a o (Exits b) = b.number ≡ o.number
   PlanKeeps a o (Calls x asked) = (answer : Answer) → Suits asked answer → IsEven o (contents_answered answer).units (effect_of a o answer) (contents_asked asked).units
 
   local-even : (o b : Owned) → b.number ≡ o.number → tally u (o ∷ []) + tally u [] ≡ tally u (b ∷ []) + tally u []
@@ -113,6 +114,7 @@ module _ (u : ℕ) where
   plan-keeps W s (op.YieldTo v p) o =
       reached (may_take W s p.0) (op.YieldTo v p) (site.Pool p) (act.Remove v.0) o (λ answer. yielder-even o (act.Remove v.0) answer (λ b os h. h) (λ os h. h) (λ b c h. h))
   plan-keeps W s op.Suspend o = λ answer. giver-even o (act.Suspend (moved o)) answer (λ os h. h) (λ b c h. h)
+  plan-keeps W s op.Exit o = refl
   plan-keeps W s (op.Resume v) o = λ answer. caller-even o act.Resume answer (λ b os h. h) (λ b c h. h)
   plan-keeps W s (op.Create v p) o =
       reached (may_put W s p.0) (op.Create v p) (site.Desk v) (act.Create p.0) o (λ answer. caller-even o (act.Create p.0) answer (λ b os h. h) (λ b c h. h))
@@ -146,6 +148,10 @@ module _ (u : ℕ) where
   pub effect-even : (W : Parts) (s : ℕ) (a : Op) (o : Owned) (x : Site) (asked : Act) (answer : Answer) → plan_of W s a o ≡ Calls x asked → Suits asked answer
       → IsEven o (contents_answered answer).units (effect_of a o answer) (contents_asked asked).units
   effect-even W s a o x asked answer plan = subst (PlanKeeps a o) plan (plan-keeps W s a o) answer
+
+-- an exit
+pub exit-number : (W : Parts) (s : ℕ) (a : Op) (o b : Owned) → plan_of W s a o ≡ Exits b → b.number ≡ o.number
+exit-number W s a o b plan = subst (PlanKeeps 0 a o) plan (plan-keeps 0 W s a o)
 
 -- a step with no call
 pub own-step-even : (u : ℕ) (W : Parts) (s : ℕ) (a : Op) (o : Owned) (e : Effect) → plan_of W s a o ≡ Does e → tally u (o ∷ []) + tally u [] ≡ tally u (units_left e) + tally u []

@@ -17,7 +17,7 @@ use Rattle.abt_machine.specs.declared.operations.Thing.{Thing}
 use Rattle.abt_machine.specs.declared.operations.Thing.TheVariants as thing
 use Rattle.abt_machine.specs.declared.workload.Parts.{Parts}
 use Rattle.abt_machine.specs.Operations.{IsDeclared}
-use Rattle.abt_machine.specs.Workloads.{start_of, thing_at}
+use Rattle.abt_machine.specs.Workloads.{op_at, start_of, thing_at}
 use Rattle.abt_machine.specs.Access.{may_put, may_take}
 use Rattle.abt_machine.specs.Sites.{first_pool, home_from}
 use Rattle.abt_machine.specs.Valid.{IsValid}
@@ -27,7 +27,7 @@ use Rattle.abt_machine.specs.Lines.{Line, InPool, Joining, Waiting, standing}
 use Rattle.abt_machine.specs.Pieces.{IsPieceOf}
 use Rattle.abt_machine.specs.Values.{Owned, barrier_at, conditions_of, eventual_at, future_at, monitor_at, object_of, owned_at, owned_in, phase_at, waiters_at}
 use Rattle.abt_machine.specs.Acts.{Act, Answer, Given, Through, Woke, Rested, Miss, Number, Asks, Coded, Back, carrying, moved}
-use Rattle.abt_machine.specs.Plans.{Plan, Does, Calls, denied, effect_of, plan_of, to_caller, to_condition, to_giver, to_yielder}
+use Rattle.abt_machine.specs.Plans.{Plan, Does, Calls, Exits, denied, effect_of, plan_of, to_caller, to_condition, to_giver, to_yielder}
 use Rattle.abt_laws.proofs.Declared.{op-declared, start-declared}
 use Rattle.abt_laws.proofs.Lists.{EachOf}
 use Rattle.abt_laws.proofs.Standing.{StandsIn, each-stands}
@@ -142,10 +142,11 @@ module _ (W : Parts) where
     output = fits.output;
   }
 
-  -- what is planned without a call leaves a unit that fits
+  -- what is planned without a call leaves a unit that fits, and so does an exit
   abbrev PlanFits : Plan → Type 0
   PlanFits (Does e) = All (Fits W) (units_left e)
   PlanFits (Calls x asked) = Unit {0}
+  PlanFits (Exits b) = Fits W b
 
   reached : (may : Bool) (x : Site) (asked : Act) (o : Owned) → Fits W (moved o) → PlanFits (if may then Calls x asked else denied o)
   reached true x asked o fits = tt
@@ -161,6 +162,7 @@ module _ (W : Parts) where
   plan-fits s op.Yield o fits is = one-fits (moved o) fits
   plan-fits s (op.YieldTo v p) o fits is = reached (may_take W s p.0) _ _ o fits
   plan-fits s op.Suspend o fits is = tt
+  plan-fits s op.Exit o fits is = fits
   plan-fits s (op.Resume v) o fits is = tt
   plan-fits s (op.Create v p) o fits is = reached (may_put W s p.0) _ _ o fits
   plan-fits s (op.Join v) o fits is = tt
@@ -232,6 +234,10 @@ module _ (W : Parts) where
 
 pub own-steps-fit : OwnStepsFit
 own-steps-fit W s a o e valid fits is plan =
+    subst (PlanFits W) plan (plan-fits W s a o (Fits-moved fits a is) (op-declared W o.number o.carried.position a valid is))
+
+pub exits-fit : (W : Parts) (s : ℕ) (a : Op) (o b : Owned) → IsValid W → Fits W o → op_at W o.number o.carried.position ≡ Some a → plan_of W s a o ≡ Exits b → Fits W b
+exits-fit W s a o b valid fits is plan =
     subst (PlanFits W) plan (plan-fits W s a o (Fits-moved fits a is) (op-declared W o.number o.carried.position a valid is))
 
 pub effects-fit : EffectsFit

@@ -18,7 +18,7 @@ use Rattle.abt_machine.specs.Values.{Owned, Held, owned_at, owned_in, part_of, o
 use Rattle.abt_machine.specs.Acts.{Act}
 use Rattle.abt_machine.specs.Acts as act
 use Rattle.abt_machine.specs.Desks.{is_out, takes_back}
-use Rattle.abt_machine.specs.Plans.{Plan, Does, Calls, denied, plan_of}
+use Rattle.abt_machine.specs.Plans.{Plan, Does, Calls, Exits, denied, plan_of}
 use Rattle.abt_machine.specs.Turns.{Heard, Performs}
 use Rattle.abt_laws.proofs.Lists.{EachOf}
 use Rattle.abt_laws.proofs.Options.{none≢some, some-injective}
@@ -49,6 +49,7 @@ hands-are-out W S s o e =
 abbrev PlanBringsBack : Parts → State → Plan → Type 0
 PlanBringsBack W S (Does e) = Unit {0}
 PlanBringsBack W S (Calls x asked) = IsTakenBack asked (object_of W S x)
+PlanBringsBack W S (Exits b) = Unit {0}
 
 reached : (W : Parts) (S : State) (may : Bool) (x : Site) (asked : Act) (o : Owned) → IsTakenBack asked (object_of W S x) → PlanBringsBack W S (if may then Calls x asked else denied o)
 reached W S true x asked o back = back
@@ -64,6 +65,7 @@ plan-brings W S s (op.KeyGet k) o own = tt
 plan-brings W S s op.Yield o own = tt
 plan-brings W S s (op.YieldTo v p) o own = reached W S (may_take W s p.0) (site.Pool p) (act.Remove v.0) o tt
 plan-brings W S s op.Suspend o own = own
+plan-brings W S s op.Exit o own = tt
 plan-brings W S s (op.Resume v) o own = tt
 plan-brings W S s (op.Create v p) o own = reached W S (may_put W s p.0) (site.Desk v) (act.Create p.0) o tt
 plan-brings W S s (op.Join v) o own = tt
@@ -94,6 +96,7 @@ performs-brings : (W : Parts) (S : State) (old : Held) (a : Op) (o : Owned) (pla
     → PlanBringsBack W S plan → Performs old a o plan heard c new → BringsBack W S heard
 performs-brings W S old a o (Does e) heard c new back st = subst (BringsBack W S) (sym st.0) tt
 performs-brings W S old a o (Calls x asked) heard c new back st = subst (BringsBack W S) (sym st.1) back
+performs-brings W S old a o (Exits b) heard c new back st = subst (BringsBack W S) (sym st.0) tt
 
 pub steps-bring-back : StepsBringBack
 steps-bring-back W Z S s (what.Miss p) heard new st = subst (BringsBack W S) (sym st.2) tt

@@ -14,8 +14,8 @@ use Rattle.abt_machine.specs.Valid.{IsValid}
 use Rattle.abt_machine.specs.Values.{Owned, Held}
 use Rattle.abt_machine.specs.Acts.{carrying}
 use Rattle.abt_machine.specs.Carrying.{with_home}
-use Rattle.abt_machine.specs.Plans.{Effect, Plan, Does, Calls, effect_of, plan_of}
-use Rattle.abt_machine.specs.Turns.{Heard, Performs, Steps, looked, stepped}
+use Rattle.abt_machine.specs.Plans.{Effect, Plan, Does, Calls, Exits, effect_of, plan_of}
+use Rattle.abt_machine.specs.Turns.{Heard, Performs, Steps, exited, looked, stepped}
 use Rattle.abt_laws.proofs.Options.{none≢some}
 use Rattle.abt_unit.specs.Fits.{Fits}
 use Rattle.abt_unit.proofs.Fitting.{Fits-with_home}
@@ -25,8 +25,8 @@ use Rattle.abt_calls.specs.Effects.{unit_in, units_left}
 use Rattle.abt_calls.specs.Holders.{units_of}
 use Rattle.abt_calls.specs.Suits.{Suits}
 use Rattle.abt_calls.specs.Streams.{EventsFit, EventsKeepUnits, HoldsOne, IsSuited, contents_heard, contents_sent}
-use Rattle.abt_calls.proofs.EffectsKept.{effect-even, own-step-even}
-use Rattle.abt_calls.proofs.Fitting.{effects-fit, own-steps-fit}
+use Rattle.abt_calls.proofs.EffectsKept.{effect-even, exit-number, own-step-even}
+use Rattle.abt_calls.proofs.Fitting.{effects-fit, exits-fit, own-steps-fit}
 use Rattle.abt_calls.proofs.Tallies.{tally, tally-append, tally-cons, tally-nil, tally-number, times-from}
 use Rattle.abt_calls.proofs.Turns.{hand-none, next-none}
 
@@ -97,11 +97,15 @@ module _ (W : Parts) where
         framed = each.framed;
       }
 
+  exited-fits : (old : Held) (b : Owned) → Each IsFit old → Fits W b → Each IsFit (exited old b)
+  exited-fits old b each fits = record { hand = one-fits b fits; next = All-nil IsFit; tray = each.tray; framed = each.framed }
+
   performs-fits : (s : ℕ) (old : Held) (a : Op) (o : Owned) (plan : Plan) (heard : Option Heard) (c : Code) (new : Held) → plan_of W s a o ≡ plan → IsValid W → Fits W o → op_at W o.number o.carried.position ≡ Some a
       → Each IsFit old → Have IsFit (IsPoolOf W) (contents_heard heard) → Performs old a o plan heard c new → All IsFit (units_of new)
   performs-fits s old a o (Does e) heard c new plan valid fits is each have st = becomes new (stepped old e) st.2 (stepped-fits old e each (own-steps-fit W s a o e valid fits is plan))
   performs-fits s old a o (Calls x asked) heard c new plan valid fits is each have st =
       becomes new (stepped old (effect_of a o st.0)) st.3 (stepped-fits old (effect_of a o st.0) each (effects-fit W a o st.0 fits is (come heard (x, asked, st.0) st.1 have).0))
+  performs-fits s old a o (Exits b) heard c new plan valid fits is each have st = becomes new (exited old b) st.2 (exited-fits old b each (exits-fit W s a o b valid fits is plan))
 
   that-op : (o : Owned) (u k : ℕ) (a : Op) → o.number ≡ u → o.carried.position ≡ k → op_at W u k ≡ Some a → op_at W o.number o.carried.position ≡ Some a
   that-op o u k a number position is = (λ i. op_at W (number i) (position i)) ∙ is
@@ -181,6 +185,9 @@ module _ (u : ℕ) where
       let suits : Suits asked st.0 = subst IsSuited st.1 suited in
       same-from old heard (Some (x, asked, st.0)) new (stepped old (effect_of a o st.0)) st.1 st.3
       (omega (arith, stepped-tally old o (effect_of a o st.0) is none, effect-even u W s a o x asked st.0 plan suits))
+  performs-same W s old a o (Exits b) heard c new plan is none suited st =
+      same-from old heard None new (exited old b) st.0 st.2
+      (omega (arith, parts-tally old, parts-tally (exited old b), unit-tally old.hand o is, none-tally old.next none, tally-nil u, tally-number u b o (exit-number W s a o b plan)))
 
   -- where Next holds a unit, the hand is empty
   hand-empty : (old : Held) (o : Owned) → HoldsOne old → old.next ≡ Some o → old.hand ≡ None

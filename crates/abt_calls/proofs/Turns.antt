@@ -18,7 +18,7 @@ use Rattle.abt_machine.specs.Next.{Due, LeaveDue, RoundDue, due_by}
 use Rattle.abt_machine.specs.Values.{Owned, Held, owned_in}
 use Rattle.abt_machine.specs.Acts.{Act, Answer, carrying}
 use Rattle.abt_machine.specs.Acts as act
-use Rattle.abt_machine.specs.Plans.{Effect, Plan, Does, Calls, denied, effect_of, plan_of, to_caller, to_condition, to_giver, to_yielder}
+use Rattle.abt_machine.specs.Plans.{Effect, Plan, Does, Calls, Exits, denied, effect_of, plan_of, to_caller, to_condition, to_giver, to_yielder}
 use Rattle.abt_machine.specs.Turns.{Heard, Performs, due_of, looked}
 use Rattle.abt_laws.proofs.Dues.{AfterNext, due_of_unit-cases}
 use Rattle.abt_calls.specs.Streams.{EventsHoldOne, HoldsOne, StreamsHoldOne}
@@ -45,7 +45,7 @@ hand-by : {X Y : Type 0} (W : Parts) (s : ℕ) (own : Stream) (tray : List X) (n
 hand-by W s own (u ∷ us) next o after = after
 hand-by W s own [] (Some v) o after = after
 hand-by W s own [] None o after =
-    due_of_unit-cases W s o.carried.position (λ m b d. AfterHand d → ⊥) (λ b h. h) (λ g h. h) (λ g h. h) (λ g h. h) (λ m b program more h. h) (λ m b program over h. h) own.mark (body_at W o.number) after
+    due_of_unit-cases W s o.carried.position (λ m b d. AfterHand d → ⊥) (λ b h. h) (λ b h. h) (λ g h. h) (λ g h. h) (λ g h. h) (λ m b program more h. h) (λ m b program over h. h) own.mark (body_at W o.number) after
 
 hand-from : (W : Parts) (s : ℕ) (held : Held) (hand : Option Owned) → held.hand ≡ hand → AfterHand (due_of W s (record held { hand = hand })) → hand ≡ None
 hand-from W s held None is after = refl
@@ -100,6 +100,7 @@ effect-one _ o answer = inr (caller-one o answer)
 abbrev PlanHoldsOne : Plan → Type 0
 PlanHoldsOne (Does e) = EffectHoldsOne e
 PlanHoldsOne (Calls x asked) = Unit {0}
+PlanHoldsOne (Exits b) = Unit {0}
 
 reached-one : (may : Bool) (x : Site) (asked : Act) (o : Owned) → PlanHoldsOne (if may then Calls x asked else denied o)
 reached-one true x asked o = tt
@@ -123,6 +124,7 @@ plan-one W s _ o = tt
 performs-one : (old : Held) (a : Op) (o : Owned) (plan : Plan) (heard : Option Heard) (c : Code) (new : Held) → PlanHoldsOne plan → Performs old a o plan heard c new → HoldsOne new
 performs-one old a o (Does e) heard c new one st = subst HoldsOne (sym st.2) one
 performs-one old a o (Calls x asked) heard c new one st = subst HoldsOne (sym st.3) (effect-one a o st.0)
+performs-one old a o (Exits b) heard c new one st = subst HoldsOne (sym st.2) (inr refl)
 
 looked-one : (old : Held) (o : Owned) (cancel : Bool) (migrate : Option ℕ) → HoldsOne (looked old o cancel migrate)
 looked-one old o true migrate = inr refl

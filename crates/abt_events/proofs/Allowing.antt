@@ -16,7 +16,7 @@ use Rattle.abt_machine.specs.State.{State}
 use Rattle.abt_machine.specs.Values.{Owned, barrier_at, conditions_of, eventual_at, future_at, monitor_at, object_of, waiters_at}
 use Rattle.abt_machine.specs.Acts.{Act, moved}
 use Rattle.abt_machine.specs.Acts as act
-use Rattle.abt_machine.specs.Plans.{Plan, Does, Calls, denied, plan_of}
+use Rattle.abt_machine.specs.Plans.{Plan, Does, Calls, Exits, denied, plan_of}
 use Rattle.abt_laws.proofs.Declared.{mutex-declared}
 use Rattle.abt_calls.specs.Allowed.{Allows, MonitorAllows, EventualAllows, BarrierAllows}
 use Rattle.abt_calls.proofs.Asked.{condition-below}
@@ -25,6 +25,7 @@ use Rattle.abt_calls.proofs.Asked.{condition-below}
 abbrev pub IsAllowed : Parts → State → Plan → Type 0
 IsAllowed W S (Does e) = Unit {0}
 IsAllowed W S (Calls x asked) = Allows (object_of W S x) asked
+IsAllowed W S (Exits b) = Unit {0}
 
 module _ (W : Parts) (S : State) where
   reached : (may : Bool) (x : Site) (asked : Act) (o : Owned) → Allows (object_of W S x) asked → IsAllowed W S (if may then Calls x asked else denied o)
@@ -57,6 +58,7 @@ module _ (W : Parts) (S : State) where
   plan-allowed s op.Yield o valid is = tt
   plan-allowed s (op.YieldTo v p) o valid is = reached (may_take W s p.0) (site.Pool p) (act.Remove v.0) o tt
   plan-allowed s op.Suspend o valid is = tt
+  plan-allowed s op.Exit o valid is = tt
   plan-allowed s (op.Resume v) o valid is = tt
   plan-allowed s (op.Create v p) o valid is = reached (may_put W s p.0) (site.Desk v) (act.Create p.0) o tt
   plan-allowed s (op.Join v) o valid is = tt

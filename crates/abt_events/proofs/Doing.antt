@@ -4,6 +4,7 @@ use Rattle.std.proofs.lemmas.List.{map-append}
 use Rattle.std.proofs.lemmas.List.Elements.{All-contains}
 use Rattle.std.proofs.lemmas.Option.{slice_get-get_or}
 use Rattle.abt_machine.specs.declared.events.Code.{Code}
+use Rattle.abt_machine.specs.declared.events.Code.TheVariants as code
 use Rattle.abt_machine.specs.declared.events.Site.TheVariants as site
 use Rattle.abt_machine.specs.declared.events.What.{What}
 use Rattle.abt_machine.specs.declared.events.What.TheVariants as what
@@ -26,8 +27,8 @@ use Rattle.abt_machine.specs.Values.{Held, NotHere, Object, Owned, object_of, ow
 use Rattle.abt_machine.specs.Acts.{Answer, Given, Miss}
 use Rattle.abt_machine.specs.Acts as act
 use Rattle.abt_machine.specs.Gives.{SiteGives}
-use Rattle.abt_machine.specs.Plans.{Calls, Does, Plan, effect_of, plan_of}
-use Rattle.abt_machine.specs.Turns.{Heard, Performs, Steps, side_of, stepped}
+use Rattle.abt_machine.specs.Plans.{Calls, Does, Exits, Plan, effect_of, plan_of}
+use Rattle.abt_machine.specs.Turns.{Heard, Performs, Steps, exited, side_of, stepped}
 use Rattle.abt_laws.proofs.Declared.{op-declared}
 use Rattle.abt_laws.proofs.DueParts.{due-same}
 use Rattle.abt_laws.proofs.Dues.{due-unit, step-due}
@@ -128,6 +129,14 @@ module _ (W : Parts) (Z : List OrderShape) (S : State) (s : ℕ) where
         performs = (is.0, refl, refl, refl);
         answers = is.2;
       }
+  performed a o (Exits b) allowed = record {
+    heard = None;
+    code = code.Ok;
+    part = exited (part_of W S s) b;
+    object = NotHere;
+    performs = (refl, refl, refl);
+    answers = tt;
+  }
 
   module _ (valid : IsValid W) (sound : Sound W Z S) where
     -- a round goes on at pool p

@@ -137,5 +137,5 @@ module _ (W : Parts) (confluent : Confluent W) (t : ℕ) (S : State) (flowing : 
     creates = is_created;
     values = λ x n e. inl e;
     calm = λ n. elim (put_at-cases S.desk v.0 (let d : Desk = record (S.desk v.0) { life = suc (S.desk v.0).life } in d) n) [ inl created ↦ ap (λ (d : Desk). d.cancel) created.1 ∙ flowing.calm v.0 | inr away ↦ ap (λ (d : Desk). d.cancel) away.1 ∙ flowing.calm n ];
-    unasked = flowing.unasked;
+    marks = flowing.marks;
   }

@@ -37,6 +37,7 @@ module _ (W : Parts) (valid : IsValid W) (confluent : Confluent W) (t : ℕ) (S 
   goes op.Yield is = (refl, row-goes_to W t S flowing s u held op.Yield is (λ x e. cc) (λ v q e. cc) (place.Tray (stream_no s) (tray_end W S s)) (λ e. cc) (went W t S flowing s u held op.Yield is (S.carried u) refl refl) [] [])
   goes (op.YieldTo v p) is = absurd (confluent.ops u (S.carried u).position (op.YieldTo v p) is)
   goes op.Suspend is = absurd (confluent.ops u (S.carried u).position op.Suspend is)
+  goes op.Exit is = absurd (confluent.ops u (S.carried u).position op.Exit is)
   goes (op.Resume v) is = absurd (confluent.ops u (S.carried u).position (op.Resume v) is)
   goes (op.Create v p) is = (create-ok W confluent t S flowing s u held v p is, row-creates W confluent t S flowing s u held v p is)
   goes (op.Join v) is = (refl, row-joins W t S flowing s u held v is (S.place v.0))

@@ -91,5 +91,5 @@ module _ (W : Parts) (t : ℕ) (S : State) (flowing : Flowing W t S) (s u : ℕ)
         creates = λ v q e. absurd (no_create v q e);
         values = λ x n e. inl e;
         calm = flowing.calm;
-        unasked = flowing.unasked;
+        marks = flowing.marks;
       }

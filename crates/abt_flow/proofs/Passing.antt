@@ -14,7 +14,7 @@ use Rattle.abt_machine.specs.Frames.{entered, left, left_to, marked, round_misse
 use Rattle.abt_machine.specs.Lines.{Joining, standing, tray_end}
 use Rattle.abt_machine.specs.Next.{EndDue, due_of_unit}
 use Rattle.abt_machine.specs.Numbers.{stream_no}
-use Rattle.abt_machine.specs.State.{State, Stream, Frame, Carried, Desk, Mark, Plain, Asked}
+use Rattle.abt_machine.specs.State.{State, Stream, Frame, Carried, Desk, Mark, Plain}
 use Rattle.abt_machine.specs.Workloads.{body_at, ops_of}
 use Rattle.abt_laws.proofs.Dues.{due_of_unit-cases}
 use Rattle.abt_laws.proofs.LineMoves.{tray_moves-each}
@@ -22,7 +22,7 @@ use Rattle.abt_laws.proofs.Lists.{EachOf, EachOf-then}
 use Rattle.abt_laws.proofs.Maps.{put_all-kept}
 use Rattle.abt_laws.proofs.Places.{place_in}
 use Rattle.abt_laws.proofs.Standing.{StandsIn, each-stands}
-use Rattle.abt_flow.proofs.Tells.{Flowing, IsCreated, IsPlain, IsSet, Tells, memory_of, plain-tells, tells-plain, tells-same}
+use Rattle.abt_flow.proofs.Tells.{Flowing, GoesOn, IsCreated, IsPlain, IsSet, Tells, memory_of, plain-tells, tells-plain, tells-same}
 
 -- What such an event does.
 
@@ -37,7 +37,7 @@ pub record Passes (W : Parts) (S : State) (moves : List (ℕ × Place)) (carried
   pub move : EachOf (λ (m : ℕ × Place). Moves W S m.0 m.1) moves
   pub keep : EachOf (λ (m : ℕ × Carried). KeepsMemory S m.0 m.1) carried
   pub calm : EachOf (λ (m : ℕ × Desk). m.1.cancel ≡ false) desks
-  pub unasked : EachOf (λ (m : ℕ × Stream). m.1.mark ≡ Asked → ⊥) streams
+  pub marks : EachOf (λ (m : ℕ × Stream). GoesOn m.1.mark) streams
 
 -- The states before and after.
 
@@ -86,7 +86,7 @@ module _ (W : Parts) (t : ℕ) (S : State) (flowing : Flowing W t S) (ms : List 
     born = λ u is e. flowing.born u (was_created u is) (were_unborn u e);
     created = λ u h start. same_created u (flowing.created u (λ e. h (stay_unborn u e)) start);
     calm = λ u. put_all-kept (λ n (d : Desk). d.cancel ≡ false) S.desk ds u passes.calm (flowing.calm u);
-    unasked = λ s. put_all-kept (λ n (own : Stream). own.mark ≡ Asked → ⊥) S.stream ss s passes.unasked (flowing.unasked s);
+    marks = λ s. put_all-kept (λ n (own : Stream). GoesOn own.mark) S.stream ss s passes.marks (flowing.marks s);
   }
 
 -- The events.
@@ -96,38 +96,38 @@ module _ (W : Parts) (Z : List OrderShape) (t : ℕ) (S : State) (flowing : Flow
   at-place u pl e h = subst IsPlain (sym e) h
 
   pub passes-miss : (p : ℕ) → Flowing W t (changed S (record no_change { streams = (s, round_missed W p (S.stream s)) ∷ [] }))
-  passes-miss p = passes-on W t S flowing [] [] [] [] ((s, round_missed W p (S.stream s)) ∷ []) (record { move = tt; keep = tt; calm = tt; unasked = (flowing.unasked s, tt) })
+  passes-miss p = passes-on W t S flowing [] [] [] [] ((s, round_missed W p (S.stream s)) ∷ []) (record { move = tt; keep = tt; calm = tt; marks = (flowing.marks s, tt) })
 
   pub passes-take : (p u : ℕ) → IsPlain (S.place u) → Flowing W t (changed S (record no_change { moves = (u, place.Next (stream_no s)) ∷ []; streams = (s, round_taken (S.stream s)) ∷ [] }))
-  passes-take p u was = passes-on W t S flowing ((u, place.Next (stream_no s)) ∷ []) [] [] [] ((s, round_taken (S.stream s)) ∷ []) (record { move = ((was, inl tt), tt); keep = tt; calm = tt; unasked = (flowing.unasked s, tt) })
+  passes-take p u was = passes-on W t S flowing ((u, place.Next (stream_no s)) ∷ []) [] [] [] ((s, round_taken (S.stream s)) ∷ []) (record { move = ((was, inl tt), tt); keep = tt; calm = tt; marks = (flowing.marks s, tt) })
 
   pub passes-look : (u : ℕ) (c : Bool) (m : Option ℕ) → c ≡ false → IsPlain (S.place u) → Flowing W t (changed S (look_row W S s u c m))
   passes-look u true m e was = absurd cc
   passes-look u false (Some p) e was =
       passes-on W t S flowing (to_tray W S s (u ∷ [])) ((u, with_home p (S.carried u)) ∷ []) ((u, without_requests (S.desk u)) ∷ []) [] []
-      (record { move = ((was, inl tt), tt); keep = ((refl, refl), tt); calm = (refl, tt); unasked = tt })
+      (record { move = ((was, inl tt), tt); keep = ((refl, refl), tt); calm = (refl, tt); marks = tt })
   passes-look u false None e was =
       passes-on W t S flowing ((u, place.Hand (stream_no s)) ∷ []) [] ((u, without_requests (S.desk u)) ∷ []) [] ((s, marked Plain (S.stream s)) ∷ [])
-      (record { move = ((was, inl tt), tt); keep = tt; calm = (refl, tt); unasked = ((λ h. cc), tt) })
+      (record { move = ((was, inl tt), tt); keep = tt; calm = (refl, tt); marks = (tt, tt) })
 
   pub passes-put : (u : ℕ) (p : PoolNo) (k : ℕ) (ps : List (ℕ × ℕ)) → IsPlain (S.place u) → Flowing W t (changed S (record no_change { moves = (u, place.Pool p k) ∷ []; pool_next = ps }))
-  passes-put u p k ps was = passes-on W t S flowing ((u, place.Pool p k) ∷ []) [] [] ps [] (record { move = ((was, inl tt), tt); keep = tt; calm = tt; unasked = tt })
+  passes-put u p k ps was = passes-on W t S flowing ((u, place.Pool p k) ∷ []) [] [] ps [] (record { move = ((was, inl tt), tt); keep = tt; calm = tt; marks = tt })
 
   pub passes-enter : (u d : ℕ) (g : ℕ) → IsPlain (S.place u) → Flowing W t (changed S (record no_change { moves = (u, place.Frame (stream_no s) d) ∷ []; streams = (s, entered g (S.stream s)) ∷ [] }))
-  passes-enter u d g was = passes-on W t S flowing ((u, place.Frame (stream_no s) d) ∷ []) [] [] [] ((s, entered g (S.stream s)) ∷ []) (record { move = ((was, inl tt), tt); keep = tt; calm = tt; unasked = (flowing.unasked s, tt) })
+  passes-enter u d g was = passes-on W t S flowing ((u, place.Frame (stream_no s) d) ∷ []) [] [] [] ((s, entered g (S.stream s)) ∷ []) (record { move = ((was, inl tt), tt); keep = tt; calm = tt; marks = (flowing.marks s, tt) })
 
-  left-unasked : (own : Stream) (fs : List Frame) → (own.mark ≡ Asked → ⊥) → (left_to own fs).mark ≡ Asked → ⊥
-  left-unasked own [] h e = h e
-  left-unasked own (f ∷ fs) h e = cc
+  left-goes_on : (own : Stream) (fs : List Frame) → GoesOn own.mark → GoesOn (left_to own fs).mark
+  left-goes_on own [] h = h
+  left-goes_on own (f ∷ fs) h = tt
 
   pub passes-leave : (u : ℕ) → IsPlain (S.place u) → Flowing W t (changed S (record no_change { moves = (u, place.Hand (stream_no s)) ∷ []; streams = (s, left (S.stream s)) ∷ [] }))
-  passes-leave u was = passes-on W t S flowing ((u, place.Hand (stream_no s)) ∷ []) [] [] [] ((s, left (S.stream s)) ∷ []) (record { move = ((was, inl tt), tt); keep = tt; calm = tt; unasked = (left-unasked (S.stream s) (S.stream s).below (flowing.unasked s), tt) })
+  passes-leave u was = passes-on W t S flowing ((u, place.Hand (stream_no s)) ∷ []) [] [] [] ((s, left (S.stream s)) ∷ []) (record { move = ((was, inl tt), tt); keep = tt; calm = tt; marks = (left-goes_on (S.stream s) (S.stream s).below (flowing.marks s), tt) })
 
-  -- who ends unasked has no operation left
-  pub end-due : (b : Body) (m : Mark) (k : ℕ) (e : Cause) → (m ≡ Asked → ⊥) → due_of_unit W s m b k ≡ EndDue e → length (ops_of b) ≤ k
+  -- who ends neither asked nor by itself has no operation left
+  pub end-due : (b : Body) (m : Mark) (k : ℕ) (e : Cause) → GoesOn m → due_of_unit W s m b k ≡ EndDue e → length (ops_of b) ≤ k
   end-due b m k e plain is =
-      due_of_unit-cases W s k (λ m b d. (m ≡ Asked → ⊥) → d ≡ EndDue e → length (ops_of b) ≤ k)
-      (λ b h is. absurd (h refl)) (λ g h is. cc) (λ g h is. omega arith) (λ g h is. omega arith) (λ m b program more h is. cc) (λ m b program over h is. over) m b plain is
+      due_of_unit-cases W s k (λ m b d. GoesOn m → d ≡ EndDue e → length (ops_of b) ≤ k)
+      (λ b h is. absurd h) (λ b h is. absurd h) (λ g h is. cc) (λ g h is. omega arith) (λ g h is. omega arith) (λ m b program more h is. cc) (λ m b program over h is. over) m b plain is
 
   joiners-move : (v : ℕ) → EachOf (λ (m : ℕ × Place). Moves W S m.0 m.1) (to_tray W S s (standing W S (Joining v)))
   joiners-move v =
@@ -138,4 +138,4 @@ module _ (W : Parts) (Z : List OrderShape) (t : ℕ) (S : State) (flowing : Flow
       Flowing W t (changed S (record no_change { moves = (u, place.Ended e) ∷ to_tray W S s (standing W S (Joining u)); desks = (u, without_requests (S.desk u)) ∷ [] }))
   passes-end u e over was =
       passes-on W t S flowing ((u, place.Ended e) ∷ to_tray W S s (standing W S (Joining u))) [] ((u, without_requests (S.desk u)) ∷ []) [] []
-      (record { move = ((was, inr (e, refl, over)), joiners-move u); keep = tt; calm = (refl, tt); unasked = tt })
+      (record { move = ((was, inr (e, refl, over)), joiners-move u); keep = tt; calm = (refl, tt); marks = tt })

@@ -54,7 +54,7 @@ start-flows W = record {
   born = λ u c e. (let l = c.behind in absurd (omega arith));
   created = λ u there late. absurd (there (start-late W u (start_of W u) late));
   calm = λ u. refl;
-  unasked = λ s e. cc;
+  marks = λ s. tt;
 }
 
 -- how many steps there are after an event, t being those before
@@ -93,7 +93,7 @@ module _ (W : Parts) (valid : IsValid W) (confluent : Confluent W) (t : ℕ) (S 
       passes-put W Z t S flowing s u.0 p (S.pool_next p.0) ((p.0, suc (S.pool_next p.0)) ∷ []) (plain u.0 (place.Tray (stream_no s) stands.ticket) stands.at tt)
   event-flows Z (what.End u c) may =
       passes-end W Z t S flowing s u.0 c
-      (end-due W Z t S flowing s (body_at W u.0) (S.stream s).mark (S.carried u.0).position c (flowing.unasked s) (due-unit W S s (EndDue c) u.0 may.0 tt may.1))
+      (end-due W Z t S flowing s (body_at W u.0) (S.stream s).mark (S.carried u.0).position c (flowing.marks s) (due-unit W S s (EndDue c) u.0 may.0 tt may.1))
       (plain u.0 (place.Hand (stream_no s)) (hand-place W S s u.0 may.1) tt)
   event-flows Z (what.Enter u) may = passes-enter W Z t S flowing s u.0 (length (S.stream s).below) (sched_of (body_at W u.0)) (plain u.0 (place.Hand (stream_no s)) (hand-place W S s u.0 may.1) tt)
   event-flows Z (what.Leave u) may = passes-leave W Z t S flowing s u.0 (plain u.0 (place.Frame (stream_no s) (length (S.stream s).below - 1)) may.1 tt)

@@ -176,5 +176,5 @@ module _ (W : Parts) (valid : IsValid W) (confluent : Confluent W) (t : ℕ) (S 
     creates = λ v q e. cc;
     values = set-to;
     calm = flowing.calm;
-    unasked = flowing.unasked;
+    marks = flowing.marks;
   }

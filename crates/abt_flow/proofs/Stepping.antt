@@ -8,11 +8,11 @@ use Rattle.abt_machine.specs.declared.operations.Op.{Op}
 use Rattle.abt_machine.specs.declared.operations.Op.TheVariants as op
 use Rattle.abt_machine.specs.declared.workload.Parts.{Parts}
 use Rattle.abt_machine.specs.Numbers.{object_no, unit_no}
-use Rattle.abt_machine.specs.State.{State, Asked}
+use Rattle.abt_machine.specs.State.{State}
 use Rattle.abt_machine.specs.Workloads.{op_at, start_of}
 use Rattle.abt_laws.proofs.Options.{some-injective}
 use Rattle.abt_flow.proofs.Points.{points-within}
-use Rattle.abt_flow.proofs.Tells.{Before, Flowing, IsCreated, IsSet, Tells, memory_of}
+use Rattle.abt_flow.proofs.Tells.{Before, Flowing, GoesOn, IsCreated, IsSet, Tells, memory_of}
 
 -- unit u has done its operation o
 pub record Stepped (W : Parts) (t : ℕ) (S T : State) (u : ℕ) (o : Op) : Type 0 where
@@ -25,7 +25,7 @@ pub record Stepped (W : Parts) (t : ℕ) (S T : State) (u : ℕ) (o : Op) : Type
   pub creates : (v : ℕ) (p : PoolNo) → o ≡ op.Create (unit_no v) p → T.place v ≡ place.Unborn → ⊥
   pub values : (x n : ℕ) → T.eventual x ≡ Some n → (S.eventual x ≡ Some n) ⊎ ((o ≡ op.EvSet (object_no x)) × ((S.carried u).acc ≡ n))
   pub calm : (v : ℕ) → (T.desk v).cancel ≡ false
-  pub unasked : (s : ℕ) → (T.stream s).mark ≡ Asked → ⊥
+  pub marks : (s : ℕ) → GoesOn (T.stream s).mark
 
 pub is_unborn-cases : (pl : Place) → (pl ≡ place.Unborn) ⊎ (pl ≡ place.Unborn → ⊥)
 is_unborn-cases place.Unborn = inl refl
@@ -88,4 +88,4 @@ module _ (W : Parts) (t : ℕ) (S T : State) (u : ℕ) (o : Op) (flowing : Flowi
       ]
 
   pub steps-on : Flowing W (suc t) T
-  steps-on = record { units = stepped.units; values = valued; born = bears; created = creation; calm = stepped.calm; unasked = stepped.unasked }
+  steps-on = record { units = stepped.units; values = valued; born = bears; created = creation; calm = stepped.calm; marks = stepped.marks }

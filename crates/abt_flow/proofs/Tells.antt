@@ -8,7 +8,7 @@ use Rattle.abt_machine.specs.declared.operations.Op.TheVariants as op
 use Rattle.abt_machine.specs.declared.workload.Parts.{Parts}
 use Rattle.abt_machine.specs.Numbers.{object_no, unit_no}
 use Rattle.abt_machine.specs.Operations.{IsEventual}
-use Rattle.abt_machine.specs.State.{State, Carried, Asked}
+use Rattle.abt_machine.specs.State.{State, Carried, Mark, Plain, Asked, Left, Exited}
 use Rattle.abt_machine.specs.Workloads.{body_at, op_at, ops_of, start_of}
 use Rattle.abt_flow.specs.Effects.{Memory, fresh}
 use Rattle.abt_flow.specs.Flow.{AtPoint, IsReached}
@@ -147,6 +147,13 @@ pub record IsCreated (W : Parts) (S : State) (u : ℕ) : Type 0 where
   pub creates : op_at W creator at ≡ Some (op.Create (unit_no u) pool)
   pub behind : at < (S.carried creator).position
 
+-- a unit in hand with this mark is not asked to cancel and has not ended itself
+abbrev pub GoesOn : Mark → Type 0
+GoesOn Plain = Unit {0}
+GoesOn Asked = ⊥
+GoesOn Left = Unit {0}
+GoesOn Exited = ⊥
+
 -- what holds of each state of a run, after t steps
 pub record Flowing (W : Parts) (t : ℕ) (S : State) : Type 0 where
   pub units : (u : ℕ) → Tells W t u (S.carried u) (S.place u)
@@ -155,4 +162,4 @@ pub record Flowing (W : Parts) (t : ℕ) (S : State) : Type 0 where
   pub created : (u : ℕ) → (S.place u ≡ place.Unborn → ⊥) → start_of W u ≡ None → IsCreated W S u
   -- no unit is asked to cancel
   pub calm : (u : ℕ) → (S.desk u).cancel ≡ false
-  pub unasked : (s : ℕ) → (S.stream s).mark ≡ Asked → ⊥
+  pub marks : (s : ℕ) → GoesOn (S.stream s).mark

@@ -53,6 +53,7 @@ effect (op.KeyGet k) = Computes (from_key k)
 effect op.Yield = Computes unchanged
 effect (op.YieldTo v p) = Depends
 effect op.Suspend = Depends
+effect op.Exit = Depends
 effect (op.Resume v) = Depends
 effect (op.Create v p) = Computes unchanged
 effect (op.Join v) = Computes unchanged

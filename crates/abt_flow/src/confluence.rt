@@ -30,6 +30,7 @@ fn is_settled(op: Op) -> bool
         | Op::BarWait(_) => true,
         Op::YieldTo(_, _)
         | Op::Suspend
+        | Op::Exit
         | Op::Resume(_)
         | Op::Cancel(_)
         | Op::Migrate(_, _)

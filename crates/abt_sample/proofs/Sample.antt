@@ -1,6 +1,5 @@
 -- The workload is valid: one stream, a pool, its scheduler, and four units without operations.
 use Rattle.std.proofs.Common.{◌≡◌, ◌<◌, ◌≤◌, ℕ, suc, zero, [], ◌∷◌, None, Some, length, refl, subst, arith, lit<, lit≤}
-use Rattle.std.specs.Fmt.{digits}
 use Rattle.std.proofs.lemmas.List.Elements.{All-cons, All-nil}
 use Rattle.abt_machine.specs.declared.operations.Access.TheVariants as access
 use Rattle.abt_machine.specs.declared.operations.Body.TheVariants as body
@@ -11,7 +10,6 @@ use Rattle.abt_machine.specs.declared.operations.Rule.TheVariants as rule
 use Rattle.abt_machine.specs.declared.operations.Thing.{Thing}
 use Rattle.abt_machine.specs.declared.workload.Parts.{Parts}
 use Rattle.abt_machine.specs.declared.workload.UnitPart.{UnitPart}
-use Rattle.abt_machine.specs.Canonical.{canonical_text}
 use Rattle.abt_machine.specs.Numbers.{pool_no, sched_no}
 use Rattle.abt_machine.specs.Operations.{IsDeclared}
 use Rattle.abt_machine.specs.Valid.{IsValid, IsAccess, IsRule, IsScheduler, IsStream, IsThing, IsUnit, IsWord}
@@ -77,10 +75,6 @@ units (suc (suc (suc (suc u)))) within = absurd (omega arith)
 objects : (x : ℕ) (t : Thing) → thing_at sample x ≡ Some t → IsThing sample x t
 objects x t e = cc
 
-short : length (canonical_text sample) ≤ 4194304
-unfolding digits
-short = lit≤ tt
-
 pub IsValid-sample : IsValid sample
 IsValid-sample = record {
   some_stream = lit< tt;
@@ -99,7 +93,7 @@ IsValid-sample = record {
   objects = objects;
   few_units = lit≤ tt;
   units = units;
+  few_ops = lit≤ tt;
   said = refl;
   words = All-nil IsWord;
-  few_bytes = short;
 }

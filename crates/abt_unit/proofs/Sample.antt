@@ -1,7 +1,6 @@
 -- The workload of the tests is valid: one stream, a pool, its scheduler, and one unit that does each local operation.
 use Rattle.std.proofs.Common.{◌≡◌, ◌<◌, ◌≤◌, ◌-◌, ◌^◌, ℕ, suc, zero, [], ◌∷◌, List, Some, length, refl, subst, arith, lit<, lit≤}
 use Rattle.std.specs.Prelude.{codes}
-use Rattle.std.specs.Fmt.{digits}
 use Rattle.std.proofs.lemmas.List.Elements.{All-cons, All-nil}
 use Rattle.abt_machine.specs.declared.operations.Access.TheVariants as access
 use Rattle.abt_machine.specs.declared.operations.Body.TheVariants as body
@@ -12,7 +11,6 @@ use Rattle.abt_machine.specs.declared.operations.Rule.{Rule}
 use Rattle.abt_machine.specs.declared.operations.Rule.TheVariants as rule
 use Rattle.abt_machine.specs.declared.operations.Thing.{Thing}
 use Rattle.abt_machine.specs.declared.workload.Parts.{Parts}
-use Rattle.abt_machine.specs.Canonical.{canonical_text}
 use Rattle.abt_machine.specs.Numbers.{pool_no, sched_no}
 use Rattle.abt_machine.specs.Operations.{IsDeclared}
 use Rattle.abt_machine.specs.Valid.{IsValid, IsAccess, IsRule, IsScheduler, IsStream, IsThing, IsUnit, IsVisible, IsWord}
@@ -84,10 +82,6 @@ is_word = record {
   utf8 = (104 ∷ 105 ∷ [], (refl, refl));
 }
 
-short : length (canonical_text sample) ≤ 4194304
-unfolding digits
-short = lit≤ tt
-
 pub IsValid-sample : IsValid sample
 IsValid-sample = record {
   some_stream = lit< tt;
@@ -106,7 +100,7 @@ IsValid-sample = record {
   objects = objects;
   few_units = lit≤ tt;
   units = units;
+  few_ops = lit≤ tt;
   said = refl;
   words = All-cons IsWord (codes "hi") [] is_word (All-nil IsWord);
-  few_bytes = short;
 }
