@@ -4,6 +4,7 @@ use Rattle.std.specs.Prelude.{IsAscii}
 use Rattle.std.specs.List.{list_all, list_any, range_with_len}
 use Rattle.std.proofs.lemmas.Bool.{and_parts, ltb-true}
 use Rattle.std.proofs.lemmas.Str.{IsUtf8-from_ascii}
+use Rattle.abt_machine.specs.declared.grammar.Format.TheVariants as format
 use Rattle.abt_machine.specs.declared.operations.Access.{Access}
 use Rattle.abt_machine.specs.declared.operations.Access.TheVariants as access
 use Rattle.abt_machine.specs.declared.operations.Body.{Body}
@@ -16,11 +17,11 @@ use Rattle.abt_machine.specs.declared.operations.Thing.{Thing}
 use Rattle.abt_machine.specs.declared.operations.Thing.TheVariants as thing
 use Rattle.abt_machine.specs.declared.workload.Parts.{Parts}
 use Rattle.abt_machine.specs.Access.{may_take_all}
-use Rattle.abt_machine.specs.Canonical.{canonical_text}
+use Rattle.abt_machine.specs.Limits.{operation_limit, stream_limit, unit_limit}
 use Rattle.abt_machine.specs.Operations.{IsDeclared, IsMutex, IsEventual, IsFuture, IsBarrier, may_block}
 use Rattle.abt_machine.specs.Valid.{IsAccess, IsBody, IsRule, IsScheduler, IsStream, IsThing, IsUnit, IsValid, IsVisible, IsWord, placed_scheds, words_said}
 use Rattle.abt_machine.specs.Words.{Text}
-use Rattle.abt_machine.specs.Workloads.{IsCondition, access_of, body_at, main_of, ops_of, pools_of, rule_of, start_of, thing_at}
+use Rattle.abt_machine.specs.Workloads.{IsCondition, access_of, all_ops, body_at, main_of, ops_of, pools_of, rule_of, start_of, thing_at}
 use Rattle.abt_rows.proofs.Deciding.{all, apart, each_below, each_once, entries, given, is_at_most, is_false, is_less, is_true, same, same_list, whenever}
 
 -- Pools, schedulers and streams.
@@ -115,6 +116,7 @@ operation W (op.KeyGet k) = is_less k W.keys
 operation W op.Yield = Some tt
 operation W (op.YieldTo v p) = two_less v.0 (length W.units) p.0 (length W.pools)
 operation W op.Suspend = Some tt
+operation W op.Exit = Some tt
 operation W (op.Resume v) = is_less v.0 (length W.units)
 operation W (op.Create v p) = two_less v.0 (length W.units) p.0 (length W.pools)
 operation W (op.Join v) = is_less v.0 (length W.units)
@@ -178,7 +180,7 @@ said_word word =
 abbrev pub validity : (W : Parts) → Option (IsValid W)
 validity W =
     given (is_less 0 W.streams) (λ some_stream.
-    given (is_at_most W.streams 8) (λ few_streams.
+    given (is_at_most W.streams (stream_limit format.Two)) (λ few_streams.
     given (is_at_most W.keys 16) (λ few_keys.
     given (is_less 0 (length W.pools)) (λ some_pool.
     given (is_at_most (length W.pools) 64) (λ few_pools.
@@ -191,11 +193,11 @@ validity W =
     given (each_once (placed_scheds W)) (λ one_place.
     given (is_at_most (length W.objects) 256) (λ few_objects.
     given (entries W.objects (IsThing W) (object W)) (λ objects.
-    given (is_at_most (length W.units) 256) (λ few_units.
+    given (is_at_most (length W.units) (unit_limit format.Two)) (λ few_units.
     given (each_below (IsUnit W) (unit W) (length W.units)) (λ units.
+    given (is_at_most (length (all_ops W.units)) operation_limit) (λ few_ops.
     given (same_list (words_said W) (range_with_len 0 (length W.words))) (λ said.
     given (all IsWord said_word W.words) (λ words.
-    given (is_at_most (length (canonical_text W)) 4194304) (λ few_bytes.
     Some (record {
       some_stream = some_stream;
       few_streams = few_streams;
@@ -213,7 +215,7 @@ validity W =
       objects = objects;
       few_units = few_units;
       units = units;
+      few_ops = few_ops;
       said = said;
       words = words;
-      few_bytes = few_bytes;
     }))))))))))))))))))))

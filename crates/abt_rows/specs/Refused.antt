@@ -30,6 +30,10 @@ tasklet = body.Task (op.Print ∷ [])
 abbrev pub scheduler : Body
 scheduler = body.Sched (sched_no 0)
 
+-- a thread that ends itself before its last operation
+abbrev pub exiting : Body
+exiting = body.Ult (op.Exit ∷ op.Print ∷ [])
+
 -- done without its step
 abbrev pub stepless : List What
 stepless = what.Look (unit_no 0) ∷ what.End (unit_no 0) cause.Done ∷ []
@@ -45,6 +49,22 @@ going_on = what.Step (unit_no 0) 0 code.Ok ∷ what.End (unit_no 0) cause.Done �
 -- ended for lack of access
 abbrev pub barred : List What
 barred = what.Look (unit_no 0) ∷ what.End (unit_no 0) cause.Access ∷ []
+
+-- a step, and its own end
+abbrev pub ended_itself : List What
+ended_itself = what.Step (unit_no 0) 0 code.Ok ∷ what.End (unit_no 0) cause.Own ∷ []
+
+-- two steps
+abbrev pub two_operations : List What
+two_operations = what.Step (unit_no 0) 0 code.Ok ∷ what.Step (unit_no 0) 1 code.Ok ∷ []
+
+-- a step, and its end by a request
+abbrev pub asked_after_a_step : List What
+asked_after_a_step = what.Step (unit_no 0) 0 code.Ok ∷ what.End (unit_no 0) cause.Asked ∷ []
+
+-- its own end, of a scheduler unit
+abbrev pub left_itself : List What
+left_itself = what.Look (unit_no 0) ∷ what.End (unit_no 0) cause.Own ∷ []
 
 -- ended by a request after it entered
 abbrev pub asked_inside : List What

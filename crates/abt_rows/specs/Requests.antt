@@ -237,3 +237,31 @@ abbrev pub ban_outlives_the_end_report : Text
 ban_outlives_the_end_report =
     codes "unit 0 done: !not-migratable\nunit 1 done:\n" ++
     codes "tally units 2 unborn 0 pool 0 stream 0 blocked 0 done 2 asked 0 access 0 steps 4\nfinished\n"
+
+-- A thread that ends itself while a cancel request waits has ended itself: requests are granted at looks alone.
+
+abbrev pub exit_while_asked_text : Text
+exit_while_asked_text = base ++ codes "units 1\nunit 0 ult at 0\ncancel 0\nexit\nsay never\nend\n"
+
+abbrev pub exit_while_asked_journal : Text
+exit_while_asked_journal = codes "1 0 take 0 0\n2 0 look 0\n3 0 step 0 0 ok\n4 0 step 0 1 ok\n5 0 end 0 own\n6 0 miss 0\n"
+
+abbrev pub exit_while_asked_report : Text
+exit_while_asked_report =
+    codes "unit 0 exited:\n" ++
+    codes "tally units 1 unborn 0 pool 0 stream 0 blocked 0 done 1 asked 0 access 0 steps 2\nfinished\n"
+
+-- A thread that is asked to end before its look makes no step, and so does not end itself.
+
+abbrev pub asked_before_exit_text : Text
+asked_before_exit_text = base ++ codes "units 2\nunit 0 ult at 0\ncancel 1\nunit 1 ult at 0\nexit\nend\n"
+
+abbrev pub asked_before_exit_journal : Text
+asked_before_exit_journal =
+    codes "1 0 take 0 0\n2 0 look 0\n3 0 step 0 0 ok\n4 0 end 0 done\n5 0 take 0 1\n6 0 look 1\n" ++
+    codes "7 0 end 1 asked\n8 0 miss 0\n"
+
+abbrev pub asked_before_exit_report : Text
+asked_before_exit_report =
+    codes "unit 0 done:\nunit 1 asked:\n" ++
+    codes "tally units 2 unborn 0 pool 0 stream 0 blocked 0 done 1 asked 1 access 0 steps 1\nfinished\n"

@@ -215,3 +215,28 @@ abbrev pub yield_keeps_homes_report : Text
 yield_keeps_homes_report =
     codes "unit 0 done: 0\nunit 1 done:\n" ++
     codes "tally units 2 unborn 0 pool 0 stream 0 blocked 0 done 2 asked 0 access 0 steps 3\nfinished\n"
+
+-- A thread that ends itself makes no further step.
+
+abbrev pub exit_text : Text
+exit_text = base ++ codes "units 1\nunit 0 ult at 0\nsay a\nexit\nsay b\nend\n"
+
+abbrev pub exit_journal : Text
+exit_journal = codes "1 0 take 0 0\n2 0 look 0\n3 0 step 0 0 ok\n4 0 step 0 1 ok\n5 0 end 0 own\n6 0 miss 0\n"
+
+abbrev pub exit_report : Text
+exit_report =
+    codes "unit 0 exited: a\n" ++
+    codes "tally units 1 unborn 0 pool 0 stream 0 blocked 0 done 1 asked 0 access 0 steps 2\nfinished\n"
+
+-- A thread that has ended itself can be joined and revived.
+
+abbrev pub exit_join_revive_text : Text
+exit_join_revive_text =
+    base ++
+    codes "units 2\nunit 0 ult at 0\nexit\nsay never\nunit 1 ult at 0\njoin 0\nrevive 0 0\nend\n"
+
+abbrev pub exit_join_revive_report : Text
+exit_join_revive_report =
+    codes "unit 0 exited:\nunit 1 done:\n" ++
+    codes "tally units 2 unborn 0 pool 0 stream 0 blocked 0 done 2 asked 0 access 0 steps 4\nfinished\n"

@@ -1,6 +1,6 @@
 //! Rows on what is no life of a unit, on what are no stamps, and on streams that are not spent.
 
-ghost use Rattle.abt_rows.specs.Refused.{IsNoLife, IsNotLeast, IsNotSpent, IsNotStamped, asked_inside, barred, falling, gap, going_on, late, level, repeated, scheduler, stepless, tasklet, thread, two_steps};
+ghost use Rattle.abt_rows.specs.Refused.{IsNoLife, IsNotLeast, IsNotSpent, IsNotStamped, asked_after_a_step, asked_inside, barred, ended_itself, exiting, falling, gap, going_on, late, left_itself, level, repeated, scheduler, stepless, tasklet, thread, two_operations, two_steps};
 
 /// A thread is not done without all its steps.
 pub fn thread_done_too_early()
@@ -35,6 +35,31 @@ pub fn thread_barred()
 /// A scheduler unit that has entered does not end by a request.
 pub fn scheduler_asked_inside()
     ensures { IsNoLife scheduler asked_inside }
+{}
+
+/// A thread does not end itself without an `exit`.
+pub fn thread_exits_without_its_operation()
+    ensures { IsNoLife thread ended_itself }
+{}
+
+/// A thread makes no step after its `exit`.
+pub fn step_after_the_exit()
+    ensures { IsNoLife exiting two_operations }
+{}
+
+/// A thread that has made its `exit` does not end by a request.
+pub fn asked_after_the_exit()
+    ensures { IsNoLife exiting asked_after_a_step }
+{}
+
+/// A tasklet does not end itself.
+pub fn tasklet_exits()
+    ensures { IsNoLife tasklet ended_itself }
+{}
+
+/// Nor does a scheduler unit.
+pub fn scheduler_exits()
+    ensures { IsNoLife scheduler left_itself }
 {}
 
 /// Stamps leave no gap.

@@ -1,7 +1,7 @@
 //! Rows on requests to end and to migrate.
 
 ghost use Rattle.abt_rows.specs.Rows.{IsReported, IsWorked, orders};
-ghost use Rattle.abt_rows.specs.Requests.{cancel_suspended_text, cancel_suspended_report, cancel_before_migrate_text, cancel_before_migrate_report, migrate_text, migrate_journal, migrate_report, migrate_to_stream_text, migrate_to_stream_journal, migrate_to_stream_report, last_migrate_counts_text, last_migrate_counts_journal, last_migrate_counts_report, migratable_text, migratable_journal, migratable_report, migratable_stays_text, migratable_stays_report, request_before_ban_text, request_before_ban_journal, request_before_ban_report, revived_after_cancel_text, revived_after_cancel_report, requests_forgotten_text, requests_forgotten_journal, requests_forgotten_report, migrate_suspended_text, migrate_suspended_journal, migrate_suspended_report, yieldto_cancelled_text, yieldto_cancelled_journal, yieldto_cancelled_report, yieldto_migrates_text, yieldto_migrates_journal, yieldto_migrates_report, ban_outlives_the_end_text, ban_outlives_the_end_journal, ban_outlives_the_end_report};
+ghost use Rattle.abt_rows.specs.Requests.{cancel_suspended_text, cancel_suspended_report, cancel_before_migrate_text, cancel_before_migrate_report, migrate_text, migrate_journal, migrate_report, migrate_to_stream_text, migrate_to_stream_journal, migrate_to_stream_report, last_migrate_counts_text, last_migrate_counts_journal, last_migrate_counts_report, migratable_text, migratable_journal, migratable_report, migratable_stays_text, migratable_stays_report, request_before_ban_text, request_before_ban_journal, request_before_ban_report, revived_after_cancel_text, revived_after_cancel_report, requests_forgotten_text, requests_forgotten_journal, requests_forgotten_report, migrate_suspended_text, migrate_suspended_journal, migrate_suspended_report, yieldto_cancelled_text, yieldto_cancelled_journal, yieldto_cancelled_report, yieldto_migrates_text, yieldto_migrates_journal, yieldto_migrates_report, ban_outlives_the_end_text, ban_outlives_the_end_journal, ban_outlives_the_end_report, exit_while_asked_text, exit_while_asked_journal, exit_while_asked_report, asked_before_exit_text, asked_before_exit_journal, asked_before_exit_report};
 
 /// A blocked unit is not woken by a cancel request, and ends at its next look.
 pub fn cancel_suspended()
@@ -72,4 +72,15 @@ pub fn yieldto_migrates()
 /// A unit that has ended can be barred from migrating, and stays so when it is revived.
 pub fn ban_outlives_the_end()
     ensures { IsWorked orders 10000 ban_outlives_the_end_text ban_outlives_the_end_journal ban_outlives_the_end_report }
+{}
+
+/// A thread that ends itself while a cancel request waits has ended itself: requests are granted at
+/// looks alone.
+pub fn exit_while_asked()
+    ensures { IsWorked orders 10000 exit_while_asked_text exit_while_asked_journal exit_while_asked_report }
+{}
+
+/// A thread that is asked to end before its look makes no step, and so does not end itself.
+pub fn asked_before_exit()
+    ensures { IsWorked orders 10000 asked_before_exit_text asked_before_exit_journal asked_before_exit_report }
 {}

@@ -1,7 +1,7 @@
 //! Rows on births, joins, resumptions, revivals and yields to a unit.
 
 ghost use Rattle.abt_rows.specs.Rows.{IsReported, IsWorked, orders};
-ghost use Rattle.abt_rows.specs.Units.{join_text, join_report, join_unborn_text, join_unborn_report, join_self_text, join_self_report, exists_text, exists_report, unborn_refused_text, unborn_refused_report, ended_refused_text, ended_refused_report, resume_too_early_text, resume_too_early_report, yieldto_absent_text, yieldto_absent_report, yieldto_text, yieldto_journal, yieldto_report, revival_text, revival_report, joiners_in_order_text, joiners_in_order_journal, joiners_in_order_report, revived_elsewhere_text, revived_elsewhere_journal, revived_elsewhere_report, resume_joiner_text, resume_joiner_report, resumed_text, resumed_report, yieldto_other_pool_text, yieldto_other_pool_report, yield_keeps_homes_text, yield_keeps_homes_journal, yield_keeps_homes_report};
+ghost use Rattle.abt_rows.specs.Units.{join_text, join_report, join_unborn_text, join_unborn_report, join_self_text, join_self_report, exists_text, exists_report, unborn_refused_text, unborn_refused_report, ended_refused_text, ended_refused_report, resume_too_early_text, resume_too_early_report, yieldto_absent_text, yieldto_absent_report, yieldto_text, yieldto_journal, yieldto_report, revival_text, revival_report, joiners_in_order_text, joiners_in_order_journal, joiners_in_order_report, revived_elsewhere_text, revived_elsewhere_journal, revived_elsewhere_report, resume_joiner_text, resume_joiner_report, resumed_text, resumed_report, yieldto_other_pool_text, yieldto_other_pool_report, yield_keeps_homes_text, yield_keeps_homes_journal, yield_keeps_homes_report, exit_text, exit_journal, exit_report, exit_join_revive_text, exit_join_revive_report};
 
 /// A unit that joins another is woken when that one ends.
 pub fn join()
@@ -81,4 +81,14 @@ pub fn yieldto_other_pool()
 /// A unit that yields to another goes to its own home, and the other keeps its own.
 pub fn yield_keeps_homes()
     ensures { IsWorked orders 10000 yield_keeps_homes_text yield_keeps_homes_journal yield_keeps_homes_report }
+{}
+
+/// A thread that ends itself makes no further step.
+pub fn exit()
+    ensures { IsWorked orders 10000 exit_text exit_journal exit_report }
+{}
+
+/// A thread that has ended itself can be joined and revived.
+pub fn exit_join_revive()
+    ensures { IsReported orders 10000 exit_join_revive_text exit_join_revive_report }
 {}

@@ -5,4 +5,4 @@ use Rattle.abt_rows.proofs.Refusing.{only}
 use Rattle.abt_rows.proofs.refused.tasklet_done_too_early.Goals as goal
 
 pub returns : goal.returns
-returns c h = holds (apart 0 1) refl (h.ends cause.Done (only cause.Done))
+returns c h = holds (apart 0 1) refl (h.ends cause.Done (only cause.Done)).0.0
