@@ -5,7 +5,7 @@ ghost use Rattle.std.specs.Prelude.{◌≡◌, ◌+◌, ◌<◌};
 use std::marker::Model;
 use std::sync::ledger::{Blank, Book, Ledger, Share};
 
-/// How many links were walked. It takes no bytes, and nothing but a walk changes it.
+/// How many links the counted calls of this crate walked with it. Outside the crate nothing changes it.
 #[derive(Drop)]
 pub struct Steps<L: Ledger> {
     book: Book<L>,
@@ -35,7 +35,7 @@ impl<L: Ledger> Steps<L> {
     }
 
     /// One link more.
-    pub fn tick(&mut self)
+    pub(crate) fn tick(&mut self)
         ensures { self.new ≡ self.old + 1 }
     {
         self.book.add(&mut self.share, 1);
