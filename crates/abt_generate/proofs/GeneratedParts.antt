@@ -22,7 +22,7 @@ use Rattle.abt_machine.specs.Valid.{IsAccess, IsBody, IsRule, IsScheduler, IsStr
 use Rattle.abt_machine.specs.Words.{Text}
 use Rattle.abt_machine.specs.Workloads.{access_of, body_from, ops_of, start_from, thing_at}
 use Rattle.abt_generate.specs.Generated.{adder, adder_ops, adders, deque, first_ops, first_unit, generated, sched_for}
-use Rattle.abt_generate.proofs.GeneratedText.{create, join, length-first_ops, text-short}
+use Rattle.abt_generate.proofs.GeneratedOps.{create, join, few-ops, length-first_ops}
 use Rattle.abt_generate.proofs.Lists.{Each, each-all, each-always, each-append, each-at, each-map, each-pairs, flat_map-nothing, none-some, some-same}
 
 -- Operations.
@@ -188,7 +188,7 @@ IsValid-generated n few =
       units = λ u below. units-valid n u few (omega arith);
       said = no-words n;
       words = All-nil IsWord;
-      few_bytes = text-short n few;
+      few_ops = few-ops n few;
     }
 
 -- parts that are those of the generator's workload

@@ -1,4 +1,3 @@
 pub mod Lists
-pub mod TextLength
-pub mod GeneratedText
+pub mod GeneratedOps
 pub mod GeneratedParts

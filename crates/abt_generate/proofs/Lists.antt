@@ -1,7 +1,7 @@
 -- What holds of each element of a list, as one tuple for a list that is written out.
 use Rattle.std.proofs.Common.{◌≡◌, ℕ, zero, suc, ◌≤◌, ◌+◌, ◌*◌, List, [], ◌∷◌, ◌++◌, Option, Some, None, length, map, slice_get, refl, sym, ap, ◌∙◌, subst, append_assoc, arith, length-append}
 use Rattle.std.specs.Prelude.{All, AllPairs, flat_map, ⊤}
-use Rattle.std.specs.List.{enumerate_from, range_with_len}
+use Rattle.std.specs.List.{range_with_len}
 use Rattle.std.proofs.lemmas.List.FromFn.{map-range_with_len_more}
 use Rattle.std.proofs.lemmas.List.Kept.{AllPairs-cons}
 
@@ -24,18 +24,6 @@ each-map P f (x ∷ xs) h = (h.0, each-map P f xs h.1)
 pub each-always : {A : Type 0} (P : A → Type 0) → ((x : A) → P x) → (xs : List A) → Each P xs
 each-always P h [] = tt
 each-always P h (x ∷ xs) = (h x, each-always P h xs)
-
-pub each-weaker : {A : Type 0} (P Q : A → Type 0) → ((x : A) → P x → Q x) → (xs : List A) → Each P xs → Each Q xs
-each-weaker P Q h [] k = tt
-each-weaker P Q h (x ∷ xs) k = (h x k.0, each-weaker P Q h xs k.1)
-
-pub each-flat_map : {A B : Type 0} (P : B → Type 0) (f : A → List B) (xs : List A) → Each (λ x. Each P (f x)) xs → Each P (flat_map f xs)
-each-flat_map P f [] h = tt
-each-flat_map P f (x ∷ xs) h = each-append P (f x) (flat_map f xs) h.0 (each-flat_map P f xs h.1)
-
-pub each-enumerate : {A : Type 0} (P : A → Type 0) (n : ℕ) (xs : List A) → Each P xs → Each (λ (p : ℕ × A). P p.1) (enumerate_from n xs)
-each-enumerate P n [] h = tt
-each-enumerate P n (x ∷ xs) h = (h.0, each-enumerate P (n + 1) xs h.1)
 
 pub each-all : {A : Type 0} (P : A → Type 0) (xs : List A) → Each P xs → All P xs
 each-all P [] h i d below = absurd (omega arith)

@@ -13,11 +13,12 @@ use std::alloc::{AllocError, Global};
 // The streams. Each has a pool of its own.
 const STREAMS: u32 = 4;
 
-// The mutex that guards the sum.
+// The mutex that holds the sum.
 const SUM: ObjectNo = ObjectNo(0);
 
-/// The workload of n units that each add their number, 1 to n, to one sum under a mutex, on four streams that steal from one
-/// another. Unit 0 creates them, joins them and prints the sum.
+/// The workload of unit 0 and n adders, on four streams, each with a deque of its own and a scheduler that steals. The
+/// operations of unit 0 create the adders, join them, and print what a mutex holds; those of adder v yield, and add v to what
+/// it holds.
 pub fn generate(alloc: Global, n: u32) -> Result<Workload, Want>
     requires { (0 < n) × (n ≤ 126) }
     ensures { IfOk result (λ w. w ≡ generated n) }

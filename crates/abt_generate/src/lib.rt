@@ -1,4 +1,4 @@
-//! The workload that `self N` runs: N units that add their numbers under one mutex, on four streams that steal.
+//! The workload that `self N` runs: N units whose operations add their numbers to what one mutex holds, on four streams.
 #![tactic(auto)]
 
 mod generated;

@@ -1,6 +1,6 @@
 use Rattle.std.proofs.Common.{[], map, refl}
 use Rattle.abt_generate.specs.Generated.{adders}
-use Rattle.abt_generate.proofs.GeneratedText.{create, join}
+use Rattle.abt_generate.proofs.GeneratedOps.{create, join}
 use Rattle.abt_generate.proofs.Lists.{map-range_more}
 use Rattle.abt_generate.proofs.generated.first_ops.Goals as goal
 

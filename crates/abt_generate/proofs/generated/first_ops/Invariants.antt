@@ -1,6 +1,6 @@
 use Rattle.std.proofs.Common.{◌≡◌, ◌++◌, map}
 use Rattle.std.specs.List.{range_with_len}
-use Rattle.abt_generate.proofs.GeneratedText.{create, join}
+use Rattle.abt_generate.proofs.GeneratedOps.{create, join}
 use Rattle.abt_generate.specs.Generated.{adders}
 use Rattle.abt_generate.proofs.generated.first_ops.Given as goal
 
