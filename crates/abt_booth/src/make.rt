@@ -6,7 +6,7 @@ ghost use Rattle.abt_booth.specs.Seats.{opening_of, seats_of, AreAllSeatsOf, Are
 use crate::booth::{Booth, Raw, Seat};
 use crate::object::Object;
 use crate::plays::Deal;
-use crate::rule::{Kept, Lot, Opening, WORDS};
+use crate::rule::{Kept, Lot, Opening, ROOM, WORDS};
 use atomic_table::{Refused, Table};
 use std::alloc::Global;
 use std::snapshot::Snapshot;
@@ -36,7 +36,7 @@ impl<O: Object> Booth<O> {
         ensures seat { IfOk result (λ made. (made.1.table_id ≡ made.0.table.shared.table_id) × (made.1.me ≡ (keeper object seats, []))) }
         ensures refused { IfErr result (λ back. back ≡ object) }
     {
-        let mut slots: Vec<Kept<O>> = match Vec::with_capacity(alloc, 1) {
+        let mut slots: Vec<Kept<O>> = match Vec::with_capacity(alloc, ROOM) {
             Ok(slots) => slots,
             Err(_) => return Err(object),
         };

@@ -13,6 +13,9 @@ pub(crate) const WORDS: usize = 31;
 /// The word that counts the calls.
 pub(crate) const COUNTING: usize = 15;
 
+/// For how many slots there is room. One is used: the rest keeps what stands behind it out of its cache lines.
+pub(crate) const ROOM: usize = 4;
+
 /// What a seat knows. No value of it is made.
 /// The seat has the numbers from `number` to before `next`, and those in `taken`, each with the list that its
 /// seat had seen.
