@@ -3,14 +3,14 @@ use Rattle.std.proofs.Common.{◌≡◌, ℕ, ◌<◌, ◌≤◌, ◌+◌, ◌-�
 use Rattle.std.specs.Prelude.{◌%◌, All, Contains, IsPermutation, IsTrue}
 use Rattle.std.specs.List.{SwappedAt, range_with_len}
 use Rattle.std.proofs.Math.Nat.{mod-add-mod, add-mod_right, mod-eq_of_lt, mod_self}
-use Rattle.std.proofs.lemmas.Bool.{cases_lt, eqb-true, ltb-true, lt-ltb}
+use Rattle.std.proofs.lemmas.Bool.{cases_eq, cases_lt, eqb-true, ltb-true, lt-ltb}
 use Rattle.std.proofs.lemmas.Grind.{get_or_default_zero}
 use Rattle.std.proofs.lemmas.List.{get_or-drop, map-id, take_all}
 use Rattle.std.proofs.lemmas.List.FromFn.{length-range_with_len, get_or-range_with_len, take-map-range_with_len}
 use Rattle.std.proofs.lemmas.List.Sorted.{All-permutation, Contains-permutation}
 use Rattle.abt_machine.specs.declared.operations.OrderShape.{OrderShape}
 use Rattle.abt_machine.specs.declared.operations.OrderShape.TheVariants as shape
-use Rattle.abt_order.specs.Places.{distance}
+use Rattle.abt_order.specs.Places.{IsAnswered, IsNearest, distance}
 use Rattle.abt_order.specs.Shapes.{fits_shape}
 
 -- a remainder by n, below twice n
@@ -67,10 +67,6 @@ place-there n places a h l =
     let has : Contains places a = Contains-permutation (range_with_len 0 n) places a h (a, omega arith, get_or-range_with_len 0 n a a l ∙ zero-add a) in
     (has.0, has.1, sym (get_or_default_zero places has.0 a has.1) ∙ has.2)
 
--- no place from i on is nearer to the answer than the one at that place
-abbrev pub IsNearest : ℕ → List ℕ → ℕ → ℕ → ℕ → Type 0
-IsNearest n places i at answer = (k : ℕ) → i ≤ k → k < length places → distance n answer (get_or places at 0) ≤ distance n answer (get_or places k 0)
-
 -- an answer that stands at no earlier place is the nearest to itself
 nearest-answer : (n : ℕ) (places : List ℕ) (i at answer : ℕ) → IsPermutation (range_with_len 0 n) places → at < length places → answer < n → ((k : ℕ) → k < i → get_or places k 0 ≡ answer → ⊥) → IsNearest n places i at answer → get_or places at 0 ≡ answer
 nearest-answer n places i at answer h inside below fresh near =
@@ -88,7 +84,7 @@ fits-below shape.Rotate r n i answer l h = let is : answer ≡ (r + i) % n = eqb
 fits-below shape.Mirror r n i answer l h = let is : answer ≡ n - 1 - i = eqb-true answer (n - 1 - i) h in omega arith
 fits-below shape.Free r n i answer l h = ltb-true answer n h
 
--- the place that is chosen fits the shape, where the answer and the earlier places do
+-- the place that is chosen fits the shape, if the answer and the earlier places do
 chosen-fits : (o : OrderShape) (r n i at answer : ℕ) (places : List ℕ) → i < n → IsPermutation (range_with_len 0 n) places → at < length places → ((k : ℕ) → k < i → IsTrue (fits_shape o r n k (get_or places k 0))) → IsTrue (fits_shape o r n i answer) → IsNearest n places i at answer → IsTrue (fits_shape o r n i (get_or places at 0))
 chosen-fits shape.Rotate r n i at answer places in_range h inside earlier fits near =
     let is : answer ≡ (r + i) % n = eqb-true answer ((r + i) % n) fits in
@@ -120,3 +116,23 @@ exchanged-fits o r n i at answer places after past inside count h swapped earlie
     below_more (λ k. IsTrue (fits_shape o r n k (get_or after k 0))) i
     (λ k l. subst (λ (x : ℕ). IsTrue (fits_shape o r n k x)) (sym (swapped.2 k 0 (omega arith) (omega arith))) (earlier k l))
     (subst (λ (x : ℕ). IsTrue (fits_shape o r n i x)) (sym (swapped.0 0)) (chosen-fits o r n i at answer places (omega arith) h inside earlier fits near))
+
+-- what is nearest, from place k on, at place p before the exchange is so at place k after it
+nearest-exchanged : (n i at k p answer : ℕ) (places after : List ℕ) → k ≤ i → i ≤ at → at < length places → length after ≡ length places → SwappedAt places after i at → get_or after k 0 ≡ get_or places p 0 → IsNearest n places k p answer → IsNearest n after k k answer
+nearest-exchanged n i at k p answer places after l past inside count swapped here near j from below =
+    let D : ℕ → Type 0 = λ x. distance n answer (get_or places p 0) ≤ distance n answer x in
+    subst (λ (x : ℕ). distance n answer x ≤ distance n answer (get_or after j 0)) (sym here) (elim (cases_eq j i) [
+      | inl e ↦ subst (λ (m : ℕ). D (get_or after m 0)) (sym e) (subst D (sym (swapped.0 0)) (near at (omega arith) inside))
+      | inr other ↦ elim (cases_eq j at) [
+        | inl e ↦ subst (λ (m : ℕ). D (get_or after m 0)) (sym e) (subst D (sym (swapped.1 0)) (near i l (omega arith)))
+        | inr apart ↦ subst D (sym (swapped.2 j 0 other apart)) (near j from (omega arith))
+      ]
+    ])
+
+-- after the exchange one place more has its answer
+pub exchanged-answered : (Answers : ℕ → ℕ → ℕ → Type 0) (n i at answer : ℕ) (places after : List ℕ) → i ≤ at → at < length places → length after ≡ length places → SwappedAt places after i at → ((k : ℕ) → k < i → IsAnswered Answers n places k) → Answers n i answer → IsNearest n places i at answer → (k : ℕ) → k < i + 1 → IsAnswered Answers n after k
+exchanged-answered Answers n i at answer places after past inside count swapped earlier asked near =
+    below_more (IsAnswered Answers n after) i
+    (λ k l. let was : IsAnswered Answers n places k = earlier k l in
+    (was.0, was.1, nearest-exchanged n i at k k was.0 places after (omega arith) past inside count swapped (swapped.2 k 0 (omega arith) (omega arith)) was.2))
+    (answer, asked, nearest-exchanged n i at i at answer places after (omega arith) past inside count swapped (swapped.0 0) near)

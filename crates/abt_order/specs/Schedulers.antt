@@ -12,7 +12,7 @@ use Rattle.rand_pcg.specs.Lcg.{Lcg}
 abbrev pub pool_numbers : List PoolNo → List ℕ
 pool_numbers = map (λ (p : PoolNo). p.0)
 
--- a scheduler's number, the number of its next round, and the generator of its words, where its rule draws some
+-- a scheduler's number, the number of its next round, and the generator of its words, if its rule draws some
 pub record SchedulerValue : Type 0 where
   pub number : ℕ
   pub round : ℕ
@@ -24,7 +24,7 @@ chosen_by word [] = []
 chosen_by word (p ∷ []) = p ∷ []
 chosen_by word (p ∷ q ∷ ps) = p ∷ turned (word % length (q ∷ ps)) (q ∷ ps)
 
--- how many words were drawn before a round: one in each where there is a choice among the pools
+-- how many words were drawn before a round: one in each if there is a choice among the pools
 abbrev pub words_drawn : List ℕ → ℕ → ℕ
 words_drawn [] round = 0
 words_drawn (p ∷ []) round = 0

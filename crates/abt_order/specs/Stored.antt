@@ -1,9 +1,30 @@
--- The shapes of stored orders.
-use Rattle.std.specs.Prelude.{ℕ, List, map}
+-- The shapes of stored orders, and the rounds that their answers choose.
+use Rattle.std.specs.Prelude.{ℕ, List, map, Option, Some, None, IfSome, slice_get}
 use Rattle.abt_machine.specs.declared.operations.OrderShape.{OrderShape}
+use Rattle.abt_machine.specs.declared.operations.Rule.{Rule}
+use Rattle.abt_machine.specs.declared.operations.Rule.TheVariants as rule
+use Rattle.abt_machine.specs.declared.workload.Parts.{Parts}
+use Rattle.abt_machine.specs.Workloads.{pools_of, rule_of}
+use Rattle.abt_order.specs.Places.{IsOrderedBy}
 use Rattle.abt_order.specs.declared.stored.StoredOrder.{StoredOrder}
 use denote.Param.Members.{Mut}
 
 -- stored orders as their shapes
 abbrev pub shapes_of : {X : Type 0} {F : X → Type 0} {called : Mut ((x : X) × F x) (ℕ × (ℕ × (ℕ × Unit {0}))) ℕ} → List (StoredOrder X F called) → List OrderShape
 shapes_of {X} {F} {called} = map (λ (o : StoredOrder X F called). o.shape)
+
+-- an answer of a stored order's function in a round, for a number of pools and a place
+abbrev pub answers_of : {X : Type 0} {F : X → Type 0} {called : Mut ((x : X) × F x) (ℕ × (ℕ × (ℕ × Unit {0}))) ℕ} → StoredOrder X F called → ℕ → ℕ → ℕ → ℕ → Type 0
+answers_of {X} {F} {called} order round n i answer = called.post (order.function.vtable, order.function.value) (round, (n, (i, tt))) answer
+
+-- If the rule is a user's, the pools are in an order that answers of its stored order choose for the round.
+abbrev pub IsAnsweredBy : {X : Type 0} {F : X → Type 0} {called : Mut ((x : X) × F x) (ℕ × (ℕ × (ℕ × Unit {0}))) ℕ} → List (StoredOrder X F called) → ℕ → Option Rule → List ℕ → List ℕ → Type 0
+IsAnsweredBy orders round (Some rule.Basic) ps order = Unit {0}
+IsAnsweredBy orders round (Some rule.Prio) ps order = Unit {0}
+IsAnsweredBy orders round (Some (rule.Randws seed)) ps order = Unit {0}
+IsAnsweredBy orders round (Some (rule.User k)) ps order = IfSome (slice_get orders k) (λ stored. IsOrderedBy (answers_of stored round) ps order)
+IsAnsweredBy orders round None ps order = Unit {0}
+
+-- so it is of a round of scheduler g
+abbrev pub IsAnsweredOrder : {X : Type 0} {F : X → Type 0} {called : Mut ((x : X) × F x) (ℕ × (ℕ × (ℕ × Unit {0}))) ℕ} → Parts → List (StoredOrder X F called) → ℕ → ℕ → List ℕ → Type 0
+IsAnsweredOrder W orders g round order = IsAnsweredBy orders round (rule_of W g) (pools_of W g) order

@@ -31,7 +31,8 @@ impl StoredOrder {
     pub(crate) fn answer(&self, round: u64, n: u32, i: u32) -> u32
         requires count { (0 < n) × (n ≤ 8) }
         requires place { i < n }
-        ensures { IsTrue (fits_shape self.now.shape round n i result) }
+        ensures fits { IsTrue (fits_shape self.now.shape round n i result) }
+        ensures asked { OrderFunction.post self.now.function round n i result }
     {
         (self.function)(round, n, i)
     }
