@@ -5,10 +5,10 @@ use Rattle.std.proofs.Math.Seq.{take-add}
 use Rattle.std.proofs.lemmas.List.{take_all}
 use Rattle.abt_source.specs.Source.{Took, NothingLeft, LeavesAnEnd}
 
--- What was read so far and what is left are the file, where it is told.
+-- What was read so far and what is left are the file, if it is observable.
 abbrev pub IsSplit : Option (List ℕ) → List ℕ → Option (List ℕ) → Type 0
-IsSplit None front left = left ≡ None
-IsSplit (Some xs) front left = (rest : List ℕ) × (left ≡ Some rest) × (xs ≡ front ++ rest)
+IsSplit None read left = left ≡ None
+IsSplit (Some xs) read left = (rest : List ℕ) × (left ≡ Some rest) × (xs ≡ read ++ rest)
 
 -- As many bytes as there are from a place on are all of these.
 take-rest : (at : ℕ) (bytes : List ℕ) → take (length bytes - at) (drop at bytes) ≡ drop at bytes

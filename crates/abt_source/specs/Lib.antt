@@ -1,3 +1,4 @@
 pub mod MemoryFiles
 pub mod MemorySink
+pub mod RealFiles
 pub mod Source

@@ -7,7 +7,7 @@ use Rattle.abt_source.specs.declared.Failed.{Failed}
 abbrev pub next_count : ℕ → ℕ
 next_count n = if nat_lt n (2 ^ 64 - 1) then n + 1 else n
 
--- A count rose: where it was below its last value, it is greater now.
+-- A count rose: if it was below its last value, it is greater now.
 abbrev pub Rose : ℕ → ℕ → Type 0
 Rose before now = before < 2 ^ 64 - 1 → before < now
 
@@ -21,7 +21,7 @@ GivesNext None left n into = left ≡ None
 GivesNext (Some xs) left n into =
     (xs ≡ take n into ++ drop n xs) × (left ≡ Some (drop n xs)) × (n ≡ 0 → xs ≡ [])
 
--- A read gave the next bytes; one that failed left the bytes left as they were.
+-- A read returned the next bytes; one that failed left the bytes left as they were.
 abbrev pub ReadGives : Option (List ℕ) → Option (List ℕ) → Result ℕ Failed → List ℕ → Type 0
 ReadGives before left (Ok n) into = GivesNext before left n into
 ReadGives before left (Err _) into = left ≡ before
@@ -29,7 +29,7 @@ ReadGives before left (Err _) into = left ≡ before
 -- What is left is an end of the file, if both are observable.
 abbrev pub LeavesAnEnd : Option (List ℕ) → Option (List ℕ) → Type 0
 LeavesAnEnd file left =
-    IfSome file (λ xs. IfSome left (λ rest. (front : List ℕ) × (xs ≡ front ++ rest)))
+    IfSome file (λ xs. IfSome left (λ rest. (read : List ℕ) × (xs ≡ read ++ rest)))
 
 -- The sink took these bytes, and nothing else.
 abbrev pub Took : Option (List ℕ) → Option (List ℕ) → List ℕ → Type 0

@@ -1,5 +1,5 @@
 //! Files that are read and sinks that are written, each with a count of its faults: the traits, a kind in
-//! memory that fails when it is told to, and that of the process.
+//! memory that fails at chosen calls, and that of the process.
 #![tactic(auto)]
 
 mod memory_files;

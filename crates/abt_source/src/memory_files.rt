@@ -1,7 +1,7 @@
-//! Files in memory, which fail when they are told to.
+//! Files in memory, which fail at chosen calls.
 
 ghost use Rattle.std.specs.Prelude.{◌≡◌, ◌<◌, ◌+◌, ◌^◌, ◌++◌, ◌↔◌, [], length, take, drop, position, min, Some};
-ghost use Rattle.std.specs.Prelude.{IsErr, IsTrue, IfOk, OnOk, OnErr, IsErrOf, Contains};
+ghost use Rattle.std.specs.Prelude.{IsErr, IsNone, IsTrue, IfOk, OnOk, OnErr, IsErrOf, Contains};
 ghost use Rattle.abt_source.specs.Source.{next_count};
 ghost use Rattle.abt_source.specs.MemoryFiles.{FailsToBegin, file_of, is_named, left_of};
 ghost use Rattle.abt_source.specs.MemoryFiles.{not_begun, after_success, after_failure};
@@ -51,8 +51,8 @@ impl Model for MemoryFiles {
 }
 
 impl MemoryFiles {
-    /// The calls of `begin` and `read` are numbered together from 0. Those whose numbers are in `failing`
-    /// fail.
+    /// Files of which none is begun, and so nothing is left. The calls of `begin` and `read` are numbered together from 0;
+    /// those whose numbers are in `failing` fail.
     pub fn new(files: Vec<NamedBytes>, failing: Vec<u64>) -> Self
         ensures { result ≡ not_begun files.items failing.items }
     {
@@ -118,12 +118,15 @@ fn copy(from: &[u8], into: &mut [u8]) -> usize
 impl Files for MemoryFiles {
     ghost file = { λ m n. file_of m.files n };
 
+    ghost absent = { λ m n. IsNone (file_of m.files n) };
+
     ghost left = { λ m. Some m.left };
 
     ghost faults = { λ m. m.faults };
 
     fn begin(&mut self, name: &str) -> Result<(), NotFetched>
         ensures fails { IsErr result ↔ FailsToBegin self.old name.now }
+        ensures absent { IsNone (file_of self.old.files name.now) → IsErrOf result NotFetched.Failed }
         ensures memory { IsErrOf result NotFetched.Memory → ⊥ }
         ensures opens { OnOk result (file_of self.old.files name.now ≡ Some self.new.left) }
         ensures ok { OnOk result (self.new ≡ after_success self.old self.new.left) }
@@ -187,8 +190,8 @@ mod tests {
         let mut files = MemoryFiles::new(rows, Vec::new(alloc));
         let whole = read_all(alloc, &mut files, "a", 5)?;
         assert_eq!(rt; whole.as_slice(), b"first".as_slice());
-        let front = read_all(alloc, &mut files, "a", 2)?;
-        assert_eq!(rt; front.as_slice(), b"fir".as_slice());
+        let prefix = read_all(alloc, &mut files, "a", 2)?;
+        assert_eq!(rt; prefix.as_slice(), b"fir".as_slice());
         Ok(())
     }
 

@@ -1,4 +1,4 @@
-//! A sink in memory, which fails when it is told to.
+//! A sink in memory, which fails at chosen writes.
 
 ghost use Rattle.std.specs.Prelude.{◌≡◌, ◌<◌, ◌↔◌, length, take, Some, IsErr, IfOk, OnErr};
 ghost use Rattle.abt_source.specs.MemorySink.{FailsToWrite, count_taken, not_written, after_taking, after_failing};
@@ -116,7 +116,7 @@ mod tests {
     }
 
     #[test]
-    fn a_failing_write_leaves_the_front(rt: HostRuntime) -> Result<(), Fail> {
+    fn a_failing_write_leaves_a_prefix(rt: HostRuntime) -> Result<(), Fail> {
         let alloc = rt.alloc();
         for call in 0..5u64 {
             let mut sink = MemorySink::new(alloc, 9, 1, vec![in alloc; call]?)?;

@@ -27,21 +27,24 @@ impl From<AllocError> for NotFetched {
     }
 }
 
-/// Files that are read by name, each from its first byte on. No bytes are left before the first `begin`.
+/// Files that are read by name, each from its first byte on.
 pub trait Files {
     /// The bytes of a name, if they are observable. No call changes them.
     ghost file: { Self → List ℕ → Option (List ℕ) };
 
+    /// That no file has the name, if that is observable.
+    ghost absent: { Self → List ℕ → Type 0 };
+
     /// The bytes that are left of the file that was begun last, if they are observable.
     ghost left: { Self → Option (List ℕ) };
 
-    /// How often a call has failed. It never falls.
+    /// A count that each failed call raises, up to its last value, and that no other call changes.
     ghost faults: { Self → ℕ };
 
-    /// Starts at the first byte of a file. The name `-` is that of the standard input, and a name with
-    /// no file is a fault.
+    /// Starts at the first byte of a file. A name that no file has is a fault.
     fn begin(&mut self, name: &str) -> Result<(), NotFetched>
         ensures file { (n : List ℕ) → file self.new n ≡ file self.old n }
+        ensures absent { absent self.old name.now → IsErrOf result NotFetched.Failed }
         ensures left { OnOk result (left self.new ≡ file self.old name.now) }
         ensures nothing { OnErr result (NothingLeft (left self.new)) }
         ensures later { faults self.old ≤ faults self.new }
@@ -49,7 +52,7 @@ pub trait Files {
         ensures quiet { OnOk result (faults self.new ≡ faults self.old) }
         ensures memory { IsErrOf result NotFetched.Memory → faults self.new ≡ faults self.old };
 
-    /// Gives the next bytes, and none only at the end.
+    /// Writes the next bytes into the slice, and none only at the end, and returns how many.
     fn read(&mut self, into: &mut [u8]) -> Result<usize, Failed>
         requires { 0 < length into.old }
         ensures file { (n : List ℕ) → file self.new n ≡ file self.old n }
@@ -63,7 +66,7 @@ pub trait Files {
 // How many bytes one read asks for at most.
 const PIECE: usize = 8192;
 
-/// The whole file, or its first `most + 1` bytes where it is longer.
+/// The whole file, or its first `most + 1` bytes if it is longer.
 pub fn read_all<F: Files>(
     alloc: Global,
     files: &mut F,
@@ -73,11 +76,12 @@ pub fn read_all<F: Files>(
     requires { most < usize.MAX }
     ensures bytes { IfOk result (λ v. IfSome (F.file files.old name.now)
         (λ xs. v.items ≡ take (most + 1) xs)) }
+    ensures absent { F.absent files.old name.now → IsErrOf result NotFetched.Failed }
     ensures bound { IfOk result (λ v. length v.items ≤ most + 1) }
     ensures left { OnOk result (F.left files.new
         ≡ option_map (drop (most + 1)) (F.file files.old name.now)) }
 
-    // After a failure, or where memory ran out, an end of the file is left.
+    // After a failure, or if memory ran out, an end of the file is left.
     ensures stands { OnErr result (LeavesAnEnd (F.file files.old name.now) (F.left files.new)) }
     ensures cause { IsErrOf result NotFetched.Failed → Rose (F.faults files.old) (F.faults files.new) }
     ensures memory { IsErrOf result NotFetched.Memory → F.faults files.new ≡ F.faults files.old }

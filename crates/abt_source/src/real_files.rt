@@ -1,7 +1,8 @@
-//! The files and the standard input of the process. What they hold is not observable; each failed call is
-//! counted.
+//! The files and the standard input of the process. What they hold is not observable; whether one is begun is, and the
+//! count of failed calls.
 
-ghost use Rattle.std.specs.Prelude.{◌≡◌, ◌<◌, ◌≤◌, length, None, IfOk, OnOk, OnErr, IsErrOf};
+ghost use Rattle.std.specs.Prelude.{◌≡◌, ◌<◌, ◌≤◌, length, None, IfOk, OnOk, OnErr, IsErrOf, false};
+ghost use Rattle.abt_source.specs.RealFiles.{after_fault, none_begun, one_begun, unread};
 ghost use Rattle.abt_source.specs.Source.{next_count};
 
 use crate::{Failed, Files, NotFetched};
@@ -10,39 +11,39 @@ use std::marker::Model;
 use std::rt::Files as HostFiles;
 use std::{fs, io};
 
-/// The files of the process, and its standard input by the name `-`. Contracts see the count of their
+/// The files of the process, and its standard input by the name `-`. Contracts see whether one is begun, and the count of
 /// faults. A directory is begun, and each read of it fails.
 #[derive(Drop)]
 pub struct RealFiles<'a, R: HostFiles + Input> {
     rt: &'a R,
-    begun: Begun<R::File>,
+    begun: Option<Begun<R::File>>,
     faults: u64,
 }
 
 // The file that was begun last.
 #[derive(Drop)]
 enum Begun<F> {
-    Nothing,
     StandardInput,
     File(F),
 }
 
 impl<'a, R: HostFiles + Input> Model for RealFiles<'a, R> {
-    ghost use Rattle.std.specs.Prelude.{ℕ};
+    ghost use Rattle.std.specs.Prelude.{is_some};
+    ghost use Rattle.abt_source.specs.RealFiles.{FilesOfProcess};
 
-    ghost Value = { ℕ };
+    ghost Value = { FilesOfProcess };
 
-    ghost view = { λ files. files.faults };
+    ghost view = { λ files. record { begun = is_some files.begun; faults = files.faults } };
 }
 
 impl<'a, R: HostFiles + Input> RealFiles<'a, R> {
-    /// No file is begun.
+    /// No file is begun, and so nothing is left.
     pub fn new(rt: &'a R) -> Self
-        ensures { result ≡ 0 }
+        ensures { result ≡ none_begun 0 }
     {
         RealFiles {
             rt,
-            begun: Begun::Nothing,
+            begun: None,
             faults: 0,
         }
     }
@@ -55,15 +56,16 @@ impl<'a, R: HostFiles + Input> RealFiles<'a, R> {
         Ok(Begun::File(fs::open(self.rt, name)?))
     }
 
-    // How many bytes the host gave.
+    // How many bytes the host wrote into the slice.
     fn fetch(&mut self, into: &mut [u8]) -> io::Result<usize>
         ensures bound { IfOk result (λ n. n ≤ length into.new) }
+        ensures nothing { self.old.begun ≡ false → IfOk result (λ n. n ≡ 0) }
         ensures same { self.new ≡ self.old }
     {
         match &mut self.begun {
-            Begun::Nothing => Ok(0),
-            Begun::StandardInput => self.rt.reader().read(into),
-            Begun::File(file) => file.read(into),
+            None => Ok(0),
+            Some(Begun::StandardInput) => self.rt.reader().read(into),
+            Some(Begun::File(file)) => file.read(into),
         }
     }
 }
@@ -71,19 +73,21 @@ impl<'a, R: HostFiles + Input> RealFiles<'a, R> {
 impl<R: HostFiles + Input> Files for RealFiles<'_, R> {
     ghost file = { λ _ _. None };
 
-    ghost left = { λ _. None };
+    ghost absent = { λ _ _. ⊥ };
 
-    ghost faults = { λ count. count };
+    ghost left = { λ files. unread files.begun };
+
+    ghost faults = { λ files. files.faults };
 
     fn begin(&mut self, name: &str) -> Result<(), NotFetched>
-        ensures ok { OnOk result (self.new ≡ self.old) }
-        ensures failed { IsErrOf result NotFetched.Failed → self.new ≡ next_count self.old }
-        ensures memory { IsErrOf result NotFetched.Memory → self.new ≡ self.old }
+        ensures ok { OnOk result (self.new ≡ one_begun self.old.faults) }
+        ensures failed { IsErrOf result NotFetched.Failed → self.new ≡ none_begun (next_count self.old.faults) }
+        ensures memory { IsErrOf result NotFetched.Memory → self.new ≡ none_begun self.old.faults }
     {
-        self.begun = Begun::Nothing;
+        self.begun = None;
         match self.open(name) {
             Ok(begun) => {
-                self.begun = begun;
+                self.begun = Some(begun);
                 Ok(())
             }
             Err(e) if e.kind() == ErrorKind::OutOfMemory => Err(NotFetched::Memory),
@@ -97,8 +101,9 @@ impl<R: HostFiles + Input> Files for RealFiles<'_, R> {
     fn read(&mut self, into: &mut [u8]) -> Result<usize, Failed>
         requires { 0 < length into.old }
         ensures bound { IfOk result (λ n. n ≤ length into.new) }
+        ensures nothing { self.old.begun ≡ false → IfOk result (λ n. n ≡ 0) }
         ensures ok { OnOk result (self.new ≡ self.old) }
-        ensures failed { OnErr result (self.new ≡ next_count self.old) }
+        ensures failed { OnErr result (self.new ≡ after_fault self.old) }
     {
         match self.fetch(into) {
             Ok(n) => Ok(n),
@@ -124,10 +129,10 @@ mod tests {
         fs::write(&rt, "real-files-whole", written.as_slice())?;
         let mut files = RealFiles::new(&rt);
         let read = read_all(alloc, &mut files, "real-files-whole", 30_000)?;
-        let front = read_all(alloc, &mut files, "real-files-whole", 9_999)?;
+        let prefix = read_all(alloc, &mut files, "real-files-whole", 9_999)?;
         fs::remove_file(&rt, "real-files-whole")?;
         assert!(rt; read.as_slice() == written.as_slice());
-        assert_eq!(rt; front.len(), 10_000);
+        assert_eq!(rt; prefix.len(), 10_000);
         assert_eq!(rt; files.faults, 0);
         Ok(())
     }

@@ -1,25 +1,33 @@
-use Rattle.std.proofs.Common.{refl}
-use Rattle.abt_source.proofs.Counts.{later, cause, next_count-Rose, untold_begin, untold_read, begin_later}
+use Rattle.std.proofs.Common.{refl, ap}
+use Rattle.abt_source.specs.RealFiles.{FilesOfProcess}
+use Rattle.abt_source.proofs.Counts.{later, cause, next_count-Rose}
+use Rattle.abt_source.proofs.Process.{begin_later, begin_left, begin_nothing, begin_quiet, read_failed, read_next, read_ok}
 use Rattle.abt_source.proofs.real_files.RealFilesFiles.TheImpl.Goals as goal
 
 pub begin-tells : goal.begin-tells
 begin-tells g c =
-    let untold = untold_begin c.result in record {
+    let old : FilesOfProcess = c.args.self.now in
+    let new : FilesOfProcess = c.new.self.now in record {
       file = λ _. refl;
-      left = untold.0;
-      nothing = untold.1;
-      later = begin_later c.result c.args.self.now c.new.self.now c.ensures.ok c.ensures.failed c.ensures.memory;
-      cause = λ failed. next_count-Rose c.args.self.now c.new.self.now (c.ensures.failed failed);
-      quiet = c.ensures.ok;
-      memory = c.ensures.memory;
+      absent = λ never. absurd never;
+      left = begin_left c.result old new c.ensures.ok;
+      nothing = begin_nothing c.result old new c.ensures.failed c.ensures.memory;
+      later = begin_later c.result old new c.ensures.ok c.ensures.failed c.ensures.memory;
+      cause = λ failed. next_count-Rose old.faults new.faults (ap (λ (m : FilesOfProcess). m.faults) (c.ensures.failed failed));
+      quiet = begin_quiet c.result old new c.ensures.ok;
+      memory = λ memory. ap (λ (m : FilesOfProcess). m.faults) (c.ensures.memory memory);
     }
 
 pub read-tells : goal.read-tells
-read-tells g c = record {
-  file = λ _. refl;
-  bound = c.ensures.bound;
-  gives = untold_read c.result c.new.into.now;
-  later = later c.result c.args.self.now c.new.self.now c.ensures.ok c.ensures.failed;
-  cause = cause c.result c.args.self.now c.new.self.now c.ensures.failed;
-  quiet = c.ensures.ok;
-}
+read-tells g c =
+    let old : FilesOfProcess = c.args.self.now in
+    let new : FilesOfProcess = c.new.self.now in
+    let ok = read_ok c.result old new c.ensures.ok in
+    let failed = read_failed c.result old new c.ensures.failed in record {
+      file = λ _. refl;
+      bound = c.ensures.bound;
+      gives = read_next c.result old new c.new.into.now c.ensures.nothing c.ensures.ok c.ensures.failed;
+      later = later c.result old.faults new.faults ok failed;
+      cause = cause c.result old.faults new.faults failed;
+      quiet = ok;
+    }

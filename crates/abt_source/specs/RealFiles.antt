@@ -1,0 +1,27 @@
+-- The files of the process.
+use Rattle.std.specs.Prelude.{ℕ, List, [], Bool, true, false, Option, Some, None}
+use Rattle.abt_source.specs.Source.{next_count}
+
+-- The files of the process, as contracts see them.
+pub record FilesOfProcess : Type 0 where
+  -- whether a file is begun
+  pub begun : Bool
+  -- how many calls failed
+  pub faults : ℕ
+
+-- what is left: nothing before a file is begun, and then what is not observable
+abbrev pub unread : Bool → Option (List ℕ)
+unread true = None
+unread false = Some []
+
+-- no file is begun, and so many calls failed
+abbrev pub none_begun : ℕ → FilesOfProcess
+none_begun faults = record { begun = false; faults = faults }
+
+-- a file is begun, and so many calls failed
+abbrev pub one_begun : ℕ → FilesOfProcess
+one_begun faults = record { begun = true; faults = faults }
+
+-- one failure more
+abbrev pub after_fault : FilesOfProcess → FilesOfProcess
+after_fault files = record files { faults = next_count files.faults }
