@@ -97,16 +97,16 @@ module _ (W : Parts) (Z : List OrderShape) (valid : IsValid W) (stored : OrdersS
 
   -- Clocks.
 
-  -- there are at most 8 logs of at most 2^57 events
-  few-events : sum_below W.streams (λ s. length (come.deeds s)) ≤ sum_below 8 (λ s. 2 ^ 57)
-  few-events = sum-below-le W.streams (2 ^ 57) (λ s. length (come.deeds s)) (λ s lt. few s) 8 few-streams where
+  -- there are at most 16 logs of at most 2^57 events
+  few-events : sum_below W.streams (λ s. length (come.deeds s)) ≤ sum_below 16 (λ s. 2 ^ 57)
+  few-events = sum-below-le W.streams (2 ^ 57) (λ s. length (come.deeds s)) (λ s lt. few s) 16 few-streams where
     few : (s : ℕ) → length (come.deeds s) ≤ 2 ^ 57
     few s =
         let a : length (m.logs s) ≤ 2 ^ 57 = come.few s in
         let b : length (m.logs s) ≡ length (come.deeds s) = ap length (sym (come.logs s)) ∙ length-map (come.deeds s) event_of in
         subst (λ k. k ≤ 2 ^ 57) b a
 
-    few-streams : W.streams ≤ 8
+    few-streams : W.streams ≤ 16
     few-streams = valid.few_streams
 
   pub come-clock-low : (clock : ℕ) → IsClock (machine_of W Z) come.deeds clock → clock < 2 ^ 62

@@ -63,6 +63,7 @@ solid-cause : (c : Cause) → IsSolid (cause_name c)
 solid-cause cause.Done = solid-by (codes "done") refl
 solid-cause cause.Asked = solid-by (codes "asked") refl
 solid-cause cause.Access = solid-by (codes "access") refl
+solid-cause cause.Own = solid-by (codes "own") refl
 
 -- each word of what happened is solid
 solid-what : (w : What) → HasShortNumbers w → AllByRecursion IsSolid (what_words w)

@@ -32,6 +32,7 @@ cause_of name =
     if bytes_eq name (codes "done") then Some cause.Done
     else if bytes_eq name (codes "asked") then Some cause.Asked
     else if bytes_eq name (codes "access") then Some cause.Access
+    else if bytes_eq name (codes "own") then Some cause.Own
     else None
 
 -- the code of that name

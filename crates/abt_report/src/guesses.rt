@@ -56,6 +56,8 @@ fn cause(word: &[u8]) -> Option<Cause>
         Some(Cause::Asked)
     } else if is(word, b"access") {
         Some(Cause::Access)
+    } else if is(word, b"own") {
+        Some(Cause::Own)
     } else {
         None
     }

@@ -10,7 +10,7 @@ ghost use Rattle.abt_report.specs.Pictures.{SaysWordsOf, unit_of, units_of};
 
 use crate::pictures::{Picture, Row};
 use crate::tallies::{Tally, tally_of};
-use crate::words::{name_of_cause, name_of_code};
+use crate::words::{name_of_code, name_of_end};
 use abt_lines::{end_line, push_decimal, push_word};
 use abt_machine::{Outcome, Piece, Shown, Want, Workload};
 use std::alloc::Global;
@@ -38,7 +38,7 @@ fn push_shown(out: &mut Vec<u8>, shown: Shown) -> Result<(), Want>
             push_word(out, b"object")?;
             push_decimal(out, u64::from(x.0))
         }
-        Shown::Ended(cause) => push_word(out, name_of_cause(cause)),
+        Shown::Ended(cause) => push_word(out, name_of_end(cause)),
     }
 }
 

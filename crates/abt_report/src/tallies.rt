@@ -64,7 +64,7 @@ impl Tally {
             Shown::Pool(_) => self.pool += 1,
             Shown::Stream(_) => self.stream += 1,
             Shown::Suspended | Shown::Join(_) | Shown::Object(_) => self.blocked += 1,
-            Shown::Ended(Cause::Done) => self.done += 1,
+            Shown::Ended(Cause::Done | Cause::Own) => self.done += 1,
             Shown::Ended(Cause::Asked) => self.asked += 1,
             Shown::Ended(Cause::Access) => self.access += 1,
         }

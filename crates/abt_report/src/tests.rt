@@ -17,13 +17,14 @@ const HI: &[What] = &[
 ];
 
 const OTHERS_TEXT: &str =
-    "1 0 take 3 7\n2 0 put 7 3\n3 0 end 7 asked\n4 0 end 7 access\n5 0 enter 7\n6 0 leave 7\n7 0 step 4294967295 4294967295 future-full\n";
+    "1 0 take 3 7\n2 0 put 7 3\n3 0 end 7 asked\n4 0 end 7 access\n5 0 end 7 own\n6 0 enter 7\n7 0 leave 7\n8 0 step 4294967295 4294967295 future-full\n";
 
 const OTHERS: &[What] = &[
     What::Take(PoolNo(3), UnitNo(7)),
     What::Put(UnitNo(7), PoolNo(3)),
     What::End(UnitNo(7), Cause::Asked),
     What::End(UnitNo(7), Cause::Access),
+    What::End(UnitNo(7), Cause::Own),
     What::Enter(UnitNo(7)),
     What::Leave(UnitNo(7)),
     What::Step(UnitNo(u32::MAX), u32::MAX, Code::FutureFull),

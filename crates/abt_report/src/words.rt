@@ -1,7 +1,7 @@
 //! The words of codes and causes.
 
 ghost use Rattle.std.specs.Prelude.{◌≡◌};
-ghost use Rattle.abt_machine.specs.Texts.{cause_name, code_name};
+ghost use Rattle.abt_machine.specs.Texts.{cause_name, code_name, ended_name};
 
 use abt_machine::{Cause, Code};
 
@@ -29,5 +29,18 @@ pub(crate) fn name_of_cause(cause: Cause) -> &'static [u8]
         Cause::Done => b"done",
         Cause::Asked => b"asked",
         Cause::Access => b"access",
+        Cause::Own => b"own",
+    }
+}
+
+/// How a report calls an end.
+pub(crate) fn name_of_end(cause: Cause) -> &'static [u8]
+    ensures { result.now ≡ ended_name cause }
+{
+    match cause {
+        Cause::Done => b"done",
+        Cause::Asked => b"asked",
+        Cause::Access => b"access",
+        Cause::Own => b"exited",
     }
 }

@@ -7,9 +7,9 @@ use Rattle.abt_machine.specs.declared.operations.Op.{Op}
 use Rattle.abt_machine.specs.declared.operations.Op.TheVariants as op
 use Rattle.abt_machine.specs.declared.workload.Parts.{Parts}
 use Rattle.abt_machine.specs.Acts.{Act, Answer, moved}
-use Rattle.abt_machine.specs.Plans.{Does, Effect, Plan, denied, effect_of, empties, keeps, plan_of, refusal}
+use Rattle.abt_machine.specs.Plans.{Does, Effect, Exits, Plan, denied, effect_of, empties, keeps, plan_of, refusal}
 use Rattle.abt_machine.specs.State.{Carried}
-use Rattle.abt_machine.specs.Turns.{Performs, stepped}
+use Rattle.abt_machine.specs.Turns.{Performs, exited, stepped}
 use Rattle.abt_machine.specs.Values.{Held, Owned}
 use Rattle.abt_machine.specs.Workloads.{op_at}
 use Rattle.abt_commons.specs.Replies.{Told}
@@ -23,10 +23,10 @@ use Rattle.abt_calls.proofs.Asked.{plans-may-call}
 use Rattle.abt_unit.specs.Local.{IsLocal, after_local, local_step_at, with_carried}
 use Rattle.abt_stream.specs.declared.turns.Turn.{Turn}
 use Rattle.abt_stream.specs.declared.turns.Turn.TheVariants as turn
-use Rattle.abt_stream.specs.Events.{OwnBy, StepsAlone, StepsBy, after_step, holding, step_of, wrote}
+use Rattle.abt_stream.specs.Events.{ExitBy, OwnBy, StepsAlone, StepsBy, after_step, holding, step_of, wrote}
 use Rattle.abt_stream.specs.Shapes.{IsAsked, IsCall}
 use Rattle.abt_stream.specs.Streams.{StreamValue}
-use Rattle.abt_stream.specs.Operated.{OpBy}
+use Rattle.abt_stream.specs.Operated.{CallsNothing, OpBy}
 
 module _ {P : Type 0} (moves : P → Site → ℕ → Act → Told → P → Type 0) (W : Parts) (old : StreamValue) (before : P) (a : Op) (new : StreamValue) (after : P) (o : Owned) where
   -- by itself
@@ -42,7 +42,7 @@ module _ {P : Type 0} (moves : P → Site → ℕ → Act → Told → P → Typ
         subst (λ (h : Held). new ≡ wrote (holding old h) (step_of o e.code) new.clock new.rooms) (sym held)
             (subst (λ n. new ≡ wrote (after_step old e) (step_of o e.code) n new.rooms) (sym clock) same),
       )
-  does e plan turn.Worn worn stays = (worn.1, inl (e, plan, worn.0, stays))
+  does e plan turn.Worn worn stays = (worn.1, inl (subst CallsNothing (sym plan) tt, worn.0, stays))
   does e plan turn.EmptyRound h stays = absurd h
   does e plan turn.Moved h stays = absurd h
   does e plan turn.Spent h stays = absurd h
@@ -72,6 +72,26 @@ module _ {P : Type 0} (moves : P → Site → ℕ → Act → Told → P → Typ
 
   pub op_yields : (t : Turn) → a ≡ op.Yield → StepsAlone old (empties (moved o ∷ [])) t new o → after ≡ before → OpBy moves W old before a t new after o
   op_yields t is h stays = does (empties (moved o ∷ [])) (ap (λ (b : Op). plan_of W old.number.0 b o) is) t h stays
+
+  pub op_exits : (t : Turn) → a ≡ op.Exit → ExitBy old t new o → after ≡ before → OpBy moves W old before a t new after o
+  op_exits turn.Stepped is same stays =
+      let plan : plan_of W old.number.0 a o ≡ Exits (moved o) = ap (λ (b : Op). plan_of W old.number.0 b o) is in
+      let held : new.held ≡ exited old.held (moved o) = ap (λ (s : StreamValue). s.held) same in
+      let clock : new.clock ≡ suc old.clock = ap (λ (s : StreamValue). s.clock) same in
+      let Q : Plan → Type 0 = λ p. Performs old.held a o p None code.Ok new.held in (
+        None,
+        code.Ok,
+        subst Q (sym plan) (refl, refl, held),
+        (clock, stays),
+        subst (λ (h : Held). new ≡ wrote (holding old h) (step_of o code.Ok) new.clock new.rooms) (sym held)
+            (subst (λ n. new ≡ wrote (holding old (exited old.held (moved o))) (step_of o code.Ok) n new.rooms) (sym clock) same),
+      )
+  op_exits turn.Worn is worn stays =
+      let plan : plan_of W old.number.0 a o ≡ Exits (moved o) = ap (λ (b : Op). plan_of W old.number.0 b o) is in
+      (worn.1, inl (subst CallsNothing (sym plan) tt, worn.0, stays))
+  op_exits turn.EmptyRound is h stays = absurd h
+  op_exits turn.Moved is h stays = absurd h
+  op_exits turn.Spent is h stays = absurd h
 
   -- what a local operation plans
   planned_local : (b : Op) (c : Carried) → after_local b o.carried ≡ Some c → plan_of W old.number.0 b o ≡ Does (keeps (with_carried o c) [])
@@ -143,4 +163,4 @@ asked_free says.Reset h = tt
 asked_free says.Test h = tt
 asked_free (says.Arrive unit) h = absurd h
 
-pub ruleset operations = (op_called, op_denied, op_yields, op_own, plan_may, own_local, asked_free)
+pub ruleset operations = (op_called, op_denied, op_yields, op_exits, op_own, plan_may, own_local, asked_free)

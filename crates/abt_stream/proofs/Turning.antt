@@ -1,6 +1,8 @@
 -- From what each kind of event makes of a stream to its turn.
 use Rattle.std.proofs.Common.{◌≡◌, ◌<◌, ◌++◌, ℕ, suc, false, List, [], ◌∷◌, Option, None, Some, option_map, inl, inr, refl, sym, ap, ◌∙◌, subst, arith}
 use Rattle.abt_machine.specs.declared.events.Cause.{Cause}
+use Rattle.abt_machine.specs.declared.events.Code.{Code}
+use Rattle.abt_machine.specs.declared.events.Code.TheVariants as code
 use Rattle.abt_machine.specs.declared.events.Site.{Site}
 use Rattle.abt_machine.specs.declared.events.Site.TheVariants as site
 use Rattle.abt_machine.specs.declared.events.What.{What}
@@ -18,8 +20,8 @@ use Rattle.abt_machine.specs.Frames.{entered, sched_of}
 use Rattle.abt_machine.specs.Next.{Due, EndDue, EnterDue, LookDue, PutDue, StepDue, due_by, due_of_unit}
 use Rattle.abt_machine.specs.Numbers.{pool_no, unit_no}
 use Rattle.abt_machine.specs.Outcomes.{steps_in}
-use Rattle.abt_machine.specs.Plans.{Plan, effect_of}
-use Rattle.abt_machine.specs.Turns.{Heard, Performs, Steps, due_of, looked, number_and_position, stepped}
+use Rattle.abt_machine.specs.Plans.{Calls, Does, Exits, Plan, effect_of, plan_of}
+use Rattle.abt_machine.specs.Turns.{Heard, Performs, Steps, due_of, exited, looked, number_and_position, stepped}
 use Rattle.abt_machine.specs.Values.{Held, Owned}
 use Rattle.abt_machine.specs.Workloads.{body_at, op_at}
 use Rattle.abt_commons.specs.Replies.{Told}
@@ -31,7 +33,7 @@ use Rattle.abt_stream.specs.Dues.{DueIs}
 use Rattle.abt_stream.specs.Events.{EndBy, EnterBy, IfFirst, IfHeld, LookBy, PutBy, step_of, wrote}
 use Rattle.abt_stream.specs.Streams.{FrameValue, StreamValue}
 use Rattle.abt_stream.specs.Keeping.{Keeps}
-use Rattle.abt_stream.specs.Operated.{OpBy}
+use Rattle.abt_stream.specs.Operated.{CallsNothing, OpBy}
 use Rattle.abt_stream.specs.Turned.{IsSpent, Made, Turned, Went}
 use Rattle.abt_stream.proofs.Kept.{keeps_entered, keeps_holding, keeps_same}
 
@@ -63,6 +65,12 @@ module _ (W : Parts) (s : ℕ) (held : Held) (d : HandDue) (tray : held.tray ≡
   pub step_op : (hand : Option Owned) (a : Op) → IfHeld hand (λ o. DueIs W s held.own.mark o d) → d ≡ hands.Step a → IfHeld hand (λ o. op_at W o.number o.carried.position ≡ Some a)
   step_op None a h e = absurd h
   step_op (Some o) a h e = (subst (λ (x : HandDue). DueIs W s held.own.mark o x) e h).1
+
+-- what is planned without a call is performed so
+performs-alone : (old : Held) (a : Op) (o : Owned) (plan : Plan) → CallsNothing plan → (c : Code) × (new : Held) × Performs old a o plan None c new
+performs-alone old a o (Does e) h = (e.code, stepped old e, (refl, refl, refl))
+performs-alone old a o (Calls x asked) h = absurd h
+performs-alone old a o (Exits b) h = (code.Ok, exited old b, (refl, refl, refl))
 
 module _ {P : Type 0} (moves : P → Site → ℕ → Act → Told → P → Type 0) (W : Parts) (old : StreamValue) (before : P) (new : StreamValue) (after : P) where
   -- an event that was written
@@ -145,8 +153,8 @@ module _ {P : Type 0} (moves : P → Site → ℕ → Act → Told → P → Typ
     step_turned (Some o) a turn.Stepped is few due at h =
         (unit_no o.number, o.carried.position, h.1, holding-made new.held (step_of o h.1) h.0 Z h.4 (due, o, is, refl, refl, a, at, h.2) h.3, few)
     step_turned (Some o) a turn.Worn is few due at (same, inl h) =
-        let Q : Plan → Type 0 = λ p. Performs old.held a o p None h.0.code (stepped old.held h.0) in
-        (same, inl ((step_of o h.0.code, stepped old.held h.0, (due, o, is, refl, refl, a, at, subst Q (sym h.1) (refl, refl, refl))), h.2, h.3), unspent few)
+        let p = performs-alone old.held a o (plan_of W old.number.0 a o) h.0 in
+        (same, inl ((step_of o p.0, p.1, (due, o, is, refl, refl, a, at, p.2)), h.1, h.2), unspent few)
     step_turned (Some o) a turn.Worn is few due at (same, inr h) =
         let e = effect_of a o act.Rested in
         let Q : Plan → Type 0 = λ p. Performs old.held a o p (Some (h.0, h.1, act.Rested)) e.code (stepped old.held e) in

@@ -2,6 +2,7 @@
 use Rattle.std.specs.Prelude.{ℕ, suc, ◌≡◌, ◌≢◌, ◌<◌, ◌-◌, ◌^◌, ◌⊎◌, Bool, true, false, List, [], ◌∷◌, ◌++◌, length, Option, Some, None}
 use Rattle.abt_machine.specs.declared.events.Cause.{Cause}
 use Rattle.abt_machine.specs.declared.events.Code.{Code}
+use Rattle.abt_machine.specs.declared.events.Code.TheVariants as code
 use Rattle.abt_machine.specs.declared.events.Site.{Site}
 use Rattle.abt_machine.specs.declared.events.Site.TheVariants as site
 use Rattle.abt_machine.specs.declared.events.What.{What}
@@ -17,7 +18,7 @@ use Rattle.abt_machine.specs.Outcomes.{steps_in}
 use Rattle.abt_machine.specs.Plans.{Effect, keeps}
 use Rattle.abt_machine.specs.State.{Frame, Stream}
 use Rattle.abt_order.specs.Schedulers.{IsSchedulerOf}
-use Rattle.abt_machine.specs.Turns.{looked, stepped}
+use Rattle.abt_machine.specs.Turns.{exited, looked, stepped}
 use Rattle.abt_machine.specs.Values.{Held, Owned}
 use Rattle.abt_unit.specs.Local.{local_step}
 use Rattle.abt_commons.specs.Replies.{Told, Done, Worn}
@@ -85,6 +86,12 @@ abbrev pub StepsAlone : StreamValue → Effect → Turn → StreamValue → Owne
 StepsAlone old e turn.Stepped new o = new ≡ wrote (after_step old e) (step_of o e.code) (suc old.clock) new.rooms
 StepsAlone old e turn.Worn new o = (old.clock ≡ 2 ^ 62) × (new ≡ old)
 StepsAlone old e t new o = ⊥
+
+-- a step by which the unit in hand ends itself
+abbrev pub ExitBy : StreamValue → Turn → StreamValue → Owned → Type 0
+ExitBy old turn.Stepped new o = new ≡ wrote (holding old (exited old.held (moved o))) (step_of o code.Ok) (suc old.clock) new.rooms
+ExitBy old turn.Worn new o = (old.clock ≡ 2 ^ 62) × (new ≡ old)
+ExitBy old t new o = ⊥
 
 -- a step with a call of this act, whose answer brings so much
 abbrev pub StepsBy : {P : Type 0} → (P → Site → ℕ → Act → Told → P → Type 0) → StreamValue → P → Site → Act → (Answer → Effect) → Turn → StreamValue → P → Owned → Type 0

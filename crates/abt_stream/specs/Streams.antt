@@ -8,7 +8,7 @@ use Rattle.abt_machine.specs.declared.numbers.StreamNo.{StreamNo}
 use Rattle.abt_machine.specs.declared.operations.OrderShape.{OrderShape}
 use Rattle.abt_machine.specs.declared.workload.Parts.{Parts}
 use Rattle.abt_machine.specs.Rounds.{IsOrder}
-use Rattle.abt_machine.specs.State.{Frame, Mark, Plain, Asked, Left, Stream}
+use Rattle.abt_machine.specs.State.{Frame, Mark, Plain, Asked, Left, Exited, Stream}
 use Rattle.abt_machine.specs.Values.{Held, Owned}
 use Rattle.abt_machine.specs.Workloads.{pools_of}
 use Rattle.abt_calls.specs.Holders.{units_of}
@@ -52,6 +52,7 @@ abbrev pub mark_of : Marking → Mark
 mark_of marking.Plain = Plain
 mark_of marking.Asked = Asked
 mark_of marking.Left = Left
+mark_of marking.Exited = Exited
 
 abbrev pub owned : Box UnitValue Global → Owned
 owned unit = unit.value.owned

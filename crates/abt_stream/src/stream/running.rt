@@ -74,6 +74,7 @@ impl Stream {
                 Marking::Asked => HandDue::End(Cause::Asked),
                 Marking::Plain => dues::plain(w, self.number, unit),
                 Marking::Left => dues::left(w, unit),
+                Marking::Exited => HandDue::End(Cause::Own),
             },
             _ => unreachable!(),
         }
@@ -233,6 +234,7 @@ impl Stream {
             Work::Running(_) => match plan {
                 Plan::Own => self.own(w),
                 Plan::Yield => self.yields(),
+                Plan::Exit => self.exits(),
                 Plan::Deny => self.deny(),
                 Plan::Ask(site, act) => self.ask(commons, pass, site, act),
                 Plan::Give(site, giving) => self.give(commons, pass, site, giving),

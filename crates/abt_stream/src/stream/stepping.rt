@@ -12,12 +12,12 @@ ghost use Rattle.abt_stream.specs.Hearing.{IsForCaller, IsForYielder};
 ghost use Rattle.abt_unit.specs.Units.{IsFree};
 ghost use Rattle.abt_unit.specs.Fits.{Fits};
 ghost use Rattle.abt_unit.specs.Local.{IsLocal, back};
-ghost use Rattle.abt_stream.specs.Events.{IfHeld, CanStep, OwnBy, StepsAlone, StepsBy, after_step, step_of, wrote};
+ghost use Rattle.abt_stream.specs.Events.{IfHeld, CanStep, ExitBy, OwnBy, StepsAlone, StepsBy, after_step, step_of, wrote};
 ghost use Rattle.abt_stream.specs.Shapes.{IsAsked, given};
 
 use super::{LAST, Stream};
 use crate::hearing;
-use crate::parts::Work;
+use crate::parts::{Marking, Work};
 use crate::plans::{Giving, name};
 use crate::turns::Turn;
 use abt_commons::{Act, Answer, Commons, Reply};
@@ -63,6 +63,28 @@ impl Stream {
                 let at = unit.position();
                 unit.advance();
                 self.tray.push_back(unit);
+                self.write_step(self.clock + 1, number, at, Code::Ok);
+                Turn::Stepped
+            }
+            _ => unreachable!(),
+        }
+    }
+
+    // The unit in hand ends itself: it stays there, to be ended.
+    pub(super) fn exits(&mut self) -> Turn
+        requires can { CanStep self.old }
+        ensures { IfHeld self.old.held.hand (ExitBy self.old result self.new) }
+    {
+        if self.clock == LAST {
+            return Turn::Worn;
+        }
+        match mem::replace(&mut self.work, Work::Idle) {
+            Work::Running(mut unit) => {
+                let number = name(&unit);
+                let at = unit.position();
+                unit.advance();
+                self.work = Work::Running(unit);
+                self.mark = Marking::Exited;
                 self.write_step(self.clock + 1, number, at, Code::Ok);
                 Turn::Stepped
             }
