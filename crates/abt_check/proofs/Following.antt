@@ -17,7 +17,7 @@ use Rattle.abt_machine.specs.Gives.{SiteGives}
 use Rattle.abt_machine.specs.Lines.{InHand, InNext, InTray, Line, standing}
 use Rattle.abt_machine.specs.Next.{RoundDue, due}
 use Rattle.abt_machine.specs.Numbers.{stream_no}
-use Rattle.abt_machine.specs.Plans.{Calls, Does, Plan, plan_of}
+use Rattle.abt_machine.specs.Plans.{Calls, Does, Exits, Plan, plan_of}
 use Rattle.abt_machine.specs.Queues.{first}
 use Rattle.abt_machine.specs.Rounds.{IsNextPool, OrdersStored}
 use Rattle.abt_machine.specs.Sound.{Sound}
@@ -88,6 +88,7 @@ lane-is W S s replay lane l stands is = is ∙ numbered_at (part_of W S) W.strea
 
 called-by : (old : Held) (a : Op) (o : Owned) (plan : Plan) (heard : Option Heard) (c : Code) (new : Held) (x : Site) → Performs old a o plan heard c new → site_heard heard ≡ Some x → (asked : Act) × (plan ≡ Calls x asked)
 called-by old a o (Does e) heard c new x st is = absurd (none≢some (ap site_heard (sym st.0) ∙ is))
+called-by old a o (Exits b) heard c new x st is = absurd (none≢some (ap site_heard (sym st.0) ∙ is))
 called-by old a o (Calls y asked) heard c new x st is = (asked, ap (λ z. Calls z asked) (some-injective (ap site_heard (sym st.1) ∙ is)))
 
 -- a stream calls declared sites alone

@@ -19,7 +19,7 @@ use Rattle.abt_machine.specs.Next.{Due, EndDue, EnterDue, LeaveDue, LookDue, Put
 use Rattle.abt_machine.specs.Numbers.{pool_no, unit_no}
 use Rattle.abt_machine.specs.Queues.{first}
 use Rattle.abt_machine.specs.Rounds.{IsNextPool}
-use Rattle.abt_machine.specs.State.{Asked, Frame, Left, Mark, Plain}
+use Rattle.abt_machine.specs.State.{Asked, Exited, Frame, Left, Mark, Plain}
 use Rattle.abt_machine.specs.Turns.{Heard, Steps, due_of, looked, number_and_position, side_of}
 use Rattle.abt_machine.specs.Values.{Held, Object, Owned}
 use Rattle.abt_machine.specs.Valid.{IsScheduler, IsValid}
@@ -67,6 +67,7 @@ no-round-of-sched false e = cc
 
 no-round-of-unit : (W : Parts) (s : ℕ) (m : Mark) (b : Body) (k : ℕ) → due_of_unit W s m b k ≡ RoundDue → ⊥
 no-round-of-unit W s Asked b k e = cc
+no-round-of-unit W s Exited b k e = cc
 no-round-of-unit W s Plain (body.Sched g) k e = no-round-of-sched (may_take_all W s g.0) e
 no-round-of-unit W s Left (body.Sched g) k e = cc
 no-round-of-unit W s Plain (body.Ult ops) k e = no-round-of-ops (nat_lt k (length ops)) e

@@ -9,7 +9,7 @@ use Rattle.abt_machine.specs.declared.operations.Op.{Op}
 use Rattle.abt_machine.specs.declared.operations.OrderShape.{OrderShape}
 use Rattle.abt_machine.specs.declared.workload.Parts.{Parts}
 use Rattle.abt_machine.specs.Frames.{frame_at, left_to, round_missed}
-use Rattle.abt_machine.specs.Plans.{Calls, Does, Plan, plan_of}
+use Rattle.abt_machine.specs.Plans.{Calls, Does, Exits, Plan, plan_of}
 use Rattle.abt_machine.specs.State.{Frame, Stream}
 use Rattle.abt_machine.specs.Turns.{Heard, Performs, Steps, looked}
 use Rattle.abt_machine.specs.Values.{Held, Owned}
@@ -45,6 +45,7 @@ looked-begun n old o false (Some p) h = begun n old.own h
 performed-begun : (n : ℕ) (old : Held) (a : Op) (o : Owned) (plan : Plan) (heard : Option Heard) (c : Code) (new : Held) → Performs old a o plan heard c new → HasBegun n old.own → HasBegun (suc n) new.own
 performed-begun n old a o (Does e) heard c new st h = subst (λ (held : Held). HasBegun (suc n) held.own) (sym st.2) (begun n old.own h)
 performed-begun n old a o (Calls x asked) heard c new st h = subst (λ (held : Held). HasBegun (suc n) held.own) (sym st.3) (begun n old.own h)
+performed-begun n old a o (Exits b) heard c new st h = subst (λ (held : Held). HasBegun (suc n) held.own) (sym st.2) (begun n old.own h)
 
 -- an event begins one round at most
 pub steps-begun : (W : Parts) (Z : List OrderShape) (n s : ℕ) (old : Held) (w : What) (heard : Option Heard) (new : Held) → Steps W Z s old w heard new → HasBegun n old.own → HasBegun (suc n) new.own

@@ -19,7 +19,7 @@ use Rattle.abt_machine.specs.Valid.{IsValid}
 use Rattle.abt_machine.specs.Values.{Owned, barrier_at, conditions_of, eventual_at, future_at, monitor_at, object_of, waiters_at}
 use Rattle.abt_machine.specs.Acts.{Act, moved}
 use Rattle.abt_machine.specs.Acts as act
-use Rattle.abt_machine.specs.Plans.{Plan, Does, Calls, denied, plan_of}
+use Rattle.abt_machine.specs.Plans.{Plan, Does, Calls, Exits, denied, plan_of}
 use Rattle.abt_laws.proofs.Declared.{mutex-declared}
 use Rattle.abt_calls.specs.Allowed.{Allows, DeskAllows, MonitorAllows, EventualAllows, BarrierAllows}
 use Rattle.abt_calls.specs.Asking.{IsSite}
@@ -59,6 +59,7 @@ condition-call W x asked valid is allowed = monitor-call W (object_no (mutex_of 
 abbrev MayPlan : Parts → Plan → Type 0
 MayPlan W (Does e) = Unit {0}
 MayPlan W (Calls x asked) = MayAsk W x asked
+MayPlan W (Exits b) = Unit {0}
 
 granted : (W : Parts) (may : Bool) (x : Site) (asked : Act) (o : Owned) → MayAsk W x asked → MayPlan W (if may then Calls x asked else denied o)
 granted W true x asked o call = call
@@ -75,6 +76,7 @@ plan-may W s op.Yield o valid number is = tt
 plan-may W s (op.YieldTo v p) o valid number is =
     granted W (may_take W s p.0) (site.Pool p) (act.Remove v.0) o (record { site = is.1; allowed = λ S. tt })
 plan-may W s op.Suspend o valid number is = desk-call W (unit_no o.number) (act.Suspend (moved o)) number tt
+plan-may W s op.Exit o valid number is = tt
 plan-may W s (op.Resume v) o valid number is = desk-call W v act.Resume is tt
 plan-may W s (op.Create v p) o valid number is =
     granted W (may_put W s p.0) (site.Desk v) (act.Create p.0) o (desk-call W v (act.Create p.0) is.0 tt)

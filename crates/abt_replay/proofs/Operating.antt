@@ -15,7 +15,7 @@ use Rattle.abt_machine.specs.Acts.{Act, Answer, moved}
 use Rattle.abt_machine.specs.Acts as asks
 use Rattle.abt_machine.specs.Operations.{IsDeclared}
 use Rattle.abt_machine.specs.Plans as plans
-use Rattle.abt_machine.specs.Plans.{Calls, Does, Effect, denied, effect_of, empties, keeps, plan_of, refusal, to_caller, to_condition, to_giver, to_yielder}
+use Rattle.abt_machine.specs.Plans.{Calls, Does, Effect, Exits, denied, effect_of, empties, keeps, plan_of, refusal, to_caller, to_condition, to_giver, to_yielder}
 use Rattle.abt_machine.specs.State.{Carried}
 use Rattle.abt_machine.specs.Turns.{Performs, stepped}
 use Rattle.abt_machine.specs.Valid.{IsValid}
@@ -28,7 +28,7 @@ use Rattle.abt_replay.specs.declared.acts.Act as code_acts
 use Rattle.abt_replay.specs.declared.plans.Giving.{Giving}
 use Rattle.abt_replay.specs.declared.plans.Plan.{Plan}
 use Rattle.abt_replay.specs.declared.plans.Plan.TheVariants as plan
-use Rattle.abt_replay.specs.Events.{Alone, AreObjects, Asked, Operated, OwnStep}
+use Rattle.abt_replay.specs.Events.{Alone, AreObjects, Asked, Operated, OwnExit, OwnStep}
 use Rattle.abt_replay.specs.Objects.{ObjectsValue, object_at}
 use Rattle.abt_replay.specs.Shapes.{IsAsked, IsCall, IsPlan, given}
 use Rattle.abt_replay.proofs.Asking.{may-ask}
@@ -109,6 +109,12 @@ module _ (W : Parts) (s : ℕ) (a : Op) (o : Owned) (old : Held) (before : Objec
     pub yield_made : p ≡ plan.Yield → Alone (empties (moved o ∷ [])) old c new → after ≡ before → Operated W s a o old before c new after
     yield_made is h stays = does (empties (moved o ∷ [])) (ap (λ (b : Op). plan_of W s b o) (subst (IsPlan W s a o) is planned)) h stays
 
+    pub exit_made : p ≡ plan.Exit → OwnExit o old c new → after ≡ before → Operated W s a o old before c new after
+    exit_made is h stays =
+        let does_so : plan_of W s a o ≡ Exits (moved o) = ap (λ (b : Op). plan_of W s b o) (subst (IsPlan W s a o) is planned) in
+        let Q : plans.Plan → Type 0 = λ q. Performs old a o q None c new in
+        (None, subst Q (sym does_so) (refl, h.0, h.1), stays)
+
     pub deny_made : p ≡ plan.Deny → Alone (refusal o code.PoolAccess) old c new → after ≡ before → Operated W s a o old before c new after
     deny_made is h stays = does (refusal o code.PoolAccess) (subst (IsPlan W s a o) is planned) h stays
 
@@ -124,4 +130,4 @@ module _ (W : Parts) (s : ℕ) (a : Op) (o : Owned) (old : Held) (before : Objec
     pub yield_to_made : (x : Site) (v : UnitNo) → p ≡ plan.YieldTo x v → Asked x (asks.Remove v.0) (to_yielder o) old before c new after → Operated W s a o old before c new after
     yield_to_made x v is h = calls x (asks.Remove v.0) (to_yielder o) (subst (IsPlan W s a o) is planned) h
 
-pub ruleset operations = (position_below, op_is_declared, own_local, ask_asked, ask_allowed, give_allowed, wait_allowed, yield_allowed, own_made, yield_made, deny_made, ask_made, give_made, wait_made, yield_to_made)
+pub ruleset operations = (position_below, op_is_declared, own_local, ask_asked, ask_allowed, give_allowed, wait_allowed, yield_allowed, own_made, yield_made, exit_made, deny_made, ask_made, give_made, wait_made, yield_to_made)

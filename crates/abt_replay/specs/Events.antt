@@ -2,6 +2,7 @@
 use Rattle.std.specs.Prelude.{ℕ, ◌≡◌, ◌++◌, Bool, List, [], ◌∷◌, Option, Some, None, option_map}
 use Rattle.abt_machine.specs.declared.events.Cause.{Cause}
 use Rattle.abt_machine.specs.declared.events.Code.{Code}
+use Rattle.abt_machine.specs.declared.events.Code.TheVariants as code
 use Rattle.abt_machine.specs.declared.events.Site.{Site}
 use Rattle.abt_machine.specs.declared.events.Site.TheVariants as site
 use Rattle.abt_machine.specs.declared.events.What.{What}
@@ -10,13 +11,13 @@ use Rattle.abt_machine.specs.declared.numbers.PoolNo.{PoolNo}
 use Rattle.abt_machine.specs.declared.operations.Op.{Op}
 use Rattle.abt_machine.specs.declared.operations.OrderShape.{OrderShape}
 use Rattle.abt_machine.specs.declared.workload.Parts.{Parts}
-use Rattle.abt_machine.specs.Acts.{Act, Answer}
+use Rattle.abt_machine.specs.Acts.{Act, Answer, moved}
 use Rattle.abt_machine.specs.Acts as act
 use Rattle.abt_machine.specs.Frames.{entered, left, round_missed, round_taken}
 use Rattle.abt_machine.specs.Numbers.{pool_no, unit_no}
 use Rattle.abt_machine.specs.Plans.{Effect, keeps, plan_of}
 use Rattle.abt_machine.specs.State.{State}
-use Rattle.abt_machine.specs.Turns.{Heard, Performs, Steps, looked, side_of, stepped}
+use Rattle.abt_machine.specs.Turns.{Heard, Performs, Steps, exited, looked, side_of, stepped}
 use Rattle.abt_machine.specs.Values.{Held, Owned, object_of}
 use Rattle.abt_calls.specs.Asking.{IsSite}
 use Rattle.abt_unit.specs.Local.{after_local, with_carried}
@@ -67,6 +68,10 @@ Alone e old c new = (c ≡ e.code) × (new ≡ stepped old e)
 -- a local operation
 abbrev pub OwnStep : Op → Owned → Held → Code → Held → Type 0
 OwnStep a o old c new = (b : Owned) × (option_map (with_carried o) (after_local a o.carried) ≡ Some b) × Alone (keeps b []) old c new
+
+-- a step by which unit o ends itself
+abbrev pub OwnExit : Owned → Held → Code → Held → Type 0
+OwnExit o old c new = (c ≡ code.Ok) × (new ≡ exited old (moved o))
 
 -- a step with a call of this act, whose answer brings so much
 abbrev pub Asked : Site → Act → (Answer → Effect) → Held → ObjectsValue → Code → Held → ObjectsValue → Type 0

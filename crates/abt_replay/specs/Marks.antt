@@ -7,3 +7,4 @@ abbrev pub mark_of : Mark → state.Mark
 mark_of mark.Plain = state.Plain
 mark_of mark.Asked = state.Asked
 mark_of mark.Left = state.Left
+mark_of mark.Exited = state.Exited

@@ -61,6 +61,7 @@ pub record IsCall (W : Parts) (s : ℕ) (a : Op) (o : Owned) (x : Site) (act : A
 abbrev pub IsPlan : Parts → ℕ → Op → Owned → Plan → Type 0
 IsPlan W s a o plan.Own = IsSome (after_local a o.carried)
 IsPlan W s a o plan.Yield = a ≡ op.Yield
+IsPlan W s a o plan.Exit = a ≡ op.Exit
 IsPlan W s a o plan.Deny = plan_of W s a o ≡ denied o
 IsPlan W s a o (plan.Ask x act) = IsCall W s a o x (act_of act) (to_caller o) × IsAsked (act_of act)
 IsPlan W s a o (plan.Give x g) = IsCall W s a o x (given g (moved o)) to_giver

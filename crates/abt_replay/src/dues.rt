@@ -32,6 +32,7 @@ pub(crate) fn hand_due(w: &Workload, s: StreamNo, mark: Mark, unit: &Unit) -> Ha
         Mark::Asked => HandDue::End(Cause::Asked),
         Mark::Plain => plain(w, s, unit),
         Mark::Left => left(w, unit),
+        Mark::Exited => HandDue::End(Cause::Own),
     }
 }
 

@@ -25,12 +25,13 @@ pub(crate) enum Giving {
     Arrive,
 }
 
-/// What an operation asks of the stream: a local step, a yield, a refusal without a call, a call by a unit that stays in the
-/// hand, a call that takes the unit with it, a wait at a condition, or a yield to another unit.
+/// What an operation asks of the stream: a local step, a yield, an exit, a refusal without a call, a call by a unit that stays
+/// in the hand, a call that takes the unit with it, a wait at a condition, or a yield to another unit.
 #[derive(Drop)]
 pub(crate) enum Plan {
     Own,
     Yield,
+    Exit,
     Deny,
     Ask(Site, Act),
     Give(Site, Giving),
@@ -110,6 +111,7 @@ pub(crate) fn planned(w: &Workload, s: StreamNo, op: Op, unit: &Unit) -> Plan
             }
         }
         Op::Suspend => Plan::Give(Site::Desk(name(unit)), Giving::Suspend),
+        Op::Exit => Plan::Exit,
         Op::Resume(v) => Plan::Ask(Site::Desk(v), Act::Resume),
         Op::Create(v, p) => {
             if w.may_put(s, p) {

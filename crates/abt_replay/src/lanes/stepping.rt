@@ -3,7 +3,7 @@
 ghost use Rattle.std.specs.Prelude.{◌≡◌, ◌<◌, ◌-◌, ◌^◌, IfOk, IsSome, None, Some, [], ◌∷◌, length};
 ghost use Rattle.abt_calls.specs.Allowed.{Allows};
 ghost use Rattle.abt_replay.specs.Acts.{act_of};
-ghost use Rattle.abt_replay.specs.Events.{Alone, AreObjects, Asked, Operated, OwnStep};
+ghost use Rattle.abt_replay.specs.Events.{Alone, AreObjects, Asked, Operated, OwnExit, OwnStep};
 ghost use Rattle.abt_replay.specs.Objects.{object_at};
 ghost use Rattle.abt_replay.specs.Shapes.{IsAsked, given};
 ghost use Rattle.abt_machine.specs.declared.events.Code.TheVariants as code;
@@ -17,6 +17,7 @@ ghost use Rattle.abt_unit.specs.Local.{after_local};
 use super::Lane;
 use crate::acts::{Act, Answer};
 use crate::hearing;
+use crate::marks::Mark;
 use crate::objects::Objects;
 use crate::plans::{Giving, Plan, planned};
 use crate::unit::Unit;
@@ -45,6 +46,7 @@ impl Lane {
         match planned(w, s, op, &unit) {
             Plan::Own => self.own(op, unit),
             Plan::Yield => self.yields(unit),
+            Plan::Exit => Ok(self.exits(unit)),
             Plan::Deny => self.deny(unit),
             Plan::Ask(site, act) => self.ask(objects, site, act, unit),
             Plan::Give(site, giving) => self.give(objects, site, giving, unit),
@@ -75,6 +77,18 @@ impl Lane {
         unit.advance();
         self.tray.push_back(unit)?;
         Ok(Code::Ok)
+    }
+
+    // The unit ends itself: it stays in the hand, to be ended.
+    fn exits(&mut self, mut unit: Unit) -> Code
+        requires position { unit.carried.position < 2 ^ 32 - 1 }
+        requires next { self.old.next ≡ None }
+        ensures { OwnExit unit self.old result self.new }
+    {
+        unit.advance();
+        self.hand = Some(unit);
+        self.mark = Mark::Exited;
+        Code::Ok
     }
 
     // The unit names a pool that the stream may not reach.

@@ -1,4 +1,5 @@
-use Rattle.std.proofs.Common.{sym}
+use Rattle.abt_laws.proofs.Options.{some-injective}
+use Rattle.std.proofs.Common.{◌≡◌, ◌∙◌, ℕ, sym}
 use Rattle.abt_machine.specs.Rounds.{IsNextPool}
 use Rattle.abt_machine.specs.State.{Frame}
 use Rattle.std.proofs.Common.{subst}
@@ -18,6 +19,17 @@ pub visit-requires-clause-allowed : goal.visit-requires-clause-allowed
 visit-requires-clause-allowed c =
     let next : IsNextPool c.args.w.now c.args.z.now c.args.lane.now.own.top c.in-Some.p.0 = subst (λ (f : Frame). IsNextPool c.args.w.now c.args.z.now f c.in-Some.p.0) c.top.ensures (c.may_visit.ensures.0 c.if-not-may_visit.false) in
     take_allowed c.args.w.now c.args.objects.now c.args.s.0 c.in-Some.p c.requires.objects (next-declared c.args.w.now c.args.z.now c.args.lane.now.own.top c.in-Some.p.0 c.requires.valid next)
+
+-- a pool that `named` visits is that pool, which may not be next
+pub returns-then-not-may_visit : goal.returns-then-not-may_visit
+returns-then-not-may_visit c = (
+  c.requires.due,
+  λ p is next.
+      let same : p ≡ c.in-Some.p.0 = some-injective (sym is ∙ sym c.in-Some.ensures) in
+      let here : IsNextPool c.args.w.now c.args.z.now c.args.lane.now.own.top c.in-Some.p.0 = subst (λ (q : ℕ). IsNextPool c.args.w.now c.args.z.now c.args.lane.now.own.top q) same next in
+      let yes = c.may_visit.ensures.1 (subst (λ (f : Frame). IsNextPool c.args.w.now c.args.z.now f c.in-Some.p.0) (sym c.top.ensures) here) in
+      absurd (let no = c.if-not-may_visit.true in cc),
+)
 
 pub returns : goal.returns
 returns c =
