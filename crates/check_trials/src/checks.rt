@@ -37,7 +37,10 @@ const TWO_STREAMS: &str =
 const THREE_POOLS: &str =
     "abt 1\nstreams 1\npool 0 fifo mpmc\npool 1 fifo mpmc\npool 2 fifo mpmc\nsched 0 user 0 0 1 2\nstream 0 main 0\nunits 0\nend\n";
 
-const ROWS: [Row; 19] = [
+const EXIT: &str =
+    "abt 1\nstreams 1\npool 0 fifo mpmc\nsched 0 prio 0\nstream 0 main 0\nunits 2\nunit 0 ult at 0\nsay a\nexit\nsay b\nunit 1 ult at 0\nsay c\nend\n";
+
+const ROWS: [Row; 24] = [
     (
         HI,
         "1 0 take 0 0\n2 0 look 0\n3 0 step 0 0 ok\n4 0 end 0 done\n5 0 miss 0\n",
@@ -105,6 +108,31 @@ const ROWS: [Row; 19] = [
         Verdict::Bad { at: 3 },
     ),
     (THREE_POOLS, "1 0 miss 1\n", Verdict::Bad { at: 0 }),
+    (
+        EXIT,
+        "1 0 take 0 0\n2 0 look 0\n3 0 step 0 0 ok\n4 0 step 0 1 ok\n5 0 end 0 own\n6 0 take 0 1\n7 0 look 1\n8 0 step 1 0 ok\n9 0 end 1 done\n10 0 miss 0\n",
+        RUN,
+    ),
+    (
+        EXIT,
+        "1 0 take 0 0\n2 0 look 0\n3 0 step 0 0 ok\n4 0 step 0 1 ok\n5 0 end 0 done\n",
+        Verdict::Bad { at: 4 },
+    ),
+    (
+        EXIT,
+        "1 0 take 0 0\n2 0 look 0\n3 0 step 0 0 ok\n4 0 step 0 1 ok\n5 0 step 0 2 ok\n",
+        Verdict::Bad { at: 4 },
+    ),
+    (
+        EXIT,
+        "1 0 take 0 0\n2 0 look 0\n3 0 step 0 0 ok\n4 0 end 0 own\n",
+        Verdict::Bad { at: 3 },
+    ),
+    (
+        EXIT,
+        "1 0 take 0 0\n2 0 look 0\n3 0 step 0 0 ok\n4 0 step 0 1 ok\n5 0 end 0 own\n6 0 take 0 1\n7 0 look 1\n8 0 end 1 own\n",
+        Verdict::Bad { at: 7 },
+    ),
 ];
 
 // The same where both stored orders are free.
@@ -127,7 +155,7 @@ const FREE_ROWS: [Row; 3] = [
 ];
 
 // The answer of shape Rotate. A value may be made of a function of this crate alone.
-fn turn(round: u64, n: u32, i: u32) -> u32
+pub(crate) fn turn(round: u64, n: u32, i: u32) -> u32
     requires count { (0 < n) × (n ≤ 8) }
     requires place { i < n }
     ensures { result ≡ (round + i) % n }
@@ -136,7 +164,7 @@ fn turn(round: u64, n: u32, i: u32) -> u32
 }
 
 // The answer of shape Mirror.
-fn turn_round(round: u64, n: u32, i: u32) -> u32
+pub(crate) fn turn_round(round: u64, n: u32, i: u32) -> u32
     requires count { (0 < n) × (n ≤ 8) }
     requires place { i < n }
     ensures { result ≡ n - 1 - i }
