@@ -42,6 +42,7 @@ module _ (W : Parts) (Found : ℕ → ℕ → Type 0) (old m : Memory) (says : S
   led (op.BarWait x) declared is = same-output W old m (ap (λ (x : Memory). x.output) is) says
   led (op.YieldTo v p) declared is = absurd is
   led op.Suspend declared is = absurd is
+  led op.Exit declared is = absurd is
   led (op.Resume v) declared is = absurd is
   led (op.Cancel v) declared is = absurd is
   led (op.Migrate v p) declared is = absurd is

@@ -1,5 +1,5 @@
 -- What was read of a file, from what was read of its first bytes.
-use Rattle.std.proofs.Common.{◌≡◌, ◌<◌, ◌≤◌, ◌+◌, ◌^◌, ℕ, zero, suc, List, [], ◌∷◌, length, take, Option, Some, None, min, arith, refl, sym, ap, subst, ◌∙◌, inl, inr}
+use Rattle.std.proofs.Common.{◌≡◌, ◌<◌, ◌≤◌, ◌+◌, ◌^◌, ℕ, zero, suc, List, [], ◌∷◌, length, take, Option, Some, None, min, arith, lit≤, refl, sym, ap, subst, ◌∙◌, inl, inr}
 use Rattle.std.specs.Prelude.{IfSome}
 use Rattle.std.specs.List.{All, AllByRecursion}
 use Rattle.std.proofs.lemmas.Bool.{cases_lt, lt-ltb}
@@ -8,10 +8,14 @@ use Rattle.std.proofs.lemmas.List.Elements.{All-head, All-tail}
 use Rattle.abt_machine.specs.declared.events.Event.{Event}
 use Rattle.abt_machine.specs.declared.events.What.{What}
 use Rattle.abt_machine.specs.declared.events.What.TheVariants as what
+use Rattle.abt_machine.specs.declared.grammar.Format.{Format}
+use Rattle.abt_machine.specs.declared.grammar.Format.TheVariants as format
 use Rattle.abt_machine.specs.declared.program.Fault.{Fault}
 use Rattle.abt_machine.specs.declared.program.Fault.TheVariants as fault
 use Rattle.abt_machine.specs.declared.workload.Parts.{Parts}
-use Rattle.abt_machine.specs.Grammar.{Reads, Refuses, fault_at}
+use Rattle.abt_machine.specs.Grammar.{Reads, Refuses, fault_at, format_of}
+use Rattle.abt_machine.specs.Limits.{text_limit}
+use Rattle.abt_machine.specs.Spelling.{lines_of}
 use Rattle.abt_machine.specs.Words.{Text}
 use Rattle.abt_bounds.specs.Laws.{IsWritten, what_numbers}
 use Rattle.abt_bounds.proofs.JournalTexts.{journal-texts-differ}
@@ -39,41 +43,48 @@ of-whole most P (Some xs) front e short h = subst P (whole most front xs e short
 
 -- Workloads.
 
--- a text of too many bytes is refused for its length
-too-long : (text : Text) → 4194304 < length text → fault_at text 0 ≡ Some fault.Limit
-too-long text long = rw (lt-ltb 4194304 (length text) long) refl
+-- no format has longer texts
+most-bytes : (F : Format) → text_limit F ≤ 8388608
+most-bytes format.One = lit≤ tt
+most-bytes format.Two = lit≤ tt
+
+-- a text of more bytes is refused for its length
+too-long : (text : Text) → 8388608 < length text → fault_at text 0 ≡ Some fault.Limit
+too-long text long =
+    let most = most-bytes (format_of (lines_of text)) in
+    rw (lt-ltb (text_limit (format_of (lines_of text))) (length text) (omega (arith, most, long))) refl
 
 -- what is read is short
-reads-short : (text : Text) (W : Parts) → Reads text W → length text ≤ 4194304
-reads-short text W reads = elim (cases_lt 4194304 (length text)) [ inl long ↦ long-read long | inr short ↦ short ] where
-  long-read : 4194304 < length text → length text ≤ 4194304
+reads-short : (text : Text) (W : Parts) → Reads text W → length text ≤ 8388608
+reads-short text W reads = elim (cases_lt 8388608 (length text)) [ inl long ↦ long-read long | inr short ↦ short ] where
+  long-read : 8388608 < length text → length text ≤ 8388608
   long-read long = let one : fault_at text 0 ≡ None = reads.faultless 0 in let other = too-long text long in cc
 
 -- a long text is refused for its length alone
-refused-long : (text : Text) (line : ℕ) (f : Fault) → Refuses text line f → 4194304 < length text → (line ≡ 0) × (f ≡ fault.Limit)
+refused-long : (text : Text) (line : ℕ) (f : Fault) → Refuses text line f → 8388608 < length text → (line ≡ 0) × (f ≡ fault.Limit)
 refused-long text zero f refuses long = let one = refuses.first in let other = too-long text long in (refl, cc)
 refused-long text (suc line) f refuses long = let one = refuses.least 0 (omega arith) in let other = too-long text long in absurd cc
 
 -- the observable bytes of the file read as the prefix does
-pub told-reads : (told : Option Text) (front : Text) (W : Parts) → IfSome told (λ xs. front ≡ take 4194305 xs) → Reads front W → IfSome told (λ xs. Reads xs W)
-told-reads told front W e reads = of-whole 4194304 (λ text. Reads text W) told front e (reads-short front W reads) reads
+pub told-reads : (told : Option Text) (front : Text) (W : Parts) → IfSome told (λ xs. front ≡ take 8388609 xs) → Reads front W → IfSome told (λ xs. Reads xs W)
+told-reads told front W e reads = of-whole 8388608 (λ text. Reads text W) told front e (reads-short front W reads) reads
 
 -- and are refused as the prefix is
-told-refuses : (told : Option Text) (front : Text) (line : ℕ) (f : Fault) → IfSome told (λ xs. front ≡ take 4194305 xs) → Refuses front line f → IfSome told (λ xs. Refuses xs line f)
+told-refuses : (told : Option Text) (front : Text) (line : ℕ) (f : Fault) → IfSome told (λ xs. front ≡ take 8388609 xs) → Refuses front line f → IfSome told (λ xs. Refuses xs line f)
 told-refuses None front line f e refuses = tt
-told-refuses (Some xs) front line f e refuses = elim (cases_lt 4194304 (length front)) [
+told-refuses (Some xs) front line f e refuses = elim (cases_lt 8388608 (length front)) [
   | inl long ↦ refused-whole long
-  | inr short ↦ subst (λ text. Refuses text line f) (whole 4194304 front xs e short) refuses
+  | inr short ↦ subst (λ text. Refuses text line f) (whole 8388608 front xs e short) refuses
 ] where
-  refused-whole : 4194304 < length front → Refuses xs line f
+  refused-whole : 8388608 < length front → Refuses xs line f
   refused-whole long =
       let is = refused-long front line f refuses long in
-      let n : length front ≡ min 4194305 (length xs) = ap length e ∙ length-take 4194305 xs in
+      let n : length front ≡ min 8388609 (length xs) = ap length e ∙ length-take 8388609 xs in
       let all : Refuses xs 0 fault.Limit = record { least = λ above below. absurd (omega arith); first = too-long xs (omega arith) } in
       subst (λ l. Refuses xs l f) (sym is.0) (subst (λ g. Refuses xs 0 g) (sym is.1) all)
 
 -- and by the cause that its reader states
-pub told-refused : (told : Option Text) (front : Text) (c : NotRead) (line l : ℕ) (f g : Fault) → IfSome told (λ xs. front ≡ take 4194305 xs) → c ≡ cause.Refused line f → l ≡ line → g ≡ f → IsCause front c → IfSome told (λ xs. Refuses xs l g)
+pub told-refused : (told : Option Text) (front : Text) (c : NotRead) (line l : ℕ) (f g : Fault) → IfSome told (λ xs. front ≡ take 8388609 xs) → c ≡ cause.Refused line f → l ≡ line → g ≡ f → IsCause front c → IfSome told (λ xs. Refuses xs l g)
 told-refused told front c line l f g e is same equal why =
     subst (λ k. IfSome told (λ xs. Refuses xs k g)) (sym same)
     (subst (λ h. IfSome told (λ xs. Refuses xs line h)) (sym equal) (told-refuses told front line f e (subst (IsCause front) is why)))

@@ -12,8 +12,8 @@ use abt_source::{Files, NotFetched, read_all};
 use abt_workload::{NotRead, read};
 use std::alloc::Global;
 
-// The most bytes that a workload text has.
-const MOST: usize = 4_194_304;
+// The most bytes that a workload text has, in either format.
+const MOST: usize = 8_388_608;
 
 // The most bytes that a journal's text has.
 const MOST_OF_JOURNAL: usize = 1_073_741_824;

@@ -49,8 +49,12 @@ module _ {a : Above} {line : Text} {words : List Text} (f : Form) (s : IsSound a
   pub there-at : (k : ℕ) (kind : Number) → slice_get (kinds (slots f)) k ≡ Some kind → is_there a kind (at (values_of f words) k) ≡ true
   there-at k kind e = at-kind (is_there a) (slots f) words k kind s.form_fits e s.there
 
-  pub within-at : (k low high : ℕ) → slice_get (kinds (slots f)) k ≡ Some (number.Within low high) → is_within (number.Within low high) (at (values_of f words) k) ≡ true
-  within-at k low high e = at-kind is_within (slots f) words k (number.Within low high) s.form_fits e s.within
+  -- a number keeps the bounds that it has
+  pub kind-within : (k : ℕ) (kind : Number) → slice_get (kinds (slots f)) k ≡ Some kind → is_within a.format kind (at (values_of f words) k) ≡ true
+  kind-within k kind e = at-kind (is_within a.format) (slots f) words k kind s.form_fits e s.within
+
+  pub within-at : (k low high : ℕ) → slice_get (kinds (slots f)) k ≡ Some (number.Within low high) → is_within a.format (number.Within low high) (at (values_of f words) k) ≡ true
+  within-at k low high e = kind-within k (number.Within low high) e
 
   -- a section is not gone back from
   pub after-section : a.section ≤ section f

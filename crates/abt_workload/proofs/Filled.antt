@@ -1,12 +1,18 @@
 -- Lines that are written of their form's words and of numbers are taken.
-use Rattle.std.proofs.Common.{◌≡◌, ◌&&◌, ◌∙◌, ℕ, All, Bool, true, false, List, [], ◌∷◌, Some, ap, decimal, map, refl, subst, sym}
+use Rattle.std.proofs.Common.{◌≡◌, ◌&&◌, ◌∙◌, ℕ, All, Bool, true, false, List, [], ◌∷◌, ◌++◌, Option, Some, None, ap, decimal, find, map, refl, subst, sym}
+use Rattle.std.proofs.lemmas.List.Folds.{find-append}
+use Rattle.std.specs.Option.{option_or}
 use Rattle.std.proofs.lemmas.List.Elements.{All-cons}
 use Rattle.abt_machine.specs.declared.grammar.Form.{Form}
+use Rattle.abt_machine.specs.declared.grammar.Form.TheVariants as form
+use Rattle.abt_machine.specs.declared.grammar.Format.{Format}
+use Rattle.abt_machine.specs.declared.grammar.Format.TheVariants as format
 use Rattle.abt_machine.specs.declared.grammar.Number.{Number}
 use Rattle.abt_machine.specs.declared.grammar.Number.TheVariants as number
+use Rattle.abt_machine.specs.declared.grammar.Role.TheVariants as role
 use Rattle.abt_machine.specs.Declaring.{Above}
 use Rattle.abt_machine.specs.Faults.{is_skipped}
-use Rattle.abt_machine.specs.Forms.{Slot, Fixed, Numeral, PoolList, form_of, numerals, slots}
+use Rattle.abt_machine.specs.Forms.{Slot, Fixed, KindWord, CombineWord, AnyWord, Numeral, PoolList, accesses, fits, form_of, is_in, many_forms, numerals, operations, rules, slots, things, unit_forms}
 use Rattle.abt_machine.specs.Valid.{IsWord}
 use Rattle.abt_machine.specs.Words.{Text}
 use Rattle.abt_workload.specs.Declarable.{with_line}
@@ -16,7 +22,17 @@ use Rattle.abt_workload.proofs.NumberedLines.{IsFine, line-taken, spelled}
 use Rattle.abt_workload.proofs.Places.{and-left, and-right}
 use Rattle.abt_workload.proofs.Proper.{none-of}
 use Rattle.abt_workload.proofs.Taking.{Takes, decimal-word, is_plain, plain-word}
-use Rattle.abt_workload.proofs.Weights.{filled}
+
+-- the words at a line's places, of these numbers, and of this word where there is a choice
+abbrev pub filled : List Slot → Text → List ℕ → List Text
+filled [] word ns = []
+filled (Fixed t ∷ places) word ns = t ∷ filled places word ns
+filled (KindWord ∷ places) word ns = word ∷ filled places word ns
+filled (CombineWord ∷ places) word ns = word ∷ filled places word ns
+filled (AnyWord ∷ places) word ns = word ∷ filled places word ns
+filled (Numeral n ∷ places) word [] = []
+filled (Numeral n ∷ places) word (m ∷ ms) = decimal m ∷ filled places word ms
+filled (PoolList ∷ places) word ns = map decimal ns
 
 -- the fixed words of these places are words
 abbrev pub plain_places : List Slot → Bool
@@ -67,10 +83,40 @@ module _ (a : Above) where
   words-filled (PoolList ∷ places) word ns e w h = pools-words ns h
   words-filled (slot ∷ places) word ns e w h = All-cons IsWord word (filled places word ns) w (words-filled places word ns e w h)
 
+-- the forms of both formats, which come first in the table
+abbrev old_forms : List Form
+old_forms =
+    form.Version format.One ∷ form.Version format.Two ∷ form.Streams ∷ form.Keys ∷ map form.Pool accesses ++ map form.Sched rules ++ form.Stream ∷ map form.Object things ++
+    form.Units ∷ unit_forms role.Ult ++ unit_forms role.Task ++ unit_forms role.Sched ++ form.End ∷ map form.Operation operations
+
+-- the forms of format 2 alone
+abbrev new_forms : List Form
+new_forms = many_forms role.Ult ++ many_forms role.Task ++ many_forms role.Sched ++ map form.Repeat operations
+
+-- none of these is a form of format 1
+none-new : (words : List Text) → find (λ f. is_in format.One f && fits (slots f) words) new_forms ≡ None
+none-new words = refl
+
+-- what is found before more is found with more
+found-before : (p : Form → Bool) (xs ys : List Form) (f : Form) → find p xs ≡ Some f → find p (xs ++ ys) ≡ Some f
+found-before p xs ys f e = find-append p xs ys ∙ ap (λ (o : Option Form). option_or o (find p ys)) e
+
+-- a form of a line in format 1 is its form in each
+form-in : (F : Format) (words : List Text) (f : Form) → form_of format.One words ≡ Some f → form_of F words ≡ Some f
+form-in format.One words f e = e
+form-in format.Two words f e = found-before (λ g. is_in format.Two g && fits (slots g) words) old_forms new_forms f old
+  where
+    first : (o : Option Form) → option_or o (find (λ g. is_in format.One g && fits (slots g) words) new_forms) ≡ Some f → o ≡ Some f
+    first None h = let none = none-new words in cc
+    first (Some g) h = h
+
+    old : find (λ g. is_in format.One g && fits (slots g) words) old_forms ≡ Some f
+    old = first (find (λ g. is_in format.One g && fits (slots g) words) old_forms) (sym (find-append (λ g. is_in format.One g && fits (slots g) words) old_forms new_forms) ∙ e)
+
 -- words that are written for a line of this form, of this word where there is a choice, and of these numbers
 pub record IsWritten (f : Form) (word : Text) (ns : List ℕ) (words : List Text) : Type 0 where
   pub words_are : words ≡ filled (slots f) word ns
-  pub form_is : form_of words ≡ Some f
+  pub form_is : form_of format.One words ≡ Some f
   pub skipped : is_skipped words ≡ false
   pub plain : plain_places (slots f) ≡ true
   pub chosen : IsWord word
@@ -80,4 +126,4 @@ pub takes : (a b : Above) (f : Form) (word : Text) (ns : List ℕ) (words : List
     → IsFine a f words (values (given (slots f) ns)) → with_line a f words (values (given (slots f) ns)) ≡ b → Takes a words b
 takes a b f word ns words w fit =
     line-taken a b words f (given (slots f) ns) (subst (All IsWord) (sym w.words_are) (words-filled a (slots f) word ns w.plain w.chosen fit))
-    w.skipped w.form_is (ap (numerals (slots f)) w.words_are ∙ numerals-filled (slots f) word ns) fit
+    w.skipped (form-in a.format words f w.form_is) (ap (numerals (slots f)) w.words_are ∙ numerals-filled (slots f) word ns) fit

@@ -9,6 +9,8 @@ use Rattle.abt_machine.specs.declared.grammar.Number.TheVariants as number
 use Rattle.abt_machine.specs.declared.operations.Thing.{Thing}
 use Rattle.abt_machine.specs.Declaring.{Above, declared_units, parts_of}
 use Rattle.abt_machine.specs.Faults.{is_barrier, is_condition, is_eventual, is_future, is_mutex, is_there, is_within}
+use Rattle.abt_machine.specs.Limits.{stream_limit, unit_limit}
+use Rattle.abt_workload.proofs.Keeping.{most-streams, most-units}
 use Rattle.abt_workload.proofs.Naming.{IsNamed}
 use Rattle.abt_workload.proofs.Places.{and-both}
 use Rattle.abt_workload.proofs.Proper.{stream_count, unit_count}
@@ -16,7 +18,7 @@ use Rattle.abt_workload.proofs.Proper.{stream_count, unit_count}
 -- a number may stand in a line below lines that declare a
 pub record IsFit (a : Above) (kind : Number) (n : ℕ) : Type 0 where
   pub there : is_there a kind n ≡ true
-  pub within : is_within kind n ≡ true
+  pub within : is_within a.format kind n ≡ true
   pub small : n < 2 ^ 64
 
 -- all of these may
@@ -27,6 +29,8 @@ AreFit a (p ∷ ps) = IsFit a p.0 p.1 × AreFit a ps
 -- a number that keeps its bounds and names what is declared, or what is declared next
 abbrev pub IsMet : Above → Number → ℕ → Type 0
 IsMet a (number.Within low high) n = (low ≤ n) × (n ≤ high) × (n < 2 ^ 64)
+IsMet a number.StreamCount n = (1 ≤ n) × (n ≤ stream_limit a.format)
+IsMet a number.UnitCount n = n ≤ unit_limit a.format
 IsMet a number.NewPool n = n ≡ length a.pools
 IsMet a number.NewSched n = n ≡ length a.scheds
 IsMet a number.NewObject n = n ≡ length a.objects
@@ -42,12 +46,12 @@ AreMet a (p ∷ q ∷ ps) = IsMet a p.0 p.1 × AreMet a (q ∷ ps)
 
 -- no more is declared than a workload may have
 pub record IsSmall (a : Above) : Type 0 where
-  pub streams : stream_count a ≤ 8
+  pub streams : stream_count a ≤ 16
   pub keys : a.keys ≤ 16
   pub pools : length a.pools ≤ 64
   pub scheds : length a.scheds ≤ 64
   pub objects : length a.objects ≤ 256
-  pub units : unit_count a ≤ 256
+  pub units : unit_count a ≤ 4096
 
 -- a number within its bounds may stand in a line
 pub fit-within : (a : Above) (low high n : ℕ) → low ≤ n → n ≤ high → n < 2 ^ 64 → IsFit a (number.Within low high) n
@@ -65,6 +69,12 @@ module _ (a : Above) (few : IsSmall a) where
   -- a number that is met may stand in a line
   pub fit : (kind : Number) (n : ℕ) → IsMet a kind n → IsFit a kind n
   fit (number.Within low high) n h = fit-within a low high n h.0 h.1 h.2
+  fit number.StreamCount n h =
+      let most = most-streams a.format in
+      let low = h.0 in
+      let high = h.1 in
+      record { there = refl; within = and-both _ _ (le-leb 1 n low) (le-leb n (stream_limit a.format) high); small = omega arith }
+  fit number.UnitCount n h = let most = most-units a.format in record { there = refl; within = le-leb n (unit_limit a.format) h; small = omega arith }
   fit number.NewPool n h = record { there = le-leb n _ (omega arith); within = refl; small = let most = few.pools in omega arith }
   fit number.NewSched n h = record { there = le-leb n _ (omega arith); within = refl; small = let most = few.scheds in omega arith }
   fit number.NewObject n h = record { there = le-leb n _ (omega arith); within = refl; small = let most = few.objects in omega arith }
@@ -72,7 +82,7 @@ module _ (a : Above) (few : IsSmall a) where
       let e : n ≡ declared_units a = h.0 in
       let lt : n < unit_count a = h.1 in
       record {
-        there = and-both _ _ (le-leb n (declared_units a) (omega arith)) (lt-ltb n (unit_count a) lt);
+        there = le-leb n (declared_units a) (omega arith);
         within = refl;
         small = let most = few.units in omega arith;
       }

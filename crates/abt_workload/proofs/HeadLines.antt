@@ -3,14 +3,18 @@ use Rattle.std.proofs.Common.{◌≡◌, ◌<◌, ◌≤◌, ◌∙◌, ◌==◌
 use Rattle.std.specs.List.{list_any}
 use Rattle.std.proofs.lemmas.Bool.{ne_eqb}
 use Rattle.abt_machine.specs.declared.grammar.Form.TheVariants as form
+use Rattle.abt_machine.specs.declared.grammar.Format.{Format}
+use Rattle.abt_machine.specs.declared.grammar.Format.TheVariants as format
+use Rattle.abt_machine.specs.declared.grammar.Number.TheVariants as number
 use Rattle.abt_machine.specs.declared.numbers.SchedNo.{SchedNo}
 use Rattle.abt_machine.specs.declared.workload.Parts.{Parts}
 use Rattle.abt_machine.specs.Canonical.{keys_lines, object_line, pool_line, sched_line, stream_line, version_line}
 use Rattle.abt_machine.specs.Declaring.{Above, nothing}
+use Rattle.abt_machine.specs.Limits.{stream_limit, unit_limit}
 use Rattle.abt_machine.specs.Valid.{IsValid}
 use Rattle.abt_machine.specs.Words.{Text, numbered}
 use Rattle.abt_workload.proofs.Filled.{takes}
-use Rattle.abt_workload.proofs.Fitting.{fit-within}
+use Rattle.abt_workload.proofs.Fitting.{IsSmall, fit, fit-within}
 use Rattle.abt_workload.proofs.Heads.{all_mains, head, head_lines, placing, units_words}
 use Rattle.abt_workload.proofs.InOrder.{placed-alone, reached, reached-le}
 use Rattle.abt_workload.proofs.ObjectLines.{objects-taken}
@@ -23,25 +27,35 @@ use Rattle.abt_workload.proofs.Taking.{Takes, TakesAll, takes-append, plain-word
 -- Lines of sections that have one line.
 
 -- what the version's line declares
-abbrev versioned : Above
-versioned = record nothing { begun = true; section = 1 }
+abbrev versioned : Format → Above
+versioned F = record nothing { begun = true; format = F; section = 1 }
 
 -- the version's line
-version-taken : Takes nothing version_line versioned
-version-taken =
-    takes nothing versioned form.Version (codes "abt") [] version_line
+version-taken : (F : Format) → Takes nothing (version_line F) (versioned F)
+version-taken format.One =
+    takes nothing (versioned format.One) (form.Version format.One) (codes "abt") [] (version_line format.One)
     record { words_are = refl; form_is = refl; skipped = refl; plain = refl; chosen = plain-word (codes "abt") refl }
     tt
-    record { version = refl; placed = refl; once = refl; limit = refl; task = refl; access = refl; early = refl }
+    record { version = refl; placed = refl; once = refl; beyond = refl; limit = refl; task = refl; access = refl; early = refl }
+    refl
+version-taken format.Two =
+    takes nothing (versioned format.Two) (form.Version format.Two) (codes "abt") [] (version_line format.Two)
+    record { words_are = refl; form_is = refl; skipped = refl; plain = refl; chosen = plain-word (codes "abt") refl }
+    tt
+    record { version = refl; placed = refl; once = refl; beyond = refl; limit = refl; task = refl; access = refl; early = refl }
     refl
 
+-- nothing but streams is declared below their number, and no more than a workload may have
+below-small : (F : Format) (n : ℕ) → IsSmall (versioned F)
+below-small F n = record { streams = omega arith; keys = omega arith; pools = omega arith; scheds = omega arith; objects = omega arith; units = omega arith }
+
 -- the line of the number of streams
-count-taken : (n : ℕ) → 0 < n → n ≤ 8 → Takes versioned (codes "streams" ∷ decimal n ∷ []) (pooling 2 n 0 [])
-count-taken n some few =
-    takes versioned (pooling 2 n 0 []) form.Streams (codes "streams") (n ∷ []) (codes "streams" ∷ decimal n ∷ [])
+count-taken : (F : Format) (n : ℕ) → 0 < n → n ≤ stream_limit F → Takes (versioned F) (codes "streams" ∷ decimal n ∷ []) (pooling F 2 n 0 [])
+count-taken F n some few =
+    takes (versioned F) (pooling F 2 n 0 []) form.Streams (codes "streams") (n ∷ []) (codes "streams" ∷ decimal n ∷ [])
     record { words_are = refl; form_is = refl; skipped = refl; plain = refl; chosen = plain-word (codes "streams") refl }
-    (fit-within versioned 1 8 n (omega arith) few (omega arith), tt)
-    record { version = refl; placed = refl; once = refl; limit = refl; task = refl; access = refl; early = refl }
+    (fit (versioned F) (below-small F n) number.StreamCount n (omega arith, few), tt)
+    record { version = refl; placed = refl; once = refl; beyond = refl; limit = refl; task = refl; access = refl; early = refl }
     refl
 
 -- the section before the pools
@@ -55,16 +69,16 @@ keys-low zero = omega arith
 keys-low (suc k) = omega arith
 
 -- the line of the number of keys, where there are some
-keys-taken : (n k : ℕ) → k ≤ 16 → TakesAll (pooling 2 n 0 []) (keys_lines k) (pooling (keys_section k) n k [])
-keys-taken n zero few = refl
-keys-taken n (suc k) few = (pooling 3 n (suc k) [], line, refl)
+keys-taken : (F : Format) (n k : ℕ) → k ≤ 16 → TakesAll (pooling F 2 n 0 []) (keys_lines k) (pooling F (keys_section k) n k [])
+keys-taken F n zero few = refl
+keys-taken F n (suc k) few = (pooling F 3 n (suc k) [], line, refl)
   where
-    line : Takes (pooling 2 n 0 []) (codes "keys" ∷ decimal (suc k) ∷ []) (pooling 3 n (suc k) [])
+    line : Takes (pooling F 2 n 0 []) (codes "keys" ∷ decimal (suc k) ∷ []) (pooling F 3 n (suc k) [])
     line =
-        takes (pooling 2 n 0 []) (pooling 3 n (suc k) []) form.Keys (codes "keys") (suc k ∷ []) (codes "keys" ∷ decimal (suc k) ∷ [])
+        takes (pooling F 2 n 0 []) (pooling F 3 n (suc k) []) form.Keys (codes "keys") (suc k ∷ []) (codes "keys" ∷ decimal (suc k) ∷ [])
         record { words_are = refl; form_is = refl; skipped = refl; plain = refl; chosen = plain-word (codes "keys") refl }
-        (fit-within (pooling 2 n 0 []) 0 16 (suc k) (omega arith) few (omega arith), tt)
-        record { version = refl; placed = refl; once = refl; limit = refl; task = refl; access = refl; early = refl }
+        (fit-within (pooling F 2 n 0 []) 0 16 (suc k) (omega arith) few (omega arith), tt)
+        record { version = refl; placed = refl; once = refl; beyond = refl; limit = refl; task = refl; access = refl; early = refl }
         refl
 
 -- each stream has a main scheduler
@@ -74,12 +88,12 @@ all-some (g ∷ gs) = all-some gs
 
 -- All lines.
 
-module _ (W : Parts) (v : IsValid W) where
+module _ (F : Format) (W : Parts) (v : IsValid W) (few_streams : W.streams ≤ stream_limit F) (few_units : length W.units ≤ unit_limit F) where
   -- What is declared below the lines of each section, and which section they reached.
 
   -- below the number of streams
   abbrev below_count : Above
-  below_count = pooling 2 W.streams 0 []
+  below_count = pooling F 2 W.streams 0 []
 
   -- the section below the pools
   abbrev pools_reached : ℕ
@@ -87,7 +101,7 @@ module _ (W : Parts) (v : IsValid W) where
 
   -- below the pools
   abbrev below_pools : Above
-  below_pools = pooling pools_reached W.streams W.keys W.pools
+  below_pools = pooling F pools_reached W.streams W.keys W.pools
 
   -- it is not past that of pools
   pools-low : pools_reached ≤ 4
@@ -99,7 +113,7 @@ module _ (W : Parts) (v : IsValid W) where
 
   -- below the schedulers
   abbrev below_scheds : Above
-  below_scheds = scheduling scheds_reached W.streams W.keys W.pools W.scheds
+  below_scheds = scheduling F scheds_reached W.streams W.keys W.pools W.scheds
 
   -- it is not past that of schedulers
   scheds-low : scheds_reached ≤ 5
@@ -111,7 +125,7 @@ module _ (W : Parts) (v : IsValid W) where
 
   -- below the streams
   abbrev below_mains : Above
-  below_mains = placing mains_reached W.streams W.keys W.pools W.scheds (all_mains W) []
+  below_mains = placing F mains_reached W.streams W.keys W.pools W.scheds (all_mains W) []
 
   -- it is not past that of streams
   mains-low : mains_reached ≤ 6
@@ -123,7 +137,7 @@ module _ (W : Parts) (v : IsValid W) where
 
   -- below the objects
   abbrev below_objects : Above
-  below_objects = placing objects_reached W.streams W.keys W.pools W.scheds (all_mains W) W.objects
+  below_objects = placing F objects_reached W.streams W.keys W.pools W.scheds (all_mains W) W.objects
 
   -- it is not past that of objects
   objects-low : objects_reached ≤ 7
@@ -150,14 +164,14 @@ module _ (W : Parts) (v : IsValid W) where
   -- the lines to the pools are taken
   pools-from : TakesAll below_count up_to_pools below_pools
   pools-from =
-      takes-append below_count (pooling (keys_section W.keys) W.streams W.keys []) below_pools (keys_lines W.keys) (numbered pool_line W.pools)
-      (keys-taken W.streams W.keys v.few_keys) (pools-taken W v (keys_section W.keys) (keys-low W.keys))
+      takes-append below_count (pooling F (keys_section W.keys) W.streams W.keys []) below_pools (keys_lines W.keys) (numbered pool_line W.pools)
+      (keys-taken F W.streams W.keys v.few_keys) (pools-taken F W v (keys_section W.keys) (keys-low W.keys))
 
   -- the lines to the schedulers are taken
   scheds-from : TakesAll below_count up_to_scheds below_scheds
   scheds-from =
       takes-append below_count below_pools below_scheds up_to_pools (numbered sched_line W.scheds)
-      pools-from (scheds-taken W v pools_reached (let le = pools-low in omega arith))
+      pools-from (scheds-taken F W v pools_reached (let le = pools-low in omega arith))
 
   -- all streams have their main schedulers then
   mains-all : mains_from W.streams W.mains ≡ all_mains W
@@ -166,8 +180,8 @@ module _ (W : Parts) (v : IsValid W) where
   -- the lines of streams are taken
   stream-lines : TakesAll below_scheds (numbered stream_line W.mains) below_mains
   stream-lines =
-      subst (λ (ms : List (Option SchedNo)). TakesAll below_scheds (numbered stream_line W.mains) (placing mains_reached W.streams W.keys W.pools W.scheds ms []))
-      mains-all (streams-taken W v scheds_reached (let le = scheds-low in omega arith))
+      subst (λ (ms : List (Option SchedNo)). TakesAll below_scheds (numbered stream_line W.mains) (placing F mains_reached W.streams W.keys W.pools W.scheds ms []))
+      mains-all (streams-taken F W v scheds_reached (let le = scheds-low in omega arith))
 
   -- the lines to the streams are taken
   streams-from : TakesAll below_count up_to_mains below_mains
@@ -177,21 +191,22 @@ module _ (W : Parts) (v : IsValid W) where
   objects-from : TakesAll below_count up_to_objects below_objects
   objects-from =
       takes-append below_count below_mains below_objects up_to_mains (numbered object_line W.objects)
-      streams-from (objects-taken W v mains_reached (let le = mains-low in omega arith))
+      streams-from (objects-taken F W v mains_reached (let le = mains-low in omega arith))
 
   -- the line of the number of units
-  units-taken : Takes below_objects (units_words W) (head W)
+  units-taken : Takes below_objects (units_words W) (head F W)
   units-taken =
       let low : objects_reached ≤ 7 = objects-low in
-      let few : length W.units ≤ 256 = v.few_units in
+      let small : IsSmall below_objects = record { streams = v.few_streams; keys = v.few_keys; pools = v.few_pools; scheds = v.few_scheds; objects = v.few_objects; units = omega arith } in
       let some : 0 < length W.pools = v.some_pool in
-      takes below_objects (head W) form.Units (codes "units") (length W.units ∷ []) (units_words W)
+      takes below_objects (head F W) form.Units (codes "units") (length W.units ∷ []) (units_words W)
       record { words_are = refl; form_is = refl; skipped = refl; plain = refl; chosen = plain-word (codes "units") refl }
-      (fit-within below_objects 0 256 (length W.units) (omega arith) few (omega arith), tt)
+      (fit below_objects small number.UnitCount (length W.units) few_units, tt)
       record {
         version = refl;
         placed = placed-alone below_objects form.Units (omega arith) (omega arith) refl;
         once = refl;
+        beyond = refl;
         limit = refl;
         task = refl;
         access = refl;
@@ -200,7 +215,7 @@ module _ (W : Parts) (v : IsValid W) where
       refl
 
   -- the lines before the units are taken, and declare all but the units
-  pub head-taken : TakesAll nothing (head_lines W) (head W)
+  pub head-taken : TakesAll nothing (head_lines F W) (head F W)
   head-taken =
-      let rest = takes-append below_count below_objects (head W) up_to_objects (units_words W ∷ []) objects-from (head W, units-taken, refl) in
-      (versioned, version-taken, (below_count, count-taken W.streams v.some_stream v.few_streams, rest))
+      let rest = takes-append below_count below_objects (head F W) up_to_objects (units_words W ∷ []) objects-from (head F W, units-taken, refl) in
+      (versioned F, version-taken F, (below_count, count-taken F W.streams v.some_stream few_streams, rest))

@@ -1,18 +1,21 @@
 -- The lines of a workload's text before its units, and what they declare.
-use Rattle.std.proofs.Common.{ℕ, List, [], ◌∷◌, ◌++◌, Option, Some, None, codes, decimal, length, map, true}
+use Rattle.std.proofs.Common.{ℕ, List, [], ◌∷◌, ◌++◌, Option, Some, None, codes, decimal, flat_map, length, map, true}
+use Rattle.std.specs.List.{enumerate_from}
+use Rattle.abt_machine.specs.declared.grammar.Format.{Format}
 use Rattle.abt_machine.specs.declared.numbers.SchedNo.{SchedNo}
 use Rattle.abt_machine.specs.declared.operations.Thing.{Thing}
 use Rattle.abt_machine.specs.declared.workload.Parts.{Parts}
 use Rattle.abt_machine.specs.declared.workload.PoolPart.{PoolPart}
 use Rattle.abt_machine.specs.declared.workload.SchedPart.{SchedPart}
-use Rattle.abt_machine.specs.Canonical.{keys_lines, object_line, pool_line, sched_line, stream_line, version_line}
+use Rattle.abt_machine.specs.declared.workload.UnitPart.{UnitPart}
+use Rattle.abt_machine.specs.Canonical.{body_words, keys_lines, object_line, pool_line, sched_line, start_words, stream_line, unit_lines, version_line}
 use Rattle.abt_machine.specs.Declaring.{Above}
 use Rattle.abt_machine.specs.Words.{Text, numbered}
 
 -- the lines before that of the number of units
-abbrev pub first_lines : Parts → List (List Text)
-first_lines W =
-    version_line ∷
+abbrev pub first_lines : Format → Parts → List (List Text)
+first_lines F W =
+    version_line F ∷
     (codes "streams" ∷ decimal W.streams ∷ []) ∷
     keys_lines W.keys ++
     numbered pool_line W.pools ++
@@ -25,13 +28,14 @@ abbrev pub units_words : Parts → List Text
 units_words W = codes "units" ∷ decimal (length W.units) ∷ []
 
 -- the lines before the units
-abbrev pub head_lines : Parts → List (List Text)
-head_lines W = first_lines W ++ units_words W ∷ []
+abbrev pub head_lines : Format → Parts → List (List Text)
+head_lines F W = first_lines F W ++ units_words W ∷ []
 
 -- what is declared below the first lines
-abbrev pub placing : ℕ → ℕ → ℕ → List PoolPart → List SchedPart → List (Option SchedNo) → List Thing → Above
-placing section streams keys pools scheds mains objects = record {
+abbrev pub placing : Format → ℕ → ℕ → ℕ → List PoolPart → List SchedPart → List (Option SchedNo) → List Thing → Above
+placing F section streams keys pools scheds mains objects = record {
   begun = true;
+  format = F;
   section = section;
   streams = Some streams;
   keys = keys;
@@ -42,7 +46,9 @@ placing section streams keys pools scheds mains objects = record {
   unit_count = None;
   units = [];
   last = None;
+  copies = 0;
   words = [];
+  said = [];
 }
 
 -- the main schedulers of all streams
@@ -50,5 +56,15 @@ abbrev pub all_mains : Parts → List (Option SchedNo)
 all_mains W = map (λ (g : SchedNo). Some g) W.mains
 
 -- what the lines before the units declare
-abbrev pub head : Parts → Above
-head W = record (placing 8 W.streams W.keys W.pools W.scheds (all_mains W) W.objects) { unit_count = Some (length W.units) }
+abbrev pub head : Format → Parts → Above
+head F W = record (placing F 8 W.streams W.keys W.pools W.scheds (all_mains W) W.objects) { unit_count = Some (length W.units) }
+
+-- Units.
+
+-- the line of a unit
+abbrev pub header : ℕ → UnitPart → List Text
+header u part = codes "unit" ∷ decimal u ∷ body_words part.body ++ start_words part.start
+
+-- the lines of units, from a number on
+abbrev pub units_lines : Parts → ℕ → List UnitPart → List (List Text)
+units_lines W k us = flat_map (λ p. unit_lines W p.0 p.1) (enumerate_from k us)

@@ -1,9 +1,11 @@
 -- A sound line keeps what is declared proper.
-use Rattle.std.proofs.Common.{◌≡◌, ◌≢◌, ◌<◌, ◌≤◌, ◌+◌, ◌-◌, ◌^◌, ◌==◌, ◌||◌, ◌∙◌, ℕ, zero, suc, true, false, List, [], ◌∷◌, ◌++◌, All, Option, Some, None, ap, arith, inl, inr, ◌⊎◌, flat_map, is_none, length, length-append, map, nat_le, nat_lt, option_to_list, refl, replicate, slice_get, subst, sym, unwrap_or}
+use Rattle.std.proofs.Common.{◌≡◌, ◌≢◌, ◌<◌, ◌≤◌, ◌+◌, ◌-◌, ◌^◌, ◌==◌, ◌||◌, ◌∙◌, ℕ, zero, suc, true, false, List, [], ◌∷◌, ◌++◌, All, Option, Some, None, ap, arith, inl, inr, ◌⊎◌, flat_map, is_none, length, length-append, lit≤, map, nat_le, nat_lt, option_to_list, refl, replicate, slice_get, subst, sym, unwrap_or}
 use Rattle.std.specs.List.{AllPairs, list_any}
 use Rattle.std.proofs.lemmas.List.{length-map, length-replicate, length-set}
 use Rattle.std.proofs.lemmas.Option.{slice_get_within}
 use Rattle.abt_machine.specs.declared.grammar.Form.TheVariants as form
+use Rattle.abt_machine.specs.declared.grammar.Format.{Format}
+use Rattle.abt_machine.specs.declared.grammar.Format.TheVariants as format
 use Rattle.abt_machine.specs.declared.grammar.Number.TheVariants as number
 use Rattle.abt_machine.specs.declared.numbers.PoolNo.{PoolNo}
 use Rattle.abt_machine.specs.declared.numbers.SchedNo.{SchedNo}
@@ -15,18 +17,20 @@ use Rattle.abt_machine.specs.declared.operations.Thing.{Thing}
 use Rattle.abt_machine.specs.declared.operations.Thing.TheVariants as thing
 use Rattle.abt_machine.specs.declared.workload.PoolPart.{PoolPart}
 use Rattle.abt_machine.specs.declared.workload.UnitPart.{UnitPart}
-use Rattle.abt_machine.specs.Declaring.{Above, access_with, at, listed, parts_of, pool_with, rule_with, sched_with, thing_with}
+use Rattle.abt_machine.specs.Declaring.{Above, access_with, at, listed, pool_with, rule_with, sched_with, thing_with}
+use Rattle.abt_machine.specs.Limits.{stream_limit, unit_limit}
 use Rattle.abt_machine.specs.Numbers.{pool_no, sched_no}
-use Rattle.abt_machine.specs.Valid.{IsRule, placed_scheds, sched_in}
-use Rattle.abt_machine.specs.Faults.{has_main, is_there, values_of}
+use Rattle.abt_machine.specs.Valid.{IsRule, sched_in}
+use Rattle.abt_machine.specs.Faults.{has_main, is_placed, is_there, values_of}
 use Rattle.abt_machine.specs.Forms.{slots}
 use Rattle.abt_machine.specs.Words.{Text}
 use Rattle.abt_workload.specs.Declarable.{with_line}
-use Rattle.abt_workload.proofs.Bounds.{after-section, after-single, le-from, le-not, lt-from, lt-not, mutex-there, there-at, within-at}
+use Rattle.abt_workload.proofs.Bounds.{after-section, after-single, kind-within, le-from, le-not, lt-from, lt-not, mutex-there, there-at, within-at}
+use Rattle.abt_workload.proofs.Copies.{AreCopies, units-scheds}
 use Rattle.abt_workload.proofs.Naming.{any-fits}
-use Rattle.abt_workload.proofs.Growing.{access-grows, all-and, any-none, empty-of, get-and, get-replicate, get-set, main-none, no-units, not-among, once-pairs, pairs-set, sched-grows, tail-all, tail-some, thing-grows}
+use Rattle.abt_workload.proofs.Growing.{access-grows, all-and, any-none, empty-of, get-and, get-replicate, get-set, main-none, mains_list, no-units, not-among, once-pairs, pairs-set, sched-grows, tail-all, tail-some, thing-grows}
 use Rattle.abt_workload.proofs.Places.{and-left, and-right, not-false, or-left, or-right}
-use Rattle.abt_workload.proofs.Proper.{IsAccessIn, IsProper, IsSchedIn, IsThingIn, stream_count, takes_all}
+use Rattle.abt_workload.proofs.Proper.{IsAccessIn, IsProper, IsSchedIn, IsThingIn, placed, stream_count, takes_all}
 use Rattle.abt_workload.proofs.Soundness.{IsSound}
 
 access-in : {a : Above} {line : Text} {words : List Text} (x : Access) → IsSound a line words (form.Pool x) → IsAccessIn (stream_count a) (access_with x (values_of (form.Pool x) words))
@@ -72,7 +76,7 @@ sched-in {a} {line} {words} r s =
     rule-in : (q : Rule) → IsSound a line words (form.Sched q) → IsRule (rule_with q (values_of (form.Sched q) words))
     rule-in rule.Basic t = tt
     rule-in rule.Prio t = tt
-    rule-in (rule.Randws n) t = any-fits _ (within-at (form.Sched (rule.Randws n)) t 1 0 (2 ^ 64 - 1) refl)
+    rule-in (rule.Randws n) t = any-fits a.format _ (within-at (form.Sched (rule.Randws n)) t 1 0 (2 ^ 64 - 1) refl)
     rule-in (rule.User n) t = let le = le-from _ 1 (and-right (nat_le 0 (at (values_of (form.Sched (rule.User n)) words) 1)) _ (within-at (form.Sched (rule.User n)) t 1 0 1 refl)) in omega arith
 
 thing-in : {a : Above} {line : Text} {words : List Text} (x : Thing) → IsSound a line words (form.Object x) → IsThingIn a.objects (length a.objects) (thing_with x words (values_of (form.Object x) words))
@@ -94,10 +98,23 @@ thing-in {a} {line} {words} (thing.Barrier n) s =
     let high : size ≤ 4096 = le-from size 4096 (and-right (nat_le 1 size) (nat_le size 4096) w) in
     (omega arith, high)
 
+-- no format has more streams, or more units
+pub most-streams : (F : Format) → stream_limit F ≤ 16
+most-streams format.One = lit≤ tt
+most-streams format.Two = lit≤ tt
+
+pub most-units : (F : Format) → unit_limit F ≤ 4096
+most-units format.One = lit≤ tt
+most-units format.Two = lit≤ tt
+
+-- a scheduler without a place is none of those that have one
+pub placed-not : (a : Above) (g : ℕ) → AreCopies a.copies a.last → is_placed a g ≡ false → list_any (λ h. h == g) (placed a) ≡ false
+placed-not a g copied e = ap (λ (gs : List ℕ). list_any (λ h. h == g) (mains_list a.mains ++ gs)) (sym (units-scheds a copied)) ∙ e
+
 module _ {a : Above} {line : Text} {words : List Text} (h : IsProper a) where
-  pub keeps-version : IsSound a line words form.Version → IsProper (with_line a form.Version words (values_of form.Version words))
-  keeps-version s =
-      let le = after-single form.Version s refl in
+  pub keeps-version : (F : Format) → IsSound a line words (form.Version F) → IsProper (with_line a (form.Version F) words (values_of (form.Version F) words))
+  keeps-version F s =
+      let le = after-single (form.Version F) s refl in
       record {
         streams = h.streams;
         keys = h.keys;
@@ -107,9 +124,11 @@ module _ {a : Above} {line : Text} {words : List Text} (h : IsProper a) where
         places = h.places;
         objects = h.objects;
         units = h.units;
+        few_ops = h.few_ops;
         said = h.said;
+        last_said = h.last_said;
         words = h.words;
-        few_words = h.few_words;
+        last_words = h.last_words;
         order = record {
           no_streams = λ lt. h.order.no_streams (omega arith);
           no_keys = λ lt. h.order.no_keys (omega arith);
@@ -129,9 +148,11 @@ module _ {a : Above} {line : Text} {words : List Text} (h : IsProper a) where
   keeps-streams s =
       let le = after-single form.Streams s refl in
       let n : ℕ = at (values_of form.Streams words) 0 in
-      let w = within-at form.Streams s 0 1 8 refl in
-      let low : 1 ≤ n = le-from 1 n (and-left (nat_le 1 n) (nat_le n 8) w) in
-      let high : n ≤ 8 = le-from n 8 (and-right (nat_le 1 n) (nat_le n 8) w) in
+      let w = kind-within form.Streams s 0 number.StreamCount refl in
+      let low : 1 ≤ n = le-from 1 n (and-left (nat_le 1 n) (nat_le n (stream_limit a.format)) w) in
+      let most = most-streams a.format in
+      let below : n ≤ stream_limit a.format = le-from n (stream_limit a.format) (and-right (nat_le 1 n) (nat_le n (stream_limit a.format)) w) in
+      let high : n ≤ 16 = omega arith in
       let zero_streams : stream_count a ≡ 0 = ap (λ (x : Option ℕ). unwrap_or x 0) (h.order.no_streams (omega arith)) in
       let no_mains : a.mains ≡ [] = empty-of a.mains (h.mains.count ∙ zero_streams) in
       let U : List ℕ = flat_map (λ (part : UnitPart). sched_in part.body) (a.units ++ option_to_list a.last) in
@@ -144,10 +165,12 @@ module _ {a : Above} {line : Text} {words : List Text} (h : IsProper a) where
         mains = record { count = length-replicate n None; there = λ t g e. absurd (get-replicate n t g e); taking = λ t g e. absurd (get-replicate n t g e) };
         places = subst (λ (gs : List SchedNo). AllPairs (λ x y. x ≢ y) (map (λ (g : SchedNo). g.0) gs ++ U)) mains_same h.places;
         objects = h.objects;
-        units = no-units _ _ _ _ (h.order.no_units (omega arith)) (h.order.no_last (omega arith)) h.units.few;
+        units = no-units _ _ _ _ _ (h.order.no_units (omega arith)) (h.order.no_last (omega arith)) h.units.few;
+        few_ops = h.few_ops;
         said = h.said;
+        last_said = h.last_said;
         words = h.words;
-        few_words = h.few_words;
+        last_words = h.last_words;
         order = record {
           no_streams = λ lt. absurd (omega arith);
           no_keys = λ lt. h.order.no_keys (omega arith);
@@ -175,10 +198,12 @@ module _ {a : Above} {line : Text} {words : List Text} (h : IsProper a) where
         mains = h.mains;
         places = h.places;
         objects = h.objects;
-        units = no-units _ _ _ _ (h.order.no_units (omega arith)) (h.order.no_last (omega arith)) h.units.few;
+        units = no-units _ _ _ _ _ (h.order.no_units (omega arith)) (h.order.no_last (omega arith)) h.units.few;
+        few_ops = h.few_ops;
         said = h.said;
+        last_said = h.last_said;
         words = h.words;
-        few_words = h.few_words;
+        last_words = h.last_words;
         order = record {
           no_streams = λ lt. absurd (omega arith);
           no_keys = λ lt. absurd (omega arith);
@@ -207,10 +232,12 @@ module _ {a : Above} {line : Text} {words : List Text} (h : IsProper a) where
         mains = record { count = h.mains.count; there = h.mains.there; taking = λ t g e. absurd (h.order.no_mains (omega arith) t g e) };
         places = h.places;
         objects = h.objects;
-        units = no-units _ _ _ _ (h.order.no_units (omega arith)) (h.order.no_last (omega arith)) h.units.few;
+        units = no-units _ _ _ _ _ (h.order.no_units (omega arith)) (h.order.no_last (omega arith)) h.units.few;
+        few_ops = h.few_ops;
         said = h.said;
+        last_said = h.last_said;
         words = h.words;
-        few_words = h.few_words;
+        last_words = h.last_words;
         order = record {
           no_streams = λ lt. absurd (omega arith);
           no_keys = λ lt. absurd (omega arith);
@@ -239,10 +266,12 @@ module _ {a : Above} {line : Text} {words : List Text} (h : IsProper a) where
         mains = record { count = h.mains.count; there = λ t g e. absurd (h.order.no_mains (omega arith) t g e); taking = λ t g e. absurd (h.order.no_mains (omega arith) t g e) };
         places = h.places;
         objects = h.objects;
-        units = no-units _ _ _ _ (h.order.no_units (omega arith)) (h.order.no_last (omega arith)) h.units.few;
+        units = no-units _ _ _ _ _ (h.order.no_units (omega arith)) (h.order.no_last (omega arith)) h.units.few;
+        few_ops = h.few_ops;
         said = h.said;
+        last_said = h.last_said;
         words = h.words;
-        few_words = h.few_words;
+        last_words = h.last_words;
         order = record {
           no_streams = λ lt. absurd (omega arith);
           no_keys = λ lt. absurd (omega arith);
@@ -267,7 +296,7 @@ module _ {a : Above} {line : Text} {words : List Text} (h : IsProper a) where
       let sched : g < length a.scheds = lt-from _ _ (there-at form.Stream s 1 number.Sched refl) in
       let takes' : takes_all a.pools a.scheds t g ≡ true = not-false _ s.access in
       let free : slice_get a.mains t ≡ Some None = main-none a.mains t (let c = h.mains.count in omega arith) (or-left (has_main a t) _ s.once) in
-      let out = not-among (placed_scheds (parts_of a)) g (or-right (has_main a t) _ s.once) in
+      let out = not-among (placed a) g (placed-not a g h.units.copied (or-right (has_main a t) _ s.once)) in
       record {
         streams = h.streams;
         keys = h.keys;
@@ -281,9 +310,11 @@ module _ {a : Above} {line : Text} {words : List Text} (h : IsProper a) where
         places = pairs-set a.mains _ t (sched_no g) free out h.places;
         objects = h.objects;
         units = h.units;
+        few_ops = h.few_ops;
         said = h.said;
+        last_said = h.last_said;
         words = h.words;
-        few_words = h.few_words;
+        last_words = h.last_words;
         order = record {
           no_streams = λ lt. absurd (omega arith);
           no_keys = λ lt. absurd (omega arith);
@@ -321,10 +352,12 @@ module _ {a : Above} {line : Text} {words : List Text} (h : IsProper a) where
         mains = h.mains;
         places = h.places;
         objects = record { few = omega arith; all = λ k t e. thing-grows a.objects new k t (thing-by new k t (get-and a.objects new k t e) (thing-in x s)) };
-        units = no-units _ _ _ _ (h.order.no_units (omega arith)) (h.order.no_last (omega arith)) h.units.few;
+        units = no-units _ _ _ _ _ (h.order.no_units (omega arith)) (h.order.no_last (omega arith)) h.units.few;
+        few_ops = h.few_ops;
         said = h.said;
+        last_said = h.last_said;
         words = h.words;
-        few_words = h.few_words;
+        last_words = h.last_words;
         order = record {
           no_streams = λ lt. absurd (omega arith);
           no_keys = λ lt. absurd (omega arith);
@@ -347,7 +380,9 @@ module _ {a : Above} {line : Text} {words : List Text} (h : IsProper a) where
   pub keeps-units : IsSound a line words form.Units → IsProper (with_line a form.Units words (values_of form.Units words))
   keeps-units s =
       let le = after-single form.Units s refl in
-      let w = within-at form.Units s 0 0 256 refl in
+      let w = kind-within form.Units s 0 number.UnitCount refl in
+      let most = most-units a.format in
+      let below : at (values_of form.Units words) 0 ≤ unit_limit a.format = le-from _ _ w in
       record {
         streams = h.streams;
         keys = h.keys;
@@ -356,10 +391,12 @@ module _ {a : Above} {line : Text} {words : List Text} (h : IsProper a) where
         mains = h.mains;
         places = h.places;
         objects = h.objects;
-        units = no-units _ _ _ _ (h.order.no_units (omega arith)) (h.order.no_last (omega arith)) (le-from _ 256 (and-right (nat_le 0 (at (values_of form.Units words) 0)) _ w));
+        units = no-units _ _ _ _ _ (h.order.no_units (omega arith)) (h.order.no_last (omega arith)) (omega arith);
+        few_ops = h.few_ops;
         said = h.said;
+        last_said = h.last_said;
         words = h.words;
-        few_words = h.few_words;
+        last_words = h.last_words;
         order = record {
           no_streams = λ lt. absurd (omega arith);
           no_keys = λ lt. absurd (omega arith);

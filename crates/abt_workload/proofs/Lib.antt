@@ -1,6 +1,6 @@
 pub mod Answering
 pub mod Bounds
-pub mod Costs
+pub mod Copies
 pub mod Filled
 pub mod Firm
 pub mod Fitting
@@ -12,7 +12,6 @@ pub mod Keeping
 pub mod KeepingUnits
 pub mod LineEnds
 pub mod LineWords
-pub mod Measures
 pub mod Naming
 pub mod NumberedLines
 pub mod Numerals
@@ -24,6 +23,7 @@ pub mod OperationForms
 pub mod OperationLines
 pub mod Proper
 pub mod Reaching
+pub mod Repeated
 pub mod Repeats
 pub mod RoundTrip
 pub mod SchedLines
@@ -32,12 +32,11 @@ pub mod Soundness
 pub mod StreamLines
 pub mod Taken
 pub mod Taking
-pub mod Totals
+pub mod TextBounds
 pub mod UnitForms
 pub mod UnitLines
 pub mod Validity
 pub mod Verdicts
-pub mod Weights
 pub mod WholeTexts
 pub mod WordEnds
 pub mod WritingLines

@@ -4,7 +4,7 @@ use Rattle.std.specs.List.{list_all}
 use Rattle.abt_machine.specs.declared.grammar.Form.{Form}
 use Rattle.abt_machine.specs.declared.grammar.Number.{Number}
 use Rattle.abt_machine.specs.Declaring.{Above}
-use Rattle.abt_machine.specs.Faults.{blocks_task, is_barred, is_early, is_misplaced, is_no_version, is_past_limit, is_skipped, is_there, is_twice, is_within, numbers_of, values_of}
+use Rattle.abt_machine.specs.Faults.{blocks_task, is_barred, is_beyond, is_early, is_misplaced, is_no_version, is_past_limit, is_skipped, is_there, is_twice, is_within, numbers_of, values_of}
 use Rattle.abt_machine.specs.Forms.{form_of, numerals, slots}
 use Rattle.abt_machine.specs.Spelling.{is_number, value_of}
 use Rattle.abt_machine.specs.Valid.{IsWord}
@@ -25,6 +25,7 @@ pub record IsFine (a : Above) (f : Form) (words : List Text) (ns : List ℕ) : T
   pub version : is_no_version a words ≡ false
   pub placed : is_misplaced a f ≡ false
   pub once : is_twice a f ns ≡ false
+  pub beyond : is_beyond a f ns ≡ false
   pub limit : is_past_limit a f words ns ≡ false
   pub task : blocks_task a f ≡ false
   pub access : is_barred a f ns ≡ false
@@ -52,15 +53,15 @@ module _ (a : Above) where
 
   -- a line of these numbers is taken where it has a form, and no other fault
   pub line-taken : (b : Above) (words : List Text) (f : Form) (ps : List (Number × ℕ)) → All IsWord words → is_skipped words ≡ false
-      → form_of words ≡ Some f → numerals (slots f) words ≡ spelled ps → AreFit a ps → IsFine a f words (values ps)
+      → form_of a.format words ≡ Some f → numerals (slots f) words ≡ spelled ps → AreFit a ps → IsFine a f words (values ps)
       → with_line a f words (values ps) ≡ b → Takes a words b
   line-taken b words f ps written kept formed numbers fit fine is =
       let there = all-hold (is_there a) (λ kind n h. h.there) ps fit in
-      let within = all-hold is_within (λ kind n h. h.within) ps fit in
+      let within = all-hold (is_within a.format) (λ kind n h. h.within) ps fit in
       let read : numbers_of f words ≡ ps = ap numbered numbers ∙ all-read ps fit in
       let digits : list_all (λ (p : Number × Text). is_number p.1) (numerals (slots f) words) ≡ true =
       ap (list_all (λ (p : Number × Text). is_number p.1)) numbers ∙ all-numbers ps fit in
-      let sound : later_fault a f words ps ≡ None = rw (fine.once, there, within, fine.limit, fine.task, fine.access, fine.early) refl in
+      let sound : later_fault a f words ps ≡ None = rw (fine.once, there, fine.beyond, within, fine.limit, fine.task, fine.access, fine.early) refl in
       let took : Takes a words (with_line a f words (values_of f words)) =
       taken a words f written kept fine.version formed fine.placed digits (ap (later_fault a f words) read ∙ sound) in
       subst (Takes a words) (ap (λ (qs : List (Number × ℕ)). with_line a f words (values qs)) read ∙ is) took

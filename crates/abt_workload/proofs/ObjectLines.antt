@@ -3,6 +3,7 @@ use Rattle.std.proofs.Common.{◌≡◌, ◌<◌, ◌≤◌, ℕ, List, [], ◌�
 use Rattle.std.proofs.lemmas.Bool.{le-ltb, lt-leb}
 use Rattle.abt_machine.specs.declared.grammar.Form.{Form}
 use Rattle.abt_machine.specs.declared.grammar.Form.TheVariants as form
+use Rattle.abt_machine.specs.declared.grammar.Format.{Format}
 use Rattle.abt_machine.specs.declared.operations.Combine.TheVariants as combine
 use Rattle.abt_machine.specs.declared.operations.Thing.{Thing}
 use Rattle.abt_machine.specs.declared.operations.Thing.TheVariants as thing
@@ -42,8 +43,8 @@ thing_word (thing.Future n c) = combine_name c
 thing_word t = codes "sum"
 
 -- what is declared while objects are
-abbrev below : Parts → ℕ → List Thing → Above
-below W section objects = placing section W.streams W.keys W.pools W.scheds (all_mains W) objects
+abbrev below : Format → Parts → ℕ → List Thing → Above
+below F W section objects = placing F section W.streams W.keys W.pools W.scheds (all_mains W) objects
 
 -- an object's line is written of its form
 written : (x : ℕ) (t : Thing) → IsWritten (form.Object (form_thing t)) (thing_word t) (x ∷ thing_numbers t) (object_line x t)
@@ -52,12 +53,12 @@ written x (thing.Future n combine.Count) = record { words_are = refl; form_is = 
 written x _ = record { words_are = refl; form_is = refl; skipped = refl; plain = refl; chosen = plain-word (codes "sum") refl }
 
 -- the numbers of a line are in order
-met : (W : Parts) (section : ℕ) (front rest : List Thing) (t : Thing) → front ++ rest ≡ W.objects → IsThing W (length front) t
-    → AreMet (below W section front) (given (slots (form.Object (form_thing t))) (length front ∷ thing_numbers t))
-met W section front rest (thing.Cond m) e h = (refl, get-front front rest W.objects m.0 thing.Mutex e h.0 h.1)
-met W section front rest (thing.Future n c) e h = let low = h.0 in let high = h.1 in (refl, (omega arith, high, omega arith))
-met W section front rest (thing.Barrier n) e h = let low = h.0 in let high = h.1 in (refl, (omega arith, high, omega arith))
-met W section front rest _ e h = refl
+met : (F : Format) (W : Parts) (section : ℕ) (front rest : List Thing) (t : Thing) → front ++ rest ≡ W.objects → IsThing W (length front) t
+    → AreMet (below F W section front) (given (slots (form.Object (form_thing t))) (length front ∷ thing_numbers t))
+met F W section front rest (thing.Cond m) e h = (refl, get-front front rest W.objects m.0 thing.Mutex e h.0 h.1)
+met F W section front rest (thing.Future n c) e h = let low = h.0 in let high = h.1 in (refl, (omega arith, high, omega arith))
+met F W section front rest (thing.Barrier n) e h = let low = h.0 in let high = h.1 in (refl, (omega arith, high, omega arith))
+met F W section front rest _ e h = refl
 
 -- the line says the object
 thing-again : (x : ℕ) (t : Thing) → thing_with (form_thing t) (object_line x t) (values (given (slots (form.Object (form_thing t))) (x ∷ thing_numbers t))) ≡ t
@@ -66,10 +67,10 @@ thing-again x (thing.Future n _) = refl
 thing-again x _ = refl
 
 -- the line of the next object is taken
-object-taken : (W : Parts) → IsValid W → (section : ℕ) → section ≤ 7 → (front : List Thing) (t : Thing) (rest : List Thing) → front ++ t ∷ rest ≡ W.objects
-    → Takes (below W section front) (object_line (length front) t) (below W 7 (front ++ t ∷ []))
-object-taken W v section le front t rest e =
-    let a : Above = below W section front in
+object-taken : (F : Format) (W : Parts) → IsValid W → (section : ℕ) → section ≤ 7 → (front : List Thing) (t : Thing) (rest : List Thing) → front ++ t ∷ rest ≡ W.objects
+    → Takes (below F W section front) (object_line (length front) t) (below F W 7 (front ++ t ∷ []))
+object-taken F W v section le front t rest e =
+    let a : Above = below F W section front in
     let x : ℕ = length front in
     let f : Form = form.Object (form_thing t) in
     let ns : List ℕ = x ∷ thing_numbers t in
@@ -77,21 +78,22 @@ object-taken W v section le front t rest e =
     let few : length W.objects ≤ 256 = v.few_objects in
     let h : IsThing W x t = v.objects x t (get-here front t rest W.objects e) in
     let small : IsSmall a = record { streams = v.few_streams; keys = v.few_keys; pools = v.few_pools; scheds = v.few_scheds; objects = omega arith; units = omega arith } in
-    takes a (below W 7 (front ++ t ∷ [])) f (thing_word t) ns (object_line x t)
+    takes a (below F W 7 (front ++ t ∷ [])) f (thing_word t) ns (object_line x t)
     (written x t)
-    (all-fit a small (given (slots f) ns) (met W section front (t ∷ rest) t e h))
+    (all-fit a small (given (slots f) ns) (met F W section front (t ∷ rest) t e h))
     record {
       version = refl;
       placed = placed-among a f le (omega arith) refl refl;
       once = le-ltb x x (omega arith);
+      beyond = refl;
       limit = lt-leb 256 x (omega arith);
       task = refl;
       access = refl;
       early = refl;
     }
-    (ap (λ (u : Thing). below W 7 (front ++ u ∷ [])) (thing-again x t))
+    (ap (λ (u : Thing). below F W 7 (front ++ u ∷ [])) (thing-again x t))
 
 -- the lines of a workload's objects are taken
-pub objects-taken : (W : Parts) → IsValid W → (section : ℕ) → section ≤ 7
-    → TakesAll (below W section []) (numbered object_line W.objects) (below W (reached section 7 W.objects) W.objects)
-objects-taken W v section le = section-taken object_line (below W) section 7 le W.objects (object-taken W v)
+pub objects-taken : (F : Format) (W : Parts) → IsValid W → (section : ℕ) → section ≤ 7
+    → TakesAll (below F W section []) (numbered object_line W.objects) (below F W (reached section 7 W.objects) W.objects)
+objects-taken F W v section le = section-taken object_line (below F W) section 7 le W.objects (object-taken F W v)

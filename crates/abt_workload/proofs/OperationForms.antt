@@ -5,6 +5,8 @@ use Rattle.std.proofs.lemmas.Bool.{le-ltb}
 use Rattle.std.proofs.lemmas.List.Elements.{All-head}
 use Rattle.abt_machine.specs.declared.grammar.Form.{Form}
 use Rattle.abt_machine.specs.declared.grammar.Form.TheVariants as form
+use Rattle.abt_machine.specs.declared.grammar.Format.{Format}
+use Rattle.abt_machine.specs.declared.grammar.Format.TheVariants as format
 use Rattle.abt_machine.specs.declared.operations.Op.{Op}
 use Rattle.abt_machine.specs.declared.operations.Op.TheVariants as op
 use Rattle.abt_machine.specs.declared.workload.Parts.{Parts}
@@ -78,7 +80,7 @@ op_in o = op.Print
 
 -- the operation that stands in the table of forms for lines such as o's
 abbrev pub op_form : Parts → Op → Op
-op_form W o = op_in (form_of (op_words W o))
+op_form W o = op_in (form_of format.One (op_words W o))
 
 -- f stands for the lines of operations such as o, and o's line is written of it
 pub record IsFormed (W : Parts) (o f : Op) : Type 0 where
@@ -115,12 +117,12 @@ formed W o h = record {
 }
 
 -- the numbers of an operation name what is declared
-pub op-met : (W : Parts) (units : List UnitPart) (last : Option UnitPart) (said : List ℕ) (o : Op) → IsDeclared W o
-    → AreMet (reached W 9 units last said) (given (op_slots (op_form W o)) (op_numbers o))
+pub op-met : (F : Format) (W : Parts) (units : List UnitPart) (last : Option UnitPart) (before said : List ℕ) (o : Op) → IsDeclared W o
+    → AreMet (reached F W 9 units last before said) (given (op_slots (op_form W o)) (op_numbers o))
 unfolding digits
-op-met W units last said (op.Set n) h = (omega arith, omega arith, h)
-op-met W units last said (op.Add n) h = (omega arith, omega arith, h)
-op-met W units last said (op.Say w) h = tt
-op-met W units last said (op.Migratable v true) h = (h, (omega arith, omega arith, omega arith))
-op-met W units last said (op.Migratable v false) h = (h, (omega arith, omega arith, omega arith))
-op-met W units last said o h = h
+op-met F W units last before said (op.Set n) h = (omega arith, omega arith, h)
+op-met F W units last before said (op.Add n) h = (omega arith, omega arith, h)
+op-met F W units last before said (op.Say w) h = tt
+op-met F W units last before said (op.Migratable v true) h = (h, (omega arith, omega arith, omega arith))
+op-met F W units last before said (op.Migratable v false) h = (h, (omega arith, omega arith, omega arith))
+op-met F W units last before said o h = h

@@ -1,5 +1,5 @@
 -- The numbers at the places of a line.
-use Rattle.std.proofs.Common.{◌≡◌, ◌<◌, ◌^◌, ◌&&◌, ◌||◌, ℕ, zero, suc, Bool, true, false, not, List, [], ◌∷◌, Some, map, nat_lt, refl, subst, arith, slice_get}
+use Rattle.std.proofs.Common.{◌≡◌, ◌<◌, ◌+◌, ◌^◌, ◌&&◌, ◌||◌, ℕ, zero, suc, Bool, true, false, not, List, [], ◌∷◌, Some, add-one, ap, drop, map, nat_lt, refl, subst, arith, slice_get}
 use Rattle.std.specs.List.{list_all}
 use Rattle.abt_machine.specs.declared.grammar.Number.{Number}
 use Rattle.abt_machine.specs.declared.grammar.Number.TheVariants as number
@@ -63,6 +63,11 @@ module _ (P : Number → ℕ → Bool) where
   at-kind (KindWord ∷ places) (w ∷ ws) k kind f g h = at-kind places ws k kind (and-right (suits KindWord w) _ f) g h
   at-kind (CombineWord ∷ places) (w ∷ ws) k kind f g h = at-kind places ws k kind (and-right (suits CombineWord w) _ f) g h
   at-kind (AnyWord ∷ places) (w ∷ ws) k kind f g h = at-kind places ws k kind f g h
+
+-- a number past the first is one of those that follow it
+pub at-after : (k : ℕ) (ns : List ℕ) → at ns (k + 1) ≡ at (drop 1 ns) k
+at-after k [] = refl
+at-after k (n ∷ ns) = let e : k + 1 ≡ suc k = add-one k in ap (at (n ∷ ns)) e
 
 -- Small numbers.
 

@@ -3,6 +3,7 @@ use Rattle.std.proofs.Common.{◌≡◌, ◌<◌, ◌≤◌, ℕ, List, [], ◌�
 use Rattle.std.proofs.lemmas.Bool.{le-ltb, lt-leb}
 use Rattle.abt_machine.specs.declared.grammar.Form.{Form}
 use Rattle.abt_machine.specs.declared.grammar.Form.TheVariants as form
+use Rattle.abt_machine.specs.declared.grammar.Format.{Format}
 use Rattle.abt_machine.specs.declared.operations.Access.{Access}
 use Rattle.abt_machine.specs.declared.operations.Access.TheVariants as access
 use Rattle.abt_machine.specs.declared.operations.Kind.{Kind}
@@ -40,8 +41,8 @@ streams_in (access.Spmc s) = s.0 ∷ []
 streams_in access.Mpmc = []
 
 -- what is declared while pools are
-abbrev pub pooling : ℕ → ℕ → ℕ → List PoolPart → Above
-pooling section streams keys pools = placing section streams keys pools [] (replicate streams None) []
+abbrev pub pooling : Format → ℕ → ℕ → ℕ → List PoolPart → Above
+pooling F section streams keys pools = placing F section streams keys pools [] (replicate streams None) []
 
 -- a pool's line is written of its form
 written : (p : ℕ) (k : Kind) (x : Access) → IsWritten (form.Pool (form_access x)) (kind_name k) (p ∷ streams_in x) (pool_line p (record { kind = k; access = x }))
@@ -51,10 +52,10 @@ written p kind.Deque (access.Priv s) = record { words_are = refl; form_is = refl
 written p kind.Deque _ = record { words_are = refl; form_is = refl; skipped = refl; plain = refl; chosen = plain-word (codes "deque") refl }
 
 -- the numbers of a line are in order
-met : (W : Parts) (section : ℕ) (front : List PoolPart) (x : Access) → IsAccess W x
-    → AreMet (pooling section W.streams W.keys front) (given (slots (form.Pool (form_access x))) (length front ∷ streams_in x))
-met W section front access.Mpmc h = refl
-met W section front _ h = (refl, h)
+met : (F : Format) (W : Parts) (section : ℕ) (front : List PoolPart) (x : Access) → IsAccess W x
+    → AreMet (pooling F section W.streams W.keys front) (given (slots (form.Pool (form_access x))) (length front ∷ streams_in x))
+met F W section front access.Mpmc h = refl
+met F W section front _ h = (refl, h)
 
 -- the line says the pool
 part-again : (p : ℕ) (k : Kind) (x : Access)
@@ -66,10 +67,10 @@ part-again p kind.Deque (access.Priv s) = refl
 part-again p kind.Deque _ = refl
 
 -- the line of the next pool is taken
-pool-taken : (W : Parts) → IsValid W → (section : ℕ) → section ≤ 4 → (front : List PoolPart) (part : PoolPart) (rest : List PoolPart) → front ++ part ∷ rest ≡ W.pools
-    → Takes (pooling section W.streams W.keys front) (pool_line (length front) part) (pooling 4 W.streams W.keys (front ++ part ∷ []))
-pool-taken W v section le front part rest e =
-    let a : Above = pooling section W.streams W.keys front in
+pool-taken : (F : Format) (W : Parts) → IsValid W → (section : ℕ) → section ≤ 4 → (front : List PoolPart) (part : PoolPart) (rest : List PoolPart) → front ++ part ∷ rest ≡ W.pools
+    → Takes (pooling F section W.streams W.keys front) (pool_line (length front) part) (pooling F 4 W.streams W.keys (front ++ part ∷ []))
+pool-taken F W v section le front part rest e =
+    let a : Above = pooling F section W.streams W.keys front in
     let p : ℕ = length front in
     let f : Form = form.Pool (form_access part.access) in
     let ns : List ℕ = p ∷ streams_in part.access in
@@ -77,21 +78,22 @@ pool-taken W v section le front part rest e =
     let few : length W.pools ≤ 64 = v.few_pools in
     let h : IsAccess W part.access = subst (λ (o : Option PoolPart). IsAccess W (access_from o)) (get-here front part rest W.pools e) (v.pools p lt) in
     let small : IsSmall a = record { streams = v.few_streams; keys = v.few_keys; pools = omega arith; scheds = omega arith; objects = omega arith; units = omega arith } in
-    takes a (pooling 4 W.streams W.keys (front ++ part ∷ [])) f (kind_name part.kind) ns (pool_line p part)
+    takes a (pooling F 4 W.streams W.keys (front ++ part ∷ [])) f (kind_name part.kind) ns (pool_line p part)
     (written p part.kind part.access)
-    (all-fit a small (given (slots f) ns) (met W section front part.access h))
+    (all-fit a small (given (slots f) ns) (met F W section front part.access h))
     record {
       version = refl;
       placed = placed-among a f le (omega arith) refl refl;
       once = le-ltb p p (omega arith);
+      beyond = refl;
       limit = lt-leb 64 p (omega arith);
       task = refl;
       access = refl;
       early = refl;
     }
-    (ap (λ (x : PoolPart). pooling 4 W.streams W.keys (front ++ x ∷ [])) (part-again p part.kind part.access))
+    (ap (λ (x : PoolPart). pooling F 4 W.streams W.keys (front ++ x ∷ [])) (part-again p part.kind part.access))
 
 -- the lines of a workload's pools are taken
-pub pools-taken : (W : Parts) → IsValid W → (section : ℕ) → section ≤ 4
-    → TakesAll (pooling section W.streams W.keys []) (numbered pool_line W.pools) (pooling (reached section 4 W.pools) W.streams W.keys W.pools)
-pools-taken W v section le = section-taken pool_line (λ s front. pooling s W.streams W.keys front) section 4 le W.pools (pool-taken W v)
+pub pools-taken : (F : Format) (W : Parts) → IsValid W → (section : ℕ) → section ≤ 4
+    → TakesAll (pooling F section W.streams W.keys []) (numbered pool_line W.pools) (pooling F (reached section 4 W.pools) W.streams W.keys W.pools)
+pools-taken F W v section le = section-taken pool_line (λ s front. pooling F s W.streams W.keys front) section 4 le W.pools (pool-taken F W v)

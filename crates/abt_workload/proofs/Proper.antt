@@ -1,5 +1,5 @@
 -- What sound lines declare is part of a valid workload.
-use Rattle.std.proofs.Common.{◌≡◌, ◌≢◌, ◌<◌, ◌≤◌, ◌+◌, ◌*◌, ℕ, Bool, true, false, List, [], ◌++◌, All, Option, Some, None, IsFalse, arith, is_none, length, map, option_to_list, refl, replicate, slice_get, unwrap_or}
+use Rattle.std.proofs.Common.{◌≡◌, ◌≢◌, ◌<◌, ◌≤◌, ◌+◌, ◌*◌, ℕ, Bool, true, false, List, [], ◌++◌, All, Option, Some, None, IsFalse, arith, flat_map, is_none, length, map, option_to_list, refl, replicate, slice_get, unwrap_or}
 use Rattle.std.specs.Bool.{⊤}
 use Rattle.std.specs.List.{AllPairs, list_all, list_any, range_with_len}
 use Rattle.abt_machine.specs.declared.numbers.PoolNo.{PoolNo}
@@ -8,6 +8,8 @@ use Rattle.abt_machine.specs.declared.operations.Access.{Access}
 use Rattle.abt_machine.specs.declared.operations.Access.TheVariants as access
 use Rattle.abt_machine.specs.declared.operations.Body.{Body}
 use Rattle.abt_machine.specs.declared.operations.Body.TheVariants as body
+use Rattle.abt_machine.specs.declared.operations.Op.{Op}
+use Rattle.abt_machine.specs.declared.operations.Op.TheVariants as op
 use Rattle.abt_machine.specs.declared.operations.Thing.{Thing}
 use Rattle.abt_machine.specs.declared.operations.Thing.TheVariants as thing
 use Rattle.abt_machine.specs.declared.workload.Parts.{Parts}
@@ -16,9 +18,12 @@ use Rattle.abt_machine.specs.declared.workload.SchedPart.{SchedPart}
 use Rattle.abt_machine.specs.declared.workload.UnitPart.{UnitPart}
 use Rattle.abt_machine.specs.Access.{takes}
 use Rattle.abt_machine.specs.Declaring.{Above, declared_units, nothing, parts_of}
-use Rattle.abt_machine.specs.Operations.{IsDeclared, may_block}
-use Rattle.abt_machine.specs.Valid.{IsRule, IsWord, placed_scheds, words_said}
-use Rattle.abt_machine.specs.Workloads.{access_from, ops_of, pools_from}
+use Rattle.abt_machine.specs.Operations.{IsDeclared, may_block, said_by}
+use Rattle.abt_machine.specs.Valid.{IsRule, IsWord, sched_in}
+use Rattle.abt_machine.specs.Workloads.{access_from, all_ops, ops_of, pools_from}
+use Rattle.abt_machine.proofs.Saying.{said_by_units}
+use Rattle.abt_workload.specs.Declarable.{last_count, last_ops, op_count}
+use Rattle.abt_workload.proofs.Copies.{AreCopies}
 
 abbrev pub stream_count : Above → ℕ
 stream_count a = unwrap_or a.streams 0
@@ -56,7 +61,12 @@ idle = record { body = body.Ult []; start = None }
 
 -- the workload that operations may name things of: all units that there will be
 abbrev pub counted : Above → Parts
-counted a = record (parts_of a) { mains = []; units = replicate (unit_count a) idle }
+counted a = record (parts_of a) { mains = []; units = replicate (unit_count a) idle; words = [] }
+
+-- an operation that says nothing, in place of one that says a word
+abbrev pub muted : Op → Op
+muted (op.Say w) = op.Print
+muted o = o
 
 abbrev pub IsBodyIn : ℕ → Body → Type 0
 IsBodyIn scheds (body.Ult ops) = ⊤
@@ -71,16 +81,12 @@ IsStartIn pools (Some p) = p.0 < pools
 pub record IsUnitIn (W : Parts) (part : UnitPart) : Type 0 where
   pub kind : IsBodyIn (length W.scheds) part.body
   pub few_ops : length (ops_of part.body) ≤ 256
-  pub ops : All (IsDeclared W) (ops_of part.body)
+  pub ops : All (λ o. IsDeclared W (muted o)) (ops_of part.body)
   pub start : IsStartIn (length W.pools) part.start
-
-abbrev pub op_count : Option UnitPart → ℕ
-op_count None = 0
-op_count (Some part) = length (ops_of part.body)
 
 pub record HasStreams (streams : Option ℕ) : Type 0 where
   pub low : (n : ℕ) → streams ≡ Some n → 0 < n
-  pub high : unwrap_or streams 0 ≤ 8
+  pub high : unwrap_or streams 0 ≤ 16
 
 pub record HasPools (streams : ℕ) (pools : List PoolPart) : Type 0 where
   pub few : length pools ≤ 64
@@ -103,10 +109,11 @@ pub record HasObjects (objects : List Thing) : Type 0 where
   pub few : length objects ≤ 256
   pub all : (x : ℕ) (t : Thing) → slice_get objects x ≡ Some t → IsThingIn objects x t
 
-pub record HasUnits (W : Parts) (count : ℕ) (units : List UnitPart) (last : Option UnitPart) : Type 0 where
-  pub few : count ≤ 256
-  pub declared : length units + length (option_to_list last) ≤ count
+pub record HasUnits (W : Parts) (count : ℕ) (units : List UnitPart) (last : Option UnitPart) (copies : ℕ) : Type 0 where
+  pub few : count ≤ 4096
+  pub declared : length units + last_count copies last ≤ count
   pub all : All (IsUnitIn W) (units ++ option_to_list last)
+  pub copied : AreCopies copies last
 
 -- what comes later is not declared yet, and what comes first is declared
 pub record IsInOrder (a : Above) : Type 0 where
@@ -122,18 +129,24 @@ pub record IsInOrder (a : Above) : Type 0 where
   pub has_count : 8 < a.section → is_none a.unit_count ≡ false
   pub has_units : 9 < a.section → unit_count a ≤ declared_units a
 
+-- the schedulers that have a place
+abbrev pub placed : Above → List ℕ
+placed a = map (λ (g : SchedNo). g.0) (flat_map option_to_list a.mains) ++ flat_map (λ (part : UnitPart). sched_in part.body) (a.units ++ option_to_list a.last)
+
 pub record IsProper (a : Above) : Type 0 where
   pub streams : HasStreams a.streams
   pub keys : a.keys ≤ 16
   pub pools : HasPools (stream_count a) a.pools
   pub scheds : HasScheds (length a.pools) a.scheds
   pub mains : HasMains (stream_count a) a.pools a.scheds a.mains
-  pub places : AllPairs (λ x y. x ≢ y) (placed_scheds (parts_of a))
+  pub places : AllPairs (λ x y. x ≢ y) (placed a)
   pub objects : HasObjects a.objects
-  pub units : HasUnits (counted a) (unit_count a) a.units a.last
-  pub said : words_said (parts_of a) ≡ range_with_len 0 (length a.words)
+  pub units : HasUnits (counted a) (unit_count a) a.units a.last a.copies
+  pub few_ops : length (all_ops a.units) + a.copies * op_count a.last ≤ 65536
+  pub said : said_by_units a.units ≡ range_with_len 0 (length a.words)
+  pub last_said : flat_map said_by (last_ops a.last) ≡ range_with_len (length a.words) (length a.said)
   pub words : All IsWord a.words
-  pub few_words : length a.words ≤ 256 * length a.units + op_count a.last
+  pub last_words : All IsWord a.said
   pub order : IsInOrder a
 
 pub no-pair : {A : Type 0} (R : A → A → Type 0) → AllPairs R []
@@ -152,9 +165,11 @@ proper-nothing = record {
   mains = record { count = refl; there = λ s g e. cc; taking = λ s g e. cc };
   places = no-pair (λ (x y : ℕ). x ≢ y);
   objects = record { few = omega arith; all = λ x t e. cc };
-  units = record { few = omega arith; declared = omega arith; all = none-of _ };
+  units = record { few = omega arith; declared = omega arith; all = none-of _; copied = tt };
+  few_ops = omega arith;
   said = refl;
+  last_said = refl;
   words = none-of _;
-  few_words = omega arith;
+  last_words = none-of _;
   order = record { no_streams = λ _. refl; no_keys = λ _. refl; no_mains = λ _ s g e. cc; no_units = λ _. refl; no_last = λ _. refl; no_count = λ _. refl; has_streams = λ lt. absurd (omega arith); has_pools = λ lt. absurd (omega arith); has_mains = λ lt. refl; has_count = λ lt. absurd (omega arith); has_units = λ lt. omega arith };
 }

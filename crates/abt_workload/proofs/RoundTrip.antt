@@ -1,27 +1,33 @@
 -- Valid parts are those that texts read to.
-use Rattle.std.proofs.Common.{inl, inr, ◌⊎◌, ◌≡◌, ◌<◌, ◌≤◌, ◌+◌, ◌==◌, ◌∙◌, ℕ, zero, suc, Bool, true, false, List, [], ◌∷◌, ◌++◌, All, Some, None, ap, append_assoc, arith, codes, find, fold, get_or, length, map, nat_lt, refl, subst, sym, take}
+use Rattle.std.proofs.Common.{inl, inr, ◌⊎◌, ◌≡◌, ◌<◌, ◌≤◌, ◌+◌, ◌==◌, ◌&&◌, ◌∙◌, ℕ, zero, suc, Bool, true, false, List, [], ◌∷◌, ◌++◌, All, Some, None, ap, append_assoc, arith, codes, find, fold, get_or, length, map, nat_le, nat_lt, refl, subst, sym, take}
 use Rattle.std.proofs.lemmas.Bool.{cases_lt, le-ltb}
 use Rattle.std.proofs.lemmas.List.Elements.{All-cons}
 use Rattle.abt_machine.specs.declared.grammar.Form.TheVariants as form
+use Rattle.abt_machine.specs.declared.grammar.Format.{Format}
+use Rattle.abt_machine.specs.declared.grammar.Format.TheVariants as format
 use Rattle.abt_machine.specs.declared.workload.Parts.{Parts}
-use Rattle.abt_machine.specs.Canonical.{canonical_text, fitted, workload_lines}
+use Rattle.abt_machine.specs.Canonical.{canonical_text, has_text, text_in, workload_lines}
 use Rattle.abt_machine.specs.Declaring.{Above, declared_units, nothing, parts_of}
 use Rattle.abt_machine.specs.Faults.{faults, is_early, line_fault}
-use Rattle.abt_machine.specs.Grammar.{Reads, and_line, declared_by, fault_at, has_at}
+use Rattle.abt_machine.specs.Grammar.{Reads, and_line, declared_by, fault_at, format_of, has_at}
+use Rattle.abt_machine.specs.Limits.{stream_limit, text_limit, unit_limit}
 use Rattle.abt_machine.specs.Spelling.{lines_of}
 use Rattle.abt_machine.specs.Valid.{IsValid, IsWord}
 use Rattle.abt_machine.specs.Words.{Text, line_of, text_of}
-use Rattle.abt_workload.proofs.Costs.{units_lines}
+use Rattle.abt_workload.proofs.Bounds.{le-from}
 use Rattle.abt_workload.proofs.Filled.{takes}
 use Rattle.abt_workload.proofs.Firm.{valid-end}
 use Rattle.abt_workload.proofs.HeadLines.{head-taken}
-use Rattle.abt_workload.proofs.Heads.{first_lines, head, head_lines, units_words}
+use Rattle.abt_workload.proofs.Heads.{first_lines, head, head_lines, units_lines, units_words}
 use Rattle.abt_workload.proofs.InOrder.{placed-alone}
+use Rattle.abt_workload.proofs.Places.{and-left, and-right}
 use Rattle.abt_workload.proofs.Proper.{none-of}
-use Rattle.abt_workload.proofs.Seen.{fault-in, fault-length, faultless-end, refuses-end, refuses-length}
+use Rattle.abt_workload.proofs.Seen.{fault-in, fault-length, faultless-end, most, refuses-end, refuses-length}
 use Rattle.abt_workload.proofs.Taking.{Takes, TakesAll, plain-word, takes-append}
 use Rattle.abt_workload.proofs.UnitLines.{IsWhole, units-taken}
-use Rattle.abt_workload.proofs.WrittenLines.{lines-of-fitted}
+use Rattle.abt_workload.proofs.TextBounds.{text-fits}
+use Rattle.abt_workload.proofs.WholeTexts.{canonical-one, canonical-two}
+use Rattle.abt_workload.proofs.WrittenLines.{lines-of-text}
 
 -- Lines that are taken.
 
@@ -45,7 +51,7 @@ faultless-all a b (words ∷ rest) h (suc i) lt =
     subst (λ (s : Above). line_fault (fold and_line s (take i (map line_of rest))) (get_or (map line_of rest) i []) ≡ None) (sym h.1.declared) rec
 
 -- a text of lines that are taken one after the other reads to what they declare, where the last is `end`
-reads-written : (text : Text) (lines : List (List Text)) (b : Above) → length text ≤ 4194304 → lines_of text ≡ map line_of lines → TakesAll nothing lines b → (b.section == 10) ≡ true
+reads-written : (text : Text) (lines : List (List Text)) (b : Above) → length text ≤ most text → lines_of text ≡ map line_of lines → TakesAll nothing lines b → (b.section == 10) ≡ true
     → Reads text (parts_of b)
 reads-written text lines b le same h ended = record { faultless = none; parts = ap parts_of (sym declared ∙ sym (ap declared_by same)) }
   where
@@ -83,51 +89,67 @@ module _ (b : Above) (streams count : ℕ) (begun : b.begun ≡ true) (has_strea
       takes b (closed b) form.End (codes "end") [] end_words
       record { words_are = refl; form_is = refl; skipped = refl; plain = refl; chosen = plain-word (codes "end") refl }
       tt
-      record { version = rw begun refl; placed = placed-alone b form.End (omega arith) (omega arith) refl; once = refl; limit = refl; task = refl; access = refl; early = end-there }
+      record { version = rw begun refl; placed = placed-alone b form.End (omega arith) (omega arith) refl; once = refl; beyond = refl; limit = refl; task = refl; access = refl; early = end-there }
       refl
 
 -- The whole text.
 
 -- the lines of a workload but the last
-abbrev front_lines : Parts → List (List Text)
-front_lines W = head_lines W ++ units_lines W 0 W.units
+abbrev pub front_lines : Format → Parts → List (List Text)
+front_lines F W = head_lines F W ++ units_lines W 0 W.units
 
 -- the lines of a workload, parted before the last
-all-lines : (W : Parts) → workload_lines W ≡ front_lines W ++ end_words ∷ []
-all-lines W =
-    ap (λ (ls : List (List Text)). ls ++ end_words ∷ []) (sym (append_assoc (first_lines W) (units_words W ∷ []) (units_lines W 0 W.units)))
+all-lines : (F : Format) (W : Parts) → workload_lines F W ≡ front_lines F W ++ end_words ∷ []
+all-lines F W =
+    ap (λ (ls : List (List Text)). ls ++ end_words ∷ []) (sym (append_assoc (first_lines F W) (units_words W ∷ []) (units_lines W 0 W.units)))
+
+-- they are those of a text of that format
+whole-format : (F : Format) (W : Parts) → format_of (map line_of (front_lines F W ++ end_words ∷ [])) ≡ F
+whole-format format.One W = refl
+whole-format format.Two W = refl
+
+-- the text of valid parts in a format that has their counts and their text reads to them
+reads-in : (F : Format) (W : Parts) → IsValid W → W.streams ≤ stream_limit F → length W.units ≤ unit_limit F → length (text_in F W) ≤ text_limit F → Reads (text_in F W) W
+reads-in F W v few_streams few_units few_bytes =
+    let whole = units-taken F W v in
+    let b : Above = whole.0 in
+    let h : IsWhole W b = whole.2 in
+    let front : TakesAll nothing (front_lines F W) b = takes-append nothing (head F W) b (head_lines F W) (units_lines W 0 W.units) (head-taken F W v few_streams few_units) whole.1 in
+    let last : Takes b end_words (closed b) = end-taken b W.streams (length W.units) h.begun h.streams h.unit_count h.declared h.section in
+    let all : TakesAll nothing (front_lines F W ++ end_words ∷ []) (closed b) =
+    takes-append nothing b (closed b) (front_lines F W) (end_words ∷ []) front (closed b, last, refl) in
+    let same : lines_of (text_in F W) ≡ map line_of (front_lines F W ++ end_words ∷ []) =
+    ap (λ (ls : List (List Text)). lines_of (text_of ls)) (all-lines F W)
+    ∙ lines-of-text (front_lines F W ++ end_words ∷ []) (written-all nothing (closed b) (front_lines F W ++ end_words ∷ []) all) in
+    let its : format_of (lines_of (text_in F W)) ≡ F = ap format_of same ∙ whole-format F W in
+    subst (λ (V : Parts). Reads (text_in F W) V) h.parts
+    (reads-written (text_in F W) (front_lines F W ++ end_words ∷ []) (closed b) (subst (λ (G : Format). length (text_in F W) ≤ text_limit G) (sym its) few_bytes) same all refl)
 
 -- the canonical text of valid parts reads to them
 pub reads-canonical : (W : Parts) → IsValid W → Reads (canonical_text W) W
-reads-canonical W v =
-    let whole = units-taken W v in
-    let b : Above = whole.0 in
-    let h : IsWhole W b = whole.2 in
-    let front : TakesAll nothing (front_lines W) b = takes-append nothing (head W) b (head_lines W) (units_lines W 0 W.units) (head-taken W v) whole.1 in
-    let last : Takes b end_words (closed b) = end-taken b W.streams (length W.units) h.begun h.streams h.unit_count h.declared h.section in
-    let all : TakesAll nothing (front_lines W ++ end_words ∷ []) (closed b) =
-    takes-append nothing b (closed b) (front_lines W) (end_words ∷ []) front (closed b, last, refl) in
-    let same : lines_of (canonical_text W) ≡ map line_of (front_lines W ++ end_words ∷ []) =
-    ap (λ (ls : List (List Text)). lines_of (fitted (text_of ls))) (all-lines W)
-    ∙ lines-of-fitted (front_lines W) end_words (written-all nothing b (front_lines W) front) last.written (omega arith) in
-    subst (λ (V : Parts). Reads (canonical_text W) V) h.parts
-    (reads-written (canonical_text W) (front_lines W ++ end_words ∷ []) (closed b) v.few_bytes same all refl)
+reads-canonical W v = by (has_text format.One W) refl
+  where
+    by : (b : Bool) → has_text format.One W ≡ b → Reads (canonical_text W) W
+    by true e =
+        let counts : (nat_le W.streams 8 && nat_le (length W.units) 256) ≡ true = and-left (nat_le W.streams 8 && nat_le (length W.units) 256) _ e in
+        subst (λ (t : Text). Reads t W) (canonical-one W e)
+        (reads-in format.One W v (le-from W.streams 8 (and-left (nat_le W.streams 8) _ counts)) (le-from (length W.units) 256 (and-right (nat_le W.streams 8) _ counts))
+        (le-from (length (text_in format.One W)) 4194304 (and-right (nat_le W.streams 8 && nat_le (length W.units) 256) _ e)))
+    by false e = subst (λ (t : Text). Reads t W) (canonical-two W e) (reads-in format.Two W v v.few_streams v.few_units (text-fits W v format.Two))
 
 -- The other direction.
 
 -- the parts that a text reads to are valid
 pub only-valid : (text : Text) (W : Parts) → Reads text W → IsValid W
-only-valid text W reads =
-    subst IsValid (sym reads.parts)
-    (valid-end text short (λ i. reads.faultless (suc i)) (ended ((declared_by (lines_of text)).section == 10) refl))
+only-valid text W reads = subst IsValid (sym reads.parts) (valid-end text (ended ((declared_by (lines_of text)).section == 10) refl))
   where
-    long : 4194304 < length text → length text ≤ 4194304
+    long : most text < length text → length text ≤ most text
     long lt = let some = (refuses-length text lt).first in let none = reads.faultless 0 in cc
 
-    short : length text ≤ 4194304
-    short = by (cases_lt 4194304 (length text))
+    short : length text ≤ most text
+    short = by (cases_lt (most text) (length text))
       where
-        by : (4194304 < length text) ⊎ (length text ≤ 4194304) → length text ≤ 4194304
+        by : (most text < length text) ⊎ (length text ≤ most text) → length text ≤ most text
         by (inl lt) = long lt
         by (inr le) = le
 

@@ -1,5 +1,5 @@
 -- The lines of schedulers are taken.
-use Rattle.std.proofs.Common.{◌≡◌, ◌≢◌, ◌<◌, ◌≤◌, ◌^◌, ◌-◌, ◌∙◌, ◌==◌, ℕ, suc, All, false, List, [], ◌∷◌, ◌++◌, None, ap, arith, codes, length, map, nat_le, nat_lt, refl, replicate, sym}
+use Rattle.std.proofs.Common.{◌≡◌, ◌≢◌, ◌<◌, ◌≤◌, ◌^◌, ◌-◌, ◌∙◌, ◌==◌, ℕ, suc, All, false, List, [], ◌∷◌, ◌++◌, None, ap, arith, codes, decimal, length, map, nat_le, nat_lt, refl, replicate, sym}
 use Rattle.std.specs.List.{AllPairs, list_any}
 use Rattle.std.proofs.lemmas.Bool.{le-ltb, lt-leb, ne_eqb}
 use Rattle.std.proofs.lemmas.List.{length-map}
@@ -7,6 +7,7 @@ use Rattle.std.proofs.lemmas.List.Folds.{list_any_none}
 use Rattle.std.proofs.lemmas.List.Elements.{All-head, All-map, All-tail}
 use Rattle.abt_machine.specs.declared.grammar.Form.{Form}
 use Rattle.abt_machine.specs.declared.grammar.Form.TheVariants as form
+use Rattle.abt_machine.specs.declared.grammar.Format.{Format}
 use Rattle.abt_machine.specs.declared.grammar.Number.TheVariants as number
 use Rattle.abt_machine.specs.declared.numbers.PoolNo.{PoolNo}
 use Rattle.abt_machine.specs.declared.operations.Rule.{Rule}
@@ -16,22 +17,20 @@ use Rattle.abt_machine.specs.declared.workload.PoolPart.{PoolPart}
 use Rattle.abt_machine.specs.declared.workload.SchedPart.{SchedPart}
 use Rattle.abt_machine.specs.Canonical.{sched_line}
 use Rattle.abt_machine.specs.Checks.{IsSchedPart}
-use Rattle.abt_machine.specs.Declaring.{Above, listed, sched_with}
+use Rattle.abt_machine.specs.Declaring.{Above, at, listed, sched_with}
 use Rattle.abt_machine.specs.Faults.{has_repeated}
 use Rattle.abt_machine.specs.Forms.{rule_slots, slots}
 use Rattle.abt_machine.specs.Numbers.{pool_no}
 use Rattle.abt_machine.specs.Valid.{IsRule, IsValid}
-use Rattle.abt_machine.specs.Words.{numbered}
+use Rattle.abt_machine.specs.Words.{Text, numbered}
 use Rattle.abt_machine.proofs.Checked.{from-sched, pairs-map}
 use Rattle.abt_workload.specs.Slots.{values}
-use Rattle.abt_workload.proofs.Filled.{IsWritten, as_pools, given, takes}
+use Rattle.abt_workload.proofs.Filled.{IsWritten, as_pools, filled, given, takes}
 use Rattle.abt_workload.proofs.Fitting.{AreFit, IsSmall, fit, fit-within}
 use Rattle.abt_workload.proofs.Heads.{placing}
 use Rattle.abt_workload.proofs.InOrder.{front-shorter, get-here, placed-among, reached, section-taken}
-use Rattle.abt_workload.proofs.Measures.{sched-line}
 use Rattle.abt_workload.proofs.Places.{or-both}
 use Rattle.abt_workload.proofs.Taking.{Takes, TakesAll, plain-word}
-use Rattle.abt_workload.proofs.Weights.{filled}
 
 -- a rule as the table of forms has it
 abbrev form_rule : Rule → Rule
@@ -56,8 +55,8 @@ abbrev numbers_in : ℕ → Rule → List ℕ → List ℕ
 numbers_in g r ps = g ∷ rule_number r ++ ps
 
 -- what is declared while schedulers are
-abbrev pub scheduling : ℕ → ℕ → ℕ → List PoolPart → List SchedPart → Above
-scheduling section streams keys pools scheds = placing section streams keys pools scheds (replicate streams None) []
+abbrev pub scheduling : Format → ℕ → ℕ → ℕ → List PoolPart → List SchedPart → Above
+scheduling F section streams keys pools scheds = placing F section streams keys pools scheds (replicate streams None) []
 
 -- What a line says.
 
@@ -75,6 +74,19 @@ pools-again (p ∷ ps) = ap (λ (qs : List PoolNo). p ∷ qs) (pools-again ps)
 part-again : (g : ℕ) (r : Rule) (ps : List PoolNo) → sched_with (form_rule r) (numbers_in g r (pools_in ps)) ≡ record { rule = r; pools = ps }
 part-again g rule.Basic ps = ap (λ (qs : List PoolNo). record { rule = rule.Basic; pools = qs }) (pools-again ps)
 part-again g r ps = ap (λ (qs : List PoolNo). record { rule = r; pools = qs }) (pools-again ps)
+
+-- the numbers of pools
+pooled : (ns : List ℕ) → map (λ (p : PoolNo). decimal p.0) (map pool_no ns) ≡ map decimal ns
+pooled [] = refl
+pooled (n ∷ ns) = ap (λ (ws : List Text). decimal n ∷ ws) (pooled ns)
+
+-- the line that is written for a scheduler has its form's words
+sched-line : (word : Text) (r : Rule) (vals : List ℕ) → 0 < length (listed r vals) → sched_line (at vals 0) (sched_with r vals) ≡ filled (slots (form.Sched r)) word vals
+sched-line word rule.Basic (g ∷ vs) lt = ap (λ (ws : List Text). codes "sched" ∷ decimal g ∷ codes "basic" ∷ ws) (pooled vs)
+sched-line word rule.Prio (g ∷ vs) lt = ap (λ (ws : List Text). codes "sched" ∷ decimal g ∷ codes "prio" ∷ ws) (pooled vs)
+sched-line word (rule.Randws n) (g ∷ k ∷ vs) lt = ap (λ (ws : List Text). codes "sched" ∷ decimal g ∷ codes "randws" ∷ decimal k ∷ ws) (pooled vs)
+sched-line word (rule.User n) (g ∷ k ∷ vs) lt = ap (λ (ws : List Text). codes "sched" ∷ decimal g ∷ codes "user" ∷ decimal k ∷ ws) (pooled vs)
+sched-line word r vals lt = absurd (omega arith)
 
 -- a scheduler's line has its form's words
 words-are : (g : ℕ) (r : Rule) (ps : List PoolNo) → 0 < length ps
@@ -130,10 +142,10 @@ none-repeated (n ∷ ns) h =
 -- Lines.
 
 -- the line of the next scheduler is taken
-sched-taken : (W : Parts) → IsValid W → (section : ℕ) → section ≤ 5 → (front : List SchedPart) (part : SchedPart) (rest : List SchedPart) → front ++ part ∷ rest ≡ W.scheds
-    → Takes (scheduling section W.streams W.keys W.pools front) (sched_line (length front) part) (scheduling 5 W.streams W.keys W.pools (front ++ part ∷ []))
-sched-taken W v section le front part rest e =
-    let a : Above = scheduling section W.streams W.keys W.pools front in
+sched-taken : (F : Format) (W : Parts) → IsValid W → (section : ℕ) → section ≤ 5 → (front : List SchedPart) (part : SchedPart) (rest : List SchedPart) → front ++ part ∷ rest ≡ W.scheds
+    → Takes (scheduling F section W.streams W.keys W.pools front) (sched_line (length front) part) (scheduling F 5 W.streams W.keys W.pools (front ++ part ∷ []))
+sched-taken F W v section le front part rest e =
+    let a : Above = scheduling F section W.streams W.keys W.pools front in
     let g : ℕ = length front in
     let f : Form = form.Sched (form_rule part.rule) in
     let ps : List ℕ = pools_in part.pools in
@@ -146,22 +158,23 @@ sched-taken W v section le front part rest e =
     let pools : listed (form_rule part.rule) (values (given (slots f) (numbers_in g part.rule ps))) ≡ ps =
     ap (listed (form_rule part.rule)) read ∙ listed-again g part.rule ps in
     let few_listed : length ps ≤ 8 = let most = h.pools.few_pools in rw length-map most in
-    takes a (scheduling 5 W.streams W.keys W.pools (front ++ part ∷ [])) f (codes "sched") (numbers_in g part.rule ps) (sched_line g part)
+    takes a (scheduling F 5 W.streams W.keys W.pools (front ++ part ∷ [])) f (codes "sched") (numbers_in g part.rule ps) (sched_line g part)
     (written g part.rule part.pools h.pools.some_pool)
     (fit a small number.NewSched g refl, rule-fit a small part.rule ps h.rule there)
     record {
       version = refl;
       placed = placed-among a f le (omega arith) refl refl;
       once = or-both (nat_lt g g) _ (le-ltb g g (omega arith)) (ap has_repeated pools ∙ none-repeated ps (pairs-map part.pools h.pools.once));
+      beyond = refl;
       limit = or-both (nat_le 64 g) _ (lt-leb 64 g (omega arith)) (ap (λ (ns : List ℕ). nat_lt 8 (length ns)) pools ∙ le-ltb 8 (length ps) few_listed);
       task = refl;
       access = refl;
       early = refl;
     }
-    (ap (λ (x : SchedPart). scheduling 5 W.streams W.keys W.pools (front ++ x ∷ []))
+    (ap (λ (x : SchedPart). scheduling F 5 W.streams W.keys W.pools (front ++ x ∷ []))
     (ap (sched_with (form_rule part.rule)) read ∙ part-again g part.rule part.pools))
 
 -- the lines of a workload's schedulers are taken
-pub scheds-taken : (W : Parts) → IsValid W → (section : ℕ) → section ≤ 5
-    → TakesAll (scheduling section W.streams W.keys W.pools []) (numbered sched_line W.scheds) (scheduling (reached section 5 W.scheds) W.streams W.keys W.pools W.scheds)
-scheds-taken W v section le = section-taken sched_line (λ s front. scheduling s W.streams W.keys W.pools front) section 5 le W.scheds (sched-taken W v)
+pub scheds-taken : (F : Format) (W : Parts) → IsValid W → (section : ℕ) → section ≤ 5
+    → TakesAll (scheduling F section W.streams W.keys W.pools []) (numbered sched_line W.scheds) (scheduling F (reached section 5 W.scheds) W.streams W.keys W.pools W.scheds)
+scheds-taken F W v section le = section-taken sched_line (λ s front. scheduling F s W.streams W.keys W.pools front) section 5 le W.scheds (sched-taken F W v)

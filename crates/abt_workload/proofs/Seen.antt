@@ -1,13 +1,16 @@
 -- Lines that are taken one after the other.
-use Rattle.std.proofs.Common.{◌≡◌, ◌<◌, ◌≤◌, ◌+◌, ◌==◌, ◌&&◌, ◌∙◌, ℕ, zero, suc, Bool, true, false, List, [], ◌∷◌, length, take, drop, get_or, find, Option, Some, None, arith, refl, sym, ap, add-one, length-drop, if◌then◌else◌, nat_lt, rules, tests, subst, inl, inr, ◌⊎◌}
+use Rattle.std.proofs.Common.{◌≡◌, ◌<◌, ◌≤◌, ◌+◌, ◌==◌, ◌&&◌, ◌∙◌, ℕ, zero, suc, Bool, true, false, List, [], ◌∷◌, length, take, drop, get_or, find, Option, Some, None, arith, refl, sym, ap, add-one, length-drop, if◌then◌else◌, nat_lt, rules, tests, subst, inl, inr, ◌⊎◌, lit≤}
 use Rattle.std.proofs.lemmas.Bool.{cases_order, lt-ltb}
 use Rattle.std.proofs.lemmas.List.{take_all, take_more}
 use Rattle.std.proofs.lemmas.List.Sums.{fold-append}
+use Rattle.abt_machine.specs.declared.grammar.Format.{Format}
+use Rattle.abt_machine.specs.declared.grammar.Format.TheVariants as format
 use Rattle.abt_machine.specs.declared.program.Fault.{Fault}
 use Rattle.abt_machine.specs.declared.program.Fault.TheVariants as fault
 use Rattle.abt_machine.specs.Declaring.{Above, nothing}
 use Rattle.abt_machine.specs.Faults.{faults, line_fault, line_has}
-use Rattle.abt_machine.specs.Grammar.{Refuses, and_line, declared_by, ends_early, fault_at, has_at}
+use Rattle.abt_machine.specs.Grammar.{Refuses, and_line, declared_by, ends_early, fault_at, format_of, has_at}
+use Rattle.abt_machine.specs.Limits.{text_limit}
 use Rattle.abt_machine.specs.Spelling.{lines_of}
 use Rattle.abt_machine.specs.Words.{Text}
 
@@ -73,17 +76,31 @@ fault-past L n lt =
 
 -- The text's length.
 
-pub fault-length : (text : Text) → length text ≤ 4194304 → fault_at text 0 ≡ None
+-- how long a text may be
+abbrev pub most : Text → ℕ
+most text = text_limit (format_of (lines_of text))
+
+-- no format has more bytes
+pub most-bytes : (F : Format) → text_limit F ≤ 8388608
+most-bytes format.One = lit≤ tt
+most-bytes format.Two = lit≤ tt
+
+-- and none has fewer
+pub least-bytes : (F : Format) → 4194304 ≤ text_limit F
+least-bytes format.One = lit≤ tt
+least-bytes format.Two = lit≤ tt
+
+pub fault-length : (text : Text) → length text ≤ most text → fault_at text 0 ≡ None
 fault-length text le =
-    let no : nat_lt 4194304 (length text) ≡ false = search (rules, tests) in
+    let no : nat_lt (most text) (length text) ≡ false = search (rules, tests) in
     ap (λ (b : Bool). find (by-length b) faults) no
   where
     by-length : Bool → Fault → Bool
     by-length b fault.Limit = b
     by-length b f = false
 
-pub length-fault : (text : Text) → 4194304 < length text → fault_at text 0 ≡ Some fault.Limit
-length-fault text lt = let yes : nat_lt 4194304 (length text) ≡ true = lt-ltb 4194304 (length text) lt in rw yes refl
+pub length-fault : (text : Text) → most text < length text → fault_at text 0 ≡ Some fault.Limit
+length-fault text lt = let yes : nat_lt (most text) (length text) ≡ true = lt-ltb (most text) (length text) lt in rw yes refl
 
 -- Whole texts.
 
@@ -91,20 +108,20 @@ length-fault text lt = let yes : nat_lt 4194304 (length text) ≡ true = lt-ltb 
 abbrev pub IsFaultless : List Text → ℕ → Type 0
 IsFaultless L n = (i : ℕ) → i < n → find (has_at L i) faults ≡ None
 
-pub refuses-length : (text : Text) → 4194304 < length text → Refuses text 0 fault.Limit
+pub refuses-length : (text : Text) → most text < length text → Refuses text 0 fault.Limit
 refuses-length text lt = record { least = λ m h. absurd (omega (arith, h)); first = length-fault text lt }
 
-least-of : (text : Text) (n : ℕ) → length text ≤ 4194304 → IsFaultless (lines_of text) n → (m : ℕ) → m < n + 1 → fault_at text m ≡ None
+least-of : (text : Text) (n : ℕ) → length text ≤ most text → IsFaultless (lines_of text) n → (m : ℕ) → m < n + 1 → fault_at text m ≡ None
 least-of text n le least zero lt = fault-length text le
 least-of text n le least (suc m) lt = least m (omega arith)
 
-refuses-at : (text : Text) (n : ℕ) (f : Fault) → length text ≤ 4194304 → IsFaultless (lines_of text) n → find (has_at (lines_of text) n) faults ≡ Some f → Refuses text (n + 1) f
+refuses-at : (text : Text) (n : ℕ) (f : Fault) → length text ≤ most text → IsFaultless (lines_of text) n → find (has_at (lines_of text) n) faults ≡ Some f → Refuses text (n + 1) f
 refuses-at text n f le least here =
     let at : Refuses text (suc n) f = record { least = λ m lt. least-of text n le least m (omega arith); first = here } in
     let e : n + 1 ≡ suc n = add-one n in
     subst (λ j. Refuses text j f) (sym e) at
 
-pub refuses-line : (text : Text) (n : ℕ) (x : Text) (xs : List Text) (a : Above) (f : Fault) (o : Option Fault) → length text ≤ 4194304 → drop n (lines_of text) ≡ x ∷ xs → a ≡ declared_by (take n (lines_of text))
+pub refuses-line : (text : Text) (n : ℕ) (x : Text) (xs : List Text) (a : Above) (f : Fault) (o : Option Fault) → length text ≤ most text → drop n (lines_of text) ≡ x ∷ xs → a ≡ declared_by (take n (lines_of text))
     → IsFaultless (lines_of text) n → o ≡ line_fault a x → o ≡ Some f → Refuses text (n + 1) f
 refuses-line text n x xs a f o le e at least here some = refuses-at text n f le least (fault-here (lines_of text) n x xs a e at ∙ (sym here ∙ some))
 
@@ -115,7 +132,7 @@ within-more L n x xs e = let h = (front L n x xs e).lt in omega (arith, h)
 pub all-taken : (L : List Text) (n : ℕ) (a : Above) → drop n L ≡ [] → n ≤ length L → a ≡ declared_by (take n L) → (n ≡ length L) × (a ≡ declared_by L)
 all-taken L n a e le at = let same : n ≡ length L = omega (arith, length-drop n L, ap length e) in (same, at ∙ ap declared_by (take_all n L (omega arith)))
 
-pub refuses-end : (text : Text) (n : ℕ) (a : Above) → length text ≤ 4194304 → n ≡ length (lines_of text) → a ≡ declared_by (lines_of text) → IsFaultless (lines_of text) n → (a.section == 10) ≡ false → Refuses text (n + 1) fault.NoEnd
+pub refuses-end : (text : Text) (n : ℕ) (a : Above) → length text ≤ most text → n ≡ length (lines_of text) → a ≡ declared_by (lines_of text) → IsFaultless (lines_of text) n → (a.section == 10) ≡ false → Refuses text (n + 1) fault.NoEnd
 refuses-end text n a le en at least other =
     let other' : ((declared_by (lines_of text)).section == 10) ≡ false = ap (λ (b : Above). b.section == 10) (sym at) ∙ other in
     let here : find (has_at (lines_of text) n) faults ≡ Some fault.NoEnd = ap (λ (i : ℕ). find (has_at (lines_of text) i) faults) en ∙ (fault-after (lines_of text) ∙ ap after-by other') in

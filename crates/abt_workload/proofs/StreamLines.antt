@@ -4,6 +4,7 @@ use Rattle.std.specs.List.{AllPairs, list_any}
 use Rattle.std.specs.Option.{option_map_or}
 use Rattle.std.proofs.lemmas.List.{append-nil, map-append}
 use Rattle.abt_machine.specs.declared.grammar.Form.TheVariants as form
+use Rattle.abt_machine.specs.declared.grammar.Format.{Format}
 use Rattle.abt_machine.specs.declared.numbers.SchedNo.{SchedNo}
 use Rattle.abt_machine.specs.declared.workload.Parts.{Parts}
 use Rattle.abt_machine.specs.declared.workload.UnitPart.{UnitPart}
@@ -80,14 +81,14 @@ unplaced n front g rest more h =
 -- Lines.
 
 -- what is declared while main schedulers are
-abbrev below : Parts → ℕ → List SchedNo → Above
-below W section mains = placing section W.streams W.keys W.pools W.scheds (mains_from W.streams mains) []
+abbrev below : Format → Parts → ℕ → List SchedNo → Above
+below F W section mains = placing F section W.streams W.keys W.pools W.scheds (mains_from W.streams mains) []
 
 -- the line of the next stream is taken
-stream-taken : (W : Parts) → IsValid W → (section : ℕ) → section ≤ 6 → (front : List SchedNo) (g : SchedNo) (rest : List SchedNo) → front ++ g ∷ rest ≡ W.mains
-    → Takes (below W section front) (stream_line (length front) g) (below W 6 (front ++ g ∷ []))
-stream-taken W v section le front g rest e =
-    let a : Above = below W section front in
+stream-taken : (F : Format) (W : Parts) → IsValid W → (section : ℕ) → section ≤ 6 → (front : List SchedNo) (g : SchedNo) (rest : List SchedNo) → front ++ g ∷ rest ≡ W.mains
+    → Takes (below F W section front) (stream_line (length front) g) (below F W 6 (front ++ g ∷ []))
+stream-taken F W v section le front g rest e =
+    let a : Above = below F W section front in
     let s : ℕ = length front in
     let lt : s < length W.mains = front-shorter front g rest W.mains e in
     let count : length W.mains ≡ W.streams = v.mains in
@@ -100,21 +101,22 @@ stream-taken W v section le front g rest e =
     let places : AllPairs (λ x y. x ≢ y) (numbers_of_scheds (front ++ g ∷ rest) ++ more) =
     subst (λ (gs : List SchedNo). AllPairs (λ x y. x ≢ y) (numbers_of_scheds gs ++ more)) (sym e) v.one_place in
     let small : IsSmall a = record { streams = v.few_streams; keys = v.few_keys; pools = v.few_pools; scheds = v.few_scheds; objects = omega arith; units = omega arith } in
-    takes a (below W 6 (front ++ g ∷ [])) form.Stream (codes "main") (s ∷ g.0 ∷ []) (stream_line s g)
+    takes a (below F W 6 (front ++ g ∷ [])) form.Stream (codes "main") (s ∷ g.0 ∷ []) (stream_line s g)
     record { words_are = refl; form_is = refl; skipped = refl; plain = refl; chosen = plain-word (codes "main") refl }
     (all-fit a small (given (slots form.Stream) (s ∷ g.0 ∷ [])) (within, there))
     record {
       version = refl;
       placed = placed-among a form.Stream le (omega arith) refl refl;
       once = or-both _ _ (no-main W.streams front) (unplaced W.streams front g rest more places);
+      beyond = refl;
       limit = refl;
       task = refl;
       access = ap not taking;
       early = refl;
     }
-    (ap (λ (ms : List (Option SchedNo)). placing 6 W.streams W.keys W.pools W.scheds ms []) (mains-and W.streams front g within))
+    (ap (λ (ms : List (Option SchedNo)). placing F 6 W.streams W.keys W.pools W.scheds ms []) (mains-and W.streams front g within))
 
 -- the lines of a workload's main schedulers are taken
-pub streams-taken : (W : Parts) → IsValid W → (section : ℕ) → section ≤ 6
-    → TakesAll (below W section []) (numbered stream_line W.mains) (below W (reached section 6 W.mains) W.mains)
-streams-taken W v section le = section-taken stream_line (below W) section 6 le W.mains (stream-taken W v)
+pub streams-taken : (F : Format) (W : Parts) → IsValid W → (section : ℕ) → section ≤ 6
+    → TakesAll (below F W section []) (numbered stream_line W.mains) (below F W (reached section 6 W.mains) W.mains)
+streams-taken F W v section le = section-taken stream_line (below F W) section 6 le W.mains (stream-taken F W v)

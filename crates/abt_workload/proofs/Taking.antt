@@ -5,13 +5,14 @@ use Rattle.std.specs.Str.{all_ascii_digits}
 use Rattle.std.proofs.lemmas.Bool.{lt-ltb}
 use Rattle.std.proofs.lemmas.Fmt.{IsAscii-decimal, decimal_nonempty, digits_decimal, digits_value-decimal}
 use Rattle.std.proofs.lemmas.Str.{IsUtf8-from_ascii}
+use Rattle.std.proofs.lemmas.Str.Parse.{IsNumeralModel, numerals_by_fold, tells_all_ascii_digits}
 use Rattle.std.proofs.lemmas.List.Elements.{All-cons}
 use Rattle.abt_machine.specs.declared.grammar.Form.{Form}
 use Rattle.abt_machine.specs.Declaring.{Above}
 use Rattle.abt_machine.specs.Faults.{faults, has, is_misplaced, is_no_version, is_skipped, line_fault, numbers_of, values_of}
 use Rattle.abt_machine.specs.Forms.{form_of, numerals, slots}
 use Rattle.abt_machine.specs.Grammar.{and_line}
-use Rattle.abt_machine.specs.Spelling.{is_empty, is_number, value_of, words_of}
+use Rattle.abt_machine.specs.Spelling.{is_empty, is_number, value_from, value_of, words_of}
 use Rattle.abt_machine.specs.Valid.{IsVisible, IsWord}
 use Rattle.abt_machine.specs.Words.{Text, line_of}
 use Rattle.abt_machine.proofs.Decimals.{few-digits}
@@ -22,7 +23,6 @@ use Rattle.abt_workload.proofs.Places.{and-both, and-left, and-right}
 use Rattle.abt_workload.proofs.Proper.{none-of}
 use Rattle.abt_workload.proofs.Taken as line
 use Rattle.abt_workload.proofs.Verdicts.{line-judged}
-use Rattle.abt_workload.proofs.Weights.{own}
 use Rattle.abt_workload.proofs.WrittenLines.{no-control-in-line, utf8-of-line, word-some, words-of-line}
 
 -- a line of these words is taken: below lines that declare a it has no fault, and b is declared with it
@@ -43,7 +43,7 @@ takes-append a b c (x ∷ xs) ys h t = (h.0, h.1, takes-append h.0 b c xs ys h.2
 
 -- a line is taken where its words have a form, their numbers are numbers, and no later fault is there
 pub taken : (a : Above) (words : List Text) (f : Form) → All IsWord words → is_skipped words ≡ false → is_no_version a words ≡ false
-    → form_of words ≡ Some f → is_misplaced a f ≡ false → list_all (λ p. is_number p.1) (numerals (slots f) words) ≡ true
+    → form_of a.format words ≡ Some f → is_misplaced a f ≡ false → list_all (λ p. is_number p.1) (numerals (slots f) words) ≡ true
     → later_fault a f words (numbers_of f words) ≡ None → Takes a words (with_line a f words (values_of f words))
 taken a words f written kept version form_is placed numbers later =
     let h : HasForm a (line_of words) words f = record {
@@ -53,7 +53,7 @@ taken a words f written kept version form_is placed numbers later =
       control = no-control-in-line words written;
       placed = placed;
     } in
-    let sound : find (has a (line_of words) words (form_of words)) faults ≡ None =
+    let sound : find (has a (line_of words) words (form_of a.format words)) faults ≡ None =
     line-judged a (line_of words) words f h (numbers_of f words) None numbers refl (sym later) in
     let same : words ≡ words_of (line_of words) = sym (words-of-line words written) in
     let new : Above = with_line a f words (values_of f words) in
@@ -64,6 +64,10 @@ taken a words f written kept version form_is placed numbers later =
     }
 
 -- Words of digits.
+
+-- digits, and the number that they say
+own : IsNumeralModel (λ ds. all_ascii_digits ds ≡ true) (value_from 0)
+own = numerals_by_fold _ tells_all_ascii_digits value_from (record { empty = λ n. refl; more = λ n c cs r. refl })
 
 -- a number's digits say it
 pub decimal-value : (n : ℕ) → n < 2 ^ 64 → value_of (decimal n) ≡ n

@@ -2,6 +2,7 @@
 use Rattle.std.proofs.Common.{◌≡◌, ◌<◌, ℕ, List, [], ◌∷◌, ◌++◌, Option, Some, None, codes, length, option_map, refl}
 use Rattle.abt_machine.specs.declared.grammar.Form.{Form}
 use Rattle.abt_machine.specs.declared.grammar.Form.TheVariants as form
+use Rattle.abt_machine.specs.declared.grammar.Format.{Format}
 use Rattle.abt_machine.specs.declared.grammar.Number.{Number}
 use Rattle.abt_machine.specs.declared.grammar.Role.{Role}
 use Rattle.abt_machine.specs.declared.grammar.Role.TheVariants as role
@@ -15,9 +16,9 @@ use Rattle.abt_machine.specs.Forms.{slots}
 use Rattle.abt_machine.specs.Numbers.{pool_no}
 use Rattle.abt_machine.specs.Valid.{IsBody}
 use Rattle.abt_workload.specs.Slots.{values}
-use Rattle.abt_workload.proofs.Costs.{header}
 use Rattle.abt_workload.proofs.Filled.{IsWritten, given}
 use Rattle.abt_workload.proofs.Fitting.{AreMet}
+use Rattle.abt_workload.proofs.Heads.{header}
 use Rattle.abt_workload.proofs.OperationLines.{body_like}
 use Rattle.abt_workload.proofs.Proper.{IsStartIn}
 use Rattle.abt_workload.proofs.Reaching.{reached}
@@ -73,10 +74,10 @@ unit-made u _ None = refl
 unit-made u _ (Some p) = refl
 
 -- its numbers name what is declared
-pub unit-met : (W : Parts) (s : ℕ) (units : List UnitPart) (last : Option UnitPart) (said : List ℕ) (u : ℕ) (b : Body) (start : Option PoolNo)
-    → u ≡ declared_units (reached W s units last said) → u < length W.units → IsBody W b → IsStartIn (length W.pools) start
-    → AreMet (reached W s units last said) (unit_given u b start)
-unit-met W s units last said u (body.Sched g) None e lt kind there = ((e, lt), kind)
-unit-met W s units last said u (body.Sched g) (Some p) e lt kind there = ((e, lt), (kind, there))
-unit-met W s units last said u _ None e lt kind there = (e, lt)
-unit-met W s units last said u _ (Some p) e lt kind there = ((e, lt), there)
+pub unit-met : (F : Format) (W : Parts) (s : ℕ) (units : List UnitPart) (last : Option UnitPart) (before said : List ℕ) (u : ℕ) (b : Body) (start : Option PoolNo)
+    → u ≡ declared_units (reached F W s units last before said) → u < length W.units → IsBody W b → IsStartIn (length W.pools) start
+    → AreMet (reached F W s units last before said) (unit_given u b start)
+unit-met F W s units last before said u (body.Sched g) None e lt kind there = ((e, lt), kind)
+unit-met F W s units last before said u (body.Sched g) (Some p) e lt kind there = ((e, lt), (kind, there))
+unit-met F W s units last before said u _ None e lt kind there = (e, lt)
+unit-met F W s units last before said u _ (Some p) e lt kind there = ((e, lt), there)

@@ -1,6 +1,8 @@
 -- Proper parts, all of which are declared, are those of a workload.
-use Rattle.std.proofs.Common.{◌≡◌, ◌<◌, ◌≤◌, ◌+◌, ◌==◌, ◌∙◌, ℕ, zero, suc, true, false, List, [], ◌∷◌, ◌++◌, Option, Some, None, ap, arith, flat_map, get_or, is_none, length, length-append, option_to_list, refl, replicate, slice_get, subst, sym, unwrap_or}
-use Rattle.std.specs.List.{list_any}
+use Rattle.std.proofs.Common.{◌≡◌, ◌≢◌, ◌<◌, ◌==◌, ◌∙◌, ℕ, zero, suc, true, false, List, [], ◌∷◌, ◌++◌, All, Option, Some, None, ap, arith, flat_map, get_or, is_none, length, option_to_list, refl, replicate, slice_get, subst, sym, unwrap_or}
+use Rattle.std.specs.List.{AllPairs, list_any, range_with_len}
+use Rattle.std.proofs.lemmas.List.Elements.{All-append, All-cons, All-head, All-tail}
+use Rattle.std.proofs.lemmas.List.FromFn.{get_or-range_with_len, length-range_with_len}
 use Rattle.std.proofs.lemmas.Bool.{eqb-true}
 use Rattle.std.proofs.lemmas.List.{length-replicate}
 use Rattle.abt_machine.specs.declared.numbers.PoolNo.{PoolNo}
@@ -16,15 +18,18 @@ use Rattle.abt_machine.specs.declared.operations.Thing.TheVariants as thing
 use Rattle.abt_machine.specs.declared.workload.Parts.{Parts}
 use Rattle.abt_machine.specs.declared.workload.SchedPart.{SchedPart}
 use Rattle.abt_machine.specs.declared.workload.UnitPart.{UnitPart}
-use Rattle.abt_machine.specs.Canonical.{canonical_text}
-use Rattle.abt_machine.specs.Declaring.{Above, parts_of}
+use Rattle.abt_machine.specs.Declaring.{Above, parts_of, repeated, said_words, units_of}
 use Rattle.abt_machine.specs.Checks.{AreCounts, IsSchedPart, IsStart, IsUnitPart}
-use Rattle.abt_machine.specs.Operations.{IsDeclared}
-use Rattle.abt_machine.specs.Valid.{IsAccess, IsBody, IsStream, IsThing, IsValid}
-use Rattle.abt_machine.specs.Workloads.{main_from}
+use Rattle.abt_machine.specs.Operations.{IsDeclared, said_by}
+use Rattle.abt_machine.specs.Valid.{IsAccess, IsBody, IsStream, IsThing, IsValid, IsWord}
+use Rattle.abt_machine.specs.Workloads.{main_from, ops_of}
 use Rattle.abt_machine.proofs.Checked.{map-all, map-pairs, valid-from}
-use Rattle.abt_workload.proofs.Naming.{others-declared}
-use Rattle.abt_workload.proofs.Proper.{IsAccessIn, IsBodyIn, IsProper, IsSchedIn, IsStartIn, IsThingIn, IsUnitIn, counted, idle, stream_count, takes_all, unit_count}
+use Rattle.abt_machine.proofs.Saying.{said_by_units}
+use Rattle.abt_workload.proofs.Copies.{all-repeated, units-ops, units-said, units-scheds}
+use Rattle.abt_workload.proofs.Growing.{mains_list}
+use Rattle.abt_workload.proofs.KeepingUnits.{units-below, units-in}
+use Rattle.abt_workload.proofs.Naming.{others-declared, others-said, unmuted}
+use Rattle.abt_workload.proofs.Proper.{IsAccessIn, IsBodyIn, IsProper, IsSchedIn, IsStartIn, IsThingIn, IsUnitIn, counted, idle, muted, none-of, stream_count, takes_all, unit_count}
 
 -- Main schedulers.
 
@@ -87,6 +92,25 @@ sched-valid W part h = record {
   };
 }
 
+-- Words.
+
+-- what all elements of the lists have that things make, those of each thing's have
+pub all-flat : {A : Type 0} (f : A → List ℕ) (P : ℕ → Type 0) (xs : List A) → All P (flat_map f xs) → All (λ x. All P (f x)) xs
+all-flat f P [] all = none-of _
+all-flat f P (x ∷ xs) all = All-cons (λ y. All P (f y)) x xs (front (f x) (flat_map f xs) all) (all-flat f P xs (back (f x) (flat_map f xs) all))
+  where
+    front : (ys zs : List ℕ) → All P (ys ++ zs) → All P ys
+    front [] zs h = none-of _
+    front (y ∷ ys) zs h = All-cons P y ys (All-head P y (ys ++ zs) h) (front ys zs (All-tail P y (ys ++ zs) h))
+
+    back : (ys zs : List ℕ) → All P (ys ++ zs) → All P zs
+    back [] zs h = h
+    back (y ∷ ys) zs h = back ys zs (All-tail P y (ys ++ zs) h)
+
+-- numbers that count up from 0 are below their number
+range-below : (n : ℕ) → All (λ w. w < n) (range_with_len 0 n)
+range-below n = λ k d lt. let long = length-range_with_len 0 n in let e = get_or-range_with_len 0 n k d (omega arith) in omega arith
+
 module _ (a : Above) (h : IsProper a) (ended : (a.section == 10) ≡ true) where
   section-ten : a.section ≡ 10
   section-ten = eqb-true a.section 10 ended
@@ -94,12 +118,11 @@ module _ (a : Above) (h : IsProper a) (ended : (a.section == 10) ≡ true) where
   all-mains : list_any is_none a.mains ≡ false
   all-mains = let e = section-ten in h.order.has_mains (omega arith)
 
-  units-same : length (replicate (unit_count a) idle) ≡ length (a.units ++ option_to_list a.last)
+  units-same : length (replicate (unit_count a) idle) ≡ length (units_of a)
   units-same =
       let e = section-ten in
       let most = h.order.has_units (omega arith) in
-      let least = h.units.declared in
-      let all : length (a.units ++ option_to_list a.last) ≡ length a.units + length (option_to_list a.last) = length-append a.units _ in
+      let least = units-below a h in
       let count : length (replicate (unit_count a) idle) ≡ unit_count a = length-replicate (unit_count a) idle in
       omega arith
 
@@ -120,11 +143,24 @@ module _ (a : Above) (h : IsProper a) (ended : (a.section == 10) ≡ true) where
             takes = subst (λ (n : ℕ). takes_all a.pools a.scheds s n ≡ true) (sym same) (h.mains.taking s g is);
           }
 
-  unit-valid : (part : UnitPart) → IsUnitIn (counted a) part → IsUnitPart (parts_of a) part
-  unit-valid part i = record {
+  -- the words of the units, numbered
+  all-said : said_by_units (units_of a) ≡ range_with_len 0 (length (said_words a))
+  all-said = units-said a h.said h.last_said
+
+  -- an operation that is declared but for its word is declared, where it is one of those that say their words
+  op-valid : (o : Op) → IsDeclared (counted a) (muted o) → All (λ w. w < length (said_words a)) (said_by o) → IsDeclared (parts_of a) o
+  op-valid o i said =
+      unmuted (parts_of a) o
+      (mains-declared (parts_of a) [] (muted o)
+      (others-declared (record (parts_of a) { mains = [] }) (replicate (unit_count a) idle) (units_of a) units-same (muted o)
+      (others-said (record (parts_of a) { mains = []; units = replicate (unit_count a) idle }) [] o i)))
+      said
+
+  unit-valid : (part : UnitPart) → IsUnitIn (counted a) part → All (λ w. w < length (said_words a)) (flat_map said_by (ops_of part.body)) → IsUnitPart (parts_of a) part
+  unit-valid part i said = record {
     kind = body-valid (parts_of a) part.body i.kind;
     few_ops = i.few_ops;
-    ops = λ k d lt. mains-declared (parts_of a) [] _ (others-declared (record (parts_of a) { mains = [] }) (replicate (unit_count a) idle) (a.units ++ option_to_list a.last) units-same _ (i.ops k d lt));
+    ops = λ k d lt. op-valid (get_or (ops_of part.body) k d) (i.ops k d lt) (all-flat said_by (λ w. w < length (said_words a)) (ops_of part.body) said k d lt);
     start = start-valid (parts_of a) part.start i.start;
   }
 
@@ -132,8 +168,7 @@ module _ (a : Above) (h : IsProper a) (ended : (a.section == 10) ≡ true) where
   counts-valid =
       let ten = section-ten in
       let count = h.units.few in
-      let declared = h.units.declared in
-      let all_units : length (a.units ++ option_to_list a.last) ≡ length a.units + length (option_to_list a.last) = length-append a.units _ in
+      let declared = units-below a h in
       record {
         some_stream = streams-some;
         few_streams = h.streams.high;
@@ -147,12 +182,16 @@ module _ (a : Above) (h : IsProper a) (ended : (a.section == 10) ≡ true) where
         few_units = omega arith;
       }
 
-  pub valid-of : length (canonical_text (parts_of a)) ≤ 4194304 → IsValid (parts_of a)
-  valid-of few_bytes =
+  pub valid-of : IsValid (parts_of a)
+  valid-of =
+      let said : All (λ w. w < length (said_words a)) (said_by_units (units_of a)) = subst (λ (ns : List ℕ). All (λ w. w < length (said_words a)) ns) (sym all-said) (range-below (length (said_words a))) in
       valid-from (parts_of a) counts-valid
       (λ p d lt. access-valid (parts_of a) (get_or a.pools p d).access (h.pools.all p d lt))
       (λ g d lt. sched-valid (parts_of a) (get_or a.scheds g d) (h.scheds.all g d lt))
       stream-valid
       (λ x t e. thing-valid (parts_of a) x t (h.objects.all x t e))
-      (λ u d lt. unit-valid (get_or (a.units ++ option_to_list a.last) u d) (h.units.all u d lt))
-      h.places h.said h.words few_bytes
+      (λ u d lt. unit-valid (get_or (units_of a) u d) (units-in a h u d lt) (all-flat (λ (part : UnitPart). flat_map said_by (ops_of part.body)) (λ w. w < length (said_words a)) (units_of a) said u d lt))
+      (subst (λ (gs : List ℕ). AllPairs (λ x y. x ≢ y) (mains_list a.mains ++ gs)) (sym (units-scheds a h.units.copied)) h.places)
+      all-said
+      (All-append IsWord a.words (repeated a.copies a.said) h.words (all-repeated IsWord a.copies a.said h.last_words))
+      (let e = units-ops a in let few = h.few_ops in omega arith)

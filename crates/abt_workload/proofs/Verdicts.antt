@@ -4,6 +4,8 @@ use Rattle.std.specs.Bool.{OnTrue}
 use Rattle.std.specs.List.{list_all, list_any}
 use Rattle.std.specs.Str.{is_utf8}
 use Rattle.abt_machine.specs.declared.grammar.Form.{Form}
+use Rattle.abt_machine.specs.declared.grammar.Format.{Format}
+use Rattle.abt_machine.specs.declared.grammar.Format.TheVariants as format
 use Rattle.abt_machine.specs.declared.grammar.Form.TheVariants as form
 use Rattle.abt_machine.specs.declared.grammar.Number.{Number}
 use Rattle.abt_machine.specs.declared.operations.Op.{Op}
@@ -12,10 +14,11 @@ use Rattle.abt_machine.specs.declared.program.Fault.{Fault}
 use Rattle.abt_machine.specs.declared.program.Fault.TheVariants as fault
 use Rattle.abt_machine.specs.Declaring.{Above}
 use Rattle.abt_machine.specs.Faults.{faults, has, is_misplaced, is_no_version, is_unknown, numbers_of, of_form}
-use Rattle.abt_machine.specs.Forms.{Slot, PoolList, begins, fits, form_of, forms, numerals, op_slots, slots, suits}
+use Rattle.abt_machine.specs.Forms.{Slot, PoolList, begins, fits, form_of, forms, is_in, numerals, op_slots, slots, suits}
 use Rattle.abt_machine.specs.Spelling.{has_control, is_number}
 use Rattle.abt_machine.specs.Words.{Text}
 use Rattle.abt_workload.specs.Judging.{HasForm, later_fault}
+use Rattle.abt_workload.proofs.Places.{and-both, and-left, and-right}
 
 -- The order of the faults.
 
@@ -63,6 +66,8 @@ op_slots-some _ = refl
 
 slots-some : (f : Form) → has_slot (slots f) ≡ true
 unfolding has_slot
+slots-some (form.Version format.One) = refl
+slots-some (form.Version format.Two) = refl
 slots-some (form.Operation o) = op_slots-some o
 slots-some _ = refl
 
@@ -70,17 +75,22 @@ or-true : (b : Bool) → (b || true) ≡ true
 or-true true = refl
 or-true false = refl
 
-known-in : (fs : List Form) (words : List Text) (f : Form) → find (λ g. fits (slots g) words) fs ≡ Some f → list_any (λ g. begins (slots g) words) fs ≡ true
-known-in [] words f e = cc
-known-in (g ∷ gs) words f e = by (fits (slots g) words) refl (λ rest. known-in gs words f rest)
-  where
-    by : (b : Bool) → fits (slots g) words ≡ b → (find (λ h. fits (slots h) words) gs ≡ Some f → list_any (λ h. begins (slots h) words) gs ≡ true) → list_any (λ h. begins (slots h) words) (g ∷ gs) ≡ true
-    by true is rest = let here = fitting-begins (slots g) words (slots-some g) is in rw here refl
-    by false is rest = let there : list_any (λ h. begins (slots h) words) gs ≡ true = rest (rw is at e) in rw there (or-true (begins (slots g) words))
+module _ (F : Format) where
+  known-in : (fs : List Form) (words : List Text) (f : Form) → find (λ g. is_in F g && fits (slots g) words) fs ≡ Some f → list_any (λ g. is_in F g && begins (slots g) words) fs ≡ true
+  known-in [] words f e = cc
+  known-in (g ∷ gs) words f e = by (is_in F g && fits (slots g) words) refl (λ rest. known-in gs words f rest)
+    where
+      by : (b : Bool) → (is_in F g && fits (slots g) words) ≡ b → (find (λ h. is_in F h && fits (slots h) words) gs ≡ Some f → list_any (λ h. is_in F h && begins (slots h) words) gs ≡ true)
+          → list_any (λ h. is_in F h && begins (slots h) words) (g ∷ gs) ≡ true
+      by true is rest =
+          let here : begins (slots g) words ≡ true = fitting-begins (slots g) words (slots-some g) (and-right (is_in F g) _ is) in
+          let both : (is_in F g && begins (slots g) words) ≡ true = and-both (is_in F g) _ (and-left (is_in F g) _ is) here in
+          rw both refl
+      by false is rest = let there : list_any (λ h. is_in F h && begins (slots h) words) gs ≡ true = rest (rw is at e) in rw there (or-true (is_in F g && begins (slots g) words))
 
--- a line that has a form is known
-pub known : (words : List Text) (f : Form) → form_of words ≡ Some f → is_unknown words ≡ false
-known words f e = ap not (known-in forms words f e)
+  -- a line that has a form is known
+  pub known : (words : List Text) (f : Form) → form_of F words ≡ Some f → is_unknown F words ≡ false
+  known words f e = ap not (known-in forms words f e)
 
 -- Lines that have a form.
 
@@ -88,13 +98,13 @@ shape-no : (o : Option Form) (f : Form) (a : Above) (c : Bool) → o ≡ Some f 
 shape-no o f a c e ec em = ap (λ (p : Option Form). is_none p || c || of_form (is_misplaced a) p) e ∙ rw (ec, em) refl
 
 module _ (a : Above) (line : Text) (words : List Text) (f : Form) (h : HasForm a line words f) where
-  pub line-number : (all : Bool) → all ≡ list_all (λ p. is_number p.1) (numerals (slots f) words) → all ≡ false → find (has a line words (form_of words)) faults ≡ Some fault.Number
-  line-number all is e = ap (λ (o : Option Form). find (has a line words o) faults) h.form_is ∙ first-number (has a line words (Some f)) (ap not h.utf8) h.version (known words f h.form_is) (shape-no (Some f) f a (has_control line) refl h.control h.placed) (ap not (sym is ∙ e))
+  pub line-number : (all : Bool) → all ≡ list_all (λ p. is_number p.1) (numerals (slots f) words) → all ≡ false → find (has a line words (form_of a.format words)) faults ≡ Some fault.Number
+  line-number all is e = ap (λ (o : Option Form). find (has a line words o) faults) h.form_is ∙ first-number (has a line words (Some f)) (ap not h.utf8) h.version (known a.format words f h.form_is) (shape-no (Some f) f a (has_control line) refl h.control h.placed) (ap not (sym is ∙ e))
 
-  line-later : list_all (λ p. is_number p.1) (numerals (slots f) words) ≡ true → find (has a line words (form_of words)) faults ≡ later_fault a f words (numbers_of f words)
-  line-later e = ap (λ (o : Option Form). find (has a line words o) faults) h.form_is ∙ first-later (has a line words (Some f)) (ap not h.utf8) h.version (known words f h.form_is) (shape-no (Some f) f a (has_control line) refl h.control h.placed) (ap not e) refl
+  line-later : list_all (λ p. is_number p.1) (numerals (slots f) words) ≡ true → find (has a line words (form_of a.format words)) faults ≡ later_fault a f words (numbers_of f words)
+  line-later e = ap (λ (o : Option Form). find (has a line words o) faults) h.form_is ∙ first-later (has a line words (Some f)) (ap not h.utf8) h.version (known a.format words f h.form_is) (shape-no (Some f) f a (has_control line) refl h.control h.placed) (ap not e) refl
 
-  pub line-judged : (numbers : List (Number × ℕ)) (r : Option Fault) → list_all (λ p. is_number p.1) (numerals (slots f) words) ≡ true → numbers ≡ numbers_of f words → r ≡ later_fault a f words numbers → find (has a line words (form_of words)) faults ≡ r
+  pub line-judged : (numbers : List (Number × ℕ)) (r : Option Fault) → list_all (λ p. is_number p.1) (numerals (slots f) words) ≡ true → numbers ≡ numbers_of f words → r ≡ later_fault a f words numbers → find (has a line words (form_of a.format words)) faults ≡ r
   line-judged numbers r e same is = line-later e ∙ sym (is ∙ ap (later_fault a f words) same)
 
 -- what holds where a test is true
@@ -108,14 +118,14 @@ or-false : (b : Bool) → (b || false) ≡ b
 or-false true = refl
 or-false false = refl
 
-module _ (a : Above) (line : Text) (words : List Text) (f : Form) (o : Option Form) {u v : Bool} (is_u : u ≡ is_utf8 line) (yes_u : u ≡ true) (is_v : v ≡ is_no_version a words) (no_v : v ≡ false) (is_o : o ≡ form_of words) (some : o ≡ Some f) where
-  shape-of : (is_none (Some f) || has_control line || is_misplaced a f) ≡ true → find (has a line words (form_of words)) faults ≡ Some fault.Shape
+module _ (a : Above) (line : Text) (words : List Text) (f : Form) (o : Option Form) {u v : Bool} (is_u : u ≡ is_utf8 line) (yes_u : u ≡ true) (is_v : v ≡ is_no_version a words) (no_v : v ≡ false) (is_o : o ≡ form_of a.format words) (some : o ≡ Some f) where
+  shape-of : (is_none (Some f) || has_control line || is_misplaced a f) ≡ true → find (has a line words (form_of a.format words)) faults ≡ Some fault.Shape
   shape-of e =
-      let here : form_of words ≡ Some f = sym is_o ∙ some in
-      ap (λ (p : Option Form). find (has a line words p) faults) here ∙ first-shape (has a line words (Some f)) (ap not (sym is_u ∙ yes_u)) (sym is_v ∙ no_v) (known words f here) e
+      let here : form_of a.format words ≡ Some f = sym is_o ∙ some in
+      ap (λ (p : Option Form). find (has a line words p) faults) here ∙ first-shape (has a line words (Some f)) (ap not (sym is_u ∙ yes_u)) (sym is_v ∙ no_v) (known a.format words f here) e
 
-  pub line-control : {t : Bool} → t ≡ has_control line → t ≡ true → find (has a line words (form_of words)) faults ≡ Some fault.Shape
+  pub line-control : {t : Bool} → t ≡ has_control line → t ≡ true → find (has a line words (form_of a.format words)) faults ≡ Some fault.Shape
   line-control is e = shape-of (let h : has_control line ≡ true = sym is ∙ e in rw h refl)
 
-  pub line-misplaced : {t : Bool} → t ≡ is_misplaced a f → t ≡ true → find (has a line words (form_of words)) faults ≡ Some fault.Shape
+  pub line-misplaced : {t : Bool} → t ≡ is_misplaced a f → t ≡ true → find (has a line words (form_of a.format words)) faults ≡ Some fault.Shape
   line-misplaced is e = shape-of (ap (λ (m : Bool). false || has_control line || m) (sym is ∙ e) ∙ or-true (has_control line))

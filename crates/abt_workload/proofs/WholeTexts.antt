@@ -1,28 +1,22 @@
 -- A workload's text, appended section by section.
-use Rattle.std.proofs.Common.{◌≡◌, ◌==◌, ◌-◌, ◌∙◌, ℕ, true, List, [], ◌∷◌, ◌++◌, Some, ap, append_assoc, codes, decimal, length, slice_get, sym, take}
+use Rattle.std.proofs.Common.{◌≡◌, ◌∙◌, ℕ, Bool, true, false, List, [], ◌∷◌, ◌++◌, Some, ap, append_assoc, codes, decimal, if◌then◌else◌, length, refl, slice_get, slice_set, sym}
 use Rattle.std.specs.List.{All}
-use Rattle.std.proofs.lemmas.Bool.{eq-eqb}
 use Rattle.std.proofs.lemmas.Option.{slice_get_within}
+use Rattle.abt_machine.specs.declared.grammar.Format.TheVariants as format
 use Rattle.abt_machine.specs.declared.workload.Parts.{Parts}
 use Rattle.abt_machine.specs.declared.workload.UnitPart.{UnitPart}
-use Rattle.abt_machine.specs.Canonical.{canonical_text, fitted, keys_lines, object_line, pool_line, sched_line, stream_line, version_line}
+use Rattle.abt_machine.specs.Canonical.{canonical_text, has_text, keys_lines, object_line, pool_line, sched_line, stream_line, text_in, version_line}
 use Rattle.abt_machine.specs.Operations.{IsDeclared}
 use Rattle.abt_machine.specs.Valid.{IsValid}
 use Rattle.abt_machine.specs.Words.{Text, ended, line_of, numbered, text_of}
 use Rattle.abt_machine.specs.Workloads.{ops_of}
 use Rattle.abt_machine.proofs.Checked.{from-unit}
-use Rattle.abt_workload.proofs.Costs.{units_lines}
+use Rattle.abt_workload.proofs.Heads.{units_lines}
 use Rattle.abt_workload.proofs.WritingLines.{text-and, text-append}
 
 -- what the operations of a unit name is declared
 pub unit-declared : (W : Parts) (u : ℕ) (part : UnitPart) → IsValid W → slice_get W.units u ≡ Some part → All (IsDeclared W) (ops_of part.body)
 unit-declared W u part valid at = (from-unit W u part at (valid.units u (slice_get_within W.units u part at))).ops
-
--- a text that is one byte too long goes without its last byte
-pub fitted-long : (text new : Text) (n : ℕ) → n ≡ length text → length text ≡ 4194305 → new ≡ take (n - 1) text → new ≡ fitted text
-fitted-long text new n is long taken =
-    let test : (length text == 4194305) ≡ true = eq-eqb (length text) 4194305 long in
-    rw (test, sym is) taken
 
 -- the text of lines goes on with the text of more lines
 more-lines : (lines more : List (List Text)) (old new : Text) → old ≡ text_of lines → new ≡ old ++ text_of more → new ≡ text_of (lines ++ more)
@@ -30,16 +24,16 @@ more-lines lines more old new before after = after ∙ (ap (λ (text : Text). te
 
 -- the whole text
 pub written : (W : Parts) (head pools scheds mains objects count units whole : Text) →
-    head ≡ text_of (version_line ∷ (codes "streams" ∷ decimal W.streams ∷ []) ∷ keys_lines W.keys) →
+    head ≡ text_of (version_line format.One ∷ (codes "streams" ∷ decimal W.streams ∷ []) ∷ keys_lines W.keys) →
     pools ≡ head ++ text_of (numbered pool_line W.pools) →
     scheds ≡ pools ++ text_of (numbered sched_line W.scheds) →
     mains ≡ scheds ++ text_of (numbered stream_line W.mains) →
     objects ≡ mains ++ text_of (numbered object_line W.objects) →
     count ≡ objects ++ ended (line_of (codes "units" ∷ decimal (length W.units) ∷ [])) →
     units ≡ count ++ text_of (units_lines W 0 W.units) →
-    whole ≡ units ++ ended (line_of (codes "end" ∷ [])) → fitted whole ≡ canonical_text W
+    whole ≡ units ++ ended (line_of (codes "end" ∷ [])) → whole ≡ text_in format.One W
 written W head pools scheds mains objects count units whole e0 e1 e2 e3 e4 e5 e6 e7 =
-    let first : List (List Text) = version_line ∷ (codes "streams" ∷ decimal W.streams ∷ []) ∷ keys_lines W.keys in
+    let first : List (List Text) = version_line format.One ∷ (codes "streams" ∷ decimal W.streams ∷ []) ∷ keys_lines W.keys in
     let line : List Text = codes "units" ∷ decimal (length W.units) ∷ [] in
     let U : List (List Text) = units_lines W 0 W.units in
     let t1 = more-lines first (numbered pool_line W.pools) head pools e0 e1 in
@@ -49,4 +43,15 @@ written W head pools scheds mains objects count units whole e0 e1 e2 e3 e4 e5 e6
     let joined : units ≡ objects ++ text_of (line ∷ U) = e6 ∙ (ap (λ (text : Text). text ++ text_of U) e5 ∙ append_assoc objects (ended (line_of line)) (text_of U)) in
     let t5 = more-lines (first ++ numbered pool_line W.pools ++ numbered sched_line W.scheds ++ numbered stream_line W.mains ++ numbered object_line W.objects) (line ∷ U) objects units t4 joined in
     let all = first ++ numbered pool_line W.pools ++ numbered sched_line W.scheds ++ numbered stream_line W.mains ++ numbered object_line W.objects ++ (line ∷ U) in
-    ap fitted (e7 ∙ (ap (λ (text : Text). text ++ ended (line_of (codes "end" ∷ []))) t5 ∙ sym (text-and all (codes "end" ∷ []))))
+    e7 ∙ (ap (λ (text : Text). text ++ ended (line_of (codes "end" ∷ []))) t5 ∙ sym (text-and all (codes "end" ∷ [])))
+
+-- a text of format 2 is that of format 1 with another version
+pub raised : (W : Parts) → slice_set (text_in format.One W) 4 50 ≡ text_in format.Two W
+raised W = refl
+
+-- the canonical text of a workload that format 1 has, and of one that it has not
+pub canonical-one : (W : Parts) → has_text format.One W ≡ true → text_in format.One W ≡ canonical_text W
+canonical-one W e = ap (λ (b : Bool). text_in (if b then format.One else format.Two) W) (sym e)
+
+pub canonical-two : (W : Parts) → has_text format.One W ≡ false → text_in format.Two W ≡ canonical_text W
+canonical-two W e = ap (λ (b : Bool). text_in (if b then format.One else format.Two) W) (sym e)

@@ -1,18 +1,13 @@
 -- Lines that are written of words, and texts of lines: they are read as they were written.
-use Rattle.std.proofs.Common.{◌≡◌, ◌≢◌, ◌<◌, ◌≤◌, ◌-◌, ◌==◌, ◌∙◌, ℕ, zero, suc, Bool, true, false, List, [], ◌∷◌, ◌++◌, All, IsAscii, IsUtf8, ap, append-nil, append_assoc, arith, cond, get_or, length, length-append, map, nat_lt, refl, rules, sym, tests, take}
+use Rattle.std.proofs.Common.{◌≡◌, ◌≢◌, ◌<◌, ◌≤◌, ◌==◌, ◌∙◌, ℕ, zero, suc, true, false, List, [], ◌∷◌, ◌++◌, All, IsAscii, IsUtf8, ap, append-nil, append_assoc, arith, get_or, length, map, nat_lt, refl, rules, sym, tests}
 use Rattle.std.specs.Str.{is_utf8}
-use Rattle.std.proofs.lemmas.List.{map-append}
-use Rattle.std.proofs.lemmas.List.Concat.{flat_map-append}
 use Rattle.std.proofs.lemmas.List.Elements.{All-append, All-cons, All-head, All-tail}
 use Rattle.std.proofs.lemmas.List.Folds.{list_any_none}
 use Rattle.std.proofs.lemmas.Str.{IsUtf8-append, IsUtf8-from_ascii, IsUtf8-nil, is_utf8-from_IsUtf8}
-use Rattle.std.proofs.Math.Seq.{take-append_seam}
-use Rattle.abt_machine.specs.Canonical.{fitted}
 use Rattle.abt_machine.specs.Spelling.{has_control, is_control, is_empty, is_separator, lines_of, with_byte, words_of}
 use Rattle.abt_machine.specs.Valid.{IsVisible, IsWord}
 use Rattle.abt_machine.specs.Words.{Text, ended, line_of, spaced, text_of}
-use Rattle.abt_workload.proofs.Growing.{all-one}
-use Rattle.abt_workload.proofs.LineEnds.{lines_nil, lines_whole}
+use Rattle.abt_workload.proofs.LineEnds.{lines_nil}
 use Rattle.abt_workload.proofs.Proper.{none-of}
 use Rattle.abt_workload.proofs.WordEnds.{words_first, words_past}
 
@@ -146,41 +141,3 @@ pub lines-of-text : (lines : List (List Text)) → All (All IsWord) lines → li
 lines-of-text lines h =
     ap lines_of (sym (append-nil (text_of lines)))
     ∙ (lines-before lines [] h ∙ (ap (λ (ls : List Text). map line_of lines ++ ls) lines_nil ∙ append-nil (map line_of lines)))
-
--- a text without its last line feed
-without-end : (front : Text) → take (length (front ++ 10 ∷ []) - 1) (front ++ 10 ∷ []) ≡ front
-without-end front =
-    let size : length (front ++ 10 ∷ []) - 1 ≡ length front = simp length-append (omega arith) in
-    ap (λ (n : ℕ). take n (front ++ 10 ∷ [])) size ∙ take-append_seam front (10 ∷ [])
-
--- a line of some word has a byte
-line-some : (words : List Text) → All IsWord words → 0 < length words → 0 < length (line_of words)
-line-some [] h some = absurd (omega arith)
-line-some (w ∷ ws) h some = let byte = (All-head IsWord w ws h).some_byte in simp length-append (omega arith)
-
--- the last line needs no line feed
-lines-without-end : (lines : List (List Text)) (last : List Text) → All (All IsWord) lines → All IsWord last → 0 < length last
-    → lines_of (text_of lines ++ line_of last) ≡ map line_of (lines ++ last ∷ [])
-lines-without-end lines last h here some =
-    let unended : IsUnended (line_of last) = line-unended last here in
-    let whole : lines_of (line_of last) ≡ line_of last ∷ [] = lines_whole (line_of last) (line-some last here some) (λ j lt. unended j 0 lt) in
-    lines-before lines (line_of last) h ∙ (ap (λ (ls : List Text). map line_of lines ++ ls) whole ∙ sym (map-append line_of lines (last ∷ [])))
-
--- so they are where the text goes without its last line feed
-pub lines-of-fitted : (lines : List (List Text)) (last : List Text) → All (All IsWord) lines → All IsWord last → 0 < length last
-    → lines_of (fitted (text_of (lines ++ last ∷ []))) ≡ map line_of (lines ++ last ∷ [])
-lines-of-fitted lines last h here some = by (length (text_of (lines ++ last ∷ [])) == 4194305)
-  where
-    shape : text_of (lines ++ last ∷ []) ≡ (text_of lines ++ line_of last) ++ 10 ∷ []
-    shape = flat_map-append (λ (ws : List Text). ended (line_of ws)) lines (last ∷ []) ∙ simp (append_assoc, append-nil)
-
-    all : All (All IsWord) (lines ++ last ∷ [])
-    all = All-append (All IsWord) lines (last ∷ []) h (all-one (All IsWord) last here)
-
-    cut : take (length (text_of (lines ++ last ∷ [])) - 1) (text_of (lines ++ last ∷ [])) ≡ text_of lines ++ line_of last
-    cut = ap (λ (t : Text). take (length t - 1) t) shape ∙ without-end (text_of lines ++ line_of last)
-
-    by : (b : Bool)
-        → lines_of (cond b (take (length (text_of (lines ++ last ∷ [])) - 1) (text_of (lines ++ last ∷ []))) (text_of (lines ++ last ∷ []))) ≡ map line_of (lines ++ last ∷ [])
-    by true = ap lines_of cut ∙ lines-without-end lines last h here some
-    by false = lines-of-text (lines ++ last ∷ []) all

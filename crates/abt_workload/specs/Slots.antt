@@ -1,7 +1,10 @@
 -- What the reader's table and its numbers are in the grammar.
-use Rattle.std.specs.Prelude.{ℕ, if◌then◌else◌, List, [], ◌∷◌, map, Option, Some, None}
+use Rattle.std.specs.Prelude.{ℕ, if◌then◌else◌, List, [], ◌∷◌, codes, map, Option, Some, None}
+use Rattle.abt_machine.specs.declared.grammar.Form.{Form}
+use Rattle.abt_machine.specs.declared.grammar.Form.TheVariants as form
 use Rattle.abt_machine.specs.declared.grammar.Number.{Number}
 use Rattle.abt_machine.specs.Forms as grammar
+use Rattle.abt_machine.specs.Limits.{unit_operation_limit}
 use Rattle.abt_machine.specs.Spelling.{is_number, value_of}
 use Rattle.abt_machine.specs.Words.{Text}
 use Rattle.abt_workload.specs.declared.forms.Slot.{Slot}
@@ -14,6 +17,15 @@ slot_of slot.CombineWord = grammar.CombineWord
 slot_of slot.AnyWord = grammar.AnyWord
 slot_of (slot.Numeral n) = grammar.Numeral n
 slot_of slot.PoolList = grammar.PoolList
+
+-- a `repeat` line's places, by those of its operation
+abbrev pub repeat_slots : List grammar.Slot → List grammar.Slot
+repeat_slots places = grammar.Fixed (codes "repeat") ∷ grammar.within 1 unit_operation_limit ∷ places
+
+-- the places of a line of a form, of a `repeat` line those of its operation
+abbrev pub own_slots : Form → List grammar.Slot
+own_slots (form.Repeat o) = grammar.op_slots o
+own_slots f = grammar.slots f
 
 -- the number that a word is, if it is one
 abbrev pub number_in : Text → Option ℕ

@@ -1,16 +1,21 @@
 //! What a sound line adds to what the lines above it declare.
 
-ghost use Rattle.std.specs.Prelude.{◌≡◌, ◌++◌, ◌∷◌, [], All, IfOk, IsUtf8, OnOk, false, length, map, option_map, replicate, slice_set};
-ghost use Rattle.abt_machine.specs.Declaring.{access_with, at, body_and, body_with, combine_named, declared_with, kind_named, listed, op_with, pool_with, rule_with, said_in, sched_with, start_with, thing_with, unit_and, unit_with, word_in};
+ghost use Rattle.std.specs.Prelude.{◌≡◌, ◌<◌, ◌≤◌, ◌+◌, ◌^◌, ◌++◌, ◌∷◌, [], All, IfOk, IsUtf8, OnOk, false, flat_map, length, map, option_map, replicate, slice_set};
+ghost use Rattle.abt_machine.specs.Declaring.{access_with, alike, at, body_and, body_with, combine_named, declared_with, kind_named, listed, op_later, op_with, pool_with, repeated, rule_with, said_in, sched_with, start_with, thing_with, unit_and, unit_later, unit_with, with_operation, with_operations, with_units, word_in};
+ghost use Rattle.abt_machine.specs.Limits.{operation_limit, unit_operation_limit};
 ghost use Rattle.abt_machine.specs.Numbers.{pool_no, sched_no};
+ghost use Rattle.abt_machine.specs.Operations.{said_by};
+ghost use Rattle.abt_machine.specs.Workloads.{all_ops, ops_of};
 ghost use Rattle.abt_machine.specs.declared.grammar.Form.TheVariants as form;
-ghost use Rattle.abt_workload.specs.Declarable.{AreSmall, IsDeclarable, IsSaid, IsSmall, IsSmallRule, is_wide, with_line};
+ghost use Rattle.abt_workload.specs.Declarable.{AreLater, AreOpSmall, AreSmall, AreUnitSmall, IsClosable, IsDeclarable, IsSaidBy, IsSmall, IsSmallRule, closed, is_wide, with_line};
 ghost use Rattle.abt_workload.specs.Slots.{values};
 
 use crate::draft::Draft;
 use crate::forms::is;
 use crate::judge::section;
-use crate::numbers::{Numbered, listed, value};
+use crate::numbers::{Numbered, after, listed, value};
+use crate::text::words_after;
+use crate::units::Units;
 use abt_machine::{
     Access, Body, Combine, Form, Kind, ObjectNo, Op, Ops, PoolNo, PoolPart, Pools, Role, Rule,
     SchedNo, SchedPart, StreamNo, Text, Thing, UnitNo, UnitPart, Want,
@@ -48,7 +53,11 @@ impl Draft {
         ensures { OnOk result (self.new ≡ declared_with self.old form (map (λ w. w.now) words.now) (values numbers.now)) }
     {
         match form {
-            Form::Version | Form::End => Ok(()),
+            Form::Version(format) => {
+                self.format = format;
+                Ok(())
+            }
+            Form::End => Ok(()),
             Form::Streams => self.add_streams(value(numbers, 0)),
             Form::Keys => {
                 self.keys = value(numbers, 0) as u32;
@@ -65,8 +74,17 @@ impl Draft {
                 self.unit_count = Some(value(numbers, 0) as u32);
                 Ok(())
             }
-            Form::Unit(role, start) => self.add_unit(alloc, role, start, numbers),
+            Form::Unit(role, start) => self.add_units(alloc, 1, role, start, numbers),
+            Form::Many(role, start) => {
+                let copies = value(numbers, 1) as u32;
+                self.add_units(alloc, copies, role, start, after(numbers, 1))
+            }
             Form::Operation(op) => self.add_operation(alloc, op, words, numbers),
+            Form::Repeat(op) => {
+                let count = value(numbers, 0);
+                let (words, numbers) = (words_after(words, 2), after(numbers, 1));
+                self.add_operations(alloc, count, op, words, numbers)
+            }
         }
     }
 
@@ -127,22 +145,61 @@ impl Draft {
         Ok(())
     }
 
-    fn add_unit(
+    // Adds as many units like this one.
+    fn add_units(
         &mut self,
         alloc: Global,
+        copies: u32,
         role: Role,
         start: Option<PoolNo>,
         numbers: &[Numbered],
     ) -> Result<(), Want>
-        requires { AreSmall (form.Unit role start) (values numbers.now) }
-        ensures { OnOk result (self.new ≡ declared_with self.old (form.Unit role start) [] (values numbers.now)) }
+        requires small { AreUnitSmall (values numbers.now) }
+        requires closable { IsClosable self.old }
+        ensures { OnOk result (self.new ≡ with_units self.old copies (unit_with role start (values numbers.now))) }
     {
-        if let Some(part) = self.last.take() {
-            self.units.push(part)?;
-        }
+        self.close(alloc)?;
         let body = body_with(alloc, role, numbers);
         let start = start_with(role, start, numbers);
         self.last = Some(UnitPart { body, start });
+        self.copies = copies;
+        Ok(())
+    }
+
+    /// Takes the last unit and its copies to the units before it, with the words that they say.
+    pub(crate) fn close(&mut self, alloc: Global) -> Result<(), Want>
+        requires { IsClosable self.old }
+        ensures { OnOk result (self.new ≡ closed self.old) }
+    {
+        let each = self.said.len();
+        if let Some(part) = self.last.take() {
+            push_alike(alloc, &mut self.units, part, self.copies, each as u32)?;
+        }
+        push_repeated(alloc, &mut self.words, &mut self.said, self.copies)?;
+        self.copies = 0;
+        Ok(())
+    }
+
+    // Adds as many operations of this line.
+    fn add_operations(
+        &mut self,
+        alloc: Global,
+        count: u64,
+        op: Op,
+        words: &[&[u8]],
+        numbers: &[Numbered],
+    ) -> Result<(), Want>
+        requires count { count ≤ unit_operation_limit }
+        requires small { AreOpSmall op (values numbers.now) }
+        requires said { IsSaidBy op (map (λ w. w.now) words.now) }
+        requires few_words { length self.old.words + length self.old.said ≤ operation_limit }
+        ensures { OnOk result (self.new ≡ with_operations count op (map (λ w. w.now) words.now) (values numbers.now) self.old) }
+    {
+        let mut left = count;
+        while left > 0 {
+            self.add_operation(alloc, op, words, numbers)?;
+            left -= 1;
+        }
         Ok(())
     }
 
@@ -153,8 +210,10 @@ impl Draft {
         words: &[&[u8]],
         numbers: &[Numbered],
     ) -> Result<(), Want>
-        requires { IsDeclarable self.old (form.Operation op) (map (λ w. w.now) words.now) (values numbers.now) }
-        ensures { OnOk result (self.new ≡ declared_with self.old (form.Operation op) (map (λ w. w.now) words.now) (values numbers.now)) }
+        requires small { AreOpSmall op (values numbers.now) }
+        requires said { IsSaidBy op (map (λ w. w.now) words.now) }
+        requires few_words { IsSmall (length self.old.words + length self.old.said) }
+        ensures { OnOk result (self.new ≡ with_operation op (map (λ w. w.now) words.now) (values numbers.now) self.old) }
     {
         let said = self.said_count();
         self.add_said(alloc, op, words)?;
@@ -173,19 +232,19 @@ impl Draft {
 
     // How many words are said.
     fn said_count(&self) -> u32
-        requires { IsSmall (length self.now.words) }
-        ensures { result ≡ length self.now.words }
+        requires { IsSmall (length self.now.words + length self.now.said) }
+        ensures { result ≡ length self.now.words + length self.now.said }
     {
-        self.words.len() as u32
+        self.words.len() as u32 + self.said.len() as u32
     }
 
     // Adds the word that an operation's line says, if it says one.
     fn add_said(&mut self, alloc: Global, op: Op, words: &[&[u8]]) -> Result<(), Want>
-        requires { IsSaid (form.Operation op) (map (λ w. w.now) words.now) }
-        ensures { OnOk result (self.new ≡ record self.old { words = self.old.words ++ said_in op (map (λ w. w.now) words.now) }) }
+        requires { IsSaidBy op (map (λ w. w.now) words.now) }
+        ensures { OnOk result (self.new ≡ record self.old { said = self.old.said ++ said_in op (map (λ w. w.now) words.now) }) }
     {
         if let Op::Say(_) = op {
-            self.words.push(said_text(alloc, word_in(words, 1))?)?;
+            self.said.push(said_text(alloc, word_in(words, 1))?)?;
         }
         Ok(())
     }
@@ -320,6 +379,100 @@ fn said_text(alloc: Global, word: &[u8]) -> Result<Text, Want>
     }
 }
 
+// Appends as many units like this one, each of which says so many words of its own.
+fn push_alike(
+    alloc: Global,
+    units: &mut Units,
+    part: UnitPart,
+    copies: u32,
+    said: u32,
+) -> Result<(), Want>
+    requires few_ops { length (all_ops units.old) + length (all_ops (alike copies said part)) ≤ operation_limit }
+    requires words { AreLater copies said (flat_map said_by (ops_of part.body)) }
+    ensures { OnOk result (units.new ≡ units.old ++ alike copies said part) }
+{
+    let mut part = part;
+    let mut left = copies;
+    while left > 1 {
+        let later = unit_later(alloc, said, &part)?;
+        units.push(part)?;
+        part = later;
+        left -= 1;
+    }
+    if left == 1 {
+        units.push(part)?;
+    }
+    Ok(())
+}
+
+// The same unit, whose words have numbers that are so much higher.
+fn unit_later(alloc: Global, n: u32, part: &UnitPart) -> Result<UnitPart, Want>
+    requires { All (λ w. w + n < 2 ^ 32) (flat_map said_by (ops_of part.now.body)) }
+    ensures { IfOk result (λ later. later ≡ unit_later n part.now) }
+{
+    let body = match &part.body {
+        Body::Ult(ops) => Body::Ult(ops_later(alloc, n, ops.items())?),
+        Body::Task(ops) => Body::Task(ops_later(alloc, n, ops.items())?),
+        Body::Sched(g) => Body::Sched(*g),
+    };
+    let start = part.start;
+    Ok(UnitPart { body, start })
+}
+
+// The same operations, whose words have numbers that are so much higher.
+fn ops_later(alloc: Global, n: u32, ops: &[Op]) -> Result<Ops, Want>
+    requires { All (λ w. w + n < 2 ^ 32) (flat_map said_by ops.now) }
+    ensures { IfOk result (λ later. later ≡ map (op_later n) ops.now) }
+{
+    let mut later = Vec::with_capacity(alloc, ops.len())?;
+    for op in ops {
+        later.push(op_later(n, *op))?;
+    }
+    Ok(Ops::new(later))
+}
+
+// The same operation, whose word, if it says one, has a number that is so much higher.
+fn op_later(n: u32, op: Op) -> Op
+    requires { All (λ w. w + n < 2 ^ 32) (said_by op) }
+    ensures { result ≡ op_later n op }
+{
+    match op {
+        Op::Say(w) => Op::Say(w + n),
+        other => other,
+    }
+}
+
+// Moves words to others, as many times over.
+fn push_repeated(
+    alloc: Global,
+    words: &mut Vec<Text>,
+    said: &mut Vec<Text>,
+    copies: u32,
+) -> Result<(), Want>
+    ensures { OnOk result ((words.new.items ≡ words.old.items ++ repeated copies said.old.items) × (said.new.items ≡ [])) }
+{
+    let mut left = copies;
+    while left > 1 {
+        push_copies(alloc, words, said)?;
+        left -= 1;
+    }
+    if left == 1 {
+        words.append(said)?;
+    }
+    said.clear();
+    Ok(())
+}
+
+// Appends the same words.
+fn push_copies(alloc: Global, words: &mut Vec<Text>, said: &[Text]) -> Result<(), Want>
+    ensures { OnOk result (words.new.items ≡ words.old.items ++ said.now) }
+{
+    for text in said {
+        words.push(Text::new(String::from_str(alloc, text.as_str())?))?;
+    }
+    Ok(())
+}
+
 // A unit with one operation more.
 fn unit_and(part: UnitPart, op: Op) -> Result<UnitPart, Want>
     ensures { IfOk result (λ new. new ≡ unit_and op part) }
@@ -373,6 +526,7 @@ fn named_op(op: Op, said: u32, m: u32, n: u32) -> Op
         Op::Yield => Op::Yield,
         Op::YieldTo(_, _) => Op::YieldTo(UnitNo(m), PoolNo(n)),
         Op::Suspend => Op::Suspend,
+        Op::Exit => Op::Exit,
         Op::Resume(_) => Op::Resume(UnitNo(m)),
         Op::Create(_, _) => Op::Create(UnitNo(m), PoolNo(n)),
         Op::Join(_) => Op::Join(UnitNo(m)),

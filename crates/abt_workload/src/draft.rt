@@ -1,18 +1,24 @@
 //! What the lines above a line declare.
 
-ghost use Rattle.std.specs.Prelude.{◌≡◌, ◌==◌, ◌+◌, map, flat_map, option_to_list, option_map, slice_get, is_none, unwrap_or, Some, None};
+ghost use Rattle.std.specs.Prelude.{◌≡◌, ◌==◌, ◌+◌, ◌*◌, map, nat_lt, flat_map, option_to_list, option_map, slice_get, is_none, unwrap_or, Some, None};
 ghost use Rattle.std.specs.List.{list_all, list_any};
 ghost use Rattle.std.specs.Option.{option_map_or};
 ghost use Rattle.abt_machine.specs.Access.{may_take, may_take_all};
-ghost use Rattle.abt_machine.specs.Declaring.{declared_units, nothing, parts_of};
-ghost use Rattle.abt_machine.specs.Faults.{has_main, has_object, is_barrier, is_condition, is_eventual, is_future, is_long, is_mutex, is_placed, is_task, is_there, takes_operations};
+ghost use Rattle.abt_machine.specs.Declaring.{declared_units, last_units, nothing, parts_of};
+ghost use Rattle.abt_machine.specs.Faults.{has_main, has_no_room, has_object, is_barrier, is_condition, is_crowded, is_eventual, is_future, is_long, is_mutex, is_placed, is_task, is_there, takes_operations};
+ghost use Rattle.abt_machine.specs.Limits.{operation_limit};
 ghost use Rattle.abt_machine.specs.Valid.{sched_in};
 ghost use Rattle.abt_machine.specs.Workloads.{access_from};
 ghost use Rattle.abt_machine.specs.declared.grammar.Number.TheVariants as number;
 ghost use Rattle.abt_machine.specs.declared.numbers.SchedNo.{SchedNo};
 ghost use Rattle.abt_machine.specs.declared.workload.UnitPart.{UnitPart};
+ghost use Rattle.abt_workload.specs.Declarable.{last_count, op_count};
 
-use abt_machine::{Access, Body, Number, PoolPart, SchedNo, SchedPart, Text, Thing, UnitPart};
+use crate::units::Units;
+use abt_machine::{
+    Access, Body, Format, Number, PoolPart, SchedNo, SchedPart, Text, Thing, UnitPart,
+    operation_limit, unit_operation_limit,
+};
 use std::alloc::Global;
 use std::marker::Model;
 
@@ -20,6 +26,7 @@ use std::marker::Model;
 #[derive(Drop)]
 pub(crate) struct Draft {
     pub(crate) begun: bool,
+    pub(crate) format: Format,
     pub(crate) section: u8,
     pub(crate) streams: Option<u32>,
     pub(crate) keys: u32,
@@ -28,9 +35,11 @@ pub(crate) struct Draft {
     pub(crate) mains: Vec<Option<SchedNo>>,
     pub(crate) objects: Vec<Thing>,
     pub(crate) unit_count: Option<u32>,
-    pub(crate) units: Vec<UnitPart>,
+    pub(crate) units: Units,
     pub(crate) last: Option<UnitPart>,
+    pub(crate) copies: u32,
     pub(crate) words: Vec<Text>,
+    pub(crate) said: Vec<Text>,
 }
 
 impl Model for Draft {
@@ -38,7 +47,7 @@ impl Model for Draft {
 
     ghost Value = { Above };
 
-    ghost view = { λ d. record { begun = d.begun; section = d.section; streams = d.streams; keys = d.keys; pools = d.pools.items; scheds = d.scheds.items; mains = d.mains.items; objects = d.objects.items; unit_count = d.unit_count; units = d.units.items; last = d.last; words = d.words.items } };
+    ghost view = { λ d. record { begun = d.begun; format = d.format; section = d.section; streams = d.streams; keys = d.keys; pools = d.pools.items; scheds = d.scheds.items; mains = d.mains.items; objects = d.objects.items; unit_count = d.unit_count; units = d.units; last = d.last; copies = d.copies; words = d.words.items; said = d.said.items } };
 }
 
 impl Draft {
@@ -48,6 +57,7 @@ impl Draft {
     {
         Draft {
             begun: false,
+            format: Format::One,
             section: 0,
             streams: None,
             keys: 0,
@@ -56,9 +66,11 @@ impl Draft {
             mains: Vec::new(alloc),
             objects: Vec::new(alloc),
             unit_count: None,
-            units: Vec::new(alloc),
+            units: Units::new(alloc),
             last: None,
+            copies: 0,
             words: Vec::new(alloc),
+            said: Vec::new(alloc),
         }
     }
 
@@ -70,13 +82,10 @@ impl Draft {
     }
 
     /// How many units are declared.
-    pub(crate) fn declared_units(&self) -> usize
+    pub(crate) fn declared_units(&self) -> u64
         ensures { result ≡ declared_units self.now }
     {
-        match &self.last {
-            None => self.units.len(),
-            Some(_) => self.units.len() + 1,
-        }
+        self.units.parts().len() as u64 + last_count(&self.last, self.copies)
     }
 
     /// Whether a stream has its main scheduler.
@@ -93,7 +102,14 @@ impl Draft {
     pub(crate) fn is_placed(&self, g: u64) -> bool
         ensures { result ≡ is_placed self.now g }
     {
-        is_main(&self.mains, g) || is_body(&self.units, g) || is_last(&self.last, g)
+        is_main(&self.mains, g) || is_body(self.units.parts(), g) || self.is_last(g)
+    }
+
+    // Whether a scheduler is the body of the last unit.
+    fn is_last(&self, g: u64) -> bool
+        ensures { result ≡ list_any (λ h. h == g) (flat_map (λ (part : UnitPart). sched_in part.body) (last_units self.now self.now.last)) }
+    {
+        self.copies > 0 && is_body_of_last(&self.last, g)
     }
 
     fn object(&self, x: u64) -> Option<Thing>
@@ -107,11 +123,11 @@ impl Draft {
         ensures { result ≡ is_there self.now number n }
     {
         match number {
-            Number::Within(_, _) => true,
+            Number::Within(_, _) | Number::StreamCount | Number::UnitCount => true,
             Number::NewPool => n <= self.pools.len() as u64,
             Number::NewSched => n <= self.scheds.len() as u64,
             Number::NewObject => n <= self.objects.len() as u64,
-            Number::NewUnit => n <= self.declared_units() as u64 && self.has_unit(n),
+            Number::NewUnit => n <= self.declared_units(),
             Number::Stream => n < u64::from(self.streams.unwrap_or(0)),
             Number::Pool => n < self.pools.len() as u64,
             Number::Sched => n < self.scheds.len() as u64,
@@ -142,14 +158,30 @@ impl Draft {
         }
     }
 
-    /// Whether the last unit may have no further operation.
-    pub(crate) fn is_long(&self) -> bool
-        ensures { result ≡ is_long self.now.last }
+    /// Whether the last unit may not have n operations more.
+    pub(crate) fn has_no_room(&self, n: u64) -> bool
+        ensures { result ≡ has_no_room self.now n }
+    {
+        self.is_long(n) || self.is_crowded(n)
+    }
+
+    // Whether the last unit has too many operations with n more.
+    fn is_long(&self, n: u64) -> bool
+        ensures { result ≡ is_long self.now.last n }
     {
         match &self.last {
             None => false,
-            Some(part) => part.body.ops().len() >= 256,
+            Some(part) => {
+                part.body.ops().len() as u128 + u128::from(n) > unit_operation_limit() as u128
+            }
         }
+    }
+
+    // Whether all units have too many operations, if the last and each of its copies has n more.
+    fn is_crowded(&self, n: u64) -> bool
+        ensures { result ≡ is_crowded self.now n }
+    {
+        are_too_many(self.units.ops(), self.copies, last_ops(&self.last), n)
     }
 
     /// Whether the last unit is a tasklet.
@@ -242,12 +274,41 @@ fn is_body_of(body: &Body, g: u64) -> bool
     }
 }
 
-// Whether a scheduler is the body of the last unit.
-fn is_last(last: &Option<UnitPart>, g: u64) -> bool
+// Whether a scheduler is the body of the last unit, if there is one.
+fn is_body_of_last(last: &Option<UnitPart>, g: u64) -> bool
     ensures { result ≡ list_any (λ h. h == g) (flat_map (λ (part : UnitPart). sched_in part.body) (option_to_list last.now)) }
 {
     match last {
         None => false,
         Some(part) => is_body_of(&part.body, g),
     }
+}
+
+// How many units the last `unit` or `many` line declares, if there is one.
+fn last_count(last: &Option<UnitPart>, copies: u32) -> u64
+    ensures { result ≡ last_count copies last.now }
+{
+    match last {
+        None => 0,
+        Some(_) => u64::from(copies),
+    }
+}
+
+// How many operations the last unit has, if there is one.
+fn last_ops(last: &Option<UnitPart>) -> usize
+    ensures { result ≡ op_count last.now }
+{
+    match last {
+        None => 0,
+        Some(part) => part.body.ops().len(),
+    }
+}
+
+// Whether so many operations, and those of the copies of a unit with n more each, are more than all units
+// may have.
+fn are_too_many(above: usize, copies: u32, each: usize, n: u64) -> bool
+    ensures { result ≡ nat_lt operation_limit (above + copies * (each + n)) }
+{
+    let all = u128::from(copies) * (each as u128 + u128::from(n));
+    above as u128 + all > operation_limit() as u128
 }

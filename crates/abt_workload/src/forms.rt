@@ -1,13 +1,15 @@
 //! The forms of a workload text's lines, as a table.
 
-ghost use Rattle.std.specs.Prelude.{◌≡◌, ◌∷◌, bytes_eq, map};
-ghost use Rattle.std.specs.List.{list_any};
-ghost use Rattle.abt_machine.specs.Forms.{begins, fits, form_of, op_slots, slots, suits};
+ghost use Rattle.std.specs.Prelude.{◌≡◌, ◌&&◌, ◌||◌, bytes_eq, map};
+ghost use Rattle.abt_machine.specs.Forms.{begins, fits, form_of, is_in, op_slots, slots, suits};
 ghost use Rattle.abt_machine.specs.Faults.{is_unknown};
-ghost use Rattle.abt_workload.specs.Slots.{slot_of};
+ghost use Rattle.abt_machine.specs.declared.grammar.Form.TheVariants as form;
+ghost use Rattle.abt_machine.specs.declared.grammar.Format.TheVariants as format;
+ghost use Rattle.abt_workload.specs.Slots.{own_slots, slot_of};
 
 use abt_machine::{
-    Access, Combine, Form, Number, ObjectNo, Op, PoolNo, Role, Rule, StreamNo, Thing, UnitNo,
+    Access, Combine, Form, Format, Number, ObjectNo, Op, PoolNo, Role, Rule, StreamNo, Thing,
+    UnitNo,
 };
 
 /// What stands at a place of a line: this very word, a word that names a kind of pool or what a future
@@ -23,8 +25,9 @@ pub(crate) enum Slot {
 }
 
 // One form of each; a form's numbers say nothing.
-static FORMS: [Form; 60] = [
-    Form::Version,
+static FORMS: [Form; 103] = [
+    Form::Version(Format::One),
+    Form::Version(Format::Two),
     Form::Streams,
     Form::Keys,
     Form::Pool(Access::Priv(StreamNo(0))),
@@ -59,6 +62,7 @@ static FORMS: [Form; 60] = [
     Form::Operation(Op::Yield),
     Form::Operation(Op::YieldTo(UnitNo(0), PoolNo(0))),
     Form::Operation(Op::Suspend),
+    Form::Operation(Op::Exit),
     Form::Operation(Op::Resume(UnitNo(0))),
     Form::Operation(Op::Create(UnitNo(0), PoolNo(0))),
     Form::Operation(Op::Join(UnitNo(0))),
@@ -84,15 +88,58 @@ static FORMS: [Form; 60] = [
     Form::Operation(Op::FuReset(ObjectNo(0))),
     Form::Operation(Op::FuTest(ObjectNo(0))),
     Form::Operation(Op::BarWait(ObjectNo(0))),
+    Form::Many(Role::Ult, Some(PoolNo(0))),
+    Form::Many(Role::Ult, None),
+    Form::Many(Role::Task, Some(PoolNo(0))),
+    Form::Many(Role::Task, None),
+    Form::Many(Role::Sched, Some(PoolNo(0))),
+    Form::Many(Role::Sched, None),
+    Form::Repeat(Op::Set(0)),
+    Form::Repeat(Op::Add(0)),
+    Form::Repeat(Op::Say(0)),
+    Form::Repeat(Op::Print),
+    Form::Repeat(Op::KeySet(0)),
+    Form::Repeat(Op::KeyGet(0)),
+    Form::Repeat(Op::Yield),
+    Form::Repeat(Op::YieldTo(UnitNo(0), PoolNo(0))),
+    Form::Repeat(Op::Suspend),
+    Form::Repeat(Op::Exit),
+    Form::Repeat(Op::Resume(UnitNo(0))),
+    Form::Repeat(Op::Create(UnitNo(0), PoolNo(0))),
+    Form::Repeat(Op::Join(UnitNo(0))),
+    Form::Repeat(Op::Cancel(UnitNo(0))),
+    Form::Repeat(Op::Migrate(UnitNo(0), PoolNo(0))),
+    Form::Repeat(Op::MigrateTo(UnitNo(0), StreamNo(0))),
+    Form::Repeat(Op::Migratable(UnitNo(0), false)),
+    Form::Repeat(Op::Revive(UnitNo(0), PoolNo(0))),
+    Form::Repeat(Op::Lock(ObjectNo(0))),
+    Form::Repeat(Op::TryLock(ObjectNo(0))),
+    Form::Repeat(Op::Unlock(ObjectNo(0))),
+    Form::Repeat(Op::Load(ObjectNo(0))),
+    Form::Repeat(Op::Store(ObjectNo(0))),
+    Form::Repeat(Op::CondWait(ObjectNo(0))),
+    Form::Repeat(Op::Signal(ObjectNo(0))),
+    Form::Repeat(Op::Broadcast(ObjectNo(0))),
+    Form::Repeat(Op::EvWait(ObjectNo(0))),
+    Form::Repeat(Op::EvSet(ObjectNo(0))),
+    Form::Repeat(Op::EvReset(ObjectNo(0))),
+    Form::Repeat(Op::EvTest(ObjectNo(0))),
+    Form::Repeat(Op::FuWait(ObjectNo(0))),
+    Form::Repeat(Op::FuSet(ObjectNo(0))),
+    Form::Repeat(Op::FuReset(ObjectNo(0))),
+    Form::Repeat(Op::FuTest(ObjectNo(0))),
+    Form::Repeat(Op::BarWait(ObjectNo(0))),
 ];
 
-// What stands at the places of a line of this form.
+/// What stands at the places of a line of this form; of a `repeat` line after its first two words, that is
+/// at the places of its operation.
 pub(crate) fn slots(form: Form) -> &'static [Slot]
-    ensures { map slot_of result.now ≡ slots form }
+    ensures { map slot_of result.now ≡ own_slots form }
 {
     match form {
-        Form::Version => &[Slot::Fixed("abt"), Slot::Fixed("1")],
-        Form::Streams => &[Slot::Fixed("streams"), Slot::Numeral(Number::Within(1, 8))],
+        Form::Version(Format::One) => &[Slot::Fixed("abt"), Slot::Fixed("1")],
+        Form::Version(Format::Two) => &[Slot::Fixed("abt"), Slot::Fixed("2")],
+        Form::Streams => &[Slot::Fixed("streams"), Slot::Numeral(Number::StreamCount)],
         Form::Keys => &[Slot::Fixed("keys"), Slot::Numeral(Number::Within(0, 16))],
         Form::Pool(Access::Priv(_)) => &[
             Slot::Fixed("pool"),
@@ -195,7 +242,7 @@ pub(crate) fn slots(form: Form) -> &'static [Slot]
             Slot::Fixed("barrier"),
             Slot::Numeral(Number::Within(1, 4096)),
         ],
-        Form::Units => &[Slot::Fixed("units"), Slot::Numeral(Number::Within(0, 256))],
+        Form::Units => &[Slot::Fixed("units"), Slot::Numeral(Number::UnitCount)],
         Form::Unit(Role::Ult, Some(_)) => &[
             Slot::Fixed("unit"),
             Slot::Numeral(Number::NewUnit),
@@ -237,8 +284,55 @@ pub(crate) fn slots(form: Form) -> &'static [Slot]
             Slot::Numeral(Number::Sched),
             Slot::Fixed("later"),
         ],
+        Form::Many(Role::Ult, Some(_)) => &[
+            Slot::Fixed("many"),
+            Slot::Numeral(Number::NewUnit),
+            Slot::Numeral(Number::Within(1, 4096)),
+            Slot::Fixed("ult"),
+            Slot::Fixed("at"),
+            Slot::Numeral(Number::Pool),
+        ],
+        Form::Many(Role::Ult, None) => &[
+            Slot::Fixed("many"),
+            Slot::Numeral(Number::NewUnit),
+            Slot::Numeral(Number::Within(1, 4096)),
+            Slot::Fixed("ult"),
+            Slot::Fixed("later"),
+        ],
+        Form::Many(Role::Task, Some(_)) => &[
+            Slot::Fixed("many"),
+            Slot::Numeral(Number::NewUnit),
+            Slot::Numeral(Number::Within(1, 4096)),
+            Slot::Fixed("task"),
+            Slot::Fixed("at"),
+            Slot::Numeral(Number::Pool),
+        ],
+        Form::Many(Role::Task, None) => &[
+            Slot::Fixed("many"),
+            Slot::Numeral(Number::NewUnit),
+            Slot::Numeral(Number::Within(1, 4096)),
+            Slot::Fixed("task"),
+            Slot::Fixed("later"),
+        ],
+        Form::Many(Role::Sched, Some(_)) => &[
+            Slot::Fixed("many"),
+            Slot::Numeral(Number::NewUnit),
+            Slot::Numeral(Number::Within(1, 4096)),
+            Slot::Fixed("sched"),
+            Slot::Numeral(Number::Sched),
+            Slot::Fixed("at"),
+            Slot::Numeral(Number::Pool),
+        ],
+        Form::Many(Role::Sched, None) => &[
+            Slot::Fixed("many"),
+            Slot::Numeral(Number::NewUnit),
+            Slot::Numeral(Number::Within(1, 4096)),
+            Slot::Fixed("sched"),
+            Slot::Numeral(Number::Sched),
+            Slot::Fixed("later"),
+        ],
         Form::End => &[Slot::Fixed("end")],
-        Form::Operation(op) => op_slots(op),
+        Form::Operation(op) | Form::Repeat(op) => op_slots(op),
     }
 }
 
@@ -265,6 +359,7 @@ fn op_slots(op: Op) -> &'static [Slot]
             Slot::Numeral(Number::Pool),
         ],
         Op::Suspend => &[Slot::Fixed("suspend")],
+        Op::Exit => &[Slot::Fixed("exit")],
         Op::Resume(_) => &[Slot::Fixed("resume"), Slot::Numeral(Number::Unit)],
         Op::Create(_, _) => &[
             Slot::Fixed("create"),
@@ -347,12 +442,45 @@ pub(crate) fn fits(slots: &[Slot], words: &[&[u8]]) -> bool
     }
 }
 
-/// The form of a line of these words, if it has one.
-pub(crate) fn form_of(words: &[&[u8]]) -> Option<Form>
-    ensures { result ≡ form_of (map (λ w. w.now) words.now) }
+// Whether these are the words of a `repeat` line of this operation.
+fn is_repeat(op: Op, words: &[&[u8]]) -> bool
+    ensures { result ≡ fits (slots (form.Repeat op)) (map (λ w. w.now) words.now) }
+{
+    match words.split_first() {
+        None => false,
+        Some((word, words)) => match words.split_first() {
+            None => false,
+            Some((_, words)) => is(word, "repeat") && fits(op_slots(op), words),
+        },
+    }
+}
+
+// Whether a line of this form stands in texts of this format.
+fn is_in(format: Format, form: Form) -> bool
+    ensures { result ≡ is_in format form }
+{
+    match form {
+        Form::Many(_, _) | Form::Repeat(_) => matches!(format, Format::Two),
+        _ => true,
+    }
+}
+
+// Whether a line of these words has this form in a text of this format.
+fn has_form(format: Format, form: Form, words: &[&[u8]]) -> bool
+    ensures { result ≡ (is_in format form && fits (slots form) (map (λ w. w.now) words.now)) }
+{
+    match form {
+        Form::Repeat(op) => is_in(format, form) && is_repeat(op, words),
+        _ => is_in(format, form) && fits(slots(form), words),
+    }
+}
+
+/// The form of a line of these words in a text of this format, if it has one.
+pub(crate) fn form_of(format: Format, words: &[&[u8]]) -> Option<Form>
+    ensures { result ≡ form_of format (map (λ w. w.now) words.now) }
 {
     for form in FORMS.as_slice() {
-        if fits(slots(*form), words) {
+        if has_form(format, *form, words) {
             return Some(*form);
         }
     }
@@ -372,14 +500,31 @@ fn begins(slots: &[Slot], words: &[&[u8]]) -> bool
     }
 }
 
-/// Whether no line begins with the first of these words.
-pub(crate) fn is_unknown(words: &[&[u8]]) -> bool
-    ensures { result ≡ is_unknown (map (λ w. w.now) words.now) }
+// Whether a line of this form may begin with the word that these words begin with, in a text of this format.
+fn may_begin(format: Format, form: Form, words: &[&[u8]]) -> bool
+    ensures { result ≡ (is_in format form && begins (slots form) (map (λ w. w.now) words.now)) }
+{
+    match form {
+        Form::Repeat(_) => is_in(format, form) && begins(&[Slot::Fixed("repeat")], words),
+        _ => is_in(format, form) && begins(slots(form), words),
+    }
+}
+
+/// Whether no line of a text of this format begins with the first of these words.
+pub(crate) fn is_unknown(format: Format, words: &[&[u8]]) -> bool
+    ensures { result ≡ is_unknown format (map (λ w. w.now) words.now) }
 {
     for form in FORMS.as_slice() {
-        if begins(slots(*form), words) {
+        if may_begin(format, *form, words) {
             return false;
         }
     }
     true
+}
+
+/// Whether these are the words of a version line, of either format.
+pub(crate) fn is_version(words: &[&[u8]]) -> bool
+    ensures { result ≡ (fits (slots (form.Version format.One)) (map (λ w. w.now) words.now) || fits (slots (form.Version format.Two)) (map (λ w. w.now) words.now)) }
+{
+    fits(slots(Form::Version(Format::One)), words) || fits(slots(Form::Version(Format::Two)), words)
 }

@@ -3,7 +3,7 @@
 ghost use Rattle.std.specs.Prelude.{◌≡◌, map, IfOk, nat_lt, unwrap_or};
 ghost use Rattle.std.specs.Bool.{OnTrue};
 ghost use Rattle.std.specs.List.{list_all};
-ghost use Rattle.abt_machine.specs.Faults.{blocks_task, is_barred, is_early, is_long_word, is_misplaced, is_no_version, is_past_limit, is_there, is_twice, is_within, numbers_of};
+ghost use Rattle.abt_machine.specs.Faults.{blocks_task, is_barred, is_beyond, is_early, is_homeless, is_long_word, is_misplaced, is_no_version, is_past_limit, is_there, is_twice, is_within, lacks_units, numbers_of};
 ghost use Rattle.abt_machine.specs.Spelling.{is_number};
 ghost use Rattle.abt_machine.specs.Forms.{numerals, section, slots};
 ghost use Rattle.abt_machine.specs.Declaring.{declared_units};
@@ -11,10 +11,10 @@ ghost use Rattle.abt_workload.specs.Judging.{IsJudged, IsShaped, later_fault};
 ghost use Rattle.abt_workload.specs.Slots.{values};
 
 use crate::draft::Draft;
-use crate::forms::{fits, form_of, is_unknown, slots};
-use crate::numbers::{Numbered, add_numbers, has_repeated, listed, value};
-use crate::text::{has_control, is_utf8};
-use abt_machine::{Fault, Form, Number, Op, Role, Want};
+use crate::forms::{form_of, is_unknown, is_version, slots};
+use crate::numbers::{Numbered, add_numbers, add_repeated, has_repeated, listed, value};
+use crate::text::{has_control, is_utf8, words_after};
+use abt_machine::{Fault, Form, Format, Number, Op, Role, Want};
 use std::alloc::Global;
 
 /// The section that a line of this form belongs to.
@@ -22,7 +22,7 @@ pub(crate) fn section(form: Form) -> u8
     ensures { result ≡ section form }
 {
     match form {
-        Form::Version => 1,
+        Form::Version(_) => 1,
         Form::Streams => 2,
         Form::Keys => 3,
         Form::Pool(_) => 4,
@@ -30,7 +30,7 @@ pub(crate) fn section(form: Form) -> u8
         Form::Stream => 6,
         Form::Object(_) => 7,
         Form::Units => 8,
-        Form::Unit(_, _) | Form::Operation(_) => 9,
+        Form::Unit(_, _) | Form::Many(_, _) | Form::Operation(_) | Form::Repeat(_) => 9,
         Form::End => 10,
     }
 }
@@ -42,7 +42,10 @@ fn find_numbers(form: Form, words: &[&[u8]], numbers: &mut Vec<Numbered>) -> Res
     ensures numbers { IfOk result (λ all. OnTrue all (numbers.new.items ≡ numbers_of form (map (λ w. w.now) words.now))) }
 {
     numbers.clear();
-    add_numbers(slots(form), words, numbers)
+    match form {
+        Form::Repeat(_) => add_repeated(slots(form), words, numbers),
+        _ => add_numbers(slots(form), words, numbers),
+    }
 }
 
 /// What was found of a line.
@@ -86,8 +89,8 @@ impl Draft {
         if self.is_no_version(words) {
             return Verdict::Faulty(Fault::Version);
         }
-        let Some(form) = form_of(words) else {
-            if is_unknown(words) {
+        let Some(form) = form_of(self.format, words) else {
+            if is_unknown(self.format, words) {
                 return Verdict::Faulty(Fault::Unknown);
             }
             return Verdict::Faulty(Fault::Shape);
@@ -105,7 +108,7 @@ impl Draft {
     fn is_no_version(&self, words: &[&[u8]]) -> bool
         ensures { result ≡ is_no_version self.now (map (λ w. w.now) words.now) }
     {
-        !self.begun && !fits(slots(Form::Version), words)
+        !self.begun && !is_version(words)
     }
 
     // Whether a line of this form may not stand here.
@@ -115,8 +118,19 @@ impl Draft {
         let section = section(form);
         section < self.section
             || (section == self.section && matches!(section, 1 | 2 | 3 | 8))
-            || (matches!(form, Form::Operation(_)) && !self.takes_operations())
+            || self.is_homeless(form)
             || self.section == 10
+    }
+
+    // Whether a line of this form has no unit that it belongs to, or no place yet.
+    fn is_homeless(&self, form: Form) -> bool
+        ensures { result ≡ is_homeless self.now form }
+    {
+        match form {
+            Form::Operation(_) | Form::Repeat(_) => !self.takes_operations(),
+            Form::Many(_, _) => self.unit_count.is_none(),
+            _ => false,
+        }
     }
 
     // Whether a line declares what is declared, names a pool twice, or gives a stream a second main
@@ -137,9 +151,13 @@ impl Draft {
             Form::Stream => Ok(self.has_main(first) || self.is_placed(second)),
             Form::Object(_) => Ok(first < self.objects.len() as u64),
             Form::Unit(Role::Sched, _) => {
-                Ok(first < self.declared_units() as u64 || self.is_placed(second))
+                Ok(first < self.declared_units() || self.is_placed(second))
             }
-            Form::Unit(_, _) => Ok(first < self.declared_units() as u64),
+            Form::Unit(_, _) => Ok(first < self.declared_units()),
+            Form::Many(Role::Sched, _) => Ok(
+                first < self.declared_units() || second > 1 || self.is_placed(value(numbers, 2)),
+            ),
+            Form::Many(_, _) => Ok(first < self.declared_units()),
             _ => Ok(false),
         }
     }
@@ -156,6 +174,25 @@ impl Draft {
         true
     }
 
+    // Whether a line declares a unit that is not one of those that `units` has.
+    fn is_beyond(&self, form: Form, numbers: &[Numbered]) -> bool
+        ensures { result ≡ is_beyond self.now form (values numbers.now) }
+    {
+        let first = u128::from(value(numbers, 0));
+        match form {
+            Form::Unit(_, _) => self.lacks_units(first + 1),
+            Form::Many(_, _) => self.lacks_units(first + u128::from(value(numbers, 1))),
+            _ => false,
+        }
+    }
+
+    // Whether there are fewer than n units.
+    fn lacks_units(&self, n: u128) -> bool
+        ensures { result ≡ lacks_units self.now n }
+    {
+        u128::from(self.unit_count.unwrap_or(0)) < n
+    }
+
     // Whether there are as many of something as there may be.
     fn is_past_limit(&self, form: Form, words: &[&[u8]], numbers: &[Numbered]) -> bool
         ensures { result ≡ is_past_limit self.now form (map (λ w. w.now) words.now) (values numbers.now) }
@@ -164,7 +201,10 @@ impl Draft {
             Form::Pool(_) => self.pools.len() >= 64,
             Form::Sched(rule) => self.scheds.len() >= 64 || listed(rule, numbers).len() > 8,
             Form::Object(_) => self.objects.len() >= 256,
-            Form::Operation(op) => self.is_long() || is_long_word(op, words),
+            Form::Operation(op) => self.has_no_room(1) || is_long_word(op, words),
+            Form::Repeat(op) => {
+                self.has_no_room(value(numbers, 0)) || is_long_word(op, words_after(words, 2))
+            }
             _ => false,
         }
     }
@@ -174,7 +214,7 @@ impl Draft {
         ensures { result ≡ blocks_task self.now form }
     {
         match form {
-            Form::Operation(op) => self.is_task() && op.may_block(),
+            Form::Operation(op) | Form::Repeat(op) => self.is_task() && op.may_block(),
             _ => false,
         }
     }
@@ -196,9 +236,11 @@ impl Draft {
         let streams = self.streams.is_none();
         let units = self.unit_count.is_none();
         match form {
-            Form::Version | Form::Streams => false,
+            Form::Version(_) | Form::Streams => false,
             Form::Units => streams || self.pools.is_empty() || self.lacks_main(),
-            Form::Unit(_, _) | Form::Operation(_) => streams || units,
+            Form::Unit(_, _) | Form::Many(_, _) | Form::Operation(_) | Form::Repeat(_) => {
+                streams || units
+            }
             Form::End => streams || units || self.lacks_unit(),
             _ => streams,
         }
@@ -207,7 +249,7 @@ impl Draft {
     fn lacks_unit(&self) -> bool
         ensures { result ≡ nat_lt (declared_units self.now) (unwrap_or self.now.unit_count 0) }
     {
-        (self.declared_units() as u64) < u64::from(self.unit_count.unwrap_or(0))
+        self.declared_units() < u64::from(self.unit_count.unwrap_or(0))
     }
 
     // The first fault of a line of a known form, whose numbers are these.
@@ -223,10 +265,10 @@ impl Draft {
         if self.is_twice(alloc, form, numbers)? {
             return Ok(Some(Fault::Twice));
         }
-        if !self.all_there(numbers) {
+        if !self.all_there(numbers) || self.is_beyond(form, numbers) {
             return Ok(Some(Fault::Undeclared));
         }
-        if !all_within(numbers) || self.is_past_limit(form, words, numbers) {
+        if !all_within(self.format, numbers) || self.is_past_limit(form, words, numbers) {
             return Ok(Some(Fault::Limit));
         }
         if self.blocks_task(form) {
@@ -256,21 +298,23 @@ fn is_long_word(op: Op, words: &[&[u8]]) -> bool
 }
 
 // Whether each number that has bounds keeps them.
-fn all_within(numbers: &[Numbered]) -> bool
-    ensures { result ≡ list_all (λ p. is_within p.0 p.1) numbers.now }
+fn all_within(format: Format, numbers: &[Numbered]) -> bool
+    ensures { result ≡ list_all (λ p. is_within format p.0 p.1) numbers.now }
 {
     for (number, n) in numbers {
-        if !is_within(*number, *n) {
+        if !is_within(format, *number, *n) {
             return false;
         }
     }
     true
 }
 
-fn is_within(number: Number, n: u64) -> bool
-    ensures { result ≡ is_within number n }
+fn is_within(format: Format, number: Number, n: u64) -> bool
+    ensures { result ≡ is_within format number n }
 {
     match number {
+        Number::StreamCount => 1 <= n && n <= u64::from(format.stream_limit()),
+        Number::UnitCount => n <= u64::from(format.unit_limit()),
         Number::Within(low, high) => low <= n && n <= high,
         _ => true,
     }

@@ -11,6 +11,7 @@ mod reading;
 #[cfg(test)]
 mod tests;
 mod text;
+mod units;
 mod writing;
 #[cfg(test)]
 mod writing_tests;

@@ -10,7 +10,7 @@ ghost use Rattle.abt_machine.specs.Spelling.{is_number};
 ghost use Rattle.abt_machine.specs.Words.{Text};
 ghost use Rattle.abt_machine.specs.declared.grammar.Number.{Number};
 ghost use Rattle.abt_machine.specs.declared.grammar.Number.TheVariants as number;
-ghost use Rattle.abt_workload.specs.Slots.{numbered, numeral_in, slot_of, values};
+ghost use Rattle.abt_workload.specs.Slots.{numbered, numeral_in, repeat_slots, slot_of, values};
 
 use crate::forms::Slot;
 use crate::text::number;
@@ -37,6 +37,29 @@ pub(crate) fn add_numbers(
             None => Ok(true),
             Some((word, words)) => {
                 if !add_number(*slot, word, numbers)? {
+                    return Ok(false);
+                }
+                add_numbers(slots, words, numbers)
+            }
+        },
+    }
+}
+
+/// The same of a `repeat` line whose operation has these places.
+pub(crate) fn add_repeated(
+    slots: &[Slot],
+    words: &[&[u8]],
+    numbers: &mut Vec<Numbered>,
+) -> Result<bool, Want>
+    ensures all { IfOk result (λ all. all ≡ list_all (λ p. is_number p.1) (numerals (repeat_slots (map slot_of slots.now)) (map (λ w. w.now) words.now))) }
+    ensures numbers { IfOk result (λ all. OnTrue all (numbers.new.items ≡ numbers.old.items ++ numbered (numerals (repeat_slots (map slot_of slots.now)) (map (λ w. w.now) words.now)))) }
+{
+    match words.split_first() {
+        None => Ok(true),
+        Some((_, words)) => match words.split_first() {
+            None => Ok(true),
+            Some((word, words)) => {
+                if !add(Number::Within(1, 256), word, numbers)? {
                     return Ok(false);
                 }
                 add_numbers(slots, words, numbers)
@@ -103,8 +126,8 @@ pub(crate) fn listed(rule: Rule, numbers: &[Numbered]) -> &[Numbered]
     }
 }
 
-// What follows the first k.
-fn after(numbers: &[Numbered], k: usize) -> &[Numbered]
+/// What follows the first k.
+pub(crate) fn after(numbers: &[Numbered], k: usize) -> &[Numbered]
     ensures { values result.now ≡ drop k (values numbers.now) }
 {
     if k < numbers.len() {

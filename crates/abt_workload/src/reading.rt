@@ -1,22 +1,21 @@
 //! The reader.
 
-ghost use Rattle.std.specs.Prelude.{◌≡◌, ◌++◌, ◌≤◌, length, IfErr, IfOk, OnOk, flat_map, map, option_to_list};
+ghost use Rattle.std.specs.Prelude.{◌≡◌, ◌++◌, ◌≤◌, length, nat_lt, IfErr, IfOk, OnOk, flat_map, map, option_to_list};
 ghost use Rattle.abt_machine.specs.Declaring.{parts_of};
 ghost use Rattle.abt_machine.specs.Faults.{line_fault};
-ghost use Rattle.abt_machine.specs.Grammar.{Reads, and_line};
-ghost use Rattle.abt_machine.specs.Spelling.{words_of};
+ghost use Rattle.abt_machine.specs.Grammar.{Reads, and_line, format_of};
+ghost use Rattle.abt_machine.specs.Limits.{text_limit};
+ghost use Rattle.abt_machine.specs.Spelling.{lines_of, words_of};
+ghost use Rattle.abt_workload.specs.Declarable.{IsClosable};
 ghost use Rattle.abt_workload.specs.Reading.{IsCause, IsFirm, IsSeen};
 
 use crate::draft::Draft;
 use crate::judge::Verdict;
 use crate::numbers::Numbered;
-use crate::text::{first_line, is_skipped, is_utf8, words};
-use abt_machine::{Fault, Items, Parts, SchedNo, Want, Workload};
+use crate::text::{first_line, format_of, is_skipped, is_utf8, words};
+use abt_machine::{Fault, Format, Items, Parts, SchedNo, Want, Workload};
 use std::alloc::Global;
 use thiserror::Error;
-
-/// The most bytes that a workload text has.
-const MOST_BYTES: usize = 4_194_304;
 
 /// Why a text was not read.
 #[derive(Clone, Copy, Debug, Drop, PartialEq, Eq, Error)]
@@ -75,9 +74,11 @@ impl Draft {
     }
 
     // The parts that are declared.
-    fn into_parts(self, alloc: Global) -> Result<Parts, Want>
+    fn into_parts(mut self, alloc: Global) -> Result<Parts, Want>
+        requires { IsClosable self }
         ensures { IfOk result (λ parts. parts ≡ parts_of self) }
     {
+        self.close(alloc)?;
         let Draft {
             streams,
             keys,
@@ -85,15 +86,11 @@ impl Draft {
             scheds,
             mains,
             objects,
-            mut units,
-            last,
+            units,
             words,
             ..
         } = self;
         let mains = all_mains(alloc, &mains)?;
-        if let Some(part) = last {
-            units.push(part)?;
-        }
         Ok(Parts {
             streams: streams.unwrap_or(0),
             keys,
@@ -101,7 +98,7 @@ impl Draft {
             scheds: Items::new(scheds),
             mains: Items::new(mains),
             objects: Items::new(objects),
-            units: Items::new(units),
+            units: Items::new(units.into_parts()),
             words: Items::new(words),
         })
     }
@@ -129,7 +126,7 @@ fn add_main(all: &mut Vec<SchedNo>, main: Option<SchedNo>) -> Result<(), Want>
 
 // What the lines of a text declare, or the least that has a fault.
 fn read_lines(alloc: Global, bytes: &[u8]) -> Result<Draft, NotRead>
-    requires { length bytes.now ≤ 4194304 }
+    requires { length bytes.now ≤ text_limit (format_of (lines_of bytes.now)) }
     ensures ok { IfOk result (IsSeen bytes.now) }
     ensures refused { IfErr result (IsCause bytes.now) }
 {
@@ -162,7 +159,14 @@ fn read_lines(alloc: Global, bytes: &[u8]) -> Result<Draft, NotRead>
     Ok(draft)
 }
 
-/// Reads a workload text in one pass over its bytes.
+// Whether a text has more bytes than its format allows.
+fn is_too_long(bytes: &[u8]) -> bool
+    ensures { result ≡ nat_lt (text_limit (format_of (lines_of bytes.now))) (length bytes.now) }
+{
+    bytes.len() > Format::One.text_limit() && bytes.len() > format_of(bytes).text_limit()
+}
+
+/// Reads a workload text of either format, in one pass over its bytes.
 ///
 /// # Errors
 /// `Refused` has the least line that has a fault, and that line's first fault in the order of the
@@ -171,7 +175,7 @@ pub fn read(alloc: Global, bytes: &[u8]) -> Result<Workload, NotRead>
     ensures ok { IfOk result (Reads bytes.now) }
     ensures refused { IfErr result (IsCause bytes.now) }
 {
-    if bytes.len() > MOST_BYTES {
+    if is_too_long(bytes) {
         return Err(NotRead::Refused {
             line: 0,
             fault: Fault::Limit,

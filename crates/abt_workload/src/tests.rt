@@ -1,186 +1,370 @@
 //! Texts that are read, and texts that are refused, each at its line.
 
 use crate::{NotRead, each_text_has_one_answer, read};
-use abt_machine::Fault;
-use std::alloc::Global;
+use abt_machine::{Body, Fault, Op, UnitNo};
+use std::alloc::{AllocError, Global};
+use std::test::Fail;
 
 // One stream, one pool and one scheduler.
 const BASE: &str = "abt 1\nstreams 1\npool 0 fifo mpmc\nsched 0 prio 0\nstream 0 main 0\n";
+
+// The same in format 2.
+const BASE_TWO: &str = "abt 2\nstreams 1\npool 0 fifo mpmc\nsched 0 prio 0\nstream 0 main 0\n";
+
+// A text of format 2 whose units and operations are declared many at once.
+const MANY: &str =
+    "abt 2\nstreams 1\npool 0 fifo mpmc\nsched 0 prio 0\nsched 1 prio 0\nstream 0 main 0\nunits 7\nunit 0 ult at 0\nsay a\nmany 1 3 task later\nrepeat 2 say b\nprint\nsay c\nmany 4 1 sched 1 at 0\nmany 5 2 ult later\nend\n";
 
 // A text with each kind of part, some in unusual spelling, and without its last line feed.
 const WHOLE: &str =
     "#\n \tabt\t1 \n\nstreams 02\nkeys 2\npool 0 fifo priv of 0\npool 1 deque mpmc\nsched 0 prio 0 1\nsched 1 randws 18446744073709551615 1\nsched 2 user 1 1\nstream 1 main 1\nstream 0 main 0\nobject 0 mutex\nobject 1 cond 0\nobject 2 eventual\nobject 3 future 2 max\nobject 4 barrier 4096\nunits 3\nunit 0 ult at 0\nset 18446744073709551615\nsay aaaaaaaaaaaaaaaaaaaaaaaaaaaaaaaaaaaaaaaaaaaaaaaaaaaaaaaaaaaaaaaa\ncreate 2 1\nkset 1\nmigratable 1 1\nlock 0\ncwait 1\newait 2\nfset 3\nbwait 4\nyieldto 2 1\nmigrateto 1 0\nunit 1 task later\nsay #x\ntrylock 0\nunit 2 sched 2 at 1\nend";
 
-// A text that is refused, below the base or by itself, with its line and fault.
-type Row = (bool, &'static str, u32, Fault);
+// A text that is refused, below a base or by itself, with its line and fault.
+type Row = (&'static str, &'static str, u32, Fault);
 
-static ROWS: [Row; 61] = [
-    (false, "abt 2\n", 1, Fault::Version),
-    (false, "# a\n\nstreams 1\n", 3, Fault::Version),
-    (false, "abt 01\n", 1, Fault::Version),
-    (false, "walk\n", 1, Fault::Version),
-    (true, "units 1\nunit 0 ult at 0\nwalk\n", 8, Fault::Unknown),
-    (false, "abt 1\nabt1\n", 2, Fault::Unknown),
-    (true, "units 0\nend\nwalk\n", 8, Fault::Unknown),
-    (true, "end\r\n", 6, Fault::Unknown),
-    (true, "exit\n", 6, Fault::Unknown),
-    (false, "abt 1\nstreams 1\r\n", 2, Fault::Shape),
-    (true, "units 1 1\n", 6, Fault::Shape),
-    (true, "streams 1\n", 6, Fault::Shape),
-    (false, "abt 1\nabt 1\n", 2, Fault::Shape),
-    (true, "print\n", 6, Fault::Shape),
-    (true, "units 0\nend\nend\n", 8, Fault::Shape),
-    (true, "object 0 rwlock\n", 6, Fault::Shape),
-    (true, "object 0 future x many\n", 6, Fault::Shape),
-    (true, "units \u{7f}\n", 6, Fault::Shape),
-    (true, "units x\n", 6, Fault::Number),
-    (true, "units +1\n", 6, Fault::Number),
+static ROWS: [Row; 102] = [
+    ("", "abt 3\n", 1, Fault::Version),
+    ("", "# a\n\nstreams 1\n", 3, Fault::Version),
+    ("", "abt 01\n", 1, Fault::Version),
+    ("", "walk\n", 1, Fault::Version),
+    (BASE, "units 1\nunit 0 ult at 0\nwalk\n", 8, Fault::Unknown),
+    ("", "abt 1\nabt1\n", 2, Fault::Unknown),
+    (BASE, "units 0\nend\nwalk\n", 8, Fault::Unknown),
+    (BASE, "end\r\n", 6, Fault::Unknown),
+    (BASE, "leave\n", 6, Fault::Unknown),
+    ("", "abt 1\nstreams 1\r\n", 2, Fault::Shape),
+    (BASE, "units 1 1\n", 6, Fault::Shape),
+    (BASE, "streams 1\n", 6, Fault::Shape),
+    ("", "abt 1\nabt 1\n", 2, Fault::Shape),
+    (BASE, "print\n", 6, Fault::Shape),
+    (BASE, "units 0\nend\nend\n", 8, Fault::Shape),
+    (BASE, "object 0 rwlock\n", 6, Fault::Shape),
+    (BASE, "object 0 future x many\n", 6, Fault::Shape),
+    (BASE, "units \u{7f}\n", 6, Fault::Shape),
+    (BASE, "units x\n", 6, Fault::Number),
+    (BASE, "units +1\n", 6, Fault::Number),
     (
-        true,
+        BASE,
         "units 1\nunit 0 ult at 0\nset 18446744073709551616\n",
         8,
         Fault::Number,
     ),
     (
-        false,
+        "",
         "abt 1\nstreams 1\npool x fifo priv of 9\n",
         3,
         Fault::Number,
     ),
     (
-        false,
+        "",
         "abt 1\nstreams 1\npool 0 fifo mpmc\nsched 0 prio 0 0 x\n",
         4,
         Fault::Number,
     ),
     (
-        false,
+        "",
         "abt 1\nstreams 1\npool 0 fifo mpmc\npool 0 fifo mpmc\n",
         4,
         Fault::Twice,
     ),
     (
-        false,
+        "",
         "abt 1\nstreams 1\npool 0 fifo mpmc\nsched 0 prio 9 9\n",
         4,
         Fault::Twice,
     ),
-    (true, "stream 0 main 0\n", 6, Fault::Twice),
-    (true, "units 1\nunit 0 sched 0 at 9\n", 7, Fault::Twice),
-    (true, "object 0 mutex\nobject 0 cond 5\n", 7, Fault::Twice),
-    (false, "abt 1\npool 1 fifo mpmc\n", 2, Fault::Undeclared),
+    (BASE, "stream 0 main 0\n", 6, Fault::Twice),
+    (BASE, "units 1\nunit 0 sched 0 at 9\n", 7, Fault::Twice),
+    (BASE, "object 0 mutex\nobject 0 cond 5\n", 7, Fault::Twice),
+    ("", "abt 1\npool 1 fifo mpmc\n", 2, Fault::Undeclared),
+    ("", "abt 1\npool 0 fifo priv of 0\n", 2, Fault::Undeclared),
+    (BASE, "unit 0 ult later\n", 6, Fault::Undeclared),
+    (BASE, "object 0 cond 0\n", 6, Fault::Undeclared),
     (
-        false,
-        "abt 1\npool 0 fifo priv of 0\n",
-        2,
-        Fault::Undeclared,
-    ),
-    (true, "unit 0 ult later\n", 6, Fault::Undeclared),
-    (true, "object 0 cond 0\n", 6, Fault::Undeclared),
-    (
-        true,
+        BASE,
         "object 0 eventual\nunits 1\nunit 0 task at 0\nlock 0\n",
         9,
         Fault::Undeclared,
     ),
     (
-        true,
+        BASE,
         "units 1\nunit 0 ult at 0\nkset 0\n",
         8,
         Fault::Undeclared,
     ),
     (
-        true,
+        BASE,
         "units 1\nunit 0 ult at 0\nunit 1 ult at 0\n",
         8,
         Fault::Undeclared,
     ),
-    (false, "abt 1\nstreams 9\n", 2, Fault::Limit),
-    (false, "abt 1\nstreams 0\n", 2, Fault::Limit),
-    (false, "abt 1\nkeys 17\n", 2, Fault::Limit),
-    (true, "object 0 barrier 0\n", 6, Fault::Limit),
-    (true, "object 0 future 4097 sum\n", 6, Fault::Limit),
-    (true, "units 257\n", 6, Fault::Limit),
+    ("", "abt 1\nstreams 9\n", 2, Fault::Limit),
+    ("", "abt 1\nstreams 0\n", 2, Fault::Limit),
+    ("", "abt 1\nkeys 17\n", 2, Fault::Limit),
+    (BASE, "object 0 barrier 0\n", 6, Fault::Limit),
+    (BASE, "object 0 future 4097 sum\n", 6, Fault::Limit),
+    (BASE, "units 257\n", 6, Fault::Limit),
     (
-        false,
+        "",
         "abt 1\nstreams 1\npool 0 fifo mpmc\nsched 0 user 2 0\n",
         4,
         Fault::Limit,
     ),
     (
-        true,
+        BASE,
         "units 1\nunit 0 task at 0\nmigratable 0 2\n",
         8,
         Fault::Limit,
     ),
     (
-        true,
+        BASE,
         "units 1\nunit 0 ult at 0\nsay aaaaaaaaaaaaaaaaaaaaaaaaaaaaaaaaaaaaaaaaaaaaaaaaaaaaaaaaaaaaaaaaa\n",
         8,
         Fault::Limit,
     ),
     (
-        true,
+        BASE,
         "units 1\nunit 0 task at 0\nyield\nend\n",
         8,
         Fault::TaskBlocks,
     ),
     (
-        true,
+        BASE,
         "units 1\nunit 0 task at 0\nsuspend\n",
         8,
         Fault::TaskBlocks,
     ),
     (
-        true,
+        BASE,
+        "units 1\nunit 0 task at 0\nexit\n",
+        8,
+        Fault::TaskBlocks,
+    ),
+    (
+        BASE,
         "units 1\nunit 0 task at 0\nprint\njoin 0\n",
         9,
         Fault::TaskBlocks,
     ),
     (
-        true,
+        BASE,
         "object 0 mutex\nunits 1\nunit 0 task at 0\ntrylock 0\nlock 0\n",
         10,
         Fault::TaskBlocks,
     ),
     (
-        false,
+        "",
         "abt 1\nstreams 2\npool 0 fifo priv of 0\nsched 0 prio 0\nstream 1 main 0\n",
         5,
         Fault::Access,
     ),
     (
-        false,
+        "",
         "abt 1\nstreams 2\npool 0 fifo spsc from 1 to 0\nsched 0 prio 0\nstream 1 main 0\n",
         5,
         Fault::Access,
     ),
     (
-        false,
+        "",
         "abt 1\nstreams 2\npool 0 fifo mpsc to 1\nsched 0 prio 0\nstream 0 main 0\n",
         5,
         Fault::Access,
     ),
     (
-        false,
+        "",
         "abt 1\nstreams 2\npool 0 fifo spmc from 0\npool 1 fifo mpsc to 0\nsched 0 prio 0 1\nstream 1 main 0\n",
         6,
         Fault::Access,
     ),
-    (false, "", 1, Fault::NoEnd),
-    (false, "# a\n\n", 3, Fault::NoEnd),
-    (true, "units 0", 7, Fault::NoEnd),
-    (true, "units 1\nunit 0 ult at 0\nsay hi\n", 9, Fault::NoEnd),
-    (false, "abt 1\nkeys 1\n", 2, Fault::Missing),
-    (false, "abt 1\nstreams 1\nunits 0\n", 3, Fault::Missing),
+    ("", "", 1, Fault::NoEnd),
+    ("", "# a\n\n", 3, Fault::NoEnd),
+    (BASE, "units 0", 7, Fault::NoEnd),
+    (BASE, "units 1\nunit 0 ult at 0\nsay hi\n", 9, Fault::NoEnd),
+    ("", "abt 1\nkeys 1\n", 2, Fault::Missing),
+    ("", "abt 1\nstreams 1\nunits 0\n", 3, Fault::Missing),
     (
-        false,
+        "",
         "abt 1\nstreams 2\npool 0 fifo mpmc\nsched 0 prio 0\nstream 0 main 0\nunits 0\n",
         6,
         Fault::Missing,
     ),
-    (true, "end\n", 6, Fault::Missing),
-    (true, "units 1\nend\n", 7, Fault::Missing),
+    (BASE, "end\n", 6, Fault::Missing),
+    (BASE, "units 1\nend\n", 7, Fault::Missing),
+    (BASE, "units 1\nmany 0 1 ult at 0\n", 7, Fault::Unknown),
+    (
+        BASE,
+        "units 1\nunit 0 ult at 0\nrepeat 3 print\n",
+        8,
+        Fault::Unknown,
+    ),
+    (BASE_TWO, "walk\n", 6, Fault::Unknown),
+    ("", "abt 1\nabt 2\n", 2, Fault::Shape),
+    ("", "abt 2\nabt 2\n", 2, Fault::Shape),
+    ("", "abt 2 2\n", 1, Fault::Version),
+    (BASE_TWO, "units 1\nmany 0 1 ult\n", 7, Fault::Shape),
+    (BASE_TWO, "units 1\nmany 0 ult at 0\n", 7, Fault::Shape),
+    (BASE_TWO, "many 0 1 ult at 0\n", 6, Fault::Shape),
+    (
+        BASE_TWO,
+        "units 0\nend\nmany 0 1 ult at 0\n",
+        8,
+        Fault::Shape,
+    ),
+    (BASE_TWO, "units 1\nrepeat 3 print\n", 7, Fault::Shape),
+    (
+        BASE_TWO,
+        "units 1\nunit 0 ult at 0\nrepeat 3\n",
+        8,
+        Fault::Shape,
+    ),
+    (
+        BASE_TWO,
+        "units 1\nunit 0 ult at 0\nrepeat 3 walk\n",
+        8,
+        Fault::Shape,
+    ),
+    (
+        BASE_TWO,
+        "units 1\nunit 0 ult at 0\nrepeat 3 repeat 2 print\n",
+        8,
+        Fault::Shape,
+    ),
+    (
+        BASE_TWO,
+        "units 1\nunit 0 ult at 0\nrepeat 3 print 1\n",
+        8,
+        Fault::Shape,
+    ),
+    (
+        "",
+        "abt 2\nstreams 1\npool 0 fifo mpmc\nsched 0 prio 0\nsched 1 prio 0\nstream 0 main 0\nunits 1\nmany 0 1 sched 1 later\nrepeat 2 print\n",
+        9,
+        Fault::Shape,
+    ),
+    (BASE_TWO, "units 1\nmany 0 x ult at 0\n", 7, Fault::Number),
+    (
+        BASE_TWO,
+        "units 1\nunit 0 ult at 0\nrepeat x print\n",
+        8,
+        Fault::Number,
+    ),
+    (
+        BASE_TWO,
+        "units 3\nunit 0 ult at 0\nmany 0 9 ult at 0\n",
+        8,
+        Fault::Twice,
+    ),
+    (
+        BASE_TWO,
+        "units 3\nmany 0 2 ult at 0\nunit 1 ult at 0\n",
+        8,
+        Fault::Twice,
+    ),
+    (
+        BASE_TWO,
+        "units 1\nmany 0 1 sched 0 later\n",
+        7,
+        Fault::Twice,
+    ),
+    (
+        BASE_TWO,
+        "units 1\nmany 0 2 sched 1 later\n",
+        7,
+        Fault::Twice,
+    ),
+    (
+        BASE_TWO,
+        "units 3\nmany 1 2 ult at 0\n",
+        7,
+        Fault::Undeclared,
+    ),
+    (
+        BASE_TWO,
+        "units 3\nmany 0 4 ult at 0\n",
+        7,
+        Fault::Undeclared,
+    ),
+    (
+        BASE_TWO,
+        "units 3\nmany 0 2 ult at 0\nmany 2 2 ult at 0\n",
+        8,
+        Fault::Undeclared,
+    ),
+    (
+        BASE_TWO,
+        "units 3\nmany 0 3 ult at 0\nunit 3 ult at 0\n",
+        8,
+        Fault::Undeclared,
+    ),
+    (
+        BASE_TWO,
+        "units 1\nmany 0 1 ult at 1\n",
+        7,
+        Fault::Undeclared,
+    ),
+    (
+        BASE_TWO,
+        "units 1\nunit 0 ult at 0\nrepeat 0 lock 0\n",
+        8,
+        Fault::Undeclared,
+    ),
+    ("", "abt 2\nstreams 17\n", 2, Fault::Limit),
+    (BASE_TWO, "units 4097\n", 6, Fault::Limit),
+    (BASE_TWO, "units 0\nmany 0 0 ult at 0\n", 7, Fault::Limit),
+    (
+        BASE_TWO,
+        "units 1\nunit 0 task at 0\nrepeat 0 yield\n",
+        8,
+        Fault::Limit,
+    ),
+    (
+        BASE_TWO,
+        "units 1\nunit 0 ult at 0\nrepeat 257 print\n",
+        8,
+        Fault::Limit,
+    ),
+    (
+        BASE_TWO,
+        "units 1\nunit 0 ult at 0\nrepeat 256 print\nprint\n",
+        9,
+        Fault::Limit,
+    ),
+    (
+        BASE_TWO,
+        "units 1\nunit 0 ult at 0\nprint\nrepeat 18446744073709551615 print\n",
+        9,
+        Fault::Limit,
+    ),
+    (
+        BASE_TWO,
+        "units 257\nmany 0 257 ult later\nrepeat 255 print\nprint\n",
+        9,
+        Fault::Limit,
+    ),
+    (
+        BASE_TWO,
+        "units 257\nmany 0 256 ult later\nrepeat 256 print\nunit 256 ult later\nprint\n",
+        10,
+        Fault::Limit,
+    ),
+    (
+        BASE_TWO,
+        "units 1\nunit 0 ult at 0\nrepeat 2 say aaaaaaaaaaaaaaaaaaaaaaaaaaaaaaaaaaaaaaaaaaaaaaaaaaaaaaaaaaaaaaaaa\n",
+        8,
+        Fault::Limit,
+    ),
+    (
+        BASE_TWO,
+        "units 2\nmany 0 2 task at 0\nrepeat 2 yield\n",
+        8,
+        Fault::TaskBlocks,
+    ),
+    (
+        BASE_TWO,
+        "units 3\nmany 0 2 ult at 0\nend\n",
+        8,
+        Fault::Missing,
+    ),
 ];
 
 // The line and the fault at which a text is refused, if it is.
@@ -192,8 +376,7 @@ fn refused(alloc: Global, text: &[u8]) -> Option<(u32, Fault)> {
 }
 
 fn row_refused(alloc: Global, row: Row) -> Option<(u32, Fault)> {
-    let head = if row.0 { BASE } else { "" };
-    let rest = row.1;
+    let (head, rest) = (row.0, row.1);
     match format!(in alloc; "{head}{rest}") {
         Ok(text) => refused(alloc, text.as_str().as_bytes()),
         Err(_) => None,
@@ -232,12 +415,57 @@ fn texts_are_read(rt: HostRuntime) {
 }
 
 #[test]
-fn a_text_that_is_too_long_is_refused(rt: HostRuntime) {
-    match vec![in rt.alloc(); b'#'; 4_194_305] {
-        Ok(long) => {
-            assert!(rt; refused(rt.alloc(), &long) == Some((0, Fault::Limit)));
-            assert!(rt; refused(rt.alloc(), &long[1..]) == Some((2, Fault::NoEnd)));
+fn units_and_operations_are_declared_many_at_once(rt: HostRuntime) {
+    match read(rt.alloc(), MANY.as_bytes()) {
+        Ok(w) => {
+            assert!(rt; w.units() == 7);
+            assert!(rt; w.unit(UnitNo(0)).body.ops().len() == 1);
+            for u in 1..4 {
+                let part = w.unit(UnitNo(u));
+                assert!(rt; matches!(&part.body, Body::Task(_)) && part.start.is_none());
+                assert!(rt; part.body.ops().len() == 4);
+                assert!(rt; part.body.ops().first() == Some(&Op::Say(3 * u - 2)));
+                assert!(rt; part.body.ops().last() == Some(&Op::Say(3 * u)));
+            }
+            assert!(rt; matches!(&w.unit(UnitNo(4)).body, Body::Sched(_)));
+            assert!(rt; w.unit(UnitNo(6)).body.ops().is_empty());
         }
         Err(_) => assert!(rt; false),
     }
+}
+
+#[test]
+fn format_2_has_more_streams_units_and_operations(rt: HostRuntime) {
+    let streams = "abt 2\nstreams 16\npool 0 fifo mpmc\n";
+    assert!(rt; refused(rt.alloc(), streams.as_bytes()) == Some((4, Fault::NoEnd)));
+    let units = "units 4096\nmany 0 4096 ult later\nrepeat 15 print\nprint\nend\n";
+    assert!(rt; row_refused(rt.alloc(), (BASE_TWO, units, 0, Fault::Limit)).is_none());
+    let programs = "units 257\nmany 0 256 ult later\nrepeat 256 say a\nunit 256 ult later\nend\n";
+    assert!(rt; row_refused(rt.alloc(), (BASE_TWO, programs, 0, Fault::Limit)).is_none());
+}
+
+// A text that begins so, and has so many bytes.
+fn of_length(alloc: Global, head: &[u8], bytes: usize) -> Result<Vec<u8>, AllocError> {
+    let mut text = vec![in alloc; b'#'; bytes]?;
+    for (to, from) in text.iter_mut().zip(head) {
+        *to = *from;
+    }
+    Ok(text)
+}
+
+#[test]
+fn a_text_that_is_too_long_is_refused(rt: HostRuntime) -> Result<(), Fail> {
+    let long = of_length(rt.alloc(), b"", 4_194_305)?;
+    assert!(rt; refused(rt.alloc(), &long) == Some((0, Fault::Limit)));
+    let most = of_length(rt.alloc(), b"", 4_194_304)?;
+    assert!(rt; refused(rt.alloc(), &most) == Some((2, Fault::NoEnd)));
+    let one = of_length(rt.alloc(), b"abt 1\n", 4_194_305)?;
+    assert!(rt; refused(rt.alloc(), &one) == Some((0, Fault::Limit)));
+    let two = of_length(rt.alloc(), b"#\xff\nabt 2\n", 4_194_305)?;
+    assert!(rt; refused(rt.alloc(), &two) == Some((1, Fault::Utf8)));
+    let longer = of_length(rt.alloc(), b"# two\nabt 2\n", 8_388_609)?;
+    assert!(rt; refused(rt.alloc(), &longer) == Some((0, Fault::Limit)));
+    let longest = of_length(rt.alloc(), b"# two\nabt 2\n", 8_388_608)?;
+    assert!(rt; refused(rt.alloc(), &longest) == Some((4, Fault::NoEnd)));
+    Ok(())
 }

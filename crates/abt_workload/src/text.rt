@@ -1,12 +1,14 @@
 //! Lines, words and numbers of a text.
 
-ghost use Rattle.std.specs.Prelude.{◌≡◌, ◌<◌, ◌≤◌, ◌+◌, ◌∷◌, ◌==◌, ℕ, [], true, false, map, length, slice_index, IfSome, IfNone, OnOk};
+ghost use Rattle.std.specs.Prelude.{◌≡◌, ◌<◌, ◌≤◌, ◌+◌, ◌∷◌, ◌==◌, ℕ, [], true, false, None, Some, drop, if◌then◌else◌, map, length, slice_index, IfSome, IfNone, OnOk};
 ghost use Rattle.std.specs.Str.{is_utf8};
 ghost use Rattle.abt_machine.specs.Spelling.{has_control, is_number, is_separator, lines_of, value_of, words_of};
 ghost use Rattle.abt_machine.specs.Faults.{begins_comment, is_skipped};
+ghost use Rattle.abt_machine.specs.Grammar.{format_in, format_of};
 ghost use Rattle.abt_workload.specs.Slots.{number_in};
 
-use abt_machine::Want;
+use crate::forms::is;
+use abt_machine::{Format, Want};
 
 // The place of the first line feed, or the length where there is none.
 fn line_end(text: &[u8]) -> usize
@@ -95,6 +97,51 @@ pub(crate) fn words<'a>(line: &'a [u8], words: &mut Vec<&'a [u8]>) -> Result<(),
         rest = after;
     }
     Ok(())
+}
+
+/// The words that follow the first k.
+pub(crate) fn words_after<'a, 'b>(words: &'a [&'b [u8]], k: usize) -> &'a [&'b [u8]]
+    ensures { map (λ w. w.now) result.now ≡ drop k (map (λ w. w.now) words.now) }
+{
+    if k < words.len() { &words[k..] } else { &[] }
+}
+
+// The format that a line says, if it is not skipped.
+fn format_in(line: &[u8]) -> Option<Format>
+    ensures { result ≡ (if is_skipped (words_of line.now) then None else Some (format_in (words_of line.now))) }
+{
+    let (first, rest) = first_word(line)?;
+    if begins_comment(first) {
+        return None;
+    }
+    if !is(first, "abt") {
+        return Some(Format::One);
+    }
+    match first_word(rest) {
+        None => Some(Format::One),
+        Some((second, rest)) => {
+            if is(second, "2") && first_word(rest).is_none() {
+                Some(Format::Two)
+            } else {
+                Some(Format::One)
+            }
+        }
+    }
+}
+
+/// The format of a text.
+pub(crate) fn format_of(text: &[u8]) -> Format
+    ensures { result ≡ format_of (lines_of text.now) }
+{
+    let mut rest = text;
+    while !rest.is_empty() {
+        let (line, after) = first_line(rest);
+        if let Some(format) = format_in(line) {
+            return format;
+        }
+        rest = after;
+    }
+    Format::One
 }
 
 /// Whether a line of these words is skipped.

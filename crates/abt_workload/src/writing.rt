@@ -1,24 +1,22 @@
 //! The writer.
 
-ghost use Rattle.std.specs.Prelude.{◌≡◌, ◌<◌, ◌++◌, ◌∷◌, [], All, IfOk, OnOk, codes, decimal, flat_map, length, map};
+ghost use Rattle.std.specs.Prelude.{◌≡◌, ◌<◌, ◌++◌, ◌∷◌, [], All, IfOk, OnOk, codes, decimal, flat_map, length, map, slice_set};
 ghost use Rattle.std.specs.List.{enumerate_from};
-ghost use Rattle.abt_machine.specs.Canonical.{access_words, body_words, canonical_text, combine_name, digit_of, fitted, keys_lines, kind_name, object_line, op_words, pool_line, rule_words, sched_line, start_words, stream_line, thing_words, unit_lines, version_line};
+ghost use Rattle.abt_machine.specs.Canonical.{access_words, body_words, canonical_text, combine_name, digit_of, has_text, keys_lines, kind_name, object_line, op_words, pool_line, rule_words, sched_line, start_words, stream_line, text_in, thing_words, unit_lines, version_line};
 ghost use Rattle.abt_machine.specs.Grammar.{Reads};
 ghost use Rattle.abt_machine.specs.Operations.{IsDeclared};
 ghost use Rattle.abt_machine.specs.Valid.{IsValid};
 ghost use Rattle.abt_machine.specs.Words.{ended, line_of, numbered, spaced, text_of};
 ghost use Rattle.abt_machine.specs.Workloads.{ops_of};
+ghost use Rattle.abt_machine.specs.declared.grammar.Format.TheVariants as format;
 ghost use Rattle.abt_machine.specs.declared.numbers.PoolNo.{PoolNo};
 
 use abt_lines::{end_line, push_decimal, push_word};
 use abt_machine::{
-    Access, Body, Combine, Kind, ObjectNo, Op, PoolNo, PoolPart, Rule, SchedNo, SchedPart,
+    Access, Body, Combine, Format, Kind, ObjectNo, Op, PoolNo, PoolPart, Rule, SchedNo, SchedPart,
     StreamNo, Thing, UnitNo, UnitPart, Want, Workload,
 };
 use std::alloc::Global;
-
-// The length of a text that is one byte too long to be read.
-const ONE_TOO_LONG: usize = 4_194_305;
 
 // Appends a word and a number, which begin a line.
 fn begin_line(out: &mut Vec<u8>, word: &[u8], n: u64) -> Result<(), Want>
@@ -63,7 +61,7 @@ fn push_two(out: &mut Vec<u8>, word: &[u8], n: u64, m: u64) -> Result<(), Want>
 
 // Appends the line of the version.
 fn push_version(out: &mut Vec<u8>) -> Result<(), Want>
-    ensures { OnOk result (out.new.items ≡ out.old.items ++ ended (line_of version_line)) }
+    ensures { OnOk result (out.new.items ≡ out.old.items ++ ended (line_of (version_line format.One))) }
 {
     out.extend_from_slice(b"abt 1\n")?;
     Ok(())
@@ -81,7 +79,7 @@ fn push_keys(out: &mut Vec<u8>, keys: u32) -> Result<(), Want>
 
 // Appends the lines before those of pools.
 fn push_head(out: &mut Vec<u8>, streams: u32, keys: u32) -> Result<(), Want>
-    ensures { OnOk result (out.new.items ≡ out.old.items ++ text_of (version_line ∷ (codes "streams" ∷ decimal streams ∷ []) ∷ keys_lines keys)) }
+    ensures { OnOk result (out.new.items ≡ out.old.items ++ text_of (version_line format.One ∷ (codes "streams" ∷ decimal streams ∷ []) ∷ keys_lines keys)) }
 {
     push_version(out)?;
     push_one(out, b"streams", u64::from(streams))?;
@@ -283,6 +281,7 @@ fn push_op(out: &mut Vec<u8>, w: &Workload, op: Op) -> Result<(), Want>
         Op::Yield => push_bare(out, b"yield"),
         Op::YieldTo(v, p) => push_two(out, b"yieldto", u64::from(v.0), u64::from(p.0)),
         Op::Suspend => push_bare(out, b"suspend"),
+        Op::Exit => push_bare(out, b"exit"),
         Op::Resume(v) => push_one(out, b"resume", u64::from(v.0)),
         Op::Create(v, p) => push_two(out, b"create", u64::from(v.0), u64::from(p.0)),
         Op::Join(v) => push_one(out, b"join", u64::from(v.0)),
@@ -387,17 +386,38 @@ fn push_units(out: &mut Vec<u8>, w: &Workload) -> Result<(), Want>
 
 // The whole text.
 
-// Leaves out the last line feed of a text that is one byte too long to be read.
-fn fit(text: &mut Vec<u8>)
-    ensures { text.new.items ≡ fitted text.old.items }
+// Whether a workload has a text of format 1, which is this one.
+fn is_of_format_one(w: &Workload, text: &[u8]) -> bool
+    requires { text.now ≡ text_in format.One w.now }
+    ensures { result ≡ has_text format.One w.now }
 {
-    if text.len() == ONE_TOO_LONG {
-        let _ = text.pop();
+    let format = Format::One;
+    w.streams() <= format.stream_limit()
+        && w.units() <= format.unit_limit()
+        && text.len() <= format.text_limit()
+}
+
+// Makes the version line of a text of format 1 that of format 2.
+fn raise(text: &mut Vec<u8>)
+    ensures { text.new.items ≡ slice_set text.old.items 4 50 }
+{
+    if let Some(byte) = text.get_mut(4) {
+        *byte = b'2';
     }
 }
 
-/// The canonical text of a workload: the text in which it is written, which reads to it again. A text that
-/// would be one byte too long to be read goes without its last line feed.
+// Makes the text of a workload in format 1 its canonical text.
+fn settle(w: &Workload, text: &mut Vec<u8>)
+    requires { text.old.items ≡ text_in format.One w.now }
+    ensures { text.new.items ≡ canonical_text w.now }
+{
+    if !is_of_format_one(w, text) {
+        raise(text);
+    }
+}
+
+/// The canonical text of a workload: the text in which it is written, which reads to it again. It is of
+/// format 1 if that has a text of the workload, else of format 2.
 ///
 /// # Errors
 /// Out of memory.
@@ -414,6 +434,6 @@ pub fn write(alloc: Global, w: &Workload) -> Result<Vec<u8>, Want>
     push_one(&mut out, b"units", u64::from(w.units()))?;
     push_units(&mut out, w)?;
     push_bare(&mut out, b"end")?;
-    fit(&mut out);
+    settle(w, &mut out);
     Ok(out)
 }

@@ -22,17 +22,32 @@ const PARTS: &str =
 
 // A text with each operation.
 const OPERATIONS: &str =
-    "abt 1\nstreams 1\nkeys 1\npool 0 fifo mpmc\nsched 0 prio 0\nstream 0 main 0\nobject 0 mutex\nobject 1 cond 0\nobject 2 eventual\nobject 3 future 1 sum\nobject 4 barrier 1\nunits 1\nunit 0 ult at 0\nset 18446744073709551615\nadd 10\nsay \u{e9}\nprint\nkset 0\nkget 0\nyield\nyieldto 0 0\nsuspend\nresume 0\ncreate 0 0\njoin 0\ncancel 0\nmigrate 0 0\nmigrateto 0 0\nmigratable 0 0\nmigratable 0 1\nrevive 0 0\nlock 0\ntrylock 0\nunlock 0\nload 0\nstore 0\ncwait 1\nsignal 1\nbroadcast 1\newait 2\neset 2\nereset 2\netest 2\nfwait 3\nfset 3\nfreset 3\nftest 3\nbwait 4\nend\n";
+    "abt 1\nstreams 1\nkeys 1\npool 0 fifo mpmc\nsched 0 prio 0\nstream 0 main 0\nobject 0 mutex\nobject 1 cond 0\nobject 2 eventual\nobject 3 future 1 sum\nobject 4 barrier 1\nunits 1\nunit 0 ult at 0\nset 18446744073709551615\nadd 10\nsay \u{e9}\nprint\nkset 0\nkget 0\nyield\nyieldto 0 0\nsuspend\nexit\nresume 0\ncreate 0 0\njoin 0\ncancel 0\nmigrate 0 0\nmigrateto 0 0\nmigratable 0 0\nmigratable 0 1\nrevive 0 0\nlock 0\ntrylock 0\nunlock 0\nload 0\nstore 0\ncwait 1\nsignal 1\nbroadcast 1\newait 2\neset 2\nereset 2\netest 2\nfwait 3\nfset 3\nfreset 3\nftest 3\nbwait 4\nend\n";
+
+// Units and operations that are declared many at once.
+const MANY: &str =
+    "abt 2\nstreams 1\npool 0 fifo mpmc\nsched 0 prio 0\nstream 0 main 0\nunits 3\nmany 0 2 ult at 0\nrepeat 2 say a\nprint\nmany 2 1 task later\nend\n";
+
+// The same workload, each unit and each operation on a line of its own.
+const EACH: &str =
+    "abt 1\nstreams 1\npool 0 fifo mpmc\nsched 0 prio 0\nstream 0 main 0\nunits 3\nunit 0 ult at 0\nsay a\nsay a\nprint\nunit 1 ult at 0\nsay a\nsay a\nprint\nunit 2 task later\nend\n";
+
+// More streams than format 1 has.
+const NINE_STREAMS: &str =
+    "abt 2\nstreams 9\npool 0 fifo mpmc\nsched 0 prio 0\nsched 1 prio 0\nsched 2 prio 0\nsched 3 prio 0\nsched 4 prio 0\nsched 5 prio 0\nsched 6 prio 0\nsched 7 prio 0\nsched 8 prio 0\nstream 0 main 0\nstream 1 main 1\nstream 2 main 2\nstream 3 main 3\nstream 4 main 4\nstream 5 main 5\nstream 6 main 6\nstream 7 main 7\nstream 8 main 8\nunits 0\nend\n";
 
 // Texts, each with the text in which its workload is written.
-const TEXTS: [(&str, &str); 4] = [
+const TEXTS: [(&str, &str); 7] = [
+    (MANY, EACH),
+    (EACH, EACH),
+    (NINE_STREAMS, NINE_STREAMS),
     (STACKED_OTHERWISE, STACKED),
     (STACKED, STACKED),
     (PARTS, PARTS),
     (OPERATIONS, OPERATIONS),
 ];
 
-// The most bytes of a text that is read.
+// The most bytes of a text of format 1.
 const MOST: usize = 4_194_304;
 
 // A word of 58 bytes, and a longer one.
@@ -178,23 +193,36 @@ fn the_longest_text_is_written_whole(rt: HostRuntime) -> Result<(), Fail> {
 }
 
 #[test]
-fn a_text_of_one_byte_more_is_written_without_its_last_line_feed(
-    rt: HostRuntime,
-) -> Result<(), Fail> {
+fn a_text_of_one_byte_more_is_of_format_2(rt: HostRuntime) -> Result<(), Fail> {
     let mut text = widest_of(rt.alloc(), MOST + 1)?;
     assert!(rt; text.len() == MOST + 1);
     assert!(rt; is_too_long(rt.alloc(), &text));
-    text.truncate(MOST);
+    text[4] = b'2';
     assert!(rt; is_written(rt.alloc(), &text, &text));
     Ok(())
 }
 
+// A text of this version with as many units, each on a line of its own.
+fn idle(alloc: Global, version: &str, units: u64) -> Result<Vec<u8>, Want> {
+    let mut out = Vec::new(alloc);
+    out.extend_from_slice(version.as_bytes())?;
+    out.extend_from_slice(b"\nstreams 1\npool 0 fifo mpmc\nsched 0 prio 0\nstream 0 main 0\n")?;
+    begin(&mut out, b"units ", units)?;
+    end_line(&mut out)?;
+    for u in 0..units {
+        begin(&mut out, b"unit ", u)?;
+        out.extend_from_slice(b" ult later\n")?;
+    }
+    out.extend_from_slice(b"end\n")?;
+    Ok(out)
+}
+
 #[test]
-fn a_text_of_two_bytes_more_is_refused(rt: HostRuntime) -> Result<(), Fail> {
-    let mut text = widest_of(rt.alloc(), MOST + 2)?;
-    assert!(rt; text.len() == MOST + 2);
-    assert!(rt; is_too_long(rt.alloc(), &text));
-    text.truncate(MOST + 1);
-    assert!(rt; is_too_long(rt.alloc(), &text));
+fn more_than_256_units_are_written_in_format_2(rt: HostRuntime) -> Result<(), Fail> {
+    for (units, version) in [(256, "abt 1"), (257, "abt 2"), (4096, "abt 2")] {
+        let text = idle(rt.alloc(), "abt 2", units)?;
+        let written = idle(rt.alloc(), version, units)?;
+        assert!(rt; is_written(rt.alloc(), &text, &written));
+    }
     Ok(())
 }

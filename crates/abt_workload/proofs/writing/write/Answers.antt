@@ -1,19 +1,17 @@
-use Rattle.std.proofs.Common.{◌≡◌, ◌∙◌}
-use Rattle.abt_machine.specs.Canonical.{canonical_text}
 use Rattle.abt_workload.proofs.RoundTrip.{reads-canonical}
 use Rattle.abt_workload.proofs.WholeTexts.{written}
 use Rattle.abt_workload.proofs.writing.write.Goals as goal
 
-pub returns : goal.returns
-returns c =
-    let whole : c.fit.new.text.items ≡ canonical_text c.args.w.now =
-    c.fit.ensures
-    ∙ written c.args.w.now c.push_head.new.out.items c.push_pools.new.out.items c.push_scheds.new.out.items c.push_streams.new.out.items c.push_objects.new.out.items c.push_one.new.out.items c.push_units.new.out.items c.push_bare.new.out.items
+pub settle-requires : goal.settle-requires
+settle-requires c =
+    written c.args.w.now c.push_head.new.out.items c.push_pools.new.out.items c.push_scheds.new.out.items c.push_streams.new.out.items c.push_objects.new.out.items c.push_one.new.out.items c.push_units.new.out.items c.push_bare.new.out.items
     (rw (c.streams.ensures.count, c.keys.ensures, c.new-out.ensures.items) at c.in_ok-push_head.ensures)
     c.in_ok-push_pools.ensures c.in_ok-push_scheds.ensures c.in_ok-push_streams.ensures c.in_ok-push_objects.ensures
     (rw (c.from.ensures, c.units.ensures) at c.in_ok-push_one.ensures)
-    c.in_ok-push_units.ensures c.in_ok-push_bare.ensures in
-    record {
-      text = whole;
-      read_back = rw whole (reads-canonical c.args.w.now c.streams.ensures.valid);
-    }
+    c.in_ok-push_units.ensures c.in_ok-push_bare.ensures
+
+pub returns : goal.returns
+returns c = record {
+  text = c.settle.ensures;
+  read_back = rw c.settle.ensures (reads-canonical c.args.w.now c.streams.ensures.valid);
+}

@@ -1,0 +1,293 @@
+-- The text of a valid workload is never too long for format 2.
+use Rattle.std.proofs.Common.{◌≡◌, ◌<◌, ◌≤◌, ◌+◌, ◌*◌, ◌^◌, ℕ, zero, suc, true, false, List, [], ◌∷◌, ◌++◌, All, Option, Some, None, arith, codes, decimal, flat_map, get_or, length, length-append, map, refl, slice_get, suc-mul}
+use Rattle.std.specs.List.{enumerate_from}
+use Rattle.std.proofs.lemmas.List.Elements.{All-cons, All-head, All-tail}
+use Rattle.std.proofs.lemmas.Option.{slice_get-get_or, slice_get_within}
+use Rattle.abt_machine.specs.declared.grammar.Format.{Format}
+use Rattle.abt_machine.specs.declared.grammar.Format.TheVariants as format
+use Rattle.abt_machine.specs.declared.numbers.PoolNo.{PoolNo}
+use Rattle.abt_machine.specs.declared.numbers.SchedNo.{SchedNo}
+use Rattle.abt_machine.specs.declared.operations.Access.{Access}
+use Rattle.abt_machine.specs.declared.operations.Access.TheVariants as access
+use Rattle.abt_machine.specs.declared.operations.Body.{Body}
+use Rattle.abt_machine.specs.declared.operations.Body.TheVariants as body
+use Rattle.abt_machine.specs.declared.operations.Combine.{Combine}
+use Rattle.abt_machine.specs.declared.operations.Combine.TheVariants as combine
+use Rattle.abt_machine.specs.declared.operations.Kind.{Kind}
+use Rattle.abt_machine.specs.declared.operations.Kind.TheVariants as kind
+use Rattle.abt_machine.specs.declared.operations.Op.{Op}
+use Rattle.abt_machine.specs.declared.operations.Op.TheVariants as op
+use Rattle.abt_machine.specs.declared.operations.Rule.{Rule}
+use Rattle.abt_machine.specs.declared.operations.Rule.TheVariants as rule
+use Rattle.abt_machine.specs.declared.operations.Thing.{Thing}
+use Rattle.abt_machine.specs.declared.operations.Thing.TheVariants as thing
+use Rattle.abt_machine.specs.declared.workload.Parts.{Parts}
+use Rattle.abt_machine.specs.declared.workload.PoolPart.{PoolPart}
+use Rattle.abt_machine.specs.declared.workload.SchedPart.{SchedPart}
+use Rattle.abt_machine.specs.declared.workload.UnitPart.{UnitPart}
+use Rattle.abt_machine.specs.Canonical.{access_words, body_words, combine_name, keys_lines, kind_name, object_line, op_words, pool_line, rule_words, sched_line, start_words, stream_line, text_in, thing_words, unit_lines, version_line}
+use Rattle.abt_machine.specs.Checks.{IsSchedPart, IsStart, IsUnitPart}
+use Rattle.abt_machine.specs.Operations.{IsDeclared}
+use Rattle.abt_machine.specs.Valid.{IsAccess, IsBody, IsRule, IsThing, IsValid}
+use Rattle.abt_machine.specs.Weights.{size, weight}
+use Rattle.abt_machine.specs.Words.{Text, numbered}
+use Rattle.abt_machine.specs.Workloads.{all_ops, ops_of}
+use Rattle.abt_machine.proofs.Checked.{map-all, valid-accesses, valid-listings, valid-places, valid-units}
+use Rattle.abt_machine.proofs.Decimals.{few-digits}
+use Rattle.abt_machine.proofs.Weighing.{has_words, size-append, size-line, size-nil, weight-append}
+
+-- Lines that are short.
+
+-- a line of words that has so many bytes at most
+abbrev IsLight : ℕ → List Text → Type 0
+IsLight most line = (has_words line ≡ true) × (weight line ≤ most)
+
+-- so are the lines of things, each with its number
+lines-light : {A : Type 0} (f : ℕ → A → List Text) (most : ℕ) (P : A → Type 0) → ((i : ℕ) (x : A) → i < 2 ^ 64 → P x → IsLight most (f i x))
+    → (k : ℕ) (xs : List A) → k + length xs < 2 ^ 64 → All P xs → size (map (λ p. f p.0 p.1) (enumerate_from k xs)) ≤ length xs * most
+lines-light f most P light k [] few all = let e = size-nil in omega arith
+lines-light f most P light k (x ∷ xs) few all =
+    let here = light k x (omega arith) (All-head P x xs all) in
+    let e = size-line (f k x) (map (λ p. f p.0 p.1) (enumerate_from (k + 1) xs)) here.0 in
+    let rest = lines-light f most P light (k + 1) xs (omega arith) (All-tail P x xs all) in
+    let short = here.1 in
+    let more = suc-mul (length xs) most in
+    omega arith
+
+-- and those of things alone
+map-light : {A : Type 0} (f : A → List Text) (most : ℕ) (P : A → Type 0) → ((x : A) → P x → IsLight most (f x)) → (xs : List A) → All P xs → size (map f xs) ≤ length xs * most
+map-light f most P light [] all = let e = size-nil in omega arith
+map-light f most P light (x ∷ xs) all =
+    let here = light x (All-head P x xs all) in
+    let e = size-line (f x) (map f xs) here.0 in
+    let rest = map-light f most P light xs (All-tail P x xs all) in
+    let short = here.1 in
+    let more = suc-mul (length xs) most in
+    omega arith
+
+-- Words with numbers.
+
+bare-light : (w : Text) → length w ≤ 12 → IsLight 119 (w ∷ [])
+bare-light w short = (refl, omega arith)
+
+one-light : (w : Text) (n : ℕ) → length w ≤ 12 → n < 2 ^ 64 → IsLight 119 (w ∷ decimal n ∷ [])
+one-light w n short lt = let d = few-digits n lt in (refl, omega arith)
+
+two-light : (w : Text) (n m : ℕ) → length w ≤ 12 → n < 2 ^ 64 → m < 2 ^ 64 → IsLight 119 (w ∷ decimal n ∷ decimal m ∷ [])
+two-light w n m short lt lu = let d = few-digits n lt in let e = few-digits m lu in (refl, omega arith)
+
+-- Each kind of line.
+
+module _ (W : Parts) (v : IsValid W) where
+  unit-small : (n : ℕ) → n < length W.units → n < 2 ^ 64
+  unit-small n lt = let few = v.few_units in omega arith
+
+  pool-small : (n : ℕ) → n < length W.pools → n < 2 ^ 64
+  pool-small n lt = let few = v.few_pools in omega arith
+
+  stream-small : (n : ℕ) → n < W.streams → n < 2 ^ 64
+  stream-small n lt = let few = v.few_streams in omega arith
+
+  sched-small : (n : ℕ) → n < length W.scheds → n < 2 ^ 64
+  sched-small n lt = let few = v.few_scheds in omega arith
+
+  key-small : (n : ℕ) → n < W.keys → n < 2 ^ 64
+  key-small n lt = let few = v.few_keys in omega arith
+
+  object-small : (x : ℕ) (t : Thing) → slice_get W.objects x ≡ Some t → x < 2 ^ 64
+  object-small x t e = let lt = slice_get_within W.objects x t e in let few = v.few_objects in omega arith
+
+  access-light : (x : Access) → IsAccess W x → weight (access_words x) ≤ 60
+  access-light (access.Priv s) h = let d = few-digits s.0 (stream-small s.0 h) in omega arith
+  access-light (access.Spsc s t) h = let d = few-digits s.0 (stream-small s.0 h.0) in let e = few-digits t.0 (stream-small t.0 h.1) in omega arith
+  access-light (access.Mpsc t) h = let d = few-digits t.0 (stream-small t.0 h) in omega arith
+  access-light (access.Spmc s) h = let d = few-digits s.0 (stream-small s.0 h) in omega arith
+  access-light access.Mpmc h = omega arith
+
+  kind-light : (k : Kind) → length (kind_name k) ≤ 5
+  kind-light kind.Fifo = omega arith
+  kind-light kind.Deque = omega arith
+
+  pool-light : (p : ℕ) (part : PoolPart) → p < 2 ^ 64 → IsAccess W part.access → IsLight 119 (pool_line p part)
+  pool-light p part lt h = let d = few-digits p lt in let k = kind-light part.kind in let x = access-light part.access h in (refl, omega arith)
+
+  rule-light : (r : Rule) → IsRule r → weight (rule_words r) ≤ 60
+  rule-light rule.Basic h = omega arith
+  rule-light rule.Prio h = omega arith
+  rule-light (rule.Randws seed) h = let d = few-digits seed h in omega arith
+  rule-light (rule.User k) h = let d = few-digits k (omega arith) in omega arith
+
+  -- the numbers of pools
+  listed-light : (pools : List PoolNo) → All (λ (p : PoolNo). p.0 < length W.pools) pools → weight (map (λ (p : PoolNo). decimal p.0) pools) ≤ length pools * 21
+  listed-light [] all = omega arith
+  listed-light (p ∷ pools) all =
+      let d = few-digits p.0 (pool-small p.0 (All-head (λ (q : PoolNo). q.0 < length W.pools) p pools all)) in
+      let rest = listed-light pools (All-tail (λ (q : PoolNo). q.0 < length W.pools) p pools all) in
+      omega arith
+
+  sched-light : (g : ℕ) (part : SchedPart) → g < 2 ^ 64 → IsSchedPart W part → IsLight 300 (sched_line g part)
+  sched-light g part lt h =
+      let d = few-digits g lt in
+      let r = rule-light part.rule h.rule in
+      let l = listed-light part.pools h.pools.declared in
+      let few = h.pools.few_pools in
+      let both = weight-append (rule_words part.rule) (map (λ (p : PoolNo). decimal p.0) part.pools) in
+      (refl, omega arith)
+
+  stream-light : (s : ℕ) (g : SchedNo) → s < 2 ^ 64 → g.0 < 64 → IsLight 119 (stream_line s g)
+  stream-light s g lt h = let d = few-digits s lt in let e = few-digits g.0 (omega arith) in (refl, omega arith)
+
+  -- an object's numbers are small
+  abbrev IsSmallThing : Thing → Type 0
+  IsSmallThing t = (x : ℕ) × (x < 256) × IsThing W x t
+
+  combine-light : (c : Combine) → length (combine_name c) ≤ 5
+  combine-light combine.Sum = omega arith
+  combine-light combine.Max = omega arith
+  combine-light combine.Count = omega arith
+
+  thing-light : (x : ℕ) (t : Thing) → x < 256 → IsThing W x t → weight (thing_words t) ≤ 60
+  thing-light x thing.Mutex lt h = omega arith
+  thing-light x (thing.Cond m) lt h = let below = h.0 in let d = few-digits m.0 (omega arith) in omega arith
+  thing-light x thing.Eventual lt h = omega arith
+  thing-light x (thing.Future n c) lt h = let most = h.1 in let d = few-digits n (omega arith) in let e = combine-light c in omega arith
+  thing-light x (thing.Barrier n) lt h = let most = h.1 in let d = few-digits n (omega arith) in omega arith
+
+  object-light : (x : ℕ) (t : Thing) → x < 2 ^ 64 → IsSmallThing t → IsLight 119 (object_line x t)
+  object-light x t lt h = let d = few-digits x lt in let w = thing-light h.0 t h.1 h.2 in (refl, omega arith)
+
+  op-light : (o : Op) → IsDeclared W o → IsLight 119 (op_words W o)
+  op-light (op.Set n) h = one-light (codes "set") n (omega arith) h
+  op-light (op.Add n) h = one-light (codes "add") n (omega arith) h
+  op-light (op.Say w) h = let few = (v.words w [] h).few_bytes in (refl, omega arith)
+  op-light op.Print h = bare-light (codes "print") (omega arith)
+  op-light (op.KeySet k) h = one-light (codes "kset") k (omega arith) (key-small k h)
+  op-light (op.KeyGet k) h = one-light (codes "kget") k (omega arith) (key-small k h)
+  op-light op.Yield h = bare-light (codes "yield") (omega arith)
+  op-light (op.YieldTo u p) h = two-light (codes "yieldto") u.0 p.0 (omega arith) (unit-small u.0 h.0) (pool-small p.0 h.1)
+  op-light op.Suspend h = bare-light (codes "suspend") (omega arith)
+  op-light op.Exit h = bare-light (codes "exit") (omega arith)
+  op-light (op.Resume u) h = one-light (codes "resume") u.0 (omega arith) (unit-small u.0 h)
+  op-light (op.Create u p) h = two-light (codes "create") u.0 p.0 (omega arith) (unit-small u.0 h.0) (pool-small p.0 h.1)
+  op-light (op.Join u) h = one-light (codes "join") u.0 (omega arith) (unit-small u.0 h)
+  op-light (op.Cancel u) h = one-light (codes "cancel") u.0 (omega arith) (unit-small u.0 h)
+  op-light (op.Migrate u p) h = two-light (codes "migrate") u.0 p.0 (omega arith) (unit-small u.0 h.0) (pool-small p.0 h.1)
+  op-light (op.MigrateTo u s) h = two-light (codes "migrateto") u.0 s.0 (omega arith) (unit-small u.0 h.0) (stream-small s.0 h.1)
+  op-light (op.Migratable u true) h = let d = few-digits u.0 (unit-small u.0 h) in (refl, omega arith)
+  op-light (op.Migratable u false) h = let d = few-digits u.0 (unit-small u.0 h) in (refl, omega arith)
+  op-light (op.Revive u p) h = two-light (codes "revive") u.0 p.0 (omega arith) (unit-small u.0 h.0) (pool-small p.0 h.1)
+  op-light (op.Lock x) h = one-light (codes "lock") x.0 (omega arith) (object-small x.0 _ h)
+  op-light (op.TryLock x) h = one-light (codes "trylock") x.0 (omega arith) (object-small x.0 _ h)
+  op-light (op.Unlock x) h = one-light (codes "unlock") x.0 (omega arith) (object-small x.0 _ h)
+  op-light (op.Load x) h = one-light (codes "load") x.0 (omega arith) (object-small x.0 _ h)
+  op-light (op.Store x) h = one-light (codes "store") x.0 (omega arith) (object-small x.0 _ h)
+  op-light (op.CondWait x) h = one-light (codes "cwait") x.0 (omega arith) (object-small x.0 _ h.1)
+  op-light (op.Signal x) h = one-light (codes "signal") x.0 (omega arith) (object-small x.0 _ h.1)
+  op-light (op.Broadcast x) h = one-light (codes "broadcast") x.0 (omega arith) (object-small x.0 _ h.1)
+  op-light (op.EvWait x) h = one-light (codes "ewait") x.0 (omega arith) (object-small x.0 _ h)
+  op-light (op.EvSet x) h = one-light (codes "eset") x.0 (omega arith) (object-small x.0 _ h)
+  op-light (op.EvReset x) h = one-light (codes "ereset") x.0 (omega arith) (object-small x.0 _ h)
+  op-light (op.EvTest x) h = one-light (codes "etest") x.0 (omega arith) (object-small x.0 _ h)
+  op-light (op.FuWait x) h = one-light (codes "fwait") x.0 (omega arith) (object-small x.0 _ h.2)
+  op-light (op.FuSet x) h = one-light (codes "fset") x.0 (omega arith) (object-small x.0 _ h.2)
+  op-light (op.FuReset x) h = one-light (codes "freset") x.0 (omega arith) (object-small x.0 _ h.2)
+  op-light (op.FuTest x) h = one-light (codes "ftest") x.0 (omega arith) (object-small x.0 _ h.2)
+  op-light (op.BarWait x) h = one-light (codes "bwait") x.0 (omega arith) (object-small x.0 _ h.1)
+
+  body-light : (b : Body) → IsBody W b → weight (body_words b) ≤ 30
+  body-light (body.Ult ops) h = omega arith
+  body-light (body.Task ops) h = omega arith
+  body-light (body.Sched g) h = let d = few-digits g.0 (sched-small g.0 h) in omega arith
+
+  start-light : (o : Option PoolNo) → IsStart W o → weight (start_words o) ≤ 30
+  start-light None h = omega arith
+  start-light (Some p) h = let d = few-digits p.0 (pool-small p.0 h) in omega arith
+
+  -- the lines of units and of their operations
+  units-light : (k : ℕ) (units : List UnitPart) → k + length units < 2 ^ 64 → All (IsUnitPart W) units
+      → size (flat_map (λ p. unit_lines W p.0 p.1) (enumerate_from k units)) ≤ (length units + length (all_ops units)) * 119
+  units-light k [] few all = let e = size-nil in omega arith
+  units-light k (part ∷ units) few all =
+      let right = All-head (IsUnitPart W) part units all in
+      let d = few-digits k (omega arith) in
+      let b = body-light part.body right.kind in
+      let s = start-light part.start right.start in
+      let both = weight-append (body_words part.body) (start_words part.start) in
+      let ops = map-light (op_words W) 119 (IsDeclared W) op-light (ops_of part.body) right.ops in
+      let head = size-line (codes "unit" ∷ decimal k ∷ body_words part.body ++ start_words part.start) (map (op_words W) (ops_of part.body)) refl in
+      let here = size-append (unit_lines W k part) (flat_map (λ p. unit_lines W p.0 p.1) (enumerate_from (k + 1) units)) in
+      let rest = units-light (k + 1) units (omega arith) (All-tail (IsUnitPart W) part units all) in
+      let count : length (ops_of part.body ++ all_ops units) ≡ length (ops_of part.body) + length (all_ops units) = length-append (ops_of part.body) _ in
+      omega arith
+
+  -- the parts of the workload
+  objects-all : All IsSmallThing W.objects
+  objects-all = λ k d lt. (k, (let few = v.few_objects in omega arith), v.objects k (get_or W.objects k d) (slice_get-get_or W.objects k d lt))
+
+  mains-all : All (λ (g : SchedNo). g.0 < 64) W.mains
+  mains-all = map-all (λ (g : SchedNo). g.0) (λ g. g < 64) W.mains (front (map (λ (g : SchedNo). g.0) W.mains) _ (valid-places W v).0)
+    where
+      front : (xs ys : List ℕ) → All (λ g. g < 64) (xs ++ ys) → All (λ g. g < 64) xs
+      front [] ys h = λ k d lt. absurd (omega arith)
+      front (x ∷ xs) ys h = All-cons (λ g. g < 64) x xs (All-head (λ g. g < 64) x (xs ++ ys) h) (front xs ys (All-tail (λ g. g < 64) x (xs ++ ys) h))
+
+  keys-light : (k : ℕ) → k ≤ 16 → size (keys_lines k) ≤ 119
+  keys-light zero few = let e = size-nil in omega arith
+  keys-light (suc k) few = let e = size-line (codes "keys" ∷ decimal (suc k) ∷ []) [] refl in let n = size-nil in let d = few-digits (suc k) (omega arith) in omega arith
+
+  -- the lines of a workload, part by part
+  abbrev lines_at : Format → List (List Text)
+  lines_at F = version_line F ∷ (codes "streams" ∷ decimal W.streams ∷ []) ∷ keys_lines W.keys
+
+  version-light : (F : Format) → size (lines_at F) ≤ 6 + 119 + 119
+  version-light F =
+      let a = size-line (version_line F) ((codes "streams" ∷ decimal W.streams ∷ []) ∷ keys_lines W.keys) (some F) in
+      let b = size-line (codes "streams" ∷ decimal W.streams ∷ []) (keys_lines W.keys) refl in
+      let k = keys-light W.keys v.few_keys in
+      let few = v.few_streams in
+      let d = few-digits W.streams (omega arith) in
+      let e = six F in
+      omega arith
+    where
+      some : (G : Format) → has_words (version_line G) ≡ true
+      some format.One = refl
+      some format.Two = refl
+
+      six : (G : Format) → weight (version_line G) ≡ 6
+      six format.One = refl
+      six format.Two = refl
+
+  -- it has fewer bytes than format 2 allows
+  pub text-fits : (F : Format) → length (text_in F W) ≤ 8388608
+  unfolding size
+  text-fits F =
+      let P : List (List Text) = numbered pool_line W.pools in
+      let S : List (List Text) = numbered sched_line W.scheds in
+      let M : List (List Text) = numbered stream_line W.mains in
+      let O : List (List Text) = numbered object_line W.objects in
+      let U : List (List Text) = flat_map (λ p. unit_lines W p.0 p.1) (enumerate_from 0 W.units) in
+      let units : List Text = codes "units" ∷ decimal (length W.units) ∷ [] in
+      let few_streams = v.few_streams in
+      let few_pools = v.few_pools in
+      let few_scheds = v.few_scheds in
+      let few_objects = v.few_objects in
+      let few_units = v.few_units in
+      let few_ops = v.few_ops in
+      let mains = v.mains in
+      let p = lines-light pool_line 119 (λ (part : PoolPart). IsAccess W part.access) pool-light 0 W.pools (omega arith) (valid-accesses W v) in
+      let s = lines-light sched_line 300 (IsSchedPart W) sched-light 0 W.scheds (omega arith) (valid-listings W v) in
+      let m = lines-light stream_line 119 (λ (g : SchedNo). g.0 < 64) stream-light 0 W.mains (omega arith) mains-all in
+      let o = lines-light object_line 119 IsSmallThing object-light 0 W.objects (omega arith) objects-all in
+      let u = units-light 0 W.units (omega arith) (valid-units W v) in
+      let h = version-light F in
+      let a = size-append ((((lines_at F ++ P) ++ S) ++ M) ++ O ++ units ∷ U) ((codes "end" ∷ []) ∷ []) in
+      let b = size-append (((lines_at F ++ P) ++ S) ++ M ++ O) (units ∷ U) in
+      let c = size-append (((lines_at F ++ P) ++ S) ++ M) O in
+      let d = size-append ((lines_at F ++ P) ++ S) M in
+      let e = size-append (lines_at F ++ P) S in
+      let f = size-append (lines_at F) P in
+      let i = size-line units U refl in
+      let digits = few-digits (length W.units) (omega arith) in
+      let j = size-line (codes "end" ∷ []) [] refl in
+      let k = size-nil in
+      omega arith
