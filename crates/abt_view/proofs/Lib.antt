@@ -1,3 +1,4 @@
+pub mod Beginning
 pub mod Complete
 pub mod Preparing
 pub mod Ranges

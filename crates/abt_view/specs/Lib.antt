@@ -1,4 +1,6 @@
+pub mod Arrows
 pub mod Call
+pub mod Frames
 pub mod Kinds
 pub mod Picture
 pub mod Prepared

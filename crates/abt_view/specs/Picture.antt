@@ -1,12 +1,17 @@
--- The picture of a journal, as an svg: streams are lanes of 40 pixels, and a stamp is 10 pixels wide.
-use Rattle.std.specs.Prelude.{ℕ, ◌+◌, ◌-◌, ◌*◌, ◌/◌, ◌%◌, ◌&&◌, nat_le, Bool, if◌then◌else◌, List, [], ◌++◌, codes, decimal, flat_map, length, max}
+-- The picture of a journal, as an svg: streams are lanes of 48 pixels, and a stamp is 10 pixels wide.
+use Rattle.std.specs.Prelude.{ℕ, ◌+◌, ◌-◌, ◌*◌, ◌/◌, ◌%◌, ◌&&◌, nat_le, Bool, if◌then◌else◌, List, [], ◌++◌, codes, decimal, flat_map, length, max, min, Option, Some, None}
 use Rattle.std.specs.List.{range_with_len}
 use Rattle.abt_machine.specs.declared.events.Event.{Event}
 use Rattle.abt_machine.specs.Outcomes.{steps_in}
 use Rattle.abt_machine.specs.Texts.{journal_text}
 use Rattle.abt_machine.specs.Words.{Text}
+use Rattle.abt_view.specs.declared.arrows.Arrow.{Arrow}
+use Rattle.abt_view.specs.declared.arrows.Spot.{Spot}
+use Rattle.abt_view.specs.declared.frames.Frame.{Frame}
 use Rattle.abt_view.specs.declared.pictures.TheConstants.{FOOT, LEGEND, STYLE, TOO_LONG}
 use Rattle.abt_view.specs.declared.stretches.Stretch.{Stretch}
+use Rattle.abt_view.specs.Arrows.{arrows_of}
+use Rattle.abt_view.specs.Frames.{all_frames}
 use Rattle.abt_view.specs.Kinds.{kind_word, last_stamp, refused_in}
 use Rattle.abt_view.specs.Stretches.{all_stretches, streams_in}
 
@@ -16,7 +21,7 @@ around before n after = before ++ (decimal n ++ after)
 
 -- The bar of a stretch, with its unit's number, its colour by the number's last digit, and the lines of its events.
 abbrev pub bar_place : Stretch → Text
-bar_place b = around (codes "<g class='u") (b.unit % 10) (codes "' transform='translate(") ++ (around [] b.since (codes "0 ") ++ around [] (40 * b.stream) (codes ")'>"))
+bar_place b = around (codes "<g class='u") (b.unit % 10) (codes "' transform='translate(") ++ (around [] b.since (codes "0 ") ++ around [] (48 * b.stream) (codes ")'>"))
 
 abbrev pub bar_shape : Stretch → Text
 bar_shape b = around (codes "<rect width='") (b.until - b.since) (codes "8' height='20' rx='2'/>") ++ around (codes "<text x='2' y='14'>") b.unit (codes "</text>")
@@ -27,17 +32,53 @@ bar_title b = codes "<title>" ++ (journal_text b.events ++ codes "</title></g>\n
 abbrev pub bar_text : Stretch → Text
 bar_text b = bar_place b ++ (bar_shape b ++ bar_title b)
 
+-- how far a frame goes beyond the bars and the marks within it: the less, the deeper it is
+abbrev pub margin_of : Frame → ℕ
+margin_of f = 6 - 2 * min f.depth 2
+
+-- The frame of a stacked scheduler round what runs within it: from behind its enter to before its leave.
+abbrev pub frame_place : Frame → Text
+frame_place f = around (codes "<rect class='frame' transform='translate(") f.since (codes "0 ") ++ around [] (48 * f.stream) (codes ")' x='9' ")
+
+abbrev pub frame_shape : Frame → Text
+frame_shape f = around (codes "y='-") (margin_of f) (codes "' ") ++ (around (codes "width='") (f.until - f.since) (codes "2' ") ++ around (codes "height='") (32 + 2 * margin_of f) (codes "' rx='3'>"))
+
+abbrev pub frame_text : Frame → Text
+frame_text f = frame_place f ++ (frame_shape f ++ around (codes "<title>scheduler unit ") f.unit (codes "</title></rect>\n"))
+
+-- a point below the mark of an event, so many pixels from the top of its lane
+abbrev pub point_text : Text → Spot → ℕ → Text → Text
+point_text before at down after = around before at.stamp (codes "5 ") ++ around [] (48 * at.stream + down) after
+
+-- a line from event to event that names a unit
+abbrev pub line_text : ℕ → Spot → Spot → Text
+line_text u from to =
+    point_text (codes "<path class='arrow' d='M") from 31 (codes "C")
+    ++ (point_text [] from 39 (codes " ") ++ (point_text [] to 39 (codes " ") ++ (point_text [] to 31 (codes "'><title>unit ") ++ around [] u (codes "</title></path>\n"))))
+
+-- the line from the event that sent the unit, and that to where it is taken
+abbrev pub sent_text : ℕ → Option Spot → Spot → Text
+sent_text u None put = []
+sent_text u (Some sent) put = line_text u sent put
+
+abbrev pub taken_text : ℕ → Spot → Option Spot → Text
+taken_text u put None = []
+taken_text u put (Some taken) = line_text u put taken
+
+abbrev pub lines_text : Arrow → Text
+lines_text a = sent_text a.unit a.sent a.put ++ taken_text a.unit a.put a.taken
+
 -- the mark of an event, a shape of its kind
 abbrev pub mark_text : Event → Text
-mark_text e = codes "<use href='#" ++ (kind_word e.what ++ (around (codes "' x='") e.stamp (codes "0' y='") ++ around [] (40 * e.stream.0) (codes "'/>\n")))
+mark_text e = codes "<use href='#" ++ (kind_word e.what ++ (around (codes "' x='") e.stamp (codes "0' y='") ++ around [] (48 * e.stream.0) (codes "'/>\n")))
 
 -- the name of a stream before its lane
 abbrev pub lane_text : ℕ → Text
-lane_text s = around (codes "<text class='lane' x='-62' y='") (40 * s + 14) (codes "'>") ++ around (codes "stream ") s (codes "</text>\n")
+lane_text s = around (codes "<text class='lane' x='-62' y='") (48 * s + 14) (codes "'>") ++ around (codes "stream ") s (codes "</text>\n")
 
 -- each tenth stamp on the axis
 abbrev pub tick_text : ℕ → Text
-tick_text t = around (codes "<use href='#tick' x='") t (codes "00'/>") ++ (around (codes "<text class='tick' x='") t (codes "00' y='-8'>") ++ around [] t (codes "0</text>\n"))
+tick_text t = around (codes "<use href='#tick' x='") t (codes "00'/>") ++ (around (codes "<text class='tick' x='") t (codes "00' y='-12'>") ++ around [] t (codes "0</text>\n"))
 
 -- the size in pixels
 abbrev pub size_text : ℕ → ℕ → Text
@@ -49,11 +90,11 @@ counts_text J = around (codes "<text class='counts' x='-62' y='-36'>events ") (l
 
 -- what stands before the bars
 abbrev pub head_text : List Event → Text
-head_text J = size_text (max (10 * last_stamp J + 120) 560) (40 * streams_in J + 100) ++ (STYLE.now ++ counts_text J)
+head_text J = size_text (max (10 * last_stamp J + 120) 560) (48 * streams_in J + 100) ++ (STYLE.now ++ counts_text J)
 
 -- the kinds of marks, below so many lanes
 abbrev pub legend_text : ℕ → Text
-legend_text streams = around (codes "<g transform='translate(-62 ") (40 * streams + 10) (codes ")'>") ++ LEGEND.now
+legend_text streams = around (codes "<g transform='translate(-62 ") (48 * streams + 10) (codes ")'>") ++ LEGEND.now
 
 -- the axis, the names of the streams, and the kinds of marks
 abbrev pub axis_text : List Event → Text
@@ -61,7 +102,8 @@ axis_text J = flat_map tick_text (range_with_len 1 (last_stamp J / 10)) ++ (flat
 
 -- the picture
 abbrev pub picture_text : List Event → Text
-picture_text J = head_text J ++ (axis_text J ++ (flat_map bar_text (all_stretches J) ++ (flat_map mark_text J ++ FOOT.now)))
+picture_text J =
+    head_text J ++ (axis_text J ++ (flat_map frame_text (all_frames J) ++ (flat_map bar_text (all_stretches J) ++ (flat_map mark_text J ++ (flat_map lines_text (arrows_of J) ++ FOOT.now)))))
 
 -- a journal that is drawn: of at most 20,000 events, and with no stamp beyond
 abbrev pub is_small : List Event → Bool

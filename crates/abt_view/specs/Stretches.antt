@@ -4,6 +4,8 @@ use Rattle.std.specs.List.{range_with_len}
 use Rattle.abt_machine.specs.declared.events.Event.{Event}
 use Rattle.abt_machine.specs.declared.events.What.{What}
 use Rattle.abt_machine.specs.declared.events.What.TheVariants as what
+use Rattle.abt_machine.specs.declared.grammar.Format.TheVariants as format
+use Rattle.abt_machine.specs.Limits.{stream_limit}
 use Rattle.abt_view.specs.declared.stretches.Cut.{Cut}
 use Rattle.abt_view.specs.declared.stretches.Stretch.{Stretch}
 use Rattle.abt_view.specs.declared.stretches.Turn.{Turn}
@@ -68,9 +70,9 @@ uncut = record { past = []; held = None }
 abbrev pub stretches_of : List Event → ℕ → List Stretch
 stretches_of J s = (closed (fold (advanced s) uncut J)).past
 
--- how many streams a picture shows: up to the greatest that has an event, and at most 8
+-- how many streams a picture shows: up to the greatest that has an event, and at most as many as a workload may have
 abbrev pub streams_in : List Event → ℕ
-streams_in J = min 8 (fold (λ n (e : Event). max n (e.stream.0 + 1)) 0 J)
+streams_in J = min (stream_limit format.Two) (fold (λ n (e : Event). max n (e.stream.0 + 1)) 0 J)
 
 -- the stretches of all streams that it shows, in order of stream
 abbrev pub all_stretches : List Event → List Stretch

@@ -23,6 +23,7 @@ fn cause_word(cause: Cause) -> &'static [u8]
         Cause::Done => b"done",
         Cause::Asked => b"asked",
         Cause::Access => b"access",
+        Cause::Own => b"own",
     }
 }
 

@@ -1,6 +1,8 @@
 //! The picture of a journal: the stretches for which units are in a stream's hand, drawn as an svg or listed as a trace.
 #![tactic(auto)]
 
+mod arrows;
+mod frames;
 mod kinds;
 mod pictures;
 mod program;
@@ -12,6 +14,8 @@ mod texts;
 mod traces;
 mod views;
 
+pub use arrows::{Arrow, Spot, all_arrows};
+pub use frames::{Frame, all_frames};
 pub use pictures::svg;
 pub use program::abtview;
 pub use status::Status;

@@ -3,9 +3,11 @@
 ghost use Rattle.std.specs.Prelude.{◌≡◌, ◌*◌, ◌++◌, ◌<◌, ◌≤◌, IfOk, OnOk, flat_map};
 ghost use Rattle.std.specs.List.{range_with_len};
 ghost use Rattle.abt_view.specs.Kinds.{last_stamp};
-ghost use Rattle.abt_view.specs.Picture.{axis_text, bar_place, bar_shape, bar_text, bar_title, counts_text, head_text, lane_text, legend_text, mark_text, picture_text, size_text, svg_text, is_small, tick_text};
+ghost use Rattle.abt_view.specs.Picture.{axis_text, bar_place, bar_shape, bar_text, bar_title, counts_text, frame_place, frame_shape, frame_text, head_text, is_small, lane_text, legend_text, line_text, lines_text, margin_of, mark_text, picture_text, point_text, sent_text, size_text, svg_text, taken_text, tick_text};
 ghost use Rattle.abt_view.specs.Stretches.{all_stretches as stretches_of_all, streams_in};
 
+use crate::arrows::{Arrow, Spot, all_arrows};
+use crate::frames::{Frame, all_frames};
 use crate::kinds::{count_refused, count_steps, greatest_stamp, word};
 use crate::stretches::{Stretch, all_stretches, count_streams};
 use crate::texts::push_around;
@@ -19,13 +21,15 @@ text{font:11px sans-serif}
 .lane,.tick{fill:#555}
 .counts{font-weight:bold}
 g>rect{stroke:#333;stroke-width:.5}
+.frame{fill:#06c;fill-opacity:.08;stroke:#06c}
+.arrow{fill:none;stroke:#06c;opacity:.6}
 .u0{fill:#9ecae1}.u1{fill:#fdae6b}.u2{fill:#a1d99b}.u3{fill:#fa9fb5}.u4{fill:#bcbddc}
 .u5{fill:#ffe066}.u6{fill:#80d8c3}.u7{fill:#d9b38c}.u8{fill:#c7e59a}.u9{fill:#d0d0d0}
 g>text{fill:#000}
 use{pointer-events:none}
 </style>
 <defs>
-<path id='tick' d='M0 -4V312' stroke='#eee'/>
+<path id='tick' d='M0 -8V772' stroke='#eee'/>
 <path id='miss' d='M3 26h4' stroke='#bbb'/>
 <path id='look' d='M5 24v4' stroke='#bbb'/>
 <path id='take' d='M5 30v-8m-3 3l3 -3l3 3' fill='none' stroke='#333'/>
@@ -35,23 +39,27 @@ use{pointer-events:none}
 <path id='done' d='M2 23h6v6h-6z' fill='#333'/>
 <path id='asked' d='M2 23h6v6h-6z' fill='none' stroke='#d00'/>
 <path id='access' d='M5 22l4 8h-8z' fill='none' stroke='#d00'/>
-<path id='enter' d='M9 -4h-5v38h5' fill='none' stroke='#06c' stroke-width='2'/>
-<path id='leave' d='M1 -4h5v38h-5' fill='none' stroke='#06c' stroke-width='2'/>
+<path id='own' d='M2 23h6v6h-6z' fill='none' stroke='#333'/>
+<path id='enter' d='M2 22l6 4l-6 4z' fill='#06c'/>
+<path id='leave' d='M8 22l-6 4l6 4z' fill='#06c'/>
 </defs>
 <rect x='-70' y='-60' width='100%' height='100%' fill='#fff'/>
 ";
 
-// The kinds of marks, in a row.
-const LEGEND: &[u8] = b"<use href='#take' y='-20'/><text x='12' y='10'>take</text>
+// The kinds of marks, in a row on white.
+const LEGEND: &[u8] = b"<path d='M-8 -8H201000V60H-8z' fill='#fff'/>
+<use href='#take' y='-20'/><text x='12' y='10'>take</text>
 <use href='#look' x='42' y='-20'/><text x='54' y='10'>look</text>
 <use href='#step' x='84' y='-20'/><text x='96' y='10'>step</text>
 <use href='#refused' x='126' y='-20'/><text x='140' y='10'>refused</text>
-<use href='#put' x='188' y='-20'/><text x='200' y='10'>put</text>
-<use href='#miss' x='226' y='-20'/><text x='238' y='10'>miss</text>
-<use href='#done' x='270' y='-20'/><text x='283' y='10'>done</text>
-<use href='#asked' x='318' y='-20'/><text x='331' y='10'>asked</text>
-<use href='#access' x='370' y='-20'/><text x='383' y='10'>access</text>
-<path d='M434 -2h-5v14h5m104 0h5v-14h-5' fill='none' stroke='#06c' stroke-width='2'/><text x='440' y='10'>stacked scheduler</text>
+<use href='#put' x='186' y='-20'/><text x='198' y='10'>put</text>
+<use href='#miss' x='222' y='-20'/><text x='234' y='10'>miss</text>
+<use href='#done' x='264' y='-20'/><text x='277' y='10'>done</text>
+<use href='#asked' x='310' y='-20'/><text x='323' y='10'>asked</text>
+<use href='#access' x='362' y='-20'/><text x='375' y='10'>access</text>
+<use href='#own' x='418' y='-20'/><text x='431' y='10'>own</text>
+<use href='#enter' x='458' y='-20'/><text x='470' y='10'>enter</text>
+<use href='#leave' x='504' y='-20'/><text x='516' y='10'>leave</text>
 </g>
 ";
 
@@ -63,9 +71,9 @@ const TOO_LONG: &[u8] =
 
 // The top of a stream's lane.
 fn lane_top(stream: u32) -> u64
-    ensures { result ≡ 40 * stream }
+    ensures { result ≡ 48 * stream }
 {
-    40 * u64::from(stream)
+    48 * u64::from(stream)
 }
 
 // Appends the place of a bar, and its colour.
@@ -111,6 +119,104 @@ fn push_bar(alloc: Global, out: &mut Vec<u8>, bar: &Stretch) -> Result<(), Want>
     push_title(alloc, out, bar)
 }
 
+// How far a frame goes beyond what is within it.
+fn margin(frame: &Frame) -> u64
+    ensures { result ≡ margin_of frame.now }
+{
+    6 - 2 * frame.depth.min(2)
+}
+
+// Appends the place of a frame.
+fn push_frame_place(out: &mut Vec<u8>, frame: &Frame) -> Result<(), Want>
+    ensures { OnOk result (out.new.items ≡ out.old.items ++ frame_place frame.now) }
+{
+    push_around(
+        out,
+        b"<rect class='frame' transform='translate(",
+        frame.since,
+        b"0 ",
+    )?;
+    push_around(out, b"", lane_top(frame.stream), b")' x='9' ")
+}
+
+// Appends the size of a frame.
+fn push_frame_shape(out: &mut Vec<u8>, frame: &Frame) -> Result<(), Want>
+    ensures { OnOk result (out.new.items ≡ out.old.items ++ frame_shape frame.now) }
+{
+    let margin = margin(frame);
+    let width = frame.until.saturating_sub(frame.since);
+    push_around(out, b"y='-", margin, b"' ")?;
+    push_around(out, b"width='", width, b"2' ")?;
+    push_around(out, b"height='", 32 + 2 * margin, b"' rx='3'>")
+}
+
+// Appends the frame of a stacked scheduler.
+fn push_frame(out: &mut Vec<u8>, frame: &Frame) -> Result<(), Want>
+    ensures { OnOk result (out.new.items ≡ out.old.items ++ frame_text frame.now) }
+{
+    push_frame_place(out, frame)?;
+    push_frame_shape(out, frame)?;
+    push_around(
+        out,
+        b"<title>scheduler unit ",
+        u64::from(frame.unit),
+        b"</title></rect>\n",
+    )
+}
+
+// Appends a point so many pixels from the top of an event's lane.
+fn push_point(
+    out: &mut Vec<u8>,
+    before: &[u8],
+    at: Spot,
+    down: u32,
+    after: &[u8],
+) -> Result<(), Want>
+    ensures { OnOk result (out.new.items ≡ out.old.items ++ point_text before.now at down after.now) }
+{
+    push_around(out, before, at.stamp, b"5 ")?;
+    push_around(out, b"", lane_top(at.stream) + u64::from(down), after)
+}
+
+// Appends a line from event to event that names a unit.
+fn push_line(out: &mut Vec<u8>, u: u32, from: Spot, to: Spot) -> Result<(), Want>
+    ensures { OnOk result (out.new.items ≡ out.old.items ++ line_text u from to) }
+{
+    push_point(out, b"<path class='arrow' d='M", from, 31, b"C")?;
+    push_point(out, b"", from, 39, b" ")?;
+    push_point(out, b"", to, 39, b" ")?;
+    push_point(out, b"", to, 31, b"'><title>unit ")?;
+    push_around(out, b"", u64::from(u), b"</title></path>\n")
+}
+
+// Appends the line from the event that sent a unit, if one did.
+fn push_sent(out: &mut Vec<u8>, u: u32, sent: Option<Spot>, put: Spot) -> Result<(), Want>
+    ensures { OnOk result (out.new.items ≡ out.old.items ++ sent_text u sent put) }
+{
+    match sent {
+        None => Ok(()),
+        Some(sent) => push_line(out, u, sent, put),
+    }
+}
+
+// Appends the line to where a unit is taken, if it is.
+fn push_taken(out: &mut Vec<u8>, u: u32, put: Spot, taken: Option<Spot>) -> Result<(), Want>
+    ensures { OnOk result (out.new.items ≡ out.old.items ++ taken_text u put taken) }
+{
+    match taken {
+        None => Ok(()),
+        Some(taken) => push_line(out, u, put, taken),
+    }
+}
+
+// Appends the lines of an arrow.
+fn push_arrow(out: &mut Vec<u8>, arrow: &Arrow) -> Result<(), Want>
+    ensures { OnOk result (out.new.items ≡ out.old.items ++ lines_text arrow.now) }
+{
+    push_sent(out, arrow.unit, arrow.sent, arrow.put)?;
+    push_taken(out, arrow.unit, arrow.put, arrow.taken)
+}
+
 // Appends the mark of an event.
 fn push_mark(out: &mut Vec<u8>, event: &Event) -> Result<(), Want>
     ensures { OnOk result (out.new.items ≡ out.old.items ++ mark_text event.now) }
@@ -123,10 +229,10 @@ fn push_mark(out: &mut Vec<u8>, event: &Event) -> Result<(), Want>
 
 // Appends the name of a stream.
 fn push_lane(out: &mut Vec<u8>, s: u64) -> Result<(), Want>
-    requires { s < 8 }
+    requires { s < 16 }
     ensures { OnOk result (out.new.items ≡ out.old.items ++ lane_text s) }
 {
-    push_around(out, b"<text class='lane' x='-62' y='", 40 * s + 14, b"'>")?;
+    push_around(out, b"<text class='lane' x='-62' y='", 48 * s + 14, b"'>")?;
     push_around(out, b"stream ", s, b"</text>\n")
 }
 
@@ -135,7 +241,7 @@ fn push_tick(out: &mut Vec<u8>, t: u64) -> Result<(), Want>
     ensures { OnOk result (out.new.items ≡ out.old.items ++ tick_text t) }
 {
     push_around(out, b"<use href='#tick' x='", t, b"00'/>")?;
-    push_around(out, b"<text class='tick' x='", t, b"00' y='-8'>")?;
+    push_around(out, b"<text class='tick' x='", t, b"00' y='-12'>")?;
     push_around(out, b"", t, b"0</text>\n")
 }
 
@@ -175,7 +281,7 @@ fn push_head(out: &mut Vec<u8>, journal: &[Event]) -> Result<(), Want>
 {
     let last = greatest_stamp(journal);
     let streams = count_streams(journal);
-    push_size(out, (10 * last + 120).max(560), 40 * streams + 100)?;
+    push_size(out, (10 * last + 120).max(560), 48 * streams + 100)?;
     out.extend_from_slice(STYLE)?;
     push_counts(out, journal)?;
     Ok(())
@@ -194,7 +300,7 @@ fn push_ticks(out: &mut Vec<u8>, count: u64) -> Result<(), Want>
 
 // Appends the names of so many streams.
 fn push_lanes(out: &mut Vec<u8>, count: u64) -> Result<(), Want>
-    requires { count ≤ 8 }
+    requires { count ≤ 16 }
     ensures { OnOk result (out.new.items ≡ out.old.items ++ flat_map lane_text (range_with_len 0 count)) }
 {
     for s in 0..count {
@@ -205,13 +311,13 @@ fn push_lanes(out: &mut Vec<u8>, count: u64) -> Result<(), Want>
 
 // Appends the kinds of marks, below so many lanes.
 fn push_legend(out: &mut Vec<u8>, streams: u64) -> Result<(), Want>
-    requires { streams ≤ 8 }
+    requires { streams ≤ 16 }
     ensures { OnOk result (out.new.items ≡ out.old.items ++ legend_text streams) }
 {
     push_around(
         out,
         b"<g transform='translate(-62 ",
-        40 * streams + 10,
+        48 * streams + 10,
         b")'>",
     )?;
     out.extend_from_slice(LEGEND)?;
@@ -228,6 +334,16 @@ fn push_axis(out: &mut Vec<u8>, journal: &[Event]) -> Result<(), Want>
     let streams = count_streams(journal);
     push_lanes(out, streams)?;
     push_legend(out, streams)
+}
+
+// Appends the frames of stacked schedulers.
+fn push_frames(out: &mut Vec<u8>, frames: &[Frame]) -> Result<(), Want>
+    ensures { OnOk result (out.new.items ≡ out.old.items ++ flat_map frame_text frames.now) }
+{
+    for frame in frames {
+        push_frame(out, frame)?;
+    }
+    Ok(())
 }
 
 // Appends the bars of stretches.
@@ -250,17 +366,31 @@ fn push_marks(out: &mut Vec<u8>, journal: &[Event]) -> Result<(), Want>
     Ok(())
 }
 
+// Appends the lines of arrows.
+fn push_arrows(out: &mut Vec<u8>, arrows: &[Arrow]) -> Result<(), Want>
+    ensures { OnOk result (out.new.items ≡ out.old.items ++ flat_map lines_text arrows.now) }
+{
+    for arrow in arrows {
+        push_arrow(out, arrow)?;
+    }
+    Ok(())
+}
+
 // The picture of a journal whose stamps are small.
 fn picture(alloc: Global, journal: &[Event]) -> Result<Vec<u8>, Want>
     requires { last_stamp journal.now ≤ 20000 }
     ensures { IfOk result (λ text. text.items ≡ picture_text journal.now) }
 {
+    let frames = all_frames(alloc, journal)?;
     let bars = all_stretches(alloc, journal)?;
+    let arrows = all_arrows(alloc, journal)?;
     let mut out = Vec::new(alloc);
     push_head(&mut out, journal)?;
     push_axis(&mut out, journal)?;
+    push_frames(&mut out, &frames)?;
     push_bars(alloc, &mut out, &bars)?;
     push_marks(&mut out, journal)?;
+    push_arrows(&mut out, &arrows)?;
     out.extend_from_slice(FOOT)?;
     Ok(out)
 }

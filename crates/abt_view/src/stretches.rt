@@ -3,7 +3,7 @@
 ghost use Rattle.std.specs.Prelude.{◌≡◌, ◌++◌, ◌∷◌, [], IfOk};
 ghost use Rattle.abt_view.specs.Stretches.{advanced, all_stretches as stretches_of_all, begun, closed, goes_on_or_begins as turn_by, goes_on_or_stays as stays_by, is_held as is_held_by, longer as longer_by, streams_in, stretches_of, turn_of as turn_at, turned};
 
-use abt_machine::{Event, Items, Journal, Want, What};
+use abt_machine::{Event, Format, Items, Journal, Want, What};
 use std::alloc::Global;
 
 /// A time for which one unit is in a stream's hand: its first and last stamp, and the events of the unit there.
@@ -203,7 +203,8 @@ fn stretches(alloc: Global, journal: &[Event], s: u64) -> Result<Items<Stretch>,
     Ok(past)
 }
 
-/// How many streams a picture shows: up to the greatest that has an event, and at most 8.
+/// How many streams a picture shows: up to the greatest that has an event, and at most as many as
+/// a workload may have.
 pub(crate) fn count_streams(journal: &[Event]) -> u64
     ensures { result ≡ streams_in journal.now }
 {
@@ -211,10 +212,10 @@ pub(crate) fn count_streams(journal: &[Event]) -> u64
     for event in journal {
         count = count.max(u64::from(event.stream.0) + 1);
     }
-    count.min(8)
+    count.min(u64::from(Format::Two.stream_limit()))
 }
 
-/// The stretches of streams 0 to 7, in order of stream, and of each stream in order of time.
+/// The stretches of streams 0 to 15, in order of stream, and of each stream in order of time.
 pub fn all_stretches(alloc: Global, journal: &[Event]) -> Result<Vec<Stretch>, Want>
     ensures { IfOk result (λ all. all.items ≡ stretches_of_all journal.now) }
 {

@@ -2,8 +2,9 @@
 
 ghost use Rattle.std.specs.Prelude.{◌≡◌, ◌++◌, IfOk, OnOk, flat_map};
 ghost use Rattle.std.specs.List.{range_with_len};
-ghost use Rattle.abt_view.specs.Trace.{event_text, instant_text, item_text, leave_text, moment_text, more_text, naming_text, slice_text, step_more, trace_text, track_text};
+ghost use Rattle.abt_view.specs.Trace.{arrow_text, enter_text, event_text, instant_text, item_text, leave_text, moment_text, more_text, point_text, points_text, slice_text, step_more, trace_text, track_text};
 
+use crate::arrows::{Arrow, Spot, all_arrows, spot_at};
 use crate::kinds::word;
 use crate::stretches::{Stretch, all_stretches, count_streams};
 use crate::texts::push_around;
@@ -65,25 +66,25 @@ fn push_slices(out: &mut Vec<u8>, slices: &[Stretch]) -> Result<(), Want>
 }
 
 // Appends the beginning of an item of that phase on the event's track, that fraction of a microsecond after its stamp.
-fn push_item(out: &mut Vec<u8>, phase: &[u8], event: &Event, fraction: &[u8]) -> Result<(), Want>
-    ensures { OnOk result (out.new.items ≡ out.old.items ++ item_text phase.now event.now fraction.now) }
+fn push_item(out: &mut Vec<u8>, phase: &[u8], at: Spot, fraction: &[u8]) -> Result<(), Want>
+    ensures { OnOk result (out.new.items ≡ out.old.items ++ item_text phase.now at fraction.now) }
 {
     out.extend_from_slice(b",\n{\"ph\":\"")?;
     out.extend_from_slice(phase)?;
     push_around(
         out,
         b"\",\"pid\":0,\"tid\":",
-        u64::from(event.stream.0),
+        u64::from(at.stream),
         b",\"ts\":",
     )?;
-    push_around(out, b"", event.stamp, fraction)
+    push_around(out, b"", at.stamp, fraction)
 }
 
 // Appends the slice of an event.
 fn push_moment(out: &mut Vec<u8>, event: &Event) -> Result<(), Want>
     ensures { OnOk result (out.new.items ≡ out.old.items ++ moment_text event.now) }
 {
-    push_item(out, b"X", event, b".1")?;
+    push_item(out, b"X", spot_at(event), b".1")?;
     out.extend_from_slice(b",\"dur\":0.6,\"name\":\"")?;
     out.extend_from_slice(word(event.what))?;
     out.extend_from_slice(b"\"}")?;
@@ -94,26 +95,10 @@ fn push_moment(out: &mut Vec<u8>, event: &Event) -> Result<(), Want>
 fn push_instant(out: &mut Vec<u8>, event: &Event, u: u32) -> Result<(), Want>
     ensures { OnOk result (out.new.items ≡ out.old.items ++ instant_text event.now u) }
 {
-    push_item(out, b"i", event, b".4")?;
+    push_item(out, b"i", spot_at(event), b".4")?;
     out.extend_from_slice(b",\"s\":\"t\",\"name\":\"")?;
     out.extend_from_slice(word(event.what))?;
     push_around(out, b", unit ", u64::from(u), b"\"}")
-}
-
-// Appends an item that names a unit.
-fn push_naming(
-    out: &mut Vec<u8>,
-    phase: &[u8],
-    event: &Event,
-    fraction: &[u8],
-    before: &[u8],
-    u: u32,
-    after: &[u8],
-) -> Result<(), Want>
-    ensures { OnOk result (out.new.items ≡ out.old.items ++ naming_text phase.now event.now fraction.now before.now u after.now) }
-{
-    push_item(out, phase, event, fraction)?;
-    push_around(out, before, u64::from(u), after)
 }
 
 // Appends what a step has beside its slice.
@@ -126,11 +111,19 @@ fn push_step(out: &mut Vec<u8>, event: &Event, u: u32, code: Code) -> Result<(),
     }
 }
 
+// Appends the beginning of a frame.
+fn push_enter(out: &mut Vec<u8>, event: &Event, u: u32) -> Result<(), Want>
+    ensures { OnOk result (out.new.items ≡ out.old.items ++ enter_text event.now u) }
+{
+    push_item(out, b"B", spot_at(event), b".9")?;
+    push_around(out, b",\"name\":\"scheduler unit ", u64::from(u), b"\"}")
+}
+
 // Appends the end of a frame.
 fn push_leave(out: &mut Vec<u8>, event: &Event) -> Result<(), Want>
     ensures { OnOk result (out.new.items ≡ out.old.items ++ leave_text event.now) }
 {
-    push_item(out, b"E", event, b".9")?;
+    push_item(out, b"E", spot_at(event), b".9")?;
     out.extend_from_slice(b"}")?;
     Ok(())
 }
@@ -141,36 +134,12 @@ fn push_more(out: &mut Vec<u8>, event: &Event, what: What) -> Result<(), Want>
 {
     match what {
         What::Miss(_) => Ok(()),
-        What::Take(_, u) => push_naming(
-            out,
-            b"f",
-            event,
-            b".4",
-            b",\"bp\":\"e\",\"cat\":\"pool\",\"name\":\"pool\",\"id\":",
-            u.0,
-            b"}",
-        ),
+        What::Take(_, _) => Ok(()),
         What::Look(_) => Ok(()),
         What::Step(u, _, code) => push_step(out, event, u.0, code),
-        What::Put(u, _) => push_naming(
-            out,
-            b"s",
-            event,
-            b".4",
-            b",\"cat\":\"pool\",\"name\":\"pool\",\"id\":",
-            u.0,
-            b"}",
-        ),
+        What::Put(_, _) => Ok(()),
         What::End(u, _) => push_instant(out, event, u.0),
-        What::Enter(u) => push_naming(
-            out,
-            b"B",
-            event,
-            b".9",
-            b",\"name\":\"scheduler unit ",
-            u.0,
-            b"\"}",
-        ),
+        What::Enter(u) => push_enter(out, event, u.0),
         What::Leave(_) => push_leave(out, event),
     }
 }
@@ -193,16 +162,71 @@ fn push_events(out: &mut Vec<u8>, journal: &[Event]) -> Result<(), Want>
     Ok(())
 }
 
+// Appends a point of an arrow.
+fn push_point(out: &mut Vec<u8>, phase: &[u8], arrow: &Arrow, at: Spot) -> Result<(), Want>
+    ensures { OnOk result (out.new.items ≡ out.old.items ++ point_text phase.now arrow.now at) }
+{
+    push_item(out, phase, at, b".4")?;
+    push_around(
+        out,
+        b",\"bp\":\"e\",\"cat\":\"pool\",\"name\":\"unit ",
+        u64::from(arrow.unit),
+        b"\",\"id\":",
+    )?;
+    push_around(out, b"", arrow.put.stamp, b"")?;
+    push_around(out, b"", u64::from(arrow.put.stream / 10), b"")?;
+    push_around(out, b"", u64::from(arrow.put.stream % 10), b"}")
+}
+
+// Appends the points of an arrow, of which these are the ends.
+fn push_points(
+    out: &mut Vec<u8>,
+    arrow: &Arrow,
+    sent: Option<Spot>,
+    taken: Option<Spot>,
+) -> Result<(), Want>
+    ensures { OnOk result (out.new.items ≡ out.old.items ++ arrow_text arrow.now sent taken) }
+{
+    match (sent, taken) {
+        (None, None) => Ok(()),
+        (Some(sent), None) => {
+            push_point(out, b"s", arrow, sent)?;
+            push_point(out, b"f", arrow, arrow.put)
+        }
+        (None, Some(taken)) => {
+            push_point(out, b"s", arrow, arrow.put)?;
+            push_point(out, b"f", arrow, taken)
+        }
+        (Some(sent), Some(taken)) => {
+            push_point(out, b"s", arrow, sent)?;
+            push_point(out, b"t", arrow, arrow.put)?;
+            push_point(out, b"f", arrow, taken)
+        }
+    }
+}
+
+// Appends the points of arrows.
+fn push_arrows(out: &mut Vec<u8>, arrows: &[Arrow]) -> Result<(), Want>
+    ensures { OnOk result (out.new.items ≡ out.old.items ++ flat_map points_text arrows.now) }
+{
+    for arrow in arrows {
+        push_points(out, arrow, arrow.sent, arrow.taken)?;
+    }
+    Ok(())
+}
+
 /// The trace of a journal, as JSON in the trace event format.
 pub fn trace(alloc: Global, journal: &[Event]) -> Result<Vec<u8>, Want>
     ensures { IfOk result (λ text. text.items ≡ trace_text journal.now) }
 {
     let slices = all_stretches(alloc, journal)?;
+    let arrows = all_arrows(alloc, journal)?;
     let mut out = Vec::new(alloc);
     out.extend_from_slice(TRACE_HEAD)?;
     push_tracks(&mut out, count_streams(journal))?;
     push_slices(&mut out, &slices)?;
     push_events(&mut out, journal)?;
+    push_arrows(&mut out, &arrows)?;
     out.extend_from_slice(TRACE_FOOT)?;
     Ok(out)
 }

@@ -1,0 +1,9 @@
+use Rattle.abt_view.proofs.Joining.{five}
+use Rattle.abt_view.proofs.Preparing.{if-ok}
+use Rattle.abt_view.proofs.traces.push_point.Goals as goal
+
+pub returns : goal.returns
+returns c =
+    if-ok c.push_around-4.result _ _
+    (λ _ last. five _ _ _ _ _ _ _ _ _ _ _ c.in_ok-push_item.ensures (rw c.from.ensures at c.in_ok-push_around.ensures) c.in_ok-push_around-2.ensures (rw c.from-2.ensures at c.in_ok-push_around-3.ensures)
+    (rw c.from-3.ensures at last)) c.push_around-4.ensures

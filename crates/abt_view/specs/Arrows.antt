@@ -1,0 +1,76 @@
+-- The arrows of a journal: each leads a unit from the event that sent it to a pool, by its put, to where it is taken.
+use Rattle.std.specs.Prelude.{ℕ, ◌==◌, if◌then◌else◌, List, [], ◌∷◌, ◌++◌, flat_map, fold, get_or, replicate, slice_set, Option, Some, None}
+use Rattle.abt_machine.specs.declared.events.Event.{Event}
+use Rattle.abt_machine.specs.declared.events.What.{What}
+use Rattle.abt_machine.specs.declared.events.What.TheVariants as what
+use Rattle.abt_machine.specs.declared.grammar.Format.TheVariants as format
+use Rattle.abt_machine.specs.Limits.{stream_limit, unit_limit}
+use Rattle.abt_view.specs.declared.arrows.Arrow.{Arrow}
+use Rattle.abt_view.specs.declared.arrows.Sender.{Sender}
+use Rattle.abt_view.specs.declared.arrows.Spot.{Spot}
+
+-- where an event is
+abbrev pub spot_of : Event → Spot
+spot_of e = record { stream = e.stream.0; stamp = e.stamp }
+
+-- of each stream its last event that is no put, if that names a unit; of each unit the put that no take or look has
+-- followed, if there is one; and the arrows that have ended
+pub record WaysValue : Type 0 where
+  pub senders : List (Option Sender)
+  pub waiting : List (Option Arrow)
+  pub past : List Arrow
+
+-- the event that sent unit u to the tray: the stream's last one that is no put, if it is of another unit
+abbrev pub sent_by : Option Sender → ℕ → Option Spot
+sent_by None u = None
+sent_by (Some sender) u = if sender.unit == u then None else Some sender.spot
+
+-- the arrow of the open put, if there is one, ends at a take or a look, or at none
+abbrev pub ended_at : Option Spot → Option Arrow → List Arrow
+ended_at at None = []
+ended_at at (Some arrow) = record arrow { taken = at } ∷ []
+
+-- the open arrow of unit u ends, and another is in its place
+abbrev pub replaced : ℕ → Option Spot → Option Arrow → WaysValue → WaysValue
+replaced u at new ways = record ways { waiting = slice_set ways.waiting u new; past = ways.past ++ ended_at at (get_or ways.waiting u None) }
+
+-- the last event of stream s that is no put
+abbrev pub noted : ℕ → Option Sender → WaysValue → WaysValue
+noted s sender ways = record ways { senders = slice_set ways.senders s sender }
+
+-- an event of unit u that is no put
+abbrev pub sent : Event → ℕ → WaysValue → WaysValue
+sent e u ways = noted e.stream.0 (Some (record { unit = u; spot = spot_of e })) ways
+
+-- unit u is taken, or looked at
+abbrev pub taken : Event → ℕ → WaysValue → WaysValue
+taken e u ways = sent e u (replaced u (Some (spot_of e)) None ways)
+
+-- the arrow of a put of unit u
+abbrev pub begun : Event → ℕ → WaysValue → Arrow
+begun e u ways = record { unit = u; sent = sent_by (get_or ways.senders e.stream.0 None) u; put = spot_of e; taken = None }
+
+-- what an event makes of the arrows
+abbrev pub met : WaysValue → Event → What → WaysValue
+met ways e (what.Miss p) = noted e.stream.0 None ways
+met ways e (what.Take p u) = taken e u.0 ways
+met ways e (what.Look u) = taken e u.0 ways
+met ways e (what.Step u k c) = sent e u.0 ways
+met ways e (what.Put u p) = replaced u.0 None (Some (begun e u.0 ways)) ways
+met ways e (what.End u c) = sent e u.0 ways
+met ways e (what.Enter u) = sent e u.0 ways
+met ways e (what.Leave u) = sent e u.0 ways
+
+abbrev pub followed : WaysValue → Event → WaysValue
+followed ways e = met ways e e.what
+
+-- before the first event, for as many streams and units as a workload may have
+abbrev pub at_start : WaysValue
+at_start = record { senders = replicate (stream_limit format.Two) None; waiting = replicate (unit_limit format.Two) None; past = [] }
+
+-- the arrows that ended, in the order of their ends, and then those that did not, in order of unit
+abbrev pub arrows_in : WaysValue → List Arrow
+arrows_in ways = ways.past ++ flat_map (ended_at None) ways.waiting
+
+abbrev pub arrows_of : List Event → List Arrow
+arrows_of J = arrows_in (fold followed at_start J)
