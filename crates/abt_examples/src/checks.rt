@@ -132,7 +132,7 @@ static ROWS: [Row; 14] = [
     },
     // both are wrong: the workload is read first
     Row {
-        workload: "abt 2\n",
+        workload: "abt 3\n",
         journal: "take\n",
         status: 3,
         out: "",

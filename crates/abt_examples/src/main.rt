@@ -8,8 +8,12 @@ mod calls;
 #[cfg(test)]
 mod checks;
 #[cfg(test)]
+mod formats;
+#[cfg(test)]
 mod hostile;
 mod orders;
+#[cfg(test)]
+mod refusals;
 #[cfg(test)]
 mod rows;
 #[cfg(test)]
@@ -36,7 +40,7 @@ struct Example {
     status: u8,
 }
 
-static EXAMPLES: [Example; 23] = [
+static EXAMPLES: [Example; 24] = [
     Example {
         words: &["run", "hi.abt"],
         output: "hi.out",
@@ -105,6 +109,11 @@ static EXAMPLES: [Example; 23] = [
     Example {
         words: &["run", "suspend.abt"],
         output: "suspend.out",
+        status: 0,
+    },
+    Example {
+        words: &["run", "exit.abt"],
+        output: "exit.out",
         status: 0,
     },
     Example {

@@ -16,10 +16,11 @@ pub(crate) struct Row {
 }
 
 // No write fails.
-const NEVER: u64 = 1_000_000;
+pub(crate) const NEVER: u64 = 1_000_000;
 
 // The heads of texts.
-const ONE_POOL: &str = "abt 1\nstreams 1\npool 0 fifo mpmc\nsched 0 prio 0\nstream 0 main 0\n";
+pub(crate) const ONE_POOL: &str =
+    "abt 1\nstreams 1\npool 0 fifo mpmc\nsched 0 prio 0\nstream 0 main 0\n";
 
 const TWO_POOLS: &str =
     "abt 1\nstreams 1\npool 0 fifo mpmc\npool 1 fifo mpmc\nsched 0 prio 0 1\nstream 0 main 0\n";
@@ -30,7 +31,7 @@ const STACKED: &str =
 const TWO_STREAMS: &str =
     "abt 1\nstreams 2\npool 0 fifo priv of 0\npool 1 fifo priv of 1\npool 2 fifo spsc from 0 to 1\nsched 0 prio 0\nsched 1 prio 1 2\nstream 0 main 0\nstream 1 main 1\n";
 
-static UNITS: [Row; 11] = [
+static UNITS: [Row; 13] = [
     // empty
     Row {
         words: &["run", "f"],
@@ -155,6 +156,30 @@ static UNITS: [Row; 11] = [
         failing: NEVER,
         status: 1,
         out: "unit 0 suspended:\nunit 1 join 0:\ntally units 2 unborn 0 pool 0 stream 0 blocked 2 done 0 asked 0 access 0 steps 2\nstuck\n",
+        err: "",
+        journal: None,
+    },
+    // exit
+    Row {
+        words: &["run", "f"],
+        head: ONE_POOL,
+        lines: b"units 1\nunit 0 ult at 0\nsay a\nexit\nsay b\nend\n",
+        failing: NEVER,
+        status: 0,
+        out: "unit 0 exited: a\ntally units 1 unborn 0 pool 0 stream 0 blocked 0 done 1 asked 0 access 0 steps 2\nfinished\n",
+        err: "",
+        journal: Some(
+            "1 0 take 0 0\n2 0 look 0\n3 0 step 0 0 ok\n4 0 step 0 1 ok\n5 0 end 0 own\n6 0 miss 0\n",
+        ),
+    },
+    // exit, join, revive
+    Row {
+        words: &["run", "f"],
+        head: ONE_POOL,
+        lines: b"units 2\nunit 0 ult at 0\nexit\nsay never\nunit 1 ult at 0\njoin 0\nrevive 0 0\nend\n",
+        failing: NEVER,
+        status: 0,
+        out: "unit 0 exited:\nunit 1 done:\ntally units 2 unborn 0 pool 0 stream 0 blocked 0 done 2 asked 0 access 0 steps 4\nfinished\n",
         err: "",
         journal: None,
     },
@@ -288,7 +313,7 @@ pub(crate) fn schedulers() -> &'static [Row] {
     &SCHEDULERS
 }
 
-static REQUESTS: [Row; 9] = [
+static REQUESTS: [Row; 11] = [
     // cancel suspended
     Row {
         words: &["run", "f"],
@@ -394,6 +419,32 @@ static REQUESTS: [Row; 9] = [
         err: "",
         journal: None,
     },
+    // exits while it is asked
+    Row {
+        words: &["run", "f"],
+        head: ONE_POOL,
+        lines: b"units 1\nunit 0 ult at 0\ncancel 0\nexit\nsay never\nend\n",
+        failing: NEVER,
+        status: 0,
+        out: "unit 0 exited:\ntally units 1 unborn 0 pool 0 stream 0 blocked 0 done 1 asked 0 access 0 steps 2\nfinished\n",
+        err: "",
+        journal: Some(
+            "1 0 take 0 0\n2 0 look 0\n3 0 step 0 0 ok\n4 0 step 0 1 ok\n5 0 end 0 own\n6 0 miss 0\n",
+        ),
+    },
+    // asked before it exits
+    Row {
+        words: &["run", "f"],
+        head: ONE_POOL,
+        lines: b"units 2\nunit 0 ult at 0\ncancel 1\nunit 1 ult at 0\nexit\nend\n",
+        failing: NEVER,
+        status: 0,
+        out: "unit 0 done:\nunit 1 asked:\ntally units 2 unborn 0 pool 0 stream 0 blocked 0 done 1 asked 1 access 0 steps 1\nfinished\n",
+        err: "",
+        journal: Some(
+            "1 0 take 0 0\n2 0 look 0\n3 0 step 0 0 ok\n4 0 end 0 done\n5 0 take 0 1\n6 0 look 1\n7 0 end 1 asked\n8 0 miss 0\n",
+        ),
+    },
 ];
 
 /// Requests, resumption and revival.
@@ -475,7 +526,7 @@ pub(crate) fn objects() -> &'static [Row] {
     &OBJECTS
 }
 
-static STREAMS: [Row; 7] = [
+static STREAMS: [Row; 8] = [
     // foreign create
     Row {
         words: &["run", "f"],
@@ -495,6 +546,17 @@ static STREAMS: [Row; 7] = [
         failing: NEVER,
         status: 0,
         out: "unit 0 done: back\ntally units 1 unborn 0 pool 0 stream 0 blocked 0 done 1 asked 0 access 0 steps 2\nfinished\n",
+        err: "",
+        journal: None,
+    },
+    // exits on both
+    Row {
+        words: &["run", "f"],
+        head: TWO_STREAMS,
+        lines: b"units 2\nunit 0 ult at 0\njoin 1\nsay joined\nexit\nsay never\nunit 1 ult at 1\nsay one\nexit\nsay never\nend\n",
+        failing: NEVER,
+        status: 0,
+        out: "unit 0 exited: joined\nunit 1 exited: one\ntally units 2 unborn 0 pool 0 stream 0 blocked 0 done 2 asked 0 access 0 steps 5\nfinished\n",
         err: "",
         journal: None,
     },
@@ -560,7 +622,7 @@ pub(crate) fn streams() -> &'static [Row] {
     &STREAMS
 }
 
-static FLOWS: [Row; 6] = [
+static FLOWS: [Row; 7] = [
     // by an eventual
     Row {
         words: &["flow", "f"],
@@ -616,6 +678,17 @@ static FLOWS: [Row; 6] = [
         err: "",
         journal: Some(""),
     },
+    // exits
+    Row {
+        words: &["flow", "f"],
+        head: ONE_POOL,
+        lines: b"units 1\nunit 0 ult at 0\nsay a\nexit\nend\n",
+        failing: NEVER,
+        status: 1,
+        out: "not confluent\n",
+        err: "",
+        journal: Some(""),
+    },
     // refused
     Row {
         words: &["flow", "f"],
@@ -632,243 +705,3 @@ static FLOWS: [Row; 6] = [
 pub(crate) fn flows() -> &'static [Row] {
     &FLOWS
 }
-
-static REFUSALS: [Row; 20] = [
-    // task yields
-    Row {
-        words: &["run", "f"],
-        head: ONE_POOL,
-        lines: b"units 1\nunit 0 task at 0\nyield\nend\n",
-        failing: NEVER,
-        status: 3,
-        out: "",
-        err: "abtrun: line 8: task-blocks\n",
-        journal: Some(""),
-    },
-    // too great
-    Row {
-        words: &["run", "f"],
-        head: ONE_POOL,
-        lines: b"units 1\nunit 0 ult at 0\nset 18446744073709551616\nadd 1\nprint\nend\n",
-        failing: NEVER,
-        status: 3,
-        out: "",
-        err: "abtrun: line 8: number\n",
-        journal: Some(""),
-    },
-    // no end
-    Row {
-        words: &["run", "f"],
-        head: ONE_POOL,
-        lines: b"units 1\nunit 0 ult at 0\nsay hi\n",
-        failing: NEVER,
-        status: 3,
-        out: "",
-        err: "abtrun: line 9: no-end\n",
-        journal: Some(""),
-    },
-    // carriage return
-    Row {
-        words: &["run", "f"],
-        head: "",
-        lines: b"abt 1\nstreams 1\r\npool 0 fifo mpmc\nsched 0 prio 0\nstream 0 main 0\nunits 1\nunit 0 ult at 0\nsay hi\nend\n",
-        failing: NEVER,
-        status: 3,
-        out: "",
-        err: "abtrun: line 2: shape\n",
-        journal: Some(""),
-    },
-    // not utf8
-    Row {
-        words: &["run", "f"],
-        head: ONE_POOL,
-        lines: b"units 1\nunit 0 ult at 0\nsay \xff\nend\n",
-        failing: NEVER,
-        status: 3,
-        out: "",
-        err: "abtrun: line 8: utf8\n",
-        journal: Some(""),
-    },
-    // short write
-    Row {
-        words: &["run", "f"],
-        head: ONE_POOL,
-        lines: b"units 1\nunit 0 ult at 0\nsay hi\nend\n",
-        failing: 1,
-        status: 6,
-        out: "unit 0 don",
-        err: "abtrun: cannot write\n",
-        journal: Some("1 0 take 0 0\n2 0 look 0\n3 0 step 0 0 ok\n4 0 end 0 done\n5 0 miss 0\n"),
-    },
-    // bad words
-    Row {
-        words: &["walk"],
-        head: "",
-        lines: b"",
-        failing: NEVER,
-        status: 2,
-        out: "",
-        err: "abtrun: bad command line\n",
-        journal: Some(""),
-    },
-    // bad words
-    Row {
-        words: &["run"],
-        head: "",
-        lines: b"",
-        failing: NEVER,
-        status: 2,
-        out: "",
-        err: "abtrun: bad command line\n",
-        journal: Some(""),
-    },
-    // bad words
-    Row {
-        words: &["run", "f", "--steps", "0"],
-        head: "",
-        lines: b"",
-        failing: NEVER,
-        status: 2,
-        out: "",
-        err: "abtrun: bad command line\n",
-        journal: Some(""),
-    },
-    // bad words
-    Row {
-        words: &["run", "f", "--steps", "100001"],
-        head: "",
-        lines: b"",
-        failing: NEVER,
-        status: 2,
-        out: "",
-        err: "abtrun: bad command line\n",
-        journal: Some(""),
-    },
-    // bad words
-    Row {
-        words: &["run", "f", "g"],
-        head: "",
-        lines: b"",
-        failing: NEVER,
-        status: 2,
-        out: "",
-        err: "abtrun: bad command line\n",
-        journal: Some(""),
-    },
-    // bad words
-    Row {
-        words: &["self", "127"],
-        head: "",
-        lines: b"",
-        failing: NEVER,
-        status: 2,
-        out: "",
-        err: "abtrun: bad command line\n",
-        journal: Some(""),
-    },
-    // bad words
-    Row {
-        words: &["self"],
-        head: "",
-        lines: b"",
-        failing: NEVER,
-        status: 2,
-        out: "",
-        err: "abtrun: bad command line\n",
-        journal: Some(""),
-    },
-    // no such file
-    Row {
-        words: &["run", "none"],
-        head: "",
-        lines: b"",
-        failing: NEVER,
-        status: 5,
-        out: "",
-        err: "abtrun: cannot read\n",
-        journal: Some(""),
-    },
-    // nine streams
-    Row {
-        words: &["run", "f"],
-        head: "",
-        lines: b"abt 1\nstreams 9\nend\n",
-        failing: NEVER,
-        status: 3,
-        out: "",
-        err: "abtrun: line 2: limit\n",
-        journal: Some(""),
-    },
-    // ten pools
-    Row {
-        words: &["run", "f"],
-        head: "",
-        lines: b"abt 1\nstreams 1\npool 0 deque mpmc\npool 1 deque mpmc\npool 2 deque mpmc\npool 3 deque mpmc\npool 4 deque mpmc\npool 5 deque mpmc\npool 6 deque mpmc\npool 7 deque mpmc\npool 8 deque mpmc\npool 9 deque mpmc\nsched 0 prio 0 1 2 3 4 5 6 7 8 9\nstream 0 main 0\nunits 0\nend\n",
-        failing: NEVER,
-        status: 3,
-        out: "",
-        err: "abtrun: line 13: limit\n",
-        journal: Some(""),
-    },
-    // a great numeral of 31 digits
-    Row {
-        words: &["run", "f"],
-        head: ONE_POOL,
-        lines: b"units 1\nunit 0 ult at 0\nset 1000000000000000000000000000000\nend\n",
-        failing: NEVER,
-        status: 3,
-        out: "",
-        err: "abtrun: line 8: number\n",
-        journal: Some(""),
-    },
-    // a word of 65 bytes
-    Row {
-        words: &["run", "f"],
-        head: ONE_POOL,
-        lines: b"units 1\nunit 0 ult at 0\nsay wwwwwwwwwwwwwwwwwwwwwwwwwwwwwwwwwwwwwwwwwwwwwwwwwwwwwwwwwwwwwwwww\nend\n",
-        failing: NEVER,
-        status: 3,
-        out: "",
-        err: "abtrun: line 8: limit\n",
-        journal: Some(""),
-    },
-    // bad words of 31 digits
-    Row {
-        words: &["run", "f", "--steps", "1000000000000000000000000000000"],
-        head: "",
-        lines: b"",
-        failing: NEVER,
-        status: 2,
-        out: "",
-        err: "abtrun: bad command line\n",
-        journal: Some(""),
-    },
-    // bad words of 31 digits
-    Row {
-        words: &["self", "1000000000000000000000000000000"],
-        head: "",
-        lines: b"",
-        failing: NEVER,
-        status: 2,
-        out: "",
-        err: "abtrun: bad command line\n",
-        journal: Some(""),
-    },
-];
-
-/// Words, files and texts that are refused, and an output that is.
-pub(crate) fn refusals() -> &'static [Row] {
-    &REFUSALS
-}
-
-/// For a text with one byte more than a text may have.
-pub(crate) const TOO_LONG: Row = Row {
-    words: &["run", "f"],
-    head: "",
-    lines: b"",
-    failing: NEVER,
-    status: 3,
-    out: "",
-    err: "abtrun: line 0: limit\n",
-    journal: Some(""),
-};

@@ -3,8 +3,10 @@
 ghost use Rattle.std.specs.Prelude.{◌≤◌, length};
 
 use crate::calls::{Failing, call};
+use crate::formats::{ONE_POOL_OF_TWO, finished, refused, row};
 use crate::orders::{turn, turn_round};
-use crate::rows::{Row, TOO_LONG, flows, objects, refusals, requests, schedulers, streams, units};
+use crate::refusals::{TOO_LONG, refusals};
+use crate::rows::{Row, flows, objects, requests, schedulers, streams, units};
 use abt_machine::OrderShape;
 use abt_order::StoredOrder;
 use std::alloc::Global;
@@ -13,7 +15,7 @@ use std::sync::Wait;
 use std::test::Fail;
 use std::thread::Threads;
 
-// One byte more than a text may have.
+// One byte more than a text of format 1 may have.
 const TOO_LONG_LENGTH: usize = 4_194_305;
 
 // How many times each row of several streams is called.
@@ -89,6 +91,14 @@ fn calls_leave_what_their_rows_say(rt: HostRuntime) -> Result<(), Fail> {
     }
     check_all(&rt, alloc, &orders, flows())?;
     check_all(&rt, alloc, &orders, refusals())?;
+    for (lines, out) in finished() {
+        let row = row(ONE_POOL_OF_TWO, lines, 0, out, "");
+        check(&rt, alloc, &orders, &row, &text_of(alloc, &row)?)?;
+    }
+    for (head, lines, err) in refused() {
+        let row = row(head, lines, 3, "", err);
+        check(&rt, alloc, &orders, &row, &text_of(alloc, &row)?)?;
+    }
     let long = vec![in alloc; b'#'; TOO_LONG_LENGTH]?;
     check(&rt, alloc, &orders, &TOO_LONG, &long)
 }

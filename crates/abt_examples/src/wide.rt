@@ -137,20 +137,36 @@ fn rounds(alloc: Global, rule: &str) -> Result<(String, String), Fail> {
     Ok((text, report))
 }
 
-// A text of eight streams, of which this one alone has a unit with two operations.
-fn streams(alloc: Global, s: u32) -> Result<String, Fail> {
-    let mut text = String::from_str(alloc, "abt 1\nstreams 8\n")?;
-    for p in 0..8 {
+// A text of this format and of so many streams, of which this one alone has a unit with two operations.
+fn streams(alloc: Global, format: u32, count: u32, s: u32) -> Result<String, Fail> {
+    let mut text = format!(in alloc; "abt {format}\nstreams {count}\n")?;
+    for p in 0..count {
         text.push_str(format!(in alloc; "pool {p} fifo priv of {p}\n")?.as_str())?;
     }
-    for g in 0..8 {
+    for g in 0..count {
         text.push_str(format!(in alloc; "sched {g} prio {g}\n")?.as_str())?;
     }
-    for m in 0..8 {
+    for m in 0..count {
         text.push_str(format!(in alloc; "stream {m} main {m}\n")?.as_str())?;
     }
     text.push_str(format!(in alloc; "units 1\nunit 0 ult at {s}\nset 1\nset 2\nend\n")?.as_str())?;
     Ok(text)
+}
+
+// A text of 4,000 units that add 1 to a number under a mutex and meet at a barrier, where one more that prints the sum waits for them, on
+// two streams that share a pool; and its report.
+fn barrier_of_4001(alloc: Global) -> Result<(String, String), Fail> {
+    let text = String::from_str(
+        alloc,
+        "abt 2\nstreams 2\npool 0 fifo mpmc\nsched 0 prio 0\nsched 1 prio 0\nstream 0 main 0\nstream 1 main 1\nobject 0 mutex\nobject 1 barrier 4001\nunits 4001\nmany 0 4000 ult at 0\nlock 0\nload 0\nadd 1\nstore 0\nunlock 0\nbwait 1\nunit 4000 ult at 0\nbwait 1\nlock 0\nload 0\nprint\nunlock 0\nend\n",
+    )?;
+    let mut report = String::new(alloc);
+    for u in 0..4000 {
+        report.push_str(format!(in alloc; "unit {u} done:\n")?.as_str())?;
+    }
+    report.push_str("unit 4000 done: 4000\n")?;
+    report.push_str(all_done(alloc, 4001, 24005)?.as_str())?;
+    Ok((text, report))
 }
 
 // A text of so many skipped lines, and a faulty one.
@@ -232,6 +248,30 @@ fn check_counts<R: Threads + Wait + Sync + Abort>(
     Ok(())
 }
 
+// More units than format 1 has, on threads, ten times.
+fn check_barrier<R: Threads + Wait + Sync + Abort>(
+    rt: &R,
+    alloc: Global,
+    orders: &[StoredOrder],
+) -> Result<(), Fail>
+    requires { 2 ≤ length orders.now }
+{
+    let (text, report) = barrier_of_4001(alloc)?;
+    for _ in 0..10 {
+        let left = call(
+            rt,
+            alloc,
+            orders,
+            &["run", "f", "--steps", "100000"],
+            text.as_bytes(),
+            1000,
+            Failing::none(),
+        )?;
+        assert!(rt; left.is(0, report.as_str(), ""), "a barrier of 4001");
+    }
+    Ok(())
+}
+
 // Each stream is the one that is spent; and a fault far down.
 fn check_ends<R: Threads + Wait + Sync + Abort>(
     rt: &R,
@@ -240,8 +280,8 @@ fn check_ends<R: Threads + Wait + Sync + Abort>(
 ) -> Result<(), Fail>
     requires { 2 ≤ length orders.now }
 {
-    for s in 0..8 {
-        let text = streams(alloc, s)?;
+    for (format, count, s) in (0..8).map(|s| (1, 8, s)).chain((0..16).map(|s| (2, 16, s))) {
+        let text = streams(alloc, format, count, s)?;
         let left = call(
             rt,
             alloc,
@@ -283,5 +323,6 @@ fn wide_workloads_run(rt: HostRuntime) -> Result<(), Fail> {
     ];
     check_lengths(&rt, alloc, &orders)?;
     check_counts(&rt, alloc, &orders)?;
+    check_barrier(&rt, alloc, &orders)?;
     check_ends(&rt, alloc, &orders)
 }

@@ -32,7 +32,7 @@ type Row = (
     &'static [&'static [u32]],
 );
 
-const ROWS: [Row; 5] = [
+const ROWS: [Row; 6] = [
     (
         PAIR,
         "units 2\nunit 0 ult at 0\ncreate 1 1\neset 0\nunit 1 ult later\nsay made\nend\n",
@@ -67,6 +67,13 @@ const ROWS: [Row; 5] = [
         "life 0 0 1\n",
         "unit 0 done: on\ntally units 1 unborn 0 pool 0 stream 0 blocked 0 done 1 asked 0 access 0 steps 3\nfinished\n",
         &[&[1]],
+    ),
+    (
+        PAIR,
+        "units 2\nunit 0 ult at 0\ncreate 1 1\neset 0\nexit\nsay never\nunit 1 ult later\nsay made\nexit\nsay never\nend\n",
+        "life 1 0 1\n",
+        "unit 0 exited:\nunit 1 exited: made\ntally units 2 unborn 0 pool 0 stream 0 blocked 0 done 2 asked 0 access 0 steps 5\nfinished\n",
+        &[&[0], &[0, 1]],
     ),
 ];
 

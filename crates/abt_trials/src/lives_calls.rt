@@ -77,7 +77,7 @@ static ROWS: [Row; 13] = [
     ),
     (
         &["w", "l"],
-        "abt 2\n",
+        "abt 3\n",
         "life",
         NONE,
         3,

@@ -66,7 +66,7 @@ const PLACES: [Shown; 9] = [
     Shown::Object(ObjectNo(1)),
     Shown::Ended(Cause::Asked),
     Shown::Ended(Cause::Access),
-    Shown::Pool(PoolNo(0)),
+    Shown::Ended(Cause::Own),
 ];
 
 const REPORT: &str =
@@ -79,14 +79,14 @@ unit 5 join 4:
 unit 6 object 1:
 unit 7 asked:
 unit 8 access:
-unit 9 pool 0:
-tally units 10 unborn 1 pool 2 stream 1 blocked 3 done 1 asked 1 access 1 steps 12
+unit 9 exited:
+tally units 10 unborn 1 pool 1 stream 1 blocked 3 done 2 asked 1 access 1 steps 12
 stuck
 ";
 
 const SHORT: &str =
     "unit 0 done: on 18446744073709551615 hi !pool-access !exists !unit-state !not-migratable !absent !mutex-locked !not-owner !eventual-set !future-full
-tally units 10 unborn 1 pool 2 stream 1 blocked 3 done 1 asked 1 access 1 steps 18446744073709551615
+tally units 10 unborn 1 pool 1 stream 1 blocked 3 done 2 asked 1 access 1 steps 18446744073709551615
 budget 1
 ";
 

@@ -55,7 +55,7 @@ struct Row {
 }
 
 // Local operations, and those by which a unit leaves the hand alone.
-const OWN: [Row; 4] = [
+const OWN: [Row; 5] = [
     Row {
         units: "units 1\nunit 0 ult at 0\nset 5\nadd 1\nsay hi\nprint\nkset 0\nkget 0\n",
         steps: 9,
@@ -70,6 +70,11 @@ const OWN: [Row; 4] = [
         units: "units 2\nunit 0 ult at 0\nsuspend\nunit 1 ult at 0\nresume 0\nresume 0\n",
         steps: 9,
         events: "take 0 0, look 0, step 0 0 ok, take 0 1, look 1, step 1 0 ok, put 0 0, step 1 1 unit-state, end 1 done, take 0 0, look 0, end 0 done, miss 0, miss 1",
+    },
+    Row {
+        units: "units 1\nunit 0 ult at 0\nset 1\nexit\nset 2\n",
+        steps: 9,
+        events: "take 0 0, look 0, step 0 0 ok, step 0 1 ok, end 0 own, miss 0, miss 1",
     },
     Row {
         units: "units 1\nunit 0 ult at 0\nset 1\nset 2\n",
