@@ -1,7 +1,7 @@
 //! The calls of a booth, beside the kit's mutex round a number.
 ghost use Rattle.std.specs.Prelude.{◌≤◌};
 
-use crate::rounds::least_and_middle;
+use bench_times::least_and_middle;
 use booth_caller::count;
 use std::alloc::Global;
 use std::rt::Clock;

@@ -2,12 +2,12 @@
 ghost use Rattle.std.specs.Prelude.{◌<◌, IfOk};
 ghost use Rattle.abt_unit.specs.Units.{IsFree};
 
-use crate::rounds::least_and_middle;
 use abt_chain::Chain;
 use abt_machine::{UnitNo, Want};
 use abt_monitor::Monitor;
 use abt_sample::unit;
 use abt_unit::Unit;
+use bench_times::least_and_middle;
 use std::alloc::Global;
 use std::io;
 use std::rt::Clock;

@@ -9,11 +9,12 @@ mod workers;
 
 pub use self::timing::{no_memory, placed};
 use self::timing::{
-    TURNS, booth_time, hall_time, hall_work, plain_time, pool_time, split_time, split_work,
+    TURNS, booth_time, hall_time, hall_work, plain_in_turn_time, plain_time, pool_time, pools_time,
+    split_time, split_work,
 };
-use crate::rounds::{Hundredths, each, least_and_middle, ratio};
 use abt_machine::Workload;
 use abt_workload::{NotRead, read};
+use bench_times::{Hundredths, each, least_and_middle, ratio};
 use std::alloc::Global;
 use std::io;
 use std::rt::Clock;
@@ -26,26 +27,27 @@ const ROUNDS: u32 = 201;
 // Turns of each thread in a round: a round is much longer than it takes to start threads.
 const LONG: u32 = 100_000;
 
-// Four pools, each with ten units.
-const HEAD: &str = "abt 1
-streams 1
-pool 0 fifo mpmc
-pool 1 fifo mpmc
-pool 2 fifo mpmc
-pool 3 fifo mpmc
-sched 0 prio 0 1 2 3
-stream 0 main 0
-units 40
-";
+// How many pools stand between those that are called, where they are not neighbours, and one more.
+const SPREAD: u32 = 8;
+
+// The pools that are called, each of which has ten units.
+const POOLS: u32 = 4;
 
 fn not_read(_cause: NotRead) -> io::Error {
     io::Error::from(io::ErrorKind::InvalidData)
 }
 
-fn workload(alloc: Global) -> io::Result<Workload> {
-    let mut text = String::from_str(alloc, HEAD)?;
+// A workload in which every so many-th pool has ten units, four in all. Where they are neighbours their units are mixed, and else
+// those of one pool stand side by side.
+fn workload(alloc: Global, spread: u32) -> io::Result<Workload> {
+    let mut text = String::from_str(alloc, "abt 1\nstreams 1\n")?;
+    for p in 0..POOLS.saturating_mul(spread) {
+        text.push_str(&format!(in alloc; "pool {p} fifo mpmc\n")?)?;
+    }
+    text.push_str("sched 0 prio 0\nstream 0 main 0\nunits 40\n")?;
     for u in 0..40u32 {
-        text.push_str(&format!(in alloc; "unit {u} ult at {p}\n", p = u % 4)?)?;
+        let p = if spread == 1 { u % POOLS } else { u / 10 };
+        text.push_str(&format!(in alloc; "unit {u} ult at {p}\n", p = p.saturating_mul(spread))?)?;
     }
     text.push_str("end\n")?;
     read(alloc, text.as_bytes()).map_err(not_read)
@@ -53,16 +55,17 @@ fn workload(alloc: Global) -> io::Result<Workload> {
 
 /// Four threads with a thousand turns each.
 pub fn small<R: Threads + Wait + Sync + Print + Clock>(rt: &R, alloc: Global) -> io::Result<()> {
-    let w = workload(alloc)?;
-    let (split, _) = split_work(rt, alloc, &w, 4, 1000)?;
-    let (hall, _) = hall_work(rt, alloc, &w, 4, 1000)?;
+    let w = workload(alloc, 1)?;
+    let (split, _) = split_work(rt, alloc, &w, 4, 1, 1000)?;
+    let (hall, _) = hall_work(rt, alloc, &w, 4, 1, 1000)?;
     println!(rt; "commons: 4 threads of 1000 turns make {split} over Split, and {hall} over Hall")
 }
 
 /// Nanoseconds a call, the least and the middle of many rounds.
 pub fn times<R: Threads + Wait + Sync + Print + Clock>(rt: &R, alloc: Global) -> io::Result<()> {
-    let w = workload(alloc)?;
-    if w.pools() == 0 {
+    let w = workload(alloc, 1)?;
+    let apart = workload(alloc, SPREAD)?;
+    if w.pools() < POOLS {
         return Ok(());
     }
     let mut forms = Forms::new(alloc);
@@ -72,7 +75,7 @@ pub fn times<R: Threads + Wait + Sync + Print + Clock>(rt: &R, alloc: Global) ->
     forms.print(rt)?;
     let mut crowds = Crowds::new(alloc);
     for _ in 0..ROUNDS {
-        crowds.round(rt, alloc, &w)?;
+        crowds.round(rt, alloc, &w, &apart)?;
     }
     crowds.print(rt)
 }
@@ -82,6 +85,8 @@ pub fn times<R: Threads + Wait + Sync + Print + Clock>(rt: &R, alloc: Global) ->
 struct Forms {
     pool: Vec<u128>,
     plain: Vec<u128>,
+    pools: Vec<u128>,
+    plain_in_turn: Vec<u128>,
     booth: Vec<u128>,
     split: Vec<u128>,
     hall: Vec<u128>,
@@ -97,6 +102,8 @@ impl Forms {
         Forms {
             pool: Vec::new(alloc),
             plain: Vec::new(alloc),
+            pools: Vec::new(alloc),
+            plain_in_turn: Vec::new(alloc),
             booth: Vec::new(alloc),
             split: Vec::new(alloc),
             hall: Vec::new(alloc),
@@ -105,10 +112,13 @@ impl Forms {
 
     // A round of each form.
     fn round<R: Wait + Clock>(&mut self, rt: &R, alloc: Global, w: &Workload) -> io::Result<()>
-        requires { 0 < length w.now.pools }
+        requires { 4 ≤ length w.now.pools }
     {
         self.pool.push(each_call(pool_time(rt, alloc)?))?;
         self.plain.push(each_call(plain_time(rt, alloc, w)?))?;
+        self.pools.push(each_call(pools_time(rt, alloc)?))?;
+        self.plain_in_turn
+            .push(each_call(plain_in_turn_time(rt, alloc, w)?))?;
         self.booth.push(each_call(booth_time(rt, alloc)?))?;
         self.split.push(each_call(split_time(rt, alloc, w)?))?;
         self.hall.push(each_call(hall_time(rt, alloc, w)?))?;
@@ -118,10 +128,13 @@ impl Forms {
     fn print<R: Print>(&mut self, rt: &R) -> io::Result<()> {
         let pool = print_form(rt, "a pool", &mut self.pool)?;
         let plain = print_form(rt, "over Plain", &mut self.plain)?;
+        let pools = print_form(rt, "4 pools in turn", &mut self.pools)?;
+        let in_turn = print_form(rt, "over Plain, 4 pools in turn", &mut self.plain_in_turn)?;
         let booth = print_form(rt, "a booth", &mut self.booth)?;
         let split = print_form(rt, "over Split", &mut self.split)?;
         let hall = print_form(rt, "over Hall", &mut self.hall)?;
         print_ratio(rt, "Plain to a pool", plain, pool)?;
+        print_ratio(rt, "Plain to pools, in turn", in_turn, pools)?;
         print_ratio(rt, "Split to a booth", split, booth)?;
         print_ratio(rt, "Hall to Split", hall, split)
     }
@@ -157,6 +170,8 @@ fn print_ratio<R: Print>(
 struct Crowds {
     split_alone: Vec<u128>,
     split: Vec<u128>,
+    split_apart_alone: Vec<u128>,
+    split_apart: Vec<u128>,
     hall_alone: Vec<u128>,
     hall: Vec<u128>,
 }
@@ -171,32 +186,49 @@ impl Crowds {
         Crowds {
             split_alone: Vec::new(alloc),
             split: Vec::new(alloc),
+            split_apart_alone: Vec::new(alloc),
+            split_apart: Vec::new(alloc),
             hall_alone: Vec::new(alloc),
             hall: Vec::new(alloc),
         }
     }
 
-    // A round of one thread and of four, over `Split` and `Hall`.
+    // A round of one thread and of four, over `Split` and `Hall`, on neighbouring sites; over `Split` also on sites that are apart.
     fn round<R: Threads + Wait + Sync + Clock>(
         &mut self,
         rt: &R,
         alloc: Global,
         w: &Workload,
+        apart: &Workload,
     ) -> io::Result<()> {
         self.split_alone
-            .push(each_made(split_work(rt, alloc, w, 1, LONG)?))?;
+            .push(each_made(split_work(rt, alloc, w, 1, 1, LONG)?))?;
         self.split
-            .push(each_made(split_work(rt, alloc, w, 4, LONG)?))?;
+            .push(each_made(split_work(rt, alloc, w, 4, 1, LONG)?))?;
+        self.split_apart_alone
+            .push(each_made(split_work(rt, alloc, apart, 1, SPREAD, LONG)?))?;
+        self.split_apart
+            .push(each_made(split_work(rt, alloc, apart, 4, SPREAD, LONG)?))?;
         self.hall_alone
-            .push(each_made(hall_work(rt, alloc, w, 1, LONG)?))?;
+            .push(each_made(hall_work(rt, alloc, w, 1, 1, LONG)?))?;
         self.hall
-            .push(each_made(hall_work(rt, alloc, w, 4, LONG)?))?;
+            .push(each_made(hall_work(rt, alloc, w, 4, 1, LONG)?))?;
         Ok(())
     }
 
     fn print<R: Print>(&mut self, rt: &R) -> io::Result<()> {
         let split_alone = print_form(rt, "1 thread over Split", &mut self.split_alone)?;
         let split = print_form(rt, "4 threads over Split", &mut self.split)?;
+        let apart_alone = print_form(
+            rt,
+            "1 thread over Split, sites apart",
+            &mut self.split_apart_alone,
+        )?;
+        let apart = print_form(
+            rt,
+            "4 threads over Split, sites apart",
+            &mut self.split_apart,
+        )?;
         let hall_alone = print_form(rt, "1 thread over Hall", &mut self.hall_alone)?;
         let hall = print_form(rt, "4 threads over Hall", &mut self.hall)?;
         print_ratio(
@@ -204,6 +236,12 @@ impl Crowds {
             "calls a second of 4 threads to 1, Split",
             split_alone,
             split,
+        )?;
+        print_ratio(
+            rt,
+            "calls a second of 4 threads to 1, Split, sites apart",
+            apart_alone,
+            apart,
         )?;
         print_ratio(
             rt,

@@ -5,7 +5,6 @@
 mod booth;
 mod chains;
 mod commons;
-mod rounds;
 mod streams;
 mod texts;
 

@@ -3,13 +3,13 @@ ghost use Rattle.std.specs.Prelude.{◌≡◌, ◌<◌, All, IfOk, IfSome, lengt
 ghost use Rattle.abt_machine.specs.Pieces.{IsPieceOf};
 ghost use Rattle.abt_report.specs.Pictures.{SaysWordsOf};
 
-use crate::rounds::least_and_middle;
 use abt_machine::{
     Cause, Code, Event, Journal, Op, Outcome, Output, Piece, PoolNo, Shown, StreamNo, UnitNo, Want,
     What, Workload,
 };
 use abt_report::{NotJournal, Picture, Row, journal_text, read_journal, report};
 use abt_workload::{NotRead, read, write};
+use bench_times::least_and_middle;
 use std::alloc::Global;
 use std::io;
 use std::rt::Clock;

@@ -3,7 +3,7 @@
 ghost use Rattle.std.specs.Prelude.{◌≡◌, ◌<◌, ◌≤◌, length, IfOk};
 
 use super::shelf::{Shelf, turns as shelf_turns};
-use super::turns::{bare_turns, turns};
+use super::turns::{bare_turns, bare_turns_in_turn, turns, turns_in_turn};
 use super::workers::{work_over_hall, work_over_split};
 use abt_booth::Booth;
 use abt_commons::{Commons, Hall, Objects, Plain, Split};
@@ -71,6 +71,17 @@ pub fn pool_time<R: Clock>(rt: &R, alloc: Global) -> io::Result<Duration> {
     start.elapsed(rt)
 }
 
+/// Turns of four pools with nothing round them, each of the next one.
+pub fn pools_time<R: Clock>(rt: &R, alloc: Global) -> io::Result<Duration> {
+    let mut pools = Vec::new(alloc);
+    for _ in 0..4 {
+        pools.push(new_pool(alloc)?)?;
+    }
+    let start = Instant::now(rt)?;
+    bare_turns_in_turn(&mut pools, TURNS);
+    start.elapsed(rt)
+}
+
 /// Turns of a pool behind a booth.
 pub fn booth_time<R: Clock + Wait>(rt: &R, alloc: Global) -> io::Result<Duration> {
     let shelf = Shelf {
@@ -93,6 +104,16 @@ pub fn plain_time<R: Clock>(rt: &R, alloc: Global, w: &Workload) -> io::Result<D
 {
     let (plain, mut pass) = Plain::make(placed(alloc, w)?);
     time(rt, &plain, &mut pass)
+}
+
+/// Turns of four pools over `Plain`, each of the next one.
+pub fn plain_in_turn_time<R: Clock>(rt: &R, alloc: Global, w: &Workload) -> io::Result<Duration>
+    requires { 4 ≤ length w.now.pools }
+{
+    let (plain, mut pass) = Plain::make(placed(alloc, w)?);
+    let start = Instant::now(rt)?;
+    turns_in_turn(&plain, &mut pass, TURNS);
+    start.elapsed(rt)
 }
 
 /// Turns of a pool over `Split`.
@@ -121,12 +142,14 @@ pub fn hall_time<R: Clock + Wait>(rt: &R, alloc: Global, w: &Workload) -> io::Re
     time(rt, &hall, &mut pass)
 }
 
-/// So many turns on each of some threads over `Split`: how many all made, and what they took.
+/// So many turns on each of some threads over `Split`, each on a pool of its own, between two of which `spread` - 1 stand: how
+/// many all made, and what they took.
 pub fn split_work<R: Clock + Threads + Wait + Sync>(
     rt: &R,
     alloc: Global,
     w: &Workload,
     threads: u32,
+    spread: u32,
     times: u32,
 ) -> io::Result<(u64, Duration)>
     requires { 1 ≤ threads }
@@ -135,7 +158,7 @@ pub fn split_work<R: Clock + Threads + Wait + Sync>(
         return Err(no_memory());
     };
     let start = Instant::now(rt)?;
-    let made = work_over_split(rt, &split, passes, w, times)?;
+    let made = work_over_split(rt, &split, passes, w, spread, times)?;
     Ok((made, start.elapsed(rt)?))
 }
 
@@ -145,6 +168,7 @@ pub fn hall_work<R: Clock + Threads + Wait + Sync>(
     alloc: Global,
     w: &Workload,
     threads: u32,
+    spread: u32,
     times: u32,
 ) -> io::Result<(u64, Duration)>
     requires { 1 ≤ threads }
@@ -153,6 +177,6 @@ pub fn hall_work<R: Clock + Threads + Wait + Sync>(
         return Err(no_memory());
     };
     let start = Instant::now(rt)?;
-    let made = work_over_hall(rt, &hall, passes, w, times)?;
+    let made = work_over_hall(rt, &hall, passes, w, spread, times)?;
     Ok((made, start.elapsed(rt)?))
 }

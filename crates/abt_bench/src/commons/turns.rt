@@ -1,6 +1,6 @@
 //! Turns of a pool: its first unit is taken out and put back, in two calls.
 
-ghost use Rattle.std.specs.Prelude.{◌≡◌, ◌<◌, length, IfSome};
+ghost use Rattle.std.specs.Prelude.{◌≡◌, ◌<◌, ◌≤◌, length, IfSome};
 ghost use Rattle.abt_unit.specs.Fits.{Fits};
 ghost use Rattle.abt_unit.specs.Units.{IsFree};
 
@@ -76,5 +76,41 @@ pub fn bare_turns(pool: &mut Pool, times: u32) {
         if let Some(unit) = pool.take(Side::Front) {
             pool.put(unit);
         }
+    }
+}
+
+/// So many turns, each of the next of four pools.
+pub fn turns_in_turn<'w, C: Commons<'w>>(commons: &C, pass: &mut C::Pass, times: u32)
+    requires pass { C.is_of commons.now pass.old }
+    requires pools { 4 ≤ length (C.workload commons.now).pools }
+{
+    for i in 0..times {
+        turn(commons, pass, PoolNo(i % 4));
+    }
+}
+
+/// The same of pools with nothing round them, each of which is reached by its number for each call.
+pub fn bare_turns_in_turn(pools: &mut Vec<Pool>, times: u32) {
+    for i in 0..times {
+        let p = i as usize % 4;
+        if let Some(unit) = take_from(pools, p) {
+            put_into(pools, p, unit);
+        }
+    }
+}
+
+#[inline(always)]
+fn take_from(pools: &mut Vec<Pool>, p: usize) -> Option<Box<Unit>>
+    ensures { IfSome result (λ unit. IsFree unit.value) }
+{
+    pools.get_mut(p)?.take(Side::Front)
+}
+
+#[inline(always)]
+fn put_into(pools: &mut Vec<Pool>, p: usize, unit: Box<Unit>)
+    requires { IsFree unit.value }
+{
+    if let Some(pool) = pools.get_mut(p) {
+        pool.put(unit);
     }
 }

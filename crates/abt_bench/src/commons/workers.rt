@@ -14,18 +14,19 @@ use std::sync::atomic::{AtomicU64, Ordering};
 use std::thread;
 use std::thread::Threads;
 
-// So many turns of the next pool that no thread has yet, if there is one. Returns how many were made.
+// So many turns of the next pool that no thread has yet, of every `spread`-th, if there is one. Returns how many were made.
 fn work<'w, C: Commons<'w>>(
     commons: &C,
     pass: &mut C::Pass,
     w: &Workload,
     next: &AtomicU64,
+    spread: u32,
     times: u32,
 ) -> u32
     requires workload { C.workload commons.now ≡ w.now }
     requires pass { C.is_of commons.now pass.old }
 {
-    let pool = next.fetch_add(1, Ordering::SeqCst);
+    let pool = next.fetch_add(u64::from(spread), Ordering::SeqCst);
     if pool >= u64::from(w.pools()) {
         return 0;
     }
@@ -38,6 +39,7 @@ pub fn work_over_split<'w, R: Threads + Wait + Sync>(
     split: &Split<'w, R>,
     passes: Vec<SplitPass<'w>>,
     w: &Workload,
+    spread: u32,
     times: u32,
 ) -> Result<u64, AllocError>
     requires workload { split.now.workload ≡ w.now }
@@ -49,7 +51,7 @@ pub fn work_over_split<'w, R: Threads + Wait + Sync>(
         passes,
         &|mut pass|
             requires { (split.now.workload ≡ w.now) × IsPassOf split.now pass }
-        { work(split, &mut pass, w, &next, times) },
+        { work(split, &mut pass, w, &next, spread, times) },
     )?;
     Ok(sum(made.as_slice()))
 }
@@ -60,6 +62,7 @@ pub fn work_over_hall<'w, R: Threads + Wait + Sync>(
     hall: &Hall<'w, R>,
     passes: Vec<HallPass<'w>>,
     w: &Workload,
+    spread: u32,
     times: u32,
 ) -> Result<u64, AllocError>
     requires workload { (opening_of hall.now.booth).workload ≡ w.now }
@@ -71,7 +74,7 @@ pub fn work_over_hall<'w, R: Threads + Wait + Sync>(
         passes,
         &|mut pass|
             requires { ((opening_of hall.now.booth).workload ≡ w.now) × IsSeatOf hall.now.booth pass }
-        { work(hall, &mut pass, w, &next, times) },
+        { work(hall, &mut pass, w, &next, spread, times) },
     )?;
     Ok(sum(made.as_slice()))
 }

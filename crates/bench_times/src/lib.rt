@@ -1,4 +1,5 @@
 //! What many rounds of one piece of work took.
+#![tactic(auto)]
 
 use std::fmt::{self, Display, Formatter, Write};
 use std::io;

@@ -1,0 +1,5 @@
+pub mod Acts
+pub mod Keeps
+pub mod Parts
+pub mod RwLocks
+pub mod Values
