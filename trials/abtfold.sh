@@ -66,9 +66,7 @@ try_few_bytes() {
 }
 
 try_writing() {
-    "$program" 3 100 >/dev/full 2>"$room/err"
-    status=$?
-    ended "a full device" 6 ""
+    fills "" "$program" 3 100
     "$program" 3 100 >&- 2>"$room/err"
     status=$?
     ended "a closed standard output" 6 ""

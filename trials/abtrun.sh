@@ -93,7 +93,7 @@ try_faults() {
 tally units 1 unborn 0 pool 0 stream 0 blocked 0 done 1 asked 0 access 0 steps 1
 finished' ""
     hello | LC_ALL=C sed $'10s/.*/say \xff/' | refused utf8 10
-    hello | sed '1s/.*/abt 2/' | refused version 1
+    hello | sed '1s/.*/abt 3/' | refused version 1
     hello | sed '10s/.*/sing hello/' | refused unknown 10
     hello | sed '10s/.*/say hello you/' | refused shape 10
     hello | sed '8s/.*/units one/' | refused number 8
@@ -270,9 +270,7 @@ try_reading() {
 }
 
 try_writing() {
-    "$program" run "$hi" >/dev/full 2>"$room/err"
-    status=$?
-    ended "a full device" 6 "$cannot_write"
+    fills "$cannot_write" "$program" run "$hi"
     "$program" run "$hi" >&- 2>"$room/err"
     status=$?
     ended "a closed standard output" 6 "$cannot_write"
@@ -284,8 +282,9 @@ try_writing() {
     limited "$program" run "$room/varied.abt"
     head -c 1024 "$room/varied.out" >"$room/wanted"
     came "a file that may not grow" 6 "@$room/wanted" "$cannot_write"
-    local way
-    for way in '2>/dev/full' '2>&-' '2>&- <&-'; do
+    local way ways
+    closed_ways
+    for way in "${ways[@]}"; do
         eval "\"\$program\" walk >\"\$room/out\" $way"
         status=$?
         : >"$room/err"
@@ -298,9 +297,12 @@ try_writing() {
     status=$?
     : >"$room/err"
     ended "all three closed" 6 ""
-    "$program" run "$hi" >/dev/full 2>/dev/full
-    status=$?
-    ended "both devices full" 6 ""
+    if has_full_device; then
+        "$program" run "$hi" >/dev/full 2>/dev/full
+        status=$?
+        : >"$room/err"
+        ended "both devices full" 6 ""
+    fi
     "$program" run "$hi" >"$room/out" 2>&1
     status=$?
     came "both outputs in one file" 0 "$hi_report" ""

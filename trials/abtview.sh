@@ -14,7 +14,6 @@ write_refused() {
 {"ph":"M","pid":0,"tid":0,"name":"thread_name","args":{"name":"stream 0"}},
 {"ph":"X","pid":0,"tid":0,"ts":1.0,"dur":1.8,"name":"unit 7"},
 {"ph":"X","pid":0,"tid":0,"ts":1.1,"dur":0.6,"name":"take"},
-{"ph":"f","pid":0,"tid":0,"ts":1.4,"bp":"e","cat":"pool","name":"pool","id":7},
 {"ph":"X","pid":0,"tid":0,"ts":2.1,"dur":0.6,"name":"refused"},
 {"ph":"i","pid":0,"tid":0,"ts":2.4,"s":"t","name":"refused, unit 7"}
 ]}
@@ -64,10 +63,48 @@ try_views() {
         '{"ph":"M","pid":0,"name":"process_name","args":{"name":"abtrun"}}' ']}')" ""
 }
 
-# Whether a file is well-formed.
+# Whether python3 is there, which says whether a file is well-formed.
+has_python() {
+    python3 -c 'import json, xml.dom.minidom' 2>/dev/null || {
+        skip "the views are well-formed" "python3 cannot be run"
+        false
+    }
+}
+
 is_xml() { python3 -c 'import sys, xml.dom.minidom; xml.dom.minidom.parse(sys.argv[1])' "$1" 2>/dev/null; }
 
-is_json() { python3 -c 'import json, sys; json.load(open(sys.argv[1]))' "$1" 2>/dev/null; }
+# Whether a file is a trace: on each track slices nest, and each arrow leads from the slice of an event to that of a later one.
+is_trace() {
+    python3 - "$1" 2>/dev/null <<'PYTHON'
+import collections, fractions, json, sys
+
+items = json.load(open(sys.argv[1]), parse_float=fractions.Fraction)["traceEvents"]
+slices, frames, arrows = (collections.defaultdict(list) for _ in range(3))
+for item in items:
+    phase = item["ph"]
+    if phase == "X":
+        slices[item["tid"]].append((item["ts"], item["ts"] + item["dur"]))
+    elif phase == "B":
+        frames[item["tid"]].append(item["ts"])
+    elif phase == "E":
+        slices[item["tid"]].append((frames[item["tid"]].pop(), item["ts"]))
+    elif phase in "stf":
+        arrows[item["id"]].append(item)
+assert not any(frames.values())
+for track in slices.values():
+    around = []
+    for begin, end in sorted(track, key=lambda slice: (slice[0], -slice[1])):
+        while around and around[-1] <= begin:
+            around.pop()
+        assert not around or end <= around[-1]
+        around.append(end)
+for points in arrows.values():
+    assert "".join(point["ph"] for point in points) in ("sf", "stf")
+    assert all(one["ts"] < two["ts"] and one["name"] == two["name"] for one, two in zip(points, points[1:]))
+    for point in points:
+        assert any(begin <= point["ts"] <= end for begin, end in slices[point["tid"]] if end - begin < 1)
+PYTHON
+}
 
 # What abtrun prints is drawn as in the documents, and the views are well-formed.
 try_runs() {
@@ -79,12 +116,12 @@ try_runs() {
     "$run" run "$root/crates/abt_examples/data/stacked.abt" --journal | grep '^[0-9]' >"$room/text"
     call "$program" svg "$room/text"
     came "the picture of docs/VIEW.md" 0 "@$root/docs/stacked.svg" ""
-    for example in stacked streams stealing; do
+    ! has_python || for example in stacked streams stealing; do
         "$run" run "$root/crates/abt_examples/data/$example.abt" --journal | grep '^[0-9]' >"$room/text"
         call "$program" svg "$room/text"
         holds "the svg of $example is XML" is_xml "$room/out"
         call "$program" trace "$room/text"
-        holds "the trace of $example is JSON" is_json "$room/out"
+        holds "the trace of $example is one" is_trace "$room/out"
     done
     "$run" run "$root/crates/abt_examples/data/stacked.abt" --journal >"$room/text"
     call "$program" svg "$room/text"
@@ -203,9 +240,7 @@ try_reading() {
 }
 
 try_writing() {
-    "$program" svg "$journal" >/dev/full 2>"$room/err"
-    status=$?
-    ended "a full device" 6 "$cannot_write"
+    fills "$cannot_write" "$program" svg "$journal"
     "$program" svg "$journal" >&- 2>"$room/err"
     status=$?
     ended "a closed standard output" 6 "$cannot_write"
@@ -217,8 +252,9 @@ try_writing() {
     limited "$program" svg "$journal"
     head -c 1024 "$picture" >"$room/wanted"
     came "a file that may not grow" 6 "@$room/wanted" "$cannot_write"
-    local way
-    for way in '2>/dev/full' '2>&-' '2>&- <&-'; do
+    local way ways
+    closed_ways
+    for way in "${ways[@]}"; do
         eval "\"\$program\" draw >\"\$room/out\" $way"
         status=$?
         : >"$room/err"

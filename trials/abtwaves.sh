@@ -65,7 +65,7 @@ ROWS
     { head -c 65537 /dev/zero | tr '\0' '#'; } >"$room/long.lives"
     call "$program" "$lives/made.abt" "$room/long.lives"
     came "lives of 65,537 bytes" 3 "" "abtwaves: line 0: life"
-    echo "abt 2" >"$room/bad.abt"
+    echo "abt 3" >"$room/bad.abt"
     call "$program" "$room/bad.abt" "$room/long.lives"
     came "a workload that is refused first" 3 "" "abtwaves: line 1: version"
 }
@@ -80,9 +80,7 @@ try_reading() {
 }
 
 try_writing() {
-    "$program" "$lives/made.abt" "$lives/made.lives" >/dev/full 2>"$room/err"
-    status=$?
-    ended "a full device" 6 "abtwaves: cannot write"
+    fills "abtwaves: cannot write" "$program" "$lives/made.abt" "$lives/made.lives"
     "$program" "$lives/made.abt" "$lives/made.lives" >&- 2>"$room/err"
     status=$?
     ended "a closed standard output" 6 "abtwaves: cannot write"

@@ -1,7 +1,10 @@
 # What the trials share. A trial is a call and what it must have come to.
 
-# The most seconds that one call may take.
-most=60
+# What tools say is the same everywhere.
+export LC_ALL=C
+
+# The most seconds that one call may take. It ends a call that hangs, and says nothing of how fast one is.
+most=600
 passed=0
 failed=0
 
@@ -15,6 +18,28 @@ miss() {
     failed=$((failed + 1))
     echo "FAILED: $subject: $1: $2"
 }
+
+# skip TITLE WHY: a trial that needs what this machine does not have.
+skip() { echo "skipped: $subject: $1: $2"; }
+
+# Sets $room to a new folder in which files can be run, which goes at the end: below the system's folder for temporary files
+# or, if nothing can be run there, below out/.
+make_room() {
+    local parent
+    trap 'rm -rf "$room"' EXIT
+    trap 'exit 130' INT
+    trap 'exit 143' TERM HUP
+    for parent in "${TMPDIR:-/tmp}" "$root/out"; do
+        room=$(mktemp -d "$parent/trials.XXXXXX") || continue
+        printf '#!/bin/sh\n' >"$room/probe" && chmod +x "$room/probe" && "$room/probe" 2>/dev/null && rm "$room/probe" && return
+        rm -rf "$room"
+    done
+    echo "trials: files can be run neither in ${TMPDIR:-/tmp} nor in $root/out" >&2
+    exit 70
+}
+
+# Whether there is a device that is always full.
+has_full_device() { [ -c /dev/full ] && ! echo >/dev/full; } 2>/dev/null
 
 # call COMMAND WORDS..: its status, and its outputs in $room/out and $room/err.
 call() {
@@ -48,6 +73,25 @@ came() {
 ended() {
     : >"$room/out"
     came "$1" "$2" "" "$3"
+}
+
+# fills ERR COMMAND..: a call that writes to a full device, and what it says.
+fills() {
+    local said=$1
+    shift
+    if has_full_device; then
+        "$@" >/dev/full 2>"$room/err"
+        status=$?
+        ended "a full device" 6 "$said"
+    else
+        skip "a full device" "there is no /dev/full"
+    fi
+}
+
+# Sets $ways to redirections by which nothing can be written to standard error.
+closed_ways() {
+    ways=('2>&-' '2>&- <&-')
+    if has_full_device; then ways+=('2>/dev/full'); fi
 }
 
 # unread COMMAND..: a call that writes to a pipe that nobody reads.
@@ -88,7 +132,8 @@ signalled() {
     local signal=$1 wanted=$2 given=$3 pid
     shift 3
     mkfifo "$room/signal"
-    "$@" <"$room/signal" >"$room/out" 2>"$room/err" &
+    # (what ignores a signal where the trials are started must not make the program ignore it)
+    env --default-signal "$@" <"$room/signal" >"$room/out" 2>"$room/err" &
     pid=$!
     exec 7>"$room/signal"
     cat "$given" >&7
@@ -116,10 +161,10 @@ holds() {
     if "$@"; then pass; else miss "$title" "not so: $*"; fi
 }
 
-# Waits until the file has something, at most ten seconds.
+# Waits until the file has something, at most two minutes.
 until_there() {
     local count=0
-    until [ -s "$1" ] || [ $((count += 1)) -gt 100 ]; do sleep 0.1; done
+    until [ -s "$1" ] || [ $((count += 1)) -gt 1200 ]; do sleep 0.1; done
 }
 
 # meddled SETTING.. PROGRAM WORDS..: a call of a program that trials/meddle.c meddles with, by these settings.

@@ -6,9 +6,11 @@
 make_stand_in() {
     # All commands but the toolchain's.
     mkdir "$room/tools" "$room/bin"
-    local folder
-    for folder in /usr/local/bin /usr/bin /bin; do
-        find "$folder/" -maxdepth 1 ! -type d ! -name rt -exec ln -sf -t "$room/tools" {} + 2>/dev/null
+    local folders folder
+    IFS=: read -ra folders <<<"$PATH"
+    # (of two commands of one name the first stays)
+    for folder in "${folders[@]}"; do
+        case $folder in /*) find "$folder/" -maxdepth 1 ! -type d ! -name rt -exec ln -s -t "$room/tools" {} + 2>/dev/null ;; esac
     done
     cat >"$room/bin/rt" <<'RT'
 #!/bin/sh
@@ -163,7 +165,7 @@ interrupted() {
     as long
     echo bad >"$toy/crates/low/src/lib.rt"
     # (a shell has what it starts in the background ignore INT)
-    env --default-signal=INT "$toy/toy" 0 >"$room/out" 2>"$room/err" &
+    env --default-signal "$toy/toy" 0 >"$room/out" 2>"$room/err" &
     local pid=$!
     until_there "$room/pid"
     kill -s "$1" "$pid"
@@ -201,7 +203,7 @@ try_signals() {
     mkfifo "$room/fifo"
     # What an earlier call wrote must not count as this one's first line.
     rm -f "$room/out"
-    "$toy/toy" 0 <"$room/fifo" >"$room/out" 2>"$room/err" &
+    env --default-signal "$toy/toy" 0 <"$room/fifo" >"$room/out" 2>"$room/err" &
     local pid=$!
     exec 7>"$room/fifo"
     until_there "$room/out"
@@ -216,6 +218,10 @@ try_signals() {
 
 # On a terminal a build names each crate.
 try_terminal() {
+    if ! python3 -c 'import pty; pty.openpty()' 2>/dev/null; then
+        skip "progress on a terminal" "python3 cannot open one"
+        return
+    fi
     as build
     echo term >"$toy/crates/low/src/lib.rt"
     call python3 -c 'import pty, sys; sys.exit(pty.spawn(sys.argv[1:]) >> 8)' \
@@ -233,6 +239,10 @@ try_unwritable() {
     if [ "$(id -u)" = 0 ]; then
         as_nobody=(setpriv --reuid 65534 --regid 65534 --clear-groups)
         chmod 755 "$room"
+        if ! "${as_nobody[@]}" test -x "$toy/toy" 2>/dev/null; then
+            skip "a folder that cannot be written" "setpriv cannot run there as another user"
+            return
+        fi
     else
         chmod -R a-w "$toy"
     fi
@@ -277,7 +287,7 @@ try_gate() {
 
 # The toolchain itself builds a program, refuses a wrong one, and runs one without a proof.
 try_toolchain() {
-    local real="$room/real" most=900
+    local real="$room/real" most=1800
     mkdir -p "$real/crates/small/src"
     cp abtrun "$real/small"
     cp -r try scripts "$real"
