@@ -2,7 +2,7 @@
 
 ghost use Rattle.abt_barrier.specs.Keeps.{BarriersKeepWhatFits};
 
-/// Where the units that a barrier holds and that arrive fit a workload, those that go through and that it then holds do too.
+/// If the units that a barrier holds and that arrive fit a workload, those that go through and that it then holds do too.
 pub fn barriers_keep_what_fits()
     ensures { BarriersKeepWhatFits }
 {}

@@ -8,7 +8,7 @@ use abt_sample::unit;
 use std::alloc::Global;
 use std::test::Fail;
 
-// Who goes through when the unit of that number arrives, first the unit itself; nobody where it waits.
+// Who goes through when the unit of that number arrives, first the unit itself; nobody if it waits.
 fn through(alloc: Global, barrier: &mut Barrier, number: u32) -> Result<Vec<u32>, Want>
     requires { number < 4 }
 {

@@ -39,7 +39,7 @@ use Rattle.abt_bounds.specs.Laws.{EventsKeepAccess, RunsKeepAccess, StartHasAcce
 
 -- Events.
 
--- the next pool of a scheduler's round, where all of its pools may be taken from
+-- the next pool of a scheduler's round, if all of its pools may be taken from
 next-taken : (W : Parts) (Z : List OrderShape) (s p : ℕ) (f : Frame) → IsTrue (may_take_all W s f.sched) → IsNextPool W Z f p → IsTrue (may_take W s p)
 next-taken W Z s p f all next =
     All-contains (λ q. may_take W s q ≡ true) (pools_of W f.sched) p (AllPass-from_list_all (may_take W s) (pools_of W f.sched) all) (next_pool-listed W Z f p next)

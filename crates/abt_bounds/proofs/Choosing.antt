@@ -55,7 +55,7 @@ next-of (x ∷ seen) p q ps qs e = next-of seen p q ps qs (tail-is e)
 next-pool-is : (W : Parts) (Z : List OrderShape) (f : Frame) (p q : ℕ) → HasNoFreeOrder W Z → IsNextPool W Z f p → IsNextPool W Z f q → p ≡ q
 next-pool-is W Z f p q bound n m = next-of f.seen p q n.2.0 m.2.0 (n.2.1 ∙ (orders-are-one W Z bound f.sched f.round n.0 m.0 n.1 m.1 ∙ sym m.2.1))
 
--- The event that may come, by what is due: at pool p where a round is due, of unit u where a leave is.
+-- The event that may come, by what is due: at pool p if a round is due, of unit u if a leave is.
 
 abbrev or_zero : Option ℕ → ℕ
 or_zero None = 0
@@ -108,7 +108,7 @@ named W Z S s (what.Leave u) m = subst (Named W Z S s (what.Leave u)) (sym m.0) 
 framed-is : (W : Parts) (Z : List OrderShape) (S : State) (s u v d : ℕ) → Sound W Z S → S.place u ≡ place.Frame (stream_no s) d → S.place v ≡ place.Frame (stream_no s) d → u ≡ v
 framed-is W Z S s u v d sound a b = sound.one_each (InFrames s) u v d (ap (ticket_in (InFrames s)) a ∙ same-self s d) (ap (ticket_in (InFrames s)) b ∙ same-self s d)
 
--- two rounds visit one pool where it is said that they do
+-- two rounds visit one pool if it is said that they do
 abbrev SamePool : ℕ → ℕ → Due → Type 0
 SamePool p q RoundDue = p ≡ q
 SamePool p q _ = Unit {0}

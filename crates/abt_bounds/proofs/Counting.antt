@@ -111,7 +111,7 @@ steps-by-life W u now m (e ∷ es) l =
     let own : added_steps u now e.what now ≡ step_by u e.what = added-now u now e.what in
     omega (arith, steps_by-cons u e es)
 
--- where life 0 has none and each other n at most
+-- if life 0 has none and each other n at most
 pub sum-of-lives : (f : ℕ → ℕ) (m n : ℕ) → f 0 ≡ 0 → ((l : ℕ) → 0 < l → f l ≤ n) → sum_up f (suc m) ≤ m * n
 sum-of-lives f zero n none most = let one : sum_up f 1 ≡ sum_up f 0 + f 0 = sum_up-suc f 0 in omega arith
 sum-of-lives f (suc m) n none most =

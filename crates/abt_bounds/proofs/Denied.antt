@@ -1,5 +1,5 @@
--- An operation is refused for access exactly where its stream may not reach the pool that it names.
-use Rattle.std.proofs.Common.{◌≡◌, ℕ, Bool, true, false, not, is_none, ◌↔◌, Some, refl, subst}
+-- An operation is refused for access exactly if its stream must not reach the pool that it names.
+use Rattle.std.proofs.Common.{◌≡◌, ℕ, Bool, true, false, not, nat_lt, is_none, ◌↔◌, Some, refl, subst}
 use Rattle.std.proofs.lemmas.Bool.{false≢true}
 use Rattle.abt_machine.specs.declared.events.Code.{Code}
 use Rattle.abt_machine.specs.declared.events.Code.TheVariants as code
@@ -8,6 +8,7 @@ use Rattle.abt_machine.specs.declared.operations.Op.TheVariants as op
 use Rattle.abt_machine.specs.declared.workload.Parts.{Parts}
 use Rattle.abt_machine.specs.Access.{may_put, may_take}
 use Rattle.abt_machine.specs.Codes.{code_of, is_alive, is_ended, is_full, is_in_pool, is_suspended, is_unborn, owned_by, unless}
+use Rattle.abt_machine.specs.Holders.{count_of, holds, read_limit, writes}
 use Rattle.abt_machine.specs.Sites.{first_pool}
 use Rattle.abt_machine.specs.State.{State}
 use Rattle.abt_machine.specs.Workloads.{body_at, is_sched, mutex_of}
@@ -66,6 +67,15 @@ module _ (W : Parts) (S : State) (s u : ℕ) where
   denied (op.CondWait x) = free (op.CondWait x) (unless-other (owned_by S u (mutex_of W x.0)) code.NotOwner code.Ok tt tt) (tt, tt)
   denied (op.EvSet x) = free (op.EvSet x) (unless-other (is_none (S.eventual x.0)) code.EventualSet code.Ok tt tt) (tt, tt)
   denied (op.FuSet x) = free (op.FuSet x) (unless-other (not (is_full W S x.0)) code.FutureFull code.Ok tt tt) (tt, tt)
+  denied (op.ReadLock x) =
+      free (op.ReadLock x)
+      (unless-other (not (writes u (S.rwlock x.0))) code.RwHeld (unless (nat_lt (count_of u (S.rwlock x.0)) read_limit) code.RwFull code.Ok) tt
+      (unless-other (nat_lt (count_of u (S.rwlock x.0)) read_limit) code.RwFull code.Ok tt tt))
+      (tt, tt)
+  denied (op.WriteLock x) = free (op.WriteLock x) (unless-other (not (holds u (S.rwlock x.0))) code.RwHeld code.Ok tt tt) (tt, tt)
+  denied (op.RwUnlock x) = free (op.RwUnlock x) (unless-other (holds u (S.rwlock x.0)) code.NotHolder code.Ok tt tt) (tt, tt)
+  denied (op.RwLoad x) = free (op.RwLoad x) (unless-other (holds u (S.rwlock x.0)) code.NotHolder code.Ok tt tt) (tt, tt)
+  denied (op.RwStore x) = free (op.RwStore x) (unless-other (writes u (S.rwlock x.0)) code.NotHolder code.Ok tt tt) (tt, tt)
   denied o = free o tt (tt, tt)
 
 pub denied-are-refused : (W : Parts) → DeniedAreRefused W

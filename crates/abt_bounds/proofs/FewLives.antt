@@ -37,7 +37,7 @@ unborn-is : (at : Place) → is_unborn at ≡ true → at ≡ place.Unborn
 unborn-is place.Unborn e = refl
 unborn-is _ e = absurd (false≢true e)
 
--- where an operation that doesn't revive gives unit u a life, u is unborn
+-- if an operation that doesn't revive gives unit u a life, u is unborn
 birth-unborn : (W : Parts) (S : State) (s x u : ℕ) (o : Option Op) → ((v : UnitNo) (p : PoolNo) → o ≡ Some (op.Revive v p) → ⊥) → code_at W S s x o ≡ code.Ok → is_birth u o ≡ true → S.place u ≡ place.Unborn
 birth-unborn W S s x u (Some (op.Create v p)) none ok birth =
     subst (λ n. S.place n ≡ place.Unborn) (eqb-true v.0 u birth) (unborn-is (S.place v.0) (unless-second (may_put W s p.0) (is_unborn (S.place v.0)) code.PoolAccess code.Exists _ tt tt ok))

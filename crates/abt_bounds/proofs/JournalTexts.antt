@@ -55,7 +55,10 @@ code_read name =
     else if bytes_eq name (codes "mutex-locked") then code.MutexLocked
     else if bytes_eq name (codes "not-owner") then code.NotOwner
     else if bytes_eq name (codes "eventual-set") then code.EventualSet
-    else code.FutureFull
+    else if bytes_eq name (codes "future-full") then code.FutureFull
+    else if bytes_eq name (codes "rw-held") then code.RwHeld
+    else if bytes_eq name (codes "rw-full") then code.RwFull
+    else code.NotHolder
 
 code-back : (c : Code) → code_read (code_name c) ≡ c
 code-back code.Ok = refl
@@ -68,6 +71,9 @@ code-back code.MutexLocked = refl
 code-back code.NotOwner = refl
 code-back code.EventualSet = refl
 code-back code.FutureFull = refl
+code-back code.RwHeld = refl
+code-back code.RwFull = refl
+code-back code.NotHolder = refl
 
 -- the first word, and those after it
 abbrev word_or : List Text → Text
@@ -143,6 +149,9 @@ solid-code code.MutexLocked = solid-by (codes "mutex-locked") refl
 solid-code code.NotOwner = solid-by (codes "not-owner") refl
 solid-code code.EventualSet = solid-by (codes "eventual-set") refl
 solid-code code.FutureFull = solid-by (codes "future-full") refl
+solid-code code.RwHeld = solid-by (codes "rw-held") refl
+solid-code code.RwFull = solid-by (codes "rw-full") refl
+solid-code code.NotHolder = solid-by (codes "not-holder") refl
 
 solid-cause : (c : Cause) → IsSolid (cause_name c)
 solid-cause cause.Done = solid-by (codes "done") refl

@@ -1,4 +1,4 @@
--- Each schedule of streams has a run, and where no order is free just one.
+-- Each schedule of streams has a run, and if no order is free just one.
 use Rattle.std.proofs.Common.{◌≡◌, ℕ, ◌<◌, List, [], ◌∷◌, refl, ap, sym, ◌∙◌, subst}
 use Rattle.std.specs.List.{AllByRecursion}
 use Rattle.abt_machine.specs.declared.events.Event.{Event}

@@ -34,11 +34,11 @@ use Rattle.abt_bounds.specs.Accesses.{FramesHaveAccess, IsWithinAccess, KeepsAcc
 abbrev pub HasNoFreeOrder : Parts → List OrderShape → Type 0
 HasNoFreeOrder W Z = (g k : ℕ) → rule_of W g ≡ Some (rule.User k) → slice_get Z k ≡ Some shape.Free → ⊥
 
--- where no order is free, a round of a scheduler has one order at most
+-- if no order is free, a round of a scheduler has one order at most
 abbrev pub OrdersAreOne : Parts → List OrderShape → Type 0
 OrdersAreOne W Z = HasNoFreeOrder W Z → (g r : ℕ) (one two : List ℕ) → IsOrder W Z g r one → IsOrder W Z g r two → one ≡ two
 
--- where no order is free, a stream of a sound state has one event at most that may come
+-- if no order is free, a stream of a sound state has one event at most that may come
 abbrev pub OneNext : Parts → List OrderShape → Type 0
 OneNext W Z = HasNoFreeOrder W Z → (S : State) (s : ℕ) (w v : What) → Sound W Z S → May W Z S s w → May W Z S s v → w ≡ v
 
@@ -76,7 +76,7 @@ NothingWider W Z = (wide : State → ℕ → What → Bool) →
 abbrev pub turns : List Event → List (ℕ × ℕ)
 turns J = map (λ e. (e.stamp, e.stream.0)) J
 
--- where no order is free, whose turn it is determines the run
+-- if no order is free, whose turn it is determines the run
 abbrev pub OneRunOfTurns : Parts → List OrderShape → Type 0
 OneRunOfTurns W Z = IsValid W → OrdersStored W Z → HasNoFreeOrder W Z → (J K : List Event) → Run W Z J → Run W Z K → turns J ≡ turns K → J ≡ K
 
@@ -90,7 +90,7 @@ SomeRunOfTurns W Z = IsValid W → OrdersStored W Z → (ts : List (ℕ × ℕ))
 abbrev pub StartHasAccess : Parts → Type 0
 StartHasAccess W = IsValid W → FramesHaveAccess W (start W)
 
--- where this holds, each event keeps to the access of pools, and it holds afterwards
+-- if this holds, each event keeps to the access of pools, and it holds afterwards
 abbrev pub EventsKeepAccess : Parts → List OrderShape → Type 0
 EventsKeepAccess W Z = (S T : State) (e : Event) → FramesHaveAccess W S → After W Z S e T → KeepsAccess W e.stream.0 e.what × FramesHaveAccess W T
 
@@ -99,7 +99,7 @@ abbrev pub RunsKeepAccess : Parts → List OrderShape → Type 0
 RunsKeepAccess W Z = IsValid W → (J : List Event) → Run W Z J →
     ((e : Event) → Contains J e → KeepsAccess W e.stream.0 e.what) × FramesHaveAccess W (last_state W J)
 
--- an operation is refused for access exactly where its stream may not reach the pool that it names
+-- an operation is refused for access exactly if its stream must not reach the pool that it names
 abbrev pub DeniedAreRefused : Parts → Type 0
 DeniedAreRefused W = (S : State) (s u : ℕ) (o : Op) → (code_of W S s u o ≡ code.PoolAccess) ↔ (IsWithinAccess W s (Some o) → ⊥)
 
@@ -160,7 +160,7 @@ LivesAreFew W Z = IsValid W → OrdersStored W Z → HasNoRevive W → (J : List
 abbrev pub StepsAreFew : Parts → List OrderShape → Type 0
 StepsAreFew W Z = IsValid W → OrdersStored W Z → HasNoRevive W → (J : List Event) → Run W Z J → steps_in J ≤ ops_in W
 
--- and where each stream may make that many, none is ever spent
+-- and if each stream may make that many, none is ever spent
 abbrev pub StepsBoundBudgets : Parts → List OrderShape → Type 0
 StepsBoundBudgets W Z = IsValid W → OrdersStored W Z → HasNoRevive W → (n s : ℕ) (J : List Event) → ops_in W ≤ n → Run W Z J → Spent W n J s → ⊥
 

@@ -20,7 +20,7 @@ pub fn steps_are_few()
     ensures { (W : Parts) (Z : List OrderShape) → StepsAreFew W Z }
 {}
 
-/// And where each stream may make that many, none is ever spent.
+/// And if each stream may make that many, none is ever spent.
 pub fn steps_bound_budgets()
     ensures { (W : Parts) (Z : List OrderShape) → StepsBoundBudgets W Z }
 {}

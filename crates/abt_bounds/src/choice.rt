@@ -5,12 +5,12 @@ ghost use Rattle.abt_machine.specs.declared.operations.OrderShape.{OrderShape};
 ghost use Rattle.abt_machine.specs.declared.workload.Parts.{Parts};
 ghost use Rattle.abt_bounds.specs.Laws.{FreeOrdersAreFree, NothingWider, OneAtEachPool, OneNext, OneRunOfTurns, OrdersAreOne, SomeAfter, SomeNext, SomeRunOfTurns};
 
-/// Where no order is free, a round has one order at most.
+/// If no order is free, a round has one order at most.
 pub fn orders_are_one()
     ensures { (W : Parts) (Z : List OrderShape) → OrdersAreOne W Z }
 {}
 
-/// Where no order is free, a stream of a sound state has one event at most that may come.
+/// If no order is free, a stream of a sound state has one event at most that may come.
 pub fn one_next()
     ensures { (W : Parts) (Z : List OrderShape) → OneNext W Z }
 {}
@@ -30,7 +30,7 @@ pub fn some_after()
     ensures { (W : Parts) (Z : List OrderShape) → SomeAfter W Z }
 {}
 
-/// Where no order is free, whose turn it is determines the run.
+/// If no order is free, whose turn it is determines the run.
 pub fn one_run_of_turns()
     ensures { (W : Parts) (Z : List OrderShape) → OneRunOfTurns W Z }
 {}

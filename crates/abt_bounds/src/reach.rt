@@ -21,7 +21,7 @@ pub fn runs_keep_access()
     ensures { (W : Parts) (Z : List OrderShape) → RunsKeepAccess W Z }
 {}
 
-/// An operation is refused for access exactly where its stream may not reach the pool that it names.
+/// An operation is refused for access exactly if its stream must not reach the pool that it names.
 pub fn denied_are_refused()
     ensures { (W : Parts) → DeniedAreRefused W }
 {}

@@ -2,7 +2,7 @@
 use Rattle.std.specs.Prelude.{◌≡◌, ◌≢◌, ◌⊎◌, ℕ, List, [], ◌∷◌, ◌++◌, Option, codes, decimal}
 use Rattle.abt_machine.specs.Spelling.{SaysNumber}
 use Rattle.abt_machine.specs.Words.{Text, ended}
-use Rattle.abt_source.specs.Source.{Rose, Took, TookFront}
+use Rattle.abt_source.specs.Source.{Rose, Took, TookPrefix}
 use Rattle.abt_callbacks.specs.Runs.{plain_sum}
 use Rattle.abt_callbacks.specs.declared.status.Status.{Status}
 use Rattle.abt_callbacks.specs.declared.status.Status.TheVariants.{Written, BadWords, CannotWrite, OutOfMemory}
@@ -40,7 +40,7 @@ number_of OutOfMemory = 7
 abbrev pub Holds : Status → Call → Type 0
 Holds Written c = (workers n : ℕ) × Asks c.words workers n × Took c.out.0 c.out.1 (sum_line n)
 Holds BadWords c = AsksNothing c.words × Took c.out.0 c.out.1 []
-Holds CannotWrite c = (workers n : ℕ) × Asks c.words workers n × TookFront c.out.0 c.out.1 (sum_line n) × Rose c.faults.0 c.faults.1
+Holds CannotWrite c = (workers n : ℕ) × Asks c.words workers n × TookPrefix c.out.0 c.out.1 (sum_line n) × Rose c.faults.0 c.faults.1
 Holds OutOfMemory c = (workers n : ℕ) × Asks c.words workers n × Took c.out.0 c.out.1 []
 
 -- The exit status has its cause. The words decide whether it is 2, and if no write fails it is 0, 2 or 7.

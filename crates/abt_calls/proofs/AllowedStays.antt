@@ -1,7 +1,7 @@
 -- What may be asked of an object stays so.
 use Rattle.std.proofs.Common.{◌≡◌, sym, ap, subst}
 use Rattle.abt_machine.specs.declared.events.Code.TheVariants as code
-use Rattle.abt_machine.specs.Values.{PoolIs, DeskIs, MonitorIs, EventualIs, FutureIs, BarrierIs, NotHere, PoolValue}
+use Rattle.abt_machine.specs.Values.{PoolIs, DeskIs, MonitorIs, EventualIs, FutureIs, BarrierIs, RwLockIs, NotHere, PoolValue}
 use Rattle.abt_machine.specs.Acts.{Act, Put, Take, Remove, Answer, Given, Rested, Miss, Coded}
 use Rattle.abt_machine.specs.Pools.{PoolGives}
 use Rattle.abt_monitor.proofs.Conditions.{monitors-keep-their-conditions}
@@ -25,4 +25,5 @@ allowed-stays (MonitorIs old) act answer new other gives allowed =
 allowed-stays (EventualIs old) act answer new other gives allowed = subst (λ m. Allows m other) (sym gives.1) allowed
 allowed-stays (FutureIs old) act answer new other gives allowed = subst (λ m. Allows m other) (sym gives.1) allowed
 allowed-stays (BarrierIs old) act answer new other gives allowed = subst (λ m. Allows m other) (sym gives.1) allowed
+allowed-stays (RwLockIs old) act answer new other gives allowed = subst (λ m. Allows m other) (sym gives.1) allowed
 allowed-stays NotHere act answer new other gives allowed = absurd gives

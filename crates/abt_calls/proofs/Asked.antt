@@ -16,13 +16,13 @@ use Rattle.abt_machine.specs.declared.operations.Thing.{Thing}
 use Rattle.abt_machine.specs.declared.operations.Thing.TheVariants as thing
 use Rattle.abt_machine.specs.declared.workload.Parts.{Parts}
 use Rattle.abt_machine.specs.Numbers.{object_no, unit_no}
-use Rattle.abt_machine.specs.Operations.{IsDeclared, IsMutex, IsEventual, IsFuture, IsBarrier}
+use Rattle.abt_machine.specs.Operations.{IsDeclared, IsMutex, IsEventual, IsFuture, IsBarrier, IsRwLock}
 use Rattle.abt_machine.specs.Workloads.{IsCondition, condition_number, is_condition_of, kind_of, mutex_of, mutex_from}
 use Rattle.abt_machine.specs.Access.{may_put, may_take}
 use Rattle.abt_machine.specs.Sites.{first_pool}
 use Rattle.abt_machine.specs.Fronts.{owns}
 use Rattle.abt_machine.specs.Valid.{IsValid}
-use Rattle.abt_machine.specs.Values.{Owned, barrier_at, conditions_from, conditions_of, eventual_at, future_at, monitor_at, waiters_at}
+use Rattle.abt_machine.specs.Values.{Owned, barrier_at, conditions_from, conditions_of, eventual_at, future_at, monitor_at, rwlock_at, waiters_at}
 use Rattle.abt_machine.specs.Acts.{Act, Put, Take, Look, End, moved}
 use Rattle.abt_machine.specs.Acts as act
 use Rattle.abt_machine.specs.Pools.{HasSide}
@@ -34,7 +34,7 @@ use Rattle.abt_unit.specs.Fits.{Fits}
 use Rattle.abt_unit.proofs.Fitting.{Fits-moved}
 use Rattle.abt_chain.specs.Keeping.{Have, IsPoolOf, contents_asked}
 use Rattle.abt_chain.proofs.Kept.{Have-nothing, Have-pool, Have-unit}
-use Rattle.abt_calls.specs.Allowed.{Allows, DeskAllows, MonitorAllows, EventualAllows, BarrierAllows}
+use Rattle.abt_calls.specs.Allowed.{Allows, DeskAllows, MonitorAllows, EventualAllows, BarrierAllows, RwLockAllows}
 use Rattle.abt_calls.specs.Asking.{MayCall, PlansMayCall, TakesMayCall, PutsMayCall, LooksMayCall, EndsMayCall}
 
 -- Sites.
@@ -70,6 +70,9 @@ future-call W x asked is allowed comes = record { site = is; allowed = λ S. sub
 
 barrier-call : (W : Parts) (x : ObjectNo) (asked : Act) → IsBarrier W x.0 → BarrierAllows asked → Comes W asked → MayCall W (site.Barrier x) asked
 barrier-call W x asked is allowed comes = record { site = is; allowed = λ S. subst (λ t. Allows (barrier_at W S x.0 t) asked) (sym is.1) allowed; contents = comes }
+
+rwlock-call : (W : Parts) (x : ObjectNo) (asked : Act) → IsRwLock W x.0 → RwLockAllows asked → Comes W asked → MayCall W (site.Rw x) asked
+rwlock-call W x asked is allowed comes = record { site = is; allowed = λ S. subst (λ t. Allows (rwlock_at W S x.0 t) asked) (sym is) allowed; contents = comes }
 
 -- Conditions.
 
@@ -154,6 +157,11 @@ plan-may W s (op.FuSet x) o valid fits later is = future-call W x (act.Fill o.ca
 plan-may W s (op.FuReset x) o valid fits later is = future-call W x act.Reset is tt (nothing-comes W)
 plan-may W s (op.FuTest x) o valid fits later is = future-call W x act.Test is tt (nothing-comes W)
 plan-may W s (op.BarWait x) o valid fits later is = barrier-call W x (act.Arrive (moved o)) is tt (unit-comes W (moved o) later)
+plan-may W s (op.ReadLock x) o valid fits later is = rwlock-call W x (act.ReadLock (moved o)) is tt (unit-comes W (moved o) later)
+plan-may W s (op.WriteLock x) o valid fits later is = rwlock-call W x (act.WriteLock (moved o)) is tt (unit-comes W (moved o) later)
+plan-may W s (op.RwUnlock x) o valid fits later is = rwlock-call W x (act.RwUnlock o.number) is tt (nothing-comes W)
+plan-may W s (op.RwLoad x) o valid fits later is = rwlock-call W x (act.Load o.number) is tt (nothing-comes W)
+plan-may W s (op.RwStore x) o valid fits later is = rwlock-call W x (act.Store o.number o.carried.acc) is tt (nothing-comes W)
 
 pub plans-may-call : PlansMayCall
 plans-may-call W s a o x asked valid fits is plan =

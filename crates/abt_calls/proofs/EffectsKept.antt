@@ -57,16 +57,16 @@ module _ (u : ℕ) where
   caller-even o asked (Coded c) through back suits = omega (arith, tally-number u (carrying (printed (piece.Refused c)) (moved o)) o refl)
   caller-even o asked (Back b c) through back suits = absurd (back b c suits)
 
-  giver-even : (o : Owned) (asked : Act) (answer : Answer) → NoWoke asked → NoBack asked → Suits asked answer → IsEven o (contents_answered answer).units (to_giver answer) (moved o ∷ [])
-  giver-even o asked (Given b) woke back suits = omega (arith, moved-tally o)
-  giver-even o asked (Through b os) woke back suits = omega (arith, moved-tally o)
-  giver-even o asked (Woke os) woke back suits = absurd (woke os suits)
-  giver-even o asked Rested woke back suits = omega (arith, moved-tally o)
-  giver-even o asked Miss woke back suits = omega (arith, moved-tally o)
-  giver-even o asked (Number n) woke back suits = omega (arith, moved-tally o)
-  giver-even o asked (Asks c m) woke back suits = omega (arith, moved-tally o)
-  giver-even o asked (Coded c) woke back suits = omega (arith, moved-tally o)
-  giver-even o asked (Back b c) woke back suits = absurd (back b c suits)
+  giver-even : (o : Owned) (asked : Act) (answer : Answer) → NoWoke asked → Suits asked answer → IsEven o (contents_answered answer).units (to_giver answer) (moved o ∷ [])
+  giver-even o asked (Given b) woke suits = omega (arith, moved-tally o)
+  giver-even o asked (Through b os) woke suits = omega (arith, moved-tally o)
+  giver-even o asked (Woke os) woke suits = absurd (woke os suits)
+  giver-even o asked Rested woke suits = omega (arith, moved-tally o)
+  giver-even o asked Miss woke suits = omega (arith, moved-tally o)
+  giver-even o asked (Number n) woke suits = omega (arith, moved-tally o)
+  giver-even o asked (Asks c m) woke suits = omega (arith, moved-tally o)
+  giver-even o asked (Coded c) woke suits = omega (arith, moved-tally o)
+  giver-even o asked (Back b c) woke suits = omega (arith, moved-tally o, tally-number u (carrying (printed (piece.Refused c)) b) b refl)
 
   condition-even : (o : Owned) (asked : Act) (answer : Answer) → NoThrough asked → NoWoke asked → Suits asked answer → IsEven o (contents_answered answer).units (to_condition answer) (moved o ∷ [])
   condition-even o asked (Given b) through woke suits = omega (arith, moved-tally o)
@@ -113,12 +113,12 @@ module _ (u : ℕ) where
   plan-keeps W s op.Yield o = local-even o (moved o) refl
   plan-keeps W s (op.YieldTo v p) o =
       reached (may_take W s p.0) (op.YieldTo v p) (site.Pool p) (act.Remove v.0) o (λ answer. yielder-even o (act.Remove v.0) answer (λ b os h. h) (λ os h. h) (λ b c h. h))
-  plan-keeps W s op.Suspend o = λ answer. giver-even o (act.Suspend (moved o)) answer (λ os h. h) (λ b c h. h)
+  plan-keeps W s op.Suspend o = λ answer. giver-even o (act.Suspend (moved o)) answer (λ os h. h)
   plan-keeps W s op.Exit o = refl
   plan-keeps W s (op.Resume v) o = λ answer. caller-even o act.Resume answer (λ b os h. h) (λ b c h. h)
   plan-keeps W s (op.Create v p) o =
       reached (may_put W s p.0) (op.Create v p) (site.Desk v) (act.Create p.0) o (λ answer. caller-even o (act.Create p.0) answer (λ b os h. h) (λ b c h. h))
-  plan-keeps W s (op.Join v) o = λ answer. giver-even o (act.Join (moved o)) answer (λ os h. h) (λ b c h. h)
+  plan-keeps W s (op.Join v) o = λ answer. giver-even o (act.Join (moved o)) answer (λ os h. h)
   plan-keeps W s (op.Cancel v) o = λ answer. caller-even o act.AskCancel answer (λ b os h. h) (λ b c h. h)
   plan-keeps W s (op.Migrate v p) o =
       reached (may_put W s p.0) (op.Migrate v p) (site.Desk v) (act.AskMigrate p.0) o (λ answer. caller-even o (act.AskMigrate p.0) answer (λ b os h. h) (λ b c h. h))
@@ -127,7 +127,7 @@ module _ (u : ℕ) where
   plan-keeps W s (op.Migratable v b) o = λ answer. caller-even o (act.SetMigratable b) answer (λ b os h. h) (λ b c h. h)
   plan-keeps W s (op.Revive v p) o =
       reached (may_put W s p.0) (op.Revive v p) (site.Desk v) (act.Revive p.0) o (λ answer. caller-even o (act.Revive p.0) answer (λ b os h. h) (λ b c h. h))
-  plan-keeps W s (op.Lock x) o = λ answer. giver-even o (act.Lock (moved o)) answer (λ os h. h) (λ b c h. h)
+  plan-keeps W s (op.Lock x) o = λ answer. giver-even o (act.Lock (moved o)) answer (λ os h. h)
   plan-keeps W s (op.TryLock x) o = λ answer. caller-even o (act.TryLock o.number) answer (λ b os h. h) (λ b c h. h)
   plan-keeps W s (op.Unlock x) o = λ answer. caller-even o (act.Unlock o.number) answer (λ b os h. h) (λ b c h. h)
   plan-keeps W s (op.Load x) o = λ answer. caller-even o (act.Load o.number) answer (λ b os h. h) (λ b c h. h)
@@ -135,15 +135,20 @@ module _ (u : ℕ) where
   plan-keeps W s (op.CondWait x) o = λ answer. condition-even o (act.Wait (condition_number W x.0) (moved o)) answer (λ b os h. h) (λ os h. h)
   plan-keeps W s (op.Signal x) o = λ answer. caller-even o (act.Signal (condition_number W x.0)) answer (λ b os h. h) (λ b c h. h)
   plan-keeps W s (op.Broadcast x) o = λ answer. caller-even o (act.Broadcast (condition_number W x.0)) answer (λ b os h. h) (λ b c h. h)
-  plan-keeps W s (op.EvWait x) o = λ answer. giver-even o (act.Await (moved o)) answer (λ os h. h) (λ b c h. h)
+  plan-keeps W s (op.EvWait x) o = λ answer. giver-even o (act.Await (moved o)) answer (λ os h. h)
   plan-keeps W s (op.EvSet x) o = λ answer. caller-even o (act.Fill o.carried.acc) answer (λ b os h. h) (λ b c h. h)
   plan-keeps W s (op.EvReset x) o = λ answer. caller-even o act.Reset answer (λ b os h. h) (λ b c h. h)
   plan-keeps W s (op.EvTest x) o = λ answer. caller-even o act.Test answer (λ b os h. h) (λ b c h. h)
-  plan-keeps W s (op.FuWait x) o = λ answer. giver-even o (act.Await (moved o)) answer (λ os h. h) (λ b c h. h)
+  plan-keeps W s (op.FuWait x) o = λ answer. giver-even o (act.Await (moved o)) answer (λ os h. h)
   plan-keeps W s (op.FuSet x) o = λ answer. caller-even o (act.Fill o.carried.acc) answer (λ b os h. h) (λ b c h. h)
   plan-keeps W s (op.FuReset x) o = λ answer. caller-even o act.Reset answer (λ b os h. h) (λ b c h. h)
   plan-keeps W s (op.FuTest x) o = λ answer. caller-even o act.Test answer (λ b os h. h) (λ b c h. h)
-  plan-keeps W s (op.BarWait x) o = λ answer. giver-even o (act.Arrive (moved o)) answer (λ os h. h) (λ b c h. h)
+  plan-keeps W s (op.BarWait x) o = λ answer. giver-even o (act.Arrive (moved o)) answer (λ os h. h)
+  plan-keeps W s (op.ReadLock x) o = λ answer. giver-even o (act.ReadLock (moved o)) answer (λ os h. h)
+  plan-keeps W s (op.WriteLock x) o = λ answer. giver-even o (act.WriteLock (moved o)) answer (λ os h. h)
+  plan-keeps W s (op.RwUnlock x) o = λ answer. caller-even o (act.RwUnlock o.number) answer (λ b os h. h) (λ b c h. h)
+  plan-keeps W s (op.RwLoad x) o = λ answer. caller-even o (act.Load o.number) answer (λ b os h. h) (λ b c h. h)
+  plan-keeps W s (op.RwStore x) o = λ answer. caller-even o (act.Store o.number o.carried.acc) answer (λ b os h. h) (λ b c h. h)
 
   pub effect-even : (W : Parts) (s : ℕ) (a : Op) (o : Owned) (x : Site) (asked : Act) (answer : Answer) → plan_of W s a o ≡ Calls x asked → Suits asked answer
       → IsEven o (contents_answered answer).units (effect_of a o answer) (contents_asked asked).units

@@ -25,7 +25,7 @@ use Rattle.abt_machine.specs.State.{State}
 use Rattle.abt_machine.specs.Start.{start}
 use Rattle.abt_machine.specs.Lines.{Line, InPool, Joining, Waiting, standing}
 use Rattle.abt_machine.specs.Pieces.{IsPieceOf}
-use Rattle.abt_machine.specs.Values.{Owned, barrier_at, conditions_of, eventual_at, future_at, monitor_at, object_of, owned_at, owned_in, phase_at, waiters_at}
+use Rattle.abt_machine.specs.Values.{Owned, barrier_at, conditions_of, eventual_at, future_at, monitor_at, object_of, rwlock_at, owned_at, owned_in, phase_at, waiters_at}
 use Rattle.abt_machine.specs.Acts.{Act, Answer, Given, Through, Woke, Rested, Miss, Number, Asks, Coded, Back, carrying, moved}
 use Rattle.abt_machine.specs.Plans.{Plan, Does, Calls, Exits, denied, effect_of, plan_of, to_caller, to_condition, to_giver, to_yielder}
 use Rattle.abt_laws.proofs.Declared.{op-declared, start-declared}
@@ -75,6 +75,10 @@ module _ (W : Parts) (S : State) (F : Owned → Type 0) (each : (u : ℕ) → u 
   barrier-has x (Some (thing.Barrier n)) = line-has (Waiting x)
   barrier-has x _ = All-nil F
 
+  pub rwlock-has : (x : ℕ) (t : Option Thing) → All F (contents_of (rwlock_at W S x t)).units
+  rwlock-has x (Some thing.RwLock) = line-has (Waiting x)
+  rwlock-has x _ = All-nil F
+
   object-has : (x : Site) → IsSite W x → All F (contents_of (object_of W S x)).units
   object-has (site.Pool p) is = line-has (InPool p.0)
   object-has (site.Desk u) is = All-append F (held_in (phase_at (owned_at S u.0) (S.place u.0))) (owned_in W S (Joining u.0)) (desk-has u.0 (S.place u.0) is) (line-has (Joining u.0))
@@ -82,6 +86,7 @@ module _ (W : Parts) (S : State) (F : Owned → Type 0) (each : (u : ℕ) → u 
   object-has (site.Eventual x) is = eventual-has x.0 (thing_at W x.0)
   object-has (site.Future x) is = future-has x.0 (thing_at W x.0)
   object-has (site.Barrier x) is = barrier-has x.0 (thing_at W x.0)
+  object-has (site.Rw x) is = rwlock-has x.0 (thing_at W x.0)
 
 -- The start.
 
@@ -116,6 +121,10 @@ barrier-pools : (W : Parts) (x : ℕ) (t : Option Thing) → All (IsPoolOf W) (c
 barrier-pools W x (Some (thing.Barrier n)) = All-nil (IsPoolOf W)
 barrier-pools W x _ = All-nil (IsPoolOf W)
 
+rwlock-pools : (W : Parts) (x : ℕ) (t : Option Thing) → All (IsPoolOf W) (contents_of (rwlock_at W (start W) x t)).pools
+rwlock-pools W x (Some thing.RwLock) = All-nil (IsPoolOf W)
+rwlock-pools W x _ = All-nil (IsPoolOf W)
+
 start-pools : (W : Parts) (x : Site) → All (IsPoolOf W) (contents_of (object_of W (start W) x)).pools
 start-pools W (site.Pool p) = All-nil (IsPoolOf W)
 start-pools W (site.Desk u) = All-nil (IsPoolOf W)
@@ -123,6 +132,7 @@ start-pools W (site.Monitor x) = monitor-pools W x.0 (thing_at W x.0)
 start-pools W (site.Eventual x) = eventual-pools W x.0 (thing_at W x.0)
 start-pools W (site.Future x) = future-pools W x.0 (thing_at W x.0)
 start-pools W (site.Barrier x) = barrier-pools W x.0 (thing_at W x.0)
+start-pools W (site.Rw x) = rwlock-pools W x.0 (thing_at W x.0)
 
 pub start-fits : StartFits
 start-fits W x valid is = (object-has W (start W) (Fits W) (unit-fits W valid) x is, start-pools W x)
@@ -188,6 +198,11 @@ module _ (W : Parts) where
   plan-fits s (op.FuReset x) o fits is = tt
   plan-fits s (op.FuTest x) o fits is = tt
   plan-fits s (op.BarWait x) o fits is = tt
+  plan-fits s (op.ReadLock x) o fits is = tt
+  plan-fits s (op.WriteLock x) o fits is = tt
+  plan-fits s (op.RwUnlock x) o fits is = tt
+  plan-fits s (op.RwLoad x) o fits is = tt
+  plan-fits s (op.RwStore x) o fits is = tt
 
   -- what an answer brings fits
 
@@ -209,6 +224,7 @@ module _ (W : Parts) where
   giver-fits : (answer : Answer) → Comes answer → All (Fits W) (units_left (to_giver answer))
   giver-fits (Given b) come = come
   giver-fits (Through b os) come = come
+  giver-fits (Back b c) come = one-fits _ (Fits-noted (All-head (Fits W) b [] come) c)
   giver-fits _ come = All-nil (Fits W)
 
   condition-fits : (answer : Answer) → Comes answer → All (Fits W) (units_left (to_condition answer))
@@ -230,6 +246,8 @@ module _ (W : Parts) where
   effect-fits (op.EvWait x) o answer fits come = giver-fits answer come
   effect-fits (op.FuWait x) o answer fits come = giver-fits answer come
   effect-fits (op.BarWait x) o answer fits come = giver-fits answer come
+  effect-fits (op.ReadLock x) o answer fits come = giver-fits answer come
+  effect-fits (op.WriteLock x) o answer fits come = giver-fits answer come
   effect-fits _ o answer fits come = caller-fits o answer fits come
 
 pub own-steps-fit : OwnStepsFit

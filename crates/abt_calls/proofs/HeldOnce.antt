@@ -21,7 +21,7 @@ use Rattle.abt_machine.specs.Queues.{first}
 use Rattle.abt_machine.specs.State.{State}
 use Rattle.abt_machine.specs.Lines.{Line, InPool, InTray, InHand, InNext, InFrames, Joining, Waiting, standing, ticket_in}
 use Rattle.abt_machine.specs.Sound.{HoldsUp, IsPlaced, Sound}
-use Rattle.abt_machine.specs.Values.{Owned, barrier_at, conditions_from, conditions_of, eventual_at, future_at, monitor_at, owned_at, owned_in, phase_at, waiters_at}
+use Rattle.abt_machine.specs.Values.{Owned, barrier_at, conditions_from, conditions_of, eventual_at, future_at, monitor_at, owned_at, owned_in, phase_at, rwlock_at, waiters_at}
 use Rattle.abt_laws.proofs.Lists.{EachOf}
 use Rattle.abt_laws.proofs.Places.{same-self}
 use Rattle.abt_laws.proofs.Standing.{StandsIn, each-stands}
@@ -50,6 +50,7 @@ same-itself (OfSite (site.Monitor x)) = eq-eqb x.0 x.0 refl
 same-itself (OfSite (site.Eventual x)) = eq-eqb x.0 x.0 refl
 same-itself (OfSite (site.Future x)) = eq-eqb x.0 x.0 refl
 same-itself (OfSite (site.Barrier x)) = eq-eqb x.0 x.0 refl
+same-itself (OfSite (site.Rw x)) = eq-eqb x.0 x.0 refl
 
 same-is-one : (h k : Holder) → same_holder h k ≡ true → h ≡ k
 same-is-one (OfStream s) (OfStream r) e = ap (λ n. OfStream n) (sym (eqb-true r s e))
@@ -74,6 +75,10 @@ abbrev is_barrier : Option Thing → Bool
 is_barrier (Some (thing.Barrier n)) = true
 is_barrier t = false
 
+abbrev is_rwlock : Option Thing → Bool
+is_rwlock (Some thing.RwLock) = true
+is_rwlock t = false
+
 mutex-is : (t : Option Thing) → is_mutex t ≡ true → t ≡ Some thing.Mutex
 mutex-is None e = cc
 mutex-is (Some thing.Mutex) e = refl
@@ -81,6 +86,7 @@ mutex-is (Some (thing.Cond m)) e = cc
 mutex-is (Some thing.Eventual) e = cc
 mutex-is (Some (thing.Future n c)) e = cc
 mutex-is (Some (thing.Barrier n)) e = cc
+mutex-is (Some thing.RwLock) e = cc
 
 -- a test of a number that is one of two
 move-by : (b p q : Bool) → (b ≡ true → p ≡ q) → (if p then one b else 0) ≡ one (q && b)
@@ -103,6 +109,7 @@ same-eventual x y (Some (thing.Cond m)) = refl
 same-eventual x y (Some thing.Eventual) = refl
 same-eventual x y (Some (thing.Future n c)) = refl
 same-eventual x y (Some (thing.Barrier n)) = refl
+same-eventual x y (Some thing.RwLock) = refl
 
 same-future : (x : ObjectNo) (y : ℕ) (t : Option Thing) → same_site (thing_site y t) (site.Future x) ≡ (is_future t && (y == x.0))
 same-future x y None = refl
@@ -111,6 +118,7 @@ same-future x y (Some (thing.Cond m)) = refl
 same-future x y (Some thing.Eventual) = refl
 same-future x y (Some (thing.Future n c)) = refl
 same-future x y (Some (thing.Barrier n)) = refl
+same-future x y (Some thing.RwLock) = refl
 
 same-barrier : (x : ObjectNo) (y : ℕ) (t : Option Thing) → same_site (thing_site y t) (site.Barrier x) ≡ (is_barrier t && (y == x.0))
 same-barrier x y None = refl
@@ -119,6 +127,16 @@ same-barrier x y (Some (thing.Cond m)) = refl
 same-barrier x y (Some thing.Eventual) = refl
 same-barrier x y (Some (thing.Future n c)) = refl
 same-barrier x y (Some (thing.Barrier n)) = refl
+same-barrier x y (Some thing.RwLock) = refl
+
+same-rwlock : (x : ObjectNo) (y : ℕ) (t : Option Thing) → same_site (thing_site y t) (site.Rw x) ≡ (is_rwlock t && (y == x.0))
+same-rwlock x y None = refl
+same-rwlock x y (Some thing.Mutex) = refl
+same-rwlock x y (Some (thing.Cond m)) = refl
+same-rwlock x y (Some thing.Eventual) = refl
+same-rwlock x y (Some (thing.Future n c)) = refl
+same-rwlock x y (Some (thing.Barrier n)) = refl
+same-rwlock x y (Some thing.RwLock) = refl
 
 no-pool : (p : PoolNo) (y : ℕ) (t : Option Thing) → same_site (thing_site y t) (site.Pool p) ≡ false
 no-pool p y None = refl
@@ -127,6 +145,7 @@ no-pool p y (Some (thing.Cond m)) = refl
 no-pool p y (Some thing.Eventual) = refl
 no-pool p y (Some (thing.Future n c)) = refl
 no-pool p y (Some (thing.Barrier n)) = refl
+no-pool p y (Some thing.RwLock) = refl
 
 no-desk : (v : UnitNo) (y : ℕ) (t : Option Thing) → same_site (thing_site y t) (site.Desk v) ≡ false
 no-desk v y None = refl
@@ -135,6 +154,7 @@ no-desk v y (Some (thing.Cond m)) = refl
 no-desk v y (Some thing.Eventual) = refl
 no-desk v y (Some (thing.Future n c)) = refl
 no-desk v y (Some (thing.Barrier n)) = refl
+no-desk v y (Some thing.RwLock) = refl
 
 -- Who waits in lists of lines.
 
@@ -304,7 +324,7 @@ module _ (W : Parts) (Z : List OrderShape) (S : State) (sound : Sound W Z S) whe
     desk-by v (place.Blocked (spot.Object x) t) = sym (ap one (no-desk v x.0 (thing_at W x.0)))
     desk-by v (place.Ended c) = let e : one (v.0 == u) ≡ one (u == v.0) = ap one (eqb-flip v.0 u) in omega (arith, e)
 
-    -- Eventuals, futures and barriers.
+    -- Eventuals, futures, barriers and reader-writer locks.
 
     eventual-tally : (x : ℕ) (t : Option Thing) → tally u (contents_of (eventual_at W S x t)).units ≡ (if is_eventual t then stands (Waiting x) (S.place u) else 0)
     eventual-tally x None = tally-nil u
@@ -313,6 +333,7 @@ module _ (W : Parts) (Z : List OrderShape) (S : State) (sound : Sound W Z S) whe
     eventual-tally x (Some thing.Eventual) = line-tally W S (Waiting x) u declared
     eventual-tally x (Some (thing.Future n c)) = tally-nil u
     eventual-tally x (Some (thing.Barrier n)) = tally-nil u
+    eventual-tally x (Some thing.RwLock) = tally-nil u
 
     eventual-by : (x : ObjectNo) (pl : Place) → (if is_eventual (thing_at W x.0) then stands (Waiting x.0) pl else 0) ≡ one (same_holder (OfSite (site.Eventual x)) (holder W u pl))
     eventual-by x (place.Blocked (spot.Object y) t) =
@@ -327,6 +348,7 @@ module _ (W : Parts) (Z : List OrderShape) (S : State) (sound : Sound W Z S) whe
     future-tally x (Some thing.Eventual) = tally-nil u
     future-tally x (Some (thing.Future n c)) = line-tally W S (Waiting x) u declared
     future-tally x (Some (thing.Barrier n)) = tally-nil u
+    future-tally x (Some thing.RwLock) = tally-nil u
 
     future-by : (x : ObjectNo) (pl : Place) → (if is_future (thing_at W x.0) then stands (Waiting x.0) pl else 0) ≡ one (same_holder (OfSite (site.Future x)) (holder W u pl))
     future-by x (place.Blocked (spot.Object y) t) =
@@ -341,12 +363,28 @@ module _ (W : Parts) (Z : List OrderShape) (S : State) (sound : Sound W Z S) whe
     barrier-tally x (Some thing.Eventual) = tally-nil u
     barrier-tally x (Some (thing.Future n c)) = tally-nil u
     barrier-tally x (Some (thing.Barrier n)) = line-tally W S (Waiting x) u declared
+    barrier-tally x (Some thing.RwLock) = tally-nil u
 
     barrier-by : (x : ObjectNo) (pl : Place) → (if is_barrier (thing_at W x.0) then stands (Waiting x.0) pl else 0) ≡ one (same_holder (OfSite (site.Barrier x)) (holder W u pl))
     barrier-by x (place.Blocked (spot.Object y) t) =
         ap (λ k. if is_barrier (thing_at W x.0) then k else 0) (ap one (some-same y.0 x.0 t))
         ∙ (move (λ z. is_barrier (thing_at W z)) y.0 x.0 ∙ sym (ap one (same-barrier x y.0 (thing_at W y.0))))
     barrier-by x _ = if-zero (is_barrier (thing_at W x.0)) 0 refl
+
+    rwlock-tally : (x : ℕ) (t : Option Thing) → tally u (contents_of (rwlock_at W S x t)).units ≡ (if is_rwlock t then stands (Waiting x) (S.place u) else 0)
+    rwlock-tally x None = tally-nil u
+    rwlock-tally x (Some thing.Mutex) = tally-nil u
+    rwlock-tally x (Some (thing.Cond m)) = tally-nil u
+    rwlock-tally x (Some thing.Eventual) = tally-nil u
+    rwlock-tally x (Some (thing.Future n c)) = tally-nil u
+    rwlock-tally x (Some (thing.Barrier n)) = tally-nil u
+    rwlock-tally x (Some thing.RwLock) = line-tally W S (Waiting x) u declared
+
+    rwlock-by : (x : ObjectNo) (pl : Place) → (if is_rwlock (thing_at W x.0) then stands (Waiting x.0) pl else 0) ≡ one (same_holder (OfSite (site.Rw x)) (holder W u pl))
+    rwlock-by x (place.Blocked (spot.Object y) t) =
+        ap (λ k. if is_rwlock (thing_at W x.0) then k else 0) (ap one (some-same y.0 x.0 t))
+        ∙ (move (λ z. is_rwlock (thing_at W z)) y.0 x.0 ∙ sym (ap one (same-rwlock x y.0 (thing_at W y.0))))
+    rwlock-by x _ = if-zero (is_rwlock (thing_at W x.0)) 0 refl
 
     -- Monitors.
 
@@ -364,8 +402,9 @@ module _ (W : Parts) (Z : List OrderShape) (S : State) (sound : Sound W Z S) whe
     monitor-tally x (Some thing.Eventual) = tally-nil u
     monitor-tally x (Some (thing.Future n c)) = tally-nil u
     monitor-tally x (Some (thing.Barrier n)) = tally-nil u
+    monitor-tally x (Some thing.RwLock) = tally-nil u
 
-    -- nobody waits for a mutex where there is another thing
+    -- nobody waits for a mutex if there is another thing
     other-thing : (y x : ℕ) (r : Option Thing) → thing_at W y ≡ r → thing_at W x ≡ Some thing.Mutex → (r ≡ Some thing.Mutex → ⊥) → one (y == x) ≡ 0
     other-thing y x r is at other = one-other y x (λ e. other (sym is ∙ (ap (thing_at W) e ∙ at)))
 
@@ -385,6 +424,8 @@ module _ (W : Parts) (Z : List OrderShape) (S : State) (sound : Sound W Z S) whe
     monitor-at x y (Some (thing.Future n c)) false is holds m = refl
     monitor-at x y (Some (thing.Barrier n)) true is holds m = omega (arith, other-thing y x.0 (Some (thing.Barrier n)) is (mutex-is (thing_at W x.0) m) (λ e. cc))
     monitor-at x y (Some (thing.Barrier n)) false is holds m = refl
+    monitor-at x y (Some thing.RwLock) true is holds m = omega (arith, other-thing y x.0 (Some thing.RwLock) is (mutex-is (thing_at W x.0) m) (λ e. cc))
+    monitor-at x y (Some thing.RwLock) false is holds m = refl
 
     monitor-none : (x : ObjectNo) (pl : Place) → ((c : ℕ) → stands (Waiting c) pl ≡ 0) → (if is_mutex (thing_at W x.0) then stands (Waiting x.0) pl + waits_in pl (conditions_of W x.0) else 0) ≡ 0
     monitor-none x pl none = if-zero (is_mutex (thing_at W x.0)) (stands (Waiting x.0) pl + waits_in pl (conditions_of W x.0)) (omega (arith, none x.0, waits-none pl none (conditions_of W x.0)))
@@ -413,6 +454,7 @@ module _ (W : Parts) (Z : List OrderShape) (S : State) (sound : Sound W Z S) whe
     holder-tally (OfSite (site.Eventual x)) = eventual-tally x.0 (thing_at W x.0) ∙ eventual-by x (S.place u)
     holder-tally (OfSite (site.Future x)) = future-tally x.0 (thing_at W x.0) ∙ future-by x (S.place u)
     holder-tally (OfSite (site.Barrier x)) = barrier-tally x.0 (thing_at W x.0) ∙ barrier-by x (S.place u)
+    holder-tally (OfSite (site.Rw x)) = rwlock-tally x.0 (thing_at W x.0) ∙ rwlock-by x (S.place u)
 
     -- Declared holders.
 
@@ -423,6 +465,7 @@ module _ (W : Parts) (Z : List OrderShape) (S : State) (sound : Sound W Z S) whe
     thing-holds y (Some thing.Eventual) is holds = is
     thing-holds y (Some (thing.Future n c)) is holds = (n, c, is)
     thing-holds y (Some (thing.Barrier n)) is holds = (n, is)
+    thing-holds y (Some thing.RwLock) is holds = is
 
     pub is-holder : (pl : Place) → IsPlaced W S u pl → IsHolder W (holder W u pl)
     is-holder place.Unborn placed = declared

@@ -1,7 +1,7 @@
 -- What objects of all kinds keep.
 use Rattle.std.proofs.Common.{◌≡◌, sym, subst}
 use Rattle.abt_machine.specs.declared.workload.Parts.{Parts}
-use Rattle.abt_machine.specs.Values.{Object, PoolIs, DeskIs, MonitorIs, EventualIs, FutureIs, BarrierIs, NotHere}
+use Rattle.abt_machine.specs.Values.{Object, PoolIs, DeskIs, MonitorIs, EventualIs, FutureIs, BarrierIs, RwLockIs, NotHere}
 use Rattle.abt_machine.specs.Acts.{Answer}
 use Rattle.abt_unit.specs.Fits.{Fits}
 use Rattle.abt_chain.specs.Keeping.{Have, IsPoolOf, contents_answered}
@@ -10,6 +10,7 @@ use Rattle.abt_desk.proofs.Kept.{desks-keep-what-fits}
 use Rattle.abt_monitor.proofs.Kept.{monitors-keep-what-fits}
 use Rattle.abt_eventual.proofs.Kept.{eventuals-keep-what-fits, futures-keep-what-fits}
 use Rattle.abt_barrier.proofs.Kept.{barriers-keep-what-fits}
+use Rattle.abt_rwlock.proofs.Kept.{rwlocks-keep-what-fits}
 use Rattle.abt_calls.specs.Keeps.{ObjectsKeepWhatFits, contents_of}
 
 -- what comes out and what the object then holds are the workload's
@@ -25,4 +26,5 @@ objects-keep-what-fits W (MonitorIs old) act answer new gives held asked = becom
 objects-keep-what-fits W (EventualIs old) act answer new gives held asked = becomes W answer new (EventualIs gives.0) gives.1 (eventuals-keep-what-fits W old act answer gives.0 gives.2 held asked)
 objects-keep-what-fits W (FutureIs old) act answer new gives held asked = becomes W answer new (FutureIs gives.0) gives.1 (futures-keep-what-fits W old act answer gives.0 gives.2 held asked)
 objects-keep-what-fits W (BarrierIs old) act answer new gives held asked = becomes W answer new (BarrierIs gives.0) gives.1 (barriers-keep-what-fits W old act answer gives.0 gives.2 held asked)
+objects-keep-what-fits W (RwLockIs old) act answer new gives held asked = becomes W answer new (RwLockIs gives.0) gives.1 (rwlocks-keep-what-fits W old act answer gives.0 gives.2 held asked)
 objects-keep-what-fits W NotHere act answer new gives held asked = absurd gives

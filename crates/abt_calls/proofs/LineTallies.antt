@@ -29,7 +29,7 @@ some-if : (b : Bool) (t : ℕ) → is_some (if b then Some t else None) ≡ b
 some-if true t = refl
 some-if false t = refl
 
--- a ticket is there where the numbers agree
+-- a ticket is there if the numbers agree
 pub some-same : (a b t : ℕ) → is_some (if_same a b t) ≡ (a == b)
 some-same a b t = some-if (a == b) t
 
@@ -65,7 +65,7 @@ module _ (S : State) (u : ℕ) where
         let e : (if is_some (at n) then one (n == u) else 0) ≡ 0 = if-zero (is_some (at n)) (one (n == u)) (one-other n u (λ s. omega arith)) in
         omega (arith, h, e, step-tally n (at n) (ticketed at n))
 
-    -- a unit below is there once, where it has a ticket
+    -- a unit below is there once, if it has a ticket
     below : (n : ℕ) → u < n → tally u (owns (ticketed at n)) ≡ one (is_some (at u))
     below zero l = absurd (omega arith)
     below (suc n) l =

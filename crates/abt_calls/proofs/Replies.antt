@@ -1,26 +1,29 @@
 -- What an object answers an act that it may be asked, and what it is afterwards, as functions.
-use Rattle.std.proofs.Common.{◌≡◌, ◌≢◌, ℕ, suc, ◌==◌, Bool, true, false, List, [], ◌∷◌, ◌++◌, length, map, Option, None, Some, option_map, refl, sym, ◌∙◌, ap}
-use Rattle.std.specs.Prelude.{is_some, if◌then◌else◌}
+use Rattle.std.proofs.Common.{◌≡◌, ◌≢◌, ℕ, suc, ◌==◌, nat_lt, Bool, true, false, List, [], ◌∷◌, ◌++◌, length, map, Option, None, Some, option_map, refl, sym, ◌∙◌, ap, arith}
+use Rattle.std.specs.Prelude.{◌||◌, IsFalse, is_some, if◌then◌else◌}
 use Rattle.std.specs.List.{find}
-use Rattle.std.proofs.lemmas.Bool.{eq-eqb, eqb-true, eqb-false, false_from_ne_true}
+use Rattle.std.proofs.lemmas.Bool.{eq-eqb, eqb-true, eqb-false, false_from_ne_true, le-ltb, lt-ltb, ltb-false, ltb-true}
 use Rattle.abt_machine.specs.declared.events.Code.{Code}
 use Rattle.abt_machine.specs.declared.events.Code.TheVariants as code
+use Rattle.abt_machine.specs.declared.events.Wish.TheVariants as wish
 use Rattle.abt_machine.specs.declared.operations.Side.{Side}
 use Rattle.abt_machine.specs.declared.operations.Side.TheVariants as side
 use Rattle.abt_machine.specs.Fronts.{is_some_of}
 use Rattle.abt_machine.specs.Queues.{first}
 use Rattle.abt_machine.specs.Steps.{truth}
-use Rattle.abt_machine.specs.Values.{Owned, Out, Suspended, Object, PoolIs, DeskIs, MonitorIs, EventualIs, FutureIs, BarrierIs, NotHere, PoolValue, DeskValue, MonitorValue, EventualValue, FutureValue, BarrierValue}
-use Rattle.abt_machine.specs.Acts.{Act, Put, Take, Remove, Create, End, Join, AskCancel, AskMigrate, Look, Suspend, Resume, Revive, SetMigratable, Lock, TryLock, Unlock, Load, Store, Wait, Signal, Broadcast, Await, Fill, Reset, Test, Arrive, Answer, Given, Through, Woke, Rested, Miss, Number, Asks, Coded, Back, received, reborn}
+use Rattle.abt_machine.specs.Values.{Owned, Out, Suspended, Object, PoolIs, DeskIs, MonitorIs, EventualIs, FutureIs, BarrierIs, RwLockIs, NotHere, PoolValue, DeskValue, MonitorValue, EventualValue, FutureValue, BarrierValue, RwLockValue}
+use Rattle.abt_machine.specs.Acts.{Act, Put, Take, Remove, Create, End, Join, AskCancel, AskMigrate, Look, Suspend, Resume, Revive, SetMigratable, Lock, TryLock, Unlock, Load, Store, Wait, Signal, Broadcast, Await, Fill, Reset, Test, Arrive, ReadLock, WriteLock, RwUnlock, Answer, Given, Through, Woke, Rested, Miss, Number, Asks, Coded, Back, received, reborn}
 use Rattle.abt_machine.specs.Pools.{PoolGives, HasSide, is_unit, with_end, with_units, without}
 use Rattle.abt_machine.specs.Desks.{DeskGives, ended_in, has_ended, is_living, suspended_in, takes_back, unasked, unborn_in, with_ended, with_joiner, with_phase}
 use Rattle.abt_machine.specs.Monitors.{MonitorGives, after_broadcast, after_signal, after_wait, at_condition, handed_over, new_owner, with_owner}
 use Rattle.abt_machine.specs.Eventuals.{EventualGives}
 use Rattle.abt_machine.specs.Futures.{FutureGives, is_ready, left_waiting, with_filled, with_one_more, woken_by}
 use Rattle.abt_machine.specs.Barriers.{BarrierGives}
-use Rattle.abt_calls.specs.Allowed.{PoolAllows, DeskAllows, MonitorAllows, EventualAllows, BarrierAllows, AllowedIsAnswered, OneAnswer}
+use Rattle.abt_machine.specs.Holders.{count_of, holds, is_free, read_by, read_limit, reads, writes, written_by}
+use Rattle.abt_machine.specs.RwLocks.{RwLockGives, left_by, may_read, passed_on, waiting, woken}
+use Rattle.abt_calls.specs.Allowed.{PoolAllows, DeskAllows, MonitorAllows, EventualAllows, BarrierAllows, RwLockAllows, AllowedIsAnswered, OneAnswer}
 
--- Tests, and what they tell.
+-- Tests, and what they say.
 
 not-some : {A : Type 0} (o : Option A) → is_some o ≡ false → o ≡ None
 not-some None e = refl
@@ -118,7 +121,7 @@ pool-replies old (Remove u) (Given o) new gives = (λ i. (Given o, gives.1 i)) �
 pool-replies old (Remove u) (Coded code.Absent) new gives = (λ i. (Coded code.Absent, gives.1 i)) ∙ sym (ap (remove_reply old u) gives.0)
 pool-replies old act answer new gives = absurd gives
 
--- the object gives the reply
+-- the object answers with the reply
 abbrev GivesPool : PoolValue → Act → Reply PoolValue → Type 0
 GivesPool old act reply = PoolGives old act reply.0 reply.1
 
@@ -470,6 +473,107 @@ barrier-gives : (old : BarrierValue) (act : Act) → BarrierAllows act → Gives
 barrier-gives old (Arrive o) allowed = arrive-gives old o (is_last old) refl
 barrier-gives old act allowed = absurd allowed
 
+-- Reader-writer locks.
+
+-- by whether the unit writes, whether it reads less often than it may, and whether it may read
+abbrev read_reply : RwLockValue → Owned → Bool → Bool → Bool → Reply RwLockValue
+read_reply old o true below may = (Back o code.RwHeld, old)
+read_reply old o false false may = (Back o code.RwFull, old)
+read_reply old o false true true = (Given o, record old { lock = read_by o.number old.lock })
+read_reply old o false true false = (Rested, waiting wish.Read o old)
+
+-- by whether the unit holds the lock, and whether this is free
+abbrev write_reply : RwLockValue → Owned → Bool → Bool → Reply RwLockValue
+write_reply old o true free = (Back o code.RwHeld, old)
+write_reply old o false true = (Given o, record old { lock = written_by o.number old.lock })
+write_reply old o false false = (Rested, waiting wish.Write o old)
+
+abbrev leave_reply : RwLockValue → ℕ → Bool → Reply RwLockValue
+leave_reply old u true = (Woke (woken (left_by u old)), passed_on (left_by u old))
+leave_reply old u false = (Coded code.NotHolder, old)
+
+abbrev held_reply : RwLockValue → Bool → Reply RwLockValue
+held_reply old true = (Number old.lock.number, old)
+held_reply old false = (Coded code.NotHolder, old)
+
+abbrev written_reply : RwLockValue → ℕ → Bool → Reply RwLockValue
+written_reply old n true = (Coded code.Ok, record old { lock = record old.lock { number = n } })
+written_reply old n false = (Coded code.NotHolder, old)
+
+-- unit u reads less often than it may
+abbrev is_below : ℕ → RwLockValue → Bool
+is_below u old = nat_lt (count_of u old.lock) read_limit
+
+abbrev rwlock_reply : RwLockValue → Act → Reply RwLockValue
+rwlock_reply old (ReadLock o) = read_reply old o (writes o.number old.lock) (is_below o.number old) (may_read o.number old)
+rwlock_reply old (WriteLock o) = write_reply old o (holds o.number old.lock) (is_free old.lock)
+rwlock_reply old (RwUnlock u) = leave_reply old u (holds u old.lock)
+rwlock_reply old (Load u) = held_reply old (holds u old.lock)
+rwlock_reply old (Store u n) = written_reply old n (writes u old.lock)
+rwlock_reply old act = (Rested, old)
+
+or-first : (a b : Bool) → (a || b) ≡ false → a ≡ false
+or-first true b e = e
+or-first false b e = refl
+
+-- a unit that must not read does not read
+reads-none : (u : ℕ) (old : RwLockValue) → IsFalse (may_read u old) → is_below u old ≡ true
+reads-none u old refused =
+    let none : reads u old.lock ≡ false = or-first (reads u old.lock) _ refused in lt-ltb (count_of u old.lock) read_limit (omega (arith, ltb-false 0 (count_of u old.lock) none))
+
+rwlock-replies : (old : RwLockValue) (act : Act) (answer : Answer) (new : RwLockValue) → RwLockGives old act answer new → ◌≡◌ {A = Reply RwLockValue} (answer, new) (rwlock_reply old act)
+rwlock-replies old (ReadLock o) (Given b) new gives =
+    (λ i. (Given (gives.3 i), gives.4 i)) ∙ sym (λ i. read_reply old o (gives.0 i) (lt-ltb (count_of o.number old.lock) read_limit gives.1 i) (gives.2 i))
+rwlock-replies old (ReadLock o) Rested new gives = (λ i. (Rested, gives.2 i)) ∙ sym (λ i. read_reply old o (gives.0 i) (reads-none o.number old gives.1 i) (gives.1 i))
+rwlock-replies old (ReadLock o) (Back b code.RwHeld) new gives =
+    (λ i. (Back (gives.1 i) code.RwHeld, gives.2 i)) ∙ sym (ap (λ w. read_reply old o w (is_below o.number old) (may_read o.number old)) gives.0)
+rwlock-replies old (ReadLock o) (Back b code.RwFull) new gives =
+    (λ i. (Back (gives.2 i) code.RwFull, gives.3 i)) ∙ sym (λ i. read_reply old o (gives.0 i) (le-ltb (count_of o.number old.lock) read_limit gives.1 i) (may_read o.number old))
+rwlock-replies old (WriteLock o) (Given b) new gives = (λ i. (Given (gives.2 i), gives.3 i)) ∙ sym (λ i. write_reply old o (gives.0 i) (gives.1 i))
+rwlock-replies old (WriteLock o) Rested new gives = (λ i. (Rested, gives.2 i)) ∙ sym (λ i. write_reply old o (gives.0 i) (gives.1 i))
+rwlock-replies old (WriteLock o) (Back b code.RwHeld) new gives = (λ i. (Back (gives.1 i) code.RwHeld, gives.2 i)) ∙ sym (ap (λ h. write_reply old o h (is_free old.lock)) gives.0)
+rwlock-replies old (RwUnlock u) (Woke os) new gives = (λ i. (Woke (gives.1 i), gives.2 i)) ∙ sym (ap (leave_reply old u) gives.0)
+rwlock-replies old (RwUnlock u) (Coded code.NotHolder) new gives = (λ i. (Coded code.NotHolder, gives.1 i)) ∙ sym (ap (leave_reply old u) gives.0)
+rwlock-replies old (Load u) (Number n) new gives = (λ i. (Number (gives.1 i), gives.2 i)) ∙ sym (ap (held_reply old) gives.0)
+rwlock-replies old (Load u) (Coded code.NotHolder) new gives = (λ i. (Coded code.NotHolder, gives.1 i)) ∙ sym (ap (held_reply old) gives.0)
+rwlock-replies old (Store u n) (Coded code.Ok) new gives = (λ i. (Coded code.Ok, gives.1 i)) ∙ sym (ap (written_reply old n) gives.0)
+rwlock-replies old (Store u n) (Coded code.NotHolder) new gives = (λ i. (Coded code.NotHolder, gives.1 i)) ∙ sym (ap (written_reply old n) gives.0)
+rwlock-replies old act answer new gives = absurd gives
+
+abbrev GivesRwLock : RwLockValue → Act → Reply RwLockValue → Type 0
+GivesRwLock old act reply = RwLockGives old act reply.0 reply.1
+
+read-gives : (old : RwLockValue) (o : Owned) (w b m : Bool) → writes o.number old.lock ≡ w → is_below o.number old ≡ b → may_read o.number old ≡ m → GivesRwLock old (ReadLock o) (read_reply old o w b m)
+read-gives old o true b m is below may = (is, refl, refl)
+read-gives old o false false m is below may = (is, ltb-false (count_of o.number old.lock) read_limit below, refl, refl)
+read-gives old o false true true is below may = (is, ltb-true (count_of o.number old.lock) read_limit below, may, refl, refl)
+read-gives old o false true false is below may = (is, may, refl)
+
+write-gives : (old : RwLockValue) (o : Owned) (h f : Bool) → holds o.number old.lock ≡ h → is_free old.lock ≡ f → GivesRwLock old (WriteLock o) (write_reply old o h f)
+write-gives old o true f is free = (is, refl, refl)
+write-gives old o false true is free = (is, free, refl, refl)
+write-gives old o false false is free = (is, free, refl)
+
+leave-gives : (old : RwLockValue) (u : ℕ) (h : Bool) → holds u old.lock ≡ h → GivesRwLock old (RwUnlock u) (leave_reply old u h)
+leave-gives old u true is = (is, refl, refl)
+leave-gives old u false is = (is, refl)
+
+held-gives : (old : RwLockValue) (u : ℕ) (h : Bool) → holds u old.lock ≡ h → GivesRwLock old (Load u) (held_reply old h)
+held-gives old u true is = (is, refl, refl)
+held-gives old u false is = (is, refl)
+
+written-gives : (old : RwLockValue) (u n : ℕ) (w : Bool) → writes u old.lock ≡ w → GivesRwLock old (Store u n) (written_reply old n w)
+written-gives old u n true is = (is, refl)
+written-gives old u n false is = (is, refl)
+
+rwlock-gives : (old : RwLockValue) (act : Act) → RwLockAllows act → GivesRwLock old act (rwlock_reply old act)
+rwlock-gives old (ReadLock o) allowed = read-gives old o (writes o.number old.lock) (is_below o.number old) (may_read o.number old) refl refl refl
+rwlock-gives old (WriteLock o) allowed = write-gives old o (holds o.number old.lock) (is_free old.lock) refl refl
+rwlock-gives old (RwUnlock u) allowed = leave-gives old u (holds u old.lock) refl
+rwlock-gives old (Load u) allowed = held-gives old u (holds u old.lock) refl
+rwlock-gives old (Store u n) allowed = written-gives old u n (writes u old.lock) refl
+rwlock-gives old act allowed = absurd allowed
+
 -- Objects of all kinds.
 
 pub allowed-is-answered : AllowedIsAnswered
@@ -479,6 +583,7 @@ allowed-is-answered (MonitorIs old) act allowed = let reply : Reply MonitorValue
 allowed-is-answered (EventualIs old) act allowed = let reply : Reply EventualValue = eventual_reply old act in (reply.0, EventualIs reply.1, (reply.1, refl, eventual-gives old act allowed))
 allowed-is-answered (FutureIs old) act allowed = let reply : Reply FutureValue = future_reply old act in (reply.0, FutureIs reply.1, (reply.1, refl, future-gives old act allowed))
 allowed-is-answered (BarrierIs old) act allowed = let reply : Reply BarrierValue = barrier_reply old act in (reply.0, BarrierIs reply.1, (reply.1, refl, barrier-gives old act allowed))
+allowed-is-answered (RwLockIs old) act allowed = let reply : Reply RwLockValue = rwlock_reply old act in (reply.0, RwLockIs reply.1, (reply.1, refl, rwlock-gives old act allowed))
 allowed-is-answered NotHere act allowed = absurd allowed
 
 -- two replies that are one, in an object
@@ -494,4 +599,5 @@ one-answer (MonitorIs old) act a b m n one other = same (λ v. MonitorIs v) a b 
 one-answer (EventualIs old) act a b m n one other = same (λ v. EventualIs v) a b m n one.0 other.0 (eventual_reply old act) one.1 other.1 (eventual-replies old act a one.0 one.2) (eventual-replies old act b other.0 other.2)
 one-answer (FutureIs old) act a b m n one other = same (λ v. FutureIs v) a b m n one.0 other.0 (future_reply old act) one.1 other.1 (future-replies old act a one.0 one.2) (future-replies old act b other.0 other.2)
 one-answer (BarrierIs old) act a b m n one other = same (λ v. BarrierIs v) a b m n one.0 other.0 (barrier_reply old act) one.1 other.1 (barrier-replies old act a one.0 one.2) (barrier-replies old act b other.0 other.2)
+one-answer (RwLockIs old) act a b m n one other = same (λ v. RwLockIs v) a b m n one.0 other.0 (rwlock_reply old act) one.1 other.1 (rwlock-replies old act a one.0 one.2) (rwlock-replies old act b other.0 other.2)
 one-answer NotHere act a b m n one other = absurd one

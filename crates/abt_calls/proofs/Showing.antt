@@ -19,7 +19,7 @@ use Rattle.abt_machine.specs.Queues.{first}
 use Rattle.abt_machine.specs.State.{State}
 use Rattle.abt_machine.specs.Texts.{shown}
 use Rattle.abt_machine.specs.Lines.{Line, InPool, InTray, InHand, InNext, InFrames, Joining, Waiting, standing}
-use Rattle.abt_machine.specs.Values.{Owned, Phase, Unborn, Out, Suspended, Ended, barrier_at, conditions_of, eventual_at, future_at, monitor_at, owned_at, owned_in, phase_at, waiters_at}
+use Rattle.abt_machine.specs.Values.{Owned, Phase, Unborn, Out, Suspended, Ended, barrier_at, conditions_of, eventual_at, future_at, monitor_at, owned_at, owned_in, phase_at, rwlock_at, waiters_at}
 use Rattle.abt_laws.proofs.Lists.{EachOf}
 use Rattle.abt_laws.proofs.Places.{place_in}
 use Rattle.abt_laws.proofs.Standing.{StandsIn, each-stands}
@@ -68,6 +68,10 @@ module _ (W : Parts) (S : State) where
   barrier-units x (Some (thing.Barrier n)) = units-as (shows.Object x) (waiters_at W S x.0)
   barrier-units x _ = refl
 
+  rwlock-units : (x : ObjectNo) (t : Option Thing) → map unit_of (rows_of_object W (site.Rw x) (rwlock_at W S x.0 t)) ≡ (contents_of (rwlock_at W S x.0 t)).units
+  rwlock-units x (Some thing.RwLock) = units-as (shows.Object x) (waiters_at W S x.0)
+  rwlock-units x _ = refl
+
 pub units-have-rows : UnitsHaveRows
 units-have-rows W S (OfStream s) = units-as (shows.Stream (stream_no s)) _
 units-have-rows W S (OfSite (site.Pool p)) = units-as (shows.Pool p) (owned_in W S (InPool p.0))
@@ -78,6 +82,7 @@ units-have-rows W S (OfSite (site.Monitor x)) = monitor-units W S x (thing_at W 
 units-have-rows W S (OfSite (site.Eventual x)) = eventual-units W S x (thing_at W x.0)
 units-have-rows W S (OfSite (site.Future x)) = future-units W S x (thing_at W x.0)
 units-have-rows W S (OfSite (site.Barrier x)) = barrier-units W S x (thing_at W x.0)
+units-have-rows W S (OfSite (site.Rw x)) = rwlock-units W S x (thing_at W x.0)
 
 -- Rows of a state.
 
@@ -136,6 +141,10 @@ module _ (W : Parts) (S : State) where
   barrier-shown x (Some (thing.Barrier n)) = waiting-shown x
   barrier-shown x _ = All-nil (IsRowOf S)
 
+  rwlock-shown : (x : ObjectNo) (t : Option Thing) → All (IsRowOf S) (rows_of_object W (site.Rw x) (rwlock_at W S x.0 t))
+  rwlock-shown x (Some thing.RwLock) = waiting-shown x
+  rwlock-shown x _ = All-nil (IsRowOf S)
+
   stream-shown : (s : ℕ) → All (IsShown (shows.Stream (stream_no s))) (unit_in (first (owned_in W S (InHand s))) ++ unit_in (first (owned_in W S (InNext s))) ++ owned_in W S (InTray s) ++ owned_in W S (InFrames s))
   stream-shown s =
       let x : Shown = shows.Stream (stream_no s) in
@@ -160,3 +169,4 @@ rows-are-the-states W S (OfSite (site.Monitor x)) = monitor-shown W S x (thing_a
 rows-are-the-states W S (OfSite (site.Eventual x)) = eventual-shown W S x (thing_at W x.0)
 rows-are-the-states W S (OfSite (site.Future x)) = future-shown W S x (thing_at W x.0)
 rows-are-the-states W S (OfSite (site.Barrier x)) = barrier-shown W S x (thing_at W x.0)
+rows-are-the-states W S (OfSite (site.Rw x)) = rwlock-shown W S x (thing_at W x.0)

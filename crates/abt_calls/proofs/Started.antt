@@ -15,11 +15,11 @@ use Rattle.abt_machine.specs.Queues.{ticketed_step, ticketed, queue, first}
 use Rattle.abt_machine.specs.Fronts.{is_some_of}
 use Rattle.abt_machine.specs.Lines.{Line, InPool, InTray, InHand, InNext, InFrames, Joining, Waiting, ticket_in}
 use Rattle.abt_machine.specs.Start.{start, start_place, count_at}
-use Rattle.abt_machine.specs.Values.{Owned, owned_at, owned_in, PoolIs, DeskIs, MonitorIs, EventualIs, FutureIs, BarrierIs, conditions_from, eventual_at, future_at, barrier_at, monitor_at, phase_at, waiters_at}
+use Rattle.abt_machine.specs.Values.{Owned, owned_at, owned_in, PoolIs, DeskIs, MonitorIs, EventualIs, FutureIs, BarrierIs, RwLockIs, conditions_from, eventual_at, future_at, barrier_at, monitor_at, rwlock_at, phase_at, waiters_at}
 use Rattle.abt_laws.proofs.Lists.{EachOf-then}
-use Rattle.abt_simulation.proofs.Pushes.{AllBelow, AllBelow-insert, insert_at_end}
+use Rattle.abt_laws.proofs.Pushes.{AllBelow, AllBelow-insert, insert_at_end}
 use Rattle.abt_calls.proofs.Asked.{condition-below}
-use Rattle.abt_calls.specs.Starts.{ConditionsAreCounted, ConditionsAreNumbered, ObjectsStart, PartsStart, first_units, start_barrier, start_eventual, start_future, start_monitor, start_part, start_phase, starts_in}
+use Rattle.abt_calls.specs.Starts.{ConditionsAreCounted, ConditionsAreNumbered, ObjectsStart, PartsStart, first_units, start_barrier, start_eventual, start_future, start_monitor, start_part, start_phase, start_rwlock, starts_in}
 
 -- Lines with nobody.
 
@@ -128,7 +128,7 @@ monitor-start W x (Some thing.Mutex) =
     λ i. MonitorIs (record { owner = None; number = 0; waiters = no-units W (Waiting x) tt i; conds = empty-conditions x 0 (waiters_at W (start W)) W.objects (λ y. no-units W (Waiting y) tt) i })
 monitor-start W x _ = refl
 
--- Eventuals, futures and barriers.
+-- Eventuals, futures, barriers and reader-writer locks.
 
 eventual-start : (W : Parts) (x : ℕ) (t : Option Thing) → eventual_at W (start W) x t ≡ start_eventual t
 eventual-start W x (Some thing.Eventual) = λ i. EventualIs (record { value = None; waiters = no-units W (Waiting x) tt i })
@@ -141,6 +141,10 @@ future-start W x _ = refl
 barrier-start : (W : Parts) (x : ℕ) (t : Option Thing) → barrier_at W (start W) x t ≡ start_barrier t
 barrier-start W x (Some (thing.Barrier n)) = λ i. BarrierIs (record { size = n; waiters = no-units W (Waiting x) tt i })
 barrier-start W x _ = refl
+
+rwlock-start : (W : Parts) (x : ℕ) (t : Option Thing) → rwlock_at W (start W) x t ≡ start_rwlock W t
+rwlock-start W x (Some thing.RwLock) = λ i. RwLockIs (record { lock = (start W).rwlock x; waiters = no-units W (Waiting x) tt i })
+rwlock-start W x _ = refl
 
 -- Objects and streams.
 
@@ -159,6 +163,7 @@ objects-start W (site.Monitor x) = monitor-start W x.0 (thing_at W x.0)
 objects-start W (site.Eventual x) = eventual-start W x.0 (thing_at W x.0)
 objects-start W (site.Future x) = future-start W x.0 (thing_at W x.0)
 objects-start W (site.Barrier x) = barrier-start W x.0 (thing_at W x.0)
+objects-start W (site.Rw x) = rwlock-start W x.0 (thing_at W x.0)
 
 pub parts-start : PartsStart
 parts-start W s = λ i. record {

@@ -3,14 +3,15 @@ use Rattle.std.proofs.Common.{◌≡◌, ℕ, Bool, true, false, List, [], ◌�
 use Rattle.std.specs.List.{find}
 use Rattle.std.proofs.lemmas.Bool.{eqb-true}
 use Rattle.abt_machine.specs.declared.events.Code.TheVariants as code
-use Rattle.abt_machine.specs.Values.{Owned, PoolIs, DeskIs, MonitorIs, EventualIs, FutureIs, BarrierIs, NotHere, PoolValue, DeskValue, MonitorValue, EventualValue, FutureValue, BarrierValue}
-use Rattle.abt_machine.specs.Acts.{Act, Put, Take, Remove, Create, End, Join, AskCancel, AskMigrate, Look, Suspend, Resume, Revive, SetMigratable, Lock, TryLock, Unlock, Load, Store, Wait, Signal, Broadcast, Await, Fill, Reset, Test, Arrive, Answer, Given, Through, Woke, Rested, Miss, Number, Asks, Coded, Back, received}
+use Rattle.abt_machine.specs.Values.{Owned, PoolIs, DeskIs, MonitorIs, EventualIs, FutureIs, BarrierIs, RwLockIs, NotHere, PoolValue, DeskValue, MonitorValue, EventualValue, FutureValue, BarrierValue, RwLockValue}
+use Rattle.abt_machine.specs.Acts.{Act, Put, Take, Remove, Create, End, Join, AskCancel, AskMigrate, Look, Suspend, Resume, Revive, SetMigratable, Lock, TryLock, Unlock, Load, Store, Wait, Signal, Broadcast, Await, Fill, Reset, Test, Arrive, ReadLock, WriteLock, RwUnlock, Answer, Given, Through, Woke, Rested, Miss, Number, Asks, Coded, Back, received}
 use Rattle.abt_machine.specs.Pools.{PoolGives, is_unit}
 use Rattle.abt_machine.specs.Desks.{DeskGives}
 use Rattle.abt_machine.specs.Monitors.{MonitorGives}
 use Rattle.abt_machine.specs.Eventuals.{EventualGives}
 use Rattle.abt_machine.specs.Futures.{FutureGives}
 use Rattle.abt_machine.specs.Barriers.{BarrierGives}
+use Rattle.abt_machine.specs.RwLocks.{RwLockGives}
 use Rattle.abt_calls.specs.Suits.{Suits, AnswersSuit}
 
 found-by : (u : ℕ) (b : Bool) (x o : Owned) (f : Option Owned) → is_unit u x ≡ b → (f ≡ Some o → o.number ≡ u) → cond b (Some x) f ≡ Some o → o.number ≡ u
@@ -100,6 +101,22 @@ barrier-suits old (Arrive o) (Through b os) new gives = gives.1
 barrier-suits old (Arrive o) Rested new gives = tt
 barrier-suits old act answer new gives = absurd gives
 
+rwlock-suits : (old : RwLockValue) (act : Act) (answer : Answer) (new : RwLockValue) → RwLockGives old act answer new → Suits act answer
+rwlock-suits old (ReadLock o) (Given b) new gives = gives.3
+rwlock-suits old (ReadLock o) Rested new gives = tt
+rwlock-suits old (ReadLock o) (Back b code.RwHeld) new gives = gives.1
+rwlock-suits old (ReadLock o) (Back b code.RwFull) new gives = gives.2
+rwlock-suits old (WriteLock o) (Given b) new gives = gives.2
+rwlock-suits old (WriteLock o) Rested new gives = tt
+rwlock-suits old (WriteLock o) (Back b code.RwHeld) new gives = gives.1
+rwlock-suits old (RwUnlock u) (Woke os) new gives = tt
+rwlock-suits old (RwUnlock u) (Coded code.NotHolder) new gives = tt
+rwlock-suits old (Load u) (Number n) new gives = tt
+rwlock-suits old (Load u) (Coded code.NotHolder) new gives = tt
+rwlock-suits old (Store u n) (Coded code.Ok) new gives = tt
+rwlock-suits old (Store u n) (Coded code.NotHolder) new gives = tt
+rwlock-suits old act answer new gives = absurd gives
+
 pub answers-suit : AnswersSuit
 answers-suit (PoolIs old) act answer new gives = pool-suits old act answer gives.0 gives.2
 answers-suit (DeskIs old) act answer new gives = desk-suits old act answer gives.0 gives.2
@@ -107,4 +124,5 @@ answers-suit (MonitorIs old) act answer new gives = monitor-suits old act answer
 answers-suit (EventualIs old) act answer new gives = eventual-suits old act answer gives.0 gives.2
 answers-suit (FutureIs old) act answer new gives = future-suits old act answer gives.0 gives.2
 answers-suit (BarrierIs old) act answer new gives = barrier-suits old act answer gives.0 gives.2
+answers-suit (RwLockIs old) act answer new gives = rwlock-suits old act answer gives.0 gives.2
 answers-suit NotHere act answer new gives = absurd gives

@@ -91,6 +91,11 @@ plan-brings W S s (op.FuSet x) o own = tt
 plan-brings W S s (op.FuReset x) o own = tt
 plan-brings W S s (op.FuTest x) o own = tt
 plan-brings W S s (op.BarWait x) o own = tt
+plan-brings W S s (op.ReadLock x) o own = tt
+plan-brings W S s (op.WriteLock x) o own = tt
+plan-brings W S s (op.RwUnlock x) o own = tt
+plan-brings W S s (op.RwLoad x) o own = tt
+plan-brings W S s (op.RwStore x) o own = tt
 
 performs-brings : (W : Parts) (S : State) (old : Held) (a : Op) (o : Owned) (plan : Plan) (heard : Option Heard) (c : Code) (new : Held)
     → PlanBringsBack W S plan → Performs old a o plan heard c new → BringsBack W S heard

@@ -26,7 +26,7 @@ use Rattle.abt_laws.specs.Footprint.{Holder, OfStream, OfSite, holder}
 use Rattle.abt_calls.specs.Holders.{IsHolder, units_with}
 use Rattle.abt_calls.specs.Totals.{AllUnitsOnce, all_holders, all_units, desks_of, holders_from, pools_at, streams_of, thing_holders}
 use Rattle.abt_calls.proofs.Counting.{count, count-numbers, permutes, range-one, range-past, tally-past}
-use Rattle.abt_calls.proofs.Fitting.{barrier-has, desk-has, eventual-has, future-has, line-has, monitor-has}
+use Rattle.abt_calls.proofs.Fitting.{barrier-has, desk-has, eventual-has, future-has, line-has, monitor-has, rwlock-has}
 use Rattle.abt_calls.proofs.HeldOnce.{holder-tally, is-holder, same_holder}
 use Rattle.abt_calls.proofs.LineTallies.{eqb-flip, one, one-other, one-same}
 use Rattle.abt_calls.proofs.Tallies.{tally, tally-append, tally-nil}
@@ -75,6 +75,7 @@ no-stream s y (thing.Cond m) = refl
 no-stream s y thing.Eventual = refl
 no-stream s y (thing.Future n c) = refl
 no-stream s y (thing.Barrier n) = refl
+no-stream s y thing.RwLock = refl
 
 no-pool : (p y : ℕ) (t : Thing) → hits (OfSite (site.Pool (pool_no p))) (thing_holders y t) ≡ 0
 no-pool p y thing.Mutex = refl
@@ -82,6 +83,7 @@ no-pool p y (thing.Cond m) = refl
 no-pool p y thing.Eventual = refl
 no-pool p y (thing.Future n c) = refl
 no-pool p y (thing.Barrier n) = refl
+no-pool p y thing.RwLock = refl
 
 no-desk : (v y : ℕ) (t : Thing) → hits (OfSite (site.Desk (unit_no v))) (thing_holders y t) ≡ 0
 no-desk v y thing.Mutex = refl
@@ -89,6 +91,7 @@ no-desk v y (thing.Cond m) = refl
 no-desk v y thing.Eventual = refl
 no-desk v y (thing.Future n c) = refl
 no-desk v y (thing.Barrier n) = refl
+no-desk v y thing.RwLock = refl
 
 -- the test of one thing's number
 this-thing : (x y : ℕ) → y ≢ x → one (x == y) + 0 ≡ 0
@@ -100,6 +103,7 @@ no-monitor x y (thing.Cond m) other = refl
 no-monitor x y thing.Eventual other = refl
 no-monitor x y (thing.Future n c) other = refl
 no-monitor x y (thing.Barrier n) other = refl
+no-monitor x y thing.RwLock other = refl
 
 no-eventual : (x : ObjectNo) (y : ℕ) (t : Thing) → y ≢ x.0 → hits (OfSite (site.Eventual x)) (thing_holders y t) ≡ 0
 no-eventual x y thing.Mutex other = refl
@@ -107,6 +111,7 @@ no-eventual x y (thing.Cond m) other = refl
 no-eventual x y thing.Eventual other = this-thing x.0 y other
 no-eventual x y (thing.Future n c) other = refl
 no-eventual x y (thing.Barrier n) other = refl
+no-eventual x y thing.RwLock other = refl
 
 no-future : (x : ObjectNo) (y : ℕ) (t : Thing) → y ≢ x.0 → hits (OfSite (site.Future x)) (thing_holders y t) ≡ 0
 no-future x y thing.Mutex other = refl
@@ -114,6 +119,7 @@ no-future x y (thing.Cond m) other = refl
 no-future x y thing.Eventual other = refl
 no-future x y (thing.Future n c) other = this-thing x.0 y other
 no-future x y (thing.Barrier n) other = refl
+no-future x y thing.RwLock other = refl
 
 no-barrier : (x : ObjectNo) (y : ℕ) (t : Thing) → y ≢ x.0 → hits (OfSite (site.Barrier x)) (thing_holders y t) ≡ 0
 no-barrier x y thing.Mutex other = refl
@@ -121,6 +127,15 @@ no-barrier x y (thing.Cond m) other = refl
 no-barrier x y thing.Eventual other = refl
 no-barrier x y (thing.Future n c) other = refl
 no-barrier x y (thing.Barrier n) other = this-thing x.0 y other
+no-barrier x y thing.RwLock other = refl
+
+no-rwlock : (x : ObjectNo) (y : ℕ) (t : Thing) → y ≢ x.0 → hits (OfSite (site.Rw x)) (thing_holders y t) ≡ 0
+no-rwlock x y thing.Mutex other = refl
+no-rwlock x y (thing.Cond m) other = refl
+no-rwlock x y thing.Eventual other = refl
+no-rwlock x y (thing.Future n c) other = refl
+no-rwlock x y (thing.Barrier n) other = refl
+no-rwlock x y thing.RwLock other = this-thing x.0 y other
 
 module _ (W : Parts) where
   -- the four parts of the list of all holders
@@ -182,6 +197,10 @@ module _ (W : Parts) where
       let k : Holder = OfSite (site.Barrier x) in
       thing-hit k x.0 (thing.Barrier is.0) is.1 (omega (arith, one-same x.0 x.0 refl)) (no-barrier x) (hits-none k (λ s. OfStream s) (λ i. refl) (range_with_len 0 W.streams))
       (hits-none k (λ p. OfSite (site.Pool (pool_no p))) (λ i. refl) (range_with_len 0 (length W.pools))) (hits-none k (λ u. OfSite (site.Desk (unit_no u))) (λ i. refl) (range_with_len 0 (length W.units)))
+  one-hit (OfSite (site.Rw x)) is =
+      let k : Holder = OfSite (site.Rw x) in
+      thing-hit k x.0 thing.RwLock is (omega (arith, one-same x.0 x.0 refl)) (no-rwlock x) (hits-none k (λ s. OfStream s) (λ i. refl) (range_with_len 0 W.streams))
+      (hits-none k (λ p. OfSite (site.Pool (pool_no p))) (λ i. refl) (range_with_len 0 (length W.pools))) (hits-none k (λ u. OfSite (site.Desk (unit_no u))) (λ i. refl) (range_with_len 0 (length W.units)))
 
 -- Units that are declared.
 
@@ -215,6 +234,7 @@ module _ (W : Parts) (S : State) where
   holder-has (OfSite (site.Eventual x)) fine = eventual-has W S IsOne (λ u l. l) x.0 (thing_at W x.0)
   holder-has (OfSite (site.Future x)) fine = future-has W S IsOne (λ u l. l) x.0 (thing_at W x.0)
   holder-has (OfSite (site.Barrier x)) fine = barrier-has W S IsOne (λ u l. l) x.0 (thing_at W x.0)
+  holder-has (OfSite (site.Rw x)) fine = rwlock-has W S IsOne (λ u l. l) x.0 (thing_at W x.0)
 
   holders-have : (hs : List Holder) → EachOf IsFine hs → All IsOne (flat_map (units_with W S) hs)
   holders-have [] fine = All-nil IsOne
@@ -230,6 +250,7 @@ module _ (W : Parts) (S : State) where
   thing-fine x thing.Eventual = (tt, tt)
   thing-fine x (thing.Future n c) = (tt, tt)
   thing-fine x (thing.Barrier n) = (tt, tt)
+  thing-fine x thing.RwLock = (tt, tt)
 
   things-fine : (i : ℕ) (ts : List Thing) → EachOf IsFine (holders_from i ts)
   things-fine i [] = tt

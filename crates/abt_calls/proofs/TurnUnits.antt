@@ -189,7 +189,7 @@ module _ (u : ℕ) where
       same-from old heard None new (exited old b) st.0 st.2
       (omega (arith, parts-tally old, parts-tally (exited old b), unit-tally old.hand o is, none-tally old.next none, tally-nil u, tally-number u b o (exit-number W s a o b plan)))
 
-  -- where Next holds a unit, the hand is empty
+  -- if Next holds a unit, the hand is empty
   hand-empty : (old : Held) (o : Owned) → HoldsOne old → old.next ≡ Some o → old.hand ≡ None
   hand-empty old o (inl none) is = none
   hand-empty old o (inr none) is = absurd (none≢some (sym none ∙ is))

@@ -37,7 +37,7 @@ next-by W s own (u ∷ us) next hand after = absurd after
 next-by W s own [] (Some v) hand after = absurd after
 next-by W s own [] None hand after = refl
 
--- where such an event is due, nothing is in Next
+-- if such an event is due, nothing is in Next
 pub next-none : (W : Parts) (s : ℕ) (held : Held) (d : Due) → due_of W s held ≡ d → AfterNext d → held.next ≡ None
 next-none W s held d is after = next-by W s held.own held.tray held.next _ (subst AfterNext (sym is) after)
 
@@ -73,6 +73,7 @@ giver-one : (answer : Answer) → (to_giver answer).next ≡ None
 giver-one (act.Given b) = refl
 giver-one (act.Through b os) = refl
 giver-one act.Rested = refl
+giver-one (act.Back b c) = refl
 giver-one _ = refl
 
 condition-one : (answer : Answer) → (to_condition answer).next ≡ None
@@ -95,6 +96,8 @@ effect-one (op.CondWait x) o answer = inr (condition-one answer)
 effect-one (op.EvWait x) o answer = inr (giver-one answer)
 effect-one (op.FuWait x) o answer = inr (giver-one answer)
 effect-one (op.BarWait x) o answer = inr (giver-one answer)
+effect-one (op.ReadLock x) o answer = inr (giver-one answer)
+effect-one (op.WriteLock x) o answer = inr (giver-one answer)
 effect-one _ o answer = inr (caller-one o answer)
 
 abbrev PlanHoldsOne : Plan → Type 0

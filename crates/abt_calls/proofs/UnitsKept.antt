@@ -6,15 +6,17 @@ use Rattle.abt_machine.specs.declared.events.Code.TheVariants as code
 use Rattle.abt_machine.specs.declared.operations.Side.{Side}
 use Rattle.abt_machine.specs.declared.operations.Side.TheVariants as side
 use Rattle.abt_machine.specs.Queues.{first, first_alone}
-use Rattle.abt_machine.specs.Values.{Owned, Phase, Unborn, Out, Suspended, Ended, Object, PoolIs, DeskIs, MonitorIs, EventualIs, FutureIs, BarrierIs, NotHere, PoolValue, DeskValue, MonitorValue, EventualValue, FutureValue, BarrierValue}
-use Rattle.abt_machine.specs.Acts.{Act, Put, Take, Remove, Create, End, Join, AskCancel, AskMigrate, Look, Suspend, Resume, Revive, SetMigratable, Lock, TryLock, Unlock, Load, Store, Wait, Signal, Broadcast, Await, Fill, Reset, Test, Arrive, Answer, Given, Through, Woke, Rested, Miss, Number, Asks, Coded, Back, received, reborn}
+use Rattle.abt_machine.specs.Values.{Owned, Phase, Unborn, Out, Suspended, Ended, Object, PoolIs, DeskIs, MonitorIs, EventualIs, FutureIs, BarrierIs, RwLockIs, NotHere, PoolValue, DeskValue, MonitorValue, EventualValue, FutureValue, BarrierValue, RwLockValue}
+use Rattle.abt_machine.specs.Acts.{Act, Put, Take, Remove, Create, End, Join, AskCancel, AskMigrate, Look, Suspend, Resume, Revive, SetMigratable, Lock, TryLock, Unlock, Load, Store, Wait, Signal, Broadcast, Await, Fill, Reset, Test, Arrive, ReadLock, WriteLock, RwUnlock, Answer, Given, Through, Woke, Rested, Miss, Number, Asks, Coded, Back, received, reborn}
 use Rattle.abt_machine.specs.Pools.{PoolGives, with_end, without}
 use Rattle.abt_machine.specs.Desks.{DeskGives, ended_in, is_out, suspended_in, takes_back, unborn_in, with_ended, with_joiner, with_phase}
 use Rattle.abt_machine.specs.Monitors.{MonitorGives, admitted_by, after_broadcast, after_signal, after_wait, all_admitted, at_condition, handed_over, new_owner, rest, with_condition, with_owner}
 use Rattle.abt_machine.specs.Eventuals.{EventualGives}
 use Rattle.abt_machine.specs.Futures.{FutureGives, is_ready, left_waiting, with_one_more, woken_by}
 use Rattle.abt_machine.specs.Barriers.{BarrierGives}
+use Rattle.abt_machine.specs.RwLocks.{RwLockGives, left_by, passed_on, woken}
 use Rattle.abt_machine.specs.Gives.{SiteGives}
+use Rattle.abt_laws.proofs.Granted.{woken-prefix}
 use Rattle.abt_laws.proofs.Options.{none≢some, some-injective}
 use Rattle.abt_chain.specs.Keeping.{contents_asked, contents_answered}
 use Rattle.abt_pool.specs.Keeps.{contents_of_pool}
@@ -302,6 +304,41 @@ module _ (u : ℕ) where
       let e : barrier_tally new ≡ tally u (old.waiters ++ o ∷ []) = ap barrier_tally gives.1 in omega (arith, e, tally-append u old.waiters (o ∷ []), tally-nil u)
   barrier-even old act answer new gives = absurd gives
 
+  -- Reader-writer locks.
+
+  abbrev rwlock_tally : RwLockValue → ℕ
+  rwlock_tally l = tally u l.waiters
+
+  -- a unit comes straight back, and the waiters stay
+  goes-on : (old new : RwLockValue) (o b : Owned) → b ≡ o → rwlock_tally new ≡ rwlock_tally old → Even u (o ∷ []) old.waiters (b ∷ []) new.waiters
+  goes-on old new o b is e = let f : tally u (b ∷ []) ≡ tally u (o ∷ []) = ap (λ q. tally u (q ∷ [])) is in omega (arith, e, f)
+
+  -- a unit comes to wait
+  comes : (old new : RwLockValue) (o : Owned) → rwlock_tally new ≡ tally u (old.waiters ++ o ∷ []) → Even u (o ∷ []) old.waiters [] new.waiters
+  comes old new o e = omega (arith, e, tally-append u old.waiters (o ∷ []), tally-nil u)
+
+  rwlock-even : (old : RwLockValue) (act : Act) (answer : Answer) (new : RwLockValue) → RwLockGives old act answer new
+      → Even u (contents_asked act).units old.waiters (contents_answered answer).units new.waiters
+  rwlock-even old (ReadLock o) (Given b) new gives = goes-on old new o b gives.3 (ap rwlock_tally gives.4)
+  rwlock-even old (ReadLock o) Rested new gives = comes old new o (ap rwlock_tally gives.2)
+  rwlock-even old (ReadLock o) (Back b code.RwHeld) new gives = goes-on old new o b gives.1 (ap rwlock_tally gives.2)
+  rwlock-even old (ReadLock o) (Back b code.RwFull) new gives = goes-on old new o b gives.2 (ap rwlock_tally gives.3)
+  rwlock-even old (WriteLock o) (Given b) new gives = goes-on old new o b gives.2 (ap rwlock_tally gives.3)
+  rwlock-even old (WriteLock o) Rested new gives = comes old new o (ap rwlock_tally gives.2)
+  rwlock-even old (WriteLock o) (Back b code.RwHeld) new gives = goes-on old new o b gives.1 (ap rwlock_tally gives.2)
+  rwlock-even old (RwUnlock v) (Woke os) new gives =
+      let left : RwLockValue = left_by v old in
+      let e : rwlock_tally new ≡ tally u (passed_on left).waiters = ap rwlock_tally gives.2 in
+      let w : tally u os ≡ tally u (woken left) = ap (tally u) gives.1 in
+      let h : tally u (woken left ++ (passed_on left).waiters) ≡ tally u old.waiters = ap (tally u) (woken-prefix left) in
+      omega (arith, e, w, h, tally-append u (woken left) (passed_on left).waiters, tally-nil u)
+  rwlock-even old (RwUnlock v) (Coded code.NotHolder) new gives = let e : rwlock_tally new ≡ rwlock_tally old = ap rwlock_tally gives.1 in omega (arith, e)
+  rwlock-even old (Load v) (Number n) new gives = let e : rwlock_tally new ≡ rwlock_tally old = ap rwlock_tally gives.2 in omega (arith, e)
+  rwlock-even old (Load v) (Coded code.NotHolder) new gives = let e : rwlock_tally new ≡ rwlock_tally old = ap rwlock_tally gives.1 in omega (arith, e)
+  rwlock-even old (Store v n) (Coded code.Ok) new gives = let e : rwlock_tally new ≡ rwlock_tally old = ap rwlock_tally gives.1 in omega (arith, e)
+  rwlock-even old (Store v n) (Coded code.NotHolder) new gives = let e : rwlock_tally new ≡ rwlock_tally old = ap rwlock_tally gives.1 in omega (arith, e)
+  rwlock-even old act answer new gives = absurd gives
+
 -- Objects of all kinds.
 
 becomes : (u : ℕ) (asked old answered : List Owned) (new object : Object) → new ≡ object → Even u asked old answered (contents_of object).units → Even u asked old answered (contents_of new).units
@@ -315,6 +352,7 @@ objects-even u (MonitorIs old) act answer new gives allowed = becomes u _ _ _ ne
 objects-even u (EventualIs old) act answer new gives allowed = becomes u _ _ _ new (EventualIs gives.0) gives.1 (eventual-even u old act answer gives.0 gives.2)
 objects-even u (FutureIs old) act answer new gives allowed = becomes u _ _ _ new (FutureIs gives.0) gives.1 (future-even u old act answer gives.0 gives.2)
 objects-even u (BarrierIs old) act answer new gives allowed = becomes u _ _ _ new (BarrierIs gives.0) gives.1 (barrier-even u old act answer gives.0 gives.2)
+objects-even u (RwLockIs old) act answer new gives allowed = becomes u _ _ _ new (RwLockIs gives.0) gives.1 (rwlock-even u old act answer gives.0 gives.2)
 objects-even u NotHere act answer new gives allowed = absurd gives
 
 pub calls-keep-units : CallsKeepUnits

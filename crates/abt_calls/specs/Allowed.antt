@@ -1,8 +1,8 @@
 -- Which acts may be asked of an object of a kind, whatever it holds.
 use Rattle.std.specs.Prelude.{ℕ, ◌≡◌, ◌<◌, ⊤, length}
 use Rattle.abt_machine.specs.declared.operations.Kind.{Kind}
-use Rattle.abt_machine.specs.Values.{Object, PoolIs, DeskIs, MonitorIs, EventualIs, FutureIs, BarrierIs, NotHere}
-use Rattle.abt_machine.specs.Acts.{Act, Put, Take, Remove, Create, End, Join, AskCancel, AskMigrate, Look, Suspend, Resume, Revive, SetMigratable, Lock, TryLock, Unlock, Load, Store, Wait, Signal, Broadcast, Await, Fill, Reset, Test, Arrive, Answer}
+use Rattle.abt_machine.specs.Values.{Object, PoolIs, DeskIs, MonitorIs, EventualIs, FutureIs, BarrierIs, RwLockIs, NotHere}
+use Rattle.abt_machine.specs.Acts.{Act, Put, Take, Remove, Create, End, Join, AskCancel, AskMigrate, Look, Suspend, Resume, Revive, SetMigratable, Lock, TryLock, Unlock, Load, Store, Wait, Signal, Broadcast, Await, Fill, Reset, Test, Arrive, ReadLock, WriteLock, RwUnlock, Answer}
 use Rattle.abt_machine.specs.Pools.{HasSide}
 use Rattle.abt_machine.specs.Gives.{SiteGives}
 
@@ -52,6 +52,15 @@ abbrev pub BarrierAllows : Act → Type 0
 BarrierAllows (Arrive o) = ⊤
 BarrierAllows act = ⊥
 
+-- of a reader-writer lock
+abbrev pub RwLockAllows : Act → Type 0
+RwLockAllows (ReadLock o) = ⊤
+RwLockAllows (WriteLock o) = ⊤
+RwLockAllows (RwUnlock u) = ⊤
+RwLockAllows (Load u) = ⊤
+RwLockAllows (Store u n) = ⊤
+RwLockAllows act = ⊥
+
 -- the act may be asked of the object
 abbrev pub Allows : Object → Act → Type 0
 Allows (PoolIs pool) act = PoolAllows pool.kind act
@@ -60,6 +69,7 @@ Allows (MonitorIs m) act = MonitorAllows (length m.conds) act
 Allows (EventualIs e) act = EventualAllows act
 Allows (FutureIs f) act = EventualAllows act
 Allows (BarrierIs b) act = BarrierAllows act
+Allows (RwLockIs l) act = RwLockAllows act
 Allows NotHere act = ⊥
 
 -- no act changes what may be asked

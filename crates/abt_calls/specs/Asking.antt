@@ -7,7 +7,7 @@ use Rattle.abt_machine.specs.declared.numbers.PoolNo.{PoolNo}
 use Rattle.abt_machine.specs.declared.numbers.UnitNo.{UnitNo}
 use Rattle.abt_machine.specs.declared.operations.Op.{Op}
 use Rattle.abt_machine.specs.declared.workload.Parts.{Parts}
-use Rattle.abt_machine.specs.Operations.{IsMutex, IsEventual, IsFuture, IsBarrier}
+use Rattle.abt_machine.specs.Operations.{IsMutex, IsEventual, IsFuture, IsBarrier, IsRwLock}
 use Rattle.abt_machine.specs.Workloads.{op_at}
 use Rattle.abt_machine.specs.Valid.{IsValid}
 use Rattle.abt_machine.specs.State.{State}
@@ -27,6 +27,7 @@ IsSite W (site.Monitor x) = IsMutex W x.0
 IsSite W (site.Eventual x) = IsEventual W x.0
 IsSite W (site.Future x) = IsFuture W x.0
 IsSite W (site.Barrier x) = IsBarrier W x.0
+IsSite W (site.Rw x) = IsRwLock W x.0
 
 -- the act may be called at the site: in every state an object stands there that may be asked it, and the units and pools that
 -- come with it are the workload's

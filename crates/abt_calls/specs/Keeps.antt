@@ -7,7 +7,7 @@ use Rattle.abt_machine.specs.declared.workload.Parts.{Parts}
 use Rattle.abt_machine.specs.Workloads.{op_at}
 use Rattle.abt_machine.specs.Valid.{IsValid}
 use Rattle.abt_machine.specs.Start.{start}
-use Rattle.abt_machine.specs.Values.{Object, PoolIs, DeskIs, MonitorIs, EventualIs, FutureIs, BarrierIs, NotHere, Owned, object_of}
+use Rattle.abt_machine.specs.Values.{Object, PoolIs, DeskIs, MonitorIs, EventualIs, FutureIs, BarrierIs, RwLockIs, NotHere, Owned, object_of}
 use Rattle.abt_machine.specs.Acts.{Answer}
 use Rattle.abt_machine.specs.Plans.{Effect, Does, effect_of, plan_of}
 use Rattle.abt_machine.specs.Gives.{SiteGives}
@@ -18,6 +18,7 @@ use Rattle.abt_desk.specs.Keeps.{contents_of_desk}
 use Rattle.abt_monitor.specs.Keeps.{contents_of_monitor}
 use Rattle.abt_eventual.specs.Keeps.{contents_of_eventual, contents_of_future}
 use Rattle.abt_barrier.specs.Keeps.{contents_of_barrier}
+use Rattle.abt_rwlock.specs.Keeps.{contents_of_rwlock}
 use Rattle.abt_calls.specs.Asking.{IsSite}
 use Rattle.abt_calls.specs.Effects.{units_left}
 
@@ -29,9 +30,10 @@ contents_of (MonitorIs m) = contents_of_monitor m
 contents_of (EventualIs e) = contents_of_eventual e
 contents_of (FutureIs f) = contents_of_future f
 contents_of (BarrierIs b) = contents_of_barrier b
+contents_of (RwLockIs l) = contents_of_rwlock l
 contents_of NotHere = nothing
 
--- an object of any kind keeps what fits a workload, where all that comes in fits it
+-- an object of any kind keeps what fits a workload, if all that comes in fits it
 abbrev pub ObjectsKeepWhatFits : Type 0
 ObjectsKeepWhatFits = KeepsWhatFits contents_of SiteGives
 
@@ -45,7 +47,7 @@ OwnStepsFit =
     (W : Parts) (s : ℕ) (a : Op) (o : Owned) (e : Effect) → IsValid W → Fits W o → op_at W o.number o.carried.position ≡ Some a
     → plan_of W s a o ≡ Does e → All (Fits W) (units_left e)
 
--- a step with a call leaves units that fit, where those that come out do
+-- a step with a call leaves units that fit, if those that come out do
 abbrev pub EffectsFit : Type 0
 EffectsFit =
     (W : Parts) (a : Op) (o : Owned) (answer : Answer) → Fits W o → op_at W o.number o.carried.position ≡ Some a

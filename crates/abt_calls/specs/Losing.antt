@@ -14,11 +14,11 @@ use Rattle.abt_calls.specs.Keeps.{contents_of}
 abbrev pub bare : Owned → MonitorValue
 bare o = record { owner = Some o.number; number = 0; waiters = []; conds = [] }
 
--- where any condition may be named: a unit that waits at one that the monitor does not have is lost
+-- if any condition may be named: a unit that waits at one that the monitor does not have is lost
 abbrev pub WaitsAreLost : Type 0
 WaitsAreLost = (o : Owned) → SiteGives (MonitorIs (bare o)) (Wait 0 o) Rested (MonitorIs (after_wait 0 o (bare o)))
     × ((contents_of (MonitorIs (after_wait 0 o (bare o)))).units ≡ [])
 
--- where any answer may come: units that come with one that does not suit are lost, and so is the unit that asked
+-- if any answer may come: units that come with one that does not suit are lost, and so is the unit that asked
 abbrev pub UnsuitedAreLost : Type 0
 UnsuitedAreLost = (x : ObjectNo) (o b : Owned) → units_left (effect_of (op.Lock x) o (Woke (b ∷ []))) ≡ []

@@ -9,7 +9,7 @@ use Rattle.abt_machine.specs.declared.workload.Parts.{Parts}
 use Rattle.abt_machine.specs.Numbers.{object_no, stream_no}
 use Rattle.abt_machine.specs.State.{State}
 use Rattle.abt_machine.specs.Texts.{shown}
-use Rattle.abt_machine.specs.Values.{Owned, owned_at, Held, Phase, Unborn, Out, Suspended, Ended, Object, PoolIs, DeskIs, MonitorIs, EventualIs, FutureIs, BarrierIs, conditions_of, object_of, part_of}
+use Rattle.abt_machine.specs.Values.{Owned, owned_at, Held, Phase, Unborn, Out, Suspended, Ended, Object, PoolIs, DeskIs, MonitorIs, EventualIs, FutureIs, BarrierIs, RwLockIs, conditions_of, object_of, part_of}
 use Rattle.abt_laws.specs.Footprint.{Holder, OfStream, OfSite}
 use Rattle.abt_calls.specs.Holders.{units_of, units_with}
 
@@ -21,7 +21,7 @@ Row = Shown × Owned
 abbrev pub rows_as : Shown → List Owned → List Row
 rows_as x os = map (λ o. (x, o)) os
 
--- of a desk's own unit, where the desk holds it
+-- of a desk's own unit, if the desk holds it
 abbrev pub rows_at_desk : Phase → List Row
 rows_at_desk (Unborn o) = (shows.Unborn, o) ∷ []
 rows_at_desk Out = []
@@ -41,6 +41,7 @@ rows_of_object W (site.Monitor x) (MonitorIs m) = rows_as (shows.Object x) m.wai
 rows_of_object W (site.Eventual x) (EventualIs e) = rows_as (shows.Object x) e.waiters
 rows_of_object W (site.Future x) (FutureIs f) = rows_as (shows.Object x) f.waiters
 rows_of_object W (site.Barrier x) (BarrierIs b) = rows_as (shows.Object x) b.waiters
+rows_of_object W (site.Rw x) (RwLockIs l) = rows_as (shows.Object x) l.waiters
 rows_of_object W x object = []
 
 -- of stream s

@@ -3,6 +3,7 @@ use Rattle.std.specs.Prelude.{ℕ, ◌≡◌, ◌<◌, not, Bool, false, List, [
 use Rattle.std.specs.List.{filter, range_with_len}
 use Rattle.abt_machine.specs.declared.events.Site.{Site}
 use Rattle.abt_machine.specs.declared.events.Site.TheVariants as site
+use Rattle.abt_machine.specs.declared.events.Wish.TheVariants as wish
 use Rattle.abt_machine.specs.declared.operations.Thing.{Thing}
 use Rattle.abt_machine.specs.declared.operations.Thing.TheVariants as thing
 use Rattle.abt_machine.specs.declared.workload.Parts.{Parts}
@@ -11,7 +12,7 @@ use Rattle.abt_machine.specs.Fronts.{is_some_of}
 use Rattle.abt_machine.specs.Frames.{frame_at}
 use Rattle.abt_machine.specs.State.{Plain}
 use Rattle.abt_machine.specs.Start.{start}
-use Rattle.abt_machine.specs.Values.{Owned, owned_at, Held, part_of, PoolValue, Phase, Unborn, Out, DeskValue, Object, PoolIs, DeskIs, MonitorIs, EventualIs, FutureIs, BarrierIs, NotHere, conditions_of, object_of}
+use Rattle.abt_machine.specs.Values.{Owned, owned_at, Held, part_of, PoolValue, Phase, Unborn, Out, DeskValue, Object, PoolIs, DeskIs, MonitorIs, EventualIs, FutureIs, BarrierIs, RwLockIs, NotHere, conditions_of, object_of}
 
 -- the units below n, in order of number, as they are at the start
 abbrev pub first_units : Parts → ℕ → List Owned
@@ -66,6 +67,14 @@ abbrev pub start_barrier : Option Thing → Object
 start_barrier (Some (thing.Barrier n)) = BarrierIs (record { size = n; waiters = [] })
 start_barrier _ = NotHere
 
+-- nobody holds a reader-writer lock, each unit has a count there, its number is 0, and nobody waits at it
+abbrev pub start_rwlock : Parts → Option Thing → Object
+start_rwlock W (Some thing.RwLock) = RwLockIs (record {
+  lock = record { writer = None; counts = replicate (length W.units) 0; wishes = replicate (length W.units) wish.Read; number = 0 };
+  waiters = [];
+})
+start_rwlock W _ = NotHere
+
 -- the object at a site, at the start
 abbrev pub start_object : Parts → Site → Object
 start_object W (site.Pool p) = PoolIs (start_pool W p.0)
@@ -74,6 +83,7 @@ start_object W (site.Monitor x) = start_monitor W x.0 (thing_at W x.0)
 start_object W (site.Eventual x) = start_eventual (thing_at W x.0)
 start_object W (site.Future x) = start_future (thing_at W x.0)
 start_object W (site.Barrier x) = start_barrier (thing_at W x.0)
+start_object W (site.Rw x) = start_rwlock W (thing_at W x.0)
 
 -- what a stream holds at the start: no unit, and the frame of its main scheduler
 abbrev pub start_part : Parts → ℕ → Held

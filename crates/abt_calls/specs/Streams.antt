@@ -44,7 +44,7 @@ EventsHoldOne =
     (W : Parts) (Z : List OrderShape) (s : ℕ) (old : Held) (what : What) (heard : Option Heard) (new : Held)
     → Steps W Z s old what heard new → HoldsOne old → HoldsOne new
 
--- the units that a stream has after an event fit the workload, where those before it and what it heard do
+-- the units that a stream has after an event fit the workload, if those before it and what it heard do
 abbrev pub EventsFit : Type 0
 EventsFit =
     (W : Parts) (Z : List OrderShape) (s : ℕ) (old : Held) (what : What) (heard : Option Heard) (new : Held)

@@ -2,7 +2,7 @@
 use Rattle.std.specs.Prelude.{ℕ, ◌≡◌, ⊤}
 use Rattle.abt_machine.specs.declared.events.Code.TheVariants as code
 use Rattle.abt_machine.specs.Values.{Object}
-use Rattle.abt_machine.specs.Acts.{Act, Put, Take, Remove, Create, End, Join, AskCancel, AskMigrate, Look, Suspend, Resume, Revive, SetMigratable, Lock, TryLock, Unlock, Load, Store, Wait, Signal, Broadcast, Await, Fill, Reset, Test, Arrive, Answer, Given, Through, Woke, Rested, Miss, Number, Asks, Coded, Back, received}
+use Rattle.abt_machine.specs.Acts.{Act, Put, Take, Remove, Create, End, Join, AskCancel, AskMigrate, Look, Suspend, Resume, Revive, SetMigratable, Lock, TryLock, Unlock, Load, Store, Wait, Signal, Broadcast, Await, Fill, Reset, Test, Arrive, ReadLock, WriteLock, RwUnlock, Answer, Given, Through, Woke, Rested, Miss, Number, Asks, Coded, Back, received}
 use Rattle.abt_machine.specs.Gives.{SiteGives}
 
 -- the act may get the answer; a unit that comes straight back is the one that came
@@ -39,8 +39,10 @@ Suits (Unlock u) Rested = ⊤
 Suits (Unlock u) (Coded code.NotOwner) = ⊤
 Suits (Load u) (Number n) = ⊤
 Suits (Load u) (Coded code.NotOwner) = ⊤
+Suits (Load u) (Coded code.NotHolder) = ⊤
 Suits (Store u n) (Coded code.Ok) = ⊤
 Suits (Store u n) (Coded code.NotOwner) = ⊤
+Suits (Store u n) (Coded code.NotHolder) = ⊤
 Suits (Wait k o) (Given b) = ⊤
 Suits (Wait k o) Rested = ⊤
 Suits (Wait k o) (Back b code.NotOwner) = b ≡ o
@@ -58,6 +60,15 @@ Suits Reset Rested = ⊤
 Suits Test (Number n) = ⊤
 Suits (Arrive o) (Through b os) = b ≡ o
 Suits (Arrive o) Rested = ⊤
+Suits (ReadLock o) (Given b) = b ≡ o
+Suits (ReadLock o) Rested = ⊤
+Suits (ReadLock o) (Back b code.RwHeld) = b ≡ o
+Suits (ReadLock o) (Back b code.RwFull) = b ≡ o
+Suits (WriteLock o) (Given b) = b ≡ o
+Suits (WriteLock o) Rested = ⊤
+Suits (WriteLock o) (Back b code.RwHeld) = b ≡ o
+Suits (RwUnlock u) (Woke os) = ⊤
+Suits (RwUnlock u) (Coded code.NotHolder) = ⊤
 Suits act answer = ⊥
 
 -- an object answers an act by what the act may get

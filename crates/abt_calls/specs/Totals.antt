@@ -23,6 +23,7 @@ thing_holders x (thing.Cond m) = []
 thing_holders x thing.Eventual = OfSite (site.Eventual (object_no x)) ∷ []
 thing_holders x (thing.Future n c) = OfSite (site.Future (object_no x)) ∷ []
 thing_holders x (thing.Barrier n) = OfSite (site.Barrier (object_no x)) ∷ []
+thing_holders x thing.RwLock = OfSite (site.Rw (object_no x)) ∷ []
 
 -- the objects of these things, the first of which has number i
 abbrev pub holders_from : ℕ → List Thing → List Holder

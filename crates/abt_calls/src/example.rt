@@ -1,4 +1,4 @@
-//! Units that are lost where what the laws suppose does not hold.
+//! Units that are lost if what the laws suppose does not hold.
 
 ghost use Rattle.abt_calls.specs.Losing.{UnsuitedAreLost, WaitsAreLost};
 

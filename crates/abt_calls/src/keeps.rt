@@ -2,7 +2,7 @@
 
 ghost use Rattle.abt_calls.specs.Keeps.{EffectsFit, ObjectsKeepWhatFits, OwnStepsFit, StartFits};
 
-/// Where the units that an object holds and that come in fit a workload, those that come out and that it then holds do too, and
+/// If the units that an object holds and that come in fit a workload, those that come out and that it then holds do too, and
 /// so it is with pools.
 pub fn objects_keep_what_fits()
     ensures { ObjectsKeepWhatFits }
@@ -18,7 +18,7 @@ pub fn own_steps_fit()
     ensures { OwnStepsFit }
 {}
 
-/// A step with a call leaves units that fit, where those that come out do.
+/// A step with a call leaves units that fit, if those that come out do.
 pub fn effects_fit()
     ensures { EffectsFit }
 {}

@@ -7,12 +7,12 @@ pub fn streams_hold_one()
     ensures { StreamsHoldOne }
 {}
 
-/// Nor has it after an event, where it had not before.
+/// Nor has it after an event, if it had not before.
 pub fn events_hold_one()
     ensures { EventsHoldOne }
 {}
 
-/// The units that a stream has after an event fit the workload, where those before it and what it heard do.
+/// The units that a stream has after an event fit the workload, if those before it and what it heard do.
 pub fn events_fit()
     ensures { EventsFit }
 {}

@@ -2,7 +2,7 @@
 use Rattle.std.specs.Prelude.{ℕ, ◌<◌, List, [], ◌∷◌, Option, None, Some, length}
 use Rattle.std.specs.List.{All}
 use Rattle.abt_machine.specs.declared.workload.Parts.{Parts}
-use Rattle.abt_machine.specs.Acts.{Act, Put, Take, Remove, Create, End, Join, AskCancel, AskMigrate, Look, Suspend, Resume, Revive, SetMigratable, Lock, TryLock, Unlock, Load, Store, Wait, Signal, Broadcast, Await, Fill, Reset, Test, Arrive, Answer, Given, Through, Woke, Rested, Miss, Number, Asks, Coded, Back, received, reborn}
+use Rattle.abt_machine.specs.Acts.{Act, Put, Take, Remove, Create, End, Join, AskCancel, AskMigrate, Look, Suspend, Resume, Revive, SetMigratable, Lock, TryLock, Unlock, Load, Store, Wait, Signal, Broadcast, Await, Fill, Reset, Test, Arrive, ReadLock, WriteLock, RwUnlock, Answer, Given, Through, Woke, Rested, Miss, Number, Asks, Coded, Back, received, reborn}
 use Rattle.abt_machine.specs.Values.{Owned}
 use Rattle.abt_unit.specs.Fits.{Fits}
 
@@ -55,6 +55,9 @@ contents_asked (Fill n) = nothing
 contents_asked Reset = nothing
 contents_asked Test = nothing
 contents_asked (Arrive o) = only_unit o
+contents_asked (ReadLock o) = only_unit o
+contents_asked (WriteLock o) = only_unit o
+contents_asked (RwUnlock u) = nothing
 
 -- what comes out with an answer
 abbrev pub contents_answered : Answer → Contents
@@ -77,7 +80,7 @@ pub record LastsWith (D : ℕ → Type 0) (F : Owned → Type 0) : Type 0 where
   pub received : (o : Owned) (n : ℕ) → F o → F (received n o)
   pub reborn : (o : Owned) (p : ℕ) → F o → D p → F (reborn p o)
 
--- objects of one kind, by what they hold and what they answer: where the facts are true of what they hold and of what comes
+-- objects of one kind, by what they hold and what they answer: if the facts are true of what they hold and of what comes
 -- in, they are true of what comes out and of what is held afterwards
 abbrev pub Keeps : (Owned → Type 0) → (ℕ → Type 0) → {Value : Type 0} → (Value → Contents) → (Value → Act → Answer → Value → Type 0) → Type 0
 Keeps F D {Value = Value} held Gives =

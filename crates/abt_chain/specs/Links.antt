@@ -7,7 +7,7 @@ pub record Walk : Type 0 where
   pub walked : ℕ
   pub owed : ℕ
 
--- the walk that a counter and a chain tell of
+-- the walk of a counter and a chain
 abbrev pub walk_of : ℕ → ChainValue → Walk
 walk_of steps chain = record { walked = steps; owed = chain.owed }
 

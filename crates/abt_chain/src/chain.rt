@@ -71,7 +71,7 @@ impl Chain {
         self.take_front_by::<Brand>(Blank::new(1))
     }
 
-    /// Takes the last unit. Where the back part is empty it gets half of the front part, so that units that are taken from both
+    /// Takes the last unit. If the back part is empty it gets half of the front part, so that units that are taken from both
     /// ends in turn are not turned over again and again.
     pub fn take_back(&mut self) -> Option<Box<Unit>>
         ensures none { IfNone result ((self.old.units ≡ []) × (self.new.units ≡ [])) }
@@ -116,7 +116,7 @@ impl Chain {
         }
     }
 
-    /// Appends all units to another chain, in order. It walks as many links as there are units here, and none where the
+    /// Appends all units to another chain, in order. It walks as many links as there are units here, and none if the
     /// other chain is empty.
     pub fn drain_into(&mut self, other: &mut Chain)
         ensures drained { self.new.units ≡ [] }
@@ -140,7 +140,7 @@ impl Chain {
         self.back = Some(unit);
     }
 
-    /// Takes the first unit: one link walked, and one more for each unit of the back part where the front part is empty.
+    /// Takes the first unit: one link walked, and one more for each unit of the back part if the front part is empty.
     pub fn take_front_counted<L: Ledger>(&mut self, steps: &mut Steps<L>) -> Option<Box<Unit>>
         ensures none { IfNone result ((self.old.units ≡ []) × (self.new.units ≡ [])) }
         ensures free { IfSome result (λ unit. IsFree unit.value) }

@@ -107,36 +107,49 @@ with-others (site.Pool x) (site.Monitor y) t c differ = refl
 with-others (site.Pool x) (site.Eventual y) t c differ = refl
 with-others (site.Pool x) (site.Future y) t c differ = refl
 with-others (site.Pool x) (site.Barrier y) t c differ = refl
+with-others (site.Pool x) (site.Rw y) t c differ = refl
 with-others (site.Desk x) (site.Pool y) t c differ = refl
 with-others (site.Desk x) (site.Desk y) t c differ = set-other c.desks x.0 y.0 t (flip-false y.0 x.0 differ)
 with-others (site.Desk x) (site.Monitor y) t c differ = refl
 with-others (site.Desk x) (site.Eventual y) t c differ = refl
 with-others (site.Desk x) (site.Future y) t c differ = refl
 with-others (site.Desk x) (site.Barrier y) t c differ = refl
+with-others (site.Desk x) (site.Rw y) t c differ = refl
 with-others (site.Monitor x) (site.Pool y) t c differ = refl
 with-others (site.Monitor x) (site.Desk y) t c differ = refl
 with-others (site.Monitor x) (site.Monitor y) t c differ = set-other c.slots x.0 y.0 t differ
 with-others (site.Monitor x) (site.Eventual y) t c differ = set-other c.slots x.0 y.0 t differ
 with-others (site.Monitor x) (site.Future y) t c differ = set-other c.slots x.0 y.0 t differ
 with-others (site.Monitor x) (site.Barrier y) t c differ = set-other c.slots x.0 y.0 t differ
+with-others (site.Monitor x) (site.Rw y) t c differ = set-other c.slots x.0 y.0 t differ
 with-others (site.Eventual x) (site.Pool y) t c differ = refl
 with-others (site.Eventual x) (site.Desk y) t c differ = refl
 with-others (site.Eventual x) (site.Monitor y) t c differ = set-other c.slots x.0 y.0 t differ
 with-others (site.Eventual x) (site.Eventual y) t c differ = set-other c.slots x.0 y.0 t differ
 with-others (site.Eventual x) (site.Future y) t c differ = set-other c.slots x.0 y.0 t differ
 with-others (site.Eventual x) (site.Barrier y) t c differ = set-other c.slots x.0 y.0 t differ
+with-others (site.Eventual x) (site.Rw y) t c differ = set-other c.slots x.0 y.0 t differ
 with-others (site.Future x) (site.Pool y) t c differ = refl
 with-others (site.Future x) (site.Desk y) t c differ = refl
 with-others (site.Future x) (site.Monitor y) t c differ = set-other c.slots x.0 y.0 t differ
 with-others (site.Future x) (site.Eventual y) t c differ = set-other c.slots x.0 y.0 t differ
 with-others (site.Future x) (site.Future y) t c differ = set-other c.slots x.0 y.0 t differ
 with-others (site.Future x) (site.Barrier y) t c differ = set-other c.slots x.0 y.0 t differ
+with-others (site.Future x) (site.Rw y) t c differ = set-other c.slots x.0 y.0 t differ
 with-others (site.Barrier x) (site.Pool y) t c differ = refl
 with-others (site.Barrier x) (site.Desk y) t c differ = refl
 with-others (site.Barrier x) (site.Monitor y) t c differ = set-other c.slots x.0 y.0 t differ
 with-others (site.Barrier x) (site.Eventual y) t c differ = set-other c.slots x.0 y.0 t differ
 with-others (site.Barrier x) (site.Future y) t c differ = set-other c.slots x.0 y.0 t differ
 with-others (site.Barrier x) (site.Barrier y) t c differ = set-other c.slots x.0 y.0 t differ
+with-others (site.Barrier x) (site.Rw y) t c differ = set-other c.slots x.0 y.0 t differ
+with-others (site.Rw x) (site.Pool y) t c differ = refl
+with-others (site.Rw x) (site.Desk y) t c differ = refl
+with-others (site.Rw x) (site.Monitor y) t c differ = set-other c.slots x.0 y.0 t differ
+with-others (site.Rw x) (site.Eventual y) t c differ = set-other c.slots x.0 y.0 t differ
+with-others (site.Rw x) (site.Future y) t c differ = set-other c.slots x.0 y.0 t differ
+with-others (site.Rw x) (site.Barrier y) t c differ = set-other c.slots x.0 y.0 t differ
+with-others (site.Rw x) (site.Rw y) t c differ = set-other c.slots x.0 y.0 t differ
 
 -- the site has its own
 with-own : (W : Parts) (x : Site) (t : ℕ) (c : ClocksValue) → HasClocks W c → IsSite W x → clock_at (with_clock x t c) x ≡ t
@@ -146,6 +159,7 @@ with-own W (site.Monitor x) t c has here = get_or-set_same c.slots x.0 t 0 (subs
 with-own W (site.Eventual x) t c has here = get_or-set_same c.slots x.0 t 0 (subst (λ n. x.0 < n) (sym has.slots) (slice_get_within W.objects x.0 _ here))
 with-own W (site.Future x) t c has here = get_or-set_same c.slots x.0 t 0 (subst (λ n. x.0 < n) (sym has.slots) (slice_get_within W.objects x.0 _ here.2))
 with-own W (site.Barrier x) t c has here = get_or-set_same c.slots x.0 t 0 (subst (λ n. x.0 < n) (sym has.slots) (slice_get_within W.objects x.0 _ here.1))
+with-own W (site.Rw x) t c has here = get_or-set_same c.slots x.0 t 0 (subst (λ n. x.0 < n) (sym has.slots) (slice_get_within W.objects x.0 _ here))
 
 with-has : (W : Parts) (x : Option Site) (t : ℕ) (c : ClocksValue) → HasClocks W c → HasClocks W (with_site x t c)
 with-has W None t c has = has
@@ -155,6 +169,7 @@ with-has W (Some (site.Monitor x)) t c has = record { streams = has.streams; poo
 with-has W (Some (site.Eventual x)) t c has = record { streams = has.streams; pools = has.pools; desks = has.desks; slots = length-set c.slots x.0 t ∙ has.slots }
 with-has W (Some (site.Future x)) t c has = record { streams = has.streams; pools = has.pools; desks = has.desks; slots = length-set c.slots x.0 t ∙ has.slots }
 with-has W (Some (site.Barrier x)) t c has = record { streams = has.streams; pools = has.pools; desks = has.desks; slots = length-set c.slots x.0 t ∙ has.slots }
+with-has W (Some (site.Rw x)) t c has = record { streams = has.streams; pools = has.pools; desks = has.desks; slots = length-set c.slots x.0 t ∙ has.slots }
 
 with-last : (x : Option Site) (t : ℕ) (c : ClocksValue) → ((with_site x t c).last ≡ c.last) × ((with_site x t c).streams ≡ c.streams)
 with-last None t c = (refl, refl)
@@ -164,6 +179,7 @@ with-last (Some (site.Monitor x)) t c = (refl, refl)
 with-last (Some (site.Eventual x)) t c = (refl, refl)
 with-last (Some (site.Future x)) t c = (refl, refl)
 with-last (Some (site.Barrier x)) t c = (refl, refl)
+with-last (Some (site.Rw x)) t c = (refl, refl)
 
 module _ (W : Parts) (J : List Event) (c : ClocksValue) (x : Option Site) (e : Event) (are : AreClocks W J c) (l : e.stream.0 < W.streams) (at : x ≡ event_site W e) (declared : (y : Site) → event_site W e ≡ Some y → IsSite W y) (ok : IsAllowed c x e) where
   abbrev mid : ClocksValue
@@ -179,6 +195,7 @@ module _ (W : Parts) (J : List Event) (c : ClocksValue) (x : Option Site) (e : E
   mid-at (site.Eventual y) = refl
   mid-at (site.Future y) = refl
   mid-at (site.Barrier y) = refl
+  mid-at (site.Rw y) = refl
 
   stream-noted : (s : ℕ) → IsLatest (J ++ e ∷ []) (IsOfStream s) (get_or (slice_set c.streams e.stream.0 e.stamp) s 0)
   stream-noted s =
@@ -241,6 +258,7 @@ site-zero W (site.Monitor x) c p d o = ap (λ (xs : List ℕ). get_or xs x.0 0) 
 site-zero W (site.Eventual x) c p d o = ap (λ (xs : List ℕ). get_or xs x.0 0) o ∙ zeros (length W.objects) x.0
 site-zero W (site.Future x) c p d o = ap (λ (xs : List ℕ). get_or xs x.0 0) o ∙ zeros (length W.objects) x.0
 site-zero W (site.Barrier x) c p d o = ap (λ (xs : List ℕ). get_or xs x.0 0) o ∙ zeros (length W.objects) x.0
+site-zero W (site.Rw x) c p d o = ap (λ (xs : List ℕ). get_or xs x.0 0) o ∙ zeros (length W.objects) x.0
 
 pub clocks-start : (W : Parts) (c : ClocksValue) → c.last ≡ None → c.streams ≡ none_yet W.streams → c.pools ≡ none_yet (length W.pools) → c.desks ≡ none_yet (length W.units) → c.slots ≡ none_yet (length W.objects) → AreClocks W [] c
 clocks-start W c l s p d o = record {

@@ -171,7 +171,7 @@ module _ (W : Parts) (Z : List OrderShape) (n s : ℕ) (S : State) (replay : Rep
         site = λ x is. declared x (steps-site W Z s (part_of W S s) w heard new steps ∙ is);
       }
 
-  -- What may not come.
+  -- What can't come.
 
   visits-due : (v : What) (p : ℕ) → May W Z S s v → visited v ≡ Some p → due W S s ≡ RoundDue
   visits-due (what.Miss q) p may e = may.0

@@ -21,7 +21,7 @@ use Rattle.abt_laws.proofs.RunParts.{run-front, run-rest, state_after-append}
 use Rattle.abt_check.specs.Clocks.{ClocksValue, Stamps}
 use Rattle.abt_check.specs.Judges.{HasJudged, JudgeValue, Judges}
 use Rattle.abt_check.specs.Replays.{IsAfter, IsDone, ReplayValue, StandsFor}
-use Rattle.abt_check.specs.Verdicts.{IsBadAt, IsJudged, IsStampedRun, OneVerdict}
+use Rattle.abt_check.specs.Verdicts.{IsJudged, IsRunUpTo, IsStampedRun, OneVerdict}
 use Rattle.abt_check.specs.declared.verdict.Verdict.{Verdict}
 use Rattle.abt_check.specs.declared.verdict.Verdict.TheVariants as verdict
 use Rattle.abt_check.proofs.Stamping.{stamped-front}
@@ -80,7 +80,7 @@ module _ (W : Parts) (Z : List OrderShape) where
 
   -- The verdict.
 
-  pub bad-at : (J : List Event) (at : ℕ) (e : Event) → at < length J → take (at + 1) J ≡ take at J ++ e ∷ [] → IsStampedRun W Z (take at J) → (IsStampedRun W Z (take at J ++ e ∷ []) → ⊥) → IsBadAt W Z J at
+  pub bad-at : (J : List Event) (at : ℕ) (e : Event) → at < length J → take (at + 1) J ≡ take at J ++ e ∷ [] → IsStampedRun W Z (take at J) → (IsStampedRun W Z (take at J ++ e ∷ []) → ⊥) → IsRunUpTo W Z J at
   bad-at J at e within more holds next = record {
     within = within;
     holds = holds;

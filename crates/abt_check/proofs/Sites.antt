@@ -19,6 +19,7 @@ own-place (site.Monitor x) = eq-eqb x.0 x.0 refl
 own-place (site.Eventual x) = eq-eqb x.0 x.0 refl
 own-place (site.Future x) = eq-eqb x.0 x.0 refl
 own-place (site.Barrier x) = eq-eqb x.0 x.0 refl
+own-place (site.Rw x) = eq-eqb x.0 x.0 refl
 
 -- the same number of another kind
 other-kind : (W : Parts) (x y : ℕ) (one two : Thing) → y ≡ x → thing_at W x ≡ Some one → thing_at W y ≡ Some two → one ≡ two
@@ -36,21 +37,32 @@ one-place W (site.Monitor x) (site.Monitor y) a b e = ap (λ n. site.Monitor (ob
 one-place W (site.Monitor x) (site.Eventual y) a b e = let k = other-kind W x.0 y.0 thing.Mutex thing.Eventual (eqb-true y.0 x.0 e) a b in cc
 one-place W (site.Monitor x) (site.Future y) a b e = let k = other-kind W x.0 y.0 thing.Mutex (thing.Future b.0 b.1) (eqb-true y.0 x.0 e) a b.2 in cc
 one-place W (site.Monitor x) (site.Barrier y) a b e = let k = other-kind W x.0 y.0 thing.Mutex (thing.Barrier b.0) (eqb-true y.0 x.0 e) a b.1 in cc
+one-place W (site.Monitor x) (site.Rw y) a b e = let k = other-kind W x.0 y.0 thing.Mutex thing.RwLock (eqb-true y.0 x.0 e) a b in cc
 one-place W (site.Eventual x) (site.Pool q) a b e = cc
 one-place W (site.Eventual x) (site.Desk v) a b e = cc
 one-place W (site.Eventual x) (site.Monitor y) a b e = let k = other-kind W x.0 y.0 thing.Eventual thing.Mutex (eqb-true y.0 x.0 e) a b in cc
 one-place W (site.Eventual x) (site.Eventual y) a b e = ap (λ n. site.Eventual (object_no n)) (sym (eqb-true y.0 x.0 e))
 one-place W (site.Eventual x) (site.Future y) a b e = let k = other-kind W x.0 y.0 thing.Eventual (thing.Future b.0 b.1) (eqb-true y.0 x.0 e) a b.2 in cc
 one-place W (site.Eventual x) (site.Barrier y) a b e = let k = other-kind W x.0 y.0 thing.Eventual (thing.Barrier b.0) (eqb-true y.0 x.0 e) a b.1 in cc
+one-place W (site.Eventual x) (site.Rw y) a b e = let k = other-kind W x.0 y.0 thing.Eventual thing.RwLock (eqb-true y.0 x.0 e) a b in cc
 one-place W (site.Future x) (site.Pool q) a b e = cc
 one-place W (site.Future x) (site.Desk v) a b e = cc
 one-place W (site.Future x) (site.Monitor y) a b e = let k = other-kind W x.0 y.0 (thing.Future a.0 a.1) thing.Mutex (eqb-true y.0 x.0 e) a.2 b in cc
 one-place W (site.Future x) (site.Eventual y) a b e = let k = other-kind W x.0 y.0 (thing.Future a.0 a.1) thing.Eventual (eqb-true y.0 x.0 e) a.2 b in cc
 one-place W (site.Future x) (site.Future y) a b e = ap (λ n. site.Future (object_no n)) (sym (eqb-true y.0 x.0 e))
 one-place W (site.Future x) (site.Barrier y) a b e = let k = other-kind W x.0 y.0 (thing.Future a.0 a.1) (thing.Barrier b.0) (eqb-true y.0 x.0 e) a.2 b.1 in cc
+one-place W (site.Future x) (site.Rw y) a b e = let k = other-kind W x.0 y.0 (thing.Future a.0 a.1) thing.RwLock (eqb-true y.0 x.0 e) a.2 b in cc
 one-place W (site.Barrier x) (site.Pool q) a b e = cc
 one-place W (site.Barrier x) (site.Desk v) a b e = cc
 one-place W (site.Barrier x) (site.Monitor y) a b e = let k = other-kind W x.0 y.0 (thing.Barrier a.0) thing.Mutex (eqb-true y.0 x.0 e) a.1 b in cc
 one-place W (site.Barrier x) (site.Eventual y) a b e = let k = other-kind W x.0 y.0 (thing.Barrier a.0) thing.Eventual (eqb-true y.0 x.0 e) a.1 b in cc
 one-place W (site.Barrier x) (site.Future y) a b e = let k = other-kind W x.0 y.0 (thing.Barrier a.0) (thing.Future b.0 b.1) (eqb-true y.0 x.0 e) a.1 b.2 in cc
 one-place W (site.Barrier x) (site.Barrier y) a b e = ap (λ n. site.Barrier (object_no n)) (sym (eqb-true y.0 x.0 e))
+one-place W (site.Barrier x) (site.Rw y) a b e = let k = other-kind W x.0 y.0 (thing.Barrier a.0) thing.RwLock (eqb-true y.0 x.0 e) a.1 b in cc
+one-place W (site.Rw x) (site.Pool q) a b e = cc
+one-place W (site.Rw x) (site.Desk v) a b e = cc
+one-place W (site.Rw x) (site.Monitor y) a b e = let k = other-kind W x.0 y.0 thing.RwLock thing.Mutex (eqb-true y.0 x.0 e) a b in cc
+one-place W (site.Rw x) (site.Eventual y) a b e = let k = other-kind W x.0 y.0 thing.RwLock thing.Eventual (eqb-true y.0 x.0 e) a b in cc
+one-place W (site.Rw x) (site.Future y) a b e = let k = other-kind W x.0 y.0 thing.RwLock (thing.Future b.0 b.1) (eqb-true y.0 x.0 e) a b.2 in cc
+one-place W (site.Rw x) (site.Barrier y) a b e = let k = other-kind W x.0 y.0 thing.RwLock (thing.Barrier b.0) (eqb-true y.0 x.0 e) a b.1 in cc
+one-place W (site.Rw x) (site.Rw y) a b e = ap (λ n. site.Rw (object_no n)) (sym (eqb-true y.0 x.0 e))

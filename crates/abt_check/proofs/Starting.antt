@@ -19,7 +19,7 @@ use Rattle.abt_machine.specs.Valid.{IsValid}
 use Rattle.abt_machine.specs.Values.{Held, Owned, owned_at}
 use Rattle.abt_machine.specs.Workloads.{start_of, thing_at}
 use Rattle.abt_calls.specs.Asking.{IsSite}
-use Rattle.abt_calls.specs.Starts.{first_units, start_barrier, start_eventual, start_future, start_monitor, start_object, start_part, starts_in}
+use Rattle.abt_calls.specs.Starts.{first_units, start_barrier, start_eventual, start_future, start_monitor, start_object, start_part, start_rwlock, starts_in}
 use Rattle.abt_calls.proofs.Started.{objects-start, parts-start}
 use Rattle.abt_laws.proofs.SoundStart.{start-is-sound}
 use Rattle.abt_replay.specs.Objects.{ObjectsValue, desk_from, object_at, pool_from, slot_from}
@@ -63,6 +63,9 @@ slot-future W x t n c is = subst (λ t. slot_for W x t ≡ start_future t) (sym 
 slot-barrier : (W : Parts) (x n : ℕ) (t : Option Thing) → t ≡ Some (thing.Barrier n) → slot_for W x t ≡ start_barrier t
 slot-barrier W x n t is = subst (λ t. slot_for W x t ≡ start_barrier t) (sym is) refl
 
+slot-rwlock : (W : Parts) (x : ℕ) (t : Option Thing) → t ≡ Some thing.RwLock → slot_for W x t ≡ start_rwlock W t
+slot-rwlock W x t is = subst (λ t. slot_for W x t ≡ start_rwlock W t) (sym is) refl
+
 slot-there : (W : Parts) (objects : ObjectsValue) (x : ℕ) (t : Thing) → AreObjectsAtStart W objects → thing_at W x ≡ Some t → slot_from (slice_get objects.slots x) ≡ slot_at W x
 slot-there W objects x t are is = ap slot_from (are.slots.own x (slice_get_within W.objects x t is))
 
@@ -74,6 +77,7 @@ objects-stand W objects are (site.Monitor x) here = slot-there W objects x.0 thi
 objects-stand W objects are (site.Eventual x) here = slot-there W objects x.0 thing.Eventual are here ∙ slot-eventual W x.0 (thing_at W x.0) here
 objects-stand W objects are (site.Future x) here = slot-there W objects x.0 (thing.Future here.0 here.1) are here.2 ∙ slot-future W x.0 (thing_at W x.0) here.0 here.1 here.2
 objects-stand W objects are (site.Barrier x) here = slot-there W objects x.0 (thing.Barrier here.0) are here.1 ∙ slot-barrier W x.0 here.0 (thing_at W x.0) here.1
+objects-stand W objects are (site.Rw x) here = slot-there W objects x.0 thing.RwLock are here ∙ slot-rwlock W x.0 (thing_at W x.0) here
 
 -- streams and objects are those of the first state
 pub replay-starts : (W : Parts) (lanes : List Held) (objects : ObjectsValue) → AreNumbered W.streams (start_part W) lanes → AreObjectsAtStart W objects → StandsFor W (start W) (record { lanes = lanes; objects = objects })

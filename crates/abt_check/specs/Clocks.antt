@@ -25,6 +25,7 @@ clock_at c (site.Monitor x) = get_or c.slots x.0 0
 clock_at c (site.Eventual x) = get_or c.slots x.0 0
 clock_at c (site.Future x) = get_or c.slots x.0 0
 clock_at c (site.Barrier x) = get_or c.slots x.0 0
+clock_at c (site.Rw x) = get_or c.slots x.0 0
 
 -- the clock of the site, if there is one
 abbrev pub clock_of : ClocksValue → Option Site → ℕ
@@ -76,6 +77,7 @@ with_clock (site.Monitor x) t c = record c { slots = slice_set c.slots x.0 t }
 with_clock (site.Eventual x) t c = record c { slots = slice_set c.slots x.0 t }
 with_clock (site.Future x) t c = record c { slots = slice_set c.slots x.0 t }
 with_clock (site.Barrier x) t c = record c { slots = slice_set c.slots x.0 t }
+with_clock (site.Rw x) t c = record c { slots = slice_set c.slots x.0 t }
 
 -- so is that of the site, if there is one
 abbrev pub with_site : Option Site → ℕ → ClocksValue → ClocksValue

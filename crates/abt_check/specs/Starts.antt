@@ -5,7 +5,7 @@ use Rattle.abt_machine.specs.declared.operations.Thing.TheVariants as thing
 use Rattle.abt_machine.specs.declared.workload.Parts.{Parts}
 use Rattle.abt_machine.specs.Values.{NotHere, Object}
 use Rattle.abt_machine.specs.Workloads.{thing_at}
-use Rattle.abt_calls.specs.Starts.{start_barrier, start_desk, start_eventual, start_future, start_monitor, start_pool}
+use Rattle.abt_calls.specs.Starts.{start_barrier, start_desk, start_eventual, start_future, start_monitor, start_pool, start_rwlock}
 use Rattle.abt_replay.specs.Objects.{ObjectsValue}
 use Rattle.abt_check.specs.Lists.{AreNumbered}
 
@@ -17,6 +17,7 @@ slot_for W x (Some (thing.Cond m)) = NotHere
 slot_for W x (Some thing.Eventual) = start_eventual (Some thing.Eventual)
 slot_for W x (Some (thing.Future n c)) = start_future (Some (thing.Future n c))
 slot_for W x (Some (thing.Barrier n)) = start_barrier (Some (thing.Barrier n))
+slot_for W x (Some thing.RwLock) = start_rwlock W (Some thing.RwLock)
 
 abbrev pub slot_at : Parts → ℕ → Object
 slot_at W x = slot_for W x (thing_at W x)

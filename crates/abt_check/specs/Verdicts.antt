@@ -13,7 +13,7 @@ abbrev pub IsStampedRun : Parts → List OrderShape → List Event → Type 0
 IsStampedRun W Z J = Run W Z J × Stamped W J
 
 -- at is the greatest number of first events of the journal that are a stamped run, and it has more events than these
-pub record IsBadAt (W : Parts) (Z : List OrderShape) (J : List Event) (at : ℕ) : Type 0 where
+pub record IsRunUpTo (W : Parts) (Z : List OrderShape) (J : List Event) (at : ℕ) : Type 0 where
   pub within : at < length J
   pub holds : IsStampedRun W Z (take at J)
   pub greatest : (n : ℕ) → n ≤ length J → IsStampedRun W Z (take n J) → n ≤ at
@@ -21,7 +21,7 @@ pub record IsBadAt (W : Parts) (Z : List OrderShape) (J : List Event) (at : ℕ)
 -- the verdict on the journal is right
 abbrev pub IsJudged : Parts → List OrderShape → List Event → Verdict → Type 0
 IsJudged W Z J verdict.Run = IsStampedRun W Z J
-IsJudged W Z J (verdict.Bad at) = IsBadAt W Z J at
+IsJudged W Z J (verdict.Bad at) = IsRunUpTo W Z J at
 
 -- a journal has one right verdict
 abbrev pub OneVerdict : Parts → List OrderShape → Type 0

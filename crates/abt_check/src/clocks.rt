@@ -100,6 +100,7 @@ impl Clocks {
             Site::Eventual(x) => clock_in(&self.slots, x.0),
             Site::Future(x) => clock_in(&self.slots, x.0),
             Site::Barrier(x) => clock_in(&self.slots, x.0),
+            Site::Rw(x) => clock_in(&self.slots, x.0),
         }
     }
 
@@ -126,6 +127,7 @@ impl Clocks {
             Site::Eventual(x) => set(&mut self.slots, x.0, stamp),
             Site::Future(x) => set(&mut self.slots, x.0, stamp),
             Site::Barrier(x) => set(&mut self.slots, x.0, stamp),
+            Site::Rw(x) => set(&mut self.slots, x.0, stamp),
         }
     }
 }

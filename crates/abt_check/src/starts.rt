@@ -12,7 +12,7 @@ ghost use Rattle.abt_machine.specs.Workloads.{is_condition_of, start_of};
 
 use abt_machine::{Body, ObjectNo, PoolNo, StreamNo, Thing, UnitNo, Want, Workload};
 use abt_replay::{
-    Barrier, Desk, Eventual, Future, Kept, Lane, Monitor, Objects, Phase, Pool, Slot, Unit,
+    Barrier, Desk, Eventual, Future, Kept, Lane, Monitor, Objects, Phase, Pool, RwLock, Slot, Unit,
 };
 use std::alloc::Global;
 use std::collections::VecDeque;
@@ -132,6 +132,7 @@ fn slot(alloc: Global, w: &Workload, x: ObjectNo) -> Result<Slot, Want>
         Thing::Eventual => Kept::Eventual(Eventual::new(alloc)),
         Thing::Future(size, combine) => Kept::Future(Future::new(alloc, size, combine)),
         Thing::Barrier(size) => Kept::Barrier(Barrier::new(alloc, size)),
+        Thing::RwLock => Kept::RwLock(RwLock::new(alloc, w.units())?),
     };
     Ok(Slot { kept })
 }

@@ -16,6 +16,7 @@ use Rattle.abt_monitor.specs.contracts.monitor.Monitor as Monitor
 use Rattle.abt_eventual.specs.contracts.eventual.Eventual as Eventual
 use Rattle.abt_eventual.specs.contracts.future.Future as Future
 use Rattle.abt_barrier.specs.contracts.barrier.Barrier as Barrier
+use Rattle.abt_rwlock.specs.contracts.rwlock.RwLock as RwLock
 use Rattle.abt_booth.proofs.Crosses.{Booth-field-sync, Booth-sync, Seat-send}
 use Rattle.abt_commons.specs.contracts.acts.Act as Act
 use Rattle.abt_commons.specs.contracts.acts.Answer as Answer
@@ -77,11 +78,17 @@ Barrier-send = search (sendable, Chain-send) depth 30
 Barrier-sync : IsSync Barrier.the_row
 Barrier-sync = search (sendable, Chain-sync) depth 30
 
+RwLock-send : IsSend RwLock.the_row
+RwLock-send = search (sendable, crosses, Chain-send, Unit-send) depth 40
+
+RwLock-sync : IsSync RwLock.the_row
+RwLock-sync = search (sendable, crosses, Vec-sync, Chain-sync, Unit-sync) depth 40
+
 Shared-send : IsSend Shared.the_row
-Shared-send = search (sendable, Pool-send, Desk-send, Monitor-send, Eventual-send, Future-send, Barrier-send) depth 30
+Shared-send = search (sendable, Pool-send, Desk-send, Monitor-send, Eventual-send, Future-send, Barrier-send, RwLock-send) depth 30
 
 Shared-sync : IsSync Shared.the_row
-Shared-sync = search (sendable, Pool-sync, Desk-sync, Monitor-sync, Eventual-sync, Future-sync, Barrier-sync) depth 30
+Shared-sync = search (sendable, Pool-sync, Desk-sync, Monitor-sync, Eventual-sync, Future-sync, Barrier-sync, RwLock-sync) depth 30
 
 pub One-send : (a : NamedLft) → IsSend (One.the_row a)
 One-send a = let shared = Box-send Shared.the_row Shared-send in search (sendable, Workload-sync) depth 30

@@ -16,7 +16,7 @@ use Rattle.abt_machine.specs.Workloads.{is_condition_of}
 use Rattle.abt_desk.specs.Phases.{shown_in}
 use Rattle.abt_machine.specs.declared.events.Site.TheVariants as site
 use Rattle.abt_machine.specs.declared.operations.Thing.TheVariants as thing
-use Rattle.abt_machine.specs.Values.{Object, PoolIs, DeskIs, MonitorIs, EventualIs, FutureIs, BarrierIs, object_of}
+use Rattle.abt_machine.specs.Values.{Object, PoolIs, DeskIs, MonitorIs, EventualIs, FutureIs, BarrierIs, RwLockIs, object_of}
 use Rattle.abt_machine.specs.Numbers.{pool_no, unit_no}
 use Rattle.abt_machine.specs.Start.{start}
 use Rattle.abt_machine.specs.Workloads.{thing_at}
@@ -29,7 +29,7 @@ use Rattle.abt_calls.specs.Totals.{desks_of, holders_from, pools_at, thing_holde
 use Rattle.abt_commons.specs.Groups.{FitsRow, all_rows, row_of, rows_by, rows_from, rows_held}
 use Rattle.abt_commons.specs.Held.{OneValue, ObjectsValue, numbered_object, object_from}
 use Rattle.abt_commons.specs.Reading.{rows_at_site}
-use Rattle.abt_commons.specs.Sites.{monitor_number, eventual_number, future_number, barrier_number, site_at, site_number, sites, thing_number}
+use Rattle.abt_commons.specs.Sites.{monitor_number, eventual_number, future_number, barrier_number, rwlock_number, site_at, site_number, sites, thing_number}
 use Rattle.abt_commons.proofs.Numbers.{declared-some, desk-there, pool-there, thing-there}
 
 -- the unit of a desk
@@ -114,6 +114,7 @@ module _ (W : Parts) where
   object-fits (site.Eventual x) (EventualIs e) all = as-fit (shows.Object x) e.waiters all
   object-fits (site.Future x) (FutureIs f) all = as-fit (shows.Object x) f.waiters all
   object-fits (site.Barrier x) (BarrierIs b) all = as-fit (shows.Object x) b.waiters all
+  object-fits (site.Rw x) (RwLockIs l) all = as-fit (shows.Object x) l.waiters all
   object-fits x object all = All-nil (FitsRow W)
 
   pub by-fit : (x : Option Site) (object : Object) → All (Fits W) (contents_of object).units → All (FitsRow W) (rows_by W x object)
@@ -211,6 +212,7 @@ module _ (held : ObjectsValue) (many : length held.objects ≡ sites held.worklo
   thing-rows x thing.Eventual is = at-site (site.Eventual (object_no x)) (thing_number W x) (thing-there W x (Some thing.Eventual) is) (ap (eventual_number (thing_number W x)) is) ∙ sym (append-nil (rows_at_site held (site.Eventual (object_no x))))
   thing-rows x (thing.Future n c) is = at-site (site.Future (object_no x)) (thing_number W x) (thing-there W x (Some (thing.Future n c)) is) (ap (future_number (thing_number W x)) is) ∙ sym (append-nil (rows_at_site held (site.Future (object_no x))))
   thing-rows x (thing.Barrier n) is = at-site (site.Barrier (object_no x)) (thing_number W x) (thing-there W x (Some (thing.Barrier n)) is) (ap (barrier_number (thing_number W x)) is) ∙ sym (append-nil (rows_at_site held (site.Barrier (object_no x))))
+  thing-rows x thing.RwLock is = at-site (site.Rw (object_no x)) (thing_number W x) (thing-there W x (Some thing.RwLock) is) (ap (rwlock_number (thing_number W x)) is) ∙ sym (append-nil (rows_at_site held (site.Rw (object_no x))))
 
   things-from : (ts : List Thing) (x i : ℕ) → i ≡ thing_number W x → ts ≡ drop x W.objects → flat_map rows (range_with_len i (length ts)) ≡ flat_map (rows_held held) (holders_from x ts)
   things-from [] x i number is = refl

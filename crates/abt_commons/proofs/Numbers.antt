@@ -12,7 +12,7 @@ use Rattle.abt_machine.specs.Numbers.{pool_no, unit_no}
 use Rattle.abt_machine.specs.Workloads.{thing_at}
 use Rattle.abt_laws.proofs.Options.{none≢some, some-injective}
 use Rattle.abt_calls.specs.Asking.{IsSite}
-use Rattle.abt_commons.specs.Sites.{sites, site_at, site_of, site_number, thing_number, declared_number, monitor_number, eventual_number, future_number, barrier_number}
+use Rattle.abt_commons.specs.Sites.{sites, site_at, site_of, site_number, thing_number, declared_number, monitor_number, eventual_number, future_number, barrier_number, rwlock_number}
 
 module _ (W : Parts) where
   abbrev before : ℕ
@@ -55,6 +55,7 @@ module _ (W : Parts) where
   monitor-by x i (Some thing.Eventual) is e = absurd (none≢some e)
   monitor-by x i (Some (thing.Future n c)) is e = absurd (none≢some e)
   monitor-by x i (Some (thing.Barrier n)) is e = absurd (none≢some e)
+  monitor-by x i (Some thing.RwLock) is e = absurd (none≢some e)
 
   eventual-by : (x : ObjectNo) (i : ℕ) (t : Option Thing) → thing_at W x.0 ≡ t → eventual_number (thing_number W x.0) t ≡ Some i → Numbers (site.Eventual x) i
   eventual-by x i None is e = absurd (none≢some e)
@@ -63,6 +64,7 @@ module _ (W : Parts) where
   eventual-by x i (Some thing.Eventual) is e = thing-numbered x (site.Eventual x) i thing.Eventual is refl e
   eventual-by x i (Some (thing.Future n c)) is e = absurd (none≢some e)
   eventual-by x i (Some (thing.Barrier n)) is e = absurd (none≢some e)
+  eventual-by x i (Some thing.RwLock) is e = absurd (none≢some e)
 
   future-by : (x : ObjectNo) (i : ℕ) (t : Option Thing) → thing_at W x.0 ≡ t → future_number (thing_number W x.0) t ≡ Some i → Numbers (site.Future x) i
   future-by x i None is e = absurd (none≢some e)
@@ -71,6 +73,7 @@ module _ (W : Parts) where
   future-by x i (Some thing.Eventual) is e = absurd (none≢some e)
   future-by x i (Some (thing.Future n c)) is e = thing-numbered x (site.Future x) i (thing.Future n c) is refl e
   future-by x i (Some (thing.Barrier n)) is e = absurd (none≢some e)
+  future-by x i (Some thing.RwLock) is e = absurd (none≢some e)
 
   barrier-by : (x : ObjectNo) (i : ℕ) (t : Option Thing) → thing_at W x.0 ≡ t → barrier_number (thing_number W x.0) t ≡ Some i → Numbers (site.Barrier x) i
   barrier-by x i None is e = absurd (none≢some e)
@@ -79,6 +82,16 @@ module _ (W : Parts) where
   barrier-by x i (Some thing.Eventual) is e = absurd (none≢some e)
   barrier-by x i (Some (thing.Future n c)) is e = absurd (none≢some e)
   barrier-by x i (Some (thing.Barrier n)) is e = thing-numbered x (site.Barrier x) i (thing.Barrier n) is refl e
+  barrier-by x i (Some thing.RwLock) is e = absurd (none≢some e)
+
+  rwlock-by : (x : ObjectNo) (i : ℕ) (t : Option Thing) → thing_at W x.0 ≡ t → rwlock_number (thing_number W x.0) t ≡ Some i → Numbers (site.Rw x) i
+  rwlock-by x i None is e = absurd (none≢some e)
+  rwlock-by x i (Some thing.Mutex) is e = absurd (none≢some e)
+  rwlock-by x i (Some (thing.Cond m)) is e = absurd (none≢some e)
+  rwlock-by x i (Some thing.Eventual) is e = absurd (none≢some e)
+  rwlock-by x i (Some (thing.Future n c)) is e = absurd (none≢some e)
+  rwlock-by x i (Some (thing.Barrier n)) is e = absurd (none≢some e)
+  rwlock-by x i (Some thing.RwLock) is e = thing-numbered x (site.Rw x) i thing.RwLock is refl e
 
   numbered : (x : Site) (i : ℕ) → site_number W x ≡ Some i → Numbers x i
   numbered (site.Pool p) i = declared-by (site.Pool p) p.0 i (slice_get W.pools p.0)
@@ -89,6 +102,7 @@ module _ (W : Parts) where
   numbered (site.Eventual x) i = eventual-by x i (thing_at W x.0) refl
   numbered (site.Future x) i = future-by x i (thing_at W x.0) refl
   numbered (site.Barrier x) i = barrier-by x i (thing_at W x.0) refl
+  numbered (site.Rw x) i = rwlock-by x i (thing_at W x.0) refl
 
   pub number-within : (x : Site) (i : ℕ) → site_number W x ≡ Some i → i < sites W
   number-within x i is = (numbered x i is).0
@@ -112,6 +126,7 @@ module _ (W : Parts) where
   site-numbered (site.Eventual x) is = (thing_number W x.0, ap (eventual_number (thing_number W x.0)) is)
   site-numbered (site.Future x) is = (thing_number W x.0, ap (future_number (thing_number W x.0)) is.2)
   site-numbered (site.Barrier x) is = (thing_number W x.0, ap (barrier_number (thing_number W x.0)) is.1)
+  site-numbered (site.Rw x) is = (thing_number W x.0, ap (rwlock_number (thing_number W x.0)) is)
 
 -- Lists of one item many times, and with one item set.
 

@@ -16,10 +16,10 @@ use Rattle.abt_machine.specs.declared.workload.Parts.{Parts}
 use Rattle.abt_machine.specs.Monitors.{list_from}
 use Rattle.abt_machine.specs.Numbers.{object_no}
 use Rattle.abt_machine.specs.Pools.{is_unit}
-use Rattle.abt_machine.specs.Values.{Owned, Object, Phase, PoolIs, DeskIs, MonitorIs, EventualIs, FutureIs, BarrierIs, NotHere, conditions_of}
+use Rattle.abt_machine.specs.Values.{Owned, Object, Phase, PoolIs, DeskIs, MonitorIs, EventualIs, FutureIs, BarrierIs, RwLockIs, NotHere, conditions_of}
 use Rattle.abt_laws.proofs.Options.{none≢some, some-injective}
 use Rattle.abt_calls.specs.Showing.{Row, rows_as, rows_at, rows_at_desk, rows_of_object}
-use Rattle.abt_commons.specs.Reading.{is_row_of, rows_at_site, waiters_of_barrier, waiters_of_condition, waiters_of_eventual, waiters_of_future, waiters_of_monitor}
+use Rattle.abt_commons.specs.Reading.{is_row_of, rows_at_site, waiters_of_barrier, waiters_of_condition, waiters_of_eventual, waiters_of_future, waiters_of_monitor, waiters_of_rwlock}
 use Rattle.abt_commons.specs.Held.{IsWhole, OneValue, held_in, object_at}
 use Rattle.abt_commons.specs.Sites.{site_number}
 use Rattle.abt_commons.proofs.Moving.{object-here, old-ours}
@@ -96,6 +96,7 @@ module _ (u : ℕ) where
     monitor-other (EventualIs e) none conds = All-nil IsOther
     monitor-other (FutureIs f) none conds = All-nil IsOther
     monitor-other (BarrierIs b) none conds = All-nil IsOther
+    monitor-other (RwLockIs l) none conds = All-nil IsOther
     monitor-other NotHere none conds = All-nil IsOther
 
     pub eventual-other : (object : Object) → find (is_unit u) (waiters_of_eventual object) ≡ None → All IsOther (rows_of_object W (site.Eventual x) object)
@@ -105,6 +106,7 @@ module _ (u : ℕ) where
     eventual-other (EventualIs e) none = as-other (shows.Object x) e.waiters none
     eventual-other (FutureIs f) none = All-nil IsOther
     eventual-other (BarrierIs b) none = All-nil IsOther
+    eventual-other (RwLockIs l) none = All-nil IsOther
     eventual-other NotHere none = All-nil IsOther
 
     pub future-other : (object : Object) → find (is_unit u) (waiters_of_future object) ≡ None → All IsOther (rows_of_object W (site.Future x) object)
@@ -114,6 +116,7 @@ module _ (u : ℕ) where
     future-other (EventualIs e) none = All-nil IsOther
     future-other (FutureIs f) none = as-other (shows.Object x) f.waiters none
     future-other (BarrierIs b) none = All-nil IsOther
+    future-other (RwLockIs l) none = All-nil IsOther
     future-other NotHere none = All-nil IsOther
 
     pub barrier-other : (object : Object) → find (is_unit u) (waiters_of_barrier object) ≡ None → All IsOther (rows_of_object W (site.Barrier x) object)
@@ -123,7 +126,18 @@ module _ (u : ℕ) where
     barrier-other (EventualIs e) none = All-nil IsOther
     barrier-other (FutureIs f) none = All-nil IsOther
     barrier-other (BarrierIs b) none = as-other (shows.Object x) b.waiters none
+    barrier-other (RwLockIs l) none = All-nil IsOther
     barrier-other NotHere none = All-nil IsOther
+
+    pub rwlock-other : (object : Object) → find (is_unit u) (waiters_of_rwlock object) ≡ None → All IsOther (rows_of_object W (site.Rw x) object)
+    rwlock-other (PoolIs pool) none = All-nil IsOther
+    rwlock-other (DeskIs desk) none = All-nil IsOther
+    rwlock-other (MonitorIs m) none = All-nil IsOther
+    rwlock-other (EventualIs e) none = All-nil IsOther
+    rwlock-other (FutureIs f) none = All-nil IsOther
+    rwlock-other (BarrierIs b) none = All-nil IsOther
+    rwlock-other (RwLockIs l) none = as-other (shows.Object x) l.waiters none
+    rwlock-other NotHere none = All-nil IsOther
 
     pub monitor-there : (object : Object) (o : Owned) → find (is_unit u) (waiters_of_monitor object) ≡ Some o → Contains (rows_of_object W (site.Monitor x) object) (shows.Object x, o) × (o.number ≡ u)
     monitor-there (PoolIs pool) o found = absurd (none≢some found)
@@ -134,6 +148,7 @@ module _ (u : ℕ) where
     monitor-there (EventualIs e) o found = absurd (none≢some found)
     monitor-there (FutureIs f) o found = absurd (none≢some found)
     monitor-there (BarrierIs b) o found = absurd (none≢some found)
+    monitor-there (RwLockIs l) o found = absurd (none≢some found)
     monitor-there NotHere o found = absurd (none≢some found)
 
     pub eventual-there : (object : Object) (o : Owned) → find (is_unit u) (waiters_of_eventual object) ≡ Some o → Contains (rows_of_object W (site.Eventual x) object) (shows.Object x, o) × (o.number ≡ u)
@@ -143,6 +158,7 @@ module _ (u : ℕ) where
     eventual-there (EventualIs e) o found = as-there (shows.Object x) e.waiters o found
     eventual-there (FutureIs f) o found = absurd (none≢some found)
     eventual-there (BarrierIs b) o found = absurd (none≢some found)
+    eventual-there (RwLockIs l) o found = absurd (none≢some found)
     eventual-there NotHere o found = absurd (none≢some found)
 
     pub future-there : (object : Object) (o : Owned) → find (is_unit u) (waiters_of_future object) ≡ Some o → Contains (rows_of_object W (site.Future x) object) (shows.Object x, o) × (o.number ≡ u)
@@ -152,6 +168,7 @@ module _ (u : ℕ) where
     future-there (EventualIs e) o found = absurd (none≢some found)
     future-there (FutureIs f) o found = as-there (shows.Object x) f.waiters o found
     future-there (BarrierIs b) o found = absurd (none≢some found)
+    future-there (RwLockIs l) o found = absurd (none≢some found)
     future-there NotHere o found = absurd (none≢some found)
 
     pub barrier-there : (object : Object) (o : Owned) → find (is_unit u) (waiters_of_barrier object) ≡ Some o → Contains (rows_of_object W (site.Barrier x) object) (shows.Object x, o) × (o.number ≡ u)
@@ -161,7 +178,18 @@ module _ (u : ℕ) where
     barrier-there (EventualIs e) o found = absurd (none≢some found)
     barrier-there (FutureIs f) o found = absurd (none≢some found)
     barrier-there (BarrierIs b) o found = as-there (shows.Object x) b.waiters o found
+    barrier-there (RwLockIs l) o found = absurd (none≢some found)
     barrier-there NotHere o found = absurd (none≢some found)
+
+    pub rwlock-there : (object : Object) (o : Owned) → find (is_unit u) (waiters_of_rwlock object) ≡ Some o → Contains (rows_of_object W (site.Rw x) object) (shows.Object x, o) × (o.number ≡ u)
+    rwlock-there (PoolIs pool) o found = absurd (none≢some found)
+    rwlock-there (DeskIs desk) o found = absurd (none≢some found)
+    rwlock-there (MonitorIs m) o found = absurd (none≢some found)
+    rwlock-there (EventualIs e) o found = absurd (none≢some found)
+    rwlock-there (FutureIs f) o found = absurd (none≢some found)
+    rwlock-there (BarrierIs b) o found = absurd (none≢some found)
+    rwlock-there (RwLockIs l) o found = as-there (shows.Object x) l.waiters o found
+    rwlock-there NotHere o found = absurd (none≢some found)
 
     pub condition-there : (object : Object) (k c : ℕ) (o : Owned) → slice_get (conditions_of W x.0) k ≡ Some c → find (is_unit u) (waiters_of_condition k object) ≡ Some o
         → Contains (rows_of_object W (site.Monitor x) object) (shows.Object (object_no c), o) × (o.number ≡ u)
@@ -173,6 +201,7 @@ module _ (u : ℕ) where
     condition-there (EventualIs e) k c o at found = absurd (none≢some found)
     condition-there (FutureIs f) k c o at found = absurd (none≢some found)
     condition-there (BarrierIs b) k c o at found = absurd (none≢some found)
+    condition-there (RwLockIs l) k c o at found = absurd (none≢some found)
     condition-there NotHere k c o at found = absurd (none≢some found)
 
 -- The object at a site's number.

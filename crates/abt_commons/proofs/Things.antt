@@ -17,7 +17,7 @@ use Rattle.abt_machine.specs.declared.operations.Thing.TheVariants as thing
 use Rattle.abt_machine.specs.declared.workload.Parts.{Parts}
 use Rattle.abt_machine.specs.Acts.{Signal}
 use Rattle.abt_machine.specs.Numbers.{object_no}
-use Rattle.abt_machine.specs.Operations.{IsMutex, IsEventual, IsFuture, IsBarrier}
+use Rattle.abt_machine.specs.Operations.{IsMutex, IsEventual, IsFuture, IsBarrier, IsRwLock}
 use Rattle.abt_machine.specs.Pools.{is_unit}
 use Rattle.abt_machine.specs.Start.{start}
 use Rattle.abt_machine.specs.Valid.{IsValid}
@@ -32,8 +32,8 @@ use Rattle.abt_calls.specs.Showing.{Row, rows_of_object}
 use Rattle.abt_calls.proofs.Asked.{condition-below}
 use Rattle.abt_commons.specs.Held.{IsWhole, ObjectsValue, OneValue, held_in, numbered_object, object_at, object_from}
 use Rattle.abt_commons.specs.Reading.{HoldNone, IsHeldAs, is_row_of, object_of_thing, rows_at_site, waiters_at_thing, waiters_by, waiters_of_condition}
-use Rattle.abt_commons.specs.Sites.{barrier_number, eventual_number, future_number, monitor_number, sites, thing_number}
-use Rattle.abt_commons.proofs.Rows.{IsOther, row-there, rows-other, monitor-other, eventual-other, future-other, barrier-other, monitor-there, condition-there, eventual-there, future-there, barrier-there}
+use Rattle.abt_commons.specs.Sites.{barrier_number, eventual_number, future_number, monitor_number, rwlock_number, sites, thing_number}
+use Rattle.abt_commons.proofs.Rows.{IsOther, row-there, rows-other, monitor-other, eventual-other, future-other, barrier-other, rwlock-other, monitor-there, condition-there, eventual-there, future-there, barrier-there, rwlock-there}
 
 -- Conditions by their numbers.
 
@@ -43,6 +43,7 @@ condition-by m (thing.Cond n) e = (n, refl, eqb-true n.0 m e)
 condition-by m thing.Eventual e = absurd (false≢true e)
 condition-by m (thing.Future k c) e = absurd (false≢true e)
 condition-by m (thing.Barrier k) e = absurd (false≢true e)
+condition-by m thing.RwLock e = absurd (false≢true e)
 
 -- the thing at a place of the list of conditions
 record IsAt (m i k c : ℕ) (ts : List Thing) : Type 0 where
@@ -102,6 +103,9 @@ module _ (held : ObjectsValue) where
   barrier-here : (x : ObjectNo) → IsBarrier W x.0 → object_at held (site.Barrier x) ≡ object_of_thing held x.0
   barrier-here x is = ap (λ t. numbered_object held.objects (first (site.Barrier x)) (barrier_number (thing_number W x.0) t)) is.1
 
+  rwlock-here : (x : ObjectNo) → IsRwLock W x.0 → object_at held (site.Rw x) ≡ object_of_thing held x.0
+  rwlock-here x is = ap (λ t. numbered_object held.objects (first (site.Rw x)) (rwlock_number (thing_number W x.0) t)) is
+
   -- No unit u.
 
   module _ (u : ℕ) where
@@ -132,6 +136,8 @@ module _ (held : ObjectsValue) where
         subst (λ o. All (IsOther u) (rows_of_object W (site.Future x) o)) (sym (future-here x is)) (future-other u W x (object_of_thing held x.0) (none-waits none x.0 (thing.Future is.0 is.1) is.2))
     hold-none pools desks none (site.Barrier x) is =
         subst (λ o. All (IsOther u) (rows_of_object W (site.Barrier x) o)) (sym (barrier-here x is)) (barrier-other u W x (object_of_thing held x.0) (none-waits none x.0 (thing.Barrier is.0) is.1))
+    hold-none pools desks none (site.Rw x) is =
+        subst (λ o. All (IsOther u) (rows_of_object W (site.Rw x) o)) (sym (rwlock-here x is)) (rwlock-other u W x (object_of_thing held x.0) (none-waits none x.0 thing.RwLock is))
 
     -- A unit u.
 
@@ -155,6 +161,8 @@ module _ (held : ObjectsValue) where
         from-object (site.Future x) (object_of_thing held x.0) (shows.Object x, o) (n, c, is) (future-here x (n, c, is)) (future-there u W x (object_of_thing held x.0) o found)
     held-by valid x o (Some (thing.Barrier n)) is found =
         from-object (site.Barrier x) (object_of_thing held x.0) (shows.Object x, o) (n, is) (barrier-here x (n, is)) (barrier-there u W x (object_of_thing held x.0) o found)
+    held-by valid x o (Some thing.RwLock) is found =
+        from-object (site.Rw x) (object_of_thing held x.0) (shows.Object x, o) is (rwlock-here x is) (rwlock-there u W x (object_of_thing held x.0) o found)
 
     pub held-waiting : IsValid W → (x : ObjectNo) (o : Owned) → find (is_unit u) (waiters_at_thing held x.0) ≡ Some o → IsHeldAs held u (shows.Object x, o)
     held-waiting valid x o found = held-by valid x o (thing_at W x.0) refl found

@@ -93,7 +93,7 @@ module _ (booths : List (Booth OneValue Act Answer)) (room ones : List OneValue)
       let n : length (map opening_of booths ++ reverse room) ≡ length ones = ap length all in
       omega (arith, n, length-append (map opening_of booths) (reverse room), length-map booths opening_of, length-reverse room)
 
-  -- Where the locks are closed with no call made, all objects stand in the room again, and the clocks are as they were.
+  -- If the locks are closed with no call made, all objects stand in the room again, and the clocks are as they were.
   pub all-back : (W : Parts) (clocks ends : List ℕ) (n : ℕ) (passes : List SplitPass) (full : List OneValue) → IsWhole (held_in W ones clocks) → AreDealt booths (length room) n passes → AllEnded booths passes clocks room full ends
       → (reverse full ≡ ones) × (ends ≡ clocks)
   all-back W clocks ends n passes full whole dealt ended =

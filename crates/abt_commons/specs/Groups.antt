@@ -35,12 +35,12 @@ all_rows held =
 abbrev pub FitsRow : Parts → Row → Type 0
 FitsRow W row = Fits W row.1
 
--- the unit of a desk, where it is there
+-- the unit of a desk, if it is there
 abbrev pub row_of : Option Row → List Row
 row_of None = []
 row_of (Some row) = row ∷ []
 
--- the units of an object at a site, where it stands at one
+-- the units of an object at a site, if it stands at one
 abbrev pub rows_by : Parts → Option Site → Object → List Row
 rows_by W None object = []
 rows_by W (Some x) object = rows_of_object W x object

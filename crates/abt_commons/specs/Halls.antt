@@ -50,7 +50,7 @@ module _ {g : Ghosts ObjectsValue Ask Answer} where
     pub clocks : (x : Site) → IsSite (opening_of booth).workload x → clock_at held x ≡ max carried closing
     pub every : All (λ clock. clock ≡ max carried closing) held.clocks
 
--- the greatest of these clocks, 0 where there is none
+-- the greatest of these clocks, 0 if there is none
 pub record IsGreatest (clock : ℕ) (clocks : List ℕ) : Type 0 where
   pub above : All (λ c. c ≤ clock) clocks
   pub one : (clock ≡ 0) ⊎ ((i : ℕ) × (slice_get clocks i ≡ Some clock))

@@ -5,7 +5,7 @@ use Rattle.abt_machine.specs.declared.events.Site.{Site}
 use Rattle.abt_machine.specs.declared.operations.Thing.{Thing}
 use Rattle.abt_machine.specs.declared.operations.Thing.TheVariants as thing
 use Rattle.abt_machine.specs.Workloads.{condition_number, thing_at}
-use Rattle.abt_machine.specs.Values.{Object, Owned, PoolIs, DeskIs, MonitorIs, EventualIs, FutureIs, BarrierIs, NotHere}
+use Rattle.abt_machine.specs.Values.{Object, Owned, PoolIs, DeskIs, MonitorIs, EventualIs, FutureIs, BarrierIs, RwLockIs, NotHere}
 use Rattle.abt_machine.specs.Futures as future
 use Rattle.abt_machine.specs.Desks.{is_living}
 use Rattle.abt_machine.specs.Monitors.{at_condition}
@@ -23,6 +23,7 @@ is_ready (MonitorIs m) = false
 is_ready (EventualIs e) = is_some e.value
 is_ready (FutureIs f) = future.is_ready f
 is_ready (BarrierIs b) = false
+is_ready (RwLockIs l) = false
 is_ready NotHere = false
 
 -- the object is a desk whose unit is there, unborn or ended
@@ -33,6 +34,7 @@ is_over (MonitorIs m) = false
 is_over (EventualIs e) = false
 is_over (FutureIs f) = false
 is_over (BarrierIs b) = false
+is_over (RwLockIs l) = false
 is_over NotHere = false
 
 -- Units that objects hold, each with what a report shows of its place.
@@ -56,7 +58,7 @@ HoldNone held u = (x : Site) → IsSite held.workload x → All (λ (row : Row).
 abbrev pub is_row_of : ℕ → Row → Bool
 is_row_of u row = is_unit u row.1
 
--- Units that wait for an object, where it is of the kind.
+-- Units that wait for an object, if it is of the kind.
 
 abbrev pub waiters_of_monitor : Object → List Owned
 waiters_of_monitor (MonitorIs m) = m.waiters
@@ -79,6 +81,10 @@ abbrev pub waiters_of_barrier : Object → List Owned
 waiters_of_barrier (BarrierIs b) = b.waiters
 waiters_of_barrier object = []
 
+abbrev pub waiters_of_rwlock : Object → List Owned
+waiters_of_rwlock (RwLockIs l) = l.waiters
+waiters_of_rwlock object = []
+
 -- the object of a thing
 abbrev pub object_of_thing : ObjectsValue → ℕ → Object
 object_of_thing held x = object_from (slice_get held.objects (thing_number held.workload x))
@@ -91,6 +97,7 @@ waiters_by held x (Some (thing.Cond m)) = waiters_of_condition (condition_number
 waiters_by held x (Some thing.Eventual) = waiters_of_eventual (object_of_thing held x)
 waiters_by held x (Some (thing.Future n c)) = waiters_of_future (object_of_thing held x)
 waiters_by held x (Some (thing.Barrier n)) = waiters_of_barrier (object_of_thing held x)
+waiters_by held x (Some thing.RwLock) = waiters_of_rwlock (object_of_thing held x)
 
 abbrev pub waiters_at_thing : ObjectsValue → ℕ → List Owned
 waiters_at_thing held x = waiters_by held x (thing_at held.workload x)

@@ -12,7 +12,7 @@ use Rattle.abt_machine.specs.Workloads.{thing_at}
 abbrev pub sites : Parts → ℕ
 sites W = length W.pools + length W.units + length W.objects
 
--- the number, where the workload declares a pool, a unit or a thing of that kind there
+-- the number, if the workload declares a pool, a unit or a thing of that kind there
 
 abbrev pub declared_number : {Part : Type 0} → ℕ → Option Part → Option ℕ
 declared_number i (Some part) = Some i
@@ -34,6 +34,10 @@ abbrev pub barrier_number : ℕ → Option Thing → Option ℕ
 barrier_number i (Some (thing.Barrier n)) = Some i
 barrier_number i _ = None
 
+abbrev pub rwlock_number : ℕ → Option Thing → Option ℕ
+rwlock_number i (Some thing.RwLock) = Some i
+rwlock_number i _ = None
+
 -- the number of thing x
 abbrev pub thing_number : Parts → ℕ → ℕ
 thing_number W x = length W.pools + length W.units + x
@@ -46,6 +50,7 @@ site_number W (site.Monitor x) = monitor_number (thing_number W x.0) (thing_at W
 site_number W (site.Eventual x) = eventual_number (thing_number W x.0) (thing_at W x.0)
 site_number W (site.Future x) = future_number (thing_number W x.0) (thing_at W x.0)
 site_number W (site.Barrier x) = barrier_number (thing_number W x.0) (thing_at W x.0)
+site_number W (site.Rw x) = rwlock_number (thing_number W x.0) (thing_at W x.0)
 
 -- the site of thing x, by its kind: a condition is none
 abbrev pub site_of : ℕ → Option Thing → Option Site
@@ -55,8 +60,9 @@ site_of x (Some (thing.Cond m)) = None
 site_of x (Some thing.Eventual) = Some (site.Eventual (object_no x))
 site_of x (Some (thing.Future n c)) = Some (site.Future (object_no x))
 site_of x (Some (thing.Barrier n)) = Some (site.Barrier (object_no x))
+site_of x (Some thing.RwLock) = Some (site.Rw (object_no x))
 
--- the site of number i, where it is a site's
+-- the site of number i, if it is a site's
 abbrev pub site_at : Parts → ℕ → Option Site
 site_at W i = cond (nat_lt i (length W.pools)) (Some (site.Pool (pool_no i)))
     (cond (nat_lt i (length W.pools + length W.units)) (Some (site.Desk (unit_no (i - length W.pools))))

@@ -96,6 +96,10 @@ fn give_shared(
             Shared::Barrier(barrier) => give_alike(Shown::Object(x), barrier.into_units(), groups),
             _ => Ok(()),
         },
+        Site::Rw(x) => match shared {
+            Shared::RwLock(rwlock) => give_alike(Shown::Object(x), rwlock.into_units(), groups),
+            _ => Ok(()),
+        },
     }
 }
 
@@ -107,7 +111,7 @@ fn give_alike(shown: Shown, units: Chain, groups: &mut Vec<Group>) -> Result<(),
     Ok(())
 }
 
-// Appends the unit of a desk, where it is there, and its joiners.
+// Appends the unit of a desk, if it is there, and its joiners.
 fn give_desk(u: UnitNo, desk: Desk, groups: &mut Vec<Group>) -> Result<(), Want>
     ensures { OnOk result (rows_in groups.new.items ≡ rows_in groups.old.items ++ (rows_at_desk desk.phase ++ rows_as (shows.Join u) desk.joiners)) }
 {

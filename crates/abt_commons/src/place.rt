@@ -17,6 +17,7 @@ use abt_eventual::{Eventual, Future};
 use abt_machine::{Body, ObjectNo, PoolNo, Thing, UnitNo, Want, Workload};
 use abt_monitor::Monitor;
 use abt_pool::Pool;
+use abt_rwlock::RwLock;
 use abt_unit::Unit;
 use std::alloc::Global;
 
@@ -78,7 +79,7 @@ fn place_unit<'w>(
     Ok(())
 }
 
-// The desk of the unit. Where it starts in a pool, the unit is put there.
+// The desk of the unit. If it starts in a pool, the unit is put there.
 fn desk_of<'w>(w: &'w Workload, u: UnitNo, unit: Box<Unit>, ones: &mut Vec<One<'w>>) -> Desk
     requires unit { IsNewUnit w.now u.0 unit.value }
     requires before { ones.old.items ≡ placed_units w.now u.0 }
@@ -136,6 +137,7 @@ fn placed_thing(alloc: Global, w: &Workload, x: ObjectNo) -> Result<Shared, Want
         Thing::Eventual => Shared::Eventual(Eventual::new()),
         Thing::Future(size, combine) => Shared::Future(Future::new(size, combine)),
         Thing::Barrier(size) => Shared::Barrier(Barrier::new(size)),
+        Thing::RwLock => Shared::RwLock(RwLock::new(alloc, w.units())?),
     })
 }
 

@@ -110,7 +110,7 @@ impl<'w> One<'w> {
 }
 
 impl<'w> Objects<'w> {
-    /// What a report shows of the unit of that number. None exactly where the objects hold no such unit. The time is that of a
+    /// What a report shows of the unit of that number. None exactly if the objects hold no such unit. The time is that of a
     /// walk over all objects and all units that they hold, and for each condition over the objects declared before it.
     pub fn shown(&self, u: UnitNo) -> Option<Shown>
         ensures none { IfNone result (HoldNone self.now u.0) }
@@ -122,7 +122,7 @@ impl<'w> Objects<'w> {
         }
     }
 
-    /// The output of the unit of that number. None exactly where the objects hold no such unit. The time is that of `shown`.
+    /// The output of the unit of that number. None exactly if the objects hold no such unit. The time is that of `shown`.
     pub fn output(&self, u: UnitNo) -> Option<&[Piece]>
         ensures none { IfNone result (HoldNone self.now u.0) }
         ensures held { IfSome result (λ pieces. (row : Row) × IsHeldAs self.now u.0 row × (row.1.carried.output ≡ pieces.now)) }
@@ -218,6 +218,7 @@ impl<'w> Objects<'w> {
             Thing::Eventual => self.ones[thing_number(self.w, x)].eventual_waiter(u),
             Thing::Future(_, _) => self.ones[thing_number(self.w, x)].future_waiter(u),
             Thing::Barrier(_) => self.ones[thing_number(self.w, x)].barrier_waiter(u),
+            Thing::RwLock => self.ones[thing_number(self.w, x)].rwlock_waiter(u),
         }
     }
 

@@ -22,6 +22,7 @@ pub(crate) fn site_number(w: &Workload, site: Site) -> usize
         Site::Eventual(x) => things + x.0 as usize,
         Site::Future(x) => things + x.0 as usize,
         Site::Barrier(x) => things + x.0 as usize,
+        Site::Rw(x) => things + x.0 as usize,
     }
 }
 
@@ -62,5 +63,6 @@ fn site_of(w: &Workload, x: ObjectNo) -> Option<Site>
         Thing::Eventual => Some(Site::Eventual(x)),
         Thing::Future(_, _) => Some(Site::Future(x)),
         Thing::Barrier(_) => Some(Site::Barrier(x)),
+        Thing::RwLock => Some(Site::Rw(x)),
     }
 }

@@ -8,7 +8,7 @@ ghost use Rattle.abt_machine.specs.Acts as asked;
 ghost use Rattle.abt_machine.specs.Pools.{is_unit};
 ghost use Rattle.abt_calls.specs.Allowed.{Allows};
 ghost use Rattle.abt_calls.specs.Showing.{rows_as, rows_at_desk, rows_of_object};
-ghost use Rattle.abt_commons.specs.Reading.{is_row_of, waiters_of_barrier, waiters_of_condition, waiters_of_eventual, waiters_of_future, waiters_of_monitor};
+ghost use Rattle.abt_commons.specs.Reading.{is_row_of, waiters_of_barrier, waiters_of_condition, waiters_of_eventual, waiters_of_future, waiters_of_monitor, waiters_of_rwlock};
 
 use crate::one::One;
 use crate::shared::Shared;
@@ -58,7 +58,7 @@ fn found_at_desk(desk: &Desk, v: UnitNo, u: UnitNo) -> Option<(Shown, &Unit)>
     }
 }
 
-// The desk's own unit, where the desk holds it and it has that number, and what a report shows of it.
+// The desk's own unit, if the desk holds it and it has that number, and what a report shows of it.
 fn own_unit(desk: &Desk, u: UnitNo) -> Option<(Shown, &Unit)>
     ensures none { IfNone result (find (is_row_of u.0) (rows_at_desk desk.now.phase) ≡ None) }
     ensures found { IfSome result (λ found. find (is_row_of u.0) (rows_at_desk desk.now.phase) ≡ Some (found.0, found.1.now.owned)) }
@@ -75,7 +75,7 @@ fn own_unit(desk: &Desk, u: UnitNo) -> Option<(Shown, &Unit)>
     }
 }
 
-// The first unit of that number that waits for the object, where it is of the kind.
+// The first unit of that number that waits for the object, if it is of the kind.
 impl<'w> One<'w> {
     pub(crate) fn monitor_waiter(&self, u: UnitNo) -> Option<&Unit>
         ensures none { IfNone result (find (is_unit u.0) (waiters_of_monitor self.now.object) ≡ None) }
@@ -124,6 +124,16 @@ impl<'w> One<'w> {
     {
         match &*self.shared {
             Shared::Barrier(barrier) => barrier.waiter(u),
+            _ => None,
+        }
+    }
+
+    pub(crate) fn rwlock_waiter(&self, u: UnitNo) -> Option<&Unit>
+        ensures none { IfNone result (find (is_unit u.0) (waiters_of_rwlock self.now.object) ≡ None) }
+        ensures found { IfSome result (λ unit. find (is_unit u.0) (waiters_of_rwlock self.now.object) ≡ Some unit.now.owned) }
+    {
+        match &*self.shared {
+            Shared::RwLock(rwlock) => rwlock.waiter(u),
             _ => None,
         }
     }

@@ -53,7 +53,7 @@ with-joiner-has : (F : Owned → Type 0) (phase : Phase) (os : List Owned) (x : 
 with-joiner-has F phase os x all has =
     subst (All F) (append_assoc (held_in phase) os (x ∷ [])) (All-append F (held_in phase ++ os) (x ∷ []) all (All-cons F x [] has (All-nil F)))
 
--- a unit that ends or is suspended, where it comes back to its desk and where it is kept as a joiner
+-- a unit that ends or is suspended, if it comes back to its desk and if it is kept as a joiner
 
 end-keeps : (F : Owned → Type 0) (D : ℕ → Type 0) (old : DeskValue) (o : Owned) (cause : Cause) (back : Bool) → HaveIn F D old → F o
     → All F (if back then old.joiners else []) × HaveIn F D (if back then with_ended o cause old else with_joiner o old)

@@ -4,7 +4,7 @@ use Rattle.abt_machine.specs.Desks.{DeskGives}
 use Rattle.abt_machine.specs.Values.{Owned, Phase, Unborn, Out, Suspended, Ended, DeskValue}
 use Rattle.abt_chain.specs.Keeping.{Contents, KeepsWhatFits, pools_in}
 
--- the desk's own unit, where the desk holds it
+-- the desk's own unit, if the desk holds it
 abbrev pub held_in : Phase → List Owned
 held_in (Unborn o) = o ∷ []
 held_in Out = []

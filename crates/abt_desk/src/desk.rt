@@ -96,7 +96,7 @@ impl Desk {
         }
     }
 
-    /// Begins the unit's first life, with that home. `Exists` where it is not unborn.
+    /// Begins the unit's first life, with that home. `Exists` if it is not unborn.
     pub fn create(&mut self, home: PoolNo) -> Result<Box<Unit>, Code>
         ensures created { IfOk result (λ unit. DeskGives self.old (act.Create home.0) (act.Given unit.value.owned) self.new) }
         ensures free { IfOk result (λ unit. IsFree unit.value) }
@@ -111,7 +111,7 @@ impl Desk {
         }
     }
 
-    /// Ends the unit's life: the joiners come out in order, and nothing is asked any longer. Where the desk is not out, or the
+    /// Ends the unit's life: the joiners come out in order, and nothing is asked any longer. If the desk is not out, or the
     /// unit is not its own, the unit is kept as the last joiner instead, and nothing comes out.
     pub fn end(&mut self, unit: Box<Unit>, cause: Cause) -> Chain
         requires { IsFree unit.value }
@@ -127,7 +127,7 @@ impl Desk {
         }
     }
 
-    /// The unit goes on where the desk's unit has ended; else it is kept as the last joiner.
+    /// The unit goes on if the desk's unit has ended; else it is kept as the last joiner.
     pub fn join(&mut self, unit: Box<Unit>) -> Option<Box<Unit>>
         requires { IsFree unit.value }
         ensures goes_on { IfSome result (λ back. DeskGives self.old (act.Join unit.value.owned) (act.Given back.value.owned) self.new) }
@@ -143,7 +143,7 @@ impl Desk {
         }
     }
 
-    /// Asks the unit to end at its next look. `UnitState` where it is unborn or has ended.
+    /// Asks the unit to end at its next look. `UnitState` if it is unborn or has ended.
     pub fn ask_cancel(&mut self) -> Code
         ensures { DeskGives self.old act.AskCancel (act.Coded result) self.new }
     {
@@ -154,8 +154,8 @@ impl Desk {
         Code::Ok
     }
 
-    /// Asks the unit to go to a pool at its next look, in place of what was asked before. `UnitState` where it is unborn or has
-    /// ended, else `NotMigratable` where it is not migratable.
+    /// Asks the unit to go to a pool at its next look, in place of what was asked before. `UnitState` if it is unborn or has
+    /// ended, else `NotMigratable` if it is not migratable.
     pub fn ask_migrate(&mut self, p: PoolNo) -> Code
         ensures { DeskGives self.old (act.AskMigrate p.0) (act.Coded result) self.new }
     {
@@ -185,7 +185,7 @@ impl Desk {
         self.number
     }
 
-    /// Suspends the unit. Where the desk is not out, or the unit is not its own, the unit is kept as the last joiner instead.
+    /// Suspends the unit. If the desk is not out, or the unit is not its own, the unit is kept as the last joiner instead.
     pub fn suspend(&mut self, unit: Box<Unit>)
         requires { IsFree unit.value }
         ensures { DeskGives self.old (act.Suspend unit.value.owned) act.Rested self.new }
@@ -197,7 +197,7 @@ impl Desk {
         }
     }
 
-    /// The unit, which goes on. None (`UnitState`) where it is not suspended.
+    /// The unit, which goes on. None (`UnitState`) if it is not suspended.
     pub fn resume(&mut self) -> Option<Box<Unit>>
         ensures resumed { IfSome result (λ unit. DeskGives self.old act.Resume (act.Given unit.value.owned) self.new) }
         ensures free { IfSome result (λ unit. IsFree unit.value) }
@@ -212,7 +212,7 @@ impl Desk {
         }
     }
 
-    /// The unit at the beginning of a further life, with that home. None (`UnitState`) where it has not ended.
+    /// The unit at the beginning of a further life, with that home. None (`UnitState`) if it has not ended.
     pub fn revive(&mut self, home: PoolNo) -> Option<Box<Unit>>
         ensures revived { IfSome result (λ unit. DeskGives self.old (act.Revive home.0) (act.Given unit.value.owned) self.new) }
         ensures free { IfSome result (λ unit. IsFree unit.value) }
@@ -238,7 +238,7 @@ impl Desk {
         Code::Ok
     }
 
-    /// The unit that the desk holds. None where it is out.
+    /// The unit that the desk holds. None if it is out.
     pub fn held(&self) -> Option<&Unit>
         ensures none { IfNone result (self.now.phase ≡ Out) }
         ensures found { IfSome result (λ unit.
@@ -251,7 +251,7 @@ impl Desk {
         }
     }
 
-    /// How a report shows the unit that the desk holds. None where it is out.
+    /// How a report shows the unit that the desk holds. None if it is out.
     pub fn shown(&self) -> Option<Shown>
         ensures unborn { (o : Owned) → self.now.phase ≡ Unborn o → result ≡ Some shows.Unborn }
         ensures out { self.now.phase ≡ Out → result ≡ None }
@@ -266,7 +266,7 @@ impl Desk {
         }
     }
 
-    /// The unit that the desk holds, with how a report shows it, and all joiners in order. No unit where the desk is out.
+    /// The unit that the desk holds, with how a report shows it, and all joiners in order. No unit if the desk is out.
     pub fn into_units(self) -> (Option<(Shown, Box<Unit>)>, Chain)
         ensures own { option_map shown_unit result.0 ≡ shown_in self.phase }
         ensures free { IfSome result.0 (λ held. IsFree held.1.value) }
@@ -275,7 +275,7 @@ impl Desk {
         (shown_in(self.phase), self.joiners)
     }
 
-    /// The first joiner of that number. None where there is none.
+    /// The first joiner of that number. None if there is none.
     pub fn joiner(&self, u: UnitNo) -> Option<&Unit>
         ensures none { IfNone result (find (is_unit u.0) self.now.joiners ≡ None) }
         ensures found { IfSome result (λ unit. find (is_unit u.0) self.now.joiners ≡ Some unit.now.owned) }

@@ -38,7 +38,7 @@ fn born(rt: &impl Abort, desk: &mut Desk) -> Box<Unit>
     own
 }
 
-// What comes out where the unit ends.
+// What comes out when the unit ends.
 fn ended(desk: &mut Desk, unit: Box<Unit>, cause: Cause) -> Chain
     requires { IsFree unit.value }
 {

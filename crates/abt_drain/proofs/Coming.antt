@@ -80,7 +80,7 @@ module _ (W : Parts) (Z : List OrderShape) (valid : IsValid W) (stored : OrdersS
         (all-from-among (λ (d : StreamDeed). d.stream ≡ s) (come.deeds s) (λ d a. own-log (machine_of W Z) (part_of W (start W)) (object_of W (start W)) come.deeds come.histories m.parts m.objects come.gathered s d a)),
   )
 
-  -- where it looks as it ended so, the journal is a run that did
+  -- if it looks as it ended so, the journal is a run that did
   pub come-ran : (J : List Event) → MergesTo m.logs J → (o : Outcome) → LooksAs W n m.parts m.objects (made_at m) o → IsRunOf W Z n J o
   come-ran J merged o looks =
       let lead : LeadTo W Z J m = come-lead J merged in

@@ -17,7 +17,7 @@ use Rattle.abt_simulation.proofs.MergedStamps.{merged-is-lamport}
 use Rattle.abt_drain.specs.Moments.{HasCome, IsReached, LeadTo, Moment}
 use Rattle.abt_drain.proofs.Coming.{come-clock-low, come-journal, come-lead, come-stream-unworn, is-journal}
 
--- where each stamp is one more than the greater of its stream's last and its site's last, the journal's stamps are Lamport's
+-- if each stamp is one more than the greater of its stream's last and its site's last, the journal's stamps are Lamport's
 pub come-lamport : (W : Parts) (Z : List OrderShape) (valid : IsValid W) (stored : OrdersStored W Z) (n : ℕ) (m : Moment) (come : HasCome W Z n m) → ((s : ℕ) → AllTimed come.histories 0 (come.deeds s)) →
     (J : List Event) → MergesTo m.logs J → Lamport W J
 come-lamport W Z valid stored n m come timed J merged =

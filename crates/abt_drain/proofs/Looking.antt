@@ -17,7 +17,7 @@ use Rattle.abt_machine.specs.Runs.{last_state}
 use Rattle.abt_machine.specs.Turns.{due_of}
 use Rattle.abt_machine.specs.Valid.{IsValid}
 use Rattle.abt_machine.proofs.Checked.{map-all}
-use Rattle.abt_machine.specs.Values.{Owned, Object, PoolIs, DeskIs, MonitorIs, EventualIs, FutureIs, BarrierIs, NotHere, Phase, Unborn, Out, Suspended, Ended}
+use Rattle.abt_machine.specs.Values.{Owned, Object, PoolIs, DeskIs, MonitorIs, EventualIs, FutureIs, BarrierIs, RwLockIs, NotHere, Phase, Unborn, Out, Suspended, Ended}
 use Rattle.abt_machine.specs.Workloads.{main_from, main_of, pools_from, pools_of}
 use Rattle.abt_calls.specs.Allowed.{Allows}
 use Rattle.abt_calls.specs.Keeps.{contents_of}
@@ -90,6 +90,7 @@ empty-pool (MonitorIs m) may none = absurd may
 empty-pool (EventualIs e) may none = absurd may
 empty-pool (FutureIs f) may none = absurd may
 empty-pool (BarrierIs b) may none = absurd may
+empty-pool (RwLockIs l) may none = absurd may
 empty-pool NotHere may none = absurd may
 
 pub used-pool : (o : Object) → (length (contents_of o).units == 0) ≡ false → IsEmptyPool o → ⊥
@@ -99,6 +100,7 @@ used-pool (MonitorIs m) some empty = empty
 used-pool (EventualIs e) some empty = empty
 used-pool (FutureIs f) some empty = empty
 used-pool (BarrierIs b) some empty = empty
+used-pool (RwLockIs l) some empty = empty
 used-pool NotHere some empty = empty
 
 module _ (W : Parts) (s : ℕ) (g : SchedNo) (part : SchedPart) (pools : List PoolNo) (main : slice_get W.mains s ≡ Some g) (sched : slice_get W.scheds g.0 ≡ Some part) (same : pools ≡ part.pools) where
@@ -142,6 +144,7 @@ over-desk (MonitorIs m) is = cc
 over-desk (EventualIs e) is = cc
 over-desk (FutureIs f) is = cc
 over-desk (BarrierIs b) is = cc
+over-desk (RwLockIs l) is = cc
 over-desk NotHere is = cc
 
 pub living-desk : (o : Object) → is_over o ≡ false → IsOverAt o → ⊥
@@ -156,6 +159,7 @@ living-desk (MonitorIs m) is over = over
 living-desk (EventualIs e) is over = over
 living-desk (FutureIs f) is over = over
 living-desk (BarrierIs b) is over = over
+living-desk (RwLockIs l) is over = over
 living-desk NotHere is over = over
 
 -- Runs.

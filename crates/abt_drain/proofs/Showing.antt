@@ -109,6 +109,7 @@ module _ (W : Parts) (S : State) where
     same-thing x thing.Eventual = ap (λ rs. rs ++ []) (same-at (site.Eventual (object_no x)))
     same-thing x (thing.Future n c) = ap (λ rs. rs ++ []) (same-at (site.Future (object_no x)))
     same-thing x (thing.Barrier n) = ap (λ rs. rs ++ []) (same-at (site.Barrier (object_no x)))
+    same-thing x thing.RwLock = ap (λ rs. rs ++ []) (same-at (site.Rw (object_no x)))
 
     same-things : (x : ℕ) (ts : List Thing) → flat_map (rows_held objects) (holders_from x ts) ≡ flat_map (rows_with W S) (holders_from x ts)
     same-things x [] = refl

@@ -110,7 +110,7 @@ IsAtStop W n m = W.streams ≡ 1 → HasMissed m 0 ⊎ IsSpentIn W n m 0
 
 -- the journal has no event, or no proper prefix of it stops
 abbrev pub HasNotStoppedBefore : Parts → ℕ → List Event → Type 0
-HasNotStoppedBefore W n J = (J ≡ []) ⊎ ((front : List Event) × (e : Event) × (J ≡ front ++ e ∷ []) × HasNotStopped W n front)
+HasNotStoppedBefore W n J = (J ≡ []) ⊎ ((before : List Event) × (e : Event) × (J ≡ before ++ e ∷ []) × HasNotStopped W n before)
 
 -- the log of a workload's only stream has not stopped before its last event
 abbrev pub IsGoing : Parts → ℕ → Moment → Type 0

@@ -7,18 +7,18 @@ use Rattle.abt_machine.specs.declared.events.Site.TheVariants as site
 use Rattle.abt_machine.specs.declared.operations.Op.{Op}
 use Rattle.abt_machine.specs.declared.operations.Op.TheVariants as op
 use Rattle.abt_machine.specs.declared.workload.Parts.{Parts}
-use Rattle.abt_machine.specs.Operations.{IsDeclared, IsMutex, IsEventual, IsFuture, IsBarrier}
+use Rattle.abt_machine.specs.Operations.{IsDeclared, IsMutex, IsEventual, IsFuture, IsBarrier, IsRwLock}
 use Rattle.abt_machine.specs.Workloads.{IsCondition, condition_number, mutex_of, thing_at}
 use Rattle.abt_machine.specs.Valid.{IsValid}
 use Rattle.abt_machine.specs.Access.{may_put, may_take}
 use Rattle.abt_machine.specs.Sites.{first_pool}
 use Rattle.abt_machine.specs.State.{State}
-use Rattle.abt_machine.specs.Values.{Owned, barrier_at, conditions_of, eventual_at, future_at, monitor_at, object_of, waiters_at}
+use Rattle.abt_machine.specs.Values.{Owned, barrier_at, conditions_of, eventual_at, future_at, monitor_at, object_of, rwlock_at, waiters_at}
 use Rattle.abt_machine.specs.Acts.{Act, moved}
 use Rattle.abt_machine.specs.Acts as act
 use Rattle.abt_machine.specs.Plans.{Plan, Does, Calls, Exits, denied, plan_of}
 use Rattle.abt_laws.proofs.Declared.{mutex-declared}
-use Rattle.abt_calls.specs.Allowed.{Allows, MonitorAllows, EventualAllows, BarrierAllows}
+use Rattle.abt_calls.specs.Allowed.{Allows, MonitorAllows, EventualAllows, BarrierAllows, RwLockAllows}
 use Rattle.abt_calls.proofs.Asked.{condition-below}
 
 -- the object that a plan calls in state S, if it calls one, may be asked what it asks
@@ -43,6 +43,9 @@ module _ (W : Parts) (S : State) where
 
   of-barrier : (x : ℕ) (asked : Act) → IsBarrier W x → BarrierAllows asked → Allows (barrier_at W S x (thing_at W x)) asked
   of-barrier x asked is allowed = subst (λ t. Allows (barrier_at W S x t) asked) (sym is.1) allowed
+
+  of-rwlock : (x : ℕ) (asked : Act) → IsRwLock W x → RwLockAllows asked → Allows (rwlock_at W S x (thing_at W x)) asked
+  of-rwlock x asked is allowed = subst (λ t. Allows (rwlock_at W S x t) asked) (sym is) allowed
 
   -- of the monitor of a condition
   of-condition : (x : ℕ) (asked : Act) → IsValid W → IsCondition W x → MonitorAllows (length (conditions_of W (mutex_of W x))) asked → Allows (monitor_at W S (mutex_of W x) (thing_at W (mutex_of W x))) asked
@@ -84,3 +87,8 @@ module _ (W : Parts) (S : State) where
   plan-allowed s (op.FuReset x) o valid is = of-future x.0 act.Reset is tt
   plan-allowed s (op.FuTest x) o valid is = of-future x.0 act.Test is tt
   plan-allowed s (op.BarWait x) o valid is = of-barrier x.0 (act.Arrive (moved o)) is tt
+  plan-allowed s (op.ReadLock x) o valid is = of-rwlock x.0 (act.ReadLock (moved o)) is tt
+  plan-allowed s (op.WriteLock x) o valid is = of-rwlock x.0 (act.WriteLock (moved o)) is tt
+  plan-allowed s (op.RwUnlock x) o valid is = of-rwlock x.0 (act.RwUnlock o.number) is tt
+  plan-allowed s (op.RwLoad x) o valid is = of-rwlock x.0 (act.Load o.number) is tt
+  plan-allowed s (op.RwStore x) o valid is = of-rwlock x.0 (act.Store o.number o.carried.acc) is tt

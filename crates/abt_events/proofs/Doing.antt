@@ -1,4 +1,4 @@
--- Where an event may come its stream makes a step, with the answer of the object that it then calls.
+-- If an event may come its stream makes a step, with the answer of the object that it then calls.
 use Rattle.std.proofs.Common.{◌≡◌, ℕ, ◌<◌, ◌-◌, List, [], ◌∷◌, ◌++◌, length, map, get_or, Option, Some, None, refl, sym, ◌∙◌, ap}
 use Rattle.std.proofs.lemmas.List.{map-append}
 use Rattle.std.proofs.lemmas.List.Elements.{All-contains}
@@ -68,7 +68,7 @@ last-of (w ∷ us) u among = has-last w us
 
 -- What a stream does.
 
--- where event w may come, stream s makes this step of its part, with this answer of the object that it calls; in a round at the same pool
+-- if event w may come, stream s makes this step of its part, with this answer of the object that it calls; in a round at the same pool
 pub record Turn (W : Parts) (Z : List OrderShape) (S : State) (s : ℕ) (w : What) : Type 0 where
   pub does : What
   pub heard : Option Heard
@@ -149,7 +149,7 @@ module _ (W : Parts) (Z : List OrderShape) (S : State) (s : ℕ) where
         let answered : (answer : Answer) × (new : Object) × SiteGives (object_of W S (site.Pool p)) (act.Take (side_of W s p.0)) answer new = allowed-is-answered (object_of W S (site.Pool p)) (act.Take (side_of W s p.0)) (may.allowed S) in
         at-pool w p at is order answered.0 answered.1 answered.2
 
-    -- a unit has an operation left where a step is due
+    -- a unit has an operation left if a step is due
     has-op : (u : ℕ) → due W S s ≡ StepDue → hand W S s ≡ Some u → (a : Op) × (op_at W u (S.carried u).position ≡ Some a)
     has-op u is hands =
         let ops : List Op = ops_of (body_at W u) in

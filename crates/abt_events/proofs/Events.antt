@@ -1,4 +1,4 @@
--- Each event is a step of its stream: what its stream does where it may come is the event itself, since there is one at each pool.
+-- Each event is a step of its stream: what its stream does if it may come is the event itself, since there is one at each pool.
 use Rattle.std.proofs.Common.{◌≡◌, ℕ, List, Option, Some, None, refl, sym, ◌∙◌, subst}
 use Rattle.abt_machine.specs.declared.events.Event.{Event}
 use Rattle.abt_machine.specs.declared.events.Site.{Site}
@@ -58,7 +58,7 @@ named-sites-are-called W Z valid stored S T e x sound comes named =
     let is : IsStep W Z S e T = events-are-steps W Z valid stored S T e sound comes in
     called W Z S e T x is.heard (is.site ∙ named) is.steps is.answers
 
--- nothing was heard where no site was called
+-- nothing was heard if no site was called
 unheard : (heard : Option Heard) → site_heard heard ≡ None → heard ≡ None
 unheard None is = refl
 unheard (Some h) is = absurd (none≢some (sym is))

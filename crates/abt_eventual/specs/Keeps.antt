@@ -20,7 +20,7 @@ contents_of_future f = only_units f.waiters
 abbrev pub FuturesKeepWhatFits : Type 0
 FuturesKeepWhatFits = KeepsWhatFits contents_of_future FutureGives
 
--- where the eventual is ready, nobody waits for it
+-- if the eventual is ready, nobody waits for it
 abbrev pub IsServed : EventualValue → Type 0
 IsServed e = IsSome e.value → e.waiters ≡ []
 
@@ -29,13 +29,13 @@ abbrev pub ReadyEventualsHaveNoWaiters : Type 0
 ReadyEventualsHaveNoWaiters =
     (old : EventualValue) (act : Act) (answer : Answer) (new : EventualValue) → EventualGives old act answer new → IsServed old → IsServed new
 
--- a future has a compartment, no more are filled than it has, and where it is ready nobody waits for it
+-- a future has a compartment, no more are filled than it has, and if it is ready nobody waits for it
 pub record IsSoundFuture (f : FutureValue) : Type 0 where
   pub some : 0 < f.size
   pub filled : f.filled ≤ f.size
   pub served : IsTrue (is_ready f) → f.waiters ≡ []
 
--- the future keeps what it was made with, and is sound where it was
+-- the future keeps what it was made with, and is sound if it was
 pub record StaysSound (old new : FutureValue) : Type 0 where
   pub size : new.size ≡ old.size
   pub combine : new.combine ≡ old.combine

@@ -40,7 +40,7 @@ impl Eventual {
         }
     }
 
-    /// The unit goes on with the value in its accumulator where the eventual is ready. Else it waits.
+    /// The unit goes on with the value in its accumulator if the eventual is ready. Else it waits.
     pub fn wait(&mut self, mut unit: Box<Unit>) -> Option<Box<Unit>>
         requires { IsFree unit.value }
         ensures given { IfSome result (λ given. EventualGives self.old (Await unit.value.owned) (Given given.value.owned) self.new) }
@@ -61,7 +61,7 @@ impl Eventual {
     }
 
     /// Makes the eventual ready with that value: all units that wait come out in order, each with the value in its
-    /// accumulator. `EventualSet` where it is ready.
+    /// accumulator. `EventualSet` if it is ready.
     pub fn set(&mut self, value: u64) -> Result<Chain, Code>
         ensures woke { IfOk result (λ woken. EventualGives self.old (Fill value) (Woke woken.units) self.new) }
         ensures err { IfErr result (λ refused. EventualGives self.old (Fill value) (Coded refused) self.new) }

@@ -56,7 +56,7 @@ impl Future {
         }
     }
 
-    /// The unit goes on with the value in its accumulator where the future is ready. Else it waits.
+    /// The unit goes on with the value in its accumulator if the future is ready. Else it waits.
     pub fn wait(&mut self, mut unit: Box<Unit>) -> Option<Box<Unit>>
         requires { IsFree unit.value }
         ensures given { IfSome result (λ given. FutureGives self.old (Await unit.value.owned) (Given given.value.owned) self.new) }
@@ -73,7 +73,7 @@ impl Future {
     }
 
     /// Fills one compartment. With the last the future is ready: all units that wait come out in order, each with the
-    /// future's value in its accumulator. `FutureFull` where it is ready.
+    /// future's value in its accumulator. `FutureFull` if it is ready.
     pub fn set(&mut self, value: u64) -> Result<Chain, Code>
         ensures woke { IfOk result (λ woken. FutureGives self.old (Fill value) (Woke woken.units) self.new) }
         ensures err { IfErr result (λ refused. FutureGives self.old (Fill value) (Coded refused) self.new) }

@@ -2,7 +2,7 @@
 
 ghost use Rattle.abt_eventual.specs.Keeps.{EventualsKeepWhatFits, FuturesKeepWhatFits, FuturesStaySound, ReadyEventualsHaveNoWaiters};
 
-/// Where the units that an eventual holds and that come in fit a workload, those that come out and that it then holds do too.
+/// If the units that an eventual holds and that come in fit a workload, those that come out and that it then holds do too.
 pub fn eventuals_keep_what_fits()
     ensures { EventualsKeepWhatFits }
 {}
@@ -17,7 +17,7 @@ pub fn ready_eventuals_have_no_waiters()
     ensures { ReadyEventualsHaveNoWaiters }
 {}
 
-/// A future keeps its size and its rule, has at most that many compartments filled, and no waiters where it is ready, from
+/// A future keeps its size and its rule, has at most that many compartments filled, and no waiters if it is ready, from
 /// the start and after each call.
 pub fn futures_stay_sound()
     ensures { FuturesStaySound }

@@ -40,7 +40,7 @@ struct Example {
     status: u8,
 }
 
-static EXAMPLES: [Example; 24] = [
+static EXAMPLES: [Example; 25] = [
     Example {
         words: &["run", "hi.abt"],
         output: "hi.out",
@@ -129,6 +129,11 @@ static EXAMPLES: [Example; 24] = [
     Example {
         words: &["run", "future.abt"],
         output: "future.out",
+        status: 0,
+    },
+    Example {
+        words: &["run", "rwlock.abt"],
+        output: "rwlock.out",
         status: 0,
     },
     Example {

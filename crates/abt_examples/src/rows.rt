@@ -452,7 +452,7 @@ pub(crate) fn requests() -> &'static [Row] {
     &REQUESTS
 }
 
-static OBJECTS: [Row; 6] = [
+static OBJECTS: [Row; 8] = [
     // self lock
     Row {
         words: &["run", "f"],
@@ -497,6 +497,28 @@ static OBJECTS: [Row; 6] = [
         err: "",
         journal: None,
     },
+    // a writer, then two readers
+    Row {
+        words: &["run", "f"],
+        head: ONE_POOL,
+        lines: b"object 0 rwlock\nunits 3\nunit 0 ult at 0\nwrlock 0\nset 5\nrwstore 0\nyield\nrwunlock 0\nunit 1 ult at 0\nrdlock 0\nrwload 0\nprint\nrwunlock 0\nunit 2 ult at 0\nrdlock 0\nrwload 0\nprint\nrwunlock 0\nend\n",
+        failing: NEVER,
+        status: 0,
+        out: "unit 0 done:\nunit 1 done: 5\nunit 2 done: 5\ntally units 3 unborn 0 pool 0 stream 0 blocked 0 done 3 asked 0 access 0 steps 13\nfinished\n",
+        err: "",
+        journal: None,
+    },
+    // what a reader-writer lock refuses
+    Row {
+        words: &["run", "f"],
+        head: ONE_POOL,
+        lines: b"object 0 rwlock\nunits 1\nunit 0 ult at 0\nrdlock 0\nrdlock 0\nwrlock 0\nrwstore 0\nrwunlock 0\nrwunlock 0\nrwunlock 0\nend\n",
+        failing: NEVER,
+        status: 0,
+        out: "unit 0 done: !rw-held !not-holder !not-holder\ntally units 1 unborn 0 pool 0 stream 0 blocked 0 done 1 asked 0 access 0 steps 7\nfinished\n",
+        err: "",
+        journal: None,
+    },
     // future and barrier
     Row {
         words: &["run", "f"],
@@ -526,7 +548,7 @@ pub(crate) fn objects() -> &'static [Row] {
     &OBJECTS
 }
 
-static STREAMS: [Row; 8] = [
+static STREAMS: [Row; 9] = [
     // foreign create
     Row {
         words: &["run", "f"],
@@ -557,6 +579,17 @@ static STREAMS: [Row; 8] = [
         failing: NEVER,
         status: 0,
         out: "unit 0 exited: joined\nunit 1 exited: one\ntally units 2 unborn 0 pool 0 stream 0 blocked 0 done 2 asked 0 access 0 steps 5\nfinished\n",
+        err: "",
+        journal: None,
+    },
+    // a reader on each
+    Row {
+        words: &["run", "f"],
+        head: TWO_STREAMS,
+        lines: b"object 0 rwlock\nobject 1 eventual\nunits 3\nunit 0 ult at 0\nwrlock 0\nset 5\nrwstore 0\nrwunlock 0\neset 1\nunit 1 ult at 0\newait 1\nrdlock 0\nrwload 0\nprint\nrwunlock 0\nunit 2 ult at 1\newait 1\nrdlock 0\nrwload 0\nprint\nrwunlock 0\nend\n",
+        failing: NEVER,
+        status: 0,
+        out: "unit 0 done:\nunit 1 done: 5\nunit 2 done: 5\ntally units 3 unborn 0 pool 0 stream 0 blocked 0 done 3 asked 0 access 0 steps 15\nfinished\n",
         err: "",
         journal: None,
     },

@@ -146,7 +146,7 @@ none-found W = record {
   none-counted zero = refl
   none-counted (suc n) = none-counted n
 
--- where what the listed units create is marked, and so is every unit with a start, all that are reached are marked
+-- if what the listed units create is marked, and so is every unit with a start, all that are reached are marked
 pub all-marked : (W : Parts) (units : List UnitNo) (marks : List Bool) (at : ℕ) → Finds W units marks → length W.units ≤ at → ((u p : ℕ) → start_of W u ≡ Some p → IsMarked marks u) →
     IsClosedBelow W units marks at → (u : ℕ) → IsReached W u → IsMarked marks u
 all-marked W units marks at finds over starts closed u (Starts _ p start) = starts u p start

@@ -63,3 +63,8 @@ module _ (W : Parts) (valid : IsValid W) (confluent : Confluent W) (t : ℕ) (S 
   goes (op.FuReset x) is = absurd (confluent.ops u (S.carried u).position (op.FuReset x) is)
   goes (op.FuTest x) is = absurd (confluent.ops u (S.carried u).position (op.FuTest x) is)
   goes (op.BarWait x) is = (refl, row-arrives W t S flowing s u held valid x is)
+  goes (op.ReadLock x) is = absurd (confluent.ops u (S.carried u).position (op.ReadLock x) is)
+  goes (op.WriteLock x) is = absurd (confluent.ops u (S.carried u).position (op.WriteLock x) is)
+  goes (op.RwUnlock x) is = absurd (confluent.ops u (S.carried u).position (op.RwUnlock x) is)
+  goes (op.RwLoad x) is = absurd (confluent.ops u (S.carried u).position (op.RwLoad x) is)
+  goes (op.RwStore x) is = absurd (confluent.ops u (S.carried u).position (op.RwStore x) is)

@@ -14,7 +14,7 @@ use Rattle.abt_flow.specs.Checks.{CreatesWell, IsPlainAt, IsPlainUnit, NamesOnce
 use Rattle.abt_flow.specs.Confluent.{Confluent}
 use Rattle.abt_flow.proofs.Named.{op-unit}
 
--- where the operations that there are, are plain, all are
+-- if the operations that there are, are plain, all are
 pub plain-unit : (W : Parts) (u n : ℕ) → length (ops_of (body_at W u)) ≤ n → ((j : ℕ) → j < n → IsPlainAt W u j) → IsPlainUnit W u
 plain-unit W u n over each k o is = let l : k < length (ops_of (body_at W u)) = slice_get_within (ops_of (body_at W u)) k o is in each k (omega arith) o is
 

@@ -49,7 +49,7 @@ module _ (W : Parts) (t : ℕ) (S : State) (flowing : Flowing W t S) (s u : ℕ)
   row-joins v is (place.Ended e) = row-goes_with (op.Join v) is (λ x e. cc) (λ v q e. cc) (S.carried u) refl refl
   row-joins v is _ = row-goes_to (op.Join v) is (λ x e. cc) (λ v q e. cc) (place.Blocked (spot.Join v) (S.join_next v.0)) (λ e. cc) (went W t S flowing s u held (op.Join v) is (S.carried u) refl refl) ((v.0, suc (S.join_next v.0)) ∷ []) []
 
-  -- where the eventual has no value, unit u waits
+  -- if the eventual has no value, unit u waits
   pub row-awaits : (x : ObjectNo) → op_at W u (S.carried u).position ≡ Some (op.EvWait x) → (o : Option ℕ) → S.eventual x.0 ≡ o → Stepped W t S (changed S (awaits S u x.0 o)) u (op.EvWait x)
   row-awaits x is None e =
       let b : Before W t u (S.carried u) = before W t S flowing s u held (op.EvWait x) is in

@@ -133,14 +133,14 @@ module _ (W : Parts) (u : ℕ) (reached : IsReached W u) (units : List Progress)
       ];
     }
 
-  -- where no value is set
+  -- if no value is set
   pub goes-same : ((x : ℕ) → o ≡ op.EvSet (object_no x) → ⊥) → Leads (HasValue W (executed units)) (effect o) (memory_in p) (memory_in q) → Follows W news values
   goes-same no_set leads = goes-on values follows.values_all (λ x e. e) (λ x n e. value-within W (executed units) (executed units + 1) x n (omega arith) (follows.found x n e)) (λ x e none. no_set x e) leads
 
   pub others-same : (ready : List UnitNo) → ((v : ℕ) → v ≢ u → IsReached W v → Contains ready (unit_no v) ⊎ Rests W units values v) → (v : ℕ) → v ≢ u → IsReached W v → Contains ready (unit_no v) ⊎ Rests W news values v
   others-same ready others v other r = elim (others v other r) [ inl a ↦ inl a | inr b ↦ inr (rests-still v other b) ]
 
--- the next operation, where it was looked for
+-- the next operation, if it was looked for
 pub next-is : (W : Parts) (units : List Progress) (u : ℕ) (p : Progress) → slice_get units u ≡ Some p → (o : Option Op) → o ≡ op_at W u p.position → MatchOption o (IsOver W units u) (IsNext W units u)
 next-is W units u p at None e = λ q here. subst (λ (r : Progress). op_at W u r.position ≡ None) (some-injective (sym at ∙ here)) (sym e)
 next-is W units u p at (Some o) e = λ q here. subst (λ (r : Progress). op_at W u r.position ≡ Some o) (some-injective (sym at ∙ here)) (sym e)

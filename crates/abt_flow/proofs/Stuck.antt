@@ -1,4 +1,4 @@
--- Where every reached unit rests, and one is not at its end, the flow is undefined.
+-- If every reached unit rests, and one is not at its end, the flow is undefined.
 use Rattle.std.proofs.Common.{◌≡◌, ℕ, zero, suc, ◌+◌, ◌<◌, ◌≤◌, Bool, true, false, List, length, take, get_or, Option, Some, None, refl, sym, ◌∙◌, ap, subst, arith, ◌⊎◌, inl, inr}
 use Rattle.std.specs.Prelude.{MatchBool, slice_get, sum_by, map}
 use Rattle.std.proofs.lemmas.Bool.{cases_eq, cases_lt}
@@ -77,7 +77,7 @@ module _ (W : Parts) (valid : IsValid W) (units : List Progress) (values : List 
       let does = made-does W (SetsTo W (λ w j c. AtPoint W f w j c)) v k p.position m l h in
       halted (λ w j c. AtPoint W f w j c) (λ w q j c. stuck f w q j c) (op_at W v p.position) does.0 does.1 (rest v reached p at) does.2
 
-  -- where a reached unit is not at its end
+  -- if a reached unit is not at its end
   pub no-flow : (u : ℕ) (p : Progress) → IsReached W u → slice_get units u ≡ Some p → p.position < length (ops_of (body_at W u)) → (rows : List (List Piece)) → IsFlow W rows → ⊥
   no-flow u p reached at l rows flow =
       let declared : u < length W.units = reached-declared W u valid reached in

@@ -1,4 +1,4 @@
--- What the place of each unit tells of its program, in a state of a run of a confluent workload.
+-- What the place of each unit says of its program, in a state of a run of a confluent workload.
 use Rattle.std.proofs.Common.{◌≡◌, ℕ, suc, ◌<◌, ◌≤◌, false, length, Some, None, sym, ◌∙◌, subst, arith, ◌⊎◌, inl, inr}
 use Rattle.abt_machine.specs.declared.events.Place.{Place}
 use Rattle.abt_machine.specs.declared.events.Place.TheVariants as place
@@ -81,7 +81,7 @@ plain-tells W t u c (place.Blocked (spot.Join v) k) h b = b
 plain-tells W t u c (place.Blocked (spot.Object x) k) h b = absurd h
 plain-tells W t u c (place.Ended e) h b = absurd h
 
--- What is told through at most so many points is told through more.
+-- What is said through at most so many points is said through more.
 
 pub before-more : (W : Parts) (t u : ℕ) (c : Carried) → Before W t u c → Before W (suc t) u c
 before-more W t u c b = (b.0, points-within W (suc t) (suc (suc t)) u c.position (memory_of c) (omega arith) b.1)
@@ -105,7 +105,7 @@ tells-more W t u c (place.Blocked (spot.Join v) k) h = before-more W t u c h
 tells-more W t u c (place.Blocked (spot.Object x) k) h = waits-more W t u x.0 c h
 tells-more W t u c (place.Ended e) h = (before-more W t u c h.0, h.1)
 
--- What carried things tell depends on position and memory alone.
+-- What carried things say depends on position and memory alone.
 
 pub before-same : (W : Parts) (t u : ℕ) (c d : Carried) → d.position ≡ c.position → memory_of d ≡ memory_of c → Before W t u c → Before W t u d
 before-same W t u c d p m b = (b.0, subst (λ k. AtPoint W (suc t) u k (memory_of d)) (sym p) (subst (AtPoint W (suc t) u c.position) (sym m) b.1))

@@ -12,7 +12,7 @@ use Rattle.abt_flow.specs.Effects.{Memory, Effect, Computes, Awaits, Depends, ef
 use Rattle.abt_flow.specs.Flow.{AtPoint, Does, IsRow, Leads, Made, SetsTo}
 use Rattle.abt_flow.specs.Laws.{FlowIsOne}
 
--- where values are one, what they lead to is one.
+-- if values are one, what they lead to is one.
 
 module _ (Found Other : ℕ → ℕ → Type 0) (one : (x n k : ℕ) → Found x n → Other x k → n ≡ k) where
   leads-one : (e : Effect) (old new next : Memory) → Leads Found e old new → Leads Other e old next → new ≡ next

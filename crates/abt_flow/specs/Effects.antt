@@ -1,4 +1,4 @@
--- What each operation means to the unit that does it, where the schedule can't matter.
+-- What each operation means to the unit that does it, if the schedule can't matter.
 use Rattle.std.specs.Prelude.{ℕ, ◌+◌, ◌%◌, ◌^◌, List, [], ◌∷◌, ◌++◌, replicate, slice_index, slice_set}
 use Rattle.abt_machine.specs.declared.events.Piece.{Piece}
 use Rattle.abt_machine.specs.declared.events.Piece.TheVariants as piece
@@ -79,3 +79,8 @@ effect (op.FuSet x) = Depends
 effect (op.FuReset x) = Depends
 effect (op.FuTest x) = Depends
 effect (op.BarWait x) = Computes unchanged
+effect (op.ReadLock x) = Depends
+effect (op.WriteLock x) = Depends
+effect (op.RwUnlock x) = Depends
+effect (op.RwLoad x) = Depends
+effect (op.RwStore x) = Depends

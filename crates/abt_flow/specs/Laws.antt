@@ -17,7 +17,7 @@ use Rattle.abt_flow.specs.Flow.{IsFlow}
 abbrev pub outputs : Parts → State → List (List Piece)
 outputs W S = map (λ u. (S.carried u).output) (count_up (length W.units))
 
--- whatever the schedule of a run, where every unit has ended the outputs are the flow's
+-- whatever the schedule of a run, if every unit has ended the outputs are the flow's
 abbrev pub OutputsAreFlow : Parts → List OrderShape → Type 0
 OutputsAreFlow W Z = IsValid W → OrdersStored W Z → Confluent W → (J : List Event) → Run W Z J → AllEnded (last_state W J) → IsFlow W (outputs W (last_state W J))
 

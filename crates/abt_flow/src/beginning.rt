@@ -91,7 +91,7 @@ fn wait_unit(waiting: &mut Vec<Vec<UnitNo>>, w: &Workload, u: UnitNo) -> Result<
     Ok(())
 }
 
-// For each object the units that wait for it somewhere, where it is an eventual.
+// For each object the units that wait for it somewhere, if it is an eventual.
 pub(crate) fn wait_lists(
     alloc: Global,
     w: &Workload,

@@ -50,7 +50,12 @@ fn is_settled(op: Op) -> bool
         | Op::FuWait(_)
         | Op::FuSet(_)
         | Op::FuReset(_)
-        | Op::FuTest(_) => false,
+        | Op::FuTest(_)
+        | Op::ReadLock(_)
+        | Op::WriteLock(_)
+        | Op::RwUnlock(_)
+        | Op::RwLoad(_)
+        | Op::RwStore(_) => false,
     }
 }
 

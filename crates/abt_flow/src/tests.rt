@@ -25,7 +25,7 @@ fn unit(alloc: Global, ops: &[Op], starts: bool) -> Result<UnitPart, AllocError>
     })
 }
 
-// One stream with pool 0 of this access, a mutex and two eventuals, and these units, which have one key each.
+// One stream with pool 0 of this access, two eventuals, a mutex and a reader-writer lock, and these units, which have one key each.
 fn workload(
     rt: &impl Abort,
     alloc: Global,
@@ -43,7 +43,12 @@ fn workload(
         pools: PoolParts::new(vec![in alloc; PoolPart { kind, access }]?),
         scheds: SchedParts::new(vec![in alloc; sched]?),
         mains: Mains::new(vec![in alloc; SchedNo(0)]?),
-        objects: Things::new(vec![in alloc; Thing::Eventual, Thing::Eventual, Thing::Mutex]?),
+        objects: Things::new(vec![in alloc;
+            Thing::Eventual,
+            Thing::Eventual,
+            Thing::Mutex,
+            Thing::RwLock,
+        ]?),
         units: UnitParts::new(units),
         words: Texts::new(Vec::new(alloc)),
     };
@@ -75,6 +80,7 @@ fn each_condition_is_asked(rt: HostRuntime) -> Result<(), Fail> {
     assert!(rt; is_confluent(&rt, alloc, open, &create, &set, false)?);
     assert!(rt; is_confluent(&rt, alloc, Access::Mpsc(StreamNo(0)), &create, &set, false)?);
     assert!(rt; !is_confluent(&rt, alloc, open, &[Op::TryLock(ObjectNo(2))], &set, true)?);
+    assert!(rt; !is_confluent(&rt, alloc, open, &[Op::ReadLock(ObjectNo(3))], &set, true)?);
     assert!(rt; !is_confluent(&rt, alloc, open, &set, &set, true)?);
     assert!(rt; !is_confluent(&rt, alloc, open, &create, &create, false)?);
     assert!(rt; !is_confluent(&rt, alloc, open, &create, &set, true)?);

@@ -34,7 +34,7 @@ module _ {A : Type 0} (stamp : A → ℕ) where
   rises-last n [] r = omega arith
   rises-last n (x ∷ xs) r = let k : n < stamp x = r.0 in let l : stamp x ≤ last_from (stamp x) (map stamp xs) = rises-last (stamp x) xs r.1 in omega arith
 
-  -- where stamps rise above n, the last one is the greater of n and the last one by itself
+  -- if stamps rise above n, the last one is the greater of n and the last one by itself
   last-max : (n : ℕ) (xs : List A) → RisesAbove n (map stamp xs) → last_from n (map stamp xs) ≡ max n (last_from 0 (map stamp xs))
   last-max n [] r = omega arith
   last-max n (x ∷ xs) r = let k : n < stamp x = r.0 in let l : stamp x ≤ last_from (stamp x) (map stamp xs) = rises-last (stamp x) xs r.1 in omega arith

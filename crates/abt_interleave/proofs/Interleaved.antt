@@ -1,4 +1,4 @@
--- A list of deeds is a run where what it is to each stream is a course, and what it is to each object a legal history.
+-- A list of deeds is a run if what it is to each stream is a course, and what it is to each object a legal history.
 use Rattle.std.proofs.Common.{◌≡◌, ◌≢◌, ℕ, ◌<◌, ◌==◌, if◌then◌else◌, List, [], ◌∷◌, Option, Some, None, refl, sym, subst, inl, inr}
 use Rattle.std.proofs.lemmas.Bool.{cond-true, cond-false, cond_both, cases_eq, eq-eqb, ne_eqb}
 use Rattle.abt_interleave.specs.Deeds.{Heard, Does, Leads, Answered}

@@ -1,4 +1,4 @@
--- The sorted list is stamped where the stamps leave no gap, and as Lamport stamps where each is one more than what it follows.
+-- The sorted list is stamped if the stamps leave no gap, and as Lamport stamps if each is one more than what it follows.
 use Rattle.std.proofs.Common.{◌≡◌, ℕ, suc, max, ◌<◌, ◌≤◌, ◌+◌, ◌⊎◌, inl, inr, List, [], ◌∷◌, ◌++◌, Option, Some, None, option_map, refl, sym, ap, ◌∙◌, subst, arith}
 use Rattle.std.specs.Prelude.{Contains}
 use Rattle.std.proofs.lemmas.Bool.{cases_lt}

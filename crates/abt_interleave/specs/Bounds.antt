@@ -9,7 +9,7 @@ use Rattle.abt_interleave.specs.Merges.{sum_below}
 abbrev pub StampedStaysLow : Machine → Type 0
 StampedStaysLow M = (J : List (DeedOf M)) → Stamped J → (d : DeedOf M) → Contains J d → d.stamp ≤ length J
 
--- where stamps leave no gap, none is greater than the number of deeds in all logs
+-- if stamps leave no gap, none is greater than the number of deeds in all logs
 abbrev pub StampsAreFew : Machine → Type 0
 StampsAreFew M = (parts : ℕ → M.Part) (objects : M.Place → M.Object) (logs : ℕ → List (DeedOf M)) (histories : M.Place → List (EntryOf M)) (ends : ℕ → M.Part) (finals : M.Place → M.Object) →
     Gathered M parts objects logs histories ends finals → LeavesNoGap logs → (s : ℕ) (d : DeedOf M) → Contains (logs s) d → d.stamp ≤ sum_below M.streams (λ r. length (logs r))

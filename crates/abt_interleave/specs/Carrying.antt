@@ -25,7 +25,7 @@ pub record Carries (M : Machine) {Lock : Type 0} (lock : M.Place → Lock) (carr
   pub above : (x : M.Place) → last_stamp (entry_stamps (histories x)) ≤ carried (lock x)
   pub clocks : (l : Lock) → IsClock M logs (carried l)
 
--- the clocks after a wave: to each lock its greatest clock so far, where the wave left it with a last stamp
+-- the clocks after a wave: to each lock its greatest clock so far, if the wave left it with a last stamp
 abbrev pub next_clocks : {Lock : Type 0} → (Lock → ℕ) → (Lock → ℕ) → Lock → ℕ
 next_clocks carried closing l = max (carried l) (closing l)
 
@@ -54,7 +54,7 @@ WavesGoOn M Lock = TellsPlaces M → (lock : M.Place → Lock) (carried closing 
     (left : WaveLeft M lock carried (stream_clocks M logs) ends finals more news results closing) →
     Waves M lock (next_clocks carried closing) parts objects (joined_logs M logs more) (joined_histories M histories (histories_of M lock left.lines)) news results
 
--- Where each object has a lock of its own.
+-- If each object has a lock of its own.
 
 -- each stamp is one more than the greater of its stream's last and its object's last, and each object's last stamp is its
 -- lock's clock
@@ -75,7 +75,7 @@ TimesGoOn M Lock = TellsPlaces M → (lock : M.Place → Lock) → ((x y : M.Pla
 
 -- Worn clocks.
 
--- where no stamp is worn after a wave, no call of it met a worn clock: whatever its stream's clock was, and whatever prefix of
+-- if no stamp is worn after a wave, no call of it met a worn clock: whatever its stream's clock was, and whatever prefix of
 -- the line the call met
 abbrev pub NoneMeetsWorn : Machine → Type 0 → Type 0
 NoneMeetsWorn M Lock = TellsPlaces M → (lock : M.Place → Lock) (carried closing : Lock → ℕ) (parts ends news : ℕ → M.Part) (objects finals results : M.Place → M.Object)

@@ -52,7 +52,7 @@ seen_of_one (suc zero) l = call 1 0 true 5 0 ∷ call 2 1 true 2 5 ∷ call 3 0 
 seen_of_one (suc (suc s)) l = []
 
 -- what the laws of waves suppose holds here too, and the stamps leave no gap; but they are not Lamport's: the first call of the
--- second counter has stamp 3, where one more than its stream's last stamp is 2
+-- second counter has stamp 3, though one more than its stream's last stamp is 2
 pub record OneLockForBoth : Type 0 where
   pub gone : (s : ℕ) → s < 2 → Gone counters one_lock (λ l. 0) s 0 0 (logs_under_one s) (notes s) (seen_of_one s)
   pub left : LockLeft counters one_lock tt 2 (λ s. seen_of_one s tt) zeros.count totals 4

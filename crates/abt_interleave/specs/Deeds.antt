@@ -26,12 +26,12 @@ abbrev pub RisesAbove : ℕ → List ℕ → Type 0
 RisesAbove n [] = Unit {0}
 RisesAbove n (t ∷ ts) = (n < t) × RisesAbove t ts
 
--- the last number, n where there is none
+-- the last number, n if there is none
 abbrev pub last_from : ℕ → List ℕ → ℕ
 last_from n [] = n
 last_from n (t ∷ ts) = last_from t ts
 
--- the last stamp, 0 where there is none
+-- the last stamp, 0 if there is none
 abbrev pub last_stamp : List ℕ → ℕ
 last_stamp ts = last_from 0 ts
 

@@ -29,7 +29,7 @@ histories_of M lock lines x = at_place M x (lines (lock x))
 module _ (M : Machine) {Lock : Type 0} (lock : M.Place → Lock) (carried : Lock → ℕ) where
   -- What a stream sees while it runs. To each lock a clock was carried from what came before.
 
-  -- what stream s had seen of the lines and sees after a deed, its own clock being this one: where it called, all that it
+  -- what stream s had seen of the lines and sees after a deed, its own clock being this one: if it called, all that it
   -- now knows of that lock's line to have come before its call, and the call; and the stamp is one more than the greatest of
   -- the stream's clock, the clock carried to the lock, and the last stamp before it in the line
   abbrev pub Sees : ℕ → (Lock → List (CallOf M)) → ℕ → (d : DeedOf M) → Option (Heard M.Place M.Act M.Answer) → (Lock → List (CallOf M)) → Type 0

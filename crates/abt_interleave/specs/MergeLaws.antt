@@ -46,13 +46,13 @@ MergesLengthen E = (stamp stream : E → ℕ) (n : ℕ) (logs : ℕ → List E) 
 abbrev pub MergingBegins : Type 0 → Type 0
 MergingBegins E = (stamp stream : E → ℕ) (logs : ℕ → List E) → IsMerging stamp stream logs logs []
 
--- the next item is the first that is left of a log, where it comes before the first that is left of every other log
+-- the next item is the first that is left of a log, if it comes before the first that is left of every other log
 abbrev pub MergingGoesOn : Type 0 → Type 0
 MergingGoesOn E = (stamp stream : E → ℕ) (logs left new : ℕ → List E) (J : List E) (s : ℕ) (e : E) → ((r : ℕ) → IsLogOf stamp stream r (logs r)) → IsMerging stamp stream logs left J →
     left s ≡ e ∷ new s → ((r : ℕ) → s ≢ r → new r ≡ left r) →
     ((r : ℕ) (f : E) (fs : List E) → s ≢ r → left r ≡ f ∷ fs → IsSooner (stamp e) (stream e) (stamp f) (stream f)) → IsMerging stamp stream logs new (J ++ e ∷ [])
 
--- and where nothing is left, the list is the merge
+-- and if nothing is left, the list is the merge
 abbrev pub MergingEnds : Type 0 → Type 0
 MergingEnds E = (stamp stream : E → ℕ) (logs left : ℕ → List E) (J : List E) → IsMerging stamp stream logs left J → ((s : ℕ) → left s ≡ []) → IsMergeOf stamp stream logs J
 

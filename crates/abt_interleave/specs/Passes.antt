@@ -4,7 +4,7 @@ use Rattle.abt_interleave.specs.Deeds.{Heard}
 use Rattle.abt_interleave.specs.Machines.{Machine, DeedOf}
 use Rattle.abt_interleave.specs.Lines.{CallOf, Extends, Sees, Gone}
 
--- what came of a call: a stamp and an answer, or nothing where the clock was worn
+-- what came of a call: a stamp and an answer, or nothing if the clock was worn
 abbrev pub ReplyOf : Machine → Type 0
 ReplyOf M = Option (ℕ × M.Answer)
 
@@ -24,7 +24,7 @@ deeds_of M (Did d ∷ ts) = d ∷ deeds_of M ts
 deeds_of M (Met x a ∷ ts) = deeds_of M ts
 
 module _ (M : Machine) {Pass : Type 0} (moves : MovesOf M Pass) where
-  -- the pass makes the deed's call at the stream's clock; where there was none, it stays, and the stamp is the clock's next
+  -- the pass makes the deed's call at the stream's clock; if there was none, it stays, and the stamp is the clock's next
   abbrev pub Calls : ℕ → DeedOf M → Option (Heard M.Place M.Act M.Answer) → Pass → Pass → Type 0
   Calls clock d None pass new = (d.stamp ≡ suc clock) × (new ≡ pass)
   Calls clock d (Some h) pass new = moves pass h.0 clock h.1 (Some (d.stamp, h.2)) new

@@ -23,7 +23,7 @@ StepsPass M test =
 abbrev pub GivesPassing : (M : Machine) → TestOf M → M.Object → M.Act → M.Answer → M.Object → Type 0
 GivesPassing M test old act answer new = M.Gives old act answer new × IsTrue (test old act)
 
--- where each step makes only calls that pass, each history that all logs gather to is one of acts that pass, at the object
+-- if each step makes only calls that pass, each history that all logs gather to is one of acts that pass, at the object
 -- that there was then
 abbrev pub EntriesPass : Machine → Type 0
 EntriesPass M = TellsPlaces M → IsSimulated M → (test : TestOf M) → StepsPass M test → (S : M.State) → M.Sound S →

@@ -14,7 +14,7 @@ Shares {Place} d e = (d.stream ≡ e.stream) ⊎ ((x : Place) × (place_of d ≡
 abbrev pub Follows : {Place Act Answer What : Type 0} → Deed Place Act Answer What → Deed Place Act Answer What → Type 0
 Follows d e = (d.stamp ≤ e.stamp) × (e.stamp ≤ d.stamp + 1) × (d.stamp ≡ e.stamp → d.stream < e.stream)
 
--- each of these has a greater stamp than d where it shares a stream or an object with it
+-- each of these has a greater stamp than d if it shares a stream or an object with it
 abbrev pub AllAfter : {Place Act Answer What : Type 0} → Deed Place Act Answer What → List (Deed Place Act Answer What) → Type 0
 AllAfter d [] = Unit {0}
 AllAfter d (e ∷ es) = (Shares d e → d.stamp < e.stamp) × AllAfter d es

@@ -5,7 +5,7 @@ use Rattle.abt_interleave.specs.Machines.{Machine, DeedOf, EntryOf, TellsPlaces,
 use Rattle.abt_interleave.specs.Stamps.{LeavesNoGap, AllTimed}
 use Rattle.abt_interleave.specs.Laws.{LogGrows, HistoryGrows, IsLate}
 
--- the stamp is one more than the last of its stream or, where it called an object, than the greater of that and the object's last
+-- the stamp is one more than the last of its stream or, if it called an object, than the greater of that and the object's last
 abbrev pub IsNext : (M : Machine) → (ℕ → List (DeedOf M)) → (M.Place → List (EntryOf M)) → DeedOf M → Option (Heard M.Place M.Act M.Answer) → Type 0
 IsNext M logs histories d None = d.stamp ≡ suc (last_stamp (deed_stamps (logs d.stream)))
 IsNext M logs histories d (Some h) = d.stamp ≡ suc (max (last_stamp (deed_stamps (logs d.stream))) (last_stamp (entry_stamps (histories h.0))))
@@ -23,7 +23,7 @@ LastsAreClocks M = (parts : ℕ → M.Part) (objects : M.Place → M.Object) (lo
 abbrev pub NextIsLate : Machine → Type 0
 NextIsLate M = (logs : ℕ → List (DeedOf M)) (histories : M.Place → List (EntryOf M)) (d : DeedOf M) → IsNext M logs histories d d.heard → IsLate M logs histories d d.heard
 
--- where each stamp was one more than the greater of its stream's last and its object's last, it is so with the next one
+-- if each stamp was one more than the greater of its stream's last and its object's last, it is so with the next one
 abbrev pub TimedGrows : Machine → Type 0
 TimedGrows M = TellsPlaces M → (logs more : ℕ → List (DeedOf M)) (histories longer : M.Place → List (EntryOf M)) (d : DeedOf M) →
     ((s : ℕ) → AllTimed histories 0 (logs s)) → LogGrows M logs d more → HistoryGrows M histories d d.heard longer → IsNext M logs histories d d.heard →
@@ -38,7 +38,7 @@ abbrev pub NextFollowsClock : Machine → Type 0
 NextFollowsClock M = (parts : ℕ → M.Part) (objects : M.Place → M.Object) (logs : ℕ → List (DeedOf M)) (histories : M.Place → List (EntryOf M)) (ends : ℕ → M.Part) (finals : M.Place → M.Object) (d : DeedOf M) →
     Gathered M parts objects logs histories ends finals → IsNext M logs histories d d.heard → (clock : ℕ) × IsClock M logs clock × (d.stamp ≡ suc clock)
 
--- where each stamp is one more than the greater of its stream's last and its object's last, there is no gap
+-- if each stamp is one more than the greater of its stream's last and its object's last, there is no gap
 abbrev pub TimedLeavesNoGap : Machine → Type 0
 TimedLeavesNoGap M = (parts : ℕ → M.Part) (objects : M.Place → M.Object) (logs : ℕ → List (DeedOf M)) (histories : M.Place → List (EntryOf M)) (ends : ℕ → M.Part) (finals : M.Place → M.Object) →
     Gathered M parts objects logs histories ends finals → ((s : ℕ) → AllTimed histories 0 (logs s)) → LeavesNoGap logs

@@ -20,18 +20,18 @@ GoneFurther M Lock = (lock : M.Place → Lock) (carried : Lock → ℕ) (s clock
     Gone M lock carried s clock p log q seen → d.stream ≡ s → M.Steps s q d.what d.heard r → Sees M lock carried s seen (last_from clock (deed_stamps log)) d d.heard after →
     Gone M lock carried s clock p (log ++ d ∷ []) r after
 
--- where it called nothing the stream sees what it saw
+-- if it called nothing the stream sees what it saw
 abbrev pub OwnDeedsShow : Machine → Type 0 → Type 0
 OwnDeedsShow M Lock = (lock : M.Place → Lock) (carried : Lock → ℕ) (s clock : ℕ) (seen : Lock → List (CallOf M)) (d : DeedOf M) → d.stamp ≡ suc clock → Sees M lock carried s seen clock d None seen
 
--- and where a call came to nothing, it may see more
+-- and if a call came to nothing, it may see more
 abbrev pub GoneAlong : Machine → Type 0 → Type 0
 GoneAlong M Lock = (lock : M.Place → Lock) (carried : Lock → ℕ) (s clock : ℕ) (p q : M.Part) (log : List (DeedOf M)) (seen after : Lock → List (CallOf M)) →
     Gone M lock carried s clock p log q seen → ((l : Lock) → Extends M s (seen l) (after l)) → Gone M lock carried s clock p log q after
 
 -- What the wave leaves.
 
--- where each stream has gone so from one part to another, and each lock has left a line that goes on from what the streams had
+-- if each stream has gone so from one part to another, and each lock has left a line that goes on from what the streams had
 -- seen, the wave's logs and histories are gathered, and woven
 abbrev pub WavesWeave : Machine → Type 0 → Type 0
 WavesWeave M Lock = TellsPlaces M → TellsLocks Lock → (lock : M.Place → Lock) (carried closing : Lock → ℕ) (clocks : ℕ → ℕ)

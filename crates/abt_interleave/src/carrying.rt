@@ -10,7 +10,7 @@ pub fn waves_go_on<M: AnyMachine, L>()
     ensures go { WavesGoOn M.machine L }
 {}
 
-/// Where each object has a lock of its own, stamps are Lamport's.
+/// If each object has a lock of its own, stamps are Lamport's.
 pub fn times_go_on<M: AnyMachine, L>()
     ensures begin { TimesBegin M.machine L }
     ensures go { TimesGoOn M.machine L }

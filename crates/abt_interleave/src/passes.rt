@@ -24,7 +24,7 @@ pub fn turns_go_on<P: AnyPass>()
     ensures met { TurnsMeet P.machine P.moves }
 {}
 
-/// Where the pass sees lines behind locks, the turns are what the laws of waves ask of a stream.
+/// If the pass sees lines behind locks, the turns are what the laws of waves ask of a stream.
 pub fn turns_are_gone<P: AnyPass, L>()
     ensures { TurnsAreGone P.machine P.moves P.own L }
 {}

@@ -4,7 +4,7 @@ ghost use Rattle.abt_interleave.specs.Weaving.{GoneAlong, GoneFurther, GoneNowhe
 
 use crate::machine::AnyMachine;
 
-/// What a stream has done in a wave, and sees: at first, with one deed more, and where a call came to nothing.
+/// What a stream has done in a wave, and sees: at first, with one deed more, and if a call came to nothing.
 pub fn streams_go<M: AnyMachine, L>()
     ensures nowhere { GoneNowhere M.machine L }
     ensures further { GoneFurther M.machine L }

@@ -31,6 +31,7 @@ pub record IsAlike (W : Parts) (s : ℕ) (x : Option Site) (S T : State) : Type 
   pub mutex : (y : ℕ) → x ≡ Some (site.Monitor (object_no y)) → S.mutex y ≡ T.mutex y
   pub eventual : (y : ℕ) → x ≡ Some (site.Eventual (object_no y)) → S.eventual y ≡ T.eventual y
   pub future : (y : ℕ) → x ≡ Some (site.Future (object_no y)) → S.future y ≡ T.future y
+  pub rwlock : (y : ℕ) → x ≡ Some (site.Rw (object_no y)) → S.rwlock y ≡ T.rwlock y
   pub stream : S.stream s ≡ T.stream s
 
 -- as seen from the other state
@@ -44,6 +45,7 @@ alike-sym W s x S T alike = record {
   mutex = λ y e. sym (alike.mutex y e);
   eventual = λ y e. sym (alike.eventual y e);
   future = λ y e. sym (alike.future y e);
+  rwlock = λ y e. sym (alike.rwlock y e);
   stream = sym alike.stream;
 }
 
@@ -83,6 +85,7 @@ module _ (W : Parts) (S : State) (s r : ℕ) (x y : Option Site) (c : Change) (n
     mutex = stays (λ n. site.Monitor (object_no n)) S.mutex c.mutexes here.mutexes;
     eventual = stays (λ n. site.Eventual (object_no n)) S.eventual c.eventuals here.eventuals;
     future = stays (λ n. site.Future (object_no n)) S.future c.futures here.futures;
+    rwlock = stays (λ n. site.Rw (object_no n)) S.rwlock c.rwlocks here.rwlocks;
     stream = sym (stream-stays W S s x c here r (λ e. ne (sym e)));
   }
 

@@ -1,5 +1,5 @@
 -- In alike states the codes are the same.
-use Rattle.std.proofs.Common.{◌≡◌, ℕ, ◌==◌, if◌then◌else◌, Bool, true, false, not, is_none, Option, Some, None, refl, ◌∙◌, ap, ◌⊎◌}
+use Rattle.std.proofs.Common.{◌≡◌, ℕ, ◌==◌, if◌then◌else◌, Bool, true, false, not, is_none, nat_lt, Option, Some, None, refl, ◌∙◌, ap, ◌⊎◌}
 use Rattle.abt_machine.specs.declared.events.Code.{Code}
 use Rattle.abt_machine.specs.declared.events.Code.TheVariants as code
 use Rattle.abt_machine.specs.declared.events.Place.{Place}
@@ -13,7 +13,8 @@ use Rattle.abt_machine.specs.Workloads.{mutex_of, size_of}
 use Rattle.abt_machine.specs.Access.{may_put, may_take}
 use Rattle.abt_machine.specs.Fronts.{is_some_of}
 use Rattle.abt_machine.specs.Sites.{first_pool, op_site, site_at}
-use Rattle.abt_machine.specs.State.{State, Desk, Mutex, Future}
+use Rattle.abt_machine.specs.Holders.{count_of, holds, read_limit, writes}
+use Rattle.abt_machine.specs.State.{State, Desk, Mutex, Future, RwLock}
 use Rattle.abt_machine.specs.Codes.{unless, is_unborn, is_ended, is_alive, is_suspended, is_in_pool, owned_by, code_of, code_at}
 use Rattle.abt_laws.specs.Footprint.{Within, holder}
 use Rattle.abt_laws.proofs.Keeping.{unborn-seen, ended-seen, alive-seen, suspended-seen, in_pool-seen}
@@ -32,7 +33,7 @@ module _ (W : Parts) (s : ℕ) (x : Option Site) (S T : State) (alike : IsAlike 
   same-owner : (u y : ℕ) (c : Code) → x ≡ Some (site.Monitor (object_no y)) → unless (owned_by S u y) c code.Ok ≡ unless (owned_by T u y) c code.Ok
   same-owner u y c e = ap (λ (m : Mutex). unless (is_some_of u m.owner) c code.Ok) (alike.mutex y e)
 
--- where the site is there only if a test holds, so that what comes behind the test is the same at it
+-- if the site is there only if a test holds, so that what comes behind the test is the same at it
 unless-alike : (W : Parts) (s : ℕ) (S T : State) (may : Bool) (y : Site) (c k l : Code) → (IsAlike W s (Some y) S T → k ≡ l) → IsAlike W s (if may then Some y else None) S T → unless may c k ≡ unless may c l
 unless-alike W s S T true y c k l same alike = same alike
 unless-alike W s S T false y c k l same alike = refl
@@ -75,6 +76,11 @@ module _ (W : Parts) (s u : ℕ) (S T : State) where
   code-alike (op.FuReset y) alike = refl
   code-alike (op.FuTest y) alike = refl
   code-alike (op.BarWait y) alike = refl
+  code-alike (op.ReadLock y) alike = ap (λ (k : RwLock). unless (not (writes u k)) code.RwHeld (unless (nat_lt (count_of u k) read_limit) code.RwFull code.Ok)) (alike.rwlock y.0 refl)
+  code-alike (op.WriteLock y) alike = ap (λ (k : RwLock). unless (not (holds u k)) code.RwHeld code.Ok) (alike.rwlock y.0 refl)
+  code-alike (op.RwUnlock y) alike = ap (λ (k : RwLock). unless (holds u k) code.NotHolder code.Ok) (alike.rwlock y.0 refl)
+  code-alike (op.RwLoad y) alike = ap (λ (k : RwLock). unless (holds u k) code.NotHolder code.Ok) (alike.rwlock y.0 refl)
+  code-alike (op.RwStore y) alike = ap (λ (k : RwLock). unless (writes u k) code.NotHolder code.Ok) (alike.rwlock y.0 refl)
 
   pub code_at-alike : (o : Option Op) → IsAlike W s (site_at W s u o) S T → code_at W S s u o ≡ code_at W T s u o
   code_at-alike None alike = refl

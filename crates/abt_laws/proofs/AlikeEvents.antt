@@ -8,6 +8,7 @@ use Rattle.abt_machine.specs.declared.events.Site.{Site}
 use Rattle.abt_machine.specs.declared.events.Site.TheVariants as site
 use Rattle.abt_machine.specs.declared.events.Spot.TheVariants as spot
 use Rattle.abt_machine.specs.declared.events.What.{What}
+use Rattle.abt_machine.specs.declared.events.Wish.TheVariants as wish
 use Rattle.abt_machine.specs.declared.events.What.TheVariants as what
 use Rattle.abt_machine.specs.declared.operations.Op.{Op}
 use Rattle.abt_machine.specs.declared.operations.Op.TheVariants as op
@@ -21,6 +22,8 @@ use Rattle.abt_machine.specs.Access.{may_put}
 use Rattle.abt_machine.specs.Sites.{first_pool, op_site, site_at, what_site}
 use Rattle.abt_machine.specs.Queues.{first, first_alone}
 use Rattle.abt_machine.specs.Carrying.{added, from_key, printed, refused, with_acc, with_home, with_key}
+use Rattle.abt_machine.specs.Holders.{is_free, read_by, written_by}
+use Rattle.abt_machine.specs.RwLocks.{left_by, may_read, wanting}
 use Rattle.abt_machine.specs.State.{State, Stream, Carried, Desk, Future, Plain, Asked, Exited}
 use Rattle.abt_machine.specs.Lines.{InTray, Joining, hand, standing}
 use Rattle.abt_machine.specs.Rounds.{IsNextPool}
@@ -36,7 +39,7 @@ use Rattle.abt_laws.proofs.Keeping.{IsKept, next-kept, first-kept, unborn-seen, 
 use Rattle.abt_laws.proofs.Alike.{IsAlike, standing-alike, hand-alike, next-alike, front-alike, tray_end-alike, caller-alike, due-alike}
 use Rattle.abt_laws.proofs.AlikeRows
 use Rattle.abt_laws.proofs.LocalEvents.{site-reached, unit-reached}
-use Rattle.abt_laws.proofs.ObjectSites.{mutex-waits, eventual-waits, future-waits, barrier-waits, condition-waits, condition-mutex-waits}
+use Rattle.abt_laws.proofs.ObjectSites.{mutex-waits, eventual-waits, future-waits, barrier-waits, rwlock-waits, condition-waits, condition-mutex-waits}
 
 -- Operations of unit u in the hand of stream s.
 
@@ -97,6 +100,11 @@ module _ (W : Parts) (valid : IsValid W) (S T : State) (s u : ℕ) (in_hand : ha
   op-alike (op.FuReset y) d h alike = ap (λ (c : Change). record c { futures = (y.0, record { filled = 0; value = 0 }) ∷ [] }) (AlikeRows.alike-goes_on W S T s u _ alike in_hand)
   op-alike (op.FuTest y) d h alike = AlikeRows.alike-learns W S T s u _ alike in_hand _ _ (ap (λ (f : Future). f.filled == size_of W y.0) (alike.future y.0 refl))
   op-alike (op.BarWait y) d h alike = AlikeRows.alike-arrives W S T s u _ alike in_hand y.0 (barrier-waits W y d)
+  op-alike (op.ReadLock y) d h alike = AlikeRows.alike-goes_or_waits W S T s u _ alike in_hand y.0 (may_read u) (read_by u) (wanting u wish.Read) refl (rwlock-waits W y d)
+  op-alike (op.WriteLock y) d h alike = AlikeRows.alike-goes_or_waits W S T s u _ alike in_hand y.0 (λ old. is_free old.lock) (written_by u) (wanting u wish.Write) refl (rwlock-waits W y d)
+  op-alike (op.RwUnlock y) d h alike = AlikeRows.alike-gives_up W S T s u _ alike in_hand y.0 (left_by u) refl (rwlock-waits W y d)
+  op-alike (op.RwLoad y) d h alike = λ i. goes_with u (with_acc (alike.rwlock y.0 refl i).number (same-carried _ alike i))
+  op-alike (op.RwStore y) d h alike = λ i. record (AlikeRows.alike-goes_on W S T s u _ alike in_hand i) { rwlocks = (y.0, record (alike.rwlock y.0 refl i) { number = (same-carried _ alike i).acc }) ∷ [] }
 
   -- with any code that the operation has
   row-alike : (o : Op) (c : Code) → IsDeclared W o → code_of W S s u o ≡ c → IsAlike W s (op_site W s u o) S T → step_row W S s u (Some o) c ≡ step_row W T s u (Some o) c

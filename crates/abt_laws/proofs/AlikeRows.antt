@@ -9,12 +9,15 @@ use Rattle.abt_machine.specs.declared.workload.Parts.{Parts}
 use Rattle.abt_machine.specs.Numbers.{unit_no, object_no}
 use Rattle.abt_machine.specs.Workloads.{size_of}
 use Rattle.abt_machine.specs.Sites.{object_site}
+use Rattle.abt_machine.specs.Monitors.{number_of}
 use Rattle.abt_machine.specs.Queues.{first, first_alone}
 use Rattle.abt_machine.specs.Carrying.{advanced, newborn, with_acc}
-use Rattle.abt_machine.specs.State.{State, Desk, Mutex, Future}
+use Rattle.abt_machine.specs.RwLocks.{passed_on, woken}
+use Rattle.abt_machine.specs.State.{State, Carried, Desk, Mutex, Future, RwLock}
 use Rattle.abt_machine.specs.Lines.{Waiting, hand, standing, tray_end}
 use Rattle.abt_machine.specs.Changes.{tray_moves, waiting_moves, goes_with, goes_on}
-use Rattle.abt_machine.specs.Steps.{owned, wakes, begins, asks, joins, waits, locks, hands_over, releases, queues, passes, receives, gives_all, awaits, learns, truth, fills, arrives}
+use Rattle.abt_machine.specs.Steps.{owned, wakes, begins, asks, joins, waits, locks, hands_over, releases, queues, passes, receives, gives_all, awaits, learns, truth, fills, arrives, gives_up}
+use Rattle.abt_machine.specs.Values.{RwLockValue, owned_at, rwlock_value, waiters_at}
 use Rattle.abt_laws.specs.Footprint.{Within, holder}
 use Rattle.abt_laws.proofs.Lists.{EachOf}
 use Rattle.abt_laws.proofs.Keeping.{IsKept, standing-kept}
@@ -107,15 +110,15 @@ module _ (W : Parts) (S T : State) (s u : ℕ) (x : Option Site) (alike : IsAlik
       let k : S.mutex z ≡ T.mutex z = alike.mutex z m in
       passes-at z (S.mutex z).owner (taken (standing W S (Waiting y))) k e ∙ (λ i. passes W T s u z (k i).owner (taken (w i)))
 
-  -- units that are kept here receive the same
-  receives-alike : (value : ℕ) (us : List ℕ) → EachOf (IsKept W S s x) us → map (receives S value) us ≡ map (receives T value) us
-  receives-alike value [] a = refl
-  receives-alike value (v ∷ us) a = λ i. (v, with_acc value ((alike.units v (inl a.0)).1 i)) ∷ receives-alike value us a.1 i
+  -- what units that are kept here carry, by what is made of it
+  carried-alike : {A : Type 0} (f : ℕ → Carried → A) (us : List ℕ) → EachOf (IsKept W S s x) us → map (λ v. f v (S.carried v)) us ≡ map (λ v. f v (T.carried v)) us
+  carried-alike f [] a = refl
+  carried-alike f (v ∷ us) a = λ i. f v ((alike.units v (inl a.0)).1 i) ∷ carried-alike f us a.1 i
 
   pub alike-gives_all : (y value other : ℕ) → value ≡ other → x ≡ Some (object_site W y) → gives_all W S s u y value ≡ gives_all W T s u y other
   alike-gives_all y value other same e =
       let w : standing W S (Waiting y) ≡ standing W T (Waiting y) = same-waiters y e in
-      let r : map (receives S value) (standing W S (Waiting y)) ≡ map (receives T value) (standing W S (Waiting y)) = receives-alike value (standing W S (Waiting y)) (standing-kept W S s x (Waiting y) e) in
+      let r : map (receives S value) (standing W S (Waiting y)) ≡ map (receives T value) (standing W S (Waiting y)) = carried-alike (λ v c. (v, with_acc value c)) (standing W S (Waiting y)) (standing-kept W S s x (Waiting y) e) in
       let all : map (receives S value) (standing W S (Waiting y)) ≡ map (receives T other) (standing W T (Waiting y)) = r ∙ (λ i. map (receives T (same i)) (w i)) in
       λ i. record (alike-wakes _ _ w i) { carried = (u, advanced (same-caller i)) ∷ all i }
 
@@ -139,3 +142,25 @@ module _ (W : Parts) (S T : State) (s u : ℕ) (x : Option Site) (alike : IsAlik
   alike-arrives y e =
       let w : standing W S (Waiting y) ≡ standing W T (Waiting y) = same-waiters y e in
       λ i. if suc (length (w i)) == size_of W y then alike-wakes _ _ w i else alike-waits y e i
+
+  -- a reader-writer lock, with its waiters
+  same-rwlock : (y : ℕ) → x ≡ Some (site.Rw (object_no y)) → x ≡ Some (object_site W y) → rwlock_value W S y ≡ rwlock_value W T y
+  same-rwlock y m e =
+      let all : waiters_at W S y ≡ waiters_at W T y =
+      carried-alike (λ v c. record { number = v; carried = c }) (standing W S (Waiting y)) (standing-kept W S s x (Waiting y) e) ∙ ap (map (owned_at T)) (same-waiters y e) in
+      λ i. record { lock = alike.rwlock y m i; waiters = all i }
+
+  -- unit u holds a reader-writer lock if this test of the lock is true, else it waits
+  pub alike-goes_or_waits : (y : ℕ) (test : RwLockValue → Bool) (held wanted : RwLock → RwLock) → x ≡ Some (site.Rw (object_no y)) → x ≡ Some (object_site W y) →
+      (if test (rwlock_value W S y) then record (goes_on S u) { rwlocks = (y, held (S.rwlock y)) ∷ [] } else record (waits S u y) { rwlocks = (y, wanted (S.rwlock y)) ∷ [] })
+      ≡ (if test (rwlock_value W T y) then record (goes_on T u) { rwlocks = (y, held (T.rwlock y)) ∷ [] } else record (waits T u y) { rwlocks = (y, wanted (T.rwlock y)) ∷ [] })
+  alike-goes_or_waits y test held wanted m e =
+      let k : S.rwlock y ≡ T.rwlock y = alike.rwlock y m in
+      λ i. if test (same-rwlock y m e i) then record (alike-goes_on i) { rwlocks = (y, held (k i)) ∷ [] } else record (alike-waits y e i) { rwlocks = (y, wanted (k i)) ∷ [] }
+
+  -- a reader-writer lock is given up, by what this makes of it
+  pub alike-gives_up : (y : ℕ) (leave : RwLockValue → RwLockValue) → x ≡ Some (site.Rw (object_no y)) → x ≡ Some (object_site W y) →
+      gives_up W S s u y (leave (rwlock_value W S y)) ≡ gives_up W T s u y (leave (rwlock_value W T y))
+  alike-gives_up y leave m e =
+      let w : rwlock_value W S y ≡ rwlock_value W T y = same-rwlock y m e in
+      λ i. record (alike-wakes _ _ (ap (λ v. map number_of (woken (leave v))) w) i) { rwlocks = (y, (passed_on (leave (w i))).lock) ∷ [] }

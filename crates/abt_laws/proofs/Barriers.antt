@@ -24,7 +24,7 @@ IsOffBarriers W (place.Blocked (spot.Object x) t) = (n : ℕ) → thing_at W x.0
 IsOffBarriers W _ = Unit {0}
 
 module _ (W : Parts) (Z : List OrderShape) (S : State) (sound : Sound W Z S) where
-  -- where nobody comes to wait at a barrier, barriers hold
+  -- if nobody comes to wait at a barrier, barriers hold
   pub barriers-stay : (c : Change) → EachOf (λ (m : ℕ × Place). IsOffBarriers W m.1) c.moves → BarriersHold W (changed S c)
   barriers-stay c off x n is =
       let fewer : length (standing W (changed S c) (Waiting x)) ≤ length (standing W S (Waiting x)) =
@@ -35,7 +35,7 @@ module _ (W : Parts) (Z : List OrderShape) (S : State) (sound : Sound W Z S) whe
       let held : length (standing W S (Waiting x)) < n = sound.waiting x n is in
       omega arith
 
-  -- where one unit comes to wait at x, and x has room for one more if it is a barrier
+  -- if one unit comes to wait at x, and x has room for one more if it is a barrier
   pub barriers-wait : (T : State) (u x t : ℕ) → ((v : ℕ) → v ≢ u → T.place v ≡ S.place v) → T.place u ≡ place_in (Waiting x) t →
       ((n : ℕ) → thing_at W x ≡ Some (thing.Barrier n) → suc (length (standing W S (Waiting x))) < n) → BarriersHold W T
   barriers-wait T u x t same comes room y n is =

@@ -12,16 +12,17 @@ abbrev pub IsRefusal : Code → Type 0
 IsRefusal code.Ok = ⊥
 IsRefusal _ = Unit {0}
 
--- an operation goes through where each of its tests holds
+-- an operation goes through if each of its tests holds
 pub unless-ok : (test : Bool) (c rest : Code) → IsRefusal c → unless test c rest ≡ code.Ok → (test ≡ true) × (rest ≡ code.Ok)
 unless-ok true c rest r h = (refl, h)
 unless-ok false c rest r h = absurd (subst IsRefusal h r)
 
--- where it has two
+-- if it has two
 pub unless-second : (a b : Bool) (c d rest : Code) → IsRefusal c → IsRefusal d → unless a c (unless b d rest) ≡ code.Ok → b ≡ true
 unless-second a b c d rest first second e = (unless-ok b d rest second (unless-ok a c (unless b d rest) first e).1).0
 
-some-by : (u : ℕ) (o : Option ℕ) → is_some_of u o ≡ true → IsSome o
+-- what is u is something
+pub some-by : (u : ℕ) (o : Option ℕ) → is_some_of u o ≡ true → IsSome o
 some-by u None e = cc
 some-by u (Some v) e = refl
 

@@ -49,6 +49,7 @@ module _ (W : Parts) (S : State) (s r : ℕ) (x y : Option Site) (c d : Change) 
     mutex = sites-commute (λ n. site.Monitor (object_no n)) S.mutex c.mutexes d.mutexes here.mutexes there.mutexes i;
     eventual = sites-commute (λ n. site.Eventual (object_no n)) S.eventual c.eventuals d.eventuals here.eventuals there.eventuals i;
     future = sites-commute (λ n. site.Future (object_no n)) S.future c.futures d.futures here.futures there.futures i;
+    rwlock = sites-commute (λ n. site.Rw (object_no n)) S.rwlock c.rwlocks d.rwlocks here.rwlocks there.rwlocks i;
     stream = streams-commute i;
   }
 
@@ -86,7 +87,7 @@ module _ (W : Parts) (valid : IsValid W) (Z : List OrderShape) (S : State) (s r 
         ∙ (changes-commute W S s r (what_site W s w) (what_site W r v) (change W S s w) (change W S r v) ne apart here there
         ∙ ap (changed (after W S r v)) (change-alike W valid Z S (after W S r v) s w left first))
 
--- where one event may come and then the other, the other may come first and then the one, with the same state after both
+-- if one event may come and then the other, the other may come first and then the one, with the same state after both
 pub events-commute : (W : Parts) → IsValid W → (Z : List OrderShape) (S T U : State) (e f : Event) → e.stream.0 ≢ f.stream.0 → Apart (event_site W e) (event_site W f) → After W Z S e T → After W Z T f U → (V : State) × After W Z S f V × After W Z V e U
 events-commute W valid Z S T U e f ne apart one two =
     let second : May W Z (after W S e.stream.0 e.what) f.stream.0 f.what = subst (λ R. May W Z R f.stream.0 f.what) one.2 two.1 in

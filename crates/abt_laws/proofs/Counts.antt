@@ -51,10 +51,10 @@ more-ticketed bt at u (suc n) h =
           omega (arith, length-step n (bt n) (ticketed bt n), length-step n (at n) (ticketed at n))
     ]
 
--- where nobody comes, no more stand there
+-- if nobody comes, no more stand there
 pub queue-fewer : (bt at : ℕ → Option ℕ) (n : ℕ) → ((v : ℕ) → v < n → Implies (bt v) (at v)) → length (queue bt n) ≤ length (queue at n)
 queue-fewer bt at n h = simp length-map (fewer-ticketed bt at n h)
 
--- where one unit comes at most, one more stands there at most
+-- if one unit comes at most, one more stands there at most
 pub queue-one_more : (bt at : ℕ → Option ℕ) (u n : ℕ) → ((v : ℕ) → v ≢ u → Implies (bt v) (at v)) → length (queue bt n) ≤ suc (length (queue at n))
 queue-one_more bt at u n h = simp length-map (more-ticketed bt at u n h)

@@ -155,6 +155,6 @@ round-frames false fs h some = refl
 round-frames true [] h some = absurd (some refl)
 round-frames true (f ∷ fs) h some = cc
 
--- where a round is due, the last round of a stacked top frame did not end empty
+-- if a round is due, the last round of a stacked top frame did not end empty
 pub round-not-empty : (W : Parts) (S : State) (s : ℕ) → due W S s ≡ RoundDue → (S.stream s).below ≢ [] → (S.stream s).top.empty ≡ false
 round-not-empty W S s h some = round-frames (S.stream s).top.empty (S.stream s).below (due-idle W S s RoundDue h tt).1 some

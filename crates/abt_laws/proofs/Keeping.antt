@@ -98,7 +98,7 @@ module _ (W : Parts) (s : ℕ) (x : Option Site) where
   in_pool-seen v p (place.Pool q t) e = elim (cases_eq q.0 p) [ inl same ↦ inl (e ∙ ap (λ n. Some (site.Pool (pool_no n))) (sym same)) | inr other ↦ inr (ne_eqb q.0 p other) ]
   in_pool-seen v p _ e = inr refl
 
--- a test of a unit's place holds only where the unit is kept here
+-- a test of a unit's place holds only if the unit is kept here
 pub kept-where_true : {A : Type 0} {test : Bool} → A ⊎ (test ≡ false) → test ≡ true → A
 kept-where_true (inl kept) h = kept
 kept-where_true (inr f) h = absurd (false≢true (sym f ∙ h))

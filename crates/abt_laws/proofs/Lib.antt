@@ -12,7 +12,10 @@ pub mod DueParts
 pub mod Dues
 pub mod Exits
 pub mod Falls
+pub mod Filters
+pub mod Granted
 pub mod Keeping
+pub mod KeptLocks
 pub mod LifeActs
 pub mod LifeEnds
 pub mod LifeEvents
@@ -25,10 +28,12 @@ pub mod LifeStepShapes
 pub mod LifeSteps
 pub mod LifeTies
 pub mod LineMoves
+pub mod LinesAfter
 pub mod Lists
 pub mod Local
 pub mod LocalEvents
 pub mod LocalRows
+pub mod Locks
 pub mod Maps
 pub mod Marks
 pub mod Misses
@@ -37,9 +42,12 @@ pub mod OpenFrames
 pub mod Options
 pub mod Orders
 pub mod Places
+pub mod Prefixes
+pub mod Pushes
 pub mod Queues
 pub mod Quiet
 pub mod QuietRuns
+pub mod Reading
 pub mod Rounds
 pub mod RunParts
 pub mod SoundBarriers
@@ -58,6 +66,7 @@ pub mod SoundOps
 pub mod SoundPut
 pub mod SoundRound
 pub mod SoundRuns
+pub mod SoundRwLocks
 pub mod SoundStack
 pub mod SoundStart
 pub mod SoundSteps

@@ -40,7 +40,7 @@ no-end-within before rest w c none is = nil≢cause (ends_in before) (ends_in re
 EndsLast-nil : EndsLast []
 EndsLast-nil before rest w c h is = absurd (nil≢middle before rest w h)
 
--- where nothing has ended, one more event leaves nothing after an end
+-- if nothing has ended, one more event leaves nothing after an end
 EndsLast-push : (es : List What) (v : What) → ends_in es ≡ [] → EndsLast (es ++ v ∷ [])
 EndsLast-push es v none before rest w c h is = elim (last-or-within es before rest v w h) [ inl last ↦ last | inr p ↦ absurd (no-end-within before p.0 w c (ap ends_in (sym p.1) ∙ none) is) ]
 

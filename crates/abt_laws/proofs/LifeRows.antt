@@ -1,5 +1,5 @@
--- Each operation that goes through takes its unit on, and moves other units only from outside to outside, but where it begins a life.
-use Rattle.std.proofs.Common.{◌≡◌, ◌≢◌, ℕ, suc, ◌==◌, is_some, Bool, true, false, List, [], ◌∷◌, ◌++◌, length, Option, Some, None, refl, sym, ap, subst, inl, inr}
+-- Each operation that goes through takes its unit on, and moves other units only from outside to outside, except if it begins a life.
+use Rattle.std.proofs.Common.{◌≡◌, ◌≢◌, ℕ, suc, ◌==◌, if◌then◌else◌, is_some, Bool, true, false, List, [], ◌∷◌, ◌++◌, length, map, Option, Some, None, refl, sym, ap, subst, inl, inr}
 use Rattle.std.proofs.lemmas.Bool.{cond_both, false≢true}
 use Rattle.abt_machine.specs.declared.events.Code.{Code}
 use Rattle.abt_machine.specs.declared.events.Code.TheVariants as code
@@ -7,6 +7,7 @@ use Rattle.abt_machine.specs.declared.events.Piece.TheVariants as piece
 use Rattle.abt_machine.specs.declared.events.Place.{Place}
 use Rattle.abt_machine.specs.declared.events.Place.TheVariants as place
 use Rattle.abt_machine.specs.declared.events.Spot.TheVariants as spot
+use Rattle.abt_machine.specs.declared.events.Wish.TheVariants as wish
 use Rattle.abt_machine.specs.declared.operations.Op.{Op}
 use Rattle.abt_machine.specs.declared.operations.Op.TheVariants as op
 use Rattle.abt_machine.specs.declared.workload.Parts.{Parts}
@@ -16,12 +17,17 @@ use Rattle.abt_machine.specs.Sites.{first_pool}
 use Rattle.abt_machine.specs.Access.{may_put, may_take}
 use Rattle.abt_machine.specs.Carrying.{added, from_key, printed, refused, with_acc, with_key}
 use Rattle.abt_machine.specs.Queues.{first_alone}
-use Rattle.abt_machine.specs.State.{State, Carried, Desk, Future}
+use Rattle.abt_machine.specs.Holders.{is_free, read_by, written_by}
+use Rattle.abt_machine.specs.Monitors.{number_of}
+use Rattle.abt_machine.specs.RwLocks.{left_by, may_read, wanting, woken}
+use Rattle.abt_machine.specs.State.{State, Carried, Desk, Future, RwLock}
+use Rattle.abt_machine.specs.Values.{rwlock_value}
 use Rattle.abt_machine.specs.Lines.{Line, standing, Waiting, tray_end}
 use Rattle.abt_machine.specs.Outcomes.{IsOver}
 use Rattle.abt_machine.specs.Codes.{code_of, is_unborn, is_ended, is_suspended, is_in_pool, is_full}
 use Rattle.abt_machine.specs.Changes.{no_change, goes_with, goes_on, to_tray, tray_moves, waiting_moves}
-use Rattle.abt_machine.specs.Steps.{wakes, asks, joins, waits, locks, hands_over, releases, queues, passes, receives, gives_all, awaits, learns, ready_value, filled_by, fills, arrives, op_row}
+use Rattle.abt_machine.specs.Steps.{wakes, asks, joins, waits, locks, hands_over, releases, queues, passes, receives, gives_all, awaits, learns, ready_value, filled_by, fills, arrives, gives_up, op_row}
+use Rattle.abt_laws.proofs.Granted.{woken-each}
 use Rattle.abt_laws.proofs.LineMoves.{tray_moves-each, waiting_moves-each}
 use Rattle.abt_laws.proofs.Codes.{unless-ok, unless-second}
 use Rattle.abt_laws.proofs.Places.{place_in}
@@ -136,6 +142,14 @@ module _ (W : Parts) (S : State) (s x : ℕ) (held : IsOutside (S.place x) → �
       cond_both (suc (length (standing W S (Waiting y))) == size_of W y) (wakes W S s x (standing W S (Waiting y))) (waits S x y) (Steps S x)
       (λ _. row-wakes (standing W S (Waiting y)) (waiters-outside W S y)) (λ _. row-waits y)
 
+  -- unit x has this lock, or waits for it
+  row-goes_or_waits : (y : ℕ) (b : Bool) (held wanted : RwLock) → Steps S x (if b then record (goes_on S x) { rwlocks = (y, held) ∷ [] } else record (waits S x y) { rwlocks = (y, wanted) ∷ [] })
+  row-goes_or_waits y b held wanted =
+      cond_both b (record (goes_on S x) { rwlocks = (y, held) ∷ [] }) (record (waits S x y) { rwlocks = (y, wanted) ∷ [] }) (Steps S x) (λ _. row-goes_on) (λ _. row-waits y)
+
+  row-gives_up : (y : ℕ) → Steps S x (gives_up W S s x y (left_by x (rwlock_value W S y)))
+  row-gives_up y = row-wakes (map number_of (woken (left_by x (rwlock_value W S y)))) (woken-each (λ u. IsOutside (S.place u)) W S y x (waiters-outside W S y))
+
   pub row-refused : (c : Code) → Steps S x (record no_change { carried = (x, refused c (S.carried x)) ∷ [] })
   row-refused c = record { stay_outside = tt; goes_on = (refl, refl, tt); same_lives = tt; same_streams = refl }
 
@@ -203,3 +217,8 @@ module _ (W : Parts) (S : State) (s x : ℕ) (held : IsOutside (S.place x) → �
   goes (op.FuReset y) h = row-goes_on
   goes (op.FuTest y) h = row-learns (is_full W S y.0)
   goes (op.BarWait y) h = row-arrives y.0
+  goes (op.ReadLock y) h = row-goes_or_waits y.0 (may_read x (rwlock_value W S y.0)) (read_by x (S.rwlock y.0)) (wanting x wish.Read (S.rwlock y.0))
+  goes (op.WriteLock y) h = row-goes_or_waits y.0 (is_free (S.rwlock y.0)) (written_by x (S.rwlock y.0)) (wanting x wish.Write (S.rwlock y.0))
+  goes (op.RwUnlock y) h = row-gives_up y.0
+  goes (op.RwLoad y) h = row-goes_with (with_acc (S.rwlock y.0).number (S.carried x)) refl
+  goes (op.RwStore y) h = row-goes_on

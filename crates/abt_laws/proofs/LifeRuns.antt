@@ -95,7 +95,7 @@ module _ (W : Parts) (Z : List OrderShape) (sound : RunsAreSound W Z) (valid : I
   pub run-life : (J : List Event) → Run W Z J → ((last_state W J).desk u).life ≡ last_life W J u
   run-life J run = (run-tied J run).life
 
-  -- unit u is unborn exactly where its life is 0
+  -- unit u is unborn exactly if its life is 0
   pub run-unborn : (J : List Event) → Run W Z J → ((last_state W J).place u ≡ place.Unborn) ↔ (last_life W J u ≡ 0)
   run-unborn J run = ((run-tied J run).unborn, (run-tied J run).born)
 

@@ -100,7 +100,7 @@ unborn-busy pl h e = subst IsBusy e h
 -- what ties the events of unit u, by life, to the state, now being the life that u is in
 pub record Tied (W : Parts) (u now : ℕ) (events : ℕ → List What) (S : State) : Type 0 where
   pub life : (S.desk u).life ≡ now
-  -- the unit is unborn exactly where its life is 0, which has no event
+  -- the unit is unborn exactly if its life is 0, which has no event
   pub unborn : S.place u ≡ place.Unborn → now ≡ 0
   pub born : now ≡ 0 → S.place u ≡ place.Unborn
   pub nothing_unborn : events 0 ≡ []

@@ -47,3 +47,8 @@ waiting_moves-places P x i us p = waiting_moves-each (λ m. P m.1) (λ _. Unit {
 pub tray_moves-key : (s i : ℕ) (us : List ℕ) (v : ℕ) → Among v us → KeyOf v (tray_moves s i us)
 tray_moves-key s i [] v m = absurd m
 tray_moves-key s i (u ∷ us) v m = elim m [ inl e ↦ inl e | inr b ↦ inr (tray_moves-key s (suc i) us v b) ]
+
+-- and no other
+pub tray_moves-among : (s i : ℕ) (us : List ℕ) (v : ℕ) → KeyOf v (tray_moves s i us) → Among v us
+tray_moves-among s i [] v k = absurd k
+tray_moves-among s i (u ∷ us) v k = elim k [ inl e ↦ inl e | inr b ↦ inr (tray_moves-among s (suc i) us v b) ]

@@ -45,6 +45,11 @@ pub EachOf-append : {A : Type 0} (P : A → Type 0) (xs ys : List A) → EachOf 
 EachOf-append P [] ys a b = b
 EachOf-append P (x ∷ xs) ys a b = (a.0, EachOf-append P xs ys a.1 b)
 
+-- what holds of each item holds of each item of a prefix
+pub EachOf-prefix : {A : Type 0} (P : A → Type 0) (xs ys : List A) → EachOf P (xs ++ ys) → EachOf P xs
+EachOf-prefix P [] ys a = tt
+EachOf-prefix P (x ∷ xs) ys a = (a.0, EachOf-prefix P xs ys a.1)
+
 pub EachOf-first : {A : Type 0} (P : A → Type 0) (xs : List A) (x : A) → EachOf P xs → first xs ≡ Some x → P x
 EachOf-first P [] x a e = absurd (none≢some e)
 EachOf-first P (y ∷ ys) x a e = subst P (some-injective e) a.0
@@ -63,7 +68,7 @@ abbrev pub Among : ℕ → List ℕ → Type 0
 Among v [] = ⊥
 Among v (u ∷ us) = (v ≡ u) ⊎ Among v us
 
--- where there is no first item, none is among them
+-- if there is no first item, none is among them
 pub Among-none : (us : List ℕ) (v : ℕ) → first us ≡ None → Among v us → ⊥
 Among-none [] v e m = m
 Among-none (u ∷ us) v e m = none≢some (sym e)

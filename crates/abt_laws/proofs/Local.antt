@@ -7,7 +7,7 @@ use Rattle.abt_machine.specs.declared.workload.Parts.{Parts}
 use Rattle.abt_machine.specs.Numbers.{pool_no, unit_no, object_no}
 use Rattle.abt_machine.specs.Maps.{put_all}
 use Rattle.abt_machine.specs.Sites.{object_site}
-use Rattle.abt_machine.specs.State.{State, Stream, Carried, Desk, Mutex, Future}
+use Rattle.abt_machine.specs.State.{State, Stream, Carried, Desk, Mutex, Future, RwLock}
 use Rattle.abt_machine.specs.Changes.{Change, changed, no_change}
 use Rattle.abt_laws.specs.Footprint.{Within, holder, ChangesOnly}
 use Rattle.abt_laws.proofs.Lists.{EachOf, EachOf-then}
@@ -29,6 +29,7 @@ pub record IsLocal (W : Parts) (S : State) (s : ℕ) (x : Option Site) (c : Chan
   pub mutexes : EachOf (λ m. x ≡ Some (site.Monitor (object_no m.0))) c.mutexes
   pub eventuals : EachOf (λ m. x ≡ Some (site.Eventual (object_no m.0))) c.eventuals
   pub futures : EachOf (λ m. x ≡ Some (site.Future (object_no m.0))) c.futures
+  pub rwlocks : EachOf (λ m. x ≡ Some (site.Rw (object_no m.0))) c.rwlocks
   pub streams : EachOf (λ m. m.0 ≡ s) c.streams
 
 -- What a local change leaves.
@@ -66,6 +67,7 @@ module _ (W : Parts) (S : State) (s : ℕ) (x : Option Site) (c : Change) (here 
     mutexes = site-stays (λ n. site.Monitor (object_no n)) S.mutex c.mutexes here.mutexes;
     eventuals = site-stays (λ n. site.Eventual (object_no n)) S.eventual c.eventuals here.eventuals;
     futures = site-stays (λ n. site.Future (object_no n)) S.future c.futures here.futures;
+    rwlocks = site-stays (λ n. site.Rw (object_no n)) S.rwlock c.rwlocks here.rwlocks;
     others = unit-stays;
     kept = λ u w. elim (KeyOf-cases u c.moves) [
       | inl k ↦ lands-kept u k
@@ -77,35 +79,38 @@ module _ (W : Parts) (S : State) (s : ℕ) (x : Option Site) (c : Change) (here 
 
 module _ (W : Parts) (S : State) (s : ℕ) (x : Option Site) where
   pub local-none : IsLocal W S s x no_change
-  local-none = record { moves = tt; carried = tt; desks = tt; pool_next = tt; join_next = tt; object_next = tt; mutexes = tt; eventuals = tt; futures = tt; streams = tt }
+  local-none = record { moves = tt; carried = tt; desks = tt; pool_next = tt; join_next = tt; object_next = tt; mutexes = tt; eventuals = tt; futures = tt; rwlocks = tt; streams = tt }
 
   module _ (c : Change) (local : IsLocal W S s x c) where
     pub local-moves : (ms : List (ℕ × Place)) → EachOf (MovesWithin W S s x) ms → IsLocal W S s x (record c { moves = ms })
-    local-moves ms a = record { moves = a; carried = local.carried; desks = local.desks; pool_next = local.pool_next; join_next = local.join_next; object_next = local.object_next; mutexes = local.mutexes; eventuals = local.eventuals; futures = local.futures; streams = local.streams }
+    local-moves ms a = record { moves = a; carried = local.carried; desks = local.desks; pool_next = local.pool_next; join_next = local.join_next; object_next = local.object_next; mutexes = local.mutexes; eventuals = local.eventuals; futures = local.futures; rwlocks = local.rwlocks; streams = local.streams }
 
     pub local-carried : (ms : List (ℕ × Carried)) → EachOf (λ m. IsKept W S s x m.0) ms → IsLocal W S s x (record c { carried = ms })
-    local-carried ms a = record { moves = local.moves; carried = a; desks = local.desks; pool_next = local.pool_next; join_next = local.join_next; object_next = local.object_next; mutexes = local.mutexes; eventuals = local.eventuals; futures = local.futures; streams = local.streams }
+    local-carried ms a = record { moves = local.moves; carried = a; desks = local.desks; pool_next = local.pool_next; join_next = local.join_next; object_next = local.object_next; mutexes = local.mutexes; eventuals = local.eventuals; futures = local.futures; rwlocks = local.rwlocks; streams = local.streams }
 
     pub local-desk : (v : ℕ) (d : Desk) → x ≡ Some (site.Desk (unit_no v)) → IsLocal W S s x (record c { desks = (v, d) ∷ [] })
-    local-desk v d e = record { moves = local.moves; carried = local.carried; desks = (e, tt); pool_next = local.pool_next; join_next = local.join_next; object_next = local.object_next; mutexes = local.mutexes; eventuals = local.eventuals; futures = local.futures; streams = local.streams }
+    local-desk v d e = record { moves = local.moves; carried = local.carried; desks = (e, tt); pool_next = local.pool_next; join_next = local.join_next; object_next = local.object_next; mutexes = local.mutexes; eventuals = local.eventuals; futures = local.futures; rwlocks = local.rwlocks; streams = local.streams }
 
     pub local-pool_next : (p n : ℕ) → x ≡ Some (site.Pool (pool_no p)) → IsLocal W S s x (record c { pool_next = (p, n) ∷ [] })
-    local-pool_next p n e = record { moves = local.moves; carried = local.carried; desks = local.desks; pool_next = (e, tt); join_next = local.join_next; object_next = local.object_next; mutexes = local.mutexes; eventuals = local.eventuals; futures = local.futures; streams = local.streams }
+    local-pool_next p n e = record { moves = local.moves; carried = local.carried; desks = local.desks; pool_next = (e, tt); join_next = local.join_next; object_next = local.object_next; mutexes = local.mutexes; eventuals = local.eventuals; futures = local.futures; rwlocks = local.rwlocks; streams = local.streams }
 
     pub local-join_next : (v n : ℕ) → x ≡ Some (site.Desk (unit_no v)) → IsLocal W S s x (record c { join_next = (v, n) ∷ [] })
-    local-join_next v n e = record { moves = local.moves; carried = local.carried; desks = local.desks; pool_next = local.pool_next; join_next = (e, tt); object_next = local.object_next; mutexes = local.mutexes; eventuals = local.eventuals; futures = local.futures; streams = local.streams }
+    local-join_next v n e = record { moves = local.moves; carried = local.carried; desks = local.desks; pool_next = local.pool_next; join_next = (e, tt); object_next = local.object_next; mutexes = local.mutexes; eventuals = local.eventuals; futures = local.futures; rwlocks = local.rwlocks; streams = local.streams }
 
     pub local-object_next : (y n : ℕ) → x ≡ Some (object_site W y) → IsLocal W S s x (record c { object_next = (y, n) ∷ [] })
-    local-object_next y n e = record { moves = local.moves; carried = local.carried; desks = local.desks; pool_next = local.pool_next; join_next = local.join_next; object_next = (e, tt); mutexes = local.mutexes; eventuals = local.eventuals; futures = local.futures; streams = local.streams }
+    local-object_next y n e = record { moves = local.moves; carried = local.carried; desks = local.desks; pool_next = local.pool_next; join_next = local.join_next; object_next = (e, tt); mutexes = local.mutexes; eventuals = local.eventuals; futures = local.futures; rwlocks = local.rwlocks; streams = local.streams }
 
     pub local-mutex : (y : ℕ) (m : Mutex) → x ≡ Some (site.Monitor (object_no y)) → IsLocal W S s x (record c { mutexes = (y, m) ∷ [] })
-    local-mutex y m e = record { moves = local.moves; carried = local.carried; desks = local.desks; pool_next = local.pool_next; join_next = local.join_next; object_next = local.object_next; mutexes = (e, tt); eventuals = local.eventuals; futures = local.futures; streams = local.streams }
+    local-mutex y m e = record { moves = local.moves; carried = local.carried; desks = local.desks; pool_next = local.pool_next; join_next = local.join_next; object_next = local.object_next; mutexes = (e, tt); eventuals = local.eventuals; futures = local.futures; rwlocks = local.rwlocks; streams = local.streams }
 
     pub local-eventual : (y : ℕ) (v : Option ℕ) → x ≡ Some (site.Eventual (object_no y)) → IsLocal W S s x (record c { eventuals = (y, v) ∷ [] })
-    local-eventual y v e = record { moves = local.moves; carried = local.carried; desks = local.desks; pool_next = local.pool_next; join_next = local.join_next; object_next = local.object_next; mutexes = local.mutexes; eventuals = (e, tt); futures = local.futures; streams = local.streams }
+    local-eventual y v e = record { moves = local.moves; carried = local.carried; desks = local.desks; pool_next = local.pool_next; join_next = local.join_next; object_next = local.object_next; mutexes = local.mutexes; eventuals = (e, tt); futures = local.futures; rwlocks = local.rwlocks; streams = local.streams }
 
     pub local-future : (y : ℕ) (f : Future) → x ≡ Some (site.Future (object_no y)) → IsLocal W S s x (record c { futures = (y, f) ∷ [] })
-    local-future y f e = record { moves = local.moves; carried = local.carried; desks = local.desks; pool_next = local.pool_next; join_next = local.join_next; object_next = local.object_next; mutexes = local.mutexes; eventuals = local.eventuals; futures = (e, tt); streams = local.streams }
+    local-future y f e = record { moves = local.moves; carried = local.carried; desks = local.desks; pool_next = local.pool_next; join_next = local.join_next; object_next = local.object_next; mutexes = local.mutexes; eventuals = local.eventuals; futures = (e, tt); rwlocks = local.rwlocks; streams = local.streams }
+
+    pub local-rwlock : (y : ℕ) (k : RwLock) → x ≡ Some (site.Rw (object_no y)) → IsLocal W S s x (record c { rwlocks = (y, k) ∷ [] })
+    local-rwlock y k e = record { moves = local.moves; carried = local.carried; desks = local.desks; pool_next = local.pool_next; join_next = local.join_next; object_next = local.object_next; mutexes = local.mutexes; eventuals = local.eventuals; futures = local.futures; rwlocks = (e, tt); streams = local.streams }
 
     pub local-stream : (own : Stream) → IsLocal W S s x (record c { streams = (s, own) ∷ [] })
-    local-stream own = record { moves = local.moves; carried = local.carried; desks = local.desks; pool_next = local.pool_next; join_next = local.join_next; object_next = local.object_next; mutexes = local.mutexes; eventuals = local.eventuals; futures = local.futures; streams = (refl, tt) }
+    local-stream own = record { moves = local.moves; carried = local.carried; desks = local.desks; pool_next = local.pool_next; join_next = local.join_next; object_next = local.object_next; mutexes = local.mutexes; eventuals = local.eventuals; futures = local.futures; rwlocks = local.rwlocks; streams = (refl, tt) }

@@ -30,7 +30,7 @@ use Rattle.abt_laws.proofs.Keeping.{IsKept, first-kept, hand-kept, next-kept, fr
 use Rattle.abt_laws.proofs.Local.{IsLocal, local-none, local-moves, local-carried, local-desk, local-pool_next, local-eventual, local-stream}
 use Rattle.abt_laws.proofs.LocalRows
 use Rattle.abt_laws.proofs.Codes.{unless-ok, IsRefusal}
-use Rattle.abt_laws.proofs.ObjectSites.{mutex-waits, eventual-waits, future-waits, barrier-waits, condition-waits, condition-mutex-waits}
+use Rattle.abt_laws.proofs.ObjectSites.{mutex-waits, eventual-waits, future-waits, barrier-waits, rwlock-waits, condition-waits, condition-mutex-waits}
 
 -- an operation that goes through reaches its site
 pub site-reached : (may : Bool) (y : Site) (rest : Code) → unless may code.PoolAccess rest ≡ code.Ok → (if may then Some y else None) ≡ Some y
@@ -87,6 +87,11 @@ module _ (W : Parts) (valid : IsValid W) (S : State) (s u : ℕ) (in_hand : hand
   local-op (op.FuReset x) d h = LocalRows.local-resets_future W S s u _ in_hand x.0 _ refl
   local-op (op.FuTest x) d h = LocalRows.local-goes_with W S s u _ in_hand _
   local-op (op.BarWait x) d h = LocalRows.local-arrives W S s u _ in_hand x.0 (barrier-waits W x d)
+  local-op (op.ReadLock x) d h = LocalRows.local-goes_or_waits W S s u _ in_hand x.0 _ _ _ refl (rwlock-waits W x d)
+  local-op (op.WriteLock x) d h = LocalRows.local-goes_or_waits W S s u _ in_hand x.0 _ _ _ refl (rwlock-waits W x d)
+  local-op (op.RwUnlock x) d h = LocalRows.local-gives_up W S s u _ in_hand x.0 refl (rwlock-waits W x d)
+  local-op (op.RwLoad x) d h = LocalRows.local-goes_with W S s u _ in_hand _
+  local-op (op.RwStore x) d h = LocalRows.local-writes W S s u _ in_hand x.0 _ refl
 
   -- a refusal changes the unit in hand alone
   local-code : (o : Op) (c : Code) → IsDeclared W o → code_of W S s u o ≡ c → IsLocal W S s (op_site W s u o) (step_row W S s u (Some o) c)

@@ -1,5 +1,5 @@
 -- The rows of operations change only their stream, their site, and units that these keep.
-use Rattle.std.proofs.Common.{◌≡◌, ℕ, suc, ◌==◌, List, [], ◌∷◌, length, map, Option, Some, None, refl}
+use Rattle.std.proofs.Common.{◌≡◌, ℕ, suc, ◌==◌, if◌then◌else◌, Bool, List, [], ◌∷◌, length, map, Option, Some, None, refl}
 use Rattle.std.proofs.lemmas.Bool.{cond_both}
 use Rattle.abt_machine.specs.declared.events.Place.{Place}
 use Rattle.abt_machine.specs.declared.events.Place.TheVariants as place
@@ -10,15 +10,19 @@ use Rattle.abt_machine.specs.declared.workload.Parts.{Parts}
 use Rattle.abt_machine.specs.Numbers.{stream_no, unit_no, object_no}
 use Rattle.abt_machine.specs.Workloads.{size_of}
 use Rattle.abt_machine.specs.Sites.{object_site}
+use Rattle.abt_machine.specs.Monitors.{number_of}
 use Rattle.abt_machine.specs.Queues.{first_alone}
-use Rattle.abt_machine.specs.State.{State, Carried, Desk, Mutex, Future}
+use Rattle.abt_machine.specs.RwLocks.{left_by, passed_on, woken}
+use Rattle.abt_machine.specs.State.{State, Carried, Desk, Mutex, Future, RwLock}
 use Rattle.abt_machine.specs.Lines.{Waiting, hand, standing, tray_end}
 use Rattle.abt_machine.specs.Changes.{Change, no_change, tray_moves, to_tray, waiting_moves, goes_with, goes_on}
-use Rattle.abt_machine.specs.Steps.{wakes, begins, asks, joins, waits, locks, hands_over, releases, queues, passes, receives, gives_all, awaits, fills, arrives}
+use Rattle.abt_machine.specs.Steps.{wakes, begins, asks, joins, waits, locks, hands_over, releases, queues, passes, receives, gives_all, awaits, fills, arrives, gives_up}
+use Rattle.abt_machine.specs.Values.{RwLockValue, rwlock_value}
+use Rattle.abt_laws.proofs.Granted.{woken-each}
 use Rattle.abt_laws.proofs.LineMoves.{tray_moves-each, waiting_moves-each}
 use Rattle.abt_laws.proofs.Lists.{EachOf, EachOf-append, EachOf-map}
 use Rattle.abt_laws.proofs.Keeping.{IsKept, hand-kept, standing-kept, one-kept}
-use Rattle.abt_laws.proofs.Local.{MovesWithin, IsLocal, local-none, local-moves, local-carried, local-desk, local-join_next, local-object_next, local-mutex, local-eventual, local-future}
+use Rattle.abt_laws.proofs.Local.{MovesWithin, IsLocal, local-none, local-moves, local-carried, local-desk, local-join_next, local-object_next, local-mutex, local-eventual, local-future, local-rwlock}
 
 -- Units that stream s or site x keeps stay there when they move to a tray or to an object of the site.
 
@@ -111,6 +115,18 @@ module _ (W : Parts) (S : State) (s u : ℕ) (x : Option Site) (in_hand : hand W
       (λ _. local-wakes (standing W S (Waiting y)) (standing-kept W S s x (Waiting y) e))
       (λ _. local-waits y e)
 
+  pub local-goes_or_waits : (y : ℕ) (b : Bool) (held wanted : RwLock) → x ≡ Some (site.Rw (object_no y)) → x ≡ Some (object_site W y) →
+      IsLocal W S s x (if b then record (goes_on S u) { rwlocks = (y, held) ∷ [] } else record (waits S u y) { rwlocks = (y, wanted) ∷ [] })
+  local-goes_or_waits y b held wanted m e =
+      cond_both b (record (goes_on S u) { rwlocks = (y, held) ∷ [] }) (record (waits S u y) { rwlocks = (y, wanted) ∷ [] }) (IsLocal W S s x)
+      (λ _. local-rwlock W S s x (goes_on S u) local-goes_on y held m)
+      (λ _. local-rwlock W S s x (waits S u y) (local-waits y e) y wanted m)
+
+  pub local-gives_up : (y : ℕ) → x ≡ Some (site.Rw (object_no y)) → x ≡ Some (object_site W y) → IsLocal W S s x (gives_up W S s u y (left_by u (rwlock_value W S y)))
+  local-gives_up y m e =
+      let left : RwLockValue = left_by u (rwlock_value W S y) in
+      local-rwlock W S s x _ (local-wakes (map number_of (woken left)) (woken-each (IsKept W S s x) W S y u (standing-kept W S s x (Waiting y) e))) y (passed_on left).lock m
+
   pub local-yields_to : (v : ℕ) → IsKept W S s x v → IsLocal W S s x (record (goes_on S u) { moves = (v, place.Next (stream_no s)) ∷ to_tray W S s (u ∷ []) })
   local-yields_to v k = local-moving _ ((k, refl), tray-within W S s x (u ∷ []) (tray_end W S s) (here, tt))
 
@@ -119,6 +135,9 @@ module _ (W : Parts) (S : State) (s u : ℕ) (x : Option Site) (in_hand : hand W
 
   pub local-holds : (y : ℕ) (m : Mutex) → x ≡ Some (site.Monitor (object_no y)) → IsLocal W S s x (record (goes_on S u) { mutexes = (y, m) ∷ [] })
   local-holds y m e = local-mutex W S s x (goes_on S u) local-goes_on y m e
+
+  pub local-writes : (y : ℕ) (k : RwLock) → x ≡ Some (site.Rw (object_no y)) → IsLocal W S s x (record (goes_on S u) { rwlocks = (y, k) ∷ [] })
+  local-writes y k e = local-rwlock W S s x (goes_on S u) local-goes_on y k e
 
   pub local-resets_eventual : (y : ℕ) → x ≡ Some (site.Eventual (object_no y)) → IsLocal W S s x (record (goes_on S u) { eventuals = (y, None) ∷ [] })
   local-resets_eventual y e = local-eventual W S s x (goes_on S u) local-goes_on y None e

@@ -1,4 +1,4 @@
--- The marks of streams, where one stream changes.
+-- The marks of streams, if one stream changes.
 use Rattle.std.proofs.Common.{◌≡◌, ℕ, List, [], ◌∷◌, refl, ◌∙◌, ap}
 use Rattle.abt_machine.specs.declared.events.Place.TheVariants as place
 use Rattle.abt_machine.specs.declared.numbers.StreamNo.{StreamNo}
@@ -8,7 +8,7 @@ use Rattle.abt_machine.specs.State.{State, Stream, Frame, Left}
 use Rattle.abt_machine.specs.Frames.{left, left_to}
 use Rattle.abt_laws.proofs.Maps.{put_at-other, put_all-kept}
 
--- the marks stay where the stream keeps its own
+-- the marks stay if the stream keeps its own
 pub marks-kept : (S : State) (s : ℕ) (own : Stream) → own.mark ≡ (S.stream s).mark → (r : StreamNo) → (put_at S.stream s own r.0).mark ≡ (S.stream r.0).mark
 marks-kept S s own e r = put_all-kept (λ n (new : Stream). new.mark ≡ (S.stream n).mark) S.stream ((s, own) ∷ []) r.0 (e, tt) refl
 

@@ -1,4 +1,4 @@
--- A miss keeps the weight of the units, and lowers the number of open frames where the round of a stacked frame ends empty.
+-- A miss keeps the weight of the units, and lowers the number of open frames if the round of a stacked frame ends empty.
 use Rattle.std.proofs.Common.{◌≡◌, ◌≢◌, ℕ, ◌<◌, true, false, [], length, refl, sym, ◌∙◌, ap, subst}
 use Rattle.std.proofs.lemmas.Bool.{false_from_ne_true}
 use Rattle.abt_machine.specs.declared.events.What.TheVariants as what

@@ -8,7 +8,7 @@ use Rattle.abt_machine.specs.declared.workload.Parts.{Parts}
 use Rattle.abt_machine.specs.Numbers.{object_no}
 use Rattle.abt_machine.specs.Workloads.{IsCondition, thing_at, mutex_of, mutex_from}
 use Rattle.abt_machine.specs.Sites.{monitor_of, thing_site, object_site}
-use Rattle.abt_machine.specs.Operations.{IsMutex, IsEventual, IsFuture, IsBarrier}
+use Rattle.abt_machine.specs.Operations.{IsMutex, IsEventual, IsFuture, IsBarrier, IsRwLock}
 use Rattle.abt_machine.specs.Valid.{IsValid}
 use Rattle.abt_laws.proofs.Declared.{mutex-declared}
 
@@ -27,6 +27,9 @@ future-waits W x h = thing-waits W x.0 (Some (thing.Future h.0 h.1)) h.2
 
 pub barrier-waits : (W : Parts) (x : ObjectNo) → IsBarrier W x.0 → Some (site.Barrier x) ≡ Some (object_site W x.0)
 barrier-waits W x h = thing-waits W x.0 (Some (thing.Barrier h.0)) h.1
+
+pub rwlock-waits : (W : Parts) (x : ObjectNo) → IsRwLock W x.0 → Some (site.Rw x) ≡ Some (object_site W x.0)
+rwlock-waits W x h = thing-waits W x.0 (Some thing.RwLock) h
 
 pub condition-waits : (W : Parts) (x : ℕ) → IsCondition W x → Some (monitor_of W x) ≡ Some (object_site W x)
 condition-waits W x h = ap (λ m. Some (site.Monitor (object_no m))) (ap (mutex_from x) h.1) ∙ thing-waits W x (Some (thing.Cond h.0)) h.1

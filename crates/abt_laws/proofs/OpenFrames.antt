@@ -31,7 +31,7 @@ open_count-falls f g (k ∷ fs) some was now =
     let after : openness g ≡ 0 = ap (λ b. cond (not b) 1 0) now in
     omega (arith, open_count-cons f k fs, open_count-cons g k fs)
 
--- the number stays where each stream keeps its own
+-- the number stays if each stream keeps its own
 pub open_frames-same : (W : Parts) (S T : State) (s : ℕ) → ((r : ℕ) → r ≢ s → T.stream r ≡ S.stream r) → open_frames_of (T.stream s) ≡ open_frames_of (S.stream s) → open_frames W T ≡ open_frames W S
 open_frames-same W S T s others own =
     sum_up-same (λ r. open_frames_of (T.stream r)) (λ r. open_frames_of (S.stream r)) W.streams
@@ -40,7 +40,7 @@ open_frames-same W S T s others own =
       | inr other ↦ ap open_frames_of (others r other)
     ])
 
--- it falls where that of one stream does, and every other keeps its own
+-- it falls if that of one stream does, and every other keeps its own
 pub open_frames-fall : (W : Parts) (S T : State) (s : ℕ) → s < W.streams → ((r : ℕ) → r ≢ s → T.stream r ≡ S.stream r) → open_frames_of (T.stream s) < open_frames_of (S.stream s) → open_frames W T < open_frames W S
 open_frames-fall W S T s declared others own =
     sum_up-falls-at (λ r. open_frames_of (T.stream r)) (λ r. open_frames_of (S.stream r)) W.streams s declared own (λ r other. ap open_frames_of (others r other))

@@ -30,7 +30,7 @@ use Rattle.abt_laws.proofs.Standing.{empty-standing}
 use Rattle.abt_laws.proofs.Options.{none≢some}
 use Rattle.abt_laws.proofs.Maps.{put_at-other, put_at-same}
 
--- Where all units are over.
+-- If all units are over.
 
 over-in-no-line : (l : Line) (at : Place) → IsOver at → ticket_in l at ≡ None
 over-in-no-line (InPool p) place.Unborn over = refl

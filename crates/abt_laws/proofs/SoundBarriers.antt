@@ -1,5 +1,5 @@
 -- Arrivals at a barrier keep a sound state sound. Unit u, in the hand of stream s, makes the step.
-use Rattle.std.proofs.Common.{◌≡◌, ℕ, suc, ◌<◌, ◌==◌, false, List, length, Some, sym, ap, subst, arith}
+use Rattle.std.proofs.Common.{◌≡◌, ℕ, suc, ◌<◌, ◌==◌, false, List, length, Some, sym, ◌∙◌, ap, subst, arith}
 use Rattle.std.proofs.lemmas.Bool.{cond_both, eqb-false}
 use Rattle.abt_machine.specs.declared.operations.OrderShape.{OrderShape}
 use Rattle.abt_machine.specs.declared.operations.Thing.TheVariants as thing
@@ -23,9 +23,13 @@ module _ (W : Parts) (Z : List OrderShape) (S : State) (s u : ℕ) (step : IsSte
       let other : suc (length (standing W S (Waiting x))) ≡ size_of W x → ⊥ = eqb-false (suc (length (standing W S (Waiting x)))) (size_of W x) part in
       omega arith
 
+  -- a barrier is no reader-writer lock
+  off : (x : ℕ) → IsBarrier W x → thing_at W x ≡ Some thing.RwLock → ⊥
+  off x is r = let k : Some (thing.Barrier is.0) ≡ Some thing.RwLock = sym is.1 ∙ r in cc
+
   pub keeps-arrives : (x : ℕ) → IsBarrier W x → Keeps W Z S (arrives W S s u x)
   keeps-arrives x is =
       let us : List ℕ = standing W S (Waiting x) in
       cond_both (suc (length us) == size_of W x) (wakes W S s u us) (waits S u x) (Keeps W Z S)
-      (λ last. keeps-wakes_only W Z S s u step us (wakeable-line W S (Waiting x) tt))
-      (λ part. keeps-waits W Z S s u step x (subst (HoldsUp W S x) (sym is.1) tt) (λ n b. has-room x n part b))
+      (λ last. keeps-wakes_only W Z S s u step us (wakeable-line W S (Waiting x) tt (off x is)))
+      (λ part. keeps-waits W Z S s u step x (off x is) (subst (HoldsUp W S x) (sym is.1) tt) (λ n b. has-room x n part b))

@@ -1,6 +1,7 @@
 -- What a change must meet to keep a sound state sound.
 use Rattle.std.proofs.Common.{◌≡◌, ℕ, ◌<◌, ◌≤◌, true, false, List, length, Option, Some, None, refl, sym, ◌∙◌, ap, subst, arith, ◌⊎◌, inl, inr}
 use Rattle.std.specs.Prelude.{IfSome, IsSome}
+use Rattle.std.specs.List.{sum}
 use Rattle.abt_machine.specs.declared.events.Place.{Place}
 use Rattle.abt_machine.specs.declared.events.Place.TheVariants as place
 use Rattle.abt_machine.specs.declared.events.Spot.TheVariants as spot
@@ -12,11 +13,11 @@ use Rattle.abt_machine.specs.Numbers.{stream_no}
 use Rattle.abt_machine.specs.Maps.{put_all}
 use Rattle.abt_machine.specs.Workloads.{body_at, ops_of, main_of, thing_at, size_of, size_from}
 use Rattle.abt_machine.specs.Queues.{last}
-use Rattle.abt_machine.specs.State.{State, Carried, Desk, Mutex, Future}
+use Rattle.abt_machine.specs.State.{State, Carried, Desk, Mutex, Future, RwLock}
 use Rattle.abt_machine.specs.Lines.{Line, InHand, InNext, Joining, Waiting, ticket_in, standing}
 use Rattle.abt_machine.specs.Changes.{Change, changed}
 use Rattle.abt_machine.specs.Codes.{is_alive}
-use Rattle.abt_machine.specs.Sound.{Sound, IsPlaced, IsAtRest, AllUnderWay, AllAtRest, HoldsUp, HasNotEnded, AsksNothing, frames_of}
+use Rattle.abt_machine.specs.Sound.{Sound, IsKept, IsPlaced, IsAtRest, AllUnderWay, AllAtRest, HoldsUp, HasNotEnded, AsksNothing, frames_of}
 use Rattle.abt_laws.proofs.Lists.{EachOf, EachOf-then}
 use Rattle.abt_laws.proofs.Maps.{KeyOf-cases, put_all-other, put_all-value, put_all-kept, put_all-above, EachOf-key}
 use Rattle.abt_laws.proofs.Places.{same-self, place_in, ticket-place}
@@ -34,7 +35,7 @@ IsAlone f (place.Hand s) = IsEmpty (InNext s.0) f
 IsAlone f (place.Next s) = IsEmpty (InHand s.0) f
 IsAlone f _ = Unit {0}
 
--- unit u, which moves there, is placed well afterwards; where it ends, nobody joins it any more
+-- unit u, which moves there, is placed well afterwards; if it ends, nobody joins it any more
 pub record MovesWell (W : Parts) (S : State) (c : Change) (u : ℕ) (pl : Place) : Type 0 where
   pub declared : u < length W.units
   pub placed : IsPlaced W (changed S c) u pl
@@ -54,7 +55,7 @@ pub record AsksWell (W : Parts) (S : State) (u : ℕ) (d : Desk) : Type 0 where
   pub asks : (AsksNothing (S.desk u) → AsksNothing d) ⊎ (is_alive (S.place u) ≡ true)
   pub request : IfSome d.migrate (λ p. p < length W.pools)
 
--- Objects, where f tells the places afterwards: one that holds nobody up any more has no waiters.
+-- Objects, if f has the places afterwards: one that holds nobody up any more has no waiters.
 
 abbrev pub MutexHolds : (ℕ → Place) → ℕ → Mutex → Type 0
 MutexHolds f x m = IsSome m.owner ⊎ IsEmpty (Waiting x) f
@@ -64,6 +65,17 @@ EventualHolds f x v = (v ≡ None) ⊎ IsEmpty (Waiting x) f
 
 abbrev pub FutureHolds : Parts → State → (ℕ → Place) → ℕ → Future → Type 0
 FutureHolds W S f x v = (v.filled ≤ size_of W x) × (((S.future x).filled < size_of W x → v.filled < size_of W x) ⊎ IsEmpty (Waiting x) f)
+
+-- Reader-writer locks.
+
+-- lock x, which becomes this, has a count for each unit, and its number stays if it was read
+pub record LocksWell (W : Parts) (S : State) (x : ℕ) (lock : RwLock) : Type 0 where
+  pub counts : length lock.counts ≡ length W.units
+  pub number : 0 < sum (S.rwlock x).counts → lock.number ≡ (S.rwlock x).number
+
+-- each lock is kept, with its waiters
+abbrev pub LocksHold : Parts → State → Type 0
+LocksHold W S = (x : ℕ) → thing_at W x ≡ Some thing.RwLock → IsKept (S.rwlock x) (standing W S (Waiting x))
 
 -- Frames.
 
@@ -98,6 +110,8 @@ pub record Keeps (W : Parts) (Z : List OrderShape) (S : State) (c : Change) : Ty
   pub mutexes : EachOf (λ (m : ℕ × Mutex). MutexHolds (places S c) m.0 m.1) c.mutexes
   pub eventuals : EachOf (λ (m : ℕ × Option ℕ). EventualHolds (places S c) m.0 m.1) c.eventuals
   pub futures : EachOf (λ (m : ℕ × Future). FutureHolds W S (places S c) m.0 m.1) c.futures
+  pub rwlocks : EachOf (λ (m : ℕ × RwLock). LocksWell W S m.0 m.1) c.rwlocks
+  pub locks : LocksHold W (changed S c)
   pub frames : FramesKeep W Z S (changed S c)
 
 module _ (W : Parts) (Z : List OrderShape) (S : State) (c : Change) (sound : Sound W Z S) (keeps : Keeps W Z S c) where
@@ -123,6 +137,7 @@ module _ (W : Parts) (Z : List OrderShape) (S : State) (c : Change) (sound : Sou
         | inr none ↦ absurd (none u t at)
       ]
   held_up u t x (Some (thing.Barrier n)) is at h = tt
+  held_up u t x (Some thing.RwLock) is at h = tt
 
   asks_nothing : (u : ℕ) → (is_alive (S.place u) ≡ true → ⊥) → AsksNothing (S.desk u) → AsksNothing (put_all S.desk c.desks u)
   asks_nothing u idle h =
@@ -186,10 +201,17 @@ module _ (W : Parts) (Z : List OrderShape) (S : State) (c : Change) (sound : Sou
     below_rest = keeps.frames.below_rest;
     filled = λ x. put_all-kept (λ n (f : Future). f.filled ≤ size_of W n) S.future c.futures x (EachOf-then _ _ c.futures (λ m k. k.0) keeps.futures) (sound.filled x);
     waiting = keeps.barriers;
+    counts = λ x. put_all-kept (λ n (k : RwLock). length k.counts ≡ length W.units) S.rwlock c.rwlocks x (EachOf-then _ _ c.rwlocks (λ m k. k.counts) keeps.rwlocks) (sound.counts x);
+    locks = keeps.locks;
     homes = λ u. put_all-kept (λ n (k : Carried). k.home < length W.pools) S.carried c.carried u (EachOf-then _ _ c.carried (λ m k. k.home) keeps.carried) (sound.homes u);
     requests = λ u. put_all-kept (λ n (d : Desk). IfSome d.migrate (λ p. p < length W.pools)) S.desk c.desks u (EachOf-then _ _ c.desks (λ m k. k.request) keeps.desks) (sound.requests u);
     positions = λ u. put_all-kept (λ n (k : Carried). k.position ≤ length (ops_of (body_at W n))) S.carried c.carried u (EachOf-then _ _ c.carried (λ m k. k.position) keeps.carried) (sound.positions u);
   }
+
+-- a reader-writer lock that is read keeps its number
+pub number-after : (W : Parts) (Z : List OrderShape) (S : State) (c : Change) → Keeps W Z S c → (x : ℕ) → 0 < sum (S.rwlock x).counts → ((changed S c).rwlock x).number ≡ (S.rwlock x).number
+number-after W Z S c keeps x above =
+    put_all-kept (λ n (k : RwLock). 0 < sum (S.rwlock n).counts → k.number ≡ (S.rwlock n).number) S.rwlock c.rwlocks x (EachOf-then _ _ c.rwlocks (λ m k. k.number) keeps.rwlocks) (λ _. refl) above
 
 -- the tickets in a line are below what its units' places say
 pub placed-below : (W : Parts) (Z : List OrderShape) (S : State) (l : Line) (n : ℕ) → Sound W Z S → ((v t : ℕ) → IsPlaced W S v (place_in l t) → t < n) → IsBelow l n S.place

@@ -26,10 +26,15 @@ use Rattle.abt_laws.proofs.Standing.{none-first}
 use Rattle.abt_laws.proofs.SoundChanges.{Keeps, places, MovesWell}
 use Rattle.abt_laws.proofs.Barriers.{IsOffBarriers}
 use Rattle.abt_laws.proofs.SoundFrames.{IsFrameless}
-use Rattle.abt_laws.proofs.Wakes.{IsWakeable, wakeable-first, tray-well, tray-frameless, empty-still}
-use Rattle.abt_laws.proofs.SoundMutexes.{next-owner}
+use Rattle.abt_laws.proofs.Locks.{MovesOffLocks}
+use Rattle.abt_laws.proofs.Wakes.{IsWakeable, wakeable-first, tray-well, tray-frameless, tray-off, empty-still}
+use Rattle.abt_laws.proofs.SoundMutexes.{mutex-no_lock, next-owner}
 use Rattle.abt_laws.proofs.SoundMoves.{keeps-moves}
-use Rattle.abt_laws.proofs.SoundSteps.{IsStepping, in_no_frame, keeps-goes_on, waiting-below, tray-below}
+use Rattle.abt_laws.proofs.SoundSteps.{IsStepping, in_no_frame, off_locks, keeps-goes_on, waiting-below, tray-below}
+
+-- a condition is no reader-writer lock
+pub condition-no_lock : (W : Parts) (x : ℕ) → IsCondition W x → thing_at W x ≡ Some thing.RwLock → ⊥
+condition-no_lock W x is r = let k : Some (thing.Cond is.0) ≡ Some thing.RwLock = sym is.1 ∙ r in cc
 
 -- Moves to the waiters of object x.
 
@@ -40,6 +45,9 @@ waiting-well W S c x i vs l up each =
 
 waiting-frameless : (W : Parts) (S : State) (x i : ℕ) (vs : List ℕ) → EachOf (IsWakeable W S) vs → EachOf (λ (m : ℕ × Place). IsFrameless S m.0) (waiting_moves x i vs)
 waiting-frameless W S x i vs each = waiting_moves-each (λ m. IsFrameless S m.0) (IsWakeable W S) x i vs (λ v t b wakes. wakes.frameless) each
+
+waiting-off : (W : Parts) (S : State) (x i : ℕ) (vs : List ℕ) → (thing_at W x ≡ Some thing.RwLock → ⊥) → EachOf (IsWakeable W S) vs → EachOf (MovesOffLocks W S) (waiting_moves x i vs)
+waiting-off W S x i vs other each = waiting_moves-each (MovesOffLocks W S) (IsWakeable W S) x i vs (λ v t b wakes. (wakes.off_locks, other)) each
 
 mutex-off : (W : Parts) (m n : ℕ) → IsMutex W m → thing_at W m ≡ Some (thing.Barrier n) → ⊥
 mutex-off W m n is b = let k : Some thing.Mutex ≡ Some (thing.Barrier n) = sym is ∙ b in cc
@@ -53,6 +61,7 @@ module _ (W : Parts) (Z : List OrderShape) (S : State) (s u : ℕ) (step : IsSte
       let i : ℕ = tray_end W S s in
       let c : Change = releases W S s u x m in
       let next : put_at S.object_next x (suc (S.object_next x)) x ≡ suc (S.object_next x) = put_at-same S.object_next x (suc (S.object_next x)) in
+      let woken : EachOf (IsWakeable W S) us = wakeable-first W S (Waiting m) tt (mutex-no_lock W m is) in
       let apart : x ≡ m → ⊥ = λ e. let k : Some (thing.Cond cond.0) ≡ Some thing.Mutex = sym cond.1 ∙ (ap (thing_at W) e ∙ is) in cc in
       let still : first (standing W S (Waiting m)) ≡ None → IsEmpty (Waiting m) (places S c) =
       λ none. empty-still S c (Waiting m) (λ e. let k : x ≡ m = cc in apart k, tray_moves-places (λ p. line_of p ≡ Some (Waiting m) → ⊥) s i us (λ t e. cc)) (none-first W S step.sound.undeclared (Waiting m) none) in
@@ -66,10 +75,11 @@ module _ (W : Parts) (Z : List OrderShape) (S : State) (s u : ℕ) (step : IsSte
           alone = tt;
           joined = inl tt;
         },
-        tray-well W S c s i us step.stream step.rests (wakeable-first W S (Waiting m) tt),
+        tray-well W S c s i us step.stream step.rests woken,
       )
       (λ n b. let k : Some (thing.Cond cond.0) ≡ Some (thing.Barrier n) = sym cond.1 ∙ b in cc, tray_moves-places (IsOffBarriers W) s i us (λ t. tt))
-      (in_no_frame W Z S s u step, tray-frameless W S s i us (wakeable-first W S (Waiting m) tt))
+      ((off_locks W Z S s u step, condition-no_lock W x cond), tray-off W S s i us woken)
+      (in_no_frame W Z S s u step, tray-frameless W S s i us woken)
       tt (omega arith, tt) (next-owner (places S c) m (standing W S (Waiting m)) (S.mutex m) still, tt)
 
   -- these units come to mutex m, which is held
@@ -82,6 +92,7 @@ module _ (W : Parts) (Z : List OrderShape) (S : State) (s u : ℕ) (step : IsSte
       (waiting-free m t S.place vs (waiting-below W Z S m step.sound))
       (waiting-well W S c m t vs (subst (λ n. t + length vs ≤ n) (sym next) (omega arith)) (subst (HoldsUp W (changed S c) m) (sym is) held) each)
       (waiting_moves-places (IsOffBarriers W) m t vs (λ k n b. mutex-off W m n is b))
+      (waiting-off W S m t vs (mutex-no_lock W m is) each)
       (waiting-frameless W S m t vs each)
       tt (omega arith, tt) tt
 
@@ -102,6 +113,7 @@ module _ (W : Parts) (Z : List OrderShape) (S : State) (s u : ℕ) (step : IsSte
       (waiting-well W S c m t ws (subst (λ n. t + length ws ≤ n) (sym next) (omega arith)) (subst (HoldsUp W (changed S c) m) (sym is) held) each.1)
       (tray-well W S c s i (w ∷ []) step.stream step.rests (each.0, tt)))
       (EachOf-append _ (waiting_moves m t ws) (to_tray W S s (w ∷ [])) (waiting_moves-places (IsOffBarriers W) m t ws (λ k n b. mutex-off W m n is b)) (tt, tt))
+      (EachOf-append _ (waiting_moves m t ws) (to_tray W S s (w ∷ [])) (waiting-off W S m t ws (mutex-no_lock W m is) each.1) (tray-off W S s i (w ∷ []) (each.0, tt)))
       (EachOf-append _ (waiting_moves m t ws) (to_tray W S s (w ∷ [])) (waiting-frameless W S m t ws each.1) (tray-frameless W S s i (w ∷ []) (each.0, tt)))
       tt (omega arith, tt) (inl refl, tt)
 

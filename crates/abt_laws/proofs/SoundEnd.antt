@@ -24,7 +24,7 @@ use Rattle.abt_laws.proofs.SoundChanges.{Keeps}
 use Rattle.abt_laws.proofs.SoundFrames.{frames-stay}
 use Rattle.abt_laws.proofs.Barriers.{IsOffBarriers}
 use Rattle.abt_laws.proofs.SoundLook.{asks-nothing}
-use Rattle.abt_laws.proofs.Wakes.{frameless-in, wakeable-line, empty-after, tray-well, tray-frameless}
+use Rattle.abt_laws.proofs.Wakes.{frameless-in, off-in, wakeable-line, empty-after, tray-well, tray-frameless, tray-off}
 
 ended-asks : (S : State) (u : ℕ) → AsksNothing (put_at S.desk u (without_requests (S.desk u)) u)
 ended-asks S u = subst AsksNothing (sym (put_at-same S.desk u (without_requests (S.desk u)))) (refl, refl)
@@ -46,7 +46,7 @@ keeps-end W Z S s u e sound may =
         alone = tt;
         joined = inr (empty-after S c (Joining u) ((λ h. cc), tray_moves-places (λ pl. line_of pl ≡ Some (Joining u) → ⊥) s i us (λ t h. cc)) (λ v t h. inr (tray_moves-key s i us v (among-standing W S sound.undeclared (Joining u) v t h))));
       },
-      tray-well W S c s i us placed.0 placed.1 (wakeable-line W S (Joining u) tt),
+      tray-well W S c s i us placed.0 placed.1 (wakeable-line W S (Joining u) tt tt),
     )
-    (tt, tray_moves-places (IsOffBarriers W) s i us (λ t. tt)) tt (asks-nothing W S u, tt) tt
-    (frames-stay W Z S c sound (frameless-in S (InHand s) u is.ticket tt is.at, tray-frameless W S s i us (wakeable-line W S (Joining u) tt)) tt)
+    (tt, tray_moves-places (IsOffBarriers W) s i us (λ t. tt)) ((off-in W S (InHand s) u is.ticket tt is.at, tt), tray-off W S s i us (wakeable-line W S (Joining u) tt tt)) tt (asks-nothing W S u, tt) tt
+    (frames-stay W Z S c sound (frameless-in S (InHand s) u is.ticket tt is.at, tray-frameless W S s i us (wakeable-line W S (Joining u) tt tt)) tt)

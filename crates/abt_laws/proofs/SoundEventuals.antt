@@ -34,26 +34,30 @@ module _ (W : Parts) (Z : List OrderShape) (S : State) (s u : ℕ) (step : IsSte
       (λ v t h. tray_moves-key s (tray_end W S s) us v (among-standing W S step.sound.undeclared (Waiting x) v t h))
 
   -- all who wait at x are woken with a value
-  pub keeps-gives_all : (x value : ℕ) (es : List (ℕ × Option ℕ)) (fs : List (ℕ × Future)) →
+  pub keeps-gives_all : (x value : ℕ) (es : List (ℕ × Option ℕ)) (fs : List (ℕ × Future)) → (thing_at W x ≡ Some thing.RwLock → ⊥) →
       EachOf (λ (m : ℕ × Option ℕ). EventualHolds (places S (wakes W S s u (standing W S (Waiting x)))) m.0 m.1) es →
       EachOf (λ (m : ℕ × Future). FutureHolds W S (places S (wakes W S s u (standing W S (Waiting x)))) m.0 m.1) fs →
       Keeps W Z S (record (gives_all W S s u x value) { eventuals = es; futures = fs })
-  keeps-gives_all x value es fs e f =
+  keeps-gives_all x value es fs other e f =
       let us : List ℕ = standing W S (Waiting x) in
       keeps-wakes W Z S s u step us ((u, advanced (S.carried u)) ∷ map (receives S value) us) [] [] es fs
-      (wakeable-line W S (Waiting x) tt) (carries_on W Z S s u step, receives-well value us) tt tt e f
+      (wakeable-line W S (Waiting x) tt other) (carries_on W Z S s u step, receives-well value us) tt tt e f
 
-  pub keeps-sets : (x value : ℕ) → Keeps W Z S (record (gives_all W S s u x value) { eventuals = (x, Some value) ∷ [] })
-  keeps-sets x value = keeps-gives_all x value ((x, Some value) ∷ []) [] (inr (all-leave x), tt) tt
+  -- an eventual is no reader-writer lock
+  no_lock : (x : ℕ) → IsEventual W x → thing_at W x ≡ Some thing.RwLock → ⊥
+  no_lock x is r = let k : Some thing.Eventual ≡ Some thing.RwLock = sym is ∙ r in cc
+
+  pub keeps-sets : (x value : ℕ) → IsEventual W x → Keeps W Z S (record (gives_all W S s u x value) { eventuals = (x, Some value) ∷ [] })
+  keeps-sets x value is = keeps-gives_all x value ((x, Some value) ∷ []) [] (no_lock x is) (inr (all-leave x), tt) tt
 
   pub keeps-unsets : (x : ℕ) → Keeps W Z S (record (goes_on S u) { eventuals = (x, None) ∷ [] })
   keeps-unsets x = keeps-still W Z S s u step ((u, advanced (S.carried u)) ∷ []) [] [] ((x, None) ∷ []) [] (carries_on W Z S s u step, tt) tt tt (inl refl, tt) tt
 
-  -- u gets the value, or waits at x, which is no barrier and holds it up
-  pub keeps-awaits : (x : ℕ) (o : Option ℕ) → (o ≡ None → HoldsUp W S x (thing_at W x)) → ((n : ℕ) → thing_at W x ≡ Some (thing.Barrier n) → ⊥) → Keeps W Z S (awaits S u x o)
-  keeps-awaits x None up other = keeps-waits W Z S s u step x (up refl) (λ n b. absurd (other n b))
-  keeps-awaits x (Some value) up other = keeps-goes_with W Z S s u step (with_acc value (S.carried u)) refl refl
+  -- u gets the value, or waits at x, which is no reader-writer lock and no barrier, and holds it up
+  pub keeps-awaits : (x : ℕ) (o : Option ℕ) → (thing_at W x ≡ Some thing.RwLock → ⊥) → (o ≡ None → HoldsUp W S x (thing_at W x)) → ((n : ℕ) → thing_at W x ≡ Some (thing.Barrier n) → ⊥) → Keeps W Z S (awaits S u x o)
+  keeps-awaits x None unlocked up other = keeps-waits W Z S s u step x unlocked (up refl) (λ n b. absurd (other n b))
+  keeps-awaits x (Some value) unlocked up other = keeps-goes_with W Z S s u step (with_acc value (S.carried u)) refl refl
 
   pub keeps-awaits_eventual : (x : ℕ) → IsEventual W x → Keeps W Z S (awaits S u x (S.eventual x))
   keeps-awaits_eventual x is =
-      keeps-awaits x (S.eventual x) (λ none. subst (HoldsUp W S x) (sym is) none) (λ n b. let k : Some thing.Eventual ≡ Some (thing.Barrier n) = sym is ∙ b in cc)
+      keeps-awaits x (S.eventual x) (no_lock x is) (λ none. subst (HoldsUp W S x) (sym is) none) (λ n b. let k : Some thing.Eventual ≡ Some (thing.Barrier n) = sym is ∙ b in cc)

@@ -59,7 +59,7 @@ module _ (W : Parts) (Z : List OrderShape) (S : State) (c : Change) (sound : Sou
       subst (λ (fs : List Frame). IfSome (last (own.top ∷ fs)) (λ f. f.sched ≡ main_of W s)) (sym (on s).below)
       (lowest-same (S.stream s).top own.top (S.stream s).below (main_of W s) (on s).sched (sound.lowest s l))
 
-  -- where no unit leaves a frame
+  -- if no unit leaves a frame
   frames-go_on : EachOf (λ (m : ℕ × Place). IsFrameless S m.0) c.moves → FramesKeep W Z S (changed S c)
   frames-go_on frameless = record {
     held = λ u s d was is. held u s d (subst (IsPlaced W S u) was (sound.placed u));
@@ -72,7 +72,7 @@ module _ (W : Parts) (Z : List OrderShape) (S : State) (c : Change) (sound : Sou
     below_rest = λ s l. subst AllAtRest (sym (on s).below) (sound.below_rest s l);
   }
 
--- where no unit leaves a frame and streams go on, the frames stay
+-- if no unit leaves a frame and streams go on, the frames stay
 pub frames-stay : (W : Parts) (Z : List OrderShape) (S : State) (c : Change) → Sound W Z S → EachOf (λ (m : ℕ × Place). IsFrameless S m.0) c.moves →
     EachOf (λ (m : ℕ × Stream). FramesGoOn W Z S c m.0 m.1) c.streams → FramesKeep W Z S (changed S c)
 frames-stay W Z S c sound frameless goes =

@@ -22,7 +22,8 @@ use Rattle.abt_laws.proofs.Arrivals.{IsEmpty, IsBelow-empty, free-empty, tray-fr
 use Rattle.abt_laws.proofs.Standing.{StandsIn, first-stands}
 use Rattle.abt_laws.proofs.SoundChanges.{Keeps, AsksWell}
 use Rattle.abt_laws.proofs.SoundFrames.{IsFrameless, frames-stay}
-use Rattle.abt_laws.proofs.Wakes.{IsWakeable, frameless-in, empty-after, tray-well}
+use Rattle.abt_laws.proofs.Locks.{IsOffLocks}
+use Rattle.abt_laws.proofs.Wakes.{IsWakeable, frameless-in, off-in, empty-after, tray-well}
 
 -- nothing is asked afterwards
 pub asks-nothing : (W : Parts) (S : State) (u : ℕ) → AsksWell W S u (without_requests (S.desk u))
@@ -34,6 +35,9 @@ module _ (W : Parts) (Z : List OrderShape) (S : State) (s u : ℕ) (sound : Soun
 
   frameless : IsFrameless S u
   frameless = frameless-in S (InNext s) u is.ticket tt is.at
+
+  off : IsOffLocks W (S.place u)
+  off = off-in W S (InNext s) u is.ticket tt is.at
 
   no_hand : IsEmpty (InHand s) S.place
   no_hand v t h = sound.hand_or_next s v u (ticket-place (InHand s) (S.place v) t h) is.at
@@ -52,18 +56,18 @@ module _ (W : Parts) (Z : List OrderShape) (S : State) (s u : ℕ) (sound : Soun
         },
         tt,
       )
-      (tt, tt) tt (asks-nothing W S u, tt) tt
+      (tt, tt) ((off, tt), tt) tt (asks-nothing W S u, tt) tt
       (frames-stay W Z S c sound (frameless, tt) (record { below = refl; sched = refl; rest = λ v at h. h; under_way = λ k. (sound.under_way s k).0 }, tt))
 
   -- u comes to the tray, with another home
   keeps-look_tray : (p : ℕ) → p < length W.pools → Keeps W Z S (look_row W S s u false (Some p))
   keeps-look_tray p l =
       let c : Change = look_row W S s u false (Some p) in
-      let wakes : IsWakeable W S u = record { declared = is.declared; frameless = frameless } in
+      let wakes : IsWakeable W S u = record { declared = is.declared; frameless = frameless; off_locks = off } in
       keeps-event W Z S sound (to_tray W S s (u ∷ [])) ((u, with_home p (S.carried u)) ∷ []) ((u, without_requests (S.desk u)) ∷ []) [] []
       (tray-free s (tray_end W S s) S.place (u ∷ []) (IsBelow-empty (InTray s) (tray_end W S s) S.place no_tray))
       (tray-well W S c s (tray_end W S s) (u ∷ []) placed.0 placed.1 (wakes, tt))
-      (tt, tt) (record { home = l; position = sound.positions u }, tt) (asks-nothing W S u, tt) tt
+      (tt, tt) ((off, tt), tt) (record { home = l; position = sound.positions u }, tt) (asks-nothing W S u, tt) tt
       (frames-stay W Z S c sound (frameless, tt) tt)
 
   keeps-look_by : (b : Bool) (m : Option ℕ) → (S.desk u).migrate ≡ m → Keeps W Z S (look_row W S s u b m)

@@ -17,7 +17,7 @@ use Rattle.abt_laws.proofs.Arrivals.{IsBelow, free-above}
 use Rattle.abt_laws.proofs.Standing.{StandsIn, first-stands}
 use Rattle.abt_laws.proofs.SoundChanges.{Keeps, placed-below}
 use Rattle.abt_laws.proofs.SoundFrames.{frames-stay}
-use Rattle.abt_laws.proofs.Wakes.{frameless-in}
+use Rattle.abt_laws.proofs.Wakes.{frameless-in, off-in}
 
 -- the tickets in a pool are below its next
 pool-below : (W : Parts) (Z : List OrderShape) (S : State) (p : ℕ) → Sound W Z S → IsBelow (InPool p) (S.pool_next p) S.place
@@ -38,5 +38,5 @@ keeps-put W Z S s u p sound may =
       },
       tt,
     )
-    (tt, tt) tt tt (omega arith, tt)
+    (tt, tt) ((off-in W S (InTray s) u is.ticket tt is.at, tt), tt) tt tt (omega arith, tt)
     (frames-stay W Z S c sound (frameless-in S (InTray s) u is.ticket tt is.at, tt) tt)

@@ -26,7 +26,7 @@ use Rattle.abt_laws.proofs.Arrivals.{IsEmpty, free-empty}
 use Rattle.abt_laws.proofs.Standing.{StandsIn, front-stands}
 use Rattle.abt_laws.proofs.SoundChanges.{Keeps, OnStream}
 use Rattle.abt_laws.proofs.SoundFrames.{frames-stay}
-use Rattle.abt_laws.proofs.Wakes.{frameless-in, empty-still}
+use Rattle.abt_laws.proofs.Wakes.{frameless-in, off-in, empty-still}
 
 -- a frame at the beginning of a round is at rest on those below it
 pub fresh-rest : (g r : ℕ) (fs : List Frame) → AllAtRest fs → AllAtRest (frame_at g r false ∷ fs)
@@ -62,7 +62,7 @@ keeps-take W Z S s p u valid stored sound l may =
       },
       tt,
     )
-    (tt, tt) tt tt tt
+    (tt, tt) ((off-in W S (InPool p) u is.ticket tt is.at, tt), tt) tt tt tt
     (frames-stay W Z S c sound (frameless-in S (InPool p) u is.ticket tt is.at, tt)
     (record { below = refl; sched = refl; rest = λ v at h. rests; under_way = λ k. next-under_way W Z own.top (suc own.top.round) false valid stored (sound.under_way s l).0 }, tt))
 
@@ -79,6 +79,6 @@ keeps-miss W Z S s p valid stored sound l may =
     keeps-event W Z S sound [] [] [] [] ((s, round_missed W p own) ∷ [])
     tt
     tt
-    tt tt tt tt
+    tt tt tt tt tt
     (frames-stay W Z S c sound tt
     (record { below = refl; sched = missed-sched W own.top p; rest = λ v at h. absurd (idle v at); under_way = λ k. missed-under_way W Z own.top p valid stored (sound.under_way s l).0 may.2 }, tt))

@@ -14,7 +14,7 @@ use Rattle.abt_machine.specs.Events.{May, after, change}
 use Rattle.abt_machine.specs.Runs.{RunFrom, state_after}
 use Rattle.abt_machine.specs.Sound.{Sound}
 use Rattle.abt_laws.specs.Laws.{EventsKeepSound, RunsAreSound}
-use Rattle.abt_laws.proofs.SoundChanges.{sound-after}
+use Rattle.abt_laws.proofs.SoundChanges.{Keeps, sound-after}
 use Rattle.abt_laws.proofs.SoundStart.{start-is-sound}
 use Rattle.abt_laws.proofs.SoundPut.{keeps-put}
 use Rattle.abt_laws.proofs.SoundLook.{keeps-look}
@@ -23,25 +23,29 @@ use Rattle.abt_laws.proofs.SoundRound.{keeps-take, keeps-miss}
 use Rattle.abt_laws.proofs.SoundStack.{keeps-enter, keeps-leave}
 use Rattle.abt_laws.proofs.SoundOps.{step-keeps}
 
--- by the kind of event
-event-keeps : (W : Parts) (Z : List OrderShape) → IsValid W → OrdersStored W Z → (S : State) (s : ℕ) (w : What) → Sound W Z S → s < W.streams → May W Z S s w → Sound W Z (after W S s w)
-event-keeps W Z valid stored S s (what.Miss p) sound below may = sound-after W Z S (change W S s (what.Miss p)) sound (keeps-miss W Z S s p.0 valid stored sound below may)
-event-keeps W Z valid stored S s (what.Take p u) sound below may = sound-after W Z S (change W S s (what.Take p u)) sound (keeps-take W Z S s p.0 u.0 valid stored sound below may)
-event-keeps W Z valid stored S s (what.Look u) sound below may = sound-after W Z S (change W S s (what.Look u)) sound (keeps-look W Z S s u.0 sound may)
+-- what an event changes, by its kind
+pub event-keeps : (W : Parts) (Z : List OrderShape) → IsValid W → OrdersStored W Z → (S : State) (s : ℕ) (w : What) → Sound W Z S → s < W.streams → May W Z S s w → Keeps W Z S (change W S s w)
+event-keeps W Z valid stored S s (what.Miss p) sound below may = keeps-miss W Z S s p.0 valid stored sound below may
+event-keeps W Z valid stored S s (what.Take p u) sound below may = keeps-take W Z S s p.0 u.0 valid stored sound below may
+event-keeps W Z valid stored S s (what.Look u) sound below may = keeps-look W Z S s u.0 sound may
 event-keeps W Z valid stored S s (what.Step u k c) sound below may = step-keeps W Z valid stored S s u.0 k c sound below may
-event-keeps W Z valid stored S s (what.Put u p) sound below may = sound-after W Z S (change W S s (what.Put u p)) sound (keeps-put W Z S s u.0 p.0 sound may)
-event-keeps W Z valid stored S s (what.End u c) sound below may = sound-after W Z S (change W S s (what.End u c)) sound (keeps-end W Z S s u.0 c sound may)
-event-keeps W Z valid stored S s (what.Enter u) sound below may = sound-after W Z S (change W S s (what.Enter u)) sound (keeps-enter W Z S s u.0 valid stored sound below may)
-event-keeps W Z valid stored S s (what.Leave u) sound below may = sound-after W Z S (change W S s (what.Leave u)) sound (keeps-leave W Z S s u.0 sound below may)
+event-keeps W Z valid stored S s (what.Put u p) sound below may = keeps-put W Z S s u.0 p.0 sound may
+event-keeps W Z valid stored S s (what.End u c) sound below may = keeps-end W Z S s u.0 c sound may
+event-keeps W Z valid stored S s (what.Enter u) sound below may = keeps-enter W Z S s u.0 valid stored sound below may
+event-keeps W Z valid stored S s (what.Leave u) sound below may = keeps-leave W Z S s u.0 sound below may
+
+-- so the state after it is sound
+event-sound : (W : Parts) (Z : List OrderShape) → IsValid W → OrdersStored W Z → (S : State) (s : ℕ) (w : What) → Sound W Z S → s < W.streams → May W Z S s w → Sound W Z (after W S s w)
+event-sound W Z valid stored S s w sound below may = sound-after W Z S (change W S s w) sound (event-keeps W Z valid stored S s w sound below may)
 
 pub events-keep-sound : (W : Parts) (Z : List OrderShape) → EventsKeepSound W Z
-events-keep-sound W Z valid stored S T e sound came = subst (Sound W Z) (sym came.2) (event-keeps W Z valid stored S e.stream.0 e.what sound came.0 came.1)
+events-keep-sound W Z valid stored S T e sound came = subst (Sound W Z) (sym came.2) (event-sound W Z valid stored S e.stream.0 e.what sound came.0 came.1)
 
 states-sound : (W : Parts) (Z : List OrderShape) → IsValid W → OrdersStored W Z → (S : State) (J : List Event) (i : ℕ) → Sound W Z S → RunFrom W Z S J → Sound W Z (state_after W S (take i J))
 states-sound W Z valid stored S J zero sound run = sound
 states-sound W Z valid stored S [] (suc i) sound run = sound
 states-sound W Z valid stored S (e ∷ es) (suc i) sound run =
-    states-sound W Z valid stored (after W S e.stream.0 e.what) es i (event-keeps W Z valid stored S e.stream.0 e.what sound run.0 run.1) run.2
+    states-sound W Z valid stored (after W S e.stream.0 e.what) es i (event-sound W Z valid stored S e.stream.0 e.what sound run.0 run.1) run.2
 
 pub runs-are-sound : (W : Parts) (Z : List OrderShape) → RunsAreSound W Z
 runs-are-sound W Z valid stored J i run = states-sound W Z valid stored (start W) J i (start-is-sound W Z valid stored) run

@@ -22,6 +22,7 @@ use Rattle.abt_machine.specs.Changes.{Change, changed}
 use Rattle.abt_machine.specs.Events.{May, change}
 use Rattle.abt_machine.specs.Sound.{Sound, IsPlaced, IsAtRest, AllUnderWay, AllAtRest, RunsSched, frames_of, stacked_frame}
 use Rattle.abt_machine.specs.Valid.{IsValid}
+use Rattle.abt_laws.proofs.Locks.{IsOffLocks}
 use Rattle.abt_laws.proofs.SoundEvents.{keeps-event}
 use Rattle.abt_laws.proofs.Rounds.{fresh-under_way}
 use Rattle.abt_laws.proofs.Dues.{due-no_next, due-no_hand, due-unit, enter-due, leave-below}
@@ -114,7 +115,7 @@ module _ (W : Parts) (Z : List OrderShape) (S : State) (s u : ℕ) (g : SchedNo)
   keeps-enter_of l declared = keeps-event W Z S sound ((u, place.Frame (stream_no s) (length old_below)) ∷ []) [] [] [] ((s, new_own) ∷ [])
       (free-above S.place u (place.Frame (stream_no s) (length old_below)) (InFrames s) (length old_below) (same-self s (length old_below)) (frames-below W Z S s sound), tt)
       (record { declared = declared; placed = subst (IsFramed W u s (length old_below)) (sym (put_at-same S.stream s new_own)) (is_framed l); alone = tt; joined = inl tt }, tt)
-      (tt, tt) tt tt tt
+      (tt, tt) ((subst (IsOffLocks W) (sym at) tt, tt), tt) tt tt tt
       (frames-enter)
 
 pub keeps-enter : (W : Parts) (Z : List OrderShape) (S : State) (s u : ℕ) → IsValid W → OrdersStored W Z → Sound W Z S → s < W.streams → May W Z S s (what.Enter (unit_no u)) → Keeps W Z S (change W S s (what.Enter (unit_no u)))
@@ -195,7 +196,7 @@ module _ (W : Parts) (Z : List OrderShape) (S : State) (s u : ℕ) (f : Frame) (
         },
         tt,
       )
-      (tt, tt) tt tt tt
+      (tt, tt) ((subst (IsOffLocks W) (sym at) tt, tt), tt) tt tt tt
       (frames-leave)
 
 pub keeps-leave : (W : Parts) (Z : List OrderShape) (S : State) (s u : ℕ) → Sound W Z S → s < W.streams → May W Z S s (what.Leave (unit_no u)) → Keeps W Z S (change W S s (what.Leave (unit_no u)))

@@ -1,5 +1,8 @@
 -- The start is sound.
-use Rattle.std.proofs.Common.{◌≡◌, ℕ, zero, suc, ◌<◌, ◌≤◌, ◌+◌, cond, true, false, List, length, Option, Some, None, refl, sym, one-add, ◌∙◌, ap, subst, arith, inl, inr}
+use Rattle.std.proofs.Common.{◌≡◌, ℕ, zero, suc, ◌<◌, ◌≤◌, ◌+◌, cond, true, false, List, [], length, Option, Some, None, refl, sym, one-add, ◌∙◌, ap, subst, arith, replicate, inl, inr}
+use Rattle.std.proofs.lemmas.List.{length-replicate}
+use Rattle.std.proofs.lemmas.List.Folds.{sum_by-replicate}
+use Rattle.std.specs.List.{sum}
 use Rattle.std.proofs.lemmas.Bool.{cases_eq, cases_order, cases_lt, eq-eqb}
 use Rattle.abt_machine.specs.declared.events.Place.TheVariants as place
 use Rattle.abt_machine.specs.declared.operations.OrderShape.{OrderShape}
@@ -8,11 +11,12 @@ use Rattle.abt_machine.specs.Numbers.{pool_no}
 use Rattle.abt_machine.specs.Workloads.{start_of, main_of}
 use Rattle.abt_machine.specs.Sites.{home_from}
 use Rattle.abt_machine.specs.Fronts.{is_some_of}
-use Rattle.abt_machine.specs.Lines.{Line, InPool, InHand, Waiting, ticket_in}
+use Rattle.abt_machine.specs.Lines.{Line, InPool, InHand, Waiting, standing, ticket_in}
 use Rattle.abt_machine.specs.Start.{start, start_place, count_at}
-use Rattle.abt_machine.specs.Sound.{IsPlaced}
+use Rattle.abt_machine.specs.Sound.{IsKept, IsPlaced}
 use Rattle.abt_machine.specs.Valid.{IsValid}
 use Rattle.abt_laws.specs.Laws.{StartIsSound}
+use Rattle.abt_laws.proofs.KeptLocks.{above-zero}
 use Rattle.abt_laws.proofs.Rounds.{fresh-under_way}
 use Rattle.abt_laws.proofs.Options.{none≢some}
 use Rattle.abt_laws.proofs.Places.{line_of-ticket, same-self}
@@ -91,6 +95,12 @@ start-home W u valid = by (start_of W u) refl where
   by None e = valid.some_pool
   by (Some p) e = start-declared W u p valid e
 
+-- a lock that nobody holds, and at which nobody waits, is kept
+start-kept : (W : Parts) (us : List ℕ) → us ≡ [] → IsKept ((start W).rwlock 0) us
+start-kept W us none =
+    let unread : sum (replicate (length W.units) 0) ≡ 0 = sum_by-replicate (λ n. n) (length W.units) 0 ∙ omega arith in
+    record { alone = λ some. unread; served = λ free. none; writer_first = λ above. absurd (above-zero (sum (replicate (length W.units) 0)) above unread) }
+
 pub start-is-sound : (W : Parts) (Z : List OrderShape) → StartIsSound W Z
 start-is-sound W Z valid stored = record {
   one_each = start-one_each W;
@@ -103,6 +113,8 @@ start-is-sound W Z valid stored = record {
   below_rest = λ s l. tt;
   filled = λ x. omega arith;
   waiting = λ x n is. subst (λ (us : List ℕ). length us < n) (sym (empty-standing W (start W) (Waiting x) (start-empty W (Waiting x) (λ p e. cc)))) (barrier-some W x n valid is);
+  counts = λ x. length-replicate (length W.units) 0;
+  locks = λ x is. start-kept W (standing W (start W) (Waiting x)) (empty-standing W (start W) (Waiting x) (start-empty W (Waiting x) (λ p e. cc)));
   homes = λ u. start-home W u valid;
   requests = λ u. tt;
   positions = λ u. omega arith;

@@ -13,7 +13,7 @@ use Rattle.abt_machine.specs.declared.workload.Parts.{Parts}
 use Rattle.abt_machine.specs.Numbers.{stream_no, unit_no, object_no}
 use Rattle.abt_machine.specs.Maps.{put_at}
 use Rattle.abt_machine.specs.Workloads.{body_at, ops_of, thing_at}
-use Rattle.abt_machine.specs.State.{State, Carried, Desk, Mutex, Future}
+use Rattle.abt_machine.specs.State.{State, Carried, Desk, Mutex, Future, RwLock}
 use Rattle.abt_machine.specs.Lines.{InTray, InHand, InNext, Waiting, standing, tray_end}
 use Rattle.abt_machine.specs.Carrying.{advanced}
 use Rattle.abt_machine.specs.Next.{StepDue}
@@ -28,12 +28,13 @@ use Rattle.abt_laws.proofs.Lists.{EachOf}
 use Rattle.abt_laws.proofs.Places.{same-self}
 use Rattle.abt_laws.proofs.Arrivals.{IsEmpty, IsBelow, IsBelow-empty, free-above, tray-free}
 use Rattle.abt_laws.proofs.Standing.{StandsIn, first-stands}
-use Rattle.abt_laws.proofs.SoundChanges.{Keeps, places, CarriesWell, AsksWell, MutexHolds, EventualHolds, FutureHolds, placed-below}
+use Rattle.abt_laws.proofs.SoundChanges.{Keeps, places, CarriesWell, AsksWell, LocksHold, LocksWell, MutexHolds, EventualHolds, FutureHolds, placed-below}
 use Rattle.abt_laws.proofs.Barriers.{barriers-stay, barriers-wait, IsOffBarriers}
 use Rattle.abt_laws.proofs.SoundFrames.{IsFrameless, frames-stay}
-use Rattle.abt_laws.proofs.Wakes.{IsWakeable, tray-well, tray-frameless}
+use Rattle.abt_laws.proofs.Locks.{IsOffLocks, locks-stay}
+use Rattle.abt_laws.proofs.Wakes.{IsWakeable, tray-well, tray-frameless, tray-off}
 
--- what is known where stream s makes a step of the unit u in its hand
+-- what is known if stream s makes a step of the unit u in its hand
 pub record IsStepping (W : Parts) (Z : List OrderShape) (S : State) (s u : ℕ) : Type 0 where
   pub sound : Sound W Z S
   pub stream : s < W.streams
@@ -68,6 +69,7 @@ HoldsUp-same W S T x (Some (thing.Cond n)) m e f h = tt
 HoldsUp-same W S T x (Some thing.Eventual) m e f h = e ∙ h
 HoldsUp-same W S T x (Some (thing.Future n r)) m e f h = subst (λ (k : Future). k.filled < n) (sym f) h
 HoldsUp-same W S T x (Some (thing.Barrier n)) m e f h = tt
+HoldsUp-same W S T x (Some thing.RwLock) m e f h = tt
 
 -- the tickets of those who wait at x are below the next
 pub waiting-below : (W : Parts) (Z : List OrderShape) (S : State) (x : ℕ) → Sound W Z S → IsBelow (Waiting x) (S.object_next x) S.place
@@ -77,8 +79,12 @@ module _ (W : Parts) (Z : List OrderShape) (S : State) (s u : ℕ) (step : IsSte
   pub in_no_frame : IsFrameless S u
   in_no_frame r d h = let e : place.Hand (stream_no s) ≡ place.Frame (stream_no r) d = sym step.in_hand ∙ h in cc
 
+  -- u waits at no reader-writer lock
+  pub off_locks : IsOffLocks W (S.place u)
+  off_locks = subst (IsOffLocks W) (sym step.in_hand) tt
+
   pub may_wake : IsWakeable W S u
-  may_wake = record { declared = step.declared; frameless = in_no_frame }
+  may_wake = record { declared = step.declared; frameless = in_no_frame; off_locks = off_locks }
 
   -- u goes on with another accumulator, keys or output
   carries : (c : Carried) → c.home ≡ (S.carried u).home → c.position ≡ (S.carried u).position → CarriesWell W u (advanced c)
@@ -119,6 +125,8 @@ module _ (W : Parts) (Z : List OrderShape) (S : State) (s u : ℕ) (step : IsSte
         mutexes = d;
         eventuals = e;
         futures = f;
+        rwlocks = tt;
+        locks = locks-stay W Z S c step.sound refl (tray-off W S s (tray_end W S s) us each);
         frames = frames-stay W Z S c step.sound (tray-frameless W S s (tray_end W S s) us each) tt;
       }
 
@@ -147,10 +155,13 @@ module _ (W : Parts) (Z : List OrderShape) (S : State) (s u : ℕ) (step : IsSte
   pub keeps-wakes_only : (us : List ℕ) → EachOf (IsWakeable W S) us → Keeps W Z S (wakes W S s u us)
   keeps-wakes_only us each = keeps-wakes us ((u, advanced (S.carried u)) ∷ []) [] [] [] [] each (carries_on, tt) tt tt tt tt
 
-  -- u waits at x, which holds it up, and has room for one more if it is a barrier
-  pub keeps-waits : (x : ℕ) → HoldsUp W S x (thing_at W x) → ((n : ℕ) → thing_at W x ≡ Some (thing.Barrier n) → suc (length (standing W S (Waiting x))) < n) → Keeps W Z S (waits S u x)
-  keeps-waits x up room =
-      let c : Change = waits S u x in
+  -- u waits at x, which holds it up, and has room for one more if it is a barrier, and these reader-writer locks change
+  pub keeps-comes : (x : ℕ) (ks : List (ℕ × RwLock)) →
+      let c : Change = record (waits S u x) { rwlocks = ks } in
+      HoldsUp W S x (thing_at W x) → ((n : ℕ) → thing_at W x ≡ Some (thing.Barrier n) → suc (length (standing W S (Waiting x))) < n) →
+      EachOf (λ (m : ℕ × RwLock). LocksWell W S m.0 m.1) ks → LocksHold W (changed S c) → Keeps W Z S c
+  keeps-comes x ks up room rwlocks locks =
+      let c : Change = record (waits S u x) { rwlocks = ks } in
       let pl : Place = place.Blocked (spot.Object (object_no x)) (S.object_next x) in
       let next : put_at S.object_next x (suc (S.object_next x)) x ≡ suc (S.object_next x) = put_at-same S.object_next x (suc (S.object_next x)) in
       record {
@@ -173,5 +184,11 @@ module _ (W : Parts) (Z : List OrderShape) (S : State) (s u : ℕ) (step : IsSte
         mutexes = tt;
         eventuals = tt;
         futures = tt;
+        rwlocks = rwlocks;
+        locks = locks;
         frames = frames-stay W Z S c step.sound (in_no_frame, tt) tt;
       }
+
+  -- u waits at x, which is no reader-writer lock
+  pub keeps-waits : (x : ℕ) → (thing_at W x ≡ Some thing.RwLock → ⊥) → HoldsUp W S x (thing_at W x) → ((n : ℕ) → thing_at W x ≡ Some (thing.Barrier n) → suc (length (standing W S (Waiting x))) < n) → Keeps W Z S (waits S u x)
+  keeps-waits x other up room = keeps-comes x [] up room tt (locks-stay W Z S (waits S u x) step.sound refl ((off_locks, other), tt))

@@ -21,29 +21,30 @@ use Rattle.abt_laws.proofs.Places.{ticket-place, same-self}
 use Rattle.abt_laws.proofs.Arrivals.{IsEmpty, IsBelow, IsBelow-move, IsFreeFor, free-nowhere, free-empty, free-above, tray-free}
 use Rattle.abt_laws.proofs.SoundChanges.{Keeps, places, IsAlone, placed-below}
 use Rattle.abt_laws.proofs.Barriers.{IsOffBarriers}
-use Rattle.abt_laws.proofs.Wakes.{IsWakeable, tray-well, tray-frameless, empty-after, frameless-by}
+use Rattle.abt_laws.proofs.Locks.{IsOffLocks}
+use Rattle.abt_laws.proofs.Wakes.{IsWakeable, tray-well, tray-frameless, tray-off, empty-after, frameless-by, off-by}
 use Rattle.abt_laws.proofs.SoundEvents.{keeps-event}
 use Rattle.abt_laws.proofs.SoundFrames.{frames-stay}
 use Rattle.abt_laws.proofs.SoundMoves.{keeps-moves}
-use Rattle.abt_laws.proofs.SoundSteps.{IsStepping, in_no_frame, may_wake, carries_on, keeps-goes_on, keeps-wakes, tray-below}
+use Rattle.abt_laws.proofs.SoundSteps.{IsStepping, in_no_frame, off_locks, may_wake, carries_on, keeps-goes_on, keeps-wakes, tray-below}
 
 module _ (W : Parts) (Z : List OrderShape) (S : State) (s u : ℕ) (step : IsStepping W Z S s u) where
-  -- u goes to a free place that is no barrier
+  -- u goes to a free place that is no barrier and no reader-writer lock
   keeps-goes_to : (pl : Place) (js : List (ℕ × ℕ)) →
       let c : Change = record (goes_on S u) { moves = (u, pl) ∷ []; join_next = js } in
-      IsFreeFor S.place u pl → IsPlaced W (changed S c) u pl → IsAlone (places S c) pl → HasNotEnded pl → IsOffBarriers W pl →
+      IsFreeFor S.place u pl → IsPlaced W (changed S c) u pl → IsAlone (places S c) pl → HasNotEnded pl → IsOffBarriers W pl → IsOffLocks W pl →
       EachOf (λ (m : ℕ × ℕ). S.join_next m.0 ≤ m.1) js → Keeps W Z S c
-  keeps-goes_to pl js free placed alone goes off rises =
-      keeps-moves W Z S s u step ((u, pl) ∷ []) js [] [] (free, tt) (record { declared = step.declared; placed = placed; alone = alone; joined = inl goes }, tt) (off, tt) (in_no_frame W Z S s u step, tt) rises tt tt
+  keeps-goes_to pl js free placed alone goes off off_to rises =
+      keeps-moves W Z S s u step ((u, pl) ∷ []) js [] [] (free, tt) (record { declared = step.declared; placed = placed; alone = alone; joined = inl goes }, tt) (off, tt) ((off_locks W Z S s u step, off_to), tt) (in_no_frame W Z S s u step, tt) rises tt tt
 
   pub keeps-suspends : Keeps W Z S (record (goes_on S u) { moves = (u, place.Blocked spot.Suspended 0) ∷ [] })
-  keeps-suspends = let pl : Place = place.Blocked spot.Suspended 0 in keeps-goes_to pl [] (free-nowhere S.place u pl refl) tt tt tt tt tt
+  keeps-suspends = let pl : Place = place.Blocked spot.Suspended 0 in keeps-goes_to pl [] (free-nowhere S.place u pl refl) tt tt tt tt tt tt
 
   -- u stays in the hand, to be ended
   pub keeps-exits : Keeps W Z S (record (goes_on S u) { streams = (s, marked Exited (S.stream s)) ∷ [] })
   keeps-exits =
       let c : Change = record (goes_on S u) { streams = (s, marked Exited (S.stream s)) ∷ [] } in
-      keeps-event W Z S step.sound [] ((u, advanced (S.carried u)) ∷ []) [] [] ((s, marked Exited (S.stream s)) ∷ []) tt tt tt (carries_on W Z S s u step, tt) tt tt
+      keeps-event W Z S step.sound [] ((u, advanced (S.carried u)) ∷ []) [] [] ((s, marked Exited (S.stream s)) ∷ []) tt tt tt tt (carries_on W Z S s u step, tt) tt tt
       (frames-stay W Z S c step.sound tt (record { below = refl; sched = refl; rest = λ v at h. h; under_way = λ k. (step.sound.under_way s k).0 }, tt))
 
   -- the tickets of those who join v are below the next
@@ -58,9 +59,9 @@ module _ (W : Parts) (Z : List OrderShape) (S : State) (s u : ℕ) (step : IsSte
       let still : HasNotEnded (put_at S.place u pl v) =
       elim (put_at-cases S.place u pl v) [ inl same ↦ subst HasNotEnded (sym same.1) tt | inr other ↦ subst HasNotEnded (sym other.1) goes ] in
       keeps-goes_to pl ((v, suc (S.join_next v)) ∷ []) (free-above S.place u pl (Joining v) (S.join_next v) (same-self v (S.join_next v)) (joining-below v))
-      (l, subst (λ n. S.join_next v < n) (sym next) (omega arith), still) tt tt tt (omega arith, tt)
+      (l, subst (λ n. S.join_next v < n) (sym next) (omega arith), still) tt tt tt tt (omega arith, tt)
 
-  -- u goes on where v has ended, else it joins v
+  -- u goes on if v has ended, else it joins v
   pub keeps-joins : (v : ℕ) (pl : Place) → v < length W.units → S.place v ≡ pl → Keeps W Z S (joins S u v pl)
   keeps-joins v (place.Ended e) l is = keeps-goes_on W Z S s u step
   keeps-joins v pl l is = keeps-joining v l (subst HasNotEnded (sym is) tt)
@@ -87,5 +88,6 @@ module _ (W : Parts) (Z : List OrderShape) (S : State) (s u : ℕ) (step : IsSte
       (free-empty S.place v pl (InNext s) 0 (same-self s 0) step.no_next, tray-free s i (put_at S.place v pl) (u ∷ []) (IsBelow-move (InTray s) i S.place v pl (λ e. cc) (tray-below W Z S s u step)))
       (record { declared = l; placed = (step.stream, step.rests); alone = alone; joined = inl tt }, tray-well W S c s i (u ∷ []) step.stream step.rests (may_wake W Z S s u step, tt))
       (tt, (tt, tt))
+      ((off-by W S v (is_in_pool p) (λ x t. refl) pooled, tt), tray-off W S s i (u ∷ []) (may_wake W Z S s u step, tt))
       (frameless-by S v (is_in_pool p) (λ r d. refl) pooled, tray-frameless W S s i (u ∷ []) (may_wake W Z S s u step, tt))
       tt tt tt

@@ -59,7 +59,7 @@ ticket-declared W S undeclared l v t h =
 pub among-standing : (W : Parts) (S : State) → UndeclaredUnborn W S → (l : Line) (v t : ℕ) → ticket_in l (S.place v) ≡ Some t → Among v (standing W S l)
 among-standing W S undeclared l v t h = queue-among (λ u. ticket_in l (S.place u)) (length W.units) v t (ticket-declared W S undeclared l v t h) h
 
--- where nobody is first, the line is empty
+-- if nobody is first, the line is empty
 pub none-first : (W : Parts) (S : State) → UndeclaredUnborn W S → (l : Line) → first (standing W S l) ≡ None → IsEmpty l S.place
 none-first W S undeclared l e v t h = queue-none (λ u. ticket_in l (S.place u)) (length W.units) v t e (ticket-declared W S undeclared l v t h) h
 

@@ -1,18 +1,22 @@
 -- A step keeps every stream's frames.
-use Rattle.std.proofs.Common.{◌≡◌, ℕ, ◌==◌, List, [], ◌∷◌, length, Option, Some, None, refl}
+use Rattle.std.proofs.Common.{◌≡◌, ℕ, ◌==◌, if◌then◌else◌, Bool, true, false, List, [], ◌∷◌, length, Option, Some, None, refl}
 use Rattle.std.specs.Prelude.{suc}
 use Rattle.std.proofs.lemmas.Bool.{cond_both}
 use Rattle.abt_machine.specs.declared.events.Code.{Code}
 use Rattle.abt_machine.specs.declared.events.Code.TheVariants as code
 use Rattle.abt_machine.specs.declared.events.Place.{Place}
 use Rattle.abt_machine.specs.declared.events.Place.TheVariants as place
+use Rattle.abt_machine.specs.declared.events.Wish.TheVariants as wish
 use Rattle.abt_machine.specs.declared.operations.Op.{Op}
 use Rattle.abt_machine.specs.declared.operations.Op.TheVariants as op
 use Rattle.abt_machine.specs.declared.workload.Parts.{Parts}
 use Rattle.abt_machine.specs.Maps.{put_all}
 use Rattle.abt_machine.specs.Workloads.{combine_of, mutex_of, op_at, size_of}
 use Rattle.abt_machine.specs.Queues.{first_alone}
-use Rattle.abt_machine.specs.State.{State, Stream, Future}
+use Rattle.abt_machine.specs.Holders.{is_free, read_by, written_by}
+use Rattle.abt_machine.specs.RwLocks.{may_read, wanting}
+use Rattle.abt_machine.specs.State.{State, Stream, Future, RwLock}
+use Rattle.abt_machine.specs.Values.{rwlock_value}
 use Rattle.abt_machine.specs.Lines.{Waiting, standing}
 use Rattle.abt_machine.specs.Changes.{Change, goes_on}
 use Rattle.abt_machine.specs.Steps.{arrives, awaits, fills, filled_by, gives_all, joins, locks, op_row, passes, ready_value, step_row, waits, wakes}
@@ -46,6 +50,10 @@ fills-frames W S s u x f = cond_both (f.filled == size_of W x) (gives_all W S s 
 arrives-frames : (W : Parts) (S : State) (s u x : ℕ) → KeepsFrames S (arrives W S s u x)
 arrives-frames W S s u x =
     cond_both (suc (length (standing W S (Waiting x))) == size_of W x) (wakes W S s u (standing W S (Waiting x))) (waits S u x) (KeepsFrames S) (λ _. tt) (λ _. tt)
+
+goes_or_waits-frames : (S : State) (u x : ℕ) (b : Bool) (held wanted : RwLock) → KeepsFrames S (if b then record (goes_on S u) { rwlocks = (x, held) ∷ [] } else record (waits S u x) { rwlocks = (x, wanted) ∷ [] })
+goes_or_waits-frames S u x true held wanted = tt
+goes_or_waits-frames S u x false held wanted = tt
 
 op-frames : (W : Parts) (S : State) (s u : ℕ) (o : Op) → KeepsFrames S (op_row W S s u o)
 op-frames W S s u (op.Set n) = tt
@@ -83,6 +91,11 @@ op-frames W S s u (op.FuSet x) = fills-frames W S s u x.0 (filled_by (combine_of
 op-frames W S s u (op.FuReset x) = tt
 op-frames W S s u (op.FuTest x) = tt
 op-frames W S s u (op.BarWait x) = arrives-frames W S s u x.0
+op-frames W S s u (op.ReadLock x) = goes_or_waits-frames S u x.0 (may_read u (rwlock_value W S x.0)) (read_by u (S.rwlock x.0)) (wanting u wish.Read (S.rwlock x.0))
+op-frames W S s u (op.WriteLock x) = goes_or_waits-frames S u x.0 (is_free (S.rwlock x.0)) (written_by u (S.rwlock x.0)) (wanting u wish.Write (S.rwlock x.0))
+op-frames W S s u (op.RwUnlock x) = tt
+op-frames W S s u (op.RwLoad x) = tt
+op-frames W S s u (op.RwStore x) = tt
 
 step-frames : (W : Parts) (S : State) (s u : ℕ) (o : Option Op) (c : Code) → KeepsFrames S (step_row W S s u o c)
 step-frames W S s u None c = tt

@@ -23,7 +23,7 @@ sum_up-rises f g (suc n) h =
     let now : f n ≤ g n = h n (omega arith) in
     let rest : sum_up f n ≤ sum_up g n = sum_up-rises f g n (λ v l. h v (omega arith)) in omega (arith, sum_up-suc f n, sum_up-suc g n)
 
--- where no number has more than before and one has less, the sum is less
+-- if no number has more than before and one has less, the sum is less
 pub sum_up-falls : (f g : ℕ → ℕ) (n u : ℕ) → u < n → f u < g u → ((v : ℕ) → v < n → f v ≤ g v) → sum_up f n < sum_up g n
 sum_up-falls f g zero u l less h = absurd (omega arith)
 sum_up-falls f g (suc n) u l less h =
@@ -36,7 +36,7 @@ sum_up-falls f g (suc n) u l less h =
           let rest : sum_up f n < sum_up g n = sum_up-falls f g n u (omega arith) less (λ v b. h v (omega arith)) in omega (arith, sum_up-suc f n, sum_up-suc g n)
     ]
 
--- where one number alone has less, the sum is less
+-- if one number alone has less, the sum is less
 pub sum_up-falls-at : (f g : ℕ → ℕ) (n u : ℕ) → u < n → f u < g u → ((v : ℕ) → v ≢ u → f v ≡ g v) → sum_up f n < sum_up g n
 sum_up-falls-at f g n u l less others =
     sum_up-falls f g n u l less (λ v b. elim (cases_eq v u) [

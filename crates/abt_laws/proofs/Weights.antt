@@ -44,7 +44,7 @@ stands-weight W S l u stands = ap (place_weight S) stands.at ∙ place_in-weight
 
 -- Units that stay.
 
--- a place weighs the same where the mark of the hand that it may be is the same
+-- a place weighs the same if the mark of the hand that it may be is the same
 pub place_weight-kept : (S T : State) (at : Place) → ((r : StreamNo) → at ≡ place.Hand r → (T.stream r.0).mark ≡ (S.stream r.0).mark) → place_weight T at ≡ place_weight S at
 place_weight-kept S T (place.Hand r) marks = ap hand_weight (marks r refl)
 place_weight-kept S T (place.Blocked spot.Suspended t) marks = refl
@@ -58,7 +58,7 @@ unit_weight-kept S T v stays desk marks =
     let requests : request_weight (T.desk v).migrate ≡ request_weight (S.desk v).migrate = ap (λ (d : Desk). request_weight d.migrate) desk in
     omega arith
 
--- the weight falls where that of one unit does, and every other keeps its own
+-- the weight falls if that of one unit does, and every other keeps its own
 pub weight-falls : (W : Parts) (S T : State) (u : ℕ) → u < length W.units → unit_weight T u < unit_weight S u → ((v : ℕ) → v ≢ u → unit_weight T v ≡ unit_weight S v) → weight W T < weight W S
 weight-falls W S T u declared less others = sum_up-falls-at (unit_weight T) (unit_weight S) (length W.units) u declared less others
 

@@ -42,6 +42,7 @@ pub record ChangesOnly (W : Parts) (s : ℕ) (x : Option Site) (S T : State) : T
   pub mutexes : (y : ℕ) → x ≢ Some (site.Monitor (object_no y)) → T.mutex y ≡ S.mutex y
   pub eventuals : (y : ℕ) → x ≢ Some (site.Eventual (object_no y)) → T.eventual y ≡ S.eventual y
   pub futures : (y : ℕ) → x ≢ Some (site.Future (object_no y)) → T.future y ≡ S.future y
+  pub rwlocks : (y : ℕ) → x ≢ Some (site.Rw (object_no y)) → T.rwlock y ≡ S.rwlock y
   pub others : (u : ℕ) → (Within s x (holder W u (S.place u)) → ⊥) → (T.place u ≡ S.place u) × (T.carried u ≡ S.carried u)
   pub kept : (u : ℕ) → Within s x (holder W u (S.place u)) → Within s x (holder W u (T.place u))
 

@@ -1,11 +1,16 @@
 -- The laws of the machine. W is a workload and Z the list of the shapes of the stored orders; each law supposes that W is valid and that each user scheduler's order is stored.
-use Rattle.std.specs.Prelude.{ℕ, ◌≡◌, ◌≢◌, ◌<◌, ◌↔◌, true, false, List, [], ◌∷◌, ◌++◌, length}
+use Rattle.std.specs.Prelude.{ℕ, ◌≡◌, ◌≢◌, ◌<◌, ◌↔◌, true, false, List, [], ◌∷◌, ◌++◌, length, Some}
+use Rattle.abt_machine.specs.declared.events.Code.TheVariants as code
 use Rattle.abt_machine.specs.declared.events.Place.TheVariants as place
 use Rattle.abt_machine.specs.declared.events.Event.{Event}
 use Rattle.abt_machine.specs.declared.events.What.{What}
 use Rattle.abt_machine.specs.declared.events.What.TheVariants as what
+use Rattle.abt_machine.specs.declared.operations.Op.TheVariants as op
 use Rattle.abt_machine.specs.declared.operations.OrderShape.{OrderShape}
 use Rattle.abt_machine.specs.declared.workload.Parts.{Parts}
+use Rattle.abt_machine.specs.Numbers.{object_no}
+use Rattle.abt_machine.specs.Workloads.{op_at}
+use Rattle.abt_machine.specs.Holders.{count_of}
 use Rattle.abt_machine.specs.Valid.{IsValid}
 use Rattle.abt_machine.specs.Rounds.{OrdersStored}
 use Rattle.abt_machine.specs.State.{State}
@@ -39,12 +44,22 @@ OneAfter W Z = (S T U : State) (e : Event) → After W Z S e T → After W Z S e
 abbrev pub EventsAreLocal : Parts → List OrderShape → Type 0
 EventsAreLocal W Z = IsValid W → OrdersStored W Z → (S T : State) (e : Event) → Sound W Z S → After W Z S e T → ChangesOnly W e.stream.0 (event_site W e) S T
 
--- of two events of different streams and different objects, where one may come and then the other, the other may come first and then the one, with the same state after both
+-- of two events of different streams and different objects, if one may come and then the other, the other may come first and then the one, with the same state after both
 abbrev pub EventsCommute : Parts → List OrderShape → Type 0
 EventsCommute W Z = IsValid W → OrdersStored W Z → (S T U : State) (e f : Event) → Sound W Z S → e.stream.0 ≢ f.stream.0 → Apart (event_site W e) (event_site W f) →
     After W Z S e T → After W Z T f U → (V : State) × After W Z S f V × After W Z V e U
 
--- where every unit is unborn or ended, nothing is left to do
+-- by this event an `rwstore` to lock x goes through
+abbrev pub StoresIn : Parts → ℕ → What → Type 0
+StoresIn W x (what.Step u k c) = (op_at W u.0 k ≡ Some (op.RwStore (object_no x))) × (c ≡ code.Ok)
+StoresIn W x _ = ⊥
+
+-- while a unit reads a reader-writer lock, no event of a run stores a number in the lock, and its number stays
+abbrev pub ReadsStay : Parts → List OrderShape → Type 0
+ReadsStay W Z = IsValid W → OrdersStored W Z → (J : List Event) (e : Event) (u x : ℕ) → Run W Z (J ++ e ∷ []) → 0 < count_of u ((last_state W J).rwlock x) →
+    (StoresIn W x e.what → ⊥) × (((last_state W (J ++ e ∷ [])).rwlock x).number ≡ ((last_state W J).rwlock x).number)
+
+-- if every unit is unborn or ended, nothing is left to do
 abbrev pub EndedIsQuiet : Parts → List OrderShape → Type 0
 EndedIsQuiet W Z = IsValid W → OrdersStored W Z → (S : State) → Sound W Z S → AllEnded S → Quiet W S
 
@@ -56,7 +71,7 @@ abbrev pub IsMiss : What → Type 0
 IsMiss (what.Miss p) = Unit {0}
 IsMiss _ = ⊥
 
--- where nothing is left to do, the next event is a miss, after which nothing is left to do
+-- if nothing is left to do, the next event is a miss, after which nothing is left to do
 abbrev pub QuietStays : Parts → List OrderShape → Type 0
 QuietStays W Z = IsValid W → OrdersStored W Z → (S T : State) (e : Event) → Sound W Z S → Quiet W S → After W Z S e T → IsMiss e.what × Quiet W T
 
@@ -72,14 +87,14 @@ QuietRunsMiss W Z = IsValid W → OrdersStored W Z → (J K : List Event) → Ru
 abbrev pub RunsLive : Parts → List OrderShape → Type 0
 RunsLive W Z = IsValid W → OrdersStored W Z → (J : List Event) → Run W Z J → LivesOf W J
 
--- a step, of a stream that has steps left, lowers the steps left; every other event keeps them and lowers the weight of the units or, as a miss, the number of open frames where a stacked frame's round ends empty
+-- a step, of a stream that has steps left, lowers the steps left; every other event keeps them and lowers the weight of the units or, as a miss, the number of open frames if a stacked frame's round ends empty
 abbrev pub EventsFall : Parts → List OrderShape → Type 0
 EventsFall W Z = IsValid W → OrdersStored W Z → (n : ℕ) (J : List Event) (e : Event) → Run W Z (J ++ e ∷ []) →
     (is_step e.what ≡ true → steps_of e.stream.0 J < n → steps_left W n (J ++ e ∷ []) < steps_left W n J)
     × (is_step e.what ≡ false → steps_left W n (J ++ e ∷ []) ≡ steps_left W n J)
     × FallsBy W e.stream.0 e.what (last_state W J) (last_state W (J ++ e ∷ []))
 
--- along every run the state's own life of a unit is the journal's, and a unit is unborn exactly where that life is 0
+-- along every run the state's own life of a unit is the journal's, and a unit is unborn exactly if that life is 0
 abbrev pub LifeIsTheJournals : Parts → List OrderShape → Type 0
 LifeIsTheJournals W Z = IsValid W → OrdersStored W Z → (J : List Event) (u : ℕ) → Run W Z J → u < length W.units →
     (((last_state W J).desk u).life ≡ last_life W J u) × (((last_state W J).place u ≡ place.Unborn) ↔ (last_life W J u ≡ 0))

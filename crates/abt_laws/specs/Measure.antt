@@ -12,7 +12,7 @@ use Rattle.abt_machine.specs.Sound.{frames_of}
 use Rattle.abt_machine.specs.Outcomes.{steps_of}
 use Rattle.abt_machine.specs.Lives.{count_up}
 
--- the steps that are left to all streams after a journal, where each may make n
+-- the steps that are left to all streams after a journal, if each may make n
 abbrev pub steps_left : Parts → ℕ → List Event → ℕ
 steps_left W n J = sum_by (λ s. n - steps_of s J) (count_up W.streams)
 
@@ -64,7 +64,7 @@ open_frames W S = sum_by (λ s. open_frames_of (S.stream s)) (count_up W.streams
 abbrev pub EndsStacked : ℕ → State → Type 0
 EndsStacked s T = ((T.stream s).below ≢ []) × ((T.stream s).top.empty ≡ true)
 
--- by an event of stream s from S to T the second number falls, or for a miss stays; the third falls where a stacked frame's round ends empty, and stays at every other miss
+-- by an event of stream s from S to T the second number falls, or for a miss stays; the third falls if a stacked frame's round ends empty, and stays at every other miss
 abbrev pub FallsBy : Parts → ℕ → What → State → State → Type 0
 FallsBy W s (what.Miss p) S T = (weight W T ≡ weight W S) × (EndsStacked s T → open_frames W T < open_frames W S) × ((EndsStacked s T → ⊥) → open_frames W T ≡ open_frames W S)
 FallsBy W s (what.Step u k c) S T = Unit {0}

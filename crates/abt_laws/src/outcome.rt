@@ -10,22 +10,22 @@ pub fn one_after()
     ensures { (W : Parts) (Z : List OrderShape) → OneAfter W Z }
 {}
 
-/// Where every unit is unborn or ended, nothing is left to do.
+/// If every unit is unborn or ended, nothing is left to do.
 pub fn ended_is_quiet()
     ensures { (W : Parts) (Z : List OrderShape) → EndedIsQuiet W Z }
 {}
 
-/// Where nothing is left to do, a stream misses, and nothing is left to do afterwards.
+/// If nothing is left to do, a stream misses, and nothing is left to do afterwards.
 pub fn quiet_stays()
     ensures { (W : Parts) (Z : List OrderShape) → QuietStays W Z }
 {}
 
-/// Where a stream has used up its steps and would make another, something is left to do.
+/// If a stream has used up its steps and would make another, something is left to do.
 pub fn spent_is_not_quiet()
     ensures { (W : Parts) (Z : List OrderShape) → SpentIsNotQuiet W Z }
 {}
 
-/// Whatever follows where nothing is left to do is a miss, after which nothing is left to do.
+/// Whatever follows if nothing is left to do is a miss, after which nothing is left to do.
 pub fn quiet_runs_miss()
     ensures { (W : Parts) (Z : List OrderShape) → QuietRunsMiss W Z }
 {}

@@ -2,4 +2,4 @@ mod Complete
 mod Lines
 mod Naming
 mod Preparing
-mod Told
+mod Fetched

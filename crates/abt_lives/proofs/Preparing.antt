@@ -18,12 +18,12 @@ use Rattle.abt_lives.specs.Words.{Asks}
 use Rattle.abt_lives.specs.declared.status.Status.{Status}
 use Rattle.abt_lives.specs.declared.status.Status.TheVariants.{Finished, Stuck, BadWords, Refused, BadLife, Budget, CannotRead, CannotWrite, OutOfMemory}
 
--- what is known where it went well
+-- what is known if it went well
 pub if-ok : {A E : Type 0} (r : Result A E) (P Q : A → Type 0) → ((a : A) → P a → Q a) → IfOk r P → IfOk r Q
 if-ok (Ok a) P Q more known = more a known
 if-ok (Err e) P Q more known = known
 
--- and where it did not
+-- and if it did not
 pub if-err : {A E : Type 0} (r : Result A E) (P Q : E → Type 0) → ((e : E) → P e → Q e) → IfErr r P → IfErr r Q
 if-err (Ok a) P Q more known = known
 if-err (Err e) P Q more known = more e known

@@ -12,7 +12,7 @@ use Rattle.abt_machine.specs.Runs.{last_state}
 use Rattle.abt_machine.specs.Texts.{report_text}
 use Rattle.abt_machine.specs.Words.{Text}
 use Rattle.abt_bounds.specs.Laws.{HasNoRevive, ops_in}
-use Rattle.abt_run.specs.Call.{Gained, GainedFront, Grew, IsOfRun, IsTold}
+use Rattle.abt_run.specs.Call.{Gained, GainedPrefix, Grew, IsOfRun, IsTold}
 use Rattle.abt_streams.specs.declared.life.Life.{Life}
 use Rattle.abt_streams.specs.declared.wave.Wave.{Wave}
 use Rattle.abt_streams.specs.Waves.{HasRunOn}
@@ -88,10 +88,10 @@ pub record Wrote (c : Call) (o : Outcome) : Type 0 where
   pub err : Gained c.err []
 
 -- the workload ran, and a prefix of its output was written, and the count of faults of the output rose
-pub record WroteFront (c : Call) : Type 0 where
+pub record WrotePrefix (c : Call) : Type 0 where
   pub outcome : Outcome
   pub ran : Ran c.words c.orders c.file c.journal outcome
-  pub out : GainedFront c.out (printed_text ran)
+  pub out : GainedPrefix c.out (printed_text ran)
   pub faults : Grew c.out_faults
   pub err : IsTold c.err c.err_faults (message_of CannotWrite)
 
@@ -109,14 +109,14 @@ Holds (Refused line f) c = NamesRefused c.words c.file (λ bytes. Refuses bytes 
 Holds (BadLife line) c = NamesBadLives c.words c.file line × StoppedBy (BadLife line) c
 Holds Budget c = (s : StreamNo) × Wrote c (outcome.Budget s)
 Holds CannotRead c = NamesFiles c.words × Grew c.read_faults × StoppedBy CannotRead c
-Holds CannotWrite c = WroteFront c
+Holds CannotWrite c = WrotePrefix c
 Holds OutOfMemory c = StoppedBy OutOfMemory c
 
 -- the call ended with this exit status, which has its cause
 abbrev pub EndsBy : ℕ → Call → Type 0
 EndsBy n c = (status : Status) × (n ≡ number_of status) × Holds status c
 
--- Where each status must come, unless memory runs out.
+-- When each status must come, unless memory runs out.
 
 -- the words name two files, and the bytes of the first are seen and are the text of W
 pub record Tells (c : Call) (W : Parts) : Type 0 where

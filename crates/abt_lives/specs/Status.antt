@@ -21,7 +21,7 @@ number_of OutOfMemory = 7
 abbrev pub line_message : ℕ → Text → Text
 line_message line wrong = codes "abtwaves: line " ++ (decimal line ++ (codes ": " ++ (wrong ++ codes "\n")))
 
--- the message, which is empty where the workload ran
+-- the message, which is empty if the workload ran
 abbrev pub message_of : Status → Text
 message_of Finished = []
 message_of Stuck = []

@@ -40,7 +40,7 @@ impl Status {
         }
     }
 
-    /// What is written to the error sink, where it names no line.
+    /// What is written to the error sink, if it names no line.
     pub fn message(self) -> &'static [u8]
         requires { IsFixed self }
         ensures { result.now ≡ message_of self }

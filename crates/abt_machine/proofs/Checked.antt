@@ -55,7 +55,7 @@ get_or-map f [] k a b within = absurd (omega arith)
 get_or-map f (x ∷ xs) zero a b within = refl
 get_or-map f (x ∷ xs) (suc k) a b within = get_or-map f xs k a b (omega arith)
 
--- the numbers of pools are apart where the pools are
+-- the numbers of pools are apart if the pools are
 pub pairs-map : (pools : List PoolNo) → AllPairs (λ (a b : PoolNo). a.0 ≢ b.0) pools → AllPairs (λ a b. a ≢ b) (map (λ (p : PoolNo). p.0) pools)
 pairs-map pools h = λ i j d before within same.
     let size : length (map (λ (p : PoolNo). p.0) pools) ≡ length pools = length-map pools (λ (p : PoolNo). p.0) in
@@ -64,7 +64,7 @@ pairs-map pools h = λ i j d before within same.
     let second = get_or-map (λ (p : PoolNo). p.0) pools j p d (omega arith) in
     h i j p before (omega arith) (sym first ∙ same ∙ second)
 
--- and the pools are apart where their numbers are
+-- and the pools are apart if their numbers are
 pub map-pairs : (pools : List PoolNo) → AllPairs (λ a b. a ≢ b) (map (λ (p : PoolNo). p.0) pools) → AllPairs (λ (a b : PoolNo). a.0 ≢ b.0) pools
 map-pairs pools h = λ i j d before within same.
     let size : length (map (λ (p : PoolNo). p.0) pools) ≡ length pools = length-map pools (λ (p : PoolNo). p.0) in

@@ -1,4 +1,4 @@
--- Schedulers are placed one after the other exactly where they are apart.
+-- Schedulers are placed one after the other exactly if they are apart.
 use Rattle.std.proofs.Common.{◌≡◌, ◌≢◌, ◌<◌, ◌&&◌, ◌∙◌, ◌↔◌, ℕ, zero, suc, Bool, true, false, not, List, [], ◌∷◌, ◌++◌, Option, Some, None, IsTrue, ap, arith, cond, get_or, is_some, length, length-set, nat_lt, refl, replicate, set, subst, sym, get_or-set_other, get_or-set_same}
 use Rattle.std.specs.Prelude.{All, AllPairs, option_and_then}
 use Rattle.std.proofs.lemmas.Bool.{and_from, and_parts, lt-ltb, ltb-true, not-true, not_from_false}
@@ -85,7 +85,7 @@ never (suc n) (suc k) = never n k
 abbrev pub HaveOwnPlaces : List ℕ → Type 0
 HaveOwnPlaces xs = All (λ g. g < 64) xs × AllPairs (λ a b. a ≢ b) xs
 
--- a test that tells whether all were placed tells whether they are apart
+-- a test that says whether all were placed says whether they are apart
 pub own-places : (b : Bool) (xs : List ℕ) (o : Option (List Bool)) → o ≡ places xs (replicate 64 false) → b ≡ is_some o → IsTrue b ↔ HaveOwnPlaces xs
 own-places b xs None is e = (
   λ t. cc,
@@ -96,7 +96,7 @@ own-places b xs None is e = (
 )
 own-places b xs (Some new) is e = (λ t. let h = placed-free xs (replicate 64 false) new (sym is) in (h.below, h.apart), λ h. e)
 
--- the second test tells, where the first passed
+-- the second test decides, if the first passed
 pub own-then : (m b : Bool) (t1 t2 : List Bool) (xs ys : List ℕ) → m ≡ true → cond m (Some t1) None ≡ places xs (replicate 64 false) → cond b (Some t2) None ≡ places ys t1 → IsTrue b ↔ HaveOwnPlaces (xs ++ ys)
 own-then m b t1 t2 xs ys was first then =
     own-places b (xs ++ ys) (cond b (Some t2) None)
@@ -107,7 +107,7 @@ own-then m b t1 t2 xs ys was first then =
     by true = refl
     by false = refl
 
--- the first test tells, where it failed
+-- the first test decides, if it failed
 pub own-else : (m : Bool) (t : List Bool) (xs ys : List ℕ) → m ≡ false → cond m (Some t) None ≡ places xs (replicate 64 false) → IsTrue m ↔ HaveOwnPlaces (xs ++ ys)
 own-else m t xs ys was first =
     own-places m (xs ++ ys) None

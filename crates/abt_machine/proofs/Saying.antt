@@ -1,4 +1,4 @@
--- Words are said in their order exactly where their numbers count up from 0.
+-- Words are said in their order exactly if their numbers count up from 0.
 use Rattle.std.proofs.Common.{◌≡◌, ◌+◌, ◌<◌, ◌==◌, ◌∙◌, ◌↔◌, eqb, ℕ, zero, suc, Bool, true, false, List, [], ◌∷◌, ◌++◌, Option, Some, None, IsTrue, ap, arith, cond, drop, flat_map, get_or, length, refl, subst, sym}
 use Rattle.std.specs.Prelude.{option_and_then}
 use Rattle.std.specs.Option.{option_eq}
@@ -11,7 +11,7 @@ use Rattle.abt_machine.specs.Operations.{said_by}
 use Rattle.abt_machine.specs.Workloads.{ops_of}
 use Rattle.abt_machine.proofs.Weighing.{drop-more}
 
--- the words of two lists are said in order where those of the first are, and then those of the second
+-- the words of two lists are said in order if those of the first are, and then those of the second
 said-append : (n : ℕ) (xs ys : List ℕ) → after_said n (xs ++ ys) ≡ option_and_then (λ m. after_said m ys) (after_said n xs)
 said-append n [] ys = refl
 said-append n (w ∷ ws) ys = by (w == n) (said-append (n + 1) ws ys)
@@ -57,14 +57,14 @@ range-said n m (w ∷ ws) e = by (w == n) refl (range-said (n + 1) m ws) e
         let count = rest.0 in
         (omega arith, ap (λ v. v ∷ ws) first ∙ ap (λ vs. n ∷ vs) rest.1)
 
--- the words are said in order where the number after them is how many there are
+-- the words are said in order if the number after them is how many there are
 pub said-order : (xs : List ℕ) (k : ℕ) → (after_said 0 xs ≡ Some k) ↔ (xs ≡ range_with_len 0 k)
 said-order xs k = (
   λ e. let h = range-said 0 k xs e in let count : length xs ≡ k = let c = h.0 in omega arith in h.1 ∙ ap (range_with_len 0) count,
   λ e. ap (after_said 0) e ∙ said-range 0 k ∙ ap Some (let same : 0 + k ≡ k = omega arith in same),
 )
 
--- what the comparison with the number of words tells
+-- what the comparison with the number of words says
 pub said-test : (b : Bool) (o : Option ℕ) (xs : List ℕ) (k : ℕ) → b ≡ option_eq eqb o (Some k) → o ≡ after_said 0 xs → IsTrue b ↔ (xs ≡ range_with_len 0 k)
 said-test b None xs k test is = (λ t. cc, λ e. absurd (let after = (said-order xs k).1 e in let P : ⊥ = cc in P))
 said-test b (Some n) xs k test is = (

@@ -81,7 +81,7 @@ enumerate-behind n (y ∷ xs) x =
 abbrev pub lines_from : {A : Type 0} → (ℕ → A → List Text) → ℕ → List A → List (List Text)
 lines_from f k xs = map (λ p. f p.0 p.1) (enumerate_from k xs)
 
--- numbered lines from one on are its line and those from the next on, where the element is named
+-- numbered lines from one on are its line and those from the next on, if the element is named
 pub size-from_item : {A : Type 0} (f : ℕ → A → List Text) (xs ys : List A) (i : ℕ) (x : A) → ys ≡ xs → x ≡ get_or ys i x → has_words (f i x) ≡ true → i < length ys
     → size (lines_from f i (drop i xs)) ≡ weight (f i x) + size (lines_from f (i + 1) (drop (i + 1) xs))
 size-from_item {A = A} f xs ys i x same is some within =
@@ -136,7 +136,7 @@ size-unit W u part =
     let k = weight-unit u (body_words part.body) (start_words part.start) in
     omega arith
 
--- the line of keys, where there are some
+-- the line of keys, if there are some
 pub size-keys : (k : ℕ) → 0 < k → size (keys_lines k) ≡ 5 + (length (decimal k) + 1)
 size-keys zero some = absurd (omega arith)
 size-keys (suc n) some = let h = size-cons (codes "keys") (decimal (suc n) ∷ []) [] in let k = size-nil in omega arith

@@ -40,6 +40,10 @@ pub data Act : Type 0 where
   Test : Act
   -- of a barrier
   Arrive : Owned → Act
+  -- of a reader-writer lock, as are a load and a store
+  ReadLock : Owned → Act
+  WriteLock : Owned → Act
+  RwUnlock : ℕ → Act
 
 pub data Answer : Type 0 where
   -- a unit comes out

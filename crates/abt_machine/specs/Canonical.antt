@@ -70,6 +70,7 @@ thing_words (thing.Cond m) = codes "cond" ∷ decimal m.0 ∷ []
 thing_words thing.Eventual = codes "eventual" ∷ []
 thing_words (thing.Future n c) = codes "future" ∷ decimal n ∷ combine_name c ∷ []
 thing_words (thing.Barrier n) = codes "barrier" ∷ decimal n ∷ []
+thing_words thing.RwLock = codes "rwlock" ∷ []
 
 abbrev pub object_line : ℕ → Thing → List Text
 object_line x thing = codes "object" ∷ decimal x ∷ thing_words thing
@@ -121,6 +122,11 @@ op_words W (op.FuSet x) = codes "fset" ∷ decimal x.0 ∷ []
 op_words W (op.FuReset x) = codes "freset" ∷ decimal x.0 ∷ []
 op_words W (op.FuTest x) = codes "ftest" ∷ decimal x.0 ∷ []
 op_words W (op.BarWait x) = codes "bwait" ∷ decimal x.0 ∷ []
+op_words W (op.ReadLock x) = codes "rdlock" ∷ decimal x.0 ∷ []
+op_words W (op.WriteLock x) = codes "wrlock" ∷ decimal x.0 ∷ []
+op_words W (op.RwUnlock x) = codes "rwunlock" ∷ decimal x.0 ∷ []
+op_words W (op.RwLoad x) = codes "rwload" ∷ decimal x.0 ∷ []
+op_words W (op.RwStore x) = codes "rwstore" ∷ decimal x.0 ∷ []
 
 abbrev pub body_words : Body → List Text
 body_words (body.Ult ops) = codes "ult" ∷ []

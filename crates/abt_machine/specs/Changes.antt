@@ -8,7 +8,7 @@ use Rattle.abt_machine.specs.Numbers.{stream_no, object_no}
 use Rattle.abt_machine.specs.Maps.{put_all}
 use Rattle.abt_machine.specs.Lines.{tray_end}
 use Rattle.abt_machine.specs.Carrying.{advanced}
-use Rattle.abt_machine.specs.State.{State, Stream, Carried, Desk, Mutex, Future}
+use Rattle.abt_machine.specs.State.{State, Stream, Carried, Desk, Mutex, Future, RwLock}
 
 pub record Change : Type 0 where
   pub moves : List (ℕ × Place)
@@ -20,10 +20,11 @@ pub record Change : Type 0 where
   pub mutexes : List (ℕ × Mutex)
   pub eventuals : List (ℕ × Option ℕ)
   pub futures : List (ℕ × Future)
+  pub rwlocks : List (ℕ × RwLock)
   pub streams : List (ℕ × Stream)
 
 abbrev pub no_change : Change
-no_change = record { moves = []; carried = []; desks = []; pool_next = []; join_next = []; object_next = []; mutexes = []; eventuals = []; futures = []; streams = [] }
+no_change = record { moves = []; carried = []; desks = []; pool_next = []; join_next = []; object_next = []; mutexes = []; eventuals = []; futures = []; rwlocks = []; streams = [] }
 
 abbrev pub changed : State → Change → State
 changed S c = record {
@@ -36,6 +37,7 @@ changed S c = record {
   mutex = put_all S.mutex c.mutexes;
   eventual = put_all S.eventual c.eventuals;
   future = put_all S.future c.futures;
+  rwlock = put_all S.rwlock c.rwlocks;
   stream = put_all S.stream c.streams;
 }
 

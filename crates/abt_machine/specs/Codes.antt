@@ -1,5 +1,5 @@
 -- Whether an operation goes through, or why it is refused: the first code that holds.
-use Rattle.std.specs.Prelude.{ℕ, ◌==◌, if◌then◌else◌, Bool, true, false, not, is_none, Option, Some, None}
+use Rattle.std.specs.Prelude.{ℕ, ◌==◌, if◌then◌else◌, Bool, true, false, not, is_none, nat_lt, Option, Some, None}
 use Rattle.abt_machine.specs.declared.events.Code.{Code}
 use Rattle.abt_machine.specs.declared.events.Code.TheVariants as code
 use Rattle.abt_machine.specs.declared.events.Place.{Place}
@@ -12,6 +12,7 @@ use Rattle.abt_machine.specs.Workloads.{body_at, is_sched, mutex_of, size_of}
 use Rattle.abt_machine.specs.Access.{may_put, may_take}
 use Rattle.abt_machine.specs.Fronts.{is_some_of}
 use Rattle.abt_machine.specs.Sites.{first_pool}
+use Rattle.abt_machine.specs.Holders.{count_of, holds, read_limit, writes}
 use Rattle.abt_machine.specs.State.{State}
 
 abbrev pub is_unborn : Place → Bool
@@ -84,6 +85,11 @@ code_of W S s u (op.FuSet x) = unless (not (is_full W S x.0)) code.FutureFull co
 code_of W S s u (op.FuReset x) = code.Ok
 code_of W S s u (op.FuTest x) = code.Ok
 code_of W S s u (op.BarWait x) = code.Ok
+code_of W S s u (op.ReadLock x) = unless (not (writes u (S.rwlock x.0))) code.RwHeld (unless (nat_lt (count_of u (S.rwlock x.0)) read_limit) code.RwFull code.Ok)
+code_of W S s u (op.WriteLock x) = unless (not (holds u (S.rwlock x.0))) code.RwHeld code.Ok
+code_of W S s u (op.RwUnlock x) = unless (holds u (S.rwlock x.0)) code.NotHolder code.Ok
+code_of W S s u (op.RwLoad x) = unless (holds u (S.rwlock x.0)) code.NotHolder code.Ok
+code_of W S s u (op.RwStore x) = unless (writes u (S.rwlock x.0)) code.NotHolder code.Ok
 
 abbrev pub code_at : Parts → State → ℕ → ℕ → Option Op → Code
 code_at W S s u None = code.Ok

@@ -162,6 +162,7 @@ thing_with (thing.Cond m) words numbers = thing.Cond (object_no (at numbers 1))
 thing_with thing.Eventual words numbers = thing.Eventual
 thing_with (thing.Future n c) words numbers = thing.Future (at numbers 1) (combine_named (word_in words 4))
 thing_with (thing.Barrier n) words numbers = thing.Barrier (at numbers 1)
+thing_with thing.RwLock words numbers = thing.RwLock
 
 -- the body of a unit, by the numbers of a `unit` line, of which the first is the unit's
 abbrev pub body_with : Role → List ℕ → Body
@@ -215,6 +216,11 @@ op_with (op.FuSet x) said numbers = op.FuSet (object_no (at numbers 0))
 op_with (op.FuReset x) said numbers = op.FuReset (object_no (at numbers 0))
 op_with (op.FuTest x) said numbers = op.FuTest (object_no (at numbers 0))
 op_with (op.BarWait x) said numbers = op.BarWait (object_no (at numbers 0))
+op_with (op.ReadLock x) said numbers = op.ReadLock (object_no (at numbers 0))
+op_with (op.WriteLock x) said numbers = op.WriteLock (object_no (at numbers 0))
+op_with (op.RwUnlock x) said numbers = op.RwUnlock (object_no (at numbers 0))
+op_with (op.RwLoad x) said numbers = op.RwLoad (object_no (at numbers 0))
+op_with (op.RwStore x) said numbers = op.RwStore (object_no (at numbers 0))
 
 -- the words that an operation's line says
 abbrev pub said_in : Op → List Text → List Text

@@ -124,6 +124,10 @@ abbrev pub is_barrier : Thing → Bool
 is_barrier (thing.Barrier n) = true
 is_barrier t = false
 
+abbrev pub is_rwlock : Thing → Bool
+is_rwlock thing.RwLock = true
+is_rwlock t = false
+
 -- object x is there, and is such a thing
 abbrev pub has_object : Above → (Thing → Bool) → ℕ → Bool
 has_object a test x = option_map_or test (slice_get a.objects x) false
@@ -147,6 +151,7 @@ is_there a number.Cond n = has_object a is_condition n
 is_there a number.Eventual n = has_object a is_eventual n
 is_there a number.Future n = has_object a is_future n
 is_there a number.Barrier n = has_object a is_barrier n
+is_there a number.RwLock n = has_object a is_rwlock n
 
 -- there are fewer than n units
 abbrev pub lacks_units : Above → ℕ → Bool

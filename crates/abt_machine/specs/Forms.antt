@@ -66,6 +66,7 @@ thing_slots (thing.Cond m) = Fixed (codes "cond") ∷ Numeral number.Mutex ∷ [
 thing_slots thing.Eventual = Fixed (codes "eventual") ∷ []
 thing_slots (thing.Future n c) = Fixed (codes "future") ∷ within 1 4096 ∷ CombineWord ∷ []
 thing_slots (thing.Barrier n) = Fixed (codes "barrier") ∷ within 1 4096 ∷ []
+thing_slots thing.RwLock = Fixed (codes "rwlock") ∷ []
 
 abbrev pub role_slots : Role → List Slot
 role_slots role.Ult = Fixed (codes "ult") ∷ []
@@ -112,6 +113,11 @@ op_slots (op.FuSet x) = Fixed (codes "fset") ∷ Numeral number.Future ∷ []
 op_slots (op.FuReset x) = Fixed (codes "freset") ∷ Numeral number.Future ∷ []
 op_slots (op.FuTest x) = Fixed (codes "ftest") ∷ Numeral number.Future ∷ []
 op_slots (op.BarWait x) = Fixed (codes "bwait") ∷ Numeral number.Barrier ∷ []
+op_slots (op.ReadLock x) = Fixed (codes "rdlock") ∷ Numeral number.RwLock ∷ []
+op_slots (op.WriteLock x) = Fixed (codes "wrlock") ∷ Numeral number.RwLock ∷ []
+op_slots (op.RwUnlock x) = Fixed (codes "rwunlock") ∷ Numeral number.RwLock ∷ []
+op_slots (op.RwLoad x) = Fixed (codes "rwload") ∷ Numeral number.RwLock ∷ []
+op_slots (op.RwStore x) = Fixed (codes "rwstore") ∷ Numeral number.RwLock ∷ []
 
 -- the places of a line of each form
 abbrev pub slots : Form → List Slot
@@ -164,7 +170,8 @@ operations =
     op.CondWait (object_no 0) ∷ op.Signal (object_no 0) ∷ op.Broadcast (object_no 0) ∷
     op.EvWait (object_no 0) ∷ op.EvSet (object_no 0) ∷ op.EvReset (object_no 0) ∷ op.EvTest (object_no 0) ∷
     op.FuWait (object_no 0) ∷ op.FuSet (object_no 0) ∷ op.FuReset (object_no 0) ∷ op.FuTest (object_no 0) ∷
-    op.BarWait (object_no 0) ∷ []
+    op.BarWait (object_no 0) ∷
+    op.ReadLock (object_no 0) ∷ op.WriteLock (object_no 0) ∷ op.RwUnlock (object_no 0) ∷ op.RwLoad (object_no 0) ∷ op.RwStore (object_no 0) ∷ []
 
 abbrev pub accesses : List Access
 accesses = access.Priv (stream_no 0) ∷ access.Spsc (stream_no 0) (stream_no 0) ∷ access.Mpsc (stream_no 0) ∷ access.Spmc (stream_no 0) ∷ access.Mpmc ∷ []
@@ -173,7 +180,7 @@ abbrev pub rules : List Rule
 rules = rule.Basic ∷ rule.Prio ∷ rule.Randws 0 ∷ rule.User 0 ∷ []
 
 abbrev pub things : List Thing
-things = thing.Mutex ∷ thing.Cond (object_no 0) ∷ thing.Eventual ∷ thing.Future 0 combine.Sum ∷ thing.Barrier 0 ∷ []
+things = thing.Mutex ∷ thing.Cond (object_no 0) ∷ thing.Eventual ∷ thing.Future 0 combine.Sum ∷ thing.Barrier 0 ∷ thing.RwLock ∷ []
 
 -- a unit of a role, with a start and without
 abbrev pub unit_forms : Role → List Form

@@ -16,7 +16,7 @@ is_some_of n (Some m) = m == n
 abbrev pub owns : Parts → ℕ → ℕ → Bool
 owns W s p = is_some_of p (first (pools_of W (main_of W s)))
 
--- a FIFO pool gives the unit that came first, a deque the one that came last to its owners and the one that came first to others
+-- a FIFO pool answers with the unit that came first, a deque the one that came last to its owners and the one that came first to others
 abbrev pub front_by : {A : Type 0} → Kind → Bool → List A → Option A
 front_by kind.Fifo own us = first us
 front_by kind.Deque false us = first us

@@ -17,6 +17,7 @@ pub mod Fronts
 pub mod Futures
 pub mod Gives
 pub mod Grammar
+pub mod Holders
 pub mod Limits
 pub mod Lines
 pub mod Lives
@@ -32,6 +33,7 @@ pub mod Pools
 pub mod Queues
 pub mod Rounds
 pub mod Runs
+pub mod RwLocks
 pub mod Sites
 pub mod Sound
 pub mod Spelling

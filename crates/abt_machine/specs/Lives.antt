@@ -53,6 +53,11 @@ is_birth u (Some (op.FuSet x)) = false
 is_birth u (Some (op.FuReset x)) = false
 is_birth u (Some (op.FuTest x)) = false
 is_birth u (Some (op.BarWait x)) = false
+is_birth u (Some (op.ReadLock x)) = false
+is_birth u (Some (op.WriteLock x)) = false
+is_birth u (Some (op.RwUnlock x)) = false
+is_birth u (Some (op.RwLoad x)) = false
+is_birth u (Some (op.RwStore x)) = false
 
 -- the life of unit u after an event, now being the one before: it rises at each step that creates or revives u and goes through
 abbrev pub life_after : Parts → ℕ → ℕ → What → ℕ

@@ -19,6 +19,9 @@ IsFuture W x = (n : ℕ) × (c : Combine) × (thing_at W x ≡ Some (thing.Futur
 abbrev pub IsBarrier : Parts → ℕ → Type 0
 IsBarrier W x = (n : ℕ) × (thing_at W x ≡ Some (thing.Barrier n))
 
+abbrev pub IsRwLock : Parts → ℕ → Type 0
+IsRwLock W x = thing_at W x ≡ Some thing.RwLock
+
 -- what an operation names is declared, its objects of the kind that it needs, and its number has 64 bits
 abbrev pub IsDeclared : Parts → Op → Type 0
 IsDeclared W (op.Set n) = n < 2 ^ 64
@@ -56,6 +59,11 @@ IsDeclared W (op.FuSet x) = IsFuture W x.0
 IsDeclared W (op.FuReset x) = IsFuture W x.0
 IsDeclared W (op.FuTest x) = IsFuture W x.0
 IsDeclared W (op.BarWait x) = IsBarrier W x.0
+IsDeclared W (op.ReadLock x) = IsRwLock W x.0
+IsDeclared W (op.WriteLock x) = IsRwLock W x.0
+IsDeclared W (op.RwUnlock x) = IsRwLock W x.0
+IsDeclared W (op.RwLoad x) = IsRwLock W x.0
+IsDeclared W (op.RwStore x) = IsRwLock W x.0
 
 -- whether an operation may block or yield, which a tasklet may not
 abbrev pub may_block : Op → Bool
@@ -94,6 +102,11 @@ may_block (op.FuSet x) = false
 may_block (op.FuReset x) = false
 may_block (op.FuTest x) = false
 may_block (op.BarWait x) = true
+may_block (op.ReadLock x) = true
+may_block (op.WriteLock x) = true
+may_block (op.RwUnlock x) = false
+may_block (op.RwLoad x) = false
+may_block (op.RwStore x) = false
 
 -- the number of the word that an operation says, if it says one
 abbrev pub said_by : Op → List ℕ
@@ -132,3 +145,8 @@ said_by (op.FuSet x) = []
 said_by (op.FuReset x) = []
 said_by (op.FuTest x) = []
 said_by (op.BarWait x) = []
+said_by (op.ReadLock x) = []
+said_by (op.WriteLock x) = []
+said_by (op.RwUnlock x) = []
+said_by (op.RwLoad x) = []
+said_by (op.RwStore x) = []

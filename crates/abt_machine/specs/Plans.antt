@@ -92,6 +92,11 @@ plan_of W s (op.FuSet x) o = Calls (site.Future x) (act.Fill o.carried.acc)
 plan_of W s (op.FuReset x) o = Calls (site.Future x) act.Reset
 plan_of W s (op.FuTest x) o = Calls (site.Future x) act.Test
 plan_of W s (op.BarWait x) o = Calls (site.Barrier x) (act.Arrive (moved o))
+plan_of W s (op.ReadLock x) o = Calls (site.Rw x) (act.ReadLock (moved o))
+plan_of W s (op.WriteLock x) o = Calls (site.Rw x) (act.WriteLock (moved o))
+plan_of W s (op.RwUnlock x) o = Calls (site.Rw x) (act.RwUnlock o.number)
+plan_of W s (op.RwLoad x) o = Calls (site.Rw x) (act.Load o.number)
+plan_of W s (op.RwStore x) o = Calls (site.Rw x) (act.Store o.number o.carried.acc)
 
 -- What an answer brings. The last line of each is of answers that the act never gets.
 
@@ -105,11 +110,13 @@ to_caller o (act.Coded code.Ok) = keeps (moved o) []
 to_caller o (act.Coded c) = refusal o c
 to_caller o answer = keeps (moved o) []
 
--- to a unit that went with the act: it goes on if it comes back, and those that waited for it are woken; else it waits
+-- to a unit that went with the act: it goes on if it comes back, and those that waited for it are woken; a refused unit comes
+-- back past its operation; else it waits
 abbrev pub to_giver : Answer → Effect
 to_giver (act.Given b) = keeps b []
 to_giver (act.Through b os) = keeps b os
 to_giver act.Rested = empties []
+to_giver (act.Back b c) = notes b c
 to_giver answer = empties []
 
 -- to a unit that went to a condition: who comes out has the mutex, and is woken; a refused unit comes back past its operation
@@ -162,3 +169,8 @@ effect_of (op.FuSet x) o b = to_caller o b
 effect_of (op.FuReset x) o b = to_caller o b
 effect_of (op.FuTest x) o b = to_caller o b
 effect_of (op.BarWait x) o b = to_giver b
+effect_of (op.ReadLock x) o b = to_giver b
+effect_of (op.WriteLock x) o b = to_giver b
+effect_of (op.RwUnlock x) o b = to_caller o b
+effect_of (op.RwLoad x) o b = to_caller o b
+effect_of (op.RwStore x) o b = to_caller o b

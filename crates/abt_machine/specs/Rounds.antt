@@ -23,7 +23,7 @@ class_of access.Mpmc = 2
 abbrev pub of_class : Parts → ℕ → List ℕ → List ℕ
 of_class W c ps = filter (λ p. class_of (access_of W p) == c) ps
 
--- the list from place k on, and then its front
+-- the list from place k on, and then its first k
 abbrev pub turned : {A : Type 0} → ℕ → List A → List A
 turned k ps = drop k ps ++ take k ps
 

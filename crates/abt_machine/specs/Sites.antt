@@ -26,6 +26,7 @@ thing_site x (Some (thing.Cond m)) = site.Monitor m
 thing_site x (Some thing.Eventual) = site.Eventual (object_no x)
 thing_site x (Some (thing.Future n c)) = site.Future (object_no x)
 thing_site x (Some (thing.Barrier n)) = site.Barrier (object_no x)
+thing_site x (Some thing.RwLock) = site.Rw (object_no x)
 
 -- the site that keeps an object's waiters
 abbrev pub object_site : Parts → ℕ → Site
@@ -76,6 +77,11 @@ op_site W s u (op.FuSet x) = Some (site.Future x)
 op_site W s u (op.FuReset x) = Some (site.Future x)
 op_site W s u (op.FuTest x) = Some (site.Future x)
 op_site W s u (op.BarWait x) = Some (site.Barrier x)
+op_site W s u (op.ReadLock x) = Some (site.Rw x)
+op_site W s u (op.WriteLock x) = Some (site.Rw x)
+op_site W s u (op.RwUnlock x) = Some (site.Rw x)
+op_site W s u (op.RwLoad x) = Some (site.Rw x)
+op_site W s u (op.RwStore x) = Some (site.Rw x)
 
 abbrev pub site_at : Parts → ℕ → ℕ → Option Op → Option Site
 site_at W s u None = None

@@ -1,5 +1,6 @@
 -- What holds of every state that the machine reaches.
-use Rattle.std.specs.Prelude.{ℕ, ◌≡◌, ◌<◌, ◌≤◌, ◌-◌, false, List, [], ◌∷◌, ◌++◌, length, Option, Some, None, slice_get, IfSome, IsSome}
+use Rattle.std.specs.Prelude.{ℕ, ◌≡◌, ◌<◌, ◌≤◌, ◌-◌, false, List, [], ◌∷◌, ◌++◌, length, Option, Some, None, slice_get, IfSome, IsSome, IsTrue, IsFalse}
+use Rattle.std.specs.List.{sum}
 use Rattle.abt_machine.specs.declared.events.Place.{Place}
 use Rattle.abt_machine.specs.declared.events.Place.TheVariants as place
 use Rattle.abt_machine.specs.declared.events.Spot.TheVariants as spot
@@ -11,8 +12,10 @@ use Rattle.abt_machine.specs.declared.operations.Thing.TheVariants as thing
 use Rattle.abt_machine.specs.declared.workload.Parts.{Parts}
 use Rattle.abt_machine.specs.Numbers.{stream_no}
 use Rattle.abt_machine.specs.Workloads.{body_at, ops_of, main_of, thing_at, size_of}
+use Rattle.abt_machine.specs.Holders.{is_free}
 use Rattle.abt_machine.specs.Queues.{last}
-use Rattle.abt_machine.specs.State.{State, Stream, Frame, Desk}
+use Rattle.abt_machine.specs.RwLocks.{reader_is_first}
+use Rattle.abt_machine.specs.State.{State, Stream, Frame, Desk, RwLock}
 use Rattle.abt_machine.specs.Lines.{Line, ticket_in, standing, Waiting}
 use Rattle.abt_machine.specs.Rounds.{IsOrder}
 
@@ -67,6 +70,16 @@ HoldsUp W S x (Some (thing.Cond m)) = Unit {0}
 HoldsUp W S x (Some thing.Eventual) = S.eventual x ≡ None
 HoldsUp W S x (Some (thing.Future n c)) = (S.future x).filled < n
 HoldsUp W S x (Some (thing.Barrier n)) = Unit {0}
+HoldsUp W S x (Some thing.RwLock) = Unit {0}
+
+-- what holds of a reader-writer lock at which these units wait
+pub record IsKept (lock : RwLock) (waiters : List ℕ) : Type 0 where
+  -- a lock with a writer has no reader
+  pub alone : IsSome lock.writer → sum lock.counts ≡ 0
+  -- nobody waits for a free lock
+  pub served : IsTrue (is_free lock) → waiters ≡ []
+  -- if a unit reads, the first waiter, if there is one, wants to write
+  pub writer_first : 0 < sum lock.counts → IsFalse (reader_is_first lock.wishes waiters)
 
 -- what holds of unit u by its place, whose numbers are declared
 abbrev pub IsPlaced : Parts → State → ℕ → Place → Type 0
@@ -96,6 +109,9 @@ pub record Sound (W : Parts) (Z : List OrderShape) (S : State) : Type 0 where
   pub below_rest : (s : ℕ) → s < W.streams → AllAtRest ((S.stream s).below)
   pub filled : (x : ℕ) → (S.future x).filled ≤ size_of W x
   pub waiting : (x n : ℕ) → thing_at W x ≡ Some (thing.Barrier n) → length (standing W S (Waiting x)) < n
+  -- a reader-writer lock has a count for each unit
+  pub counts : (x : ℕ) → length (S.rwlock x).counts ≡ length W.units
+  pub locks : (x : ℕ) → thing_at W x ≡ Some thing.RwLock → IsKept (S.rwlock x) (standing W S (Waiting x))
   pub homes : (u : ℕ) → (S.carried u).home < length W.pools
   pub requests : (u : ℕ) → IfSome (S.desk u).migrate (λ p. p < length W.pools)
   pub positions : (u : ℕ) → (S.carried u).position ≤ length (ops_of (body_at W u))

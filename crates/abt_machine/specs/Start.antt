@@ -2,6 +2,7 @@
 use Rattle.std.specs.Prelude.{ℕ, zero, suc, ◌+◌, if◌then◌else◌, not, false, [], length, replicate, Option, Some, None}
 use Rattle.abt_machine.specs.declared.events.Place.{Place}
 use Rattle.abt_machine.specs.declared.events.Place.TheVariants as place
+use Rattle.abt_machine.specs.declared.events.Wish.TheVariants as wish
 use Rattle.abt_machine.specs.declared.workload.Parts.{Parts}
 use Rattle.abt_machine.specs.Numbers.{pool_no}
 use Rattle.abt_machine.specs.Workloads.{body_at, is_sched, main_of, start_of}
@@ -35,5 +36,6 @@ start W = record {
   mutex = λ x. record { owner = None; number = 0 };
   eventual = λ x. None;
   future = λ x. record { filled = 0; value = 0 };
+  rwlock = λ x. record { writer = None; counts = replicate (length W.units) 0; wishes = replicate (length W.units) wish.Read; number = 0 };
   stream = λ s. record { mark = Plain; top = frame_at (main_of W s) 0 false; below = [] };
 }

@@ -2,6 +2,7 @@
 use Rattle.std.specs.Prelude.{ℕ, Bool, List, Option}
 use Rattle.abt_machine.specs.declared.events.Piece.{Piece}
 use Rattle.abt_machine.specs.declared.events.Place.{Place}
+use Rattle.abt_machine.specs.declared.events.Wish.{Wish}
 
 -- what a unit carries with it wherever it goes
 pub record Carried : Type 0 where
@@ -26,6 +27,13 @@ pub record Mutex : Type 0 where
 pub record Future : Type 0 where
   pub filled : ℕ
   pub value : ℕ
+
+-- a reader-writer lock: who writes, how often each unit reads, what each unit wanted when it last came to wait, and the number
+pub record RwLock : Type 0 where
+  pub writer : Option ℕ
+  pub counts : List ℕ
+  pub wishes : List Wish
+  pub number : ℕ
 
 -- a scheduler that runs: its round, the pools that gave a miss in this round, and whether its last round ended empty
 pub record Frame : Type 0 where
@@ -58,4 +66,5 @@ pub record State : Type 0 where
   pub mutex : ℕ → Mutex
   pub eventual : ℕ → Option ℕ
   pub future : ℕ → Future
+  pub rwlock : ℕ → RwLock
   pub stream : ℕ → Stream

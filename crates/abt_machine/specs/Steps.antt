@@ -6,6 +6,7 @@ use Rattle.abt_machine.specs.declared.events.Piece.TheVariants as piece
 use Rattle.abt_machine.specs.declared.events.Place.{Place}
 use Rattle.abt_machine.specs.declared.events.Place.TheVariants as place
 use Rattle.abt_machine.specs.declared.events.Spot.TheVariants as spot
+use Rattle.abt_machine.specs.declared.events.Wish.TheVariants as wish
 use Rattle.abt_machine.specs.declared.operations.Combine.{Combine}
 use Rattle.abt_machine.specs.declared.operations.Combine.TheVariants as combine
 use Rattle.abt_machine.specs.declared.operations.Op.{Op}
@@ -20,6 +21,10 @@ use Rattle.abt_machine.specs.Carrying.{added, advanced, from_key, newborn, print
 use Rattle.abt_machine.specs.State.{State, Carried, Desk, Mutex, Future, Exited}
 use Rattle.abt_machine.specs.Lines.{standing, Waiting}
 use Rattle.abt_machine.specs.Codes.{is_full}
+use Rattle.abt_machine.specs.Holders.{is_free, read_by, written_by}
+use Rattle.abt_machine.specs.Monitors.{number_of}
+use Rattle.abt_machine.specs.RwLocks.{left_by, may_read, passed_on, wanting, woken}
+use Rattle.abt_machine.specs.Values.{RwLockValue, rwlock_value}
 use Rattle.abt_machine.specs.Changes.{Change, no_change, to_tray, waiting_moves, goes_with, goes_on}
 
 abbrev pub owned : Option ℕ → Mutex → Mutex
@@ -128,6 +133,22 @@ fills W S s u x f = record (if f.filled == size_of W x then gives_all W S s u x 
 abbrev pub arrives : Parts → State → ℕ → ℕ → ℕ → Change
 arrives W S s u x = if suc (length (standing W S (Waiting x))) == size_of W x then wakes W S s u (standing W S (Waiting x)) else waits S u x
 
+-- unit u reads lock x, which was this, once more if it may, else it waits and wants to read
+abbrev pub reads_or_waits : State → ℕ → ℕ → RwLockValue → Change
+reads_or_waits S u x old =
+    if may_read u old then record (goes_on S u) { rwlocks = (x, read_by u old.lock) ∷ [] }
+    else record (waits S u x) { rwlocks = (x, wanting u wish.Read old.lock) ∷ [] }
+
+-- unit u writes lock x, which was this, if it is free, else it waits and wants to write
+abbrev pub writes_or_waits : State → ℕ → ℕ → RwLockValue → Change
+writes_or_waits S u x old =
+    if is_free old.lock then record (goes_on S u) { rwlocks = (x, written_by u old.lock) ∷ [] }
+    else record (waits S u x) { rwlocks = (x, wanting u wish.Write old.lock) ∷ [] }
+
+-- lock x is this after unit u gave it up: if it is free, it goes to the waiters that get it, who are woken
+abbrev pub gives_up : Parts → State → ℕ → ℕ → ℕ → RwLockValue → Change
+gives_up W S s u x left = record (wakes W S s u (map number_of (woken left))) { rwlocks = (x, (passed_on left).lock) ∷ [] }
+
 -- an operation that goes through
 abbrev pub op_row : Parts → State → ℕ → ℕ → Op → Change
 op_row W S s u (op.Set n) = goes_with u (with_acc n (S.carried u))
@@ -165,6 +186,11 @@ op_row W S s u (op.FuSet x) = fills W S s u x.0 (filled_by (combine_of W x.0) (S
 op_row W S s u (op.FuReset x) = record (goes_on S u) { futures = (x.0, record { filled = 0; value = 0 }) ∷ [] }
 op_row W S s u (op.FuTest x) = learns S u (is_full W S x.0)
 op_row W S s u (op.BarWait x) = arrives W S s u x.0
+op_row W S s u (op.ReadLock x) = reads_or_waits S u x.0 (rwlock_value W S x.0)
+op_row W S s u (op.WriteLock x) = writes_or_waits S u x.0 (rwlock_value W S x.0)
+op_row W S s u (op.RwUnlock x) = gives_up W S s u x.0 (left_by u (rwlock_value W S x.0))
+op_row W S s u (op.RwLoad x) = goes_with u (with_acc (S.rwlock x.0).number (S.carried u))
+op_row W S s u (op.RwStore x) = record (goes_on S u) { rwlocks = (x.0, record (S.rwlock x.0) { number = (S.carried u).acc }) ∷ [] }
 
 -- a step by its code: what its operation changes, or a refusal, which changes nothing but the unit's output and position
 abbrev pub step_row : Parts → State → ℕ → ℕ → Option Op → Code → Change

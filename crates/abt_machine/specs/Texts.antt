@@ -1,5 +1,5 @@
 -- What the program prints of a run: its journal and its report.
-use Rattle.std.specs.Prelude.{ℕ, suc, if◌then◌else◌, List, [], ◌∷◌, ◌++◌, length, map, flat_map, fold, codes, decimal}
+use Rattle.std.specs.Prelude.{ℕ, suc, List, [], ◌∷◌, ◌++◌, length, map, flat_map, fold, codes, decimal}
 use Rattle.std.specs.List.{range_with_len}
 use Rattle.abt_machine.specs.declared.events.Cause.{Cause}
 use Rattle.abt_machine.specs.declared.events.Cause.TheVariants as cause
@@ -19,7 +19,6 @@ use Rattle.abt_machine.specs.declared.events.What.{What}
 use Rattle.abt_machine.specs.declared.events.What.TheVariants as what
 use Rattle.abt_machine.specs.declared.workload.Parts.{Parts}
 use Rattle.abt_machine.specs.Canonical.{word_at}
-use Rattle.abt_machine.specs.Outcomes.{steps_in}
 use Rattle.abt_machine.specs.Queues.{first_alone}
 use Rattle.abt_machine.specs.State.{State}
 use Rattle.abt_machine.specs.Words.{Text, ended, line_of, numbered, spaced, text_of}
@@ -37,6 +36,9 @@ code_name code.MutexLocked = codes "mutex-locked"
 code_name code.NotOwner = codes "not-owner"
 code_name code.EventualSet = codes "eventual-set"
 code_name code.FutureFull = codes "future-full"
+code_name code.RwHeld = codes "rw-held"
+code_name code.RwFull = codes "rw-full"
+code_name code.NotHolder = codes "not-holder"
 
 abbrev pub cause_name : Cause → Text
 cause_name cause.Done = codes "done"

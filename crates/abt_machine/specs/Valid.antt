@@ -71,6 +71,7 @@ IsThing W x (thing.Cond m) = (m.0 < x) × IsMutex W m.0
 IsThing W x thing.Eventual = ⊤
 IsThing W x (thing.Future n c) = (0 < n) × (n ≤ 4096)
 IsThing W x (thing.Barrier n) = (0 < n) × (n ≤ 4096)
+IsThing W x thing.RwLock = ⊤
 
 -- Units.
 

@@ -13,7 +13,7 @@ use Rattle.abt_machine.specs.declared.operations.Thing.TheVariants as thing
 use Rattle.abt_machine.specs.declared.workload.Parts.{Parts}
 use Rattle.abt_machine.specs.Workloads.{body_at, is_condition_of, is_sched, kind_of, thing_at}
 use Rattle.abt_machine.specs.Queues.{first}
-use Rattle.abt_machine.specs.State.{State, Stream, Carried}
+use Rattle.abt_machine.specs.State.{State, Stream, Carried, RwLock}
 use Rattle.abt_machine.specs.Lines.{Line, InPool, InTray, InHand, InNext, InFrames, Joining, Waiting, standing}
 
 -- a unit, with what it carries
@@ -95,6 +95,11 @@ pub record BarrierValue : Type 0 where
   pub size : ℕ
   pub waiters : List Owned
 
+-- a reader-writer lock with its waiters
+pub record RwLockValue : Type 0 where
+  pub lock : RwLock
+  pub waiters : List Owned
+
 pub data Object : Type 0 where
   PoolIs : PoolValue → Object
   DeskIs : DeskValue → Object
@@ -102,6 +107,7 @@ pub data Object : Type 0 where
   EventualIs : EventualValue → Object
   FutureIs : FutureValue → Object
   BarrierIs : BarrierValue → Object
+  RwLockIs : RwLockValue → Object
   NotHere : Object
 
 -- What a state makes of each object.
@@ -156,7 +162,10 @@ future_value W S x n c = record { size = n; combine = c; filled = (S.future x).f
 abbrev pub barrier_value : Parts → State → ℕ → ℕ → BarrierValue
 barrier_value W S x n = record { size = n; waiters = waiters_at W S x }
 
--- a monitor, an eventual, a future or a barrier is where the workload declares it
+abbrev pub rwlock_value : Parts → State → ℕ → RwLockValue
+rwlock_value W S x = record { lock = S.rwlock x; waiters = waiters_at W S x }
+
+-- a monitor, an eventual, a future, a barrier or a reader-writer lock is where the workload declares it
 
 abbrev pub monitor_at : Parts → State → ℕ → Option Thing → Object
 monitor_at W S x (Some thing.Mutex) = MonitorIs (monitor_value W S x)
@@ -174,6 +183,10 @@ abbrev pub barrier_at : Parts → State → ℕ → Option Thing → Object
 barrier_at W S x (Some (thing.Barrier n)) = BarrierIs (barrier_value W S x n)
 barrier_at W S x _ = NotHere
 
+abbrev pub rwlock_at : Parts → State → ℕ → Option Thing → Object
+rwlock_at W S x (Some thing.RwLock) = RwLockIs (rwlock_value W S x)
+rwlock_at W S x _ = NotHere
+
 -- the object at a site
 abbrev pub object_of : Parts → State → Site → Object
 object_of W S (site.Pool p) = PoolIs (pool_value W S p.0)
@@ -182,3 +195,4 @@ object_of W S (site.Monitor x) = monitor_at W S x.0 (thing_at W x.0)
 object_of W S (site.Eventual x) = eventual_at W S x.0 (thing_at W x.0)
 object_of W S (site.Future x) = future_at W S x.0 (thing_at W x.0)
 object_of W S (site.Barrier x) = barrier_at W S x.0 (thing_at W x.0)
+object_of W S (site.Rw x) = rwlock_at W S x.0 (thing_at W x.0)

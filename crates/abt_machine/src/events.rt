@@ -16,6 +16,9 @@ pub enum Code {
     NotOwner,
     EventualSet,
     FutureFull,
+    RwHeld,
+    RwFull,
+    NotHolder,
 }
 
 /// Why a unit ended: by its steps (or a scheduler unit by leaving), by a cancel request, as a
@@ -35,6 +38,13 @@ pub enum Spot {
     Suspended,
     Join(UnitNo),
     Object(ObjectNo),
+}
+
+/// What a unit that waits for a reader-writer lock wants.
+#[derive(Clone, Copy, Debug, PartialEq, Eq)]
+pub enum Wish {
+    Read,
+    Write,
 }
 
 /// Where a unit is. The number beside a pool, a tray, a frame or a spot is its ticket there.
@@ -71,6 +81,7 @@ pub enum Site {
     Eventual(ObjectNo),
     Future(ObjectNo),
     Barrier(ObjectNo),
+    Rw(ObjectNo),
 }
 
 /// What happened: a miss at a pool, a unit taken from it, a look at a taken unit's requests, a step at

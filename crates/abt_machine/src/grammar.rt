@@ -108,4 +108,5 @@ pub enum Number {
     Eventual,
     Future,
     Barrier,
+    RwLock,
 }

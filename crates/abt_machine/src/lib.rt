@@ -13,7 +13,7 @@ mod validity;
 mod workload;
 
 pub use events::{
-    Cause, Code, Event, Journal, Log, Outcome, Output, Piece, Place, Shown, Site, Spot, What,
+    Cause, Code, Event, Journal, Log, Outcome, Output, Piece, Place, Shown, Site, Spot, What, Wish,
 };
 pub use grammar::{Form, Format, Number, Role, operation_limit, unit_operation_limit};
 pub use items::{Items, Text};

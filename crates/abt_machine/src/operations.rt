@@ -76,6 +76,7 @@ pub enum Thing {
     Eventual,
     Future(u32, Combine),
     Barrier(u32),
+    RwLock,
 }
 
 /// One operation of a unit's program. `Say` has the number of its word, counted over the whole workload.
@@ -116,10 +117,15 @@ pub enum Op {
     FuReset(ObjectNo),
     FuTest(ObjectNo),
     BarWait(ObjectNo),
+    ReadLock(ObjectNo),
+    WriteLock(ObjectNo),
+    RwUnlock(ObjectNo),
+    RwLoad(ObjectNo),
+    RwStore(ObjectNo),
 }
 
 impl Op {
-    /// Whether the operation may block or yield, which a tasklet may not.
+    /// Whether the operation may block or yield, which a tasklet must not.
     pub fn may_block(self) -> bool
         ensures { result ≡ may_block self }
     {
@@ -135,6 +141,8 @@ impl Op {
                 | Op::EvWait(_)
                 | Op::FuWait(_)
                 | Op::BarWait(_)
+                | Op::ReadLock(_)
+                | Op::WriteLock(_)
         )
     }
 }

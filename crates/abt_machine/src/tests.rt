@@ -58,6 +58,7 @@ fn objects(alloc: Global) -> Result<Things, AllocError> {
         Thing::Eventual,
         Thing::Future(2, Combine::Sum),
         Thing::Barrier(3),
+        Thing::RwLock,
     ]?;
     Ok(Things::new(objects))
 }
@@ -79,6 +80,7 @@ fn steps(alloc: Global) -> Result<Ops, AllocError> {
         Op::EvWait(ObjectNo(5)),
         Op::FuSet(ObjectNo(6)),
         Op::BarWait(ObjectNo(7)),
+        Op::RwStore(ObjectNo(8)),
     ]?;
     Ok(Ops::new(steps))
 }
@@ -130,7 +132,7 @@ fn reads_back_how_much_is_declared(rt: HostRuntime) -> Result<(), Fail> {
     assert!(rt; w.streams() == 2);
     assert!(rt; w.keys() == 4);
     assert!(rt; w.pools() == 5);
-    assert!(rt; w.objects() == 8);
+    assert!(rt; w.objects() == 9);
     assert!(rt; w.units() == 3);
     Ok(())
 }
@@ -154,12 +156,14 @@ fn reads_back_pools_and_schedulers(rt: HostRuntime) -> Result<(), Fail> {
 #[test]
 fn reads_back_objects_and_units(rt: HostRuntime) -> Result<(), Fail> {
     let w = workload(&rt, rt.alloc())?;
-    assert!(rt; w.objects() == 8 && w.units() == 3);
+    assert!(rt; w.objects() == 9 && w.units() == 3);
     assert!(rt; w.thing(ObjectNo(7)) == Thing::Barrier(3));
+    assert!(rt; w.thing(ObjectNo(8)) == Thing::RwLock);
     assert!(rt; w.unit(UnitNo(0)).start == Some(PoolNo(4)));
     for (u, at, wanted) in [
         (0, 6, Some(Op::Join(UnitNo(2)))),
-        (0, 14, None),
+        (0, 14, Some(Op::RwStore(ObjectNo(8)))),
+        (0, 15, None),
         (1, 0, None),
         (2, 0, Some(Op::Say(1))),
         (2, 1, None),
@@ -246,7 +250,8 @@ fn names_the_site_of_each_step(rt: HostRuntime) -> Result<(), Fail> {
             Some(Site::Barrier(ObjectNo(7))),
             Some(Site::Barrier(ObjectNo(7))),
         ),
-        (14, None, None),
+        (14, Some(Site::Rw(ObjectNo(8))), Some(Site::Rw(ObjectNo(8)))),
+        (15, None, None),
     ] {
         assert!(rt; w.site(StreamNo(0), UnitNo(0), at) == by_first);
         assert!(rt; w.site(StreamNo(1), UnitNo(0), at) == by_second);

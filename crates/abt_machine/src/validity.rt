@@ -5,7 +5,7 @@ ghost use Rattle.std.specs.List.{list_all, list_any, range_with_len};
 ghost use Rattle.abt_machine.specs.Access.{may_take, may_take_all};
 ghost use Rattle.abt_machine.specs.Checks.{AreCounts, AreListed, IsLeft, IsSchedPart, IsStart, IsUnitPart, after_said, place, places};
 ghost use Rattle.abt_machine.specs.Limits.{operation_limit};
-ghost use Rattle.abt_machine.specs.Operations.{IsBarrier, IsDeclared, IsEventual, IsFuture, IsMutex, may_block, said_by};
+ghost use Rattle.abt_machine.specs.Operations.{IsBarrier, IsDeclared, IsEventual, IsFuture, IsMutex, IsRwLock, may_block, said_by};
 ghost use Rattle.abt_machine.specs.Valid.{IsAccess, IsBody, IsRule, IsStream, IsThing, IsValid, IsVisible, IsWord, placed_scheds, sched_in, words_said};
 ghost use Rattle.abt_machine.specs.Workloads.{IsCondition, all_ops, ops_of, thing_at};
 ghost use Rattle.abt_machine.specs.declared.numbers.PoolNo.{PoolNo};
@@ -324,12 +324,19 @@ impl Parts {
         matches!(self.object(x), Some(Thing::Barrier(_)))
     }
 
+    // Whether an object of this number is declared as a reader-writer lock.
+    fn is_rwlock(&self, x: ObjectNo) -> bool
+        ensures { IsTrue result ↔ IsRwLock self.now x.0 }
+    {
+        matches!(self.object(x), Some(Thing::RwLock))
+    }
+
     // Whether an object of this number may be this.
     fn is_thing(&self, x: usize, thing: Thing) -> bool
         ensures { IsTrue result ↔ IsThing self.now x thing }
     {
         match thing {
-            Thing::Mutex | Thing::Eventual => true,
+            Thing::Mutex | Thing::Eventual | Thing::RwLock => true,
             Thing::Cond(m) => (m.0 as usize) < x && self.is_mutex(m),
             Thing::Future(n, _) | Thing::Barrier(n) => is_among(n as usize, 4096),
         }
@@ -378,6 +385,8 @@ impl Parts {
             Op::EvWait(x) | Op::EvSet(x) | Op::EvReset(x) | Op::EvTest(x) => self.is_eventual(x),
             Op::FuWait(x) | Op::FuSet(x) | Op::FuReset(x) | Op::FuTest(x) => self.is_future(x),
             Op::BarWait(x) => self.is_barrier(x),
+            Op::ReadLock(x) | Op::WriteLock(x) | Op::RwUnlock(x) | Op::RwLoad(x) | Op::RwStore(x) =>
+                self.is_rwlock(x),
         }
     }
 

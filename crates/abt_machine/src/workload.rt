@@ -334,6 +334,8 @@ impl Workload {
             }
             Op::FuWait(x) | Op::FuSet(x) | Op::FuReset(x) | Op::FuTest(x) => Some(Site::Future(x)),
             Op::BarWait(x) => Some(Site::Barrier(x)),
+            Op::ReadLock(x) | Op::WriteLock(x) | Op::RwUnlock(x) | Op::RwLoad(x) | Op::RwStore(x) =>
+                Some(Site::Rw(x)),
         }
     }
 

@@ -60,7 +60,7 @@ pub broadcast-given : (k : ℕ) (old mid new : MonitorValue) (woken : Option (Bo
 broadcast-given k old mid new None after given = given
 broadcast-given k old mid new (Some unit) after given = (given.0, after)
 
--- and nobody where a signal wakes nobody
+-- and nobody if a signal wakes nobody
 pub broadcast-rested : (k : ℕ) (old mid new : MonitorValue) (woken : Option (Box UnitValue Global)) → new ≡ after_broadcast k old → IfNone woken (MonitorGives old (Signal k) Rested mid) → IfNone woken (MonitorGives old (Broadcast k) Rested new)
 broadcast-rested k old mid new None after rested = (rested.0, after)
 broadcast-rested k old mid new (Some unit) after rested = rested

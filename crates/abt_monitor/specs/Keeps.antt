@@ -18,7 +18,7 @@ abbrev pub MonitorsKeepTheirConditions : Type 0
 MonitorsKeepTheirConditions =
     (old : MonitorValue) (act : Act) (answer : Answer) (new : MonitorValue) → MonitorGives old act answer new → length new.conds ≡ length old.conds
 
--- where the mutex is free, nobody waits for it
+-- if the mutex is free, nobody waits for it
 abbrev pub IsServed : MonitorValue → Type 0
 IsServed m = m.owner ≡ None → m.waiters ≡ []
 

@@ -2,7 +2,7 @@
 
 ghost use Rattle.abt_monitor.specs.Keeps.{FreeMutexesHaveNoWaiters, MonitorsKeepTheirConditions, MonitorsKeepWhatFits};
 
-/// Where the units that a monitor holds and that come in fit a workload, those that come out and that it then holds do too.
+/// If the units that a monitor holds and that come in fit a workload, those that come out and that it then holds do too.
 pub fn monitors_keep_what_fits()
     ensures { MonitorsKeepWhatFits }
 {}

@@ -61,7 +61,7 @@ impl Monitor {
         })
     }
 
-    /// The unit goes on as the owner where the mutex is free. Else it waits, also where it is itself the owner.
+    /// The unit goes on as the owner if the mutex is free. Else it waits, also if it is itself the owner.
     pub fn lock(&mut self, unit: Box<Unit>) -> Option<Box<Unit>>
         requires { IsFree unit.value }
         ensures given { IfSome result (λ given. MonitorGives self.old (Lock unit.value.owned) (Given given.value.owned) self.new) }
@@ -80,7 +80,7 @@ impl Monitor {
         }
     }
 
-    /// The unit of that number is the owner where the mutex is free, and `MutexLocked` comes where it is held.
+    /// The unit of that number is the owner if the mutex is free, and `MutexLocked` comes if it is held.
     pub fn trylock(&mut self, who: UnitNo) -> Code
         ensures { MonitorGives self.old (TryLock who.0) (Coded result) self.new }
     {
@@ -93,8 +93,8 @@ impl Monitor {
         }
     }
 
-    /// The mutex goes to the first unit that waits for it, which comes out, and is free where there is none. `NotOwner`
-    /// where it isn't `who`'s.
+    /// The mutex goes to the first unit that waits for it, which comes out, and is free if there is none. `NotOwner`
+    /// if it isn't `who`'s.
     pub fn unlock(&mut self, who: UnitNo) -> Result<Option<Box<Unit>>, Code>
         ensures given { IfOk result (λ next. IfSome next (λ unit. MonitorGives self.old (Unlock who.0) (Given unit.value.owned) self.new)) }
         ensures free { IfOk result (λ next. IfSome next (λ unit. IsFree unit.value)) }
@@ -130,7 +130,7 @@ impl Monitor {
     }
 
     /// In one step the unit, which is the owner, waits at the condition and the mutex is handed over as by `unlock`: the
-    /// unit that owns it now comes out, if there is one. The unit comes back where it isn't the owner.
+    /// unit that owns it now comes out, if there is one. The unit comes back if it isn't the owner.
     pub fn wait(&mut self, cond: u32, unit: Box<Unit>) -> Result<Option<Box<Unit>>, Box<Unit>>
         requires free { IsFree unit.value }
         requires cond { cond < length self.old.conds }
@@ -147,7 +147,7 @@ impl Monitor {
         Ok(self.hand_over())
     }
 
-    /// The first unit that waits at the condition is the owner and comes out where the mutex is free; where it is held, that
+    /// The first unit that waits at the condition is the owner and comes out if the mutex is free; if it is held, that
     /// unit is the last that waits for it.
     pub fn signal(&mut self, cond: u32) -> Option<Box<Unit>>
         requires { cond < length self.old.conds }
@@ -184,7 +184,7 @@ impl Monitor {
         }
     }
 
-    /// Takes out, in order, all units that wait for the mutex, or at the condition that is given: none where there is no
+    /// Takes out, in order, all units that wait for the mutex, or at the condition that is given: none if there is no
     /// condition of that number.
     pub fn take_waiters(&mut self, cond: Option<u32>) -> Chain
         ensures mutex { IfNone cond (result.units ≡ self.old.waiters) }
@@ -208,7 +208,7 @@ impl Monitor {
         self.owner == Some(who)
     }
 
-    // The mutex goes to the first unit that waits for it, which comes out, and is free where there is none.
+    // The mutex goes to the first unit that waits for it, which comes out, and is free if there is none.
     fn hand_over(&mut self) -> Option<Box<Unit>>
         ensures new { self.new ≡ handed_over self.old }
         ensures first { option_map (λ (unit : Box UnitValue Global). unit.value.owned) result ≡ first self.old.waiters }

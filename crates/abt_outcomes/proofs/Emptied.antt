@@ -58,7 +58,7 @@ no-front kind.Fifo own us e = first-none us e
 no-front kind.Deque false us e = first-none us e
 no-front kind.Deque true us e = last-none us e
 
--- a pool that gives no unit has none
+-- a pool that answers with no unit has none
 pub missed-empty : (W : Parts) (S : State) (s p : ℕ) → front W S s p ≡ None → standing W S (InPool p) ≡ []
 missed-empty W S s p e = no-front (kind_of W p) (owns W s p) (standing W S (InPool p)) e
 
@@ -117,7 +117,7 @@ ended-whole W f p =
     (λ yes _. eqb-true (length (pools_of W f.sched)) (suc (length f.seen)) yes)
     (λ no e. cc)
 
--- where the last pool of a round is missed, each pool of its scheduler was seen or is the missed one
+-- if the last pool of a round is missed, each pool of its scheduler was seen or is the missed one
 listed-seen : (W : Parts) (Z : List OrderShape) (f : Frame) (p q : ℕ) → IsNextPool W Z f p → length (pools_of W f.sched) ≡ suc (length f.seen) → Contains (pools_of W f.sched) q → Contains (f.seen ++ p ∷ []) q
 listed-seen W Z f p q (order, chosen, more) whole listed =
     let permutes : IsPermutation (pools_of W f.sched) order = order-permutes W Z f.sched f.round order chosen in
@@ -161,7 +161,7 @@ pub quiet-at-stays : (W : Parts) (S : State) (s r : ℕ) (w : What) → IsMiss w
 quiet-at-stays W S s r (what.Miss p) miss at = record { tray = at.tray; next = at.next; hand = at.hand; frames = miss-stacks-none W S s r (what.Miss p) tt ∙ at.frames; pools = at.pools }
 quiet-at-stays W S s r _ miss at = absurd miss
 
--- a stream is so after a miss that ends a round of its main scheduler empty, where the pools that the round saw before are empty
+-- a stream is so after a miss that ends a round of its main scheduler empty, if the pools that the round saw before are empty
 pub main-round-quiet : (W : Parts) (Z : List OrderShape) (S : State) (s : ℕ) (w : What) → s < W.streams → Sound W Z S → May W Z S s w → SeenEmpty W S s → IsMiss w →
     ((after W S s w).stream s).below ≡ [] → ((after W S s w).stream s).top.empty ≡ true → IsQuietAt W (after W S s w) s
 main-round-quiet W Z S s (what.Miss p) declared sound may seen miss alone ended =

@@ -94,7 +94,7 @@ idle-before W S T s e idle = record {
   hand = sym (standing-same W S T (InHand s) e) ∙ idle.hand;
 }
 
--- where stream s missed pool p, with misses alone before, it holds nothing at first, and the pool is empty
+-- if stream s missed pool p, with misses alone before, it holds nothing at first, and the pool is empty
 missed-shows : (W : Parts) (Z : List OrderShape) (S : State) (s p : ℕ) (es : List Event) → IsValid W → OrdersStored W Z → Sound W Z S → RunFrom W Z S es → AllMisses es → HasMissed s p es → IsIdleAt W S s × (standing W S (InPool p) ≡ [])
 missed-shows W Z S s p [] valid stored sound run misses has = absurd has
 missed-shows W Z S s p (e ∷ es) valid stored sound run misses has =

@@ -29,7 +29,7 @@ length-ticketed at (suc n) =
     let rest : length (ticketed at n) ≡ sum_up (λ u. ticket_count (at u)) n = length-ticketed at n in
     omega (arith, length-step n (at n) (ticketed at n), sum_up-suc (λ u. ticket_count (at u)) n)
 
--- 1 where unit u stands in line l
+-- 1 if unit u stands in line l
 abbrev stands_in : State → Line → ℕ → ℕ
 stands_in S l u = ticket_count (ticket_in l (S.place u))
 
@@ -80,7 +80,7 @@ join_at at v = 6 * ticket_count (ticket_in (Joining v) at)
 abbrev by_lines : Parts → State → Place → ℕ
 by_lines W S at = sum_up (term_at S at) W.streams + (sum_up (pool_at at) (length W.pools) + sum_up (join_at at) (length W.units))
 
--- where these are the three sums
+-- if these are the three sums
 sums-are : (W : Parts) (S : State) (at : Place) (a b c : ℕ) → sum_up (term_at S at) W.streams ≡ a → sum_up (pool_at at) (length W.pools) ≡ b → sum_up (join_at at) (length W.units) ≡ c → by_lines W S at ≡ a + (b + c)
 sums-are W S at a b c x y z = omega arith
 

@@ -36,15 +36,15 @@ OrdersAreStored W Z = IsValid W → 2 ≤ length Z → OrdersStored W Z
 abbrev pub PartsDecide : Parts → Type 0
 PartsDecide W = (S : State) (s : ℕ) → due W S s ≡ due_of W s (part_of W S s)
 
--- nothing is left to do exactly where parts and objects look so
+-- nothing is left to do exactly if parts and objects look so
 abbrev pub QuietIsSeen : Parts → Type 0
 QuietIsSeen W = (S : State) (parts : ℕ → Held) (objects : Site → Object) → StandFor W S parts objects → Quiet W S ↔ LooksQuiet W parts objects
 
--- every unit of a sound state is unborn or ended exactly where the declared ones' desks hold them so
+-- every unit of a sound state is unborn or ended exactly if the declared ones' desks hold them so
 abbrev pub EndsAreSeen : Parts → List OrderShape → Type 0
 EndsAreSeen W Z = (S : State) (parts : ℕ → Held) (objects : Site → Object) → Sound W Z S → StandFor W S parts objects → AllEnded S ↔ LooksEnded W objects
 
--- a stream is spent exactly where its part and the number of its steps say so
+-- a stream is spent exactly if its part and the number of its steps say so
 abbrev pub SpentIsSeen : Parts → Type 0
 SpentIsSeen W = (n s : ℕ) (J : List Event) (parts : ℕ → Held) (objects : Site → Object) (made : ℕ → ℕ) → StandFor W (last_state W J) parts objects → HaveMade W J made →
     Spent W n J s ↔ LooksSpent W n parts made s
@@ -60,13 +60,13 @@ OutcomeIsSeen W Z = IsValid W → OrdersStored W Z → (n : ℕ) (J : List Event
 abbrev pub OutcomesAreOne : Parts → Type 0
 OutcomesAreOne W = (n : ℕ) (J : List Event) (o p : Outcome) → EndsAs W n J o → EndsAs W n J p → o ≡ p
 
--- a run has an outcome exactly where nothing is left to do or a stream is spent
+-- a run has an outcome exactly if nothing is left to do or a stream is spent
 abbrev pub OutcomesCome : Parts → List OrderShape → Type 0
 OutcomesCome W Z = IsValid W → OrdersStored W Z → (n : ℕ) (J : List Event) → Run W Z J → ((o : Outcome) × EndsAs W n J o) ↔ (Quiet W (last_state W J) ⊎ ((s : ℕ) × Spent W n J s))
 
 -- One stream.
 
--- of one stream a run is stamped exactly where its stamps are 1, 2, 3 and so on
+-- of one stream a run is stamped exactly if its stamps are 1, 2, 3 and so on
 abbrev pub StampsCount : Parts → List OrderShape → Type 0
 StampsCount W Z = W.streams ≡ 1 → (J : List Event) → Run W Z J → Stamped W J ↔ CountedFrom 1 J
 
@@ -78,7 +78,7 @@ EmptyRoundsEnd W Z = IsValid W → OrdersStored W Z → W.streams ≡ 1 → (J :
 abbrev pub StopsHaveOutcomes : Parts → List OrderShape → Type 0
 StopsHaveOutcomes W Z = IsValid W → OrdersStored W Z → W.streams ≡ 1 → (n : ℕ) (J : List Event) → Run W Z J → Stops W n J → (o : Outcome) × EndsAs W n J o
 
--- a journal stops where its last event ended a round of the main scheduler empty, and where its stream is spent
+-- a journal stops when its last event ended a round of the main scheduler empty, and when its stream is spent
 abbrev pub StopsAreLast : Parts → Type 0
 StopsAreLast W = (n : ℕ) (J : List Event) (e : Event) → Stops W n (J ++ e ∷ []) ↔ (EndsRound W J e ⊎ Spent W n (J ++ e ∷ []) 0)
 
@@ -93,7 +93,7 @@ StopsAreOne W Z = IsValid W → OrdersStored W Z → W.streams ≡ 1 → HasNoFr
 
 -- Rotations.
 
--- misses by which each stream missed each pool of its main scheduler, where no frame is stacked, leave nothing to do
+-- misses by which each stream missed each pool of its main scheduler, if no frame is stacked, leave nothing to do
 abbrev pub MissesEnd : Parts → List OrderShape → Type 0
 MissesEnd W Z = IsValid W → OrdersStored W Z → (S : State) (es : List Event) → Sound W Z S → RunFrom W Z S es → AllMisses es → HasNoStacked W S → MissesAll W es → Quiet W (state_after W S es)
 
@@ -121,7 +121,7 @@ StepsFall W Z = IsValid W → OrdersStored W Z → (n : ℕ) (J es : List Event)
 abbrev pub OthersRaiseNone : Parts → List OrderShape → Type 0
 OthersRaiseNone W Z = IsValid W → OrdersStored W Z → (n : ℕ) (J es : List Event) → Run W Z (J ++ es) → HasNoStep es → work_left W n (J ++ es) ≤ work_left W n J
 
--- where no stream makes more than n steps, events with a step, and a rotation without one, lower the work that is left, or leave nothing to do
+-- if no stream makes more than n steps, events with a step, and a rotation without one, lower the work that is left, or leave nothing to do
 abbrev pub RotationsFall : Parts → List OrderShape → Type 0
 RotationsFall W Z = IsValid W → OrdersStored W Z → (n : ℕ) (J es : List Event) → Run W Z (J ++ es) → IsWithin W n (J ++ es) → (HasNoStep es → IsRotation W (last_state W J) es) →
     Quiet W (last_state W (J ++ es)) ⊎ (work_left W n (J ++ es) < work_left W n J)
@@ -158,7 +158,7 @@ WorkIsSeen W Z = IsValid W → OrdersStored W Z → (n : ℕ) (J : List Event) (
 abbrev pub TurnsLeftAreSeen : Parts → List OrderShape → Type 0
 TurnsLeftAreSeen W Z = (S : State) (parts : ℕ → Held) (objects : Site → Object) (s : ℕ) → Sound W Z S → StandFor W S parts objects → s < W.streams → turns_left W S s ≡ turns_seen W parts objects s
 
--- by values before and after: where no stream makes more than n steps, events with a step, and a rotation without one, lower the work that is left, or leave nothing to do
+-- by values before and after: if no stream makes more than n steps, events with a step, and a rotation without one, lower the work that is left, or leave nothing to do
 abbrev pub SeenRotationsFall : Parts → List OrderShape → Type 0
 SeenRotationsFall W Z = IsValid W → OrdersStored W Z → (n : ℕ) (J es : List Event) (parts later : ℕ → Held) (objects finals : Site → Object) (made total : ℕ → ℕ) → Run W Z (J ++ es) →
     StandFor W (last_state W J) parts objects → HaveMade W J made → StandFor W (last_state W (J ++ es)) later finals → HaveMade W (J ++ es) total →

@@ -24,7 +24,7 @@ EndsRound W J e = IsMiss e.what × HasEmptyRound ((last_state W (J ++ e ∷ []))
 abbrev pub HasEndedEmpty : Parts → List Event → Type 0
 HasEndedEmpty W J = (prefix : List Event) × (e : Event) × (J ≡ prefix ++ e ∷ []) × EndsRound W prefix e
 
--- one stream stops at an empty round of its main scheduler, and where it is spent: it made its n steps, and would make another
+-- one stream stops at an empty round of its main scheduler, and when it is spent: it made its n steps, and would make another
 abbrev pub Stops : Parts → ℕ → List Event → Type 0
 Stops W n J = HasEndedEmpty W J ⊎ Spent W n J 0
 

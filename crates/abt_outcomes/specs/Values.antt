@@ -58,7 +58,7 @@ LooksEnded W objects = (u : ℕ) → u < length W.units → IsOverAt (objects (s
 abbrev pub LooksSpent : Parts → ℕ → (ℕ → Held) → (ℕ → ℕ) → ℕ → Type 0
 LooksSpent W n parts made s = (s < W.streams) × (made s ≡ n) × (due_of W s (parts s) ≡ StepDue)
 
--- how it ended, where each stream may make n steps, and made so many: quiet, and every unit is unborn or ended; quiet, and
+-- how it ended, if each stream may make n steps, and made so many: quiet, and every unit is unborn or ended; quiet, and
 -- some unit is not; or by the least stream that is spent
 abbrev pub LooksAs : Parts → ℕ → (ℕ → Held) → (Site → Object) → (ℕ → ℕ) → Outcome → Type 0
 LooksAs W n parts objects made outcome.Finished = LooksQuiet W parts objects × LooksEnded W objects

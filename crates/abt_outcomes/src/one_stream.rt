@@ -5,7 +5,7 @@ ghost use Rattle.abt_machine.specs.declared.operations.OrderShape.{OrderShape};
 ghost use Rattle.abt_machine.specs.declared.workload.Parts.{Parts};
 ghost use Rattle.abt_outcomes.specs.Laws.{EmptyRoundsEnd, StampsCount, StopsAreLast, StopsAreOne, StopsGrow, StopsHaveOutcomes};
 
-/// A run of one stream is stamped exactly where its stamps count its events.
+/// A run of one stream is stamped exactly if its stamps count its events.
 pub fn stamps_count()
     ensures { (W : Parts) (Z : List OrderShape) → StampsCount W Z }
 {}

@@ -2,7 +2,7 @@
 
 ghost use Rattle.abt_pool.specs.Keeps.{PoolsKeepWhatFits};
 
-/// Where the units that a pool holds and that come in fit a workload, those that come out and that it then holds do too.
+/// If the units that a pool holds and that come in fit a workload, those that come out and that it then holds do too.
 pub fn pools_keep_what_fits()
     ensures { PoolsKeepWhatFits }
 {}

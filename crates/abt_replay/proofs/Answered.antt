@@ -31,6 +31,8 @@ for_caller (act.Lock o) b asked suits = absurd asked
 for_caller (act.Wait k o) b asked suits = absurd asked
 for_caller (act.Await o) b asked suits = absurd asked
 for_caller (act.Arrive o) b asked suits = absurd asked
+for_caller (act.ReadLock o) b asked suits = absurd asked
+for_caller (act.WriteLock o) b asked suits = absurd asked
 for_caller a b asked suits = absurd suits
 
 -- to a unit that went with the act
@@ -38,11 +40,14 @@ pub for_giver : (g : Giving) (o : Owned) (b : Answer) → Suits (given g o) b �
 for_giver g o (Given b) suits = tt
 for_giver g o (Through b os) suits = tt
 for_giver g o Rested suits = tt
+for_giver g o (Back b c) suits = tt
 for_giver giving.Suspend o b suits = absurd suits
 for_giver giving.Join o b suits = absurd suits
 for_giver giving.Lock o b suits = absurd suits
 for_giver giving.Await o b suits = absurd suits
 for_giver giving.Arrive o b suits = absurd suits
+for_giver giving.ReadLock o b suits = absurd suits
+for_giver giving.WriteLock o b suits = absurd suits
 
 -- to a unit that went to a condition
 pub for_waiter : (k : ℕ) (o : Owned) (b : Answer) → Suits (act.Wait k o) b → IsForWaiter b

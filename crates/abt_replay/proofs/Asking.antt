@@ -10,18 +10,18 @@ use Rattle.abt_machine.specs.declared.operations.Op.{Op}
 use Rattle.abt_machine.specs.declared.operations.Op.TheVariants as op
 use Rattle.abt_machine.specs.declared.workload.Parts.{Parts}
 use Rattle.abt_machine.specs.Numbers.{object_no, unit_no}
-use Rattle.abt_machine.specs.Operations.{IsDeclared, IsMutex, IsEventual, IsFuture, IsBarrier}
+use Rattle.abt_machine.specs.Operations.{IsDeclared, IsMutex, IsEventual, IsFuture, IsBarrier, IsRwLock}
 use Rattle.abt_machine.specs.Workloads.{IsCondition, condition_number, mutex_of}
 use Rattle.abt_machine.specs.Access.{may_put, may_take}
 use Rattle.abt_machine.specs.Sites.{first_pool}
 use Rattle.abt_machine.specs.State.{State}
 use Rattle.abt_machine.specs.Valid.{IsValid}
-use Rattle.abt_machine.specs.Values.{Owned, barrier_at, conditions_of, eventual_at, future_at, monitor_at, object_of, waiters_at}
+use Rattle.abt_machine.specs.Values.{Owned, barrier_at, conditions_of, eventual_at, future_at, monitor_at, object_of, rwlock_at, waiters_at}
 use Rattle.abt_machine.specs.Acts.{Act, moved}
 use Rattle.abt_machine.specs.Acts as act
 use Rattle.abt_machine.specs.Plans.{Plan, Does, Calls, Exits, denied, plan_of}
 use Rattle.abt_laws.proofs.Declared.{mutex-declared}
-use Rattle.abt_calls.specs.Allowed.{Allows, DeskAllows, MonitorAllows, EventualAllows, BarrierAllows}
+use Rattle.abt_calls.specs.Allowed.{Allows, DeskAllows, MonitorAllows, EventualAllows, BarrierAllows, RwLockAllows}
 use Rattle.abt_calls.specs.Asking.{IsSite}
 use Rattle.abt_calls.proofs.Asked.{condition-below}
 
@@ -47,6 +47,9 @@ future-call W x asked is allowed = record { site = is; allowed = λ S. subst (λ
 
 barrier-call : (W : Parts) (x : ObjectNo) (asked : Act) → IsBarrier W x.0 → BarrierAllows asked → MayAsk W (site.Barrier x) asked
 barrier-call W x asked is allowed = record { site = is; allowed = λ S. subst (λ t. Allows (barrier_at W S x.0 t) asked) (sym is.1) allowed }
+
+rwlock-call : (W : Parts) (x : ObjectNo) (asked : Act) → IsRwLock W x.0 → RwLockAllows asked → MayAsk W (site.Rw x) asked
+rwlock-call W x asked is allowed = record { site = is; allowed = λ S. subst (λ t. Allows (rwlock_at W S x.0 t) asked) (sym is) allowed }
 
 -- an act on a condition
 condition-call : (W : Parts) (x : ℕ) (asked : Act) → IsValid W → IsCondition W x → (condition_number W x < length (conditions_of W (mutex_of W x)) → MonitorAllows (length (conditions_of W (mutex_of W x))) asked)
@@ -109,6 +112,11 @@ plan-may W s (op.FuSet x) o valid number is = future-call W x (act.Fill o.carrie
 plan-may W s (op.FuReset x) o valid number is = future-call W x act.Reset is tt
 plan-may W s (op.FuTest x) o valid number is = future-call W x act.Test is tt
 plan-may W s (op.BarWait x) o valid number is = barrier-call W x (act.Arrive (moved o)) is tt
+plan-may W s (op.ReadLock x) o valid number is = rwlock-call W x (act.ReadLock (moved o)) is tt
+plan-may W s (op.WriteLock x) o valid number is = rwlock-call W x (act.WriteLock (moved o)) is tt
+plan-may W s (op.RwUnlock x) o valid number is = rwlock-call W x (act.RwUnlock o.number) is tt
+plan-may W s (op.RwLoad x) o valid number is = rwlock-call W x (act.Load o.number) is tt
+plan-may W s (op.RwStore x) o valid number is = rwlock-call W x (act.Store o.number o.carried.acc) is tt
 
 -- what the operation of a declared unit calls
 pub may-ask : (W : Parts) (s : ℕ) (a : Op) (o : Owned) (x : Site) (asked : Act) → IsValid W → o.number < length W.units → IsDeclared W a → plan_of W s a o ≡ Calls x asked → MayAsk W x asked

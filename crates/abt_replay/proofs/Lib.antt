@@ -2,8 +2,10 @@ mod Admitting
 pub mod Answered
 pub mod Asking
 pub mod Classes
+pub mod Counting
 pub mod Listed
 pub mod Operating
 pub mod Outcomes
 pub mod Running
+pub mod Serving
 pub mod Turned

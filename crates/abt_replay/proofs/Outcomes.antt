@@ -1,4 +1,4 @@
--- What a result brings where it is there.
+-- What a result brings if it is there.
 use Rattle.std.specs.Prelude.{IfOk}
 use Rattle.std.proofs.Common.{Result, Ok, Err}
 

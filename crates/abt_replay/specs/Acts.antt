@@ -35,6 +35,9 @@ act_of (act.Fill n) = asked.Fill n
 act_of act.Reset = asked.Reset
 act_of act.Test = asked.Test
 act_of (act.Arrive o) = asked.Arrive o
+act_of (act.ReadLock o) = asked.ReadLock o
+act_of (act.WriteLock o) = asked.WriteLock o
+act_of (act.RwUnlock u) = asked.RwUnlock u.0
 
 -- the answer, by value
 abbrev pub answer_of : Answer → asked.Answer

@@ -25,7 +25,7 @@ IsForGiver asks.Miss = ⊥
 IsForGiver (asks.Number n) = ⊥
 IsForGiver (asks.Asks c m) = ⊥
 IsForGiver (asks.Coded c) = ⊥
-IsForGiver (asks.Back o c) = ⊥
+IsForGiver (asks.Back o c) = ⊤
 
 -- an answer to a unit that went to a condition
 abbrev pub IsForWaiter : Answer → Type 0

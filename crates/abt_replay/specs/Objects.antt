@@ -32,6 +32,7 @@ object_at o (site.Monitor x) = slot_from (slice_get o.slots x.0)
 object_at o (site.Eventual x) = slot_from (slice_get o.slots x.0)
 object_at o (site.Future x) = slot_from (slice_get o.slots x.0)
 object_at o (site.Barrier x) = slot_from (slice_get o.slots x.0)
+object_at o (site.Rw x) = slot_from (slice_get o.slots x.0)
 
 -- the number of a declared object's site
 abbrev pub slot_of : Site → Option ℕ
@@ -41,6 +42,7 @@ slot_of (site.Monitor x) = Some x.0
 slot_of (site.Eventual x) = Some x.0
 slot_of (site.Future x) = Some x.0
 slot_of (site.Barrier x) = Some x.0
+slot_of (site.Rw x) = Some x.0
 
 abbrev pub is_slot : ℕ → Option ℕ → Bool
 is_slot n None = false
@@ -56,6 +58,7 @@ same_place (site.Monitor x) y = is_slot x.0 (slot_of y)
 same_place (site.Eventual x) y = is_slot x.0 (slot_of y)
 same_place (site.Future x) y = is_slot x.0 (slot_of y)
 same_place (site.Barrier x) y = is_slot x.0 (slot_of y)
+same_place (site.Rw x) y = is_slot x.0 (slot_of y)
 
 -- the object at the site answered the act so, and all others are as they were
 pub record Called (old : ObjectsValue) (x : Site) (act : Act) (answer : Answer) (new : ObjectsValue) : Type 0 where

@@ -43,6 +43,9 @@ IsAsked (asks.Fill n) = ⊤
 IsAsked asks.Reset = ⊤
 IsAsked asks.Test = ⊤
 IsAsked (asks.Arrive o) = ⊥
+IsAsked (asks.ReadLock o) = ⊥
+IsAsked (asks.WriteLock o) = ⊥
+IsAsked (asks.RwUnlock u) = ⊤
 
 -- the act that takes the unit with it
 abbrev pub given : Giving → Owned → Act
@@ -51,6 +54,8 @@ given giving.Join o = asks.Join o
 given giving.Lock o = asks.Lock o
 given giving.Await o = asks.Await o
 given giving.Arrive o = asks.Arrive o
+given giving.ReadLock o = asks.ReadLock o
+given giving.WriteLock o = asks.WriteLock o
 
 -- a call of an act, whose answer brings this
 pub record IsCall (W : Parts) (s : ℕ) (a : Op) (o : Owned) (x : Site) (act : Act) (brings : Answer → Effect) : Type 0 where

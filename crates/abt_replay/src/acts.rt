@@ -38,6 +38,10 @@ pub enum Act {
     Test,
     // Of a barrier.
     Arrive(Unit),
+    // Of a reader-writer lock, as are a load and a store.
+    ReadLock(Unit),
+    WriteLock(Unit),
+    RwUnlock(UnitNo),
 }
 
 /// What is asked of a unit: that it ends, and that it goes to another pool.

@@ -7,7 +7,7 @@ use abt_machine::{PoolNo, SchedNo, Want, Workload};
 use std::alloc::Global;
 use std::marker::Model;
 
-/// A scheduler that runs: its round, the pools that gave a miss in this round, and whether its last round ended empty.
+/// A scheduler that runs: its round, the pools that were missed in this round, and whether its last round ended empty.
 #[derive(Drop)]
 pub struct Frame {
     pub sched: SchedNo,

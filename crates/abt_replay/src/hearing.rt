@@ -4,9 +4,8 @@ ghost use Rattle.std.specs.Prelude.{◌≡◌, ◌<◌, ◌++◌, ◌^◌, ◌-�
 ghost use Rattle.abt_replay.specs.Acts.{act_of, answer_of};
 ghost use Rattle.abt_replay.specs.Hearing.{IsForCaller, IsForGiver, IsForWaiter};
 ghost use Rattle.abt_replay.specs.Shapes.{given};
-ghost use Rattle.abt_machine.specs.declared.events.Code.TheVariants.{Ok};
 ghost use Rattle.abt_machine.specs.Acts.{Coded};
-ghost use Rattle.abt_machine.specs.Plans.{to_caller, to_condition, to_giver};
+ghost use Rattle.abt_machine.specs.Plans.{notes, to_caller, to_condition, to_giver};
 
 use crate::acts::{Act, Answer};
 use crate::plans::Giving;
@@ -75,25 +74,40 @@ pub(crate) fn give(giving: Giving, unit: Unit) -> Act
         Giving::Lock => Act::Lock(unit),
         Giving::Await => Act::Await(unit),
         Giving::Arrive => Act::Arrive(unit),
+        Giving::ReadLock => Act::ReadLock(unit),
+        Giving::WriteLock => Act::WriteLock(unit),
     }
 }
 
-/// What an answer brings to a stream whose unit went with the act: if the unit comes back it is in the hand again, and
-/// those that it let go are in the tray.
-pub(crate) fn returned(tray: &mut VecDeque<Unit>, answer: Answer) -> Result<Option<Unit>, Want>
+// The unit notes why it was refused, and goes on.
+fn noted(mut unit: Unit, code: Code) -> Result<(Option<Unit>, Code), Want>
+    ensures hand { IfOk result (λ r. r.0 ≡ (notes unit code).hand) }
+    ensures code { IfOk result (λ r. r.1 ≡ code) }
+{
+    unit.note(code)?;
+    Ok((Some(unit), code))
+}
+
+/// What an answer brings to a stream whose unit went with the act, and how its call went: if the unit comes back it is in the
+/// hand again, with those that it let go in the tray, or with the refusal noted.
+pub(crate) fn returned(
+    tray: &mut VecDeque<Unit>,
+    answer: Answer,
+) -> Result<(Option<Unit>, Code), Want>
     requires answer { IsForGiver (answer_of answer) }
-    ensures hand { IfOk result (λ hand. hand ≡ (to_giver (answer_of answer)).hand) }
+    ensures hand { IfOk result (λ r. r.0 ≡ (to_giver (answer_of answer)).hand) }
     ensures next { (to_giver (answer_of answer)).next ≡ None }
     ensures tray { IfOk result (λ _. tray.new.items ≡ tray.old.items ++ (to_giver (answer_of answer)).wakes) }
-    ensures code { (to_giver (answer_of answer)).code ≡ Ok }
+    ensures code { IfOk result (λ r. r.1 ≡ (to_giver (answer_of answer)).code) }
 {
     match answer {
-        Answer::Given(unit) => Ok(Some(unit)),
+        Answer::Given(unit) => Ok((Some(unit), Code::Ok)),
         Answer::Through(unit, mut others) => {
             tray.append(&mut others)?;
-            Ok(Some(unit))
+            Ok((Some(unit), Code::Ok))
         }
-        Answer::Rested => Ok(None),
+        Answer::Rested => Ok((None, Code::Ok)),
+        Answer::Back(unit, code) => noted(unit, code),
         _ => unreachable!(),
     }
 }
@@ -116,10 +130,7 @@ pub(crate) fn refused(
             Ok((None, Code::Ok))
         }
         Answer::Rested => Ok((None, Code::Ok)),
-        Answer::Back(mut unit, code) => {
-            unit.note(code)?;
-            Ok((Some(unit), code))
-        }
+        Answer::Back(unit, code) => noted(unit, code),
         _ => unreachable!(),
     }
 }

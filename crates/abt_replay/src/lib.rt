@@ -3,6 +3,7 @@
 
 mod acts;
 mod barriers;
+mod counts;
 mod desks;
 mod dues;
 mod eventuals;
@@ -15,6 +16,7 @@ mod objects;
 mod plans;
 mod pools;
 mod rounds;
+mod rwlocks;
 #[cfg(test)]
 mod tests;
 mod unit;
@@ -29,4 +31,5 @@ pub use monitors::Monitor;
 pub use objects::{Kept, Objects, Slot};
 pub use pools::Pool;
 pub use rounds::{Next, pool_at};
+pub use rwlocks::RwLock;
 pub use unit::Unit;

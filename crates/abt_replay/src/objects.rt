@@ -12,6 +12,7 @@ use crate::desks::Desk;
 use crate::eventuals::{Eventual, Future};
 use crate::monitors::Monitor;
 use crate::pools::Pool;
+use crate::rwlocks::RwLock;
 use abt_machine::{Site, Want};
 use std::marker::Model;
 
@@ -22,6 +23,7 @@ pub enum Kept {
     Eventual(Eventual),
     Future(Future),
     Barrier(Barrier),
+    RwLock(RwLock),
     WithItsMutex,
 }
 
@@ -50,6 +52,7 @@ impl Slot {
             Kept::Eventual(eventual) => eventual.answer(act),
             Kept::Future(future) => future.answer(act),
             Kept::Barrier(barrier) => barrier.answer(act),
+            Kept::RwLock(lock) => lock.answer(act),
             Kept::WithItsMutex => unreachable!(),
         }
     }
@@ -108,6 +111,7 @@ impl Objects {
             Site::Eventual(x) => self.slots[x.0 as usize].answer(act),
             Site::Future(x) => self.slots[x.0 as usize].answer(act),
             Site::Barrier(x) => self.slots[x.0 as usize].answer(act),
+            Site::Rw(x) => self.slots[x.0 as usize].answer(act),
         }
     }
 }

@@ -23,6 +23,8 @@ pub(crate) enum Giving {
     Lock,
     Await,
     Arrive,
+    ReadLock,
+    WriteLock,
 }
 
 /// What an operation asks of the stream: a local step, a yield, an exit, a refusal without a call, a call by a unit that stays
@@ -171,5 +173,10 @@ pub(crate) fn planned(w: &Workload, s: StreamNo, op: Op, unit: &Unit) -> Plan
         Op::FuReset(x) => Plan::Ask(Site::Future(x), Act::Reset),
         Op::FuTest(x) => Plan::Ask(Site::Future(x), Act::Test),
         Op::BarWait(x) => Plan::Give(Site::Barrier(x), Giving::Arrive),
+        Op::ReadLock(x) => Plan::Give(Site::Rw(x), Giving::ReadLock),
+        Op::WriteLock(x) => Plan::Give(Site::Rw(x), Giving::WriteLock),
+        Op::RwUnlock(x) => Plan::Ask(Site::Rw(x), Act::RwUnlock(name(unit))),
+        Op::RwLoad(x) => Plan::Ask(Site::Rw(x), Act::Load(name(unit))),
+        Op::RwStore(x) => Plan::Ask(Site::Rw(x), Act::Store(name(unit), unit.acc())),
     }
 }

@@ -58,6 +58,9 @@ solid-code code.MutexLocked = solid-by (codes "mutex-locked") refl
 solid-code code.NotOwner = solid-by (codes "not-owner") refl
 solid-code code.EventualSet = solid-by (codes "eventual-set") refl
 solid-code code.FutureFull = solid-by (codes "future-full") refl
+solid-code code.RwHeld = solid-by (codes "rw-held") refl
+solid-code code.RwFull = solid-by (codes "rw-full") refl
+solid-code code.NotHolder = solid-by (codes "not-holder") refl
 
 solid-cause : (c : Cause) → IsSolid (cause_name c)
 solid-cause cause.Done = solid-by (codes "done") refl

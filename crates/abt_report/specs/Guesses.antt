@@ -48,6 +48,9 @@ code_of name =
     else if bytes_eq name (codes "not-owner") then Some code.NotOwner
     else if bytes_eq name (codes "eventual-set") then Some code.EventualSet
     else if bytes_eq name (codes "future-full") then Some code.FutureFull
+    else if bytes_eq name (codes "rw-held") then Some code.RwHeld
+    else if bytes_eq name (codes "rw-full") then Some code.RwFull
+    else if bytes_eq name (codes "not-holder") then Some code.NotHolder
     else None
 
 -- a space

@@ -86,6 +86,12 @@ fn code(word: &[u8]) -> Option<Code>
         Some(Code::EventualSet)
     } else if is(word, b"future-full") {
         Some(Code::FutureFull)
+    } else if is(word, b"rw-held") {
+        Some(Code::RwHeld)
+    } else if is(word, b"rw-full") {
+        Some(Code::RwFull)
+    } else if is(word, b"not-holder") {
+        Some(Code::NotHolder)
     } else {
         None
     }

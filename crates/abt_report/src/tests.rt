@@ -31,7 +31,7 @@ const OTHERS: &[What] = &[
 ];
 
 const CODES_TEXT: &str =
-    "1 0 step 0 0 ok\n2 0 step 0 0 pool-access\n3 0 step 0 0 exists\n4 0 step 0 0 unit-state\n5 0 step 0 0 not-migratable\n6 0 step 0 0 absent\n7 0 step 0 0 mutex-locked\n8 0 step 0 0 not-owner\n9 0 step 0 0 eventual-set\n10 0 step 0 0 future-full\n";
+    "1 0 step 0 0 ok\n2 0 step 0 0 pool-access\n3 0 step 0 0 exists\n4 0 step 0 0 unit-state\n5 0 step 0 0 not-migratable\n6 0 step 0 0 absent\n7 0 step 0 0 mutex-locked\n8 0 step 0 0 not-owner\n9 0 step 0 0 eventual-set\n10 0 step 0 0 future-full\n11 0 step 0 0 rw-held\n12 0 step 0 0 rw-full\n13 0 step 0 0 not-holder\n";
 
 const CODES: &[What] = &[
     What::Step(UnitNo(0), 0, Code::Ok),
@@ -44,6 +44,9 @@ const CODES: &[What] = &[
     What::Step(UnitNo(0), 0, Code::NotOwner),
     What::Step(UnitNo(0), 0, Code::EventualSet),
     What::Step(UnitNo(0), 0, Code::FutureFull),
+    What::Step(UnitNo(0), 0, Code::RwHeld),
+    What::Step(UnitNo(0), 0, Code::RwFull),
+    What::Step(UnitNo(0), 0, Code::NotHolder),
 ];
 
 // Texts of journals on stream 0 whose stamps are 1, 2, 3 and so on, and what happened.

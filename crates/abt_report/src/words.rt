@@ -19,6 +19,9 @@ pub(crate) fn name_of_code(code: Code) -> &'static [u8]
         Code::NotOwner => b"not-owner",
         Code::EventualSet => b"eventual-set",
         Code::FutureFull => b"future-full",
+        Code::RwHeld => b"rw-held",
+        Code::RwFull => b"rw-full",
+        Code::NotHolder => b"not-holder",
     }
 }
 

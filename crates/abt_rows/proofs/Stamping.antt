@@ -92,6 +92,7 @@ kind_number (site.Monitor x) = 2
 kind_number (site.Eventual x) = 3
 kind_number (site.Future x) = 4
 kind_number (site.Barrier x) = 5
+kind_number (site.Rw x) = 6
 
 abbrev own_number : Site → ℕ
 own_number (site.Pool p) = p.0
@@ -100,6 +101,7 @@ own_number (site.Monitor x) = x.0
 own_number (site.Eventual x) = x.0
 own_number (site.Future x) = x.0
 own_number (site.Barrier x) = x.0
+own_number (site.Rw x) = x.0
 
 abbrev other_site : (a b : Site) → Option (a ≢ b)
 other_site a b =
@@ -113,6 +115,7 @@ same_site (site.Monitor x) (site.Monitor y) = given (same x.0 y.0) (λ e. Some (
 same_site (site.Eventual x) (site.Eventual y) = given (same x.0 y.0) (λ e. Some (ap (λ n. site.Eventual (object_no n)) e))
 same_site (site.Future x) (site.Future y) = given (same x.0 y.0) (λ e. Some (ap (λ n. site.Future (object_no n)) e))
 same_site (site.Barrier x) (site.Barrier y) = given (same x.0 y.0) (λ e. Some (ap (λ n. site.Barrier (object_no n)) e))
+same_site (site.Rw x) (site.Rw y) = given (same x.0 y.0) (λ e. Some (ap (λ n. site.Rw (object_no n)) e))
 same_site a b = None
 
 abbrev no_site : (W : Parts) (e f : Event) (a b : Option Site) → event_site W e ≡ a → event_site W f ≡ b → Option (SameSite W e f → ⊥)

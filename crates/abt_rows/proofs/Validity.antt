@@ -18,7 +18,7 @@ use Rattle.abt_machine.specs.declared.operations.Thing.TheVariants as thing
 use Rattle.abt_machine.specs.declared.workload.Parts.{Parts}
 use Rattle.abt_machine.specs.Access.{may_take_all}
 use Rattle.abt_machine.specs.Limits.{operation_limit, stream_limit, unit_limit}
-use Rattle.abt_machine.specs.Operations.{IsDeclared, IsMutex, IsEventual, IsFuture, IsBarrier, may_block}
+use Rattle.abt_machine.specs.Operations.{IsDeclared, IsMutex, IsEventual, IsFuture, IsBarrier, IsRwLock, may_block}
 use Rattle.abt_machine.specs.Valid.{IsAccess, IsBody, IsRule, IsScheduler, IsStream, IsThing, IsUnit, IsValid, IsVisible, IsWord, placed_scheds, words_said}
 use Rattle.abt_machine.specs.Words.{Text}
 use Rattle.abt_machine.specs.Workloads.{IsCondition, access_of, all_ops, body_at, main_of, ops_of, pools_of, rule_of, start_of, thing_at}
@@ -91,6 +91,13 @@ barrier_by W x _ e = None
 abbrev barrier : (W : Parts) (x : ℕ) → Option (IsBarrier W x)
 barrier W x = barrier_by W x (thing_at W x) refl
 
+abbrev rwlock_by : (W : Parts) (x : ℕ) (o : Option Thing) → thing_at W x ≡ o → Option (IsRwLock W x)
+rwlock_by W x (Some thing.RwLock) e = Some e
+rwlock_by W x _ e = None
+
+abbrev rwlock : (W : Parts) (x : ℕ) → Option (IsRwLock W x)
+rwlock W x = rwlock_by W x (thing_at W x) refl
+
 abbrev size : (n : ℕ) → Option ((0 < n) × (n ≤ 4096))
 size n = given (is_less 0 n) (λ some. given (is_at_most n 4096) (λ few. Some (some, few)))
 
@@ -100,6 +107,7 @@ object W x (thing.Cond m) = given (is_less m.0 x) (λ above. given (mutex W m.0)
 object W x thing.Eventual = Some tt
 object W x (thing.Future n c) = size n
 object W x (thing.Barrier n) = size n
+object W x thing.RwLock = Some tt
 
 -- Units.
 
@@ -142,6 +150,11 @@ operation W (op.FuSet x) = future W x.0
 operation W (op.FuReset x) = future W x.0
 operation W (op.FuTest x) = future W x.0
 operation W (op.BarWait x) = barrier W x.0
+operation W (op.ReadLock x) = rwlock W x.0
+operation W (op.WriteLock x) = rwlock W x.0
+operation W (op.RwUnlock x) = rwlock W x.0
+operation W (op.RwLoad x) = rwlock W x.0
+operation W (op.RwStore x) = rwlock W x.0
 
 abbrev unit_body : (W : Parts) (b : Body) → Option (IsBody W b)
 unit_body W (body.Ult ops) = Some tt

@@ -74,7 +74,7 @@ kept_by_mutexes_report =
     codes "unit 0 done: !not-owner 7 !not-owner 7 !not-owner 7 !not-owner 7 7 !mutex-locked 7 7 7 7 7 7\n" ++
     codes "tally units 1 unborn 0 pool 0 stream 0 blocked 0 done 1 asked 0 access 0 steps 23\nfinished\n"
 
--- Sets and resets leave the accumulator, also where they are refused, and so does the last party of a barrier.
+-- Sets and resets leave the accumulator, also if they are refused, and so does the last party of a barrier.
 
 abbrev pub kept_by_eventuals_text : Text
 kept_by_eventuals_text =

@@ -13,7 +13,7 @@ budget_report =
     codes "unit 0 stream 0: !unit-state\nunit 1 done:\n" ++
     codes "tally units 2 unborn 0 pool 0 stream 1 blocked 0 done 1 asked 0 access 0 steps 50\nbudget 0\n"
 
--- A unit stays in hand where its stream's two steps are spent.
+-- A unit stays in hand if its stream's two steps are spent.
 
 abbrev pub budget_of_two_text : Text
 budget_of_two_text = base ++ codes "units 1\nunit 0 ult at 0\nsay a\nsay b\nsay c\nend\n"

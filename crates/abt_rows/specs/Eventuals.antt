@@ -17,7 +17,7 @@ eventual_report =
     codes "tally units 3 unborn 0 pool 0 stream 0 blocked 0 done 3 asked 0 access 0 steps 11\n" ++
     codes "finished\n"
 
--- A ready eventual gives its value at once.
+-- A ready eventual returns its value at once.
 
 abbrev pub eventual_ready_text : Text
 eventual_ready_text =

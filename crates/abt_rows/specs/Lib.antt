@@ -6,6 +6,7 @@ pub mod Units
 pub mod Requests
 pub mod Schedulers
 pub mod Mutexes
+pub mod RwLocks
 pub mod Eventuals
 pub mod Budgets
 pub mod Streams

@@ -57,7 +57,7 @@ wrap_report =
     codes "unit 0 done: 0\n" ++
     codes "tally units 1 unborn 0 pool 0 stream 0 blocked 0 done 1 asked 0 access 0 steps 3\nfinished\n"
 
--- A key is a unit's own, and 0 where it was not set.
+-- A key is a unit's own, and 0 if it was not set.
 
 abbrev pub keys_text : Text
 keys_text =

@@ -76,7 +76,7 @@ handed_over_report =
     codes "unit 0 done: !mutex-locked\nunit 1 done:\n" ++
     codes "tally units 2 unborn 0 pool 0 stream 0 blocked 0 done 2 asked 0 access 0 steps 6\nfinished\n"
 
--- A unit that is not the owner may not load, store, unlock or wait.
+-- A unit that is not the owner must not load, store, unlock or wait.
 
 abbrev pub not_owner_text : Text
 not_owner_text =

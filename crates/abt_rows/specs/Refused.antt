@@ -111,6 +111,6 @@ two_steps =
     ∷ record { stamp = 4; stream = stream_no 0; what = what.Step (unit_no 0) 1 code.Ok }
     ∷ []
 
--- where each stream may make n steps, stream 0 is not spent after this journal, whatever the workload
+-- if each stream may make n steps, stream 0 is not spent after this journal, whatever the workload
 abbrev pub IsNotSpent : ℕ → List Event → Type 0
 IsNotSpent n J = (W : Parts) → Spent W n J 0 → ⊥

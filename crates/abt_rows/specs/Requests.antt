@@ -114,7 +114,7 @@ migratable_stays_report =
     codes "unit 0 done: !unit-state !unit-state !not-migratable !not-migratable\nunit 1 done:\n" ++
     codes "tally units 2 unborn 0 pool 0 stream 0 blocked 0 done 2 asked 0 access 0 steps 6\nfinished\n"
 
--- A migrate request is granted also where the unit is no longer migratable at its look.
+-- A migrate request is granted also if the unit is no longer migratable at its look.
 
 abbrev pub request_before_ban_text : Text
 request_before_ban_text =
@@ -183,7 +183,7 @@ migrate_suspended_report =
     codes "unit 0 done: moved\nunit 1 done:\n" ++
     codes "tally units 2 unborn 0 pool 0 stream 0 blocked 0 done 2 asked 0 access 0 steps 4\nfinished\n"
 
--- A unit that is yielded to ends where it was asked to.
+-- A unit that is yielded to ends if it was asked to.
 
 abbrev pub yieldto_cancelled_text : Text
 yieldto_cancelled_text =
@@ -200,7 +200,7 @@ yieldto_cancelled_report =
     codes "unit 0 done:\nunit 1 asked:\n" ++
     codes "tally units 2 unborn 0 pool 0 stream 0 blocked 0 done 1 asked 1 access 0 steps 2\nfinished\n"
 
--- A unit that is yielded to migrates where it was asked to.
+-- A unit that is yielded to migrates if it was asked to.
 
 abbrev pub yieldto_migrates_text : Text
 yieldto_migrates_text =

@@ -60,7 +60,7 @@ others_pools_report =
     codes "unit 0 done:\nunit 1 done: !pool-access !pool-access\nunit 2 done:\n" ++
     codes "tally units 3 unborn 0 pool 0 stream 0 blocked 0 done 3 asked 0 access 0 steps 4\nfinished\n"
 
--- A scheduler unit ends at once if its stream may not take from its second pool.
+-- A scheduler unit ends at once if its stream must not take from its second pool.
 
 abbrev pub second_pool_barred_text : Text
 second_pool_barred_text =

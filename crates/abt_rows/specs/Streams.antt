@@ -8,7 +8,7 @@ foreign =
     codes "abt 1\nstreams 2\npool 0 fifo priv of 0\npool 1 fifo priv of 1\npool 2 fifo spsc from 0 to 1\n" ++
     codes "sched 0 prio 0\nsched 1 prio 1 2\nstream 0 main 0\nstream 1 main 1\n"
 
--- A stream that may not put into a pool creates no unit there.
+-- A stream that must not put into a pool creates no unit there.
 
 abbrev pub foreign_create_text : Text
 foreign_create_text =
@@ -21,7 +21,7 @@ foreign_create_report =
     codes "unit 0 done: !pool-access\nunit 1 unborn:\n" ++
     codes "tally units 2 unborn 1 pool 0 stream 0 blocked 0 done 1 asked 0 access 0 steps 1\nfinished\n"
 
--- A unit that yields returns to its home, also where its stream may not put into that pool.
+-- A unit that yields returns to its home, also if its stream must not put into that pool.
 
 abbrev pub home_return_text : Text
 home_return_text =
@@ -33,7 +33,7 @@ home_return_report =
     codes "unit 0 done: back\n" ++
     codes "tally units 1 unborn 0 pool 0 stream 0 blocked 0 done 1 asked 0 access 0 steps 2\nfinished\n"
 
--- A stream that may not take from a pool yields to no unit there.
+-- A stream that must not take from a pool yields to no unit there.
 
 abbrev pub foreign_yieldto_text : Text
 foreign_yieldto_text =
@@ -59,7 +59,7 @@ foreign_pools_report =
     codes "unit 0 done: !pool-access !pool-access !pool-access !pool-access !pool-access !pool-access on\nunit 1 unborn:\n" ++
     codes "tally units 2 unborn 1 pool 0 stream 0 blocked 0 done 1 asked 0 access 0 steps 7\nfinished\n"
 
--- A scheduler unit ends at once where its stream may not take from its pools.
+-- A scheduler unit ends at once if its stream must not take from its pools.
 
 abbrev pub access_text : Text
 access_text =

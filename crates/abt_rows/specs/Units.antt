@@ -33,7 +33,7 @@ join_self_report =
     codes "unit 0 join 0:\n" ++
     codes "tally units 1 unborn 0 pool 0 stream 0 blocked 1 done 0 asked 0 access 0 steps 1\nstuck\n"
 
--- A unit is created once. One that may not migrate is not asked to.
+-- A unit is created once. One that must not migrate is not asked to.
 
 abbrev pub exists_text : Text
 exists_text =

@@ -18,7 +18,7 @@ pub fn kept_by_mutexes()
     ensures { IsWorked orders 10000 kept_by_mutexes_text kept_by_mutexes_journal kept_by_mutexes_report }
 {}
 
-/// Sets and resets leave the accumulator, also where they are refused, and so does the last party of a
+/// Sets and resets leave the accumulator, also if they are refused, and so does the last party of a
 /// barrier.
 pub fn kept_by_eventuals()
     ensures { IsWorked orders 10000 kept_by_eventuals_text kept_by_eventuals_journal kept_by_eventuals_report }

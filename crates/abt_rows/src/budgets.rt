@@ -8,7 +8,7 @@ pub fn budget()
     ensures { IsReported orders 50 budget_text budget_report }
 {}
 
-/// A unit stays in hand where its stream's two steps are spent.
+/// A unit stays in hand if its stream's two steps are spent.
 pub fn budget_of_two()
     ensures { IsReported orders 2 budget_of_two_text budget_of_two_report }
 {}

@@ -8,7 +8,7 @@ pub fn eventual()
     ensures { IsReported orders 10000 eventual_text eventual_report }
 {}
 
-/// A ready eventual gives its value at once.
+/// A ready eventual returns its value at once.
 pub fn eventual_ready()
     ensures { IsReported orders 10000 eventual_ready_text eventual_ready_report }
 {}

@@ -11,6 +11,7 @@ pub mod mutexes;
 pub mod refused;
 pub mod requests;
 pub mod rounds;
+pub mod rwlocks;
 pub mod schedulers;
 pub mod sharing;
 pub mod streams;

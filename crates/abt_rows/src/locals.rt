@@ -23,7 +23,7 @@ pub fn wrap()
     ensures { IsReported orders 10000 wrap_text wrap_report }
 {}
 
-/// A key is a unit's own, and 0 where it was not set.
+/// A key is a unit's own, and 0 if it was not set.
 pub fn keys()
     ensures { IsReported orders 10000 keys_text keys_report }
 {}

@@ -28,7 +28,7 @@ pub fn handed_over()
     ensures { IsWorked orders 10000 handed_over_text handed_over_journal handed_over_report }
 {}
 
-/// A unit that is not the owner may not load, store, unlock or wait.
+/// A unit that is not the owner must not load, store, unlock or wait.
 pub fn not_owner()
     ensures { IsReported orders 10000 not_owner_text not_owner_report }
 {}

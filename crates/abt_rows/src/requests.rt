@@ -39,7 +39,7 @@ pub fn migratable_stays()
     ensures { IsReported orders 10000 migratable_stays_text migratable_stays_report }
 {}
 
-/// A migrate request is granted also where the unit is no longer migratable at its look.
+/// A migrate request is granted also if the unit is no longer migratable at its look.
 pub fn request_before_ban()
     ensures { IsWorked orders 10000 request_before_ban_text request_before_ban_journal request_before_ban_report }
 {}
@@ -59,12 +59,12 @@ pub fn migrate_suspended()
     ensures { IsWorked orders 10000 migrate_suspended_text migrate_suspended_journal migrate_suspended_report }
 {}
 
-/// A unit that is yielded to ends where it was asked to.
+/// A unit that is yielded to ends if it was asked to.
 pub fn yieldto_cancelled()
     ensures { IsWorked orders 10000 yieldto_cancelled_text yieldto_cancelled_journal yieldto_cancelled_report }
 {}
 
-/// A unit that is yielded to migrates where it was asked to.
+/// A unit that is yielded to migrates if it was asked to.
 pub fn yieldto_migrates()
     ensures { IsWorked orders 10000 yieldto_migrates_text yieldto_migrates_journal yieldto_migrates_report }
 {}

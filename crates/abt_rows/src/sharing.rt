@@ -20,7 +20,7 @@ pub fn others_pools()
     ensures { IsWorked orders 10000 others_pools_text others_pools_journal others_pools_report }
 {}
 
-/// A scheduler unit ends at once if its stream may not take from its second pool.
+/// A scheduler unit ends at once if its stream must not take from its second pool.
 pub fn second_pool_barred()
     ensures { IsWorked orders 10000 second_pool_barred_text second_pool_barred_journal second_pool_barred_report }
 {}

@@ -3,17 +3,17 @@
 ghost use Rattle.abt_rows.specs.Rows.{IsReported, orders};
 ghost use Rattle.abt_rows.specs.Streams.{foreign_create_text, foreign_create_report, home_return_text, home_return_report, foreign_yieldto_text, foreign_yieldto_report, foreign_pools_text, foreign_pools_report, access_text, access_report, empty_round_text, empty_round_report};
 
-/// A stream that may not put into a pool creates no unit there.
+/// A stream that must not put into a pool creates no unit there.
 pub fn foreign_create()
     ensures { IsReported orders 10000 foreign_create_text foreign_create_report }
 {}
 
-/// A unit that yields returns to its home, also where its stream may not put into that pool.
+/// A unit that yields returns to its home, also if its stream must not put into that pool.
 pub fn home_return()
     ensures { IsReported orders 10000 home_return_text home_return_report }
 {}
 
-/// A stream that may not take from a pool yields to no unit there.
+/// A stream that must not take from a pool yields to no unit there.
 pub fn foreign_yieldto()
     ensures { IsReported orders 10000 foreign_yieldto_text foreign_yieldto_report }
 {}
@@ -23,7 +23,7 @@ pub fn foreign_pools()
     ensures { IsReported orders 10000 foreign_pools_text foreign_pools_report }
 {}
 
-/// A scheduler unit ends at once where its stream may not take from its pools.
+/// A scheduler unit ends at once if its stream must not take from its pools.
 pub fn access()
     ensures { IsReported orders 10000 access_text access_report }
 {}

@@ -18,7 +18,7 @@ pub fn join_self()
     ensures { IsReported orders 10000 join_self_text join_self_report }
 {}
 
-/// A unit is created once. One that may not migrate is not asked to.
+/// A unit is created once. One that must not migrate is not asked to.
 pub fn exists()
     ensures { IsReported orders 10000 exists_text exists_report }
 {}

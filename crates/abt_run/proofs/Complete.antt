@@ -17,7 +17,7 @@ use Rattle.abt_bounds.specs.Laws.{HasNoRevive, ops_in}
 use Rattle.abt_bounds.proofs.Budgets.{steps-bound-budgets}
 use Rattle.abt_check.specs.declared.verdict.Verdict.{Verdict}
 use Rattle.abt_check.specs.declared.verdict.Verdict.TheVariants as verdict
-use Rattle.abt_check.specs.Verdicts.{IsBadAt, IsJudged, IsStampedRun}
+use Rattle.abt_check.specs.Verdicts.{IsJudged, IsRunUpTo, IsStampedRun}
 use Rattle.abt_flow.specs.Confluent.{Confluent}
 use Rattle.abt_flow.specs.Flow.{IsFlow}
 use Rattle.abt_generate.proofs.GeneratedParts.{IsValid-generated}
@@ -134,7 +134,7 @@ runs-valid g (command.SelfRun units) W says known = by g.words says
 runs-valid g (command.Check w j) W says known = absurd known
 runs-valid g (command.Flow f) W says known = absurd known
 
--- What is printed tells the command.
+-- What is printed determines the command.
 
 module _ (g : Given) (J : List Event) (text : Text) where
   printed-says : (c : Conclusion) → Prints g c J text → (d : Command) × Says g.words d

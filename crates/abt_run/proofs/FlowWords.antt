@@ -63,6 +63,11 @@ module _ (W : Parts) (Found : ℕ → ℕ → Type 0) (old m : Memory) (says : S
   led (op.FuSet x) declared is = absurd is
   led (op.FuReset x) declared is = absurd is
   led (op.FuTest x) declared is = absurd is
+  led (op.ReadLock x) declared is = absurd is
+  led (op.WriteLock x) declared is = absurd is
+  led (op.RwUnlock x) declared is = absurd is
+  led (op.RwLoad x) declared is = absurd is
+  led (op.RwStore x) declared is = absurd is
 
   done : (o : Option Op) → ((p : Op) → o ≡ Some p → IsDeclared W p) → Does Found o old m → Says W m
   done None declared is = absurd is

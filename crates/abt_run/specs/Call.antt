@@ -10,7 +10,7 @@ use Rattle.abt_check.specs.Verdicts.{IsStampedRun}
 use Rattle.abt_flow.specs.Confluent.{Confluent}
 use Rattle.abt_flow.specs.Flow.{IsFlow}
 use Rattle.abt_generate.specs.Generated.{generated}
-use Rattle.abt_source.specs.Source.{Rose, Took, TookFront}
+use Rattle.abt_source.specs.Source.{Rose, Took, TookPrefix}
 use Rattle.abt_words.specs.declared.commands.Command.{Command}
 use Rattle.abt_words.specs.declared.commands.Command.TheVariants as command
 use Rattle.abt_words.specs.Commands.{Says}
@@ -43,12 +43,12 @@ abbrev pub Gained : Option Text × Option Text → Text → Type 0
 Gained sink bytes = Took sink.0 sink.1 bytes
 
 -- the sink took a prefix of these bytes, which lacks at least one
-abbrev pub GainedFront : Option Text × Option Text → Text → Type 0
-GainedFront sink bytes = TookFront sink.0 sink.1 bytes
+abbrev pub GainedPrefix : Option Text × Option Text → Text → Type 0
+GainedPrefix sink bytes = TookPrefix sink.0 sink.1 bytes
 
 -- the message was written, or a prefix of it, and then the count of faults rose
 abbrev pub IsTold : Option Text × Option Text → ℕ × ℕ → Text → Type 0
-IsTold sink faults text = Gained sink text ⊎ (GainedFront sink text × Grew faults)
+IsTold sink faults text = Gained sink text ⊎ (GainedPrefix sink text × Grew faults)
 
 -- What each status says.
 
@@ -60,11 +60,11 @@ pub record Wrote (conclusion : Conclusion) (c : Call) : Type 0 where
   pub err : Gained c.err []
 
 -- the command was carried out, a prefix of what it prints was written, and the count of faults of the output rose
-pub record WroteFront (c : Call) : Type 0 where
+pub record WrotePrefix (c : Call) : Type 0 where
   pub conclusion : Conclusion
   pub text : Text
   pub prints : Prints c.given conclusion c.journal text
-  pub out : GainedFront c.out text
+  pub out : GainedPrefix c.out text
   pub faults : Grew c.out_faults
   pub err : IsTold c.err c.err_faults (message_of CannotWrite)
 
@@ -78,7 +78,7 @@ pub record StoppedBy (stop : Stop) (c : Call) : Type 0 where
 abbrev pub Holds : Status → Call → Type 0
 Holds (Concluded conclusion) c = Wrote conclusion c
 Holds (Stopped stop) c = StoppedBy stop c
-Holds CannotWrite c = WroteFront c
+Holds CannotWrite c = WrotePrefix c
 
 -- the call ended with this exit status, which has its cause
 abbrev pub EndsBy : ℕ → Call → Type 0

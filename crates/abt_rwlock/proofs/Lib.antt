@@ -1,5 +1,4 @@
 pub mod Kept
 pub mod Lows
 pub mod Readers
-pub mod Sound
-pub mod Stays
+pub mod Unlocking

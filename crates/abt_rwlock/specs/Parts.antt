@@ -1,10 +1,10 @@
 -- What contracts see of the parts of a reader-writer lock.
 use Rattle.std.specs.Prelude.{ℕ, ◌≡◌, List, [], Option, None, Some, Box}
 use Rattle.std.specs.declared.alloc.Global.{Global}
-use Rattle.abt_machine.specs.Values.{Owned}
+use Rattle.abt_machine.specs.declared.events.Wish.{Wish}
+use Rattle.abt_machine.specs.State.{RwLock}
+use Rattle.abt_machine.specs.Values.{Owned, RwLockValue}
 use Rattle.abt_unit.specs.Units.{IsFree, UnitValue}
-use Rattle.abt_rwlock.specs.declared.answers.Wish.{Wish}
-use Rattle.abt_rwlock.specs.Values.{RwLockValue}
 
 -- who writes, and how often each unit reads
 pub record HoldersValue : Type 0 where
@@ -16,15 +16,13 @@ pub record WaitersValue : Type 0 where
   pub wishes : List Wish
   pub units : List Owned
 
--- the lock of these parts
+-- the lock of these holders
+abbrev pub held_by : HoldersValue → List Wish → ℕ → RwLock
+held_by holders wishes n = record { writer = holders.writer; counts = holders.counts; wishes = wishes; number = n }
+
+-- and its waiters
 abbrev pub lock_of : HoldersValue → WaitersValue → ℕ → RwLockValue
-lock_of holders waiters n = record {
-  writer = holders.writer;
-  counts = holders.counts;
-  wishes = waiters.wishes;
-  waiters = waiters.units;
-  number = n;
-}
+lock_of holders waiters n = record { lock = held_by holders waiters.wishes n; waiters = waiters.units }
 
 -- the first waiter is no part of a list of its own, and without it there are no others
 abbrev pub AreInLine : Option (Box UnitValue Global) → List Owned → Type 0

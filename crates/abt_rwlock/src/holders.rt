@@ -1,10 +1,12 @@
 //! Who holds a reader-writer lock.
 
-ghost use Rattle.std.specs.Prelude.{◌≡◌, ◌<◌, ◌^◌, ◌||◌, ℕ, IfOk, IsTrue, None, is_some, length, nat_lt, option_map, replicate, slice_index, slice_set};
+ghost use Rattle.std.specs.Prelude.{◌≡◌, ◌<◌, ◌^◌, ◌==◌, ◌&&◌, ◌||◌, ℕ, IfOk, IsTrue, List, None, is_none, is_some, length, nat_lt, option_map, replicate, slice_index, slice_set};
 ghost use Rattle.std.specs.List.{sum};
+ghost use Rattle.abt_machine.specs.Fronts.{is_some_of};
+ghost use Rattle.abt_machine.specs.Holders.{given_up};
+ghost use Rattle.abt_machine.specs.declared.events.Wish.{Wish};
 ghost use Rattle.abt_machine.specs.declared.numbers.UnitNo.{UnitNo};
-ghost use Rattle.abt_rwlock.specs.Parts.{WaitersValue, lock_of};
-ghost use Rattle.abt_rwlock.specs.RwLocks.{given_up, is_number, is_unheld};
+ghost use Rattle.abt_rwlock.specs.Parts.{held_by};
 
 use abt_machine::{UnitNo, Want};
 use std::alloc::Global;
@@ -44,7 +46,7 @@ impl Holders {
     }
 
     pub fn are_none(&self) -> bool
-        ensures { result ≡ is_unheld self.now.writer self.now.counts }
+        ensures { result ≡ (is_none self.now.writer && (sum self.now.counts == 0)) }
     {
         self.writer.is_none() && self.total == 0
     }
@@ -56,7 +58,7 @@ impl Holders {
     }
 
     pub fn is_writer(&self, who: UnitNo) -> bool
-        ensures { result ≡ is_number who.0 self.now.writer }
+        ensures { result ≡ is_some_of who.0 self.now.writer }
     {
         match self.writer {
             None => false,
@@ -64,11 +66,14 @@ impl Holders {
         }
     }
 
+    /// How often the unit reads: 0 if there is no room for its count.
     pub fn count(&self, who: UnitNo) -> u16
-        requires { who.0 < length self.now.counts }
         ensures { result ≡ slice_index self.now.counts who.0 }
     {
-        self.counts[who.0 as usize]
+        match self.counts.get(who.0 as usize) {
+            None => 0,
+            Some(count) => *count,
+        }
     }
 
     pub fn set_writer(&mut self, writer: Option<UnitNo>)
@@ -78,21 +83,21 @@ impl Holders {
         self.writer = writer;
     }
 
+    /// Nothing changes if there is no room for the unit's count.
     pub fn set_count(&mut self, who: UnitNo, count: u16)
-        requires { who.0 < length self.old.counts }
         ensures counts { self.new.counts ≡ slice_set self.old.counts who.0 count }
         ensures writer { self.new.writer ≡ self.old.writer }
     {
-        self.total = total_with(self.total, self.counts.as_slice(), who, count);
-        self.counts[who.0 as usize] = count;
+        if (who.0 as usize) < self.counts.len() {
+            self.total = total_with(self.total, self.counts.as_slice(), who, count);
+            self.counts[who.0 as usize] = count;
+        }
     }
 
     /// The unit gives up the lock if it writes, and else reads once less.
     pub fn give_up(&mut self, who: UnitNo)
-        requires room { who.0 < length self.old.counts }
-        requires holds { IsTrue (is_number who.0 self.old.writer || nat_lt 0 (slice_index self.old.counts who.0)) }
-        ensures left { (waiters : WaitersValue) (n : ℕ) → lock_of self.new waiters n ≡ given_up who.0 (lock_of self.old waiters n) }
-        ensures units { length self.new.counts ≡ length self.old.counts }
+        requires { IsTrue (is_some_of who.0 self.old.writer || nat_lt 0 (slice_index self.old.counts who.0)) }
+        ensures { (wishes : List Wish) (n : ℕ) → held_by self.new wishes n ≡ given_up who.0 (held_by self.old wishes n) }
     {
         if self.is_writer(who) {
             self.set_writer(None);

@@ -1,7 +1,7 @@
 //! Reader-writer locks: one unit writes a number, or any units read it.
 #![tactic(auto)]
 
-mod answers;
+mod back;
 mod holders;
 mod laws;
 mod rwlock;
@@ -10,6 +10,6 @@ mod serving;
 mod tests;
 mod waiters;
 
-pub use answers::{RwBack, RwCode, Wish};
-pub use laws::{reads_stay, rwlocks_keep_their_units, rwlocks_keep_what_fits, rwlocks_stay_sound};
+pub use back::RwBack;
+pub use laws::{rwlocks_keep_their_units, rwlocks_keep_what_fits};
 pub use rwlock::RwLock;

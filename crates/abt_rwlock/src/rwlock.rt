@@ -1,20 +1,20 @@
 //! A reader-writer lock, and its calls.
 
-ghost use Rattle.std.specs.Prelude.{◌≡◌, ◌<◌, ◌≤◌, [], IfErr, IfNone, IfOk, IfSome, None, Some, length, replicate};
+ghost use Rattle.std.specs.Prelude.{◌≡◌, [], IfErr, IfNone, IfOk, IfSome, None, Some, replicate};
 ghost use Rattle.std.specs.List.{find};
+ghost use Rattle.abt_machine.specs.Acts.{Back, Coded, Given, Load, Number, ReadLock, Rested, RwUnlock, Store, Woke, WriteLock};
+ghost use Rattle.abt_machine.specs.Holders.{holds};
 ghost use Rattle.abt_machine.specs.Pools.{is_unit};
+ghost use Rattle.abt_machine.specs.RwLocks.{RwLockGives, may_read};
+ghost use Rattle.abt_machine.specs.declared.events.Wish.TheVariants as wish;
 ghost use Rattle.abt_unit.specs.Units.{IsFree};
-ghost use Rattle.abt_rwlock.specs.declared.answers.Wish.TheVariants as wish;
-ghost use Rattle.abt_rwlock.specs.Acts.{Back, Coded, Given, Load, Number, ReadLock, Rested, RwUnlock, Store, Woke, WriteLock};
-ghost use Rattle.abt_rwlock.specs.Keeps.{IsSound};
-ghost use Rattle.abt_rwlock.specs.RwLocks.{RwLockGives, holds, may_read};
 
+use crate::RwBack;
 use crate::holders::Holders;
 use crate::serving::pass_on;
 use crate::waiters::Waiters;
-use crate::{RwBack, RwCode, Wish};
 use abt_chain::Chain;
-use abt_machine::{UnitNo, Want};
+use abt_machine::{Code, UnitNo, Want, Wish};
 use abt_unit::Unit;
 use std::alloc::Global;
 use std::marker::Model;
@@ -32,27 +32,20 @@ pub struct RwLock {
 }
 
 impl Model for RwLock {
-    ghost use Rattle.std.specs.Prelude.{◌≡◌, length};
-    ghost use Rattle.abt_rwlock.specs.Keeps.{IsSound};
+    ghost use Rattle.abt_machine.specs.Values.{RwLockValue};
     ghost use Rattle.abt_rwlock.specs.Parts.{lock_of};
-    ghost use Rattle.abt_rwlock.specs.Values.{RwLockValue};
 
     ghost Value = { RwLockValue };
 
     ghost view = { λ l. lock_of l.holders l.waiters l.number };
-
-    ghost invariant = { λ l. (length l.waiters.wishes ≡ length l.holders.counts) × IsSound (lock_of l.holders l.waiters l.number) };
 }
 
 impl RwLock {
     /// A free lock that guards 0, with room for units whose numbers are below that. It alone of a lock's calls takes memory.
     pub fn new(alloc: Global, units: u32) -> Result<RwLock, Want>
-        ensures { IfOk result (λ lock. lock ≡ record {
-          writer = None;
-          counts = replicate units 0;
-          wishes = replicate units wish.Read;
+        ensures { IfOk result (λ made. made ≡ record {
+          lock = record { writer = None; counts = replicate units 0; wishes = replicate units wish.Read; number = 0 };
           waiters = [];
-          number = 0;
         }) }
     {
         Ok(RwLock {
@@ -65,28 +58,25 @@ impl RwLock {
     /// The unit reads once more if it reads already, or if no unit writes and none waits. Else it waits, and wants to read.
     /// It comes back with `RwHeld` if it writes, and with `RwFull` if it reads 65,535 times.
     pub fn rdlock(&mut self, unit: Box<Unit>) -> Result<Option<Box<Unit>>, RwBack>
-        requires free { IsFree unit.value }
-        requires room { unit.value.owned.number < length self.old.counts }
+        requires { IsFree unit.value }
         ensures given { IfOk result (λ next. IfSome next (λ given. RwLockGives self.old (ReadLock unit.value.owned) (Given given.value.owned) self.new)) }
         ensures same { IfOk result (λ next. IfSome next (λ given. given.value ≡ unit.value)) }
         ensures rested { IfOk result (λ next. IfNone next (RwLockGives self.old (ReadLock unit.value.owned) Rested self.new)) }
         ensures err { IfErr result (λ back. RwLockGives self.old (ReadLock unit.value.owned) (Back back.unit.value.owned back.code) self.new) }
         ensures back { IfErr result (λ back. back.unit.value ≡ unit.value) }
-        ensures sound { IsSound self.new }
-        ensures units { length self.new.counts ≡ length self.old.counts }
     {
         let who = unit.number();
         if self.holders.is_writer(who) {
             return Err(RwBack {
                 unit,
-                code: RwCode::RwHeld,
+                code: Code::RwHeld,
             });
         }
         let count = self.holders.count(who);
         if count == u16::MAX {
             return Err(RwBack {
                 unit,
-                code: RwCode::RwFull,
+                code: Code::RwFull,
             });
         }
         if self.may_read(who) {
@@ -99,21 +89,18 @@ impl RwLock {
 
     /// The unit writes if the lock is free. Else it waits, and wants to write. It comes back with `RwHeld` if it reads or writes.
     pub fn wrlock(&mut self, unit: Box<Unit>) -> Result<Option<Box<Unit>>, RwBack>
-        requires free { IsFree unit.value }
-        requires room { unit.value.owned.number < length self.old.counts }
+        requires { IsFree unit.value }
         ensures given { IfOk result (λ next. IfSome next (λ given. RwLockGives self.old (WriteLock unit.value.owned) (Given given.value.owned) self.new)) }
         ensures same { IfOk result (λ next. IfSome next (λ given. given.value ≡ unit.value)) }
         ensures rested { IfOk result (λ next. IfNone next (RwLockGives self.old (WriteLock unit.value.owned) Rested self.new)) }
         ensures err { IfErr result (λ back. RwLockGives self.old (WriteLock unit.value.owned) (Back back.unit.value.owned back.code) self.new) }
         ensures back { IfErr result (λ back. back.unit.value ≡ unit.value) }
-        ensures sound { IsSound self.new }
-        ensures units { length self.new.counts ≡ length self.old.counts }
     {
         let who = unit.number();
         if self.holds(who) {
             return Err(RwBack {
                 unit,
-                code: RwCode::RwHeld,
+                code: Code::RwHeld,
             });
         }
         if self.holders.are_none() {
@@ -127,44 +114,49 @@ impl RwLock {
     /// A unit that writes gives up the lock, and one that reads reads once less. If the lock is then free, the first waiter, if
     /// it wants to write, holds it and comes out; if it wants to read, it and all waiters up to the first that wants to write
     /// hold it and come out in order. `NotHolder` if the unit neither reads nor writes.
-    pub fn unlock(&mut self, who: UnitNo) -> Result<Chain, RwCode>
-        requires { who.0 < length self.old.counts }
+    pub fn unlock(&mut self, who: UnitNo) -> Result<Chain, Code>
         ensures woke { IfOk result (λ woken. RwLockGives self.old (RwUnlock who.0) (Woke woken.units) self.new) }
         ensures err { IfErr result (λ refused. RwLockGives self.old (RwUnlock who.0) (Coded refused) self.new) }
-        ensures sound { IsSound self.new }
-        ensures units { length self.new.counts ≡ length self.old.counts }
     {
         if !self.holds(who) {
-            return Err(RwCode::NotHolder);
+            return Err(Code::NotHolder);
         }
         self.holders.give_up(who);
         Ok(pass_on(&mut self.holders, &mut self.waiters))
     }
 
     /// The number that the lock guards, for a unit that reads or writes. `NotHolder` for any other.
-    pub fn load(&self, who: UnitNo) -> Result<u64, RwCode>
-        requires { who.0 < length self.now.counts }
+    pub fn load(&self, who: UnitNo) -> Result<u64, Code>
         ensures ok { IfOk result (λ number. RwLockGives self.now (Load who.0) (Number number) self.now) }
         ensures err { IfErr result (λ refused. RwLockGives self.now (Load who.0) (Coded refused) self.now) }
-        ensures sound { IsSound self.now }
     {
         if !self.holds(who) {
-            return Err(RwCode::NotHolder);
+            return Err(Code::NotHolder);
         }
         Ok(self.number)
     }
 
     /// Sets the number that the lock guards, for the unit that writes. `NotHolder` for any other.
-    pub fn store(&mut self, who: UnitNo, value: u64) -> RwCode
-        ensures gives { RwLockGives self.old (Store who.0 value) (Coded result) self.new }
-        ensures sound { IsSound self.new }
-        ensures units { length self.new.counts ≡ length self.old.counts }
+    pub fn store(&mut self, who: UnitNo, value: u64) -> Code
+        ensures { RwLockGives self.old (Store who.0 value) (Coded result) self.new }
     {
         if !self.holders.is_writer(who) {
-            return RwCode::NotHolder;
+            return Code::NotHolder;
         }
         self.number = value;
-        RwCode::Ok
+        Code::Ok
+    }
+
+    /// All units that wait, in order. The time is that of a walk over them.
+    pub fn into_units(self) -> Chain
+        ensures { result.units ≡ self.waiters }
+    {
+        let RwLock {
+            holders: _,
+            waiters,
+            number: _,
+        } = self;
+        waiters.into_units()
     }
 
     /// The first waiter of that number. The time is that of a walk over them.
@@ -176,16 +168,13 @@ impl RwLock {
     }
 
     fn may_read(&self, who: UnitNo) -> bool
-        requires { who.0 < length self.now.counts }
         ensures { result ≡ may_read who.0 self.now }
     {
         self.holders.count(who) > 0 || (!self.holders.has_writer() && self.waiters.is_empty())
     }
 
     fn holds(&self, who: UnitNo) -> bool
-        requires { who.0 < length self.now.counts }
-        ensures holds { result ≡ holds who.0 self.now }
-        ensures sound { IsSound self.now }
+        ensures { result ≡ holds who.0 self.now.lock }
     {
         self.holders.is_writer(who) || self.holders.count(who) > 0
     }

@@ -1,10 +1,8 @@
 //! How a lock that was given up goes to its waiters.
 
-ghost use Rattle.std.specs.Prelude.{◌≡◌, ◌<◌, ℕ, length};
-ghost use Rattle.std.specs.List.{All};
-ghost use Rattle.abt_machine.specs.Values.{Owned};
+ghost use Rattle.std.specs.Prelude.{◌≡◌, ℕ};
+ghost use Rattle.abt_machine.specs.RwLocks.{after_readers, all_reading, first_readers, passed_on, woken};
 ghost use Rattle.abt_rwlock.specs.Parts.{lock_of};
-ghost use Rattle.abt_rwlock.specs.RwLocks.{after_readers, all_reading, first_readers, passed_on, woken};
 
 use crate::holders::Holders;
 use crate::waiters::Waiters;
@@ -13,11 +11,8 @@ use abt_chain::Chain;
 /// If nobody holds the lock, it goes to the first waiter, if this one wants to write, and else to all before the first that
 /// wants to write. They come out in order.
 pub fn pass_on(holders: &mut Holders, waiters: &mut Waiters) -> Chain
-    requires { All (λ (o : Owned). o.number < length holders.old.counts) waiters.old.units }
-    ensures woken { result.units ≡ woken (lock_of holders.old waiters.old 0) }
+    ensures woken { (n : ℕ) → result.units ≡ woken (lock_of holders.old waiters.old n) }
     ensures left { (n : ℕ) → lock_of holders.new waiters.new n ≡ passed_on (lock_of holders.old waiters.old n) }
-    ensures wishes { waiters.new.wishes ≡ waiters.old.wishes }
-    ensures units { length holders.new.counts ≡ length holders.old.counts }
 {
     if !holders.are_none() {
         return Chain::new();
@@ -35,13 +30,11 @@ pub fn pass_on(holders: &mut Holders, waiters: &mut Waiters) -> Chain
 // All waiters before the first that wants to write come out in order, and each reads once.
 #[tactic(auto, using(crate::proofs::Readers::taking))]
 fn take_readers(holders: &mut Holders, waiters: &mut Waiters) -> Chain
-    requires { All (λ (o : Owned). o.number < length holders.old.counts) waiters.old.units }
     ensures readers { result.units ≡ first_readers waiters.old.wishes waiters.old.units }
     ensures counts { holders.new.counts ≡ all_reading result.units holders.old.counts }
     ensures writer { holders.new.writer ≡ holders.old.writer }
     ensures others { waiters.new.units ≡ after_readers waiters.old.wishes waiters.old.units }
     ensures wishes { waiters.new.wishes ≡ waiters.old.wishes }
-    ensures units { length holders.new.counts ≡ length holders.old.counts }
 {
     let mut readers = Chain::new();
     while let Some(unit) = waiters.take_reader() {

@@ -1,10 +1,10 @@
 //! Who holds a lock and who waits, on rows of calls.
 
-ghost use Rattle.std.specs.Prelude.{◌≡◌, ◌<◌, length};
+ghost use Rattle.std.specs.Prelude.{◌≡◌, ◌<◌};
 ghost use Rattle.abt_unit.specs.Units.{IsFree};
 
-use crate::{RwBack, RwCode, RwLock};
-use abt_machine::UnitNo;
+use crate::{RwBack, RwLock};
+use abt_machine::{Code, UnitNo, Want};
 use abt_sample::unit;
 use abt_unit::Unit;
 use std::alloc::Global;
@@ -16,7 +16,7 @@ use std::test::Fail;
 enum Went {
     On,
     Waits,
-    Back(RwCode),
+    Back(Code),
 }
 
 // What became of the unit of that number, which is let go: it ends, if it came out.
@@ -42,9 +42,7 @@ fn reads(
     number: u32,
     as_wanted: Went,
 ) -> Result<(), Fail>
-    requires number { number < 4 }
-    requires room { length lock.old.counts ≡ 4 }
-    ensures { length lock.new.counts ≡ 4 }
+    requires { number < 4 }
 {
     let answer = lock.rdlock(unit(alloc, number, 0)?);
     assert_eq!(rt; outcome(rt, number, answer), as_wanted);
@@ -59,9 +57,7 @@ fn writes(
     number: u32,
     as_wanted: Went,
 ) -> Result<(), Fail>
-    requires number { number < 4 }
-    requires room { length lock.old.counts ≡ 4 }
-    ensures { length lock.new.counts ≡ 4 }
+    requires { number < 4 }
 {
     let answer = lock.wrlock(unit(alloc, number, 0)?);
     assert_eq!(rt; outcome(rt, number, answer), as_wanted);
@@ -69,11 +65,7 @@ fn writes(
 }
 
 // The unit of that number gives up the lock, and those come out in order.
-fn unlocks(rt: &impl Abort, lock: &mut RwLock, number: u32, out: &[u32])
-    requires number { number < 4 }
-    requires room { length lock.old.counts ≡ 4 }
-    ensures { length lock.new.counts ≡ 4 }
-{
+fn unlocks(rt: &impl Abort, lock: &mut RwLock, number: u32, out: &[u32]) {
     let mut woken = lock
         .unlock(UnitNo(number))
         .ok()
@@ -111,30 +103,28 @@ fn waiters_get_the_lock_in_order(rt: HostRuntime) -> Result<(), Fail> {
 fn who_holds_the_lock_is_refused_or_served(rt: HostRuntime) -> Result<(), Fail> {
     let mut lock = RwLock::new(rt.alloc(), 4)?;
     let (one, other) = (UnitNo(0), UnitNo(1));
-    assert!(rt; matches!(lock.unlock(one), Err(RwCode::NotHolder)));
-    assert_eq!(rt; lock.load(one), Err(RwCode::NotHolder));
-    assert_eq!(rt; lock.store(one, 5), RwCode::NotHolder);
+    assert!(rt; matches!(lock.unlock(one), Err(Code::NotHolder)));
+    assert_eq!(rt; lock.load(one), Err(Code::NotHolder));
+    assert_eq!(rt; lock.store(one, 5), Code::NotHolder);
     writes(&rt, rt.alloc(), &mut lock, 0, Went::On)?;
-    writes(&rt, rt.alloc(), &mut lock, 0, Went::Back(RwCode::RwHeld))?;
-    reads(&rt, rt.alloc(), &mut lock, 0, Went::Back(RwCode::RwHeld))?;
-    assert_eq!(rt; lock.store(one, 7), RwCode::Ok);
-    assert_eq!(rt; lock.store(other, 9), RwCode::NotHolder);
-    assert_eq!(rt; lock.load(other), Err(RwCode::NotHolder));
+    writes(&rt, rt.alloc(), &mut lock, 0, Went::Back(Code::RwHeld))?;
+    reads(&rt, rt.alloc(), &mut lock, 0, Went::Back(Code::RwHeld))?;
+    assert_eq!(rt; lock.store(one, 7), Code::Ok);
+    assert_eq!(rt; lock.store(other, 9), Code::NotHolder);
+    assert_eq!(rt; lock.load(other), Err(Code::NotHolder));
     assert_eq!(rt; lock.load(one), Ok(7));
     unlocks(&rt, &mut lock, 0, &[]);
     reads(&rt, rt.alloc(), &mut lock, 1, Went::On)?;
-    writes(&rt, rt.alloc(), &mut lock, 1, Went::Back(RwCode::RwHeld))?;
-    assert_eq!(rt; lock.store(other, 9), RwCode::NotHolder);
+    writes(&rt, rt.alloc(), &mut lock, 1, Went::Back(Code::RwHeld))?;
+    assert_eq!(rt; lock.store(other, 9), Code::NotHolder);
     assert_eq!(rt; lock.load(other), Ok(7));
     Ok(())
 }
 
 // The unit reads at once.
 fn reads_again(rt: &impl Abort, lock: &mut RwLock, unit: Box<Unit>) -> Box<Unit>
-    requires free { IsFree unit.value }
-    requires room { unit.value.owned.number < length lock.old.counts }
-    ensures same { result.value ≡ unit.value }
-    ensures room { length lock.new.counts ≡ length lock.old.counts }
+    requires { IsFree unit.value }
+    ensures { IsFree result.value }
 {
     let answer = lock.rdlock(unit).ok().expect(rt, "it is not refused");
     answer.expect(rt, "it reads")
@@ -147,11 +137,11 @@ fn a_unit_reads_65_535_times(rt: HostRuntime) -> Result<(), Fail> {
     for _ in 0..65_535 {
         reader = reads_again(&rt, &mut lock, reader);
     }
-    reads(&rt, rt.alloc(), &mut lock, 2, Went::Back(RwCode::RwFull))?;
+    reads(&rt, rt.alloc(), &mut lock, 2, Went::Back(Code::RwFull))?;
     reads(&rt, rt.alloc(), &mut lock, 3, Went::On)?;
     unlocks(&rt, &mut lock, 2, &[]);
     reads(&rt, rt.alloc(), &mut lock, 2, Went::On)?;
-    reads(&rt, rt.alloc(), &mut lock, 2, Went::Back(RwCode::RwFull))
+    reads(&rt, rt.alloc(), &mut lock, 2, Went::Back(Code::RwFull))
 }
 
 #[test]
@@ -163,4 +153,24 @@ fn a_unit_that_ended_goes_on_holding(rt: HostRuntime) -> Result<(), Fail> {
     assert_eq!(rt; lock.load(UnitNo(0)), Ok(0));
     unlocks(&rt, &mut lock, 0, &[1]);
     Ok(())
+}
+
+#[test]
+fn the_reads_of_a_unit_without_room_are_not_noted(rt: HostRuntime) -> Result<(), Fail> {
+    let mut lock = RwLock::new(rt.alloc(), 2)?;
+    reads(&rt, rt.alloc(), &mut lock, 2, Went::On)?;
+    assert!(rt; matches!(lock.unlock(UnitNo(2)), Err(Code::NotHolder)));
+    writes(&rt, rt.alloc(), &mut lock, 1, Went::On)
+}
+
+// `rt try --test --fail-alloc N`, for N of 1 and 2, refuses each allocation of `new`.
+#[test]
+fn new_is_a_free_lock_or_out_of_memory(rt: HostRuntime) {
+    match RwLock::new(rt.alloc(), 4) {
+        Ok(mut lock) => {
+            assert_eq!(rt; lock.load(UnitNo(0)), Err(Code::NotHolder));
+            assert!(rt; matches!(lock.unlock(UnitNo(3)), Err(Code::NotHolder)));
+        }
+        Err(want) => assert_eq!(rt; want, Want),
+    }
 }

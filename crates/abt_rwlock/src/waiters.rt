@@ -1,15 +1,15 @@
 //! Who waits for a reader-writer lock.
 
-ghost use Rattle.std.specs.Prelude.{◌≡◌, ◌<◌, [], ◌∷◌, ◌++◌, None, Some, IfNone, IfOk, IfSome, IsTrue, length, replicate};
+ghost use Rattle.std.specs.Prelude.{◌≡◌, [], ◌∷◌, ◌++◌, None, Some, IfNone, IfOk, IfSome, IsTrue, map, replicate, slice_set};
 ghost use Rattle.std.specs.List.{find};
+ghost use Rattle.abt_machine.specs.Monitors.{number_of};
 ghost use Rattle.abt_machine.specs.Pools.{is_unit};
+ghost use Rattle.abt_machine.specs.RwLocks.{first_readers, is_empty, reader_is_first, wants_to_read};
+ghost use Rattle.abt_machine.specs.declared.events.Wish.TheVariants as wish;
 ghost use Rattle.abt_unit.specs.Units.{IsFree};
-ghost use Rattle.abt_rwlock.specs.RwLocks.{first_readers, is_empty, is_first, noted, reader_is_first, wants_to_read};
-ghost use Rattle.abt_rwlock.specs.declared.answers.Wish.TheVariants as wish;
 
-use crate::Wish;
 use abt_chain::Chain;
-use abt_machine::{UnitNo, Want};
+use abt_machine::{UnitNo, Want, Wish};
 use abt_unit::Unit;
 use std::alloc::Global;
 use std::marker::Model;
@@ -52,16 +52,15 @@ impl Waiters {
         self.first.is_none()
     }
 
-    /// The unit is the last that waits.
+    /// The unit is the last that waits. What it wants is noted if there is room for it.
     pub fn push(&mut self, unit: Box<Unit>, wish: Wish)
-        requires free { IsFree unit.value }
-        requires room { unit.value.owned.number < length self.old.wishes }
+        requires { IsFree unit.value }
         ensures units { self.new.units ≡ self.old.units ++ unit.value.owned ∷ [] }
-        ensures wishes { self.new.wishes ≡ noted unit.value.owned.number wish self.old.units self.old.wishes }
+        ensures wishes { self.new.wishes ≡ slice_set self.old.wishes unit.value.owned.number wish }
     {
-        let who = unit.number();
-        if !self.is_first(who) {
-            self.wishes[who.0 as usize] = wish;
+        let place = unit.number().0 as usize;
+        if place < self.wishes.len() {
+            self.wishes[place] = wish;
         }
         match self.first {
             None => self.first = Some(unit),
@@ -82,10 +81,11 @@ impl Waiters {
     }
 
     /// The first waiter comes out if it wants to read.
+    #[tactic(auto, using(crate::proofs::Readers::no_first_readers))]
     pub fn take_reader(&mut self) -> Option<Box<Unit>>
         ensures none { IfNone result ((self.new ≡ self.old) × (first_readers self.old.wishes self.old.units ≡ [])) }
         ensures some { IfSome result (λ unit. self.old.units ≡ unit.value.owned ∷ self.new.units) }
-        ensures reader { IfSome result (λ unit. IsTrue (wants_to_read self.old.wishes unit.value.owned)) }
+        ensures reader { IfSome result (λ unit. IsTrue (wants_to_read self.old.wishes unit.value.owned.number)) }
         ensures free { IfSome result (λ unit. IsFree unit.value) }
         ensures wishes { self.new.wishes ≡ self.old.wishes }
     {
@@ -93,6 +93,23 @@ impl Waiters {
             return None;
         }
         self.take_first()
+    }
+
+    /// All units that wait, in order. The time is that of a walk over them.
+    pub fn into_units(self) -> Chain
+        ensures { result.units ≡ self.units }
+    {
+        let Waiters {
+            wishes: _,
+            first,
+            mut others,
+        } = self;
+        let mut all = Chain::new();
+        if let Some(unit) = first {
+            all.push_back(unit);
+        }
+        others.drain_into(&mut all);
+        all
     }
 
     /// The first waiter of that number. The time is that of a walk over them.
@@ -106,17 +123,8 @@ impl Waiters {
         }
     }
 
-    fn is_first(&self, u: UnitNo) -> bool
-        ensures { result ≡ is_first u.0 self.now.units }
-    {
-        match &self.first {
-            None => false,
-            Some(unit) => unit.number() == u,
-        }
-    }
-
     fn reader_is_first(&self) -> bool
-        ensures { result ≡ reader_is_first self.now.wishes self.now.units }
+        ensures { result ≡ reader_is_first self.now.wishes (map number_of self.now.units) }
     {
         match &self.first {
             None => false,

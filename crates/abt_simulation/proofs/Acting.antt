@@ -1,4 +1,4 @@
--- What is known where a stream acts on the unit in its hand.
+-- What is known if a stream acts on the unit in its hand.
 use Rattle.std.proofs.Common.{◌≡◌, ℕ, ◌<◌, List, length, Some}
 use Rattle.abt_machine.specs.declared.events.Place.TheVariants as place
 use Rattle.abt_machine.specs.declared.operations.OrderShape.{OrderShape}
@@ -20,7 +20,7 @@ pub record IsActing (W : Parts) (Z : List OrderShape) (S : State) (s u : ℕ) : 
   pub no_tray : IsEmpty (InTray s) S.place
   pub no_next : IsEmpty (InNext s) S.place
 
--- where something is due for the unit in hand
+-- if something is due for the unit in hand
 pub acting : (W : Parts) (Z : List OrderShape) (S : State) (s u : ℕ) (d : Due) → Sound W Z S → due W S s ≡ d → AfterTray d → AfterNext d → hand W S s ≡ Some u → IsActing W Z S s u
 acting W Z S s u d sound is tray next in_hand =
     let at : StandsIn W S (InHand s) u = first-stands W S (InHand s) u in_hand in

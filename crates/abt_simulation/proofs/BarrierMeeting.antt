@@ -190,6 +190,7 @@ deeds (site.Monitor x) = tt
 deeds (site.Eventual x) = tt
 deeds (site.Future x) = tt
 deeds (site.Barrier x) = barrier-deeds x.0
+deeds (site.Rw x) = tt
 
 -- The courses of the streams.
 
@@ -351,6 +352,7 @@ legal (site.Monitor x) = (tt, refl)
 legal (site.Eventual x) = (tt, refl)
 legal (site.Future x) = (tt, refl)
 legal (site.Barrier x) = legal-barrier x.0
+legal (site.Rw x) = (tt, refl)
 
 -- so logs and histories are gathered from the start
 gathered : Gathered (machine_of meeting no_orders) (part_of meeting (start meeting)) (object_of meeting (start meeting)) logs histories parts objects

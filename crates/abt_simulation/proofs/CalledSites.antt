@@ -66,6 +66,11 @@ plan-site W s (op.FuSet x) o = refl
 plan-site W s (op.FuReset x) o = refl
 plan-site W s (op.FuTest x) o = refl
 plan-site W s (op.BarWait x) o = refl
+plan-site W s (op.ReadLock x) o = refl
+plan-site W s (op.WriteLock x) o = refl
+plan-site W s (op.RwUnlock x) o = refl
+plan-site W s (op.RwLoad x) o = refl
+plan-site W s (op.RwStore x) o = refl
 
 -- what is heard comes from the site of the plan
 performs-site : (old : Held) (a : Op) (o : Owned) (plan : Plan) (heard : Option Heard) (c : Code) (new : Held) → Performs old a o plan heard c new → site_heard heard ≡ plan_site plan

@@ -10,7 +10,7 @@ use Rattle.abt_machine.specs.Workloads.{mutex_of, mutex_from, condition_number, 
 use Rattle.abt_machine.specs.Values.{conditions_from, conditions_of}
 use Rattle.abt_laws.proofs.Lists.{EachOf, EachOf-then, Among}
 use Rattle.abt_laws.proofs.Options.{none≢some, some-injective}
-use Rattle.abt_simulation.proofs.Pushes.{IsDistinct, EachOf-among}
+use Rattle.abt_laws.proofs.Pushes.{IsDistinct, EachOf-among}
 
 -- Where it stands.
 

@@ -36,7 +36,7 @@ use Rattle.abt_laws.proofs.SoundSteps.{waiting-below}
 use Rattle.abt_laws.proofs.Standing.{StandsIn, each-stands}
 use Rattle.abt_simulation.proofs.Acting.{IsActing}
 use Rattle.abt_simulation.proofs.OwnParts.{IsOff, off-object, hand-elsewhere, hand-only, away-first, away-other, standing-distinct, distinct-first, moving}
-use Rattle.abt_simulation.proofs.Shapes.{none-to_tray, others, owned-others, blocks-part, line-joined, line-first_woken, line-same}
+use Rattle.abt_simulation.proofs.Shapes.{none-to_tray, others, first-and-others, owned-others, blocks-part, line-joined, line-first_woken, line-same}
 use Rattle.abt_simulation.proofs.Conditions.{conditions-declared}
 use Rattle.abt_simulation.proofs.ConditionLists.{conditions-distinct, get-map, map-changed, condition-at}
 use Rattle.abt_simulation.proofs.Rows.{ValueDone, Row, ValueRow, row-by_value, mutex-at, refuses}
@@ -62,10 +62,6 @@ first-admitted o os m free = ap (all_admitted os) (ap (λ w. admitted_by w o m) 
 first-alone-owned : (S : State) (us : List ℕ) → first_alone (map (owned_at S) us) ≡ map (owned_at S) (first_alone us)
 first-alone-owned S [] = refl
 first-alone-owned S (u ∷ us) = refl
-
-first-and-others : (us : List ℕ) → us ≡ first_alone us ++ others us
-first-and-others [] = refl
-first-and-others (u ∷ us) = refl
 
 -- whom a stream wakes of those that go to a mutex
 abbrev woken_by : Option ℕ → List ℕ → List ℕ
@@ -95,7 +91,7 @@ module _ (W : Parts) (Z : List OrderShape) (S : State) (s u : ℕ) (acts : IsAct
   waiters-are : at_condition k (value S) ≡ waiters_at W S x
   waiters-are = ap list_from (get-map (waiters_at W S) (conditions_of W m) k x at)
 
-  -- where all other conditions stay
+  -- if all other conditions stay
   one-changed : (T : State) → ((y : ℕ) → y ≢ m → y ≢ x → waiters_at W T y ≡ waiters_at W S y) → (os : List Owned) → waiters_at W T x ≡ os → map (waiters_at W T) (conditions_of W m) ≡ set (value S).conds k os
   one-changed T same os here =
       map-changed (waiters_at W T) (waiters_at W S) k x (conditions_of W m) (conditions-distinct W m) at

@@ -1,4 +1,4 @@
--- Look and End: where a desk answers so, they are events.
+-- Look and End: if a desk answers so, they are events.
 use Rattle.std.proofs.Common.{◌≡◌, ◌≢◌, ℕ, ◌<◌, ◌==◌, Bool, true, false, List, [], ◌∷◌, ◌++◌, length, map, Option, Some, None, refl, sym, ◌∙◌, ap, inl, inr}
 use Rattle.std.specs.Prelude.{◌&&◌}
 use Rattle.std.proofs.lemmas.Bool.{cond-true, eq-eqb}
@@ -34,18 +34,19 @@ use Rattle.abt_laws.proofs.LineMoves.{tray_moves-each, tray_moves-key}
 use Rattle.abt_laws.proofs.Standing.{StandsIn, first-stands}
 use Rattle.abt_laws.proofs.Dues.{due-no_tray}
 use Rattle.abt_laws.proofs.DueParts.{due-same}
+use Rattle.abt_laws.proofs.Pushes.{each-among}
+use Rattle.abt_laws.proofs.LinesAfter.{line_at, line-left, line-gets, line-empty, all_but, all_but-first}
 use Rattle.abt_simulation.proofs.Acting.{IsActing, acting}
-use Rattle.abt_simulation.proofs.LinesAfter.{line_at, line-left, line-gets, line-empty, all_but, all_but-first}
 use Rattle.abt_simulation.proofs.OwnedLines.{Head, head-of, owned-stays, owned-emptied, owned-joined}
 use Rattle.abt_simulation.proofs.OwnParts.{IsAway, off-nowhere, alone-standing, away-line, away-other, standing-distinct, next-standing, away-declared, away-loose, part-empties}
-use Rattle.abt_simulation.proofs.Shapes.{each-among, none-to_tray}
+use Rattle.abt_simulation.proofs.Shapes.{none-to_tray}
 use Rattle.abt_simulation.proofs.Simulated.{Simulated}
 
 module _ (W : Parts) (Z : List OrderShape) (S : State) (s : ℕ) (sound : Sound W Z S) (object : Object) (o : Owned) where
   -- End.
 
   module _ (cause : Cause) (acts : IsActing W Z S s o.number) where
-    -- a desk takes back its own unit, where it is in a hand
+    -- a desk takes back its own unit, if it is in a hand
     takes-own : takes_back (desk_value W S o.number) o ≡ true
     takes-own = ap (λ pl. is_out (phase_at (owned_at S o.number) pl) && o.number == o.number) acts.in_hand ∙ eq-eqb o.number o.number refl
 
@@ -81,7 +82,7 @@ module _ (W : Parts) (Z : List OrderShape) (S : State) (s : ℕ) (sound : Sound 
           migratable = (d i).migratable;
         }
 
-  -- an end, where the desk answers with its joiners
+  -- an end, if the desk answers with its joiners
   pub simulate-end : (cause : Cause) (os : List Owned) → due_of W s (part_of W S s) ≡ EndDue cause → first (owned_in W S (InHand s)) ≡ Some o → SiteGives (object_of W S (site.Desk (unit_no o.number))) (act.End o cause) (act.Woke os) object →
       Simulated W Z S s (what.End (unit_no o.number) cause) (Some (site.Desk (unit_no o.number), act.End o cause, act.Woke os)) (record (part_of W S s) { hand = None; tray = (part_of W S s).tray ++ os }) object
   simulate-end cause os is hands gives =
@@ -167,7 +168,7 @@ module _ (W : Parts) (Z : List OrderShape) (S : State) (s : ℕ) (sound : Sound 
     look-desk false None = look-desk_by (place.Hand (stream_no s)) (record no_change { streams = (s, marked Plain (S.stream s)) ∷ [] }) (λ q. refl) refl tt
     look-desk false (Some p) = look-desk_by (place.Tray (stream_no s) (tray_end W S s)) (record no_change { carried = (o.number, with_home p (S.carried o.number)) ∷ [] }) (λ q. refl) refl (refl, tt)
 
-  -- a look, where the desk answers with its requests
+  -- a look, if the desk answers with its requests
   pub simulate-look : (b : Bool) (m : Option ℕ) → due_of W s (part_of W S s) ≡ LookDue → first (owned_in W S (InNext s)) ≡ Some o → SiteGives (object_of W S (site.Desk (unit_no o.number))) act.Look (act.Asks b m) object →
       Simulated W Z S s (what.Look (unit_no o.number)) (Some (site.Desk (unit_no o.number), act.Look, act.Asks b m)) (looked (part_of W S s) o b m) object
   simulate-look b m is nexts gives =

@@ -59,7 +59,7 @@ module _ (W : Parts) (Z : List OrderShape) (S : State) (s u : ℕ) (acts : IsAct
   asks-own : (v : ℕ) (d : Desk) → part_of W (changed S (asks S u v d)) s ≡ stepped (part_of W S s) (keeps (moved (owned_at S u)) [])
   asks-own v d = goes-part W Z S s u acts (advanced (S.carried u)) (record no_change { desks = (v, d) ∷ [] })
 
-  -- a desk stays where only what u carries changes
+  -- a desk stays if only what u carries changes
   desk-same : (v : ℕ) → desk_value W (changed S (goes_on S u)) v ≡ desk_value W S v
   desk-same v = value-same W Z S s u acts (site.Desk (unit_no v)) DeskIs (λ T. desk_value W T v) DeskGives (advanced (S.carried u)) (desk-at W v)
 
@@ -133,7 +133,7 @@ module _ (W : Parts) (Z : List OrderShape) (S : State) (s u : ℕ) (acts : IsAct
 
   -- Joining and suspension: u leaves the hand.
 
-  -- where u moves to a place at which its desk is out, the phase of each desk stays
+  -- if u moves to a place at which its desk is out, the phase of each desk stays
   phase-stays : (v : ℕ) (pl : Place) (k : Carried) → ((q : Owned) → phase_at q pl ≡ Out) → phase_at (owned v (put_at S.carried u k v)) (put_at S.place u pl v) ≡ phase_at (owned_at S v) (S.place v)
   phase-stays v pl k out =
       elim (put_at-cases S.place u pl v) [
@@ -141,12 +141,12 @@ module _ (W : Parts) (Z : List OrderShape) (S : State) (s u : ℕ) (acts : IsAct
         | inr x ↦ (λ i. phase_at (owned v (put_at-other S.carried u k v x.0 i)) (x.1 i))
       ]
 
-  -- where v has ended, u goes on
+  -- if v has ended, u goes on
   joins-ended : (v : ℕ) (pl : Place) → is_ended pl ≡ true → joins S u v pl ≡ goes_on S u
   joins-ended v (place.Ended c) e = refl
   joins-ended v _ e = absurd cc
 
-  -- where it has not, u joins it
+  -- if it has not, u joins it
   joins-waits : (v : ℕ) (pl : Place) → is_ended pl ≡ false → joins S u v pl ≡ record (goes_on S u) { moves = (u, place_in (Joining v) (S.join_next v)) ∷ []; join_next = (v, suc (S.join_next v)) ∷ [] }
   joins-waits v (place.Ended c) e = absurd cc
   joins-waits v _ e = refl

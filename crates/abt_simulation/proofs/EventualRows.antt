@@ -31,7 +31,7 @@ module _ (W : Parts) (Z : List OrderShape) (S : State) (s u : ℕ) (acts : IsAct
   abbrev value : State → EventualValue
   value T = eventual_value W T x.0
 
-  -- where only u changes, and perhaps the value, the waiters stay
+  -- if only u changes, and perhaps the value, the waiters stay
   same-waiters : (k : Carried) (c : Change) → waiters_at W (changed S (moving [] ((u, k) ∷ []) c)) x.0 ≡ waiters_at W S x.0
   same-waiters k c = line-same W Z S s u acts (Waiting x.0) tt [] k c tt tt
 

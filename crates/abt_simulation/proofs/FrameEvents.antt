@@ -24,9 +24,9 @@ use Rattle.abt_laws.proofs.Standing.{among-standing, is-declared}
 use Rattle.abt_laws.proofs.SoundChanges.{placed-below}
 use Rattle.abt_laws.proofs.Dues.{due-no_hand, leave-below}
 use Rattle.abt_laws.proofs.DueParts.{due-same}
+use Rattle.abt_laws.proofs.Pushes.{IsDistinct}
+use Rattle.abt_laws.proofs.LinesAfter.{line-left, line-gets, line-empty, all_but, all_but-first, all_but-last}
 use Rattle.abt_simulation.proofs.Acting.{IsActing, acting}
-use Rattle.abt_simulation.proofs.Pushes.{IsDistinct}
-use Rattle.abt_simulation.proofs.LinesAfter.{line-left, line-gets, line-empty, all_but, all_but-first, all_but-last}
 use Rattle.abt_simulation.proofs.Lasts.{IsLast, last-queue}
 use Rattle.abt_simulation.proofs.OwnedLines.{Head, head-of, owned-stays, owned-joined}
 use Rattle.abt_simulation.proofs.OwnParts.{hand-standing, standing-distinct}

@@ -43,11 +43,11 @@ module _ (W : Parts) (Z : List OrderShape) (S : State) (s u : ℕ) (acts : IsAct
   full-is : is_full W S x.0 ≡ ((S.future x.0).filled == n)
   full-is = ap (λ k. (S.future x.0).filled == k) size-is
 
-  -- where only u changes, and perhaps the value, the waiters stay
+  -- if only u changes, and perhaps the value, the waiters stay
   same-waiters : (k : Carried) (d : Change) → waiters_at W (changed S (moving [] ((u, k) ∷ []) d)) x.0 ≡ waiters_at W S x.0
   same-waiters k d = line-same W Z S s u acts (Waiting x.0) tt [] k d tt tt
 
-  -- where only u changes
+  -- if only u changes
   same-value : (k : Carried) → value (changed S (goes_with u k)) ≡ value S
   same-value k = ap (λ os. record (value S) { waiters = os }) (same-waiters (advanced k) no_change)
 

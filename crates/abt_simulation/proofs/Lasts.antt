@@ -4,7 +4,7 @@ use Rattle.std.proofs.lemmas.Bool.{cond_both}
 use Rattle.abt_machine.specs.Queues.{insert_by_ticket, ticketed_step, ticketed, queue, last}
 use Rattle.abt_laws.proofs.Lists.{EachOf, Among}
 use Rattle.abt_laws.proofs.Options.{none≢some, some-injective}
-use Rattle.abt_simulation.proofs.Filters.{IsRising, IsRising-ticketed}
+use Rattle.abt_laws.proofs.Filters.{IsRising, IsRising-ticketed}
 
 -- each unit has its ticket
 abbrev AllHave : (ℕ → Option ℕ) → List (ℕ × ℕ) → Type 0

@@ -10,11 +10,9 @@ pub mod DeskRows
 pub mod Ends
 pub mod Events
 pub mod EventualRows
-pub mod Filters
 pub mod FrameEvents
 pub mod FutureRows
 pub mod Lasts
-pub mod LinesAfter
 pub mod Merged
 pub mod MergedStamps
 pub mod MonitorRows
@@ -28,8 +26,8 @@ pub mod Passes
 pub mod Phases
 pub mod PoolEvents
 pub mod PoolRows
-pub mod Pushes
 pub mod Rows
+pub mod RwLockRows
 pub mod Shapes
 pub mod Simulated
 pub mod StepEvents

@@ -38,6 +38,7 @@ site-is (site.Monitor x) (site.Monitor y) e = ap (λ n. site.Monitor (object_no 
 site-is (site.Eventual x) (site.Eventual y) e = ap (λ n. site.Eventual (object_no n)) (eqb-true x.0 y.0 e)
 site-is (site.Future x) (site.Future y) e = ap (λ n. site.Future (object_no n)) (eqb-true x.0 y.0 e)
 site-is (site.Barrier x) (site.Barrier y) e = ap (λ n. site.Barrier (object_no n)) (eqb-true x.0 y.0 e)
+site-is (site.Rw x) (site.Rw y) e = ap (λ n. site.Rw (object_no n)) (eqb-true x.0 y.0 e)
 site-is _ _ e = absurd (false≢true e)
 
 -- it holds of each site and itself
@@ -48,6 +49,7 @@ site-self (site.Monitor x) = eq-eqb x.0 x.0 refl
 site-self (site.Eventual x) = eq-eqb x.0 x.0 refl
 site-self (site.Future x) = eq-eqb x.0 x.0 refl
 site-self (site.Barrier x) = eq-eqb x.0 x.0 refl
+site-self (site.Rw x) = eq-eqb x.0 x.0 refl
 
 -- so it tells sites apart
 pub tells-sites : (W : Parts) (Z : List OrderShape) → TellsPlaces (machine_of W Z)

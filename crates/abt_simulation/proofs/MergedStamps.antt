@@ -27,7 +27,7 @@ use Rattle.abt_simulation.proofs.Merged.{deeds-of}
 
 -- A deed calls the site of its event.
 
--- a deed calls the site of its event, or nothing where that has none
+-- a deed calls the site of its event, or nothing if that has none
 abbrev CallsSite : Parts → StreamDeed → Type 0
 CallsSite W d = place_of d ≡ event_site W (event_of d)
 

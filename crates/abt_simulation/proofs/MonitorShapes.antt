@@ -21,8 +21,8 @@ use Rattle.abt_laws.proofs.Maps.{put_at-same}
 use Rattle.abt_laws.proofs.Options.{none≢some, some-injective}
 use Rattle.abt_laws.proofs.Places.{place_in}
 use Rattle.abt_laws.proofs.Standing.{StandsIn, each-stands}
+use Rattle.abt_laws.proofs.LinesAfter.{NoneTo, NoneFrom}
 use Rattle.abt_simulation.proofs.Acting.{IsActing}
-use Rattle.abt_simulation.proofs.LinesAfter.{NoneTo, NoneFrom}
 use Rattle.abt_simulation.proofs.OwnParts.{moving}
 use Rattle.abt_simulation.proofs.Shapes.{line-same}
 use Rattle.abt_simulation.proofs.Conditions.{conditions-declared, map-same}
@@ -58,7 +58,7 @@ pub condition-apart : (W : Parts) (m x : ℕ) → IsMutex W m → thing_at W x �
 condition-apart W m x is cond e = let k : Some (thing.Cond (object_no m)) ≡ Some thing.Mutex = sym cond ∙ (ap (thing_at W) e ∙ is) in absurd cc
 
 module _ (W : Parts) (Z : List OrderShape) (S : State) (s u : ℕ) (acts : IsActing W Z S s u) (m : ℕ) (is : IsMutex W m) where
-  -- where nobody comes to or leaves its conditions, these stay
+  -- if nobody comes to or leaves its conditions, these stay
   pub conditions-stay : (ms : List (ℕ × Place)) (k : Carried) (c : Change) → ((x : ℕ) → x ≢ m → NoneTo (Waiting x) ms × NoneFrom (Waiting x) S.place ms) →
       map (waiters_at W (changed S (moving ms ((u, k) ∷ []) c))) (conditions_of W m) ≡ map (waiters_at W S) (conditions_of W m)
   conditions-stay ms k c apart =

@@ -21,10 +21,10 @@ use Rattle.abt_laws.proofs.Lists.{EachOf, EachOf-map, Among}
 use Rattle.abt_laws.proofs.Maps.{KeyOf, put_at-same, put_all-other, put_all-value}
 use Rattle.abt_laws.proofs.Places.{place_in, same-self}
 use Rattle.abt_laws.proofs.SoundSteps.{waiting-below}
+use Rattle.abt_laws.proofs.Pushes.{EachOf-among, each-among}
 use Rattle.abt_simulation.proofs.Acting.{IsActing}
-use Rattle.abt_simulation.proofs.Pushes.{EachOf-among}
 use Rattle.abt_simulation.proofs.OwnParts.{IsAway, IsLoose, off-object, away-line, away-other, away-loose, standing-distinct, moving, part-keeps}
-use Rattle.abt_simulation.proofs.Shapes.{each-among, blocks-part, line-joined, line-woken}
+use Rattle.abt_simulation.proofs.Shapes.{blocks-part, line-joined, line-woken}
 use Rattle.abt_simulation.proofs.Rows.{ValueDone}
 
 -- Codes.

@@ -15,7 +15,7 @@ use Rattle.abt_machine.specs.Sites.{thing_site}
 use Rattle.abt_machine.specs.State.{State}
 use Rattle.abt_machine.specs.Lines.{Line, InPool, InTray, InHand, InNext, InFrames, Joining, Waiting, standing}
 use Rattle.abt_machine.specs.Changes.{Change, changed}
-use Rattle.abt_machine.specs.Values.{Owned, owned_at, owned_in, part_of, Out, phase_at, desk_value, waiters_at, monitor_value, conditions_of, PoolIs, DeskIs, MonitorIs, EventualIs, FutureIs, BarrierIs, object_of, monitor_at, eventual_at, future_at, barrier_at}
+use Rattle.abt_machine.specs.Values.{Owned, owned_at, owned_in, part_of, Out, phase_at, desk_value, waiters_at, monitor_value, conditions_of, PoolIs, DeskIs, MonitorIs, EventualIs, FutureIs, BarrierIs, RwLockIs, object_of, monitor_at, eventual_at, future_at, barrier_at, rwlock_at}
 use Rattle.abt_laws.specs.Footprint.{Within, holder}
 use Rattle.abt_laws.proofs.Lists.{EachOf-then}
 use Rattle.abt_laws.proofs.Options.{none≢some}
@@ -114,6 +114,10 @@ module _ (W : Parts) (s : ℕ) (S T : State) where
   object-alike (site.Barrier x) alike = by (thing_at W x.0) refl where
     by : (t : Option Thing) → thing_at W x.0 ≡ t → barrier_at W T x.0 t ≡ barrier_at W S x.0 t
     by (Some (thing.Barrier n)) e = ap (λ os. BarrierIs (record { size = n; waiters = os })) (waiters-alike (site.Barrier x) x.0 (Some (thing.Barrier n)) alike e refl)
+    by _ e = refl
+  object-alike (site.Rw x) alike = by (thing_at W x.0) refl where
+    by : (t : Option Thing) → thing_at W x.0 ≡ t → rwlock_at W T x.0 t ≡ rwlock_at W S x.0 t
+    by (Some thing.RwLock) e = λ i. RwLockIs (record { lock = sym (alike.rwlock x.0 refl) i; waiters = waiters-alike (site.Rw x) x.0 (Some thing.RwLock) alike e refl i })
     by _ e = refl
 
 -- A local change of stream s and site x leaves all other parts and objects.

@@ -23,9 +23,9 @@ use Rattle.abt_laws.proofs.Places.{place_in, same-self, line_of, line_of-place_i
 use Rattle.abt_laws.proofs.Arrivals.{IsEmpty, IsBelow-empty}
 use Rattle.abt_laws.proofs.LineMoves.{line_moves-tray, tray_moves-each, tray_moves-places}
 use Rattle.abt_laws.proofs.Standing.{StandsIn, each-stands}
+use Rattle.abt_laws.proofs.Pushes.{IsDistinct, EachOf-among, queue-distinct}
+use Rattle.abt_laws.proofs.LinesAfter.{line_at, stays, stays-key, NoneTo, NoneFrom, line-left, line-stays, line-empty, line-gets_all, empty-after_moves, put_all-append}
 use Rattle.abt_simulation.proofs.Acting.{IsActing}
-use Rattle.abt_simulation.proofs.Pushes.{IsDistinct, EachOf-among, queue-distinct}
-use Rattle.abt_simulation.proofs.LinesAfter.{line_at, stays, stays-key, NoneTo, NoneFrom, line-left, line-stays, line-empty, line-gets_all, empty-after_moves, put_all-append}
 use Rattle.abt_simulation.proofs.OwnedLines.{owned-stays}
 
 -- Lines of a stream, and lines of an object.

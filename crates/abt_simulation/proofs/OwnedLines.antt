@@ -8,6 +8,7 @@ use Rattle.abt_machine.specs.Queues.{first}
 use Rattle.abt_machine.specs.State.{State, Carried}
 use Rattle.abt_machine.specs.Lines.{Line, ticket_in, standing}
 use Rattle.abt_machine.specs.Changes.{Change, changed}
+use Rattle.abt_machine.specs.Monitors.{number_of}
 use Rattle.abt_machine.specs.Values.{Owned, owned_at, owned_in}
 use Rattle.abt_laws.proofs.Lists.{EachOf, EachOf-then}
 use Rattle.abt_laws.proofs.Maps.{KeyOf, put_all-other}
@@ -15,7 +16,7 @@ use Rattle.abt_laws.proofs.Options.{none≢some, some-injective}
 use Rattle.abt_laws.proofs.Queues.{HasTicket, queue-each}
 use Rattle.abt_laws.proofs.Places.{place_in}
 use Rattle.abt_laws.proofs.Arrivals.{IsBelow}
-use Rattle.abt_simulation.proofs.LinesAfter.{NoneTo, NoneFrom, none-from, line-stays, line-emptied, line-gets}
+use Rattle.abt_laws.proofs.LinesAfter.{NoneTo, NoneFrom, none-from, line-stays, line-emptied, line-gets}
 
 -- Lists of units with what they carry.
 
@@ -36,10 +37,20 @@ head-of S (u ∷ us) o e =
     let same : owned_at S u ≡ o = some-injective e in
     subst (Head S (u ∷ us)) same (record { is = refl; owns = refl })
 
--- where there is no unit there is no number
+-- if there is no unit there is no number
 pub nobody-owned : (S : State) (us : List ℕ) → map (owned_at S) us ≡ [] → us ≡ []
 nobody-owned S [] e = refl
 nobody-owned S (u ∷ us) e = absurd cc
+
+-- if each unit carries what it carries in the state, the units are those of their numbers
+pub owned-again : (S : State) (os : List Owned) → EachOf (λ (o : Owned). owned_at S o.number ≡ o) os → map (owned_at S) (map number_of os) ≡ os
+owned-again S [] a = refl
+owned-again S (o ∷ os) a = ap₂ (λ (p : Owned) (ps : List Owned). p ∷ ps) a.0 (owned-again S os a.1)
+
+-- each unit of the state does
+pub owned-each : (S : State) (us : List ℕ) → EachOf (λ (o : Owned). owned_at S o.number ≡ o) (map (owned_at S) us)
+owned-each S [] = tt
+owned-each S (u ∷ us) = (refl, owned-each S us)
 
 -- After a change.
 

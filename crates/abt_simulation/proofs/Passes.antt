@@ -1,7 +1,6 @@
 -- Units go from the line of one object to another: some to a stream's tray, some to the end of the other's line, and the rest stay. Unit u, in the hand of stream s, makes the step.
-use Rattle.std.proofs.Common.{◌≡◌, ◌≢◌, ℕ, suc, ◌<◌, Bool, true, false, List, [], ◌∷◌, ◌++◌, length, map, None, refl, sym, ◌∙◌, ap, subst, ◌⊎◌, inl, inr}
+use Rattle.std.proofs.Common.{◌≡◌, ◌≢◌, ℕ, suc, ◌<◌, true, false, List, [], ◌∷◌, ◌++◌, length, map, None, refl, sym, ◌∙◌, ap, subst, ◌⊎◌, inl, inr}
 use Rattle.std.specs.Prelude.{filter}
-use Rattle.std.proofs.lemmas.Bool.{cond-false}
 use Rattle.std.proofs.lemmas.List.{map-append}
 use Rattle.abt_machine.specs.declared.events.Place.{Place}
 use Rattle.abt_machine.specs.declared.operations.OrderShape.{OrderShape}
@@ -10,59 +9,25 @@ use Rattle.abt_machine.specs.Maps.{put_at, put_all}
 use Rattle.abt_machine.specs.State.{State}
 use Rattle.abt_machine.specs.Carrying.{advanced}
 use Rattle.abt_machine.specs.Lines.{Waiting, ticket_in, standing, tray_end}
-use Rattle.abt_machine.specs.Changes.{Change, changed, to_tray, tray_moves, waiting_moves}
+use Rattle.abt_machine.specs.Changes.{Change, changed, to_tray, waiting_moves}
 use Rattle.abt_machine.specs.Values.{owned_at, part_of, waiters_at}
 use Rattle.abt_machine.specs.Acts.{moved}
 use Rattle.abt_machine.specs.Plans.{keeps}
 use Rattle.abt_machine.specs.Turns.{stepped}
-use Rattle.abt_laws.proofs.Lists.{EachOf, EachOf-then, EachOf-append, Among}
-use Rattle.abt_laws.proofs.LineMoves.{line_moves-waiting, tray_moves-key, tray_moves-each, waiting_moves-each, waiting_moves-places}
+use Rattle.abt_laws.proofs.Lists.{EachOf, EachOf-then, EachOf-append, EachOf-prefix, Among}
+use Rattle.abt_laws.proofs.LineMoves.{line_moves-waiting, tray_moves-among, tray_moves-key, tray_moves-each, waiting_moves-each, waiting_moves-places}
 use Rattle.abt_laws.proofs.Maps.{KeyOf, put_at-same, put_at-other, put_all-other}
 use Rattle.abt_laws.proofs.Places.{same-self}
 use Rattle.abt_laws.proofs.SoundSteps.{waiting-below}
+use Rattle.abt_laws.proofs.Filters.{filter-all}
+use Rattle.abt_laws.proofs.Prefixes.{EachOf-suffix, among-prefix, among-suffix, distinct-prefix, distinct-suffix, distinct-apart, filter-drop}
+use Rattle.abt_laws.proofs.Pushes.{IsDistinct, EachOf-among, each-among}
+use Rattle.abt_laws.proofs.LinesAfter.{line_at, stays, stays-key, stays-other, line-left, line-stays, line-gets_all, put_all-append}
 use Rattle.abt_simulation.proofs.Acting.{IsActing}
-use Rattle.abt_simulation.proofs.Filters.{filter-all}
-use Rattle.abt_simulation.proofs.Pushes.{IsDistinct, EachOf-among}
-use Rattle.abt_simulation.proofs.LinesAfter.{line_at, stays, stays-key, stays-other, line-left, line-stays, line-gets_all, put_all-append}
 use Rattle.abt_simulation.proofs.OwnedLines.{owned-same}
 use Rattle.abt_simulation.proofs.OwnParts.{IsAway, IsOff, off-object, away-line, away-other, standing-distinct, moving, part-keeps}
-use Rattle.abt_simulation.proofs.Shapes.{each-among, none-to_tray, line-same}
+use Rattle.abt_simulation.proofs.Shapes.{none-to_tray, line-same}
 use Rattle.abt_simulation.proofs.MonitorShapes.{waits-elsewhere, line-apart}
-
--- Lists in two parts.
-
-each-front : (P : ℕ → Type 0) (xs ys : List ℕ) → EachOf P (xs ++ ys) → EachOf P xs
-each-front P [] ys a = tt
-each-front P (x ∷ xs) ys a = (a.0, each-front P xs ys a.1)
-
-each-back : (P : ℕ → Type 0) (xs ys : List ℕ) → EachOf P (xs ++ ys) → EachOf P ys
-each-back P [] ys a = a
-each-back P (x ∷ xs) ys a = each-back P xs ys a.1
-
-among-front : (v : ℕ) (xs ys : List ℕ) → Among v xs → Among v (xs ++ ys)
-among-front v [] ys m = absurd m
-among-front v (x ∷ xs) ys m = elim m [ inl e ↦ inl e | inr n ↦ inr (among-front v xs ys n) ]
-
-among-back : (v : ℕ) (xs ys : List ℕ) → Among v ys → Among v (xs ++ ys)
-among-back v [] ys m = m
-among-back v (x ∷ xs) ys m = inr (among-back v xs ys m)
-
-distinct-front : (xs ys : List ℕ) → IsDistinct (xs ++ ys) → IsDistinct xs
-distinct-front [] ys d = tt
-distinct-front (x ∷ xs) ys d = ((λ m. d.0 (among-front x xs ys m)), distinct-front xs ys d.1)
-
-distinct-back : (xs ys : List ℕ) → IsDistinct (xs ++ ys) → IsDistinct ys
-distinct-back [] ys d = d
-distinct-back (x ∷ xs) ys d = distinct-back xs ys d.1
-
--- nobody is in both parts
-distinct-apart : (v : ℕ) (xs ys : List ℕ) → IsDistinct (xs ++ ys) → Among v xs → Among v ys → ⊥
-distinct-apart v [] ys d m n = m
-distinct-apart v (x ∷ xs) ys d m n = elim m [ inl e ↦ d.0 (subst (λ w. Among w (xs ++ ys)) e (among-back v xs ys n)) | inr k ↦ distinct-apart v xs ys d.1 k n ]
-
-filter-drop : (test : ℕ → Bool) (xs ys : List ℕ) → EachOf (λ v. test v ≡ false) xs → filter test (xs ++ ys) ≡ filter test ys
-filter-drop test [] ys a = refl
-filter-drop test (x ∷ xs) ys a = cond-false (test x) _ _ a.0 ∙ filter-drop test xs ys a.1
 
 -- Who moves.
 
@@ -86,10 +51,6 @@ key-waiting : (m t : ℕ) (us : List ℕ) (v : ℕ) → KeyOf v (waiting_moves m
 key-waiting m t [] v k = k
 key-waiting m t (u ∷ us) v k = elim k [ inl e ↦ inl e | inr b ↦ inr (key-waiting m (suc t) us v b) ]
 
-key-tray : (s i : ℕ) (us : List ℕ) (v : ℕ) → KeyOf v (tray_moves s i us) → Among v us
-key-tray s i [] v k = k
-key-tray s i (u ∷ us) v k = elim k [ inl e ↦ inl e | inr b ↦ inr (key-tray s (suc i) us v b) ]
-
 -- Of those that wait at x, these go to the tray of s and then those to the end of the waiters of m.
 module _ (W : Parts) (Z : List OrderShape) (S : State) (s u : ℕ) (acts : IsActing W Z S s u) (x m : ℕ) (apart : x ≢ m) (us ws left : List ℕ) (split : standing W S (Waiting x) ≡ us ++ (ws ++ left)) (c : Change) where
   abbrev moves : List (ℕ × Place)
@@ -105,13 +66,13 @@ module _ (W : Parts) (Z : List OrderShape) (S : State) (s u : ℕ) (acts : IsAct
   all-away = subst (EachOf (IsAway W S s)) split (away-line W S s (Waiting x) tt)
 
   us-away : EachOf (IsAway W S s) us
-  us-away = each-front (IsAway W S s) us (ws ++ left) all-away
+  us-away = EachOf-prefix (IsAway W S s) us (ws ++ left) all-away
 
   ws-away : EachOf (IsAway W S s) ws
-  ws-away = each-front (IsAway W S s) ws left (each-back (IsAway W S s) us (ws ++ left) all-away)
+  ws-away = EachOf-prefix (IsAway W S s) ws left (EachOf-suffix (IsAway W S s) us (ws ++ left) all-away)
 
   left-away : EachOf (IsAway W S s) left
-  left-away = each-back (IsAway W S s) ws left (each-back (IsAway W S s) us (ws ++ left) all-away)
+  left-away = EachOf-suffix (IsAway W S s) ws left (EachOf-suffix (IsAway W S s) us (ws ++ left) all-away)
 
   -- who is in none of a stream's lines carries the same
   same-carried : (vs : List ℕ) → EachOf (IsAway W S s) vs → map (owned_at (changed S passing)) vs ≡ map (owned_at S) vs
@@ -129,7 +90,7 @@ module _ (W : Parts) (Z : List OrderShape) (S : State) (s u : ℕ) (acts : IsAct
   passing-part =
       part-keeps W Z S s u acts (waiting_moves m (S.object_next m) ws) us ((u, advanced (S.carried u)) ∷ []) c
       (waiting_moves-each (λ p. IsOff s (S.place p.0) × IsOff s p.1) (IsAway W S s) m (S.object_next m) ws (λ v t b a. (a.off, off-object s (Waiting m) t tt)) ws-away)
-      (distinct-front us (ws ++ left) all-distinct) us-away (inl refl, tt)
+      (distinct-prefix us (ws ++ left) all-distinct) us-away (inl refl, tt)
       ∙ (λ i. stepped (part_of W S s) (keeps (record { number = u; carried = put_at-same S.carried u (advanced (S.carried u)) i }) (same-carried us us-away i)))
 
   -- The line that they leave.
@@ -139,8 +100,8 @@ module _ (W : Parts) (Z : List OrderShape) (S : State) (s u : ℕ) (acts : IsAct
 
   left-stays : EachOf (λ v. stays moves v ≡ true) left
   left-stays = each-among (λ v. stays moves v ≡ true) left (λ v n. stays-other moves v (λ k. elim (key-either v (waiting_moves m (S.object_next m) ws) (to_tray W S s us) k) [
-    | inl b ↦ distinct-apart v ws left (distinct-back us (ws ++ left) all-distinct) (key-waiting m (S.object_next m) ws v b) n
-    | inr b ↦ distinct-apart v us (ws ++ left) all-distinct (key-tray s (tray_end W S s) us v b) (among-back v ws left n)
+    | inl b ↦ distinct-apart v ws left (distinct-suffix us (ws ++ left) all-distinct) (key-waiting m (S.object_next m) ws v b) n
+    | inr b ↦ distinct-apart v us (ws ++ left) all-distinct (tray_moves-among s (tray_end W S s) us v b) (among-suffix v ws left n)
   ]))
 
   pub passing-left : waiters_at W (changed S passing) x ≡ map (owned_at S) left
@@ -163,12 +124,12 @@ module _ (W : Parts) (Z : List OrderShape) (S : State) (s u : ℕ) (acts : IsAct
   ws-new : (v : ℕ) → Among v ws → (v < length W.units) × (ticket_in (Waiting m) (S.place v) ≡ None)
   ws-new v n =
       let a : IsAway W S s v = EachOf-among (IsAway W S s) ws v ws-away n in
-      (a.declared, EachOf-among (λ w. ticket_in (Waiting m) (S.place w) ≡ None) (us ++ (ws ++ left)) v (none-at m (λ e. apart (sym e))) (among-back v us (ws ++ left) (among-front v ws left n)))
+      (a.declared, EachOf-among (λ w. ticket_in (Waiting m) (S.place w) ≡ None) (us ++ (ws ++ left)) v (none-at m (λ e. apart (sym e))) (among-suffix v us (ws ++ left) (among-prefix v ws left n)))
 
   us-elsewhere : EachOf (λ v. ticket_in (Waiting m) (arrived v) ≡ None) us
   us-elsewhere = each-among (λ v. ticket_in (Waiting m) (arrived v) ≡ None) us (λ v n.
-      ap (ticket_in (Waiting m)) (put_all-other S.place (waiting_moves m (S.object_next m) ws) v (λ k. distinct-apart v us (ws ++ left) all-distinct n (among-front v ws left (key-waiting m (S.object_next m) ws v k))))
-      ∙ EachOf-among (λ w. ticket_in (Waiting m) (S.place w) ≡ None) (us ++ (ws ++ left)) v (none-at m (λ e. apart (sym e))) (among-front v us (ws ++ left) n))
+      ap (ticket_in (Waiting m)) (put_all-other S.place (waiting_moves m (S.object_next m) ws) v (λ k. distinct-apart v us (ws ++ left) all-distinct n (among-prefix v ws left (key-waiting m (S.object_next m) ws v k))))
+      ∙ EachOf-among (λ w. ticket_in (Waiting m) (S.place w) ≡ None) (us ++ (ws ++ left)) v (none-at m (λ e. apart (sym e))) (among-prefix v us (ws ++ left) n))
 
   pub passing-arrived : waiters_at W (changed S passing) m ≡ waiters_at W S m ++ map (owned_at S) ws
   passing-arrived =
@@ -177,7 +138,7 @@ module _ (W : Parts) (Z : List OrderShape) (S : State) (s u : ℕ) (acts : IsAct
       ∙ (line-stays (length W.units) (Waiting m) arrived (to_tray W S s us) (none-to_tray W S s (Waiting m) us tt)
       (tray_moves-each (λ p. ticket_in (Waiting m) (arrived p.0) ≡ None) (λ v. ticket_in (Waiting m) (arrived v) ≡ None) s (tray_end W S s) us (λ v t e. e) us-elsewhere)
       ∙ (ap (λ ms. line_at (length W.units) (Waiting m) (put_all S.place ms)) (line_moves-waiting m (S.object_next m) ws)
-      ∙ line-gets_all (length W.units) (Waiting m) (same-self m) ws (S.object_next m) S.place (distinct-front ws left (distinct-back us (ws ++ left) all-distinct)) ws-new (waiting-below W Z S m acts.sound))))
+      ∙ line-gets_all (length W.units) (Waiting m) (same-self m) ws (S.object_next m) S.place (distinct-prefix ws left (distinct-suffix us (ws ++ left) all-distinct)) ws-new (waiting-below W Z S m acts.sound))))
       ∙ (map-append (owned_at (changed S passing)) (standing W S (Waiting m)) ws
       ∙ (λ i. same-carried (standing W S (Waiting m)) (away-line W S s (Waiting m) tt) i ++ same-carried ws ws-away i))
 
@@ -190,5 +151,5 @@ module _ (W : Parts) (Z : List OrderShape) (S : State) (s u : ℕ) (acts : IsAct
       (waiting_moves-places (λ pl. ticket_in (Waiting y) pl ≡ None) m (S.object_next m) ws (λ t. waits-elsewhere y m t off)) (none-to_tray W S s (Waiting y) us tt))
       (EachOf-append (λ (p : ℕ × Place). ticket_in (Waiting y) (S.place p.0) ≡ None) (waiting_moves m (S.object_next m) ws) (to_tray W S s us)
       (waiting_moves-each (λ p. ticket_in (Waiting y) (S.place p.0) ≡ None) (λ v. ticket_in (Waiting y) (S.place v) ≡ None) m (S.object_next m) ws (λ v t b e. e)
-      (each-front _ ws left (each-back _ us (ws ++ left) (none-at y other))))
-      (tray_moves-each (λ p. ticket_in (Waiting y) (S.place p.0) ≡ None) (λ v. ticket_in (Waiting y) (S.place v) ≡ None) s (tray_end W S s) us (λ v t e. e) (each-front _ us (ws ++ left) (none-at y other))))
+      (EachOf-prefix _ ws left (EachOf-suffix _ us (ws ++ left) (none-at y other))))
+      (tray_moves-each (λ p. ticket_in (Waiting y) (S.place p.0) ≡ None) (λ v. ticket_in (Waiting y) (S.place v) ≡ None) s (tray_end W S s) us (λ v t e. e) (EachOf-prefix _ us (ws ++ left) (none-at y other))))

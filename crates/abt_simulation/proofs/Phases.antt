@@ -11,7 +11,7 @@ use Rattle.abt_machine.specs.Desks.{unborn_in, suspended_in, ended_in, has_ended
 use Rattle.abt_laws.proofs.Options.{none≢some, some-injective}
 use Rattle.abt_laws.proofs.Places.{line_of}
 
--- the unit where the test holds
+-- the unit if the test holds
 abbrev pub if_so : Bool → Owned → Option Owned
 if_so b o = if b then Some o else None
 
@@ -52,12 +52,12 @@ ended_in-at o _ = refl
 
 -- Units that such a test finds.
 
--- it is found where the test holds
+-- it is found if the test holds
 pub so-some : (b : Bool) (o p : Owned) → if_so b o ≡ Some p → (b ≡ true) × (o ≡ p)
 so-some true o p e = (refl, some-injective e)
 so-some false o p e = absurd (none≢some e)
 
--- it is not found where the test fails
+-- it is not found if the test fails
 pub so-none : (b : Bool) (o : Owned) → if_so b o ≡ None → b ≡ false
 so-none true o e = absurd (none≢some (sym e))
 so-none false o e = refl

@@ -1,4 +1,4 @@
--- Take, Miss and Put: where a pool answers so, they are events.
+-- Take, Miss and Put: if a pool answers so, they are events.
 use Rattle.std.proofs.Common.{◌≡◌, ℕ, Bool, true, false, List, [], ◌∷◌, ◌++◌, length, map, Some, None, refl, sym, ◌∙◌, ap, subst}
 use Rattle.abt_machine.specs.declared.events.Place.{Place}
 use Rattle.abt_machine.specs.declared.events.Place.TheVariants as place
@@ -32,14 +32,14 @@ use Rattle.abt_laws.proofs.Standing.{StandsIn, front-stands, first-stands}
 use Rattle.abt_laws.proofs.SoundChanges.{placed-below}
 use Rattle.abt_laws.proofs.Dues.{due-no_next}
 use Rattle.abt_laws.proofs.DueParts.{due-same}
-use Rattle.abt_simulation.proofs.Pushes.{IsDistinct}
-use Rattle.abt_simulation.proofs.LinesAfter.{line-left, line-gets, line-empty, all_but, all_but-first, all_but-last}
+use Rattle.abt_laws.proofs.Pushes.{IsDistinct}
+use Rattle.abt_laws.proofs.LinesAfter.{line-left, line-gets, line-empty, all_but, all_but-first, all_but-last}
 use Rattle.abt_simulation.proofs.Ends.{AtFront, at-front, AtBack, at-back, last-append}
 use Rattle.abt_simulation.proofs.OwnedLines.{nobody-owned, owned-stays, owned-joined}
 use Rattle.abt_simulation.proofs.OwnParts.{IsOwn, IsOff, off-object, standing-distinct}
 use Rattle.abt_simulation.proofs.Simulated.{Simulated}
 
--- What a pool gives.
+-- What a pool answers.
 
 -- unit o is the one that is taken, and the others are left
 pub record Fronted (S : State) (k : Kind) (own : Bool) (us : List ℕ) (o : Owned) (os : List Owned) : Type 0 where
@@ -83,7 +83,7 @@ no-front kind.Deque true us e = ap last e
 -- Events at pool p.
 
 module _ (W : Parts) (Z : List OrderShape) (S : State) (s p : ℕ) (sound : Sound W Z S) (object : Object) where
-  -- a miss, where the pool answers so
+  -- a miss, if the pool answers so
   pub simulate-miss : due_of W s (part_of W S s) ≡ RoundDue → IsNextPool W Z (S.stream s).top p → SiteGives (object_of W S (site.Pool (pool_no p))) (act.Take (side_of W s p)) act.Miss object →
       Simulated W Z S s (what.Miss (pool_no p)) (Some (site.Pool (pool_no p), act.Take (side_of W s p), act.Miss)) (record (part_of W S s) { own = round_missed W p (S.stream s) }) object
   simulate-miss is order gives = record {
@@ -92,7 +92,7 @@ module _ (W : Parts) (Z : List OrderShape) (S : State) (s p : ℕ) (sound : Soun
     called = ap PoolIs (sym gives.2.2) ∙ sym gives.1;
   }
 
-  -- a take of the unit that the pool gives
+  -- a take of the unit that the pool answers with
   pub simulate-take : (o : Owned) → due_of W s (part_of W S s) ≡ RoundDue → IsNextPool W Z (S.stream s).top p → SiteGives (object_of W S (site.Pool (pool_no p))) (act.Take (side_of W s p)) (act.Given o) object →
       Simulated W Z S s (what.Take (pool_no p) (unit_no o.number)) (Some (site.Pool (pool_no p), act.Take (side_of W s p), act.Given o)) (record (part_of W S s) { own = round_taken (S.stream s); next = Some o }) object
   simulate-take o is order gives =

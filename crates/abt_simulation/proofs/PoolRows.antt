@@ -33,10 +33,10 @@ use Rattle.abt_laws.proofs.Options.{none≢some, some-injective}
 use Rattle.abt_laws.proofs.Places.{same-self}
 use Rattle.abt_laws.proofs.Arrivals.{IsBelow-empty}
 use Rattle.abt_laws.proofs.Standing.{StandsIn, each-stands, among-standing}
+use Rattle.abt_laws.proofs.Pushes.{IsDistinct, EachOf-among}
+use Rattle.abt_laws.proofs.LinesAfter.{stays, stays-key, line-left, line-stays, line-gets, line-empty, all_but, all_but-none}
+use Rattle.abt_laws.proofs.Filters.{EachOf-filter}
 use Rattle.abt_simulation.proofs.Acting.{IsActing}
-use Rattle.abt_simulation.proofs.Pushes.{IsDistinct, EachOf-among}
-use Rattle.abt_simulation.proofs.LinesAfter.{stays, stays-key, line-left, line-stays, line-gets, line-empty, all_but, all_but-none}
-use Rattle.abt_simulation.proofs.Filters.{EachOf-filter}
 use Rattle.abt_simulation.proofs.OwnedLines.{owned-same, owned-stays, carried-stays}
 use Rattle.abt_simulation.proofs.OwnParts.{IsOff, off-object, hand-only, hand-standing, tray-standing, tray-filled, away-other, standing-distinct}
 use Rattle.abt_simulation.proofs.Shapes.{owned}
@@ -53,7 +53,7 @@ found-among S v (w ∷ ws) o e =
       | inr other ↦ (let later : Among v ws × (owned_at S v ≡ o) = found-among S v ws o (sym (cond-false (w == v) _ _ (ne_eqb w v other)) ∙ e) in (inr later.0, later.1))
     ]
 
--- where none is found, none stands there
+-- if none is found, none stands there
 found-none : (S : State) (v : ℕ) (us : List ℕ) → find (is_unit v) (map (owned_at S) us) ≡ None → Among v us → ⊥
 found-none S v [] e m = m
 found-none S v (w ∷ ws) e m =

@@ -1,4 +1,4 @@
--- What a row owes: where the called object answers so, the step's code, the stream's own part and that object are as the effect of the answer says. Unit u, in the hand of stream s, makes the step.
+-- What a row owes: if the called object answers so, the step's code, the stream's own part and that object are as the effect of the answer says. Unit u, in the hand of stream s, makes the step.
 use Rattle.std.proofs.Common.{◌≡◌, ℕ, List, [], ◌∷◌, Option, Some, None, refl, sym, ◌∙◌, ap, subst}
 use Rattle.abt_machine.specs.declared.events.Code.{Code}
 use Rattle.abt_machine.specs.declared.events.Code.TheVariants as code
@@ -11,14 +11,14 @@ use Rattle.abt_machine.specs.declared.operations.Thing.TheVariants as thing
 use Rattle.abt_machine.specs.declared.workload.Parts.{Parts}
 use Rattle.abt_machine.specs.Numbers.{pool_no, unit_no, object_no}
 use Rattle.abt_machine.specs.Workloads.{thing_at}
-use Rattle.abt_machine.specs.Operations.{IsMutex, IsEventual}
+use Rattle.abt_machine.specs.Operations.{IsMutex, IsEventual, IsRwLock}
 use Rattle.abt_machine.specs.State.{State, Carried}
 use Rattle.abt_machine.specs.Carrying.{refused}
 use Rattle.abt_machine.specs.Lines.{hand}
 use Rattle.abt_machine.specs.Changes.{no_change, changed}
 use Rattle.abt_machine.specs.Codes.{code_of}
 use Rattle.abt_machine.specs.Steps.{step_row}
-use Rattle.abt_machine.specs.Values.{owned_at, part_of, Object, object_of, PoolIs, DeskIs, MonitorIs, EventualIs, FutureIs, BarrierIs, pool_value, desk_value, monitor_value, eventual_value, future_value, barrier_value, monitor_at, eventual_at, future_at, barrier_at}
+use Rattle.abt_machine.specs.Values.{owned_at, part_of, Object, object_of, PoolIs, DeskIs, MonitorIs, EventualIs, FutureIs, BarrierIs, RwLockIs, pool_value, desk_value, monitor_value, eventual_value, future_value, barrier_value, rwlock_value, monitor_at, eventual_at, future_at, barrier_at, rwlock_at}
 use Rattle.abt_machine.specs.Acts.{Act, Answer}
 use Rattle.abt_machine.specs.Plans.{Effect, refusal, effect_of}
 use Rattle.abt_machine.specs.Turns.{stepped}
@@ -28,6 +28,7 @@ use Rattle.abt_machine.specs.Monitors.{MonitorGives}
 use Rattle.abt_machine.specs.Eventuals.{EventualGives}
 use Rattle.abt_machine.specs.Futures.{FutureGives}
 use Rattle.abt_machine.specs.Barriers.{BarrierGives}
+use Rattle.abt_machine.specs.RwLocks.{RwLockGives}
 use Rattle.abt_machine.specs.Gives.{SiteGives}
 use Rattle.abt_laws.proofs.Options.{none≢some}
 use Rattle.abt_laws.proofs.Codes.{IsRefusal}
@@ -103,6 +104,10 @@ module _ (W : Parts) where
   -- barrier x
   pub barrier-at : (x n : ℕ) → thing_at W x ≡ Some (thing.Barrier n) → IsAt W (site.Barrier (object_no x)) BarrierIs (λ T. barrier_value W T x n) BarrierGives
   barrier-at x n is = record { here = λ T. ap (barrier_at W T x) is; answers = λ old asked b new g. g; one = λ v w e. cc }
+
+  -- reader-writer lock x
+  pub rwlock-at : (x : ℕ) → IsRwLock W x → IsAt W (site.Rw (object_no x)) RwLockIs (λ T. rwlock_value W T x) RwLockGives
+  rwlock-at x is = record { here = λ T. ap (rwlock_at W T x) is; answers = λ old asked b new g. g; one = λ v w e. cc }
 
 -- Steps that change nothing but what u carries.
 

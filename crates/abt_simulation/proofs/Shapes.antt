@@ -1,11 +1,8 @@
 -- What most steps do: the unit in hand goes on, and perhaps wakes others; or it leaves the hand for an object's line, and perhaps wakes others. Unit u, in the hand of stream s, makes the step.
-use Rattle.std.proofs.Common.{◌≡◌, ◌≢◌, ℕ, suc, List, [], ◌∷◌, ◌++◌, length, map, Some, None, refl, ◌∙◌, ap, inl, inr}
-use Rattle.std.specs.Prelude.{filter}
+use Rattle.std.proofs.Common.{◌≡◌, ◌≢◌, ℕ, suc, List, [], ◌∷◌, ◌++◌, length, map, Some, None, refl, ◌∙◌, ap, subst, inl}
 use Rattle.abt_machine.specs.declared.events.Place.{Place}
-use Rattle.abt_machine.specs.declared.events.Place.TheVariants as place
 use Rattle.abt_machine.specs.declared.operations.OrderShape.{OrderShape}
 use Rattle.abt_machine.specs.declared.workload.Parts.{Parts}
-use Rattle.abt_machine.specs.Numbers.{stream_no}
 use Rattle.abt_machine.specs.Maps.{put_at, put_all}
 use Rattle.abt_machine.specs.Queues.{first_alone}
 use Rattle.abt_machine.specs.State.{State, Carried}
@@ -15,21 +12,17 @@ use Rattle.abt_machine.specs.Monitors.{rest}
 use Rattle.abt_machine.specs.Values.{Owned, owned_at, owned_in, part_of}
 use Rattle.abt_machine.specs.Plans.{keeps, empties}
 use Rattle.abt_machine.specs.Turns.{stepped}
-use Rattle.abt_laws.proofs.Lists.{EachOf, EachOf-then, Among}
+use Rattle.abt_laws.proofs.Lists.{EachOf, EachOf-then}
 use Rattle.abt_laws.proofs.Maps.{KeyOf, put_at-same, put_at-other}
 use Rattle.abt_laws.proofs.Places.{place_in}
 use Rattle.abt_laws.proofs.Arrivals.{IsBelow}
-use Rattle.abt_laws.proofs.LineMoves.{tray_moves-places, tray_moves-key}
+use Rattle.abt_laws.proofs.LineMoves.{tray_moves-among, tray_moves-places, tray_moves-key}
+use Rattle.abt_laws.proofs.Prefixes.{EachOf-suffix}
+use Rattle.abt_laws.proofs.Pushes.{IsDistinct, each-among}
+use Rattle.abt_laws.proofs.LinesAfter.{line_at, line-behind, NoneTo, NoneFrom, line-stays, put_all-append}
 use Rattle.abt_simulation.proofs.Acting.{IsActing}
-use Rattle.abt_simulation.proofs.Pushes.{IsDistinct}
-use Rattle.abt_simulation.proofs.LinesAfter.{all_but-first, line_at, stays, NoneTo, NoneFrom, line-left, line-stays, put_all-append}
 use Rattle.abt_simulation.proofs.OwnedLines.{owned-same, carried-stays, owned-stays, owned-emptied, owned-joined}
-use Rattle.abt_simulation.proofs.OwnParts.{IsObjects, IsOff, IsAway, hand-elsewhere, tray-elsewhere, standing-distinct, moving, part-keeps, part-empties, away-other, away-declared, away-loose, hand-only}
-
--- what holds of all that are among them holds of each
-pub each-among : (P : ℕ → Type 0) (us : List ℕ) → ((v : ℕ) → Among v us → P v) → EachOf P us
-each-among P [] h = tt
-each-among P (u ∷ us) h = (h u (inl refl), each-among P us (λ v m. h v (inr m)))
+use Rattle.abt_simulation.proofs.OwnParts.{IsObjects, IsOff, IsAway, hand-elsewhere, tray-elsewhere, moving, part-keeps, part-empties, away-other, away-declared, away-loose, hand-only}
 
 -- all numbers but the first
 abbrev pub others : List ℕ → List ℕ
@@ -49,13 +42,13 @@ owned u k = record { number = u; carried = k }
 pub none-to_tray : (W : Parts) (S : State) (s : ℕ) (l : Line) (us : List ℕ) → IsObjects l → NoneTo l (to_tray W S s us)
 none-to_tray W S s l us objects = tray_moves-places (λ pl. ticket_in l pl ≡ None) s (tray_end W S s) us (λ t. tray-elsewhere s t l objects)
 
--- the first of a line is gone
-pub others-stay : (s i : ℕ) (us : List ℕ) → IsDistinct us → filter (stays (tray_moves s i (first_alone us))) us ≡ others us
-others-stay s i [] d = refl
-others-stay s i (u ∷ us) d = all_but-first u (place.Tray (stream_no s) i) us d
+-- the first and the others
+pub first-and-others : (us : List ℕ) → us ≡ first_alone us ++ others us
+first-and-others [] = refl
+first-and-others (u ∷ us) = refl
 
 module _ (W : Parts) (Z : List OrderShape) (S : State) (s u : ℕ) (acts : IsActing W Z S s u) where
-  -- who is away carries the same where only u's own changes
+  -- who is away carries the same if only u's own changes
   away-same : (k : Carried) (us : List ℕ) → EachOf (IsAway W S s) us → EachOf (λ v. put_at S.carried u k v ≡ S.carried v) us
   away-same k us away = EachOf-then (IsAway W S s) (λ v. put_at S.carried u k v ≡ S.carried v) us (λ v a. put_at-other S.carried u k v (away-other W Z S s u acts v a.off)) away
 
@@ -106,17 +99,19 @@ module _ (W : Parts) (Z : List OrderShape) (S : State) (s u : ℕ) (acts : IsAct
         owned-emptied W S (moving (to_tray W S s (standing W S l)) cs c) l (none-to_tray W S s l (standing W S l) objects)
         (each-among (λ v. KeyOf v (to_tray W S s (standing W S l))) (standing W S l) (λ v m. tray_moves-key s (tray_end W S s) (standing W S l) v m))
 
+    -- a prefix of the line is woken, and before that nobody of the line moves
+    pub line-prefix_woken : (us left : List ℕ) → standing W S l ≡ us ++ left → (pre : List (ℕ × Place)) (k : Carried) (c : Change) → NoneTo l pre → NoneFrom l S.place pre →
+        owned_in W (changed S (moving (pre ++ to_tray W S s us) ((u, k) ∷ []) c)) l ≡ map (owned_at S) left
+    line-prefix_woken us left split pre k c to from =
+        let d : Change = moving (pre ++ to_tray W S s us) ((u, k) ∷ []) c in
+        ap (map (owned_at (changed S d)))
+        (ap (line_at (length W.units) l) (put_all-append S.place pre (to_tray W S s us))
+        ∙ line-behind (length W.units) l (put_all S.place pre) (to_tray W S s us) us left (none-to_tray W S s l us objects) (line-stays (length W.units) l S.place pre to from ∙ split)
+        (tray_moves-key s (tray_end W S s) us) (tray_moves-among s (tray_end W S s) us))
+        ∙ owned-same S (changed S d) left (EachOf-suffix _ us left (subst (EachOf (λ v. (changed S d).carried v ≡ S.carried v)) split (carried-stays W S d l (not-in, tt))))
+
     -- the first of the line is woken, and before that nobody of the line moves
     pub line-first_woken : (pre : List (ℕ × Place)) (k : Carried) (c : Change) → NoneTo l pre → NoneFrom l S.place pre →
         owned_in W (changed S (moving (pre ++ to_tray W S s (first_alone (standing W S l))) ((u, k) ∷ []) c)) l ≡ rest (owned_in W S l)
     line-first_woken pre k c to from =
-        let d : Change = moving (pre ++ to_tray W S s (first_alone (standing W S l))) ((u, k) ∷ []) c in
-        ap (map (owned_at (changed S d)))
-        (ap (line_at (length W.units) l) (put_all-append S.place pre (to_tray W S s (first_alone (standing W S l))))
-        ∙ (line-left (length W.units) l (put_all S.place pre) (to_tray W S s (first_alone (standing W S l))) (none-to_tray W S s l (first_alone (standing W S l)) objects)
-        ∙ (ap (filter (stays (to_tray W S s (first_alone (standing W S l))))) (line-stays (length W.units) l S.place pre to from)
-        ∙ others-stay s (tray_end W S s) (standing W S l) (standing-distinct W S l))))
-        ∙ (owned-same S (changed S d) (others (standing W S l)) (each-other _ (standing W S l) (carried-stays W S d l (not-in, tt))) ∙ owned-others S (standing W S l)) where
-          each-other : (P : ℕ → Type 0) (us : List ℕ) → EachOf P us → EachOf P (others us)
-          each-other P [] a = tt
-          each-other P (v ∷ vs) a = a.1
+        line-prefix_woken (first_alone (standing W S l)) (others (standing W S l)) (first-and-others (standing W S l)) pre k c to from ∙ owned-others S (standing W S l)

@@ -20,7 +20,7 @@ use Rattle.abt_simulation.proofs.Others.{parts-stay, objects-stay}
 
 -- Events.
 
--- an event may come, and leaves this part of its stream and, where it called one, this object
+-- an event may come, and leaves this part of its stream and, if it called one, this object
 pub record Simulated (W : Parts) (Z : List OrderShape) (S : State) (s : ℕ) (w : What) (heard : Option Heard) (part : Held) (object : Object) : Type 0 where
   pub may : May W Z S s w
   pub own : part_of W (after W S s w) s ≡ part

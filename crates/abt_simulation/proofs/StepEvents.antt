@@ -45,6 +45,7 @@ use Rattle.abt_simulation.proofs.ConditionRows.{condwait-row, signal-row, broadc
 use Rattle.abt_simulation.proofs.EventualRows.{evwait-row, evset-row, evreset-row, evtest-row}
 use Rattle.abt_simulation.proofs.FutureRows.{fuwait-row, fuset-row, fureset-row, futest-row}
 use Rattle.abt_simulation.proofs.BarrierRows.{barwait-row}
+use Rattle.abt_simulation.proofs.RwLockRows.{readlock-row, writelock-row, rwunlock-row, rwload-row, rwstore-row}
 use Rattle.abt_simulation.proofs.Simulated.{Simulated}
 
 -- Unit u, in the hand of stream s, makes the step with this code.
@@ -130,6 +131,11 @@ module _ (W : Parts) (Z : List OrderShape) (S : State) (s u : ℕ) (acts : IsAct
   step-by-op valid (op.FuReset x) d goes = by-call (op.FuReset x) (site.Future x) _ (fureset-row W Z S s u acts x d) goes
   step-by-op valid (op.FuTest x) d goes = by-call (op.FuTest x) (site.Future x) _ (futest-row W Z S s u acts x d) goes
   step-by-op valid (op.BarWait x) d goes = by-call (op.BarWait x) (site.Barrier x) _ (barwait-row W Z S s u acts x d) goes
+  step-by-op valid (op.ReadLock x) d goes = by-call (op.ReadLock x) (site.Rw x) _ (readlock-row W Z S s u acts x d) goes
+  step-by-op valid (op.WriteLock x) d goes = by-call (op.WriteLock x) (site.Rw x) _ (writelock-row W Z S s u acts x d) goes
+  step-by-op valid (op.RwUnlock x) d goes = by-call (op.RwUnlock x) (site.Rw x) _ (rwunlock-row W Z S s u acts x d) goes
+  step-by-op valid (op.RwLoad x) d goes = by-call (op.RwLoad x) (site.Rw x) _ (rwload-row W Z S s u acts x d) goes
+  step-by-op valid (op.RwStore x) d goes = by-call (op.RwStore x) (site.Rw x) _ (rwstore-row W Z S s u acts x d) goes
 
 -- a step, by its operation
 pub simulate-step : (W : Parts) (Z : List OrderShape) (S : State) (s : ℕ) (heard : Option Heard) (part : Held) (object : Object) (o : Owned) (c : Code) (a : Op) → IsValid W → Sound W Z S →

@@ -43,6 +43,6 @@ pub record JournalCounts (W : Parts) (logs : ℕ → List StreamDeed) (J : List 
 abbrev pub JournalsCount : Parts → List OrderShape → Type 0
 JournalsCount W Z = OfGathered W Z (λ logs histories. (J : List Event) → IsJournalOf logs J → JournalCounts W logs J)
 
--- where stamps leave no gap and each log is shorter than 2^57, no clock of a valid workload's streams and objects is worn
+-- if stamps leave no gap and each log is shorter than 2^57, no clock of a valid workload's streams and objects is worn
 abbrev pub NothingIsWorn : Parts → List OrderShape → Type 0
 NothingIsWorn W Z = IsValid W → OfGathered W Z (λ logs histories. LeavesNoGap logs → ((s : ℕ) → length (logs s) < 2 ^ 57) → NoneWorn (machine_of W Z) logs histories)

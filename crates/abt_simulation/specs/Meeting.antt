@@ -103,7 +103,7 @@ logs (suc (suc s)) = []
 abbrev pub entry : ℕ → ℕ → Act → Answer → SiteEntry
 entry stamp s asked answer = record { stamp = stamp; stream = s; act = asked; answer = answer }
 
--- the pool gives both units, and the first one again
+-- the pool answers with both units, and the first one again
 abbrev pub pool_history : ℕ → List SiteEntry
 pool_history zero =
     entry 1 0 (act.Take side.Front) (act.Given (fresh 0)) ∷ entry 2 1 (act.Take side.Front) (act.Given (fresh 1))
@@ -129,6 +129,7 @@ histories (site.Monitor x) = []
 histories (site.Eventual x) = []
 histories (site.Future x) = []
 histories (site.Barrier x) = barrier_history x.0
+histories (site.Rw x) = []
 
 -- The ends.
 
@@ -169,6 +170,7 @@ objects (site.Monitor x) = object_of meeting (start meeting) (site.Monitor x)
 objects (site.Eventual x) = object_of meeting (start meeting) (site.Eventual x)
 objects (site.Future x) = object_of meeting (start meeting) (site.Future x)
 objects (site.Barrier x) = barrier_object x.0
+objects (site.Rw x) = object_of meeting (start meeting) (site.Rw x)
 
 -- The journal.
 

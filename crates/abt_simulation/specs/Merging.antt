@@ -33,6 +33,7 @@ same_site (site.Monitor x) (site.Monitor y) = x.0 == y.0
 same_site (site.Eventual x) (site.Eventual y) = x.0 == y.0
 same_site (site.Future x) (site.Future y) = x.0 == y.0
 same_site (site.Barrier x) (site.Barrier y) = x.0 == y.0
+same_site (site.Rw x) (site.Rw y) = x.0 == y.0
 same_site x y = false
 
 -- a state's parts are those of its streams, and its objects stand at sites
@@ -85,7 +86,7 @@ pub record LeadsTo (W : Parts) (Z : List OrderShape) (S : State) (J : List Event
   pub parts : (s : ℕ) → s < W.streams → part_of W (state_after W S J) s ≡ ends s
   pub objects : (x : Site) → object_of W (state_after W S J) x ≡ finals x
 
--- from a sound state, where each stream's log is a course of the stream with the answers that it heard, each object's history
+-- from a sound state, if each stream's log is a course of the stream with the answers that it heard, each object's history
 -- is legal, and each call in a log is just one entry of the called object's history, all logs merge into one run, and it
 -- leads to the state that the ends of logs and histories make up
 abbrev pub Merging : Parts → List OrderShape → Type 0
@@ -93,12 +94,12 @@ Merging W Z = IsValid W → OrdersStored W Z → (S : State) → Sound W Z S →
     (logs : ℕ → List StreamDeed) (histories : Site → List SiteEntry) (ends : ℕ → Held) (finals : Site → Object) (J : List Event) →
     Gathered (machine_of W Z) (part_of W S) (object_of W S) logs histories ends finals → IsJournalOf logs J → LeadsTo W Z S J ends finals
 
--- where stamps leave no gap, the merged journal is stamped
+-- if stamps leave no gap, the merged journal is stamped
 abbrev pub MergedIsStamped : Parts → List OrderShape → Type 0
 MergedIsStamped W Z = (parts : ℕ → Held) (objects : Site → Object) (logs : ℕ → List StreamDeed) (histories : Site → List SiteEntry) (ends : ℕ → Held) (finals : Site → Object) (J : List Event) →
     Gathered (machine_of W Z) parts objects logs histories ends finals → LeavesNoGap logs → IsJournalOf logs J → Stamped W J
 
--- where each stamp is one more than the greater of its stream's last and its object's last, the merged journal has
+-- if each stamp is one more than the greater of its stream's last and its object's last, the merged journal has
 -- Lamport's stamps
 abbrev pub MergedIsLamport : Parts → List OrderShape → Type 0
 MergedIsLamport W Z = (parts : ℕ → Held) (objects : Site → Object) (logs : ℕ → List StreamDeed) (histories : Site → List SiteEntry) (ends : ℕ → Held) (finals : Site → Object) (J : List Event) →

@@ -1,4 +1,4 @@
--- Where parts of streams and objects are those of a state, a step of one stream with at most one call is an event of the machine.
+-- If parts of streams and objects are those of a state, a step of one stream with at most one call is an event of the machine.
 use Rattle.std.specs.Prelude.{ℕ, ◌≡◌, ◌≢◌, ◌<◌, List, Option, Some, None}
 use Rattle.abt_machine.specs.declared.events.Event.{Event}
 use Rattle.abt_machine.specs.declared.events.Site.{Site}

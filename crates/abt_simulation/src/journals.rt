@@ -16,7 +16,7 @@ pub fn journals_count()
     ensures { (W : Parts) (Z : List OrderShape) → JournalsCount W Z }
 {}
 
-/// Where stamps leave no gap and logs are short, no clock is worn.
+/// If stamps leave no gap and logs are short, no clock is worn.
 pub fn nothing_is_worn()
     ensures { (W : Parts) (Z : List OrderShape) → NothingIsWorn W Z }
 {}

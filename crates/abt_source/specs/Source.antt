@@ -36,8 +36,8 @@ abbrev pub Took : Option (List ℕ) → Option (List ℕ) → List ℕ → Type 
 Took before now bytes = now ≡ option_map (λ xs. xs ++ bytes) before
 
 -- The sink took a prefix of these bytes, which lacks at least one.
-abbrev pub TookFront : Option (List ℕ) → Option (List ℕ) → List ℕ → Type 0
-TookFront before now bytes = (n : ℕ) × (n < length bytes) × Took before now (take n bytes)
+abbrev pub TookPrefix : Option (List ℕ) → Option (List ℕ) → List ℕ → Type 0
+TookPrefix before now bytes = (n : ℕ) × (n < length bytes) × Took before now (take n bytes)
 
 -- A write took the first bytes of a piece; one that failed took none.
 abbrev pub WriteTakes : Option (List ℕ) → Option (List ℕ) → Result ℕ Failed → List ℕ → Type 0

@@ -1,7 +1,7 @@
 //! A sink that takes bytes, and bytes written whole.
 
 ghost use Rattle.std.specs.Prelude.{◌≡◌, ◌<◌, ◌≤◌, ℕ, List, length, Option, IfOk, OnOk, OnErr};
-ghost use Rattle.abt_source.specs.Source.{Rose, Took, TookFront, WriteTakes};
+ghost use Rattle.abt_source.specs.Source.{Rose, Took, TookPrefix, WriteTakes};
 
 use crate::Failed;
 
@@ -27,7 +27,7 @@ pub trait Sink {
 /// Writes all the bytes.
 pub fn write_whole<K: Sink>(sink: &mut K, bytes: &[u8]) -> Result<(), Failed>
     ensures whole { OnOk result (Took (K.taken sink.old) (K.taken sink.new) bytes.now) }
-    ensures front { OnErr result (TookFront (K.taken sink.old) (K.taken sink.new) bytes.now) }
+    ensures prefix { OnErr result (TookPrefix (K.taken sink.old) (K.taken sink.new) bytes.now) }
     ensures cause { OnErr result (Rose (K.faults sink.old) (K.faults sink.new)) }
     ensures later { K.faults sink.old ≤ K.faults sink.new }
     ensures quiet { OnOk result (K.faults sink.new ≡ K.faults sink.old) }

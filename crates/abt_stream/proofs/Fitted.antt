@@ -31,7 +31,7 @@ use Rattle.abt_stream.specs.Turned.{Made, Turned, Went}
 
 module _ {P : Type 0} (moves : P → Site → ℕ → Act → Told → P → Type 0) (V W : Parts) (same : V ≡ W) (valid : IsValid W) (old : StreamValue) (before : P) (new : StreamValue) (after : P)
     (fits : FitsStream W old) (keeps : Keeps W old new) where
-  -- what was told is the workload's
+  -- what was heard is the workload's
   told : (heard : Option Heard) → Went (Heeds moves V) old.clock before heard new.clock after → Have (Fits W) (IsPoolOf W) (contents_heard heard)
   told None went = (All-nil (Fits W), All-nil (IsPoolOf W))
   told (Some h) went = subst (λ (U : Parts). Have (Fits U) (IsPoolOf U) (contents_answered h.2)) same went.1
@@ -54,7 +54,7 @@ module _ {P : Type 0} (moves : P → Site → ℕ → Act → Told → P → Typ
   turn_fits turn.Spent h = unmoved h.1
   turn_fits turn.Worn h = unmoved h.0
 
-  -- the unit that a pool gave
+  -- the unit that a pool answered with
   given-fits : (o : Owned) → Have (Fits V) (IsPoolOf V) (contents_answered (act.Given o)) → Fits W o
   given-fits o have = subst (λ (U : Parts). Fits U o) same (All-head (Fits V) o [] have.0)
 

@@ -28,7 +28,7 @@ all-grow W n m fs h all = λ k d lt. grows W n m [] _ h (all k d lt)
 longer : (old new : List Event) (e : Event) → new ≡ old ++ e ∷ [] → length old ≤ length new
 longer old new e is = let n : length new ≡ length (old ++ e ∷ []) = ap (λ (l : List Event). length l) is in let m = length-append old (e ∷ []) in omega arith
 
--- where scheduler, round, frames below and order are as before
+-- if scheduler, round, frames below and order are as before
 frames-same : (W : Parts) (old new : StreamValue) (e : Event) → new.log ≡ old.log ++ e ∷ [] → new.top.scheduler ≡ old.top.scheduler → new.top.round ≡ old.top.round
     → new.below ≡ old.below → new.order ≡ old.order → FitsFrames W old → FitsFrames W new
 frames-same W old new e log scheduler round below order fits =
@@ -52,7 +52,7 @@ ahead-of : (order : List PoolNo) (round : ℕ) → order ≢ [] → (n : ℕ) �
 ahead-of [] round some n e = absurd (some refl)
 ahead-of (p ∷ ps) round some n e = e
 
--- where a round has ended: the top frame has the next round, and no order is held
+-- if a round has ended: the top frame has the next round, and no order is held
 round-ended : (W : Parts) (old new : StreamValue) (e : Event) → new.log ≡ old.log ++ e ∷ [] → new.top.scheduler ≡ old.top.scheduler → new.top.round ≡ suc old.top.round
     → new.below ≡ old.below → new.order ≡ [] → old.order ≢ [] → FitsFrames W old → FitsFrames W new
 round-ended W old new e log scheduler round below order some fits =
@@ -78,7 +78,7 @@ front-of W n [] f all = All-nil (IsFrame W n [])
 front-of W n (g ∷ fs) f all =
     All-cons (IsFrame W n []) g fs (All-head (IsFrame W n []) g (fs ++ f ∷ []) all) (front-of W n fs f (All-tail (IsFrame W n []) g (fs ++ f ∷ []) all))
 
--- where a frame is stacked on those that there are
+-- if a frame is stacked on those that there are
 frame-entered : (W : Parts) (g : ℕ) (old new : StreamValue) (e : Event) → new.log ≡ old.log ++ e ∷ [] → IsFresh W g new.top → new.below ≡ old.below ++ old.top ∷ [] → new.order ≡ old.order → old.order ≡ []
     → FitsFrames W old → FitsFrames W new
 frame-entered W g old new e log fresh below order none fits =
@@ -96,7 +96,7 @@ frame-entered W g old new e log fresh below order none fits =
       order = λ holds. absurd (holds empty);
     }
 
--- where the top frame is gone
+-- if the top frame is gone
 frame-left : (W : Parts) (old new : StreamValue) (e : Event) → new.log ≡ old.log ++ e ∷ [] → old.below ≡ new.below ++ new.top ∷ [] → new.order ≡ [] → FitsFrames W old → FitsFrames W new
 frame-left W old new e log below order fits =
     let more = longer old.log new.log e log in

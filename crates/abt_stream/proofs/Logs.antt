@@ -28,7 +28,7 @@ log_written number clock stamp log w is above = record {
 
 -- Steps.
 
--- an event more is counted where it is one
+-- an event more is counted if it is one
 counted : (log : List Event) (e : Event) → steps_in (log ++ e ∷ []) ≡ steps_in log + cond (is_step e.what) 1 0
 counted log e = sum_by_push (λ (f : Event). cond (is_step f.what) 1 0) log e
 

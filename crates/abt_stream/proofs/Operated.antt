@@ -162,5 +162,8 @@ asked_free (says.Fill n) h = tt
 asked_free says.Reset h = tt
 asked_free says.Test h = tt
 asked_free (says.Arrive unit) h = absurd h
+asked_free (says.ReadLock unit) h = absurd h
+asked_free (says.WriteLock unit) h = absurd h
+asked_free (says.RwUnlock u) h = tt
 
 pub ruleset operations = (op_called, op_denied, op_yields, op_exits, op_own, plan_may, own_local, asked_free)

@@ -109,7 +109,7 @@ IsOrderly (p ∷ ps) (work.Running unit) = ⊥
 
 -- Fitting a workload.
 
--- the number of the scheduler's next round: one ahead of the frame's where an order is held
+-- the number of the scheduler's next round: one ahead of the frame's if an order is held
 abbrev pub ahead : List PoolNo → ℕ → ℕ
 ahead [] round = round
 ahead (p ∷ ps) round = suc round

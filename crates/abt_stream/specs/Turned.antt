@@ -19,7 +19,7 @@ use Rattle.abt_stream.specs.declared.turns.Turn.{Turn}
 use Rattle.abt_stream.specs.declared.turns.Turn.TheVariants as turn
 use Rattle.abt_stream.specs.Streams.{StreamValue}
 
--- the pass moved by the call that was made, and stayed where none was; the clock is the event's stamp
+-- the pass moved by the call that was made, and stayed if none was; the clock is the event's stamp
 abbrev pub Went : {P : Type 0} → (P → Site → ℕ → Act → Told → P → Type 0) → ℕ → P → Option Heard → ℕ → P → Type 0
 Went moves at before None stamp after = (stamp ≡ suc at) × (after ≡ before)
 Went moves at before (Some h) stamp after = moves before h.0 at h.1 (Done stamp h.2) after
@@ -32,7 +32,7 @@ IsNextCall W Z s held x asked = (w : What) × (answer : Answer) × (later : Held
 abbrev pub MakesNoCall : Parts → List OrderShape → ℕ → Held → Type 0
 MakesNoCall W Z s held = (w : What) × (later : Held) × Steps W Z s held w None later
 
--- no event, since a clock is at its end: the stream's own where the next event makes no call, else the one that its call met
+-- no event, since a clock is at its end: the stream's own if the next event makes no call, else the one that its call met
 abbrev pub MetEnd : {P : Type 0} → (P → Site → ℕ → Act → Told → P → Type 0) → Parts → List OrderShape → StreamValue → P → P → Type 0
 MetEnd moves W Z s before after =
     (MakesNoCall W Z s.number.0 s.held × (s.clock ≡ 2 ^ 62) × (after ≡ before))

@@ -39,7 +39,7 @@ life-declared W before (l ∷ ls) s life are at = by (l.stream.0 == s) (λ later
   by true later e = subst (λ (x : Life). IsEventual W x.begins.0 × IsEventual W x.ends.0) (some-is e) (are.0.begins, are.0.ends)
   by false later e = later e
 
--- an eventual is ready where the state has its value
+-- an eventual is ready if the state has its value
 ready-same : (W : Parts) (S : State) (x : ℕ) → IsEventual W x → is_ready (object_of W S (site.Eventual (object_no x))) ≡ is_some (S.eventual x)
 ready-same W S x is = ap (λ t. is_ready (eventual_at W S x t)) is
 
@@ -48,7 +48,7 @@ pub declared-life : (W : Parts) (lives : List Life) (s : ℕ) (life : Life) → 
 declared-life W lives s life are at = life-declared W [] lives s life are at
 
 module _ (W : Parts) (lives : List Life) (are : AreLives W lives) (S : State) (objects : Site → Object) (sites : (x : Site) → object_of W S x ≡ objects x) where
-  -- a stream lives by the objects where it does by the state
+  -- a stream lives by the objects if it does by the state
   pub live-same : (s : ℕ) → is_live_with objects lives s ≡ is_live lives S s
   live-same s = by (life_of lives s) refl where
     ready : (x : ℕ) → IsEventual W x → is_ready (objects (site.Eventual (object_no x))) ≡ is_some (S.eventual x)

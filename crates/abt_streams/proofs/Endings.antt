@@ -29,7 +29,7 @@ use Rattle.abt_streams.proofs.Quieted.{quiet-on, quiet-on-seen}
 pub false-is-not : (b : Bool) → b ≡ false → b ≡ true → ⊥
 false-is-not b none is = cc
 
--- nothing is left to do where nothing is left to any stream
+-- nothing is left to do if nothing is left to any stream
 pub quiet-on-all : (W : Parts) (lives : List Life) (streams : List StreamValue) (objects : ObjectsValue) → ((s : ℕ) → s < W.streams → IsQuietOnAt W lives streams objects s) ↔ IsQuietOnWith W lives streams objects
 quiet-on-all W lives streams objects = (
   λ each. record {

@@ -42,7 +42,7 @@ use Rattle.abt_streams.specs.Cutting.{behind, log_lengths}
 use Rattle.abt_streams.specs.Ends.{EndsOn}
 use Rattle.abt_streams.specs.Lives.{AreLives}
 use Rattle.abt_streams.specs.Looks.{IsOutcomeOnLives, is_live_with}
-use Rattle.abt_streams.specs.Runs.{IsUnderWay}
+use Rattle.abt_streams.specs.Runs.{HasLedTo}
 use Rattle.abt_streams.specs.Waves.{HasRunOn, IsWaveOf}
 use Rattle.abt_streams.proofs.Alive.{live-own, numbers-same}
 use Rattle.abt_streams.proofs.Behind.{behind-cut}
@@ -50,14 +50,14 @@ use Rattle.abt_streams.proofs.Joined.{waves-push}
 use Rattle.abt_streams.proofs.OneWave.{wave-journal, wave-leads}
 use Rattle.abt_streams.proofs.Rising.{all-below, all-rise}
 
--- what is known where it went well
+-- what is known if it went well
 pub if-ok : {A E : Type 0} (r : Result A E) (P Q : A → Type 0) → ((a : A) → P a → Q a) → IfOk r P → IfOk r Q
 if-ok (Ok a) P Q more known = more a known
 if-ok (Err e) P Q more known = known
 
 -- at the start nothing has come
 pub under-way-at-start : (W : Parts) (Z : List OrderShape) (n : ℕ) (lives : List Life) (objects : ObjectsValue) (streams : List StreamValue) → IsValid W → OrdersStored W Z → AreStarted W n W.streams streams → ArePlaced W objects →
-    IsUnderWay W Z n lives objects streams [] []
+    HasLedTo W Z n lives objects streams [] []
 under-way-at-start W Z n lives objects streams valid stored all placed =
     let is = is-start W n streams objects all placed in
     record {
@@ -73,7 +73,7 @@ under-way-at-start W Z n lives objects streams valid stored all placed =
     }
 
 -- a wave more
-module _ (W : Parts) (Z : List OrderShape) (n : ℕ) (lives : List Life) (are : AreLives W lives) (objects left : ObjectsValue) (streams after : List StreamValue) (J : List Event) (waves : List Wave) (under : IsUnderWay W Z n lives objects streams J waves)
+module _ (W : Parts) (Z : List OrderShape) (n : ℕ) (lives : List Life) (are : AreLives W lives) (objects left : ObjectsValue) (streams after : List StreamValue) (J : List Event) (waves : List Wave) (under : HasLedTo W Z n lives objects streams J waves)
     (flags : List Bool) (wave : Wave) (from_is : wave.from ≡ length J) (flags_are : flags ≡ map (is_live_with (object_at objects) lives) (range_with_len 0 W.streams)) (numbers_are : wave.streams ≡ filter (is_live_with (object_at objects) lives) (range_with_len 0 W.streams))
     (makes : MakesWave W Z flags (moment_of W streams objects) (moment_of W after left)) (fleet : IsFleet W Z n left after)
     (es : List Event) (merged : MergesTo (log_of (behind after (log_lengths streams))) es) where
@@ -90,7 +90,7 @@ module _ (W : Parts) (Z : List OrderShape) (n : ℕ) (lives : List Life) (are : 
         (is_live_with (object_at objects) lives) flags_are);
   }
 
-  further : IsUnderWay W Z n lives left after (J ++ es) (waves ++ wave ∷ [])
+  further : HasLedTo W Z n lives left after (J ++ es) (waves ++ wave ∷ [])
   further =
       let cut = behind-cut W Z objects left streams after flags makes.wave many in
       let journal = wave-journal W Z fleet.valid fleet.stored J (moment_of W streams objects) (moment_of W after left) under.lead flags makes.wave (log_of (behind after (log_lengths streams))) cut es merged in
@@ -103,11 +103,11 @@ module _ (W : Parts) (Z : List OrderShape) (n : ℕ) (lives : List Life) (are : 
       }
 
   -- it goes on
-  pub goes-on : (K : List Event) (more : List Wave) → K ≡ J ++ es → more ≡ waves ++ wave ∷ [] → IsUnderWay W Z n lives left after K more
+  pub goes-on : (K : List Event) (more : List Wave) → K ≡ J ++ es → more ≡ waves ++ wave ∷ [] → HasLedTo W Z n lives left after K more
   goes-on K more journal_is waves_is =
-      subst (λ (x : List Event). IsUnderWay W Z n lives left after x more) (sym journal_is) (subst (λ (x : List Wave). IsUnderWay W Z n lives left after (J ++ es) x) (sym waves_is) further)
+      subst (λ (x : List Event). HasLedTo W Z n lives left after x more) (sym journal_is) (subst (λ (x : List Wave). HasLedTo W Z n lives left after (J ++ es) x) (sym waves_is) further)
 
-module _ (W : Parts) (Z : List OrderShape) (n : ℕ) (lives : List Life) (objects : ObjectsValue) (streams : List StreamValue) (J : List Event) (waves : List Wave) (under : IsUnderWay W Z n lives objects streams J waves) where
+module _ (W : Parts) (Z : List OrderShape) (n : ℕ) (lives : List Life) (objects : ObjectsValue) (streams : List StreamValue) (J : List Event) (waves : List Wave) (under : HasLedTo W Z n lives objects streams J waves) where
   -- how many steps each stream made
   have-made : HaveMade W J (steps_made streams)
   have-made s lt = under.lead.made s lt ∙ sym (made-same (slice_get streams s))

@@ -16,7 +16,7 @@ use Rattle.abt_streams.proofs.Words.{lines-same, plain-line, short}
 some-line : (life : Life) (more : Text) → life_line life ++ more ≡ [] → ⊥
 some-line life more e = cc
 
--- behind the lines of lives no text of lives goes on where no life's line begins
+-- behind the lines of lives no text of lives goes on if no life's line begins
 no-lives : (W : Parts) (before lives all others : List Life) (rest bytes : Text) → IsValid W → before ++ lives ≡ all → AreLivesAfter W before lives → lives_text lives ++ rest ≡ bytes → rest ≢ [] →
     BeginsNoLife W all rest → AreLivesAfter W before others → lives_text others ≡ bytes → ⊥
 no-lives W before [] all [] rest bytes valid whole are at some none are' same = some (at ∙ sym same)

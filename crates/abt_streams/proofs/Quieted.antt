@@ -27,7 +27,7 @@ first-none : (S : State) (us : List ℕ) → first (map (owned_at S) us) ≡ Non
 first-none S [] e = refl
 first-none S (u ∷ us) e = cc
 
--- where nothing at all is left to do, nothing is on any lives
+-- if nothing at all is left to do, nothing is on any lives
 pub quiet-on : (W : Parts) (lives : List Life) (S : State) → Quiet W S → QuietOn W lives S
 quiet-on W lives S quiet = record { trays = quiet.trays; nexts = quiet.nexts; hands = quiet.hands; frames = quiet.frames; pools = λ s p lt live listed. quiet.pools s p lt listed }
 

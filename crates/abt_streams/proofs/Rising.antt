@@ -45,7 +45,7 @@ module _ {A : Type 0} (stamp : A → ℕ) where
 
 -- Deeds and their sites.
 
--- a deed calls the site of its event, or nothing where that has none
+-- a deed calls the site of its event, or nothing if that has none
 abbrev CallsSite : Parts → StreamDeed → Type 0
 CallsSite W d = place_of d ≡ event_site W (event_of d)
 
@@ -180,7 +180,7 @@ module _ (W : Parts) (Z : List OrderShape) (old new : Moment) (live : List Bool)
       pub all-below : All (IsBelow W new) (J ++ es)
       all-below = All-append (IsBelow W new) J es (all-from-among (IsBelow W new) J (λ e m. clocks-rise e (All-contains (IsBelow W old) J e below (from-among J e m)))) (all-from-among (IsBelow W new) es below-new)
 
-      -- and stamps rise where something is shared
+      -- and stamps rise if something is shared
       pub all-rise : RiseWhereShared W J → RiseWhereShared W (J ++ es)
       all-rise rise = rise-append W J es rise wave-rises crosses where
         crosses : (e f : Event) → Among e J → Among f es → Shares W e f → e.stamp < f.stamp

@@ -9,7 +9,7 @@ use Rattle.abt_streams.specs.declared.life.Life.{Life}
 abbrev pub life_of : List Life → ℕ → Option Life
 life_of lives s = find (λ (life : Life). life.stream.0 == s) lives
 
--- with this life a stream lives where the first eventual is ready and the second is not; without one it lives
+-- with this life a stream lives if the first eventual is ready and the second is not; without one it lives
 abbrev pub lives_by : (ℕ → Bool) → Option Life → Bool
 lives_by is_ready None = true
 lives_by is_ready (Some life) = is_ready life.begins.0 && not (is_ready life.ends.0)

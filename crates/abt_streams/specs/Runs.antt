@@ -16,13 +16,13 @@ use Rattle.abt_streams.specs.declared.life.Life.{Life}
 use Rattle.abt_streams.specs.declared.wave.Wave.{Wave}
 use Rattle.abt_streams.specs.Waves.{AreWaves, RiseWhereShared}
 
--- no clock of the moment is below the event's stamp where it is of the clock's stream or object
+-- no clock of the moment is below the event's stamp if it is of the clock's stream or object
 pub record IsBelow (W : Parts) (m : Moment) (e : Event) : Type 0 where
   pub stream : e.stamp ≤ m.clocks e.stream.0
   pub site : (x : Site) → event_site W e ≡ Some x → e.stamp ≤ m.times x
 
 -- the journal, in these waves, has led to these objects and streams
-pub record IsUnderWay (W : Parts) (Z : List OrderShape) (n : ℕ) (lives : List Life) (objects : ObjectsValue) (streams : List StreamValue) (J : List Event) (waves : List Wave) : Type 0 where
+pub record HasLedTo (W : Parts) (Z : List OrderShape) (n : ℕ) (lives : List Life) (objects : ObjectsValue) (streams : List StreamValue) (J : List Event) (waves : List Wave) : Type 0 where
   pub fleet : IsFleet W Z n objects streams
   pub lead : LeadTo W Z J (moment_of W streams objects)
   pub below : All (IsBelow W (moment_of W streams objects)) J

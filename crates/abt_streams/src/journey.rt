@@ -15,7 +15,7 @@ ghost use Rattle.abt_drain.specs.Moments.{LeadTo};
 ghost use Rattle.abt_waves.specs.Fleets.{IsFleet};
 ghost use Rattle.abt_streams.specs.declared.life.Life.{Life};
 ghost use Rattle.abt_streams.specs.Ends.{EndsOn};
-ghost use Rattle.abt_streams.specs.Runs.{IsUnderWay};
+ghost use Rattle.abt_streams.specs.Runs.{HasLedTo};
 
 use crate::life::Life;
 use crate::living::{LiveStreams, find_live};
@@ -50,7 +50,7 @@ pub(crate) fn start<'w>(
     steps: u64,
 ) -> Result<Journey<'w>, Want>
     requires orders { 2 ≤ length orders.now }
-    ensures { (lives : List Life) → IfOk result (λ j. IsUnderWay w.now (shapes_of orders.now) steps lives j.objects j.streams.items j.journal.items j.waves.items) }
+    ensures { (lives : List Life) → IfOk result (λ j. HasLedTo w.now (shapes_of orders.now) steps lives j.objects j.streams.items j.journal.items j.waves.items) }
 {
     // The count is of no use here, but its contract says that the workload is valid.
     w.streams();
@@ -75,8 +75,8 @@ pub(crate) fn advance<'w, R: Threads + Wait + Sync, P: Pace + Sync>(
     journey: Journey<'w>,
 ) -> Result<Journey<'w>, Want>
     requires lives { AreLives w.now lives.now }
-    requires under_way { (n : ℕ) × IsUnderWay w.now (shapes_of orders.now) n lives.now journey.objects journey.streams.items journey.journal.items journey.waves.items }
-    ensures under_way { IfOk result (λ j. (n : ℕ) → IsUnderWay w.now (shapes_of orders.now) n lives.now journey.entry.objects journey.entry.streams.items journey.entry.journal.items journey.entry.waves.items → IsUnderWay w.now (shapes_of orders.now) n lives.now j.objects j.streams.items j.journal.items j.waves.items) }
+    requires under_way { (n : ℕ) × HasLedTo w.now (shapes_of orders.now) n lives.now journey.objects journey.streams.items journey.journal.items journey.waves.items }
+    ensures under_way { IfOk result (λ j. (n : ℕ) → HasLedTo w.now (shapes_of orders.now) n lives.now journey.entry.objects journey.entry.streams.items journey.entry.journal.items journey.entry.waves.items → HasLedTo w.now (shapes_of orders.now) n lives.now j.objects j.streams.items j.journal.items j.waves.items) }
     ensures some_wave { IfOk result (λ j. j.waves.items ≢ []) }
 {
     let Journey {
@@ -113,8 +113,8 @@ pub(crate) fn go<'w, R: Threads + Wait + Sync, P: Pace + Sync>(
     journey: Journey<'w>,
 ) -> Result<(Journey<'w>, Outcome), Want>
     requires lives { AreLives w.now lives.now }
-    requires under_way { IsUnderWay w.now (shapes_of orders.now) steps lives.now journey.objects journey.streams.items journey.journal.items journey.waves.items }
-    ensures under_way { IfOk result (λ ended. IsUnderWay w.now (shapes_of orders.now) steps lives.now ended.0.objects ended.0.streams.items ended.0.journal.items ended.0.waves.items) }
+    requires under_way { HasLedTo w.now (shapes_of orders.now) steps lives.now journey.objects journey.streams.items journey.journal.items journey.waves.items }
+    ensures under_way { IfOk result (λ ended. HasLedTo w.now (shapes_of orders.now) steps lives.now ended.0.objects ended.0.streams.items ended.0.journal.items ended.0.waves.items) }
     ensures some_wave { IfOk result (λ ended. ended.0.waves.items ≢ []) }
     ensures ended { IfOk result (λ ended. EndsOn w.now lives.now steps ended.0.journal.items ended.1) }
 {

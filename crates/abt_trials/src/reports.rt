@@ -41,7 +41,7 @@ end
 ";
 
 // What unit 0 put out.
-const OUTPUT: [Piece; 12] = [
+const OUTPUT: [Piece; 15] = [
     Piece::Said(1),
     Piece::Number(u64::MAX),
     Piece::Said(0),
@@ -54,6 +54,9 @@ const OUTPUT: [Piece; 12] = [
     Piece::Refused(Code::NotOwner),
     Piece::Refused(Code::EventualSet),
     Piece::Refused(Code::FutureFull),
+    Piece::Refused(Code::RwHeld),
+    Piece::Refused(Code::RwFull),
+    Piece::Refused(Code::NotHolder),
 ];
 
 // The places of the units after unit 0.
@@ -70,7 +73,7 @@ const PLACES: [Shown; 9] = [
 ];
 
 const REPORT: &str =
-    "unit 0 done: on 18446744073709551615 hi !pool-access !exists !unit-state !not-migratable !absent !mutex-locked !not-owner !eventual-set !future-full
+    "unit 0 done: on 18446744073709551615 hi !pool-access !exists !unit-state !not-migratable !absent !mutex-locked !not-owner !eventual-set !future-full !rw-held !rw-full !not-holder
 unit 1 unborn:
 unit 2 pool 1:
 unit 3 stream 1:
@@ -85,7 +88,7 @@ stuck
 ";
 
 const SHORT: &str =
-    "unit 0 done: on 18446744073709551615 hi !pool-access !exists !unit-state !not-migratable !absent !mutex-locked !not-owner !eventual-set !future-full
+    "unit 0 done: on 18446744073709551615 hi !pool-access !exists !unit-state !not-migratable !absent !mutex-locked !not-owner !eventual-set !future-full !rw-held !rw-full !not-holder
 tally units 10 unborn 1 pool 1 stream 1 blocked 3 done 2 asked 1 access 1 steps 18446744073709551615
 budget 1
 ";

@@ -146,7 +146,7 @@ const OBJECTS: [Row; 5] = [
     },
 ];
 
-// Frames three deep, a scheduler whose pool the stream may not reach, and a free order over two and three pools. In the rounds
+// Frames three deep, a scheduler whose pool the stream must not reach, and a free order over two and three pools. In the rounds
 // 0 and 2 it answers the last place each time, so the others follow cyclically; in round 1 the first.
 const FRAMES: [Row; 4] = [
     Row {

@@ -17,13 +17,13 @@ use Rattle.abt_unit.proofs.unit.Unit.TheLaws.TheKnot.{send-Unit}
 UnitBody-send : IsSend UnitBody.the_row
 UnitBody-send = search (sendable, crosses) depth 90 fits 20000
 
--- Of one layer of units, where those that it links are so.
+-- Of one layer of units, if those that it links are so.
 pub Unit-send : IsSend Unit.the_row
 Unit-send = send-Unit (as_row_send UnitBody.the_field UnitBody-send) (λ h s. let box = Box-send h s in search sendable depth 20)
 
 -- The workload's parts, from those within, since one search for all of them is too long.
 Op-sync : IsSync Op.the_row
-Op-sync = search sendable depth 90 fits 5000
+Op-sync = search sendable depth 90 fits 20000
 
 Items-sync : (T : RattleType) → IsSync T → IsSync (Items.the_row T)
 Items-sync T s = search (sendable, Vec-sync) depth 30

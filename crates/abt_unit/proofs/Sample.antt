@@ -1,5 +1,5 @@
 -- The workload of the tests is valid: one stream, a pool, its scheduler, and one unit that does each local operation.
-use Rattle.std.proofs.Common.{◌≡◌, ◌<◌, ◌≤◌, ◌-◌, ◌^◌, ℕ, suc, zero, [], ◌∷◌, List, Some, length, refl, subst, arith, lit<, lit≤}
+use Rattle.std.proofs.Common.{◌≡◌, ◌<◌, ◌-◌, ◌^◌, ℕ, suc, zero, [], ◌∷◌, List, Some, refl, subst, arith, lit<, lit≤}
 use Rattle.std.specs.Prelude.{codes}
 use Rattle.std.proofs.lemmas.List.Elements.{All-cons, All-nil}
 use Rattle.abt_machine.specs.declared.operations.Access.TheVariants as access

@@ -52,6 +52,11 @@ after_local (op.FuSet x) c = None
 after_local (op.FuReset x) c = None
 after_local (op.FuTest x) c = None
 after_local (op.BarWait x) c = None
+after_local (op.ReadLock x) c = None
+after_local (op.WriteLock x) c = None
+after_local (op.RwUnlock x) c = None
+after_local (op.RwLoad x) c = None
+after_local (op.RwStore x) c = None
 
 -- the key that an operation names, if it names one, is below n
 abbrev pub NamesKeyBelow : ℕ → Op → Type 0
@@ -90,6 +95,11 @@ NamesKeyBelow n (op.FuSet x) = ⊤
 NamesKeyBelow n (op.FuReset x) = ⊤
 NamesKeyBelow n (op.FuTest x) = ⊤
 NamesKeyBelow n (op.BarWait x) = ⊤
+NamesKeyBelow n (op.ReadLock x) = ⊤
+NamesKeyBelow n (op.WriteLock x) = ⊤
+NamesKeyBelow n (op.RwUnlock x) = ⊤
+NamesKeyBelow n (op.RwLoad x) = ⊤
+NamesKeyBelow n (op.RwStore x) = ⊤
 
 abbrev pub with_carried : Owned → Carried → Owned
 with_carried o c = record o { carried = c }
@@ -98,7 +108,7 @@ abbrev pub local_step_at : Option Op → Owned → Option Owned
 local_step_at None o = None
 local_step_at (Some a) o = option_map (with_carried o) (after_local a o.carried)
 
--- the unit after the operation at its position, where that is a local one
+-- the unit after the operation at its position, if that is a local one
 abbrev pub local_step : Parts → Owned → Option Owned
 local_step W o = local_step_at (op_at W o.number o.carried.position) o
 

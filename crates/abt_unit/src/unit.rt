@@ -78,7 +78,7 @@ impl Drop for Unit {
 
 impl Unit {
     /// The unit as a run starts with it: at its first operation, with no output and with 0 in its accumulator and keys. Its
-    /// home is the pool that it starts in, and pool 0 where it starts in none.
+    /// home is the pool that it starts in, and pool 0 if it starts in none.
     pub fn make(alloc: Global, w: &Workload, u: UnitNo) -> Result<Box<Unit>, Want>
         requires { u.0 < length w.now.units }
         ensures start { IfOk result (λ unit. unit.value.owned ≡ owned_at (start w.now) u.0) }
@@ -149,7 +149,7 @@ impl Unit {
         self.body.keys[k as usize]
     }
 
-    /// Takes room for one more piece of output, where there is none.
+    /// Takes room for one more piece of output, if there is none.
     pub fn reserve_output(&mut self) -> Result<(), Want>
         ensures room { OnOk result (0 < self.new.spare) }
         ensures kept { self.old.spare ≤ self.new.spare }
@@ -187,7 +187,7 @@ impl Unit {
         self.body.position += 1;
     }
 
-    /// Goes back to the operation before, where an advance turns out to have no event.
+    /// Goes back to the operation before, if an advance turns out to have no event.
     pub fn retreat(&mut self)
         requires { 0 < self.old.owned.carried.position }
         ensures { self.new ≡ record self.old { owned = carrying back self.old.owned } }

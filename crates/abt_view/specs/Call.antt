@@ -5,7 +5,7 @@ use Rattle.abt_machine.specs.declared.events.Event.{Event}
 use Rattle.abt_machine.specs.Texts.{journal_text}
 use Rattle.abt_machine.specs.Words.{Text}
 use Rattle.abt_report.specs.Journals.{IsBadAt, IsEvent, IsNoJournal}
-use Rattle.abt_source.specs.Source.{Rose, Took, TookFront}
+use Rattle.abt_source.specs.Source.{Rose, Took, TookPrefix}
 use Rattle.abt_view.specs.declared.status.Status.{Status}
 use Rattle.abt_view.specs.declared.status.Status.TheVariants.{Written, BadWords, Refused, CannotRead, CannotWrite, OutOfMemory}
 use Rattle.abt_view.specs.declared.views.View.{View}
@@ -32,12 +32,12 @@ abbrev pub Gained : Option Text × Option Text → Text → Type 0
 Gained sink bytes = Took sink.0 sink.1 bytes
 
 -- the sink took a prefix of these bytes, which lacks at least one
-abbrev pub GainedFront : Option Text × Option Text → Text → Type 0
-GainedFront sink bytes = TookFront sink.0 sink.1 bytes
+abbrev pub GainedPrefix : Option Text × Option Text → Text → Type 0
+GainedPrefix sink bytes = TookPrefix sink.0 sink.1 bytes
 
 -- the message was written, or a prefix of it, and then the count of faults rose
 abbrev pub IsTold : Option Text × Option Text → ℕ × ℕ → Text → Type 0
-IsTold sink faults text = Gained sink text ⊎ (GainedFront sink text × Grew faults)
+IsTold sink faults text = Gained sink text ⊎ (GainedPrefix sink text × Grew faults)
 
 -- the words ask for a view of no file
 abbrev pub AsksNothing : List Text → Type 0
@@ -77,10 +77,10 @@ pub record Wrote (c : Call) : Type 0 where
   pub err : Gained c.err []
 
 -- a prefix of the view was written, and the count of faults of the output rose
-pub record WroteFront (c : Call) : Type 0 where
+pub record WrotePrefix (c : Call) : Type 0 where
   pub text : Text
   pub is : IsViewOf c.words c.file text
-  pub out : GainedFront c.out text
+  pub out : GainedPrefix c.out text
   pub faults : Grew c.out_faults
   pub err : IsTold c.err c.err_faults (message_of CannotWrite)
 
@@ -98,7 +98,7 @@ Holds Written c = Wrote c
 Holds BadWords c = AsksNothing c.words × StoppedBy BadWords c
 Holds (Refused line) c = NamesSuch c.words c.file (IsWrongAt line) × StoppedBy (Refused line) c
 Holds CannotRead c = NamesFile c.words × Grew c.read_faults × StoppedBy CannotRead c
-Holds CannotWrite c = WroteFront c
+Holds CannotWrite c = WrotePrefix c
 Holds OutOfMemory c = StoppedBy OutOfMemory c
 
 -- the call ended with this exit status, which has its cause

@@ -9,7 +9,9 @@ use mir.Syntax.{Dict, Slots}
 use denote.Param.Sent.{Syncs}
 use denote.Struct.Field.{u32-field, u64-field}
 use Rattle.std.proofs.Crossing.{Box-send, crosses, dyn_box_sync}
+use Rattle.abt_machine.specs.contracts.events.Code as Code
 use Rattle.abt_machine.specs.contracts.events.Event as Event
+use Rattle.abt_machine.specs.contracts.events.What as What
 use Rattle.abt_unit.specs.contracts.unit.Unit as Unit
 use Rattle.abt_unit.proofs.Crosses.{Unit-send}
 use Rattle.abt_chain.proofs.Crosses.{Chain-send}
@@ -21,8 +23,15 @@ use Rattle.abt_waves.specs.contracts.locks.StoredOrders as StoredOrders
 use Rattle.abt_waves.specs.contracts.voyages.Job as Job
 use Rattle.abt_waves.specs.contracts.voyages.Returned as Returned
 
+-- An event, from what it is made of, since one search for all of it is too long.
+Code-send : IsSend (Code.the_field).row
+Code-send = search sendable depth 60 fits 20000
+
+What-send : IsSend (What.the_field).row
+What-send = search (sendable, Code-send) depth 60 fits 20000
+
 Event-send : IsSend Event.the_row
-Event-send = search sendable depth 60 fits 20000
+Event-send = search (sendable, What-send) depth 60 fits 20000
 
 Scheduler-send : IsSend Scheduler.the_row
 Scheduler-send = search sendable depth 60 fits 20000

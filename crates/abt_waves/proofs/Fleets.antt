@@ -151,7 +151,7 @@ module _ {Lock : Type 0} (lock : Site → Lock) (clock : ObjectsValue → Lock �
   pub fleet-own : (P : Parts → ℕ → Type 0) (W : Parts) (Z : List OrderShape) (n : ℕ) (fleet : CrewValue) → IsFleetOf lock clock W Z n fleet → P W n → P fleet.workload fleet.steps
   fleet-own P W Z n fleet is p = subst (λ V. P V fleet.steps) (sym is.workload) (subst (P W) (sym is.steps) p)
 
-  -- where the fleet looks ended, it has ended so
+  -- if the fleet looks ended, it has ended so
   pub has-ended : (W : Parts) (Z : List OrderShape) (n : ℕ) (fleet : CrewValue) (is : IsFleetOf lock clock W Z n fleet) (o : Outcome) → EndedWith fleet.workload fleet.steps fleet.streams fleet.objects (Some o) → HasEnded lock clock W Z n fleet o
   has-ended W Z n fleet is o ended = record {
     fleet_is = is;
@@ -171,7 +171,7 @@ module _ {Lock : Type 0} (lock : Site → Lock) (clock : ObjectsValue → Lock �
       pub fleet-ran : (o : Outcome) → LooksAs W n (moment_of W fleet.streams fleet.objects).parts (moment_of W fleet.streams fleet.objects).objects (made_at (moment_of W fleet.streams fleet.objects)) o → IsRunOf W Z n J o
       fleet-ran o looks = come-ran W Z is.fleet_is.valid is.fleet_is.stored n (moment_of W fleet.streams fleet.objects) is.fleet_is.come J merges o looks
 
-      -- with Lamport's stamps, where each site has a lock of its own
+      -- with Lamport's stamps, if each site has a lock of its own
       pub fleet-lamport : TellsSites lock → Lamport W J
       fleet-lamport apart = come-lamport W Z is.fleet_is.valid is.fleet_is.stored n (moment_of W fleet.streams fleet.objects) is.fleet_is.come (is.fleet_is.have.timed apart) J merges
 

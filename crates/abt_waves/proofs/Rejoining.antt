@@ -48,7 +48,7 @@ pub record Came {Lock Pass : Type 0} (IsOf : Pass → Type 0) (locks : LocksValu
   pub stops : StopsBy locks lock back.stream back.pass back.stop
   pub still : slice_get live s ≡ Some false → back.stream ≡ stream
 
--- where a list did not grow, nothing was put behind it
+-- if a list did not grow, nothing was put behind it
 none-behind : {A B : Type 0} (f : A → B) (xs : List B) (ys : List A) → xs ≡ xs ++ map f ys → ys ≡ []
 none-behind f xs [] e = refl
 none-behind f xs (y ∷ ys) e = absurd (let k : length xs ≡ length (xs ++ map f (y ∷ ys)) = ap length e in let l = length-append xs (map f (y ∷ ys)) in omega arith)

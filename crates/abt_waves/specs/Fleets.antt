@@ -40,14 +40,14 @@ pub record IsWave (W : Parts) (Z : List OrderShape) (live : List Bool) (old new 
   pub rise : (x : Site) → RisesAbove (old.times x) (entry_stamps (histories x))
   pub clocks : (s : ℕ) → new.clocks s ≡ last_from (old.clocks s) (deed_stamps (deeds s))
 
--- the same, where each site's clock becomes its last stamp
+-- the same, if each site's clock becomes its last stamp
 pub record MakesWave (W : Parts) (Z : List OrderShape) (live : List Bool) (old new : Moment) : Type 0 where
   pub wave : IsWave W Z live old new
   pub times : (x : Site) → new.times x ≡ last_from (old.times x) (entry_stamps (wave.histories x))
 
 -- The same over any locks: of each site the lock, and of objects the clock that is carried to each lock.
 module _ {Lock : Type 0} (lock : Site → Lock) (clock : ObjectsValue → Lock → ℕ) where
-  -- no site has a later stamp than its lock's clock, and each of these is 0 or the stamp of a deed. Where each site has a lock of its own
+  -- no site has a later stamp than its lock's clock, and each of these is 0 or the stamp of a deed. If each site has a lock of its own
   -- stamps are Lamport's, and its last one is its lock's clock.
   pub record HaveClocks (W : Parts) (Z : List OrderShape) (deeds : ℕ → List StreamDeed) (histories : Site → List SiteEntry) (objects : ObjectsValue) : Type 0 where
     pub above : (x : Site) → last_stamp (entry_stamps (histories x)) ≤ clock objects (lock x)

@@ -7,7 +7,7 @@ use Rattle.abt_waves.specs.declared.voyages.Stop.TheVariants as stop
 use Rattle.abt_waves.specs.Locks.{LocksValue}
 use Rattle.abt_waves.specs.Voyages.{IsWorn}
 
--- where it says that a clock is at its end, one is
+-- if it says that a clock is at its end, one is
 abbrev pub StopsBy : {Lock Pass : Type 0} → LocksValue Lock Pass → (Site → Lock) → StreamValue → Pass → Stop → Type 0
 StopsBy locks lock stream pass stop.Idle = ⊤
 StopsBy locks lock stream pass stop.Spent = ⊤

@@ -23,7 +23,7 @@ use std::thread::Threads;
 
 /// Runs a workload whose streams may make so many steps each; `pace` is called before each step. In a wave each stream makes
 /// turns on a thread of its own, over objects that have a lock each, until it is spent, or finds nothing while no other stream
-/// has work. Waves go on until one leaves nothing to do or a stream spent. Where no thread can be started the caller's does its
+/// has work. Waves go on until one leaves nothing to do or a stream spent. If no thread can be started the caller's does its
 /// work. A workload with one stream runs on the caller's thread, without a lock. Err: memory was refused, to one stream or to
 /// all; its wave is the last.
 pub fn run_streams<'w, R: Threads + Wait + Sync, P: Pace + Sync>(
@@ -70,7 +70,7 @@ fn run_waves<'w, R: Threads + Wait + Sync, P: Pace + Sync>(
     )
 }
 
-/// The run in waves over any locks. Stamps are Lamport's where each site has a lock of its own.
+/// The run in waves over any locks. Stamps are Lamport's if each site has a lock of its own.
 pub fn run_over<
     'w,
     R: Threads + Wait + Sync,

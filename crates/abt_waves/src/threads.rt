@@ -45,7 +45,7 @@ pub(crate) fn jobs<'a, C, X: Drop>(
     Ok(jobs)
 }
 
-/// All streams of a wave, each on a thread of its own. Where no thread can be started, the caller's does that work.
+/// All streams of a wave, each on a thread of its own. If no thread can be started, the caller's does that work.
 pub(crate) fn run_jobs<
     'a,
     R: Threads + Wait + Sync,

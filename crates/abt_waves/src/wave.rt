@@ -21,7 +21,7 @@ use std::sync::Wait;
 use std::thread::Threads;
 
 /// One wave: each stream that `live` marks makes turns on a thread of its own, over objects that have a lock each, until it is
-/// spent, or finds nothing while no other stream has work. All others stay as they are. Where no thread can be started the
+/// spent, or finds nothing while no other stream has work. All others stay as they are. If no thread can be started the
 /// caller's does its work. Err: memory was refused, to one stream or to all.
 pub fn run_wave<'w, R: Threads + Wait + Sync, P: Pace + Sync>(
     alloc: Global,

@@ -7,8 +7,8 @@ pub mod Plain
 pub mod Readings
 pub mod Rows
 pub mod Spellings
-pub mod Told
-pub mod ToldAlone
+pub mod Found
+pub mod FoundAlone
 pub mod Turns
 pub mod TwoWords
 pub mod WordsAlone

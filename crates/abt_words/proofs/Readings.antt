@@ -1,4 +1,4 @@
--- `clap` takes the words after `run` exactly where they are a FILE and the options, each at most once.
+-- `clap` takes the words after `run` exactly if they are a FILE and the options, each at most once.
 use Rattle.std.proofs.Common.{◌≡◌, ◌≢◌, ℕ, zero, suc, Bool, cond, true, false, true≢false, refl, sym, ap, subst, ◌∙◌, List, [], ◌∷◌, ◌++◌, codes, Option, Some, None, is_some, arith}
 use Rattle.clap.specs.Faults.{check_fault, defaults_fault, fault_of, turn_fault, walk_fault}
 use Rattle.clap.specs.Kinds.{Kinds, or_else}
@@ -33,7 +33,7 @@ JoinsFlag true (suc n) all = ⊥
 abbrev pub Total : Seen → Rest → Seen → Type 0
 Total s r all = Joins s.file r.words all.file × Joins s.steps r.steps all.steps × JoinsFlag s.journal r.journals all.journal × (r.others ≡ 0)
 
--- `clap` takes the words exactly where both say a FILE and each option at most once, and then its matches say the same
+-- `clap` takes the words exactly if both say a FILE and each option at most once, and then its matches say the same
 pub record Outcome (w : Walk) (words : List Text) (s : Seen) (r : Rest) : Type 0 where
   pub taken : ending run_top w words ≡ [] → (all : Seen) × Total s r all × (is_some all.file ≡ true) × Ends (last run_top w words) all
   pub takes : (all : Seen) → Total s r all → is_some all.file ≡ true → ending run_top w words ≡ []
@@ -144,7 +144,7 @@ doomed rows q f k ks (x ∷ words) texts e = by (spelling x texts.0)
     by (short d ds y is a b) = subst (λ (x : Text). ending run_top (state rows q false (place f) false) (x ∷ words) ≢ []) (sym is)
         (fails run_top _ _ words _ [] (short_unknown rows q (place f) false d ds y a b))
 
--- what `clap` makes of the words, where no value is due, and where one is
+-- what `clap` makes of the words, if no value is due, and if one is
 abbrev Free : List Text → Type 0
 Free words = (rows : List Row) (q : Pending) (f v : Option Text) (j : Bool) → Live rows q (record { file = f; steps = v; journal = j })
     → Outcome (state rows q false (place f) false) words (record { file = f; steps = v; journal = j }) (rest_of false words)

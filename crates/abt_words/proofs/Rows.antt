@@ -130,7 +130,7 @@ module _ (rows : List Row) (f v : Option Text) (j : Bool) where
     journal = row_same (codes "journal") (value_row (codes "file") w) rows _ refl h.journal;
   }
 
-  -- `--journal`, where there was none
+  -- `--journal`, if there was none
   pub live_journal : Shows rows (record { file = f; steps = v; journal = false })
       → Live (used journal_built [] rows) None (record { file = f; steps = v; journal = true })
   live_journal h = record {
@@ -139,7 +139,7 @@ module _ (rows : List Row) (f v : Option Text) (j : Bool) where
         (sym (row_added (codes "journal") AsWritten CommandLine (codes "true" ∷ []) rows h.journal)) (with_journal h);
   }
 
-  -- `--steps=w`, where there was no steps option
+  -- `--steps=w`, if there was no steps option
   pub live_value : (w : Text) → Shows rows (record { file = f; steps = None; journal = j })
       → Live (used steps_built (w ∷ []) rows) None (record { file = f; steps = Some w; journal = j })
   live_value w h = record {
@@ -148,7 +148,7 @@ module _ (rows : List Row) (f v : Option Text) (j : Bool) where
         (sym (row_added (codes "steps") AsWritten CommandLine (w ∷ []) rows h.steps)) (with_steps w h);
   }
 
-  -- the value of `--steps`, where there was no steps option
+  -- the value of `--steps`, if there was no steps option
   pub live_steps : (w : Text) → Shows rows (record { file = f; steps = None; journal = j })
       → Live rows (Some (codes "steps", w ∷ [])) (record { file = f; steps = Some w; journal = j })
   live_steps w h = record {
@@ -157,7 +157,7 @@ module _ (rows : List Row) (f v : Option Text) (j : Bool) where
         (sym (row_added (codes "steps") AsWritten CommandLine (w ∷ []) rows h.steps)) (with_steps w h);
   }
 
-  -- a file, where there was none
+  -- a file, if there was none
   pub live_file : (w : Text) → Shows rows (record { file = None; steps = v; journal = j })
       → Live rows (Some (codes "file", w ∷ [])) (record { file = Some w; steps = v; journal = j })
   live_file w h = record {

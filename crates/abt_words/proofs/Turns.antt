@@ -172,7 +172,7 @@ module _ (rows : List Row) (q : Pending) where
       by false f = simp f refl
   plain_met p (c ∷ d ∷ ds) e = simp e refl
 
-  -- the word is a value where it is no option, and where `--` stood before it
+  -- the word is a value if it is no option, and also if `--` stood before it
   first_file : (t : Bool) (w : Text) → word_fault run_top [] t idle w (held rows q) ≡ [] → word_met run_rules [] t idle 1 w (held rows q) ≡ (held rows q, value)
       → turn_fault run_top [] (state rows q false 1 t) w ≡ pending_fault rows q
   first_file t w e f = past _ _ e ∙ ap (λ (m : Held × Step). step_fault run_top 1 m.0 m.1) f ∙ by (is_file q)

@@ -35,7 +35,7 @@ is_option [] = false
 is_option (c ∷ []) = false
 is_option (c ∷ d ∷ cs) = c == 45
 
--- the rest that these words are, where the word before them is `--steps`, so that its value is `due`, and where it is not.
+-- the rest that these words are, if the word before them is `--steps`, so that its value is `due`, and if it is not.
 -- The first `--` ends the options. No option is a value: a `--steps` without one counts with the other options
 abbrev pub rest_of : Bool → List Text → Rest
 rest_of true [] = and_other (only [])
@@ -49,7 +49,7 @@ rest_of false (w ∷ ws) =
     else if is_option w then and_other (rest_of false ws)
     else and_word w (rest_of false ws)
 
--- 10,000 steps where no option says them, and at most one option does
+-- 10,000 steps if no option says them, and at most one option does
 abbrev pub SaysSteps : List Text → ℕ → Type 0
 SaysSteps [] n = n ≡ 10000
 SaysSteps (v ∷ []) n = SaysNumber 100000 v n

@@ -12,7 +12,7 @@ use crate::number::number;
 use abt_machine::Text;
 use std::alloc::Global;
 
-// The steps for each stream where no option says them.
+// The steps for each stream if no option says them.
 const DEFAULT_STEPS: u64 = 10_000;
 
 // The greatest number of steps for each stream that an option may say.

@@ -11,7 +11,7 @@ use Rattle.abt_machine.specs.declared.operations.Combine.{Combine}
 use Rattle.abt_machine.specs.declared.operations.Thing.{Thing}
 use Rattle.abt_machine.specs.declared.operations.Thing.TheVariants as thing
 use Rattle.abt_machine.specs.Declaring.{Above, at}
-use Rattle.abt_machine.specs.Faults.{is_barrier, is_condition, is_eventual, is_future, is_mutex, is_homeless, is_single, is_there, is_within, values_of}
+use Rattle.abt_machine.specs.Faults.{is_barrier, is_condition, is_eventual, is_future, is_mutex, is_homeless, is_rwlock, is_single, is_there, is_within, values_of}
 use Rattle.abt_machine.specs.Forms.{section, slots}
 use Rattle.abt_machine.specs.Words.{Text}
 use Rattle.abt_workload.proofs.Places.{at-kind, kinds, or-left, or-right}
@@ -93,6 +93,7 @@ mutex-there things x e = by (has-object things is_mutex x e)
     by (thing.Eventual, is, yes') = cc
     by (thing.Future n c, is, yes') = cc
     by (thing.Barrier n, is, yes') = cc
+    by (thing.RwLock, is, yes') = cc
 
 pub eventual-there : (things : List Thing) (x : ℕ) → option_map_or is_eventual (slice_get things x) false ≡ true → slice_get things x ≡ Some thing.Eventual
 eventual-there things x e = by (has-object things is_eventual x e)
@@ -103,6 +104,7 @@ eventual-there things x e = by (has-object things is_eventual x e)
     by (thing.Eventual, is, yes') = is
     by (thing.Future n c, is, yes') = cc
     by (thing.Barrier n, is, yes') = cc
+    by (thing.RwLock, is, yes') = cc
 
 pub condition-there : (things : List Thing) (x : ℕ) → option_map_or is_condition (slice_get things x) false ≡ true → (m : ObjectNo) × (slice_get things x ≡ Some (thing.Cond m))
 condition-there things x e = by (has-object things is_condition x e)
@@ -113,6 +115,7 @@ condition-there things x e = by (has-object things is_condition x e)
     by (thing.Eventual, is, yes') = cc
     by (thing.Future n c, is, yes') = cc
     by (thing.Barrier n, is, yes') = cc
+    by (thing.RwLock, is, yes') = cc
 
 pub future-there : (things : List Thing) (x : ℕ) → option_map_or is_future (slice_get things x) false ≡ true → (n : ℕ) × (c : Combine) × (slice_get things x ≡ Some (thing.Future n c))
 future-there things x e = by (has-object things is_future x e)
@@ -123,6 +126,7 @@ future-there things x e = by (has-object things is_future x e)
     by (thing.Eventual, is, yes') = cc
     by (thing.Future n c, is, yes') = (n, c, is)
     by (thing.Barrier n, is, yes') = cc
+    by (thing.RwLock, is, yes') = cc
 
 pub barrier-there : (things : List Thing) (x : ℕ) → option_map_or is_barrier (slice_get things x) false ≡ true → (n : ℕ) × (slice_get things x ≡ Some (thing.Barrier n))
 barrier-there things x e = by (has-object things is_barrier x e)
@@ -133,3 +137,15 @@ barrier-there things x e = by (has-object things is_barrier x e)
     by (thing.Eventual, is, yes') = cc
     by (thing.Future n c, is, yes') = cc
     by (thing.Barrier n, is, yes') = (n, is)
+    by (thing.RwLock, is, yes') = cc
+
+pub rwlock-there : (things : List Thing) (x : ℕ) → option_map_or is_rwlock (slice_get things x) false ≡ true → slice_get things x ≡ Some thing.RwLock
+rwlock-there things x e = by (has-object things is_rwlock x e)
+  where
+    by : ((t : Thing) × (slice_get things x ≡ Some t) × (is_rwlock t ≡ true)) → slice_get things x ≡ Some thing.RwLock
+    by (thing.Mutex, is, yes') = cc
+    by (thing.Cond m, is, yes') = cc
+    by (thing.Eventual, is, yes') = cc
+    by (thing.Future n c, is, yes') = cc
+    by (thing.Barrier n, is, yes') = cc
+    by (thing.RwLock, is, yes') = is

@@ -121,7 +121,7 @@ pub record IsWritten (f : Form) (word : Text) (ns : List ℕ) (words : List Text
   pub plain : plain_places (slots f) ≡ true
   pub chosen : IsWord word
 
--- a line that is written is taken where it has no fault
+-- a line that is written is taken if it has no fault
 pub takes : (a b : Above) (f : Form) (word : Text) (ns : List ℕ) (words : List Text) → IsWritten f word ns words → AreFit a (given (slots f) ns)
     → IsFine a f words (values (given (slots f) ns)) → with_line a f words (values (given (slots f) ns)) ≡ b → Takes a words b
 takes a b f word ns words w fit =

@@ -128,6 +128,7 @@ there-small a h kind n e both = by kind e (and-left (is_there a kind n) _ both) 
     by number.Eventual f t w = object _ t
     by number.Future f t w = object _ t
     by number.Barrier f t w = object _ t
+    by number.RwLock f t w = object _ t
 
 pool-places : (x : Access) → (is_small_at (slots (form.Pool x)) 1 ≡ true) × (is_small_at (slots (form.Pool x)) 2 ≡ true)
 pool-places (access.Priv s) = (refl, refl)

@@ -8,7 +8,7 @@ use Rattle.abt_machine.specs.declared.grammar.Number.{Number}
 use Rattle.abt_machine.specs.declared.grammar.Number.TheVariants as number
 use Rattle.abt_machine.specs.declared.operations.Thing.{Thing}
 use Rattle.abt_machine.specs.Declaring.{Above, declared_units, parts_of}
-use Rattle.abt_machine.specs.Faults.{is_barrier, is_condition, is_eventual, is_future, is_mutex, is_there, is_within}
+use Rattle.abt_machine.specs.Faults.{is_barrier, is_condition, is_eventual, is_future, is_mutex, is_rwlock, is_there, is_within}
 use Rattle.abt_machine.specs.Limits.{stream_limit, unit_limit}
 use Rattle.abt_workload.proofs.Keeping.{most-streams, most-units}
 use Rattle.abt_workload.proofs.Naming.{IsNamed}
@@ -96,6 +96,7 @@ module _ (a : Above) (few : IsSmall a) where
   fit number.Eventual n h = record { there = ap (λ (o : Option Thing). option_map_or is_eventual o false) h; within = refl; small = object-small n _ h }
   fit number.Future n h = record { there = ap (λ (o : Option Thing). option_map_or is_future o false) h.2; within = refl; small = object-small n _ h.2 }
   fit number.Barrier n h = record { there = ap (λ (o : Option Thing). option_map_or is_barrier o false) h.1; within = refl; small = object-small n _ h.1 }
+  fit number.RwLock n h = record { there = ap (λ (o : Option Thing). option_map_or is_rwlock o false) h; within = refl; small = object-small n _ h }
 
   -- and so may all of them
   pub all-fit : (ps : List (Number × ℕ)) → AreMet a ps → AreFit a ps

@@ -85,6 +85,7 @@ thing-grows xs y x (thing.Cond m) h = (h.0, get-more xs (y ∷ []) m.0 thing.Mut
 thing-grows xs y x thing.Eventual h = tt
 thing-grows xs y x (thing.Future n c) h = h
 thing-grows xs y x (thing.Barrier n) h = h
+thing-grows xs y x thing.RwLock h = tt
 
 -- Numbers that stand once.
 

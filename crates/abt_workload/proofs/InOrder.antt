@@ -15,7 +15,7 @@ use Rattle.abt_workload.proofs.Taking.{Takes, TakesAll}
 
 -- Sections.
 
--- the section after some lines of this section, where another was reached before them
+-- the section after some lines of this section, if another was reached before them
 abbrev pub reached : {A : Type 0} → ℕ → ℕ → List A → ℕ
 reached before section [] = before
 reached before section (x ∷ xs) = section
@@ -107,6 +107,6 @@ module _ {A : Type 0} (make : ℕ → A → List Text) (below : ℕ → List A �
         subst (λ k. TakesAll (after (front ++ x ∷ [])) (map (λ p. make p.0 p.1) (enumerate_from k rest)) (after all)) longer others,
       )
 
-  -- a section's lines are taken where each is taken below those before it
+  -- a section's lines are taken if each is taken below those before it
   pub section-taken : TakesAll (below before []) (numbered make all) (below (reached before section all) all)
   section-taken = rest-taken [] all refl

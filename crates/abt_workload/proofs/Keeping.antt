@@ -97,6 +97,7 @@ thing-in {a} {line} {words} (thing.Barrier n) s =
     let low : 1 ≤ size = le-from 1 size (and-left (nat_le 1 size) (nat_le size 4096) w) in
     let high : size ≤ 4096 = le-from size 4096 (and-right (nat_le 1 size) (nat_le size 4096) w) in
     (omega arith, high)
+thing-in thing.RwLock s = tt
 
 -- no format has more streams, or more units
 pub most-streams : (F : Format) → stream_limit F ≤ 16

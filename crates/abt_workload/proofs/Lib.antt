@@ -4,6 +4,7 @@ pub mod Copies
 pub mod Filled
 pub mod Firm
 pub mod Fitting
+pub mod Groups
 pub mod Growing
 pub mod HeadLines
 pub mod Heads

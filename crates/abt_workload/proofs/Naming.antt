@@ -13,11 +13,11 @@ use Rattle.abt_machine.specs.declared.workload.UnitPart.{UnitPart}
 use Rattle.abt_machine.specs.Declaring.{Above, at, op_later, op_with}
 use Rattle.abt_machine.specs.Faults.{is_there, is_within}
 use Rattle.abt_machine.specs.Forms.{fits, numerals, op_slots}
-use Rattle.abt_machine.specs.Operations.{IsBarrier, IsDeclared, IsEventual, IsFuture, IsMutex, said_by}
+use Rattle.abt_machine.specs.Operations.{IsBarrier, IsDeclared, IsEventual, IsFuture, IsMutex, IsRwLock, said_by}
 use Rattle.abt_machine.specs.Words.{Text}
 use Rattle.abt_machine.specs.Workloads.{IsCondition}
 use Rattle.abt_workload.specs.Slots.{numbered, values}
-use Rattle.abt_workload.proofs.Bounds.{barrier-there, condition-there, eventual-there, future-there, le-from, lt-from, mutex-there}
+use Rattle.abt_workload.proofs.Bounds.{barrier-there, condition-there, eventual-there, future-there, le-from, lt-from, mutex-there, rwlock-there}
 use Rattle.abt_workload.proofs.Places.{and-right, at-kind, kinds}
 use Rattle.abt_workload.proofs.Proper.{counted, muted}
 
@@ -40,6 +40,7 @@ IsNamed W number.Cond n = IsCondition W n
 IsNamed W number.Eventual n = IsEventual W n
 IsNamed W number.Future n = IsFuture W n
 IsNamed W number.Barrier n = IsBarrier W n
+IsNamed W number.RwLock n = IsRwLock W n
 
 module _ (a : Above) where
   pub named : (kind : Number) (n : ℕ) → is_there a kind n ≡ true → IsNamed (counted a) kind n
@@ -60,6 +61,7 @@ module _ (a : Above) where
   named number.Eventual n e = eventual-there a.objects n e
   named number.Future n e = future-there a.objects n e
   named number.Barrier n e = barrier-there a.objects n e
+  named number.RwLock n e = rwlock-there a.objects n e
 
 pub any-fits : (F : Format) (n : ℕ) → is_within F (number.Within 0 (2 ^ 64 - 1)) n ≡ true → n < 2 ^ 64
 any-fits F n e = let le = le-from n (2 ^ 64 - 1) (and-right (nat_le 0 n) (nat_le n (2 ^ 64 - 1)) e) in omega arith
@@ -119,6 +121,11 @@ module _ {a : Above} {words : List Text} (said : ℕ) where
   declared-op (op.FuReset x) s = named a number.Future _ (op-there (op.FuReset x) s 0 number.Future refl)
   declared-op (op.FuTest x) s = named a number.Future _ (op-there (op.FuTest x) s 0 number.Future refl)
   declared-op (op.BarWait x) s = named a number.Barrier _ (op-there (op.BarWait x) s 0 number.Barrier refl)
+  declared-op (op.ReadLock x) s = named a number.RwLock _ (op-there (op.ReadLock x) s 0 number.RwLock refl)
+  declared-op (op.WriteLock x) s = named a number.RwLock _ (op-there (op.WriteLock x) s 0 number.RwLock refl)
+  declared-op (op.RwUnlock x) s = named a number.RwLock _ (op-there (op.RwUnlock x) s 0 number.RwLock refl)
+  declared-op (op.RwLoad x) s = named a number.RwLock _ (op-there (op.RwLoad x) s 0 number.RwLock refl)
+  declared-op (op.RwStore x) s = named a number.RwLock _ (op-there (op.RwStore x) s 0 number.RwLock refl)
 
 -- words are named by no operation that says nothing
 pub others-said : (W : Parts) (ws : List Text) (o : Op) → IsDeclared (record W { words = ws }) (muted o) → IsDeclared W (muted o)

@@ -51,7 +51,7 @@ module _ (a : Above) where
   all-hold P each [] h = refl
   all-hold P each (p ∷ ps) h = and-both (P p.0 p.1) _ (each p.0 p.1 h.0) (all-hold P each ps h.1)
 
-  -- a line of these numbers is taken where it has a form, and no other fault
+  -- a line of these numbers is taken if it has a form, and no other fault
   pub line-taken : (b : Above) (words : List Text) (f : Form) (ps : List (Number × ℕ)) → All IsWord words → is_skipped words ≡ false
       → form_of a.format words ≡ Some f → numerals (slots f) words ≡ spelled ps → AreFit a ps → IsFine a f words (values ps)
       → with_line a f words (values ps) ≡ b → Takes a words b

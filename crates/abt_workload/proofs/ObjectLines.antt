@@ -28,6 +28,7 @@ form_thing (thing.Cond m) = thing.Cond (object_no 0)
 form_thing thing.Eventual = thing.Eventual
 form_thing (thing.Future n c) = thing.Future 0 combine.Sum
 form_thing (thing.Barrier n) = thing.Barrier 0
+form_thing thing.RwLock = thing.RwLock
 
 -- the numbers of a thing
 abbrev thing_numbers : Thing → List ℕ
@@ -36,6 +37,7 @@ thing_numbers (thing.Cond m) = m.0 ∷ []
 thing_numbers thing.Eventual = []
 thing_numbers (thing.Future n c) = n ∷ []
 thing_numbers (thing.Barrier n) = n ∷ []
+thing_numbers thing.RwLock = []
 
 -- the word of a future's values
 abbrev thing_word : Thing → Text

@@ -33,9 +33,14 @@ bit false = 0
 abbrev pub op_numbers : Op → List ℕ
 op_numbers (op.Set n) = n ∷ []
 op_numbers (op.Add n) = n ∷ []
+op_numbers (op.Say w) = []
+op_numbers op.Print = []
 op_numbers (op.KeySet k) = k ∷ []
 op_numbers (op.KeyGet k) = k ∷ []
+op_numbers op.Yield = []
 op_numbers (op.YieldTo v p) = v.0 ∷ p.0 ∷ []
+op_numbers op.Suspend = []
+op_numbers op.Exit = []
 op_numbers (op.Resume v) = v.0 ∷ []
 op_numbers (op.Create v p) = v.0 ∷ p.0 ∷ []
 op_numbers (op.Join v) = v.0 ∷ []
@@ -61,9 +66,13 @@ op_numbers (op.FuSet x) = x.0 ∷ []
 op_numbers (op.FuReset x) = x.0 ∷ []
 op_numbers (op.FuTest x) = x.0 ∷ []
 op_numbers (op.BarWait x) = x.0 ∷ []
-op_numbers o = []
+op_numbers (op.ReadLock x) = x.0 ∷ []
+op_numbers (op.WriteLock x) = x.0 ∷ []
+op_numbers (op.RwUnlock x) = x.0 ∷ []
+op_numbers (op.RwLoad x) = x.0 ∷ []
+op_numbers (op.RwStore x) = x.0 ∷ []
 
--- the word of an operation's line where there is a choice
+-- the word of an operation's line if there is a choice
 abbrev pub op_word : Parts → Op → Text
 op_word W (op.Say w) = word_at W w
 op_word W o = codes "say"

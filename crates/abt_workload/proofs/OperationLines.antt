@@ -82,12 +82,12 @@ body_like (body.Ult os) ops = body.Ult ops
 body_like (body.Task os) ops = body.Task ops
 body_like (body.Sched g) ops = body.Sched g
 
--- it is a scheduler where the other is
+-- it is a scheduler if the other is
 like-sched : (b : Body) (ops : List Op) → is_sched (body_like b ops) ≡ is_sched b
 like-sched (body.Ult os) ops = refl
 like-sched _ ops = refl
 
--- it is a tasklet's where the other is
+-- it is a tasklet's if the other is
 like-task : (b : Body) (ops : List Op) → is_task_body (body_like b ops) ≡ is_task_body b
 like-task (body.Ult os) ops = refl
 like-task _ ops = refl

@@ -54,6 +54,7 @@ IsThingIn things x (thing.Cond m) = (m.0 < x) × (slice_get things m.0 ≡ Some 
 IsThingIn things x thing.Eventual = ⊤
 IsThingIn things x (thing.Future n c) = (0 < n) × (n ≤ 4096)
 IsThingIn things x (thing.Barrier n) = (0 < n) × (n ≤ 4096)
+IsThingIn things x thing.RwLock = ⊤
 
 -- a unit of no operation
 abbrev pub idle : UnitPart

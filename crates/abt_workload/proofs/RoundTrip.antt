@@ -83,7 +83,7 @@ module _ (b : Above) (streams count : ℕ) (begun : b.begun ≡ true) (has_strea
   end-there : is_early b form.End ≡ false
   end-there = let no : nat_lt (declared_units b) count ≡ false = le-ltb (declared_units b) count (omega arith) in rw (has_streams, has_count, no) refl
 
-  -- the line is taken where all units are declared
+  -- the line is taken if all units are declared
   end-taken : b.section ≤ 9 → Takes b end_words (closed b)
   end-taken place =
       takes b (closed b) form.End (codes "end") [] end_words

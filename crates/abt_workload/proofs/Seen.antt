@@ -14,7 +14,7 @@ use Rattle.abt_machine.specs.Limits.{text_limit}
 use Rattle.abt_machine.specs.Spelling.{lines_of}
 use Rattle.abt_machine.specs.Words.{Text}
 
--- The front of what is left.
+-- The prefix of what is left.
 
 record Front (L : List Text) (n : ℕ) (x : Text) (xs : List Text) : Type 0 where
   lt : n < length L
@@ -37,7 +37,7 @@ drop-more L n x xs e = rw add-one ((front L n x xs e).next)
 
 -- The fault at a place.
 
--- a line's fault, where there is a line, and that of an end that is missing
+-- a line's fault, if there is a line, and that of an end that is missing
 abbrev by-place : List Text → ℕ → Bool → Fault → Bool
 by-place L n there f = if there then line_has (declared_by (take n L)) (get_or L n []) f else ((n == length L) && ends_early (declared_by L) f)
 
@@ -138,7 +138,7 @@ refuses-end text n a le en at least other =
     let here : find (has_at (lines_of text) n) faults ≡ Some fault.NoEnd = ap (λ (i : ℕ). find (has_at (lines_of text) i) faults) en ∙ (fault-after (lines_of text) ∙ ap after-by other') in
     refuses-at text n fault.NoEnd le least here
 
--- no place has a fault where all lines were taken, and the last was `end`
+-- no place has a fault if all lines were taken, and the last was `end`
 pub faultless-end : (L : List Text) (n : ℕ) (a : Above) → n ≡ length L → a ≡ declared_by L → IsFaultless L n → (a.section == 10) ≡ true → (i : ℕ) → find (has_at L i) faults ≡ None
 faultless-end L n a en at least ended i = by (cases_order i (length L))
   where

@@ -25,7 +25,7 @@ use Rattle.abt_workload.proofs.Taking.{Takes, TakesAll, plain-word}
 
 -- Main schedulers.
 
--- the main schedulers of this many streams, where the first streams have these
+-- the main schedulers of this many streams, if the first streams have these
 abbrev pub mains_from : ℕ → List SchedNo → List (Option SchedNo)
 mains_from n [] = replicate n None
 mains_from zero (g ∷ gs) = Some g ∷ mains_from zero gs
@@ -48,7 +48,7 @@ mains-declared n [] = any-none n
 mains-declared zero (g ∷ gs) = ap (λ (hs : List SchedNo). g ∷ hs) (mains-declared zero gs)
 mains-declared (suc n) (g ∷ gs) = ap (λ (hs : List SchedNo). g ∷ hs) (mains-declared n gs)
 
--- where no stream has a main scheduler, this one has none
+-- if no stream has a main scheduler, this one has none
 none-at : (n s : ℕ) → option_map_or is_some (slice_get (let none : Option SchedNo = None in replicate n none) s) false ≡ false
 none-at zero s = refl
 none-at (suc n) zero = refl

@@ -152,6 +152,7 @@ module _ (W : Parts) (v : IsValid W) where
   thing-light x thing.Eventual lt h = omega arith
   thing-light x (thing.Future n c) lt h = let most = h.1 in let d = few-digits n (omega arith) in let e = combine-light c in omega arith
   thing-light x (thing.Barrier n) lt h = let most = h.1 in let d = few-digits n (omega arith) in omega arith
+  thing-light x thing.RwLock lt h = omega arith
 
   object-light : (x : ℕ) (t : Thing) → x < 2 ^ 64 → IsSmallThing t → IsLight 119 (object_line x t)
   object-light x t lt h = let d = few-digits x lt in let w = thing-light h.0 t h.1 h.2 in (refl, omega arith)
@@ -193,6 +194,11 @@ module _ (W : Parts) (v : IsValid W) where
   op-light (op.FuReset x) h = one-light (codes "freset") x.0 (omega arith) (object-small x.0 _ h.2)
   op-light (op.FuTest x) h = one-light (codes "ftest") x.0 (omega arith) (object-small x.0 _ h.2)
   op-light (op.BarWait x) h = one-light (codes "bwait") x.0 (omega arith) (object-small x.0 _ h.1)
+  op-light (op.ReadLock x) h = one-light (codes "rdlock") x.0 (omega arith) (object-small x.0 _ h)
+  op-light (op.WriteLock x) h = one-light (codes "wrlock") x.0 (omega arith) (object-small x.0 _ h)
+  op-light (op.RwUnlock x) h = one-light (codes "rwunlock") x.0 (omega arith) (object-small x.0 _ h)
+  op-light (op.RwLoad x) h = one-light (codes "rwload") x.0 (omega arith) (object-small x.0 _ h)
+  op-light (op.RwStore x) h = one-light (codes "rwstore") x.0 (omega arith) (object-small x.0 _ h)
 
   body-light : (b : Body) → IsBody W b → weight (body_words b) ≤ 30
   body-light (body.Ult ops) h = omega arith

@@ -45,7 +45,7 @@ pub record IsWhole (W : Parts) (b : Above) : Type 0 where
 
 -- Main schedulers, and the starts of units.
 
--- where each stream has a main scheduler, these are all
+-- if each stream has a main scheduler, these are all
 mains-back : (ms : List SchedNo) → flat_map option_to_list (map (λ (g : SchedNo). Some g) ms) ≡ ms
 mains-back [] = refl
 mains-back (m ∷ ms) = ap (λ (gs : List SchedNo). m ∷ gs) (mains-back ms)
@@ -104,7 +104,7 @@ module _ (F : Format) (W : Parts) (v : IsValid W) (front : List UnitPart) (part 
     all-units : units_of (reached F W s units last before said) ≡ front
     all-units = reached-units F W s units last before said ∙ reach
 
-    -- as many units are declared as the front has
+    -- as many units are declared as the prefix has
     count : declared_units (reached F W s units last before said) ≡ length front
     count = ap length all-units
 
@@ -188,7 +188,7 @@ module _ (F : Format) (W : Parts) (v : IsValid W) where
             ∙ ap (λ (ws : List Text). record W { words = ws }) (reached-words F W s units last before said quiet ∙ all-words (before ++ said) is));
       }
 
-  -- the lines of the units after a front are taken
+  -- the lines of the units after a prefix are taken
   units-from : (front rest : List UnitPart) → front ++ rest ≡ W.units → (s : ℕ) → s ≤ 9
       → (units : List UnitPart) (last : Option UnitPart) → units ++ option_to_list last ≡ front
       → (before said : List ℕ) → IsQuiet last said → words_said W ≡ (before ++ said) ++ said_by_units rest

@@ -33,7 +33,7 @@ use Rattle.abt_workload.proofs.Proper.{IsAccessIn, IsBodyIn, IsProper, IsSchedIn
 
 -- Main schedulers.
 
--- each stream's main scheduler, where all have one
+-- each stream's main scheduler, if all have one
 full-main : (ms : List (Option SchedNo)) (s : ℕ) → list_any is_none ms ≡ false → s < length ms → (g : SchedNo) × (slice_get ms s ≡ Some (Some g)) × (slice_get (flat_map option_to_list ms) s ≡ Some g)
 full-main [] s e lt = absurd (omega arith)
 full-main (None ∷ ms) s e lt = cc
@@ -64,6 +64,7 @@ thing-valid W x (thing.Cond m) h = h
 thing-valid W x thing.Eventual h = tt
 thing-valid W x (thing.Future n c) h = h
 thing-valid W x (thing.Barrier n) h = h
+thing-valid W x thing.RwLock h = tt
 
 body-valid : (W : Parts) (b : Body) → IsBodyIn (length W.scheds) b → IsBody W b
 body-valid W (body.Ult ops) h = tt

@@ -44,11 +44,11 @@ module _ (test : Fault → Bool) where
 
 -- A line that has a form begins as that form's lines do.
 
-has_slot : List Slot → Bool
+pub has_slot : List Slot → Bool
 has_slot [] = false
 has_slot (slot ∷ places) = true
 
-fitting-begins : (places : List Slot) (words : List Text) → has_slot places ≡ true → fits places words ≡ true → begins places words ≡ true
+pub fitting-begins : (places : List Slot) (words : List Text) → has_slot places ≡ true → fits places words ≡ true → begins places words ≡ true
 unfolding has_slot
 fitting-begins [] words some e = cc
 fitting-begins (slot ∷ places) [] some e = cc
@@ -64,7 +64,7 @@ unfolding has_slot
 op_slots-some (op.Set n) = refl
 op_slots-some _ = refl
 
-slots-some : (f : Form) → has_slot (slots f) ≡ true
+pub slots-some : (f : Form) → has_slot (slots f) ≡ true
 unfolding has_slot
 slots-some (form.Version format.One) = refl
 slots-some (form.Version format.Two) = refl

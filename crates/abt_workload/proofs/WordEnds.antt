@@ -6,7 +6,7 @@ use Rattle.std.proofs.lemmas.List.Splits.{slice_split_at, slice_split_none}
 use Rattle.abt_machine.specs.Spelling.{is_empty, is_separator, words_of}
 use Rattle.abt_machine.specs.Words.{Text}
 
--- a separator at the front makes no word
+-- a separator at the start makes no word
 pub words_past : (b : ℕ) (rest : Text) → is_separator b ≡ true → words_of (b ∷ rest) ≡ words_of rest
 words_past b rest e = rw e refl
 

@@ -35,7 +35,7 @@ behind out pieces piece old new before after =
     let joined : (out ++ pieces) ++ piece ≡ out ++ (pieces ++ piece) = append_assoc out pieces piece in
     cc
 
--- where a text goes on with the line of element i, it has the lines of the elements up to i
+-- if a text goes on with the line of element i, it has the lines of the elements up to i
 pub line-more : {A : Type 0} (f : ℕ → A → List Text) (xs : List A) (i : ℕ) (x : A) (out old new : Text) → slice_get xs i ≡ Some x →
     old ≡ out ++ text_of (numbered f (take i xs)) → new ≡ old ++ ended (line_of (f i x)) → new ≡ out ++ text_of (numbered f (take (i + 1) xs))
 line-more f xs i x out old new at before after =

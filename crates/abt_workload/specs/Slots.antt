@@ -1,5 +1,6 @@
 -- What the reader's table and its numbers are in the grammar.
-use Rattle.std.specs.Prelude.{ℕ, if◌then◌else◌, List, [], ◌∷◌, codes, map, Option, Some, None}
+use Rattle.std.specs.Prelude.{ℕ, ◌≡◌, ◌⊎◌, if◌then◌else◌, List, [], ◌∷◌, codes, map, Option, Some, None}
+use Rattle.std.specs.List.{filter}
 use Rattle.abt_machine.specs.declared.grammar.Form.{Form}
 use Rattle.abt_machine.specs.declared.grammar.Form.TheVariants as form
 use Rattle.abt_machine.specs.declared.grammar.Number.{Number}
@@ -26,6 +27,10 @@ repeat_slots places = grammar.Fixed (codes "repeat") ∷ grammar.within 1 unit_o
 abbrev pub own_slots : Form → List grammar.Slot
 own_slots (form.Repeat o) = grammar.op_slots o
 own_slots f = grammar.slots f
+
+-- the forms of the lines that begin with this word, or all forms
+abbrev pub AreFormsOf : Text → List Form → Type 0
+AreFormsOf word group = (group ≡ filter (λ f. grammar.begins (grammar.slots f) (word ∷ [])) grammar.forms) ⊎ (group ≡ grammar.forms)
 
 -- the number that a word is, if it is one
 abbrev pub number_in : Text → Option ℕ

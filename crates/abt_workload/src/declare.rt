@@ -250,7 +250,7 @@ impl Draft {
     }
 }
 
-// The word at a place, counted from 0, and none where there is none.
+// The word at a place, counted from 0, and none if there is none.
 fn word_in<'a>(words: &[&'a [u8]], k: usize) -> &'a [u8]
     ensures { result.now ≡ word_in (map (λ w. w.now) words.now) k }
 {
@@ -339,6 +339,7 @@ fn thing_with(thing: Thing, words: &[&[u8]], numbers: &[Numbered]) -> Thing
         Thing::Eventual => Thing::Eventual,
         Thing::Future(_, _) => Thing::Future(n, combine_named(word_in(words, 4))),
         Thing::Barrier(_) => Thing::Barrier(n),
+        Thing::RwLock => Thing::RwLock,
     }
 }
 
@@ -552,5 +553,10 @@ fn named_op(op: Op, said: u32, m: u32, n: u32) -> Op
         Op::FuReset(_) => Op::FuReset(ObjectNo(m)),
         Op::FuTest(_) => Op::FuTest(ObjectNo(m)),
         Op::BarWait(_) => Op::BarWait(ObjectNo(m)),
+        Op::ReadLock(_) => Op::ReadLock(ObjectNo(m)),
+        Op::WriteLock(_) => Op::WriteLock(ObjectNo(m)),
+        Op::RwUnlock(_) => Op::RwUnlock(ObjectNo(m)),
+        Op::RwLoad(_) => Op::RwLoad(ObjectNo(m)),
+        Op::RwStore(_) => Op::RwStore(ObjectNo(m)),
     }
 }

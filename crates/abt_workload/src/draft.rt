@@ -5,7 +5,7 @@ ghost use Rattle.std.specs.List.{list_all, list_any};
 ghost use Rattle.std.specs.Option.{option_map_or};
 ghost use Rattle.abt_machine.specs.Access.{may_take, may_take_all};
 ghost use Rattle.abt_machine.specs.Declaring.{declared_units, last_units, nothing, parts_of};
-ghost use Rattle.abt_machine.specs.Faults.{has_main, has_no_room, has_object, is_barrier, is_condition, is_crowded, is_eventual, is_future, is_long, is_mutex, is_placed, is_task, is_there, takes_operations};
+ghost use Rattle.abt_machine.specs.Faults.{has_main, has_no_room, has_object, is_barrier, is_condition, is_crowded, is_eventual, is_future, is_long, is_mutex, is_placed, is_rwlock, is_task, is_there, takes_operations};
 ghost use Rattle.abt_machine.specs.Limits.{operation_limit};
 ghost use Rattle.abt_machine.specs.Valid.{sched_in};
 ghost use Rattle.abt_machine.specs.Workloads.{access_from};
@@ -138,6 +138,7 @@ impl Draft {
             Number::Eventual => matches!(self.object(n), Some(Thing::Eventual)),
             Number::Future => matches!(self.object(n), Some(Thing::Future(_, _))),
             Number::Barrier => matches!(self.object(n), Some(Thing::Barrier(_))),
+            Number::RwLock => matches!(self.object(n), Some(Thing::RwLock)),
         }
     }
 
@@ -209,7 +210,7 @@ impl Draft {
         true
     }
 
-    // The access of a pool, and `Mpmc` where it is not declared.
+    // The access of a pool, and `Mpmc` if it is not declared.
     fn access(&self, p: u64) -> Access
         ensures { result ≡ access_from (slice_get self.now.pools p) }
     {

@@ -5,7 +5,7 @@ ghost use Rattle.abt_machine.specs.Forms.{begins, fits, form_of, is_in, op_slots
 ghost use Rattle.abt_machine.specs.Faults.{is_unknown};
 ghost use Rattle.abt_machine.specs.declared.grammar.Form.TheVariants as form;
 ghost use Rattle.abt_machine.specs.declared.grammar.Format.TheVariants as format;
-ghost use Rattle.abt_workload.specs.Slots.{own_slots, slot_of};
+ghost use Rattle.abt_workload.specs.Slots.{AreFormsOf, own_slots, slot_of};
 
 use abt_machine::{
     Access, Combine, Form, Format, Number, ObjectNo, Op, PoolNo, Role, Rule, StreamNo, Thing,
@@ -25,7 +25,7 @@ pub(crate) enum Slot {
 }
 
 // One form of each; a form's numbers say nothing.
-static FORMS: [Form; 103] = [
+static FORMS: [Form; 114] = [
     Form::Version(Format::One),
     Form::Version(Format::Two),
     Form::Streams,
@@ -45,6 +45,7 @@ static FORMS: [Form; 103] = [
     Form::Object(Thing::Eventual),
     Form::Object(Thing::Future(0, Combine::Sum)),
     Form::Object(Thing::Barrier(0)),
+    Form::Object(Thing::RwLock),
     Form::Units,
     Form::Unit(Role::Ult, Some(PoolNo(0))),
     Form::Unit(Role::Ult, None),
@@ -88,6 +89,11 @@ static FORMS: [Form; 103] = [
     Form::Operation(Op::FuReset(ObjectNo(0))),
     Form::Operation(Op::FuTest(ObjectNo(0))),
     Form::Operation(Op::BarWait(ObjectNo(0))),
+    Form::Operation(Op::ReadLock(ObjectNo(0))),
+    Form::Operation(Op::WriteLock(ObjectNo(0))),
+    Form::Operation(Op::RwUnlock(ObjectNo(0))),
+    Form::Operation(Op::RwLoad(ObjectNo(0))),
+    Form::Operation(Op::RwStore(ObjectNo(0))),
     Form::Many(Role::Ult, Some(PoolNo(0))),
     Form::Many(Role::Ult, None),
     Form::Many(Role::Task, Some(PoolNo(0))),
@@ -129,6 +135,11 @@ static FORMS: [Form; 103] = [
     Form::Repeat(Op::FuReset(ObjectNo(0))),
     Form::Repeat(Op::FuTest(ObjectNo(0))),
     Form::Repeat(Op::BarWait(ObjectNo(0))),
+    Form::Repeat(Op::ReadLock(ObjectNo(0))),
+    Form::Repeat(Op::WriteLock(ObjectNo(0))),
+    Form::Repeat(Op::RwUnlock(ObjectNo(0))),
+    Form::Repeat(Op::RwLoad(ObjectNo(0))),
+    Form::Repeat(Op::RwStore(ObjectNo(0))),
 ];
 
 /// What stands at the places of a line of this form; of a `repeat` line after its first two words, that is
@@ -241,6 +252,11 @@ pub(crate) fn slots(form: Form) -> &'static [Slot]
             Slot::Numeral(Number::NewObject),
             Slot::Fixed("barrier"),
             Slot::Numeral(Number::Within(1, 4096)),
+        ],
+        Form::Object(Thing::RwLock) => &[
+            Slot::Fixed("object"),
+            Slot::Numeral(Number::NewObject),
+            Slot::Fixed("rwlock"),
         ],
         Form::Units => &[Slot::Fixed("units"), Slot::Numeral(Number::UnitCount)],
         Form::Unit(Role::Ult, Some(_)) => &[
@@ -405,6 +421,11 @@ fn op_slots(op: Op) -> &'static [Slot]
         Op::FuReset(_) => &[Slot::Fixed("freset"), Slot::Numeral(Number::Future)],
         Op::FuTest(_) => &[Slot::Fixed("ftest"), Slot::Numeral(Number::Future)],
         Op::BarWait(_) => &[Slot::Fixed("bwait"), Slot::Numeral(Number::Barrier)],
+        Op::ReadLock(_) => &[Slot::Fixed("rdlock"), Slot::Numeral(Number::RwLock)],
+        Op::WriteLock(_) => &[Slot::Fixed("wrlock"), Slot::Numeral(Number::RwLock)],
+        Op::RwUnlock(_) => &[Slot::Fixed("rwunlock"), Slot::Numeral(Number::RwLock)],
+        Op::RwLoad(_) => &[Slot::Fixed("rwload"), Slot::Numeral(Number::RwLock)],
+        Op::RwStore(_) => &[Slot::Fixed("rwstore"), Slot::Numeral(Number::RwLock)],
     }
 }
 
@@ -475,11 +496,205 @@ fn has_form(format: Format, form: Form, words: &[&[u8]]) -> bool
     }
 }
 
+// The forms of the lines that begin with this word, or all forms if no line does.
+fn forms_of(word: &[u8]) -> &'static [Form]
+    ensures { AreFormsOf word.now result.now }
+{
+    match word.len() {
+        3 => forms_of_three(word),
+        4 => forms_of_four(word),
+        5 => forms_of_five(word),
+        6 => forms_of_six(word),
+        7 => forms_of_seven(word),
+        8 => forms_of_eight(word),
+        9 => forms_of_nine(word),
+        10 => forms_of_ten(word),
+        _ => FORMS.as_slice(),
+    }
+}
+
+// The same of a word of three bytes.
+fn forms_of_three(word: &[u8]) -> &'static [Form]
+    ensures { AreFormsOf word.now result.now }
+{
+    if is(word, "abt") {
+        &FORMS[0..2]
+    } else if is(word, "end") {
+        &FORMS[27..28]
+    } else if is(word, "set") {
+        &FORMS[28..29]
+    } else if is(word, "add") {
+        &FORMS[29..30]
+    } else if is(word, "say") {
+        &FORMS[30..31]
+    } else {
+        FORMS.as_slice()
+    }
+}
+
+// The same of a word of four bytes.
+fn forms_of_four(word: &[u8]) -> &'static [Form]
+    ensures { AreFormsOf word.now result.now }
+{
+    if is(word, "keys") {
+        &FORMS[3..4]
+    } else if is(word, "pool") {
+        &FORMS[4..9]
+    } else if is(word, "unit") {
+        &FORMS[21..27]
+    } else if is(word, "kset") {
+        &FORMS[32..33]
+    } else if is(word, "kget") {
+        &FORMS[33..34]
+    } else if is(word, "exit") {
+        &FORMS[37..38]
+    } else if is(word, "join") {
+        &FORMS[40..41]
+    } else if is(word, "lock") {
+        &FORMS[46..47]
+    } else if is(word, "load") {
+        &FORMS[49..50]
+    } else if is(word, "eset") {
+        &FORMS[55..56]
+    } else if is(word, "fset") {
+        &FORMS[59..60]
+    } else if is(word, "many") {
+        &FORMS[68..74]
+    } else {
+        FORMS.as_slice()
+    }
+}
+
+// The same of a word of five bytes.
+fn forms_of_five(word: &[u8]) -> &'static [Form]
+    ensures { AreFormsOf word.now result.now }
+{
+    if is(word, "sched") {
+        &FORMS[9..13]
+    } else if is(word, "units") {
+        &FORMS[20..21]
+    } else if is(word, "print") {
+        &FORMS[31..32]
+    } else if is(word, "yield") {
+        &FORMS[34..35]
+    } else if is(word, "store") {
+        &FORMS[50..51]
+    } else if is(word, "cwait") {
+        &FORMS[51..52]
+    } else if is(word, "ewait") {
+        &FORMS[54..55]
+    } else if is(word, "etest") {
+        &FORMS[57..58]
+    } else if is(word, "fwait") {
+        &FORMS[58..59]
+    } else if is(word, "ftest") {
+        &FORMS[61..62]
+    } else if is(word, "bwait") {
+        &FORMS[62..63]
+    } else {
+        FORMS.as_slice()
+    }
+}
+
+// The same of a word of six bytes.
+fn forms_of_six(word: &[u8]) -> &'static [Form]
+    ensures { AreFormsOf word.now result.now }
+{
+    if is(word, "stream") {
+        &FORMS[13..14]
+    } else if is(word, "object") {
+        &FORMS[14..20]
+    } else if is(word, "resume") {
+        &FORMS[38..39]
+    } else if is(word, "create") {
+        &FORMS[39..40]
+    } else if is(word, "cancel") {
+        &FORMS[41..42]
+    } else if is(word, "revive") {
+        &FORMS[45..46]
+    } else if is(word, "unlock") {
+        &FORMS[48..49]
+    } else if is(word, "signal") {
+        &FORMS[52..53]
+    } else if is(word, "ereset") {
+        &FORMS[56..57]
+    } else if is(word, "freset") {
+        &FORMS[60..61]
+    } else if is(word, "rdlock") {
+        &FORMS[63..64]
+    } else if is(word, "wrlock") {
+        &FORMS[64..65]
+    } else if is(word, "rwload") {
+        &FORMS[66..67]
+    } else if is(word, "repeat") {
+        &FORMS[74..114]
+    } else {
+        FORMS.as_slice()
+    }
+}
+
+// The same of a word of seven bytes.
+fn forms_of_seven(word: &[u8]) -> &'static [Form]
+    ensures { AreFormsOf word.now result.now }
+{
+    if is(word, "streams") {
+        &FORMS[2..3]
+    } else if is(word, "yieldto") {
+        &FORMS[35..36]
+    } else if is(word, "suspend") {
+        &FORMS[36..37]
+    } else if is(word, "migrate") {
+        &FORMS[42..43]
+    } else if is(word, "trylock") {
+        &FORMS[47..48]
+    } else if is(word, "rwstore") {
+        &FORMS[67..68]
+    } else {
+        FORMS.as_slice()
+    }
+}
+
+// The same of a word of eight bytes.
+fn forms_of_eight(word: &[u8]) -> &'static [Form]
+    ensures { AreFormsOf word.now result.now }
+{
+    if is(word, "rwunlock") {
+        &FORMS[65..66]
+    } else {
+        FORMS.as_slice()
+    }
+}
+
+// The same of a word of nine bytes.
+fn forms_of_nine(word: &[u8]) -> &'static [Form]
+    ensures { AreFormsOf word.now result.now }
+{
+    if is(word, "migrateto") {
+        &FORMS[43..44]
+    } else if is(word, "broadcast") {
+        &FORMS[53..54]
+    } else {
+        FORMS.as_slice()
+    }
+}
+
+// The same of a word of ten bytes.
+fn forms_of_ten(word: &[u8]) -> &'static [Form]
+    ensures { AreFormsOf word.now result.now }
+{
+    if is(word, "migratable") {
+        &FORMS[44..45]
+    } else {
+        FORMS.as_slice()
+    }
+}
+
 /// The form of a line of these words in a text of this format, if it has one.
 pub(crate) fn form_of(format: Format, words: &[&[u8]]) -> Option<Form>
     ensures { result ≡ form_of format (map (λ w. w.now) words.now) }
 {
-    for form in FORMS.as_slice() {
+    let word = words.first()?;
+    for form in forms_of(word) {
         if has_form(format, *form, words) {
             return Some(*form);
         }

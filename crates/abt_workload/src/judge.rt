@@ -35,7 +35,7 @@ pub(crate) fn section(form: Form) -> u8
     }
 }
 
-// Finds the numbers of a line, in place of those that were there; false where a word in a number's place is
+// Finds the numbers of a line, in place of those that were there; false if a word in a number's place is
 // no number.
 fn find_numbers(form: Form, words: &[&[u8]], numbers: &mut Vec<Numbered>) -> Result<bool, Want>
     ensures all { IfOk result (λ all. all ≡ list_all (λ p. is_number p.1) (numerals (slots form) (map (λ w. w.now) words.now))) }
@@ -111,7 +111,7 @@ impl Draft {
         !self.begun && !is_version(words)
     }
 
-    // Whether a line of this form may not stand here.
+    // Whether a line of this form must not stand here.
     fn is_misplaced(&self, form: Form) -> bool
         ensures { result ≡ is_misplaced self.now form }
     {
@@ -219,7 +219,7 @@ impl Draft {
         }
     }
 
-    // Whether a line gives a stream a scheduler that lists a pool from which the stream may not take.
+    // Whether a line gives a stream a scheduler that lists a pool from which the stream must not take.
     fn is_barred(&self, form: Form, numbers: &[Numbered]) -> bool
         ensures { result ≡ is_barred self.now form (values numbers.now) }
     {

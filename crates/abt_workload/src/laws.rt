@@ -12,7 +12,7 @@ pub fn each_text_has_one_answer()
     ensures one_refusal { (text : Text) → RefusesOnce text }
 {}
 
-/// Parts are those of a workload exactly where some text reads to them; then the canonical text does.
+/// Parts are those of a workload exactly if some text reads to them; then the canonical text does.
 pub fn valid_parts_have_a_text()
     ensures canonical { (W : Parts) → HasText W }
     ensures only_valid { (text : Text) (W : Parts) → ReadsValid text W }

@@ -21,7 +21,7 @@ use std::collections::BTreeSet;
 /// A number and what it is.
 pub(crate) type Numbered = (Number, u64);
 
-/// Adds the numbers of a line; false where a word in a number's place is no number.
+/// Adds the numbers of a line; false if a word in a number's place is no number.
 pub(crate) fn add_numbers(
     slots: &[Slot],
     words: &[&[u8]],
@@ -106,7 +106,7 @@ fn add_pools(words: &[&[u8]], numbers: &mut Vec<Numbered>) -> Result<bool, Want>
     Ok(true)
 }
 
-/// The number at a place, counted from 0, and 0 where there is none.
+/// The number at a place, counted from 0, and 0 if there is none.
 pub(crate) fn value(numbers: &[Numbered], k: usize) -> u64
     ensures { result ≡ at (values numbers.now) k }
 {

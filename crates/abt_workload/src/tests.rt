@@ -22,7 +22,7 @@ const WHOLE: &str =
 // A text that is refused, below a base or by itself, with its line and fault.
 type Row = (&'static str, &'static str, u32, Fault);
 
-static ROWS: [Row; 102] = [
+static ROWS: [Row; 110] = [
     ("", "abt 3\n", 1, Fault::Version),
     ("", "# a\n\nstreams 1\n", 3, Fault::Version),
     ("", "abt 01\n", 1, Fault::Version),
@@ -32,13 +32,15 @@ static ROWS: [Row; 102] = [
     (BASE, "units 0\nend\nwalk\n", 8, Fault::Unknown),
     (BASE, "end\r\n", 6, Fault::Unknown),
     (BASE, "leave\n", 6, Fault::Unknown),
+    (BASE, "rwlock 0\n", 6, Fault::Unknown),
     ("", "abt 1\nstreams 1\r\n", 2, Fault::Shape),
     (BASE, "units 1 1\n", 6, Fault::Shape),
     (BASE, "streams 1\n", 6, Fault::Shape),
     ("", "abt 1\nabt 1\n", 2, Fault::Shape),
     (BASE, "print\n", 6, Fault::Shape),
     (BASE, "units 0\nend\nend\n", 8, Fault::Shape),
-    (BASE, "object 0 rwlock\n", 6, Fault::Shape),
+    (BASE, "object 0 spinlock\n", 6, Fault::Shape),
+    (BASE, "object 0 rwlock 4\n", 6, Fault::Shape),
     (BASE, "object 0 future x many\n", 6, Fault::Shape),
     (BASE, "units \u{7f}\n", 6, Fault::Shape),
     (BASE, "units x\n", 6, Fault::Number),
@@ -83,6 +85,24 @@ static ROWS: [Row; 102] = [
     (
         BASE,
         "object 0 eventual\nunits 1\nunit 0 task at 0\nlock 0\n",
+        9,
+        Fault::Undeclared,
+    ),
+    (
+        BASE,
+        "object 0 rwlock\nobject 1 cond 0\n",
+        7,
+        Fault::Undeclared,
+    ),
+    (
+        BASE,
+        "object 0 rwlock\nunits 1\nunit 0 ult at 0\nrwload 0\nload 0\n",
+        10,
+        Fault::Undeclared,
+    ),
+    (
+        BASE,
+        "object 0 mutex\nunits 1\nunit 0 task at 0\nwrlock 0\n",
         9,
         Fault::Undeclared,
     ),
@@ -150,6 +170,18 @@ static ROWS: [Row; 102] = [
         BASE,
         "object 0 mutex\nunits 1\nunit 0 task at 0\ntrylock 0\nlock 0\n",
         10,
+        Fault::TaskBlocks,
+    ),
+    (
+        BASE,
+        "object 0 rwlock\nunits 1\nunit 0 task at 0\nrwunlock 0\nrwload 0\nrwstore 0\nrdlock 0\n",
+        12,
+        Fault::TaskBlocks,
+    ),
+    (
+        BASE,
+        "object 0 rwlock\nunits 1\nunit 0 task at 0\nwrlock 0\n",
+        9,
         Fault::TaskBlocks,
     ),
     (
@@ -357,6 +389,12 @@ static ROWS: [Row; 102] = [
         BASE_TWO,
         "units 2\nmany 0 2 task at 0\nrepeat 2 yield\n",
         8,
+        Fault::TaskBlocks,
+    ),
+    (
+        BASE_TWO,
+        "object 0 rwlock\nunits 1\nunit 0 task at 0\nrepeat 2 rwload 0\nrepeat 2 rdlock 0\n",
+        10,
         Fault::TaskBlocks,
     ),
     (

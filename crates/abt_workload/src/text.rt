@@ -10,7 +10,7 @@ ghost use Rattle.abt_workload.specs.Slots.{number_in};
 use crate::forms::is;
 use abt_machine::{Format, Want};
 
-// The place of the first line feed, or the length where there is none.
+// The place of the first line feed, or the length if there is none.
 fn line_end(text: &[u8]) -> usize
     ensures bound { result ≤ length text.now }
     ensures at { result < length text.now → (slice_index text.now result == 10) ≡ true }
@@ -47,7 +47,7 @@ fn is_separator(b: u8) -> bool
 // The line from its first byte that is no separator.
 fn without_front(line: &[u8]) -> &[u8]
     ensures words { words_of result.now ≡ words_of line.now }
-    ensures front { 0 < length result.now → is_separator (slice_index result.now 0) ≡ false }
+    ensures start { 0 < length result.now → is_separator (slice_index result.now 0) ≡ false }
     ensures bound { length result.now ≤ length line.now }
 {
     for (k, b) in line.iter().enumerate() {
@@ -58,7 +58,7 @@ fn without_front(line: &[u8]) -> &[u8]
     &[]
 }
 
-// The place of the first separator, or the length where there is none.
+// The place of the first separator, or the length if there is none.
 fn word_end(line: &[u8]) -> usize
     ensures bound { result ≤ length line.now }
     ensures at { result < length line.now → is_separator (slice_index line.now result) ≡ true }
@@ -72,7 +72,7 @@ fn word_end(line: &[u8]) -> usize
     line.len()
 }
 
-// The first word of a line, and what follows it, where the line has a word.
+// The first word of a line, and what follows it, if the line has a word.
 fn first_word(line: &[u8]) -> Option<(&[u8], &[u8])>
     ensures none { IfNone result (words_of line.now ≡ []) }
     ensures word { IfSome result (λ cut. words_of line.now ≡ cut.0.now ∷ words_of cut.1.now) }

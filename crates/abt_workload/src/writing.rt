@@ -67,7 +67,7 @@ fn push_version(out: &mut Vec<u8>) -> Result<(), Want>
     Ok(())
 }
 
-// Appends the line of the keys, where there are some.
+// Appends the line of the keys, if there are some.
 fn push_keys(out: &mut Vec<u8>, keys: u32) -> Result<(), Want>
     ensures { OnOk result (out.new.items ≡ out.old.items ++ text_of (keys_lines keys)) }
 {
@@ -235,6 +235,7 @@ fn push_thing(out: &mut Vec<u8>, thing: Thing) -> Result<(), Want>
             push_word(out, name_of_combine(combine))
         }
         Thing::Barrier(n) => push_pair(out, b"barrier", u64::from(n)),
+        Thing::RwLock => push_word(out, b"rwlock"),
     }
 }
 
@@ -307,6 +308,11 @@ fn push_op(out: &mut Vec<u8>, w: &Workload, op: Op) -> Result<(), Want>
         Op::FuReset(x) => push_one(out, b"freset", u64::from(x.0)),
         Op::FuTest(x) => push_one(out, b"ftest", u64::from(x.0)),
         Op::BarWait(x) => push_one(out, b"bwait", u64::from(x.0)),
+        Op::ReadLock(x) => push_one(out, b"rdlock", u64::from(x.0)),
+        Op::WriteLock(x) => push_one(out, b"wrlock", u64::from(x.0)),
+        Op::RwUnlock(x) => push_one(out, b"rwunlock", u64::from(x.0)),
+        Op::RwLoad(x) => push_one(out, b"rwload", u64::from(x.0)),
+        Op::RwStore(x) => push_one(out, b"rwstore", u64::from(x.0)),
     }
 }
 

@@ -18,19 +18,19 @@ const STACKED_OTHERWISE: &str =
 
 // A text with each kind of part.
 const PARTS: &str =
-    "abt 1\nstreams 2\nkeys 16\npool 0 fifo priv of 0\npool 1 deque spsc from 1 to 0\npool 2 fifo mpsc to 1\npool 3 deque spmc from 0\npool 4 fifo mpmc\nsched 0 basic 0 1\nsched 1 prio 4 2\nsched 2 randws 18446744073709551615 4\nsched 3 user 1 4 3\nstream 0 main 0\nstream 1 main 1\nobject 0 mutex\nobject 1 cond 0\nobject 2 eventual\nobject 3 future 4096 sum\nobject 4 future 1 max\nobject 5 future 2 count\nobject 6 barrier 4096\nunits 4\nunit 0 ult at 4\nunit 1 task later\nunit 2 sched 2 at 0\nunit 3 sched 3 later\nend\n";
+    "abt 1\nstreams 2\nkeys 16\npool 0 fifo priv of 0\npool 1 deque spsc from 1 to 0\npool 2 fifo mpsc to 1\npool 3 deque spmc from 0\npool 4 fifo mpmc\nsched 0 basic 0 1\nsched 1 prio 4 2\nsched 2 randws 18446744073709551615 4\nsched 3 user 1 4 3\nstream 0 main 0\nstream 1 main 1\nobject 0 mutex\nobject 1 cond 0\nobject 2 eventual\nobject 3 future 4096 sum\nobject 4 future 1 max\nobject 5 future 2 count\nobject 6 barrier 4096\nobject 7 rwlock\nunits 4\nunit 0 ult at 4\nunit 1 task later\nunit 2 sched 2 at 0\nunit 3 sched 3 later\nend\n";
 
 // A text with each operation.
 const OPERATIONS: &str =
-    "abt 1\nstreams 1\nkeys 1\npool 0 fifo mpmc\nsched 0 prio 0\nstream 0 main 0\nobject 0 mutex\nobject 1 cond 0\nobject 2 eventual\nobject 3 future 1 sum\nobject 4 barrier 1\nunits 1\nunit 0 ult at 0\nset 18446744073709551615\nadd 10\nsay \u{e9}\nprint\nkset 0\nkget 0\nyield\nyieldto 0 0\nsuspend\nexit\nresume 0\ncreate 0 0\njoin 0\ncancel 0\nmigrate 0 0\nmigrateto 0 0\nmigratable 0 0\nmigratable 0 1\nrevive 0 0\nlock 0\ntrylock 0\nunlock 0\nload 0\nstore 0\ncwait 1\nsignal 1\nbroadcast 1\newait 2\neset 2\nereset 2\netest 2\nfwait 3\nfset 3\nfreset 3\nftest 3\nbwait 4\nend\n";
+    "abt 1\nstreams 1\nkeys 1\npool 0 fifo mpmc\nsched 0 prio 0\nstream 0 main 0\nobject 0 mutex\nobject 1 cond 0\nobject 2 eventual\nobject 3 future 1 sum\nobject 4 barrier 1\nobject 5 rwlock\nunits 1\nunit 0 ult at 0\nset 18446744073709551615\nadd 10\nsay \u{e9}\nprint\nkset 0\nkget 0\nyield\nyieldto 0 0\nsuspend\nexit\nresume 0\ncreate 0 0\njoin 0\ncancel 0\nmigrate 0 0\nmigrateto 0 0\nmigratable 0 0\nmigratable 0 1\nrevive 0 0\nlock 0\ntrylock 0\nunlock 0\nload 0\nstore 0\ncwait 1\nsignal 1\nbroadcast 1\newait 2\neset 2\nereset 2\netest 2\nfwait 3\nfset 3\nfreset 3\nftest 3\nbwait 4\nrdlock 5\nwrlock 5\nrwunlock 5\nrwload 5\nrwstore 5\nend\n";
 
 // Units and operations that are declared many at once.
 const MANY: &str =
-    "abt 2\nstreams 1\npool 0 fifo mpmc\nsched 0 prio 0\nstream 0 main 0\nunits 3\nmany 0 2 ult at 0\nrepeat 2 say a\nprint\nmany 2 1 task later\nend\n";
+    "abt 2\nstreams 1\npool 0 fifo mpmc\nsched 0 prio 0\nstream 0 main 0\nobject 0 rwlock\nunits 3\nmany 0 2 ult at 0\nrepeat 2 say a\nrepeat 2 rdlock 0\nmany 2 1 task later\nend\n";
 
 // The same workload, each unit and each operation on a line of its own.
 const EACH: &str =
-    "abt 1\nstreams 1\npool 0 fifo mpmc\nsched 0 prio 0\nstream 0 main 0\nunits 3\nunit 0 ult at 0\nsay a\nsay a\nprint\nunit 1 ult at 0\nsay a\nsay a\nprint\nunit 2 task later\nend\n";
+    "abt 1\nstreams 1\npool 0 fifo mpmc\nsched 0 prio 0\nstream 0 main 0\nobject 0 rwlock\nunits 3\nunit 0 ult at 0\nsay a\nsay a\nrdlock 0\nrdlock 0\nunit 1 ult at 0\nsay a\nsay a\nrdlock 0\nrdlock 0\nunit 2 task later\nend\n";
 
 // More streams than format 1 has.
 const NINE_STREAMS: &str =
@@ -164,7 +164,7 @@ fn widest(alloc: Global, longer: u64) -> Result<Vec<u8>, Want> {
     Ok(out)
 }
 
-// The text of a widest workload that has so many bytes, where its words can be chosen so.
+// The text of a widest workload that has so many bytes, if its words can be chosen so.
 fn widest_of(alloc: Global, bytes: usize) -> Result<Vec<u8>, Want> {
     let least = widest(alloc, 0)?.len();
     widest(alloc, bytes.saturating_sub(least) as u64)

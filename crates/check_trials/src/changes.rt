@@ -32,6 +32,9 @@ const KINDS: [&[&[&str]]; 3] = [
         "not-owner",
         "eventual-set",
         "future-full",
+        "rw-held",
+        "rw-full",
+        "not-holder",
     ]],
     &[&["done", "asked", "access", "own"]],
 ];

@@ -40,7 +40,16 @@ const THREE_POOLS: &str =
 const EXIT: &str =
     "abt 1\nstreams 1\npool 0 fifo mpmc\nsched 0 prio 0\nstream 0 main 0\nunits 2\nunit 0 ult at 0\nsay a\nexit\nsay b\nunit 1 ult at 0\nsay c\nend\n";
 
-const ROWS: [Row; 24] = [
+const WRITE_THEN_READ: &str =
+    "abt 1\nstreams 1\npool 0 fifo mpmc\nsched 0 basic 0\nstream 0 main 0\nobject 0 rwlock\nunits 3\nunit 0 ult at 0\nwrlock 0\nset 5\nrwstore 0\nyield\nrwunlock 0\nunit 1 ult at 0\nrdlock 0\nrwload 0\nprint\nrwunlock 0\nunit 2 ult at 0\nrdlock 0\nrwload 0\nprint\nrwunlock 0\nend\n";
+
+const RW_REFUSALS: &str =
+    "abt 1\nstreams 1\npool 0 fifo mpmc\nsched 0 basic 0\nstream 0 main 0\nobject 0 rwlock\nunits 1\nunit 0 ult at 0\nrdlock 0\nrdlock 0\nwrlock 0\nrwstore 0\nrwunlock 0\nrwunlock 0\nrwunlock 0\nend\n";
+
+const RW_WAITERS: &str =
+    "abt 1\nstreams 1\npool 0 fifo mpmc\nsched 0 basic 0\nstream 0 main 0\nobject 0 rwlock\nunits 5\nunit 0 ult at 0\nwrlock 0\nyield\nrwunlock 0\nunit 1 ult at 0\nrdlock 0\nrdlock 0\nrwunlock 0\nrwunlock 0\nunit 2 ult at 0\nwrlock 0\nrwunlock 0\nunit 3 ult at 0\nrdlock 0\nrwunlock 0\nunit 4 ult at 0\nyield\nrdlock 0\nrwunlock 0\nend\n";
+
+const ROWS: [Row; 35] = [
     (
         HI,
         "1 0 take 0 0\n2 0 look 0\n3 0 step 0 0 ok\n4 0 end 0 done\n5 0 miss 0\n",
@@ -133,9 +142,64 @@ const ROWS: [Row; 24] = [
         "1 0 take 0 0\n2 0 look 0\n3 0 step 0 0 ok\n4 0 step 0 1 ok\n5 0 end 0 own\n6 0 take 0 1\n7 0 look 1\n8 0 end 1 own\n",
         Verdict::Bad { at: 7 },
     ),
+    (
+        WRITE_THEN_READ,
+        "1 0 take 0 0\n2 0 look 0\n3 0 step 0 0 ok\n4 0 step 0 1 ok\n5 0 step 0 2 ok\n6 0 step 0 3 ok\n7 0 put 0 0\n8 0 take 0 1\n9 0 look 1\n10 0 step 1 0 ok\n11 0 take 0 2\n12 0 look 2\n13 0 step 2 0 ok\n14 0 take 0 0\n15 0 look 0\n16 0 step 0 4 ok\n17 0 put 1 0\n18 0 put 2 0\n19 0 end 0 done\n20 0 take 0 1\n21 0 look 1\n22 0 step 1 1 ok\n23 0 step 1 2 ok\n24 0 step 1 3 ok\n25 0 end 1 done\n26 0 take 0 2\n27 0 look 2\n28 0 step 2 1 ok\n29 0 step 2 2 ok\n30 0 step 2 3 ok\n31 0 end 2 done\n32 0 miss 0\n",
+        RUN,
+    ),
+    (
+        WRITE_THEN_READ,
+        "1 0 take 0 0\n2 0 look 0\n3 0 step 0 0 ok\n4 0 step 0 1 ok\n5 0 step 0 2 ok\n6 0 step 0 3 ok\n7 0 put 0 0\n8 0 take 0 1\n9 0 look 1\n10 0 step 1 0 ok\n11 0 step 1 1 ok\n",
+        Verdict::Bad { at: 10 },
+    ),
+    (
+        WRITE_THEN_READ,
+        "1 0 take 0 0\n2 0 look 0\n3 0 step 0 0 ok\n4 0 step 0 1 ok\n5 0 step 0 2 ok\n6 0 step 0 3 ok\n7 0 put 0 0\n8 0 take 0 1\n9 0 look 1\n10 0 step 1 0 ok\n11 0 take 0 2\n12 0 look 2\n13 0 step 2 0 ok\n14 0 take 0 0\n15 0 look 0\n16 0 step 0 4 ok\n17 0 end 0 done\n",
+        Verdict::Bad { at: 16 },
+    ),
+    (
+        WRITE_THEN_READ,
+        "1 0 take 0 0\n2 0 look 0\n3 0 step 0 0 ok\n4 0 step 0 1 ok\n5 0 step 0 2 ok\n6 0 step 0 3 ok\n7 0 put 0 0\n8 0 take 0 1\n9 0 look 1\n10 0 step 1 0 ok\n11 0 take 0 2\n12 0 look 2\n13 0 step 2 0 ok\n14 0 take 0 0\n15 0 look 0\n16 0 step 0 4 ok\n17 0 put 1 0\n18 0 end 0 done\n",
+        Verdict::Bad { at: 17 },
+    ),
+    (
+        RW_REFUSALS,
+        "1 0 take 0 0\n2 0 look 0\n3 0 step 0 0 ok\n4 0 step 0 1 ok\n5 0 step 0 2 rw-held\n6 0 step 0 3 not-holder\n7 0 step 0 4 ok\n8 0 step 0 5 ok\n9 0 step 0 6 not-holder\n10 0 end 0 done\n11 0 miss 0\n",
+        RUN,
+    ),
+    (
+        RW_REFUSALS,
+        "1 0 take 0 0\n2 0 look 0\n3 0 step 0 0 ok\n4 0 step 0 1 ok\n5 0 step 0 2 rw-held\n6 0 step 0 3 ok\n",
+        Verdict::Bad { at: 5 },
+    ),
+    (
+        RW_REFUSALS,
+        "1 0 take 0 0\n2 0 look 0\n3 0 step 0 0 ok\n4 0 step 0 1 ok\n5 0 step 0 2 ok\n",
+        Verdict::Bad { at: 4 },
+    ),
+    (
+        RW_REFUSALS,
+        "1 0 take 0 0\n2 0 look 0\n3 0 step 0 0 ok\n4 0 step 0 1 ok\n5 0 step 0 2 rw-held\n6 0 step 0 3 not-holder\n7 0 step 0 4 ok\n8 0 step 0 5 not-holder\n",
+        Verdict::Bad { at: 7 },
+    ),
+    (
+        RW_WAITERS,
+        "1 0 take 0 0\n2 0 look 0\n3 0 step 0 0 ok\n4 0 step 0 1 ok\n5 0 put 0 0\n6 0 take 0 1\n7 0 look 1\n8 0 step 1 0 ok\n9 0 take 0 2\n10 0 look 2\n11 0 step 2 0 ok\n12 0 take 0 3\n13 0 look 3\n14 0 step 3 0 ok\n15 0 take 0 4\n16 0 look 4\n17 0 step 4 0 ok\n18 0 put 4 0\n19 0 take 0 0\n20 0 look 0\n21 0 step 0 2 ok\n22 0 put 1 0\n23 0 end 0 done\n24 0 take 0 4\n25 0 look 4\n26 0 step 4 1 ok\n27 0 take 0 1\n28 0 look 1\n29 0 step 1 1 ok\n30 0 step 1 2 ok\n31 0 step 1 3 ok\n32 0 put 2 0\n33 0 end 1 done\n34 0 take 0 2\n35 0 look 2\n36 0 step 2 1 ok\n37 0 put 3 0\n38 0 put 4 0\n39 0 end 2 done\n40 0 take 0 3\n41 0 look 3\n42 0 step 3 1 ok\n43 0 end 3 done\n44 0 take 0 4\n45 0 look 4\n46 0 step 4 2 ok\n47 0 end 4 done\n48 0 miss 0\n",
+        RUN,
+    ),
+    (
+        RW_WAITERS,
+        "1 0 take 0 0\n2 0 look 0\n3 0 step 0 0 ok\n4 0 step 0 1 ok\n5 0 put 0 0\n6 0 take 0 1\n7 0 look 1\n8 0 step 1 0 ok\n9 0 take 0 2\n10 0 look 2\n11 0 step 2 0 ok\n12 0 take 0 3\n13 0 look 3\n14 0 step 3 0 ok\n15 0 take 0 4\n16 0 look 4\n17 0 step 4 0 ok\n18 0 put 4 0\n19 0 take 0 0\n20 0 look 0\n21 0 step 0 2 ok\n22 0 put 1 0\n23 0 put 3 0\n",
+        Verdict::Bad { at: 22 },
+    ),
+    (
+        RW_WAITERS,
+        "1 0 take 0 0\n2 0 look 0\n3 0 step 0 0 ok\n4 0 step 0 1 ok\n5 0 put 0 0\n6 0 take 0 1\n7 0 look 1\n8 0 step 1 0 ok\n9 0 take 0 2\n10 0 look 2\n11 0 step 2 0 ok\n12 0 take 0 3\n13 0 look 3\n14 0 step 3 0 ok\n15 0 take 0 4\n16 0 look 4\n17 0 step 4 0 ok\n18 0 put 4 0\n19 0 take 0 0\n20 0 look 0\n21 0 step 0 2 ok\n22 0 put 1 0\n23 0 end 0 done\n24 0 take 0 4\n25 0 look 4\n26 0 step 4 1 ok\n27 0 step 4 2 ok\n",
+        Verdict::Bad { at: 26 },
+    ),
 ];
 
-// The same where both stored orders are free.
+// The same if both stored orders are free.
 const FREE_ROWS: [Row; 3] = [
     (
         THREE_POOLS,

@@ -28,13 +28,13 @@ struct Case {
     later: &'static [(&'static str, u64)],
 }
 
-// The cases over the orders Rotate and Mirror, and those over free orders.
+// The cases over the orders Rotate and Mirror, those of reader-writer locks, and those over free orders.
 static CASES: [Case; 11] = [
     // A unit says a word.
     Case {
         workload: "abt 1\nstreams 1\npool 0 fifo mpmc\nsched 0 prio 0\nstream 0 main 0\nunits 1\nunit 0 ult at 0\nsay hi\nend\n",
         lines: "1 0 take 0 0, 2 0 look 0, 3 0 step 0 0 ok, 4 0 end 0 done, 5 0 miss 0",
-        count: 95,
+        count: 98,
         runs: "drop 5",
         next: "",
         later: &[],
@@ -43,7 +43,7 @@ static CASES: [Case; 11] = [
     Case {
         workload: "abt 1\nstreams 1\npool 0 fifo mpmc\nsched 0 prio 0\nstream 0 main 0\nunits 2\nunit 0 ult at 0\nsay a\nexit\nsay b\nunit 1 ult at 0\nsay c\nend\n",
         lines: "1 0 take 0 0, 2 0 look 0, 3 0 step 0 0 ok, 4 0 step 0 1 ok, 5 0 end 0 own, 6 0 take 0 1, 7 0 look 1, 8 0 step 1 0 ok, 9 0 end 1 done, 10 0 miss 0",
-        count: 202,
+        count: 211,
         runs: "drop 10",
         next: "",
         later: &[],
@@ -61,7 +61,7 @@ static CASES: [Case; 11] = [
     Case {
         workload: "abt 1\nstreams 1\npool 0 fifo mpmc\nsched 0 prio 0\nstream 0 main 0\nobject 0 mutex\nunits 2\nunit 0 ult at 0\nlock 0\nyield\nunlock 0\ntrylock 0\nunit 1 ult at 0\nlock 0\nunlock 0\nend\n",
         lines: "1 0 take 0 0, 2 0 look 0, 3 0 step 0 0 ok, 4 0 step 0 1 ok, 5 0 put 0 0, 6 0 take 0 1, 7 0 look 1, 8 0 step 1 0 ok, 9 0 take 0 0, 10 0 look 0, 11 0 step 0 2 ok, 12 0 put 1 0, 13 0 step 0 3 mutex-locked, 14 0 end 0 done, 15 0 take 0 1, 16 0 look 1, 17 0 step 1 1 ok, 18 0 end 1 done, 19 0 miss 0",
-        count: 387,
+        count: 405,
         runs: "drop 19",
         next: "",
         later: &[],
@@ -70,7 +70,7 @@ static CASES: [Case; 11] = [
     Case {
         workload: "abt 1\nstreams 1\npool 0 fifo mpmc\nsched 0 prio 0\nstream 0 main 0\nobject 0 mutex\nobject 1 cond 0\nunits 3\nunit 0 ult at 0\nlock 0\ncwait 1\nsay zero\nunlock 0\nunit 1 ult at 0\nlock 0\nyield\nsignal 1\nunlock 0\nunit 2 ult at 0\nlock 0\nsay two\nunlock 0\nend\n",
         lines: "1 0 take 0 0, 2 0 look 0, 3 0 step 0 0 ok, 4 0 step 0 1 ok, 5 0 take 0 1, 6 0 look 1, 7 0 step 1 0 ok, 8 0 step 1 1 ok, 9 0 put 1 0, 10 0 take 0 2, 11 0 look 2, 12 0 step 2 0 ok, 13 0 take 0 1, 14 0 look 1, 15 0 step 1 2 ok, 16 0 step 1 3 ok, 17 0 put 2 0, 18 0 end 1 done, 19 0 take 0 2, 20 0 look 2, 21 0 step 2 1 ok, 22 0 step 2 2 ok, 23 0 put 0 0, 24 0 end 2 done, 25 0 take 0 0, 26 0 look 0, 27 0 step 0 2 ok, 28 0 step 0 3 ok, 29 0 end 0 done, 30 0 miss 0",
-        count: 627,
+        count: 660,
         runs: "drop 30",
         next: "",
         later: &[],
@@ -79,7 +79,7 @@ static CASES: [Case; 11] = [
     Case {
         workload: "abt 1\nstreams 1\npool 0 fifo mpmc\nsched 0 prio 0\nstream 0 main 0\nobject 0 eventual\nunits 3\nunit 0 ult at 0\newait 0\nunit 1 ult at 0\newait 0\nunit 2 ult at 0\neset 0\nend\n",
         lines: "1 0 take 0 0, 2 0 look 0, 3 0 step 0 0 ok, 4 0 take 0 1, 5 0 look 1, 6 0 step 1 0 ok, 7 0 take 0 2, 8 0 look 2, 9 0 step 2 0 ok, 10 0 put 0 0, 11 0 put 1 0, 12 0 end 2 done, 13 0 take 0 0, 14 0 look 0, 15 0 end 0 done, 16 0 take 0 1, 17 0 look 1, 18 0 end 1 done, 19 0 miss 0",
-        count: 359,
+        count: 368,
         runs: "drop 19",
         next: "",
         later: &[],
@@ -88,7 +88,7 @@ static CASES: [Case; 11] = [
     Case {
         workload: "abt 1\nstreams 1\npool 0 fifo mpmc\nsched 0 prio 0\nstream 0 main 0\nobject 0 future 1 count\nunits 3\nunit 0 ult at 0\nfwait 0\nunit 1 ult at 0\nfwait 0\nunit 2 ult at 0\nfset 0\nend\n",
         lines: "1 0 take 0 0, 2 0 look 0, 3 0 step 0 0 ok, 4 0 take 0 1, 5 0 look 1, 6 0 step 1 0 ok, 7 0 take 0 2, 8 0 look 2, 9 0 step 2 0 ok, 10 0 put 0 0, 11 0 put 1 0, 12 0 end 2 done, 13 0 take 0 0, 14 0 look 0, 15 0 end 0 done, 16 0 take 0 1, 17 0 look 1, 18 0 end 1 done, 19 0 miss 0",
-        count: 359,
+        count: 368,
         runs: "drop 19",
         next: "",
         later: &[],
@@ -97,7 +97,7 @@ static CASES: [Case; 11] = [
     Case {
         workload: "abt 1\nstreams 1\npool 0 fifo mpmc\nsched 0 prio 0\nstream 0 main 0\nobject 0 barrier 3\nunits 3\nunit 0 ult at 0\nbwait 0\nsay zero\nunit 1 ult at 0\nbwait 0\nsay one\nunit 2 ult at 0\nbwait 0\nsay two\nend\n",
         lines: "1 0 take 0 0, 2 0 look 0, 3 0 step 0 0 ok, 4 0 take 0 1, 5 0 look 1, 6 0 step 1 0 ok, 7 0 take 0 2, 8 0 look 2, 9 0 step 2 0 ok, 10 0 put 0 0, 11 0 put 1 0, 12 0 step 2 1 ok, 13 0 end 2 done, 14 0 take 0 0, 15 0 look 0, 16 0 step 0 1 ok, 17 0 end 0 done, 18 0 take 0 1, 19 0 look 1, 20 0 step 1 1 ok, 21 0 end 1 done, 22 0 miss 0",
-        count: 440,
+        count: 458,
         runs: "drop 22",
         next: "",
         later: &[],
@@ -106,7 +106,7 @@ static CASES: [Case; 11] = [
     Case {
         workload: "abt 1\nstreams 2\npool 0 fifo mpmc\npool 1 fifo priv of 1\nsched 0 prio 0\nsched 1 prio 1\nsched 2 prio 0 1\nstream 0 main 0\nstream 1 main 1\nunits 2\nunit 0 ult at 0\ncancel 1\nunit 1 sched 2 at 0\nend\n",
         lines: "1 0 take 0 0, 1 1 miss 1, 2 0 look 0, 3 0 step 0 0 ok, 4 0 end 0 done, 5 0 take 0 1, 6 0 look 1, 7 0 end 1 asked, 8 0 miss 0",
-        count: 164,
+        count: 167,
         runs: "drop 2, drop 9",
         next: "drop 1, swap 1, swap 2, 2: 2 1 miss 1",
         later: &[],
@@ -115,7 +115,7 @@ static CASES: [Case; 11] = [
     Case {
         workload: "abt 1\nstreams 2\npool 0 deque mpmc\npool 1 fifo mpmc\nsched 0 prio 0 1\nsched 1 prio 1 0\nstream 0 main 1\nstream 1 main 0\nunits 3\nunit 0 ult at 1\nmigrateto 1 0\nmigrateto 2 1\nunit 1 ult at 0\nunit 2 ult at 1\nend\n",
         lines: "1 0 take 1 0, 1 1 take 0 1, 2 0 look 0, 3 0 step 0 0 ok, 4 0 step 0 1 ok, 4 1 look 1, 5 0 end 0 done, 5 1 put 1 1, 6 0 take 1 2, 6 1 miss 0, 7 0 look 2, 7 1 take 1 1, 8 0 put 2 0, 8 1 look 1, 9 0 miss 1, 9 1 end 1 done, 10 0 take 0 2, 11 0 look 2, 11 1 miss 0, 12 0 end 2 done, 12 1 miss 1, 13 0 miss 1, 14 0 miss 0",
-        count: 412,
+        count: 418,
         runs: "drop 21, drop 23, 23: 14 1 miss 0",
         next: "drop 1, swap 1, swap 2, 2: 2 1 take 0 1, drop 5, swap 5, drop 6, swap 6, 6: 5 1 look 1, drop 7, swap 7, drop 8, swap 8, 8: 6 1 put 1 1, drop 9, swap 9, drop 10, swap 10, 10: 7 1 miss 0, drop 11, swap 11, drop 12, swap 12, 12: 8 1 take 1 1, drop 13, swap 13, drop 14, swap 14, 14: 9 1 look 1, drop 15, swap 15, swap 16, 16: 10 1 end 1 done, 17: 10 1 take 0 2, drop 18, swap 18, drop 19, swap 19, 19: 12 1 miss 0, drop 20, swap 20, swap 21, 21: 13 1 miss 1",
         later: &[("drop 2", 4), ("drop 16", 17)],
@@ -124,8 +124,38 @@ static CASES: [Case; 11] = [
     Case {
         workload: "abt 1\nstreams 1\npool 0 fifo mpmc\npool 1 fifo mpmc\nsched 0 prio 0\nsched 1 prio 1\nstream 0 main 0\nunits 4\nunit 0 sched 1 at 0\nunit 1 ult at 1\nsay in\nunit 2 ult at 0\njoin 0\ncreate 3 1\nrevive 0 0\nunit 3 ult later\nsay again\nend\n",
         lines: "1 0 take 0 0, 2 0 look 0, 3 0 enter 0, 4 0 take 1 1, 5 0 look 1, 6 0 step 1 0 ok, 7 0 end 1 done, 8 0 miss 1, 9 0 leave 0, 10 0 end 0 done, 11 0 take 0 2, 12 0 look 2, 13 0 step 2 0 ok, 14 0 step 2 1 ok, 15 0 put 3 1, 16 0 step 2 2 ok, 17 0 put 0 0, 18 0 end 2 done, 19 0 take 0 0, 20 0 look 0, 21 0 enter 0, 22 0 take 1 3, 23 0 look 3, 24 0 step 3 0 ok, 25 0 end 3 done, 26 0 miss 1, 27 0 leave 0, 28 0 end 0 done, 29 0 miss 0",
-        count: 547,
+        count: 562,
         runs: "drop 29",
+        next: "",
+        later: &[],
+    },
+];
+
+static LOCK_CASES: [Case; 3] = [
+    // A unit writes, and two read.
+    Case {
+        workload: "abt 1\nstreams 1\npool 0 fifo mpmc\nsched 0 basic 0\nstream 0 main 0\nobject 0 rwlock\nunits 3\nunit 0 ult at 0\nwrlock 0\nset 5\nrwstore 0\nyield\nrwunlock 0\nunit 1 ult at 0\nrdlock 0\nrwload 0\nprint\nrwunlock 0\nunit 2 ult at 0\nrdlock 0\nrwload 0\nprint\nrwunlock 0\nend\n",
+        lines: "1 0 take 0 0, 2 0 look 0, 3 0 step 0 0 ok, 4 0 step 0 1 ok, 5 0 step 0 2 ok, 6 0 step 0 3 ok, 7 0 put 0 0, 8 0 take 0 1, 9 0 look 1, 10 0 step 1 0 ok, 11 0 take 0 2, 12 0 look 2, 13 0 step 2 0 ok, 14 0 take 0 0, 15 0 look 0, 16 0 step 0 4 ok, 17 0 put 1 0, 18 0 put 2 0, 19 0 end 0 done, 20 0 take 0 1, 21 0 look 1, 22 0 step 1 1 ok, 23 0 step 1 2 ok, 24 0 step 1 3 ok, 25 0 end 1 done, 26 0 take 0 2, 27 0 look 2, 28 0 step 2 1 ok, 29 0 step 2 2 ok, 30 0 step 2 3 ok, 31 0 end 2 done, 32 0 miss 0",
+        count: 720,
+        runs: "drop 32",
+        next: "",
+        later: &[],
+    },
+    // Refusals of a reader-writer lock.
+    Case {
+        workload: "abt 1\nstreams 1\npool 0 fifo mpmc\nsched 0 basic 0\nstream 0 main 0\nobject 0 rwlock\nunits 1\nunit 0 ult at 0\nrdlock 0\nrdlock 0\nwrlock 0\nrwstore 0\nrwunlock 0\nrwunlock 0\nrwunlock 0\nend\n",
+        lines: "1 0 take 0 0, 2 0 look 0, 3 0 step 0 0 ok, 4 0 step 0 1 ok, 5 0 step 0 2 rw-held, 6 0 step 0 3 not-holder, 7 0 step 0 4 ok, 8 0 step 0 5 ok, 9 0 step 0 6 not-holder, 10 0 end 0 done, 11 0 miss 0",
+        count: 278,
+        runs: "drop 11",
+        next: "",
+        later: &[],
+    },
+    // A writer waits between readers.
+    Case {
+        workload: "abt 1\nstreams 1\npool 0 fifo mpmc\nsched 0 basic 0\nstream 0 main 0\nobject 0 rwlock\nunits 5\nunit 0 ult at 0\nwrlock 0\nyield\nrwunlock 0\nunit 1 ult at 0\nrdlock 0\nrdlock 0\nrwunlock 0\nrwunlock 0\nunit 2 ult at 0\nwrlock 0\nrwunlock 0\nunit 3 ult at 0\nrdlock 0\nrwunlock 0\nunit 4 ult at 0\nyield\nrdlock 0\nrwunlock 0\nend\n",
+        lines: "1 0 take 0 0, 2 0 look 0, 3 0 step 0 0 ok, 4 0 step 0 1 ok, 5 0 put 0 0, 6 0 take 0 1, 7 0 look 1, 8 0 step 1 0 ok, 9 0 take 0 2, 10 0 look 2, 11 0 step 2 0 ok, 12 0 take 0 3, 13 0 look 3, 14 0 step 3 0 ok, 15 0 take 0 4, 16 0 look 4, 17 0 step 4 0 ok, 18 0 put 4 0, 19 0 take 0 0, 20 0 look 0, 21 0 step 0 2 ok, 22 0 put 1 0, 23 0 end 0 done, 24 0 take 0 4, 25 0 look 4, 26 0 step 4 1 ok, 27 0 take 0 1, 28 0 look 1, 29 0 step 1 1 ok, 30 0 step 1 2 ok, 31 0 step 1 3 ok, 32 0 put 2 0, 33 0 end 1 done, 34 0 take 0 2, 35 0 look 2, 36 0 step 2 1 ok, 37 0 put 3 0, 38 0 put 4 0, 39 0 end 2 done, 40 0 take 0 3, 41 0 look 3, 42 0 step 3 1 ok, 43 0 end 3 done, 44 0 take 0 4, 45 0 look 4, 46 0 step 4 2 ok, 47 0 end 4 done, 48 0 miss 0",
+        count: 1012,
+        runs: "drop 48",
         next: "",
         later: &[],
     },
@@ -219,6 +249,19 @@ fn changed_journals_are_judged(rt: HostRuntime) -> Result<(), Fail> {
         StoredOrder::new(OrderShape::Mirror, Box::new(alloc, turn_round)?),
     ];
     for case in &CASES {
+        are_judged(&rt, alloc, &orders, case)?;
+    }
+    Ok(())
+}
+
+#[test]
+fn changed_journals_of_locks_are_judged(rt: HostRuntime) -> Result<(), Fail> {
+    let alloc = rt.alloc();
+    let orders = [
+        StoredOrder::new(OrderShape::Rotate, Box::new(alloc, turn)?),
+        StoredOrder::new(OrderShape::Mirror, Box::new(alloc, turn_round)?),
+    ];
+    for case in &LOCK_CASES {
         are_judged(&rt, alloc, &orders, case)?;
     }
     Ok(())

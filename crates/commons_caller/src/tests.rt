@@ -7,7 +7,7 @@ mod rows;
 
 use self::crossing::{THREADS, are_held_once, play_on_threads};
 use self::players::play_all;
-use self::rows::{BARRIERS, DESKS, EVENTUALS, FUTURES, KINDS, MONITORS, POOLS};
+use self::rows::{BARRIERS, DESKS, EVENTUALS, FUTURES, KINDS, MONITORS, POOLS, RWLOCKS};
 use super::looked;
 use abt_chain::Chain;
 use abt_commons::{Commons, Hall, Objects, Plain, Split};
@@ -115,6 +115,7 @@ fn play_every_kind<'w, C: Commons<'w>>(
     play_all(rt, commons, pass, w, &mut hand, &EVENTUALS);
     play_all(rt, commons, pass, w, &mut hand, &FUTURES);
     play_all(rt, commons, pass, w, &mut hand, &BARRIERS);
+    play_all(rt, commons, pass, w, &mut hand, &RWLOCKS);
 }
 
 // The workload with objects of all kinds, and so many units that start in pool 0 besides an unborn one.

@@ -41,7 +41,7 @@ greatest-is clock clocks is =
 pub carried_is : (clock : ℕ) (held : ObjectsValue) → IsGreatest clock held.clocks → (λ (l : Unit {0}). clock) ≡ clock_of_hall held
 carried_is clock held is = ap {B = Unit {0} → ℕ} (λ k l. k) (greatest-is clock held.clocks is)
 
--- where every clock is the same, and so is that of each site, that is the greatest
+-- if every clock is the same, and so is that of each site, that is the greatest
 pub every-is : (W : Parts) (held : ObjectsValue) (clock : ℕ) → IsValid W → ((x : Site) → IsSite W x → clock_at held x ≡ clock) → All (λ c. c ≡ clock) held.clocks → greatest held.clocks ≡ clock
 every-is W held clock valid sites every =
     let low : greatest held.clocks ≤ clock = all-below held.clocks clock (λ i c e. (let q : c ≡ clock = at held.clocks (λ d. d ≡ clock) every i c e in omega arith)) in

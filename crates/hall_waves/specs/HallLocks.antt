@@ -9,7 +9,7 @@ use Rattle.abt_commons.specs.Halls.{HallValue, hall_line}
 use Rattle.abt_commons.specs.Held.{ObjectsValue}
 use Rattle.abt_waves.specs.Locks.{LocksValue}
 
--- the greatest of some clocks, 0 where there is none
+-- the greatest of some clocks, 0 if there is none
 abbrev pub greatest : List ℕ → ℕ
 greatest [] = 0
 greatest (clock ∷ clocks) = max clock (greatest clocks)

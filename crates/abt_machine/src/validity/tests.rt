@@ -228,6 +228,8 @@ fn refuses_operations(rt: HostRuntime) -> Result<(), Fail> {
         Op::EvWait(ObjectNo(0)),
         Op::FuSet(ObjectNo(2)),
         Op::BarWait(ObjectNo(3)),
+        Op::ReadLock(ObjectNo(0)),
+        Op::RwStore(ObjectNo(3)),
     ] {
         let changed = Small { op, ..unchanged() };
         assert!(rt; is_refused(rt.alloc(), changed)?);
@@ -243,6 +245,8 @@ fn refuses_tasklets_that_may_block(rt: HostRuntime) -> Result<(), Fail> {
         Op::Exit,
         Op::Join(UnitNo(0)),
         Op::Lock(ObjectNo(0)),
+        Op::ReadLock(ObjectNo(0)),
+        Op::WriteLock(ObjectNo(0)),
     ] {
         let changed = Small {
             task_op,

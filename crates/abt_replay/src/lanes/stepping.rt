@@ -91,7 +91,7 @@ impl Lane {
         Code::Ok
     }
 
-    // The unit names a pool that the stream may not reach.
+    // The unit names a pool that the stream must not reach.
     fn deny(&mut self, mut unit: Unit) -> Result<Code, Want>
         requires position { unit.carried.position < 2 ^ 32 - 1 }
         requires next { self.old.next ≡ None }
@@ -139,8 +139,9 @@ impl Lane {
     {
         unit.advance();
         let answer = objects.call(site, hearing::give(giving, unit))?;
-        self.hand = hearing::returned(&mut self.tray, answer)?;
-        Ok(Code::Ok)
+        let (hand, code) = hearing::returned(&mut self.tray, answer)?;
+        self.hand = hand;
+        Ok(code)
     }
 
     // The unit waits at a condition.

@@ -17,7 +17,7 @@ impl Stream {
     ghost use Rattle.abt_order.specs.Stored.{shapes_of};
 
     /// Takes what one turn needs: room for one event, for one frame, and for one piece of output of the unit in hand, and the
-    /// next round's order, where the next event starts a round and none is held.
+    /// next round's order, if the next event starts a round and none is held.
     pub fn prepare(&mut self, w: &Workload, orders: &[StoredOrder]) -> Result<(), Want>
         requires stored { (g : ℕ) → IsStored w.now g (length orders.now) }
         requires fits { FitsStream w.now self.old }

@@ -92,7 +92,7 @@ impl Stream {
         }
     }
 
-    // The unit in hand names a pool that the stream may not reach.
+    // The unit in hand names a pool that the stream must not reach.
     pub(super) fn deny(&mut self) -> Turn
         requires can { CanStep self.old }
         ensures { IfHeld self.old.held.hand (λ o. StepsAlone self.old (refusal o code.PoolAccess) result self.new o) }
@@ -163,7 +163,7 @@ impl Stream {
     }
 
     // A call that takes the unit in hand with it.
-    #[tactic(auto, using(crate::proofs::Answered::for_giver))]
+    #[tactic(auto, using(crate::proofs::Answered::handing))]
     pub(super) fn give<'w, C: Commons<'w>>(
         &mut self,
         commons: &C,
@@ -186,8 +186,9 @@ impl Stream {
                 let act = hearing::give(giving, unit);
                 match commons.call(pass, site, self.clock, act) {
                     Reply::Done { stamp, answer } => {
-                        self.work = hearing::returned(&mut self.tray, answer);
-                        self.write_step(stamp, number, at, Code::Ok);
+                        let (work, code) = hearing::returned(&mut self.tray, answer);
+                        self.work = work;
+                        self.write_step(stamp, number, at, code);
                         Turn::Stepped
                     }
                     Reply::Worn(act) => {

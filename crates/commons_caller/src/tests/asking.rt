@@ -8,7 +8,7 @@ ghost use Rattle.abt_machine.specs.Values.{conditions_of};
 ghost use Rattle.abt_machine.specs.Workloads.{IsCondition};
 ghost use Rattle.abt_unit.specs.Fits.{Fits};
 ghost use Rattle.abt_chain.specs.Keeping.{IsPoolOf, contents_asked};
-ghost use Rattle.abt_calls.specs.Allowed.{BarrierAllows, DeskAllows, EventualAllows, MonitorAllows, PoolAllows};
+ghost use Rattle.abt_calls.specs.Allowed.{BarrierAllows, DeskAllows, EventualAllows, MonitorAllows, PoolAllows, RwLockAllows};
 ghost use Rattle.abt_calls.specs.Asking.{MayCall};
 ghost use Rattle.abt_commons.specs.Acts.{act_of};
 
@@ -27,6 +27,7 @@ pub fn may_ask(w: &Workload, site: Site, act: &Act) -> bool
         Site::Eventual(x) => may_ask_eventual(w, x, act),
         Site::Future(x) => may_ask_future(w, x, act),
         Site::Barrier(x) => may_ask_barrier(w, x, act),
+        Site::Rw(x) => may_ask_rwlock(w, x, act),
     }
 }
 
@@ -102,7 +103,20 @@ fn may_ask_barrier(w: &Workload, x: ObjectNo, act: &Act) -> bool
     }
 }
 
-// What objects of each kind answer, where each pool that the act names is declared.
+fn may_ask_rwlock(w: &Workload, x: ObjectNo, act: &Act) -> bool
+    requires { All (Fits w.now) (contents_asked (act_of act.now)).units }
+    ensures { IsTrue result → MayCall w.now (site.Rw x) (act_of act.now) }
+{
+    if x.0 >= w.objects() {
+        return false;
+    }
+    match w.thing(x) {
+        Thing::RwLock => rwlock_answers(w, act),
+        _ => false,
+    }
+}
+
+// What objects of each kind answer, if each pool that the act names is declared.
 
 fn pool_answers(w: &Workload, kind: Kind, act: &Act) -> bool
     ensures allows { IsTrue result → PoolAllows kind (act_of act.now) }
@@ -183,6 +197,20 @@ fn barrier_answers(w: &Workload, act: &Act) -> bool
 {
     match act {
         Act::Arrive(_) => true,
+        _ => false,
+    }
+}
+
+fn rwlock_answers(w: &Workload, act: &Act) -> bool
+    ensures allows { IsTrue result → RwLockAllows (act_of act.now) }
+    ensures pools { IsTrue result → All (IsPoolOf w.now) (contents_asked (act_of act.now)).pools }
+{
+    match act {
+        Act::ReadLock(_) => true,
+        Act::WriteLock(_) => true,
+        Act::RwUnlock(_) => true,
+        Act::Load(_) => true,
+        Act::Store(_, _) => true,
         _ => false,
     }
 }

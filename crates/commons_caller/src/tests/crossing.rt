@@ -1,4 +1,4 @@
-//! Threads that move units among pools, a mutex and a barrier, after which each unit is held once.
+//! Threads that move units among pools, a mutex, a barrier and a reader-writer lock, after which each unit is held once.
 
 ghost use Rattle.std.specs.Prelude.{◌≡◌, ℕ, IfOk};
 ghost use Rattle.std.specs.List.{All};
@@ -9,7 +9,7 @@ ghost use Rattle.abt_commons.specs.AllPasses.{AreAll};
 ghost use Rattle.abt_commons.specs.Splits.{IsPassOf, stream_of};
 
 use super::players::{Heard, Request, play};
-use super::rows::{BARRIER, DEQUE, FIFO, MONITOR};
+use super::rows::{BARRIER, DEQUE, FIFO, MONITOR, RWLOCK};
 use abt_chain::Chain;
 use abt_commons::{Commons, Hall, HallPass, Objects, Split, SplitPass};
 use abt_machine::{Side, Site, UnitNo, Workload};
@@ -23,26 +23,31 @@ use std::thread::Threads;
 /// How many threads there are, each with a pass of its own.
 pub const THREADS: u32 = 4;
 
-// How many rounds each thread plays. The FIFO pool never runs empty: it starts with 255 units, and lacks at most one for each of
-// the 224 rounds, which waits at the mutex or was woken there, one that waits at the barrier, and two for each thread.
-const ROUNDS: u32 = 56;
+// How many rounds each thread plays. The FIFO pool never runs empty: it starts with 255 units, and lacks at most two for each of
+// the 120 rounds, which wait at the mutex and at the reader-writer lock or were woken there, one that waits at the barrier, and
+// three for each thread.
+const ROUNDS: u32 = 30;
 
-// What a thread asks in a round, which moves a unit each time: four threads move 1,344 units and more.
-const ROUND: [(Site, Request); 6] = [
+// What a thread asks in a round, which moves a unit each time: four threads move 960 units and more.
+const ROUND: [(Site, Request); 8] = [
     (FIFO, Request::Take(Side::Front)),
     (DEQUE, Request::Put),
     (DEQUE, Request::Take(Side::Back)),
     (MONITOR, Request::Lock),
     (FIFO, Request::Take(Side::Front)),
     (BARRIER, Request::Arrive),
+    (FIFO, Request::Take(Side::Front)),
+    (RWLOCK, Request::WriteLock),
 ];
 
-// A unit with the mutex unlocks it, and so does each that gets it then, until nobody waits.
+// A unit that has the mutex, or writes at the reader-writer lock, unlocks it, and so does each that gets it then, until nobody
+// waits.
 fn unlock<'w, C: Commons<'w>>(
     commons: &C,
     pass: &mut C::Pass,
     w: &Workload,
     hand: &mut Chain,
+    site: Site,
     mut owner: u32,
 )
     requires workload { C.workload commons.now ≡ w.now }
@@ -53,8 +58,13 @@ fn unlock<'w, C: Commons<'w>>(
     ensures hand { All (Fits w.now) hand.new.units }
 {
     for _ in 0..w.units() {
-        match play(commons, pass, w, hand, MONITOR, Request::Unlock(owner)) {
-            Some(Heard::Given(next)) => owner = next,
+        let request = if site == MONITOR {
+            Request::Unlock(owner)
+        } else {
+            Request::RwUnlock(owner)
+        };
+        match play(commons, pass, w, hand, site, request) {
+            Some(Heard::Given(next)) | Some(Heard::Woke(Some(next))) => owner = next,
             _ => return,
         }
     }
@@ -95,9 +105,9 @@ fn play_round<'w, C: Commons<'w>>(
         let heard = play(commons, pass, w, hand, *site, *request);
         assert!(rt; heard.is_some() && heard != Some(Heard::Miss));
         if let Some(Heard::Given(owner)) = heard
-            && *site == MONITOR
+            && (*site == MONITOR || *site == RWLOCK)
         {
-            unlock(commons, pass, w, hand, owner);
+            unlock(commons, pass, w, hand, *site, owner);
         }
     }
     put_all(commons, pass, w, hand);

@@ -43,14 +43,17 @@ pub enum Request {
     Reset,
     Test,
     Arrive,
+    ReadLock,
+    WriteLock,
+    RwUnlock(u32),
 }
 
-// What is heard: units by number, and of a chain whether it has any. A unit that comes out goes last in hand.
+// What is heard: units by number, and of a chain the first, if it has any. Units that come out go last in hand.
 #[derive(Clone, Copy, Debug, PartialEq)]
 pub enum Heard {
     Given(u32),
-    Through(u32, bool),
-    Woke(bool),
+    Through(u32, Option<u32>),
+    Woke(Option<u32>),
     Rested,
     Miss,
     Number(u64),
@@ -103,6 +106,9 @@ fn act_for(w: &Workload, hand: &mut Chain, request: Request) -> Option<Act>
         Request::Reset => Some(Act::Reset),
         Request::Test => Some(Act::Test),
         Request::Arrive => Some(Act::Arrive(first(w, hand)?)),
+        Request::ReadLock => Some(Act::ReadLock(first(w, hand)?)),
+        Request::WriteLock => Some(Act::WriteLock(first(w, hand)?)),
+        Request::RwUnlock(u) => Some(Act::RwUnlock(UnitNo(u))),
     }
 }
 
@@ -118,15 +124,16 @@ fn kept(w: &Workload, hand: &mut Chain, unit: Box<Unit>) -> u32
     number
 }
 
-// Whether there are any of these units, which go last in hand.
-fn all_kept(w: &Workload, hand: &mut Chain, mut units: Chain) -> bool
+// The number of the first of these units, which go last in hand.
+fn all_kept(w: &Workload, hand: &mut Chain, mut units: Chain) -> Option<u32>
     requires hand { All (Fits w.now) hand.old.units }
     requires fits { All (Fits w.now) units.units }
     ensures { All (Fits w.now) hand.new.units }
 {
-    let some = !units.is_empty();
+    let unit = first(w, &mut units)?;
+    let number = kept(w, hand, unit);
     units.drain_into(hand);
-    some
+    Some(number)
 }
 
 // What an answer says, whose units go last in hand.
@@ -152,7 +159,7 @@ fn hear(w: &Workload, hand: &mut Chain, answer: Answer) -> Heard
     }
 }
 
-/// Asks the object at the site. None: it may not be asked, or there is no unit in hand, or the clock is worn.
+/// Asks the object at the site. None: it must not be asked, or there is no unit in hand, or the clock is worn.
 pub fn play<'w, C: Commons<'w>>(
     commons: &C,
     pass: &mut C::Pass,

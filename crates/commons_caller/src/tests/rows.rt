@@ -3,8 +3,8 @@
 use super::players::{Heard, Request, Row};
 use abt_machine::{Code, ObjectNo, PoolNo, Side, Site, UnitNo};
 
-/// The head of a workload with a pool of each kind, a mutex, its condition, an eventual, a future with two compartments, and a
-/// barrier for two.
+/// The head of a workload with a pool of each kind, a mutex, its condition, an eventual, a future with two compartments, a
+/// barrier for two, and a reader-writer lock.
 pub const KINDS: &str = "abt 1
 streams 1
 pool 0 fifo mpmc
@@ -16,6 +16,7 @@ object 1 cond 0
 object 2 eventual
 object 3 future 2 sum
 object 4 barrier 2
+object 5 rwlock
 ";
 
 pub const FIFO: Site = Site::Pool(PoolNo(0));
@@ -33,6 +34,8 @@ const EVENTUAL: Site = Site::Eventual(ObjectNo(2));
 const FUTURE: Site = Site::Future(ObjectNo(3));
 
 pub const BARRIER: Site = Site::Barrier(ObjectNo(4));
+
+pub const RWLOCK: Site = Site::Rw(ObjectNo(5));
 
 // Units 0, 1 and 2 start in the FIFO pool, and unit 3 is unborn. Beside each row that moves a unit: who is in hand then,
 // first to last.
@@ -84,7 +87,7 @@ pub const DESKS: [Row; 18] = [
         Request::Resume,
         Some(Heard::Code(Code::UnitState)),
     ),
-    (DESK, Request::End, Some(Heard::Woke(true))), // 0 2
+    (DESK, Request::End, Some(Heard::Woke(Some(2)))), // 0 2
     (DESK, Request::Join, Some(Heard::Given(0))), // 2 0
     (DESK, Request::Revive(1), Some(Heard::Given(3))), // 2 0 3
     (DESK, Request::Revive(1), Some(Heard::Code(Code::UnitState))),
@@ -125,7 +128,7 @@ pub const MONITORS: [Row; 16] = [
 pub const EVENTUALS: [Row; 8] = [
     (EVENTUAL, Request::Test, Some(Heard::Number(0))),
     (EVENTUAL, Request::Await, Some(Heard::Rested)), // 0 2
-    (EVENTUAL, Request::Fill(5), Some(Heard::Woke(true))), // 0 2 3
+    (EVENTUAL, Request::Fill(5), Some(Heard::Woke(Some(3)))), // 0 2 3
     (
         EVENTUAL,
         Request::Fill(6),
@@ -140,8 +143,8 @@ pub const EVENTUALS: [Row; 8] = [
 pub const FUTURES: [Row; 9] = [
     (FUTURE, Request::Test, Some(Heard::Number(0))),
     (FUTURE, Request::Await, Some(Heard::Rested)), // 3 0
-    (FUTURE, Request::Fill(1), Some(Heard::Woke(false))),
-    (FUTURE, Request::Fill(2), Some(Heard::Woke(true))), // 3 0 2
+    (FUTURE, Request::Fill(1), Some(Heard::Woke(None))),
+    (FUTURE, Request::Fill(2), Some(Heard::Woke(Some(2)))), // 3 0 2
     (
         FUTURE,
         Request::Fill(3),
@@ -155,5 +158,42 @@ pub const FUTURES: [Row; 9] = [
 
 pub const BARRIERS: [Row; 2] = [
     (BARRIER, Request::Arrive, Some(Heard::Rested)), // 2 3
-    (BARRIER, Request::Arrive, Some(Heard::Through(2, true))), // 3 2 0
+    (BARRIER, Request::Arrive, Some(Heard::Through(2, Some(0)))), // 3 2 0
+];
+
+pub const RWLOCKS: [Row; 17] = [
+    (RWLOCK, Request::ReadLock, Some(Heard::Given(3))), // 2 0 3
+    (RWLOCK, Request::WriteLock, Some(Heard::Rested)), // 0 3
+    (RWLOCK, Request::ReadLock, Some(Heard::Rested)), // 3
+    (RWLOCK, Request::ReadLock, Some(Heard::Given(3))), // 3
+    (
+        RWLOCK,
+        Request::WriteLock,
+        Some(Heard::Back(3, Code::RwHeld)),
+    ), // 3
+    (RWLOCK, Request::Load(3), Some(Heard::Number(0))),
+    (
+        RWLOCK,
+        Request::Store(3, 7),
+        Some(Heard::Code(Code::NotHolder)),
+    ),
+    (RWLOCK, Request::RwUnlock(3), Some(Heard::Woke(None))),
+    (RWLOCK, Request::RwUnlock(3), Some(Heard::Woke(Some(2)))), // 3 2
+    (RWLOCK, Request::ReadLock, Some(Heard::Rested)), // 2
+    (RWLOCK, Request::Store(2, 7), Some(Heard::Code(Code::Ok))),
+    (
+        RWLOCK,
+        Request::ReadLock,
+        Some(Heard::Back(2, Code::RwHeld)),
+    ), // 2
+    (RWLOCK, Request::RwUnlock(2), Some(Heard::Woke(Some(0)))), // 2 0 3
+    (RWLOCK, Request::Load(3), Some(Heard::Number(7))),
+    (RWLOCK, Request::Load(2), Some(Heard::Code(Code::NotHolder))),
+    (
+        RWLOCK,
+        Request::RwUnlock(2),
+        Some(Heard::Code(Code::NotHolder)),
+    ),
+    // It is no mutex.
+    (RWLOCK, Request::Unlock(3), None),
 ];

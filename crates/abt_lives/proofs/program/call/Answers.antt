@@ -1,5 +1,5 @@
 use Rattle.std.proofs.Common.{◌∙◌, subst, rules}
-use Rattle.abt_run.specs.Call.{Gained, GainedFront}
+use Rattle.abt_run.specs.Call.{Gained, GainedPrefix}
 use Rattle.abt_lives.proofs.Preparing.{written}
 use Rattle.abt_lives.proofs.program.call.Goals as goal
 
@@ -18,7 +18,7 @@ returns-in-Ok g c =
     record {
       outcome = c.in-Ok.field-0.outcome;
       ran = asked.ran;
-      out = subst (GainedFront (g.K.Sink.taken c.args.out.now, g.K.Sink.taken c.write_whole.new.sink)) (c.deref.ensures.value ∙ asked.output) c.in-Err-write_whole.ensures.front;
+      out = subst (GainedPrefix (g.K.Sink.taken c.args.out.now, g.K.Sink.taken c.write_whole.new.sink)) (c.deref.ensures.value ∙ asked.output) c.in-Err-write_whole.ensures.prefix;
       faults = c.in-Err-write_whole.ensures.cause;
       err = rw c.message.ensures at c.tell.ensures.told;
     }

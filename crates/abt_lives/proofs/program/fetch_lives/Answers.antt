@@ -2,7 +2,7 @@
 use Rattle.std.proofs.Common.{◌≡◌, ◌<◌, ◌≤◌, ◌∙◌, length, arith, sym, ap, subst}
 use Rattle.abt_machine.specs.Words.{Text}
 use Rattle.abt_streams.specs.Texts.{IsCause, lives_text}
-use Rattle.abt_lives.proofs.Told.{seen-long, seen-reads, seen-refuses}
+use Rattle.abt_lives.proofs.Fetched.{seen-long, seen-reads, seen-refuses}
 use Rattle.abt_lives.proofs.program.fetch_lives.Goals as goal
 
 pub returns-then-len-gt-MOST-clause-stop : goal.returns-then-len-gt-MOST-clause-stop

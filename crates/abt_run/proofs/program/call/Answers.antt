@@ -1,5 +1,5 @@
 use Rattle.std.proofs.Common.{subst, rules}
-use Rattle.abt_run.specs.Call.{Gained, GainedFront}
+use Rattle.abt_run.specs.Call.{Gained, GainedPrefix}
 use Rattle.abt_run.proofs.program.call.Goals as goal
 
 pub returns-in-Ok-write_whole : goal.returns-in-Ok-write_whole
@@ -15,7 +15,7 @@ returns-in-Ok g c = record {
   conclusion = c.in-Ok.field-0.conclusion;
   text = c.in-Ok.field-0.text.items;
   prints = c.in-Ok.ensures.done;
-  out = subst (GainedFront (g.K.Sink.taken c.args.out.now, g.K.Sink.taken c.write_whole.new.sink)) c.deref.ensures.value c.in-Err-write_whole.ensures.front;
+  out = subst (GainedPrefix (g.K.Sink.taken c.args.out.now, g.K.Sink.taken c.write_whole.new.sink)) c.deref.ensures.value c.in-Err-write_whole.ensures.prefix;
   faults = c.in-Err-write_whole.ensures.cause;
   err = rw c.unwritten.ensures at c.tell.ensures.told;
 }

@@ -1,7 +1,6 @@
-use Rattle.std.proofs.Common.{◌≡◌, ap, length, slice_set, ◌∙◌}
-use Rattle.std.proofs.lemmas.List.{length-set}
+use Rattle.std.proofs.Common.{◌≡◌, ap, slice_set, ◌∙◌}
 use Rattle.abt_unit.specs.Units.{UnitValue}
-use Rattle.abt_rwlock.proofs.Readers.{counts-taken, others-taken, readers-taken, room-taken}
+use Rattle.abt_rwlock.proofs.Readers.{counts-taken, others-taken, readers-taken}
 use Rattle.abt_rwlock.proofs.serving.take_readers.Goals as goal
 
 pub loop-unit-preserved : goal.loop-unit-preserved
@@ -12,13 +11,10 @@ loop-unit-preserved c =
     let took = c.in-Some.ensures in
     let number : c.number.result.0 ≡ c.in-Some.unit.value.owned.number = c.number.ensures ∙ ap (λ (unit : UnitValue). unit.owned.number) c.deref.ensures in
     let counted : c.set_count.new.self.counts ≡ slice_set c.loop-unit.holders.counts c.in-Some.unit.value.owned.number 1 = c.set_count.ensures.counts ∙ ap (λ n. slice_set c.loop-unit.holders.counts n 1) number in
-    let as_many : length c.set_count.new.self.counts ≡ length c.loop-unit.holders.counts = ap length counted ∙ length-set old.holders.counts o.number 1 in
     record {
       readers = readers-taken old.waiters.wishes left.wishes o old.waiters.units left.units old.readers.units c.push_back.new.self.units _ took.wishes took.reader took.some c.push_back.ensures old.invariant.readers;
       others = others-taken old.waiters.wishes left.wishes o old.waiters.units left.units _ took.wishes took.reader took.some old.invariant.others;
       counts = counts-taken old.waiters.wishes left.wishes o old.waiters.units left.units old.holders.counts c.set_count.new.self.counts _ took.wishes took.reader took.some counted old.invariant.counts;
       wishes = took.wishes ∙ old.invariant.wishes;
       writer = c.set_count.ensures.writer ∙ old.invariant.writer;
-      units = as_many ∙ old.invariant.units;
-      room = room-taken o old.waiters.units left.units old.holders.counts c.set_count.new.self.counts took.some as_many old.invariant.room;
     }

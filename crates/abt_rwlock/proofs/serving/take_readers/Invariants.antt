@@ -1,6 +1,5 @@
-use Rattle.std.proofs.Common.{◌≡◌, ◌<◌, ◌++◌, length, All}
-use Rattle.abt_machine.specs.Values.{Owned}
-use Rattle.abt_rwlock.specs.RwLocks.{after_readers, all_reading, first_readers}
+use Rattle.std.proofs.Common.{◌≡◌, ◌++◌, length}
+use Rattle.abt_machine.specs.RwLocks.{after_readers, all_reading, first_readers}
 use Rattle.abt_rwlock.proofs.serving.take_readers.Given as goal
 
 -- those who came out and those who are still to come out are the first readers, and so for what each of them changes
@@ -12,8 +11,6 @@ invariant-loop-unit l = record {
       ≡ all_reading (first_readers l.fn.waiters.wishes l.fn.waiters.units) l.fn.holders.counts;
   wishes : l.waiters.wishes ≡ l.fn.waiters.wishes;
   writer : l.holders.writer ≡ l.fn.holders.writer;
-  units : length l.holders.counts ≡ length l.fn.holders.counts;
-  room : All (λ (o : Owned). o.number < length l.holders.counts) l.waiters.units;
 }
 
 abbrev pub decreases-loop-unit : goal.decreases-loop-unit

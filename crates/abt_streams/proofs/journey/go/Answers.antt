@@ -4,13 +4,13 @@ use Rattle.abt_order.specs.Stored.{shapes_of}
 use Rattle.abt_stream.specs.Streams.{StreamValue}
 use Rattle.abt_drain.specs.Looks.{AreStreams}
 use Rattle.abt_streams.specs.Looks.{IsOutcomeOnLives}
-use Rattle.abt_streams.specs.Runs.{IsUnderWay}
+use Rattle.abt_streams.specs.Runs.{HasLedTo}
 use Rattle.abt_streams.proofs.Journeys.{has-ended-on}
 use Rattle.abt_streams.proofs.journey.go.Goals as goal
 
 pub advance-requires-clause-under_way : goal.advance-requires-clause-under_way
 advance-requires-clause-under_way g c =
-    let under : (n : ℕ) × IsUnderWay c.args.w.now (shapes_of c.args.orders.now) n c.args.lives.now c.waves.journey.objects c.waves.journey.streams.items c.waves.journey.journal.items c.waves.journey.waves.items =
+    let under : (n : ℕ) × HasLedTo c.args.w.now (shapes_of c.args.orders.now) n c.args.lives.now c.waves.journey.objects c.waves.journey.streams.items c.waves.journey.journal.items c.waves.journey.waves.items =
     (c.args.steps, c.waves.invariant.under_way) in
     λ lifetimes outlive. under
 

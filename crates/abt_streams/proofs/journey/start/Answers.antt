@@ -3,7 +3,7 @@ use Rattle.std.proofs.Common.{◌≤◌, sym, subst}
 use Rattle.std.proofs.lemmas.List.{length-map}
 use Rattle.abt_order.specs.Stored.{shapes_of}
 use Rattle.abt_outcomes.proofs.Stored.{orders-stored}
-use Rattle.abt_streams.specs.Runs.{IsUnderWay}
+use Rattle.abt_streams.specs.Runs.{HasLedTo}
 use Rattle.abt_streams.proofs.Journeys.{under-way-at-start}
 use Rattle.abt_streams.proofs.journey.start.Goals as goal
 
@@ -12,5 +12,5 @@ returns g c = λ lives.
     let W = c.args.w.now in
     let stored = orders-stored W (shapes_of c.args.orders.now) c.streams.ensures.valid (subst (λ k. 2 ≤ k) (sym (length-map c.args.orders.now _)) c.requires.orders) in
     let under = under-way-at-start W (shapes_of c.args.orders.now) c.args.steps lives c.in_ok-objects.objects c.in_ok-streams.streams.items c.streams.ensures.valid stored c.in_ok-streams.ensures c.in_ok-objects.ensures in
-    subst (λ J. IsUnderWay W (shapes_of c.args.orders.now) c.args.steps lives c.in_ok-objects.objects c.in_ok-streams.streams.items J c.new-2.result.items) (sym c.new.ensures.items)
-    (subst (λ waves. IsUnderWay W (shapes_of c.args.orders.now) c.args.steps lives c.in_ok-objects.objects c.in_ok-streams.streams.items _ waves) (sym c.new-2.ensures.items) under)
+    subst (λ J. HasLedTo W (shapes_of c.args.orders.now) c.args.steps lives c.in_ok-objects.objects c.in_ok-streams.streams.items J c.new-2.result.items) (sym c.new.ensures.items)
+    (subst (λ waves. HasLedTo W (shapes_of c.args.orders.now) c.args.steps lives c.in_ok-objects.objects c.in_ok-streams.streams.items _ waves) (sym c.new-2.ensures.items) under)

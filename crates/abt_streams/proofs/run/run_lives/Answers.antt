@@ -1,7 +1,7 @@
 -- The whole run.
 use Rattle.std.proofs.Common.{subst, sym}
 use Rattle.abt_order.specs.Stored.{shapes_of}
-use Rattle.abt_streams.specs.Runs.{IsUnderWay}
+use Rattle.abt_streams.specs.Runs.{HasLedTo}
 use Rattle.abt_streams.specs.Waves.{HasRunOn}
 use Rattle.abt_streams.proofs.Journeys.{has-run-on}
 use Rattle.abt_streams.proofs.run.run_lives.Goals as goal

@@ -1,8 +1,8 @@
 -- What `clap` took is one word, and what it refused is not.
 use Rattle.std.proofs.Common.{map, string_bytes}
 use Rattle.abt_words.proofs.Passed.{passed_on}
-use Rattle.abt_words.proofs.Told.{all_texts}
-use Rattle.abt_words.proofs.ToldAlone.{has_one, one_refused, one_told}
+use Rattle.abt_words.proofs.Found.{all_texts}
+use Rattle.abt_words.proofs.FoundAlone.{has_one, one_refused, one_told}
 use Rattle.abt_words.proofs.alone.one_word.Goals as goal
 
 pub returns-in_err-found-clause-bad : goal.returns-in_err-found-clause-bad

@@ -1,5 +1,5 @@
 use Rattle.abt_words.proofs.Passed.{passed_on}
-use Rattle.abt_words.proofs.ToldAlone.{check_needs_two}
+use Rattle.abt_words.proofs.FoundAlone.{check_needs_two}
 use Rattle.abt_words.proofs.on_files.check.Goals as goal
 
 pub returns-in_err-workload-clause-bad : goal.returns-in_err-workload-clause-bad

@@ -1,5 +1,5 @@
 use Rattle.abt_words.proofs.Passed.{passed_on}
-use Rattle.abt_words.proofs.ToldAlone.{flow_needs_one}
+use Rattle.abt_words.proofs.FoundAlone.{flow_needs_one}
 use Rattle.abt_words.proofs.on_files.flow.Goals as goal
 
 pub returns-in_err-file-clause-bad : goal.returns-in_err-file-clause-bad

@@ -1,7 +1,7 @@
 -- What `clap` took is what the rest says, and what it refused says nothing.
 use Rattle.std.proofs.Common.{map, string_bytes, option_map}
 use Rattle.abt_words.proofs.Passed.{passed_on}
-use Rattle.abt_words.proofs.Told.{all_texts, has_file, refused, told}
+use Rattle.abt_words.proofs.Found.{all_texts, has_file, refused, told}
 use Rattle.abt_words.proofs.run.run_words.Goals as goal
 
 pub returns-in_err-found-clause-bad : goal.returns-in_err-found-clause-bad

@@ -1,5 +1,5 @@
 use Rattle.abt_words.proofs.Passed.{passed_on}
-use Rattle.abt_words.proofs.ToldAlone.{no_number, self_needs_one}
+use Rattle.abt_words.proofs.FoundAlone.{no_number, self_needs_one}
 use Rattle.abt_words.proofs.self_run.self_run.Goals as goal
 
 pub returns-in_err-word-clause-bad : goal.returns-in_err-word-clause-bad

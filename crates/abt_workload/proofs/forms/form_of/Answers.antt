@@ -1,10 +1,6 @@
-use Rattle.std.proofs.Common.{◌≡◌, Bool, List, ap, find}
-use Rattle.abt_machine.specs.declared.grammar.Form.{Form}
-use Rattle.abt_machine.specs.Forms.{forms}
+use Rattle.std.proofs.Common.{sym}
+use Rattle.abt_workload.proofs.Groups.{form-of-first}
 use Rattle.abt_workload.proofs.forms.form_of.Goals as goal
 
-same : (test : Form → Bool) (xs : List Form) → xs ≡ forms → find test xs ≡ find test forms
-same test xs e = ap (find test) e
-
 pub loop-form-init : goal.loop-form-init
-loop-form-init c = same _ _ c.as_slice-form-items.ensures
+loop-form-init c = form-of-first c.args.format c.args.words.now c.in_ok-word.word.now c.forms_of-form-items.result.now (sym c.in_ok-word.ensures.value) c.forms_of-form-items.ensures

@@ -7,4 +7,4 @@ returns-clause-word c =
     let w = c.word_end-end.ensures in
     let line = c.without_front-line in
     let some : 0 < length line.result.now = some_at _ (sym c.is_empty.ensures ∙ c.if-is_empty.false) in
-    sym line.ensures.words ∙ word_taken c.word_end-end.result line.result.now some (line.ensures.front some) w.bound w.at w.before
+    sym line.ensures.words ∙ word_taken c.word_end-end.result line.result.now some (line.ensures.start some) w.bound w.at w.before

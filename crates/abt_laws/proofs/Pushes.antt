@@ -103,6 +103,11 @@ IsDistinct-step : (n : ℕ) (o : Option ℕ) (ps : List (ℕ × ℕ)) → (Among
 IsDistinct-step n None ps out d = d
 IsDistinct-step n (Some t) ps out d = IsDistinct-insert t n ps out d
 
+-- what holds of all that are among them holds of each
+pub each-among : (P : ℕ → Type 0) (us : List ℕ) → ((v : ℕ) → Among v us → P v) → EachOf P us
+each-among P [] h = tt
+each-among P (u ∷ us) h = (h u (inl refl), each-among P us (λ v m. h v (inr m)))
+
 -- what holds of each holds of each that is among them
 pub EachOf-among : (P : ℕ → Type 0) (us : List ℕ) (v : ℕ) → EachOf P us → Among v us → P v
 EachOf-among P [] v a m = absurd m

@@ -14,8 +14,9 @@ use Rattle.abt_laws.proofs.Queues.{HasTicket, queue-cong, queue-each}
 use Rattle.abt_laws.proofs.Places.{place_in}
 use Rattle.abt_laws.proofs.Arrivals.{IsEmpty, IsBelow}
 use Rattle.abt_laws.proofs.LineMoves.{line_moves}
-use Rattle.abt_simulation.proofs.Filters.{queue-filter, filter-all, filter-none}
-use Rattle.abt_simulation.proofs.Pushes.{IsDistinct, queue-push}
+use Rattle.abt_laws.proofs.Filters.{queue-filter, filter-all, filter-none}
+use Rattle.abt_laws.proofs.Prefixes.{distinct-apart, filter-drop}
+use Rattle.abt_laws.proofs.Pushes.{IsDistinct, each-among, queue-distinct, queue-push}
 
 -- who of n units stands in a line at these places, in order
 abbrev pub line_at : ℕ → Line → (ℕ → Place) → List ℕ
@@ -158,3 +159,14 @@ all_but-last u x [] d = all_but-first u x [] d
 all_but-last u x (v ∷ vs) d =
     cond-true (stays ((u, x) ∷ []) v) _ _ (stays-other ((u, x) ∷ []) v (λ k. elim k [ inl e ↦ d.0 (subst (λ w. Among w (vs ++ u ∷ [])) (sym e) (among-end u vs)) | inr none ↦ none ]))
     ∙ ap (λ ws. v ∷ ws) (all_but-last u x vs d.1)
+
+-- Some that leave a line from its head.
+
+-- if those at the head of a line are moved, and nobody else is, the others stay in order
+pub line-behind : (n : ℕ) (l : Line) (f : ℕ → Place) (ms : List (ℕ × Place)) (us vs : List ℕ) → NoneTo l ms → line_at n l f ≡ us ++ vs → ((v : ℕ) → Among v us → KeyOf v ms) → ((v : ℕ) → KeyOf v ms → Among v us) → line_at n l (put_all f ms) ≡ vs
+line-behind n l f ms us vs to parts moved only =
+    let apart : IsDistinct (us ++ vs) = subst IsDistinct parts (queue-distinct (λ u. ticket_in l (f u)) n) in
+    line-left n l f ms to
+    ∙ (ap (filter (stays ms)) parts
+    ∙ (filter-drop (stays ms) us vs (each-among (λ u. stays ms u ≡ false) us (λ v m. stays-key ms v (moved v m)))
+    ∙ filter-all (stays ms) vs (each-among (λ u. stays ms u ≡ true) vs (λ v m. stays-other ms v (λ k. distinct-apart v us vs apart (only v k) m)))))
