@@ -1,0 +1,11 @@
+pub mod Lists
+pub mod Units
+pub mod Confluence
+pub mod RowNumbers
+pub mod MeshOps
+pub mod Flowing
+pub mod MeshParts
+pub mod Loops
+pub mod Summing
+pub mod Waving
+pub mod Shown

@@ -1,0 +1,192 @@
+-- A mesh is a valid workload.
+use Rattle.std.proofs.Common.{◌≡◌, ◌≢◌, ℕ, zero, suc, ◌<◌, ◌≤◌, ◌+◌, List, [], ◌∷◌, ◌++◌, Option, Some, length, map, get_or, slice_get, refl, sym, ◌∙◌, ap, subst, arith, lit<, lit≤}
+use Rattle.std.specs.Prelude.{◌%◌, AllPairs, flat_map, option_map, replicate}
+use Rattle.std.specs.List.{enumerate_from}
+use Rattle.std.proofs.lemmas.List.{get_or-replicate, length-replicate}
+use Rattle.std.proofs.lemmas.List.Elements.{All-nil}
+use Rattle.std.proofs.lemmas.Option.{slice_get-get_or, slice_get_within}
+use Rattle.abt_machine.specs.declared.numbers.ObjectNo.{ObjectNo}
+use Rattle.abt_machine.specs.declared.numbers.SchedNo.{SchedNo}
+use Rattle.abt_machine.specs.declared.operations.Op.{Op}
+use Rattle.abt_machine.specs.declared.operations.Op.TheVariants as op
+use Rattle.abt_machine.specs.declared.operations.Thing.{Thing}
+use Rattle.abt_machine.specs.declared.operations.Thing.TheVariants as thing
+use Rattle.abt_machine.specs.declared.workload.Parts.{Parts}
+use Rattle.abt_machine.specs.declared.workload.PoolPart.{PoolPart}
+use Rattle.abt_machine.specs.declared.workload.SchedPart.{SchedPart}
+use Rattle.abt_machine.specs.declared.workload.UnitPart.{UnitPart}
+use Rattle.abt_machine.specs.Numbers.{sched_no}
+use Rattle.abt_machine.specs.Operations.{IsDeclared, IsEventual, said_by}
+use Rattle.abt_machine.specs.Valid.{IsAccess, IsBody, IsRule, IsScheduler, IsStream, IsThing, IsUnit, IsValid, IsWord, sched_in, words_said}
+use Rattle.abt_machine.specs.Words.{Text, numbered}
+use Rattle.abt_machine.specs.Workloads.{access_of, body_from, ops_of, start_from, thing_at}
+use Rattle.abt_generate.proofs.Lists.{Each, each-all, each-always, each-at, each-map, each-pairs, flat_map-nothing, none-some, some-same}
+use Rattle.flow_caller.specs.Meshes.{IsMesh, IsNode, fifo, mesh, node_ops, node_unit, sched_for}
+use Rattle.flow_caller.specs.declared.nodes.Node.{Node}
+use Rattle.flow_caller.proofs.Lists.{all-each}
+use Rattle.flow_caller.proofs.MeshOps.{few-ops, length-node_ops, length-units}
+use Rattle.flow_caller.proofs.Units.{each-op, no_node, unit-at}
+
+-- Eventuals.
+
+eventual-at : (n x : ℕ) → x < n → slice_get (replicate n thing.Eventual) x ≡ Some thing.Eventual
+eventual-at n x below =
+    let long : length (replicate n thing.Eventual) ≡ n = length-replicate n thing.Eventual in
+    slice_get-get_or (replicate n thing.Eventual) x thing.Eventual (omega arith) ∙ ap (λ t. let o : Option Thing = Some t in o) (get_or-replicate n x thing.Eventual thing.Eventual below)
+
+is-eventual : (nodes : List Node) (x : ℕ) → x < length nodes → IsEventual (mesh nodes) x
+unfolding mesh
+is-eventual nodes x below = eventual-at (length nodes) x below
+
+thing-valid : (W : Parts) (n x : ℕ) (t : Thing) → slice_get (replicate n thing.Eventual) x ≡ Some t → IsThing W x t
+thing-valid W zero x t is = absurd (none-some is)
+thing-valid W (suc n) zero t is = subst (IsThing W 0) (some-same is) tt
+thing-valid W (suc n) (suc x) t is =
+    let below : x < length (replicate n thing.Eventual) = slice_get_within (replicate n thing.Eventual) x t is in
+    let long : length (replicate n thing.Eventual) ≡ n = length-replicate n thing.Eventual in
+    let same : thing.Eventual ≡ t = some-same (sym (eventual-at n x (omega arith)) ∙ is) in
+    subst (IsThing W (suc x)) same tt
+
+objects-valid : (nodes : List Node) (x : ℕ) (t : Thing) → thing_at (mesh nodes) x ≡ Some t → IsThing (mesh nodes) x t
+unfolding mesh
+objects-valid nodes x t is = thing-valid (mesh nodes) (length nodes) x t is
+
+-- Units.
+
+ops-declared : (nodes : List Node) (u : ℕ) (node : Node) → u < length nodes → IsNode (length nodes) node → Each (IsDeclared (mesh nodes)) (node_ops u node)
+ops-declared nodes u node below is =
+    let W : Parts = mesh nodes in
+    each-op (IsDeclared W) u node (all-each (λ (x : ObjectNo). IsDeclared W (op.EvWait x)) node.after (λ i d within. is-eventual nodes (get_or node.after i d).0 (is.after i d within)))
+    is.plus tt (is-eventual nodes u below)
+
+unit-valid : (nodes : List Node) (u : ℕ) (node : Node) → u < length nodes → slice_get nodes u ≡ Some node → IsNode (length nodes) node → IsUnit (mesh nodes) u
+unfolding mesh
+unit-valid nodes u node below here is =
+    let W : Parts = mesh nodes in
+    let part : slice_get W.units u ≡ Some (node_unit u node) = unit-at nodes u ∙ ap (option_map (node_unit u)) here in
+    let few : length node.after ≤ 16 = is.few in
+    let count : length (node_ops u node) ≡ length node.after + 3 = length-node_ops u node in
+    let many : length (node_ops u node) ≤ 256 = omega arith in
+    record {
+      kind = subst (λ (o : Option UnitPart). IsBody W (body_from o)) (sym part) tt;
+      few_ops = subst (λ (o : Option UnitPart). length (ops_of (body_from o)) ≤ 256) (sym part) many;
+      ops = subst (λ (o : Option UnitPart). (i : ℕ) (a : Op) → slice_get (ops_of (body_from o)) i ≡ Some a → IsDeclared W a) (sym part) (each-at (IsDeclared W) (node_ops u node) (ops-declared nodes u node below is));
+      start = subst (λ (o : Option UnitPart). (p : ℕ) → start_from o ≡ Some p → p < 4) (sym part) (λ p start. let small : u % 4 < 4 = omega arith in subst (λ q. q < 4) (some-same start) small);
+    }
+
+units-valid : (nodes : List Node) (u : ℕ) → IsMesh nodes → u < length nodes → IsUnit (mesh nodes) u
+units-valid nodes u is below =
+    let node : Node = get_or nodes u no_node in
+    let here : slice_get nodes u ≡ Some node = slice_get-get_or nodes u no_node below in
+    unit-valid nodes u node below here (is.each u node here)
+
+-- no unit is a scheduler, and none says a word
+
+no-scheds : (nodes : List Node) → flat_map (λ (part : UnitPart). sched_in part.body) (mesh nodes).units ≡ []
+unfolding mesh
+no-scheds nodes =
+    let P : UnitPart → Type 0 = λ part. sched_in part.body ≡ [] in
+    flat_map-nothing (λ (part : UnitPart). sched_in part.body) (numbered node_unit nodes) (each-map P (λ p. node_unit p.0 p.1) (enumerate_from 0 nodes) (each-always (λ p. P (node_unit p.0 p.1)) (λ p. refl) (enumerate_from 0 nodes)))
+
+node-silent : (u : ℕ) (node : Node) → flat_map said_by (node_ops u node) ≡ []
+node-silent u node =
+    let P : Op → Type 0 = λ o. said_by o ≡ [] in
+    flat_map-nothing said_by (node_ops u node) (each-op P u node (each-always (λ x. P (op.EvWait x)) (λ x. refl) node.after) refl refl refl)
+
+no-words : (nodes : List Node) → words_said (mesh nodes) ≡ []
+unfolding mesh
+no-words nodes =
+    let P : UnitPart → Type 0 = λ part. flat_map said_by (ops_of part.body) ≡ [] in
+    flat_map-nothing (λ (part : UnitPart). flat_map said_by (ops_of part.body)) (numbered node_unit nodes) (each-map P (λ p. node_unit p.0 p.1) (enumerate_from 0 nodes) (each-always (λ p. P (node_unit p.0 p.1)) (λ p. node-silent p.0 p.1) (enumerate_from 0 nodes)))
+
+-- Pools, schedulers and streams.
+
+pools-valid : (nodes : List Node) (p : ℕ) → p < 4 → IsAccess (mesh nodes) (access_of (mesh nodes) p)
+unfolding mesh
+pools-valid nodes zero below = tt
+pools-valid nodes (suc zero) below = tt
+pools-valid nodes (suc (suc zero)) below = tt
+pools-valid nodes (suc (suc (suc zero))) below = tt
+pools-valid nodes (suc (suc (suc (suc p)))) below = absurd (omega arith)
+
+-- a list of one has no two alike
+once-one : (p : ℕ) → AllPairs (λ a b. a ≢ b) (p ∷ [])
+once-one p = each-pairs (λ a b. a ≢ b) (p ∷ []) (tt, tt)
+
+scheds-valid : (nodes : List Node) (g : ℕ) → g < 4 → IsScheduler (mesh nodes) g
+unfolding mesh
+scheds-valid nodes zero below = record {
+  rule = λ r is. subst IsRule (some-same is) tt;
+  some_pool = lit< tt;
+  few_pools = lit≤ tt;
+  pools = each-all (λ p. p < 4) (0 ∷ []) (lit< tt, tt);
+  once = once-one 0;
+}
+scheds-valid nodes (suc zero) below = record {
+  rule = λ r is. subst IsRule (some-same is) tt;
+  some_pool = lit< tt;
+  few_pools = lit≤ tt;
+  pools = each-all (λ p. p < 4) (1 ∷ []) (lit< tt, tt);
+  once = once-one 1;
+}
+scheds-valid nodes (suc (suc zero)) below = record {
+  rule = λ r is. subst IsRule (some-same is) tt;
+  some_pool = lit< tt;
+  few_pools = lit≤ tt;
+  pools = each-all (λ p. p < 4) (2 ∷ []) (lit< tt, tt);
+  once = once-one 2;
+}
+scheds-valid nodes (suc (suc (suc zero))) below = record {
+  rule = λ r is. subst IsRule (some-same is) tt;
+  some_pool = lit< tt;
+  few_pools = lit≤ tt;
+  pools = each-all (λ p. p < 4) (3 ∷ []) (lit< tt, tt);
+  once = once-one 3;
+}
+scheds-valid nodes (suc (suc (suc (suc g)))) below = absurd (omega arith)
+
+streams-valid : (nodes : List Node) (s : ℕ) → s < 4 → IsStream (mesh nodes) s
+unfolding mesh
+streams-valid nodes zero below = record { main = lit< tt; takes = refl }
+streams-valid nodes (suc zero) below = record { main = lit< tt; takes = refl }
+streams-valid nodes (suc (suc zero)) below = record { main = lit< tt; takes = refl }
+streams-valid nodes (suc (suc (suc zero))) below = record { main = lit< tt; takes = refl }
+streams-valid nodes (suc (suc (suc (suc s)))) below = absurd (omega arith)
+
+once-placed : (ps qs : List ℕ) → qs ≡ [] → ps ≡ 0 ∷ 1 ∷ 2 ∷ 3 ∷ [] → AllPairs (λ a b. a ≢ b) (ps ++ qs)
+once-placed ps qs none four = rw (none, four) (each-pairs (λ a b. a ≢ b) (0 ∷ 1 ∷ 2 ∷ 3 ∷ []) ((λ e. omega (arith, e), (λ e. omega (arith, e), (λ e. omega (arith, e), tt))), ((λ e. omega (arith, e), (λ e. omega (arith, e), tt)), ((λ e. omega (arith, e), tt), (tt, tt)))))
+
+pub IsValid-mesh : (nodes : List Node) → IsMesh nodes → IsValid (mesh nodes)
+unfolding mesh
+IsValid-mesh nodes is =
+    let W : Parts = mesh nodes in
+    let few : length nodes ≤ 256 = is.few in
+    let objects : length (replicate (length nodes) thing.Eventual) ≡ length nodes = length-replicate (length nodes) thing.Eventual in
+    let few_objects : length (replicate (length nodes) thing.Eventual) ≤ 256 = omega arith in
+    let units : length W.units ≡ length nodes = length-units nodes in
+    record {
+      some_stream = lit< tt;
+      few_streams = lit≤ tt;
+      few_keys = lit≤ tt;
+      some_pool = lit< tt;
+      few_pools = lit≤ tt;
+      pools = pools-valid nodes;
+      some_sched = lit< tt;
+      few_scheds = lit≤ tt;
+      scheds = scheds-valid nodes;
+      mains = refl;
+      streams = streams-valid nodes;
+      one_place = once-placed _ _ (no-scheds nodes) refl;
+      few_objects = few_objects;
+      objects = objects-valid nodes;
+      few_units = omega arith;
+      units = λ u below. units-valid nodes u is (omega arith);
+      few_ops = few-ops nodes is;
+      said = no-words nodes;
+      words = All-nil IsWord;
+    }
+
+-- parts that are those of a mesh
+pub parts-mesh : (nodes : List Node) (pools : List PoolPart) (scheds : List SchedPart) (mains : List SchedNo) (objects : List Thing) (units : List UnitPart) (words : List Text) → pools ≡ fifo ∷ fifo ∷ fifo ∷ fifo ∷ [] → scheds ≡ map sched_for (0 ∷ 1 ∷ 2 ∷ 3 ∷ []) → mains ≡ sched_no 0 ∷ sched_no 1 ∷ sched_no 2 ∷ sched_no 3 ∷ [] → objects ≡ replicate (length nodes) thing.Eventual → units ≡ numbered node_unit nodes → words ≡ [] → ◌≡◌ {A = Parts} (record { streams = 4; keys = 0; pools = pools; scheds = scheds; mains = mains; objects = objects; units = units; words = words }) (mesh nodes)
+unfolding mesh
+parts-mesh nodes pools scheds mains objects units words a b d e f g = rw (a, b, d, e, f, g) refl

@@ -1,0 +1,128 @@
+-- What is read off a finished run of a mesh.
+use Rattle.std.proofs.Common.{◌≡◌, ℕ, zero, suc, ◌+◌, ◌<◌, List, [], ◌∷◌, ◌++◌, Option, Some, None, Vec, Global, length, map, take, get_or, refl, sym, ◌∙◌, ap, subst, arith, zero-add}
+use Rattle.std.specs.List.{All, range_with_len}
+use Rattle.std.proofs.lemmas.List.{get_or-map, length-map, map_more, map_push}
+use Rattle.std.proofs.lemmas.List.FromFn.{map-range_with_len_more}
+use Rattle.abt_machine.specs.declared.events.Event.{Event}
+use Rattle.abt_machine.specs.declared.events.Outcome.{Outcome}
+use Rattle.abt_machine.specs.declared.events.Outcome.TheVariants as outcome
+use Rattle.abt_machine.specs.declared.events.Piece.{Piece}
+use Rattle.abt_machine.specs.declared.events.Piece.TheVariants as piece
+use Rattle.abt_machine.specs.declared.operations.OrderShape.{OrderShape}
+use Rattle.abt_machine.specs.declared.workload.Parts.{Parts}
+use Rattle.abt_machine.specs.Lives.{count_up}
+use Rattle.abt_machine.specs.Runs.{last_state}
+use Rattle.abt_machine.specs.State.{State}
+use Rattle.abt_machine.specs.Texts.{ShownUnit, shown_units}
+use Rattle.abt_report.specs.Pictures.{unit_of, units_of}
+use Rattle.abt_report.specs.declared.pictures.Row.{Row}
+use Rattle.abt_drain.specs.Runs.{HasRun}
+use Rattle.abt_flow.specs.Confluent.{Confluent}
+use Rattle.abt_flow.specs.Flow.{IsFlow}
+use Rattle.abt_flow.specs.Laws.{outputs}
+use Rattle.abt_generate.proofs.Lists.{none-some}
+use Rattle.flow_caller.specs.Answers.{Answers, Shows, step_count}
+use Rattle.flow_caller.specs.Meshes.{AreNumbers, mesh, number_rows}
+use Rattle.flow_caller.specs.Rows.{IsNumber, output_of}
+use Rattle.flow_caller.specs.declared.nodes.Node.{Node}
+use Rattle.flow_caller.proofs.Confluence.{Confluent-mesh}
+use Rattle.flow_caller.proofs.Flowing.{rows-are-numbers, rows-are-ones}
+use Rattle.flow_caller.proofs.RowNumbers.{number_in, numbers-back}
+
+-- Lists of outputs.
+
+map-map : {A B C : Type 0} (g : B → C) (f : A → B) (xs : List A) → map g (map f xs) ≡ map (λ x. g (f x)) xs
+map-map g f [] = refl
+map-map g f (x ∷ xs) = ap (λ ys. g (f x) ∷ ys) (map-map g f xs)
+
+map-count_up : {A : Type 0} (f : ℕ → A) (n : ℕ) → map f (count_up n) ≡ map f (range_with_len 0 n)
+map-count_up f zero = refl
+map-count_up f (suc n) =
+    let more : map f (range_with_len 0 (suc n)) ≡ map f (range_with_len 0 n) ++ f n ∷ [] = ap (λ k. map f (range_with_len 0 k)) (let e : suc n ≡ n + 1 = omega arith in e) ∙ map-range_with_len_more f 0 n n (zero-add n) in
+    map_push f (count_up n) n ∙ (ap (λ ys. ys ++ f n ∷ []) (map-count_up f n) ∙ sym more)
+
+-- the outputs that a picture shows are the state's
+outputs-shown : (W : Parts) (S : State) (rows : List Row) → shown_units W S ≡ units_of rows → outputs W S ≡ map output_of rows
+outputs-shown W S rows shown =
+    map-count_up (λ u. (S.carried u).output) (length W.units) ∙ (sym (map-map (λ (unit : ShownUnit). unit.output) _ (range_with_len 0 (length W.units))) ∙
+    (ap (map (λ (unit : ShownUnit). unit.output)) shown ∙ map-map (λ (unit : ShownUnit). unit.output) unit_of rows))
+
+-- rows that are numbers, one by one
+rows-each : (rows : List Row) (numbers : List ℕ) → map output_of rows ≡ number_rows numbers → All IsNumber rows
+rows-each rows numbers is i d below =
+    let one : length (map output_of rows) ≡ length rows = length-map rows output_of in
+    let two : length (number_rows numbers) ≡ length numbers = length-map numbers (λ n. piece.Number n ∷ []) in
+    let same : length (map output_of rows) ≡ length (number_rows numbers) = ap length is in
+    let here : get_or (map output_of rows) i [] ≡ output_of (get_or rows i d) = get_or-map output_of rows i d [] below in
+    let other : get_or (number_rows numbers) i [] ≡ piece.Number (get_or numbers i 0) ∷ [] = get_or-map (λ n. piece.Number n ∷ []) numbers i 0 [] (omega arith) in
+    (get_or numbers i 0, sym here ∙ (ap (λ xs. get_or xs i []) is ∙ other))
+
+-- the numbers of the rows read so far, and of one row more
+pub rows-more : (rows : List Row) (i : ℕ) (row : Row) (numbers next : List ℕ) (n : ℕ) → i < length rows → row ≡ get_or rows i row → row.output ≡ piece.Number n ∷ [] → number_rows numbers ≡ map output_of (take i rows) → next ≡ numbers ++ n ∷ [] → number_rows next ≡ map output_of (take (i + 1) rows)
+rows-more rows i row numbers next n lt is out before push =
+    ap number_rows push ∙ (map_push (λ k. piece.Number k ∷ []) numbers n ∙ (ap (λ ys. ys ++ (piece.Number n ∷ []) ∷ []) before ∙
+    (ap (λ y. map output_of (take i rows) ++ y ∷ []) (sym out ∙ ap output_of is) ∙ sym (map_more output_of rows i row lt))))
+
+-- Runs.
+
+module _ (nodes : List Node) (W : Parts) (is : W ≡ mesh nodes) (Z : List OrderShape) (J : List Event) (o : Outcome) (run : HasRun W Z step_count J o) where
+  module _ (finished : o ≡ outcome.Finished) (rows : List Row) (shown : shown_units W (last_state W J) ≡ units_of rows) where
+    -- a finished run shows the flow
+    flow-shown : IsFlow (mesh nodes) (map output_of rows)
+    flow-shown =
+        let flow : IsFlow W (outputs W (last_state W J)) = run.flow finished (subst Confluent (sym is) (Confluent-mesh nodes)) in
+        subst (λ V. IsFlow V (map output_of rows)) is (subst (IsFlow W) (outputs-shown W (last_state W J) rows shown) flow)
+
+    pub shown-each : All IsNumber rows
+    shown-each = rows-each rows (map number_in (map output_of rows)) (rows-are-ones nodes (map output_of rows) flow-shown)
+
+    pub shown-numbers : (numbers : List ℕ) → number_rows numbers ≡ map output_of rows → AreNumbers nodes numbers
+    shown-numbers numbers are = subst (AreNumbers nodes) (ap (map number_in) (sym are) ∙ numbers-back numbers) (rows-are-numbers nodes (map output_of rows) flow-shown)
+
+  pub answers-finished : {A : Type 0} (P : A → Type 0) (x : A) → o ≡ outcome.Finished → P x → Answers (mesh nodes) (Some x) P
+  answers-finished P x finished holds = record {
+    orders = Z;
+    journal = J;
+    end = o;
+    run = subst (λ V. HasRun V Z step_count J o) is run;
+    shows = subst (λ e. Shows e (Some x) P) (sym finished) holds;
+  }
+
+-- Answers.
+
+-- these are the numbers of the nodes
+abbrev pub AreOf : List Node → Vec ℕ Global → Type 0
+AreOf nodes numbers = AreNumbers nodes numbers.items
+
+module _ {A : Type 0} (P : A → Type 0) where
+  shows-right : (o : Outcome) (x : A) → Shows o (Some x) P → P x
+  shows-right outcome.Finished x is = is
+  shows-right outcome.Stuck x is = absurd (none-some (sym is))
+  shows-right (outcome.Budget s) x is = absurd (none-some (sym is))
+
+  -- an answer is right
+  pub answer-right : (W : Parts) (x : A) → Answers W (Some x) P → P x
+  answer-right W x is = shows-right is.end x is.shows
+
+module _ {A B : Type 0} (P : A → Type 0) (Q : B → Type 0) where
+  shows-some : (a : A) (b : B) → (P a → Q b) → (o : Outcome) → Shows o (Some a) P → Shows o (Some b) Q
+  shows-some a b h outcome.Finished is = h is
+  shows-some a b h outcome.Stuck is = absurd (none-some (sym is))
+  shows-some a b h (outcome.Budget s) is = absurd (none-some (sym is))
+
+  shows-none : (o : Outcome) → Shows {A = A} o None P → Shows {A = B} o None Q
+  shows-none outcome.Finished is = absurd is
+  shows-none outcome.Stuck is = refl
+  shows-none (outcome.Budget s) is = refl
+
+  -- an answer that is made of another
+  pub answers-some : (W : Parts) (a : A) (b : B) → (P a → Q b) → Answers W (Some a) P → Answers W (Some b) Q
+  answers-some W a b h is = record { orders = is.orders; journal = is.journal; end = is.end; run = is.run; shows = shows-some a b h is.end is.shows }
+
+  pub answers-none : (W : Parts) → Answers {A = A} W None P → Answers {A = B} W None Q
+  answers-none W is = record { orders = is.orders; journal = is.journal; end = is.end; run = is.run; shows = shows-none is.end is.shows }
+
+-- an answer of a weaker kind
+pub answers-weaker : {A : Type 0} (P Q : A → Type 0) → ((x : A) → P x → Q x) → (W : Parts) (answer : Option A) → Answers W answer P → Answers W answer Q
+answers-weaker P Q h W None is = answers-none P Q W is
+answers-weaker P Q h W (Some x) is = answers-some P Q W x x (h x) is

@@ -1,0 +1,5 @@
+pub mod Answers
+pub mod Meshes
+pub mod Rows
+pub mod Sums
+pub mod Wavefronts

@@ -1,0 +1,36 @@
+//! Laws of meshes: what their workloads are, and what comes out.
+
+ghost use Rattle.std.specs.Prelude.{◌≡◌, ◌≤◌, List, length, ℕ};
+ghost use Rattle.abt_flow.specs.Confluent.{Confluent};
+ghost use Rattle.abt_flow.specs.Flow.{IsFlow};
+ghost use Rattle.abt_machine.specs.declared.events.Piece.{Piece};
+ghost use Rattle.abt_machine.specs.Valid.{IsValid};
+ghost use Rattle.flow_caller.specs.Meshes.{AreNumbers, IsMesh, mesh, number_rows, numbers_of};
+ghost use Rattle.flow_caller.specs.Sums.{chain, sum_to};
+ghost use Rattle.flow_caller.specs.Wavefronts.{IsWavefront, wavefront};
+ghost use Rattle.flow_caller.specs.declared.nodes.Node.{Node};
+
+/// The workload of a mesh is valid.
+pub fn meshes_are_valid()
+    ensures { (nodes : List Node) → IsMesh nodes → IsValid (mesh nodes) }
+{}
+
+/// The schedule can't matter to what its units put out.
+pub fn meshes_are_confluent()
+    ensures { (nodes : List Node) → Confluent (mesh nodes) }
+{}
+
+/// By its flow each unit puts out the number of its node.
+pub fn meshes_put_out_numbers()
+    ensures { (nodes : List Node) (rows : List (List Piece)) → IsFlow (mesh nodes) rows → (numbers : List ℕ) × (rows ≡ number_rows numbers) × AreNumbers nodes numbers }
+{}
+
+/// By its flow each unit puts out the sum of the leaves up to its own.
+pub fn chains_put_out_sums()
+    ensures { (leaves : List ℕ) (rows : List (List Piece)) → IsFlow (mesh (chain leaves)) rows → rows ≡ number_rows (numbers_of (sum_to leaves) (length leaves)) }
+{}
+
+/// By its flow each unit puts out the number of its cell.
+pub fn wavefronts_put_out_paths()
+    ensures { (n : ℕ) → n ≤ 16 → (rows : List (List Piece)) → IsFlow (mesh (wavefront n)) rows → (numbers : List ℕ) × (rows ≡ number_rows numbers) × IsWavefront n numbers }
+{}
