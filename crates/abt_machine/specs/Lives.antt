@@ -11,53 +11,19 @@ use Rattle.abt_machine.specs.declared.operations.Body.TheVariants as body
 use Rattle.abt_machine.specs.declared.operations.Op.{Op}
 use Rattle.abt_machine.specs.declared.operations.Op.TheVariants as op
 use Rattle.abt_machine.specs.declared.workload.Parts.{Parts}
+use Rattle.abt_machine.specs.Operations.{nature_of}
 use Rattle.abt_machine.specs.Workloads.{body_at, op_at, start_of}
 use Rattle.abt_machine.specs.Queues.{last}
 use Rattle.abt_machine.specs.Start.{first_life}
 
+abbrev pub is_of : ℕ → Option ℕ → Bool
+is_of u None = false
+is_of u (Some v) = v == u
+
 -- the operation gives unit u a life
 abbrev pub is_birth : ℕ → Option Op → Bool
 is_birth u None = false
-is_birth u (Some (op.Set n)) = false
-is_birth u (Some (op.Add n)) = false
-is_birth u (Some (op.Say w)) = false
-is_birth u (Some op.Print) = false
-is_birth u (Some (op.KeySet k)) = false
-is_birth u (Some (op.KeyGet k)) = false
-is_birth u (Some op.Yield) = false
-is_birth u (Some (op.YieldTo v p)) = false
-is_birth u (Some op.Suspend) = false
-is_birth u (Some op.Exit) = false
-is_birth u (Some (op.Resume v)) = false
-is_birth u (Some (op.Create v p)) = v.0 == u
-is_birth u (Some (op.Join v)) = false
-is_birth u (Some (op.Cancel v)) = false
-is_birth u (Some (op.Migrate v p)) = false
-is_birth u (Some (op.MigrateTo v r)) = false
-is_birth u (Some (op.Migratable v b)) = false
-is_birth u (Some (op.Revive v p)) = v.0 == u
-is_birth u (Some (op.Lock x)) = false
-is_birth u (Some (op.TryLock x)) = false
-is_birth u (Some (op.Unlock x)) = false
-is_birth u (Some (op.Load x)) = false
-is_birth u (Some (op.Store x)) = false
-is_birth u (Some (op.CondWait x)) = false
-is_birth u (Some (op.Signal x)) = false
-is_birth u (Some (op.Broadcast x)) = false
-is_birth u (Some (op.EvWait x)) = false
-is_birth u (Some (op.EvSet x)) = false
-is_birth u (Some (op.EvReset x)) = false
-is_birth u (Some (op.EvTest x)) = false
-is_birth u (Some (op.FuWait x)) = false
-is_birth u (Some (op.FuSet x)) = false
-is_birth u (Some (op.FuReset x)) = false
-is_birth u (Some (op.FuTest x)) = false
-is_birth u (Some (op.BarWait x)) = false
-is_birth u (Some (op.ReadLock x)) = false
-is_birth u (Some (op.WriteLock x)) = false
-is_birth u (Some (op.RwUnlock x)) = false
-is_birth u (Some (op.RwLoad x)) = false
-is_birth u (Some (op.RwStore x)) = false
+is_birth u (Some o) = is_of u (nature_of o).birth
 
 -- the life of unit u after an event, now being the one before: it rises at each step that creates or revives u and goes through
 abbrev pub life_after : Parts → ℕ → ℕ → What → ℕ
@@ -82,10 +48,6 @@ unit_of (what.Put u p) = Some u.0
 unit_of (what.End u c) = Some u.0
 unit_of (what.Enter u) = Some u.0
 unit_of (what.Leave u) = Some u.0
-
-abbrev pub is_of : ℕ → Option ℕ → Bool
-is_of u None = false
-is_of u (Some v) = v == u
 
 abbrev pub events_from : Parts → ℕ → ℕ → ℕ → List Event → List What
 events_from W u l now [] = []

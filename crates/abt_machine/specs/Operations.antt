@@ -1,10 +1,13 @@
--- What an operation asks of the workload that it stands in.
-use Rattle.std.specs.Prelude.{ℕ, ◌≡◌, ◌<◌, ◌^◌, Bool, true, false, List, [], ◌∷◌, length, Some, ⊤}
+-- What an operation asks of the workload that it stands in, and what is so of it in every workload.
+use Rattle.std.specs.Prelude.{ℕ, ◌≡◌, ◌<◌, ◌^◌, Bool, true, false, List, length, Option, Some, None, option_to_list, ⊤}
+use Rattle.abt_machine.specs.declared.events.Piece.TheVariants as piece
 use Rattle.abt_machine.specs.declared.operations.Combine.{Combine}
 use Rattle.abt_machine.specs.declared.operations.Op.{Op}
 use Rattle.abt_machine.specs.declared.operations.Op.TheVariants as op
 use Rattle.abt_machine.specs.declared.operations.Thing.TheVariants as thing
 use Rattle.abt_machine.specs.declared.workload.Parts.{Parts}
+use Rattle.abt_machine.specs.Carrying.{added, from_key, printed, with_acc, with_key}
+use Rattle.abt_machine.specs.State.{Carried}
 use Rattle.abt_machine.specs.Workloads.{IsCondition, thing_at}
 
 abbrev pub IsMutex : Parts → ℕ → Type 0
@@ -65,88 +68,89 @@ IsDeclared W (op.RwUnlock x) = IsRwLock W x.0
 IsDeclared W (op.RwLoad x) = IsRwLock W x.0
 IsDeclared W (op.RwStore x) = IsRwLock W x.0
 
--- whether an operation may block or yield, which a tasklet may not
-abbrev pub may_block : Op → Bool
-may_block (op.Set n) = false
-may_block (op.Add n) = false
-may_block (op.Say w) = false
-may_block op.Print = false
-may_block (op.KeySet k) = false
-may_block (op.KeyGet k) = false
-may_block op.Yield = true
-may_block (op.YieldTo v p) = true
-may_block op.Suspend = true
-may_block op.Exit = true
-may_block (op.Resume v) = false
-may_block (op.Create v p) = false
-may_block (op.Join v) = true
-may_block (op.Cancel v) = false
-may_block (op.Migrate v p) = false
-may_block (op.MigrateTo v s) = false
-may_block (op.Migratable v b) = false
-may_block (op.Revive v p) = false
-may_block (op.Lock x) = true
-may_block (op.TryLock x) = false
-may_block (op.Unlock x) = false
-may_block (op.Load x) = false
-may_block (op.Store x) = false
-may_block (op.CondWait x) = true
-may_block (op.Signal x) = false
-may_block (op.Broadcast x) = false
-may_block (op.EvWait x) = true
-may_block (op.EvSet x) = false
-may_block (op.EvReset x) = false
-may_block (op.EvTest x) = false
-may_block (op.FuWait x) = true
-may_block (op.FuSet x) = false
-may_block (op.FuReset x) = false
-may_block (op.FuTest x) = false
-may_block (op.BarWait x) = true
-may_block (op.ReadLock x) = true
-may_block (op.WriteLock x) = true
-may_block (op.RwUnlock x) = false
-may_block (op.RwLoad x) = false
-may_block (op.RwStore x) = false
+-- what holds of an operation in every workload and in every state
+pub record Nature : Type 0 where
+  -- whether it may block or yield, which a tasklet must not
+  pub may_block : Bool
+  -- the number of the word that it says, if it says one
+  pub word : Option ℕ
+  -- the number of the key that it names, if it names one
+  pub key : Option ℕ
+  -- the number of the unit that it gives a life, if it gives one
+  pub birth : Option ℕ
+  -- what it makes of what its unit carries, if it is local: if it changes nothing else
+  pub local : Option (Carried → Carried)
 
--- the number of the word that an operation says, if it says one
+-- it has none of this
+abbrev pub plain : Nature
+plain = record { may_block = false; word = None; key = None; birth = None; local = None }
+
+-- it may block or yield
+abbrev pub blocking : Nature
+blocking = record plain { may_block = true }
+
+-- it gives unit v a life
+abbrev pub begins : ℕ → Nature
+begins v = record plain { birth = Some v }
+
+-- it is local, and makes f of what its unit carries
+abbrev pub locally : (Carried → Carried) → Nature
+locally f = record plain { local = Some f }
+
+-- it says word w
+abbrev pub says : ℕ → Nature
+says w = record (locally (printed (piece.Said w))) { word = Some w }
+
+-- it names key k, is local, and makes f of what its unit carries
+abbrev pub at_key : ℕ → (Carried → Carried) → Nature
+at_key k f = record (locally f) { key = Some k }
+
+abbrev pub nature_of : Op → Nature
+nature_of (op.Set n) = locally (with_acc n)
+nature_of (op.Add n) = locally (added n)
+nature_of (op.Say w) = says w
+nature_of op.Print = locally (λ c. printed (piece.Number c.acc) c)
+nature_of (op.KeySet k) = at_key k (with_key k)
+nature_of (op.KeyGet k) = at_key k (from_key k)
+nature_of op.Yield = blocking
+nature_of (op.YieldTo v p) = blocking
+nature_of op.Suspend = blocking
+nature_of op.Exit = blocking
+nature_of (op.Resume v) = plain
+nature_of (op.Create v p) = begins v.0
+nature_of (op.Join v) = blocking
+nature_of (op.Cancel v) = plain
+nature_of (op.Migrate v p) = plain
+nature_of (op.MigrateTo v s) = plain
+nature_of (op.Migratable v b) = plain
+nature_of (op.Revive v p) = begins v.0
+nature_of (op.Lock x) = blocking
+nature_of (op.TryLock x) = plain
+nature_of (op.Unlock x) = plain
+nature_of (op.Load x) = plain
+nature_of (op.Store x) = plain
+nature_of (op.CondWait x) = blocking
+nature_of (op.Signal x) = plain
+nature_of (op.Broadcast x) = plain
+nature_of (op.EvWait x) = blocking
+nature_of (op.EvSet x) = plain
+nature_of (op.EvReset x) = plain
+nature_of (op.EvTest x) = plain
+nature_of (op.FuWait x) = blocking
+nature_of (op.FuSet x) = plain
+nature_of (op.FuReset x) = plain
+nature_of (op.FuTest x) = plain
+nature_of (op.BarWait x) = blocking
+nature_of (op.ReadLock x) = blocking
+nature_of (op.WriteLock x) = blocking
+nature_of (op.RwUnlock x) = plain
+nature_of (op.RwLoad x) = plain
+nature_of (op.RwStore x) = plain
+
+-- whether an operation may block or yield, which a tasklet must not
+abbrev pub may_block : Op → Bool
+may_block o = (nature_of o).may_block
+
+-- the number of the word that an operation says, if it says one, as a list
 abbrev pub said_by : Op → List ℕ
-said_by (op.Set n) = []
-said_by (op.Add n) = []
-said_by (op.Say w) = w ∷ []
-said_by op.Print = []
-said_by (op.KeySet k) = []
-said_by (op.KeyGet k) = []
-said_by op.Yield = []
-said_by (op.YieldTo v p) = []
-said_by op.Suspend = []
-said_by op.Exit = []
-said_by (op.Resume v) = []
-said_by (op.Create v p) = []
-said_by (op.Join v) = []
-said_by (op.Cancel v) = []
-said_by (op.Migrate v p) = []
-said_by (op.MigrateTo v r) = []
-said_by (op.Migratable v b) = []
-said_by (op.Revive v p) = []
-said_by (op.Lock x) = []
-said_by (op.TryLock x) = []
-said_by (op.Unlock x) = []
-said_by (op.Load x) = []
-said_by (op.Store x) = []
-said_by (op.CondWait x) = []
-said_by (op.Signal x) = []
-said_by (op.Broadcast x) = []
-said_by (op.EvWait x) = []
-said_by (op.EvSet x) = []
-said_by (op.EvReset x) = []
-said_by (op.EvTest x) = []
-said_by (op.FuWait x) = []
-said_by (op.FuSet x) = []
-said_by (op.FuReset x) = []
-said_by (op.FuTest x) = []
-said_by (op.BarWait x) = []
-said_by (op.ReadLock x) = []
-said_by (op.WriteLock x) = []
-said_by (op.RwUnlock x) = []
-said_by (op.RwLoad x) = []
-said_by (op.RwStore x) = []
+said_by o = option_to_list (nature_of o).word

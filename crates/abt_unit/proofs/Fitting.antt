@@ -1,5 +1,5 @@
 -- What keeps a unit fit for its workload.
-use Rattle.std.proofs.Common.{◌≡◌, ◌<◌, ◌≤◌, ◌+◌, ◌%◌, ◌^◌, ℕ, [], ◌∷◌, Option, Some, None, length, refl, subst, slice_index, slice_set, arith}
+use Rattle.std.proofs.Common.{◌≡◌, ◌<◌, ◌≤◌, ◌+◌, ◌%◌, ◌^◌, ℕ, [], ◌∷◌, Option, Some, None, IfSome, length, refl, subst, slice_index, slice_set, arith}
 use Rattle.std.proofs.lemmas.List.{length-replicate, length-set}
 use Rattle.std.proofs.lemmas.List.Elements.{All-append, All-cons, All-nil}
 use Rattle.std.proofs.lemmas.Option.{slice_get_within}
@@ -12,13 +12,13 @@ use Rattle.abt_machine.specs.declared.operations.Op.TheVariants as op
 use Rattle.abt_machine.specs.declared.workload.Parts.{Parts}
 use Rattle.abt_machine.specs.Acts.{carrying, moved, received, reborn}
 use Rattle.abt_machine.specs.Carrying.{printed, with_home}
-use Rattle.abt_machine.specs.Operations.{IsDeclared}
+use Rattle.abt_machine.specs.Operations.{IsDeclared, nature_of}
 use Rattle.abt_machine.specs.Valid.{IsValid}
 use Rattle.abt_machine.specs.Values.{Owned}
 use Rattle.abt_machine.specs.Workloads.{body_at, op_at, ops_of}
 use Rattle.abt_machine.specs.Pieces.{IsPieceOf}
 use Rattle.abt_unit.specs.Fits.{Fits}
-use Rattle.abt_unit.specs.Local.{NamesKeyBelow, back, local_step, local_step_at}
+use Rattle.abt_unit.specs.Local.{back, local_step, local_step_at}
 
 -- the position of a unit that fits a valid workload is a small number
 pub position-le : (W : Parts) (o : Owned) → IsValid W → Fits W o → o.carried.position ≤ 256
@@ -90,15 +90,15 @@ IsDeclared-op_at : (W : Parts) (u k : ℕ) (a : Op) → IsValid W → u < length
 IsDeclared-op_at W u k a valid declared e = (valid.units u declared).ops k a e
 
 -- an operation that is declared names a key that there is, if it names one
-NamesKeyBelow-declared : (W : Parts) (a : Op) → IsDeclared W a → NamesKeyBelow W.keys a
-NamesKeyBelow-declared W (op.KeySet k) declared = declared
-NamesKeyBelow-declared W (op.KeyGet k) declared = declared
-NamesKeyBelow-declared W _ declared = tt
+key-declared : (W : Parts) (a : Op) → IsDeclared W a → IfSome (nature_of a).key (λ k. k < W.keys)
+key-declared W (op.KeySet k) declared = declared
+key-declared W (op.KeyGet k) declared = declared
+key-declared W _ declared = tt
 
 -- the key that a unit's operation names, if it names one, is a key of the unit
-pub NamesKeyBelow-op_at : (W : Parts) (o : Owned) (a : Op) → IsValid W → Fits W o → op_at W o.number o.carried.position ≡ Some a → NamesKeyBelow (length o.carried.keys) a
-NamesKeyBelow-op_at W o a valid fits e =
-    rw fits.keys (NamesKeyBelow-declared W a (IsDeclared-op_at W o.number o.carried.position a valid fits.number e))
+pub key-op_at : (W : Parts) (o : Owned) (a : Op) → IsValid W → Fits W o → op_at W o.number o.carried.position ≡ Some a → IfSome (nature_of a).key (λ k. k < length o.carried.keys)
+key-op_at W o a valid fits e =
+    rw fits.keys (key-declared W a (IsDeclared-op_at W o.number o.carried.position a valid fits.number e))
 
 becomes : (W : Parts) (o p : Owned) → Some o ≡ Some p → Fits W o → Fits W p
 becomes W o p e fits = let P : Owned → Type 0 = λ x. Fits W x in let same : o ≡ p = cc in subst P same fits

@@ -1,15 +1,16 @@
 //! A unit, its calls, and the link that makes chains of units.
 
-ghost use Rattle.std.specs.Prelude.{◌≡◌, ◌<◌, ◌≤◌, ◌+◌, ◌-◌, ◌^◌, IfOk, IsSome, OnErr, OnOk, Some, length, option_map, slice_index, vec_len, vec_capacity};
+ghost use Rattle.std.specs.Prelude.{◌≡◌, ◌<◌, ◌≤◌, ◌+◌, ◌-◌, ◌^◌, IfOk, IfSome, IsSome, OnErr, OnOk, Some, length, option_map, slice_index, vec_len, vec_capacity};
 ghost use Rattle.abt_machine.specs.declared.numbers.PoolNo.{PoolNo};
 ghost use Rattle.abt_machine.specs.declared.events.Piece.TheVariants.{Refused};
 ghost use Rattle.abt_machine.specs.Acts.{carrying, moved, received, reborn};
 ghost use Rattle.abt_machine.specs.Carrying.{printed, with_home};
+ghost use Rattle.abt_machine.specs.Operations.{nature_of};
 ghost use Rattle.abt_machine.specs.Sites.{home_from};
 ghost use Rattle.abt_machine.specs.Start.{start};
 ghost use Rattle.abt_machine.specs.Values.{owned_at};
 ghost use Rattle.abt_unit.specs.Fits.{Fits};
-ghost use Rattle.abt_unit.specs.Local.{IsLocal, NamesKeyBelow, after_local, back, local_step, local_step_at};
+ghost use Rattle.abt_unit.specs.Local.{IsLocal, after_local, back, local_step, local_step_at};
 ghost use Rattle.abt_unit.specs.Units.{IsFree};
 
 use abt_machine::{Code, Op, Output, Piece, PoolNo, UnitNo, Want, Workload};
@@ -232,7 +233,7 @@ impl Unit {
     // Does a local operation.
     fn step(&mut self, op: Op)
         requires local { IsSome (after_local op self.old.owned.carried) }
-        requires key { NamesKeyBelow (length self.old.owned.carried.keys) op }
+        requires key { IfSome (nature_of op).key (λ k. k < length self.old.owned.carried.keys) }
         requires position { self.old.owned.carried.position < 2 ^ 32 - 1 }
         requires room { 0 < self.old.spare }
         ensures step { local_step_at (Some op) self.old.owned ≡ Some self.new.owned }
