@@ -25,6 +25,7 @@ fail) echo "rt: the library low did not build, so nothing above it was checked";
 long) echo $$ >"$room/pid"; exec sleep 300 ;;
 wait) until [ -e "$room/go" ]; do sleep 0.1; done ;;
 edit) echo changed >>../low/src/lib.rt ;;
+tries) exit 5 ;;
 esac
 mkdir -p out
 { echo '#!/bin/sh'; echo "echo \"$(cat ../low/src/lib.rt): \$*\""; echo 'cat; exit "${1:-2}"'; } >out/$name
@@ -285,6 +286,30 @@ try_gate() {
     came "a program of older sources" 1 "" ""
 }
 
+# What ./try asks of the toolchain: files that the words name in the caller's folder come as copies of that name, and those that
+# cannot, by their full names.
+try_unproved() {
+    cp try "$toy/try"
+    as tries
+    call "$toy/try"
+    came "try without a program" 70 "" "try: usage: ./try PROGRAM WORDS.., with one of these programs: toy"
+    call "$toy/try" other
+    came "try of a library" 70 "" "try: usage: ./try PROGRAM WORDS.., with one of these programs: toy"
+    PATH=$room/tools call "$toy/try" toy
+    came "try without the toolchain" 70 "" "try: the toolchain's command rt is not on the path: README.md says what is needed"
+    holds "none of these asks the toolchain" [ "$(built)" = 0 ]
+    cd "$room/else where" || return
+    echo here >here
+    echo sum >a=b
+    call "$toy/try" toy run here ./here a=b ../in "$room/in" absent
+    cd "$root" || return
+    holds "try ends as the program does" [ "$status" = 5 ]
+    holds "try says that nothing is proved" [ "$(cat "$room/err")" = \
+        "try: nothing is proved; rt try compiles toy as it stands and runs it, in about a minute" ]
+    holds "try passes words and files on" [ "$(cat "$room/calls")" = "try --data here=$room/else where/here --data ./here=$room/else \
+where/./here -- run here ./here $room/else where/a=b $room/else where/../in $room/in absent" ]
+}
+
 # The toolchain itself builds a program, refuses a wrong one, and runs one without a proof.
 try_toolchain() {
     local real="$room/real" most=1800
@@ -310,6 +335,9 @@ RT
     came "the toolchain builds" 0 given "small: building, which proves the crates that it stands on (log: $real/out/small.log)"
     call "$real/small" <"$room/in"
     came "what the toolchain built runs" 0 given ""
+    call "$real/try" small <"$room/in"
+    holds "try runs without a proof" [ "$status $(cat "$room/out")" = "0 given" ]
+    holds "the toolchain says so" grep -q 'proved=no' "$room/err"
     sed -i 's/Ok(())/let zero = 0; let _ = 1 \/ zero; Ok(())/' "$real/crates/small/src/main.rt"
     call "$real/small" <"$room/in"
     holds "the toolchain refuses" [ "$status" = 70 ]
@@ -330,5 +358,6 @@ try_signals
 try_terminal
 try_unwritable
 try_gate
+try_unproved
 PATH=$PATH_before
 try_toolchain
