@@ -172,7 +172,7 @@ impl Files for MemoryFiles {
 #[cfg(test)]
 mod tests {
     use super::*;
-    use crate::read_all;
+    use crate::{NotFetched, read_all};
     use std::alloc::Global;
     use std::test::Fail;
 
@@ -201,8 +201,13 @@ mod tests {
         for call in 0..4 {
             let rows = vec![in alloc; file(alloc, "a", b"first")?]?;
             let mut files = MemoryFiles::new(rows, vec![in alloc; call]?);
-            let read = read_all(alloc, &mut files, "a", 9);
-            assert_eq!(rt; read.is_err(), call < 3, "call {call}");
+            let fault = read_all(alloc, &mut files, "a", 9).err();
+            let wanted = if call < 3 {
+                Some(NotFetched::Failed)
+            } else {
+                None
+            };
+            assert_eq!(rt; fault, wanted, "call {call}");
             assert_eq!(rt; files.faults == 1, call < 3, "call {call}");
         }
         Ok(())
