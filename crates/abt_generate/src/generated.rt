@@ -1,6 +1,7 @@
 //! The generator.
 
 ghost use Rattle.std.specs.Prelude.{◌≡◌, ◌<◌, ◌≤◌, ◌∷◌, IfOk, map};
+ghost use Rattle.abt_machine.specs.Limits.{adder_limit};
 ghost use Rattle.abt_generate.specs.Generated.{adder, adder_ops, adders, first_ops, first_unit, generated, sched_for, streams};
 
 use abt_machine::{
@@ -20,7 +21,7 @@ const SUM: ObjectNo = ObjectNo(0);
 /// operations of unit 0 create the adders, join them, and print what a mutex holds; those of adder v yield, and add v to what
 /// it holds.
 pub fn generate(alloc: Global, n: u32) -> Result<Workload, Want>
-    requires { (0 < n) × (n ≤ 126) }
+    requires { (0 < n) × (n ≤ adder_limit) }
     ensures { IfOk result (λ w. w ≡ generated n) }
 {
     let deque = PoolPart {
@@ -41,7 +42,7 @@ pub fn generate(alloc: Global, n: u32) -> Result<Workload, Want>
 }
 
 fn scheds(alloc: Global, n: u32) -> Result<Vec<SchedPart>, AllocError>
-    requires { n ≤ 126 }
+    requires { n ≤ adder_limit }
     ensures { IfOk result (λ scheds. scheds.items ≡ map (sched_for n) streams) }
 {
     let [a, b, c, d] = [PoolNo(0), PoolNo(1), PoolNo(2), PoolNo(3)];
@@ -64,7 +65,7 @@ fn sched(alloc: Global, seed: u32, pools: [PoolNo; 4]) -> Result<SchedPart, Allo
 }
 
 fn units(alloc: Global, n: u32) -> Result<Vec<UnitPart>, AllocError>
-    requires { n ≤ 126 }
+    requires { n ≤ adder_limit }
     ensures { IfOk result (λ units. units.items ≡ first_unit n ∷ map adder (adders n)) }
 {
     let mut units = Vec::new(alloc);
@@ -83,7 +84,7 @@ fn units(alloc: Global, n: u32) -> Result<Vec<UnitPart>, AllocError>
 
 // Unit 0 creates the other units, in turn in each pool, joins them and prints the sum.
 fn first_ops(alloc: Global, n: u32) -> Result<Vec<Op>, AllocError>
-    requires { n ≤ 126 }
+    requires { n ≤ adder_limit }
     ensures { IfOk result (λ ops. ops.items ≡ first_ops n) }
 {
     let mut ops = Vec::new(alloc);

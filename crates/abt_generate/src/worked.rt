@@ -2,13 +2,14 @@
 
 ghost use Rattle.std.specs.Prelude.{◌≡◌, ◌≤◌, ℕ};
 ghost use Rattle.abt_machine.specs.Canonical.{canonical_text};
+ghost use Rattle.abt_machine.specs.Limits.{adder_limit};
 ghost use Rattle.abt_machine.specs.Valid.{IsValid};
 ghost use Rattle.abt_generate.specs.Generated.{generated};
 ghost use Rattle.abt_generate.specs.Three.{three_text};
 
 /// The workload is valid for each number of adders up to 126.
 pub fn generated_are_valid()
-    ensures { (n : ℕ) → n ≤ 126 → IsValid (generated n) }
+    ensures { (n : ℕ) → n ≤ adder_limit → IsValid (generated n) }
 {}
 
 /// What the canonical text of the workload for three is, line by line.

@@ -7,6 +7,7 @@ use Rattle.abt_machine.specs.declared.numbers.StreamNo.{StreamNo}
 use Rattle.abt_machine.specs.declared.operations.OrderShape.{OrderShape}
 use Rattle.abt_machine.specs.declared.workload.Parts.{Parts}
 use Rattle.abt_machine.specs.Grammar.{Reads, Refuses}
+use Rattle.abt_machine.specs.Limits.{default_steps}
 use Rattle.abt_machine.specs.Outcomes.{steps_in}
 use Rattle.abt_machine.specs.Runs.{last_state}
 use Rattle.abt_machine.specs.Texts.{report_text}
@@ -66,7 +67,7 @@ pub record IsRunOn (W : Parts) (file : Text) (Z : List OrderShape) (file_of : Te
   pub lives : List Life
   pub waves : List Wave
   pub reads : IfSome (file_of file) (λ bytes. ReadsLives W bytes lives)
-  pub run : HasRunOn W Z 10000 lives J waves o
+  pub run : HasRunOn W Z default_steps lives J waves o
 
 -- the workload of the first file that the words name ran on the lives in the second
 pub record Ran (words : List Text) (Z : List OrderShape) (file_of : Text → Option Text) (J : List Event) (o : Outcome) : Type 0 where
@@ -150,7 +151,7 @@ RefusesWords n c = AsksNothing c.words → (n ≡ 2) ⊎ (n ≡ 7)
 
 -- if each stream may make as many steps as the workload has operations, and none of these revives a unit, no stream uses up its steps
 abbrev pub SpendsNone : ℕ → Call → Type 0
-SpendsNone n c = (W : Parts) → Tells c W → HasNoRevive W → ops_in W ≤ 10000 → n ≢ 4
+SpendsNone n c = (W : Parts) → Tells c W → HasNoRevive W → ops_in W ≤ default_steps → n ≢ 4
 
 -- the exit status of a call has its cause, and if that cause is at hand the status comes
 pub record IsAnswered (n : ℕ) (c : Call) : Type 0 where

@@ -5,7 +5,7 @@ use Rattle.abt_machine.specs.declared.numbers.PoolNo.{PoolNo}
 use Rattle.abt_machine.specs.declared.workload.Parts.{Parts}
 use Rattle.abt_machine.specs.declared.workload.SchedPart.{SchedPart}
 use Rattle.abt_machine.specs.declared.workload.UnitPart.{UnitPart}
-use Rattle.abt_machine.specs.Limits.{stream_limit, unit_limit, unit_operation_limit}
+use Rattle.abt_machine.specs.Limits.{key_limit, listed_limit, object_limit, pool_limit, sched_limit, stream_limit, unit_limit, unit_operation_limit}
 use Rattle.abt_machine.specs.Operations.{IsDeclared}
 use Rattle.abt_machine.specs.Valid.{IsBody, IsRule}
 use Rattle.abt_machine.specs.Workloads.{ops_of}
@@ -14,19 +14,19 @@ use Rattle.abt_machine.specs.Workloads.{ops_of}
 pub record AreCounts (W : Parts) : Type 0 where
   pub some_stream : 0 < W.streams
   pub few_streams : W.streams ≤ stream_limit format.Two
-  pub few_keys : W.keys ≤ 16
+  pub few_keys : W.keys ≤ key_limit
   pub some_pool : 0 < length W.pools
-  pub few_pools : length W.pools ≤ 64
+  pub few_pools : length W.pools ≤ pool_limit
   pub some_sched : 0 < length W.scheds
-  pub few_scheds : length W.scheds ≤ 64
+  pub few_scheds : length W.scheds ≤ sched_limit
   pub mains : length W.mains ≡ W.streams
-  pub few_objects : length W.objects ≤ 256
+  pub few_objects : length W.objects ≤ object_limit
   pub few_units : length W.units ≤ unit_limit format.Two
 
--- these are 1 to 8 declared pools, each once
+-- these are declared pools, one at least and as many as the limit at most, each once
 pub record AreListed (W : Parts) (pools : List PoolNo) : Type 0 where
   pub some_pool : 0 < length pools
-  pub few_pools : length pools ≤ 8
+  pub few_pools : length pools ≤ listed_limit
   pub declared : All (λ (p : PoolNo). p.0 < length W.pools) pools
   pub once : AllPairs (λ (a b : PoolNo). a.0 ≢ b.0) pools
 

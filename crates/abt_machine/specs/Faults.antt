@@ -22,7 +22,7 @@ use Rattle.abt_machine.specs.declared.workload.UnitPart.{UnitPart}
 use Rattle.abt_machine.specs.Access.{may_take_all}
 use Rattle.abt_machine.specs.Declaring.{Above, at, declared_units, listed, parts_of, units_of, word_in}
 use Rattle.abt_machine.specs.Forms.{begins, fits, form_of, forms, is_in, numerals, section, slots}
-use Rattle.abt_machine.specs.Limits.{operation_limit, stream_limit, unit_limit, unit_operation_limit}
+use Rattle.abt_machine.specs.Limits.{listed_limit, object_limit, operation_limit, pool_limit, sched_limit, stream_limit, unit_limit, unit_operation_limit, word_limit}
 use Rattle.abt_machine.specs.Operations.{may_block}
 use Rattle.abt_machine.specs.Spelling.{has_control, is_number, value_of, words_of}
 use Rattle.abt_machine.specs.Valid.{placed_scheds}
@@ -185,17 +185,17 @@ is_crowded a n = nat_lt operation_limit (length (all_ops (units_of a)) + a.copie
 abbrev pub has_no_room : Above → ℕ → Bool
 has_no_room a n = is_long a.last n || is_crowded a n
 
--- a said word of more than 64 bytes
+-- a said word of more bytes than it may have
 abbrev pub is_long_word : Op → List Text → Bool
-is_long_word (op.Say w) words = nat_lt 64 (length (word_in words 1))
+is_long_word (op.Say w) words = nat_lt word_limit (length (word_in words 1))
 is_long_word o words = false
 
--- there are as many as there may be: 64 pools, 64 schedulers with 8 pools each, 256 objects, as many operations as a unit and
--- all units may have, and 64 bytes of a word; the numbers of streams, keys and units are looked at by themselves
+-- there are as many as there may be: pools, schedulers or pools of one, objects, operations of a unit or of all units, or bytes
+-- of a word; the numbers of streams, keys and units are looked at by themselves
 abbrev pub is_past_limit : Above → Form → List Text → List ℕ → Bool
-is_past_limit a (form.Pool access) words numbers = nat_le 64 (length a.pools)
-is_past_limit a (form.Sched rule) words numbers = nat_le 64 (length a.scheds) || nat_lt 8 (length (listed rule numbers))
-is_past_limit a (form.Object thing) words numbers = nat_le 256 (length a.objects)
+is_past_limit a (form.Pool access) words numbers = nat_le pool_limit (length a.pools)
+is_past_limit a (form.Sched rule) words numbers = nat_le sched_limit (length a.scheds) || nat_lt listed_limit (length (listed rule numbers))
+is_past_limit a (form.Object thing) words numbers = nat_le object_limit (length a.objects)
 is_past_limit a (form.Operation o) words numbers = has_no_room a 1 || is_long_word o words
 is_past_limit a (form.Repeat o) words numbers = has_no_room a (at numbers 0) || is_long_word o (drop 2 words)
 is_past_limit a f words numbers = false

@@ -15,7 +15,7 @@ use Rattle.abt_machine.specs.declared.operations.Thing.TheVariants as thing
 use Rattle.abt_machine.specs.declared.workload.Parts.{Parts}
 use Rattle.abt_machine.specs.declared.workload.UnitPart.{UnitPart}
 use Rattle.abt_machine.specs.Access.{may_take_all}
-use Rattle.abt_machine.specs.Limits.{operation_limit, stream_limit, unit_limit, unit_operation_limit}
+use Rattle.abt_machine.specs.Limits.{key_limit, listed_limit, object_limit, operation_limit, pool_limit, sched_limit, size_limit, stream_limit, unit_limit, unit_operation_limit, word_limit}
 use Rattle.abt_machine.specs.Operations.{IsDeclared, IsMutex, may_block, said_by}
 use Rattle.abt_machine.specs.Words.{Text}
 use Rattle.abt_machine.specs.Workloads.{access_of, all_ops, body_at, main_of, op_at, ops_of, pools_of, rule_of, start_of, thing_at}
@@ -39,11 +39,11 @@ IsRule rule.Prio = ⊤
 IsRule (rule.Randws seed) = seed < 2 ^ 64
 IsRule (rule.User k) = k < 2
 
--- scheduler g lists 1 to 8 declared pools, each once
+-- scheduler g lists declared pools, one at least and as many as the limit at most, each once
 pub record IsScheduler (W : Parts) (g : ℕ) : Type 0 where
   pub rule : (r : Rule) → rule_of W g ≡ Some r → IsRule r
   pub some_pool : 0 < length (pools_of W g)
-  pub few_pools : length (pools_of W g) ≤ 8
+  pub few_pools : length (pools_of W g) ≤ listed_limit
   pub pools : All (λ p. p < length W.pools) (pools_of W g)
   pub once : AllPairs (λ a b. a ≢ b) (pools_of W g)
 
@@ -64,13 +64,13 @@ placed_scheds W = map (λ (g : SchedNo). g.0) W.mains ++ flat_map (λ (part : Un
 
 -- Objects.
 
--- a condition belongs to a mutex that is declared above it; a future has 1 to 4,096 compartments, and a barrier as many parties
+-- a condition belongs to a mutex that is declared above it; a future has compartments, and a barrier parties, as many as the limit at most
 abbrev pub IsThing : Parts → ℕ → Thing → Type 0
 IsThing W x thing.Mutex = ⊤
 IsThing W x (thing.Cond m) = (m.0 < x) × IsMutex W m.0
 IsThing W x thing.Eventual = ⊤
-IsThing W x (thing.Future n c) = (0 < n) × (n ≤ 4096)
-IsThing W x (thing.Barrier n) = (0 < n) × (n ≤ 4096)
+IsThing W x (thing.Future n c) = (0 < n) × (n ≤ size_limit)
+IsThing W x (thing.Barrier n) = (0 < n) × (n ≤ size_limit)
 IsThing W x thing.RwLock = ⊤
 
 -- Units.
@@ -98,10 +98,10 @@ words_said W = flat_map (λ (part : UnitPart). flat_map said_by (ops_of part.bod
 abbrev pub IsVisible : ℕ → Type 0
 IsVisible b = (32 < b) × (b ≢ 127)
 
--- a word that can be said: 1 to 64 visible bytes
+-- a word that can be said: visible bytes, one at least and as many as the limit at most
 pub record IsWord (word : Text) : Type 0 where
   pub some_byte : 0 < length word
-  pub few_bytes : length word ≤ 64
+  pub few_bytes : length word ≤ word_limit
   pub visible : All IsVisible word
   pub utf8 : IsUtf8 word
 
@@ -109,19 +109,19 @@ pub record IsWord (word : Text) : Type 0 where
 pub record IsValid (W : Parts) : Type 0 where
   pub some_stream : 0 < W.streams
   pub few_streams : W.streams ≤ stream_limit format.Two
-  pub few_keys : W.keys ≤ 16
+  pub few_keys : W.keys ≤ key_limit
   pub some_pool : 0 < length W.pools
-  pub few_pools : length W.pools ≤ 64
+  pub few_pools : length W.pools ≤ pool_limit
   pub pools : EachIndex W.pools (λ p. IsAccess W (access_of W p))
   pub some_sched : 0 < length W.scheds
-  pub few_scheds : length W.scheds ≤ 64
+  pub few_scheds : length W.scheds ≤ sched_limit
   pub scheds : EachIndex W.scheds (IsScheduler W)
   -- each stream has one main scheduler
   pub mains : length W.mains ≡ W.streams
   pub streams : (s : ℕ) → s < W.streams → IsStream W s
   -- no scheduler has two places
   pub one_place : AllPairs (λ a b. a ≢ b) (placed_scheds W)
-  pub few_objects : length W.objects ≤ 256
+  pub few_objects : length W.objects ≤ object_limit
   pub objects : (x : ℕ) (t : Thing) → thing_at W x ≡ Some t → IsThing W x t
   pub few_units : length W.units ≤ unit_limit format.Two
   pub units : EachIndex W.units (IsUnit W)

@@ -4,7 +4,7 @@ ghost use Rattle.std.specs.Prelude.{◌↔◌, ◌≡◌, ◌≢◌, ◌==◌, �
 ghost use Rattle.std.specs.List.{list_all, list_any, range_with_len};
 ghost use Rattle.abt_machine.specs.Access.{may_take, may_take_all};
 ghost use Rattle.abt_machine.specs.Checks.{AreCounts, AreListed, IsLeft, IsSchedPart, IsStart, IsUnitPart, after_said, place, places};
-ghost use Rattle.abt_machine.specs.Limits.{operation_limit};
+ghost use Rattle.abt_machine.specs.Limits.{operation_limit, sched_limit};
 ghost use Rattle.abt_machine.specs.Operations.{IsBarrier, IsDeclared, IsEventual, IsFuture, IsMutex, IsRwLock, may_block, said_by};
 ghost use Rattle.abt_machine.specs.Valid.{IsAccess, IsBody, IsRule, IsStream, IsThing, IsValid, IsVisible, IsWord, placed_scheds, sched_in, words_said};
 ghost use Rattle.abt_machine.specs.Workloads.{IsCondition, all_ops, ops_of, thing_at};
@@ -434,7 +434,7 @@ impl Parts {
 
     // Whether each scheduler that has a place is one of 64, and none has two places.
     fn has_own_places(&self) -> bool
-        ensures { IsTrue result ↔ (All (λ g. g < 64) (placed_scheds self.now) × AllPairs (λ a b. a ≢ b) (placed_scheds self.now)) }
+        ensures { IsTrue result ↔ (All (λ g. g < sched_limit) (placed_scheds self.now) × AllPairs (λ a b. a ≢ b) (placed_scheds self.now)) }
     {
         let mut taken = [false; 64];
         take_main_places(self.mains.items(), &mut taken)

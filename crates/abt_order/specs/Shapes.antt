@@ -2,6 +2,7 @@
 use Rattle.std.specs.Prelude.{ℕ, ◌+◌, ◌-◌, ◌%◌, ◌^◌, ◌<◌, ◌≤◌, ◌==◌, nat_lt, Bool}
 use Rattle.abt_machine.specs.declared.operations.OrderShape.{OrderShape}
 use Rattle.abt_machine.specs.declared.operations.OrderShape.TheVariants as shape
+use Rattle.abt_machine.specs.Limits.{listed_limit}
 
 -- whether an order of this shape may answer so for a round, n pools and place i
 abbrev pub fits_shape : OrderShape → ℕ → ℕ → ℕ → ℕ → Bool
@@ -11,4 +12,4 @@ fits_shape shape.Free round n i answer = nat_lt answer n
 
 -- a round, a number of pools and a place that a scheduler may ask for
 abbrev pub IsAsked : ℕ → ℕ → ℕ → Type 0
-IsAsked round n i = (round < 2 ^ 64) × (0 < n) × (n ≤ 8) × (i < n)
+IsAsked round n i = (round < 2 ^ 64) × (0 < n) × (n ≤ listed_limit) × (i < n)

@@ -2,6 +2,7 @@
 
 ghost use Rattle.std.specs.Prelude.{◌≡◌, ◌<◌, ◌≤◌, All, EachIndex, IsPermutation, IsTrue, length, slice_index};
 ghost use Rattle.std.specs.List.{range_with_len};
+ghost use Rattle.abt_machine.specs.Limits.{listed_limit};
 ghost use Rattle.abt_order.specs.Places.{IsAnswered, distance};
 ghost use Rattle.abt_order.specs.Shapes.{fits_shape};
 ghost use Rattle.abt_order.specs.Stored.{answers_of};
@@ -11,7 +12,7 @@ use crate::stored::StoredOrder;
 /// Puts the places into the order of a round. The place that comes at i is the first, counted cyclically from the order's
 /// answer for i, that stands at no earlier place.
 pub(crate) fn arrange(order: &StoredOrder, round: u64, places: &mut [u32])
-    requires count { (0 < length places.old) × (length places.old ≤ 8) }
+    requires count { (0 < length places.old) × (length places.old ≤ listed_limit) }
     requires each { places.old ≡ range_with_len 0 (length places.old) }
     ensures permutes { IsPermutation places.old places.new }
     ensures fits { EachIndex places.new (λ i. IsTrue (fits_shape order.now.shape round (length places.new) i (slice_index places.new i))) }
@@ -28,7 +29,7 @@ pub(crate) fn arrange(order: &StoredOrder, round: u64, places: &mut [u32])
 /// Where among the places that are left the first stands, counted cyclically from the answer.
 fn nearest(left: &[u32], n: u32, answer: u32) -> usize
     requires some { 0 < length left.now }
-    requires count { n ≤ 8 }
+    requires count { n ≤ listed_limit }
     requires answer { answer < n }
     requires left { All (λ place. place < n) left.now }
     ensures among { result < length left.now }
@@ -45,7 +46,7 @@ fn nearest(left: &[u32], n: u32, answer: u32) -> usize
 
 /// How far it is from one of n places up to another, where the first place follows the last.
 fn distance(n: u32, from: u32, to: u32) -> u32
-    requires count { n ≤ 8 }
+    requires count { n ≤ listed_limit }
     requires from { from < n }
     requires to { to < n }
     ensures { result ≡ distance n from to }

@@ -1,6 +1,7 @@
 //! Orders that users store.
 
 ghost use Rattle.std.specs.Prelude.{◌≡◌, ◌<◌, ◌≤◌, ◌^◌, ℕ, IsTrue};
+ghost use Rattle.abt_machine.specs.Limits.{listed_limit};
 ghost use Rattle.abt_order.specs.Shapes.{IsAsked, fits_shape};
 
 use abt_machine::OrderShape;
@@ -29,7 +30,7 @@ impl StoredOrder {
 
     /// What the function answers for a round, a number of pools and a place.
     pub(crate) fn answer(&self, round: u64, n: u32, i: u32) -> u32
-        requires count { (0 < n) × (n ≤ 8) }
+        requires count { (0 < n) × (n ≤ listed_limit) }
         requires place { i < n }
         ensures fits { IsTrue (fits_shape self.now.shape round n i result) }
         ensures asked { OrderFunction.post self.now.function round n i result }

@@ -1,10 +1,12 @@
 -- The laws of how runs end. W is a workload and Z the list of the shapes of the stored orders; a law that needs it supposes that W is valid and that each user scheduler's order is stored.
-use Rattle.std.specs.Prelude.{ℕ, ◌≡◌, ◌<◌, ◌≤◌, ◌↔◌, ◌⊎◌, true, false, List, [], ◌∷◌, ◌++◌, length}
+use Rattle.std.specs.Prelude.{ℕ, ◌≡◌, ◌*◌, ◌<◌, ◌≤◌, ◌↔◌, ◌⊎◌, true, false, List, [], ◌∷◌, ◌++◌, length}
 use Rattle.abt_machine.specs.declared.events.Event.{Event}
 use Rattle.abt_machine.specs.declared.events.Outcome.{Outcome}
 use Rattle.abt_machine.specs.declared.events.Site.{Site}
+use Rattle.abt_machine.specs.declared.grammar.Format.TheVariants as format
 use Rattle.abt_machine.specs.declared.operations.OrderShape.{OrderShape}
 use Rattle.abt_machine.specs.declared.workload.Parts.{Parts}
+use Rattle.abt_machine.specs.Limits.{unit_limit}
 use Rattle.abt_machine.specs.Valid.{IsValid}
 use Rattle.abt_machine.specs.Rounds.{OrdersStored}
 use Rattle.abt_machine.specs.State.{State}
@@ -111,7 +113,7 @@ EmptiedGrows W = (s : ℕ) (S : State) (es fs : List Event) → (HasEmptied W s 
 
 -- in a sound state the units' weight and the number of open frames have bounds
 abbrev pub NumbersAreBounded : Parts → List OrderShape → Type 0
-NumbersAreBounded W Z = IsValid W → (S : State) → Sound W Z S → (weight W S ≤ 36864) × (open_frames W S ≤ 4096)
+NumbersAreBounded W Z = IsValid W → (S : State) → Sound W Z S → (weight W S ≤ unit_limit format.Two * 9) × (open_frames W S ≤ unit_limit format.Two)
 
 -- where no stream makes more than n steps, events among which there is a step lower the work that is left
 abbrev pub StepsFall : Parts → List OrderShape → Type 0

@@ -6,6 +6,7 @@ use Rattle.abt_machine.specs.declared.events.Outcome.TheVariants as outcome
 use Rattle.abt_machine.specs.declared.events.Piece.{Piece}
 use Rattle.abt_machine.specs.declared.numbers.StreamNo.{StreamNo}
 use Rattle.abt_machine.specs.declared.workload.Parts.{Parts}
+use Rattle.abt_machine.specs.Limits.{default_steps}
 use Rattle.abt_machine.specs.Outcomes.{steps_in}
 use Rattle.abt_machine.specs.Runs.{last_state}
 use Rattle.abt_machine.specs.State.{State}
@@ -31,7 +32,7 @@ use Rattle.abt_run.specs.declared.status.Conclusion.TheVariants.{Finished, Stuck
 -- how many steps a command lets each stream make
 abbrev pub steps_for : Command → ℕ
 steps_for (command.Run file steps journal) = steps
-steps_for (command.SelfRun units) = 10000
+steps_for (command.SelfRun units) = default_steps
 steps_for (command.Check workload journal) = 0
 steps_for (command.Flow file) = 0
 

@@ -1,6 +1,7 @@
 //! The commands `run` and `self`.
 
 ghost use Rattle.std.specs.Prelude.{◌≡◌, ◌≤◌, ◌<◌, ◌++◌, ℕ, List, All, IfErr, IfOk, [], if◌then◌else◌, length};
+ghost use Rattle.abt_machine.specs.Limits.{adder_limit};
 ghost use Rattle.abt_machine.specs.Outcomes.{is_step, steps_in};
 ghost use Rattle.abt_machine.specs.Runs.{last_state};
 ghost use Rattle.abt_machine.specs.Texts.{journal_text as text_of_journal, shown_units};
@@ -66,7 +67,7 @@ pub(crate) fn prepare_self<R: Threads + Wait + Sync, P: Pace + Sync>(
     orders: &[StoredOrder],
 ) -> Result<Prepared, Stop>
     requires orders { 2 ≤ length orders.now }
-    requires units { (0 < units) × (units ≤ 126) }
+    requires units { (0 < units) × (units ≤ adder_limit) }
     ensures done { (words : List Text) (file_of : Text → Option Text) → Says words (command.SelfRun units)
         → IfOk result (λ p. Prints (given words (shapes_of orders.now) file_of) p.conclusion p.journal p.text.items) }
     ensures stop { IfErr result (λ stop. stop ≡ why.OutOfMemory) }

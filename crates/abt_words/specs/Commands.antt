@@ -1,6 +1,7 @@
 -- Which command the words after the program's name say.
 use Rattle.std.specs.Prelude.{◌≡◌, ◌≢◌, ◌==◌, ℕ, suc, if◌then◌else◌, Bool, true, false, List, [], ◌∷◌, take, drop, codes}
 use Rattle.std.specs.Str.{bytes_eq}
+use Rattle.abt_machine.specs.Limits.{adder_limit, default_steps, step_limit}
 use Rattle.abt_machine.specs.Spelling.{SaysNumber}
 use Rattle.abt_machine.specs.Words.{Text}
 use Rattle.abt_words.specs.declared.commands.Command.{Command}
@@ -51,8 +52,8 @@ rest_of false (w ∷ ws) =
 
 -- 10,000 steps if no option says them, and at most one option does
 abbrev pub SaysSteps : List Text → ℕ → Type 0
-SaysSteps [] n = n ≡ 10000
-SaysSteps (v ∷ []) n = SaysNumber 100000 v n
+SaysSteps [] n = n ≡ default_steps
+SaysSteps (v ∷ []) n = SaysNumber step_limit v n
 SaysSteps (v ∷ w ∷ vs) n = ⊥
 
 abbrev pub journal_count : Bool → ℕ
@@ -66,7 +67,7 @@ SaysRun r file steps journal =
 
 -- exactly one word N
 abbrev pub SaysSelf : Rest → ℕ → Type 0
-SaysSelf r units = (n : Text) × (r ≡ only (n ∷ [])) × SaysNumber 126 n units
+SaysSelf r units = (n : Text) × (r ≡ only (n ∷ [])) × SaysNumber adder_limit n units
 
 -- exactly two FILEs, of at least one byte each, which are not both `-`
 abbrev pub SaysFiles : Rest → Text → Text → Type 0

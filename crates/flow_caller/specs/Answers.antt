@@ -5,11 +5,12 @@ use Rattle.abt_machine.specs.declared.events.Outcome.{Outcome}
 use Rattle.abt_machine.specs.declared.events.Outcome.TheVariants as outcome
 use Rattle.abt_machine.specs.declared.operations.OrderShape.{OrderShape}
 use Rattle.abt_machine.specs.declared.workload.Parts.{Parts}
+use Rattle.abt_machine.specs.Limits.{default_steps}
 use Rattle.abt_drain.specs.Runs.{HasRun}
 
 -- how many steps each stream may make
 abbrev pub step_count : ℕ
-step_count = 10000
+step_count = default_steps
 
 -- there is an answer exactly if the run finished, and it is right
 abbrev pub Shows : {A : Type 0} → Outcome → Option A → (A → Type 0) → Type 0
