@@ -14,7 +14,7 @@ use Rattle.abt_machine.specs.Declaring.{Above, at}
 use Rattle.abt_machine.specs.Faults.{is_barrier, is_condition, is_eventual, is_future, is_mutex, is_homeless, is_rwlock, is_single, is_there, is_within, values_of}
 use Rattle.abt_machine.specs.Forms.{section, slots}
 use Rattle.abt_machine.specs.Words.{Text}
-use Rattle.abt_workload.proofs.Places.{at-kind, kinds, or-left, or-right}
+use Rattle.abt_workload.proofs.Places.{and-left, and-right, at-kind, kinds, or-left, or-right}
 use Rattle.abt_workload.proofs.Soundness.{IsSound}
 
 pub le-from : (x y : ℕ) → nat_le x y ≡ true → x ≤ y
@@ -40,6 +40,10 @@ lt-not x y e = by (leb_tells x y)
     by : ((leb x y ≡ true) × (x ≤ y)) ⊎ ((leb x y ≡ false) × (y < x)) → y < x
     by (inl h) = let f = h.0 in cc
     by (inr h) = h.1
+
+-- a number that has bounds, and keeps them
+pub between : (low high n : ℕ) → (nat_le low n && nat_le n high) ≡ true → (low ≤ n) × (n ≤ high)
+between low high n e = (le-from low n (and-left (nat_le low n) _ e), le-from n high (and-right (nat_le low n) _ e))
 
 and-no : (x : Bool) → (x && true) ≡ false → x ≡ false
 and-no true e = e

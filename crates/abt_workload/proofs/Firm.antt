@@ -41,8 +41,7 @@ use Rattle.abt_workload.specs.Reading.{IsFirm, IsSeen}
 use Rattle.abt_workload.specs.Slots.{numbered, values}
 use Rattle.abt_workload.proofs.Bounds.{le-from, lt-from}
 use Rattle.abt_workload.proofs.Copies.{AreCopies, ops-say, units-ops, units-said, units-say}
-use Rattle.abt_workload.proofs.Growing.{tail-all}
-use Rattle.abt_workload.proofs.Keeping.{keeps-keys, keeps-object, keeps-pool, keeps-sched, keeps-stream, keeps-streams, keeps-units, keeps-version, most-streams, most-units}
+use Rattle.abt_workload.proofs.Keeping.{keeps-keys, keeps-object, keeps-pool, keeps-sched, keeps-stream, keeps-streams, keeps-units, keeps-version, listed-there, most-streams, most-units}
 use Rattle.abt_workload.proofs.KeepingUnits.{begun-proper, keeps-end, keeps-many, keeps-operation, keeps-repeat, keeps-unit, two-words, units-below}
 use Rattle.abt_workload.proofs.LineWords.{words-utf8}
 use Rattle.abt_workload.proofs.Naming.{IsSoundOp, op_values}
@@ -181,13 +180,7 @@ module _ (a : Above) (line : Text) (words : List Text) (h : IsProper a) where
   small f s k e = small-at (λ kind n. is_there a kind n && is_within a.format kind n) (there-small a h) (slots f) words k s.form_fits e (all-both (λ p. is_there a p.0 p.1) (λ p. is_within a.format p.0 p.1) (numbers_of f words) s.there s.within)
 
   listed-small : (r : Rule) → IsSound a line words (form.Sched r) → All IsSmall (listed r (values_of (form.Sched r) words))
-  listed-small r s = λ k d lt. let below = lt-from _ (length a.pools) (all r s k d lt) in let few = h.pools.few in omega arith
-    where
-      all : (q : Rule) → IsSound a line words (form.Sched q) → All (λ n. nat_lt n (length a.pools) ≡ true) (listed q (values_of (form.Sched q) words))
-      all rule.Basic t = tail-all (is_there a) (slots (form.Sched rule.Basic)) words t.form_fits refl t.there
-      all rule.Prio t = tail-all (is_there a) (slots (form.Sched rule.Prio)) words t.form_fits refl t.there
-      all (rule.Randws n) t = tail-all (is_there a) (slots (form.Sched (rule.Randws n))) words t.form_fits refl t.there
-      all (rule.User n) t = tail-all (is_there a) (slots (form.Sched (rule.User n))) words t.form_fits refl t.there
+  listed-small r s = λ k d lt. let below = listed-there r s k d lt in let few = h.pools.few in omega arith
 
   rule-small : (r : Rule) → IsSound a line words (form.Sched r) → IsSmallRule r (values_of (form.Sched r) words)
   rule-small rule.Basic s = tt

@@ -13,6 +13,7 @@ use Rattle.abt_machine.specs.declared.operations.Access.TheVariants as access
 use Rattle.abt_machine.specs.declared.operations.Thing.{Thing}
 use Rattle.abt_machine.specs.declared.operations.Thing.TheVariants as thing
 use Rattle.abt_machine.specs.declared.workload.Parts.{Parts}
+use Rattle.abt_machine.specs.declared.workload.PoolPart.{PoolPart}
 use Rattle.abt_machine.specs.declared.workload.SchedPart.{SchedPart}
 use Rattle.abt_machine.specs.declared.workload.UnitPart.{UnitPart}
 use Rattle.abt_machine.specs.Faults.{has_repeated}
@@ -22,7 +23,7 @@ use Rattle.abt_machine.specs.Words.{Text}
 use Rattle.abt_machine.proofs.Placing.{pairs-head, pairs-tail}
 use Rattle.abt_workload.specs.Slots.{numbered, values}
 use Rattle.abt_workload.proofs.Places.{and-left, and-right, kinds, or-left, or-right}
-use Rattle.abt_workload.proofs.Proper.{HasUnits, IsAccessIn, IsSchedIn, IsThingIn, no-pair, none-of}
+use Rattle.abt_workload.proofs.Proper.{AreUnset, HasMains, HasUnits, IsAccessIn, IsSchedIn, IsThingIn, no-pair, none-of}
 
 -- one element more
 
@@ -42,6 +43,10 @@ pub get-replicate : (n s : ℕ) (g : SchedNo) → slice_get (replicate n None) s
 get-replicate zero s g e = cc
 get-replicate (suc n) zero g e = cc
 get-replicate (suc n) (suc s) g e = get-replicate n s g e
+
+-- no stream has a main scheduler: no matter which pools and schedulers are declared
+pub no-mains : (streams : ℕ) (pools : List PoolPart) (scheds : List SchedPart) (mains : List (Option SchedNo)) → length mains ≡ streams → AreUnset mains → HasMains streams pools scheds mains
+no-mains streams pools scheds mains count none = record { count = count; there = λ s g e. absurd (none s g e); taking = λ s g e. absurd (none s g e) }
 
 pub any-none : (n : ℕ) → flat_map option_to_list (let none : Option SchedNo = None in replicate n none) ≡ []
 any-none zero = refl
@@ -64,7 +69,7 @@ no-units W count units last copies eu el le =
 
 -- Lists with one element more.
 
-pub get-and : {A : Type 0} (xs : List A) (y : A) (k : ℕ) (x : A) → slice_get (xs ++ y ∷ []) k ≡ Some x → (slice_get xs k ≡ Some x) ⊎ ((k ≡ length xs) × (y ≡ x))
+get-and : {A : Type 0} (xs : List A) (y : A) (k : ℕ) (x : A) → slice_get (xs ++ y ∷ []) k ≡ Some x → (slice_get xs k ≡ Some x) ⊎ ((k ≡ length xs) × (y ≡ x))
 get-and [] y zero x e = inr (refl, cc)
 get-and [] y (suc k) x e = cc
 get-and (z ∷ zs) y zero x e = inl e
@@ -73,6 +78,14 @@ get-and (z ∷ zs) y (suc k) x e = by (get-and zs y k x e)
     by : (slice_get zs k ≡ Some x) ⊎ ((k ≡ length zs) × (y ≡ x)) → (slice_get (z ∷ zs) (suc k) ≡ Some x) ⊎ ((suc k ≡ length (z ∷ zs)) × (y ≡ x))
     by (inl h) = inl h
     by (inr h) = inr (ap suc h.0, h.1)
+
+-- what holds of all elements and of one more, each with its place
+pub holds-and : {A : Type 0} (P : ℕ → A → Type 0) (xs : List A) (y : A) → ((k : ℕ) (x : A) → slice_get xs k ≡ Some x → P k x) → P (length xs) y → (k : ℕ) (x : A) → slice_get (xs ++ y ∷ []) k ≡ Some x → P k x
+holds-and {A} P xs y all one k x e = by (get-and xs y k x e)
+  where
+    by : (slice_get xs k ≡ Some x) ⊎ ((k ≡ length xs) × (y ≡ x)) → P k x
+    by (inl old) = all k x old
+    by (inr new) = subst (λ (j : ℕ). P j x) (sym new.0) (subst (λ (z : A). P (length xs) z) new.1 one)
 
 pub get-more : {A : Type 0} (xs ys : List A) (k : ℕ) (x : A) → slice_get xs k ≡ Some x → slice_get (xs ++ ys) k ≡ Some x
 get-more [] ys k x e = cc
@@ -155,7 +168,7 @@ pairs-set (Some x ∷ ms) rest (suc s) g e out h =
     (pairs-set ms rest s g e (All-tail (λ m. m ≢ g.0) x.0 (mains_list ms ++ rest) out) (pairs-tail (λ a b. a ≢ b) x.0 (mains_list ms ++ rest) h))
 
 -- a stream's main scheduler, after one is given
-pub get-set : (mains : List (Option SchedNo)) (s t : ℕ) (g h : SchedNo) → slice_get (slice_set mains s (Some g)) t ≡ Some (Some h) → ((t ≡ s) × (g ≡ h)) ⊎ (slice_get mains t ≡ Some (Some h))
+get-set : (mains : List (Option SchedNo)) (s t : ℕ) (g h : SchedNo) → slice_get (slice_set mains s (Some g)) t ≡ Some (Some h) → ((t ≡ s) × (g ≡ h)) ⊎ (slice_get mains t ≡ Some (Some h))
 get-set [] s t g h e = inr e
 get-set (m ∷ ms) zero zero g h e = inl (refl, cc)
 get-set (m ∷ ms) zero (suc t) g h e = inr e
@@ -165,6 +178,14 @@ get-set (m ∷ ms) (suc s) (suc t) g h e = by (get-set ms s t g h e)
     by : ((t ≡ s) × (g ≡ h)) ⊎ (slice_get ms t ≡ Some (Some h)) → ((suc t ≡ suc s) × (g ≡ h)) ⊎ (slice_get (m ∷ ms) (suc t) ≡ Some (Some h))
     by (inl x) = inl (ap suc x.0, x.1)
     by (inr x) = inr x
+
+-- what holds of each stream that has a main scheduler, and of the one that gets one
+pub holds-set : (P : ℕ → ℕ → Type 0) (mains : List (Option SchedNo)) (s : ℕ) (g : SchedNo) → ((t : ℕ) (k : SchedNo) → slice_get mains t ≡ Some (Some k) → P t k.0) → P s g.0 → (t : ℕ) (k : SchedNo) → slice_get (slice_set mains s (Some g)) t ≡ Some (Some k) → P t k.0
+holds-set P mains s g all one t k e = by (get-set mains s t g k e)
+  where
+    by : ((t ≡ s) × (g ≡ k)) ⊎ (slice_get mains t ≡ Some (Some k)) → P t k.0
+    by (inl new) = subst (λ (u : ℕ). P u k.0) (sym new.0) (subst (λ (q : SchedNo). P s q.0) new.1 one)
+    by (inr old) = all t k old
 
 -- a declared stream without a main scheduler
 pub main-none : (mains : List (Option SchedNo)) (s : ℕ) → s < length mains → option_map_or is_some (slice_get mains s) false ≡ false → slice_get mains s ≡ Some None

@@ -1,6 +1,7 @@
 -- A sound line of a unit keeps what is declared proper.
-use Rattle.std.proofs.Common.{leb, append_assoc, codes, ◌≡◌, ◌≢◌, ◌<◌, ◌≤◌, ◌+◌, ◌-◌, ◌*◌, ◌&&◌, ◌||◌, ◌∙◌, ℕ, zero, suc, Bool, true, false, List, [], ◌∷◌, ◌++◌, All, Option, Some, None, ap, arith, drop, inl, inr, ◌⊎◌, flat_map, get_or, is_none, length, length-append, length-drop, map, nat_le, nat_lt, option_to_list, option_map, refl, subst, sym}
+use Rattle.std.proofs.Common.{leb, append_assoc, codes, ◌≡◌, ◌≢◌, ◌<◌, ◌≤◌, ◌+◌, ◌-◌, ◌*◌, ◌&&◌, ◌||◌, ◌∙◌, ℕ, zero, suc, Bool, true, false, List, [], ◌∷◌, ◌++◌, All, Option, Some, None, ap, arith, drop, inl, inr, ◌⊎◌, flat_map, get_or, is_none, length, length-append, length-drop, map, nat_le, nat_lt, option_to_list, option_map, refl, slice_get, subst, sym}
 use Rattle.std.specs.List.{AllPairs, list_any, range_with_len}
+use Rattle.std.specs.Bool.{⊤}
 use Rattle.std.specs.Str.{is_utf8}
 use Rattle.std.proofs.lemmas.List.{append-nil, get_or-drop}
 use Rattle.std.proofs.lemmas.Bool.Decides.{leb_tells}
@@ -11,34 +12,39 @@ use Rattle.std.proofs.lemmas.List.Folds.{list_any-append}
 use Rattle.std.proofs.lemmas.Grind.{flat_map-append}
 use Rattle.std.proofs.lemmas.Str.{IsUtf8-from_is_utf8}
 use Rattle.std.proofs.Math.Nat.{mul-add, mul-le-mul_left}
+use Rattle.abt_machine.specs.declared.grammar.Form.{Form}
 use Rattle.abt_machine.specs.declared.grammar.Form.TheVariants as form
+use Rattle.abt_machine.specs.declared.grammar.Number.{Number}
 use Rattle.abt_machine.specs.declared.grammar.Number.TheVariants as number
 use Rattle.abt_machine.specs.declared.grammar.Role.{Role}
 use Rattle.abt_machine.specs.declared.grammar.Role.TheVariants as role
 use Rattle.abt_machine.specs.declared.numbers.PoolNo.{PoolNo}
+use Rattle.abt_machine.specs.declared.numbers.SchedNo.{SchedNo}
 use Rattle.abt_machine.specs.declared.operations.Body.{Body}
 use Rattle.abt_machine.specs.declared.operations.Body.TheVariants as body
 use Rattle.abt_machine.specs.declared.operations.Op.{Op}
 use Rattle.abt_machine.specs.declared.operations.Op.TheVariants as op
 use Rattle.abt_machine.specs.declared.workload.Parts.{Parts}
+use Rattle.abt_machine.specs.declared.workload.PoolPart.{PoolPart}
 use Rattle.abt_machine.specs.declared.workload.UnitPart.{UnitPart}
-use Rattle.abt_machine.specs.Declaring.{Above, at, body_and, body_later, body_with, declared_units, op_later, op_with, repeated, said_in, start_place, start_with, unit_and, unit_later, unit_with, units_of, with_operation, with_operations, with_units, word_in}
-use Rattle.abt_machine.specs.Faults.{has_no_room, is_long, is_long_word, is_placed, is_task, is_task_body, is_within, lacks_units, takes_operations, values_of}
-use Rattle.abt_machine.specs.Forms.{Fixed, op_slots, fits, suits}
+use Rattle.abt_machine.specs.Declaring.{Above, at, body_and, body_later, body_with, declared_units, op_later, op_with, repeated, said_in, said_words, start_place, start_with, unit_and, unit_later, unit_with, units_of, with_operation, with_operations, with_units, word_in}
+use Rattle.abt_machine.specs.Faults.{has_no_room, is_long, is_long_word, is_placed, is_task, is_there, is_task_body, lacks_units, takes_operations, values_of}
+use Rattle.abt_machine.specs.Forms.{Fixed, op_slots, fits, slots, suits}
 use Rattle.abt_machine.specs.Operations.{IsDeclared, may_block, said_by}
 use Rattle.abt_machine.specs.Spelling.{has_control, is_empty, words_of}
 use Rattle.abt_machine.specs.Valid.{IsWord, sched_in}
 use Rattle.abt_machine.specs.Words.{Text}
 use Rattle.abt_machine.specs.Workloads.{all_ops, is_sched, ops_of}
-use Rattle.abt_workload.specs.Declarable.{last_count, last_ops, op_count, with_line}
+use Rattle.abt_machine.proofs.Saying.{said_by_units}
+use Rattle.abt_workload.specs.Declarable.{op_count}
 use Rattle.abt_workload.proofs.Bounds.{at-home, after-section, le-from, le-not, lt-from, there-at, within-at}
-use Rattle.abt_workload.proofs.Copies.{AreCopies, all-repeated, count-later, ops-later, units-all, units-length, units-ops, units-said, units-scheds}
+use Rattle.abt_workload.proofs.Copies.{all-repeated, count-later, ops-later, units-all, units-length, units-ops, units-said, units-scheds}
 use Rattle.abt_workload.proofs.Growing.{all-and, all-one, mains_list, not-among}
 use Rattle.abt_workload.proofs.Keeping.{placed-not}
 use Rattle.abt_workload.proofs.LineWords.{words-some, words-utf8, words-visible}
 use Rattle.abt_workload.proofs.Naming.{IsSoundOp, declared-op, muted-later, op_values}
-use Rattle.abt_workload.proofs.Places.{and-left, and-right, at-after, not-false, or-left, or-right}
-use Rattle.abt_workload.proofs.Proper.{IsBodyIn, IsProper, IsStartIn, IsUnitIn, counted, muted, none-of, placed, unit_count}
+use Rattle.abt_workload.proofs.Places.{and-left, and-right, at-after, kinds, not-false, or-left, or-right}
+use Rattle.abt_workload.proofs.Proper.{AreUnits, IsBodyIn, IsInOrder, IsProper, IsStartIn, IsUnitIn, counted, muted, none-of, placed, unit_count, with_form}
 use Rattle.abt_workload.proofs.Repeated.{repeated-op}
 use Rattle.abt_workload.proofs.Soundness.{IsSound}
 
@@ -62,51 +68,33 @@ pub front-of : {A : Type 0} (P : A → Type 0) (xs : List A) (x : A) → All P (
 front-of P [] x h = none-of P
 front-of P (y ∷ ys) x h = All-cons P y ys (All-head P y (ys ++ x ∷ []) h) (front-of P ys x (All-tail P y (ys ++ x ∷ []) h))
 
-module _ {a : Above} {line : Text} {words : List Text} (h : IsProper a) where
-  pub keeps-end : IsSound a line words form.End → IsProper (with_line a form.End words (values_of form.End words))
-  keeps-end s =
-      let le = after-section form.End s in
-      let streams : is_none a.streams ≡ false = or-left (is_none a.streams) _ (or-left _ (nat_lt (declared_units a) (unit_count a)) s.early) in
-      let count : is_none a.unit_count ≡ false = or-right (is_none a.streams) _ (or-left _ (nat_lt (declared_units a) (unit_count a)) s.early) in
-      let at_least : 8 ≤ a.section = late h count in
-      record {
-        streams = h.streams;
-        keys = h.keys;
-        pools = h.pools;
-        scheds = h.scheds;
-        mains = h.mains;
-        places = h.places;
-        objects = h.objects;
-        units = h.units;
-        few_ops = h.few_ops;
-        said = h.said;
-        last_said = h.last_said;
-        words = h.words;
-        last_words = h.last_words;
-        order = record {
-          no_streams = λ lt. absurd (omega arith);
-          no_keys = λ lt. absurd (omega arith);
-          no_mains = λ lt. absurd (omega arith);
-          no_units = λ lt. absurd (omega arith);
-          no_last = λ lt. absurd (omega arith);
-          no_count = λ lt. absurd (omega arith);
-          has_streams = λ lt. streams;
-          has_pools = λ lt. h.order.has_pools (omega arith);
-          has_mains = λ lt. h.order.has_mains (omega arith);
-          has_count = λ lt. count;
-          has_units = λ lt. le-not (declared_units a) (unit_count a) (or-right (is_none a.streams || is_none a.unit_count) _ s.early);
-        };
-      }
+-- what lines of units and the last line leave in order
+in-order : {a : Above} → IsProper a → 8 ≤ a.section → (b : Above) → 9 ≤ b.section → (b.pools ≡ a.pools) × (b.mains ≡ a.mains) → (9 < b.section → (is_none b.streams ≡ false) × (unit_count b ≤ declared_units b)) → IsInOrder b
+in-order {a} h late b later same ended = record {
+  no_streams = λ lt. absurd (omega arith);
+  no_mains = λ lt. absurd (omega arith);
+  no_count = λ lt. absurd (omega arith);
+  no_units = λ lt. absurd (omega arith);
+  no_last = λ lt. absurd (omega arith);
+  has_pools = λ lt. subst (λ (ps : List PoolPart). 0 < length ps) (sym same.0) (h.order.has_pools (omega arith));
+  has_mains = λ lt. subst (λ (ms : List (Option SchedNo)). list_any is_none ms ≡ false) (sym same.1) (h.order.has_mains (omega arith));
+  has_streams = λ lt. (ended lt).0;
+  has_units = λ lt. (ended lt).1;
+}
+
+pub keeps-end : {a : Above} {line : Text} {words : List Text} → IsProper a → IsSound a line words form.End → IsProper (with_form a words form.End)
+keeps-end {a} {line} {words} h s =
+    let streams : is_none a.streams ≡ false = or-left (is_none a.streams) _ (or-left _ (nat_lt (declared_units a) (unit_count a)) s.early) in
+    let count : is_none a.unit_count ≡ false = or-right (is_none a.streams) _ (or-left _ (nat_lt (declared_units a) (unit_count a)) s.early) in
+    let whole : unit_count a ≤ declared_units a = le-not (declared_units a) (unit_count a) (or-right (is_none a.streams || is_none a.unit_count) _ s.early) in
+    let order : IsInOrder (with_form a words form.End) = in-order h (late h count) (with_form a words form.End) (omega arith) (refl, refl) (λ _. (streams, whole)) in
+    assumption
 
 -- New units.
 
 -- the schedulers of new units have no place yet
 abbrev AreFree : Above → UnitPart → Type 0
 AreFree a part = All (λ g. All (λ m. m ≢ g) (placed a)) (sched_in part.body)
-
--- a unit that has no operation yet says no word
-no-words : (b : Body) → ops_of b ≡ [] → flat_map said_by (ops_of b) ≡ []
-no-words b e = ap (flat_map said_by) e
 
 -- a copy may block where the unit may
 same-later : (n : ℕ) (o : Op) → may_block (op_later n o) ≡ may_block o
@@ -146,16 +134,26 @@ units-in a h = units-all a (IsUnitIn (counted a)) (unit-later-in (counted a)) h.
 pub units-below : (a : Above) → IsProper a → length (units_of a) ≤ unit_count a
 units-below a h = let e = units-length a in let below = h.units.declared in omega arith
 
--- what is asked of the units that a line declares
-pub record AreNew (a : Above) (n : ℕ) (part : UnitPart) : Type 0 where
-  pub streams : is_none a.streams ≡ false
-  pub count : is_none a.unit_count ≡ false
-  pub some : 0 < n
-  pub one : is_sched part.body ≡ true → n ≡ 1
-  pub unit : IsUnitIn (counted a) part
-  pub no_ops : ops_of part.body ≡ []
-  pub free : AreFree a part
-  pub below : length (units_of a) + n ≤ unit_count a
+-- the scheduler of a new scheduler unit is there, and has no place
+abbrev HasSched : Above → Role → List ℕ → Type 0
+HasSched a role.Ult ns = ⊤
+HasSched a role.Task ns = ⊤
+HasSched a role.Sched ns = (at ns 1 < length a.scheds) × (is_placed a (at ns 1) ≡ false)
+
+-- the pool that a new unit starts in is there
+abbrev HasPool : Above → Role → Option PoolNo → List ℕ → Type 0
+HasPool a r (Some p) ns = at ns (start_place r) < length a.pools
+HasPool a r None ns = ⊤
+
+-- what is asked of n units that a line declares, of which the first is unit u, by the numbers of a `unit` line
+record AreNew (a : Above) (r : Role) (start : Option PoolNo) (u n : ℕ) (ns : List ℕ) : Type 0 where
+  early : (is_none a.streams || is_none a.unit_count) ≡ false
+  some : 0 < n
+  one : is_sched (body_with r ns) ≡ true → n ≡ 1
+  new : nat_lt u (declared_units a) ≡ false
+  below : lacks_units a (u + n) ≡ false
+  sched : HasSched a r ns
+  pool : HasPool a r start ns
 
 -- the schedulers that have a place, and that of a new unit
 free-places : (a : Above) (gs : List ℕ) → length gs ≤ 1 → AllPairs (λ x y. x ≢ y) (placed a) → All (λ g. All (λ m. m ≢ g) (placed a)) gs → AllPairs (λ x y. x ≢ y) (placed a ++ gs)
@@ -168,169 +166,125 @@ few-scheds (body.Ult ops) = omega arith
 few-scheds (body.Task ops) = omega arith
 few-scheds (body.Sched g) = omega arith
 
-pub keeps-new : (a : Above) (n : ℕ) (part : UnitPart) → IsProper a → a.section ≤ 9 → AreNew a n part → IsProper (record (with_units a n part) { section = 9; begun = true })
-keeps-new a n part h le new = record {
-  streams = h.streams;
-  keys = h.keys;
-  pools = h.pools;
-  scheds = h.scheds;
-  mains = h.mains;
-  places = subst (λ (gs : List ℕ). AllPairs (λ x y. x ≢ y) (mains_list a.mains ++ gs)) (sym all-scheds)
-      (subst (λ (ns : List ℕ). AllPairs (λ x y. x ≢ y) ns) (append_assoc (mains_list a.mains) (flat_map (λ (x : UnitPart). sched_in x.body) (a.units ++ option_to_list a.last)) (sched_in part.body))
-      (free-places a (sched_in part.body) (few-scheds part.body) h.places new.free));
-  objects = h.objects;
-  units = record { few = h.units.few; declared = new.below; all = all-and (IsUnitIn (counted a)) (units_of a) part (units-in a h) new.unit; copied = (new.some, new.one) };
-  few_ops =
-      let e = units-ops a in
-      let few = h.few_ops in
-      let none : length (ops_of part.body) ≡ 0 = ap length new.no_ops in
-      let zero_ops : n * length (ops_of part.body) ≡ n * 0 = ap (λ (k : ℕ). n * k) none in
-      omega arith;
-  said = units-said a h.said h.last_said;
-  last_said = no-words part.body new.no_ops;
-  words = All-append IsWord a.words (repeated a.copies a.said) h.words (all-repeated IsWord a.copies a.said h.last_words);
-  last_words = none-of _;
-  order =
-      let at_least : 8 ≤ a.section = late h new.count in
-      record {
-        no_streams = λ lt. absurd (omega arith);
-        no_keys = λ lt. absurd (omega arith);
-        no_mains = λ lt. absurd (omega arith);
-        no_units = λ lt. absurd (omega arith);
-        no_last = λ lt. absurd (omega arith);
-        no_count = λ lt. absurd (omega arith);
-        has_streams = λ lt. new.streams;
-        has_pools = λ lt. h.order.has_pools (omega arith);
-        has_mains = λ lt. h.order.has_mains (omega arith);
-        has_count = λ lt. new.count;
-        has_units = λ lt. absurd (omega arith);
-      };
-}
-  where
-    all-scheds : flat_map (λ (x : UnitPart). sched_in x.body) (units_of a ++ part ∷ []) ≡ flat_map (λ (x : UnitPart). sched_in x.body) (a.units ++ option_to_list a.last) ++ sched_in part.body
-    all-scheds =
-        flat_map-append (λ (x : UnitPart). sched_in x.body) (units_of a) (part ∷ [])
-        ∙ (ap (λ (gs : List ℕ). gs ++ (sched_in part.body ++ [])) (units-scheds a h.units.copied)
-        ∙ ap (λ (gs : List ℕ). flat_map (λ (x : UnitPart). sched_in x.body) (a.units ++ option_to_list a.last) ++ gs) (append-nil (sched_in part.body)))
-
--- The lines of units.
-
 no-ops : (r : Role) (ns : List ℕ) → ops_of (body_with r ns) ≡ []
 no-ops role.Ult ns = refl
 no-ops role.Task ns = refl
 no-ops role.Sched ns = refl
 
--- the number of new units leaves room
-room-for : (a : Above) (u n : ℕ) → nat_lt u (declared_units a) ≡ false → lacks_units a (u + n) ≡ false → length (units_of a) + n ≤ unit_count a
-room-for a u n new below = let le = le-not u (declared_units a) new in let most = le-not (unit_count a) (u + n) below in omega arith
-
 -- a unit that a line declares
-unit-in : (a : Above) (r : Role) (start : Option PoolNo) (ns : List ℕ) → (is_sched (body_with r ns) ≡ true → at ns 1 < length a.scheds) → ((p : PoolNo) → start ≡ Some p → at ns (start_place r) < length a.pools) → IsUnitIn (counted a) (unit_with r start ns)
-unit-in a r start ns sched pool = record { kind = by r sched; few_ops = let e = no-ops r ns in let l = ap length e in omega arith; ops = subst (λ (os : List Op). All (λ o. IsDeclared (counted a) (muted o)) os) (sym (no-ops r ns)) (none-of _); start = on start pool }
+unit-in : (a : Above) (r : Role) (start : Option PoolNo) (ns : List ℕ) → HasSched a r ns → HasPool a r start ns → IsUnitIn (counted a) (unit_with r start ns)
+unit-in a r start ns sched pool = record { kind = by r sched; few_ops = let l = ap length (no-ops r ns) in omega arith; ops = subst (λ (os : List Op). All (λ o. IsDeclared (counted a) (muted o)) os) (sym (no-ops r ns)) (none-of _); start = on start pool }
   where
-    by : (q : Role) → (is_sched (body_with q ns) ≡ true → at ns 1 < length a.scheds) → IsBodyIn (length a.scheds) (body_with q ns)
+    by : (q : Role) → HasSched a q ns → IsBodyIn (length a.scheds) (body_with q ns)
     by role.Ult s = tt
     by role.Task s = refl
-    by role.Sched s = s refl
+    by role.Sched s = s.0
 
-    on : (o : Option PoolNo) → ((p : PoolNo) → o ≡ Some p → at ns (start_place r) < length a.pools) → IsStartIn (length a.pools) (start_with r o ns)
+    on : (o : Option PoolNo) → HasPool a r o ns → IsStartIn (length a.pools) (start_with r o ns)
     on None s = tt
-    on (Some p) s = s p refl
+    on (Some p) s = s
 
 -- a new scheduler unit has a scheduler that has no place
-unit-free : (a : Above) → IsProper a → (r : Role) (ns : List ℕ) (start : Option PoolNo) → (is_sched (body_with r ns) ≡ true → is_placed a (at ns 1) ≡ false) → AreFree a (unit_with r start ns)
+unit-free : (a : Above) → IsProper a → (r : Role) (ns : List ℕ) (start : Option PoolNo) → HasSched a r ns → AreFree a (unit_with r start ns)
 unit-free a h role.Ult ns start free = none-of _
 unit-free a h role.Task ns start free = none-of _
-unit-free a h role.Sched ns start free = all-one (λ g. All (λ m. m ≢ g) (placed a)) (at ns 1) (not-among (placed a) (at ns 1) (placed-not a (at ns 1) h.units.copied (free refl)))
+unit-free a h role.Sched ns start free = all-one (λ g. All (λ m. m ≢ g) (placed a)) (at ns 1) (not-among (placed a) (at ns 1) (placed-not a (at ns 1) h.units.copied free.1))
+
+-- new units keep what is declared proper
+keeps-new : (a : Above) (r : Role) (start : Option PoolNo) (u n : ℕ) (ns : List ℕ) → IsProper a → AreNew a r start u n ns → IsProper (record (with_units a n (unit_with r start ns)) { section = 9; begun = true })
+keeps-new a r start u n ns h new =
+    let part : UnitPart = unit_with r start ns in
+    let after : Above = record (with_units a n part) { section = 9; begun = true } in
+    let least = le-not u (declared_units a) new.new in
+    let most = le-not (unit_count a) (u + n) new.below in
+    let scheds : List UnitPart → List ℕ = flat_map (λ (x : UnitPart). sched_in x.body) in
+    let all_scheds : scheds (units_of a ++ part ∷ []) ≡ scheds (a.units ++ option_to_list a.last) ++ sched_in part.body =
+    flat_map-append (λ (x : UnitPart). sched_in x.body) (units_of a) (part ∷ [])
+    ∙ (ap (λ (gs : List ℕ). gs ++ (sched_in part.body ++ [])) (units-scheds a h.units.copied)
+    ∙ ap (λ (gs : List ℕ). scheds (a.units ++ option_to_list a.last) ++ gs) (append-nil (sched_in part.body))) in
+    let places : AllPairs (λ x y. x ≢ y) (placed after) = subst (λ (gs : List ℕ). AllPairs (λ x y. x ≢ y) (mains_list a.mains ++ gs)) (sym all_scheds)
+    (subst (λ (ns : List ℕ). AllPairs (λ x y. x ≢ y) ns) (append_assoc (mains_list a.mains) (scheds (a.units ++ option_to_list a.last)) (sched_in part.body))
+    (free-places a (sched_in part.body) (few-scheds part.body) h.places (unit-free a h r ns start new.sched))) in
+    let units : AreUnits after = record { few = h.units.few; declared = omega arith; all = all-and (IsUnitIn (counted a)) (units_of a) part (units-in a h) (unit-in a r start ns new.sched new.pool); copied = (new.some, new.one) } in
+    let few_ops : length (all_ops (units_of a)) + n * op_count (Some part) ≤ 65536 =
+    let e = units-ops a in
+    let few = h.few_ops in
+    let zero_ops : n * length (ops_of part.body) ≡ n * 0 = ap (λ (os : List Op). n * length os) (no-ops r ns) in
+    omega arith in
+    let said : said_by_units (units_of a) ≡ range_with_len 0 (length (said_words a)) = units-said a h.said h.last_said in
+    let last_said : flat_map said_by (ops_of part.body) ≡ [] = ap (flat_map said_by) (no-ops r ns) in
+    let words : All IsWord (said_words a) = All-append IsWord a.words (repeated a.copies a.said) h.words (all-repeated IsWord a.copies a.said h.last_words) in
+    let last_words : All IsWord [] = none-of _ in
+    let order : IsInOrder after = in-order h (late h (or-right (is_none a.streams) _ new.early)) after (omega arith) (refl, refl) (λ lt. absurd (omega arith)) in
+    assumption
+
+-- The lines of units.
 
 module _ {a : Above} {line : Text} {words : List Text} (h : IsProper a) where
-  pub keeps-unit : (r : Role) (start : Option PoolNo) → IsSound a line words (form.Unit r start) → IsProper (with_line a (form.Unit r start) words (values_of (form.Unit r start) words))
-  keeps-unit r start s = keeps-new a 1 (unit_with r start vals) h (after-section (form.Unit r start) s) record {
-    streams = or-left (is_none a.streams) _ s.early;
-    count = or-right (is_none a.streams) _ s.early;
-    some = omega arith;
-    one = λ _. refl;
-    unit = unit-in a r start vals (sched-there r start s) (pool-there r start s);
-    no_ops = no-ops r vals;
-    free = unit-free a h r vals start (sched-free r start s);
-    below = room-for a (at vals 0) 1 (new-unit r start s) s.beyond;
-  }
+  pub keeps-unit : (r : Role) (start : Option PoolNo) → IsSound a line words (form.Unit r start) → IsProper (with_form a words (form.Unit r start))
+  keeps-unit r start s =
+      keeps-new a r start (at (values_of (form.Unit r start) words) 0) 1 (values_of (form.Unit r start) words) h
+      record { early = s.early; some = omega arith; one = λ _. refl; new = new-unit r s; below = s.beyond; sched = sched-there r s; pool = pool-there r start s }
     where
-      vals : List ℕ
-      vals = values_of (form.Unit r start) words
+      new-unit : (q : Role) → IsSound a line words (form.Unit q start) → nat_lt (at (values_of (form.Unit q start) words) 0) (declared_units a) ≡ false
+      new-unit role.Ult u = u.once
+      new-unit role.Task u = u.once
+      new-unit role.Sched u = or-left (nat_lt (at (values_of (form.Unit role.Sched start) words) 0) (declared_units a)) _ u.once
 
-      new-unit : (q : Role) (t : Option PoolNo) → IsSound a line words (form.Unit q t) → nat_lt (at (values_of (form.Unit q t) words) 0) (declared_units a) ≡ false
-      new-unit role.Ult t u = u.once
-      new-unit role.Task t u = u.once
-      new-unit role.Sched t u = or-left (nat_lt (at (values_of (form.Unit role.Sched t) words) 0) (declared_units a)) _ u.once
+      sched-there : (q : Role) → IsSound a line words (form.Unit q start) → HasSched a q (values_of (form.Unit q start) words)
+      sched-there role.Ult u = tt
+      sched-there role.Task u = tt
+      sched-there role.Sched u = (lt-from _ _ (there-at (form.Unit role.Sched start) u 1 number.Sched refl), or-right (nat_lt (at (values_of (form.Unit role.Sched start) words) 0) (declared_units a)) _ u.once)
 
-      sched-there : (q : Role) (t : Option PoolNo) → IsSound a line words (form.Unit q t) → is_sched (body_with q (values_of (form.Unit q t) words)) ≡ true → at (values_of (form.Unit q t) words) 1 < length a.scheds
-      sched-there role.Ult t u e = cc
-      sched-there role.Task t u e = cc
-      sched-there role.Sched (Some p) u e = lt-from _ _ (there-at (form.Unit role.Sched (Some p)) u 1 number.Sched refl)
-      sched-there role.Sched None u e = lt-from _ _ (there-at (form.Unit role.Sched None) u 1 number.Sched refl)
+      pool-there : (q : Role) (t : Option PoolNo) → IsSound a line words (form.Unit q t) → HasPool a q t (values_of (form.Unit q t) words)
+      pool-there q None u = tt
+      pool-there role.Ult (Some o) u = lt-from _ _ (there-at (form.Unit role.Ult (Some o)) u 1 number.Pool refl)
+      pool-there role.Task (Some o) u = lt-from _ _ (there-at (form.Unit role.Task (Some o)) u 1 number.Pool refl)
+      pool-there role.Sched (Some o) u = lt-from _ _ (there-at (form.Unit role.Sched (Some o)) u 2 number.Pool refl)
 
-      pool-there : (q : Role) (t : Option PoolNo) → IsSound a line words (form.Unit q t) → (p : PoolNo) → t ≡ Some p → at (values_of (form.Unit q t) words) (start_place q) < length a.pools
-      pool-there role.Ult (Some o) u p e = lt-from _ _ (there-at (form.Unit role.Ult (Some o)) u 1 number.Pool refl)
-      pool-there role.Task (Some o) u p e = lt-from _ _ (there-at (form.Unit role.Task (Some o)) u 1 number.Pool refl)
-      pool-there role.Sched (Some o) u p e = lt-from _ _ (there-at (form.Unit role.Sched (Some o)) u 2 number.Pool refl)
-      pool-there q None u p e = cc
-
-      sched-free : (q : Role) (t : Option PoolNo) → IsSound a line words (form.Unit q t) → is_sched (body_with q (values_of (form.Unit q t) words)) ≡ true → is_placed a (at (values_of (form.Unit q t) words) 1) ≡ false
-      sched-free role.Ult t u e = cc
-      sched-free role.Task t u e = cc
-      sched-free role.Sched t u e = or-right (nat_lt (at (values_of (form.Unit role.Sched t) words) 0) (declared_units a)) _ u.once
-
-  pub keeps-many : (r : Role) (start : Option PoolNo) → IsSound a line words (form.Many r start) → IsProper (with_line a (form.Many r start) words (values_of (form.Many r start) words))
-  keeps-many r start s = keeps-new a (at vals 1) (unit_with r start (drop 1 vals)) h (after-section (form.Many r start) s) record {
-    streams = or-left (is_none a.streams) _ s.early;
-    count = or-right (is_none a.streams) _ s.early;
-    some = le-from 1 (at vals 1) (and-left (nat_le 1 (at vals 1)) _ (copies-within r start s));
-    one = only-one r start s;
-    unit = unit-in a r start (drop 1 vals) (sched-there r start s) (pool-there r start s);
-    no_ops = no-ops r (drop 1 vals);
-    free = unit-free a h r (drop 1 vals) start (sched-free r start s);
-    below = room-for a (at vals 0) (at vals 1) (new-unit r start s) s.beyond;
-  }
+  pub keeps-many : (r : Role) (start : Option PoolNo) → IsSound a line words (form.Many r start) → IsProper (with_form a words (form.Many r start))
+  keeps-many r start s =
+      keeps-new a r start (at vals 0) (at vals 1) (drop 1 vals) h
+      record { early = s.early; some = some-copies r s; one = one-copy r s; new = new-unit r s; below = s.beyond; sched = sched-there r s; pool = pool-there r start s }
     where
       vals : List ℕ
       vals = values_of (form.Many r start) words
 
-      copies-within : (q : Role) (t : Option PoolNo) → IsSound a line words (form.Many q t) → is_within a.format (number.Within 1 4096) (at (values_of (form.Many q t) words) 1) ≡ true
-      copies-within q t u = within-at (form.Many q t) u 1 1 4096 refl
+      -- a number after the count of copies
+      after-count : (f : Form) → IsSound a line words f → (k : ℕ) (kind : Number) → slice_get (kinds (slots f)) (k + 1) ≡ Some kind → is_there a kind (at (drop 1 (values_of f words)) k) ≡ true
+      after-count f u k kind e = subst (λ (n : ℕ). is_there a kind n ≡ true) (at-after k (values_of f words)) (there-at f u (k + 1) kind e)
 
-      new-unit : (q : Role) (t : Option PoolNo) → IsSound a line words (form.Many q t) → nat_lt (at (values_of (form.Many q t) words) 0) (declared_units a) ≡ false
-      new-unit role.Ult t u = u.once
-      new-unit role.Task t u = u.once
-      new-unit role.Sched t u = or-left (nat_lt (at (values_of (form.Many role.Sched t) words) 0) (declared_units a)) _ (or-left _ (is_placed a (at (values_of (form.Many role.Sched t) words) 2)) u.once)
+      some-copies : (q : Role) → IsSound a line words (form.Many q start) → 1 ≤ at (values_of (form.Many q start) words) 1
+      some-copies q u = let n : ℕ = at (values_of (form.Many q start) words) 1 in le-from 1 n (and-left (nat_le 1 n) _ (within-at (form.Many q start) u 1 1 4096 refl))
 
-      only-one : (q : Role) (t : Option PoolNo) → IsSound a line words (form.Many q t) → is_sched (body_with q (drop 1 (values_of (form.Many q t) words))) ≡ true → at (values_of (form.Many q t) words) 1 ≡ 1
-      only-one role.Ult t u e = cc
-      only-one role.Task t u e = cc
-      only-one role.Sched t u e =
-          let n : ℕ = at (values_of (form.Many role.Sched t) words) 1 in
-          let most : n ≤ 1 = le-not 1 n (or-right (nat_lt (at (values_of (form.Many role.Sched t) words) 0) (declared_units a)) _ (or-left _ (is_placed a (at (values_of (form.Many role.Sched t) words) 2)) u.once)) in
-          let least : 1 ≤ n = le-from 1 n (and-left (nat_le 1 n) _ (copies-within role.Sched t u)) in
+      new-unit : (q : Role) → IsSound a line words (form.Many q start) → nat_lt (at (values_of (form.Many q start) words) 0) (declared_units a) ≡ false
+      new-unit role.Ult u = u.once
+      new-unit role.Task u = u.once
+      new-unit role.Sched u = or-left (nat_lt (at (values_of (form.Many role.Sched start) words) 0) (declared_units a)) _ (or-left _ (is_placed a (at (values_of (form.Many role.Sched start) words) 2)) u.once)
+
+      one-copy : (q : Role) → IsSound a line words (form.Many q start) → is_sched (body_with q (drop 1 (values_of (form.Many q start) words))) ≡ true → at (values_of (form.Many q start) words) 1 ≡ 1
+      one-copy role.Ult u e = cc
+      one-copy role.Task u e = cc
+      one-copy role.Sched u e =
+          let ns : List ℕ = values_of (form.Many role.Sched start) words in
+          let most = le-not 1 (at ns 1) (or-right (nat_lt (at ns 0) (declared_units a)) _ (or-left _ (is_placed a (at ns 2)) u.once)) in
+          let least = some-copies role.Sched u in
           omega arith
 
-      sched-there : (q : Role) (t : Option PoolNo) → IsSound a line words (form.Many q t) → is_sched (body_with q (drop 1 (values_of (form.Many q t) words))) ≡ true → at (drop 1 (values_of (form.Many q t) words)) 1 < length a.scheds
-      sched-there role.Ult t u e = cc
-      sched-there role.Task t u e = cc
-      sched-there role.Sched (Some p) u e = subst (λ (n : ℕ). n < length a.scheds) (at-after 1 (values_of (form.Many role.Sched (Some p)) words)) (lt-from _ _ (there-at (form.Many role.Sched (Some p)) u 2 number.Sched refl))
-      sched-there role.Sched None u e = subst (λ (n : ℕ). n < length a.scheds) (at-after 1 (values_of (form.Many role.Sched None) words)) (lt-from _ _ (there-at (form.Many role.Sched None) u 2 number.Sched refl))
+      sched-there : (q : Role) → IsSound a line words (form.Many q start) → HasSched a q (drop 1 (values_of (form.Many q start) words))
+      sched-there role.Ult u = tt
+      sched-there role.Task u = tt
+      sched-there role.Sched u =
+          let ns : List ℕ = values_of (form.Many role.Sched start) words in (
+            lt-from _ _ (after-count (form.Many role.Sched start) u 1 number.Sched refl),
+            subst (λ (n : ℕ). is_placed a n ≡ false) (at-after 1 ns) (or-right (nat_lt (at ns 0) (declared_units a) || nat_lt 1 (at ns 1)) _ u.once),
+          )
 
-      pool-there : (q : Role) (t : Option PoolNo) → IsSound a line words (form.Many q t) → (p : PoolNo) → t ≡ Some p → at (drop 1 (values_of (form.Many q t) words)) (start_place q) < length a.pools
-      pool-there role.Ult (Some o) u p e = subst (λ (n : ℕ). n < length a.pools) (at-after 1 (values_of (form.Many role.Ult (Some o)) words)) (lt-from _ _ (there-at (form.Many role.Ult (Some o)) u 2 number.Pool refl))
-      pool-there role.Task (Some o) u p e = subst (λ (n : ℕ). n < length a.pools) (at-after 1 (values_of (form.Many role.Task (Some o)) words)) (lt-from _ _ (there-at (form.Many role.Task (Some o)) u 2 number.Pool refl))
-      pool-there role.Sched (Some o) u p e = subst (λ (n : ℕ). n < length a.pools) (at-after 2 (values_of (form.Many role.Sched (Some o)) words)) (lt-from _ _ (there-at (form.Many role.Sched (Some o)) u 3 number.Pool refl))
-      pool-there q None u p e = cc
-
-      sched-free : (q : Role) (t : Option PoolNo) → IsSound a line words (form.Many q t) → is_sched (body_with q (drop 1 (values_of (form.Many q t) words))) ≡ true → is_placed a (at (drop 1 (values_of (form.Many q t) words)) 1) ≡ false
-      sched-free role.Ult t u e = cc
-      sched-free role.Task t u e = cc
-      sched-free role.Sched t u e =
-          subst (λ (n : ℕ). is_placed a n ≡ false) (at-after 1 (values_of (form.Many role.Sched t) words))
-          (or-right (nat_lt (at (values_of (form.Many role.Sched t) words) 0) (declared_units a) || nat_lt 1 (at (values_of (form.Many role.Sched t) words) 1)) _ u.once)
+      pool-there : (q : Role) (t : Option PoolNo) → IsSound a line words (form.Many q t) → HasPool a q t (drop 1 (values_of (form.Many q t) words))
+      pool-there q None u = tt
+      pool-there role.Ult (Some o) u = lt-from _ _ (after-count (form.Many role.Ult (Some o)) u 1 number.Pool refl)
+      pool-there role.Task (Some o) u = lt-from _ _ (after-count (form.Many role.Task (Some o)) u 1 number.Pool refl)
+      pool-there role.Sched (Some o) u = lt-from _ _ (after-count (form.Many role.Sched (Some o)) u 2 number.Pool refl)
 
 -- Operations.
 
@@ -419,72 +373,40 @@ record CanOperate (a : Above) (part : UnitPart) (o : Op) (ws : List Text) (ns : 
 
 module _ (o : Op) (ws : List Text) (ns : List ℕ) where
   keeps-one : (a : Above) (part : UnitPart) (n : ℕ) → IsProper a → CanOperate a part o ws ns (suc n) → IsProper (with_operation o ws ns a)
-  keeps-one a part n h can = subst (λ (l : Option UnitPart). IsProper (record a { last = option_map (unit_and p) l; said = a.said ++ said_in o ws })) (sym can.last_is) proper
+  keeps-one a part n h can =
+      subst (λ (l : Option UnitPart). IsProper (record a { last = option_map (unit_and p) l; said = a.said ++ said_in o ws })) (sym can.last_is)
+      (proper (subst (λ (l : Option UnitPart). IsProper (record a { last = l })) can.last_is h))
     where
       p : Op
       p = op_with o (length a.words + length a.said) ns
 
-      all : All (IsUnitIn (counted a)) (a.units ++ part ∷ [])
-      all = subst (λ (l : Option UnitPart). All (IsUnitIn (counted a)) (a.units ++ option_to_list l)) can.last_is h.units.all
-
-      new : IsUnitIn (counted a) (unit_and p part)
-      new = let short = can.short in unit-more (counted a) o p part (last-of (IsUnitIn (counted a)) a.units part all) can.takes_ops (same-blocks o (length a.words + length a.said) ns) can.task (omega arith) (can.named (length a.words + length a.said))
-
-      here : flat_map said_by (ops_of part.body) ≡ range_with_len (length a.words) (length a.said)
-      here = subst (λ (l : Option UnitPart). flat_map said_by (last_ops l) ≡ range_with_len (length a.words) (length a.said)) can.last_is h.last_said
-
-      said-here : flat_map said_by (ops_of (body_and p part.body)) ≡ range_with_len (length a.words) (length (a.said ++ said_in o ws))
-      said-here =
+      proper : IsProper (record a { last = Some part }) → IsProper (record a { last = Some (unit_and p part); said = a.said ++ said_in o ws })
+      proper g =
+          let after : Above = record a { last = Some (unit_and p part); said = a.said ++ said_in o ws } in
+          let nine = can.section_is in
+          let short = can.short in
+          let new : IsUnitIn (counted a) (unit_and p part) = unit-more (counted a) o p part (last-of (IsUnitIn (counted a)) a.units part g.units.all) can.takes_ops (same-blocks o (length a.words + length a.said) ns) can.task (omega arith) (can.named (length a.words + length a.said)) in
+          let places : AllPairs (λ x y. x ≢ y) (placed after) = subst (λ (gs : List ℕ). AllPairs (λ x y. x ≢ y) (mains_list a.mains ++ gs)) (sym (same-places p a.units part)) g.places in
+          let units : AreUnits after = record {
+            few = h.units.few;
+            declared = g.units.declared;
+            all = all-and (IsUnitIn (counted a)) a.units (unit_and p part) (front-of (IsUnitIn (counted a)) a.units part g.units.all) new;
+            copied = (g.units.copied.0, λ e. g.units.copied.1 (sym (body-takes p part.body) ∙ e));
+          } in
+          let few_ops : length (all_ops a.units) + a.copies * length (ops_of (body_and p part.body)) ≤ 65536 =
+          let more : a.copies * length (ops_of (body_and p part.body)) ≡ a.copies * (length (ops_of part.body) + 1) = ap (λ (os : List Op). a.copies * length os) (body-ops p part.body can.takes_ops) ∙ ap (λ (k : ℕ). a.copies * k) (length-append (ops_of part.body) (p ∷ [])) in
+          let le : a.copies * (length (ops_of part.body) + 1) ≤ a.copies * (length (ops_of part.body) + suc n) = mul-le-mul_left a.copies (omega arith) in
+          let room = can.room in
+          omega arith in
+          let last_said : flat_map said_by (ops_of (body_and p part.body)) ≡ range_with_len (length a.words) (length (a.said ++ said_in o ws)) =
           ap (flat_map said_by) (body-ops p part.body can.takes_ops)
           ∙ (flat_map-append said_by (ops_of part.body) (p ∷ [])
           ∙ (ap (λ (xs : List ℕ). flat_map said_by (ops_of part.body) ++ xs) (append-nil (said_by p))
-          ∙ (ap (λ (xs : List ℕ). xs ++ said_by p) here
-          ∙ said-more o (length a.words) a.said ws ns)))
-
-      proper : IsProper (record a { last = Some (unit_and p part); said = a.said ++ said_in o ws })
-      proper =
-          let nine = can.section_is in
-          let ops : length (ops_of (body_and p part.body)) ≡ length (ops_of part.body) + 1 = ap length (body-ops p part.body can.takes_ops) ∙ length-append (ops_of part.body) (p ∷ []) in
-          record {
-            streams = h.streams;
-            keys = h.keys;
-            pools = h.pools;
-            scheds = h.scheds;
-            mains = h.mains;
-            places = subst (λ (gs : List ℕ). AllPairs (λ x y. x ≢ y) (mains_list a.mains ++ gs)) (sym (same-places p a.units part))
-                (subst (λ (l : Option UnitPart). AllPairs (λ x y. x ≢ y) (mains_list a.mains ++ flat_map (λ (x : UnitPart). sched_in x.body) (a.units ++ option_to_list l))) can.last_is h.places);
-            objects = h.objects;
-            units = record {
-              few = h.units.few;
-              declared = subst (λ (l : Option UnitPart). length a.units + last_count a.copies l ≤ unit_count a) can.last_is h.units.declared;
-              all = all-and (IsUnitIn (counted a)) a.units (unit_and p part) (front-of (IsUnitIn (counted a)) a.units part all) new;
-              copied =
-                  let copied : AreCopies a.copies (Some part) = subst (AreCopies a.copies) can.last_is h.units.copied in
-                  (copied.0, λ e. copied.1 (sym (body-takes p part.body) ∙ e));
-            };
-            few_ops =
-                let more : a.copies * length (ops_of (body_and p part.body)) ≡ a.copies * (length (ops_of part.body) + 1) = ap (λ (k : ℕ). a.copies * k) ops in
-                let le : a.copies * (length (ops_of part.body) + 1) ≤ a.copies * (length (ops_of part.body) + suc n) = mul-le-mul_left a.copies (omega arith) in
-                let room = can.room in
-                omega arith;
-            said = h.said;
-            last_said = said-here;
-            words = h.words;
-            last_words = All-append IsWord a.said (said_in o ws) h.last_words can.word;
-            order = record {
-              no_streams = λ lt. absurd (omega arith);
-              no_keys = λ lt. absurd (omega arith);
-              no_mains = λ lt. absurd (omega arith);
-              no_units = λ lt. absurd (omega arith);
-              no_last = λ lt. absurd (omega arith);
-              no_count = λ lt. absurd (omega arith);
-              has_streams = λ lt. h.order.has_streams (omega arith);
-              has_pools = λ lt. h.order.has_pools (omega arith);
-              has_mains = λ lt. h.order.has_mains (omega arith);
-              has_count = λ lt. h.order.has_count (omega arith);
-              has_units = λ lt. absurd (omega arith);
-            };
-          }
+          ∙ (ap (λ (xs : List ℕ). xs ++ said_by p) g.last_said
+          ∙ said-more o (length a.words) a.said ws ns))) in
+          let last_words : All IsWord (a.said ++ said_in o ws) = All-append IsWord a.said (said_in o ws) h.last_words can.word in
+          let order : IsInOrder after = in-order h (omega arith) after (omega arith) (refl, refl) (λ lt. absurd (omega arith)) in
+          assumption
 
   can-next : (a : Above) (part : UnitPart) (n : ℕ) → CanOperate a part o ws ns (suc n) → CanOperate (with_operation o ws ns a) (unit_and (op_with o (length a.words + length a.said) ns) part) o ws ns n
   can-next a part n can =
@@ -511,34 +433,7 @@ module _ (o : Op) (ws : List Text) (ns : List ℕ) where
 
 -- what is declared by a line of a section that was reached
 pub begun-proper : (a : Above) → IsProper a → IsProper (record a { begun = true })
-begun-proper a h = record {
-  streams = h.streams;
-  keys = h.keys;
-  pools = h.pools;
-  scheds = h.scheds;
-  mains = h.mains;
-  places = h.places;
-  objects = h.objects;
-  units = h.units;
-  few_ops = h.few_ops;
-  said = h.said;
-  last_said = h.last_said;
-  words = h.words;
-  last_words = h.last_words;
-  order = record {
-    no_streams = h.order.no_streams;
-    no_keys = h.order.no_keys;
-    no_mains = h.order.no_mains;
-    no_units = h.order.no_units;
-    no_last = h.order.no_last;
-    no_count = h.order.no_count;
-    has_streams = h.order.has_streams;
-    has_pools = h.order.has_pools;
-    has_mains = h.order.has_mains;
-    has_count = h.order.has_count;
-    has_units = h.order.has_units;
-  };
-}
+begun-proper a h = let order : IsInOrder (record a { begun = true }) = assumption h.order in assumption
 
 -- the section of a line of an operation was reached
 still-nine : (a : Above) → IsProper a × (a.section ≡ 9) → IsProper (record a { section = 9; begun = true })
@@ -606,13 +501,13 @@ module _ (a : Above) (line : Text) (h : IsProper a) where
               omega arith
 
 module _ {a : Above} {line : Text} {words : List Text} (h : IsProper a) (ew : words ≡ words_of line) where
-  pub keeps-operation : (o : Op) → IsSound a line words (form.Operation o) → IsProper (with_line a (form.Operation o) words (values_of (form.Operation o) words))
+  pub keeps-operation : (o : Op) → IsSound a line words (form.Operation o) → IsProper (with_form a words (form.Operation o))
   keeps-operation o s =
       let sound : IsSoundOp a o words = record { op_fits = s.form_fits; there = s.there; within = s.within } in
       let can = can-operate a line h o 1 0 words s.utf8 s.control (after-section (form.Operation o) s) (not-false _ (at-home (form.Operation o) s)) (or-left (has_no_room a 1) _ s.limit) (or-right (has_no_room a 1) _ s.limit) s.task sound ew in
       still-nine (with_operation o words (op_values o words) a) (keeps-operations o words (op_values o words) 1 a can.0 h can.1)
 
-  pub keeps-repeat : (o : Op) → IsSound a line words (form.Repeat o) → IsProper (with_line a (form.Repeat o) words (values_of (form.Repeat o) words))
+  pub keeps-repeat : (o : Op) → IsSound a line words (form.Repeat o) → IsProper (with_form a words (form.Repeat o))
   keeps-repeat o s =
       let r = repeated-op o s in
       let n : ℕ = at (values_of (form.Repeat o) words) 0 in

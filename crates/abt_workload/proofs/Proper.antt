@@ -2,6 +2,7 @@
 use Rattle.std.proofs.Common.{◌≡◌, ◌≢◌, ◌<◌, ◌≤◌, ◌+◌, ◌*◌, ℕ, Bool, true, false, List, [], ◌++◌, All, Option, Some, None, IsFalse, arith, flat_map, is_none, length, map, option_to_list, refl, replicate, slice_get, unwrap_or}
 use Rattle.std.specs.Bool.{⊤}
 use Rattle.std.specs.List.{AllPairs, list_all, list_any, range_with_len}
+use Rattle.abt_machine.specs.declared.grammar.Form.{Form}
 use Rattle.abt_machine.specs.declared.numbers.PoolNo.{PoolNo}
 use Rattle.abt_machine.specs.declared.numbers.SchedNo.{SchedNo}
 use Rattle.abt_machine.specs.declared.operations.Access.{Access}
@@ -18,11 +19,13 @@ use Rattle.abt_machine.specs.declared.workload.SchedPart.{SchedPart}
 use Rattle.abt_machine.specs.declared.workload.UnitPart.{UnitPart}
 use Rattle.abt_machine.specs.Access.{takes}
 use Rattle.abt_machine.specs.Declaring.{Above, declared_units, nothing, parts_of}
+use Rattle.abt_machine.specs.Faults.{values_of}
 use Rattle.abt_machine.specs.Operations.{IsDeclared, may_block, said_by}
 use Rattle.abt_machine.specs.Valid.{IsRule, IsWord, sched_in}
+use Rattle.abt_machine.specs.Words.{Text}
 use Rattle.abt_machine.specs.Workloads.{access_from, all_ops, ops_of, pools_from}
 use Rattle.abt_machine.proofs.Saying.{said_by_units}
-use Rattle.abt_workload.specs.Declarable.{last_count, last_ops, op_count}
+use Rattle.abt_workload.specs.Declarable.{last_count, last_ops, op_count, with_line}
 use Rattle.abt_workload.proofs.Copies.{AreCopies}
 
 abbrev pub stream_count : Above → ℕ
@@ -116,19 +119,25 @@ pub record HasUnits (W : Parts) (count : ℕ) (units : List UnitPart) (last : Op
   pub all : All (IsUnitIn W) (units ++ option_to_list last)
   pub copied : AreCopies copies last
 
+-- no stream has a main scheduler
+abbrev pub AreUnset : List (Option SchedNo) → Type 0
+AreUnset mains = (s : ℕ) (g : SchedNo) → slice_get mains s ≡ Some (Some g) → ⊥
+
 -- what comes later is not declared yet, and what comes first is declared
 pub record IsInOrder (a : Above) : Type 0 where
   pub no_streams : a.section < 2 → a.streams ≡ None
-  pub no_keys : a.section < 3 → a.keys ≡ 0
-  pub no_mains : a.section < 6 → (s : ℕ) (g : SchedNo) → slice_get a.mains s ≡ Some (Some g) → ⊥
+  pub no_mains : a.section < 6 → AreUnset a.mains
+  pub no_count : a.section < 8 → a.unit_count ≡ None
   pub no_units : a.section < 9 → a.units ≡ []
   pub no_last : a.section < 9 → a.last ≡ None
-  pub no_count : a.section < 8 → a.unit_count ≡ None
-  pub has_streams : 2 < a.section → is_none a.streams ≡ false
   pub has_pools : 7 < a.section → 0 < length a.pools
   pub has_mains : 7 < a.section → list_any is_none a.mains ≡ false
-  pub has_count : 8 < a.section → is_none a.unit_count ≡ false
+  pub has_streams : 9 < a.section → is_none a.streams ≡ false
   pub has_units : 9 < a.section → unit_count a ≤ declared_units a
+
+-- the units are those of the workload
+abbrev pub AreUnits : Above → Type 0
+AreUnits a = HasUnits (counted a) (unit_count a) a.units a.last a.copies
 
 -- the schedulers that have a place
 abbrev pub placed : Above → List ℕ
@@ -142,13 +151,17 @@ pub record IsProper (a : Above) : Type 0 where
   pub mains : HasMains (stream_count a) a.pools a.scheds a.mains
   pub places : AllPairs (λ x y. x ≢ y) (placed a)
   pub objects : HasObjects a.objects
-  pub units : HasUnits (counted a) (unit_count a) a.units a.last a.copies
+  pub units : AreUnits a
   pub few_ops : length (all_ops a.units) + a.copies * op_count a.last ≤ 65536
   pub said : said_by_units a.units ≡ range_with_len 0 (length a.words)
   pub last_said : flat_map said_by (last_ops a.last) ≡ range_with_len (length a.words) (length a.said)
   pub words : All IsWord a.words
   pub last_words : All IsWord a.said
   pub order : IsInOrder a
+
+-- what is declared with a line of this form
+abbrev pub with_form : Above → List Text → Form → Above
+with_form a words f = with_line a f words (values_of f words)
 
 pub no-pair : {A : Type 0} (R : A → A → Type 0) → AllPairs R []
 no-pair R i j d lt within = absurd (omega arith)
@@ -172,5 +185,5 @@ proper-nothing = record {
   last_said = refl;
   words = none-of _;
   last_words = none-of _;
-  order = record { no_streams = λ _. refl; no_keys = λ _. refl; no_mains = λ _ s g e. cc; no_units = λ _. refl; no_last = λ _. refl; no_count = λ _. refl; has_streams = λ lt. absurd (omega arith); has_pools = λ lt. absurd (omega arith); has_mains = λ lt. refl; has_count = λ lt. absurd (omega arith); has_units = λ lt. omega arith };
+  order = record { no_streams = λ _. refl; no_mains = λ _ s g e. cc; no_count = λ _. refl; no_units = λ _. refl; no_last = λ _. refl; has_pools = λ lt. absurd (omega arith); has_mains = λ lt. refl; has_streams = λ lt. absurd (omega arith); has_units = λ lt. omega arith };
 }
