@@ -1,6 +1,6 @@
 -- Histories of sets alone.
-use Rattle.std.proofs.Common.{◌≡◌, ℕ, zero, suc, ◌+◌, ◌*◌, ◌/◌, ◌%◌, ◌<◌, ◌≤◌, ◌^◌, Bool, true, false, cond, List, [], ◌∷◌, ◌++◌, length, length-append, map, Some, refl, sym, ap, ◌∙◌, subst, arith, zero-add}
-use Rattle.std.specs.List.{All, count_by, range_with_len, sum_by}
+use Rattle.std.proofs.Common.{◌≡◌, ℕ, ◌+◌, ◌*◌, ◌%◌, ◌<◌, ◌≤◌, ◌^◌, cond, List, [], ◌∷◌, ◌++◌, length, length-append, map, Some, refl, sym, ap, ◌∙◌, subst, arith, zero-add}
+use Rattle.std.specs.List.{All, count_by, sum_by}
 use Rattle.std.proofs.Math.Nat.{mul-le-mul}
 use Rattle.std.proofs.lemmas.List.{append_assoc}
 use Rattle.std.proofs.lemmas.List.Elements.{All-head, All-map, All-tail}
@@ -8,8 +8,8 @@ use Rattle.std.proofs.lemmas.List.Sums.{sum-map, sum_by-cons}
 use Rattle.abt_booth.specs.declared.history.Entry.{Entry}
 use Rattle.abt_booth.specs.History.{calls_of, Leads}
 use Rattle.abt_booth.specs.Calls.{IsClosed}
-use Rattle.booth_caller.specs.Calling.{acts_of, HasAsked}
-use Rattle.booth_caller.proofs.Calling.{acts_hold, all_of_classes, calls_count, sum_below, weighed, wholly_asked}
+use Rattle.booth_caller.specs.Calling.{HasAsked}
+use Rattle.booth_caller.proofs.Calling.{acts_hold, all_of_classes, calls_count, weighed, wholly_asked}
 use Rattle.abt_callbacks.specs.declared.fold.FoldShape.TheVariants.{Sum}
 use Rattle.abt_callbacks.specs.declared.acts.FutureAct.{FutureAct}
 use Rattle.abt_callbacks.specs.declared.acts.FutureAct.TheVariants.{Set, Read, Reset}

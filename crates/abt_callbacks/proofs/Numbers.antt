@@ -1,5 +1,5 @@
 -- The numbers of the workers.
-use Rattle.std.proofs.Common.{◌≡◌, ℕ, zero, suc, ◌+◌, ◌*◌, ◌/◌, ◌%◌, ◌<◌, ◌≤◌, ◌^◌, Bool, true, false, cond, eq-eqb, ne_eqb, List, [], ◌∷◌, ◌++◌, length, length-append, map, refl, sym, ap, ◌∙◌, subst, arith, mul-suc, suc-mul}
+use Rattle.std.proofs.Common.{◌≡◌, ℕ, zero, suc, ◌+◌, ◌*◌, ◌%◌, ◌<◌, Bool, true, false, cond, eq-eqb, ne_eqb, [], ◌∷◌, ◌++◌, length, map, refl, sym, ap, ◌∙◌, arith, mul-suc, suc-mul}
 use Rattle.std.specs.Prelude.{◌==◌}
 use Rattle.std.specs.List.{All, filter, range_with_len, sum_by}
 use Rattle.std.proofs.lemmas.List.{length-map, map-append, append-nil}
@@ -9,7 +9,7 @@ use Rattle.std.proofs.lemmas.List.Sums.{sum_by_push}
 use Rattle.abt_callbacks.specs.declared.acts.FutureAct.{FutureAct}
 use Rattle.abt_callbacks.specs.declared.acts.FutureAct.TheVariants.{Set, Read, Reset}
 use Rattle.abt_callbacks.specs.Runs.{numbers_of, plain_sum, sets_of}
-use Rattle.booth_caller.proofs.Calling.{in_class, same_sums, sum_below, sum_by-of_map, sum_by-one, sum_of_classes}
+use Rattle.booth_caller.proofs.Calling.{same_sums, sum_below, sum_by-of_map, sum_by-one, sum_of_classes}
 
 -- the number that an act sets
 abbrev pub value_of : FutureAct → ℕ

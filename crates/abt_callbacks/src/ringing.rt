@@ -1,6 +1,6 @@
 //! Setting the keys of a ring, and ending it.
 
-ghost use Rattle.std.specs.Prelude.{◌≡◌, ◌<◌, ◌≤◌, ◌+◌, IfOk, [], Some, None, length, replicate, slice_set, vec_capacity, vec_len};
+ghost use Rattle.std.specs.Prelude.{◌≡◌, ◌<◌, ◌≤◌, IfOk, [], Some, None, length, replicate, slice_set, vec_capacity};
 ghost use Rattle.abt_callbacks.specs.Ending.{Answers};
 ghost use Rattle.abt_callbacks.specs.Rings.{answers_of, same_of, sames_of, values_of};
 

@@ -1,4 +1,4 @@
-use Rattle.std.proofs.Common.{rules, arith, ◌≡◌, ◌<◌, ℕ, [], length, map, ap, sym, subst, ◌∙◌}
+use Rattle.std.proofs.Common.{rules, arith, ◌≡◌, ◌<◌, [], length, map, ap, sym, subst, ◌∙◌}
 use Rattle.std.specs.List.{All}
 use Rattle.abt_booth.specs.Seats.{opening_of, seats_of, known_of, seen_of, AreAllSeatsOf}
 use Rattle.abt_booth.proofs.Seats.{all_seats, written_back}

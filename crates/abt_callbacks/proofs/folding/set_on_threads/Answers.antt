@@ -6,9 +6,8 @@ use Rattle.abt_callbacks.specs.declared.acts.FutureAct.{FutureAct}
 use Rattle.abt_callbacks.specs.declared.acts.FutureAnswer.{FutureAnswer}
 use Rattle.abt_callbacks.specs.declared.future.CalledFuture.{CalledFuture}
 use Rattle.abt_callbacks.specs.Runs.{sets_of}
-use denote.Param.Send.{IsSend, sendable}
+use denote.Param.Send.{sendable}
 use Rattle.abt_booth.proofs.Crosses.{booth_crosses}
-use Rattle.abt_callbacks.specs.contracts.future.CalledFuture as CalledFuture
 use Rattle.abt_callbacks.proofs.Crosses.{CalledFuture-send}
 use Rattle.abt_callbacks.proofs.folding.set_on_threads.Goals as goal
 

@@ -1,4 +1,3 @@
-use Rattle.std.proofs.Common.{sym, ◌∙◌}
 use Rattle.abt_callbacks.proofs.Answered.{answered}
 use Rattle.abt_callbacks.proofs.program.abtfold.Goals as goal
 

@@ -1,4 +1,4 @@
-use Rattle.std.proofs.Common.{◌≡◌, ◌<◌, ◌+◌, List, [], ◌∷◌, ◌++◌, ℕ, get_or, length, length-append, take, false, true, Bool, None, Some, Option, arith, rules, subst, sym, ◌∙◌, ap}
+use Rattle.std.proofs.Common.{◌≡◌, ◌<◌, ◌+◌, List, [], ◌∷◌, ◌++◌, ℕ, get_or, length, length-append, take, false, arith, rules, subst, sym, ◌∙◌, ap}
 use Rattle.std.proofs.lemmas.List.{get_or-map, length-map}
 use Rattle.abt_callbacks.specs.Ending.{Answers}
 use Rattle.abt_callbacks.specs.Rings.{same_of}

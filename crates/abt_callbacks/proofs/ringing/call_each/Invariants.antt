@@ -1,4 +1,4 @@
-use Rattle.std.proofs.Common.{◌≡◌, ◌≤◌, length, take, vec_capacity}
+use Rattle.std.proofs.Common.{◌≤◌, length, take, vec_capacity}
 use Rattle.abt_callbacks.specs.Ending.{Answers}
 use Rattle.abt_callbacks.specs.Rings.{same_of}
 use Rattle.abt_callbacks.proofs.ringing.call_each.Given as goal
