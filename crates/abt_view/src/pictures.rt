@@ -4,7 +4,6 @@ ghost use Rattle.std.specs.Prelude.{◌≡◌, ◌*◌, ◌++◌, ◌<◌, ◌�
 ghost use Rattle.std.specs.List.{range_with_len};
 ghost use Rattle.abt_view.specs.Kinds.{last_stamp};
 ghost use Rattle.abt_view.specs.Picture.{axis_text, bar_place, bar_shape, bar_text, bar_title, counts_text, frame_place, frame_shape, frame_text, head_text, is_small, lane_text, legend_text, line_text, lines_text, margin_of, mark_text, picture_text, point_text, sent_text, size_text, svg_text, taken_text, tick_text};
-ghost use Rattle.abt_view.specs.Stretches.{all_stretches as stretches_of_all, streams_in};
 
 use crate::arrows::{Arrow, Spot, all_arrows};
 use crate::frames::{Frame, all_frames};
