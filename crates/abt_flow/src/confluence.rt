@@ -1,6 +1,6 @@
 //! Whether a workload is confluent.
 
-ghost use Rattle.std.specs.Prelude.{◌+◌, ◌<◌, ◌≡◌, ◌↔◌, IfOk, IsTrue, MatchBool, None, Some, length, ℕ};
+ghost use Rattle.std.specs.Prelude.{◌<◌, ◌≡◌, ◌↔◌, IfOk, IsTrue, MatchBool, None, Some, length, ℕ};
 ghost use Rattle.abt_machine.specs.Operations.{IsDeclared};
 ghost use Rattle.abt_machine.specs.Workloads.{access_of, start_of};
 ghost use Rattle.abt_flow.specs.Checks.{IsPlainAt, IsPlainOp, IsPlainUnit};

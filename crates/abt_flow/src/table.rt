@@ -1,6 +1,6 @@
 //! The programs of all units, run on as values of eventuals are found.
 
-ghost use Rattle.std.specs.Prelude.{Contains, ℕ, ◌+◌, ◌<◌, ◌≡◌, ◌≤◌, IfOk, MatchBool, MatchOption, Some, length};
+ghost use Rattle.std.specs.Prelude.{Contains, ℕ, ◌+◌, ◌<◌, ◌≡◌, IfOk, MatchBool, MatchOption, Some};
 ghost use Rattle.abt_machine.specs.Numbers.{unit_no};
 ghost use Rattle.abt_machine.specs.declared.numbers.UnitNo.{UnitNo};
 ghost use Rattle.abt_machine.specs.declared.operations.Op.TheVariants as op;
