@@ -3,22 +3,22 @@ use Rattle.std.proofs.Common.{◌≡◌, ℕ, List, [], ◌∷◌, ◌++◌, con
 use Rattle.std.proofs.lemmas.List.{append_assoc, append-nil}
 use Rattle.std.proofs.lemmas.List.Elements.{filter-append}
 use Rattle.std.specs.Prelude.{◌==◌}
-use Rattle.abt_booth.specs.declared.history.Entry.{Entry}
-use Rattle.abt_booth.specs.History.{calls_of}
+use Rattle.abt_interleave.specs.declared.entries.Entry.{Entry}
+use Rattle.abt_interleave.specs.Histories.{calls_of}
 use Rattle.abt_booth.specs.Calls.{IsAnswered, IsWorn, GrowsBy}
 
 module _ {O A R : Type 0} (does : O → A → R → O → Type 0) (opening : O) (number : ℕ) (before after : List (Entry A R)) (at : ℕ) (act : A) where
   -- the seat's calls are those before it, and this one
   pub calls_answered : (stamp : ℕ) (answer : R) → IsAnswered does opening number before after at act stamp answer
-      → calls_of number after ≡ calls_of number before ++ record { seat = number; stamp = stamp; act = act; answer = answer } ∷ []
+      → calls_of number after ≡ calls_of number before ++ record { stamp = stamp; caller = number; act = act; answer = answer } ∷ []
   calls_answered stamp answer a =
-      let e : Entry A R = record { seat = number; stamp = stamp; act = act; answer = answer } in
-      ap (calls_of number) a.entered ∙ (filter-append (λ (x : Entry A R). x.seat == number) a.met (e ∷ []) ∙ ((λ i. a.extends.1 i ++ cond (eq-eqb number number refl i) (e ∷ []) [])))
+      let e : Entry A R = record { stamp = stamp; caller = number; act = act; answer = answer } in
+      ap (calls_of number) a.entered ∙ (filter-append (λ (x : Entry A R). x.caller == number) a.met (e ∷ []) ∙ ((λ i. a.extends.1 i ++ cond (eq-eqb number number refl i) (e ∷ []) [])))
 
   -- an answered call adds itself
-  pub grows_answered : (stamp : ℕ) (answer : R) → IsAnswered does opening number before after at act stamp answer → GrowsBy number before after (record { seat = number; stamp = stamp; act = act; answer = answer } ∷ [])
+  pub grows_answered : (stamp : ℕ) (answer : R) → IsAnswered does opening number before after at act stamp answer → GrowsBy number before after (record { stamp = stamp; caller = number; act = act; answer = answer } ∷ [])
   grows_answered stamp answer a =
-      let e : Entry A R = record { seat = number; stamp = stamp; act = act; answer = answer } in
+      let e : Entry A R = record { stamp = stamp; caller = number; act = act; answer = answer } in
       let p = a.extends.0 in record {
         prefix = (p.0 ++ e ∷ [], sym (append_assoc before p.0 (e ∷ [])) ∙ (ap (λ (l : List (Entry A R)). l ++ e ∷ []) p.1 ∙ sym a.entered));
         calls = calls_answered stamp answer a;

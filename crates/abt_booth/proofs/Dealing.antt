@@ -6,12 +6,12 @@ use mathlib.Core.Option.{some}
 use lib.ListN.{get_elem?}
 use Rattle.atomic_table.specs.Table.{opening, Splits}
 use Rattle.atomic_table.proofs.Lists.{at_set, set_else, at_longer}
-use Rattle.abt_booth.specs.declared.history.Entry.{Entry}
+use Rattle.abt_interleave.specs.declared.entries.Entry.{Entry}
+use Rattle.abt_interleave.specs.Histories.{Extends}
 use Rattle.abt_booth.specs.declared.rule.View.{View}
 use Rattle.abt_booth.specs.declared.rule.Lot.{Lot}
-use Rattle.abt_booth.specs.History.{Extends}
 use Rattle.abt_booth.specs.Rule.{Has, Fits, Free, Held, Kept, keeper, dealt, left}
-use Rattle.abt_booth.proofs.Histories.{extends_self}
+use Rattle.abt_interleave.proofs.Prefixes.{extends-self}
 use Rattle.abt_booth.proofs.Places.{at_end, alone, nowhere, same_place}
 use Rattle.abt_booth.proofs.Keeps.{each_after, unique_after}
 
@@ -44,8 +44,8 @@ module _ {O A R : Type 0} (does : O → A → R → O → Type 0) (o : O) (n : �
         log = [];
         rises = tt;
         capped = omega arith;
-        known = All-nil (λ e. e.seat < n);
-        fits = λ j v e. subst (Fits o n []) (at_keeper j v e) (λ k l h. let t = has_keeper o n k l h in (refl, t.0, subst (λ (x : List (Entry A R)). Extends k x []) (sym t.1) (extends_self k [])));
+        known = All-nil (λ e. e.caller < n);
+        fits = λ j v e. subst (Fits o n []) (at_keeper j v e) (λ k l h. let t = has_keeper o n k l h in (refl, t.0, subst (λ (x : List (Entry A R)). Extends k x []) (sym t.1) (extends-self k [])));
         unique = λ j j' v v' k l l' e e' _ _. (alone (keeper o n) v j e).0 ∙ sym (alone (keeper o n) v' j' e').0;
         turn = inl (lot, refl, refl, sym is, zero_is, λ j v e. ap (λ (y : View O A R). y.holds) (sym (at_keeper j v e)));
       }

@@ -9,7 +9,7 @@ use Rattle.atomic_table.specs.Table.{Joins, Final, Seen}
 use Rattle.atomic_table.proofs.Lists.{at_set, set_else, at_index}
 use Rattle.abt_booth.specs.declared.object.Object.{Ghosts}
 use Rattle.abt_booth.specs.declared.booth.Seat.{Seat}
-use Rattle.abt_booth.specs.declared.history.Entry.{Entry}
+use Rattle.abt_interleave.specs.declared.entries.Entry.{Entry}
 use Rattle.abt_booth.specs.declared.rule.View.{View}
 use Rattle.abt_booth.specs.declared.rule.Lot.{Lot}
 use Rattle.abt_booth.specs.Rule.{Slot, Has, Free, Held, Kept, gathered, spent, all_known}
@@ -107,7 +107,7 @@ module _ {O A R : Type 0} (does : O → A → R → O → Type 0) (o : O) (n : �
         f.4 0 (Some t.0) (ap (λ (hs : List (Maybe (Slot O A R))). get_elem? hs 0) t.2),
         record {
           history = r.log;
-          legal = (t.3, r.rises);
+          legal = (r.rises, t.3);
           last = t.4;
           capped = subst (λ (z : ℕ). z ≤ 2 ^ 62) (sym t.4) r.capped;
           of_seats = r.known;

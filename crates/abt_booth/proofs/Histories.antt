@@ -1,36 +1,32 @@
 -- Laws of histories.
 use Rattle.std.proofs.Common.{◌≡◌, ℕ, ◌+◌, ◌<◌, ◌≤◌, List, [], ◌∷◌, ◌++◌, length, cond, eqb, ne_eqb, refl, sym, ap, ◌∙◌, subst, arith}
-use Rattle.std.proofs.lemmas.List.{append_assoc, append-nil}
-use Rattle.abt_booth.specs.declared.history.Entry.{Entry}
-use Rattle.abt_booth.specs.History.{calls_of, last_from, Rises, Extends, Leads}
+use Rattle.std.proofs.lemmas.List.{append_assoc}
+use Rattle.abt_interleave.specs.declared.entries.Entry.{Entry}
+use Rattle.abt_interleave.specs.Histories.{calls_of, last_from, RisesAbove, Extends, Leads, entry_stamps}
 
 module _ {A R : Type 0} where
   -- one more call, at a greater stamp
-  pub rises_more : (s : ℕ) (h : List (Entry A R)) (e : Entry A R) → Rises s h → last_from s h < e.stamp → Rises s (h ++ e ∷ [])
+  pub rises_more : (s : ℕ) (h : List (Entry A R)) (e : Entry A R) → RisesAbove s (entry_stamps h) → last_from s (entry_stamps h) < e.stamp → RisesAbove s (entry_stamps (h ++ e ∷ []))
   rises_more s [] e r l = (l, tt)
   rises_more s (x ∷ xs) e r l = (r.0, rises_more x.stamp xs e r.1 l)
 
   -- the last stamp is that of the last call
-  pub last_more : (s : ℕ) (h : List (Entry A R)) (e : Entry A R) → last_from s (h ++ e ∷ []) ≡ e.stamp
+  pub last_more : (s : ℕ) (h : List (Entry A R)) (e : Entry A R) → last_from s (entry_stamps (h ++ e ∷ [])) ≡ e.stamp
   last_more s [] e = refl
   last_more s (x ∷ xs) e = last_more x.stamp xs e
 
   -- there are at most as many calls as the last stamp says
-  pub length_below : (s : ℕ) (h : List (Entry A R)) → Rises s h → s + length h ≤ last_from s h
+  pub length_below : (s : ℕ) (h : List (Entry A R)) → RisesAbove s (entry_stamps h) → s + length h ≤ last_from s (entry_stamps h)
   length_below s [] r = omega arith
   length_below s (x ∷ xs) r = let l = length_below x.stamp xs r.1 in let m = r.0 in omega arith
 
   -- a call of another seat is no call of this one
-  pub calls_more : (k : ℕ) (h : List (Entry A R)) (e : Entry A R) → ¬ (e.seat ≡ k) → calls_of k (h ++ e ∷ []) ≡ calls_of k h
-  calls_more k [] e ne = ap (λ b. cond b (e ∷ []) []) (ne_eqb e.seat k ne)
-  calls_more k (x ∷ xs) e ne = ap (λ (r : List (Entry A R)). cond (eqb x.seat k) (x ∷ r) r) (calls_more k xs e ne)
-
-  -- a history extends itself
-  pub extends_self : (k : ℕ) (h : List (Entry A R)) → Extends k h h
-  extends_self k h = (([], append-nil h), refl)
+  pub calls_more : (k : ℕ) (h : List (Entry A R)) (e : Entry A R) → ¬ (e.caller ≡ k) → calls_of k (h ++ e ∷ []) ≡ calls_of k h
+  calls_more k [] e ne = ap (λ b. cond b (e ∷ []) []) (ne_eqb e.caller k ne)
+  calls_more k (x ∷ xs) e ne = ap (λ (r : List (Entry A R)). cond (eqb x.caller k) (x ∷ r) r) (calls_more k xs e ne)
 
   -- a call of another seat extends what this one had seen
-  pub extends_more : (k : ℕ) (l h : List (Entry A R)) (e : Entry A R) → ¬ (e.seat ≡ k) → Extends k l h → Extends k l (h ++ e ∷ [])
+  pub extends_more : (k : ℕ) (l h : List (Entry A R)) (e : Entry A R) → ¬ (e.caller ≡ k) → Extends k l h → Extends k l (h ++ e ∷ [])
   extends_more k l h e ne x = ((x.0.0 ++ e ∷ [], sym (append_assoc l x.0.0 (e ∷ [])) ∙ ap (λ (y : List (Entry A R)). y ++ e ∷ []) x.0.1), calls_more k h e ne ∙ x.1)
 
 module _ {O A R : Type 0} (does : O → A → R → O → Type 0) where

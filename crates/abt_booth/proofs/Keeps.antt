@@ -11,15 +11,16 @@ use Rattle.atomic_table.specs.Table.{Act, step, keeps, takes, gives, stepped, ca
 use Rattle.atomic_table.proofs.Lists.{at_set, set_again}
 use Rattle.std.proofs.lemmas.Bool.{false_from_ne_true}
 use Rattle.std.specs.declared.snapshot.Snapshot.{Snapshot}
-use Rattle.abt_booth.specs.declared.history.Entry.{Entry}
+use Rattle.abt_interleave.specs.declared.entries.Entry.{Entry}
+use Rattle.abt_interleave.specs.Histories.{last_stamp, Extends, RisesAbove, Leads, entry_stamps}
 use Rattle.abt_booth.specs.declared.rule.View.{View}
 use Rattle.abt_booth.specs.declared.rule.Lot.{Lot}
 use Rattle.std.specs.List.{All}
 use Rattle.std.proofs.lemmas.List.Elements.{All-push}
-use Rattle.abt_booth.specs.History.{last_stamp, Extends, Rises, Leads}
 use Rattle.abt_booth.specs.Rule.{counting, Slot, TableState, SeatState, Has, Fits, Free, Held, Kept, holding, resting, took, called, released, yielded}
 use Rattle.abt_booth.proofs.Places.{index_at}
-use Rattle.abt_booth.proofs.Histories.{rises_more, last_more, extends_self, extends_more, leads_more}
+use Rattle.abt_interleave.proofs.Prefixes.{extends-self}
+use Rattle.abt_booth.proofs.Histories.{rises_more, last_more, extends_more, leads_more}
 
 module _ {O A R : Type 0} where
   abbrev pub At : List (View O A R) → ℕ → View O A R → Type 0
@@ -57,7 +58,7 @@ module _ {O A R : Type 0} where
 
   fits_seen : (o : O) (n : ℕ) (log : List (Entry A R)) (v : View O A R) (b : Bool) → Fits o n log v → Fits o n log record { opening = v.opening; number = v.number; next = v.next; seen = log; holds = b; taken = v.taken }
   fits_seen o n log v b f k l h = ⊎_elim
-      (λ (t : (v.number ≤ k) × (k < v.next) × (l ≡ log)). let g = f k v.seen (inl (t.0, t.1, refl)) in (g.0, g.1, subst (λ (x : List (Entry A R)). Extends k x log) (sym t.2) (extends_self k log)))
+      (λ (t : (v.number ≤ k) × (k < v.next) × (l ≡ log)). let g = f k v.seen (inl (t.0, t.1, refl)) in (g.0, g.1, subst (λ (x : List (Entry A R)). Extends k x log) (sym t.2) (extends-self k log)))
       (λ (t : (i : ℕ) × (get_elem? v.taken i ≡ some (k, l))). f k l (inr t)) h
 
 put_there : {X : Type 0} (l : List X) (i : ℕ) (a b : X) → get_elem? l i ≡ some a → get_elem? (set l i b) i ≡ some b
@@ -133,12 +134,12 @@ module _ {O A R : Type 0} (does : O → A → R → O → Type 0) (o : O) (n : �
       (λ (c : (j ≢ id) × (get_elem? vs j ≡ some u)). false_from_ne_true u.holds (λ h. c.0 (only j u c.1 h ∙ sym (only id v at hv)))) (at_set vs id j w u e)
 
   releases_held : (slots : ℕ) (s : TableState O A R) (r : Rule s) (id : ℕ) (v : View O A R) (m ob : O) (clock : ℕ) (x : Snapshot A × Snapshot R) (new : ℕ)
-      → v.holds ≡ true → v.number < v.next → v.taken ≡ [] → Leads does o v.seen m → does m x.0.value x.1.value ob → last_stamp v.seen < clock → clock ≤ 2 ^ 62 → new ≡ 2 * length v.seen + 2 → get_elem? s.views id ≡ some v
+      → v.holds ≡ true → v.number < v.next → v.taken ≡ [] → Leads does o v.seen m → does m x.0.value x.1.value ob → last_stamp (entry_stamps v.seen) < clock → clock ≤ 2 ^ 62 → new ≡ 2 * length v.seen + 2 → get_elem? s.views id ≡ some v
       → Held r.log s
       → let lot : Lot O A R = record { object = ob; clock = clock; last = Some x } in Rule (stepped s counting new id ((0, Some lot) ∷ []) (resting v (v.seen ++ called v.number ((0, Some lot) ∷ []))) gives)
   releases_held slots s r id v m ob clock x new hv lt tk leads done later cap is at t =
       let lot : Lot O A R = record { object = ob; clock = clock; last = Some x } in
-      let e : Entry A R = record { seat = v.number; stamp = clock; act = x.0.value; answer = x.1.value } in
+      let e : Entry A R = record { stamp = clock; caller = v.number; act = x.0.value; answer = x.1.value } in
       let more : List (Entry A R) = v.seen ++ e ∷ [] in
       let only = t.7 in
       let sl : v.seen ≡ r.log = (only id v at hv).1 in
@@ -146,12 +147,12 @@ module _ {O A R : Type 0} (does : O → A → R → O → Type 0) (o : O) (n : �
       let w = resting v more in
       let size : new ≡ 2 * length more = omega (arith, length-append v.seen (e ∷ [])) in record {
         log = more;
-        rises = rises_more 0 v.seen e (subst (Rises 0) (sym sl) r.rises) later;
+        rises = rises_more 0 v.seen e (subst (λ (l : List (Entry A R)). RisesAbove 0 (entry_stamps l)) (sym sl) r.rises) later;
         capped = subst (λ (z : ℕ). z ≤ 2 ^ 62) (sym (last_more 0 v.seen e)) cap;
-        known = All-push (λ x. x.seat < n) v.seen e (subst (All (λ x. x.seat < n)) (sym sl) r.known) (own v.seen v lt (old id v at)).1;
+        known = All-push (λ x. x.caller < n) v.seen e (subst (All (λ x. x.caller < n)) (sym sl) r.known) (own v.seen v lt (old id v at)).1;
         fits = each_after (λ _ u. Fits o n v.seen u) (λ _ u. Fits o n more u) s.views id w old
             (λ k l h. ⊎_elim
-            (λ (c : (v.number ≤ k) × (k < v.next) × (l ≡ more)). let g = old id v at k v.seen (inl (c.0, c.1, refl)) in (g.0, g.1, subst (λ (y : List (Entry A R)). Extends k y more) (sym c.2) (extends_self k more)))
+            (λ (c : (v.number ≤ k) × (k < v.next) × (l ≡ more)). let g = old id v at k v.seen (inl (c.0, c.1, refl)) in (g.0, g.1, subst (λ (y : List (Entry A R)). Extends k y more) (sym c.2) (extends-self k more)))
             (λ (c : (i : ℕ) × (get_elem? v.taken i ≡ some (k, l))). absurd (some-ne-none (k, l) (sym c.1 ∙ ap (λ (z : List (ℕ × List (Entry A R))). get_elem? z c.0) tk))) h)
             (λ j u other a f k l h. let g = f k l h in (
               g.0,
@@ -170,7 +171,7 @@ module _ {O A R : Type 0} (does : O → A → R → O → Type 0) (o : O) (n : �
       }
 
   pub releases : (slots id : ℕ) (v : View O A R) (m ob : O) (clock : ℕ) (x : Snapshot A × Snapshot R) (new : ℕ)
-      → v.holds ≡ true → v.number < v.next → v.taken ≡ [] → Leads does o v.seen m → does m x.0.value x.1.value ob → last_stamp v.seen < clock → clock ≤ 2 ^ 62 → new ≡ 2 * length v.seen + 2
+      → v.holds ≡ true → v.number < v.next → v.taken ≡ [] → Leads does o v.seen m → does m x.0.value x.1.value ob → last_stamp (entry_stamps v.seen) < clock → clock ≤ 2 ^ 62 → new ≡ 2 * length v.seen + 2
       → let lot : Lot O A R = record { object = ob; clock = clock; last = Some x } in let me : SeatState O A R = (v, (0, Some lot) ∷ []) in Allows Rule slots id me counting (λ _. new) (λ _. released (step slots counting new 0 none) me new)
   releases slots id v m ob clock x new hv lt tk leads done later cap is s r sized at small =
       let lot : Lot O A R = record { object = ob; clock = clock; last = Some x } in (
@@ -182,16 +183,16 @@ module _ {O A R : Type 0} (does : O → A → R → O → Type 0) (o : O) (n : �
       )
 
   yields_held : (slots : ℕ) (s : TableState O A R) (r : Rule s) (id : ℕ) (v : View O A R) (lot : Lot O A R) (new : ℕ)
-      → v.holds ≡ true → Leads does o v.seen lot.object → lot.clock ≡ last_stamp v.seen → new ≡ 2 * length v.seen → get_elem? s.views id ≡ some v
+      → v.holds ≡ true → Leads does o v.seen lot.object → lot.clock ≡ last_stamp (entry_stamps v.seen) → new ≡ 2 * length v.seen → get_elem? s.views id ≡ some v
       → Held r.log s → Rule (stepped s counting new id ((0, Some lot) ∷ []) (resting v v.seen) gives)
   yields_held slots s r id v lot new hv leads clock is at t =
       let only = t.7 in
       let sl : v.seen ≡ r.log = (only id v at hv).1 in
       let w = resting v v.seen in record {
         log = v.seen;
-        rises = subst (Rises 0) (sym sl) r.rises;
-        capped = subst (λ (l : List (Entry A R)). last_stamp l ≤ 2 ^ 62) (sym sl) r.capped;
-        known = subst (All (λ e. e.seat < n)) (sym sl) r.known;
+        rises = subst (λ (l : List (Entry A R)). RisesAbove 0 (entry_stamps l)) (sym sl) r.rises;
+        capped = subst (λ (l : List (Entry A R)). last_stamp (entry_stamps l) ≤ 2 ^ 62) (sym sl) r.capped;
+        known = subst (All (λ e. e.caller < n)) (sym sl) r.known;
         fits = subst (λ (l : List (Entry A R)). (j : ℕ) (u : View O A R) → get_elem? (set s.views id w) j ≡ some u → Fits o n l u) (sym sl)
             (each_after (λ _ u. Fits o n r.log u) (λ _ u. Fits o n r.log u) s.views id w r.fits (r.fits id v at) (λ j u _ _ g. g));
         unique = unique_after s.views id v w at (narrows_seen v false v.seen) r.unique;
@@ -206,7 +207,7 @@ module _ {O A R : Type 0} (does : O → A → R → O → Type 0) (o : O) (n : �
       }
 
   pub yields : (slots id : ℕ) (v : View O A R) (lot : Lot O A R) (new : ℕ)
-      → v.holds ≡ true → Leads does o v.seen lot.object → lot.clock ≡ last_stamp v.seen → new ≡ 2 * length v.seen
+      → v.holds ≡ true → Leads does o v.seen lot.object → lot.clock ≡ last_stamp (entry_stamps v.seen) → new ≡ 2 * length v.seen
       → let me : SeatState O A R = (v, (0, Some lot) ∷ []) in Allows Rule slots id me counting (λ _. new) (λ _. yielded (step slots counting new 0 none) me new)
   yields slots id v lot new hv leads clock is s r sized at small = (
     resting v v.seen,

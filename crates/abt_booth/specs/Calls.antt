@@ -2,8 +2,8 @@
 use Rattle.std.specs.Prelude.{◌≡◌, ℕ, suc, ◌<◌, ◌≤◌, ◌^◌, List, [], ◌∷◌, ◌++◌, max}
 use Rattle.std.specs.List.{All}
 use mathlib.Core.List.{IsPrefix}
-use Rattle.abt_booth.specs.declared.history.Entry.{Entry}
-use Rattle.abt_booth.specs.History.{calls_of, last_stamp, Extends, Legal}
+use Rattle.abt_interleave.specs.declared.entries.Entry.{Entry}
+use Rattle.abt_interleave.specs.Histories.{calls_of, last_stamp, Extends, Legal, entry_stamps}
 
 -- What a seat had seen is a prefix of what it has seen, and to the calls of its number just these were added.
 pub record GrowsBy {A R : Type 0} (number : ℕ) (before after added : List (Entry A R)) : Type 0 where
@@ -17,9 +17,9 @@ module _ {O A R : Type 0} (does : O → A → R → O → Type 0) (opening : O) 
     pub met : List (Entry A R)
     pub left : O
     pub extends : Extends number before met
-    pub entered : after ≡ met ++ record { seat = number; stamp = stamp; act = act; answer = answer } ∷ []
+    pub entered : after ≡ met ++ record { stamp = stamp; caller = number; act = act; answer = answer } ∷ []
     pub legal : Legal does opening after left
-    pub stamped : stamp ≡ suc (max at (last_stamp met))
+    pub stamped : stamp ≡ suc (max at (last_stamp (entry_stamps met)))
     pub capped : stamp ≤ 2 ^ 62
 
   -- The clock was worn: the act comes back, and the seat has seen the history that it met, with no call added.
@@ -28,14 +28,14 @@ module _ {O A R : Type 0} (does : O → A → R → O → Type 0) (opening : O) 
     pub returned : back ≡ act
     pub extends : Extends number before after
     pub legal : Legal does opening after left
-    pub worn : max at (last_stamp after) ≡ 2 ^ 62
+    pub worn : max at (last_stamp (entry_stamps after)) ≡ 2 ^ 62
 
   -- The booth was closed: one legal history leads to the object, its calls are those of the seats, and each seat,
   -- known by its number and what it had seen, had seen a prefix of it with all its own calls.
   pub record IsClosed (seats : ℕ) (known : List (ℕ × List (Entry A R))) (object : O) (clock : ℕ) : Type 0 where
     pub history : List (Entry A R)
     pub legal : Legal does opening history object
-    pub last : clock ≡ last_stamp history
+    pub last : clock ≡ last_stamp (entry_stamps history)
     pub capped : clock ≤ 2 ^ 62
-    pub of_seats : All (λ e. e.seat < seats) history
+    pub of_seats : All (λ e. e.caller < seats) history
     pub seen : All (λ k. Extends k.0 k.1 history) known

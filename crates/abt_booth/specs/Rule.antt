@@ -6,11 +6,11 @@ use Rattle.atomic_table.specs.Table.{State, Me, Step, rest}
 use Rattle.atomic_table.specs.Seated.{TableId}
 use Rattle.atomic_table.specs.declared.shared.Seat.{Seat as Raw}
 use Rattle.std.specs.declared.snapshot.Snapshot.{Snapshot}
-use Rattle.abt_booth.specs.declared.history.Entry.{Entry}
+use Rattle.abt_interleave.specs.declared.entries.Entry.{Entry}
+use Rattle.abt_interleave.specs.Histories.{last_stamp, Extends, RisesAbove, Leads, entry_stamps}
 use Rattle.abt_booth.specs.declared.rule.View.{View}
 use Rattle.abt_booth.specs.declared.rule.Lot.{Lot}
 use Rattle.std.specs.List.{All}
-use Rattle.abt_booth.specs.History.{last_stamp, Extends, Rises, Leads}
 
 -- what the table's slot holds
 abbrev pub Slot : Type 0 → Type 0 → Type 0 → Type 0
@@ -26,7 +26,7 @@ SeatState O A R = Me (Slot O A R) (View O A R)
 
 -- the entry of the call that was made last, by seat n
 abbrev pub entry_at : {A R : Type 0} → ℕ → ℕ → Option (Snapshot A × Snapshot R) → List (Entry A R)
-entry_at n stamp (Some x) = record { seat = n; stamp = stamp; act = x.0.value; answer = x.1.value } ∷ []
+entry_at n stamp (Some x) = record { stamp = stamp; caller = n; act = x.0.value; answer = x.1.value } ∷ []
 entry_at n stamp None = []
 
 -- the word that counts the calls: the words before and after it are never used, so that nothing else is in its cache line
@@ -64,7 +64,7 @@ module _ {O A R : Type 0} where
 
   -- the turn is free: the word is twice the calls made, the slot has the object that the log leads to, and no view holds the turn
   abbrev pub Free : (O → A → R → O → Type 0) → O → List (Entry A R) → TableState O A R → Type 0
-  Free does o log s = (lot : Lot O A R) × Counts s (2 * length log) × (s.homes ≡ m.some (Some lot) ∷ []) × Leads does o log lot.object × (lot.clock ≡ last_stamp log)
+  Free does o log s = (lot : Lot O A R) × Counts s (2 * length log) × (s.homes ≡ m.some (Some lot) ∷ []) × Leads does o log lot.object × (lot.clock ≡ last_stamp (entry_stamps log))
       × ((j : ℕ) (v : View O A R) → get_elem? s.views j ≡ m.some v → v.holds ≡ false)
 
   -- the turn is held: the word is one more, the slot is out, and one live view holds the turn, which has seen the log
@@ -75,9 +75,9 @@ module _ {O A R : Type 0} where
   -- The rule. The log is the one history: its stamps rise from above 0 to at most 2^62, each call is of a number below n, and no number is with two views.
   pub record Kept (does : O → A → R → O → Type 0) (o : O) (n : ℕ) (s : TableState O A R) : Type 0 where
     pub log : List (Entry A R)
-    pub rises : Rises 0 log
-    pub capped : last_stamp log ≤ 2 ^ 62
-    pub known : All (λ e. e.seat < n) log
+    pub rises : RisesAbove 0 (entry_stamps log)
+    pub capped : last_stamp (entry_stamps log) ≤ 2 ^ 62
+    pub known : All (λ e. e.caller < n) log
     pub fits : (j : ℕ) (v : View O A R) → get_elem? s.views j ≡ m.some v → Fits o n log v
     pub unique : (j j' : ℕ) (v v' : View O A R) (k : ℕ) (l l' : List (Entry A R)) → get_elem? s.views j ≡ m.some v → get_elem? s.views j' ≡ m.some v' → Has v k l → Has v' k l' → j ≡ j'
     pub turn : Free does o log s ⊎ Held log s
@@ -94,7 +94,7 @@ module _ {O A R : Type 0} where
   abbrev pub Takes : (O → A → R → O → Type 0) → SeatState O A R → ℕ → SeatState O A R → Type 0
   Takes does m r m' = (o : O) × (log : List (Entry A R)) × (lot : Lot O A R)
       × (m.0.opening ≡ Some o) × (m' ≡ (holding m.0 log, (0, Some lot) ∷ m.1))
-      × Leads does o log lot.object × Rises 0 log × (lot.clock ≡ last_stamp log) × (r ≡ 2 * length log) × (last_stamp log ≤ 2 ^ 62)
+      × Leads does o log lot.object × RisesAbove 0 (entry_stamps log) × (lot.clock ≡ last_stamp (entry_stamps log)) × (r ≡ 2 * length log) × (last_stamp (entry_stamps log) ≤ 2 ^ 62)
       × Extends m.0.number m.0.seen log
 
   -- it took the turn, or found another number

@@ -1,7 +1,7 @@
 -- What callers see of a booth and its seats.
 use Rattle.std.specs.Prelude.{◌≡◌, ℕ, ◌<◌, List, [], ◌∷◌, length, map, slice_index_or}
 use Rattle.std.specs.List.{All, Any}
-use Rattle.abt_booth.specs.declared.history.Entry.{Entry}
+use Rattle.abt_interleave.specs.declared.entries.Entry.{Entry}
 use Rattle.abt_booth.specs.declared.object.Object.{Ghosts}
 use Rattle.abt_booth.specs.declared.booth.Booth.{Booth}
 use Rattle.abt_booth.specs.declared.booth.Seat.{Seat}
@@ -30,7 +30,7 @@ module _ {O A R : Type 0} where
 
   -- the calls that a call adds to those of its seat: itself if it was answered, and none if the clock is worn
   abbrev pub added_by : ℕ → A → Called O A R → List (Entry A R)
-  added_by number act (called.Done stamp answer) = record { seat = number; stamp = stamp; act = act; answer = answer } ∷ []
+  added_by number act (called.Done stamp answer) = record { stamp = stamp; caller = number; act = act; answer = answer } ∷ []
   added_by number act (called.Worn back) = []
 
 module _ {O A R : Type 0} {g : Ghosts O A R} where

@@ -1,6 +1,6 @@
 //! The call: waiting for the turn, running the object, and giving the turn back.
 ghost use Rattle.std.specs.Prelude.{length, ◌≡◌, ◌+◌, ◌*◌, ◌<◌, ◌≤◌, ◌^◌, [], ◌∷◌, ◌++◌, false, true, None, Some};
-ghost use Rattle.abt_booth.specs.History.{last_stamp, Extends, Rises, Leads};
+ghost use Rattle.abt_interleave.specs.Histories.{last_stamp, Extends, RisesAbove, Leads, entry_stamps};
 ghost use Rattle.abt_booth.specs.Calls.{GrowsBy};
 ghost use Rattle.abt_booth.specs.Rule.{Takes, IsOf, holding, resting};
 ghost use Rattle.abt_booth.specs.Seats.{opening_of, number_of, seen_of, IsSeatOf, Replies, added_by};
@@ -99,8 +99,8 @@ impl<O: Object> Booth<O> {
         ensures same { (seat.new.table_id ≡ seat.old.table_id) × (seat.new.id ≡ seat.old.id) }
         ensures view { seat.new.me ≡ (holding seat.old.me.0 seat.new.me.0.seen, (0, None) ∷ []) }
         ensures object { Leads O.does (opening_of self.now) seat.new.me.0.seen result.1.object }
-        ensures rises { Rises 0 seat.new.me.0.seen }
-        ensures clock { (result.1.clock ≡ last_stamp seat.new.me.0.seen) × (result.1.clock ≤ 2 ^ 62) }
+        ensures rises { RisesAbove 0 (entry_stamps seat.new.me.0.seen) }
+        ensures clock { (result.1.clock ≡ last_stamp (entry_stamps seat.new.me.0.seen)) × (result.1.clock ≤ 2 ^ 62) }
         ensures free { result.0 ≡ 2 * length seat.new.me.0.seen }
         ensures met { Extends seat.old.me.0.number seat.old.me.0.seen seat.new.me.0.seen }
     {
@@ -115,7 +115,7 @@ impl<O: Object> Booth<O> {
         requires seat { IsOf self.now.table.shared.table_id (opening_of self.now) seat.old }
         requires turn { (seat.old.me.1 ≡ (0, None) ∷ []) × (seat.old.me.0.holds ≡ true) }
         requires object { Leads O.does (opening_of self.now) seat.old.me.0.seen lot.object }
-        requires clock { lot.clock ≡ last_stamp seat.old.me.0.seen }
+        requires clock { lot.clock ≡ last_stamp (entry_stamps seat.old.me.0.seen) }
         requires free { free ≡ 2 * length seat.old.me.0.seen }
         ensures same { (seat.new.table_id ≡ seat.old.table_id) × (seat.new.id ≡ seat.old.id) }
         ensures view { seat.new.me ≡ (resting seat.old.me.0 seat.old.me.0.seen, []) }
@@ -137,10 +137,10 @@ impl<O: Object> Booth<O> {
         requires seat { IsOf self.now.table.shared.table_id (opening_of self.now) seat.old }
         requires turn { (seat.old.me.1 ≡ (0, None) ∷ []) × (seat.old.me.0.holds ≡ true) × (seat.old.me.0.number < seat.old.me.0.next) × (seat.old.me.0.taken ≡ []) }
         requires done { (m : _) × Leads O.does (opening_of self.now) seat.old.me.0.seen m × O.does m act.value answer.value object }
-        requires stamp { (last_stamp seat.old.me.0.seen < stamp) × (stamp ≤ 2 ^ 62) }
+        requires stamp { (last_stamp (entry_stamps seat.old.me.0.seen) < stamp) × (stamp ≤ 2 ^ 62) }
         requires free { (free ≡ 2 * length seat.old.me.0.seen) × (free + 2 < 2 ^ 64) }
         ensures same { (seat.new.table_id ≡ seat.old.table_id) × (seat.new.id ≡ seat.old.id) }
-        ensures view { seat.new.me ≡ (resting seat.old.me.0 (seat.old.me.0.seen ++ record { seat = seat.old.me.0.number; stamp = stamp; act = act.value; answer = answer.value } ∷ []), []) }
+        ensures view { seat.new.me ≡ (resting seat.old.me.0 (seat.old.me.0.seen ++ record { stamp = stamp; caller = seat.old.me.0.number; act = act.value; answer = answer.value } ∷ []), []) }
     {
         let lot = Lot {
             object,

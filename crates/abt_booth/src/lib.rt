@@ -5,7 +5,6 @@
 mod booth;
 mod calls;
 mod close;
-mod history;
 mod make;
 mod object;
 mod plays;
@@ -13,5 +12,4 @@ mod rule;
 
 pub use booth::{Booth, Called, Closed, Gathered, Seat};
 pub use calls::LAST_STAMP;
-pub use history::Entry;
 pub use object::Object;

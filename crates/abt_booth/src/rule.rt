@@ -1,7 +1,7 @@
 //! What the table under a booth keeps, and what its seats know.
 
-use crate::history::Entry;
 use crate::object::Object;
+use abt_interleave::Entry;
 use atomic_table::TableRule;
 use std::collections::LinkedList;
 use std::marker::PhantomData;

@@ -5,8 +5,8 @@ use Rattle.std.proofs.Math.Nat.{mul-le-mul}
 use Rattle.std.proofs.lemmas.List.{append_assoc}
 use Rattle.std.proofs.lemmas.List.Elements.{All-head, All-map, All-tail}
 use Rattle.std.proofs.lemmas.List.Sums.{sum-map, sum_by-cons}
-use Rattle.abt_booth.specs.declared.history.Entry.{Entry}
-use Rattle.abt_booth.specs.History.{calls_of, Leads}
+use Rattle.abt_interleave.specs.declared.entries.Entry.{Entry}
+use Rattle.abt_interleave.specs.Histories.{calls_of, Leads}
 use Rattle.abt_booth.specs.Calls.{IsClosed}
 use Rattle.booth_caller.specs.Calling.{HasAsked}
 use Rattle.booth_caller.proofs.Calling.{acts_hold, all_of_classes, calls_count, weighed, wholly_asked}
@@ -91,15 +91,15 @@ module _ (workers n : ℕ) (some : 0 < workers) (numbers : (1 ≤ n) × (n ≤ 4
       let few = numbers.1 in
       let all = wholly_asked workers acts h closed.of_seats asked (omega arith) in
       let count = calls_count workers acts h closed.of_seats asked all in
-      let all_sets : All (λ (e : E). IsSet e.act) h = all_of_classes (λ (e : E). e.seat) (λ e. IsSet e.act) workers h closed.of_seats
+      let all_sets : All (λ (e : E). IsSet e.act) h = all_of_classes (λ (e : E). e.caller) (λ e. IsSet e.act) workers h closed.of_seats
       (λ k lt. let b = (asked k lt).begun in acts_hold IsSet (calls_of k h) b.0 (subst (All IsSet) (sym b.1) (All-map IsSet Set (numbers_of workers n k) (λ _ _ _. tt)))) in
-      let leads : Leads Does (empty Sum n) h (see object) = subst (λ o. Leads Does o h (see object)) is (leads_seen see Does opening h object closed.legal.0) in
+      let leads : Leads Does (empty Sum n) h (see object) = subst (λ o. Leads Does o h (see object)) is (leads_seen see Does opening h object closed.legal.1) in
       let least = numbers.0 in
       let f = sets_fold (empty Sum n) h (see object) leads all_sets (omega arith) (omega arith) in
       let sums : sum_by (λ (e : E). value_of e.act) h ≡ plain_sum n = weighed workers acts h closed.of_seats asked value_of all ∙ values_sum workers n some in
       let answer : f.0 ≡ plain_sum n = f.2 ∙ (ap (λ s. s % 2 ^ 64) (sum-map (λ (e : E). value_of e.act) h ∙ sums) ∙ small_sum n few) in record {
         history = h;
-        legal = (leads, closed.legal.1);
+        legal = (closed.legal.0, leads);
         last = closed.last;
         of_workers = closed.of_seats;
         sets = all;

@@ -1,8 +1,8 @@
 -- What a future is left with, when workers have set numbers on it.
 use Rattle.std.specs.Prelude.{◌≡◌, ℕ, ◌+◌, ◌*◌, ◌/◌, ◌%◌, ◌<◌, ◌==◌, Bool, true, false, List, map, Some}
 use Rattle.std.specs.List.{All, count_by, filter, range_with_len}
-use Rattle.abt_booth.specs.declared.history.Entry.{Entry}
-use Rattle.abt_booth.specs.History.{last_stamp, Legal}
+use Rattle.abt_interleave.specs.declared.entries.Entry.{Entry}
+use Rattle.abt_interleave.specs.Histories.{last_stamp, Legal, entry_stamps}
 use Rattle.booth_caller.specs.Calling.{acts_of}
 use Rattle.abt_callbacks.specs.declared.fold.FoldShape.TheVariants.{Sum}
 use Rattle.abt_callbacks.specs.declared.acts.FutureAct.{FutureAct}
@@ -35,8 +35,8 @@ plain_sum n = n * (n + 1) / 2
 pub record IsFolded (workers n : ℕ) (future : Future) (clock : ℕ) : Type 0 where
   pub history : List (Entry FutureAct FutureAnswer)
   pub legal : Legal Does (empty Sum n) history future
-  pub last : clock ≡ last_stamp history
-  pub of_workers : All (λ e. e.seat < workers) history
+  pub last : clock ≡ last_stamp (entry_stamps history)
+  pub of_workers : All (λ e. e.caller < workers) history
   pub sets : (worker : ℕ) → worker < workers → acts_of worker history ≡ sets_of workers n worker
   pub once : count_by (λ e. is_ready e.answer) history ≡ 1
   pub kept : future.answer ≡ Some (plain_sum n)

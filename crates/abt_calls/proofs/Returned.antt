@@ -7,7 +7,7 @@ use Rattle.abt_machine.specs.Values.{Owned, Object, DeskIs, part_of, object_of}
 use Rattle.abt_machine.specs.Acts.{Act, End, Suspend}
 use Rattle.abt_machine.specs.Desks.{takes_back}
 use Rattle.abt_machine.specs.Turns.{Heard}
-use Rattle.abt_interleave.specs.Deeds.{Leads, Legal}
+use Rattle.abt_interleave.specs.Histories.{Leads, Legal}
 use Rattle.abt_simulation.specs.Merging.{SiteEntry, machine_of}
 use Rattle.abt_simulation.proofs.Merged.{deeds-of, is-simulated, tells-sites}
 use Rattle.abt_calls.specs.OwnDesks.{BringsBack, IsTakenBack, TakesBack}

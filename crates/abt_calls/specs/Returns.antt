@@ -11,7 +11,7 @@ use Rattle.abt_machine.specs.Sound.{Sound}
 use Rattle.abt_machine.specs.Values.{Held, Object, part_of, object_of}
 use Rattle.abt_machine.specs.Acts.{Act, Answer}
 use Rattle.abt_machine.specs.Gives.{SiteGives}
-use Rattle.abt_interleave.specs.Deeds.{Legal}
+use Rattle.abt_interleave.specs.Histories.{Legal}
 use Rattle.abt_interleave.specs.Machines.{Gathered}
 use Rattle.abt_simulation.specs.Merging.{StreamDeed, SiteEntry, IsJournalOf, machine_of}
 use Rattle.abt_calls.specs.OwnDesks.{IsTakenBack}

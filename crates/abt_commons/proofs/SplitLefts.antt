@@ -10,8 +10,8 @@ use Rattle.abt_machine.specs.Start.{start}
 use Rattle.abt_machine.specs.Values.{Object, object_of}
 use Rattle.abt_machine.specs.Acts as asked
 use Rattle.abt_booth.specs.declared.booth.Booth.{Booth}
-use Rattle.abt_booth.specs.declared.history.Entry.{Entry}
-use Rattle.abt_booth.specs.History.{Leads}
+use Rattle.abt_interleave.specs.declared.entries.Entry.{Entry}
+use Rattle.abt_interleave.specs.Histories.{Leads}
 use Rattle.abt_booth.specs.Calls.{IsClosed}
 use Rattle.abt_booth.specs.Seats.{opening_of}
 use Rattle.abt_interleave.specs.Lines.{LockLeft}
@@ -110,7 +110,7 @@ module _ (split : SplitValue) (passes : List SplitPass) (are : AreBooths split.w
   still-ours i d lt =
       let a = at i lt in
       subst (λ (one : OneValue). one.workload ≡ W) (sym (get_or_from_slice_get objects i a.object d a.object_at))
-      (leads-keep Does (λ (one : OneValue). one.workload) (λ o e r p does. does.workload) (opening_of a.booth) a.object a.closes.closed.history a.closes.closed.legal.0 ∙ of-workload i a lt)
+      (leads-keep Does (λ (one : OneValue). one.workload) (λ o e r p does. does.workload) (opening_of a.booth) a.object a.closes.closed.history a.closes.closed.legal.1 ∙ of-workload i a lt)
 
   capped : All (λ clock. clock ≤ 2 ^ 62) clocks
   capped i d lt =
@@ -145,7 +145,7 @@ module _ (split : SplitValue) (passes : List SplitPass) (are : AreBooths split.w
   allowed-by x act (Some i) is may =
       let a = at i (within x i is) in
       let before : Allows (opening_of a.booth).object act = subst (λ o. Allows o act) (begins x i a is) (are.whole.allowed x act may) in
-      subst (λ o. Allows o act) (sym (ends x i a is)) (leads-allow act (opening_of a.booth) a.object a.closes.closed.history a.closes.closed.legal.0 before)
+      subst (λ o. Allows o act) (sym (ends x i a is)) (leads-allow act (opening_of a.booth) a.object a.closes.closed.history a.closes.closed.legal.1 before)
 
   pub still-whole : IsWhole held
   still-whole = record {

@@ -9,8 +9,8 @@ use Rattle.std.proofs.lemmas.Option.{slice_get-map, slice_get_cases, get_or_from
 use Rattle.abt_machine.specs.declared.workload.Parts.{Parts}
 use Rattle.abt_machine.specs.Values.{NotHere}
 use Rattle.abt_booth.specs.declared.booth.Booth.{Booth}
-use Rattle.abt_booth.specs.declared.history.Entry.{Entry}
-use Rattle.abt_booth.specs.History.{Extends, Leads, calls_of, last_stamp}
+use Rattle.abt_interleave.specs.declared.entries.Entry.{Entry}
+use Rattle.abt_interleave.specs.Histories.{Extends, Leads, calls_of, last_stamp, entry_stamps}
 use Rattle.abt_booth.specs.Seats.{opening_of, seen_of}
 use Rattle.abt_interleave.proofs.Members.{from-among}
 use Rattle.abt_commons.specs.declared.acts.Act.{Act}
@@ -25,13 +25,13 @@ use Rattle.abt_commons.specs.Closing.{AllEnded, HasEnded, HaveEnded, knew, knew_
 use Rattle.abt_commons.proofs.Dealing.{dealt-passes}
 
 -- a history with no call of any seat is empty
-no-call : (n : ℕ) (history : List (Entry Act Answer)) → All (λ e. e.seat < n) history → ((k : ℕ) → k < n → calls_of k history ≡ []) → history ≡ []
+no-call : (n : ℕ) (history : List (Entry Act Answer)) → All (λ e. e.caller < n) history → ((k : ℕ) → k < n → calls_of k history ≡ []) → history ≡ []
 no-call n [] below none = refl
 no-call n (e ∷ es) below none =
-    let lt : e.seat < n = All-head (λ (f : Entry Act Answer). f.seat < n) e es below in
-    let here : calls_of e.seat (e ∷ es) ≡ e ∷ calls_of e.seat es = cond-true (e.seat == e.seat) (e ∷ calls_of e.seat es) (calls_of e.seat es) (eq-eqb e.seat e.seat refl) in
-    let same : e ∷ calls_of e.seat es ≡ [] = sym here ∙ none e.seat lt in
-    absurd (let m : length (e ∷ calls_of e.seat es) ≡ 0 = ap length same in omega (arith, m))
+    let lt : e.caller < n = All-head (λ (f : Entry Act Answer). f.caller < n) e es below in
+    let here : calls_of e.caller (e ∷ es) ≡ e ∷ calls_of e.caller es = cond-true (e.caller == e.caller) (e ∷ calls_of e.caller es) (calls_of e.caller es) (eq-eqb e.caller e.caller refl) in
+    let same : e ∷ calls_of e.caller es ≡ [] = sym here ∙ none e.caller lt in
+    absurd (let m : length (e ∷ calls_of e.caller es) ≡ 0 = ap length same in omega (arith, m))
 
 module _ (passes : List SplitPass) (fresh : All HasSeenNothing passes) where
   nothing-by : (i : ℕ) (p : SplitPass) → HasSeenNothing p → knew_by i (Some p) ≡ []
@@ -53,8 +53,8 @@ module _ (passes : List SplitPass) (fresh : All HasSeenNothing passes) where
       (let extends = All-contains (λ (known : ℕ × List (Entry Act Answer)). Extends known.0 known.1 closed.history) ended.known (k, knew passes i k) closed.seen (from-among ended.known (k, knew passes i k) (ended.there k lt)) in
       extends.1 ∙ ap (calls_of k) (nothing-known i k lt)) in
       let empty : closed.history ≡ [] = no-call (length passes) closed.history closed.of_seats none in
-      let leads : Leads Does (opening_of booth) [] object = subst (λ h. Leads Does (opening_of booth) h object) empty closed.legal.0 in
-      let last : ended.last ≡ 0 = closed.last ∙ ap last_stamp empty in
+      let leads : Leads Does (opening_of booth) [] object = subst (λ h. Leads Does (opening_of booth) h object) empty closed.legal.1 in
+      let last : ended.last ≡ 0 = closed.last ∙ ap (λ (h : List (Entry Act Answer)). last_stamp (entry_stamps h)) empty in
       (sym leads, (let raised = ended.raised in omega (arith, raised, last)))
 
 module _ (booths : List (Booth OneValue Act Answer)) (passes : List SplitPass) (carried : List ℕ) (objects : List OneValue) (clocks : List ℕ) (ended : HaveEnded booths passes carried 0 objects clocks) (fresh : All HasSeenNothing passes)

@@ -1,7 +1,7 @@
 -- How locks are closed, from the last to the first.
 use Rattle.std.specs.Prelude.{ℕ, ◌≡◌, ◌+◌, ◌<◌, ◌≤◌, ◌⊎◌, max, List, [], ◌++◌, length, reverse, slice_get, slice_index_or, Option, None, Some}
 use Rattle.abt_booth.specs.declared.booth.Booth.{Booth}
-use Rattle.abt_booth.specs.declared.history.Entry.{Entry}
+use Rattle.abt_interleave.specs.declared.entries.Entry.{Entry}
 use Rattle.abt_booth.specs.Calls.{IsClosed}
 use Rattle.abt_booth.specs.Seats.{opening_of}
 use Rattle.abt_interleave.proofs.Members.{Among}

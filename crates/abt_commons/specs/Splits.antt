@@ -6,7 +6,7 @@ use Rattle.abt_machine.specs.declared.workload.Parts.{Parts}
 use Rattle.abt_machine.specs.Acts as asked
 use Rattle.abt_booth.specs.declared.booth.Booth.{Booth}
 use Rattle.abt_booth.specs.declared.booth.Seat.{Seat}
-use Rattle.abt_booth.specs.declared.history.Entry.{Entry}
+use Rattle.abt_interleave.specs.declared.entries.Entry.{Entry}
 use Rattle.abt_booth.specs.declared.object.Object.{Ghosts}
 use Rattle.abt_booth.specs.Seats.{IsSeatOf, number_of, opening_of, seats_of, seen_of}
 use Rattle.abt_simulation.specs.Merging.{machine_of}

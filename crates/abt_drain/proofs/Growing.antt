@@ -11,7 +11,8 @@ use Rattle.abt_machine.specs.Outcomes.{steps_in}
 use Rattle.abt_machine.specs.Start.{start}
 use Rattle.abt_machine.specs.Turns.{Heard}
 use Rattle.abt_machine.specs.Values.{part_of, object_of}
-use Rattle.abt_interleave.specs.Deeds.{last_from, last_stamp, deed_stamps, entry_stamps}
+use Rattle.abt_interleave.specs.Histories.{last_from, last_stamp, entry_stamps}
+use Rattle.abt_interleave.specs.Deeds.{deed_stamps}
 use Rattle.abt_interleave.specs.Laws.{LogGrows, HistoryGrows}
 use Rattle.abt_interleave.specs.Ticking.{IsNext}
 use Rattle.abt_interleave.proofs.Grown.{gathered-grows}
@@ -30,7 +31,7 @@ last-push stamp n (y ∷ ys) x = last-push stamp (stamp y) ys x
 
 -- the entry that a deed leaves in a history
 abbrev entry_by : StreamDeed → Heard → SiteEntry
-entry_by d h = record { stamp = d.stamp; stream = d.stream; act = h.1; answer = h.2 }
+entry_by d h = record { stamp = d.stamp; caller = d.stream; act = h.1; answer = h.2 }
 
 -- histories with what a deed heard
 abbrev longer_by : (Site → List SiteEntry) → StreamDeed → Option Heard → Site → List SiteEntry

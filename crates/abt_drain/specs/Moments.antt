@@ -12,7 +12,8 @@ use Rattle.abt_machine.specs.Runs.{Run, last_state}
 use Rattle.abt_machine.specs.Start.{start}
 use Rattle.abt_machine.specs.Turns.{Heard, Steps}
 use Rattle.abt_machine.specs.Values.{Held, Object, part_of, object_of}
-use Rattle.abt_interleave.specs.Deeds.{Answered, last_stamp, deed_stamps, entry_stamps}
+use Rattle.abt_interleave.specs.Histories.{last_stamp, entry_stamps}
+use Rattle.abt_interleave.specs.Deeds.{Answered, deed_stamps}
 use Rattle.abt_interleave.specs.Machines.{Gathered}
 use Rattle.abt_interleave.specs.Stamps.{AllTimed, LeavesNoGap}
 use Rattle.abt_outcomes.specs.Values.{StandFor, HaveMade}

@@ -5,7 +5,8 @@ use mathlib.Core.List.{IsPrefix}
 use Rattle.std.proofs.lemmas.Bool.{cases_lt, cases_Bool, cond_both, cond-true}
 use Rattle.std.proofs.lemmas.List.{append_assoc}
 use Rattle.std.proofs.lemmas.List.Elements.{All-contains, Contains-append_left, Contains-append_right, Contains-append_cases}
-use Rattle.abt_interleave.specs.Deeds.{Heard, RisesAbove, last_from, last_stamp, entry_stamps}
+use Rattle.abt_interleave.specs.Histories.{RisesAbove, last_from, last_stamp, entry_stamps}
+use Rattle.abt_interleave.specs.Deeds.{Heard}
 use Rattle.abt_interleave.specs.Logs.{Matched}
 use Rattle.abt_interleave.specs.Machines.{Machine, DeedOf, EntryOf, TellsPlaces, Gathered}
 use Rattle.abt_interleave.specs.Stamps.{LeavesNoGap, IsTimed, AllTimed}
@@ -190,7 +191,7 @@ module _ (M : Machine) where
       stand-timed clock d None w = w
       stand-timed clock d (Some h) w =
           let x : M.Place = h.0 in
-          let entry : EntryOf M = record { stamp = d.stamp; stream = d.stream; act = h.1; answer = h.2 } in
+          let entry : EntryOf M = record { stamp = d.stamp; caller = d.stream; act = h.1; answer = h.2 } in
           let parted : histories_of M lock lines x ≡ at_place M x w.0 ++ entry ∷ at_place M x w.1 = ap (at_place M x) w.2 ∙ (at-append x w.0 (call_of M d h ∷ w.1) ∙ ap (λ (es : List (EntryOf M)). at_place M x w.0 ++ es) (at-own tells x (call_of M d h) w.1 refl)) in
           let l : max (carried (lock x)) (last_stamp (entry_stamps w.0)) ≡ last_stamp (entry_stamps (histories x ++ at_place M x w.0)) = prefix-last x w.0 (call_of M d h ∷ w.1, sym w.2) in
           let k : d.stamp ≡ suc (max (max clock (carried (lock x))) (last_stamp (entry_stamps w.0))) = w.3 in

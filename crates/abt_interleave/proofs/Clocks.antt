@@ -1,6 +1,7 @@
 -- Lists whose stamps rise, and clocks.
 use Rattle.std.proofs.Common.{◌≡◌, ℕ, suc, ◌<◌, ◌≤◌, ◌⊎◌, inl, inr, List, [], ◌∷◌, map, refl, sym, ap, subst, arith}
-use Rattle.abt_interleave.specs.Deeds.{Deed, RisesAbove, last_from}
+use Rattle.abt_interleave.specs.Histories.{RisesAbove, last_from}
+use Rattle.abt_interleave.specs.Deeds.{Deed}
 use Rattle.abt_interleave.specs.Logs.{IsBefore, InOrder}
 use Rattle.abt_interleave.proofs.Members.{Among}
 use Rattle.abt_interleave.proofs.Orders.{before-among, before-one-way}

@@ -2,7 +2,8 @@
 use Rattle.std.proofs.Common.{◌≡◌, ◌≢◌, ℕ, zero, suc, ◌<◌, ◌≤◌, ◌+◌, ◌==◌, Bool, true, false, [], ◌∷◌, Option, Some, None, refl, sym, ◌∙◌, ap, subst, arith, inl, inr}
 use Rattle.std.specs.Prelude.{Contains}
 use Rattle.std.proofs.lemmas.Bool.{cond-true, cond-false, cond_both, eq-eqb, ne_eqb}
-use Rattle.abt_interleave.specs.Deeds.{Answered, Course, Legal}
+use Rattle.abt_interleave.specs.Histories.{Legal}
+use Rattle.abt_interleave.specs.Deeds.{Answered, Course}
 use Rattle.abt_interleave.specs.Logs.{Leaves, IsBefore, InOrder, IsSorted}
 use Rattle.abt_interleave.specs.Machines.{DeedOf, EntryOf, TellsPlaces, IsSimulated, Gathered}
 use Rattle.abt_interleave.specs.Stamps.{AllTimed}
@@ -47,7 +48,7 @@ left-is : (t s n f : ℕ) (y x : Bool) (e : EntryOf counters) (d : DeedOf counte
 left-is t s n f y x e d i l =
     let k : Leaves (adds t s y n f) x e = subst (λ z. Leaves z x e) i l in
     let h : (y, n, f) ≡ (x, e.act, e.answer) = heard-is (y, n, f) (x, e.act, e.answer) k.2 in
-    (ap (λ (p : Bool × ℕ × ℕ). p.0) h, λ j. record { stamp = sym k.0 j; stream = sym k.1 j; act = ap (λ (p : Bool × ℕ × ℕ). p.1) (sym h) j; answer = ap (λ (p : Bool × ℕ × ℕ). p.2) (sym h) j })
+    (ap (λ (p : Bool × ℕ × ℕ). p.0) h, λ j. record { stamp = sym k.0 j; caller = sym k.1 j; act = ap (λ (p : Bool × ℕ × ℕ). p.1) (sym h) j; answer = ap (λ (p : Bool × ℕ × ℕ). p.2) (sym h) j })
 
 has-entry : (s : ℕ) (d : DeedOf counters) (x : Bool) (e : EntryOf counters) → Among d (logs s) → Leaves d x e → Among e (histories x)
 has-entry zero d x e m l = elim m [
@@ -67,7 +68,7 @@ has-entry (suc zero) d x e m l = elim m [
 has-entry (suc (suc s)) d x e m l = absurd m
 
 abbrev IsLeft : Bool → EntryOf counters → Type 0
-IsLeft x e = (d : DeedOf counters) × Contains (logs e.stream) d × Leaves d x e
+IsLeft x e = (d : DeedOf counters) × Contains (logs e.caller) d × Leaves d x e
 
 has-deed : (x : Bool) (e : EntryOf counters) → Among e (histories x) → IsLeft x e
 has-deed true e m = elim m [

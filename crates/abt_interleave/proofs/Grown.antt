@@ -3,7 +3,8 @@ use Rattle.std.proofs.Common.{◌≡◌, ℕ, ◌<◌, ◌≤◌, List, [], ◌�
 use Rattle.std.specs.Prelude.{Contains}
 use Rattle.std.proofs.lemmas.Bool.{cases_eq}
 use Rattle.std.proofs.lemmas.List.Elements.{Contains-append_left, Contains-append_right, Contains-append_cases, Contains-push, Contains-push_cases}
-use Rattle.abt_interleave.specs.Deeds.{Heard, RisesAbove, last_from, last_stamp, deed_stamps, Does, Course, Leads, Legal, Answered}
+use Rattle.abt_interleave.specs.Histories.{RisesAbove, last_from, last_stamp, Leads, Legal}
+use Rattle.abt_interleave.specs.Deeds.{Heard, deed_stamps, Does, Course, Answered}
 use Rattle.abt_interleave.specs.Logs.{Matched}
 use Rattle.abt_interleave.specs.Machines.{Machine, DeedOf, EntryOf, TellsPlaces}
 use Rattle.abt_interleave.specs.Laws.{CourseGrows, LegalGrows, LogGrows, HistoryGrows, MatchedGrows, IsLate, GatheredGrows, CoursesJoin, HistoriesJoin, MatchedJoin, GatheredJoin}
@@ -38,8 +39,8 @@ module _ (M : Machine) where
       | inr k ↦ Contains-append_right (histories x) (longer x) e (new.has_entry d x e k l)
     ];
     has_deed = λ x e m. elim (Contains-append_cases (histories x) (longer x) e m) [
-      | inl k ↦ (let r = old.has_deed x e k in (r.0, Contains-append_left (logs e.stream) (more e.stream) r.0 r.1, r.2))
-      | inr k ↦ (let r = new.has_deed x e k in (r.0, Contains-append_right (logs e.stream) (more e.stream) r.0 r.1, r.2))
+      | inl k ↦ (let r = old.has_deed x e k in (r.0, Contains-append_left (logs e.caller) (more e.caller) r.0 r.1, r.2))
+      | inr k ↦ (let r = new.has_deed x e k in (r.0, Contains-append_right (logs e.caller) (more e.caller) r.0 r.1, r.2))
     ];
   }
 
@@ -70,8 +71,8 @@ module _ (M : Machine) where
 
     pub record HistoryKeeps (heard : Option (Heard M.Place M.Act M.Answer)) : Type 0 where
       pub kept : (x : M.Place) (e : EntryOf M) → Contains (histories x) e → Contains (longer x) e
-      pub new : (x : M.Place) (e : EntryOf M) → d.stamp ≡ e.stamp → d.stream ≡ e.stream → heard ≡ Some (x, e.act, e.answer) → Contains (longer x) e
-      pub which : (x : M.Place) (e : EntryOf M) → Contains (longer x) e → Contains (histories x) e ⊎ ((d.stamp ≡ e.stamp) × (d.stream ≡ e.stream) × (heard ≡ Some (x, e.act, e.answer)))
+      pub new : (x : M.Place) (e : EntryOf M) → d.stamp ≡ e.stamp → d.stream ≡ e.caller → heard ≡ Some (x, e.act, e.answer) → Contains (longer x) e
+      pub which : (x : M.Place) (e : EntryOf M) → Contains (longer x) e → Contains (histories x) e ⊎ ((d.stamp ≡ e.stamp) × (d.stream ≡ e.caller) × (heard ≡ Some (x, e.act, e.answer)))
 
     history-keeps : (heard : Option (Heard M.Place M.Act M.Answer)) → HistoryGrows M histories d heard longer → HistoryKeeps heard
     history-keeps None same = record {
@@ -91,16 +92,16 @@ module _ (M : Machine) where
       which = λ x e m. elim (cases-place M tells h.0 x) [
         | inl q ↦ elim (Contains-push_cases (histories h.0) entry e (subst (λ es. Contains es e) grown.0 (subst (λ y. Contains (longer y) e) (sym q) m))) [
           | inl k ↦ inl (subst (λ y. Contains (histories y) e) q k)
-          | inr i ↦ inr (ap (λ (z : EntryOf M). z.stamp) i, ap (λ (z : EntryOf M). z.stream) i, λ j. Some (q j, (i j).act, (i j).answer))
+          | inr i ↦ inr (ap (λ (z : EntryOf M). z.stamp) i, ap (λ (z : EntryOf M). z.caller) i, λ j. Some (q j, (i j).act, (i j).answer))
         ]
         | inr ne ↦ inl (subst (λ es. Contains es e) (grown.1 x ne) m)
       ];
     } where
       entry : EntryOf M
-      entry = record { stamp = d.stamp; stream = d.stream; act = h.1; answer = h.2 }
+      entry = record { stamp = d.stamp; caller = d.stream; act = h.1; answer = h.2 }
 
-      entry-is : (e : EntryOf M) → d.stamp ≡ e.stamp → d.stream ≡ e.stream → h.1 ≡ e.act → h.2 ≡ e.answer → entry ≡ e
-      entry-is e t s a b = λ i. record { stamp = t i; stream = s i; act = a i; answer = b i }
+      entry-is : (e : EntryOf M) → d.stamp ≡ e.stamp → d.stream ≡ e.caller → h.1 ≡ e.act → h.2 ≡ e.answer → entry ≡ e
+      entry-is e t s a b = λ i. record { stamp = t i; caller = s i; act = a i; answer = b i }
 
       place-in : Heard M.Place M.Act M.Answer → Option (Heard M.Place M.Act M.Answer) → M.Place
       place-in k None = k.0
@@ -123,7 +124,7 @@ module _ (M : Machine) where
             | inr q ↦ keeps.new x e (ap (λ (z : DeedOf M). z.stamp) q ∙ l.0) (ap (λ (z : DeedOf M). z.stream) q ∙ l.1) (ap (λ (z : DeedOf M). z.heard) q ∙ l.2)
           ];
           has_deed = λ x e m. elim (keeps.which x e m) [
-            | inl k ↦ (let r = old.has_deed x e k in (r.0, kept-deed e.stream r.0 r.1, r.2))
+            | inl k ↦ (let r = old.has_deed x e k in (r.0, kept-deed e.caller r.0 r.1, r.2))
             | inr l ↦ (d, subst (λ s. Contains (more s) d) l.1 new-deed, l)
           ];
         }
@@ -140,7 +141,7 @@ module _ (M : Machine) where
   grown-legal tells objects finals results histories longer logs d (Some h) legal late answered grown x = elim (cases-place M tells h.0 x) [
     | inl q ↦ subst (λ y. Legal M.Gives (objects y) (longer y) (results y)) q
         (subst (λ es. Legal M.Gives (objects h.0) es (results h.0)) (sym grown.0)
-        (legal-grows (objects h.0) (finals h.0) (results h.0) (histories h.0) (record { stamp = d.stamp; stream = d.stream; act = h.1; answer = h.2 }) (legal h.0) late.1 answered.0))
+        (legal-grows (objects h.0) (finals h.0) (results h.0) (histories h.0) (record { stamp = d.stamp; caller = d.stream; act = h.1; answer = h.2 }) (legal h.0) late.1 answered.0))
     | inr ne ↦ subst (λ es. Legal M.Gives (objects x) es (results x)) (sym (grown.1 x ne)) (subst (Legal M.Gives (objects x) (histories x)) (sym (answered.1 x ne)) (legal x))
   ]
 

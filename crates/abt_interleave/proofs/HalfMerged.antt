@@ -3,7 +3,7 @@ use Rattle.std.proofs.Common.{◌≡◌, ◌≢◌, ℕ, ◌==◌, List, [], ◌
 use Rattle.std.proofs.lemmas.Bool.{cases_eq}
 use Rattle.std.proofs.lemmas.List.{append_assoc, append-nil}
 use Rattle.std.proofs.lemmas.List.Elements.{All-contains, filter-append}
-use Rattle.abt_interleave.specs.Deeds.{RisesAbove}
+use Rattle.abt_interleave.specs.Histories.{RisesAbove}
 use Rattle.abt_interleave.specs.Logs.{BeforeAll, InOrder}
 use Rattle.abt_interleave.specs.Merges.{Rises, of_stream, IsLogOf, IsMergeOf, IsMerging}
 use Rattle.abt_interleave.specs.MergeLaws.{MergingBegins, MergingGoesOn, MergingEnds}

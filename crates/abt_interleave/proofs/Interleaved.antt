@@ -1,7 +1,8 @@
 -- A list of deeds is a run if what it is to each stream is a course, and what it is to each object a legal history.
 use Rattle.std.proofs.Common.{◌≡◌, ◌≢◌, ℕ, ◌<◌, ◌==◌, if◌then◌else◌, List, [], ◌∷◌, Option, Some, None, refl, sym, subst, inl, inr}
 use Rattle.std.proofs.lemmas.Bool.{cond-true, cond-false, cond_both, cases_eq, eq-eqb, ne_eqb}
-use Rattle.abt_interleave.specs.Deeds.{Heard, Does, Leads, Answered}
+use Rattle.abt_interleave.specs.Histories.{Leads}
+use Rattle.abt_interleave.specs.Deeds.{Heard, Does, Answered}
 use Rattle.abt_interleave.specs.Machines.{Machine, DeedOf, EntryOf, Goes, IsSimulated, TellsPlaces, IsRunTo}
 use Rattle.abt_interleave.proofs.Parts.{of_stream, entry_at, of_place, same-self, not-same}
 
@@ -29,7 +30,7 @@ module _ (M : Machine) (tells : TellsPlaces M) (simulated : IsSimulated M) where
       ((x : M.Place) → Leads M.Gives (M.object_of S x) (entry_at M x t s heard (of_place M x ds)) (finals x)) → FirstAnswer S heard ds finals
   first-answer S t s None ds finals legal = record { new = M.object_of S; answered = λ x. refl; later = legal }
   first-answer S t s (Some h) ds finals legal =
-      let entry : EntryOf M = record { stamp = t; stream = s; act = h.1; answer = h.2 } in
+      let entry : EntryOf M = record { stamp = t; caller = s; act = h.1; answer = h.2 } in
       let own : (m : M.Object) × M.Gives (M.object_of S h.0) h.1 h.2 m × Leads M.Gives m (of_place M h.0 ds) (finals h.0) =
       subst (λ es. Leads M.Gives (M.object_of S h.0) es (finals h.0)) (cond-true (M.same h.0 h.0) (entry ∷ of_place M h.0 ds) (of_place M h.0 ds) (same-self M tells h.0)) (legal h.0) in
       record {

@@ -1,7 +1,8 @@
 -- A sorted list of events is a sorted list of deeds, seen as events.
 use Rattle.std.proofs.Common.{◌≡◌, ℕ, List, [], ◌∷◌, map, refl, sym, ◌∙◌, ap, ap₂, subst, inl, inr}
 use Rattle.std.specs.Prelude.{Contains}
-use Rattle.abt_interleave.specs.Deeds.{RisesAbove, deed_stamps}
+use Rattle.abt_interleave.specs.Histories.{RisesAbove}
+use Rattle.abt_interleave.specs.Deeds.{deed_stamps}
 use Rattle.abt_interleave.specs.Logs.{IsSooner, IsBefore, BeforeAll, InOrder, IsSorted, IsSortedAs}
 use Rattle.abt_interleave.specs.Machines.{Machine, DeedOf}
 use Rattle.abt_interleave.specs.Laws.{EventsLift}

@@ -1,10 +1,11 @@
 -- The counters behind locks meet what the laws of waves suppose, by computation.
 use Rattle.std.proofs.Common.{◌≡◌, ◌≢◌, ℕ, zero, suc, max, ◌<◌, ◌≤◌, inl, inr, Bool, true, false, List, [], ◌∷◌, ◌++◌, refl, sym, ap, subst, arith}
 use Rattle.std.specs.List.{All}
-use Rattle.abt_interleave.specs.Deeds.{Does, Leads, entry_stamps, last_stamp}
+use Rattle.abt_interleave.specs.Histories.{Leads, entry_stamps, last_stamp, Extends}
+use Rattle.abt_interleave.specs.Deeds.{Does}
 use Rattle.abt_interleave.specs.Laws.{at_place}
 use Rattle.abt_interleave.specs.Machines.{EntryOf}
-use Rattle.abt_interleave.specs.Lines.{CallOf, Extends, Walks, LockLeft, WaveLeft}
+use Rattle.abt_interleave.specs.Lines.{CallOf, Walks, LockLeft, WaveLeft}
 use Rattle.abt_interleave.specs.Weaving.{TellsLocks}
 use Rattle.abt_interleave.specs.Carrying.{no_logs, no_histories}
 use Rattle.abt_interleave.specs.Counters.{Adds, CountsUp, counters, entry, zeros, logs, notes, totals}
@@ -28,15 +29,15 @@ walks zero lt = (at-first, (away-first, [], (([], refl), refl), refl, refl), (se
   at-first true = call 1 0 true 5 0 ∷ []
   at-first false = []
 
-  away-first : (l : Bool) → true ≢ l → Extends counters 0 [] (at-first l)
+  away-first : (l : Bool) → true ≢ l → Extends 0 [] (at-first l)
   away-first true ne = absurd (ne refl)
   away-first false ne = (([], refl), refl)
 
-  away-second : (l : Bool) → false ≢ l → Extends counters 0 (at-first l) (seen zero l)
+  away-second : (l : Bool) → false ≢ l → Extends 0 (at-first l) (seen zero l)
   away-second true ne = (([], refl), refl)
   away-second false ne = absurd (ne refl)
 
-  stays : (l : Bool) → Extends counters 0 (seen zero l) (seen zero l)
+  stays : (l : Bool) → Extends 0 (seen zero l) (seen zero l)
   stays true = (([], refl), refl)
   stays false = (([], refl), refl)
 walks (suc zero) lt = (at-first, (away-first, call 1 0 true 5 0 ∷ [], ((call 1 0 true 5 0 ∷ [], refl), refl), refl, refl), (seen (suc zero), (away-second, call 2 0 false 1 0 ∷ [], ((call 2 0 false 1 0 ∷ [], refl), refl), refl, refl), stays)) where
@@ -44,15 +45,15 @@ walks (suc zero) lt = (at-first, (away-first, call 1 0 true 5 0 ∷ [], ((call 1
   at-first true = call 1 0 true 5 0 ∷ call 2 1 true 2 5 ∷ []
   at-first false = []
 
-  away-first : (l : Bool) → true ≢ l → Extends counters 1 [] (at-first l)
+  away-first : (l : Bool) → true ≢ l → Extends 1 [] (at-first l)
   away-first true ne = absurd (ne refl)
   away-first false ne = (([], refl), refl)
 
-  away-second : (l : Bool) → false ≢ l → Extends counters 1 (at-first l) (seen (suc zero) l)
+  away-second : (l : Bool) → false ≢ l → Extends 1 (at-first l) (seen (suc zero) l)
   away-second true ne = (([], refl), refl)
   away-second false ne = absurd (ne refl)
 
-  stays : (l : Bool) → Extends counters 1 (seen (suc zero) l) (seen (suc zero) l)
+  stays : (l : Bool) → Extends 1 (seen (suc zero) l) (seen (suc zero) l)
   stays true = (([], refl), refl)
   stays false = (([], refl), refl)
 walks (suc (suc s)) lt = absurd (omega arith)
@@ -68,10 +69,10 @@ undeclared (suc zero) le = absurd (omega arith)
 undeclared (suc (suc s)) le = refl
 
 -- two calls, of streams 0 and 1
-both-below : (c d : CallOf counters) → c.stream ≡ 0 → d.stream ≡ 1 → All (λ (e : CallOf counters). e.stream < 2) (c ∷ d ∷ [])
-both-below c d p q = all-from-among (λ (e : CallOf counters). e.stream < 2) (c ∷ d ∷ []) (λ e m. elim m [
-  | inl i ↦ (let k : e.stream ≡ c.stream = ap (λ (z : CallOf counters). z.stream) i in omega arith)
-  | inr n ↦ elim n [ inl i ↦ (let k : e.stream ≡ d.stream = ap (λ (z : CallOf counters). z.stream) i in omega arith) | inr o ↦ absurd o ]
+both-below : (c d : CallOf counters) → c.caller ≡ 0 → d.caller ≡ 1 → All (λ (e : CallOf counters). e.caller < 2) (c ∷ d ∷ [])
+both-below c d p q = all-from-among (λ (e : CallOf counters). e.caller < 2) (c ∷ d ∷ []) (λ e m. elim m [
+  | inl i ↦ (let k : e.caller ≡ c.caller = ap (λ (z : CallOf counters). z.caller) i in omega arith)
+  | inr n ↦ elim n [ inl i ↦ (let k : e.caller ≡ d.caller = ap (λ (z : CallOf counters). z.caller) i in omega arith) | inr o ↦ absurd o ]
 ])
 
 left : (x : Bool) → LockLeft counters own_lock x 2 (λ s. seen s x) zeros.count totals (closing x)
@@ -81,7 +82,7 @@ left true = record {
   last = refl;
   leads = λ x e. subst (λ y. Leads CountsUp 0 (at_place counters y (seen 1 true)) (totals y)) (sym e) (5, (refl, refl), (7, (refl, refl), refl));
 } where
-  prefixes : (s : ℕ) → s < 2 → Extends counters s (seen s true) (seen 1 true)
+  prefixes : (s : ℕ) → s < 2 → Extends s (seen s true) (seen 1 true)
   prefixes zero lt = ((call 2 1 true 2 5 ∷ [], refl), refl)
   prefixes (suc zero) lt = (([], refl), refl)
   prefixes (suc (suc s)) lt = absurd (omega arith)
@@ -91,7 +92,7 @@ left false = record {
   last = refl;
   leads = λ x e. subst (λ y. Leads CountsUp 0 (at_place counters y (seen 1 false)) (totals y)) (sym e) (1, (refl, refl), (5, (refl, refl), refl));
 } where
-  prefixes : (s : ℕ) → s < 2 → Extends counters s (seen s false) (seen 1 false)
+  prefixes : (s : ℕ) → s < 2 → Extends s (seen s false) (seen 1 false)
   prefixes zero lt = ((call 3 1 false 4 1 ∷ [], refl), refl)
   prefixes (suc zero) lt = (([], refl), refl)
   prefixes (suc (suc s)) lt = absurd (omega arith)
@@ -122,7 +123,7 @@ walks-one zero lt = (
     λ l. (([], refl), refl),
   ),
 ) where
-  here : (before after : Unit {0} → List (CallOf counters)) (l : Unit {0}) → tt ≢ l → Extends counters 0 (before l) (after l)
+  here : (before after : Unit {0} → List (CallOf counters)) (l : Unit {0}) → tt ≢ l → Extends 0 (before l) (after l)
   here before after l ne = absurd (ne refl)
 walks-one (suc zero) lt = (
   (λ l. call 1 0 true 5 0 ∷ call 2 1 true 2 5 ∷ []),
@@ -133,7 +134,7 @@ walks-one (suc zero) lt = (
     λ l. (([], refl), refl),
   ),
 ) where
-  here : (before after : Unit {0} → List (CallOf counters)) (l : Unit {0}) → tt ≢ l → Extends counters 1 (before l) (after l)
+  here : (before after : Unit {0} → List (CallOf counters)) (l : Unit {0}) → tt ≢ l → Extends 1 (before l) (after l)
   here before after l ne = absurd (ne refl)
 walks-one (suc (suc s)) lt = absurd (omega arith)
 
@@ -154,7 +155,7 @@ left-one = record {
   last = refl;
   leads = λ x e. leads x;
 } where
-  prefixes : (s : ℕ) → s < 2 → Extends counters s (seen_of_one s tt) (seen_of_one 1 tt)
+  prefixes : (s : ℕ) → s < 2 → Extends s (seen_of_one s tt) (seen_of_one 1 tt)
   prefixes zero lt = ((call 4 1 false 4 1 ∷ [], refl), refl)
   prefixes (suc zero) lt = (([], refl), refl)
   prefixes (suc (suc s)) lt = absurd (omega arith)
@@ -163,14 +164,14 @@ left-one = record {
   leads true = (5, (refl, refl), (7, (refl, refl), refl))
   leads false = (1, (refl, refl), (5, (refl, refl), refl))
 
-  below : All (λ (e : CallOf counters). e.stream < 2) (seen_of_one 1 tt)
-  below = all-from-among (λ (e : CallOf counters). e.stream < 2) (seen_of_one 1 tt) (λ e m. elim m [
-    | inl i ↦ (let k : e.stream ≡ 0 = ap (λ (z : CallOf counters). z.stream) i in omega arith)
+  below : All (λ (e : CallOf counters). e.caller < 2) (seen_of_one 1 tt)
+  below = all-from-among (λ (e : CallOf counters). e.caller < 2) (seen_of_one 1 tt) (λ e m. elim m [
+    | inl i ↦ (let k : e.caller ≡ 0 = ap (λ (z : CallOf counters). z.caller) i in omega arith)
     | inr n ↦ elim n [
-      | inl i ↦ (let k : e.stream ≡ 1 = ap (λ (z : CallOf counters). z.stream) i in omega arith)
+      | inl i ↦ (let k : e.caller ≡ 1 = ap (λ (z : CallOf counters). z.caller) i in omega arith)
       | inr o ↦ elim o [
-        | inl i ↦ (let k : e.stream ≡ 0 = ap (λ (z : CallOf counters). z.stream) i in omega arith)
-        | inr q ↦ elim q [ inl i ↦ (let k : e.stream ≡ 1 = ap (λ (z : CallOf counters). z.stream) i in omega arith) | inr r ↦ absurd r ]
+        | inl i ↦ (let k : e.caller ≡ 0 = ap (λ (z : CallOf counters). z.caller) i in omega arith)
+        | inr q ↦ elim q [ inl i ↦ (let k : e.caller ≡ 1 = ap (λ (z : CallOf counters). z.caller) i in omega arith) | inr r ↦ absurd r ]
       ]
     ]
   ])

@@ -1,6 +1,7 @@
 -- Stamps are no greater than the number of deeds.
 use Rattle.std.proofs.Common.{◌≡◌, ℕ, ◌+◌, ◌*◌, ◌<◌, ◌≤◌, ◌^◌, List, [], ◌∷◌, length, ap, arith, inl, inr}
-use Rattle.abt_interleave.specs.Deeds.{RisesAbove, last_stamp, deed_stamps, entry_stamps}
+use Rattle.abt_interleave.specs.Histories.{RisesAbove, last_stamp, entry_stamps}
+use Rattle.abt_interleave.specs.Deeds.{deed_stamps}
 use Rattle.abt_interleave.specs.Machines.{Machine, DeedOf, EntryOf, Gathered}
 use Rattle.abt_interleave.specs.Stamps.{LeavesNoGap, StampedFrom, Stamped}
 use Rattle.abt_interleave.specs.Merges.{IsMergeOf, sum_below}
@@ -73,7 +74,7 @@ module _ (M : Machine) where
           | inr r ↦ (let k : r.0.stamp ≡ last_stamp (entry_stamps (histories x)) = r.2 in
               let f = gathered.matched.has_deed x r.0 (from-among (histories x) r.0 r.1) in
               let q : f.0.stamp ≡ r.0.stamp = f.2.0 in
-              let l : f.0.stamp < 2 ^ 62 = deeds-low r.0.stream f.0 (to-among (logs r.0.stream) f.0 f.1) in
+              let l : f.0.stamp < 2 ^ 62 = deeds-low r.0.caller f.0 (to-among (logs r.0.caller) f.0 f.1) in
               omega arith)
         ];
       }

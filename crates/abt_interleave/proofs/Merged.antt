@@ -1,7 +1,8 @@
 -- The sorted list of all deeds is to each stream its log, and to each object its history: so it is a run.
 use Rattle.std.proofs.Common.{◌≡◌, ℕ, ◌<◌, List, [], ◌∷◌, refl, sym, ◌∙◌, ap, subst, inl, inr}
 use Rattle.std.proofs.lemmas.Bool.{cases_lt}
-use Rattle.abt_interleave.specs.Deeds.{RisesAbove, deed_stamps, Does, Leads}
+use Rattle.abt_interleave.specs.Histories.{RisesAbove, Leads}
+use Rattle.abt_interleave.specs.Deeds.{deed_stamps, Does}
 use Rattle.abt_interleave.specs.Logs.{Leaves, IsBefore, IsSorted}
 use Rattle.abt_interleave.specs.Machines.{Machine, DeedOf, EntryOf, TellsPlaces, Gathered}
 use Rattle.abt_interleave.specs.Laws.{LogsMerge}
@@ -48,7 +49,7 @@ module _ (M : Machine) where
           (λ e m. let r : (d : DeedOf M) × Among d J × Leaves d x e = among-of_place M tells x e J m in
           to-among (histories x) e (gathered.matched.has_entry r.0 x e (sorted.only r.0 (from-among J r.0 r.1)) r.2))
           (λ e m. let r = gathered.matched.has_deed x e (from-among (histories x) e m) in
-          to-of_place M tells x e r.0 J (to-among J r.0 (sorted.all e.stream r.0 r.1)) r.2)
+          to-of_place M tells x e r.0 J (to-among J r.0 (sorted.all e.caller r.0 r.1)) r.2)
 
   all-declared : (ds : List (DeedOf M)) → ((d : DeedOf M) → Among d ds → d.stream < M.streams) → AllDeclared M ds
   all-declared [] h = tt

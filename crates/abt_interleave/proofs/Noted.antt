@@ -3,7 +3,8 @@
 use Rattle.std.proofs.Common.{◌≡◌, Bool, true, false, List, [], ◌∷◌, Option, Some, None, refl, sym, ◌∙◌, ap, subst, inl, inr}
 use Rattle.std.specs.Prelude.{◌&&◌}
 use Rattle.std.proofs.lemmas.Bool.{cases_Bool}
-use Rattle.abt_interleave.specs.Deeds.{Answered, Heard, Leads}
+use Rattle.abt_interleave.specs.Histories.{Leads}
+use Rattle.abt_interleave.specs.Deeds.{Answered, Heard}
 use Rattle.abt_interleave.specs.Machines.{Machine, EntryOf, Goes, IsRunTo, IsSimulated, TellsPlaces}
 use Rattle.abt_interleave.proofs.Merged.{logs-merge}
 use Rattle.abt_interleave.specs.Passing.{CallPasses, EntriesPass, GivesPassing, StepsPass, TestOf}

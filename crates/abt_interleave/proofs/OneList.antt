@@ -4,7 +4,7 @@ use Rattle.std.specs.Prelude.{Contains, if◌then◌else◌}
 use Rattle.std.specs.List.{All}
 use Rattle.std.proofs.lemmas.Bool.{cond-true, cond-false, cond_both, cases_lt, cases_eq, eq-eqb, ne_eqb, eqb-true}
 use Rattle.std.proofs.lemmas.List.Elements.{All-head, All-tail, All-contains}
-use Rattle.abt_interleave.specs.Deeds.{RisesAbove}
+use Rattle.abt_interleave.specs.Histories.{RisesAbove}
 use Rattle.abt_interleave.specs.Logs.{IsSooner, BeforeAll, InOrder}
 use Rattle.abt_interleave.specs.Merges.{Rises, of_stream, IsLogOf, IsByStamp, IsMergeOf}
 use Rattle.abt_interleave.specs.MergeLaws.{MergesExist, MergesAreOne, MembersMakeMerges, MergesHaveMembers}

@@ -1,6 +1,8 @@
 -- Lists in order: two with the same members are one.
 use Rattle.std.proofs.Common.{◌≡◌, ℕ, ◌<◌, ◌≤◌, inl, inr, List, [], ◌∷◌, map, refl, sym, ap, ap₂, ◌∙◌, subst, arith}
-use Rattle.abt_interleave.specs.Deeds.{Deed, Entry, RisesAbove}
+use Rattle.abt_interleave.specs.declared.entries.Entry.{Entry}
+use Rattle.abt_interleave.specs.Histories.{RisesAbove}
+use Rattle.abt_interleave.specs.Deeds.{Deed}
 use Rattle.abt_interleave.specs.Logs.{IsSooner, IsBefore, BeforeAll, InOrder}
 use Rattle.abt_interleave.proofs.Members.{Among}
 
@@ -40,10 +42,10 @@ pub before-one-way : {Place Act Answer What : Type 0} (d e : Deed Place Act Answ
 before-one-way d e = sooner-one-way d.stamp d.stream e.stamp e.stream
 
 abbrev pub IsEntryBefore : {Act Answer : Type 0} → Entry Act Answer → Entry Act Answer → Type 0
-IsEntryBefore e f = IsSooner e.stamp e.stream f.stamp f.stream
+IsEntryBefore e f = IsSooner e.stamp e.caller f.stamp f.caller
 
 pub entry-one-way : {Act Answer : Type 0} (e f : Entry Act Answer) → IsEntryBefore e f → IsEntryBefore f e → ⊥
-entry-one-way e f = sooner-one-way e.stamp e.stream f.stamp f.stream
+entry-one-way e f = sooner-one-way e.stamp e.caller f.stamp f.caller
 
 -- Of anything by a stamp that rises.
 

@@ -15,7 +15,7 @@ module _ (M : Machine) where
   -- the entry that a call leaves at x, before these
   abbrev pub entry_at : M.Place → ℕ → ℕ → Option (Heard M.Place M.Act M.Answer) → List (EntryOf M) → List (EntryOf M)
   entry_at x t s None es = es
-  entry_at x t s (Some h) es = if M.same h.0 x then record { stamp = t; stream = s; act = h.1; answer = h.2 } ∷ es else es
+  entry_at x t s (Some h) es = if M.same h.0 x then record { stamp = t; caller = s; act = h.1; answer = h.2 } ∷ es else es
 
   abbrev pub of_place : M.Place → List (DeedOf M) → List (EntryOf M)
   of_place x [] = []
@@ -63,25 +63,25 @@ module _ (M : Machine) where
       differ e = cc
 
     before-entry : (x : M.Place) (a : EntryOf M) (t s : ℕ) (h : Option (Heard M.Place M.Act M.Answer)) (es : List (EntryOf M)) →
-        ((e : EntryOf M) → e.stamp ≡ t → e.stream ≡ s → IsEntryBefore a e) → BeforeAll IsEntryBefore a es → BeforeAll IsEntryBefore a (entry_at x t s h es)
+        ((e : EntryOf M) → e.stamp ≡ t → e.caller ≡ s → IsEntryBefore a e) → BeforeAll IsEntryBefore a es → BeforeAll IsEntryBefore a (entry_at x t s h es)
     before-entry x a t s None es b h = h
     before-entry x a t s (Some k) es b h =
-        cond_both (M.same k.0 x) (record { stamp = t; stream = s; act = k.1; answer = k.2 } ∷ es) es (BeforeAll IsEntryBefore a)
-        (λ _. (b (record { stamp = t; stream = s; act = k.1; answer = k.2 }) refl refl, h)) (λ _. h)
+        cond_both (M.same k.0 x) (record { stamp = t; caller = s; act = k.1; answer = k.2 } ∷ es) es (BeforeAll IsEntryBefore a)
+        (λ _. (b (record { stamp = t; caller = s; act = k.1; answer = k.2 }) refl refl, h)) (λ _. h)
 
-    before-of_place : (x : M.Place) (a : EntryOf M) (d : DeedOf M) (J : List (DeedOf M)) → a.stamp ≡ d.stamp → a.stream ≡ d.stream → BeforeAll IsBefore d J → BeforeAll IsEntryBefore a (of_place x J)
+    before-of_place : (x : M.Place) (a : EntryOf M) (d : DeedOf M) (J : List (DeedOf M)) → a.stamp ≡ d.stamp → a.caller ≡ d.stream → BeforeAll IsBefore d J → BeforeAll IsEntryBefore a (of_place x J)
     before-of_place x a d [] t s h = tt
     before-of_place x a d (f ∷ fs) t s h =
         before-entry x a f.stamp f.stream f.heard (of_place x fs)
-        (λ e u r. elim h.0 [ inl l ↦ inl (subst (λ n. a.stamp < n) (sym u) (subst (λ n. n < f.stamp) (sym t) l)) | inr p ↦ inr (t ∙ (p.0 ∙ sym u), subst (λ n. a.stream < n) (sym r) (subst (λ n. n < f.stream) (sym s) p.1)) ])
+        (λ e u r. elim h.0 [ inl l ↦ inl (subst (λ n. a.stamp < n) (sym u) (subst (λ n. n < f.stamp) (sym t) l)) | inr p ↦ inr (t ∙ (p.0 ∙ sym u), subst (λ n. a.caller < n) (sym r) (subst (λ n. n < f.stream) (sym s) p.1)) ])
         (before-of_place x a d fs t s h.1)
 
     in-order-entry : (x : M.Place) (t s : ℕ) (h : Option (Heard M.Place M.Act M.Answer)) (es : List (EntryOf M)) →
-        ((e : EntryOf M) → e.stamp ≡ t → e.stream ≡ s → BeforeAll IsEntryBefore e es) → InOrder IsEntryBefore es → InOrder IsEntryBefore (entry_at x t s h es)
+        ((e : EntryOf M) → e.stamp ≡ t → e.caller ≡ s → BeforeAll IsEntryBefore e es) → InOrder IsEntryBefore es → InOrder IsEntryBefore (entry_at x t s h es)
     in-order-entry x t s None es b h = h
     in-order-entry x t s (Some k) es b h =
-        cond_both (M.same k.0 x) (record { stamp = t; stream = s; act = k.1; answer = k.2 } ∷ es) es (InOrder IsEntryBefore)
-        (λ _. (b (record { stamp = t; stream = s; act = k.1; answer = k.2 }) refl refl, h)) (λ _. h)
+        cond_both (M.same k.0 x) (record { stamp = t; caller = s; act = k.1; answer = k.2 } ∷ es) es (InOrder IsEntryBefore)
+        (λ _. (b (record { stamp = t; caller = s; act = k.1; answer = k.2 }) refl refl, h)) (λ _. h)
 
     pub in-order-of_place : (x : M.Place) (J : List (DeedOf M)) → InOrder IsBefore J → InOrder IsEntryBefore (of_place x J)
     in-order-of_place x [] h = tt
@@ -91,11 +91,11 @@ module _ (M : Machine) where
     among-entry : (x : M.Place) (e : EntryOf M) (d : DeedOf M) (h : Option (Heard M.Place M.Act M.Answer)) (es : List (EntryOf M)) → d.heard ≡ h → Among e (entry_at x d.stamp d.stream h es) → Leaves d x e ⊎ Among e es
     among-entry x e d None es q = λ m. inr m
     among-entry x e d (Some k) es q =
-        cond_both (M.same k.0 x) (record { stamp = d.stamp; stream = d.stream; act = k.1; answer = k.2 } ∷ es) es (λ ys. Among e ys → Leaves d x e ⊎ Among e es)
+        cond_both (M.same k.0 x) (record { stamp = d.stamp; caller = d.stream; act = k.1; answer = k.2 } ∷ es) es (λ ys. Among e ys → Leaves d x e ⊎ Among e es)
         (λ p m. elim m [
           | inl i ↦ inl (
             ap (λ (z : EntryOf M). z.stamp) (sym i),
-            ap (λ (z : EntryOf M). z.stream) (sym i),
+            ap (λ (z : EntryOf M). z.caller) (sym i),
             q ∙ (λ j. Some ((tells k.0 x).0 p j, (sym i j).act, (sym i j).answer)),
           )
           | inr n ↦ inr n
@@ -113,9 +113,9 @@ module _ (M : Machine) where
 
     entry-stays : (x : M.Place) (e : EntryOf M) (t s : ℕ) (h : Option (Heard M.Place M.Act M.Answer)) (es : List (EntryOf M)) → Among e es → Among e (entry_at x t s h es)
     entry-stays x e t s None es m = m
-    entry-stays x e t s (Some k) es m = cond_both (M.same k.0 x) (record { stamp = t; stream = s; act = k.1; answer = k.2 } ∷ es) es (Among e) (λ _. inr m) (λ _. m)
+    entry-stays x e t s (Some k) es m = cond_both (M.same k.0 x) (record { stamp = t; caller = s; act = k.1; answer = k.2 } ∷ es) es (Among e) (λ _. inr m) (λ _. m)
 
-    entry-new : (x : M.Place) (e : EntryOf M) (es : List (EntryOf M)) → Among e (entry_at x e.stamp e.stream (Some (x, e.act, e.answer)) es)
+    entry-new : (x : M.Place) (e : EntryOf M) (es : List (EntryOf M)) → Among e (entry_at x e.stamp e.caller (Some (x, e.act, e.answer)) es)
     entry-new x e es = subst (Among e) (sym (cond-true (M.same x x) (e ∷ es) es (same-self x))) (inl refl)
 
     -- a deed's entry is there

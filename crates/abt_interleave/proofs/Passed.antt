@@ -2,7 +2,8 @@
 use Rattle.std.proofs.Common.{◌≡◌, ℕ, List, [], ◌∷◌, ◌++◌, Option, Some, None, refl, sym, subst}
 use Rattle.abt_interleave.specs.Deeds.{Heard, Does}
 use Rattle.abt_interleave.specs.Machines.{Machine, DeedOf}
-use Rattle.abt_interleave.specs.Lines.{CallOf, Extends, Sees, Walks, Gone}
+use Rattle.abt_interleave.specs.Histories.{Extends}
+use Rattle.abt_interleave.specs.Lines.{CallOf, Sees, Walks, Gone}
 use Rattle.abt_interleave.specs.Passes.{MovesOf, Turn, Did, Met, deeds_of, Calls, Turns, clock_after, Shows, TurnsGoOn, TurnsMeet, TurnsAreGone}
 use Rattle.abt_interleave.proofs.Prefixes.{extends-self, extends-then, sees-then}
 
@@ -29,16 +30,16 @@ module _ (M : Machine) {Pass : Type 0} (moves : MovesOf M Pass) (s : ℕ) where
   module _ {Lock : Type 0} (lock : M.Place → Lock) (carried : Lock → ℕ) (own : Pass → Type 0) (seen : Pass → Lock → List (CallOf M)) (shows : Shows M lock carried s own seen moves) where
     -- what one deed's call shows, and that the pass stays the stream's own
     called : (clock : ℕ) (pass new : Pass) (d : DeedOf M) (heard : Option (Heard M.Place M.Act M.Answer)) → own pass → d.stream ≡ s → Calls M moves clock d heard pass new → own new × Sees M lock carried s (seen pass) clock d heard (seen new)
-    called clock pass new d None mine who w = (subst own (sym w.1) mine, (w.0, λ l. subst (λ p. Extends M s (seen pass l) (seen p l)) (sym w.1) (extends-self M s (seen pass l))))
+    called clock pass new d None mine who w = (subst own (sym w.1) mine, (w.0, λ l. subst (λ p. Extends s (seen pass l) (seen p l)) (sym w.1) (extends-self s (seen pass l))))
     called clock pass new d (Some h) mine who w = (shows.stays pass new h.0 clock h.1 (Some (d.stamp, h.2)) mine w, shows.answered pass new h.0 clock h.1 h.2 d mine w who)
 
     -- lines that went on before the walk
-    walks-then : (clock : ℕ) (a b after : Lock → List (CallOf M)) (ds : List (DeedOf M)) → ((l : Lock) → Extends M s (a l) (b l)) → Walks M lock carried s b clock ds after → Walks M lock carried s a clock ds after
-    walks-then clock a b after [] x w = λ l. extends-then M s (a l) (b l) (after l) (x l) (w l)
+    walks-then : (clock : ℕ) (a b after : Lock → List (CallOf M)) (ds : List (DeedOf M)) → ((l : Lock) → Extends s (a l) (b l)) → Walks M lock carried s b clock ds after → Walks M lock carried s a clock ds after
+    walks-then clock a b after [] x w = λ l. extends-then s (a l) (b l) (after l) (x l) (w l)
     walks-then clock a b after (d ∷ ds) x w = (w.0, sees-then M lock carried s a b w.0 clock d d.heard x w.1, w.2)
 
     walk-turns : (clock : ℕ) (part part' : M.Part) (pass pass' : Pass) (ts : List (Turn M)) → own pass → Turns M moves s clock part pass ts part' pass' → Walks M lock carried s (seen pass) clock (deeds_of M ts) (seen pass')
-    walk-turns clock part part' pass pass' [] mine w = λ l. subst (λ p. Extends M s (seen pass l) (seen p l)) w.1 (extends-self M s (seen pass l))
+    walk-turns clock part part' pass pass' [] mine w = λ l. subst (λ p. Extends s (seen pass l) (seen p l)) w.1 (extends-self s (seen pass l))
     walk-turns clock part part' pass pass' (Did d ∷ ts) mine w =
         let c = called clock pass w.2 d d.heard mine w.0 w.4 in
         (seen w.2, c.1, walk-turns d.stamp w.1 part' w.2 pass' ts c.0 w.5)

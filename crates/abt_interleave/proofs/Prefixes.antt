@@ -2,9 +2,11 @@
 use Rattle.std.proofs.Common.{◌≡◌, ℕ, ◌⊎◌, inl, inr, List, [], ◌∷◌, ◌++◌, Option, Some, None, refl, sym, ◌∙◌, ap, subst}
 use mathlib.Core.List.{IsPrefix}
 use Rattle.std.proofs.lemmas.List.{append_assoc, append-nil}
-use Rattle.abt_interleave.specs.Deeds.{Heard, last_from, deed_stamps}
+use Rattle.abt_interleave.specs.declared.entries.Entry.{Entry}
+use Rattle.abt_interleave.specs.Histories.{last_from, Extends}
+use Rattle.abt_interleave.specs.Deeds.{Heard, deed_stamps}
 use Rattle.abt_interleave.specs.Machines.{Machine, DeedOf}
-use Rattle.abt_interleave.specs.Lines.{CallOf, call_of, Extends, Sees, Walks, Stands, AllStand}
+use Rattle.abt_interleave.specs.Lines.{CallOf, call_of, Sees, Walks, Stands, AllStand}
 use Rattle.abt_interleave.specs.Weaving.{TellsLocks, GoneNowhere, GoneFurther, OwnDeedsShow, GoneAlong}
 use Rattle.abt_interleave.proofs.Members.{Among}
 use Rattle.abt_interleave.proofs.Grown.{does-join}
@@ -30,22 +32,23 @@ pub among-left : {A : Type 0} (x : A) (xs ys : List A) → Among x xs → Among 
 among-left x [] ys m = absurd m
 among-left x (z ∷ zs) ys m = elim m [ inl e ↦ inl e | inr n ↦ inr (among-left x zs ys n) ]
 
-module _ (M : Machine) where
-  pub extends-self : (s : ℕ) (line : List (CallOf M)) → Extends M s line line
+module _ {Act Answer : Type 0} where
+  pub extends-self : (s : ℕ) (line : List (Entry Act Answer)) → Extends s line line
   extends-self s line = (prefix-self line, refl)
 
-  pub extends-then : (s : ℕ) (a b c : List (CallOf M)) → Extends M s a b → Extends M s b c → Extends M s a c
+  pub extends-then : (s : ℕ) (a b c : List (Entry Act Answer)) → Extends s a b → Extends s b c → Extends s a c
   extends-then s a b c f g = (prefix-then a b c f.0 g.0, g.1 ∙ f.1)
 
-  -- a call of stream s in the line was seen
-  pub extends-calls : (s : ℕ) (seen line : List (CallOf M)) → Extends M s seen line → (c : CallOf M) → Among c line → c.stream ≡ s → Among c seen
-  extends-calls s seen line x c m own = (among-of (λ (e : CallOf M). e.stamp) (λ (e : CallOf M). e.stream) s c seen (subst (Among c) x.1 (to-of (λ (e : CallOf M). e.stamp) (λ (e : CallOf M). e.stream) s c line m own))).0
+  -- a call of caller s in the line was seen
+  pub extends-calls : (s : ℕ) (seen line : List (Entry Act Answer)) → Extends s seen line → (c : Entry Act Answer) → Among c line → c.caller ≡ s → Among c seen
+  extends-calls s seen line x c m own = (among-of (λ (e : Entry Act Answer). e.stamp) (λ (e : Entry Act Answer). e.caller) s c seen (subst (Among c) x.1 (to-of (λ (e : Entry Act Answer). e.stamp) (λ (e : Entry Act Answer). e.caller) s c line m own))).0
 
+module _ (M : Machine) where
   module _ {Lock : Type 0} (lock : M.Place → Lock) (carried : Lock → ℕ) where
     -- Walks grow.
 
     pub sees-then : (s : ℕ) (a b after : Lock → List (CallOf M)) (clock : ℕ) (d : DeedOf M) (heard : Option (Heard M.Place M.Act M.Answer)) →
-        ((l : Lock) → Extends M s (a l) (b l)) → Sees M lock carried s b clock d heard after → Sees M lock carried s a clock d heard after
+        ((l : Lock) → Extends s (a l) (b l)) → Sees M lock carried s b clock d heard after → Sees M lock carried s a clock d heard after
     sees-then s a b after clock d None x w = (w.0, λ l. extends-then s (a l) (b l) (after l) (x l) (w.1 l))
     sees-then s a b after clock d (Some h) x w =
         (λ l ne. extends-then s (a l) (b l) (after l) (x l) (w.0 l ne), w.1, extends-then s (a (lock h.0)) (b (lock h.0)) w.1 (x (lock h.0)) w.2, w.3, w.4)
@@ -56,7 +59,7 @@ module _ (M : Machine) where
     grow s clock before seen after (e ∷ es) d w x = (w.0, w.1, grow s e.stamp w.0 seen after es d w.2 x)
 
     stay : (s clock : ℕ) (before seen after : Lock → List (CallOf M)) (ds : List (DeedOf M)) →
-        Walks M lock carried s before clock ds seen → ((l : Lock) → Extends M s (seen l) (after l)) → Walks M lock carried s before clock ds after
+        Walks M lock carried s before clock ds seen → ((l : Lock) → Extends s (seen l) (after l)) → Walks M lock carried s before clock ds after
     stay s clock before seen after [] w x = λ l. extends-then s (before l) (seen l) (after l) (w l) (x l)
     stay s clock before seen after (e ∷ es) w x = (w.0, w.1, stay s e.stamp w.0 seen after es w.2 x)
 
@@ -95,7 +98,7 @@ module _ (M : Machine) where
       IsCalled l c d = (h : Heard M.Place M.Act M.Answer) × (d.heard ≡ Some h) × (lock h.0 ≡ l) × (c ≡ call_of M d h)
 
       sees-calls : (s : ℕ) (before after : Lock → List (CallOf M)) (clock : ℕ) (d : DeedOf M) (heard : Option (Heard M.Place M.Act M.Answer)) → d.heard ≡ heard → Sees M lock carried s before clock d heard after →
-          (l : Lock) (c : CallOf M) → Among c (after l) → c.stream ≡ s → Among c (before l) ⊎ IsCalled l c d
+          (l : Lock) (c : CallOf M) → Among c (after l) → c.caller ≡ s → Among c (before l) ⊎ IsCalled l c d
       sees-calls s before after clock d None q w l c m own = inl (extends-calls s (before l) (after l) (w.1 l) c m own)
       sees-calls s before after clock d (Some h) q w l c m own = elim (tells (lock h.0) l) [
         | inl e ↦ elim (among-push c (call_of M d h) w.1 (subst (Among c) w.3 (subst (λ k. Among c (after k)) (sym e) m))) [
@@ -106,7 +109,7 @@ module _ (M : Machine) where
       ]
 
       pub walks-calls : (s clock : ℕ) (before after : Lock → List (CallOf M)) (ds : List (DeedOf M)) → Walks M lock carried s before clock ds after →
-          (l : Lock) (c : CallOf M) → Among c (after l) → c.stream ≡ s → Among c (before l) ⊎ ((d : DeedOf M) × Among d ds × IsCalled l c d)
+          (l : Lock) (c : CallOf M) → Among c (after l) → c.caller ≡ s → Among c (before l) ⊎ ((d : DeedOf M) × Among d ds × IsCalled l c d)
       walks-calls s clock before after [] w l c m own = inl (extends-calls s (before l) (after l) (w l) c m own)
       walks-calls s clock before after (d ∷ ds) w l c m own = elim (walks-calls s d.stamp w.0 after ds w.2 l c m own) [
         | inl n ↦ elim (sees-calls s before w.0 clock d d.heard refl w.1 l c n own) [ inl k ↦ inl k | inr i ↦ inr (d, inl refl, i) ]
@@ -115,7 +118,7 @@ module _ (M : Machine) where
 
 module _ (M : Machine) (Lock : Type 0) where
   pub gone-nowhere : GoneNowhere M Lock
-  gone-nowhere lock carried s clock p = record { does = refl; walks = λ l. extends-self M s [] }
+  gone-nowhere lock carried s clock p = record { does = refl; walks = λ l. extends-self s [] }
 
   pub gone-further : GoneFurther M Lock
   gone-further lock carried s clock p q r log seen after d gone own step sees = record {
@@ -124,7 +127,7 @@ module _ (M : Machine) (Lock : Type 0) where
   }
 
   pub own-deeds-show : OwnDeedsShow M Lock
-  own-deeds-show lock carried s clock seen d next = (next, λ l. extends-self M s (seen l))
+  own-deeds-show lock carried s clock seen d next = (next, λ l. extends-self s (seen l))
 
   pub gone-along : GoneAlong M Lock
   gone-along lock carried s clock p q log seen after gone more = record { does = gone.does; walks = stay M lock carried s clock (λ l. []) seen after log gone.walks more }

@@ -1,7 +1,8 @@
 -- The sorted list of deeds, and of what they are seen as, is the one list of the logs.
 use Rattle.std.proofs.Common.{◌≡◌, ℕ, ◌<◌, List, [], ◌∷◌, map, refl, sym, ◌∙◌, ap, subst, inl, inr}
 use Rattle.std.specs.Prelude.{Contains}
-use Rattle.abt_interleave.specs.Deeds.{RisesAbove, deed_stamps}
+use Rattle.abt_interleave.specs.Histories.{RisesAbove}
+use Rattle.abt_interleave.specs.Deeds.{deed_stamps}
 use Rattle.abt_interleave.specs.Logs.{IsSooner, IsBefore, BeforeAll, InOrder, IsSorted, IsSortedAs}
 use Rattle.abt_interleave.specs.Machines.{Machine, DeedOf}
 use Rattle.abt_interleave.specs.Merges.{IsLogOf, IsMergeOf}

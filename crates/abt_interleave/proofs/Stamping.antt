@@ -3,7 +3,8 @@ use Rattle.std.proofs.Common.{◌≡◌, ℕ, suc, max, ◌<◌, ◌≤◌, ◌+
 use Rattle.std.specs.Prelude.{Contains}
 use Rattle.std.proofs.lemmas.Bool.{cases_lt}
 use Rattle.std.proofs.lemmas.List.Elements.{Contains-append_left, Contains-push, Contains-push_cases}
-use Rattle.abt_interleave.specs.Deeds.{Heard, last_stamp, entry_stamps}
+use Rattle.abt_interleave.specs.Histories.{last_stamp, entry_stamps}
+use Rattle.abt_interleave.specs.Deeds.{Heard}
 use Rattle.abt_interleave.specs.Logs.{Leaves, IsBefore, BeforeAll, InOrder, IsSorted}
 use Rattle.abt_interleave.specs.Machines.{Machine, DeedOf, EntryOf, Gathered}
 use Rattle.abt_interleave.specs.Stamps.{place_of, Shares, Follows, AllAfter, StampedFrom, Stamped, IsLeast, LamportFrom, Lamport, LeavesNoGap, IsTimed, AllTimed}
@@ -24,7 +25,7 @@ module _ (M : Machine) (parts : ℕ → M.Part) (objects : M.Place → M.Object)
   -- the entry of a deed that called the object at x
   entry-left : (d : DeedOf M) (x : M.Place) (heard : Option (Heard M.Place M.Act M.Answer)) → d.heard ≡ heard → option_map (λ (h : Heard M.Place M.Act M.Answer). h.0) heard ≡ Some x → (e : EntryOf M) × Leaves d x e
   entry-left d x None q p = absurd cc
-  entry-left d x (Some h) q p = (record { stamp = d.stamp; stream = d.stream; act = h.1; answer = h.2 }, (refl, refl, q ∙ (λ i. Some (same-some h.0 x p i, h.1, h.2))))
+  entry-left d x (Some h) q p = (record { stamp = d.stamp; caller = d.stream; act = h.1; answer = h.2 }, (refl, refl, q ∙ (λ i. Some (same-some h.0 x p i, h.1, h.2))))
 
   -- two deeds of one stamp at one object are of one stream
   one-caller : (d e : DeedOf M) (x : M.Place) → Among d J → Among e J → place_of d ≡ Some x → place_of e ≡ Some x → d.stamp ≡ e.stamp → d.stream ≡ e.stream
@@ -35,7 +36,7 @@ module _ (M : Machine) (parts : ℕ → M.Part) (objects : M.Place → M.Object)
       (to-among (histories x) a.0 (gathered.matched.has_entry d x a.0 (sorted.only d (from-among J d dm)) a.1))
       (to-among (histories x) b.0 (gathered.matched.has_entry e x b.0 (sorted.only e (from-among J e em)) b.1))
       (sym a.1.0 ∙ (q ∙ b.1.0)) in
-      a.1.1 ∙ (ap (λ (f : EntryOf M). f.stream) same ∙ sym b.1.1)
+      a.1.1 ∙ (ap (λ (f : EntryOf M). f.caller) same ∙ sym b.1.1)
 
   -- of two deeds that share a stream or an object the first has the lower stamp
   shared-rises : (d e : DeedOf M) → Among d J → Among e J → IsBefore d e → Shares d e → d.stamp < e.stamp

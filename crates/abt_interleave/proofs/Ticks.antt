@@ -4,7 +4,8 @@ use Rattle.std.specs.Prelude.{Contains}
 use Rattle.std.proofs.lemmas.Bool.{cases_eq, cases_lt}
 use Rattle.std.proofs.lemmas.List.{append_assoc, append-nil}
 use Rattle.std.proofs.lemmas.List.Elements.{Contains-append_left, Contains-push_cases}
-use Rattle.abt_interleave.specs.Deeds.{Heard, last_from, last_stamp, deed_stamps, entry_stamps}
+use Rattle.abt_interleave.specs.Histories.{last_from, last_stamp, entry_stamps}
+use Rattle.abt_interleave.specs.Deeds.{Heard, deed_stamps}
 use Rattle.abt_interleave.specs.Machines.{Machine, DeedOf, EntryOf, TellsPlaces, Gathered}
 use Rattle.abt_interleave.specs.Stamps.{LeavesNoGap, IsTimed, AllTimed}
 use Rattle.abt_interleave.specs.Laws.{HistoryGrows, IsLate}
@@ -26,7 +27,7 @@ module _ (M : Machine) where
   timed-kept : (histories longer : M.Place → List (EntryOf M)) → Continues histories longer → (clock : ℕ) (d : DeedOf M) (heard : Option (Heard M.Place M.Act M.Answer)) → IsTimed histories clock d heard → IsTimed longer clock d heard
   timed-kept histories longer more clock d None t = t
   timed-kept histories longer more clock d (Some h) t =
-      let entry : EntryOf M = record { stamp = d.stamp; stream = d.stream; act = h.1; answer = h.2 } in
+      let entry : EntryOf M = record { stamp = d.stamp; caller = d.stream; act = h.1; answer = h.2 } in
       (t.0, t.1 ++ (more h.0).0, (more h.0).1 ∙ (ap (λ (es : List (EntryOf M)). es ++ (more h.0).0) t.2 ∙ append_assoc t.0 (entry ∷ t.1) (more h.0).0), t.3)
 
   pub all-timed-kept : (histories longer : M.Place → List (EntryOf M)) → Continues histories longer → (clock : ℕ) (ds : List (DeedOf M)) → AllTimed histories clock ds → AllTimed longer clock ds
@@ -40,7 +41,7 @@ module _ (M : Machine) where
   grown-continues : TellsPlaces M → (histories longer : M.Place → List (EntryOf M)) (d : DeedOf M) (heard : Option (Heard M.Place M.Act M.Answer)) → HistoryGrows M histories d heard longer → Continues histories longer
   grown-continues tells histories longer d None same x = ([], same x ∙ sym (append-nil (histories x)))
   grown-continues tells histories longer d (Some h) grown x = elim (cases-place M tells h.0 x) [
-    | inl q ↦ (record { stamp = d.stamp; stream = d.stream; act = h.1; answer = h.2 } ∷ [], subst (λ y. longer y ≡ histories y ++ record { stamp = d.stamp; stream = d.stream; act = h.1; answer = h.2 } ∷ []) q grown.0)
+    | inl q ↦ (record { stamp = d.stamp; caller = d.stream; act = h.1; answer = h.2 } ∷ [], subst (λ y. longer y ≡ histories y ++ record { stamp = d.stamp; caller = d.stream; act = h.1; answer = h.2 } ∷ []) q grown.0)
     | inr ne ↦ ([], grown.1 x ne ∙ sym (append-nil (histories x)))
   ]
 

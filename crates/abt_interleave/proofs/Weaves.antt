@@ -4,7 +4,8 @@ use Rattle.std.specs.Prelude.{Contains}
 use Rattle.std.specs.List.{All}
 use Rattle.std.proofs.lemmas.Bool.{cases_lt, cond_both, cond-true}
 use Rattle.std.proofs.lemmas.List.Elements.{All-nil, All-contains}
-use Rattle.abt_interleave.specs.Deeds.{Heard, RisesAbove, last_stamp, deed_stamps, entry_stamps, Does, Leads}
+use Rattle.abt_interleave.specs.Histories.{RisesAbove, last_stamp, entry_stamps, Leads}
+use Rattle.abt_interleave.specs.Deeds.{Heard, deed_stamps, Does}
 use Rattle.abt_interleave.specs.Logs.{Leaves, Matched}
 use Rattle.abt_interleave.specs.Machines.{Machine, DeedOf, EntryOf, TellsPlaces, Gathered}
 use Rattle.abt_interleave.specs.Laws.{at_place}
@@ -23,7 +24,7 @@ rises-above stamp m n (x ∷ xs) r h = (h x (inl refl), r.1)
 module _ (M : Machine) where
   -- the entry that a call in a line is to its object
   abbrev pub entry_in : CallOf M → EntryOf M
-  entry_in c = record { stamp = c.stamp; stream = c.stream; act = c.act.1; answer = c.answer }
+  entry_in c = record { stamp = c.stamp; caller = c.caller; act = c.act.1; answer = c.answer }
 
   pub at-among : (x : M.Place) (e : EntryOf M) (line : List (CallOf M)) → TellsPlaces M → Among e (at_place M x line) → (c : CallOf M) × Among c line × (c.act.0 ≡ x) × (e ≡ entry_in c)
   at-among x e [] tells = λ m. absurd m
@@ -83,10 +84,10 @@ module _ (M : Machine) where
     ]
 
     -- each call in a line is a deed's
-    is-called : (l : Lock) (c : CallOf M) → Among c (lines l) → (d : DeedOf M) × Among d (logs c.stream) × IsCalled M lock carried locks l c d
+    is-called : (l : Lock) (c : CallOf M) → Among c (lines l) → (d : DeedOf M) × Among d (logs c.caller) × IsCalled M lock carried locks l c d
     is-called l c m =
-        let lt : c.stream < M.streams = All-contains (λ (e : CallOf M). e.stream < M.streams) (lines l) c (closed l).of_streams (from-among (lines l) c m) in
-        elim (walks-calls M lock carried locks c.stream (clocks c.stream) (λ k. []) (seen c.stream) (logs c.stream) (walks c.stream lt) l c (extends-calls M c.stream (seen c.stream l) (lines l) ((closed l).seen c.stream lt) c m refl) refl) [
+        let lt : c.caller < M.streams = All-contains (λ (e : CallOf M). e.caller < M.streams) (lines l) c (closed l).of_streams (from-among (lines l) c m) in
+        elim (walks-calls M lock carried locks c.caller (clocks c.caller) (λ k. []) (seen c.caller) (logs c.caller) (walks c.caller lt) l c (extends-calls c.caller (seen c.caller l) (lines l) ((closed l).seen c.caller lt) c m refl) refl) [
           | inl n ↦ absurd n
           | inr r ↦ r
         ]
@@ -97,7 +98,7 @@ module _ (M : Machine) where
     above-carried : (l : Lock) (c : CallOf M) → Among c (lines l) → carried l < c.stamp
     above-carried l c m =
         let r = is-called l c m in
-        let w = each-stands lock carried lines (clocks c.stream) (logs c.stream) (stand c.stream) r.0 r.1 in
+        let w = each-stands lock carried lines (clocks c.caller) (logs c.caller) (stand c.caller) r.0 r.1 in
         subst (λ t. carried l < t) (sym (ap (λ (e : CallOf M). e.stamp) r.2.3)) (subst (λ k. carried k < r.0.stamp) r.2.2 (stand-carried lock carried lines w.0 r.0 r.0.heard r.2.0 r.2.1 w.1))
 
     rise : (l : Lock) → RisesAbove (carried l) (entry_stamps (lines l))
@@ -112,17 +113,17 @@ module _ (M : Machine) where
         let w = each-stands lock carried lines (clocks d.stream) (logs d.stream) (stand d.stream) d m in
         let c : CallOf M = call_of M d (x, e.act, e.answer) in
         let there : Among (entry_in c) (at_place M x (lines (lock x))) = among-at tells c (lines (lock x)) (stand-call lock carried lines w.0 d d.heard (x, e.act, e.answer) l.2 w.1) in
-        subst (λ (z : EntryOf M). Among z (at_place M x (lines (lock x)))) (λ i. record { stamp = l.0 i; stream = l.1 i; act = e.act; answer = e.answer }) there
+        subst (λ (z : EntryOf M). Among z (at_place M x (lines (lock x)))) (λ i. record { stamp = l.0 i; caller = l.1 i; act = e.act; answer = e.answer }) there
 
-    has-deed : (x : M.Place) (e : EntryOf M) → Among e (histories_of M lock lines x) → (d : DeedOf M) × Contains (logs e.stream) d × Leaves d x e
+    has-deed : (x : M.Place) (e : EntryOf M) → Among e (histories_of M lock lines x) → (d : DeedOf M) × Contains (logs e.caller) d × Leaves d x e
     has-deed x e m =
         let r = at-among x e (lines (lock x)) tells m in
         let q = is-called (lock x) r.0 r.1 in (
           q.0,
-          subst (λ t. Contains (logs t) q.0) (sym (ap (λ (z : EntryOf M). z.stream) r.3)) (from-among (logs r.0.stream) q.0 q.1),
+          subst (λ t. Contains (logs t) q.0) (sym (ap (λ (z : EntryOf M). z.caller) r.3)) (from-among (logs r.0.caller) q.0 q.1),
           (
             sym (ap (λ (z : EntryOf M). z.stamp) r.3 ∙ ap (λ (z : CallOf M). z.stamp) q.2.3),
-            sym (ap (λ (z : EntryOf M). z.stream) r.3 ∙ ap (λ (z : CallOf M). z.stream) q.2.3),
+            sym (ap (λ (z : EntryOf M). z.caller) r.3 ∙ ap (λ (z : CallOf M). z.caller) q.2.3),
             q.2.1 ∙ (λ i. Some (
               (sym (ap (λ (z : CallOf M). z.act.0) q.2.3) ∙ r.2) i,
               sym (ap (λ (z : EntryOf M). z.act) r.3 ∙ ap (λ (z : CallOf M). z.act.1) q.2.3) i,
@@ -162,7 +163,7 @@ module _ (M : Machine) (Lock : Type 0) where
   pub idle-locks-leave : IdleLocksLeave M Lock
   idle-locks-leave lock l n objects finals same = record {
     line = [];
-    is_line = record { rises = tt; of_streams = All-nil (λ (c : CallOf M). c.stream < n); seen = λ s lt. extends-self M s [] };
+    is_line = record { rises = tt; of_streams = All-nil (λ (c : CallOf M). c.caller < n); seen = λ s lt. extends-self s [] };
     last = refl;
     leads = same;
   }

@@ -1,6 +1,7 @@
 -- How great stamps become.
 use Rattle.std.specs.Prelude.{ℕ, ◌<◌, ◌≤◌, ◌^◌, List, length, Contains}
-use Rattle.abt_interleave.specs.Deeds.{last_stamp, deed_stamps, entry_stamps}
+use Rattle.abt_interleave.specs.Histories.{last_stamp, entry_stamps}
+use Rattle.abt_interleave.specs.Deeds.{deed_stamps}
 use Rattle.abt_interleave.specs.Machines.{Machine, DeedOf, EntryOf, Gathered}
 use Rattle.abt_interleave.specs.Stamps.{LeavesNoGap, Stamped}
 use Rattle.abt_interleave.specs.Merges.{sum_below}

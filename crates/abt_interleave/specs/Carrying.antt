@@ -1,7 +1,8 @@
 -- The laws of waves one after the other: clocks are carried from each to the next.
 use Rattle.std.specs.Prelude.{ℕ, max, ◌≡◌, ◌<◌, ◌≤◌, ◌^◌, List, [], ◌++◌}
 use mathlib.Core.List.{IsPrefix}
-use Rattle.abt_interleave.specs.Deeds.{last_stamp, deed_stamps, entry_stamps}
+use Rattle.abt_interleave.specs.Histories.{last_stamp, entry_stamps}
+use Rattle.abt_interleave.specs.Deeds.{deed_stamps}
 use Rattle.abt_interleave.specs.Machines.{Machine, DeedOf, EntryOf, TellsPlaces, Gathered}
 use Rattle.abt_interleave.specs.Stamps.{LeavesNoGap, AllTimed}
 use Rattle.abt_interleave.specs.Ticking.{IsClock}

@@ -7,7 +7,7 @@ use Rattle.abt_interleave.specs.Counters.{counters, zeros, adds, logs, notes, to
 
 -- stream s added n to counter x, which was at what it found
 abbrev pub call : ℕ → ℕ → Bool → ℕ → ℕ → CallOf counters
-call stamp stream x n found = record { stamp = stamp; stream = stream; act = (x, n); answer = found }
+call stamp stream x n found = record { stamp = stamp; caller = stream; act = (x, n); answer = found }
 
 -- A lock for each counter. The logs are those of the other example.
 

@@ -63,7 +63,7 @@ adds stamp stream x n found = record { stamp = stamp; stream = stream; what = (x
 
 -- so a counter saw it
 abbrev pub entry : ℕ → ℕ → ℕ → ℕ → EntryOf counters
-entry stamp stream n found = record { stamp = stamp; stream = stream; act = n; answer = found }
+entry stamp stream n found = record { stamp = stamp; caller = stream; act = n; answer = found }
 
 -- both streams add to one counter and then to the other
 

@@ -1,6 +1,8 @@
 -- The laws of merging, of any machine.
 use Rattle.std.specs.Prelude.{ℕ, ◌≡◌, ◌≢◌, ◌<◌, List, [], ◌∷◌, ◌++◌, if◌then◌else◌, Option, Some, None, map, Contains}
-use Rattle.abt_interleave.specs.Deeds.{Heard, Entry, RisesAbove, last_stamp, deed_stamps, entry_stamps, Course, Legal, Answered}
+use Rattle.abt_interleave.specs.declared.entries.Entry.{Entry}
+use Rattle.abt_interleave.specs.Histories.{RisesAbove, last_stamp, entry_stamps, Legal}
+use Rattle.abt_interleave.specs.Deeds.{Heard, deed_stamps, Course, Answered}
 use Rattle.abt_interleave.specs.Logs.{Matched, IsSorted, IsSortedAs}
 use Rattle.abt_interleave.specs.Machines.{Machine, DeedOf, EntryOf, IsSimulated, TellsPlaces, Gathered, IsRunTo}
 use Rattle.abt_interleave.specs.Stamps.{LeavesNoGap, AllTimed, Stamped, Lamport}
@@ -38,7 +40,7 @@ LogGrows M logs d more = (more d.stream ≡ logs d.stream ++ d ∷ []) × ((s : 
 abbrev pub HistoryGrows : (M : Machine) → (M.Place → List (EntryOf M)) → DeedOf M → Option (Heard M.Place M.Act M.Answer) → (M.Place → List (EntryOf M)) → Type 0
 HistoryGrows M histories d None longer = (x : M.Place) → longer x ≡ histories x
 HistoryGrows M histories d (Some h) longer =
-    (longer h.0 ≡ histories h.0 ++ record { stamp = d.stamp; stream = d.stream; act = h.1; answer = h.2 } ∷ [])
+    (longer h.0 ≡ histories h.0 ++ record { stamp = d.stamp; caller = d.stream; act = h.1; answer = h.2 } ∷ [])
     × ((x : M.Place) → h.0 ≢ x → longer x ≡ histories x)
 
 -- logs and histories that fit each other, and a deed with its entry
@@ -91,7 +93,7 @@ GatheredJoin M = (parts ends news : ℕ → M.Part) (objects finals results : M.
 -- the entries of the object at x, in a history whose acts name their place
 abbrev pub at_place : (M : Machine) → M.Place → List (Entry (M.Place × M.Act) M.Answer) → List (EntryOf M)
 at_place M x [] = []
-at_place M x (e ∷ es) = if M.same e.act.0 x then record { stamp = e.stamp; stream = e.stream; act = e.act.1; answer = e.answer } ∷ at_place M x es else at_place M x es
+at_place M x (e ∷ es) = if M.same e.act.0 x then record { stamp = e.stamp; caller = e.caller; act = e.act.1; answer = e.answer } ∷ at_place M x es else at_place M x es
 
 -- all objects as one: the named one answers, and all others stay
 abbrev pub AllGive : (M : Machine) → (M.Place → M.Object) → M.Place × M.Act → M.Answer → (M.Place → M.Object) → Type 0

@@ -3,6 +3,7 @@ pub mod Carrying
 pub mod CounterLocks
 pub mod Counters
 pub mod Deeds
+pub mod Histories
 pub mod Laws
 pub mod Lines
 pub mod Logs

@@ -1,8 +1,9 @@
 -- Objects behind locks. All calls under one lock are one list, its line; each stream sees prefixes of it.
-use Rattle.std.specs.Prelude.{ℕ, suc, max, ◌≡◌, ◌≢◌, ◌<◌, ◌==◌, List, [], ◌∷◌, ◌++◌, Option, Some, None}
-use Rattle.std.specs.List.{All, filter}
-use mathlib.Core.List.{IsPrefix}
-use Rattle.abt_interleave.specs.Deeds.{Heard, Entry, RisesAbove, Does, Leads, last_stamp, deed_stamps, entry_stamps}
+use Rattle.std.specs.Prelude.{ℕ, suc, max, ◌≡◌, ◌≢◌, ◌<◌, List, [], ◌∷◌, ◌++◌, Option, Some, None}
+use Rattle.std.specs.List.{All}
+use Rattle.abt_interleave.specs.declared.entries.Entry.{Entry}
+use Rattle.abt_interleave.specs.Histories.{RisesAbove, Extends, Leads, last_stamp, entry_stamps}
+use Rattle.abt_interleave.specs.Deeds.{Heard, Does, deed_stamps}
 use Rattle.abt_interleave.specs.Machines.{Machine, DeedOf, EntryOf, Gathered}
 use Rattle.abt_interleave.specs.Laws.{at_place}
 
@@ -12,15 +13,7 @@ CallOf M = Entry (M.Place × M.Act) M.Answer
 
 -- what a deed that called is in a line
 abbrev pub call_of : (M : Machine) → DeedOf M → Heard M.Place M.Act M.Answer → CallOf M
-call_of M d h = record { stamp = d.stamp; stream = d.stream; act = (h.0, h.1); answer = h.2 }
-
--- the calls of stream s in a line
-abbrev pub calls_of : (M : Machine) → ℕ → List (CallOf M) → List (CallOf M)
-calls_of M s line = filter (λ e. e.stream == s) line
-
--- a line begins with what stream s has seen of it, and has no further call of that stream
-abbrev pub Extends : (M : Machine) → ℕ → List (CallOf M) → List (CallOf M) → Type 0
-Extends M s seen line = IsPrefix seen line × (calls_of M s line ≡ calls_of M s seen)
+call_of M d h = record { stamp = d.stamp; caller = d.stream; act = (h.0, h.1); answer = h.2 }
 
 -- of each object the history that the lines give, each object standing behind its lock
 abbrev pub histories_of : (M : Machine) {Lock : Type 0} → (M.Place → Lock) → (Lock → List (CallOf M)) → M.Place → List (EntryOf M)
@@ -33,15 +26,15 @@ module _ (M : Machine) {Lock : Type 0} (lock : M.Place → Lock) (carried : Lock
   -- now knows of that lock's line to have come before its call, and the call; and the stamp is one more than the greatest of
   -- the stream's clock, the clock carried to the lock, and the last stamp before it in the line
   abbrev pub Sees : ℕ → (Lock → List (CallOf M)) → ℕ → (d : DeedOf M) → Option (Heard M.Place M.Act M.Answer) → (Lock → List (CallOf M)) → Type 0
-  Sees s before clock d None after = (d.stamp ≡ suc clock) × ((l : Lock) → Extends M s (before l) (after l))
+  Sees s before clock d None after = (d.stamp ≡ suc clock) × ((l : Lock) → Extends s (before l) (after l))
   Sees s before clock d (Some h) after =
-      ((l : Lock) → lock h.0 ≢ l → Extends M s (before l) (after l))
-      × (met : List (CallOf M)) × Extends M s (before (lock h.0)) met × (after (lock h.0) ≡ met ++ call_of M d h ∷ [])
+      ((l : Lock) → lock h.0 ≢ l → Extends s (before l) (after l))
+      × (met : List (CallOf M)) × Extends s (before (lock h.0)) met × (after (lock h.0) ≡ met ++ call_of M d h ∷ [])
       × (d.stamp ≡ suc (max (max clock (carried (lock h.0))) (last_stamp (entry_stamps met))))
 
   -- what it sees deed by deed
   abbrev pub Walks : ℕ → (Lock → List (CallOf M)) → ℕ → List (DeedOf M) → (Lock → List (CallOf M)) → Type 0
-  Walks s before clock [] after = (l : Lock) → Extends M s (before l) (after l)
+  Walks s before clock [] after = (l : Lock) → Extends s (before l) (after l)
   Walks s before clock (d ∷ ds) after = (seen : Lock → List (CallOf M)) × Sees s before clock d d.heard seen × Walks s seen d.stamp ds after
 
   -- what stream s has done since it saw nothing, its clock being this one then, and what it sees now
@@ -75,8 +68,8 @@ module _ (M : Machine) {Lock : Type 0} (lock : M.Place → Lock) (carried : Lock
 -- it with all calls of its own
 pub record IsLine (M : Machine) (n : ℕ) (known : ℕ → List (CallOf M)) (line : List (CallOf M)) : Type 0 where
   pub rises : RisesAbove 0 (entry_stamps line)
-  pub of_streams : All (λ e. e.stream < n) line
-  pub seen : (s : ℕ) → s < n → Extends M s (known s) line
+  pub of_streams : All (λ e. e.caller < n) line
+  pub seen : (s : ℕ) → s < n → Extends s (known s) line
 
 -- what a lock has left: a line that goes on from what the streams had seen, ends with this clock, and leads each object behind
 -- the lock from one value to the other

@@ -1,6 +1,8 @@
 -- Machines of streams and objects: what merging needs to know of them, and what it makes of their logs and histories.
 use Rattle.std.specs.Prelude.{ℕ, ◌≡◌, ◌≢◌, ◌<◌, ◌≤◌, ◌↔◌, Bool, true, List, [], ◌∷◌, Option}
-use Rattle.abt_interleave.specs.Deeds.{Heard, Deed, Entry, Course, Legal, Answered}
+use Rattle.abt_interleave.specs.declared.entries.Entry.{Entry}
+use Rattle.abt_interleave.specs.Histories.{Legal}
+use Rattle.abt_interleave.specs.Deeds.{Heard, Deed, Course, Answered}
 use Rattle.abt_interleave.specs.Logs.{Matched}
 
 -- A state gives each stream a part and each place an object. An event changes its stream's part, and makes at most one call,

@@ -1,7 +1,8 @@
 -- The laws of the one list, of items of any kind and of deeds.
 use Rattle.std.specs.Prelude.{ℕ, ◌≡◌, ◌≢◌, ◌∷◌, ◌++◌, ◌≤◌, ◌==◌, ◌&&◌, ◌↔◌, Bool, List, [], map, length, count_by, Contains}
 use Rattle.std.specs.List.{sum_by}
-use Rattle.abt_interleave.specs.Deeds.{RisesAbove, deed_stamps}
+use Rattle.abt_interleave.specs.Histories.{RisesAbove}
+use Rattle.abt_interleave.specs.Deeds.{deed_stamps}
 use Rattle.abt_interleave.specs.Logs.{IsSooner, IsSorted, IsSortedAs}
 use Rattle.abt_interleave.specs.Machines.{Machine, DeedOf}
 use Rattle.abt_interleave.specs.Merges.{IsLogOf, IsByStamp, IsMergeOf, IsMerging, sum_below}

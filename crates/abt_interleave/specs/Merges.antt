@@ -1,7 +1,7 @@
 -- The one list of what many streams made, by stamp and then by stream. Its items may be anything that has a stamp and a stream.
 use Rattle.std.specs.Prelude.{ℕ, zero, suc, ◌≡◌, ◌+◌, ◌==◌, List, [], ◌∷◌, ◌++◌, map, Contains}
 use Rattle.std.specs.List.{All, filter}
-use Rattle.abt_interleave.specs.Deeds.{RisesAbove}
+use Rattle.abt_interleave.specs.Histories.{RisesAbove}
 use Rattle.abt_interleave.specs.Logs.{IsSooner, InOrder}
 
 -- what a list has of stream s

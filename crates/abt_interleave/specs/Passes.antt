@@ -2,7 +2,8 @@
 use Rattle.std.specs.Prelude.{ℕ, suc, ◌≡◌, List, [], ◌∷◌, ◌++◌, Option, Some, None}
 use Rattle.abt_interleave.specs.Deeds.{Heard}
 use Rattle.abt_interleave.specs.Machines.{Machine, DeedOf}
-use Rattle.abt_interleave.specs.Lines.{CallOf, Extends, Sees, Gone}
+use Rattle.abt_interleave.specs.Histories.{Extends}
+use Rattle.abt_interleave.specs.Lines.{CallOf, Sees, Gone}
 
 -- what came of a call: a stamp and an answer, or nothing if the clock was worn
 abbrev pub ReplyOf : Machine → Type 0
@@ -61,7 +62,7 @@ pub record Shows (M : Machine) {Lock Pass : Type 0} (lock : M.Place → Lock) (c
   pub stays : (p q : Pass) (x : M.Place) (at : ℕ) (a : M.Act) (reply : ReplyOf M) → own p → moves p x at a reply q → own q
   pub answered : (p q : Pass) (x : M.Place) (at : ℕ) (a : M.Act) (r : M.Answer) (d : DeedOf M) → own p → moves p x at a (Some (d.stamp, r)) q → d.stream ≡ s →
       Sees M lock carried s (seen p) at d (Some (x, a, r)) (seen q)
-  pub worn : (p q : Pass) (x : M.Place) (at : ℕ) (a : M.Act) → own p → moves p x at a None q → (l : Lock) → Extends M s (seen p l) (seen q l)
+  pub worn : (p q : Pass) (x : M.Place) (at : ℕ) (a : M.Act) → own p → moves p x at a None q → (l : Lock) → Extends s (seen p l) (seen q l)
 
 -- by turns of a stream whose pass had seen nothing, the stream has gone so
 abbrev pub TurnsAreGone : (M : Machine) {Pass : Type 0} → MovesOf M Pass → (Pass → Type 0) → Type 0 → Type 0

@@ -1,6 +1,7 @@
 -- A test that every call of a run passes.
 use Rattle.std.specs.Prelude.{ℕ, ◌<◌, Bool, List, Option, Some, None, IsTrue, ⊤}
-use Rattle.abt_interleave.specs.Deeds.{Heard, Legal}
+use Rattle.abt_interleave.specs.Histories.{Legal}
+use Rattle.abt_interleave.specs.Deeds.{Heard}
 use Rattle.abt_interleave.specs.Logs.{IsSorted}
 use Rattle.abt_interleave.specs.Machines.{Machine, DeedOf, EntryOf, IsSimulated, TellsPlaces, Gathered}
 

@@ -1,6 +1,8 @@
 -- Stamps: a clock for each stream and each object (Lamport, "Time, Clocks, and the Ordering of Events in a Distributed System", 1978).
 use Rattle.std.specs.Prelude.{ℕ, suc, max, ◌≡◌, ◌<◌, ◌≤◌, ◌+◌, ◌⊎◌, List, [], ◌∷◌, ◌++◌, Option, Some, None, option_map, Contains}
-use Rattle.abt_interleave.specs.Deeds.{Heard, Deed, Entry, last_stamp, entry_stamps}
+use Rattle.abt_interleave.specs.declared.entries.Entry.{Entry}
+use Rattle.abt_interleave.specs.Histories.{last_stamp, entry_stamps}
+use Rattle.abt_interleave.specs.Deeds.{Heard, Deed}
 
 -- the place of the object that a deed called
 abbrev pub place_of : {Place Act Answer What : Type 0} → Deed Place Act Answer What → Option Place
@@ -57,7 +59,7 @@ abbrev pub IsTimed : {Place Act Answer What : Type 0} → (Place → List (Entry
 IsTimed histories clock d None = d.stamp ≡ suc clock
 IsTimed {Place} {Act} {Answer} histories clock d (Some h) =
     (before : List (Entry Act Answer)) × (later : List (Entry Act Answer))
-    × (histories h.0 ≡ before ++ record { stamp = d.stamp; stream = d.stream; act = h.1; answer = h.2 } ∷ later)
+    × (histories h.0 ≡ before ++ record { stamp = d.stamp; caller = d.stream; act = h.1; answer = h.2 } ∷ later)
     × (d.stamp ≡ suc (max clock (last_stamp (entry_stamps before))))
 
 -- so are all stamps of a log, the stream's last being that clock

@@ -1,6 +1,7 @@
 -- Stamps of one turn more.
 use Rattle.std.specs.Prelude.{ℕ, suc, max, ◌≡◌, ◌⊎◌, List, Option, Some, None, Contains}
-use Rattle.abt_interleave.specs.Deeds.{Heard, last_stamp, deed_stamps, entry_stamps}
+use Rattle.abt_interleave.specs.Histories.{last_stamp, entry_stamps}
+use Rattle.abt_interleave.specs.Deeds.{Heard, deed_stamps}
 use Rattle.abt_interleave.specs.Machines.{Machine, DeedOf, EntryOf, TellsPlaces, Gathered}
 use Rattle.abt_interleave.specs.Stamps.{LeavesNoGap, AllTimed}
 use Rattle.abt_interleave.specs.Laws.{LogGrows, HistoryGrows, IsLate}

@@ -1,8 +1,9 @@
 -- The laws of locks and their lines: how a wave of streams makes logs and histories.
 use Rattle.std.specs.Prelude.{ℕ, suc, None, ◌≡◌, ◌≢◌, ◌<◌, ◌≤◌, ◌⊎◌, List, [], ◌∷◌, ◌++◌}
-use Rattle.abt_interleave.specs.Deeds.{last_from, deed_stamps}
+use Rattle.abt_interleave.specs.Histories.{last_from, Extends}
+use Rattle.abt_interleave.specs.Deeds.{deed_stamps}
 use Rattle.abt_interleave.specs.Machines.{Machine, DeedOf, TellsPlaces}
-use Rattle.abt_interleave.specs.Lines.{CallOf, Extends, Sees, Gone, LockLeft, WaveLeft}
+use Rattle.abt_interleave.specs.Lines.{CallOf, Sees, Gone, LockLeft, WaveLeft}
 
 -- two locks are one, or they are not
 abbrev pub TellsLocks : Type 0 → Type 0
@@ -27,7 +28,7 @@ OwnDeedsShow M Lock = (lock : M.Place → Lock) (carried : Lock → ℕ) (s cloc
 -- and if a call came to nothing, it may see more
 abbrev pub GoneAlong : Machine → Type 0 → Type 0
 GoneAlong M Lock = (lock : M.Place → Lock) (carried : Lock → ℕ) (s clock : ℕ) (p q : M.Part) (log : List (DeedOf M)) (seen after : Lock → List (CallOf M)) →
-    Gone M lock carried s clock p log q seen → ((l : Lock) → Extends M s (seen l) (after l)) → Gone M lock carried s clock p log q after
+    Gone M lock carried s clock p log q seen → ((l : Lock) → Extends s (seen l) (after l)) → Gone M lock carried s clock p log q after
 
 -- What the wave leaves.
 

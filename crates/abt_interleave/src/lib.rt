@@ -17,7 +17,7 @@ mod weaving;
 
 pub use bounds::{never_worn, stamped_stays_low, stamps_are_few};
 pub use carrying::{none_meets_worn, times_go_on, waves_go_on};
-pub use entries::entries_pass;
+pub use entries::{Entry, entries_pass};
 pub use example::{counters_merge, locks_for_each, one_lock_for_both};
 pub use machine::AnyMachine;
 pub use merges::{

@@ -30,7 +30,8 @@ use Rattle.abt_machine.specs.Turns.{Heard, Steps, looked, stepped}
 use Rattle.abt_laws.proofs.Lists.{EachOf}
 use Rattle.abt_laws.proofs.Options.{none≢some, some-injective}
 use Rattle.abt_laws.proofs.SoundStart.{start-is-sound}
-use Rattle.abt_interleave.specs.Deeds.{Course, Legal}
+use Rattle.abt_interleave.specs.Histories.{Legal}
+use Rattle.abt_interleave.specs.Deeds.{Course}
 use Rattle.abt_interleave.specs.Logs.{Leaves, Matched, IsSooner, BeforeAll, InOrder}
 use Rattle.abt_interleave.specs.Machines.{Gathered}
 use Rattle.abt_interleave.specs.Stamps.{AllTimed}
@@ -133,24 +134,24 @@ abbrev HasEntry : StreamDeed → Option Heard → Type 0
 HasEntry d None = Unit {0}
 HasEntry d (Some h) = Among (entry d.stamp d.stream h.1 h.2) (histories h.0)
 
--- an entry at x is a deed of its stream
+-- an entry at x is a deed of its caller
 abbrev HasDeed : Site → SiteEntry → Type 0
-HasDeed x e = (d : StreamDeed) × Among d (logs e.stream) × Leaves d x e
+HasDeed x e = (d : StreamDeed) × Among d (logs e.caller) × Leaves d x e
 
 -- a call that is in the history of its object is the entry that the deed leaves
-entry-is : (d : StreamDeed) (heard : Option Heard) (x : Site) (e : SiteEntry) → HasEntry d heard → d.stamp ≡ e.stamp → d.stream ≡ e.stream → heard ≡ Some (x, e.act, e.answer) → Among e (histories x)
+entry-is : (d : StreamDeed) (heard : Option Heard) (x : Site) (e : SiteEntry) → HasEntry d heard → d.stamp ≡ e.stamp → d.stream ≡ e.caller → heard ≡ Some (x, e.act, e.answer) → Among e (histories x)
 entry-is d None x e has t s h = absurd (none≢some h)
 entry-is d (Some h) x e has t s q =
     let same : h ≡ (x, e.act, e.answer) = some-injective q in
-    subst (λ (k : Heard). Among (record { stamp = e.stamp; stream = e.stream; act = k.1; answer = k.2 }) (histories k.0)) same
-    (subst (λ n. Among (entry n e.stream h.1 h.2) (histories h.0)) t (subst (λ n. Among (entry d.stamp n h.1 h.2) (histories h.0)) s has))
+    subst (λ (k : Heard). Among (record { stamp = e.stamp; caller = e.caller; act = k.1; answer = k.2 }) (histories k.0)) same
+    (subst (λ n. Among (entry n e.caller h.1 h.2) (histories h.0)) t (subst (λ n. Among (entry d.stamp n h.1 h.2) (histories h.0)) s has))
 
 module _ (entries : (s : ℕ) → EachOf (λ d. HasEntry d d.heard) (logs s)) (deeds : (x : Site) → EachOf (HasDeed x) (histories x)) where
   -- so they fit each other
   matched-by : Matched logs histories
   matched-by = record {
     has_entry = λ d x e m leaves. from-among (histories x) e (entry-is d d.heard x e (each (λ f. HasEntry f f.heard) (logs d.stream) d (entries d.stream) (to-among (logs d.stream) d m)) leaves.0 leaves.1 leaves.2);
-    has_deed = λ x e m. let has : HasDeed x e = each (HasDeed x) (histories x) e (deeds x) (to-among (histories x) e m) in (has.0, from-among (logs e.stream) has.0 has.1, has.2);
+    has_deed = λ x e m. let has : HasDeed x e = each (HasDeed x) (histories x) e (deeds x) (to-among (histories x) e m) in (has.0, from-among (logs e.caller) has.0 has.1, has.2);
   }
 
 -- each call is in the history of its object
@@ -163,7 +164,7 @@ entries (suc zero) = (at (pool_history 0) 1 _ refl, (at (desk_history 1) 0 _ ref
 entries (suc (suc s)) = tt
 
 -- the deed at a place of a log
-left : (s k : ℕ) (d : StreamDeed) (x : Site) (e : SiteEntry) → e.stream ≡ s → slice_get (logs s) k ≡ Some d → Leaves d x e → HasDeed x e
+left : (s k : ℕ) (d : StreamDeed) (x : Site) (e : SiteEntry) → e.caller ≡ s → slice_get (logs s) k ≡ Some d → Leaves d x e → HasDeed x e
 left s k d x e same is leaves = (d, subst (λ n. Among d (logs n)) (sym same) (at (logs s) k d is), leaves)
 
 -- each entry at the pool is a deed

@@ -101,7 +101,7 @@ logs (suc (suc s)) = []
 
 -- an entry of a history
 abbrev pub entry : ℕ → ℕ → Act → Answer → SiteEntry
-entry stamp s asked answer = record { stamp = stamp; stream = s; act = asked; answer = answer }
+entry stamp s asked answer = record { stamp = stamp; caller = s; act = asked; answer = answer }
 
 -- the pool answers with both units, and the first one again
 abbrev pub pool_history : ℕ → List SiteEntry

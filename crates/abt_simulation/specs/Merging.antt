@@ -18,7 +18,8 @@ use Rattle.abt_machine.specs.Values.{Held, Object, part_of, object_of}
 use Rattle.abt_machine.specs.Acts.{Act, Answer}
 use Rattle.abt_machine.specs.Gives.{SiteGives}
 use Rattle.abt_machine.specs.Turns.{Steps}
-use Rattle.abt_interleave.specs.Deeds.{Deed, Entry}
+use Rattle.abt_interleave.specs.declared.entries.Entry.{Entry}
+use Rattle.abt_interleave.specs.Deeds.{Deed}
 use Rattle.abt_interleave.specs.Logs.{IsSortedAs}
 use Rattle.abt_interleave.specs.Machines.{Machine, IsSimulated, Gathered}
 use Rattle.abt_interleave.specs.Stamps.{LeavesNoGap, AllTimed}

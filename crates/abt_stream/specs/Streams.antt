@@ -12,7 +12,7 @@ use Rattle.abt_machine.specs.State.{Frame, Mark, Plain, Asked, Left, Exited, Str
 use Rattle.abt_machine.specs.Values.{Held, Owned}
 use Rattle.abt_machine.specs.Workloads.{pools_of}
 use Rattle.abt_calls.specs.Holders.{units_of}
-use Rattle.abt_interleave.specs.Deeds.{RisesAbove}
+use Rattle.abt_interleave.specs.Histories.{RisesAbove}
 use Rattle.abt_order.specs.Schedulers.{IsSchedulerOf, SchedulerValue, pool_numbers}
 use Rattle.abt_unit.specs.Fits.{Fits}
 use Rattle.abt_unit.specs.Units.{UnitValue}

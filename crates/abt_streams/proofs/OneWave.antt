@@ -17,7 +17,8 @@ use Rattle.abt_machine.specs.State.{State}
 use Rattle.abt_machine.specs.Turns.{Steps}
 use Rattle.abt_machine.specs.Valid.{IsValid}
 use Rattle.abt_machine.specs.Values.{object_of, part_of}
-use Rattle.abt_interleave.specs.Deeds.{Course, Legal}
+use Rattle.abt_interleave.specs.Histories.{Legal}
+use Rattle.abt_interleave.specs.Deeds.{Course}
 use Rattle.abt_interleave.specs.Machines.{Gathered}
 use Rattle.abt_simulation.specs.Journals.{JournalCounts, MergesTo, events_of}
 use Rattle.abt_simulation.specs.Merging.{IsJournalOf, LeadsTo, machine_of}

@@ -14,7 +14,8 @@ use Rattle.abt_machine.specs.Stamps.{AllAfter, Shares}
 use Rattle.abt_machine.specs.Turns.{Heard, Steps}
 use Rattle.abt_machine.specs.Valid.{IsValid}
 use Rattle.abt_machine.specs.Values.{Held}
-use Rattle.abt_interleave.specs.Deeds.{Does, RisesAbove, deed_stamps, entry_stamps, last_from}
+use Rattle.abt_interleave.specs.Histories.{RisesAbove, entry_stamps, last_from}
+use Rattle.abt_interleave.specs.Deeds.{Does, deed_stamps}
 use Rattle.abt_interleave.specs.Logs.{BeforeAll, InOrder, IsSooner, Leaves}
 use Rattle.abt_interleave.specs.Stamps.{place_of}
 use Rattle.abt_interleave.proofs.Clocks.{among-above}
@@ -69,7 +70,7 @@ same-some {A} a b e = ap get e where
 -- the entry of a deed that called the object at x
 entry-left : (d : StreamDeed) (x : Site) (heard : Option Heard) → d.heard ≡ heard → option_map (λ (h : Heard). h.0) heard ≡ Some x → (e : SiteEntry) × Leaves d x e
 entry-left d x None q p = absurd cc
-entry-left d x (Some h) q p = (record { stamp = d.stamp; stream = d.stream; act = h.1; answer = h.2 }, (refl, refl, q ∙ (λ i. Some (same-some h.0 x p i, h.1, h.2))))
+entry-left d x (Some h) q p = (record { stamp = d.stamp; caller = d.stream; act = h.1; answer = h.2 }, (refl, refl, q ∙ (λ i. Some (same-some h.0 x p i, h.1, h.2))))
 
 -- Events that share something.
 
@@ -147,7 +148,7 @@ module _ (W : Parts) (Z : List OrderShape) (old new : Moment) (live : List Bool)
         let a = entry-of d x dm dx in
         let b = entry-of e x em ex in
         let same : a.0 ≡ b.0 = one-stamp (λ (f : SiteEntry). f.stamp) (wave.histories x) a.0 b.0 (rises-in-order (λ (f : SiteEntry). f.stamp) (old.times x) (wave.histories x) (wave.rise x)) a.2 b.2 (sym a.1.0 ∙ (q ∙ b.1.0)) in
-        a.1.1 ∙ (ap (λ (f : SiteEntry). f.stream) same ∙ sym b.1.1)
+        a.1.1 ∙ (ap (λ (f : SiteEntry). f.caller) same ∙ sym b.1.1)
 
     sooner-rises : (e f : Event) → Among e es → Among f es → IsSooner e.stamp e.stream.0 f.stamp f.stream.0 → Shares W e f → e.stamp < f.stamp
     sooner-rises e f em fm sooner shares = elim sooner [

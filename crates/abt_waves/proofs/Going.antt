@@ -10,7 +10,8 @@ use Rattle.abt_machine.specs.declared.operations.OrderShape.{OrderShape}
 use Rattle.abt_machine.specs.declared.workload.Parts.{Parts}
 use Rattle.abt_machine.specs.Acts.{Act}
 use Rattle.abt_machine.specs.Turns.{Heard, Steps}
-use Rattle.abt_interleave.specs.Lines.{Extends, Sees}
+use Rattle.abt_interleave.specs.Histories.{Extends}
+use Rattle.abt_interleave.specs.Lines.{Sees}
 use Rattle.abt_interleave.specs.Machines.{Machine}
 use Rattle.abt_interleave.proofs.Prefixes.{extends-self, gone-along, gone-further, gone-nowhere, own-deeds-show}
 use Rattle.abt_simulation.specs.Merging.{StreamDeed, event_of, machine_of}
@@ -79,7 +80,7 @@ module _ {Lock Pass : Type 0} (locks : LocksValue Lock Pass) (lock : Site → Lo
       | inr call ↦ subst (λ s. HasGone locks lock W Z first s after) (sym same) (record {
         deeds = gone.deeds;
         gone = gone-along M Lock lock locks.carried first.number.0 first.clock first.held old.held gone.deeds (locks.sights before) (locks.sights after) gone.gone
-            (subst (λ r. (l : Lock) → Extends M r (locks.sights before l) (locks.sights after l)) numbered (call.3.0 Z).extends);
+            (subst (λ r. (l : Lock) → Extends r (locks.sights before l) (locks.sights after l)) numbered (call.3.0 Z).extends);
         log = gone.log;
         clock = gone.clock;
         number = gone.number;
@@ -133,7 +134,7 @@ module _ {Lock Pass : Type 0} (locks : LocksValue Lock Pass) (lock : Site → Lo
     deeds = [];
     gone = gone-along (machine_of W Z) Lock lock locks.carried stream.number.0 stream.clock stream.held stream.held [] (λ l. []) (locks.sights pass)
         (gone-nowhere (machine_of W Z) Lock lock locks.carried stream.number.0 stream.clock stream.held)
-        (λ l. subst (λ line. Extends (machine_of W Z) stream.number.0 [] line) (sym (fresh l)) (extends-self (machine_of W Z) stream.number.0 []));
+        (λ l. subst (λ line. Extends stream.number.0 [] line) (sym (fresh l)) (extends-self stream.number.0 []));
     log = sym (append-nil stream.log);
     clock = refl;
     number = refl;

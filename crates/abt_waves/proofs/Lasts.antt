@@ -1,7 +1,7 @@
 -- Last stamps of lists whose stamps rise.
 use Rattle.std.proofs.Common.{◌≡◌, ℕ, max, ◌<◌, ◌≤◌, inl, inr, List, [], ◌∷◌, ◌++◌, map, refl, arith}
 use Rattle.std.proofs.lemmas.Bool.{cases_lt}
-use Rattle.abt_interleave.specs.Deeds.{RisesAbove, last_from}
+use Rattle.abt_interleave.specs.Histories.{RisesAbove, last_from}
 
 module _ {A : Type 0} (stamp : A → ℕ) where
   -- the last of two lists

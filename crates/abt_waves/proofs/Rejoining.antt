@@ -12,8 +12,9 @@ use Rattle.abt_machine.specs.Start.{start}
 use Rattle.abt_machine.specs.Values.{Held, object_of, part_of}
 use Rattle.abt_calls.specs.Starts.{start_part}
 use Rattle.abt_interleave.specs.Carrying.{Timed, Waves, joined_histories, joined_logs, next_clocks, stream_clocks}
-use Rattle.abt_interleave.specs.Deeds.{RisesAbove, deed_stamps, entry_stamps, last_from, last_stamp}
-use Rattle.abt_interleave.specs.Lines.{Extends, Gone, LockLeft, WaveLeft, histories_of}
+use Rattle.abt_interleave.specs.Histories.{RisesAbove, entry_stamps, last_from, last_stamp, Extends}
+use Rattle.abt_interleave.specs.Deeds.{deed_stamps}
+use Rattle.abt_interleave.specs.Lines.{Gone, LockLeft, WaveLeft, histories_of}
 use Rattle.abt_interleave.specs.Machines.{Machine}
 use Rattle.abt_interleave.specs.Ticking.{IsClock}
 use Rattle.abt_interleave.specs.Weaving.{TellsLocks}
@@ -288,7 +289,7 @@ module _ {Lock Pass : Type 0} (IsOf : Pass → Type 0) (locks : LocksValue Lock 
       seen-low : (l : Lock) → last_stamp (entry_stamps (locks.sights (came s stream e).back.pass l)) < 2 ^ 62
       seen-low l =
           let k : LockLeft M lock l locks.streams (λ r. seen r l) was.objects now.objects (left.closing l) = left.left l Z in
-          let known : Extends M s (sights_from locks (Some (came s stream e).back.pass) l) k.line = subst (λ o. Extends M s (sights_from locks o l) k.line) (pass-back s stream e) (k.is_line.seen s declares) in
+          let known : Extends s (sights_from locks (Some (came s stream e).back.pass) l) k.line = subst (λ o. Extends s (sights_from locks o l) k.line) (pass-back s stream e) (k.is_line.seen s declares) in
           let low : last_stamp (entry_stamps (locks.sights (came s stream e).back.pass l)) ≤ last_stamp (entry_stamps k.line) =
           subst (λ line. last_stamp (entry_stamps (locks.sights (came s stream e).back.pass l)) ≤ last_stamp (entry_stamps line)) known.0.1
           (prefix-low (λ (c : Call). c.stamp) 0 (locks.sights (came s stream e).back.pass l) known.0.0 (subst (λ (line : List Call). RisesAbove 0 (entry_stamps line)) (sym known.0.1) k.is_line.rises)) in

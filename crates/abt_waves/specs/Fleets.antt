@@ -5,7 +5,8 @@ use Rattle.abt_machine.specs.declared.operations.OrderShape.{OrderShape}
 use Rattle.abt_machine.specs.declared.workload.Parts.{Parts}
 use Rattle.abt_machine.specs.Rounds.{OrdersStored}
 use Rattle.abt_machine.specs.Valid.{IsValid}
-use Rattle.abt_interleave.specs.Deeds.{RisesAbove, deed_stamps, entry_stamps, last_from, last_stamp}
+use Rattle.abt_interleave.specs.Histories.{RisesAbove, entry_stamps, last_from, last_stamp}
+use Rattle.abt_interleave.specs.Deeds.{deed_stamps}
 use Rattle.abt_interleave.specs.Machines.{Gathered}
 use Rattle.abt_interleave.specs.Stamps.{AllTimed}
 use Rattle.abt_interleave.specs.Ticking.{IsClock}

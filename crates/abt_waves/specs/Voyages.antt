@@ -4,7 +4,8 @@ use Rattle.abt_machine.specs.declared.events.Site.{Site}
 use Rattle.abt_machine.specs.declared.operations.OrderShape.{OrderShape}
 use Rattle.abt_machine.specs.declared.workload.Parts.{Parts}
 use Rattle.abt_machine.specs.Outcomes.{steps_in}
-use Rattle.abt_interleave.specs.Deeds.{deed_stamps, entry_stamps, last_from, last_stamp}
+use Rattle.abt_interleave.specs.Histories.{entry_stamps, last_from, last_stamp}
+use Rattle.abt_interleave.specs.Deeds.{deed_stamps}
 use Rattle.abt_interleave.specs.Lines.{Gone}
 use Rattle.abt_simulation.specs.Merging.{StreamDeed, event_of, machine_of}
 use Rattle.abt_stream.specs.Streams.{FitsShapes, FitsStream, StreamValue}

@@ -1,11 +1,11 @@
 -- The laws by which booths make lines.
 use Rattle.std.specs.Prelude.{ℕ, max, ◌≡◌, ◌≢◌, ◌<◌, ◌^◌, List, Some, Contains}
-use Rattle.abt_booth.specs.declared.history.Entry.{Entry}
 use Rattle.abt_booth.specs.Calls.{IsAnswered, IsWorn, IsClosed}
-use Rattle.abt_interleave.specs.Deeds.{last_stamp, entry_stamps}
+use Rattle.abt_interleave.specs.declared.entries.Entry.{Entry}
+use Rattle.abt_interleave.specs.Histories.{last_stamp, entry_stamps, Extends}
 use Rattle.abt_interleave.specs.Machines.{Machine, DeedOf, TellsPlaces}
 use Rattle.abt_interleave.specs.Laws.{AllGive}
-use Rattle.abt_interleave.specs.Lines.{CallOf, Extends, Sees, LockLeft}
+use Rattle.abt_interleave.specs.Lines.{CallOf, Sees, LockLeft}
 use Rattle.abt_interleave.specs.Weaving.{TellsLocks}
 use Rattle.abt_weave.specs.Seen.{line_seen}
 
@@ -17,7 +17,7 @@ pub record ChangesAt (M : Machine) {Lock A R : Type 0} (asks : A → M.Place × 
 
 -- what a call that found the clock worn lets the stream see
 pub record SeesWorn (M : Machine) {Lock : Type 0} (l : Lock) (s at : ℕ) (old new : Lock → List (CallOf M)) : Type 0 where
-  pub extends : (k : Lock) → Extends M s (old k) (new k)
+  pub extends : (k : Lock) → Extends s (old k) (new k)
   pub worn : max at (last_stamp (entry_stamps (new l))) ≡ 2 ^ 62
 
 -- Of booths round objects that mean `does`.

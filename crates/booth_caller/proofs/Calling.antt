@@ -9,14 +9,14 @@ use Rattle.std.proofs.Math.Nat.{zero-max}
 use mathlib.Core.Logic.{dite}
 use mathlib.Core.List.{IsPrefix}
 use native.Mathlib.Decide.{ℕ_discrete}
-use Rattle.abt_booth.specs.declared.history.Entry.{Entry}
+use Rattle.abt_interleave.specs.declared.entries.Entry.{Entry}
+use Rattle.abt_interleave.specs.Histories.{calls_of, last_from, last_stamp, RisesAbove, Extends, entry_stamps}
 use Rattle.abt_booth.specs.declared.object.Object.{Ghosts}
 use Rattle.abt_booth.specs.declared.booth.Booth.{Booth}
 use Rattle.abt_booth.specs.declared.booth.Seat.{Seat}
 use Rattle.abt_booth.specs.declared.booth.Called.{Called}
 use Rattle.abt_booth.specs.declared.booth.Called.TheVariants as called
 use Rattle.abt_booth.specs.Seats.{opening_of, number_of, seen_of, known_of, AreInOrder, Replies}
-use Rattle.abt_booth.specs.History.{calls_of, last_from, last_stamp, Rises, Extends}
 use Rattle.abt_booth.specs.Calls.{IsAnswered, IsWorn, IsClosed}
 use Rattle.abt_booth.proofs.Answered.{calls_answered}
 use Rattle.abt_booth.proofs.Seats.{written_back}
@@ -101,53 +101,53 @@ module _ {A R : Type 0} where
   -- if a history has no call of a seat, that seat's calls follow
   follows_none : (k s : ℕ) (h : List (Entry A R)) → calls_of k h ≡ [] → Follows k s h
   follows_none k s [] none = tt
-  follows_none k s (e ∷ es) none = dite (ℕ_discrete e.seat k)
-      (λ mine. absurd (let t = sym (class_mine (λ (x : Entry A R). x.seat) k e es mine) ∙ none in cc))
-      (λ other. ((λ mine. absurd (other mine)), follows_none k e.stamp es (sym (class_other (λ (x : Entry A R). x.seat) k e es other) ∙ none)))
+  follows_none k s (e ∷ es) none = dite (ℕ_discrete e.caller k)
+      (λ mine. absurd (let t = sym (class_mine (λ (x : Entry A R). x.caller) k e es mine) ∙ none in cc))
+      (λ other. ((λ mine. absurd (other mine)), follows_none k e.stamp es (sym (class_other (λ (x : Entry A R). x.caller) k e es other) ∙ none)))
 
   -- one history after the other
-  follows_append : (k s : ℕ) (xs ys : List (Entry A R)) → Follows k s xs → Follows k (last_from s xs) ys → Follows k s (xs ++ ys)
+  follows_append : (k s : ℕ) (xs ys : List (Entry A R)) → Follows k s xs → Follows k (last_from s (entry_stamps xs)) ys → Follows k s (xs ++ ys)
   follows_append k s [] ys f g = g
   follows_append k s (x ∷ xs) ys f g = (f.0, follows_append k x.stamp xs ys f.1 g)
 
   -- a history that extends what a seat had seen adds no call of it
   none_added : (k : ℕ) (xs ys : List (Entry A R)) → calls_of k (xs ++ ys) ≡ calls_of k xs → calls_of k ys ≡ []
-  none_added k xs ys e = no_more (calls_of k xs) (calls_of k ys) (sym (filter-append (λ (x : Entry A R). x.seat == k) xs ys) ∙ e)
+  none_added k xs ys e = no_more (calls_of k xs) (calls_of k ys) (sym (filter-append (λ (x : Entry A R). x.caller == k) xs ys) ∙ e)
 
   -- so the seat's calls follow there too
   follows_extends : (k : ℕ) (seen h : List (Entry A R)) → Extends k seen h → Follows k 0 seen → Follows k 0 h
   follows_extends k seen h x f =
       let rest = x.0.0 in
       let same : calls_of k (seen ++ rest) ≡ calls_of k seen = ap (calls_of k) x.0.1 ∙ x.1 in
-      subst (Follows k 0) x.0.1 (follows_append k 0 seen rest f (follows_none k (last_from 0 seen) rest (none_added k seen rest same)))
+      subst (Follows k 0) x.0.1 (follows_append k 0 seen rest f (follows_none k (last_from 0 (entry_stamps seen)) rest (none_added k seen rest same)))
 
   -- if stamps rise, the last is no less than the first
-  last_above : (s : ℕ) (h : List (Entry A R)) → Rises s h → s ≤ last_from s h
+  last_above : (s : ℕ) (h : List (Entry A R)) → RisesAbove s (entry_stamps h) → s ≤ last_from s (entry_stamps h)
   last_above s [] r = omega arith
   last_above s (x ∷ xs) r = let l = last_above x.stamp xs r.1 in let m = r.0 in omega arith
 
   -- and no less than the last of each prefix
-  last_grows : (s : ℕ) (xs ys : List (Entry A R)) → Rises s (xs ++ ys) → last_from s xs ≤ last_from s (xs ++ ys)
+  last_grows : (s : ℕ) (xs ys : List (Entry A R)) → RisesAbove s (entry_stamps (xs ++ ys)) → last_from s (entry_stamps xs) ≤ last_from s (entry_stamps (xs ++ ys))
   last_grows s [] ys r = last_above s ys r
   last_grows s (x ∷ xs) ys r = last_grows x.stamp xs ys r.1
 
   -- what was seen of a history has no later stamp than the history
-  pub last_seen : (k : ℕ) (seen h : List (Entry A R)) → Extends k seen h → Rises 0 h → last_stamp seen ≤ last_stamp h
-  last_seen k seen h x r = let P : List (Entry A R) → Type 0 = λ z. last_stamp seen ≤ last_stamp z in
-      subst P x.0.1 (last_grows 0 seen x.0.0 (subst (Rises 0) (sym x.0.1) r))
+  pub last_seen : (k : ℕ) (seen h : List (Entry A R)) → Extends k seen h → RisesAbove 0 (entry_stamps h) → last_stamp (entry_stamps seen) ≤ last_stamp (entry_stamps h)
+  last_seen k seen h x r = let P : List (Entry A R) → Type 0 = λ z. last_stamp (entry_stamps seen) ≤ last_stamp (entry_stamps z) in
+      subst P x.0.1 (last_grows 0 seen x.0.0 (subst (λ (l : List (Entry A R)). RisesAbove 0 (entry_stamps l)) (sym x.0.1) r))
 
   -- the stamps before the last call rise
-  rises_front : (s : ℕ) (h : List (Entry A R)) (e : Entry A R) → Rises s (h ++ e ∷ []) → Rises s h
+  rises_front : (s : ℕ) (h : List (Entry A R)) (e : Entry A R) → RisesAbove s (entry_stamps (h ++ e ∷ [])) → RisesAbove s (entry_stamps h)
   rises_front s [] e r = tt
   rises_front s (x ∷ xs) e r = (r.0, rises_front x.stamp xs e r.1)
 
   -- if the calls of all seats follow, there are as many as the last stamp says
-  follow_all : (n s : ℕ) (h : List (Entry A R)) → All (λ e. e.seat < n) h → ((k : ℕ) → k < n → Follows k s h) → last_from s h ≡ s + length h
+  follow_all : (n s : ℕ) (h : List (Entry A R)) → All (λ e. e.caller < n) h → ((k : ℕ) → k < n → Follows k s h) → last_from s (entry_stamps h) ≡ s + length h
   follow_all n s [] below each = omega arith
   follow_all n s (e ∷ es) below each =
-      let C : Entry A R → Type 0 = λ x. x.seat < n in
+      let C : Entry A R → Type 0 = λ x. x.caller < n in
       let lt = All-head C e es below in
-      let stamp : e.stamp ≡ suc s = (each e.seat lt).0 refl in
+      let stamp : e.stamp ≡ suc s = (each e.caller lt).0 refl in
       let rest = follow_all n e.stamp es (All-tail C e es below) (λ k l. (each k l).1) in omega arith
 
   -- the acts of an extended history are those that the seat had seen
@@ -158,10 +158,10 @@ module _ {O A R : Type 0} (does : O → A → R → O → Type 0) (opening : O) 
   -- an answered call at 0 is one more act asked
   asked_answered : (stamp : ℕ) (answer : R) → HasAsked number acts before → IsAnswered does opening number before after 0 act stamp answer → HasAsked number (acts ++ act ∷ []) after
   asked_answered stamp answer asked a =
-      let e : Entry A R = record { seat = number; stamp = stamp; act = act; answer = answer } in
-      let rises : Rises 0 a.met = rises_front 0 a.met e (subst (Rises 0) a.entered a.legal.1) in
+      let e : Entry A R = record { stamp = stamp; caller = number; act = act; answer = answer } in
+      let rises : RisesAbove 0 (entry_stamps a.met) = rises_front 0 a.met e (subst (λ (l : List (Entry A R)). RisesAbove 0 (entry_stamps l)) a.entered a.legal.0) in
       let grown = last_seen number before a.met a.extends rises in
-      let stamped : stamp ≡ suc (last_stamp a.met) = a.stamped ∙ ap suc (zero-max (last_stamp a.met)) in
+      let stamped : stamp ≡ suc (last_stamp (entry_stamps a.met)) = a.stamped ∙ ap suc (zero-max (last_stamp (entry_stamps a.met))) in
       let follows = follows_append number 0 a.met (e ∷ []) (follows_extends number before a.met a.extends asked.follows) ((λ _. stamped), tt) in
       let acted : acts_of number after ≡ acts_of number before ++ act ∷ [] =
       ap (map (λ (x : Entry A R). x.act)) (calls_answered does opening number before after 0 act stamp answer a) ∙ map-append (λ (x : Entry A R). x.act) (calls_of number before) (e ∷ []) in
@@ -178,7 +178,7 @@ module _ {O A R : Type 0} (does : O → A → R → O → Type 0) (opening : O) 
       let b = asked.begun in record {
         follows = follows_extends number before after w.extends asked.follows;
         begun = (b.0 ++ act ∷ [], ap (λ l. l ++ (b.0 ++ act ∷ [])) (acts_extend number before after w.extends) ∙ (sym (append_assoc (acts_of number before) b.0 (act ∷ [])) ∙ ap (λ l. l ++ act ∷ []) b.1));
-        whole = inr (sym (zero-max (last_stamp after)) ∙ w.worn);
+        whole = inr (sym (zero-max (last_stamp (entry_stamps after))) ∙ w.worn);
       }
 
 module _ {O A R : Type 0} {g : Ghosts O A R} where
@@ -220,7 +220,7 @@ module _ {O A R : Type 0} {g : Ghosts O A R} where
       let mine : Extends k seen h = subst (λ (i : ℕ). Extends i seen h) (order k d lt) (extends_at seats h k d closed.seen lt) in
       let a = asked k d lt in
       let same = acts_extend k seen h mine in
-      let grown = last_seen k seen h mine closed.legal.1 in record {
+      let grown = last_seen k seen h mine closed.legal.0 in record {
         follows = follows_extends k seen h mine a.follows;
         begun = (a.begun.0, ap (λ l. l ++ a.begun.0) same ∙ a.begun.1);
         whole = ⊎_elim (λ e. inl (same ∙ e)) (λ worn. inr (let c = closed.capped in let l = closed.last in omega arith)) a.whole;
@@ -253,15 +253,15 @@ sum_by-of_map f g [] = refl
 sum_by-of_map {X} f g (x ∷ xs) =
     let a = sum_by-cons f (g x) (map g xs) in let b = sum_by-cons (λ (y : X). f (g y)) x xs in let rest = sum_by-of_map f g xs in omega arith
 
-module _ {A R : Type 0} (n : ℕ) (acts : ℕ → List A) (h : List (Entry A R)) (of_seats : All (λ e. e.seat < n) h) (asked : (k : ℕ) → k < n → HasAsked k (acts k) h) where
+module _ {A R : Type 0} (n : ℕ) (acts : ℕ → List A) (h : List (Entry A R)) (of_seats : All (λ e. e.caller < n) h) (asked : (k : ℕ) → k < n → HasAsked k (acts k) h) where
   -- there are as many calls as the last stamp says
-  pub stamps_count : last_stamp h ≡ length h
+  pub stamps_count : last_stamp (entry_stamps h) ≡ length h
   stamps_count = let t = follow_all n 0 h of_seats (λ k lt. (asked k lt).follows) in omega arith
 
   -- there are no more calls than acts
   pub calls_below : length h ≤ sum_below (λ k. length (acts k)) n
   calls_below =
-      let all = sum_of_classes (λ (e : Entry A R). e.seat) (λ e. 1) n h of_seats in
+      let all = sum_of_classes (λ (e : Entry A R). e.caller) (λ e. 1) n h of_seats in
       let one = sum_by-one h in
       let less = less_sums (λ k. sum_by (λ e. 1) (calls_of k h)) (λ k. length (acts k)) n
       (λ k lt.
@@ -272,8 +272,8 @@ module _ {A R : Type 0} (n : ℕ) (acts : ℕ → List A) (h : List (Entry A R))
       let parts = length-append (acts_of k h) b.0 in omega arith) in omega arith
 
   -- all acts were asked, or the clock is worn
-  pub whole_or_worn : ((k : ℕ) → k < n → acts_of k h ≡ acts k) ⊎ (last_stamp h ≡ 2 ^ 62)
-  whole_or_worn = dite (ℕ_discrete (last_stamp h) (2 ^ 62)) inr
+  pub whole_or_worn : ((k : ℕ) → k < n → acts_of k h ≡ acts k) ⊎ (last_stamp (entry_stamps h) ≡ 2 ^ 62)
+  whole_or_worn = dite (ℕ_discrete (last_stamp (entry_stamps h)) (2 ^ 62)) inr
       (λ fresh. inl (λ k lt. ⊎_elim (λ e. e) (λ worn. absurd (fresh worn)) (asked k lt).whole))
 
   -- all acts were asked, if there are fewer than stamps
@@ -283,7 +283,7 @@ module _ {A R : Type 0} (n : ℕ) (acts : ℕ → List A) (h : List (Entry A R))
   -- what f makes of the acts of all calls, if each seat asked its acts
   pub weighed : (f : A → ℕ) → ((k : ℕ) → k < n → acts_of k h ≡ acts k) → sum_by (λ e. f e.act) h ≡ sum_below (λ k. sum_by f (acts k)) n
   weighed f all =
-      sum_of_classes (λ (e : Entry A R). e.seat) (λ e. f e.act) n h of_seats
+      sum_of_classes (λ (e : Entry A R). e.caller) (λ e. f e.act) n h of_seats
       ∙ same_sums (λ k. sum_by (λ (e : Entry A R). f e.act) (calls_of k h)) (λ k. sum_by f (acts k)) n
       (λ k lt. sym (sum_by-of_map f (λ (e : Entry A R). e.act) (calls_of k h)) ∙ ap (sum_by f) (all k lt))
 

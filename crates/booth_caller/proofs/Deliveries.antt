@@ -7,14 +7,14 @@ use Rattle.std.proofs.lemmas.List.Elements.{All-head, All-tail}
 use Rattle.std.proofs.Math.Nat.{le-max_left, max-le, zero-max}
 use mathlib.Core.Logic.{dite}
 use native.Mathlib.Decide.{ℕ_discrete}
-use Rattle.abt_booth.specs.declared.history.Entry.{Entry}
+use Rattle.abt_interleave.specs.declared.entries.Entry.{Entry}
+use Rattle.abt_interleave.specs.Histories.{calls_of, last_stamp, RisesAbove, Extends, Leads, entry_stamps}
 use Rattle.abt_booth.specs.declared.object.Object.{Ghosts}
 use Rattle.abt_booth.specs.declared.booth.Booth.{Booth}
 use Rattle.abt_booth.specs.declared.booth.Seat.{Seat}
 use Rattle.abt_booth.specs.declared.booth.Called.{Called}
 use Rattle.abt_booth.specs.declared.booth.Called.TheVariants as called
 use Rattle.abt_booth.specs.Seats.{added_by, known_of, number_of, opening_of, seats_of, seen_of, HasNumber, HasEachNumber, AreInOrder, AreNewSeatsOf}
-use Rattle.abt_booth.specs.History.{calls_of, last_stamp, Rises, Extends, Leads}
 use Rattle.abt_booth.specs.Calls.{GrowsBy, IsAnswered, IsClosed}
 use Rattle.booth_caller.specs.declared.letters.Letter.{Letter}
 use Rattle.booth_caller.specs.declared.letters.Tray.{Tray}
@@ -28,60 +28,60 @@ use Rattle.booth_caller.proofs.Calling.{class_mine, class_other, last_seen}
 
 module _ {A R : Type 0} where
   -- a call of the seat stands first among its calls
-  first_mine : (k : ℕ) (x : Entry A R) (xs : List (Entry A R)) → x.seat ≡ k → calls_of k (x ∷ xs) ≡ x ∷ calls_of k xs
-  first_mine = class_mine (λ x. x.seat)
+  first_mine : (k : ℕ) (x : Entry A R) (xs : List (Entry A R)) → x.caller ≡ k → calls_of k (x ∷ xs) ≡ x ∷ calls_of k xs
+  first_mine = class_mine (λ x. x.caller)
 
   -- a call of another seat is none of its calls
-  first_other : (k : ℕ) (x : Entry A R) (xs : List (Entry A R)) → ¬ (x.seat ≡ k) → calls_of k (x ∷ xs) ≡ calls_of k xs
-  first_other = class_other (λ x. x.seat)
+  first_other : (k : ℕ) (x : Entry A R) (xs : List (Entry A R)) → ¬ (x.caller ≡ k) → calls_of k (x ∷ xs) ≡ calls_of k xs
+  first_other = class_other (λ x. x.caller)
 
   -- if one of two seats has no call, all are the other's
-  all_second : (xs : List (Entry A R)) → All (λ e. e.seat < 2) xs → calls_of 0 xs ≡ [] → calls_of 1 xs ≡ xs
+  all_second : (xs : List (Entry A R)) → All (λ e. e.caller < 2) xs → calls_of 0 xs ≡ [] → calls_of 1 xs ≡ xs
   all_second [] two none = refl
-  all_second (x ∷ xs) two none = let lt = All-head (λ (e : Entry A R). e.seat < 2) x xs two in dite (ℕ_discrete x.seat 0)
+  all_second (x ∷ xs) two none = let lt = All-head (λ (e : Entry A R). e.caller < 2) x xs two in dite (ℕ_discrete x.caller 0)
       (λ first. absurd (let e = sym (first_mine 0 x xs first) ∙ none in cc))
-      (λ other. let one : x.seat ≡ 1 = omega arith in first_mine 1 x xs one ∙ ap (λ l. x ∷ l) (all_second xs (All-tail (λ (e : Entry A R). e.seat < 2) x xs two) (sym (first_other 0 x xs other) ∙ none)))
+      (λ other. let one : x.caller ≡ 1 = omega arith in first_mine 1 x xs one ∙ ap (λ l. x ∷ l) (all_second xs (All-tail (λ (e : Entry A R). e.caller < 2) x xs two) (sym (first_other 0 x xs other) ∙ none)))
 
   -- the same of the other seat
-  all_first : (xs : List (Entry A R)) → All (λ e. e.seat < 2) xs → calls_of 1 xs ≡ [] → calls_of 0 xs ≡ xs
+  all_first : (xs : List (Entry A R)) → All (λ e. e.caller < 2) xs → calls_of 1 xs ≡ [] → calls_of 0 xs ≡ xs
   all_first [] two none = refl
-  all_first (x ∷ xs) two none = let lt = All-head (λ (e : Entry A R). e.seat < 2) x xs two in dite (ℕ_discrete x.seat 1)
+  all_first (x ∷ xs) two none = let lt = All-head (λ (e : Entry A R). e.caller < 2) x xs two in dite (ℕ_discrete x.caller 1)
       (λ second. absurd (let e = sym (first_mine 1 x xs second) ∙ none in cc))
-      (λ other. let zero : x.seat ≡ 0 = omega arith in first_mine 0 x xs zero ∙ ap (λ l. x ∷ l) (all_first xs (All-tail (λ (e : Entry A R). e.seat < 2) x xs two) (sym (first_other 1 x xs other) ∙ none)))
+      (λ other. let zero : x.caller ≡ 0 = omega arith in first_mine 0 x xs zero ∙ ap (λ l. x ∷ l) (all_first xs (All-tail (λ (e : Entry A R). e.caller < 2) x xs two) (sym (first_other 1 x xs other) ∙ none)))
 
   -- a prefix that has no call of the seat of the first call is empty
-  prefix_none : (x : Entry A R) (xs met rest : List (Entry A R)) → met ++ rest ≡ x ∷ xs → calls_of x.seat met ≡ [] → met ≡ []
+  prefix_none : (x : Entry A R) (xs met rest : List (Entry A R)) → met ++ rest ≡ x ∷ xs → calls_of x.caller met ≡ [] → met ≡ []
   prefix_none x xs [] rest e none = refl
-  prefix_none x xs (y ∷ ys) rest e none = let is : y ≡ x = cc in absurd (let f = sym (first_mine x.seat y ys (ap (λ (z : Entry A R). z.seat) is)) ∙ none in cc)
+  prefix_none x xs (y ∷ ys) rest e none = let is : y ≡ x = cc in absurd (let f = sym (first_mine x.caller y ys (ap (λ (z : Entry A R). z.caller) is)) ∙ none in cc)
 
   -- a seat's first call of a history, at 0, has the stamp 1 if it is the only one there
   first_stamp : {O : Type 0} (does : O → A → R → O → Type 0) (opening : O) (number : ℕ) (seen h : List (Entry A R)) (act : A) (stamp : ℕ) (answer : R)
-      → IsAnswered does opening number [] seen 0 act stamp answer → Extends number seen h → h ≡ record { seat = number; stamp = stamp; act = act; answer = answer } ∷ [] → stamp ≡ 1
+      → IsAnswered does opening number [] seen 0 act stamp answer → Extends number seen h → h ≡ record { stamp = stamp; caller = number; act = act; answer = answer } ∷ [] → stamp ≡ 1
   first_stamp does opening number seen h act stamp answer a x is =
-      let e : Entry A R = record { seat = number; stamp = stamp; act = act; answer = answer } in
+      let e : Entry A R = record { stamp = stamp; caller = number; act = act; answer = answer } in
       let whole : a.met ++ (e ∷ x.0.0) ≡ e ∷ [] = sym (append_assoc a.met (e ∷ []) x.0.0) ∙ (ap (λ (l : List (Entry A R)). l ++ x.0.0) (sym a.entered) ∙ (x.0.1 ∙ is)) in
       let none : a.met ≡ [] = prefix_none e [] a.met (e ∷ x.0.0) whole a.extends.1 in
-      a.stamped ∙ ap (λ (l : List (Entry A R)). suc (max 0 (last_stamp l))) none
+      a.stamped ∙ ap (λ (l : List (Entry A R)). suc (max 0 (last_stamp (entry_stamps l)))) none
 
   -- a seat's first call has a greater stamp than all before the history
-  later : (k s : ℕ) (xs : List (Entry A R)) (a : Entry A R) → Rises s xs → calls_of k xs ≡ a ∷ [] → s < a.stamp
+  later : (k s : ℕ) (xs : List (Entry A R)) (a : Entry A R) → RisesAbove s (entry_stamps xs) → calls_of k xs ≡ a ∷ [] → s < a.stamp
   later k s [] a r e = absurd (cc)
-  later k s (x ∷ xs) a r e = dite (ℕ_discrete x.seat k)
+  later k s (x ∷ xs) a r e = dite (ℕ_discrete x.caller k)
       (λ mine. let same = sym (first_mine k x xs mine) ∙ e in let is : x ≡ a = cc in subst (λ (y : Entry A R). s < y.stamp) is r.0)
       (λ other. let after = later k x.stamp xs a r.1 (sym (first_other k x xs other) ∙ e) in let lt = r.0 in omega arith)
 
   -- two seats with one call each, the second one's stamp the greater: these two are the history
-  pub two_calls : (s : ℕ) (xs : List (Entry A R)) (a b : Entry A R) → All (λ e. e.seat < 2) xs → calls_of 0 xs ≡ a ∷ [] → calls_of 1 xs ≡ b ∷ [] → a.stamp < b.stamp → Rises s xs → xs ≡ a ∷ b ∷ []
+  pub two_calls : (s : ℕ) (xs : List (Entry A R)) (a b : Entry A R) → All (λ e. e.caller < 2) xs → calls_of 0 xs ≡ a ∷ [] → calls_of 1 xs ≡ b ∷ [] → a.stamp < b.stamp → RisesAbove s (entry_stamps xs) → xs ≡ a ∷ b ∷ []
   two_calls s [] a b two first second lt r = absurd (cc)
-  two_calls s (x ∷ xs) a b two first second lt r = let below = All-head (λ (e : Entry A R). e.seat < 2) x xs two in let rest = All-tail (λ (e : Entry A R). e.seat < 2) x xs two in dite (ℕ_discrete x.seat 0)
+  two_calls s (x ∷ xs) a b two first second lt r = let below = All-head (λ (e : Entry A R). e.caller < 2) x xs two in let rest = All-tail (λ (e : Entry A R). e.caller < 2) x xs two in dite (ℕ_discrete x.caller 0)
       (λ mine.
       let same = sym (first_mine 0 x xs mine) ∙ first in
       let is : x ≡ a = cc in
       let none : calls_of 0 xs ≡ [] = cc in
-      let other : ¬ (x.seat ≡ 1) = λ one. absurd (omega arith) in
+      let other : ¬ (x.caller ≡ 1) = λ one. absurd (omega arith) in
       let tail : xs ≡ b ∷ [] = sym (all_second xs rest none) ∙ (sym (first_other 1 x xs other) ∙ second) in (λ i. is i ∷ tail i))
       (λ other.
-      let one : x.seat ≡ 1 = omega arith in
+      let one : x.caller ≡ 1 = omega arith in
       let same = sym (first_mine 1 x xs one) ∙ second in
       let is : x ≡ b = cc in
       let after = later 0 x.stamp xs a r.1 (sym (first_other 0 x xs other) ∙ first) in
@@ -145,8 +145,8 @@ module _ {g : Ghosts Tray Ask Reply} (booth : Booth Tray Ask Reply) (p p' t t' :
   taken_calls added grows = theirs.1 ∙ (ap (λ (n : ℕ). calls_of n (seen_of t')) (sym second) ∙ (grows.calls ∙ ap (λ (l : List E). calls_of (number_of t) l ++ added) fresh'))
 
   -- the last stamp that a seat has seen is at most that of the history
-  low : (l : List E) (number : ℕ) (seen : List E) → Extends number seen h → h ≡ l → last_stamp seen ≤ last_stamp l
-  low l number seen x same = subst (λ (z : List E). last_stamp seen ≤ last_stamp z) same (last_seen number seen h x closed.legal.1)
+  low : (l : List E) (number : ℕ) (seen : List E) → Extends number seen h → h ≡ l → last_stamp (entry_stamps seen) ≤ last_stamp (entry_stamps l)
+  low l number seen x same = subst (λ (z : List E). last_stamp (entry_stamps seen) ≤ last_stamp (entry_stamps z)) same (last_seen number seen h x closed.legal.0)
 
   answered_first : (stamp : ℕ) (stored : Reply) → IsAnswered Does (opening_of booth) (number_of p) (seen_of p) (seen_of p') 0 (ask.Put letter) stamp stored → IsAnswered Does (opening_of booth) 0 [] (seen_of p') 0 (ask.Put letter) stamp stored
   answered_first stamp stored a =
@@ -169,29 +169,29 @@ module _ {g : Ghosts Tray Ask Reply} (booth : Booth Tray Ask Reply) (p p' t t' :
   delivered (called.Worn back) (called.Worn back') pass =
       let none : h ≡ [] = sym (all_second h closed.of_seats (added_first (called.Worn back) pass.put_grows)) ∙ added_second (called.Worn back') pass.taken_grows in
       let seen_low = low [] 0 (seen_of p') mine none in
-      let worn = sym (zero-max (last_stamp (seen_of p'))) ∙ pass.put_replies.worn in absurd (omega arith)
+      let worn = sym (zero-max (last_stamp (entry_stamps (seen_of p')))) ∙ pass.put_replies.worn in absurd (omega arith)
   delivered (called.Worn back) (called.Done stamp' given) pass =
-      let b : E = record { seat = 1; stamp = stamp'; act = ask.Take; answer = given } in
+      let b : E = record { stamp = stamp'; caller = 1; act = ask.Take; answer = given } in
       let one : h ≡ b ∷ [] = sym (all_second h closed.of_seats (added_first (called.Worn back) pass.put_grows)) ∙ added_second (called.Done stamp' given) pass.taken_grows in
       let is_one = first_stamp Does (opening_of booth) 1 (seen_of t') h ask.Take stamp' given (answered_second 0 stamp' given pass.taken_replies) theirs one in
       let seen_low = low (b ∷ []) 0 (seen_of p') mine one in
-      let worn = sym (zero-max (last_stamp (seen_of p'))) ∙ pass.put_replies.worn in absurd (omega arith)
+      let worn = sym (zero-max (last_stamp (entry_stamps (seen_of p')))) ∙ pass.put_replies.worn in absurd (omega arith)
   delivered (called.Done stamp stored) (called.Worn back') pass =
-      let a : E = record { seat = 0; stamp = stamp; act = ask.Put letter; answer = stored } in
+      let a : E = record { stamp = stamp; caller = 0; act = ask.Put letter; answer = stored } in
       let one : h ≡ a ∷ [] = sym (all_first h closed.of_seats (added_second (called.Worn back') pass.taken_grows)) ∙ added_first (called.Done stamp stored) pass.put_grows in
       let is_one = first_stamp Does (opening_of booth) 0 (seen_of p') h (ask.Put letter) stamp stored (answered_first stamp stored pass.put_replies) mine one in
       let seen_low = low (a ∷ []) 1 (seen_of t') theirs one in
       let worn = pass.taken_replies.worn in
       let small : stamp ≤ 1 = omega arith in
-      let seen_small : last_stamp (seen_of t') ≤ 1 = omega arith in
-      let most : max stamp (last_stamp (seen_of t')) ≤ 1 = max-le small seen_small in absurd (omega arith)
+      let seen_small : last_stamp (entry_stamps (seen_of t')) ≤ 1 = omega arith in
+      let most : max stamp (last_stamp (entry_stamps (seen_of t'))) ≤ 1 = max-le small seen_small in absurd (omega arith)
   delivered (called.Done stamp stored) (called.Done stamp' given) pass =
       let take = pass.taken_replies in
-      let a : E = record { seat = 0; stamp = stamp; act = ask.Put letter; answer = stored } in
-      let b : E = record { seat = 1; stamp = stamp'; act = ask.Take; answer = given } in
-      let later : stamp < stamp' = omega (arith, le-max_left stamp (last_stamp take.met), take.stamped) in
-      let pair : h ≡ a ∷ b ∷ [] = two_calls 0 h a b closed.of_seats (added_first (called.Done stamp stored) pass.put_grows) (added_second (called.Done stamp' given) pass.taken_grows) later closed.legal.1 in
-      let leads = subst (λ (l : List E). Leads Does (opening_of booth) l object) pair closed.legal.0 in
+      let a : E = record { stamp = stamp; caller = 0; act = ask.Put letter; answer = stored } in
+      let b : E = record { stamp = stamp'; caller = 1; act = ask.Take; answer = given } in
+      let later : stamp < stamp' = omega (arith, le-max_left stamp (last_stamp (entry_stamps take.met)), take.stamped) in
+      let pair : h ≡ a ∷ b ∷ [] = two_calls 0 h a b closed.of_seats (added_first (called.Done stamp stored) pass.put_grows) (added_second (called.Done stamp' given) pass.taken_grows) later closed.legal.0 in
+      let leads = subst (λ (l : List E). Leads Does (opening_of booth) l object) pair closed.legal.1 in
       let held = subst (λ (l : Option (Box Letter Global)). Answers l (ask.Put letter) stored leads.0.letter) empty leads.1 in
       (subst (λ (l : Option (Box Letter Global)). Answers l ask.Take given leads.2.0.letter) held.1 leads.2.1).0
 

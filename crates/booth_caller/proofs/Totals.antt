@@ -4,8 +4,8 @@ use Rattle.std.specs.List.{All, sum_by}
 use Rattle.std.proofs.lemmas.List.{length-replicate}
 use Rattle.std.proofs.lemmas.List.Elements.{All-replicate}
 use Rattle.std.proofs.lemmas.List.Sums.{sum_by-cons}
-use Rattle.abt_booth.specs.declared.history.Entry.{Entry}
-use Rattle.abt_booth.specs.History.{calls_of, Leads}
+use Rattle.abt_interleave.specs.declared.entries.Entry.{Entry}
+use Rattle.abt_interleave.specs.Histories.{calls_of, Leads}
 use Rattle.abt_booth.specs.Calls.{IsClosed}
 use Rattle.booth_caller.specs.declared.counter.Counter.{Counter}
 use Rattle.booth_caller.specs.Calling.{acts_of, HasAsked}
@@ -33,13 +33,13 @@ counted threads times clock opening object known zero closed asked =
     let h = closed.history in
     let acts : ℕ → List ℕ = λ k. replicate times 1 in
     let IsOne : ℕ → Type 0 = λ a. a ≡ 1 in
-    let sum = total opening object h (omega arith) closed.legal.0 in
-    let ones : All (λ (e : Entry ℕ ℕ). e.act ≡ 1) h = all_of_classes (λ (e : Entry ℕ ℕ). e.seat) (λ e. IsOne e.act) threads h closed.of_seats
+    let sum = total opening object h (omega arith) closed.legal.1 in
+    let ones : All (λ (e : Entry ℕ ℕ). e.act ≡ 1) h = all_of_classes (λ (e : Entry ℕ ℕ). e.caller) (λ e. IsOne e.act) threads h closed.of_seats
     (λ k lt. let b = (asked k lt).begun in acts_hold IsOne (calls_of k h) b.0 (subst (All IsOne) (sym b.1) (All-replicate IsOne times 1 refl))) in
     let all_made : ((k : ℕ) → k < threads → acts_of k h ≡ acts k) → length h ≡ threads * times = λ all.
     calls_count threads acts h closed.of_seats asked all ∙ (same_sums (λ k. length (acts k)) (λ k. times) threads (λ k lt. length-replicate times 1) ∙ sum_below_same times threads) in record {
       history = h;
-      rises = closed.legal.1;
+      rises = closed.legal.0;
       last = closed.last;
       of_threads = closed.of_seats;
       ones = ones;

@@ -1,8 +1,8 @@
 -- What the seats of a booth asked.
 use Rattle.std.specs.Prelude.{◌≡◌, ℕ, suc, ◌^◌, ◌⊎◌, List, [], ◌∷◌, ◌++◌, map}
 use mathlib.Core.List.{IsPrefix}
-use Rattle.abt_booth.specs.declared.history.Entry.{Entry}
-use Rattle.abt_booth.specs.History.{calls_of, last_stamp}
+use Rattle.abt_interleave.specs.declared.entries.Entry.{Entry}
+use Rattle.abt_interleave.specs.Histories.{calls_of, last_stamp, entry_stamps}
 
 module _ {A R : Type 0} where
   -- the acts of one seat's calls, in order
@@ -12,13 +12,13 @@ module _ {A R : Type 0} where
   -- each call of the seat has the next stamp after the call before it; the first call of all comes after s
   abbrev pub Follows : ℕ → ℕ → List (Entry A R) → Type 0
   Follows number s [] = Unit {0}
-  Follows number s (e ∷ es) = (e.seat ≡ number → e.stamp ≡ suc s) × Follows number e.stamp es
+  Follows number s (e ∷ es) = (e.caller ≡ number → e.stamp ≡ suc s) × Follows number e.stamp es
 
   -- The seat asked these acts in order, each at 0, and nothing else; or it asked the first of them, and the clock is worn.
   pub record HasAsked (number : ℕ) (acts : List A) (seen : List (Entry A R)) : Type 0 where
     pub follows : Follows number 0 seen
     pub begun : IsPrefix (acts_of number seen) acts
-    pub whole : (acts_of number seen ≡ acts) ⊎ (last_stamp seen ≡ 2 ^ 62)
+    pub whole : (acts_of number seen ≡ acts) ⊎ (last_stamp (entry_stamps seen) ≡ 2 ^ 62)
 
   -- whatever the seat had asked, it has asked these acts more
   abbrev pub AsksMore : ℕ → List A → List (Entry A R) → List (Entry A R) → Type 0

@@ -1,7 +1,7 @@
 -- Two calls of a booth, and its closing, are a wave.
 use Rattle.std.proofs.Common.{◌≡◌, ℕ, zero, suc, ◌<◌, ◌≤◌, List, [], ◌∷◌, Some, refl, ◌∙◌, subst, arith, inl, inr}
 use Rattle.std.specs.Prelude.{Contains}
-use Rattle.abt_booth.specs.declared.history.Entry.{Entry}
+use Rattle.abt_interleave.specs.declared.entries.Entry.{Entry}
 use Rattle.abt_booth.specs.Calls.{IsAnswered, IsClosed}
 use Rattle.booth_caller.specs.declared.counter.Counter.{Counter}
 use Rattle.booth_caller.specs.Counters.{Adds}

@@ -1,7 +1,7 @@
 use Rattle.std.proofs.Common.{rules, arith, ◌≡◌, ◌+◌, ◌<◌, [], ◌∷◌, ◌++◌, List, max, refl, ap, sym, ◌∙◌, subst}
 use Rattle.std.proofs.Math.Nat.{le-max_right}
-use Rattle.abt_booth.specs.declared.history.Entry.{Entry}
-use Rattle.abt_booth.specs.History.{last_stamp, Legal}
+use Rattle.abt_interleave.specs.declared.entries.Entry.{Entry}
+use Rattle.abt_interleave.specs.Histories.{last_stamp, Legal, entry_stamps}
 use Rattle.abt_booth.specs.Calls.{IsWorn}
 use Rattle.abt_booth.specs.Seats.{opening_of, number_of, seen_of, IsSeatOf}
 use Rattle.abt_booth.proofs.Answered.{grows_answered, grows_worn}
@@ -17,7 +17,7 @@ returns-then-greater-eq-LAST_STAMP-clause-reply g c = let b = c.begin-free.ensur
       left = c.begin-free.result.1.object;
       returned = refl;
       extends = b.met;
-      legal = (b.object, b.rises);
+      legal = (b.rises, b.object);
       worn = ap (max c.args.at) (sym b.clock.0) ∙ (sym c.max-greater.ensures ∙ c.if-greater-eq-LAST_STAMP.true);
     })
 
@@ -36,17 +36,17 @@ returns-clause-reply g c =
     let o = opening_of c.args.self.now in
     let p = c.begin-free.new.seat.me.0.seen in
     let stamp = c.max-greater.result + 1 in
-    let e : Entry g.row.O-Act.Denot g.row.O-Answer.Denot = record { seat = n; stamp = stamp; act = c.args.act; answer = c.run-answer.result } in
-    let greatest : c.max-greater.result ≡ max c.args.at (last_stamp p) = c.max-greater.ensures ∙ ap (max c.args.at) b.clock.0 in
-    let most : max c.args.at (last_stamp p) ≡ c.max-greater.result = sym greatest in
-    let later : last_stamp p < stamp = omega (arith, le-max_right c.args.at (last_stamp p), most) in
-    let entered = ap (λ m. m.0.seen) c.release.ensures.view ∙ (λ i. p ++ record { seat = ap (λ m. m.0.number) b.view i; stamp = stamp; act = c.of-asked.ensures i; answer = c.of-answered.ensures i } ∷ []) in record {
+    let e : Entry g.row.O-Act.Denot g.row.O-Answer.Denot = record { stamp = stamp; caller = n; act = c.args.act; answer = c.run-answer.result } in
+    let greatest : c.max-greater.result ≡ max c.args.at (last_stamp (entry_stamps p)) = c.max-greater.ensures ∙ ap (max c.args.at) b.clock.0 in
+    let most : max c.args.at (last_stamp (entry_stamps p)) ≡ c.max-greater.result = sym greatest in
+    let later : last_stamp (entry_stamps p) < stamp = omega (arith, le-max_right c.args.at (last_stamp (entry_stamps p)), most) in
+    let entered = ap (λ m. m.0.seen) c.release.ensures.view ∙ (λ i. p ++ record { stamp = stamp; caller = ap (λ m. m.0.number) b.view i; act = c.of-asked.ensures i; answer = c.of-answered.ensures i } ∷ []) in record {
       met = p;
       left = c.run-answer.new.self;
       extends = b.met;
       entered = entered;
       legal = subst (λ (l : List (Entry g.row.O-Act.Denot g.row.O-Answer.Denot)). Legal g.O.Object.does o l c.run-answer.new.self) (sym entered)
-          (leads_more g.O.Object.does o p c.begin-free.result.1.object e c.run-answer.new.self b.object c.run-answer.ensures, rises_more 0 p e b.rises later);
+          (rises_more 0 p e b.rises later, leads_more g.O.Object.does o p c.begin-free.result.1.object e c.run-answer.new.self b.object c.run-answer.ensures);
       stamped = omega (arith, greatest);
       capped = omega (arith, c.if-greater-eq-LAST_STAMP.false, c.requires.at, b.clock.1, c.max-greater.ensures);
     }

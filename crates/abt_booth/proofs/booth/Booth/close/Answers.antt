@@ -1,7 +1,7 @@
 use Rattle.std.proofs.Common.{rules, ◌≡◌, ◌++◌, [], List, ℕ, Some, map, ap, sym, subst, ◌∙◌}
 use Rattle.std.proofs.lemmas.List.{append-nil}
 use Rattle.std.proofs.lemmas.List.Elements.{All-pop}
-use Rattle.abt_booth.specs.declared.history.Entry.{Entry}
+use Rattle.abt_interleave.specs.declared.entries.Entry.{Entry}
 use Rattle.abt_booth.specs.Seats.{known_of, gathered_of, seats_of, IsSeatOf, HasEachNumber}
 use Rattle.abt_booth.proofs.Gathering.{known_pop}
 use Rattle.abt_booth.proofs.booth.Booth.close.Goals as goal
