@@ -1,13 +1,14 @@
 //! A barrier, and its calls.
 
-ghost use Rattle.std.specs.Prelude.{◌≡◌, ◌<◌, [], None, Some, IfNone, IfSome, ⊤};
+ghost use Rattle.std.specs.Prelude.{◌≡◌, ◌<◌, ◌+◌, ◌↔◌, [], length};
 ghost use Rattle.std.specs.List.{find};
 ghost use Rattle.abt_machine.specs.Acts.{Arrive};
-ghost use Rattle.abt_machine.specs.Acts as answer;
 ghost use Rattle.abt_machine.specs.Barriers.{BarrierGives};
 ghost use Rattle.abt_machine.specs.Pools.{is_unit};
-ghost use Rattle.abt_barrier.specs.declared.arrival.Arrival.TheVariants as arrival;
 ghost use Rattle.abt_unit.specs.Units.{IsFree};
+ghost use Rattle.abt_chain.specs.Results.{unit_found};
+ghost use Rattle.abt_barrier.specs.Arrivals.{IfThrough, arrival_answer};
+ghost use Rattle.abt_barrier.specs.declared.arrival.Arrival.TheVariants as arrival;
 
 use crate::Arrival;
 use abt_chain::Chain;
@@ -51,11 +52,9 @@ impl Barrier {
     /// The unit waits, or is the last that the barrier waited for.
     pub fn arrive(&mut self, unit: Box<Unit>) -> Arrival
         requires free { IsFree unit.value }
-        ensures gives { elim result as (λ _. Type 0) [
-          | arrival.Rested ↦ BarrierGives self.old (Arrive unit.value.owned) answer.Rested self.new
-          | arrival.Through caller others ↦ BarrierGives self.old (Arrive unit.value.owned) (answer.Through caller.value.owned others.units) self.new
-        ] }
-        ensures caller { elim result as (λ _. Type 0) [ arrival.Rested ↦ ⊤ | arrival.Through caller others ↦ caller.value ≡ unit.value ] }
+        ensures gives { BarrierGives self.old (Arrive unit.value.owned) (arrival_answer result) self.new }
+        ensures waits { (result ≡ arrival.Rested) ↔ (length self.old.waiters + 1 < self.old.size) }
+        ensures same { IfThrough result (λ caller. caller.value ≡ unit.value) }
     {
         if self.waiting + 1 < self.size {
             self.waiting += 1;
@@ -76,8 +75,7 @@ impl Barrier {
 
     /// The waiter of that number. The time is that of a walk over those that wait.
     pub fn waiter(&self, u: UnitNo) -> Option<&Unit>
-        ensures found { IfSome result (λ unit. find (is_unit u.0) self.now.waiters ≡ Some unit.now.owned) }
-        ensures absent { IfNone result (find (is_unit u.0) self.now.waiters ≡ None) }
+        ensures { find (is_unit u.0) self.now.waiters ≡ unit_found result }
     {
         self.waiters.find(u)
     }

@@ -9,4 +9,4 @@ mod tests;
 
 pub use arrival::Arrival;
 pub use barrier::Barrier;
-pub use laws::barriers_keep_what_fits;
+pub use laws::{barriers_keep_what_fits, barriers_lack_a_party};

@@ -1,3 +1,4 @@
 pub mod Chains
 pub mod Keeping
 pub mod Links
+pub mod Results

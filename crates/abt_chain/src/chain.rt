@@ -5,6 +5,7 @@ ghost use Rattle.std.specs.List.{find};
 ghost use Rattle.abt_machine.specs.Pools.{is_unit, without};
 ghost use Rattle.abt_unit.specs.Units.{IsFree};
 ghost use Rattle.abt_chain.specs.Links.{RisesByOne, walk_of};
+ghost use Rattle.abt_chain.specs.Results.{unit_found};
 
 use crate::Steps;
 use crate::parts::{
@@ -107,8 +108,7 @@ impl Chain {
     /// The first unit of that number. It walks as many links as there are units.
     #[tactic(auto, using(crate::proofs::Finds::leaving))]
     pub fn find(&self, u: UnitNo) -> Option<&Unit>
-        ensures none { IfNone result (find (is_unit u.0) self.now.units ≡ None) }
-        ensures found { IfSome result (λ unit. find (is_unit u.0) self.now.units ≡ Some unit.now.owned) }
+        ensures { find (is_unit u.0) self.now.units ≡ unit_found result }
     {
         match find_first(&self.front, u) {
             Some(unit) => Some(unit),

@@ -4,10 +4,12 @@
 mod chain;
 mod laws;
 mod parts;
+mod refused;
 mod steps;
 #[cfg(test)]
 mod tests;
 
 pub use chain::Chain;
 pub use laws::calls_walk_few_links;
+pub use refused::Refused;
 pub use steps::Steps;

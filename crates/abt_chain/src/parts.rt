@@ -4,6 +4,7 @@ ghost use Rattle.std.specs.Prelude.{◌≡◌, ◌+◌, ◌≤◌, [], ◌∷◌
 ghost use Rattle.std.specs.List.{find};
 ghost use Rattle.abt_machine.specs.Pools.{is_unit, without};
 ghost use Rattle.abt_unit.specs.Units.{IsFree, units_in};
+ghost use Rattle.abt_chain.specs.Results.{unit_found};
 
 use crate::Steps;
 use abt_machine::UnitNo;
@@ -156,8 +157,7 @@ pub fn part_at(part: Part, u: UnitNo) -> Parted
 
 /// The first unit of that number.
 pub fn find_first(part: &Part, number: UnitNo) -> Option<&Unit>
-    ensures none { IfNone result (find (is_unit number.0) (units_in part.now) ≡ None) }
-    ensures some { IfSome result (λ unit. find (is_unit number.0) (units_in part.now) ≡ Some unit.now.owned) }
+    ensures { find (is_unit number.0) (units_in part.now) ≡ unit_found result }
 {
     let mut at = part;
     while let Some(unit) = at {
@@ -172,8 +172,7 @@ pub fn find_first(part: &Part, number: UnitNo) -> Option<&Unit>
 /// The last unit of that number.
 #[tactic(auto, using(crate::proofs::Finds::leaving))]
 pub fn find_last(part: &Part, number: UnitNo) -> Option<&Unit>
-    ensures none { IfNone result (find (is_unit number.0) (reverse (units_in part.now)) ≡ None) }
-    ensures some { IfSome result (λ unit. find (is_unit number.0) (reverse (units_in part.now)) ≡ Some unit.now.owned) }
+    ensures { find (is_unit number.0) (reverse (units_in part.now)) ≡ unit_found result }
 {
     let mut found = None;
     let mut at = part;

@@ -1,5 +1,5 @@
 -- Rows of units that objects hold.
-use Rattle.std.proofs.Common.{◌≡◌, ◌≢◌, ℕ, zero, suc, false, List, [], ◌∷◌, ◌++◌, slice_get, get_or, Some, None, refl, sym, ◌∙◌, ap, subst}
+use Rattle.std.proofs.Common.{◌≡◌, ◌≢◌, ℕ, zero, suc, false, List, [], ◌∷◌, ◌++◌, slice_get, get_or, Option, Some, None, refl, sym, ◌∙◌, ap, subst}
 use Rattle.std.specs.Prelude.{Contains, option_map}
 use Rattle.std.specs.List.{All, find}
 use Rattle.std.specs.Option.{option_or}
@@ -16,7 +16,7 @@ use Rattle.abt_machine.specs.declared.workload.Parts.{Parts}
 use Rattle.abt_machine.specs.Monitors.{list_from}
 use Rattle.abt_machine.specs.Numbers.{object_no}
 use Rattle.abt_machine.specs.Pools.{is_unit}
-use Rattle.abt_machine.specs.Values.{Owned, Object, Phase, PoolIs, DeskIs, MonitorIs, EventualIs, FutureIs, BarrierIs, RwLockIs, NotHere, conditions_of}
+use Rattle.abt_machine.specs.Values.{Owned, Object, Phase, MonitorIs, EventualIs, FutureIs, BarrierIs, RwLockIs, conditions_of}
 use Rattle.abt_laws.proofs.Options.{none≢some, some-injective}
 use Rattle.abt_calls.specs.Showing.{Row, rows_as, rows_at, rows_at_desk, rows_of_object}
 use Rattle.abt_commons.specs.Reading.{is_row_of, rows_at_site, waiters_of_barrier, waiters_of_condition, waiters_of_eventual, waiters_of_future, waiters_of_monitor, waiters_of_rwlock}
@@ -49,21 +49,13 @@ module _ (u : ℕ) where
 
   -- Desks.
 
-  pub joiner-found : (phase : Phase) (v : UnitNo) (joiners : List Owned) (o : Owned) → find (is_row_of u) (rows_at_desk phase) ≡ None → find (is_unit u) joiners ≡ Some o
-      → find (is_row_of u) (rows_at_desk phase ++ rows_as (shows.Join v) joiners) ≡ Some (shows.Join v, o)
-  joiner-found phase v joiners o none found =
-      find-append (is_row_of u) (rows_at_desk phase) (rows_as (shows.Join v) joiners)
-      ∙ (ap (λ r. option_or r (find (is_row_of u) (rows_as (shows.Join v) joiners))) none ∙ (found-as (shows.Join v) joiners ∙ ap (option_map (λ (q : Owned). (shows.Join v, q))) found))
+  -- its own unit, or else a joiner
+  abbrev pub desk_found : UnitNo → Option Row → Option Owned → Option Row
+  desk_found v own joiner = option_or own (option_map (λ o. (shows.Join v, o)) joiner)
 
-  pub none-found : (phase : Phase) (v : UnitNo) (joiners : List Owned) → find (is_row_of u) (rows_at_desk phase) ≡ None → find (is_unit u) joiners ≡ None
-      → find (is_row_of u) (rows_at_desk phase ++ rows_as (shows.Join v) joiners) ≡ None
-  none-found phase v joiners none absent =
-      find-append (is_row_of u) (rows_at_desk phase) (rows_as (shows.Join v) joiners)
-      ∙ (ap (λ r. option_or r (find (is_row_of u) (rows_as (shows.Join v) joiners))) none ∙ (found-as (shows.Join v) joiners ∙ ap (option_map (λ (q : Owned). (shows.Join v, q))) absent))
-
-  pub own-found : (phase : Phase) (v : UnitNo) (joiners : List Owned) (row : Row) → find (is_row_of u) (rows_at_desk phase) ≡ Some row → find (is_row_of u) (rows_at_desk phase ++ rows_as (shows.Join v) joiners) ≡ Some row
-  own-found phase v joiners row found =
-      find-append (is_row_of u) (rows_at_desk phase) (rows_as (shows.Join v) joiners) ∙ ap (λ r. option_or r (find (is_row_of u) (rows_as (shows.Join v) joiners))) found
+  pub found-at-desk : (phase : Phase) (v : UnitNo) (joiners : List Owned)
+      → find (is_row_of u) (rows_at_desk phase ++ rows_as (shows.Join v) joiners) ≡ desk_found v (find (is_row_of u) (rows_at_desk phase)) (find (is_unit u) joiners)
+  found-at-desk phase v joiners = find-append (is_row_of u) (rows_at_desk phase) (rows_as (shows.Join v) joiners) ∙ ap (option_or (find (is_row_of u) (rows_at_desk phase))) (found-as (shows.Join v) joiners)
 
   -- Conditions.
 
@@ -90,119 +82,53 @@ module _ (u : ℕ) where
   module _ (W : Parts) (x : ObjectNo) where
     pub monitor-other : (object : Object) → find (is_unit u) (waiters_of_monitor object) ≡ None → ((k c : ℕ) → slice_get (conditions_of W x.0) k ≡ Some c → find (is_unit u) (waiters_of_condition k object) ≡ None)
         → All IsOther (rows_of_object W (site.Monitor x) object)
-    monitor-other (PoolIs pool) none conds = All-nil IsOther
-    monitor-other (DeskIs desk) none conds = All-nil IsOther
     monitor-other (MonitorIs m) none conds = All-append IsOther (rows_as (shows.Object x) m.waiters) (rows_at (conditions_of W x.0) m.conds) (as-other (shows.Object x) m.waiters none) (rows-at-other (conditions_of W x.0) m.conds conds)
-    monitor-other (EventualIs e) none conds = All-nil IsOther
-    monitor-other (FutureIs f) none conds = All-nil IsOther
-    monitor-other (BarrierIs b) none conds = All-nil IsOther
-    monitor-other (RwLockIs l) none conds = All-nil IsOther
-    monitor-other NotHere none conds = All-nil IsOther
+    monitor-other object none conds = All-nil IsOther
 
     pub eventual-other : (object : Object) → find (is_unit u) (waiters_of_eventual object) ≡ None → All IsOther (rows_of_object W (site.Eventual x) object)
-    eventual-other (PoolIs pool) none = All-nil IsOther
-    eventual-other (DeskIs desk) none = All-nil IsOther
-    eventual-other (MonitorIs m) none = All-nil IsOther
     eventual-other (EventualIs e) none = as-other (shows.Object x) e.waiters none
-    eventual-other (FutureIs f) none = All-nil IsOther
-    eventual-other (BarrierIs b) none = All-nil IsOther
-    eventual-other (RwLockIs l) none = All-nil IsOther
-    eventual-other NotHere none = All-nil IsOther
+    eventual-other object none = All-nil IsOther
 
     pub future-other : (object : Object) → find (is_unit u) (waiters_of_future object) ≡ None → All IsOther (rows_of_object W (site.Future x) object)
-    future-other (PoolIs pool) none = All-nil IsOther
-    future-other (DeskIs desk) none = All-nil IsOther
-    future-other (MonitorIs m) none = All-nil IsOther
-    future-other (EventualIs e) none = All-nil IsOther
     future-other (FutureIs f) none = as-other (shows.Object x) f.waiters none
-    future-other (BarrierIs b) none = All-nil IsOther
-    future-other (RwLockIs l) none = All-nil IsOther
-    future-other NotHere none = All-nil IsOther
+    future-other object none = All-nil IsOther
 
     pub barrier-other : (object : Object) → find (is_unit u) (waiters_of_barrier object) ≡ None → All IsOther (rows_of_object W (site.Barrier x) object)
-    barrier-other (PoolIs pool) none = All-nil IsOther
-    barrier-other (DeskIs desk) none = All-nil IsOther
-    barrier-other (MonitorIs m) none = All-nil IsOther
-    barrier-other (EventualIs e) none = All-nil IsOther
-    barrier-other (FutureIs f) none = All-nil IsOther
     barrier-other (BarrierIs b) none = as-other (shows.Object x) b.waiters none
-    barrier-other (RwLockIs l) none = All-nil IsOther
-    barrier-other NotHere none = All-nil IsOther
+    barrier-other object none = All-nil IsOther
 
     pub rwlock-other : (object : Object) → find (is_unit u) (waiters_of_rwlock object) ≡ None → All IsOther (rows_of_object W (site.Rw x) object)
-    rwlock-other (PoolIs pool) none = All-nil IsOther
-    rwlock-other (DeskIs desk) none = All-nil IsOther
-    rwlock-other (MonitorIs m) none = All-nil IsOther
-    rwlock-other (EventualIs e) none = All-nil IsOther
-    rwlock-other (FutureIs f) none = All-nil IsOther
-    rwlock-other (BarrierIs b) none = All-nil IsOther
     rwlock-other (RwLockIs l) none = as-other (shows.Object x) l.waiters none
-    rwlock-other NotHere none = All-nil IsOther
+    rwlock-other object none = All-nil IsOther
 
     pub monitor-there : (object : Object) (o : Owned) → find (is_unit u) (waiters_of_monitor object) ≡ Some o → Contains (rows_of_object W (site.Monitor x) object) (shows.Object x, o) × (o.number ≡ u)
-    monitor-there (PoolIs pool) o found = absurd (none≢some found)
-    monitor-there (DeskIs desk) o found = absurd (none≢some found)
     monitor-there (MonitorIs m) o found =
         let here = as-there (shows.Object x) m.waiters o found in
         (Contains-append_left (rows_as (shows.Object x) m.waiters) (rows_at (conditions_of W x.0) m.conds) (shows.Object x, o) here.0, here.1)
-    monitor-there (EventualIs e) o found = absurd (none≢some found)
-    monitor-there (FutureIs f) o found = absurd (none≢some found)
-    monitor-there (BarrierIs b) o found = absurd (none≢some found)
-    monitor-there (RwLockIs l) o found = absurd (none≢some found)
-    monitor-there NotHere o found = absurd (none≢some found)
+    monitor-there object o found = absurd (none≢some found)
 
     pub eventual-there : (object : Object) (o : Owned) → find (is_unit u) (waiters_of_eventual object) ≡ Some o → Contains (rows_of_object W (site.Eventual x) object) (shows.Object x, o) × (o.number ≡ u)
-    eventual-there (PoolIs pool) o found = absurd (none≢some found)
-    eventual-there (DeskIs desk) o found = absurd (none≢some found)
-    eventual-there (MonitorIs m) o found = absurd (none≢some found)
     eventual-there (EventualIs e) o found = as-there (shows.Object x) e.waiters o found
-    eventual-there (FutureIs f) o found = absurd (none≢some found)
-    eventual-there (BarrierIs b) o found = absurd (none≢some found)
-    eventual-there (RwLockIs l) o found = absurd (none≢some found)
-    eventual-there NotHere o found = absurd (none≢some found)
+    eventual-there object o found = absurd (none≢some found)
 
     pub future-there : (object : Object) (o : Owned) → find (is_unit u) (waiters_of_future object) ≡ Some o → Contains (rows_of_object W (site.Future x) object) (shows.Object x, o) × (o.number ≡ u)
-    future-there (PoolIs pool) o found = absurd (none≢some found)
-    future-there (DeskIs desk) o found = absurd (none≢some found)
-    future-there (MonitorIs m) o found = absurd (none≢some found)
-    future-there (EventualIs e) o found = absurd (none≢some found)
     future-there (FutureIs f) o found = as-there (shows.Object x) f.waiters o found
-    future-there (BarrierIs b) o found = absurd (none≢some found)
-    future-there (RwLockIs l) o found = absurd (none≢some found)
-    future-there NotHere o found = absurd (none≢some found)
+    future-there object o found = absurd (none≢some found)
 
     pub barrier-there : (object : Object) (o : Owned) → find (is_unit u) (waiters_of_barrier object) ≡ Some o → Contains (rows_of_object W (site.Barrier x) object) (shows.Object x, o) × (o.number ≡ u)
-    barrier-there (PoolIs pool) o found = absurd (none≢some found)
-    barrier-there (DeskIs desk) o found = absurd (none≢some found)
-    barrier-there (MonitorIs m) o found = absurd (none≢some found)
-    barrier-there (EventualIs e) o found = absurd (none≢some found)
-    barrier-there (FutureIs f) o found = absurd (none≢some found)
     barrier-there (BarrierIs b) o found = as-there (shows.Object x) b.waiters o found
-    barrier-there (RwLockIs l) o found = absurd (none≢some found)
-    barrier-there NotHere o found = absurd (none≢some found)
+    barrier-there object o found = absurd (none≢some found)
 
     pub rwlock-there : (object : Object) (o : Owned) → find (is_unit u) (waiters_of_rwlock object) ≡ Some o → Contains (rows_of_object W (site.Rw x) object) (shows.Object x, o) × (o.number ≡ u)
-    rwlock-there (PoolIs pool) o found = absurd (none≢some found)
-    rwlock-there (DeskIs desk) o found = absurd (none≢some found)
-    rwlock-there (MonitorIs m) o found = absurd (none≢some found)
-    rwlock-there (EventualIs e) o found = absurd (none≢some found)
-    rwlock-there (FutureIs f) o found = absurd (none≢some found)
-    rwlock-there (BarrierIs b) o found = absurd (none≢some found)
     rwlock-there (RwLockIs l) o found = as-there (shows.Object x) l.waiters o found
-    rwlock-there NotHere o found = absurd (none≢some found)
+    rwlock-there object o found = absurd (none≢some found)
 
     pub condition-there : (object : Object) (k c : ℕ) (o : Owned) → slice_get (conditions_of W x.0) k ≡ Some c → find (is_unit u) (waiters_of_condition k object) ≡ Some o
         → Contains (rows_of_object W (site.Monitor x) object) (shows.Object (object_no c), o) × (o.number ≡ u)
-    condition-there (PoolIs pool) k c o at found = absurd (none≢some found)
-    condition-there (DeskIs desk) k c o at found = absurd (none≢some found)
     condition-there (MonitorIs m) k c o at found =
         let there = rows-at-there (conditions_of W x.0) m.conds k c o at found in
         (Contains-append_right (rows_as (shows.Object x) m.waiters) (rows_at (conditions_of W x.0) m.conds) (shows.Object (object_no c), o) there.0, there.1)
-    condition-there (EventualIs e) k c o at found = absurd (none≢some found)
-    condition-there (FutureIs f) k c o at found = absurd (none≢some found)
-    condition-there (BarrierIs b) k c o at found = absurd (none≢some found)
-    condition-there (RwLockIs l) k c o at found = absurd (none≢some found)
-    condition-there NotHere k c o at found = absurd (none≢some found)
+    condition-there object k c o at found = absurd (none≢some found)
 
 -- The object at a site's number.
 module _ (W : Parts) (ones : List OneValue) (clocks : List ℕ) (ours : All (λ one. one.workload ≡ W) ones) (whole : IsWhole (held_in W ones clocks)) (x : Site) (i : ℕ) (is : site_number W x ≡ Some i)

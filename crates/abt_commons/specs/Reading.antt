@@ -1,6 +1,8 @@
 -- What is read off objects.
 use Rattle.std.specs.Prelude.{ℕ, ◌≡◌, ◌≢◌, Bool, false, is_some, not, List, [], slice_get, Option, Some, None, Contains}
+use Rattle.std.specs.Borrow.{Bor}
 use Rattle.std.specs.List.{All}
+use Rattle.abt_machine.specs.declared.events.Shown.{Shown}
 use Rattle.abt_machine.specs.declared.events.Site.{Site}
 use Rattle.abt_machine.specs.declared.operations.Thing.{Thing}
 use Rattle.abt_machine.specs.declared.operations.Thing.TheVariants as thing
@@ -10,6 +12,7 @@ use Rattle.abt_machine.specs.Futures as future
 use Rattle.abt_machine.specs.Desks.{is_living}
 use Rattle.abt_machine.specs.Monitors.{at_condition}
 use Rattle.abt_machine.specs.Pools.{is_unit}
+use Rattle.abt_unit.specs.Units.{UnitValue}
 use Rattle.abt_calls.specs.Asking.{IsSite}
 use Rattle.abt_calls.specs.Showing.{Row, rows_of_object}
 use Rattle.abt_commons.specs.Held.{ObjectsValue, object_at, object_from}
@@ -57,6 +60,11 @@ HoldNone held u = (x : Site) → IsSite held.workload x → All (λ (row : Row).
 -- the row is of unit u
 abbrev pub is_row_of : ℕ → Row → Bool
 is_row_of u row = is_unit u row.1
+
+-- the unit that was found, if one was, with what a report shows of it
+abbrev pub row_found : Option (Shown × Bor UnitValue) → Option Row
+row_found None = None
+row_found (Some found) = Some (found.0, found.1.now.owned)
 
 -- Units that wait for an object, if it is of the kind.
 

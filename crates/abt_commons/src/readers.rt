@@ -12,12 +12,13 @@ ghost use Rattle.abt_machine.specs.Operations.{IsEventual, IsFuture};
 ghost use Rattle.abt_machine.specs.Workloads.{IsCondition};
 ghost use Rattle.abt_machine.specs.Pools.{is_unit};
 ghost use Rattle.abt_machine.specs.Values.{Owned};
+ghost use Rattle.abt_chain.specs.Results.{unit_found};
 ghost use Rattle.abt_calls.specs.Allowed.{Allows};
 ghost use Rattle.abt_calls.specs.Keeps.{contents_of};
 ghost use Rattle.abt_commons.specs.Held.{object_at};
 ghost use Rattle.abt_commons.specs.Kinds.{object_in};
 ghost use Rattle.abt_calls.specs.Showing.{Row};
-ghost use Rattle.abt_commons.specs.Reading.{HoldNone, IsHeldAs, is_over, is_ready, is_row_of, rows_at_site, waiters_at_thing};
+ghost use Rattle.abt_commons.specs.Reading.{HoldNone, IsHeldAs, is_over, is_ready, is_row_of, row_found, rows_at_site, waiters_at_thing};
 
 use crate::objects::Objects;
 use crate::one::One;
@@ -167,8 +168,7 @@ impl<'w> Objects<'w> {
 
     fn in_pool(&self, p: PoolNo, u: UnitNo) -> Option<(Shown, &Unit)>
         requires { p.0 < length self.now.workload.pools }
-        ensures none { IfNone result (find (is_row_of u.0) (rows_at_site self.now (site.Pool p)) ≡ None) }
-        ensures found { IfSome result (λ found. find (is_row_of u.0) (rows_at_site self.now (site.Pool p)) ≡ Some (found.0, found.1.now.owned)) }
+        ensures { find (is_row_of u.0) (rows_at_site self.now (site.Pool p)) ≡ row_found result }
     {
         self.ones[site_number(self.w, Site::Pool(p))].in_pool(p, u)
     }
@@ -188,8 +188,7 @@ impl<'w> Objects<'w> {
 
     fn at_desk(&self, v: UnitNo, u: UnitNo) -> Option<(Shown, &Unit)>
         requires { v.0 < length self.now.workload.units }
-        ensures none { IfNone result (find (is_row_of u.0) (rows_at_site self.now (site.Desk v)) ≡ None) }
-        ensures found { IfSome result (λ found. find (is_row_of u.0) (rows_at_site self.now (site.Desk v)) ≡ Some (found.0, found.1.now.owned)) }
+        ensures { find (is_row_of u.0) (rows_at_site self.now (site.Desk v)) ≡ row_found result }
     {
         self.ones[site_number(self.w, Site::Desk(v))].at_desk(v, u)
     }
@@ -209,8 +208,7 @@ impl<'w> Objects<'w> {
 
     fn at_thing(&self, x: ObjectNo, u: UnitNo) -> Option<&Unit>
         requires { x.0 < length self.now.workload.objects }
-        ensures none { IfNone result (find (is_unit u.0) (waiters_at_thing self.now x.0) ≡ None) }
-        ensures found { IfSome result (λ unit. find (is_unit u.0) (waiters_at_thing self.now x.0) ≡ Some unit.now.owned) }
+        ensures { find (is_unit u.0) (waiters_at_thing self.now x.0) ≡ unit_found result }
     {
         match self.w.thing(x) {
             Thing::Mutex => self.ones[thing_number(self.w, x)].monitor_waiter(u),
@@ -224,8 +222,7 @@ impl<'w> Objects<'w> {
 
     fn at_condition(&self, x: ObjectNo, u: UnitNo) -> Option<&Unit>
         requires { IsCondition self.now.workload x.0 }
-        ensures none { IfNone result (find (is_unit u.0) (waiters_at_thing self.now x.0) ≡ None) }
-        ensures found { IfSome result (λ unit. find (is_unit u.0) (waiters_at_thing self.now x.0) ≡ Some unit.now.owned) }
+        ensures { find (is_unit u.0) (waiters_at_thing self.now x.0) ≡ unit_found result }
     {
         // The count is of no use here, but its contract says that the workload is valid.
         self.w.streams();

@@ -1,14 +1,15 @@
 //! Units by number in one object.
 
-ghost use Rattle.std.specs.Prelude.{◌≡◌, ◌++◌, None, Some, IfNone, IfSome};
+ghost use Rattle.std.specs.Prelude.{◌≡◌, ◌++◌};
 ghost use Rattle.std.specs.List.{find};
 ghost use Rattle.abt_machine.specs.declared.events.Shown.TheVariants as shows;
 ghost use Rattle.abt_machine.specs.declared.events.Site.TheVariants as site;
 ghost use Rattle.abt_machine.specs.Acts as asked;
 ghost use Rattle.abt_machine.specs.Pools.{is_unit};
+ghost use Rattle.abt_chain.specs.Results.{unit_found};
 ghost use Rattle.abt_calls.specs.Allowed.{Allows};
 ghost use Rattle.abt_calls.specs.Showing.{rows_as, rows_at_desk, rows_of_object};
-ghost use Rattle.abt_commons.specs.Reading.{is_row_of, waiters_of_barrier, waiters_of_condition, waiters_of_eventual, waiters_of_future, waiters_of_monitor, waiters_of_rwlock};
+ghost use Rattle.abt_commons.specs.Reading.{is_row_of, row_found, waiters_of_barrier, waiters_of_condition, waiters_of_eventual, waiters_of_future, waiters_of_monitor, waiters_of_rwlock};
 
 use crate::one::One;
 use crate::shared::Shared;
@@ -20,8 +21,7 @@ impl<'w> One<'w> {
     // The first unit of that number in pool p, and what a report shows of it.
     pub(crate) fn in_pool(&self, p: PoolNo, u: UnitNo) -> Option<(Shown, &Unit)>
         requires { Allows self.now.object (asked.Remove 0) }
-        ensures none { IfNone result (find (is_row_of u.0) (rows_of_object self.now.workload (site.Pool p) self.now.object) ≡ None) }
-        ensures found { IfSome result (λ found. find (is_row_of u.0) (rows_of_object self.now.workload (site.Pool p) self.now.object) ≡ Some (found.0, found.1.now.owned)) }
+        ensures { find (is_row_of u.0) (rows_of_object self.now.workload (site.Pool p) self.now.object) ≡ row_found result }
     {
         match &*self.shared {
             Shared::Pool(pool) => match pool.find(u) {
@@ -35,8 +35,7 @@ impl<'w> One<'w> {
     // The first unit of that number at the desk of unit v, and what a report shows of it.
     pub(crate) fn at_desk(&self, v: UnitNo, u: UnitNo) -> Option<(Shown, &Unit)>
         requires { Allows self.now.object asked.Look }
-        ensures none { IfNone result (find (is_row_of u.0) (rows_of_object self.now.workload (site.Desk v) self.now.object) ≡ None) }
-        ensures found { IfSome result (λ found. find (is_row_of u.0) (rows_of_object self.now.workload (site.Desk v) self.now.object) ≡ Some (found.0, found.1.now.owned)) }
+        ensures { find (is_row_of u.0) (rows_of_object self.now.workload (site.Desk v) self.now.object) ≡ row_found result }
     {
         match &*self.shared {
             Shared::Desk(desk) => found_at_desk(desk, v, u),
@@ -46,8 +45,7 @@ impl<'w> One<'w> {
 }
 
 fn found_at_desk(desk: &Desk, v: UnitNo, u: UnitNo) -> Option<(Shown, &Unit)>
-    ensures none { IfNone result (find (is_row_of u.0) (rows_at_desk desk.now.phase ++ rows_as (shows.Join v) desk.now.joiners) ≡ None) }
-    ensures found { IfSome result (λ found. find (is_row_of u.0) (rows_at_desk desk.now.phase ++ rows_as (shows.Join v) desk.now.joiners) ≡ Some (found.0, found.1.now.owned)) }
+    ensures { find (is_row_of u.0) (rows_at_desk desk.now.phase ++ rows_as (shows.Join v) desk.now.joiners) ≡ row_found result }
 {
     match own_unit(desk, u) {
         Some(found) => Some(found),
@@ -60,8 +58,7 @@ fn found_at_desk(desk: &Desk, v: UnitNo, u: UnitNo) -> Option<(Shown, &Unit)>
 
 // The desk's own unit, if the desk holds it and it has that number, and what a report shows of it.
 fn own_unit(desk: &Desk, u: UnitNo) -> Option<(Shown, &Unit)>
-    ensures none { IfNone result (find (is_row_of u.0) (rows_at_desk desk.now.phase) ≡ None) }
-    ensures found { IfSome result (λ found. find (is_row_of u.0) (rows_at_desk desk.now.phase) ≡ Some (found.0, found.1.now.owned)) }
+    ensures { find (is_row_of u.0) (rows_at_desk desk.now.phase) ≡ row_found result }
 {
     match (desk.held(), desk.shown()) {
         (Some(unit), Some(shown)) => {
@@ -78,8 +75,7 @@ fn own_unit(desk: &Desk, u: UnitNo) -> Option<(Shown, &Unit)>
 // The first unit of that number that waits for the object, if it is of the kind.
 impl<'w> One<'w> {
     pub(crate) fn monitor_waiter(&self, u: UnitNo) -> Option<&Unit>
-        ensures none { IfNone result (find (is_unit u.0) (waiters_of_monitor self.now.object) ≡ None) }
-        ensures found { IfSome result (λ unit. find (is_unit u.0) (waiters_of_monitor self.now.object) ≡ Some unit.now.owned) }
+        ensures { find (is_unit u.0) (waiters_of_monitor self.now.object) ≡ unit_found result }
     {
         match &*self.shared {
             Shared::Monitor(monitor) => monitor.waiter(None, u),
@@ -89,8 +85,7 @@ impl<'w> One<'w> {
 
     pub(crate) fn condition_waiter(&self, cond: u32, u: UnitNo) -> Option<&Unit>
         requires { Allows self.now.object (asked.Signal cond) }
-        ensures none { IfNone result (find (is_unit u.0) (waiters_of_condition cond self.now.object) ≡ None) }
-        ensures found { IfSome result (λ unit. find (is_unit u.0) (waiters_of_condition cond self.now.object) ≡ Some unit.now.owned) }
+        ensures { find (is_unit u.0) (waiters_of_condition cond self.now.object) ≡ unit_found result }
     {
         match &*self.shared {
             Shared::Monitor(monitor) => monitor.waiter(Some(cond), u),
@@ -99,8 +94,7 @@ impl<'w> One<'w> {
     }
 
     pub(crate) fn eventual_waiter(&self, u: UnitNo) -> Option<&Unit>
-        ensures none { IfNone result (find (is_unit u.0) (waiters_of_eventual self.now.object) ≡ None) }
-        ensures found { IfSome result (λ unit. find (is_unit u.0) (waiters_of_eventual self.now.object) ≡ Some unit.now.owned) }
+        ensures { find (is_unit u.0) (waiters_of_eventual self.now.object) ≡ unit_found result }
     {
         match &*self.shared {
             Shared::Eventual(eventual) => eventual.waiter(u),
@@ -109,8 +103,7 @@ impl<'w> One<'w> {
     }
 
     pub(crate) fn future_waiter(&self, u: UnitNo) -> Option<&Unit>
-        ensures none { IfNone result (find (is_unit u.0) (waiters_of_future self.now.object) ≡ None) }
-        ensures found { IfSome result (λ unit. find (is_unit u.0) (waiters_of_future self.now.object) ≡ Some unit.now.owned) }
+        ensures { find (is_unit u.0) (waiters_of_future self.now.object) ≡ unit_found result }
     {
         match &*self.shared {
             Shared::Future(future) => future.waiter(u),
@@ -119,8 +112,7 @@ impl<'w> One<'w> {
     }
 
     pub(crate) fn barrier_waiter(&self, u: UnitNo) -> Option<&Unit>
-        ensures none { IfNone result (find (is_unit u.0) (waiters_of_barrier self.now.object) ≡ None) }
-        ensures found { IfSome result (λ unit. find (is_unit u.0) (waiters_of_barrier self.now.object) ≡ Some unit.now.owned) }
+        ensures { find (is_unit u.0) (waiters_of_barrier self.now.object) ≡ unit_found result }
     {
         match &*self.shared {
             Shared::Barrier(barrier) => barrier.waiter(u),
@@ -129,8 +121,7 @@ impl<'w> One<'w> {
     }
 
     pub(crate) fn rwlock_waiter(&self, u: UnitNo) -> Option<&Unit>
-        ensures none { IfNone result (find (is_unit u.0) (waiters_of_rwlock self.now.object) ≡ None) }
-        ensures found { IfSome result (λ unit. find (is_unit u.0) (waiters_of_rwlock self.now.object) ≡ Some unit.now.owned) }
+        ensures { find (is_unit u.0) (waiters_of_rwlock self.now.object) ≡ unit_found result }
     {
         match &*self.shared {
             Shared::RwLock(rwlock) => rwlock.waiter(u),

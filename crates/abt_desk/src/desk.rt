@@ -1,6 +1,6 @@
 //! A unit's desk and its calls. None of them takes memory.
 
-ghost use Rattle.std.specs.Prelude.{◌≡◌, IfErr, IfNone, IfOk, IfSome, None, Some, [], false, not, option_map};
+ghost use Rattle.std.specs.Prelude.{◌≡◌, IfNone, IfOk, IfSome, None, Some, [], false, not, option_map};
 ghost use Rattle.std.specs.List.{find};
 ghost use Rattle.std.specs.Option.{option_or};
 ghost use Rattle.abt_machine.specs.declared.events.Code.TheVariants as code;
@@ -12,6 +12,7 @@ ghost use Rattle.abt_machine.specs.Desks.{DeskGives, ended_in, suspended_in, unb
 ghost use Rattle.abt_machine.specs.Pools.{is_unit};
 ghost use Rattle.abt_machine.specs.Values.{Ended, Out, Owned, Suspended, Unborn};
 ghost use Rattle.abt_unit.specs.Units.{IsFree};
+ghost use Rattle.abt_chain.specs.Results.{coded_or, given_or, unit_found, unit_given};
 ghost use Rattle.abt_desk.specs.Phases.{behind_in, phase_of, shown_in, shown_unit};
 
 use abt_chain::Chain;
@@ -98,9 +99,8 @@ impl Desk {
 
     /// Begins the unit's first life, with that home. `Exists` if it is not unborn.
     pub fn create(&mut self, home: PoolNo) -> Result<Box<Unit>, Code>
-        ensures created { IfOk result (λ unit. DeskGives self.old (act.Create home.0) (act.Given unit.value.owned) self.new) }
+        ensures gives { DeskGives self.old (act.Create home.0) (coded_or unit_given result) self.new }
         ensures free { IfOk result (λ unit. IsFree unit.value) }
-        ensures refused { IfErr result (λ code. DeskGives self.old (act.Create home.0) (act.Coded code) self.new) }
     {
         match mem::replace(&mut self.phase, Phase::Out) {
             Phase::Unborn(unit) => Ok(begun(unit, home)),
@@ -130,9 +130,8 @@ impl Desk {
     /// The unit goes on if the desk's unit has ended; else it is kept as the last joiner.
     pub fn join(&mut self, unit: Box<Unit>) -> Option<Box<Unit>>
         requires { IsFree unit.value }
-        ensures goes_on { IfSome result (λ back. DeskGives self.old (act.Join unit.value.owned) (act.Given back.value.owned) self.new) }
+        ensures gives { DeskGives self.old (act.Join unit.value.owned) (given_or act.Rested result) self.new }
         ensures same { IfSome result (λ back. back.value ≡ unit.value) }
-        ensures waits { IfNone result (DeskGives self.old (act.Join unit.value.owned) act.Rested self.new) }
     {
         match &self.phase {
             Phase::Ended(_, _) => Some(unit),
@@ -199,9 +198,8 @@ impl Desk {
 
     /// The unit, which goes on. None (`UnitState`) if it is not suspended.
     pub fn resume(&mut self) -> Option<Box<Unit>>
-        ensures resumed { IfSome result (λ unit. DeskGives self.old act.Resume (act.Given unit.value.owned) self.new) }
+        ensures gives { DeskGives self.old act.Resume (given_or (act.Coded code.UnitState) result) self.new }
         ensures free { IfSome result (λ unit. IsFree unit.value) }
-        ensures refused { IfNone result (DeskGives self.old act.Resume (act.Coded code.UnitState) self.new) }
     {
         match mem::replace(&mut self.phase, Phase::Out) {
             Phase::Suspended(unit) => Some(unit),
@@ -214,9 +212,8 @@ impl Desk {
 
     /// The unit at the beginning of a further life, with that home. None (`UnitState`) if it has not ended.
     pub fn revive(&mut self, home: PoolNo) -> Option<Box<Unit>>
-        ensures revived { IfSome result (λ unit. DeskGives self.old (act.Revive home.0) (act.Given unit.value.owned) self.new) }
+        ensures gives { DeskGives self.old (act.Revive home.0) (given_or (act.Coded code.UnitState) result) self.new }
         ensures free { IfSome result (λ unit. IsFree unit.value) }
-        ensures refused { IfNone result (DeskGives self.old (act.Revive home.0) (act.Coded code.UnitState) self.new) }
     {
         match mem::replace(&mut self.phase, Phase::Out) {
             Phase::Ended(unit, _) => Some(begun(unit, home)),
@@ -277,8 +274,7 @@ impl Desk {
 
     /// The first joiner of that number. None if there is none.
     pub fn joiner(&self, u: UnitNo) -> Option<&Unit>
-        ensures none { IfNone result (find (is_unit u.0) self.now.joiners ≡ None) }
-        ensures found { IfSome result (λ unit. find (is_unit u.0) self.now.joiners ≡ Some unit.now.owned) }
+        ensures { find (is_unit u.0) self.now.joiners ≡ unit_found result }
     {
         self.joiners.find(u)
     }

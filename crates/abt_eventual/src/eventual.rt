@@ -1,12 +1,13 @@
 //! An eventual, and its calls. None of them takes memory.
 
-ghost use Rattle.std.specs.Prelude.{◌≡◌, [], IfErr, IfNone, IfOk, IfSome, None, Some};
+ghost use Rattle.std.specs.Prelude.{◌≡◌, [], IfSome, None};
 ghost use Rattle.std.specs.List.{find};
-ghost use Rattle.abt_machine.specs.Acts.{Await, Coded, Fill, Given, Number, Reset, Rested, Test, Woke};
+ghost use Rattle.abt_machine.specs.Acts.{Await, Fill, Number, Reset, Rested, Test};
 ghost use Rattle.abt_machine.specs.Eventuals.{EventualGives};
 ghost use Rattle.abt_machine.specs.Pools.{is_unit};
 ghost use Rattle.abt_machine.specs.Steps.{truth};
 ghost use Rattle.abt_unit.specs.Units.{IsFree};
+ghost use Rattle.abt_chain.specs.Results.{coded_or, given_or, unit_found, units_woken};
 
 use crate::waking::woken_with;
 use abt_chain::Chain;
@@ -43,10 +44,9 @@ impl Eventual {
     /// The unit goes on with the value in its accumulator if the eventual is ready. Else it waits.
     pub fn wait(&mut self, mut unit: Box<Unit>) -> Option<Box<Unit>>
         requires { IsFree unit.value }
-        ensures given { IfSome result (λ given. EventualGives self.old (Await unit.value.owned) (Given given.value.owned) self.new) }
+        ensures gives { EventualGives self.old (Await unit.value.owned) (given_or Rested result) self.new }
         ensures free { IfSome result (λ given. IsFree given.value) }
         ensures room { IfSome result (λ given. given.value.spare ≡ unit.value.spare) }
-        ensures rested { IfNone result (EventualGives self.old (Await unit.value.owned) Rested self.new) }
     {
         match self.value {
             None => {
@@ -63,8 +63,7 @@ impl Eventual {
     /// Makes the eventual ready with that value: all units that wait come out in order, each with the value in its
     /// accumulator. `EventualSet` if it is ready.
     pub fn set(&mut self, value: u64) -> Result<Chain, Code>
-        ensures woke { IfOk result (λ woken. EventualGives self.old (Fill value) (Woke woken.units) self.new) }
-        ensures err { IfErr result (λ refused. EventualGives self.old (Fill value) (Coded refused) self.new) }
+        ensures { EventualGives self.old (Fill value) (coded_or units_woken result) self.new }
     {
         match self.value {
             None => {
@@ -99,8 +98,7 @@ impl Eventual {
 
     /// The first unit of that number among those that wait. The time is that of a walk over them.
     pub fn waiter(&self, u: UnitNo) -> Option<&Unit>
-        ensures found { IfSome result (λ unit. find (is_unit u.0) self.now.waiters ≡ Some unit.now.owned) }
-        ensures absent { IfNone result (find (is_unit u.0) self.now.waiters ≡ None) }
+        ensures { find (is_unit u.0) self.now.waiters ≡ unit_found result }
     {
         self.waiters.find(u)
     }

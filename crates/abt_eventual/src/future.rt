@@ -1,12 +1,13 @@
 //! A future, and its calls. None of them takes memory.
 
-ghost use Rattle.std.specs.Prelude.{◌≡◌, ◌≢◌, ◌<◌, ◌↔◌, [], IfErr, IfNone, IfOk, IfSome, IsTrue, None, Some};
+ghost use Rattle.std.specs.Prelude.{◌≡◌, ◌≢◌, ◌<◌, ◌↔◌, [], IfSome, IsTrue};
 ghost use Rattle.std.specs.List.{find};
-ghost use Rattle.abt_machine.specs.Acts.{Await, Coded, Fill, Given, Number, Reset, Rested, Test, Woke};
+ghost use Rattle.abt_machine.specs.Acts.{Await, Fill, Number, Reset, Rested, Test};
 ghost use Rattle.abt_machine.specs.Futures.{FutureGives, with_one_more};
 ghost use Rattle.abt_machine.specs.Pools.{is_unit};
 ghost use Rattle.abt_machine.specs.Steps.{truth};
 ghost use Rattle.abt_unit.specs.Units.{IsFree};
+ghost use Rattle.abt_chain.specs.Results.{coded_or, given_or, unit_found, units_woken};
 
 use crate::waking::woken_with;
 use abt_chain::Chain;
@@ -59,10 +60,9 @@ impl Future {
     /// The unit goes on with the value in its accumulator if the future is ready. Else it waits.
     pub fn wait(&mut self, mut unit: Box<Unit>) -> Option<Box<Unit>>
         requires { IsFree unit.value }
-        ensures given { IfSome result (λ given. FutureGives self.old (Await unit.value.owned) (Given given.value.owned) self.new) }
+        ensures gives { FutureGives self.old (Await unit.value.owned) (given_or Rested result) self.new }
         ensures free { IfSome result (λ given. IsFree given.value) }
         ensures room { IfSome result (λ given. given.value.spare ≡ unit.value.spare) }
-        ensures rested { IfNone result (FutureGives self.old (Await unit.value.owned) Rested self.new) }
     {
         if self.is_ready() {
             unit.receive(self.value);
@@ -75,8 +75,7 @@ impl Future {
     /// Fills one compartment. With the last the future is ready: all units that wait come out in order, each with the
     /// future's value in its accumulator. `FutureFull` if it is ready.
     pub fn set(&mut self, value: u64) -> Result<Chain, Code>
-        ensures woke { IfOk result (λ woken. FutureGives self.old (Fill value) (Woke woken.units) self.new) }
-        ensures err { IfErr result (λ refused. FutureGives self.old (Fill value) (Coded refused) self.new) }
+        ensures { FutureGives self.old (Fill value) (coded_or units_woken result) self.new }
     {
         if self.is_ready() {
             return Err(Code::FutureFull);
@@ -113,8 +112,7 @@ impl Future {
 
     /// The first unit of that number among those that wait. The time is that of a walk over them.
     pub fn waiter(&self, u: UnitNo) -> Option<&Unit>
-        ensures found { IfSome result (λ unit. find (is_unit u.0) self.now.waiters ≡ Some unit.now.owned) }
-        ensures absent { IfNone result (find (is_unit u.0) self.now.waiters ≡ None) }
+        ensures { find (is_unit u.0) self.now.waiters ≡ unit_found result }
     {
         self.waiters.find(u)
     }

@@ -3,13 +3,14 @@
 use Rattle.std.proofs.Common.{◌≡◌, ◌<◌, ℕ, List, [], ◌∷◌, ◌++◌, Option, None, Some, length, slice_set, ap, ◌∙◌, append_assoc, get_or, get_or-set_same}
 use Rattle.std.proofs.lemmas.List.{append-nil, length-set, set-set}
 use Rattle.std.proofs.lemmas.Option.{slice_get-get_or}
-use Rattle.std.specs.Prelude.{Box, IfNone, IfSome, slice_get}
+use Rattle.std.specs.Prelude.{Box, slice_get}
 use Rattle.std.specs.declared.alloc.Global.{Global}
-use Rattle.abt_machine.specs.Acts.{Broadcast, Given, Rested, Signal}
+use Rattle.abt_machine.specs.Acts.{Broadcast, Rested, Signal}
 use Rattle.abt_machine.specs.Monitors.{MonitorGives, after_broadcast, after_signal, all_admitted, at_condition, rest, with_condition}
 use Rattle.abt_machine.specs.Queues.{first_alone}
 use Rattle.abt_machine.specs.Values.{MonitorValue, Owned}
 use Rattle.abt_unit.specs.Units.{UnitValue}
+use Rattle.abt_chain.specs.Results.{given_or}
 use Rattle.abt_monitor.proofs.Conditions.{length-after_signal}
 
 -- units that are admitted at a held mutex wait behind the others
@@ -39,9 +40,9 @@ drained-after_signal : (m : MonitorValue) (k : ℕ) → k < length m.conds → d
 drained-after_signal m k within = drained-by m.owner (at_condition k m) m.number k m.waiters m.conds within
 
 -- however a signal is answered, the monitor is afterwards what it makes of it
-after_signal-is : (k : ℕ) (old new : MonitorValue) (woken : Option (Box UnitValue Global)) → IfSome woken (λ unit. MonitorGives old (Signal k) (Given unit.value.owned) new) → IfNone woken (MonitorGives old (Signal k) Rested new) → new ≡ after_signal k old
-after_signal-is k old new None given rested = rested.1
-after_signal-is k old new (Some unit) given rested = given.1
+after_signal-is : (k : ℕ) (old new : MonitorValue) (woken : Option (Box UnitValue Global)) → MonitorGives old (Signal k) (given_or Rested woken) new → new ≡ after_signal k old
+after_signal-is k old new None gives = gives.1
+after_signal-is k old new (Some unit) gives = gives.1
 
 -- the monitor after a signal and the move of the others, by the parts that the move changes
 after_broadcast-by : (k : ℕ) (old mid : MonitorValue) (others waiters left : List Owned) → mid ≡ after_signal k old → k < length old.conds → others ≡ get_or mid.conds k others → waiters ≡ mid.waiters ++ others → left ≡ [] → record mid { waiters = waiters; conds = slice_set mid.conds k left } ≡ after_broadcast k old
@@ -50,17 +51,12 @@ after_broadcast-by k old mid others waiters left signalled within there moved no
     let at : at_condition k mid ≡ others = rw (slice_get-get_or mid.conds k others short, ← there) in
     rw (moved, none, ← at, signalled) (drained-after_signal old k within)
 
--- the same after a signal that was answered
-pub after_broadcast-is : (k : ℕ) (old mid seen : MonitorValue) (woken : Option (Box UnitValue Global)) (others waiters left : List Owned) → IfSome woken (λ unit. MonitorGives old (Signal k) (Given unit.value.owned) mid) → IfNone woken (MonitorGives old (Signal k) Rested mid) → seen ≡ mid → k < length old.conds → others ≡ get_or seen.conds k others → waiters ≡ seen.waiters ++ others → left ≡ [] → record seen { waiters = waiters; conds = slice_set seen.conds k left } ≡ after_broadcast k old
-after_broadcast-is k old mid seen woken others waiters left given rested is =
-    after_broadcast-by k old seen others waiters left (is ∙ after_signal-is k old mid woken given rested)
-
 -- a broadcast wakes whom a signal wakes
-pub broadcast-given : (k : ℕ) (old mid new : MonitorValue) (woken : Option (Box UnitValue Global)) → new ≡ after_broadcast k old → IfSome woken (λ unit. MonitorGives old (Signal k) (Given unit.value.owned) mid) → IfSome woken (λ unit. MonitorGives old (Broadcast k) (Given unit.value.owned) new)
-broadcast-given k old mid new None after given = given
-broadcast-given k old mid new (Some unit) after given = (given.0, after)
+broadcast-by : (k : ℕ) (old mid new : MonitorValue) (woken : Option (Box UnitValue Global)) → MonitorGives old (Signal k) (given_or Rested woken) mid → new ≡ after_broadcast k old → MonitorGives old (Broadcast k) (given_or Rested woken) new
+broadcast-by k old mid new None gives after = (gives.0, after)
+broadcast-by k old mid new (Some unit) gives after = (gives.0, after)
 
--- and nobody if a signal wakes nobody
-pub broadcast-rested : (k : ℕ) (old mid new : MonitorValue) (woken : Option (Box UnitValue Global)) → new ≡ after_broadcast k old → IfNone woken (MonitorGives old (Signal k) Rested mid) → IfNone woken (MonitorGives old (Broadcast k) Rested new)
-broadcast-rested k old mid new None after rested = (rested.0, after)
-broadcast-rested k old mid new (Some unit) after rested = rested
+-- a signal and the move of the others are a broadcast
+pub broadcast-gives : (k : ℕ) (old mid seen : MonitorValue) (woken : Option (Box UnitValue Global)) (others waiters left : List Owned) → MonitorGives old (Signal k) (given_or Rested woken) mid → seen ≡ mid → k < length old.conds → others ≡ get_or seen.conds k others → waiters ≡ seen.waiters ++ others → left ≡ [] → MonitorGives old (Broadcast k) (given_or Rested woken) (record seen { waiters = waiters; conds = slice_set seen.conds k left })
+broadcast-gives k old mid seen woken others waiters left gives is within there moved none =
+    broadcast-by k old mid _ woken gives (after_broadcast-by k old seen others waiters left (is ∙ after_signal-is k old mid woken gives) within there moved none)

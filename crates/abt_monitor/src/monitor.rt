@@ -1,18 +1,19 @@
 //! A mutex with the number that it guards, and its conditions.
 
-ghost use Rattle.std.specs.Prelude.{◌≡◌, ◌<◌, ◌↔◌, Box, [], length, replicate, IfErr, IfNone, IfOk, IfSome, IsTrue, None, Some, option_copied, option_map};
+ghost use Rattle.std.specs.Prelude.{◌≡◌, ◌<◌, ◌↔◌, Box, [], length, replicate, IfErr, IfOk, IfSome, IsTrue, None, Some, option_map};
 ghost use Rattle.std.specs.List.{find};
 ghost use Rattle.std.specs.Option.{ForSome};
 ghost use Rattle.std.specs.declared.alloc.Global.{Global};
-ghost use Rattle.abt_machine.specs.declared.events.Code.TheVariants as code;
-ghost use Rattle.abt_machine.specs.Acts.{Back, Broadcast, Coded, Given, Load, Lock, Number, Rested, Signal, Store, TryLock, Unlock, Wait};
-ghost use Rattle.abt_machine.specs.Monitors.{MonitorGives, at_condition, handed_over, with_condition};
+ghost use Rattle.abt_machine.specs.Acts.{Broadcast, Coded, Load, Lock, Number, Rested, Signal, Store, TryLock, Unlock, Wait};
+ghost use Rattle.abt_machine.specs.Monitors.{MonitorGives, handed_over};
 ghost use Rattle.abt_machine.specs.Pools.{is_unit};
 ghost use Rattle.abt_machine.specs.Queues.{first};
 ghost use Rattle.abt_unit.specs.Units.{IsFree, UnitValue};
+ghost use Rattle.abt_chain.specs.Results.{back_or, coded_or, given_or, unit_found};
+ghost use Rattle.abt_monitor.specs.Waiting.{waiters_of, with_waiters};
 
 use crate::waiters::Waiters;
-use abt_chain::Chain;
+use abt_chain::{Chain, Refused};
 use abt_machine::{Code, UnitNo, Want};
 use abt_unit::Unit;
 use std::alloc::Global;
@@ -64,9 +65,8 @@ impl Monitor {
     /// The unit goes on as the owner if the mutex is free. Else it waits, also if it is itself the owner.
     pub fn lock(&mut self, unit: Box<Unit>) -> Option<Box<Unit>>
         requires { IsFree unit.value }
-        ensures given { IfSome result (λ given. MonitorGives self.old (Lock unit.value.owned) (Given given.value.owned) self.new) }
+        ensures gives { MonitorGives self.old (Lock unit.value.owned) (given_or Rested result) self.new }
         ensures same { IfSome result (λ given. given.value ≡ unit.value) }
-        ensures rested { IfNone result (MonitorGives self.old (Lock unit.value.owned) Rested self.new) }
     {
         match self.owner {
             None => {
@@ -96,10 +96,8 @@ impl Monitor {
     /// The mutex goes to the first unit that waits for it, which comes out, and is free if there is none. `NotOwner`
     /// if it isn't `who`'s.
     pub fn unlock(&mut self, who: UnitNo) -> Result<Option<Box<Unit>>, Code>
-        ensures given { IfOk result (λ next. IfSome next (λ unit. MonitorGives self.old (Unlock who.0) (Given unit.value.owned) self.new)) }
+        ensures gives { MonitorGives self.old (Unlock who.0) (coded_or (given_or Rested) result) self.new }
         ensures free { IfOk result (λ next. IfSome next (λ unit. IsFree unit.value)) }
-        ensures rested { IfOk result (λ next. IfNone next (MonitorGives self.old (Unlock who.0) Rested self.new)) }
-        ensures err { IfErr result (λ refused. MonitorGives self.old (Unlock who.0) (Coded refused) self.new) }
     {
         if !self.is_owner(who) {
             return Err(Code::NotOwner);
@@ -109,8 +107,7 @@ impl Monitor {
 
     /// The number that the mutex guards, for its owner. `NotOwner` for any other unit.
     pub fn load(&self, who: UnitNo) -> Result<u64, Code>
-        ensures ok { IfOk result (λ number. MonitorGives self.now (Load who.0) (Number number) self.now) }
-        ensures err { IfErr result (λ refused. MonitorGives self.now (Load who.0) (Coded refused) self.now) }
+        ensures { MonitorGives self.now (Load who.0) (coded_or Number result) self.now }
     {
         if !self.is_owner(who) {
             return Err(Code::NotOwner);
@@ -130,18 +127,19 @@ impl Monitor {
     }
 
     /// In one step the unit, which is the owner, waits at the condition and the mutex is handed over as by `unlock`: the
-    /// unit that owns it now comes out, if there is one. The unit comes back if it isn't the owner.
-    pub fn wait(&mut self, cond: u32, unit: Box<Unit>) -> Result<Option<Box<Unit>>, Box<Unit>>
+    /// unit that owns it now comes out, if there is one. The unit comes back with `NotOwner` if it isn't the owner.
+    pub fn wait(&mut self, cond: u32, unit: Box<Unit>) -> Result<Option<Box<Unit>>, Refused>
         requires free { IsFree unit.value }
         requires cond { cond < length self.old.conds }
-        ensures given { IfOk result (λ next. IfSome next (λ given. MonitorGives self.old (Wait cond unit.value.owned) (Given given.value.owned) self.new)) }
+        ensures gives { MonitorGives self.old (Wait cond unit.value.owned) (back_or (given_or Rested) result) self.new }
         ensures free { IfOk result (λ next. IfSome next (λ given. IsFree given.value)) }
-        ensures rested { IfOk result (λ next. IfNone next (MonitorGives self.old (Wait cond unit.value.owned) Rested self.new)) }
-        ensures err { IfErr result (λ back. MonitorGives self.old (Wait cond unit.value.owned) (Back back.value.owned code.NotOwner) self.new) }
-        ensures same { IfErr result (λ back. back.value ≡ unit.value) }
+        ensures same { IfErr result (λ refused. refused.unit.value ≡ unit.value) }
     {
         if !self.is_owner(unit.number()) {
-            return Err(unit);
+            return Err(Refused {
+                unit,
+                code: Code::NotOwner,
+            });
         }
         self.conds[cond as usize].push_back(unit);
         Ok(self.hand_over())
@@ -151,9 +149,8 @@ impl Monitor {
     /// unit is the last that waits for it.
     pub fn signal(&mut self, cond: u32) -> Option<Box<Unit>>
         requires { cond < length self.old.conds }
-        ensures given { IfSome result (λ unit. MonitorGives self.old (Signal cond) (Given unit.value.owned) self.new) }
+        ensures gives { MonitorGives self.old (Signal cond) (given_or Rested result) self.new }
         ensures free { IfSome result (λ unit. IsFree unit.value) }
-        ensures rested { IfNone result (MonitorGives self.old (Signal cond) Rested self.new) }
     {
         let unit = self.conds[cond as usize].take_front()?;
         self.lock(unit)
@@ -162,9 +159,8 @@ impl Monitor {
     /// As `signal` for each unit that waits at the condition, in order.
     pub fn broadcast(&mut self, cond: u32) -> Option<Box<Unit>>
         requires { cond < length self.old.conds }
-        ensures given { IfSome result (λ unit. MonitorGives self.old (Broadcast cond) (Given unit.value.owned) self.new) }
+        ensures gives { MonitorGives self.old (Broadcast cond) (given_or Rested result) self.new }
         ensures free { IfSome result (λ unit. IsFree unit.value) }
-        ensures rested { IfNone result (MonitorGives self.old (Broadcast cond) Rested self.new) }
     {
         let woken = self.signal(cond);
         self.conds[cond as usize].drain_into(&mut self.waiters);
@@ -175,8 +171,7 @@ impl Monitor {
     /// of a walk over them.
     pub fn waiter(&self, cond: Option<u32>, u: UnitNo) -> Option<&Unit>
         requires { ForSome cond (λ cond. cond < length self.now.conds) }
-        ensures mutex { IfNone cond (option_map (λ (unit : UnitValue). unit.owned) (option_copied result) ≡ find (is_unit u.0) self.now.waiters) }
-        ensures condition { IfSome cond (λ cond. option_map (λ (unit : UnitValue). unit.owned) (option_copied result) ≡ find (is_unit u.0) (at_condition cond self.now)) }
+        ensures { find (is_unit u.0) (waiters_of cond self.now) ≡ unit_found result }
     {
         match cond {
             None => self.waiters.find(u),
@@ -187,10 +182,8 @@ impl Monitor {
     /// Takes out, in order, all units that wait for the mutex, or at the condition that is given: none if there is no
     /// condition of that number.
     pub fn take_waiters(&mut self, cond: Option<u32>) -> Chain
-        ensures mutex { IfNone cond (result.units ≡ self.old.waiters) }
-        ensures mutex_left { IfNone cond (self.new ≡ record self.old { waiters = [] }) }
-        ensures condition { IfSome cond (λ cond. result.units ≡ at_condition cond self.old) }
-        ensures condition_left { IfSome cond (λ cond. self.new ≡ with_condition cond [] self.old) }
+        ensures units { result.units ≡ waiters_of cond self.old }
+        ensures left { self.new ≡ with_waiters cond [] self.old }
     {
         let Some(cond) = cond else {
             return mem::replace(&mut self.waiters, Chain::new());

@@ -87,8 +87,10 @@ fn waits_at(rt: &impl Abort, monitor: &mut Monitor, cond: u32, unit: Box<Unit>)
 fn a_wait_hands_the_mutex_over(rt: HostRuntime) -> Result<(), Fail> {
     let mut monitor = Monitor::new(rt.alloc(), 1)?;
     let owner = came_out(&rt, monitor.lock(unit(rt.alloc(), 0, 0)?), 0);
-    let refused = monitor.wait(0, unit(rt.alloc(), 1, 0)?);
-    let stranger = came_out(&rt, refused.err(), 1);
+    let stranger = monitor.wait(0, unit(rt.alloc(), 1, 0)?).err();
+    let refused = stranger.expect(&rt, "it is not the owner");
+    assert_eq!(rt; refused.code, Code::NotOwner);
+    let stranger = came_out(&rt, Some(refused.unit), 1);
     assert!(rt; monitor.lock(stranger).is_none());
     came_out(&rt, monitor.wait(0, owner).ok().flatten(), 1);
     assert!(rt; monitor.waiter(Some(0), UnitNo(0)).is_some());

@@ -1,9 +1,10 @@
 //! The waiters of a condition.
 
-ghost use Rattle.std.specs.Prelude.{◌≡◌, [], ◌∷◌, ◌++◌, option_copied, option_map, IfNone, IfSome};
+ghost use Rattle.std.specs.Prelude.{◌≡◌, [], ◌∷◌, ◌++◌, IfNone, IfSome};
 ghost use Rattle.std.specs.List.{find};
 ghost use Rattle.abt_machine.specs.Pools.{is_unit};
-ghost use Rattle.abt_unit.specs.Units.{IsFree, UnitValue};
+ghost use Rattle.abt_unit.specs.Units.{IsFree};
+ghost use Rattle.abt_chain.specs.Results.{unit_found};
 
 use abt_chain::Chain;
 use abt_machine::UnitNo;
@@ -65,7 +66,7 @@ impl Waiters {
     }
 
     pub fn find(&self, number: UnitNo) -> Option<&Unit>
-        ensures { option_map (λ (unit : UnitValue). unit.owned) (option_copied result) ≡ find (is_unit number.0) self.now }
+        ensures { find (is_unit number.0) self.now ≡ unit_found result }
     {
         self.units.find(number)
     }

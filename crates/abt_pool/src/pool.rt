@@ -1,11 +1,12 @@
 //! A pool, and its calls.
 
-ghost use Rattle.std.specs.Prelude.{◌≡◌, ◌==◌, [], None, Some, IfNone, IfSome, length};
+ghost use Rattle.std.specs.Prelude.{◌≡◌, ◌==◌, [], IfSome, length};
 ghost use Rattle.std.specs.List.{find};
 ghost use Rattle.abt_machine.specs.declared.events.Code.TheVariants.{Absent};
-ghost use Rattle.abt_machine.specs.Acts.{Coded, Given, Miss, Put, Remove, Rested, Take};
+ghost use Rattle.abt_machine.specs.Acts.{Coded, Miss, Put, Remove, Rested, Take};
 ghost use Rattle.abt_machine.specs.Pools.{HasSide, PoolGives, is_unit};
 ghost use Rattle.abt_unit.specs.Units.{IsFree};
+ghost use Rattle.abt_chain.specs.Results.{given_or, unit_found};
 
 use abt_chain::Chain;
 use abt_machine::{Kind, Side, UnitNo};
@@ -54,8 +55,7 @@ impl Pool {
     /// Takes the unit at that end. A FIFO pool is asked for its front alone.
     pub fn take(&mut self, side: Side) -> Option<Box<Unit>>
         requires side { HasSide self.old.kind side }
-        ensures given { IfSome result (λ unit. PoolGives self.old (Take side) (Given unit.value.owned) self.new) }
-        ensures miss { IfNone result (PoolGives self.old (Take side) Miss self.new) }
+        ensures gives { PoolGives self.old (Take side) (given_or Miss result) self.new }
         ensures kind { self.new.kind ≡ self.old.kind }
         ensures free { IfSome result (λ unit. IsFree unit.value) }
     {
@@ -68,8 +68,7 @@ impl Pool {
     /// Takes the first unit of that number out, wherever it stands; the others stay in order. The time is that of a walk over
     /// the pool.
     pub fn remove(&mut self, u: UnitNo) -> Option<Box<Unit>>
-        ensures given { IfSome result (λ unit. PoolGives self.old (Remove u.0) (Given unit.value.owned) self.new) }
-        ensures absent { IfNone result (PoolGives self.old (Remove u.0) (Coded Absent) self.new) }
+        ensures gives { PoolGives self.old (Remove u.0) (given_or (Coded Absent) result) self.new }
         ensures kind { self.new.kind ≡ self.old.kind }
         ensures free { IfSome result (λ unit. IsFree unit.value) }
     {
@@ -86,8 +85,7 @@ impl Pool {
 
     /// The first unit of that number. The time is that of a walk over the pool.
     pub fn find(&self, u: UnitNo) -> Option<&Unit>
-        ensures found { IfSome result (λ unit. find (is_unit u.0) self.now.units ≡ Some unit.now.owned) }
-        ensures absent { IfNone result (find (is_unit u.0) self.now.units ≡ None) }
+        ensures { find (is_unit u.0) self.now.units ≡ unit_found result }
     {
         self.units.find(u)
     }

@@ -1,7 +1,6 @@
 //! Reader-writer locks: one unit writes a number, or any units read it.
 #![tactic(auto)]
 
-mod back;
 mod holders;
 mod laws;
 mod rwlock;
@@ -10,6 +9,5 @@ mod serving;
 mod tests;
 mod waiters;
 
-pub use back::RwBack;
 pub use laws::{rwlocks_keep_their_units, rwlocks_keep_what_fits};
 pub use rwlock::RwLock;

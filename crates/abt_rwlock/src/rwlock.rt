@@ -1,19 +1,19 @@
 //! A reader-writer lock, and its calls.
 
-ghost use Rattle.std.specs.Prelude.{◌≡◌, [], IfErr, IfNone, IfOk, IfSome, None, Some, replicate};
+ghost use Rattle.std.specs.Prelude.{◌≡◌, [], IfErr, IfOk, IfSome, None, replicate};
 ghost use Rattle.std.specs.List.{find};
-ghost use Rattle.abt_machine.specs.Acts.{Back, Coded, Given, Load, Number, ReadLock, Rested, RwUnlock, Store, Woke, WriteLock};
+ghost use Rattle.abt_machine.specs.Acts.{Coded, Load, Number, ReadLock, Rested, RwUnlock, Store, WriteLock};
 ghost use Rattle.abt_machine.specs.Holders.{holds};
 ghost use Rattle.abt_machine.specs.Pools.{is_unit};
 ghost use Rattle.abt_machine.specs.RwLocks.{RwLockGives, may_read};
 ghost use Rattle.abt_machine.specs.declared.events.Wish.TheVariants as wish;
 ghost use Rattle.abt_unit.specs.Units.{IsFree};
+ghost use Rattle.abt_chain.specs.Results.{back_or, coded_or, given_or, unit_found, units_woken};
 
-use crate::RwBack;
 use crate::holders::Holders;
 use crate::serving::pass_on;
 use crate::waiters::Waiters;
-use abt_chain::Chain;
+use abt_chain::{Chain, Refused};
 use abt_machine::{Code, UnitNo, Want, Wish};
 use abt_unit::Unit;
 use std::alloc::Global;
@@ -57,24 +57,22 @@ impl RwLock {
 
     /// The unit reads once more if it reads already, or if no unit writes and none waits. Else it waits, and wants to read.
     /// It comes back with `RwHeld` if it writes, and with `RwFull` if it reads 65,535 times.
-    pub fn rdlock(&mut self, unit: Box<Unit>) -> Result<Option<Box<Unit>>, RwBack>
+    pub fn rdlock(&mut self, unit: Box<Unit>) -> Result<Option<Box<Unit>>, Refused>
         requires { IsFree unit.value }
-        ensures given { IfOk result (λ next. IfSome next (λ given. RwLockGives self.old (ReadLock unit.value.owned) (Given given.value.owned) self.new)) }
+        ensures gives { RwLockGives self.old (ReadLock unit.value.owned) (back_or (given_or Rested) result) self.new }
         ensures same { IfOk result (λ next. IfSome next (λ given. given.value ≡ unit.value)) }
-        ensures rested { IfOk result (λ next. IfNone next (RwLockGives self.old (ReadLock unit.value.owned) Rested self.new)) }
-        ensures err { IfErr result (λ back. RwLockGives self.old (ReadLock unit.value.owned) (Back back.unit.value.owned back.code) self.new) }
-        ensures back { IfErr result (λ back. back.unit.value ≡ unit.value) }
+        ensures back { IfErr result (λ refused. refused.unit.value ≡ unit.value) }
     {
         let who = unit.number();
         if self.holders.is_writer(who) {
-            return Err(RwBack {
+            return Err(Refused {
                 unit,
                 code: Code::RwHeld,
             });
         }
         let count = self.holders.count(who);
         if count == u16::MAX {
-            return Err(RwBack {
+            return Err(Refused {
                 unit,
                 code: Code::RwFull,
             });
@@ -88,17 +86,15 @@ impl RwLock {
     }
 
     /// The unit writes if the lock is free. Else it waits, and wants to write. It comes back with `RwHeld` if it reads or writes.
-    pub fn wrlock(&mut self, unit: Box<Unit>) -> Result<Option<Box<Unit>>, RwBack>
+    pub fn wrlock(&mut self, unit: Box<Unit>) -> Result<Option<Box<Unit>>, Refused>
         requires { IsFree unit.value }
-        ensures given { IfOk result (λ next. IfSome next (λ given. RwLockGives self.old (WriteLock unit.value.owned) (Given given.value.owned) self.new)) }
+        ensures gives { RwLockGives self.old (WriteLock unit.value.owned) (back_or (given_or Rested) result) self.new }
         ensures same { IfOk result (λ next. IfSome next (λ given. given.value ≡ unit.value)) }
-        ensures rested { IfOk result (λ next. IfNone next (RwLockGives self.old (WriteLock unit.value.owned) Rested self.new)) }
-        ensures err { IfErr result (λ back. RwLockGives self.old (WriteLock unit.value.owned) (Back back.unit.value.owned back.code) self.new) }
-        ensures back { IfErr result (λ back. back.unit.value ≡ unit.value) }
+        ensures back { IfErr result (λ refused. refused.unit.value ≡ unit.value) }
     {
         let who = unit.number();
         if self.holds(who) {
-            return Err(RwBack {
+            return Err(Refused {
                 unit,
                 code: Code::RwHeld,
             });
@@ -115,8 +111,7 @@ impl RwLock {
     /// it wants to write, holds it and comes out; if it wants to read, it and all waiters up to the first that wants to write
     /// hold it and come out in order. `NotHolder` if the unit neither reads nor writes.
     pub fn unlock(&mut self, who: UnitNo) -> Result<Chain, Code>
-        ensures woke { IfOk result (λ woken. RwLockGives self.old (RwUnlock who.0) (Woke woken.units) self.new) }
-        ensures err { IfErr result (λ refused. RwLockGives self.old (RwUnlock who.0) (Coded refused) self.new) }
+        ensures { RwLockGives self.old (RwUnlock who.0) (coded_or units_woken result) self.new }
     {
         if !self.holds(who) {
             return Err(Code::NotHolder);
@@ -127,8 +122,7 @@ impl RwLock {
 
     /// The number that the lock guards, for a unit that reads or writes. `NotHolder` for any other.
     pub fn load(&self, who: UnitNo) -> Result<u64, Code>
-        ensures ok { IfOk result (λ number. RwLockGives self.now (Load who.0) (Number number) self.now) }
-        ensures err { IfErr result (λ refused. RwLockGives self.now (Load who.0) (Coded refused) self.now) }
+        ensures { RwLockGives self.now (Load who.0) (coded_or Number result) self.now }
     {
         if !self.holds(who) {
             return Err(Code::NotHolder);
@@ -161,8 +155,7 @@ impl RwLock {
 
     /// The first waiter of that number. The time is that of a walk over them.
     pub fn waiter(&self, u: UnitNo) -> Option<&Unit>
-        ensures found { IfSome result (λ unit. find (is_unit u.0) self.now.waiters ≡ Some unit.now.owned) }
-        ensures absent { IfNone result (find (is_unit u.0) self.now.waiters ≡ None) }
+        ensures { find (is_unit u.0) self.now.waiters ≡ unit_found result }
     {
         self.waiters.find(u)
     }

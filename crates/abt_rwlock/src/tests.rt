@@ -3,7 +3,8 @@
 ghost use Rattle.std.specs.Prelude.{◌≡◌, ◌<◌};
 ghost use Rattle.abt_unit.specs.Units.{IsFree};
 
-use crate::{RwBack, RwLock};
+use crate::RwLock;
+use abt_chain::Refused;
 use abt_machine::{Code, UnitNo, Want};
 use abt_sample::unit;
 use abt_unit::Unit;
@@ -20,16 +21,16 @@ enum Went {
 }
 
 // What became of the unit of that number, which is let go: it ends, if it came out.
-fn outcome(rt: &impl Abort, number: u32, answer: Result<Option<Box<Unit>>, RwBack>) -> Went {
+fn outcome(rt: &impl Abort, number: u32, answer: Result<Option<Box<Unit>>, Refused>) -> Went {
     match answer {
         Ok(Some(unit)) => {
             assert_eq!(rt; unit.number(), UnitNo(number));
             Went::On
         }
         Ok(None) => Went::Waits,
-        Err(back) => {
-            assert_eq!(rt; back.unit.number(), UnitNo(number));
-            Went::Back(back.code)
+        Err(refused) => {
+            assert_eq!(rt; refused.unit.number(), UnitNo(number));
+            Went::Back(refused.code)
         }
     }
 }

@@ -1,12 +1,13 @@
 //! Who waits for a reader-writer lock.
 
-ghost use Rattle.std.specs.Prelude.{◌≡◌, [], ◌∷◌, ◌++◌, None, Some, IfNone, IfOk, IfSome, IsTrue, map, replicate, slice_set};
+ghost use Rattle.std.specs.Prelude.{◌≡◌, [], ◌∷◌, ◌++◌, IfNone, IfOk, IfSome, IsTrue, map, replicate, slice_set};
 ghost use Rattle.std.specs.List.{find};
 ghost use Rattle.abt_machine.specs.Monitors.{number_of};
 ghost use Rattle.abt_machine.specs.Pools.{is_unit};
 ghost use Rattle.abt_machine.specs.RwLocks.{first_readers, is_empty, reader_is_first, wants_to_read};
 ghost use Rattle.abt_machine.specs.declared.events.Wish.TheVariants as wish;
 ghost use Rattle.abt_unit.specs.Units.{IsFree};
+ghost use Rattle.abt_chain.specs.Results.{unit_found};
 
 use abt_chain::Chain;
 use abt_machine::{UnitNo, Want, Wish};
@@ -114,8 +115,7 @@ impl Waiters {
 
     /// The first waiter of that number. The time is that of a walk over them.
     pub fn find(&self, u: UnitNo) -> Option<&Unit>
-        ensures found { IfSome result (λ unit. find (is_unit u.0) self.now.units ≡ Some unit.now.owned) }
-        ensures absent { IfNone result (find (is_unit u.0) self.now.units ≡ None) }
+        ensures { find (is_unit u.0) self.now.units ≡ unit_found result }
     {
         match &self.first {
             Some(unit) if unit.number() == u => Some(unit),

@@ -24,10 +24,10 @@ loop-number-preserved c =
     let at = c.loop-number in
     let cs = conditions_from c.args.x.0 (at.number + 1) (drop (at.number + 1) c.args.w.now.objects) in
     let next = met c.args.x.0 at.number c.args.w.now.objects c.thing.result c.thing.ensures (sym c.is_condition_of.ensures ∙ c.if-not-is_condition_of.false) in
-    let left : c.take_waiters.new.self.conds ≡ set at.monitor.conds at.cond [] = ap (λ (m : MonitorValue). m.conds) c.take_waiters.ensures.condition_left in
+    let left : c.take_waiters.new.self.conds ≡ set at.monitor.conds at.cond [] = ap (λ (m : MonitorValue). m.conds) c.take_waiters.ensures.left in
     let here = rows_as (shows.Object (object_no at.number)) (list_from (slice_get at.monitor.conds at.cond)) in
     let gave : rows_in c.give_alike.new.groups.items ≡ rows_in at.groups.items ++ here =
-    c.in_ok-give_alike.ensures ∙ ap (λ os. rows_in at.groups.items ++ rows_as (shows.Object (object_no at.number)) os) c.take_waiters.ensures.condition in
+    c.in_ok-give_alike.ensures ∙ ap (λ os. rows_in at.groups.items ++ rows_as (shows.Object (object_no at.number)) os) c.take_waiters.ensures.units in
     record {
       rows =
           ap₂ (λ rs conds. rs ++ rows_at cs (drop (at.cond + 1) conds)) gave left

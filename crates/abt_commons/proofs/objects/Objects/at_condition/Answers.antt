@@ -1,9 +1,9 @@
 -- A unit at a condition.
 use Rattle.std.proofs.Common.{◌≡◌, ◌<◌, length, sym, ◌∙◌, ap, subst, rules}
-use Rattle.std.specs.Prelude.{Some, None, IfNone, IfSome}
 use Rattle.std.specs.List.{find}
 use Rattle.abt_machine.specs.Pools.{is_unit}
 use Rattle.abt_machine.specs.Workloads.{IsCondition}
+use Rattle.abt_chain.specs.Results.{unit_found}
 use Rattle.abt_commons.specs.Held.{ObjectsValue}
 use Rattle.abt_commons.specs.Reading.{waiters_at_thing}
 use Rattle.abt_commons.proofs.Things.{mutex-within, thing-within, may-signal, waiting-here}
@@ -31,18 +31,10 @@ condition_waiter-requires c =
     may-signal s.w.now s.ones.items s.clocks.items c.self.invariant.1 c.args.x.0 c.streams.ensures.valid is c.cond-cond.result.0.0 c.thing_number.result c.cond-cond.result.1 c.index.result.now
     c.cond-cond.ensures.mutex c.cond-cond.ensures.number c.thing_number.ensures c.index.ensures
 
-pub returns-clause-none : goal.returns-clause-none
-returns-clause-none c =
+pub returns : goal.returns
+returns c =
     let s = c.self.inside in
     let is = subst (λ (held : ObjectsValue). IsCondition held.workload c.args.x.0) (sym c.self.view_is) c.requires in
     let same = waiting-here s.w.now s.ones.items s.clocks.items c.self.invariant.1 c.args.x.0 c.streams.ensures.valid is c.cond-cond.result.0.0 c.thing_number.result c.cond-cond.result.1 c.index.result.now
     c.cond-cond.ensures.mutex c.cond-cond.ensures.number c.thing_number.ensures c.index.ensures ∙ ap (λ held. waiters_at_thing held c.args.x.0) c.self.view_is in
-    subst (λ units. IfNone c.condition_waiter.result (find (is_unit c.args.u.0) units ≡ None)) same c.condition_waiter.ensures.none
-
-pub returns-clause-found : goal.returns-clause-found
-returns-clause-found c =
-    let s = c.self.inside in
-    let is = subst (λ (held : ObjectsValue). IsCondition held.workload c.args.x.0) (sym c.self.view_is) c.requires in
-    let same = waiting-here s.w.now s.ones.items s.clocks.items c.self.invariant.1 c.args.x.0 c.streams.ensures.valid is c.cond-cond.result.0.0 c.thing_number.result c.cond-cond.result.1 c.index.result.now
-    c.cond-cond.ensures.mutex c.cond-cond.ensures.number c.thing_number.ensures c.index.ensures ∙ ap (λ held. waiters_at_thing held c.args.x.0) c.self.view_is in
-    subst (λ units. IfSome c.condition_waiter.result (λ unit. find (is_unit c.args.u.0) units ≡ Some unit.now.owned)) same c.condition_waiter.ensures.found
+    subst (λ units. find (is_unit c.args.u.0) units ≡ unit_found c.condition_waiter.result) same c.condition_waiter.ensures

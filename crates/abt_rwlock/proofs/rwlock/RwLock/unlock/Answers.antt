@@ -5,8 +5,8 @@ use Rattle.abt_rwlock.specs.Parts.{lock_of}
 use Rattle.abt_rwlock.proofs.Unlocking.{unlocked}
 use Rattle.abt_rwlock.proofs.rwlock.RwLock.unlock.Goals as goal
 
-pub returns-clause-woke : goal.returns-clause-woke
-returns-clause-woke c =
+pub returns : goal.returns
+returns c =
     let s = c.self.inside in
     let new = lock_of c.pass_on.new.holders c.pass_on.new.waiters s.number in
     subst (λ old. RwLockGives old (RwUnlock c.args.who.0) (Woke c.pass_on.result.units) new) c.self.view_is
