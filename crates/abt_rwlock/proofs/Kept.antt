@@ -1,9 +1,9 @@
 -- What reader-writer locks keep of their units, and that they keep room for as many.
-use Rattle.std.proofs.Common.{◌≡◌, ℕ, ◌+◌, ◌-◌, List, [], ◌∷◌, ◌++◌, Bool, true, false, None, if◌then◌else◌, length, slice_set, refl, sym, ap, ◌∙◌, subst, All}
+use Rattle.std.proofs.Common.{◌≡◌, ℕ, ◌+◌, ◌-◌, List, [], ◌∷◌, Bool, true, false, None, if◌then◌else◌, length, slice_set, refl, sym, ◌∙◌, subst, All}
 use Rattle.std.proofs.lemmas.List.{length-set}
 use Rattle.std.proofs.lemmas.List.Elements.{All-append, All-cons, All-head, All-nil, All-tail}
 use Rattle.abt_machine.specs.Acts.{ReadLock, WriteLock, RwUnlock, Load, Store, Given, Woke, Rested, Number, Coded, Back}
-use Rattle.abt_machine.specs.Holders.{count_of, given_up, is_free, with_count, writes}
+use Rattle.abt_machine.specs.Holders.{count_of, is_free, with_count, writes}
 use Rattle.abt_machine.specs.Monitors.{rest}
 use Rattle.abt_machine.specs.Queues.{first_alone}
 use Rattle.abt_machine.specs.RwLocks.{RwLockGives, after_readers, all_reading, first_readers, granted, granted_by, left_by, passed_on, served, served_by, wants_to_read}
