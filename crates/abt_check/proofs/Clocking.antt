@@ -7,9 +7,7 @@ use Rattle.std.proofs.lemmas.Option.{slice_get_within}
 use Rattle.abt_machine.specs.declared.events.Event.{Event}
 use Rattle.abt_machine.specs.declared.events.Site.{Site}
 use Rattle.abt_machine.specs.declared.events.Site.TheVariants as site
-use Rattle.abt_machine.specs.declared.numbers.StreamNo.{StreamNo}
 use Rattle.abt_machine.specs.declared.workload.Parts.{Parts}
-use Rattle.abt_machine.specs.Numbers.{stream_no}
 use Rattle.abt_machine.specs.Sites.{event_site}
 use Rattle.abt_machine.specs.Stamps.{Shares, Stamped}
 use Rattle.abt_calls.specs.Asking.{IsSite}
@@ -64,7 +62,7 @@ module _ (W : Parts) (J : List Event) (c : ClocksValue) (x : Option Site) (e : E
 
   shared-below : IsAllowed c x e → (f : Event) → Contains J f → Shares W f e → f.stamp < e.stamp
   shared-below ok f has (inl same) =
-      let below : f.stamp ≤ get_or c.streams e.stream.0 0 = (are.streams e.stream.0).above f has (ap (λ (s : StreamNo). s.0) same) in
+      let below : f.stamp ≤ get_or c.streams e.stream.0 0 = (are.streams e.stream.0).above f has same in
       let up : get_or c.streams e.stream.0 0 < e.stamp = ok.stream in omega arith
   shared-below ok f has (inr (y, one, two)) =
       let below : f.stamp ≤ clock_at c y = (are.sites y (declared y two)).above f has one in
@@ -83,7 +81,7 @@ module _ (W : Parts) (J : List Event) (c : ClocksValue) (x : Option Site) (e : E
   stamped-allowed more = record {
     follows = subst (λ (l : Option Event). FollowsLast l e) (sym are.last_is) (stamped-last W J e more);
     stream = latest-below J e (IsOfStream e.stream.0) (get_or c.streams e.stream.0 0) (are.streams e.stream.0) (stamped-some W J e more)
-        (λ f has same. stamped-above W J e more f has (inl (ap stream_no same)));
+        (λ f has same. stamped-above W J e more f has (inl same));
     site = subst (λ y. clock_of c y < e.stamp) (sym at) (site-below (event_site W e) refl more);
   }
 

@@ -16,6 +16,7 @@ pub mod Orders
 pub mod Parts
 pub mod Passed
 pub mod Prefixes
+pub mod SeenStamps
 pub mod Sorts
 pub mod Stamping
 pub mod Tallies

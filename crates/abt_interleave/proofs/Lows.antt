@@ -1,9 +1,9 @@
 -- Stamps are no greater than the number of deeds.
-use Rattle.std.proofs.Common.{◌≡◌, ℕ, ◌+◌, ◌*◌, ◌<◌, ◌≤◌, ◌^◌, List, [], ◌∷◌, length, ap, arith, inl, inr}
+use Rattle.std.proofs.Common.{◌≡◌, ℕ, ◌+◌, ◌*◌, ◌<◌, ◌≤◌, ◌^◌, List, [], ◌∷◌, length, Option, ap, arith, inl, inr}
 use Rattle.abt_interleave.specs.Histories.{RisesAbove, last_stamp, entry_stamps}
 use Rattle.abt_interleave.specs.Deeds.{deed_stamps}
 use Rattle.abt_interleave.specs.Machines.{Machine, DeedOf, EntryOf, Gathered}
-use Rattle.abt_interleave.specs.Stamps.{LeavesNoGap, StampedFrom, Stamped}
+use Rattle.abt_interleave.specs.Stamps.{LeavesNoGap, place_of, AreStamped, StampedFrom, Stamped}
 use Rattle.abt_interleave.specs.Merges.{IsMergeOf, sum_below}
 use Rattle.abt_interleave.specs.Bounds.{StampedStaysLow, StampsAreFew, NoneWorn, NeverWorn}
 use Rattle.abt_interleave.proofs.Members.{Among, to-among, from-among, all-from-among}
@@ -14,22 +14,27 @@ use Rattle.abt_interleave.proofs.Sorts.{merge-sorts}
 use Rattle.abt_interleave.proofs.Tallies.{length-logs, sum-below-le}
 use Rattle.abt_interleave.proofs.Stamping.{stamps-close}
 
-module _ (M : Machine) where
-  low-from : (n : ℕ) (d : DeedOf M) (ds : List (DeedOf M)) → StampedFrom d ds → d.stamp ≤ n → (e : DeedOf M) → Among e (d ∷ ds) → e.stamp ≤ n + length ds
-  low-from n d [] s l e m = elim m [ inl q ↦ (let k : e.stamp ≡ d.stamp = ap (λ (z : DeedOf M). z.stamp) q in omega arith) | inr k ↦ absurd k ]
-  low-from n d (f ∷ fs) s l e m =
-      let up : f.stamp ≤ d.stamp + 1 = s.0.1 in
+module _ {Item Place : Type 0} (stamp stream : Item → ℕ) (place : Item → Option Place) where
+  low-from : (n : ℕ) (a : Item) (bs : List Item) → StampedFrom stamp stream place a bs → stamp a ≤ n → (c : Item) → Among c (a ∷ bs) → stamp c ≤ n + length bs
+  low-from n a [] s l c m = elim m [ inl q ↦ (let k : stamp c ≡ stamp a = ap stamp q in omega arith) | inr k ↦ absurd k ]
+  low-from n a (b ∷ bs) s l c m =
+      let up : stamp b ≤ stamp a + 1 = s.0.1 in
       elim m [
-        | inl q ↦ (let k : e.stamp ≡ d.stamp = ap (λ (z : DeedOf M). z.stamp) q in omega arith)
-        | inr k ↦ (let r : e.stamp ≤ (n + 1) + length fs = low-from (n + 1) f fs s.2 (omega arith) e k in omega arith)
+        | inl q ↦ (let k : stamp c ≡ stamp a = ap stamp q in omega arith)
+        | inr k ↦ (let r : stamp c ≤ (n + 1) + length bs = low-from (n + 1) b bs s.2 (omega arith) c k in omega arith)
       ]
 
-  low : (J : List (DeedOf M)) → Stamped J → (d : DeedOf M) → Among d J → d.stamp ≤ length J
-  low [] s d m = absurd m
-  low (f ∷ fs) s d m = let one : f.stamp ≡ 1 = s.0 in let r : d.stamp ≤ 1 + length fs = low-from 1 f fs s.1 (omega arith) d m in omega arith
+  -- no stamp of a stamped list is greater than its length
+  pub low : (J : List Item) → Stamped stamp stream place J → (c : Item) → Among c J → stamp c ≤ length J
+  low [] s c m = absurd m
+  low (b ∷ bs) s c m = let one : stamp b ≡ 1 = s.0 in let r : stamp c ≤ 1 + length bs = low-from 1 b bs s.1 (omega arith) c m in omega arith
+
+module _ (M : Machine) where
+  deed-low : (J : List (DeedOf M)) → AreStamped J → (d : DeedOf M) → Among d J → d.stamp ≤ length J
+  deed-low J s d m = low (λ (e : DeedOf M). e.stamp) (λ (e : DeedOf M). e.stream) place_of J s d m
 
   pub stamped-stays-low : StampedStaysLow M
-  stamped-stays-low J s d m = low J s d (to-among J d m)
+  stamped-stays-low J s d m = deed-low J s d (to-among J d m)
 
   module _ (parts : ℕ → M.Part) (objects : M.Place → M.Object) (logs : ℕ → List (DeedOf M)) (histories : M.Place → List (EntryOf M)) (ends : ℕ → M.Part) (finals : M.Place → M.Object)
       (gathered : Gathered M parts objects logs histories ends finals) where
@@ -46,8 +51,8 @@ module _ (M : Machine) where
     few : LeavesNoGap logs → (s : ℕ) (d : DeedOf M) → Among d (logs s) → d.stamp ≤ sum_below M.streams (λ r. length (logs r))
     few rule s d m =
         let J : List (DeedOf M) = merged.0 in
-        let stamped : Stamped J = stamps-close M parts objects logs histories ends finals J gathered rule (merge-sorts M logs rising-log (λ r e k. own-log r e (to-among (logs r) e k)) J merged.1) in
-        let a : d.stamp ≤ length J = low J stamped d (in-merge (λ (e : DeedOf M). e.stamp) (λ (e : DeedOf M). e.stream) logs J merged.1 s d m).0 in
+        let stamped : AreStamped J = stamps-close M parts objects logs histories ends finals J gathered rule (merge-sorts M logs rising-log (λ r e k. own-log r e (to-among (logs r) e k)) J merged.1) in
+        let a : d.stamp ≤ length J = deed-low J stamped d (in-merge (λ (e : DeedOf M). e.stamp) (λ (e : DeedOf M). e.stream) logs J merged.1 s d m).0 in
         let b : length J ≡ sum_below M.streams (λ r. length (logs r)) = length-logs (λ (e : DeedOf M). e.stamp) (λ (e : DeedOf M). e.stream) logs J merged.1 M.streams gathered.undeclared in
         omega arith
 

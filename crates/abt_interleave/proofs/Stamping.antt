@@ -4,10 +4,11 @@ use Rattle.std.specs.Prelude.{Contains}
 use Rattle.std.proofs.lemmas.Bool.{cases_lt}
 use Rattle.std.proofs.lemmas.List.Elements.{Contains-append_left, Contains-push, Contains-push_cases}
 use Rattle.abt_interleave.specs.Histories.{last_stamp, entry_stamps}
-use Rattle.abt_interleave.specs.Deeds.{Heard}
+use Rattle.abt_interleave.specs.Deeds.{Heard, Deed}
 use Rattle.abt_interleave.specs.Logs.{Leaves, IsBefore, BeforeAll, InOrder, IsSorted}
 use Rattle.abt_interleave.specs.Machines.{Machine, DeedOf, EntryOf, Gathered}
-use Rattle.abt_interleave.specs.Stamps.{place_of, Shares, Follows, AllAfter, StampedFrom, Stamped, IsLeast, LamportFrom, Lamport, LeavesNoGap, IsTimed, AllTimed}
+use Rattle.abt_interleave.specs.Stamps as of
+use Rattle.abt_interleave.specs.Stamps.{place_of, AreStamped, AreLamports, LeavesNoGap, IsTimed, AllTimed}
 use Rattle.abt_interleave.specs.Laws.{StampsClose, StampsAreLamports}
 use Rattle.abt_interleave.proofs.Members.{Among, to-among, from-among}
 use Rattle.abt_interleave.proofs.Orders.{before-among, before-one-way, rises-in-order, one-stamp}
@@ -19,6 +20,24 @@ same-some {A} a b e = ap get e where
   get : Option A → A
   get None = a
   get (Some x) = x
+
+module _ {Place Act Answer What : Type 0} where
+  -- the words of stamps, of deeds
+
+  abbrev Shares : Deed Place Act Answer What → Deed Place Act Answer What → Type 0
+  Shares d e = of.Shares (λ c. c.stamp) (λ c. c.stream) place_of d e
+
+  abbrev AllAfter : Deed Place Act Answer What → List (Deed Place Act Answer What) → Type 0
+  AllAfter d ds = of.AllAfter (λ c. c.stamp) (λ c. c.stream) place_of d ds
+
+  abbrev StampedFrom : Deed Place Act Answer What → List (Deed Place Act Answer What) → Type 0
+  StampedFrom d ds = of.StampedFrom (λ c. c.stamp) (λ c. c.stream) place_of d ds
+
+  abbrev IsLeast : List (Deed Place Act Answer What) → Deed Place Act Answer What → Type 0
+  IsLeast earlier d = of.IsLeast (λ c. c.stamp) (λ c. c.stream) place_of earlier d
+
+  abbrev LamportFrom : List (Deed Place Act Answer What) → List (Deed Place Act Answer What) → Type 0
+  LamportFrom earlier ds = of.LamportFrom (λ c. c.stamp) (λ c. c.stream) place_of earlier ds
 
 module _ (M : Machine) (parts : ℕ → M.Part) (objects : M.Place → M.Object) (logs : ℕ → List (DeedOf M)) (histories : M.Place → List (EntryOf M)) (ends : ℕ → M.Part) (finals : M.Place → M.Object) (gathered : Gathered M parts objects logs histories ends finals)
     (J : List (DeedOf M)) (sorted : IsSorted logs J) where
@@ -63,10 +82,10 @@ module _ (M : Machine) (parts : ℕ → M.Part) (objects : M.Place → M.Object)
     all-after d (e ∷ es) (within d (inl refl)) (λ f m. within f (inr m)) order.0,
     stamped-from e es (λ f m. within f (inr m)) order.1 c.1,
   ) where
-    follows : Follows d e
+    follows : of.Follows (λ (c : DeedOf M). c.stamp) (λ (c : DeedOf M). c.stream) d e
     follows = (not-later d e order.0.0, (let k : e.stamp ≤ suc d.stamp = c.0 in omega arith), λ q. elim order.0.0 [ inl l ↦ (let k : d.stamp < e.stamp = l in absurd (omega arith)) | inr p ↦ p.1 ])
 
-  stamped : LeavesNoGap logs → Stamped J
+  stamped : LeavesNoGap logs → AreStamped J
   stamped rule = by J (λ d m. m) sorted.in_order (close 0 J sorted.in_order (λ d m. omega arith) lower) where
     lower : (d : DeedOf M) → Among d J → HasLower 0 J d
     lower d m = elim (rule d.stream d (sorted.only d (from-among J d m))) [
@@ -74,7 +93,7 @@ module _ (M : Machine) (parts : ℕ → M.Part) (objects : M.Place → M.Object)
       | inr r ↦ (let q : d.stamp ≡ r.0.stamp + 1 = r.2 in inr (r.0, to-among J r.0 (sorted.all r.0.stream r.0 r.1), omega arith))
     ]
 
-    by : (ds : List (DeedOf M)) → ((e : DeedOf M) → Among e ds → Among e J) → InOrder IsBefore ds → Close 0 ds → Stamped ds
+    by : (ds : List (DeedOf M)) → ((e : DeedOf M) → Among e ds → Among e J) → InOrder IsBefore ds → Close 0 ds → AreStamped ds
     by [] within order c = tt
     by (d ∷ ds) within order c = (let k : d.stamp ≤ 1 = c.0 in let l : 0 < d.stamp = above-none d (within d (inl refl)) in omega arith, stamped-from d ds within order c.1)
 
@@ -155,7 +174,7 @@ module _ (M : Machine) (parts : ℕ → M.Part) (objects : M.Place → M.Object)
           ]),
     )
 
-    lamport : Lamport J
+    lamport : AreLamports J
     lamport = (stamped no-gap, lamport-from [] J sorted.in_order (λ e m. m) (λ e m. inr m) (λ e k. absurd (to-among [] e k)))
 
 module _ (M : Machine) where

@@ -3,12 +3,12 @@ use Rattle.std.specs.Prelude.{ℕ, ◌<◌, ◌≤◌, ◌^◌, List, length, Co
 use Rattle.abt_interleave.specs.Histories.{last_stamp, entry_stamps}
 use Rattle.abt_interleave.specs.Deeds.{deed_stamps}
 use Rattle.abt_interleave.specs.Machines.{Machine, DeedOf, EntryOf, Gathered}
-use Rattle.abt_interleave.specs.Stamps.{LeavesNoGap, Stamped}
+use Rattle.abt_interleave.specs.Stamps.{LeavesNoGap, AreStamped}
 use Rattle.abt_interleave.specs.Merges.{sum_below}
 
 -- in a stamped list no stamp is greater than the number of deeds
 abbrev pub StampedStaysLow : Machine → Type 0
-StampedStaysLow M = (J : List (DeedOf M)) → Stamped J → (d : DeedOf M) → Contains J d → d.stamp ≤ length J
+StampedStaysLow M = (J : List (DeedOf M)) → AreStamped J → (d : DeedOf M) → Contains J d → d.stamp ≤ length J
 
 -- if stamps leave no gap, none is greater than the number of deeds in all logs
 abbrev pub StampsAreFew : Machine → Type 0

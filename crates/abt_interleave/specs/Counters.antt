@@ -3,7 +3,7 @@ use Rattle.std.specs.Prelude.{ℕ, zero, suc, ◌≡◌, ◌+◌, ◌==◌, if�
 use Rattle.abt_interleave.specs.Deeds.{Heard}
 use Rattle.abt_interleave.specs.Logs.{IsSorted}
 use Rattle.abt_interleave.specs.Machines.{Machine, DeedOf, EntryOf, TellsPlaces, IsSimulated, Gathered, IsRunTo}
-use Rattle.abt_interleave.specs.Stamps.{AllTimed, Lamport}
+use Rattle.abt_interleave.specs.Stamps.{AllTimed, AreLamports}
 
 -- what each stream noted, and the counters
 pub record Counts : Type 0 where
@@ -101,4 +101,4 @@ pub record CountersMerge : Type 0 where
   pub sorted : IsSorted logs merged
   pub timed : (s : ℕ) → AllTimed histories 0 (logs s)
   pub run : IsRunTo counters zeros merged notes totals
-  pub lamport : Lamport merged
+  pub lamport : AreLamports merged

@@ -5,7 +5,7 @@ use Rattle.abt_interleave.specs.Histories.{RisesAbove, last_stamp, entry_stamps,
 use Rattle.abt_interleave.specs.Deeds.{Heard, deed_stamps, Course, Answered}
 use Rattle.abt_interleave.specs.Logs.{Matched, IsSorted, IsSortedAs}
 use Rattle.abt_interleave.specs.Machines.{Machine, DeedOf, EntryOf, IsSimulated, TellsPlaces, Gathered, IsRunTo}
-use Rattle.abt_interleave.specs.Stamps.{LeavesNoGap, AllTimed, Stamped, Lamport}
+use Rattle.abt_interleave.specs.Stamps.{LeavesNoGap, AllTimed, AreStamped, AreLamports}
 
 -- if each step of a stream with its call is an event, the sorted list of all deeds is a run, and leads to the state that
 -- the ends of logs and histories make up
@@ -109,9 +109,9 @@ HistorySplits M = TellsPlaces M → (old new : M.Place → M.Object) (history : 
 -- if each stamp is 1 or one more than another, the sorted list is stamped
 abbrev pub StampsClose : Machine → Type 0
 StampsClose M = (parts : ℕ → M.Part) (objects : M.Place → M.Object) (logs : ℕ → List (DeedOf M)) (histories : M.Place → List (EntryOf M)) (ends : ℕ → M.Part) (finals : M.Place → M.Object) (J : List (DeedOf M)) →
-    Gathered M parts objects logs histories ends finals → LeavesNoGap logs → IsSorted logs J → Stamped J
+    Gathered M parts objects logs histories ends finals → LeavesNoGap logs → IsSorted logs J → AreStamped J
 
 -- if each stamp is one more than the greater of its stream's last and its object's last, so it is in the sorted list
 abbrev pub StampsAreLamports : Machine → Type 0
 StampsAreLamports M = (parts : ℕ → M.Part) (objects : M.Place → M.Object) (logs : ℕ → List (DeedOf M)) (histories : M.Place → List (EntryOf M)) (ends : ℕ → M.Part) (finals : M.Place → M.Object) (J : List (DeedOf M)) →
-    Gathered M parts objects logs histories ends finals → ((s : ℕ) → AllTimed histories 0 (logs s)) → IsSorted logs J → Lamport J
+    Gathered M parts objects logs histories ends finals → ((s : ℕ) → AllTimed histories 0 (logs s)) → IsSorted logs J → AreLamports J

@@ -52,7 +52,7 @@ IsNext earlier t = (t ≡ 1) ⊎ ((f : Event) × Contains earlier f × (f.stream
 
 least : (W : Parts) (earlier : List Event) (e : Event) → e.stream ≡ stream_no 0 → IsNext earlier e.stamp → IsLeast W earlier e
 least W earlier e own (inl one) = inl one
-least W earlier e own (inr f) = inr (f.0, f.1, inl (f.2 ∙ sym own), f.3)
+least W earlier e own (inr f) = inr (f.0, f.1, inl (ap (λ (s : _). s.0) (f.2 ∙ sym own)), f.3)
 
 below_with : (earlier : List Event) (e : Event) (t : ℕ) → e.stamp ≡ t → ((f : Event) → Contains earlier f → f.stamp < t) → (f : Event) → Contains (earlier ++ e ∷ []) f → f.stamp < suc t
 below_with earlier e t is below f at = elim (Contains-push_cases earlier e f at) [
@@ -125,7 +125,7 @@ no_site W e f (Some x) (Some y) is also =
     given (other_site x y) (λ no. Some (λ h. no (same_Some x h.0 (sym is ∙ h.1) ∙ sym (same_Some y h.0 (sym also ∙ h.2)))))
 
 pub neither : (W : Parts) (e f : Event) → e.stream.0 ≢ f.stream.0 → (SameSite W e f → ⊥) → Shares W e f → ⊥
-neither W e f streams sites (inl own) = streams (ap (λ (s : _). s.0) own)
+neither W e f streams sites (inl own) = streams own
 neither W e f streams sites (inr site) = sites site
 
 -- whether they share nothing
@@ -142,7 +142,7 @@ one_site W e f (Some x) None is also = None
 -- whether they share a stream or a site
 abbrev shared : (W : Parts) (e f : Event) → Option (Shares W e f)
 shared W e f =
-    either (given (same e.stream.0 f.stream.0) (λ own. Some (inl (ap stream_no own))))
+    either (given (same e.stream.0 f.stream.0) (λ own. Some (inl own)))
     (given (one_site W e f (event_site W e) (event_site W f) refl refl) (λ site. Some (inr site)))
 
 abbrev rises : (W : Parts) (e f : Event) → Option (Shares W e f → e.stamp < f.stamp)

@@ -157,7 +157,7 @@ module _ (W : Parts) (Z : List OrderShape) (old new : Moment) (live : List Bool)
     ] where
       one-stream : e.stamp ≡ f.stamp → e.stream.0 ≡ f.stream.0
       one-stream q = elim shares [
-        | inl own ↦ ap (λ s. s.0) own
+        | inl own ↦ own
         | inr at ↦
             let d = deed e em in
             let c = deed f fm in
@@ -189,6 +189,6 @@ module _ (W : Parts) (Z : List OrderShape) (old new : Moment) (live : List Bool)
             let under : IsBelow W old e = All-contains (IsBelow W old) J e below (from-among J e em) in
             let over = above-old f fm in
             elim shares [
-              | inl own ↦ (let clock : old.clocks e.stream.0 ≡ old.clocks f.stream.0 = ap (λ s. old.clocks s.0) own in omega (arith, clock, under.stream, over.0))
+              | inl own ↦ (let clock : old.clocks e.stream.0 ≡ old.clocks f.stream.0 = ap old.clocks own in omega (arith, clock, under.stream, over.0))
               | inr at ↦ (let low = under.site at.0 at.1 in let high = over.1 at.0 at.2 in omega (arith, low, high))
             ]
