@@ -3,7 +3,6 @@ pub mod Answered
 pub mod Asking
 pub mod Classes
 pub mod Counting
-pub mod Listed
 pub mod Operating
 pub mod Outcomes
 pub mod Running

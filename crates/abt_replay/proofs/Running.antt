@@ -16,9 +16,9 @@ use Rattle.abt_machine.specs.Turns.{Heard, Steps, due_of, number_and_position}
 use Rattle.abt_machine.specs.Values.{Held, Object, Owned}
 use Rattle.abt_machine.specs.Workloads.{body_at, op_at}
 use Rattle.abt_calls.specs.Allowed.{Allows}
-use Rattle.abt_replay.specs.declared.dues.HandDue.{HandDue}
-use Rattle.abt_replay.specs.declared.dues.HandDue.TheVariants as due
-use Rattle.abt_replay.specs.Dues.{DueIs}
+use Rattle.abt_plans.specs.declared.dues.HandDue.{HandDue}
+use Rattle.abt_plans.specs.declared.dues.HandDue.TheVariants as due
+use Rattle.abt_plans.specs.Dues.{DueIs}
 use Rattle.abt_replay.specs.Events.{AreObjects, Ends, Entered, Moves, Stepped, in_hand}
 use Rattle.abt_replay.specs.Objects.{ObjectsValue, object_at}
 
@@ -27,8 +27,8 @@ pub end_allowed : (W : Parts) (objects : ObjectsValue) (o : Owned) (cause : Caus
 end_allowed W objects o cause are number = subst (λ (q : Object). Allows q (act.End o cause)) (sym (are.1 (site.Desk (unit_no o.number)) number)) tt
 
 -- the operation that is due
-pub due_op : (W : Parts) (s : ℕ) (m : Mark) (o : Owned) (d : HandDue) (a : Op) → DueIs W s m o d → d ≡ due.Step a → op_at W o.number o.carried.position ≡ Some a
-due_op W s m o d a h is = (subst (DueIs W s m o) is h).1
+pub due_op : (W : Parts) (s : ℕ) (m : Mark) (o : Owned) (d : HandDue) (a : Op) → DueIs W s m o.number o.carried.position d → d ≡ due.Step a → op_at W o.number o.carried.position ≡ Some a
+due_op W s m o d a h is = (subst (DueIs W s m o.number o.carried.position) is h).1
 
 -- what is due for the unit in hand is what is due for the stream
 hand-due : (W : Parts) (s : ℕ) (old : Held) (o : Owned) (d : Due) → old.tray ≡ [] → old.next ≡ None → due_of_unit W s old.own.mark (body_at W o.number) o.carried.position ≡ d → due_of W s (in_hand o old) ≡ d
@@ -36,16 +36,16 @@ hand-due W s old o d tray next e =
     ap (λ (os : List Owned). due_by {X = Owned} {Y = Owned} W s old.own os old.next (Some (number_and_position o))) tray ∙
     (ap (λ (n : Option Owned). due_by {X = Owned} {Y = Owned} W s old.own [] n (Some (number_and_position o))) next ∙ e)
 
-module _ (W : Parts) (Z : List OrderShape) (s : ℕ) (old : Held) (before : ObjectsValue) (o : Owned) (d : HandDue) (made : What) (new : Held) (after : ObjectsValue) (tray : old.tray ≡ []) (next : old.next ≡ None) (dues : DueIs W s old.own.mark o d) where
+module _ (W : Parts) (Z : List OrderShape) (s : ℕ) (old : Held) (before : ObjectsValue) (o : Owned) (d : HandDue) (made : What) (new : Held) (after : ObjectsValue) (tray : old.tray ≡ []) (next : old.next ≡ None) (dues : DueIs W s old.own.mark o.number o.carried.position d) where
   pub end_moves : (cause : Cause) → d ≡ due.End cause → Ends old before o cause made new after → Moves W Z s (in_hand o old) before made new after
   end_moves cause is h =
-      let e = hand-due W s old o (EndDue cause) tray next (subst (DueIs W s old.own.mark o) is dues) in
+      let e = hand-due W s old o (EndDue cause) tray next (subst (DueIs W s old.own.mark o.number o.carried.position) is dues) in
       let heard : Option Heard = Some (site.Desk (unit_no o.number), act.End o cause, act.Woke h.call.0) in
       (heard, subst (λ (w : What). Steps W Z s (in_hand o old) w heard new) (sym h.made_is) (e, o, refl, refl, h.call.0, refl, h.call.2), h.call.1)
 
   pub enter_moves : (g : SchedNo) → d ≡ due.Enter g → Entered g.0 old o made new → after ≡ before → Moves W Z s (in_hand o old) before made new after
   enter_moves g is h stays =
-      let both = subst (DueIs W s old.own.mark o) is dues in
+      let both = subst (DueIs W s old.own.mark o.number o.carried.position) is dues in
       let e = hand-due W s old o EnterDue tray next both.0 in
       let same : sched_of (body_at W o.number) ≡ g.0 = ap sched_of both.1 in (
         None,
@@ -56,7 +56,7 @@ module _ (W : Parts) (Z : List OrderShape) (s : ℕ) (old : Held) (before : Obje
 
   pub step_moves : (a : Op) → d ≡ due.Step a → Stepped W s a o old before made new after → Moves W Z s (in_hand o old) before made new after
   step_moves a is h =
-      let both = subst (DueIs W s old.own.mark o) is dues in
+      let both = subst (DueIs W s old.own.mark o.number o.carried.position) is dues in
       let e = hand-due W s old o StepDue tray next both.0 in
       (h.2.0, subst (λ (w : What). Steps W Z s (in_hand o old) w h.2.0 new) (sym h.1) (e, o, refl, refl, refl, a, both.1, h.2.1), h.2.2)
 

@@ -1,10 +1,6 @@
 pub mod Acts
-pub mod Dues
 pub mod Events
-pub mod Hearing
-pub mod Marks
 pub mod Nexts
 pub mod Objects
 pub mod Phases
-pub mod Shapes
 pub mod Slots

@@ -2,15 +2,15 @@
 
 ghost use Rattle.std.specs.Prelude.{◌≡◌, ◌<◌, ◌++◌, ◌^◌, ◌-◌, IfOk, None, Some};
 ghost use Rattle.abt_replay.specs.Acts.{act_of, answer_of};
-ghost use Rattle.abt_replay.specs.Hearing.{IsForCaller, IsForGiver, IsForWaiter};
-ghost use Rattle.abt_replay.specs.Shapes.{given};
 ghost use Rattle.abt_machine.specs.Acts.{Coded};
 ghost use Rattle.abt_machine.specs.Plans.{notes, to_caller, to_condition, to_giver};
+ghost use Rattle.abt_plans.specs.Acts.{asked, given};
+ghost use Rattle.abt_plans.specs.Hearing.{IsForCaller, IsForGiver, IsForWaiter};
 
 use crate::acts::{Act, Answer};
-use crate::plans::Giving;
 use crate::unit::Unit;
 use abt_machine::{Code, Want};
+use abt_plans::{Asking, Giving};
 use std::collections::VecDeque;
 
 // How the call of a unit went.
@@ -61,6 +61,30 @@ pub(crate) fn hear(unit: &mut Unit, tray: &mut VecDeque<Unit>, answer: Answer) -
             Ok(code)
         }
         _ => unreachable!(),
+    }
+}
+
+/// The act of a unit that stays in the hand.
+pub(crate) fn ask(asking: Asking) -> Act
+    ensures { act_of result ≡ asked asking }
+{
+    match asking {
+        Asking::Create(p) => Act::Create(p),
+        Asking::AskCancel => Act::AskCancel,
+        Asking::AskMigrate(p) => Act::AskMigrate(p),
+        Asking::Resume => Act::Resume,
+        Asking::Revive(p) => Act::Revive(p),
+        Asking::SetMigratable(allowed) => Act::SetMigratable(allowed),
+        Asking::TryLock(u) => Act::TryLock(u),
+        Asking::Unlock(u) => Act::Unlock(u),
+        Asking::Load(u) => Act::Load(u),
+        Asking::Store(u, n) => Act::Store(u, n),
+        Asking::Signal(k) => Act::Signal(k),
+        Asking::Broadcast(k) => Act::Broadcast(k),
+        Asking::Fill(n) => Act::Fill(n),
+        Asking::Reset => Act::Reset,
+        Asking::Test => Act::Test,
+        Asking::RwUnlock(u) => Act::RwUnlock(u),
     }
 }
 

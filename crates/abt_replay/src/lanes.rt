@@ -19,13 +19,11 @@ ghost use Rattle.abt_machine.specs.declared.operations.OrderShape.{OrderShape};
 mod stepping;
 
 use crate::acts::{Act, Answer, Asks};
-use crate::dues::{HandDue, hand_due};
 use crate::frames::Frame;
-use crate::marks::Mark;
 use crate::objects::Objects;
-use crate::plans::side;
 use crate::unit::Unit;
 use abt_machine::{Cause, Op, PoolNo, SchedNo, Site, StreamNo, Want, What, Workload};
+use abt_plans::{HandDue, Mark, hand_due, side};
 use std::alloc::Global;
 use std::collections::VecDeque;
 use std::marker::Model;
@@ -46,8 +44,8 @@ pub struct Lane {
 
 impl Model for Lane {
     ghost use Rattle.std.specs.Prelude.{◌≡◌, length, reverse};
-    ghost use Rattle.abt_replay.specs.Marks.{mark_of};
     ghost use Rattle.abt_machine.specs.Values.{Held};
+    ghost use Rattle.abt_plans.specs.Marks.{mark_of};
 
     ghost Value = { Held };
 
@@ -273,7 +271,7 @@ impl Lane {
         requires next { self.old.next ≡ None }
         ensures { IfOk result (λ made. (Z : List OrderShape) → Moves w.now Z s.0 (in_hand unit self.old) objects.old made self.new objects.new) }
     {
-        match hand_due(w, s, self.mark, &unit) {
+        match hand_due(w, s, self.mark, unit.number(), unit.position()) {
             HandDue::End(cause) => self.end(objects, unit, cause),
             HandDue::Enter(g) => self.enter(g, unit),
             HandDue::Step(op) => self.operate(objects, w, s, op, unit),

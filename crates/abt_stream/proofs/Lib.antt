@@ -7,7 +7,6 @@ pub mod Logs
 pub mod Made
 pub mod Operated
 pub mod Planned
-pub mod Pools
 pub mod Rounding
 pub mod Spending
 pub mod Stacks

@@ -1,6 +1,5 @@
 -- From what each shape of step makes of a stream to its operation.
 use Rattle.std.proofs.Common.{◌≡◌, ℕ, suc, [], ◌∷◌, Option, None, Some, option_map, inl, inr, refl, sym, ap, ◌∙◌, subst, IsSome}
-use Rattle.abt_laws.proofs.Options.{some-injective}
 use Rattle.abt_machine.specs.declared.events.Code.TheVariants as code
 use Rattle.abt_machine.specs.declared.events.Site.{Site}
 use Rattle.abt_machine.specs.declared.operations.Op.{Op}
@@ -13,18 +12,16 @@ use Rattle.abt_machine.specs.Turns.{Performs, exited, stepped}
 use Rattle.abt_machine.specs.Values.{Held, Owned}
 use Rattle.abt_machine.specs.Workloads.{op_at}
 use Rattle.abt_commons.specs.Replies.{Told}
-use Rattle.abt_commons.specs.Acts.{IsFreeAct, act_of}
-use Rattle.abt_commons.specs.declared.acts.Act as asked
-use Rattle.abt_commons.specs.declared.acts.Act.TheVariants as says
 use Rattle.abt_unit.specs.Fits.{Fits}
 use Rattle.abt_machine.specs.Valid.{IsValid}
 use Rattle.abt_calls.specs.Asking.{MayCall}
 use Rattle.abt_calls.proofs.Asked.{plans-may-call}
+use Rattle.abt_plans.specs.Shapes.{IsCall}
+use Rattle.abt_plans.proofs.Locals.{planned-local, planned-own}
 use Rattle.abt_unit.specs.Local.{IsLocal, after_local, local_step_at, with_carried}
 use Rattle.abt_stream.specs.declared.turns.Turn.{Turn}
 use Rattle.abt_stream.specs.declared.turns.Turn.TheVariants as turn
 use Rattle.abt_stream.specs.Events.{ExitBy, OwnBy, StepsAlone, StepsBy, after_step, holding, step_of, wrote}
-use Rattle.abt_stream.specs.Shapes.{IsAsked, IsCall}
 use Rattle.abt_stream.specs.Streams.{StreamValue}
 use Rattle.abt_stream.specs.Operated.{CallsNothing, OpBy}
 
@@ -93,28 +90,15 @@ module _ {P : Type 0} (moves : P → Site → ℕ → Act → Told → P → Typ
   op_exits turn.Moved is h stays = absurd h
   op_exits turn.Spent is h stays = absurd h
 
-  -- what a local operation plans
-  planned_local : (b : Op) (c : Carried) → after_local b o.carried ≡ Some c → plan_of W old.number.0 b o ≡ Does (keeps (with_carried o c) [])
-  planned_local (op.Set n) c e = ap (λ (d : Carried). Does (keeps (with_carried o d) [])) (some-injective e)
-  planned_local (op.Add n) c e = ap (λ (d : Carried). Does (keeps (with_carried o d) [])) (some-injective e)
-  planned_local (op.Say n) c e = ap (λ (d : Carried). Does (keeps (with_carried o d) [])) (some-injective e)
-  planned_local op.Print c e = ap (λ (d : Carried). Does (keeps (with_carried o d) [])) (some-injective e)
-  planned_local (op.KeySet n) c e = ap (λ (d : Carried). Does (keeps (with_carried o d) [])) (some-injective e)
-  planned_local (op.KeyGet n) c e = ap (λ (d : Carried). Does (keeps (with_carried o d) [])) (some-injective e)
-  planned_local b c e = cc
-
-  planned_own : (b : Owned) (f : Option Carried) → after_local a o.carried ≡ f → option_map (with_carried o) f ≡ Some b → plan_of W old.number.0 a o ≡ Does (keeps b [])
-  planned_own b None is e = cc
-  planned_own b (Some c) is e = let same : with_carried o c ≡ b = some-injective e in planned_local a c is ∙ ap (λ (p : Owned). Does (keeps p [])) same
-
+  -- a local operation does something by itself
   planned_some : (f : Option Carried) → after_local a o.carried ≡ f → IsSome f → (e : Effect) × (plan_of W old.number.0 a o ≡ Does e)
   planned_some None is h = cc
-  planned_some (Some c) is h = (keeps (with_carried o c) [], planned_local a c is)
+  planned_some (Some c) is h = (keeps (with_carried o c) [], planned-local W old.number.0 o a c is)
 
   pub op_own : (t : Turn) → op_at W o.number o.carried.position ≡ Some a → IsSome (after_local a o.carried) → OwnBy W old t new o → after ≡ before → OpBy moves W old before a t new after o
   op_own turn.Stepped at local h stays =
       let step : local_step_at (Some a) o ≡ Some h.0 = subst (λ (f : Option Op). local_step_at f o ≡ Some h.0) at h.1 in
-      does (keeps h.0 []) (planned_own h.0 (after_local a o.carried) refl step) turn.Stepped h.2 stays
+      does (keeps h.0 []) (planned-own W old.number.0 o a h.0 (after_local a o.carried) refl step) turn.Stepped h.2 stays
   op_own turn.Worn at local h stays =
       let plan = planned_some (after_local a o.carried) refl local in does plan.0 plan.1 turn.Worn h stays
   op_own turn.EmptyRound at local h stays = absurd h
@@ -134,36 +118,4 @@ mapped o (Some c) h = h
 pub own_local : (W : Parts) (a : Op) (o : Owned) → op_at W o.number o.carried.position ≡ Some a → IsSome (after_local a o.carried) → IsLocal W o
 own_local W a o at some = subst (λ (f : Option Op). IsSome (local_step_at f o)) (sym at) (mapped o (after_local a o.carried) some)
 
--- an act of a unit that stays in the hand has no unit
-pub asked_free : (act : asked.Act) → IsAsked (act_of act) → IsFreeAct act
-asked_free (says.Put unit) h = absurd h
-asked_free (says.Take side) h = tt
-asked_free (says.Remove u) h = tt
-asked_free (says.Create p) h = tt
-asked_free (says.End unit cause) h = absurd h
-asked_free (says.Join unit) h = absurd h
-asked_free says.AskCancel h = tt
-asked_free (says.AskMigrate p) h = tt
-asked_free says.Look h = tt
-asked_free (says.Suspend unit) h = absurd h
-asked_free says.Resume h = tt
-asked_free (says.Revive p) h = tt
-asked_free (says.SetMigratable allowed) h = tt
-asked_free (says.Lock unit) h = absurd h
-asked_free (says.TryLock u) h = tt
-asked_free (says.Unlock u) h = tt
-asked_free (says.Load u) h = tt
-asked_free (says.Store u n) h = tt
-asked_free (says.Wait k unit) h = absurd h
-asked_free (says.Signal k) h = tt
-asked_free (says.Broadcast k) h = tt
-asked_free (says.Await unit) h = absurd h
-asked_free (says.Fill n) h = tt
-asked_free says.Reset h = tt
-asked_free says.Test h = tt
-asked_free (says.Arrive unit) h = absurd h
-asked_free (says.ReadLock unit) h = absurd h
-asked_free (says.WriteLock unit) h = absurd h
-asked_free (says.RwUnlock u) h = tt
-
-pub ruleset operations = (op_called, op_denied, op_yields, op_exits, op_own, plan_may, own_local, asked_free)
+pub ruleset operations = (op_called, op_denied, op_yields, op_exits, op_own, plan_may, own_local)

@@ -27,9 +27,9 @@ use Rattle.abt_machine.specs.Workloads.{body_at, op_at}
 use Rattle.abt_commons.specs.Replies.{Told}
 use Rattle.abt_stream.specs.declared.turns.Turn.{Turn}
 use Rattle.abt_stream.specs.declared.turns.Turn.TheVariants as turn
-use Rattle.abt_stream.specs.declared.dues.HandDue.{HandDue}
-use Rattle.abt_stream.specs.declared.dues.HandDue.TheVariants as hands
-use Rattle.abt_stream.specs.Dues.{DueIs}
+use Rattle.abt_plans.specs.declared.dues.HandDue.{HandDue}
+use Rattle.abt_plans.specs.declared.dues.HandDue.TheVariants as hands
+use Rattle.abt_plans.specs.Dues.{DueIs}
 use Rattle.abt_stream.specs.Events.{EndBy, EnterBy, IfFirst, IfHeld, LookBy, PutBy, step_of, wrote}
 use Rattle.abt_stream.specs.Streams.{FrameValue, StreamValue}
 use Rattle.abt_stream.specs.Keeping.{Keeps}
@@ -46,25 +46,25 @@ hand-due W s held o d tray next hand e =
     (ap (λ (h : Option Owned). due_by {X = Owned} {Y = Owned} W s held.own [] None (option_map number_and_position h)) hand ∙ e))
 
 module _ (W : Parts) (s : ℕ) (held : Held) (d : HandDue) (tray : held.tray ≡ []) (next : held.next ≡ None) where
-  pub end_due : (hand : Option Owned) (cause : Cause) → held.hand ≡ hand → IfHeld hand (λ o. DueIs W s held.own.mark o d) → d ≡ hands.End cause → due_of W s held ≡ EndDue cause
+  pub end_due : (hand : Option Owned) (cause : Cause) → held.hand ≡ hand → IfHeld hand (λ o. DueIs W s held.own.mark o.number o.carried.position d) → d ≡ hands.End cause → due_of W s held ≡ EndDue cause
   end_due None cause is h e = absurd h
-  end_due (Some o) cause is h e = hand-due W s held o (EndDue cause) tray next is (subst (λ (x : HandDue). DueIs W s held.own.mark o x) e h)
+  end_due (Some o) cause is h e = hand-due W s held o (EndDue cause) tray next is (subst (λ (x : HandDue). DueIs W s held.own.mark o.number o.carried.position x) e h)
 
-  pub enter_due : (hand : Option Owned) (g : SchedNo) → held.hand ≡ hand → IfHeld hand (λ o. DueIs W s held.own.mark o d) → d ≡ hands.Enter g → due_of W s held ≡ EnterDue
+  pub enter_due : (hand : Option Owned) (g : SchedNo) → held.hand ≡ hand → IfHeld hand (λ o. DueIs W s held.own.mark o.number o.carried.position d) → d ≡ hands.Enter g → due_of W s held ≡ EnterDue
   enter_due None g is h e = absurd h
-  enter_due (Some o) g is h e = hand-due W s held o EnterDue tray next is (subst (λ (x : HandDue). DueIs W s held.own.mark o x) e h).0
+  enter_due (Some o) g is h e = hand-due W s held o EnterDue tray next is (subst (λ (x : HandDue). DueIs W s held.own.mark o.number o.carried.position x) e h).0
 
-  pub enter_body : (hand : Option Owned) (g : SchedNo) → IfHeld hand (λ o. DueIs W s held.own.mark o d) → d ≡ hands.Enter g → IfHeld hand (λ o. body_at W o.number ≡ body.Sched g)
+  pub enter_body : (hand : Option Owned) (g : SchedNo) → IfHeld hand (λ o. DueIs W s held.own.mark o.number o.carried.position d) → d ≡ hands.Enter g → IfHeld hand (λ o. body_at W o.number ≡ body.Sched g)
   enter_body None g h e = absurd h
-  enter_body (Some o) g h e = (subst (λ (x : HandDue). DueIs W s held.own.mark o x) e h).1
+  enter_body (Some o) g h e = (subst (λ (x : HandDue). DueIs W s held.own.mark o.number o.carried.position x) e h).1
 
-  pub step_due : (hand : Option Owned) (a : Op) → held.hand ≡ hand → IfHeld hand (λ o. DueIs W s held.own.mark o d) → d ≡ hands.Step a → due_of W s held ≡ StepDue
+  pub step_due : (hand : Option Owned) (a : Op) → held.hand ≡ hand → IfHeld hand (λ o. DueIs W s held.own.mark o.number o.carried.position d) → d ≡ hands.Step a → due_of W s held ≡ StepDue
   step_due None a is h e = absurd h
-  step_due (Some o) a is h e = hand-due W s held o StepDue tray next is (subst (λ (x : HandDue). DueIs W s held.own.mark o x) e h).0
+  step_due (Some o) a is h e = hand-due W s held o StepDue tray next is (subst (λ (x : HandDue). DueIs W s held.own.mark o.number o.carried.position x) e h).0
 
-  pub step_op : (hand : Option Owned) (a : Op) → IfHeld hand (λ o. DueIs W s held.own.mark o d) → d ≡ hands.Step a → IfHeld hand (λ o. op_at W o.number o.carried.position ≡ Some a)
+  pub step_op : (hand : Option Owned) (a : Op) → IfHeld hand (λ o. DueIs W s held.own.mark o.number o.carried.position d) → d ≡ hands.Step a → IfHeld hand (λ o. op_at W o.number o.carried.position ≡ Some a)
   step_op None a h e = absurd h
-  step_op (Some o) a h e = (subst (λ (x : HandDue). DueIs W s held.own.mark o x) e h).1
+  step_op (Some o) a h e = (subst (λ (x : HandDue). DueIs W s held.own.mark o.number o.carried.position x) e h).1
 
 -- what is planned without a call is performed so
 performs-alone : (old : Held) (a : Op) (o : Owned) (plan : Plan) → CallsNothing plan → (c : Code) × (new : Held) × Performs old a o plan None c new

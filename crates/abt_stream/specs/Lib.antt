@@ -4,6 +4,5 @@ pub mod Hearing
 pub mod Heeding
 pub mod Keeping
 pub mod Operated
-pub mod Shapes
 pub mod Streams
 pub mod Turned

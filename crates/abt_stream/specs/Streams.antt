@@ -8,7 +8,7 @@ use Rattle.abt_machine.specs.declared.numbers.StreamNo.{StreamNo}
 use Rattle.abt_machine.specs.declared.operations.OrderShape.{OrderShape}
 use Rattle.abt_machine.specs.declared.workload.Parts.{Parts}
 use Rattle.abt_machine.specs.Rounds.{IsOrder}
-use Rattle.abt_machine.specs.State.{Frame, Mark, Plain, Asked, Left, Exited, Stream}
+use Rattle.abt_machine.specs.State.{Frame, Stream}
 use Rattle.abt_machine.specs.Values.{Held, Owned}
 use Rattle.abt_machine.specs.Workloads.{pools_of}
 use Rattle.abt_calls.specs.Holders.{units_of}
@@ -16,8 +16,8 @@ use Rattle.abt_interleave.specs.Histories.{RisesAbove}
 use Rattle.abt_order.specs.Schedulers.{IsSchedulerOf, SchedulerValue, pool_numbers}
 use Rattle.abt_unit.specs.Fits.{Fits}
 use Rattle.abt_unit.specs.Units.{UnitValue}
-use Rattle.abt_stream.specs.declared.parts.Marking.{Marking}
-use Rattle.abt_stream.specs.declared.parts.Marking.TheVariants as marking
+use Rattle.abt_plans.specs.declared.dues.Mark.{Mark}
+use Rattle.abt_plans.specs.Marks.{mark_of}
 use Rattle.abt_stream.specs.declared.parts.Work.{Work}
 use Rattle.abt_stream.specs.declared.parts.Work.TheVariants as work
 
@@ -47,12 +47,6 @@ pub record StreamValue : Type 0 where
   pub at : ℕ
   pub log : List Event
   pub rooms : Rooms
-
-abbrev pub mark_of : Marking → Mark
-mark_of marking.Plain = Plain
-mark_of marking.Asked = Asked
-mark_of marking.Left = Left
-mark_of marking.Exited = Exited
 
 abbrev pub owned : Box UnitValue Global → Owned
 owned unit = unit.value.owned
@@ -85,7 +79,7 @@ seeing f seen = record { sched = f.scheduler.number; round = f.round; seen = poo
 abbrev pub resting : FrameValue → Frame
 resting f = seeing f []
 
-abbrev pub own_of : Marking → FrameValue → List PoolNo → List FrameValue → Stream
+abbrev pub own_of : Mark → FrameValue → List PoolNo → List FrameValue → Stream
 own_of mark top seen below = record { mark = mark_of mark; top = seeing top seen; below = map resting (reverse below) }
 
 abbrev pub stamps : List Event → List ℕ

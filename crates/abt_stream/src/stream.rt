@@ -18,13 +18,13 @@ mod running;
 mod stepping;
 mod writing;
 
-use crate::dues::HandDue;
-use crate::parts::{Frame, Marking, Work};
+use crate::parts::{Frame, Work};
 use crate::turns::{Pace, Turn};
 use abt_chain::Chain;
 use abt_commons::Commons;
 use abt_machine::{Event, Items, Log, PoolNo, StreamNo, Want, What, Workload};
 use abt_order::Scheduler;
+use abt_plans::{HandDue, Mark};
 use abt_unit::Unit;
 use std::alloc::Global;
 use std::marker::Model;
@@ -52,7 +52,7 @@ pub struct Stream {
     budget: u64,
     left: u64,
     clock: u64,
-    mark: Marking,
+    mark: Mark,
     work: Work,
     tray: Chain,
     top: Frame,
@@ -125,7 +125,7 @@ impl Stream {
             budget: steps,
             left: steps,
             clock: 0,
-            mark: Marking::Plain,
+            mark: Mark::Plain,
             work: Work::Idle,
             tray: Chain::new(),
             top,

@@ -2,26 +2,26 @@
 
 ghost use Rattle.std.specs.Prelude.{◌≡◌, ◌<◌, ◌-◌, ◌^◌, IfOk, IsSome, None, Some, [], ◌∷◌, length};
 ghost use Rattle.abt_calls.specs.Allowed.{Allows};
-ghost use Rattle.abt_replay.specs.Acts.{act_of};
 ghost use Rattle.abt_replay.specs.Events.{Alone, AreObjects, Asked, Operated, OwnExit, OwnStep};
 ghost use Rattle.abt_replay.specs.Objects.{object_at};
-ghost use Rattle.abt_replay.specs.Shapes.{IsAsked, given};
 ghost use Rattle.abt_machine.specs.declared.events.Code.TheVariants as code;
-ghost use Rattle.abt_machine.specs.Acts as asked;
+ghost use Rattle.abt_machine.specs.Acts as asks;
 ghost use Rattle.abt_machine.specs.Acts.{moved};
+ghost use Rattle.abt_machine.specs.Operations.{IsDeclared};
 ghost use Rattle.abt_machine.specs.Plans.{empties, refusal, to_caller, to_condition, to_giver, to_yielder};
 ghost use Rattle.abt_machine.specs.Valid.{IsValid};
 ghost use Rattle.abt_machine.specs.Workloads.{op_at};
+ghost use Rattle.abt_plans.specs.Acts.{asked, given};
+ghost use Rattle.abt_plans.specs.Shapes.{IsPlan};
 ghost use Rattle.abt_unit.specs.Local.{after_local};
 
 use super::Lane;
 use crate::acts::{Act, Answer};
 use crate::hearing;
-use crate::marks::Mark;
 use crate::objects::Objects;
-use crate::plans::{Giving, Plan, planned};
 use crate::unit::Unit;
 use abt_machine::{Code, Op, Site, StreamNo, UnitNo, Want, Workload};
+use abt_plans::{Asking, Giving, Mark, Plan, planned};
 
 impl Lane {
     /// An operation of the unit in hand.
@@ -43,12 +43,12 @@ impl Lane {
         requires next { self.old.next ≡ None }
         ensures { IfOk result (λ c. Operated w.now s.0 op unit self.old objects.old c self.new objects.new) }
     {
-        match planned(w, s, op, &unit) {
+        match plan(w, s, op, &unit) {
             Plan::Own => self.own(op, unit),
             Plan::Yield => self.yields(unit),
             Plan::Exit => Ok(self.exits(unit)),
             Plan::Deny => self.deny(unit),
-            Plan::Ask(site, act) => self.ask(objects, site, act, unit),
+            Plan::Ask(site, asking) => self.ask(objects, site, asking, unit),
             Plan::Give(site, giving) => self.give(objects, site, giving, unit),
             Plan::Wait(site, condition) => self.wait(objects, site, condition, unit),
             Plan::YieldTo(site, v) => self.yield_to(objects, site, v, unit),
@@ -108,16 +108,15 @@ impl Lane {
         &mut self,
         objects: &mut Objects,
         site: Site,
-        act: Act,
+        asking: Asking,
         mut unit: Unit,
     ) -> Result<Code, Want>
-        requires asked { IsAsked (act_of act) }
-        requires allowed { Allows (object_at objects.old site) (act_of act) }
+        requires allowed { Allows (object_at objects.old site) (asked asking) }
         requires position { unit.carried.position < 2 ^ 32 - 1 }
         requires next { self.old.next ≡ None }
-        ensures { IfOk result (λ c. Asked site (act_of act) (to_caller unit) self.old objects.old c self.new objects.new) }
+        ensures { IfOk result (λ c. Asked site (asked asking) (to_caller unit) self.old objects.old c self.new objects.new) }
     {
-        let answer = objects.call(site, act)?;
+        let answer = objects.call(site, hearing::ask(asking))?;
         let code = hearing::hear(&mut unit, &mut self.tray, answer)?;
         self.hand = Some(unit);
         Ok(code)
@@ -153,10 +152,10 @@ impl Lane {
         condition: u32,
         mut unit: Unit,
     ) -> Result<Code, Want>
-        requires allowed { Allows (object_at objects.old site) (asked.Wait condition (moved unit)) }
+        requires allowed { Allows (object_at objects.old site) (asks.Wait condition (moved unit)) }
         requires position { unit.carried.position < 2 ^ 32 - 1 }
         requires next { self.old.next ≡ None }
-        ensures { IfOk result (λ c. Asked site (asked.Wait condition (moved unit)) to_condition self.old objects.old c self.new objects.new) }
+        ensures { IfOk result (λ c. Asked site (asks.Wait condition (moved unit)) to_condition self.old objects.old c self.new objects.new) }
     {
         unit.advance();
         let answer = objects.call(site, Act::Wait(condition, unit))?;
@@ -174,11 +173,11 @@ impl Lane {
         v: UnitNo,
         mut unit: Unit,
     ) -> Result<Code, Want>
-        requires allowed { Allows (object_at objects.old site) (asked.Remove v.0) }
+        requires allowed { Allows (object_at objects.old site) (asks.Remove v.0) }
         requires position { unit.carried.position < 2 ^ 32 - 1 }
         requires hand { self.old.hand ≡ None }
         requires next { self.old.next ≡ None }
-        ensures { IfOk result (λ c. Asked site (asked.Remove v.0) (to_yielder unit) self.old objects.old c self.new objects.new) }
+        ensures { IfOk result (λ c. Asked site (asks.Remove v.0) (to_yielder unit) self.old objects.old c self.new objects.new) }
     {
         match objects.call(site, Act::Remove(v))? {
             Answer::Given(other) => {
@@ -195,4 +194,14 @@ impl Lane {
             _ => unreachable!(),
         }
     }
+}
+
+// What the stream does at the operation of the unit.
+fn plan(w: &Workload, s: StreamNo, op: Op, unit: &Unit) -> Plan
+    requires valid { IsValid w.now }
+    requires stream { s.0 < w.now.streams }
+    requires declared { IsDeclared w.now op }
+    ensures { IsPlan w.now s.0 op unit.now result }
+{
+    planned(w, s, op, unit.number(), unit.acc())
 }

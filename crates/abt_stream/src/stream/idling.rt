@@ -10,17 +10,18 @@ ghost use Rattle.abt_stream.specs.Heeding.{Heeds};
 ghost use Rattle.abt_stream.specs.Turned.{IsReady, Turned};
 ghost use Rattle.abt_machine.specs.declared.operations.OrderShape.{OrderShape};
 ghost use Rattle.abt_machine.specs.Valid.{IsValid};
-ghost use Rattle.abt_stream.specs.Hearing.{IsForTaker};
+ghost use Rattle.abt_plans.specs.Hearing.{IsForTaker};
 ghost use Rattle.abt_unit.specs.Units.{IsFree};
 ghost use Rattle.abt_stream.specs.Events.{LeaveBy, VisitBy, VisitedBy, emptied, passed, took, wrote};
 ghost use Rattle.abt_stream.specs.Keeping.{Keeps};
 
 use super::{LAST, Stream};
-use crate::parts::{Marking, Work};
-use crate::plans::{name, side};
+use crate::parts::Work;
 use crate::turns::Turn;
+use crate::units::name;
 use abt_commons::{Act, Answer, Commons, Reply};
 use abt_machine::{PoolNo, Side, Site, What, Workload};
+use abt_plans::{Mark, side};
 use abt_unit::Unit;
 
 impl Stream {
@@ -82,7 +83,7 @@ impl Stream {
                     self.top = frame;
                     self.order.clear();
                     self.at = 0;
-                    self.mark = Marking::Left;
+                    self.mark = Mark::Left;
                     self.work = Work::Running(unit);
                     self.write(self.clock + 1, What::Leave(number));
                     Turn::Moved

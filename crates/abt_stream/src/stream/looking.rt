@@ -11,12 +11,13 @@ ghost use Rattle.abt_unit.specs.Fits.{Fits};
 ghost use Rattle.abt_stream.specs.Events.{IfHeld, LookBy, holding, wrote};
 
 use super::Stream;
-use crate::parts::{Marking, Work};
-use crate::plans::name;
+use crate::parts::Work;
 use crate::turns::Turn;
+use crate::units::name;
 use abt_commons::{Act, Answer, Commons, Reply};
 use abt_desk::Asks;
 use abt_machine::{Site, What};
+use abt_plans::Mark;
 use abt_unit::Unit;
 use std::mem;
 
@@ -79,7 +80,7 @@ impl Stream {
         ensures room { self.new.rooms.events ≡ self.old.rooms.events }
     {
         if asks.cancel {
-            self.mark = Marking::Asked;
+            self.mark = Mark::Asked;
             self.work = Work::Running(unit);
         } else {
             match asks.migrate {
@@ -88,7 +89,7 @@ impl Stream {
                     self.tray.push_back(unit);
                 }
                 None => {
-                    self.mark = Marking::Plain;
+                    self.mark = Mark::Plain;
                     self.work = Work::Running(unit);
                 }
             }

@@ -7,8 +7,8 @@ ghost use Rattle.abt_unit.specs.Fits.{Fits};
 ghost use Rattle.abt_stream.specs.Events.{IfFirst, PutBy, holding};
 
 use super::Stream;
-use crate::plans::{home, name};
 use crate::turns::Turn;
+use crate::units::{home, name};
 use abt_chain::Chain;
 use abt_commons::{Act, Commons, Reply};
 use abt_machine::{Site, What};

@@ -2,7 +2,7 @@
 
 ghost use Rattle.std.specs.Prelude.{◌≡◌, ◌<◌, ◌≤◌, ◌^◌, [], ◌++◌, IsSome, None, Some, length, List};
 ghost use Rattle.abt_machine.specs.declared.events.What.TheVariants as what;
-ghost use Rattle.abt_stream.specs.Dues.{DueIs};
+ghost use Rattle.abt_plans.specs.Dues.{DueIs};
 ghost use Rattle.abt_stream.specs.Heeding.{Heeds};
 ghost use Rattle.abt_stream.specs.Turned.{IsReady, Turned};
 ghost use Rattle.abt_machine.specs.declared.operations.OrderShape.{OrderShape};
@@ -11,20 +11,20 @@ ghost use Rattle.abt_machine.specs.Workloads.{op_at};
 ghost use Rattle.abt_machine.specs.Valid.{IsValid};
 ghost use Rattle.abt_unit.specs.Fits.{Fits};
 ghost use Rattle.abt_stream.specs.Events.{IfHeld, EndBy, CanStep, EnterBy, holding, wrote};
-ghost use Rattle.abt_stream.specs.Shapes.{IsPlan};
+ghost use Rattle.abt_plans.specs.Shapes.{IsPlan};
 ghost use Rattle.abt_stream.specs.Keeping.{Keeps};
 ghost use Rattle.abt_stream.specs.Operated.{OpBy};
 
 use super::{LAST, Stream};
-use crate::dues;
-use crate::dues::HandDue;
-use crate::parts::{Frame, Marking, Work};
-use crate::plans::{Plan, name, planned};
+use crate::parts::{Frame, Work};
 use crate::turns::{Pace, Turn};
+use crate::units::name;
 use abt_chain::Chain;
 use abt_commons::{Act, Answer, Commons, Reply};
-use abt_machine::{Cause, Op, SchedNo, Site, UnitNo, What, Workload};
+use abt_machine::{Cause, Op, SchedNo, Site, StreamNo, UnitNo, What, Workload};
 use abt_order::Scheduler;
+use abt_plans::{HandDue, Plan, hand_due, planned};
+use abt_unit::Unit;
 use std::mem;
 
 impl Stream {
@@ -67,15 +67,12 @@ impl Stream {
         requires valid { IsValid w.now }
         requires stream { self.now.number.0 < w.now.streams }
         requires fits { IfHeld self.now.held.hand (Fits w.now) }
-        ensures { IfHeld self.now.held.hand (λ o. DueIs w.now self.now.number.0 self.now.held.own.mark o result) }
+        ensures { IfHeld self.now.held.hand (λ o. DueIs w.now self.now.number.0 self.now.held.own.mark o.number o.carried.position result) }
     {
         match &self.work {
-            Work::Running(unit) => match self.mark {
-                Marking::Asked => HandDue::End(Cause::Asked),
-                Marking::Plain => dues::plain(w, self.number, unit),
-                Marking::Left => dues::left(w, unit),
-                Marking::Exited => HandDue::End(Cause::Own),
-            },
+            Work::Running(unit) => {
+                hand_due(w, self.number, self.mark, unit.number(), unit.position())
+            }
             _ => unreachable!(),
         }
     }
@@ -204,7 +201,7 @@ impl Stream {
         ensures { IfHeld self.now.held.hand (λ o. IsPlan w.now self.now.number.0 op o result) }
     {
         match &self.work {
-            Work::Running(unit) => planned(w, self.number, op, unit),
+            Work::Running(unit) => plan_for(w, self.number, op, unit),
             _ => unreachable!(),
         }
     }
@@ -236,7 +233,7 @@ impl Stream {
                 Plan::Yield => self.yields(),
                 Plan::Exit => self.exits(),
                 Plan::Deny => self.deny(),
-                Plan::Ask(site, act) => self.ask(commons, pass, site, act),
+                Plan::Ask(site, asking) => self.ask(commons, pass, site, asking),
                 Plan::Give(site, giving) => self.give(commons, pass, site, giving),
                 Plan::Wait(site, condition) => self.wait(commons, pass, site, condition),
                 Plan::YieldTo(site, v) => self.yields_to(commons, pass, site, v),
@@ -244,4 +241,14 @@ impl Stream {
             _ => unreachable!(),
         }
     }
+}
+
+// What stream s does at the operation of a unit.
+fn plan_for(w: &Workload, s: StreamNo, op: Op, unit: &Unit) -> Plan
+    requires valid { IsValid w.now }
+    requires stream { s.0 < w.now.streams }
+    requires declared { IsDeclared w.now op }
+    ensures { IsPlan w.now s.0 op unit.now.owned result }
+{
+    planned(w, s, op, unit.number(), unit.acc())
 }

@@ -1,27 +1,31 @@
 //! A step, by the shape of the call that it makes.
 
-ghost use Rattle.std.specs.Prelude.{◌≡◌, ◌<◌, ◌≤◌, ◌^◌, [], ◌∷◌, None, Some};
+ghost use Rattle.std.specs.Prelude.{◌≡◌, ◌<◌, ◌≤◌, ◌^◌, [], ◌∷◌, IsSome, None, Some};
 ghost use Rattle.abt_machine.specs.declared.events.Code.TheVariants as code;
 ghost use Rattle.abt_machine.specs.Plans.{empties, refusal, to_caller, to_condition, to_giver, to_yielder};
 ghost use Rattle.abt_machine.specs.Acts.{carrying, moved};
-ghost use Rattle.abt_machine.specs.Acts as asked;
+ghost use Rattle.abt_machine.specs.Acts as asks;
 ghost use Rattle.abt_calls.specs.Asking.{MayCall};
-ghost use Rattle.abt_commons.specs.Acts.{IsFreeAct, IsFreeAnswer, act_of, answer_of};
+ghost use Rattle.abt_commons.specs.Acts.{IsFreeAnswer, answer_of};
+ghost use Rattle.abt_plans.specs.Acts.{asked, given};
+ghost use Rattle.abt_plans.specs.Hearing.{IsForCaller, IsForYielder};
+ghost use Rattle.abt_machine.specs.Numbers.{unit_no};
+ghost use Rattle.abt_stream.specs.declared.parts.Work.TheVariants as works;
 ghost use Rattle.abt_stream.specs.Heeding.{Heeds};
-ghost use Rattle.abt_stream.specs.Hearing.{IsForCaller, IsForYielder};
+ghost use Rattle.abt_stream.specs.Streams.{hand_of};
 ghost use Rattle.abt_unit.specs.Units.{IsFree};
 ghost use Rattle.abt_unit.specs.Fits.{Fits};
 ghost use Rattle.abt_unit.specs.Local.{IsLocal, back};
 ghost use Rattle.abt_stream.specs.Events.{IfHeld, CanStep, ExitBy, OwnBy, StepsAlone, StepsBy, after_step, step_of, wrote};
-ghost use Rattle.abt_stream.specs.Shapes.{IsAsked, given};
 
 use super::{LAST, Stream};
 use crate::hearing;
-use crate::parts::{Marking, Work};
-use crate::plans::{Giving, name};
+use crate::parts::Work;
 use crate::turns::Turn;
+use crate::units::name;
 use abt_commons::{Act, Answer, Commons, Reply};
 use abt_machine::{Code, Site, UnitNo, What, Workload};
+use abt_plans::{Asking, Giving, Mark};
 use abt_unit::Unit;
 use std::mem;
 
@@ -36,17 +40,11 @@ impl Stream {
         if self.clock == LAST {
             return Turn::Worn;
         }
-        match mem::replace(&mut self.work, Work::Idle) {
-            Work::Running(mut unit) => {
-                let number = name(&unit);
-                let at = unit.position();
-                unit.step_local(w);
-                self.work = Work::Running(unit);
-                self.write_step(self.clock + 1, number, at, Code::Ok);
-                Turn::Stepped
-            }
-            _ => unreachable!(),
-        }
+        let (mut unit, number, at) = running(mem::replace(&mut self.work, Work::Idle));
+        unit.step_local(w);
+        self.work = Work::Running(unit);
+        self.write_step(self.clock + 1, number, at, Code::Ok);
+        Turn::Stepped
     }
 
     // The unit in hand yields.
@@ -57,17 +55,11 @@ impl Stream {
         if self.clock == LAST {
             return Turn::Worn;
         }
-        match mem::replace(&mut self.work, Work::Idle) {
-            Work::Running(mut unit) => {
-                let number = name(&unit);
-                let at = unit.position();
-                unit.advance();
-                self.tray.push_back(unit);
-                self.write_step(self.clock + 1, number, at, Code::Ok);
-                Turn::Stepped
-            }
-            _ => unreachable!(),
-        }
+        let (mut unit, number, at) = running(mem::replace(&mut self.work, Work::Idle));
+        unit.advance();
+        self.tray.push_back(unit);
+        self.write_step(self.clock + 1, number, at, Code::Ok);
+        Turn::Stepped
     }
 
     // The unit in hand ends itself: it stays there, to be ended.
@@ -78,18 +70,12 @@ impl Stream {
         if self.clock == LAST {
             return Turn::Worn;
         }
-        match mem::replace(&mut self.work, Work::Idle) {
-            Work::Running(mut unit) => {
-                let number = name(&unit);
-                let at = unit.position();
-                unit.advance();
-                self.work = Work::Running(unit);
-                self.mark = Marking::Exited;
-                self.write_step(self.clock + 1, number, at, Code::Ok);
-                Turn::Stepped
-            }
-            _ => unreachable!(),
-        }
+        let (mut unit, number, at) = running(mem::replace(&mut self.work, Work::Idle));
+        unit.advance();
+        self.work = Work::Running(unit);
+        self.mark = Mark::Exited;
+        self.write_step(self.clock + 1, number, at, Code::Ok);
+        Turn::Stepped
     }
 
     // The unit in hand names a pool that the stream must not reach.
@@ -100,17 +86,11 @@ impl Stream {
         if self.clock == LAST {
             return Turn::Worn;
         }
-        match mem::replace(&mut self.work, Work::Idle) {
-            Work::Running(mut unit) => {
-                let number = name(&unit);
-                let at = unit.position();
-                hearing::refuse(&mut unit, Code::PoolAccess);
-                self.work = Work::Running(unit);
-                self.write_step(self.clock + 1, number, at, Code::PoolAccess);
-                Turn::Stepped
-            }
-            _ => unreachable!(),
-        }
+        let (mut unit, number, at) = running(mem::replace(&mut self.work, Work::Idle));
+        hearing::refuse(&mut unit, Code::PoolAccess);
+        self.work = Work::Running(unit);
+        self.write_step(self.clock + 1, number, at, Code::PoolAccess);
+        Turn::Stepped
     }
 
     // A call by the unit in hand, which stays there.
@@ -120,18 +100,16 @@ impl Stream {
         commons: &C,
         pass: &mut C::Pass,
         site: Site,
-        act: Act,
+        asking: Asking,
     ) -> Turn
         requires pass { C.is_of commons.now pass.old }
         requires can { CanStep self.old }
-        requires asked { IsAsked (act_of act) }
-        requires free { IsFreeAct act }
-        requires may { MayCall (C.workload commons.now) site (act_of act) }
-        ensures step { IfHeld self.old.held.hand (λ o. StepsBy (Heeds (C.moves commons.now) (C.workload commons.now)) self.old pass.old site (act_of act) (to_caller o) result self.new pass.new o) }
+        requires may { MayCall (C.workload commons.now) site (asked asking) }
+        ensures step { IfHeld self.old.held.hand (λ o. StepsBy (Heeds (C.moves commons.now) (C.workload commons.now)) self.old pass.old site (asked asking) (to_caller o) result self.new pass.new o) }
         ensures pass { C.is_of commons.now pass.new }
         ensures number { C.number pass.new ≡ C.number pass.old }
     {
-        match commons.call(pass, site, self.clock, act) {
+        match commons.call(pass, site, self.clock, hearing::ask(asking)) {
             Reply::Done { stamp, answer } => {
                 self.heard(stamp, answer);
                 Turn::Stepped
@@ -150,16 +128,10 @@ impl Stream {
         ensures clock { self.new.clock ≡ stamp }
         ensures same { IfHeld self.old.held.hand (λ o. self.new ≡ wrote (after_step self.old (to_caller o (answer_of answer))) (step_of o (to_caller o (answer_of answer)).code) stamp self.new.rooms) }
     {
-        match mem::replace(&mut self.work, Work::Idle) {
-            Work::Running(mut unit) => {
-                let number = name(&unit);
-                let at = unit.position();
-                let code = hearing::hear(&mut unit, &mut self.tray, answer);
-                self.work = Work::Running(unit);
-                self.write_step(stamp, number, at, code);
-            }
-            _ => unreachable!(),
-        }
+        let (mut unit, number, at) = running(mem::replace(&mut self.work, Work::Idle));
+        let code = hearing::hear(&mut unit, &mut self.tray, answer);
+        self.work = Work::Running(unit);
+        self.write_step(stamp, number, at, code);
     }
 
     // A call that takes the unit in hand with it.
@@ -178,26 +150,20 @@ impl Stream {
         ensures pass { C.is_of commons.now pass.new }
         ensures number { C.number pass.new ≡ C.number pass.old }
     {
-        match mem::replace(&mut self.work, Work::Idle) {
-            Work::Running(mut unit) => {
-                let number = name(&unit);
-                let at = unit.position();
-                unit.advance();
-                let act = hearing::give(giving, unit);
-                match commons.call(pass, site, self.clock, act) {
-                    Reply::Done { stamp, answer } => {
-                        let (work, code) = hearing::returned(&mut self.tray, answer);
-                        self.work = work;
-                        self.write_step(stamp, number, at, code);
-                        Turn::Stepped
-                    }
-                    Reply::Worn(act) => {
-                        self.take_back(hearing::given(act));
-                        Turn::Worn
-                    }
-                }
+        let (mut unit, number, at) = running(mem::replace(&mut self.work, Work::Idle));
+        unit.advance();
+        let act = hearing::give(giving, unit);
+        match commons.call(pass, site, self.clock, act) {
+            Reply::Done { stamp, answer } => {
+                let (work, code) = hearing::returned(&mut self.tray, answer);
+                self.work = work;
+                self.write_step(stamp, number, at, code);
+                Turn::Stepped
             }
-            _ => unreachable!(),
+            Reply::Worn(act) => {
+                self.take_back(hearing::given(act));
+                Turn::Worn
+            }
         }
     }
 
@@ -225,33 +191,27 @@ impl Stream {
     ) -> Turn
         requires pass { C.is_of commons.now pass.old }
         requires can { CanStep self.old }
-        requires may { IfHeld self.old.held.hand (λ o. MayCall (C.workload commons.now) site (asked.Wait condition (moved o))) }
-        ensures step { IfHeld self.old.held.hand (λ o. StepsBy (Heeds (C.moves commons.now) (C.workload commons.now)) self.old pass.old site (asked.Wait condition (moved o)) to_condition result self.new pass.new o) }
+        requires may { IfHeld self.old.held.hand (λ o. MayCall (C.workload commons.now) site (asks.Wait condition (moved o))) }
+        ensures step { IfHeld self.old.held.hand (λ o. StepsBy (Heeds (C.moves commons.now) (C.workload commons.now)) self.old pass.old site (asks.Wait condition (moved o)) to_condition result self.new pass.new o) }
         ensures pass { C.is_of commons.now pass.new }
         ensures number { C.number pass.new ≡ C.number pass.old }
     {
-        match mem::replace(&mut self.work, Work::Idle) {
-            Work::Running(mut unit) => {
-                let number = name(&unit);
-                let at = unit.position();
-                unit.advance();
-                match commons.call(pass, site, self.clock, Act::Wait(condition, unit)) {
-                    Reply::Done { stamp, answer } => {
-                        let (work, code) = hearing::refused(&mut self.tray, answer);
-                        self.work = work;
-                        self.write_step(stamp, number, at, code);
-                        Turn::Stepped
-                    }
-                    Reply::Worn(act) => {
-                        match act {
-                            Act::Wait(_, unit) => self.take_back(unit),
-                            _ => unreachable!(),
-                        }
-                        Turn::Worn
-                    }
-                }
+        let (mut unit, number, at) = running(mem::replace(&mut self.work, Work::Idle));
+        unit.advance();
+        match commons.call(pass, site, self.clock, Act::Wait(condition, unit)) {
+            Reply::Done { stamp, answer } => {
+                let (work, code) = hearing::refused(&mut self.tray, answer);
+                self.work = work;
+                self.write_step(stamp, number, at, code);
+                Turn::Stepped
             }
-            _ => unreachable!(),
+            Reply::Worn(act) => {
+                match act {
+                    Act::Wait(_, unit) => self.take_back(unit),
+                    _ => unreachable!(),
+                }
+                Turn::Worn
+            }
         }
     }
 
@@ -266,8 +226,8 @@ impl Stream {
     ) -> Turn
         requires pass { C.is_of commons.now pass.old }
         requires can { CanStep self.old }
-        requires may { MayCall (C.workload commons.now) site (asked.Remove v.0) }
-        ensures step { IfHeld self.old.held.hand (λ o. StepsBy (Heeds (C.moves commons.now) (C.workload commons.now)) self.old pass.old site (asked.Remove v.0) (to_yielder o) result self.new pass.new o) }
+        requires may { MayCall (C.workload commons.now) site (asks.Remove v.0) }
+        ensures step { IfHeld self.old.held.hand (λ o. StepsBy (Heeds (C.moves commons.now) (C.workload commons.now)) self.old pass.old site (asks.Remove v.0) (to_yielder o) result self.new pass.new o) }
         ensures pass { C.is_of commons.now pass.new }
         ensures number { C.number pass.new ≡ C.number pass.old }
     {
@@ -304,18 +264,12 @@ impl Stream {
         requires above { self.old.clock < stamp }
         requires bound { stamp ≤ 2 ^ 62 }
         ensures clock { self.new.clock ≡ stamp }
-        ensures same { IfHeld self.old.held.hand (λ o. self.new ≡ wrote (after_step self.old (to_yielder o (asked.Given other.value.owned))) (step_of o (to_yielder o (asked.Given other.value.owned)).code) stamp self.new.rooms) }
+        ensures same { IfHeld self.old.held.hand (λ o. self.new ≡ wrote (after_step self.old (to_yielder o (asks.Given other.value.owned))) (step_of o (to_yielder o (asks.Given other.value.owned)).code) stamp self.new.rooms) }
     {
-        match mem::replace(&mut self.work, Work::Taken(other)) {
-            Work::Running(mut unit) => {
-                let number = name(&unit);
-                let at = unit.position();
-                unit.advance();
-                self.tray.push_back(unit);
-                self.write_step(stamp, number, at, Code::Ok);
-            }
-            _ => unreachable!(),
-        }
+        let (mut unit, number, at) = running(mem::replace(&mut self.work, Work::Taken(other)));
+        unit.advance();
+        self.tray.push_back(unit);
+        self.write_step(stamp, number, at, Code::Ok);
     }
 
     // The operation of the unit in hand is refused.
@@ -324,17 +278,28 @@ impl Stream {
         requires above { self.old.clock < stamp }
         requires bound { stamp ≤ 2 ^ 62 }
         ensures clock { self.new.clock ≡ stamp }
-        ensures same { IfHeld self.old.held.hand (λ o. self.new ≡ wrote (after_step self.old (to_yielder o (asked.Coded code))) (step_of o (to_yielder o (asked.Coded code)).code) stamp self.new.rooms) }
+        ensures same { IfHeld self.old.held.hand (λ o. self.new ≡ wrote (after_step self.old (to_yielder o (asks.Coded code))) (step_of o (to_yielder o (asks.Coded code)).code) stamp self.new.rooms) }
     {
-        match mem::replace(&mut self.work, Work::Idle) {
-            Work::Running(mut unit) => {
-                let number = name(&unit);
-                let at = unit.position();
-                hearing::refuse(&mut unit, code);
-                self.work = Work::Running(unit);
-                self.write_step(stamp, number, at, code);
-            }
-            _ => unreachable!(),
+        let (mut unit, number, at) = running(mem::replace(&mut self.work, Work::Idle));
+        hearing::refuse(&mut unit, code);
+        self.work = Work::Running(unit);
+        self.write_step(stamp, number, at, code);
+    }
+}
+
+// The unit that runs, its number and its position.
+fn running(work: Work) -> (Box<Unit>, UnitNo, u32)
+    requires { IsSome (hand_of work) }
+    ensures unit { work ≡ works.Running result.0 }
+    ensures number { result.1 ≡ unit_no result.0.value.owned.number }
+    ensures position { result.2 ≡ result.0.value.owned.carried.position }
+{
+    match work {
+        Work::Running(unit) => {
+            let number = name(&unit);
+            let at = unit.position();
+            (unit, number, at)
         }
+        _ => unreachable!(),
     }
 }

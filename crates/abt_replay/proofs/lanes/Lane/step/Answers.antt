@@ -2,37 +2,36 @@ use Rattle.abt_machine.specs.Acts.{moved}
 use Rattle.abt_machine.specs.Acts as asks
 use Rattle.abt_machine.specs.Plans.{to_caller, to_condition, to_giver, to_yielder}
 use Rattle.abt_machine.specs.declared.events.Code.{Code}
-use Rattle.abt_replay.specs.Acts.{act_of}
 use Rattle.abt_replay.specs.Events.{Asked, Operated}
-use Rattle.abt_replay.specs.Shapes.{given}
+use Rattle.abt_plans.specs.Acts.{asked, given}
 use Rattle.abt_replay.proofs.Operating.{ask_made, give_made, wait_made, yield_to_made}
 use Rattle.abt_replay.proofs.Outcomes.{if_ok}
 use Rattle.abt_replay.proofs.lanes.Lane.step.Goals as goal
 
 pub returns-in-Ask : goal.returns-in-Ask
 returns-in-Ask c =
-    if_ok (λ (k : Code). Asked c.in-Ask.site (act_of c.in-Ask.act) (to_caller c.args.unit) c.args.self.now c.args.objects.now k c.ask.new.self c.ask.new.objects)
+    if_ok (λ (k : Code). Asked c.in-Ask.site (asked c.in-Ask.asking) (to_caller c.args.unit) c.args.self.now c.args.objects.now k c.ask.new.self c.ask.new.objects)
     (λ (k : Code). Operated c.args.w.now c.args.s.0 c.args.op c.args.unit c.args.self.now c.args.objects.now k c.ask.new.self c.ask.new.objects) c.ask.result
-    (λ k h. ask_made c.args.w.now c.args.s.0 c.args.op c.args.unit c.args.self.now c.args.objects.now k c.ask.new.self c.ask.new.objects c.planned.result c.planned.ensures c.in-Ask.site c.in-Ask.act c.in-Ask.is h)
+    (λ k h. ask_made c.args.w.now c.args.s.0 c.args.op c.args.unit c.args.self.now c.args.objects.now k c.ask.new.self c.ask.new.objects c.plan.result c.plan.ensures c.in-Ask.site c.in-Ask.asking c.in-Ask.is h)
     c.ask.ensures
 
 pub returns-in-Give : goal.returns-in-Give
 returns-in-Give c =
     if_ok (λ (k : Code). Asked c.in-Give.site (given c.in-Give.giving (moved c.args.unit)) to_giver c.args.self.now c.args.objects.now k c.give.new.self c.give.new.objects)
     (λ (k : Code). Operated c.args.w.now c.args.s.0 c.args.op c.args.unit c.args.self.now c.args.objects.now k c.give.new.self c.give.new.objects) c.give.result
-    (λ k h. give_made c.args.w.now c.args.s.0 c.args.op c.args.unit c.args.self.now c.args.objects.now k c.give.new.self c.give.new.objects c.planned.result c.planned.ensures c.in-Give.site c.in-Give.giving c.in-Give.is h)
+    (λ k h. give_made c.args.w.now c.args.s.0 c.args.op c.args.unit c.args.self.now c.args.objects.now k c.give.new.self c.give.new.objects c.plan.result c.plan.ensures c.in-Give.site c.in-Give.giving c.in-Give.is h)
     c.give.ensures
 
 pub returns-in-Wait : goal.returns-in-Wait
 returns-in-Wait c =
     if_ok (λ (k : Code). Asked c.in-Wait.site (asks.Wait c.in-Wait.condition (moved c.args.unit)) to_condition c.args.self.now c.args.objects.now k c.wait.new.self c.wait.new.objects)
     (λ (k : Code). Operated c.args.w.now c.args.s.0 c.args.op c.args.unit c.args.self.now c.args.objects.now k c.wait.new.self c.wait.new.objects) c.wait.result
-    (λ k h. wait_made c.args.w.now c.args.s.0 c.args.op c.args.unit c.args.self.now c.args.objects.now k c.wait.new.self c.wait.new.objects c.planned.result c.planned.ensures c.in-Wait.site c.in-Wait.condition c.in-Wait.is h)
+    (λ k h. wait_made c.args.w.now c.args.s.0 c.args.op c.args.unit c.args.self.now c.args.objects.now k c.wait.new.self c.wait.new.objects c.plan.result c.plan.ensures c.in-Wait.site c.in-Wait.condition c.in-Wait.is h)
     c.wait.ensures
 
 pub returns-in-YieldTo : goal.returns-in-YieldTo
 returns-in-YieldTo c =
     if_ok (λ (k : Code). Asked c.in-YieldTo.site (asks.Remove c.in-YieldTo.v.0) (to_yielder c.args.unit) c.args.self.now c.args.objects.now k c.yield_to.new.self c.yield_to.new.objects)
     (λ (k : Code). Operated c.args.w.now c.args.s.0 c.args.op c.args.unit c.args.self.now c.args.objects.now k c.yield_to.new.self c.yield_to.new.objects) c.yield_to.result
-    (λ k h. yield_to_made c.args.w.now c.args.s.0 c.args.op c.args.unit c.args.self.now c.args.objects.now k c.yield_to.new.self c.yield_to.new.objects c.planned.result c.planned.ensures c.in-YieldTo.site c.in-YieldTo.v c.in-YieldTo.is h)
+    (λ k h. yield_to_made c.args.w.now c.args.s.0 c.args.op c.args.unit c.args.self.now c.args.objects.now k c.yield_to.new.self c.yield_to.new.objects c.plan.result c.plan.ensures c.in-YieldTo.site c.in-YieldTo.v c.in-YieldTo.is h)
     c.yield_to.ensures

@@ -1,7 +1,7 @@
 -- The mark of the unit in hand.
 use Rattle.abt_machine.specs.State as state
-use Rattle.abt_replay.specs.declared.marks.Mark.{Mark}
-use Rattle.abt_replay.specs.declared.marks.Mark.TheVariants as mark
+use Rattle.abt_plans.specs.declared.dues.Mark.{Mark}
+use Rattle.abt_plans.specs.declared.dues.Mark.TheVariants as mark
 
 abbrev pub mark_of : Mark → state.Mark
 mark_of mark.Plain = state.Plain

@@ -1,6 +1,6 @@
 use Rattle.std.proofs.Common.{rules, ◌<◌, ℕ, length}
-use Rattle.abt_replay.proofs.Listed.{others_declared}
-use Rattle.abt_replay.proofs.dues.+takes_all.Goals as goal
+use Rattle.abt_plans.proofs.Listed.{others_declared}
+use Rattle.abt_plans.proofs.pools.+takes_all.Goals as goal
 
 pub takes_all-requires : goal.takes_all-requires
 takes_all-requires t c = (
