@@ -1,3 +1,2 @@
 pub mod Crosses
 pub mod Fitting
-mod Sample

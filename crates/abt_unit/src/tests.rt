@@ -14,7 +14,7 @@ use std::process::Abort;
 use std::test::Fail;
 
 // One stream, a pool, its scheduler, and one unit that does each local operation.
-fn workload(alloc: Global) -> Result<Workload, AllocError> {
+fn workload(rt: &impl Abort, alloc: Global) -> Result<Workload, AllocError> {
     let ops = vec![in alloc;
         Op::Set(7),
         Op::KeySet(0),
@@ -47,6 +47,7 @@ fn workload(alloc: Global) -> Result<Workload, AllocError> {
         units: UnitParts::new(vec![in alloc; unit]?),
         words: Texts::new(vec![in alloc; word]?),
     };
+    assert!(rt; parts.is_valid());
     Ok(Workload::new(parts))
 }
 
@@ -74,7 +75,7 @@ fn steps(rt: &impl Abort, unit: &mut Unit, w: &Workload, count: u32)
 
 #[test]
 fn local_operations_do_their_rows(rt: HostRuntime) -> Result<(), Fail> {
-    let w = workload(rt.alloc())?;
+    let w = workload(&rt, rt.alloc())?;
     assert_eq!(rt; w.units(), 1);
     let mut unit = Unit::make(rt.alloc(), &w, UnitNo(0))?;
     steps(&rt, &mut unit, &w, 7);
@@ -92,7 +93,7 @@ fn unit(rt: &impl Abort, alloc: Global) -> Result<Box<Unit>, Fail>
     ensures position { IfOk result (λ unit. unit.value.owned.carried.position ≡ 0) }
     ensures key { IfOk result (λ unit. length unit.value.owned.carried.keys ≡ 1) }
 {
-    let w = workload(alloc)?;
+    let w = workload(rt, alloc)?;
     assert_eq!(rt; w.units(), 1);
     assert_eq!(rt; w.keys(), 1);
     Ok(Unit::make(alloc, &w, UnitNo(0))?)
@@ -133,7 +134,7 @@ fn refusals_are_noted(rt: HostRuntime) -> Result<(), Fail> {
 
 #[test]
 fn drops_a_chain_that_is_longer_than_the_stack(rt: HostRuntime) -> Result<(), Fail> {
-    let w = workload(rt.alloc())?;
+    let w = workload(&rt, rt.alloc())?;
     assert_eq!(rt; w.units(), 1);
     let mut chain = None;
     for _ in 0..20_000 {
