@@ -23,9 +23,23 @@ use Rattle.abt_machine.specs.declared.workload.Parts.{Parts}
 use Rattle.abt_machine.specs.declared.workload.PoolPart.{PoolPart}
 use Rattle.abt_machine.specs.declared.workload.SchedPart.{SchedPart}
 use Rattle.abt_machine.specs.declared.workload.UnitPart.{UnitPart}
+use Rattle.abt_machine.specs.Forms.{Slot, Fixed, KindWord, CombineWord, AnyWord, Numeral, PoolList, op_slots}
 use Rattle.abt_machine.specs.Limits.{stream_limit, text_limit, unit_limit}
 use Rattle.abt_machine.specs.Words.{Text, text_of, numbered}
 use Rattle.abt_machine.specs.Workloads.{ops_of}
+
+-- Lines of a form.
+
+-- the words at these places: the fixed words, this word where there is a choice, and in order the digits of these numbers
+abbrev pub filled : List Slot → Text → List ℕ → List Text
+filled [] word numbers = []
+filled (Fixed t ∷ places) word numbers = t ∷ filled places word numbers
+filled (KindWord ∷ places) word numbers = word ∷ filled places word numbers
+filled (CombineWord ∷ places) word numbers = word ∷ filled places word numbers
+filled (AnyWord ∷ places) word numbers = word ∷ filled places word numbers
+filled (Numeral kind ∷ places) word [] = []
+filled (Numeral kind ∷ places) word (n ∷ numbers) = decimal n ∷ filled places word numbers
+filled (PoolList ∷ places) word numbers = map decimal numbers
 
 -- Pools.
 
@@ -81,52 +95,62 @@ object_line x thing = codes "object" ∷ decimal x ∷ thing_words thing
 abbrev pub word_at : Parts → ℕ → Text
 word_at W n = slice_index_or W.words n []
 
-abbrev pub digit_of : Bool → Text
-digit_of true = codes "1"
-digit_of false = codes "0"
+-- the number that says whether something holds
+abbrev pub bit : Bool → ℕ
+bit true = 1
+bit false = 0
 
--- the words of an operation's line
+-- the numbers of an operation's line, in order
+abbrev pub op_numbers : Op → List ℕ
+op_numbers (op.Set n) = n ∷ []
+op_numbers (op.Add n) = n ∷ []
+op_numbers (op.Say w) = []
+op_numbers op.Print = []
+op_numbers (op.KeySet k) = k ∷ []
+op_numbers (op.KeyGet k) = k ∷ []
+op_numbers op.Yield = []
+op_numbers (op.YieldTo v p) = v.0 ∷ p.0 ∷ []
+op_numbers op.Suspend = []
+op_numbers op.Exit = []
+op_numbers (op.Resume v) = v.0 ∷ []
+op_numbers (op.Create v p) = v.0 ∷ p.0 ∷ []
+op_numbers (op.Join v) = v.0 ∷ []
+op_numbers (op.Cancel v) = v.0 ∷ []
+op_numbers (op.Migrate v p) = v.0 ∷ p.0 ∷ []
+op_numbers (op.MigrateTo v s) = v.0 ∷ s.0 ∷ []
+op_numbers (op.Migratable v b) = v.0 ∷ bit b ∷ []
+op_numbers (op.Revive v p) = v.0 ∷ p.0 ∷ []
+op_numbers (op.Lock x) = x.0 ∷ []
+op_numbers (op.TryLock x) = x.0 ∷ []
+op_numbers (op.Unlock x) = x.0 ∷ []
+op_numbers (op.Load x) = x.0 ∷ []
+op_numbers (op.Store x) = x.0 ∷ []
+op_numbers (op.CondWait x) = x.0 ∷ []
+op_numbers (op.Signal x) = x.0 ∷ []
+op_numbers (op.Broadcast x) = x.0 ∷ []
+op_numbers (op.EvWait x) = x.0 ∷ []
+op_numbers (op.EvSet x) = x.0 ∷ []
+op_numbers (op.EvReset x) = x.0 ∷ []
+op_numbers (op.EvTest x) = x.0 ∷ []
+op_numbers (op.FuWait x) = x.0 ∷ []
+op_numbers (op.FuSet x) = x.0 ∷ []
+op_numbers (op.FuReset x) = x.0 ∷ []
+op_numbers (op.FuTest x) = x.0 ∷ []
+op_numbers (op.BarWait x) = x.0 ∷ []
+op_numbers (op.ReadLock x) = x.0 ∷ []
+op_numbers (op.WriteLock x) = x.0 ∷ []
+op_numbers (op.RwUnlock x) = x.0 ∷ []
+op_numbers (op.RwLoad x) = x.0 ∷ []
+op_numbers (op.RwStore x) = x.0 ∷ []
+
+-- the word that it says, if it says one
+abbrev pub op_word : Parts → Op → Text
+op_word W (op.Say w) = word_at W w
+op_word W o = []
+
+-- the words of an operation's line: those of its form, with its word and its numbers
 abbrev pub op_words : Parts → Op → List Text
-op_words W (op.Set n) = codes "set" ∷ decimal n ∷ []
-op_words W (op.Add n) = codes "add" ∷ decimal n ∷ []
-op_words W (op.Say w) = codes "say" ∷ word_at W w ∷ []
-op_words W op.Print = codes "print" ∷ []
-op_words W (op.KeySet k) = codes "kset" ∷ decimal k ∷ []
-op_words W (op.KeyGet k) = codes "kget" ∷ decimal k ∷ []
-op_words W op.Yield = codes "yield" ∷ []
-op_words W (op.YieldTo v p) = codes "yieldto" ∷ decimal v.0 ∷ decimal p.0 ∷ []
-op_words W op.Suspend = codes "suspend" ∷ []
-op_words W op.Exit = codes "exit" ∷ []
-op_words W (op.Resume v) = codes "resume" ∷ decimal v.0 ∷ []
-op_words W (op.Create v p) = codes "create" ∷ decimal v.0 ∷ decimal p.0 ∷ []
-op_words W (op.Join v) = codes "join" ∷ decimal v.0 ∷ []
-op_words W (op.Cancel v) = codes "cancel" ∷ decimal v.0 ∷ []
-op_words W (op.Migrate v p) = codes "migrate" ∷ decimal v.0 ∷ decimal p.0 ∷ []
-op_words W (op.MigrateTo v s) = codes "migrateto" ∷ decimal v.0 ∷ decimal s.0 ∷ []
-op_words W (op.Migratable v b) = codes "migratable" ∷ decimal v.0 ∷ digit_of b ∷ []
-op_words W (op.Revive v p) = codes "revive" ∷ decimal v.0 ∷ decimal p.0 ∷ []
-op_words W (op.Lock x) = codes "lock" ∷ decimal x.0 ∷ []
-op_words W (op.TryLock x) = codes "trylock" ∷ decimal x.0 ∷ []
-op_words W (op.Unlock x) = codes "unlock" ∷ decimal x.0 ∷ []
-op_words W (op.Load x) = codes "load" ∷ decimal x.0 ∷ []
-op_words W (op.Store x) = codes "store" ∷ decimal x.0 ∷ []
-op_words W (op.CondWait x) = codes "cwait" ∷ decimal x.0 ∷ []
-op_words W (op.Signal x) = codes "signal" ∷ decimal x.0 ∷ []
-op_words W (op.Broadcast x) = codes "broadcast" ∷ decimal x.0 ∷ []
-op_words W (op.EvWait x) = codes "ewait" ∷ decimal x.0 ∷ []
-op_words W (op.EvSet x) = codes "eset" ∷ decimal x.0 ∷ []
-op_words W (op.EvReset x) = codes "ereset" ∷ decimal x.0 ∷ []
-op_words W (op.EvTest x) = codes "etest" ∷ decimal x.0 ∷ []
-op_words W (op.FuWait x) = codes "fwait" ∷ decimal x.0 ∷ []
-op_words W (op.FuSet x) = codes "fset" ∷ decimal x.0 ∷ []
-op_words W (op.FuReset x) = codes "freset" ∷ decimal x.0 ∷ []
-op_words W (op.FuTest x) = codes "ftest" ∷ decimal x.0 ∷ []
-op_words W (op.BarWait x) = codes "bwait" ∷ decimal x.0 ∷ []
-op_words W (op.ReadLock x) = codes "rdlock" ∷ decimal x.0 ∷ []
-op_words W (op.WriteLock x) = codes "wrlock" ∷ decimal x.0 ∷ []
-op_words W (op.RwUnlock x) = codes "rwunlock" ∷ decimal x.0 ∷ []
-op_words W (op.RwLoad x) = codes "rwload" ∷ decimal x.0 ∷ []
-op_words W (op.RwStore x) = codes "rwstore" ∷ decimal x.0 ∷ []
+op_words W o = filled (op_slots o) (op_word W o) (op_numbers o)
 
 abbrev pub body_words : Body → List Text
 body_words (body.Ult ops) = codes "ult" ∷ []

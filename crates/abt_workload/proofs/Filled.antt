@@ -10,9 +10,10 @@ use Rattle.abt_machine.specs.declared.grammar.Format.TheVariants as format
 use Rattle.abt_machine.specs.declared.grammar.Number.{Number}
 use Rattle.abt_machine.specs.declared.grammar.Number.TheVariants as number
 use Rattle.abt_machine.specs.declared.grammar.Role.TheVariants as role
+use Rattle.abt_machine.specs.Canonical.{filled}
 use Rattle.abt_machine.specs.Declaring.{Above}
 use Rattle.abt_machine.specs.Faults.{is_skipped}
-use Rattle.abt_machine.specs.Forms.{Slot, Fixed, KindWord, CombineWord, AnyWord, Numeral, PoolList, accesses, fits, form_of, is_in, many_forms, numerals, operations, rules, slots, things, unit_forms}
+use Rattle.abt_machine.specs.Forms.{Slot, Fixed, Numeral, PoolList, accesses, fits, form_of, is_in, many_forms, numerals, operations, rules, slots, things, unit_forms}
 use Rattle.abt_machine.specs.Valid.{IsWord}
 use Rattle.abt_machine.specs.Words.{Text}
 use Rattle.abt_workload.specs.Declarable.{with_line}
@@ -23,22 +24,19 @@ use Rattle.abt_workload.proofs.Places.{and-left, and-right}
 use Rattle.abt_workload.proofs.Proper.{none-of}
 use Rattle.abt_workload.proofs.Taking.{Takes, decimal-word, is_plain, plain-word}
 
--- the words at a line's places, of these numbers, and of this word where there is a choice
-abbrev pub filled : List Slot → Text → List ℕ → List Text
-filled [] word ns = []
-filled (Fixed t ∷ places) word ns = t ∷ filled places word ns
-filled (KindWord ∷ places) word ns = word ∷ filled places word ns
-filled (CombineWord ∷ places) word ns = word ∷ filled places word ns
-filled (AnyWord ∷ places) word ns = word ∷ filled places word ns
-filled (Numeral n ∷ places) word [] = []
-filled (Numeral n ∷ places) word (m ∷ ms) = decimal m ∷ filled places word ms
-filled (PoolList ∷ places) word ns = map decimal ns
-
 -- the fixed words of these places are words
 abbrev pub plain_places : List Slot → Bool
 plain_places [] = true
 plain_places (Fixed t ∷ places) = is_plain t && plain_places places
 plain_places (slot ∷ places) = plain_places places
+
+-- there is a choice of words at one of these places
+abbrev pub has_choice : List Slot → Bool
+has_choice [] = false
+has_choice (Fixed t ∷ places) = has_choice places
+has_choice (Numeral n ∷ places) = has_choice places
+has_choice (PoolList ∷ places) = false
+has_choice (choice ∷ places) = true
 
 -- these numbers as pools
 abbrev pub as_pools : List ℕ → List (Number × ℕ)
@@ -72,7 +70,7 @@ module _ (a : Above) where
   pools-words (n ∷ ns) h = All-cons IsWord (decimal n) (map decimal ns) (decimal-word n h.0.small) (pools-words ns h.1)
 
   -- the words of a line are words
-  words-filled : (places : List Slot) (word : Text) (ns : List ℕ) → plain_places places ≡ true → IsWord word → AreFit a (given places ns)
+  words-filled : (places : List Slot) (word : Text) (ns : List ℕ) → plain_places places ≡ true → (has_choice places ≡ true → IsWord word) → AreFit a (given places ns)
       → All IsWord (filled places word ns)
   words-filled [] word ns e w h = none-of _
   words-filled (Fixed t ∷ places) word ns e w h =
@@ -81,7 +79,7 @@ module _ (a : Above) where
   words-filled (Numeral n ∷ places) word (m ∷ ms) e w h =
       All-cons IsWord (decimal m) (filled places word ms) (decimal-word m h.0.small) (words-filled places word ms e w h.1)
   words-filled (PoolList ∷ places) word ns e w h = pools-words ns h
-  words-filled (slot ∷ places) word ns e w h = All-cons IsWord word (filled places word ns) w (words-filled places word ns e w h)
+  words-filled (slot ∷ places) word ns e w h = All-cons IsWord word (filled places word ns) (w refl) (words-filled places word ns e (λ _. w refl) h)
 
 -- the forms of both formats, which come first in the table
 abbrev old_forms : List Form
@@ -119,7 +117,7 @@ pub record IsWritten (f : Form) (word : Text) (ns : List ℕ) (words : List Text
   pub form_is : form_of format.One words ≡ Some f
   pub skipped : is_skipped words ≡ false
   pub plain : plain_places (slots f) ≡ true
-  pub chosen : IsWord word
+  pub chosen : has_choice (slots f) ≡ true → IsWord word
 
 -- a line that is written is taken if it has no fault
 pub takes : (a b : Above) (f : Form) (word : Text) (ns : List ℕ) (words : List Text) → IsWritten f word ns words → AreFit a (given (slots f) ns)

@@ -34,13 +34,13 @@ versioned F = record nothing { begun = true; format = F; section = 1 }
 version-taken : (F : Format) → Takes nothing (version_line F) (versioned F)
 version-taken format.One =
     takes nothing (versioned format.One) (form.Version format.One) (codes "abt") [] (version_line format.One)
-    record { words_are = refl; form_is = refl; skipped = refl; plain = refl; chosen = plain-word (codes "abt") refl }
+    record { words_are = refl; form_is = refl; skipped = refl; plain = refl; chosen = λ _. plain-word (codes "abt") refl }
     tt
     record { version = refl; placed = refl; once = refl; beyond = refl; limit = refl; task = refl; access = refl; early = refl }
     refl
 version-taken format.Two =
     takes nothing (versioned format.Two) (form.Version format.Two) (codes "abt") [] (version_line format.Two)
-    record { words_are = refl; form_is = refl; skipped = refl; plain = refl; chosen = plain-word (codes "abt") refl }
+    record { words_are = refl; form_is = refl; skipped = refl; plain = refl; chosen = λ _. plain-word (codes "abt") refl }
     tt
     record { version = refl; placed = refl; once = refl; beyond = refl; limit = refl; task = refl; access = refl; early = refl }
     refl
@@ -53,7 +53,7 @@ below-small F n = record { streams = omega arith; keys = omega arith; pools = om
 count-taken : (F : Format) (n : ℕ) → 0 < n → n ≤ stream_limit F → Takes (versioned F) (codes "streams" ∷ decimal n ∷ []) (pooling F 2 n 0 [])
 count-taken F n some few =
     takes (versioned F) (pooling F 2 n 0 []) form.Streams (codes "streams") (n ∷ []) (codes "streams" ∷ decimal n ∷ [])
-    record { words_are = refl; form_is = refl; skipped = refl; plain = refl; chosen = plain-word (codes "streams") refl }
+    record { words_are = refl; form_is = refl; skipped = refl; plain = refl; chosen = λ _. plain-word (codes "streams") refl }
     (fit (versioned F) (below-small F n) number.StreamCount n (omega arith, few), tt)
     record { version = refl; placed = refl; once = refl; beyond = refl; limit = refl; task = refl; access = refl; early = refl }
     refl
@@ -76,7 +76,7 @@ keys-taken F n (suc k) few = (pooling F 3 n (suc k) [], line, refl)
     line : Takes (pooling F 2 n 0 []) (codes "keys" ∷ decimal (suc k) ∷ []) (pooling F 3 n (suc k) [])
     line =
         takes (pooling F 2 n 0 []) (pooling F 3 n (suc k) []) form.Keys (codes "keys") (suc k ∷ []) (codes "keys" ∷ decimal (suc k) ∷ [])
-        record { words_are = refl; form_is = refl; skipped = refl; plain = refl; chosen = plain-word (codes "keys") refl }
+        record { words_are = refl; form_is = refl; skipped = refl; plain = refl; chosen = λ _. plain-word (codes "keys") refl }
         (fit-within (pooling F 2 n 0 []) 0 16 (suc k) (omega arith) few (omega arith), tt)
         record { version = refl; placed = refl; once = refl; beyond = refl; limit = refl; task = refl; access = refl; early = refl }
         refl
@@ -200,7 +200,7 @@ module _ (F : Format) (W : Parts) (v : IsValid W) (few_streams : W.streams ≤ s
       let small : IsSmall below_objects = record { streams = v.few_streams; keys = v.few_keys; pools = v.few_pools; scheds = v.few_scheds; objects = v.few_objects; units = omega arith } in
       let some : 0 < length W.pools = v.some_pool in
       takes below_objects (head F W) form.Units (codes "units") (length W.units ∷ []) (units_words W)
-      record { words_are = refl; form_is = refl; skipped = refl; plain = refl; chosen = plain-word (codes "units") refl }
+      record { words_are = refl; form_is = refl; skipped = refl; plain = refl; chosen = λ _. plain-word (codes "units") refl }
       (fit below_objects small number.UnitCount (length W.units) few_units, tt)
       record {
         version = refl;

@@ -50,9 +50,9 @@ below F W section objects = placing F section W.streams W.keys W.pools W.scheds 
 
 -- an object's line is written of its form
 written : (x : ℕ) (t : Thing) → IsWritten (form.Object (form_thing t)) (thing_word t) (x ∷ thing_numbers t) (object_line x t)
-written x (thing.Future n combine.Max) = record { words_are = refl; form_is = refl; skipped = refl; plain = refl; chosen = plain-word (codes "max") refl }
-written x (thing.Future n combine.Count) = record { words_are = refl; form_is = refl; skipped = refl; plain = refl; chosen = plain-word (codes "count") refl }
-written x _ = record { words_are = refl; form_is = refl; skipped = refl; plain = refl; chosen = plain-word (codes "sum") refl }
+written x (thing.Future n combine.Max) = record { words_are = refl; form_is = refl; skipped = refl; plain = refl; chosen = λ _. plain-word (codes "max") refl }
+written x (thing.Future n combine.Count) = record { words_are = refl; form_is = refl; skipped = refl; plain = refl; chosen = λ _. plain-word (codes "count") refl }
+written x _ = record { words_are = refl; form_is = refl; skipped = refl; plain = refl; chosen = λ _. plain-word (codes "sum") refl }
 
 -- the numbers of a line are in order
 met : (F : Format) (W : Parts) (section : ℕ) (front rest : List Thing) (t : Thing) → front ++ rest ≡ W.objects → IsThing W (length front) t

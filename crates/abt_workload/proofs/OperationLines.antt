@@ -14,7 +14,7 @@ use Rattle.abt_machine.specs.declared.operations.Op.{Op}
 use Rattle.abt_machine.specs.declared.operations.Op.TheVariants as op
 use Rattle.abt_machine.specs.declared.workload.Parts.{Parts}
 use Rattle.abt_machine.specs.declared.workload.UnitPart.{UnitPart}
-use Rattle.abt_machine.specs.Canonical.{op_words, word_at}
+use Rattle.abt_machine.specs.Canonical.{op_numbers, op_word, op_words, word_at}
 use Rattle.abt_machine.specs.Declaring.{Above, body_and, op_with, said_in, unit_and}
 use Rattle.abt_machine.specs.Faults.{has_no_room, is_long_word, is_task_body}
 use Rattle.abt_machine.specs.Forms.{op_slots}
@@ -25,7 +25,7 @@ use Rattle.abt_machine.specs.Workloads.{all_ops, is_sched, ops_of}
 use Rattle.abt_workload.specs.Slots.{values}
 use Rattle.abt_workload.proofs.Filled.{given, takes}
 use Rattle.abt_workload.proofs.Fitting.{AreMet, all-fit}
-use Rattle.abt_workload.proofs.OperationForms.{IsFormed, formed, op-chosen, op-met, op_form, op_numbers, op_word}
+use Rattle.abt_workload.proofs.OperationForms.{IsFormed, formed, op-met, op_form}
 use Rattle.abt_workload.proofs.Places.{or-both}
 use Rattle.abt_workload.proofs.Proper.{none-of}
 use Rattle.abt_workload.proofs.Reaching.{reached, reached-small}
@@ -45,7 +45,7 @@ module _ (F : Format) (W : Parts) (v : IsValid W) (units : List UnitPart) where
   op-taken : (part : UnitPart) (before said : List ℕ) (o : Op) → is_sched part.body ≡ false → length (ops_of part.body) < 256 → length (all_ops units) + length (ops_of part.body) < 65536 → (is_task_body part.body && may_block o) ≡ false
       → IsDeclared W o → All (λ w. w ≡ length before + length said) (said_by o)
       → Takes (reached F W 9 units (Some part) before said) (op_words W o) (reached F W 9 units (Some (unit_and o part)) before (said ++ said_by o))
-  op-taken part before said o no_sched few room task h next = by (op_form W o) (formed W o (op-chosen W v o h)) (op-met F W units (Some part) before said o h)
+  op-taken part before said o no_sched few room task h next = by (op_form W o) (formed W v o h) (op-met F W units (Some part) before said o h)
     where
       by : (f : Op) → IsFormed W o f → AreMet (reached F W 9 units (Some part) before said) (given (op_slots f) (op_numbers o))
           → Takes (reached F W 9 units (Some part) before said) (op_words W o) (reached F W 9 units (Some (unit_and o part)) before (said ++ said_by o))

@@ -46,10 +46,10 @@ pooling F section streams keys pools = placing F section streams keys pools [] (
 
 -- a pool's line is written of its form
 written : (p : ℕ) (k : Kind) (x : Access) → IsWritten (form.Pool (form_access x)) (kind_name k) (p ∷ streams_in x) (pool_line p (record { kind = k; access = x }))
-written p kind.Fifo (access.Priv s) = record { words_are = refl; form_is = refl; skipped = refl; plain = refl; chosen = plain-word (codes "fifo") refl }
-written p kind.Fifo _ = record { words_are = refl; form_is = refl; skipped = refl; plain = refl; chosen = plain-word (codes "fifo") refl }
-written p kind.Deque (access.Priv s) = record { words_are = refl; form_is = refl; skipped = refl; plain = refl; chosen = plain-word (codes "deque") refl }
-written p kind.Deque _ = record { words_are = refl; form_is = refl; skipped = refl; plain = refl; chosen = plain-word (codes "deque") refl }
+written p kind.Fifo (access.Priv s) = record { words_are = refl; form_is = refl; skipped = refl; plain = refl; chosen = λ _. plain-word (codes "fifo") refl }
+written p kind.Fifo _ = record { words_are = refl; form_is = refl; skipped = refl; plain = refl; chosen = λ _. plain-word (codes "fifo") refl }
+written p kind.Deque (access.Priv s) = record { words_are = refl; form_is = refl; skipped = refl; plain = refl; chosen = λ _. plain-word (codes "deque") refl }
+written p kind.Deque _ = record { words_are = refl; form_is = refl; skipped = refl; plain = refl; chosen = λ _. plain-word (codes "deque") refl }
 
 -- the numbers of a line are in order
 met : (F : Format) (W : Parts) (section : ℕ) (front : List PoolPart) (x : Access) → IsAccess W x

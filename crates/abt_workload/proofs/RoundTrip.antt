@@ -87,7 +87,7 @@ module _ (b : Above) (streams count : ℕ) (begun : b.begun ≡ true) (has_strea
   end-taken : b.section ≤ 9 → Takes b end_words (closed b)
   end-taken place =
       takes b (closed b) form.End (codes "end") [] end_words
-      record { words_are = refl; form_is = refl; skipped = refl; plain = refl; chosen = plain-word (codes "end") refl }
+      record { words_are = refl; form_is = refl; skipped = refl; plain = refl; chosen = λ _. plain-word (codes "end") refl }
       tt
       record { version = rw begun refl; placed = placed-alone b form.End (omega arith) (omega arith) refl; once = refl; beyond = refl; limit = refl; task = refl; access = refl; early = end-there }
       refl

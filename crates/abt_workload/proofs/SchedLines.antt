@@ -15,7 +15,7 @@ use Rattle.abt_machine.specs.declared.operations.Rule.TheVariants as rule
 use Rattle.abt_machine.specs.declared.workload.Parts.{Parts}
 use Rattle.abt_machine.specs.declared.workload.PoolPart.{PoolPart}
 use Rattle.abt_machine.specs.declared.workload.SchedPart.{SchedPart}
-use Rattle.abt_machine.specs.Canonical.{sched_line}
+use Rattle.abt_machine.specs.Canonical.{filled, sched_line}
 use Rattle.abt_machine.specs.Checks.{IsSchedPart}
 use Rattle.abt_machine.specs.Declaring.{Above, at, listed, sched_with}
 use Rattle.abt_machine.specs.Faults.{has_repeated}
@@ -25,7 +25,7 @@ use Rattle.abt_machine.specs.Valid.{IsRule, IsValid}
 use Rattle.abt_machine.specs.Words.{Text, numbered}
 use Rattle.abt_machine.proofs.Checked.{from-sched, pairs-map}
 use Rattle.abt_workload.specs.Slots.{values}
-use Rattle.abt_workload.proofs.Filled.{IsWritten, as_pools, filled, given, takes}
+use Rattle.abt_workload.proofs.Filled.{IsWritten, as_pools, given, takes}
 use Rattle.abt_workload.proofs.Fitting.{AreFit, IsSmall, fit, fit-within}
 use Rattle.abt_workload.proofs.Heads.{placing}
 use Rattle.abt_workload.proofs.InOrder.{front-shorter, get-here, placed-among, reached, section-taken}
@@ -102,8 +102,8 @@ written g r [] some = absurd (omega arith)
 written g r (p ∷ ps) some = by r
   where
     by : (q : Rule) → IsWritten (form.Sched (form_rule q)) (codes "sched") (numbers_in g q (pools_in (p ∷ ps))) (sched_line g (record { rule = q; pools = p ∷ ps }))
-    by rule.Basic = record { words_are = words-are g rule.Basic (p ∷ ps) some; form_is = refl; skipped = refl; plain = refl; chosen = plain-word (codes "sched") refl }
-    by q = record { words_are = words-are g q (p ∷ ps) some; form_is = refl; skipped = refl; plain = refl; chosen = plain-word (codes "sched") refl }
+    by rule.Basic = record { words_are = words-are g rule.Basic (p ∷ ps) some; form_is = refl; skipped = refl; plain = refl; chosen = λ _. plain-word (codes "sched") refl }
+    by q = record { words_are = words-are g q (p ∷ ps) some; form_is = refl; skipped = refl; plain = refl; chosen = λ _. plain-word (codes "sched") refl }
 
 -- The numbers of a line.
 

@@ -102,7 +102,7 @@ stream-taken F W v section le front g rest e =
     subst (λ (gs : List SchedNo). AllPairs (λ x y. x ≢ y) (numbers_of_scheds gs ++ more)) (sym e) v.one_place in
     let small : IsSmall a = record { streams = v.few_streams; keys = v.few_keys; pools = v.few_pools; scheds = v.few_scheds; objects = omega arith; units = omega arith } in
     takes a (below F W 6 (front ++ g ∷ [])) form.Stream (codes "main") (s ∷ g.0 ∷ []) (stream_line s g)
-    record { words_are = refl; form_is = refl; skipped = refl; plain = refl; chosen = plain-word (codes "main") refl }
+    record { words_are = refl; form_is = refl; skipped = refl; plain = refl; chosen = λ _. plain-word (codes "main") refl }
     (all-fit a small (given (slots form.Stream) (s ∷ g.0 ∷ [])) (within, there))
     record {
       version = refl;

@@ -1,5 +1,5 @@
 -- The text of a valid workload is never too long for format 2.
-use Rattle.std.proofs.Common.{◌≡◌, ◌<◌, ◌≤◌, ◌+◌, ◌*◌, ◌^◌, ℕ, zero, suc, true, false, List, [], ◌∷◌, ◌++◌, All, Option, Some, None, arith, codes, decimal, flat_map, get_or, length, length-append, map, refl, slice_get, suc-mul}
+use Rattle.std.proofs.Common.{◌≡◌, ◌<◌, ◌≤◌, ◌+◌, ◌*◌, ◌^◌, ℕ, zero, suc, true, false, List, [], ◌∷◌, ◌++◌, All, Option, Some, None, ap, arith, codes, decimal, flat_map, get_or, length, length-append, map, refl, slice_get, suc-mul}
 use Rattle.std.specs.List.{enumerate_from}
 use Rattle.std.proofs.lemmas.List.Elements.{All-cons, All-head, All-tail}
 use Rattle.std.proofs.lemmas.Option.{slice_get-get_or, slice_get_within}
@@ -25,8 +25,10 @@ use Rattle.abt_machine.specs.declared.workload.Parts.{Parts}
 use Rattle.abt_machine.specs.declared.workload.PoolPart.{PoolPart}
 use Rattle.abt_machine.specs.declared.workload.SchedPart.{SchedPart}
 use Rattle.abt_machine.specs.declared.workload.UnitPart.{UnitPart}
-use Rattle.abt_machine.specs.Canonical.{access_words, body_words, combine_name, keys_lines, kind_name, object_line, op_words, pool_line, rule_words, sched_line, start_words, stream_line, text_in, thing_words, unit_lines, version_line}
+use Rattle.abt_machine.specs.Canonical.{access_words, body_words, combine_name, filled, keys_lines, kind_name, object_line, op_numbers, op_word, op_words, pool_line, rule_words, sched_line, start_words, stream_line, text_in, thing_words, unit_lines, version_line}
 use Rattle.abt_machine.specs.Checks.{IsSchedPart, IsStart, IsUnitPart}
+use Rattle.abt_machine.specs.Declaring.{Above}
+use Rattle.abt_machine.specs.Forms.{Slot, Fixed, Numeral, PoolList, op_slots}
 use Rattle.abt_machine.specs.Operations.{IsDeclared}
 use Rattle.abt_machine.specs.Valid.{IsAccess, IsBody, IsRule, IsThing, IsValid}
 use Rattle.abt_machine.specs.Weights.{size, weight}
@@ -34,7 +36,12 @@ use Rattle.abt_machine.specs.Words.{Text, numbered}
 use Rattle.abt_machine.specs.Workloads.{all_ops, ops_of}
 use Rattle.abt_machine.proofs.Checked.{map-all, valid-accesses, valid-listings, valid-places, valid-units}
 use Rattle.abt_machine.proofs.Decimals.{few-digits}
-use Rattle.abt_machine.proofs.Weighing.{has_words, size-append, size-line, size-nil, weight-append}
+use Rattle.abt_machine.proofs.Weighing.{has_words, size-append, size-line, size-nil, some-op, weight-append}
+use Rattle.abt_workload.proofs.Filled.{given, has_choice}
+use Rattle.abt_workload.proofs.Fitting.{AreFit, all-fit}
+use Rattle.abt_workload.proofs.Growing.{ends_list}
+use Rattle.abt_workload.proofs.OperationForms.{IsFormed, formed, op-met, op_form}
+use Rattle.abt_workload.proofs.Reaching.{reached, reached-small}
 
 -- Lines that are short.
 
@@ -65,16 +72,28 @@ map-light f most P light (x ∷ xs) all =
     let more = suc-mul (length xs) most in
     omega arith
 
--- Words with numbers.
+-- Lines that are filled.
 
-bare-light : (w : Text) → length w ≤ 12 → IsLight 119 (w ∷ [])
-bare-light w short = (refl, omega arith)
+-- as many bytes as the words at these places have at most, with one after each
+abbrev most_weight : List Slot → ℕ
+most_weight [] = 0
+most_weight (Fixed t ∷ places) = length t + 1 + most_weight places
+most_weight (Numeral n ∷ places) = 21 + most_weight places
+most_weight (slot ∷ places) = 65 + most_weight places
 
-one-light : (w : Text) (n : ℕ) → length w ≤ 12 → n < 2 ^ 64 → IsLight 119 (w ∷ decimal n ∷ [])
-one-light w n short lt = let d = few-digits n lt in (refl, omega arith)
+-- the words have no more where no pools are listed
+filled-light : (a : Above) (places : List Slot) (word : Text) (ns : List ℕ) → ends_list places ≡ false → (has_choice places ≡ true → length word ≤ 64) → AreFit a (given places ns) → weight (filled places word ns) ≤ most_weight places
+filled-light a [] word ns e w h = omega arith
+filled-light a (Fixed t ∷ places) word ns e w h = let rest = filled-light a places word ns e w h in omega arith
+filled-light a (Numeral n ∷ places) word [] e w h = omega arith
+filled-light a (Numeral n ∷ places) word (m ∷ ms) e w h = let d = few-digits m h.0.small in let rest = filled-light a places word ms e w h.1 in omega arith
+filled-light a (PoolList ∷ places) word ns e w h = cc
+filled-light a (choice ∷ places) word ns e w h = let here = w refl in let rest = filled-light a places word ns e (λ _. here) h in omega arith
 
-two-light : (w : Text) (n m : ℕ) → length w ≤ 12 → n < 2 ^ 64 → m < 2 ^ 64 → IsLight 119 (w ∷ decimal n ∷ decimal m ∷ [])
-two-light w n m short lt lu = let d = few-digits n lt in let e = few-digits m lu in (refl, omega arith)
+-- those of an operation's line
+op-places : (o : Op) → (ends_list (op_slots o) ≡ false) × (most_weight (op_slots o) ≤ 119)
+op-places (op.Set n) = (refl, omega arith)
+op-places _ = (refl, omega arith)
 
 -- Each kind of line.
 
@@ -158,47 +177,15 @@ module _ (W : Parts) (v : IsValid W) where
   object-light x t lt h = let d = few-digits x lt in let w = thing-light h.0 t h.1 h.2 in (refl, omega arith)
 
   op-light : (o : Op) → IsDeclared W o → IsLight 119 (op_words W o)
-  op-light (op.Set n) h = one-light (codes "set") n (omega arith) h
-  op-light (op.Add n) h = one-light (codes "add") n (omega arith) h
-  op-light (op.Say w) h = let few = (v.words w [] h).few_bytes in (refl, omega arith)
-  op-light op.Print h = bare-light (codes "print") (omega arith)
-  op-light (op.KeySet k) h = one-light (codes "kset") k (omega arith) (key-small k h)
-  op-light (op.KeyGet k) h = one-light (codes "kget") k (omega arith) (key-small k h)
-  op-light op.Yield h = bare-light (codes "yield") (omega arith)
-  op-light (op.YieldTo u p) h = two-light (codes "yieldto") u.0 p.0 (omega arith) (unit-small u.0 h.0) (pool-small p.0 h.1)
-  op-light op.Suspend h = bare-light (codes "suspend") (omega arith)
-  op-light op.Exit h = bare-light (codes "exit") (omega arith)
-  op-light (op.Resume u) h = one-light (codes "resume") u.0 (omega arith) (unit-small u.0 h)
-  op-light (op.Create u p) h = two-light (codes "create") u.0 p.0 (omega arith) (unit-small u.0 h.0) (pool-small p.0 h.1)
-  op-light (op.Join u) h = one-light (codes "join") u.0 (omega arith) (unit-small u.0 h)
-  op-light (op.Cancel u) h = one-light (codes "cancel") u.0 (omega arith) (unit-small u.0 h)
-  op-light (op.Migrate u p) h = two-light (codes "migrate") u.0 p.0 (omega arith) (unit-small u.0 h.0) (pool-small p.0 h.1)
-  op-light (op.MigrateTo u s) h = two-light (codes "migrateto") u.0 s.0 (omega arith) (unit-small u.0 h.0) (stream-small s.0 h.1)
-  op-light (op.Migratable u true) h = let d = few-digits u.0 (unit-small u.0 h) in (refl, omega arith)
-  op-light (op.Migratable u false) h = let d = few-digits u.0 (unit-small u.0 h) in (refl, omega arith)
-  op-light (op.Revive u p) h = two-light (codes "revive") u.0 p.0 (omega arith) (unit-small u.0 h.0) (pool-small p.0 h.1)
-  op-light (op.Lock x) h = one-light (codes "lock") x.0 (omega arith) (object-small x.0 _ h)
-  op-light (op.TryLock x) h = one-light (codes "trylock") x.0 (omega arith) (object-small x.0 _ h)
-  op-light (op.Unlock x) h = one-light (codes "unlock") x.0 (omega arith) (object-small x.0 _ h)
-  op-light (op.Load x) h = one-light (codes "load") x.0 (omega arith) (object-small x.0 _ h)
-  op-light (op.Store x) h = one-light (codes "store") x.0 (omega arith) (object-small x.0 _ h)
-  op-light (op.CondWait x) h = one-light (codes "cwait") x.0 (omega arith) (object-small x.0 _ h.1)
-  op-light (op.Signal x) h = one-light (codes "signal") x.0 (omega arith) (object-small x.0 _ h.1)
-  op-light (op.Broadcast x) h = one-light (codes "broadcast") x.0 (omega arith) (object-small x.0 _ h.1)
-  op-light (op.EvWait x) h = one-light (codes "ewait") x.0 (omega arith) (object-small x.0 _ h)
-  op-light (op.EvSet x) h = one-light (codes "eset") x.0 (omega arith) (object-small x.0 _ h)
-  op-light (op.EvReset x) h = one-light (codes "ereset") x.0 (omega arith) (object-small x.0 _ h)
-  op-light (op.EvTest x) h = one-light (codes "etest") x.0 (omega arith) (object-small x.0 _ h)
-  op-light (op.FuWait x) h = one-light (codes "fwait") x.0 (omega arith) (object-small x.0 _ h.2)
-  op-light (op.FuSet x) h = one-light (codes "fset") x.0 (omega arith) (object-small x.0 _ h.2)
-  op-light (op.FuReset x) h = one-light (codes "freset") x.0 (omega arith) (object-small x.0 _ h.2)
-  op-light (op.FuTest x) h = one-light (codes "ftest") x.0 (omega arith) (object-small x.0 _ h.2)
-  op-light (op.BarWait x) h = one-light (codes "bwait") x.0 (omega arith) (object-small x.0 _ h.1)
-  op-light (op.ReadLock x) h = one-light (codes "rdlock") x.0 (omega arith) (object-small x.0 _ h)
-  op-light (op.WriteLock x) h = one-light (codes "wrlock") x.0 (omega arith) (object-small x.0 _ h)
-  op-light (op.RwUnlock x) h = one-light (codes "rwunlock") x.0 (omega arith) (object-small x.0 _ h)
-  op-light (op.RwLoad x) h = one-light (codes "rwload") x.0 (omega arith) (object-small x.0 _ h)
-  op-light (op.RwStore x) h = one-light (codes "rwstore") x.0 (omega arith) (object-small x.0 _ h)
+  op-light o h =
+      let a : Above = reached format.One W 9 [] None [] [] in
+      let d : IsFormed W o (op_form W o) = formed W v o h in
+      let places : List Slot = op_slots (op_form W o) in
+      let few = op-places (op_form W o) in
+      let fit = all-fit a (reached-small format.One W v 9 [] None [] []) (given places (op_numbers o)) (op-met format.One W [] None [] [] o h) in
+      let light : weight (filled places (op_word W o) (op_numbers o)) ≤ most_weight places = filled-light a places (op_word W o) (op_numbers o) few.0 (λ e. (d.written.chosen e).few_bytes) fit in
+      let same : weight (op_words W o) ≡ weight (filled places (op_word W o) (op_numbers o)) = ap weight d.written.words_are in
+      (some-op W o, omega (arith, few.1))
 
   body-light : (b : Body) → IsBody W b → weight (body_words b) ≤ 30
   body-light (body.Ult ops) h = omega arith

@@ -60,10 +60,10 @@ unit_given u b start = given (slots (unit_form b start)) (unit_numbers u b start
 -- each unit's line is written of its form
 pub unit-written : (u : ℕ) (b : Body) (start : Option PoolNo)
     → IsWritten (unit_form b start) (codes "unit") (unit_numbers u b start) (header u (record { body = b; start = start }))
-unit-written u (body.Ult ops) None = record { words_are = refl; form_is = refl; skipped = refl; plain = refl; chosen = plain-word (codes "unit") refl }
-unit-written u (body.Ult ops) (Some p) = record { words_are = refl; form_is = refl; skipped = refl; plain = refl; chosen = plain-word (codes "unit") refl }
-unit-written u _ None = record { words_are = refl; form_is = refl; skipped = refl; plain = refl; chosen = plain-word (codes "unit") refl }
-unit-written u _ (Some p) = record { words_are = refl; form_is = refl; skipped = refl; plain = refl; chosen = plain-word (codes "unit") refl }
+unit-written u (body.Ult ops) None = record { words_are = refl; form_is = refl; skipped = refl; plain = refl; chosen = λ _. plain-word (codes "unit") refl }
+unit-written u (body.Ult ops) (Some p) = record { words_are = refl; form_is = refl; skipped = refl; plain = refl; chosen = λ _. plain-word (codes "unit") refl }
+unit-written u _ None = record { words_are = refl; form_is = refl; skipped = refl; plain = refl; chosen = λ _. plain-word (codes "unit") refl }
+unit-written u _ (Some p) = record { words_are = refl; form_is = refl; skipped = refl; plain = refl; chosen = λ _. plain-word (codes "unit") refl }
 
 -- and declares the unit without its operations
 pub unit-made : (u : ℕ) (b : Body) (start : Option PoolNo)

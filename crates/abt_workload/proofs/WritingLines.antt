@@ -1,11 +1,30 @@
 -- Lines, appended one behind the other.
-use Rattle.std.proofs.Common.{◌≡◌, ◌<◌, ◌+◌, ◌∙◌, ℕ, List, [], ◌∷◌, ◌++◌, Some, ap, append_assoc, arith, flat_map, get_or, length, refl, slice_get, take, zero-add}
+use Rattle.std.proofs.Common.{◌≡◌, ◌<◌, ◌+◌, ◌∙◌, ℕ, List, [], ◌∷◌, ◌++◌, Some, ap, append_assoc, arith, flat_map, get_or, length, refl, slice_get, take, true, zero-add}
 use Rattle.std.specs.List.{enumerate_from}
 use Rattle.std.proofs.lemmas.Grind.{flat_map-append}
 use Rattle.std.proofs.lemmas.List.{append-nil, length-take-le, map_push, take_more}
 use Rattle.std.proofs.lemmas.Option.{get_or_from_slice_get, slice_get_within}
+use Rattle.abt_machine.specs.declared.grammar.Form.{Form}
+use Rattle.abt_machine.specs.declared.grammar.Form.TheVariants as form
+use Rattle.abt_machine.specs.declared.grammar.Format.TheVariants as format
+use Rattle.abt_machine.specs.declared.operations.Op.{Op}
+use Rattle.abt_machine.specs.declared.operations.Op.TheVariants as op
+use Rattle.abt_machine.specs.Forms.{op_slots}
 use Rattle.abt_machine.specs.Words.{Text, ended, line_of, numbered, spaced, text_of}
 use Rattle.abt_machine.proofs.Weighing.{enumerate-behind}
+use Rattle.abt_workload.specs.Slots.{is_headed, own_slots}
+
+-- a line begins with a word of its form
+op-headed : (o : Op) → is_headed (op_slots o) ≡ true
+op-headed (op.Set n) = refl
+op-headed _ = refl
+
+pub headed : (f : Form) → is_headed (own_slots f) ≡ true
+headed (form.Version format.One) = refl
+headed (form.Version format.Two) = refl
+headed (form.Operation o) = op-headed o
+headed (form.Repeat o) = op-headed o
+headed _ = refl
 
 -- the elements up to i, with their numbers, are those before and element i
 numbered-more : {A : Type 0} (xs : List A) (i : ℕ) (x : A) → slice_get xs i ≡ Some x → enumerate_from 0 (take (i + 1) xs) ≡ enumerate_from 0 (take i xs) ++ (i, x) ∷ []

@@ -1,5 +1,5 @@
 -- What the reader's table and its numbers are in the grammar.
-use Rattle.std.specs.Prelude.{ℕ, ◌≡◌, ◌⊎◌, if◌then◌else◌, List, [], ◌∷◌, codes, map, Option, Some, None}
+use Rattle.std.specs.Prelude.{ℕ, ◌≡◌, ◌⊎◌, if◌then◌else◌, Bool, true, false, List, [], ◌∷◌, codes, map, Option, Some, None}
 use Rattle.std.specs.List.{filter}
 use Rattle.abt_machine.specs.declared.grammar.Form.{Form}
 use Rattle.abt_machine.specs.declared.grammar.Form.TheVariants as form
@@ -27,6 +27,11 @@ repeat_slots places = grammar.Fixed (codes "repeat") ∷ grammar.within 1 unit_o
 abbrev pub own_slots : Form → List grammar.Slot
 own_slots (form.Repeat o) = grammar.op_slots o
 own_slots f = grammar.slots f
+
+-- a line begins with a word of its form
+abbrev pub is_headed : List grammar.Slot → Bool
+is_headed (grammar.Fixed text ∷ places) = true
+is_headed places = false
 
 -- the forms of the lines that begin with this word, or all forms
 abbrev pub AreFormsOf : Text → List Form → Type 0

@@ -1,8 +1,8 @@
 //! The writer.
 
-ghost use Rattle.std.specs.Prelude.{◌≡◌, ◌<◌, ◌++◌, ◌∷◌, [], All, IfOk, OnOk, codes, decimal, flat_map, length, map, slice_set};
+ghost use Rattle.std.specs.Prelude.{◌≡◌, ◌<◌, ◌++◌, ◌∷◌, [], All, IfOk, OnOk, codes, decimal, flat_map, length, map, slice_set, true};
 ghost use Rattle.std.specs.List.{enumerate_from};
-ghost use Rattle.abt_machine.specs.Canonical.{access_words, body_words, canonical_text, combine_name, digit_of, has_text, keys_lines, kind_name, object_line, op_words, pool_line, rule_words, sched_line, start_words, stream_line, text_in, thing_words, unit_lines, version_line};
+ghost use Rattle.abt_machine.specs.Canonical.{access_words, body_words, canonical_text, combine_name, filled, has_text, keys_lines, kind_name, object_line, op_words, pool_line, rule_words, sched_line, start_words, stream_line, text_in, thing_words, unit_lines, version_line};
 ghost use Rattle.abt_machine.specs.Grammar.{Reads};
 ghost use Rattle.abt_machine.specs.Operations.{IsDeclared};
 ghost use Rattle.abt_machine.specs.Valid.{IsValid};
@@ -10,11 +10,13 @@ ghost use Rattle.abt_machine.specs.Words.{ended, line_of, numbered, spaced, text
 ghost use Rattle.abt_machine.specs.Workloads.{ops_of};
 ghost use Rattle.abt_machine.specs.declared.grammar.Format.TheVariants as format;
 ghost use Rattle.abt_machine.specs.declared.numbers.PoolNo.{PoolNo};
+ghost use Rattle.abt_workload.specs.Slots.{is_headed, own_slots, slot_of};
 
+use crate::forms::{Slot, slots};
 use abt_lines::{end_line, push_decimal, push_word};
 use abt_machine::{
-    Access, Body, Combine, Format, Kind, ObjectNo, Op, PoolNo, PoolPart, Rule, SchedNo, SchedPart,
-    StreamNo, Thing, UnitNo, UnitPart, Want, Workload,
+    Access, Body, Combine, Form, Format, Kind, ObjectNo, Op, PoolNo, PoolPart, Rule, SchedNo,
+    SchedPart, StreamNo, Thing, UnitNo, UnitPart, Want, Workload,
 };
 use std::alloc::Global;
 
@@ -50,12 +52,67 @@ fn push_one(out: &mut Vec<u8>, word: &[u8], n: u64) -> Result<(), Want>
     end_line(out)
 }
 
-// Appends the line of a word and two numbers.
-fn push_two(out: &mut Vec<u8>, word: &[u8], n: u64, m: u64) -> Result<(), Want>
-    ensures { OnOk result (out.new.items ≡ out.old.items ++ ended (line_of (word.now ∷ decimal n ∷ decimal m ∷ []))) }
+// Appends numbers, with a space before each.
+fn push_numbers(out: &mut Vec<u8>, numbers: &[u64]) -> Result<(), Want>
+    ensures { OnOk result (out.new.items ≡ out.old.items ++ spaced (map decimal numbers.now)) }
 {
-    begin_line(out, word, n)?;
-    push_decimal(out, m)?;
+    for n in numbers {
+        push_decimal(out, *n)?;
+    }
+    Ok(())
+}
+
+// Appends the words at these places, with a space before each: the fixed words, this word where there is a
+// choice, and in order these numbers.
+fn push_places(out: &mut Vec<u8>, slots: &[Slot], word: &[u8], numbers: &[u64]) -> Result<(), Want>
+    ensures { OnOk result (out.new.items ≡ out.old.items ++ spaced (filled (map slot_of slots.now) word.now numbers.now)) }
+{
+    match slots.split_first() {
+        None => Ok(()),
+        Some((slot, slots)) => match *slot {
+            Slot::Fixed(text) => {
+                push_word(out, text.as_bytes())?;
+                push_places(out, slots, word, numbers)
+            }
+            Slot::KindWord | Slot::CombineWord | Slot::AnyWord => {
+                push_word(out, word)?;
+                push_places(out, slots, word, numbers)
+            }
+            Slot::Numeral(_) => match numbers.split_first() {
+                None => Ok(()),
+                Some((n, numbers)) => {
+                    push_decimal(out, *n)?;
+                    push_places(out, slots, word, numbers)
+                }
+            },
+            Slot::PoolList => push_numbers(out, numbers),
+        },
+    }
+}
+
+// Appends the words at these places, of which the first is a fixed word, with a space between each two.
+fn push_words(out: &mut Vec<u8>, slots: &[Slot], word: &[u8], numbers: &[u64]) -> Result<(), Want>
+    requires { is_headed (map slot_of slots.now) ≡ true }
+    ensures { OnOk result (out.new.items ≡ out.old.items ++ line_of (filled (map slot_of slots.now) word.now numbers.now)) }
+{
+    match slots.split_first() {
+        None => unreachable!(),
+        Some((slot, slots)) => match *slot {
+            Slot::Fixed(text) => {
+                out.extend_from_slice(text.as_bytes())?;
+                push_places(out, slots, word, numbers)
+            }
+            Slot::KindWord | Slot::CombineWord | Slot::AnyWord => unreachable!(),
+            Slot::Numeral(_) | Slot::PoolList => unreachable!(),
+        },
+    }
+}
+
+// Appends a line of this form, with this word where there is a choice, and these numbers.
+fn push_line(out: &mut Vec<u8>, form: Form, word: &[u8], numbers: &[u64]) -> Result<(), Want>
+    ensures { OnOk result (out.new.items ≡ out.old.items ++ ended (line_of (filled (own_slots form) word.now numbers.now))) }
+{
+    push_words(out, slots(form), word, numbers)?;
     end_line(out)
 }
 
@@ -260,79 +317,54 @@ fn push_objects(out: &mut Vec<u8>, w: &Workload) -> Result<(), Want>
 
 // Units.
 
-// The word of a flag.
-fn digit(flag: bool) -> &'static [u8]
-    ensures { result.now ≡ digit_of flag }
-{
-    if flag { b"1" } else { b"0" }
-}
-
 // Appends the line of an operation.
 fn push_op(out: &mut Vec<u8>, w: &Workload, op: Op) -> Result<(), Want>
     requires { IsDeclared w.now op }
     ensures { OnOk result (out.new.items ≡ out.old.items ++ ended (line_of (op_words w.now op))) }
 {
+    let line = Form::Operation(op);
     match op {
-        Op::Set(n) => push_one(out, b"set", n),
-        Op::Add(n) => push_one(out, b"add", n),
-        Op::Say(word) => push_say(out, w, word),
-        Op::Print => push_bare(out, b"print"),
-        Op::KeySet(k) => push_one(out, b"kset", u64::from(k)),
-        Op::KeyGet(k) => push_one(out, b"kget", u64::from(k)),
-        Op::Yield => push_bare(out, b"yield"),
-        Op::YieldTo(v, p) => push_two(out, b"yieldto", u64::from(v.0), u64::from(p.0)),
-        Op::Suspend => push_bare(out, b"suspend"),
-        Op::Exit => push_bare(out, b"exit"),
-        Op::Resume(v) => push_one(out, b"resume", u64::from(v.0)),
-        Op::Create(v, p) => push_two(out, b"create", u64::from(v.0), u64::from(p.0)),
-        Op::Join(v) => push_one(out, b"join", u64::from(v.0)),
-        Op::Cancel(v) => push_one(out, b"cancel", u64::from(v.0)),
-        Op::Migrate(v, p) => push_two(out, b"migrate", u64::from(v.0), u64::from(p.0)),
-        Op::MigrateTo(v, s) => push_two(out, b"migrateto", u64::from(v.0), u64::from(s.0)),
-        Op::Migratable(v, flag) => push_migratable(out, v, flag),
-        Op::Revive(v, p) => push_two(out, b"revive", u64::from(v.0), u64::from(p.0)),
-        Op::Lock(x) => push_one(out, b"lock", u64::from(x.0)),
-        Op::TryLock(x) => push_one(out, b"trylock", u64::from(x.0)),
-        Op::Unlock(x) => push_one(out, b"unlock", u64::from(x.0)),
-        Op::Load(x) => push_one(out, b"load", u64::from(x.0)),
-        Op::Store(x) => push_one(out, b"store", u64::from(x.0)),
-        Op::CondWait(x) => push_one(out, b"cwait", u64::from(x.0)),
-        Op::Signal(x) => push_one(out, b"signal", u64::from(x.0)),
-        Op::Broadcast(x) => push_one(out, b"broadcast", u64::from(x.0)),
-        Op::EvWait(x) => push_one(out, b"ewait", u64::from(x.0)),
-        Op::EvSet(x) => push_one(out, b"eset", u64::from(x.0)),
-        Op::EvReset(x) => push_one(out, b"ereset", u64::from(x.0)),
-        Op::EvTest(x) => push_one(out, b"etest", u64::from(x.0)),
-        Op::FuWait(x) => push_one(out, b"fwait", u64::from(x.0)),
-        Op::FuSet(x) => push_one(out, b"fset", u64::from(x.0)),
-        Op::FuReset(x) => push_one(out, b"freset", u64::from(x.0)),
-        Op::FuTest(x) => push_one(out, b"ftest", u64::from(x.0)),
-        Op::BarWait(x) => push_one(out, b"bwait", u64::from(x.0)),
-        Op::ReadLock(x) => push_one(out, b"rdlock", u64::from(x.0)),
-        Op::WriteLock(x) => push_one(out, b"wrlock", u64::from(x.0)),
-        Op::RwUnlock(x) => push_one(out, b"rwunlock", u64::from(x.0)),
-        Op::RwLoad(x) => push_one(out, b"rwload", u64::from(x.0)),
-        Op::RwStore(x) => push_one(out, b"rwstore", u64::from(x.0)),
+        Op::Set(n) => push_line(out, line, b"", &[n]),
+        Op::Add(n) => push_line(out, line, b"", &[n]),
+        Op::Say(text) => push_line(out, line, w.word(text).as_bytes(), &[]),
+        Op::Print => push_line(out, line, b"", &[]),
+        Op::KeySet(k) => push_line(out, line, b"", &[u64::from(k)]),
+        Op::KeyGet(k) => push_line(out, line, b"", &[u64::from(k)]),
+        Op::Yield => push_line(out, line, b"", &[]),
+        Op::YieldTo(v, p) => push_line(out, line, b"", &[u64::from(v.0), u64::from(p.0)]),
+        Op::Suspend => push_line(out, line, b"", &[]),
+        Op::Exit => push_line(out, line, b"", &[]),
+        Op::Resume(v) => push_line(out, line, b"", &[u64::from(v.0)]),
+        Op::Create(v, p) => push_line(out, line, b"", &[u64::from(v.0), u64::from(p.0)]),
+        Op::Join(v) => push_line(out, line, b"", &[u64::from(v.0)]),
+        Op::Cancel(v) => push_line(out, line, b"", &[u64::from(v.0)]),
+        Op::Migrate(v, p) => push_line(out, line, b"", &[u64::from(v.0), u64::from(p.0)]),
+        Op::MigrateTo(v, s) => push_line(out, line, b"", &[u64::from(v.0), u64::from(s.0)]),
+        Op::Migratable(v, flag) => push_line(out, line, b"", &[u64::from(v.0), u64::from(flag)]),
+        Op::Revive(v, p) => push_line(out, line, b"", &[u64::from(v.0), u64::from(p.0)]),
+        Op::Lock(x) => push_line(out, line, b"", &[u64::from(x.0)]),
+        Op::TryLock(x) => push_line(out, line, b"", &[u64::from(x.0)]),
+        Op::Unlock(x) => push_line(out, line, b"", &[u64::from(x.0)]),
+        Op::Load(x) => push_line(out, line, b"", &[u64::from(x.0)]),
+        Op::Store(x) => push_line(out, line, b"", &[u64::from(x.0)]),
+        Op::CondWait(x) => push_line(out, line, b"", &[u64::from(x.0)]),
+        Op::Signal(x) => push_line(out, line, b"", &[u64::from(x.0)]),
+        Op::Broadcast(x) => push_line(out, line, b"", &[u64::from(x.0)]),
+        Op::EvWait(x) => push_line(out, line, b"", &[u64::from(x.0)]),
+        Op::EvSet(x) => push_line(out, line, b"", &[u64::from(x.0)]),
+        Op::EvReset(x) => push_line(out, line, b"", &[u64::from(x.0)]),
+        Op::EvTest(x) => push_line(out, line, b"", &[u64::from(x.0)]),
+        Op::FuWait(x) => push_line(out, line, b"", &[u64::from(x.0)]),
+        Op::FuSet(x) => push_line(out, line, b"", &[u64::from(x.0)]),
+        Op::FuReset(x) => push_line(out, line, b"", &[u64::from(x.0)]),
+        Op::FuTest(x) => push_line(out, line, b"", &[u64::from(x.0)]),
+        Op::BarWait(x) => push_line(out, line, b"", &[u64::from(x.0)]),
+        Op::ReadLock(x) => push_line(out, line, b"", &[u64::from(x.0)]),
+        Op::WriteLock(x) => push_line(out, line, b"", &[u64::from(x.0)]),
+        Op::RwUnlock(x) => push_line(out, line, b"", &[u64::from(x.0)]),
+        Op::RwLoad(x) => push_line(out, line, b"", &[u64::from(x.0)]),
+        Op::RwStore(x) => push_line(out, line, b"", &[u64::from(x.0)]),
     }
-}
-
-// Appends the line that says a word.
-fn push_say(out: &mut Vec<u8>, w: &Workload, word: u32) -> Result<(), Want>
-    requires { word < length w.now.words }
-    ensures { OnOk result (out.new.items ≡ out.old.items ++ ended (line_of (op_words w.now (Op.Say word)))) }
-{
-    out.extend_from_slice(b"say")?;
-    push_word(out, w.word(word).as_bytes())?;
-    end_line(out)
-}
-
-// Appends the line that says whether a unit may migrate.
-fn push_migratable(out: &mut Vec<u8>, v: UnitNo, flag: bool) -> Result<(), Want>
-    ensures { OnOk result (out.new.items ≡ out.old.items ++ ended (line_of (codes "migratable" ∷ decimal v.0 ∷ digit_of flag ∷ []))) }
-{
-    begin_line(out, b"migratable", u64::from(v.0))?;
-    push_word(out, digit(flag))?;
-    end_line(out)
 }
 
 // Appends the lines of operations.
