@@ -1,5 +1,5 @@
 -- From what each shape of step makes of a stream to its operation.
-use Rattle.std.proofs.Common.{◌≡◌, ℕ, suc, [], ◌∷◌, Option, None, Some, option_map, inl, inr, refl, sym, ap, ◌∙◌, subst, IsSome}
+use Rattle.std.proofs.Common.{◌≡◌, ℕ, suc, [], ◌∷◌, Option, None, Some, option_map, inl, inr, refl, sym, ap, subst, IsSome}
 use Rattle.abt_machine.specs.declared.events.Code.TheVariants as code
 use Rattle.abt_machine.specs.declared.events.Site.{Site}
 use Rattle.abt_machine.specs.declared.operations.Op.{Op}
