@@ -7,13 +7,13 @@ ghost use Rattle.std.specs.Fmt.{decimal};
 ghost use Rattle.std.specs.Ordering.{nat_cmp};
 ghost use Rattle.std.specs.List.Sorted.{IsPermutation, IsSorted};
 
+use std::alloc::AllocError;
 use std::fmt::{self, Display, Formatter, Write};
-use std::io;
 use std::time::Duration;
 
 /// Sorts the times, and returns the least and the middle one; of an even number the middle one is the first of the greater
-/// half, and of no times both are 0. Err is for memory alone.
-pub fn least_and_middle(times: &mut Vec<u128>) -> io::Result<(u128, u128)>
+/// half, and of no times both are 0.
+pub fn least_and_middle(times: &mut Vec<u128>) -> Result<(u128, u128), AllocError>
     ensures permutation { IsPermutation times.old.items times.new.items }
     ensures sorted { OnOk result (IsSorted nat_cmp times.new.items) }
     ensures least { IfOk result (λ both. both.0 ≡ slice_index times.new.items 0) }
