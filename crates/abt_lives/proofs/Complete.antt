@@ -12,7 +12,9 @@ use Rattle.abt_machine.specs.Words.{Text}
 use Rattle.abt_bounds.specs.Laws.{HasNoRevive, ops_in}
 use Rattle.abt_bounds.proofs.Budgets.{steps-bound-budgets}
 use Rattle.abt_outcomes.proofs.Stored.{orders-stored}
-use Rattle.abt_run.specs.Call.{Grew, IsOfRun}
+use Rattle.abt_run.specs.Call.{IsOfRun}
+use Rattle.abt_run.proofs.Complete.{of-told, reads-whole}
+use Rattle.abt_shell.specs.Told.{Grew}
 use Rattle.abt_streams.specs.declared.life.Life.{Life}
 use Rattle.abt_workload.proofs.RoundTrip.{only-valid}
 use Rattle.abt_lives.specs.Call.{Call, Holds, IsAnswered, NamesFiles, Ran, Tells, TellsBoth}
@@ -21,13 +23,9 @@ use Rattle.abt_lives.specs.Status.{number_of}
 use Rattle.abt_lives.specs.Words.{AsksNothing}
 use Rattle.abt_lives.specs.declared.status.Status.{Status}
 use Rattle.abt_lives.specs.declared.status.Status.TheVariants.{Finished, Stuck, BadWords, Refused, BadLife, Budget, CannotRead, CannotWrite, OutOfMemory}
-use Rattle.abt_lives.proofs.Naming.{of-first, of-second, of-seen, one-workload, same-names}
+use Rattle.abt_lives.proofs.Naming.{of-first, of-second, one-workload, same-names}
 
--- a workload's text is not refused
-not-refused : (bytes : Text) (W : Parts) (line : ℕ) (f : Fault) → Reads bytes W → Refuses bytes line f → ⊥
-not-refused bytes W line f reads refuses = let none = reads.faultless line in let some = refuses.first in cc
-
--- nor is a text of lives
+-- a text of lives is not refused
 not-bad : (W : Parts) (text : Text) (lives : List Life) (line : ℕ) → ReadsLives W text lives → RefusesLives W text line → ⊥
 not-bad W text lives line reads refuses = elim refuses [
   | inl long ↦ (let few = reads.few in absurd (omega (arith, long.0, few)))
@@ -36,7 +34,7 @@ not-bad W text lives line reads refuses = elim refuses [
 
 -- what is known of the first file that the words name
 first-is : (c : Call) (named : NamesFiles c.words) (bytes : Text) (other : NamesFiles c.words) (P : Text → Type 0) → c.file named.workload ≡ Some bytes → IfSome (c.file other.workload) P → P bytes
-first-is c named bytes other P seen known = of-seen P (c.file other.workload) bytes (ap c.file (same-names c.words other named).0 ∙ seen) known
+first-is c named bytes other P seen known = of-told P (c.file other.workload) bytes (ap c.file (same-names c.words other named).0 ∙ seen) known
 
 -- Both texts are right.
 
@@ -50,7 +48,7 @@ runs BadWords c W text lives h tells reads still quiet = absurd (h.0 tells.first
 runs CannotRead c W text lives h tells reads still quiet = absurd (still h.1)
 runs CannotWrite c W text lives h tells reads still quiet = absurd (quiet h.faults)
 runs (Refused line f) c W text lives h tells reads still quiet =
-    absurd (not-refused tells.first.bytes W line f tells.first.reads (of-first c W h.0.named (λ bytes. Refuses bytes line f) tells.first h.0.refuses))
+    absurd (reads-whole tells.first.bytes W line f tells.first.reads (of-first c W h.0.named (λ bytes. Refuses bytes line f) tells.first h.0.refuses))
 runs (BadLife line) c W text lives h tells reads still quiet =
     let same : h.0.workload ≡ W = one-workload c W h.0.named h.0.workload tells.first h.0.reads in
     let refuses : RefusesLives h.0.workload text line = of-second c W h.0.named (λ bytes. RefusesLives h.0.workload bytes line) text tells h.0.refuses in

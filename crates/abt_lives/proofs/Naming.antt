@@ -1,15 +1,11 @@
 -- The files that words name, and their bytes if these are seen.
-use Rattle.std.proofs.Common.{◌≡◌, ◌∙◌, List, [], ◌∷◌, Option, Some, None, sym, ap, subst}
+use Rattle.std.proofs.Common.{◌≡◌, ◌∙◌, List, [], ◌∷◌, sym, ap}
 use Rattle.std.specs.Prelude.{IfSome}
 use Rattle.abt_machine.specs.declared.workload.Parts.{Parts}
 use Rattle.abt_machine.specs.Grammar.{Reads}
 use Rattle.abt_machine.specs.Words.{Text}
+use Rattle.abt_run.proofs.Complete.{of-told}
 use Rattle.abt_lives.specs.Call.{Call, NamesFiles, Tells, TellsBoth}
-
--- what is known of the bytes of a file holds of those that are seen
-pub of-seen : (P : Text → Type 0) (o : Option Text) (bytes : Text) → o ≡ Some bytes → IfSome o P → P bytes
-of-seen P None bytes e known = cc
-of-seen P (Some b) bytes e known = let same : b ≡ bytes = cc in subst P same known
 
 pair-is : (a b c d : Text) → a ∷ b ∷ [] ≡ c ∷ d ∷ [] → (a ≡ c) × (b ≡ d)
 pair-is a b c d e = (cc, cc)
@@ -21,7 +17,7 @@ same-names words a b = pair-is a.workload a.lives b.workload b.lives (sym a.asks
 module _ (c : Call) (W : Parts) (named : NamesFiles c.words) where
   -- what is known of the first file
   pub of-first : (P : Text → Type 0) (tells : Tells c W) → IfSome (c.file named.workload) P → P tells.bytes
-  of-first P tells known = of-seen P (c.file named.workload) tells.bytes (ap c.file (same-names c.words named tells.named).0 ∙ tells.seen) known
+  of-first P tells known = of-told P (c.file named.workload) tells.bytes (ap c.file (same-names c.words named tells.named).0 ∙ tells.seen) known
 
   -- is of its workload
   pub one-workload : (V : Parts) → Tells c W → IfSome (c.file named.workload) (λ bytes. Reads bytes V) → V ≡ W
@@ -29,4 +25,4 @@ module _ (c : Call) (W : Parts) (named : NamesFiles c.words) where
 
   -- and of the second
   pub of-second : (P : Text → Type 0) (text : Text) (both : TellsBoth c W text) → IfSome (c.file named.lives) P → P text
-  of-second P text both known = of-seen P (c.file named.lives) text (ap c.file (same-names c.words named both.first.named).1 ∙ both.second) known
+  of-second P text both known = of-told P (c.file named.lives) text (ap c.file (same-names c.words named both.first.named).1 ∙ both.second) known

@@ -1,8 +1,6 @@
 -- From what is known of files to what is known of a call.
-use Rattle.std.proofs.Common.{◌≡◌, ◌<◌, ◌≤◌, ◌^◌, ◌-◌, ◌∙◌, ℕ, List, length, map, Option, Result, Ok, Err, inl, inr, subst, sym, arith}
+use Rattle.std.proofs.Common.{◌≡◌, ◌≤◌, ◌⊎◌, ℕ, List, [], Option, Result, Ok, Err, inl, inr, subst, sym}
 use Rattle.std.specs.Prelude.{IfErr, IfOk, IfSome}
-use Rattle.std.proofs.lemmas.Bool.{cases_lt}
-use Rattle.std.proofs.lemmas.List.{length-map}
 use Rattle.abt_machine.specs.declared.events.Event.{Event}
 use Rattle.abt_machine.specs.declared.events.Outcome.{Outcome}
 use Rattle.abt_machine.specs.declared.events.Outcome.TheVariants as outcome
@@ -10,10 +8,12 @@ use Rattle.abt_machine.specs.declared.operations.OrderShape.{OrderShape}
 use Rattle.abt_machine.specs.declared.workload.Parts.{Parts}
 use Rattle.abt_machine.specs.Grammar.{Reads}
 use Rattle.abt_machine.specs.Words.{Text}
-use Rattle.abt_run.specs.Call.{Grew}
-use Rattle.abt_lives.specs.Call.{Call, Holds, Wrote}
+use Rattle.abt_run.proofs.Preparing.{rose-later}
+use Rattle.abt_shell.specs.Told.{Gained, GainedPrefix, IsTold, WroteAll, WrotePart}
+use Rattle.abt_lives.specs.Call.{Call, Holds, StoppedBy, Wrote}
 use Rattle.abt_lives.specs.Lives.{ReadsLives, RefusesLives}
 use Rattle.abt_lives.specs.Prepared.{IsAsked, IsPrepared, IsPreparedFor, LivesStop, Stops, StopsAt, WorkloadStops, status_of}
+use Rattle.abt_lives.specs.Status.{message_of}
 use Rattle.abt_lives.specs.Words.{Asks}
 use Rattle.abt_lives.specs.declared.status.Status.{Status}
 use Rattle.abt_lives.specs.declared.status.Status.TheVariants.{Finished, Stuck, BadWords, Refused, BadLife, Budget, CannotRead, CannotWrite, OutOfMemory}
@@ -27,13 +27,6 @@ if-ok (Err e) P Q more known = known
 pub if-err : {A E : Type 0} (r : Result A E) (P Q : E → Type 0) → ((e : E) → P e → Q e) → IfErr r P → IfErr r Q
 if-err (Ok a) P Q more known = known
 if-err (Err e) P Q more known = more e known
-
--- a count that rose later rose
-later-grew : (old mid new : ℕ) → old ≤ mid → mid ≤ new → Grew (mid, new) → Grew (old, new)
-later-grew old mid new before after grew small = elim (cases_lt mid (2 ^ 64 - 1)) [
-  | inl less ↦ (let more = grew less in omega (arith, before, more))
-  | inr most ↦ omega (arith, before, after, small, most)
-]
 
 -- the workload's file has stopped the call
 pub stops-first : (s : Status) (workload lives : Text) (file_of : Text → Option Text) (faults : ℕ × ℕ) → WorkloadStops s workload file_of faults → StopsAt s workload lives file_of faults
@@ -56,7 +49,7 @@ module _ (W : Parts) (workload lives : Text) (mid old : Text → Option Text) (s
   stops-second (Refused line f) a b c before after h = absurd h
   stops-second (BadLife line) a b c before after h = record { parts = W; reads = reads; refuses = subst (λ (o : Option Text). IfSome o (λ bytes. RefusesLives W bytes line)) same h }
   stops-second Budget a b c before after h = h
-  stops-second CannotRead a b c before after h = later-grew a b c before after h
+  stops-second CannotRead a b c before after h = rose-later a b c before after h
   stops-second CannotWrite a b c before after h = h
   stops-second OutOfMemory a b c before after h = h
 
@@ -96,18 +89,46 @@ module _ (words : List Text) (workload lives : Text) (asks : Asks words workload
     output = h.prepared.output;
   }
 
--- a run that was written whole has its status
-pub written : (o : Outcome) (c : Call) → Wrote c o → Holds (status_of o) c
-written outcome.Finished c wrote = wrote
-written outcome.Stuck c wrote = wrote
-written (outcome.Budget s) c wrote = (s, wrote)
-
 -- what is prepared is what was run and printed
 pub prepared-as : (W : Parts) (file : Text) (Z : List OrderShape) (file_of : Text → Option Text) (J K : List Event) (o p : Outcome) (text printed : Text) → K ≡ J → p ≡ o → printed ≡ text →
     IsPreparedFor W file Z file_of J o text → IsPreparedFor W file Z file_of K p printed
 prepared-as W file Z file_of J K o p text printed j e t h =
     subst (λ x. IsPreparedFor W file Z file_of x p printed) (sym j) (subst (λ x. IsPreparedFor W file Z file_of J x printed) (sym e) (subst (λ x. IsPreparedFor W file Z file_of J o x) (sym t) h))
 
--- as many shapes as orders
-pub as-many : {A B : Type 0} (f : A → B) (xs : List A) (n : ℕ) → n ≤ length xs → n ≤ length (map f xs)
-as-many f xs n h = let e : length (map f xs) ≡ length xs = simp length-map in omega arith
+-- Of what was prepared, and what was written.
+
+module _ (c : Call) where
+  -- what was prepared was written, or a prefix of it
+  pub concluded : (o : Outcome) (text : Text) (s : Status) → IsAsked c.words c.orders c.file c.journal o text
+      → ((s ≡ status_of o) × WroteAll c.out c.err text) ⊎ ((s ≡ CannotWrite) × WrotePart c.out c.out_faults c.err c.err_faults text (message_of s)) → Holds s c
+  concluded o text s asked wrote = elim wrote [
+    | inl all ↦ subst (λ (t : Status). Holds t c) (sym all.0) (whole o (record { ran = asked.ran; out = subst (Gained c.out) asked.output all.1.whole; err = all.1.silent }))
+    | inr part ↦ subst (λ (t : Status). Holds t c) (sym part.0) (record {
+      outcome = o;
+      ran = asked.ran;
+      out = subst (GainedPrefix c.out) asked.output part.1.prefix;
+      faults = part.1.faults;
+      err = subst (λ (t : Status). IsTold c.err c.err_faults (message_of t)) part.0 part.1.told;
+    })
+  ] where
+    whole : (p : Outcome) → Wrote c p → Holds (status_of p) c
+    whole outcome.Finished wrote = wrote
+    whole outcome.Stuck wrote = wrote
+    whole (outcome.Budget s) wrote = (s, wrote)
+
+  -- or the message of what stopped the call
+  pub stopped : (stop s : Status) → Stops stop c.words c.file c.read_faults → Gained c.out [] → IsTold c.err c.err_faults (message_of s) → c.journal ≡ [] → (s ≡ stop) ⊎ (s ≡ OutOfMemory) → Holds s c
+  stopped stop s cause out told none ended = elim ended [
+    | inl same ↦ by s (subst (λ (t : Status). Stops t c.words c.file c.read_faults) (sym same) cause) (record { out = out; err = told; journal = none })
+    | inr memory ↦ by s (subst (λ (t : Status). Stops t c.words c.file c.read_faults) (sym memory) tt) (record { out = out; err = told; journal = none })
+  ] where
+    by : (t : Status) → Stops t c.words c.file c.read_faults → StoppedBy t c → Holds t c
+    by Finished h left = absurd h
+    by Stuck h left = absurd h
+    by BadWords h left = (h, left)
+    by (Refused line f) h left = (h, left)
+    by (BadLife line) h left = (h, left)
+    by Budget h left = absurd h
+    by CannotRead h left = (h.0, h.1, left)
+    by CannotWrite h left = absurd h
+    by OutOfMemory h left = left

@@ -13,7 +13,8 @@ use Rattle.abt_machine.specs.Runs.{last_state}
 use Rattle.abt_machine.specs.Texts.{report_text}
 use Rattle.abt_machine.specs.Words.{Text}
 use Rattle.abt_bounds.specs.Laws.{HasNoRevive, ops_in}
-use Rattle.abt_run.specs.Call.{Gained, GainedPrefix, Grew, IsOfRun, IsTold}
+use Rattle.abt_run.specs.Call.{IsOfRun}
+use Rattle.abt_shell.specs.Told.{Gained, GainedPrefix, Grew, IsTold}
 use Rattle.abt_streams.specs.declared.life.Life.{Life}
 use Rattle.abt_streams.specs.declared.wave.Wave.{Wave}
 use Rattle.abt_streams.specs.Waves.{HasRunOn}

@@ -7,7 +7,7 @@ use Rattle.abt_machine.specs.declared.operations.OrderShape.{OrderShape}
 use Rattle.abt_machine.specs.declared.workload.Parts.{Parts}
 use Rattle.abt_machine.specs.Grammar.{Reads, Refuses}
 use Rattle.abt_machine.specs.Words.{Text}
-use Rattle.abt_run.specs.Call.{Grew}
+use Rattle.abt_shell.specs.Told.{Grew}
 use Rattle.abt_lives.specs.Call.{IsRunOn, NamesBadLives, NamesFiles, NamesRefused, Ran, output_text, printed_text}
 use Rattle.abt_lives.specs.Lives.{RefusesLives}
 use Rattle.abt_lives.specs.Words.{AsksNothing}

@@ -1,5 +1,5 @@
 -- What each status is to the user: its number and its message.
-use Rattle.std.specs.Prelude.{ℕ, ◌++◌, [], codes, decimal, ⊤}
+use Rattle.std.specs.Prelude.{ℕ, ◌++◌, [], codes, decimal}
 use Rattle.abt_machine.specs.Words.{Text}
 use Rattle.abt_run.specs.Status.{fault_word}
 use Rattle.abt_lives.specs.declared.status.Status.{Status}
@@ -32,15 +32,3 @@ message_of Budget = []
 message_of CannotRead = codes "abtwaves: cannot read\n"
 message_of CannotWrite = codes "abtwaves: cannot write\n"
 message_of OutOfMemory = codes "abtwaves: out of memory\n"
-
--- the message names no line
-abbrev pub IsFixed : Status → Type 0
-IsFixed (Refused line f) = ⊥
-IsFixed (BadLife line) = ⊥
-IsFixed Finished = ⊤
-IsFixed Stuck = ⊤
-IsFixed BadWords = ⊤
-IsFixed Budget = ⊤
-IsFixed CannotRead = ⊤
-IsFixed CannotWrite = ⊤
-IsFixed OutOfMemory = ⊤

@@ -1,27 +1,26 @@
 //! The top call.
 
-ghost use Rattle.std.specs.Prelude.{◌≡◌, ◌≤◌, ◌⊎◌, ℕ, List, All, IfErr, IfOk, IfSome, length, map, string_bytes};
+ghost use Rattle.std.specs.Prelude.{◌≡◌, ◌≤◌, ℕ, List, All, IfErr, IfOk, IfSome, length, map, string_bytes};
 ghost use Rattle.abt_machine.specs.Grammar.{Reads};
 ghost use Rattle.abt_machine.specs.Runs.{last_state};
 ghost use Rattle.abt_machine.specs.Texts.{shown_units};
 ghost use Rattle.abt_order.specs.Stored.{shapes_of};
 ghost use Rattle.abt_report.specs.Pictures.{SaysWordsOf, units_of};
-ghost use Rattle.abt_run.specs.Call.{IsTold};
-ghost use Rattle.abt_lives.specs.Call.{Holds, IsAnswered, output_text};
+ghost use Rattle.abt_lives.specs.Call.{IsAnswered, output_text};
 ghost use Rattle.abt_lives.specs.Lives.{ReadsLives};
 ghost use Rattle.abt_lives.specs.Prepared.{IsAsked, IsPrepared, IsPreparedFor, LivesStop, Stops, StopsAt, WorkloadStops, status_of};
-ghost use Rattle.abt_lives.specs.Status.{line_message, message_of};
 ghost use Rattle.abt_streams.specs.Lives.{AreLives};
 ghost use Rattle.abt_lives.specs.declared.status.Status.TheVariants as status;
 
-use crate::status::{Status, line_message};
+use crate::status::Status;
 use crate::waves::push_waves;
 use crate::words::asked;
 use abt_machine::{Ended, Journal, Outcome, Want, Workload};
 use abt_order::StoredOrder;
 use abt_report::append_report;
-use abt_run::{Stop, count_steps, fault_word, fetch, tell};
-use abt_source::{Failed, Files, NotFetched, Sink, read_all, write_whole};
+use abt_run::{Stop, count_steps, fetch};
+use abt_shell::{Ending, stop_by, write_out};
+use abt_source::{Files, NotFetched, Sink, read_all};
 use abt_stream::Pace;
 use abt_streams::{Lives, LivesRun, NotLives, read_lives, run_lives};
 use std::alloc::Global;
@@ -187,47 +186,6 @@ fn prepare<R: Threads + Wait + Sync, F: Files, P: Pace + Sync>(
     prepare_files(rt, alloc, workload, lives, files, pace, orders)
 }
 
-// Writes a message about a line, if there is memory for it; how the call ended.
-fn tell_line<E: Sink>(alloc: Global, err: &mut E, stop: Status, line: u32, wrong: &[u8]) -> Status
-    requires { message_of stop ≡ line_message line wrong.now }
-    ensures told { IsTold (E.taken err.old, E.taken err.new) (E.faults err.old, E.faults err.new) (message_of result) }
-    ensures same { (result ≡ stop) ⊎ (result ≡ status.OutOfMemory) }
-    ensures later { E.faults err.old ≤ E.faults err.new }
-{
-    match line_message(alloc, line, wrong) {
-        Ok(text) => {
-            tell(err, &text);
-            stop
-        }
-        Err(Want) => {
-            tell(err, Status::OutOfMemory.message());
-            Status::OutOfMemory
-        }
-    }
-}
-
-// Writes the message of a call that stopped, if there is memory for it; how the call ended.
-fn stop_by<E: Sink>(alloc: Global, err: &mut E, stop: Status) -> Status
-    ensures told { IsTold (E.taken err.old, E.taken err.new) (E.faults err.old, E.faults err.new) (message_of result) }
-    ensures same { (result ≡ stop) ⊎ (result ≡ status.OutOfMemory) }
-    ensures later { E.faults err.old ≤ E.faults err.new }
-{
-    match stop {
-        Status::Refused { line, fault } => tell_line(alloc, err, stop, line, fault_word(fault)),
-        Status::BadLife { line } => tell_line(alloc, err, stop, line, b"life"),
-        Status::Finished
-        | Status::Stuck
-        | Status::BadWords
-        | Status::Budget
-        | Status::CannotRead
-        | Status::CannotWrite
-        | Status::OutOfMemory => {
-            tell(err, stop.message());
-            stop
-        }
-    }
-}
-
 // The status of a run that is written whole.
 fn status_by(outcome: Outcome) -> Status
     ensures { result ≡ status_of outcome }
@@ -269,37 +227,6 @@ pub fn abtwaves<R: Threads + Wait + Sync, F: Files, K: Sink, E: Sink, P: Pace + 
       journal = result.journal;
     }) }
 {
-    let (status, journal) = call(rt, alloc, words, files, out, err, pace, orders);
-    Ended {
-        status: status.number(),
-        journal,
-    }
-}
-
-// A call of the program: its status and its journal.
-fn call<R: Threads + Wait + Sync, F: Files, K: Sink, E: Sink, P: Pace + Sync>(
-    rt: &R,
-    alloc: Global,
-    words: &[String],
-    files: &mut F,
-    out: &mut K,
-    err: &mut E,
-    pace: &P,
-    orders: &[StoredOrder],
-) -> (Status, Journal)
-    requires orders { 2 ≤ length orders.now }
-    ensures { Holds result.0 (record {
-      words = map string_bytes words.now;
-      orders = shapes_of orders.now;
-      file = λ name. F.file files.old name;
-      read_faults = (F.faults files.old, F.faults files.new);
-      out = (K.taken out.old, K.taken out.new);
-      out_faults = (K.faults out.old, K.faults out.new);
-      err = (E.taken err.old, E.taken err.new);
-      err_faults = (E.faults err.old, E.faults err.new);
-      journal = result.1;
-    }) }
-{
     match prepare(rt, alloc, words, files, pace, orders) {
         Ok(
             Prepared {
@@ -307,13 +234,19 @@ fn call<R: Threads + Wait + Sync, F: Files, K: Sink, E: Sink, P: Pace + Sync>(
                 text,
                 outcome,
             },
-        ) => match write_whole(out, &text) {
-            Ok(()) => (status_by(outcome), journal),
-            Err(Failed) => {
-                tell(err, Status::CannotWrite.message());
-                (Status::CannotWrite, journal)
+        ) => {
+            let status = write_out(out, err, &text, status_by(outcome));
+            Ended {
+                status: status.number(),
+                journal,
             }
-        },
-        Err(stop) => (stop_by(alloc, err, stop), Journal::new(Vec::new(alloc))),
+        }
+        Err(stop) => {
+            let status = stop_by(alloc, err, stop);
+            Ended {
+                status: status.number(),
+                journal: Journal::new(Vec::new(alloc)),
+            }
+        }
     }
 }

@@ -1,11 +1,18 @@
 //! How a call of the program ends.
 
-ghost use Rattle.std.specs.Prelude.{◌≡◌, IfOk};
-ghost use Rattle.abt_lives.specs.Status.{IsFixed, line_message, message_of, number_of};
+ghost use Rattle.std.specs.Prelude.{◌≡◌};
+ghost use Rattle.abt_lives.specs.Status.{number_of};
 
-use abt_lines::push_number;
-use abt_machine::{Fault, Want};
-use std::alloc::Global;
+use abt_machine::Fault;
+use abt_run::fault_word;
+use abt_shell::{Ending, Said};
+
+// What is said of a line begins so.
+const LINE: &[u8] = b"abtwaves: line ";
+
+const NO_MEMORY: &[u8] = b"abtwaves: out of memory\n";
+
+const UNWRITTEN: &[u8] = b"abtwaves: cannot write\n";
 
 /// How a call of the program ends.
 #[derive(Clone, Copy, Debug, PartialEq, Eq)]
@@ -23,9 +30,17 @@ pub enum Status {
     OutOfMemory,
 }
 
-impl Status {
-    /// The exit status.
-    pub fn number(self) -> u8
+impl Ending for Status {
+    ghost use Rattle.abt_lives.specs.Status.{message_of};
+    ghost use Rattle.abt_lives.specs.declared.status.Status.TheVariants.{CannotWrite, OutOfMemory};
+
+    ghost message = { message_of };
+
+    ghost memory = { OutOfMemory };
+
+    ghost unwritten = { CannotWrite };
+
+    fn number(self) -> u8
         ensures { result ≡ number_of self }
     {
         match self {
@@ -40,30 +55,35 @@ impl Status {
         }
     }
 
-    /// What is written to the error sink, if it names no line.
-    pub fn message(self) -> &'static [u8]
-        requires { IsFixed self }
-        ensures { result.now ≡ message_of self }
-    {
+    fn said(self) -> Said {
         match self {
-            Status::Refused { line: _, fault: _ } | Status::BadLife { line: _ } => unreachable!(),
-            Status::Finished | Status::Stuck | Status::Budget => b"",
-            Status::BadWords => b"abtwaves: bad command line\n",
-            Status::CannotRead => b"abtwaves: cannot read\n",
-            Status::CannotWrite => b"abtwaves: cannot write\n",
-            Status::OutOfMemory => b"abtwaves: out of memory\n",
+            Status::Refused { line, fault } => Said::Line {
+                head: LINE,
+                line,
+                wrong: fault_word(fault),
+            },
+            Status::BadLife { line } => Said::Line {
+                head: LINE,
+                line,
+                wrong: b"life",
+            },
+            Status::Finished | Status::Stuck | Status::Budget => Said::Fixed(b""),
+            Status::BadWords => Said::Fixed(b"abtwaves: bad command line\n"),
+            Status::CannotRead => Said::Fixed(b"abtwaves: cannot read\n"),
+            Status::CannotWrite => Said::Fixed(UNWRITTEN),
+            Status::OutOfMemory => Said::Fixed(NO_MEMORY),
         }
     }
-}
 
-/// What is written to the error sink of a line, and what it has wrong.
-pub(crate) fn line_message(alloc: Global, line: u32, wrong: &[u8]) -> Result<Vec<u8>, Want>
-    ensures { IfOk result (λ text. text.items ≡ line_message line wrong.now) }
-{
-    let mut text = Vec::from_slice(alloc, b"abtwaves: line ")?;
-    push_number(&mut text, u64::from(line))?;
-    text.extend_from_slice(b": ")?;
-    text.extend_from_slice(wrong)?;
-    text.extend_from_slice(b"\n")?;
-    Ok(text)
+    fn bad_words() -> Self {
+        Status::BadWords
+    }
+
+    fn out_of_memory() -> (Self, &'static [u8]) {
+        (Status::OutOfMemory, NO_MEMORY)
+    }
+
+    fn cannot_write() -> (Self, &'static [u8]) {
+        (Status::CannotWrite, UNWRITTEN)
+    }
 }

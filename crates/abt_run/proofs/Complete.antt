@@ -27,7 +27,8 @@ use Rattle.abt_words.specs.declared.commands.Command.TheVariants as command
 use Rattle.abt_words.specs.Commands.{Says}
 use Rattle.abt_words.proofs.OneCommand.{one_command}
 use Rattle.abt_workload.proofs.RoundTrip.{only-valid}
-use Rattle.abt_run.specs.Call.{Call, ChecksJournals, Decides, FindsFlows, Grew, Holds, IsAnswered, IsOfRun, IsStill, RunsKnown}
+use Rattle.abt_shell.specs.Told.{Grew}
+use Rattle.abt_run.specs.Call.{Call, ChecksJournals, Decides, FindsFlows, Holds, IsAnswered, IsOfRun, IsStill, RunsKnown}
 use Rattle.abt_run.specs.Given.{Compares, Given, IsNoJournalAt, IsReadFrom, IsTextOf, NamesFile, SaysNothing, Tells, workload_file}
 use Rattle.abt_run.specs.Printed.{AsksFlow, HasVerdict, IsFor, Prints, Ran, steps_for}
 use Rattle.abt_run.specs.Status.{number_of, number_of_conclusion}
@@ -42,9 +43,13 @@ use Rattle.abt_run.proofs.Texts.{one-journal}
 -- Files.
 
 -- what holds of the bytes of a file, if they are observable, holds of these bytes
-of-told : (P : Text → Type 0) (o : Option Text) (bytes : Text) → o ≡ Some bytes → IfSome o P → P bytes
+pub of-told : (P : Text → Type 0) (o : Option Text) (bytes : Text) → o ≡ Some bytes → IfSome o P → P bytes
 of-told P None bytes e known = cc
 of-told P (Some b) bytes e known = let same : b ≡ bytes = cc in subst P same known
+
+-- a workload's text is not refused
+pub reads-whole : (bytes : Text) (W : Parts) (line : ℕ) (f : Fault) → Reads bytes W → Refuses bytes line f → ⊥
+reads-whole bytes W line f reads refuses = let none = reads.faultless line in let some = refuses.first in cc
 
 module _ (g : Given) (file : Text) where
   -- a text is that of one workload
@@ -55,11 +60,7 @@ module _ (g : Given) (file : Text) where
 
   -- and is not refused
   not-refused : (W : Parts) (line : ℕ) (f : Fault) → Tells g file (λ bytes. Reads bytes W) → IfSome (g.file file) (λ bytes. Refuses bytes line f) → ⊥
-  not-refused W line f tells is =
-      let refuses : Refuses tells.0 line f = of-told (λ text. Refuses text line f) (g.file file) tells.0 tells.1 is in
-      let none = tells.2.faultless line in
-      let some = refuses.first in
-      cc
+  not-refused W line f tells is = reads-whole tells.0 W line f tells.2 (of-told (λ text. Refuses text line f) (g.file file) tells.0 tells.1 is)
 
   not-read : (V : Parts) → Tells g file (λ bytes. (W : Parts) → Reads bytes W → ⊥) → IsReadFrom g file V → ⊥
   not-read V tells is = tells.2 V (of-told (λ text. Reads text V) (g.file file) tells.0 tells.1 is)

@@ -1,5 +1,5 @@
 -- From what is known of one file to what is known of a call.
-use Rattle.std.proofs.Common.{◌≡◌, ◌<◌, ◌≤◌, ◌-◌, ◌^◌, ℕ, List, length, map, Option, Some, Result, Ok, Err, refl, subst, sym, arith, inl, inr}
+use Rattle.std.proofs.Common.{◌≡◌, ◌<◌, ◌≤◌, ◌-◌, ◌^◌, ◌⊎◌, ℕ, List, [], length, map, Option, Some, Result, Ok, Err, refl, subst, sym, arith, inl, inr}
 use Rattle.std.proofs.lemmas.Bool.{cases_lt}
 use Rattle.std.proofs.lemmas.List.{length-map}
 use Rattle.std.specs.Prelude.{IfErr, IfSome, IsErrAnd}
@@ -13,10 +13,15 @@ use Rattle.abt_source.specs.Source.{Rose}
 use Rattle.abt_words.specs.declared.commands.Command.{Command}
 use Rattle.abt_words.specs.declared.commands.Command.TheVariants as command
 use Rattle.abt_words.specs.Commands.{Says}
+use Rattle.abt_shell.specs.Told.{Gained, IsTold, WroteAll, WrotePart}
+use Rattle.abt_run.specs.Call.{Call, Holds}
 use Rattle.abt_run.specs.Given.{Given, IsReadFrom, workload_file}
 use Rattle.abt_run.specs.Prepared.{HasNoJournal, HasNoWorkload, Stops}
 use Rattle.abt_run.specs.Printed.{Prints, Ran, conclusion_of}
+use Rattle.abt_run.specs.Status.{message_of}
 use Rattle.abt_run.specs.declared.status.Conclusion.{Conclusion}
+use Rattle.abt_run.specs.declared.status.Status.{Status}
+use Rattle.abt_run.specs.declared.status.Status.TheVariants.{Concluded, Stopped, CannotWrite}
 use Rattle.abt_run.specs.declared.status.Stop.{Stop}
 use Rattle.abt_run.specs.declared.status.Stop.TheVariants.{BadWords, Refused, NoJournal, CannotRead, OutOfMemory}
 
@@ -34,7 +39,7 @@ stops-file CannotRead g d file faults says names h = (record { command = d; file
 stops-file OutOfMemory g d file faults says names h = h
 
 -- a count that rose after it had grown rose since then
-rose-later : (a b c : ℕ) → a ≤ b → b ≤ c → Rose b c → Rose a c
+pub rose-later : (a b c : ℕ) → a ≤ b → b ≤ c → Rose b c → Rose a c
 rose-later a b c first second rose low = elim (cases_lt b (2 ^ 64 - 1)) [ inl below ↦ let more : b < c = rose below in omega arith | inr last ↦ omega arith ]
 
 -- and so is why the other file has no journal
@@ -68,3 +73,36 @@ prints-as o g c J K text printed concludes same equal ran =
     subst (λ (k : Conclusion). Prints g k K printed) (sym concludes)
     (subst (λ (L : List Event). Prints g (conclusion_of o) L printed) (sym same)
     (subst (λ (t : Text). Prints g (conclusion_of o) J t) (sym equal) (prints-ran o g J text ran)))
+
+-- Of what was prepared, and what was written.
+
+module _ (c : Call) where
+  -- what was prepared was written, or a prefix of it
+  pub concluded : (k : Conclusion) (text : Text) (s : Status) → Prints c.given k c.journal text
+      → ((s ≡ Concluded k) × WroteAll c.out c.err text) ⊎ ((s ≡ CannotWrite) × WrotePart c.out c.out_faults c.err c.err_faults text (message_of s)) → Holds s c
+  concluded k text s prints wrote = elim wrote [
+    | inl all ↦ subst (λ (t : Status). Holds t c) (sym all.0) (record { text = text; prints = prints; out = all.1.whole; err = all.1.silent })
+    | inr part ↦ subst (λ (t : Status). Holds t c) (sym part.0) (record {
+      conclusion = k;
+      text = text;
+      prints = prints;
+      out = part.1.prefix;
+      faults = part.1.faults;
+      err = subst (λ (t : Status). IsTold c.err c.err_faults (message_of t)) part.0 part.1.told;
+    })
+  ]
+
+  -- or the message of what stopped the call
+  pub stopped : (stop : Stop) (s : Status) → Stops c.given c.read_faults stop → Gained c.out [] → IsTold c.err c.err_faults (message_of s) → c.journal ≡ []
+      → (s ≡ Stopped stop) ⊎ (s ≡ Stopped OutOfMemory) → Holds s c
+  stopped stop s cause out told none ended = elim ended [
+    | inl same ↦ by stop same cause
+    | inr memory ↦ by OutOfMemory memory tt
+  ] where
+    by : (why : Stop) → s ≡ Stopped why → Stops c.given c.read_faults why → Holds s c
+    by why is reason = subst (λ (t : Status). Holds t c) (sym is) (record {
+      cause = reason;
+      out = out;
+      err = subst (λ (t : Status). IsTold c.err c.err_faults (message_of t)) is told;
+      journal = none;
+    })

@@ -37,9 +37,15 @@ whole most front xs e short =
     e ∙ take_all (most + 1) xs fits
 
 -- what holds of them holds of the observable bytes of the file
-of-whole : (most : ℕ) (P : Text → Type 0) (told : Option Text) (front : Text) → IfSome told (λ xs. front ≡ take (most + 1) xs) → length front ≤ most → P front → IfSome told P
+pub of-whole : (most : ℕ) (P : Text → Type 0) (told : Option Text) (front : Text) → IfSome told (λ xs. front ≡ take (most + 1) xs) → length front ≤ most → P front → IfSome told P
 of-whole most P None front e short h = tt
 of-whole most P (Some xs) front e short h = subst P (whole most front xs e short) h
+
+-- or there are more bytes than that
+pub of-long : (most : ℕ) (P : Text → Type 0) (told : Option Text) (front : Text) → IfSome told (λ xs. front ≡ take (most + 1) xs) → most < length front
+    → ((xs : Text) → most < length xs → P xs) → IfSome told P
+of-long most P None front e long h = tt
+of-long most P (Some xs) front e long h = let n : length front ≡ min (most + 1) (length xs) = ap length e ∙ length-take (most + 1) xs in h xs (omega (arith, n, long))
 
 -- Workloads.
 
@@ -93,11 +99,7 @@ told-refused told front c line l f g e is same equal why =
 
 -- a text of more bytes than were asked for is too long
 pub told-long : (told : Option Text) (front : Text) → IfSome told (λ xs. front ≡ take 1073741825 xs) → 1073741824 < length front → IfSome told (λ bytes. IsNoJournalAt bytes 0)
-told-long None front e long = tt
-told-long (Some xs) front e long =
-    let n : length front ≡ min 1073741825 (length xs) = ap length e ∙ length-take 1073741825 xs in
-    let more : 1073741824 < length xs = omega arith in
-    more
+told-long told front e long = of-long 1073741824 (λ bytes. IsNoJournalAt bytes 0) told front e long (λ xs more. more)
 
 -- a shorter one is the journal's that was read
 pub told-journal : (told : Option Text) (front : Text) (J : List Event) → IfSome told (λ xs. front ≡ take 1073741825 xs) → length front ≤ 1073741824 → All IsEvent J

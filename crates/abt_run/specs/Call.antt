@@ -10,7 +10,7 @@ use Rattle.abt_check.specs.Verdicts.{IsStampedRun}
 use Rattle.abt_flow.specs.Confluent.{Confluent}
 use Rattle.abt_flow.specs.Flow.{IsFlow}
 use Rattle.abt_generate.specs.Generated.{generated}
-use Rattle.abt_source.specs.Source.{Rose, Took, TookPrefix}
+use Rattle.abt_shell.specs.Told.{Gained, GainedPrefix, Grew, IsTold}
 use Rattle.abt_words.specs.declared.commands.Command.{Command}
 use Rattle.abt_words.specs.declared.commands.Command.TheVariants as command
 use Rattle.abt_words.specs.Commands.{Says}
@@ -33,22 +33,6 @@ pub record Call : Type 0 where
   pub err : Option Text × Option Text
   pub err_faults : ℕ × ℕ
   pub journal : List Event
-
--- the count of faults rose
-abbrev pub Grew : ℕ × ℕ → Type 0
-Grew faults = Rose faults.0 faults.1
-
--- the sink took these bytes, and nothing else
-abbrev pub Gained : Option Text × Option Text → Text → Type 0
-Gained sink bytes = Took sink.0 sink.1 bytes
-
--- the sink took a prefix of these bytes, which lacks at least one
-abbrev pub GainedPrefix : Option Text × Option Text → Text → Type 0
-GainedPrefix sink bytes = TookPrefix sink.0 sink.1 bytes
-
--- the message was written, or a prefix of it, and then the count of faults rose
-abbrev pub IsTold : Option Text × Option Text → ℕ × ℕ → Text → Type 0
-IsTold sink faults text = Gained sink text ⊎ (GainedPrefix sink text × Grew faults)
 
 -- What each status says.
 

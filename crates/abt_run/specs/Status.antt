@@ -1,5 +1,5 @@
 -- What each status is to the user: its number and its message.
-use Rattle.std.specs.Prelude.{ℕ, [], ◌++◌, codes, decimal, ⊤}
+use Rattle.std.specs.Prelude.{ℕ, [], ◌++◌, codes, decimal}
 use Rattle.abt_machine.specs.declared.program.Fault.{Fault}
 use Rattle.abt_machine.specs.declared.program.Fault.TheVariants as fault
 use Rattle.abt_machine.specs.Words.{Text}
@@ -68,11 +68,3 @@ abbrev pub message_of : Status → Text
 message_of (Concluded c) = []
 message_of (Stopped s) = stop_message s
 message_of CannotWrite = codes "abtrun: cannot write\n"
-
--- the message names no line
-abbrev pub IsFixed : Stop → Type 0
-IsFixed (stop.Refused line f) = ⊥
-IsFixed (stop.NoJournal line) = ⊥
-IsFixed stop.BadWords = ⊤
-IsFixed stop.CannotRead = ⊤
-IsFixed stop.OutOfMemory = ⊤

@@ -10,6 +10,6 @@ mod running;
 mod status;
 
 pub use fetching::fetch;
-pub use program::{abtrun, tell};
+pub use program::abtrun;
 pub use running::count_steps;
 pub use status::{Conclusion, Status, Stop, fault_word};

@@ -1,22 +1,21 @@
 //! The top call.
 
-ghost use Rattle.std.specs.Prelude.{◌≡◌, ◌≤◌, ◌⊎◌, IfErr, IfOk, length, map, string_bytes};
+ghost use Rattle.std.specs.Prelude.{◌≤◌, IfErr, IfOk, length, map, string_bytes};
 ghost use Rattle.abt_order.specs.Stored.{shapes_of};
-ghost use Rattle.abt_run.specs.Call.{Holds, IsAnswered, IsTold};
+ghost use Rattle.abt_run.specs.Call.{IsAnswered};
 ghost use Rattle.abt_run.specs.Given.{given};
 ghost use Rattle.abt_run.specs.Prepared.{Stops};
 ghost use Rattle.abt_run.specs.Printed.{Prints};
-ghost use Rattle.abt_run.specs.Status.{stop_message};
-ghost use Rattle.abt_run.specs.declared.status.Stop.TheVariants as why;
 
 use crate::checking::prepare_check;
 use crate::following::prepare_flow;
 use crate::prepared::Prepared;
 use crate::running::{prepare_file, prepare_self};
-use crate::status::{Status, Stop, line_text, unwritten};
-use abt_machine::{Ended, Journal, Want};
+use crate::status::{Status, Stop};
+use abt_machine::{Ended, Journal};
 use abt_order::StoredOrder;
-use abt_source::{Failed, Files, Sink, write_whole};
+use abt_shell::{Ending, stop_by, write_out};
+use abt_source::{Files, Sink};
 use abt_stream::Pace;
 use abt_words::{Command, WordFault, words as command};
 use std::alloc::Global;
@@ -66,36 +65,6 @@ fn prepare<R: Threads + Wait + Sync, F: Files, P: Pace + Sync>(
     }
 }
 
-/// Writes a message. If a write fails, the sink has a prefix of it.
-pub fn tell<E: Sink>(err: &mut E, text: &[u8])
-    ensures told { IsTold (E.taken err.old, E.taken err.new) (E.faults err.old, E.faults err.new) text.now }
-    ensures later { E.faults err.old ≤ E.faults err.new }
-{
-    let _ = write_whole(err, text);
-}
-
-// Writes the message of a call that stopped, if there is memory for it; how the call ended.
-fn stop_by<E: Sink>(alloc: Global, err: &mut E, stop: Stop) -> Stop
-    ensures told { IsTold (E.taken err.old, E.taken err.new) (E.faults err.old, E.faults err.new) (stop_message result) }
-    ensures same { (result ≡ stop) ⊎ (result ≡ why.OutOfMemory) }
-    ensures later { E.faults err.old ≤ E.faults err.new }
-{
-    if stop.is_fixed() {
-        tell(err, stop.message());
-        return stop;
-    }
-    match line_text(alloc, stop) {
-        Ok(text) => {
-            tell(err, &text);
-            stop
-        }
-        Err(Want) => {
-            tell(err, Stop::OutOfMemory.message());
-            Stop::OutOfMemory
-        }
-    }
-}
-
 /// What the command of the program does. `run` reads the file and the workload in it, runs the workload, and writes the run's
 /// journal, if `--journal` asks for it, and its report; `self` runs the workload that it makes of a number, and writes the
 /// short report; `check` reads a workload and a journal, and writes whether that is a run of it with stamps, or else its first line
@@ -130,35 +99,6 @@ pub fn abtrun<R: Threads + Wait + Sync, F: Files, K: Sink, E: Sink, P: Pace + Sy
       journal = result.journal;
     }) }
 {
-    let (status, journal) = call(rt, alloc, words, files, out, err, pace, orders);
-    Ended {
-        status: status.number(),
-        journal,
-    }
-}
-
-// A call of the program: its status and its journal.
-fn call<R: Threads + Wait + Sync, F: Files, K: Sink, E: Sink, P: Pace + Sync>(
-    rt: &R,
-    alloc: Global,
-    words: &[String],
-    files: &mut F,
-    out: &mut K,
-    err: &mut E,
-    pace: &P,
-    orders: &[StoredOrder],
-) -> (Status, Journal)
-    requires orders { 2 ≤ length orders.now }
-    ensures { Holds result.0 (record {
-      given = given (map string_bytes words.now) (shapes_of orders.now) (λ name. F.file files.old name);
-      read_faults = (F.faults files.old, F.faults files.new);
-      out = (K.taken out.old, K.taken out.new);
-      out_faults = (K.faults out.old, K.faults out.new);
-      err = (E.taken err.old, E.taken err.new);
-      err_faults = (E.faults err.old, E.faults err.new);
-      journal = result.1;
-    }) }
-{
     match prepare(rt, alloc, words, files, pace, orders) {
         Ok(
             Prepared {
@@ -166,16 +106,19 @@ fn call<R: Threads + Wait + Sync, F: Files, K: Sink, E: Sink, P: Pace + Sync>(
                 text,
                 conclusion,
             },
-        ) => match write_whole(out, &text) {
-            Ok(()) => (Status::Concluded(conclusion), journal),
-            Err(Failed) => {
-                tell(err, unwritten());
-                (Status::CannotWrite, journal)
+        ) => {
+            let status = write_out(out, err, &text, Status::Concluded(conclusion));
+            Ended {
+                status: status.number(),
+                journal,
             }
-        },
-        Err(stop) => (
-            Status::Stopped(stop_by(alloc, err, stop)),
-            Journal::new(Vec::new(alloc)),
-        ),
+        }
+        Err(stop) => {
+            let status = stop_by(alloc, err, Status::Stopped(stop));
+            Ended {
+                status: status.number(),
+                journal: Journal::new(Vec::new(alloc)),
+            }
+        }
     }
 }

@@ -1,13 +1,20 @@
 //! How a call of the program ends.
 
-ghost use Rattle.std.specs.Prelude.{◌≡◌, ◌↔◌, IfOk, IsTrue};
-ghost use Rattle.abt_run.specs.declared.status.Status.TheVariants.{CannotWrite};
-ghost use Rattle.abt_run.specs.Status.{IsFixed, fault_word, line_message, message_of, number_of, number_of_conclusion, number_of_stop, stop_message};
+ghost use Rattle.std.specs.Prelude.{◌≡◌};
+ghost use Rattle.abt_run.specs.Status.{fault_word, number_of, number_of_conclusion, number_of_stop, stop_message};
+ghost use Rattle.abt_shell.specs.Told.{said_text};
 
 use abt_check::Verdict;
 use abt_machine::{Fault, Want};
-use itoa::Buffer;
-use std::alloc::{AllocError, Global};
+use abt_shell::{Ending, Said};
+use std::alloc::AllocError;
+
+// What is said of a line begins so.
+const LINE: &[u8] = b"abtrun: line ";
+
+const NO_MEMORY: &[u8] = b"abtrun: out of memory\n";
+
+const UNWRITTEN: &[u8] = b"abtrun: cannot write\n";
 
 /// What a command that was carried out came to.
 #[derive(Clone, Copy, Debug, PartialEq, Eq)]
@@ -94,34 +101,40 @@ impl Stop {
         }
     }
 
-    /// Whether the message names no line.
-    pub(crate) fn is_fixed(self) -> bool
-        ensures { IsTrue result ↔ IsFixed self }
+    // The message.
+    fn said(self) -> Said
+        ensures { said_text result ≡ stop_message self }
     {
         match self {
-            Stop::Refused { line: _, fault: _ } | Stop::NoJournal { line: _ } => false,
-            Stop::BadWords | Stop::CannotRead | Stop::OutOfMemory => true,
-        }
-    }
-
-    /// What is written to the error sink, if it names no line.
-    pub fn message(self) -> &'static [u8]
-        requires { IsFixed self }
-        ensures { result.now ≡ stop_message self }
-    {
-        match self {
-            Stop::Refused { line: _, fault: _ } => unreachable!(),
-            Stop::NoJournal { line: _ } => unreachable!(),
-            Stop::BadWords => b"abtrun: bad command line\n",
-            Stop::CannotRead => b"abtrun: cannot read\n",
-            Stop::OutOfMemory => b"abtrun: out of memory\n",
+            Stop::Refused { line, fault } => Said::Line {
+                head: LINE,
+                line,
+                wrong: fault_word(fault),
+            },
+            Stop::NoJournal { line } => Said::Line {
+                head: LINE,
+                line,
+                wrong: b"journal",
+            },
+            Stop::BadWords => Said::Fixed(b"abtrun: bad command line\n"),
+            Stop::CannotRead => Said::Fixed(b"abtrun: cannot read\n"),
+            Stop::OutOfMemory => Said::Fixed(NO_MEMORY),
         }
     }
 }
 
-impl Status {
-    /// The exit status.
-    pub fn number(self) -> u8
+impl Ending for Status {
+    ghost use Rattle.abt_run.specs.Status.{message_of};
+    ghost use Rattle.abt_run.specs.declared.status.Status.TheVariants.{CannotWrite, Stopped};
+    ghost use Rattle.abt_run.specs.declared.status.Stop.TheVariants.{OutOfMemory};
+
+    ghost message = { message_of };
+
+    ghost memory = { Stopped OutOfMemory };
+
+    ghost unwritten = { CannotWrite };
+
+    fn number(self) -> u8
         ensures { result ≡ number_of self }
     {
         match self {
@@ -130,13 +143,26 @@ impl Status {
             Status::CannotWrite => 6,
         }
     }
-}
 
-/// What is written to the error sink if not all was written.
-pub(crate) fn unwritten() -> &'static [u8]
-    ensures { result.now ≡ message_of CannotWrite }
-{
-    b"abtrun: cannot write\n"
+    fn said(self) -> Said {
+        match self {
+            Status::Concluded(_) => Said::Fixed(b""),
+            Status::Stopped(stop) => stop.said(),
+            Status::CannotWrite => Said::Fixed(UNWRITTEN),
+        }
+    }
+
+    fn bad_words() -> Self {
+        Status::Stopped(Stop::BadWords)
+    }
+
+    fn out_of_memory() -> (Self, &'static [u8]) {
+        (Status::Stopped(Stop::OutOfMemory), NO_MEMORY)
+    }
+
+    fn cannot_write() -> (Self, &'static [u8]) {
+        (Status::CannotWrite, UNWRITTEN)
+    }
 }
 
 /// The word for what a line has wrong.
@@ -156,30 +182,5 @@ pub fn fault_word(fault: Fault) -> &'static [u8]
         Fault::Access => b"access",
         Fault::NoEnd => b"no-end",
         Fault::Missing => b"missing",
-    }
-}
-
-// What is written to the error sink of a line.
-fn of_line(alloc: Global, line: u32, word: &[u8]) -> Result<Vec<u8>, Want>
-    ensures { IfOk result (λ text. text.items ≡ line_message line word.now) }
-{
-    let mut text = Vec::from_slice(alloc, b"abtrun: line ")?;
-    let mut buffer = Buffer::new();
-    text.extend_from_slice(buffer.format(line).as_bytes())?;
-    text.extend_from_slice(b": ")?;
-    text.extend_from_slice(word)?;
-    text.extend_from_slice(b"\n")?;
-    Ok(text)
-}
-
-/// What is written to the error sink, if it names a line.
-pub(crate) fn line_text(alloc: Global, stop: Stop) -> Result<Vec<u8>, Want>
-    requires { IsFixed stop → ⊥ }
-    ensures { IfOk result (λ text. text.items ≡ stop_message stop) }
-{
-    match stop {
-        Stop::Refused { line, fault } => of_line(alloc, line, fault_word(fault)),
-        Stop::NoJournal { line } => of_line(alloc, line, b"journal"),
-        Stop::BadWords | Stop::CannotRead | Stop::OutOfMemory => unreachable!(),
     }
 }

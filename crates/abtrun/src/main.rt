@@ -5,8 +5,9 @@ ghost use Rattle.std.specs.Prelude.{◌≡◌, ◌<◌, ◌≤◌, ◌+◌, ◌-
 
 use abt_machine::OrderShape;
 use abt_order::{StoredOrder, mirror, rotate};
-use abt_run::{Status, Stop, abtrun};
-use abt_source::{RealFiles, RealSink, write_whole};
+use abt_run::{Status, abtrun};
+use abt_shell::{Ending, stop_by};
+use abt_source::{RealFiles, RealSink};
 use abt_stream::NoPace;
 use std::alloc::Global;
 use std::process::ExitCode;
@@ -48,18 +49,17 @@ fn main(rt: HostRuntime) -> ExitCode {
     let words = match words_of(&rt, alloc) {
         Ok(words) => words,
         Err(e) => {
-            let stop = if e.kind() == io::ErrorKind::OutOfMemory {
-                Stop::OutOfMemory
+            let status = if e.kind() == io::ErrorKind::OutOfMemory {
+                Status::out_of_memory().0
             } else {
-                Stop::BadWords
+                Status::bad_words()
             };
-            let _ = write_whole(&mut err, stop.message());
-            return ExitCode::from(Status::Stopped(stop).number());
+            return ExitCode::from(stop_by(alloc, &mut err, status).number());
         }
     };
     let (Ok(rotation), Ok(mirroring)) = (Box::new(alloc, turn), Box::new(alloc, turn_round)) else {
-        let _ = write_whole(&mut err, Stop::OutOfMemory.message());
-        return ExitCode::from(Status::Stopped(Stop::OutOfMemory).number());
+        let (status, _) = Status::out_of_memory();
+        return ExitCode::from(stop_by(alloc, &mut err, status).number());
     };
     let orders = [
         StoredOrder::new(OrderShape::Rotate, rotation),

@@ -6,7 +6,8 @@ ghost use Rattle.std.specs.Prelude.{◌≡◌, ◌<◌, ◌≤◌, ◌+◌, ◌-
 use abt_lives::{Status, abtwaves};
 use abt_machine::OrderShape;
 use abt_order::{StoredOrder, mirror, rotate};
-use abt_source::{RealFiles, RealSink, write_whole};
+use abt_shell::{Ending, stop_by};
+use abt_source::{RealFiles, RealSink};
 use abt_stream::NoPace;
 use std::alloc::Global;
 use std::process::ExitCode;
@@ -49,17 +50,16 @@ fn main(rt: HostRuntime) -> ExitCode {
         Ok(words) => words,
         Err(e) => {
             let status = if e.kind() == io::ErrorKind::OutOfMemory {
-                Status::OutOfMemory
+                Status::out_of_memory().0
             } else {
-                Status::BadWords
+                Status::bad_words()
             };
-            let _ = write_whole(&mut err, status.message());
-            return ExitCode::from(status.number());
+            return ExitCode::from(stop_by(alloc, &mut err, status).number());
         }
     };
     let (Ok(rotation), Ok(mirroring)) = (Box::new(alloc, turn), Box::new(alloc, turn_round)) else {
-        let _ = write_whole(&mut err, Status::OutOfMemory.message());
-        return ExitCode::from(Status::OutOfMemory.number());
+        let (status, _) = Status::out_of_memory();
+        return ExitCode::from(stop_by(alloc, &mut err, status).number());
     };
     let orders = [
         StoredOrder::new(OrderShape::Rotate, rotation),

@@ -1,0 +1,45 @@
+-- What a call leaves in its sinks, and messages.
+use Rattle.std.specs.Prelude.{◌⊎◌, ◌++◌, ℕ, [], Option, codes, decimal}
+use Rattle.abt_machine.specs.Words.{Text}
+use Rattle.abt_source.specs.Source.{Rose, Took, TookPrefix}
+use Rattle.abt_shell.specs.declared.ending.Said.{Said}
+use Rattle.abt_shell.specs.declared.ending.Said.TheVariants.{Fixed, Line}
+
+-- Pairs have what was counted or taken before and afterwards.
+
+-- the count of faults rose
+abbrev pub Grew : ℕ × ℕ → Type 0
+Grew faults = Rose faults.0 faults.1
+
+-- the sink took these bytes, and nothing else
+abbrev pub Gained : Option Text × Option Text → Text → Type 0
+Gained sink bytes = Took sink.0 sink.1 bytes
+
+-- the sink took a prefix of these bytes, which lacks at least one
+abbrev pub GainedPrefix : Option Text × Option Text → Text → Type 0
+GainedPrefix sink bytes = TookPrefix sink.0 sink.1 bytes
+
+-- the message was written, or a prefix of it, and then the count of faults rose
+abbrev pub IsTold : Option Text × Option Text → ℕ × ℕ → Text → Type 0
+IsTold sink faults text = Gained sink text ⊎ (GainedPrefix sink text × Grew faults)
+
+-- all of the output was written, and no message
+pub record WroteAll (out err : Option Text × Option Text) (text : Text) : Type 0 where
+  pub whole : Gained out text
+  pub silent : Gained err []
+
+-- a prefix of the output was written, the count of its faults rose, and the message was written
+pub record WrotePart (out : Option Text × Option Text) (out_faults : ℕ × ℕ) (err : Option Text × Option Text) (err_faults : ℕ × ℕ) (text message : Text) : Type 0 where
+  pub prefix : GainedPrefix out text
+  pub faults : Grew out_faults
+  pub told : IsTold err err_faults message
+
+-- Messages.
+
+-- the message about a line, and what it has wrong
+abbrev pub about_line : Text → ℕ → Text → Text
+about_line head line wrong = head ++ (decimal line ++ (codes ": " ++ (wrong ++ codes "\n")))
+
+abbrev pub said_text : Said → Text
+said_text (Fixed text) = text.now
+said_text (Line head line wrong) = about_line head.now line wrong.now

@@ -1,0 +1,91 @@
+//! A program over the files and sinks of the process, and the two stored orders.
+
+ghost use Rattle.std.specs.Prelude.{◌≡◌, ◌<◌, ◌≤◌, ◌+◌, ◌-◌, ◌%◌, length};
+
+use crate::ending::Ending;
+use crate::writing::stop_by;
+use abt_machine::{Ended, OrderShape};
+use abt_order::{StoredOrder, mirror, rotate};
+use abt_source::{Files, RealFiles, RealSink, Sink};
+use std::alloc::Global;
+use std::process::ExitCode;
+use std::rt::Runtime;
+use std::sync::Wait;
+use std::thread::Threads;
+use std::{env, io};
+
+/// A program with stored orders: what its `main` does.
+pub trait Program {
+    /// How its calls end.
+    type Status: Ending;
+
+    /// A call with the words after the program's name, over any files and sinks.
+    fn call<R: Threads + Wait + Sync, F: Files, K: Sink, E: Sink>(
+        rt: &R,
+        alloc: Global,
+        words: &[String],
+        files: &mut F,
+        out: &mut K,
+        err: &mut E,
+        orders: &[StoredOrder],
+    ) -> Ended
+        requires orders { 2 ≤ length orders.now };
+}
+
+// The answer of shape Rotate. A value may be made of a function of this crate alone.
+fn turn(round: u64, n: u32, i: u32) -> u32
+    requires count { (0 < n) × (n ≤ 8) }
+    requires place { i < n }
+    ensures { result ≡ (round + i) % n }
+{
+    rotate(round, n, i)
+}
+
+// The answer of shape Mirror.
+fn turn_round(round: u64, n: u32, i: u32) -> u32
+    requires count { (0 < n) × (n ≤ 8) }
+    requires place { i < n }
+    ensures { result ≡ n - 1 - i }
+{
+    mirror(round, n, i)
+}
+
+// The words after the program's name.
+fn words_of<R: Runtime>(rt: &R, alloc: Global) -> io::Result<Vec<String<R::A>>> {
+    let mut words = Vec::new(alloc);
+    for word in env::args(rt)?.skip(1) {
+        words.push(word)?;
+    }
+    Ok(words)
+}
+
+/// A call with the words, the files and the sinks of the process. Order 0 rotates, and order 1 mirrors.
+pub fn run_program<P: Program, R: Runtime + AllocGlobal + Threads + Wait + Sync>(
+    rt: &R,
+) -> ExitCode {
+    let alloc = rt.alloc();
+    let mut files = RealFiles::new(rt);
+    let mut out = RealSink::out(rt);
+    let mut err = RealSink::err(rt);
+    let words = match words_of(rt, alloc) {
+        Ok(words) => words,
+        Err(e) => {
+            let status = if e.kind() == io::ErrorKind::OutOfMemory {
+                P::Status::out_of_memory().0
+            } else {
+                P::Status::bad_words()
+            };
+            return ExitCode::from(stop_by(alloc, &mut err, status).number());
+        }
+    };
+    let (Ok(rotation), Ok(mirroring)) = (Box::new(alloc, turn), Box::new(alloc, turn_round)) else {
+        let (status, _) = P::Status::out_of_memory();
+        return ExitCode::from(stop_by(alloc, &mut err, status).number());
+    };
+    let orders = [
+        StoredOrder::new(OrderShape::Rotate, rotation),
+        StoredOrder::new(OrderShape::Mirror, mirroring),
+    ];
+    let ended = P::call(rt, alloc, &words, &mut files, &mut out, &mut err, &orders);
+    ExitCode::from(ended.status)
+}
