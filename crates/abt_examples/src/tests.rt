@@ -5,7 +5,7 @@ ghost use Rattle.std.specs.Prelude.{◌≤◌, length};
 use crate::calls::{Failing, call};
 use crate::formats::{ONE_POOL_OF_TWO, finished, refused, row};
 use crate::orders::{turn, turn_round};
-use crate::refusals::{TOO_LONG, refusals};
+use crate::refusals::{SHORT_WRITE, TOO_LONG, refusals, refused_row};
 use crate::rows::{Row, flows, objects, requests, schedulers, streams, units};
 use abt_machine::OrderShape;
 use abt_order::StoredOrder;
@@ -75,6 +75,21 @@ fn check_all<R: Threads + Wait + Sync + Abort>(
     Ok(())
 }
 
+// And of all calls that are refused.
+fn check_refusals<R: Threads + Wait + Sync + Abort>(
+    rt: &R,
+    alloc: Global,
+    orders: &[StoredOrder],
+) -> Result<(), Fail>
+    requires { 2 ≤ length orders.now }
+{
+    for refusal in refusals() {
+        let row = refused_row(refusal);
+        check(rt, alloc, orders, &row, &text_of(alloc, &row)?)?;
+    }
+    Ok(())
+}
+
 #[test]
 fn calls_leave_what_their_rows_say(rt: HostRuntime) -> Result<(), Fail> {
     let alloc = rt.alloc();
@@ -90,7 +105,8 @@ fn calls_leave_what_their_rows_say(rt: HostRuntime) -> Result<(), Fail> {
         check_all(&rt, alloc, &orders, streams())?;
     }
     check_all(&rt, alloc, &orders, flows())?;
-    check_all(&rt, alloc, &orders, refusals())?;
+    check_refusals(&rt, alloc, &orders)?;
+    check_all(&rt, alloc, &orders, &[SHORT_WRITE])?;
     for (lines, out) in finished() {
         let row = row(ONE_POOL_OF_TWO, lines, 0, out, "");
         check(&rt, alloc, &orders, &row, &text_of(alloc, &row)?)?;
@@ -100,5 +116,5 @@ fn calls_leave_what_their_rows_say(rt: HostRuntime) -> Result<(), Fail> {
         check(&rt, alloc, &orders, &row, &text_of(alloc, &row)?)?;
     }
     let long = vec![in alloc; b'#'; TOO_LONG_LENGTH]?;
-    check(&rt, alloc, &orders, &TOO_LONG, &long)
+    check(&rt, alloc, &orders, &refused_row(&TOO_LONG), &long)
 }
