@@ -16,7 +16,7 @@ const ALONE: &str = "abt 1\nstreams 1\npool 0 fifo mpmc\nsched 0 prio 0\nstream 
 // What follows these lines, how many steps a stream may make, and the report.
 type Row = (&'static str, u64, &'static str);
 
-const ROWS: [Row; 3] = [
+static ROWS: [Row; 3] = [
     (
         "units 2\nunit 0 ult at 0\nsay a\nyield\nsay b\nunit 1 ult at 0\nsay a\nyield\nsay b\nend\n",
         10_000,
@@ -96,8 +96,8 @@ pub(crate) fn shared_report(alloc: Global) -> Result<String, AllocError> {
 #[test]
 fn runs_end_as_reported(rt: HostRuntime) -> Result<(), Fail> {
     let alloc = rt.alloc();
-    for (lines, steps, wanted) in ROWS {
-        let (_, report) = texts(alloc, format!(in alloc; "{ALONE}{lines}")?.as_str(), steps)?;
+    for (lines, steps, wanted) in &ROWS {
+        let (_, report) = texts(alloc, format!(in alloc; "{ALONE}{lines}")?.as_str(), *steps)?;
         assert!(rt; report.as_slice() == wanted.as_bytes(), "{lines}");
     }
     Ok(())

@@ -32,7 +32,7 @@ type Row = (
     &'static [&'static [u32]],
 );
 
-const ROWS: [Row; 6] = [
+static ROWS: [Row; 6] = [
     (
         PAIR,
         "units 2\nunit 0 ult at 0\ncreate 1 1\neset 0\nunit 1 ult later\nsay made\nend\n",
@@ -78,7 +78,7 @@ const ROWS: [Row; 6] = [
 ];
 
 // Texts that are refused, each at this line.
-const FAULTS: [(&str, u32); 20] = [
+static FAULTS: [(&str, u32); 20] = [
     ("life 1 0 0\n", 1),
     ("life 1 0 1\nlife 1 1 0\n", 2),
     ("life 2 0 1\n", 1),
@@ -166,7 +166,7 @@ fn chain(alloc: Global) -> Result<(String, String), AllocError> {
 #[test]
 fn runs_on_lives_end_as_reported(rt: HostRuntime) -> Result<(), Fail> {
     let alloc = rt.alloc();
-    for (head, lines, lives, wanted, streams) in ROWS {
+    for (head, lines, lives, wanted, streams) in &ROWS {
         let text = format!(in alloc; "{head}{lines}")?;
         let (report, waves) = run_of(&rt, alloc, text.as_str(), lives)?;
         assert!(rt; report.as_slice() == wanted.as_bytes(), "{lines}");
@@ -210,10 +210,10 @@ fn streams_are_born_one_by_one(rt: HostRuntime) -> Result<(), Fail> {
 fn faults_are_found_at_their_lines(rt: HostRuntime) -> Result<(), Fail> {
     let alloc = rt.alloc();
     let w = read(alloc, format!(in alloc; "{PAIR}units 0\nend\n")?.as_bytes())?;
-    for (text, line) in FAULTS {
+    for (text, line) in &FAULTS {
         let found = read_lives(alloc, &w, text.as_bytes());
         assert!(rt;
-            matches!(found, Err(NotLives::Bad { line: at }) if at == line),
+            matches!(found, Err(NotLives::Bad { line: at }) if at == *line),
             "{text}"
         );
     }

@@ -41,7 +41,7 @@ end
 ";
 
 // What unit 0 put out.
-const OUTPUT: [Piece; 15] = [
+static OUTPUT: [Piece; 15] = [
     Piece::Said(1),
     Piece::Number(u64::MAX),
     Piece::Said(0),
@@ -60,7 +60,7 @@ const OUTPUT: [Piece; 15] = [
 ];
 
 // The places of the units after unit 0.
-const PLACES: [Shown; 9] = [
+static PLACES: [Shown; 9] = [
     Shown::Unborn,
     Shown::Pool(PoolNo(1)),
     Shown::Stream(StreamNo(1)),
@@ -125,8 +125,8 @@ fn picture(alloc: Global, w: &Workload) -> Result<Picture, AllocError>
         output: Output::new(Vec::from_slice(alloc, &OUTPUT)?),
     };
     let mut rows = vec![in alloc; first]?;
-    for shown in PLACES {
-        rows.push(silent(alloc, shown))?;
+    for shown in &PLACES {
+        rows.push(silent(alloc, *shown))?;
     }
     Ok(Picture::new(rows))
 }

@@ -33,7 +33,7 @@ type Row = (&'static str, &'static [&'static [u32]]);
 
 // PRIO, BASIC and RANDWS. The published words are a15c02b7, 7b47f409, ba1d3330, 83d2f293, bfa4784b and cbed606e: their
 // remainders by 3 are 0, 0, 2, 1, 1 and 1, and by 7 they are 4, 4, 6, 0, 3 and 2.
-const PLAIN: [Row; 13] = [
+static PLAIN: [Row; 13] = [
     ("prio 5", &[&[5], &[5]]),
     ("prio 5 2", &[&[5, 2], &[5, 2]]),
     ("prio 4 1 7 0", &[&[4, 1, 7, 0], &[4, 1, 7, 0]]),
@@ -79,7 +79,7 @@ const PLAIN: [Row; 13] = [
 ];
 
 // Order 0 rotates, and order 1 mirrors.
-const SHAPED: [Row; 8] = [
+static SHAPED: [Row; 8] = [
     ("user 0 5", &[&[5], &[5]]),
     ("user 0 5 2", &[&[5, 2], &[2, 5], &[5, 2]]),
     (
@@ -111,7 +111,7 @@ const SHAPED: [Row; 8] = [
 
 // Two free orders. Order 0 answers the places from the last one down, so for two places 1 and 0. Order 1 answers the last
 // place each time, so for two places 1 and 1; each place but the first then gets the one that follows cyclically.
-const FREE: [Row; 8] = [
+static FREE: [Row; 8] = [
     ("user 0 5", &[&[5], &[5]]),
     ("user 0 5 2", &[&[2, 5], &[2, 5]]),
     ("user 0 4 1 7 0", &[&[0, 7, 1, 4], &[0, 7, 1, 4]]),
@@ -129,7 +129,7 @@ const FREE: [Row; 8] = [
 ];
 
 // A free order that answers by the round, over three, five, six and seven pools.
-const TURNED: [Row; 4] = [
+static TURNED: [Row; 4] = [
     (
         "user 0 4 1 7",
         &[&[4, 1, 7], &[1, 7, 4], &[7, 4, 1], &[4, 1, 7]],
@@ -256,6 +256,20 @@ fn check_into(
     Ok(())
 }
 
+// Both of all rows.
+fn check_all(
+    rt: &impl Abort,
+    alloc: Global,
+    orders: &[StoredOrder; 2],
+    rows: &[Row],
+) -> Result<(), Fail> {
+    for row in rows {
+        check(rt, alloc, orders, *row)?;
+        check_into(rt, alloc, orders, *row)?;
+    }
+    Ok(())
+}
+
 // The answer of shape Rotate. A value may be made of a function of this crate alone.
 pub(crate) fn turn(round: u64, n: u32, i: u32) -> u32
     requires count { (0 < n) × (n ≤ 8) }
@@ -289,15 +303,8 @@ fn rounds_go_by_the_rule(rt: HostRuntime) -> Result<(), Fail> {
         StoredOrder::new(OrderShape::Rotate, Box::new(alloc, turn)?),
         StoredOrder::new(OrderShape::Mirror, Box::new(alloc, turn_round)?),
     ];
-    for row in PLAIN {
-        check(&rt, alloc, &orders, row)?;
-        check_into(&rt, alloc, &orders, row)?;
-    }
-    for row in SHAPED {
-        check(&rt, alloc, &orders, row)?;
-        check_into(&rt, alloc, &orders, row)?;
-    }
-    Ok(())
+    check_all(&rt, alloc, &orders, &PLAIN)?;
+    check_all(&rt, alloc, &orders, &SHAPED)
 }
 
 #[test]
@@ -307,17 +314,10 @@ fn free_orders_are_made_permutations(rt: HostRuntime) -> Result<(), Fail> {
         StoredOrder::new(OrderShape::Free, Box::new(alloc, turn_round)?),
         StoredOrder::new(OrderShape::Free, Box::new(alloc, last)?),
     ];
-    for row in FREE {
-        check(&rt, alloc, &orders, row)?;
-        check_into(&rt, alloc, &orders, row)?;
-    }
+    check_all(&rt, alloc, &orders, &FREE)?;
     let orders = [
         StoredOrder::new(OrderShape::Free, Box::new(alloc, turn)?),
         StoredOrder::new(OrderShape::Free, Box::new(alloc, last)?),
     ];
-    for row in TURNED {
-        check(&rt, alloc, &orders, row)?;
-        check_into(&rt, alloc, &orders, row)?;
-    }
-    Ok(())
+    check_all(&rt, alloc, &orders, &TURNED)
 }

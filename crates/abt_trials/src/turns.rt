@@ -55,7 +55,7 @@ struct Row {
 }
 
 // Local operations, and those by which a unit leaves the hand alone.
-const OWN: [Row; 5] = [
+static OWN: [Row; 5] = [
     Row {
         units: "units 1\nunit 0 ult at 0\nset 5\nadd 1\nsay hi\nprint\nkset 0\nkget 0\n",
         steps: 9,
@@ -84,7 +84,7 @@ const OWN: [Row; 5] = [
 ];
 
 // Operations on other units.
-const UNITS: [Row; 6] = [
+static UNITS: [Row; 6] = [
     Row {
         units: "units 3\nunit 0 ult at 0\ncreate 1 0\ncreate 1 0\ncreate 2 2\nunit 1 ult later\nunit 2 ult later\n",
         steps: 9,
@@ -118,7 +118,7 @@ const UNITS: [Row; 6] = [
 ];
 
 // Operations on objects.
-const OBJECTS: [Row; 5] = [
+static OBJECTS: [Row; 5] = [
     Row {
         units: "units 2\nunit 0 ult at 0\nlock 0\ntrylock 0\nload 0\nstore 0\nyield\nunlock 0\nunlock 0\nload 0\nstore 0\nunit 1 ult at 0\nlock 0\nunlock 0\ntrylock 0\n",
         steps: 12,
@@ -148,7 +148,7 @@ const OBJECTS: [Row; 5] = [
 
 // Frames three deep, a scheduler whose pool the stream must not reach, and a free order over two and three pools. In the rounds
 // 0 and 2 it answers the last place each time, so the others follow cyclically; in round 1 the first.
-const FRAMES: [Row; 4] = [
+static FRAMES: [Row; 4] = [
     Row {
         units: "units 4\nunit 0 sched 2 at 0\nunit 1 sched 4 at 3\nunit 2 sched 5 at 4\nunit 3 ult at 5\n",
         steps: 9,
