@@ -1,10 +1,6 @@
 //! Journals that are checked against workloads.
 
-ghost use Rattle.std.specs.Prelude.{◌≤◌, length};
-
 use crate::calls::{Failing, call_with};
-use crate::orders::{turn, turn_round};
-use abt_machine::OrderShape;
 use abt_order::StoredOrder;
 use std::alloc::Global;
 use std::test::Fail;
@@ -143,10 +139,7 @@ static ROWS: [Row; 14] = [
 #[test]
 fn journals_are_judged(rt: HostRuntime) -> Result<(), Fail> {
     let alloc: Global = rt.alloc();
-    let orders = [
-        StoredOrder::new(OrderShape::Rotate, Box::new(alloc, turn)?),
-        StoredOrder::new(OrderShape::Mirror, Box::new(alloc, turn_round)?),
-    ];
+    let orders = [StoredOrder::rotating(), StoredOrder::mirroring()];
     for row in &ROWS {
         let left = call_with(
             &rt,

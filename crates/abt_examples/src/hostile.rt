@@ -3,8 +3,6 @@
 ghost use Rattle.std.specs.Prelude.{◌≤◌, length};
 
 use crate::calls::{Failing, Left, call};
-use crate::orders::{turn, turn_round};
-use abt_machine::OrderShape;
 use abt_order::StoredOrder;
 use std::alloc::Global;
 use std::process::Abort;
@@ -138,10 +136,7 @@ fn check_bytes<R: Threads + Wait + Sync + Abort>(
 #[test]
 fn faults_are_answered_wherever_they_come(rt: HostRuntime) -> Result<(), Fail> {
     let alloc = rt.alloc();
-    let orders = [
-        StoredOrder::new(OrderShape::Rotate, Box::new(alloc, turn)?),
-        StoredOrder::new(OrderShape::Mirror, Box::new(alloc, turn_round)?),
-    ];
+    let orders = [StoredOrder::rotating(), StoredOrder::mirroring()];
     check_reads(&rt, alloc, &orders)?;
     check_writes(&rt, alloc, &orders)?;
     check_cuts(&rt, alloc, &orders)?;

@@ -11,7 +11,6 @@ mod checks;
 mod formats;
 #[cfg(test)]
 mod hostile;
-mod orders;
 #[cfg(test)]
 mod refusals;
 #[cfg(test)]
@@ -21,8 +20,6 @@ mod tests;
 #[cfg(test)]
 mod wide;
 
-use crate::orders::{turn, turn_round};
-use abt_machine::OrderShape;
 use abt_order::StoredOrder;
 use abt_run::abtrun;
 use abt_source::{MemorySink, RealFiles, read_all};
@@ -196,10 +193,7 @@ fn is_as_stored<R: Threads + Wait + Sync>(
 
 fn main(rt: HostRuntime) -> Result<(), Fail> {
     let alloc = rt.alloc();
-    let orders = [
-        StoredOrder::new(OrderShape::Rotate, Box::new(alloc, turn)?),
-        StoredOrder::new(OrderShape::Mirror, Box::new(alloc, turn_round)?),
-    ];
+    let orders = [StoredOrder::rotating(), StoredOrder::mirroring()];
     let mut files = RealFiles::new(&rt);
     for example in &EXAMPLES {
         let is = is_as_stored(&rt, alloc, &mut files, &orders, example)?;

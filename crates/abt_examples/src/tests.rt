@@ -4,10 +4,8 @@ ghost use Rattle.std.specs.Prelude.{◌≤◌, length};
 
 use crate::calls::{Failing, call};
 use crate::formats::{ONE_POOL_OF_TWO, finished, refused, row};
-use crate::orders::{turn, turn_round};
 use crate::refusals::{SHORT_WRITE, TOO_LONG, refusals, refused_row};
 use crate::rows::{Row, flows, objects, requests, schedulers, streams, units};
-use abt_machine::OrderShape;
 use abt_order::StoredOrder;
 use std::alloc::Global;
 use std::process::Abort;
@@ -93,10 +91,7 @@ fn check_refusals<R: Threads + Wait + Sync + Abort>(
 #[test]
 fn calls_leave_what_their_rows_say(rt: HostRuntime) -> Result<(), Fail> {
     let alloc = rt.alloc();
-    let orders = [
-        StoredOrder::new(OrderShape::Rotate, Box::new(alloc, turn)?),
-        StoredOrder::new(OrderShape::Mirror, Box::new(alloc, turn_round)?),
-    ];
+    let orders = [StoredOrder::rotating(), StoredOrder::mirroring()];
     check_all(&rt, alloc, &orders, units())?;
     check_all(&rt, alloc, &orders, schedulers())?;
     check_all(&rt, alloc, &orders, requests())?;

@@ -3,8 +3,6 @@
 ghost use Rattle.std.specs.Prelude.{◌≤◌, length};
 
 use crate::calls::{Failing, call};
-use crate::orders::{turn, turn_round};
-use abt_machine::OrderShape;
 use abt_order::StoredOrder;
 use std::alloc::Global;
 use std::process::Abort;
@@ -317,10 +315,7 @@ fn check_ends<R: Threads + Wait + Sync + Abort>(
 #[test]
 fn wide_workloads_run(rt: HostRuntime) -> Result<(), Fail> {
     let alloc = rt.alloc();
-    let orders = [
-        StoredOrder::new(OrderShape::Rotate, Box::new(alloc, turn)?),
-        StoredOrder::new(OrderShape::Mirror, Box::new(alloc, turn_round)?),
-    ];
+    let orders = [StoredOrder::rotating(), StoredOrder::mirroring()];
     check_lengths(&rt, alloc, &orders)?;
     check_counts(&rt, alloc, &orders)?;
     check_barrier(&rt, alloc, &orders)?;

@@ -1,11 +1,12 @@
 -- The shapes of stored orders, and the rounds that their answers choose.
-use Rattle.std.specs.Prelude.{ℕ, List, map, Option, Some, None, IfSome, slice_get}
+use Rattle.std.specs.Prelude.{ℕ, List, map, Option, Some, None, IfSome, IsTrue, MatchOption, slice_get}
 use Rattle.abt_machine.specs.declared.operations.OrderShape.{OrderShape}
 use Rattle.abt_machine.specs.declared.operations.Rule.{Rule}
 use Rattle.abt_machine.specs.declared.operations.Rule.TheVariants as rule
 use Rattle.abt_machine.specs.declared.workload.Parts.{Parts}
 use Rattle.abt_machine.specs.Workloads.{pools_of, rule_of}
 use Rattle.abt_order.specs.Places.{IsOrderedBy}
+use Rattle.abt_order.specs.Shapes.{fits_shape}
 use Rattle.abt_order.specs.declared.stored.StoredOrder.{StoredOrder}
 use denote.Param.Members.{Mut}
 
@@ -13,9 +14,9 @@ use denote.Param.Members.{Mut}
 abbrev pub shapes_of : {X : Type 0} {F : X → Type 0} {called : Mut ((x : X) × F x) (ℕ × (ℕ × (ℕ × Unit {0}))) ℕ} → List (StoredOrder X F called) → List OrderShape
 shapes_of {X} {F} {called} = map (λ (o : StoredOrder X F called). o.shape)
 
--- an answer of a stored order's function in a round, for a number of pools and a place
+-- an answer of a stored order in a round, for a number of pools and a place: its function's, if it has one, and else the one that its shape leaves
 abbrev pub answers_of : {X : Type 0} {F : X → Type 0} {called : Mut ((x : X) × F x) (ℕ × (ℕ × (ℕ × Unit {0}))) ℕ} → StoredOrder X F called → ℕ → ℕ → ℕ → ℕ → Type 0
-answers_of {X} {F} {called} order round n i answer = called.post (order.function.vtable, order.function.value) (round, (n, (i, tt))) answer
+answers_of {called = called} order round n i answer = MatchOption order.function (IsTrue (fits_shape order.shape round n i answer)) (λ user. called.post (user.function.vtable, user.function.value) (round, (n, (i, tt))) answer)
 
 -- If the rule is a user's, the pools are in an order that answers of its stored order choose for the round.
 abbrev pub IsAnsweredBy : {X : Type 0} {F : X → Type 0} {called : Mut ((x : X) × F x) (ℕ × (ℕ × (ℕ × Unit {0}))) ℕ} → List (StoredOrder X F called) → ℕ → Option Rule → List ℕ → List ℕ → Type 0

@@ -1,10 +1,7 @@
 //! Whole runs on the caller's thread, by what their reports say.
 
-ghost use Rattle.std.specs.Prelude.{◌≡◌, ◌<◌, ◌≤◌, ◌+◌, ◌-◌, ◌%◌, length};
-
-use crate::rounds::{turn, turn_round};
 use abt_drain::drain;
-use abt_machine::{Event, OrderShape, What};
+use abt_machine::{Event, What};
 use abt_order::StoredOrder;
 use abt_report::{journal_text, report};
 use abt_workload::read;
@@ -53,10 +50,7 @@ pub(crate) fn count_steps(events: &[Event]) -> u64 {
 // The journal and the report of a run.
 fn texts(alloc: Global, text: &str, steps: u64) -> Result<(Vec<u8>, Vec<u8>), Fail> {
     let w = read(alloc, text.as_bytes())?;
-    let orders = [
-        StoredOrder::new(OrderShape::Rotate, Box::new(alloc, turn)?),
-        StoredOrder::new(OrderShape::Mirror, Box::new(alloc, turn_round)?),
-    ];
+    let orders = [StoredOrder::rotating(), StoredOrder::mirroring()];
     let run = drain(alloc, &w, &orders, steps)?;
     let steps = count_steps(run.journal.items());
     let report = report(alloc, &w, &run.picture, run.outcome, steps)?;

@@ -1,10 +1,7 @@
 //! Runs on threads beside the flows of their workloads.
 
-ghost use Rattle.std.specs.Prelude.{◌≤◌, length};
-
-use crate::rounds::{turn, turn_round};
 use abt_flow::{Flow, confluent, find_flow};
-use abt_machine::{OrderShape, Piece, Workload};
+use abt_machine::{Piece, Workload};
 use abt_order::StoredOrder;
 use abt_report::Picture;
 use abt_stream::NoPace;
@@ -52,10 +49,7 @@ fn picture_of<R: Threads + Wait + Sync>(
     alloc: Global,
     w: &Workload,
 ) -> Result<Picture, Fail> {
-    let orders = [
-        StoredOrder::new(OrderShape::Rotate, Box::new(alloc, turn)?),
-        StoredOrder::new(OrderShape::Mirror, Box::new(alloc, turn_round)?),
-    ];
+    let orders = [StoredOrder::rotating(), StoredOrder::mirroring()];
     Ok(run_streams(alloc, rt, w, &orders, &NoPace, 10_000)?.picture)
 }
 

@@ -1,10 +1,6 @@
 //! Runs on lives, by what their reports and their waves say, and the texts that are refused.
 
-ghost use Rattle.std.specs.Prelude.{◌≡◌, ◌<◌, ◌≤◌, ◌+◌, ◌-◌, ◌%◌, length};
-
 use crate::drains::count_steps;
-use crate::rounds::{turn, turn_round};
-use abt_machine::OrderShape;
 use abt_order::StoredOrder;
 use abt_report::report;
 use abt_stream::NoPace;
@@ -110,10 +106,7 @@ fn run_of<R: Threads + Wait + Sync>(
 ) -> Result<(Vec<u8>, Waves), Fail> {
     let w = read(alloc, text.as_bytes())?;
     let lives = read_lives(alloc, &w, lives.as_bytes())?;
-    let orders = [
-        StoredOrder::new(OrderShape::Rotate, Box::new(alloc, turn)?),
-        StoredOrder::new(OrderShape::Mirror, Box::new(alloc, turn_round)?),
-    ];
+    let orders = [StoredOrder::rotating(), StoredOrder::mirroring()];
     let run = run_lives(alloc, rt, &w, &lives, &orders, &NoPace, 10_000)?;
     let steps = count_steps(run.journal.items());
     Ok((

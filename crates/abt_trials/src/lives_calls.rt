@@ -1,10 +1,6 @@
 //! Calls of `abtwaves` over memory.
 
-ghost use Rattle.std.specs.Prelude.{◌≡◌, ◌<◌, ◌≤◌, ◌+◌, ◌-◌, ◌%◌, length};
-
-use crate::rounds::{turn, turn_round};
 use abt_lives::abtwaves;
-use abt_machine::OrderShape;
 use abt_order::StoredOrder;
 use abt_source::{MemoryFiles, MemorySink, NamedBytes};
 use abt_stream::NoPace;
@@ -139,10 +135,7 @@ fn call<R: Threads + Wait + Sync>(
     for word in words {
         list.push(String::from_str(alloc, word)?)?;
     }
-    let orders = [
-        StoredOrder::new(OrderShape::Rotate, Box::new(alloc, turn)?),
-        StoredOrder::new(OrderShape::Mirror, Box::new(alloc, turn_round)?),
-    ];
+    let orders = [StoredOrder::rotating(), StoredOrder::mirroring()];
     let named = vec![in alloc;
         file(alloc, "w", workload.as_bytes())?,
         file(alloc, "l", lives)?,

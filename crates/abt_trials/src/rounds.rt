@@ -271,7 +271,7 @@ fn check_all(
 }
 
 // The answer of shape Rotate. A value may be made of a function of this crate alone.
-pub(crate) fn turn(round: u64, n: u32, i: u32) -> u32
+fn turn(round: u64, n: u32, i: u32) -> u32
     requires count { (0 < n) × (n ≤ 8) }
     requires place { i < n }
     ensures { result ≡ (round + i) % n }
@@ -280,7 +280,7 @@ pub(crate) fn turn(round: u64, n: u32, i: u32) -> u32
 }
 
 // The answer of shape Mirror.
-pub(crate) fn turn_round(round: u64, n: u32, i: u32) -> u32
+fn turn_round(round: u64, n: u32, i: u32) -> u32
     requires count { (0 < n) × (n ≤ 8) }
     requires place { i < n }
     ensures { result ≡ n - 1 - i }
@@ -299,10 +299,7 @@ fn last(_round: u64, n: u32, _i: u32) -> u32
 #[test]
 fn rounds_go_by_the_rule(rt: HostRuntime) -> Result<(), Fail> {
     let alloc = rt.alloc();
-    let orders = [
-        StoredOrder::new(OrderShape::Rotate, Box::new(alloc, turn)?),
-        StoredOrder::new(OrderShape::Mirror, Box::new(alloc, turn_round)?),
-    ];
+    let orders = [StoredOrder::rotating(), StoredOrder::mirroring()];
     check_all(&rt, alloc, &orders, &PLAIN)?;
     check_all(&rt, alloc, &orders, &SHAPED)
 }

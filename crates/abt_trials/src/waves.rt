@@ -1,12 +1,9 @@
 //! Whole runs on threads, by what their reports say.
 
-ghost use Rattle.std.specs.Prelude.{◌≡◌, ◌<◌, ◌≤◌, ◌+◌, ◌-◌, ◌%◌, length};
-
 use crate::drains::{count_steps, shared, shared_report};
-use crate::rounds::{turn, turn_round};
 use abt_check::{Verdict, check};
 use abt_generate::generate;
-use abt_machine::{OrderShape, StreamNo, UnitNo, Workload};
+use abt_machine::{StreamNo, UnitNo, Workload};
 use abt_order::StoredOrder;
 use abt_report::report;
 use abt_stream::{NoPace, Pace};
@@ -79,10 +76,7 @@ fn report_of<R: Threads + Wait + Sync, P: Pace + Sync>(
     text: &str,
 ) -> Result<Vec<u8>, Fail> {
     let w = read(alloc, text.as_bytes())?;
-    let orders = [
-        StoredOrder::new(OrderShape::Rotate, Box::new(alloc, turn)?),
-        StoredOrder::new(OrderShape::Mirror, Box::new(alloc, turn_round)?),
-    ];
+    let orders = [StoredOrder::rotating(), StoredOrder::mirroring()];
     let run = run_streams(alloc, rt, &w, &orders, pace, 10_000)?;
     let steps = count_steps(run.journal.items());
     Ok(report(alloc, &w, &run.picture, run.outcome, steps)?)
@@ -106,10 +100,7 @@ fn is_judged_a_run<R: Threads + Wait + Sync>(
     alloc: Global,
     w: &Workload,
 ) -> Result<bool, Fail> {
-    let orders = [
-        StoredOrder::new(OrderShape::Rotate, Box::new(alloc, turn)?),
-        StoredOrder::new(OrderShape::Mirror, Box::new(alloc, turn_round)?),
-    ];
+    let orders = [StoredOrder::rotating(), StoredOrder::mirroring()];
     let run = run_streams(alloc, rt, w, &orders, &NoPace, 10_000)?;
     Ok(check(alloc, w, &orders, &run.journal)? == Verdict::Run)
 }

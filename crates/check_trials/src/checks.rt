@@ -1,10 +1,10 @@
 //! Journals of worked runs, and journals that differ from them.
 
-ghost use Rattle.std.specs.Prelude.{◌≡◌, ◌<◌, ◌≤◌, ◌+◌, ◌-◌, ◌%◌, length};
+ghost use Rattle.std.specs.Prelude.{◌≡◌, ◌<◌, ◌≤◌, length};
 
 use abt_check::{Verdict, check};
 use abt_machine::{OrderShape, Workload};
-use abt_order::{StoredOrder, mirror, rotate};
+use abt_order::StoredOrder;
 use abt_report::read_journal;
 use abt_workload::read;
 use std::alloc::{AllocError, Global};
@@ -151,22 +151,12 @@ static FREE_CASES: [Case; 1] = [Case {
     ],
 }];
 
-// The answer of shape Rotate. A value may be made of a function of this crate alone.
-pub(crate) fn turn(round: u64, n: u32, i: u32) -> u32
-    requires count { (0 < n) × (n ≤ 8) }
-    requires place { i < n }
-    ensures { result ≡ (round + i) % n }
+// The first place, whatever place is asked for. A value may be made of a function of this crate alone.
+pub(crate) fn first(_round: u64, n: u32, _i: u32) -> u32
+    requires { 0 < n }
+    ensures { result ≡ 0 }
 {
-    rotate(round, n, i)
-}
-
-// The answer of shape Mirror.
-pub(crate) fn turn_round(round: u64, n: u32, i: u32) -> u32
-    requires count { (0 < n) × (n ≤ 8) }
-    requires place { i < n }
-    ensures { result ≡ n - 1 - i }
-{
-    mirror(round, n, i)
+    0
 }
 
 // The text of the first lines, so many of them, and of those that follow.
@@ -227,10 +217,7 @@ fn are_judged(
 #[test]
 fn journals_are_judged(rt: HostRuntime) -> Result<(), Fail> {
     let alloc = rt.alloc();
-    let orders = [
-        StoredOrder::new(OrderShape::Rotate, Box::new(alloc, turn)?),
-        StoredOrder::new(OrderShape::Mirror, Box::new(alloc, turn_round)?),
-    ];
+    let orders = [StoredOrder::rotating(), StoredOrder::mirroring()];
     are_judged(&rt, alloc, &orders, &CASES)
 }
 
@@ -238,8 +225,8 @@ fn journals_are_judged(rt: HostRuntime) -> Result<(), Fail> {
 fn free_orders_are_not_called(rt: HostRuntime) -> Result<(), Fail> {
     let alloc = rt.alloc();
     let orders = [
-        StoredOrder::new(OrderShape::Free, Box::new(alloc, turn)?),
-        StoredOrder::new(OrderShape::Free, Box::new(alloc, turn_round)?),
+        StoredOrder::new(OrderShape::Free, Box::new(alloc, first)?),
+        StoredOrder::new(OrderShape::Free, Box::new(alloc, first)?),
     ];
     are_judged(&rt, alloc, &orders, &FREE_CASES)
 }

@@ -3,7 +3,7 @@
 ghost use Rattle.std.specs.Prelude.{◌≤◌, length};
 
 use crate::changes::{Change, changes, has, parts};
-use crate::checks::{turn, turn_round};
+use crate::checks::first;
 use abt_check::{Verdict, check};
 use abt_machine::{OrderShape, Workload};
 use abt_order::StoredOrder;
@@ -244,10 +244,7 @@ fn are_judged(
 #[test]
 fn changed_journals_are_judged(rt: HostRuntime) -> Result<(), Fail> {
     let alloc = rt.alloc();
-    let orders = [
-        StoredOrder::new(OrderShape::Rotate, Box::new(alloc, turn)?),
-        StoredOrder::new(OrderShape::Mirror, Box::new(alloc, turn_round)?),
-    ];
+    let orders = [StoredOrder::rotating(), StoredOrder::mirroring()];
     for case in &CASES {
         are_judged(&rt, alloc, &orders, case)?;
     }
@@ -257,10 +254,7 @@ fn changed_journals_are_judged(rt: HostRuntime) -> Result<(), Fail> {
 #[test]
 fn changed_journals_of_locks_are_judged(rt: HostRuntime) -> Result<(), Fail> {
     let alloc = rt.alloc();
-    let orders = [
-        StoredOrder::new(OrderShape::Rotate, Box::new(alloc, turn)?),
-        StoredOrder::new(OrderShape::Mirror, Box::new(alloc, turn_round)?),
-    ];
+    let orders = [StoredOrder::rotating(), StoredOrder::mirroring()];
     for case in &LOCK_CASES {
         are_judged(&rt, alloc, &orders, case)?;
     }
@@ -271,8 +265,8 @@ fn changed_journals_of_locks_are_judged(rt: HostRuntime) -> Result<(), Fail> {
 fn changed_journals_of_free_orders_are_judged(rt: HostRuntime) -> Result<(), Fail> {
     let alloc = rt.alloc();
     let orders = [
-        StoredOrder::new(OrderShape::Free, Box::new(alloc, turn)?),
-        StoredOrder::new(OrderShape::Free, Box::new(alloc, turn_round)?),
+        StoredOrder::new(OrderShape::Free, Box::new(alloc, first)?),
+        StoredOrder::new(OrderShape::Free, Box::new(alloc, first)?),
     ];
     for case in &FREE_CASES {
         are_judged(&rt, alloc, &orders, case)?;

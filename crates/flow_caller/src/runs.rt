@@ -13,8 +13,8 @@ ghost use Rattle.flow_caller.specs.Wavefronts.{IsWavefront, wavefront};
 use crate::nodes::{Node, mesh};
 use crate::sums::chain;
 use crate::wavefronts::wavefront;
-use abt_machine::{OrderShape, Outcome, Piece, Want};
-use abt_order::{StoredOrder, mirror, rotate};
+use abt_machine::{Outcome, Piece, Want};
+use abt_order::StoredOrder;
 use abt_report::Row;
 use abt_stream::NoPace;
 use abt_waves::run_streams;
@@ -67,10 +67,7 @@ pub fn numbers_on_threads<R: Threads + Wait + Sync>(
 {
     let w = mesh(alloc, nodes)?;
     // No scheduler of a mesh has a stored order, but a run is passed two.
-    let orders = [
-        StoredOrder::new(OrderShape::Rotate, Box::new(alloc, turn)?),
-        StoredOrder::new(OrderShape::Mirror, Box::new(alloc, turn_round)?),
-    ];
+    let orders = [StoredOrder::rotating(), StoredOrder::mirroring()];
     let run = run_streams(alloc, rt, &w, &orders, &NoPace, STEPS)?;
     match run.outcome {
         Outcome::Finished => Ok(Some(numbers(alloc, run.picture.items())?)),
@@ -99,22 +96,4 @@ fn number(row: &Row) -> u64
         [Piece::Number(n)] => *n,
         _ => unreachable!(),
     }
-}
-
-// The answer of shape Rotate. A value may be made of a function of this crate alone.
-fn turn(round: u64, n: u32, i: u32) -> u32
-    requires count { (0 < n) × (n ≤ 8) }
-    requires place { i < n }
-    ensures { result ≡ (round + i) % n }
-{
-    rotate(round, n, i)
-}
-
-// The answer of shape Mirror.
-fn turn_round(round: u64, n: u32, i: u32) -> u32
-    requires count { (0 < n) × (n ≤ 8) }
-    requires place { i < n }
-    ensures { result ≡ n - 1 - i }
-{
-    mirror(round, n, i)
 }

@@ -1,10 +1,8 @@
 //! A run over one lock round all objects, by what its report says.
 
-ghost use Rattle.std.specs.Prelude.{◌≡◌, ◌<◌, ◌≤◌, ◌+◌, ◌-◌, ◌%◌};
-
 use crate::hall::run_in_hall;
-use abt_machine::{Event, OrderShape, What};
-use abt_order::{StoredOrder, mirror, rotate};
+use abt_machine::{Event, What};
+use abt_order::StoredOrder;
 use abt_report::report;
 use abt_stream::NoPace;
 use abt_workload::read;
@@ -23,24 +21,6 @@ const SHARED: &str =
 const SHARED_REPORT: &str =
     "unit 0 done:\nunit 1 done:\nunit 2 done: 2\ntally units 3 unborn 0 pool 0 stream 0 blocked 0 done 3 asked 0 access 0 steps 16\nfinished\n";
 
-// The answer of shape Rotate. A value may be made of a function of this crate alone.
-fn turn(round: u64, n: u32, i: u32) -> u32
-    requires count { (0 < n) × (n ≤ 8) }
-    requires place { i < n }
-    ensures { result ≡ (round + i) % n }
-{
-    rotate(round, n, i)
-}
-
-// The answer of shape Mirror.
-fn turn_round(round: u64, n: u32, i: u32) -> u32
-    requires count { (0 < n) × (n ≤ 8) }
-    requires place { i < n }
-    ensures { result ≡ n - 1 - i }
-{
-    mirror(round, n, i)
-}
-
 // How many events are steps.
 fn count_steps(events: &[Event]) -> u64 {
     events
@@ -52,10 +32,7 @@ fn count_steps(events: &[Event]) -> u64 {
 // The report of a run in a hall.
 fn report_of<R: Threads + Wait + Sync>(rt: &R, alloc: Global) -> Result<Vec<u8>, Fail> {
     let w = read(alloc, SHARED.as_bytes())?;
-    let orders = [
-        StoredOrder::new(OrderShape::Rotate, Box::new(alloc, turn)?),
-        StoredOrder::new(OrderShape::Mirror, Box::new(alloc, turn_round)?),
-    ];
+    let orders = [StoredOrder::rotating(), StoredOrder::mirroring()];
     let run = run_in_hall(alloc, rt, &w, &orders, &NoPace, 10_000)?;
     let steps = count_steps(run.journal.items());
     Ok(report(alloc, &w, &run.picture, run.outcome, steps)?)
