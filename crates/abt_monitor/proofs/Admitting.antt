@@ -3,14 +3,11 @@
 use Rattle.std.proofs.Common.{◌≡◌, ◌<◌, ℕ, List, [], ◌∷◌, ◌++◌, Option, None, Some, length, slice_set, ap, ◌∙◌, append_assoc, get_or, get_or-set_same}
 use Rattle.std.proofs.lemmas.List.{append-nil, length-set, set-set}
 use Rattle.std.proofs.lemmas.Option.{slice_get-get_or}
-use Rattle.std.specs.Prelude.{Box, slice_get}
-use Rattle.std.specs.declared.alloc.Global.{Global}
-use Rattle.abt_machine.specs.Acts.{Broadcast, Rested, Signal}
+use Rattle.std.specs.Prelude.{slice_get}
+use Rattle.abt_machine.specs.Acts.{Answer, Broadcast, Given, Rested, Signal}
 use Rattle.abt_machine.specs.Monitors.{MonitorGives, after_broadcast, after_signal, all_admitted, at_condition, rest, with_condition}
 use Rattle.abt_machine.specs.Queues.{first_alone}
 use Rattle.abt_machine.specs.Values.{MonitorValue, Owned}
-use Rattle.abt_unit.specs.Units.{UnitValue}
-use Rattle.abt_chain.specs.Results.{given_or}
 use Rattle.abt_monitor.proofs.Conditions.{length-after_signal}
 
 -- units that are admitted at a held mutex wait behind the others
@@ -40,9 +37,10 @@ drained-after_signal : (m : MonitorValue) (k : ℕ) → k < length m.conds → d
 drained-after_signal m k within = drained-by m.owner (at_condition k m) m.number k m.waiters m.conds within
 
 -- however a signal is answered, the monitor is afterwards what it makes of it
-after_signal-is : (k : ℕ) (old new : MonitorValue) (woken : Option (Box UnitValue Global)) → MonitorGives old (Signal k) (given_or Rested woken) new → new ≡ after_signal k old
-after_signal-is k old new None gives = gives.1
-after_signal-is k old new (Some unit) gives = gives.1
+after_signal-is : (k : ℕ) (old new : MonitorValue) (answer : Answer) → MonitorGives old (Signal k) answer new → new ≡ after_signal k old
+after_signal-is k old new (Given o) h = h.1
+after_signal-is k old new Rested h = h.1
+after_signal-is k old new answer h = absurd h
 
 -- the monitor after a signal and the move of the others, by the parts that the move changes
 after_broadcast-by : (k : ℕ) (old mid : MonitorValue) (others waiters left : List Owned) → mid ≡ after_signal k old → k < length old.conds → others ≡ get_or mid.conds k others → waiters ≡ mid.waiters ++ others → left ≡ [] → record mid { waiters = waiters; conds = slice_set mid.conds k left } ≡ after_broadcast k old
@@ -52,11 +50,12 @@ after_broadcast-by k old mid others waiters left signalled within there moved no
     rw (moved, none, ← at, signalled) (drained-after_signal old k within)
 
 -- a broadcast wakes whom a signal wakes
-broadcast-by : (k : ℕ) (old mid new : MonitorValue) (woken : Option (Box UnitValue Global)) → MonitorGives old (Signal k) (given_or Rested woken) mid → new ≡ after_broadcast k old → MonitorGives old (Broadcast k) (given_or Rested woken) new
-broadcast-by k old mid new None gives after = (gives.0, after)
-broadcast-by k old mid new (Some unit) gives after = (gives.0, after)
+broadcast-of : (k : ℕ) (old mid new : MonitorValue) (answer : Answer) → new ≡ after_broadcast k old → MonitorGives old (Signal k) answer mid → MonitorGives old (Broadcast k) answer new
+broadcast-of k old mid new (Given o) after h = (h.0, after)
+broadcast-of k old mid new Rested after h = (h.0, after)
+broadcast-of k old mid new answer after h = absurd h
 
--- a signal and the move of the others are a broadcast
-pub broadcast-gives : (k : ℕ) (old mid seen : MonitorValue) (woken : Option (Box UnitValue Global)) (others waiters left : List Owned) → MonitorGives old (Signal k) (given_or Rested woken) mid → seen ≡ mid → k < length old.conds → others ≡ get_or seen.conds k others → waiters ≡ seen.waiters ++ others → left ≡ [] → MonitorGives old (Broadcast k) (given_or Rested woken) (record seen { waiters = waiters; conds = slice_set seen.conds k left })
-broadcast-gives k old mid seen woken others waiters left gives is within there moved none =
-    broadcast-by k old mid _ woken gives (after_broadcast-by k old seen others waiters left (is ∙ after_signal-is k old mid woken gives) within there moved none)
+-- a signal, and then the move of the others
+pub broadcast-is : (k : ℕ) (old mid seen : MonitorValue) (answer : Answer) (others waiters left : List Owned) → MonitorGives old (Signal k) answer mid → seen ≡ mid → k < length old.conds → others ≡ get_or seen.conds k others → waiters ≡ seen.waiters ++ others → left ≡ [] → MonitorGives old (Broadcast k) answer (record seen { waiters = waiters; conds = slice_set seen.conds k left })
+broadcast-is k old mid seen answer others waiters left signalled is within there moved none =
+    broadcast-of k old mid _ answer (after_broadcast-by k old seen others waiters left (is ∙ after_signal-is k old mid answer signalled) within there moved none) signalled

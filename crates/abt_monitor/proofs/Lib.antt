@@ -1,4 +1,4 @@
-mod Admitting
+pub mod Admitting
 pub mod Conditions
 pub mod Kept
 pub mod Served

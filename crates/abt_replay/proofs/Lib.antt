@@ -1,4 +1,3 @@
-mod Admitting
 pub mod Answered
 pub mod Asking
 pub mod Classes

@@ -1,5 +1,5 @@
 use Rattle.abt_replay.specs.Acts.{answer_of}
-use Rattle.abt_replay.proofs.Admitting.{broadcast-is}
+use Rattle.abt_monitor.proofs.Admitting.{broadcast-is}
 use Rattle.abt_replay.proofs.monitors.Monitor.broadcast.Goals as goal
 
 pub returns : goal.returns
