@@ -93,7 +93,7 @@ fn piece(w: &Workload, u: UnitNo, at: u32) -> Option<Piece>
     requires { u.0 < length w.now.units }
     ensures { IfSome result (IsPieceOf w.now) }
 {
-    let _valid = w.streams();
+    w.known();
     match w.op(u, at) {
         Some(Op::Say(word)) => Some(Piece::Said(word)),
         _ => None,

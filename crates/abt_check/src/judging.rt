@@ -49,8 +49,7 @@ fn judge(alloc: Global, w: &Workload, z: &[OrderShape], journal: &Journal) -> Re
     requires { 2 ≤ length z.now }
     ensures { IfOk result (IsJudged w.now z.now journal.now) }
 {
-    // The count is of no use here, but its contract says that the workload is valid.
-    w.streams();
+    w.known();
     let mut judge = Judge::start(alloc, w)?;
     for (at, event) in journal.items().iter().enumerate() {
         if !judge.follow(w, z, *event)? {

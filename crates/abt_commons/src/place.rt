@@ -106,8 +106,7 @@ fn put<'w>(w: &'w Workload, u: UnitNo, p: PoolNo, unit: Box<Unit>, ones: &mut Ve
     requires before { ones.old.items ≡ placed_units w.now u.0 }
     ensures { ones.new.items ≡ units_in_pools w.now (u.0 + 1) u.0 }
 {
-    // The count is of no use here, but its contract says that the workload is valid.
-    w.streams();
+    w.known();
     ones[p.0 as usize].run(Act::Put(unit));
 }
 
@@ -129,8 +128,7 @@ fn placed_thing(alloc: Global, w: &Workload, x: ObjectNo) -> Result<Shared, Want
     requires { x.0 < length w.now.objects }
     ensures { IfOk result (λ shared. object_in shared ≡ thing_object w.now x.0 (thing_at w.now x.0)) }
 {
-    // The count is of no use here, but its contract says that the workload is valid.
-    w.streams();
+    w.known();
     Ok(match w.thing(x) {
         Thing::Mutex => Shared::Monitor(Monitor::new(alloc, conditions(w, x))?),
         Thing::Cond(_) => Shared::WithItsMutex,

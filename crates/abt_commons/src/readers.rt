@@ -139,8 +139,7 @@ impl<'w> Objects<'w> {
         ensures none { IfNone result (HoldNone self.now u.0) }
         ensures held { IfSome result (λ found. IsHeldAs self.now u.0 (found.0, found.1.now.owned)) }
     {
-        // The count is of no use here, but its contract says that the workload is valid.
-        self.w.streams();
+        self.w.known();
         match self.in_pools(u) {
             Some(found) => Some(found),
             None => match self.at_desks(u) {
@@ -224,8 +223,7 @@ impl<'w> Objects<'w> {
         requires { IsCondition self.now.workload x.0 }
         ensures { find (is_unit u.0) (waiters_at_thing self.now x.0) ≡ unit_found result }
     {
-        // The count is of no use here, but its contract says that the workload is valid.
-        self.w.streams();
+        self.w.known();
         let (mutex, cond) = self.w.cond(x);
         self.ones[thing_number(self.w, mutex)].condition_waiter(cond, u)
     }

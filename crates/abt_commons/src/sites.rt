@@ -39,8 +39,7 @@ pub(crate) fn site_at(w: &Workload, number: usize) -> Option<Site>
     requires { number < sites w.now }
     ensures { result ≡ site_at w.now number }
 {
-    // The count is of no use here, but its contract says that the workload is valid.
-    w.streams();
+    w.known();
     let pools = w.pools() as usize;
     if number < pools {
         return Some(Site::Pool(PoolNo(number as u32)));

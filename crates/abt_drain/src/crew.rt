@@ -63,8 +63,7 @@ impl<'w> Crew<'w> {
         ensures fresh { IfOk result (λ crew. (s : ℕ) → s < w.now.streams → IsFresh (moment_in w.now crew) s) }
         ensures awake { IfOk result (λ crew. IsAwake w.now (moment_in w.now crew)) }
     {
-        // The count is of no use here, but its contract says that the workload is valid.
-        w.streams();
+        w.known();
         let streams = start_streams(alloc, w, steps)?;
         let (plain, pass) = Plain::make(Objects::place(alloc, w)?);
         Ok(Crew {
@@ -210,8 +209,7 @@ fn advance<'w, P: Pace>(
     ensures within { OnOk result (steps_in stream.new.log ≤ stream.new.budget) }
     ensures pass { OnOk result (pass.new.workload ≡ w.now) }
 {
-    // The count is of no use here, but its contract says that the workload is valid.
-    w.streams();
+    w.known();
     stream.prepare(w, orders)?;
     let turn = stream.turn(plain, pass, w, pace);
     // The log is of no use here, but its contract says that it has no more steps than the stream may make.

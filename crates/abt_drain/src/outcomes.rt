@@ -23,8 +23,7 @@ pub fn outcome<'w>(
     ensures ended { EndedWith w.now steps streams.now objects.now result }
     ensures run { IsOutcomeOfRuns w.now steps streams.now objects.now result }
 {
-    // The count is of no use here, but its contract says that the workload is valid.
-    w.streams();
+    w.known();
     seen(w, objects, streams, steps)
 }
 
@@ -84,8 +83,7 @@ pub fn has_empty_pools<'w>(w: &Workload, objects: &Objects<'w>, s: StreamNo) -> 
     requires objects { objects.now.workload ≡ w.now }
     ensures { IsTrue result ↔ HasEmptyPools w.now objects.now s.0 }
 {
-    // The count is of no use here, but its contract says that the workload is valid.
-    w.streams();
+    w.known();
     for p in w.sched(w.main(s)).pools.items() {
         if !objects.pool_is_empty(*p) {
             return false;

@@ -30,8 +30,7 @@ pub fn picture<'w>(
     ensures units { IfOk result (ShowsUnits w.now streams.items objects.entry) }
     ensures words { IfOk result (All (SaysWordsOf w.now)) }
 {
-    // The count is of no use here, but its contract says that the workload is valid.
-    w.streams();
+    w.known();
     let mut rows = blanks(alloc, w.units())?;
     let groups = objects.into_groups(alloc)?;
     place_streams(w, streams, &mut rows);
@@ -60,8 +59,7 @@ fn place_streams(w: &Workload, streams: Vec<StreamParts>, rows: &mut Vec<Row>)
     requires rows { length rows.old.items ≡ length w.now.units }
     ensures { rows.new.items ≡ placed (rows_left 0 streams.items) rows.old.items }
 {
-    // The count is of no use here, but its contract says that the workload is valid.
-    w.streams();
+    w.known();
     let mut s = 0;
     for parts in streams {
         place_parts(Shown::Stream(StreamNo(s)), parts, rows);

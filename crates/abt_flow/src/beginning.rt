@@ -65,8 +65,7 @@ fn wait_at(waiting: &mut Vec<Vec<UnitNo>>, w: &Workload, u: UnitNo, k: u32) -> R
     ensures longer { IfOk result (λ _. Longer waiting.old.items waiting.new.items) }
     ensures waited { IfOk result (λ _. HasWaited w.now waiting.new.items u.0 (k + 1)) }
 {
-    // The count is of no use here, but its contract says that the workload is valid.
-    w.streams();
+    w.known();
     match awaited_at(w, u, k) {
         Some(x) => {
             waiting[x.0 as usize].push(u)?;
@@ -101,8 +100,7 @@ pub(crate) fn wait_lists(
     ensures listed { IfOk result (λ waiting. Listed w.now waiting.items) }
     ensures waited { IfOk result (λ waiting. (v : UnitNo) → Contains reached.now v → HasWaitedAll w.now waiting.items v.0) }
 {
-    // The count is of no use here, but its contract says that the workload is valid.
-    w.streams();
+    w.known();
     let mut waiting = no_lists(alloc, w)?;
     for u in reached {
         wait_unit(&mut waiting, w, *u)?;

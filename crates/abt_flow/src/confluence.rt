@@ -94,8 +94,7 @@ fn is_plain_at(w: &Workload, u: UnitNo, k: u32) -> bool
     requires { u.0 < length w.now.units }
     ensures { IsTrue result ↔ IsPlainAt w.now u.0 k }
 {
-    // The count is of no use here, but its contract says that the workload is valid.
-    w.streams();
+    w.known();
     match w.op(u, k) {
         Some(op) => is_plain(w, op),
         None => true,

@@ -65,8 +65,7 @@ pub fn find_flow(alloc: Global, w: &Workload) -> Result<Option<Flow>, Want>
     requires { Confluent w.now }
     ensures { IfOk result (λ flow. MatchOption flow ((rows : List (List Piece)) → IsFlow w.now rows → ⊥) (IsFlow w.now)) }
 {
-    // The count is of no use here, but its contract says that the workload is valid.
-    w.streams();
+    w.known();
     let Reached { units, marks } = Reached::find(alloc, w)?;
     let mut table = Table::make(alloc, w, units)?;
     table.run_all(w)?;

@@ -41,8 +41,7 @@ pub(crate) fn ops_count(w: &Workload, u: UnitNo) -> u32
     requires { u.0 < length w.now.units }
     ensures { result ≡ length (ops_of (body_at w.now u.0)) }
 {
-    // The count is of no use here, but its contract says that the workload is valid.
-    w.streams();
+    w.known();
     w.unit(u).body.ops().len() as u32
 }
 
@@ -58,8 +57,7 @@ fn mark(w: &Workload, naming: Naming, u: UnitNo, k: u32, seen: &mut [bool]) -> b
     let Some(x) = naming.of(op) else {
         return true;
     };
-    // The count is of no use here, but its contract says that the workload is valid.
-    w.streams();
+    w.known();
     let x = x as usize;
     if seen[x] {
         return false;

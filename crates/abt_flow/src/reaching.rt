@@ -53,8 +53,7 @@ impl Reached {
         ensures grows { IfOk result (λ _. Grows self.old.units.items self.old.marks.items self.new.units.items self.new.marks.items) }
         ensures marked { IfOk result (λ _. HasMarked w.now self.new.marks.items u.0 (k + 1)) }
     {
-        // The count is of no use here, but its contract says that the workload is valid.
-        w.streams();
+        w.known();
         match created_at(w, u, k) {
             Some(v) => self.add(v),
             None => Ok(()),
@@ -113,8 +112,7 @@ impl Reached {
         ensures grows { IfOk result (λ _. Grows self.old.units.items self.old.marks.items self.new.units.items self.new.marks.items) }
         ensures closed { IfOk result (λ _. IsClosedBelow w.now self.new.units.items self.new.marks.items (at + 1)) }
     {
-        // The count is of no use here, but its contract says that the workload is valid.
-        w.streams();
+        w.known();
         let count = self.units.len();
         if count <= at {
             return Ok(());

@@ -48,8 +48,7 @@ impl Table {
         ensures work { work self.new ≡ work self.old }
         ensures more { MatchBool result (executed self.new.units.items ≡ executed self.old.units.items + 1) (Rests w.now self.new.units.items self.new.values.items u.0) }
     {
-        // The count is of no use here, but its contract says that the workload is valid.
-        w.streams();
+        w.known();
         match self.values[x.0 as usize] {
             None => false,
             Some(value) => {
@@ -69,8 +68,7 @@ impl Table {
         ensures work { IfOk result (λ _. work self.new ≡ work self.old) }
         ensures more { IfOk result (λ _. executed self.new.units.items ≡ executed self.old.units.items + 1) }
     {
-        // The count is of no use here, but its contract says that the workload is valid.
-        w.streams();
+        w.known();
         let i = x.0 as usize;
         self.ready.extend_from_slice(&self.waiting[i])?;
         self.waiting[i].clear();
@@ -90,8 +88,7 @@ impl Table {
         ensures work { IfOk result (λ _. work self.new ≡ work self.old) }
         ensures more { IfOk result (λ _. executed self.new.units.items ≡ executed self.old.units.items + 1) }
     {
-        // The count is of no use here, but its contract says that the workload is valid.
-        w.streams();
+        w.known();
         self.units[u.0 as usize].compute(op)
     }
 
@@ -101,8 +98,7 @@ impl Table {
         requires runs { Runs w.now u.0 self.now }
         ensures { MatchOption result (IsOver w.now self.now.units.items u.0) (IsNext w.now self.now.units.items u.0) }
     {
-        // The count is of no use here, but its contract says that the workload is valid.
-        w.streams();
+        w.known();
         w.op(u, self.units[u.0 as usize].position)
     }
 

@@ -92,8 +92,15 @@ impl Workload {
         Workload { parts }
     }
 
-    /// The number of streams. Here a caller learns too that the parts are valid, and so that what they
-    /// name is declared.
+    /// Computes nothing: here a caller learns that the parts are valid, and so that what they name is
+    /// declared.
+    pub fn known(&self)
+        ensures { IsValid self.now }
+    {
+        let _ = &self.parts;
+    }
+
+    /// The number of streams. The parts are valid.
     pub fn streams(&self) -> u32
         ensures count { result ≡ self.now.streams }
         ensures valid { IsValid self.now }

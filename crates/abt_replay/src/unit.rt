@@ -55,8 +55,7 @@ impl Unit {
         requires { u.0 < length w.now.units }
         ensures { IfOk result (λ unit. unit ≡ owned_at (start w.now) u.0) }
     {
-        // The count is of no use here, but its contract says that the workload is valid.
-        w.streams();
+        w.known();
         let load = Load {
             number: u,
             position: 0,

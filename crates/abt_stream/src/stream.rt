@@ -113,8 +113,7 @@ impl Stream {
         ensures order { IfOk result (λ r. r.order ≡ []) }
         ensures fits { IfOk result (FitsStream w.now) }
     {
-        // The count is of no use here, but its contract says that the workload is valid.
-        w.streams();
+        w.known();
         let top = Frame {
             scheduler: Scheduler::new(w, w.main(s)),
             round: 0,
@@ -157,8 +156,7 @@ impl Stream {
         ensures pass { C.is_of commons.now pass.new }
         ensures number { C.number pass.new ≡ C.number pass.old }
     {
-        // The count is of no use here, but its contract says that the workload is valid.
-        w.streams();
+        w.known();
         if !self.tray.is_empty() {
             return self.put(commons, pass);
         }
@@ -175,8 +173,7 @@ impl Stream {
         requires fits { FitsStream w.now self.now }
         ensures { IsTrue result ↔ IsSpent w.now self.now }
     {
-        // The count is of no use here, but its contract says that the workload is valid.
-        w.streams();
+        w.known();
         !self.may_step() && self.tray.is_empty() && self.has_step(w)
     }
 

@@ -52,8 +52,7 @@ pub(crate) fn start<'w>(
     requires orders { 2 ≤ length orders.now }
     ensures { (lives : List Life) → IfOk result (λ j. HasLedTo w.now (shapes_of orders.now) steps lives j.objects j.streams.items j.journal.items j.waves.items) }
 {
-    // The count is of no use here, but its contract says that the workload is valid.
-    w.streams();
+    w.known();
     let streams = start_streams(alloc, w, steps)?;
     let objects = Objects::place(alloc, w)?;
     Ok(Journey {

@@ -25,8 +25,7 @@ pub(crate) fn outcome_on<'w>(
     requires lives { AreLives w.now lives.now }
     ensures { IsOutcomeOnLives w.now lives.now steps streams.now objects.now result }
 {
-    // The count is of no use here, but its contract says that the workload is valid.
-    w.streams();
+    w.known();
     if let Some(outcome) = outcome(w, objects, streams, steps) {
         return Some(outcome);
     }

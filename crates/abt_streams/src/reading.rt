@@ -120,8 +120,7 @@ fn read_life(
 ) -> Result<Option<Life>, Want>
     ensures { IfOk result (Reads (MayFollow w.now before.now) life_line line.now) }
 {
-    // The count is of no use here, but its contract says that the workload is valid.
-    w.streams();
+    w.known();
     let Some(life) = guess(line) else {
         return Ok(None);
     };
@@ -145,8 +144,7 @@ pub fn read_lives(alloc: Global, w: &Workload, bytes: &[u8]) -> Result<Lives, No
     ensures text { IfOk result (λ lives. lives_text lives ≡ bytes.now) }
     ensures cause { IfErr result (IsCause w.now bytes.now) }
 {
-    // The count is of no use here, but its contract says that the workload is valid.
-    w.streams();
+    w.known();
     let mut lives = Vec::new(alloc);
     let mut text = Vec::new(alloc);
     let mut rest = bytes;

@@ -101,8 +101,7 @@ fn check_words(rt: &impl Abort, w: &Workload)
     let Some(Op::Say(1)) = w.op(UnitNo(0), 1) else {
         panic!(rt; "unit 0 says two words");
     };
-    // The count is of no use here, but its contract says that the workload is valid.
-    w.streams();
+    w.known();
 }
 
 // A unit there that put out nothing.

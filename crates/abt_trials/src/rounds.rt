@@ -173,8 +173,7 @@ fn tried(rt: &impl Abort, w: &Workload) -> Scheduler
     ensures round { result.round ≡ 0 }
 {
     assert!(rt; TRIED < w.scheds());
-    // The count is of no use here, but its contract says that the workload is valid.
-    w.streams();
+    w.known();
     Scheduler::new(w, SchedNo(TRIED))
 }
 

@@ -199,8 +199,7 @@ fn first_once(round: u64, n: u32, _i: u32) -> u32
 fn check_orders(w: &Workload)
     ensures { (g : ℕ) → IsStored w.now g 2 }
 {
-    // The count is of no use here, but its contract says that the workload is valid.
-    w.streams();
+    w.known();
 }
 
 // What the next turn needs. If memory is refused it is asked for once more: the stream is as it was.

@@ -86,8 +86,7 @@ impl Unit {
         ensures fits { IfOk result (λ unit. Fits w.now unit.value.owned) }
         ensures free { IfOk result (λ unit. IsFree unit.value) }
     {
-        // The count is of no use here, but its contract says that the workload is valid.
-        w.streams();
+        w.known();
         let body = UnitBody {
             number: u,
             position: 0,
@@ -172,8 +171,7 @@ impl Unit {
         ensures room { self.old.spare ≤ self.new.spare + 1 }
         ensures behind { self.new.behind ≡ self.old.behind }
     {
-        // The count is of no use here, but its contract says that the workload is valid.
-        w.streams();
+        w.known();
         match w.op(self.number(), self.position()) {
             Some(op) => self.step(op),
             None => unreachable!(),

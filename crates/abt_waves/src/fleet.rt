@@ -56,8 +56,7 @@ impl<'w> Fleet<'w> {
         ensures workload { IfOk result (λ fleet. fleet.workload ≡ w.now) }
         ensures fleet { IfOk result (IsFleetOf L.lock L.clock w.now (O.shapes orders.now) steps) }
     {
-        // The count is of no use here, but its contract says that the workload is valid.
-        w.streams();
+        w.known();
         let streams = start_streams(alloc, w, steps)?;
         let objects = Objects::place(alloc, w)?;
         Ok(Fleet {

@@ -165,8 +165,7 @@ fn advance<P: Pace, O: Orders, C: Locked>(
     ensures gone { (first : StreamValue) → HasGone (C.locks locks.now) C.lock w.now (O.shapes orders.now) first stream.old pass.old → HasGone (C.locks locks.now) C.lock w.now (O.shapes orders.now) first stream.new pass.new }
     ensures worn { IfOk result (λ t. t ≡ turn.Worn → IsWorn (C.locks locks.now) C.lock stream.new pass.new) }
 {
-    // The count is of no use here, but its contract says that the workload is valid.
-    w.streams();
+    w.known();
     orders.prepare(stream, w)?;
     let turn = locks.turn(stream, pass, w, pace);
     // The log is of no use here, but its contract says that it has no more steps than the stream may make.

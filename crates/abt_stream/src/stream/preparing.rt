@@ -29,8 +29,7 @@ impl Stream {
         ensures kept { self.old.order ≢ [] → self.new ≡ record self.old { rooms = self.new.rooms } }
         ensures err { OnErr result (self.new ≡ record self.old { rooms = self.new.rooms }) }
     {
-        // The count is of no use here, but its contract says that the workload is valid.
-        w.streams();
+        w.known();
         if self.log.len() >= 1 << 57 {
             return Err(Want);
         }

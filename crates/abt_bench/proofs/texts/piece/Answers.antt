@@ -5,5 +5,5 @@ use Rattle.abt_bench.proofs.texts.piece.Goals as goal
 -- what a unit of a valid workload says is one of its words
 pub returns-in-Some-Say : goal.returns-in-Some-Say
 returns-in-Some-Say c =
-    let valid = c.streams-valid.ensures.valid in
+    let valid = c.known.ensures in
     (valid.units c.args.u.0 c.requires).ops c.args.at (op.Say c.in-Some-Say.word) (sym (rw c.in-Some-Say.field-0-is at c.in-Some-Say.ensures))

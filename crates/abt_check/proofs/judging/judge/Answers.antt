@@ -6,10 +6,10 @@ use Rattle.abt_check.proofs.Judged.{all-judged, bad-at, first-long, first-more, 
 use Rattle.abt_check.proofs.judging.judge.Goals as goal
 
 pub loop-at-init : goal.loop-at-init
-loop-at-init c = c.in_ok-judge.ensures c.args.z.now (orders-stored c.args.w.now c.args.z.now c.streams.ensures.valid c.requires)
+loop-at-init c = c.in_ok-judge.ensures c.args.z.now (orders-stored c.args.w.now c.args.z.now c.known.ensures c.requires)
 
 pub follow-requires-clause-stored : goal.follow-requires-clause-stored
-follow-requires-clause-stored c = orders-stored c.args.w.now c.args.z.now c.streams.ensures.valid c.requires
+follow-requires-clause-stored c = orders-stored c.args.w.now c.args.z.now c.known.ensures c.requires
 
 pub follow-requires-clause-judged : goal.follow-requires-clause-judged
 follow-requires-clause-judged c =

@@ -12,7 +12,7 @@ use Rattle.abt_drain.proofs.outcomes.has_empty_pools.Goals as goal
 pub pool_is_empty-requires : goal.pool_is_empty-requires
 pool_is_empty-requires c =
     let declared = one-declared c.args.w.now c.args.s.0 c.main.result c.sched.result.now c.items-p-items.result.now c.main.ensures c.sched.ensures c.items-p-items.ensures
-    c.streams.ensures.valid c.requires.stream c.loop-p.p-index (pool_no 0) c.loop-p-test.true in
+    c.known.ensures c.requires.stream c.loop-p.p-index (pool_no 0) c.loop-p-test.true in
     subst (λ (W : Parts). (get_or c.items-p-items.result.now c.loop-p.p-index (pool_no 0)).0 < length W.pools) (sym c.requires.objects) declared
 
 pub returns-then-not-pool_is_empty : goal.returns-then-not-pool_is_empty

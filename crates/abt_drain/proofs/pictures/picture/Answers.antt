@@ -32,7 +32,7 @@ returns-clause-units c =
     ∙ (ap (placed (rows_in c.in_ok-groups.groups.items)) (c.place_streams.ensures ∙ ap (placed (rows_left 0 streams)) (c.in_ok-rows.ensures ∙ ap (λ n. replicate n blank) c.units.ensures))
     ∙ (ap (λ rows. placed rows (placed (rows_left 0 streams) blanks)) c.in_ok-groups.ensures.rows
     ∙ sym (placed-append (rows_left 0 streams) (all_rows objects) blanks)))) in
-    subst (ShowsUnits W streams objects) (sym put) (shows-units W streams objects c.streams.ensures.valid c.requires.objects)
+    subst (ShowsUnits W streams objects) (sym put) (shows-units W streams objects c.known.ensures c.requires.objects)
 
 pub returns-clause-words : goal.returns-clause-words
 returns-clause-words c =

@@ -14,7 +14,7 @@ use Rattle.abt_flow.proofs.beginning.wait_lists.Goals as goal
 pub wait_unit-requires-clause-unit : goal.wait_unit-requires-clause-unit
 wait_unit-requires-clause-unit c =
     let l : c.loop-u.u-index < length c.args.reached.now = omega arith in
-    reached-declared c.args.w.now (get_or c.args.reached.now c.loop-u.u-index (unit_no 0)).0 c.streams.ensures.valid (c.requires (get_or c.args.reached.now c.loop-u.u-index (unit_no 0)) (Contains-get_or c.args.reached.now c.loop-u.u-index (unit_no 0) l))
+    reached-declared c.args.w.now (get_or c.args.reached.now c.loop-u.u-index (unit_no 0)).0 c.known.ensures (c.requires (get_or c.args.reached.now c.loop-u.u-index (unit_no 0)) (Contains-get_or c.args.reached.now c.loop-u.u-index (unit_no 0) l))
 
 pub loop-u-preserved : goal.loop-u-preserved
 loop-u-preserved c =

@@ -10,7 +10,7 @@ returns-then-not-is_done c rows flow =
     let stuck = c.if-not-is_done.ensures in
     let rest : AllRest c.args.w.now c.run_all.new.self = c.in_ok-run_all.ensures in
     let here : IsStuck c.args.w.now c.run_all.new.self.units.items stuck.0 = subst (λ (us : List Progress). IsStuck c.args.w.now us stuck.0) c.deref.ensures.value stuck.1 in
-    no-flow c.args.w.now c.streams.ensures.valid c.run_all.new.self.units.items c.run_all.new.self.values.items rest.0 rest.1 stuck.0 here.1.0 here.0 here.1.1 here.1.2 rows flow
+    no-flow c.args.w.now c.known.ensures c.run_all.new.self.units.items c.run_all.new.self.values.items rest.0 rest.1 stuck.0 here.1.0 here.0 here.1.1 here.1.2 rows flow
 
 pub returns : goal.returns
 returns c =

@@ -10,7 +10,7 @@ use Rattle.abt_streams.proofs.journey.start.Goals as goal
 pub returns : goal.returns
 returns g c = λ lives.
     let W = c.args.w.now in
-    let stored = orders-stored W (shapes_of c.args.orders.now) c.streams.ensures.valid (subst (λ k. 2 ≤ k) (sym (length-map c.args.orders.now _)) c.requires.orders) in
-    let under = under-way-at-start W (shapes_of c.args.orders.now) c.args.steps lives c.in_ok-objects.objects c.in_ok-streams.streams.items c.streams.ensures.valid stored c.in_ok-streams.ensures c.in_ok-objects.ensures in
+    let stored = orders-stored W (shapes_of c.args.orders.now) c.known.ensures (subst (λ k. 2 ≤ k) (sym (length-map c.args.orders.now _)) c.requires.orders) in
+    let under = under-way-at-start W (shapes_of c.args.orders.now) c.args.steps lives c.in_ok-objects.objects c.in_ok-streams.streams.items c.known.ensures stored c.in_ok-streams.ensures c.in_ok-objects.ensures in
     subst (λ J. HasLedTo W (shapes_of c.args.orders.now) c.args.steps lives c.in_ok-objects.objects c.in_ok-streams.streams.items J c.new-2.result.items) (sym c.new.ensures.items)
     (subst (λ waves. HasLedTo W (shapes_of c.args.orders.now) c.args.steps lives c.in_ok-objects.objects c.in_ok-streams.streams.items _ waves) (sym c.new-2.ensures.items) under)

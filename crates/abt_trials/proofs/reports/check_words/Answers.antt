@@ -7,4 +7,4 @@ pub returns : goal.returns
 returns g c =
     let some : 0 < length c.args.w.now.units = search rules in
     let says : op_at c.args.w.now 0 1 ≡ Some (op.Say 1) = cc in
-    (c.streams.ensures.valid.units 0 some).ops 1 (op.Say 1) says
+    (c.known.ensures.units 0 some).ops 1 (op.Say 1) says

@@ -4,4 +4,4 @@ use Rattle.abt_outcomes.proofs.Stored.{orders-stored}
 use Rattle.abt_trials.proofs.turns.check_orders.Goals as goal
 
 pub returns : goal.returns
-returns c = orders-stored c.args.w.now (shape.Free ∷ shape.Free ∷ []) c.streams.ensures.valid (omega arith)
+returns c = orders-stored c.args.w.now (shape.Free ∷ shape.Free ∷ []) c.known.ensures (omega arith)

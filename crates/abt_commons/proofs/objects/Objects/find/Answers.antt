@@ -18,7 +18,7 @@ returns-in-Some-at_desks-clause-held c =
 
 pub returns-in-Some-at_things-clause-held : goal.returns-in-Some-at_things-clause-held
 returns-in-Some-at_things-clause-held c =
-    held-waiting c.args.self.now c.args.u.0 (subst (λ (held : ObjectsValue). IsValid held.workload) c.self.view_is c.streams.ensures.valid) c.in-Some-at_things.x c.in-Some-at_things.unit.now.owned
+    held-waiting c.args.self.now c.args.u.0 (subst (λ (held : ObjectsValue). IsValid held.workload) c.self.view_is c.known.ensures) c.in-Some-at_things.x c.in-Some-at_things.unit.now.owned
     c.in-Some-at_things.ensures.found.1
 
 pub returns-in-None-at_things-clause-none : goal.returns-in-None-at_things-clause-none

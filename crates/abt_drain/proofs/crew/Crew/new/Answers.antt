@@ -11,9 +11,9 @@ use Rattle.abt_drain.proofs.crew.Crew.new.Goals as goal
 
 pub returns-clause-crew : goal.returns-clause-crew
 returns-clause-crew g c =
-    let stored : OrdersStored c.args.w.now (shapes_of c.args.orders.now) = orders-stored c.args.w.now (shapes_of c.args.orders.now) c.streams.ensures.valid (subst (λ k. 2 ≤ k) (sym (length-map c.args.orders.now _)) c.requires.orders) in
+    let stored : OrdersStored c.args.w.now (shapes_of c.args.orders.now) = orders-stored c.args.w.now (shapes_of c.args.orders.now) c.known.ensures (subst (λ k. 2 ≤ k) (sym (length-map c.args.orders.now _)) c.requires.orders) in
     crew-started c.args.w.now c.args.steps c.in_ok-streams.streams.items c.make-plain.result.1 c.in_ok-streams.ensures (subst (ArePlaced c.args.w.now) (sym c.make-plain.ensures.pass) c.in_ok-place.ensures)
-    (shapes_of c.args.orders.now) c.streams.ensures.valid stored
+    (shapes_of c.args.orders.now) c.known.ensures stored
 
 pub returns-clause-fresh : goal.returns-clause-fresh
 returns-clause-fresh g c =

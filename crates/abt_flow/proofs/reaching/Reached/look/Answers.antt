@@ -7,7 +7,7 @@ use Rattle.abt_flow.proofs.reaching.Reached.look.Goals as goal
 
 pub add_all_created-requires-clause-unit : goal.add_all_created-requires-clause-unit
 add_all_created-requires-clause-unit c =
-    reached-declared c.args.w.now c.index-u.result.now.0 c.streams.ensures.valid (c.requires.finds.reached c.index-u.result.now (c.args.at, (let l : c.args.at < length c.args.self.now.units.items = omega arith in l), sym c.index-u.ensures))
+    reached-declared c.args.w.now c.index-u.result.now.0 c.known.ensures (c.requires.finds.reached c.index-u.result.now (c.args.at, (let l : c.args.at < length c.args.self.now.units.items = omega arith in l), sym c.index-u.ensures))
 
 pub returns-clause-closed : goal.returns-clause-closed
 returns-clause-closed c =

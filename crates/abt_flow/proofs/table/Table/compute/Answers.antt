@@ -13,31 +13,31 @@ use Rattle.abt_flow.proofs.table.Table.compute.Goals as goal
 
 pub index_mut-requires : goal.index_mut-requires
 index_mut-requires c =
-    let below : c.args.u.0 < length c.args.self.now.units.items = unit-there c.args.w.now c.args.u.0 c.args.self.now c.streams.ensures.valid c.requires.reached c.requires.runs in
+    let below : c.args.u.0 < length c.args.self.now.units.items = unit-there c.args.w.now c.args.u.0 c.args.self.now c.known.ensures c.requires.reached c.requires.runs in
     omega arith
 
 pub compute-requires-clause-room : goal.compute-requires-clause-room
 compute-requires-clause-room c =
-    let below : c.args.u.0 < length c.args.self.now.units.items = unit-there c.args.w.now c.args.u.0 c.args.self.now c.streams.ensures.valid c.requires.reached c.requires.runs in
+    let below : c.args.u.0 < length c.args.self.now.units.items = unit-there c.args.w.now c.args.u.0 c.args.self.now c.known.ensures c.requires.reached c.requires.runs in
     let at : slice_get c.args.self.now.units.items c.args.u.0 ≡ Some c.index_mut.result.now = read-at c.args.self.now.units.items c.args.u.0 c.index_mut.result.now below c.index_mut.ensures.value in
-    let few : c.index_mut.result.now.position ≤ 256 = position-few c.args.w.now c.args.u.0 c.args.self.now c.index_mut.result.now c.streams.ensures.valid c.requires.reached c.requires.runs at in omega arith
+    let few : c.index_mut.result.now.position ≤ 256 = position-few c.args.w.now c.args.u.0 c.args.self.now c.index_mut.result.now c.known.ensures c.requires.reached c.requires.runs at in omega arith
 
 pub compute-requires-clause-computed : goal.compute-requires-clause-computed
 compute-requires-clause-computed c =
-    let below : c.args.u.0 < length c.args.self.now.units.items = unit-there c.args.w.now c.args.u.0 c.args.self.now c.streams.ensures.valid c.requires.reached c.requires.runs in
+    let below : c.args.u.0 < length c.args.self.now.units.items = unit-there c.args.w.now c.args.u.0 c.args.self.now c.known.ensures c.requires.reached c.requires.runs in
     let at : slice_get c.args.self.now.units.items c.args.u.0 ≡ Some c.index_mut.result.now = read-at c.args.self.now.units.items c.args.u.0 c.index_mut.result.now below c.index_mut.ensures.value in
     computed-other c.args.op (c.requires.confluent.ops c.args.u.0 c.index_mut.result.now.position c.args.op (c.requires.here c.index_mut.result.now at)) c.requires.other
 
 pub compute-requires-clause-key : goal.compute-requires-clause-key
 compute-requires-clause-key c =
-    let below : c.args.u.0 < length c.args.self.now.units.items = unit-there c.args.w.now c.args.u.0 c.args.self.now c.streams.ensures.valid c.requires.reached c.requires.runs in
+    let below : c.args.u.0 < length c.args.self.now.units.items = unit-there c.args.w.now c.args.u.0 c.args.self.now c.known.ensures c.requires.reached c.requires.runs in
     let at : slice_get c.args.self.now.units.items c.args.u.0 ≡ Some c.index_mut.result.now = read-at c.args.self.now.units.items c.args.u.0 c.index_mut.result.now below c.index_mut.ensures.value in
-    has-key c.args.w.now c.args.op (length c.index_mut.result.now.keys.items) (op-declared c.args.w.now c.args.u.0 c.index_mut.result.now.position c.args.op c.streams.ensures.valid (c.requires.here c.index_mut.result.now at))
+    has-key c.args.w.now c.args.op (length c.index_mut.result.now.keys.items) (op-declared c.args.w.now c.args.u.0 c.index_mut.result.now.position c.args.op c.known.ensures (c.requires.here c.index_mut.result.now at))
     (point-keys c.args.w.now (suc (executed c.args.self.now.units.items)) c.args.u.0 c.index_mut.result.now.position (memory_in c.index_mut.result.now) (c.requires.runs.follows.made c.args.u.0 c.index_mut.result.now at))
 
 pub returns-clause-runs : goal.returns-clause-runs
 returns-clause-runs c =
-    let below : c.args.u.0 < length c.args.self.now.units.items = unit-there c.args.w.now c.args.u.0 c.args.self.now c.streams.ensures.valid c.requires.reached c.requires.runs in
+    let below : c.args.u.0 < length c.args.self.now.units.items = unit-there c.args.w.now c.args.u.0 c.args.self.now c.known.ensures c.requires.reached c.requires.runs in
     let at : slice_get c.args.self.now.units.items c.args.u.0 ≡ Some c.index_mut.result.now = read-at c.args.self.now.units.items c.args.u.0 c.index_mut.result.now below c.index_mut.ensures.value in
     ok-both (λ _. Leads Nothing (effect c.args.op) (memory_in c.index_mut.result.now) (memory_in c.compute.new.self)) (λ _. c.compute.new.self.position ≡ c.index_mut.result.now.position + 1)
     (λ _. Runs c.args.w.now c.args.u.0 (record c.args.self.now { units = with_item c.args.self.now.units c.args.u.0 c.compute.new.self })) c.compute.result
@@ -52,7 +52,7 @@ returns-clause-runs c =
 
 pub returns-clause-more : goal.returns-clause-more
 returns-clause-more c =
-    let below : c.args.u.0 < length c.args.self.now.units.items = unit-there c.args.w.now c.args.u.0 c.args.self.now c.streams.ensures.valid c.requires.reached c.requires.runs in
+    let below : c.args.u.0 < length c.args.self.now.units.items = unit-there c.args.w.now c.args.u.0 c.args.self.now c.known.ensures c.requires.reached c.requires.runs in
     let at : slice_get c.args.self.now.units.items c.args.u.0 ≡ Some c.index_mut.result.now = read-at c.args.self.now.units.items c.args.u.0 c.index_mut.result.now below c.index_mut.ensures.value in
     ok-then (λ _. c.compute.new.self.position ≡ c.index_mut.result.now.position + 1) (λ _. executed (set c.args.self.now.units.items c.args.u.0 c.compute.new.self) ≡ executed c.args.self.now.units.items + 1) c.compute.result
     (λ _ pos. one-more c.args.w.now c.args.u.0 c.requires.reached c.args.self.now.units.items c.args.self.now.values.items c.requires.runs.follows c.index_mut.result.now c.compute.new.self at c.args.op (c.requires.here c.index_mut.result.now at) pos) c.compute.ensures.position

@@ -4,12 +4,12 @@ use Rattle.abt_flow.proofs.Running.{next-is, read-at, unit-there}
 use Rattle.abt_flow.proofs.table.Table.next.Goals as goal
 
 pub index-requires : goal.index-requires
-index-requires c = let l : c.args.u.0 < length c.args.self.now.units.items = unit-there c.args.w.now c.args.u.0 c.args.self.now c.streams.ensures.valid c.requires.reached c.requires.runs in omega arith
+index-requires c = let l : c.args.u.0 < length c.args.self.now.units.items = unit-there c.args.w.now c.args.u.0 c.args.self.now c.known.ensures c.requires.reached c.requires.runs in omega arith
 
 pub op-requires : goal.op-requires
-op-requires c = reached-declared c.args.w.now c.args.u.0 c.streams.ensures.valid c.requires.reached
+op-requires c = reached-declared c.args.w.now c.args.u.0 c.known.ensures c.requires.reached
 
 pub returns : goal.returns
 returns c =
-    let below : c.args.u.0 < length c.args.self.now.units.items = unit-there c.args.w.now c.args.u.0 c.args.self.now c.streams.ensures.valid c.requires.reached c.requires.runs in
+    let below : c.args.u.0 < length c.args.self.now.units.items = unit-there c.args.w.now c.args.u.0 c.args.self.now c.known.ensures c.requires.reached c.requires.runs in
     next-is c.args.w.now c.args.self.now.units.items c.args.u.0 c.index.result.now (read-at c.args.self.now.units.items c.args.u.0 c.index.result.now below c.index.ensures) c.op.result c.op.ensures

@@ -38,7 +38,7 @@ returns-then-not-is_empty-clause-fits g c =
     let some : c.args.self.now.held.tray ≢ [] = search rules in
     let due = put_due c.args.w.now c.args.self.now.number.0 c.args.self.now.held c.args.self.now.held.tray refl some in
     let keeps = put_keeps (Heeds (g.C.Commons.moves c.args.commons.now) (g.C.Commons.workload c.args.commons.now)) c.args.w.now c.args.self.now c.args.pass.now c.put.new.self c.put.new.pass c.args.self.now.held.tray c.put.result c.put.ensures.put in
-    turn_fits (g.C.Commons.moves c.args.commons.now) (g.C.Commons.workload c.args.commons.now) c.args.w.now c.requires.w c.streams.ensures.valid c.args.self.now c.args.pass.now c.put.new.self c.put.new.pass c.requires.fits keeps c.put.result (put_turned (Heeds (g.C.Commons.moves c.args.commons.now) (g.C.Commons.workload c.args.commons.now)) c.args.w.now c.args.self.now c.args.pass.now c.put.new.self c.put.new.pass [] c.args.self.now.held.tray c.put.result refl due c.put.ensures.put)
+    turn_fits (g.C.Commons.moves c.args.commons.now) (g.C.Commons.workload c.args.commons.now) c.args.w.now c.requires.w c.known.ensures c.args.self.now c.args.pass.now c.put.new.self c.put.new.pass c.requires.fits keeps c.put.result (put_turned (Heeds (g.C.Commons.moves c.args.commons.now) (g.C.Commons.workload c.args.commons.now)) c.args.w.now c.args.self.now c.args.pass.now c.put.new.self c.put.new.pass [] c.args.self.now.held.tray c.put.result refl due c.put.ensures.put)
 
 pub returns-in-Taken-clause-fits : goal.returns-in-Taken-clause-fits
 returns-in-Taken-clause-fits g c =
@@ -46,10 +46,10 @@ returns-in-Taken-clause-fits g c =
     let next : c.args.self.now.held.next ≡ Some c.in-Taken.field-0.value.owned = search rules in
     let due = look_due c.args.w.now c.args.self.now.number.0 c.args.self.now.held c.in-Taken.field-0.value.owned tray next in
     let keeps = look_keeps (Heeds (g.C.Commons.moves c.args.commons.now) (g.C.Commons.workload c.args.commons.now)) c.args.w.now c.args.self.now c.args.pass.now c.look.new.self c.look.new.pass c.args.self.now.held.next c.look.result c.look.ensures.look in
-    turn_fits (g.C.Commons.moves c.args.commons.now) (g.C.Commons.workload c.args.commons.now) c.args.w.now c.requires.w c.streams.ensures.valid c.args.self.now c.args.pass.now c.look.new.self c.look.new.pass c.requires.fits keeps c.look.result (look_turned (Heeds (g.C.Commons.moves c.args.commons.now) (g.C.Commons.workload c.args.commons.now)) c.args.w.now c.args.self.now c.args.pass.now c.look.new.self c.look.new.pass [] c.args.self.now.held.next c.look.result refl due c.look.ensures.look)
+    turn_fits (g.C.Commons.moves c.args.commons.now) (g.C.Commons.workload c.args.commons.now) c.args.w.now c.requires.w c.known.ensures c.args.self.now c.args.pass.now c.look.new.self c.look.new.pass c.requires.fits keeps c.look.result (look_turned (Heeds (g.C.Commons.moves c.args.commons.now) (g.C.Commons.workload c.args.commons.now)) c.args.w.now c.args.self.now c.args.pass.now c.look.new.self c.look.new.pass [] c.args.self.now.held.next c.look.result refl due c.look.ensures.look)
 
 pub returns-in-Running-clause-fits : goal.returns-in-Running-clause-fits
-returns-in-Running-clause-fits g c = turn_fits (g.C.Commons.moves c.args.commons.now) (g.C.Commons.workload c.args.commons.now) c.args.w.now c.requires.w c.streams.ensures.valid c.args.self.now c.args.pass.now c.run.new.self c.run.new.pass c.requires.fits c.run.ensures.keeps c.run.result (c.run.ensures.turned [])
+returns-in-Running-clause-fits g c = turn_fits (g.C.Commons.moves c.args.commons.now) (g.C.Commons.workload c.args.commons.now) c.args.w.now c.requires.w c.known.ensures c.args.self.now c.args.pass.now c.run.new.self c.run.new.pass c.requires.fits c.run.ensures.keeps c.run.result (c.run.ensures.turned [])
 
 pub returns-then-not-is_empty-clause-shapes : goal.returns-then-not-is_empty-clause-shapes
 returns-then-not-is_empty-clause-shapes g c = (put_keeps (Heeds (g.C.Commons.moves c.args.commons.now) (g.C.Commons.workload c.args.commons.now)) c.args.w.now c.args.self.now c.args.pass.now c.put.new.self c.put.new.pass c.args.self.now.held.tray c.put.result c.put.ensures.put).shapes

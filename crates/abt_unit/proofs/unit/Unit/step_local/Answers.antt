@@ -4,8 +4,8 @@ use Rattle.abt_unit.proofs.unit.Unit.step_local.Goals as goal
 
 pub step-requires-clause-key : goal.step-requires-clause-key
 step-requires-clause-key c =
-    key-op_at c.args.w.now c.args.self.now.owned c.in-Some.op c.streams.ensures.valid c.requires.fits (search rules)
+    key-op_at c.args.w.now c.args.self.now.owned c.in-Some.op c.known.ensures c.requires.fits (search rules)
 
 pub returns-clause-fits : goal.returns-clause-fits
 returns-clause-fits c =
-    Fits-local_step c.args.w.now c.args.self.now.owned _ c.streams.ensures.valid c.requires.fits (search rules)
+    Fits-local_step c.args.w.now c.args.self.now.owned _ c.known.ensures c.requires.fits (search rules)

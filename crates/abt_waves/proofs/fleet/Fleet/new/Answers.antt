@@ -5,6 +5,6 @@ use Rattle.abt_waves.proofs.fleet.Fleet.new.Goals as goal
 
 pub returns-clause-fleet : goal.returns-clause-fleet
 returns-clause-fleet g c =
-    fleet-starts g.L.Locked.lock g.L.Locked.clock c.args.w.now (g.O.Orders.shapes c.args.orders.now) c.args.steps c.in_ok-objects.objects c.in_ok-streams.streams.items c.streams.ensures.valid
-    (orders-stored c.args.w.now (g.O.Orders.shapes c.args.orders.now) c.streams.ensures.valid c.requires.orders) c.in_ok-streams.ensures c.in_ok-objects.ensures
+    fleet-starts g.L.Locked.lock g.L.Locked.clock c.args.w.now (g.O.Orders.shapes c.args.orders.now) c.args.steps c.in_ok-objects.objects c.in_ok-streams.streams.items c.known.ensures
+    (orders-stored c.args.w.now (g.O.Orders.shapes c.args.orders.now) c.known.ensures c.requires.orders) c.in_ok-streams.ensures c.in_ok-objects.ensures
     (g.met.L.Locked.begins c.args.w.now c.in_ok-objects.objects c.in_ok-objects.ensures)
