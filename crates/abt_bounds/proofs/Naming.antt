@@ -17,11 +17,11 @@ use Rattle.abt_machine.specs.Sound.{Sound}
 use Rattle.abt_machine.specs.Stamps.{Stamped}
 use Rattle.abt_machine.specs.Start.{start}
 use Rattle.abt_machine.specs.State.{State, Frame}
-use Rattle.abt_machine.specs.Valid.{IsUnit, IsValid}
+use Rattle.abt_machine.specs.Valid.{IsValid}
 use Rattle.abt_machine.specs.Workloads.{body_at, ops_of, pools_of}
+use Rattle.abt_machine.proofs.Declared.{few-unit-ops, listed-declared}
 use Rattle.abt_laws.proofs.Lists.{EachOf}
 use Rattle.abt_laws.proofs.Orders.{next_pool-listed}
-use Rattle.abt_laws.proofs.Rounds.{order-declared}
 use Rattle.abt_laws.proofs.SoundStart.{start-is-sound}
 use Rattle.abt_laws.proofs.SoundSteps.{stepping}
 use Rattle.abt_laws.proofs.Standing.{first-stands, front-stands, is-declared}
@@ -36,7 +36,7 @@ use Rattle.abt_bounds.specs.Laws.{IsWritten, NamesDeclared, RunTextsDiffer, Runs
 -- the next pool of a round is declared
 next-declared : (W : Parts) (Z : List OrderShape) (f : Frame) (p : ℕ) → IsValid W → IsNextPool W Z f p → p < length W.pools
 next-declared W Z f p valid next =
-    All-contains (λ q. q < length W.pools) (pools_of W f.sched) p (valid.scheds f.sched (order-declared W Z f.sched f.round next.0 next.1)).pools (next_pool-listed W Z f p next)
+    All-contains (λ q. q < length W.pools) (pools_of W f.sched) p (listed-declared W f.sched valid) (next_pool-listed W Z f p next)
 
 names : (W : Parts) (Z : List OrderShape) (S : State) (s : ℕ) (w : What) → IsValid W → Sound W Z S → s < W.streams → May W Z S s w → NamesDeclared W w
 names W Z S s (what.Miss p) valid sound declared may = next-declared W Z (S.stream s).top p.0 valid may.2
@@ -75,8 +75,7 @@ few-units W u valid l = let few : length W.units ≤ 4096 = valid.few_units in o
 
 few-ops : (W : Parts) (u k : ℕ) → IsValid W → u < length W.units → k < length (ops_of (body_at W u)) → k < 10 ^ 64
 few-ops W u k valid declared l =
-    let unit : IsUnit W u = valid.units u declared in
-    let few : length (ops_of (body_at W u)) ≤ 256 = unit.few_ops in omega arith
+    let few : length (ops_of (body_at W u)) ≤ 256 = few-unit-ops W u valid in omega arith
 
 what-written : (W : Parts) (w : What) → IsValid W → NamesDeclared W w → AllByRecursion (λ n. n < 10 ^ 64) (what_numbers w)
 what-written W (what.Miss p) valid h = (few-pools W p.0 valid h, tt)

@@ -28,7 +28,7 @@ use Rattle.abt_machine.specs.Acts as act
 use Rattle.abt_machine.specs.Pools.{HasSide}
 use Rattle.abt_machine.specs.Plans.{Plan, Does, Calls, Exits, denied, plan_of}
 use Rattle.abt_machine.specs.Turns.{side_by}
-use Rattle.abt_laws.proofs.Declared.{first_pool-declared, mutex-declared, op-declared}
+use Rattle.abt_machine.proofs.Declared.{first_pool-declared, mutex-declared, op-declared}
 use Rattle.abt_laws.proofs.Options.{none≢some, some-injective}
 use Rattle.abt_unit.specs.Fits.{Fits}
 use Rattle.abt_unit.proofs.Fitting.{Fits-moved}

@@ -28,7 +28,7 @@ use Rattle.abt_machine.specs.Pieces.{IsPieceOf}
 use Rattle.abt_machine.specs.Values.{Owned, barrier_at, conditions_of, eventual_at, future_at, monitor_at, object_of, rwlock_at, owned_at, owned_in, phase_at, waiters_at}
 use Rattle.abt_machine.specs.Acts.{Act, Answer, Given, Through, Woke, Rested, Miss, Number, Asks, Coded, Back, carrying, moved}
 use Rattle.abt_machine.specs.Plans.{Plan, Does, Calls, Exits, denied, effect_of, plan_of, to_caller, to_condition, to_giver, to_yielder}
-use Rattle.abt_laws.proofs.Declared.{op-declared, start-declared}
+use Rattle.abt_machine.proofs.Declared.{op-declared, start-declared}
 use Rattle.abt_laws.proofs.Lists.{EachOf}
 use Rattle.abt_laws.proofs.Standing.{StandsIn, each-stands}
 use Rattle.abt_unit.specs.Fits.{Fits}

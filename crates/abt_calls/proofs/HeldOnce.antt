@@ -416,7 +416,7 @@ module _ (W : Parts) (Z : List OrderShape) (S : State) (sound : Sound W Z S) whe
         sym (one-other y x.0 (λ e. let f : true ≡ false = sym (ap is_mutex (sym (ap (thing_at W) e) ∙ is)) ∙ m in cc))
     monitor-at x y (Some (thing.Cond n)) true is holds m = omega (arith, other-thing y x.0 (Some (thing.Cond n)) is (mutex-is (thing_at W x.0) m) (λ e. cc))
     monitor-at x y (Some (thing.Cond n)) false is holds m =
-        let t : IsThing W y (thing.Cond n) = valid.objects y (thing.Cond n) is in
+        let t : IsThing W.objects y (thing.Cond n) = valid.objects y (thing.Cond n) is in
         sym (one-other n.0 x.0 (λ e. let f : true ≡ false = sym (ap is_mutex (sym (ap (thing_at W) e) ∙ t.1)) ∙ m in cc))
     monitor-at x y (Some thing.Eventual) true is holds m = omega (arith, other-thing y x.0 (Some thing.Eventual) is (mutex-is (thing_at W x.0) m) (λ e. cc))
     monitor-at x y (Some thing.Eventual) false is holds m = refl
@@ -461,7 +461,7 @@ module _ (W : Parts) (Z : List OrderShape) (S : State) (sound : Sound W Z S) whe
     thing-holds : (y : ℕ) (r : Option Thing) → thing_at W y ≡ r → HoldsUp W S y r → IsHolder W (OfSite (thing_site y r))
     thing-holds y None is holds = absurd holds
     thing-holds y (Some thing.Mutex) is holds = is
-    thing-holds y (Some (thing.Cond m)) is holds = let t : IsThing W y (thing.Cond m) = valid.objects y (thing.Cond m) is in t.1
+    thing-holds y (Some (thing.Cond m)) is holds = let t : IsThing W.objects y (thing.Cond m) = valid.objects y (thing.Cond m) is in t.1
     thing-holds y (Some thing.Eventual) is holds = is
     thing-holds y (Some (thing.Future n c)) is holds = (n, c, is)
     thing-holds y (Some (thing.Barrier n)) is holds = (n, is)

@@ -25,10 +25,10 @@ use Rattle.abt_machine.specs.State.{State}
 use Rattle.abt_machine.specs.Turns.{Heard, Performs, Steps, due_of}
 use Rattle.abt_machine.specs.Valid.{IsValid}
 use Rattle.abt_machine.specs.Values.{Held, NotHere, Object, Owned, object_of, owned_in, part_of}
+use Rattle.abt_machine.proofs.Declared.{op-declared}
 use Rattle.abt_bounds.specs.Laws.{visited}
 use Rattle.abt_bounds.proofs.Choosing.{one-at-each-pool}
 use Rattle.abt_calls.specs.Asking.{IsSite}
-use Rattle.abt_laws.proofs.Declared.{op-declared}
 use Rattle.abt_laws.proofs.DueParts.{due-same}
 use Rattle.abt_laws.proofs.Options.{none≢some, some-injective}
 use Rattle.abt_laws.proofs.SoundRuns.{events-keep-sound}

@@ -22,11 +22,11 @@ use Rattle.abt_machine.specs.Rounds.{IsNextPool}
 use Rattle.abt_machine.specs.State.{Asked, Exited, Frame, Left, Mark, Plain}
 use Rattle.abt_machine.specs.Turns.{Heard, Steps, due_of, looked, number_and_position, side_of}
 use Rattle.abt_machine.specs.Values.{Held, Object, Owned}
-use Rattle.abt_machine.specs.Valid.{IsScheduler, IsValid}
+use Rattle.abt_machine.specs.Valid.{IsValid}
 use Rattle.abt_machine.specs.Workloads.{body_at, pools_of}
 use Rattle.abt_machine.specs.declared.program.Want.{Want}
+use Rattle.abt_machine.proofs.Declared.{listed-declared}
 use Rattle.abt_laws.proofs.Orders.{next_pool-listed}
-use Rattle.abt_laws.proofs.Rounds.{order-declared}
 use Rattle.abt_bounds.specs.Laws.{visited}
 use Rattle.abt_calls.specs.Allowed.{Allows}
 use Rattle.abt_calls.specs.Suits.{Suits}
@@ -196,5 +196,4 @@ from_same W Z s old taken before named made new after same h = subst (λ (held :
 -- the pools of a round
 pub next-declared : (W : Parts) (Z : List OrderShape) (f : Frame) (p : ℕ) → IsValid W → IsNextPool W Z f p → p < length W.pools
 next-declared W Z f p valid next =
-    let sched : IsScheduler W f.sched = valid.scheds f.sched (order-declared W Z f.sched f.round next.0 next.1) in
-    All-contains (λ q. q < length W.pools) (pools_of W f.sched) p sched.pools (next_pool-listed W Z f p next)
+    All-contains (λ q. q < length W.pools) (pools_of W f.sched) p (listed-declared W f.sched valid) (next_pool-listed W Z f p next)

@@ -20,11 +20,11 @@ use Rattle.abt_machine.specs.declared.workload.SchedPart.{SchedPart}
 use Rattle.abt_machine.specs.Rounds.{AnyOrder, Choice, IsChosen, IsNextPool, IsOrder, Only, choice_by, choice_of, shaped}
 use Rattle.abt_machine.specs.Sound.{IsUnderWay}
 use Rattle.abt_machine.specs.State.{Frame}
-use Rattle.abt_machine.specs.Valid.{IsScheduler, IsValid}
+use Rattle.abt_machine.specs.Valid.{IsValid}
 use Rattle.abt_machine.specs.Workloads.{pools_from, pools_of, rule_of}
+use Rattle.abt_machine.proofs.Declared.{few-listed, listed-declared, listed-once}
 use Rattle.abt_bounds.proofs.Freedom.{free-orders-are-free}
 use Rattle.abt_laws.proofs.Orders.{next_pool-listed, order-permutes}
-use Rattle.abt_laws.proofs.Rounds.{order-declared}
 use Rattle.abt_order.specs.Schedulers.{pool_numbers}
 use Rattle.abt_order.proofs.PoolNumbers.{length-pool_numbers}
 use Rattle.abt_replay.specs.Nexts.{NextIs}
@@ -87,8 +87,7 @@ module _ (W : Parts) (Z : List OrderShape) (f : Frame) where
   -- no order visits a pool twice
   pub next-unseen : (p : ℕ) → IsValid W → IsNextPool W Z f p → Contains f.seen p → ⊥
   next-unseen p valid next seen =
-      let sched : IsScheduler W f.sched = valid.scheds f.sched (order-declared W Z f.sched f.round next.0 next.1) in
-      let apart : IsDistinct (λ x y. x == y) (pools_of W f.sched) = IsDistinct-from_AllPairs Decides-eqb (pools_of W f.sched) sched.once in
+      let apart : IsDistinct (λ x y. x == y) (pools_of W f.sched) = IsDistinct-from_AllPairs Decides-eqb (pools_of W f.sched) (listed-once W f.sched valid) in
       let order : List ℕ = f.seen ++ p ∷ next.2.0 in
       let same : next.0 ≡ order = sym next.2.1 ∙ append_assoc f.seen (p ∷ []) next.2.0 in
       let permutes : IsPermutation (pools_of W f.sched) order = subst (IsPermutation (pools_of W f.sched)) same (order-permutes W Z f.sched f.round next.0 next.1) in
@@ -151,12 +150,11 @@ module _ (W : Parts) (Z : List OrderShape) (f : Frame) (part : SchedPart) (pools
       (subst (λ (c : Choice). NextIs c n visit) (ap (λ (ps : List ℕ). choice_by W Z f.sched f.round (Some part.rule) ps) pools-are ∙ ap (λ o. choice_by W Z f.sched f.round o (pools_of W f.sched)) (sym rule-is)) is)
 
   pub pools-declared : IsValid W → IsUnderWay W Z f → All (λ p. p < length W.pools) (pool_numbers pools)
-  pools-declared valid way = let sched : IsScheduler W f.sched = valid.scheds f.sched (order-declared W Z f.sched f.round way.0 way.1) in subst (All (λ p. p < length W.pools)) (sym pools-are) sched.pools
+  pools-declared valid way = subst (All (λ p. p < length W.pools)) (sym pools-are) (listed-declared W f.sched valid)
 
   pub few-pools : IsValid W → IsUnderWay W Z f → length pools ≤ 8
   few-pools valid way =
-      let sched : IsScheduler W f.sched = valid.scheds f.sched (order-declared W Z f.sched f.round way.0 way.1) in
-      let few : length (pools_of W f.sched) ≤ 8 = sched.few_pools in
+      let few : length (pools_of W f.sched) ≤ 8 = few-listed W f.sched valid in
       let a : length (pools_of W f.sched) ≡ length pools = ap (λ (xs : List ℕ). length xs) (sym pools-are) ∙ length-pool_numbers pools in omega arith
 
 pub is_closed : (ps qs : List PoolNo) (p : ℕ) (a : Bool) → a ≡ false → a ≡ list_any (is_pool p) ps → IsTrue a ↔ (Contains (pool_numbers ps) p × (Contains (pool_numbers qs) p → ⊥))

@@ -23,7 +23,7 @@ use Rattle.abt_machine.specs.Start.{start}
 use Rattle.abt_machine.specs.Valid.{IsValid}
 use Rattle.abt_machine.specs.Workloads.{IsCondition, condition_number, is_condition_of, mutex_from, mutex_of, thing_at}
 use Rattle.abt_machine.specs.Values.{Owned, Object, conditions_from, conditions_of, monitor_at, object_of, waiters_at}
-use Rattle.abt_laws.proofs.Declared.{mutex-declared}
+use Rattle.abt_machine.proofs.Declared.{mutex-declared}
 use Rattle.abt_laws.proofs.Options.{none≢some, some-injective}
 use Rattle.abt_simulation.proofs.ConditionLists.{condition-at}
 use Rattle.abt_calls.specs.Allowed.{Allows}

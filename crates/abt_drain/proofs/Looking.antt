@@ -16,7 +16,8 @@ use Rattle.abt_machine.specs.Outcomes.{steps_in}
 use Rattle.abt_machine.specs.Runs.{last_state}
 use Rattle.abt_machine.specs.Turns.{due_of}
 use Rattle.abt_machine.specs.Valid.{IsValid}
-use Rattle.abt_machine.proofs.Checked.{map-all}
+use Rattle.abt_machine.proofs.Declared.{listed-declared}
+use Rattle.abt_machine.proofs.Elements.{map-all}
 use Rattle.abt_machine.specs.Values.{Owned, Object, PoolIs, DeskIs, MonitorIs, EventualIs, FutureIs, BarrierIs, RwLockIs, NotHere, Phase, Unborn, Out, Suspended, Ended}
 use Rattle.abt_machine.specs.Workloads.{main_from, main_of, pools_from, pools_of}
 use Rattle.abt_calls.specs.Allowed.{Allows}
@@ -110,7 +111,7 @@ module _ (W : Parts) (s : ℕ) (g : SchedNo) (part : SchedPart) (pools : List Po
   -- the pools that the main scheduler lists are declared
   pub one-declared : IsValid W → s < W.streams → (k : ℕ) (d : PoolNo) → k < length pools → (get_or pools k d).0 < length W.pools
   one-declared valid declared =
-      map-all (λ (p : PoolNo). p.0) (λ p. p < length W.pools) pools (subst (All (λ p. p < length W.pools)) listed (valid.scheds (main_of W s) (valid.streams s declared).main).pools)
+      map-all (λ (p : PoolNo). p.0) (λ p. p < length W.pools) pools (subst (All (λ p. p < length W.pools)) listed (listed-declared W (main_of W s) valid))
 
   module _ (objects : ObjectsValue) where
     pub all-empty : All (λ (p : PoolNo). IsEmptyAt objects p.0) pools → HasEmptyPools W objects s

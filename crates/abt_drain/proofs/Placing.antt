@@ -9,7 +9,7 @@ use Rattle.abt_machine.specs.declared.workload.Parts.{Parts}
 use Rattle.abt_machine.specs.Numbers.{stream_no}
 use Rattle.abt_machine.specs.Pieces.{IsPieceOf}
 use Rattle.abt_machine.specs.Values.{Owned}
-use Rattle.abt_machine.proofs.Checked.{map-all}
+use Rattle.abt_machine.proofs.Elements.{map-all}
 use Rattle.abt_unit.specs.Fits.{Fits}
 use Rattle.abt_calls.specs.Showing as held
 use Rattle.abt_calls.specs.Showing.{rows_as}

@@ -17,7 +17,7 @@ use Rattle.abt_machine.specs.Values.{Owned, barrier_at, conditions_of, eventual_
 use Rattle.abt_machine.specs.Acts.{Act, moved}
 use Rattle.abt_machine.specs.Acts as act
 use Rattle.abt_machine.specs.Plans.{Plan, Does, Calls, Exits, denied, plan_of}
-use Rattle.abt_laws.proofs.Declared.{mutex-declared}
+use Rattle.abt_machine.proofs.Declared.{mutex-declared}
 use Rattle.abt_calls.specs.Allowed.{Allows, MonitorAllows, EventualAllows, BarrierAllows, RwLockAllows}
 use Rattle.abt_calls.proofs.Asked.{condition-below}
 

@@ -14,7 +14,7 @@ use Rattle.abt_machine.specs.declared.operations.Op.TheVariants as op
 use Rattle.abt_machine.specs.declared.operations.OrderShape.{OrderShape}
 use Rattle.abt_machine.specs.declared.workload.Parts.{Parts}
 use Rattle.abt_machine.specs.Numbers.{unit_no}
-use Rattle.abt_machine.specs.Valid.{IsScheduler, IsValid}
+use Rattle.abt_machine.specs.Valid.{IsValid}
 use Rattle.abt_machine.specs.Workloads.{body_at, op_at, ops_of, pools_of}
 use Rattle.abt_machine.specs.Queues.{first}
 use Rattle.abt_machine.specs.Rounds.{IsNextPool}
@@ -29,14 +29,13 @@ use Rattle.abt_machine.specs.Acts as act
 use Rattle.abt_machine.specs.Gives.{SiteGives}
 use Rattle.abt_machine.specs.Plans.{Calls, Does, Exits, Plan, effect_of, plan_of}
 use Rattle.abt_machine.specs.Turns.{Heard, Performs, Steps, exited, side_of, stepped}
-use Rattle.abt_laws.proofs.Declared.{op-declared}
+use Rattle.abt_machine.proofs.Declared.{listed-declared, op-declared}
 use Rattle.abt_laws.proofs.DueParts.{due-same}
 use Rattle.abt_laws.proofs.Dues.{due-unit, step-due}
 use Rattle.abt_laws.proofs.Lists.{Among}
 use Rattle.abt_laws.proofs.Options.{none≢some, some-injective}
 use Rattle.abt_laws.proofs.Orders.{next_pool-listed}
 use Rattle.abt_laws.proofs.Places.{same-self}
-use Rattle.abt_laws.proofs.Rounds.{order-declared}
 use Rattle.abt_laws.proofs.Standing.{among-standing}
 use Rattle.abt_simulation.specs.Simulation.{Answers}
 use Rattle.abt_bounds.specs.Laws.{visited}
@@ -143,8 +142,7 @@ module _ (W : Parts) (Z : List OrderShape) (S : State) (s : ℕ) where
     round : (w : What) (p : PoolNo) → visited w ≡ Some p.0 → due W S s ≡ RoundDue → IsNextPool W Z (S.stream s).top p.0 → Turn W Z S s w
     round w p at is order =
         let f : Frame = (S.stream s).top in
-        let listed : IsScheduler W f.sched = valid.scheds f.sched (order-declared W Z f.sched f.round order.0 order.1) in
-        let declared : p.0 < length W.pools = All-contains (λ q. q < length W.pools) (pools_of W f.sched) p.0 listed.pools (next_pool-listed W Z f p.0 order) in
+        let declared : p.0 < length W.pools = All-contains (λ q. q < length W.pools) (pools_of W f.sched) p.0 (listed-declared W f.sched valid) (next_pool-listed W Z f p.0 order) in
         let may : MayCall W (site.Pool p) (act.Take (side_of W s p.0)) = takes-may-call W s p declared in
         let answered : (answer : Answer) × (new : Object) × SiteGives (object_of W S (site.Pool p)) (act.Take (side_of W s p.0)) answer new = allowed-is-answered (object_of W S (site.Pool p)) (act.Take (side_of W s p.0)) (may.allowed S) in
         at-pool w p at is order answered.0 answered.1 answered.2

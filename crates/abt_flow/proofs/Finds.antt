@@ -14,7 +14,7 @@ use Rattle.abt_machine.specs.declared.workload.Parts.{Parts}
 use Rattle.abt_machine.specs.Numbers.{unit_no}
 use Rattle.abt_machine.specs.Valid.{IsValid}
 use Rattle.abt_machine.specs.Workloads.{body_at, op_at, ops_of, start_of}
-use Rattle.abt_laws.proofs.Declared.{op-declared, undeclared-start}
+use Rattle.abt_machine.proofs.Declared.{op-declared, undeclared-start}
 use Rattle.abt_laws.proofs.Options.{none≢some, some-injective}
 use Rattle.abt_flow.specs.Flow.{Created, IsReached, Starts}
 use Rattle.abt_flow.specs.Tables.{Adds, Closes, CreatesNone, CreatesUnit, Finds, Grows, HasMarked, IsClosedBelow, IsMarked}

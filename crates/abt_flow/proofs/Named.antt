@@ -11,7 +11,7 @@ use Rattle.abt_machine.specs.declared.workload.Parts.{Parts}
 use Rattle.abt_machine.specs.Operations.{IsDeclared}
 use Rattle.abt_machine.specs.Valid.{IsValid}
 use Rattle.abt_machine.specs.Workloads.{body_at, body_from, op_at, ops_of}
-use Rattle.abt_laws.proofs.Declared.{op-declared}
+use Rattle.abt_machine.proofs.Declared.{op-declared}
 use Rattle.abt_laws.proofs.Options.{none≢some, some-injective}
 use Rattle.abt_flow.specs.declared.naming.Naming.{Naming}
 use Rattle.abt_flow.specs.declared.naming.Naming.TheVariants.{Sets, Creates}

@@ -20,7 +20,7 @@ use Rattle.abt_machine.specs.State.{State, Carried}
 use Rattle.abt_machine.specs.Steps.{arrives, awaits, joins, waits, wakes}
 use Rattle.abt_machine.specs.Valid.{IsValid}
 use Rattle.abt_machine.specs.Workloads.{op_at, size_of}
-use Rattle.abt_laws.proofs.Declared.{op-declared}
+use Rattle.abt_machine.proofs.Declared.{op-declared}
 use Rattle.abt_laws.proofs.LineMoves.{tray_moves-each}
 use Rattle.abt_laws.proofs.Standing.{StandsIn, each-stands}
 use Rattle.abt_flow.specs.Effects.{effect}

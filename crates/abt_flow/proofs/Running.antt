@@ -14,7 +14,7 @@ use Rattle.abt_machine.specs.Numbers.{object_no, unit_no}
 use Rattle.abt_machine.specs.Operations.{IsEventual}
 use Rattle.abt_machine.specs.Valid.{IsValid}
 use Rattle.abt_machine.specs.Workloads.{body_at, op_at, ops_of}
-use Rattle.abt_laws.proofs.Declared.{op-declared}
+use Rattle.abt_machine.proofs.Declared.{few-unit-ops, op-declared}
 use Rattle.abt_laws.proofs.Options.{none≢some, some-injective}
 use Rattle.abt_flow.specs.declared.memory.Progress.{Progress}
 use Rattle.abt_flow.specs.declared.table.Table.{Table}
@@ -67,7 +67,7 @@ set-there W u t x valid reached runs next =
 pub position-few : (W : Parts) (u : ℕ) (t : Table) (p : Progress) → IsValid W → IsReached W u → Runs W u t → slice_get t.units.items u ≡ Some p → p.position ≤ 256
 position-few W u t p valid reached runs at =
     let l : u < length W.units = reached-declared W u valid reached in
-    let few : length (ops_of (body_at W u)) ≤ 256 = (valid.units u l).few_ops in
+    let few : length (ops_of (body_at W u)) ≤ 256 = few-unit-ops W u valid in
     let within = runs.follows.within u p at in omega arith
 
 -- One more operation.

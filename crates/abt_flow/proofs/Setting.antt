@@ -17,7 +17,7 @@ use Rattle.abt_machine.specs.State.{State, Carried}
 use Rattle.abt_machine.specs.Steps.{op_row, receives}
 use Rattle.abt_machine.specs.Valid.{IsValid}
 use Rattle.abt_machine.specs.Workloads.{op_at}
-use Rattle.abt_laws.proofs.Declared.{op-declared}
+use Rattle.abt_machine.proofs.Declared.{op-declared}
 use Rattle.abt_laws.proofs.LineMoves.{tray_moves-each, tray_moves-key}
 use Rattle.abt_laws.proofs.Lists.{Among, EachOf, EachOf-all, EachOf-map, EachOf-then}
 use Rattle.abt_laws.proofs.Maps.{KeyOf, KeyOf-cases, put_all-kept, put_all-other, put_all-value, put_at-cases}

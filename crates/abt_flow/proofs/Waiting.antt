@@ -16,7 +16,7 @@ use Rattle.abt_machine.specs.Numbers.{object_no, unit_no}
 use Rattle.abt_machine.specs.Operations.{IsEventual}
 use Rattle.abt_machine.specs.Valid.{IsValid}
 use Rattle.abt_machine.specs.Workloads.{body_at, op_at, ops_of}
-use Rattle.abt_laws.proofs.Declared.{op-declared}
+use Rattle.abt_machine.proofs.Declared.{op-declared}
 use Rattle.abt_laws.proofs.Options.{none≢some, some-injective}
 use Rattle.abt_flow.specs.declared.memory.Progress.{Progress}
 use Rattle.abt_flow.specs.declared.table.Table.{Table}

@@ -1,14 +1,14 @@
 -- The generator's parts are those of a valid workload.
-use Rattle.std.proofs.Common.{◌≡◌, ◌≢◌, ℕ, zero, suc, ◌<◌, ◌≤◌, ◌+◌, ◌^◌, List, [], ◌∷◌, ◌++◌, Option, Some, length, map, slice_get, refl, sym, ◌∙◌, ap, subst, arith, lit<, lit≤}
+use Rattle.std.proofs.Common.{◌≡◌, ◌≢◌, ℕ, zero, suc, ◌<◌, ◌≤◌, ◌+◌, ◌^◌, List, [], ◌∷◌, ◌++◌, Some, length, map, refl, subst, arith, lit<, lit≤}
 use Rattle.std.specs.Prelude.{◌%◌, AllPairs, flat_map}
 use Rattle.std.specs.List.{range_with_len}
+use Rattle.std.proofs.lemmas.List.{length-map}
 use Rattle.std.proofs.lemmas.List.Elements.{All-nil}
-use Rattle.std.proofs.lemmas.List.FromFn.{get_or-map-range_with_len, length-map-range_with_len}
-use Rattle.std.proofs.lemmas.Option.{slice_get-get_or}
+use Rattle.std.proofs.lemmas.List.FromFn.{length-map-range_with_len}
+use Rattle.abt_machine.specs.declared.numbers.PoolNo.{PoolNo}
 use Rattle.abt_machine.specs.declared.numbers.SchedNo.{SchedNo}
 use Rattle.abt_machine.specs.declared.operations.Op.{Op}
 use Rattle.abt_machine.specs.declared.operations.Op.TheVariants as op
-use Rattle.abt_machine.specs.declared.operations.Rule.{Rule}
 use Rattle.abt_machine.specs.declared.operations.Rule.TheVariants as rule
 use Rattle.abt_machine.specs.declared.operations.Thing.{Thing}
 use Rattle.abt_machine.specs.declared.operations.Thing.TheVariants as thing
@@ -16,14 +16,14 @@ use Rattle.abt_machine.specs.declared.workload.Parts.{Parts}
 use Rattle.abt_machine.specs.declared.workload.PoolPart.{PoolPart}
 use Rattle.abt_machine.specs.declared.workload.SchedPart.{SchedPart}
 use Rattle.abt_machine.specs.declared.workload.UnitPart.{UnitPart}
-use Rattle.abt_machine.specs.Numbers.{object_no, sched_no}
+use Rattle.abt_machine.specs.Numbers.{object_no, pool_no, sched_no}
 use Rattle.abt_machine.specs.Operations.{IsDeclared, said_by}
-use Rattle.abt_machine.specs.Valid.{IsAccess, IsBody, IsRule, IsScheduler, IsStream, IsThing, IsUnit, IsValid, IsWord, sched_in, words_said}
+use Rattle.abt_machine.specs.Valid.{IsAccess, IsSched, IsStream, IsThing, IsUnit, IsValid, IsWord, sched_in, words_said}
 use Rattle.abt_machine.specs.Words.{Text}
-use Rattle.abt_machine.specs.Workloads.{access_of, body_from, ops_of, start_from, thing_at}
+use Rattle.abt_machine.specs.Workloads.{ops_of, thing_at}
 use Rattle.abt_generate.specs.Generated.{adder, adder_ops, adders, deque, first_ops, first_unit, generated, sched_for}
 use Rattle.abt_generate.proofs.GeneratedOps.{create, join, few-ops, length-first_ops}
-use Rattle.abt_generate.proofs.Lists.{Each, each-all, each-always, each-append, each-at, each-map, each-pairs, flat_map-nothing, none-some, some-same}
+use Rattle.abt_generate.proofs.Lists.{Each, EachPair, each-all, each-always, each-append, each-map, each-pairs, flat_map-nothing, none-some, pair-map, some-same}
 
 -- Operations.
 
@@ -54,34 +54,20 @@ adder_ops-declared n v below = (tt, (refl, (refl, (below, (refl, (refl, tt))))))
 
 -- Units.
 
-first-valid : (n : ℕ) → n ≤ 126 → IsUnit (generated n) 0
+first-valid : (n : ℕ) → n ≤ 126 → IsUnit (generated n) (first_unit n)
 unfolding generated
 first-valid n few =
     let count : length (first_ops n) ≡ n + n + 4 = length-first_ops n in
-    record {
-      kind = tt;
-      few_ops = omega arith;
-      ops = each-at (IsDeclared (generated n)) (first_ops n) (first_ops-declared n);
-      start = λ p is. subst (λ (q : ℕ). q < 4) (some-same is) (lit< tt);
-    }
+    record { kind = tt; few_ops = omega arith; ops = each-all (IsDeclared (generated n)) (first_ops n) (first_ops-declared n); start = lit< tt }
 
-adder-valid : (n k : ℕ) → n ≤ 126 → k < n → IsUnit (generated n) (suc k)
+adder-valid : (n v : ℕ) → v < 2 ^ 64 → IsUnit (generated n) (adder v)
 unfolding generated
-adder-valid n k few below =
-    let W : Parts = generated n in
-    let units : List UnitPart = map adder (adders n) in
-    let count : length units ≡ n = length-map-range_with_len adder 1 n in
-    let is : slice_get units k ≡ Some (adder (k + 1)) = slice_get-get_or units k (adder 0) (omega arith) ∙ ap (λ (part : UnitPart). Some part) (get_or-map-range_with_len adder 1 n k (k + 1) (adder 0) below (omega arith)) in
-    record {
-      kind = subst (λ (o : Option UnitPart). IsBody W (body_from o)) (sym is) tt;
-      few_ops = subst (λ (o : Option UnitPart). length (ops_of (body_from o)) ≤ 256) (sym is) (lit≤ tt);
-      ops = subst (λ (o : Option UnitPart). (i : ℕ) (a : Op) → slice_get (ops_of (body_from o)) i ≡ Some a → IsDeclared W a) (sym is) (each-at (IsDeclared W) (adder_ops (k + 1)) (adder_ops-declared n (k + 1) (omega arith)));
-      start = subst (λ (o : Option UnitPart). (p : ℕ) → start_from o ≡ Some p → p < 4) (sym is) (λ p none. absurd (none-some none));
-    }
+adder-valid n v below = record { kind = tt; few_ops = lit≤ tt; ops = each-all (IsDeclared (generated n)) (adder_ops v) (adder_ops-declared n v below); start = tt }
 
-units-valid : (n u : ℕ) → n ≤ 126 → u < n + 1 → IsUnit (generated n) u
-units-valid n zero few below = first-valid n few
-units-valid n (suc k) few below = adder-valid n k few (omega arith)
+units-valid : (n : ℕ) → n ≤ 126 → Each (IsUnit (generated n)) (first_unit n ∷ map adder (adders n))
+units-valid n few =
+    let P : UnitPart → Type 0 = IsUnit (generated n) in
+    (first-valid n few, each-map P adder (adders n) (each-range (λ v. P (adder v)) 1 n (λ v l k. adder-valid n v (omega arith))))
 
 -- no unit is a scheduler, and none says a word
 
@@ -105,48 +91,29 @@ no-words n =
 
 -- Pools, schedulers, streams and the mutex.
 
-pools-valid : (n p : ℕ) → p < 4 → IsAccess (generated n) (access_of (generated n) p)
-unfolding generated
-pools-valid n zero below = tt
-pools-valid n (suc zero) below = tt
-pools-valid n (suc (suc zero)) below = tt
-pools-valid n (suc (suc (suc zero))) below = tt
-pools-valid n (suc (suc (suc (suc p)))) below = absurd (omega arith)
+-- a scheduler that steals lists four pools, each once
+sched-valid : (seed : ℕ) (ps : List ℕ) → seed < 2 ^ 64 → length ps ≡ 4 → Each (λ p. p < 4) ps → EachPair (λ a b. a ≢ b) ps → IsSched 4 (record { rule = rule.Randws seed; pools = map pool_no ps })
+sched-valid seed ps below four listed once =
+    let count : length (map pool_no ps) ≡ length ps = length-map ps pool_no in
+    record {
+      rule = below;
+      some_pool = omega arith;
+      few_pools = omega arith;
+      listed = each-all (λ (p : PoolNo). p.0 < 4) (map pool_no ps) (each-map (λ (p : PoolNo). p.0 < 4) pool_no ps listed);
+      once = each-pairs (λ (a b : PoolNo). a.0 ≢ b.0) (map pool_no ps) (pair-map (λ (a b : PoolNo). a.0 ≢ b.0) pool_no ps once);
+    }
 
-seed-valid : (seed : ℕ) (r : Rule) → seed < 2 ^ 64 → ◌≡◌ {A = Option Rule} (Some (rule.Randws seed)) (Some r) → IsRule r
-seed-valid seed r below is = subst IsRule (some-same is) below
-
-scheds-valid : (n g : ℕ) → n ≤ 126 → g < 4 → IsScheduler (generated n) g
-unfolding generated
-scheds-valid n zero few below = record {
-  rule = λ r is. seed-valid (n + 0) r (omega arith) is;
-  some_pool = lit< tt;
-  few_pools = lit≤ tt;
-  pools = each-all (λ p. p < 4) (0 ∷ 1 ∷ 2 ∷ 3 ∷ []) (lit< tt, (lit< tt, (lit< tt, (lit< tt, tt))));
-  once = each-pairs (λ a b. a ≢ b) (0 ∷ 1 ∷ 2 ∷ 3 ∷ []) ((λ e. omega (arith, e), (λ e. omega (arith, e), (λ e. omega (arith, e), tt))), ((λ e. omega (arith, e), (λ e. omega (arith, e), tt)), ((λ e. omega (arith, e), tt), (tt, tt))));
-}
-scheds-valid n (suc zero) few below = record {
-  rule = λ r is. seed-valid (n + 1) r (omega arith) is;
-  some_pool = lit< tt;
-  few_pools = lit≤ tt;
-  pools = each-all (λ p. p < 4) (1 ∷ 0 ∷ 2 ∷ 3 ∷ []) (lit< tt, (lit< tt, (lit< tt, (lit< tt, tt))));
-  once = each-pairs (λ a b. a ≢ b) (1 ∷ 0 ∷ 2 ∷ 3 ∷ []) ((λ e. omega (arith, e), (λ e. omega (arith, e), (λ e. omega (arith, e), tt))), ((λ e. omega (arith, e), (λ e. omega (arith, e), tt)), ((λ e. omega (arith, e), tt), (tt, tt))));
-}
-scheds-valid n (suc (suc zero)) few below = record {
-  rule = λ r is. seed-valid (n + 2) r (omega arith) is;
-  some_pool = lit< tt;
-  few_pools = lit≤ tt;
-  pools = each-all (λ p. p < 4) (2 ∷ 0 ∷ 1 ∷ 3 ∷ []) (lit< tt, (lit< tt, (lit< tt, (lit< tt, tt))));
-  once = each-pairs (λ a b. a ≢ b) (2 ∷ 0 ∷ 1 ∷ 3 ∷ []) ((λ e. omega (arith, e), (λ e. omega (arith, e), (λ e. omega (arith, e), tt))), ((λ e. omega (arith, e), (λ e. omega (arith, e), tt)), ((λ e. omega (arith, e), tt), (tt, tt))));
-}
-scheds-valid n (suc (suc (suc zero))) few below = record {
-  rule = λ r is. seed-valid (n + 3) r (omega arith) is;
-  some_pool = lit< tt;
-  few_pools = lit≤ tt;
-  pools = each-all (λ p. p < 4) (3 ∷ 0 ∷ 1 ∷ 2 ∷ []) (lit< tt, (lit< tt, (lit< tt, (lit< tt, tt))));
-  once = each-pairs (λ a b. a ≢ b) (3 ∷ 0 ∷ 1 ∷ 2 ∷ []) ((λ e. omega (arith, e), (λ e. omega (arith, e), (λ e. omega (arith, e), tt))), ((λ e. omega (arith, e), (λ e. omega (arith, e), tt)), ((λ e. omega (arith, e), tt), (tt, tt))));
-}
-scheds-valid n (suc (suc (suc (suc g)))) few below = absurd (omega arith)
+scheds-valid : (n : ℕ) → n ≤ 126 → Each (IsSched 4) (map (sched_for n) (0 ∷ 1 ∷ 2 ∷ 3 ∷ []))
+scheds-valid n few = (
+  sched-valid (n + 0) (0 ∷ 1 ∷ 2 ∷ 3 ∷ []) (omega arith) refl (lit< tt, (lit< tt, (lit< tt, (lit< tt, tt)))) ((λ e. omega (arith, e), (λ e. omega (arith, e), (λ e. omega (arith, e), tt))), ((λ e. omega (arith, e), (λ e. omega (arith, e), tt)), ((λ e. omega (arith, e), tt), (tt, tt)))),
+  (
+    sched-valid (n + 1) (1 ∷ 0 ∷ 2 ∷ 3 ∷ []) (omega arith) refl (lit< tt, (lit< tt, (lit< tt, (lit< tt, tt)))) ((λ e. omega (arith, e), (λ e. omega (arith, e), (λ e. omega (arith, e), tt))), ((λ e. omega (arith, e), (λ e. omega (arith, e), tt)), ((λ e. omega (arith, e), tt), (tt, tt)))),
+    (
+      sched-valid (n + 2) (2 ∷ 0 ∷ 1 ∷ 3 ∷ []) (omega arith) refl (lit< tt, (lit< tt, (lit< tt, (lit< tt, tt)))) ((λ e. omega (arith, e), (λ e. omega (arith, e), (λ e. omega (arith, e), tt))), ((λ e. omega (arith, e), (λ e. omega (arith, e), tt)), ((λ e. omega (arith, e), tt), (tt, tt)))),
+      (sched-valid (n + 3) (3 ∷ 0 ∷ 1 ∷ 2 ∷ []) (omega arith) refl (lit< tt, (lit< tt, (lit< tt, (lit< tt, tt)))) ((λ e. omega (arith, e), (λ e. omega (arith, e), (λ e. omega (arith, e), tt))), ((λ e. omega (arith, e), (λ e. omega (arith, e), tt)), ((λ e. omega (arith, e), tt), (tt, tt)))), tt),
+    ),
+  ),
+)
 
 streams-valid : (n s : ℕ) → s < 4 → IsStream (generated n) s
 unfolding generated
@@ -156,9 +123,9 @@ streams-valid n (suc (suc zero)) below = record { main = lit< tt; takes = refl }
 streams-valid n (suc (suc (suc zero))) below = record { main = lit< tt; takes = refl }
 streams-valid n (suc (suc (suc (suc s)))) below = absurd (omega arith)
 
-objects-valid : (n x : ℕ) (t : Thing) → thing_at (generated n) x ≡ Some t → IsThing (generated n) x t
+objects-valid : (n x : ℕ) (t : Thing) → thing_at (generated n) x ≡ Some t → IsThing (generated n).objects x t
 unfolding generated
-objects-valid n zero t is = subst (IsThing (generated n) 0) (some-same is) tt
+objects-valid n zero t is = subst (IsThing (generated n).objects 0) (some-same is) tt
 objects-valid n (suc x) t is = absurd (none-some is)
 
 once-placed : (ps qs : List ℕ) → qs ≡ [] → ps ≡ 0 ∷ 1 ∷ 2 ∷ 3 ∷ [] → AllPairs (λ a b. a ≢ b) (ps ++ qs)
@@ -175,17 +142,17 @@ IsValid-generated n few =
       few_keys = lit≤ tt;
       some_pool = lit< tt;
       few_pools = lit≤ tt;
-      pools = pools-valid n;
+      pools = each-all (λ (part : PoolPart). IsAccess 4 part.access) W.pools (tt, (tt, (tt, (tt, tt))));
       some_sched = lit< tt;
       few_scheds = lit≤ tt;
-      scheds = λ g below. scheds-valid n g few below;
+      scheds = each-all (IsSched 4) W.scheds (scheds-valid n few);
       mains = refl;
       streams = streams-valid n;
       one_place = once-placed _ _ (no-scheds n) refl;
       few_objects = lit≤ tt;
       objects = objects-valid n;
       few_units = omega arith;
-      units = λ u below. units-valid n u few (omega arith);
+      units = each-all (IsUnit W) W.units (units-valid n few);
       said = no-words n;
       words = All-nil IsWord;
       few_ops = few-ops n few;

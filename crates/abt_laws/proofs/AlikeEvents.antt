@@ -32,8 +32,8 @@ use Rattle.abt_machine.specs.Codes.{is_unborn, is_ended, code_of, code_at}
 use Rattle.abt_machine.specs.Changes.{Change, no_change, tray_moves, goes_with}
 use Rattle.abt_machine.specs.Steps.{owned, filled_by, ready_value, op_row, step_row}
 use Rattle.abt_machine.specs.Events.{without_requests, look_row, change, May}
+use Rattle.abt_machine.proofs.Declared.{op-declared}
 use Rattle.abt_laws.specs.Footprint.{Within, holder}
-use Rattle.abt_laws.proofs.Declared.{op-declared}
 use Rattle.abt_laws.proofs.AlikeCodes.{code_at-alike}
 use Rattle.abt_laws.proofs.Keeping.{IsKept, next-kept, first-kept, unborn-seen, ended-seen}
 use Rattle.abt_laws.proofs.Alike.{IsAlike, standing-alike, hand-alike, next-alike, front-alike, tray_end-alike, caller-alike, due-alike}

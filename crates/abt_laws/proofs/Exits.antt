@@ -15,7 +15,6 @@ use Rattle.abt_machine.specs.declared.operations.Body.{Body}
 use Rattle.abt_machine.specs.declared.operations.Body.TheVariants as body
 use Rattle.abt_machine.specs.declared.operations.Op.{Op}
 use Rattle.abt_machine.specs.declared.operations.Op.TheVariants as op
-use Rattle.abt_machine.specs.declared.workload.Parts.{Parts}
 use Rattle.abt_machine.specs.Lives.{NoExit, NoExitBefore}
 use Rattle.abt_machine.specs.Operations.{may_block}
 use Rattle.abt_machine.specs.Queues.{last}
@@ -127,7 +126,7 @@ none-blocks (o ∷ ops) h (zero, l, is) =
     cc
 none-blocks (o ∷ ops) h (suc k, l, is) = none-blocks ops (neither (may_block o) (list_any may_block ops) h).1 (k, omega arith, is)
 
-pub tasks-never-exit : (W : Parts) (b : Body) → IsBody W b → NoTaskExits b
-tasks-never-exit W (body.Ult ops) h = tt
-tasks-never-exit W (body.Task ops) h = none-blocks ops h
-tasks-never-exit W (body.Sched g) h = tt
+pub tasks-never-exit : (scheds : ℕ) (b : Body) → IsBody scheds b → NoTaskExits b
+tasks-never-exit scheds (body.Ult ops) h = tt
+tasks-never-exit scheds (body.Task ops) h = none-blocks ops h
+tasks-never-exit scheds (body.Sched g) h = tt

@@ -7,7 +7,6 @@ pub mod Barriers
 pub mod Codes
 pub mod Commute
 pub mod Counts
-pub mod Declared
 pub mod DueParts
 pub mod Dues
 pub mod Exits

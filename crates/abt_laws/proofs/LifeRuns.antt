@@ -16,6 +16,7 @@ use Rattle.abt_machine.specs.Events.{May, after}
 use Rattle.abt_machine.specs.Runs.{Run, last_state}
 use Rattle.abt_machine.specs.Sound.{Sound}
 use Rattle.abt_machine.specs.Lives.{last_life, life_events, IsLife}
+use Rattle.abt_machine.proofs.Declared.{body-valid}
 use Rattle.abt_laws.specs.Laws.{RunsAreSound, RunsLive}
 use Rattle.abt_laws.proofs.Exits.{exited_at, no-exit-nil, done-kept, tasks-never-exit}
 use Rattle.abt_laws.proofs.LifeLists.{IsLife-nil}
@@ -76,7 +77,7 @@ module _ (W : Parts) (Z : List OrderShape) (sound : RunsAreSound W Z) (valid : I
       let is : last_state W (K ++ e ∷ []) ≡ T = state_after-append W (start W) K (e ∷ []) in
       let before : Sound W Z S = last_state-sound W Z K sound valid stored run in
       let afterwards : Sound W Z T = subst (Sound W Z) is (last_state-sound W Z (K ++ e ∷ []) sound valid stored more) in
-      subst (λ U. TiedTo W (K ++ e ∷ []) U u) (sym is) (tied-after W K e u S T tied (afterwards.positions u) (tasks-never-exit W (body_at W u) (valid.units u declared).kind) (fate W Z S before e.stream.0 u declared e.what may))
+      subst (λ U. TiedTo W (K ++ e ∷ []) U u) (sym is) (tied-after W K e u S T tied (afterwards.positions u) (tasks-never-exit (length W.scheds) (body_at W u) (body-valid W u valid)) (fate W Z S before e.stream.0 u declared e.what may))
 
   tied-along-run : (K es : List Event) → Run W Z (K ++ es) → TiedTo W K (last_state W K) u → TiedTo W (K ++ es) (last_state W (K ++ es)) u
   tied-along-run K [] run tied = subst (λ J. TiedTo W J (last_state W J) u) (sym (append-nil K)) tied

@@ -24,8 +24,8 @@ use Rattle.abt_machine.specs.Codes.{unless, is_unborn, is_ended, is_in_pool, cod
 use Rattle.abt_machine.specs.Changes.{no_change}
 use Rattle.abt_machine.specs.Steps.{op_row, step_row}
 use Rattle.abt_machine.specs.Events.{look_row, change, May}
+use Rattle.abt_machine.proofs.Declared.{op-declared}
 use Rattle.abt_laws.specs.Footprint.{Within, holder}
-use Rattle.abt_laws.proofs.Declared.{op-declared}
 use Rattle.abt_laws.proofs.Keeping.{IsKept, first-kept, hand-kept, next-kept, front-kept, standing-kept, one-kept, kept-where_true, unborn-seen, ended-seen, suspended-seen, in_pool-seen}
 use Rattle.abt_laws.proofs.Local.{IsLocal, local-none, local-moves, local-carried, local-desk, local-pool_next, local-eventual, local-stream}
 use Rattle.abt_laws.proofs.LocalRows

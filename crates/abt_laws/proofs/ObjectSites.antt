@@ -10,7 +10,7 @@ use Rattle.abt_machine.specs.Workloads.{IsCondition, thing_at, mutex_of, mutex_f
 use Rattle.abt_machine.specs.Sites.{monitor_of, thing_site, object_site}
 use Rattle.abt_machine.specs.Operations.{IsMutex, IsEventual, IsFuture, IsBarrier, IsRwLock}
 use Rattle.abt_machine.specs.Valid.{IsValid}
-use Rattle.abt_laws.proofs.Declared.{mutex-declared}
+use Rattle.abt_machine.proofs.Declared.{mutex-declared}
 
 -- the waiters of an object are kept at the site that its kind names
 thing-waits : (W : Parts) (x : ℕ) (t : Option Thing) → thing_at W x ≡ t → Some (thing_site x t) ≡ Some (object_site W x)

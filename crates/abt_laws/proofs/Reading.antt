@@ -19,9 +19,9 @@ use Rattle.abt_machine.specs.Events.{May, change}
 use Rattle.abt_machine.specs.Runs.{RunFrom, last_state}
 use Rattle.abt_machine.specs.Sound.{Sound}
 use Rattle.abt_machine.specs.Valid.{IsValid}
+use Rattle.abt_machine.proofs.Declared.{op-declared}
 use Rattle.abt_laws.specs.Laws.{ReadsStay, StoresIn}
 use Rattle.abt_laws.proofs.Codes.{unless-ok}
-use Rattle.abt_laws.proofs.Declared.{op-declared}
 use Rattle.abt_laws.proofs.KeptLocks.{not-read, sum-above}
 use Rattle.abt_laws.proofs.RunParts.{last_state-sound, run-front, run-rest, state_after-append}
 use Rattle.abt_laws.proofs.SoundChanges.{number-after}

@@ -14,7 +14,8 @@ use Rattle.abt_machine.specs.State.{Frame}
 use Rattle.abt_machine.specs.Rounds.{of_class, stolen, rotated, shaped, choice_by, IsChosen, IsOrder, IsNextPool, OrdersStored}
 use Rattle.abt_machine.specs.Frames.{frame_at, frame_missed}
 use Rattle.abt_machine.specs.Sound.{IsUnderWay}
-use Rattle.abt_machine.specs.Valid.{IsValid, IsScheduler}
+use Rattle.abt_machine.specs.Valid.{IsValid}
+use Rattle.abt_machine.proofs.Declared.{some-listed}
 use Rattle.abt_laws.proofs.Orders.{order-permutes}
 
 -- Every round has an order.
@@ -78,8 +79,7 @@ pub fresh-under_way : (W : Parts) (Z : List OrderShape) (g r : ℕ) (empty : Boo
 fresh-under_way W Z g r empty valid stored l =
     let some : (order : List ℕ) × IsOrder W Z g r order = has-order W Z g r stored l in
     let long : length some.0 ≡ length (pools_of W g) = order-length W Z g r some.0 some.1 in
-    let sched : IsScheduler W g = valid.scheds g l in
-    under_way-by W Z (frame_at g r empty) some.0 some.0 some.1 refl (let k : 0 < length (pools_of W g) = sched.some_pool in omega arith)
+    under_way-by W Z (frame_at g r empty) some.0 some.0 some.1 refl (let k : 0 < length (pools_of W g) = some-listed W g valid l in omega arith)
 
 -- a frame under way has a declared scheduler, so its next round can begin
 pub next-under_way : (W : Parts) (Z : List OrderShape) (f : Frame) (r : ℕ) (empty : Bool) → IsValid W → OrdersStored W Z → IsUnderWay W Z f → IsUnderWay W Z (frame_at f.sched r empty)

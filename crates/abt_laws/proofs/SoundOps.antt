@@ -27,8 +27,8 @@ use Rattle.abt_machine.specs.Operations.{IsDeclared}
 use Rattle.abt_machine.specs.Events.{May, change}
 use Rattle.abt_machine.specs.Sound.{Sound}
 use Rattle.abt_machine.specs.Valid.{IsValid}
+use Rattle.abt_machine.proofs.Declared.{op-declared, first_pool-declared, mutex-declared}
 use Rattle.abt_laws.proofs.Codes.{unless-second, unless-ok}
-use Rattle.abt_laws.proofs.Declared.{op-declared, first_pool-declared, mutex-declared}
 use Rattle.abt_laws.proofs.SoundChanges.{Keeps}
 use Rattle.abt_laws.proofs.Wakes.{IsWakeable, wakeable-line, wakeable-first, frameless-by, off-by}
 use Rattle.abt_laws.proofs.SoundSteps.{IsStepping, stepping, may_wake, keeps-still, keeps-goes_with, keeps-wakes_only}

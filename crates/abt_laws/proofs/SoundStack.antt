@@ -22,6 +22,7 @@ use Rattle.abt_machine.specs.Changes.{Change, changed}
 use Rattle.abt_machine.specs.Events.{May, change}
 use Rattle.abt_machine.specs.Sound.{Sound, IsPlaced, IsAtRest, AllUnderWay, AllAtRest, RunsSched, frames_of, stacked_frame}
 use Rattle.abt_machine.specs.Valid.{IsValid}
+use Rattle.abt_machine.proofs.Declared.{sched-declared}
 use Rattle.abt_laws.proofs.Locks.{IsOffLocks}
 use Rattle.abt_laws.proofs.SoundEvents.{keeps-event}
 use Rattle.abt_laws.proofs.Rounds.{fresh-under_way}
@@ -32,7 +33,6 @@ use Rattle.abt_laws.proofs.Arrivals.{IsBelow, free-above, free-empty}
 use Rattle.abt_laws.proofs.Standing.{StandsIn, first-stands, is-declared}
 use Rattle.abt_laws.proofs.SoundChanges.{Keeps, FramesKeep, OnStream, placed-below}
 use Rattle.abt_laws.proofs.SoundRound.{fresh-rest}
-use Rattle.abt_laws.proofs.Declared.{sched-declared}
 use Rattle.abt_laws.proofs.Wakes.{empty-still}
 
 -- a frame below the top one has the same number with and without the top one

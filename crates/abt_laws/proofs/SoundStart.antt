@@ -15,6 +15,7 @@ use Rattle.abt_machine.specs.Lines.{Line, InPool, InHand, Waiting, standing, tic
 use Rattle.abt_machine.specs.Start.{start, start_place, count_at}
 use Rattle.abt_machine.specs.Sound.{IsKept, IsPlaced}
 use Rattle.abt_machine.specs.Valid.{IsValid}
+use Rattle.abt_machine.proofs.Declared.{undeclared-start, start-declared, barrier-some}
 use Rattle.abt_laws.specs.Laws.{StartIsSound}
 use Rattle.abt_laws.proofs.KeptLocks.{above-zero}
 use Rattle.abt_laws.proofs.Rounds.{fresh-under_way}
@@ -22,7 +23,6 @@ use Rattle.abt_laws.proofs.Options.{none≢some}
 use Rattle.abt_laws.proofs.Places.{line_of-ticket, same-self}
 use Rattle.abt_laws.proofs.Arrivals.{OneEach, IsEmpty}
 use Rattle.abt_laws.proofs.Standing.{empty-standing}
-use Rattle.abt_laws.proofs.Declared.{undeclared-start, start-declared, barrier-some}
 
 count-suc : (W : Parts) (p n : ℕ) → start_of W n ≡ Some p → count_at W p (suc n) ≡ suc (count_at W p n)
 count-suc W p n e =

@@ -1,14 +1,8 @@
--- The facts of a valid workload's parts, as each is looked at.
-use Rattle.std.specs.Prelude.{ℕ, ◌≡◌, ◌≢◌, ◌==◌, ◌+◌, ◌<◌, ◌≤◌, ◌&&◌, Bool, true, false, not, nat_lt, option_and_then, if◌then◌else◌, List, [], ◌∷◌, length, slice_index_or, slice_set, All, AllPairs, Option, Some, None}
+-- What the computations find that tell whether parts are those of a workload.
+use Rattle.std.specs.Prelude.{ℕ, ◌≡◌, ◌==◌, ◌+◌, ◌<◌, ◌≤◌, ◌&&◌, Bool, true, false, not, nat_lt, option_and_then, if◌then◌else◌, List, [], ◌∷◌, length, slice_index_or, slice_set, Option, Some, None}
 use Rattle.abt_machine.specs.declared.grammar.Format.TheVariants as format
-use Rattle.abt_machine.specs.declared.numbers.PoolNo.{PoolNo}
 use Rattle.abt_machine.specs.declared.workload.Parts.{Parts}
-use Rattle.abt_machine.specs.declared.workload.SchedPart.{SchedPart}
-use Rattle.abt_machine.specs.declared.workload.UnitPart.{UnitPart}
-use Rattle.abt_machine.specs.Limits.{key_limit, listed_limit, object_limit, pool_limit, sched_limit, stream_limit, unit_limit, unit_operation_limit}
-use Rattle.abt_machine.specs.Operations.{IsDeclared}
-use Rattle.abt_machine.specs.Valid.{IsBody, IsRule}
-use Rattle.abt_machine.specs.Workloads.{ops_of}
+use Rattle.abt_machine.specs.Limits.{key_limit, object_limit, pool_limit, sched_limit, stream_limit, unit_limit}
 
 -- there are as many of each as there may be
 pub record AreCounts (W : Parts) : Type 0 where
@@ -22,30 +16,6 @@ pub record AreCounts (W : Parts) : Type 0 where
   pub mains : length W.mains ≡ W.streams
   pub few_objects : length W.objects ≤ object_limit
   pub few_units : length W.units ≤ unit_limit format.Two
-
--- these are declared pools, one at least and as many as the limit at most, each once
-pub record AreListed (W : Parts) (pools : List PoolNo) : Type 0 where
-  pub some_pool : 0 < length pools
-  pub few_pools : length pools ≤ listed_limit
-  pub declared : All (λ (p : PoolNo). p.0 < length W.pools) pools
-  pub once : AllPairs (λ (a b : PoolNo). a.0 ≢ b.0) pools
-
--- a scheduler's rule and pools
-pub record IsSchedPart (W : Parts) (part : SchedPart) : Type 0 where
-  pub rule : IsRule part.rule
-  pub pools : AreListed W part.pools
-
--- a unit that starts, starts in a declared pool
-abbrev pub IsStart : Parts → Option PoolNo → Type 0
-IsStart W None = Unit {0}
-IsStart W (Some p) = p.0 < length W.pools
-
--- a unit's body, operations and pool
-pub record IsUnitPart (W : Parts) (part : UnitPart) : Type 0 where
-  pub kind : IsBody W part.body
-  pub few_ops : length (ops_of part.body) ≤ unit_operation_limit
-  pub ops : All (IsDeclared W) (ops_of part.body)
-  pub start : IsStart W part.start
 
 -- what is left of room after so much is taken of it, if there is enough
 abbrev pub IsLeft : ℕ → ℕ → Option ℕ → Type 0

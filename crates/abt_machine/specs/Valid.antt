@@ -1,34 +1,36 @@
 -- When parts are those of a workload: exactly if some workload text declares them.
-use Rattle.std.specs.Prelude.{ℕ, ◌≡◌, ◌≢◌, ◌<◌, ◌≤◌, ◌^◌, ◌++◌, IsTrue, IsFalse, IsUtf8, List, [], ◌∷◌, length, map, flat_map, All, AllPairs, EachIndex, Some, ⊤}
+use Rattle.std.specs.Prelude.{ℕ, ◌≡◌, ◌≢◌, ◌<◌, ◌≤◌, ◌^◌, ◌++◌, IsTrue, IsFalse, IsUtf8, List, [], ◌∷◌, length, map, flat_map, slice_get, All, AllPairs, IfSome, Some, ⊤}
 use Rattle.std.specs.List.{list_any, range_with_len}
 use Rattle.abt_machine.specs.declared.grammar.Format.TheVariants as format
+use Rattle.abt_machine.specs.declared.numbers.PoolNo.{PoolNo}
 use Rattle.abt_machine.specs.declared.numbers.SchedNo.{SchedNo}
 use Rattle.abt_machine.specs.declared.operations.Access.{Access}
 use Rattle.abt_machine.specs.declared.operations.Access.TheVariants as access
 use Rattle.abt_machine.specs.declared.operations.Body.{Body}
 use Rattle.abt_machine.specs.declared.operations.Body.TheVariants as body
-use Rattle.abt_machine.specs.declared.operations.Op.{Op}
 use Rattle.abt_machine.specs.declared.operations.Rule.{Rule}
 use Rattle.abt_machine.specs.declared.operations.Rule.TheVariants as rule
 use Rattle.abt_machine.specs.declared.operations.Thing.{Thing}
 use Rattle.abt_machine.specs.declared.operations.Thing.TheVariants as thing
 use Rattle.abt_machine.specs.declared.workload.Parts.{Parts}
+use Rattle.abt_machine.specs.declared.workload.PoolPart.{PoolPart}
+use Rattle.abt_machine.specs.declared.workload.SchedPart.{SchedPart}
 use Rattle.abt_machine.specs.declared.workload.UnitPart.{UnitPart}
 use Rattle.abt_machine.specs.Access.{may_take_all}
 use Rattle.abt_machine.specs.Limits.{key_limit, listed_limit, object_limit, operation_limit, pool_limit, sched_limit, size_limit, stream_limit, unit_limit, unit_operation_limit, word_limit}
-use Rattle.abt_machine.specs.Operations.{IsDeclared, IsMutex, may_block, said_by}
+use Rattle.abt_machine.specs.Operations.{IsDeclared, may_block, said_by}
 use Rattle.abt_machine.specs.Words.{Text}
-use Rattle.abt_machine.specs.Workloads.{access_of, all_ops, body_at, main_of, op_at, ops_of, pools_of, rule_of, start_of, thing_at}
+use Rattle.abt_machine.specs.Workloads.{all_ops, main_of, ops_of, thing_at}
 
 -- Pools.
 
--- the streams that an access names are declared
-abbrev pub IsAccess : Parts → Access → Type 0
-IsAccess W (access.Priv s) = s.0 < W.streams
-IsAccess W (access.Spsc s t) = (s.0 < W.streams) × (t.0 < W.streams)
-IsAccess W (access.Mpsc t) = t.0 < W.streams
-IsAccess W (access.Spmc s) = s.0 < W.streams
-IsAccess W access.Mpmc = ⊤
+-- the streams that an access names are among this many
+abbrev pub IsAccess : ℕ → Access → Type 0
+IsAccess streams (access.Priv s) = s.0 < streams
+IsAccess streams (access.Spsc s t) = (s.0 < streams) × (t.0 < streams)
+IsAccess streams (access.Mpsc t) = t.0 < streams
+IsAccess streams (access.Spmc s) = s.0 < streams
+IsAccess streams access.Mpmc = ⊤
 
 -- Schedulers.
 
@@ -39,13 +41,13 @@ IsRule rule.Prio = ⊤
 IsRule (rule.Randws seed) = seed < 2 ^ 64
 IsRule (rule.User k) = k < 2
 
--- scheduler g lists declared pools, one at least and as many as the limit at most, each once
-pub record IsScheduler (W : Parts) (g : ℕ) : Type 0 where
-  pub rule : (r : Rule) → rule_of W g ≡ Some r → IsRule r
-  pub some_pool : 0 < length (pools_of W g)
-  pub few_pools : length (pools_of W g) ≤ listed_limit
-  pub pools : All (λ p. p < length W.pools) (pools_of W g)
-  pub once : AllPairs (λ a b. a ≢ b) (pools_of W g)
+-- a scheduler lists some of this many pools, one at least and as many as the limit at most, each once
+pub record IsSched (pools : ℕ) (part : SchedPart) : Type 0 where
+  pub rule : IsRule part.rule
+  pub some_pool : 0 < length part.pools
+  pub few_pools : length part.pools ≤ listed_limit
+  pub listed : All (λ (p : PoolNo). p.0 < pools) part.pools
+  pub once : AllPairs (λ (a b : PoolNo). a.0 ≢ b.0) part.pools
 
 -- stream s has a declared main scheduler, and may take from all of its pools
 pub record IsStream (W : Parts) (s : ℕ) : Type 0 where
@@ -64,29 +66,29 @@ placed_scheds W = map (λ (g : SchedNo). g.0) W.mains ++ flat_map (λ (part : Un
 
 -- Objects.
 
--- a condition belongs to a mutex that is declared above it; a future has compartments, and a barrier parties, as many as the limit at most
-abbrev pub IsThing : Parts → ℕ → Thing → Type 0
-IsThing W x thing.Mutex = ⊤
-IsThing W x (thing.Cond m) = (m.0 < x) × IsMutex W m.0
-IsThing W x thing.Eventual = ⊤
-IsThing W x (thing.Future n c) = (0 < n) × (n ≤ size_limit)
-IsThing W x (thing.Barrier n) = (0 < n) × (n ≤ size_limit)
-IsThing W x thing.RwLock = ⊤
+-- object x of these: a condition belongs to a mutex that is declared above it; a future has compartments, and a barrier parties, as many as the limit at most
+abbrev pub IsThing : List Thing → ℕ → Thing → Type 0
+IsThing objects x thing.Mutex = ⊤
+IsThing objects x (thing.Cond m) = (m.0 < x) × (slice_get objects m.0 ≡ Some thing.Mutex)
+IsThing objects x thing.Eventual = ⊤
+IsThing objects x (thing.Future n c) = (0 < n) × (n ≤ size_limit)
+IsThing objects x (thing.Barrier n) = (0 < n) × (n ≤ size_limit)
+IsThing objects x thing.RwLock = ⊤
 
 -- Units.
 
--- a tasklet has no operation that may block or yield, and a unit's scheduler is declared
-abbrev pub IsBody : Parts → Body → Type 0
-IsBody W (body.Ult ops) = ⊤
-IsBody W (body.Task ops) = IsFalse (list_any may_block ops)
-IsBody W (body.Sched g) = g.0 < length W.scheds
+-- a tasklet has no operation that may block or yield, and a unit's scheduler is one of this many
+abbrev pub IsBody : ℕ → Body → Type 0
+IsBody scheds (body.Ult ops) = ⊤
+IsBody scheds (body.Task ops) = IsFalse (list_any may_block ops)
+IsBody scheds (body.Sched g) = g.0 < scheds
 
--- unit u has as many operations as a unit may have, and starts in a declared pool, if in any
-pub record IsUnit (W : Parts) (u : ℕ) : Type 0 where
-  pub kind : IsBody W (body_at W u)
-  pub few_ops : length (ops_of (body_at W u)) ≤ unit_operation_limit
-  pub ops : (k : ℕ) (o : Op) → op_at W u k ≡ Some o → IsDeclared W o
-  pub start : (p : ℕ) → start_of W u ≡ Some p → p < length W.pools
+-- a unit has as many operations as a unit may have, and starts in a declared pool, if in any
+pub record IsUnit (W : Parts) (part : UnitPart) : Type 0 where
+  pub kind : IsBody (length W.scheds) part.body
+  pub few_ops : length (ops_of part.body) ≤ unit_operation_limit
+  pub ops : All (IsDeclared W) (ops_of part.body)
+  pub start : IfSome part.start (λ (p : PoolNo). p.0 < length W.pools)
 
 -- Words.
 
@@ -112,19 +114,19 @@ pub record IsValid (W : Parts) : Type 0 where
   pub few_keys : W.keys ≤ key_limit
   pub some_pool : 0 < length W.pools
   pub few_pools : length W.pools ≤ pool_limit
-  pub pools : EachIndex W.pools (λ p. IsAccess W (access_of W p))
+  pub pools : All (λ (part : PoolPart). IsAccess W.streams part.access) W.pools
   pub some_sched : 0 < length W.scheds
   pub few_scheds : length W.scheds ≤ sched_limit
-  pub scheds : EachIndex W.scheds (IsScheduler W)
+  pub scheds : All (IsSched (length W.pools)) W.scheds
   -- each stream has one main scheduler
   pub mains : length W.mains ≡ W.streams
   pub streams : (s : ℕ) → s < W.streams → IsStream W s
   -- no scheduler has two places
   pub one_place : AllPairs (λ a b. a ≢ b) (placed_scheds W)
   pub few_objects : length W.objects ≤ object_limit
-  pub objects : (x : ℕ) (t : Thing) → thing_at W x ≡ Some t → IsThing W x t
+  pub objects : (x : ℕ) (t : Thing) → thing_at W x ≡ Some t → IsThing W.objects x t
   pub few_units : length W.units ≤ unit_limit format.Two
-  pub units : EachIndex W.units (IsUnit W)
+  pub units : All (IsUnit W) W.units
   pub few_ops : length (all_ops W.units) ≤ operation_limit
   -- the words are said in their order, each by one operation
   pub said : words_said W ≡ range_with_len 0 (length W.words)

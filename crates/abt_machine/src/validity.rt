@@ -1,12 +1,12 @@
 //! Whether parts are those of a workload.
 
-ghost use Rattle.std.specs.Prelude.{◌↔◌, ◌≡◌, ◌≢◌, ◌==◌, ◌<◌, ◌≤◌, ℕ, All, AllPairs, IsTrue, None, Some, flat_map, if◌then◌else◌, length, map};
+ghost use Rattle.std.specs.Prelude.{◌↔◌, ◌≡◌, ◌≢◌, ◌==◌, ◌<◌, ◌≤◌, ℕ, All, AllPairs, IfSome, IsTrue, None, Some, flat_map, if◌then◌else◌, length, map};
 ghost use Rattle.std.specs.List.{list_all, list_any, range_with_len};
 ghost use Rattle.abt_machine.specs.Access.{may_take, may_take_all};
-ghost use Rattle.abt_machine.specs.Checks.{AreCounts, AreListed, IsLeft, IsSchedPart, IsStart, IsUnitPart, after_said, place, places};
+ghost use Rattle.abt_machine.specs.Checks.{AreCounts, IsLeft, after_said, place, places};
 ghost use Rattle.abt_machine.specs.Limits.{operation_limit, sched_limit};
 ghost use Rattle.abt_machine.specs.Operations.{IsBarrier, IsDeclared, IsEventual, IsFuture, IsMutex, IsRwLock, may_block, said_by};
-ghost use Rattle.abt_machine.specs.Valid.{IsAccess, IsBody, IsRule, IsStream, IsThing, IsValid, IsVisible, IsWord, placed_scheds, sched_in, words_said};
+ghost use Rattle.abt_machine.specs.Valid.{IsAccess, IsBody, IsRule, IsSched, IsStream, IsThing, IsUnit, IsValid, IsVisible, IsWord, placed_scheds, sched_in, words_said};
 ghost use Rattle.abt_machine.specs.Workloads.{IsCondition, all_ops, ops_of, thing_at};
 ghost use Rattle.abt_machine.specs.declared.numbers.PoolNo.{PoolNo};
 ghost use Rattle.abt_machine.specs.declared.numbers.SchedNo.{SchedNo};
@@ -208,7 +208,7 @@ impl Parts {
 
     // Whether the streams that an access names are declared.
     fn is_access(&self, access: Access) -> bool
-        ensures { IsTrue result ↔ IsAccess self.now access }
+        ensures { IsTrue result ↔ IsAccess self.now.streams access }
     {
         match access {
             Access::Priv(s) | Access::Mpsc(s) | Access::Spmc(s) => self.has_stream(s),
@@ -219,7 +219,7 @@ impl Parts {
 
     // Whether each pool's access names declared streams.
     fn has_accesses(&self) -> bool
-        ensures { IsTrue result ↔ All (λ (part : PoolPart). IsAccess self.now part.access) self.now.pools }
+        ensures { IsTrue result ↔ All (λ (part : PoolPart). IsAccess self.now.streams part.access) self.now.pools }
     {
         self.pools
             .items()
@@ -234,23 +234,20 @@ impl Parts {
         pools.iter().all(|p| self.has_pool(*p))
     }
 
-    // Whether these are 1 to 8 declared pools, each once.
-    fn are_listed(&self, pools: &[PoolNo]) -> bool
-        ensures { IsTrue result ↔ AreListed self.now pools.now }
-    {
-        is_among(pools.len(), 8) && self.are_declared(pools) && are_distinct(pools)
-    }
-
-    // Whether a scheduler's rule and pools are as they may be.
+    // Whether a scheduler lists 1 to 8 declared pools, each once.
     fn is_sched(&self, part: &SchedPart) -> bool
-        ensures { IsTrue result ↔ IsSchedPart self.now part.now }
+        ensures { IsTrue result ↔ IsSched (length self.now.pools) part.now }
     {
-        is_rule(part.rule) && self.are_listed(part.pools.items())
+        let pools = part.pools.items();
+        is_rule(part.rule)
+            && is_among(pools.len(), 8)
+            && self.are_declared(pools)
+            && are_distinct(pools)
     }
 
     // Whether each scheduler's rule and pools are as they may be.
     fn has_listings(&self) -> bool
-        ensures { IsTrue result ↔ All (IsSchedPart self.now) self.now.scheds }
+        ensures { IsTrue result ↔ All (IsSched (length self.now.pools)) self.now.scheds }
     {
         self.scheds.items().iter().all(|part| self.is_sched(part))
     }
@@ -333,7 +330,7 @@ impl Parts {
 
     // Whether an object of this number may be this.
     fn is_thing(&self, x: usize, thing: Thing) -> bool
-        ensures { IsTrue result ↔ IsThing self.now x thing }
+        ensures { IsTrue result ↔ IsThing self.now.objects x thing }
     {
         match thing {
             Thing::Mutex | Thing::Eventual | Thing::RwLock => true,
@@ -344,7 +341,7 @@ impl Parts {
 
     // Whether each object may be what it is declared as.
     fn has_things(&self) -> bool
-        ensures { IsTrue result ↔ ((x : ℕ) (t : Thing) → thing_at self.now x ≡ Some t → IsThing self.now x t) }
+        ensures { IsTrue result ↔ ((x : ℕ) (t : Thing) → thing_at self.now x ≡ Some t → IsThing self.now.objects x t) }
     {
         for (x, thing) in self.objects.items().iter().enumerate() {
             if !self.is_thing(x, *thing) {
@@ -356,7 +353,7 @@ impl Parts {
 
     // Whether a tasklet has no operation that may block or yield, and a unit's scheduler is declared.
     fn is_body(&self, body: &Body) -> bool
-        ensures { IsTrue result ↔ IsBody self.now body.now }
+        ensures { IsTrue result ↔ IsBody (length self.now.scheds) body.now }
     {
         match body {
             Body::Ult(_) => true,
@@ -399,7 +396,7 @@ impl Parts {
 
     // Whether a unit that starts, starts in a declared pool.
     fn is_start(&self, start: Option<PoolNo>) -> bool
-        ensures { IsTrue result ↔ IsStart self.now start }
+        ensures { IsTrue result ↔ IfSome start (λ (p : PoolNo). p.0 < length self.now.pools) }
     {
         match start {
             None => true,
@@ -409,7 +406,7 @@ impl Parts {
 
     // Whether a unit's body, operations and pool are as they may be.
     fn is_unit(&self, part: &UnitPart) -> bool
-        ensures { IsTrue result ↔ IsUnitPart self.now part.now }
+        ensures { IsTrue result ↔ IsUnit self.now part.now }
     {
         let ops = part.body.ops();
         self.is_body(&part.body)
@@ -420,7 +417,7 @@ impl Parts {
 
     // Whether each unit is as it may be.
     fn has_units(&self) -> bool
-        ensures { IsTrue result ↔ All (IsUnitPart self.now) self.now.units }
+        ensures { IsTrue result ↔ All (IsUnit self.now) self.now.units }
     {
         self.units.items().iter().all(|part| self.is_unit(part))
     }

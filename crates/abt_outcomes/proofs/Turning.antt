@@ -10,7 +10,7 @@ use Rattle.abt_machine.specs.declared.operations.OrderShape.{OrderShape}
 use Rattle.abt_machine.specs.declared.workload.Parts.{Parts}
 use Rattle.abt_machine.specs.Numbers.{pool_no}
 use Rattle.abt_machine.specs.Workloads.{main_of, pools_of}
-use Rattle.abt_machine.specs.Valid.{IsValid, IsScheduler, IsStream}
+use Rattle.abt_machine.specs.Valid.{IsValid, IsStream}
 use Rattle.abt_machine.specs.Rounds.{OrdersStored}
 use Rattle.abt_machine.specs.Queues.{queue}
 use Rattle.abt_machine.specs.State.{State}
@@ -19,6 +19,7 @@ use Rattle.abt_machine.specs.Next.{RoundDue}
 use Rattle.abt_machine.specs.Events.{May, after}
 use Rattle.abt_machine.specs.Runs.{RunFrom, state_after}
 use Rattle.abt_machine.specs.Sound.{Sound}
+use Rattle.abt_machine.proofs.Declared.{some-listed}
 use Rattle.abt_laws.specs.Laws.{AllMisses, IsMiss}
 use Rattle.abt_laws.proofs.Dues.{due-no_tray, due-no_next, due-no_hand}
 use Rattle.abt_laws.proofs.Quiet.{miss-stacks-none}
@@ -115,8 +116,7 @@ missed-shows W Z S s p (e ∷ es) valid stored sound run misses has =
 lists-some : (W : Parts) (s : ℕ) → IsValid W → s < W.streams → (p : ℕ) × Contains (pools_of W (main_of W s)) p
 lists-some W s valid l =
     let stream : IsStream W s = valid.streams s l in
-    let sched : IsScheduler W (main_of W s) = valid.scheds (main_of W s) stream.main in
-    (get_or (pools_of W (main_of W s)) 0 0, Contains-get_or (pools_of W (main_of W s)) 0 0 sched.some_pool)
+    (get_or (pools_of W (main_of W s)) 0 0, Contains-get_or (pools_of W (main_of W s)) 0 0 (some-listed W (main_of W s) valid stream.main))
 
 pub misses-end : (W : Parts) (Z : List OrderShape) → MissesEnd W Z
 misses-end W Z valid stored S es sound run misses alone missed =

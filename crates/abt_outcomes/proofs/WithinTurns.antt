@@ -8,7 +8,7 @@ use Rattle.abt_machine.specs.declared.events.What.{What}
 use Rattle.abt_machine.specs.declared.events.What.TheVariants as what
 use Rattle.abt_machine.specs.declared.operations.OrderShape.{OrderShape}
 use Rattle.abt_machine.specs.declared.workload.Parts.{Parts}
-use Rattle.abt_machine.specs.Valid.{IsValid, IsScheduler}
+use Rattle.abt_machine.specs.Valid.{IsValid}
 use Rattle.abt_machine.specs.Workloads.{pools_of}
 use Rattle.abt_machine.specs.Rounds.{IsNextPool, OrdersStored}
 use Rattle.abt_machine.specs.State.{State, Stream, Frame}
@@ -16,12 +16,12 @@ use Rattle.abt_machine.specs.Frames.{frame_at, frame_missed, round_missed}
 use Rattle.abt_machine.specs.Events.{After, May, after}
 use Rattle.abt_machine.specs.Sound.{Sound}
 use Rattle.abt_machine.specs.Outcomes.{is_step}
+use Rattle.abt_machine.proofs.Declared.{few-listed}
 use Rattle.abt_laws.specs.Laws.{IsMiss}
 use Rattle.abt_laws.specs.Measure.{open_frames, weight}
 use Rattle.abt_laws.proofs.Maps.{put_at-same}
 use Rattle.abt_laws.proofs.Misses.{miss-keeps-frames, miss-keeps-weight}
 use Rattle.abt_laws.proofs.Orders.{order-permutes}
-use Rattle.abt_laws.proofs.Rounds.{order-declared}
 use Rattle.abt_laws.proofs.SoundRuns.{events-keep-sound}
 use Rattle.abt_outcomes.specs.Laws.{TurnsFall}
 use Rattle.abt_outcomes.specs.Rotations.{turns_left, unseen}
@@ -52,9 +52,7 @@ missed-unseen W f p more =
 -- a round has at most 8 pools to see
 unseen-most : (W : Parts) (Z : List OrderShape) (S : State) (s : ℕ) → IsValid W → s < W.streams → Sound W Z S → unseen W S s ≤ 8
 unseen-most W Z S s valid declared sound =
-    let under = (sound.under_way s declared).0 in
-    let sched : IsScheduler W (S.stream s).top.sched = valid.scheds (S.stream s).top.sched (order-declared W Z (S.stream s).top.sched (S.stream s).top.round under.0 under.1) in
-    let few : length (pools_of W (S.stream s).top.sched) ≤ 8 = sched.few_pools in omega arith
+    let few : length (pools_of W (S.stream s).top.sched) ≤ 8 = few-listed W (S.stream s).top.sched valid in omega arith
 
 miss-falls : (W : Parts) (Z : List OrderShape) (S : State) (s : ℕ) (w : What) → May W Z S s w → IsMiss w → ((after W S s w).stream s).top.empty ≡ false → turns_left W (after W S s w) s < turns_left W S s
 miss-falls W Z S s (what.Miss p) may miss goes-on =

@@ -1,9 +1,6 @@
 -- From what each shape of step makes of a stream to its operation.
-use Rattle.std.proofs.Common.{◌≡◌, ◌<◌, ◌-◌, ◌^◌, ℕ, [], ◌∷◌, length, Option, None, Some, option_map, refl, sym, ap, ◌∙◌, subst, IsSome, arith, inl, inr}
-use Rattle.std.proofs.lemmas.Bool.{cases_lt}
-use Rattle.std.proofs.lemmas.Option.{slice_get_past}
-use Rattle.abt_laws.proofs.Declared.{op-declared}
-use Rattle.abt_laws.proofs.Options.{none≢some}
+use Rattle.std.proofs.Common.{◌≡◌, ◌<◌, ◌-◌, ◌^◌, ℕ, [], ◌∷◌, length, Option, None, Some, option_map, refl, sym, ap, ◌∙◌, subst, IsSome, arith}
+use Rattle.std.proofs.lemmas.Option.{slice_get_within}
 use Rattle.abt_machine.specs.declared.events.Code.{Code}
 use Rattle.abt_machine.specs.declared.events.Code.TheVariants as code
 use Rattle.abt_machine.specs.declared.events.Site.{Site}
@@ -12,13 +9,13 @@ use Rattle.abt_machine.specs.declared.numbers.UnitNo.{UnitNo}
 use Rattle.abt_machine.specs.declared.workload.Parts.{Parts}
 use Rattle.abt_machine.specs.Acts.{Act, Answer, moved}
 use Rattle.abt_machine.specs.Acts as asks
-use Rattle.abt_machine.specs.Operations.{IsDeclared}
 use Rattle.abt_machine.specs.Plans as plans
 use Rattle.abt_machine.specs.Plans.{Calls, Does, Effect, Exits, denied, effect_of, empties, keeps, plan_of, refusal, to_caller, to_condition, to_giver, to_yielder}
 use Rattle.abt_machine.specs.Turns.{Performs, stepped}
 use Rattle.abt_machine.specs.Valid.{IsValid}
 use Rattle.abt_machine.specs.Values.{Held, Object, Owned}
 use Rattle.abt_machine.specs.Workloads.{body_at, op_at, ops_of}
+use Rattle.abt_machine.proofs.Declared.{few-unit-ops, op-declared}
 use Rattle.abt_calls.specs.Allowed.{Allows}
 use Rattle.abt_unit.specs.Local.{after_local}
 use Rattle.abt_plans.specs.declared.acts.Asking.{Asking}
@@ -35,14 +32,9 @@ use Rattle.abt_replay.proofs.Asking.{may-ask}
 -- a unit is at one of its operations, so its position fits
 pub position_below : (W : Parts) (u k : ℕ) (a : Op) → IsValid W → u < length W.units → op_at W u k ≡ Some a → k < 2 ^ 32 - 1
 position_below W u k a valid declared at =
-    let few = (valid.units u declared).few_ops in
-    elim (cases_lt k (length (ops_of (body_at W u)))) [
-      | inl l ↦ omega arith
-      | inr l ↦ absurd (none≢some (sym (slice_get_past (ops_of (body_at W u)) k l) ∙ at))
-    ]
-
-pub op_is_declared : (W : Parts) (u k : ℕ) (a : Op) → IsValid W → op_at W u k ≡ Some a → IsDeclared W a
-op_is_declared W u k a valid at = op-declared W u k a valid at
+    let few = few-unit-ops W u valid in
+    let within = slice_get_within (ops_of (body_at W u)) k a at in
+    omega arith
 
 -- What is asked.
 
@@ -112,4 +104,4 @@ module _ (W : Parts) (s : ℕ) (a : Op) (o : Owned) (old : Held) (before : Objec
     pub yield_to_made : (x : Site) (v : UnitNo) → p ≡ plan.YieldTo x v → Asked x (asks.Remove v.0) (to_yielder o) old before c new after → Operated W s a o old before c new after
     yield_to_made x v is h = calls x (asks.Remove v.0) (to_yielder o) (subst (IsPlan W s a o) is planned) h
 
-pub ruleset operations = (position_below, op_is_declared, own_local, ask_allowed, give_allowed, wait_allowed, yield_allowed, own_made, yield_made, exit_made, deny_made, ask_made, give_made, wait_made, yield_to_made)
+pub ruleset operations = (position_below, op-declared, own_local, ask_allowed, give_allowed, wait_allowed, yield_allowed, own_made, yield_made, exit_made, deny_made, ask_made, give_made, wait_made, yield_to_made)

@@ -1,5 +1,5 @@
 -- Decisions that compute: the proof of a fact, or nothing.
-use Rattle.std.proofs.Common.{ℕ, zero, suc, ◌≡◌, ◌≢◌, ◌<◌, ◌≤◌, ◌+◌, Bool, true, false, List, [], ◌∷◌, Option, Some, None, nat_lt, refl, sym, ap, subst, ◌∙◌, arith, inl, inr}
+use Rattle.std.proofs.Common.{ℕ, zero, suc, ◌≡◌, ◌≢◌, ◌<◌, ◌≤◌, ◌+◌, Bool, true, false, List, [], ◌∷◌, Option, Some, None, IfSome, nat_lt, refl, sym, ap, subst, ◌∙◌, arith, inl, inr}
 use Rattle.std.specs.Prelude.{◌==◌, All, AllPairs, slice_get, is_some}
 use Rattle.std.proofs.lemmas.Bool.{cases_lt, ltb-true, eqb-true, eqb-false, true≢false}
 use Rattle.std.proofs.lemmas.Option.{none-some, same_Some}
@@ -93,9 +93,9 @@ entries (x ∷ xs) P decide =
     given (decide 0 x) (λ here. given (entries xs (λ k. P (suc k)) (λ k. decide (suc k))) (λ rest. Some (front_entry P x xs here rest)))
 
 -- what is decided of the element, if there is one
-abbrev pub whenever : {X : Type 0} (P : X → Type 0) → ((x : X) → Option (P x)) → (o : Option X) → Option ((x : X) → o ≡ Some x → P x)
-whenever P decide None = Some (λ x e. absurd (none-some x e))
-whenever P decide (Some y) = given (decide y) (λ here. Some (λ x e. subst P (same_Some y x e) here))
+abbrev pub whenever : {X : Type 0} (P : X → Type 0) → ((x : X) → Option (P x)) → (o : Option X) → Option (IfSome o P)
+whenever P decide None = Some tt
+whenever P decide (Some y) = decide y
 
 pub front_apart : (x : ℕ) (xs : List ℕ) → All (λ y. x ≢ y) xs → AllPairs (λ a b. a ≢ b) xs → AllPairs (λ a b. a ≢ b) (x ∷ xs)
 front_apart x xs first rest zero zero d less lt = absurd (omega (arith, less))

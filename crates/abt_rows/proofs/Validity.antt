@@ -1,10 +1,11 @@
 -- Whether parts are those of a workload, computed with the proof.
-use Rattle.std.proofs.Common.{ℕ, zero, suc, ◌≡◌, ◌<◌, ◌≤◌, ◌^◌, true, [], ◌∷◌, length, Option, Some, None, nat_lt, refl, arith}
+use Rattle.std.proofs.Common.{ℕ, zero, suc, ◌≡◌, ◌<◌, ◌≤◌, ◌^◌, true, [], ◌∷◌, length, map, Option, Some, None, nat_lt, refl, arith}
 use Rattle.std.specs.Prelude.{IsAscii}
 use Rattle.std.specs.List.{list_all, list_any, range_with_len}
 use Rattle.std.proofs.lemmas.Bool.{and_parts, ltb-true}
 use Rattle.std.proofs.lemmas.Str.{IsUtf8-from_ascii}
 use Rattle.abt_machine.specs.declared.grammar.Format.TheVariants as format
+use Rattle.abt_machine.specs.declared.numbers.PoolNo.{PoolNo}
 use Rattle.abt_machine.specs.declared.operations.Access.{Access}
 use Rattle.abt_machine.specs.declared.operations.Access.TheVariants as access
 use Rattle.abt_machine.specs.declared.operations.Body.{Body}
@@ -16,22 +17,26 @@ use Rattle.abt_machine.specs.declared.operations.Rule.TheVariants as rule
 use Rattle.abt_machine.specs.declared.operations.Thing.{Thing}
 use Rattle.abt_machine.specs.declared.operations.Thing.TheVariants as thing
 use Rattle.abt_machine.specs.declared.workload.Parts.{Parts}
+use Rattle.abt_machine.specs.declared.workload.PoolPart.{PoolPart}
+use Rattle.abt_machine.specs.declared.workload.SchedPart.{SchedPart}
+use Rattle.abt_machine.specs.declared.workload.UnitPart.{UnitPart}
 use Rattle.abt_machine.specs.Access.{may_take_all}
 use Rattle.abt_machine.specs.Limits.{operation_limit, stream_limit, unit_limit}
 use Rattle.abt_machine.specs.Operations.{IsDeclared, IsMutex, IsEventual, IsFuture, IsBarrier, IsRwLock, may_block}
-use Rattle.abt_machine.specs.Valid.{IsAccess, IsBody, IsRule, IsScheduler, IsStream, IsThing, IsUnit, IsValid, IsVisible, IsWord, placed_scheds, words_said}
+use Rattle.abt_machine.specs.Valid.{IsAccess, IsBody, IsRule, IsSched, IsStream, IsThing, IsUnit, IsValid, IsVisible, IsWord, placed_scheds, words_said}
 use Rattle.abt_machine.specs.Words.{Text}
-use Rattle.abt_machine.specs.Workloads.{IsCondition, access_of, all_ops, body_at, main_of, ops_of, pools_of, rule_of, start_of, thing_at}
+use Rattle.abt_machine.specs.Workloads.{IsCondition, all_ops, main_of, ops_of, thing_at}
+use Rattle.abt_machine.proofs.Elements.{map-pairs}
 use Rattle.abt_rows.proofs.Deciding.{all, apart, each_below, each_once, entries, given, is_at_most, is_false, is_less, is_true, same, same_list, whenever}
 
 -- Pools, schedulers and streams.
 
-abbrev pool_access : (W : Parts) (a : Access) → Option (IsAccess W a)
-pool_access W (access.Priv s) = is_less s.0 W.streams
-pool_access W (access.Spsc s t) = given (is_less s.0 W.streams) (λ here. given (is_less t.0 W.streams) (λ there. Some (here, there)))
-pool_access W (access.Mpsc t) = is_less t.0 W.streams
-pool_access W (access.Spmc s) = is_less s.0 W.streams
-pool_access W access.Mpmc = Some tt
+abbrev pool_access : (streams : ℕ) (a : Access) → Option (IsAccess streams a)
+pool_access streams (access.Priv s) = is_less s.0 streams
+pool_access streams (access.Spsc s t) = given (is_less s.0 streams) (λ here. given (is_less t.0 streams) (λ there. Some (here, there)))
+pool_access streams (access.Mpsc t) = is_less t.0 streams
+pool_access streams (access.Spmc s) = is_less s.0 streams
+pool_access streams access.Mpmc = Some tt
 
 abbrev sched_rule : (r : Rule) → Option (IsRule r)
 sched_rule rule.Basic = Some tt
@@ -39,14 +44,14 @@ sched_rule rule.Prio = Some tt
 sched_rule (rule.Randws seed) = is_less seed (2 ^ 64)
 sched_rule (rule.User k) = is_less k 2
 
-abbrev scheduler : (W : Parts) (g : ℕ) → Option (IsScheduler W g)
-scheduler W g =
-    given (whenever IsRule sched_rule (rule_of W g)) (λ rules.
-    given (is_less 0 (length (pools_of W g))) (λ some.
-    given (is_at_most (length (pools_of W g)) 8) (λ few.
-    given (all (λ p. p < length W.pools) (λ p. is_less p (length W.pools)) (pools_of W g)) (λ pools.
-    given (each_once (pools_of W g)) (λ once.
-    Some (record { rule = rules; some_pool = some; few_pools = few; pools = pools; once = once }))))))
+abbrev scheduler : (pools : ℕ) (part : SchedPart) → Option (IsSched pools part)
+scheduler pools part =
+    given (sched_rule part.rule) (λ rule.
+    given (is_less 0 (length part.pools)) (λ some.
+    given (is_at_most (length part.pools) 8) (λ few.
+    given (all (λ (p : PoolNo). p.0 < pools) (λ (p : PoolNo). is_less p.0 pools) part.pools) (λ listed.
+    given (each_once (map (λ (p : PoolNo). p.0) part.pools)) (λ once.
+    Some (record { rule = rule; some_pool = some; few_pools = few; listed = listed; once = map-pairs part.pools once }))))))
 
 abbrev stream : (W : Parts) (s : ℕ) → Option (IsStream W s)
 stream W s =
@@ -101,7 +106,7 @@ rwlock W x = rwlock_by W x (thing_at W x) refl
 abbrev size : (n : ℕ) → Option ((0 < n) × (n ≤ 4096))
 size n = given (is_less 0 n) (λ some. given (is_at_most n 4096) (λ few. Some (some, few)))
 
-abbrev object : (W : Parts) (x : ℕ) (t : Thing) → Option (IsThing W x t)
+abbrev object : (W : Parts) (x : ℕ) (t : Thing) → Option (IsThing W.objects x t)
 object W x thing.Mutex = Some tt
 object W x (thing.Cond m) = given (is_less m.0 x) (λ above. given (mutex W m.0) (λ is. Some (above, is)))
 object W x thing.Eventual = Some tt
@@ -156,17 +161,17 @@ operation W (op.RwUnlock x) = rwlock W x.0
 operation W (op.RwLoad x) = rwlock W x.0
 operation W (op.RwStore x) = rwlock W x.0
 
-abbrev unit_body : (W : Parts) (b : Body) → Option (IsBody W b)
-unit_body W (body.Ult ops) = Some tt
-unit_body W (body.Task ops) = is_false (list_any may_block ops)
-unit_body W (body.Sched g) = is_less g.0 (length W.scheds)
+abbrev unit_body : (scheds : ℕ) (b : Body) → Option (IsBody scheds b)
+unit_body scheds (body.Ult ops) = Some tt
+unit_body scheds (body.Task ops) = is_false (list_any may_block ops)
+unit_body scheds (body.Sched g) = is_less g.0 scheds
 
-abbrev unit : (W : Parts) (u : ℕ) → Option (IsUnit W u)
-unit W u =
-    given (unit_body W (body_at W u)) (λ kind.
-    given (is_at_most (length (ops_of (body_at W u))) 256) (λ few.
-    given (entries (ops_of (body_at W u)) (λ k. IsDeclared W) (λ k. operation W)) (λ ops.
-    given (whenever (λ p. p < length W.pools) (λ p. is_less p (length W.pools)) (start_of W u)) (λ start.
+abbrev unit : (W : Parts) (part : UnitPart) → Option (IsUnit W part)
+unit W part =
+    given (unit_body (length W.scheds) part.body) (λ kind.
+    given (is_at_most (length (ops_of part.body)) 256) (λ few.
+    given (all (IsDeclared W) (operation W) (ops_of part.body)) (λ ops.
+    given (whenever (λ (p : PoolNo). p.0 < length W.pools) (λ (p : PoolNo). is_less p.0 (length W.pools)) part.start) (λ start.
     Some (record { kind = kind; few_ops = few; ops = ops; start = start })))))
 
 -- Words.
@@ -197,17 +202,17 @@ validity W =
     given (is_at_most W.keys 16) (λ few_keys.
     given (is_less 0 (length W.pools)) (λ some_pool.
     given (is_at_most (length W.pools) 64) (λ few_pools.
-    given (each_below (λ p. IsAccess W (access_of W p)) (λ p. pool_access W (access_of W p)) (length W.pools)) (λ pools.
+    given (all (λ (part : PoolPart). IsAccess W.streams part.access) (λ (part : PoolPart). pool_access W.streams part.access) W.pools) (λ pools.
     given (is_less 0 (length W.scheds)) (λ some_sched.
     given (is_at_most (length W.scheds) 64) (λ few_scheds.
-    given (each_below (IsScheduler W) (scheduler W) (length W.scheds)) (λ scheds.
+    given (all (IsSched (length W.pools)) (scheduler (length W.pools)) W.scheds) (λ scheds.
     given (same (length W.mains) W.streams) (λ mains.
     given (each_below (IsStream W) (stream W) W.streams) (λ streams.
     given (each_once (placed_scheds W)) (λ one_place.
     given (is_at_most (length W.objects) 256) (λ few_objects.
-    given (entries W.objects (IsThing W) (object W)) (λ objects.
+    given (entries W.objects (IsThing W.objects) (object W)) (λ objects.
     given (is_at_most (length W.units) (unit_limit format.Two)) (λ few_units.
-    given (each_below (IsUnit W) (unit W) (length W.units)) (λ units.
+    given (all (IsUnit W) (unit W) W.units) (λ units.
     given (is_at_most (length (all_ops W.units)) operation_limit) (λ few_ops.
     given (same_list (words_said W) (range_with_len 0 (length W.words))) (λ said.
     given (all IsWord said_word W.words) (λ words.

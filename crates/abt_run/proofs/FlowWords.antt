@@ -12,7 +12,7 @@ use Rattle.abt_machine.specs.Operations.{IsDeclared}
 use Rattle.abt_machine.specs.Pieces.{IsPieceOf}
 use Rattle.abt_machine.specs.Valid.{IsValid}
 use Rattle.abt_machine.specs.Workloads.{op_at}
-use Rattle.abt_laws.proofs.Declared.{op-declared}
+use Rattle.abt_machine.proofs.Declared.{op-declared}
 use Rattle.abt_flow.specs.Effects.{Memory, effect, fresh}
 use Rattle.abt_flow.specs.Flow.{AtPoint, Does, IsFlow, IsRow, Leads, Made}
 

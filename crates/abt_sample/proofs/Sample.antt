@@ -1,19 +1,19 @@
 -- The workload is valid: one stream, a pool, its scheduler, and four units without operations.
-use Rattle.std.proofs.Common.{◌≡◌, ◌<◌, ◌≤◌, ℕ, suc, zero, [], ◌∷◌, None, Some, length, refl, subst, arith, lit<, lit≤}
-use Rattle.std.proofs.lemmas.List.Elements.{All-cons, All-nil}
+use Rattle.std.proofs.Common.{◌≡◌, ◌<◌, ◌≤◌, ℕ, suc, zero, [], ◌∷◌, None, Some, refl, arith, lit<, lit≤}
+use Rattle.std.proofs.lemmas.List.Elements.{All-from_recursion, All-nil}
+use Rattle.abt_machine.specs.declared.numbers.PoolNo.{PoolNo}
 use Rattle.abt_machine.specs.declared.operations.Access.TheVariants as access
 use Rattle.abt_machine.specs.declared.operations.Body.TheVariants as body
 use Rattle.abt_machine.specs.declared.operations.Kind.TheVariants as kind
-use Rattle.abt_machine.specs.declared.operations.Op.{Op}
-use Rattle.abt_machine.specs.declared.operations.Rule.{Rule}
 use Rattle.abt_machine.specs.declared.operations.Rule.TheVariants as rule
 use Rattle.abt_machine.specs.declared.operations.Thing.{Thing}
 use Rattle.abt_machine.specs.declared.workload.Parts.{Parts}
+use Rattle.abt_machine.specs.declared.workload.PoolPart.{PoolPart}
 use Rattle.abt_machine.specs.declared.workload.UnitPart.{UnitPart}
 use Rattle.abt_machine.specs.Numbers.{pool_no, sched_no}
 use Rattle.abt_machine.specs.Operations.{IsDeclared}
-use Rattle.abt_machine.specs.Valid.{IsValid, IsAccess, IsRule, IsScheduler, IsStream, IsThing, IsUnit, IsWord}
-use Rattle.abt_machine.specs.Workloads.{access_of, op_at, rule_of, start_of, thing_at}
+use Rattle.abt_machine.specs.Valid.{IsValid, IsAccess, IsSched, IsStream, IsThing, IsUnit, IsWord}
+use Rattle.abt_machine.specs.Workloads.{thing_at}
 
 abbrev pub idle : UnitPart
 idle = record { body = body.Ult []; start = None }
@@ -30,49 +30,25 @@ sample = record {
   words = [];
 }
 
-pools : (p : ℕ) → p < 1 → IsAccess sample (access_of sample p)
-pools zero within = tt
-pools (suc p) within = absurd (omega arith)
-
-rule_is : (r : Rule) → rule_of sample 0 ≡ Some r → IsRule r
-rule_is r e = let same : rule.Prio ≡ r = cc in subst IsRule same tt
-
-scheds : (g : ℕ) → g < 1 → IsScheduler sample g
-scheds zero within = record {
-  rule = rule_is;
+-- its scheduler lists the pool
+scheduler : IsSched 1 (record { rule = rule.Prio; pools = pool_no 0 ∷ [] })
+scheduler = record {
+  rule = tt;
   some_pool = lit< tt;
   few_pools = lit≤ tt;
-  pools = All-cons (λ p. p < 1) 0 [] (lit< tt) (All-nil (λ p. p < 1));
+  listed = All-from_recursion (λ (p : PoolNo). p.0 < 1) (pool_no 0 ∷ []) (lit< tt, tt);
   once = λ i j d before short. absurd (omega arith);
 }
-scheds (suc g) within = absurd (omega arith)
+
+-- a unit without operations
+unit : IsUnit sample idle
+unit = record { kind = tt; few_ops = lit≤ tt; ops = All-nil (IsDeclared sample); start = tt }
 
 streams : (s : ℕ) → s < 1 → IsStream sample s
 streams zero within = record { main = lit< tt; takes = refl }
 streams (suc s) within = absurd (omega arith)
 
-ops : (u k : ℕ) (a : Op) → u < 4 → op_at sample u k ≡ Some a → IsDeclared sample a
-ops zero k a within e = cc
-ops (suc zero) k a within e = cc
-ops (suc (suc zero)) k a within e = cc
-ops (suc (suc (suc zero))) k a within e = cc
-ops (suc (suc (suc (suc u)))) k a within e = absurd (omega arith)
-
-starts : (u p : ℕ) → u < 4 → start_of sample u ≡ Some p → p < 1
-starts zero p within e = cc
-starts (suc zero) p within e = cc
-starts (suc (suc zero)) p within e = cc
-starts (suc (suc (suc zero))) p within e = cc
-starts (suc (suc (suc (suc u)))) p within e = absurd (omega arith)
-
-units : (u : ℕ) → u < 4 → IsUnit sample u
-units zero within = record { kind = tt; few_ops = lit≤ tt; ops = λ k a e. ops 0 k a within e; start = λ p e. starts 0 p within e }
-units (suc zero) within = record { kind = tt; few_ops = lit≤ tt; ops = λ k a e. ops 1 k a within e; start = λ p e. starts 1 p within e }
-units (suc (suc zero)) within = record { kind = tt; few_ops = lit≤ tt; ops = λ k a e. ops 2 k a within e; start = λ p e. starts 2 p within e }
-units (suc (suc (suc zero))) within = record { kind = tt; few_ops = lit≤ tt; ops = λ k a e. ops 3 k a within e; start = λ p e. starts 3 p within e }
-units (suc (suc (suc (suc u)))) within = absurd (omega arith)
-
-objects : (x : ℕ) (t : Thing) → thing_at sample x ≡ Some t → IsThing sample x t
+objects : (x : ℕ) (t : Thing) → thing_at sample x ≡ Some t → IsThing sample.objects x t
 objects x t e = cc
 
 pub IsValid-sample : IsValid sample
@@ -82,17 +58,17 @@ IsValid-sample = record {
   few_keys = lit≤ tt;
   some_pool = lit< tt;
   few_pools = lit≤ tt;
-  pools = pools;
+  pools = All-from_recursion (λ (part : PoolPart). IsAccess 1 part.access) sample.pools (tt, tt);
   some_sched = lit< tt;
   few_scheds = lit≤ tt;
-  scheds = scheds;
+  scheds = All-from_recursion (IsSched 1) sample.scheds (scheduler, tt);
   mains = refl;
   streams = streams;
   one_place = λ i j d before short. absurd (omega arith);
   few_objects = lit≤ tt;
   objects = objects;
   few_units = lit≤ tt;
-  units = units;
+  units = All-from_recursion (IsUnit sample) sample.units (unit, (unit, (unit, (unit, tt))));
   few_ops = lit≤ tt;
   said = refl;
   words = All-nil IsWord;

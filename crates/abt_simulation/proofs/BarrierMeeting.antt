@@ -1,23 +1,24 @@
 -- The meeting at a barrier: what the laws suppose is computed, and what they say follows.
-use Rattle.std.proofs.Common.{◌≡◌, ◌≢◌, ℕ, zero, suc, ◌<◌, ◌≤◌, true, false, List, [], ◌∷◌, length, slice_get, Option, Some, None, refl, sym, ◌∙◌, ap, subst, arith, inl, inr}
-use Rattle.std.specs.Prelude.{All, AllPairs, Contains, take, drop}
-use Rattle.std.proofs.lemmas.List.Elements.{All-cons, All-nil}
+use Rattle.std.proofs.Common.{◌≡◌, ◌≢◌, ℕ, zero, suc, ◌<◌, ◌≤◌, true, false, List, [], ◌∷◌, slice_get, Option, Some, None, refl, sym, ◌∙◌, subst, arith, inl, inr}
+use Rattle.std.specs.Prelude.{AllPairs, Contains, take, drop}
+use Rattle.std.proofs.lemmas.List.Elements.{All-cons, All-from_recursion, All-nil}
 use Rattle.std.proofs.lemmas.List.Kept.{AllPairs-cons}
 use Rattle.abt_machine.specs.declared.events.Cause.TheVariants as cause
 use Rattle.abt_machine.specs.declared.events.Event.{Event}
 use Rattle.abt_machine.specs.declared.events.Site.{Site}
 use Rattle.abt_machine.specs.declared.events.Site.TheVariants as site
+use Rattle.abt_machine.specs.declared.numbers.PoolNo.{PoolNo}
 use Rattle.abt_machine.specs.declared.operations.Body.TheVariants as body
 use Rattle.abt_machine.specs.declared.operations.Kind.TheVariants as kind
-use Rattle.abt_machine.specs.declared.operations.Op.{Op}
 use Rattle.abt_machine.specs.declared.operations.Op.TheVariants as op
 use Rattle.abt_machine.specs.declared.operations.Rule.TheVariants as rule
 use Rattle.abt_machine.specs.declared.operations.Thing.{Thing}
-use Rattle.abt_machine.specs.Numbers.{object_no}
+use Rattle.abt_machine.specs.declared.workload.PoolPart.{PoolPart}
+use Rattle.abt_machine.specs.Numbers.{object_no, pool_no}
 use Rattle.abt_machine.specs.Operations.{IsDeclared}
-use Rattle.abt_machine.specs.Valid.{IsAccess, IsBody, IsRule, IsScheduler, IsStream, IsThing, IsUnit, IsValid, IsWord}
+use Rattle.abt_machine.specs.Valid.{IsAccess, IsSched, IsStream, IsThing, IsUnit, IsValid, IsWord}
 use Rattle.abt_machine.specs.Rounds.{OrdersStored}
-use Rattle.abt_machine.specs.Workloads.{access_of, body_at, ops_of, pools_of, rule_of, start_of, thing_at}
+use Rattle.abt_machine.specs.Workloads.{thing_at}
 use Rattle.abt_machine.specs.Frames.{round_taken}
 use Rattle.abt_machine.specs.Start.{start}
 use Rattle.abt_machine.specs.Sound.{Sound}
@@ -50,32 +51,27 @@ below-two P a b (suc zero) l = b
 below-two P a b (suc (suc k)) l = absurd (omega arith)
 
 -- a scheduler that takes the pool in turn
-prio : (g : ℕ) → rule_of meeting g ≡ Some rule.Prio → pools_of meeting g ≡ 0 ∷ [] → IsScheduler meeting g
-prio g is pools = record {
-  rule = λ r e. subst IsRule (some-injective (sym is ∙ e)) tt;
-  some_pool = subst (λ ps. 0 < length ps) (sym pools) (omega arith);
-  few_pools = subst (λ ps. length ps ≤ 8) (sym pools) (omega arith);
-  pools = subst (All (λ p. p < 1)) (sym pools) (All-cons (λ p. p < 1) 0 [] (omega arith) (All-nil (λ p. p < 1)));
-  once = subst (AllPairs (λ a b. a ≢ b)) (sym pools) (AllPairs-cons (λ a b. a ≢ b) 0 [] (All-nil (λ b. 0 ≢ b)) no_pairs);
-} where
-  no_pairs : AllPairs (λ (a b : ℕ). a ≢ b) []
-  no_pairs = λ i j d l m. absurd (omega arith)
+prio : IsSched 1 (record { rule = rule.Prio; pools = pool_no 0 ∷ [] })
+prio = record {
+  rule = tt;
+  some_pool = omega arith;
+  few_pools = omega arith;
+  listed = All-from_recursion (λ (p : PoolNo). p.0 < 1) (pool_no 0 ∷ []) (omega arith, tt);
+  once = λ i j d before within. absurd (omega arith);
+}
 
 -- a unit with the one operation
-program : (u : ℕ) → body_at meeting u ≡ body.Ult (op.BarWait (object_no 0) ∷ []) → start_of meeting u ≡ Some 0 → IsUnit meeting u
-program u is starts = record {
-  kind = subst (IsBody meeting) (sym is) tt;
-  few_ops = subst (λ b. length (ops_of b) ≤ 256) (sym is) (omega arith);
-  ops = λ k o e. by k o (ap (λ b. slice_get (ops_of b) k) (sym is) ∙ e);
-  start = λ p e. subst (λ q. q < 1) (some-injective (sym starts ∙ e)) (omega arith);
-} where
-  by : (k : ℕ) (o : Op) → slice_get (op.BarWait (object_no 0) ∷ []) k ≡ Some o → IsDeclared meeting o
-  by zero o e = subst (IsDeclared meeting) (some-injective e) (2, refl)
-  by (suc k) o e = absurd (none≢some e)
+program : IsUnit meeting (record { body = body.Ult (op.BarWait (object_no 0) ∷ []); start = Some (pool_no 0) })
+program = record {
+  kind = tt;
+  few_ops = omega arith;
+  ops = All-from_recursion (IsDeclared meeting) (op.BarWait (object_no 0) ∷ []) ((2, refl), tt);
+  start = omega arith;
+}
 
 -- its one object is a barrier of two
-thing : (x : ℕ) (t : Thing) → thing_at meeting x ≡ Some t → IsThing meeting x t
-thing zero t e = subst (IsThing meeting 0) (some-injective e) (omega arith, omega arith)
+thing : (x : ℕ) (t : Thing) → thing_at meeting x ≡ Some t → IsThing meeting.objects x t
+thing zero t e = subst (IsThing meeting.objects 0) (some-injective e) (omega arith, omega arith)
 thing (suc x) t e = absurd (none≢some e)
 
 -- no scheduler has two places
@@ -92,17 +88,17 @@ valid = record {
   few_keys = omega arith;
   some_pool = omega arith;
   few_pools = omega arith;
-  pools = λ p l. below-two (λ q. IsAccess meeting (access_of meeting q)) tt tt p (omega arith);
+  pools = All-from_recursion (λ (part : PoolPart). IsAccess 2 part.access) meeting.pools (tt, tt);
   some_sched = omega arith;
   few_scheds = omega arith;
-  scheds = below-two (IsScheduler meeting) (prio 0 refl refl) (prio 1 refl refl);
+  scheds = All-from_recursion (IsSched 1) meeting.scheds (prio, (prio, tt));
   mains = refl;
   streams = below-two (IsStream meeting) (record { main = omega arith; takes = refl }) (record { main = omega arith; takes = refl });
   one_place = two_places;
   few_objects = omega arith;
   objects = thing;
   few_units = omega arith;
-  units = below-two (IsUnit meeting) (program 0 refl refl) (program 1 refl refl);
+  units = All-from_recursion (IsUnit meeting) meeting.units (program, (program, tt));
   few_ops = omega arith;
   said = refl;
   words = All-nil IsWord;

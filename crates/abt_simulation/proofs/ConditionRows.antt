@@ -27,7 +27,7 @@ use Rattle.abt_machine.specs.Sites.{monitor_of}
 use Rattle.abt_machine.specs.declared.numbers.ObjectNo.{ObjectNo}
 use Rattle.abt_machine.specs.declared.operations.Op.TheVariants as op
 use Rattle.abt_machine.specs.Acts as act
-use Rattle.abt_laws.proofs.Declared.{mutex-declared}
+use Rattle.abt_machine.proofs.Declared.{mutex-declared}
 use Rattle.abt_laws.proofs.Lists.{EachOf, EachOf-then, EachOf-first_alone}
 use Rattle.abt_laws.proofs.Maps.{put_at-same}
 use Rattle.abt_laws.proofs.Options.{none≢some}

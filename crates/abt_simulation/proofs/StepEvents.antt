@@ -31,7 +31,7 @@ use Rattle.abt_machine.specs.Acts.{Act, moved}
 use Rattle.abt_machine.specs.Acts as act
 use Rattle.abt_machine.specs.Plans.{Effect, Plan, Does, Calls, Exits, denied, refusal, plan_of, effect_of}
 use Rattle.abt_machine.specs.Turns.{Heard, due_of, Performs, exited}
-use Rattle.abt_laws.proofs.Declared.{op-declared}
+use Rattle.abt_machine.proofs.Declared.{op-declared}
 use Rattle.abt_laws.proofs.DueParts.{due-same}
 use Rattle.abt_simulation.specs.Simulation.{Answers, Leaves}
 use Rattle.abt_simulation.proofs.Acting.{IsActing, acting}

@@ -9,9 +9,10 @@ use Rattle.abt_machine.specs.declared.operations.Op.{Op}
 use Rattle.abt_machine.specs.declared.workload.Parts.{Parts}
 use Rattle.abt_machine.specs.Operations.{IsDeclared}
 use Rattle.abt_machine.specs.Outcomes.{steps_in}
-use Rattle.abt_machine.specs.Valid.{IsBody, IsValid}
+use Rattle.abt_machine.specs.Valid.{IsValid}
 use Rattle.abt_machine.specs.Values.{Owned}
 use Rattle.abt_machine.specs.Workloads.{body_at, op_at}
+use Rattle.abt_machine.proofs.Declared.{op-declared, sched-declared}
 use Rattle.abt_calls.specs.Effects.{unit_in}
 use Rattle.abt_calls.specs.Holders.{units_of}
 use Rattle.abt_unit.specs.Fits.{Fits}
@@ -34,12 +35,12 @@ no_order_taken (p ∷ ps) unit h = absurd h
 -- the operation of a unit is declared
 pub op_declared : (W : Parts) (hand : Option Owned) (a : Op) → IsValid W → IfHeld hand (Fits W) → IfHeld hand (λ o. op_at W o.number o.carried.position ≡ Some a) → IsDeclared W a
 op_declared W None a valid fits at = absurd fits
-op_declared W (Some o) a valid fits at = (valid.units o.number fits.number).ops o.carried.position a at
+op_declared W (Some o) a valid fits at = op-declared W o.number o.carried.position a valid at
 
 -- and so is its scheduler
 pub sched_declared : (W : Parts) (hand : Option Owned) (g : SchedNo) → IsValid W → IfHeld hand (Fits W) → IfHeld hand (λ o. body_at W o.number ≡ body.Sched g) → g.0 < length W.scheds
 sched_declared W None g valid fits at = absurd fits
-sched_declared W (Some o) g valid fits at = subst (IsBody W) at (valid.units o.number fits.number).kind
+sched_declared W (Some o) g valid fits at = sched-declared W o.number g valid at
 
 pub can_step : (W : Parts) (s : StreamValue) (hand : Option Owned) → IsValid W → s.held.hand ≡ hand → IfHeld hand (Fits W) → IsReady W s → steps_in s.log < s.budget → CanStep s
 can_step W s None valid is fits ready few = absurd fits

@@ -17,12 +17,13 @@ use Rattle.abt_machine.specs.Valid.{IsValid}
 use Rattle.abt_machine.specs.Values.{Owned}
 use Rattle.abt_machine.specs.Workloads.{body_at, op_at, ops_of}
 use Rattle.abt_machine.specs.Pieces.{IsPieceOf}
+use Rattle.abt_machine.proofs.Declared.{few-unit-ops, op-declared}
 use Rattle.abt_unit.specs.Fits.{Fits}
 use Rattle.abt_unit.specs.Local.{back, local_step, local_step_at}
 
 -- the position of a unit that fits a valid workload is a small number
 pub position-le : (W : Parts) (o : Owned) → IsValid W → Fits W o → o.carried.position ≤ 256
-position-le W o valid fits = let few = (valid.units o.number fits.number).few_ops in let at = fits.position in omega arith
+position-le W o valid fits = let few = few-unit-ops W o.number valid in let at = fits.position in omega arith
 
 -- a unit that has an operation goes on
 pub Fits-moved : {W : Parts} {o : Owned} → Fits W o → (a : Op) → op_at W o.number o.carried.position ≡ Some a → Fits W (moved o)
@@ -85,10 +86,6 @@ Fits-keys {o = o} fits k n = record {
   output = fits.output;
 }
 
--- the operation at the position of a declared unit is declared
-IsDeclared-op_at : (W : Parts) (u k : ℕ) (a : Op) → IsValid W → u < length W.units → op_at W u k ≡ Some a → IsDeclared W a
-IsDeclared-op_at W u k a valid declared e = (valid.units u declared).ops k a e
-
 -- an operation that is declared names a key that there is, if it names one
 key-declared : (W : Parts) (a : Op) → IsDeclared W a → IfSome (nature_of a).key (λ k. k < W.keys)
 key-declared W (op.KeySet k) declared = declared
@@ -98,7 +95,7 @@ key-declared W _ declared = tt
 -- the key that a unit's operation names, if it names one, is a key of the unit
 pub key-op_at : (W : Parts) (o : Owned) (a : Op) → IsValid W → Fits W o → op_at W o.number o.carried.position ≡ Some a → IfSome (nature_of a).key (λ k. k < length o.carried.keys)
 key-op_at W o a valid fits e =
-    rw fits.keys (key-declared W a (IsDeclared-op_at W o.number o.carried.position a valid fits.number e))
+    rw fits.keys (key-declared W a (op-declared W o.number o.carried.position a valid e))
 
 becomes : (W : Parts) (o p : Owned) → Some o ≡ Some p → Fits W o → Fits W p
 becomes W o p e fits = let P : Owned → Type 0 = λ x. Fits W x in let same : o ≡ p = cc in subst P same fits
@@ -116,7 +113,7 @@ Fits-local_step_at W o p _ fits declared e = cc
 Fits-local_step_by : (W : Parts) (o p : Owned) (a : Option Op) → IsValid W → Fits W o → op_at W o.number o.carried.position ≡ a → local_step_at a o ≡ Some p → Fits W p
 Fits-local_step_by W o p None valid fits is e = cc
 Fits-local_step_by W o p (Some a) valid fits is e =
-    Fits-local_step_at W o p a (Fits-moved fits a is) (IsDeclared-op_at W o.number o.carried.position a valid fits.number is) e
+    Fits-local_step_at W o p a (Fits-moved fits a is) (op-declared W o.number o.carried.position a valid is) e
 
 -- a unit does the operation at its position, a local one
 pub Fits-local_step : (W : Parts) (o p : Owned) → IsValid W → Fits W o → local_step W o ≡ Some p → Fits W p

@@ -19,11 +19,12 @@ use Rattle.abt_machine.specs.declared.workload.UnitPart.{UnitPart}
 use Rattle.abt_machine.specs.Faults.{has_repeated}
 use Rattle.abt_machine.specs.Forms.{Slot, Fixed, KindWord, CombineWord, AnyWord, Numeral, PoolList, fits, numerals, suits}
 use Rattle.abt_machine.specs.Spelling.{value_of}
+use Rattle.abt_machine.specs.Valid.{IsAccess, IsSched, IsThing}
 use Rattle.abt_machine.specs.Words.{Text}
 use Rattle.abt_machine.proofs.Placing.{pairs-head, pairs-tail}
 use Rattle.abt_workload.specs.Slots.{numbered, values}
 use Rattle.abt_workload.proofs.Places.{and-left, and-right, kinds, or-left, or-right}
-use Rattle.abt_workload.proofs.Proper.{AreUnset, HasMains, HasUnits, IsAccessIn, IsSchedIn, IsThingIn, no-pair, none-of}
+use Rattle.abt_workload.proofs.Proper.{AreUnset, HasMains, HasUnits, no-pair, none-of}
 
 -- one element more
 
@@ -52,14 +53,14 @@ pub any-none : (n : ℕ) → flat_map option_to_list (let none : Option SchedNo 
 any-none zero = refl
 any-none (suc n) = any-none n
 
-pub access-grows : (m n : ℕ) → m ≤ n → (x : Access) → IsAccessIn m x → IsAccessIn n x
+pub access-grows : (m n : ℕ) → m ≤ n → (x : Access) → IsAccess m x → IsAccess n x
 access-grows m n le (access.Priv s) h = omega arith
 access-grows m n le (access.Spsc s t) h = let x = h.0 in let y = h.1 in (omega arith, omega arith)
 access-grows m n le (access.Mpsc t) h = omega arith
 access-grows m n le (access.Spmc s) h = omega arith
 access-grows m n le access.Mpmc h = tt
 
-pub sched-grows : (m n : ℕ) → m ≤ n → (part : SchedPart) → IsSchedIn m part → IsSchedIn n part
+pub sched-grows : (m n : ℕ) → m ≤ n → (part : SchedPart) → IsSched m part → IsSched n part
 sched-grows m n le part h = record { rule = h.rule; some_pool = h.some_pool; few_pools = h.few_pools; listed = λ k d lt. let x = h.listed k d lt in omega (arith, x); once = h.once }
 
 pub no-units : (W : Parts) (count : ℕ) (units : List UnitPart) (last : Option UnitPart) (copies : ℕ) → units ≡ [] → last ≡ None → count ≤ 4096 → HasUnits W count units last copies
@@ -92,7 +93,7 @@ get-more [] ys k x e = cc
 get-more (z ∷ zs) ys zero x e = e
 get-more (z ∷ zs) ys (suc k) x e = get-more zs ys k x e
 
-pub thing-grows : (xs : List Thing) (y : Thing) (x : ℕ) (t : Thing) → IsThingIn xs x t → IsThingIn (xs ++ y ∷ []) x t
+pub thing-grows : (xs : List Thing) (y : Thing) (x : ℕ) (t : Thing) → IsThing xs x t → IsThing (xs ++ y ∷ []) x t
 thing-grows xs y x thing.Mutex h = tt
 thing-grows xs y x (thing.Cond m) h = (h.0, get-more xs (y ∷ []) m.0 thing.Mutex h.1)
 thing-grows xs y x thing.Eventual h = tt

@@ -2,6 +2,7 @@
 use Rattle.std.proofs.Common.{◌≡◌, ◌≢◌, ◌<◌, ◌≤◌, ◌+◌, ◌-◌, ◌^◌, ◌==◌, ◌||◌, ◌∙◌, ℕ, zero, suc, true, false, List, [], ◌∷◌, ◌++◌, All, Option, Some, None, ap, arith, drop, flat_map, is_none, length, length-append, lit≤, map, nat_le, nat_lt, option_to_list, refl, replicate, slice_get, slice_set, subst, sym, unwrap_or}
 use Rattle.std.specs.List.{AllPairs, list_any}
 use Rattle.std.proofs.lemmas.List.{length-map, length-replicate, length-set}
+use Rattle.std.proofs.lemmas.List.Elements.{All-map}
 use Rattle.std.proofs.lemmas.Option.{slice_get_within}
 use Rattle.abt_machine.specs.declared.grammar.Form.TheVariants as form
 use Rattle.abt_machine.specs.declared.grammar.Format.{Format}
@@ -21,19 +22,20 @@ use Rattle.abt_machine.specs.declared.workload.UnitPart.{UnitPart}
 use Rattle.abt_machine.specs.Declaring.{Above, access_with, at, listed, pool_with, rule_with, sched_with, thing_with}
 use Rattle.abt_machine.specs.Limits.{stream_limit, unit_limit}
 use Rattle.abt_machine.specs.Numbers.{pool_no, sched_no}
-use Rattle.abt_machine.specs.Valid.{IsRule, sched_in}
+use Rattle.abt_machine.specs.Valid.{IsAccess, IsRule, IsSched, IsThing, sched_in}
 use Rattle.abt_machine.specs.Faults.{has_main, is_placed, is_there, values_of}
 use Rattle.abt_machine.specs.Forms.{slots}
 use Rattle.abt_machine.specs.Words.{Text}
+use Rattle.abt_machine.proofs.Elements.{map-pairs}
 use Rattle.abt_workload.proofs.Bounds.{after-section, after-single, between, kind-within, le-from, le-not, lt-from, lt-not, mutex-there, there-at, within-at}
 use Rattle.abt_workload.proofs.Copies.{AreCopies, units-scheds}
 use Rattle.abt_workload.proofs.Naming.{any-fits}
 use Rattle.abt_workload.proofs.Growing.{access-grows, all-and, any-none, empty-of, ends_list, get-replicate, holds-and, holds-set, main-none, mains_list, no-mains, no-units, not-among, once-pairs, pairs-set, sched-grows, tail-all, tail-some, thing-grows}
 use Rattle.abt_workload.proofs.Places.{kinds, not-false, or-left, or-right}
-use Rattle.abt_workload.proofs.Proper.{AreUnits, AreUnset, HasMains, HasObjects, HasPools, HasScheds, HasStreams, IsAccessIn, IsInOrder, IsProper, IsSchedIn, IsThingIn, counted, placed, stream_count, takes_all, unit_count, with_form}
+use Rattle.abt_workload.proofs.Proper.{AreUnits, AreUnset, HasMains, HasObjects, HasPools, HasScheds, HasStreams, IsInOrder, IsProper, counted, placed, stream_count, takes_all, unit_count, with_form}
 use Rattle.abt_workload.proofs.Soundness.{IsSound}
 
-access-in : {a : Above} {line : Text} {words : List Text} (x : Access) → IsSound a line words (form.Pool x) → IsAccessIn (stream_count a) (access_with x (values_of (form.Pool x) words))
+access-in : {a : Above} {line : Text} {words : List Text} (x : Access) → IsSound a line words (form.Pool x) → IsAccess (stream_count a) (access_with x (values_of (form.Pool x) words))
 access-in (access.Priv x) s = lt-from _ _ (there-at (form.Pool (access.Priv x)) s 1 number.Stream refl)
 access-in (access.Spsc x y) s = (lt-from _ _ (there-at (form.Pool (access.Spsc x y)) s 1 number.Stream refl), lt-from _ _ (there-at (form.Pool (access.Spsc x y)) s 2 number.Stream refl))
 access-in (access.Mpsc y) s = lt-from _ _ (there-at (form.Pool (access.Mpsc y)) s 1 number.Stream refl)
@@ -63,7 +65,7 @@ module _ {a : Above} {line : Text} {words : List Text} (r : Rule) (s : IsSound a
       let all = tail-all (is_there a) (slots (form.Sched r)) words s.form_fits p.1 s.there in
       subst (λ (ns : List ℕ). All (λ n. n < length a.pools) ns) (sym p.0) (λ k d lt. lt-from _ _ (all k d lt))
 
-  sched-in : IsSchedIn (length a.pools) (sched_with r (values_of (form.Sched r) words))
+  sched-in : IsSched (length a.pools) (sched_with r (values_of (form.Sched r) words))
   sched-in =
       let vals : List ℕ = values_of (form.Sched r) words in
       let same : map (λ (p : PoolNo). p.0) (map pool_no (listed r vals)) ≡ listed r vals = unpooled (listed r vals) in
@@ -71,8 +73,8 @@ module _ {a : Above} {line : Text} {words : List Text} (r : Rule) (s : IsSound a
         rule = rule-in r s;
         some_pool = let some = listed-some in rw length-map some;
         few_pools = let few = le-not 8 (length (listed r vals)) (or-right (nat_le 64 (length a.scheds)) _ s.limit) in rw length-map few;
-        listed = subst (λ ns. All (λ n. n < length a.pools) ns) (sym same) listed-there;
-        once = subst (λ ns. AllPairs (λ x y. x ≢ y) ns) (sym same) (once-pairs (listed r vals) (or-right (nat_lt (at vals 0) (length a.scheds)) _ s.once));
+        listed = All-map (λ (p : PoolNo). p.0 < length a.pools) pool_no (listed r vals) listed-there;
+        once = map-pairs (map pool_no (listed r vals)) (subst (λ ns. AllPairs (λ x y. x ≢ y) ns) (sym same) (once-pairs (listed r vals) (or-right (nat_lt (at vals 0) (length a.scheds)) _ s.once)));
       }
     where
       rule-in : (q : Rule) → IsSound a line words (form.Sched q) → IsRule (rule_with q (values_of (form.Sched q) words))
@@ -81,7 +83,7 @@ module _ {a : Above} {line : Text} {words : List Text} (r : Rule) (s : IsSound a
       rule-in (rule.Randws n) t = any-fits a.format _ (within-at (form.Sched (rule.Randws n)) t 1 0 (2 ^ 64 - 1) refl)
       rule-in (rule.User n) t = let w = between 0 1 (at (values_of (form.Sched (rule.User n)) words) 1) (within-at (form.Sched (rule.User n)) t 1 0 1 refl) in omega arith
 
-thing-in : {a : Above} {line : Text} {words : List Text} (x : Thing) → IsSound a line words (form.Object x) → IsThingIn a.objects (length a.objects) (thing_with x words (values_of (form.Object x) words))
+thing-in : {a : Above} {line : Text} {words : List Text} (x : Thing) → IsSound a line words (form.Object x) → IsThing a.objects (length a.objects) (thing_with x words (values_of (form.Object x) words))
 thing-in thing.Mutex s = tt
 thing-in {a} (thing.Cond m) s =
     let there = mutex-there a.objects _ (there-at (form.Object (thing.Cond m)) s 1 number.Mutex refl) in
@@ -165,7 +167,7 @@ module _ {a : Above} {line : Text} {words : List Text} (h : IsProper a) where
       let few = lt-not 64 (length a.pools) s.limit in
       let new : PoolPart = pool_with x words (values_of (form.Pool x) words) in
       let grown : length (a.pools ++ new ∷ []) ≡ length a.pools + 1 = length-append a.pools _ in
-      let pools : HasPools (stream_count a) (a.pools ++ new ∷ []) = record { few = omega arith; all = all-and (λ (part : PoolPart). IsAccessIn (stream_count a) part.access) a.pools new h.pools.all (access-in x s) } in
+      let pools : HasPools (stream_count a) (a.pools ++ new ∷ []) = record { few = omega arith; all = all-and (λ (part : PoolPart). IsAccess (stream_count a) part.access) a.pools new h.pools.all (access-in x s) } in
       let scheds : HasScheds (length (a.pools ++ new ∷ [])) a.scheds = record { few = h.scheds.few; all = λ k d lt. sched-grows (length a.pools) _ (omega arith) _ (h.scheds.all k d lt) } in
       let mains : HasMains (stream_count a) (a.pools ++ new ∷ []) a.scheds a.mains = no-mains _ _ _ a.mains h.mains.count (h.order.no_mains (omega arith)) in
       let above = above-units h (omega arith) (with_form a words (form.Pool x)) (omega arith) (λ lt. absurd (omega arith)) (λ lt. h.order.no_mains (omega arith)) (refl, refl, refl) in
@@ -177,7 +179,7 @@ module _ {a : Above} {line : Text} {words : List Text} (h : IsProper a) where
       let few = lt-not 64 (length a.scheds) (or-left (nat_le 64 (length a.scheds)) _ s.limit) in
       let new : SchedPart = sched_with r (values_of (form.Sched r) words) in
       let grown : length (a.scheds ++ new ∷ []) ≡ length a.scheds + 1 = length-append a.scheds _ in
-      let scheds : HasScheds (length a.pools) (a.scheds ++ new ∷ []) = record { few = omega arith; all = all-and (IsSchedIn (length a.pools)) a.scheds new h.scheds.all (sched-in r s) } in
+      let scheds : HasScheds (length a.pools) (a.scheds ++ new ∷ []) = record { few = omega arith; all = all-and (IsSched (length a.pools)) a.scheds new h.scheds.all (sched-in r s) } in
       let mains : HasMains (stream_count a) a.pools (a.scheds ++ new ∷ []) a.mains = no-mains _ _ _ a.mains h.mains.count (h.order.no_mains (omega arith)) in
       let above = above-units h (omega arith) (with_form a words (form.Sched r)) (omega arith) (λ lt. absurd (omega arith)) (λ lt. h.order.no_mains (omega arith)) (refl, refl, refl) in
       assumption
@@ -207,7 +209,7 @@ module _ {a : Above} {line : Text} {words : List Text} (h : IsProper a) where
       let few = lt-not 256 (length a.objects) s.limit in
       let new : Thing = thing_with x words (values_of (form.Object x) words) in
       let grown : length (a.objects ++ new ∷ []) ≡ length a.objects + 1 = length-append a.objects _ in
-      let objects : HasObjects (a.objects ++ new ∷ []) = record { few = omega arith; all = λ k t e. thing-grows a.objects new k t (holds-and (IsThingIn a.objects) a.objects new h.objects.all (thing-in x s) k t e) } in
+      let objects : HasObjects (a.objects ++ new ∷ []) = record { few = omega arith; all = λ k t e. thing-grows a.objects new k t (holds-and (IsThing a.objects) a.objects new h.objects.all (thing-in x s) k t e) } in
       let above = above-units h (omega arith) (with_form a words (form.Object x)) (omega arith) (λ lt. absurd (omega arith)) (λ lt. absurd (omega arith)) (refl, refl, refl) in
       assumption
 

@@ -1,5 +1,5 @@
 -- A sound line of a unit keeps what is declared proper.
-use Rattle.std.proofs.Common.{leb, append_assoc, codes, ◌≡◌, ◌≢◌, ◌<◌, ◌≤◌, ◌+◌, ◌-◌, ◌*◌, ◌&&◌, ◌||◌, ◌∙◌, ℕ, zero, suc, Bool, true, false, List, [], ◌∷◌, ◌++◌, All, Option, Some, None, ap, arith, drop, inl, inr, ◌⊎◌, flat_map, get_or, is_none, length, length-append, length-drop, map, nat_le, nat_lt, option_to_list, option_map, refl, slice_get, subst, sym}
+use Rattle.std.proofs.Common.{leb, append_assoc, codes, ◌≡◌, ◌≢◌, ◌<◌, ◌≤◌, ◌+◌, ◌-◌, ◌*◌, ◌&&◌, ◌||◌, ◌∙◌, ℕ, zero, suc, Bool, true, false, List, [], ◌∷◌, ◌++◌, All, Option, Some, None, IfSome, ap, arith, drop, inl, inr, ◌⊎◌, flat_map, get_or, is_none, length, length-append, length-drop, map, nat_le, nat_lt, option_to_list, option_map, refl, slice_get, subst, sym}
 use Rattle.std.specs.List.{AllPairs, list_any, range_with_len}
 use Rattle.std.specs.Bool.{⊤}
 use Rattle.std.specs.Str.{is_utf8}
@@ -32,7 +32,7 @@ use Rattle.abt_machine.specs.Faults.{has_no_room, is_long, is_long_word, is_plac
 use Rattle.abt_machine.specs.Forms.{Fixed, op_slots, fits, slots, suits}
 use Rattle.abt_machine.specs.Operations.{IsDeclared, may_block, said_by}
 use Rattle.abt_machine.specs.Spelling.{has_control, is_empty, words_of}
-use Rattle.abt_machine.specs.Valid.{IsWord, sched_in}
+use Rattle.abt_machine.specs.Valid.{IsBody, IsWord, sched_in}
 use Rattle.abt_machine.specs.Words.{Text}
 use Rattle.abt_machine.specs.Workloads.{all_ops, is_sched, ops_of}
 use Rattle.abt_machine.proofs.Saying.{said_by_units}
@@ -44,7 +44,7 @@ use Rattle.abt_workload.proofs.Keeping.{placed-not}
 use Rattle.abt_workload.proofs.LineWords.{words-some, words-utf8, words-visible}
 use Rattle.abt_workload.proofs.Naming.{IsSoundOp, declared-op, muted-later, op_values}
 use Rattle.abt_workload.proofs.Places.{and-left, and-right, at-after, kinds, not-false, or-left, or-right}
-use Rattle.abt_workload.proofs.Proper.{AreUnits, IsBodyIn, IsInOrder, IsProper, IsStartIn, IsUnitIn, counted, muted, none-of, placed, unit_count, with_form}
+use Rattle.abt_workload.proofs.Proper.{AreUnits, IsInOrder, IsProper, IsUnitIn, counted, muted, none-of, placed, unit_count, with_form}
 use Rattle.abt_workload.proofs.Repeated.{repeated-op}
 use Rattle.abt_workload.proofs.Soundness.{IsSound}
 
@@ -105,7 +105,7 @@ blocks-later : (n : ℕ) (ops : List Op) → list_any may_block (map (op_later n
 blocks-later n [] = refl
 blocks-later n (o ∷ ops) = ap (λ (b : Bool). b || list_any may_block (map (op_later n) ops)) (same-later n o) ∙ ap (λ (b : Bool). may_block o || b) (blocks-later n ops)
 
-body-later-in : (k n : ℕ) (b : Body) → IsBodyIn k b → IsBodyIn k (body_later n b)
+body-later-in : (k n : ℕ) (b : Body) → IsBody k b → IsBody k (body_later n b)
 body-later-in k n (body.Ult ops) i = tt
 body-later-in k n (body.Task ops) i = blocks-later n ops ∙ i
 body-later-in k n (body.Sched g) i = i
@@ -175,12 +175,12 @@ no-ops role.Sched ns = refl
 unit-in : (a : Above) (r : Role) (start : Option PoolNo) (ns : List ℕ) → HasSched a r ns → HasPool a r start ns → IsUnitIn (counted a) (unit_with r start ns)
 unit-in a r start ns sched pool = record { kind = by r sched; few_ops = let l = ap length (no-ops r ns) in omega arith; ops = subst (λ (os : List Op). All (λ o. IsDeclared (counted a) (muted o)) os) (sym (no-ops r ns)) (none-of _); start = on start pool }
   where
-    by : (q : Role) → HasSched a q ns → IsBodyIn (length a.scheds) (body_with q ns)
+    by : (q : Role) → HasSched a q ns → IsBody (length a.scheds) (body_with q ns)
     by role.Ult s = tt
     by role.Task s = refl
     by role.Sched s = s.0
 
-    on : (o : Option PoolNo) → HasPool a r o ns → IsStartIn (length a.pools) (start_with r o ns)
+    on : (o : Option PoolNo) → HasPool a r o ns → IfSome (start_with r o ns) (λ (p : PoolNo). p.0 < length a.pools)
     on None s = tt
     on (Some p) s = s
 
@@ -302,7 +302,7 @@ body-sched o (body.Ult ops) = refl
 body-sched o (body.Task ops) = refl
 body-sched o (body.Sched g) = refl
 
-body-in : (n : ℕ) (o p : Op) (b : Body) → may_block p ≡ may_block o → (is_task_body b && may_block o) ≡ false → IsBodyIn n b → IsBodyIn n (body_and p b)
+body-in : (n : ℕ) (o p : Op) (b : Body) → may_block p ≡ may_block o → (is_task_body b && may_block o) ≡ false → IsBody n b → IsBody n (body_and p b)
 body-in n o p (body.Ult ops) same e h = tt
 body-in n o p (body.Task ops) same e h = list_any-append may_block ops (p ∷ []) ∙ (let no' : may_block p ≡ false = same ∙ e in rw (h, no') refl)
 body-in n o p (body.Sched g) same e h = h

@@ -55,7 +55,7 @@ written x (thing.Future n combine.Count) = record { words_are = refl; form_is = 
 written x _ = record { words_are = refl; form_is = refl; skipped = refl; plain = refl; chosen = λ _. plain-word (codes "sum") refl }
 
 -- the numbers of a line are in order
-met : (F : Format) (W : Parts) (section : ℕ) (front rest : List Thing) (t : Thing) → front ++ rest ≡ W.objects → IsThing W (length front) t
+met : (F : Format) (W : Parts) (section : ℕ) (front rest : List Thing) (t : Thing) → front ++ rest ≡ W.objects → IsThing W.objects (length front) t
     → AreMet (below F W section front) (given (slots (form.Object (form_thing t))) (length front ∷ thing_numbers t))
 met F W section front rest (thing.Cond m) e h = (refl, get-front front rest W.objects m.0 thing.Mutex e h.0 h.1)
 met F W section front rest (thing.Future n c) e h = let low = h.0 in let high = h.1 in (refl, (omega arith, high, omega arith))
@@ -78,7 +78,7 @@ object-taken F W v section le front t rest e =
     let ns : List ℕ = x ∷ thing_numbers t in
     let lt : x < length W.objects = front-shorter front t rest W.objects e in
     let few : length W.objects ≤ 256 = v.few_objects in
-    let h : IsThing W x t = v.objects x t (get-here front t rest W.objects e) in
+    let h : IsThing W.objects x t = v.objects x t (get-here front t rest W.objects e) in
     let small : IsSmall a = record { streams = v.few_streams; keys = v.few_keys; pools = v.few_pools; scheds = v.few_scheds; objects = omega arith; units = omega arith } in
     takes a (below F W 7 (front ++ t ∷ [])) f (thing_word t) ns (object_line x t)
     (written x t)

@@ -1,5 +1,5 @@
 -- The lines of pools are taken.
-use Rattle.std.proofs.Common.{◌≡◌, ◌<◌, ◌≤◌, ℕ, List, [], ◌∷◌, ◌++◌, Option, None, ap, arith, codes, length, refl, replicate, subst}
+use Rattle.std.proofs.Common.{◌≡◌, ◌<◌, ◌≤◌, ℕ, List, [], ◌∷◌, ◌++◌, None, ap, arith, codes, length, refl, replicate}
 use Rattle.std.proofs.lemmas.Bool.{le-ltb, lt-leb}
 use Rattle.abt_machine.specs.declared.grammar.Form.{Form}
 use Rattle.abt_machine.specs.declared.grammar.Form.TheVariants as form
@@ -16,7 +16,7 @@ use Rattle.abt_machine.specs.Forms.{slots}
 use Rattle.abt_machine.specs.Numbers.{stream_no}
 use Rattle.abt_machine.specs.Valid.{IsAccess, IsValid}
 use Rattle.abt_machine.specs.Words.{numbered}
-use Rattle.abt_machine.specs.Workloads.{access_from}
+use Rattle.abt_machine.proofs.Elements.{all-at}
 use Rattle.abt_workload.specs.Slots.{values}
 use Rattle.abt_workload.proofs.Filled.{IsWritten, given, takes}
 use Rattle.abt_workload.proofs.Fitting.{AreMet, IsSmall, all-fit}
@@ -52,7 +52,7 @@ written p kind.Deque (access.Priv s) = record { words_are = refl; form_is = refl
 written p kind.Deque _ = record { words_are = refl; form_is = refl; skipped = refl; plain = refl; chosen = λ _. plain-word (codes "deque") refl }
 
 -- the numbers of a line are in order
-met : (F : Format) (W : Parts) (section : ℕ) (front : List PoolPart) (x : Access) → IsAccess W x
+met : (F : Format) (W : Parts) (section : ℕ) (front : List PoolPart) (x : Access) → IsAccess W.streams x
     → AreMet (pooling F section W.streams W.keys front) (given (slots (form.Pool (form_access x))) (length front ∷ streams_in x))
 met F W section front access.Mpmc h = refl
 met F W section front _ h = (refl, h)
@@ -76,7 +76,7 @@ pool-taken F W v section le front part rest e =
     let ns : List ℕ = p ∷ streams_in part.access in
     let lt : p < length W.pools = front-shorter front part rest W.pools e in
     let few : length W.pools ≤ 64 = v.few_pools in
-    let h : IsAccess W part.access = subst (λ (o : Option PoolPart). IsAccess W (access_from o)) (get-here front part rest W.pools e) (v.pools p lt) in
+    let h : IsAccess W.streams part.access = all-at (λ (q : PoolPart). IsAccess W.streams q.access) W.pools v.pools p part (get-here front part rest W.pools e) in
     let small : IsSmall a = record { streams = v.few_streams; keys = v.few_keys; pools = omega arith; scheds = omega arith; objects = omega arith; units = omega arith } in
     takes a (pooling F 4 W.streams W.keys (front ++ part ∷ [])) f (kind_name part.kind) ns (pool_line p part)
     (written p part.kind part.access)

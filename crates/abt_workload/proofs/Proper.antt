@@ -1,18 +1,13 @@
 -- What sound lines declare is part of a valid workload.
-use Rattle.std.proofs.Common.{◌≡◌, ◌≢◌, ◌<◌, ◌≤◌, ◌+◌, ◌*◌, ℕ, Bool, true, false, List, [], ◌++◌, All, Option, Some, None, IsFalse, arith, flat_map, is_none, length, map, option_to_list, refl, replicate, slice_get, unwrap_or}
-use Rattle.std.specs.Bool.{⊤}
+use Rattle.std.proofs.Common.{◌≡◌, ◌≢◌, ◌<◌, ◌≤◌, ◌+◌, ◌*◌, ℕ, Bool, true, false, List, [], ◌++◌, All, Option, Some, None, IfSome, arith, flat_map, is_none, length, map, option_to_list, refl, replicate, slice_get, unwrap_or}
 use Rattle.std.specs.List.{AllPairs, list_all, list_any, range_with_len}
 use Rattle.abt_machine.specs.declared.grammar.Form.{Form}
 use Rattle.abt_machine.specs.declared.numbers.PoolNo.{PoolNo}
 use Rattle.abt_machine.specs.declared.numbers.SchedNo.{SchedNo}
-use Rattle.abt_machine.specs.declared.operations.Access.{Access}
-use Rattle.abt_machine.specs.declared.operations.Access.TheVariants as access
-use Rattle.abt_machine.specs.declared.operations.Body.{Body}
 use Rattle.abt_machine.specs.declared.operations.Body.TheVariants as body
 use Rattle.abt_machine.specs.declared.operations.Op.{Op}
 use Rattle.abt_machine.specs.declared.operations.Op.TheVariants as op
 use Rattle.abt_machine.specs.declared.operations.Thing.{Thing}
-use Rattle.abt_machine.specs.declared.operations.Thing.TheVariants as thing
 use Rattle.abt_machine.specs.declared.workload.Parts.{Parts}
 use Rattle.abt_machine.specs.declared.workload.PoolPart.{PoolPart}
 use Rattle.abt_machine.specs.declared.workload.SchedPart.{SchedPart}
@@ -20,8 +15,8 @@ use Rattle.abt_machine.specs.declared.workload.UnitPart.{UnitPart}
 use Rattle.abt_machine.specs.Access.{takes}
 use Rattle.abt_machine.specs.Declaring.{Above, declared_units, nothing, parts_of}
 use Rattle.abt_machine.specs.Faults.{values_of}
-use Rattle.abt_machine.specs.Operations.{IsDeclared, may_block, said_by}
-use Rattle.abt_machine.specs.Valid.{IsRule, IsWord, sched_in}
+use Rattle.abt_machine.specs.Operations.{IsDeclared, said_by}
+use Rattle.abt_machine.specs.Valid.{IsAccess, IsBody, IsSched, IsThing, IsWord, sched_in}
 use Rattle.abt_machine.specs.Words.{Text}
 use Rattle.abt_machine.specs.Workloads.{access_from, all_ops, ops_of, pools_from}
 use Rattle.abt_machine.proofs.Saying.{said_by_units}
@@ -33,31 +28,6 @@ stream_count a = unwrap_or a.streams 0
 
 abbrev pub unit_count : Above → ℕ
 unit_count a = unwrap_or a.unit_count 0
-
--- the streams of an access are declared
-abbrev pub IsAccessIn : ℕ → Access → Type 0
-IsAccessIn n (access.Priv s) = s.0 < n
-IsAccessIn n (access.Spsc s t) = (s.0 < n) × (t.0 < n)
-IsAccessIn n (access.Mpsc t) = t.0 < n
-IsAccessIn n (access.Spmc s) = s.0 < n
-IsAccessIn n access.Mpmc = ⊤
-
--- a scheduler among this many pools
-pub record IsSchedIn (pools : ℕ) (part : SchedPart) : Type 0 where
-  pub rule : IsRule part.rule
-  pub some_pool : 0 < length part.pools
-  pub few_pools : length part.pools ≤ 8
-  pub listed : All (λ p. p < pools) (map (λ (p : PoolNo). p.0) part.pools)
-  pub once : AllPairs (λ a b. a ≢ b) (map (λ (p : PoolNo). p.0) part.pools)
-
--- an object among these
-abbrev pub IsThingIn : List Thing → ℕ → Thing → Type 0
-IsThingIn things x thing.Mutex = ⊤
-IsThingIn things x (thing.Cond m) = (m.0 < x) × (slice_get things m.0 ≡ Some thing.Mutex)
-IsThingIn things x thing.Eventual = ⊤
-IsThingIn things x (thing.Future n c) = (0 < n) × (n ≤ 4096)
-IsThingIn things x (thing.Barrier n) = (0 < n) × (n ≤ 4096)
-IsThingIn things x thing.RwLock = ⊤
 
 -- a unit of no operation
 abbrev pub idle : UnitPart
@@ -72,21 +42,12 @@ abbrev pub muted : Op → Op
 muted (op.Say w) = op.Print
 muted o = o
 
-abbrev pub IsBodyIn : ℕ → Body → Type 0
-IsBodyIn scheds (body.Ult ops) = ⊤
-IsBodyIn scheds (body.Task ops) = IsFalse (list_any may_block ops)
-IsBodyIn scheds (body.Sched g) = g.0 < scheds
-
-abbrev pub IsStartIn : ℕ → Option PoolNo → Type 0
-IsStartIn pools None = ⊤
-IsStartIn pools (Some p) = p.0 < pools
-
--- a unit of this workload
+-- a unit of this workload, but for the words that its operations say
 pub record IsUnitIn (W : Parts) (part : UnitPart) : Type 0 where
-  pub kind : IsBodyIn (length W.scheds) part.body
+  pub kind : IsBody (length W.scheds) part.body
   pub few_ops : length (ops_of part.body) ≤ 256
   pub ops : All (λ o. IsDeclared W (muted o)) (ops_of part.body)
-  pub start : IsStartIn (length W.pools) part.start
+  pub start : IfSome part.start (λ (p : PoolNo). p.0 < length W.pools)
 
 pub record HasStreams (streams : Option ℕ) : Type 0 where
   pub low : (n : ℕ) → streams ≡ Some n → 0 < n
@@ -94,11 +55,11 @@ pub record HasStreams (streams : Option ℕ) : Type 0 where
 
 pub record HasPools (streams : ℕ) (pools : List PoolPart) : Type 0 where
   pub few : length pools ≤ 64
-  pub all : All (λ (part : PoolPart). IsAccessIn streams part.access) pools
+  pub all : All (λ (part : PoolPart). IsAccess streams part.access) pools
 
 pub record HasScheds (pools : ℕ) (scheds : List SchedPart) : Type 0 where
   pub few : length scheds ≤ 64
-  pub all : All (IsSchedIn pools) scheds
+  pub all : All (IsSched pools) scheds
 
 -- stream s may take from each pool of scheduler g
 abbrev pub takes_all : List PoolPart → List SchedPart → ℕ → ℕ → Bool
@@ -111,7 +72,7 @@ pub record HasMains (streams : ℕ) (pools : List PoolPart) (scheds : List Sched
 
 pub record HasObjects (objects : List Thing) : Type 0 where
   pub few : length objects ≤ 256
-  pub all : (x : ℕ) (t : Thing) → slice_get objects x ≡ Some t → IsThingIn objects x t
+  pub all : (x : ℕ) (t : Thing) → slice_get objects x ≡ Some t → IsThing objects x t
 
 pub record HasUnits (W : Parts) (count : ℕ) (units : List UnitPart) (last : Option UnitPart) (copies : ℕ) : Type 0 where
   pub few : count ≤ 4096

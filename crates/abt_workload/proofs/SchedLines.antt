@@ -16,14 +16,13 @@ use Rattle.abt_machine.specs.declared.workload.Parts.{Parts}
 use Rattle.abt_machine.specs.declared.workload.PoolPart.{PoolPart}
 use Rattle.abt_machine.specs.declared.workload.SchedPart.{SchedPart}
 use Rattle.abt_machine.specs.Canonical.{filled, sched_line}
-use Rattle.abt_machine.specs.Checks.{IsSchedPart}
 use Rattle.abt_machine.specs.Declaring.{Above, at, listed, sched_with}
 use Rattle.abt_machine.specs.Faults.{has_repeated}
 use Rattle.abt_machine.specs.Forms.{rule_slots, slots}
 use Rattle.abt_machine.specs.Numbers.{pool_no}
-use Rattle.abt_machine.specs.Valid.{IsRule, IsValid}
+use Rattle.abt_machine.specs.Valid.{IsRule, IsSched, IsValid}
 use Rattle.abt_machine.specs.Words.{Text, numbered}
-use Rattle.abt_machine.proofs.Checked.{from-sched, pairs-map}
+use Rattle.abt_machine.proofs.Elements.{all-at, pairs-map}
 use Rattle.abt_workload.specs.Slots.{values}
 use Rattle.abt_workload.proofs.Filled.{IsWritten, as_pools, given, takes}
 use Rattle.abt_workload.proofs.Fitting.{AreFit, IsSmall, fit, fit-within}
@@ -151,20 +150,20 @@ sched-taken F W v section le front part rest e =
     let ps : List ℕ = pools_in part.pools in
     let lt : g < length W.scheds = front-shorter front part rest W.scheds e in
     let few : length W.scheds ≤ 64 = v.few_scheds in
-    let h : IsSchedPart W part = from-sched W g part (get-here front part rest W.scheds e) (v.scheds g lt) in
-    let there : All (λ p. p < length W.pools) ps = All-map (λ p. p < length W.pools) (λ (p : PoolNo). p.0) part.pools h.pools.declared in
+    let h : IsSched (length W.pools) part = all-at (IsSched (length W.pools)) W.scheds v.scheds g part (get-here front part rest W.scheds e) in
+    let there : All (λ p. p < length W.pools) ps = All-map (λ p. p < length W.pools) (λ (p : PoolNo). p.0) part.pools h.listed in
     let small : IsSmall a = record { streams = v.few_streams; keys = v.few_keys; pools = v.few_pools; scheds = omega arith; objects = omega arith; units = omega arith } in
     let read : values (given (slots f) (numbers_in g part.rule ps)) ≡ numbers_in g part.rule ps = numbers-read g part.rule ps in
     let pools : listed (form_rule part.rule) (values (given (slots f) (numbers_in g part.rule ps))) ≡ ps =
     ap (listed (form_rule part.rule)) read ∙ listed-again g part.rule ps in
-    let few_listed : length ps ≤ 8 = let most = h.pools.few_pools in rw length-map most in
+    let few_listed : length ps ≤ 8 = let most = h.few_pools in rw length-map most in
     takes a (scheduling F 5 W.streams W.keys W.pools (front ++ part ∷ [])) f (codes "sched") (numbers_in g part.rule ps) (sched_line g part)
-    (written g part.rule part.pools h.pools.some_pool)
+    (written g part.rule part.pools h.some_pool)
     (fit a small number.NewSched g refl, rule-fit a small part.rule ps h.rule there)
     record {
       version = refl;
       placed = placed-among a f le (omega arith) refl refl;
-      once = or-both (nat_lt g g) _ (le-ltb g g (omega arith)) (ap has_repeated pools ∙ none-repeated ps (pairs-map part.pools h.pools.once));
+      once = or-both (nat_lt g g) _ (le-ltb g g (omega arith)) (ap has_repeated pools ∙ none-repeated ps (pairs-map part.pools h.once));
       beyond = refl;
       limit = or-both (nat_le 64 g) _ (lt-leb 64 g (omega arith)) (ap (λ (ns : List ℕ). nat_lt 8 (length ns)) pools ∙ le-ltb 8 (length ps) few_listed);
       task = refl;

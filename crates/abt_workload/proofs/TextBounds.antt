@@ -1,7 +1,7 @@
 -- The text of a valid workload is never too long for format 2.
-use Rattle.std.proofs.Common.{◌≡◌, ◌<◌, ◌≤◌, ◌+◌, ◌*◌, ◌^◌, ℕ, zero, suc, true, false, List, [], ◌∷◌, ◌++◌, All, Option, Some, None, ap, arith, codes, decimal, flat_map, get_or, length, length-append, map, refl, slice_get, suc-mul}
+use Rattle.std.proofs.Common.{◌≡◌, ◌<◌, ◌≤◌, ◌+◌, ◌*◌, ◌^◌, ℕ, zero, suc, true, false, List, [], ◌∷◌, ◌++◌, All, Option, Some, None, IfSome, ap, arith, codes, decimal, flat_map, get_or, length, length-append, map, refl, slice_get, suc-mul}
 use Rattle.std.specs.List.{enumerate_from}
-use Rattle.std.proofs.lemmas.List.Elements.{All-cons, All-head, All-tail}
+use Rattle.std.proofs.lemmas.List.Elements.{All-head, All-tail}
 use Rattle.std.proofs.lemmas.Option.{slice_get-get_or, slice_get_within}
 use Rattle.abt_machine.specs.declared.grammar.Format.{Format}
 use Rattle.abt_machine.specs.declared.grammar.Format.TheVariants as format
@@ -26,15 +26,14 @@ use Rattle.abt_machine.specs.declared.workload.PoolPart.{PoolPart}
 use Rattle.abt_machine.specs.declared.workload.SchedPart.{SchedPart}
 use Rattle.abt_machine.specs.declared.workload.UnitPart.{UnitPart}
 use Rattle.abt_machine.specs.Canonical.{access_words, body_words, combine_name, filled, keys_lines, kind_name, object_line, op_numbers, op_word, op_words, pool_line, rule_words, sched_line, start_words, stream_line, text_in, thing_words, unit_lines, version_line}
-use Rattle.abt_machine.specs.Checks.{IsSchedPart, IsStart, IsUnitPart}
 use Rattle.abt_machine.specs.Declaring.{Above}
 use Rattle.abt_machine.specs.Forms.{Slot, Fixed, Numeral, PoolList, op_slots}
 use Rattle.abt_machine.specs.Operations.{IsDeclared}
-use Rattle.abt_machine.specs.Valid.{IsAccess, IsBody, IsRule, IsThing, IsValid}
+use Rattle.abt_machine.specs.Valid.{IsAccess, IsBody, IsRule, IsSched, IsThing, IsUnit, IsValid}
 use Rattle.abt_machine.specs.Weights.{size, weight}
 use Rattle.abt_machine.specs.Words.{Text, numbered}
 use Rattle.abt_machine.specs.Workloads.{all_ops, ops_of}
-use Rattle.abt_machine.proofs.Checked.{map-all, valid-accesses, valid-listings, valid-places, valid-units}
+use Rattle.abt_machine.proofs.Checked.{mains-places}
 use Rattle.abt_machine.proofs.Decimals.{few-digits}
 use Rattle.abt_machine.proofs.Weighing.{has_words, size-append, size-line, size-nil, some-op, weight-append}
 use Rattle.abt_workload.proofs.Filled.{given, has_choice}
@@ -116,7 +115,7 @@ module _ (W : Parts) (v : IsValid W) where
   object-small : (x : ℕ) (t : Thing) → slice_get W.objects x ≡ Some t → x < 2 ^ 64
   object-small x t e = let lt = slice_get_within W.objects x t e in let few = v.few_objects in omega arith
 
-  access-light : (x : Access) → IsAccess W x → weight (access_words x) ≤ 60
+  access-light : (x : Access) → IsAccess W.streams x → weight (access_words x) ≤ 60
   access-light (access.Priv s) h = let d = few-digits s.0 (stream-small s.0 h) in omega arith
   access-light (access.Spsc s t) h = let d = few-digits s.0 (stream-small s.0 h.0) in let e = few-digits t.0 (stream-small t.0 h.1) in omega arith
   access-light (access.Mpsc t) h = let d = few-digits t.0 (stream-small t.0 h) in omega arith
@@ -127,7 +126,7 @@ module _ (W : Parts) (v : IsValid W) where
   kind-light kind.Fifo = omega arith
   kind-light kind.Deque = omega arith
 
-  pool-light : (p : ℕ) (part : PoolPart) → p < 2 ^ 64 → IsAccess W part.access → IsLight 119 (pool_line p part)
+  pool-light : (p : ℕ) (part : PoolPart) → p < 2 ^ 64 → IsAccess W.streams part.access → IsLight 119 (pool_line p part)
   pool-light p part lt h = let d = few-digits p lt in let k = kind-light part.kind in let x = access-light part.access h in (refl, omega arith)
 
   rule-light : (r : Rule) → IsRule r → weight (rule_words r) ≤ 60
@@ -144,12 +143,12 @@ module _ (W : Parts) (v : IsValid W) where
       let rest = listed-light pools (All-tail (λ (q : PoolNo). q.0 < length W.pools) p pools all) in
       omega arith
 
-  sched-light : (g : ℕ) (part : SchedPart) → g < 2 ^ 64 → IsSchedPart W part → IsLight 300 (sched_line g part)
+  sched-light : (g : ℕ) (part : SchedPart) → g < 2 ^ 64 → IsSched (length W.pools) part → IsLight 300 (sched_line g part)
   sched-light g part lt h =
       let d = few-digits g lt in
       let r = rule-light part.rule h.rule in
-      let l = listed-light part.pools h.pools.declared in
-      let few = h.pools.few_pools in
+      let l = listed-light part.pools h.listed in
+      let few = h.few_pools in
       let both = weight-append (rule_words part.rule) (map (λ (p : PoolNo). decimal p.0) part.pools) in
       (refl, omega arith)
 
@@ -158,14 +157,14 @@ module _ (W : Parts) (v : IsValid W) where
 
   -- an object's numbers are small
   abbrev IsSmallThing : Thing → Type 0
-  IsSmallThing t = (x : ℕ) × (x < 256) × IsThing W x t
+  IsSmallThing t = (x : ℕ) × (x < 256) × IsThing W.objects x t
 
   combine-light : (c : Combine) → length (combine_name c) ≤ 5
   combine-light combine.Sum = omega arith
   combine-light combine.Max = omega arith
   combine-light combine.Count = omega arith
 
-  thing-light : (x : ℕ) (t : Thing) → x < 256 → IsThing W x t → weight (thing_words t) ≤ 60
+  thing-light : (x : ℕ) (t : Thing) → x < 256 → IsThing W.objects x t → weight (thing_words t) ≤ 60
   thing-light x thing.Mutex lt h = omega arith
   thing-light x (thing.Cond m) lt h = let below = h.0 in let d = few-digits m.0 (omega arith) in omega arith
   thing-light x thing.Eventual lt h = omega arith
@@ -187,21 +186,21 @@ module _ (W : Parts) (v : IsValid W) where
       let same : weight (op_words W o) ≡ weight (filled places (op_word W o) (op_numbers o)) = ap weight d.written.words_are in
       (some-op W o, omega (arith, few.1))
 
-  body-light : (b : Body) → IsBody W b → weight (body_words b) ≤ 30
+  body-light : (b : Body) → IsBody (length W.scheds) b → weight (body_words b) ≤ 30
   body-light (body.Ult ops) h = omega arith
   body-light (body.Task ops) h = omega arith
   body-light (body.Sched g) h = let d = few-digits g.0 (sched-small g.0 h) in omega arith
 
-  start-light : (o : Option PoolNo) → IsStart W o → weight (start_words o) ≤ 30
+  start-light : (o : Option PoolNo) → IfSome o (λ (p : PoolNo). p.0 < length W.pools) → weight (start_words o) ≤ 30
   start-light None h = omega arith
   start-light (Some p) h = let d = few-digits p.0 (pool-small p.0 h) in omega arith
 
   -- the lines of units and of their operations
-  units-light : (k : ℕ) (units : List UnitPart) → k + length units < 2 ^ 64 → All (IsUnitPart W) units
+  units-light : (k : ℕ) (units : List UnitPart) → k + length units < 2 ^ 64 → All (IsUnit W) units
       → size (flat_map (λ p. unit_lines W p.0 p.1) (enumerate_from k units)) ≤ (length units + length (all_ops units)) * 119
   units-light k [] few all = let e = size-nil in omega arith
   units-light k (part ∷ units) few all =
-      let right = All-head (IsUnitPart W) part units all in
+      let right = All-head (IsUnit W) part units all in
       let d = few-digits k (omega arith) in
       let b = body-light part.body right.kind in
       let s = start-light part.start right.start in
@@ -209,20 +208,13 @@ module _ (W : Parts) (v : IsValid W) where
       let ops = map-light (op_words W) 119 (IsDeclared W) op-light (ops_of part.body) right.ops in
       let head = size-line (codes "unit" ∷ decimal k ∷ body_words part.body ++ start_words part.start) (map (op_words W) (ops_of part.body)) refl in
       let here = size-append (unit_lines W k part) (flat_map (λ p. unit_lines W p.0 p.1) (enumerate_from (k + 1) units)) in
-      let rest = units-light (k + 1) units (omega arith) (All-tail (IsUnitPart W) part units all) in
+      let rest = units-light (k + 1) units (omega arith) (All-tail (IsUnit W) part units all) in
       let count : length (ops_of part.body ++ all_ops units) ≡ length (ops_of part.body) + length (all_ops units) = length-append (ops_of part.body) _ in
       omega arith
 
   -- the parts of the workload
   objects-all : All IsSmallThing W.objects
   objects-all = λ k d lt. (k, (let few = v.few_objects in omega arith), v.objects k (get_or W.objects k d) (slice_get-get_or W.objects k d lt))
-
-  mains-all : All (λ (g : SchedNo). g.0 < 64) W.mains
-  mains-all = map-all (λ (g : SchedNo). g.0) (λ g. g < 64) W.mains (front (map (λ (g : SchedNo). g.0) W.mains) _ (valid-places W v).0)
-    where
-      front : (xs ys : List ℕ) → All (λ g. g < 64) (xs ++ ys) → All (λ g. g < 64) xs
-      front [] ys h = λ k d lt. absurd (omega arith)
-      front (x ∷ xs) ys h = All-cons (λ g. g < 64) x xs (All-head (λ g. g < 64) x (xs ++ ys) h) (front xs ys (All-tail (λ g. g < 64) x (xs ++ ys) h))
 
   keys-light : (k : ℕ) → k ≤ 16 → size (keys_lines k) ≤ 119
   keys-light zero few = let e = size-nil in omega arith
@@ -267,11 +259,11 @@ module _ (W : Parts) (v : IsValid W) where
       let few_units = v.few_units in
       let few_ops = v.few_ops in
       let mains = v.mains in
-      let p = lines-light pool_line 119 (λ (part : PoolPart). IsAccess W part.access) pool-light 0 W.pools (omega arith) (valid-accesses W v) in
-      let s = lines-light sched_line 300 (IsSchedPart W) sched-light 0 W.scheds (omega arith) (valid-listings W v) in
-      let m = lines-light stream_line 119 (λ (g : SchedNo). g.0 < 64) stream-light 0 W.mains (omega arith) mains-all in
+      let p = lines-light pool_line 119 (λ (part : PoolPart). IsAccess W.streams part.access) pool-light 0 W.pools (omega arith) v.pools in
+      let s = lines-light sched_line 300 (IsSched (length W.pools)) sched-light 0 W.scheds (omega arith) v.scheds in
+      let m = lines-light stream_line 119 (λ (g : SchedNo). g.0 < 64) stream-light 0 W.mains (omega arith) (mains-places W v) in
       let o = lines-light object_line 119 IsSmallThing object-light 0 W.objects (omega arith) objects-all in
-      let u = units-light 0 W.units (omega arith) (valid-units W v) in
+      let u = units-light 0 W.units (omega arith) v.units in
       let h = version-light F in
       let a = size-append ((((lines_at F ++ P) ++ S) ++ M) ++ O ++ units ∷ U) ((codes "end" ∷ []) ∷ []) in
       let b = size-append (((lines_at F ++ P) ++ S) ++ M ++ O) (units ∷ U) in

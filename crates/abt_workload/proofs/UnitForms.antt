@@ -1,5 +1,5 @@
 -- What a unit's line is in the table of forms.
-use Rattle.std.proofs.Common.{◌≡◌, ◌<◌, ℕ, List, [], ◌∷◌, ◌++◌, Option, Some, None, codes, length, option_map, refl}
+use Rattle.std.proofs.Common.{◌≡◌, ◌<◌, ℕ, List, [], ◌∷◌, ◌++◌, Option, Some, None, IfSome, codes, length, option_map, refl}
 use Rattle.abt_machine.specs.declared.grammar.Form.{Form}
 use Rattle.abt_machine.specs.declared.grammar.Form.TheVariants as form
 use Rattle.abt_machine.specs.declared.grammar.Format.{Format}
@@ -20,7 +20,6 @@ use Rattle.abt_workload.proofs.Filled.{IsWritten, given}
 use Rattle.abt_workload.proofs.Fitting.{AreMet}
 use Rattle.abt_workload.proofs.Heads.{header}
 use Rattle.abt_workload.proofs.OperationLines.{body_like}
-use Rattle.abt_workload.proofs.Proper.{IsStartIn}
 use Rattle.abt_workload.proofs.Reaching.{reached}
 use Rattle.abt_workload.proofs.Taking.{plain-word}
 
@@ -75,7 +74,7 @@ unit-made u _ (Some p) = refl
 
 -- its numbers name what is declared
 pub unit-met : (F : Format) (W : Parts) (s : ℕ) (units : List UnitPart) (last : Option UnitPart) (before said : List ℕ) (u : ℕ) (b : Body) (start : Option PoolNo)
-    → u ≡ declared_units (reached F W s units last before said) → u < length W.units → IsBody W b → IsStartIn (length W.pools) start
+    → u ≡ declared_units (reached F W s units last before said) → u < length W.units → IsBody (length W.scheds) b → IfSome start (λ (p : PoolNo). p.0 < length W.pools)
     → AreMet (reached F W s units last before said) (unit_given u b start)
 unit-met F W s units last before said u (body.Sched g) None e lt kind there = ((e, lt), kind)
 unit-met F W s units last before said u (body.Sched g) (Some p) e lt kind there = ((e, lt), (kind, there))

@@ -14,14 +14,13 @@ use Rattle.abt_machine.specs.declared.operations.Body.TheVariants as body
 use Rattle.abt_machine.specs.declared.workload.Parts.{Parts}
 use Rattle.abt_machine.specs.declared.workload.UnitPart.{UnitPart}
 use Rattle.abt_machine.specs.Canonical.{op_words, unit_lines, word_at}
-use Rattle.abt_machine.specs.Checks.{IsStart, IsUnitPart}
 use Rattle.abt_machine.specs.Declaring.{Above, declared_units, parts_of, said_words, unit_with, units_of}
 use Rattle.abt_machine.specs.Faults.{is_beyond, is_placed, is_twice}
 use Rattle.abt_machine.specs.Operations.{IsDeclared, said_by}
-use Rattle.abt_machine.specs.Valid.{IsBody, IsValid, placed_scheds, sched_in, words_said}
+use Rattle.abt_machine.specs.Valid.{IsBody, IsUnit, IsValid, placed_scheds, sched_in, words_said}
 use Rattle.abt_machine.specs.Words.{Text}
 use Rattle.abt_machine.specs.Workloads.{all_ops, ops_of}
-use Rattle.abt_machine.proofs.Checked.{from-unit}
+use Rattle.abt_machine.proofs.Elements.{all-at}
 use Rattle.abt_machine.proofs.Saying.{said_by_units}
 use Rattle.abt_workload.specs.Slots.{values}
 use Rattle.abt_workload.proofs.Filled.{takes}
@@ -29,7 +28,6 @@ use Rattle.abt_workload.proofs.Fitting.{all-fit}
 use Rattle.abt_workload.proofs.Heads.{head, header, units_lines}
 use Rattle.abt_workload.proofs.InOrder.{front-shorter, get-here, not-before, placed-among}
 use Rattle.abt_workload.proofs.OperationLines.{body_like, ops-taken}
-use Rattle.abt_workload.proofs.Proper.{IsStartIn}
 use Rattle.abt_workload.proofs.Reaching.{IsQuiet, reached, reached-small, reached-units, reached-words}
 use Rattle.abt_workload.proofs.Taking.{Takes, TakesAll, takes-append}
 use Rattle.abt_workload.proofs.UnitForms.{role_of, start_form, unit-made, unit-met, unit-written, unit_form, unit_given, unit_numbers}
@@ -43,17 +41,12 @@ pub record IsWhole (W : Parts) (b : Above) : Type 0 where
   pub declared : declared_units b ≡ length W.units
   pub parts : parts_of b ≡ W
 
--- Main schedulers, and the starts of units.
+-- Main schedulers.
 
 -- if each stream has a main scheduler, these are all
 mains-back : (ms : List SchedNo) → flat_map option_to_list (map (λ (g : SchedNo). Some g) ms) ≡ ms
 mains-back [] = refl
 mains-back (m ∷ ms) = ap (λ (gs : List SchedNo). m ∷ gs) (mains-back ms)
-
--- a start that is declared, if there is one
-starts : (W : Parts) (o : Option PoolNo) → IsStart W o → IsStartIn (length W.pools) o
-starts W None h = tt
-starts W (Some p) h = h
 
 -- The lines of a unit.
 
@@ -75,13 +68,9 @@ module _ (F : Format) (W : Parts) (v : IsValid W) (front : List UnitPart) (part 
   here : slice_get W.units (length front) ≡ Some part
   here = get-here front part rest W.units e
 
-  -- its part is right
-  right : IsUnitPart W part
-  right = from-unit W (length front) part here (v.units (length front) below)
-
-  -- its pool is declared
-  start : IsStartIn (length W.pools) part.start
-  start = starts W part.start right.start
+  -- it is right
+  right : IsUnit W part
+  right = all-at (IsUnit W) W.units v.units (length front) part here
 
   -- a unit's scheduler is in no place above
   not-placed : (g : ℕ) → sched_in part.body ≡ g ∷ []
@@ -139,14 +128,14 @@ module _ (F : Format) (W : Parts) (v : IsValid W) (front : List UnitPart) (part 
         takes a (reached F W 9 front (Some (record { body = body_like part.body []; start = part.start })) (before ++ said) []) f (codes "unit") (unit_numbers u part.body part.start) (header u part)
         (unit-written u part.body part.start)
         (all-fit a (reached-small F W v s units last before said) (unit_given u part.body part.start)
-        (unit-met F W s units last before said u part.body part.start (sym count) below right.kind start))
+        (unit-met F W s units last before said u part.body part.start (sym count) below right.kind right.start))
         record { version = refl; placed = placed-among a f at (omega arith) refl refl; once = once part.body part.start refl; beyond = within-units part.body part.start; limit = refl; task = refl; access = refl; early = refl }
         (ap (λ (us : List UnitPart). record a { section = 9; units = us; last = Some made; copies = 1; words = said_words a; said = [] }) all-units
         ∙ (ap (λ (ws : List Text). record a { section = 9; units = front; last = Some made; copies = 1; words = ws; said = [] }) (reached-words F W s units last before said quiet)
         ∙ ap (λ (p : UnitPart). record a { section = 9; units = front; last = Some p; copies = 1; words = map (word_at W) (before ++ said); said = [] }) (unit-made u part.body part.start)))
 
   -- the lines of its operations are taken, if there are any
-  ops-of-body : (b : Body) (o : Option PoolNo) (before after : List ℕ) → IsBody W b → length (ops_of b) ≤ 256 → length (all_ops front) + length (ops_of b) ≤ 65536 → All (IsDeclared W) (ops_of b)
+  ops-of-body : (b : Body) (o : Option PoolNo) (before after : List ℕ) → IsBody (length W.scheds) b → length (ops_of b) ≤ 256 → length (all_ops front) + length (ops_of b) ≤ 65536 → All (IsDeclared W) (ops_of b)
       → words_said W ≡ before ++ (flat_map said_by (ops_of b) ++ after)
       → TakesAll (reached F W 9 front (Some (record { body = body_like b []; start = o })) before []) (map (op_words W) (ops_of b))
       (reached F W 9 front (Some (record { body = b; start = o })) before (flat_map said_by (ops_of b)))

@@ -5,31 +5,21 @@ use Rattle.std.proofs.lemmas.List.Elements.{All-append, All-cons, All-head, All-
 use Rattle.std.proofs.lemmas.List.FromFn.{get_or-range_with_len, length-range_with_len}
 use Rattle.std.proofs.lemmas.Bool.{eqb-true}
 use Rattle.std.proofs.lemmas.List.{length-replicate}
-use Rattle.abt_machine.specs.declared.numbers.PoolNo.{PoolNo}
 use Rattle.abt_machine.specs.declared.numbers.SchedNo.{SchedNo}
-use Rattle.abt_machine.specs.declared.operations.Access.{Access}
-use Rattle.abt_machine.specs.declared.operations.Access.TheVariants as access
-use Rattle.abt_machine.specs.declared.operations.Body.{Body}
-use Rattle.abt_machine.specs.declared.operations.Body.TheVariants as body
 use Rattle.abt_machine.specs.declared.operations.Op.{Op}
 use Rattle.abt_machine.specs.declared.operations.Op.TheVariants as op
-use Rattle.abt_machine.specs.declared.operations.Thing.{Thing}
-use Rattle.abt_machine.specs.declared.operations.Thing.TheVariants as thing
 use Rattle.abt_machine.specs.declared.workload.Parts.{Parts}
-use Rattle.abt_machine.specs.declared.workload.SchedPart.{SchedPart}
 use Rattle.abt_machine.specs.declared.workload.UnitPart.{UnitPart}
 use Rattle.abt_machine.specs.Declaring.{Above, parts_of, repeated, said_words, units_of}
-use Rattle.abt_machine.specs.Checks.{AreCounts, IsSchedPart, IsStart, IsUnitPart}
 use Rattle.abt_machine.specs.Operations.{IsDeclared, said_by}
-use Rattle.abt_machine.specs.Valid.{IsAccess, IsBody, IsStream, IsThing, IsValid, IsWord}
+use Rattle.abt_machine.specs.Valid.{IsStream, IsUnit, IsValid, IsWord}
 use Rattle.abt_machine.specs.Workloads.{main_from, ops_of}
-use Rattle.abt_machine.proofs.Checked.{map-all, map-pairs, valid-from}
 use Rattle.abt_machine.proofs.Saying.{said_by_units}
 use Rattle.abt_workload.proofs.Copies.{all-repeated, units-ops, units-said, units-scheds}
 use Rattle.abt_workload.proofs.Growing.{mains_list}
 use Rattle.abt_workload.proofs.KeepingUnits.{units-below, units-in}
 use Rattle.abt_workload.proofs.Naming.{others-declared, others-said, unmuted}
-use Rattle.abt_workload.proofs.Proper.{IsAccessIn, IsBodyIn, IsProper, IsSchedIn, IsStartIn, IsThingIn, IsUnitIn, counted, idle, muted, none-of, stream_count, takes_all, unit_count}
+use Rattle.abt_workload.proofs.Proper.{IsProper, IsUnitIn, counted, idle, muted, none-of, stream_count, takes_all, unit_count}
 
 -- Main schedulers.
 
@@ -49,49 +39,12 @@ some-in : (o : Option ℕ) → is_none o ≡ false → (n : ℕ) × (o ≡ Some 
 some-in None e = cc
 some-in (Some n) e = (n, refl)
 
--- Each part.
-
-access-valid : (W : Parts) (x : Access) → IsAccessIn W.streams x → IsAccess W x
-access-valid W (access.Priv s) h = h
-access-valid W (access.Spsc s t) h = h
-access-valid W (access.Mpsc t) h = h
-access-valid W (access.Spmc s) h = h
-access-valid W access.Mpmc h = tt
-
-thing-valid : (W : Parts) (x : ℕ) (t : Thing) → IsThingIn W.objects x t → IsThing W x t
-thing-valid W x thing.Mutex h = tt
-thing-valid W x (thing.Cond m) h = h
-thing-valid W x thing.Eventual h = tt
-thing-valid W x (thing.Future n c) h = h
-thing-valid W x (thing.Barrier n) h = h
-thing-valid W x thing.RwLock h = tt
-
-body-valid : (W : Parts) (b : Body) → IsBodyIn (length W.scheds) b → IsBody W b
-body-valid W (body.Ult ops) h = tt
-body-valid W (body.Task ops) h = h
-body-valid W (body.Sched g) h = h
+-- Units.
 
 -- main schedulers are named by no operation
 mains-declared : (W : Parts) (ms : List SchedNo) (o : Op) → IsDeclared (record W { mains = ms }) o → IsDeclared W o
 mains-declared W ms (op.Set n) h = h
 mains-declared W ms _ h = h
-
--- a start in a pool that is there is one in a declared pool
-start-valid : (W : Parts) (o : Option PoolNo) → IsStartIn (length W.pools) o → IsStart W o
-start-valid W None h = tt
-start-valid W (Some p) h = h
-
--- a scheduler among the pools is one of the workload
-sched-valid : (W : Parts) (part : SchedPart) → IsSchedIn (length W.pools) part → IsSchedPart W part
-sched-valid W part h = record {
-  rule = h.rule;
-  pools = record {
-    some_pool = h.some_pool;
-    few_pools = h.few_pools;
-    declared = map-all (λ (p : PoolNo). p.0) (λ p. p < length W.pools) part.pools h.listed;
-    once = map-pairs part.pools h.once;
-  };
-}
 
 -- Words.
 
@@ -157,42 +110,40 @@ module _ (a : Above) (h : IsProper a) (ended : (a.section == 10) ≡ true) where
       (others-said (record (parts_of a) { mains = []; units = replicate (unit_count a) idle }) [] o i)))
       said
 
-  unit-valid : (part : UnitPart) → IsUnitIn (counted a) part → All (λ w. w < length (said_words a)) (flat_map said_by (ops_of part.body)) → IsUnitPart (parts_of a) part
+  unit-valid : (part : UnitPart) → IsUnitIn (counted a) part → All (λ w. w < length (said_words a)) (flat_map said_by (ops_of part.body)) → IsUnit (parts_of a) part
   unit-valid part i said = record {
-    kind = body-valid (parts_of a) part.body i.kind;
+    kind = i.kind;
     few_ops = i.few_ops;
     ops = λ k d lt. op-valid (get_or (ops_of part.body) k d) (i.ops k d lt) (all-flat said_by (λ w. w < length (said_words a)) (ops_of part.body) said k d lt);
-    start = start-valid (parts_of a) part.start i.start;
+    start = i.start;
   }
 
-  counts-valid : AreCounts (parts_of a)
-  counts-valid =
+  pub valid-of : IsValid (parts_of a)
+  valid-of =
       let ten = section-ten in
       let count = h.units.few in
       let declared = units-below a h in
+      let ops = units-ops a in
+      let few = h.few_ops in
+      let said : All (λ w. w < length (said_words a)) (said_by_units (units_of a)) = subst (λ (ns : List ℕ). All (λ w. w < length (said_words a)) ns) (sym all-said) (range-below (length (said_words a))) in
       record {
         some_stream = streams-some;
         few_streams = h.streams.high;
         few_keys = h.keys;
         some_pool = h.order.has_pools (omega arith);
         few_pools = h.pools.few;
+        pools = h.pools.all;
         some_sched = let m = (stream-valid 0 streams-some).main in omega (arith, m);
         few_scheds = h.scheds.few;
+        scheds = h.scheds.all;
         mains = full-length a.mains all-mains ∙ h.mains.count;
+        streams = stream-valid;
+        one_place = subst (λ (gs : List ℕ). AllPairs (λ x y. x ≢ y) (mains_list a.mains ++ gs)) (sym (units-scheds a h.units.copied)) h.places;
         few_objects = h.objects.few;
+        objects = h.objects.all;
         few_units = omega arith;
+        units = λ u d lt. unit-valid (get_or (units_of a) u d) (units-in a h u d lt) (all-flat (λ (part : UnitPart). flat_map said_by (ops_of part.body)) (λ w. w < length (said_words a)) (units_of a) said u d lt);
+        few_ops = omega arith;
+        said = all-said;
+        words = All-append IsWord a.words (repeated a.copies a.said) h.words (all-repeated IsWord a.copies a.said h.last_words);
       }
-
-  pub valid-of : IsValid (parts_of a)
-  valid-of =
-      let said : All (λ w. w < length (said_words a)) (said_by_units (units_of a)) = subst (λ (ns : List ℕ). All (λ w. w < length (said_words a)) ns) (sym all-said) (range-below (length (said_words a))) in
-      valid-from (parts_of a) counts-valid
-      (λ p d lt. access-valid (parts_of a) (get_or a.pools p d).access (h.pools.all p d lt))
-      (λ g d lt. sched-valid (parts_of a) (get_or a.scheds g d) (h.scheds.all g d lt))
-      stream-valid
-      (λ x t e. thing-valid (parts_of a) x t (h.objects.all x t e))
-      (λ u d lt. unit-valid (get_or (units_of a) u d) (units-in a h u d lt) (all-flat (λ (part : UnitPart). flat_map said_by (ops_of part.body)) (λ w. w < length (said_words a)) (units_of a) said u d lt))
-      (subst (λ (gs : List ℕ). AllPairs (λ x y. x ≢ y) (mains_list a.mains ++ gs)) (sym (units-scheds a h.units.copied)) h.places)
-      all-said
-      (All-append IsWord a.words (repeated a.copies a.said) h.words (all-repeated IsWord a.copies a.said h.last_words))
-      (let e = units-ops a in let few = h.few_ops in omega arith)

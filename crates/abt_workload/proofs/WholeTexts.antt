@@ -1,22 +1,21 @@
 -- A workload's text, appended section by section.
 use Rattle.std.proofs.Common.{◌≡◌, ◌∙◌, ℕ, Bool, true, false, List, [], ◌∷◌, ◌++◌, Some, ap, append_assoc, codes, decimal, if◌then◌else◌, length, refl, slice_get, slice_set, sym}
 use Rattle.std.specs.List.{All}
-use Rattle.std.proofs.lemmas.Option.{slice_get_within}
 use Rattle.abt_machine.specs.declared.grammar.Format.TheVariants as format
 use Rattle.abt_machine.specs.declared.workload.Parts.{Parts}
 use Rattle.abt_machine.specs.declared.workload.UnitPart.{UnitPart}
 use Rattle.abt_machine.specs.Canonical.{canonical_text, has_text, keys_lines, object_line, pool_line, sched_line, stream_line, text_in, version_line}
 use Rattle.abt_machine.specs.Operations.{IsDeclared}
-use Rattle.abt_machine.specs.Valid.{IsValid}
+use Rattle.abt_machine.specs.Valid.{IsUnit, IsValid}
 use Rattle.abt_machine.specs.Words.{Text, ended, line_of, numbered, text_of}
 use Rattle.abt_machine.specs.Workloads.{ops_of}
-use Rattle.abt_machine.proofs.Checked.{from-unit}
+use Rattle.abt_machine.proofs.Elements.{all-at}
 use Rattle.abt_workload.proofs.Heads.{units_lines}
 use Rattle.abt_workload.proofs.WritingLines.{text-and, text-append}
 
 -- what the operations of a unit name is declared
 pub unit-declared : (W : Parts) (u : ℕ) (part : UnitPart) → IsValid W → slice_get W.units u ≡ Some part → All (IsDeclared W) (ops_of part.body)
-unit-declared W u part valid at = (from-unit W u part at (valid.units u (slice_get_within W.units u part at))).ops
+unit-declared W u part valid at = (all-at (IsUnit W) W.units valid.units u part at).ops
 
 -- the text of lines goes on with the text of more lines
 more-lines : (lines more : List (List Text)) (old new : Text) → old ≡ text_of lines → new ≡ old ++ text_of more → new ≡ text_of (lines ++ more)

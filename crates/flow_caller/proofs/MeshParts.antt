@@ -1,11 +1,12 @@
 -- A mesh is a valid workload.
 use Rattle.std.proofs.Common.{◌≡◌, ◌≢◌, ℕ, zero, suc, ◌<◌, ◌≤◌, ◌+◌, List, [], ◌∷◌, ◌++◌, Option, Some, length, map, get_or, slice_get, refl, sym, ◌∙◌, ap, subst, arith, lit<, lit≤}
-use Rattle.std.specs.Prelude.{◌%◌, AllPairs, flat_map, option_map, replicate}
+use Rattle.std.specs.Prelude.{◌%◌, All, AllPairs, flat_map, replicate}
 use Rattle.std.specs.List.{enumerate_from}
 use Rattle.std.proofs.lemmas.List.{get_or-replicate, length-replicate}
 use Rattle.std.proofs.lemmas.List.Elements.{All-nil}
 use Rattle.std.proofs.lemmas.Option.{slice_get-get_or, slice_get_within}
 use Rattle.abt_machine.specs.declared.numbers.ObjectNo.{ObjectNo}
+use Rattle.abt_machine.specs.declared.numbers.PoolNo.{PoolNo}
 use Rattle.abt_machine.specs.declared.numbers.SchedNo.{SchedNo}
 use Rattle.abt_machine.specs.declared.operations.Op.{Op}
 use Rattle.abt_machine.specs.declared.operations.Op.TheVariants as op
@@ -15,17 +16,18 @@ use Rattle.abt_machine.specs.declared.workload.Parts.{Parts}
 use Rattle.abt_machine.specs.declared.workload.PoolPart.{PoolPart}
 use Rattle.abt_machine.specs.declared.workload.SchedPart.{SchedPart}
 use Rattle.abt_machine.specs.declared.workload.UnitPart.{UnitPart}
-use Rattle.abt_machine.specs.Numbers.{sched_no}
+use Rattle.abt_machine.specs.Numbers.{pool_no, sched_no}
 use Rattle.abt_machine.specs.Operations.{IsDeclared, IsEventual, said_by}
-use Rattle.abt_machine.specs.Valid.{IsAccess, IsBody, IsRule, IsScheduler, IsStream, IsThing, IsUnit, IsValid, IsWord, sched_in, words_said}
+use Rattle.abt_machine.specs.Valid.{IsAccess, IsSched, IsStream, IsThing, IsUnit, IsValid, IsWord, sched_in, words_said}
 use Rattle.abt_machine.specs.Words.{Text, numbered}
-use Rattle.abt_machine.specs.Workloads.{access_of, body_from, ops_of, start_from, thing_at}
-use Rattle.abt_generate.proofs.Lists.{Each, each-all, each-always, each-at, each-map, each-pairs, flat_map-nothing, none-some, some-same}
+use Rattle.abt_machine.specs.Workloads.{ops_of, thing_at}
+use Rattle.abt_machine.proofs.Elements.{at-all}
+use Rattle.abt_generate.proofs.Lists.{Each, each-all, each-always, each-map, each-pairs, flat_map-nothing, none-some, some-same}
 use Rattle.flow_caller.specs.Meshes.{IsMesh, IsNode, fifo, mesh, node_ops, node_unit, sched_for}
 use Rattle.flow_caller.specs.declared.nodes.Node.{Node}
-use Rattle.flow_caller.proofs.Lists.{all-each}
+use Rattle.flow_caller.proofs.Lists.{all-each, mapped-some}
 use Rattle.flow_caller.proofs.MeshOps.{few-ops, length-node_ops, length-units}
-use Rattle.flow_caller.proofs.Units.{each-op, no_node, unit-at}
+use Rattle.flow_caller.proofs.Units.{each-op, unit-at}
 
 -- Eventuals.
 
@@ -38,18 +40,18 @@ is-eventual : (nodes : List Node) (x : ℕ) → x < length nodes → IsEventual 
 unfolding mesh
 is-eventual nodes x below = eventual-at (length nodes) x below
 
-thing-valid : (W : Parts) (n x : ℕ) (t : Thing) → slice_get (replicate n thing.Eventual) x ≡ Some t → IsThing W x t
-thing-valid W zero x t is = absurd (none-some is)
-thing-valid W (suc n) zero t is = subst (IsThing W 0) (some-same is) tt
-thing-valid W (suc n) (suc x) t is =
+thing-valid : (things : List Thing) (n x : ℕ) (t : Thing) → slice_get (replicate n thing.Eventual) x ≡ Some t → IsThing things x t
+thing-valid things zero x t is = absurd (none-some is)
+thing-valid things (suc n) zero t is = subst (IsThing things 0) (some-same is) tt
+thing-valid things (suc n) (suc x) t is =
     let below : x < length (replicate n thing.Eventual) = slice_get_within (replicate n thing.Eventual) x t is in
     let long : length (replicate n thing.Eventual) ≡ n = length-replicate n thing.Eventual in
     let same : thing.Eventual ≡ t = some-same (sym (eventual-at n x (omega arith)) ∙ is) in
-    subst (IsThing W (suc x)) same tt
+    subst (IsThing things (suc x)) same tt
 
-objects-valid : (nodes : List Node) (x : ℕ) (t : Thing) → thing_at (mesh nodes) x ≡ Some t → IsThing (mesh nodes) x t
+objects-valid : (nodes : List Node) (x : ℕ) (t : Thing) → thing_at (mesh nodes) x ≡ Some t → IsThing (mesh nodes).objects x t
 unfolding mesh
-objects-valid nodes x t is = thing-valid (mesh nodes) (length nodes) x t is
+objects-valid nodes x t is = thing-valid (mesh nodes).objects (length nodes) x t is
 
 -- Units.
 
@@ -59,26 +61,23 @@ ops-declared nodes u node below is =
     each-op (IsDeclared W) u node (all-each (λ (x : ObjectNo). IsDeclared W (op.EvWait x)) node.after (λ i d within. is-eventual nodes (get_or node.after i d).0 (is.after i d within)))
     is.plus tt (is-eventual nodes u below)
 
-unit-valid : (nodes : List Node) (u : ℕ) (node : Node) → u < length nodes → slice_get nodes u ≡ Some node → IsNode (length nodes) node → IsUnit (mesh nodes) u
+unit-valid : (nodes : List Node) (u : ℕ) (node : Node) → u < length nodes → IsNode (length nodes) node → IsUnit (mesh nodes) (node_unit u node)
 unfolding mesh
-unit-valid nodes u node below here is =
-    let W : Parts = mesh nodes in
-    let part : slice_get W.units u ≡ Some (node_unit u node) = unit-at nodes u ∙ ap (option_map (node_unit u)) here in
+unit-valid nodes u node below is =
     let few : length node.after ≤ 16 = is.few in
     let count : length (node_ops u node) ≡ length node.after + 3 = length-node_ops u node in
-    let many : length (node_ops u node) ≤ 256 = omega arith in
     record {
-      kind = subst (λ (o : Option UnitPart). IsBody W (body_from o)) (sym part) tt;
-      few_ops = subst (λ (o : Option UnitPart). length (ops_of (body_from o)) ≤ 256) (sym part) many;
-      ops = subst (λ (o : Option UnitPart). (i : ℕ) (a : Op) → slice_get (ops_of (body_from o)) i ≡ Some a → IsDeclared W a) (sym part) (each-at (IsDeclared W) (node_ops u node) (ops-declared nodes u node below is));
-      start = subst (λ (o : Option UnitPart). (p : ℕ) → start_from o ≡ Some p → p < 4) (sym part) (λ p start. let small : u % 4 < 4 = omega arith in subst (λ q. q < 4) (some-same start) small);
+      kind = tt;
+      few_ops = omega arith;
+      ops = each-all (IsDeclared (mesh nodes)) (node_ops u node) (ops-declared nodes u node below is);
+      start = let small : u % 4 < 4 = omega arith in small;
     }
 
-units-valid : (nodes : List Node) (u : ℕ) → IsMesh nodes → u < length nodes → IsUnit (mesh nodes) u
-units-valid nodes u is below =
-    let node : Node = get_or nodes u no_node in
-    let here : slice_get nodes u ≡ Some node = slice_get-get_or nodes u no_node below in
-    unit-valid nodes u node below here (is.each u node here)
+units-valid : (nodes : List Node) → IsMesh nodes → All (IsUnit (mesh nodes)) (mesh nodes).units
+units-valid nodes is =
+    at-all (IsUnit (mesh nodes)) (mesh nodes).units (λ u part at.
+    let made = mapped-some (node_unit u) (slice_get nodes u) part (sym (unit-at nodes u) ∙ at) in
+    subst (IsUnit (mesh nodes)) made.2 (unit-valid nodes u made.0 (slice_get_within nodes u made.0 made.1) (is.each u made.0 made.1)))
 
 -- no unit is a scheduler, and none says a word
 
@@ -101,49 +100,14 @@ no-words nodes =
 
 -- Pools, schedulers and streams.
 
-pools-valid : (nodes : List Node) (p : ℕ) → p < 4 → IsAccess (mesh nodes) (access_of (mesh nodes) p)
-unfolding mesh
-pools-valid nodes zero below = tt
-pools-valid nodes (suc zero) below = tt
-pools-valid nodes (suc (suc zero)) below = tt
-pools-valid nodes (suc (suc (suc zero))) below = tt
-pools-valid nodes (suc (suc (suc (suc p)))) below = absurd (omega arith)
-
--- a list of one has no two alike
-once-one : (p : ℕ) → AllPairs (λ a b. a ≢ b) (p ∷ [])
-once-one p = each-pairs (λ a b. a ≢ b) (p ∷ []) (tt, tt)
-
-scheds-valid : (nodes : List Node) (g : ℕ) → g < 4 → IsScheduler (mesh nodes) g
-unfolding mesh
-scheds-valid nodes zero below = record {
-  rule = λ r is. subst IsRule (some-same is) tt;
+sched-valid : (s : ℕ) → s < 4 → IsSched 4 (sched_for s)
+sched-valid s below = record {
+  rule = tt;
   some_pool = lit< tt;
   few_pools = lit≤ tt;
-  pools = each-all (λ p. p < 4) (0 ∷ []) (lit< tt, tt);
-  once = once-one 0;
+  listed = each-all (λ (p : PoolNo). p.0 < 4) (pool_no s ∷ []) (below, tt);
+  once = each-pairs (λ (a b : PoolNo). a.0 ≢ b.0) (pool_no s ∷ []) (tt, tt);
 }
-scheds-valid nodes (suc zero) below = record {
-  rule = λ r is. subst IsRule (some-same is) tt;
-  some_pool = lit< tt;
-  few_pools = lit≤ tt;
-  pools = each-all (λ p. p < 4) (1 ∷ []) (lit< tt, tt);
-  once = once-one 1;
-}
-scheds-valid nodes (suc (suc zero)) below = record {
-  rule = λ r is. subst IsRule (some-same is) tt;
-  some_pool = lit< tt;
-  few_pools = lit≤ tt;
-  pools = each-all (λ p. p < 4) (2 ∷ []) (lit< tt, tt);
-  once = once-one 2;
-}
-scheds-valid nodes (suc (suc (suc zero))) below = record {
-  rule = λ r is. subst IsRule (some-same is) tt;
-  some_pool = lit< tt;
-  few_pools = lit≤ tt;
-  pools = each-all (λ p. p < 4) (3 ∷ []) (lit< tt, tt);
-  once = once-one 3;
-}
-scheds-valid nodes (suc (suc (suc (suc g)))) below = absurd (omega arith)
 
 streams-valid : (nodes : List Node) (s : ℕ) → s < 4 → IsStream (mesh nodes) s
 unfolding mesh
@@ -170,17 +134,17 @@ IsValid-mesh nodes is =
       few_keys = lit≤ tt;
       some_pool = lit< tt;
       few_pools = lit≤ tt;
-      pools = pools-valid nodes;
+      pools = each-all (λ (part : PoolPart). IsAccess 4 part.access) W.pools (tt, (tt, (tt, (tt, tt))));
       some_sched = lit< tt;
       few_scheds = lit≤ tt;
-      scheds = scheds-valid nodes;
+      scheds = each-all (IsSched 4) W.scheds (sched-valid 0 (lit< tt), (sched-valid 1 (lit< tt), (sched-valid 2 (lit< tt), (sched-valid 3 (lit< tt), tt))));
       mains = refl;
       streams = streams-valid nodes;
       one_place = once-placed _ _ (no-scheds nodes) refl;
       few_objects = few_objects;
       objects = objects-valid nodes;
       few_units = omega arith;
-      units = λ u below. units-valid nodes u is (omega arith);
+      units = units-valid nodes is;
       few_ops = few-ops nodes is;
       said = no-words nodes;
       words = All-nil IsWord;

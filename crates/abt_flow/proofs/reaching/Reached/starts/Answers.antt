@@ -1,10 +1,10 @@
 use Rattle.std.proofs.Common.{◌≡◌, ◌∙◌, [], length, replicate, false, ap, subst, sym, arith}
 use Rattle.std.proofs.lemmas.Bool.{cases_lt}
-use Rattle.abt_laws.proofs.Declared.{undeclared-start}
 use Rattle.abt_laws.proofs.Options.{none≢some}
 use Rattle.abt_flow.specs.Tables.{Finds}
 use Rattle.abt_flow.proofs.Finds.{none-found}
 use Rattle.std.proofs.Common.{inl, inr}
+use Rattle.abt_machine.proofs.Declared.{undeclared-start}
 use Rattle.abt_flow.proofs.reaching.Reached.starts.Goals as goal
 
 pub loop-u-init : goal.loop-u-init

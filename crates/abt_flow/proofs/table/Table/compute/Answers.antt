@@ -1,7 +1,7 @@
 use Rattle.std.proofs.Common.{◌≡◌, ◌+◌, ◌<◌, ◌≤◌, length, Some, arith, set, suc}
 use Rattle.std.specs.Vec.{with_item}
 use Rattle.std.specs.Prelude.{slice_get}
-use Rattle.abt_laws.proofs.Declared.{op-declared}
+use Rattle.abt_machine.proofs.Declared.{op-declared}
 use Rattle.abt_flow.specs.Effects.{effect}
 use Rattle.abt_flow.specs.Flow.{Leads}
 use Rattle.abt_flow.specs.Tables.{Nothing, Runs, executed, memory_in}

@@ -5,4 +5,4 @@ use Rattle.abt_machine.specs.declared.operations.Thing.{Thing}
 use Rattle.abt_machine.proofs.workload.Parts.has_things.Given as goal
 
 abbrev pub invariant-loop-x : goal.invariant-loop-x
-invariant-loop-x l = (x : ℕ) (t : Thing) → x < l.x → thing_at l.self x ≡ Some t → IsThing l.self x t
+invariant-loop-x l = (x : ℕ) (t : Thing) → x < l.x → thing_at l.self x ≡ Some t → IsThing l.self.objects x t
