@@ -1,18 +1,18 @@
 -- The one text in which a workload is written.
-use Rattle.std.specs.Prelude.{ℕ, zero, suc, ◌&&◌, Bool, true, false, if◌then◌else◌, List, [], ◌∷◌, ◌++◌, length, nat_le, map, flat_map, Option, Some, None, slice_index_or, codes, decimal}
+use Rattle.std.specs.Prelude.{ℕ, zero, suc, ◌&&◌, Bool, true, false, if◌then◌else◌, List, [], ◌∷◌, ◌++◌, length, nat_le, map, flat_map, Option, Some, None, slice_index_or, decimal}
 use Rattle.std.specs.List.{enumerate_from}
+use Rattle.abt_machine.specs.declared.grammar.Form.{Form}
+use Rattle.abt_machine.specs.declared.grammar.Form.TheVariants as form
 use Rattle.abt_machine.specs.declared.grammar.Format.{Format}
 use Rattle.abt_machine.specs.declared.grammar.Format.TheVariants as format
+use Rattle.abt_machine.specs.declared.grammar.Role.{Role}
+use Rattle.abt_machine.specs.declared.grammar.Role.TheVariants as role
 use Rattle.abt_machine.specs.declared.numbers.PoolNo.{PoolNo}
 use Rattle.abt_machine.specs.declared.numbers.SchedNo.{SchedNo}
 use Rattle.abt_machine.specs.declared.operations.Access.{Access}
 use Rattle.abt_machine.specs.declared.operations.Access.TheVariants as access
 use Rattle.abt_machine.specs.declared.operations.Body.{Body}
 use Rattle.abt_machine.specs.declared.operations.Body.TheVariants as body
-use Rattle.abt_machine.specs.declared.operations.Combine.{Combine}
-use Rattle.abt_machine.specs.declared.operations.Combine.TheVariants as combine
-use Rattle.abt_machine.specs.declared.operations.Kind.{Kind}
-use Rattle.abt_machine.specs.declared.operations.Kind.TheVariants as kind
 use Rattle.abt_machine.specs.declared.operations.Op.{Op}
 use Rattle.abt_machine.specs.declared.operations.Op.TheVariants as op
 use Rattle.abt_machine.specs.declared.operations.Rule.{Rule}
@@ -23,7 +23,7 @@ use Rattle.abt_machine.specs.declared.workload.Parts.{Parts}
 use Rattle.abt_machine.specs.declared.workload.PoolPart.{PoolPart}
 use Rattle.abt_machine.specs.declared.workload.SchedPart.{SchedPart}
 use Rattle.abt_machine.specs.declared.workload.UnitPart.{UnitPart}
-use Rattle.abt_machine.specs.Forms.{Slot, Fixed, KindWord, CombineWord, AnyWord, Numeral, PoolList, op_slots}
+use Rattle.abt_machine.specs.Forms.{Slot, Fixed, KindWord, CombineWord, AnyWord, Numeral, PoolList, combine_name, kind_name, slots}
 use Rattle.abt_machine.specs.Limits.{stream_limit, text_limit, unit_limit}
 use Rattle.abt_machine.specs.Words.{Text, text_of, numbered}
 use Rattle.abt_machine.specs.Workloads.{ops_of}
@@ -41,53 +41,60 @@ filled (Numeral kind ∷ places) word [] = []
 filled (Numeral kind ∷ places) word (n ∷ numbers) = decimal n ∷ filled places word numbers
 filled (PoolList ∷ places) word numbers = map decimal numbers
 
+-- the words of a line of this form, with these numbers; the word is `[]` where the form leaves no choice
+abbrev pub form_words : Form → Text → List ℕ → List Text
+form_words f word numbers = filled (slots f) word numbers
+
 -- Pools.
 
-abbrev pub kind_name : Kind → Text
-kind_name kind.Fifo = codes "fifo"
-kind_name kind.Deque = codes "deque"
-
-abbrev pub access_words : Access → List Text
-access_words (access.Priv s) = codes "priv" ∷ codes "of" ∷ decimal s.0 ∷ []
-access_words (access.Spsc s t) = codes "spsc" ∷ codes "from" ∷ decimal s.0 ∷ codes "to" ∷ decimal t.0 ∷ []
-access_words (access.Mpsc t) = codes "mpsc" ∷ codes "to" ∷ decimal t.0 ∷ []
-access_words (access.Spmc s) = codes "spmc" ∷ codes "from" ∷ decimal s.0 ∷ []
-access_words access.Mpmc = codes "mpmc" ∷ []
+-- the numbers of the streams that an access names
+abbrev pub access_numbers : Access → List ℕ
+access_numbers (access.Priv s) = s.0 ∷ []
+access_numbers (access.Spsc s t) = s.0 ∷ t.0 ∷ []
+access_numbers (access.Mpsc t) = t.0 ∷ []
+access_numbers (access.Spmc s) = s.0 ∷ []
+access_numbers access.Mpmc = []
 
 abbrev pub pool_line : ℕ → PoolPart → List Text
-pool_line p part = codes "pool" ∷ decimal p ∷ kind_name part.kind ∷ access_words part.access
+pool_line p part = form_words (form.Pool part.access) (kind_name part.kind) (p ∷ access_numbers part.access)
 
 -- Schedulers.
 
-abbrev pub rule_words : Rule → List Text
-rule_words rule.Basic = codes "basic" ∷ []
-rule_words rule.Prio = codes "prio" ∷ []
-rule_words (rule.Randws seed) = codes "randws" ∷ decimal seed ∷ []
-rule_words (rule.User k) = codes "user" ∷ decimal k ∷ []
+-- the numbers that stand before a rule's pools
+abbrev pub rule_numbers : Rule → List ℕ
+rule_numbers rule.Basic = []
+rule_numbers rule.Prio = []
+rule_numbers (rule.Randws seed) = seed ∷ []
+rule_numbers (rule.User k) = k ∷ []
+
+-- the numbers of a scheduler's line
+abbrev pub sched_numbers : ℕ → SchedPart → List ℕ
+sched_numbers g part = g ∷ rule_numbers part.rule ++ map (λ (p : PoolNo). p.0) part.pools
 
 abbrev pub sched_line : ℕ → SchedPart → List Text
-sched_line g part = codes "sched" ∷ decimal g ∷ rule_words part.rule ++ map (λ (p : PoolNo). decimal p.0) part.pools
+sched_line g part = form_words (form.Sched part.rule) [] (sched_numbers g part)
 
 abbrev pub stream_line : ℕ → SchedNo → List Text
-stream_line s g = codes "stream" ∷ decimal s ∷ codes "main" ∷ decimal g.0 ∷ []
+stream_line s g = form_words form.Stream [] (s ∷ g.0 ∷ [])
 
 -- Objects.
 
-abbrev pub combine_name : Combine → Text
-combine_name combine.Sum = codes "sum"
-combine_name combine.Max = codes "max"
-combine_name combine.Count = codes "count"
+-- the numbers of a thing
+abbrev pub thing_numbers : Thing → List ℕ
+thing_numbers thing.Mutex = []
+thing_numbers (thing.Cond m) = m.0 ∷ []
+thing_numbers thing.Eventual = []
+thing_numbers (thing.Future n c) = n ∷ []
+thing_numbers (thing.Barrier n) = n ∷ []
+thing_numbers thing.RwLock = []
 
-abbrev pub thing_words : Thing → List Text
-thing_words thing.Mutex = codes "mutex" ∷ []
-thing_words (thing.Cond m) = codes "cond" ∷ decimal m.0 ∷ []
-thing_words thing.Eventual = codes "eventual" ∷ []
-thing_words (thing.Future n c) = codes "future" ∷ decimal n ∷ combine_name c ∷ []
-thing_words (thing.Barrier n) = codes "barrier" ∷ decimal n ∷ []
-thing_words thing.RwLock = codes "rwlock" ∷ []
+-- the word of what a future makes of its values
+abbrev pub thing_word : Thing → Text
+thing_word (thing.Future n c) = combine_name c
+thing_word t = []
 
 abbrev pub object_line : ℕ → Thing → List Text
-object_line x thing = codes "object" ∷ decimal x ∷ thing_words thing
+object_line x thing = form_words (form.Object thing) (thing_word thing) (x ∷ thing_numbers thing)
 
 -- Units.
 
@@ -150,45 +157,53 @@ op_word W o = []
 
 -- the words of an operation's line: those of its form, with its word and its numbers
 abbrev pub op_words : Parts → Op → List Text
-op_words W o = filled (op_slots o) (op_word W o) (op_numbers o)
+op_words W o = form_words (form.Operation o) (op_word W o) (op_numbers o)
 
-abbrev pub body_words : Body → List Text
-body_words (body.Ult ops) = codes "ult" ∷ []
-body_words (body.Task ops) = codes "task" ∷ []
-body_words (body.Sched g) = codes "sched" ∷ decimal g.0 ∷ []
+-- what a unit's line says that it is
+abbrev pub role_of : Body → Role
+role_of (body.Ult ops) = role.Ult
+role_of (body.Task ops) = role.Task
+role_of (body.Sched g) = role.Sched
 
-abbrev pub start_words : Option PoolNo → List Text
-start_words None = codes "later" ∷ []
-start_words (Some p) = codes "at" ∷ decimal p.0 ∷ []
+-- the number of the scheduler that a unit is
+abbrev pub body_numbers : Body → List ℕ
+body_numbers (body.Ult ops) = []
+body_numbers (body.Task ops) = []
+body_numbers (body.Sched g) = g.0 ∷ []
+
+-- the number of the pool that a unit starts in
+abbrev pub start_numbers : Option PoolNo → List ℕ
+start_numbers None = []
+start_numbers (Some p) = p.0 ∷ []
+
+-- the line of a unit
+abbrev pub unit_header : ℕ → UnitPart → List Text
+unit_header u part = form_words (form.Unit (role_of part.body) part.start) [] (u ∷ body_numbers part.body ++ start_numbers part.start)
 
 -- the line of a unit, and the lines of its operations
 abbrev pub unit_lines : Parts → ℕ → UnitPart → List (List Text)
-unit_lines W u part = (codes "unit" ∷ decimal u ∷ body_words part.body ++ start_words part.start) ∷ map (op_words W) (ops_of part.body)
+unit_lines W u part = unit_header u part ∷ map (op_words W) (ops_of part.body)
 
 -- The whole text.
 
 -- keys are declared only if there are some
 abbrev pub keys_lines : ℕ → List (List Text)
 keys_lines zero = []
-keys_lines (suc n) = (codes "keys" ∷ decimal (suc n) ∷ []) ∷ []
-
-abbrev pub version_line : Format → List Text
-version_line format.One = codes "abt" ∷ codes "1" ∷ []
-version_line format.Two = codes "abt" ∷ codes "2" ∷ []
+keys_lines (suc n) = form_words form.Keys [] (suc n ∷ []) ∷ []
 
 -- the lines of a workload in a format, each as its words
 abbrev pub workload_lines : Format → Parts → List (List Text)
 workload_lines F W =
-    version_line F ∷
-    (codes "streams" ∷ decimal W.streams ∷ []) ∷
+    form_words (form.Version F) [] [] ∷
+    form_words form.Streams [] (W.streams ∷ []) ∷
     keys_lines W.keys ++
     numbered pool_line W.pools ++
     numbered sched_line W.scheds ++
     numbered stream_line W.mains ++
     numbered object_line W.objects ++
-    (codes "units" ∷ decimal (length W.units) ∷ []) ∷
+    form_words form.Units [] (length W.units ∷ []) ∷
     flat_map (λ p. unit_lines W p.0 p.1) (enumerate_from 0 W.units) ++
-    (codes "end" ∷ []) ∷ []
+    form_words form.End [] [] ∷ []
 
 -- the text of a workload in a format
 abbrev pub text_in : Format → Parts → Text

@@ -1,5 +1,5 @@
 -- What the lines of a workload text declare.
-use Rattle.std.specs.Prelude.{ℕ, zero, suc, ◌+◌, ◌==◌, if◌then◌else◌, Bool, false, List, [], ◌∷◌, ◌++◌, length, drop, flat_map, map, replicate, slice_index_or, slice_set, Option, Some, None, bytes_eq, codes, option_map, option_to_list, unwrap_or}
+use Rattle.std.specs.Prelude.{ℕ, zero, suc, ◌+◌, ◌==◌, if◌then◌else◌, Bool, false, List, [], ◌∷◌, ◌++◌, length, drop, flat_map, map, replicate, slice_index_or, slice_set, Option, Some, None, bytes_eq, option_map, option_to_list, unwrap_or}
 use Rattle.abt_machine.specs.declared.grammar.Form.{Form}
 use Rattle.abt_machine.specs.declared.grammar.Form.TheVariants as form
 use Rattle.abt_machine.specs.declared.grammar.Format.{Format}
@@ -26,6 +26,7 @@ use Rattle.abt_machine.specs.declared.workload.Parts.{Parts}
 use Rattle.abt_machine.specs.declared.workload.PoolPart.{PoolPart}
 use Rattle.abt_machine.specs.declared.workload.SchedPart.{SchedPart}
 use Rattle.abt_machine.specs.declared.workload.UnitPart.{UnitPart}
+use Rattle.abt_machine.specs.Forms.{combine_name, kind_name}
 use Rattle.abt_machine.specs.Numbers.{object_no, pool_no, sched_no, stream_no, unit_no}
 use Rattle.abt_machine.specs.Words.{Text}
 
@@ -128,10 +129,10 @@ abbrev pub word_in : List Text → ℕ → Text
 word_in words k = slice_index_or words k []
 
 abbrev pub kind_named : Text → Kind
-kind_named word = if bytes_eq word (codes "fifo") then kind.Fifo else kind.Deque
+kind_named word = if bytes_eq word (kind_name kind.Fifo) then kind.Fifo else kind.Deque
 
 abbrev pub combine_named : Text → Combine
-combine_named word = if bytes_eq word (codes "sum") then combine.Sum else (if bytes_eq word (codes "max") then combine.Max else combine.Count)
+combine_named word = if bytes_eq word (combine_name combine.Sum) then combine.Sum else (if bytes_eq word (combine_name combine.Max) then combine.Max else combine.Count)
 
 -- the access of a `pool` line, whose first number is the pool's
 abbrev pub access_with : Access → List ℕ → Access

@@ -11,14 +11,17 @@ use Rattle.abt_machine.specs.declared.grammar.Role.TheVariants as role
 use Rattle.abt_machine.specs.declared.numbers.PoolNo.{PoolNo}
 use Rattle.abt_machine.specs.declared.operations.Access.{Access}
 use Rattle.abt_machine.specs.declared.operations.Access.TheVariants as access
+use Rattle.abt_machine.specs.declared.operations.Combine.{Combine}
 use Rattle.abt_machine.specs.declared.operations.Combine.TheVariants as combine
+use Rattle.abt_machine.specs.declared.operations.Kind.{Kind}
+use Rattle.abt_machine.specs.declared.operations.Kind.TheVariants as kind
 use Rattle.abt_machine.specs.declared.operations.Op.{Op}
 use Rattle.abt_machine.specs.declared.operations.Op.TheVariants as op
 use Rattle.abt_machine.specs.declared.operations.Rule.{Rule}
 use Rattle.abt_machine.specs.declared.operations.Rule.TheVariants as rule
 use Rattle.abt_machine.specs.declared.operations.Thing.{Thing}
 use Rattle.abt_machine.specs.declared.operations.Thing.TheVariants as thing
-use Rattle.abt_machine.specs.Limits.{unit_limit, unit_operation_limit}
+use Rattle.abt_machine.specs.Limits.{key_limit, size_limit, unit_limit, unit_operation_limit}
 use Rattle.abt_machine.specs.Numbers.{object_no, pool_no, stream_no, unit_no}
 use Rattle.abt_machine.specs.Words.{Text}
 
@@ -26,9 +29,9 @@ use Rattle.abt_machine.specs.Words.{Text}
 pub data Slot : Type 0 where
   -- this very word
   Fixed : Text → Slot
-  -- `fifo` or `deque`
+  -- the word of a kind of pool
   KindWord : Slot
-  -- `sum`, `max` or `count`
+  -- the word of what a future makes of its values
   CombineWord : Slot
   -- any word
   AnyWord : Slot
@@ -36,6 +39,17 @@ pub data Slot : Type 0 where
   Numeral : Number → Slot
   -- numbers of pools, one or more, to the end of the line
   PoolList : Slot
+
+-- Words that are chosen.
+
+abbrev pub kind_name : Kind → Text
+kind_name kind.Fifo = codes "fifo"
+kind_name kind.Deque = codes "deque"
+
+abbrev pub combine_name : Combine → Text
+combine_name combine.Sum = codes "sum"
+combine_name combine.Max = codes "max"
+combine_name combine.Count = codes "count"
 
 -- What stands at the places of a line.
 
@@ -64,8 +78,8 @@ abbrev pub thing_slots : Thing → List Slot
 thing_slots thing.Mutex = Fixed (codes "mutex") ∷ []
 thing_slots (thing.Cond m) = Fixed (codes "cond") ∷ Numeral number.Mutex ∷ []
 thing_slots thing.Eventual = Fixed (codes "eventual") ∷ []
-thing_slots (thing.Future n c) = Fixed (codes "future") ∷ within 1 4096 ∷ CombineWord ∷ []
-thing_slots (thing.Barrier n) = Fixed (codes "barrier") ∷ within 1 4096 ∷ []
+thing_slots (thing.Future n c) = Fixed (codes "future") ∷ within 1 size_limit ∷ CombineWord ∷ []
+thing_slots (thing.Barrier n) = Fixed (codes "barrier") ∷ within 1 size_limit ∷ []
 thing_slots thing.RwLock = Fixed (codes "rwlock") ∷ []
 
 abbrev pub role_slots : Role → List Slot
@@ -124,7 +138,7 @@ abbrev pub slots : Form → List Slot
 slots (form.Version format.One) = Fixed (codes "abt") ∷ Fixed (codes "1") ∷ []
 slots (form.Version format.Two) = Fixed (codes "abt") ∷ Fixed (codes "2") ∷ []
 slots form.Streams = Fixed (codes "streams") ∷ Numeral number.StreamCount ∷ []
-slots form.Keys = Fixed (codes "keys") ∷ within 0 16 ∷ []
+slots form.Keys = Fixed (codes "keys") ∷ within 0 key_limit ∷ []
 slots (form.Pool a) = Fixed (codes "pool") ∷ Numeral number.NewPool ∷ KindWord ∷ access_slots a
 slots (form.Sched r) = Fixed (codes "sched") ∷ Numeral number.NewSched ∷ rule_slots r
 slots form.Stream = Fixed (codes "stream") ∷ Numeral number.Stream ∷ Fixed (codes "main") ∷ Numeral number.Sched ∷ []
@@ -201,8 +215,8 @@ forms =
 -- a word may stand at a place
 abbrev pub suits : Slot → Text → Bool
 suits (Fixed w) word = bytes_eq word w
-suits KindWord word = bytes_eq word (codes "fifo") || bytes_eq word (codes "deque")
-suits CombineWord word = bytes_eq word (codes "sum") || bytes_eq word (codes "max") || bytes_eq word (codes "count")
+suits KindWord word = bytes_eq word (kind_name kind.Fifo) || bytes_eq word (kind_name kind.Deque)
+suits CombineWord word = bytes_eq word (combine_name combine.Sum) || bytes_eq word (combine_name combine.Max) || bytes_eq word (combine_name combine.Count)
 suits AnyWord word = true
 suits (Numeral n) word = true
 suits PoolList word = true

@@ -1,5 +1,5 @@
 -- The lines before the units are taken.
-use Rattle.std.proofs.Common.{◌≡◌, ◌<◌, ◌≤◌, ◌∙◌, ◌==◌, ℕ, zero, suc, true, false, List, [], ◌∷◌, ◌++◌, Option, Some, ap, arith, codes, decimal, is_none, length, map, refl, subst, sym}
+use Rattle.std.proofs.Common.{◌≡◌, ◌<◌, ◌≤◌, ◌∙◌, ◌==◌, ℕ, zero, suc, true, false, List, [], ◌∷◌, ◌++◌, Option, Some, ap, arith, is_none, length, map, refl, subst, sym}
 use Rattle.std.specs.List.{list_any}
 use Rattle.std.proofs.lemmas.Bool.{ne_eqb}
 use Rattle.abt_machine.specs.declared.grammar.Form.TheVariants as form
@@ -8,7 +8,7 @@ use Rattle.abt_machine.specs.declared.grammar.Format.TheVariants as format
 use Rattle.abt_machine.specs.declared.grammar.Number.TheVariants as number
 use Rattle.abt_machine.specs.declared.numbers.SchedNo.{SchedNo}
 use Rattle.abt_machine.specs.declared.workload.Parts.{Parts}
-use Rattle.abt_machine.specs.Canonical.{keys_lines, object_line, pool_line, sched_line, stream_line, version_line}
+use Rattle.abt_machine.specs.Canonical.{form_words, keys_lines, object_line, pool_line, sched_line, stream_line}
 use Rattle.abt_machine.specs.Declaring.{Above, nothing}
 use Rattle.abt_machine.specs.Limits.{stream_limit, unit_limit}
 use Rattle.abt_machine.specs.Valid.{IsValid}
@@ -22,7 +22,7 @@ use Rattle.abt_workload.proofs.Places.{or-both}
 use Rattle.abt_workload.proofs.PoolLines.{pooling, pools-taken}
 use Rattle.abt_workload.proofs.SchedLines.{scheduling, scheds-taken}
 use Rattle.abt_workload.proofs.StreamLines.{mains-full, mains_from, streams-taken}
-use Rattle.abt_workload.proofs.Taking.{Takes, TakesAll, takes-append, plain-word}
+use Rattle.abt_workload.proofs.Taking.{Takes, TakesAll, takes-append}
 
 -- Lines of sections that have one line.
 
@@ -31,16 +31,16 @@ abbrev versioned : Format → Above
 versioned F = record nothing { begun = true; format = F; section = 1 }
 
 -- the version's line
-version-taken : (F : Format) → Takes nothing (version_line F) (versioned F)
+version-taken : (F : Format) → Takes nothing (form_words (form.Version F) [] []) (versioned F)
 version-taken format.One =
-    takes nothing (versioned format.One) (form.Version format.One) (codes "abt") [] (version_line format.One)
-    record { words_are = refl; form_is = refl; skipped = refl; plain = refl; chosen = λ _. plain-word (codes "abt") refl }
+    takes nothing (versioned format.One) (form.Version format.One) [] [] (form_words (form.Version format.One) [] [])
+    record { words_are = refl; form_is = refl; skipped = refl; plain = refl; chosen = λ e. cc }
     tt
     record { version = refl; placed = refl; once = refl; beyond = refl; limit = refl; task = refl; access = refl; early = refl }
     refl
 version-taken format.Two =
-    takes nothing (versioned format.Two) (form.Version format.Two) (codes "abt") [] (version_line format.Two)
-    record { words_are = refl; form_is = refl; skipped = refl; plain = refl; chosen = λ _. plain-word (codes "abt") refl }
+    takes nothing (versioned format.Two) (form.Version format.Two) [] [] (form_words (form.Version format.Two) [] [])
+    record { words_are = refl; form_is = refl; skipped = refl; plain = refl; chosen = λ e. cc }
     tt
     record { version = refl; placed = refl; once = refl; beyond = refl; limit = refl; task = refl; access = refl; early = refl }
     refl
@@ -50,10 +50,10 @@ below-small : (F : Format) (n : ℕ) → IsSmall (versioned F)
 below-small F n = record { streams = omega arith; keys = omega arith; pools = omega arith; scheds = omega arith; objects = omega arith; units = omega arith }
 
 -- the line of the number of streams
-count-taken : (F : Format) (n : ℕ) → 0 < n → n ≤ stream_limit F → Takes (versioned F) (codes "streams" ∷ decimal n ∷ []) (pooling F 2 n 0 [])
+count-taken : (F : Format) (n : ℕ) → 0 < n → n ≤ stream_limit F → Takes (versioned F) (form_words form.Streams [] (n ∷ [])) (pooling F 2 n 0 [])
 count-taken F n some few =
-    takes (versioned F) (pooling F 2 n 0 []) form.Streams (codes "streams") (n ∷ []) (codes "streams" ∷ decimal n ∷ [])
-    record { words_are = refl; form_is = refl; skipped = refl; plain = refl; chosen = λ _. plain-word (codes "streams") refl }
+    takes (versioned F) (pooling F 2 n 0 []) form.Streams [] (n ∷ []) (form_words form.Streams [] (n ∷ []))
+    record { words_are = refl; form_is = refl; skipped = refl; plain = refl; chosen = λ e. cc }
     (fit (versioned F) (below-small F n) number.StreamCount n (omega arith, few), tt)
     record { version = refl; placed = refl; once = refl; beyond = refl; limit = refl; task = refl; access = refl; early = refl }
     refl
@@ -73,10 +73,10 @@ keys-taken : (F : Format) (n k : ℕ) → k ≤ 16 → TakesAll (pooling F 2 n 0
 keys-taken F n zero few = refl
 keys-taken F n (suc k) few = (pooling F 3 n (suc k) [], line, refl)
   where
-    line : Takes (pooling F 2 n 0 []) (codes "keys" ∷ decimal (suc k) ∷ []) (pooling F 3 n (suc k) [])
+    line : Takes (pooling F 2 n 0 []) (form_words form.Keys [] (suc k ∷ [])) (pooling F 3 n (suc k) [])
     line =
-        takes (pooling F 2 n 0 []) (pooling F 3 n (suc k) []) form.Keys (codes "keys") (suc k ∷ []) (codes "keys" ∷ decimal (suc k) ∷ [])
-        record { words_are = refl; form_is = refl; skipped = refl; plain = refl; chosen = λ _. plain-word (codes "keys") refl }
+        takes (pooling F 2 n 0 []) (pooling F 3 n (suc k) []) form.Keys [] (suc k ∷ []) (form_words form.Keys [] (suc k ∷ []))
+        record { words_are = refl; form_is = refl; skipped = refl; plain = refl; chosen = λ e. cc }
         (fit-within (pooling F 2 n 0 []) 0 16 (suc k) (omega arith) few (omega arith), tt)
         record { version = refl; placed = refl; once = refl; beyond = refl; limit = refl; task = refl; access = refl; early = refl }
         refl
@@ -199,8 +199,8 @@ module _ (F : Format) (W : Parts) (v : IsValid W) (few_streams : W.streams ≤ s
       let low : objects_reached ≤ 7 = objects-low in
       let small : IsSmall below_objects = record { streams = v.few_streams; keys = v.few_keys; pools = v.few_pools; scheds = v.few_scheds; objects = v.few_objects; units = omega arith } in
       let some : 0 < length W.pools = v.some_pool in
-      takes below_objects (head F W) form.Units (codes "units") (length W.units ∷ []) (units_words W)
-      record { words_are = refl; form_is = refl; skipped = refl; plain = refl; chosen = λ _. plain-word (codes "units") refl }
+      takes below_objects (head F W) form.Units [] (length W.units ∷ []) (units_words W)
+      record { words_are = refl; form_is = refl; skipped = refl; plain = refl; chosen = λ e. cc }
       (fit below_objects small number.UnitCount (length W.units) few_units, tt)
       record {
         version = refl;

@@ -1,6 +1,7 @@
 -- The lines of a workload's text before its units, and what they declare.
-use Rattle.std.proofs.Common.{ℕ, List, [], ◌∷◌, ◌++◌, Option, Some, None, codes, decimal, flat_map, length, map, true}
+use Rattle.std.proofs.Common.{ℕ, List, [], ◌∷◌, ◌++◌, Option, Some, None, flat_map, length, map, true}
 use Rattle.std.specs.List.{enumerate_from}
+use Rattle.abt_machine.specs.declared.grammar.Form.TheVariants as form
 use Rattle.abt_machine.specs.declared.grammar.Format.{Format}
 use Rattle.abt_machine.specs.declared.numbers.SchedNo.{SchedNo}
 use Rattle.abt_machine.specs.declared.operations.Thing.{Thing}
@@ -8,15 +9,15 @@ use Rattle.abt_machine.specs.declared.workload.Parts.{Parts}
 use Rattle.abt_machine.specs.declared.workload.PoolPart.{PoolPart}
 use Rattle.abt_machine.specs.declared.workload.SchedPart.{SchedPart}
 use Rattle.abt_machine.specs.declared.workload.UnitPart.{UnitPart}
-use Rattle.abt_machine.specs.Canonical.{body_words, keys_lines, object_line, pool_line, sched_line, start_words, stream_line, unit_lines, version_line}
+use Rattle.abt_machine.specs.Canonical.{form_words, keys_lines, object_line, pool_line, sched_line, stream_line, unit_lines}
 use Rattle.abt_machine.specs.Declaring.{Above}
 use Rattle.abt_machine.specs.Words.{Text, numbered}
 
 -- the lines before that of the number of units
 abbrev pub first_lines : Format → Parts → List (List Text)
 first_lines F W =
-    version_line F ∷
-    (codes "streams" ∷ decimal W.streams ∷ []) ∷
+    form_words (form.Version F) [] [] ∷
+    form_words form.Streams [] (W.streams ∷ []) ∷
     keys_lines W.keys ++
     numbered pool_line W.pools ++
     numbered sched_line W.scheds ++
@@ -25,7 +26,7 @@ first_lines F W =
 
 -- the line of the number of units
 abbrev pub units_words : Parts → List Text
-units_words W = codes "units" ∷ decimal (length W.units) ∷ []
+units_words W = form_words form.Units [] (length W.units ∷ [])
 
 -- the lines before the units
 abbrev pub head_lines : Format → Parts → List (List Text)
@@ -60,10 +61,6 @@ abbrev pub head : Format → Parts → Above
 head F W = record (placing F 8 W.streams W.keys W.pools W.scheds (all_mains W) W.objects) { unit_count = Some (length W.units) }
 
 -- Units.
-
--- the line of a unit
-abbrev pub header : ℕ → UnitPart → List Text
-header u part = codes "unit" ∷ decimal u ∷ body_words part.body ++ start_words part.start
 
 -- the lines of units, from a number on
 abbrev pub units_lines : Parts → ℕ → List UnitPart → List (List Text)

@@ -1,5 +1,5 @@
 -- The lines of objects are taken.
-use Rattle.std.proofs.Common.{◌≡◌, ◌<◌, ◌≤◌, ℕ, List, [], ◌∷◌, ◌++◌, ap, arith, codes, length, refl}
+use Rattle.std.proofs.Common.{◌≡◌, ◌<◌, ◌≤◌, ℕ, List, [], ◌∷◌, ◌++◌, ap, arith, length, refl}
 use Rattle.std.proofs.lemmas.Bool.{le-ltb, lt-leb}
 use Rattle.abt_machine.specs.declared.grammar.Form.{Form}
 use Rattle.abt_machine.specs.declared.grammar.Form.TheVariants as form
@@ -8,12 +8,12 @@ use Rattle.abt_machine.specs.declared.operations.Combine.TheVariants as combine
 use Rattle.abt_machine.specs.declared.operations.Thing.{Thing}
 use Rattle.abt_machine.specs.declared.operations.Thing.TheVariants as thing
 use Rattle.abt_machine.specs.declared.workload.Parts.{Parts}
-use Rattle.abt_machine.specs.Canonical.{combine_name, object_line}
+use Rattle.abt_machine.specs.Canonical.{object_line, thing_numbers, thing_word}
 use Rattle.abt_machine.specs.Declaring.{Above, thing_with}
-use Rattle.abt_machine.specs.Forms.{slots}
+use Rattle.abt_machine.specs.Forms.{combine_name, slots}
 use Rattle.abt_machine.specs.Numbers.{object_no}
 use Rattle.abt_machine.specs.Valid.{IsThing, IsValid}
-use Rattle.abt_machine.specs.Words.{Text, numbered}
+use Rattle.abt_machine.specs.Words.{numbered}
 use Rattle.abt_workload.specs.Slots.{values}
 use Rattle.abt_workload.proofs.Filled.{IsWritten, given, takes}
 use Rattle.abt_workload.proofs.Fitting.{AreMet, IsSmall, all-fit}
@@ -30,29 +30,16 @@ form_thing (thing.Future n c) = thing.Future 0 combine.Sum
 form_thing (thing.Barrier n) = thing.Barrier 0
 form_thing thing.RwLock = thing.RwLock
 
--- the numbers of a thing
-abbrev thing_numbers : Thing → List ℕ
-thing_numbers thing.Mutex = []
-thing_numbers (thing.Cond m) = m.0 ∷ []
-thing_numbers thing.Eventual = []
-thing_numbers (thing.Future n c) = n ∷ []
-thing_numbers (thing.Barrier n) = n ∷ []
-thing_numbers thing.RwLock = []
-
--- the word of a future's values
-abbrev thing_word : Thing → Text
-thing_word (thing.Future n c) = combine_name c
-thing_word t = codes "sum"
-
 -- what is declared while objects are
 abbrev below : Format → Parts → ℕ → List Thing → Above
 below F W section objects = placing F section W.streams W.keys W.pools W.scheds (all_mains W) objects
 
 -- an object's line is written of its form
 written : (x : ℕ) (t : Thing) → IsWritten (form.Object (form_thing t)) (thing_word t) (x ∷ thing_numbers t) (object_line x t)
-written x (thing.Future n combine.Max) = record { words_are = refl; form_is = refl; skipped = refl; plain = refl; chosen = λ _. plain-word (codes "max") refl }
-written x (thing.Future n combine.Count) = record { words_are = refl; form_is = refl; skipped = refl; plain = refl; chosen = λ _. plain-word (codes "count") refl }
-written x _ = record { words_are = refl; form_is = refl; skipped = refl; plain = refl; chosen = λ _. plain-word (codes "sum") refl }
+written x (thing.Future n combine.Sum) = record { words_are = refl; form_is = refl; skipped = refl; plain = refl; chosen = λ _. plain-word (combine_name combine.Sum) refl }
+written x (thing.Future n combine.Max) = record { words_are = refl; form_is = refl; skipped = refl; plain = refl; chosen = λ _. plain-word (combine_name combine.Max) refl }
+written x (thing.Future n combine.Count) = record { words_are = refl; form_is = refl; skipped = refl; plain = refl; chosen = λ _. plain-word (combine_name combine.Count) refl }
+written x _ = record { words_are = refl; form_is = refl; skipped = refl; plain = refl; chosen = λ e. cc }
 
 -- the numbers of a line are in order
 met : (F : Format) (W : Parts) (section : ℕ) (front rest : List Thing) (t : Thing) → front ++ rest ≡ W.objects → IsThing W.objects (length front) t

@@ -1,5 +1,5 @@
 -- The lines of pools are taken.
-use Rattle.std.proofs.Common.{◌≡◌, ◌<◌, ◌≤◌, ℕ, List, [], ◌∷◌, ◌++◌, None, ap, arith, codes, length, refl, replicate}
+use Rattle.std.proofs.Common.{◌≡◌, ◌<◌, ◌≤◌, ℕ, List, [], ◌∷◌, ◌++◌, Option, None, ap, arith, length, refl, replicate, subst}
 use Rattle.std.proofs.lemmas.Bool.{le-ltb, lt-leb}
 use Rattle.abt_machine.specs.declared.grammar.Form.{Form}
 use Rattle.abt_machine.specs.declared.grammar.Form.TheVariants as form
@@ -10,9 +10,9 @@ use Rattle.abt_machine.specs.declared.operations.Kind.{Kind}
 use Rattle.abt_machine.specs.declared.operations.Kind.TheVariants as kind
 use Rattle.abt_machine.specs.declared.workload.Parts.{Parts}
 use Rattle.abt_machine.specs.declared.workload.PoolPart.{PoolPart}
-use Rattle.abt_machine.specs.Canonical.{kind_name, pool_line}
+use Rattle.abt_machine.specs.Canonical.{access_numbers, pool_line}
 use Rattle.abt_machine.specs.Declaring.{Above, pool_with}
-use Rattle.abt_machine.specs.Forms.{slots}
+use Rattle.abt_machine.specs.Forms.{kind_name, slots}
 use Rattle.abt_machine.specs.Numbers.{stream_no}
 use Rattle.abt_machine.specs.Valid.{IsAccess, IsValid}
 use Rattle.abt_machine.specs.Words.{numbered}
@@ -32,34 +32,26 @@ form_access (access.Mpsc t) = access.Mpsc (stream_no 0)
 form_access (access.Spmc s) = access.Spmc (stream_no 0)
 form_access access.Mpmc = access.Mpmc
 
--- the streams that an access names
-abbrev streams_in : Access → List ℕ
-streams_in (access.Priv s) = s.0 ∷ []
-streams_in (access.Spsc s t) = s.0 ∷ t.0 ∷ []
-streams_in (access.Mpsc t) = t.0 ∷ []
-streams_in (access.Spmc s) = s.0 ∷ []
-streams_in access.Mpmc = []
-
 -- what is declared while pools are
 abbrev pub pooling : Format → ℕ → ℕ → ℕ → List PoolPart → Above
 pooling F section streams keys pools = placing F section streams keys pools [] (replicate streams None) []
 
 -- a pool's line is written of its form
-written : (p : ℕ) (k : Kind) (x : Access) → IsWritten (form.Pool (form_access x)) (kind_name k) (p ∷ streams_in x) (pool_line p (record { kind = k; access = x }))
-written p kind.Fifo (access.Priv s) = record { words_are = refl; form_is = refl; skipped = refl; plain = refl; chosen = λ _. plain-word (codes "fifo") refl }
-written p kind.Fifo _ = record { words_are = refl; form_is = refl; skipped = refl; plain = refl; chosen = λ _. plain-word (codes "fifo") refl }
-written p kind.Deque (access.Priv s) = record { words_are = refl; form_is = refl; skipped = refl; plain = refl; chosen = λ _. plain-word (codes "deque") refl }
-written p kind.Deque _ = record { words_are = refl; form_is = refl; skipped = refl; plain = refl; chosen = λ _. plain-word (codes "deque") refl }
+written : (p : ℕ) (k : Kind) (x : Access) → IsWritten (form.Pool (form_access x)) (kind_name k) (p ∷ access_numbers x) (pool_line p (record { kind = k; access = x }))
+written p kind.Fifo (access.Priv s) = record { words_are = refl; form_is = refl; skipped = refl; plain = refl; chosen = λ _. plain-word (kind_name kind.Fifo) refl }
+written p kind.Fifo _ = record { words_are = refl; form_is = refl; skipped = refl; plain = refl; chosen = λ _. plain-word (kind_name kind.Fifo) refl }
+written p kind.Deque (access.Priv s) = record { words_are = refl; form_is = refl; skipped = refl; plain = refl; chosen = λ _. plain-word (kind_name kind.Deque) refl }
+written p kind.Deque _ = record { words_are = refl; form_is = refl; skipped = refl; plain = refl; chosen = λ _. plain-word (kind_name kind.Deque) refl }
 
 -- the numbers of a line are in order
-met : (F : Format) (W : Parts) (section : ℕ) (front : List PoolPart) (x : Access) → IsAccess W.streams x
-    → AreMet (pooling F section W.streams W.keys front) (given (slots (form.Pool (form_access x))) (length front ∷ streams_in x))
+met : (F : Format) (W : Parts) (section : ℕ) (front : List PoolPart) (x : Access) → IsAccess W x
+    → AreMet (pooling F section W.streams W.keys front) (given (slots (form.Pool (form_access x))) (length front ∷ access_numbers x))
 met F W section front access.Mpmc h = refl
 met F W section front _ h = (refl, h)
 
 -- the line says the pool
 part-again : (p : ℕ) (k : Kind) (x : Access)
-    → pool_with (form_access x) (pool_line p (record { kind = k; access = x })) (values (given (slots (form.Pool (form_access x))) (p ∷ streams_in x)))
+    → pool_with (form_access x) (pool_line p (record { kind = k; access = x })) (values (given (slots (form.Pool (form_access x))) (p ∷ access_numbers x)))
     ≡ record { kind = k; access = x }
 part-again p kind.Fifo (access.Priv s) = refl
 part-again p kind.Fifo _ = refl
@@ -73,7 +65,7 @@ pool-taken F W v section le front part rest e =
     let a : Above = pooling F section W.streams W.keys front in
     let p : ℕ = length front in
     let f : Form = form.Pool (form_access part.access) in
-    let ns : List ℕ = p ∷ streams_in part.access in
+    let ns : List ℕ = p ∷ access_numbers part.access in
     let lt : p < length W.pools = front-shorter front part rest W.pools e in
     let few : length W.pools ≤ 64 = v.few_pools in
     let h : IsAccess W.streams part.access = all-at (λ (q : PoolPart). IsAccess W.streams q.access) W.pools v.pools p part (get-here front part rest W.pools e) in

@@ -1,12 +1,12 @@
 -- Valid parts are those that texts read to.
-use Rattle.std.proofs.Common.{inl, inr, ◌⊎◌, ◌≡◌, ◌<◌, ◌≤◌, ◌+◌, ◌==◌, ◌&&◌, ◌∙◌, ℕ, zero, suc, Bool, true, false, List, [], ◌∷◌, ◌++◌, All, Some, None, ap, append_assoc, arith, codes, find, fold, get_or, length, map, nat_le, nat_lt, refl, subst, sym, take}
+use Rattle.std.proofs.Common.{inl, inr, ◌⊎◌, ◌≡◌, ◌<◌, ◌≤◌, ◌+◌, ◌==◌, ◌&&◌, ◌∙◌, ℕ, zero, suc, Bool, true, false, List, [], ◌∷◌, ◌++◌, All, Some, None, ap, append_assoc, arith, find, fold, get_or, length, map, nat_le, nat_lt, refl, subst, sym, take}
 use Rattle.std.proofs.lemmas.Bool.{cases_lt, le-ltb}
 use Rattle.std.proofs.lemmas.List.Elements.{All-cons}
 use Rattle.abt_machine.specs.declared.grammar.Form.TheVariants as form
 use Rattle.abt_machine.specs.declared.grammar.Format.{Format}
 use Rattle.abt_machine.specs.declared.grammar.Format.TheVariants as format
 use Rattle.abt_machine.specs.declared.workload.Parts.{Parts}
-use Rattle.abt_machine.specs.Canonical.{canonical_text, has_text, text_in, workload_lines}
+use Rattle.abt_machine.specs.Canonical.{canonical_text, form_words, has_text, text_in, workload_lines}
 use Rattle.abt_machine.specs.Declaring.{Above, declared_units, nothing, parts_of}
 use Rattle.abt_machine.specs.Faults.{faults, is_early, line_fault}
 use Rattle.abt_machine.specs.Grammar.{Reads, and_line, declared_by, fault_at, format_of, has_at}
@@ -23,7 +23,7 @@ use Rattle.abt_workload.proofs.InOrder.{placed-alone}
 use Rattle.abt_workload.proofs.Places.{and-left, and-right}
 use Rattle.abt_workload.proofs.Proper.{none-of}
 use Rattle.abt_workload.proofs.Seen.{fault-in, fault-length, faultless-end, most, refuses-end, refuses-length}
-use Rattle.abt_workload.proofs.Taking.{Takes, TakesAll, plain-word, takes-append}
+use Rattle.abt_workload.proofs.Taking.{Takes, TakesAll, takes-append}
 use Rattle.abt_workload.proofs.UnitLines.{IsWhole, units-taken}
 use Rattle.abt_workload.proofs.TextBounds.{text-fits}
 use Rattle.abt_workload.proofs.WholeTexts.{canonical-one, canonical-two}
@@ -71,7 +71,7 @@ reads-written text lines b le same h ended = record { faultless = none; parts = 
 
 -- the words of the last line
 abbrev end_words : List Text
-end_words = codes "end" ∷ []
+end_words = form_words form.End [] []
 
 -- all is declared
 abbrev closed : Above → Above
@@ -86,8 +86,8 @@ module _ (b : Above) (streams count : ℕ) (begun : b.begun ≡ true) (has_strea
   -- the line is taken if all units are declared
   end-taken : b.section ≤ 9 → Takes b end_words (closed b)
   end-taken place =
-      takes b (closed b) form.End (codes "end") [] end_words
-      record { words_are = refl; form_is = refl; skipped = refl; plain = refl; chosen = λ _. plain-word (codes "end") refl }
+      takes b (closed b) form.End [] [] end_words
+      record { words_are = refl; form_is = refl; skipped = refl; plain = refl; chosen = λ e. cc }
       tt
       record { version = rw begun refl; placed = placed-alone b form.End (omega arith) (omega arith) refl; once = refl; beyond = refl; limit = refl; task = refl; access = refl; early = end-there }
       refl

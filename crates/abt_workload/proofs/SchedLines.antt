@@ -1,5 +1,5 @@
 -- The lines of schedulers are taken.
-use Rattle.std.proofs.Common.{◌≡◌, ◌≢◌, ◌<◌, ◌≤◌, ◌^◌, ◌-◌, ◌∙◌, ◌==◌, ℕ, suc, All, false, List, [], ◌∷◌, ◌++◌, None, ap, arith, codes, decimal, length, map, nat_le, nat_lt, refl, replicate, sym}
+use Rattle.std.proofs.Common.{◌≡◌, ◌≢◌, ◌<◌, ◌≤◌, ◌^◌, ◌-◌, ◌∙◌, ◌==◌, ℕ, suc, All, false, List, [], ◌∷◌, ◌++◌, None, ap, arith, length, map, nat_le, nat_lt, refl, replicate, sym}
 use Rattle.std.specs.List.{AllPairs, list_any}
 use Rattle.std.proofs.lemmas.Bool.{le-ltb, lt-leb, ne_eqb}
 use Rattle.std.proofs.lemmas.List.{length-map}
@@ -15,21 +15,22 @@ use Rattle.abt_machine.specs.declared.operations.Rule.TheVariants as rule
 use Rattle.abt_machine.specs.declared.workload.Parts.{Parts}
 use Rattle.abt_machine.specs.declared.workload.PoolPart.{PoolPart}
 use Rattle.abt_machine.specs.declared.workload.SchedPart.{SchedPart}
-use Rattle.abt_machine.specs.Canonical.{filled, sched_line}
-use Rattle.abt_machine.specs.Declaring.{Above, at, listed, sched_with}
+use Rattle.abt_machine.specs.Canonical.{rule_numbers, sched_line}
+use Rattle.abt_machine.specs.Checks.{IsSchedPart}
+use Rattle.abt_machine.specs.Declaring.{Above, listed, sched_with}
 use Rattle.abt_machine.specs.Faults.{has_repeated}
 use Rattle.abt_machine.specs.Forms.{rule_slots, slots}
 use Rattle.abt_machine.specs.Numbers.{pool_no}
-use Rattle.abt_machine.specs.Valid.{IsRule, IsSched, IsValid}
-use Rattle.abt_machine.specs.Words.{Text, numbered}
-use Rattle.abt_machine.proofs.Elements.{all-at, pairs-map}
+use Rattle.abt_machine.specs.Valid.{IsRule, IsValid}
+use Rattle.abt_machine.specs.Words.{numbered}
+use Rattle.abt_machine.proofs.Checked.{from-sched, pairs-map}
 use Rattle.abt_workload.specs.Slots.{values}
 use Rattle.abt_workload.proofs.Filled.{IsWritten, as_pools, given, takes}
 use Rattle.abt_workload.proofs.Fitting.{AreFit, IsSmall, fit, fit-within}
 use Rattle.abt_workload.proofs.Heads.{placing}
 use Rattle.abt_workload.proofs.InOrder.{front-shorter, get-here, placed-among, reached, section-taken}
 use Rattle.abt_workload.proofs.Places.{or-both}
-use Rattle.abt_workload.proofs.Taking.{Takes, TakesAll, plain-word}
+use Rattle.abt_workload.proofs.Taking.{Takes, TakesAll}
 
 -- a rule as the table of forms has it
 abbrev form_rule : Rule → Rule
@@ -38,20 +39,13 @@ form_rule rule.Prio = rule.Prio
 form_rule (rule.Randws seed) = rule.Randws 0
 form_rule (rule.User k) = rule.User 0
 
--- the number of a rule
-abbrev rule_number : Rule → List ℕ
-rule_number rule.Basic = []
-rule_number rule.Prio = []
-rule_number (rule.Randws seed) = seed ∷ []
-rule_number (rule.User k) = k ∷ []
-
 -- the pools that a scheduler lists
 abbrev pools_in : List PoolNo → List ℕ
 pools_in = map (λ (p : PoolNo). p.0)
 
 -- the numbers of a line
 abbrev numbers_in : ℕ → Rule → List ℕ → List ℕ
-numbers_in g r ps = g ∷ rule_number r ++ ps
+numbers_in g r ps = g ∷ rule_numbers r ++ ps
 
 -- what is declared while schedulers are
 abbrev pub scheduling : Format → ℕ → ℕ → ℕ → List PoolPart → List SchedPart → Above
@@ -74,35 +68,12 @@ part-again : (g : ℕ) (r : Rule) (ps : List PoolNo) → sched_with (form_rule r
 part-again g rule.Basic ps = ap (λ (qs : List PoolNo). record { rule = rule.Basic; pools = qs }) (pools-again ps)
 part-again g r ps = ap (λ (qs : List PoolNo). record { rule = r; pools = qs }) (pools-again ps)
 
--- the numbers of pools
-pooled : (ns : List ℕ) → map (λ (p : PoolNo). decimal p.0) (map pool_no ns) ≡ map decimal ns
-pooled [] = refl
-pooled (n ∷ ns) = ap (λ (ws : List Text). decimal n ∷ ws) (pooled ns)
-
--- the line that is written for a scheduler has its form's words
-sched-line : (word : Text) (r : Rule) (vals : List ℕ) → 0 < length (listed r vals) → sched_line (at vals 0) (sched_with r vals) ≡ filled (slots (form.Sched r)) word vals
-sched-line word rule.Basic (g ∷ vs) lt = ap (λ (ws : List Text). codes "sched" ∷ decimal g ∷ codes "basic" ∷ ws) (pooled vs)
-sched-line word rule.Prio (g ∷ vs) lt = ap (λ (ws : List Text). codes "sched" ∷ decimal g ∷ codes "prio" ∷ ws) (pooled vs)
-sched-line word (rule.Randws n) (g ∷ k ∷ vs) lt = ap (λ (ws : List Text). codes "sched" ∷ decimal g ∷ codes "randws" ∷ decimal k ∷ ws) (pooled vs)
-sched-line word (rule.User n) (g ∷ k ∷ vs) lt = ap (λ (ws : List Text). codes "sched" ∷ decimal g ∷ codes "user" ∷ decimal k ∷ ws) (pooled vs)
-sched-line word r vals lt = absurd (omega arith)
-
--- a scheduler's line has its form's words
-words-are : (g : ℕ) (r : Rule) (ps : List PoolNo) → 0 < length ps
-    → sched_line g (record { rule = r; pools = ps }) ≡ filled (slots (form.Sched (form_rule r))) (codes "sched") (numbers_in g r (pools_in ps))
-words-are g r ps some =
-    ap (sched_line g) (sym (part-again g r ps))
-    ∙ sched-line (codes "sched") (form_rule r) (numbers_in g r (pools_in ps)) (rw (listed-again g r (pools_in ps), length-map) some)
-
 -- a scheduler's line, which lists a pool, is written of its form
 written : (g : ℕ) (r : Rule) (ps : List PoolNo) → 0 < length ps
-    → IsWritten (form.Sched (form_rule r)) (codes "sched") (numbers_in g r (pools_in ps)) (sched_line g (record { rule = r; pools = ps }))
+    → IsWritten (form.Sched (form_rule r)) [] (numbers_in g r (pools_in ps)) (sched_line g (record { rule = r; pools = ps }))
 written g r [] some = absurd (omega arith)
-written g r (p ∷ ps) some = by r
-  where
-    by : (q : Rule) → IsWritten (form.Sched (form_rule q)) (codes "sched") (numbers_in g q (pools_in (p ∷ ps))) (sched_line g (record { rule = q; pools = p ∷ ps }))
-    by rule.Basic = record { words_are = words-are g rule.Basic (p ∷ ps) some; form_is = refl; skipped = refl; plain = refl; chosen = λ _. plain-word (codes "sched") refl }
-    by q = record { words_are = words-are g q (p ∷ ps) some; form_is = refl; skipped = refl; plain = refl; chosen = λ _. plain-word (codes "sched") refl }
+written g rule.Basic (p ∷ ps) some = record { words_are = refl; form_is = refl; skipped = refl; plain = refl; chosen = λ e. cc }
+written g _ (p ∷ ps) some = record { words_are = refl; form_is = refl; skipped = refl; plain = refl; chosen = λ e. cc }
 
 -- The numbers of a line.
 
@@ -125,7 +96,7 @@ module _ (a : Above) (small : IsSmall a) where
   pools-fit (p ∷ ps) h = (fit a small number.Pool p (All-head (λ q. q < length a.pools) p ps h), pools-fit ps (All-tail (λ q. q < length a.pools) p ps h))
 
   -- so may a rule's number before them
-  rule-fit : (r : Rule) (ps : List ℕ) → IsRule r → All (λ p. p < length a.pools) ps → AreFit a (given (rule_slots (form_rule r)) (rule_number r ++ ps))
+  rule-fit : (r : Rule) (ps : List ℕ) → IsRule r → All (λ p. p < length a.pools) ps → AreFit a (given (rule_slots (form_rule r)) (rule_numbers r ++ ps))
   rule-fit (rule.Randws seed) ps h there = (fit-within a 0 (2 ^ 64 - 1) seed (omega arith) (omega arith) h, pools-fit ps there)
   rule-fit (rule.User k) ps h there = (fit-within a 0 1 k (omega arith) (omega arith) (omega arith), pools-fit ps there)
   rule-fit _ ps h there = pools-fit ps there
@@ -156,9 +127,9 @@ sched-taken F W v section le front part rest e =
     let read : values (given (slots f) (numbers_in g part.rule ps)) ≡ numbers_in g part.rule ps = numbers-read g part.rule ps in
     let pools : listed (form_rule part.rule) (values (given (slots f) (numbers_in g part.rule ps))) ≡ ps =
     ap (listed (form_rule part.rule)) read ∙ listed-again g part.rule ps in
-    let few_listed : length ps ≤ 8 = let most = h.few_pools in rw length-map most in
-    takes a (scheduling F 5 W.streams W.keys W.pools (front ++ part ∷ [])) f (codes "sched") (numbers_in g part.rule ps) (sched_line g part)
-    (written g part.rule part.pools h.some_pool)
+    let few_listed : length ps ≤ 8 = let most = h.pools.few_pools in rw length-map most in
+    takes a (scheduling F 5 W.streams W.keys W.pools (front ++ part ∷ [])) f [] (numbers_in g part.rule ps) (sched_line g part)
+    (written g part.rule part.pools h.pools.some_pool)
     (fit a small number.NewSched g refl, rule-fit a small part.rule ps h.rule there)
     record {
       version = refl;

@@ -1,5 +1,5 @@
 -- The lines of main schedulers are taken.
-use Rattle.std.proofs.Common.{◌≡◌, ◌≢◌, ◌<◌, ◌≤◌, ◌∙◌, ◌==◌, ℕ, zero, suc, true, false, not, List, [], ◌∷◌, ◌++◌, Option, Some, None, ap, append_assoc, arith, codes, flat_map, is_some, length, map, option_to_list, refl, replicate, slice_get, slice_set, subst, sym}
+use Rattle.std.proofs.Common.{◌≡◌, ◌≢◌, ◌<◌, ◌≤◌, ◌∙◌, ◌==◌, ℕ, zero, suc, true, false, not, List, [], ◌∷◌, ◌++◌, Option, Some, None, ap, append_assoc, arith, flat_map, is_some, length, map, option_to_list, refl, replicate, slice_get, slice_set, subst, sym}
 use Rattle.std.specs.List.{AllPairs, list_any}
 use Rattle.std.specs.Option.{option_map_or}
 use Rattle.std.proofs.lemmas.List.{append-nil, map-append}
@@ -21,7 +21,7 @@ use Rattle.abt_workload.proofs.Growing.{any-none}
 use Rattle.abt_workload.proofs.Heads.{placing}
 use Rattle.abt_workload.proofs.InOrder.{front-shorter, get-here, not-before, placed-among, reached, section-taken}
 use Rattle.abt_workload.proofs.Places.{or-both}
-use Rattle.abt_workload.proofs.Taking.{Takes, TakesAll, plain-word}
+use Rattle.abt_workload.proofs.Taking.{Takes, TakesAll}
 
 -- Main schedulers.
 
@@ -101,8 +101,8 @@ stream-taken F W v section le front g rest e =
     let places : AllPairs (λ x y. x ≢ y) (numbers_of_scheds (front ++ g ∷ rest) ++ more) =
     subst (λ (gs : List SchedNo). AllPairs (λ x y. x ≢ y) (numbers_of_scheds gs ++ more)) (sym e) v.one_place in
     let small : IsSmall a = record { streams = v.few_streams; keys = v.few_keys; pools = v.few_pools; scheds = v.few_scheds; objects = omega arith; units = omega arith } in
-    takes a (below F W 6 (front ++ g ∷ [])) form.Stream (codes "main") (s ∷ g.0 ∷ []) (stream_line s g)
-    record { words_are = refl; form_is = refl; skipped = refl; plain = refl; chosen = λ _. plain-word (codes "main") refl }
+    takes a (below F W 6 (front ++ g ∷ [])) form.Stream [] (s ∷ g.0 ∷ []) (stream_line s g)
+    record { words_are = refl; form_is = refl; skipped = refl; plain = refl; chosen = λ e. cc }
     (all-fit a small (given (slots form.Stream) (s ∷ g.0 ∷ [])) (within, there))
     record {
       version = refl;

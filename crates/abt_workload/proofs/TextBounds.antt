@@ -1,8 +1,9 @@
 -- The text of a valid workload is never too long for format 2.
-use Rattle.std.proofs.Common.{◌≡◌, ◌<◌, ◌≤◌, ◌+◌, ◌*◌, ◌^◌, ℕ, zero, suc, true, false, List, [], ◌∷◌, ◌++◌, All, Option, Some, None, IfSome, ap, arith, codes, decimal, flat_map, get_or, length, length-append, map, refl, slice_get, suc-mul}
+use Rattle.std.proofs.Common.{◌≡◌, ◌<◌, ◌≤◌, ◌+◌, ◌*◌, ◌^◌, ℕ, zero, suc, true, false, List, [], ◌∷◌, ◌++◌, All, Option, Some, None, ap, arith, decimal, flat_map, get_or, length, length-append, map, refl, suc-mul}
 use Rattle.std.specs.List.{enumerate_from}
-use Rattle.std.proofs.lemmas.List.Elements.{All-head, All-tail}
-use Rattle.std.proofs.lemmas.Option.{slice_get-get_or, slice_get_within}
+use Rattle.std.proofs.lemmas.List.Elements.{All-cons, All-head, All-tail}
+use Rattle.std.proofs.lemmas.Option.{slice_get-get_or}
+use Rattle.abt_machine.specs.declared.grammar.Form.TheVariants as form
 use Rattle.abt_machine.specs.declared.grammar.Format.{Format}
 use Rattle.abt_machine.specs.declared.grammar.Format.TheVariants as format
 use Rattle.abt_machine.specs.declared.numbers.PoolNo.{PoolNo}
@@ -25,9 +26,10 @@ use Rattle.abt_machine.specs.declared.workload.Parts.{Parts}
 use Rattle.abt_machine.specs.declared.workload.PoolPart.{PoolPart}
 use Rattle.abt_machine.specs.declared.workload.SchedPart.{SchedPart}
 use Rattle.abt_machine.specs.declared.workload.UnitPart.{UnitPart}
-use Rattle.abt_machine.specs.Canonical.{access_words, body_words, combine_name, filled, keys_lines, kind_name, object_line, op_numbers, op_word, op_words, pool_line, rule_words, sched_line, start_words, stream_line, text_in, thing_words, unit_lines, version_line}
+use Rattle.abt_machine.specs.Canonical.{access_numbers, filled, form_words, keys_lines, object_line, op_numbers, op_word, op_words, pool_line, rule_numbers, sched_line, stream_line, text_in, thing_numbers, thing_word, unit_header, unit_lines}
+use Rattle.abt_machine.specs.Checks.{IsSchedPart, IsStart, IsUnitPart}
 use Rattle.abt_machine.specs.Declaring.{Above}
-use Rattle.abt_machine.specs.Forms.{Slot, Fixed, Numeral, PoolList, op_slots}
+use Rattle.abt_machine.specs.Forms.{Slot, Fixed, Numeral, PoolList, access_slots, combine_name, kind_name, op_slots, rule_slots, thing_slots}
 use Rattle.abt_machine.specs.Operations.{IsDeclared}
 use Rattle.abt_machine.specs.Valid.{IsAccess, IsBody, IsRule, IsSched, IsThing, IsUnit, IsValid}
 use Rattle.abt_machine.specs.Weights.{size, weight}
@@ -35,10 +37,11 @@ use Rattle.abt_machine.specs.Words.{Text, numbered}
 use Rattle.abt_machine.specs.Workloads.{all_ops, ops_of}
 use Rattle.abt_machine.proofs.Checked.{mains-places}
 use Rattle.abt_machine.proofs.Decimals.{few-digits}
-use Rattle.abt_machine.proofs.Weighing.{has_words, size-append, size-line, size-nil, some-op, weight-append}
+use Rattle.abt_machine.proofs.Weighing.{has_words, size-append, size-line, size-nil, some-op}
 use Rattle.abt_workload.proofs.Filled.{given, has_choice}
 use Rattle.abt_workload.proofs.Fitting.{AreFit, all-fit}
 use Rattle.abt_workload.proofs.Growing.{ends_list}
+use Rattle.abt_workload.proofs.Heads.{units_words}
 use Rattle.abt_workload.proofs.OperationForms.{IsFormed, formed, op-met, op_form}
 use Rattle.abt_workload.proofs.Reaching.{reached, reached-small}
 
@@ -97,9 +100,6 @@ op-places _ = (refl, omega arith)
 -- Each kind of line.
 
 module _ (W : Parts) (v : IsValid W) where
-  unit-small : (n : ℕ) → n < length W.units → n < 2 ^ 64
-  unit-small n lt = let few = v.few_units in omega arith
-
   pool-small : (n : ℕ) → n < length W.pools → n < 2 ^ 64
   pool-small n lt = let few = v.few_pools in omega arith
 
@@ -109,47 +109,39 @@ module _ (W : Parts) (v : IsValid W) where
   sched-small : (n : ℕ) → n < length W.scheds → n < 2 ^ 64
   sched-small n lt = let few = v.few_scheds in omega arith
 
-  key-small : (n : ℕ) → n < W.keys → n < 2 ^ 64
-  key-small n lt = let few = v.few_keys in omega arith
-
-  object-small : (x : ℕ) (t : Thing) → slice_get W.objects x ≡ Some t → x < 2 ^ 64
-  object-small x t e = let lt = slice_get_within W.objects x t e in let few = v.few_objects in omega arith
-
-  access-light : (x : Access) → IsAccess W.streams x → weight (access_words x) ≤ 60
-  access-light (access.Priv s) h = let d = few-digits s.0 (stream-small s.0 h) in omega arith
-  access-light (access.Spsc s t) h = let d = few-digits s.0 (stream-small s.0 h.0) in let e = few-digits t.0 (stream-small t.0 h.1) in omega arith
-  access-light (access.Mpsc t) h = let d = few-digits t.0 (stream-small t.0 h) in omega arith
-  access-light (access.Spmc s) h = let d = few-digits s.0 (stream-small s.0 h) in omega arith
-  access-light access.Mpmc h = omega arith
+  access-light : (x : Access) (word : Text) → IsAccess W x → weight (filled (access_slots x) word (access_numbers x)) ≤ 60
+  access-light (access.Priv s) word h = let d = few-digits s.0 (stream-small s.0 h) in omega arith
+  access-light (access.Spsc s t) word h = let d = few-digits s.0 (stream-small s.0 h.0) in let e = few-digits t.0 (stream-small t.0 h.1) in omega arith
+  access-light (access.Mpsc t) word h = let d = few-digits t.0 (stream-small t.0 h) in omega arith
+  access-light (access.Spmc s) word h = let d = few-digits s.0 (stream-small s.0 h) in omega arith
+  access-light access.Mpmc word h = omega arith
 
   kind-light : (k : Kind) → length (kind_name k) ≤ 5
   kind-light kind.Fifo = omega arith
   kind-light kind.Deque = omega arith
 
-  pool-light : (p : ℕ) (part : PoolPart) → p < 2 ^ 64 → IsAccess W.streams part.access → IsLight 119 (pool_line p part)
-  pool-light p part lt h = let d = few-digits p lt in let k = kind-light part.kind in let x = access-light part.access h in (refl, omega arith)
-
-  rule-light : (r : Rule) → IsRule r → weight (rule_words r) ≤ 60
-  rule-light rule.Basic h = omega arith
-  rule-light rule.Prio h = omega arith
-  rule-light (rule.Randws seed) h = let d = few-digits seed h in omega arith
-  rule-light (rule.User k) h = let d = few-digits k (omega arith) in omega arith
+  pool-light : (p : ℕ) (part : PoolPart) → p < 2 ^ 64 → IsAccess W part.access → IsLight 119 (pool_line p part)
+  pool-light p part lt h = let d = few-digits p lt in let k = kind-light part.kind in let x = access-light part.access (kind_name part.kind) h in (refl, omega arith)
 
   -- the numbers of pools
-  listed-light : (pools : List PoolNo) → All (λ (p : PoolNo). p.0 < length W.pools) pools → weight (map (λ (p : PoolNo). decimal p.0) pools) ≤ length pools * 21
+  listed-light : (pools : List PoolNo) → All (λ (p : PoolNo). p.0 < length W.pools) pools → weight (map decimal (map (λ (p : PoolNo). p.0) pools)) ≤ length pools * 21
   listed-light [] all = omega arith
   listed-light (p ∷ pools) all =
       let d = few-digits p.0 (pool-small p.0 (All-head (λ (q : PoolNo). q.0 < length W.pools) p pools all)) in
       let rest = listed-light pools (All-tail (λ (q : PoolNo). q.0 < length W.pools) p pools all) in
       omega arith
 
-  sched-light : (g : ℕ) (part : SchedPart) → g < 2 ^ 64 → IsSched (length W.pools) part → IsLight 300 (sched_line g part)
+  rule-light : (r : Rule) (pools : List PoolNo) → IsRule r → All (λ (p : PoolNo). p.0 < length W.pools) pools
+      → weight (filled (rule_slots r) [] (rule_numbers r ++ map (λ (p : PoolNo). p.0) pools)) ≤ 60 + length pools * 21
+  rule-light (rule.Randws seed) pools h all = let d = few-digits seed h in let l = listed-light pools all in omega arith
+  rule-light (rule.User k) pools h all = let d = few-digits k (omega arith) in let l = listed-light pools all in omega arith
+  rule-light _ pools h all = let l = listed-light pools all in omega arith
+
+  sched-light : (g : ℕ) (part : SchedPart) → g < 2 ^ 64 → IsSchedPart W part → IsLight 300 (sched_line g part)
   sched-light g part lt h =
       let d = few-digits g lt in
-      let r = rule-light part.rule h.rule in
-      let l = listed-light part.pools h.listed in
-      let few = h.few_pools in
-      let both = weight-append (rule_words part.rule) (map (λ (p : PoolNo). decimal p.0) part.pools) in
+      let r = rule-light part.rule part.pools h.rule h.pools.declared in
+      let few = h.pools.few_pools in
       (refl, omega arith)
 
   stream-light : (s : ℕ) (g : SchedNo) → s < 2 ^ 64 → g.0 < 64 → IsLight 119 (stream_line s g)
@@ -164,7 +156,7 @@ module _ (W : Parts) (v : IsValid W) where
   combine-light combine.Max = omega arith
   combine-light combine.Count = omega arith
 
-  thing-light : (x : ℕ) (t : Thing) → x < 256 → IsThing W.objects x t → weight (thing_words t) ≤ 60
+  thing-light : (x : ℕ) (t : Thing) → x < 256 → IsThing W x t → weight (filled (thing_slots t) (thing_word t) (thing_numbers t)) ≤ 60
   thing-light x thing.Mutex lt h = omega arith
   thing-light x (thing.Cond m) lt h = let below = h.0 in let d = few-digits m.0 (omega arith) in omega arith
   thing-light x thing.Eventual lt h = omega arith
@@ -186,27 +178,22 @@ module _ (W : Parts) (v : IsValid W) where
       let same : weight (op_words W o) ≡ weight (filled places (op_word W o) (op_numbers o)) = ap weight d.written.words_are in
       (some-op W o, omega (arith, few.1))
 
-  body-light : (b : Body) → IsBody (length W.scheds) b → weight (body_words b) ≤ 30
-  body-light (body.Ult ops) h = omega arith
-  body-light (body.Task ops) h = omega arith
-  body-light (body.Sched g) h = let d = few-digits g.0 (sched-small g.0 h) in omega arith
-
-  start-light : (o : Option PoolNo) → IfSome o (λ (p : PoolNo). p.0 < length W.pools) → weight (start_words o) ≤ 30
-  start-light None h = omega arith
-  start-light (Some p) h = let d = few-digits p.0 (pool-small p.0 h) in omega arith
+  header-light : (u : ℕ) (b : Body) (o : Option PoolNo) → u < 2 ^ 64 → IsBody W b → IsStart W o → weight (unit_header u (record { body = b; start = o })) ≤ 119
+  header-light u (body.Sched g) None lt h at = let d = few-digits u lt in let e = few-digits g.0 (sched-small g.0 h) in omega arith
+  header-light u (body.Sched g) (Some p) lt h at =
+      let d = few-digits u lt in let e = few-digits g.0 (sched-small g.0 h) in let f = few-digits p.0 (pool-small p.0 at) in omega arith
+  header-light u _ None lt h at = let d = few-digits u lt in omega arith
+  header-light u _ (Some p) lt h at = let d = few-digits u lt in let f = few-digits p.0 (pool-small p.0 at) in omega arith
 
   -- the lines of units and of their operations
   units-light : (k : ℕ) (units : List UnitPart) → k + length units < 2 ^ 64 → All (IsUnit W) units
       → size (flat_map (λ p. unit_lines W p.0 p.1) (enumerate_from k units)) ≤ (length units + length (all_ops units)) * 119
   units-light k [] few all = let e = size-nil in omega arith
   units-light k (part ∷ units) few all =
-      let right = All-head (IsUnit W) part units all in
-      let d = few-digits k (omega arith) in
-      let b = body-light part.body right.kind in
-      let s = start-light part.start right.start in
-      let both = weight-append (body_words part.body) (start_words part.start) in
+      let right = All-head (IsUnitPart W) part units all in
+      let light = header-light k part.body part.start (omega arith) right.kind right.start in
       let ops = map-light (op_words W) 119 (IsDeclared W) op-light (ops_of part.body) right.ops in
-      let head = size-line (codes "unit" ∷ decimal k ∷ body_words part.body ++ start_words part.start) (map (op_words W) (ops_of part.body)) refl in
+      let head = size-line (unit_header k part) (map (op_words W) (ops_of part.body)) refl in
       let here = size-append (unit_lines W k part) (flat_map (λ p. unit_lines W p.0 p.1) (enumerate_from (k + 1) units)) in
       let rest = units-light (k + 1) units (omega arith) (All-tail (IsUnit W) part units all) in
       let count : length (ops_of part.body ++ all_ops units) ≡ length (ops_of part.body) + length (all_ops units) = length-append (ops_of part.body) _ in
@@ -218,27 +205,27 @@ module _ (W : Parts) (v : IsValid W) where
 
   keys-light : (k : ℕ) → k ≤ 16 → size (keys_lines k) ≤ 119
   keys-light zero few = let e = size-nil in omega arith
-  keys-light (suc k) few = let e = size-line (codes "keys" ∷ decimal (suc k) ∷ []) [] refl in let n = size-nil in let d = few-digits (suc k) (omega arith) in omega arith
+  keys-light (suc k) few = let e = size-line (form_words form.Keys [] (suc k ∷ [])) [] refl in let n = size-nil in let d = few-digits (suc k) (omega arith) in omega arith
 
   -- the lines of a workload, part by part
   abbrev lines_at : Format → List (List Text)
-  lines_at F = version_line F ∷ (codes "streams" ∷ decimal W.streams ∷ []) ∷ keys_lines W.keys
+  lines_at F = form_words (form.Version F) [] [] ∷ form_words form.Streams [] (W.streams ∷ []) ∷ keys_lines W.keys
 
   version-light : (F : Format) → size (lines_at F) ≤ 6 + 119 + 119
   version-light F =
-      let a = size-line (version_line F) ((codes "streams" ∷ decimal W.streams ∷ []) ∷ keys_lines W.keys) (some F) in
-      let b = size-line (codes "streams" ∷ decimal W.streams ∷ []) (keys_lines W.keys) refl in
+      let a = size-line (form_words (form.Version F) [] []) (form_words form.Streams [] (W.streams ∷ []) ∷ keys_lines W.keys) (some F) in
+      let b = size-line (form_words form.Streams [] (W.streams ∷ [])) (keys_lines W.keys) refl in
       let k = keys-light W.keys v.few_keys in
       let few = v.few_streams in
       let d = few-digits W.streams (omega arith) in
       let e = six F in
       omega arith
     where
-      some : (G : Format) → has_words (version_line G) ≡ true
+      some : (G : Format) → has_words (form_words (form.Version G) [] []) ≡ true
       some format.One = refl
       some format.Two = refl
 
-      six : (G : Format) → weight (version_line G) ≡ 6
+      six : (G : Format) → weight (form_words (form.Version G) [] []) ≡ 6
       six format.One = refl
       six format.Two = refl
 
@@ -251,7 +238,7 @@ module _ (W : Parts) (v : IsValid W) where
       let M : List (List Text) = numbered stream_line W.mains in
       let O : List (List Text) = numbered object_line W.objects in
       let U : List (List Text) = flat_map (λ p. unit_lines W p.0 p.1) (enumerate_from 0 W.units) in
-      let units : List Text = codes "units" ∷ decimal (length W.units) ∷ [] in
+      let units : List Text = units_words W in
       let few_streams = v.few_streams in
       let few_pools = v.few_pools in
       let few_scheds = v.few_scheds in
@@ -265,7 +252,7 @@ module _ (W : Parts) (v : IsValid W) where
       let o = lines-light object_line 119 IsSmallThing object-light 0 W.objects (omega arith) objects-all in
       let u = units-light 0 W.units (omega arith) v.units in
       let h = version-light F in
-      let a = size-append ((((lines_at F ++ P) ++ S) ++ M) ++ O ++ units ∷ U) ((codes "end" ∷ []) ∷ []) in
+      let a = size-append ((((lines_at F ++ P) ++ S) ++ M) ++ O ++ units ∷ U) (form_words form.End [] [] ∷ []) in
       let b = size-append (((lines_at F ++ P) ++ S) ++ M ++ O) (units ∷ U) in
       let c = size-append (((lines_at F ++ P) ++ S) ++ M) O in
       let d = size-append ((lines_at F ++ P) ++ S) M in
@@ -273,6 +260,6 @@ module _ (W : Parts) (v : IsValid W) where
       let f = size-append (lines_at F) P in
       let i = size-line units U refl in
       let digits = few-digits (length W.units) (omega arith) in
-      let j = size-line (codes "end" ∷ []) [] refl in
+      let j = size-line (form_words form.End [] []) [] refl in
       let k = size-nil in
       omega arith

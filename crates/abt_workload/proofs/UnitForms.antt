@@ -1,16 +1,15 @@
 -- What a unit's line is in the table of forms.
-use Rattle.std.proofs.Common.{◌≡◌, ◌<◌, ℕ, List, [], ◌∷◌, ◌++◌, Option, Some, None, IfSome, codes, length, option_map, refl}
+use Rattle.std.proofs.Common.{◌≡◌, ◌<◌, ℕ, List, [], ◌∷◌, ◌++◌, Option, Some, None, length, option_map, refl}
 use Rattle.abt_machine.specs.declared.grammar.Form.{Form}
 use Rattle.abt_machine.specs.declared.grammar.Form.TheVariants as form
 use Rattle.abt_machine.specs.declared.grammar.Format.{Format}
 use Rattle.abt_machine.specs.declared.grammar.Number.{Number}
-use Rattle.abt_machine.specs.declared.grammar.Role.{Role}
-use Rattle.abt_machine.specs.declared.grammar.Role.TheVariants as role
 use Rattle.abt_machine.specs.declared.numbers.PoolNo.{PoolNo}
 use Rattle.abt_machine.specs.declared.operations.Body.{Body}
 use Rattle.abt_machine.specs.declared.operations.Body.TheVariants as body
 use Rattle.abt_machine.specs.declared.workload.Parts.{Parts}
 use Rattle.abt_machine.specs.declared.workload.UnitPart.{UnitPart}
+use Rattle.abt_machine.specs.Canonical.{body_numbers, role_of, start_numbers, unit_header}
 use Rattle.abt_machine.specs.Declaring.{declared_units, unit_with}
 use Rattle.abt_machine.specs.Forms.{slots}
 use Rattle.abt_machine.specs.Numbers.{pool_no}
@@ -18,16 +17,8 @@ use Rattle.abt_machine.specs.Valid.{IsBody}
 use Rattle.abt_workload.specs.Slots.{values}
 use Rattle.abt_workload.proofs.Filled.{IsWritten, given}
 use Rattle.abt_workload.proofs.Fitting.{AreMet}
-use Rattle.abt_workload.proofs.Heads.{header}
 use Rattle.abt_workload.proofs.OperationLines.{body_like}
 use Rattle.abt_workload.proofs.Reaching.{reached}
-use Rattle.abt_workload.proofs.Taking.{plain-word}
-
--- what a body is
-abbrev pub role_of : Body → Role
-role_of (body.Ult ops) = role.Ult
-role_of (body.Task ops) = role.Task
-role_of (body.Sched g) = role.Sched
 
 -- a start of the table of forms
 abbrev pub start_form : Option PoolNo → Option PoolNo
@@ -36,17 +27,6 @@ start_form = option_map (λ (p : PoolNo). pool_no 0)
 -- a unit's form
 abbrev pub unit_form : Body → Option PoolNo → Form
 unit_form b start = form.Unit (role_of b) (start_form start)
-
--- the numbers of a body's words
-abbrev body_numbers : Body → List ℕ
-body_numbers (body.Ult ops) = []
-body_numbers (body.Task ops) = []
-body_numbers (body.Sched g) = g.0 ∷ []
-
--- the numbers of a start's words
-abbrev start_numbers : Option PoolNo → List ℕ
-start_numbers None = []
-start_numbers (Some p) = p.0 ∷ []
 
 -- the numbers of a unit's line
 abbrev pub unit_numbers : ℕ → Body → Option PoolNo → List ℕ
@@ -58,11 +38,11 @@ unit_given u b start = given (slots (unit_form b start)) (unit_numbers u b start
 
 -- each unit's line is written of its form
 pub unit-written : (u : ℕ) (b : Body) (start : Option PoolNo)
-    → IsWritten (unit_form b start) (codes "unit") (unit_numbers u b start) (header u (record { body = b; start = start }))
-unit-written u (body.Ult ops) None = record { words_are = refl; form_is = refl; skipped = refl; plain = refl; chosen = λ _. plain-word (codes "unit") refl }
-unit-written u (body.Ult ops) (Some p) = record { words_are = refl; form_is = refl; skipped = refl; plain = refl; chosen = λ _. plain-word (codes "unit") refl }
-unit-written u _ None = record { words_are = refl; form_is = refl; skipped = refl; plain = refl; chosen = λ _. plain-word (codes "unit") refl }
-unit-written u _ (Some p) = record { words_are = refl; form_is = refl; skipped = refl; plain = refl; chosen = λ _. plain-word (codes "unit") refl }
+    → IsWritten (unit_form b start) [] (unit_numbers u b start) (unit_header u (record { body = b; start = start }))
+unit-written u (body.Ult ops) None = record { words_are = refl; form_is = refl; skipped = refl; plain = refl; chosen = λ e. cc }
+unit-written u (body.Ult ops) (Some p) = record { words_are = refl; form_is = refl; skipped = refl; plain = refl; chosen = λ e. cc }
+unit-written u _ None = record { words_are = refl; form_is = refl; skipped = refl; plain = refl; chosen = λ e. cc }
+unit-written u _ (Some p) = record { words_are = refl; form_is = refl; skipped = refl; plain = refl; chosen = λ e. cc }
 
 -- and declares the unit without its operations
 pub unit-made : (u : ℕ) (b : Body) (start : Option PoolNo)

@@ -1,5 +1,5 @@
 -- The lines of units and of their operations are taken.
-use Rattle.std.proofs.Common.{◌≡◌, ◌≢◌, ◌<◌, ◌≤◌, ◌+◌, ◌==◌, ◌∙◌, ℕ, false, true, List, [], ◌∷◌, ◌++◌, All, Option, Some, None, ap, append_assoc, arith, codes, flat_map, length, length-append, map, nat_lt, option_to_list, refl, slice_get, subst, sym}
+use Rattle.std.proofs.Common.{◌≡◌, ◌≢◌, ◌<◌, ◌≤◌, ◌+◌, ◌==◌, ◌∙◌, ℕ, false, true, List, [], ◌∷◌, ◌++◌, All, Option, Some, None, ap, append_assoc, arith, flat_map, length, length-append, map, nat_lt, option_to_list, refl, slice_get, subst, sym}
 use Rattle.std.specs.List.{AllPairs, list_any}
 use Rattle.std.proofs.lemmas.Bool.{le-ltb}
 use Rattle.std.proofs.lemmas.Grind.{flat_map-append}
@@ -13,7 +13,8 @@ use Rattle.abt_machine.specs.declared.operations.Body.{Body}
 use Rattle.abt_machine.specs.declared.operations.Body.TheVariants as body
 use Rattle.abt_machine.specs.declared.workload.Parts.{Parts}
 use Rattle.abt_machine.specs.declared.workload.UnitPart.{UnitPart}
-use Rattle.abt_machine.specs.Canonical.{op_words, unit_lines, word_at}
+use Rattle.abt_machine.specs.Canonical.{op_words, role_of, unit_header, unit_lines, word_at}
+use Rattle.abt_machine.specs.Checks.{IsStart, IsUnitPart}
 use Rattle.abt_machine.specs.Declaring.{Above, declared_units, parts_of, said_words, unit_with, units_of}
 use Rattle.abt_machine.specs.Faults.{is_beyond, is_placed, is_twice}
 use Rattle.abt_machine.specs.Operations.{IsDeclared, said_by}
@@ -25,12 +26,12 @@ use Rattle.abt_machine.proofs.Saying.{said_by_units}
 use Rattle.abt_workload.specs.Slots.{values}
 use Rattle.abt_workload.proofs.Filled.{takes}
 use Rattle.abt_workload.proofs.Fitting.{all-fit}
-use Rattle.abt_workload.proofs.Heads.{head, header, units_lines}
+use Rattle.abt_workload.proofs.Heads.{head, units_lines}
 use Rattle.abt_workload.proofs.InOrder.{front-shorter, get-here, not-before, placed-among}
 use Rattle.abt_workload.proofs.OperationLines.{body_like, ops-taken}
 use Rattle.abt_workload.proofs.Reaching.{IsQuiet, reached, reached-small, reached-units, reached-words}
 use Rattle.abt_workload.proofs.Taking.{Takes, TakesAll, takes-append}
-use Rattle.abt_workload.proofs.UnitForms.{role_of, start_form, unit-made, unit-met, unit-written, unit_form, unit_given, unit_numbers}
+use Rattle.abt_workload.proofs.UnitForms.{start_form, unit-made, unit-met, unit-written, unit_form, unit_given, unit_numbers}
 
 -- all of the workload is declared
 pub record IsWhole (W : Parts) (b : Above) : Type 0 where
@@ -119,13 +120,13 @@ module _ (F : Format) (W : Parts) (v : IsValid W) (front : List UnitPart) (part 
     within-units _ o = let lt = below in le-ltb (length W.units) (length front + 1) (omega arith)
 
     -- the line of the next unit is taken
-    unit-taken : Takes (reached F W s units last before said) (header (length front) part) (reached F W 9 front (Some (record { body = body_like part.body []; start = part.start })) (before ++ said) [])
+    unit-taken : Takes (reached F W s units last before said) (unit_header (length front) part) (reached F W 9 front (Some (record { body = body_like part.body []; start = part.start })) (before ++ said) [])
     unit-taken =
         let a : Above = reached F W s units last before said in
         let u : ℕ = length front in
         let f : Form = unit_form part.body part.start in
         let made : UnitPart = unit_with (role_of part.body) (start_form part.start) (values (unit_given u part.body part.start)) in
-        takes a (reached F W 9 front (Some (record { body = body_like part.body []; start = part.start })) (before ++ said) []) f (codes "unit") (unit_numbers u part.body part.start) (header u part)
+        takes a (reached F W 9 front (Some (record { body = body_like part.body []; start = part.start })) (before ++ said) []) f [] (unit_numbers u part.body part.start) (unit_header u part)
         (unit-written u part.body part.start)
         (all-fit a (reached-small F W v s units last before said) (unit_given u part.body part.start)
         (unit-met F W s units last before said u part.body part.start (sym count) below right.kind right.start))

@@ -1,16 +1,18 @@
 -- A workload's text, appended section by section.
-use Rattle.std.proofs.Common.{◌≡◌, ◌∙◌, ℕ, Bool, true, false, List, [], ◌∷◌, ◌++◌, Some, ap, append_assoc, codes, decimal, if◌then◌else◌, length, refl, slice_get, slice_set, sym}
+use Rattle.std.proofs.Common.{◌≡◌, ◌∙◌, ℕ, Bool, true, false, List, [], ◌∷◌, ◌++◌, Some, ap, append_assoc, if◌then◌else◌, refl, slice_get, slice_set, sym}
 use Rattle.std.specs.List.{All}
+use Rattle.std.proofs.lemmas.Option.{slice_get_within}
+use Rattle.abt_machine.specs.declared.grammar.Form.TheVariants as form
 use Rattle.abt_machine.specs.declared.grammar.Format.TheVariants as format
 use Rattle.abt_machine.specs.declared.workload.Parts.{Parts}
 use Rattle.abt_machine.specs.declared.workload.UnitPart.{UnitPart}
-use Rattle.abt_machine.specs.Canonical.{canonical_text, has_text, keys_lines, object_line, pool_line, sched_line, stream_line, text_in, version_line}
+use Rattle.abt_machine.specs.Canonical.{canonical_text, form_words, has_text, keys_lines, object_line, pool_line, sched_line, stream_line, text_in}
 use Rattle.abt_machine.specs.Operations.{IsDeclared}
 use Rattle.abt_machine.specs.Valid.{IsUnit, IsValid}
 use Rattle.abt_machine.specs.Words.{Text, ended, line_of, numbered, text_of}
 use Rattle.abt_machine.specs.Workloads.{ops_of}
-use Rattle.abt_machine.proofs.Elements.{all-at}
-use Rattle.abt_workload.proofs.Heads.{units_lines}
+use Rattle.abt_machine.proofs.Checked.{from-unit}
+use Rattle.abt_workload.proofs.Heads.{units_lines, units_words}
 use Rattle.abt_workload.proofs.WritingLines.{text-and, text-append}
 
 -- what the operations of a unit name is declared
@@ -23,17 +25,17 @@ more-lines lines more old new before after = after ∙ (ap (λ (text : Text). te
 
 -- the whole text
 pub written : (W : Parts) (head pools scheds mains objects count units whole : Text) →
-    head ≡ text_of (version_line format.One ∷ (codes "streams" ∷ decimal W.streams ∷ []) ∷ keys_lines W.keys) →
+    head ≡ text_of (form_words (form.Version format.One) [] [] ∷ form_words form.Streams [] (W.streams ∷ []) ∷ keys_lines W.keys) →
     pools ≡ head ++ text_of (numbered pool_line W.pools) →
     scheds ≡ pools ++ text_of (numbered sched_line W.scheds) →
     mains ≡ scheds ++ text_of (numbered stream_line W.mains) →
     objects ≡ mains ++ text_of (numbered object_line W.objects) →
-    count ≡ objects ++ ended (line_of (codes "units" ∷ decimal (length W.units) ∷ [])) →
+    count ≡ objects ++ ended (line_of (units_words W)) →
     units ≡ count ++ text_of (units_lines W 0 W.units) →
-    whole ≡ units ++ ended (line_of (codes "end" ∷ [])) → whole ≡ text_in format.One W
+    whole ≡ units ++ ended (line_of (form_words form.End [] [])) → whole ≡ text_in format.One W
 written W head pools scheds mains objects count units whole e0 e1 e2 e3 e4 e5 e6 e7 =
-    let first : List (List Text) = version_line format.One ∷ (codes "streams" ∷ decimal W.streams ∷ []) ∷ keys_lines W.keys in
-    let line : List Text = codes "units" ∷ decimal (length W.units) ∷ [] in
+    let first : List (List Text) = form_words (form.Version format.One) [] [] ∷ form_words form.Streams [] (W.streams ∷ []) ∷ keys_lines W.keys in
+    let line : List Text = units_words W in
     let U : List (List Text) = units_lines W 0 W.units in
     let t1 = more-lines first (numbered pool_line W.pools) head pools e0 e1 in
     let t2 = more-lines (first ++ numbered pool_line W.pools) (numbered sched_line W.scheds) pools scheds t1 e2 in
@@ -42,7 +44,7 @@ written W head pools scheds mains objects count units whole e0 e1 e2 e3 e4 e5 e6
     let joined : units ≡ objects ++ text_of (line ∷ U) = e6 ∙ (ap (λ (text : Text). text ++ text_of U) e5 ∙ append_assoc objects (ended (line_of line)) (text_of U)) in
     let t5 = more-lines (first ++ numbered pool_line W.pools ++ numbered sched_line W.scheds ++ numbered stream_line W.mains ++ numbered object_line W.objects) (line ∷ U) objects units t4 joined in
     let all = first ++ numbered pool_line W.pools ++ numbered sched_line W.scheds ++ numbered stream_line W.mains ++ numbered object_line W.objects ++ (line ∷ U) in
-    e7 ∙ (ap (λ (text : Text). text ++ ended (line_of (codes "end" ∷ []))) t5 ∙ sym (text-and all (codes "end" ∷ [])))
+    e7 ∙ (ap (λ (text : Text). text ++ ended (line_of (form_words form.End [] []))) t5 ∙ sym (text-and all (form_words form.End [] [])))
 
 -- a text of format 2 is that of format 1 with another version
 pub raised : (W : Parts) → slice_set (text_in format.One W) 4 50 ≡ text_in format.Two W

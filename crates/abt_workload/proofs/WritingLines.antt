@@ -10,7 +10,7 @@ use Rattle.abt_machine.specs.declared.grammar.Format.TheVariants as format
 use Rattle.abt_machine.specs.declared.operations.Op.{Op}
 use Rattle.abt_machine.specs.declared.operations.Op.TheVariants as op
 use Rattle.abt_machine.specs.Forms.{op_slots}
-use Rattle.abt_machine.specs.Words.{Text, ended, line_of, numbered, spaced, text_of}
+use Rattle.abt_machine.specs.Words.{Text, ended, line_of, numbered, text_of}
 use Rattle.abt_machine.proofs.Weighing.{enumerate-behind}
 use Rattle.abt_workload.specs.Slots.{is_headed, own_slots}
 
@@ -42,11 +42,13 @@ text-append lines more = flat_map-append (λ (words : List Text). ended (line_of
 pub text-and : (lines : List (List Text)) (words : List Text) → text_of (lines ++ words ∷ []) ≡ text_of lines ++ ended (line_of words)
 text-and lines words = text-append lines (words ∷ []) ∙ ap (λ (text : Text). text_of lines ++ text) (append-nil (ended (line_of words)))
 
--- words behind words behind words
-pub words-behind : (out old new : Text) (first second third : List Text) → old ≡ out ++ spaced first → new ≡ old ++ spaced second → new ++ spaced third ≡ out ++ spaced (first ++ (second ++ third))
-words-behind out old new first second third before after =
-    rw (after, before, flat_map-append (λ (word : Text). 32 ∷ word) first (second ++ third), flat_map-append (λ (word : Text). 32 ∷ word) second third)
-    (append_assoc (out ++ spaced first) (spaced second) (spaced third) ∙ append_assoc out (spaced first) (spaced second ++ spaced third))
+-- two lines, and more lines behind them
+pub lines-behind : (out one two new : Text) (first second : List Text) (rest : List (List Text)) →
+    one ≡ out ++ ended (line_of first) → two ≡ one ++ ended (line_of second) → new ≡ two ++ text_of rest → new ≡ out ++ text_of (first ∷ second ∷ rest)
+lines-behind out one two new first second rest is_one is_two is_new =
+    let a : Text = ended (line_of first) in
+    let b : Text = ended (line_of second) in
+    rw (is_new, is_two, is_one) (append_assoc (out ++ a) b (text_of rest) ∙ append_assoc out a (b ++ text_of rest))
 
 -- a text behind what stands there goes on with one piece more
 behind : (out pieces piece old new : Text) → old ≡ out ++ pieces → new ≡ old ++ piece → new ≡ out ++ (pieces ++ piece)

@@ -1,13 +1,15 @@
 //! The writer.
 
-ghost use Rattle.std.specs.Prelude.{◌≡◌, ◌<◌, ◌++◌, ◌∷◌, [], All, IfOk, OnOk, codes, decimal, flat_map, length, map, slice_set, true};
+ghost use Rattle.std.specs.Prelude.{◌≡◌, ◌++◌, ◌∷◌, [], All, IfOk, OnOk, decimal, flat_map, map, slice_set, true};
 ghost use Rattle.std.specs.List.{enumerate_from};
-ghost use Rattle.abt_machine.specs.Canonical.{access_words, body_words, canonical_text, combine_name, filled, has_text, keys_lines, kind_name, object_line, op_words, pool_line, rule_words, sched_line, start_words, stream_line, text_in, thing_words, unit_lines, version_line};
+ghost use Rattle.abt_machine.specs.Canonical.{canonical_text, filled, form_words, has_text, keys_lines, object_line, op_words, pool_line, role_of, rule_numbers, sched_line, stream_line, text_in, unit_header, unit_lines};
+ghost use Rattle.abt_machine.specs.Forms.{combine_name, kind_name};
 ghost use Rattle.abt_machine.specs.Grammar.{Reads};
 ghost use Rattle.abt_machine.specs.Operations.{IsDeclared};
 ghost use Rattle.abt_machine.specs.Valid.{IsValid};
 ghost use Rattle.abt_machine.specs.Words.{ended, line_of, numbered, spaced, text_of};
 ghost use Rattle.abt_machine.specs.Workloads.{ops_of};
+ghost use Rattle.abt_machine.specs.declared.grammar.Form.TheVariants as form;
 ghost use Rattle.abt_machine.specs.declared.grammar.Format.TheVariants as format;
 ghost use Rattle.abt_machine.specs.declared.numbers.PoolNo.{PoolNo};
 ghost use Rattle.abt_workload.specs.Slots.{is_headed, own_slots, slot_of};
@@ -15,42 +17,10 @@ ghost use Rattle.abt_workload.specs.Slots.{is_headed, own_slots, slot_of};
 use crate::forms::{Slot, slots};
 use abt_lines::{end_line, push_decimal, push_word};
 use abt_machine::{
-    Access, Body, Combine, Form, Format, Kind, ObjectNo, Op, PoolNo, PoolPart, Rule, SchedNo,
+    Access, Body, Combine, Form, Format, Kind, ObjectNo, Op, PoolNo, PoolPart, Role, Rule, SchedNo,
     SchedPart, StreamNo, Thing, UnitNo, UnitPart, Want, Workload,
 };
 use std::alloc::Global;
-
-// Appends a word and a number, which begin a line.
-fn begin_line(out: &mut Vec<u8>, word: &[u8], n: u64) -> Result<(), Want>
-    ensures { OnOk result (out.new.items ≡ out.old.items ++ line_of (word.now ∷ decimal n ∷ [])) }
-{
-    out.extend_from_slice(word)?;
-    push_decimal(out, n)
-}
-
-// Appends a word and a number, with a space before each.
-fn push_pair(out: &mut Vec<u8>, word: &[u8], n: u64) -> Result<(), Want>
-    ensures { OnOk result (out.new.items ≡ out.old.items ++ spaced (word.now ∷ decimal n ∷ [])) }
-{
-    push_word(out, word)?;
-    push_decimal(out, n)
-}
-
-// Appends the line of a word.
-fn push_bare(out: &mut Vec<u8>, word: &[u8]) -> Result<(), Want>
-    ensures { OnOk result (out.new.items ≡ out.old.items ++ ended (line_of (word.now ∷ []))) }
-{
-    out.extend_from_slice(word)?;
-    end_line(out)
-}
-
-// Appends the line of a word and a number.
-fn push_one(out: &mut Vec<u8>, word: &[u8], n: u64) -> Result<(), Want>
-    ensures { OnOk result (out.new.items ≡ out.old.items ++ ended (line_of (word.now ∷ decimal n ∷ []))) }
-{
-    begin_line(out, word, n)?;
-    end_line(out)
-}
 
 // Appends numbers, with a space before each.
 fn push_numbers(out: &mut Vec<u8>, numbers: &[u64]) -> Result<(), Want>
@@ -116,30 +86,22 @@ fn push_line(out: &mut Vec<u8>, form: Form, word: &[u8], numbers: &[u64]) -> Res
     end_line(out)
 }
 
-// Appends the line of the version.
-fn push_version(out: &mut Vec<u8>) -> Result<(), Want>
-    ensures { OnOk result (out.new.items ≡ out.old.items ++ ended (line_of (version_line format.One))) }
-{
-    out.extend_from_slice(b"abt 1\n")?;
-    Ok(())
-}
-
 // Appends the line of the keys, if there are some.
 fn push_keys(out: &mut Vec<u8>, keys: u32) -> Result<(), Want>
     ensures { OnOk result (out.new.items ≡ out.old.items ++ text_of (keys_lines keys)) }
 {
     if keys > 0 {
-        push_one(out, b"keys", u64::from(keys))?;
+        push_line(out, Form::Keys, b"", &[u64::from(keys)])?;
     }
     Ok(())
 }
 
 // Appends the lines before those of pools.
 fn push_head(out: &mut Vec<u8>, streams: u32, keys: u32) -> Result<(), Want>
-    ensures { OnOk result (out.new.items ≡ out.old.items ++ text_of (version_line format.One ∷ (codes "streams" ∷ decimal streams ∷ []) ∷ keys_lines keys)) }
+    ensures { OnOk result (out.new.items ≡ out.old.items ++ text_of (form_words (form.Version format.One) [] [] ∷ form_words form.Streams [] (streams ∷ []) ∷ keys_lines keys)) }
 {
-    push_version(out)?;
-    push_one(out, b"streams", u64::from(streams))?;
+    push_line(out, Form::Version(Format::One), b"", &[])?;
+    push_line(out, Form::Streams, b"", &[u64::from(streams)])?;
     push_keys(out, keys)
 }
 
@@ -155,40 +117,20 @@ fn name_of_kind(kind: Kind) -> &'static [u8]
     }
 }
 
-// Appends an access, with a space before each word.
-fn push_access(out: &mut Vec<u8>, access: Access) -> Result<(), Want>
-    ensures { OnOk result (out.new.items ≡ out.old.items ++ spaced (access_words access)) }
-{
-    match access {
-        Access::Priv(s) => {
-            push_word(out, b"priv")?;
-            push_pair(out, b"of", u64::from(s.0))
-        }
-        Access::Spsc(s, t) => {
-            push_word(out, b"spsc")?;
-            push_pair(out, b"from", u64::from(s.0))?;
-            push_pair(out, b"to", u64::from(t.0))
-        }
-        Access::Mpsc(t) => {
-            push_word(out, b"mpsc")?;
-            push_pair(out, b"to", u64::from(t.0))
-        }
-        Access::Spmc(s) => {
-            push_word(out, b"spmc")?;
-            push_pair(out, b"from", u64::from(s.0))
-        }
-        Access::Mpmc => push_word(out, b"mpmc"),
-    }
-}
-
 // Appends the line of pool p.
 fn push_pool(out: &mut Vec<u8>, p: u32, part: PoolPart) -> Result<(), Want>
     ensures { OnOk result (out.new.items ≡ out.old.items ++ ended (line_of (pool_line p part))) }
 {
-    begin_line(out, b"pool", u64::from(p))?;
-    push_word(out, name_of_kind(part.kind))?;
-    push_access(out, part.access)?;
-    end_line(out)
+    let line = Form::Pool(part.access);
+    let word = name_of_kind(part.kind);
+    let p = u64::from(p);
+    match part.access {
+        Access::Priv(s) => push_line(out, line, word, &[p, u64::from(s.0)]),
+        Access::Spsc(s, t) => push_line(out, line, word, &[p, u64::from(s.0), u64::from(t.0)]),
+        Access::Mpsc(t) => push_line(out, line, word, &[p, u64::from(t.0)]),
+        Access::Spmc(s) => push_line(out, line, word, &[p, u64::from(s.0)]),
+        Access::Mpmc => push_line(out, line, word, &[p]),
+    }
 }
 
 // Appends the lines of the pools.
@@ -203,44 +145,45 @@ fn push_pools(out: &mut Vec<u8>, w: &Workload) -> Result<(), Want>
 
 // Schedulers.
 
-// Appends a rule, with a space before each word.
-fn push_rule(out: &mut Vec<u8>, rule: Rule) -> Result<(), Want>
-    ensures { OnOk result (out.new.items ≡ out.old.items ++ spaced (rule_words rule)) }
+// Appends the number that stands before a rule's pools, if there is one.
+fn add_rule(numbers: &mut Vec<u64>, rule: Rule) -> Result<(), Want>
+    ensures { OnOk result (numbers.new.items ≡ numbers.old.items ++ rule_numbers rule) }
 {
     match rule {
-        Rule::Basic => push_word(out, b"basic"),
-        Rule::Prio => push_word(out, b"prio"),
-        Rule::Randws(seed) => push_pair(out, b"randws", seed),
-        Rule::User(k) => push_pair(out, b"user", u64::from(k)),
+        Rule::Basic | Rule::Prio => {}
+        Rule::Randws(seed) => numbers.push(seed)?,
+        Rule::User(k) => numbers.push(u64::from(k))?,
     }
+    Ok(())
 }
 
-// Appends the numbers of pools, with a space before each.
-fn push_listed(out: &mut Vec<u8>, pools: &[PoolNo]) -> Result<(), Want>
-    ensures { OnOk result (out.new.items ≡ out.old.items ++ spaced (map (λ (p : PoolNo). decimal p.0) pools.now)) }
+// Appends the numbers of pools.
+fn add_listed(numbers: &mut Vec<u64>, pools: &[PoolNo]) -> Result<(), Want>
+    ensures { OnOk result (numbers.new.items ≡ numbers.old.items ++ map (λ (p : PoolNo). p.0) pools.now) }
 {
     for p in pools {
-        push_decimal(out, u64::from(p.0))?;
+        numbers.push(u64::from(p.0))?;
     }
     Ok(())
 }
 
 // Appends the line of scheduler g.
-fn push_sched(out: &mut Vec<u8>, g: u32, part: &SchedPart) -> Result<(), Want>
+fn push_sched(out: &mut Vec<u8>, alloc: Global, g: u32, part: &SchedPart) -> Result<(), Want>
     ensures { OnOk result (out.new.items ≡ out.old.items ++ ended (line_of (sched_line g part.now))) }
 {
-    begin_line(out, b"sched", u64::from(g))?;
-    push_rule(out, part.rule)?;
-    push_listed(out, part.pools.items())?;
-    end_line(out)
+    let mut numbers = Vec::new(alloc);
+    numbers.push(u64::from(g))?;
+    add_rule(&mut numbers, part.rule)?;
+    add_listed(&mut numbers, part.pools.items())?;
+    push_line(out, Form::Sched(part.rule), b"", &numbers)
 }
 
 // Appends the lines of the schedulers.
-fn push_scheds(out: &mut Vec<u8>, w: &Workload) -> Result<(), Want>
+fn push_scheds(out: &mut Vec<u8>, alloc: Global, w: &Workload) -> Result<(), Want>
     ensures { OnOk result (out.new.items ≡ out.old.items ++ text_of (numbered sched_line w.now.scheds)) }
 {
     for g in 0..w.scheds() {
-        push_sched(out, g, w.sched(SchedNo(g)))?;
+        push_sched(out, alloc, g, w.sched(SchedNo(g)))?;
     }
     Ok(())
 }
@@ -251,9 +194,7 @@ fn push_scheds(out: &mut Vec<u8>, w: &Workload) -> Result<(), Want>
 fn push_stream(out: &mut Vec<u8>, s: u32, main: SchedNo) -> Result<(), Want>
     ensures { OnOk result (out.new.items ≡ out.old.items ++ ended (line_of (stream_line s main))) }
 {
-    begin_line(out, b"stream", u64::from(s))?;
-    push_pair(out, b"main", u64::from(main.0))?;
-    end_line(out)
+    push_line(out, Form::Stream, b"", &[u64::from(s), u64::from(main.0)])
 }
 
 // Appends the lines of the streams.
@@ -279,30 +220,22 @@ fn name_of_combine(combine: Combine) -> &'static [u8]
     }
 }
 
-// Appends what an object is, with a space before each word.
-fn push_thing(out: &mut Vec<u8>, thing: Thing) -> Result<(), Want>
-    ensures { OnOk result (out.new.items ≡ out.old.items ++ spaced (thing_words thing)) }
-{
-    match thing {
-        Thing::Mutex => push_word(out, b"mutex"),
-        Thing::Cond(m) => push_pair(out, b"cond", u64::from(m.0)),
-        Thing::Eventual => push_word(out, b"eventual"),
-        Thing::Future(n, combine) => {
-            push_pair(out, b"future", u64::from(n))?;
-            push_word(out, name_of_combine(combine))
-        }
-        Thing::Barrier(n) => push_pair(out, b"barrier", u64::from(n)),
-        Thing::RwLock => push_word(out, b"rwlock"),
-    }
-}
-
 // Appends the line of object x.
 fn push_object(out: &mut Vec<u8>, x: u32, thing: Thing) -> Result<(), Want>
     ensures { OnOk result (out.new.items ≡ out.old.items ++ ended (line_of (object_line x thing))) }
 {
-    begin_line(out, b"object", u64::from(x))?;
-    push_thing(out, thing)?;
-    end_line(out)
+    let line = Form::Object(thing);
+    let x = u64::from(x);
+    match thing {
+        Thing::Mutex => push_line(out, line, b"", &[x]),
+        Thing::Cond(m) => push_line(out, line, b"", &[x, u64::from(m.0)]),
+        Thing::Eventual => push_line(out, line, b"", &[x]),
+        Thing::Future(n, combine) => {
+            push_line(out, line, name_of_combine(combine), &[x, u64::from(n)])
+        }
+        Thing::Barrier(n) => push_line(out, line, b"", &[x, u64::from(n)]),
+        Thing::RwLock => push_line(out, line, b"", &[x]),
+    }
 }
 
 // Appends the lines of the objects.
@@ -378,24 +311,33 @@ fn push_ops(out: &mut Vec<u8>, w: &Workload, ops: &[Op]) -> Result<(), Want>
     Ok(())
 }
 
-// Appends what a unit is, with a space before each word.
-fn push_body(out: &mut Vec<u8>, body: &Body) -> Result<(), Want>
-    ensures { OnOk result (out.new.items ≡ out.old.items ++ spaced (body_words body.now)) }
+// What a unit's line says that it is.
+fn role_of(body: &Body) -> Role
+    ensures { result ≡ role_of body.now }
 {
     match body {
-        Body::Ult(_) => push_word(out, b"ult"),
-        Body::Task(_) => push_word(out, b"task"),
-        Body::Sched(g) => push_pair(out, b"sched", u64::from(g.0)),
+        Body::Ult(_) => Role::Ult,
+        Body::Task(_) => Role::Task,
+        Body::Sched(_) => Role::Sched,
     }
 }
 
-// Appends where a unit starts, with a space before each word.
-fn push_start(out: &mut Vec<u8>, start: Option<PoolNo>) -> Result<(), Want>
-    ensures { OnOk result (out.new.items ≡ out.old.items ++ spaced (start_words start)) }
+// Appends the line of unit u.
+fn push_header(out: &mut Vec<u8>, u: u32, part: &UnitPart) -> Result<(), Want>
+    ensures { OnOk result (out.new.items ≡ out.old.items ++ ended (line_of (unit_header u part.now))) }
 {
-    match start {
-        None => push_word(out, b"later"),
-        Some(p) => push_pair(out, b"at", u64::from(p.0)),
+    let line = Form::Unit(role_of(&part.body), part.start);
+    let u = u64::from(u);
+    match (&part.body, part.start) {
+        (Body::Sched(g), Some(p)) => push_line(
+            out,
+            line,
+            b"",
+            &[u, u64::from(g.0), u64::from(p.0)],
+        ),
+        (Body::Sched(g), None) => push_line(out, line, b"", &[u, u64::from(g.0)]),
+        (Body::Ult(_) | Body::Task(_), Some(p)) => push_line(out, line, b"", &[u, u64::from(p.0)]),
+        (Body::Ult(_) | Body::Task(_), None) => push_line(out, line, b"", &[u]),
     }
 }
 
@@ -404,10 +346,7 @@ fn push_unit(out: &mut Vec<u8>, w: &Workload, u: u32, part: &UnitPart) -> Result
     requires { All (IsDeclared w.now) (ops_of part.now.body) }
     ensures { OnOk result (out.new.items ≡ out.old.items ++ text_of (unit_lines w.now u part.now)) }
 {
-    begin_line(out, b"unit", u64::from(u))?;
-    push_body(out, &part.body)?;
-    push_start(out, part.start)?;
-    end_line(out)?;
+    push_header(out, u, part)?;
     push_ops(out, w, part.body.ops())
 }
 
@@ -466,12 +405,12 @@ pub fn write(alloc: Global, w: &Workload) -> Result<Vec<u8>, Want>
     let mut out = Vec::new(alloc);
     push_head(&mut out, w.streams(), w.keys())?;
     push_pools(&mut out, w)?;
-    push_scheds(&mut out, w)?;
+    push_scheds(&mut out, alloc, w)?;
     push_streams(&mut out, w)?;
     push_objects(&mut out, w)?;
-    push_one(&mut out, b"units", u64::from(w.units()))?;
+    push_line(&mut out, Form::Units, b"", &[u64::from(w.units())])?;
     push_units(&mut out, w)?;
-    push_bare(&mut out, b"end")?;
+    push_line(&mut out, Form::End, b"", &[])?;
     settle(w, &mut out);
     Ok(out)
 }

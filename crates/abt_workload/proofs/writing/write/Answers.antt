@@ -4,11 +4,11 @@ use Rattle.abt_workload.proofs.writing.write.Goals as goal
 
 pub settle-requires : goal.settle-requires
 settle-requires c =
-    written c.args.w.now c.push_head.new.out.items c.push_pools.new.out.items c.push_scheds.new.out.items c.push_streams.new.out.items c.push_objects.new.out.items c.push_one.new.out.items c.push_units.new.out.items c.push_bare.new.out.items
+    written c.args.w.now c.push_head.new.out.items c.push_pools.new.out.items c.push_scheds.new.out.items c.push_streams.new.out.items c.push_objects.new.out.items c.push_line.new.out.items c.push_units.new.out.items c.push_line-2.new.out.items
     (rw (c.streams.ensures.count, c.keys.ensures, c.new-out.ensures.items) at c.in_ok-push_head.ensures)
     c.in_ok-push_pools.ensures c.in_ok-push_scheds.ensures c.in_ok-push_streams.ensures c.in_ok-push_objects.ensures
-    (rw (c.from.ensures, c.units.ensures) at c.in_ok-push_one.ensures)
-    c.in_ok-push_units.ensures c.in_ok-push_bare.ensures
+    (rw (c.from.ensures, c.units.ensures) at c.in_ok-push_line.ensures)
+    c.in_ok-push_units.ensures c.in_ok-push_line-2.ensures
 
 pub returns : goal.returns
 returns c = record {
