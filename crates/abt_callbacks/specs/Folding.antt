@@ -4,9 +4,13 @@ use Rattle.std.specs.List.{All}
 use Rattle.abt_callbacks.specs.declared.fold.FoldShape.{FoldShape}
 use Rattle.abt_callbacks.specs.declared.fold.FoldShape.TheVariants.{Sum, Most, First, Last, Free}
 
--- the list may be folded: it has 1 to 4,096 numbers, each below 2^64
+-- how many numbers are folded at most
+abbrev pub number_limit : ℕ
+number_limit = 4096
+
+-- the list may be folded: it has a number, and not too many, each below 2^64
 abbrev pub IsFoldable : List ℕ → Type 0
-IsFoldable list = (1 ≤ length list) × (length list ≤ 4096) × All (λ x. x < 2 ^ 64) list
+IsFoldable list = (1 ≤ length list) × (length list ≤ number_limit) × All (λ x. x < 2 ^ 64) list
 
 -- the greatest number, 0 of an empty list
 abbrev pub greatest : List ℕ → ℕ

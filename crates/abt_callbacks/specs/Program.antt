@@ -3,6 +3,7 @@ use Rattle.std.specs.Prelude.{◌≡◌, ◌≢◌, ℕ, List, [], ◌∷◌, �
 use Rattle.abt_machine.specs.Spelling.{SaysNumber}
 use Rattle.abt_machine.specs.Words.{Text, ended}
 use Rattle.abt_source.specs.Source.{Rose, Took, TookPrefix}
+use Rattle.abt_callbacks.specs.Folding.{number_limit}
 use Rattle.abt_callbacks.specs.Runs.{plain_sum}
 use Rattle.abt_callbacks.specs.declared.status.Status.{Status}
 use Rattle.abt_callbacks.specs.declared.status.Status.TheVariants.{Written, BadWords, CannotWrite, OutOfMemory}
@@ -13,13 +14,17 @@ pub record Call : Type 0 where
   pub out : Option Text × Option Text
   pub faults : ℕ × ℕ
 
--- the words ask for so many workers and numbers: they are two, digits of a value from 1 to 8 and of one from 1 to 4,096
+-- how many workers the words ask for at most
+abbrev pub worker_limit : ℕ
+worker_limit = 8
+
+-- the words ask for so many workers and numbers: they are two, digits of values from 1 to the most workers and the most numbers
 pub record Asks (words : List Text) (workers n : ℕ) : Type 0 where
   pub first : Text
   pub second : Text
   pub two : words ≡ first ∷ second ∷ []
-  pub says_workers : SaysNumber 8 first workers
-  pub says_numbers : SaysNumber 4096 second n
+  pub says_workers : SaysNumber worker_limit first workers
+  pub says_numbers : SaysNumber number_limit second n
 
 -- they ask for nothing
 abbrev pub AsksNothing : List Text → Type 0

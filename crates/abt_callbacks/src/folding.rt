@@ -5,6 +5,7 @@ ghost use Rattle.std.specs.List.{All};
 ghost use Rattle.abt_booth.specs.Seats.{number_of, seen_of, IsSeatOf, AreInOrder};
 ghost use Rattle.booth_caller.specs.Calling.{AsksMore};
 ghost use Rattle.abt_callbacks.specs.declared.fold.FoldShape.TheVariants as shape;
+ghost use Rattle.abt_callbacks.specs.Folding.{number_limit};
 ghost use Rattle.abt_callbacks.specs.Runs.{IsFolded, sets_of};
 ghost use Rattle.abt_callbacks.specs.Seen.{future_of};
 
@@ -30,7 +31,7 @@ pub fn fold_on_threads<R: Threads + Wait + Sync, F: Fold + Send + Drop>(
     fold: F,
 ) -> Result<Closed<CalledFuture<F>>, Want>
     requires workers { 1 ≤ workers }
-    requires numbers { (1 ≤ n) × (n ≤ 4096) }
+    requires numbers { (1 ≤ n) × (n ≤ number_limit) }
     requires fold { F.shape fold ≡ shape.Sum }
     ensures { IfOk result (λ closed. IsFolded workers n (future_of F.shape closed.object) closed.clock) }
 {

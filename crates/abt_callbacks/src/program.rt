@@ -3,6 +3,7 @@
 ghost use Rattle.std.specs.Prelude.{◌≡◌, ◌≤◌, ℕ, IfOk, MatchOption, map, string_bytes};
 ghost use Rattle.abt_machine.specs.Spelling.{SaysNumber};
 ghost use Rattle.abt_callbacks.specs.declared.fold.FoldShape.TheVariants as shape;
+ghost use Rattle.abt_callbacks.specs.Folding.{number_limit};
 ghost use Rattle.abt_callbacks.specs.Program.{Asks, AsksNothing, Holds, IsAnswered, sum_line};
 
 use crate::fold::Fold;
@@ -102,7 +103,7 @@ fn line<R: Threads + Wait + Sync, F: Fold + Send + Drop>(
     fold: F,
 ) -> Result<Vec<u8>, Want>
     requires workers { 1 ≤ workers }
-    requires numbers { (1 ≤ n) × (n ≤ 4096) }
+    requires numbers { (1 ≤ n) × (n ≤ number_limit) }
     requires fold { F.shape fold ≡ shape.Sum }
     ensures { IfOk result (λ text. text.items ≡ sum_line n) }
 {

@@ -1,6 +1,7 @@
 //! Setting the values of a future, reading its answer, and starting it anew.
 
 ghost use Rattle.std.specs.Prelude.{◌≡◌, ◌<◌, ◌≤◌, ◌↔◌, length, IfOk, None};
+ghost use Rattle.abt_callbacks.specs.Folding.{number_limit};
 ghost use Rattle.abt_callbacks.specs.Futures.{SetGives, empty};
 ghost use Rattle.abt_callbacks.specs.Seen.{future_of};
 
@@ -14,7 +15,7 @@ impl<F: Fold> CalledFuture<F> {
     pub fn new(alloc: Global, n: u32, fold: F) -> Result<CalledFuture<F>, Want>
     where
         F: Drop,
-        requires { (1 ≤ n) × (n ≤ 4096) }
+        requires { (1 ≤ n) × (n ≤ number_limit) }
         ensures { IfOk result (λ f. future_of F.shape f ≡ empty (F.shape fold) n) }
     {
         let values = Vec::with_capacity(alloc, n as usize)?;

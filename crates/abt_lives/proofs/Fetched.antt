@@ -1,5 +1,5 @@
 -- A file of which a prefix was read that is short enough was read whole; one that is longer has too many bytes.
-use Rattle.std.proofs.Common.{◌≡◌, ◌<◌, ◌≤◌, ℕ, List, length, take, Option, inl, inr, subst, sym, refl}
+use Rattle.std.proofs.Common.{◌≡◌, ◌<◌, ◌≤◌, ◌+◌, ℕ, List, length, take, Option, inl, inr, subst, sym, refl}
 use Rattle.std.specs.Prelude.{IfSome}
 use Rattle.abt_machine.specs.declared.workload.Parts.{Parts}
 use Rattle.abt_machine.specs.Words.{Text}
@@ -9,19 +9,19 @@ use Rattle.abt_streams.specs.declared.not_lives.NotLives.{NotLives}
 use Rattle.abt_streams.specs.declared.not_lives.NotLives.TheVariants as cause
 use Rattle.abt_streams.specs.Lives.{AreLives}
 use Rattle.abt_streams.specs.Texts.{IsCause, lives_text}
-use Rattle.abt_lives.specs.Lives.{ReadsLives, RefusesLives}
+use Rattle.abt_lives.specs.Lives.{lives_limit, ReadsLives, RefusesLives}
 
 -- what is seen of the file reads as the prefix does
-pub seen-reads : (W : Parts) (seen : Option Text) (front : Text) (lives : List Life) → IfSome seen (λ xs. front ≡ take 65537 xs) → length front ≤ 65536 → AreLives W lives → lives_text lives ≡ front → IfSome seen (λ xs. ReadsLives W xs lives)
-seen-reads W seen front lives e short are text = of-whole 65536 (λ bytes. ReadsLives W bytes lives) seen front e short (record { few = short; are = are; text = text })
+pub seen-reads : (W : Parts) (seen : Option Text) (front : Text) (lives : List Life) → IfSome seen (λ xs. front ≡ take (lives_limit + 1) xs) → length front ≤ lives_limit → AreLives W lives → lives_text lives ≡ front → IfSome seen (λ xs. ReadsLives W xs lives)
+seen-reads W seen front lives e short are text = of-whole lives_limit (λ bytes. ReadsLives W bytes lives) seen front e short (record { few = short; are = are; text = text })
 
 -- and is refused as the prefix is
-pub seen-refuses : (W : Parts) (seen : Option Text) (front : Text) (c : NotLives) (line l : ℕ) → IfSome seen (λ xs. front ≡ take 65537 xs) → length front ≤ 65536 → c ≡ cause.Bad line → l ≡ line → IsCause W front c →
+pub seen-refuses : (W : Parts) (seen : Option Text) (front : Text) (c : NotLives) (line l : ℕ) → IfSome seen (λ xs. front ≡ take (lives_limit + 1) xs) → length front ≤ lives_limit → c ≡ cause.Bad line → l ≡ line → IsCause W front c →
     IfSome seen (λ xs. RefusesLives W xs l)
 seen-refuses W seen front c line l e short is same why =
     let known : IsCause W front (cause.Bad line) = subst (IsCause W front) is why in
-    subst (λ k. IfSome seen (λ xs. RefusesLives W xs k)) (sym same) (of-whole 65536 (λ bytes. RefusesLives W bytes line) seen front e short (inr (short, known.0, known.1)))
+    subst (λ k. IfSome seen (λ xs. RefusesLives W xs k)) (sym same) (of-whole lives_limit (λ bytes. RefusesLives W bytes line) seen front e short (inr (short, known.0, known.1)))
 
 -- a longer one is refused for its length
-pub seen-long : (W : Parts) (seen : Option Text) (front : Text) → IfSome seen (λ xs. front ≡ take 65537 xs) → 65536 < length front → IfSome seen (λ xs. RefusesLives W xs 0)
-seen-long W seen front e long = of-long 65536 (λ bytes. RefusesLives W bytes 0) seen front e long (λ xs many. inl (many, refl))
+pub seen-long : (W : Parts) (seen : Option Text) (front : Text) → IfSome seen (λ xs. front ≡ take (lives_limit + 1) xs) → lives_limit < length front → IfSome seen (λ xs. RefusesLives W xs 0)
+seen-long W seen front e long = of-long lives_limit (λ bytes. RefusesLives W bytes 0) seen front e long (λ xs many. inl (many, refl))

@@ -1,5 +1,5 @@
 -- What the text of lives is, and what is written of waves.
-use Rattle.std.specs.Prelude.{ℕ, ◌≡◌, ◌<◌, ◌≤◌, ◌⊎◌, List, [], ◌∷◌, ◌++◌, codes, decimal, length, map}
+use Rattle.std.specs.Prelude.{ℕ, ◌≡◌, ◌<◌, ◌≤◌, ◌⊎◌, List, ◌∷◌, codes, decimal, length, map}
 use Rattle.abt_machine.specs.declared.workload.Parts.{Parts}
 use Rattle.abt_machine.specs.Words.{Text, numbered, text_of}
 use Rattle.abt_streams.specs.declared.life.Life.{Life}
@@ -7,15 +7,19 @@ use Rattle.abt_streams.specs.declared.wave.Wave.{Wave}
 use Rattle.abt_streams.specs.Lives.{AreLives}
 use Rattle.abt_streams.specs.Texts.{IsBadAt, IsNoLivesText, lives_text}
 
+-- how many bytes the text of lives has at most
+abbrev pub lives_limit : ℕ
+lives_limit = 65536
+
 -- the bytes, which are few enough, are the text of these lives of streams of W
 pub record ReadsLives (W : Parts) (bytes : Text) (lives : List Life) : Type 0 where
-  pub few : length bytes ≤ 65536
+  pub few : length bytes ≤ lives_limit
   pub are : AreLives W lives
   pub text : lives_text lives ≡ bytes
 
 -- why the bytes are not: they are too many, which line 0 stands for, or line l is the first that breaks a rule
 abbrev pub RefusesLives : Parts → Text → ℕ → Type 0
-RefusesLives W bytes l = ((65536 < length bytes) × (l ≡ 0)) ⊎ ((length bytes ≤ 65536) × IsBadAt W bytes l × IsNoLivesText W bytes)
+RefusesLives W bytes l = ((lives_limit < length bytes) × (l ≡ 0)) ⊎ ((length bytes ≤ lives_limit) × IsBadAt W bytes l × IsNoLivesText W bytes)
 
 -- what is written of wave i
 abbrev pub wave_words : ℕ → Wave → List Text
