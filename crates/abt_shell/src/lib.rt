@@ -6,5 +6,5 @@ mod process;
 mod writing;
 
 pub use ending::{Ending, Said};
-pub use process::{Program, run_program};
+pub use process::{Program, run_program, words_of};
 pub use writing::{stop_by, tell, write_out};

@@ -1,5 +1,6 @@
 //! A program over the files and sinks of the process, and the two stored orders.
 
+ghost use denote.Param.Send.{IsSync};
 ghost use Rattle.std.specs.Prelude.{◌≡◌, ◌<◌, ◌≤◌, ◌+◌, ◌-◌, ◌%◌, length};
 
 use crate::ending::Ending;
@@ -29,6 +30,7 @@ pub trait Program {
         err: &mut E,
         orders: &[StoredOrder],
     ) -> Ended
+        requires shared { IsSync R.row }
         requires orders { 2 ≤ length orders.now };
 }
 
@@ -50,8 +52,8 @@ fn turn_round(round: u64, n: u32, i: u32) -> u32
     mirror(round, n, i)
 }
 
-// The words after the program's name.
-fn words_of<R: Runtime>(rt: &R, alloc: Global) -> io::Result<Vec<String<R::A>>> {
+/// The words after the program's name.
+pub fn words_of<R: Runtime>(rt: &R, alloc: Global) -> io::Result<Vec<String<R::A>>> {
     let mut words = Vec::new(alloc);
     for word in env::args(rt)?.skip(1) {
         words.push(word)?;

@@ -2,20 +2,10 @@
 #![tactic(auto)]
 
 use abt_callbacks::{PlainSum, abtfold};
+use abt_shell::words_of;
 use abt_source::RealSink;
-use std::alloc::Global;
+use std::io;
 use std::process::ExitCode;
-use std::rt::Runtime;
-use std::{env, io};
-
-// The words after the program's name.
-fn words_of<R: Runtime>(rt: &R, alloc: Global) -> io::Result<Vec<String<R::A>>> {
-    let mut words = Vec::new(alloc);
-    for word in env::args(rt)?.skip(1) {
-        words.push(word)?;
-    }
-    Ok(words)
-}
 
 fn main(rt: HostRuntime) -> ExitCode {
     let alloc = rt.alloc();

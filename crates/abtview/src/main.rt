@@ -1,21 +1,11 @@
 //! The command `abtview`: draws the journal of a run as an svg, or lists it as a trace.
 #![tactic(auto)]
 
+use abt_shell::words_of;
 use abt_source::{RealFiles, RealSink, write_whole};
 use abt_view::{Status, abtview};
-use std::alloc::Global;
+use std::io;
 use std::process::ExitCode;
-use std::rt::Runtime;
-use std::{env, io};
-
-// The words after the program's name.
-fn words_of<R: Runtime>(rt: &R, alloc: Global) -> io::Result<Vec<String<R::A>>> {
-    let mut words = Vec::new(alloc);
-    for word in env::args(rt)?.skip(1) {
-        words.push(word)?;
-    }
-    Ok(words)
-}
 
 fn main(rt: HostRuntime) -> ExitCode {
     let alloc = rt.alloc();
