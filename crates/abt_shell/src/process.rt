@@ -1,12 +1,12 @@
 //! A program over the files and sinks of the process, and the two stored orders.
 
 ghost use denote.Param.Send.{IsSync};
-ghost use Rattle.std.specs.Prelude.{◌≡◌, ◌<◌, ◌≤◌, ◌+◌, ◌-◌, ◌%◌, length};
+ghost use Rattle.std.specs.Prelude.{◌≤◌, length};
 
 use crate::ending::Ending;
 use crate::writing::stop_by;
-use abt_machine::{Ended, OrderShape};
-use abt_order::{StoredOrder, mirror, rotate};
+use abt_machine::Ended;
+use abt_order::StoredOrder;
 use abt_source::{Files, RealFiles, RealSink, Sink};
 use std::alloc::Global;
 use std::process::ExitCode;
@@ -32,24 +32,6 @@ pub trait Program {
     ) -> Ended
         requires shared { IsSync R.row }
         requires orders { 2 ≤ length orders.now };
-}
-
-// The answer of shape Rotate. A value may be made of a function of this crate alone.
-fn turn(round: u64, n: u32, i: u32) -> u32
-    requires count { (0 < n) × (n ≤ 8) }
-    requires place { i < n }
-    ensures { result ≡ (round + i) % n }
-{
-    rotate(round, n, i)
-}
-
-// The answer of shape Mirror.
-fn turn_round(round: u64, n: u32, i: u32) -> u32
-    requires count { (0 < n) × (n ≤ 8) }
-    requires place { i < n }
-    ensures { result ≡ n - 1 - i }
-{
-    mirror(round, n, i)
 }
 
 /// The words after the program's name.
@@ -80,14 +62,7 @@ pub fn run_program<P: Program, R: Runtime + AllocGlobal + Threads + Wait + Sync>
             return ExitCode::from(stop_by(alloc, &mut err, status).number());
         }
     };
-    let (Ok(rotation), Ok(mirroring)) = (Box::new(alloc, turn), Box::new(alloc, turn_round)) else {
-        let (status, _) = P::Status::out_of_memory();
-        return ExitCode::from(stop_by(alloc, &mut err, status).number());
-    };
-    let orders = [
-        StoredOrder::new(OrderShape::Rotate, rotation),
-        StoredOrder::new(OrderShape::Mirror, mirroring),
-    ];
+    let orders = [StoredOrder::rotating(), StoredOrder::mirroring()];
     let ended = P::call(rt, alloc, &words, &mut files, &mut out, &mut err, &orders);
     ExitCode::from(ended.status)
 }
