@@ -1,7 +1,7 @@
 -- What each part of the code makes of a stream is a step of it.
-use Rattle.std.proofs.Common.{◌≡◌, ◌≢◌, ◌∙◌, ℕ, ◌<◌, Bool, true, false, List, [], ◌∷◌, Option, None, Some, Result, ap, length, option_map, refl, subst, sym}
+use Rattle.std.proofs.Common.{◌≡◌, ◌∙◌, ℕ, ◌<◌, Bool, true, false, List, [], ◌∷◌, Option, None, Some, ap, length, option_map, refl, subst, sym}
 use Rattle.std.proofs.lemmas.List.Elements.{All-contains}
-use Rattle.std.specs.Prelude.{IfOk, IfSome, if◌then◌else◌, nat_lt}
+use Rattle.std.specs.Prelude.{IfSome, if◌then◌else◌, nat_lt}
 use Rattle.abt_machine.specs.declared.events.Cause.TheVariants as cause
 use Rattle.abt_machine.specs.declared.events.Site.TheVariants as site
 use Rattle.abt_machine.specs.declared.events.What.{What}
@@ -15,7 +15,7 @@ use Rattle.abt_machine.specs.declared.workload.Parts.{Parts}
 use Rattle.abt_machine.specs.Access.{may_take_all}
 use Rattle.abt_machine.specs.Acts.{Answer}
 use Rattle.abt_machine.specs.Acts as act
-use Rattle.abt_machine.specs.Next.{Due, EndDue, EnterDue, LeaveDue, LookDue, PutDue, RoundDue, StepDue, due_by, due_of_frames, due_of_unit}
+use Rattle.abt_machine.specs.Next.{Due, EndDue, EnterDue, LookDue, PutDue, RoundDue, StepDue, due_by, due_of_unit}
 use Rattle.abt_machine.specs.Numbers.{pool_no, unit_no}
 use Rattle.abt_machine.specs.Queues.{first}
 use Rattle.abt_machine.specs.Rounds.{IsNextPool}
@@ -24,15 +24,13 @@ use Rattle.abt_machine.specs.Turns.{Heard, Steps, due_of, looked, number_and_pos
 use Rattle.abt_machine.specs.Values.{Held, Object, Owned}
 use Rattle.abt_machine.specs.Valid.{IsValid}
 use Rattle.abt_machine.specs.Workloads.{body_at, pools_of}
-use Rattle.abt_machine.specs.declared.program.Want.{Want}
-use Rattle.abt_machine.proofs.Declared.{listed-declared}
 use Rattle.abt_laws.proofs.Orders.{next_pool-listed}
 use Rattle.abt_bounds.specs.Laws.{visited}
 use Rattle.abt_calls.specs.Allowed.{Allows}
 use Rattle.abt_calls.specs.Suits.{Suits}
 use Rattle.abt_calls.proofs.Asked.{takes-may-call}
 use Rattle.abt_calls.proofs.Suited.{answers-suit}
-use Rattle.abt_replay.specs.Events.{AreObjects, Leaves, Looks, Moves, Visits, Woken, in_hand}
+use Rattle.abt_replay.specs.Events.{AreObjects, Looks, Moves, Visits, Woken, in_hand}
 use Rattle.abt_replay.specs.Objects.{ObjectsValue, object_at}
 use Rattle.abt_check.specs.Turns.{IsOfWorkload, MovesAs}
 
@@ -90,30 +88,6 @@ module _ (W : Parts) (s : ℕ) (held : Held) where
   hand-due o tray next hand =
       ap (λ (t : List Owned). due_for W s held t held.next held.hand) tray ∙ (ap (λ (n : Option Owned). due_for W s held [] n held.hand) next ∙ ap (λ (h : Option Owned). due_for W s held [] None h) hand)
 
-  idle-due : held.tray ≡ [] → held.next ≡ None → held.hand ≡ None → due_of W s held ≡ due_of_frames held.own.top.empty held.own.below
-  idle-due tray next hand =
-      ap (λ (t : List Owned). due_for W s held t held.next held.hand) tray ∙ (ap (λ (n : Option Owned). due_for W s held [] n held.hand) next ∙ ap (λ (h : Option Owned). due_for W s held [] None h) hand)
-
-  leave-by : (b : Bool) (fs : List Frame) → b ≡ true → fs ≢ [] → due_of_frames b fs ≡ LeaveDue
-  leave-by true [] on some = absurd (some refl)
-  leave-by true (f ∷ fs) on some = refl
-  leave-by false fs on some = cc
-
-  leave-due : held.tray ≡ [] → held.next ≡ None → held.hand ≡ None → held.own.top.empty ≡ true → held.own.below ≢ [] → due_of W s held ≡ LeaveDue
-  leave-due tray next hand empty some = idle-due tray next hand ∙ leave-by held.own.top.empty held.own.below empty some
-
-  -- a round is due if the last one did not end empty, and on the lowest frame
-  pub round-due : held.tray ≡ [] → held.next ≡ None → held.hand ≡ None → held.own.top.empty ≡ false → due_of W s held ≡ RoundDue
-  round-due tray next hand going = idle-due tray next hand ∙ ap (λ (b : Bool). due_of_frames b held.own.below) going
-
-  lowest-by : (b : Bool) (fs : List Frame) → (fs ≢ [] → ⊥) → due_of_frames b fs ≡ RoundDue
-  lowest-by true [] none = refl
-  lowest-by true (f ∷ fs) none = absurd (none (λ e. cc))
-  lowest-by false fs none = refl
-
-  pub lowest-due : held.tray ≡ [] → held.next ≡ None → held.hand ≡ None → (held.own.below ≢ [] → ⊥) → due_of W s held ≡ RoundDue
-  lowest-due tray next hand none = idle-due tray next hand ∙ lowest-by held.own.top.empty held.own.below none
-
 -- Steps.
 
 put-rested : (o : Owned) (a : Answer) → Suits (act.Put o) a → a ≡ act.Rested
@@ -156,12 +130,6 @@ module _ (W : Parts) (Z : List OrderShape) (s : ℕ) (old : Held) (before : Obje
       no-round (due_of_unit W s old.own.mark (body_at W o.number) o.carried.position) (hand-due W s old o tray next hand) (no-round-of-unit W s old.own.mark (body_at W o.number) o.carried.position)
       (subst (λ (held : Held). Moves W Z s held before made new after) same moves)
 
-  pub leave_moves : old.tray ≡ [] → old.next ≡ None → old.hand ≡ None → old.own.top.empty ≡ true → old.own.below ≢ [] → after ≡ before → Leaves old made new → MovesAs W Z s old before named (Some made) new after
-  leave_moves tray next hand empty some stays h =
-      let due : due_of W s old ≡ LeaveDue = leave-due W s old tray next hand empty some in
-      no-round LeaveDue due (λ e. cc)
-      (None, subst (λ (w : What). Steps W Z s old w None new) (sym h.made_is) (due, h.unit, new.framed, h.framed, refl, refl, h.new_is), stays)
-
 -- a round at a pool that may be next
 pub visit_moves : (W : Parts) (Z : List OrderShape) (s : ℕ) (old : Held) (before : ObjectsValue) (named : What) (p : PoolNo) (made : What) (new : Held) (after : ObjectsValue) → due_of W s old ≡ RoundDue
     → IsNextPool W Z old.own.top p.0 → visited named ≡ Some p.0 → Visits W s old before p made new after → MovesAs W Z s old before named (Some made) new after
@@ -175,23 +143,9 @@ visit_moves W Z s old before named p (what.Take q u) new after due next is h =
     (subst (λ (x : PoolNo). Moves W Z s old before (what.Take x u) new after) (sym h.0) (heard, (due, next, h.1, sym (ap (λ (v : UnitNo). v.0) h.2), refl, h.4), h.3), λ r. ap (λ n. Some n) same ∙ sym is)
 visit_moves W Z s old before named p made new after due next is h = absurd h
 
--- no pool that may be next
-pub no_visit : (W : Parts) (Z : List OrderShape) (s : ℕ) (old : Held) (before : ObjectsValue) (named : What) (new : Held) (after : ObjectsValue) → due_of W s old ≡ RoundDue
-    → ((p : ℕ) → visited named ≡ Some p → IsNextPool W Z old.own.top p → ⊥) → MovesAs W Z s old before named None new after
-no_visit W Z s old before named new after due none = (due, none)
-
--- A stream from which nothing was taken is as it was.
-
+-- a stream from which nothing was taken is as it was
 pub with_no_next : (old taken : Held) → taken ≡ record old { next = None } → old.next ≡ None → taken ≡ old
 with_no_next old taken rest none = rest ∙ ap (λ (n : Option Owned). record old { next = n }) (sym none)
-
-pub with_no_hand : (old taken : Held) → taken ≡ record old { hand = None } → old.hand ≡ None → taken ≡ old
-with_no_hand old taken rest none = rest ∙ ap (λ (h : Option Owned). record old { hand = h }) (sym none)
-
--- so what it makes then is what it makes
-pub from_same : (W : Parts) (Z : List OrderShape) (s : ℕ) (old taken : Held) (before : ObjectsValue) (named : What) (made : Result (Option What) Want) (new : Held) (after : ObjectsValue) → taken ≡ old
-    → IfOk made (λ m. MovesAs W Z s taken before named m new after) → IfOk made (λ m. MovesAs W Z s old before named m new after)
-from_same W Z s old taken before named made new after same h = subst (λ (held : Held). IfOk made (λ m. MovesAs W Z s held before named m new after)) same h
 
 -- the pools of a round
 pub next-declared : (W : Parts) (Z : List OrderShape) (f : Frame) (p : ℕ) → IsValid W → IsNextPool W Z f p → p < length W.pools

@@ -29,87 +29,18 @@ pub(crate) fn move_as(
     requires objects { AreObjects w.now objects.old }
     ensures { IfOk result (λ made. MovesAs w.now z.now s.0 lane.old objects.old named made lane.new objects.new) }
 {
-    match lane.take_from_tray() {
-        Some(unit) => {
-            let made = Lane::put(objects, unit)?;
-            Ok(Some(made))
-        }
-        None => past_tray(lane, objects, w, z, s, named),
+    if let Some(unit) = lane.take_from_tray() {
+        let made = Lane::put(objects, unit)?;
+        return Ok(Some(made));
     }
-}
-
-// The same if the tray is empty.
-fn past_tray(
-    lane: &mut Lane,
-    objects: &mut Objects,
-    w: &Workload,
-    z: &[OrderShape],
-    s: StreamNo,
-    named: What,
-) -> Result<Option<What>, Want>
-    requires valid { IsValid w.now }
-    requires stored { OrdersStored w.now z.now }
-    requires stream { s.0 < w.now.streams }
-    requires lane { CanMove w.now z.now lane.old }
-    requires objects { AreObjects w.now objects.old }
-    requires tray { lane.old.tray ≡ [] }
-    ensures { IfOk result (λ made. MovesAs w.now z.now s.0 lane.old objects.old named made lane.new objects.new) }
-{
-    match lane.take_next() {
-        Some(unit) => {
-            let made = lane.look(objects, unit)?;
-            Ok(Some(made))
-        }
-        None => past_next(lane, objects, w, z, s, named),
+    if let Some(unit) = lane.take_next() {
+        let made = lane.look(objects, unit)?;
+        return Ok(Some(made));
     }
-}
-
-// The same if besides no taken unit is to be looked at.
-fn past_next(
-    lane: &mut Lane,
-    objects: &mut Objects,
-    w: &Workload,
-    z: &[OrderShape],
-    s: StreamNo,
-    named: What,
-) -> Result<Option<What>, Want>
-    requires valid { IsValid w.now }
-    requires stored { OrdersStored w.now z.now }
-    requires stream { s.0 < w.now.streams }
-    requires lane { CanMove w.now z.now lane.old }
-    requires objects { AreObjects w.now objects.old }
-    requires tray { lane.old.tray ≡ [] }
-    requires next { lane.old.next ≡ None }
-    ensures { IfOk result (λ made. MovesAs w.now z.now s.0 lane.old objects.old named made lane.new objects.new) }
-{
-    match lane.take_hand() {
-        Some(unit) => {
-            let made = lane.run(objects, w, s, unit)?;
-            Ok(Some(made))
-        }
-        None => past_hand(lane, objects, w, z, s, named),
+    if let Some(unit) = lane.take_hand() {
+        let made = lane.run(objects, w, s, unit)?;
+        return Ok(Some(made));
     }
-}
-
-// The same if the stream holds no unit: it leaves its top frame, or goes on with a round.
-fn past_hand(
-    lane: &mut Lane,
-    objects: &mut Objects,
-    w: &Workload,
-    z: &[OrderShape],
-    s: StreamNo,
-    named: What,
-) -> Result<Option<What>, Want>
-    requires valid { IsValid w.now }
-    requires stored { OrdersStored w.now z.now }
-    requires stream { s.0 < w.now.streams }
-    requires lane { CanMove w.now z.now lane.old }
-    requires objects { AreObjects w.now objects.old }
-    requires tray { lane.old.tray ≡ [] }
-    requires next { lane.old.next ≡ None }
-    requires hand { lane.old.hand ≡ None }
-    ensures { IfOk result (λ made. MovesAs w.now z.now s.0 lane.old objects.old named made lane.new objects.new) }
-{
     if !lane.top().empty {
         return go_round(lane, objects, w, z, s, named);
     }

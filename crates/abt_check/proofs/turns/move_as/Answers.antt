@@ -1,5 +1,7 @@
+use Rattle.std.proofs.Common.{◌≡◌, ◌∙◌, None, ap, sym}
+use Rattle.abt_machine.specs.Values.{Held}
 use Rattle.abt_check.specs.Turns.{IsOfWorkload}
-use Rattle.abt_check.proofs.Moving.{first-of, from_same, put_allowed, put_moves}
+use Rattle.abt_check.proofs.Moving.{first-of, look_allowed, look_moves, put_allowed, put_moves, run_moves, some-of, with_no_next}
 use Rattle.abt_check.proofs.turns.move_as.Goals as goal
 
 pub put-requires : goal.put-requires
@@ -7,10 +9,27 @@ put-requires c =
     let of : IsOfWorkload c.args.w.now c.in-Some.unit = first-of c.args.w.now c.args.lane.now.tray c.take_from_tray.new.self.tray c.in-Some.unit c.in-Some.ensures.first c.requires.lane.tray in
     put_allowed c.args.w.now c.args.objects.now c.in-Some.unit c.requires.objects of.home
 
-pub returns-in_ok-made-in-Some : goal.returns-in_ok-made-in-Some
-returns-in_ok-made-in-Some c =
-    put_moves c.args.w.now c.args.z.now c.args.s.0 c.args.lane.now c.args.objects.now c.args.named c.in_ok-made-in-Some.made c.take_from_tray.new.self c.put.new.objects c.in-Some.unit c.in-Some.ensures.first c.in-Some.ensures.others c.in_ok-made-in-Some.ensures
+pub returns-in-Some : goal.returns-in-Some
+returns-in-Some c =
+    put_moves c.args.w.now c.args.z.now c.args.s.0 c.args.lane.now c.args.objects.now c.args.named c.in_ok-made.made c.take_from_tray.new.self c.put.new.objects c.in-Some.unit c.in-Some.ensures.first c.in-Some.ensures.others c.in_ok-made.ensures
 
-pub returns-in-None : goal.returns-in-None
-returns-in-None c =
-    from_same c.args.w.now c.args.z.now c.args.s.0 c.args.lane.now c.take_from_tray.new.self c.args.objects.now c.args.named c.past_tray.result c.past_tray.new.lane c.past_tray.new.objects c.in-None.ensures.none.1 c.past_tray.ensures
+pub look-requires-clause-allowed : goal.look-requires-clause-allowed
+look-requires-clause-allowed c =
+    let same : c.take_from_tray.new.self ≡ c.args.lane.now = c.in_default.ensures.none.1 in
+    let next = ap (λ (held : Held). held.next) (sym same) ∙ (sym c.take_next.ensures.next ∙ c.in-Some-take_next.is) in
+    let of : IsOfWorkload c.args.w.now c.in-Some-take_next.unit = some-of c.args.w.now c.args.lane.now.next c.in-Some-take_next.unit next c.requires.lane.next in
+    look_allowed c.args.w.now c.args.objects.now c.in-Some-take_next.unit c.requires.objects of.number
+
+pub returns-in-Some-take_next : goal.returns-in-Some-take_next
+returns-in-Some-take_next c =
+    let same : c.take_from_tray.new.self ≡ c.args.lane.now = c.in_default.ensures.none.1 in
+    look_moves c.args.w.now c.args.z.now c.args.s.0 c.args.lane.now c.args.objects.now c.args.named c.in_ok-made-2.made c.look.new.self c.look.new.objects c.in-Some-take_next.unit c.take_next.new.self c.in_default.ensures.none.0
+    (ap (λ (held : Held). held.next) (sym same) ∙ (sym c.take_next.ensures.next ∙ c.in-Some-take_next.is)) (c.take_next.ensures.others ∙ ap (λ (held : Held). record held { next = None }) same) c.in_ok-made-2.ensures
+
+pub returns-in-Some-take_hand : goal.returns-in-Some-take_hand
+returns-in-Some-take_hand c =
+    let first : c.take_from_tray.new.self ≡ c.args.lane.now = c.in_default.ensures.none.1 in
+    let next : c.args.lane.now.next ≡ None = ap (λ (held : Held). held.next) (sym first) ∙ (sym c.take_next.ensures.next ∙ c.in_default-take_next.is) in
+    let same : c.take_next.new.self ≡ c.args.lane.now = with_no_next c.args.lane.now c.take_next.new.self (c.take_next.ensures.others ∙ ap (λ (held : Held). record held { next = None }) first) next in
+    run_moves c.args.w.now c.args.z.now c.args.s.0 c.args.lane.now c.args.objects.now c.args.named c.in_ok-made-3.made c.run.new.self c.run.new.objects c.in-Some-take_hand.unit c.take_hand.new.self c.in_default.ensures.none.0 next
+    (ap (λ (held : Held). held.hand) (sym same) ∙ (sym c.take_hand.ensures.hand ∙ c.in-Some-take_hand.is)) (c.take_hand.ensures.others ∙ ap (λ (held : Held). record held { hand = None }) same) (c.in_ok-made-3.ensures c.args.z.now)
