@@ -14,7 +14,7 @@ use Rattle.abt_calls.specs.Asking.{IsSite}
 use Rattle.abt_laws.proofs.Options.{none≢some, some-injective}
 use Rattle.abt_replay.specs.Objects.{same_place}
 use Rattle.abt_check.specs.Clocks.{AreClocks, ClocksValue, FollowsLast, HasClocks, IsAllowed, IsLatest, IsOfStream, Stamps, Touches, clock_at, clock_of, noted, with_clock, with_site}
-use Rattle.abt_check.proofs.Sites.{one-place, own-place}
+use Rattle.abt_check.proofs.Sites.{one-place, own-place, place_number}
 use Rattle.abt_check.proofs.Stamping.{last-push, stamped-above, stamped-last, stamped-push, stamped-some}
 
 -- The greatest stamp.
@@ -100,54 +100,12 @@ flip-false j k differ = flip-by j k (j == k) refl differ
 -- other sites keep their clocks
 with-others : (x y : Site) (t : ℕ) (c : ClocksValue) → same_place x y ≡ false → clock_at (with_clock x t c) y ≡ clock_at c y
 with-others (site.Pool x) (site.Pool y) t c differ = set-other c.pools x.0 y.0 t (flip-false y.0 x.0 differ)
-with-others (site.Pool x) (site.Desk y) t c differ = refl
-with-others (site.Pool x) (site.Monitor y) t c differ = refl
-with-others (site.Pool x) (site.Eventual y) t c differ = refl
-with-others (site.Pool x) (site.Future y) t c differ = refl
-with-others (site.Pool x) (site.Barrier y) t c differ = refl
-with-others (site.Pool x) (site.Rw y) t c differ = refl
-with-others (site.Desk x) (site.Pool y) t c differ = refl
+with-others (site.Pool x) y t c differ = refl
 with-others (site.Desk x) (site.Desk y) t c differ = set-other c.desks x.0 y.0 t (flip-false y.0 x.0 differ)
-with-others (site.Desk x) (site.Monitor y) t c differ = refl
-with-others (site.Desk x) (site.Eventual y) t c differ = refl
-with-others (site.Desk x) (site.Future y) t c differ = refl
-with-others (site.Desk x) (site.Barrier y) t c differ = refl
-with-others (site.Desk x) (site.Rw y) t c differ = refl
-with-others (site.Monitor x) (site.Pool y) t c differ = refl
-with-others (site.Monitor x) (site.Desk y) t c differ = refl
-with-others (site.Monitor x) (site.Monitor y) t c differ = set-other c.slots x.0 y.0 t differ
-with-others (site.Monitor x) (site.Eventual y) t c differ = set-other c.slots x.0 y.0 t differ
-with-others (site.Monitor x) (site.Future y) t c differ = set-other c.slots x.0 y.0 t differ
-with-others (site.Monitor x) (site.Barrier y) t c differ = set-other c.slots x.0 y.0 t differ
-with-others (site.Monitor x) (site.Rw y) t c differ = set-other c.slots x.0 y.0 t differ
-with-others (site.Eventual x) (site.Pool y) t c differ = refl
-with-others (site.Eventual x) (site.Desk y) t c differ = refl
-with-others (site.Eventual x) (site.Monitor y) t c differ = set-other c.slots x.0 y.0 t differ
-with-others (site.Eventual x) (site.Eventual y) t c differ = set-other c.slots x.0 y.0 t differ
-with-others (site.Eventual x) (site.Future y) t c differ = set-other c.slots x.0 y.0 t differ
-with-others (site.Eventual x) (site.Barrier y) t c differ = set-other c.slots x.0 y.0 t differ
-with-others (site.Eventual x) (site.Rw y) t c differ = set-other c.slots x.0 y.0 t differ
-with-others (site.Future x) (site.Pool y) t c differ = refl
-with-others (site.Future x) (site.Desk y) t c differ = refl
-with-others (site.Future x) (site.Monitor y) t c differ = set-other c.slots x.0 y.0 t differ
-with-others (site.Future x) (site.Eventual y) t c differ = set-other c.slots x.0 y.0 t differ
-with-others (site.Future x) (site.Future y) t c differ = set-other c.slots x.0 y.0 t differ
-with-others (site.Future x) (site.Barrier y) t c differ = set-other c.slots x.0 y.0 t differ
-with-others (site.Future x) (site.Rw y) t c differ = set-other c.slots x.0 y.0 t differ
-with-others (site.Barrier x) (site.Pool y) t c differ = refl
-with-others (site.Barrier x) (site.Desk y) t c differ = refl
-with-others (site.Barrier x) (site.Monitor y) t c differ = set-other c.slots x.0 y.0 t differ
-with-others (site.Barrier x) (site.Eventual y) t c differ = set-other c.slots x.0 y.0 t differ
-with-others (site.Barrier x) (site.Future y) t c differ = set-other c.slots x.0 y.0 t differ
-with-others (site.Barrier x) (site.Barrier y) t c differ = set-other c.slots x.0 y.0 t differ
-with-others (site.Barrier x) (site.Rw y) t c differ = set-other c.slots x.0 y.0 t differ
-with-others (site.Rw x) (site.Pool y) t c differ = refl
-with-others (site.Rw x) (site.Desk y) t c differ = refl
-with-others (site.Rw x) (site.Monitor y) t c differ = set-other c.slots x.0 y.0 t differ
-with-others (site.Rw x) (site.Eventual y) t c differ = set-other c.slots x.0 y.0 t differ
-with-others (site.Rw x) (site.Future y) t c differ = set-other c.slots x.0 y.0 t differ
-with-others (site.Rw x) (site.Barrier y) t c differ = set-other c.slots x.0 y.0 t differ
-with-others (site.Rw x) (site.Rw y) t c differ = set-other c.slots x.0 y.0 t differ
+with-others (site.Desk x) y t c differ = refl
+with-others x (site.Pool y) t c differ = refl
+with-others x (site.Desk y) t c differ = refl
+with-others x y t c differ = set-other c.slots (place_number x) (place_number y) t differ
 
 -- the site has its own
 with-own : (W : Parts) (x : Site) (t : ℕ) (c : ClocksValue) → HasClocks W c → IsSite W x → clock_at (with_clock x t c) x ≡ t
@@ -163,21 +121,12 @@ with-has : (W : Parts) (x : Option Site) (t : ℕ) (c : ClocksValue) → HasCloc
 with-has W None t c has = has
 with-has W (Some (site.Pool x)) t c has = record { streams = has.streams; pools = length-set c.pools x.0 t ∙ has.pools; desks = has.desks; slots = has.slots }
 with-has W (Some (site.Desk x)) t c has = record { streams = has.streams; pools = has.pools; desks = length-set c.desks x.0 t ∙ has.desks; slots = has.slots }
-with-has W (Some (site.Monitor x)) t c has = record { streams = has.streams; pools = has.pools; desks = has.desks; slots = length-set c.slots x.0 t ∙ has.slots }
-with-has W (Some (site.Eventual x)) t c has = record { streams = has.streams; pools = has.pools; desks = has.desks; slots = length-set c.slots x.0 t ∙ has.slots }
-with-has W (Some (site.Future x)) t c has = record { streams = has.streams; pools = has.pools; desks = has.desks; slots = length-set c.slots x.0 t ∙ has.slots }
-with-has W (Some (site.Barrier x)) t c has = record { streams = has.streams; pools = has.pools; desks = has.desks; slots = length-set c.slots x.0 t ∙ has.slots }
-with-has W (Some (site.Rw x)) t c has = record { streams = has.streams; pools = has.pools; desks = has.desks; slots = length-set c.slots x.0 t ∙ has.slots }
+with-has W (Some x) t c has = record { streams = has.streams; pools = has.pools; desks = has.desks; slots = length-set c.slots (place_number x) t ∙ has.slots }
 
 with-last : (x : Option Site) (t : ℕ) (c : ClocksValue) → ((with_site x t c).last ≡ c.last) × ((with_site x t c).streams ≡ c.streams)
 with-last None t c = (refl, refl)
 with-last (Some (site.Pool x)) t c = (refl, refl)
-with-last (Some (site.Desk x)) t c = (refl, refl)
-with-last (Some (site.Monitor x)) t c = (refl, refl)
-with-last (Some (site.Eventual x)) t c = (refl, refl)
-with-last (Some (site.Future x)) t c = (refl, refl)
-with-last (Some (site.Barrier x)) t c = (refl, refl)
-with-last (Some (site.Rw x)) t c = (refl, refl)
+with-last (Some x) t c = (refl, refl)
 
 module _ (W : Parts) (J : List Event) (c : ClocksValue) (x : Option Site) (e : Event) (are : AreClocks W J c) (l : e.stream.0 < W.streams) (at : x ≡ event_site W e) (declared : (y : Site) → event_site W e ≡ Some y → IsSite W y) (ok : IsAllowed c x e) where
   abbrev mid : ClocksValue
@@ -188,12 +137,7 @@ module _ (W : Parts) (J : List Event) (c : ClocksValue) (x : Option Site) (e : E
 
   mid-at : (y : Site) → clock_at mid y ≡ clock_at c y
   mid-at (site.Pool y) = refl
-  mid-at (site.Desk y) = refl
-  mid-at (site.Monitor y) = refl
-  mid-at (site.Eventual y) = refl
-  mid-at (site.Future y) = refl
-  mid-at (site.Barrier y) = refl
-  mid-at (site.Rw y) = refl
+  mid-at y = refl
 
   stream-noted : (s : ℕ) → IsLatest (J ++ e ∷ []) (IsOfStream s) (get_or (slice_set c.streams e.stream.0 e.stamp) s 0)
   stream-noted s =
@@ -252,11 +196,7 @@ zeros n k = elim (cases_lt k n) [ inl l ↦ get_or-replicate n k 0 0 l | inr l �
 site-zero : (W : Parts) (x : Site) (c : ClocksValue) → c.pools ≡ none_yet (length W.pools) → c.desks ≡ none_yet (length W.units) → c.slots ≡ none_yet (length W.objects) → clock_at c x ≡ 0
 site-zero W (site.Pool x) c p d o = ap (λ (xs : List ℕ). get_or xs x.0 0) p ∙ zeros (length W.pools) x.0
 site-zero W (site.Desk x) c p d o = ap (λ (xs : List ℕ). get_or xs x.0 0) d ∙ zeros (length W.units) x.0
-site-zero W (site.Monitor x) c p d o = ap (λ (xs : List ℕ). get_or xs x.0 0) o ∙ zeros (length W.objects) x.0
-site-zero W (site.Eventual x) c p d o = ap (λ (xs : List ℕ). get_or xs x.0 0) o ∙ zeros (length W.objects) x.0
-site-zero W (site.Future x) c p d o = ap (λ (xs : List ℕ). get_or xs x.0 0) o ∙ zeros (length W.objects) x.0
-site-zero W (site.Barrier x) c p d o = ap (λ (xs : List ℕ). get_or xs x.0 0) o ∙ zeros (length W.objects) x.0
-site-zero W (site.Rw x) c p d o = ap (λ (xs : List ℕ). get_or xs x.0 0) o ∙ zeros (length W.objects) x.0
+site-zero W x c p d o = ap (λ (xs : List ℕ). get_or xs (place_number x) 0) o ∙ zeros (length W.objects) (place_number x)
 
 pub clocks-start : (W : Parts) (c : ClocksValue) → c.last ≡ None → c.streams ≡ none_yet W.streams → c.pools ≡ none_yet (length W.pools) → c.desks ≡ none_yet (length W.units) → c.slots ≡ none_yet (length W.objects) → AreClocks W [] c
 clocks-start W c l s p d o = record {
