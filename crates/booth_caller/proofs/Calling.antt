@@ -1,5 +1,5 @@
 -- What the calls of all seats come to.
-use Rattle.std.proofs.Common.{◌≡◌, ℕ, zero, suc, ◌+◌, ◌<◌, ◌≤◌, ◌^◌, ◌⊎◌, inl, inr, ⊎_elim, Bool, List, [], ◌∷◌, ◌++◌, length, length-append, map, replicate, cond, eq-eqb, ne_eqb, slice_index_or, refl, drop, take, sym, ap, ◌∙◌, subst, arith, ◌*◌, suc-mul, zero-mul}
+use Rattle.std.proofs.Common.{◌≡◌, ℕ, zero, suc, ◌+◌, ◌<◌, ◌≤◌, ◌^◌, ◌⊎◌, inl, inr, ⊎_elim, List, [], ◌∷◌, ◌++◌, length, length-append, map, replicate, cond, eq-eqb, ne_eqb, slice_index_or, refl, drop, take, sym, ap, ◌∙◌, subst, arith, ◌*◌, suc-mul, zero-mul}
 use Rattle.std.specs.Prelude.{◌==◌}
 use Rattle.std.specs.List.{All, filter, sum_by}
 use Rattle.std.proofs.lemmas.List.{append_assoc, append-nil, length-map, map-append, replicate-append-replicate}
@@ -7,7 +7,6 @@ use Rattle.std.proofs.lemmas.List.Elements.{All-cons, All-head, All-nil, All-tai
 use Rattle.std.proofs.lemmas.List.Sums.{sum_by-cons}
 use Rattle.std.proofs.Math.Nat.{zero-max}
 use mathlib.Core.Logic.{dite}
-use mathlib.Core.List.{IsPrefix}
 use native.Mathlib.Decide.{ℕ_discrete}
 use Rattle.abt_interleave.specs.declared.entries.Entry.{Entry}
 use Rattle.abt_interleave.specs.Histories.{calls_of, last_from, last_stamp, RisesAbove, Extends, entry_stamps}
@@ -16,10 +15,10 @@ use Rattle.abt_booth.specs.declared.booth.Booth.{Booth}
 use Rattle.abt_booth.specs.declared.booth.Seat.{Seat}
 use Rattle.abt_booth.specs.declared.booth.Called.{Called}
 use Rattle.abt_booth.specs.declared.booth.Called.TheVariants as called
-use Rattle.abt_booth.specs.Seats.{opening_of, number_of, seen_of, known_of, AreInOrder, Replies}
+use Rattle.abt_booth.specs.Seats.{opening_of, number_of, seats_of, seen_of, known_of, AreAllSeatsOf, AreInOrder, IsSeatOf, Replies}
 use Rattle.abt_booth.specs.Calls.{IsAnswered, IsWorn, IsClosed}
 use Rattle.abt_booth.proofs.Answered.{calls_answered}
-use Rattle.abt_booth.proofs.Seats.{written_back}
+use Rattle.abt_booth.proofs.Seats.{all_seats, written_back}
 use Rattle.booth_caller.specs.Calling.{acts_of, AsksMore, Follows, HasAsked}
 
 -- what is added to a list and leaves it as it was is nothing
@@ -210,7 +209,7 @@ module _ {O A R : Type 0} {g : Ghosts O A R} where
   some_seat (x ∷ xs) i lt = x
 
   -- what each seat asked stands in the history of the closed booth
-  pub all_asked : (does : O → A → R → O → Type 0) (opening object : O) (seats : List (Seat O A R g)) (clock : ℕ) (acts : ℕ → List A) → AreInOrder seats
+  all_asked : (does : O → A → R → O → Type 0) (opening object : O) (seats : List (Seat O A R g)) (clock : ℕ) (acts : ℕ → List A) → AreInOrder seats
       → ((i : ℕ) (d : Seat O A R g) → i < length seats → HasAsked i (acts i) (seen_of (slice_index_or seats i d)))
       → (closed : IsClosed does opening (length seats) (map known_of seats) object clock) → (k : ℕ) → k < length seats → HasAsked k (acts k) closed.history
   all_asked does opening object seats clock acts order asked closed k lt =
@@ -227,7 +226,7 @@ module _ {O A R : Type 0} {g : Ghosts O A R} where
       }
 
   -- new seats that made these calls asked these acts
-  pub new_asked : (before after : List (Seat O A R g)) (acts : ℕ → List A) → All (λ s. seen_of s ≡ []) before → length after ≡ length before
+  new_asked : (before after : List (Seat O A R g)) (acts : ℕ → List A) → All (λ s. seen_of s ≡ []) before → length after ≡ length before
       → ((i : ℕ) (d : Seat O A R g) → i < length before → AsksMore i (acts i) (seen_of (slice_index_or before i d)) (seen_of (slice_index_or after i d)))
       → (i : ℕ) (d : Seat O A R g) → i < length after → HasAsked i (acts i) (seen_of (slice_index_or after i d))
   new_asked before after acts fresh many asks i d lt =
@@ -236,11 +235,27 @@ module _ {O A R : Type 0} {g : Ghosts O A R} where
       asks i d below [] (subst P (sym (fresh i d below)) (record { follows = tt; begun = ([], refl); whole = inl refl }))
 
   -- a booth that was closed with the seats of a vector which were lent as a slice was closed with those of the slice
-  pub closed_back : (does : O → A → R → O → Type 0) (opening object : O) (many n : ℕ) (items after : List (Seat O A R g)) (clock : ℕ) → many ≡ n → length after ≡ n → length items ≡ n
+  closed_back : (does : O → A → R → O → Type 0) (opening object : O) (many n : ℕ) (items after : List (Seat O A R g)) (clock : ℕ) → many ≡ n → length after ≡ n → length items ≡ n
       → IsClosed does opening many (map known_of (take n (after ++ drop (length after) items))) object clock → IsClosed does opening (length after) (map known_of after) object clock
   closed_back does opening object many n items after clock is len old closed =
       let C : ℕ → List (Seat O A R g) → Type 0 = λ m s. IsClosed does opening m (map known_of s) object clock in
       subst (C (length after)) (written_back n after items len old) (subst (λ m. C m (take n (after ++ drop (length after) items))) (is ∙ sym len) closed)
+
+  -- and it can be closed with them
+  pub closes_back : (booth : Booth O A R) (n : ℕ) (items after : List (Seat O A R g)) → length items ≡ n → length after ≡ n → length after ≡ seats_of booth → All (IsSeatOf booth) after → AreInOrder after
+      → AreAllSeatsOf booth (take n (after ++ drop (length after) items))
+  closes_back booth n items after old len many each order = subst (AreAllSeatsOf booth) (sym (written_back n after items len old)) (all_seats booth after many each order)
+
+  -- what new seats of a vector asked that were lent as a slice stands in the history of the booth that is closed with them
+  pub asked_back : (does : O → A → R → O → Type 0) (opening object : O) (many n : ℕ) (items before after : List (Seat O A R g)) (clock : ℕ) (acts : ℕ → List A)
+      → many ≡ n → length after ≡ n → length items ≡ n → before ≡ items → AreInOrder after → All (λ s. seen_of s ≡ []) items
+      → ((i : ℕ) (d : Seat O A R g) → i < length before → AsksMore i (acts i) (seen_of (slice_index_or before i d)) (seen_of (slice_index_or after i d)))
+      → IsClosed does opening many (map known_of (take n (after ++ drop (length after) items))) object clock
+      → (closed : IsClosed does opening (length after) (map known_of after) object clock) × ((k : ℕ) → k < length after → HasAsked k (acts k) closed.history)
+  asked_back does opening object many n items before after clock acts is len old same order fresh asks closed =
+      let back = closed_back does opening object many n items after clock is len old closed in
+      let new = subst (λ (l : List (Seat O A R g)). All (λ s. seen_of s ≡ []) l) (sym same) fresh in
+      (back, all_asked does opening object after clock acts order (new_asked before after acts new (len ∙ sym (ap length same ∙ old)) asks) back)
 
 -- a list has as many elements as ones add up to
 pub sum_by-one : {X : Type 0} (xs : List X) → sum_by (λ x. 1) xs ≡ length xs

@@ -1,5 +1,5 @@
 -- A letter that goes from one seat to another.
-use Rattle.std.proofs.Common.{◌≡◌, ℕ, suc, max, ◌<◌, ◌≤◌, ◌^◌, List, [], ◌∷◌, ◌++◌, length, length-append, Box, None, Option, refl, sym, ap, ◌∙◌, subst, arith}
+use Rattle.std.proofs.Common.{◌≡◌, ℕ, suc, max, ◌<◌, ◌≤◌, List, [], ◌∷◌, ◌++◌, length, length-append, Box, None, Option, refl, sym, ap, ◌∙◌, subst, arith}
 use Rattle.std.specs.declared.alloc.Global.{Global}
 use Rattle.std.specs.List.{All}
 use Rattle.std.proofs.lemmas.List.{append_assoc}
@@ -23,7 +23,7 @@ use Rattle.booth_caller.specs.declared.letters.Ask.TheVariants as ask
 use Rattle.booth_caller.specs.declared.letters.Reply.{Reply}
 use Rattle.booth_caller.specs.declared.letters.Reply.TheVariants as reply
 use Rattle.booth_caller.specs.Trays.{Answers, Does}
-use Rattle.booth_caller.specs.Letters.{ArePassed, stamp_in}
+use Rattle.booth_caller.specs.Letters.{ArePassed}
 use Rattle.booth_caller.proofs.Calling.{class_mine, class_other, last_seen}
 
 module _ {A R : Type 0} where

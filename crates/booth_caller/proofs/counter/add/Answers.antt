@@ -1,4 +1,4 @@
-use Rattle.std.proofs.Common.{◌≡◌, ◌∙◌, ◌+◌, List, ℕ, replicate, subst}
+use Rattle.std.proofs.Common.{◌∙◌, List, ℕ, replicate, subst}
 use Rattle.abt_booth.specs.Seats.{number_of, seen_of}
 use Rattle.booth_caller.specs.Calling.{AsksMore}
 use Rattle.booth_caller.specs.Counters.{Adds}

@@ -1,4 +1,4 @@
-use Rattle.std.proofs.Common.{◌≡◌, ◌∷◌, [], ap, subst, ◌∙◌}
+use Rattle.std.proofs.Common.{◌∷◌, ap, subst, ◌∙◌}
 use Rattle.abt_booth.specs.Seats.{gathered_of, known_of}
 use Rattle.booth_caller.proofs.Deliveries.{all_two, sent, IsGiven}
 use Rattle.booth_caller.proofs.letters.deliver.Goals as goal
