@@ -7,8 +7,6 @@ mod items;
 mod numbers;
 mod operations;
 mod program;
-#[cfg(test)]
-mod tests;
 mod validity;
 mod workload;
 

@@ -19,9 +19,6 @@ use crate::numbers::{ObjectNo, PoolNo, SchedNo, StreamNo, UnitNo};
 use crate::operations::{Access, Body, Op, Rule, Thing};
 use crate::workload::{Parts, PoolPart, SchedPart, UnitPart};
 
-#[cfg(test)]
-mod tests;
-
 // Whether a number is above 0 and no greater than another.
 fn is_among(n: usize, most: usize) -> bool
     ensures { IsTrue result ↔ ((0 < n) × (n ≤ most)) }

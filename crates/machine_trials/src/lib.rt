@@ -1,0 +1,11 @@
+//! Trials of workloads: one made and read back, parts that are none by one change, and those at the limits.
+#![tactic(auto)]
+
+#[cfg(test)]
+mod limits;
+#[cfg(test)]
+mod parts;
+#[cfg(test)]
+mod readers;
+#[cfg(test)]
+mod validity;
