@@ -4,8 +4,6 @@
 mod arrival;
 mod barrier;
 mod laws;
-#[cfg(test)]
-mod tests;
 
 pub use arrival::Arrival;
 pub use barrier::Barrier;

@@ -6,8 +6,6 @@ mod laws;
 mod parts;
 mod refused;
 mod steps;
-#[cfg(test)]
-mod tests;
 
 pub use chain::Chain;
 pub use laws::calls_walk_few_links;

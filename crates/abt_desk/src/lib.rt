@@ -3,8 +3,6 @@
 
 mod desk;
 mod laws;
-#[cfg(test)]
-mod tests;
 
 pub use desk::{Asks, Desk};
 pub use laws::desks_keep_what_fits;

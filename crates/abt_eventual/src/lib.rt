@@ -4,8 +4,6 @@
 mod eventual;
 mod future;
 mod laws;
-#[cfg(test)]
-mod tests;
 mod waking;
 
 pub use eventual::Eventual;

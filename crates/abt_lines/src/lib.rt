@@ -4,9 +4,6 @@
 ghost use Rattle.std.specs.Prelude.{◌≡◌, ◌++◌, ◌∷◌, [], OnOk, decimal};
 ghost use Rattle.abt_machine.specs.Words.{ended, spaced};
 
-#[cfg(test)]
-mod tests;
-
 use abt_machine::Want;
 use itoa::Buffer;
 

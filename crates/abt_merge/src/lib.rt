@@ -2,8 +2,6 @@
 #![tactic(auto)]
 
 mod heads;
-#[cfg(test)]
-mod tests;
 
 ghost use Rattle.std.specs.Prelude.{◌≡◌, IfOk, IsOk, length};
 ghost use Rattle.abt_interleave.specs.Merges.{IsMerging};

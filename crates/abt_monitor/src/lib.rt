@@ -3,8 +3,6 @@
 
 mod laws;
 mod monitor;
-#[cfg(test)]
-mod tests;
 mod waiters;
 
 pub use laws::{

@@ -5,8 +5,6 @@ mod places;
 mod rounds;
 mod shapes;
 mod stored;
-#[cfg(test)]
-mod tests;
 
 pub use rounds::Scheduler;
 pub use shapes::{mirror, rotate};

@@ -3,8 +3,6 @@
 
 mod laws;
 mod pool;
-#[cfg(test)]
-mod tests;
 
 pub use laws::pools_keep_what_fits;
 pub use pool::Pool;

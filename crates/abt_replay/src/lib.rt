@@ -14,8 +14,6 @@ mod objects;
 mod pools;
 mod rounds;
 mod rwlocks;
-#[cfg(test)]
-mod tests;
 mod unit;
 
 pub use acts::{Act, Answer, Asks};

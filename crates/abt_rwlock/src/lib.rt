@@ -5,8 +5,6 @@ mod holders;
 mod laws;
 mod rwlock;
 mod serving;
-#[cfg(test)]
-mod tests;
 mod waiters;
 
 pub use laws::{rwlocks_keep_their_units, rwlocks_keep_what_fits};

@@ -2,8 +2,6 @@
 #![tactic(auto)]
 
 mod laws;
-#[cfg(test)]
-mod tests;
 mod unit;
 
 pub use laws::local_operations_are_their_rows;

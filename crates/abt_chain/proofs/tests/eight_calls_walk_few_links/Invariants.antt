@@ -1,4 +1,0 @@
-use Rattle.abt_chain.proofs.tests.eight_calls_walk_few_links.Given as goal
-
-abbrev pub ghosts-counted : goal.ghosts-counted
-ghosts-counted g a = record { name = a.blank.name; parts = a.blank.parts }

@@ -1,6 +1,0 @@
-use Rattle.std.proofs.Common.{◌≡◌}
-use Rattle.abt_machine.specs.declared.operations.Kind.TheVariants.{Fifo}
-use Rattle.abt_pool.proofs.tests.units_are_found_and_removed_by_number.Given as goal
-
-abbrev pub invariant-loop-wanted : goal.invariant-loop-wanted
-invariant-loop-wanted g l = l.pool.kind ≡ Fifo

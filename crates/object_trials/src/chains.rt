@@ -1,0 +1,120 @@
+//! A chain against worked rows, and a chain that is longer than the stack is deep.
+
+use crate::answers::{Answer, found, out};
+use crate::samples::unit;
+use abt_chain::Chain;
+use abt_machine::UnitNo;
+use std::alloc::Global;
+use std::process::Abort;
+use std::test::Fail;
+use std::thread::Builder;
+
+#[derive(Clone, Copy)]
+enum Call {
+    Push(u32, u64),
+    Front,
+    Back,
+    Remove(u32),
+    Find(u32),
+}
+
+static ROWS: [(Call, Answer); 24] = [
+    // nothing in it
+    (Call::Front, Answer::Nobody),
+    (Call::Back, Answer::Nobody),
+    (Call::Remove(0), Answer::Nobody),
+    (Call::Find(0), Answer::Nobody),
+    // 0 1 2 3 and another 1
+    (Call::Push(0, 0), Answer::Nobody),
+    (Call::Push(1, 1), Answer::Nobody),
+    (Call::Push(2, 2), Answer::Nobody),
+    (Call::Push(3, 3), Answer::Nobody),
+    (Call::Push(1, 5), Answer::Nobody),
+    (Call::Find(1), Answer::Unit((1, 1))),
+    (Call::Front, Answer::Unit((0, 0))),
+    (Call::Find(1), Answer::Unit((1, 1))),
+    (Call::Find(0), Answer::Nobody),
+    // 1 2 3 1 and another 2
+    (Call::Push(2, 6), Answer::Nobody),
+    (Call::Remove(1), Answer::Unit((1, 1))),
+    (Call::Find(1), Answer::Unit((1, 5))),
+    (Call::Remove(2), Answer::Unit((2, 2))),
+    (Call::Remove(2), Answer::Unit((2, 6))),
+    (Call::Remove(2), Answer::Nobody),
+    // 3 1
+    (Call::Back, Answer::Unit((1, 5))),
+    (Call::Push(3, 7), Answer::Nobody),
+    (Call::Front, Answer::Unit((3, 3))),
+    (Call::Back, Answer::Unit((3, 7))),
+    (Call::Front, Answer::Nobody),
+];
+
+fn answer(rt: &impl Abort, alloc: Global, chain: &mut Chain, call: Call) -> Result<Answer, Fail> {
+    Ok(match call {
+        Call::Push(number, acc) => {
+            chain.push_back(unit(rt, alloc, number, acc)?);
+            Answer::Nobody
+        }
+        Call::Front => out(chain.take_front()),
+        Call::Back => out(chain.take_back()),
+        Call::Remove(number) => out(chain.remove(UnitNo(number))),
+        Call::Find(number) => found(chain.find(UnitNo(number))),
+    })
+}
+
+#[test]
+fn chains_are_lists(rt: HostRuntime) -> Result<(), Fail> {
+    let mut chain = Chain::new();
+    for (at, (call, wanted)) in ROWS.iter().enumerate() {
+        let answer = answer(&rt, rt.alloc(), &mut chain, *call)?;
+        assert_eq!(rt; answer, *wanted, "row {at}");
+    }
+    assert!(rt; chain.is_empty());
+    Ok(())
+}
+
+// 20,000 units, told apart by their accumulators, of which the one in the middle alone has number 3.
+fn long_chain(rt: &impl Abort, alloc: Global) -> Result<Chain, Fail> {
+    let mut chain = Chain::new();
+    for acc in 0..20_000 {
+        let number = if acc == 10_000 { 3 } else { acc % 3 };
+        chain.push_back(unit(rt, alloc, number, u64::from(acc))?);
+    }
+    Ok(chain)
+}
+
+// What is taken from the ends and the middle; the others then follow the unit from the front.
+fn ends_and_middle(mut chain: Chain) -> [Answer; 3] {
+    let front = chain.take_front();
+    let back = out(chain.take_back());
+    let middle = match chain.find(UnitNo(3)) {
+        Some(_) => out(chain.remove(UnitNo(3))),
+        None => Answer::Nobody,
+    };
+    let mut other = Chain::new();
+    let front = match front {
+        Some(unit) => {
+            let acc = unit.acc();
+            other.push_back(unit);
+            Answer::Number(acc)
+        }
+        None => Answer::Nobody,
+    };
+    chain.drain_into(&mut other);
+    drop(other);
+    [front, back, middle]
+}
+
+#[test]
+fn long_chains_need_little_stack(rt: HostRuntime) -> Result<(), Fail> {
+    let chain = long_chain(&rt, rt.alloc())?;
+    let thread = Builder::new().stack_size(131_072);
+    let taken = thread.spawn(&rt, move || ends_and_middle(chain))?.join(&rt);
+    let wanted = [
+        Answer::Number(0),
+        Answer::Unit((1, 19_999)),
+        Answer::Unit((3, 10_000)),
+    ];
+    assert_eq!(rt; taken, wanted);
+    Ok(())
+}

@@ -1,0 +1,58 @@
+//! The local operations of a unit.
+
+ghost use Rattle.abt_unit.specs.Fits.{Fits};
+
+use abt_machine::{Op, Piece, UnitNo, Workload};
+use abt_unit::Unit;
+use abt_workload::read;
+use std::process::Abort;
+use std::test::Fail;
+
+// One unit, which does each local operation.
+const LOCAL: &str = "abt 1
+streams 1
+keys 1
+pool 0 fifo mpmc
+sched 0 prio 0
+stream 0 main 0
+units 1
+unit 0 ult at 0
+set 7
+kset 0
+add 18446744073709551614
+say hi
+print
+kget 0
+print
+end
+";
+
+fn step(rt: &impl Abort, unit: &mut Unit, w: &Workload)
+    requires { Fits w.now unit.old.owned }
+    ensures { Fits w.now unit.new.owned }
+{
+    assert!(rt; unit.reserve_output().is_ok());
+    match w.op(unit.number(), unit.position()) {
+        Some(Op::Set(_) | Op::Add(_) | Op::Say(_) | Op::Print | Op::KeySet(_) | Op::KeyGet(_)) => {
+            unit.step_local(w)
+        }
+        _ => panic!(rt; "no local operation"),
+    }
+}
+
+#[test]
+fn local_operations_do_their_rows(rt: HostRuntime) -> Result<(), Fail> {
+    let w = read(rt.alloc(), LOCAL.as_bytes())?;
+    assert_eq!(rt; w.units(), 1);
+    let mut unit = Unit::make(rt.alloc(), &w, UnitNo(0))?;
+    for _ in 0..7 {
+        step(&rt, &mut unit, &w);
+    }
+    assert_eq!(rt; unit.position(), 7);
+    assert_eq!(rt; unit.acc(), 7);
+    assert_eq!(rt;
+        unit.output(),
+        [Piece::Said(0), Piece::Number(5), Piece::Number(7)].as_slice()
+    );
+    Ok(())
+}
