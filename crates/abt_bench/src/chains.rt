@@ -1,11 +1,12 @@
 //! Chains of units at several lengths, and the turns of a mutex.
-ghost use Rattle.std.specs.Prelude.{◌<◌, IfOk};
+
 ghost use Rattle.abt_unit.specs.Units.{IsFree};
 
+use crate::faults::out_of_memory;
+use crate::units::unit;
 use abt_chain::Chain;
-use abt_machine::{UnitNo, Want};
+use abt_machine::UnitNo;
 use abt_monitor::Monitor;
-use abt_sample::unit;
 use abt_unit::Unit;
 use bench_times::least_and_middle;
 use std::alloc::Global;
@@ -46,7 +47,7 @@ impl Work {
 
 /// A few calls on a chain of ten.
 pub fn small<R: Print>(rt: &R, alloc: Global) -> io::Result<()> {
-    let mut chain = chain_of(alloc, 10).map_err(out_of_memory)?;
+    let mut chain = chain_of(alloc, 10)?;
     push_and_take(&mut chain, 1004);
     let first = match chain.take_front() {
         Some(unit) => unit.acc(),
@@ -59,7 +60,7 @@ pub fn small<R: Print>(rt: &R, alloc: Global) -> io::Result<()> {
 pub fn times<R: Print + Clock>(rt: &R, alloc: Global) -> io::Result<()> {
     for work in [Work::PushAndTake, Work::BothEnds, Work::Find, Work::Remove] {
         for length in LENGTHS {
-            let mut chain = chain_of(alloc, length).map_err(out_of_memory)?;
+            let mut chain = chain_of(alloc, length)?;
             let mut times = Vec::new(alloc);
             for _ in 0..ROUNDS {
                 times.push(time(rt, &mut chain, work)?)?;
@@ -72,20 +73,6 @@ pub fn times<R: Print + Clock>(rt: &R, alloc: Global) -> io::Result<()> {
         }
     }
     mutex_times(rt, alloc)
-}
-
-fn out_of_memory(_want: Want) -> io::Error {
-    io::Error::from(io::ErrorKind::OutOfMemory)
-}
-
-fn free_unit(alloc: Global, number: u32) -> io::Result<Box<Unit>>
-    requires { number < 4 }
-    ensures { IfOk result (λ unit. IsFree unit.value) }
-{
-    match unit(alloc, number, 0) {
-        Ok(unit) => Ok(unit),
-        Err(want) => Err(out_of_memory(want)),
-    }
 }
 
 // What one call took.
@@ -102,7 +89,7 @@ fn time<R: Clock>(rt: &R, chain: &mut Chain, work: Work) -> io::Result<u128> {
 }
 
 // Units 0, 1 and so on by their accumulators. The last alone has number 3.
-fn chain_of(alloc: Global, length: u32) -> Result<Chain, Want> {
+fn chain_of(alloc: Global, length: u32) -> io::Result<Chain> {
     let mut chain = Chain::new();
     for i in 0..length {
         let number = if i + 1 == length { 3 } else { i % 3 };
@@ -155,13 +142,13 @@ fn mutex_times<R: Print + Clock>(rt: &R, alloc: Global) -> io::Result<()> {
     let mut free = Vec::new(alloc);
     let mut handed = Vec::new(alloc);
     for _ in 0..ROUNDS {
-        let lone = free_unit(alloc, 0)?;
+        let lone = unit(alloc, 0, 0)?;
         let mut monitor = Monitor::new(alloc, 0).map_err(out_of_memory)?;
         let start = Instant::now(rt)?;
         free_turns(&mut monitor, lone);
         free.push(start.elapsed(rt)?.as_nanos() / TURNS as u128)?;
-        let owner = free_unit(alloc, 0)?;
-        let waiter = free_unit(alloc, 1)?;
+        let owner = unit(alloc, 0, 0)?;
+        let waiter = unit(alloc, 1, 0)?;
         let mut monitor = Monitor::new(alloc, 0).map_err(out_of_memory)?;
         let start = Instant::now(rt)?;
         handed_turns(&mut monitor, owner, waiter);

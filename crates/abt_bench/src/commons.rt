@@ -7,13 +7,14 @@ mod timing;
 mod turns;
 mod workers;
 
-pub use self::timing::{no_memory, placed};
+pub use self::timing::placed;
 use self::timing::{
     TURNS, booth_time, hall_time, hall_work, plain_in_turn_time, plain_time, pool_time, pools_time,
     split_time, split_work,
 };
+use crate::faults::not_read;
 use abt_machine::Workload;
-use abt_workload::{NotRead, read};
+use abt_workload::read;
 use bench_times::{Hundredths, each, least_and_middle, ratio};
 use std::alloc::Global;
 use std::io;
@@ -32,10 +33,6 @@ const SPREAD: u32 = 8;
 
 // The pools that are called, each of which has ten units.
 const POOLS: u32 = 4;
-
-fn not_read(_cause: NotRead) -> io::Error {
-    io::Error::from(io::ErrorKind::InvalidData)
-}
 
 // A workload in which every so many-th pool has ten units, four in all. Where they are neighbours their units are mixed, and else
 // those of one pool stand side by side.

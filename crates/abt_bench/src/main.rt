@@ -5,8 +5,10 @@
 mod booth;
 mod chains;
 mod commons;
+mod faults;
 mod streams;
 mod texts;
+mod units;
 
 use std::{env, io};
 

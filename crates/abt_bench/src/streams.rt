@@ -9,8 +9,8 @@ mod loads;
 
 use self::bare::Bench;
 use self::driving::{is_ruled, stream_time};
-use self::loads::{Load, Work};
-use crate::commons::no_memory;
+pub use self::loads::{Load, Work};
+use crate::faults::no_memory;
 use abt_barrier::Barrier;
 use abt_machine::{Want, Workload};
 use abt_monitor::Monitor;

@@ -3,12 +3,13 @@ ghost use Rattle.std.specs.Prelude.{◌≡◌, ◌<◌, All, IfOk, IfSome, lengt
 ghost use Rattle.abt_machine.specs.Pieces.{IsPieceOf};
 ghost use Rattle.abt_report.specs.Pictures.{SaysWordsOf};
 
+use crate::faults::{not_read, out_of_memory};
 use abt_machine::{
-    Cause, Code, Event, Journal, Op, Outcome, Output, Piece, PoolNo, Shown, StreamNo, UnitNo, Want,
-    What, Workload,
+    Cause, Code, Event, Journal, Op, Outcome, Output, Piece, PoolNo, Shown, StreamNo, UnitNo, What,
+    Workload,
 };
 use abt_report::{NotJournal, Picture, Row, journal_text, read_journal, report};
-use abt_workload::{NotRead, read, write};
+use abt_workload::{read, write};
 use bench_times::least_and_middle;
 use std::alloc::Global;
 use std::io;
@@ -53,14 +54,6 @@ pub fn times<R: Print + Clock>(rt: &R, alloc: Global) -> io::Result<()> {
         workload_times(rt, alloc, name, &text)?;
     }
     journal_times(rt, alloc)
-}
-
-fn out_of_memory(_want: Want) -> io::Error {
-    io::Error::from(io::ErrorKind::OutOfMemory)
-}
-
-fn not_read(_cause: NotRead) -> io::Error {
-    io::Error::from(io::ErrorKind::InvalidData)
 }
 
 fn no_journal(_cause: NotJournal) -> io::Error {

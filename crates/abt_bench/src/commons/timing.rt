@@ -5,11 +5,12 @@ ghost use Rattle.std.specs.Prelude.{◌≡◌, ◌<◌, ◌≤◌, length, IfOk}
 use super::shelf::{Shelf, turns as shelf_turns};
 use super::turns::{bare_turns, bare_turns_in_turn, turns, turns_in_turn};
 use super::workers::{work_over_hall, work_over_split};
+use crate::faults::no_memory;
+use crate::units::unit;
 use abt_booth::Booth;
 use abt_commons::{Commons, Hall, Objects, Plain, Split};
 use abt_machine::{Kind, PoolNo, Want, Workload};
 use abt_pool::Pool;
-use abt_sample::unit;
 use std::alloc::Global;
 use std::io;
 use std::rt::Clock;
@@ -20,24 +21,13 @@ use std::time::{Duration, Instant};
 /// Turns of a round on one thread.
 pub const TURNS: u32 = 10_000;
 
-pub fn no_memory() -> io::Error {
-    io::Error::from(io::ErrorKind::OutOfMemory)
-}
-
 // A pool of ten units.
-fn pool(alloc: Global) -> Result<Pool, Want> {
+fn new_pool(alloc: Global) -> io::Result<Pool> {
     let mut pool = Pool::new(Kind::Fifo);
     for i in 0..10u32 {
         pool.put(unit(alloc, i % 4, 0)?);
     }
     Ok(pool)
-}
-
-fn new_pool(alloc: Global) -> io::Result<Pool> {
-    match pool(alloc) {
-        Ok(pool) => Ok(pool),
-        Err(Want) => Err(no_memory()),
-    }
 }
 
 pub fn placed<'w>(alloc: Global, w: &'w Workload) -> io::Result<Objects<'w>>

@@ -4,7 +4,8 @@ ghost use Rattle.std.specs.Prelude.{ℕ, ◌≡◌, ◌<◌, IfOk, IsTrue};
 ghost use Rattle.abt_order.specs.Schedulers.{IsStored};
 ghost use Rattle.abt_stream.specs.Streams.{FitsStream};
 
-use crate::commons::{no_memory, placed};
+use crate::commons::placed;
+use crate::faults::no_memory;
 use abt_commons::{Plain, PlainPass};
 use abt_machine::{Rule, SchedNo, StreamNo, Want, Workload};
 use abt_stream::{NoPace, Stream, Turn};

@@ -1,7 +1,8 @@
 //! The units that a timed stream runs.
 
+use crate::faults::not_read;
 use abt_machine::Workload;
-use abt_workload::{NotRead, read};
+use abt_workload::read;
 use std::alloc::{AllocError, Global};
 use std::io;
 
@@ -29,10 +30,6 @@ sched 0 prio 0
 stream 0 main 0
 object 0 mutex
 ";
-
-fn not_read(_cause: NotRead) -> io::Error {
-    io::Error::from(io::ErrorKind::InvalidData)
-}
 
 impl Load {
     pub fn name(&self) -> &'static str {
