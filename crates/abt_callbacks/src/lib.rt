@@ -12,8 +12,6 @@ mod ring;
 mod ringing;
 mod setting;
 mod status;
-#[cfg(test)]
-mod tests;
 
 pub use acts::{FutureAct, FutureAnswer};
 pub use end::{EndFunction, StoredEnd};

@@ -9,8 +9,6 @@ mod memory;
 mod naming;
 mod reaching;
 mod table;
-#[cfg(test)]
-mod tests;
 
 pub use confluence::confluent;
 pub use finding::{Flow, FlowRow, find_flow};

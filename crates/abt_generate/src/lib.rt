@@ -2,8 +2,6 @@
 #![tactic(auto)]
 
 mod generated;
-#[cfg(test)]
-mod tests;
 pub mod worked;
 
 pub use generated::generate;

@@ -10,8 +10,6 @@ mod pictures;
 mod reading;
 mod reports;
 mod tallies;
-#[cfg(test)]
-mod tests;
 mod words;
 
 pub use journals::journal_text;

@@ -114,39 +114,3 @@ impl<R: HostFiles + Input> Files for RealFiles<'_, R> {
         }
     }
 }
-
-#[cfg(test)]
-mod tests {
-    use super::*;
-    use crate::read_all;
-    use std::test::Fail;
-
-    #[test]
-    fn a_written_file_is_read_whole(rt: HostRuntime) -> Result<(), Fail> {
-        let alloc = rt.alloc();
-        // More than one read asks for.
-        let written = vec![in alloc; b'x'; 20_000]?;
-        fs::write(&rt, "real-files-whole", written.as_slice())?;
-        let mut files = RealFiles::new(&rt);
-        let read = read_all(alloc, &mut files, "real-files-whole", 30_000)?;
-        let prefix = read_all(alloc, &mut files, "real-files-whole", 9_999)?;
-        fs::remove_file(&rt, "real-files-whole")?;
-        assert!(rt; read.as_slice() == written.as_slice());
-        assert_eq!(rt; prefix.len(), 10_000);
-        assert_eq!(rt; files.faults, 0);
-        Ok(())
-    }
-
-    #[test]
-    fn an_absent_name_and_a_folder_raise_the_count(rt: HostRuntime) -> Result<(), Fail> {
-        let mut files = RealFiles::new(&rt);
-        let absent = read_all(rt.alloc(), &mut files, "real-files-absent", 9);
-        assert!(rt; matches!(absent, Err(NotFetched::Failed)));
-        assert_eq!(rt; files.faults, 1);
-        assert_eq!(rt; files.read(&mut [0]), Ok(0), "nothing is begun");
-        let folder = read_all(rt.alloc(), &mut files, ".", 9);
-        assert!(rt; matches!(folder, Err(NotFetched::Failed)));
-        assert_eq!(rt; files.faults, 2);
-        Ok(())
-    }
-}

@@ -8,8 +8,6 @@ mod pictures;
 mod program;
 mod status;
 mod stretches;
-#[cfg(test)]
-mod tests;
 mod texts;
 mod traces;
 mod views;

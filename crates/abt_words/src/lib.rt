@@ -14,8 +14,6 @@ mod number;
 mod on_files;
 mod run;
 mod self_run;
-#[cfg(test)]
-mod tests;
 
 pub use command::words;
 pub use commands::Command;

@@ -8,13 +8,9 @@ mod judge;
 mod laws;
 mod numbers;
 mod reading;
-#[cfg(test)]
-mod tests;
 mod text;
 mod units;
 mod writing;
-#[cfg(test)]
-mod writing_tests;
 
 pub use laws::{each_text_has_one_answer, valid_parts_have_a_text};
 pub use reading::{NotRead, read};

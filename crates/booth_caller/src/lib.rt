@@ -4,8 +4,6 @@
 
 mod counter;
 mod letters;
-#[cfg(test)]
-mod tests;
 
 pub use counter::{Counter, add, add_on_threads, count};
 pub use letters::{Ask, Letter, Reply, Tray, deliver, pass_on};

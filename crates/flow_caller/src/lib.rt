@@ -5,8 +5,6 @@ mod laws;
 mod nodes;
 mod runs;
 mod sums;
-#[cfg(test)]
-mod tests;
 mod wavefronts;
 
 pub use laws::{

@@ -2,7 +2,5 @@
 #![tactic(auto)]
 
 mod hall;
-#[cfg(test)]
-mod tests;
 
 pub use hall::{OneLock, run_in_hall};

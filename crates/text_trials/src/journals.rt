@@ -1,7 +1,7 @@
 //! Journals, written and read back.
 
-use crate::{NotJournal, journal_text, read_journal};
 use abt_machine::{Cause, Code, Event, Journal, PoolNo, StreamNo, UnitNo, What};
+use abt_report::{NotJournal, journal_text, read_journal};
 use std::alloc::Global;
 use std::process::Abort;
 use std::test::Fail;

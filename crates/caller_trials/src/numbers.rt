@@ -1,6 +1,6 @@
 //! Runs on threads, compared with numbers that are known.
 
-use crate::{sum_on_threads, wavefront_on_threads};
+use flow_caller::{sum_on_threads, wavefront_on_threads};
 use std::test::Fail;
 
 // How many times each run is repeated.

@@ -1,7 +1,7 @@
-//! Texts that are read, and texts that are refused, each at its line.
+//! Texts that are refused, each at its line.
 
-use crate::{NotRead, each_text_has_one_answer, read};
-use abt_machine::{Body, Fault, Op, UnitNo};
+use abt_machine::Fault;
+use abt_workload::{NotRead, read};
 use std::alloc::{AllocError, Global};
 use std::test::Fail;
 
@@ -11,18 +11,8 @@ const BASE: &str = "abt 1\nstreams 1\npool 0 fifo mpmc\nsched 0 prio 0\nstream 0
 // The same in format 2.
 const BASE_TWO: &str = "abt 2\nstreams 1\npool 0 fifo mpmc\nsched 0 prio 0\nstream 0 main 0\n";
 
-// A text of format 2 whose units and operations are declared many at once.
-const MANY: &str =
-    "abt 2\nstreams 1\npool 0 fifo mpmc\nsched 0 prio 0\nsched 1 prio 0\nstream 0 main 0\nunits 7\nunit 0 ult at 0\nsay a\nmany 1 3 task later\nrepeat 2 say b\nprint\nsay c\nmany 4 1 sched 1 at 0\nmany 5 2 ult later\nend\n";
-
-// A text with each kind of part, some in unusual spelling, and without its last line feed.
-const WHOLE: &str =
-    "#\n \tabt\t1 \n\nstreams 02\nkeys 2\npool 0 fifo priv of 0\npool 1 deque mpmc\nsched 0 prio 0 1\nsched 1 randws 18446744073709551615 1\nsched 2 user 1 1\nstream 1 main 1\nstream 0 main 0\nobject 0 mutex\nobject 1 cond 0\nobject 2 eventual\nobject 3 future 2 max\nobject 4 barrier 4096\nunits 3\nunit 0 ult at 0\nset 18446744073709551615\nsay aaaaaaaaaaaaaaaaaaaaaaaaaaaaaaaaaaaaaaaaaaaaaaaaaaaaaaaaaaaaaaaa\ncreate 2 1\nkset 1\nmigratable 1 1\nlock 0\ncwait 1\newait 2\nfset 3\nbwait 4\nyieldto 2 1\nmigrateto 1 0\nunit 1 task later\nsay #x\ntrylock 0\nunit 2 sched 2 at 1\nend";
-
-// A text that is refused, below a base or by itself, with its line and fault.
-type Row = (&'static str, &'static str, u32, Fault);
-
-static ROWS: [Row; 110] = [
+// Texts that are refused, each below a base or by itself, with the line and the fault.
+static ROWS: [(&str, &str, u32, Fault); 111] = [
     ("", "abt 3\n", 1, Fault::Version),
     ("", "# a\n\nstreams 1\n", 3, Fault::Version),
     ("", "abt 01\n", 1, Fault::Version),
@@ -341,6 +331,7 @@ static ROWS: [Row; 110] = [
         Fault::Undeclared,
     ),
     ("", "abt 2\nstreams 17\n", 2, Fault::Limit),
+    ("", "abt 2\nstreams 16\npool 0 fifo mpmc\n", 4, Fault::NoEnd),
     (BASE_TWO, "units 4097\n", 6, Fault::Limit),
     (BASE_TWO, "units 0\nmany 0 0 ult at 0\n", 7, Fault::Limit),
     (
@@ -405,81 +396,51 @@ static ROWS: [Row; 110] = [
     ),
 ];
 
-// The line and the fault at which a text is refused, if it is.
-fn refused(alloc: Global, text: &[u8]) -> Option<(u32, Fault)> {
+// Bytes that are no text.
+static NO_TEXTS: [(&[u8], u32); 4] = [
+    (b"# \xff\n", 1),
+    (b"\xff", 1),
+    (b"abt 1\nwalk \xc3\n", 2),
+    (b"abt 1\n\nsay \xc3\xa9\xff\n", 3),
+];
+
+// The first bytes of texts, how long each is, and the line and the fault.
+static LENGTHS: [(&[u8], usize, u32, Fault); 6] = [
+    (b"", 4_194_305, 0, Fault::Limit),
+    (b"", 4_194_304, 2, Fault::NoEnd),
+    (b"abt 1\n", 4_194_305, 0, Fault::Limit),
+    (b"#\xff\nabt 2\n", 4_194_305, 1, Fault::Utf8),
+    (b"# two\nabt 2\n", 8_388_609, 0, Fault::Limit),
+    (b"# two\nabt 2\n", 8_388_608, 4, Fault::NoEnd),
+];
+
+/// The line and the fault at which a text is refused, if it is.
+pub(crate) fn refused(alloc: Global, text: &[u8]) -> Option<(u32, Fault)> {
     match read(alloc, text) {
         Err(NotRead::Refused { line, fault }) => Some((line, fault)),
         _ => None,
     }
 }
 
-fn row_refused(alloc: Global, row: Row) -> Option<(u32, Fault)> {
-    let (head, rest) = (row.0, row.1);
-    match format!(in alloc; "{head}{rest}") {
-        Ok(text) => refused(alloc, text.as_str().as_bytes()),
-        Err(_) => None,
-    }
-}
-
 #[test]
-fn each_fault_is_found_at_its_line(rt: HostRuntime) {
-    for row in ROWS.as_slice() {
-        assert!(rt; row_refused(rt.alloc(), *row) == Some((row.2, row.3)));
+fn each_fault_is_found_at_its_line(rt: HostRuntime) -> Result<(), Fail> {
+    let alloc = rt.alloc();
+    for (head, rest, line, fault) in &ROWS {
+        let text = format!(in alloc; "{head}{rest}")?;
+        assert_eq!(rt;
+            refused(alloc, text.as_bytes()),
+            Some((*line, *fault)),
+            "{rest}"
+        );
     }
+    Ok(())
 }
 
 #[test]
 fn bytes_that_are_no_text_are_refused(rt: HostRuntime) {
-    let alloc = rt.alloc();
-    assert!(rt; refused(alloc, b"# \xff\n") == Some((1, Fault::Utf8)));
-    assert!(rt; refused(alloc, b"\xff") == Some((1, Fault::Utf8)));
-    assert!(rt; refused(alloc, b"abt 1\nwalk \xc3\n") == Some((2, Fault::Utf8)));
-    assert!(rt; refused(alloc, b"abt 1\n\nsay \xc3\xa9\xff\n") == Some((3, Fault::Utf8)));
-}
-
-#[test]
-fn texts_are_read(rt: HostRuntime) {
-    each_text_has_one_answer();
-    match read(rt.alloc(), WHOLE.as_bytes()) {
-        Ok(w) => {
-            assert!(rt; w.streams() == 2);
-            assert!(rt; w.keys() == 2);
-            assert!(rt; w.pools() == 2);
-            assert!(rt; w.objects() == 5);
-            assert!(rt; w.units() == 3);
-        }
-        Err(_) => assert!(rt; false),
+    for (bytes, line) in &NO_TEXTS {
+        assert_eq!(rt; refused(rt.alloc(), bytes), Some((*line, Fault::Utf8)));
     }
-}
-
-#[test]
-fn units_and_operations_are_declared_many_at_once(rt: HostRuntime) {
-    match read(rt.alloc(), MANY.as_bytes()) {
-        Ok(w) => {
-            assert!(rt; w.units() == 7);
-            assert!(rt; w.unit(UnitNo(0)).body.ops().len() == 1);
-            for u in 1..4 {
-                let part = w.unit(UnitNo(u));
-                assert!(rt; matches!(&part.body, Body::Task(_)) && part.start.is_none());
-                assert!(rt; part.body.ops().len() == 4);
-                assert!(rt; part.body.ops().first() == Some(&Op::Say(3 * u - 2)));
-                assert!(rt; part.body.ops().last() == Some(&Op::Say(3 * u)));
-            }
-            assert!(rt; matches!(&w.unit(UnitNo(4)).body, Body::Sched(_)));
-            assert!(rt; w.unit(UnitNo(6)).body.ops().is_empty());
-        }
-        Err(_) => assert!(rt; false),
-    }
-}
-
-#[test]
-fn format_2_has_more_streams_units_and_operations(rt: HostRuntime) {
-    let streams = "abt 2\nstreams 16\npool 0 fifo mpmc\n";
-    assert!(rt; refused(rt.alloc(), streams.as_bytes()) == Some((4, Fault::NoEnd)));
-    let units = "units 4096\nmany 0 4096 ult later\nrepeat 15 print\nprint\nend\n";
-    assert!(rt; row_refused(rt.alloc(), (BASE_TWO, units, 0, Fault::Limit)).is_none());
-    let programs = "units 257\nmany 0 256 ult later\nrepeat 256 say a\nunit 256 ult later\nend\n";
-    assert!(rt; row_refused(rt.alloc(), (BASE_TWO, programs, 0, Fault::Limit)).is_none());
 }
 
 // A text that begins so, and has so many bytes.
@@ -493,17 +454,13 @@ fn of_length(alloc: Global, head: &[u8], bytes: usize) -> Result<Vec<u8>, AllocE
 
 #[test]
 fn a_text_that_is_too_long_is_refused(rt: HostRuntime) -> Result<(), Fail> {
-    let long = of_length(rt.alloc(), b"", 4_194_305)?;
-    assert!(rt; refused(rt.alloc(), &long) == Some((0, Fault::Limit)));
-    let most = of_length(rt.alloc(), b"", 4_194_304)?;
-    assert!(rt; refused(rt.alloc(), &most) == Some((2, Fault::NoEnd)));
-    let one = of_length(rt.alloc(), b"abt 1\n", 4_194_305)?;
-    assert!(rt; refused(rt.alloc(), &one) == Some((0, Fault::Limit)));
-    let two = of_length(rt.alloc(), b"#\xff\nabt 2\n", 4_194_305)?;
-    assert!(rt; refused(rt.alloc(), &two) == Some((1, Fault::Utf8)));
-    let longer = of_length(rt.alloc(), b"# two\nabt 2\n", 8_388_609)?;
-    assert!(rt; refused(rt.alloc(), &longer) == Some((0, Fault::Limit)));
-    let longest = of_length(rt.alloc(), b"# two\nabt 2\n", 8_388_608)?;
-    assert!(rt; refused(rt.alloc(), &longest) == Some((4, Fault::NoEnd)));
+    for (head, bytes, line, fault) in &LENGTHS {
+        let text = of_length(rt.alloc(), head, *bytes)?;
+        assert_eq!(rt;
+            refused(rt.alloc(), &text),
+            Some((*line, *fault)),
+            "{bytes}"
+        );
+    }
     Ok(())
 }

@@ -1,4 +1,6 @@
-use crate::{Command, WordFault, words};
+//! Lists of words, with the command that they say, if they say one.
+
+use abt_words::{Command, WordFault, words};
 use std::alloc::Global;
 use std::test::Fail;
 

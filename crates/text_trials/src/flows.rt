@@ -1,0 +1,137 @@
+//! Confluent workloads and their flows, and workloads that miss one condition of confluence each.
+
+ghost use Rattle.std.specs.Prelude.{IfOk};
+
+use abt_flow::{Flow, confluent, find_flow};
+use abt_machine::{Piece, Workload};
+use abt_workload::read;
+use std::alloc::Global;
+use std::process::Abort;
+use std::test::Fail;
+
+// An open pool.
+const OPEN: &str = "mpmc";
+
+// Unit 1 sets eventual 0, and starts or is created.
+const SETS: &str = "unit 1 ult at 0\nset 1\neset 0\n";
+
+const SETS_LATER: &str = "unit 1 ult later\nset 1\neset 0\n";
+
+// The access of the pool, unit 0's operations, unit 1, and whether the workload is confluent.
+static CONFLUENCE: [(&str, &str, &str, bool); 9] = [
+    (OPEN, "ewait 0\n", SETS, true),
+    (OPEN, "create 1 0\n", SETS_LATER, true),
+    ("mpsc to 0", "create 1 0\n", SETS_LATER, true),
+    (OPEN, "trylock 2\n", SETS, false),
+    (OPEN, "rdlock 3\n", SETS, false),
+    (OPEN, "eset 0\n", SETS, false),
+    (
+        OPEN,
+        "create 1 0\n",
+        "unit 1 ult later\ncreate 1 0\n",
+        false,
+    ),
+    (OPEN, "create 1 0\n", SETS, false),
+    ("priv of 0", "create 1 0\n", SETS_LATER, false),
+];
+
+// Unit 0's operations, two more units, and what each puts out, if there is a flow.
+static FLOWS: [(&str, &str, Option<[&[Piece]; 3]>); 6] = [
+    (
+        "set 9\nkset 0\newait 0\nprint\nkget 0\nprint\n",
+        "unit 1 ult at 0\nset 4\nadd 1\neset 0\nprint\nunit 2 ult later\nset 4\n",
+        Some([
+            &[Piece::Number(5), Piece::Number(9)],
+            &[Piece::Number(5)],
+            &[],
+        ]),
+    ),
+    // a unit waits before it creates who sets
+    (
+        "ewait 0\nprint\ncreate 1 0\n",
+        "unit 1 ult later\nset 3\neset 0\nunit 2 ult later\n",
+        Some([&[Piece::Number(3)], &[], &[]]),
+    ),
+    (
+        "",
+        "unit 1 ult at 0\nunit 2 ult later\n",
+        Some([&[], &[], &[]]),
+    ),
+    // it waits for itself, for one that waits for it, and for one that is not reached
+    (
+        "ewait 0\neset 0\n",
+        "unit 1 ult later\nunit 2 ult later\n",
+        None,
+    ),
+    (
+        "ewait 0\neset 1\n",
+        "unit 1 ult at 0\newait 1\neset 0\nunit 2 ult later\n",
+        None,
+    ),
+    (
+        "ewait 0\n",
+        "unit 1 ult later\neset 0\nunit 2 ult later\n",
+        None,
+    ),
+];
+
+// One stream with one pool, two eventuals, a mutex and a reader-writer lock, and so many units, which have one key each.
+fn workload(
+    alloc: Global,
+    access: &str,
+    units: u32,
+    first: &str,
+    others: &str,
+) -> Result<Workload, Fail> {
+    let text = format!(in alloc;
+        "abt 1\nstreams 1\nkeys 1\npool 0 fifo {access}\nsched 0 basic 0\nstream 0 main 0\nobject 0 eventual\nobject 1 eventual\nobject 2 mutex\nobject 3 rwlock\nunits {units}\nunit 0 ult at 0\n{first}{others}end\n"
+    )?;
+    Ok(read(alloc, text.as_bytes())?)
+}
+
+#[test]
+fn each_condition_is_asked(rt: HostRuntime) -> Result<(), Fail> {
+    let alloc = rt.alloc();
+    for (access, first, second, wanted) in &CONFLUENCE {
+        let w = workload(alloc, access, 2, first, second)?;
+        let is = confluent(alloc, &w)?;
+        assert!(rt; is == *wanted, "{first}{second}");
+    }
+    Ok(())
+}
+
+// Whether the units put this out.
+fn puts_out(flow: &Flow, wanted: &[&[Piece]]) -> bool {
+    flow.items().len() == wanted.len()
+        && flow
+            .items()
+            .iter()
+            .zip(wanted)
+            .all(|(row, output)| row.items() == *output)
+}
+
+// The flow of a confluent workload in an open pool.
+fn flow_of(
+    rt: &impl Abort,
+    alloc: Global,
+    first: &str,
+    others: &str,
+) -> Result<Option<Flow>, Fail> {
+    let w = workload(alloc, OPEN, 3, first, others)?;
+    let is = confluent(alloc, &w)?;
+    assert!(rt; is);
+    Ok(find_flow(alloc, &w)?)
+}
+
+#[test]
+fn values_flow_from_sets_to_waits(rt: HostRuntime) -> Result<(), Fail> {
+    for (first, others, wanted) in &FLOWS {
+        let is = match (flow_of(&rt, rt.alloc(), first, others)?, wanted) {
+            (Some(flow), Some(outputs)) => puts_out(&flow, outputs),
+            (None, None) => true,
+            _ => false,
+        };
+        assert!(rt; is, "{first}{others}");
+    }
+    Ok(())
+}

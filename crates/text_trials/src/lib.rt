@@ -1,0 +1,25 @@
+//! Trials of texts: of workloads, journals and views, of the command's words, of files and sinks, and of flows.
+#![tactic(auto)]
+
+#[cfg(test)]
+mod command_words;
+#[cfg(test)]
+mod files;
+#[cfg(test)]
+mod flows;
+#[cfg(test)]
+mod generated;
+#[cfg(test)]
+mod journals;
+#[cfg(test)]
+mod refusals;
+#[cfg(test)]
+mod sinks;
+#[cfg(test)]
+mod view_calls;
+#[cfg(test)]
+mod views;
+#[cfg(test)]
+mod widest;
+#[cfg(test)]
+mod writings;

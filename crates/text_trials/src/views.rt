@@ -1,0 +1,153 @@
+//! The stretches, frames and arrows of worked journals.
+
+use abt_machine::Journal;
+use abt_report::read_journal;
+use abt_view::{Arrow, Frame, Spot, Stretch, all_arrows, all_frames, all_stretches};
+use std::alloc::Global;
+use std::process::Abort;
+use std::test::Fail;
+
+// Unit 0 wakes unit 1 and is refused once; on stream 1 unit 2 is a scheduler, in which unit 1 ends.
+const STACKED: &str = "1 0 take 0 0
+1 1 take 1 2
+2 0 look 0
+2 1 look 2
+3 0 step 0 0 ok
+3 1 enter 2
+4 0 put 1 2
+5 1 take 2 1
+5 0 step 0 1 not-owner
+6 0 end 0 done
+6 1 look 1
+7 0 miss 0
+7 1 step 1 0 ok
+8 1 end 1 done
+9 1 miss 2
+10 1 leave 2
+11 1 end 2 done
+";
+
+// Within scheduler unit 0, unit 1 is one too, in which unit 2 wakes unit 3, yields to it, and is put but not taken.
+const NESTED: &str = "1 0 take 0 0
+2 0 look 0
+3 0 enter 0
+4 0 take 1 1
+5 0 look 1
+6 0 enter 1
+7 0 take 2 2
+8 0 look 2
+9 0 step 2 0 ok
+10 0 put 3 2
+11 0 step 2 1 ok
+12 0 put 2 2
+13 0 look 3
+14 0 end 3 done
+15 0 miss 2
+17 0 leave 1
+18 0 end 1 done
+";
+
+// Stream 15 and unit 4,095 are the last of a workload.
+const LAST: &str = "1 15 enter 3\n1 16 enter 3\n2 15 put 4095 0\n3 15 put 4096 0\n";
+
+// The stretches of the first: the stream, the unit, the first and the last stamp, and how many events the unit has there.
+static STRETCHES: [(u32, u32, u64, u64, usize); 4] = [
+    (0, 0, 1, 6, 5),
+    (1, 2, 1, 3, 3),
+    (1, 1, 5, 8, 4),
+    (1, 2, 11, 11, 1),
+];
+
+// Each journal, and its frames: the stream, the unit, the depth, the first and the last stamp.
+static FRAMES: [(&str, &[(u32, u32, u64, u64, u64)]); 3] = [
+    (STACKED, &[(1, 2, 0, 3, 9)]),
+    (NESTED, &[(0, 0, 0, 3, 18), (0, 1, 1, 6, 15)]),
+    (LAST, &[(15, 3, 0, 1, 3)]),
+];
+
+// An event's stream and stamp.
+type Point = (u32, u64);
+
+// The unit, the sender, the put and the end.
+type Points = (u32, Option<Point>, Point, Option<Point>);
+
+// Each journal, and its arrows.
+static ARROWS: [(&str, &[Points]); 3] = [
+    (STACKED, &[(1, Some((0, 3)), (0, 4), Some((1, 5)))]),
+    (
+        NESTED,
+        &[
+            (3, Some((0, 9)), (0, 10), Some((0, 13))),
+            (2, None, (0, 12), None),
+        ],
+    ),
+    (LAST, &[(4_095, Some((15, 1)), (15, 2), None)]),
+];
+
+// The journal of a text.
+fn journal(rt: &impl Abort, alloc: Global, text: &str) -> Result<Journal, Fail> {
+    assert!(rt; text.len() < 10_000);
+    Ok(read_journal(alloc, text.as_bytes())?)
+}
+
+fn is_stretch(
+    found: &Stretch,
+    (stream, unit, since, until, events): (u32, u32, u64, u64, usize),
+) -> bool {
+    (found.stream, found.unit) == (stream, unit)
+        && (found.since, found.until) == (since, until)
+        && found.events.items().len() == events
+}
+
+#[test]
+fn a_stretch_is_a_time_in_hand(rt: HostRuntime) -> Result<(), Fail> {
+    let journal = journal(&rt, rt.alloc(), STACKED)?;
+    let stretches = all_stretches(rt.alloc(), journal.items())?;
+    assert_eq!(rt; stretches.len(), STRETCHES.len());
+    for (found, wanted) in stretches.iter().zip(STRETCHES) {
+        assert!(rt; is_stretch(found, wanted), "unit {}", wanted.1);
+    }
+    Ok(())
+}
+
+fn is_frame(found: &Frame, (stream, unit, depth, since, until): (u32, u32, u64, u64, u64)) -> bool {
+    (found.stream, found.unit, found.depth) == (stream, unit, depth)
+        && (found.since, found.until) == (since, until)
+}
+
+#[test]
+fn a_frame_is_a_time_of_a_stacked_scheduler(rt: HostRuntime) -> Result<(), Fail> {
+    for (text, wanted) in FRAMES {
+        let journal = journal(&rt, rt.alloc(), text)?;
+        let frames = all_frames(rt.alloc(), journal.items())?;
+        assert_eq!(rt; frames.len(), wanted.len());
+        for (found, wanted) in frames.iter().zip(wanted) {
+            assert!(rt; is_frame(found, *wanted), "unit {}", wanted.1);
+        }
+    }
+    Ok(())
+}
+
+fn point(at: Spot) -> Point {
+    (at.stream, at.stamp)
+}
+
+fn is_arrow(found: &Arrow, (unit, sent, put, taken): Points) -> bool {
+    found.unit == unit
+        && found.sent.map(point) == sent
+        && point(found.put) == put
+        && found.taken.map(point) == taken
+}
+
+#[test]
+fn an_arrow_is_the_way_of_a_unit(rt: HostRuntime) -> Result<(), Fail> {
+    for (text, wanted) in ARROWS {
+        let journal = journal(&rt, rt.alloc(), text)?;
+        let arrows = all_arrows(rt.alloc(), journal.items())?;
+        assert_eq!(rt; arrows.len(), wanted.len());
+        for (found, wanted) in arrows.iter().zip(wanted) {
+            assert!(rt; is_arrow(found, *wanted), "unit {}", wanted.0);
+        }
+    }
+    Ok(())
+}

@@ -1,0 +1,133 @@
+//! Workloads, written and read again.
+
+use abt_workload::{each_text_has_one_answer, read, write};
+use std::alloc::{AllocError, Global};
+use std::test::Fail;
+
+// A scheduler that is stacked on another, revived and stacked again.
+const STACKED: &str =
+    "abt 1\nstreams 1\npool 0 fifo mpmc\npool 1 fifo mpmc\nsched 0 prio 0\nsched 1 prio 1\nstream 0 main 0\nunits 4\nunit 0 sched 1 at 0\nunit 1 ult at 1\nsay in\nunit 2 ult at 0\njoin 0\ncreate 3 1\nrevive 0 0\nunit 3 ult later\nsay again\nend\n";
+
+// The same workload, in unusual spelling and without its last line feed.
+const STACKED_OTHERWISE: &str =
+    "# stacked\n\tabt  1\n\nstreams 01\nkeys 0\npool 0 fifo  mpmc\npool 1 fifo mpmc \nsched 0 prio 00\nsched 1\tprio 1\nstream 0 main 0\n# units\nunits 004\nunit 0 sched 1 at 0\nunit 1 ult at 01\n  say in\nunit 2 ult at 0\njoin 0\ncreate 3 1\nrevive 0 0\nunit 3 ult later\nsay again\nend";
+
+// A text with each kind of part.
+const PARTS: &str =
+    "abt 1\nstreams 2\nkeys 16\npool 0 fifo priv of 0\npool 1 deque spsc from 1 to 0\npool 2 fifo mpsc to 1\npool 3 deque spmc from 0\npool 4 fifo mpmc\nsched 0 basic 0 1\nsched 1 prio 4 2\nsched 2 randws 18446744073709551615 4\nsched 3 user 1 4 3\nstream 0 main 0\nstream 1 main 1\nobject 0 mutex\nobject 1 cond 0\nobject 2 eventual\nobject 3 future 4096 sum\nobject 4 future 1 max\nobject 5 future 2 count\nobject 6 barrier 4096\nobject 7 rwlock\nunits 4\nunit 0 ult at 4\nunit 1 task later\nunit 2 sched 2 at 0\nunit 3 sched 3 later\nend\n";
+
+// A text with each operation.
+const OPERATIONS: &str =
+    "abt 1\nstreams 1\nkeys 1\npool 0 fifo mpmc\nsched 0 prio 0\nstream 0 main 0\nobject 0 mutex\nobject 1 cond 0\nobject 2 eventual\nobject 3 future 1 sum\nobject 4 barrier 1\nobject 5 rwlock\nunits 1\nunit 0 ult at 0\nset 18446744073709551615\nadd 10\nsay \u{e9}\nprint\nkset 0\nkget 0\nyield\nyieldto 0 0\nsuspend\nexit\nresume 0\ncreate 0 0\njoin 0\ncancel 0\nmigrate 0 0\nmigrateto 0 0\nmigratable 0 0\nmigratable 0 1\nrevive 0 0\nlock 0\ntrylock 0\nunlock 0\nload 0\nstore 0\ncwait 1\nsignal 1\nbroadcast 1\newait 2\neset 2\nereset 2\netest 2\nfwait 3\nfset 3\nfreset 3\nftest 3\nbwait 4\nrdlock 5\nwrlock 5\nrwunlock 5\nrwload 5\nrwstore 5\nend\n";
+
+// Operations that are declared many at once.
+const MANY: &str =
+    "abt 2\nstreams 1\npool 0 fifo mpmc\nsched 0 prio 0\nstream 0 main 0\nobject 0 rwlock\nunits 3\nmany 0 2 ult at 0\nrepeat 2 say a\nrepeat 2 rdlock 0\nmany 2 1 task later\nend\n";
+
+// The same workload, each unit and each operation on a line of its own.
+const EACH: &str =
+    "abt 1\nstreams 1\npool 0 fifo mpmc\nsched 0 prio 0\nstream 0 main 0\nobject 0 rwlock\nunits 3\nunit 0 ult at 0\nsay a\nsay a\nrdlock 0\nrdlock 0\nunit 1 ult at 0\nsay a\nsay a\nrdlock 0\nrdlock 0\nunit 2 task later\nend\n";
+
+// More streams than format 1 has.
+const NINE_STREAMS: &str =
+    "abt 2\nstreams 9\npool 0 fifo mpmc\nsched 0 prio 0\nsched 1 prio 0\nsched 2 prio 0\nsched 3 prio 0\nsched 4 prio 0\nsched 5 prio 0\nsched 6 prio 0\nsched 7 prio 0\nsched 8 prio 0\nstream 0 main 0\nstream 1 main 1\nstream 2 main 2\nstream 3 main 3\nstream 4 main 4\nstream 5 main 5\nstream 6 main 6\nstream 7 main 7\nstream 8 main 8\nunits 0\nend\n";
+
+// A text with lines in unusual order and spelling, and without its last line feed.
+const UNUSUAL: &str =
+    "#\n \tabt\t1 \n\nstreams 02\nkeys 2\npool 0 fifo priv of 0\npool 1 deque mpmc\nsched 0 prio 0 1\nsched 1 randws 18446744073709551615 1\nsched 2 user 1 1\nstream 1 main 1\nstream 0 main 0\nobject 0 mutex\nobject 1 cond 0\nobject 2 eventual\nobject 3 future 2 max\nobject 4 barrier 4096\nunits 3\nunit 0 ult at 0\nset 18446744073709551615\nsay aaaaaaaaaaaaaaaaaaaaaaaaaaaaaaaaaaaaaaaaaaaaaaaaaaaaaaaaaaaaaaaa\ncreate 2 1\nkset 1\nmigratable 1 1\nlock 0\ncwait 1\newait 2\nfset 3\nbwait 4\nyieldto 2 1\nmigrateto 1 0\nunit 1 task later\nsay #x\ntrylock 0\nunit 2 sched 2 at 1\nend";
+
+// The same workload in usual order and spelling.
+const USUAL: &str =
+    "abt 1\nstreams 2\nkeys 2\npool 0 fifo priv of 0\npool 1 deque mpmc\nsched 0 prio 0 1\nsched 1 randws 18446744073709551615 1\nsched 2 user 1 1\nstream 0 main 0\nstream 1 main 1\nobject 0 mutex\nobject 1 cond 0\nobject 2 eventual\nobject 3 future 2 max\nobject 4 barrier 4096\nunits 3\nunit 0 ult at 0\nset 18446744073709551615\nsay aaaaaaaaaaaaaaaaaaaaaaaaaaaaaaaaaaaaaaaaaaaaaaaaaaaaaaaaaaaaaaaa\ncreate 2 1\nkset 1\nmigratable 1 1\nlock 0\ncwait 1\newait 2\nfset 3\nbwait 4\nyieldto 2 1\nmigrateto 1 0\nunit 1 task later\nsay #x\ntrylock 0\nunit 2 sched 2 at 1\nend\n";
+
+// Units of each kind that are declared many at once.
+const COPIES: &str =
+    "abt 2\nstreams 1\npool 0 fifo mpmc\nsched 0 prio 0\nsched 1 prio 0\nstream 0 main 0\nunits 7\nunit 0 ult at 0\nsay a\nmany 1 3 task later\nrepeat 2 say b\nprint\nsay c\nmany 4 1 sched 1 at 0\nmany 5 2 ult later\nend\n";
+
+// The same workload, each unit and each operation on a line of its own.
+const COPIES_EACH: &str =
+    "abt 1\nstreams 1\npool 0 fifo mpmc\nsched 0 prio 0\nsched 1 prio 0\nstream 0 main 0\nunits 7\nunit 0 ult at 0\nsay a\nunit 1 task later\nsay b\nsay b\nprint\nsay c\nunit 2 task later\nsay b\nsay b\nprint\nsay c\nunit 3 task later\nsay b\nsay b\nprint\nsay c\nunit 4 sched 1 at 0\nunit 5 ult later\nunit 6 ult later\nend\n";
+
+// Texts, each with the text in which its workload is written.
+static TEXTS: [(&str, &str); 9] = [
+    (UNUSUAL, USUAL),
+    (COPIES, COPIES_EACH),
+    (MANY, EACH),
+    (EACH, EACH),
+    (NINE_STREAMS, NINE_STREAMS),
+    (STACKED_OTHERWISE, STACKED),
+    (STACKED, STACKED),
+    (PARTS, PARTS),
+    (OPERATIONS, OPERATIONS),
+];
+
+// One stream, one pool and one scheduler.
+const FRAME: &str = "streams 1\npool 0 fifo mpmc\nsched 0 prio 0\nstream 0 main 0\n";
+
+// Numbers of units, and lines that declare them with as many operations as there may be.
+static MOST: [(u32, &str); 2] = [
+    (4096, "many 0 4096 ult later\nrepeat 15 print\nprint\n"),
+    (
+        257,
+        "many 0 256 ult later\nrepeat 256 say a\nunit 256 ult later\n",
+    ),
+];
+
+/// Whether the workload of a text is written so.
+pub(crate) fn is_written(alloc: Global, text: &[u8], written: &[u8]) -> bool {
+    match read(alloc, text) {
+        Ok(w) => match write(alloc, &w) {
+            Ok(bytes) => bytes.as_slice() == written,
+            Err(_) => false,
+        },
+        Err(_) => false,
+    }
+}
+
+#[test]
+fn workloads_are_written_and_read_again(rt: HostRuntime) {
+    each_text_has_one_answer();
+    for (text, written) in &TEXTS {
+        assert!(rt;
+            is_written(rt.alloc(), text.as_bytes(), written.as_bytes()),
+            "{text}"
+        );
+    }
+}
+
+// A workload of units that do nothing, each on a line of its own.
+fn idle(alloc: Global, version: u32, units: u32) -> Result<String, AllocError> {
+    let mut text = format!(in alloc; "abt {version}\n{FRAME}units {units}\n")?;
+    for u in 0..units {
+        text.push_str(format!(in alloc; "unit {u} ult later\n")?.as_str())?;
+    }
+    text.push_str("end\n")?;
+    Ok(text)
+}
+
+#[test]
+fn more_than_256_units_are_written_in_format_2(rt: HostRuntime) -> Result<(), Fail> {
+    let alloc = rt.alloc();
+    for (units, version) in [(256, 1), (257, 2), (4096, 2)] {
+        let text = format!(in alloc;
+            "abt 2\n{FRAME}units {units}\nmany 0 {units} ult later\nend\n"
+        )?;
+        let written = idle(alloc, version, units)?;
+        assert!(rt;
+            is_written(alloc, text.as_bytes(), written.as_bytes()),
+            "{units} units"
+        );
+    }
+    Ok(())
+}
+
+#[test]
+fn so_many_operations_are_read(rt: HostRuntime) -> Result<(), Fail> {
+    let alloc = rt.alloc();
+    for (units, lines) in &MOST {
+        let text = format!(in alloc; "abt 2\n{FRAME}units {units}\n{lines}end\n")?;
+        let w = read(alloc, text.as_bytes())?;
+        assert_eq!(rt; w.units(), *units);
+    }
+    Ok(())
+}
