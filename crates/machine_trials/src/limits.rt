@@ -7,7 +7,7 @@ use abt_machine::{
 use std::alloc::{AllocError, Global};
 use std::test::Fail;
 
-// As many streams over one pool, with a scheduler for each, these units and these words.
+// So many streams over one pool, with a scheduler for each, these units and these words.
 fn wide(
     alloc: Global,
     streams: u32,
@@ -39,19 +39,24 @@ fn wide(
 // A word of 64 bytes.
 const LONG: &str = "1234567890123456789012345678901234567890123456789012345678901234";
 
-// Whether as many units may be declared that do nothing.
+// Whether so many streams may be declared.
+fn are_streams(alloc: Global, streams: u32) -> Result<bool, AllocError> {
+    Ok(wide(alloc, streams, &[], &[])?.is_valid())
+}
+
+// Whether so many units may be declared that do nothing.
 fn are_units(alloc: Global, units: usize) -> Result<bool, AllocError> {
     let rows = vec![in alloc; (Role::Ult(&[]), None); units]?;
     Ok(wide(alloc, 1, &rows, &[])?.is_valid())
 }
 
-// Whether a unit may have as many operations.
+// Whether a unit may have so many operations.
 fn are_operations(alloc: Global, ops: usize) -> Result<bool, AllocError> {
     let ops = vec![in alloc; Op::Print; ops]?;
     Ok(wide(alloc, 1, &[(Role::Ult(&ops), None)], &[])?.is_valid())
 }
 
-// Whether units may have as many operations in all, 256 each. Each operation says a word of its own, so that the text is longer
+// Whether units may have so many operations in all, 256 each. Each operation says a word of its own, so that the text is longer
 // than one of format 1 may be.
 fn are_said(alloc: Global, words: u32) -> Result<bool, AllocError> {
     let mut ops = Vec::new(alloc);
@@ -66,35 +71,43 @@ fn are_said(alloc: Global, words: u32) -> Result<bool, AllocError> {
     Ok(wide(alloc, 1, &rows, &words)?.is_valid())
 }
 
-#[test]
-fn takes_16_streams(rt: HostRuntime) -> Result<(), Fail> {
-    for (streams, valid) in [(9, true), (16, true), (17, false)] {
-        let parts = wide(rt.alloc(), streams, &[], &[])?;
-        assert_eq!(rt; parts.is_valid(), valid, "{streams}");
+// What there may be so much of.
+#[derive(Clone, Copy)]
+enum Limit {
+    Streams,
+    Units,
+    OperationsOfAUnit,
+    Operations,
+}
+
+static ROWS: [(Limit, u32, bool); 10] = [
+    (Limit::Streams, 9, true),
+    (Limit::Streams, 16, true),
+    (Limit::Streams, 17, false),
+    (Limit::Units, 257, true),
+    (Limit::Units, 4096, true),
+    (Limit::Units, 4097, false),
+    (Limit::OperationsOfAUnit, 256, true),
+    (Limit::OperationsOfAUnit, 257, false),
+    (Limit::Operations, 65536, true),
+    (Limit::Operations, 65537, false),
+];
+
+// Whether parts with so much of it are valid.
+fn are_valid(alloc: Global, limit: Limit, n: u32) -> Result<bool, AllocError> {
+    match limit {
+        Limit::Streams => are_streams(alloc, n),
+        Limit::Units => are_units(alloc, n as usize),
+        Limit::OperationsOfAUnit => are_operations(alloc, n as usize),
+        Limit::Operations => are_said(alloc, n),
     }
-    Ok(())
 }
 
 #[test]
-fn takes_4096_units(rt: HostRuntime) -> Result<(), Fail> {
-    for (units, valid) in [(257, true), (4096, true), (4097, false)] {
-        assert_eq!(rt; are_units(rt.alloc(), units)?, valid, "{units}");
-    }
-    Ok(())
-}
-
-#[test]
-fn takes_256_operations_of_a_unit(rt: HostRuntime) -> Result<(), Fail> {
-    for (ops, valid) in [(256, true), (257, false)] {
-        assert_eq!(rt; are_operations(rt.alloc(), ops)?, valid, "{ops}");
-    }
-    Ok(())
-}
-
-#[test]
-fn takes_65536_operations_of_all_units(rt: HostRuntime) -> Result<(), Fail> {
-    for (words, valid) in [(65536, true), (65537, false)] {
-        assert_eq!(rt; are_said(rt.alloc(), words)?, valid, "{words}");
+fn parts_are_valid_up_to_each_limit(rt: HostRuntime) -> Result<(), Fail> {
+    for (at, (limit, n, valid)) in ROWS.iter().enumerate() {
+        let are_valid = are_valid(rt.alloc(), *limit, *n)?;
+        assert!(rt; are_valid == *valid, "row {at}");
     }
     Ok(())
 }

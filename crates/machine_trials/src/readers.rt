@@ -125,10 +125,11 @@ static SCHEDS: [(Rule, &[PoolNo]); 3] = [
 ];
 
 fn three_units(alloc: Global) -> Result<UnitParts, AllocError> {
-    let ult = unit(alloc, Role::Ult(&OPS), Some(PoolNo(4)))?;
-    let sched = unit(alloc, Role::Sched(SchedNo(2)), None)?;
-    let task = unit(alloc, Role::Task(&[Op::Say(1)]), None)?;
-    Ok(UnitParts::new(vec![in alloc; ult, sched, task]?))
+    let mut units = Vec::new(alloc);
+    units.push(unit(alloc, Role::Ult(&OPS), Some(PoolNo(4)))?)?;
+    units.push(unit(alloc, Role::Sched(SchedNo(2)), None)?)?;
+    units.push(unit(alloc, Role::Task(&[Op::Say(1)]), None)?)?;
+    Ok(UnitParts::new(units))
 }
 
 // A workload of two streams.

@@ -164,21 +164,25 @@ fn changed(change: Change) -> Small {
 }
 
 // Nine pools that all may reach, and one of this access.
-fn pools(access: Access) -> [PoolPart; 10] {
+fn pools(alloc: Global, access: Access) -> Result<PoolParts, AllocError> {
     let open = PoolPart {
         kind: Kind::Fifo,
         access: Access::Mpmc,
     };
-    let last = PoolPart { access, ..open };
-    [open, open, open, open, open, open, open, open, open, last]
+    let mut pools = vec![in alloc; open; 9]?;
+    pools.push(PoolPart { access, ..open })?;
+    Ok(PoolParts::new(pools))
 }
 
 // A user-level thread, a tasklet and a scheduler.
 fn small_units(alloc: Global, small: &Small) -> Result<UnitParts, AllocError> {
-    let ult = unit(alloc, Role::Ult(&[Op::Say(0), small.op]), Some(PoolNo(0)))?;
-    let task = unit(alloc, Role::Task(&[Op::Say(1), small.task_op]), small.start)?;
-    let sched = unit(alloc, Role::Sched(small.sched), small.start)?;
-    Ok(UnitParts::new(vec![in alloc; ult, task, sched]?))
+    let ult = [Op::Say(0), small.op];
+    let task = [Op::Say(1), small.task_op];
+    let mut units = Vec::new(alloc);
+    units.push(unit(alloc, Role::Ult(&ult), Some(PoolNo(0)))?)?;
+    units.push(unit(alloc, Role::Task(&task), small.start)?)?;
+    units.push(unit(alloc, Role::Sched(small.sched), small.start)?)?;
+    Ok(UnitParts::new(units))
 }
 
 fn parts(alloc: Global, small: &Small) -> Result<Parts, AllocError> {
@@ -192,7 +196,7 @@ fn parts(alloc: Global, small: &Small) -> Result<Parts, AllocError> {
     Ok(Parts {
         streams: small.streams,
         keys: small.keys,
-        pools: PoolParts::new(pools(small.access).to_vec(alloc)?),
+        pools: pools(alloc, small.access)?,
         scheds: scheds(alloc, &rules)?,
         mains: Mains::new(small.mains.to_vec(alloc)?),
         objects: Things::new(objects.to_vec(alloc)?),

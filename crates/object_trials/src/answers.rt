@@ -2,14 +2,15 @@
 
 use abt_barrier::Arrival;
 use abt_chain::{Chain, Refused};
-use abt_machine::Code;
+use abt_desk::Asks;
+use abt_machine::{Code, Shown};
 use abt_unit::Unit;
 
 /// A unit's number and accumulator.
 pub type Seen = (u32, u64);
 
 /// What a call answers.
-#[derive(Clone, Copy, Debug, PartialEq, Eq)]
+#[derive(Clone, Copy, PartialEq, Eq)]
 pub enum Answer {
     /// No unit.
     Nobody,
@@ -19,6 +20,8 @@ pub enum Answer {
     Code(Code),
     Number(u64),
     Truth(bool),
+    Shown(Option<Shown>),
+    Asks(Asks),
 }
 
 /// No units where several may come out.

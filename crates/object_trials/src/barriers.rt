@@ -60,7 +60,7 @@ fn check(rt: &impl Abort, alloc: Global, parties: u32, rows: &[(Call, Answer)]) 
     let mut barrier = Barrier::new(parties);
     for (at, (call, wanted)) in rows.iter().enumerate() {
         let answer = answer(rt, alloc, &mut barrier, *call)?;
-        assert_eq!(rt; answer, *wanted, "row {at}");
+        assert!(rt; answer == *wanted, "row {at}");
     }
     Ok(())
 }

@@ -67,7 +67,7 @@ fn chains_are_lists(rt: HostRuntime) -> Result<(), Fail> {
     let mut chain = Chain::new();
     for (at, (call, wanted)) in ROWS.iter().enumerate() {
         let answer = answer(&rt, rt.alloc(), &mut chain, *call)?;
-        assert_eq!(rt; answer, *wanted, "row {at}");
+        assert!(rt; answer == *wanted, "row {at}");
     }
     assert!(rt; chain.is_empty());
     Ok(())
@@ -115,6 +115,6 @@ fn long_chains_need_little_stack(rt: HostRuntime) -> Result<(), Fail> {
         Answer::Unit((1, 19_999)),
         Answer::Unit((3, 10_000)),
     ];
-    assert_eq!(rt; taken, wanted);
+    assert!(rt; taken == wanted);
     Ok(())
 }

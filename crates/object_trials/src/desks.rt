@@ -20,20 +20,27 @@ enum Call {
     Suspend(u32, u64),
     Resume,
     Revive(PoolNo),
+    Look,
+    Number,
+    Shown,
     Held,
     Joiner(u32),
 }
 
 // A life of unit 2, and the beginning of another.
-static LIFE: [(Call, Answer); 21] = [
+static LIFE: [(Call, Answer); 26] = [
+    (Call::Number, Answer::Number(2)),
+    (Call::Shown, Answer::Shown(Some(Shown::Unborn))),
     (Call::Held, Answer::Unit((2, 7))),
     (Call::Revive(PoolNo(3)), Answer::Nobody),
     (Call::Join(1, 5), Answer::Nobody),
     (Call::Create(PoolNo(4)), Answer::Unit((2, 0))),
     (Call::Create(PoolNo(4)), Answer::Code(Code::Exists)),
+    (Call::Shown, Answer::Shown(None)),
     (Call::Held, Answer::Nobody),
     (Call::Resume, Answer::Nobody),
     (Call::Suspend(2, 8), Answer::Nobody),
+    (Call::Shown, Answer::Shown(Some(Shown::Suspended))),
     (Call::Held, Answer::Unit((2, 8))),
     (Call::Resume, Answer::Unit((2, 8))),
     (Call::Resume, Answer::Nobody),
@@ -50,23 +57,31 @@ static LIFE: [(Call, Answer); 21] = [
     (Call::Revive(PoolNo(3)), Answer::Unit((2, 0))),
     (Call::Revive(PoolNo(3)), Answer::Nobody),
     (Call::End(2, 0, Cause::Done), NO_UNITS),
+    (Call::Shown, Answer::Shown(Some(Shown::Ended(Cause::Done)))),
 ];
 
 // An end that meets no desk of its own.
-static SECOND_END: [(Call, Answer); 5] = [
+static SECOND_END: [(Call, Answer); 6] = [
     (Call::Create(PoolNo(4)), Answer::Unit((2, 0))),
     (Call::End(2, 0, Cause::Asked), NO_UNITS),
     (Call::End(2, 9, Cause::Done), NO_UNITS),
+    (Call::Shown, Answer::Shown(Some(Shown::Ended(Cause::Asked)))),
     (Call::Held, Answer::Unit((2, 0))),
     (Call::Joiner(2), Answer::Unit((2, 9))),
 ];
 
+const NOTHING: Answer = Answer::Asks(Asks {
+    cancel: false,
+    migrate: None,
+});
+
 // Requests to a unit that is unborn, and then out.
-static REQUESTS: [(Call, Answer); 11] = [
+static REQUESTS: [(Call, Answer); 14] = [
     (Call::AskMigrate(PoolNo(1)), Answer::Code(Code::UnitState)),
     (Call::SetMigratable(false), Answer::Code(Code::Ok)),
     (Call::AskMigrate(PoolNo(3)), Answer::Code(Code::UnitState)),
     (Call::AskCancel, Answer::Code(Code::UnitState)),
+    (Call::Look, NOTHING),
     (Call::Create(PoolNo(4)), Answer::Unit((2, 0))),
     (Call::SetMigratable(true), Answer::Code(Code::Ok)),
     (Call::AskMigrate(PoolNo(1)), Answer::Code(Code::Ok)),
@@ -77,10 +92,18 @@ static REQUESTS: [(Call, Answer); 11] = [
         Answer::Code(Code::NotMigratable),
     ),
     (Call::AskCancel, Answer::Code(Code::Ok)),
+    (
+        Call::Look,
+        Answer::Asks(Asks {
+            cancel: true,
+            migrate: Some(PoolNo(2)),
+        }),
+    ),
+    (Call::Look, NOTHING),
 ];
 
 // Requests to a scheduler unit that is out.
-static SCHEDULER_REQUESTS: [(Call, Answer); 4] = [
+static SCHEDULER_REQUESTS: [(Call, Answer); 6] = [
     (Call::Create(PoolNo(4)), Answer::Unit((2, 0))),
     (
         Call::AskMigrate(PoolNo(1)),
@@ -88,6 +111,14 @@ static SCHEDULER_REQUESTS: [(Call, Answer); 4] = [
     ),
     (Call::SetMigratable(true), Answer::Code(Code::NotMigratable)),
     (Call::AskCancel, Answer::Code(Code::Ok)),
+    (
+        Call::Look,
+        Answer::Asks(Asks {
+            cancel: true,
+            migrate: None,
+        }),
+    ),
+    (Call::Look, NOTHING),
 ];
 
 // A unit that begins a life, or a code.
@@ -112,51 +143,32 @@ fn answer(rt: &impl Abort, alloc: Global, desk: &mut Desk, call: Call) -> Result
         }
         Call::Resume => out(desk.resume()),
         Call::Revive(home) => out(desk.revive(home)),
+        Call::Look => Answer::Asks(desk.look()),
+        Call::Number => Answer::Number(u64::from(desk.number().0)),
+        Call::Shown => Answer::Shown(desk.shown()),
         Call::Held => found(desk.held()),
         Call::Joiner(number) => found(desk.joiner(UnitNo(number))),
     })
 }
 
-// The desk of unit 2, after these rows.
-fn after(
-    rt: &impl Abort,
-    alloc: Global,
-    sched: bool,
-    rows: &[(Call, Answer)],
-) -> Result<Desk, Fail> {
+// The desk of unit 2, call by call.
+fn check(rt: &impl Abort, alloc: Global, sched: bool, rows: &[(Call, Answer)]) -> Result<(), Fail> {
     let mut desk = Desk::new(unit(rt, alloc, 2, 7)?, sched);
     for (at, (call, wanted)) in rows.iter().enumerate() {
         let answer = answer(rt, alloc, &mut desk, *call)?;
-        assert_eq!(rt; answer, *wanted, "row {at}");
+        assert!(rt; answer == *wanted, "row {at}");
     }
-    Ok(desk)
+    Ok(())
 }
 
 #[test]
 fn desks_keep_units_and_joiners(rt: HostRuntime) -> Result<(), Fail> {
-    let desk = after(&rt, rt.alloc(), false, &LIFE)?;
-    assert_eq!(rt; desk.number(), UnitNo(2));
-    assert_eq!(rt; desk.shown(), Some(Shown::Ended(Cause::Done)));
-    let desk = after(&rt, rt.alloc(), false, &SECOND_END)?;
-    assert_eq!(rt; desk.shown(), Some(Shown::Ended(Cause::Asked)));
-    Ok(())
-}
-
-// A look finds this, and a further look nothing.
-fn looks(rt: &impl Abort, mut desk: Desk, cancel: bool, migrate: Option<PoolNo>) {
-    assert_eq!(rt; desk.look(), Asks { cancel, migrate });
-    let nothing = Asks {
-        cancel: false,
-        migrate: None,
-    };
-    assert_eq!(rt; desk.look(), nothing);
+    check(&rt, rt.alloc(), false, &LIFE)?;
+    check(&rt, rt.alloc(), false, &SECOND_END)
 }
 
 #[test]
 fn requests_are_looked_at_once(rt: HostRuntime) -> Result<(), Fail> {
-    let desk = after(&rt, rt.alloc(), false, &REQUESTS)?;
-    looks(&rt, desk, true, Some(PoolNo(2)));
-    let desk = after(&rt, rt.alloc(), true, &SCHEDULER_REQUESTS)?;
-    looks(&rt, desk, true, None);
-    Ok(())
+    check(&rt, rt.alloc(), false, &REQUESTS)?;
+    check(&rt, rt.alloc(), true, &SCHEDULER_REQUESTS)
 }

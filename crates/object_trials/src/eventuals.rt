@@ -62,7 +62,7 @@ fn eventuals_are_set_once(rt: HostRuntime) -> Result<(), Fail> {
     let mut eventual = Eventual::new();
     for (at, (call, wanted)) in EVENTUAL.iter().enumerate() {
         let answer = answer(&rt, rt.alloc(), &mut eventual, *call)?;
-        assert_eq!(rt; answer, *wanted, "row {at}");
+        assert!(rt; answer == *wanted, "row {at}");
     }
     Ok(())
 }
@@ -112,7 +112,7 @@ fn futures_are_ready_with_their_last_value(rt: HostRuntime) -> Result<(), Fail> 
     let mut future = Future::new(2, Combine::Sum);
     for (at, (call, wanted)) in FUTURE.iter().enumerate() {
         let answer = future_answer(&rt, rt.alloc(), &mut future, *call)?;
-        assert_eq!(rt; answer, *wanted, "row {at}");
+        assert!(rt; answer == *wanted, "row {at}");
     }
     Ok(())
 }
@@ -133,7 +133,7 @@ fn futures_combine_their_values(rt: HostRuntime) -> Result<(), Fail> {
             assert!(rt; future.set(value).is_ok());
         }
         let answer = out(future.wait(unit(&rt, rt.alloc(), 0, 0)?));
-        assert_eq!(rt; answer, Answer::Unit((0, wanted)));
+        assert!(rt; answer == Answer::Unit((0, wanted)));
     }
     Ok(())
 }

@@ -121,7 +121,7 @@ fn mutexes_and_conditions_serve_in_order(rt: HostRuntime) -> Result<(), Fail> {
         let mut monitor = Monitor::new(rt.alloc(), 2)?;
         for (at, (call, wanted)) in rows.iter().enumerate() {
             let answer = answer(&rt, rt.alloc(), &mut monitor, *call)?;
-            assert_eq!(rt; answer, *wanted, "row {at}");
+            assert!(rt; answer == *wanted, "row {at}");
         }
     }
     Ok(())

@@ -58,7 +58,7 @@ fn deque_pools_serve_both_ends(rt: HostRuntime) -> Result<(), Fail> {
     let mut pool = Pool::new(Kind::Deque);
     for (at, (call, wanted)) in ROWS.iter().enumerate() {
         let answer = answer(&rt, rt.alloc(), &mut pool, *call)?;
-        assert_eq!(rt; answer, *wanted, "row {at}");
+        assert!(rt; answer == *wanted, "row {at}");
     }
     assert!(rt; pool.is_empty());
     Ok(())
@@ -69,8 +69,8 @@ fn fifo_pools_serve_the_oldest(rt: HostRuntime) -> Result<(), Fail> {
     let mut pool = Pool::new(Kind::Fifo);
     pool.put(unit(&rt, rt.alloc(), 2, 0)?);
     pool.put(unit(&rt, rt.alloc(), 0, 0)?);
-    assert_eq!(rt; out(pool.take(Side::Front)), Answer::Unit((2, 0)));
-    assert_eq!(rt; out(pool.take(Side::Front)), Answer::Unit((0, 0)));
+    assert!(rt; out(pool.take(Side::Front)) == Answer::Unit((2, 0)));
+    assert!(rt; out(pool.take(Side::Front)) == Answer::Unit((0, 0)));
     assert!(rt; pool.is_empty());
     Ok(())
 }
@@ -87,6 +87,6 @@ fn pools_go_to_other_threads(rt: HostRuntime) -> Result<(), Fail> {
     let mut pool = Pool::new(Kind::Fifo);
     pool.put(unit(&rt, rt.alloc(), 2, 0)?);
     let mut pool = there_and_back(&rt, pool);
-    assert_eq!(rt; out(pool.take(Side::Front)), Answer::Unit((2, 0)));
+    assert!(rt; out(pool.take(Side::Front)) == Answer::Unit((2, 0)));
     Ok(())
 }

@@ -101,7 +101,7 @@ fn check(
 ) -> Result<(), Fail> {
     for (at, (call, wanted)) in rows.iter().enumerate() {
         let answer = answer(rt, alloc, &mut lock, *call)?;
-        assert_eq!(rt; answer, *wanted, "row {at}");
+        assert!(rt; answer == *wanted, "row {at}");
     }
     Ok(())
 }
