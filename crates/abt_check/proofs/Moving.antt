@@ -24,6 +24,7 @@ use Rattle.abt_machine.specs.Turns.{Heard, Steps, due_of, looked, number_and_pos
 use Rattle.abt_machine.specs.Values.{Held, Object, Owned}
 use Rattle.abt_machine.specs.Valid.{IsValid}
 use Rattle.abt_machine.specs.Workloads.{body_at, pools_of}
+use Rattle.abt_machine.proofs.Declared.{listed-declared}
 use Rattle.abt_laws.proofs.Orders.{next_pool-listed}
 use Rattle.abt_bounds.specs.Laws.{visited}
 use Rattle.abt_calls.specs.Allowed.{Allows}

@@ -1,5 +1,5 @@
 -- The lines of pools are taken.
-use Rattle.std.proofs.Common.{◌≡◌, ◌<◌, ◌≤◌, ℕ, List, [], ◌∷◌, ◌++◌, Option, None, ap, arith, length, refl, replicate, subst}
+use Rattle.std.proofs.Common.{◌≡◌, ◌<◌, ◌≤◌, ℕ, List, [], ◌∷◌, ◌++◌, None, ap, arith, length, refl, replicate}
 use Rattle.std.proofs.lemmas.Bool.{le-ltb, lt-leb}
 use Rattle.abt_machine.specs.declared.grammar.Form.{Form}
 use Rattle.abt_machine.specs.declared.grammar.Form.TheVariants as form
@@ -44,7 +44,7 @@ written p kind.Deque (access.Priv s) = record { words_are = refl; form_is = refl
 written p kind.Deque _ = record { words_are = refl; form_is = refl; skipped = refl; plain = refl; chosen = λ _. plain-word (kind_name kind.Deque) refl }
 
 -- the numbers of a line are in order
-met : (F : Format) (W : Parts) (section : ℕ) (front : List PoolPart) (x : Access) → IsAccess W x
+met : (F : Format) (W : Parts) (section : ℕ) (front : List PoolPart) (x : Access) → IsAccess W.streams x
     → AreMet (pooling F section W.streams W.keys front) (given (slots (form.Pool (form_access x))) (length front ∷ access_numbers x))
 met F W section front access.Mpmc h = refl
 met F W section front _ h = (refl, h)

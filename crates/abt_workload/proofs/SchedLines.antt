@@ -15,15 +15,14 @@ use Rattle.abt_machine.specs.declared.operations.Rule.TheVariants as rule
 use Rattle.abt_machine.specs.declared.workload.Parts.{Parts}
 use Rattle.abt_machine.specs.declared.workload.PoolPart.{PoolPart}
 use Rattle.abt_machine.specs.declared.workload.SchedPart.{SchedPart}
-use Rattle.abt_machine.specs.Canonical.{rule_numbers, sched_line}
-use Rattle.abt_machine.specs.Checks.{IsSchedPart}
-use Rattle.abt_machine.specs.Declaring.{Above, listed, sched_with}
+use Rattle.abt_machine.specs.Canonical.{sched_line, rule_numbers}
+use Rattle.abt_machine.specs.Declaring.{Above, at, listed, sched_with}
 use Rattle.abt_machine.specs.Faults.{has_repeated}
 use Rattle.abt_machine.specs.Forms.{rule_slots, slots}
 use Rattle.abt_machine.specs.Numbers.{pool_no}
-use Rattle.abt_machine.specs.Valid.{IsRule, IsValid}
+use Rattle.abt_machine.specs.Valid.{IsRule, IsSched, IsValid}
 use Rattle.abt_machine.specs.Words.{numbered}
-use Rattle.abt_machine.proofs.Checked.{from-sched, pairs-map}
+use Rattle.abt_machine.proofs.Elements.{all-at, pairs-map}
 use Rattle.abt_workload.specs.Slots.{values}
 use Rattle.abt_workload.proofs.Filled.{IsWritten, as_pools, given, takes}
 use Rattle.abt_workload.proofs.Fitting.{AreFit, IsSmall, fit, fit-within}
@@ -127,9 +126,9 @@ sched-taken F W v section le front part rest e =
     let read : values (given (slots f) (numbers_in g part.rule ps)) ≡ numbers_in g part.rule ps = numbers-read g part.rule ps in
     let pools : listed (form_rule part.rule) (values (given (slots f) (numbers_in g part.rule ps))) ≡ ps =
     ap (listed (form_rule part.rule)) read ∙ listed-again g part.rule ps in
-    let few_listed : length ps ≤ 8 = let most = h.pools.few_pools in rw length-map most in
+    let few_listed : length ps ≤ 8 = let most = h.few_pools in rw length-map most in
     takes a (scheduling F 5 W.streams W.keys W.pools (front ++ part ∷ [])) f [] (numbers_in g part.rule ps) (sched_line g part)
-    (written g part.rule part.pools h.pools.some_pool)
+    (written g part.rule part.pools h.some_pool)
     (fit a small number.NewSched g refl, rule-fit a small part.rule ps h.rule there)
     record {
       version = refl;

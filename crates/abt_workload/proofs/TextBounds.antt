@@ -1,7 +1,7 @@
 -- The text of a valid workload is never too long for format 2.
-use Rattle.std.proofs.Common.{◌≡◌, ◌<◌, ◌≤◌, ◌+◌, ◌*◌, ◌^◌, ℕ, zero, suc, true, false, List, [], ◌∷◌, ◌++◌, All, Option, Some, None, ap, arith, decimal, flat_map, get_or, length, length-append, map, refl, suc-mul}
+use Rattle.std.proofs.Common.{◌≡◌, ◌<◌, ◌≤◌, ◌+◌, ◌*◌, ◌^◌, ℕ, zero, suc, true, false, List, [], ◌∷◌, ◌++◌, All, Option, Some, None, IfSome, ap, arith, decimal, flat_map, get_or, length, length-append, map, refl, slice_get, suc-mul}
 use Rattle.std.specs.List.{enumerate_from}
-use Rattle.std.proofs.lemmas.List.Elements.{All-cons, All-head, All-tail}
+use Rattle.std.proofs.lemmas.List.Elements.{All-head, All-tail}
 use Rattle.std.proofs.lemmas.Option.{slice_get-get_or}
 use Rattle.abt_machine.specs.declared.grammar.Form.TheVariants as form
 use Rattle.abt_machine.specs.declared.grammar.Format.{Format}
@@ -26,8 +26,7 @@ use Rattle.abt_machine.specs.declared.workload.Parts.{Parts}
 use Rattle.abt_machine.specs.declared.workload.PoolPart.{PoolPart}
 use Rattle.abt_machine.specs.declared.workload.SchedPart.{SchedPart}
 use Rattle.abt_machine.specs.declared.workload.UnitPart.{UnitPart}
-use Rattle.abt_machine.specs.Canonical.{access_numbers, filled, form_words, keys_lines, object_line, op_numbers, op_word, op_words, pool_line, rule_numbers, sched_line, stream_line, text_in, thing_numbers, thing_word, unit_header, unit_lines}
-use Rattle.abt_machine.specs.Checks.{IsSchedPart, IsStart, IsUnitPart}
+use Rattle.abt_machine.specs.Canonical.{filled, keys_lines, object_line, op_numbers, op_word, op_words, pool_line, sched_line, stream_line, text_in, unit_lines, access_numbers, form_words, rule_numbers, thing_numbers, thing_word, unit_header}
 use Rattle.abt_machine.specs.Declaring.{Above}
 use Rattle.abt_machine.specs.Forms.{Slot, Fixed, Numeral, PoolList, access_slots, combine_name, kind_name, op_slots, rule_slots, thing_slots}
 use Rattle.abt_machine.specs.Operations.{IsDeclared}
@@ -109,7 +108,7 @@ module _ (W : Parts) (v : IsValid W) where
   sched-small : (n : ℕ) → n < length W.scheds → n < 2 ^ 64
   sched-small n lt = let few = v.few_scheds in omega arith
 
-  access-light : (x : Access) (word : Text) → IsAccess W x → weight (filled (access_slots x) word (access_numbers x)) ≤ 60
+  access-light : (x : Access) (word : Text) → IsAccess W.streams x → weight (filled (access_slots x) word (access_numbers x)) ≤ 60
   access-light (access.Priv s) word h = let d = few-digits s.0 (stream-small s.0 h) in omega arith
   access-light (access.Spsc s t) word h = let d = few-digits s.0 (stream-small s.0 h.0) in let e = few-digits t.0 (stream-small t.0 h.1) in omega arith
   access-light (access.Mpsc t) word h = let d = few-digits t.0 (stream-small t.0 h) in omega arith
@@ -120,7 +119,7 @@ module _ (W : Parts) (v : IsValid W) where
   kind-light kind.Fifo = omega arith
   kind-light kind.Deque = omega arith
 
-  pool-light : (p : ℕ) (part : PoolPart) → p < 2 ^ 64 → IsAccess W part.access → IsLight 119 (pool_line p part)
+  pool-light : (p : ℕ) (part : PoolPart) → p < 2 ^ 64 → IsAccess W.streams part.access → IsLight 119 (pool_line p part)
   pool-light p part lt h = let d = few-digits p lt in let k = kind-light part.kind in let x = access-light part.access (kind_name part.kind) h in (refl, omega arith)
 
   -- the numbers of pools
@@ -137,11 +136,11 @@ module _ (W : Parts) (v : IsValid W) where
   rule-light (rule.User k) pools h all = let d = few-digits k (omega arith) in let l = listed-light pools all in omega arith
   rule-light _ pools h all = let l = listed-light pools all in omega arith
 
-  sched-light : (g : ℕ) (part : SchedPart) → g < 2 ^ 64 → IsSchedPart W part → IsLight 300 (sched_line g part)
+  sched-light : (g : ℕ) (part : SchedPart) → g < 2 ^ 64 → IsSched (length W.pools) part → IsLight 300 (sched_line g part)
   sched-light g part lt h =
       let d = few-digits g lt in
-      let r = rule-light part.rule part.pools h.rule h.pools.declared in
-      let few = h.pools.few_pools in
+      let r = rule-light part.rule part.pools h.rule h.listed in
+      let few = h.few_pools in
       (refl, omega arith)
 
   stream-light : (s : ℕ) (g : SchedNo) → s < 2 ^ 64 → g.0 < 64 → IsLight 119 (stream_line s g)
@@ -156,7 +155,7 @@ module _ (W : Parts) (v : IsValid W) where
   combine-light combine.Max = omega arith
   combine-light combine.Count = omega arith
 
-  thing-light : (x : ℕ) (t : Thing) → x < 256 → IsThing W x t → weight (filled (thing_slots t) (thing_word t) (thing_numbers t)) ≤ 60
+  thing-light : (x : ℕ) (t : Thing) → x < 256 → IsThing W.objects x t → weight (filled (thing_slots t) (thing_word t) (thing_numbers t)) ≤ 60
   thing-light x thing.Mutex lt h = omega arith
   thing-light x (thing.Cond m) lt h = let below = h.0 in let d = few-digits m.0 (omega arith) in omega arith
   thing-light x thing.Eventual lt h = omega arith
@@ -178,7 +177,7 @@ module _ (W : Parts) (v : IsValid W) where
       let same : weight (op_words W o) ≡ weight (filled places (op_word W o) (op_numbers o)) = ap weight d.written.words_are in
       (some-op W o, omega (arith, few.1))
 
-  header-light : (u : ℕ) (b : Body) (o : Option PoolNo) → u < 2 ^ 64 → IsBody W b → IsStart W o → weight (unit_header u (record { body = b; start = o })) ≤ 119
+  header-light : (u : ℕ) (b : Body) (o : Option PoolNo) → u < 2 ^ 64 → IsBody (length W.scheds) b → IfSome o (λ (p : PoolNo). p.0 < length W.pools) → weight (unit_header u (record { body = b; start = o })) ≤ 119
   header-light u (body.Sched g) None lt h at = let d = few-digits u lt in let e = few-digits g.0 (sched-small g.0 h) in omega arith
   header-light u (body.Sched g) (Some p) lt h at =
       let d = few-digits u lt in let e = few-digits g.0 (sched-small g.0 h) in let f = few-digits p.0 (pool-small p.0 at) in omega arith
@@ -190,7 +189,7 @@ module _ (W : Parts) (v : IsValid W) where
       → size (flat_map (λ p. unit_lines W p.0 p.1) (enumerate_from k units)) ≤ (length units + length (all_ops units)) * 119
   units-light k [] few all = let e = size-nil in omega arith
   units-light k (part ∷ units) few all =
-      let right = All-head (IsUnitPart W) part units all in
+      let right = All-head (IsUnit W) part units all in
       let light = header-light k part.body part.start (omega arith) right.kind right.start in
       let ops = map-light (op_words W) 119 (IsDeclared W) op-light (ops_of part.body) right.ops in
       let head = size-line (unit_header k part) (map (op_words W) (ops_of part.body)) refl in

@@ -13,8 +13,7 @@ use Rattle.abt_machine.specs.declared.operations.Body.{Body}
 use Rattle.abt_machine.specs.declared.operations.Body.TheVariants as body
 use Rattle.abt_machine.specs.declared.workload.Parts.{Parts}
 use Rattle.abt_machine.specs.declared.workload.UnitPart.{UnitPart}
-use Rattle.abt_machine.specs.Canonical.{op_words, role_of, unit_header, unit_lines, word_at}
-use Rattle.abt_machine.specs.Checks.{IsStart, IsUnitPart}
+use Rattle.abt_machine.specs.Canonical.{op_words, unit_lines, word_at, role_of, unit_header}
 use Rattle.abt_machine.specs.Declaring.{Above, declared_units, parts_of, said_words, unit_with, units_of}
 use Rattle.abt_machine.specs.Faults.{is_beyond, is_placed, is_twice}
 use Rattle.abt_machine.specs.Operations.{IsDeclared, said_by}

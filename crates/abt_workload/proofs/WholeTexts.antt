@@ -1,7 +1,6 @@
 -- A workload's text, appended section by section.
 use Rattle.std.proofs.Common.{◌≡◌, ◌∙◌, ℕ, Bool, true, false, List, [], ◌∷◌, ◌++◌, Some, ap, append_assoc, if◌then◌else◌, refl, slice_get, slice_set, sym}
 use Rattle.std.specs.List.{All}
-use Rattle.std.proofs.lemmas.Option.{slice_get_within}
 use Rattle.abt_machine.specs.declared.grammar.Form.TheVariants as form
 use Rattle.abt_machine.specs.declared.grammar.Format.TheVariants as format
 use Rattle.abt_machine.specs.declared.workload.Parts.{Parts}
@@ -11,7 +10,7 @@ use Rattle.abt_machine.specs.Operations.{IsDeclared}
 use Rattle.abt_machine.specs.Valid.{IsUnit, IsValid}
 use Rattle.abt_machine.specs.Words.{Text, ended, line_of, numbered, text_of}
 use Rattle.abt_machine.specs.Workloads.{ops_of}
-use Rattle.abt_machine.proofs.Checked.{from-unit}
+use Rattle.abt_machine.proofs.Elements.{all-at}
 use Rattle.abt_workload.proofs.Heads.{units_lines, units_words}
 use Rattle.abt_workload.proofs.WritingLines.{text-and, text-append}
 

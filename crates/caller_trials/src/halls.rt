@@ -1,14 +1,14 @@
 //! A run over one lock round all objects, by what its report says.
 
-ghost use Rattle.std.specs.Prelude.{◌≡◌, ◌<◌, ◌≤◌, ◌+◌, ◌-◌, ◌%◌, length};
+ghost use Rattle.std.specs.Prelude.{◌≤◌, length};
 
-use abt_machine::{Event, OrderShape, Want, What, Workload};
-use abt_order::{StoredOrder, mirror, rotate};
+use abt_machine::{Event, Want, What, Workload};
+use abt_order::StoredOrder;
 use abt_report::report;
 use abt_stream::NoPace;
 use abt_workload::read;
 use hall_waves::run_in_hall;
-use std::alloc::{AllocError, Global};
+use std::alloc::Global;
 use std::sync::Wait;
 use std::test::Fail;
 use std::thread::Threads;
@@ -22,31 +22,6 @@ const SHARED: &str =
 
 const SHARED_REPORT: &str =
     "unit 0 done:\nunit 1 done:\nunit 2 done: 2\ntally units 3 unborn 0 pool 0 stream 0 blocked 0 done 3 asked 0 access 0 steps 16\nfinished\n";
-
-// The answer of shape Rotate. A value may be made of a function of this crate alone.
-fn turn(round: u64, n: u32, i: u32) -> u32
-    requires count { (0 < n) × (n ≤ 8) }
-    requires place { i < n }
-    ensures { result ≡ (round + i) % n }
-{
-    rotate(round, n, i)
-}
-
-// The answer of shape Mirror.
-fn turn_round(round: u64, n: u32, i: u32) -> u32
-    requires count { (0 < n) × (n ≤ 8) }
-    requires place { i < n }
-    ensures { result ≡ n - 1 - i }
-{
-    mirror(round, n, i)
-}
-
-fn orders(alloc: Global) -> Result<[StoredOrder; 2], AllocError> {
-    Ok([
-        StoredOrder::new(OrderShape::Rotate, Box::new(alloc, turn)?),
-        StoredOrder::new(OrderShape::Mirror, Box::new(alloc, turn_round)?),
-    ])
-}
 
 // How many events are steps.
 fn count_steps(events: &[Event]) -> u64 {
@@ -73,7 +48,7 @@ fn report_of<R: Threads + Wait + Sync>(
 #[test]
 fn streams_in_a_hall_share_a_number(rt: HostRuntime) -> Result<(), Fail> {
     let alloc = rt.alloc();
-    let orders = orders(alloc)?;
+    let orders = [StoredOrder::rotating(), StoredOrder::mirroring()];
     let w = read(alloc, SHARED.as_bytes())?;
     for _ in 0..TIMES {
         let report = report_of(&rt, alloc, &w, &orders)?;
