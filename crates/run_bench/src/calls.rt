@@ -1,0 +1,79 @@
+//! Runs and verdicts. Of each call Err says that no memory was found, or that a text is no journal's.
+
+ghost use Rattle.std.specs.Prelude.{◌≤◌, length};
+
+use abt_check::{Verdict, check};
+use abt_drain::{Run, drain};
+use abt_machine::{Journal, Want, Workload};
+use abt_order::StoredOrder;
+use abt_report::{NotJournal, journal_text, read_journal};
+use abt_stream::NoPace;
+use abt_waves::run_streams;
+use std::alloc::Global;
+use std::io;
+use std::sync::Wait;
+use std::thread::Threads;
+
+fn no_memory(_want: Want) -> io::Error {
+    io::Error::from(io::ErrorKind::OutOfMemory)
+}
+
+fn not_journal(cause: NotJournal) -> io::Error {
+    io::Error::from(match cause {
+        NotJournal::Bad { .. } => io::ErrorKind::InvalidData,
+        NotJournal::Memory => io::ErrorKind::OutOfMemory,
+    })
+}
+
+/// The run of a workload on this thread.
+pub fn drained(alloc: Global, orders: &[StoredOrder], w: &Workload, steps: u64) -> io::Result<Run>
+    requires orders { 2 ≤ length orders.now }
+{
+    drain(alloc, w, orders, steps).map_err(no_memory)
+}
+
+/// A run of a workload on threads.
+pub fn threaded<R: Threads + Wait + Sync>(
+    rt: &R,
+    alloc: Global,
+    orders: &[StoredOrder],
+    w: &Workload,
+    steps: u64,
+) -> io::Result<Run>
+    requires orders { 2 ≤ length orders.now }
+{
+    run_streams(alloc, rt, w, orders, &NoPace, steps).map_err(no_memory)
+}
+
+/// Whether a journal is a run of a workload.
+pub fn judged(
+    alloc: Global,
+    orders: &[StoredOrder],
+    w: &Workload,
+    journal: &Journal,
+) -> io::Result<Verdict>
+    requires orders { 2 ≤ length orders.now }
+{
+    check(alloc, w, orders, journal).map_err(no_memory)
+}
+
+/// The text of the journal of a workload's run on this thread.
+pub fn drained_text(
+    alloc: Global,
+    orders: &[StoredOrder],
+    w: &Workload,
+    steps: u64,
+) -> io::Result<Vec<u8>>
+    requires orders { 2 ≤ length orders.now }
+{
+    let run = drained(alloc, orders, w, steps)?;
+    journal_text(alloc, &run.journal).map_err(no_memory)
+}
+
+/// The journal of a text.
+pub fn journal_of(alloc: Global, text: &[u8]) -> io::Result<Journal> {
+    if text.len() >= u32::MAX as usize {
+        return Err(io::Error::from(io::ErrorKind::InvalidData));
+    }
+    read_journal(alloc, text).map_err(not_journal)
+}

@@ -1,0 +1,309 @@
+//! The workloads that are run.
+
+ghost use Rattle.std.specs.Prelude.{◌<◌};
+
+use abt_machine::Workload;
+use abt_workload::{NotRead, read};
+use std::alloc::{AllocError, Global};
+use std::io;
+
+/// A workload.
+#[derive(Clone, Copy)]
+pub enum Load {
+    /// A stream whose units yield.
+    One,
+    /// Four streams, each as in `One`.
+    Four,
+    /// Four streams whose units lock one mutex.
+    Mutex,
+    /// A stream that creates units, and three streams that take them from one pool.
+    Pool,
+    /// Four streams whose units wait at one barrier.
+    Barrier,
+    /// Four streams, and the units of all in the deque of one.
+    Deque,
+    /// A stream whose units yield often.
+    Busy,
+    /// The same, beside one stream without a unit.
+    BusyBesideOne,
+    /// The same, beside seven streams without a unit.
+    BusyBesideSeven,
+}
+
+pub const LOADS: [Load; 9] = [
+    Load::One,
+    Load::Four,
+    Load::Mutex,
+    Load::Pool,
+    Load::Barrier,
+    Load::Deque,
+    Load::Busy,
+    Load::BusyBesideOne,
+    Load::BusyBesideSeven,
+];
+
+const ONE_STREAM: &str = "abt 2
+streams 1
+pool 0 fifo mpmc
+sched 0 prio 0
+stream 0 main 0
+";
+
+const FOUR_STREAMS: &str = "abt 2
+streams 4
+pool 0 fifo mpmc
+pool 1 fifo mpmc
+pool 2 fifo mpmc
+pool 3 fifo mpmc
+sched 0 prio 0
+sched 1 prio 1
+sched 2 prio 2
+sched 3 prio 3
+stream 0 main 0
+stream 1 main 1
+stream 2 main 2
+stream 3 main 3
+";
+
+const LOCKS: &str = "lock 0
+unlock 0
+lock 0
+unlock 0
+lock 0
+unlock 0
+lock 0
+unlock 0
+lock 0
+unlock 0
+lock 0
+unlock 0
+lock 0
+unlock 0
+lock 0
+unlock 0
+";
+
+const BUSY_UNITS: &str = "units 200
+many 0 200 ult at 0
+repeat 250 yield
+";
+
+static ONE: [&str; 2] = [
+    ONE_STREAM,
+    "units 64
+many 0 64 ult at 0
+repeat 256 yield
+",
+];
+
+static FOUR: [&str; 2] = [
+    FOUR_STREAMS,
+    "units 256
+many 0 64 ult at 0
+repeat 256 yield
+many 64 64 ult at 1
+repeat 256 yield
+many 128 64 ult at 2
+repeat 256 yield
+many 192 64 ult at 3
+repeat 256 yield
+",
+];
+
+static MUTEX: [&str; 10] = [
+    FOUR_STREAMS,
+    "object 0 mutex
+units 4000
+",
+    "many 0 1000 ult at 0\n",
+    LOCKS,
+    "many 1000 1000 ult at 1\n",
+    LOCKS,
+    "many 2000 1000 ult at 2\n",
+    LOCKS,
+    "many 3000 1000 ult at 3\n",
+    LOCKS,
+];
+
+// The units that create these come behind them.
+static POOL: [&str; 1] = [
+    "abt 2
+streams 4
+pool 0 fifo mpmc
+pool 1 fifo mpmc
+sched 0 prio 0
+sched 1 prio 1
+sched 2 prio 1
+sched 3 prio 1
+stream 0 main 0
+stream 1 main 1
+stream 2 main 2
+stream 3 main 3
+units 3840
+many 0 3825 task later
+repeat 8 add 1
+",
+];
+
+static BARRIER: [&str; 2] = [
+    FOUR_STREAMS,
+    "object 0 barrier 4000
+units 4000
+many 0 1000 ult at 0
+repeat 16 bwait 0
+many 1000 1000 ult at 1
+repeat 16 bwait 0
+many 2000 1000 ult at 2
+repeat 16 bwait 0
+many 3000 1000 ult at 3
+repeat 16 bwait 0
+",
+];
+
+static DEQUE: [&str; 1] = [
+    "abt 2
+streams 4
+pool 0 deque mpmc
+pool 1 deque mpmc
+pool 2 deque mpmc
+pool 3 deque mpmc
+sched 0 randws 1 0
+sched 1 randws 2 1 0
+sched 2 randws 3 2 0
+sched 3 randws 4 3 0
+stream 0 main 0
+stream 1 main 1
+stream 2 main 2
+stream 3 main 3
+units 4096
+many 0 4096 task at 0
+repeat 8 add 1
+",
+];
+
+static BUSY: [&str; 2] = [ONE_STREAM, BUSY_UNITS];
+
+static BUSY_BESIDE_ONE: [&str; 2] = [
+    "abt 2
+streams 2
+pool 0 fifo mpmc
+pool 1 fifo mpmc
+sched 0 prio 0
+sched 1 prio 1
+stream 0 main 0
+stream 1 main 1
+",
+    BUSY_UNITS,
+];
+
+static BUSY_BESIDE_SEVEN: [&str; 2] = [
+    "abt 2
+streams 8
+pool 0 fifo mpmc
+pool 1 fifo mpmc
+pool 2 fifo mpmc
+pool 3 fifo mpmc
+pool 4 fifo mpmc
+pool 5 fifo mpmc
+pool 6 fifo mpmc
+pool 7 fifo mpmc
+sched 0 prio 0
+sched 1 prio 1
+sched 2 prio 2
+sched 3 prio 3
+sched 4 prio 4
+sched 5 prio 5
+sched 6 prio 6
+sched 7 prio 7
+stream 0 main 0
+stream 1 main 1
+stream 2 main 2
+stream 3 main 3
+stream 4 main 4
+stream 5 main 5
+stream 6 main 6
+stream 7 main 7
+",
+    BUSY_UNITS,
+];
+
+// How many units of `Load::Pool` create others, and how many each creates.
+const CREATORS: u32 = 15;
+
+const CREATED: u32 = 255;
+
+fn not_read(cause: NotRead) -> io::Error {
+    io::Error::from(match cause {
+        NotRead::Refused { .. } => io::ErrorKind::InvalidData,
+        NotRead::Memory => io::ErrorKind::OutOfMemory,
+    })
+}
+
+impl Load {
+    pub fn name(self) -> &'static str {
+        match self {
+            Load::One => "one stream",
+            Load::Four => "four streams",
+            Load::Mutex => "one mutex",
+            Load::Pool => "one pool",
+            Load::Barrier => "one barrier",
+            Load::Deque => "one deque",
+            Load::Busy => "a busy stream",
+            Load::BusyBesideOne => "a busy stream beside an idle one",
+            Load::BusyBesideSeven => "a busy stream beside seven idle ones",
+        }
+    }
+
+    pub fn workload(self, alloc: Global) -> io::Result<Workload> {
+        let text = self.text(alloc)?;
+        read(alloc, text.as_bytes()).map_err(not_read)
+    }
+
+    fn text(self, alloc: Global) -> Result<String, AllocError> {
+        let mut text = String::new(alloc);
+        for piece in self.pieces() {
+            text.push_str(piece)?;
+        }
+        if let Load::Pool = self {
+            add_creators(alloc, &mut text)?;
+        }
+        text.push_str("end\n")?;
+        Ok(text)
+    }
+
+    // The pieces of its text, but for the units of `Pool` that create others, and the last line.
+    fn pieces(self) -> &'static [&'static str] {
+        match self {
+            Load::One => &ONE,
+            Load::Four => &FOUR,
+            Load::Mutex => &MUTEX,
+            Load::Pool => &POOL,
+            Load::Barrier => &BARRIER,
+            Load::Deque => &DEQUE,
+            Load::Busy => &BUSY,
+            Load::BusyBesideOne => &BUSY_BESIDE_ONE,
+            Load::BusyBesideSeven => &BUSY_BESIDE_SEVEN,
+        }
+    }
+}
+
+// The units in pool 0 that create those above.
+fn add_creators(alloc: Global, text: &mut String) -> Result<(), AllocError> {
+    for creator in 0..CREATORS {
+        add_creator(alloc, text, creator)?;
+    }
+    Ok(())
+}
+
+// One of them, and the units that it creates.
+fn add_creator(alloc: Global, text: &mut String, creator: u32) -> Result<(), AllocError>
+    requires { creator < CREATORS }
+{
+    let unit = CREATORS * CREATED + creator;
+    text.push_str(&format!(in alloc; "unit {unit} ult at 0\n")?)?;
+    for created in 0..CREATED {
+        let unit = creator * CREATED + created;
+        text.push_str(&format!(in alloc; "create {unit} 1\n")?)?;
+    }
+    Ok(())
+}
