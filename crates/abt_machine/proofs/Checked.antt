@@ -9,6 +9,7 @@ use Rattle.abt_machine.specs.declared.operations.Body.TheVariants as body
 use Rattle.abt_machine.specs.declared.workload.Parts.{Parts}
 use Rattle.abt_machine.specs.declared.workload.UnitPart.{UnitPart}
 use Rattle.abt_machine.specs.Checks.{AreCounts}
+use Rattle.abt_machine.specs.Limits.{sched_limit}
 use Rattle.abt_machine.specs.Valid.{IsBody, IsUnit, IsValid, placed_scheds, sched_in}
 use Rattle.abt_machine.specs.Workloads.{main_from, main_of}
 use Rattle.abt_machine.proofs.Elements.{at-all}
@@ -28,38 +29,38 @@ valid-counts W h = record {
   few_units = h.few_units;
 }
 
--- the scheduler that a right body is, is one of 64
-body-places : (W : Parts) (b : Body) → IsBody (length W.scheds) b → length W.scheds ≤ 64 → All (λ g. g < 64) (sched_in b)
+-- the scheduler that a right body is, is one of those that there may be
+body-places : (W : Parts) (b : Body) → IsBody (length W.scheds) b → length W.scheds ≤ sched_limit → All (λ g. g < sched_limit) (sched_in b)
 body-places W (body.Ult ops) h few = λ k d within. absurd (omega arith)
 body-places W (body.Task ops) h few = λ k d within. absurd (omega arith)
 body-places W (body.Sched g) h few = by
   where
-    by : All (λ n. n < 64) (g.0 ∷ [])
+    by : All (λ n. n < sched_limit) (g.0 ∷ [])
     by zero d within = omega arith
     by (suc k) d within = absurd (omega arith)
 
--- the schedulers that right units are, are of the 64
-units-places : (W : Parts) (units : List UnitPart) → All (IsUnit W) units → length W.scheds ≤ 64 → All (λ g. g < 64) (flat_map (λ (part : UnitPart). sched_in part.body) units)
+-- the schedulers that right units are, are of those
+units-places : (W : Parts) (units : List UnitPart) → All (IsUnit W) units → length W.scheds ≤ sched_limit → All (λ g. g < sched_limit) (flat_map (λ (part : UnitPart). sched_in part.body) units)
 units-places W [] h few = λ k d within. absurd (omega arith)
 units-places W (part ∷ units) h few =
-    All-append (λ g. g < 64) (sched_in part.body) (flat_map (λ (p : UnitPart). sched_in p.body) units)
+    All-append (λ g. g < sched_limit) (sched_in part.body) (flat_map (λ (p : UnitPart). sched_in p.body) units)
     (body-places W part.body (h 0 part (omega arith)).kind few)
     (units-places W units (λ k d within. h (suc k) d (omega arith)) few)
 
--- the main schedulers of a valid workload are of the 64
-pub mains-places : (W : Parts) → IsValid W → All (λ (g : SchedNo). g.0 < 64) W.mains
-mains-places W h = at-all (λ (g : SchedNo). g.0 < 64) W.mains (λ s g at.
+-- the main schedulers of a valid workload are of those
+pub mains-places : (W : Parts) → IsValid W → All (λ (g : SchedNo). g.0 < sched_limit) W.mains
+mains-places W h = at-all (λ (g : SchedNo). g.0 < sched_limit) W.mains (λ s g at.
     let inside = slice_get_within W.mains s g at in
     let same : main_of W s ≡ g.0 = ap main_from at in
     let main = (h.streams s (let n = h.mains in omega arith)).main in
     let few = h.few_scheds in
     omega arith)
 
--- the schedulers that have a place are apart, and of the 64
-pub valid-places : (W : Parts) → IsValid W → All (λ g. g < 64) (placed_scheds W) × AllPairs (λ a b. a ≢ b) (placed_scheds W)
+-- the schedulers that have a place are apart, and of those
+pub valid-places : (W : Parts) → IsValid W → All (λ g. g < sched_limit) (placed_scheds W) × AllPairs (λ a b. a ≢ b) (placed_scheds W)
 valid-places W h = (
-  All-append (λ g. g < 64) (map (λ (g : SchedNo). g.0) W.mains) (flat_map (λ (part : UnitPart). sched_in part.body) W.units)
-      (All-map (λ g. g < 64) (λ (g : SchedNo). g.0) W.mains (mains-places W h))
+  All-append (λ g. g < sched_limit) (map (λ (g : SchedNo). g.0) W.mains) (flat_map (λ (part : UnitPart). sched_in part.body) W.units)
+      (All-map (λ g. g < sched_limit) (λ (g : SchedNo). g.0) W.mains (mains-places W h))
       (units-places W W.units h.units h.few_scheds),
   h.one_place,
 )

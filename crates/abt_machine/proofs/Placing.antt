@@ -5,6 +5,7 @@ use Rattle.std.proofs.lemmas.Bool.{and_from, and_parts, lt-ltb, ltb-true, not-tr
 use Rattle.std.proofs.lemmas.List.Elements.{All-cons}
 use Rattle.std.proofs.lemmas.List.Kept.{AllPairs-cons}
 use Rattle.abt_machine.specs.Checks.{place, places}
+use Rattle.abt_machine.specs.Limits.{sched_limit}
 
 -- a relation of each pair holds of the first and each later one
 pub pairs-head : {A : Type 0} (R : A → A → Type 0) (x : A) (xs : List A) → AllPairs R (x ∷ xs) → All (R x) xs
@@ -81,26 +82,26 @@ never zero k = refl
 never (suc n) zero = refl
 never (suc n) (suc k) = never n k
 
--- schedulers of a table of 64, apart
+-- schedulers of a table of as many as there may be, apart
 abbrev pub HaveOwnPlaces : List ℕ → Type 0
-HaveOwnPlaces xs = All (λ g. g < 64) xs × AllPairs (λ a b. a ≢ b) xs
+HaveOwnPlaces xs = All (λ g. g < sched_limit) xs × AllPairs (λ a b. a ≢ b) xs
 
 -- a test that says whether all were placed says whether they are apart
-pub own-places : (b : Bool) (xs : List ℕ) (o : Option (List Bool)) → o ≡ places xs (replicate 64 false) → b ≡ is_some o → IsTrue b ↔ HaveOwnPlaces xs
+pub own-places : (b : Bool) (xs : List ℕ) (o : Option (List Bool)) → o ≡ places xs (replicate sched_limit false) → b ≡ is_some o → IsTrue b ↔ HaveOwnPlaces xs
 own-places b xs None is e = (
   λ t. cc,
   λ h. absurd
-      (let some = free-placed xs (replicate 64 false) (record { below = h.0; apart = h.1; free = λ k d within. never 64 (get_or xs k d) }) in
-      let none : is_some (places xs (replicate 64 false)) ≡ false = ap is_some (sym is) in
+      (let some = free-placed xs (replicate sched_limit false) (record { below = h.0; apart = h.1; free = λ k d within. never sched_limit (get_or xs k d) }) in
+      let none : is_some (places xs (replicate sched_limit false)) ≡ false = ap is_some (sym is) in
       let P : ⊥ = cc in P),
 )
-own-places b xs (Some new) is e = (λ t. let h = placed-free xs (replicate 64 false) new (sym is) in (h.below, h.apart), λ h. e)
+own-places b xs (Some new) is e = (λ t. let h = placed-free xs (replicate sched_limit false) new (sym is) in (h.below, h.apart), λ h. e)
 
 -- the second test decides, if the first passed
-pub own-then : (m b : Bool) (t1 t2 : List Bool) (xs ys : List ℕ) → m ≡ true → cond m (Some t1) None ≡ places xs (replicate 64 false) → cond b (Some t2) None ≡ places ys t1 → IsTrue b ↔ HaveOwnPlaces (xs ++ ys)
+pub own-then : (m b : Bool) (t1 t2 : List Bool) (xs ys : List ℕ) → m ≡ true → cond m (Some t1) None ≡ places xs (replicate sched_limit false) → cond b (Some t2) None ≡ places ys t1 → IsTrue b ↔ HaveOwnPlaces (xs ++ ys)
 own-then m b t1 t2 xs ys was first then =
     own-places b (xs ++ ys) (cond b (Some t2) None)
-    (then ∙ ap (option_and_then (places ys)) (sym (ap (λ (t : Bool). cond t (Some t1) None) was) ∙ first) ∙ sym (places-append xs ys (replicate 64 false)))
+    (then ∙ ap (option_and_then (places ys)) (sym (ap (λ (t : Bool). cond t (Some t1) None) was) ∙ first) ∙ sym (places-append xs ys (replicate sched_limit false)))
     (by b)
   where
     by : (c : Bool) → c ≡ is_some (cond c (Some t2) None)
@@ -108,8 +109,8 @@ own-then m b t1 t2 xs ys was first then =
     by false = refl
 
 -- the first test decides, if it failed
-pub own-else : (m : Bool) (t : List Bool) (xs ys : List ℕ) → m ≡ false → cond m (Some t) None ≡ places xs (replicate 64 false) → IsTrue m ↔ HaveOwnPlaces (xs ++ ys)
+pub own-else : (m : Bool) (t : List Bool) (xs ys : List ℕ) → m ≡ false → cond m (Some t) None ≡ places xs (replicate sched_limit false) → IsTrue m ↔ HaveOwnPlaces (xs ++ ys)
 own-else m t xs ys was first =
     own-places m (xs ++ ys) None
-    (ap (option_and_then (places ys)) (sym (ap (λ (c : Bool). cond c (Some t) None) was) ∙ first) ∙ sym (places-append xs ys (replicate 64 false)))
+    (ap (option_and_then (places ys)) (sym (ap (λ (c : Bool). cond c (Some t) None) was) ∙ first) ∙ sym (places-append xs ys (replicate sched_limit false)))
     was

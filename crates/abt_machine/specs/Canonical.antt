@@ -99,8 +99,8 @@ object_line x thing = form_words (form.Object thing) (thing_word thing) (x ∷ t
 -- Units.
 
 -- the word that a number stands for
-abbrev pub word_at : Parts → ℕ → Text
-word_at W n = slice_index_or W.words n []
+abbrev pub word_of : Parts → ℕ → Text
+word_of W n = slice_index_or W.words n []
 
 -- the number that says whether something holds
 abbrev pub bit : Bool → ℕ
@@ -152,7 +152,7 @@ op_numbers (op.RwStore x) = x.0 ∷ []
 
 -- the word that it says, if it says one
 abbrev pub op_word : Parts → Op → Text
-op_word W (op.Say w) = word_at W w
+op_word W (op.Say w) = word_of W w
 op_word W o = []
 
 -- the words of an operation's line: those of its form, with its word and its numbers
@@ -191,17 +191,28 @@ abbrev pub keys_lines : ℕ → List (List Text)
 keys_lines zero = []
 keys_lines (suc n) = form_words form.Keys [] (suc n ∷ []) ∷ []
 
--- the lines of a workload in a format, each as its words
-abbrev pub workload_lines : Format → Parts → List (List Text)
-workload_lines F W =
-    form_words (form.Version F) [] [] ∷
-    form_words form.Streams [] (W.streams ∷ []) ∷
-    keys_lines W.keys ++
+-- the version and the counts of streams and of keys
+abbrev pub opening_lines : Format → ℕ → ℕ → List (List Text)
+opening_lines F streams keys = form_words (form.Version F) [] [] ∷ form_words form.Streams [] (streams ∷ []) ∷ keys_lines keys
+
+-- the lines before that of the number of units
+abbrev pub first_lines : Format → Parts → List (List Text)
+first_lines F W =
+    opening_lines F W.streams W.keys ++
     numbered pool_line W.pools ++
     numbered sched_line W.scheds ++
     numbered stream_line W.mains ++
-    numbered object_line W.objects ++
-    form_words form.Units [] (length W.units ∷ []) ∷
+    numbered object_line W.objects
+
+-- the line of the number of units
+abbrev pub units_words : Parts → List Text
+units_words W = form_words form.Units [] (length W.units ∷ [])
+
+-- the lines of a workload in a format, each as its words
+abbrev pub workload_lines : Format → Parts → List (List Text)
+workload_lines F W =
+    first_lines F W ++
+    units_words W ∷
     flat_map (λ p. unit_lines W p.0 p.1) (enumerate_from 0 W.units) ++
     form_words form.End [] [] ∷ []
 

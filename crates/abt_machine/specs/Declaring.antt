@@ -172,13 +172,13 @@ body_with role.Task numbers = body.Task []
 body_with role.Sched numbers = body.Sched (sched_no (at numbers 1))
 
 -- at which place of a `unit` line's numbers its pool stands
-abbrev pub start_place : Role → ℕ
-start_place role.Ult = 1
-start_place role.Task = 1
-start_place role.Sched = 2
+abbrev pub pool_place : Role → ℕ
+pool_place role.Ult = 1
+pool_place role.Task = 1
+pool_place role.Sched = 2
 
 abbrev pub start_with : Role → Option PoolNo → List ℕ → Option PoolNo
-start_with r start numbers = option_map (λ (p : PoolNo). pool_no (at numbers (start_place r))) start
+start_with r start numbers = option_map (λ (p : PoolNo). pool_no (at numbers (pool_place r))) start
 
 -- the operation with these numbers; the words that units say are counted, and this many are said before it
 abbrev pub op_with : Op → ℕ → List ℕ → Op
@@ -249,8 +249,8 @@ abbrev pub unit_and : Op → UnitPart → UnitPart
 unit_and o part = record part { body = body_and o part.body }
 
 -- what is declared with a line that declares so many units like this one
-abbrev pub with_units : Above → ℕ → UnitPart → Above
-with_units a n part = record a { units = units_of a; last = Some part; copies = n; words = said_words a; said = [] }
+abbrev pub with_copies : Above → ℕ → UnitPart → Above
+with_copies a n part = record a { units = units_of a; last = Some part; copies = n; words = said_words a; said = [] }
 
 -- what is declared with an operation line of these words and numbers
 abbrev pub with_operation : Op → List Text → List ℕ → Above → Above
@@ -271,8 +271,8 @@ declared_with a (form.Sched rule) words numbers = record a { scheds = a.scheds +
 declared_with a form.Stream words numbers = record a { mains = slice_set a.mains (at numbers 0) (Some (sched_no (at numbers 1))) }
 declared_with a (form.Object thing) words numbers = record a { objects = a.objects ++ thing_with thing words numbers ∷ [] }
 declared_with a form.Units words numbers = record a { unit_count = Some (at numbers 0) }
-declared_with a (form.Unit role start) words numbers = with_units a 1 (unit_with role start numbers)
-declared_with a (form.Many role start) words numbers = with_units a (at numbers 1) (unit_with role start (drop 1 numbers))
+declared_with a (form.Unit role start) words numbers = with_copies a 1 (unit_with role start numbers)
+declared_with a (form.Many role start) words numbers = with_copies a (at numbers 1) (unit_with role start (drop 1 numbers))
 declared_with a form.End words numbers = a
 declared_with a (form.Operation o) words numbers = with_operation o words numbers a
 declared_with a (form.Repeat o) words numbers = with_operations (at numbers 0) o (drop 2 words) (drop 1 numbers) a

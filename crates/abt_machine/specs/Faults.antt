@@ -21,7 +21,7 @@ use Rattle.abt_machine.specs.declared.program.Fault.TheVariants as fault
 use Rattle.abt_machine.specs.declared.workload.UnitPart.{UnitPart}
 use Rattle.abt_machine.specs.Access.{may_take_all}
 use Rattle.abt_machine.specs.Declaring.{Above, at, declared_units, listed, parts_of, units_of, word_in}
-use Rattle.abt_machine.specs.Forms.{begins, fits, form_of, forms, is_in, numerals, section, slots}
+use Rattle.abt_machine.specs.Forms.{begins_with, fits, form_of, forms, is_in, numerals, section, slots}
 use Rattle.abt_machine.specs.Limits.{listed_limit, object_limit, operation_limit, pool_limit, sched_limit, stream_limit, unit_limit, unit_operation_limit, word_limit}
 use Rattle.abt_machine.specs.Operations.{may_block}
 use Rattle.abt_machine.specs.Spelling.{has_control, is_number, value_of, words_of}
@@ -50,7 +50,7 @@ is_no_version a words = not a.begun && not (fits (slots (form.Version format.One
 
 -- its first word begins no line of the text's format
 abbrev pub is_unknown : Format → List Text → Bool
-is_unknown F words = not (list_any (λ f. is_in F f && begins (slots f) words) forms)
+is_unknown F words = not (list_any (λ f. is_in F f && begins_with (slots f) words) forms)
 
 -- Shape.
 
@@ -239,12 +239,20 @@ is_early a f = is_none a.streams
 
 -- The table of faults.
 
+-- the values of words that are numbers, each with what it is
+abbrev pub valued : List (Number × Text) → List (Number × ℕ)
+valued = map (λ (p : Number × Text). (p.0, value_of p.1))
+
+-- the values alone
+abbrev pub values : List (Number × ℕ) → List ℕ
+values = map (λ (p : Number × ℕ). p.1)
+
 -- the numbers of a line of this form
 abbrev pub numbers_of : Form → List Text → List (Number × ℕ)
-numbers_of f words = map (λ (p : Number × Text). (p.0, value_of p.1)) (numerals (slots f) words)
+numbers_of f words = valued (numerals (slots f) words)
 
 abbrev pub values_of : Form → List Text → List ℕ
-values_of f words = map (λ (p : Number × ℕ). p.1) (numbers_of f words)
+values_of f words = values (numbers_of f words)
 
 -- what is asked of a line's form holds if it has one
 abbrev pub of_form : (Form → Bool) → Option Form → Bool

@@ -172,7 +172,7 @@ section form.End = 10
 section (form.Operation o) = 9
 section (form.Repeat o) = 9
 
--- All forms, one of each.
+-- All forms, one of each, whose numbers are all 0.
 
 abbrev pub operations : List Op
 operations =
@@ -194,21 +194,24 @@ abbrev pub rules : List Rule
 rules = rule.Basic ∷ rule.Prio ∷ rule.Randws 0 ∷ rule.User 0 ∷ []
 
 abbrev pub things : List Thing
-things = thing.Mutex ∷ thing.Cond (object_no 0) ∷ thing.Eventual ∷ thing.Future 0 combine.Sum ∷ thing.Barrier 0 ∷ thing.RwLock ∷ []
+things = thing.Mutex ∷ thing.Cond (object_no 0) ∷ thing.Eventual ∷ thing.Future 0 combine.Count ∷ thing.Barrier 0 ∷ thing.RwLock ∷ []
 
--- a unit of a role, with a start and without
-abbrev pub unit_forms : Role → List Form
-unit_forms r = form.Unit r (Some (pool_no 0)) ∷ form.Unit r None ∷ []
+-- a unit starts in a pool, or later
+abbrev pub starts : List (Option PoolNo)
+starts = Some (pool_no 0) ∷ None ∷ []
 
--- the same of a `many` line
-abbrev pub many_forms : Role → List Form
-many_forms r = form.Many r (Some (pool_no 0)) ∷ form.Many r None ∷ []
+-- the forms of both formats
+abbrev pub shared_forms : List Form
+shared_forms =
+    form.Version format.One ∷ form.Version format.Two ∷ form.Streams ∷ form.Keys ∷ map form.Pool accesses ++ map form.Sched rules ++ form.Stream ∷ map form.Object things ++
+    form.Units ∷ map (form.Unit role.Ult) starts ++ map (form.Unit role.Task) starts ++ map (form.Unit role.Sched) starts ++ form.End ∷ map form.Operation operations
+
+-- the forms of format 2 alone
+abbrev pub added_forms : List Form
+added_forms = map (form.Many role.Ult) starts ++ map (form.Many role.Task) starts ++ map (form.Many role.Sched) starts ++ map form.Repeat operations
 
 abbrev pub forms : List Form
-forms =
-    form.Version format.One ∷ form.Version format.Two ∷ form.Streams ∷ form.Keys ∷ map form.Pool accesses ++ map form.Sched rules ++ form.Stream ∷ map form.Object things ++
-    form.Units ∷ unit_forms role.Ult ++ unit_forms role.Task ++ unit_forms role.Sched ++ form.End ∷ map form.Operation operations ++
-    many_forms role.Ult ++ many_forms role.Task ++ many_forms role.Sched ++ map form.Repeat operations
+forms = shared_forms ++ added_forms
 
 -- Which form a line has.
 
@@ -234,9 +237,9 @@ abbrev pub form_of : Format → List Text → Option Form
 form_of F words = find (λ f. is_in F f && fits (slots f) words) forms
 
 -- a line may begin with the word that these words begin with
-abbrev pub begins : List Slot → List Text → Bool
-begins (slot ∷ places) (word ∷ words) = suits slot word
-begins _ _ = false
+abbrev pub begins_with : List Slot → List Text → Bool
+begins_with (slot ∷ places) (word ∷ words) = suits slot word
+begins_with _ _ = false
 
 -- the words in the places of numbers, each with what its number is
 abbrev pub numerals : List Slot → List Text → List (Number × Text)

@@ -90,8 +90,8 @@ abbrev pub blocking : Nature
 blocking = record plain { may_block = true }
 
 -- it gives unit v a life
-abbrev pub begins : ℕ → Nature
-begins v = record plain { birth = Some v }
+abbrev pub gives_life : ℕ → Nature
+gives_life v = record plain { birth = Some v }
 
 -- it is local, and makes f of what its unit carries
 abbrev pub locally : (Carried → Carried) → Nature
@@ -117,13 +117,13 @@ nature_of (op.YieldTo v p) = blocking
 nature_of op.Suspend = blocking
 nature_of op.Exit = blocking
 nature_of (op.Resume v) = plain
-nature_of (op.Create v p) = begins v.0
+nature_of (op.Create v p) = gives_life v.0
 nature_of (op.Join v) = blocking
 nature_of (op.Cancel v) = plain
 nature_of (op.Migrate v p) = plain
 nature_of (op.MigrateTo v s) = plain
 nature_of (op.Migratable v b) = plain
-nature_of (op.Revive v p) = begins v.0
+nature_of (op.Revive v p) = gives_life v.0
 nature_of (op.Lock x) = blocking
 nature_of (op.TryLock x) = plain
 nature_of (op.Unlock x) = plain

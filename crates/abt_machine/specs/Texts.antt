@@ -18,7 +18,7 @@ use Rattle.abt_machine.specs.declared.events.Spot.TheVariants as spot
 use Rattle.abt_machine.specs.declared.events.What.{What}
 use Rattle.abt_machine.specs.declared.events.What.TheVariants as what
 use Rattle.abt_machine.specs.declared.workload.Parts.{Parts}
-use Rattle.abt_machine.specs.Canonical.{word_at}
+use Rattle.abt_machine.specs.Canonical.{word_of}
 use Rattle.abt_machine.specs.Queues.{first_alone}
 use Rattle.abt_machine.specs.State.{State}
 use Rattle.abt_machine.specs.Words.{Text, ended, line_of, numbered, spaced, text_of}
@@ -81,10 +81,8 @@ shown (place.Ended c) = shows.Ended c
 
 -- an end is shown by its cause, and a thread that ended itself as exited
 abbrev pub ended_name : Cause → Text
-ended_name cause.Done = codes "done"
-ended_name cause.Asked = codes "asked"
-ended_name cause.Access = codes "access"
 ended_name cause.Own = codes "exited"
+ended_name c = cause_name c
 
 abbrev pub shown_words : Shown → List Text
 shown_words shows.Unborn = codes "unborn" ∷ []
@@ -97,7 +95,7 @@ shown_words (shows.Ended c) = ended_name c ∷ []
 
 -- a piece of output: the word that was said, the number, or `!` and why an operation was refused
 abbrev pub piece_word : Parts → Piece → Text
-piece_word W (piece.Said w) = word_at W w
+piece_word W (piece.Said w) = word_of W w
 piece_word W (piece.Number n) = decimal n
 piece_word W (piece.Refused c) = codes "!" ++ code_name c
 

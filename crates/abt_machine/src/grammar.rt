@@ -1,7 +1,7 @@
 //! The formats of a workload text, and its lines, as data.
 
 ghost use Rattle.std.specs.Prelude.{◌≡◌};
-ghost use Rattle.abt_machine.specs.Limits.{operation_limit, unit_operation_limit, stream_limit, text_limit, unit_limit};
+ghost use Rattle.abt_machine.specs.Limits.{stream_limit, text_limit, unit_limit};
 
 use crate::numbers::PoolNo;
 use crate::operations::{Access, Op, Rule, Thing};
@@ -40,24 +40,40 @@ impl Format {
     {
         match self {
             Format::One => 256,
-            Format::Two => 4_096,
+            Format::Two => UNIT_LIMIT,
         }
     }
 }
 
+/// How many keys a text declares at most.
+pub const KEY_LIMIT: u32 = 16;
+
+/// How many pools a text declares at most.
+pub const POOL_LIMIT: usize = 64;
+
+/// How many schedulers a text declares at most.
+pub const SCHED_LIMIT: usize = 64;
+
+/// How many objects a text declares at most.
+pub const OBJECT_LIMIT: usize = 256;
+
+/// How many pools a scheduler lists at most.
+pub const LISTED_LIMIT: usize = 8;
+
+/// How many compartments a future and how many parties a barrier has at most.
+pub const SIZE_LIMIT: u32 = 4_096;
+
+/// How many bytes a said word has at most.
+pub const WORD_LIMIT: usize = 64;
+
+/// How many units a text of any format declares at most.
+pub const UNIT_LIMIT: u32 = 4_096;
+
 /// How many operations a unit has at most.
-pub fn unit_operation_limit() -> usize
-    ensures { result ≡ unit_operation_limit }
-{
-    256
-}
+pub const UNIT_OPERATION_LIMIT: usize = 256;
 
 /// How many operations all units have at most.
-pub fn operation_limit() -> usize
-    ensures { result ≡ operation_limit }
-{
-    65_536
-}
+pub const OPERATION_LIMIT: usize = 65_536;
 
 /// What a unit's line says that it is.
 #[derive(Clone, Copy, Debug, PartialEq, Eq)]

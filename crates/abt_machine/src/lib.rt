@@ -13,7 +13,10 @@ mod workload;
 pub use events::{
     Cause, Code, Event, Journal, Log, Outcome, Output, Piece, Place, Shown, Site, Spot, What, Wish,
 };
-pub use grammar::{Form, Format, Number, Role, operation_limit, unit_operation_limit};
+pub use grammar::{
+    Form, Format, KEY_LIMIT, LISTED_LIMIT, Number, OBJECT_LIMIT, OPERATION_LIMIT, POOL_LIMIT, Role,
+    SCHED_LIMIT, SIZE_LIMIT, UNIT_LIMIT, UNIT_OPERATION_LIMIT, WORD_LIMIT,
+};
 pub use items::{Items, Text};
 pub use numbers::{ObjectNo, PoolNo, SchedNo, StreamNo, UnitNo};
 pub use operations::{Access, Body, Combine, Kind, Op, Ops, OrderShape, Pools, Rule, Side, Thing};

@@ -13,7 +13,10 @@ ghost use Rattle.abt_machine.specs.declared.numbers.SchedNo.{SchedNo};
 ghost use Rattle.abt_machine.specs.declared.workload.PoolPart.{PoolPart};
 ghost use Rattle.abt_machine.specs.declared.workload.UnitPart.{UnitPart};
 
-use crate::grammar::{Format, operation_limit, unit_operation_limit};
+use crate::grammar::{
+    Format, KEY_LIMIT, LISTED_LIMIT, OBJECT_LIMIT, OPERATION_LIMIT, POOL_LIMIT, SCHED_LIMIT,
+    SIZE_LIMIT, UNIT_OPERATION_LIMIT, WORD_LIMIT,
+};
 use crate::items::Text;
 use crate::numbers::{ObjectNo, PoolNo, SchedNo, StreamNo, UnitNo};
 use crate::operations::{Access, Body, Op, Rule, Thing};
@@ -67,7 +70,7 @@ fn is_word(text: &Text) -> bool
     ensures { IsTrue result ↔ IsWord text.now }
 {
     let bytes = text.as_str().as_bytes();
-    is_among(bytes.len(), 64) && bytes.iter().all(|b| is_visible(*b))
+    is_among(bytes.len(), WORD_LIMIT) && bytes.iter().all(|b| is_visible(*b))
 }
 
 // Whether one of these operations may block or yield.
@@ -167,11 +170,11 @@ impl Parts {
         ensures { IsTrue result ↔ AreCounts self.now }
     {
         is_among(self.streams as usize, Format::Two.stream_limit() as usize)
-            && self.keys <= 16
-            && is_among(self.pools.items().len(), 64)
-            && is_among(self.scheds.items().len(), 64)
+            && self.keys <= KEY_LIMIT
+            && is_among(self.pools.items().len(), POOL_LIMIT)
+            && is_among(self.scheds.items().len(), SCHED_LIMIT)
             && self.mains.items().len() == self.streams as usize
-            && self.objects.items().len() <= 256
+            && self.objects.items().len() <= OBJECT_LIMIT
             && self.units.items().len() <= Format::Two.unit_limit() as usize
     }
 
@@ -231,13 +234,13 @@ impl Parts {
         pools.iter().all(|p| self.has_pool(*p))
     }
 
-    // Whether a scheduler lists 1 to 8 declared pools, each once.
+    // Whether a scheduler lists declared pools, one at least and as many as the limit at most, each once.
     fn is_sched(&self, part: &SchedPart) -> bool
         ensures { IsTrue result ↔ IsSched (length self.now.pools) part.now }
     {
         let pools = part.pools.items();
         is_rule(part.rule)
-            && is_among(pools.len(), 8)
+            && is_among(pools.len(), LISTED_LIMIT)
             && self.are_declared(pools)
             && are_distinct(pools)
     }
@@ -332,7 +335,7 @@ impl Parts {
         match thing {
             Thing::Mutex | Thing::Eventual | Thing::RwLock => true,
             Thing::Cond(m) => (m.0 as usize) < x && self.is_mutex(m),
-            Thing::Future(n, _) | Thing::Barrier(n) => is_among(n as usize, 4096),
+            Thing::Future(n, _) | Thing::Barrier(n) => is_among(n as usize, SIZE_LIMIT as usize),
         }
     }
 
@@ -407,7 +410,7 @@ impl Parts {
     {
         let ops = part.body.ops();
         self.is_body(&part.body)
-            && ops.len() <= unit_operation_limit()
+            && ops.len() <= UNIT_OPERATION_LIMIT
             && self.are_declared_ops(ops)
             && self.is_start(part.start)
     }
@@ -426,11 +429,11 @@ impl Parts {
         self.words.items().iter().all(is_word)
     }
 
-    // Whether each scheduler that has a place is one of 64, and none has two places.
+    // Whether each scheduler that has a place is one of those that there may be, and none has two places.
     fn has_own_places(&self) -> bool
         ensures { IsTrue result ↔ (All (λ g. g < sched_limit) (placed_scheds self.now) × AllPairs (λ a b. a ≢ b) (placed_scheds self.now)) }
     {
-        let mut taken = [false; 64];
+        let mut taken = [false; SCHED_LIMIT];
         take_main_places(self.mains.items(), &mut taken)
             && take_body_places(self.units.items(), &mut taken)
     }
@@ -446,7 +449,7 @@ impl Parts {
     fn has_few_ops(&self) -> bool
         ensures { IsTrue result ↔ (length (all_ops self.now.units) ≤ operation_limit) }
     {
-        ops_left(self.units.items(), operation_limit()).is_some()
+        ops_left(self.units.items(), OPERATION_LIMIT).is_some()
     }
 
     /// Whether these are the parts of a workload: what a text can declare.

@@ -3,6 +3,7 @@ use Rattle.std.specs.Prelude.{All, AllPairs}
 use Rattle.std.specs.List.{range_with_len}
 use Rattle.abt_machine.specs.declared.operations.Thing.{Thing}
 use Rattle.abt_machine.specs.declared.workload.PoolPart.{PoolPart}
+use Rattle.abt_machine.specs.Limits.{sched_limit}
 use Rattle.abt_machine.specs.Valid.{IsAccess, IsSched, IsStream, IsThing, IsUnit, IsWord, placed_scheds, words_said}
 use Rattle.abt_machine.specs.Workloads.{thing_at}
 use Rattle.abt_machine.proofs.Checked.{valid-counts, valid-places}
@@ -16,7 +17,7 @@ returns-then-has_words c =
     elim c.if-says_words.branch [ then-says_words w ↦ (w.if-says_words.true, w.has_words.ensures.0 (sym w.value-is ∙ c.if-has_words.true)) | else-says_words w ↦ absurd (cc (w.value-is, c.if-has_words.true)) ] in
     let said : (c.if-has_units.value ≡ true) × (words_said W ≡ range_with_len 0 (length W.words)) =
     elim c.if-has_own_places.branch [ then-has_own_places w ↦ (w.if-has_own_places.true, w.says_words.ensures.0 (sym w.value-is ∙ words.0)) | else-has_own_places w ↦ absurd (cc (w.value-is, words.0)) ] in
-    let places : (c.if-has_things.value ≡ true) × (All (λ g. g < 64) (placed_scheds W) × AllPairs (λ a b. a ≢ b) (placed_scheds W)) =
+    let places : (c.if-has_things.value ≡ true) × (All (λ g. g < sched_limit) (placed_scheds W) × AllPairs (λ a b. a ≢ b) (placed_scheds W)) =
     elim c.if-has_units.branch [ then-has_units w ↦ (w.if-has_units.true, w.has_own_places.ensures.0 (sym w.value-is ∙ said.0)) | else-has_units w ↦ absurd (cc (w.value-is, said.0)) ] in
     let units : (c.if-has_mains.value ≡ true) × All (IsUnit W) W.units =
     elim c.if-has_things.branch [ then-has_things w ↦ (w.if-has_things.true, w.has_units.ensures.0 (sym w.value-is ∙ places.0)) | else-has_things w ↦ absurd (cc (w.value-is, places.0)) ] in
