@@ -315,6 +315,14 @@ impl Workload {
         ensures { result ≡ op_site self.now s.0 u.0 op }
     {
         match op {
+            Op::Set(_)
+            | Op::Add(_)
+            | Op::Say(_)
+            | Op::Print
+            | Op::KeySet(_)
+            | Op::KeyGet(_)
+            | Op::Yield
+            | Op::Exit => None,
             Op::YieldTo(_, p) => self.parts.may_take(s, p).then_some(Site::Pool(p)),
             Op::Suspend => Some(Site::Desk(u)),
             Op::Create(v, p) | Op::Migrate(v, p) | Op::Revive(v, p) => self.desk_by(s, p, v),
@@ -335,7 +343,6 @@ impl Workload {
             Op::BarWait(x) => Some(Site::Barrier(x)),
             Op::ReadLock(x) | Op::WriteLock(x) | Op::RwUnlock(x) | Op::RwLoad(x) | Op::RwStore(x) =>
                 Some(Site::Rw(x)),
-            _ => None,
         }
     }
 
