@@ -74,6 +74,7 @@ pub mod Standing
 pub mod StepStreams
 pub mod StepsLeft
 pub mod Sums
+pub mod TwoStreams
 pub mod Wakes
 pub mod WeightFalls
 pub mod Weights
