@@ -32,12 +32,7 @@ line_holder W (Waiting x) = OfSite (object_site W x)
 -- who keeps a unit at a place in a line
 place_in-holder : (W : Parts) (u : ℕ) (l : Line) (t : ℕ) → holder W u (place_in l t) ≡ line_holder W l
 place_in-holder W u (InPool p) t = refl
-place_in-holder W u (InTray s) t = refl
-place_in-holder W u (InHand s) t = refl
-place_in-holder W u (InNext s) t = refl
-place_in-holder W u (InFrames s) t = refl
-place_in-holder W u (Joining v) t = refl
-place_in-holder W u (Waiting x) t = refl
+place_in-holder W u _ t = refl
 
 -- unit u is kept by stream s or site x
 abbrev pub IsKept : Parts → State → ℕ → Option Site → ℕ → Type 0

@@ -54,38 +54,24 @@ passage_at streams (place.Ended c) = passage_of_cause c
 passage_at streams _ = (0, 0)
 
 pub passage-outside : (streams : ℕ → Stream) (pl : Place) → IsOutside pl → passage_at streams pl ≡ (0, 0)
-passage-outside streams (place.Pool p t) h = refl
-passage-outside streams (place.Next s) h = refl
-passage-outside streams (place.Tray s t) h = refl
-passage-outside streams (place.Blocked x t) h = refl
-passage-outside streams place.Unborn h = absurd h
 passage-outside streams (place.Hand s) h = absurd h
 passage-outside streams (place.Frame s d) h = absurd h
 passage-outside streams (place.Ended c) h = absurd h
+passage-outside streams _ h = refl
 
 pub exited-outside : (streams : ℕ → Stream) (pl : Place) → IsOutside pl → exited_at streams pl ≡ false
-exited-outside streams (place.Pool p t) h = refl
-exited-outside streams (place.Next s) h = refl
-exited-outside streams (place.Tray s t) h = refl
-exited-outside streams (place.Blocked x t) h = refl
-exited-outside streams place.Unborn h = absurd h
 exited-outside streams (place.Hand s) h = absurd h
-exited-outside streams (place.Frame s d) h = absurd h
 exited-outside streams (place.Ended c) h = absurd h
+exited-outside streams _ h = refl
 
 passage-marks : (streams others : ℕ → Stream) (pl : Place) → ((r : StreamNo) → pl ≡ place.Hand r → (others r.0).mark ≡ (streams r.0).mark) → passage_at others pl ≡ passage_at streams pl
 passage-marks streams others (place.Hand s) h = ap passage_of_mark (h s refl)
 passage-marks streams others _ h = refl
 
 pub IsBusy-outside : (pl : Place) → IsOutside pl → IsBusy pl
-IsBusy-outside (place.Pool p t) h = tt
-IsBusy-outside (place.Next s) h = tt
-IsBusy-outside (place.Tray s t) h = tt
-IsBusy-outside (place.Blocked x t) h = tt
 IsBusy-outside place.Unborn h = h
-IsBusy-outside (place.Hand s) h = tt
-IsBusy-outside (place.Frame s d) h = tt
 IsBusy-outside (place.Ended c) h = h
+IsBusy-outside _ h = tt
 
 pub ends-busy : (pl : Place) → IsBusy pl → ends_at pl ≡ []
 ends-busy place.Unborn h = refl
@@ -201,12 +187,7 @@ module _ (W : Parts) (u now : ℕ) (events : ℕ → List What) (S T : State) (t
   over-ended : (pl : Place) → S.place u ≡ pl → IsOver pl → 0 < now → (c : Cause) × (ends_in (events now) ≡ c ∷ [])
   over-ended place.Unborn at over l = let none : now ≡ 0 = tied.unborn at in absurd (omega arith)
   over-ended (place.Ended c) at over l = (c, tied.ends ∙ ap ends_at at)
-  over-ended (place.Pool p t) at over l = absurd over
-  over-ended (place.Hand s) at over l = absurd over
-  over-ended (place.Next s) at over l = absurd over
-  over-ended (place.Tray s t) at over l = absurd over
-  over-ended (place.Frame s d) at over l = absurd over
-  over-ended (place.Blocked x t) at over l = absurd over
+  over-ended _ at over l = absurd over
 
   begins-earlier : IsOver (S.place u) → (l : ℕ) → 0 < l → l < suc now → IsLife (body_at W u) (events l) × ((c : Cause) × (ends_in (events l) ≡ c ∷ []))
   begins-earlier over l some below =

@@ -64,12 +64,7 @@ line_of _ = None
 
 pub line_of-place_in : (l : Line) (t : ℕ) → line_of (place_in l t) ≡ Some l
 line_of-place_in (InPool p) t = refl
-line_of-place_in (InTray p) t = refl
-line_of-place_in (InHand p) t = refl
-line_of-place_in (InNext p) t = refl
-line_of-place_in (InFrames p) t = refl
-line_of-place_in (Joining p) t = refl
-line_of-place_in (Waiting p) t = refl
+line_of-place_in _ t = refl
 
 pub line_of-ticket : (l : Line) (pl : Place) (t : ℕ) → ticket_in l pl ≡ Some t → line_of pl ≡ Some l
 line_of-ticket l pl t h = ap line_of (ticket-place l pl t h) ∙ line_of-place_in l t

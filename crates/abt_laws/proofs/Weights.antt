@@ -32,12 +32,7 @@ line_weight S (Waiting x) = 0
 
 place_in-weight : (S : State) (l : Line) (t : ℕ) → place_weight S (place_in l t) ≡ line_weight S l
 place_in-weight S (InPool p) t = refl
-place_in-weight S (InTray s) t = refl
-place_in-weight S (InHand s) t = refl
-place_in-weight S (InNext s) t = refl
-place_in-weight S (InFrames s) t = refl
-place_in-weight S (Joining v) t = refl
-place_in-weight S (Waiting x) t = refl
+place_in-weight S _ t = refl
 
 pub stands-weight : (W : Parts) (S : State) (l : Line) (u : ℕ) → StandsIn W S l u → place_weight S (S.place u) ≡ line_weight S l
 stands-weight W S l u stands = ap (place_weight S) stands.at ∙ place_in-weight S l stands.ticket
