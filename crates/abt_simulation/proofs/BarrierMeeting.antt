@@ -1,17 +1,14 @@
 -- The meeting at a barrier: what the laws suppose is computed, and what they say follows.
-use Rattle.std.proofs.Common.{◌≡◌, ◌≢◌, ℕ, zero, suc, ◌<◌, ◌≤◌, true, false, List, [], ◌∷◌, slice_get, Option, Some, None, refl, sym, ◌∙◌, subst, arith, inl, inr}
-use Rattle.std.specs.Prelude.{AllPairs, Contains, take, drop}
-use Rattle.std.proofs.lemmas.List.Elements.{All-cons, All-from_recursion, All-nil}
-use Rattle.std.proofs.lemmas.List.Kept.{AllPairs-cons}
+use Rattle.std.proofs.Common.{◌≡◌, ℕ, zero, suc, ◌<◌, ◌≤◌, true, false, List, [], ◌∷◌, slice_get, Option, Some, None, refl, sym, ◌∙◌, subst, arith, inl, inr}
+use Rattle.std.specs.Prelude.{Contains, take, drop}
+use Rattle.std.proofs.lemmas.List.Elements.{All-from_recursion, All-nil}
 use Rattle.abt_machine.specs.declared.events.Cause.TheVariants as cause
 use Rattle.abt_machine.specs.declared.events.Event.{Event}
 use Rattle.abt_machine.specs.declared.events.Site.{Site}
 use Rattle.abt_machine.specs.declared.events.Site.TheVariants as site
-use Rattle.abt_machine.specs.declared.numbers.PoolNo.{PoolNo}
 use Rattle.abt_machine.specs.declared.operations.Body.TheVariants as body
 use Rattle.abt_machine.specs.declared.operations.Kind.TheVariants as kind
 use Rattle.abt_machine.specs.declared.operations.Op.TheVariants as op
-use Rattle.abt_machine.specs.declared.operations.Rule.TheVariants as rule
 use Rattle.abt_machine.specs.declared.operations.Thing.{Thing}
 use Rattle.abt_machine.specs.declared.workload.PoolPart.{PoolPart}
 use Rattle.abt_machine.specs.Numbers.{object_no, pool_no}
@@ -31,6 +28,7 @@ use Rattle.abt_machine.specs.Turns.{Heard, Steps, looked, stepped}
 use Rattle.abt_laws.proofs.Lists.{EachOf}
 use Rattle.abt_laws.proofs.Options.{none≢some, some-injective}
 use Rattle.abt_laws.proofs.SoundStart.{start-is-sound}
+use Rattle.abt_laws.proofs.TwoStreams.{below-two, no-order, one-pool, two-places}
 use Rattle.abt_interleave.specs.Histories.{Legal}
 use Rattle.abt_interleave.specs.Deeds.{Course}
 use Rattle.abt_interleave.specs.Logs.{Leaves, Matched, IsSooner, BeforeAll, InOrder}
@@ -43,22 +41,6 @@ use Rattle.abt_simulation.proofs.Merged.{merging}
 use Rattle.abt_simulation.proofs.MergedStamps.{merged-is-lamport}
 
 -- The workload.
-
--- what holds of 0 and of 1 holds of each number below 2
-below-two : (P : ℕ → Type 0) → P 0 → P 1 → (k : ℕ) → k < 2 → P k
-below-two P a b zero l = a
-below-two P a b (suc zero) l = b
-below-two P a b (suc (suc k)) l = absurd (omega arith)
-
--- a scheduler that takes the pool in turn
-prio : IsSched 1 (record { rule = rule.Prio; pools = pool_no 0 ∷ [] })
-prio = record {
-  rule = tt;
-  some_pool = omega arith;
-  few_pools = omega arith;
-  listed = All-from_recursion (λ (p : PoolNo). p.0 < 1) (pool_no 0 ∷ []) (omega arith, tt);
-  once = λ i j d before within. absurd (omega arith);
-}
 
 -- a unit with the one operation
 program : IsUnit meeting (record { body = body.Ult (op.BarWait (object_no 0) ∷ []); start = Some (pool_no 0) })
@@ -74,12 +56,6 @@ thing : (x : ℕ) (t : Thing) → thing_at meeting x ≡ Some t → IsThing meet
 thing zero t e = subst (IsThing meeting.objects 0) (some-injective e) (omega arith, omega arith)
 thing (suc x) t e = absurd (none≢some e)
 
--- no scheduler has two places
-two_places : AllPairs (λ (a b : ℕ). a ≢ b) (0 ∷ 1 ∷ [])
-two_places =
-    AllPairs-cons (λ a b. a ≢ b) 0 (1 ∷ []) (All-cons (λ b. 0 ≢ b) 1 [] (λ e. absurd (omega arith)) (All-nil (λ b. 0 ≢ b)))
-    (AllPairs-cons (λ a b. a ≢ b) 1 [] (All-nil (λ b. 1 ≢ b)) (λ i j d l m. absurd (omega arith)))
-
 -- it is a workload
 valid : IsValid meeting
 valid = record {
@@ -91,10 +67,10 @@ valid = record {
   pools = All-from_recursion (λ (part : PoolPart). IsAccess 2 part.access) meeting.pools (tt, tt);
   some_sched = omega arith;
   few_scheds = omega arith;
-  scheds = All-from_recursion (IsSched 1) meeting.scheds (prio, (prio, tt));
+  scheds = All-from_recursion (IsSched 1) meeting.scheds (one-pool 1 0 (omega arith), (one-pool 1 0 (omega arith), tt));
   mains = refl;
   streams = below-two (IsStream meeting) (record { main = omega arith; takes = refl }) (record { main = omega arith; takes = refl });
-  one_place = two_places;
+  one_place = two-places;
   few_objects = omega arith;
   objects = thing;
   few_units = omega arith;
@@ -106,9 +82,7 @@ valid = record {
 
 -- no order is asked for
 stored : OrdersStored meeting no_orders
-stored zero k e = absurd cc
-stored (suc zero) k e = absurd cc
-stored (suc (suc g)) k e = absurd (none≢some e)
+stored = no-order meeting no_orders (pool_no 0 ∷ []) (pool_no 0 ∷ []) refl
 
 -- Lists.
 
