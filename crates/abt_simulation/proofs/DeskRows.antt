@@ -41,7 +41,7 @@ use Rattle.abt_simulation.proofs.OwnedLines.{owned-stays}
 use Rattle.abt_simulation.proofs.OwnParts.{IsAway, off-object, off-nowhere, nowhere-ticket, hand-only, away-other, part-keeps}
 use Rattle.abt_simulation.proofs.Shapes.{owned, wakes-part, goes-part, blocks-part, line-joined, line-same}
 use Rattle.abt_simulation.proofs.Rows.{Row, ValueRow, ValueDone, row-by_value, desk-at, value-same, refuses}
-use Rattle.abt_simulation.proofs.Phases.{living-at, ended-at, unborn_in-at, suspended_in-at, ended_in-at, so-some, so-none, so-mapped, unborn-nowhere, ended-nowhere, suspended-nowhere}
+use Rattle.abt_simulation.proofs.Phases.{if_so, living-at, ended-at, unborn_in-at, suspended_in-at, ended_in-at, so-some, so-none, so-mapped, unborn-nowhere, ended-nowhere, suspended-nowhere}
 
 module _ (W : Parts) (Z : List OrderShape) (S : State) (s u : ℕ) (acts : IsActing W Z S s u) where
   -- a row by the desk's value
@@ -276,6 +276,11 @@ module _ (W : Parts) (Z : List OrderShape) (S : State) (s u : ℕ) (acts : IsAct
   by-test : (a : Op) (test : Bool) (b : Bool) (c : Code) → code_of W S s u a ≡ unless test c code.Ok → test ≡ b → unless b c code.Ok ≡ code_of W S s u a
   by-test a test b c is e = sym (is ∙ ap (λ t. unless t c code.Ok) e)
 
+  -- a refusal by a test of v's place
+  refuses-by : (a : Op) (v : UnitNo) (test : Bool) (c : Code) (new : DeskValue) → IsRefusal c → code_of W S s u a ≡ unless test c code.Ok → if_so test (owned_at S v.0) ≡ None → new ≡ desk_value W S v.0
+      → ValueDone W S s u a (λ T. desk_value W T v.0) (to_caller (owned_at S u) (act.Coded c)) new
+  refuses-by a v test c new r is none same = desk-refuses a c v new r (by-test a test false c is (so-none test (owned_at S v.0) none)) same
+
   -- a resumption, by the answer
   resume-value : (v : UnitNo) → v.0 < length W.units → ValueRow W S s u (op.Resume v) (λ T. desk_value W T v.0) DeskGives act.Resume
   resume-value v declared (act.Given o) new gives =
@@ -287,9 +292,7 @@ module _ (W : Parts) (Z : List OrderShape) (S : State) (s u : ℕ) (acts : IsAct
         called = resumes-desk v.0 declared nowhere ∙ sym gives.1;
       }
   resume-value v declared (act.Coded code.UnitState) new gives =
-      desk-refuses (op.Resume v) code.UnitState v new tt
-      (by-test (op.Resume v) (is_suspended (S.place v.0)) false code.UnitState refl (so-none (is_suspended (S.place v.0)) (owned_at S v.0) (sym (suspended_in-at (owned_at S v.0) (S.place v.0)) ∙ gives.0)))
-      gives.1
+      refuses-by (op.Resume v) v (is_suspended (S.place v.0)) code.UnitState new tt refl (sym (suspended_in-at (owned_at S v.0) (S.place v.0)) ∙ gives.0) gives.1
   resume-value v declared (act.Coded _) new gives = absurd gives
   resume-value v declared _ new gives = absurd gives
 
@@ -297,21 +300,25 @@ module _ (W : Parts) (Z : List OrderShape) (S : State) (s u : ℕ) (acts : IsAct
   pub resume-row : (v : UnitNo) → v.0 < length W.units → Row W S s u (op.Resume v) (site.Desk v) act.Resume
   resume-row v declared = desk-row (op.Resume v) v act.Resume (resume-value v declared)
 
+  -- v begins a life with home p if a test of its place holds
+  begins-by : (a : Op) (v : UnitNo) (p : ℕ) (test : Bool) (c : Code) (o : Owned) (new : DeskValue) → v.0 < length W.units → (test ≡ true → line_of (S.place v.0) ≡ None)
+      → code_of W S s u a ≡ unless test c code.Ok → op_row W S s u a ≡ begins W S s u v.0 p → option_map (reborn p) (if_so test (owned_at S v.0)) ≡ Some o → new ≡ with_phase Out (desk_value W S v.0)
+      → ValueDone W S s u a (λ T. desk_value W T v.0) (to_caller (owned_at S u) (act.Given o)) new
+  begins-by a v p test c o new declared nowhere is row given same =
+      let out : (test ≡ true) × (reborn p (owned_at S v.0) ≡ o) = so-mapped (reborn p) test (owned_at S v.0) o given in
+      record {
+        code = by-test a test true c is out.0;
+        own = ap (λ d. part_of W (changed S d) s) row ∙ (begins-part v.0 declared (nowhere out.0) p ∙ ap (λ q. stepped (part_of W S s) (keeps (moved (owned_at S u)) (q ∷ []))) out.1);
+        called = ap (λ d. desk_value W (changed S d) v.0) row ∙ (begins-desk v.0 declared (nowhere out.0) p ∙ sym same);
+      }
+
   -- a creation, by the answer
   create-value : (v : UnitNo) (p : PoolNo) → v.0 < length W.units → may_put W s p.0 ≡ true → ValueRow W S s u (op.Create v p) (λ T. desk_value W T v.0) DeskGives (act.Create p.0)
   create-value v p declared may (act.Given o) new gives =
-      let out : (is_unborn (S.place v.0) ≡ true) × (reborn p.0 (owned_at S v.0) ≡ o) =
-      so-mapped (reborn p.0) (is_unborn (S.place v.0)) (owned_at S v.0) o (ap (option_map (reborn p.0)) (sym (unborn_in-at (owned_at S v.0) (S.place v.0))) ∙ gives.0) in
-      let nowhere : line_of (S.place v.0) ≡ None = unborn-nowhere (S.place v.0) out.0 in
-      record {
-        code = by-test (op.Create v p) (is_unborn (S.place v.0)) true code.Exists (cond-true (may_put W s p.0) _ _ may) out.0;
-        own = begins-part v.0 declared nowhere p.0 ∙ ap (λ q. stepped (part_of W S s) (keeps (moved (owned_at S u)) (q ∷ []))) out.1;
-        called = begins-desk v.0 declared nowhere p.0 ∙ sym gives.1;
-      }
+      begins-by (op.Create v p) v p.0 (is_unborn (S.place v.0)) code.Exists o new declared (unborn-nowhere (S.place v.0)) (cond-true (may_put W s p.0) _ _ may) refl
+      (ap (option_map (reborn p.0)) (sym (unborn_in-at (owned_at S v.0) (S.place v.0))) ∙ gives.0) gives.1
   create-value v p declared may (act.Coded code.Exists) new gives =
-      desk-refuses (op.Create v p) code.Exists v new tt
-      (by-test (op.Create v p) (is_unborn (S.place v.0)) false code.Exists (cond-true (may_put W s p.0) _ _ may) (so-none (is_unborn (S.place v.0)) (owned_at S v.0) (sym (unborn_in-at (owned_at S v.0) (S.place v.0)) ∙ gives.0)))
-      gives.1
+      refuses-by (op.Create v p) v (is_unborn (S.place v.0)) code.Exists new tt (cond-true (may_put W s p.0) _ _ may) (sym (unborn_in-at (owned_at S v.0) (S.place v.0)) ∙ gives.0) gives.1
   create-value v p declared may (act.Coded _) new gives = absurd gives
   create-value v p declared may _ new gives = absurd gives
 
@@ -322,18 +329,10 @@ module _ (W : Parts) (Z : List OrderShape) (S : State) (s u : ℕ) (acts : IsAct
   -- a revival, by the answer
   revive-value : (v : UnitNo) (p : PoolNo) → v.0 < length W.units → may_put W s p.0 ≡ true → ValueRow W S s u (op.Revive v p) (λ T. desk_value W T v.0) DeskGives (act.Revive p.0)
   revive-value v p declared may (act.Given o) new gives =
-      let out : (is_ended (S.place v.0) ≡ true) × (reborn p.0 (owned_at S v.0) ≡ o) =
-      so-mapped (reborn p.0) (is_ended (S.place v.0)) (owned_at S v.0) o (ap (option_map (reborn p.0)) (sym (ended_in-at (owned_at S v.0) (S.place v.0))) ∙ gives.0) in
-      let nowhere : line_of (S.place v.0) ≡ None = ended-nowhere (S.place v.0) out.0 in
-      record {
-        code = by-test (op.Revive v p) (is_ended (S.place v.0)) true code.UnitState (cond-true (may_put W s p.0) _ _ may) out.0;
-        own = begins-part v.0 declared nowhere p.0 ∙ ap (λ q. stepped (part_of W S s) (keeps (moved (owned_at S u)) (q ∷ []))) out.1;
-        called = begins-desk v.0 declared nowhere p.0 ∙ sym gives.1;
-      }
+      begins-by (op.Revive v p) v p.0 (is_ended (S.place v.0)) code.UnitState o new declared (ended-nowhere (S.place v.0)) (cond-true (may_put W s p.0) _ _ may) refl
+      (ap (option_map (reborn p.0)) (sym (ended_in-at (owned_at S v.0) (S.place v.0))) ∙ gives.0) gives.1
   revive-value v p declared may (act.Coded code.UnitState) new gives =
-      desk-refuses (op.Revive v p) code.UnitState v new tt
-      (by-test (op.Revive v p) (is_ended (S.place v.0)) false code.UnitState (cond-true (may_put W s p.0) _ _ may) (so-none (is_ended (S.place v.0)) (owned_at S v.0) (sym (ended_in-at (owned_at S v.0) (S.place v.0)) ∙ gives.0)))
-      gives.1
+      refuses-by (op.Revive v p) v (is_ended (S.place v.0)) code.UnitState new tt (cond-true (may_put W s p.0) _ _ may) (sym (ended_in-at (owned_at S v.0) (S.place v.0)) ∙ gives.0) gives.1
   revive-value v p declared may (act.Coded _) new gives = absurd gives
   revive-value v p declared may _ new gives = absurd gives
 
