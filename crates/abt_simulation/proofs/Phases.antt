@@ -17,36 +17,26 @@ if_so b o = if b then Some o else None
 
 -- whether it lives
 pub living-at : (o : Owned) (pl : Place) → is_living (phase_at o pl) ≡ is_alive pl
-living-at o place.Unborn = refl
-living-at o (place.Ended c) = refl
 living-at o (place.Blocked spot.Suspended t) = refl
 living-at o _ = refl
 
 -- whether it has ended
 pub ended-at : (o : Owned) (pl : Place) → has_ended (phase_at o pl) ≡ is_ended pl
-ended-at o place.Unborn = refl
-ended-at o (place.Ended c) = refl
 ended-at o (place.Blocked spot.Suspended t) = refl
 ended-at o _ = refl
 
 -- it is at its desk, unborn
 pub unborn_in-at : (o : Owned) (pl : Place) → unborn_in (phase_at o pl) ≡ if_so (is_unborn pl) o
-unborn_in-at o place.Unborn = refl
-unborn_in-at o (place.Ended c) = refl
 unborn_in-at o (place.Blocked spot.Suspended t) = refl
 unborn_in-at o _ = refl
 
 -- suspended
 pub suspended_in-at : (o : Owned) (pl : Place) → suspended_in (phase_at o pl) ≡ if_so (is_suspended pl) o
-suspended_in-at o place.Unborn = refl
-suspended_in-at o (place.Ended c) = refl
 suspended_in-at o (place.Blocked spot.Suspended t) = refl
 suspended_in-at o _ = refl
 
 -- ended
 pub ended_in-at : (o : Owned) (pl : Place) → ended_in (phase_at o pl) ≡ if_so (is_ended pl) o
-ended_in-at o place.Unborn = refl
-ended_in-at o (place.Ended c) = refl
 ended_in-at o (place.Blocked spot.Suspended t) = refl
 ended_in-at o _ = refl
 
