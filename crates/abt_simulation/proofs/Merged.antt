@@ -42,7 +42,7 @@ site-is (site.Rw x) (site.Rw y) e = ap (λ n. site.Rw (object_no n)) (eqb-true x
 site-is _ _ e = absurd (false≢true e)
 
 -- it holds of each site and itself
-site-self : (x : Site) → same_site x x ≡ true
+pub site-self : (x : Site) → same_site x x ≡ true
 site-self (site.Pool p) = eq-eqb p.0 p.0 refl
 site-self (site.Desk u) = eq-eqb u.0 u.0 refl
 site-self (site.Monitor x) = eq-eqb x.0 x.0 refl
