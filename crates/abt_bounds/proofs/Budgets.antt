@@ -16,12 +16,12 @@ use Rattle.abt_machine.specs.Lives.{LivesOf, StepsFit, last_life, life_events, p
 use Rattle.abt_machine.specs.Next.{StepDue, due}
 use Rattle.abt_machine.specs.Numbers.{stream_no}
 use Rattle.abt_machine.specs.Outcomes.{is_step, steps_in, steps_of}
-use Rattle.abt_machine.specs.Runs.{Run, RunFrom, last_state, state_after}
+use Rattle.abt_machine.specs.Runs.{Run, RunFrom, last_state}
 use Rattle.abt_machine.specs.Start.{first_life, start}
 use Rattle.abt_machine.specs.State.{State}
 use Rattle.abt_machine.specs.Workloads.{body_at, ops_of, start_of}
 use Rattle.abt_laws.proofs.LifeRuns.{runs-live}
-use Rattle.abt_laws.proofs.RunParts.{last_state-sound}
+use Rattle.abt_laws.proofs.RunParts.{last_state-sound, run-push}
 use Rattle.abt_laws.proofs.SoundRuns.{runs-are-sound}
 use Rattle.abt_laws.proofs.Standing.{StandsIn, first-stands}
 use Rattle.abt_laws.proofs.Sums.{sum_up, sum_up-none, sum_up-plus, sum_up-rises, sum_up-same, sum_up-single}
@@ -88,17 +88,7 @@ steps-are-few W Z valid stored none J run =
 -- a stream that is to make a step can make one
 step-comes : (W : Parts) (Z : List OrderShape) (S : State) (s : ℕ) (w : What) → due W S s ≡ StepDue → May W Z S s w → is_step w ≡ true
 step-comes W Z S s (what.Step u k c) e may = refl
-step-comes W Z S s (what.Miss p) e may = cc
-step-comes W Z S s (what.Take p u) e may = cc
-step-comes W Z S s (what.Look u) e may = cc
-step-comes W Z S s (what.Put u p) e may = cc
-step-comes W Z S s (what.End u c) e may = cc
-step-comes W Z S s (what.Enter u) e may = cc
-step-comes W Z S s (what.Leave u) e may = cc
-
-run-push : (W : Parts) (Z : List OrderShape) (S : State) (J : List Event) (e : Event) → RunFrom W Z S J → e.stream.0 < W.streams → May W Z (state_after W S J) e.stream.0 e.what → RunFrom W Z S (J ++ e ∷ [])
-run-push W Z S [] e run declared may = (declared, may, tt)
-run-push W Z S (f ∷ J) e run declared may = (run.0, run.1, run-push W Z (after W S f.stream.0 f.what) J e run.2 declared may)
+step-comes W Z S s _ e may = cc
 
 own-steps : (s : ℕ) (J : List Event) → steps_of s J ≤ steps_in J
 own-steps s [] = omega arith
