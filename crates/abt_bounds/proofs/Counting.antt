@@ -32,29 +32,11 @@ steps_by-cons u e es = sum_by-cons (λ (e : Event). step_by u e.what) e es
 
 positions-of : (b c : Bool) (w : What) → length (positions_in (if b && c then w ∷ [] else [])) ≡ one_if (is_step w && (b && c))
 positions-of true true (what.Step u k c) = refl
-positions-of true true (what.Miss p) = refl
-positions-of true true (what.Take p u) = refl
-positions-of true true (what.Look u) = refl
-positions-of true true (what.Put u p) = refl
-positions-of true true (what.End u c) = refl
-positions-of true true (what.Enter u) = refl
-positions-of true true (what.Leave u) = refl
+positions-of true true _ = refl
 positions-of true false (what.Step u k c) = refl
-positions-of true false (what.Miss p) = refl
-positions-of true false (what.Take p u) = refl
-positions-of true false (what.Look u) = refl
-positions-of true false (what.Put u p) = refl
-positions-of true false (what.End u c) = refl
-positions-of true false (what.Enter u) = refl
-positions-of true false (what.Leave u) = refl
+positions-of true false _ = refl
 positions-of false c (what.Step u k d) = refl
-positions-of false c (what.Miss p) = refl
-positions-of false c (what.Take p u) = refl
-positions-of false c (what.Look u) = refl
-positions-of false c (what.Put u p) = refl
-positions-of false c (what.End u d) = refl
-positions-of false c (what.Enter u) = refl
-positions-of false c (what.Leave u) = refl
+positions-of false c _ = refl
 
 and-true : (a b c : Bool) → c ≡ true → one_if (a && (b && c)) ≡ one_if (a && b)
 and-true true true c e = ap one_if e
