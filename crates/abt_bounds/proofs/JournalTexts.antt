@@ -1,16 +1,11 @@
 -- Journals are read back from their texts, so journals of one text are one.
-use Rattle.std.proofs.Common.{◌≡◌, ◌≢◌, ◌<◌, ◌^◌, ◌*◌, ◌==◌, ◌∙◌, ℕ, if◌then◌else◌, Bool, true, false, List, [], ◌∷◌, ◌++◌, get_or, nat_lt, refl, ap, sym, arith, append_assoc, decimal, codes}
-use Rattle.std.specs.List.{All, AllByRecursion, list_all, slice_split}
+use Rattle.std.proofs.Common.{◌≡◌, ◌<◌, ◌^◌, ◌*◌, ◌∙◌, ℕ, if◌then◌else◌, List, [], ◌∷◌, ◌++◌, refl, ap, sym, arith, append_assoc, decimal, codes}
+use Rattle.std.specs.List.{All, AllByRecursion, slice_split}
 use Rattle.std.specs.Fmt.{digits}
 use Rattle.std.specs.Str.{bytes_eq}
 use Rattle.std.specs.Str.Parse.{digits_value}
-use Rattle.std.proofs.lemmas.Bool.{ltb-true}
 use Rattle.std.proofs.lemmas.Fmt.{decimal_is_IsNumeral_wide}
-use Rattle.std.proofs.lemmas.List.{append-nil, get_or_default}
-use Rattle.std.proofs.lemmas.List.Elements.{All-append, All-cons, All-head, All-tail}
-use Rattle.std.proofs.lemmas.List.Splits.{slice_split_at, slice_split_none}
-use Rattle.std.proofs.lemmas.List.Sums.{AllPass-from_list_all}
-use Rattle.std.proofs.lemmas.Str.Parse.{digit_at}
+use Rattle.std.proofs.lemmas.List.Elements.{All-head, All-tail}
 use Rattle.abt_machine.specs.declared.events.Cause.{Cause}
 use Rattle.abt_machine.specs.declared.events.Cause.TheVariants as cause
 use Rattle.abt_machine.specs.declared.events.Code.{Code}
@@ -20,8 +15,9 @@ use Rattle.abt_machine.specs.declared.events.What.{What}
 use Rattle.abt_machine.specs.declared.events.What.TheVariants as what
 use Rattle.abt_machine.specs.Numbers.{pool_no, stream_no, unit_no}
 use Rattle.abt_machine.specs.Texts.{cause_name, code_name, event_words, journal_text, what_words}
-use Rattle.abt_machine.specs.Words.{Text, ended, line_of, spaced}
+use Rattle.abt_machine.specs.Words.{Text, ended, line_of}
 use Rattle.abt_bounds.specs.Laws.{IsWritten, JournalTextsDiffer, LongNumbersCoincide, what_numbers}
+use Rattle.abt_bounds.proofs.Solid.{IsNoFeed, is_space, split-line, unbroken-line}
 
 -- Words are read back.
 
@@ -40,9 +36,7 @@ cause_read name =
 
 cause-back : (c : Cause) → cause_read (cause_name c) ≡ c
 cause-back cause.Done = refl
-cause-back cause.Asked = refl
-cause-back cause.Access = refl
-cause-back cause.Own = refl
+cause-back _ = refl
 
 abbrev code_read : Text → Code
 code_read name =
@@ -62,18 +56,7 @@ code_read name =
 
 code-back : (c : Code) → code_read (code_name c) ≡ c
 code-back code.Ok = refl
-code-back code.PoolAccess = refl
-code-back code.Exists = refl
-code-back code.UnitState = refl
-code-back code.NotMigratable = refl
-code-back code.Absent = refl
-code-back code.MutexLocked = refl
-code-back code.NotOwner = refl
-code-back code.EventualSet = refl
-code-back code.FutureFull = refl
-code-back code.RwHeld = refl
-code-back code.RwFull = refl
-code-back code.NotHolder = refl
+code-back _ = refl
 
 -- the first word, and those after it
 abbrev word_or : List Text → Text
@@ -122,96 +105,16 @@ event-back e h =
     ap (λ t. made t (value (decimal e.stream.0)) (what_read (what_words e.what))) (value-decimal e.stamp h.0)
     ∙ (ap (λ s. made e.stamp s (what_read (what_words e.what))) (value-decimal e.stream.0 h.1.0) ∙ ap (made e.stamp e.stream.0) (what-back e.what h.1.1))
 
--- Lines are split into their words.
-
--- a word of bytes above a space
-abbrev IsSolid : Text → Type 0
-IsSolid = All (λ b. 32 < b)
-
--- a word that is written out is solid by a test
-solid-by : (word : Text) → list_all (λ b. nat_lt 32 b) word ≡ true → IsSolid word
-solid-by word e k d lt = ltb-true 32 (get_or word k d) (AllPass-from_list_all (λ b. nat_lt 32 b) word e k d lt)
-
-solid-decimal : (n : ℕ) → n < 10 ^ 64 → IsSolid (decimal n)
-solid-decimal n fits k d lt =
-    let digit = digit_at (decimal n) k (decimal_is_IsNumeral_wide n fits).0.1 lt in
-    let same : get_or (decimal n) k d ≡ get_or (decimal n) k 0 = get_or_default (decimal n) k d 0 lt in
-    rw same (omega (arith, digit.0))
-
-solid-code : (c : Code) → IsSolid (code_name c)
-solid-code code.Ok = solid-by (codes "ok") refl
-solid-code code.PoolAccess = solid-by (codes "pool-access") refl
-solid-code code.Exists = solid-by (codes "exists") refl
-solid-code code.UnitState = solid-by (codes "unit-state") refl
-solid-code code.NotMigratable = solid-by (codes "not-migratable") refl
-solid-code code.Absent = solid-by (codes "absent") refl
-solid-code code.MutexLocked = solid-by (codes "mutex-locked") refl
-solid-code code.NotOwner = solid-by (codes "not-owner") refl
-solid-code code.EventualSet = solid-by (codes "eventual-set") refl
-solid-code code.FutureFull = solid-by (codes "future-full") refl
-solid-code code.RwHeld = solid-by (codes "rw-held") refl
-solid-code code.RwFull = solid-by (codes "rw-full") refl
-solid-code code.NotHolder = solid-by (codes "not-holder") refl
-
-solid-cause : (c : Cause) → IsSolid (cause_name c)
-solid-cause cause.Done = solid-by (codes "done") refl
-solid-cause cause.Asked = solid-by (codes "asked") refl
-solid-cause cause.Access = solid-by (codes "access") refl
-solid-cause cause.Own = solid-by (codes "own") refl
-
-solid-what : (w : What) → AllByRecursion (λ n. n < 10 ^ 64) (what_numbers w) → AllByRecursion IsSolid (what_words w)
-solid-what (what.Miss p) h = (solid-by (codes "miss") refl, (solid-decimal p.0 h.0, tt))
-solid-what (what.Take p u) h = (solid-by (codes "take") refl, (solid-decimal p.0 h.0, (solid-decimal u.0 h.1.0, tt)))
-solid-what (what.Look u) h = (solid-by (codes "look") refl, (solid-decimal u.0 h.0, tt))
-solid-what (what.Step u k c) h = (solid-by (codes "step") refl, (solid-decimal u.0 h.0, (solid-decimal k h.1.0, (solid-code c, tt))))
-solid-what (what.Put u p) h = (solid-by (codes "put") refl, (solid-decimal u.0 h.0, (solid-decimal p.0 h.1.0, tt)))
-solid-what (what.End u c) h = (solid-by (codes "end") refl, (solid-decimal u.0 h.0, (solid-cause c, tt)))
-solid-what (what.Enter u) h = (solid-by (codes "enter") refl, (solid-decimal u.0 h.0, tt))
-solid-what (what.Leave u) h = (solid-by (codes "leave") refl, (solid-decimal u.0 h.0, tt))
-
-solid-event : (e : Event) → IsWritten e → AllByRecursion IsSolid (event_words e)
-solid-event e h = (solid-decimal e.stamp h.0, (solid-decimal e.stream.0 h.1.0, solid-what e.what h.1.1))
-
-abbrev is_space : ℕ → Bool
-is_space b = b == 32
-
-other-than-space : (b : ℕ) → 32 < b → is_space b ≡ false
-other-than-space b above = grind arith
-
-split-words : (w : Text) (ws : List Text) → IsSolid w → AllByRecursion IsSolid ws → slice_split is_space (w ++ spaced ws) ≡ w ∷ ws
-split-words w [] h hs = rw (append-nil w) (slice_split_none is_space w (λ k d lt. other-than-space (get_or w k d) (h k d lt)))
-split-words w (v ∷ vs) h hs =
-    slice_split_at is_space w 32 (v ++ spaced vs) (λ k d lt. other-than-space (get_or w k d) (h k d lt)) refl ∙ ap (λ (xs : List Text). w ∷ xs) (split-words v vs hs.0 hs.1)
+-- Texts are cut at their line feeds.
 
 abbrev event_line : Event → Text
 event_line e = line_of (event_words e)
 
-split-line : (e : Event) → IsWritten e → slice_split is_space (event_line e) ≡ event_words e
-split-line e h = let solid = solid-event e h in split-words (decimal e.stamp) (decimal e.stream.0 ∷ what_words e.what) solid.0 solid.1
-
--- so a line is that of one event
+-- a line is that of one event
 line-is : (e f : Event) → IsWritten e → IsWritten f → event_line e ≡ event_line f → e ≡ f
 line-is e f he hf same =
-    let words : event_words e ≡ event_words f = sym (split-line e he) ∙ (ap (slice_split is_space) same ∙ split-line f hf) in
+    let words : event_words e ≡ event_words f = sym (split-line e) ∙ (ap (slice_split is_space) same ∙ split-line f) in
     sym (event-back e he) ∙ (ap event_read words ∙ event-back f hf)
-
--- Texts are cut at their line feeds.
-
-abbrev IsNoFeed : ℕ → Type 0
-IsNoFeed b = b ≢ 10
-
-no-feed : (b : ℕ) → 32 < b → IsNoFeed b
-no-feed b above e = absurd (omega (arith, e))
-
-unbroken-words : (ws : List Text) → AllByRecursion IsSolid ws → All IsNoFeed (spaced ws)
-unbroken-words [] hs = λ k d lt. absurd (omega arith)
-unbroken-words (w ∷ ws) hs =
-    All-append IsNoFeed (32 ∷ w) (spaced ws) (All-cons IsNoFeed 32 w (λ e. absurd (omega (arith, e))) (λ k d lt. no-feed (get_or w k d) (hs.0 k d lt))) (unbroken-words ws hs.1)
-
-unbroken-line : (e : Event) → IsWritten e → All IsNoFeed (event_line e)
-unbroken-line e h =
-    let solid = solid-event e h in
-    All-append IsNoFeed (decimal e.stamp) (spaced (decimal e.stream.0 ∷ what_words e.what)) (λ k d lt. no-feed (get_or (decimal e.stamp) k d) (solid.0 k d lt)) (unbroken-words (decimal e.stream.0 ∷ what_words e.what) solid.1)
 
 head-is : {a b : ℕ} {xs ys : Text} → a ∷ xs ≡ b ∷ ys → a ≡ b
 head-is e = cc
@@ -242,7 +145,7 @@ journal-texts-differ (e ∷ es) (k ∷ ks) hj hk same =
     let whole : event_line e ++ 10 ∷ journal_text es ≡ event_line k ++ 10 ∷ journal_text ks =
     sym (ended-prefix (event_line e) (journal_text es)) ∙ (same ∙ ended-prefix (event_line k) (journal_text ks)) in
     let cut : (event_line e ≡ event_line k) × (journal_text es ≡ journal_text ks) =
-    cut-same (event_line e) (event_line k) (journal_text es) (journal_text ks) (unbroken-line e hj.0) (unbroken-line k hk.0) whole in
+    cut-same (event_line e) (event_line k) (journal_text es) (journal_text ks) (unbroken-line e) (unbroken-line k) whole in
     ap (λ x. x ∷ es) (line-is e k hj.0 hk.0 cut.0) ∙ ap (λ xs. k ∷ xs) (journal-texts-differ es ks hj.1 hk.1 cut.1)
 
 -- Numbers of more than 64 digits.

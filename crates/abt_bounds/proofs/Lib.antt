@@ -8,5 +8,6 @@ pub mod FewLives
 pub mod Freedom
 pub mod JournalTexts
 pub mod Naming
+pub mod Solid
 pub mod Stamping
 pub mod Turns
