@@ -94,6 +94,16 @@ ticket_count-other a b t other = ap ticket_count (cond-false (a == b) (Some t) N
 one-term : (S : State) (at : Place) (n s c : ℕ) → s < n → term_at S at s ≡ c → ((r : ℕ) → r ≢ s → term_at S at r ≡ 0) → sum_up (term_at S at) n ≡ c
 one-term S at n s c l here others = sum_up-single (term_at S at) n s l others ∙ here
 
+-- in a line of stream s, where each stream's line has its own weight
+in-stream : (W : Parts) (S : State) (at : Place) (n : ℕ → ℕ) (s t : ℕ) → s < W.streams → ((r : ℕ) → term_at S at r ≡ n r * ticket_count (if_same s r t)) → ((p : ℕ) → pool_at at p ≡ 0) → ((v : ℕ) → join_at at v ≡ 0) → by_lines W S at ≡ n s
+in-stream W S at n s t l term no_pool no_join =
+    sums-are W S at (n s) 0 0
+    (one-term S at W.streams s (n s) l
+    (let e : n s * ticket_count (if_same s s t) ≡ n s * 1 = ap (λ k. n s * k) (ticket_count-same s t) in omega (arith, term s))
+    (λ r other. (let e : n r * ticket_count (if_same s r t) ≡ n r * 0 = ap (λ k. n r * k) (ticket_count-other s r t other) in omega (arith, term r))))
+    (sum_up-none _ (length W.pools) (λ p l. no_pool p)) (sum_up-none _ (length W.units) (λ v l. no_join v))
+    ∙ add-zero (n s)
+
 weighs : (W : Parts) (S : State) (u : ℕ) (at : Place) → IsPlaced W S u at → by_lines W S at ≡ place_weight S at
 weighs W S u place.Unborn placed = sums-are W S place.Unborn 0 0 0 (sum_up-none _ W.streams (λ s l. omega arith)) (sum_up-none _ (length W.pools) (λ p l. refl)) (sum_up-none _ (length W.units) (λ v l. refl))
 weighs W S u (place.Pool p t) placed =
@@ -101,31 +111,10 @@ weighs W S u (place.Pool p t) placed =
     (sum_up-none _ W.streams (λ s l. omega arith))
     (sum_up-single (pool_at (place.Pool p t)) (length W.pools) p.0 placed.0 (λ q other. ap (λ k. 5 * k) (ticket_count-other p.0 q t other)) ∙ ap (λ k. 5 * k) (ticket_count-same p.0 t))
     (sum_up-none _ (length W.units) (λ v l. refl))
-weighs W S u (place.Hand s) placed =
-    sums-are W S (place.Hand s) (hand_weight (S.stream s.0).mark) 0 0
-    (one-term S (place.Hand s) W.streams s.0 (hand_weight (S.stream s.0).mark) placed.0
-    (let e : hand_weight (S.stream s.0).mark * ticket_count (if_same s.0 s.0 0) ≡ hand_weight (S.stream s.0).mark * 1 = ap (λ k. hand_weight (S.stream s.0).mark * k) (ticket_count-same s.0 0) in omega arith)
-    (λ r other. (let e : hand_weight (S.stream r).mark * ticket_count (if_same s.0 r 0) ≡ hand_weight (S.stream r).mark * 0 = ap (λ k. hand_weight (S.stream r).mark * k) (ticket_count-other s.0 r 0 other) in omega arith)))
-    (sum_up-none _ (length W.pools) (λ p l. refl)) (sum_up-none _ (length W.units) (λ v l. refl))
-    ∙ add-zero (hand_weight (S.stream s.0).mark)
-weighs W S u (place.Next s) placed =
-    sums-are W S (place.Next s) 4 0 0
-    (one-term S (place.Next s) W.streams s.0 4 placed.0
-    (let e : ticket_count (if_same s.0 s.0 0) ≡ 1 = ticket_count-same s.0 0 in omega arith)
-    (λ r other. (let e : ticket_count (if_same s.0 r 0) ≡ 0 = ticket_count-other s.0 r 0 other in omega arith)))
-    (sum_up-none _ (length W.pools) (λ p l. refl)) (sum_up-none _ (length W.units) (λ v l. refl))
-weighs W S u (place.Tray s t) placed =
-    sums-are W S (place.Tray s t) 6 0 0
-    (one-term S (place.Tray s t) W.streams s.0 6 placed.0
-    (let e : ticket_count (if_same s.0 s.0 t) ≡ 1 = ticket_count-same s.0 t in omega arith)
-    (λ r other. (let e : ticket_count (if_same s.0 r t) ≡ 0 = ticket_count-other s.0 r t other in omega arith)))
-    (sum_up-none _ (length W.pools) (λ p l. refl)) (sum_up-none _ (length W.units) (λ v l. refl))
-weighs W S u (place.Frame s d) placed =
-    sums-are W S (place.Frame s d) 2 0 0
-    (one-term S (place.Frame s d) W.streams s.0 2 placed.0
-    (let e : ticket_count (if_same s.0 s.0 d) ≡ 1 = ticket_count-same s.0 d in omega arith)
-    (λ r other. (let e : ticket_count (if_same s.0 r d) ≡ 0 = ticket_count-other s.0 r d other in omega arith)))
-    (sum_up-none _ (length W.pools) (λ p l. refl)) (sum_up-none _ (length W.units) (λ v l. refl))
+weighs W S u (place.Hand s) placed = in-stream W S (place.Hand s) (λ r. hand_weight (S.stream r).mark) s.0 0 placed.0 (λ r. omega arith) (λ p. refl) (λ v. refl)
+weighs W S u (place.Next s) placed = in-stream W S (place.Next s) (λ r. 4) s.0 0 placed.0 (λ r. omega arith) (λ p. refl) (λ v. refl)
+weighs W S u (place.Tray s t) placed = in-stream W S (place.Tray s t) (λ r. 6) s.0 t placed.0 (λ r. omega arith) (λ p. refl) (λ v. refl)
+weighs W S u (place.Frame s d) placed = in-stream W S (place.Frame s d) (λ r. 2) s.0 d placed.0 (λ r. omega arith) (λ p. refl) (λ v. refl)
 weighs W S u (place.Blocked spot.Suspended t) placed = sums-are W S (place.Blocked spot.Suspended t) 0 0 0 (sum_up-none _ W.streams (λ s l. omega arith)) (sum_up-none _ (length W.pools) (λ p l. refl)) (sum_up-none _ (length W.units) (λ v l. refl))
 weighs W S u (place.Blocked (spot.Join v) t) placed =
     sums-are W S (place.Blocked (spot.Join v) t) 0 0 6
