@@ -26,11 +26,13 @@ use Rattle.abt_outcomes.specs.Values.{HaveMade, StandFor, IsIdle, IsEmptyPool, L
 
 -- Empty lines.
 
-owned-none : (S : State) (us : List ℕ) → map (owned_at S) us ≡ [] → us ≡ []
+-- if no units are owned, there are none
+pub owned-none : (S : State) (us : List ℕ) → map (owned_at S) us ≡ [] → us ≡ []
 owned-none S [] e = refl
 owned-none S (u ∷ us) e = cc
 
-first-none : (S : State) (us : List ℕ) → first (map (owned_at S) us) ≡ None → us ≡ []
+-- and none if there is no first
+pub first-none : (S : State) (us : List ℕ) → first (map (owned_at S) us) ≡ None → us ≡ []
 first-none S [] e = refl
 first-none S (u ∷ us) e = cc
 
