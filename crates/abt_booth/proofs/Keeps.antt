@@ -1,5 +1,5 @@
 -- Each step on a booth's table keeps its rule.
-use Rattle.std.proofs.Common.{◌≡◌, ◌≢◌, ℕ, zero, suc, ◌+◌, ◌*◌, ◌%◌, ◌<◌, ◌≤◌, ◌^◌, inl, inr, ⊎_elim, Bool, true, false, List, [], ◌∷◌, ◌++◌, length, eqb, eq-eqb, ne_eqb, get_or, set, refl, sym, ap, ◌∙◌, subst, arith, le_refl, length-append, true≢false, Some}
+use Rattle.std.proofs.Common.{◌≡◌, ◌≢◌, ℕ, zero, suc, ◌+◌, ◌*◌, ◌%◌, ◌<◌, ◌≤◌, ◌^◌, inl, inr, ⊎_elim, Bool, true, false, List, [], ◌∷◌, ◌++◌, length, eqb, eq-eqb, ne_eqb, get_or, set, refl, sym, ap, ◌∙◌, subst, arith, le_refl, length-append, true≢false, Option, Some}
 use mathlib.Core.Logic.{dite}
 use mathlib.Core.Option.{none, some, some-ne-none}
 use native.Mathlib.Decide.{ℕ_discrete}
@@ -7,7 +7,7 @@ use prog.Atomic.{either}
 use lib.ListN.{get_elem?}
 use lib.Seq.{set-get_or}
 use mathlib.Core.Option.{Option as Maybe}
-use Rattle.atomic_table.specs.Table.{Act, step, keeps, takes, gives, stepped, carried_after, Valid, Allows}
+use Rattle.atomic_table.specs.Table.{Act, step, rest, keeps, takes, gives, stepped, carried_after, Valid, Allows}
 use Rattle.atomic_table.proofs.Lists.{at_set, set_again}
 use Rattle.std.proofs.lemmas.Bool.{false_from_ne_true}
 use Rattle.std.specs.declared.snapshot.Snapshot.{Snapshot}
@@ -17,7 +17,7 @@ use Rattle.abt_booth.specs.declared.rule.View.{View}
 use Rattle.abt_booth.specs.declared.rule.Lot.{Lot}
 use Rattle.std.specs.List.{All}
 use Rattle.std.proofs.lemmas.List.Elements.{All-push}
-use Rattle.abt_booth.specs.Rule.{counting, Slot, TableState, SeatState, Has, Fits, Free, Held, Kept, holding, resting, took, called, released, yielded}
+use Rattle.abt_booth.specs.Rule.{counting, Slot, TableState, SeatState, Has, Fits, Free, Held, Kept, entry_at, holding, resting, took, released, yielded}
 use Rattle.abt_booth.proofs.Places.{index_at}
 use Rattle.abt_interleave.proofs.Prefixes.{extends-self}
 use Rattle.abt_booth.proofs.Histories.{rises_more, last_more, extends_more, leads_more}
@@ -133,12 +133,12 @@ module _ {O A R : Type 0} (does : O → A → R → O → Type 0) (o : O) (n : �
       (λ (c : (j ≡ id) × (w ≡ u)). ap (λ (y : View O A R). y.holds) (sym c.1) ∙ hw)
       (λ (c : (j ≢ id) × (get_elem? vs j ≡ some u)). false_from_ne_true u.holds (λ h. c.0 (only j u c.1 h ∙ sym (only id v at hv)))) (at_set vs id j w u e)
 
-  releases_held : (slots : ℕ) (s : TableState O A R) (r : Rule s) (id : ℕ) (v : View O A R) (m ob : O) (clock : ℕ) (x : Snapshot A × Snapshot R) (new : ℕ)
+  releases_held : (slots : ℕ) (s : TableState O A R) (r : Rule s) (id : ℕ) (v : View O A R) (m ob : O) (clock : ℕ) (x : Snapshot A × Snapshot R) (call : Snapshot (Option (Snapshot A × Snapshot R))) (new : ℕ)
       → v.holds ≡ true → v.number < v.next → v.taken ≡ [] → Leads does o v.seen m → does m x.0.value x.1.value ob → last_stamp (entry_stamps v.seen) < clock → clock ≤ 2 ^ 62 → new ≡ 2 * length v.seen + 2 → get_elem? s.views id ≡ some v
       → Held r.log s
-      → let lot : Lot O A R = record { object = ob; clock = clock; last = Some x } in Rule (stepped s counting new id ((0, Some lot) ∷ []) (resting v (v.seen ++ called v.number ((0, Some lot) ∷ []))) gives)
-  releases_held slots s r id v m ob clock x new hv lt tk leads done later cap is at t =
-      let lot : Lot O A R = record { object = ob; clock = clock; last = Some x } in
+      → let lot : Lot O A R = record { object = ob; clock = clock; last = call } in Rule (stepped s counting new id ((0, Some lot) ∷ []) (resting v (v.seen ++ entry_at v.number clock (Some x))) gives)
+  releases_held slots s r id v m ob clock x call new hv lt tk leads done later cap is at t =
+      let lot : Lot O A R = record { object = ob; clock = clock; last = call } in
       let e : Entry A R = record { stamp = clock; caller = v.number; act = x.0.value; answer = x.1.value } in
       let more : List (Entry A R) = v.seen ++ e ∷ [] in
       let only = t.7 in
@@ -170,16 +170,16 @@ module _ {O A R : Type 0} (does : O → A → R → O → Type 0) (o : O) (n : �
         );
       }
 
-  pub releases : (slots id : ℕ) (v : View O A R) (m ob : O) (clock : ℕ) (x : Snapshot A × Snapshot R) (new : ℕ)
-      → v.holds ≡ true → v.number < v.next → v.taken ≡ [] → Leads does o v.seen m → does m x.0.value x.1.value ob → last_stamp (entry_stamps v.seen) < clock → clock ≤ 2 ^ 62 → new ≡ 2 * length v.seen + 2
-      → let lot : Lot O A R = record { object = ob; clock = clock; last = Some x } in let me : SeatState O A R = (v, (0, Some lot) ∷ []) in Allows Rule slots id me counting (λ _. new) (λ _. released (step slots counting new 0 none) me new)
-  releases slots id v m ob clock x new hv lt tk leads done later cap is s r sized at small =
-      let lot : Lot O A R = record { object = ob; clock = clock; last = Some x } in (
-        resting v (v.seen ++ called v.number ((0, Some lot) ∷ [])),
+  pub releases : (slots id : ℕ) (v : View O A R) (m ob : O) (clock : ℕ) (x : Snapshot A × Snapshot R) (call : Snapshot (Option (Snapshot A × Snapshot R))) (new : ℕ)
+      → call.value ≡ Some x → v.holds ≡ true → v.number < v.next → v.taken ≡ [] → Leads does o v.seen m → does m x.0.value x.1.value ob → last_stamp (entry_stamps v.seen) < clock → clock ≤ 2 ^ 62 → new ≡ 2 * length v.seen + 2
+      → let lot : Lot O A R = record { object = ob; clock = clock; last = call } in let me : SeatState O A R = (v, (0, Some lot) ∷ []) in Allows Rule slots id me counting (λ _. new) (λ _. released (step slots counting new 0 none) me new)
+  releases slots id v m ob clock x call new noted hv lt tk leads done later cap is s r sized at small =
+      let lot : Lot O A R = record { object = ob; clock = clock; last = call } in (
+        resting v (v.seen ++ entry_at v.number clock (Some x)),
         gives,
         tt,
-        ⊎_elim (λ (t : Free does o r.log s). absurd (true≢false (sym hv ∙ t.5 id v at))) (λ (t : Held r.log s). releases_held slots s r id v m ob clock x new hv lt tk leads done later cap is at t) r.turn,
-        refl,
+        ⊎_elim (λ (t : Free does o r.log s). absurd (true≢false (sym hv ∙ t.5 id v at))) (λ (t : Held r.log s). releases_held slots s r id v m ob clock x call new hv lt tk leads done later cap is at t) r.turn,
+        ap (λ (c : Option (Snapshot A × Snapshot R)). (resting v (v.seen ++ entry_at v.number clock c), rest ((0, Some lot) ∷ []))) (sym noted),
       )
 
   yields_held : (slots : ℕ) (s : TableState O A R) (r : Rule s) (id : ℕ) (v : View O A R) (lot : Lot O A R) (new : ℕ)

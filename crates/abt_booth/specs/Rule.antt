@@ -103,7 +103,7 @@ module _ {O A R : Type 0} where
 
   -- the entry of the call that was made last on this lot, by seat n
   abbrev pub entry_in : ℕ → Slot O A R → List (Entry A R)
-  entry_in n (Some lot) = entry_at n lot.clock lot.last
+  entry_in n (Some lot) = entry_at n lot.clock lot.last.value
   entry_in n None = []
 
   -- the same, of the lot that the seat holds

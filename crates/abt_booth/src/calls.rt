@@ -142,10 +142,11 @@ impl<O: Object> Booth<O> {
         ensures same { (seat.new.table_id ≡ seat.old.table_id) × (seat.new.id ≡ seat.old.id) }
         ensures view { seat.new.me ≡ (resting seat.old.me.0 (seat.old.me.0.seen ++ record { stamp = stamp; caller = seat.old.me.0.number; act = act.value; answer = answer.value } ∷ []), []) }
     {
+        let last = Snapshot::of(&Some((act, answer)));
         let lot = Lot {
             object,
             clock: stamp,
-            last: Some((act, answer)),
+            last,
         };
         self.put(seat, lot);
         self.table.shared.store::<Release>(seat, COUNTING, free + 2);

@@ -44,10 +44,11 @@ impl<O: Object> Booth<O> {
             object: Snapshot::of(&object),
             seats,
         };
+        let last = Snapshot::of(&None);
         slots.push_reserved(Some(Lot {
             object,
             clock: 0,
-            last: None,
+            last,
         }));
         match Table::new(alloc, &[0; WORDS], slots, &opening) {
             Ok((table, first)) => Ok((Booth { table }, first)),

@@ -28,12 +28,12 @@ pub struct View<O, A, R> {
     pub taken: LinkedList<(u64, LinkedList<Entry<A, R>>)>,
 }
 
-/// The object with its clock. The last act and its answer are for the proof alone.
+/// The object with its clock. The last act and its answer, if there was a call, are for the proof alone and take no bytes.
 #[derive(Drop)]
 pub struct Lot<O, A, R> {
     pub object: O,
     pub clock: u64,
-    pub last: Option<(Snapshot<A>, Snapshot<R>)>,
+    pub last: Snapshot<Option<(Snapshot<A>, Snapshot<R>)>>,
 }
 
 /// What the table's slot holds.

@@ -12,5 +12,5 @@ store-requires g c = let does = g.O.Object.does in let k = c.args.self.now.table
   search rules,
   search rules,
   subst (λ (m : SeatState g.row.O.Denot g.row.O-Act.Denot g.row.O-Answer.Denot). Allows (Kept does k.object.value k.seats) slots c.put.new.seat.id m counting (λ _. new) (λ _. released (step slots counting new 0 none) m new)) (sym c.put.ensures.put)
-      (releases does k.object.value k.seats slots c.put.new.seat.id v c.requires.done.0 c.args.object c.args.stamp (c.args.act, c.args.answer) new c.requires.turn.1 c.requires.turn.2 c.requires.turn.3 c.requires.done.1 c.requires.done.2 c.requires.stamp.0 c.requires.stamp.1 (ap (λ z. z + 2) c.requires.free.0)),
+      (releases does k.object.value k.seats slots c.put.new.seat.id v c.requires.done.0 c.args.object c.args.stamp (c.args.act, c.args.answer) c.of-last.result new c.of-last.ensures c.requires.turn.1 c.requires.turn.2 c.requires.turn.3 c.requires.done.1 c.requires.done.2 c.requires.stamp.0 c.requires.stamp.1 (ap (λ z. z + 2) c.requires.free.0)),
 )
