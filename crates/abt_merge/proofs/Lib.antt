@@ -1,3 +1,3 @@
-mod Firsts
-mod Lefts
 mod Single
+mod Taken
+mod Woven

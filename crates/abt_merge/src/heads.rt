@@ -1,39 +1,40 @@
-//! Which log's next event comes first.
+//! Which stream's next event comes first.
 
-ghost use Rattle.std.specs.Prelude.{◌≡◌, length, get_or, option_map, slice_get};
-ghost use Rattle.abt_merge.specs.Heads.{FirstOf, next_stamp, sooner_of};
+ghost use Rattle.std.specs.Prelude.{◌≡◌, map};
+ghost use Rattle.abt_merge.specs.Heads.{FirstBut, head_of, is_sooner, sooner_of};
 
-use abt_machine::Log;
+use abt_machine::Event;
 
-/// Stamp and stream of the event that comes first, by stamp and then by stream, if so many events of each log are used
-/// up; None if nothing is left.
-pub(crate) fn first(logs: &[Log], used: &[usize]) -> Option<(u64, usize)>
-    requires { length used.now ≡ length logs.now }
-    ensures { FirstOf logs.now used.now (length logs.now) result }
+/// Stamp and stream of the event that comes first, by stamp and then by stream, of what is left of the logs of all streams
+/// but this one; None if nothing is left of them.
+pub(crate) fn first_but(rests: &[&[Event]], but: usize) -> Option<(u64, usize)>
+    ensures { FirstBut (map (λ rest. rest.now) rests.now) but result }
 {
     let mut first = None;
-    for stream in 0..logs.len() {
-        first = sooner(first, stream, next(&logs[stream], used[stream]));
+    for stream in 0..rests.len() {
+        if stream != but {
+            first = sooner(first, stream, rests[stream]);
+        }
     }
     first
 }
 
-// The stamp of the log's event at this place.
-fn next(log: &Log, at: usize) -> Option<u64>
-    ensures { result ≡ option_map (λ e. e.stamp) (slice_get log.now at) }
+// The sooner one of the event that comes first of the streams before, and of the next one of this stream.
+fn sooner(first: Option<(u64, usize)>, stream: usize, rest: &[Event]) -> Option<(u64, usize)>
+    ensures { result ≡ sooner_of first (head_of stream rest.now) }
 {
-    log.items().get(at).map(|event| event.stamp)
+    match rest.first() {
+        Some(event) if is_sooner(event.stamp, first) => Some((event.stamp, stream)),
+        _ => first,
+    }
 }
 
-// The sooner one of the event that comes first of the streams before, and of the next one of this stream.
-fn sooner(first: Option<(u64, usize)>, stream: usize, next: Option<u64>) -> Option<(u64, usize)>
-    ensures { result ≡ sooner_of first stream next }
+// Whether an event with this stamp comes before the one that comes first of the streams before its own.
+fn is_sooner(stamp: u64, first: Option<(u64, usize)>) -> bool
+    ensures { result ≡ is_sooner stamp first }
 {
-    let Some(stamp) = next else {
-        return first;
-    };
     match first {
-        Some((least, _)) if least <= stamp => first,
-        _ => Some((stamp, stream)),
+        None => true,
+        Some((least, _)) => stamp < least,
     }
 }

@@ -2,14 +2,15 @@
 #![tactic(auto)]
 
 mod heads;
+mod runs;
 
-ghost use Rattle.std.specs.Prelude.{◌≡◌, IfOk, IsOk, length};
-ghost use Rattle.abt_interleave.specs.Merges.{IsMerging};
+ghost use Rattle.std.specs.Prelude.{◌≡◌, IfOk, IsOk, length, map};
 ghost use Rattle.abt_simulation.specs.Journals.{MergesTo};
-ghost use Rattle.abt_merge.specs.Logs.{AreLogs, log_of};
+ghost use Rattle.abt_merge.specs.Logs.{AreLogs, count_events, log_of};
 
-use crate::heads::first;
-use abt_machine::{Journal, Log, Want};
+use crate::heads::first_but;
+use crate::runs::{last_before, take_run};
+use abt_machine::{Event, Journal, Log, Want};
 use std::alloc::Global;
 
 /// All events of these logs, by stamp and then by stream. A single log is moved; of several a further list is made.
@@ -24,23 +25,41 @@ pub fn merge(alloc: Global, mut logs: Vec<Log>) -> Result<Journal, Want>
     weave(alloc, &logs)
 }
 
-// The logs stay as they are.
+// The logs stay as they are: run after run is taken from what is left of them.
 fn weave(alloc: Global, logs: &[Log]) -> Result<Journal, Want>
     requires logs { AreLogs logs.now }
     ensures { IfOk result (λ journal. MergesTo (log_of logs.now) journal) }
 {
-    let mut events = Vec::with_capacity(alloc, count_events(logs))?;
-    let mut used = vec![in alloc; 0; logs.len()]?;
-    while let Some((_, stream)) = first(logs, &used) {
-        events.push(logs[stream].items()[used[stream]])?;
-        used[stream] += 1;
+    let mut rests = rests_of(alloc, logs)?;
+    let mut events = Vec::with_capacity(alloc, count_events(&rests)?)?;
+    let mut next = first_but(&rests, rests.len());
+    while let Some(first) = next {
+        let (_, stream) = first;
+        let bound = first_but(&rests, stream);
+        rests[stream] = take_run(&mut events, rests[stream], last_before(first, bound));
+        next = bound;
     }
     Ok(Journal::new(events))
 }
 
-// How many events there are, or more than memory has.
-fn count_events(logs: &[Log]) -> usize {
-    logs.iter().fold(0, |count: usize, log| {
-        count.saturating_add(log.items().len())
-    })
+// What is left of each log: at first all of it.
+fn rests_of<'a>(alloc: Global, logs: &'a [Log]) -> Result<Vec<&'a [Event]>, Want>
+    ensures { IfOk result (λ rests. map (λ rest. rest.now) rests.items ≡ logs.now) }
+{
+    let mut rests = Vec::with_capacity(alloc, logs.len())?;
+    for log in logs {
+        rests.push(log.items())?;
+    }
+    Ok(rests)
+}
+
+// How many events are left. Memory cannot hold more than a number can.
+fn count_events(rests: &[&[Event]]) -> Result<usize, Want>
+    ensures { IfOk result (λ count. count ≡ count_events (map (λ rest. rest.now) rests.now)) }
+{
+    let mut count: usize = 0;
+    for rest in rests {
+        count = count.checked_add(rest.len()).ok_or(Want)?;
+    }
+    Ok(count)
 }

@@ -1,26 +1,20 @@
--- Each turn of the loop appends the event that comes next.
-use Rattle.std.proofs.Common.{◌+◌, length, subst, sym}
-use Rattle.abt_interleave.specs.Merges.{IsMergeOf}
-use Rattle.abt_merge.specs.Heads.{AreUsedUp}
-use Rattle.abt_merge.specs.Logs.{log_of}
-use Rattle.abt_merge.proofs.Lefts.{end, gets-fewer, goes-on, still-same}
+-- Each turn of the loop appends a run.
+use Rattle.std.proofs.Common.{set, arith}
+use Rattle.abt_merge.proofs.Woven.{Turned, turned}
 use Rattle.abt_merge.proofs.weave.Goals as goal
+use Rattle.abt_merge.proofs.weave.Goals.{After-take_run}
 
-pub loop-stream-smaller : goal.loop-stream-smaller
-loop-stream-smaller c =
-    gets-fewer c.args.logs.now c.requires.logs c.loop-stream.used.items c.deref.result.now c.loop-stream.invariant.0 c.deref.ensures.value c.in-Some.field-0-0 c.in-Some.stream c.in-Some.ensures
-    c.index_mut.result.now c.index_mut.ensures.value
+turned-here : (c : After-take_run) → Turned c.args.logs.now c.loop-next.rests.items (set c.loop-next.rests.items c.in-Some.first.1 c.take_run.result)
+    c.loop-next.events.items c.take_run.new.events.items c.first_but-bound.result
+turned-here c =
+    turned c.args.logs.now c.requires.logs c.loop-next.rests.items c.deref-in-Some.result.now c.deref-in-Some.ensures.value c.loop-next.events.items c.loop-next.next c.first_but-bound.result
+    c.in-Some.first c.in-Some.is c.loop-next.invariant.0 c.first_but-bound.ensures c.last_before.result c.last_before.ensures c.index.result.now c.take_run.result c.index.ensures
+    c.take_run.ensures.taken.0 c.take_run.ensures.taken.2 c.take_run.new.events.items c.take_run.ensures.taken.1
 
-pub loop-stream-preserved : goal.loop-stream-preserved
-loop-stream-preserved c = (
-  still-same c.args.logs.now c.requires.logs c.loop-stream.used.items c.deref.result.now c.loop-stream.invariant.0 c.deref.ensures.value c.in-Some.field-0-0 c.in-Some.stream c.in-Some.ensures
-      (c.index_mut.result.now + 1),
-  goes-on c.args.logs.now c.requires.logs c.loop-stream.used.items c.deref.result.now c.loop-stream.invariant.0 c.deref.ensures.value c.in-Some.field-0-0 c.in-Some.stream c.in-Some.ensures
-      c.loop-stream.events.items c.push.new.self.items c.index-logs-stream.result c.items.result.now c.index.result.now c.index_mut.result.now _
-      c.index-logs-stream.is c.items.ensures c.index.ensures c.index_mut.ensures.value c.in_ok-push.ensures.items c.loop-stream.invariant.1,
-)
+pub loop-next-smaller : goal.loop-next-smaller
+loop-next-smaller c = (turned-here (goal.at.loop-next-smaller c).After-take_run).fewer
 
-pub returns : goal.returns
-returns c = subst (λ es. IsMergeOf (λ e. e.stamp) (λ e. e.stream.0) (log_of c.args.logs.now) es) (sym c.new.ensures)
-    (end c.args.logs.now c.requires.logs c.loop-stream.used.items c.loop-stream.events.items
-    (subst (λ ns. AreUsedUp c.args.logs.now ns (length c.args.logs.now)) c.deref.ensures.value c.in_default.ensures) c.loop-stream.invariant.1)
+pub loop-next-preserved : goal.loop-next-preserved
+loop-next-preserved c =
+    let t = turned-here (goal.at.loop-next-preserved c).After-take_run in
+    (t.woven, omega (arith, t.as_many, c.loop-next.invariant.1, c.take_run.ensures.capacity, c.loop-next.events.ok.0, c.take_run.new.events.ok.0))

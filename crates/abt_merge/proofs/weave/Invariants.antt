@@ -1,12 +1,13 @@
--- On the way: what is left of each log comes behind the journal so far.
-use Rattle.std.proofs.Common.{◌≡◌, length}
-use Rattle.abt_interleave.specs.Merges.{IsMerging}
-use Rattle.abt_merge.specs.Heads.{left_of, count_left}
-use Rattle.abt_merge.specs.Logs.{log_of}
+-- On the way: what is left of each log comes behind the journal so far, which has room for it, and which event comes first is known.
+use Rattle.std.proofs.Common.{◌+◌, ◌≤◌, map, vec_capacity, vec_len}
+use Rattle.abt_merge.specs.Logs.{count_events}
+use Rattle.abt_merge.proofs.Woven.{IsWoven}
 use Rattle.abt_merge.proofs.weave.Given as goal
 
-abbrev pub invariant-loop-stream : goal.invariant-loop-stream
-invariant-loop-stream l = (length l.used.items ≡ length l.logs) × IsMerging (λ e. e.stamp) (λ e. e.stream.0) (log_of l.logs) (left_of l.logs l.used.items) l.events.items
+abbrev pub invariant-loop-next : goal.invariant-loop-next
+invariant-loop-next l =
+    IsWoven l.logs (map (λ rest. rest.now) l.rests.items) l.events.items l.next
+    × (vec_len l.events + count_events (map (λ rest. rest.now) l.rests.items) ≤ vec_capacity l.events)
 
-abbrev pub decreases-loop-stream : goal.decreases-loop-stream
-decreases-loop-stream l = count_left l.logs l.used.items
+abbrev pub decreases-loop-next : goal.decreases-loop-next
+decreases-loop-next l = count_events (map (λ rest. rest.now) l.rests.items)
