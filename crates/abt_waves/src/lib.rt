@@ -4,6 +4,7 @@
 mod fleet;
 mod locks;
 mod run;
+mod tally;
 mod threads;
 mod voyages;
 mod watch;

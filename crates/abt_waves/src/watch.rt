@@ -1,35 +1,61 @@
 //! How the streams of a wave know of each other whether they have work. It decides when a stream that finds nothing looks again, and
 //! when it leaves the wave. Whatever it decides, what the streams do is a run.
+//!
+//! A stream that finds nothing calls the others if it had work since it last did so, and then waits for a call. A call makes all that wait
+//! active at once, before they wake. So when none is active, each has looked in vain after the last work of all, and the wave is over.
 
+use crate::tally::Tally;
+use std::hint::spin_loop;
 use std::sync::Wait;
 use std::sync::atomic::{AtomicBool, AtomicU64, Ordering};
 use std::thread::yield_now;
 
-// After so many turns a stream with work wakes those that wait for some.
-const TURNS: u32 = 2048;
+// After so many turns at first a stream with work calls those that wait, and after twice as many each time that none of them found work
+// since the last call, up to the second number.
+const FIRST_CALL: u32 = 1 << 11;
+
+const RAREST_CALL: u32 = 1 << 16;
+
+// So often a stream that waits looks at most whether it was called, before it sleeps. It does so less often each time that it finds
+// nothing.
+const LONGEST_LOOK: u32 = 512;
+
+// Each time that a stream that waits has looked so often, it lets other threads run.
+const PAUSES: u32 = 16;
 
 // So often a stream without work lets other threads run while there are streams that have not started.
-const PATIENCE: u32 = 1000;
+const PATIENCE: u32 = 10_000;
 
-/// Of the streams that are live in a wave: how many have started, have work, and wait for some.
+/// The streams that are live in a wave.
 #[derive(Drop)]
 pub(crate) struct Watch {
     streams: u64,
     started: AtomicU64,
-    busy: AtomicU64,
-    waiting: AtomicU64,
-    // Changes when those that wait are to look again.
-    bell: AtomicU64,
+    tally: AtomicU64,
+    // How often a stream that had waited found work.
+    helped: AtomicU64,
+    // How many streams sleep, or are about to.
+    asleep: AtomicU64,
     refused: AtomicBool,
 }
 
-/// What a stream is at: whether it counts as one with work, whether it has looked in vain since no stream had any, and its turns
-/// since it last rang the bell.
+/// What a stream is at.
 #[derive(Drop)]
 pub(crate) struct Shift {
-    busy: bool,
-    last: bool,
+    // Whether it counts as active.
+    active: bool,
+    // How many calls there were when it last began to look.
+    calls: u32,
+    // Whether it had work since its last call.
+    worked: bool,
+    // Whether it has waited since it last had work.
+    waited: bool,
+    // Its turns since its last call, after how many it calls next, and how often others had found work by then.
     turns: u32,
+    interval: u32,
+    helped: u64,
+    // How often it looks before it sleeps.
+    look: u32,
 }
 
 impl Watch {
@@ -38,87 +64,179 @@ impl Watch {
         Watch {
             streams: live.iter().filter(|live| **live).count() as u64,
             started: AtomicU64::new(0),
-            busy: AtomicU64::new(0),
-            waiting: AtomicU64::new(0),
-            bell: AtomicU64::new(0),
+            tally: AtomicU64::new(0),
+            helped: AtomicU64::new(0),
+            asleep: AtomicU64::new(0),
             refused: AtomicBool::new(false),
         }
     }
 
-    /// A stream starts. It counts as one with work.
+    /// A stream starts, and is active.
     pub(crate) fn start(&self) -> Shift {
-        self.busy.fetch_add(1, Ordering::SeqCst);
+        let _ = self.tally.fetch_update(
+            Ordering::SeqCst,
+            Ordering::SeqCst,
+            |word| Some(Tally::of(word).joined().word()),
+        );
         self.started.fetch_add(1, Ordering::SeqCst);
         Shift {
-            busy: true,
-            last: false,
+            active: true,
+            calls: self.tally().calls,
+            worked: false,
+            waited: false,
             turns: 0,
+            interval: FIRST_CALL,
+            helped: 0,
+            look: LONGEST_LOOK,
         }
     }
 
-    /// After a turn of a stream that has work, or looks for some: whether it goes on.
+    /// After a turn of a stream that has work or looks for some, and is idle or not: whether it goes on.
     pub(crate) fn turned(&self, shift: &mut Shift, idle: bool) -> bool {
-        if !shift.busy {
-            if idle {
-                return true;
-            }
-            shift.busy = true;
-            self.busy.fetch_add(1, Ordering::SeqCst);
+        if !idle {
+            self.note_work(shift);
         }
-        if shift.turns < TURNS {
+        if shift.turns < shift.interval {
             shift.turns += 1;
             return true;
         }
         shift.turns = 0;
-        if self.waiting.load(Ordering::SeqCst) > 0 {
-            self.ring();
+        if self.tally().waiting > 0 {
+            self.call();
+            shift.worked = !idle;
+            self.choose_interval(shift);
         }
         !self.refused.load(Ordering::SeqCst)
     }
 
-    /// After a round in which a stream without work found none: whether it goes on. While others have work it waits until one of
-    /// them rings the bell. When no stream has work it looks once more.
+    /// After a round in which a stream found nothing: whether it goes on. It looks again if there was a call since it began to look, and
+    /// else waits for one.
     pub(crate) fn found_none<R: Wait>(&self, rt: &R, shift: &mut Shift) -> bool {
-        if shift.busy {
-            self.rest(shift);
-            self.await_starts();
+        self.await_starts();
+        match self.rest(shift) {
+            Some(tally) if !tally.over => self.await_call(rt, shift, tally.calls),
+            _ => {}
         }
-        let rung = self.bell.load(Ordering::SeqCst);
-        if self.refused.load(Ordering::SeqCst) {
-            return false;
-        }
-        if self.busy.load(Ordering::SeqCst) == 0 {
-            let again = !shift.last && self.streams > 1;
-            shift.last = true;
-            return again;
-        }
-        shift.last = false;
-        self.waiting.fetch_add(1, Ordering::SeqCst);
-        self.bell.park(rt, (rung % (1 << 32)) as u32);
-        self.waiting.fetch_sub(1, Ordering::SeqCst);
-        true
+        let tally = self.tally();
+        shift.calls = tally.calls;
+        shift.active = !tally.over;
+        shift.active && !self.refused.load(Ordering::SeqCst)
     }
 
     /// A stream leaves the wave.
-    pub(crate) fn leave(&self, mut shift: Shift) {
-        if shift.busy {
-            self.rest(&mut shift);
+    pub(crate) fn leave(&self, shift: Shift) {
+        if shift.active {
+            let worked = shift.worked;
+            let _ = self.tally.fetch_update(
+                Ordering::SeqCst,
+                Ordering::SeqCst,
+                |word| Some(calling(Tally::of(word), worked).left().word()),
+            );
+            self.wake();
         }
     }
 
     /// Memory was refused: the others are to leave too.
     pub(crate) fn refuse(&self) {
         self.refused.store(true, Ordering::SeqCst);
-        self.ring();
+        self.call();
     }
 
-    // The stream counts as one without work. The last one with work rings the bell.
-    fn rest(&self, shift: &mut Shift) {
-        shift.busy = false;
-        shift.last = false;
-        if self.busy.fetch_sub(1, Ordering::SeqCst) == 1 {
-            self.ring();
+    // The tally at this moment.
+    fn tally(&self) -> Tally {
+        Tally::of(self.tally.load(Ordering::SeqCst))
+    }
+
+    // Those that wait are to look again.
+    fn call(&self) {
+        let _ = self.tally.fetch_update(
+            Ordering::SeqCst,
+            Ordering::SeqCst,
+            |word| Some(Tally::of(word).called().word()),
+        );
+        self.wake();
+    }
+
+    // Those that sleep wake, if there are any.
+    fn wake(&self) {
+        if self.asleep.load(Ordering::SeqCst) > 0 {
+            self.tally.wake_all();
         }
+    }
+
+    // The stream has work.
+    fn note_work(&self, shift: &mut Shift) {
+        shift.worked = true;
+        if shift.waited {
+            shift.waited = false;
+            shift.look = LONGEST_LOOK;
+            shift.interval = FIRST_CALL;
+            self.helped.fetch_add(1, Ordering::SeqCst);
+        }
+    }
+
+    // The stream calls next after as many turns as at first if its last call helped, and else after twice as many as before.
+    fn choose_interval(&self, shift: &mut Shift) {
+        let helped = self.helped.load(Ordering::SeqCst);
+        shift.interval = if helped != shift.helped {
+            FIRST_CALL
+        } else {
+            shift.interval.saturating_mul(2).min(RAREST_CALL)
+        };
+        shift.helped = helped;
+    }
+
+    // The stream waits, and the tally after that; None if it is to look again, or the wave is over.
+    fn rest(&self, shift: &mut Shift) -> Option<Tally> {
+        let calls = shift.calls;
+        let worked = shift.worked;
+        let rested = self.tally.fetch_update(
+            Ordering::SeqCst,
+            Ordering::SeqCst,
+            |word| rested(Tally::of(word), calls, worked),
+        );
+        let Ok(word) = rested else {
+            return None;
+        };
+        shift.worked = false;
+        self.wake();
+        Some(calling(Tally::of(word), worked).rested())
+    }
+
+    // Waits until there was one more call than so many.
+    fn await_call<R: Wait>(&self, rt: &R, shift: &mut Shift, calls: u32) {
+        shift.waited = true;
+        if !self.looks(shift.look, calls) {
+            self.sleep(rt, calls);
+        }
+        shift.look -= shift.look / 4;
+    }
+
+    // Looks so often whether there was one more call, and whether there was.
+    fn looks(&self, look: u32, calls: u32) -> bool {
+        for times in 0..look {
+            if self.tally().calls != calls {
+                return true;
+            }
+            if times % PAUSES == PAUSES - 1 {
+                yield_now();
+            } else {
+                spin_loop();
+            }
+        }
+        false
+    }
+
+    // Sleeps until there was one more call.
+    fn sleep<R: Wait>(&self, rt: &R, calls: u32) {
+        self.asleep.fetch_add(1, Ordering::SeqCst);
+        for _ in rt.forever() {
+            if self.tally().calls != calls {
+                break;
+            }
+            self.tally.park(rt, calls);
+        }
+        self.asleep.fetch_sub(1, Ordering::SeqCst);
     }
 
     // Lets other threads run while there are streams that have not started, for some time.
@@ -130,10 +248,17 @@ impl Watch {
             yield_now();
         }
     }
+}
 
-    // Wakes those that wait.
-    fn ring(&self) {
-        self.bell.fetch_add(1, Ordering::SeqCst);
-        self.bell.wake_all();
+// The tally with a call of those that wait, if the stream has worked.
+fn calling(tally: Tally, worked: bool) -> Tally {
+    if worked { tally.called() } else { tally }
+}
+
+// The tally if a stream rests that began to look after so many calls; None if there was one since then, or the wave is over.
+fn rested(tally: Tally, calls: u32, worked: bool) -> Option<u64> {
+    if tally.over || tally.calls != calls {
+        return None;
     }
+    Some(calling(tally, worked).rested().word())
 }

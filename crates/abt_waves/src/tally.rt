@@ -1,0 +1,90 @@
+//! How many streams of a wave have work or look for some, and how many wait, as one number that changes in one step.
+
+/// Of the streams that have started.
+#[derive(Clone, Copy)]
+pub(crate) struct Tally {
+    /// How often those that waited were called to look again.
+    pub(crate) calls: u32,
+    /// How many have work, or look for some.
+    pub(crate) active: u8,
+    /// How many have found none since they were called, and wait.
+    pub(crate) waiting: u8,
+    /// Whether there was a moment at which none was active. Nobody waits then.
+    pub(crate) over: bool,
+}
+
+impl Tally {
+    /// The tally that `word` made a number of.
+    pub(crate) fn of(word: u64) -> Tally {
+        Tally {
+            calls: (word % (1 << 32)) as u32,
+            active: ((word >> 32) % (1 << 8)) as u8,
+            waiting: ((word >> 40) % (1 << 8)) as u8,
+            over: (word >> 48) % 2 == 1,
+        }
+    }
+
+    /// The tally as a number, whose low 32 bits are the calls.
+    pub(crate) fn word(self) -> u64 {
+        let over = if self.over { 1 } else { 0 };
+        self.calls as u64 | (self.active as u64) << 32 | (self.waiting as u64) << 40 | over << 48
+    }
+
+    /// One more is active.
+    pub(crate) fn joined(self) -> Tally {
+        Tally {
+            calls: self.calls,
+            active: self.active.saturating_add(1),
+            waiting: self.waiting,
+            over: self.over,
+        }
+    }
+
+    /// All that wait are called, and so are active from now on.
+    pub(crate) fn called(self) -> Tally {
+        Tally {
+            calls: self.calls.wrapping_add(1),
+            active: self.active.saturating_add(self.waiting),
+            waiting: 0,
+            over: self.over,
+        }
+    }
+
+    /// One that was active leaves.
+    pub(crate) fn left(self) -> Tally {
+        let active = self.active.saturating_sub(1);
+        if active == 0 {
+            return self.ended();
+        }
+        Tally {
+            calls: self.calls,
+            active,
+            waiting: self.waiting,
+            over: self.over,
+        }
+    }
+
+    /// One that was active waits; or none is active any longer.
+    pub(crate) fn rested(self) -> Tally {
+        let left = self.left();
+        if left.over {
+            return left;
+        }
+        Tally {
+            calls: left.calls,
+            active: left.active,
+            waiting: left.waiting.saturating_add(1),
+            over: false,
+        }
+    }
+
+    // None is active: those that wait are called to leave.
+    fn ended(self) -> Tally {
+        Tally {
+            calls: self.calls.wrapping_add(1),
+            active: 0,
+            waiting: 0,
+            over: true,
+        }
+    }
+}
