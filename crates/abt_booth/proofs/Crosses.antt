@@ -1,6 +1,8 @@
 -- If the object may go to another thread, so may a seat and a booth, and a booth may be shared.
 use denote.RattleType.{RattleType}
-use denote.Param.Send.{IsSend, IsSync, sendable}
+use denote.Struct.Declared.{shape}
+use denote.Param.Send.{IsSend, IsSync, recorded_sync, sendable, struct_sync}
+use Rattle.std.proofs.sync.atomic.AtomicU64.TheSendSync as word
 use Rattle.std.proofs.alloc.Global.TheSendSync as heap
 use Rattle.std.proofs.Crossing.{frees}
 use Rattle.atomic_table.proofs.shared.Seat.TheSendSync as raw
@@ -23,10 +25,7 @@ module _ (O A R : RattleType) (g : Ghosts O.Denot A.Denot R.Denot) where
   Gathered-send s = search (sendable, raw.the_send, Lot-send) depth 20
 
   pub Booth-send : IsSend O → IsSend (Booth.the_row O A R g)
-  Booth-send s = search (sendable, shared.the_send, lease.the_send, heap.the_send, frees, Lot-send) depth 20
-
-  pub Booth-sync : IsSend O → IsSync (Booth.the_row O A R g)
-  Booth-sync s = search (sendable, shared.the_sync, lease.the_sync, heap.the_sync, heap.the_send, frees, Lot-send) depth 20
+  Booth-send s = search (sendable, shared.the_send, lease.the_send, word.the_send, heap.the_send, frees, Lot-send) depth 40
 
   -- the same, as a field of another struct
   pub Seat-field-send : IsSend O → IsSend (Seat.the_field O A R g).row
@@ -36,10 +35,15 @@ module _ (O A R : RattleType) (g : Ghosts O.Denot A.Denot R.Denot) where
   Gathered-field-send s = search (sendable, raw.the_send, Lot-send) depth 20
 
   pub Booth-field-send : IsSend O → IsSend (Booth.the_field O A R g).row
-  Booth-field-send s = search (sendable, shared.the_send, lease.the_send, heap.the_send, frees, Lot-send) depth 20
+  Booth-field-send s = search (sendable, shared.the_send, lease.the_send, word.the_send, heap.the_send, frees, Lot-send) depth 40
 
   pub Booth-field-sync : IsSend O → IsSync (Booth.the_field O A R g).row
-  Booth-field-sync s = search (sendable, shared.the_sync, lease.the_sync, heap.the_sync, heap.the_send, frees, Lot-send) depth 20
+  Booth-field-sync s = search (sendable, shared.the_sync, lease.the_sync, word.the_sync, heap.the_sync, heap.the_send, frees, Lot-send) depth 40
+
+  pub Booth-sync : IsSend O → IsSync (Booth.the_row O A R g)
+  Booth-sync s =
+      recorded_sync _ _ _ (Booth.the_type O A R g).to_one
+      (struct_sync (shape (Booth.the_type O A R g)) (search (sendable, shared.the_sync, lease.the_sync, heap.the_sync, heap.the_send, frees, Lot-send) depth 20, (word.the_sync, tt)))
 
 -- all of these, for `search`
 pub ruleset booth_crosses = (Seat-send, Gathered-send, Booth-send, Booth-sync, Seat-field-send, Gathered-field-send, Booth-field-send, Booth-field-sync)

@@ -5,6 +5,7 @@ use crate::object::Object;
 use crate::rule::{Kept, Knows, Opening, Turns};
 use atomic_table::Table;
 use std::alloc::Global;
+use std::sync::atomic::AtomicU64;
 
 pub(crate) type Raw<O> = atomic_table::Seat<Kept<O>, Knows<O>>;
 
@@ -12,6 +13,8 @@ pub(crate) type Raw<O> = atomic_table::Seat<Kept<O>, Knows<O>>;
 #[derive(Drop)]
 pub struct Booth<O: Object> {
     pub(crate) table: Table<Kept<O>, Knows<O>, Opening<O>, Turns<O>, Global>,
+    // How many callers sleep until the turn is given back, or are about to.
+    pub(crate) asleep: AtomicU64,
     ghost shape: { (table.shared.table_id.words ≡ 31) × (table.shared.table_id.slots ≡ 1) },
     ghost seated: { 1 ≤ table.shared.key.seats },
 }

@@ -12,12 +12,12 @@ use crate::rule::{COUNTING, Lot};
 use std::hint::spin_loop;
 use std::snapshot::Snapshot;
 use std::sync::Wait;
-use std::thread::yield_now;
+use std::sync::atomic::Ordering;
 
 /// No stamp is greater: 2^62. A clock that is there is worn.
 pub const LAST_STAMP: u64 = 1 << 62;
 
-// A caller that finds the turn held pauses ever longer, and after a pause of this length lets other threads run.
+// A caller that finds the turn held pauses ever longer, and if it is still held after a pause of this length it sleeps.
 const LONGEST_PAUSE: u32 = 128;
 
 impl<O: Object> Booth<O> {
@@ -75,10 +75,26 @@ impl<O: Object> Booth<O> {
                 spin(pause);
                 pause *= 2;
             } else {
-                yield_now();
+                self.sleep(rt, free);
+                pause = 1;
             }
         }
         unreachable!()
+    }
+
+    // Sleeps until the counting word is another one than was found, unless it is so already.
+    fn sleep<R: Wait>(&self, rt: &R, found: u64) {
+        self.asleep.fetch_add(1, Ordering::SeqCst);
+        let low = (found % (1 << 32)) as u32;
+        self.table.shared.park(rt, COUNTING, low);
+        self.asleep.fetch_sub(1, Ordering::SeqCst);
+    }
+
+    // Has a caller that sleeps look again, if there is one. The counting word has changed.
+    fn wake(&self) {
+        if self.asleep.load(Ordering::SeqCst) > 0 {
+            self.table.shared.wake_one(COUNTING);
+        }
     }
 
     // Puts the object back into the slot, which is empty.
@@ -122,6 +138,7 @@ impl<O: Object> Booth<O> {
     {
         self.put(seat, lot);
         self.table.shared.store::<Yield>(seat, COUNTING, free);
+        self.wake();
     }
 
     // Gives the turn back after a call.
@@ -150,6 +167,7 @@ impl<O: Object> Booth<O> {
         };
         self.put(seat, lot);
         self.table.shared.store::<Release>(seat, COUNTING, free + 2);
+        self.wake();
     }
 }
 

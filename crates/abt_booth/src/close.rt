@@ -58,7 +58,7 @@ impl<O: Object> Booth<O> {
         requires seats { HasEachNumber (seats_of self) (gathered_of gathered) }
         ensures { IsClosed O.does (opening_of self) (seats_of self) (gathered_of gathered) result.object result.clock }
     {
-        let Booth { table } = self;
+        let Booth { table, asleep: _ } = self;
         let Gathered { raw } = gathered;
         let mut closed = table.close_with(raw);
         let Some(lot) = closed.take(0) else {

@@ -10,6 +10,7 @@ use crate::rule::{Kept, Lot, Opening, ROOM, WORDS};
 use atomic_table::{Refused, Table};
 use std::alloc::Global;
 use std::snapshot::Snapshot;
+use std::sync::atomic::AtomicU64;
 
 impl<O: Object> Booth<O> {
     /// A booth round the object, with seats numbered from 0. Err hands the object back: out of memory.
@@ -51,7 +52,10 @@ impl<O: Object> Booth<O> {
             last,
         }));
         match Table::new(alloc, &[0; WORDS], slots, &opening) {
-            Ok((table, first)) => Ok((Booth { table }, first)),
+            Ok((table, first)) => {
+                let asleep = AtomicU64::new(0);
+                Ok((Booth { table, asleep }, first))
+            }
             Err(Refused { slots }) => Err(object_in(slots)),
         }
     }
