@@ -8,7 +8,7 @@ use crate::tally::Tally;
 use std::hint::spin_loop;
 use std::sync::Wait;
 use std::sync::atomic::{AtomicBool, AtomicU64, Ordering};
-use std::thread::yield_now;
+use std::time::Duration;
 
 // After so many turns at first a stream with work calls those that wait, and after twice as many each time that none of them found work
 // since the last call, up to the second number.
@@ -16,15 +16,12 @@ const FIRST_CALL: u32 = 1 << 11;
 
 const RAREST_CALL: u32 = 1 << 16;
 
-// So often a stream that waits looks at most whether it was called, before it sleeps. It does so less often each time that it finds
-// nothing.
+// So often a stream that waits looks whether it was called, before it sleeps: half as often each time that no call came meanwhile,
+// until it finds work.
 const LONGEST_LOOK: u32 = 512;
 
-// Each time that a stream that waits has looked so often, it lets other threads run.
-const PAUSES: u32 = 16;
-
-// So often a stream without work lets other threads run while there are streams that have not started.
-const PATIENCE: u32 = 10_000;
+// So often a stream without work sleeps, a millisecond at most, while there are streams that have not started.
+const PATIENCE: u32 = 32;
 
 /// The streams that are live in a wave.
 #[derive(Drop)]
@@ -79,6 +76,7 @@ impl Watch {
             |word| Some(Tally::of(word).joined().word()),
         );
         self.started.fetch_add(1, Ordering::SeqCst);
+        self.started.wake_all();
         Shift {
             active: true,
             calls: self.tally().calls,
@@ -112,7 +110,7 @@ impl Watch {
     /// After a round in which a stream found nothing: whether it goes on. It looks again if there was a call since it began to look, and
     /// else waits for one.
     pub(crate) fn found_none<R: Wait>(&self, rt: &R, shift: &mut Shift) -> bool {
-        self.await_starts();
+        self.await_starts(rt);
         match self.rest(shift) {
             Some(tally) if !tally.over => self.await_call(rt, shift, tally.calls),
             _ => {}
@@ -207,22 +205,18 @@ impl Watch {
     fn await_call<R: Wait>(&self, rt: &R, shift: &mut Shift, calls: u32) {
         shift.waited = true;
         if !self.looks(shift.look, calls) {
+            shift.look /= 2;
             self.sleep(rt, calls);
         }
-        shift.look -= shift.look / 4;
     }
 
     // Looks so often whether there was one more call, and whether there was.
     fn looks(&self, look: u32, calls: u32) -> bool {
-        for times in 0..look {
+        for _ in 0..look {
             if self.tally().calls != calls {
                 return true;
             }
-            if times % PAUSES == PAUSES - 1 {
-                yield_now();
-            } else {
-                spin_loop();
-            }
+            spin_loop();
         }
         false
     }
@@ -239,13 +233,15 @@ impl Watch {
         self.asleep.fetch_sub(1, Ordering::SeqCst);
     }
 
-    // Lets other threads run while there are streams that have not started, for some time.
-    fn await_starts(&self) {
+    // Waits while there are streams that have not started, for some time.
+    fn await_starts<R: Wait>(&self, rt: &R) {
         for _ in 0..PATIENCE {
-            if self.started.load(Ordering::SeqCst) >= self.streams {
+            let started = self.started.load(Ordering::SeqCst);
+            if started >= self.streams {
                 return;
             }
-            yield_now();
+            let low = (started % (1 << 32)) as u32;
+            self.started.park_timeout(rt, low, Duration::from_millis(1));
         }
     }
 }
