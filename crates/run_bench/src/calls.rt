@@ -3,12 +3,13 @@
 ghost use Rattle.std.specs.Prelude.{◌≤◌, length};
 
 use abt_check::{Verdict, check};
-use abt_drain::{Run, drain};
+use abt_commons::Objects;
+use abt_drain::{Run, drain, start_streams};
 use abt_machine::{Journal, Want, Workload};
 use abt_order::StoredOrder;
 use abt_report::{NotJournal, journal_text, read_journal};
-use abt_stream::NoPace;
-use abt_waves::run_streams;
+use abt_stream::{NoPace, Stream};
+use abt_waves::{run_streams, run_wave};
 use std::alloc::Global;
 use std::io;
 use std::sync::Wait;
@@ -43,6 +44,42 @@ pub fn threaded<R: Threads + Wait + Sync>(
     requires orders { 2 ≤ length orders.now }
 {
     run_streams(alloc, rt, w, orders, &NoPace, steps).map_err(no_memory)
+}
+
+/// How many events the streams of a workload make in a first wave, on threads. Their logs are not merged.
+pub fn waved<R: Threads + Wait + Sync>(
+    rt: &R,
+    alloc: Global,
+    orders: &[StoredOrder],
+    w: &Workload,
+    steps: u64,
+) -> io::Result<u64>
+    requires orders { 2 ≤ length orders.now }
+{
+    let streams = first_wave(rt, alloc, orders, w, steps).map_err(no_memory)?;
+    Ok(
+        streams.iter().fold(0, |events: u64, stream| {
+            events.saturating_add(stream.log().len() as u64)
+        }),
+    )
+}
+
+// The streams of a workload after a first wave.
+fn first_wave<'w, R: Threads + Wait + Sync>(
+    rt: &'w R,
+    alloc: Global,
+    orders: &[StoredOrder],
+    w: &'w Workload,
+    steps: u64,
+) -> Result<Vec<Stream>, Want>
+    requires orders { 2 ≤ length orders.now }
+{
+    w.known();
+    let streams = start_streams(alloc, w, steps)?;
+    let objects = Objects::place(alloc, w)?;
+    let live = vec![in alloc; true; w.streams() as usize]?;
+    let (_, streams) = run_wave(alloc, rt, w, orders, &NoPace, objects, streams, &live)?;
+    Ok(streams)
 }
 
 /// Whether a journal is a run of a workload.

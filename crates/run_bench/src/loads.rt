@@ -14,6 +14,8 @@ pub enum Load {
     One,
     /// Four streams, each as in `One`.
     Four,
+    /// Four streams, of which one is as in `One` and the others have no unit.
+    OneOfFour,
     /// Four streams whose units lock one mutex.
     Mutex,
     /// A stream that creates units, and three streams that take them from one pool.
@@ -30,9 +32,10 @@ pub enum Load {
     BusyBesideSeven,
 }
 
-pub const LOADS: [Load; 9] = [
+pub const LOADS: [Load; 10] = [
     Load::One,
     Load::Four,
+    Load::OneOfFour,
     Load::Mutex,
     Load::Pool,
     Load::Barrier,
@@ -88,13 +91,14 @@ many 0 200 ult at 0
 repeat 250 yield
 ";
 
-static ONE: [&str; 2] = [
-    ONE_STREAM,
-    "units 64
+const FEW_UNITS: &str = "units 64
 many 0 64 ult at 0
 repeat 256 yield
-",
-];
+";
+
+static ONE: [&str; 2] = [ONE_STREAM, FEW_UNITS];
+
+static ONE_OF_FOUR: [&str; 2] = [FOUR_STREAMS, FEW_UNITS];
 
 static FOUR: [&str; 2] = [
     FOUR_STREAMS,
@@ -244,6 +248,7 @@ impl Load {
         match self {
             Load::One => "one stream",
             Load::Four => "four streams",
+            Load::OneOfFour => "one stream of four",
             Load::Mutex => "one mutex",
             Load::Pool => "one pool",
             Load::Barrier => "one barrier",
@@ -276,6 +281,7 @@ impl Load {
         match self {
             Load::One => &ONE,
             Load::Four => &FOUR,
+            Load::OneOfFour => &ONE_OF_FOUR,
             Load::Mutex => &MUTEX,
             Load::Pool => &POOL,
             Load::Barrier => &BARRIER,

@@ -68,6 +68,7 @@ pub fn race<R: Threads + Wait + Sync + Print + Clock>(
     print_race(rt, alloc, &racers, &laps)
 }
 
+// The entries, each with all that its rounds need.
 fn racers(alloc: Global, orders: &[StoredOrder], entries: &[Entry]) -> io::Result<Vec<Racer>>
     requires orders { 2 ≤ length orders.now }
 {
@@ -114,6 +115,7 @@ fn add_laps<R: Threads + Wait + Sync + Clock>(
     Ok(())
 }
 
+// The figures of all racers, and how those of each but the first stand to the first's.
 fn print_race<R: Print>(rt: &R, alloc: Global, racers: &[Racer], laps: &[Lap]) -> io::Result<()> {
     let Some((first, others)) = racers.split_first() else {
         return Ok(());

@@ -2,7 +2,7 @@
 
 ghost use Rattle.std.specs.Prelude.{◌≤◌, length};
 
-use crate::calls::{drained, drained_text, journal_of, judged, threaded};
+use crate::calls::{drained, drained_text, journal_of, judged, threaded, waved};
 use abt_check::Verdict;
 use abt_machine::{Journal, Workload};
 use abt_order::StoredOrder;
@@ -23,6 +23,8 @@ pub enum Work {
     Drain,
     /// It is run on threads.
     Streams,
+    /// Its streams make a first wave on threads, and their logs are not merged.
+    Wave,
     /// The journal of a run on this thread is checked.
     Check,
     /// The text of such a journal is read and checked.
@@ -34,6 +36,7 @@ pub enum Work {
 pub enum Task {
     Drain,
     Streams,
+    Wave,
     Check(Journal),
     Text(Vec<u8>),
 }
@@ -45,6 +48,7 @@ impl Task {
         match work {
             Work::Drain => Ok(Task::Drain),
             Work::Streams => Ok(Task::Streams),
+            Work::Wave => Ok(Task::Wave),
             Work::Check => {
                 let run = drained(alloc, orders, w, STEPS)?;
                 Ok(Task::Check(run.journal))
@@ -57,7 +61,7 @@ impl Task {
     pub fn bytes(&self) -> Option<usize> {
         match self {
             Task::Text(text) => Some(text.len()),
-            Task::Drain | Task::Streams | Task::Check(_) => None,
+            Task::Drain | Task::Streams | Task::Wave | Task::Check(_) => None,
         }
     }
 }
@@ -82,6 +86,7 @@ pub fn timed<R: Threads + Wait + Sync + Clock>(
     match task {
         Task::Drain => drain_round(rt, alloc, orders, w),
         Task::Streams => streams_round(rt, alloc, orders, w),
+        Task::Wave => wave_round(rt, alloc, orders, w),
         Task::Check(journal) => check_round(rt, alloc, orders, w, journal),
         Task::Text(text) => text_round(rt, alloc, orders, w, text),
     }
@@ -113,6 +118,20 @@ fn streams_round<R: Threads + Wait + Sync + Clock>(
     let run = threaded(rt, alloc, orders, w, STEPS)?;
     let took = start.elapsed(rt)?;
     Ok(made(&run.journal, took))
+}
+
+fn wave_round<R: Threads + Wait + Sync + Clock>(
+    rt: &R,
+    alloc: Global,
+    orders: &[StoredOrder],
+    w: &Workload,
+) -> io::Result<Round>
+    requires orders { 2 ≤ length orders.now }
+{
+    let start = Instant::now(rt)?;
+    let events = waved(rt, alloc, orders, w, STEPS)?;
+    let took = start.elapsed(rt)?;
+    Ok(Round { events, took })
 }
 
 fn check_round<R: Clock>(

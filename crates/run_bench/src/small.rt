@@ -30,6 +30,7 @@ pub fn small<R: Threads + Wait + Sync + Print>(
     Ok(())
 }
 
+// A line of one workload.
 fn small_load<R: Threads + Wait + Sync + Print>(
     rt: &R,
     alloc: Global,

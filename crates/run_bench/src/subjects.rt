@@ -30,7 +30,34 @@ static FOUR_STREAMS: [Entry; 3] = [
     },
 ];
 
-/// Four streams that share nothing, beside one of them.
+static FOUR_BESIDE_ONE: [Entry; 2] = [
+    Entry {
+        name: "one stream of four",
+        load: Load::OneOfFour,
+        work: Work::Streams,
+    },
+    Entry {
+        name: "four streams of four",
+        load: Load::Four,
+        work: Work::Streams,
+    },
+];
+
+static FOUR_IN_A_WAVE: [Entry; 2] = [
+    Entry {
+        name: "one stream, a wave alone",
+        load: Load::One,
+        work: Work::Wave,
+    },
+    Entry {
+        name: "four streams, a wave alone",
+        load: Load::Four,
+        work: Work::Wave,
+    },
+];
+
+/// Four streams that share nothing, beside one of them: whole runs, the same with a lock for each object in both, and waves whose
+/// logs are not merged.
 pub fn threads<R: Threads + Wait + Sync + Print + Clock>(
     rt: &R,
     alloc: Global,
@@ -38,7 +65,9 @@ pub fn threads<R: Threads + Wait + Sync + Print + Clock>(
 ) -> io::Result<()>
     requires orders { 2 ≤ length orders.now }
 {
-    race(rt, alloc, orders, &FOUR_STREAMS)
+    race(rt, alloc, orders, &FOUR_STREAMS)?;
+    race(rt, alloc, orders, &FOUR_BESIDE_ONE)?;
+    race(rt, alloc, orders, &FOUR_IN_A_WAVE)
 }
 
 static ONE_MUTEX: [Entry; 2] = [
