@@ -14,6 +14,7 @@ use Rattle.abt_machine.specs.declared.operations.Op.{Op}
 use Rattle.abt_machine.specs.declared.operations.Op.TheVariants as op
 use Rattle.abt_machine.specs.declared.workload.UnitPart.{UnitPart}
 use Rattle.abt_machine.specs.Declaring.{Above, alike, body_later, last_units, op_later, repeated, said_words, unit_later, units_of}
+use Rattle.abt_machine.specs.Limits.{operation_limit}
 use Rattle.abt_machine.specs.Operations.{said_by}
 use Rattle.abt_machine.specs.Valid.{sched_in}
 use Rattle.abt_machine.specs.Words.{Text}
@@ -276,7 +277,7 @@ alike-more (suc n) m units part some =
     sym (append_assoc units (part ∷ []) (alike (suc n - 1) m (unit_later m part)) ∙ ap (λ (k : ℕ). units ++ part ∷ alike k m (unit_later m part)) less)
 
 -- the last unit's words, each a copy's number higher, have 32 bits
-pub words-later : (n f m : ℕ) (ns : List ℕ) → ns ≡ range_with_len f m → f + m ≤ 65536 → f + n * m ≤ 65536 → All (λ w. w + n * m < 2 ^ 32) ns
+pub words-later : (n f m : ℕ) (ns : List ℕ) → ns ≡ range_with_len f m → f + m ≤ operation_limit → f + n * m ≤ operation_limit → All (λ w. w + n * m < 2 ^ 32) ns
 words-later n f m ns e here few = subst (λ (ks : List ℕ). All (λ w. w + n * m < 2 ^ 32) ks) (sym e) (λ k d lt.
     let long = length-range_with_len f m in
     let is = get_or-range_with_len f m k d (omega arith) in
@@ -295,7 +296,7 @@ last-any a g = by a.last
     by (Some part) = any-alike g a.copies (length a.said) part ∙ ap (λ (gs : List ℕ). nat_lt 0 a.copies && list_any (λ h. h == g) gs) (sym (append-nil (sched_in part.body)))
 
 -- the same units, parted in two ways, have as many operations
-pub more-ops : (us vs xs ys : List UnitPart) → us ++ vs ≡ xs ++ ys → length (all_ops xs) + length (all_ops ys) ≤ 65536 → length (all_ops us) + length (all_ops vs) ≤ 65536
+pub more-ops : (us vs xs ys : List UnitPart) → us ++ vs ≡ xs ++ ys → length (all_ops xs) + length (all_ops ys) ≤ operation_limit → length (all_ops us) + length (all_ops vs) ≤ operation_limit
 more-ops us vs xs ys e few =
     let both : (first later : List UnitPart) → length (all_ops (first ++ later)) ≡ length (all_ops first) + length (all_ops later) =
     (λ first later. ap length (flat_map-append (λ (p : UnitPart). ops_of p.body) first later) ∙ length-append (all_ops first) (all_ops later)) in

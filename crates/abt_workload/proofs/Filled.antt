@@ -9,15 +9,13 @@ use Rattle.abt_machine.specs.declared.grammar.Format.{Format}
 use Rattle.abt_machine.specs.declared.grammar.Format.TheVariants as format
 use Rattle.abt_machine.specs.declared.grammar.Number.{Number}
 use Rattle.abt_machine.specs.declared.grammar.Number.TheVariants as number
-use Rattle.abt_machine.specs.declared.grammar.Role.TheVariants as role
 use Rattle.abt_machine.specs.Canonical.{filled}
-use Rattle.abt_machine.specs.Declaring.{Above}
-use Rattle.abt_machine.specs.Faults.{is_skipped}
-use Rattle.abt_machine.specs.Forms.{Slot, Fixed, Numeral, PoolList, accesses, fits, form_of, is_in, many_forms, numerals, operations, rules, slots, things, unit_forms}
+use Rattle.abt_machine.specs.Declaring.{Above, access_with, op_with, rule_with, start_with, thing_with}
+use Rattle.abt_machine.specs.Faults.{is_skipped, values}
+use Rattle.abt_machine.specs.Forms.{Slot, Fixed, Numeral, PoolList, added_forms, fits, form_of, is_in, numerals, shared_forms, slots}
 use Rattle.abt_machine.specs.Valid.{IsWord}
 use Rattle.abt_machine.specs.Words.{Text}
 use Rattle.abt_workload.specs.Declarable.{with_line}
-use Rattle.abt_workload.specs.Slots.{values}
 use Rattle.abt_workload.proofs.Fitting.{AreFit}
 use Rattle.abt_workload.proofs.NumberedLines.{IsFine, line-taken, spelled}
 use Rattle.abt_workload.proofs.Places.{and-left, and-right}
@@ -81,18 +79,8 @@ module _ (a : Above) where
   words-filled (PoolList ∷ places) word ns e w h = pools-words ns h
   words-filled (slot ∷ places) word ns e w h = All-cons IsWord word (filled places word ns) (w refl) (words-filled places word ns e (λ _. w refl) h)
 
--- the forms of both formats, which come first in the table
-abbrev old_forms : List Form
-old_forms =
-    form.Version format.One ∷ form.Version format.Two ∷ form.Streams ∷ form.Keys ∷ map form.Pool accesses ++ map form.Sched rules ++ form.Stream ∷ map form.Object things ++
-    form.Units ∷ unit_forms role.Ult ++ unit_forms role.Task ++ unit_forms role.Sched ++ form.End ∷ map form.Operation operations
-
--- the forms of format 2 alone
-abbrev new_forms : List Form
-new_forms = many_forms role.Ult ++ many_forms role.Task ++ many_forms role.Sched ++ map form.Repeat operations
-
--- none of these is a form of format 1
-none-new : (words : List Text) → find (λ f. is_in format.One f && fits (slots f) words) new_forms ≡ None
+-- no form of format 2 alone is one of format 1
+none-new : (words : List Text) → find (λ f. is_in format.One f && fits (slots f) words) added_forms ≡ None
 none-new words = refl
 
 -- what is found before more is found with more
@@ -102,14 +90,25 @@ found-before p xs ys f e = find-append p xs ys ∙ ap (λ (o : Option Form). opt
 -- a form of a line in format 1 is its form in each
 form-in : (F : Format) (words : List Text) (f : Form) → form_of format.One words ≡ Some f → form_of F words ≡ Some f
 form-in format.One words f e = e
-form-in format.Two words f e = found-before (λ g. is_in format.Two g && fits (slots g) words) old_forms new_forms f old
+form-in format.Two words f e = found-before (λ g. is_in format.Two g && fits (slots g) words) shared_forms added_forms f old
   where
-    first : (o : Option Form) → option_or o (find (λ g. is_in format.One g && fits (slots g) words) new_forms) ≡ Some f → o ≡ Some f
+    first : (o : Option Form) → option_or o (find (λ g. is_in format.One g && fits (slots g) words) added_forms) ≡ Some f → o ≡ Some f
     first None h = let none = none-new words in cc
     first (Some g) h = h
 
-    old : find (λ g. is_in format.One g && fits (slots g) words) old_forms ≡ Some f
-    old = first (find (λ g. is_in format.One g && fits (slots g) words) old_forms) (sym (find-append (λ g. is_in format.One g && fits (slots g) words) old_forms new_forms) ∙ e)
+    old : find (λ g. is_in format.One g && fits (slots g) words) shared_forms ≡ Some f
+    old = first (find (λ g. is_in format.One g && fits (slots g) words) shared_forms) (sym (find-append (λ g. is_in format.One g && fits (slots g) words) shared_forms added_forms) ∙ e)
+
+-- a form as the table has it: each of its numbers is 0
+abbrev pub blank : Form → Form
+blank (form.Pool a) = form.Pool (access_with a [])
+blank (form.Sched r) = form.Sched (rule_with r [])
+blank (form.Object t) = form.Object (thing_with t [] [])
+blank (form.Unit r start) = form.Unit r (start_with r start [])
+blank (form.Many r start) = form.Many r (start_with r start [])
+blank (form.Operation o) = form.Operation (op_with o 0 [])
+blank (form.Repeat o) = form.Repeat (op_with o 0 [])
+blank f = f
 
 -- words that are written for a line of this form, of this word where there is a choice, and of these numbers
 pub record IsWritten (f : Form) (word : Text) (ns : List ℕ) (words : List Text) : Type 0 where

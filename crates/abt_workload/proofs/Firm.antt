@@ -7,6 +7,7 @@ use Rattle.std.proofs.lemmas.List.FromFn.{length-range_with_len}
 use Rattle.std.proofs.lemmas.Option.{slice_get_within}
 use Rattle.std.proofs.lemmas.Str.{IsUtf8-from_is_utf8}
 use Rattle.std.proofs.Math.Nat.{mul-le-mul_right, mul-zero}
+use Rattle.std.proofs.lemmas.Bool.{leb-true, ltb-true}
 use Rattle.abt_machine.specs.declared.grammar.Form.{Form}
 use Rattle.abt_machine.specs.declared.grammar.Form.TheVariants as form
 use Rattle.abt_machine.specs.declared.grammar.Number.{Number}
@@ -26,10 +27,10 @@ use Rattle.abt_machine.specs.declared.program.Fault.{Fault}
 use Rattle.abt_machine.specs.declared.workload.Parts.{Parts}
 use Rattle.abt_machine.specs.declared.workload.UnitPart.{UnitPart}
 use Rattle.abt_machine.specs.Declaring.{Above, at, listed, nothing, parts_of, said_words, units_of, word_in}
-use Rattle.abt_machine.specs.Faults.{faults, has, is_skipped, is_there, is_within, line_fault, numbers_of, values_of}
+use Rattle.abt_machine.specs.Faults.{faults, has, is_skipped, is_there, is_within, line_fault, numbers_of, valued, values, values_of}
 use Rattle.abt_machine.specs.Forms.{fits, form_of, numerals, op_slots, slots}
 use Rattle.abt_machine.specs.Grammar.{Reads, and_form, and_line, and_words, declared_by, fault_at}
-use Rattle.abt_machine.specs.Limits.{stream_limit, unit_limit}
+use Rattle.abt_machine.specs.Limits.{operation_limit, stream_limit, unit_limit, unit_operation_limit}
 use Rattle.abt_machine.specs.Operations.{said_by}
 use Rattle.abt_machine.specs.Spelling.{lines_of, words_of}
 use Rattle.abt_machine.specs.Valid.{IsValid}
@@ -38,8 +39,6 @@ use Rattle.abt_machine.specs.Workloads.{ops_of}
 use Rattle.abt_machine.proofs.Saying.{said_by_units}
 use Rattle.abt_workload.specs.Declarable.{AreOpSmall, AreSmall, IsClosable, IsDeclarable, IsSaid, IsSaidBy, IsSmall, IsSmallRule, is_wide, last_ops, op_count, with_line}
 use Rattle.abt_workload.specs.Reading.{IsFirm, IsSeen}
-use Rattle.abt_workload.specs.Slots.{numbered, values}
-use Rattle.abt_workload.proofs.Bounds.{le-from, lt-from}
 use Rattle.abt_workload.proofs.Copies.{AreCopies, ops-say, units-ops, units-said, units-say}
 use Rattle.abt_workload.proofs.Keeping.{keeps-keys, keeps-object, keeps-pool, keeps-sched, keeps-stream, keeps-streams, keeps-units, keeps-version, listed-there, most-streams, most-units}
 use Rattle.abt_workload.proofs.KeepingUnits.{begun-proper, keeps-end, keeps-many, keeps-operation, keeps-repeat, keeps-unit, two-words, units-below}
@@ -106,22 +105,22 @@ there-small a h kind n e both = by kind e (and-left (is_there a kind n) _ both) 
         on (Some t) is = let lt = slice_get_within a.objects n t is in let few = h.objects.few in omega arith
 
     by : (k : Number) → is_big k ≡ false → is_there a k n ≡ true → is_within a.format k n ≡ true → n < 2 ^ 32
-    by (number.Within low high) f t w = let le : n ≤ high = le-from n high (and-right (nat_le low n) _ w) in let small : high < 2 ^ 32 = lt-from high (2 ^ 32) (not-not (nat_lt high (2 ^ 32)) f) in omega arith
+    by (number.Within low high) f t w = let le : n ≤ high = leb-true n high (and-right (nat_le low n) _ w) in let small : high < 2 ^ 32 = ltb-true high (2 ^ 32) (not-not (nat_lt high (2 ^ 32)) f) in omega arith
       where
         not-not : (b : Bool) → not b ≡ false → b ≡ true
         not-not true x = refl
         not-not false x = cc
-    by number.StreamCount f t w = let le : n ≤ stream_limit a.format = le-from n _ (and-right (nat_le 1 n) _ w) in let most = most-streams a.format in omega arith
-    by number.UnitCount f t w = let le : n ≤ unit_limit a.format = le-from n _ w in let most = most-units a.format in omega arith
-    by number.NewPool f t w = let le = le-from n _ t in let few = h.pools.few in omega arith
-    by number.NewSched f t w = let le = le-from n _ t in let few = h.scheds.few in omega arith
-    by number.NewObject f t w = let le = le-from n _ t in let few = h.objects.few in omega arith
-    by number.NewUnit f t w = let le : n ≤ length (units_of a) = le-from n _ t in let below = units-below a h in let few = h.units.few in omega arith
-    by number.Stream f t w = let lt = lt-from n _ t in let few = h.streams.high in omega arith
-    by number.Pool f t w = let lt = lt-from n _ t in let few = h.pools.few in omega arith
-    by number.Sched f t w = let lt = lt-from n _ t in let few = h.scheds.few in omega arith
-    by number.Key f t w = let lt = lt-from n _ t in let few = h.keys in omega arith
-    by number.Unit f t w = let lt = lt-from n _ t in let few = h.units.few in omega arith
+    by number.StreamCount f t w = let le : n ≤ stream_limit a.format = leb-true n _ (and-right (nat_le 1 n) _ w) in let most = most-streams a.format in omega arith
+    by number.UnitCount f t w = let le : n ≤ unit_limit a.format = leb-true n _ w in let most = most-units a.format in omega arith
+    by number.NewPool f t w = let le = leb-true n _ t in let few = h.pools.few in omega arith
+    by number.NewSched f t w = let le = leb-true n _ t in let few = h.scheds.few in omega arith
+    by number.NewObject f t w = let le = leb-true n _ t in let few = h.objects.few in omega arith
+    by number.NewUnit f t w = let le : n ≤ length (units_of a) = leb-true n _ t in let below = units-below a h in let few = h.units.few in omega arith
+    by number.Stream f t w = let lt = ltb-true n _ t in let few = h.streams.high in omega arith
+    by number.Pool f t w = let lt = ltb-true n _ t in let few = h.pools.few in omega arith
+    by number.Sched f t w = let lt = ltb-true n _ t in let few = h.scheds.few in omega arith
+    by number.Key f t w = let lt = ltb-true n _ t in let few = h.keys in omega arith
+    by number.Unit f t w = let lt = ltb-true n _ t in let few = h.units.few in omega arith
     by number.Mutex f t w = object _ t
     by number.Cond f t w = object _ t
     by number.Eventual f t w = object _ t
@@ -145,14 +144,6 @@ unit-places role.Task (Some p) = (refl, refl)
 unit-places role.Sched None = (refl, refl)
 unit-places role.Sched (Some p) = (refl, refl)
 
-many-places : (r : Role) (start : Option PoolNo) → (is_small_at (slots (form.Many r start)) 2 ≡ true) × (is_small_at (slots (form.Many r start)) 3 ≡ true)
-many-places role.Ult None = (refl, refl)
-many-places role.Ult (Some p) = (refl, refl)
-many-places role.Task None = (refl, refl)
-many-places role.Task (Some p) = (refl, refl)
-many-places role.Sched None = (refl, refl)
-many-places role.Sched (Some p) = (refl, refl)
-
 op-places : (o : Op) → (is_wide o ≡ false → is_small_at (op_slots o) 0 ≡ true) × (is_small_at (op_slots o) 1 ≡ true)
 op-places (op.Set n) = (λ e. cc, refl)
 op-places (op.Add n) = (λ e. cc, refl)
@@ -164,7 +155,7 @@ op-small a h o words s = (λ e. here 0 ((op-places o).0 e), here 1 (op-places o)
   where
     here : (k : ℕ) → is_small_at (op_slots o) k ≡ true → IsSmall (at (op_values o words) k)
     here k e = small-at (λ kind n. is_there a kind n && is_within a.format kind n) (there-small a h) (op_slots o) words k s.op_fits e
-        (all-both (λ p. is_there a p.0 p.1) (λ p. is_within a.format p.0 p.1) (numbered (numerals (op_slots o) words)) s.there s.within)
+        (all-both (λ p. is_there a p.0 p.1) (λ p. is_within a.format p.0 p.1) (valued (numerals (op_slots o) words)) s.there s.within)
 
 -- a word that a line says is UTF-8
 word-utf8 : (line : Text) → is_utf8 line ≡ true → (o : Op) (k : ℕ) (ws : List Text) → fits (op_slots o) ws ≡ true → ws ≡ drop k (words_of line) → IsSaidBy o ws
@@ -201,15 +192,15 @@ module _ (a : Above) (line : Text) (words : List Text) (h : IsProper a) where
   all-small (form.Many r start) s = (
     small (form.Many r start) s 1 refl,
     (
-      subst IsSmall (at-after 1 (values_of (form.Many r start) words)) (small (form.Many r start) s 2 (many-places r start).0),
-      subst IsSmall (at-after 2 (values_of (form.Many r start) words)) (small (form.Many r start) s 3 (many-places r start).1),
+      subst IsSmall (at-after 1 (values_of (form.Many r start) words)) (small (form.Many r start) s 2 (unit-places r start).0),
+      subst IsSmall (at-after 2 (values_of (form.Many r start) words)) (small (form.Many r start) s 3 (unit-places r start).1),
     ),
   )
   all-small form.End s = tt
   all-small (form.Operation o) s = op-small a h o words record { op_fits = s.form_fits; there = s.there; within = s.within }
   all-small (form.Repeat o) s =
       let r = repeated-op o s in (
-        le-from _ 256 (and-right (nat_le 1 (at (values_of (form.Repeat o) words) 0)) _ r.2),
+        leb-true _ unit_operation_limit (and-right (nat_le 1 (at (values_of (form.Repeat o) words) 0)) _ r.2),
         subst (AreOpSmall o) (sym r.1) (op-small a h o (drop 2 words) r.0),
       )
 
@@ -221,7 +212,7 @@ module _ (a : Above) (line : Text) (words : List Text) (h : IsProper a) where
 -- The last unit and its copies.
 
 -- few words are said
-words-few : (a : Above) → IsProper a → length a.words + length a.said ≤ 65536
+words-few : (a : Above) → IsProper a → length a.words + length a.said ≤ operation_limit
 words-few a h =
     let above : length (said_by_units a.units) ≡ length a.words = ap length h.said ∙ length-range_with_len 0 (length a.words) in
     let say = units-say a.units in

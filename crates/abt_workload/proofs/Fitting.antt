@@ -2,17 +2,17 @@
 use Rattle.std.proofs.Common.{◌≡◌, ◌<◌, ◌≤◌, ◌^◌, ℕ, true, false, List, [], ◌∷◌, Option, Some, ap, arith, length, nat_le, refl, slice_get}
 use Rattle.std.specs.Bool.{⊤}
 use Rattle.std.specs.Option.{option_map_or}
-use Rattle.std.proofs.lemmas.Bool.{le-leb, lt-ltb}
+use Rattle.std.proofs.lemmas.Bool.{and_from, le-leb, lt-ltb}
 use Rattle.std.proofs.lemmas.Option.{slice_get_within}
+use Rattle.abt_machine.specs.declared.grammar.Format.TheVariants as format
 use Rattle.abt_machine.specs.declared.grammar.Number.{Number}
 use Rattle.abt_machine.specs.declared.grammar.Number.TheVariants as number
 use Rattle.abt_machine.specs.declared.operations.Thing.{Thing}
 use Rattle.abt_machine.specs.Declaring.{Above, declared_units, parts_of}
 use Rattle.abt_machine.specs.Faults.{is_barrier, is_condition, is_eventual, is_future, is_mutex, is_rwlock, is_there, is_within}
-use Rattle.abt_machine.specs.Limits.{stream_limit, unit_limit}
+use Rattle.abt_machine.specs.Limits.{key_limit, object_limit, pool_limit, sched_limit, stream_limit, unit_limit}
 use Rattle.abt_workload.proofs.Keeping.{most-streams, most-units}
 use Rattle.abt_workload.proofs.Naming.{IsNamed}
-use Rattle.abt_workload.proofs.Places.{and-both}
 use Rattle.abt_workload.proofs.Proper.{stream_count, unit_count}
 
 -- a number may stand in a line below lines that declare a
@@ -46,18 +46,18 @@ AreMet a (p ∷ q ∷ ps) = IsMet a p.0 p.1 × AreMet a (q ∷ ps)
 
 -- no more is declared than a workload may have
 pub record IsSmall (a : Above) : Type 0 where
-  pub streams : stream_count a ≤ 16
-  pub keys : a.keys ≤ 16
-  pub pools : length a.pools ≤ 64
-  pub scheds : length a.scheds ≤ 64
-  pub objects : length a.objects ≤ 256
-  pub units : unit_count a ≤ 4096
+  pub streams : stream_count a ≤ stream_limit format.Two
+  pub keys : a.keys ≤ key_limit
+  pub pools : length a.pools ≤ pool_limit
+  pub scheds : length a.scheds ≤ sched_limit
+  pub objects : length a.objects ≤ object_limit
+  pub units : unit_count a ≤ unit_limit format.Two
 
 -- a number within its bounds may stand in a line
 pub fit-within : (a : Above) (low high n : ℕ) → low ≤ n → n ≤ high → n < 2 ^ 64 → IsFit a (number.Within low high) n
 fit-within a low high n le most lt = record {
   there = refl;
-  within = and-both (nat_le low n) (nat_le n high) (le-leb low n le) (le-leb n high most);
+  within = and_from (nat_le low n) (nat_le n high) (le-leb low n le) (le-leb n high most);
   small = lt;
 }
 
@@ -73,7 +73,7 @@ module _ (a : Above) (few : IsSmall a) where
       let most = most-streams a.format in
       let low = h.0 in
       let high = h.1 in
-      record { there = refl; within = and-both _ _ (le-leb 1 n low) (le-leb n (stream_limit a.format) high); small = omega arith }
+      record { there = refl; within = and_from _ _ (le-leb 1 n low) (le-leb n (stream_limit a.format) high); small = omega arith }
   fit number.UnitCount n h = let most = most-units a.format in record { there = refl; within = le-leb n (unit_limit a.format) h; small = omega arith }
   fit number.NewPool n h = record { there = le-leb n _ (omega arith); within = refl; small = let most = few.pools in omega arith }
   fit number.NewSched n h = record { there = le-leb n _ (omega arith); within = refl; small = let most = few.scheds in omega arith }

@@ -4,7 +4,7 @@ use Rattle.std.specs.List.{filter}
 use Rattle.std.proofs.lemmas.Slice.Eq.{bytes_eq-Decides}
 use Rattle.abt_machine.specs.declared.grammar.Form.{Form}
 use Rattle.abt_machine.specs.declared.grammar.Format.{Format}
-use Rattle.abt_machine.specs.Forms.{Slot, begins, fits, form_of, forms, is_in, slots}
+use Rattle.abt_machine.specs.Forms.{Slot, begins_with, fits, form_of, forms, is_in, slots}
 use Rattle.abt_machine.specs.Words.{Text}
 use Rattle.abt_workload.specs.Slots.{AreFormsOf}
 use Rattle.abt_workload.proofs.Places.{and-right}
@@ -22,7 +22,7 @@ find-filter p q h (x ∷ xs) = by (p x) (q x) refl refl (find-filter p q h xs)
     by false false e d rest = simp (d, e) rest
 
 -- the words after the first say nothing of how a line begins
-begins-first : (places : List Slot) (word : Text) (words : List Text) → begins places (word ∷ words) ≡ begins places (word ∷ [])
+begins-first : (places : List Slot) (word : Text) (words : List Text) → begins_with places (word ∷ words) ≡ begins_with places (word ∷ [])
 begins-first [] word words = refl
 begins-first (slot ∷ places) word words = refl
 
@@ -30,12 +30,12 @@ module _ (F : Format) where
   abbrev has : List Text → Form → Bool
   has words f = is_in F f && fits (slots f) words
 
-  may-begin : (word : Text) (words : List Text) (f : Form) → has (word ∷ words) f ≡ true → begins (slots f) (word ∷ []) ≡ true
+  may-begin : (word : Text) (words : List Text) (f : Form) → has (word ∷ words) f ≡ true → begins_with (slots f) (word ∷ []) ≡ true
   may-begin word words f e = sym (begins-first (slots f) word words) ∙ fitting-begins (slots f) (word ∷ words) (slots-some f) (and-right (is_in F f) _ e)
 
   -- a line's form is the first that it has among the forms of its first word
   pub form-among : (word : Text) (words : List Text) (group : List Form) → AreFormsOf word group → find (λ f. is_in F f && fits (slots f) (word ∷ words)) group ≡ form_of F (word ∷ words)
-  form-among word words group (inl e) = ap (find (has (word ∷ words))) e ∙ find-filter (has (word ∷ words)) (λ f. begins (slots f) (word ∷ [])) (may-begin word words) forms
+  form-among word words group (inl e) = ap (find (has (word ∷ words))) e ∙ find-filter (has (word ∷ words)) (λ f. begins_with (slots f) (word ∷ [])) (may-begin word words) forms
   form-among word words group (inr e) = ap (find (has (word ∷ words))) e
 
 -- the words of a line, of which this is the first
@@ -47,5 +47,5 @@ form-of-first F (first ∷ words) word group e h = form-among F first.now (map (
     some-same e = cc
 
 -- the forms of a word that is this text
-pub forms-named : (word text : Text) (group : List Form) → bytes_eq word text ≡ true → group ≡ filter (λ f. begins (slots f) (text ∷ [])) forms → AreFormsOf word group
-forms-named word text group is e = inl (e ∙ ap (λ (w : Text). filter (λ f. begins (slots f) (w ∷ [])) forms) (sym ((bytes_eq-Decides word text).0 is)))
+pub forms-named : (word text : Text) (group : List Form) → bytes_eq word text ≡ true → group ≡ filter (λ f. begins_with (slots f) (text ∷ [])) forms → AreFormsOf word group
+forms-named word text group is e = inl (e ∙ ap (λ (w : Text). filter (λ f. begins_with (slots f) (w ∷ [])) forms) (sym ((bytes_eq-Decides word text).0 is)))

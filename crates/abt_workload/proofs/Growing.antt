@@ -1,10 +1,10 @@
 -- What is declared, with one thing more.
-use Rattle.std.proofs.Common.{◌≡◌, ◌≢◌, ◌<◌, ◌≤◌, ◌==◌, ℕ, zero, suc, Bool, true, false, List, [], ◌∷◌, ◌++◌, All, Option, Some, None, ap, arith, drop, inl, inr, ◌⊎◌, flat_map, is_some, length, map, option_to_list, refl, replicate, slice_get, slice_set, subst, sym}
+use Rattle.std.proofs.Common.{◌≡◌, ◌≢◌, ◌<◌, ◌≤◌, ℕ, zero, suc, Bool, true, false, List, [], ◌∷◌, ◌++◌, All, Option, Some, None, ap, arith, drop, inl, inr, ◌⊎◌, flat_map, is_some, length, map, option_to_list, refl, replicate, slice_get, slice_set, subst, sym}
 use Rattle.std.specs.Option.{option_map_or}
-use Rattle.std.specs.List.{AllPairs, list_all, list_any}
-use Rattle.std.proofs.lemmas.Bool.{eqb-false}
+use Rattle.std.specs.List.{AllPairs, list_all}
 use Rattle.std.proofs.lemmas.List.Kept.{AllPairs-cons}
 use Rattle.std.proofs.lemmas.List.Elements.{All-append, All-cons, All-head, All-tail}
+use Rattle.abt_machine.specs.declared.grammar.Format.TheVariants as format
 use Rattle.abt_machine.specs.declared.grammar.Number.{Number}
 use Rattle.abt_machine.specs.declared.grammar.Number.TheVariants as number
 use Rattle.abt_machine.specs.declared.numbers.SchedNo.{SchedNo}
@@ -16,15 +16,15 @@ use Rattle.abt_machine.specs.declared.workload.Parts.{Parts}
 use Rattle.abt_machine.specs.declared.workload.PoolPart.{PoolPart}
 use Rattle.abt_machine.specs.declared.workload.SchedPart.{SchedPart}
 use Rattle.abt_machine.specs.declared.workload.UnitPart.{UnitPart}
-use Rattle.abt_machine.specs.Faults.{has_repeated}
+use Rattle.abt_machine.specs.Faults.{valued, values}
 use Rattle.abt_machine.specs.Forms.{Slot, Fixed, KindWord, CombineWord, AnyWord, Numeral, PoolList, fits, numerals, suits}
+use Rattle.abt_machine.specs.Limits.{unit_limit}
 use Rattle.abt_machine.specs.Spelling.{value_of}
 use Rattle.abt_machine.specs.Valid.{IsAccess, IsSched, IsThing}
 use Rattle.abt_machine.specs.Words.{Text}
 use Rattle.abt_machine.proofs.Placing.{pairs-head, pairs-tail}
-use Rattle.abt_workload.specs.Slots.{numbered, values}
-use Rattle.abt_workload.proofs.Places.{and-left, and-right, kinds, or-left, or-right}
-use Rattle.abt_workload.proofs.Proper.{AreUnset, HasMains, HasUnits, no-pair, none-of}
+use Rattle.abt_workload.proofs.Places.{and-left, and-right, kinds}
+use Rattle.abt_workload.proofs.Proper.{AreUnset, HasMains, HasUnits, none-of}
 
 -- one element more
 
@@ -63,7 +63,7 @@ access-grows m n le access.Mpmc h = tt
 pub sched-grows : (m n : ℕ) → m ≤ n → (part : SchedPart) → IsSched m part → IsSched n part
 sched-grows m n le part h = record { rule = h.rule; some_pool = h.some_pool; few_pools = h.few_pools; listed = λ k d lt. let x = h.listed k d lt in omega (arith, x); once = h.once }
 
-pub no-units : (W : Parts) (count : ℕ) (units : List UnitPart) (last : Option UnitPart) (copies : ℕ) → units ≡ [] → last ≡ None → count ≤ 4096 → HasUnits W count units last copies
+pub no-units : (W : Parts) (count : ℕ) (units : List UnitPart) (last : Option UnitPart) (copies : ℕ) → units ≡ [] → last ≡ None → count ≤ unit_limit format.Two → HasUnits W count units last copies
 no-units W count units last copies eu el le =
     let nothing : HasUnits W count [] None copies = record { few = le; declared = omega arith; all = none-of _; copied = tt } in
     subst (λ (us : List UnitPart). HasUnits W count us last copies) (sym eu) (subst (λ (o : Option UnitPart). HasUnits W count [] o copies) (sym el) nothing)
@@ -101,16 +101,6 @@ thing-grows xs y x (thing.Future n c) h = h
 thing-grows xs y x (thing.Barrier n) h = h
 thing-grows xs y x thing.RwLock h = tt
 
--- Numbers that stand once.
-
-others : (n : ℕ) (ns : List ℕ) → list_any (λ m. m == n) ns ≡ false → All (λ m. n ≢ m) ns
-others n [] e = none-of _
-others n (m ∷ ms) e = All-cons (λ k. n ≢ k) m ms (λ is. eqb-false m n (or-left (m == n) _ e) (sym is)) (others n ms (or-right (m == n) _ e))
-
-pub once-pairs : (ns : List ℕ) → has_repeated ns ≡ false → AllPairs (λ x y. x ≢ y) ns
-once-pairs [] e = no-pair (λ (x y : ℕ). x ≢ y)
-once-pairs (n ∷ ns) e = AllPairs-cons (λ (x y : ℕ). x ≢ y) n ns (others n ns (or-left (list_any (λ m. m == n) ns) _ e)) (once-pairs ns (or-right (list_any (λ m. m == n) ns) _ e))
-
 -- Pools that are listed.
 
 abbrev pub ends_list : List Slot → Bool
@@ -119,12 +109,12 @@ ends_list (PoolList ∷ places) = true
 ends_list (slot ∷ places) = ends_list places
 
 module _ (P : Number → ℕ → Bool) where
-  all-pools : (ws : List Text) → list_all (λ p. P p.0 p.1) (numbered (map (λ w. (number.Pool, w)) ws)) ≡ true → All (λ n. P number.Pool n ≡ true) (values (numbered (map (λ w. (number.Pool, w)) ws)))
+  all-pools : (ws : List Text) → list_all (λ p. P p.0 p.1) (valued (map (λ w. (number.Pool, w)) ws)) ≡ true → All (λ n. P number.Pool n ≡ true) (values (valued (map (λ w. (number.Pool, w)) ws)))
   all-pools [] h = none-of _
   all-pools (w ∷ ws) h = All-cons (λ n. P number.Pool n ≡ true) (value_of w) _ (and-left (P number.Pool (value_of w)) _ h) (all-pools ws (and-right (P number.Pool (value_of w)) _ h))
 
-  pub tail-all : (places : List Slot) (words : List Text) → fits places words ≡ true → ends_list places ≡ true → list_all (λ p. P p.0 p.1) (numbered (numerals places words)) ≡ true
-      → All (λ n. P number.Pool n ≡ true) (drop (length (kinds places)) (values (numbered (numerals places words))))
+  pub tail-all : (places : List Slot) (words : List Text) → fits places words ≡ true → ends_list places ≡ true → list_all (λ p. P p.0 p.1) (valued (numerals places words)) ≡ true
+      → All (λ n. P number.Pool n ≡ true) (drop (length (kinds places)) (values (valued (numerals places words))))
   tail-all [] words f e h = cc
   tail-all (slot ∷ places) [] f e h = cc
   tail-all (PoolList ∷ places) (w ∷ ws) f e h = all-pools (w ∷ ws) h
@@ -134,7 +124,7 @@ module _ (P : Number → ℕ → Bool) where
   tail-all (CombineWord ∷ places) (w ∷ ws) f e h = tail-all places ws (and-right (suits CombineWord w) _ f) e h
   tail-all (AnyWord ∷ places) (w ∷ ws) f e h = tail-all places ws f e h
 
-pub tail-some : (places : List Slot) (words : List Text) → fits places words ≡ true → ends_list places ≡ true → 0 < length (drop (length (kinds places)) (values (numbered (numerals places words))))
+pub tail-some : (places : List Slot) (words : List Text) → fits places words ≡ true → ends_list places ≡ true → 0 < length (drop (length (kinds places)) (values (valued (numerals places words))))
 tail-some [] words f e = cc
 tail-some (slot ∷ places) [] f e = cc
 tail-some (PoolList ∷ places) (w ∷ ws) f e = omega arith
@@ -194,8 +184,3 @@ main-none [] s lt e = absurd (omega arith)
 main-none (None ∷ ms) zero lt e = refl
 main-none (Some x ∷ ms) zero lt e = cc
 main-none (m ∷ ms) (suc s) lt e = main-none ms s (omega arith) e
-
--- what is not among numbers
-pub not-among : (ns : List ℕ) (g : ℕ) → list_any (λ h. h == g) ns ≡ false → All (λ m. m ≢ g) ns
-not-among [] g e = none-of _
-not-among (n ∷ ns) g e = All-cons (λ m. m ≢ g) n ns (eqb-false n g (or-left (n == g) _ e)) (not-among ns g (or-right (n == g) _ e))

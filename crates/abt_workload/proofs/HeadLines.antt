@@ -8,14 +8,14 @@ use Rattle.abt_machine.specs.declared.grammar.Format.TheVariants as format
 use Rattle.abt_machine.specs.declared.grammar.Number.TheVariants as number
 use Rattle.abt_machine.specs.declared.numbers.SchedNo.{SchedNo}
 use Rattle.abt_machine.specs.declared.workload.Parts.{Parts}
-use Rattle.abt_machine.specs.Canonical.{form_words, keys_lines, object_line, pool_line, sched_line, stream_line}
+use Rattle.abt_machine.specs.Canonical.{form_words, keys_lines, object_line, pool_line, sched_line, stream_line, units_words}
 use Rattle.abt_machine.specs.Declaring.{Above, nothing}
-use Rattle.abt_machine.specs.Limits.{stream_limit, unit_limit}
+use Rattle.abt_machine.specs.Limits.{key_limit, stream_limit, unit_limit}
 use Rattle.abt_machine.specs.Valid.{IsValid}
 use Rattle.abt_machine.specs.Words.{Text, numbered}
 use Rattle.abt_workload.proofs.Filled.{takes}
 use Rattle.abt_workload.proofs.Fitting.{IsSmall, fit, fit-within}
-use Rattle.abt_workload.proofs.Heads.{all_mains, head, head_lines, placing, units_words}
+use Rattle.abt_workload.proofs.Heads.{all_mains, head, head_lines, placing}
 use Rattle.abt_workload.proofs.InOrder.{placed-alone, reached, reached-le}
 use Rattle.abt_workload.proofs.ObjectLines.{objects-taken}
 use Rattle.abt_workload.proofs.Places.{or-both}
@@ -69,7 +69,7 @@ keys-low zero = omega arith
 keys-low (suc k) = omega arith
 
 -- the line of the number of keys, where there are some
-keys-taken : (F : Format) (n k : ℕ) → k ≤ 16 → TakesAll (pooling F 2 n 0 []) (keys_lines k) (pooling F (keys_section k) n k [])
+keys-taken : (F : Format) (n k : ℕ) → k ≤ key_limit → TakesAll (pooling F 2 n 0 []) (keys_lines k) (pooling F (keys_section k) n k [])
 keys-taken F n zero few = refl
 keys-taken F n (suc k) few = (pooling F 3 n (suc k) [], line, refl)
   where
@@ -77,7 +77,7 @@ keys-taken F n (suc k) few = (pooling F 3 n (suc k) [], line, refl)
     line =
         takes (pooling F 2 n 0 []) (pooling F 3 n (suc k) []) form.Keys [] (suc k ∷ []) (form_words form.Keys [] (suc k ∷ []))
         record { words_are = refl; form_is = refl; skipped = refl; plain = refl; chosen = λ e. cc }
-        (fit-within (pooling F 2 n 0 []) 0 16 (suc k) (omega arith) few (omega arith), tt)
+        (fit-within (pooling F 2 n 0 []) 0 key_limit (suc k) (omega arith) few (omega arith), tt)
         record { version = refl; placed = refl; once = refl; beyond = refl; limit = refl; task = refl; access = refl; early = refl }
         refl
 

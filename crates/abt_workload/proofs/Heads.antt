@@ -1,7 +1,6 @@
 -- The lines of a workload's text before its units, and what they declare.
 use Rattle.std.proofs.Common.{ℕ, List, [], ◌∷◌, ◌++◌, Option, Some, None, flat_map, length, map, true}
 use Rattle.std.specs.List.{enumerate_from}
-use Rattle.abt_machine.specs.declared.grammar.Form.TheVariants as form
 use Rattle.abt_machine.specs.declared.grammar.Format.{Format}
 use Rattle.abt_machine.specs.declared.numbers.SchedNo.{SchedNo}
 use Rattle.abt_machine.specs.declared.operations.Thing.{Thing}
@@ -9,24 +8,9 @@ use Rattle.abt_machine.specs.declared.workload.Parts.{Parts}
 use Rattle.abt_machine.specs.declared.workload.PoolPart.{PoolPart}
 use Rattle.abt_machine.specs.declared.workload.SchedPart.{SchedPart}
 use Rattle.abt_machine.specs.declared.workload.UnitPart.{UnitPart}
-use Rattle.abt_machine.specs.Canonical.{form_words, keys_lines, object_line, pool_line, sched_line, stream_line, unit_lines}
+use Rattle.abt_machine.specs.Canonical.{first_lines, unit_lines, units_words}
 use Rattle.abt_machine.specs.Declaring.{Above}
-use Rattle.abt_machine.specs.Words.{Text, numbered}
-
--- the lines before that of the number of units
-abbrev pub first_lines : Format → Parts → List (List Text)
-first_lines F W =
-    form_words (form.Version F) [] [] ∷
-    form_words form.Streams [] (W.streams ∷ []) ∷
-    keys_lines W.keys ++
-    numbered pool_line W.pools ++
-    numbered sched_line W.scheds ++
-    numbered stream_line W.mains ++
-    numbered object_line W.objects
-
--- the line of the number of units
-abbrev pub units_words : Parts → List Text
-units_words W = form_words form.Units [] (length W.units ∷ [])
+use Rattle.abt_machine.specs.Words.{Text}
 
 -- the lines before the units
 abbrev pub head_lines : Format → Parts → List (List Text)

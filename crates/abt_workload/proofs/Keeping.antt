@@ -1,14 +1,13 @@
 -- A sound line keeps what is declared proper.
 use Rattle.std.proofs.Common.{◌≡◌, ◌≢◌, ◌<◌, ◌≤◌, ◌+◌, ◌-◌, ◌^◌, ◌==◌, ◌||◌, ◌∙◌, ℕ, zero, suc, true, false, List, [], ◌∷◌, ◌++◌, All, Option, Some, None, ap, arith, drop, flat_map, is_none, length, length-append, lit≤, map, nat_le, nat_lt, option_to_list, refl, replicate, slice_get, slice_set, subst, sym, unwrap_or}
 use Rattle.std.specs.List.{AllPairs, list_any}
-use Rattle.std.proofs.lemmas.List.{length-map, length-replicate, length-set}
-use Rattle.std.proofs.lemmas.List.Elements.{All-map}
+use Rattle.std.proofs.lemmas.Bool.{leb-false, leb-true, ltb-false, ltb-true, not-false}
+use Rattle.std.proofs.lemmas.List.{length-replicate, length-set}
 use Rattle.std.proofs.lemmas.Option.{slice_get_within}
 use Rattle.abt_machine.specs.declared.grammar.Form.TheVariants as form
 use Rattle.abt_machine.specs.declared.grammar.Format.{Format}
 use Rattle.abt_machine.specs.declared.grammar.Format.TheVariants as format
 use Rattle.abt_machine.specs.declared.grammar.Number.TheVariants as number
-use Rattle.abt_machine.specs.declared.numbers.PoolNo.{PoolNo}
 use Rattle.abt_machine.specs.declared.numbers.SchedNo.{SchedNo}
 use Rattle.abt_machine.specs.declared.operations.Access.{Access}
 use Rattle.abt_machine.specs.declared.operations.Access.TheVariants as access
@@ -20,31 +19,27 @@ use Rattle.abt_machine.specs.declared.workload.PoolPart.{PoolPart}
 use Rattle.abt_machine.specs.declared.workload.SchedPart.{SchedPart}
 use Rattle.abt_machine.specs.declared.workload.UnitPart.{UnitPart}
 use Rattle.abt_machine.specs.Declaring.{Above, access_with, at, listed, pool_with, rule_with, sched_with, thing_with}
-use Rattle.abt_machine.specs.Limits.{stream_limit, unit_limit}
-use Rattle.abt_machine.specs.Numbers.{pool_no, sched_no}
+use Rattle.abt_machine.specs.Limits.{key_limit, listed_limit, object_limit, pool_limit, sched_limit, size_limit, stream_limit, unit_limit}
+use Rattle.abt_machine.specs.Numbers.{sched_no}
 use Rattle.abt_machine.specs.Valid.{IsAccess, IsRule, IsSched, IsThing, sched_in}
 use Rattle.abt_machine.specs.Faults.{has_main, is_placed, is_there, values_of}
 use Rattle.abt_machine.specs.Forms.{slots}
 use Rattle.abt_machine.specs.Words.{Text}
-use Rattle.abt_machine.proofs.Elements.{map-pairs}
-use Rattle.abt_workload.proofs.Bounds.{after-section, after-single, between, kind-within, le-from, le-not, lt-from, lt-not, mutex-there, there-at, within-at}
+use Rattle.abt_machine.proofs.Distinct.{listing, not-among}
+use Rattle.abt_workload.proofs.Bounds.{after-section, after-single, between, kind-within, mutex-there, there-at, within-at}
 use Rattle.abt_workload.proofs.Copies.{AreCopies, units-scheds}
 use Rattle.abt_workload.proofs.Naming.{any-fits}
-use Rattle.abt_workload.proofs.Growing.{access-grows, all-and, any-none, empty-of, ends_list, get-replicate, holds-and, holds-set, main-none, mains_list, no-mains, no-units, not-among, once-pairs, pairs-set, sched-grows, tail-all, tail-some, thing-grows}
-use Rattle.abt_workload.proofs.Places.{kinds, not-false, or-left, or-right}
+use Rattle.abt_workload.proofs.Growing.{access-grows, all-and, any-none, empty-of, ends_list, get-replicate, holds-and, holds-set, main-none, mains_list, no-mains, no-units, pairs-set, sched-grows, tail-all, tail-some, thing-grows}
+use Rattle.abt_workload.proofs.Places.{kinds, or-left, or-right}
 use Rattle.abt_workload.proofs.Proper.{AreUnits, AreUnset, HasMains, HasObjects, HasPools, HasScheds, HasStreams, IsInOrder, IsProper, counted, placed, stream_count, takes_all, unit_count, with_form}
 use Rattle.abt_workload.proofs.Soundness.{IsSound}
 
 access-in : {a : Above} {line : Text} {words : List Text} (x : Access) → IsSound a line words (form.Pool x) → IsAccess (stream_count a) (access_with x (values_of (form.Pool x) words))
-access-in (access.Priv x) s = lt-from _ _ (there-at (form.Pool (access.Priv x)) s 1 number.Stream refl)
-access-in (access.Spsc x y) s = (lt-from _ _ (there-at (form.Pool (access.Spsc x y)) s 1 number.Stream refl), lt-from _ _ (there-at (form.Pool (access.Spsc x y)) s 2 number.Stream refl))
-access-in (access.Mpsc y) s = lt-from _ _ (there-at (form.Pool (access.Mpsc y)) s 1 number.Stream refl)
-access-in (access.Spmc x) s = lt-from _ _ (there-at (form.Pool (access.Spmc x)) s 1 number.Stream refl)
+access-in (access.Priv x) s = ltb-true _ _ (there-at (form.Pool (access.Priv x)) s 1 number.Stream refl)
+access-in (access.Spsc x y) s = (ltb-true _ _ (there-at (form.Pool (access.Spsc x y)) s 1 number.Stream refl), ltb-true _ _ (there-at (form.Pool (access.Spsc x y)) s 2 number.Stream refl))
+access-in (access.Mpsc y) s = ltb-true _ _ (there-at (form.Pool (access.Mpsc y)) s 1 number.Stream refl)
+access-in (access.Spmc x) s = ltb-true _ _ (there-at (form.Pool (access.Spmc x)) s 1 number.Stream refl)
 access-in access.Mpmc s = tt
-
-unpooled : (ns : List ℕ) → map (λ (p : PoolNo). p.0) (map pool_no ns) ≡ ns
-unpooled [] = refl
-unpooled (n ∷ ns) = ap (λ (ms : List ℕ). n ∷ ms) (unpooled ns)
 
 -- where a `sched` line's pools stand
 pools-last : (r : Rule) (ns : List ℕ) → (listed r ns ≡ drop (length (kinds (slots (form.Sched r)))) ns) × (ends_list (slots (form.Sched r)) ≡ true)
@@ -63,19 +58,14 @@ module _ {a : Above} {line : Text} {words : List Text} (r : Rule) (s : IsSound a
   listed-there =
       let p = pools-last r (values_of (form.Sched r) words) in
       let all = tail-all (is_there a) (slots (form.Sched r)) words s.form_fits p.1 s.there in
-      subst (λ (ns : List ℕ). All (λ n. n < length a.pools) ns) (sym p.0) (λ k d lt. lt-from _ _ (all k d lt))
+      subst (λ (ns : List ℕ). All (λ n. n < length a.pools) ns) (sym p.0) (λ k d lt. ltb-true _ _ (all k d lt))
 
   sched-in : IsSched (length a.pools) (sched_with r (values_of (form.Sched r) words))
   sched-in =
       let vals : List ℕ = values_of (form.Sched r) words in
-      let same : map (λ (p : PoolNo). p.0) (map pool_no (listed r vals)) ≡ listed r vals = unpooled (listed r vals) in
-      record {
-        rule = rule-in r s;
-        some_pool = let some = listed-some in rw length-map some;
-        few_pools = let few = le-not 8 (length (listed r vals)) (or-right (nat_le 64 (length a.scheds)) _ s.limit) in rw length-map few;
-        listed = All-map (λ (p : PoolNo). p.0 < length a.pools) pool_no (listed r vals) listed-there;
-        once = map-pairs (map pool_no (listed r vals)) (subst (λ ns. AllPairs (λ x y. x ≢ y) ns) (sym same) (once-pairs (listed r vals) (or-right (nat_lt (at vals 0) (length a.scheds)) _ s.once)));
-      }
+      listing (length a.pools) (rule_with r vals) (listed r vals) (rule-in r s) listed-some
+      (ltb-false listed_limit (length (listed r vals)) (or-right (nat_le sched_limit (length a.scheds)) _ s.limit)) listed-there
+      (or-right (nat_lt (at vals 0) (length a.scheds)) _ s.once)
     where
       rule-in : (q : Rule) → IsSound a line words (form.Sched q) → IsRule (rule_with q (values_of (form.Sched q) words))
       rule-in rule.Basic t = tt
@@ -86,19 +76,19 @@ module _ {a : Above} {line : Text} {words : List Text} (r : Rule) (s : IsSound a
 thing-in : {a : Above} {line : Text} {words : List Text} (x : Thing) → IsSound a line words (form.Object x) → IsThing a.objects (length a.objects) (thing_with x words (values_of (form.Object x) words))
 thing-in thing.Mutex s = tt
 thing-in {a} (thing.Cond m) s =
-    let there = mutex-there a.objects _ (there-at (form.Object (thing.Cond m)) s 1 number.Mutex refl) in
+    let there = mutex-there (slice_get a.objects _) (there-at (form.Object (thing.Cond m)) s 1 number.Mutex refl) in
     (slice_get_within a.objects _ thing.Mutex there, there)
 thing-in thing.Eventual s = tt
-thing-in (thing.Future n c) s = between 1 4096 _ (within-at (form.Object (thing.Future n c)) s 1 1 4096 refl)
-thing-in (thing.Barrier n) s = between 1 4096 _ (within-at (form.Object (thing.Barrier n)) s 1 1 4096 refl)
+thing-in (thing.Future n c) s = between 1 size_limit _ (within-at (form.Object (thing.Future n c)) s 1 1 size_limit refl)
+thing-in (thing.Barrier n) s = between 1 size_limit _ (within-at (form.Object (thing.Barrier n)) s 1 1 size_limit refl)
 thing-in thing.RwLock s = tt
 
--- no format has more streams, or more units
-pub most-streams : (F : Format) → stream_limit F ≤ 16
+-- no format has more streams than format 2, or more units
+pub most-streams : (F : Format) → stream_limit F ≤ stream_limit format.Two
 most-streams format.One = lit≤ tt
 most-streams format.Two = lit≤ tt
 
-pub most-units : (F : Format) → unit_limit F ≤ 4096
+pub most-units : (F : Format) → unit_limit F ≤ unit_limit format.Two
 most-units format.One = lit≤ tt
 most-units format.Two = lit≤ tt
 
@@ -157,14 +147,14 @@ module _ {a : Above} {line : Text} {words : List Text} (h : IsProper a) where
   keeps-keys s =
       let le = after-single form.Keys s refl in
       let n : ℕ = at (values_of form.Keys words) 0 in
-      let keys = between 0 16 n (within-at form.Keys s 0 0 16 refl) in
+      let keys = between 0 key_limit n (within-at form.Keys s 0 0 key_limit refl) in
       let above = above-units h (omega arith) (with_form a words form.Keys) (omega arith) (λ lt. absurd (omega arith)) (λ lt. h.order.no_mains (omega arith)) (refl, refl, refl) in
       assumption
 
   pub keeps-pool : (x : Access) → IsSound a line words (form.Pool x) → IsProper (with_form a words (form.Pool x))
   keeps-pool x s =
       let le = after-section (form.Pool x) s in
-      let few = lt-not 64 (length a.pools) s.limit in
+      let few = leb-false pool_limit (length a.pools) s.limit in
       let new : PoolPart = pool_with x words (values_of (form.Pool x) words) in
       let grown : length (a.pools ++ new ∷ []) ≡ length a.pools + 1 = length-append a.pools _ in
       let pools : HasPools (stream_count a) (a.pools ++ new ∷ []) = record { few = omega arith; all = all-and (λ (part : PoolPart). IsAccess (stream_count a) part.access) a.pools new h.pools.all (access-in x s) } in
@@ -176,7 +166,7 @@ module _ {a : Above} {line : Text} {words : List Text} (h : IsProper a) where
   pub keeps-sched : (r : Rule) → IsSound a line words (form.Sched r) → IsProper (with_form a words (form.Sched r))
   keeps-sched r s =
       let le = after-section (form.Sched r) s in
-      let few = lt-not 64 (length a.scheds) (or-left (nat_le 64 (length a.scheds)) _ s.limit) in
+      let few = leb-false sched_limit (length a.scheds) (or-left (nat_le sched_limit (length a.scheds)) _ s.limit) in
       let new : SchedPart = sched_with r (values_of (form.Sched r) words) in
       let grown : length (a.scheds ++ new ∷ []) ≡ length a.scheds + 1 = length-append a.scheds _ in
       let scheds : HasScheds (length a.pools) (a.scheds ++ new ∷ []) = record { few = omega arith; all = all-and (IsSched (length a.pools)) a.scheds new h.scheds.all (sched-in r s) } in
@@ -189,8 +179,8 @@ module _ {a : Above} {line : Text} {words : List Text} (h : IsProper a) where
       let le = after-section form.Stream s in
       let t : ℕ = at (values_of form.Stream words) 0 in
       let g : ℕ = at (values_of form.Stream words) 1 in
-      let stream : t < stream_count a = lt-from _ _ (there-at form.Stream s 0 number.Stream refl) in
-      let sched : g < length a.scheds = lt-from _ _ (there-at form.Stream s 1 number.Sched refl) in
+      let stream : t < stream_count a = ltb-true _ _ (there-at form.Stream s 0 number.Stream refl) in
+      let sched : g < length a.scheds = ltb-true _ _ (there-at form.Stream s 1 number.Sched refl) in
       let takes' : takes_all a.pools a.scheds t g ≡ true = not-false _ s.access in
       let free : slice_get a.mains t ≡ Some None = main-none a.mains t (let c = h.mains.count in omega arith) (or-left (has_main a t) _ s.once) in
       let out = not-among (placed a) g (placed-not a g h.units.copied (or-right (has_main a t) _ s.once)) in
@@ -206,7 +196,7 @@ module _ {a : Above} {line : Text} {words : List Text} (h : IsProper a) where
   pub keeps-object : (x : Thing) → IsSound a line words (form.Object x) → IsProper (with_form a words (form.Object x))
   keeps-object x s =
       let le = after-section (form.Object x) s in
-      let few = lt-not 256 (length a.objects) s.limit in
+      let few = leb-false object_limit (length a.objects) s.limit in
       let new : Thing = thing_with x words (values_of (form.Object x) words) in
       let grown : length (a.objects ++ new ∷ []) ≡ length a.objects + 1 = length-append a.objects _ in
       let objects : HasObjects (a.objects ++ new ∷ []) = record { few = omega arith; all = λ k t e. thing-grows a.objects new k t (holds-and (IsThing a.objects) a.objects new h.objects.all (thing-in x s) k t e) } in
@@ -217,7 +207,7 @@ module _ {a : Above} {line : Text} {words : List Text} (h : IsProper a) where
   keeps-units s =
       let le = after-single form.Units s refl in
       let most = most-units a.format in
-      let below : at (values_of form.Units words) 0 ≤ unit_limit a.format = le-from _ _ (kind-within form.Units s 0 number.UnitCount refl) in
+      let below : at (values_of form.Units words) 0 ≤ unit_limit a.format = leb-true _ _ (kind-within form.Units s 0 number.UnitCount refl) in
       let none : AreUnits (with_form a words form.Units) = no-units _ _ _ _ _ (h.order.no_units (omega arith)) (h.order.no_last (omega arith)) (omega arith) in
       let order : IsInOrder (with_form a words form.Units) = record {
         no_streams = λ lt. absurd (omega arith);

@@ -5,7 +5,7 @@ use Rattle.std.specs.Bool.{⊤}
 use Rattle.std.specs.Str.{is_utf8}
 use Rattle.std.proofs.lemmas.List.{append-nil, get_or-drop}
 use Rattle.std.proofs.lemmas.Bool.Decides.{leb_tells}
-use Rattle.std.proofs.lemmas.Bool.{not-true}
+use Rattle.std.proofs.lemmas.Bool.{leb-true, ltb-false, ltb-true, not-false, not-true}
 use Rattle.std.proofs.lemmas.List.Quantifiers.{all_pairs_push}
 use Rattle.std.proofs.lemmas.List.Elements.{All-append, All-cons, All-head, All-tail}
 use Rattle.std.proofs.lemmas.List.Folds.{list_any-append}
@@ -14,6 +14,7 @@ use Rattle.std.proofs.lemmas.Str.{IsUtf8-from_is_utf8}
 use Rattle.std.proofs.Math.Nat.{mul-add, mul-le-mul_left}
 use Rattle.abt_machine.specs.declared.grammar.Form.{Form}
 use Rattle.abt_machine.specs.declared.grammar.Form.TheVariants as form
+use Rattle.abt_machine.specs.declared.grammar.Format.TheVariants as format
 use Rattle.abt_machine.specs.declared.grammar.Number.{Number}
 use Rattle.abt_machine.specs.declared.grammar.Number.TheVariants as number
 use Rattle.abt_machine.specs.declared.grammar.Role.{Role}
@@ -27,23 +28,25 @@ use Rattle.abt_machine.specs.declared.operations.Op.TheVariants as op
 use Rattle.abt_machine.specs.declared.workload.Parts.{Parts}
 use Rattle.abt_machine.specs.declared.workload.PoolPart.{PoolPart}
 use Rattle.abt_machine.specs.declared.workload.UnitPart.{UnitPart}
-use Rattle.abt_machine.specs.Declaring.{Above, at, body_and, body_later, body_with, declared_units, op_later, op_with, repeated, said_in, said_words, start_place, start_with, unit_and, unit_later, unit_with, units_of, with_operation, with_operations, with_units, word_in}
+use Rattle.abt_machine.specs.Declaring.{Above, at, body_and, body_later, body_with, declared_units, op_later, op_with, repeated, said_in, said_words, pool_place, start_with, unit_and, unit_later, unit_with, units_of, with_operation, with_operations, with_copies, word_in}
 use Rattle.abt_machine.specs.Faults.{has_no_room, is_long, is_long_word, is_placed, is_task, is_there, is_task_body, lacks_units, takes_operations, values_of}
 use Rattle.abt_machine.specs.Forms.{Fixed, op_slots, fits, slots, suits}
+use Rattle.abt_machine.specs.Limits.{operation_limit, unit_limit, unit_operation_limit, word_limit}
 use Rattle.abt_machine.specs.Operations.{IsDeclared, may_block, said_by}
 use Rattle.abt_machine.specs.Spelling.{has_control, is_empty, words_of}
 use Rattle.abt_machine.specs.Valid.{IsBody, IsWord, sched_in}
 use Rattle.abt_machine.specs.Words.{Text}
 use Rattle.abt_machine.specs.Workloads.{all_ops, is_sched, ops_of}
+use Rattle.abt_machine.proofs.Distinct.{not-among}
 use Rattle.abt_machine.proofs.Saying.{said_by_units}
 use Rattle.abt_workload.specs.Declarable.{op_count}
-use Rattle.abt_workload.proofs.Bounds.{at-home, after-section, le-from, le-not, lt-from, there-at, within-at}
+use Rattle.abt_workload.proofs.Bounds.{at-home, after-section, there-at, within-at}
 use Rattle.abt_workload.proofs.Copies.{all-repeated, count-later, ops-later, units-all, units-length, units-ops, units-said, units-scheds}
-use Rattle.abt_workload.proofs.Growing.{all-and, all-one, mains_list, not-among}
+use Rattle.abt_workload.proofs.Growing.{all-and, all-one, mains_list}
 use Rattle.abt_workload.proofs.Keeping.{placed-not}
 use Rattle.abt_workload.proofs.LineWords.{words-some, words-utf8, words-visible}
 use Rattle.abt_workload.proofs.Naming.{IsSoundOp, declared-op, muted-later, op_values}
-use Rattle.abt_workload.proofs.Places.{and-left, and-right, at-after, kinds, not-false, or-left, or-right}
+use Rattle.abt_workload.proofs.Places.{and-left, and-right, at-after, kinds, or-left, or-right}
 use Rattle.abt_workload.proofs.Proper.{AreUnits, IsInOrder, IsProper, IsUnitIn, counted, muted, none-of, placed, unit_count, with_form}
 use Rattle.abt_workload.proofs.Repeated.{repeated-op}
 use Rattle.abt_workload.proofs.Soundness.{IsSound}
@@ -86,7 +89,7 @@ pub keeps-end : {a : Above} {line : Text} {words : List Text} → IsProper a →
 keeps-end {a} {line} {words} h s =
     let streams : is_none a.streams ≡ false = or-left (is_none a.streams) _ (or-left _ (nat_lt (declared_units a) (unit_count a)) s.early) in
     let count : is_none a.unit_count ≡ false = or-right (is_none a.streams) _ (or-left _ (nat_lt (declared_units a) (unit_count a)) s.early) in
-    let whole : unit_count a ≤ declared_units a = le-not (declared_units a) (unit_count a) (or-right (is_none a.streams || is_none a.unit_count) _ s.early) in
+    let whole : unit_count a ≤ declared_units a = ltb-false (declared_units a) (unit_count a) (or-right (is_none a.streams || is_none a.unit_count) _ s.early) in
     let order : IsInOrder (with_form a words form.End) = in-order h (late h count) (with_form a words form.End) (omega arith) (refl, refl) (λ _. (streams, whole)) in
     assumption
 
@@ -142,7 +145,7 @@ HasSched a role.Sched ns = (at ns 1 < length a.scheds) × (is_placed a (at ns 1)
 
 -- the pool that a new unit starts in is there
 abbrev HasPool : Above → Role → Option PoolNo → List ℕ → Type 0
-HasPool a r (Some p) ns = at ns (start_place r) < length a.pools
+HasPool a r (Some p) ns = at ns (pool_place r) < length a.pools
 HasPool a r None ns = ⊤
 
 -- what is asked of n units that a line declares, of which the first is unit u, by the numbers of a `unit` line
@@ -191,12 +194,12 @@ unit-free a h role.Task ns start free = none-of _
 unit-free a h role.Sched ns start free = all-one (λ g. All (λ m. m ≢ g) (placed a)) (at ns 1) (not-among (placed a) (at ns 1) (placed-not a (at ns 1) h.units.copied free.1))
 
 -- new units keep what is declared proper
-keeps-new : (a : Above) (r : Role) (start : Option PoolNo) (u n : ℕ) (ns : List ℕ) → IsProper a → AreNew a r start u n ns → IsProper (record (with_units a n (unit_with r start ns)) { section = 9; begun = true })
+keeps-new : (a : Above) (r : Role) (start : Option PoolNo) (u n : ℕ) (ns : List ℕ) → IsProper a → AreNew a r start u n ns → IsProper (record (with_copies a n (unit_with r start ns)) { section = 9; begun = true })
 keeps-new a r start u n ns h new =
     let part : UnitPart = unit_with r start ns in
-    let after : Above = record (with_units a n part) { section = 9; begun = true } in
-    let least = le-not u (declared_units a) new.new in
-    let most = le-not (unit_count a) (u + n) new.below in
+    let after : Above = record (with_copies a n part) { section = 9; begun = true } in
+    let least = ltb-false u (declared_units a) new.new in
+    let most = ltb-false (unit_count a) (u + n) new.below in
     let scheds : List UnitPart → List ℕ = flat_map (λ (x : UnitPart). sched_in x.body) in
     let all_scheds : scheds (units_of a ++ part ∷ []) ≡ scheds (a.units ++ option_to_list a.last) ++ sched_in part.body =
     flat_map-append (λ (x : UnitPart). sched_in x.body) (units_of a) (part ∷ [])
@@ -206,7 +209,7 @@ keeps-new a r start u n ns h new =
     (subst (λ (ns : List ℕ). AllPairs (λ x y. x ≢ y) ns) (append_assoc (mains_list a.mains) (scheds (a.units ++ option_to_list a.last)) (sched_in part.body))
     (free-places a (sched_in part.body) (few-scheds part.body) h.places (unit-free a h r ns start new.sched))) in
     let units : AreUnits after = record { few = h.units.few; declared = omega arith; all = all-and (IsUnitIn (counted a)) (units_of a) part (units-in a h) (unit-in a r start ns new.sched new.pool); copied = (new.some, new.one) } in
-    let few_ops : length (all_ops (units_of a)) + n * op_count (Some part) ≤ 65536 =
+    let few_ops : length (all_ops (units_of a)) + n * op_count (Some part) ≤ operation_limit =
     let e = units-ops a in
     let few = h.few_ops in
     let zero_ops : n * length (ops_of part.body) ≡ n * 0 = ap (λ (os : List Op). n * length os) (no-ops r ns) in
@@ -234,13 +237,13 @@ module _ {a : Above} {line : Text} {words : List Text} (h : IsProper a) where
       sched-there : (q : Role) → IsSound a line words (form.Unit q start) → HasSched a q (values_of (form.Unit q start) words)
       sched-there role.Ult u = tt
       sched-there role.Task u = tt
-      sched-there role.Sched u = (lt-from _ _ (there-at (form.Unit role.Sched start) u 1 number.Sched refl), or-right (nat_lt (at (values_of (form.Unit role.Sched start) words) 0) (declared_units a)) _ u.once)
+      sched-there role.Sched u = (ltb-true _ _ (there-at (form.Unit role.Sched start) u 1 number.Sched refl), or-right (nat_lt (at (values_of (form.Unit role.Sched start) words) 0) (declared_units a)) _ u.once)
 
       pool-there : (q : Role) (t : Option PoolNo) → IsSound a line words (form.Unit q t) → HasPool a q t (values_of (form.Unit q t) words)
       pool-there q None u = tt
-      pool-there role.Ult (Some o) u = lt-from _ _ (there-at (form.Unit role.Ult (Some o)) u 1 number.Pool refl)
-      pool-there role.Task (Some o) u = lt-from _ _ (there-at (form.Unit role.Task (Some o)) u 1 number.Pool refl)
-      pool-there role.Sched (Some o) u = lt-from _ _ (there-at (form.Unit role.Sched (Some o)) u 2 number.Pool refl)
+      pool-there role.Ult (Some o) u = ltb-true _ _ (there-at (form.Unit role.Ult (Some o)) u 1 number.Pool refl)
+      pool-there role.Task (Some o) u = ltb-true _ _ (there-at (form.Unit role.Task (Some o)) u 1 number.Pool refl)
+      pool-there role.Sched (Some o) u = ltb-true _ _ (there-at (form.Unit role.Sched (Some o)) u 2 number.Pool refl)
 
   pub keeps-many : (r : Role) (start : Option PoolNo) → IsSound a line words (form.Many r start) → IsProper (with_form a words (form.Many r start))
   keeps-many r start s =
@@ -255,7 +258,7 @@ module _ {a : Above} {line : Text} {words : List Text} (h : IsProper a) where
       after-count f u k kind e = subst (λ (n : ℕ). is_there a kind n ≡ true) (at-after k (values_of f words)) (there-at f u (k + 1) kind e)
 
       some-copies : (q : Role) → IsSound a line words (form.Many q start) → 1 ≤ at (values_of (form.Many q start) words) 1
-      some-copies q u = let n : ℕ = at (values_of (form.Many q start) words) 1 in le-from 1 n (and-left (nat_le 1 n) _ (within-at (form.Many q start) u 1 1 4096 refl))
+      some-copies q u = let n : ℕ = at (values_of (form.Many q start) words) 1 in leb-true 1 n (and-left (nat_le 1 n) _ (within-at (form.Many q start) u 1 1 (unit_limit format.Two) refl))
 
       new-unit : (q : Role) → IsSound a line words (form.Many q start) → nat_lt (at (values_of (form.Many q start) words) 0) (declared_units a) ≡ false
       new-unit role.Ult u = u.once
@@ -267,7 +270,7 @@ module _ {a : Above} {line : Text} {words : List Text} (h : IsProper a) where
       one-copy role.Task u e = cc
       one-copy role.Sched u e =
           let ns : List ℕ = values_of (form.Many role.Sched start) words in
-          let most = le-not 1 (at ns 1) (or-right (nat_lt (at ns 0) (declared_units a)) _ (or-left _ (is_placed a (at ns 2)) u.once)) in
+          let most = ltb-false 1 (at ns 1) (or-right (nat_lt (at ns 0) (declared_units a)) _ (or-left _ (is_placed a (at ns 2)) u.once)) in
           let least = some-copies role.Sched u in
           omega arith
 
@@ -276,15 +279,15 @@ module _ {a : Above} {line : Text} {words : List Text} (h : IsProper a) where
       sched-there role.Task u = tt
       sched-there role.Sched u =
           let ns : List ℕ = values_of (form.Many role.Sched start) words in (
-            lt-from _ _ (after-count (form.Many role.Sched start) u 1 number.Sched refl),
+            ltb-true _ _ (after-count (form.Many role.Sched start) u 1 number.Sched refl),
             subst (λ (n : ℕ). is_placed a n ≡ false) (at-after 1 ns) (or-right (nat_lt (at ns 0) (declared_units a) || nat_lt 1 (at ns 1)) _ u.once),
           )
 
       pool-there : (q : Role) (t : Option PoolNo) → IsSound a line words (form.Many q t) → HasPool a q t (drop 1 (values_of (form.Many q t) words))
       pool-there q None u = tt
-      pool-there role.Ult (Some o) u = lt-from _ _ (after-count (form.Many role.Ult (Some o)) u 1 number.Pool refl)
-      pool-there role.Task (Some o) u = lt-from _ _ (after-count (form.Many role.Task (Some o)) u 1 number.Pool refl)
-      pool-there role.Sched (Some o) u = lt-from _ _ (after-count (form.Many role.Sched (Some o)) u 2 number.Pool refl)
+      pool-there role.Ult (Some o) u = ltb-true _ _ (after-count (form.Many role.Ult (Some o)) u 1 number.Pool refl)
+      pool-there role.Task (Some o) u = ltb-true _ _ (after-count (form.Many role.Task (Some o)) u 1 number.Pool refl)
+      pool-there role.Sched (Some o) u = ltb-true _ _ (after-count (form.Many role.Sched (Some o)) u 2 number.Pool refl)
 
 -- Operations.
 
@@ -365,8 +368,8 @@ record CanOperate (a : Above) (part : UnitPart) (o : Op) (ws : List Text) (ns : 
   section_is : a.section ≡ 9
   last_is : a.last ≡ Some part
   takes_ops : is_sched part.body ≡ false
-  short : length (ops_of part.body) + n ≤ 256
-  room : length (all_ops a.units) + a.copies * (length (ops_of part.body) + n) ≤ 65536
+  short : length (ops_of part.body) + n ≤ unit_operation_limit
+  room : length (all_ops a.units) + a.copies * (length (ops_of part.body) + n) ≤ operation_limit
   task : (is_task_body part.body && may_block o) ≡ false
   named : (k : ℕ) → IsDeclared (counted a) (muted (op_with o k ns))
   word : All IsWord (said_in o ws)
@@ -393,7 +396,7 @@ module _ (o : Op) (ws : List Text) (ns : List ℕ) where
             all = all-and (IsUnitIn (counted a)) a.units (unit_and p part) (front-of (IsUnitIn (counted a)) a.units part g.units.all) new;
             copied = (g.units.copied.0, λ e. g.units.copied.1 (sym (body-takes p part.body) ∙ e));
           } in
-          let few_ops : length (all_ops a.units) + a.copies * length (ops_of (body_and p part.body)) ≤ 65536 =
+          let few_ops : length (all_ops a.units) + a.copies * length (ops_of (body_and p part.body)) ≤ operation_limit =
           let more : a.copies * length (ops_of (body_and p part.body)) ≡ a.copies * (length (ops_of part.body) + 1) = ap (λ (os : List Op). a.copies * length os) (body-ops p part.body can.takes_ops) ∙ ap (λ (k : ℕ). a.copies * k) (length-append (ops_of part.body) (p ∷ [])) in
           let le : a.copies * (length (ops_of part.body) + 1) ≤ a.copies * (length (ops_of part.body) + suc n) = mul-le-mul_left a.copies (omega arith) in
           let room = can.room in
@@ -420,7 +423,7 @@ module _ (o : Op) (ws : List Text) (ns : List ℕ) where
         room =
             let same : length (ops_of (body_and p part.body)) + n ≡ length (ops_of part.body) + suc n = omega arith in
             let room = can.room in
-            subst (λ (k : ℕ). length (all_ops a.units) + a.copies * k ≤ 65536) (sym same) room;
+            subst (λ (k : ℕ). length (all_ops a.units) + a.copies * k ≤ operation_limit) (sym same) room;
         task = ap (λ (b : Bool). b && may_block o) (body-task p part.body) ∙ can.task;
         named = can.named;
         word = can.word;
@@ -448,10 +451,10 @@ module _ (line : Text) (utf8 : is_utf8 line ≡ true) (control : has_control lin
       let within : k + 1 < length (words_of line) = omega arith in
       let same : word_in ws 1 ≡ get_or (words_of line) (k + 1) [] = ap (λ (xs : List Text). word_in xs 1) e ∙ get_or-drop k (words_of line) 1 [] in
       let some = words-some line (k + 1) [] within in
-      let long = le-not 64 (length (word_in ws 1)) short in
+      let long = ltb-false word_limit (length (word_in ws 1)) short in
       let said : IsWord (get_or (words_of line) (k + 1) []) = record {
         some_byte = some-bytes (get_or (words_of line) (k + 1) []) some;
-        few_bytes = subst (λ (t : Text). length t ≤ 64) same long;
+        few_bytes = subst (λ (t : Text). length t ≤ word_limit) same long;
         visible = words-visible line control (k + 1) [] within;
         utf8 = words-utf8 line (IsUtf8-from_is_utf8 line utf8) (k + 1) [] within;
       } in
@@ -475,8 +478,8 @@ module _ (a : Above) (line : Text) (h : IsProper a) where
           section_is = nine a.section le (λ lt. some-last (h.order.no_last lt) is);
           last_is = is;
           takes_ops = not_sched;
-          short = le-not 256 (length (ops_of part.body) + n) (subst (λ (l : Option UnitPart). is_long l n ≡ false) is (or-left (is_long a.last n) _ room));
-          room = crowd-room part is (le-not 65536 (length (all_ops (units_of a)) + a.copies * n) (or-right (is_long a.last n) _ room));
+          short = ltb-false unit_operation_limit (length (ops_of part.body) + n) (subst (λ (l : Option UnitPart). is_long l n ≡ false) is (or-left (is_long a.last n) _ room));
+          room = crowd-room part is (ltb-false operation_limit (length (all_ops (units_of a)) + a.copies * n) (or-right (is_long a.last n) _ room));
           task = subst (λ (l : Option UnitPart). (is_task l && may_block o) ≡ false) is task;
           named = λ m. declared-op m o sound;
           word = said-word line utf8 control o k ws sound.op_fits short e;
@@ -493,7 +496,7 @@ module _ (a : Above) (line : Text) (h : IsProper a) where
               on (inl x) = let y = x.1 in omega arith
               on (inr x) = absurd (least x.1)
 
-          crowd-room : (p : UnitPart) → a.last ≡ Some p → length (all_ops (units_of a)) + a.copies * n ≤ 65536 → length (all_ops a.units) + a.copies * (length (ops_of p.body) + n) ≤ 65536
+          crowd-room : (p : UnitPart) → a.last ≡ Some p → length (all_ops (units_of a)) + a.copies * n ≤ operation_limit → length (all_ops a.units) + a.copies * (length (ops_of p.body) + n) ≤ operation_limit
           crowd-room p e few =
               let ops = units-ops a in
               let count : a.copies * op_count a.last ≡ a.copies * length (ops_of p.body) = ap (λ (l : Option UnitPart). a.copies * op_count l) e in

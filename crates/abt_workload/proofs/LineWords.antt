@@ -1,7 +1,7 @@
 -- The words of a line.
 use Rattle.std.proofs.Common.{◌≡◌, ◌≢◌, ◌<◌, ◌≤◌, ◌+◌, ◌==◌, ◌&&◌, ◌||◌, ℕ, zero, suc, Bool, true, false, not, List, [], ◌∷◌, All, IsUtf8, arith, drop, filter, get_or, length, nat_lt, refl, subst, sym, take, length-drop, inl, inr, ◌⊎◌}
 use Rattle.std.specs.List.{onto_first, position_or_len, slice_split}
-use Rattle.std.proofs.lemmas.Bool.{cases_order, eqb-false, eqb-true}
+use Rattle.std.proofs.lemmas.Bool.{cases_order, eqb-false, eqb-true, ltb-false}
 use Rattle.std.proofs.lemmas.List.Elements.{All-cons, All-filter, All-head, All-tail}
 use Rattle.std.proofs.lemmas.List.Splits.{slice_split_first, slice_split_none}
 use Rattle.std.proofs.lemmas.List.Sums.{fails_before_first, passes_at_first}
@@ -10,7 +10,6 @@ use Rattle.std.specs.Str.{IsCharBoundary}
 use Rattle.abt_machine.specs.Spelling.{has_control, is_control, is_empty, is_separator, words_of}
 use Rattle.abt_machine.specs.Valid.{IsVisible}
 use Rattle.abt_machine.specs.Words.{Text}
-use Rattle.abt_workload.proofs.Bounds.{le-not}
 use Rattle.abt_workload.proofs.Places.{or-left, or-right}
 use Rattle.abt_workload.proofs.Proper.{none-of}
 
@@ -42,7 +41,7 @@ visible b es ec =
         tab : (t : Bool) → (b == 9) ≡ t → not (b == 9) ≡ false → b ≡ 9
         tab true et ef = eqb-true b 9 et
         tab false et ef = let bad = rw et at ef in cc
-    by false e f ns nt = let le = le-not b 32 e in omega arith
+    by false e f ns nt = let le = ltb-false b 32 e in omega arith
 
 front-visible : (b : ℕ) (parts : List Text) → IsVisible b → All (All IsVisible) parts → All (All IsVisible) (onto_first b parts)
 front-visible b [] v h = All-cons (All IsVisible) (b ∷ []) [] (All-cons IsVisible b [] v (none-of _)) (none-of _)

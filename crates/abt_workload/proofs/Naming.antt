@@ -3,6 +3,7 @@ use Rattle.std.proofs.Common.{◌≡◌, ◌<◌, ◌-◌, ◌^◌, ℕ, true, L
 use Rattle.std.specs.List.{list_all}
 use Rattle.std.proofs.lemmas.List.{length-replicate}
 use Rattle.std.specs.Bool.{⊤}
+use Rattle.std.proofs.lemmas.Bool.{leb-true, ltb-true}
 use Rattle.abt_machine.specs.declared.grammar.Format.{Format}
 use Rattle.abt_machine.specs.declared.grammar.Number.{Number}
 use Rattle.abt_machine.specs.declared.grammar.Number.TheVariants as number
@@ -11,13 +12,12 @@ use Rattle.abt_machine.specs.declared.operations.Op.TheVariants as op
 use Rattle.abt_machine.specs.declared.workload.Parts.{Parts}
 use Rattle.abt_machine.specs.declared.workload.UnitPart.{UnitPart}
 use Rattle.abt_machine.specs.Declaring.{Above, at, op_later, op_with}
-use Rattle.abt_machine.specs.Faults.{is_there, is_within}
+use Rattle.abt_machine.specs.Faults.{is_there, is_within, valued, values}
 use Rattle.abt_machine.specs.Forms.{fits, numerals, op_slots}
 use Rattle.abt_machine.specs.Operations.{IsBarrier, IsDeclared, IsEventual, IsFuture, IsMutex, IsRwLock, said_by}
 use Rattle.abt_machine.specs.Words.{Text}
 use Rattle.abt_machine.specs.Workloads.{IsCondition}
-use Rattle.abt_workload.specs.Slots.{numbered, values}
-use Rattle.abt_workload.proofs.Bounds.{barrier-there, condition-there, eventual-there, future-there, le-from, lt-from, mutex-there, rwlock-there}
+use Rattle.abt_workload.proofs.Bounds.{barrier-there, condition-there, eventual-there, future-there, mutex-there, rwlock-there}
 use Rattle.abt_workload.proofs.Places.{and-right, at-kind, kinds}
 use Rattle.abt_workload.proofs.Proper.{counted, muted}
 
@@ -51,30 +51,30 @@ module _ (a : Above) where
   named number.NewSched n e = tt
   named number.NewObject n e = tt
   named number.NewUnit n e = tt
-  named number.Stream n e = lt-from n _ e
-  named number.Pool n e = lt-from n _ e
-  named number.Sched n e = lt-from n _ e
-  named number.Key n e = lt-from n _ e
-  named number.Unit n e = let lt = lt-from n _ e in rw length-replicate lt
-  named number.Mutex n e = mutex-there a.objects n e
-  named number.Cond n e = condition-there a.objects n e
-  named number.Eventual n e = eventual-there a.objects n e
-  named number.Future n e = future-there a.objects n e
-  named number.Barrier n e = barrier-there a.objects n e
-  named number.RwLock n e = rwlock-there a.objects n e
+  named number.Stream n e = ltb-true n _ e
+  named number.Pool n e = ltb-true n _ e
+  named number.Sched n e = ltb-true n _ e
+  named number.Key n e = ltb-true n _ e
+  named number.Unit n e = let lt = ltb-true n _ e in rw length-replicate lt
+  named number.Mutex n e = mutex-there (slice_get a.objects n) e
+  named number.Cond n e = condition-there (slice_get a.objects n) e
+  named number.Eventual n e = eventual-there (slice_get a.objects n) e
+  named number.Future n e = future-there (slice_get a.objects n) e
+  named number.Barrier n e = barrier-there (slice_get a.objects n) e
+  named number.RwLock n e = rwlock-there (slice_get a.objects n) e
 
 pub any-fits : (F : Format) (n : ℕ) → is_within F (number.Within 0 (2 ^ 64 - 1)) n ≡ true → n < 2 ^ 64
-any-fits F n e = let le = le-from n (2 ^ 64 - 1) (and-right (nat_le 0 n) (nat_le n (2 ^ 64 - 1)) e) in omega arith
+any-fits F n e = let le = leb-true n (2 ^ 64 - 1) (and-right (nat_le 0 n) (nat_le n (2 ^ 64 - 1)) e) in omega arith
 
 -- the numbers of an operation's words
 abbrev pub op_values : Op → List Text → List ℕ
-op_values o words = values (numbered (numerals (op_slots o) words))
+op_values o words = values (valued (numerals (op_slots o) words))
 
 -- the words of an operation, whose numbers are sound
 pub record IsSoundOp (a : Above) (o : Op) (words : List Text) : Type 0 where
   pub op_fits : fits (op_slots o) words ≡ true
-  pub there : list_all (λ p. is_there a p.0 p.1) (numbered (numerals (op_slots o) words)) ≡ true
-  pub within : list_all (λ p. is_within a.format p.0 p.1) (numbered (numerals (op_slots o) words)) ≡ true
+  pub there : list_all (λ p. is_there a p.0 p.1) (valued (numerals (op_slots o) words)) ≡ true
+  pub within : list_all (λ p. is_within a.format p.0 p.1) (valued (numerals (op_slots o) words)) ≡ true
 
 module _ {a : Above} {words : List Text} (o : Op) (s : IsSoundOp a o words) where
   op-there : (k : ℕ) (kind : Number) → slice_get (kinds (op_slots o)) k ≡ Some kind → is_there a kind (at (op_values o words) k) ≡ true

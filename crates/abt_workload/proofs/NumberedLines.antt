@@ -1,19 +1,18 @@
 -- Lines whose numbers are in order are taken.
 use Rattle.std.proofs.Common.{◌≡◌, ◌∙◌, ℕ, Bool, true, false, List, [], ◌∷◌, All, Some, None, ap, decimal, map, refl, subst}
 use Rattle.std.specs.List.{list_all}
+use Rattle.std.proofs.lemmas.Bool.{and_from}
 use Rattle.abt_machine.specs.declared.grammar.Form.{Form}
 use Rattle.abt_machine.specs.declared.grammar.Number.{Number}
 use Rattle.abt_machine.specs.Declaring.{Above}
-use Rattle.abt_machine.specs.Faults.{blocks_task, is_barred, is_beyond, is_early, is_misplaced, is_no_version, is_past_limit, is_skipped, is_there, is_twice, is_within, numbers_of, values_of}
+use Rattle.abt_machine.specs.Faults.{blocks_task, is_barred, is_beyond, is_early, is_misplaced, is_no_version, is_past_limit, is_skipped, is_there, is_twice, is_within, numbers_of, valued, values, values_of}
 use Rattle.abt_machine.specs.Forms.{form_of, numerals, slots}
 use Rattle.abt_machine.specs.Spelling.{is_number, value_of}
 use Rattle.abt_machine.specs.Valid.{IsWord}
 use Rattle.abt_machine.specs.Words.{Text}
 use Rattle.abt_workload.specs.Declarable.{with_line}
 use Rattle.abt_workload.specs.Judging.{later_fault}
-use Rattle.abt_workload.specs.Slots.{numbered, values}
 use Rattle.abt_workload.proofs.Fitting.{AreFit, IsFit}
-use Rattle.abt_workload.proofs.Places.{and-both}
 use Rattle.abt_workload.proofs.Taking.{Takes, decimal-number, decimal-value, taken}
 
 -- numbers as their digits
@@ -35,21 +34,21 @@ module _ (a : Above) where
   -- the digits of numbers that may stand in a line are numbers
   all-numbers : (ps : List (Number × ℕ)) → AreFit a ps → list_all (λ (p : Number × Text). is_number p.1) (spelled ps) ≡ true
   all-numbers [] h = refl
-  all-numbers (p ∷ ps) h = and-both (is_number (decimal p.1)) _ (decimal-number p.1 h.0.small) (all-numbers ps h.1)
+  all-numbers (p ∷ ps) h = and_from (is_number (decimal p.1)) _ (decimal-number p.1 h.0.small) (all-numbers ps h.1)
 
   -- their digits say them
-  all-read : (ps : List (Number × ℕ)) → AreFit a ps → numbered (spelled ps) ≡ ps
+  all-read : (ps : List (Number × ℕ)) → AreFit a ps → valued (spelled ps) ≡ ps
   all-read [] h = refl
   all-read (p ∷ ps) h =
       let here : value_of (decimal p.1) ≡ p.1 = decimal-value p.1 h.0.small in
-      let rest : numbered (spelled ps) ≡ ps = all-read ps h.1 in
-      ap (λ (n : ℕ). (p.0, n) ∷ numbered (spelled ps)) here ∙ ap (λ (qs : List (Number × ℕ)). p ∷ qs) rest
+      let rest : valued (spelled ps) ≡ ps = all-read ps h.1 in
+      ap (λ (n : ℕ). (p.0, n) ∷ valued (spelled ps)) here ∙ ap (λ (qs : List (Number × ℕ)). p ∷ qs) rest
 
   -- what holds of each holds of all
   all-hold : (P : Number → ℕ → Bool) → ((kind : Number) (n : ℕ) → IsFit a kind n → P kind n ≡ true) → (ps : List (Number × ℕ)) → AreFit a ps
       → list_all (λ (p : Number × ℕ). P p.0 p.1) ps ≡ true
   all-hold P each [] h = refl
-  all-hold P each (p ∷ ps) h = and-both (P p.0 p.1) _ (each p.0 p.1 h.0) (all-hold P each ps h.1)
+  all-hold P each (p ∷ ps) h = and_from (P p.0 p.1) _ (each p.0 p.1 h.0) (all-hold P each ps h.1)
 
   -- a line of these numbers is taken if it has a form, and no other fault
   pub line-taken : (b : Above) (words : List Text) (f : Form) (ps : List (Number × ℕ)) → All IsWord words → is_skipped words ≡ false
@@ -58,7 +57,7 @@ module _ (a : Above) where
   line-taken b words f ps written kept formed numbers fit fine is =
       let there = all-hold (is_there a) (λ kind n h. h.there) ps fit in
       let within = all-hold (is_within a.format) (λ kind n h. h.within) ps fit in
-      let read : numbers_of f words ≡ ps = ap numbered numbers ∙ all-read ps fit in
+      let read : numbers_of f words ≡ ps = ap valued numbers ∙ all-read ps fit in
       let digits : list_all (λ (p : Number × Text). is_number p.1) (numerals (slots f) words) ≡ true =
       ap (list_all (λ (p : Number × Text). is_number p.1)) numbers ∙ all-numbers ps fit in
       let sound : later_fault a f words ps ≡ None = rw (fine.once, there, fine.beyond, within, fine.limit, fine.task, fine.access, fine.early) refl in

@@ -14,18 +14,18 @@ use Rattle.abt_machine.specs.declared.operations.Op.{Op}
 use Rattle.abt_machine.specs.declared.operations.Op.TheVariants as op
 use Rattle.abt_machine.specs.declared.workload.Parts.{Parts}
 use Rattle.abt_machine.specs.declared.workload.UnitPart.{UnitPart}
-use Rattle.abt_machine.specs.Canonical.{op_numbers, op_word, op_words, word_at}
+use Rattle.abt_machine.specs.Canonical.{op_numbers, op_word, op_words, word_of}
 use Rattle.abt_machine.specs.Declaring.{Above, body_and, op_with, said_in, unit_and}
-use Rattle.abt_machine.specs.Faults.{has_no_room, is_long_word, is_task_body}
+use Rattle.abt_machine.specs.Faults.{has_no_room, is_long_word, is_task_body, values}
 use Rattle.abt_machine.specs.Forms.{op_slots}
+use Rattle.abt_machine.specs.Limits.{operation_limit, unit_operation_limit}
 use Rattle.abt_machine.specs.Operations.{IsDeclared, may_block, said_by}
 use Rattle.abt_machine.specs.Valid.{IsValid, words_said}
 use Rattle.abt_machine.specs.Words.{Text}
 use Rattle.abt_machine.specs.Workloads.{all_ops, is_sched, ops_of}
-use Rattle.abt_workload.specs.Slots.{values}
 use Rattle.abt_workload.proofs.Filled.{given, takes}
 use Rattle.abt_workload.proofs.Fitting.{AreMet, all-fit}
-use Rattle.abt_workload.proofs.OperationForms.{IsFormed, formed, op-met, op_form}
+use Rattle.abt_workload.proofs.OperationForms.{IsFormed, formed, op-met}
 use Rattle.abt_workload.proofs.Places.{or-both}
 use Rattle.abt_workload.proofs.Proper.{none-of}
 use Rattle.abt_workload.proofs.Reaching.{reached, reached-small}
@@ -33,32 +33,32 @@ use Rattle.abt_workload.proofs.Taking.{Takes, TakesAll}
 
 module _ (F : Format) (W : Parts) (v : IsValid W) (units : List UnitPart) where
   -- there is room for one operation more
-  room-here : (part : UnitPart) (before said : List ℕ) → length (ops_of part.body) < 256 → length (all_ops units) + length (ops_of part.body) < 65536 → has_no_room (reached F W 9 units (Some part) before said) 1 ≡ false
+  room-here : (part : UnitPart) (before said : List ℕ) → length (ops_of part.body) < unit_operation_limit → length (all_ops units) + length (ops_of part.body) < operation_limit → has_no_room (reached F W 9 units (Some part) before said) 1 ≡ false
   room-here part before said few room =
       let ops : all_ops (units ++ part ∷ []) ≡ all_ops units ++ (ops_of part.body ++ []) = flat_map-append (λ (p : UnitPart). ops_of p.body) units (part ∷ []) in
       let count : length (all_ops units ++ (ops_of part.body ++ [])) ≡ length (all_ops units) + length (ops_of part.body ++ []) = length-append (all_ops units) _ in
       let alone : length (ops_of part.body ++ []) ≡ length (ops_of part.body) = ap length (append-nil (ops_of part.body)) in
       let all : length (all_ops (units ++ part ∷ [])) ≡ length (all_ops units) + length (ops_of part.body) = ap length ops ∙ (count ∙ ap (λ (n : ℕ). length (all_ops units) + n) alone) in
-      or-both (nat_lt 256 (length (ops_of part.body) + 1)) _ (le-ltb 256 (length (ops_of part.body) + 1) (omega arith)) (le-ltb 65536 (length (all_ops (units ++ part ∷ [])) + 1) (omega arith))
+      or-both (nat_lt unit_operation_limit (length (ops_of part.body) + 1)) _ (le-ltb unit_operation_limit (length (ops_of part.body) + 1) (omega arith)) (le-ltb operation_limit (length (all_ops (units ++ part ∷ [])) + 1) (omega arith))
 
   -- the line of an operation is taken below a unit's that may have one more
-  op-taken : (part : UnitPart) (before said : List ℕ) (o : Op) → is_sched part.body ≡ false → length (ops_of part.body) < 256 → length (all_ops units) + length (ops_of part.body) < 65536 → (is_task_body part.body && may_block o) ≡ false
+  op-taken : (part : UnitPart) (before said : List ℕ) (o : Op) → is_sched part.body ≡ false → length (ops_of part.body) < unit_operation_limit → length (all_ops units) + length (ops_of part.body) < operation_limit → (is_task_body part.body && may_block o) ≡ false
       → IsDeclared W o → All (λ w. w ≡ length before + length said) (said_by o)
       → Takes (reached F W 9 units (Some part) before said) (op_words W o) (reached F W 9 units (Some (unit_and o part)) before (said ++ said_by o))
-  op-taken part before said o no_sched few room task h next = by (op_form W o) (formed W v o h) (op-met F W units (Some part) before said o h)
+  op-taken part before said o no_sched few room task h next = by (op_with o 0 []) (formed W v o h) (op-met F W units (Some part) before said o h)
     where
       by : (f : Op) → IsFormed W o f → AreMet (reached F W 9 units (Some part) before said) (given (op_slots f) (op_numbers o))
           → Takes (reached F W 9 units (Some part) before said) (op_words W o) (reached F W 9 units (Some (unit_and o part)) before (said ++ said_by o))
       by f d met =
           let a : Above = reached F W 9 units (Some part) before said in
-          let texts : List ℕ → List Text = map (word_at W) in
+          let texts : List ℕ → List Text = map (word_of W) in
           let ns : List ℕ = values (given (op_slots f) (op_numbers o)) in
           let fits' : has_no_room a 1 ≡ false = room-here part before said few room in
           let short : is_long_word f (op_words W o) ≡ false = d.short in
-          let number : length (texts before) + length (texts said) ≡ length before + length said = let x = length-map before (word_at W) in let y = length-map said (word_at W) in omega arith in
+          let number : length (texts before) + length (texts said) ≡ length before + length said = let x = length-map before (word_of W) in let y = length-map said (word_of W) in omega arith in
           let made : op_with f (length (texts before) + length (texts said)) ns ≡ o = d.made _ (subst (λ (n : ℕ). All (λ w. w ≡ n) (said_by o)) (sym number) next) in
           let more : texts said ++ said_in f (op_words W o) ≡ texts (said ++ said_by o) =
-          ap (λ (ws : List Text). texts said ++ ws) d.said ∙ sym (map-append (word_at W) said (said_by o)) in
+          ap (λ (ws : List Text). texts said ++ ws) d.said ∙ sym (map-append (word_of W) said (said_by o)) in
           takes a (reached F W 9 units (Some (unit_and o part)) before (said ++ said_by o)) (form.Operation f) (op_word W o) (op_numbers o) (op_words W o) d.written
           (all-fit a (reached-small F W v 9 units (Some part) before said) (given (op_slots f) (op_numbers o)) met)
           record {
@@ -128,7 +128,7 @@ module _ (F : Format) (W : Parts) (v : IsValid W) (units : List UnitPart) (b : B
   after_ops ops said = reached F W 9 units (Some (with_ops ops)) before said
 
   -- the lines of a unit's operations are taken below those of the operations before them
-  pub ops-taken : (done ops : List Op) (said after : List ℕ) → length done + length ops ≤ 256 → length (all_ops units) + (length done + length ops) ≤ 65536 → (is_task_body b && list_any may_block ops) ≡ false
+  pub ops-taken : (done ops : List Op) (said after : List ℕ) → length done + length ops ≤ unit_operation_limit → length (all_ops units) + (length done + length ops) ≤ operation_limit → (is_task_body b && list_any may_block ops) ≡ false
       → All (IsDeclared W) ops
       → words_said W ≡ before ++ (said ++ (flat_map said_by ops ++ after))
       → TakesAll (after_ops done said) (map (op_words W) ops) (after_ops (done ++ ops) (said ++ flat_map said_by ops))

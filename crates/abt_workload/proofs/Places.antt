@@ -1,13 +1,14 @@
 -- The numbers at the places of a line.
 use Rattle.std.proofs.Common.{◌≡◌, ◌<◌, ◌+◌, ◌^◌, ◌&&◌, ◌||◌, ℕ, zero, suc, Bool, true, false, not, List, [], ◌∷◌, Some, add-one, ap, drop, map, nat_lt, refl, subst, arith, slice_get}
 use Rattle.std.specs.List.{list_all}
+use Rattle.std.proofs.lemmas.Bool.{and_from}
 use Rattle.abt_machine.specs.declared.grammar.Number.{Number}
 use Rattle.abt_machine.specs.declared.grammar.Number.TheVariants as number
 use Rattle.abt_machine.specs.Declaring.{at}
+use Rattle.abt_machine.specs.Faults.{valued, values}
 use Rattle.abt_machine.specs.Forms.{Slot, Fixed, KindWord, CombineWord, AnyWord, Numeral, PoolList, fits, numerals, suits}
 use Rattle.abt_machine.specs.Spelling.{value_of}
 use Rattle.abt_machine.specs.Words.{Text}
-use Rattle.abt_workload.specs.Slots.{numbered, values}
 
 pub and-left : (x y : Bool) → (x && y) ≡ true → x ≡ true
 and-left true y e = refl
@@ -16,10 +17,6 @@ and-left false y e = e
 pub and-right : (x y : Bool) → (x && y) ≡ true → y ≡ true
 and-right true y e = e
 and-right false y e = cc
-
-pub and-both : (x y : Bool) → x ≡ true → y ≡ true → (x && y) ≡ true
-and-both true y e f = f
-and-both false y e f = cc
 
 pub or-left : (x y : Bool) → (x || y) ≡ false → x ≡ false
 or-left true y e = cc
@@ -34,14 +31,10 @@ pub or-both : (x y : Bool) → x ≡ false → y ≡ false → (x || y) ≡ fals
 or-both true y e f = cc
 or-both false y e f = f
 
-pub not-false : (x : Bool) → not x ≡ false → x ≡ true
-not-false true e = refl
-not-false false e = cc
-
 pub all-both : {X : Type 0} (p q : X → Bool) (xs : List X) → list_all p xs ≡ true → list_all q xs ≡ true → list_all (λ x. p x && q x) xs ≡ true
 all-both p q [] e f = refl
 all-both p q (x ∷ xs) e f =
-    and-both (p x && q x) (list_all (λ y. p y && q y) xs) (and-both (p x) (q x) (and-left (p x) _ e) (and-left (q x) _ f)) (all-both p q xs (and-right (p x) _ e) (and-right (q x) _ f))
+    and_from (p x && q x) (list_all (λ y. p y && q y) xs) (and_from (p x) (q x) (and-left (p x) _ e) (and-left (q x) _ f)) (all-both p q xs (and-right (p x) _ e) (and-right (q x) _ f))
 
 -- what the numbers at a line's places are, up to a list of pools
 abbrev pub kinds : List Slot → List Number
@@ -53,7 +46,7 @@ kinds (slot ∷ places) = kinds places
 module _ (P : Number → ℕ → Bool) where
   -- what holds of each number with what it is, holds of the number at a place
   pub at-kind : (places : List Slot) (words : List Text) (k : ℕ) (kind : Number) → fits places words ≡ true → slice_get (kinds places) k ≡ Some kind
-      → list_all (λ p. P p.0 p.1) (numbered (numerals places words)) ≡ true → P kind (at (values (numbered (numerals places words))) k) ≡ true
+      → list_all (λ p. P p.0 p.1) (valued (numerals places words)) ≡ true → P kind (at (values (valued (numerals places words))) k) ≡ true
   at-kind [] words k kind f g h = cc
   at-kind (slot ∷ places) [] k kind f g h = cc
   at-kind (PoolList ∷ places) (w ∷ ws) k kind f g h = cc
@@ -85,7 +78,7 @@ is_small_at (Numeral n ∷ places) (suc k) = is_small_at places k
 is_small_at (slot ∷ places) k = is_small_at places k
 
 module _ (P : Number → ℕ → Bool) (small : (kind : Number) (n : ℕ) → is_big kind ≡ false → P kind n ≡ true → n < 2 ^ 32) where
-  pools-small : (words : List Text) (k : ℕ) → list_all (λ p. P p.0 p.1) (numbered (map (λ word. (number.Pool, word)) words)) ≡ true → at (values (numbered (map (λ word. (number.Pool, word)) words))) k < 2 ^ 32
+  pools-small : (words : List Text) (k : ℕ) → list_all (λ p. P p.0 p.1) (valued (map (λ word. (number.Pool, word)) words)) ≡ true → at (values (valued (map (λ word. (number.Pool, word)) words))) k < 2 ^ 32
   pools-small [] k h = omega arith
   pools-small (w ∷ ws) zero h = small number.Pool (value_of w) refl (and-left (P number.Pool (value_of w)) _ h)
   pools-small (w ∷ ws) (suc k) h = pools-small ws k (and-right (P number.Pool (value_of w)) _ h)
@@ -98,7 +91,7 @@ module _ (P : Number → ℕ → Bool) (small : (kind : Number) (n : ℕ) → is
       by false e = refl
 
   pub small-at : (places : List Slot) (words : List Text) (k : ℕ) → fits places words ≡ true → is_small_at places k ≡ true
-      → list_all (λ p. P p.0 p.1) (numbered (numerals places words)) ≡ true → at (values (numbered (numerals places words))) k < 2 ^ 32
+      → list_all (λ p. P p.0 p.1) (valued (numerals places words)) ≡ true → at (values (valued (numerals places words))) k < 2 ^ 32
   small-at [] words k f g h = omega arith
   small-at (slot ∷ places) [] k f g h = cc
   small-at (PoolList ∷ places) (w ∷ ws) k f g h = pools-small (w ∷ ws) k h

@@ -11,33 +11,25 @@ use Rattle.abt_machine.specs.declared.operations.Kind.TheVariants as kind
 use Rattle.abt_machine.specs.declared.workload.Parts.{Parts}
 use Rattle.abt_machine.specs.declared.workload.PoolPart.{PoolPart}
 use Rattle.abt_machine.specs.Canonical.{access_numbers, pool_line}
-use Rattle.abt_machine.specs.Declaring.{Above, pool_with}
+use Rattle.abt_machine.specs.Declaring.{Above, access_with, pool_with}
+use Rattle.abt_machine.specs.Faults.{values}
 use Rattle.abt_machine.specs.Forms.{kind_name, slots}
-use Rattle.abt_machine.specs.Numbers.{stream_no}
+use Rattle.abt_machine.specs.Limits.{pool_limit}
 use Rattle.abt_machine.specs.Valid.{IsAccess, IsValid}
 use Rattle.abt_machine.specs.Words.{numbered}
 use Rattle.abt_machine.proofs.Elements.{all-at}
-use Rattle.abt_workload.specs.Slots.{values}
-use Rattle.abt_workload.proofs.Filled.{IsWritten, given, takes}
+use Rattle.abt_workload.proofs.Filled.{IsWritten, blank, given, takes}
 use Rattle.abt_workload.proofs.Fitting.{AreMet, IsSmall, all-fit}
 use Rattle.abt_workload.proofs.Heads.{placing}
 use Rattle.abt_workload.proofs.InOrder.{front-shorter, get-here, placed-among, reached, section-taken}
 use Rattle.abt_workload.proofs.Taking.{Takes, TakesAll, plain-word}
-
--- an access as the table of forms has it
-abbrev form_access : Access → Access
-form_access (access.Priv s) = access.Priv (stream_no 0)
-form_access (access.Spsc s t) = access.Spsc (stream_no 0) (stream_no 0)
-form_access (access.Mpsc t) = access.Mpsc (stream_no 0)
-form_access (access.Spmc s) = access.Spmc (stream_no 0)
-form_access access.Mpmc = access.Mpmc
 
 -- what is declared while pools are
 abbrev pub pooling : Format → ℕ → ℕ → ℕ → List PoolPart → Above
 pooling F section streams keys pools = placing F section streams keys pools [] (replicate streams None) []
 
 -- a pool's line is written of its form
-written : (p : ℕ) (k : Kind) (x : Access) → IsWritten (form.Pool (form_access x)) (kind_name k) (p ∷ access_numbers x) (pool_line p (record { kind = k; access = x }))
+written : (p : ℕ) (k : Kind) (x : Access) → IsWritten (blank (form.Pool x)) (kind_name k) (p ∷ access_numbers x) (pool_line p (record { kind = k; access = x }))
 written p kind.Fifo (access.Priv s) = record { words_are = refl; form_is = refl; skipped = refl; plain = refl; chosen = λ _. plain-word (kind_name kind.Fifo) refl }
 written p kind.Fifo _ = record { words_are = refl; form_is = refl; skipped = refl; plain = refl; chosen = λ _. plain-word (kind_name kind.Fifo) refl }
 written p kind.Deque (access.Priv s) = record { words_are = refl; form_is = refl; skipped = refl; plain = refl; chosen = λ _. plain-word (kind_name kind.Deque) refl }
@@ -45,13 +37,13 @@ written p kind.Deque _ = record { words_are = refl; form_is = refl; skipped = re
 
 -- the numbers of a line are in order
 met : (F : Format) (W : Parts) (section : ℕ) (front : List PoolPart) (x : Access) → IsAccess W.streams x
-    → AreMet (pooling F section W.streams W.keys front) (given (slots (form.Pool (form_access x))) (length front ∷ access_numbers x))
+    → AreMet (pooling F section W.streams W.keys front) (given (slots (blank (form.Pool x))) (length front ∷ access_numbers x))
 met F W section front access.Mpmc h = refl
 met F W section front _ h = (refl, h)
 
 -- the line says the pool
 part-again : (p : ℕ) (k : Kind) (x : Access)
-    → pool_with (form_access x) (pool_line p (record { kind = k; access = x })) (values (given (slots (form.Pool (form_access x))) (p ∷ access_numbers x)))
+    → pool_with (access_with x []) (pool_line p (record { kind = k; access = x })) (values (given (slots (blank (form.Pool x))) (p ∷ access_numbers x)))
     ≡ record { kind = k; access = x }
 part-again p kind.Fifo (access.Priv s) = refl
 part-again p kind.Fifo _ = refl
@@ -64,10 +56,10 @@ pool-taken : (F : Format) (W : Parts) → IsValid W → (section : ℕ) → sect
 pool-taken F W v section le front part rest e =
     let a : Above = pooling F section W.streams W.keys front in
     let p : ℕ = length front in
-    let f : Form = form.Pool (form_access part.access) in
+    let f : Form = blank (form.Pool part.access) in
     let ns : List ℕ = p ∷ access_numbers part.access in
     let lt : p < length W.pools = front-shorter front part rest W.pools e in
-    let few : length W.pools ≤ 64 = v.few_pools in
+    let few : length W.pools ≤ pool_limit = v.few_pools in
     let h : IsAccess W.streams part.access = all-at (λ (q : PoolPart). IsAccess W.streams q.access) W.pools v.pools p part (get-here front part rest W.pools e) in
     let small : IsSmall a = record { streams = v.few_streams; keys = v.few_keys; pools = omega arith; scheds = omega arith; objects = omega arith; units = omega arith } in
     takes a (pooling F 4 W.streams W.keys (front ++ part ∷ [])) f (kind_name part.kind) ns (pool_line p part)
@@ -78,7 +70,7 @@ pool-taken F W v section le front part rest e =
       placed = placed-among a f le (omega arith) refl refl;
       once = le-ltb p p (omega arith);
       beyond = refl;
-      limit = lt-leb 64 p (omega arith);
+      limit = lt-leb pool_limit p (omega arith);
       task = refl;
       access = refl;
       early = refl;

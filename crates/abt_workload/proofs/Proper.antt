@@ -2,6 +2,7 @@
 use Rattle.std.proofs.Common.{◌≡◌, ◌≢◌, ◌<◌, ◌≤◌, ◌+◌, ◌*◌, ℕ, Bool, true, false, List, [], ◌++◌, All, Option, Some, None, IfSome, arith, flat_map, is_none, length, map, option_to_list, refl, replicate, slice_get, unwrap_or}
 use Rattle.std.specs.List.{AllPairs, list_all, list_any, range_with_len}
 use Rattle.abt_machine.specs.declared.grammar.Form.{Form}
+use Rattle.abt_machine.specs.declared.grammar.Format.TheVariants as format
 use Rattle.abt_machine.specs.declared.numbers.PoolNo.{PoolNo}
 use Rattle.abt_machine.specs.declared.numbers.SchedNo.{SchedNo}
 use Rattle.abt_machine.specs.declared.operations.Body.TheVariants as body
@@ -15,6 +16,7 @@ use Rattle.abt_machine.specs.declared.workload.UnitPart.{UnitPart}
 use Rattle.abt_machine.specs.Access.{takes}
 use Rattle.abt_machine.specs.Declaring.{Above, declared_units, nothing, parts_of}
 use Rattle.abt_machine.specs.Faults.{values_of}
+use Rattle.abt_machine.specs.Limits.{key_limit, object_limit, operation_limit, pool_limit, sched_limit, stream_limit, unit_limit, unit_operation_limit}
 use Rattle.abt_machine.specs.Operations.{IsDeclared, said_by}
 use Rattle.abt_machine.specs.Valid.{IsAccess, IsBody, IsSched, IsThing, IsWord, sched_in}
 use Rattle.abt_machine.specs.Words.{Text}
@@ -45,20 +47,20 @@ muted o = o
 -- a unit of this workload, but for the words that its operations say
 pub record IsUnitIn (W : Parts) (part : UnitPart) : Type 0 where
   pub kind : IsBody (length W.scheds) part.body
-  pub few_ops : length (ops_of part.body) ≤ 256
+  pub few_ops : length (ops_of part.body) ≤ unit_operation_limit
   pub ops : All (λ o. IsDeclared W (muted o)) (ops_of part.body)
   pub start : IfSome part.start (λ (p : PoolNo). p.0 < length W.pools)
 
 pub record HasStreams (streams : Option ℕ) : Type 0 where
   pub low : (n : ℕ) → streams ≡ Some n → 0 < n
-  pub high : unwrap_or streams 0 ≤ 16
+  pub high : unwrap_or streams 0 ≤ stream_limit format.Two
 
 pub record HasPools (streams : ℕ) (pools : List PoolPart) : Type 0 where
-  pub few : length pools ≤ 64
+  pub few : length pools ≤ pool_limit
   pub all : All (λ (part : PoolPart). IsAccess streams part.access) pools
 
 pub record HasScheds (pools : ℕ) (scheds : List SchedPart) : Type 0 where
-  pub few : length scheds ≤ 64
+  pub few : length scheds ≤ sched_limit
   pub all : All (IsSched pools) scheds
 
 -- stream s may take from each pool of scheduler g
@@ -71,11 +73,11 @@ pub record HasMains (streams : ℕ) (pools : List PoolPart) (scheds : List Sched
   pub taking : (s : ℕ) (g : SchedNo) → slice_get mains s ≡ Some (Some g) → takes_all pools scheds s g.0 ≡ true
 
 pub record HasObjects (objects : List Thing) : Type 0 where
-  pub few : length objects ≤ 256
+  pub few : length objects ≤ object_limit
   pub all : (x : ℕ) (t : Thing) → slice_get objects x ≡ Some t → IsThing objects x t
 
 pub record HasUnits (W : Parts) (count : ℕ) (units : List UnitPart) (last : Option UnitPart) (copies : ℕ) : Type 0 where
-  pub few : count ≤ 4096
+  pub few : count ≤ unit_limit format.Two
   pub declared : length units + last_count copies last ≤ count
   pub all : All (IsUnitIn W) (units ++ option_to_list last)
   pub copied : AreCopies copies last
@@ -106,14 +108,14 @@ placed a = map (λ (g : SchedNo). g.0) (flat_map option_to_list a.mains) ++ flat
 
 pub record IsProper (a : Above) : Type 0 where
   pub streams : HasStreams a.streams
-  pub keys : a.keys ≤ 16
+  pub keys : a.keys ≤ key_limit
   pub pools : HasPools (stream_count a) a.pools
   pub scheds : HasScheds (length a.pools) a.scheds
   pub mains : HasMains (stream_count a) a.pools a.scheds a.mains
   pub places : AllPairs (λ x y. x ≢ y) (placed a)
   pub objects : HasObjects a.objects
   pub units : AreUnits a
-  pub few_ops : length (all_ops a.units) + a.copies * op_count a.last ≤ 65536
+  pub few_ops : length (all_ops a.units) + a.copies * op_count a.last ≤ operation_limit
   pub said : said_by_units a.units ≡ range_with_len 0 (length a.words)
   pub last_said : flat_map said_by (last_ops a.last) ≡ range_with_len (length a.words) (length a.said)
   pub words : All IsWord a.words

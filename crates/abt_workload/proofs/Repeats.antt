@@ -9,8 +9,7 @@ use Rattle.std.specs.List.{list_any}
 use Rattle.std.proofs.lemmas.List.{length-map}
 use Rattle.std.proofs.Math.ListN.{get_or-map}
 use Rattle.abt_machine.specs.declared.grammar.Number.{Number}
-use Rattle.abt_machine.specs.Faults.{has_repeated}
-use Rattle.abt_workload.specs.Slots.{values}
+use Rattle.abt_machine.specs.Faults.{has_repeated, values}
 
 -- a number that stands twice in the rest of a list stands twice in it
 pub repeated-drop : (k : ℕ) (ns : List ℕ) → has_repeated (drop k ns) ≡ true → has_repeated ns ≡ true

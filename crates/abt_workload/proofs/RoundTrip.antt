@@ -1,12 +1,12 @@
 -- Valid parts are those that texts read to.
 use Rattle.std.proofs.Common.{inl, inr, ◌⊎◌, ◌≡◌, ◌<◌, ◌≤◌, ◌+◌, ◌==◌, ◌&&◌, ◌∙◌, ℕ, zero, suc, Bool, true, false, List, [], ◌∷◌, ◌++◌, All, Some, None, ap, append_assoc, arith, find, fold, get_or, length, map, nat_le, nat_lt, refl, subst, sym, take}
-use Rattle.std.proofs.lemmas.Bool.{cases_lt, le-ltb}
+use Rattle.std.proofs.lemmas.Bool.{cases_lt, le-ltb, leb-true}
 use Rattle.std.proofs.lemmas.List.Elements.{All-cons}
 use Rattle.abt_machine.specs.declared.grammar.Form.TheVariants as form
 use Rattle.abt_machine.specs.declared.grammar.Format.{Format}
 use Rattle.abt_machine.specs.declared.grammar.Format.TheVariants as format
 use Rattle.abt_machine.specs.declared.workload.Parts.{Parts}
-use Rattle.abt_machine.specs.Canonical.{canonical_text, form_words, has_text, text_in, workload_lines}
+use Rattle.abt_machine.specs.Canonical.{canonical_text, first_lines, form_words, has_text, text_in, units_words, workload_lines}
 use Rattle.abt_machine.specs.Declaring.{Above, declared_units, nothing, parts_of}
 use Rattle.abt_machine.specs.Faults.{faults, is_early, line_fault}
 use Rattle.abt_machine.specs.Grammar.{Reads, and_line, declared_by, fault_at, format_of, has_at}
@@ -14,11 +14,10 @@ use Rattle.abt_machine.specs.Limits.{stream_limit, text_limit, unit_limit}
 use Rattle.abt_machine.specs.Spelling.{lines_of}
 use Rattle.abt_machine.specs.Valid.{IsValid, IsWord}
 use Rattle.abt_machine.specs.Words.{Text, line_of, text_of}
-use Rattle.abt_workload.proofs.Bounds.{le-from}
 use Rattle.abt_workload.proofs.Filled.{takes}
 use Rattle.abt_workload.proofs.Firm.{valid-end}
 use Rattle.abt_workload.proofs.HeadLines.{head-taken}
-use Rattle.abt_workload.proofs.Heads.{first_lines, head, head_lines, units_lines, units_words}
+use Rattle.abt_workload.proofs.Heads.{head, head_lines, units_lines}
 use Rattle.abt_workload.proofs.InOrder.{placed-alone}
 use Rattle.abt_workload.proofs.Places.{and-left, and-right}
 use Rattle.abt_workload.proofs.Proper.{none-of}
@@ -131,10 +130,11 @@ reads-canonical W v = by (has_text format.One W) refl
   where
     by : (b : Bool) → has_text format.One W ≡ b → Reads (canonical_text W) W
     by true e =
-        let counts : (nat_le W.streams 8 && nat_le (length W.units) 256) ≡ true = and-left (nat_le W.streams 8 && nat_le (length W.units) 256) _ e in
+        let streams : Bool = nat_le W.streams (stream_limit format.One) in
+        let units : Bool = nat_le (length W.units) (unit_limit format.One) in
+        let counts : (streams && units) ≡ true = and-left (streams && units) _ e in
         subst (λ (t : Text). Reads t W) (canonical-one W e)
-        (reads-in format.One W v (le-from W.streams 8 (and-left (nat_le W.streams 8) _ counts)) (le-from (length W.units) 256 (and-right (nat_le W.streams 8) _ counts))
-        (le-from (length (text_in format.One W)) 4194304 (and-right (nat_le W.streams 8 && nat_le (length W.units) 256) _ e)))
+        (reads-in format.One W v (leb-true _ _ (and-left streams _ counts)) (leb-true _ _ (and-right streams _ counts)) (leb-true _ _ (and-right (streams && units) _ e)))
     by false e = subst (λ (t : Text). Reads t W) (canonical-two W e) (reads-in format.Two W v v.few_streams v.few_units (text-fits W v format.Two))
 
 -- The other direction.

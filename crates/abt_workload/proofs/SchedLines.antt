@@ -16,27 +16,20 @@ use Rattle.abt_machine.specs.declared.workload.Parts.{Parts}
 use Rattle.abt_machine.specs.declared.workload.PoolPart.{PoolPart}
 use Rattle.abt_machine.specs.declared.workload.SchedPart.{SchedPart}
 use Rattle.abt_machine.specs.Canonical.{sched_line, rule_numbers}
-use Rattle.abt_machine.specs.Declaring.{Above, at, listed, sched_with}
-use Rattle.abt_machine.specs.Faults.{has_repeated}
+use Rattle.abt_machine.specs.Declaring.{Above, listed, rule_with, sched_with}
+use Rattle.abt_machine.specs.Faults.{has_repeated, values}
 use Rattle.abt_machine.specs.Forms.{rule_slots, slots}
+use Rattle.abt_machine.specs.Limits.{listed_limit, sched_limit}
 use Rattle.abt_machine.specs.Numbers.{pool_no}
 use Rattle.abt_machine.specs.Valid.{IsRule, IsSched, IsValid}
 use Rattle.abt_machine.specs.Words.{numbered}
 use Rattle.abt_machine.proofs.Elements.{all-at, pairs-map}
-use Rattle.abt_workload.specs.Slots.{values}
-use Rattle.abt_workload.proofs.Filled.{IsWritten, as_pools, given, takes}
+use Rattle.abt_workload.proofs.Filled.{IsWritten, as_pools, blank, given, takes}
 use Rattle.abt_workload.proofs.Fitting.{AreFit, IsSmall, fit, fit-within}
 use Rattle.abt_workload.proofs.Heads.{placing}
 use Rattle.abt_workload.proofs.InOrder.{front-shorter, get-here, placed-among, reached, section-taken}
 use Rattle.abt_workload.proofs.Places.{or-both}
 use Rattle.abt_workload.proofs.Taking.{Takes, TakesAll}
-
--- a rule as the table of forms has it
-abbrev form_rule : Rule → Rule
-form_rule rule.Basic = rule.Basic
-form_rule rule.Prio = rule.Prio
-form_rule (rule.Randws seed) = rule.Randws 0
-form_rule (rule.User k) = rule.User 0
 
 -- the pools that a scheduler lists
 abbrev pools_in : List PoolNo → List ℕ
@@ -53,7 +46,7 @@ scheduling F section streams keys pools scheds = placing F section streams keys 
 -- What a line says.
 
 -- a line's numbers end with its pools
-listed-again : (g : ℕ) (r : Rule) (ps : List ℕ) → listed (form_rule r) (numbers_in g r ps) ≡ ps
+listed-again : (g : ℕ) (r : Rule) (ps : List ℕ) → listed (rule_with r []) (numbers_in g r ps) ≡ ps
 listed-again g rule.Basic ps = refl
 listed-again g _ ps = refl
 
@@ -63,13 +56,13 @@ pools-again [] = refl
 pools-again (p ∷ ps) = ap (λ (qs : List PoolNo). p ∷ qs) (pools-again ps)
 
 -- the numbers and the form say the scheduler
-part-again : (g : ℕ) (r : Rule) (ps : List PoolNo) → sched_with (form_rule r) (numbers_in g r (pools_in ps)) ≡ record { rule = r; pools = ps }
+part-again : (g : ℕ) (r : Rule) (ps : List PoolNo) → sched_with (rule_with r []) (numbers_in g r (pools_in ps)) ≡ record { rule = r; pools = ps }
 part-again g rule.Basic ps = ap (λ (qs : List PoolNo). record { rule = rule.Basic; pools = qs }) (pools-again ps)
 part-again g r ps = ap (λ (qs : List PoolNo). record { rule = r; pools = qs }) (pools-again ps)
 
 -- a scheduler's line, which lists a pool, is written of its form
 written : (g : ℕ) (r : Rule) (ps : List PoolNo) → 0 < length ps
-    → IsWritten (form.Sched (form_rule r)) [] (numbers_in g r (pools_in ps)) (sched_line g (record { rule = r; pools = ps }))
+    → IsWritten (blank (form.Sched r)) [] (numbers_in g r (pools_in ps)) (sched_line g (record { rule = r; pools = ps }))
 written g r [] some = absurd (omega arith)
 written g rule.Basic (p ∷ ps) some = record { words_are = refl; form_is = refl; skipped = refl; plain = refl; chosen = λ e. cc }
 written g _ (p ∷ ps) some = record { words_are = refl; form_is = refl; skipped = refl; plain = refl; chosen = λ e. cc }
@@ -82,7 +75,7 @@ pools-read [] = refl
 pools-read (p ∷ ps) = ap (λ (ms : List ℕ). p ∷ ms) (pools-read ps)
 
 -- and so are all numbers of a line
-numbers-read : (g : ℕ) (r : Rule) (ps : List ℕ) → values (given (slots (form.Sched (form_rule r))) (numbers_in g r ps)) ≡ numbers_in g r ps
+numbers-read : (g : ℕ) (r : Rule) (ps : List ℕ) → values (given (slots (blank (form.Sched r))) (numbers_in g r ps)) ≡ numbers_in g r ps
 numbers-read g rule.Basic ps = ap (λ (ms : List ℕ). g ∷ ms) (pools-read ps)
 numbers-read g rule.Prio ps = ap (λ (ms : List ℕ). g ∷ ms) (pools-read ps)
 numbers-read g (rule.Randws seed) ps = ap (λ (ms : List ℕ). g ∷ seed ∷ ms) (pools-read ps)
@@ -95,7 +88,7 @@ module _ (a : Above) (small : IsSmall a) where
   pools-fit (p ∷ ps) h = (fit a small number.Pool p (All-head (λ q. q < length a.pools) p ps h), pools-fit ps (All-tail (λ q. q < length a.pools) p ps h))
 
   -- so may a rule's number before them
-  rule-fit : (r : Rule) (ps : List ℕ) → IsRule r → All (λ p. p < length a.pools) ps → AreFit a (given (rule_slots (form_rule r)) (rule_numbers r ++ ps))
+  rule-fit : (r : Rule) (ps : List ℕ) → IsRule r → All (λ p. p < length a.pools) ps → AreFit a (given (rule_slots (rule_with r [])) (rule_numbers r ++ ps))
   rule-fit (rule.Randws seed) ps h there = (fit-within a 0 (2 ^ 64 - 1) seed (omega arith) (omega arith) h, pools-fit ps there)
   rule-fit (rule.User k) ps h there = (fit-within a 0 1 k (omega arith) (omega arith) (omega arith), pools-fit ps there)
   rule-fit _ ps h there = pools-fit ps there
@@ -116,17 +109,17 @@ sched-taken : (F : Format) (W : Parts) → IsValid W → (section : ℕ) → sec
 sched-taken F W v section le front part rest e =
     let a : Above = scheduling F section W.streams W.keys W.pools front in
     let g : ℕ = length front in
-    let f : Form = form.Sched (form_rule part.rule) in
+    let f : Form = blank (form.Sched part.rule) in
     let ps : List ℕ = pools_in part.pools in
     let lt : g < length W.scheds = front-shorter front part rest W.scheds e in
-    let few : length W.scheds ≤ 64 = v.few_scheds in
+    let few : length W.scheds ≤ sched_limit = v.few_scheds in
     let h : IsSched (length W.pools) part = all-at (IsSched (length W.pools)) W.scheds v.scheds g part (get-here front part rest W.scheds e) in
     let there : All (λ p. p < length W.pools) ps = All-map (λ p. p < length W.pools) (λ (p : PoolNo). p.0) part.pools h.listed in
     let small : IsSmall a = record { streams = v.few_streams; keys = v.few_keys; pools = v.few_pools; scheds = omega arith; objects = omega arith; units = omega arith } in
     let read : values (given (slots f) (numbers_in g part.rule ps)) ≡ numbers_in g part.rule ps = numbers-read g part.rule ps in
-    let pools : listed (form_rule part.rule) (values (given (slots f) (numbers_in g part.rule ps))) ≡ ps =
-    ap (listed (form_rule part.rule)) read ∙ listed-again g part.rule ps in
-    let few_listed : length ps ≤ 8 = let most = h.few_pools in rw length-map most in
+    let pools : listed (rule_with part.rule []) (values (given (slots f) (numbers_in g part.rule ps))) ≡ ps =
+    ap (listed (rule_with part.rule [])) read ∙ listed-again g part.rule ps in
+    let few_listed : length ps ≤ listed_limit = let most = h.few_pools in rw length-map most in
     takes a (scheduling F 5 W.streams W.keys W.pools (front ++ part ∷ [])) f [] (numbers_in g part.rule ps) (sched_line g part)
     (written g part.rule part.pools h.some_pool)
     (fit a small number.NewSched g refl, rule-fit a small part.rule ps h.rule there)
@@ -135,13 +128,13 @@ sched-taken F W v section le front part rest e =
       placed = placed-among a f le (omega arith) refl refl;
       once = or-both (nat_lt g g) _ (le-ltb g g (omega arith)) (ap has_repeated pools ∙ none-repeated ps (pairs-map part.pools h.once));
       beyond = refl;
-      limit = or-both (nat_le 64 g) _ (lt-leb 64 g (omega arith)) (ap (λ (ns : List ℕ). nat_lt 8 (length ns)) pools ∙ le-ltb 8 (length ps) few_listed);
+      limit = or-both (nat_le sched_limit g) _ (lt-leb sched_limit g (omega arith)) (ap (λ (ns : List ℕ). nat_lt listed_limit (length ns)) pools ∙ le-ltb listed_limit (length ps) few_listed);
       task = refl;
       access = refl;
       early = refl;
     }
     (ap (λ (x : SchedPart). scheduling F 5 W.streams W.keys W.pools (front ++ x ∷ []))
-    (ap (sched_with (form_rule part.rule)) read ∙ part-again g part.rule part.pools))
+    (ap (sched_with (rule_with part.rule [])) read ∙ part-again g part.rule part.pools))
 
 -- the lines of a workload's schedulers are taken
 pub scheds-taken : (F : Format) (W : Parts) → IsValid W → (section : ℕ) → section ≤ 5

@@ -80,13 +80,13 @@ fault-past L n lt =
 abbrev pub most : Text → ℕ
 most text = text_limit (format_of (lines_of text))
 
--- no format has more bytes
-pub most-bytes : (F : Format) → text_limit F ≤ 8388608
+-- no format has more bytes than format 2
+pub most-bytes : (F : Format) → text_limit F ≤ text_limit format.Two
 most-bytes format.One = lit≤ tt
 most-bytes format.Two = lit≤ tt
 
--- and none has fewer
-pub least-bytes : (F : Format) → 4194304 ≤ text_limit F
+-- and none has fewer than format 1
+pub least-bytes : (F : Format) → text_limit format.One ≤ text_limit F
 least-bytes format.One = lit≤ tt
 least-bytes format.Two = lit≤ tt
 

@@ -2,6 +2,7 @@
 use Rattle.std.proofs.Common.{◌≡◌, ◌<◌, ◌&&◌, ◌∙◌, ℕ, zero, suc, Bool, true, false, not, List, [], ◌∷◌, Option, Some, None, ap, cond, find, get_or, length, refl, subst, sym, arith}
 use Rattle.std.specs.List.{list_all}
 use Rattle.std.specs.Str.{is_utf8}
+use Rattle.std.proofs.lemmas.Bool.{not-false}
 use Rattle.abt_machine.specs.declared.grammar.Form.{Form}
 use Rattle.abt_machine.specs.declared.program.Fault.{Fault}
 use Rattle.abt_machine.specs.declared.program.Fault.TheVariants as fault
@@ -10,7 +11,7 @@ use Rattle.abt_machine.specs.Faults.{blocks_task, faults, has, is_barred, is_bey
 use Rattle.abt_machine.specs.Forms.{fits, form_of, forms, is_in, numerals, slots}
 use Rattle.abt_machine.specs.Spelling.{has_control, is_number}
 use Rattle.abt_machine.specs.Words.{Text}
-use Rattle.abt_workload.proofs.Places.{and-left, and-right, not-false, or-left, or-right}
+use Rattle.abt_workload.proofs.Places.{and-left, and-right, or-left, or-right}
 
 -- where nothing is found, no element passes
 pub none-passes : (p : Fault → Bool) (fs : List Fault) (d : Fault) (k : ℕ) → find p fs ≡ None → k < length fs → p (get_or fs k d) ≡ false

@@ -4,14 +4,13 @@ use Rattle.abt_machine.specs.declared.grammar.Form.{Form}
 use Rattle.abt_machine.specs.declared.grammar.Number.{Number}
 use Rattle.abt_machine.specs.declared.program.Fault.{Fault}
 use Rattle.abt_machine.specs.Declaring.{Above}
-use Rattle.abt_machine.specs.Faults.{faults, has, has_skipped, is_skipped, line_fault, numbers_of, values_of}
+use Rattle.abt_machine.specs.Faults.{faults, has, has_skipped, is_skipped, line_fault, numbers_of, values, values_of}
 use Rattle.abt_machine.specs.Forms.{form_of}
 use Rattle.abt_machine.specs.Grammar.{and_form, and_line, and_words}
 use Rattle.abt_machine.specs.Spelling.{words_of}
 use Rattle.abt_machine.specs.Words.{Text}
 use Rattle.abt_workload.specs.Declarable.{with_line}
 use Rattle.abt_workload.specs.Judging.{IsJudged}
-use Rattle.abt_workload.specs.Slots.{values}
 use Rattle.abt_workload.specs.declared.judge.Verdict.{Verdict}
 use Rattle.abt_workload.specs.declared.judge.Verdict.TheVariants as verdict
 

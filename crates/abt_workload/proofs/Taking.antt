@@ -2,7 +2,7 @@
 use Rattle.std.proofs.Common.{◌≡◌, ◌<◌, ◌≤◌, ◌^◌, ◌&&◌, ◌∙◌, ℕ, zero, suc, Bool, true, false, not, List, [], ◌∷◌, ◌++◌, All, IsAscii, Some, None, ap, arith, decimal, find, length, nat_le, nat_lt, refl, subst, sym}
 use Rattle.std.specs.List.{list_all}
 use Rattle.std.specs.Str.{all_ascii_digits}
-use Rattle.std.proofs.lemmas.Bool.{lt-ltb}
+use Rattle.std.proofs.lemmas.Bool.{and_from, leb-true, lt-ltb, ltb-true}
 use Rattle.std.proofs.lemmas.Fmt.{IsAscii-decimal, decimal_nonempty, digits_decimal, digits_value-decimal}
 use Rattle.std.proofs.lemmas.Str.{IsUtf8-from_ascii}
 use Rattle.std.proofs.lemmas.Str.Parse.{IsNumeralModel, numerals_by_fold, tells_all_ascii_digits}
@@ -12,14 +12,14 @@ use Rattle.abt_machine.specs.Declaring.{Above}
 use Rattle.abt_machine.specs.Faults.{faults, has, is_misplaced, is_no_version, is_skipped, line_fault, numbers_of, values_of}
 use Rattle.abt_machine.specs.Forms.{form_of, numerals, slots}
 use Rattle.abt_machine.specs.Grammar.{and_line}
+use Rattle.abt_machine.specs.Limits.{word_limit}
 use Rattle.abt_machine.specs.Spelling.{is_empty, is_number, value_from, value_of, words_of}
 use Rattle.abt_machine.specs.Valid.{IsVisible, IsWord}
 use Rattle.abt_machine.specs.Words.{Text, line_of}
 use Rattle.abt_machine.proofs.Decimals.{few-digits}
 use Rattle.abt_workload.specs.Declarable.{with_line}
 use Rattle.abt_workload.specs.Judging.{HasForm, later_fault}
-use Rattle.abt_workload.proofs.Bounds.{le-from, lt-from}
-use Rattle.abt_workload.proofs.Places.{and-both, and-left, and-right}
+use Rattle.abt_workload.proofs.Places.{and-left, and-right}
 use Rattle.abt_workload.proofs.Proper.{none-of}
 use Rattle.abt_workload.proofs.Taken as line
 use Rattle.abt_workload.proofs.Verdicts.{line-judged}
@@ -79,7 +79,7 @@ decimal-number n lt =
     let some : not (is_empty (decimal n)) ≡ true = ap not (word-some (decimal n) (decimal_nonempty n lt)) in
     let digits : all_ascii_digits (decimal n) ≡ true = digits_decimal own n lt in
     let fits : nat_lt (value_of (decimal n)) (2 ^ 64) ≡ true = ap (λ (k : ℕ). nat_lt k (2 ^ 64)) (decimal-value n lt) ∙ lt-ltb n (2 ^ 64) lt in
-    and-both _ _ (and-both _ _ some digits) fits
+    and_from _ _ (and_from _ _ some digits) fits
 
 -- Words by their bytes.
 
@@ -87,33 +87,33 @@ decimal-number n lt =
 abbrev is_plain_byte : ℕ → Bool
 is_plain_byte b = nat_lt 32 b && nat_lt b 127
 
--- 1 to 64 of them
+-- one of them at least, and as many as a word has at most
 abbrev pub is_plain : Text → Bool
-is_plain w = nat_lt 0 (length w) && nat_le (length w) 64 && list_all is_plain_byte w
+is_plain w = nat_lt 0 (length w) && nat_le (length w) word_limit && list_all is_plain_byte w
 
 -- such bytes are visible
 plain-visible : (w : Text) → list_all is_plain_byte w ≡ true → All IsVisible w
 plain-visible [] e = none-of _
 plain-visible (b ∷ bs) e =
     let here = and-left (is_plain_byte b) _ e in
-    let low : 32 < b = lt-from 32 b (and-left (nat_lt 32 b) _ here) in
-    let high : b < 127 = lt-from b 127 (and-right (nat_lt 32 b) _ here) in
+    let low : 32 < b = ltb-true 32 b (and-left (nat_lt 32 b) _ here) in
+    let high : b < 127 = ltb-true b 127 (and-right (nat_lt 32 b) _ here) in
     All-cons IsVisible b bs (low, omega arith) (plain-visible bs (and-right (is_plain_byte b) _ e))
 
 -- and are ASCII
 plain-ascii : (w : Text) → list_all is_plain_byte w ≡ true → IsAscii w
 plain-ascii [] e i = omega arith
-plain-ascii (b ∷ bs) e zero = let high : b < 127 = lt-from b 127 (and-right (nat_lt 32 b) _ (and-left (is_plain_byte b) _ e)) in omega arith
+plain-ascii (b ∷ bs) e zero = let high : b < 127 = ltb-true b 127 (and-right (nat_lt 32 b) _ (and-left (is_plain_byte b) _ e)) in omega arith
 plain-ascii (b ∷ bs) e (suc i) = plain-ascii bs (and-right (is_plain_byte b) _ e) i
 
 -- visible characters of ASCII are a word, as those of a fixed word: `plain-word (codes "pool") refl`
 pub plain-word : (w : Text) → is_plain w ≡ true → IsWord w
 plain-word w e =
-    let sizes = and-left (nat_lt 0 (length w) && nat_le (length w) 64) _ e in
-    let plain : list_all is_plain_byte w ≡ true = and-right (nat_lt 0 (length w) && nat_le (length w) 64) _ e in
+    let sizes = and-left (nat_lt 0 (length w) && nat_le (length w) word_limit) _ e in
+    let plain : list_all is_plain_byte w ≡ true = and-right (nat_lt 0 (length w) && nat_le (length w) word_limit) _ e in
     record {
-      some_byte = lt-from 0 (length w) (and-left (nat_lt 0 (length w)) _ sizes);
-      few_bytes = le-from (length w) 64 (and-right (nat_lt 0 (length w)) _ sizes);
+      some_byte = ltb-true 0 (length w) (and-left (nat_lt 0 (length w)) _ sizes);
+      few_bytes = leb-true (length w) word_limit (and-right (nat_lt 0 (length w)) _ sizes);
       visible = plain-visible w plain;
       utf8 = IsUtf8-from_ascii w (plain-ascii w plain);
     }
@@ -123,8 +123,8 @@ digits-visible : (w : Text) → all_ascii_digits w ≡ true → All IsVisible w
 digits-visible [] e = none-of _
 digits-visible (b ∷ bs) e =
     let digit = and-left (nat_le 48 b && nat_le b 57) _ e in
-    let low : 48 ≤ b = le-from 48 b (and-left (nat_le 48 b) _ digit) in
-    let high : b ≤ 57 = le-from b 57 (and-right (nat_le 48 b) _ digit) in
+    let low : 48 ≤ b = leb-true 48 b (and-left (nat_le 48 b) _ digit) in
+    let high : b ≤ 57 = leb-true b 57 (and-right (nat_le 48 b) _ digit) in
     All-cons IsVisible b bs (omega arith, omega arith) (digits-visible bs (and-right (nat_le 48 b && nat_le b 57) _ e))
 
 -- a number's digits are a word

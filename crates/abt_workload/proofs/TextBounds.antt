@@ -1,5 +1,5 @@
 -- The text of a valid workload is never too long for format 2.
-use Rattle.std.proofs.Common.{◌≡◌, ◌<◌, ◌≤◌, ◌+◌, ◌*◌, ◌^◌, ℕ, zero, suc, true, false, List, [], ◌∷◌, ◌++◌, All, Option, Some, None, IfSome, ap, arith, decimal, flat_map, get_or, length, length-append, map, refl, slice_get, suc-mul}
+use Rattle.std.proofs.Common.{◌≡◌, ◌<◌, ◌≤◌, ◌+◌, ◌*◌, ◌^◌, ℕ, zero, suc, true, false, List, [], ◌∷◌, ◌++◌, All, Option, Some, None, IfSome, ap, arith, decimal, flat_map, get_or, length, length-append, map, refl, suc-mul}
 use Rattle.std.specs.List.{enumerate_from}
 use Rattle.std.proofs.lemmas.List.Elements.{All-head, All-tail}
 use Rattle.std.proofs.lemmas.Option.{slice_get-get_or}
@@ -26,9 +26,10 @@ use Rattle.abt_machine.specs.declared.workload.Parts.{Parts}
 use Rattle.abt_machine.specs.declared.workload.PoolPart.{PoolPart}
 use Rattle.abt_machine.specs.declared.workload.SchedPart.{SchedPart}
 use Rattle.abt_machine.specs.declared.workload.UnitPart.{UnitPart}
-use Rattle.abt_machine.specs.Canonical.{filled, keys_lines, object_line, op_numbers, op_word, op_words, pool_line, sched_line, stream_line, text_in, unit_lines, access_numbers, form_words, rule_numbers, thing_numbers, thing_word, unit_header}
-use Rattle.abt_machine.specs.Declaring.{Above}
+use Rattle.abt_machine.specs.Canonical.{filled, keys_lines, object_line, op_numbers, op_word, op_words, pool_line, sched_line, stream_line, text_in, unit_lines, access_numbers, form_words, rule_numbers, thing_numbers, thing_word, unit_header, opening_lines, units_words}
+use Rattle.abt_machine.specs.Declaring.{Above, op_with}
 use Rattle.abt_machine.specs.Forms.{Slot, Fixed, Numeral, PoolList, access_slots, combine_name, kind_name, op_slots, rule_slots, thing_slots}
+use Rattle.abt_machine.specs.Limits.{key_limit, object_limit, sched_limit, text_limit, word_limit}
 use Rattle.abt_machine.specs.Operations.{IsDeclared}
 use Rattle.abt_machine.specs.Valid.{IsAccess, IsBody, IsRule, IsSched, IsThing, IsUnit, IsValid}
 use Rattle.abt_machine.specs.Weights.{size, weight}
@@ -40,8 +41,7 @@ use Rattle.abt_machine.proofs.Weighing.{has_words, size-append, size-line, size-
 use Rattle.abt_workload.proofs.Filled.{given, has_choice}
 use Rattle.abt_workload.proofs.Fitting.{AreFit, all-fit}
 use Rattle.abt_workload.proofs.Growing.{ends_list}
-use Rattle.abt_workload.proofs.Heads.{units_words}
-use Rattle.abt_workload.proofs.OperationForms.{IsFormed, formed, op-met, op_form}
+use Rattle.abt_workload.proofs.OperationForms.{IsFormed, formed, op-met}
 use Rattle.abt_workload.proofs.Reaching.{reached, reached-small}
 
 -- Lines that are short.
@@ -80,10 +80,10 @@ abbrev most_weight : List Slot → ℕ
 most_weight [] = 0
 most_weight (Fixed t ∷ places) = length t + 1 + most_weight places
 most_weight (Numeral n ∷ places) = 21 + most_weight places
-most_weight (slot ∷ places) = 65 + most_weight places
+most_weight (slot ∷ places) = word_limit + 1 + most_weight places
 
 -- the words have no more where no pools are listed
-filled-light : (a : Above) (places : List Slot) (word : Text) (ns : List ℕ) → ends_list places ≡ false → (has_choice places ≡ true → length word ≤ 64) → AreFit a (given places ns) → weight (filled places word ns) ≤ most_weight places
+filled-light : (a : Above) (places : List Slot) (word : Text) (ns : List ℕ) → ends_list places ≡ false → (has_choice places ≡ true → length word ≤ word_limit) → AreFit a (given places ns) → weight (filled places word ns) ≤ most_weight places
 filled-light a [] word ns e w h = omega arith
 filled-light a (Fixed t ∷ places) word ns e w h = let rest = filled-light a places word ns e w h in omega arith
 filled-light a (Numeral n ∷ places) word [] e w h = omega arith
@@ -143,19 +143,19 @@ module _ (W : Parts) (v : IsValid W) where
       let few = h.few_pools in
       (refl, omega arith)
 
-  stream-light : (s : ℕ) (g : SchedNo) → s < 2 ^ 64 → g.0 < 64 → IsLight 119 (stream_line s g)
+  stream-light : (s : ℕ) (g : SchedNo) → s < 2 ^ 64 → g.0 < sched_limit → IsLight 119 (stream_line s g)
   stream-light s g lt h = let d = few-digits s lt in let e = few-digits g.0 (omega arith) in (refl, omega arith)
 
   -- an object's numbers are small
   abbrev IsSmallThing : Thing → Type 0
-  IsSmallThing t = (x : ℕ) × (x < 256) × IsThing W.objects x t
+  IsSmallThing t = (x : ℕ) × (x < object_limit) × IsThing W.objects x t
 
   combine-light : (c : Combine) → length (combine_name c) ≤ 5
   combine-light combine.Sum = omega arith
   combine-light combine.Max = omega arith
   combine-light combine.Count = omega arith
 
-  thing-light : (x : ℕ) (t : Thing) → x < 256 → IsThing W.objects x t → weight (filled (thing_slots t) (thing_word t) (thing_numbers t)) ≤ 60
+  thing-light : (x : ℕ) (t : Thing) → x < object_limit → IsThing W.objects x t → weight (filled (thing_slots t) (thing_word t) (thing_numbers t)) ≤ 60
   thing-light x thing.Mutex lt h = omega arith
   thing-light x (thing.Cond m) lt h = let below = h.0 in let d = few-digits m.0 (omega arith) in omega arith
   thing-light x thing.Eventual lt h = omega arith
@@ -169,9 +169,9 @@ module _ (W : Parts) (v : IsValid W) where
   op-light : (o : Op) → IsDeclared W o → IsLight 119 (op_words W o)
   op-light o h =
       let a : Above = reached format.One W 9 [] None [] [] in
-      let d : IsFormed W o (op_form W o) = formed W v o h in
-      let places : List Slot = op_slots (op_form W o) in
-      let few = op-places (op_form W o) in
+      let d : IsFormed W o (op_with o 0 []) = formed W v o h in
+      let places : List Slot = op_slots (op_with o 0 []) in
+      let few = op-places (op_with o 0 []) in
       let fit = all-fit a (reached-small format.One W v 9 [] None [] []) (given places (op_numbers o)) (op-met format.One W [] None [] [] o h) in
       let light : weight (filled places (op_word W o) (op_numbers o)) ≤ most_weight places = filled-light a places (op_word W o) (op_numbers o) few.0 (λ e. (d.written.chosen e).few_bytes) fit in
       let same : weight (op_words W o) ≡ weight (filled places (op_word W o) (op_numbers o)) = ap weight d.written.words_are in
@@ -202,15 +202,12 @@ module _ (W : Parts) (v : IsValid W) where
   objects-all : All IsSmallThing W.objects
   objects-all = λ k d lt. (k, (let few = v.few_objects in omega arith), v.objects k (get_or W.objects k d) (slice_get-get_or W.objects k d lt))
 
-  keys-light : (k : ℕ) → k ≤ 16 → size (keys_lines k) ≤ 119
+  keys-light : (k : ℕ) → k ≤ key_limit → size (keys_lines k) ≤ 119
   keys-light zero few = let e = size-nil in omega arith
   keys-light (suc k) few = let e = size-line (form_words form.Keys [] (suc k ∷ [])) [] refl in let n = size-nil in let d = few-digits (suc k) (omega arith) in omega arith
 
   -- the lines of a workload, part by part
-  abbrev lines_at : Format → List (List Text)
-  lines_at F = form_words (form.Version F) [] [] ∷ form_words form.Streams [] (W.streams ∷ []) ∷ keys_lines W.keys
-
-  version-light : (F : Format) → size (lines_at F) ≤ 6 + 119 + 119
+  version-light : (F : Format) → size (opening_lines F W.streams W.keys) ≤ 6 + 119 + 119
   version-light F =
       let a = size-line (form_words (form.Version F) [] []) (form_words form.Streams [] (W.streams ∷ []) ∷ keys_lines W.keys) (some F) in
       let b = size-line (form_words form.Streams [] (W.streams ∷ [])) (keys_lines W.keys) refl in
@@ -229,9 +226,10 @@ module _ (W : Parts) (v : IsValid W) where
       six format.Two = refl
 
   -- it has fewer bytes than format 2 allows
-  pub text-fits : (F : Format) → length (text_in F W) ≤ 8388608
+  pub text-fits : (F : Format) → length (text_in F W) ≤ text_limit format.Two
   unfolding size
   text-fits F =
+      let V : List (List Text) = opening_lines F W.streams W.keys in
       let P : List (List Text) = numbered pool_line W.pools in
       let S : List (List Text) = numbered sched_line W.scheds in
       let M : List (List Text) = numbered stream_line W.mains in
@@ -247,16 +245,16 @@ module _ (W : Parts) (v : IsValid W) where
       let mains = v.mains in
       let p = lines-light pool_line 119 (λ (part : PoolPart). IsAccess W.streams part.access) pool-light 0 W.pools (omega arith) v.pools in
       let s = lines-light sched_line 300 (IsSched (length W.pools)) sched-light 0 W.scheds (omega arith) v.scheds in
-      let m = lines-light stream_line 119 (λ (g : SchedNo). g.0 < 64) stream-light 0 W.mains (omega arith) (mains-places W v) in
+      let m = lines-light stream_line 119 (λ (g : SchedNo). g.0 < sched_limit) stream-light 0 W.mains (omega arith) (mains-places W v) in
       let o = lines-light object_line 119 IsSmallThing object-light 0 W.objects (omega arith) objects-all in
       let u = units-light 0 W.units (omega arith) v.units in
       let h = version-light F in
-      let a = size-append ((((lines_at F ++ P) ++ S) ++ M) ++ O ++ units ∷ U) (form_words form.End [] [] ∷ []) in
-      let b = size-append (((lines_at F ++ P) ++ S) ++ M ++ O) (units ∷ U) in
-      let c = size-append (((lines_at F ++ P) ++ S) ++ M) O in
-      let d = size-append ((lines_at F ++ P) ++ S) M in
-      let e = size-append (lines_at F ++ P) S in
-      let f = size-append (lines_at F) P in
+      let a = size-append ((((V ++ P) ++ S) ++ M) ++ O ++ units ∷ U) (form_words form.End [] [] ∷ []) in
+      let b = size-append (((V ++ P) ++ S) ++ M ++ O) (units ∷ U) in
+      let c = size-append (((V ++ P) ++ S) ++ M) O in
+      let d = size-append ((V ++ P) ++ S) M in
+      let e = size-append (V ++ P) S in
+      let f = size-append (V) P in
       let i = size-line units U refl in
       let digits = few-digits (length W.units) (omega arith) in
       let j = size-line (form_words form.End [] []) [] refl in

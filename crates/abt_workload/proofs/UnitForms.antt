@@ -1,5 +1,5 @@
 -- What a unit's line is in the table of forms.
-use Rattle.std.proofs.Common.{◌≡◌, ◌<◌, ℕ, List, [], ◌∷◌, ◌++◌, Option, Some, None, IfSome, length, option_map, refl}
+use Rattle.std.proofs.Common.{◌≡◌, ◌<◌, ℕ, List, [], ◌∷◌, ◌++◌, Option, Some, None, IfSome, length, refl}
 use Rattle.abt_machine.specs.declared.grammar.Form.{Form}
 use Rattle.abt_machine.specs.declared.grammar.Form.TheVariants as form
 use Rattle.abt_machine.specs.declared.grammar.Format.{Format}
@@ -10,23 +10,18 @@ use Rattle.abt_machine.specs.declared.operations.Body.TheVariants as body
 use Rattle.abt_machine.specs.declared.workload.Parts.{Parts}
 use Rattle.abt_machine.specs.declared.workload.UnitPart.{UnitPart}
 use Rattle.abt_machine.specs.Canonical.{body_numbers, role_of, start_numbers, unit_header}
-use Rattle.abt_machine.specs.Declaring.{declared_units, unit_with}
+use Rattle.abt_machine.specs.Declaring.{declared_units, start_with, unit_with}
+use Rattle.abt_machine.specs.Faults.{values}
 use Rattle.abt_machine.specs.Forms.{slots}
-use Rattle.abt_machine.specs.Numbers.{pool_no}
 use Rattle.abt_machine.specs.Valid.{IsBody}
-use Rattle.abt_workload.specs.Slots.{values}
-use Rattle.abt_workload.proofs.Filled.{IsWritten, given}
+use Rattle.abt_workload.proofs.Filled.{IsWritten, blank, given}
 use Rattle.abt_workload.proofs.Fitting.{AreMet}
 use Rattle.abt_workload.proofs.OperationLines.{body_like}
 use Rattle.abt_workload.proofs.Reaching.{reached}
 
--- a start of the table of forms
-abbrev pub start_form : Option PoolNo → Option PoolNo
-start_form = option_map (λ (p : PoolNo). pool_no 0)
-
 -- a unit's form
 abbrev pub unit_form : Body → Option PoolNo → Form
-unit_form b start = form.Unit (role_of b) (start_form start)
+unit_form b start = blank (form.Unit (role_of b) start)
 
 -- the numbers of a unit's line
 abbrev pub unit_numbers : ℕ → Body → Option PoolNo → List ℕ
@@ -46,7 +41,7 @@ unit-written u _ (Some p) = record { words_are = refl; form_is = refl; skipped =
 
 -- and declares the unit without its operations
 pub unit-made : (u : ℕ) (b : Body) (start : Option PoolNo)
-    → unit_with (role_of b) (start_form start) (values (unit_given u b start)) ≡ record { body = body_like b []; start = start }
+    → unit_with (role_of b) (start_with (role_of b) start []) (values (unit_given u b start)) ≡ record { body = body_like b []; start = start }
 unit-made u (body.Ult ops) None = refl
 unit-made u (body.Ult ops) (Some p) = refl
 unit-made u _ None = refl

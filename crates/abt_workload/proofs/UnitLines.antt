@@ -13,16 +13,16 @@ use Rattle.abt_machine.specs.declared.operations.Body.{Body}
 use Rattle.abt_machine.specs.declared.operations.Body.TheVariants as body
 use Rattle.abt_machine.specs.declared.workload.Parts.{Parts}
 use Rattle.abt_machine.specs.declared.workload.UnitPart.{UnitPart}
-use Rattle.abt_machine.specs.Canonical.{op_words, unit_lines, word_at, role_of, unit_header}
-use Rattle.abt_machine.specs.Declaring.{Above, declared_units, parts_of, said_words, unit_with, units_of}
-use Rattle.abt_machine.specs.Faults.{is_beyond, is_placed, is_twice}
+use Rattle.abt_machine.specs.Canonical.{op_words, unit_lines, word_of, role_of, unit_header}
+use Rattle.abt_machine.specs.Declaring.{Above, declared_units, parts_of, said_words, start_with, unit_with, units_of}
+use Rattle.abt_machine.specs.Faults.{is_beyond, is_placed, is_twice, values}
+use Rattle.abt_machine.specs.Limits.{operation_limit, unit_operation_limit}
 use Rattle.abt_machine.specs.Operations.{IsDeclared, said_by}
 use Rattle.abt_machine.specs.Valid.{IsBody, IsUnit, IsValid, placed_scheds, sched_in, words_said}
 use Rattle.abt_machine.specs.Words.{Text}
 use Rattle.abt_machine.specs.Workloads.{all_ops, ops_of}
 use Rattle.abt_machine.proofs.Elements.{all-at}
 use Rattle.abt_machine.proofs.Saying.{said_by_units}
-use Rattle.abt_workload.specs.Slots.{values}
 use Rattle.abt_workload.proofs.Filled.{takes}
 use Rattle.abt_workload.proofs.Fitting.{all-fit}
 use Rattle.abt_workload.proofs.Heads.{head, units_lines}
@@ -30,7 +30,7 @@ use Rattle.abt_workload.proofs.InOrder.{front-shorter, get-here, not-before, pla
 use Rattle.abt_workload.proofs.OperationLines.{body_like, ops-taken}
 use Rattle.abt_workload.proofs.Reaching.{IsQuiet, reached, reached-small, reached-units, reached-words}
 use Rattle.abt_workload.proofs.Taking.{Takes, TakesAll, takes-append}
-use Rattle.abt_workload.proofs.UnitForms.{start_form, unit-made, unit-met, unit-written, unit_form, unit_given, unit_numbers}
+use Rattle.abt_workload.proofs.UnitForms.{unit-made, unit-met, unit-written, unit_form, unit_given, unit_numbers}
 
 -- all of the workload is declared
 pub record IsWhole (W : Parts) (b : Above) : Type 0 where
@@ -85,7 +85,7 @@ module _ (F : Format) (W : Parts) (v : IsValid W) (front : List UnitPart) (part 
       not-before (M ++ flat_map S front) g (flat_map S rest) (subst (λ (ns : List ℕ). AllPairs (λ x y. x ≢ y) ns) places v.one_place)
 
   -- its operations have room
-  room : length (all_ops front) + length (ops_of part.body) ≤ 65536
+  room : length (all_ops front) + length (ops_of part.body) ≤ operation_limit
   room = let within = ops-within front part rest in let all : length (all_ops (front ++ part ∷ rest)) ≡ length (all_ops W.units) = ap (λ (us : List UnitPart). length (all_ops us)) e in let few = v.few_ops in omega arith
 
   module _ (s : ℕ) (at : s ≤ 9) (units : List UnitPart) (last : Option UnitPart) (reach : units ++ option_to_list last ≡ front) (before said : List ℕ) (quiet : IsQuiet last said) where
@@ -124,7 +124,7 @@ module _ (F : Format) (W : Parts) (v : IsValid W) (front : List UnitPart) (part 
         let a : Above = reached F W s units last before said in
         let u : ℕ = length front in
         let f : Form = unit_form part.body part.start in
-        let made : UnitPart = unit_with (role_of part.body) (start_form part.start) (values (unit_given u part.body part.start)) in
+        let made : UnitPart = unit_with (role_of part.body) (start_with (role_of part.body) part.start []) (values (unit_given u part.body part.start)) in
         takes a (reached F W 9 front (Some (record { body = body_like part.body []; start = part.start })) (before ++ said) []) f [] (unit_numbers u part.body part.start) (unit_header u part)
         (unit-written u part.body part.start)
         (all-fit a (reached-small F W v s units last before said) (unit_given u part.body part.start)
@@ -132,10 +132,10 @@ module _ (F : Format) (W : Parts) (v : IsValid W) (front : List UnitPart) (part 
         record { version = refl; placed = placed-among a f at (omega arith) refl refl; once = once part.body part.start refl; beyond = within-units part.body part.start; limit = refl; task = refl; access = refl; early = refl }
         (ap (λ (us : List UnitPart). record a { section = 9; units = us; last = Some made; copies = 1; words = said_words a; said = [] }) all-units
         ∙ (ap (λ (ws : List Text). record a { section = 9; units = front; last = Some made; copies = 1; words = ws; said = [] }) (reached-words F W s units last before said quiet)
-        ∙ ap (λ (p : UnitPart). record a { section = 9; units = front; last = Some p; copies = 1; words = map (word_at W) (before ++ said); said = [] }) (unit-made u part.body part.start)))
+        ∙ ap (λ (p : UnitPart). record a { section = 9; units = front; last = Some p; copies = 1; words = map (word_of W) (before ++ said); said = [] }) (unit-made u part.body part.start)))
 
   -- the lines of its operations are taken, if there are any
-  ops-of-body : (b : Body) (o : Option PoolNo) (before after : List ℕ) → IsBody (length W.scheds) b → length (ops_of b) ≤ 256 → length (all_ops front) + length (ops_of b) ≤ 65536 → All (IsDeclared W) (ops_of b)
+  ops-of-body : (b : Body) (o : Option PoolNo) (before after : List ℕ) → IsBody (length W.scheds) b → length (ops_of b) ≤ unit_operation_limit → length (all_ops front) + length (ops_of b) ≤ operation_limit → All (IsDeclared W) (ops_of b)
       → words_said W ≡ before ++ (flat_map said_by (ops_of b) ++ after)
       → TakesAll (reached F W 9 front (Some (record { body = body_like b []; start = o })) before []) (map (op_words W) (ops_of b))
       (reached F W 9 front (Some (record { body = b; start = o })) before (flat_map said_by (ops_of b)))
@@ -157,8 +157,8 @@ module _ (F : Format) (W : Parts) (v : IsValid W) (front : List UnitPart) (part 
 
 module _ (F : Format) (W : Parts) (v : IsValid W) where
   -- the words that are said are all words
-  all-words : (said : List ℕ) → words_said W ≡ said → map (word_at W) said ≡ W.words
-  all-words said is = ap (map (word_at W)) (sym is ∙ v.said) ∙ sym (fill_by_all (word_at W) W.words (length W.words) [] refl (λ k lt. refl))
+  all-words : (said : List ℕ) → words_said W ≡ said → map (word_of W) said ≡ W.words
+  all-words said is = ap (map (word_of W)) (sym is ∙ v.said) ∙ sym (fill_by_all (word_of W) W.words (length W.words) [] refl (λ k lt. refl))
 
   -- below all units the workload is declared
   whole : (s : ℕ) → s ≤ 9 → (units : List UnitPart) (last : Option UnitPart) (before said : List ℕ) → IsQuiet last said → units ++ option_to_list last ≡ W.units → words_said W ≡ before ++ said

@@ -3,6 +3,7 @@ use Rattle.std.proofs.Common.{◌≡◌, ◌∙◌, ◌&&◌, ◌||◌, ℕ, Boo
 use Rattle.std.specs.Bool.{OnTrue}
 use Rattle.std.specs.List.{list_all, list_any}
 use Rattle.std.specs.Str.{is_utf8}
+use Rattle.std.proofs.lemmas.Bool.{and_from}
 use Rattle.abt_machine.specs.declared.grammar.Form.{Form}
 use Rattle.abt_machine.specs.declared.grammar.Format.{Format}
 use Rattle.abt_machine.specs.declared.grammar.Format.TheVariants as format
@@ -14,11 +15,11 @@ use Rattle.abt_machine.specs.declared.program.Fault.{Fault}
 use Rattle.abt_machine.specs.declared.program.Fault.TheVariants as fault
 use Rattle.abt_machine.specs.Declaring.{Above}
 use Rattle.abt_machine.specs.Faults.{faults, has, is_misplaced, is_no_version, is_unknown, numbers_of, of_form}
-use Rattle.abt_machine.specs.Forms.{Slot, PoolList, begins, fits, form_of, forms, is_in, numerals, op_slots, slots, suits}
+use Rattle.abt_machine.specs.Forms.{Slot, PoolList, begins_with, fits, form_of, forms, is_in, numerals, op_slots, slots, suits}
 use Rattle.abt_machine.specs.Spelling.{has_control, is_number}
 use Rattle.abt_machine.specs.Words.{Text}
 use Rattle.abt_workload.specs.Judging.{HasForm, later_fault}
-use Rattle.abt_workload.proofs.Places.{and-both, and-left, and-right}
+use Rattle.abt_workload.proofs.Places.{and-left, and-right}
 
 -- The order of the faults.
 
@@ -48,7 +49,7 @@ pub has_slot : List Slot → Bool
 has_slot [] = false
 has_slot (slot ∷ places) = true
 
-pub fitting-begins : (places : List Slot) (words : List Text) → has_slot places ≡ true → fits places words ≡ true → begins places words ≡ true
+pub fitting-begins : (places : List Slot) (words : List Text) → has_slot places ≡ true → fits places words ≡ true → begins_with places words ≡ true
 unfolding has_slot
 fitting-begins [] words some e = cc
 fitting-begins (slot ∷ places) [] some e = cc
@@ -76,17 +77,17 @@ or-true true = refl
 or-true false = refl
 
 module _ (F : Format) where
-  known-in : (fs : List Form) (words : List Text) (f : Form) → find (λ g. is_in F g && fits (slots g) words) fs ≡ Some f → list_any (λ g. is_in F g && begins (slots g) words) fs ≡ true
+  known-in : (fs : List Form) (words : List Text) (f : Form) → find (λ g. is_in F g && fits (slots g) words) fs ≡ Some f → list_any (λ g. is_in F g && begins_with (slots g) words) fs ≡ true
   known-in [] words f e = cc
   known-in (g ∷ gs) words f e = by (is_in F g && fits (slots g) words) refl (λ rest. known-in gs words f rest)
     where
-      by : (b : Bool) → (is_in F g && fits (slots g) words) ≡ b → (find (λ h. is_in F h && fits (slots h) words) gs ≡ Some f → list_any (λ h. is_in F h && begins (slots h) words) gs ≡ true)
-          → list_any (λ h. is_in F h && begins (slots h) words) (g ∷ gs) ≡ true
+      by : (b : Bool) → (is_in F g && fits (slots g) words) ≡ b → (find (λ h. is_in F h && fits (slots h) words) gs ≡ Some f → list_any (λ h. is_in F h && begins_with (slots h) words) gs ≡ true)
+          → list_any (λ h. is_in F h && begins_with (slots h) words) (g ∷ gs) ≡ true
       by true is rest =
-          let here : begins (slots g) words ≡ true = fitting-begins (slots g) words (slots-some g) (and-right (is_in F g) _ is) in
-          let both : (is_in F g && begins (slots g) words) ≡ true = and-both (is_in F g) _ (and-left (is_in F g) _ is) here in
+          let here : begins_with (slots g) words ≡ true = fitting-begins (slots g) words (slots-some g) (and-right (is_in F g) _ is) in
+          let both : (is_in F g && begins_with (slots g) words) ≡ true = and_from (is_in F g) _ (and-left (is_in F g) _ is) here in
           rw both refl
-      by false is rest = let there : list_any (λ h. is_in F h && begins (slots h) words) gs ≡ true = rest (rw is at e) in rw there (or-true (is_in F g && begins (slots g) words))
+      by false is rest = let there : list_any (λ h. is_in F h && begins_with (slots h) words) gs ≡ true = rest (rw is at e) in rw there (or-true (is_in F g && begins_with (slots g) words))
 
   -- a line that has a form is known
   pub known : (words : List Text) (f : Form) → form_of F words ≡ Some f → is_unknown F words ≡ false

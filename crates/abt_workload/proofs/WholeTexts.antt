@@ -5,13 +5,13 @@ use Rattle.abt_machine.specs.declared.grammar.Form.TheVariants as form
 use Rattle.abt_machine.specs.declared.grammar.Format.TheVariants as format
 use Rattle.abt_machine.specs.declared.workload.Parts.{Parts}
 use Rattle.abt_machine.specs.declared.workload.UnitPart.{UnitPart}
-use Rattle.abt_machine.specs.Canonical.{canonical_text, form_words, has_text, keys_lines, object_line, pool_line, sched_line, stream_line, text_in}
+use Rattle.abt_machine.specs.Canonical.{canonical_text, form_words, has_text, object_line, opening_lines, pool_line, sched_line, stream_line, text_in, units_words}
 use Rattle.abt_machine.specs.Operations.{IsDeclared}
 use Rattle.abt_machine.specs.Valid.{IsUnit, IsValid}
 use Rattle.abt_machine.specs.Words.{Text, ended, line_of, numbered, text_of}
 use Rattle.abt_machine.specs.Workloads.{ops_of}
 use Rattle.abt_machine.proofs.Elements.{all-at}
-use Rattle.abt_workload.proofs.Heads.{units_lines, units_words}
+use Rattle.abt_workload.proofs.Heads.{units_lines}
 use Rattle.abt_workload.proofs.WritingLines.{text-and, text-append}
 
 -- what the operations of a unit name is declared
@@ -24,7 +24,7 @@ more-lines lines more old new before after = after ∙ (ap (λ (text : Text). te
 
 -- the whole text
 pub written : (W : Parts) (head pools scheds mains objects count units whole : Text) →
-    head ≡ text_of (form_words (form.Version format.One) [] [] ∷ form_words form.Streams [] (W.streams ∷ []) ∷ keys_lines W.keys) →
+    head ≡ text_of (opening_lines format.One W.streams W.keys) →
     pools ≡ head ++ text_of (numbered pool_line W.pools) →
     scheds ≡ pools ++ text_of (numbered sched_line W.scheds) →
     mains ≡ scheds ++ text_of (numbered stream_line W.mains) →
@@ -33,7 +33,7 @@ pub written : (W : Parts) (head pools scheds mains objects count units whole : T
     units ≡ count ++ text_of (units_lines W 0 W.units) →
     whole ≡ units ++ ended (line_of (form_words form.End [] [])) → whole ≡ text_in format.One W
 written W head pools scheds mains objects count units whole e0 e1 e2 e3 e4 e5 e6 e7 =
-    let first : List (List Text) = form_words (form.Version format.One) [] [] ∷ form_words form.Streams [] (W.streams ∷ []) ∷ keys_lines W.keys in
+    let first : List (List Text) = opening_lines format.One W.streams W.keys in
     let line : List Text = units_words W in
     let U : List (List Text) = units_lines W 0 W.units in
     let t1 = more-lines first (numbered pool_line W.pools) head pools e0 e1 in

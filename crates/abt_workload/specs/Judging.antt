@@ -8,10 +8,9 @@ use Rattle.abt_machine.specs.declared.program.Fault.{Fault}
 use Rattle.abt_machine.specs.declared.program.Fault.TheVariants as fault
 use Rattle.abt_machine.specs.Declaring.{Above}
 use Rattle.abt_machine.specs.Forms.{form_of}
-use Rattle.abt_machine.specs.Faults.{faults, has, numbers_of, blocks_task, is_barred, is_beyond, is_early, is_misplaced, is_no_version, is_past_limit, is_there, is_twice, is_within}
+use Rattle.abt_machine.specs.Faults.{faults, has, numbers_of, blocks_task, is_barred, is_beyond, is_early, is_misplaced, is_no_version, is_past_limit, is_there, is_twice, is_within, values}
 use Rattle.abt_machine.specs.Spelling.{has_control}
 use Rattle.abt_machine.specs.Words.{Text}
-use Rattle.abt_workload.specs.Slots.{values}
 use Rattle.abt_workload.specs.declared.judge.Verdict.{Verdict}
 use Rattle.abt_workload.specs.declared.judge.Verdict.TheVariants as verdict
 

@@ -1,5 +1,5 @@
 -- What the reader's table and its numbers are in the grammar.
-use Rattle.std.specs.Prelude.{ℕ, ◌≡◌, ◌⊎◌, if◌then◌else◌, Bool, true, false, List, [], ◌∷◌, codes, map, Option, Some, None}
+use Rattle.std.specs.Prelude.{ℕ, ◌≡◌, ◌⊎◌, if◌then◌else◌, Bool, true, false, List, [], ◌∷◌, codes, Option, Some, None}
 use Rattle.std.specs.List.{filter}
 use Rattle.abt_machine.specs.declared.grammar.Form.{Form}
 use Rattle.abt_machine.specs.declared.grammar.Form.TheVariants as form
@@ -35,19 +35,11 @@ is_headed places = false
 
 -- the forms of the lines that begin with this word, or all forms
 abbrev pub AreFormsOf : Text → List Form → Type 0
-AreFormsOf word group = (group ≡ filter (λ f. grammar.begins (grammar.slots f) (word ∷ [])) grammar.forms) ⊎ (group ≡ grammar.forms)
+AreFormsOf word group = (group ≡ filter (λ f. grammar.begins_with (grammar.slots f) (word ∷ [])) grammar.forms) ⊎ (group ≡ grammar.forms)
 
 -- the number that a word is, if it is one
 abbrev pub number_in : Text → Option ℕ
 number_in word = if is_number word then Some (value_of word) else None
-
--- the values of words that are numbers
-abbrev pub numbered : List (Number × Text) → List (Number × ℕ)
-numbered = map (λ (p : Number × Text). (p.0, value_of p.1))
-
--- the values alone
-abbrev pub values : List (Number × ℕ) → List ℕ
-values = map (λ (p : Number × ℕ). p.1)
 
 -- the word in a place, if it is a number's place
 abbrev pub numeral_in : grammar.Slot → Text → List (Number × Text)

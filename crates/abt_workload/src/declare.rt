@@ -1,14 +1,14 @@
 //! What a sound line adds to what the lines above it declare.
 
 ghost use Rattle.std.specs.Prelude.{◌≡◌, ◌<◌, ◌≤◌, ◌+◌, ◌^◌, ◌++◌, ◌∷◌, [], All, IfOk, IsUtf8, OnOk, false, flat_map, length, map, option_map, replicate, slice_set};
-ghost use Rattle.abt_machine.specs.Declaring.{access_with, alike, at, body_and, body_with, combine_named, declared_with, kind_named, listed, op_later, op_with, pool_with, repeated, rule_with, said_in, sched_with, start_with, thing_with, unit_and, unit_later, unit_with, with_operation, with_operations, with_units, word_in};
+ghost use Rattle.abt_machine.specs.Declaring.{access_with, alike, at, body_and, body_with, combine_named, declared_with, kind_named, listed, op_later, op_with, pool_with, repeated, rule_with, said_in, sched_with, start_with, thing_with, unit_and, unit_later, unit_with, with_operation, with_operations, with_copies, word_in};
+ghost use Rattle.abt_machine.specs.Faults.{values};
 ghost use Rattle.abt_machine.specs.Limits.{operation_limit, unit_operation_limit};
 ghost use Rattle.abt_machine.specs.Numbers.{pool_no, sched_no};
 ghost use Rattle.abt_machine.specs.Operations.{said_by};
 ghost use Rattle.abt_machine.specs.Workloads.{all_ops, ops_of};
 ghost use Rattle.abt_machine.specs.declared.grammar.Form.TheVariants as form;
 ghost use Rattle.abt_workload.specs.Declarable.{AreLater, AreOpSmall, AreSmall, AreUnitSmall, IsClosable, IsDeclarable, IsSaidBy, IsSmall, IsSmallRule, closed, is_wide, with_line};
-ghost use Rattle.abt_workload.specs.Slots.{values};
 
 use crate::draft::Draft;
 use crate::forms::is;
@@ -156,7 +156,7 @@ impl Draft {
     ) -> Result<(), Want>
         requires small { AreUnitSmall (values numbers.now) }
         requires closable { IsClosable self.old }
-        ensures { OnOk result (self.new ≡ with_units self.old copies (unit_with role start (values numbers.now))) }
+        ensures { OnOk result (self.new ≡ with_copies self.old copies (unit_with role start (values numbers.now))) }
     {
         self.close(alloc)?;
         let body = body_with(alloc, role, numbers);

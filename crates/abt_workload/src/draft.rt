@@ -16,8 +16,8 @@ ghost use Rattle.abt_workload.specs.Declarable.{last_count, op_count};
 
 use crate::units::Units;
 use abt_machine::{
-    Access, Body, Format, Number, PoolPart, SchedNo, SchedPart, Text, Thing, UnitPart,
-    operation_limit, unit_operation_limit,
+    Access, Body, Format, Number, OPERATION_LIMIT, PoolPart, SchedNo, SchedPart, Text, Thing,
+    UNIT_OPERATION_LIMIT, UnitPart,
 };
 use std::alloc::Global;
 use std::marker::Model;
@@ -173,7 +173,7 @@ impl Draft {
         match &self.last {
             None => false,
             Some(part) => {
-                part.body.ops().len() as u128 + u128::from(n) > unit_operation_limit() as u128
+                part.body.ops().len() as u128 + u128::from(n) > UNIT_OPERATION_LIMIT as u128
             }
         }
     }
@@ -311,5 +311,5 @@ fn are_too_many(above: usize, copies: u32, each: usize, n: u64) -> bool
     ensures { result ≡ nat_lt operation_limit (above + copies * (each + n)) }
 {
     let all = u128::from(copies) * (each as u128 + u128::from(n));
-    above as u128 + all > operation_limit() as u128
+    above as u128 + all > OPERATION_LIMIT as u128
 }

@@ -1,15 +1,15 @@
 //! The forms of a workload text's lines, as a table.
 
 ghost use Rattle.std.specs.Prelude.{◌≡◌, ◌&&◌, ◌||◌, bytes_eq, map};
-ghost use Rattle.abt_machine.specs.Forms.{begins, fits, form_of, is_in, op_slots, slots, suits};
+ghost use Rattle.abt_machine.specs.Forms.{begins_with, fits, form_of, is_in, op_slots, slots, suits};
 ghost use Rattle.abt_machine.specs.Faults.{is_unknown};
 ghost use Rattle.abt_machine.specs.declared.grammar.Form.TheVariants as form;
 ghost use Rattle.abt_machine.specs.declared.grammar.Format.TheVariants as format;
 ghost use Rattle.abt_workload.specs.Slots.{AreFormsOf, own_slots, slot_of};
 
 use abt_machine::{
-    Access, Combine, Form, Format, Number, ObjectNo, Op, PoolNo, Role, Rule, StreamNo, Thing,
-    UnitNo,
+    Access, Combine, Form, Format, KEY_LIMIT, Number, ObjectNo, Op, PoolNo, Role, Rule, SIZE_LIMIT,
+    StreamNo, Thing, UNIT_LIMIT, UnitNo,
 };
 
 /// What stands at a place of a line: this very word, a word that names a kind of pool or what a future
@@ -23,6 +23,18 @@ pub(crate) enum Slot {
     Numeral(Number),
     PoolList,
 }
+
+// Any number that 64 bits have.
+const ANY: Number = Number::Within(0, u64::MAX);
+
+// How many keys there are.
+const KEYS: Number = Number::Within(0, KEY_LIMIT as u64);
+
+// How many compartments a future has, or parties a barrier.
+const SIZE: Number = Number::Within(1, SIZE_LIMIT as u64);
+
+// How many units a `many` line declares.
+const COPIES: Number = Number::Within(1, UNIT_LIMIT as u64);
 
 // One form of each; a form's numbers say nothing.
 static FORMS: [Form; 114] = [
@@ -43,7 +55,7 @@ static FORMS: [Form; 114] = [
     Form::Object(Thing::Mutex),
     Form::Object(Thing::Cond(ObjectNo(0))),
     Form::Object(Thing::Eventual),
-    Form::Object(Thing::Future(0, Combine::Sum)),
+    Form::Object(Thing::Future(0, Combine::Count)),
     Form::Object(Thing::Barrier(0)),
     Form::Object(Thing::RwLock),
     Form::Units,
@@ -151,7 +163,7 @@ pub(crate) fn slots(form: Form) -> &'static [Slot]
         Form::Version(Format::One) => &[Slot::Fixed("abt"), Slot::Fixed("1")],
         Form::Version(Format::Two) => &[Slot::Fixed("abt"), Slot::Fixed("2")],
         Form::Streams => &[Slot::Fixed("streams"), Slot::Numeral(Number::StreamCount)],
-        Form::Keys => &[Slot::Fixed("keys"), Slot::Numeral(Number::Within(0, 16))],
+        Form::Keys => &[Slot::Fixed("keys"), Slot::Numeral(KEYS)],
         Form::Pool(Access::Priv(_)) => &[
             Slot::Fixed("pool"),
             Slot::Numeral(Number::NewPool),
@@ -208,7 +220,7 @@ pub(crate) fn slots(form: Form) -> &'static [Slot]
             Slot::Fixed("sched"),
             Slot::Numeral(Number::NewSched),
             Slot::Fixed("randws"),
-            Slot::Numeral(Number::Within(0, u64::MAX)),
+            Slot::Numeral(ANY),
             Slot::PoolList,
         ],
         Form::Sched(Rule::User(_)) => &[
@@ -244,14 +256,14 @@ pub(crate) fn slots(form: Form) -> &'static [Slot]
             Slot::Fixed("object"),
             Slot::Numeral(Number::NewObject),
             Slot::Fixed("future"),
-            Slot::Numeral(Number::Within(1, 4096)),
+            Slot::Numeral(SIZE),
             Slot::CombineWord,
         ],
         Form::Object(Thing::Barrier(_)) => &[
             Slot::Fixed("object"),
             Slot::Numeral(Number::NewObject),
             Slot::Fixed("barrier"),
-            Slot::Numeral(Number::Within(1, 4096)),
+            Slot::Numeral(SIZE),
         ],
         Form::Object(Thing::RwLock) => &[
             Slot::Fixed("object"),
@@ -303,7 +315,7 @@ pub(crate) fn slots(form: Form) -> &'static [Slot]
         Form::Many(Role::Ult, Some(_)) => &[
             Slot::Fixed("many"),
             Slot::Numeral(Number::NewUnit),
-            Slot::Numeral(Number::Within(1, 4096)),
+            Slot::Numeral(COPIES),
             Slot::Fixed("ult"),
             Slot::Fixed("at"),
             Slot::Numeral(Number::Pool),
@@ -311,14 +323,14 @@ pub(crate) fn slots(form: Form) -> &'static [Slot]
         Form::Many(Role::Ult, None) => &[
             Slot::Fixed("many"),
             Slot::Numeral(Number::NewUnit),
-            Slot::Numeral(Number::Within(1, 4096)),
+            Slot::Numeral(COPIES),
             Slot::Fixed("ult"),
             Slot::Fixed("later"),
         ],
         Form::Many(Role::Task, Some(_)) => &[
             Slot::Fixed("many"),
             Slot::Numeral(Number::NewUnit),
-            Slot::Numeral(Number::Within(1, 4096)),
+            Slot::Numeral(COPIES),
             Slot::Fixed("task"),
             Slot::Fixed("at"),
             Slot::Numeral(Number::Pool),
@@ -326,14 +338,14 @@ pub(crate) fn slots(form: Form) -> &'static [Slot]
         Form::Many(Role::Task, None) => &[
             Slot::Fixed("many"),
             Slot::Numeral(Number::NewUnit),
-            Slot::Numeral(Number::Within(1, 4096)),
+            Slot::Numeral(COPIES),
             Slot::Fixed("task"),
             Slot::Fixed("later"),
         ],
         Form::Many(Role::Sched, Some(_)) => &[
             Slot::Fixed("many"),
             Slot::Numeral(Number::NewUnit),
-            Slot::Numeral(Number::Within(1, 4096)),
+            Slot::Numeral(COPIES),
             Slot::Fixed("sched"),
             Slot::Numeral(Number::Sched),
             Slot::Fixed("at"),
@@ -342,7 +354,7 @@ pub(crate) fn slots(form: Form) -> &'static [Slot]
         Form::Many(Role::Sched, None) => &[
             Slot::Fixed("many"),
             Slot::Numeral(Number::NewUnit),
-            Slot::Numeral(Number::Within(1, 4096)),
+            Slot::Numeral(COPIES),
             Slot::Fixed("sched"),
             Slot::Numeral(Number::Sched),
             Slot::Fixed("later"),
@@ -356,14 +368,8 @@ fn op_slots(op: Op) -> &'static [Slot]
     ensures { map slot_of result.now ≡ op_slots op }
 {
     match op {
-        Op::Set(_) => &[
-            Slot::Fixed("set"),
-            Slot::Numeral(Number::Within(0, u64::MAX)),
-        ],
-        Op::Add(_) => &[
-            Slot::Fixed("add"),
-            Slot::Numeral(Number::Within(0, u64::MAX)),
-        ],
+        Op::Set(_) => &[Slot::Fixed("set"), Slot::Numeral(ANY)],
+        Op::Add(_) => &[Slot::Fixed("add"), Slot::Numeral(ANY)],
         Op::Say(_) => &[Slot::Fixed("say"), Slot::AnyWord],
         Op::Print => &[Slot::Fixed("print")],
         Op::KeySet(_) => &[Slot::Fixed("kset"), Slot::Numeral(Number::Key)],
@@ -703,8 +709,8 @@ pub(crate) fn form_of(format: Format, words: &[&[u8]]) -> Option<Form>
 }
 
 // Whether a line of these places may begin with the word that these words begin with.
-fn begins(slots: &[Slot], words: &[&[u8]]) -> bool
-    ensures { result ≡ begins (map slot_of slots.now) (map (λ w. w.now) words.now) }
+fn begins_with(slots: &[Slot], words: &[&[u8]]) -> bool
+    ensures { result ≡ begins_with (map slot_of slots.now) (map (λ w. w.now) words.now) }
 {
     match slots.split_first() {
         None => false,
@@ -717,11 +723,11 @@ fn begins(slots: &[Slot], words: &[&[u8]]) -> bool
 
 // Whether a line of this form may begin with the word that these words begin with, in a text of this format.
 fn may_begin(format: Format, form: Form, words: &[&[u8]]) -> bool
-    ensures { result ≡ (is_in format form && begins (slots form) (map (λ w. w.now) words.now)) }
+    ensures { result ≡ (is_in format form && begins_with (slots form) (map (λ w. w.now) words.now)) }
 {
     match form {
-        Form::Repeat(_) => is_in(format, form) && begins(&[Slot::Fixed("repeat")], words),
-        _ => is_in(format, form) && begins(slots(form), words),
+        Form::Repeat(_) => is_in(format, form) && begins_with(&[Slot::Fixed("repeat")], words),
+        _ => is_in(format, form) && begins_with(slots(form), words),
     }
 }
 

@@ -3,18 +3,20 @@
 ghost use Rattle.std.specs.Prelude.{◌≡◌, map, IfOk, nat_lt, unwrap_or};
 ghost use Rattle.std.specs.Bool.{OnTrue};
 ghost use Rattle.std.specs.List.{list_all};
-ghost use Rattle.abt_machine.specs.Faults.{blocks_task, is_barred, is_beyond, is_early, is_homeless, is_long_word, is_misplaced, is_no_version, is_past_limit, is_there, is_twice, is_within, lacks_units, numbers_of};
+ghost use Rattle.abt_machine.specs.Faults.{blocks_task, is_barred, is_beyond, is_early, is_homeless, is_long_word, is_misplaced, is_no_version, is_past_limit, is_there, is_twice, is_within, lacks_units, numbers_of, values};
 ghost use Rattle.abt_machine.specs.Spelling.{is_number};
 ghost use Rattle.abt_machine.specs.Forms.{numerals, section, slots};
 ghost use Rattle.abt_machine.specs.Declaring.{declared_units};
 ghost use Rattle.abt_workload.specs.Judging.{IsJudged, IsShaped, later_fault};
-ghost use Rattle.abt_workload.specs.Slots.{values};
 
 use crate::draft::Draft;
 use crate::forms::{form_of, is_unknown, is_version, slots};
 use crate::numbers::{Numbered, add_numbers, add_repeated, has_repeated, listed, value};
 use crate::text::{has_control, is_utf8, words_after};
-use abt_machine::{Fault, Form, Format, Number, Op, Role, Want};
+use abt_machine::{
+    Fault, Form, Format, LISTED_LIMIT, Number, OBJECT_LIMIT, Op, POOL_LIMIT, Role, SCHED_LIMIT,
+    WORD_LIMIT, Want,
+};
 use std::alloc::Global;
 
 /// The section that a line of this form belongs to.
@@ -198,9 +200,11 @@ impl Draft {
         ensures { result ≡ is_past_limit self.now form (map (λ w. w.now) words.now) (values numbers.now) }
     {
         match form {
-            Form::Pool(_) => self.pools.len() >= 64,
-            Form::Sched(rule) => self.scheds.len() >= 64 || listed(rule, numbers).len() > 8,
-            Form::Object(_) => self.objects.len() >= 256,
+            Form::Pool(_) => self.pools.len() >= POOL_LIMIT,
+            Form::Sched(rule) => {
+                self.scheds.len() >= SCHED_LIMIT || listed(rule, numbers).len() > LISTED_LIMIT
+            }
+            Form::Object(_) => self.objects.len() >= OBJECT_LIMIT,
             Form::Operation(op) => self.has_no_room(1) || is_long_word(op, words),
             Form::Repeat(op) => {
                 self.has_no_room(value(numbers, 0)) || is_long_word(op, words_after(words, 2))
@@ -284,13 +288,13 @@ impl Draft {
     }
 }
 
-// Whether an operation's line says a word of more than 64 bytes.
+// Whether an operation's line says a word of more bytes than it may have.
 fn is_long_word(op: Op, words: &[&[u8]]) -> bool
     ensures { result ≡ is_long_word op (map (λ w. w.now) words.now) }
 {
     match op {
         Op::Say(_) => match words.get(1) {
-            Some(word) => word.len() > 64,
+            Some(word) => word.len() > WORD_LIMIT,
             None => false,
         },
         _ => false,

@@ -4,17 +4,17 @@ ghost use Rattle.std.specs.Prelude.{◌≡◌, ◌++◌, ◌∷◌, [], map, dro
 ghost use Rattle.std.specs.Bool.{OnTrue};
 ghost use Rattle.std.specs.List.{list_all};
 ghost use Rattle.abt_machine.specs.Declaring.{at, listed};
-ghost use Rattle.abt_machine.specs.Faults.{has_repeated};
+ghost use Rattle.abt_machine.specs.Faults.{has_repeated, valued, values};
 ghost use Rattle.abt_machine.specs.Forms.{numerals};
 ghost use Rattle.abt_machine.specs.Spelling.{is_number};
 ghost use Rattle.abt_machine.specs.Words.{Text};
 ghost use Rattle.abt_machine.specs.declared.grammar.Number.{Number};
 ghost use Rattle.abt_machine.specs.declared.grammar.Number.TheVariants as number;
-ghost use Rattle.abt_workload.specs.Slots.{numbered, numeral_in, repeat_slots, slot_of, values};
+ghost use Rattle.abt_workload.specs.Slots.{numeral_in, repeat_slots, slot_of};
 
 use crate::forms::Slot;
 use crate::text::number;
-use abt_machine::{Number, Rule, Want};
+use abt_machine::{Number, Rule, UNIT_OPERATION_LIMIT, Want};
 use std::alloc::Global;
 use std::collections::BTreeSet;
 
@@ -28,7 +28,7 @@ pub(crate) fn add_numbers(
     numbers: &mut Vec<Numbered>,
 ) -> Result<bool, Want>
     ensures all { IfOk result (λ all. all ≡ list_all (λ p. is_number p.1) (numerals (map slot_of slots.now) (map (λ w. w.now) words.now))) }
-    ensures numbers { IfOk result (λ all. OnTrue all (numbers.new.items ≡ numbers.old.items ++ numbered (numerals (map slot_of slots.now) (map (λ w. w.now) words.now)))) }
+    ensures numbers { IfOk result (λ all. OnTrue all (numbers.new.items ≡ numbers.old.items ++ valued (numerals (map slot_of slots.now) (map (λ w. w.now) words.now)))) }
 {
     match slots.split_first() {
         None => Ok(true),
@@ -52,14 +52,18 @@ pub(crate) fn add_repeated(
     numbers: &mut Vec<Numbered>,
 ) -> Result<bool, Want>
     ensures all { IfOk result (λ all. all ≡ list_all (λ p. is_number p.1) (numerals (repeat_slots (map slot_of slots.now)) (map (λ w. w.now) words.now))) }
-    ensures numbers { IfOk result (λ all. OnTrue all (numbers.new.items ≡ numbers.old.items ++ numbered (numerals (repeat_slots (map slot_of slots.now)) (map (λ w. w.now) words.now)))) }
+    ensures numbers { IfOk result (λ all. OnTrue all (numbers.new.items ≡ numbers.old.items ++ valued (numerals (repeat_slots (map slot_of slots.now)) (map (λ w. w.now) words.now)))) }
 {
     match words.split_first() {
         None => Ok(true),
         Some((_, words)) => match words.split_first() {
             None => Ok(true),
             Some((word, words)) => {
-                if !add(Number::Within(1, 256), word, numbers)? {
+                if !add(
+                    Number::Within(1, UNIT_OPERATION_LIMIT as u64),
+                    word,
+                    numbers,
+                )? {
                     return Ok(false);
                 }
                 add_numbers(slots, words, numbers)
@@ -71,7 +75,7 @@ pub(crate) fn add_repeated(
 // Adds the number of a word in a place, if it is a number's place.
 fn add_number(slot: Slot, word: &[u8], numbers: &mut Vec<Numbered>) -> Result<bool, Want>
     ensures all { IfOk result (λ all. all ≡ list_all (λ p. is_number p.1) (numeral_in (slot_of slot) word.now)) }
-    ensures numbers { IfOk result (λ all. OnTrue all (numbers.new.items ≡ numbers.old.items ++ numbered (numeral_in (slot_of slot) word.now))) }
+    ensures numbers { IfOk result (λ all. OnTrue all (numbers.new.items ≡ numbers.old.items ++ valued (numeral_in (slot_of slot) word.now))) }
 {
     match slot {
         Slot::Numeral(kind) => add(kind, word, numbers),
@@ -82,7 +86,7 @@ fn add_number(slot: Slot, word: &[u8], numbers: &mut Vec<Numbered>) -> Result<bo
 // Adds the number that a word is, if it is one.
 fn add(kind: Number, word: &[u8], numbers: &mut Vec<Numbered>) -> Result<bool, Want>
     ensures all { IfOk result (λ all. all ≡ is_number word.now) }
-    ensures numbers { IfOk result (λ all. OnTrue all (numbers.new.items ≡ numbers.old.items ++ numbered ((kind, word.now) ∷ []))) }
+    ensures numbers { IfOk result (λ all. OnTrue all (numbers.new.items ≡ numbers.old.items ++ valued ((kind, word.now) ∷ []))) }
 {
     match number(word) {
         None => Ok(false),
@@ -96,7 +100,7 @@ fn add(kind: Number, word: &[u8], numbers: &mut Vec<Numbered>) -> Result<bool, W
 // Adds the numbers of pools.
 fn add_pools(words: &[&[u8]], numbers: &mut Vec<Numbered>) -> Result<bool, Want>
     ensures all { IfOk result (λ all. all ≡ list_all (λ (p : Number × Text). is_number p.1) (map (λ word. (number.Pool, word)) (map (λ w. w.now) words.now))) }
-    ensures numbers { IfOk result (λ all. OnTrue all (numbers.new.items ≡ numbers.old.items ++ numbered (map (λ word. (number.Pool, word)) (map (λ w. w.now) words.now)))) }
+    ensures numbers { IfOk result (λ all. OnTrue all (numbers.new.items ≡ numbers.old.items ++ valued (map (λ word. (number.Pool, word)) (map (λ w. w.now) words.now)))) }
 {
     for word in words {
         if !add(Number::Pool, word, numbers)? {

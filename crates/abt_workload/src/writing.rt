@@ -2,7 +2,7 @@
 
 ghost use Rattle.std.specs.Prelude.{◌≡◌, ◌++◌, ◌∷◌, [], All, IfOk, OnOk, decimal, flat_map, map, slice_set, true};
 ghost use Rattle.std.specs.List.{enumerate_from};
-ghost use Rattle.abt_machine.specs.Canonical.{canonical_text, filled, form_words, has_text, keys_lines, object_line, op_words, pool_line, role_of, rule_numbers, sched_line, stream_line, text_in, unit_header, unit_lines};
+ghost use Rattle.abt_machine.specs.Canonical.{canonical_text, filled, form_words, has_text, keys_lines, object_line, op_words, opening_lines, pool_line, role_of, rule_numbers, sched_line, stream_line, text_in, unit_header, unit_lines};
 ghost use Rattle.abt_machine.specs.Forms.{combine_name, kind_name};
 ghost use Rattle.abt_machine.specs.Grammar.{Reads};
 ghost use Rattle.abt_machine.specs.Operations.{IsDeclared};
@@ -98,7 +98,7 @@ fn push_keys(out: &mut Vec<u8>, keys: u32) -> Result<(), Want>
 
 // Appends the lines before those of pools.
 fn push_head(out: &mut Vec<u8>, streams: u32, keys: u32) -> Result<(), Want>
-    ensures { OnOk result (out.new.items ≡ out.old.items ++ text_of (form_words (form.Version format.One) [] [] ∷ form_words form.Streams [] (streams ∷ []) ∷ keys_lines keys)) }
+    ensures { OnOk result (out.new.items ≡ out.old.items ++ text_of (opening_lines format.One streams keys)) }
 {
     push_line(out, Form::Version(Format::One), b"", &[])?;
     push_line(out, Form::Streams, b"", &[u64::from(streams)])?;

@@ -2,8 +2,8 @@ use Rattle.std.proofs.Common.{◌<◌, ℕ, List, All, arith, get_or, length, su
 use Rattle.std.proofs.lemmas.List.{length-map}
 use Rattle.std.proofs.Math.ListN.{get_or-map}
 use Rattle.abt_machine.specs.declared.grammar.Number.{Number}
+use Rattle.abt_machine.specs.Faults.{values}
 use Rattle.abt_workload.specs.Declarable.{IsSmall}
-use Rattle.abt_workload.specs.Slots.{values}
 use Rattle.abt_workload.proofs.declare.pools_in.Goals as goal
 
 small-at : (ns : List (Number × ℕ)) (i : ℕ) (d : Number × ℕ) → All IsSmall (values ns) → i < length ns → IsSmall (get_or ns i d).1

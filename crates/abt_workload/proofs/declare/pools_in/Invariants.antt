@@ -1,6 +1,6 @@
 use Rattle.std.proofs.Common.{◌≡◌, map, take}
+use Rattle.abt_machine.specs.Faults.{values}
 use Rattle.abt_machine.specs.Numbers.{pool_no}
-use Rattle.abt_workload.specs.Slots.{values}
 use Rattle.abt_workload.proofs.declare.pools_in.Given as goal
 
 abbrev pub invariant-loop-n : goal.invariant-loop-n

@@ -1,5 +1,6 @@
 use Rattle.std.proofs.Common.{◌≡◌, ◌≤◌, ◌+◌, ◌++◌, flat_map, length}
 use Rattle.abt_machine.specs.Declaring.{alike}
+use Rattle.abt_machine.specs.Limits.{operation_limit}
 use Rattle.abt_machine.specs.Operations.{said_by}
 use Rattle.abt_machine.specs.Workloads.{all_ops, ops_of}
 use Rattle.abt_workload.specs.Declarable.{AreLater}
@@ -8,7 +9,7 @@ use Rattle.abt_workload.proofs.declare.push_alike.Given as goal
 abbrev pub invariant-loop-left : goal.invariant-loop-left
 invariant-loop-left l = record {
   units : l.units ++ alike l.left l.said l.part ≡ l.fn.units ++ alike l.copies l.said l.fn.part;
-  few_ops : length (all_ops l.units) + length (all_ops (alike l.left l.said l.part)) ≤ 65536;
+  few_ops : length (all_ops l.units) + length (all_ops (alike l.left l.said l.part)) ≤ operation_limit;
   words : AreLater l.left l.said (flat_map said_by (ops_of l.part.body));
 }
 

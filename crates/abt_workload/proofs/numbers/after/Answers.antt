@@ -1,7 +1,7 @@
 use Rattle.std.proofs.Common.{◌≡◌, ◌∙◌, ◌-◌, ◌≤◌, ℕ, List, ap, arith, drop, length, length-drop, sym, take}
 use Rattle.std.proofs.lemmas.List.{drop-map, take_all}
 use Rattle.abt_machine.specs.declared.grammar.Number.{Number}
-use Rattle.abt_workload.specs.Slots.{values}
+use Rattle.abt_machine.specs.Faults.{values}
 use Rattle.abt_workload.proofs.numbers.after.Goals as goal
 
 cut : (k : ℕ) (numbers : List (Number × ℕ)) → values (take (length numbers - k) (drop k numbers)) ≡ drop k (values numbers)

@@ -2,8 +2,7 @@ use Rattle.std.proofs.Common.{◌≡◌, ◌==◌, ◌≤◌, ℕ, drop, false, 
 use Rattle.std.specs.List.{list_any}
 use Rattle.std.specs.Ordering.{nat_cmp}
 use Rattle.std.specs.BTreeSet.{contains}
-use Rattle.abt_machine.specs.Faults.{has_repeated}
-use Rattle.abt_workload.specs.Slots.{values}
+use Rattle.abt_machine.specs.Faults.{has_repeated, values}
 use Rattle.abt_workload.proofs.numbers.has_repeated.Given as goal
 
 abbrev pub invariant-loop-left : goal.invariant-loop-left

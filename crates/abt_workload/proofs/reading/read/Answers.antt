@@ -1,5 +1,5 @@
 use Rattle.std.proofs.Common.{◌∙◌, sym}
-use Rattle.abt_workload.proofs.Bounds.{le-not}
+use Rattle.std.proofs.lemmas.Bool.{ltb-false}
 use Rattle.abt_workload.proofs.Firm.{seen-closable, seen-reads, seen-valid}
 use Rattle.abt_workload.proofs.reading.read.Goals as goal
 
@@ -10,4 +10,4 @@ pub new-requires : goal.new-requires
 new-requires c = seen-valid c.args.bytes.now _ c.in-Ok.parts c.in_ok-draft.ensures.ok c.in-Ok.ensures
 
 pub returns-in-Ok-clause-ok : goal.returns-in-Ok-clause-ok
-returns-in-Ok-clause-ok c = seen-reads c.args.bytes.now _ _ (le-not _ _ (sym c.is_too_long.ensures ∙ c.if-is_too_long.false)) c.in_ok-draft.ensures.ok (c.new.ensures ∙ c.in-Ok.ensures)
+returns-in-Ok-clause-ok c = seen-reads c.args.bytes.now _ _ (ltb-false _ _ (sym c.is_too_long.ensures ∙ c.if-is_too_long.false)) c.in_ok-draft.ensures.ok (c.new.ensures ∙ c.in-Ok.ensures)

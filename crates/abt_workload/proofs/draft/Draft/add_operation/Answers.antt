@@ -1,6 +1,6 @@
 use Rattle.std.proofs.Common.{◌≡◌, OnOk, map, subst}
 use Rattle.abt_machine.specs.Declaring.{Above}
-use Rattle.abt_workload.specs.Slots.{values}
+use Rattle.abt_machine.specs.Faults.{values}
 use Rattle.abt_workload.proofs.Operating.{operated}
 use Rattle.abt_workload.proofs.draft.Draft.add_operation.Goals as goal
 

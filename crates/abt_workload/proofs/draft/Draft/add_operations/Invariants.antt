@@ -1,6 +1,6 @@
 use Rattle.std.proofs.Common.{◌≡◌, ◌≤◌, ◌+◌, length, map}
 use Rattle.abt_machine.specs.Declaring.{with_operations}
-use Rattle.abt_workload.specs.Slots.{values}
+use Rattle.abt_machine.specs.Faults.{values}
 use Rattle.abt_workload.proofs.draft.Draft.add_operations.Given as goal
 
 abbrev pub invariant-loop-left : goal.invariant-loop-left
