@@ -21,8 +21,9 @@ use Rattle.abt_machine.specs.Workloads.{IsCondition, condition_number, is_condit
 use Rattle.abt_machine.specs.Access.{may_put, may_take}
 use Rattle.abt_machine.specs.Sites.{first_pool}
 use Rattle.abt_machine.specs.Fronts.{owns}
+use Rattle.abt_machine.specs.State.{State}
 use Rattle.abt_machine.specs.Valid.{IsValid}
-use Rattle.abt_machine.specs.Values.{Owned, barrier_at, conditions_from, conditions_of, eventual_at, future_at, monitor_at, rwlock_at, waiters_at}
+use Rattle.abt_machine.specs.Values.{Owned, barrier_at, conditions_from, conditions_of, eventual_at, future_at, monitor_at, object_of, rwlock_at, waiters_at}
 use Rattle.abt_machine.specs.Acts.{Act, Put, Take, Look, End, moved}
 use Rattle.abt_machine.specs.Acts as act
 use Rattle.abt_machine.specs.Pools.{HasSide}
@@ -32,47 +33,38 @@ use Rattle.abt_machine.proofs.Declared.{first_pool-declared, mutex-declared, op-
 use Rattle.abt_laws.proofs.Options.{none≢some, some-injective}
 use Rattle.abt_unit.specs.Fits.{Fits}
 use Rattle.abt_unit.proofs.Fitting.{Fits-moved}
-use Rattle.abt_chain.specs.Keeping.{Have, IsPoolOf, contents_asked}
+use Rattle.abt_chain.specs.Keeping.{Contents, Have, IsPoolOf, contents_asked, nothing}
 use Rattle.abt_chain.proofs.Kept.{Have-nothing, Have-pool, Have-unit}
 use Rattle.abt_calls.specs.Allowed.{Allows, DeskAllows, MonitorAllows, EventualAllows, BarrierAllows, RwLockAllows}
-use Rattle.abt_calls.specs.Asking.{MayCall, PlansMayCall, TakesMayCall, PutsMayCall, LooksMayCall, EndsMayCall}
+use Rattle.abt_calls.specs.Asking.{IsSite, MayCall, PlansMayCall, TakesMayCall, PutsMayCall, LooksMayCall, EndsMayCall}
 
 -- Sites.
 
--- what comes with the act is the workload's
-abbrev Comes : Parts → Act → Type 0
-Comes W asked = Have (Fits W) (IsPoolOf W) (contents_asked asked)
+-- the site is declared, and the act may be asked there in every state
+pub record MayAsk (W : Parts) (x : Site) (asked : Act) : Type 0 where
+  pub site : IsSite W x
+  pub allowed : (S : State) → Allows (object_of W S x) asked
 
-nothing-comes : (W : Parts) → Have (Fits W) (IsPoolOf W) (record { units = []; pools = [] })
-nothing-comes W = Have-nothing (Fits W) (IsPoolOf W)
+desk-call : (W : Parts) (v : UnitNo) (asked : Act) → v.0 < length W.units → DeskAllows asked → MayAsk W (site.Desk v) asked
+desk-call W v asked declared allowed = record { site = declared; allowed = λ S. allowed }
 
-unit-comes : (W : Parts) (o : Owned) → Fits W o → Have (Fits W) (IsPoolOf W) (record { units = o ∷ []; pools = [] })
-unit-comes W o fits = Have-unit (Fits W) (IsPoolOf W) o fits
-
-pool-comes : (W : Parts) (p : ℕ) → p < length W.pools → Have (Fits W) (IsPoolOf W) (record { units = []; pools = p ∷ [] })
-pool-comes W p declared = Have-pool (Fits W) (IsPoolOf W) p declared
-
-desk-call : (W : Parts) (v : UnitNo) (asked : Act) → v.0 < length W.units → DeskAllows asked → Comes W asked → MayCall W (site.Desk v) asked
-desk-call W v asked declared allowed comes = record { site = declared; allowed = λ S. allowed; contents = comes }
-
-monitor-call : (W : Parts) (x : ObjectNo) (asked : Act) → IsMutex W x.0 → MonitorAllows (length (conditions_of W x.0)) asked → Comes W asked → MayCall W (site.Monitor x) asked
-monitor-call W x asked is allowed comes = record {
+monitor-call : (W : Parts) (x : ObjectNo) (asked : Act) → IsMutex W x.0 → MonitorAllows (length (conditions_of W x.0)) asked → MayAsk W (site.Monitor x) asked
+monitor-call W x asked is allowed = record {
   site = is;
   allowed = λ S. subst (λ t. Allows (monitor_at W S x.0 t) asked) (sym is) (subst (λ n. MonitorAllows n asked) (sym (length-map (conditions_of W x.0) (waiters_at W S))) allowed);
-  contents = comes;
 }
 
-eventual-call : (W : Parts) (x : ObjectNo) (asked : Act) → IsEventual W x.0 → EventualAllows asked → Comes W asked → MayCall W (site.Eventual x) asked
-eventual-call W x asked is allowed comes = record { site = is; allowed = λ S. subst (λ t. Allows (eventual_at W S x.0 t) asked) (sym is) allowed; contents = comes }
+eventual-call : (W : Parts) (x : ObjectNo) (asked : Act) → IsEventual W x.0 → EventualAllows asked → MayAsk W (site.Eventual x) asked
+eventual-call W x asked is allowed = record { site = is; allowed = λ S. subst (λ t. Allows (eventual_at W S x.0 t) asked) (sym is) allowed }
 
-future-call : (W : Parts) (x : ObjectNo) (asked : Act) → IsFuture W x.0 → EventualAllows asked → Comes W asked → MayCall W (site.Future x) asked
-future-call W x asked is allowed comes = record { site = is; allowed = λ S. subst (λ t. Allows (future_at W S x.0 t) asked) (sym is.2) allowed; contents = comes }
+future-call : (W : Parts) (x : ObjectNo) (asked : Act) → IsFuture W x.0 → EventualAllows asked → MayAsk W (site.Future x) asked
+future-call W x asked is allowed = record { site = is; allowed = λ S. subst (λ t. Allows (future_at W S x.0 t) asked) (sym is.2) allowed }
 
-barrier-call : (W : Parts) (x : ObjectNo) (asked : Act) → IsBarrier W x.0 → BarrierAllows asked → Comes W asked → MayCall W (site.Barrier x) asked
-barrier-call W x asked is allowed comes = record { site = is; allowed = λ S. subst (λ t. Allows (barrier_at W S x.0 t) asked) (sym is.1) allowed; contents = comes }
+barrier-call : (W : Parts) (x : ObjectNo) (asked : Act) → IsBarrier W x.0 → BarrierAllows asked → MayAsk W (site.Barrier x) asked
+barrier-call W x asked is allowed = record { site = is; allowed = λ S. subst (λ t. Allows (barrier_at W S x.0 t) asked) (sym is.1) allowed }
 
-rwlock-call : (W : Parts) (x : ObjectNo) (asked : Act) → IsRwLock W x.0 → RwLockAllows asked → Comes W asked → MayCall W (site.Rw x) asked
-rwlock-call W x asked is allowed comes = record { site = is; allowed = λ S. subst (λ t. Allows (rwlock_at W S x.0 t) asked) (sym is) allowed; contents = comes }
+rwlock-call : (W : Parts) (x : ObjectNo) (asked : Act) → IsRwLock W x.0 → RwLockAllows asked → MayAsk W (site.Rw x) asked
+rwlock-call W x asked is allowed = record { site = is; allowed = λ S. subst (λ t. Allows (rwlock_at W S x.0 t) asked) (sym is) allowed }
 
 -- Conditions.
 
@@ -97,77 +89,120 @@ condition-below W x is =
     number-below (mutex_of W x) 0 x W.objects (thing.Cond is.0) is.1 (ap (λ n. is_condition_of n (thing.Cond is.0)) m ∙ eq-eqb is.0.0 is.0.0 refl)
 
 -- an act on a condition
-condition-call : (W : Parts) (x : ℕ) (asked : Act) → IsValid W → IsCondition W x → (condition_number W x < length (conditions_of W (mutex_of W x)) → MonitorAllows (length (conditions_of W (mutex_of W x))) asked) → Comes W asked
-    → MayCall W (site.Monitor (object_no (mutex_of W x))) asked
-condition-call W x asked valid is allowed comes = monitor-call W (object_no (mutex_of W x)) asked (mutex-declared W x valid is) (allowed (condition-below W x is)) comes
+condition-call : (W : Parts) (x : ℕ) (asked : Act) → IsValid W → IsCondition W x → (condition_number W x < length (conditions_of W (mutex_of W x)) → MonitorAllows (length (conditions_of W (mutex_of W x))) asked)
+    → MayAsk W (site.Monitor (object_no (mutex_of W x))) asked
+condition-call W x asked valid is allowed = monitor-call W (object_no (mutex_of W x)) asked (mutex-declared W x valid is) (allowed (condition-below W x is))
 
 -- Plans.
 
 -- what a plan calls may be called
 abbrev MayPlan : Parts → Plan → Type 0
 MayPlan W (Does e) = Unit {0}
-MayPlan W (Calls x asked) = MayCall W x asked
+MayPlan W (Calls x asked) = MayAsk W x asked
 MayPlan W (Exits b) = Unit {0}
 
-reached : (W : Parts) (may : Bool) (x : Site) (asked : Act) (o : Owned) → MayCall W x asked → MayPlan W (if may then Calls x asked else denied o)
-reached W true x asked o call = call
-reached W false x asked o call = tt
+granted : (W : Parts) (may : Bool) (x : Site) (asked : Act) (o : Owned) → MayAsk W x asked → MayPlan W (if may then Calls x asked else denied o)
+granted W true x asked o call = call
+granted W false x asked o call = tt
 
-plan-may : (W : Parts) (s : ℕ) (a : Op) (o : Owned) → IsValid W → Fits W o → Fits W (moved o) → IsDeclared W a → MayPlan W (plan_of W s a o)
-plan-may W s (op.Set n) o valid fits later is = tt
-plan-may W s (op.Add n) o valid fits later is = tt
-plan-may W s (op.Say w) o valid fits later is = tt
-plan-may W s op.Print o valid fits later is = tt
-plan-may W s (op.KeySet k) o valid fits later is = tt
-plan-may W s (op.KeyGet k) o valid fits later is = tt
-plan-may W s op.Yield o valid fits later is = tt
-plan-may W s (op.YieldTo v p) o valid fits later is =
-    reached W (may_take W s p.0) (site.Pool p) (act.Remove v.0) o (record { site = is.1; allowed = λ S. tt; contents = nothing-comes W })
-plan-may W s op.Suspend o valid fits later is = desk-call W (unit_no o.number) (act.Suspend (moved o)) fits.number tt (unit-comes W (moved o) later)
-plan-may W s op.Exit o valid fits later is = tt
-plan-may W s (op.Resume v) o valid fits later is = desk-call W v act.Resume is tt (nothing-comes W)
-plan-may W s (op.Create v p) o valid fits later is =
-    reached W (may_put W s p.0) (site.Desk v) (act.Create p.0) o (desk-call W v (act.Create p.0) is.0 tt (pool-comes W p.0 is.1))
-plan-may W s (op.Join v) o valid fits later is = desk-call W v (act.Join (moved o)) is tt (unit-comes W (moved o) later)
-plan-may W s (op.Cancel v) o valid fits later is = desk-call W v act.AskCancel is tt (nothing-comes W)
-plan-may W s (op.Migrate v p) o valid fits later is =
-    reached W (may_put W s p.0) (site.Desk v) (act.AskMigrate p.0) o (desk-call W v (act.AskMigrate p.0) is.0 tt (pool-comes W p.0 is.1))
-plan-may W s (op.MigrateTo v r) o valid fits later is =
-    reached W (may_put W s (first_pool W r.0)) (site.Desk v) (act.AskMigrate (first_pool W r.0)) o
-    (desk-call W v (act.AskMigrate (first_pool W r.0)) is.0 tt (pool-comes W (first_pool W r.0) (first_pool-declared W r.0 valid is.1)))
-plan-may W s (op.Migratable v b) o valid fits later is = desk-call W v (act.SetMigratable b) is tt (nothing-comes W)
-plan-may W s (op.Revive v p) o valid fits later is =
-    reached W (may_put W s p.0) (site.Desk v) (act.Revive p.0) o (desk-call W v (act.Revive p.0) is.0 tt (pool-comes W p.0 is.1))
-plan-may W s (op.Lock x) o valid fits later is = monitor-call W x (act.Lock (moved o)) is tt (unit-comes W (moved o) later)
-plan-may W s (op.TryLock x) o valid fits later is = monitor-call W x (act.TryLock o.number) is tt (nothing-comes W)
-plan-may W s (op.Unlock x) o valid fits later is = monitor-call W x (act.Unlock o.number) is tt (nothing-comes W)
-plan-may W s (op.Load x) o valid fits later is = monitor-call W x (act.Load o.number) is tt (nothing-comes W)
-plan-may W s (op.Store x) o valid fits later is = monitor-call W x (act.Store o.number o.carried.acc) is tt (nothing-comes W)
-plan-may W s (op.CondWait x) o valid fits later is =
-    condition-call W x.0 (act.Wait (condition_number W x.0) (moved o)) valid is (λ below. below) (unit-comes W (moved o) later)
-plan-may W s (op.Signal x) o valid fits later is = condition-call W x.0 (act.Signal (condition_number W x.0)) valid is (λ below. below) (nothing-comes W)
-plan-may W s (op.Broadcast x) o valid fits later is =
-    condition-call W x.0 (act.Broadcast (condition_number W x.0)) valid is (λ below. below) (nothing-comes W)
-plan-may W s (op.EvWait x) o valid fits later is = eventual-call W x (act.Await (moved o)) is tt (unit-comes W (moved o) later)
-plan-may W s (op.EvSet x) o valid fits later is = eventual-call W x (act.Fill o.carried.acc) is tt (nothing-comes W)
-plan-may W s (op.EvReset x) o valid fits later is = eventual-call W x act.Reset is tt (nothing-comes W)
-plan-may W s (op.EvTest x) o valid fits later is = eventual-call W x act.Test is tt (nothing-comes W)
-plan-may W s (op.FuWait x) o valid fits later is = future-call W x (act.Await (moved o)) is tt (unit-comes W (moved o) later)
-plan-may W s (op.FuSet x) o valid fits later is = future-call W x (act.Fill o.carried.acc) is tt (nothing-comes W)
-plan-may W s (op.FuReset x) o valid fits later is = future-call W x act.Reset is tt (nothing-comes W)
-plan-may W s (op.FuTest x) o valid fits later is = future-call W x act.Test is tt (nothing-comes W)
-plan-may W s (op.BarWait x) o valid fits later is = barrier-call W x (act.Arrive (moved o)) is tt (unit-comes W (moved o) later)
-plan-may W s (op.ReadLock x) o valid fits later is = rwlock-call W x (act.ReadLock (moved o)) is tt (unit-comes W (moved o) later)
-plan-may W s (op.WriteLock x) o valid fits later is = rwlock-call W x (act.WriteLock (moved o)) is tt (unit-comes W (moved o) later)
-plan-may W s (op.RwUnlock x) o valid fits later is = rwlock-call W x (act.RwUnlock o.number) is tt (nothing-comes W)
-plan-may W s (op.RwLoad x) o valid fits later is = rwlock-call W x (act.Load o.number) is tt (nothing-comes W)
-plan-may W s (op.RwStore x) o valid fits later is = rwlock-call W x (act.Store o.number o.carried.acc) is tt (nothing-comes W)
+plan-may : (W : Parts) (s : ℕ) (a : Op) (o : Owned) → IsValid W → o.number < length W.units → IsDeclared W a → MayPlan W (plan_of W s a o)
+plan-may W s (op.YieldTo v p) o valid number is =
+    granted W (may_take W s p.0) (site.Pool p) (act.Remove v.0) o (record { site = is.1; allowed = λ S. tt })
+plan-may W s op.Suspend o valid number is = desk-call W (unit_no o.number) (act.Suspend (moved o)) number tt
+plan-may W s (op.Resume v) o valid number is = desk-call W v act.Resume is tt
+plan-may W s (op.Create v p) o valid number is =
+    granted W (may_put W s p.0) (site.Desk v) (act.Create p.0) o (desk-call W v (act.Create p.0) is.0 tt)
+plan-may W s (op.Join v) o valid number is = desk-call W v (act.Join (moved o)) is tt
+plan-may W s (op.Cancel v) o valid number is = desk-call W v act.AskCancel is tt
+plan-may W s (op.Migrate v p) o valid number is =
+    granted W (may_put W s p.0) (site.Desk v) (act.AskMigrate p.0) o (desk-call W v (act.AskMigrate p.0) is.0 tt)
+plan-may W s (op.MigrateTo v r) o valid number is =
+    granted W (may_put W s (first_pool W r.0)) (site.Desk v) (act.AskMigrate (first_pool W r.0)) o
+    (desk-call W v (act.AskMigrate (first_pool W r.0)) is.0 tt)
+plan-may W s (op.Migratable v b) o valid number is = desk-call W v (act.SetMigratable b) is tt
+plan-may W s (op.Revive v p) o valid number is =
+    granted W (may_put W s p.0) (site.Desk v) (act.Revive p.0) o (desk-call W v (act.Revive p.0) is.0 tt)
+plan-may W s (op.Lock x) o valid number is = monitor-call W x (act.Lock (moved o)) is tt
+plan-may W s (op.TryLock x) o valid number is = monitor-call W x (act.TryLock o.number) is tt
+plan-may W s (op.Unlock x) o valid number is = monitor-call W x (act.Unlock o.number) is tt
+plan-may W s (op.Load x) o valid number is = monitor-call W x (act.Load o.number) is tt
+plan-may W s (op.Store x) o valid number is = monitor-call W x (act.Store o.number o.carried.acc) is tt
+plan-may W s (op.CondWait x) o valid number is =
+    condition-call W x.0 (act.Wait (condition_number W x.0) (moved o)) valid is (λ below. below)
+plan-may W s (op.Signal x) o valid number is = condition-call W x.0 (act.Signal (condition_number W x.0)) valid is (λ below. below)
+plan-may W s (op.Broadcast x) o valid number is =
+    condition-call W x.0 (act.Broadcast (condition_number W x.0)) valid is (λ below. below)
+plan-may W s (op.EvWait x) o valid number is = eventual-call W x (act.Await (moved o)) is tt
+plan-may W s (op.EvSet x) o valid number is = eventual-call W x (act.Fill o.carried.acc) is tt
+plan-may W s (op.EvReset x) o valid number is = eventual-call W x act.Reset is tt
+plan-may W s (op.EvTest x) o valid number is = eventual-call W x act.Test is tt
+plan-may W s (op.FuWait x) o valid number is = future-call W x (act.Await (moved o)) is tt
+plan-may W s (op.FuSet x) o valid number is = future-call W x (act.Fill o.carried.acc) is tt
+plan-may W s (op.FuReset x) o valid number is = future-call W x act.Reset is tt
+plan-may W s (op.FuTest x) o valid number is = future-call W x act.Test is tt
+plan-may W s (op.BarWait x) o valid number is = barrier-call W x (act.Arrive (moved o)) is tt
+plan-may W s (op.ReadLock x) o valid number is = rwlock-call W x (act.ReadLock (moved o)) is tt
+plan-may W s (op.WriteLock x) o valid number is = rwlock-call W x (act.WriteLock (moved o)) is tt
+plan-may W s (op.RwUnlock x) o valid number is = rwlock-call W x (act.RwUnlock o.number) is tt
+plan-may W s (op.RwLoad x) o valid number is = rwlock-call W x (act.Load o.number) is tt
+plan-may W s (op.RwStore x) o valid number is = rwlock-call W x (act.Store o.number o.carried.acc) is tt
+plan-may W s _ o valid number is = tt
+
+-- what the operation of a declared unit calls
+pub may-ask : (W : Parts) (s : ℕ) (a : Op) (o : Owned) (x : Site) (asked : Act) → IsValid W → o.number < length W.units → IsDeclared W a → plan_of W s a o ≡ Calls x asked → MayAsk W x asked
+may-ask W s a o x asked valid number is plan = subst (MayPlan W) plan (plan-may W s a o valid number is)
+
+-- Contents.
+
+nothing-comes : (W : Parts) → Have (Fits W) (IsPoolOf W) nothing
+nothing-comes W = Have-nothing (Fits W) (IsPoolOf W)
+
+unit-comes : (W : Parts) (o : Owned) → Fits W o → Have (Fits W) (IsPoolOf W) (record { units = o ∷ []; pools = [] })
+unit-comes W o fits = Have-unit (Fits W) (IsPoolOf W) o fits
+
+pool-comes : (W : Parts) (p : ℕ) → p < length W.pools → Have (Fits W) (IsPoolOf W) (record { units = []; pools = p ∷ [] })
+pool-comes W p declared = Have-pool (Fits W) (IsPoolOf W) p declared
+
+-- what comes with the call of a plan
+abbrev comes_with : Plan → Contents
+comes_with (Calls x asked) = contents_asked asked
+comes_with _ = nothing
+
+-- what comes if the pool may be reached
+granted-comes : (W : Parts) (may : Bool) (x : Site) (asked : Act) (o : Owned) → Have (Fits W) (IsPoolOf W) (contents_asked asked) → Have (Fits W) (IsPoolOf W) (comes_with (if may then Calls x asked else denied o))
+granted-comes W true x asked o comes = comes
+granted-comes W false x asked o comes = nothing-comes W
+
+-- what comes with the call of a unit's operation is the workload's
+plan-comes : (W : Parts) (s : ℕ) (a : Op) (o : Owned) → IsValid W → Fits W (moved o) → IsDeclared W a → Have (Fits W) (IsPoolOf W) (comes_with (plan_of W s a o))
+plan-comes W s (op.YieldTo v p) o valid later is = granted-comes W (may_take W s p.0) (site.Pool p) (act.Remove v.0) o (nothing-comes W)
+plan-comes W s op.Suspend o valid later is = unit-comes W (moved o) later
+plan-comes W s (op.Create v p) o valid later is = granted-comes W (may_put W s p.0) (site.Desk v) (act.Create p.0) o (pool-comes W p.0 is.1)
+plan-comes W s (op.Join v) o valid later is = unit-comes W (moved o) later
+plan-comes W s (op.Migrate v p) o valid later is = granted-comes W (may_put W s p.0) (site.Desk v) (act.AskMigrate p.0) o (pool-comes W p.0 is.1)
+plan-comes W s (op.MigrateTo v r) o valid later is =
+    granted-comes W (may_put W s (first_pool W r.0)) (site.Desk v) (act.AskMigrate (first_pool W r.0)) o (pool-comes W (first_pool W r.0) (first_pool-declared W r.0 valid is.1))
+plan-comes W s (op.Revive v p) o valid later is = granted-comes W (may_put W s p.0) (site.Desk v) (act.Revive p.0) o (pool-comes W p.0 is.1)
+plan-comes W s (op.Lock x) o valid later is = unit-comes W (moved o) later
+plan-comes W s (op.CondWait x) o valid later is = unit-comes W (moved o) later
+plan-comes W s (op.EvWait x) o valid later is = unit-comes W (moved o) later
+plan-comes W s (op.FuWait x) o valid later is = unit-comes W (moved o) later
+plan-comes W s (op.BarWait x) o valid later is = unit-comes W (moved o) later
+plan-comes W s (op.ReadLock x) o valid later is = unit-comes W (moved o) later
+plan-comes W s (op.WriteLock x) o valid later is = unit-comes W (moved o) later
+plan-comes W s _ o valid later is = nothing-comes W
+
+-- an act that may be asked may be called with what is the workload's
+called : (W : Parts) (x : Site) (asked : Act) → MayAsk W x asked → Have (Fits W) (IsPoolOf W) (contents_asked asked) → MayCall W x asked
+called W x asked may comes = record { site = may.site; allowed = may.allowed; contents = comes }
+
+-- Calls.
 
 pub plans-may-call : PlansMayCall
 plans-may-call W s a o x asked valid fits is plan =
-    subst (MayPlan W) plan (plan-may W s a o valid fits (Fits-moved fits a is) (op-declared W o.number o.carried.position a valid is))
-
--- Other calls.
+    let declared : IsDeclared W a = op-declared W o.number o.carried.position a valid is in
+    called W x asked (may-ask W s a o x asked valid fits.number declared plan)
+    (subst (λ p. Have (Fits W) (IsPoolOf W) (comes_with p)) plan (plan-comes W s a o valid (Fits-moved fits a is) declared))
 
 side-by : (k : Kind) (own : Bool) → HasSide k (side_by k own)
 side-by kind.Fifo own = tt
@@ -181,7 +216,8 @@ pub puts-may-call : PutsMayCall
 puts-may-call W o p fits is = record { site = subst (λ n. n < length W.pools) is fits.home; allowed = λ S. tt; contents = unit-comes W o fits }
 
 pub looks-may-call : LooksMayCall
-looks-may-call W o u fits is = desk-call W u Look (subst (λ n. n < length W.units) is fits.number) tt (nothing-comes W)
+looks-may-call W o u fits is = called W (site.Desk u) Look (desk-call W u Look (subst (λ n. n < length W.units) is fits.number) tt) (nothing-comes W)
 
 pub ends-may-call : EndsMayCall
-ends-may-call W o u cause fits is = desk-call W u (End o cause) (subst (λ n. n < length W.units) is fits.number) tt (unit-comes W o fits)
+ends-may-call W o u cause fits is =
+    called W (site.Desk u) (End o cause) (desk-call W u (End o cause) (subst (λ n. n < length W.units) is fits.number) tt) (unit-comes W o fits)
