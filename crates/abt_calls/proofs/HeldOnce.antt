@@ -1,10 +1,11 @@
 -- Each declared unit is held once.
 use Rattle.std.proofs.Common.{◌≡◌, ◌≢◌, ℕ, zero, suc, ◌+◌, ◌<◌, ◌≤◌, ◌==◌, Bool, true, false, List, [], ◌∷◌, ◌++◌, length, map, slice_get, Option, Some, None, refl, sym, ◌∙◌, ap, subst, arith, inl, inr}
-use Rattle.std.specs.Prelude.{◌&&◌, is_some, if◌then◌else◌}
+use Rattle.std.specs.Prelude.{is_some, if◌then◌else◌}
 use Rattle.std.specs.List.{flat_map}
 use Rattle.std.proofs.lemmas.Bool.{cases_Bool, eq-eqb, eqb-true, false_from_ne_true}
 use Rattle.abt_machine.specs.declared.events.Place.{Place}
 use Rattle.abt_machine.specs.declared.events.Place.TheVariants as place
+use Rattle.abt_machine.specs.declared.events.Site.{Site}
 use Rattle.abt_machine.specs.declared.events.Site.TheVariants as site
 use Rattle.abt_machine.specs.declared.events.Spot.TheVariants as spot
 use Rattle.abt_machine.specs.declared.numbers.ObjectNo.{ObjectNo}
@@ -21,8 +22,9 @@ use Rattle.abt_machine.specs.Queues.{first}
 use Rattle.abt_machine.specs.State.{State}
 use Rattle.abt_machine.specs.Lines.{Line, InPool, InTray, InHand, InNext, InFrames, Joining, Waiting, standing, ticket_in}
 use Rattle.abt_machine.specs.Sound.{HoldsUp, IsPlaced, Sound}
-use Rattle.abt_machine.specs.Values.{Owned, barrier_at, conditions_from, conditions_of, eventual_at, future_at, monitor_at, owned_at, owned_in, phase_at, rwlock_at, waiters_at}
+use Rattle.abt_machine.specs.Values.{NotHere, Object, Owned, barrier_at, conditions_from, conditions_of, eventual_at, future_at, monitor_at, owned_at, owned_in, phase_at, rwlock_at, waiters_at}
 use Rattle.abt_laws.proofs.Lists.{EachOf}
+use Rattle.abt_laws.proofs.Options.{none≢some, some-injective}
 use Rattle.abt_laws.proofs.Places.{same-self}
 use Rattle.abt_laws.proofs.Standing.{StandsIn, each-stands}
 use Rattle.abt_desk.specs.Keeps.{held_in}
@@ -30,7 +32,7 @@ use Rattle.abt_calls.specs.Keeps.{contents_of}
 use Rattle.abt_calls.specs.Effects.{unit_in}
 use Rattle.abt_laws.specs.Footprint.{Holder, OfStream, OfSite, holder}
 use Rattle.abt_simulation.specs.Merging.{same_site}
-use Rattle.abt_simulation.proofs.Merged.{site-is}
+use Rattle.abt_simulation.proofs.Merged.{site-is, site-self}
 use Rattle.abt_calls.specs.Holders.{IsHolder, UnitsAreHeldOnce, units_with}
 use Rattle.abt_calls.proofs.LineTallies.{eqb-flip, if-zero, line-tally, one, one-other, one-same, some-same}
 use Rattle.abt_calls.proofs.Tallies.{tally, tally-append, tally-cons, tally-nil, tally-one, times-is}
@@ -44,117 +46,57 @@ same_holder h k = false
 
 same-itself : (h : Holder) → same_holder h h ≡ true
 same-itself (OfStream s) = eq-eqb s s refl
-same-itself (OfSite (site.Pool p)) = eq-eqb p.0 p.0 refl
-same-itself (OfSite (site.Desk u)) = eq-eqb u.0 u.0 refl
-same-itself (OfSite (site.Monitor x)) = eq-eqb x.0 x.0 refl
-same-itself (OfSite (site.Eventual x)) = eq-eqb x.0 x.0 refl
-same-itself (OfSite (site.Future x)) = eq-eqb x.0 x.0 refl
-same-itself (OfSite (site.Barrier x)) = eq-eqb x.0 x.0 refl
-same-itself (OfSite (site.Rw x)) = eq-eqb x.0 x.0 refl
+same-itself (OfSite x) = site-self x
 
 same-is-one : (h k : Holder) → same_holder h k ≡ true → h ≡ k
 same-is-one (OfStream s) (OfStream r) e = ap (λ n. OfStream n) (sym (eqb-true r s e))
 same-is-one (OfSite x) (OfSite y) e = ap (λ z. OfSite z) (sym (site-is y x e))
 same-is-one _ _ e = cc
 
--- Kinds of things.
+-- Sites of things.
+
+-- the number of an object that all who wait at the site wait for
+abbrev waited_at : Site → Option ℕ
+waited_at (site.Eventual x) = Some x.0
+waited_at (site.Future x) = Some x.0
+waited_at (site.Barrier x) = Some x.0
+waited_at (site.Rw x) = Some x.0
+waited_at x = None
+
+-- only the thing of that number stands there
+thing-waited : (x y : ℕ) (t : Option Thing) → waited_at (thing_site y t) ≡ Some x → y ≡ x
+thing-waited x y (Some thing.Eventual) e = some-injective e
+thing-waited x y (Some (thing.Future n c)) e = some-injective e
+thing-waited x y (Some (thing.Barrier n)) e = some-injective e
+thing-waited x y (Some thing.RwLock) e = some-injective e
+thing-waited x y _ e = absurd (none≢some e)
+
+-- no thing stands at a pool
+no-pool : (p : PoolNo) (y : ℕ) (t : Option Thing) → same_site (thing_site y t) (site.Pool p) ≡ false
+no-pool p y (Some thing.Mutex) = refl
+no-pool p y _ = refl
+
+-- and none at a desk
+no-desk : (v : UnitNo) (y : ℕ) (t : Option Thing) → same_site (thing_site y t) (site.Desk v) ≡ false
+no-desk v y (Some thing.Mutex) = refl
+no-desk v y _ = refl
 
 abbrev is_mutex : Option Thing → Bool
 is_mutex (Some thing.Mutex) = true
 is_mutex t = false
 
-abbrev is_eventual : Option Thing → Bool
-is_eventual (Some thing.Eventual) = true
-is_eventual t = false
-
-abbrev is_future : Option Thing → Bool
-is_future (Some (thing.Future n c)) = true
-is_future t = false
-
-abbrev is_barrier : Option Thing → Bool
-is_barrier (Some (thing.Barrier n)) = true
-is_barrier t = false
-
-abbrev is_rwlock : Option Thing → Bool
-is_rwlock (Some thing.RwLock) = true
-is_rwlock t = false
-
 mutex-is : (t : Option Thing) → is_mutex t ≡ true → t ≡ Some thing.Mutex
-mutex-is None e = cc
 mutex-is (Some thing.Mutex) e = refl
-mutex-is (Some (thing.Cond m)) e = cc
-mutex-is (Some thing.Eventual) e = cc
-mutex-is (Some (thing.Future n c)) e = cc
-mutex-is (Some (thing.Barrier n)) e = cc
-mutex-is (Some thing.RwLock) e = cc
+mutex-is _ e = cc
 
--- a test of a number that is one of two
-move-by : (b p q : Bool) → (b ≡ true → p ≡ q) → (if p then one b else 0) ≡ one (q && b)
-move-by true true true h = refl
-move-by true true false h = let e : true ≡ false = h refl in cc
-move-by true false true h = let e : false ≡ true = h refl in cc
-move-by true false false h = refl
-move-by false true true h = refl
-move-by false true false h = refl
-move-by false false true h = refl
-move-by false false false h = refl
+only-by : (b p q : Bool) → (b ≡ true → p ≡ q) → (q ≡ true → b ≡ true) → (if p then one b else 0) ≡ one q
+only-by true p q same only = ap one (same refl)
+only-by false p true same only = let e : false ≡ true = only refl in cc
+only-by false p false same only = if-zero p 0 refl
 
-move : (f : ℕ → Bool) (y x : ℕ) → (if f x then one (y == x) else 0) ≡ one (f y && (y == x))
-move f y x = move-by (y == x) (f x) (f y) (λ e. ap f (sym (eqb-true y x e)))
-
-same-eventual : (x : ObjectNo) (y : ℕ) (t : Option Thing) → same_site (thing_site y t) (site.Eventual x) ≡ (is_eventual t && (y == x.0))
-same-eventual x y None = refl
-same-eventual x y (Some thing.Mutex) = refl
-same-eventual x y (Some (thing.Cond m)) = refl
-same-eventual x y (Some thing.Eventual) = refl
-same-eventual x y (Some (thing.Future n c)) = refl
-same-eventual x y (Some (thing.Barrier n)) = refl
-same-eventual x y (Some thing.RwLock) = refl
-
-same-future : (x : ObjectNo) (y : ℕ) (t : Option Thing) → same_site (thing_site y t) (site.Future x) ≡ (is_future t && (y == x.0))
-same-future x y None = refl
-same-future x y (Some thing.Mutex) = refl
-same-future x y (Some (thing.Cond m)) = refl
-same-future x y (Some thing.Eventual) = refl
-same-future x y (Some (thing.Future n c)) = refl
-same-future x y (Some (thing.Barrier n)) = refl
-same-future x y (Some thing.RwLock) = refl
-
-same-barrier : (x : ObjectNo) (y : ℕ) (t : Option Thing) → same_site (thing_site y t) (site.Barrier x) ≡ (is_barrier t && (y == x.0))
-same-barrier x y None = refl
-same-barrier x y (Some thing.Mutex) = refl
-same-barrier x y (Some (thing.Cond m)) = refl
-same-barrier x y (Some thing.Eventual) = refl
-same-barrier x y (Some (thing.Future n c)) = refl
-same-barrier x y (Some (thing.Barrier n)) = refl
-same-barrier x y (Some thing.RwLock) = refl
-
-same-rwlock : (x : ObjectNo) (y : ℕ) (t : Option Thing) → same_site (thing_site y t) (site.Rw x) ≡ (is_rwlock t && (y == x.0))
-same-rwlock x y None = refl
-same-rwlock x y (Some thing.Mutex) = refl
-same-rwlock x y (Some (thing.Cond m)) = refl
-same-rwlock x y (Some thing.Eventual) = refl
-same-rwlock x y (Some (thing.Future n c)) = refl
-same-rwlock x y (Some (thing.Barrier n)) = refl
-same-rwlock x y (Some thing.RwLock) = refl
-
-no-pool : (p : PoolNo) (y : ℕ) (t : Option Thing) → same_site (thing_site y t) (site.Pool p) ≡ false
-no-pool p y None = refl
-no-pool p y (Some thing.Mutex) = refl
-no-pool p y (Some (thing.Cond m)) = refl
-no-pool p y (Some thing.Eventual) = refl
-no-pool p y (Some (thing.Future n c)) = refl
-no-pool p y (Some (thing.Barrier n)) = refl
-no-pool p y (Some thing.RwLock) = refl
-
-no-desk : (v : UnitNo) (y : ℕ) (t : Option Thing) → same_site (thing_site y t) (site.Desk v) ≡ false
-no-desk v y None = refl
-no-desk v y (Some thing.Mutex) = refl
-no-desk v y (Some (thing.Cond m)) = refl
-no-desk v y (Some thing.Eventual) = refl
-no-desk v y (Some (thing.Future n c)) = refl
-no-desk v y (Some (thing.Barrier n)) = refl
-no-desk v y (Some thing.RwLock) = refl
+-- a test that holds of number x at most
+only-at : (f : ℕ → Bool) (y x : ℕ) → (f y ≡ true → y ≡ x) → (if f x then one (y == x) else 0) ≡ one (f y)
+only-at f y x only = only-by (y == x) (f x) (f y) (λ e. ap f (sym (eqb-true y x e))) (λ t. eq-eqb y x (only t))
 
 -- Who waits in lists of lines.
 
@@ -254,30 +196,19 @@ module _ (W : Parts) (Z : List OrderShape) (S : State) (sound : Sound W Z S) whe
         sum ∙ (λ i. a i + b i + c i + d i)
 
     stream-by : (s : ℕ) (pl : Place) → stands (InHand s) pl + stands (InNext s) pl + stands (InTray s) pl + stands (InFrames s) pl ≡ one (same_holder (OfStream s) (holder W u pl))
-    stream-by s place.Unborn = refl
-    stream-by s (place.Pool p t) = refl
     stream-by s (place.Hand r) = let e : stands (InHand s) (place.Hand r) ≡ one (r.0 == s) = ap one (some-same r.0 s 0) in omega (arith, e)
     stream-by s (place.Next r) = let e : stands (InNext s) (place.Next r) ≡ one (r.0 == s) = ap one (some-same r.0 s 0) in omega (arith, e)
     stream-by s (place.Tray r t) = let e : stands (InTray s) (place.Tray r t) ≡ one (r.0 == s) = ap one (some-same r.0 s t) in omega (arith, e)
     stream-by s (place.Frame r d) = let e : stands (InFrames s) (place.Frame r d) ≡ one (r.0 == s) = ap one (some-same r.0 s d) in omega (arith, e)
     stream-by s (place.Blocked spot.Suspended t) = refl
-    stream-by s (place.Blocked (spot.Join v) t) = refl
-    stream-by s (place.Blocked (spot.Object x) t) = refl
-    stream-by s (place.Ended c) = refl
+    stream-by s _ = refl
 
     -- Pools.
 
     pool-by : (p : PoolNo) (pl : Place) → stands (InPool p.0) pl ≡ one (same_holder (OfSite (site.Pool p)) (holder W u pl))
-    pool-by p place.Unborn = refl
     pool-by p (place.Pool q t) = ap one (some-same q.0 p.0 t)
-    pool-by p (place.Hand r) = refl
-    pool-by p (place.Next r) = refl
-    pool-by p (place.Tray r t) = refl
-    pool-by p (place.Frame r d) = refl
-    pool-by p (place.Blocked spot.Suspended t) = refl
-    pool-by p (place.Blocked (spot.Join v) t) = refl
     pool-by p (place.Blocked (spot.Object x) t) = sym (ap one (no-pool p x.0 (thing_at W x.0)))
-    pool-by p (place.Ended c) = refl
+    pool-by p _ = refl
 
     -- Desks.
 
@@ -289,15 +220,9 @@ module _ (W : Parts) (Z : List OrderShape) (S : State) (sound : Sound W Z S) whe
 
     phase-tally : (v : ℕ) (pl : Place) → tally u (held_in (phase_at (owned_at S v) pl)) ≡ (if at_desk pl then one (v == u) else 0)
     phase-tally v place.Unborn = tally-one u (owned_at S v)
-    phase-tally v (place.Pool q t) = tally-nil u
-    phase-tally v (place.Hand r) = tally-nil u
-    phase-tally v (place.Next r) = tally-nil u
-    phase-tally v (place.Tray r t) = tally-nil u
-    phase-tally v (place.Frame r d) = tally-nil u
     phase-tally v (place.Blocked spot.Suspended t) = tally-one u (owned_at S v)
-    phase-tally v (place.Blocked (spot.Join w) t) = tally-nil u
-    phase-tally v (place.Blocked (spot.Object x) t) = tally-nil u
     phase-tally v (place.Ended c) = tally-one u (owned_at S v)
+    phase-tally v _ = tally-nil u
 
     -- at its own desk alone
     own-desk : (v : ℕ) → (if at_desk (S.place v) then one (v == u) else 0) ≡ (if at_desk (S.place u) then one (v == u) else 0)
@@ -314,77 +239,48 @@ module _ (W : Parts) (Z : List OrderShape) (S : State) (sound : Sound W Z S) whe
 
     desk-by : (v : UnitNo) (pl : Place) → (if at_desk pl then one (v.0 == u) else 0) + stands (Joining v.0) pl ≡ one (same_holder (OfSite (site.Desk v)) (holder W u pl))
     desk-by v place.Unborn = let e : one (v.0 == u) ≡ one (u == v.0) = ap one (eqb-flip v.0 u) in omega (arith, e)
-    desk-by v (place.Pool q t) = refl
-    desk-by v (place.Hand r) = refl
-    desk-by v (place.Next r) = refl
-    desk-by v (place.Tray r t) = refl
-    desk-by v (place.Frame r d) = refl
     desk-by v (place.Blocked spot.Suspended t) = let e : one (v.0 == u) ≡ one (u == v.0) = ap one (eqb-flip v.0 u) in omega (arith, e)
     desk-by v (place.Blocked (spot.Join w) t) = let e : stands (Joining v.0) (place.Blocked (spot.Join w) t) ≡ one (w.0 == v.0) = ap one (some-same w.0 v.0 t) in omega (arith, e)
     desk-by v (place.Blocked (spot.Object x) t) = sym (ap one (no-desk v x.0 (thing_at W x.0)))
     desk-by v (place.Ended c) = let e : one (v.0 == u) ≡ one (u == v.0) = ap one (eqb-flip v.0 u) in omega (arith, e)
+    desk-by v _ = refl
 
     -- Eventuals, futures, barriers and reader-writer locks.
 
-    eventual-tally : (x : ℕ) (t : Option Thing) → tally u (contents_of (eventual_at W S x t)).units ≡ (if is_eventual t then stands (Waiting x) (S.place u) else 0)
-    eventual-tally x None = tally-nil u
-    eventual-tally x (Some thing.Mutex) = tally-nil u
-    eventual-tally x (Some (thing.Cond m)) = tally-nil u
-    eventual-tally x (Some thing.Eventual) = line-tally W S (Waiting x) u declared
-    eventual-tally x (Some (thing.Future n c)) = tally-nil u
-    eventual-tally x (Some (thing.Barrier n)) = tally-nil u
-    eventual-tally x (Some thing.RwLock) = tally-nil u
+    -- what stands at the site of such an object if this is the thing of its number
+    abbrev at_site : Site → Option Thing → Object
+    at_site (site.Eventual x) t = eventual_at W S x.0 t
+    at_site (site.Future x) t = future_at W S x.0 t
+    at_site (site.Barrier x) t = barrier_at W S x.0 t
+    at_site (site.Rw x) t = rwlock_at W S x.0 t
+    at_site x t = NotHere
 
-    eventual-by : (x : ObjectNo) (pl : Place) → (if is_eventual (thing_at W x.0) then stands (Waiting x.0) pl else 0) ≡ one (same_holder (OfSite (site.Eventual x)) (holder W u pl))
-    eventual-by x (place.Blocked (spot.Object y) t) =
-        ap (λ k. if is_eventual (thing_at W x.0) then k else 0) (ap one (some-same y.0 x.0 t))
-        ∙ (move (λ z. is_eventual (thing_at W z)) y.0 x.0 ∙ sym (ap one (same-eventual x y.0 (thing_at W y.0))))
-    eventual-by x _ = if-zero (is_eventual (thing_at W x.0)) 0 refl
+    waiters-tally : (x y : ℕ) → y ≡ x → tally u (waiters_at W S y) ≡ (if x == y then stands (Waiting x) (S.place u) else 0)
+    waiters-tally x y e =
+        line-tally W S (Waiting y) u declared
+        ∙ (ap (λ z. stands (Waiting z) (S.place u)) e ∙ sym (ap (λ b. if b then stands (Waiting x) (S.place u) else 0) (eq-eqb x y (sym e))))
 
-    future-tally : (x : ℕ) (t : Option Thing) → tally u (contents_of (future_at W S x t)).units ≡ (if is_future t then stands (Waiting x) (S.place u) else 0)
-    future-tally x None = tally-nil u
-    future-tally x (Some thing.Mutex) = tally-nil u
-    future-tally x (Some (thing.Cond m)) = tally-nil u
-    future-tally x (Some thing.Eventual) = tally-nil u
-    future-tally x (Some (thing.Future n c)) = line-tally W S (Waiting x) u declared
-    future-tally x (Some (thing.Barrier n)) = tally-nil u
-    future-tally x (Some thing.RwLock) = tally-nil u
+    waited-tally : (z : Site) (x : ℕ) (t : Option Thing) → waited_at z ≡ Some x → tally u (contents_of (at_site z t)).units ≡ (if same_site (thing_site x t) z then stands (Waiting x) (S.place u) else 0)
+    waited-tally (site.Eventual y) x (Some thing.Eventual) e = waiters-tally x y.0 (some-injective e)
+    waited-tally (site.Future y) x (Some (thing.Future n c)) e = waiters-tally x y.0 (some-injective e)
+    waited-tally (site.Barrier y) x (Some (thing.Barrier n)) e = waiters-tally x y.0 (some-injective e)
+    waited-tally (site.Rw y) x (Some thing.RwLock) e = waiters-tally x y.0 (some-injective e)
+    waited-tally (site.Pool p) x t e = absurd (none≢some e)
+    waited-tally (site.Desk v) x t e = absurd (none≢some e)
+    waited-tally (site.Monitor y) x t e = absurd (none≢some e)
+    waited-tally z x t e = tally-nil u
 
-    future-by : (x : ObjectNo) (pl : Place) → (if is_future (thing_at W x.0) then stands (Waiting x.0) pl else 0) ≡ one (same_holder (OfSite (site.Future x)) (holder W u pl))
-    future-by x (place.Blocked (spot.Object y) t) =
-        ap (λ k. if is_future (thing_at W x.0) then k else 0) (ap one (some-same y.0 x.0 t))
-        ∙ (move (λ z. is_future (thing_at W z)) y.0 x.0 ∙ sym (ap one (same-future x y.0 (thing_at W y.0))))
-    future-by x _ = if-zero (is_future (thing_at W x.0)) 0 refl
+    waited-by : (z : Site) (x : ℕ) (pl : Place) → waited_at z ≡ Some x → (if same_site (thing_site x (thing_at W x)) z then stands (Waiting x) pl else 0) ≡ one (same_holder (OfSite z) (holder W u pl))
+    waited-by z x (place.Blocked (spot.Object y) t) e =
+        ap (λ k. if same_site (thing_site x (thing_at W x)) z then k else 0) (ap one (some-same y.0 x t))
+        ∙ only-at (λ n. same_site (thing_site n (thing_at W n)) z) y.0 x (λ same. thing-waited x y.0 (thing_at W y.0) (ap waited_at (site-is (thing_site y.0 (thing_at W y.0)) z same) ∙ e))
+    waited-by (site.Pool p) x pl e = absurd (none≢some e)
+    waited-by (site.Desk v) x pl e = absurd (none≢some e)
+    waited-by (site.Monitor y) x pl e = absurd (none≢some e)
+    waited-by z x pl e = if-zero (same_site (thing_site x (thing_at W x)) z) 0 refl
 
-    barrier-tally : (x : ℕ) (t : Option Thing) → tally u (contents_of (barrier_at W S x t)).units ≡ (if is_barrier t then stands (Waiting x) (S.place u) else 0)
-    barrier-tally x None = tally-nil u
-    barrier-tally x (Some thing.Mutex) = tally-nil u
-    barrier-tally x (Some (thing.Cond m)) = tally-nil u
-    barrier-tally x (Some thing.Eventual) = tally-nil u
-    barrier-tally x (Some (thing.Future n c)) = tally-nil u
-    barrier-tally x (Some (thing.Barrier n)) = line-tally W S (Waiting x) u declared
-    barrier-tally x (Some thing.RwLock) = tally-nil u
-
-    barrier-by : (x : ObjectNo) (pl : Place) → (if is_barrier (thing_at W x.0) then stands (Waiting x.0) pl else 0) ≡ one (same_holder (OfSite (site.Barrier x)) (holder W u pl))
-    barrier-by x (place.Blocked (spot.Object y) t) =
-        ap (λ k. if is_barrier (thing_at W x.0) then k else 0) (ap one (some-same y.0 x.0 t))
-        ∙ (move (λ z. is_barrier (thing_at W z)) y.0 x.0 ∙ sym (ap one (same-barrier x y.0 (thing_at W y.0))))
-    barrier-by x _ = if-zero (is_barrier (thing_at W x.0)) 0 refl
-
-    rwlock-tally : (x : ℕ) (t : Option Thing) → tally u (contents_of (rwlock_at W S x t)).units ≡ (if is_rwlock t then stands (Waiting x) (S.place u) else 0)
-    rwlock-tally x None = tally-nil u
-    rwlock-tally x (Some thing.Mutex) = tally-nil u
-    rwlock-tally x (Some (thing.Cond m)) = tally-nil u
-    rwlock-tally x (Some thing.Eventual) = tally-nil u
-    rwlock-tally x (Some (thing.Future n c)) = tally-nil u
-    rwlock-tally x (Some (thing.Barrier n)) = tally-nil u
-    rwlock-tally x (Some thing.RwLock) = line-tally W S (Waiting x) u declared
-
-    rwlock-by : (x : ObjectNo) (pl : Place) → (if is_rwlock (thing_at W x.0) then stands (Waiting x.0) pl else 0) ≡ one (same_holder (OfSite (site.Rw x)) (holder W u pl))
-    rwlock-by x (place.Blocked (spot.Object y) t) =
-        ap (λ k. if is_rwlock (thing_at W x.0) then k else 0) (ap one (some-same y.0 x.0 t))
-        ∙ (move (λ z. is_rwlock (thing_at W z)) y.0 x.0 ∙ sym (ap one (same-rwlock x y.0 (thing_at W y.0))))
-    rwlock-by x _ = if-zero (is_rwlock (thing_at W x.0)) 0 refl
+    waited-holder : (z : Site) (x : ℕ) → waited_at z ≡ Some x → tally u (contents_of (at_site z (thing_at W x))).units ≡ one (same_holder (OfSite z) (holder W u (S.place u)))
+    waited-holder z x e = waited-tally z x (thing_at W x) e ∙ waited-by z x (S.place u) e
 
     -- Monitors.
 
@@ -394,15 +290,10 @@ module _ (W : Parts) (Z : List OrderShape) (S : State) (sound : Sound W Z S) whe
         omega (arith, tally-append u (waiters_at W S c) (flat_map (λ os. os) (map (waiters_at W S) cs)), line-tally W S (Waiting c) u declared, conditions-tally cs)
 
     monitor-tally : (x : ℕ) (t : Option Thing) → tally u (contents_of (monitor_at W S x t)).units ≡ (if is_mutex t then stands (Waiting x) (S.place u) + waits_in (S.place u) (conditions_of W x) else 0)
-    monitor-tally x None = tally-nil u
     monitor-tally x (Some thing.Mutex) =
         tally-append u (waiters_at W S x) (flat_map (λ os. os) (map (waiters_at W S) (conditions_of W x)))
         ∙ (λ i. line-tally W S (Waiting x) u declared i + conditions-tally (conditions_of W x) i)
-    monitor-tally x (Some (thing.Cond m)) = tally-nil u
-    monitor-tally x (Some thing.Eventual) = tally-nil u
-    monitor-tally x (Some (thing.Future n c)) = tally-nil u
-    monitor-tally x (Some (thing.Barrier n)) = tally-nil u
-    monitor-tally x (Some thing.RwLock) = tally-nil u
+    monitor-tally x _ = tally-nil u
 
     -- nobody waits for a mutex if there is another thing
     other-thing : (y x : ℕ) (r : Option Thing) → thing_at W y ≡ r → thing_at W x ≡ Some thing.Mutex → (r ≡ Some thing.Mutex → ⊥) → one (y == x) ≡ 0
@@ -414,18 +305,11 @@ module _ (W : Parts) (Z : List OrderShape) (S : State) (sound : Sound W Z S) whe
     monitor-at x y (Some thing.Mutex) true is holds m = omega arith
     monitor-at x y (Some thing.Mutex) false is holds m =
         sym (one-other y x.0 (λ e. let f : true ≡ false = sym (ap is_mutex (sym (ap (thing_at W) e) ∙ is)) ∙ m in cc))
-    monitor-at x y (Some (thing.Cond n)) true is holds m = omega (arith, other-thing y x.0 (Some (thing.Cond n)) is (mutex-is (thing_at W x.0) m) (λ e. cc))
     monitor-at x y (Some (thing.Cond n)) false is holds m =
         let t : IsThing W.objects y (thing.Cond n) = valid.objects y (thing.Cond n) is in
         sym (one-other n.0 x.0 (λ e. let f : true ≡ false = sym (ap is_mutex (sym (ap (thing_at W) e) ∙ t.1)) ∙ m in cc))
-    monitor-at x y (Some thing.Eventual) true is holds m = omega (arith, other-thing y x.0 (Some thing.Eventual) is (mutex-is (thing_at W x.0) m) (λ e. cc))
-    monitor-at x y (Some thing.Eventual) false is holds m = refl
-    monitor-at x y (Some (thing.Future n c)) true is holds m = omega (arith, other-thing y x.0 (Some (thing.Future n c)) is (mutex-is (thing_at W x.0) m) (λ e. cc))
-    monitor-at x y (Some (thing.Future n c)) false is holds m = refl
-    monitor-at x y (Some (thing.Barrier n)) true is holds m = omega (arith, other-thing y x.0 (Some (thing.Barrier n)) is (mutex-is (thing_at W x.0) m) (λ e. cc))
-    monitor-at x y (Some (thing.Barrier n)) false is holds m = refl
-    monitor-at x y (Some thing.RwLock) true is holds m = omega (arith, other-thing y x.0 (Some thing.RwLock) is (mutex-is (thing_at W x.0) m) (λ e. cc))
-    monitor-at x y (Some thing.RwLock) false is holds m = refl
+    monitor-at x y r true is holds m = omega (arith, other-thing y x.0 r is (mutex-is (thing_at W x.0) m) (λ e. cc))
+    monitor-at x y r false is holds m = refl
 
     monitor-none : (x : ObjectNo) (pl : Place) → ((c : ℕ) → stands (Waiting c) pl ≡ 0) → (if is_mutex (thing_at W x.0) then stands (Waiting x.0) pl + waits_in pl (conditions_of W x.0) else 0) ≡ 0
     monitor-none x pl none = if-zero (is_mutex (thing_at W x.0)) (stands (Waiting x.0) pl + waits_in pl (conditions_of W x.0)) (omega (arith, none x.0, waits-none pl none (conditions_of W x.0)))
@@ -434,15 +318,7 @@ module _ (W : Parts) (Z : List OrderShape) (S : State) (sound : Sound W Z S) whe
     monitor-by x (place.Blocked (spot.Object y) t) placed =
         (λ i. if is_mutex (thing_at W x.0) then here y t x.0 i + waits-at y t x.0 0 y.0 W.objects (omega arith) i else 0)
         ∙ monitor-at x y.0 (thing_at W y.0) (is_mutex (thing_at W x.0)) refl placed.1 refl
-    monitor-by x place.Unborn placed = monitor-none x place.Unborn (λ c. refl)
-    monitor-by x (place.Pool p t) placed = monitor-none x (place.Pool p t) (λ c. refl)
-    monitor-by x (place.Hand s) placed = monitor-none x (place.Hand s) (λ c. refl)
-    monitor-by x (place.Next s) placed = monitor-none x (place.Next s) (λ c. refl)
-    monitor-by x (place.Tray s t) placed = monitor-none x (place.Tray s t) (λ c. refl)
-    monitor-by x (place.Frame s d) placed = monitor-none x (place.Frame s d) (λ c. refl)
-    monitor-by x (place.Blocked spot.Suspended t) placed = monitor-none x (place.Blocked spot.Suspended t) (λ c. refl)
-    monitor-by x (place.Blocked (spot.Join v) t) placed = monitor-none x (place.Blocked (spot.Join v) t) (λ c. refl)
-    monitor-by x (place.Ended c) placed = monitor-none x (place.Ended c) (λ c. refl)
+    monitor-by x pl placed = monitor-none x pl (λ c. refl)
 
     -- All holders.
 
@@ -451,10 +327,10 @@ module _ (W : Parts) (Z : List OrderShape) (S : State) (sound : Sound W Z S) whe
     holder-tally (OfSite (site.Pool p)) = line-tally W S (InPool p.0) u declared ∙ pool-by p (S.place u)
     holder-tally (OfSite (site.Desk v)) = desk-tally v ∙ desk-by v (S.place u)
     holder-tally (OfSite (site.Monitor x)) = monitor-tally x.0 (thing_at W x.0) ∙ monitor-by x (S.place u) (sound.placed u)
-    holder-tally (OfSite (site.Eventual x)) = eventual-tally x.0 (thing_at W x.0) ∙ eventual-by x (S.place u)
-    holder-tally (OfSite (site.Future x)) = future-tally x.0 (thing_at W x.0) ∙ future-by x (S.place u)
-    holder-tally (OfSite (site.Barrier x)) = barrier-tally x.0 (thing_at W x.0) ∙ barrier-by x (S.place u)
-    holder-tally (OfSite (site.Rw x)) = rwlock-tally x.0 (thing_at W x.0) ∙ rwlock-by x (S.place u)
+    holder-tally (OfSite (site.Eventual x)) = waited-holder (site.Eventual x) x.0 refl
+    holder-tally (OfSite (site.Future x)) = waited-holder (site.Future x) x.0 refl
+    holder-tally (OfSite (site.Barrier x)) = waited-holder (site.Barrier x) x.0 refl
+    holder-tally (OfSite (site.Rw x)) = waited-holder (site.Rw x) x.0 refl
 
     -- Declared holders.
 
