@@ -3,6 +3,7 @@ use Rattle.std.proofs.Common.{◌≡◌, ◌≢◌, ℕ, zero, suc, ◌+◌, ◌
 use Rattle.std.specs.List.{flat_map, range_with_len}
 use Rattle.std.proofs.lemmas.Bool.{cases_lt}
 use Rattle.std.proofs.lemmas.List.Elements.{All-append, All-cons, All-head, All-nil}
+use Rattle.abt_machine.specs.declared.events.Site.{Site}
 use Rattle.abt_machine.specs.declared.events.Site.TheVariants as site
 use Rattle.abt_machine.specs.declared.numbers.ObjectNo.{ObjectNo}
 use Rattle.abt_machine.specs.declared.operations.OrderShape.{OrderShape}
@@ -69,73 +70,47 @@ things-one k x t one_hit none i zero (r ∷ rs) at is =
 things-one k x t one_hit none i (suc j) (r ∷ rs) at is =
     omega (arith, hits-append k (thing_holders i r) (holders_from (suc i) rs), none i r (λ s. omega arith), things-one k x t one_hit none (suc i) j rs (omega arith) is)
 
+-- no thing is held by a stream
 no-stream : (s y : ℕ) (t : Thing) → hits (OfStream s) (thing_holders y t) ≡ 0
 no-stream s y thing.Mutex = refl
-no-stream s y (thing.Cond m) = refl
-no-stream s y thing.Eventual = refl
-no-stream s y (thing.Future n c) = refl
-no-stream s y (thing.Barrier n) = refl
-no-stream s y thing.RwLock = refl
+no-stream s y _ = refl
 
+-- none stands at a pool
 no-pool : (p y : ℕ) (t : Thing) → hits (OfSite (site.Pool (pool_no p))) (thing_holders y t) ≡ 0
 no-pool p y thing.Mutex = refl
-no-pool p y (thing.Cond m) = refl
-no-pool p y thing.Eventual = refl
-no-pool p y (thing.Future n c) = refl
-no-pool p y (thing.Barrier n) = refl
-no-pool p y thing.RwLock = refl
+no-pool p y _ = refl
 
+-- and none at a desk
 no-desk : (v y : ℕ) (t : Thing) → hits (OfSite (site.Desk (unit_no v))) (thing_holders y t) ≡ 0
 no-desk v y thing.Mutex = refl
-no-desk v y (thing.Cond m) = refl
-no-desk v y thing.Eventual = refl
-no-desk v y (thing.Future n c) = refl
-no-desk v y (thing.Barrier n) = refl
-no-desk v y thing.RwLock = refl
+no-desk v y _ = refl
 
 -- the test of one thing's number
 this-thing : (x y : ℕ) → y ≢ x → one (x == y) + 0 ≡ 0
 this-thing x y other = omega (arith, one-other x y (λ e. other (sym e)))
 
+here : (x : ℕ) → one (x == x) + 0 ≡ 1
+here x = omega (arith, one-same x x refl)
+
 no-monitor : (x : ObjectNo) (y : ℕ) (t : Thing) → y ≢ x.0 → hits (OfSite (site.Monitor x)) (thing_holders y t) ≡ 0
 no-monitor x y thing.Mutex other = this-thing x.0 y other
-no-monitor x y (thing.Cond m) other = refl
-no-monitor x y thing.Eventual other = refl
-no-monitor x y (thing.Future n c) other = refl
-no-monitor x y (thing.Barrier n) other = refl
-no-monitor x y thing.RwLock other = refl
+no-monitor x y _ other = refl
 
 no-eventual : (x : ObjectNo) (y : ℕ) (t : Thing) → y ≢ x.0 → hits (OfSite (site.Eventual x)) (thing_holders y t) ≡ 0
-no-eventual x y thing.Mutex other = refl
-no-eventual x y (thing.Cond m) other = refl
 no-eventual x y thing.Eventual other = this-thing x.0 y other
-no-eventual x y (thing.Future n c) other = refl
-no-eventual x y (thing.Barrier n) other = refl
-no-eventual x y thing.RwLock other = refl
+no-eventual x y _ other = refl
 
 no-future : (x : ObjectNo) (y : ℕ) (t : Thing) → y ≢ x.0 → hits (OfSite (site.Future x)) (thing_holders y t) ≡ 0
-no-future x y thing.Mutex other = refl
-no-future x y (thing.Cond m) other = refl
-no-future x y thing.Eventual other = refl
 no-future x y (thing.Future n c) other = this-thing x.0 y other
-no-future x y (thing.Barrier n) other = refl
-no-future x y thing.RwLock other = refl
+no-future x y _ other = refl
 
 no-barrier : (x : ObjectNo) (y : ℕ) (t : Thing) → y ≢ x.0 → hits (OfSite (site.Barrier x)) (thing_holders y t) ≡ 0
-no-barrier x y thing.Mutex other = refl
-no-barrier x y (thing.Cond m) other = refl
-no-barrier x y thing.Eventual other = refl
-no-barrier x y (thing.Future n c) other = refl
 no-barrier x y (thing.Barrier n) other = this-thing x.0 y other
-no-barrier x y thing.RwLock other = refl
+no-barrier x y _ other = refl
 
 no-rwlock : (x : ObjectNo) (y : ℕ) (t : Thing) → y ≢ x.0 → hits (OfSite (site.Rw x)) (thing_holders y t) ≡ 0
-no-rwlock x y thing.Mutex other = refl
-no-rwlock x y (thing.Cond m) other = refl
-no-rwlock x y thing.Eventual other = refl
-no-rwlock x y (thing.Future n c) other = refl
-no-rwlock x y (thing.Barrier n) other = refl
 no-rwlock x y thing.RwLock other = this-thing x.0 y other
+no-rwlock x y _ other = refl
 
 module _ (W : Parts) where
   -- the four parts of the list of all holders
@@ -143,31 +118,38 @@ module _ (W : Parts) where
   parts-hit k =
       omega (arith, hits-append k (streams_of W ++ pools_at W ++ desks_of W) (holders_from 0 W.objects), hits-append k (streams_of W ++ pools_at W) (desks_of W), hits-append k (streams_of W) (pools_at W))
 
+  -- a holder that is no stream, no pool or no desk does not stand among these
+  no-streams : (k : Holder) → ((i : ℕ) → same_holder (OfStream i) k ≡ false) → hits k (streams_of W) ≡ 0
+  no-streams k none = hits-none k (λ s. OfStream s) none (range_with_len 0 W.streams)
+
+  no-pools : (k : Holder) → ((i : ℕ) → same_holder (OfSite (site.Pool (pool_no i))) k ≡ false) → hits k (pools_at W) ≡ 0
+  no-pools k none = hits-none k (λ p. OfSite (site.Pool (pool_no p))) none (range_with_len 0 (length W.pools))
+
+  no-desks : (k : Holder) → ((i : ℕ) → same_holder (OfSite (site.Desk (unit_no i))) k ≡ false) → hits k (desks_of W) ≡ 0
+  no-desks k none = hits-none k (λ u. OfSite (site.Desk (unit_no u))) none (range_with_len 0 (length W.units))
+
+  -- one of its number, below n, stands there once
+  number-hit : (k : Holder) (f : ℕ → Holder) (r n : ℕ) → r < n → ((i : ℕ) → same_holder (f i) k ≡ (r == i)) → hits k (map f (range_with_len 0 n)) ≡ 1
+  number-hit k f r n l is = hits-number k f r is (range_with_len 0 n) ∙ range-one r 0 n (omega arith) (omega arith)
+
   -- a thing's holder stands there once
-  thing-hit : (k : Holder) (x : ℕ) (t : Thing) → thing_at W x ≡ Some t → hits k (thing_holders x t) ≡ 1 → ((y : ℕ) (r : Thing) → y ≢ x → hits k (thing_holders y r) ≡ 0)
-      → hits k (streams_of W) ≡ 0 → hits k (pools_at W) ≡ 0 → hits k (desks_of W) ≡ 0 → hits k (all_holders W) ≡ 1
-  thing-hit k x t is one_hit none a b c = omega (arith, parts-hit k, things-one k x t one_hit none 0 x W.objects (omega arith) is, a, b, c)
+  thing-hit : (x : Site) (y : ℕ) (t : Thing) → thing_at W y ≡ Some t → hits (OfSite x) (thing_holders y t) ≡ 1 → ((z : ℕ) (r : Thing) → z ≢ y → hits (OfSite x) (thing_holders z r) ≡ 0)
+      → ((i : ℕ) → same_holder (OfSite (site.Pool (pool_no i))) (OfSite x) ≡ false) → ((i : ℕ) → same_holder (OfSite (site.Desk (unit_no i))) (OfSite x) ≡ false) → hits (OfSite x) (all_holders W) ≡ 1
+  thing-hit x y t is one_hit none pool desk =
+      omega (arith, parts-hit (OfSite x), things-one (OfSite x) y t one_hit none 0 y W.objects (omega arith) is, no-streams (OfSite x) (λ i. refl), no-pools (OfSite x) pool, no-desks (OfSite x) desk)
 
   one-hit : (k : Holder) → IsHolder W k → hits k (all_holders W) ≡ 1
   one-hit (OfStream r) is =
-      omega (
-        arith,
-        parts-hit (OfStream r),
-        hits-number (OfStream r) (λ s. OfStream s) r (λ i. refl) (range_with_len 0 W.streams),
-        range-one r 0 W.streams (omega arith) (omega arith),
-        hits-none (OfStream r) (λ p. OfSite (site.Pool (pool_no p))) (λ i. refl) (range_with_len 0 (length W.pools)),
-        hits-none (OfStream r) (λ u. OfSite (site.Desk (unit_no u))) (λ i. refl) (range_with_len 0 (length W.units)),
-        things-none (OfStream r) 0 W.objects (λ y t l. no-stream r y t),
-      )
+      let k : Holder = OfStream r in
+      omega (arith, parts-hit k, number-hit k (λ s. OfStream s) r W.streams is (λ i. refl), no-pools k (λ i. refl), no-desks k (λ i. refl), things-none k 0 W.objects (λ y t l. no-stream r y t))
   one-hit (OfSite (site.Pool q)) is =
       let k : Holder = OfSite (site.Pool q) in
       omega (
         arith,
         parts-hit k,
-        hits-none k (λ s. OfStream s) (λ i. refl) (range_with_len 0 W.streams),
-        hits-number k (λ p. OfSite (site.Pool (pool_no p))) q.0 (λ i. refl) (range_with_len 0 (length W.pools)),
-        range-one q.0 0 (length W.pools) (omega arith) (omega arith),
-        hits-none k (λ u. OfSite (site.Desk (unit_no u))) (λ i. refl) (range_with_len 0 (length W.units)),
+        no-streams k (λ i. refl),
+        number-hit k (λ p. OfSite (site.Pool (pool_no p))) q.0 (length W.pools) is (λ i. refl),
+        no-desks k (λ i. refl),
         things-none k 0 W.objects (λ y t l. no-pool q.0 y t),
       )
   one-hit (OfSite (site.Desk v)) is =
@@ -175,32 +157,16 @@ module _ (W : Parts) where
       omega (
         arith,
         parts-hit k,
-        hits-none k (λ s. OfStream s) (λ i. refl) (range_with_len 0 W.streams),
-        hits-none k (λ p. OfSite (site.Pool (pool_no p))) (λ i. refl) (range_with_len 0 (length W.pools)),
-        hits-number k (λ u. OfSite (site.Desk (unit_no u))) v.0 (λ i. refl) (range_with_len 0 (length W.units)),
-        range-one v.0 0 (length W.units) (omega arith) (omega arith),
+        no-streams k (λ i. refl),
+        no-pools k (λ i. refl),
+        number-hit k (λ u. OfSite (site.Desk (unit_no u))) v.0 (length W.units) is (λ i. refl),
         things-none k 0 W.objects (λ y t l. no-desk v.0 y t),
       )
-  one-hit (OfSite (site.Monitor x)) is =
-      let k : Holder = OfSite (site.Monitor x) in
-      thing-hit k x.0 thing.Mutex is (omega (arith, one-same x.0 x.0 refl)) (no-monitor x) (hits-none k (λ s. OfStream s) (λ i. refl) (range_with_len 0 W.streams))
-      (hits-none k (λ p. OfSite (site.Pool (pool_no p))) (λ i. refl) (range_with_len 0 (length W.pools))) (hits-none k (λ u. OfSite (site.Desk (unit_no u))) (λ i. refl) (range_with_len 0 (length W.units)))
-  one-hit (OfSite (site.Eventual x)) is =
-      let k : Holder = OfSite (site.Eventual x) in
-      thing-hit k x.0 thing.Eventual is (omega (arith, one-same x.0 x.0 refl)) (no-eventual x) (hits-none k (λ s. OfStream s) (λ i. refl) (range_with_len 0 W.streams))
-      (hits-none k (λ p. OfSite (site.Pool (pool_no p))) (λ i. refl) (range_with_len 0 (length W.pools))) (hits-none k (λ u. OfSite (site.Desk (unit_no u))) (λ i. refl) (range_with_len 0 (length W.units)))
-  one-hit (OfSite (site.Future x)) is =
-      let k : Holder = OfSite (site.Future x) in
-      thing-hit k x.0 (thing.Future is.0 is.1) is.2 (omega (arith, one-same x.0 x.0 refl)) (no-future x) (hits-none k (λ s. OfStream s) (λ i. refl) (range_with_len 0 W.streams))
-      (hits-none k (λ p. OfSite (site.Pool (pool_no p))) (λ i. refl) (range_with_len 0 (length W.pools))) (hits-none k (λ u. OfSite (site.Desk (unit_no u))) (λ i. refl) (range_with_len 0 (length W.units)))
-  one-hit (OfSite (site.Barrier x)) is =
-      let k : Holder = OfSite (site.Barrier x) in
-      thing-hit k x.0 (thing.Barrier is.0) is.1 (omega (arith, one-same x.0 x.0 refl)) (no-barrier x) (hits-none k (λ s. OfStream s) (λ i. refl) (range_with_len 0 W.streams))
-      (hits-none k (λ p. OfSite (site.Pool (pool_no p))) (λ i. refl) (range_with_len 0 (length W.pools))) (hits-none k (λ u. OfSite (site.Desk (unit_no u))) (λ i. refl) (range_with_len 0 (length W.units)))
-  one-hit (OfSite (site.Rw x)) is =
-      let k : Holder = OfSite (site.Rw x) in
-      thing-hit k x.0 thing.RwLock is (omega (arith, one-same x.0 x.0 refl)) (no-rwlock x) (hits-none k (λ s. OfStream s) (λ i. refl) (range_with_len 0 W.streams))
-      (hits-none k (λ p. OfSite (site.Pool (pool_no p))) (λ i. refl) (range_with_len 0 (length W.pools))) (hits-none k (λ u. OfSite (site.Desk (unit_no u))) (λ i. refl) (range_with_len 0 (length W.units)))
+  one-hit (OfSite (site.Monitor x)) is = thing-hit (site.Monitor x) x.0 thing.Mutex is (here x.0) (no-monitor x) (λ i. refl) (λ i. refl)
+  one-hit (OfSite (site.Eventual x)) is = thing-hit (site.Eventual x) x.0 thing.Eventual is (here x.0) (no-eventual x) (λ i. refl) (λ i. refl)
+  one-hit (OfSite (site.Future x)) is = thing-hit (site.Future x) x.0 (thing.Future is.0 is.1) is.2 (here x.0) (no-future x) (λ i. refl) (λ i. refl)
+  one-hit (OfSite (site.Barrier x)) is = thing-hit (site.Barrier x) x.0 (thing.Barrier is.0) is.1 (here x.0) (no-barrier x) (λ i. refl) (λ i. refl)
+  one-hit (OfSite (site.Rw x)) is = thing-hit (site.Rw x) x.0 thing.RwLock is (here x.0) (no-rwlock x) (λ i. refl) (λ i. refl)
 
 -- Units that are declared.
 
@@ -245,12 +211,8 @@ module _ (W : Parts) (S : State) where
   range-each a (suc n) = let e : a + 1 + n ≡ a + suc n = omega arith in (omega arith, subst (λ m. EachOf (λ i. i < m) (range_with_len (a + 1) n)) e (range-each (a + 1) n))
 
   thing-fine : (x : ℕ) (t : Thing) → EachOf IsFine (thing_holders x t)
-  thing-fine x thing.Mutex = (tt, tt)
   thing-fine x (thing.Cond m) = tt
-  thing-fine x thing.Eventual = (tt, tt)
-  thing-fine x (thing.Future n c) = (tt, tt)
-  thing-fine x (thing.Barrier n) = (tt, tt)
-  thing-fine x thing.RwLock = (tt, tt)
+  thing-fine x _ = (tt, tt)
 
   things-fine : (i : ℕ) (ts : List Thing) → EachOf IsFine (holders_from i ts)
   things-fine i [] = tt
