@@ -30,18 +30,8 @@ IsNoPool l = Unit {0}
 
 nobody : (W : Parts) (l : Line) → IsNoPool l → (u : ℕ) (o : Option ℕ) → ticket_in l (start_place W u o) ≡ None
 nobody W (InPool p) off u o = absurd off
-nobody W (InTray s) off u None = refl
-nobody W (InTray s) off u (Some q) = refl
-nobody W (InHand s) off u None = refl
-nobody W (InHand s) off u (Some q) = refl
-nobody W (InNext s) off u None = refl
-nobody W (InNext s) off u (Some q) = refl
-nobody W (InFrames s) off u None = refl
-nobody W (InFrames s) off u (Some q) = refl
-nobody W (Joining v) off u None = refl
-nobody W (Joining v) off u (Some q) = refl
-nobody W (Waiting x) off u None = refl
-nobody W (Waiting x) off u (Some q) = refl
+nobody W _ off u None = refl
+nobody W _ off u (Some q) = refl
 
 ticketed-nobody : (at : ℕ → Option ℕ) (n : ℕ) → ((u : ℕ) → at u ≡ None) → ticketed at n ≡ []
 ticketed-nobody at zero none = refl
