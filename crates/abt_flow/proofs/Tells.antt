@@ -34,52 +34,28 @@ Waits W t u x c = ((IsEventual W x → ⊥) × Before W t u c) ⊎ Awaiting W t 
 
 abbrev pub Tells : Parts → ℕ → ℕ → Carried → Place → Type 0
 Tells W t u c place.Unborn = (start_of W u ≡ None) × (c.position ≡ 0) × (memory_of c ≡ fresh W)
-Tells W t u c (place.Pool p k) = Before W t u c
-Tells W t u c (place.Hand s) = Before W t u c
-Tells W t u c (place.Next s) = Before W t u c
-Tells W t u c (place.Tray s k) = Before W t u c
-Tells W t u c (place.Frame s d) = Before W t u c
-Tells W t u c (place.Blocked spot.Suspended k) = Before W t u c
-Tells W t u c (place.Blocked (spot.Join v) k) = Before W t u c
 Tells W t u c (place.Blocked (spot.Object x) k) = Waits W t u x.0 c
 Tells W t u c (place.Ended e) = Before W t u c × (length (ops_of (body_at W u)) ≤ c.position)
+Tells W t u c _ = Before W t u c
 
 -- alive, and not waiting at an object
 abbrev pub IsPlain : Place → Type 0
 IsPlain place.Unborn = ⊥
-IsPlain (place.Pool p k) = Unit {0}
-IsPlain (place.Hand s) = Unit {0}
-IsPlain (place.Next s) = Unit {0}
-IsPlain (place.Tray s k) = Unit {0}
-IsPlain (place.Frame s d) = Unit {0}
-IsPlain (place.Blocked spot.Suspended k) = Unit {0}
-IsPlain (place.Blocked (spot.Join v) k) = Unit {0}
 IsPlain (place.Blocked (spot.Object x) k) = ⊥
 IsPlain (place.Ended e) = ⊥
+IsPlain _ = Unit {0}
 
 pub tells-plain : (W : Parts) (t u : ℕ) (c : Carried) (pl : Place) → IsPlain pl → Before W t u c → Tells W t u c pl
 tells-plain W t u c place.Unborn h b = absurd h
-tells-plain W t u c (place.Pool p k) h b = b
-tells-plain W t u c (place.Hand s) h b = b
-tells-plain W t u c (place.Next s) h b = b
-tells-plain W t u c (place.Tray s k) h b = b
-tells-plain W t u c (place.Frame s d) h b = b
-tells-plain W t u c (place.Blocked spot.Suspended k) h b = b
-tells-plain W t u c (place.Blocked (spot.Join v) k) h b = b
 tells-plain W t u c (place.Blocked (spot.Object x) k) h b = absurd h
 tells-plain W t u c (place.Ended e) h b = absurd h
+tells-plain W t u c _ h b = b
 
 pub plain-tells : (W : Parts) (t u : ℕ) (c : Carried) (pl : Place) → IsPlain pl → Tells W t u c pl → Before W t u c
 plain-tells W t u c place.Unborn h b = absurd h
-plain-tells W t u c (place.Pool p k) h b = b
-plain-tells W t u c (place.Hand s) h b = b
-plain-tells W t u c (place.Next s) h b = b
-plain-tells W t u c (place.Tray s k) h b = b
-plain-tells W t u c (place.Frame s d) h b = b
-plain-tells W t u c (place.Blocked spot.Suspended k) h b = b
-plain-tells W t u c (place.Blocked (spot.Join v) k) h b = b
 plain-tells W t u c (place.Blocked (spot.Object x) k) h b = absurd h
 plain-tells W t u c (place.Ended e) h b = absurd h
+plain-tells W t u c _ h b = b
 
 -- What is said through at most so many points is said through more.
 
@@ -95,15 +71,9 @@ waits-more W t u x c (inr h) = inr (awaiting-more W t u x c h)
 
 pub tells-more : (W : Parts) (t u : ℕ) (c : Carried) (pl : Place) → Tells W t u c pl → Tells W (suc t) u c pl
 tells-more W t u c place.Unborn h = h
-tells-more W t u c (place.Pool p k) h = before-more W t u c h
-tells-more W t u c (place.Hand s) h = before-more W t u c h
-tells-more W t u c (place.Next s) h = before-more W t u c h
-tells-more W t u c (place.Tray s k) h = before-more W t u c h
-tells-more W t u c (place.Frame s d) h = before-more W t u c h
-tells-more W t u c (place.Blocked spot.Suspended k) h = before-more W t u c h
-tells-more W t u c (place.Blocked (spot.Join v) k) h = before-more W t u c h
 tells-more W t u c (place.Blocked (spot.Object x) k) h = waits-more W t u x.0 c h
 tells-more W t u c (place.Ended e) h = (before-more W t u c h.0, h.1)
+tells-more W t u c _ h = before-more W t u c h
 
 -- What carried things say depends on position and memory alone.
 
@@ -116,15 +86,9 @@ waits-same W t u x c d p m (inr h) = inr (record { at = h.at; position = p ∙ h
 
 pub tells-same : (W : Parts) (t u : ℕ) (c d : Carried) (pl : Place) → d.position ≡ c.position → memory_of d ≡ memory_of c → Tells W t u c pl → Tells W t u d pl
 tells-same W t u c d place.Unborn p m h = (h.0, p ∙ h.1, m ∙ h.2)
-tells-same W t u c d (place.Pool q k) p m h = before-same W t u c d p m h
-tells-same W t u c d (place.Hand s) p m h = before-same W t u c d p m h
-tells-same W t u c d (place.Next s) p m h = before-same W t u c d p m h
-tells-same W t u c d (place.Tray s k) p m h = before-same W t u c d p m h
-tells-same W t u c d (place.Frame s k) p m h = before-same W t u c d p m h
-tells-same W t u c d (place.Blocked spot.Suspended k) p m h = before-same W t u c d p m h
-tells-same W t u c d (place.Blocked (spot.Join v) k) p m h = before-same W t u c d p m h
 tells-same W t u c d (place.Blocked (spot.Object x) k) p m h = waits-same W t u x.0 c d p m h
 tells-same W t u c d (place.Ended e) p m h = (before-same W t u c d p m h.0, omega arith)
+tells-same W t u c d _ p m h = before-same W t u c d p m h
 
 -- Values.
 
