@@ -42,8 +42,8 @@ pass-requires c =
     let at : slice_get c.args.self.now.units.items c.args.u.0 ≡ Some c.index_mut-3.result.now = read-at c.args.self.now.units.items c.args.u.0 c.index_mut-3.result.now below c.index_mut-3.ensures.value in
     let few : c.index_mut-3.result.now.position ≤ 256 = position-few c.args.w.now c.args.u.0 c.args.self.now c.index_mut-3.result.now c.known.ensures c.requires.reached c.requires.runs at in omega arith
 
-pub returns-clause-runs : goal.returns-clause-runs
-returns-clause-runs c =
+pub returns : goal.returns
+returns c =
     let below : c.args.u.0 < length c.args.self.now.units.items = unit-there c.args.w.now c.args.u.0 c.args.self.now c.known.ensures c.requires.reached c.requires.runs in
     let at : slice_get c.args.self.now.units.items c.args.u.0 ≡ Some c.index_mut-3.result.now = read-at c.args.self.now.units.items c.args.u.0 c.index_mut-3.result.now below c.index_mut-3.ensures.value in
     let there : c.args.x.0 < length c.args.w.now.objects = set-there c.args.w.now c.args.u.0 c.args.self.now c.args.x c.known.ensures c.requires.reached c.requires.runs c.requires.here in
@@ -55,29 +55,13 @@ returns-clause-runs c =
     let ready : c.extend_from_slice.new.self.items ≡ c.args.self.now.ready.items ++ c.index.result.now.items = c.in_ok-extend_from_slice.ensures.items ∙ ap (λ us. c.args.self.now.ready.items ++ us) c.deref.ensures.value in
     let values : set c.args.self.now.values.items c.args.x.0 (Some c.index-2.result.now.acc) ≡ set c.args.self.now.values.items c.args.x.0 (Some c.index_mut-3.result.now.acc) = ap (λ a. set c.args.self.now.values.items c.args.x.0 (Some a)) acc in
     record {
-      follows = subst (Follows c.args.w.now (set c.args.self.now.units.items c.args.u.0 c.pass.new.self)) (sym values) (set-follows c.args.w.now c.known.ensures c.args.u.0 c.requires.reached c.args.self.now c.requires.runs c.index_mut-3.result.now c.pass.new.self at c.args.x (c.requires.here c.index_mut-3.result.now at) pos same there c.index.result.now c.clear.new.self waited c.clear.ensures.items);
-      waits = subst (λ vs. Waits c.args.w.now vs (set c.args.self.now.waiting.items c.args.x.0 c.clear.new.self)) (sym values) (set-waits c.args.w.now c.known.ensures c.args.u.0 c.requires.reached c.args.self.now c.requires.runs c.index_mut-3.result.now c.pass.new.self at c.args.x (c.requires.here c.index_mut-3.result.now at) pos same there c.index.result.now c.clear.new.self waited c.clear.ensures.items);
-      ready = λ v has. set-ready c.args.w.now c.known.ensures c.args.u.0 c.requires.reached c.args.self.now c.requires.runs c.index_mut-3.result.now c.pass.new.self at c.args.x (c.requires.here c.index_mut-3.result.now at) pos same there c.index.result.now c.clear.new.self waited c.clear.ensures.items v (subst (λ us. Contains us v) ready has);
-      others = λ v other r. subst (λ us. Contains us (unit_no v) ⊎ Rests c.args.w.now (set c.args.self.now.units.items c.args.u.0 c.pass.new.self) (set c.args.self.now.values.items c.args.x.0 (Some c.index-2.result.now.acc)) v) (sym ready)
-          (subst (λ vs. Contains (c.args.self.now.ready.items ++ c.index.result.now.items) (unit_no v) ⊎ Rests c.args.w.now (set c.args.self.now.units.items c.args.u.0 c.pass.new.self) vs v) (sym values) (set-others c.args.w.now c.known.ensures c.args.u.0 c.requires.reached c.args.self.now c.requires.runs c.index_mut-3.result.now c.pass.new.self at c.args.x (c.requires.here c.index_mut-3.result.now at) pos same there c.index.result.now c.clear.new.self waited c.clear.ensures.items v other r));
+      runs = record {
+        follows = subst (Follows c.args.w.now (set c.args.self.now.units.items c.args.u.0 c.pass.new.self)) (sym values) (set-follows c.args.w.now c.known.ensures c.args.u.0 c.requires.reached c.args.self.now c.requires.runs c.index_mut-3.result.now c.pass.new.self at c.args.x (c.requires.here c.index_mut-3.result.now at) pos same there c.index.result.now c.clear.new.self waited c.clear.ensures.items);
+        waits = subst (λ vs. Waits c.args.w.now vs (set c.args.self.now.waiting.items c.args.x.0 c.clear.new.self)) (sym values) (set-waits c.args.w.now c.known.ensures c.args.u.0 c.requires.reached c.args.self.now c.requires.runs c.index_mut-3.result.now c.pass.new.self at c.args.x (c.requires.here c.index_mut-3.result.now at) pos same there c.index.result.now c.clear.new.self waited c.clear.ensures.items);
+        ready = λ v has. set-ready c.args.w.now c.known.ensures c.args.u.0 c.requires.reached c.args.self.now c.requires.runs c.index_mut-3.result.now c.pass.new.self at c.args.x (c.requires.here c.index_mut-3.result.now at) pos same there c.index.result.now c.clear.new.self waited c.clear.ensures.items v (subst (λ us. Contains us v) ready has);
+        others = λ v other r. subst (λ us. Contains us (unit_no v) ⊎ Rests c.args.w.now (set c.args.self.now.units.items c.args.u.0 c.pass.new.self) (set c.args.self.now.values.items c.args.x.0 (Some c.index-2.result.now.acc)) v) (sym ready)
+            (subst (λ vs. Contains (c.args.self.now.ready.items ++ c.index.result.now.items) (unit_no v) ⊎ Rests c.args.w.now (set c.args.self.now.units.items c.args.u.0 c.pass.new.self) vs v) (sym values) (set-others c.args.w.now c.known.ensures c.args.u.0 c.requires.reached c.args.self.now c.requires.runs c.index_mut-3.result.now c.pass.new.self at c.args.x (c.requires.here c.index_mut-3.result.now at) pos same there c.index.result.now c.clear.new.self waited c.clear.ensures.items v other r));
+      };
+      work = ap (λ us. length us + sum_by (λ (ws : Vec UnitNo Global). length ws.items) (set c.args.self.now.waiting.items c.args.x.0 c.clear.new.self)) ready ∙ set-work c.args.w.now c.known.ensures c.args.u.0 c.requires.reached c.args.self.now c.requires.runs c.index_mut-3.result.now c.pass.new.self at c.args.x (c.requires.here c.index_mut-3.result.now at) pos same there c.index.result.now c.clear.new.self waited c.clear.ensures.items;
+      more = one-more c.args.w.now c.args.u.0 c.requires.reached c.args.self.now.units.items c.args.self.now.values.items c.requires.runs.follows c.index_mut-3.result.now c.pass.new.self at (op.EvSet c.args.x) (c.requires.here c.index_mut-3.result.now at) pos;
     }
-
-pub returns-clause-work : goal.returns-clause-work
-returns-clause-work c =
-    let below : c.args.u.0 < length c.args.self.now.units.items = unit-there c.args.w.now c.args.u.0 c.args.self.now c.known.ensures c.requires.reached c.requires.runs in
-    let at : slice_get c.args.self.now.units.items c.args.u.0 ≡ Some c.index_mut-3.result.now = read-at c.args.self.now.units.items c.args.u.0 c.index_mut-3.result.now below c.index_mut-3.ensures.value in
-    let there : c.args.x.0 < length c.args.w.now.objects = set-there c.args.w.now c.args.u.0 c.args.self.now c.args.x c.known.ensures c.requires.reached c.requires.runs c.requires.here in
-    let listed : c.args.x.0 < length c.args.self.now.waiting.items = (let e = c.requires.runs.waits.all in omega arith) in
-    let waited : slice_get c.args.self.now.waiting.items c.args.x.0 ≡ Some c.index.result.now = read-at c.args.self.now.waiting.items c.args.x.0 c.index.result.now listed c.index.ensures in
-    let pos : c.pass.new.self.position ≡ c.index_mut-3.result.now.position + 1 = ap (λ (p : Progress). p.position) c.pass.ensures in
-    let same : memory_in c.pass.new.self ≡ memory_in c.index_mut-3.result.now = ap memory_in c.pass.ensures in
-    let acc : c.index-2.result.now.acc ≡ c.index_mut-3.result.now.acc = ap (λ (p : Progress). p.acc) (some-injective (sym (read-at c.args.self.now.units.items c.args.u.0 c.index-2.result.now below c.index-2.ensures) ∙ at)) in
-    let ready : c.extend_from_slice.new.self.items ≡ c.args.self.now.ready.items ++ c.index.result.now.items = c.in_ok-extend_from_slice.ensures.items ∙ ap (λ us. c.args.self.now.ready.items ++ us) c.deref.ensures.value in
-    ap (λ us. length us + sum_by (λ (ws : Vec UnitNo Global). length ws.items) (set c.args.self.now.waiting.items c.args.x.0 c.clear.new.self)) ready ∙ set-work c.args.w.now c.known.ensures c.args.u.0 c.requires.reached c.args.self.now c.requires.runs c.index_mut-3.result.now c.pass.new.self at c.args.x (c.requires.here c.index_mut-3.result.now at) pos same there c.index.result.now c.clear.new.self waited c.clear.ensures.items
-
-pub returns-clause-more : goal.returns-clause-more
-returns-clause-more c =
-    let below : c.args.u.0 < length c.args.self.now.units.items = unit-there c.args.w.now c.args.u.0 c.args.self.now c.known.ensures c.requires.reached c.requires.runs in
-    let at : slice_get c.args.self.now.units.items c.args.u.0 ≡ Some c.index_mut-3.result.now = read-at c.args.self.now.units.items c.args.u.0 c.index_mut-3.result.now below c.index_mut-3.ensures.value in
-    let pos : c.pass.new.self.position ≡ c.index_mut-3.result.now.position + 1 = ap (λ (p : Progress). p.position) c.pass.ensures in
-    one-more c.args.w.now c.args.u.0 c.requires.reached c.args.self.now.units.items c.args.self.now.values.items c.requires.runs.follows c.index_mut-3.result.now c.pass.new.self at (op.EvSet c.args.x) (c.requires.here c.index_mut-3.result.now at) pos
