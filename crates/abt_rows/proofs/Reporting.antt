@@ -25,7 +25,7 @@ abbrev pub ran_in_turn : (W : Parts) (Z : List OrderShape) → List ℕ → Ran 
 ran_in_turn W Z streams = ran_by W Z streams 1 (start W)
 
 -- a run, of which the validity, the end and the texts are computed
-pub reported : (W : Parts) (Z : List OrderShape) (n : ℕ) (R : Ran W Z (start W)) (o : Outcome) (text report : Text) →
+unfoldable pub reported : (W : Parts) (Z : List OrderShape) (n : ℕ) (R : Ran W Z (start W)) (o : Outcome) (text report : Text) →
     is_some (validity W) ≡ true → is_some (ending W n R.0 o) ≡ true → canonical_text W ≡ text → report_text W (last_state W R.0) (steps_in R.0) o ≡ report →
     Reports Z n text report R.0
 reported W Z n R o text report valid ends is_text is_report = record {

@@ -16,7 +16,7 @@ use Rattle.abt_machine.specs.Words.{Text}
 use Rattle.abt_rows.specs.Rows.{IsWorked}
 use Rattle.abt_rows.proofs.Deciding.{holds}
 use Rattle.abt_rows.proofs.Ending.{ending}
-use Rattle.abt_rows.proofs.Reporting.{ran}
+use Rattle.abt_rows.proofs.Reporting.{ran, reported}
 use Rattle.abt_rows.proofs.Running.{Ran, ran_by}
 use Rattle.abt_rows.proofs.Stamping.{lamport, lone}
 use Rattle.abt_rows.proofs.Validity.{validity}
@@ -25,18 +25,11 @@ use Rattle.abt_rows.proofs.Validity.{validity}
 pub shown : (W : Parts) (Z : List OrderShape) (n : ℕ) (R : Ran W Z (start W)) (o : Outcome) (text journal report : Text) → Lamport W R.0 →
     journal_text R.0 ≡ journal → is_some (validity W) ≡ true → is_some (ending W n R.0 o) ≡ true → canonical_text W ≡ text → report_text W (last_state W R.0) (steps_in R.0) o ≡ report →
     IsWorked Z n text journal report
+unfolding reported
 shown W Z n R o text journal report stamps is_journal valid ends is_text is_report = (
   R.0,
   is_journal,
-  record {
-    workload = W;
-    outcome = o;
-    is_valid = holds (validity W) valid;
-    is_text = is_text;
-    is_run = R.1;
-    is_outcome = holds (ending W n R.0 o) ends;
-    is_report = is_report;
-  },
+  reported W Z n R o text report valid ends is_text is_report,
   stamps,
 )
 
