@@ -32,13 +32,7 @@ fn long(word: &[u8]) -> Option<u64>
 fn short(word: &[u8]) -> Option<u32>
     ensures { (n : ℕ) → n < 2 ^ 32 → decimal n ≡ word.now → result ≡ Some n }
 {
-    let Ok(text) = str::from_utf8(word) else {
-        return None;
-    };
-    let Ok(n) = text.parse::<u32>() else {
-        return None;
-    };
-    Some(n)
+    u32::try_from(long(word)?).ok()
 }
 
 fn is(word: &[u8], text: &[u8]) -> bool
