@@ -1,3 +1,4 @@
 pub mod Footprint
 pub mod Laws
 pub mod Measure
+pub mod TwoStreams

@@ -1,7 +1,7 @@
 -- The meeting at a barrier: what the laws suppose is computed, and what they say follows.
 use Rattle.std.proofs.Common.{◌≡◌, ℕ, zero, suc, ◌<◌, ◌≤◌, true, false, List, [], ◌∷◌, slice_get, Option, Some, None, refl, sym, ◌∙◌, subst, arith, inl, inr}
 use Rattle.std.specs.Prelude.{Contains, take, drop}
-use Rattle.std.proofs.lemmas.List.Elements.{All-from_recursion, All-nil}
+use Rattle.std.proofs.lemmas.List.Elements.{All-from_recursion}
 use Rattle.abt_machine.specs.declared.events.Cause.TheVariants as cause
 use Rattle.abt_machine.specs.declared.events.Event.{Event}
 use Rattle.abt_machine.specs.declared.events.Site.{Site}
@@ -10,10 +10,9 @@ use Rattle.abt_machine.specs.declared.operations.Body.TheVariants as body
 use Rattle.abt_machine.specs.declared.operations.Kind.TheVariants as kind
 use Rattle.abt_machine.specs.declared.operations.Op.TheVariants as op
 use Rattle.abt_machine.specs.declared.operations.Thing.{Thing}
-use Rattle.abt_machine.specs.declared.workload.PoolPart.{PoolPart}
 use Rattle.abt_machine.specs.Numbers.{object_no, pool_no}
 use Rattle.abt_machine.specs.Operations.{IsDeclared}
-use Rattle.abt_machine.specs.Valid.{IsAccess, IsSched, IsStream, IsThing, IsUnit, IsValid, IsWord}
+use Rattle.abt_machine.specs.Valid.{IsThing, IsUnit, IsValid}
 use Rattle.abt_machine.specs.Rounds.{OrdersStored}
 use Rattle.abt_machine.specs.Workloads.{thing_at}
 use Rattle.abt_machine.specs.Frames.{round_taken}
@@ -28,7 +27,7 @@ use Rattle.abt_machine.specs.Turns.{Heard, Steps, looked, stepped}
 use Rattle.abt_laws.proofs.Lists.{EachOf}
 use Rattle.abt_laws.proofs.Options.{none≢some, some-injective}
 use Rattle.abt_laws.proofs.SoundStart.{start-is-sound}
-use Rattle.abt_laws.proofs.TwoStreams.{below-two, no-order, one-pool, two-places}
+use Rattle.abt_laws.proofs.TwoStreams.{no-order, sharing-is-valid, two-places}
 use Rattle.abt_interleave.specs.Histories.{Legal}
 use Rattle.abt_interleave.specs.Deeds.{Course}
 use Rattle.abt_interleave.specs.Logs.{Leaves, Matched, IsSooner, BeforeAll, InOrder}
@@ -58,27 +57,7 @@ thing (suc x) t e = absurd (none≢some e)
 
 -- it is a workload
 valid : IsValid meeting
-valid = record {
-  some_stream = omega arith;
-  few_streams = omega arith;
-  few_keys = omega arith;
-  some_pool = omega arith;
-  few_pools = omega arith;
-  pools = All-from_recursion (λ (part : PoolPart). IsAccess 2 part.access) meeting.pools (tt, tt);
-  some_sched = omega arith;
-  few_scheds = omega arith;
-  scheds = All-from_recursion (IsSched 1) meeting.scheds (one-pool 1 0 (omega arith), (one-pool 1 0 (omega arith), tt));
-  mains = refl;
-  streams = below-two (IsStream meeting) (record { main = omega arith; takes = refl }) (record { main = omega arith; takes = refl });
-  one_place = two-places;
-  few_objects = omega arith;
-  objects = thing;
-  few_units = omega arith;
-  units = All-from_recursion (IsUnit meeting) meeting.units (program, (program, tt));
-  few_ops = omega arith;
-  said = refl;
-  words = All-nil IsWord;
-}
+valid = sharing-is-valid meeting.objects meeting.units two-places (omega arith) thing (omega arith) (All-from_recursion (IsUnit meeting) meeting.units (program, (program, tt))) (omega arith) refl
 
 -- no order is asked for
 stored : OrdersStored meeting no_orders

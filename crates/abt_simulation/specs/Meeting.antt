@@ -7,16 +7,14 @@ use Rattle.abt_machine.specs.declared.events.Site.{Site}
 use Rattle.abt_machine.specs.declared.events.Site.TheVariants as site
 use Rattle.abt_machine.specs.declared.events.What.{What}
 use Rattle.abt_machine.specs.declared.events.What.TheVariants as what
-use Rattle.abt_machine.specs.declared.operations.Access.TheVariants as access
 use Rattle.abt_machine.specs.declared.operations.Body.TheVariants as body
 use Rattle.abt_machine.specs.declared.operations.Kind.TheVariants as kind
 use Rattle.abt_machine.specs.declared.operations.Op.TheVariants as op
 use Rattle.abt_machine.specs.declared.operations.OrderShape.{OrderShape}
-use Rattle.abt_machine.specs.declared.operations.Rule.TheVariants as rule
 use Rattle.abt_machine.specs.declared.operations.Side.TheVariants as side
 use Rattle.abt_machine.specs.declared.operations.Thing.TheVariants as thing
 use Rattle.abt_machine.specs.declared.workload.Parts.{Parts}
-use Rattle.abt_machine.specs.Numbers.{stream_no, pool_no, sched_no, unit_no, object_no}
+use Rattle.abt_machine.specs.Numbers.{stream_no, pool_no, unit_no, object_no}
 use Rattle.abt_machine.specs.Valid.{IsValid}
 use Rattle.abt_machine.specs.Rounds.{OrdersStored}
 use Rattle.abt_machine.specs.State.{Plain}
@@ -30,20 +28,12 @@ use Rattle.abt_machine.specs.Acts as act
 use Rattle.abt_machine.specs.Acts.{Act, Answer, moved}
 use Rattle.abt_interleave.specs.Machines.{Gathered}
 use Rattle.abt_interleave.specs.Stamps.{AllTimed}
+use Rattle.abt_laws.specs.TwoStreams.{sharing}
 use Rattle.abt_simulation.specs.Merging.{machine_of, StreamDeed, SiteEntry, IsJournalOf, LeadsTo}
 
 -- two streams with a scheduler each, one pool for both, one barrier for two, and two units that go there
 abbrev pub meeting : Parts
-meeting = record {
-  streams = 2;
-  keys = 0;
-  pools = record { kind = kind.Fifo; access = access.Mpmc } ∷ [];
-  scheds = record { rule = rule.Prio; pools = pool_no 0 ∷ [] } ∷ record { rule = rule.Prio; pools = pool_no 0 ∷ [] } ∷ [];
-  mains = sched_no 0 ∷ sched_no 1 ∷ [];
-  objects = thing.Barrier 2 ∷ [];
-  units = record { body = body.Ult (op.BarWait (object_no 0) ∷ []); start = Some (pool_no 0) } ∷ record { body = body.Ult (op.BarWait (object_no 0) ∷ []); start = Some (pool_no 0) } ∷ [];
-  words = [];
-}
+meeting = sharing (thing.Barrier 2 ∷ []) (record { body = body.Ult (op.BarWait (object_no 0) ∷ []); start = Some (pool_no 0) } ∷ record { body = body.Ult (op.BarWait (object_no 0) ∷ []); start = Some (pool_no 0) } ∷ [])
 
 -- no scheduler has an order of the user's
 abbrev pub no_orders : List OrderShape
