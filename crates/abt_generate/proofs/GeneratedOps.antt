@@ -1,12 +1,12 @@
 -- The operations of the generator's workload, and how many there are.
 use Rattle.std.proofs.Common.{◌≡◌, ℕ, ◌≤◌, ◌+◌, ◌*◌, List, [], ◌∷◌, ◌++◌, length, map, ◌∙◌, arith, lit≤, length-append}
-use Rattle.std.specs.Prelude.{◌%◌, flat_map}
+use Rattle.std.specs.Prelude.{◌%◌}
 use Rattle.std.proofs.lemmas.List.{length-map}
 use Rattle.std.proofs.lemmas.List.FromFn.{length-range_with_len}
 use Rattle.abt_machine.specs.declared.operations.Op.{Op}
 use Rattle.abt_machine.specs.declared.operations.Op.TheVariants as op
 use Rattle.abt_machine.specs.declared.workload.UnitPart.{UnitPart}
-use Rattle.abt_machine.specs.Limits.{operation_limit}
+use Rattle.abt_machine.specs.Limits.{adder_limit, operation_limit}
 use Rattle.abt_machine.specs.Numbers.{object_no, pool_no, unit_no}
 use Rattle.abt_machine.specs.Workloads.{all_ops, ops_of}
 use Rattle.abt_generate.specs.Generated.{adder, adders, first_ops, first_unit}
@@ -31,7 +31,7 @@ length-first_ops n =
     omega arith
 
 -- and each adder has six
-pub few-ops : (n : ℕ) → n ≤ 126 → length (all_ops (first_unit n ∷ map adder (adders n))) ≤ operation_limit
+pub few-ops : (n : ℕ) → n ≤ adder_limit → length (all_ops (first_unit n ∷ map adder (adders n))) ≤ operation_limit
 few-ops n few =
     let units : List UnitPart = map adder (adders n) in
     let six : Each (λ (part : UnitPart). length (ops_of part.body) ≤ 6) units =

@@ -1,11 +1,9 @@
 -- The generator's parts are those of a valid workload.
-use Rattle.std.proofs.Common.{◌≡◌, ◌≢◌, ℕ, zero, suc, ◌<◌, ◌≤◌, ◌+◌, ◌^◌, List, [], ◌∷◌, ◌++◌, Some, length, map, refl, subst, arith, lit<, lit≤}
+use Rattle.std.proofs.Common.{◌≡◌, ◌≢◌, ℕ, zero, suc, ◌<◌, ◌≤◌, ◌+◌, ◌^◌, false, List, [], ◌∷◌, ◌++◌, Some, length, map, refl, subst, arith, lit<, lit≤}
 use Rattle.std.specs.Prelude.{◌%◌, AllPairs, flat_map}
 use Rattle.std.specs.List.{range_with_len}
-use Rattle.std.proofs.lemmas.List.{length-map}
 use Rattle.std.proofs.lemmas.List.Elements.{All-nil}
 use Rattle.std.proofs.lemmas.List.FromFn.{length-map-range_with_len}
-use Rattle.abt_machine.specs.declared.numbers.PoolNo.{PoolNo}
 use Rattle.abt_machine.specs.declared.numbers.SchedNo.{SchedNo}
 use Rattle.abt_machine.specs.declared.operations.Op.{Op}
 use Rattle.abt_machine.specs.declared.operations.Op.TheVariants as op
@@ -16,14 +14,17 @@ use Rattle.abt_machine.specs.declared.workload.Parts.{Parts}
 use Rattle.abt_machine.specs.declared.workload.PoolPart.{PoolPart}
 use Rattle.abt_machine.specs.declared.workload.SchedPart.{SchedPart}
 use Rattle.abt_machine.specs.declared.workload.UnitPart.{UnitPart}
+use Rattle.abt_machine.specs.Faults.{has_repeated}
+use Rattle.abt_machine.specs.Limits.{adder_limit}
 use Rattle.abt_machine.specs.Numbers.{object_no, pool_no, sched_no}
 use Rattle.abt_machine.specs.Operations.{IsDeclared, said_by}
 use Rattle.abt_machine.specs.Valid.{IsAccess, IsSched, IsStream, IsThing, IsUnit, IsValid, IsWord, sched_in, words_said}
 use Rattle.abt_machine.specs.Words.{Text}
 use Rattle.abt_machine.specs.Workloads.{ops_of, thing_at}
+use Rattle.abt_machine.proofs.Distinct.{listing, once-pairs}
 use Rattle.abt_generate.specs.Generated.{adder, adder_ops, adders, deque, first_ops, first_unit, generated, sched_for}
 use Rattle.abt_generate.proofs.GeneratedOps.{create, join, few-ops, length-first_ops}
-use Rattle.abt_generate.proofs.Lists.{Each, EachPair, each-all, each-always, each-append, each-map, each-pairs, flat_map-nothing, none-some, pair-map, some-same}
+use Rattle.abt_generate.proofs.Lists.{Each, each-all, each-always, each-append, each-map, flat_map-nothing, none-some, some-same}
 
 -- Operations.
 
@@ -54,7 +55,7 @@ adder_ops-declared n v below = (tt, (refl, (refl, (below, (refl, (refl, tt))))))
 
 -- Units.
 
-first-valid : (n : ℕ) → n ≤ 126 → IsUnit (generated n) (first_unit n)
+first-valid : (n : ℕ) → n ≤ adder_limit → IsUnit (generated n) (first_unit n)
 unfolding generated
 first-valid n few =
     let count : length (first_ops n) ≡ n + n + 4 = length-first_ops n in
@@ -64,7 +65,7 @@ adder-valid : (n v : ℕ) → v < 2 ^ 64 → IsUnit (generated n) (adder v)
 unfolding generated
 adder-valid n v below = record { kind = tt; few_ops = lit≤ tt; ops = each-all (IsDeclared (generated n)) (adder_ops v) (adder_ops-declared n v below); start = tt }
 
-units-valid : (n : ℕ) → n ≤ 126 → Each (IsUnit (generated n)) (first_unit n ∷ map adder (adders n))
+units-valid : (n : ℕ) → n ≤ adder_limit → Each (IsUnit (generated n)) (first_unit n ∷ map adder (adders n))
 units-valid n few =
     let P : UnitPart → Type 0 = IsUnit (generated n) in
     (first-valid n few, each-map P adder (adders n) (each-range (λ v. P (adder v)) 1 n (λ v l k. adder-valid n v (omega arith))))
@@ -92,25 +93,17 @@ no-words n =
 -- Pools, schedulers, streams and the mutex.
 
 -- a scheduler that steals lists four pools, each once
-sched-valid : (seed : ℕ) (ps : List ℕ) → seed < 2 ^ 64 → length ps ≡ 4 → Each (λ p. p < 4) ps → EachPair (λ a b. a ≢ b) ps → IsSched 4 (record { rule = rule.Randws seed; pools = map pool_no ps })
-sched-valid seed ps below four listed once =
-    let count : length (map pool_no ps) ≡ length ps = length-map ps pool_no in
-    record {
-      rule = below;
-      some_pool = omega arith;
-      few_pools = omega arith;
-      listed = each-all (λ (p : PoolNo). p.0 < 4) (map pool_no ps) (each-map (λ (p : PoolNo). p.0 < 4) pool_no ps listed);
-      once = each-pairs (λ (a b : PoolNo). a.0 ≢ b.0) (map pool_no ps) (pair-map (λ (a b : PoolNo). a.0 ≢ b.0) pool_no ps once);
-    }
+sched-valid : (seed : ℕ) (ps : List ℕ) → seed < 2 ^ 64 → length ps ≡ 4 → Each (λ p. p < 4) ps → has_repeated ps ≡ false → IsSched 4 (record { rule = rule.Randws seed; pools = map pool_no ps })
+sched-valid seed ps below four listed once = listing 4 (rule.Randws seed) ps below (omega arith) (omega arith) (each-all (λ p. p < 4) ps listed) once
 
-scheds-valid : (n : ℕ) → n ≤ 126 → Each (IsSched 4) (map (sched_for n) (0 ∷ 1 ∷ 2 ∷ 3 ∷ []))
+scheds-valid : (n : ℕ) → n ≤ adder_limit → Each (IsSched 4) (map (sched_for n) (0 ∷ 1 ∷ 2 ∷ 3 ∷ []))
 scheds-valid n few = (
-  sched-valid (n + 0) (0 ∷ 1 ∷ 2 ∷ 3 ∷ []) (omega arith) refl (lit< tt, (lit< tt, (lit< tt, (lit< tt, tt)))) ((λ e. omega (arith, e), (λ e. omega (arith, e), (λ e. omega (arith, e), tt))), ((λ e. omega (arith, e), (λ e. omega (arith, e), tt)), ((λ e. omega (arith, e), tt), (tt, tt)))),
+  sched-valid (n + 0) (0 ∷ 1 ∷ 2 ∷ 3 ∷ []) (omega arith) refl (lit< tt, (lit< tt, (lit< tt, (lit< tt, tt)))) refl,
   (
-    sched-valid (n + 1) (1 ∷ 0 ∷ 2 ∷ 3 ∷ []) (omega arith) refl (lit< tt, (lit< tt, (lit< tt, (lit< tt, tt)))) ((λ e. omega (arith, e), (λ e. omega (arith, e), (λ e. omega (arith, e), tt))), ((λ e. omega (arith, e), (λ e. omega (arith, e), tt)), ((λ e. omega (arith, e), tt), (tt, tt)))),
+    sched-valid (n + 1) (1 ∷ 0 ∷ 2 ∷ 3 ∷ []) (omega arith) refl (lit< tt, (lit< tt, (lit< tt, (lit< tt, tt)))) refl,
     (
-      sched-valid (n + 2) (2 ∷ 0 ∷ 1 ∷ 3 ∷ []) (omega arith) refl (lit< tt, (lit< tt, (lit< tt, (lit< tt, tt)))) ((λ e. omega (arith, e), (λ e. omega (arith, e), (λ e. omega (arith, e), tt))), ((λ e. omega (arith, e), (λ e. omega (arith, e), tt)), ((λ e. omega (arith, e), tt), (tt, tt)))),
-      (sched-valid (n + 3) (3 ∷ 0 ∷ 1 ∷ 2 ∷ []) (omega arith) refl (lit< tt, (lit< tt, (lit< tt, (lit< tt, tt)))) ((λ e. omega (arith, e), (λ e. omega (arith, e), (λ e. omega (arith, e), tt))), ((λ e. omega (arith, e), (λ e. omega (arith, e), tt)), ((λ e. omega (arith, e), tt), (tt, tt)))), tt),
+      sched-valid (n + 2) (2 ∷ 0 ∷ 1 ∷ 3 ∷ []) (omega arith) refl (lit< tt, (lit< tt, (lit< tt, (lit< tt, tt)))) refl,
+      (sched-valid (n + 3) (3 ∷ 0 ∷ 1 ∷ 2 ∷ []) (omega arith) refl (lit< tt, (lit< tt, (lit< tt, (lit< tt, tt)))) refl, tt),
     ),
   ),
 )
@@ -129,9 +122,9 @@ objects-valid n zero t is = subst (IsThing (generated n).objects 0) (some-same i
 objects-valid n (suc x) t is = absurd (none-some is)
 
 once-placed : (ps qs : List ℕ) → qs ≡ [] → ps ≡ 0 ∷ 1 ∷ 2 ∷ 3 ∷ [] → AllPairs (λ a b. a ≢ b) (ps ++ qs)
-once-placed ps qs none four = rw (none, four) (each-pairs (λ a b. a ≢ b) (0 ∷ 1 ∷ 2 ∷ 3 ∷ []) ((λ e. omega (arith, e), (λ e. omega (arith, e), (λ e. omega (arith, e), tt))), ((λ e. omega (arith, e), (λ e. omega (arith, e), tt)), ((λ e. omega (arith, e), tt), (tt, tt)))))
+once-placed ps qs none four = rw (none, four) (once-pairs (0 ∷ 1 ∷ 2 ∷ 3 ∷ []) refl)
 
-pub IsValid-generated : (n : ℕ) → n ≤ 126 → IsValid (generated n)
+pub IsValid-generated : (n : ℕ) → n ≤ adder_limit → IsValid (generated n)
 unfolding generated
 IsValid-generated n few =
     let W : Parts = generated n in

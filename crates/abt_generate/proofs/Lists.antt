@@ -34,10 +34,6 @@ pub each-pairs : {A : Type 0} (R : A → A → Type 0) (xs : List A) → EachPai
 each-pairs R [] h = λ i j d before below. absurd (omega arith)
 each-pairs R (x ∷ xs) h = AllPairs-cons R x xs (each-all (R x) xs h.0) (each-pairs R xs h.1)
 
-pub pair-map : {A B : Type 0} (R : B → B → Type 0) (f : A → B) (xs : List A) → EachPair (λ x y. R (f x) (f y)) xs → EachPair R (map f xs)
-pair-map R f [] h = tt
-pair-map R f (x ∷ xs) h = (each-map (R (f x)) f xs h.0, pair-map R f xs h.1)
-
 pub some-same : {A : Type 0} {x y : A} → ◌≡◌ {A = Option A} (Some x) (Some y) → x ≡ y
 some-same {A} {x} {y} e = ap (λ (o : Option A). elim o as (λ p. A) [ None ↦ x | Some z ↦ z ]) e
 
