@@ -1,4 +1,4 @@
-//! Trials of rounds, of turns, of texts, of reports, of runs and of booths.
+//! Trials of rounds, of turns, of runs and of booths.
 #![tactic(auto)]
 
 #[cfg(test)]
@@ -12,11 +12,7 @@ mod lives;
 #[cfg(test)]
 mod lives_calls;
 #[cfg(test)]
-mod reports;
-#[cfg(test)]
 mod rounds;
-#[cfg(test)]
-mod texts;
 #[cfg(test)]
 mod turns;
 #[cfg(test)]

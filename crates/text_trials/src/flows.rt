@@ -3,7 +3,7 @@
 ghost use Rattle.std.specs.Prelude.{IfOk};
 
 use abt_flow::{Flow, confluent, find_flow};
-use abt_machine::{Piece, Workload};
+use abt_machine::{Piece, Want, Workload};
 use abt_workload::read;
 use std::alloc::Global;
 use std::process::Abort;
@@ -89,12 +89,16 @@ fn workload(
     Ok(read(alloc, text.as_bytes())?)
 }
 
+// Whether the workload of two units is confluent.
+fn is_confluent(alloc: Global, access: &str, first: &str, second: &str) -> Result<bool, Fail> {
+    let w = workload(alloc, access, 2, first, second)?;
+    Ok(confluent(alloc, &w)?)
+}
+
 #[test]
 fn each_condition_is_asked(rt: HostRuntime) -> Result<(), Fail> {
-    let alloc = rt.alloc();
     for (access, first, second, wanted) in &CONFLUENCE {
-        let w = workload(alloc, access, 2, first, second)?;
-        let is = confluent(alloc, &w)?;
+        let is = is_confluent(rt.alloc(), access, first, second)?;
         assert!(rt; is == *wanted, "{first}{second}");
     }
     Ok(())
@@ -110,28 +114,33 @@ fn puts_out(flow: &Flow, wanted: &[&[Piece]]) -> bool {
             .all(|(row, output)| row.items() == *output)
 }
 
-// The flow of a confluent workload in an open pool.
-fn flow_of(
+// The flow of a workload that is confluent.
+fn flow_of(rt: &impl Abort, alloc: Global, w: &Workload) -> Result<Option<Flow>, Want> {
+    let is = confluent(alloc, w)?;
+    assert!(rt; is);
+    find_flow(alloc, w)
+}
+
+// Whether the units put this out by the flow of their workload, or have no flow.
+fn has_flow(
     rt: &impl Abort,
     alloc: Global,
-    first: &str,
-    others: &str,
-) -> Result<Option<Flow>, Fail> {
-    let w = workload(alloc, OPEN, 3, first, others)?;
-    let is = confluent(alloc, &w)?;
-    assert!(rt; is);
-    Ok(find_flow(alloc, &w)?)
+    w: &Workload,
+    wanted: Option<[&[Piece]; 3]>,
+) -> Result<bool, Want> {
+    Ok(match (flow_of(rt, alloc, w)?, wanted) {
+        (Some(flow), Some(outputs)) => puts_out(&flow, &outputs),
+        (None, None) => true,
+        _ => false,
+    })
 }
 
 #[test]
 fn values_flow_from_sets_to_waits(rt: HostRuntime) -> Result<(), Fail> {
     for (first, others, wanted) in &FLOWS {
-        let is = match (flow_of(&rt, rt.alloc(), first, others)?, wanted) {
-            (Some(flow), Some(outputs)) => puts_out(&flow, outputs),
-            (None, None) => true,
-            _ => false,
-        };
-        assert!(rt; is, "{first}{others}");
+        let w = workload(rt.alloc(), OPEN, 3, first, others)?;
+        let has = has_flow(&rt, rt.alloc(), &w, *wanted)?;
+        assert!(rt; has, "{first}{others}");
     }
     Ok(())
 }

@@ -2,8 +2,7 @@
 
 use abt_machine::{Cause, Code, Event, Journal, PoolNo, StreamNo, UnitNo, What};
 use abt_report::{NotJournal, journal_text, read_journal};
-use std::alloc::Global;
-use std::process::Abort;
+use std::alloc::{AllocError, Global};
 use std::test::Fail;
 
 const HI_TEXT: &str = "1 0 take 0 0\n2 0 look 0\n3 0 step 0 0 ok\n4 0 end 0 done\n5 0 miss 0\n";
@@ -57,8 +56,8 @@ const JOURNALS: [(&str, &[What]); 4] = [
     (CODES_TEXT, CODES),
 ];
 
-// The events have this text, and the text is read as these events.
-fn check(rt: &impl Abort, alloc: Global, text: &str, happened: &[What]) -> Result<(), Fail> {
+// The journal of stream 0 in which this happened.
+fn journal_of(alloc: Global, happened: &[What]) -> Result<Journal, AllocError> {
     let mut events = Vec::new(alloc);
     for (earlier, what) in happened.iter().enumerate() {
         events.push(Event {
@@ -67,20 +66,76 @@ fn check(rt: &impl Abort, alloc: Global, text: &str, happened: &[What]) -> Resul
             what: *what,
         })?;
     }
-    let journal = Journal::new(events);
-    let written = journal_text(alloc, &journal).expect(rt, "there is memory");
-    assert_eq!(rt; written.as_slice(), text.as_bytes());
-    assert!(rt; text.len() < 1000);
-    let read = read_journal(alloc, text.as_bytes()).expect(rt, "it is a journal's text");
-    assert_eq!(rt; read.items(), journal.items());
-    Ok(())
+    Ok(Journal::new(events))
+}
+
+// More bytes than any text here has.
+const ROOM: usize = 1_000_000;
+
+// Whether this is the text of the journal.
+fn is_text_of(alloc: Global, journal: &Journal, text: &str) -> bool {
+    match journal_text(alloc, journal) {
+        Ok(written) => written.as_slice() == text.as_bytes(),
+        Err(_) => false,
+    }
+}
+
+// Whether the text is read as the journal.
+fn is_read_as(alloc: Global, text: &str, journal: &Journal) -> bool {
+    if text.len() >= ROOM {
+        return false;
+    }
+    match read_journal(alloc, text.as_bytes()) {
+        Ok(read) => read.items() == journal.items(),
+        Err(_) => false,
+    }
 }
 
 #[test]
 fn journals_are_written_and_read_back(rt: HostRuntime) -> Result<(), Fail> {
     for (text, happened) in JOURNALS {
-        check(&rt, rt.alloc(), text, happened)?;
+        let journal = journal_of(rt.alloc(), happened)?;
+        assert!(rt; is_text_of(rt.alloc(), &journal, text), "{text}");
+        assert!(rt; is_read_as(rt.alloc(), text, &journal), "{text}");
     }
+    Ok(())
+}
+
+// How many lines a long journal has.
+const LINES: u64 = 1200;
+
+// A long journal: each line is as long as there may be, and has a stamp far beyond 32 bits.
+fn long_journal(alloc: Global) -> Result<Journal, AllocError> {
+    let mut events = Vec::new(alloc);
+    for later in 0..LINES {
+        events.push(Event {
+            stamp: u64::MAX - later,
+            stream: StreamNo(u32::MAX),
+            what: What::Step(UnitNo(u32::MAX), u32::MAX, Code::NotMigratable),
+        })?;
+    }
+    Ok(Journal::new(events))
+}
+
+// Its text.
+fn long_text(alloc: Global) -> Result<String, AllocError> {
+    let mut text = String::new(alloc);
+    for later in 0..LINES {
+        let stamp = u64::MAX - later;
+        writeln!(
+            text,
+            "{stamp} 4294967295 step 4294967295 4294967295 not-migratable"
+        )?;
+    }
+    Ok(text)
+}
+
+#[test]
+fn long_journals_are_written_and_read_back(rt: HostRuntime) -> Result<(), Fail> {
+    let journal = long_journal(rt.alloc())?;
+    let text = long_text(rt.alloc())?;
+    assert!(rt; is_text_of(rt.alloc(), &journal, &text));
+    assert!(rt; is_read_as(rt.alloc(), &text, &journal));
     Ok(())
 }
 
@@ -134,14 +189,28 @@ const BAD: [(&str, u32); 26] = [
     ("1 0\n", 1),
 ];
 
-#[test]
-fn other_texts_are_refused_at_their_first_bad_line(rt: HostRuntime) -> Result<(), Fail> {
-    for (text, line) in BAD {
-        assert!(&rt; text.len() < 1000);
-        match read_journal(rt.alloc(), text.as_bytes()) {
-            Err(fault) => assert_eq!(&rt; fault, NotJournal::Bad { line }),
-            Ok(_) => panic!(&rt; "it is no journal's text"),
-        }
+// The first line at which no journal's text agrees with this one, if there is one.
+fn bad_line(alloc: Global, text: &str) -> Option<u32> {
+    if text.len() >= ROOM {
+        return None;
     }
+    match read_journal(alloc, text.as_bytes()) {
+        Err(NotJournal::Bad { line }) => Some(line),
+        _ => None,
+    }
+}
+
+#[test]
+fn other_texts_are_refused_at_their_first_bad_line(rt: HostRuntime) {
+    for (text, line) in BAD {
+        assert!(rt; bad_line(rt.alloc(), text) == Some(line), "{text}");
+    }
+}
+
+#[test]
+fn a_long_text_is_refused_at_its_last_line(rt: HostRuntime) -> Result<(), Fail> {
+    let mut text = long_text(rt.alloc())?;
+    text.push_str("finished\n")?;
+    assert!(rt; bad_line(rt.alloc(), &text) == Some(1201));
     Ok(())
 }

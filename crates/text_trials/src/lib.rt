@@ -1,4 +1,4 @@
-//! Trials of texts: of workloads, journals and views, of the command's words, of files and sinks, and of flows.
+//! Trials of texts: of workloads, journals, reports and views, of the command's words, of files and sinks, and of flows.
 #![tactic(auto)]
 
 #[cfg(test)]
@@ -13,6 +13,8 @@ mod generated;
 mod journals;
 #[cfg(test)]
 mod refusals;
+#[cfg(test)]
+mod reports;
 #[cfg(test)]
 mod sinks;
 #[cfg(test)]

@@ -1,7 +1,7 @@
 //! The stretches, frames and arrows of worked journals.
 
-use abt_machine::Journal;
-use abt_report::read_journal;
+use abt_machine::{Event, Journal, Want};
+use abt_report::{NotJournal, read_journal};
 use abt_view::{Arrow, Frame, Spot, Stretch, all_arrows, all_frames, all_stretches};
 use std::alloc::Global;
 use std::process::Abort;
@@ -85,9 +85,9 @@ static ARROWS: [(&str, &[Points]); 3] = [
 ];
 
 // The journal of a text.
-fn journal(rt: &impl Abort, alloc: Global, text: &str) -> Result<Journal, Fail> {
+fn journal(rt: &impl Abort, alloc: Global, text: &str) -> Result<Journal, NotJournal> {
     assert!(rt; text.len() < 10_000);
-    Ok(read_journal(alloc, text.as_bytes())?)
+    read_journal(alloc, text.as_bytes())
 }
 
 fn is_stretch(
@@ -99,14 +99,21 @@ fn is_stretch(
         && found.events.items().len() == events
 }
 
+// Whether the events have these stretches.
+fn have_stretches(
+    alloc: Global,
+    events: &[Event],
+    wanted: &[(u32, u32, u64, u64, usize)],
+) -> Result<bool, Want> {
+    let found = all_stretches(alloc, events)?;
+    Ok(found.len() == wanted.len() && found.iter().zip(wanted).all(|(f, w)| is_stretch(f, *w)))
+}
+
 #[test]
 fn a_stretch_is_a_time_in_hand(rt: HostRuntime) -> Result<(), Fail> {
     let journal = journal(&rt, rt.alloc(), STACKED)?;
-    let stretches = all_stretches(rt.alloc(), journal.items())?;
-    assert_eq!(rt; stretches.len(), STRETCHES.len());
-    for (found, wanted) in stretches.iter().zip(STRETCHES) {
-        assert!(rt; is_stretch(found, wanted), "unit {}", wanted.1);
-    }
+    let have = have_stretches(rt.alloc(), journal.items(), &STRETCHES)?;
+    assert!(rt; have);
     Ok(())
 }
 
@@ -115,15 +122,22 @@ fn is_frame(found: &Frame, (stream, unit, depth, since, until): (u32, u32, u64, 
         && (found.since, found.until) == (since, until)
 }
 
+// Whether the events have these frames.
+fn have_frames(
+    alloc: Global,
+    events: &[Event],
+    wanted: &[(u32, u32, u64, u64, u64)],
+) -> Result<bool, Want> {
+    let found = all_frames(alloc, events)?;
+    Ok(found.len() == wanted.len() && found.iter().zip(wanted).all(|(f, w)| is_frame(f, *w)))
+}
+
 #[test]
 fn a_frame_is_a_time_of_a_stacked_scheduler(rt: HostRuntime) -> Result<(), Fail> {
     for (text, wanted) in FRAMES {
         let journal = journal(&rt, rt.alloc(), text)?;
-        let frames = all_frames(rt.alloc(), journal.items())?;
-        assert_eq!(rt; frames.len(), wanted.len());
-        for (found, wanted) in frames.iter().zip(wanted) {
-            assert!(rt; is_frame(found, *wanted), "unit {}", wanted.1);
-        }
+        let have = have_frames(rt.alloc(), journal.items(), wanted)?;
+        assert!(rt; have, "{text}");
     }
     Ok(())
 }
@@ -139,15 +153,18 @@ fn is_arrow(found: &Arrow, (unit, sent, put, taken): Points) -> bool {
         && found.taken.map(point) == taken
 }
 
+// Whether the events have these arrows.
+fn have_arrows(alloc: Global, events: &[Event], wanted: &[Points]) -> Result<bool, Want> {
+    let found = all_arrows(alloc, events)?;
+    Ok(found.len() == wanted.len() && found.iter().zip(wanted).all(|(f, w)| is_arrow(f, *w)))
+}
+
 #[test]
 fn an_arrow_is_the_way_of_a_unit(rt: HostRuntime) -> Result<(), Fail> {
     for (text, wanted) in ARROWS {
         let journal = journal(&rt, rt.alloc(), text)?;
-        let arrows = all_arrows(rt.alloc(), journal.items())?;
-        assert_eq!(rt; arrows.len(), wanted.len());
-        for (found, wanted) in arrows.iter().zip(wanted) {
-            assert!(rt; is_arrow(found, *wanted), "unit {}", wanted.0);
-        }
+        let have = have_arrows(rt.alloc(), journal.items(), wanted)?;
+        assert!(rt; have, "{text}");
     }
     Ok(())
 }

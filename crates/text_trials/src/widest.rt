@@ -4,129 +4,122 @@ ghost use Rattle.std.specs.Prelude.{◌<◌};
 
 use crate::refusals::refused;
 use crate::writings::is_written;
-use abt_lines::{end_line, push_decimal, push_number, push_word};
-use abt_machine::{Fault, Want};
-use std::alloc::Global;
+use abt_machine::Fault;
+use std::alloc::{AllocError, Global};
 use std::test::Fail;
 
 // The most bytes of a text of format 1.
 const MOST: usize = 4_194_304;
 
 // A word of 58 bytes, and a longer one.
-const SHORT: &[u8] = b"abcdefghijklmnopqrstuvwxyzABCDEFGHIJKLMNOPQRSTUVWXYZ012345";
+const SHORT: &str = "abcdefghijklmnopqrstuvwxyzABCDEFGHIJKLMNOPQRSTUVWXYZ012345";
 
-const LONG: &[u8] = b"abcdefghijklmnopqrstuvwxyzABCDEFGHIJKLMNOPQRSTUVWXYZ0123456";
-
-// Appends a word and a number, which begin a line.
-fn begin(out: &mut Vec<u8>, word: &[u8], n: u64) -> Result<(), Want> {
-    out.extend_from_slice(word)?;
-    push_number(out, n)
-}
+const LONG: &str = "abcdefghijklmnopqrstuvwxyzABCDEFGHIJKLMNOPQRSTUVWXYZ0123456";
 
 // Appends 64 pools.
-fn push_pools(out: &mut Vec<u8>) -> Result<(), Want> {
-    for p in 0..64u64 {
-        begin(out, b"pool ", p)?;
-        out.extend_from_slice(b" fifo mpmc\n")?;
+fn push_pools(text: &mut String) -> Result<(), AllocError> {
+    for p in 0..64 {
+        writeln!(text, "pool {p} fifo mpmc")?;
     }
     Ok(())
 }
 
 // Appends the numbers of eight pools, from pool p on.
-fn push_eight(out: &mut Vec<u8>, p: u64) -> Result<(), Want>
+fn push_eight(text: &mut String, p: u32) -> Result<(), AllocError>
     requires { p < 64 }
 {
-    for i in 0..8u64 {
-        push_decimal(out, (p + i) % 64)?;
+    for i in 0..8 {
+        let pool = (p + i) % 64;
+        write!(text, " {pool}")?;
     }
     Ok(())
 }
 
 // Appends 64 schedulers, each of eight pools.
-fn push_scheds(out: &mut Vec<u8>) -> Result<(), Want> {
-    for g in 0..64u64 {
-        begin(out, b"sched ", g)?;
-        push_word(out, b"prio")?;
-        push_eight(out, g)?;
-        end_line(out)?;
+fn push_scheds(text: &mut String) -> Result<(), AllocError> {
+    for g in 0..64 {
+        write!(text, "sched {g} prio")?;
+        push_eight(text, g)?;
+        text.push('\n')?;
     }
     Ok(())
 }
 
 // Appends eight streams.
-fn push_streams(out: &mut Vec<u8>) -> Result<(), Want> {
-    for s in 0..8u64 {
-        begin(out, b"stream ", s)?;
-        push_word(out, b"main")?;
-        push_decimal(out, s)?;
-        end_line(out)?;
+fn push_streams(text: &mut String) -> Result<(), AllocError> {
+    for s in 0..8 {
+        writeln!(text, "stream {s} main {s}")?;
     }
     Ok(())
 }
 
 // Appends 256 objects.
-fn push_objects(out: &mut Vec<u8>) -> Result<(), Want> {
-    for x in 0..256u64 {
-        begin(out, b"object ", x)?;
-        out.extend_from_slice(b" future 4096 sum\n")?;
+fn push_objects(text: &mut String) -> Result<(), AllocError> {
+    for x in 0..256 {
+        writeln!(text, "object {x} future 4096 sum")?;
     }
     Ok(())
 }
 
 // Appends 256 operations, of which the first say the longer word.
-fn push_says(out: &mut Vec<u8>, longer: u64) -> Result<(), Want> {
-    for k in 0..256u64 {
-        out.extend_from_slice(b"say")?;
-        push_word(out, if k < longer { LONG } else { SHORT })?;
-        end_line(out)?;
+fn push_says(text: &mut String, longer: usize) -> Result<(), AllocError> {
+    for k in 0..256 {
+        let word = if k < longer { LONG } else { SHORT };
+        writeln!(text, "say {word}")?;
     }
     Ok(())
 }
 
 // Appends 256 units, of whose operations the first say the longer word.
-fn push_units(out: &mut Vec<u8>, longer: u64) -> Result<(), Want> {
-    for u in 0..256u64 {
-        begin(out, b"unit ", u)?;
-        out.extend_from_slice(b" ult at 63\n")?;
-        push_says(out, longer.saturating_sub(u * 256))?;
+fn push_units(text: &mut String, longer: usize) -> Result<(), AllocError> {
+    for u in 0..256 {
+        writeln!(text, "unit {u} ult at 63")?;
+        push_says(text, longer.saturating_sub(u * 256))?;
     }
     Ok(())
 }
 
-// The text of a workload with each count at its limit, in which so many words are longer than the others.
-fn widest(alloc: Global, longer: u64) -> Result<Vec<u8>, Want> {
-    let mut out = Vec::new(alloc);
-    out.extend_from_slice(b"abt 1\nstreams 8\nkeys 16\n")?;
-    push_pools(&mut out)?;
-    push_scheds(&mut out)?;
-    push_streams(&mut out)?;
-    push_objects(&mut out)?;
-    out.extend_from_slice(b"units 256\n")?;
-    push_units(&mut out, longer)?;
-    out.extend_from_slice(b"end\n")?;
-    Ok(out)
+// Appends a workload of that format with each count at its limit, in which so many words are longer than the others.
+fn push_widest(text: &mut String, version: u32, longer: usize) -> Result<(), AllocError> {
+    write!(text, "abt {version}\nstreams 8\nkeys 16\n")?;
+    push_pools(text)?;
+    push_scheds(text)?;
+    push_streams(text)?;
+    push_objects(text)?;
+    text.push_str("units 256\n")?;
+    push_units(text, longer)?;
+    text.push_str("end\n")
 }
 
 // The text of a widest workload that has so many bytes, if its words can be chosen so.
-fn widest_of(alloc: Global, bytes: usize) -> Result<Vec<u8>, Want> {
-    let least = widest(alloc, 0)?.len();
-    widest(alloc, bytes.saturating_sub(least) as u64)
+fn widest_of(alloc: Global, version: u32, bytes: usize) -> Result<String, AllocError> {
+    let mut text = String::new(alloc);
+    push_widest(&mut text, version, 0)?;
+    let longer = bytes.saturating_sub(text.len());
+    text.clear();
+    push_widest(&mut text, version, longer)?;
+    Ok(text)
+}
+
+// Whether a widest workload of that format has a text of so many bytes, and is written so.
+fn is_widest_written(alloc: Global, version: u32, bytes: usize) -> Result<bool, AllocError> {
+    let text = widest_of(alloc, version, bytes)?;
+    Ok(text.len() == bytes && is_written(alloc, text.as_bytes(), text.as_bytes()))
 }
 
 #[test]
 fn the_longest_text_is_written_whole(rt: HostRuntime) -> Result<(), Fail> {
-    let text = widest_of(rt.alloc(), MOST)?;
-    assert!(rt; text.len() == MOST);
-    assert!(rt; is_written(rt.alloc(), &text, &text));
+    let is = is_widest_written(rt.alloc(), 1, MOST)?;
+    assert!(rt; is);
     Ok(())
 }
 
 #[test]
 fn a_text_of_one_byte_more_is_of_format_2(rt: HostRuntime) -> Result<(), Fail> {
-    let mut text = widest_of(rt.alloc(), MOST + 1)?;
+    let text = widest_of(rt.alloc(), 1, MOST + 1)?;
     assert!(rt; text.len() == MOST + 1);
-    assert!(rt; refused(rt.alloc(), &text) == Some((0, Fault::Limit)));
-    text[4] = b'2';
-    assert!(rt; is_written(rt.alloc(), &text, &text));
+    assert!(rt; refused(rt.alloc(), text.as_bytes()) == Some((0, Fault::Limit)));
+    let is = is_widest_written(rt.alloc(), 2, MOST + 1)?;
+    assert!(rt; is);
     Ok(())
 }

@@ -99,26 +99,34 @@ fn workloads_are_written_and_read_again(rt: HostRuntime) {
 fn idle(alloc: Global, version: u32, units: u32) -> Result<String, AllocError> {
     let mut text = format!(in alloc; "abt {version}\n{FRAME}units {units}\n")?;
     for u in 0..units {
-        text.push_str(format!(in alloc; "unit {u} ult later\n")?.as_str())?;
+        writeln!(text, "unit {u} ult later")?;
     }
     text.push_str("end\n")?;
     Ok(text)
 }
 
+// Whether a workload of so many idle units is written in that format.
+fn is_idle_written(alloc: Global, units: u32, version: u32) -> Result<bool, AllocError> {
+    let text = format!(in alloc; "abt 2\n{FRAME}units {units}\nmany 0 {units} ult later\nend\n")?;
+    let written = idle(alloc, version, units)?;
+    Ok(is_written(alloc, text.as_bytes(), written.as_bytes()))
+}
+
 #[test]
 fn more_than_256_units_are_written_in_format_2(rt: HostRuntime) -> Result<(), Fail> {
-    let alloc = rt.alloc();
     for (units, version) in [(256, 1), (257, 2), (4096, 2)] {
-        let text = format!(in alloc;
-            "abt 2\n{FRAME}units {units}\nmany 0 {units} ult later\nend\n"
-        )?;
-        let written = idle(alloc, version, units)?;
-        assert!(rt;
-            is_written(alloc, text.as_bytes(), written.as_bytes()),
-            "{units} units"
-        );
+        let is = is_idle_written(rt.alloc(), units, version)?;
+        assert!(rt; is, "{units} units");
     }
     Ok(())
+}
+
+// How many units the workload of a text has, if it is one's.
+fn count_units(alloc: Global, text: &str) -> Option<u32> {
+    match read(alloc, text.as_bytes()) {
+        Ok(w) => Some(w.units()),
+        Err(_) => None,
+    }
 }
 
 #[test]
@@ -126,8 +134,44 @@ fn so_many_operations_are_read(rt: HostRuntime) -> Result<(), Fail> {
     let alloc = rt.alloc();
     for (units, lines) in &MOST {
         let text = format!(in alloc; "abt 2\n{FRAME}units {units}\n{lines}end\n")?;
-        let w = read(alloc, text.as_bytes())?;
-        assert_eq!(rt; w.units(), *units);
+        assert!(rt; count_units(alloc, &text) == Some(*units), "{units} units");
     }
+    Ok(())
+}
+
+// Appends operations that say words of 1 to 64 bytes.
+fn push_words(alloc: Global, text: &mut String) -> Result<(), AllocError> {
+    let mut word = String::new(alloc);
+    for _ in 0..64 {
+        word.push('w')?;
+        let word = word.as_str();
+        writeln!(text, "say {word}")?;
+    }
+    Ok(())
+}
+
+// Appends operations that set and add numbers of each length.
+fn push_numbers(text: &mut String) -> Result<(), AllocError> {
+    let mut number: u64 = 0;
+    for _ in 0..20 {
+        writeln!(text, "set {number}\nadd {number}")?;
+        number = number.saturating_mul(10).saturating_add(9);
+    }
+    Ok(())
+}
+
+// The text of a unit with words and numbers of each length.
+fn lengths(alloc: Global) -> Result<String, AllocError> {
+    let mut text = format!(in alloc; "abt 1\n{FRAME}units 1\nunit 0 ult at 0\n")?;
+    push_words(alloc, &mut text)?;
+    push_numbers(&mut text)?;
+    text.push_str("end\n")?;
+    Ok(text)
+}
+
+#[test]
+fn words_and_numbers_are_read_again(rt: HostRuntime) -> Result<(), Fail> {
+    let text = lengths(rt.alloc())?;
+    assert!(rt; is_written(rt.alloc(), text.as_bytes(), text.as_bytes()));
     Ok(())
 }

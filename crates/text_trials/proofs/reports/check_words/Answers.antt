@@ -2,7 +2,7 @@ use Rattle.std.proofs.Common.{◌≡◌, Some}
 use Rattle.abt_machine.specs.declared.operations.Op.TheVariants as op
 use Rattle.abt_machine.specs.Workloads.{op_at}
 use Rattle.abt_machine.proofs.Declared.{op-declared}
-use Rattle.abt_trials.proofs.reports.check_words.Goals as goal
+use Rattle.text_trials.proofs.reports.check_words.Goals as goal
 
 pub returns : goal.returns
 returns g c =

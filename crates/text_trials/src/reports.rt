@@ -4,7 +4,8 @@ ghost use Rattle.std.specs.Prelude.{◌≡◌, ◌<◌, [], All, IfOk, length};
 ghost use Rattle.abt_report.specs.Pictures.{SaysWordsOf};
 
 use abt_machine::{
-    Cause, Code, ObjectNo, Op, Outcome, Output, Piece, PoolNo, Shown, StreamNo, UnitNo, Workload,
+    Cause, Code, ObjectNo, Op, Outcome, Output, Piece, PoolNo, Shown, StreamNo, UnitNo, Want,
+    Workload,
 };
 use abt_report::{Picture, Row, report, short_report};
 use abt_workload::read;
@@ -130,17 +131,22 @@ fn picture(alloc: Global, w: &Workload) -> Result<Picture, AllocError>
     Ok(Picture::new(rows))
 }
 
+// The texts of both reports.
+fn texts(rt: &impl Abort, alloc: Global, w: &Workload) -> Result<(Vec<u8>, Vec<u8>), Want> {
+    check_words(rt, w);
+    let picture = picture(alloc, w)?;
+    assert!(rt; !picture.items().is_empty());
+    let long = report(alloc, w, &picture, Outcome::Stuck, 12)?;
+    let end = Outcome::Budget(StreamNo(1));
+    let short = short_report(alloc, w, &picture, end, u64::MAX)?;
+    Ok((long, short))
+}
+
 #[test]
 fn reports_are_written_out(rt: HostRuntime) -> Result<(), Fail> {
-    let alloc = rt.alloc();
-    let w = read(alloc, WORKLOAD.as_bytes())?;
-    check_words(&rt, &w);
-    let picture = picture(alloc, &w)?;
-    let text = report(alloc, &w, &picture, Outcome::Stuck, 12)?;
-    assert!(rt; text.as_slice() == REPORT.as_bytes());
-    assert!(rt; !picture.items().is_empty());
-    let end = Outcome::Budget(StreamNo(1));
-    let short = short_report(alloc, &w, &picture, end, u64::MAX)?;
+    let w = read(rt.alloc(), WORKLOAD.as_bytes())?;
+    let (long, short) = texts(&rt, rt.alloc(), &w)?;
+    assert!(rt; long.as_slice() == REPORT.as_bytes());
     assert!(rt; short.as_slice() == SHORT.as_bytes());
     Ok(())
 }
