@@ -1,6 +1,7 @@
 //! What is asked of an object, and what it answers, by value.
 
 use crate::unit::Unit;
+use abt_desk::Asks;
 use abt_machine::{Cause, Code, PoolNo, Side, UnitNo};
 use std::collections::VecDeque;
 
@@ -42,13 +43,6 @@ pub enum Act {
     ReadLock(Unit),
     WriteLock(Unit),
     RwUnlock(UnitNo),
-}
-
-/// What is asked of a unit: that it ends, and that it goes to another pool.
-#[derive(Clone, Copy, Debug, PartialEq, Eq)]
-pub struct Asks {
-    pub cancel: bool,
-    pub migrate: Option<PoolNo>,
 }
 
 /// What an object answers.

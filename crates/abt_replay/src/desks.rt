@@ -7,8 +7,9 @@ ghost use Rattle.abt_replay.specs.Phases.{phase_of};
 ghost use Rattle.abt_machine.specs.Acts.{reborn};
 ghost use Rattle.abt_machine.specs.Desks.{DeskGives, is_living, takes_back, unasked};
 
-use crate::acts::{Act, Answer, Asks};
+use crate::acts::{Act, Answer};
 use crate::unit::Unit;
+use abt_desk::Asks;
 use abt_machine::{Cause, Code, PoolNo, UnitNo, Want};
 use std::collections::VecDeque;
 use std::marker::Model;

@@ -18,10 +18,11 @@ ghost use Rattle.abt_machine.specs.declared.operations.OrderShape.{OrderShape};
 
 mod stepping;
 
-use crate::acts::{Act, Answer, Asks};
+use crate::acts::{Act, Answer};
 use crate::frames::Frame;
 use crate::objects::Objects;
 use crate::unit::Unit;
+use abt_desk::Asks;
 use abt_machine::{Cause, Op, PoolNo, SchedNo, Site, StreamNo, Want, What, Workload};
 use abt_plans::{HandDue, Mark, hand_due, side};
 use std::alloc::Global;

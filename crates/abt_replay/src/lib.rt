@@ -16,7 +16,7 @@ mod rounds;
 mod rwlocks;
 mod unit;
 
-pub use acts::{Act, Answer, Asks};
+pub use acts::{Act, Answer};
 pub use barriers::Barrier;
 pub use desks::{Desk, Phase};
 pub use eventuals::{Eventual, Future};
