@@ -3,7 +3,7 @@
 ghost use Rattle.std.specs.Prelude.{◌≡◌, ◌<◌, ◌-◌, ◌^◌, ◌≢◌, ◌↔◌, ◌++◌, [], ◌∷◌, IfNone, IfOk, IfSome, IsTrue, List, None, Some, length, option_map};
 ghost use Rattle.abt_calls.specs.Allowed.{Allows};
 ghost use Rattle.abt_calls.specs.Starts.{start_part};
-ghost use Rattle.abt_replay.specs.Events.{AreObjects, Ends, Entered, Leaves, Looks, Moves, Stepped, Visits, Woken, in_hand};
+ghost use Rattle.abt_replay.specs.Events.{AreObjects, Ends, Entered, Leaves, Looks, Moves, Visits, Woken, in_hand};
 ghost use Rattle.abt_replay.specs.Objects.{object_at};
 ghost use Rattle.abt_machine.specs.declared.events.Site.TheVariants as site;
 ghost use Rattle.abt_machine.specs.declared.events.What.TheVariants as what;
@@ -13,7 +13,6 @@ ghost use Rattle.abt_machine.specs.Frames.{entered, left};
 ghost use Rattle.abt_machine.specs.Numbers.{pool_no, unit_no};
 ghost use Rattle.abt_machine.specs.Turns.{looked, side_of};
 ghost use Rattle.abt_machine.specs.Valid.{IsValid};
-ghost use Rattle.abt_machine.specs.Workloads.{op_at};
 ghost use Rattle.abt_machine.specs.declared.operations.OrderShape.{OrderShape};
 
 mod stepping;
@@ -23,7 +22,7 @@ use crate::frames::Frame;
 use crate::objects::Objects;
 use crate::unit::Unit;
 use abt_desk::Asks;
-use abt_machine::{Cause, Op, PoolNo, SchedNo, Site, StreamNo, Want, What, Workload};
+use abt_machine::{Cause, PoolNo, SchedNo, Site, StreamNo, Want, What, Workload};
 use abt_plans::{HandDue, Mark, hand_due, side};
 use std::alloc::Global;
 use std::collections::VecDeque;
@@ -275,31 +274,12 @@ impl Lane {
         match hand_due(w, s, self.mark, unit.number(), unit.position()) {
             HandDue::End(cause) => self.end(objects, unit, cause),
             HandDue::Enter(g) => self.enter(g, unit),
-            HandDue::Step(op) => self.operate(objects, w, s, op, unit),
+            HandDue::Step(op) => {
+                let number = unit.number();
+                let at = unit.position();
+                let code = self.step(objects, w, s, op, unit)?;
+                Ok(What::Step(number, at, code))
+            }
         }
-    }
-
-    // A step of the unit in hand.
-    fn operate(
-        &mut self,
-        objects: &mut Objects,
-        w: &Workload,
-        s: StreamNo,
-        op: Op,
-        unit: Unit,
-    ) -> Result<What, Want>
-        requires valid { IsValid w.now }
-        requires stream { s.0 < w.now.streams }
-        requires number { unit.number < length w.now.units }
-        requires at { op_at w.now unit.number unit.carried.position ≡ Some op }
-        requires objects { AreObjects w.now objects.old }
-        requires hand { self.old.hand ≡ None }
-        requires next { self.old.next ≡ None }
-        ensures { IfOk result (λ made. Stepped w.now s.0 op unit self.old objects.old made self.new objects.new) }
-    {
-        let number = unit.number();
-        let at = unit.position();
-        let code = self.step(objects, w, s, op, unit)?;
-        Ok(What::Step(number, at, code))
     }
 }
