@@ -127,53 +127,41 @@ module _ (W : Parts) (old new : StreamValue) (w : What) (n : ℕ) (rooms : Rooms
   abbrev written : Event
   written = record { stamp = n; stream = old.number; what = w }
 
+  -- a stream whose frames and order are as before
+  kept : (s : StreamValue) → s.number ≡ old.number → s.budget ≡ old.budget → s.log ≡ old.log ++ written ∷ [] → s.top.scheduler ≡ old.top.scheduler → s.top.round ≡ old.top.round
+      → s.below ≡ old.below → s.order ≡ old.order → new ≡ s → Keeps W old new
+  kept s number budget log scheduler round below order same = subst (λ (t : StreamValue). Keeps W old t) (sym same) (record {
+    number = number;
+    budget = budget;
+    frames = frames-same W old s written log scheduler round below order;
+    shapes = λ Z. shapes-same W Z old s scheduler round order;
+  })
+
   -- an event that leaves the frames alone
   pub keeps_holding : (held : Held) → new ≡ wrote (holding old held) w n rooms → Keeps W old new
-  keeps_holding held same =
-      let scheduler : new.top.scheduler ≡ old.top.scheduler = ap (λ (s : StreamValue). s.top.scheduler) same in
-      let round : new.top.round ≡ old.top.round = ap (λ (s : StreamValue). s.top.round) same in
-      let order : new.order ≡ old.order = ap (λ (s : StreamValue). s.order) same in
-      record {
-        number = ap (λ (s : StreamValue). s.number) same;
-        budget = ap (λ (s : StreamValue). s.budget) same;
-        frames = frames-same W old new written (ap (λ (s : StreamValue). s.log) same) scheduler round (ap (λ (s : StreamValue). s.below) same) order;
-        shapes = λ Z. shapes-same W Z old new scheduler round order;
-      }
+  keeps_holding held = kept (wrote (holding old held) w n rooms) refl refl refl refl refl refl refl
 
   -- a missed pool, after which the round goes on
   pub keeps_passed : (p : PoolNo) → new ≡ wrote (passed old p) w n rooms → Keeps W old new
-  keeps_passed p same =
-      let scheduler : new.top.scheduler ≡ old.top.scheduler = ap (λ (s : StreamValue). s.top.scheduler) same in
-      let round : new.top.round ≡ old.top.round = ap (λ (s : StreamValue). s.top.round) same in
-      let order : new.order ≡ old.order = ap (λ (s : StreamValue). s.order) same in
-      record {
-        number = ap (λ (s : StreamValue). s.number) same;
-        budget = ap (λ (s : StreamValue). s.budget) same;
-        frames = frames-same W old new written (ap (λ (s : StreamValue). s.log) same) scheduler round (ap (λ (s : StreamValue). s.below) same) order;
-        shapes = λ Z. shapes-same W Z old new scheduler round order;
-      }
+  keeps_passed p = kept (wrote (passed old p) w n rooms) refl refl refl refl refl refl refl
+
+  -- a stream whose round has ended
+  ended : (s : StreamValue) → old.order ≢ [] → s.number ≡ old.number → s.budget ≡ old.budget → s.log ≡ old.log ++ written ∷ [] → s.top.scheduler ≡ old.top.scheduler → s.top.round ≡ suc old.top.round
+      → s.below ≡ old.below → s.order ≡ [] → new ≡ s → Keeps W old new
+  ended s some number budget log scheduler round below order same = subst (λ (t : StreamValue). Keeps W old t) (sym same) (record {
+    number = number;
+    budget = budget;
+    frames = round-ended W old s written log scheduler round below order some;
+    shapes = λ Z shaped. shapes-none W Z s order;
+  })
 
   -- a taken unit, which ends the round
   pub keeps_took : (o : Owned) → old.order ≢ [] → new ≡ wrote (took old o) w n rooms → Keeps W old new
-  keeps_took o some same =
-      let order : new.order ≡ [] = ap (λ (s : StreamValue). s.order) same in
-      record {
-        number = ap (λ (s : StreamValue). s.number) same;
-        budget = ap (λ (s : StreamValue). s.budget) same;
-        frames = round-ended W old new written (ap (λ (s : StreamValue). s.log) same) (ap (λ (s : StreamValue). s.top.scheduler) same) (ap (λ (s : StreamValue). s.top.round) same) (ap (λ (s : StreamValue). s.below) same) order some;
-        shapes = λ Z shaped. shapes-none W Z new order;
-      }
+  keeps_took o some = ended (wrote (took old o) w n rooms) some refl refl refl refl refl refl refl
 
   -- a missed pool, which ends the round empty
   pub keeps_emptied : old.order ≢ [] → new ≡ wrote (emptied old) w n rooms → Keeps W old new
-  keeps_emptied some same =
-      let order : new.order ≡ [] = ap (λ (s : StreamValue). s.order) same in
-      record {
-        number = ap (λ (s : StreamValue). s.number) same;
-        budget = ap (λ (s : StreamValue). s.budget) same;
-        frames = round-ended W old new written (ap (λ (s : StreamValue). s.log) same) (ap (λ (s : StreamValue). s.top.scheduler) same) (ap (λ (s : StreamValue). s.top.round) same) (ap (λ (s : StreamValue). s.below) same) order some;
-        shapes = λ Z shaped. shapes-none W Z new order;
-      }
+  keeps_emptied some = ended (wrote (emptied old) w n rooms) some refl refl refl refl refl refl refl
 
   -- a frame that is entered
   pub keeps_entered : (g : ℕ) (o : Owned) → IsFresh W g new.top → old.order ≡ [] → new ≡ wrote (entering g old new.top o) w n rooms → Keeps W old new
