@@ -1,6 +1,7 @@
 -- Acts by what becomes of the unit in hand.
-use Rattle.abt_machine.specs.Acts.{Act}
+use Rattle.abt_machine.specs.Acts.{Act, Answer}
 use Rattle.abt_machine.specs.Acts as asks
+use Rattle.abt_machine.specs.Plans.{Effect, to_condition, to_giver}
 use Rattle.abt_machine.specs.Values.{Owned}
 use Rattle.abt_plans.specs.declared.acts.Asking.{Asking}
 use Rattle.abt_plans.specs.declared.acts.Asking.TheVariants as asking
@@ -31,7 +32,13 @@ abbrev pub given : Giving → Owned → Act
 given giving.Suspend o = asks.Suspend o
 given giving.Join o = asks.Join o
 given giving.Lock o = asks.Lock o
+given (giving.Wait k) o = asks.Wait k o
 given giving.Await o = asks.Await o
 given giving.Arrive o = asks.Arrive o
 given giving.ReadLock o = asks.ReadLock o
 given giving.WriteLock o = asks.WriteLock o
+
+-- what the answer to such an act brings: who went to a condition is not back at once
+abbrev pub brought : Giving → Answer → Effect
+brought (giving.Wait k) = to_condition
+brought g = to_giver

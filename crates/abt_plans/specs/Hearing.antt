@@ -1,7 +1,9 @@
 -- Answers by the shape of their call.
-use Rattle.std.specs.Prelude.{⊤}
+use Rattle.std.specs.Prelude.{◌≡◌, ⊤}
 use Rattle.abt_machine.specs.Acts.{Answer}
 use Rattle.abt_machine.specs.Acts as asks
+use Rattle.abt_plans.specs.declared.acts.Giving.{Giving}
+use Rattle.abt_plans.specs.declared.acts.Giving.TheVariants as giving
 
 -- an answer to a unit that stayed in the hand
 abbrev pub IsForCaller : Answer → Type 0
@@ -15,29 +17,17 @@ IsForCaller (asks.Asks c m) = ⊥
 IsForCaller (asks.Coded c) = ⊤
 IsForCaller (asks.Back o c) = ⊥
 
--- an answer to a unit that went with the act
-abbrev pub IsForGiver : Answer → Type 0
-IsForGiver (asks.Given o) = ⊤
-IsForGiver (asks.Through o os) = ⊤
-IsForGiver (asks.Woke os) = ⊥
-IsForGiver asks.Rested = ⊤
-IsForGiver asks.Miss = ⊥
-IsForGiver (asks.Number n) = ⊥
-IsForGiver (asks.Asks c m) = ⊥
-IsForGiver (asks.Coded c) = ⊥
-IsForGiver (asks.Back o c) = ⊤
-
--- an answer to a unit that went to a condition
-abbrev pub IsForWaiter : Answer → Type 0
-IsForWaiter (asks.Given o) = ⊤
-IsForWaiter (asks.Through o os) = ⊥
-IsForWaiter (asks.Woke os) = ⊥
-IsForWaiter asks.Rested = ⊤
-IsForWaiter asks.Miss = ⊥
-IsForWaiter (asks.Number n) = ⊥
-IsForWaiter (asks.Asks c m) = ⊥
-IsForWaiter (asks.Coded c) = ⊥
-IsForWaiter (asks.Back o c) = ⊤
+-- an answer to a unit that went with the act: with others it goes only through a barrier
+abbrev pub IsForGiver : Giving → Answer → Type 0
+IsForGiver g (asks.Given o) = ⊤
+IsForGiver g (asks.Through o os) = g ≡ giving.Arrive
+IsForGiver g (asks.Woke os) = ⊥
+IsForGiver g asks.Rested = ⊤
+IsForGiver g asks.Miss = ⊥
+IsForGiver g (asks.Number n) = ⊥
+IsForGiver g (asks.Asks c m) = ⊥
+IsForGiver g (asks.Coded c) = ⊥
+IsForGiver g (asks.Back o c) = ⊤
 
 -- an answer to a unit that yields to another
 abbrev pub IsForYielder : Answer → Type 0

@@ -6,10 +6,10 @@ use Rattle.abt_machine.specs.declared.operations.Op.TheVariants as op
 use Rattle.abt_machine.specs.declared.workload.Parts.{Parts}
 use Rattle.abt_machine.specs.Acts.{Act, Answer, moved}
 use Rattle.abt_machine.specs.Acts as asks
-use Rattle.abt_machine.specs.Plans.{Calls, Effect, denied, effect_of, plan_of, to_caller, to_condition, to_giver, to_yielder}
+use Rattle.abt_machine.specs.Plans.{Calls, Effect, denied, effect_of, plan_of, to_caller, to_yielder}
 use Rattle.abt_machine.specs.Values.{Owned}
 use Rattle.abt_unit.specs.Local.{after_local}
-use Rattle.abt_plans.specs.Acts.{asked, given}
+use Rattle.abt_plans.specs.Acts.{asked, brought, given}
 use Rattle.abt_plans.specs.declared.plans.Plan.{Plan}
 use Rattle.abt_plans.specs.declared.plans.Plan.TheVariants as plan
 
@@ -25,8 +25,7 @@ IsPlan W s a o plan.Yield = a ≡ op.Yield
 IsPlan W s a o plan.Exit = a ≡ op.Exit
 IsPlan W s a o plan.Deny = plan_of W s a o ≡ denied o
 IsPlan W s a o (plan.Ask x act) = IsCall W s a o x (asked act) (to_caller o)
-IsPlan W s a o (plan.Give x act) = IsCall W s a o x (given act (moved o)) to_giver
-IsPlan W s a o (plan.Wait x k) = IsCall W s a o x (asks.Wait k (moved o)) to_condition
+IsPlan W s a o (plan.Give x act) = IsCall W s a o x (given act (moved o)) (brought act)
 IsPlan W s a o (plan.YieldTo x v) = IsCall W s a o x (asks.Remove v.0) (to_yielder o)
 
 -- stream s does so at operation a of each unit with number u and accumulator n

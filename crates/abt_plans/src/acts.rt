@@ -27,12 +27,13 @@ pub enum Asking {
     RwUnlock(UnitNo),
 }
 
-/// An act that takes the unit in hand with it.
+/// An act that takes the unit in hand with it. A condition is named by its place among the monitor's.
 #[derive(Clone, Copy, Debug, PartialEq, Eq)]
 pub enum Giving {
     Suspend,
     Join,
     Lock,
+    Wait(u32),
     Await,
     Arrive,
     ReadLock,

@@ -10,7 +10,7 @@ use crate::pools::first_pool;
 use abt_machine::{Op, Site, StreamNo, UnitNo, Workload};
 
 /// What an operation asks of the stream: a local step, a yield, an exit, a refusal without a call, a call by a unit that stays
-/// in the hand, a call that takes the unit with it, a wait at a condition, or a yield to another unit.
+/// in the hand, a call that takes the unit with it, or a yield to another unit.
 #[derive(Clone, Copy, Debug, PartialEq, Eq)]
 pub enum Plan {
     Own,
@@ -19,7 +19,6 @@ pub enum Plan {
     Deny,
     Ask(Site, Asking),
     Give(Site, Giving),
-    Wait(Site, u32),
     YieldTo(Site, UnitNo),
 }
 
@@ -84,7 +83,7 @@ pub fn planned(w: &Workload, s: StreamNo, op: Op, unit: UnitNo, acc: u64) -> Pla
         Op::Store(x) => Plan::Ask(Site::Monitor(x), Asking::Store(unit, acc)),
         Op::CondWait(x) => {
             let (m, k) = w.cond(x);
-            Plan::Wait(Site::Monitor(m), k)
+            Plan::Give(Site::Monitor(m), Giving::Wait(k))
         }
         Op::Signal(x) => {
             let (m, k) = w.cond(x);

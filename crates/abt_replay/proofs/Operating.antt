@@ -10,7 +10,7 @@ use Rattle.abt_machine.specs.declared.workload.Parts.{Parts}
 use Rattle.abt_machine.specs.Acts.{Act, Answer, moved}
 use Rattle.abt_machine.specs.Acts as asks
 use Rattle.abt_machine.specs.Plans as plans
-use Rattle.abt_machine.specs.Plans.{Calls, Does, Effect, Exits, denied, effect_of, empties, keeps, plan_of, refusal, to_caller, to_condition, to_giver, to_yielder}
+use Rattle.abt_machine.specs.Plans.{Calls, Does, Effect, Exits, denied, effect_of, empties, keeps, plan_of, refusal, to_caller, to_yielder}
 use Rattle.abt_machine.specs.Turns.{Performs, stepped}
 use Rattle.abt_machine.specs.Valid.{IsValid}
 use Rattle.abt_machine.specs.Values.{Held, Object, Owned}
@@ -22,7 +22,7 @@ use Rattle.abt_plans.specs.declared.acts.Asking.{Asking}
 use Rattle.abt_plans.specs.declared.acts.Giving.{Giving}
 use Rattle.abt_plans.specs.declared.plans.Plan.{Plan}
 use Rattle.abt_plans.specs.declared.plans.Plan.TheVariants as plan
-use Rattle.abt_plans.specs.Acts.{asked, given}
+use Rattle.abt_plans.specs.Acts.{asked, brought, given}
 use Rattle.abt_plans.specs.Shapes.{IsCall, IsPlan}
 use Rattle.abt_plans.proofs.Locals.{planned-own}
 use Rattle.abt_replay.specs.Events.{Alone, AreObjects, Asked, Operated, OwnExit, OwnStep}
@@ -53,9 +53,6 @@ module _ (W : Parts) (s : ℕ) (a : Op) (o : Owned) (p : Plan) (planned : IsPlan
 
     pub give_allowed : (x : Site) (g : Giving) → p ≡ plan.Give x g → Allows (object_at objects x) (given g (moved o))
     give_allowed x g is = allowed x (given g (moved o)) (subst (IsPlan W s a o) is planned).plan
-
-    pub wait_allowed : (x : Site) (k : ℕ) → p ≡ plan.Wait x k → Allows (object_at objects x) (asks.Wait k (moved o))
-    wait_allowed x k is = allowed x (asks.Wait k (moved o)) (subst (IsPlan W s a o) is planned).plan
 
     pub yield_allowed : (x : Site) (v : UnitNo) → p ≡ plan.YieldTo x v → Allows (object_at objects x) (asks.Remove v.0)
     yield_allowed x v is = allowed x (asks.Remove v.0) (subst (IsPlan W s a o) is planned).plan
@@ -95,13 +92,10 @@ module _ (W : Parts) (s : ℕ) (a : Op) (o : Owned) (old : Held) (before : Objec
     pub ask_made : (x : Site) (act : Asking) → p ≡ plan.Ask x act → Asked x (asked act) (to_caller o) old before c new after → Operated W s a o old before c new after
     ask_made x act is h = calls x (asked act) (to_caller o) (subst (IsPlan W s a o) is planned) h
 
-    pub give_made : (x : Site) (g : Giving) → p ≡ plan.Give x g → Asked x (given g (moved o)) to_giver old before c new after → Operated W s a o old before c new after
-    give_made x g is h = calls x (given g (moved o)) to_giver (subst (IsPlan W s a o) is planned) h
-
-    pub wait_made : (x : Site) (k : ℕ) → p ≡ plan.Wait x k → Asked x (asks.Wait k (moved o)) to_condition old before c new after → Operated W s a o old before c new after
-    wait_made x k is h = calls x (asks.Wait k (moved o)) to_condition (subst (IsPlan W s a o) is planned) h
+    pub give_made : (x : Site) (g : Giving) → p ≡ plan.Give x g → Asked x (given g (moved o)) (brought g) old before c new after → Operated W s a o old before c new after
+    give_made x g is h = calls x (given g (moved o)) (brought g) (subst (IsPlan W s a o) is planned) h
 
     pub yield_to_made : (x : Site) (v : UnitNo) → p ≡ plan.YieldTo x v → Asked x (asks.Remove v.0) (to_yielder o) old before c new after → Operated W s a o old before c new after
     yield_to_made x v is h = calls x (asks.Remove v.0) (to_yielder o) (subst (IsPlan W s a o) is planned) h
 
-pub ruleset operations = (position_below, op-declared, own_local, ask_allowed, give_allowed, wait_allowed, yield_allowed, own_made, yield_made, exit_made, deny_made, ask_made, give_made, wait_made, yield_to_made)
+pub ruleset operations = (position_below, op-declared, own_local, ask_allowed, give_allowed, yield_allowed, own_made, yield_made, exit_made, deny_made, ask_made, give_made, yield_to_made)

@@ -3,9 +3,9 @@
 ghost use Rattle.std.specs.Prelude.{◌≡◌, ◌<◌, ◌++◌, ◌^◌, ◌-◌, IfOk, None, Some};
 ghost use Rattle.abt_replay.specs.Acts.{act_of, answer_of};
 ghost use Rattle.abt_machine.specs.Acts.{Coded};
-ghost use Rattle.abt_machine.specs.Plans.{notes, to_caller, to_condition, to_giver};
-ghost use Rattle.abt_plans.specs.Acts.{asked, given};
-ghost use Rattle.abt_plans.specs.Hearing.{IsForCaller, IsForGiver, IsForWaiter};
+ghost use Rattle.abt_machine.specs.Plans.{notes, to_caller};
+ghost use Rattle.abt_plans.specs.Acts.{asked, brought, given};
+ghost use Rattle.abt_plans.specs.Hearing.{IsForCaller, IsForGiver};
 
 use crate::acts::{Act, Answer};
 use crate::unit::Unit;
@@ -96,6 +96,7 @@ pub(crate) fn give(giving: Giving, unit: Unit) -> Act
         Giving::Suspend => Act::Suspend(unit),
         Giving::Join => Act::Join(unit),
         Giving::Lock => Act::Lock(unit),
+        Giving::Wait(k) => Act::Wait(k, unit),
         Giving::Await => Act::Await(unit),
         Giving::Arrive => Act::Arrive(unit),
         Giving::ReadLock => Act::ReadLock(unit),
@@ -113,45 +114,30 @@ fn noted(mut unit: Unit, code: Code) -> Result<(Option<Unit>, Code), Want>
 }
 
 /// What an answer brings to a stream whose unit went with the act, and how its call went: if the unit comes back it is in the
-/// hand again, with those that it let go in the tray, or with the refusal noted.
+/// hand again, with those that it let go in the tray, or with the refusal noted. A unit that comes out of a condition is woken.
+#[tactic(auto, using(crate::proofs::Answered::bringing))]
 pub(crate) fn returned(
+    giving: Giving,
     tray: &mut VecDeque<Unit>,
     answer: Answer,
 ) -> Result<(Option<Unit>, Code), Want>
-    requires answer { IsForGiver (answer_of answer) }
-    ensures hand { IfOk result (λ r. r.0 ≡ (to_giver (answer_of answer)).hand) }
-    ensures next { (to_giver (answer_of answer)).next ≡ None }
-    ensures tray { IfOk result (λ _. tray.new.items ≡ tray.old.items ++ (to_giver (answer_of answer)).wakes) }
-    ensures code { IfOk result (λ r. r.1 ≡ (to_giver (answer_of answer)).code) }
+    requires answer { IsForGiver giving (answer_of answer) }
+    ensures hand { IfOk result (λ r. r.0 ≡ (brought giving (answer_of answer)).hand) }
+    ensures next { (brought giving (answer_of answer)).next ≡ None }
+    ensures tray { IfOk result (λ _. tray.new.items ≡ tray.old.items ++ (brought giving (answer_of answer)).wakes) }
+    ensures code { IfOk result (λ r. r.1 ≡ (brought giving (answer_of answer)).code) }
 {
     match answer {
-        Answer::Given(unit) => Ok((Some(unit), Code::Ok)),
+        Answer::Given(unit) => match giving {
+            Giving::Wait(_) => {
+                tray.push_back(unit)?;
+                Ok((None, Code::Ok))
+            }
+            _ => Ok((Some(unit), Code::Ok)),
+        },
         Answer::Through(unit, mut others) => {
             tray.append(&mut others)?;
             Ok((Some(unit), Code::Ok))
-        }
-        Answer::Rested => Ok((None, Code::Ok)),
-        Answer::Back(unit, code) => noted(unit, code),
-        _ => unreachable!(),
-    }
-}
-
-/// What an answer brings to a stream whose unit went to a condition: a unit that comes out is woken, and one that is refused
-/// goes on.
-pub(crate) fn refused(
-    tray: &mut VecDeque<Unit>,
-    answer: Answer,
-) -> Result<(Option<Unit>, Code), Want>
-    requires answer { IsForWaiter (answer_of answer) }
-    ensures hand { IfOk result (λ r. r.0 ≡ (to_condition (answer_of answer)).hand) }
-    ensures next { (to_condition (answer_of answer)).next ≡ None }
-    ensures tray { IfOk result (λ _. tray.new.items ≡ tray.old.items ++ (to_condition (answer_of answer)).wakes) }
-    ensures code { IfOk result (λ r. r.1 ≡ (to_condition (answer_of answer)).code) }
-{
-    match answer {
-        Answer::Given(unit) => {
-            tray.push_back(unit)?;
-            Ok((None, Code::Ok))
         }
         Answer::Rested => Ok((None, Code::Ok)),
         Answer::Back(unit, code) => noted(unit, code),

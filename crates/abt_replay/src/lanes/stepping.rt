@@ -8,10 +8,10 @@ ghost use Rattle.abt_machine.specs.declared.events.Code.TheVariants as code;
 ghost use Rattle.abt_machine.specs.Acts as asks;
 ghost use Rattle.abt_machine.specs.Acts.{moved};
 ghost use Rattle.abt_machine.specs.Operations.{IsDeclared};
-ghost use Rattle.abt_machine.specs.Plans.{empties, refusal, to_caller, to_condition, to_giver, to_yielder};
+ghost use Rattle.abt_machine.specs.Plans.{empties, refusal, to_caller, to_yielder};
 ghost use Rattle.abt_machine.specs.Valid.{IsValid};
 ghost use Rattle.abt_machine.specs.Workloads.{op_at};
-ghost use Rattle.abt_plans.specs.Acts.{asked, given};
+ghost use Rattle.abt_plans.specs.Acts.{asked, brought, given};
 ghost use Rattle.abt_plans.specs.Shapes.{IsPlan};
 ghost use Rattle.abt_unit.specs.Local.{after_local};
 
@@ -50,7 +50,6 @@ impl Lane {
             Plan::Deny => self.deny(unit),
             Plan::Ask(site, asking) => self.ask(objects, site, asking, unit),
             Plan::Give(site, giving) => self.give(objects, site, giving, unit),
-            Plan::Wait(site, condition) => self.wait(objects, site, condition, unit),
             Plan::YieldTo(site, v) => self.yield_to(objects, site, v, unit),
         }
     }
@@ -134,32 +133,11 @@ impl Lane {
         requires allowed { Allows (object_at objects.old site) (given giving (moved unit)) }
         requires position { unit.carried.position < 2 ^ 32 - 1 }
         requires next { self.old.next ≡ None }
-        ensures { IfOk result (λ c. Asked site (given giving (moved unit)) to_giver self.old objects.old c self.new objects.new) }
+        ensures { IfOk result (λ c. Asked site (given giving (moved unit)) (brought giving) self.old objects.old c self.new objects.new) }
     {
         unit.advance();
         let answer = objects.call(site, hearing::give(giving, unit))?;
-        let (hand, code) = hearing::returned(&mut self.tray, answer)?;
-        self.hand = hand;
-        Ok(code)
-    }
-
-    // The unit waits at a condition.
-    #[tactic(auto, using(crate::proofs::Answered::for_waiter))]
-    fn wait(
-        &mut self,
-        objects: &mut Objects,
-        site: Site,
-        condition: u32,
-        mut unit: Unit,
-    ) -> Result<Code, Want>
-        requires allowed { Allows (object_at objects.old site) (asks.Wait condition (moved unit)) }
-        requires position { unit.carried.position < 2 ^ 32 - 1 }
-        requires next { self.old.next ≡ None }
-        ensures { IfOk result (λ c. Asked site (asks.Wait condition (moved unit)) to_condition self.old objects.old c self.new objects.new) }
-    {
-        unit.advance();
-        let answer = objects.call(site, Act::Wait(condition, unit))?;
-        let (hand, code) = hearing::refused(&mut self.tray, answer)?;
+        let (hand, code) = hearing::returned(giving, &mut self.tray, answer)?;
         self.hand = hand;
         Ok(code)
     }

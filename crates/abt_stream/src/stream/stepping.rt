@@ -2,12 +2,12 @@
 
 ghost use Rattle.std.specs.Prelude.{◌≡◌, ◌<◌, ◌≤◌, ◌^◌, [], ◌∷◌, IsSome, None, Some};
 ghost use Rattle.abt_machine.specs.declared.events.Code.TheVariants as code;
-ghost use Rattle.abt_machine.specs.Plans.{empties, refusal, to_caller, to_condition, to_giver, to_yielder};
+ghost use Rattle.abt_machine.specs.Plans.{empties, refusal, to_caller, to_yielder};
 ghost use Rattle.abt_machine.specs.Acts.{carrying, moved};
 ghost use Rattle.abt_machine.specs.Acts as asks;
 ghost use Rattle.abt_calls.specs.Asking.{MayCall};
 ghost use Rattle.abt_commons.specs.Acts.{IsFreeAnswer, answer_of};
-ghost use Rattle.abt_plans.specs.Acts.{asked, given};
+ghost use Rattle.abt_plans.specs.Acts.{asked, brought, given};
 ghost use Rattle.abt_plans.specs.Hearing.{IsForCaller, IsForYielder};
 ghost use Rattle.abt_machine.specs.Numbers.{unit_no};
 ghost use Rattle.abt_stream.specs.declared.parts.Work.TheVariants as works;
@@ -146,7 +146,7 @@ impl Stream {
         requires pass { C.is_of commons.now pass.old }
         requires can { CanStep self.old }
         requires may { IfHeld self.old.held.hand (λ o. MayCall (C.workload commons.now) site (given giving (moved o))) }
-        ensures step { IfHeld self.old.held.hand (λ o. StepsBy (Heeds (C.moves commons.now) (C.workload commons.now)) self.old pass.old site (given giving (moved o)) to_giver result self.new pass.new o) }
+        ensures step { IfHeld self.old.held.hand (λ o. StepsBy (Heeds (C.moves commons.now) (C.workload commons.now)) self.old pass.old site (given giving (moved o)) (brought giving) result self.new pass.new o) }
         ensures pass { C.is_of commons.now pass.new }
         ensures number { C.number pass.new ≡ C.number pass.old }
     {
@@ -155,7 +155,7 @@ impl Stream {
         let act = hearing::give(giving, unit);
         match commons.call(pass, site, self.clock, act) {
             Reply::Done { stamp, answer } => {
-                let (work, code) = hearing::returned(&mut self.tray, answer);
+                let (work, code) = hearing::returned(giving, &mut self.tray, answer);
                 self.work = work;
                 self.write_step(stamp, number, at, code);
                 Turn::Stepped
@@ -178,41 +178,6 @@ impl Stream {
     {
         unit.retreat();
         self.work = Work::Running(unit);
-    }
-
-    // The unit in hand waits at a condition.
-    #[tactic(auto, using(crate::proofs::Answered::waiting))]
-    pub(super) fn wait<'w, C: Commons<'w>>(
-        &mut self,
-        commons: &C,
-        pass: &mut C::Pass,
-        site: Site,
-        condition: u32,
-    ) -> Turn
-        requires pass { C.is_of commons.now pass.old }
-        requires can { CanStep self.old }
-        requires may { IfHeld self.old.held.hand (λ o. MayCall (C.workload commons.now) site (asks.Wait condition (moved o))) }
-        ensures step { IfHeld self.old.held.hand (λ o. StepsBy (Heeds (C.moves commons.now) (C.workload commons.now)) self.old pass.old site (asks.Wait condition (moved o)) to_condition result self.new pass.new o) }
-        ensures pass { C.is_of commons.now pass.new }
-        ensures number { C.number pass.new ≡ C.number pass.old }
-    {
-        let (mut unit, number, at) = running(mem::replace(&mut self.work, Work::Idle));
-        unit.advance();
-        match commons.call(pass, site, self.clock, Act::Wait(condition, unit)) {
-            Reply::Done { stamp, answer } => {
-                let (work, code) = hearing::refused(&mut self.tray, answer);
-                self.work = work;
-                self.write_step(stamp, number, at, code);
-                Turn::Stepped
-            }
-            Reply::Worn(act) => {
-                match act {
-                    Act::Wait(_, unit) => self.take_back(unit),
-                    _ => unreachable!(),
-                }
-                Turn::Worn
-            }
-        }
     }
 
     // The unit in hand yields to another one of a pool.

@@ -1,10 +1,10 @@
 use Rattle.abt_machine.specs.Acts.{moved}
 use Rattle.abt_machine.specs.Acts as asks
-use Rattle.abt_machine.specs.Plans.{to_caller, to_condition, to_giver, to_yielder}
+use Rattle.abt_machine.specs.Plans.{to_caller, to_yielder}
 use Rattle.abt_machine.specs.declared.events.Code.{Code}
 use Rattle.abt_replay.specs.Events.{Asked, Operated}
-use Rattle.abt_plans.specs.Acts.{asked, given}
-use Rattle.abt_replay.proofs.Operating.{ask_made, give_made, wait_made, yield_to_made}
+use Rattle.abt_plans.specs.Acts.{asked, brought, given}
+use Rattle.abt_replay.proofs.Operating.{ask_made, give_made, yield_to_made}
 use Rattle.abt_replay.proofs.Outcomes.{if_ok}
 use Rattle.abt_replay.proofs.lanes.Lane.step.Goals as goal
 
@@ -17,17 +17,10 @@ returns-in-Ask c =
 
 pub returns-in-Give : goal.returns-in-Give
 returns-in-Give c =
-    if_ok (λ (k : Code). Asked c.in-Give.site (given c.in-Give.giving (moved c.args.unit)) to_giver c.args.self.now c.args.objects.now k c.give.new.self c.give.new.objects)
+    if_ok (λ (k : Code). Asked c.in-Give.site (given c.in-Give.giving (moved c.args.unit)) (brought c.in-Give.giving) c.args.self.now c.args.objects.now k c.give.new.self c.give.new.objects)
     (λ (k : Code). Operated c.args.w.now c.args.s.0 c.args.op c.args.unit c.args.self.now c.args.objects.now k c.give.new.self c.give.new.objects) c.give.result
     (λ k h. give_made c.args.w.now c.args.s.0 c.args.op c.args.unit c.args.self.now c.args.objects.now k c.give.new.self c.give.new.objects c.plan.result c.plan.ensures c.in-Give.site c.in-Give.giving c.in-Give.is h)
     c.give.ensures
-
-pub returns-in-Wait : goal.returns-in-Wait
-returns-in-Wait c =
-    if_ok (λ (k : Code). Asked c.in-Wait.site (asks.Wait c.in-Wait.condition (moved c.args.unit)) to_condition c.args.self.now c.args.objects.now k c.wait.new.self c.wait.new.objects)
-    (λ (k : Code). Operated c.args.w.now c.args.s.0 c.args.op c.args.unit c.args.self.now c.args.objects.now k c.wait.new.self c.wait.new.objects) c.wait.result
-    (λ k h. wait_made c.args.w.now c.args.s.0 c.args.op c.args.unit c.args.self.now c.args.objects.now k c.wait.new.self c.wait.new.objects c.plan.result c.plan.ensures c.in-Wait.site c.in-Wait.condition c.in-Wait.is h)
-    c.wait.ensures
 
 pub returns-in-YieldTo : goal.returns-in-YieldTo
 returns-in-YieldTo c =
