@@ -35,7 +35,7 @@ use Rattle.abt_laws.proofs.SoundRuns.{events-keep-sound}
 use Rattle.abt_laws.proofs.Standing.{StandsIn, first-stands}
 use Rattle.abt_replay.specs.Events.{Heeds, Moves}
 use Rattle.abt_replay.specs.Objects.{ObjectsValue, object_at, same_place}
-use Rattle.abt_replay.proofs.Asking.{may-ask}
+use Rattle.abt_calls.proofs.Asked.{may-ask}
 use Rattle.abt_simulation.specs.Simulation.{Answers, IsEvent, site_heard}
 use Rattle.abt_simulation.proofs.CalledSites.{steps-site}
 use Rattle.abt_simulation.proofs.Events.{simulation}

@@ -1,5 +1,4 @@
 pub mod Answered
-pub mod Asking
 pub mod Classes
 pub mod Counting
 pub mod Operating

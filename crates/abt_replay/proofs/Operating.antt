@@ -27,7 +27,7 @@ use Rattle.abt_plans.specs.Shapes.{IsCall, IsPlan}
 use Rattle.abt_plans.proofs.Locals.{planned-own}
 use Rattle.abt_replay.specs.Events.{Alone, AreObjects, Asked, Operated, OwnExit, OwnStep}
 use Rattle.abt_replay.specs.Objects.{ObjectsValue, object_at}
-use Rattle.abt_replay.proofs.Asking.{may-ask}
+use Rattle.abt_calls.proofs.Asked.{may-ask}
 
 -- a unit is at one of its operations, so its position fits
 pub position_below : (W : Parts) (u k : ℕ) (a : Op) → IsValid W → u < length W.units → op_at W u k ≡ Some a → k < 2 ^ 32 - 1
