@@ -1,10 +1,9 @@
 -- Streams and objects at the start of a run.
-use Rattle.std.proofs.Common.{◌≡◌, ◌∙◌, ℕ, ◌+◌, Bool, true, false, List, [], ◌∷◌, ◌++◌, Option, Some, ap, append-nil, arith, refl, slice_get, subst, sym, take}
-use Rattle.std.specs.Prelude.{cond, count_by}
+use Rattle.std.proofs.Common.{◌≡◌, ◌∙◌, ℕ, ◌+◌, Bool, true, false, List, [], ◌∷◌, ◌++◌, Option, Some, ap, append-nil, arith, refl, slice_get, subst, sym}
+use Rattle.std.specs.Prelude.{cond}
 use Rattle.std.specs.List.{filter}
 use Rattle.std.proofs.lemmas.List.FromFn.{filter_of_map_range_with_len_more}
-use Rattle.std.proofs.lemmas.List.Sums.{count_by_more_no, count_by_more_yes}
-use Rattle.std.proofs.lemmas.Option.{get_or_from_slice_get, slice_get_within}
+use Rattle.std.proofs.lemmas.Option.{slice_get_within}
 use Rattle.abt_machine.specs.declared.events.Site.{Site}
 use Rattle.abt_machine.specs.declared.events.Site.TheVariants as site
 use Rattle.abt_machine.specs.declared.operations.Combine.{Combine}
@@ -95,12 +94,3 @@ judge-starts W Z replay clocks valid stored stands are = record {
   stands = stands;
   clocks = are;
 }
-
--- Conditions.
-
-module _ {X : Type 0} (p : X → Bool) (xs : List X) (i : ℕ) (x : X) (here : slice_get xs i ≡ Some x) where
-  pub one-more : (n : ℕ) → n ≡ count_by p (take i xs) → p x ≡ true → n + 1 ≡ count_by p (take (i + 1) xs)
-  one-more n is on = ap (λ k. k + 1) is ∙ sym (count_by_more_yes p xs i x (slice_get_within xs i x here) (ap p (get_or_from_slice_get xs i x x here) ∙ on))
-
-  pub none-more : (n : ℕ) → n ≡ count_by p (take i xs) → p x ≡ false → n ≡ count_by p (take (i + 1) xs)
-  none-more n is off = is ∙ sym (count_by_more_no p xs i x (slice_get_within xs i x here) (ap p (get_or_from_slice_get xs i x x here) ∙ off))

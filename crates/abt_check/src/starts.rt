@@ -1,16 +1,17 @@
 //! Streams and objects at the start of a run.
 
 ghost use Rattle.std.specs.Prelude.{◌≡◌, ◌<◌, IfOk, length};
-ghost use Rattle.abt_calls.specs.Starts.{conditions, start_desk, start_part, start_phase, start_pool};
+ghost use Rattle.abt_calls.specs.Starts.{start_desk, start_part, start_phase, start_pool};
 ghost use Rattle.abt_check.specs.Lists.{AreNumbered};
 ghost use Rattle.abt_check.specs.Starts.{AreObjectsAtStart, slot_at};
 ghost use Rattle.abt_machine.specs.Fronts.{is_some_of};
 ghost use Rattle.abt_machine.specs.Start.{start};
 ghost use Rattle.abt_machine.specs.Values.{owned_at};
 ghost use Rattle.abt_replay.specs.Phases.{phase_of};
-ghost use Rattle.abt_machine.specs.Workloads.{is_condition_of, start_of};
+ghost use Rattle.abt_machine.specs.Workloads.{start_of};
 
 use abt_machine::{Body, ObjectNo, PoolNo, StreamNo, Thing, UnitNo, Want, Workload};
+use abt_monitor::conditions_of;
 use abt_replay::{
     Barrier, Desk, Eventual, Future, Kept, Lane, Monitor, Objects, Phase, Pool, RwLock, Slot, Unit,
 };
@@ -127,7 +128,7 @@ fn slot(alloc: Global, w: &Workload, x: ObjectNo) -> Result<Slot, Want>
     ensures { IfOk result (λ slot. slot ≡ slot_at w.now x.0) }
 {
     let kept = match w.thing(x) {
-        Thing::Mutex => Kept::Monitor(Monitor::new(alloc, conditions(w, x))?),
+        Thing::Mutex => Kept::Monitor(Monitor::new(alloc, conditions_of(w, x))?),
         Thing::Cond(_) => Kept::WithItsMutex,
         Thing::Eventual => Kept::Eventual(Eventual::new(alloc)),
         Thing::Future(size, combine) => Kept::Future(Future::new(alloc, size, combine)),
@@ -135,27 +136,4 @@ fn slot(alloc: Global, w: &Workload, x: ObjectNo) -> Result<Slot, Want>
         Thing::RwLock => Kept::RwLock(RwLock::new(alloc, w.units())?),
     };
     Ok(Slot { kept })
-}
-
-// How many conditions the mutex has.
-fn conditions(w: &Workload, x: ObjectNo) -> u32
-    ensures { result ≡ conditions w.now x.0 }
-{
-    let mut count = 0;
-    for y in 0..w.objects() {
-        if is_condition_of(x, w.thing(ObjectNo(y))) {
-            count += 1;
-        }
-    }
-    count
-}
-
-// Whether a declared object is a condition of the mutex.
-fn is_condition_of(mutex: ObjectNo, thing: Thing) -> bool
-    ensures { result ≡ is_condition_of mutex.0 thing }
-{
-    match thing {
-        Thing::Cond(m) => m.0 == mutex.0,
-        _ => false,
-    }
 }

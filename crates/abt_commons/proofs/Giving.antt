@@ -3,7 +3,7 @@ use Rattle.std.proofs.Common.{◌≡◌, ℕ, zero, suc, ◌+◌, ◌<◌, true,
 use Rattle.std.specs.List.{All, flat_map, range_with_len}
 use Rattle.std.proofs.lemmas.Grind.{flat_map-append}
 use Rattle.std.proofs.lemmas.List.Folds.{flat_map-map}
-use Rattle.std.proofs.lemmas.List.Elements.{All-append, All-cons, All-head, All-tail, All-map, All-nil}
+use Rattle.std.proofs.lemmas.List.Elements.{All-append, All-map, All-nil}
 use Rattle.abt_machine.specs.declared.events.Shown.{Shown}
 use Rattle.abt_machine.specs.declared.events.Shown.TheVariants as shows
 use Rattle.abt_machine.specs.declared.events.Site.{Site}
@@ -21,6 +21,7 @@ use Rattle.abt_machine.specs.Numbers.{pool_no, unit_no}
 use Rattle.abt_machine.specs.Start.{start}
 use Rattle.abt_machine.specs.Workloads.{thing_at}
 use Rattle.abt_unit.specs.Fits.{Fits}
+use Rattle.abt_monitor.proofs.Kept.{All-left, All-right}
 use Rattle.abt_desk.specs.Keeps.{held_in}
 use Rattle.abt_laws.specs.Footprint.{OfSite}
 use Rattle.abt_calls.specs.Keeps.{contents_of}
@@ -74,14 +75,6 @@ module _ (m y : ℕ) (things : List Thing) (t : Thing) (here : slice_get things 
 
 -- What an object holds fits.
 
-all-left : {A : Type 0} (F : A → Type 0) (xs ys : List A) → All F (xs ++ ys) → All F xs
-all-left F [] ys all = All-nil F
-all-left F (x ∷ xs) ys all = All-cons F x xs (All-head F x (xs ++ ys) all) (all-left F xs ys (All-tail F x (xs ++ ys) all))
-
-all-right : {A : Type 0} (F : A → Type 0) (xs ys : List A) → All F (xs ++ ys) → All F ys
-all-right F [] ys all = all
-all-right F (x ∷ xs) ys all = all-right F xs ys (All-tail F x (xs ++ ys) all)
-
 module _ (W : Parts) where
   as-fit : (x : Shown) (os : List Owned) → All (Fits W) os → All (FitsRow W) (rows_as x os)
   as-fit x os all = All-map (FitsRow W) (λ o. (x, o)) os all
@@ -92,7 +85,7 @@ module _ (W : Parts) where
   at-fit (c ∷ cs) (os ∷ conds) all =
       let rest : List Owned = flat_map (λ os. os) conds in
       All-append (FitsRow W) (rows_as (shows.Object (object_no c)) os) (rows_at cs conds)
-      (as-fit (shows.Object (object_no c)) os (all-left (Fits W) os rest all)) (at-fit cs conds (all-right (Fits W) os rest all))
+      (as-fit (shows.Object (object_no c)) os (All-left (Fits W) os rest all)) (at-fit cs conds (All-right (Fits W) os rest all))
 
   desk-fit : (phase : Phase) → All (Fits W) (held_in phase) → All (FitsRow W) (rows_at_desk phase)
   desk-fit (Unborn o) all = as-fit shows.Unborn (o ∷ []) all
@@ -104,13 +97,13 @@ module _ (W : Parts) where
   object-fits (site.Pool p) (PoolIs pool) all = as-fit (shows.Pool p) pool.units all
   object-fits (site.Desk u) (DeskIs desk) all =
       All-append (FitsRow W) (rows_at_desk desk.phase) (rows_as (shows.Join u) desk.joiners)
-      (desk-fit desk.phase (all-left (Fits W) (held_in desk.phase) desk.joiners all))
-      (as-fit (shows.Join u) desk.joiners (all-right (Fits W) (held_in desk.phase) desk.joiners all))
+      (desk-fit desk.phase (All-left (Fits W) (held_in desk.phase) desk.joiners all))
+      (as-fit (shows.Join u) desk.joiners (All-right (Fits W) (held_in desk.phase) desk.joiners all))
   object-fits (site.Monitor x) (MonitorIs m) all =
       let rest : List Owned = flat_map (λ os. os) m.conds in
       All-append (FitsRow W) (rows_as (shows.Object x) m.waiters) (rows_at (conditions_from x.0 0 W.objects) m.conds)
-      (as-fit (shows.Object x) m.waiters (all-left (Fits W) m.waiters rest all))
-      (at-fit (conditions_from x.0 0 W.objects) m.conds (all-right (Fits W) m.waiters rest all))
+      (as-fit (shows.Object x) m.waiters (All-left (Fits W) m.waiters rest all))
+      (at-fit (conditions_from x.0 0 W.objects) m.conds (All-right (Fits W) m.waiters rest all))
   object-fits (site.Eventual x) (EventualIs e) all = as-fit (shows.Object x) e.waiters all
   object-fits (site.Future x) (FutureIs f) all = as-fit (shows.Object x) f.waiters all
   object-fits (site.Barrier x) (BarrierIs b) all = as-fit (shows.Object x) b.waiters all

@@ -1,6 +1,5 @@
 pub mod Answered
 pub mod Closings
-pub mod Counted
 pub mod Crosses
 pub mod Dealing
 pub mod Finding

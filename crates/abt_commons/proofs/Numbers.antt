@@ -5,6 +5,7 @@ use Rattle.std.proofs.lemmas.Option.{slice_get_within, slice_get_cases}
 use Rattle.abt_machine.specs.declared.events.Site.{Site}
 use Rattle.abt_machine.specs.declared.events.Site.TheVariants as site
 use Rattle.abt_machine.specs.declared.numbers.ObjectNo.{ObjectNo}
+use Rattle.abt_machine.specs.declared.operations.Combine.{Combine}
 use Rattle.abt_machine.specs.declared.operations.Thing.{Thing}
 use Rattle.abt_machine.specs.declared.operations.Thing.TheVariants as thing
 use Rattle.abt_machine.specs.declared.workload.Parts.{Parts}
@@ -13,6 +14,28 @@ use Rattle.abt_machine.specs.Workloads.{thing_at}
 use Rattle.abt_laws.proofs.Options.{none≢some, some-injective}
 use Rattle.abt_calls.specs.Asking.{IsSite}
 use Rattle.abt_commons.specs.Sites.{sites, site_at, site_of, site_number, thing_number, declared_number, monitor_number, eventual_number, future_number, barrier_number, rwlock_number}
+
+-- The kind of a thing that has a number as such a kind, and the number.
+
+pub monitor-is : (k i : ℕ) (t : Option Thing) → monitor_number k t ≡ Some i → (t ≡ Some thing.Mutex) × (k ≡ i)
+monitor-is k i (Some thing.Mutex) e = (refl, some-injective e)
+monitor-is k i t e = absurd (none≢some e)
+
+pub eventual-is : (k i : ℕ) (t : Option Thing) → eventual_number k t ≡ Some i → (t ≡ Some thing.Eventual) × (k ≡ i)
+eventual-is k i (Some thing.Eventual) e = (refl, some-injective e)
+eventual-is k i t e = absurd (none≢some e)
+
+pub future-is : (k i : ℕ) (t : Option Thing) → future_number k t ≡ Some i → (n : ℕ) × (c : Combine) × (t ≡ Some (thing.Future n c)) × (k ≡ i)
+future-is k i (Some (thing.Future n c)) e = (n, c, refl, some-injective e)
+future-is k i t e = absurd (none≢some e)
+
+pub barrier-is : (k i : ℕ) (t : Option Thing) → barrier_number k t ≡ Some i → (n : ℕ) × (t ≡ Some (thing.Barrier n)) × (k ≡ i)
+barrier-is k i (Some (thing.Barrier n)) e = (n, refl, some-injective e)
+barrier-is k i t e = absurd (none≢some e)
+
+pub rwlock-is : (k i : ℕ) (t : Option Thing) → rwlock_number k t ≡ Some i → (t ≡ Some thing.RwLock) × (k ≡ i)
+rwlock-is k i (Some thing.RwLock) e = (refl, some-injective e)
+rwlock-is k i t e = absurd (none≢some e)
 
 module _ (W : Parts) where
   abbrev before : ℕ
@@ -43,66 +66,21 @@ module _ (W : Parts) where
   declared-by x k i (Some t) there is = subst (Numbers x) (some-injective is) (there t refl)
   declared-by x k i None there is = absurd (none≢some is)
 
-  thing-numbered : (x : ObjectNo) (y : Site) (i : ℕ) (t : Thing) → thing_at W x.0 ≡ Some t → site_of x.0 (Some t) ≡ Some y → Some (thing_number W x.0) ≡ Some i → Numbers y i
+  thing-numbered : (x : ObjectNo) (y : Site) (i : ℕ) (t : Thing) → thing_at W x.0 ≡ Some t → site_of x.0 (Some t) ≡ Some y → thing_number W x.0 ≡ i → Numbers y i
   thing-numbered x y i t is there e =
       let lt = slice_get_within W.objects x.0 t is in
-      subst (Numbers y) (some-injective e) (omega (arith, lt), thing-there x.0 (Some t) is ∙ there)
-
-  monitor-by : (x : ObjectNo) (i : ℕ) (t : Option Thing) → thing_at W x.0 ≡ t → monitor_number (thing_number W x.0) t ≡ Some i → Numbers (site.Monitor x) i
-  monitor-by x i None is e = absurd (none≢some e)
-  monitor-by x i (Some thing.Mutex) is e = thing-numbered x (site.Monitor x) i thing.Mutex is refl e
-  monitor-by x i (Some (thing.Cond m)) is e = absurd (none≢some e)
-  monitor-by x i (Some thing.Eventual) is e = absurd (none≢some e)
-  monitor-by x i (Some (thing.Future n c)) is e = absurd (none≢some e)
-  monitor-by x i (Some (thing.Barrier n)) is e = absurd (none≢some e)
-  monitor-by x i (Some thing.RwLock) is e = absurd (none≢some e)
-
-  eventual-by : (x : ObjectNo) (i : ℕ) (t : Option Thing) → thing_at W x.0 ≡ t → eventual_number (thing_number W x.0) t ≡ Some i → Numbers (site.Eventual x) i
-  eventual-by x i None is e = absurd (none≢some e)
-  eventual-by x i (Some thing.Mutex) is e = absurd (none≢some e)
-  eventual-by x i (Some (thing.Cond m)) is e = absurd (none≢some e)
-  eventual-by x i (Some thing.Eventual) is e = thing-numbered x (site.Eventual x) i thing.Eventual is refl e
-  eventual-by x i (Some (thing.Future n c)) is e = absurd (none≢some e)
-  eventual-by x i (Some (thing.Barrier n)) is e = absurd (none≢some e)
-  eventual-by x i (Some thing.RwLock) is e = absurd (none≢some e)
-
-  future-by : (x : ObjectNo) (i : ℕ) (t : Option Thing) → thing_at W x.0 ≡ t → future_number (thing_number W x.0) t ≡ Some i → Numbers (site.Future x) i
-  future-by x i None is e = absurd (none≢some e)
-  future-by x i (Some thing.Mutex) is e = absurd (none≢some e)
-  future-by x i (Some (thing.Cond m)) is e = absurd (none≢some e)
-  future-by x i (Some thing.Eventual) is e = absurd (none≢some e)
-  future-by x i (Some (thing.Future n c)) is e = thing-numbered x (site.Future x) i (thing.Future n c) is refl e
-  future-by x i (Some (thing.Barrier n)) is e = absurd (none≢some e)
-  future-by x i (Some thing.RwLock) is e = absurd (none≢some e)
-
-  barrier-by : (x : ObjectNo) (i : ℕ) (t : Option Thing) → thing_at W x.0 ≡ t → barrier_number (thing_number W x.0) t ≡ Some i → Numbers (site.Barrier x) i
-  barrier-by x i None is e = absurd (none≢some e)
-  barrier-by x i (Some thing.Mutex) is e = absurd (none≢some e)
-  barrier-by x i (Some (thing.Cond m)) is e = absurd (none≢some e)
-  barrier-by x i (Some thing.Eventual) is e = absurd (none≢some e)
-  barrier-by x i (Some (thing.Future n c)) is e = absurd (none≢some e)
-  barrier-by x i (Some (thing.Barrier n)) is e = thing-numbered x (site.Barrier x) i (thing.Barrier n) is refl e
-  barrier-by x i (Some thing.RwLock) is e = absurd (none≢some e)
-
-  rwlock-by : (x : ObjectNo) (i : ℕ) (t : Option Thing) → thing_at W x.0 ≡ t → rwlock_number (thing_number W x.0) t ≡ Some i → Numbers (site.Rw x) i
-  rwlock-by x i None is e = absurd (none≢some e)
-  rwlock-by x i (Some thing.Mutex) is e = absurd (none≢some e)
-  rwlock-by x i (Some (thing.Cond m)) is e = absurd (none≢some e)
-  rwlock-by x i (Some thing.Eventual) is e = absurd (none≢some e)
-  rwlock-by x i (Some (thing.Future n c)) is e = absurd (none≢some e)
-  rwlock-by x i (Some (thing.Barrier n)) is e = absurd (none≢some e)
-  rwlock-by x i (Some thing.RwLock) is e = thing-numbered x (site.Rw x) i thing.RwLock is refl e
+      subst (Numbers y) e (omega (arith, lt), thing-there x.0 (Some t) is ∙ there)
 
   numbered : (x : Site) (i : ℕ) → site_number W x ≡ Some i → Numbers x i
-  numbered (site.Pool p) i = declared-by (site.Pool p) p.0 i (slice_get W.pools p.0)
-      (λ t is. (let lt = slice_get_within W.pools p.0 t is in omega (arith, lt), pool-there p.0 (slice_get_within W.pools p.0 t is)))
-  numbered (site.Desk u) i = declared-by (site.Desk u) (length W.pools + u.0) i (slice_get W.units u.0)
-      (λ t is. (let lt = slice_get_within W.units u.0 t is in omega (arith, lt), desk-there u.0 (slice_get_within W.units u.0 t is)))
-  numbered (site.Monitor x) i = monitor-by x i (thing_at W x.0) refl
-  numbered (site.Eventual x) i = eventual-by x i (thing_at W x.0) refl
-  numbered (site.Future x) i = future-by x i (thing_at W x.0) refl
-  numbered (site.Barrier x) i = barrier-by x i (thing_at W x.0) refl
-  numbered (site.Rw x) i = rwlock-by x i (thing_at W x.0) refl
+  numbered (site.Pool p) i e = declared-by (site.Pool p) p.0 i (slice_get W.pools p.0)
+      (λ t is. (let lt = slice_get_within W.pools p.0 t is in omega (arith, lt), pool-there p.0 (slice_get_within W.pools p.0 t is))) e
+  numbered (site.Desk u) i e = declared-by (site.Desk u) (length W.pools + u.0) i (slice_get W.units u.0)
+      (λ t is. (let lt = slice_get_within W.units u.0 t is in omega (arith, lt), desk-there u.0 (slice_get_within W.units u.0 t is))) e
+  numbered (site.Monitor x) i e = let h = monitor-is (thing_number W x.0) i (thing_at W x.0) e in thing-numbered x (site.Monitor x) i thing.Mutex h.0 refl h.1
+  numbered (site.Eventual x) i e = let h = eventual-is (thing_number W x.0) i (thing_at W x.0) e in thing-numbered x (site.Eventual x) i thing.Eventual h.0 refl h.1
+  numbered (site.Future x) i e = let h = future-is (thing_number W x.0) i (thing_at W x.0) e in thing-numbered x (site.Future x) i (thing.Future h.0 h.1) h.2 refl h.3
+  numbered (site.Barrier x) i e = let h = barrier-is (thing_number W x.0) i (thing_at W x.0) e in thing-numbered x (site.Barrier x) i (thing.Barrier h.0) h.1 refl h.2
+  numbered (site.Rw x) i e = let h = rwlock-is (thing_number W x.0) i (thing_at W x.0) e in thing-numbered x (site.Rw x) i thing.RwLock h.0 refl h.1
 
   pub number-within : (x : Site) (i : ℕ) → site_number W x ≡ Some i → i < sites W
   number-within x i is = (numbered x i is).0

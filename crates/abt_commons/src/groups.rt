@@ -12,13 +12,12 @@ ghost use Rattle.abt_commons.specs.Kinds.{object_in};
 
 use crate::objects::Objects;
 use crate::one::One;
-use crate::place::is_condition_of;
 use crate::shared::Shared;
 use crate::sites::site_at;
 use abt_chain::Chain;
 use abt_desk::Desk;
 use abt_machine::{ObjectNo, Shown, Site, UnitNo, Want, Workload};
-use abt_monitor::Monitor;
+use abt_monitor::{Monitor, is_condition_of};
 use abt_unit::Unit;
 use std::alloc::Global;
 

@@ -1,8 +1,8 @@
 //! The objects of a workload as a run starts with them.
 
 ghost use Rattle.std.specs.Prelude.{◌≡◌, ◌<◌, ◌+◌, ◌≤◌, length, IfOk, OnOk, Some};
-ghost use Rattle.abt_calls.specs.Starts.{conditions, start_desk};
-ghost use Rattle.abt_machine.specs.Workloads.{is_condition_of, start_of, thing_at};
+ghost use Rattle.abt_calls.specs.Starts.{start_desk};
+ghost use Rattle.abt_machine.specs.Workloads.{start_of, thing_at};
 ghost use Rattle.abt_commons.specs.Kinds.{object_in};
 ghost use Rattle.abt_commons.specs.Placing.{ArePlaced, IsNewUnit, empty_pools, placed_units, placed_things, thing_object, units_in_pools};
 
@@ -15,7 +15,7 @@ use abt_booth::Object;
 use abt_desk::Desk;
 use abt_eventual::{Eventual, Future};
 use abt_machine::{Body, ObjectNo, PoolNo, Thing, UnitNo, Want, Workload};
-use abt_monitor::Monitor;
+use abt_monitor::{Monitor, conditions_of};
 use abt_pool::Pool;
 use abt_rwlock::RwLock;
 use abt_unit::Unit;
@@ -130,33 +130,11 @@ fn placed_thing(alloc: Global, w: &Workload, x: ObjectNo) -> Result<Shared, Want
 {
     w.known();
     Ok(match w.thing(x) {
-        Thing::Mutex => Shared::Monitor(Monitor::new(alloc, conditions(w, x))?),
+        Thing::Mutex => Shared::Monitor(Monitor::new(alloc, conditions_of(w, x))?),
         Thing::Cond(_) => Shared::WithItsMutex,
         Thing::Eventual => Shared::Eventual(Eventual::new()),
         Thing::Future(size, combine) => Shared::Future(Future::new(size, combine)),
         Thing::Barrier(size) => Shared::Barrier(Barrier::new(size)),
         Thing::RwLock => Shared::RwLock(RwLock::new(alloc, w.units())?),
     })
-}
-
-// How many conditions the mutex has.
-fn conditions(w: &Workload, x: ObjectNo) -> u32
-    ensures { result ≡ conditions w.now x.0 }
-{
-    let mut count = 0;
-    for y in 0..w.objects() {
-        if is_condition_of(x, w.thing(ObjectNo(y))) {
-            count += 1;
-        }
-    }
-    count
-}
-
-pub(crate) fn is_condition_of(mutex: ObjectNo, thing: Thing) -> bool
-    ensures { result ≡ is_condition_of mutex.0 thing }
-{
-    match thing {
-        Thing::Cond(m) => m.0 == mutex.0,
-        _ => false,
-    }
 }

@@ -7,18 +7,23 @@ use Rattle.abt_booth.specs.Seats.{opening_of}
 use Rattle.abt_commons.specs.Held.{IsWhole, held_in}
 use Rattle.abt_commons.specs.Closing.{AllEnded}
 use Rattle.abt_commons.proofs.Untouched.{all-back, whole-room}
+use Rattle.abt_commons.proofs.split.Split.make.Goals.{After-lock_all, After-reverse-2}
 use Rattle.abt_commons.proofs.split.Split.make.Goals as goal
+
+-- what is locked and what is left are all objects
+all : (g : _) (c : After-lock_all g) → map opening_of c.lock_all.new.booths.items ++ reverse c.lock_all.new.room.items ≡ c.objects.inside.ones.items
+all g c =
+    c.lock_all.ensures.objects ∙ (ap (λ bs. map opening_of bs ++ reverse c.reverse.new.self.items) c.in-Ok.ensures.items ∙ (ap reverse c.reverse.ensures.items ∙ reverse-reverse c.objects.inside.ones.items))
 
 pub invariant_of-result : goal.invariant_of-result
 invariant_of-result g c =
     let s = c.objects.inside in
     let booths = c.lock_all.new.booths.items in
     let room = c.lock_all.new.room.items in
-    let all : map opening_of booths ++ reverse room ≡ s.ones.items =
-    c.lock_all.ensures.objects ∙ (ap (λ bs. map opening_of bs ++ reverse c.reverse.new.self.items) c.in-Ok.ensures.items ∙ (ap reverse c.reverse.ensures.items ∙ reverse-reverse s.ones.items)) in
+    let whole = all g (goal.at.invariant_of-result g c).After-lock_all in
     let none : room ≡ [] = c.lock_all.ensures.all c.if-lock_all.true in
-    let locked : map opening_of booths ≡ s.ones.items = sym (append-nil (map opening_of booths)) ∙ (ap (λ xs. map opening_of booths ++ reverse xs) (sym none) ∙ all) in
-    let many = whole-room booths room s.ones.items all in (
+    let locked : map opening_of booths ≡ s.ones.items = sym (append-nil (map opening_of booths)) ∙ (ap (λ xs. map opening_of booths ++ reverse xs) (sym none) ∙ whole) in
+    let many = whole-room booths room s.ones.items whole in (
       record {
         ours = subst (λ os. All (λ one. one.workload ≡ s.w.now) os) (sym locked) c.objects.invariant.0;
         whole = subst (λ os. IsWhole (held_in s.w.now os s.clocks.items)) (sym locked) c.objects.invariant.1;
@@ -32,45 +37,39 @@ invariant_of-result g c =
 pub unlock_all-requires-clause-room : goal.unlock_all-requires-clause-room
 unlock_all-requires-clause-room g c =
     let s = c.objects.inside in
-    let booths = c.lock_all.new.booths.items in
-    let room = c.lock_all.new.room.items in
-    let all : map opening_of booths ++ reverse room ≡ s.ones.items =
-    c.lock_all.ensures.objects ∙ (ap (λ bs. map opening_of bs ++ reverse c.reverse.new.self.items) c.in-Ok.ensures.items ∙ (ap reverse c.reverse.ensures.items ∙ reverse-reverse s.ones.items)) in
-    let many = whole-room booths room s.ones.items all in
+    let many = whole-room c.lock_all.new.booths.items c.lock_all.new.room.items s.ones.items (all g (goal.at.unlock_all-requires-clause-room g c).After-lock_all) in
     omega (arith, many, c.lock_all.ensures.room, c.reverse.ensures.capacity, s.ones.ok.0, s.ones.ok.1)
+
+-- the objects and the clocks that come back are those that came
+module _ (g : _) (c : After-reverse-2 g) (whole : map opening_of c.lock_all.new.booths.items ++ reverse c.lock_all.new.room.items ≡ c.objects.inside.ones.items) where
+  seats : c.as_mut_slice-2.result.now ≡ c.lock_all.new.passes
+  seats = c.as_mut_slice-2.ensures.value ∙ with_items_is c.in-Ok-seatless.passes c.lock_all.new.passes (c.lock_all.ensures.dealt.many ∙ (sym c.in-Ok-seatless.ensures.many ∙ sym c.in-Ok-seatless.passes.ok.0))
+
+  ended : AllEnded c.lock_all.new.booths.items c.lock_all.new.passes c.objects.inside.clocks.items c.lock_all.new.room.items c.unlock_all.new.room.items c.unlock_all.new.clocks
+  ended = subst (λ ps. AllEnded c.lock_all.new.booths.items ps c.objects.inside.clocks.items c.lock_all.new.room.items c.unlock_all.new.room.items c.unlock_all.new.clocks) seats
+      (subst (λ cs. AllEnded c.lock_all.new.booths.items c.as_mut_slice-2.result.now cs c.lock_all.new.room.items c.unlock_all.new.room.items c.unlock_all.new.clocks) c.as_mut_slice-3.ensures.value c.unlock_all.ensures)
+
+  back : (reverse c.unlock_all.new.room.items ≡ c.objects.inside.ones.items) × (c.unlock_all.new.clocks ≡ c.objects.inside.clocks.items)
+  back = all-back c.lock_all.new.booths.items c.lock_all.new.room.items c.objects.inside.ones.items whole c.objects.inside.w.now c.objects.inside.clocks.items c.unlock_all.new.clocks c.args.streams c.lock_all.new.passes
+      c.unlock_all.new.room.items c.objects.invariant.1 c.lock_all.ensures.dealt ended
+
+  ones : c.reverse-2.new.self.items ≡ c.objects.inside.ones.items
+  ones = c.reverse-2.ensures.items ∙ back.0
+
+  clocks : (with_items c.objects.inside.clocks c.unlock_all.new.clocks).items ≡ c.objects.inside.clocks.items
+  clocks = with_items_is c.objects.inside.clocks c.unlock_all.new.clocks (ended.2.clocks_many ∙ sym c.objects.inside.clocks.ok.0) ∙ back.1
 
 pub invariant_of-result-2 : goal.invariant_of-result-2
 invariant_of-result-2 g c =
     let s = c.objects.inside in
-    let booths = c.lock_all.new.booths.items in
-    let room = c.lock_all.new.room.items in
-    let all : map opening_of booths ++ reverse room ≡ s.ones.items =
-    c.lock_all.ensures.objects ∙ (ap (λ bs. map opening_of bs ++ reverse c.reverse.new.self.items) c.in-Ok.ensures.items ∙ (ap reverse c.reverse.ensures.items ∙ reverse-reverse s.ones.items)) in
-    let seats : c.as_mut_slice-2.result.now ≡ c.lock_all.new.passes =
-    c.as_mut_slice-2.ensures.value ∙ with_items_is c.in-Ok-seatless.passes c.lock_all.new.passes (c.lock_all.ensures.dealt.many ∙ (sym c.in-Ok-seatless.ensures.many ∙ sym c.in-Ok-seatless.passes.ok.0)) in
-    let ended : AllEnded booths c.lock_all.new.passes s.clocks.items room c.unlock_all.new.room.items c.unlock_all.new.clocks =
-    subst (λ ps. AllEnded booths ps s.clocks.items room c.unlock_all.new.room.items c.unlock_all.new.clocks) seats
-    (subst (λ cs. AllEnded booths c.as_mut_slice-2.result.now cs room c.unlock_all.new.room.items c.unlock_all.new.clocks) c.as_mut_slice-3.ensures.value c.unlock_all.ensures) in
-    let back = all-back booths room s.ones.items all s.w.now s.clocks.items c.unlock_all.new.clocks c.args.streams c.lock_all.new.passes c.unlock_all.new.room.items c.objects.invariant.1 c.lock_all.ensures.dealt ended in
-    let ones : c.reverse-2.new.self.items ≡ s.ones.items = c.reverse-2.ensures.items ∙ back.0 in
-    let clocks : (with_items s.clocks c.unlock_all.new.clocks).items ≡ s.clocks.items = with_items_is s.clocks c.unlock_all.new.clocks (ended.2.clocks_many ∙ sym s.clocks.ok.0) ∙ back.1 in (
-      subst (λ os. All (λ one. one.workload ≡ s.w.now) os) (sym ones) c.objects.invariant.0,
-      subst (λ os. IsWhole (held_in s.w.now os (with_items s.clocks c.unlock_all.new.clocks).items)) (sym ones) (subst (λ cs. IsWhole (held_in s.w.now s.ones.items cs)) (sym clocks) c.objects.invariant.1),
+    let path = (goal.at.invariant_of-result-2 g c).After-reverse-2 in
+    let whole = all g (goal.at.invariant_of-result-2 g c).After-lock_all in (
+      subst (λ os. All (λ one. one.workload ≡ s.w.now) os) (sym (ones g path whole)) c.objects.invariant.0,
+      subst (λ os. IsWhole (held_in s.w.now os (with_items s.clocks c.unlock_all.new.clocks).items)) (sym (ones g path whole)) (subst (λ cs. IsWhole (held_in s.w.now s.ones.items cs)) (sym (clocks g path whole)) c.objects.invariant.1),
     )
 
 pub returns-clause-refused : goal.returns-clause-refused
 returns-clause-refused g c =
-    let s = c.objects.inside in
-    let booths = c.lock_all.new.booths.items in
-    let room = c.lock_all.new.room.items in
-    let all : map opening_of booths ++ reverse room ≡ s.ones.items =
-    c.lock_all.ensures.objects ∙ (ap (λ bs. map opening_of bs ++ reverse c.reverse.new.self.items) c.in-Ok.ensures.items ∙ (ap reverse c.reverse.ensures.items ∙ reverse-reverse s.ones.items)) in
-    let seats : c.as_mut_slice-2.result.now ≡ c.lock_all.new.passes =
-    c.as_mut_slice-2.ensures.value ∙ with_items_is c.in-Ok-seatless.passes c.lock_all.new.passes (c.lock_all.ensures.dealt.many ∙ (sym c.in-Ok-seatless.ensures.many ∙ sym c.in-Ok-seatless.passes.ok.0)) in
-    let ended : AllEnded booths c.lock_all.new.passes s.clocks.items room c.unlock_all.new.room.items c.unlock_all.new.clocks =
-    subst (λ ps. AllEnded booths ps s.clocks.items room c.unlock_all.new.room.items c.unlock_all.new.clocks) seats
-    (subst (λ cs. AllEnded booths c.as_mut_slice-2.result.now cs room c.unlock_all.new.room.items c.unlock_all.new.clocks) c.as_mut_slice-3.ensures.value c.unlock_all.ensures) in
-    let back = all-back booths room s.ones.items all s.w.now s.clocks.items c.unlock_all.new.clocks c.args.streams c.lock_all.new.passes c.unlock_all.new.room.items c.objects.invariant.1 c.lock_all.ensures.dealt ended in
-    let ones : c.reverse-2.new.self.items ≡ s.ones.items = c.reverse-2.ensures.items ∙ back.0 in
-    let clocks : (with_items s.clocks c.unlock_all.new.clocks).items ≡ s.clocks.items = with_items_is s.clocks c.unlock_all.new.clocks (ended.2.clocks_many ∙ sym s.clocks.ok.0) ∙ back.1 in
-    (λ i. held_in s.w.now (ones i) (clocks i)) ∙ c.objects.view_is
+    let path = (goal.at.returns-clause-refused g c).After-reverse-2 in
+    let whole = all g (goal.at.returns-clause-refused g c).After-lock_all in
+    (λ i. held_in c.objects.inside.w.now (ones g path whole i) (clocks g path whole i)) ∙ c.objects.view_is

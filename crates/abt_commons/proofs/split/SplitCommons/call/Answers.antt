@@ -1,12 +1,12 @@
 -- A call of a split.
-use Rattle.std.proofs.Common.{◌≤◌, ◌<◌, ◌^◌, set, sym, ◌∙◌, subst, arith}
+use Rattle.std.proofs.Common.{◌≤◌, ◌<◌, ◌^◌, set, sym, subst, arith}
 use Rattle.abt_booth.specs.Seats.{number_of, seen_of}
 use Rattle.abt_calls.specs.Asking.{MayCall}
 use Rattle.abt_commons.specs.Acts.{act_of, answer_of}
 use Rattle.abt_commons.specs.Replies.{Answers, Done, Worn}
 use Rattle.abt_commons.specs.Sights.{Shows}
 use Rattle.abt_commons.specs.Splits.{AreSeats, IsPassOf, SplitValue, carried_to, own_lock, sights}
-use Rattle.abt_commons.proofs.SplitSights.{may-ask-booth, clock-low, answers-well, seat-here, seats-after, split-shows, split-worn}
+use Rattle.abt_commons.proofs.SplitSights.{may-ask-booth, clock-low, answers-well, seats-after, split-shows, split-worn}
 use Rattle.abt_commons.proofs.split.SplitCommons.call.Goals as goal
 
 pub call-requires-clause-act : goal.call-requires-clause-act
@@ -29,9 +29,7 @@ returns-in-Done-clause-pass g c =
     let its = subst (λ (v : SplitValue). IsPassOf v p) (sym c.self.view_is) c.requires.pass in
     subst (λ (v : SplitValue). AreSeats p.stream v.booths (set p.seats.items c.site_number-number.result c.call.new.seat)) c.self.view_is
     (seats-after s.w.now s.streams s.booths.items s.clocks.items c.self.invariant.0 c.args.site c.site_number-number.result c.site_number-number.ensures p.seats.items p.stream its
-    c.index_mut.result.now c.call.new.seat c.index_mut.ensures.value c.index-2.result.now c.index-2.ensures c.in-Done.ensures.seat
-    (c.in-Done.ensures.number ∙ (seat-here s.w.now s.streams s.booths.items s.clocks.items c.self.invariant.0 c.args.site c.site_number-number.result c.site_number-number.ensures p.seats.items p.stream its
-    c.index_mut.result.now c.call.new.seat c.index_mut.ensures.value c.index-2.result.now c.index-2.ensures).1))
+    c.index_mut.result.now c.call.new.seat c.index_mut.ensures.value c.index-2.result.now c.index-2.ensures c.in-Done.ensures.seat c.in-Done.ensures.number)
 
 pub returns-in-Done-clause-replies : goal.returns-in-Done-clause-replies
 returns-in-Done-clause-replies g c =
@@ -58,9 +56,7 @@ returns-in-Worn-clause-pass g c =
     let its = subst (λ (v : SplitValue). IsPassOf v p) (sym c.self.view_is) c.requires.pass in
     subst (λ (v : SplitValue). AreSeats p.stream v.booths (set p.seats.items c.site_number-number.result c.call.new.seat)) c.self.view_is
     (seats-after s.w.now s.streams s.booths.items s.clocks.items c.self.invariant.0 c.args.site c.site_number-number.result c.site_number-number.ensures p.seats.items p.stream its
-    c.index_mut.result.now c.call.new.seat c.index_mut.ensures.value c.index-2.result.now c.index-2.ensures c.in-Worn.ensures.seat
-    (c.in-Worn.ensures.number ∙ (seat-here s.w.now s.streams s.booths.items s.clocks.items c.self.invariant.0 c.args.site c.site_number-number.result c.site_number-number.ensures p.seats.items p.stream its
-    c.index_mut.result.now c.call.new.seat c.index_mut.ensures.value c.index-2.result.now c.index-2.ensures).1))
+    c.index_mut.result.now c.call.new.seat c.index_mut.ensures.value c.index-2.result.now c.index-2.ensures c.in-Worn.ensures.seat c.in-Worn.ensures.number)
 
 pub returns-in-Worn-clause-moves : goal.returns-in-Worn-clause-moves
 returns-in-Worn-clause-moves g c =
