@@ -39,8 +39,8 @@ const KINDS: [&[&[&str]]; 3] = [
     &[&["done", "asked", "access", "own"]],
 ];
 
-/// Whether a list of words has this one.
-pub(crate) fn has(words: &[&str], word: &str) -> bool {
+// Whether a list of words has this one.
+fn has(words: &[&str], word: &str) -> bool {
     for other in words {
         if *other == word {
             return true;
@@ -72,25 +72,30 @@ pub(crate) fn parts<'a>(
     Ok(parts)
 }
 
-// The text of the lines, with the new text in the place of `count` of them, from line `at` on.
+// Appends lines.
+fn push_lines(text: &mut String, lines: &[&str]) -> Result<(), AllocError> {
+    for line in lines {
+        writeln!(text, "{line}")?;
+    }
+    Ok(())
+}
+
+// The text of the lines, with the new ones in the place of `count` of them, from line `at` on.
 fn replaced(
     alloc: Global,
     lines: &[&str],
     at: usize,
     count: usize,
-    new: &str,
+    new: &[&str],
 ) -> Result<String, AllocError> {
     let mut text = String::new(alloc);
-    let mut number: usize = 0;
-    for line in lines {
+    for (number, line) in lines.iter().enumerate() {
         if number == at {
-            text.push_str(new)?;
+            push_lines(&mut text, new)?;
         }
         if number < at || number - at >= count {
-            text.push_str(line)?;
-            text.push_str("\n")?;
+            writeln!(text, "{line}")?;
         }
-        number = number.saturating_add(1);
     }
     Ok(text)
 }
@@ -98,139 +103,137 @@ fn replaced(
 // The words with another in the place of word `at`, as a line.
 fn with_word(alloc: Global, words: &[&str], at: usize, new: &str) -> Result<String, AllocError> {
     let mut line = String::new(alloc);
-    let mut number: usize = 0;
-    for word in words {
+    for (number, word) in words.iter().enumerate() {
         if number > 0 {
-            line.push_str(" ")?;
+            line.push(' ')?;
         }
         line.push_str(if number == at { new } else { word })?;
-        number = number.saturating_add(1);
     }
     Ok(line)
 }
 
-// Adds the change of word `at` of line `line` to another word.
-fn push_word(
-    alloc: Global,
-    changes: &mut Vec<Change>,
-    lines: &[&str],
-    line: usize,
-    words: &[&str],
-    at: usize,
-    new: &str,
-    is_journal: bool,
-) -> Result<(), AllocError> {
-    let changed = with_word(alloc, words, at, new)?;
-    let number = line.saturating_add(1);
-    changes.push(Change {
-        name: format!(in alloc; "{number}: {changed}")?,
-        text: replaced(alloc, lines, line, 1, &format!(in alloc; "{changed}\n")?)?,
-        kept: line,
-        is_journal,
-    })?;
-    Ok(())
-}
-
-// Adds each change of one word of a line: a number is one less or one more, another word is each other one of its kind.
-fn push_words(
-    alloc: Global,
-    changes: &mut Vec<Change>,
-    lines: &[&str],
-    line: usize,
-    words: &[&str],
-) -> Result<(), AllocError> {
-    let mut at: usize = 0;
-    for word in words {
-        if let Ok(n) = word.parse::<u64>() {
-            let less = if n == 0 {
-                String::from_str(alloc, "-1")?
-            } else {
-                format!(in alloc; "{}", n - 1)?
-            };
-            let more = format!(in alloc; "{}", n.saturating_add(1))?;
-            push_word(alloc, changes, lines, line, words, at, &less, n > 0)?;
-            push_word(alloc, changes, lines, line, words, at, &more, true)?;
-        }
-        for groups in KINDS {
-            if is_of(groups, word) {
-                push_others(alloc, changes, lines, line, words, at, groups, word)?;
-            }
-        }
-        at = at.saturating_add(1);
+// The number that is one less, as a word.
+fn less(alloc: Global, n: u64) -> Result<String, AllocError> {
+    if n == 0 {
+        return String::from_str(alloc, "-1");
     }
-    Ok(())
+    format!(in alloc; "{}", n - 1)
 }
 
-// Adds the changes of a word to each other one of its kind.
-fn push_others(
+// The changes of a journal's lines that were found, and the line that is changed next.
+#[derive(Drop)]
+struct Changing<'a> {
     alloc: Global,
-    changes: &mut Vec<Change>,
-    lines: &[&str],
+    lines: &'a [&'a str],
     line: usize,
-    words: &[&str],
-    at: usize,
-    groups: &[&[&str]],
-    word: &str,
-) -> Result<(), AllocError> {
-    for group in groups {
-        let is_journal = has(group, word);
-        for new in *group {
-            if *new != word {
-                push_word(alloc, changes, lines, line, words, at, new, is_journal)?;
-            }
-        }
-    }
-    Ok(())
+    found: Vec<Change>,
 }
 
-// Adds the changes of a whole line: it is dropped, doubled, and changes places with the next.
-fn push_line(
-    alloc: Global,
-    changes: &mut Vec<Change>,
-    lines: &[&str],
-    line: usize,
-    own: &str,
-    next: Option<&str>,
-) -> Result<(), AllocError> {
-    let number = line.saturating_add(1);
-    changes.push(Change {
-        name: format!(in alloc; "drop {number}")?,
-        text: replaced(alloc, lines, line, 1, "")?,
-        kept: line,
-        is_journal: true,
-    })?;
-    changes.push(Change {
-        name: format!(in alloc; "double {number}")?,
-        text: replaced(alloc, lines, line, 1, &format!(in alloc; "{own}\n{own}\n")?)?,
-        kept: number,
-        is_journal: true,
-    })?;
-    if let Some(next) = next {
-        changes.push(Change {
-            name: format!(in alloc; "swap {number}")?,
-            text: replaced(
-                alloc,
-                lines,
-                line,
-                2,
-                &format!(in alloc; "{next}\n{own}\n")?,
-            )?,
-            kept: line,
-            is_journal: true,
+impl Changing<'_> {
+    // Adds a change: it has new lines in the place of `count`, and the first so many in common with the journal.
+    fn push(
+        &mut self,
+        name: String,
+        count: usize,
+        new: &[&str],
+        kept: usize,
+        is_journal: bool,
+    ) -> Result<(), AllocError> {
+        let text = replaced(self.alloc, self.lines, self.line, count, new)?;
+        self.found.push(Change {
+            name,
+            text,
+            kept,
+            is_journal,
         })?;
+        Ok(())
     }
-    Ok(())
+
+    // Adds the change of a word to another.
+    fn push_word(
+        &mut self,
+        words: &[&str],
+        at: usize,
+        new: &str,
+        is_journal: bool,
+    ) -> Result<(), AllocError> {
+        let number = self.line.saturating_add(1);
+        let changed = with_word(self.alloc, words, at, new)?;
+        let name = format!(in self.alloc; "{number}: {changed}")?;
+        self.push(name, 1, &[changed.as_str()], self.line, is_journal)
+    }
+
+    // Adds the changes of a number to one less and to one more.
+    fn push_number(&mut self, words: &[&str], at: usize, n: u64) -> Result<(), AllocError> {
+        let less = less(self.alloc, n)?;
+        self.push_word(words, at, &less, n > 0)?;
+        let more = format!(in self.alloc; "{}", n.saturating_add(1))?;
+        self.push_word(words, at, &more, true)
+    }
+
+    // Adds the changes of a word to each other one of its kind.
+    fn push_others(
+        &mut self,
+        words: &[&str],
+        at: usize,
+        groups: &[&[&str]],
+        word: &str,
+    ) -> Result<(), AllocError> {
+        for group in groups {
+            let is_journal = has(group, word);
+            for new in *group {
+                if *new != word {
+                    self.push_word(words, at, new, is_journal)?;
+                }
+            }
+        }
+        Ok(())
+    }
+
+    // Adds each change of one word of the line: a number is one less or one more, another word is each other one of its kind.
+    fn push_words(&mut self, words: &[&str]) -> Result<(), AllocError> {
+        for (at, word) in words.iter().enumerate() {
+            if let Ok(n) = word.parse::<u64>() {
+                self.push_number(words, at, n)?;
+            }
+            for groups in KINDS {
+                if is_of(groups, word) {
+                    self.push_others(words, at, groups, word)?;
+                }
+            }
+        }
+        Ok(())
+    }
+
+    // Adds the changes of the whole line: it is dropped, doubled, and changes places with the next.
+    fn push_line(&mut self, own: &str, next: Option<&str>) -> Result<(), AllocError> {
+        let number = self.line.saturating_add(1);
+        let name = format!(in self.alloc; "drop {number}")?;
+        self.push(name, 1, &[], self.line, true)?;
+        let name = format!(in self.alloc; "double {number}")?;
+        self.push(name, 1, &[own, own], number, true)?;
+        if let Some(next) = next {
+            let name = format!(in self.alloc; "swap {number}")?;
+            self.push(name, 2, &[next, own], self.line, true)?;
+        }
+        Ok(())
+    }
 }
 
 /// All changes of one line of a journal.
 pub(crate) fn changes(alloc: Global, lines: &[&str]) -> Result<Vec<Change>, AllocError> {
-    let mut changes = Vec::new(alloc);
-    let mut line: usize = 0;
+    let mut changes = Changing {
+        alloc,
+        lines,
+        line: 0,
+        found: Vec::new(alloc),
+    };
     for own in lines {
-        let next = lines.get(line.saturating_add(1)).copied();
-        push_line(alloc, &mut changes, lines, line, own, next)?;
-        push_words(alloc, &mut changes, lines, line, &parts(alloc, own, " ")?)?;
-        line = line.saturating_add(1);
+        let next = lines.get(changes.line.saturating_add(1)).copied();
+        changes.push_line(own, next)?;
+        let words = parts(alloc, own, " ")?;
+        changes.push_words(&words)?;
+        changes.line = changes.line.saturating_add(1);
     }
-    Ok(changes)
+    Ok(changes.found)
 }

@@ -3,7 +3,7 @@
 ghost use Rattle.std.specs.Prelude.{◌≡◌, ◌<◌, ◌≤◌, length};
 
 use abt_check::{Verdict, check};
-use abt_machine::{OrderShape, Workload};
+use abt_machine::{OrderShape, Want, Workload};
 use abt_order::StoredOrder;
 use abt_report::read_journal;
 use abt_workload::read;
@@ -13,16 +13,21 @@ use std::test::Fail;
 
 const RUN: Verdict = Verdict::Run;
 
-// A workload, the lines of a run of it, and other journals: how many of these lines each begins with, the lines that follow, and
-// what the journal is judged to be.
+// How many lines of a run a journal begins with, the lines that follow, and what the journal is judged to be.
+type Other = (usize, &'static str, Verdict);
+
+// A workload, the lines of a run of it, and other journals.
 struct Case {
     workload: &'static str,
     run: &'static str,
-    others: &'static [(usize, &'static str, Verdict)],
+    others: &'static [Other],
 }
 
-const HI: &str =
+pub(crate) const HI: &str =
     "abt 1\nstreams 1\npool 0 fifo mpmc\nsched 0 prio 0\nstream 0 main 0\nunits 1\nunit 0 ult at 0\nsay hi\nend\n";
+
+pub(crate) const HI_RUN: &str =
+    "1 0 take 0 0, 2 0 look 0, 3 0 step 0 0 ok, 4 0 end 0 done, 5 0 miss 0";
 
 const DEQUE: &str =
     "abt 1\nstreams 1\npool 0 deque mpmc\nsched 0 prio 0\nstream 0 main 0\nunits 2\nunit 0 ult at 0\nunit 1 ult at 0\nend\n";
@@ -30,8 +35,11 @@ const DEQUE: &str =
 const BASIC: &str =
     "abt 1\nstreams 1\npool 0 fifo mpmc\npool 1 fifo priv of 0\nsched 0 basic 0 1\nstream 0 main 0\nunits 2\nunit 0 ult at 0\nunit 1 ult at 1\nend\n";
 
-const STACKED: &str =
+pub(crate) const STACKED: &str =
     "abt 1\nstreams 1\npool 0 fifo mpmc\npool 1 fifo mpmc\nsched 0 prio 0\nsched 1 prio 1\nstream 0 main 0\nunits 4\nunit 0 sched 1 at 0\nunit 1 ult at 1\nsay in\nunit 2 ult at 0\njoin 0\ncreate 3 1\nrevive 0 0\nunit 3 ult later\nsay again\nend\n";
+
+pub(crate) const STACKED_RUN: &str =
+    "1 0 take 0 0, 2 0 look 0, 3 0 enter 0, 4 0 take 1 1, 5 0 look 1, 6 0 step 1 0 ok, 7 0 end 1 done, 8 0 miss 1, 9 0 leave 0, 10 0 end 0 done, 11 0 take 0 2, 12 0 look 2, 13 0 step 2 0 ok, 14 0 step 2 1 ok, 15 0 put 3 1, 16 0 step 2 2 ok, 17 0 put 0 0, 18 0 end 2 done, 19 0 take 0 0, 20 0 look 0, 21 0 enter 0, 22 0 take 1 3, 23 0 look 3, 24 0 step 3 0 ok, 25 0 end 3 done, 26 0 miss 1, 27 0 leave 0, 28 0 end 0 done, 29 0 miss 0";
 
 const MUTEX: &str =
     "abt 1\nstreams 1\npool 0 fifo mpmc\nsched 0 prio 0\nstream 0 main 0\nobject 0 mutex\nunits 1\nunit 0 ult at 0\ntrylock 0\ntrylock 0\nend\n";
@@ -42,22 +50,34 @@ const TWO_STREAMS: &str =
 const THREE_POOLS: &str =
     "abt 1\nstreams 1\npool 0 fifo mpmc\npool 1 fifo mpmc\npool 2 fifo mpmc\nsched 0 user 0 0 1 2\nstream 0 main 0\nunits 0\nend\n";
 
-const EXIT: &str =
+pub(crate) const EXIT: &str =
     "abt 1\nstreams 1\npool 0 fifo mpmc\nsched 0 prio 0\nstream 0 main 0\nunits 2\nunit 0 ult at 0\nsay a\nexit\nsay b\nunit 1 ult at 0\nsay c\nend\n";
 
-const WRITE_THEN_READ: &str =
+pub(crate) const EXIT_RUN: &str =
+    "1 0 take 0 0, 2 0 look 0, 3 0 step 0 0 ok, 4 0 step 0 1 ok, 5 0 end 0 own, 6 0 take 0 1, 7 0 look 1, 8 0 step 1 0 ok, 9 0 end 1 done, 10 0 miss 0";
+
+pub(crate) const WRITE_THEN_READ: &str =
     "abt 1\nstreams 1\npool 0 fifo mpmc\nsched 0 basic 0\nstream 0 main 0\nobject 0 rwlock\nunits 3\nunit 0 ult at 0\nwrlock 0\nset 5\nrwstore 0\nyield\nrwunlock 0\nunit 1 ult at 0\nrdlock 0\nrwload 0\nprint\nrwunlock 0\nunit 2 ult at 0\nrdlock 0\nrwload 0\nprint\nrwunlock 0\nend\n";
 
-const RW_REFUSALS: &str =
+pub(crate) const WRITE_THEN_READ_RUN: &str =
+    "1 0 take 0 0, 2 0 look 0, 3 0 step 0 0 ok, 4 0 step 0 1 ok, 5 0 step 0 2 ok, 6 0 step 0 3 ok, 7 0 put 0 0, 8 0 take 0 1, 9 0 look 1, 10 0 step 1 0 ok, 11 0 take 0 2, 12 0 look 2, 13 0 step 2 0 ok, 14 0 take 0 0, 15 0 look 0, 16 0 step 0 4 ok, 17 0 put 1 0, 18 0 put 2 0, 19 0 end 0 done, 20 0 take 0 1, 21 0 look 1, 22 0 step 1 1 ok, 23 0 step 1 2 ok, 24 0 step 1 3 ok, 25 0 end 1 done, 26 0 take 0 2, 27 0 look 2, 28 0 step 2 1 ok, 29 0 step 2 2 ok, 30 0 step 2 3 ok, 31 0 end 2 done, 32 0 miss 0";
+
+pub(crate) const RW_REFUSALS: &str =
     "abt 1\nstreams 1\npool 0 fifo mpmc\nsched 0 basic 0\nstream 0 main 0\nobject 0 rwlock\nunits 1\nunit 0 ult at 0\nrdlock 0\nrdlock 0\nwrlock 0\nrwstore 0\nrwunlock 0\nrwunlock 0\nrwunlock 0\nend\n";
 
-const RW_WAITERS: &str =
+pub(crate) const RW_REFUSALS_RUN: &str =
+    "1 0 take 0 0, 2 0 look 0, 3 0 step 0 0 ok, 4 0 step 0 1 ok, 5 0 step 0 2 rw-held, 6 0 step 0 3 not-holder, 7 0 step 0 4 ok, 8 0 step 0 5 ok, 9 0 step 0 6 not-holder, 10 0 end 0 done, 11 0 miss 0";
+
+pub(crate) const RW_WAITERS: &str =
     "abt 1\nstreams 1\npool 0 fifo mpmc\nsched 0 basic 0\nstream 0 main 0\nobject 0 rwlock\nunits 5\nunit 0 ult at 0\nwrlock 0\nyield\nrwunlock 0\nunit 1 ult at 0\nrdlock 0\nrdlock 0\nrwunlock 0\nrwunlock 0\nunit 2 ult at 0\nwrlock 0\nrwunlock 0\nunit 3 ult at 0\nrdlock 0\nrwunlock 0\nunit 4 ult at 0\nyield\nrdlock 0\nrwunlock 0\nend\n";
+
+pub(crate) const RW_WAITERS_RUN: &str =
+    "1 0 take 0 0, 2 0 look 0, 3 0 step 0 0 ok, 4 0 step 0 1 ok, 5 0 put 0 0, 6 0 take 0 1, 7 0 look 1, 8 0 step 1 0 ok, 9 0 take 0 2, 10 0 look 2, 11 0 step 2 0 ok, 12 0 take 0 3, 13 0 look 3, 14 0 step 3 0 ok, 15 0 take 0 4, 16 0 look 4, 17 0 step 4 0 ok, 18 0 put 4 0, 19 0 take 0 0, 20 0 look 0, 21 0 step 0 2 ok, 22 0 put 1 0, 23 0 end 0 done, 24 0 take 0 4, 25 0 look 4, 26 0 step 4 1 ok, 27 0 take 0 1, 28 0 look 1, 29 0 step 1 1 ok, 30 0 step 1 2 ok, 31 0 step 1 3 ok, 32 0 put 2 0, 33 0 end 1 done, 34 0 take 0 2, 35 0 look 2, 36 0 step 2 1 ok, 37 0 put 3 0, 38 0 put 4 0, 39 0 end 2 done, 40 0 take 0 3, 41 0 look 3, 42 0 step 3 1 ok, 43 0 end 3 done, 44 0 take 0 4, 45 0 look 4, 46 0 step 4 2 ok, 47 0 end 4 done, 48 0 miss 0";
 
 static CASES: [Case; 11] = [
     Case {
         workload: HI,
-        run: "1 0 take 0 0, 2 0 look 0, 3 0 step 0 0 ok, 4 0 end 0 done, 5 0 miss 0",
+        run: HI_RUN,
         others: &[
             (3, "", RUN),
             (0, "", RUN),
@@ -79,7 +99,7 @@ static CASES: [Case; 11] = [
     },
     Case {
         workload: STACKED,
-        run: "1 0 take 0 0, 2 0 look 0, 3 0 enter 0, 4 0 take 1 1, 5 0 look 1, 6 0 step 1 0 ok, 7 0 end 1 done, 8 0 miss 1, 9 0 leave 0, 10 0 end 0 done, 11 0 take 0 2, 12 0 look 2, 13 0 step 2 0 ok, 14 0 step 2 1 ok, 15 0 put 3 1, 16 0 step 2 2 ok, 17 0 put 0 0, 18 0 end 2 done, 19 0 take 0 0, 20 0 look 0, 21 0 enter 0, 22 0 take 1 3, 23 0 look 3, 24 0 step 3 0 ok, 25 0 end 3 done, 26 0 miss 1, 27 0 leave 0, 28 0 end 0 done, 29 0 miss 0",
+        run: STACKED_RUN,
         others: &[],
     },
     Case {
@@ -105,7 +125,7 @@ static CASES: [Case; 11] = [
     },
     Case {
         workload: EXIT,
-        run: "1 0 take 0 0, 2 0 look 0, 3 0 step 0 0 ok, 4 0 step 0 1 ok, 5 0 end 0 own, 6 0 take 0 1, 7 0 look 1, 8 0 step 1 0 ok, 9 0 end 1 done, 10 0 miss 0",
+        run: EXIT_RUN,
         others: &[
             (4, "5 0 end 0 done", Verdict::Bad { at: 4 }),
             (4, "5 0 step 0 2 ok", Verdict::Bad { at: 4 }),
@@ -115,7 +135,7 @@ static CASES: [Case; 11] = [
     },
     Case {
         workload: WRITE_THEN_READ,
-        run: "1 0 take 0 0, 2 0 look 0, 3 0 step 0 0 ok, 4 0 step 0 1 ok, 5 0 step 0 2 ok, 6 0 step 0 3 ok, 7 0 put 0 0, 8 0 take 0 1, 9 0 look 1, 10 0 step 1 0 ok, 11 0 take 0 2, 12 0 look 2, 13 0 step 2 0 ok, 14 0 take 0 0, 15 0 look 0, 16 0 step 0 4 ok, 17 0 put 1 0, 18 0 put 2 0, 19 0 end 0 done, 20 0 take 0 1, 21 0 look 1, 22 0 step 1 1 ok, 23 0 step 1 2 ok, 24 0 step 1 3 ok, 25 0 end 1 done, 26 0 take 0 2, 27 0 look 2, 28 0 step 2 1 ok, 29 0 step 2 2 ok, 30 0 step 2 3 ok, 31 0 end 2 done, 32 0 miss 0",
+        run: WRITE_THEN_READ_RUN,
         others: &[
             (10, "11 0 step 1 1 ok", Verdict::Bad { at: 10 }),
             (16, "17 0 end 0 done", Verdict::Bad { at: 16 }),
@@ -124,7 +144,7 @@ static CASES: [Case; 11] = [
     },
     Case {
         workload: RW_REFUSALS,
-        run: "1 0 take 0 0, 2 0 look 0, 3 0 step 0 0 ok, 4 0 step 0 1 ok, 5 0 step 0 2 rw-held, 6 0 step 0 3 not-holder, 7 0 step 0 4 ok, 8 0 step 0 5 ok, 9 0 step 0 6 not-holder, 10 0 end 0 done, 11 0 miss 0",
+        run: RW_REFUSALS_RUN,
         others: &[
             (5, "6 0 step 0 3 ok", Verdict::Bad { at: 5 }),
             (4, "5 0 step 0 2 ok", Verdict::Bad { at: 4 }),
@@ -133,7 +153,7 @@ static CASES: [Case; 11] = [
     },
     Case {
         workload: RW_WAITERS,
-        run: "1 0 take 0 0, 2 0 look 0, 3 0 step 0 0 ok, 4 0 step 0 1 ok, 5 0 put 0 0, 6 0 take 0 1, 7 0 look 1, 8 0 step 1 0 ok, 9 0 take 0 2, 10 0 look 2, 11 0 step 2 0 ok, 12 0 take 0 3, 13 0 look 3, 14 0 step 3 0 ok, 15 0 take 0 4, 16 0 look 4, 17 0 step 4 0 ok, 18 0 put 4 0, 19 0 take 0 0, 20 0 look 0, 21 0 step 0 2 ok, 22 0 put 1 0, 23 0 end 0 done, 24 0 take 0 4, 25 0 look 4, 26 0 step 4 1 ok, 27 0 take 0 1, 28 0 look 1, 29 0 step 1 1 ok, 30 0 step 1 2 ok, 31 0 step 1 3 ok, 32 0 put 2 0, 33 0 end 1 done, 34 0 take 0 2, 35 0 look 2, 36 0 step 2 1 ok, 37 0 put 3 0, 38 0 put 4 0, 39 0 end 2 done, 40 0 take 0 3, 41 0 look 3, 42 0 step 3 1 ok, 43 0 end 3 done, 44 0 take 0 4, 45 0 look 4, 46 0 step 4 2 ok, 47 0 end 4 done, 48 0 miss 0",
+        run: RW_WAITERS_RUN,
         others: &[
             (22, "23 0 put 3 0", Verdict::Bad { at: 22 }),
             (26, "27 0 step 4 2 ok", Verdict::Bad { at: 26 }),
@@ -163,38 +183,70 @@ pub(crate) fn first(_round: u64, n: u32, _i: u32) -> u32
 fn text_of(alloc: Global, run: &str, kept: usize, rest: &str) -> Result<String, AllocError> {
     let mut text = String::new(alloc);
     for line in run.split(", ").take(kept) {
-        text.push_str(line)?;
-        text.push_str("\n")?;
+        writeln!(text, "{line}")?;
     }
     for line in rest.split(", ") {
         if !line.is_empty() {
-            text.push_str(line)?;
-            text.push_str("\n")?;
+            writeln!(text, "{line}")?;
         }
     }
     Ok(text)
 }
 
-// The journal of a text is judged to be this.
-fn is_judged(
+// What a text is judged to be, if it is a journal's.
+pub(crate) fn verdict(
     rt: &impl Abort,
     alloc: Global,
     w: &Workload,
     orders: &[StoredOrder],
     text: &str,
-    wanted: Verdict,
-) -> Result<(), Fail>
+) -> Result<Option<Verdict>, Want>
     requires { 2 ≤ length orders.now }
 {
     assert!(rt; text.len() < 10_000);
-    let journal = read_journal(alloc, text.as_bytes())?;
-    let verdict = check(alloc, w, orders, &journal)?;
-    assert!(rt; verdict == wanted, "{text}");
+    let Ok(journal) = read_journal(alloc, text.as_bytes()) else {
+        return Ok(None);
+    };
+    Ok(Some(check(alloc, w, orders, &journal)?))
+}
+
+// Whether a journal that begins as a run does is judged as it is said.
+fn is_judged(
+    rt: &impl Abort,
+    alloc: Global,
+    w: &Workload,
+    orders: &[StoredOrder],
+    run: &str,
+    other: Other,
+) -> Result<bool, Want>
+    requires { 2 ≤ length orders.now }
+{
+    let (kept, rest, wanted) = other;
+    let text = text_of(alloc, run, kept, rest)?;
+    Ok(verdict(rt, alloc, w, orders, &text)? == Some(wanted))
+}
+
+// The run and the other journals of a case are judged as it says.
+fn check_case(
+    rt: &impl Abort,
+    alloc: Global,
+    w: &Workload,
+    orders: &[StoredOrder],
+    case: &Case,
+) -> Result<(), Want>
+    requires { 2 ≤ length orders.now }
+{
+    let is = is_judged(rt, alloc, w, orders, case.run, (usize::MAX, "", RUN))?;
+    assert!(rt; is, "{}", case.run);
+    for other in case.others {
+        let is = is_judged(rt, alloc, w, orders, case.run, *other)?;
+        assert!(rt; is, "{} of {}", other.1, case.run);
+    }
     Ok(())
 }
 
-// The run and the other journals of each case are judged as it says.
-fn are_judged(
+// So it is of all cases.
+fn check_cases(
     rt: &impl Abort,
     alloc: Global,
     orders: &[StoredOrder],
@@ -204,21 +256,15 @@ fn are_judged(
 {
     for case in cases {
         let w = read(alloc, case.workload.as_bytes())?;
-        let run = text_of(alloc, case.run, usize::MAX, "")?;
-        is_judged(rt, alloc, &w, orders, &run, RUN)?;
-        for (kept, rest, wanted) in case.others {
-            let text = text_of(alloc, case.run, *kept, rest)?;
-            is_judged(rt, alloc, &w, orders, &text, *wanted)?;
-        }
+        check_case(rt, alloc, &w, orders, case)?;
     }
     Ok(())
 }
 
 #[test]
 fn journals_are_judged(rt: HostRuntime) -> Result<(), Fail> {
-    let alloc = rt.alloc();
     let orders = [StoredOrder::rotating(), StoredOrder::mirroring()];
-    are_judged(&rt, alloc, &orders, &CASES)
+    check_cases(&rt, rt.alloc(), &orders, &CASES)
 }
 
 #[test]
@@ -228,5 +274,5 @@ fn free_orders_are_not_called(rt: HostRuntime) -> Result<(), Fail> {
         StoredOrder::new(OrderShape::Free, Box::new(alloc, first)?),
         StoredOrder::new(OrderShape::Free, Box::new(alloc, first)?),
     ];
-    are_judged(&rt, alloc, &orders, &FREE_CASES)
+    check_cases(&rt, alloc, &orders, &FREE_CASES)
 }

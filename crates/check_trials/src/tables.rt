@@ -2,12 +2,14 @@
 
 ghost use Rattle.std.specs.Prelude.{◌≤◌, length};
 
-use crate::changes::{Change, changes, has, parts};
-use crate::checks::first;
-use abt_check::{Verdict, check};
-use abt_machine::{OrderShape, Workload};
+use crate::changes::{Change, changes, parts};
+use crate::checks::{
+    EXIT, EXIT_RUN, HI, HI_RUN, RW_REFUSALS, RW_REFUSALS_RUN, RW_WAITERS, RW_WAITERS_RUN, STACKED,
+    STACKED_RUN, WRITE_THEN_READ, WRITE_THEN_READ_RUN, first, verdict,
+};
+use abt_check::Verdict;
+use abt_machine::{OrderShape, Want, Workload};
 use abt_order::StoredOrder;
-use abt_report::read_journal;
 use abt_workload::read;
 use std::alloc::Global;
 use std::process::Abort;
@@ -32,8 +34,8 @@ struct Case {
 static CASES: [Case; 11] = [
     // A unit says a word.
     Case {
-        workload: "abt 1\nstreams 1\npool 0 fifo mpmc\nsched 0 prio 0\nstream 0 main 0\nunits 1\nunit 0 ult at 0\nsay hi\nend\n",
-        lines: "1 0 take 0 0, 2 0 look 0, 3 0 step 0 0 ok, 4 0 end 0 done, 5 0 miss 0",
+        workload: HI,
+        lines: HI_RUN,
         count: 98,
         runs: "drop 5",
         next: "",
@@ -41,8 +43,8 @@ static CASES: [Case; 11] = [
     },
     // A unit ends itself, and another by its steps.
     Case {
-        workload: "abt 1\nstreams 1\npool 0 fifo mpmc\nsched 0 prio 0\nstream 0 main 0\nunits 2\nunit 0 ult at 0\nsay a\nexit\nsay b\nunit 1 ult at 0\nsay c\nend\n",
-        lines: "1 0 take 0 0, 2 0 look 0, 3 0 step 0 0 ok, 4 0 step 0 1 ok, 5 0 end 0 own, 6 0 take 0 1, 7 0 look 1, 8 0 step 1 0 ok, 9 0 end 1 done, 10 0 miss 0",
+        workload: EXIT,
+        lines: EXIT_RUN,
         count: 211,
         runs: "drop 10",
         next: "",
@@ -122,8 +124,8 @@ static CASES: [Case; 11] = [
     },
     // A stacked scheduler, and its second life.
     Case {
-        workload: "abt 1\nstreams 1\npool 0 fifo mpmc\npool 1 fifo mpmc\nsched 0 prio 0\nsched 1 prio 1\nstream 0 main 0\nunits 4\nunit 0 sched 1 at 0\nunit 1 ult at 1\nsay in\nunit 2 ult at 0\njoin 0\ncreate 3 1\nrevive 0 0\nunit 3 ult later\nsay again\nend\n",
-        lines: "1 0 take 0 0, 2 0 look 0, 3 0 enter 0, 4 0 take 1 1, 5 0 look 1, 6 0 step 1 0 ok, 7 0 end 1 done, 8 0 miss 1, 9 0 leave 0, 10 0 end 0 done, 11 0 take 0 2, 12 0 look 2, 13 0 step 2 0 ok, 14 0 step 2 1 ok, 15 0 put 3 1, 16 0 step 2 2 ok, 17 0 put 0 0, 18 0 end 2 done, 19 0 take 0 0, 20 0 look 0, 21 0 enter 0, 22 0 take 1 3, 23 0 look 3, 24 0 step 3 0 ok, 25 0 end 3 done, 26 0 miss 1, 27 0 leave 0, 28 0 end 0 done, 29 0 miss 0",
+        workload: STACKED,
+        lines: STACKED_RUN,
         count: 562,
         runs: "drop 29",
         next: "",
@@ -134,8 +136,8 @@ static CASES: [Case; 11] = [
 static LOCK_CASES: [Case; 3] = [
     // A unit writes, and two read.
     Case {
-        workload: "abt 1\nstreams 1\npool 0 fifo mpmc\nsched 0 basic 0\nstream 0 main 0\nobject 0 rwlock\nunits 3\nunit 0 ult at 0\nwrlock 0\nset 5\nrwstore 0\nyield\nrwunlock 0\nunit 1 ult at 0\nrdlock 0\nrwload 0\nprint\nrwunlock 0\nunit 2 ult at 0\nrdlock 0\nrwload 0\nprint\nrwunlock 0\nend\n",
-        lines: "1 0 take 0 0, 2 0 look 0, 3 0 step 0 0 ok, 4 0 step 0 1 ok, 5 0 step 0 2 ok, 6 0 step 0 3 ok, 7 0 put 0 0, 8 0 take 0 1, 9 0 look 1, 10 0 step 1 0 ok, 11 0 take 0 2, 12 0 look 2, 13 0 step 2 0 ok, 14 0 take 0 0, 15 0 look 0, 16 0 step 0 4 ok, 17 0 put 1 0, 18 0 put 2 0, 19 0 end 0 done, 20 0 take 0 1, 21 0 look 1, 22 0 step 1 1 ok, 23 0 step 1 2 ok, 24 0 step 1 3 ok, 25 0 end 1 done, 26 0 take 0 2, 27 0 look 2, 28 0 step 2 1 ok, 29 0 step 2 2 ok, 30 0 step 2 3 ok, 31 0 end 2 done, 32 0 miss 0",
+        workload: WRITE_THEN_READ,
+        lines: WRITE_THEN_READ_RUN,
         count: 720,
         runs: "drop 32",
         next: "",
@@ -143,8 +145,8 @@ static LOCK_CASES: [Case; 3] = [
     },
     // Refusals of a reader-writer lock.
     Case {
-        workload: "abt 1\nstreams 1\npool 0 fifo mpmc\nsched 0 basic 0\nstream 0 main 0\nobject 0 rwlock\nunits 1\nunit 0 ult at 0\nrdlock 0\nrdlock 0\nwrlock 0\nrwstore 0\nrwunlock 0\nrwunlock 0\nrwunlock 0\nend\n",
-        lines: "1 0 take 0 0, 2 0 look 0, 3 0 step 0 0 ok, 4 0 step 0 1 ok, 5 0 step 0 2 rw-held, 6 0 step 0 3 not-holder, 7 0 step 0 4 ok, 8 0 step 0 5 ok, 9 0 step 0 6 not-holder, 10 0 end 0 done, 11 0 miss 0",
+        workload: RW_REFUSALS,
+        lines: RW_REFUSALS_RUN,
         count: 278,
         runs: "drop 11",
         next: "",
@@ -152,8 +154,8 @@ static LOCK_CASES: [Case; 3] = [
     },
     // A writer waits between readers.
     Case {
-        workload: "abt 1\nstreams 1\npool 0 fifo mpmc\nsched 0 basic 0\nstream 0 main 0\nobject 0 rwlock\nunits 5\nunit 0 ult at 0\nwrlock 0\nyield\nrwunlock 0\nunit 1 ult at 0\nrdlock 0\nrdlock 0\nrwunlock 0\nrwunlock 0\nunit 2 ult at 0\nwrlock 0\nrwunlock 0\nunit 3 ult at 0\nrdlock 0\nrwunlock 0\nunit 4 ult at 0\nyield\nrdlock 0\nrwunlock 0\nend\n",
-        lines: "1 0 take 0 0, 2 0 look 0, 3 0 step 0 0 ok, 4 0 step 0 1 ok, 5 0 put 0 0, 6 0 take 0 1, 7 0 look 1, 8 0 step 1 0 ok, 9 0 take 0 2, 10 0 look 2, 11 0 step 2 0 ok, 12 0 take 0 3, 13 0 look 3, 14 0 step 3 0 ok, 15 0 take 0 4, 16 0 look 4, 17 0 step 4 0 ok, 18 0 put 4 0, 19 0 take 0 0, 20 0 look 0, 21 0 step 0 2 ok, 22 0 put 1 0, 23 0 end 0 done, 24 0 take 0 4, 25 0 look 4, 26 0 step 4 1 ok, 27 0 take 0 1, 28 0 look 1, 29 0 step 1 1 ok, 30 0 step 1 2 ok, 31 0 step 1 3 ok, 32 0 put 2 0, 33 0 end 1 done, 34 0 take 0 2, 35 0 look 2, 36 0 step 2 1 ok, 37 0 put 3 0, 38 0 put 4 0, 39 0 end 2 done, 40 0 take 0 3, 41 0 look 3, 42 0 step 3 1 ok, 43 0 end 3 done, 44 0 take 0 4, 45 0 look 4, 46 0 step 4 2 ok, 47 0 end 4 done, 48 0 miss 0",
+        workload: RW_WAITERS,
+        lines: RW_WAITERS_RUN,
         count: 1012,
         runs: "drop 48",
         next: "",
@@ -183,82 +185,83 @@ fn later_in(later: &[(&str, u64)], name: &str) -> Option<u64> {
     None
 }
 
-// What the table says of the change.
-fn wanted(alloc: Global, case: &Case, change: &Change) -> Result<Verdict, Fail> {
+// Whether a list has this name.
+fn names(list: &str, name: &str) -> bool {
+    for other in list.split(", ") {
+        if other == name {
+            return true;
+        }
+    }
+    false
+}
+
+// What the table says of the change, if its text is a journal's.
+fn wanted(case: &Case, change: &Change) -> Option<Verdict> {
     let name = change.name.as_str();
     let kept = change.kept as u64;
-    if has(&parts(alloc, case.runs, ", ")?, name) {
-        return Ok(Verdict::Run);
+    if !change.is_journal {
+        return None;
     }
-    if has(&parts(alloc, case.next, ", ")?, name) {
-        return Ok(Verdict::Bad {
+    if names(case.runs, name) {
+        return Some(Verdict::Run);
+    }
+    if names(case.next, name) {
+        return Some(Verdict::Bad {
             at: kept.saturating_add(1),
         });
     }
-    Ok(Verdict::Bad {
+    Some(Verdict::Bad {
         at: later_in(case.later, name).unwrap_or(kept),
     })
 }
 
-// The changed journal is judged as the table says; a text that is no journal is not read.
-fn is_judged(
+// Each change is judged as the table says.
+fn check_changes(
     rt: &impl Abort,
     alloc: Global,
     w: &Workload,
     orders: &[StoredOrder],
     case: &Case,
-    change: &Change,
-) -> Result<(), Fail>
+    changes: &[Change],
+) -> Result<(), Want>
     requires { 2 ≤ length orders.now }
 {
-    let text = change.text.as_bytes();
-    assert!(rt; text.len() < 10_000);
-    let Ok(journal) = read_journal(alloc, text) else {
-        assert!(rt; !change.is_journal, "{}", change.name);
-        return Ok(());
-    };
-    assert!(rt; change.is_journal, "{}", change.name);
-    let verdict = check(alloc, w, orders, &journal)?;
-    assert!(rt; verdict == wanted(alloc, case, change)?, "{}", change.name);
+    assert!(rt; changes.len() == case.count);
+    for change in changes {
+        let verdict = verdict(rt, alloc, w, orders, &change.text)?;
+        assert!(rt; verdict == wanted(case, change), "{}", change.name);
+    }
     Ok(())
 }
 
-// Each change of the case is judged as the table says.
-fn are_judged(
+// So it is of all cases.
+fn check_cases(
     rt: &impl Abort,
     alloc: Global,
     orders: &[StoredOrder],
-    case: &Case,
+    cases: &[Case],
 ) -> Result<(), Fail>
     requires { 2 ≤ length orders.now }
 {
-    let w = read(alloc, case.workload.as_bytes())?;
-    let changes = changes(alloc, &parts(alloc, case.lines, ", ")?)?;
-    assert_eq!(rt; changes.len(), case.count);
-    for change in &changes {
-        is_judged(rt, alloc, &w, orders, case, change)?;
+    for case in cases {
+        let w = read(alloc, case.workload.as_bytes())?;
+        let lines = parts(alloc, case.lines, ", ")?;
+        let changes = changes(alloc, &lines)?;
+        check_changes(rt, alloc, &w, orders, case, &changes)?;
     }
     Ok(())
 }
 
 #[test]
 fn changed_journals_are_judged(rt: HostRuntime) -> Result<(), Fail> {
-    let alloc = rt.alloc();
     let orders = [StoredOrder::rotating(), StoredOrder::mirroring()];
-    for case in &CASES {
-        are_judged(&rt, alloc, &orders, case)?;
-    }
-    Ok(())
+    check_cases(&rt, rt.alloc(), &orders, &CASES)
 }
 
 #[test]
 fn changed_journals_of_locks_are_judged(rt: HostRuntime) -> Result<(), Fail> {
-    let alloc = rt.alloc();
     let orders = [StoredOrder::rotating(), StoredOrder::mirroring()];
-    for case in &LOCK_CASES {
-        are_judged(&rt, alloc, &orders, case)?;
-    }
-    Ok(())
+    check_cases(&rt, rt.alloc(), &orders, &LOCK_CASES)
 }
 
 #[test]
@@ -268,8 +271,5 @@ fn changed_journals_of_free_orders_are_judged(rt: HostRuntime) -> Result<(), Fai
         StoredOrder::new(OrderShape::Free, Box::new(alloc, first)?),
         StoredOrder::new(OrderShape::Free, Box::new(alloc, first)?),
     ];
-    for case in &FREE_CASES {
-        are_judged(&rt, alloc, &orders, case)?;
-    }
-    Ok(())
+    check_cases(&rt, alloc, &orders, &FREE_CASES)
 }
