@@ -4,7 +4,7 @@ ghost use Rattle.std.specs.Prelude.{◌≡◌, ◌≤◌, ℕ, IfOk, MatchOption
 ghost use Rattle.abt_machine.specs.Spelling.{SaysNumber};
 ghost use Rattle.abt_callbacks.specs.declared.fold.FoldShape.TheVariants as shape;
 ghost use Rattle.abt_callbacks.specs.Folding.{number_limit};
-ghost use Rattle.abt_callbacks.specs.Program.{Asks, AsksNothing, Holds, IsAnswered, sum_line};
+ghost use Rattle.abt_callbacks.specs.Program.{Asks, AsksNothing, IsAnswered, sum_line};
 
 use crate::fold::Fold;
 use crate::folding::fold_on_threads;
@@ -39,33 +39,15 @@ pub fn abtfold<R: Threads + Wait + Sync, K: Sink, F: Fold + Send + Drop>(
       faults = (K.faults out.old, K.faults out.new);
     }) }
 {
-    call(rt, alloc, words, out, fold).number()
-}
-
-// A call of the program, by its status.
-fn call<R: Threads + Wait + Sync, K: Sink, F: Fold + Send + Drop>(
-    rt: &R,
-    alloc: Global,
-    words: &[String],
-    out: &mut K,
-    fold: F,
-) -> Status
-    requires { F.shape fold ≡ shape.Sum }
-    ensures { Holds result (record {
-      words = map string_bytes words.now;
-      out = (K.taken out.old, K.taken out.new);
-      faults = (K.faults out.old, K.faults out.new);
-    }) }
-{
     let Some((workers, n)) = asked(words) else {
-        return Status::BadWords;
+        return Status::BadWords.number();
     };
     let Ok(line) = line(rt, alloc, workers, n, fold) else {
-        return Status::OutOfMemory;
+        return Status::OutOfMemory.number();
     };
     match write_whole(out, &line) {
-        Ok(()) => Status::Written,
-        Err(Failed) => Status::CannotWrite,
+        Ok(()) => Status::Written.number(),
+        Err(Failed) => Status::CannotWrite.number(),
     }
 }
 

@@ -3,7 +3,7 @@ use Rattle.std.proofs.Common.{◌≡◌, ◌<◌, ◌≤◌, ◌+◌, ℕ, List,
 use Rattle.std.specs.Prelude.{IfSome}
 use Rattle.abt_machine.specs.declared.workload.Parts.{Parts}
 use Rattle.abt_machine.specs.Words.{Text}
-use Rattle.abt_run.proofs.Texts.{of-long, of-whole}
+use Rattle.abt_shell.proofs.Fetched.{of-long, of-whole}
 use Rattle.abt_streams.specs.declared.life.Life.{Life}
 use Rattle.abt_streams.specs.declared.not_lives.NotLives.{NotLives}
 use Rattle.abt_streams.specs.declared.not_lives.NotLives.TheVariants as cause

@@ -1,10 +1,7 @@
--- What a call of the program was given, and what each status says of what it left.
-use Rattle.std.specs.Prelude.{◌≡◌, ◌≢◌, ◌≤◌, ◌⊎◌, ◌++◌, ℕ, List, [], Option, Some, IfSome}
+-- What each status says of what a call of the program left, and when it comes.
+use Rattle.std.specs.Prelude.{◌≡◌, ◌≢◌, ◌≤◌, ◌⊎◌, ◌++◌, ℕ, List, [], Some, IfSome, codes}
 use Rattle.abt_machine.specs.declared.events.Event.{Event}
 use Rattle.abt_machine.specs.declared.events.Outcome.{Outcome}
-use Rattle.abt_machine.specs.declared.events.Outcome.TheVariants as outcome
-use Rattle.abt_machine.specs.declared.numbers.StreamNo.{StreamNo}
-use Rattle.abt_machine.specs.declared.operations.OrderShape.{OrderShape}
 use Rattle.abt_machine.specs.declared.workload.Parts.{Parts}
 use Rattle.abt_machine.specs.Grammar.{Reads, Refuses}
 use Rattle.abt_machine.specs.Limits.{default_steps}
@@ -13,29 +10,21 @@ use Rattle.abt_machine.specs.Runs.{last_state}
 use Rattle.abt_machine.specs.Texts.{report_text}
 use Rattle.abt_machine.specs.Words.{Text}
 use Rattle.abt_bounds.specs.Laws.{HasNoRevive, ops_in}
-use Rattle.abt_run.specs.Call.{IsOfRun}
-use Rattle.abt_shell.specs.Told.{Gained, GainedPrefix, Grew, IsTold}
+use Rattle.abt_run.specs.Call.{Call, IsOfRun}
+use Rattle.abt_run.specs.Given.{Given, IsReadFrom}
+use Rattle.abt_shell.specs.declared.status.Stop.{Stop}
+use Rattle.abt_shell.specs.declared.status.Wrong.{Wrong}
+use Rattle.abt_shell.specs.declared.status.Wrong.TheVariants.{Workload, Journal, Lives}
+use Rattle.abt_shell.specs.Calls.{Program}
+use Rattle.abt_shell.specs.Calls as calls
+use Rattle.abt_shell.specs.Fetched.{StopsFor}
+use Rattle.abt_shell.specs.Status.{Status, number_of_outcome}
+use Rattle.abt_shell.specs.Told.{Grew}
 use Rattle.abt_streams.specs.declared.life.Life.{Life}
 use Rattle.abt_streams.specs.declared.wave.Wave.{Wave}
 use Rattle.abt_streams.specs.Waves.{HasRunOn}
 use Rattle.abt_lives.specs.Lives.{ReadsLives, RefusesLives, waves_text}
-use Rattle.abt_lives.specs.Status.{message_of, number_of}
 use Rattle.abt_lives.specs.Words.{Asks, AsksNothing}
-use Rattle.abt_lives.specs.declared.status.Status.{Status}
-use Rattle.abt_lives.specs.declared.status.Status.TheVariants.{Finished, Stuck, BadWords, Refused, BadLife, Budget, CannotRead, CannotWrite, OutOfMemory}
-
--- the words, the shapes of the stored orders, the bytes of each file if they are seen, and for reading, output and messages the
--- count of faults and the bytes taken, before and afterwards; then the journal that was answered
-pub record Call : Type 0 where
-  pub words : List Text
-  pub orders : List OrderShape
-  pub file : Text → Option Text
-  pub read_faults : ℕ × ℕ
-  pub out : Option Text × Option Text
-  pub out_faults : ℕ × ℕ
-  pub err : Option Text × Option Text
-  pub err_faults : ℕ × ℕ
-  pub journal : List Event
 
 -- What is known of the files.
 
@@ -46,16 +35,16 @@ pub record NamesFiles (words : List Text) : Type 0 where
   pub asks : Asks words workload lives
 
 -- the bytes of the first, if they are seen, are refused as a workload's text
-pub record NamesRefused (words : List Text) (file_of : Text → Option Text) (Is : Text → Type 0) : Type 0 where
-  pub named : NamesFiles words
-  pub refuses : IfSome (file_of named.workload) Is
+pub record NamesRefused (g : Given) (Is : Text → Type 0) : Type 0 where
+  pub named : NamesFiles g.words
+  pub refuses : IfSome (g.file named.workload) Is
 
 -- the bytes of the first, if they are seen, are the text of a workload, and those of the second are refused as its lives'
-pub record NamesBadLives (words : List Text) (file_of : Text → Option Text) (l : ℕ) : Type 0 where
-  pub named : NamesFiles words
+pub record NamesBadLives (g : Given) (l : ℕ) : Type 0 where
+  pub named : NamesFiles g.words
   pub workload : Parts
-  pub reads : IfSome (file_of named.workload) (λ bytes. Reads bytes workload)
-  pub refuses : IfSome (file_of named.lives) (λ bytes. RefusesLives workload bytes l)
+  pub reads : IsReadFrom g named.workload workload
+  pub refuses : IfSome (g.file named.lives) (λ bytes. RefusesLives workload bytes l)
 
 -- What runs.
 
@@ -64,91 +53,87 @@ abbrev pub output_text : Parts → List Event → List Wave → Outcome → Text
 output_text W J waves o = report_text W (last_state W J) (steps_in J) o ++ waves_text waves
 
 -- J is a run of W on the lives in a file, in these waves, and ended so; the file's bytes, if they are seen, are the lives' text
-pub record IsRunOn (W : Parts) (file : Text) (Z : List OrderShape) (file_of : Text → Option Text) (J : List Event) (o : Outcome) : Type 0 where
+pub record IsRunOn (W : Parts) (file : Text) (g : Given) (J : List Event) (o : Outcome) : Type 0 where
   pub lives : List Life
   pub waves : List Wave
-  pub reads : IfSome (file_of file) (λ bytes. ReadsLives W bytes lives)
-  pub run : HasRunOn W Z default_steps lives J waves o
+  pub reads : IfSome (g.file file) (λ bytes. ReadsLives W bytes lives)
+  pub run : HasRunOn W g.orders default_steps lives J waves o
 
--- the workload of the first file that the words name ran on the lives in the second
-pub record Ran (words : List Text) (Z : List OrderShape) (file_of : Text → Option Text) (J : List Event) (o : Outcome) : Type 0 where
-  pub named : NamesFiles words
+-- the workload of the first file that the words name ran on the lives in the second, J is the run and ended so, and the text is what the
+-- program prints of it
+pub record Ran (g : Given) (J : List Event) (o : Outcome) (text : Text) : Type 0 where
+  pub named : NamesFiles g.words
   pub workload : Parts
-  pub reads : IfSome (file_of named.workload) (λ bytes. Reads bytes workload)
-  pub run : IsRunOn workload named.lives Z file_of J o
+  pub reads : IsReadFrom g named.workload workload
+  pub run : IsRunOn workload named.lives g J o
+  pub output : text ≡ output_text workload J run.waves o
 
--- what the program prints of it
-abbrev pub printed_text : {words : List Text} {Z : List OrderShape} {file_of : Text → Option Text} {J : List Event} {o : Outcome} → Ran words Z file_of J o → Text
-printed_text {words} {Z} {file_of} {J} {o} ran = output_text ran.workload J ran.run.waves o
+-- Why a call stops before its first write.
+
+-- a line of a file that the words name has this wrong
+abbrev pub IsBadLine : Given → ℕ → Wrong → Type 0
+IsBadLine g line (Workload f) = NamesRefused g (λ bytes. Refuses bytes line f)
+IsBadLine g line Journal = ⊥
+IsBadLine g line Lives = NamesBadLives g line
+
+-- by the words, the files, and the count of faults of reading before and afterwards
+abbrev pub Stops : Given → ℕ × ℕ → Stop → Type 0
+Stops g = StopsFor (AsksNothing g.words) (NamesFiles g.words) (IsBadLine g)
 
 -- What each status says.
 
--- the workload ran and ended so, and its output was written
-pub record Wrote (c : Call) (o : Outcome) : Type 0 where
-  pub ran : Ran c.words c.orders c.file c.journal o
-  pub out : Gained c.out (printed_text ran)
-  pub err : Gained c.err []
-
--- the workload ran, and a prefix of its output was written, and the count of faults of the output rose
-pub record WrotePrefix (c : Call) : Type 0 where
-  pub outcome : Outcome
-  pub ran : Ran c.words c.orders c.file c.journal outcome
-  pub out : GainedPrefix c.out (printed_text ran)
-  pub faults : Grew c.out_faults
-  pub err : IsTold c.err c.err_faults (message_of CannotWrite)
-
--- nothing but the status's message was written, and no journal is answered
-pub record StoppedBy (status : Status) (c : Call) : Type 0 where
-  pub out : Gained c.out []
-  pub err : IsTold c.err c.err_faults (message_of status)
+-- the call stops for this reason, and no journal is answered
+pub record IsStopped (c : Call) (stop : Stop) : Type 0 where
+  pub why : Stops c.given c.left.read_faults stop
   pub journal : c.journal ≡ []
 
-abbrev pub Holds : Status → Call → Type 0
-Holds Finished c = Wrote c outcome.Finished
-Holds Stuck c = Wrote c outcome.Stuck
-Holds BadWords c = AsksNothing c.words × StoppedBy BadWords c
-Holds (Refused line f) c = NamesRefused c.words c.file (λ bytes. Refuses bytes line f) × StoppedBy (Refused line f) c
-Holds (BadLife line) c = NamesBadLives c.words c.file line × StoppedBy (BadLife line) c
-Holds Budget c = (s : StreamNo) × Wrote c (outcome.Budget s)
-Holds CannotRead c = NamesFiles c.words × Grew c.read_faults × StoppedBy CannotRead c
-Holds CannotWrite c = WrotePrefix c
-Holds OutOfMemory c = StoppedBy OutOfMemory c
+-- the program, of which each status says what `Wrote`, `WrotePrefix` or `StoppedBy` of abt_shell has
+abbrev pub program : Call → Program Outcome
+program c = record {
+  name = codes "abtwaves";
+  number = number_of_outcome;
+  Prints = Ran c.given c.journal;
+  Stops = IsStopped c;
+}
+
+abbrev pub Holds : Status Outcome → Call → Type 0
+Holds status c = calls.Holds (program c) c.left status
 
 -- the call ended with this exit status, which has its cause
 abbrev pub EndsBy : ℕ → Call → Type 0
-EndsBy n c = (status : Status) × (n ≡ number_of status) × Holds status c
+EndsBy n c = calls.EndsBy (program c) c.left n
 
 -- When each status must come, unless memory runs out.
 
 -- the words name two files, and the bytes of the first are seen and are the text of W
 pub record Tells (c : Call) (W : Parts) : Type 0 where
-  pub named : NamesFiles c.words
+  pub named : NamesFiles c.given.words
   pub bytes : Text
-  pub seen : c.file named.workload ≡ Some bytes
+  pub seen : c.given.file named.workload ≡ Some bytes
   pub reads : Reads bytes W
 
 -- and those of the second are seen
 pub record TellsBoth (c : Call) (W : Parts) (text : Text) : Type 0 where
   pub first : Tells c W
-  pub second : c.file first.named.lives ≡ Some text
+  pub second : c.given.file first.named.lives ≡ Some text
 
 -- if both texts are right, and no fault of reading or writing comes, the workload runs
 abbrev pub IsComplete : ℕ → Call → Type 0
 IsComplete n c = (W : Parts) (text : Text) (lives : List Life) → TellsBoth c W text → ReadsLives W text lives
-    → (Grew c.read_faults → ⊥) → (Grew c.out_faults → ⊥) → IsOfRun n ⊎ (n ≡ 7)
+    → (Grew c.left.read_faults → ⊥) → (Grew c.left.out_faults → ⊥) → IsOfRun n ⊎ (n ≡ 7)
 
 -- if the second is wrong, or the first, and no fault of reading comes, it ends with 3
 abbrev pub RefusesBadLives : ℕ → Call → Type 0
 RefusesBadLives n c = (W : Parts) (text : Text) → TellsBoth c W text → ((lives : List Life) → ReadsLives W text lives → ⊥)
-    → (Grew c.read_faults → ⊥) → (n ≡ 3) ⊎ (n ≡ 7)
+    → (Grew c.left.read_faults → ⊥) → (n ≡ 3) ⊎ (n ≡ 7)
 
 abbrev pub RefusesTexts : ℕ → Call → Type 0
-RefusesTexts n c = (named : NamesFiles c.words) (bytes : Text) → c.file named.workload ≡ Some bytes → ((W : Parts) → Reads bytes W → ⊥)
-    → (Grew c.read_faults → ⊥) → (n ≡ 3) ⊎ (n ≡ 7)
+RefusesTexts n c = (named : NamesFiles c.given.words) (bytes : Text) → c.given.file named.workload ≡ Some bytes → ((W : Parts) → Reads bytes W → ⊥)
+    → (Grew c.left.read_faults → ⊥) → (n ≡ 3) ⊎ (n ≡ 7)
 
 -- if the words name no two files, they are refused
 abbrev pub RefusesWords : ℕ → Call → Type 0
-RefusesWords n c = AsksNothing c.words → (n ≡ 2) ⊎ (n ≡ 7)
+RefusesWords n c = AsksNothing c.given.words → (n ≡ 2) ⊎ (n ≡ 7)
 
 -- if each stream may make as many steps as the workload has operations, and none of these revives a unit, no stream uses up its steps
 abbrev pub SpendsNone : ℕ → Call → Type 0
@@ -162,5 +147,5 @@ pub record IsAnswered (n : ℕ) (c : Call) : Type 0 where
   pub texts : RefusesTexts n c
   pub words : RefusesWords n c
   pub spends : SpendsNone n c
-  pub reads : (Grew c.read_faults → ⊥) → n ≢ 5
-  pub writes : (Grew c.out_faults → ⊥) → n ≢ 6
+  pub reads : (Grew c.left.read_faults → ⊥) → n ≢ 5
+  pub writes : (Grew c.left.out_faults → ⊥) → n ≢ 6

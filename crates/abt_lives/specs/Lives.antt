@@ -1,7 +1,11 @@
 -- What the text of lives is, and what is written of waves.
-use Rattle.std.specs.Prelude.{ℕ, ◌≡◌, ◌<◌, ◌≤◌, ◌⊎◌, List, ◌∷◌, codes, decimal, length, map}
+use Rattle.std.specs.Prelude.{ℕ, ◌≡◌, ◌<◌, ◌≤◌, ◌⊎◌, List, ◌∷◌, Option, IfSome, codes, decimal, length, map}
 use Rattle.abt_machine.specs.declared.workload.Parts.{Parts}
 use Rattle.abt_machine.specs.Words.{Text, numbered, text_of}
+use Rattle.abt_shell.specs.declared.status.Stop.{Stop}
+use Rattle.abt_shell.specs.declared.status.Wrong.{Wrong}
+use Rattle.abt_shell.specs.declared.status.Wrong.TheVariants.{Workload, Journal, Lives}
+use Rattle.abt_shell.specs.Fetched.{HasNot}
 use Rattle.abt_streams.specs.declared.life.Life.{Life}
 use Rattle.abt_streams.specs.declared.wave.Wave.{Wave}
 use Rattle.abt_streams.specs.Lives.{AreLives}
@@ -20,6 +24,16 @@ pub record ReadsLives (W : Parts) (bytes : Text) (lives : List Life) : Type 0 wh
 -- why the bytes are not: they are too many, which line 0 stands for, or line l is the first that breaks a rule
 abbrev pub RefusesLives : Parts → Text → ℕ → Type 0
 RefusesLives W bytes l = ((lives_limit < length bytes) × (l ≡ 0)) ⊎ ((length bytes ≤ lives_limit) × IsBadAt W bytes l × IsNoLivesText W bytes)
+
+-- a line of a file, by its bytes if they are observable, has this wrong, which keeps it from being the text of lives of streams of W
+abbrev pub IsNoLivesLine : Parts → Option Text → ℕ → Wrong → Type 0
+IsNoLivesLine W told line (Workload f) = ⊥
+IsNoLivesLine W told line Journal = ⊥
+IsNoLivesLine W told line Lives = IfSome told (λ bytes. RefusesLives W bytes line)
+
+-- why the file has no lives
+abbrev pub HasNoLives : Parts → Option Text → ℕ × ℕ → Stop → Type 0
+HasNoLives W told = HasNot (IsNoLivesLine W told)
 
 -- what is written of wave i
 abbrev pub wave_words : ℕ → Wave → List Text

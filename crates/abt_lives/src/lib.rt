@@ -2,9 +2,7 @@
 #![tactic(auto)]
 
 mod program;
-mod status;
 mod waves;
 mod words;
 
-pub use program::abtwaves;
-pub use status::Status;
+pub use program::{NAME, abtwaves};

@@ -1,31 +1,34 @@
 //! The top call.
 
-ghost use Rattle.std.specs.Prelude.{◌≡◌, ◌≤◌, ℕ, List, All, IfErr, IfOk, IfSome, length, map, string_bytes};
-ghost use Rattle.abt_machine.specs.Grammar.{Reads};
+ghost use Rattle.std.specs.Prelude.{◌≡◌, ◌≤◌, List, All, IfErr, IfOk, IfSome, length, map, string_bytes};
 ghost use Rattle.abt_machine.specs.Runs.{last_state};
 ghost use Rattle.abt_machine.specs.Texts.{shown_units};
+ghost use Rattle.abt_machine.specs.Words.{Text};
 ghost use Rattle.abt_order.specs.Stored.{shapes_of};
 ghost use Rattle.abt_report.specs.Pictures.{SaysWordsOf, units_of};
-ghost use Rattle.abt_lives.specs.Call.{IsAnswered, output_text};
-ghost use Rattle.abt_lives.specs.Lives.{ReadsLives};
-ghost use Rattle.abt_lives.specs.Prepared.{IsAsked, IsPrepared, IsPreparedFor, LivesStop, Stops, StopsAt, WorkloadStops, status_of};
+ghost use Rattle.abt_run.specs.Given.{given};
+ghost use Rattle.abt_shell.specs.Calls.{left};
+ghost use Rattle.abt_lives.specs.Call.{IsAnswered, Ran, Stops, output_text};
+ghost use Rattle.abt_lives.specs.Lives.{HasNoLives, ReadsLives};
+ghost use Rattle.abt_lives.specs.Words.{Asks};
 ghost use Rattle.abt_streams.specs.Lives.{AreLives};
-ghost use Rattle.abt_lives.specs.declared.status.Status.TheVariants as status;
 
-use crate::status::Status;
 use crate::waves::push_waves;
 use crate::words::asked;
 use abt_machine::{Ended, Journal, Outcome, Want, Workload};
 use abt_order::StoredOrder;
 use abt_report::append_report;
-use abt_run::{Stop, count_steps, fetch};
-use abt_shell::{Ending, stop_by, write_out};
-use abt_source::{Files, NotFetched, Sink, read_all};
+use abt_run::{count_steps, fetch};
+use abt_shell::{Stop, Wrong, bytes_of, number_of_outcome, stop_by, write_out};
+use abt_source::{Files, Sink};
 use abt_stream::Pace;
 use abt_streams::{Lives, LivesRun, NotLives, read_lives, run_lives};
 use std::alloc::Global;
 use std::sync::Wait;
 use std::thread::Threads;
+
+/// The name of the program.
+pub const NAME: &[u8] = b"abtwaves";
 
 // The most bytes that a lives text has.
 const MOST: usize = 65_536;
@@ -62,14 +65,6 @@ impl Prepared {
     }
 }
 
-impl From<Want> for Status {
-    ghost from_gives = { λ _ stop. stop ≡ status.OutOfMemory };
-
-    fn from(_: Want) -> Self {
-        Status::OutOfMemory
-    }
-}
-
 // The output of a run: its report, and its waves.
 fn output(alloc: Global, w: &Workload, run: &LivesRun) -> Result<Vec<u8>, Want>
     requires shown { shown_units w.now (last_state w.now run.now.journal) ≡ units_of run.now.picture }
@@ -83,68 +78,27 @@ fn output(alloc: Global, w: &Workload, run: &LivesRun) -> Result<Vec<u8>, Want>
     Ok(text)
 }
 
-// The workload of a file.
-fn fetch_workload<F: Files>(alloc: Global, file: &str, files: &mut F) -> Result<Workload, Status>
-    ensures reads { IfOk result (λ w. IfSome (F.file files.old file.now) (λ bytes. Reads bytes w)) }
-    ensures stop { IfErr result (λ stop. WorkloadStops stop file.now (λ name. F.file files.old name) (F.faults files.old, F.faults files.new)) }
-    ensures file { (n : List ℕ) → F.file files.new n ≡ F.file files.old n }
-    ensures later { F.faults files.old ≤ F.faults files.new }
-{
-    match fetch(alloc, file, files) {
-        Ok(w) => Ok(w),
-        Err(Stop::Refused { line, fault }) => Err(Status::Refused { line, fault }),
-        Err(Stop::CannotRead) => Err(Status::CannotRead),
-        Err(Stop::OutOfMemory) => Err(Status::OutOfMemory),
-        Err(Stop::BadWords | Stop::NoJournal { line: _ }) => unreachable!(),
-    }
-}
-
 // The lives in a file.
 fn fetch_lives<F: Files>(
     alloc: Global,
     w: &Workload,
     file: &str,
     files: &mut F,
-) -> Result<Lives, Status>
+) -> Result<Lives, Stop>
     ensures are { IfOk result (λ lives. AreLives w.now lives) }
     ensures reads { IfOk result (λ lives. IfSome (F.file files.old file.now) (λ bytes. ReadsLives w.now bytes lives)) }
-    ensures stop { IfErr result (λ stop. LivesStop stop w.now file.now (λ name. F.file files.old name) (F.faults files.old, F.faults files.new)) }
+    ensures stop { IfErr result (HasNoLives w.now (F.file files.old file.now) (F.faults files.old, F.faults files.new)) }
     ensures later { F.faults files.old ≤ F.faults files.new }
 {
-    let bytes = match read_all(alloc, files, file, MOST) {
-        Ok(bytes) => bytes,
-        Err(NotFetched::Failed) => return Err(Status::CannotRead),
-        Err(NotFetched::Memory) => return Err(Status::OutOfMemory),
-    };
+    let bytes = bytes_of(alloc, file, files, MOST)?;
     if bytes.len() > MOST {
-        return Err(Status::BadLife { line: 0 });
+        return Err(Stop::BadLine(0, Wrong::Lives));
     }
     match read_lives(alloc, w, &bytes) {
         Ok(lives) => Ok(lives),
-        Err(NotLives::Bad { line }) => Err(Status::BadLife { line }),
-        Err(NotLives::Memory) => Err(Status::OutOfMemory),
+        Err(NotLives::Bad { line }) => Err(Stop::BadLine(line, Wrong::Lives)),
+        Err(NotLives::Memory) => Err(Stop::OutOfMemory),
     }
-}
-
-// The run of a workload on the lives in a file, and what it prints.
-fn prepare_lives<R: Threads + Wait + Sync, F: Files, P: Pace + Sync>(
-    rt: &R,
-    alloc: Global,
-    w: &Workload,
-    file: &str,
-    files: &mut F,
-    pace: &P,
-    orders: &[StoredOrder],
-) -> Result<Prepared, Status>
-    requires orders { 2 ≤ length orders.now }
-    ensures done { IfOk result (λ p. IsPreparedFor w.now file.now (shapes_of orders.now) (λ name. F.file files.old name) p.journal p.outcome p.text.items) }
-    ensures stop { IfErr result (λ stop. LivesStop stop w.now file.now (λ name. F.file files.old name) (F.faults files.old, F.faults files.new)) }
-    ensures later { F.faults files.old ≤ F.faults files.new }
-{
-    let lives = fetch_lives(alloc, w, file, files)?;
-    let ran = run_lives(alloc, rt, w, &lives, orders, pace, STEPS)?;
-    let text = output(alloc, w, &ran)?;
-    Ok(Prepared::new(ran, text))
 }
 
 // The run of a file's workload on another file's lives, and what it prints.
@@ -156,14 +110,19 @@ fn prepare_files<R: Threads + Wait + Sync, F: Files, P: Pace + Sync>(
     files: &mut F,
     pace: &P,
     orders: &[StoredOrder],
-) -> Result<Prepared, Status>
+) -> Result<Prepared, Stop>
     requires orders { 2 ≤ length orders.now }
-    ensures done { IfOk result (λ p. IsPrepared workload.now lives.now (shapes_of orders.now) (λ name. F.file files.old name) p.journal p.outcome p.text.items) }
-    ensures stop { IfErr result (λ stop. StopsAt stop workload.now lives.now (λ name. F.file files.old name) (F.faults files.old, F.faults files.new)) }
+    ensures done { (words : List Text) → Asks words workload.now lives.now
+        → IfOk result (λ p. Ran (given words (shapes_of orders.now) (λ name. F.file files.old name)) p.journal p.outcome p.text.items) }
+    ensures stop { (words : List Text) → Asks words workload.now lives.now
+        → IfErr result (Stops (given words (shapes_of orders.now) (λ name. F.file files.old name)) (F.faults files.old, F.faults files.new)) }
     ensures later { F.faults files.old ≤ F.faults files.new }
 {
-    let w = fetch_workload(alloc, workload, files)?;
-    prepare_lives(rt, alloc, &w, lives, files, pace, orders)
+    let w = fetch(alloc, workload, files)?;
+    let lives = fetch_lives(alloc, &w, lives, files)?;
+    let ran = run_lives(alloc, rt, &w, &lives, orders, pace, STEPS)?;
+    let text = output(alloc, &w, &ran)?;
+    Ok(Prepared::new(ran, text))
 }
 
 // All of a call but its writes.
@@ -174,26 +133,15 @@ fn prepare<R: Threads + Wait + Sync, F: Files, P: Pace + Sync>(
     files: &mut F,
     pace: &P,
     orders: &[StoredOrder],
-) -> Result<Prepared, Status>
+) -> Result<Prepared, Stop>
     requires orders { 2 ≤ length orders.now }
-    ensures done { IfOk result (λ p. IsAsked (map string_bytes words.now) (shapes_of orders.now) (λ name. F.file files.old name) p.journal p.outcome p.text.items) }
-    ensures stop { IfErr result (λ stop. Stops stop (map string_bytes words.now) (λ name. F.file files.old name) (F.faults files.old, F.faults files.new)) }
+    ensures done { IfOk result (λ p. Ran (given (map string_bytes words.now) (shapes_of orders.now) (λ name. F.file files.old name)) p.journal p.outcome p.text.items) }
+    ensures stop { IfErr result (Stops (given (map string_bytes words.now) (shapes_of orders.now) (λ name. F.file files.old name)) (F.faults files.old, F.faults files.new)) }
     ensures later { F.faults files.old ≤ F.faults files.new }
 {
-    let Some((workload, lives)) = asked(words) else {
-        return Err(Status::BadWords);
-    };
-    prepare_files(rt, alloc, workload, lives, files, pace, orders)
-}
-
-// The status of a run that is written whole.
-fn status_by(outcome: Outcome) -> Status
-    ensures { result ≡ status_of outcome }
-{
-    match outcome {
-        Outcome::Finished => Status::Finished,
-        Outcome::Stuck => Status::Stuck,
-        Outcome::Budget(_) => Status::Budget,
+    match asked(words) {
+        Some((workload, lives)) => prepare_files(rt, alloc, workload, lives, files, pace, orders),
+        None => Err(Stop::BadWords),
     }
 }
 
@@ -216,14 +164,8 @@ pub fn abtwaves<R: Threads + Wait + Sync, F: Files, K: Sink, E: Sink, P: Pace + 
 ) -> Ended
     requires orders { 2 ≤ length orders.now }
     ensures { IsAnswered result.status (record {
-      words = map string_bytes words.now;
-      orders = shapes_of orders.now;
-      file = λ name. F.file files.old name;
-      read_faults = (F.faults files.old, F.faults files.new);
-      out = (K.taken out.old, K.taken out.new);
-      out_faults = (K.faults out.old, K.faults out.new);
-      err = (E.taken err.old, E.taken err.new);
-      err_faults = (E.faults err.old, E.faults err.new);
+      given = given (map string_bytes words.now) (shapes_of orders.now) (λ name. F.file files.old name);
+      left = left (F.faults files.old, F.faults files.new) (K.taken out.old, K.taken out.new) (K.faults out.old, K.faults out.new) (E.taken err.old, E.taken err.new) (E.faults err.old, E.faults err.new);
       journal = result.journal;
     }) }
 {
@@ -235,16 +177,13 @@ pub fn abtwaves<R: Threads + Wait + Sync, F: Files, K: Sink, E: Sink, P: Pace + 
                 outcome,
             },
         ) => {
-            let status = write_out(out, err, &text, status_by(outcome));
-            Ended {
-                status: status.number(),
-                journal,
-            }
+            let status = write_out(NAME, out, err, &text, number_of_outcome(outcome));
+            Ended { status, journal }
         }
         Err(stop) => {
-            let status = stop_by(alloc, err, stop);
+            let stop = stop_by(alloc, NAME, err, stop);
             Ended {
-                status: status.number(),
+                status: stop.number(),
                 journal: Journal::new(Vec::new(alloc)),
             }
         }

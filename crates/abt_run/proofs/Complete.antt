@@ -27,25 +27,22 @@ use Rattle.abt_words.specs.declared.commands.Command.TheVariants as command
 use Rattle.abt_words.specs.Commands.{Says}
 use Rattle.abt_words.proofs.OneCommand.{one_command}
 use Rattle.abt_workload.proofs.RoundTrip.{only-valid}
+use Rattle.abt_shell.specs.declared.status.Stop.TheVariants.{BadWords, BadLine, CannotRead, OutOfMemory}
+use Rattle.abt_shell.specs.declared.status.Wrong.TheVariants.{Workload, Journal, Lives}
+use Rattle.abt_shell.specs.Calls.{IsStill}
+use Rattle.abt_shell.specs.Status.{Status, Concluded, Stopped, CannotWrite, number_of, number_of_outcome}
 use Rattle.abt_shell.specs.Told.{Grew}
-use Rattle.abt_run.specs.Call.{Call, ChecksJournals, Decides, FindsFlows, Holds, IsAnswered, IsOfRun, IsStill, RunsKnown}
+use Rattle.abt_shell.proofs.Calls.{reads-well, writes-well}
+use Rattle.abt_shell.proofs.Fetched.{of-observed}
+use Rattle.abt_run.specs.Call.{Call, ChecksJournals, Decides, EndsBy, FindsFlows, Holds, IsAnswered, IsOfRun, RunsKnown, program}
 use Rattle.abt_run.specs.Given.{Compares, Given, IsNoJournalAt, IsReadFrom, IsTextOf, NamesFile, SaysNothing, Tells, workload_file}
 use Rattle.abt_run.specs.Printed.{AsksFlow, HasVerdict, IsFor, Prints, Ran, steps_for}
-use Rattle.abt_run.specs.Status.{number_of, number_of_conclusion}
+use Rattle.abt_run.specs.Status.{number_of_conclusion}
 use Rattle.abt_run.specs.declared.status.Conclusion.{Conclusion}
-use Rattle.abt_run.specs.declared.status.Conclusion.TheVariants.{Finished, Stuck, Budget, Judged, Flows, NotConfluent, Undefined}
-use Rattle.abt_run.specs.declared.status.Status.{Status}
-use Rattle.abt_run.specs.declared.status.Status.TheVariants.{Concluded, Stopped, CannotWrite}
-use Rattle.abt_run.specs.declared.status.Stop.{Stop}
-use Rattle.abt_run.specs.declared.status.Stop.TheVariants.{BadWords, Refused, NoJournal, CannotRead, OutOfMemory}
+use Rattle.abt_run.specs.declared.status.Conclusion.TheVariants.{Ended, Judged, Flows, NotConfluent, Undefined}
 use Rattle.abt_run.proofs.Texts.{one-journal}
 
 -- Files.
-
--- what holds of the bytes of a file, if they are observable, holds of these bytes
-pub of-told : (P : Text → Type 0) (o : Option Text) (bytes : Text) → o ≡ Some bytes → IfSome o P → P bytes
-of-told P None bytes e known = cc
-of-told P (Some b) bytes e known = let same : b ≡ bytes = cc in subst P same known
 
 -- a workload's text is not refused
 pub reads-whole : (bytes : Text) (W : Parts) (line : ℕ) (f : Fault) → Reads bytes W → Refuses bytes line f → ⊥
@@ -55,31 +52,31 @@ module _ (g : Given) (file : Text) where
   -- a text is that of one workload
   same-workload : (W V : Parts) → Tells g file (λ bytes. Reads bytes W) → IsReadFrom g file V → V ≡ W
   same-workload W V tells is =
-      let reads : Reads tells.0 V = of-told (λ text. Reads text V) (g.file file) tells.0 tells.1 is in
+      let reads : Reads tells.0 V = of-observed (λ text. Reads text V) (g.file file) tells.0 tells.1 is in
       reads.parts ∙ sym tells.2.parts
 
   -- and is not refused
   not-refused : (W : Parts) (line : ℕ) (f : Fault) → Tells g file (λ bytes. Reads bytes W) → IfSome (g.file file) (λ bytes. Refuses bytes line f) → ⊥
-  not-refused W line f tells is = reads-whole tells.0 W line f tells.2 (of-told (λ text. Refuses text line f) (g.file file) tells.0 tells.1 is)
+  not-refused W line f tells is = reads-whole tells.0 W line f tells.2 (of-observed (λ text. Refuses text line f) (g.file file) tells.0 tells.1 is)
 
   not-read : (V : Parts) → Tells g file (λ bytes. (W : Parts) → Reads bytes W → ⊥) → IsReadFrom g file V → ⊥
-  not-read V tells is = tells.2 V (of-told (λ text. Reads text V) (g.file file) tells.0 tells.1 is)
+  not-read V tells is = tells.2 V (of-observed (λ text. Reads text V) (g.file file) tells.0 tells.1 is)
 
   -- a text is that of one journal
   same-journal : (J K : List Event) → Tells g file (IsTextOf J) → IfSome (g.file file) (IsTextOf K) → K ≡ J
-  same-journal J K tells is = one-journal tells.0 K J (of-told (IsTextOf K) (g.file file) tells.0 tells.1 is) tells.2
+  same-journal J K tells is = one-journal tells.0 K J (of-observed (IsTextOf K) (g.file file) tells.0 tells.1 is) tells.2
 
   not-bad : (J : List Event) (line : ℕ) → Tells g file (IsTextOf J) → IfSome (g.file file) (λ bytes. IsNoJournalAt bytes line) → ⊥
   not-bad J zero tells is =
-      let long : 1073741824 < length tells.0 = of-told (λ text. IsNoJournalAt text 0) (g.file file) tells.0 tells.1 is in
+      let long : 1073741824 < length tells.0 = of-observed (λ text. IsNoJournalAt text 0) (g.file file) tells.0 tells.1 is in
       let short : length tells.0 ≤ 1073741824 = tells.2.short in
       absurd (omega arith)
   not-bad J (suc l) tells is =
-      let bad : IsNoJournalAt tells.0 (suc l) = of-told (λ text. IsNoJournalAt text (suc l)) (g.file file) tells.0 tells.1 is in
+      let bad : IsNoJournalAt tells.0 (suc l) = of-observed (λ text. IsNoJournalAt text (suc l)) (g.file file) tells.0 tells.1 is in
       bad.2 J tells.2.events tells.2.text
 
   not-journal : (K : List Event) → Tells g file (λ bytes. (J : List Event) → IsTextOf J bytes → ⊥) → IfSome (g.file file) (IsTextOf K) → ⊥
-  not-journal K tells is = tells.2 K (of-told (IsTextOf K) (g.file file) tells.0 tells.1 is)
+  not-journal K tells is = tells.2 K (of-observed (IsTextOf K) (g.file file) tells.0 tells.1 is)
 
 -- Commands.
 
@@ -139,9 +136,7 @@ runs-valid g (command.Flow f) W says known = absurd known
 
 module _ (g : Given) (J : List Event) (text : Text) where
   printed-says : (c : Conclusion) → Prints g c J text → (d : Command) × Says g.words d
-  printed-says Finished prints = (prints.command, prints.says)
-  printed-says Stuck prints = (prints.command, prints.says)
-  printed-says Budget prints = (prints.1.command, prints.1.says)
+  printed-says (Ended o) prints = (prints.command, prints.says)
   printed-says (Judged v) prints = (_, prints.0.compares.says)
   printed-says Flows prints = (_, prints.0.asks.says)
   printed-says NotConfluent prints = (_, prints.0.asks.says)
@@ -158,9 +153,7 @@ module _ (g : Given) (J : List Event) (text : Text) where
 
     -- a workload is read from the file that the words name
     printed-reads : (c : Conclusion) → Prints g c J text → (W : Parts) × IsReadFrom g file W
-    printed-reads Finished prints = ran-reads outcome.Finished prints
-    printed-reads Stuck prints = ran-reads outcome.Stuck prints
-    printed-reads Budget prints = ran-reads (outcome.Budget prints.0) prints.1
+    printed-reads (Ended o) prints = ran-reads o prints
     printed-reads (Judged v) prints =
         let compares = prints.0.compares in
         let same : compares.workload ≡ file = some-is compares.workload file (ap workload_file (one_command g.words (command.Check compares.workload compares.journal) d compares.says says) ∙ names) in
@@ -178,9 +171,7 @@ module _ (g : Given) (J : List Event) (text : Text) where
     no-flow W asks = check-is-no-flow w j asks.file (one_command g.words (command.Check w j) (command.Flow asks.file) says asks.says)
 
     printed-verdict : (c : Conclusion) → Prints g c J text → (v : Verdict) × HasVerdict g v × (c ≡ Judged v)
-    printed-verdict Finished prints = absurd (no-run outcome.Finished prints)
-    printed-verdict Stuck prints = absurd (no-run outcome.Stuck prints)
-    printed-verdict Budget prints = absurd (no-run (outcome.Budget prints.0) prints.1)
+    printed-verdict (Ended o) prints = absurd (no-run o prints)
     printed-verdict (Judged v) prints = (v, prints.0, refl)
     printed-verdict Flows prints = absurd (no-flow prints.0.workload prints.0.asks)
     printed-verdict NotConfluent prints = absurd (no-flow prints.0.workload prints.0.asks)
@@ -208,28 +199,32 @@ module _ (g : Given) (J : List Event) (text : Text) where
 
 -- Statuses.
 
+pub outcome-is-of-run : (o : Outcome) → IsOfRun (number_of_outcome o)
+outcome-is-of-run outcome.Finished = inl refl
+outcome-is-of-run outcome.Stuck = inr (inl refl)
+outcome-is-of-run (outcome.Budget s) = inr (inr refl)
+
 -- the command of a known workload runs it
 runs-concluded : (c : Conclusion) (call : Call) (text : Text) (d : Command) (W : Parts) → Prints call.given c call.journal text → Says call.given.words d → RunsKnown d call.given W
     → IsOfRun (number_of_conclusion c)
-runs-concluded Finished call text d W prints says known = inl refl
-runs-concluded Stuck call text d W prints says known = inr (inl refl)
-runs-concluded Budget call text d W prints says known = inr (inr refl)
+runs-concluded (Ended o) call text d W prints says known = outcome-is-of-run o
 runs-concluded (Judged v) call text d W prints says known =
     absurd (subst (λ (x : Command). RunsKnown x call.given W) (one_command call.given.words d _ says prints.0.compares.says) known)
 runs-concluded Flows call text d W prints says known = absurd (subst (λ (x : Command). RunsKnown x call.given W) (one_command call.given.words d _ says prints.0.asks.says) known)
 runs-concluded NotConfluent call text d W prints says known = absurd (subst (λ (x : Command). RunsKnown x call.given W) (one_command call.given.words d _ says prints.0.asks.says) known)
 runs-concluded Undefined call text d W prints says known = absurd (subst (λ (x : Command). RunsKnown x call.given W) (one_command call.given.words d _ says prints.0.asks.says) known)
 
-runs : (s : Status) (c : Call) (d : Command) (W : Parts) → Holds s c → Says c.given.words d → RunsKnown d c.given W → IsStill c → IsOfRun (number_of s) ⊎ (number_of s ≡ 7)
+runs : (s : Status Conclusion) (c : Call) (d : Command) (W : Parts) → Holds s c → Says c.given.words d → RunsKnown d c.given W → IsStill c.left → IsOfRun (number_of number_of_conclusion s) ⊎ (number_of number_of_conclusion s ≡ 7)
 runs (Concluded k) c d W h says known still = inl (runs-concluded k c h.text d W h.prints says known)
-runs (Stopped BadWords) c d W h says known still = absurd (h.cause d says)
-runs (Stopped (Refused line f)) c d W h says known still =
-    let named = h.cause.named in
+runs (Stopped BadWords) c d W h says known still = absurd (h.cause.why d says)
+runs (Stopped (BadLine line (Workload f))) c d W h says known still =
+    let named = h.cause.why.named in
     let same = one_command c.given.words named.command d named.says says in
-    absurd (runs-not-refused c.given d named.file W line f known (ap workload_file (sym same) ∙ named.names) h.cause.is)
-runs (Stopped (NoJournal line)) c d W h says known still =
-    absurd (subst (λ (x : Command). RunsKnown x c.given W) (one_command c.given.words d _ says h.cause.1.says) known)
-runs (Stopped CannotRead) c d W h says known still = absurd (still.0 h.cause.1)
+    absurd (runs-not-refused c.given d named.file W line f known (ap workload_file (sym same) ∙ named.names) h.cause.why.is)
+runs (Stopped (BadLine line Journal)) c d W h says known still =
+    absurd (subst (λ (x : Command). RunsKnown x c.given W) (one_command c.given.words d _ says h.cause.why.1.says) known)
+runs (Stopped (BadLine line Lives)) c d W h says known still = absurd h.cause.why
+runs (Stopped CannotRead) c d W h says known still = absurd (still.0 h.cause.why.1)
 runs (Stopped OutOfMemory) c d W h says known still = inr refl
 runs CannotWrite c d W h says known still = absurd (still.1 h.faults)
 
@@ -253,18 +248,19 @@ module _ (c : Call) (w j : Text) (W : Parts) (J : List Event) (says : Says c.giv
       let equal : has.journal ≡ J = same-journal c.given j J has.journal also read.1 in
       decided W c.given.orders J v (subst (λ (V : Parts). IsJudged V c.given.orders J v) same (subst (λ (K : List Event). IsJudged has.workload c.given.orders K v) equal has.judged))
 
-  checks : (s : Status) → Holds s c → IsStill c → Decides (number_of s) (IsStampedRun W c.given.orders J) ⊎ (number_of s ≡ 7)
+  checks : (s : Status Conclusion) → Holds s c → IsStill c.left → Decides (number_of number_of_conclusion s) (IsStampedRun W c.given.orders J) ⊎ (number_of number_of_conclusion s ≡ 7)
   checks (Concluded k) h still =
       let has = printed-verdict c.given c.journal h.text w j says k h.prints in
       inl (subst (λ (x : Conclusion). Decides (number_of_conclusion x) (IsStampedRun W c.given.orders J)) (sym has.2) (checked-verdict has.0 has.1))
-  checks (Stopped BadWords) h still = absurd (h.cause _ says)
-  checks (Stopped (Refused line f)) h still =
-      let named = h.cause.named in
+  checks (Stopped BadWords) h still = absurd (h.cause.why _ says)
+  checks (Stopped (BadLine line (Workload f))) h still =
+      let named = h.cause.why.named in
       let same : named.file ≡ w = some-is _ _ (sym named.names ∙ ap workload_file (one_command c.given.words named.command (command.Check w j) named.says says)) in
-      absurd (not-refused c.given w W line f tells (subst (λ (n : Text). IfSome (c.given.file n) (λ bytes. Refuses bytes line f)) same h.cause.is))
-  checks (Stopped (NoJournal line)) h still =
-      absurd (not-bad c.given j J line also (compared-journal c.given c.journal [] w j says h.cause.0 (λ bytes. IsNoJournalAt bytes line) h.cause.1).1)
-  checks (Stopped CannotRead) h still = absurd (still.0 h.cause.1)
+      absurd (not-refused c.given w W line f tells (subst (λ (n : Text). IfSome (c.given.file n) (λ bytes. Refuses bytes line f)) same h.cause.why.is))
+  checks (Stopped (BadLine line Journal)) h still =
+      absurd (not-bad c.given j J line also (compared-journal c.given c.journal [] w j says h.cause.why.0 (λ bytes. IsNoJournalAt bytes line) h.cause.why.1).1)
+  checks (Stopped (BadLine line Lives)) h still = absurd h.cause.why
+  checks (Stopped CannotRead) h still = absurd (still.0 h.cause.why.1)
   checks (Stopped OutOfMemory) h still = inr refl
   checks CannotWrite h still = absurd (still.1 h.faults)
 
@@ -273,9 +269,7 @@ HasFlows W = Confluent W × ((rows : List (List Piece)) × IsFlow W rows)
 
 module _ (c : Call) (file : Text) (W : Parts) (says : Says c.given.words (command.Flow file)) (tells : Tells c.given file (λ bytes. Reads bytes W)) where
   flow-concluded : (k : Conclusion) (text : Text) → Prints c.given k c.journal text → Decides (number_of_conclusion k) (HasFlows W)
-  flow-concluded Finished text prints = absurd (flow-no-run c.given c.journal text file says outcome.Finished prints)
-  flow-concluded Stuck text prints = absurd (flow-no-run c.given c.journal text file says outcome.Stuck prints)
-  flow-concluded Budget text prints = absurd (flow-no-run c.given c.journal text file says (outcome.Budget prints.0) prints.1)
+  flow-concluded (Ended o) text prints = absurd (flow-no-run c.given c.journal text file says o prints)
   flow-concluded (Judged v) text prints = absurd (flow-no-check c.given c.journal text file says prints.0.workload (IsTextOf prints.0.journal) prints.0.compares)
   flow-concluded Flows text prints =
       let same = flow-asked c.given c.journal text file says W prints.0.workload tells prints.0.asks in
@@ -287,15 +281,16 @@ module _ (c : Call) (file : Text) (W : Parts) (says : Says c.given.words (comman
       let same = flow-asked c.given c.journal text file says W prints.0.workload tells prints.0.asks in
       inr (λ has. prints.0.none has.1.0 (subst (λ (V : Parts). IsFlow V has.1.0) (sym same) has.1.1), refl)
 
-  flows : (s : Status) → Holds s c → IsStill c → Decides (number_of s) (HasFlows W) ⊎ (number_of s ≡ 7)
+  flows : (s : Status Conclusion) → Holds s c → IsStill c.left → Decides (number_of number_of_conclusion s) (HasFlows W) ⊎ (number_of number_of_conclusion s ≡ 7)
   flows (Concluded k) h still = inl (flow-concluded k h.text h.prints)
-  flows (Stopped BadWords) h still = absurd (h.cause _ says)
-  flows (Stopped (Refused line f)) h still =
-      let named = h.cause.named in
+  flows (Stopped BadWords) h still = absurd (h.cause.why _ says)
+  flows (Stopped (BadLine line (Workload f))) h still =
+      let named = h.cause.why.named in
       let same : named.file ≡ file = some-is _ _ (sym named.names ∙ ap workload_file (one_command c.given.words named.command (command.Flow file) named.says says)) in
-      absurd (not-refused c.given file W line f tells (subst (λ (n : Text). IfSome (c.given.file n) (λ bytes. Refuses bytes line f)) same h.cause.is))
-  flows (Stopped (NoJournal line)) h still = absurd (flow-no-check c.given c.journal [] file says h.cause.0 (λ bytes. IsNoJournalAt bytes line) h.cause.1)
-  flows (Stopped CannotRead) h still = absurd (still.0 h.cause.1)
+      absurd (not-refused c.given file W line f tells (subst (λ (n : Text). IfSome (c.given.file n) (λ bytes. Refuses bytes line f)) same h.cause.why.is))
+  flows (Stopped (BadLine line Journal)) h still = absurd (flow-no-check c.given c.journal [] file says h.cause.why.0 (λ bytes. IsNoJournalAt bytes line) h.cause.why.1)
+  flows (Stopped (BadLine line Lives)) h still = absurd h.cause.why
+  flows (Stopped CannotRead) h still = absurd (still.0 h.cause.why.1)
   flows (Stopped OutOfMemory) h still = inr refl
   flows CannotWrite h still = absurd (still.1 h.faults)
 
@@ -312,106 +307,91 @@ no-budget c d W s text two says known none few ran =
 
 spends-concluded : (k : Conclusion) (c : Call) (text : Text) (d : Command) (W : Parts) → Prints c.given k c.journal text → 2 ≤ length c.given.orders → Says c.given.words d → RunsKnown d c.given W
     → HasNoRevive W → ops_in W ≤ steps_for d → number_of_conclusion k ≢ 4
-spends-concluded Finished c text d W prints two says known none few = λ e. absurd (omega arith)
-spends-concluded Stuck c text d W prints two says known none few = λ e. absurd (omega arith)
-spends-concluded Budget c text d W prints two says known none few = λ e. no-budget c d W prints.0 text two says known none few prints.1
+spends-concluded (Ended outcome.Finished) c text d W prints two says known none few = λ e. absurd (omega arith)
+spends-concluded (Ended outcome.Stuck) c text d W prints two says known none few = λ e. absurd (omega arith)
+spends-concluded (Ended (outcome.Budget s)) c text d W prints two says known none few = λ e. no-budget c d W s text two says known none few prints
 spends-concluded (Judged verdict.Run) c text d W prints two says known none few = λ e. absurd (omega arith)
 spends-concluded (Judged (verdict.Bad at)) c text d W prints two says known none few = λ e. absurd (omega arith)
 spends-concluded Flows c text d W prints two says known none few = λ e. absurd (omega arith)
 spends-concluded NotConfluent c text d W prints two says known none few = λ e. absurd (omega arith)
 spends-concluded Undefined c text d W prints two says known none few = λ e. absurd (omega arith)
 
-spends : (s : Status) (c : Call) (d : Command) (W : Parts) → Holds s c → 2 ≤ length c.given.orders → Says c.given.words d → RunsKnown d c.given W → HasNoRevive W
-    → ops_in W ≤ steps_for d → number_of s ≢ 4
+spends : (s : Status Conclusion) (c : Call) (d : Command) (W : Parts) → Holds s c → 2 ≤ length c.given.orders → Says c.given.words d → RunsKnown d c.given W → HasNoRevive W
+    → ops_in W ≤ steps_for d → number_of number_of_conclusion s ≢ 4
 spends (Concluded k) c d W h two says known none few = spends-concluded k c h.text d W h.prints two says known none few
 spends (Stopped BadWords) c d W h two says known none few = λ e. absurd (omega arith)
-spends (Stopped (Refused line f)) c d W h two says known none few = λ e. absurd (omega arith)
-spends (Stopped (NoJournal line)) c d W h two says known none few = λ e. absurd (omega arith)
+spends (Stopped (BadLine line w)) c d W h two says known none few = λ e. absurd (omega arith)
 spends (Stopped CannotRead) c d W h two says known none few = λ e. absurd (omega arith)
 spends (Stopped OutOfMemory) c d W h two says known none few = λ e. absurd (omega arith)
 spends CannotWrite c d W h two says known none few = λ e. absurd (omega arith)
 
 -- a text that is no workload's is refused
-refuses : (s : Status) (c : Call) (d : Command) (file : Text) → Holds s c → Says c.given.words d → workload_file d ≡ Some file
-    → Tells c.given file (λ bytes. (W : Parts) → Reads bytes W → ⊥) → (Grew c.read_faults → ⊥) → (number_of s ≡ 3) ⊎ (number_of s ≡ 7)
+refuses : (s : Status Conclusion) (c : Call) (d : Command) (file : Text) → Holds s c → Says c.given.words d → workload_file d ≡ Some file
+    → Tells c.given file (λ bytes. (W : Parts) → Reads bytes W → ⊥) → (Grew c.left.read_faults → ⊥) → (number_of number_of_conclusion s ≡ 3) ⊎ (number_of number_of_conclusion s ≡ 7)
 refuses (Concluded k) c d file h says names tells still =
     let read = printed-reads c.given c.journal h.text d file says names k h.prints in
     absurd (not-read c.given file read.0 tells read.1)
-refuses (Stopped BadWords) c d file h says names tells still = absurd (h.cause d says)
-refuses (Stopped (Refused line f)) c d file h says names tells still = inl refl
-refuses (Stopped (NoJournal line)) c d file h says names tells still = inl refl
-refuses (Stopped CannotRead) c d file h says names tells still = absurd (still h.cause.1)
+refuses (Stopped BadWords) c d file h says names tells still = absurd (h.cause.why d says)
+refuses (Stopped (BadLine line w)) c d file h says names tells still = inl refl
+refuses (Stopped CannotRead) c d file h says names tells still = absurd (still h.cause.why.1)
 refuses (Stopped OutOfMemory) c d file h says names tells still = inr refl
 refuses CannotWrite c d file h says names tells still =
     let read = printed-reads c.given c.journal h.text d file says names h.conclusion h.prints in
     absurd (not-read c.given file read.0 tells read.1)
 
 -- and one that is no journal's
-refuses-journal : (s : Status) (c : Call) (w j : Text) → Holds s c → Says c.given.words (command.Check w j)
-    → Tells c.given j (λ bytes. (J : List Event) → IsTextOf J bytes → ⊥) → (Grew c.read_faults → ⊥) → (number_of s ≡ 3) ⊎ (number_of s ≡ 7)
+refuses-journal : (s : Status Conclusion) (c : Call) (w j : Text) → Holds s c → Says c.given.words (command.Check w j)
+    → Tells c.given j (λ bytes. (J : List Event) → IsTextOf J bytes → ⊥) → (Grew c.left.read_faults → ⊥) → (number_of number_of_conclusion s ≡ 3) ⊎ (number_of number_of_conclusion s ≡ 7)
 refuses-journal (Concluded k) c w j h says tells still =
     let has = printed-verdict c.given c.journal h.text w j says k h.prints in
     absurd (not-journal c.given j has.1.journal tells (compared-journal c.given c.journal [] w j says has.1.workload (IsTextOf has.1.journal) has.1.compares).1)
-refuses-journal (Stopped BadWords) c w j h says tells still = absurd (h.cause _ says)
-refuses-journal (Stopped (Refused line f)) c w j h says tells still = inl refl
-refuses-journal (Stopped (NoJournal line)) c w j h says tells still = inl refl
-refuses-journal (Stopped CannotRead) c w j h says tells still = absurd (still h.cause.1)
+refuses-journal (Stopped BadWords) c w j h says tells still = absurd (h.cause.why _ says)
+refuses-journal (Stopped (BadLine line wrong)) c w j h says tells still = inl refl
+refuses-journal (Stopped CannotRead) c w j h says tells still = absurd (still h.cause.why.1)
 refuses-journal (Stopped OutOfMemory) c w j h says tells still = inr refl
 refuses-journal CannotWrite c w j h says tells still =
     let has = printed-verdict c.given c.journal h.text w j says h.conclusion h.prints in
     absurd (not-journal c.given j has.1.journal tells (compared-journal c.given c.journal [] w j says has.1.workload (IsTextOf has.1.journal) has.1.compares).1)
 
 -- words that say no command are refused
-refuses-words : (s : Status) (c : Call) → Holds s c → SaysNothing c.given.words → (number_of s ≡ 2) ⊎ (number_of s ≡ 7)
+refuses-words : (s : Status Conclusion) (c : Call) → Holds s c → SaysNothing c.given.words → (number_of number_of_conclusion s ≡ 2) ⊎ (number_of number_of_conclusion s ≡ 7)
 refuses-words (Concluded k) c h none = let said = printed-says c.given c.journal h.text k h.prints in absurd (none said.0 said.1)
 refuses-words (Stopped BadWords) c h none = inl refl
-refuses-words (Stopped (Refused line f)) c h none = absurd (none h.cause.named.command h.cause.named.says)
-refuses-words (Stopped (NoJournal line)) c h none = absurd (none _ h.cause.1.says)
-refuses-words (Stopped CannotRead) c h none = absurd (none h.cause.0.command h.cause.0.says)
+refuses-words (Stopped (BadLine line (Workload f))) c h none = absurd (none h.cause.why.named.command h.cause.why.named.says)
+refuses-words (Stopped (BadLine line Journal)) c h none = absurd (none _ h.cause.why.1.says)
+refuses-words (Stopped (BadLine line Lives)) c h none = absurd h.cause.why
+refuses-words (Stopped CannotRead) c h none = absurd (none h.cause.why.0.command h.cause.why.0.says)
 refuses-words (Stopped OutOfMemory) c h none = inr refl
 refuses-words CannotWrite c h none = let said = printed-says c.given c.journal h.text h.conclusion h.prints in absurd (none said.0 said.1)
 
 -- Faults.
 
-no-fault : (k : Conclusion) (n : ℕ) → 5 ≤ n → number_of_conclusion k ≢ n
-no-fault Finished n high = λ e. absurd (omega arith)
-no-fault Stuck n high = λ e. absurd (omega arith)
-no-fault Budget n high = λ e. absurd (omega arith)
-no-fault (Judged verdict.Run) n high = λ e. absurd (omega arith)
-no-fault (Judged (verdict.Bad at)) n high = λ e. absurd (omega arith)
-no-fault Flows n high = λ e. absurd (omega arith)
-no-fault NotConfluent n high = λ e. absurd (omega arith)
-no-fault Undefined n high = λ e. absurd (omega arith)
+pub no-fault : (o : Outcome) (n : ℕ) → 5 ≤ n → number_of_outcome o ≢ n
+no-fault outcome.Finished n high = λ e. absurd (omega arith)
+no-fault outcome.Stuck n high = λ e. absurd (omega arith)
+no-fault (outcome.Budget s) n high = λ e. absurd (omega arith)
 
-reads-well : (s : Status) (c : Call) → Holds s c → (Grew c.read_faults → ⊥) → number_of s ≢ 5
-reads-well (Concluded k) c h still = no-fault k 5 (omega arith)
-reads-well (Stopped BadWords) c h still = λ e. absurd (omega arith)
-reads-well (Stopped (Refused line f)) c h still = λ e. absurd (omega arith)
-reads-well (Stopped (NoJournal line)) c h still = λ e. absurd (omega arith)
-reads-well (Stopped CannotRead) c h still = absurd (still h.cause.1)
-reads-well (Stopped OutOfMemory) c h still = λ e. absurd (omega arith)
-reads-well CannotWrite c h still = λ e. absurd (omega arith)
+none-concludes : (n : ℕ) → 5 ≤ n → (k : Conclusion) → number_of_conclusion k ≢ n
+none-concludes n high (Ended o) = no-fault o n high
+none-concludes n high (Judged verdict.Run) = λ e. absurd (omega arith)
+none-concludes n high (Judged (verdict.Bad at)) = λ e. absurd (omega arith)
+none-concludes n high Flows = λ e. absurd (omega arith)
+none-concludes n high NotConfluent = λ e. absurd (omega arith)
+none-concludes n high Undefined = λ e. absurd (omega arith)
 
-writes-well : (s : Status) (c : Call) → Holds s c → (Grew c.out_faults → ⊥) → number_of s ≢ 6
-writes-well (Concluded k) c h still = no-fault k 6 (omega arith)
-writes-well (Stopped BadWords) c h still = λ e. absurd (omega arith)
-writes-well (Stopped (Refused line f)) c h still = λ e. absurd (omega arith)
-writes-well (Stopped (NoJournal line)) c h still = λ e. absurd (omega arith)
-writes-well (Stopped CannotRead) c h still = λ e. absurd (omega arith)
-writes-well (Stopped OutOfMemory) c h still = λ e. absurd (omega arith)
-writes-well CannotWrite c h still = absurd (still h.faults)
-
--- the number of a status of which its line holds
-pub answered : (s : Status) (n : ℕ) (c : Call) → 2 ≤ length c.given.orders → n ≡ number_of s → Holds s c → IsAnswered n c
-answered s n c two is h = subst (λ m. IsAnswered m c) (sym is) (record {
-  cause = (s, refl, h);
-  complete = λ d W says known still. runs s c d W h says known still;
-  checks = λ w j W J says tells also still. checks c w j W J says tells also s h still;
-  flows = λ file W says tells still. flows c file W says tells s h still;
-  texts = λ d file says names tells still. refuses s c d file h says names tells still;
-  journals = λ w j W says tells also still. refuses-journal s c w j h says also still;
-  words = refuses-words s c h;
-  spends = λ d W says known none few. spends s c d W h two says known none few;
-  reads = reads-well s c h;
-  writes = writes-well s c h;
-})
+-- a call that ended with this exit status is answered
+pub answered : (n : ℕ) (c : Call) → 2 ≤ length c.given.orders → EndsBy n c → IsAnswered n c
+answered n c two ends = by ends.0 ends.1 ends.2 where
+  by : (s : Status Conclusion) → n ≡ number_of number_of_conclusion s → Holds s c → IsAnswered n c
+  by s is h = subst (λ m. IsAnswered m c) (sym is) (record {
+    cause = (s, refl, h);
+    complete = λ d W says known still. runs s c d W h says known still;
+    checks = λ w j W J says tells also still. checks c w j W J says tells also s h still;
+    flows = λ file W says tells still. flows c file W says tells s h still;
+    texts = λ d file says names tells still. refuses s c d file h says names tells still;
+    journals = λ w j W says tells also still. refuses-journal s c w j h says also still;
+    words = refuses-words s c h;
+    spends = λ d W says known none few. spends s c d W h two says known none few;
+    reads = reads-well (program c) c.left (none-concludes 5 (omega arith)) (λ cause. cause.why.1) s h;
+    writes = writes-well (program c) c.left (none-concludes 6 (omega arith)) s h;
+  })

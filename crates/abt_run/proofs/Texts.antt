@@ -24,28 +24,11 @@ use Rattle.abt_report.specs.Journals as journals
 use Rattle.abt_machine.specs.Texts.{journal_text}
 use Rattle.abt_report.specs.declared.not_journal.NotJournal.{NotJournal}
 use Rattle.abt_report.specs.declared.not_journal.NotJournal.TheVariants as bad
+use Rattle.abt_shell.proofs.Fetched.{of-long, of-whole, whole}
 use Rattle.abt_workload.specs.Reading.{IsCause}
 use Rattle.abt_workload.specs.declared.reading.NotRead.{NotRead}
 use Rattle.abt_workload.specs.declared.reading.NotRead.TheVariants as cause
 use Rattle.abt_run.specs.Given.{IsNoJournalAt, IsTextOf}
-
--- Prefixes. The first bytes of a file are all of it, if they are fewer than were asked for.
-whole : (most : ℕ) (front xs : Text) → front ≡ take (most + 1) xs → length front ≤ most → front ≡ xs
-whole most front xs e short =
-    let n : length front ≡ min (most + 1) (length xs) = ap length e ∙ length-take (most + 1) xs in
-    let fits : length xs ≤ most + 1 = omega arith in
-    e ∙ take_all (most + 1) xs fits
-
--- what holds of them holds of the observable bytes of the file
-pub of-whole : (most : ℕ) (P : Text → Type 0) (told : Option Text) (front : Text) → IfSome told (λ xs. front ≡ take (most + 1) xs) → length front ≤ most → P front → IfSome told P
-of-whole most P None front e short h = tt
-of-whole most P (Some xs) front e short h = subst P (whole most front xs e short) h
-
--- or there are more bytes than that
-pub of-long : (most : ℕ) (P : Text → Type 0) (told : Option Text) (front : Text) → IfSome told (λ xs. front ≡ take (most + 1) xs) → most < length front
-    → ((xs : Text) → most < length xs → P xs) → IfSome told P
-of-long most P None front e long h = tt
-of-long most P (Some xs) front e long h = let n : length front ≡ min (most + 1) (length xs) = ap length e ∙ length-take (most + 1) xs in h xs (omega (arith, n, long))
 
 -- Workloads.
 

@@ -10,69 +10,50 @@ use Rattle.abt_check.specs.Verdicts.{IsStampedRun}
 use Rattle.abt_flow.specs.Confluent.{Confluent}
 use Rattle.abt_flow.specs.Flow.{IsFlow}
 use Rattle.abt_generate.specs.Generated.{generated}
-use Rattle.abt_shell.specs.Told.{Gained, GainedPrefix, Grew, IsTold}
+use Rattle.abt_shell.specs.Calls.{IsStill, Left, Program}
+use Rattle.abt_shell.specs.Calls as calls
+use Rattle.abt_shell.specs.Status.{Status}
+use Rattle.abt_shell.specs.Told.{Grew}
+use Rattle.abt_shell.specs.declared.status.Stop.{Stop}
 use Rattle.abt_words.specs.declared.commands.Command.{Command}
 use Rattle.abt_words.specs.declared.commands.Command.TheVariants as command
 use Rattle.abt_words.specs.Commands.{Says}
 use Rattle.abt_run.specs.Given.{Given, IsTextOf, SaysNothing, Tells, workload_file}
 use Rattle.abt_run.specs.Prepared.{Stops}
 use Rattle.abt_run.specs.Printed.{Prints, steps_for}
-use Rattle.abt_run.specs.Status.{message_of, number_of, stop_message}
+use Rattle.abt_run.specs.Status.{name, number_of_conclusion}
 use Rattle.abt_run.specs.declared.status.Conclusion.{Conclusion}
-use Rattle.abt_run.specs.declared.status.Status.{Status}
-use Rattle.abt_run.specs.declared.status.Status.TheVariants.{Concluded, Stopped, CannotWrite}
-use Rattle.abt_run.specs.declared.status.Stop.{Stop}
 
--- what the call was given; for reading, output and messages the count of faults and the bytes taken, before and afterwards; then the
--- journal that was answered
+-- what the call was given, what it left, and the journal that was answered
 pub record Call : Type 0 where
   pub given : Given
-  pub read_faults : ℕ × ℕ
-  pub out : Option Text × Option Text
-  pub out_faults : ℕ × ℕ
-  pub err : Option Text × Option Text
-  pub err_faults : ℕ × ℕ
+  pub left : Left
   pub journal : List Event
 
 -- What each status says.
 
--- the command was carried out and came to this, and all that it prints was written
-pub record Wrote (conclusion : Conclusion) (c : Call) : Type 0 where
-  pub text : Text
-  pub prints : Prints c.given conclusion c.journal text
-  pub out : Gained c.out text
-  pub err : Gained c.err []
-
--- the command was carried out, a prefix of what it prints was written, and the count of faults of the output rose
-pub record WrotePrefix (c : Call) : Type 0 where
-  pub conclusion : Conclusion
-  pub text : Text
-  pub prints : Prints c.given conclusion c.journal text
-  pub out : GainedPrefix c.out text
-  pub faults : Grew c.out_faults
-  pub err : IsTold c.err c.err_faults (message_of CannotWrite)
-
--- the command was not carried out, nothing but the message was written, and no journal is answered
-pub record StoppedBy (stop : Stop) (c : Call) : Type 0 where
-  pub cause : Stops c.given c.read_faults stop
-  pub out : Gained c.out []
-  pub err : IsTold c.err c.err_faults (stop_message stop)
+-- the command is not carried out for this reason, and no journal is answered
+pub record IsStopped (c : Call) (stop : Stop) : Type 0 where
+  pub why : Stops c.given c.left.read_faults stop
   pub journal : c.journal ≡ []
 
-abbrev pub Holds : Status → Call → Type 0
-Holds (Concluded conclusion) c = Wrote conclusion c
-Holds (Stopped stop) c = StoppedBy stop c
-Holds CannotWrite c = WrotePrefix c
+-- the program, of which each status says what `Wrote`, `WrotePrefix` or `StoppedBy` of abt_shell has
+abbrev pub program : Call → Program Conclusion
+program c = record {
+  name = name;
+  number = number_of_conclusion;
+  Prints = λ conclusion text. Prints c.given conclusion c.journal text;
+  Stops = IsStopped c;
+}
+
+abbrev pub Holds : Status Conclusion → Call → Type 0
+Holds status c = calls.Holds (program c) c.left status
 
 -- the call ended with this exit status, which has its cause
 abbrev pub EndsBy : ℕ → Call → Type 0
-EndsBy n c = (status : Status) × (n ≡ number_of status) × Holds status c
+EndsBy n c = calls.EndsBy (program c) c.left n
 
 -- When each status must come, unless memory runs out.
-
--- no fault of reading came, and none of writing the output
-abbrev pub IsStill : Call → Type 0
-IsStill c = (Grew c.read_faults → ⊥) × (Grew c.out_faults → ⊥)
 
 -- the command runs W, and W is known: it is read from bytes that are observable, or made of the number of units
 abbrev pub RunsKnown : Command → Given → Parts → Type 0
@@ -87,7 +68,7 @@ IsOfRun n = (n ≡ 0) ⊎ ((n ≡ 1) ⊎ (n ≡ 4))
 
 -- if a command's workload is known, and no fault comes, it runs
 abbrev pub IsComplete : ℕ → Call → Type 0
-IsComplete n c = (command : Command) (W : Parts) → Says c.given.words command → RunsKnown command c.given W → IsStill c → IsOfRun n ⊎ (n ≡ 7)
+IsComplete n c = (command : Command) (W : Parts) → Says c.given.words command → RunsKnown command c.given W → IsStill c.left → IsOfRun n ⊎ (n ≡ 7)
 
 -- the status is 0 if this holds, and 1 if it does not
 abbrev pub Decides : ℕ → Type 0 → Type 0
@@ -96,22 +77,22 @@ Decides n P = (P × (n ≡ 0)) ⊎ ((P → ⊥) × (n ≡ 1))
 -- if a workload and a journal are known, and no fault comes, the status says whether the journal is a run of the workload with stamps
 abbrev pub ChecksJournals : ℕ → Call → Type 0
 ChecksJournals n c = (workload journal : Text) (W : Parts) (J : List Event) → Says c.given.words (command.Check workload journal)
-    → Tells c.given workload (λ bytes. Reads bytes W) → Tells c.given journal (IsTextOf J) → IsStill c → Decides n (IsStampedRun W c.given.orders J) ⊎ (n ≡ 7)
+    → Tells c.given workload (λ bytes. Reads bytes W) → Tells c.given journal (IsTextOf J) → IsStill c.left → Decides n (IsStampedRun W c.given.orders J) ⊎ (n ≡ 7)
 
 -- if a workload is known, and no fault comes, the status says whether it is confluent and has a flow
 abbrev pub FindsFlows : ℕ → Call → Type 0
-FindsFlows n c = (file : Text) (W : Parts) → Says c.given.words (command.Flow file) → Tells c.given file (λ bytes. Reads bytes W) → IsStill c
+FindsFlows n c = (file : Text) (W : Parts) → Says c.given.words (command.Flow file) → Tells c.given file (λ bytes. Reads bytes W) → IsStill c.left
     → Decides n (Confluent W × ((rows : List (List Piece)) × IsFlow W rows)) ⊎ (n ≡ 7)
 
 -- if the words name a file whose bytes are observable and are no workload's text, and no fault of reading comes, the status is 3
 abbrev pub RefusesTexts : ℕ → Call → Type 0
 RefusesTexts n c = (command : Command) (file : Text) → Says c.given.words command → workload_file command ≡ Some file
-    → Tells c.given file (λ bytes. (W : Parts) → Reads bytes W → ⊥) → (Grew c.read_faults → ⊥) → (n ≡ 3) ⊎ (n ≡ 7)
+    → Tells c.given file (λ bytes. (W : Parts) → Reads bytes W → ⊥) → (Grew c.left.read_faults → ⊥) → (n ≡ 3) ⊎ (n ≡ 7)
 
 -- and so it is if a journal's bytes are observable and are no journal's text
 abbrev pub RefusesJournals : ℕ → Call → Type 0
 RefusesJournals n c = (workload journal : Text) (W : Parts) → Says c.given.words (command.Check workload journal) → Tells c.given workload (λ bytes. Reads bytes W)
-    → Tells c.given journal (λ bytes. (J : List Event) → IsTextOf J bytes → ⊥) → (Grew c.read_faults → ⊥) → (n ≡ 3) ⊎ (n ≡ 7)
+    → Tells c.given journal (λ bytes. (J : List Event) → IsTextOf J bytes → ⊥) → (Grew c.left.read_faults → ⊥) → (n ≡ 3) ⊎ (n ≡ 7)
 
 -- if the words say no command, they are refused
 abbrev pub RefusesWords : ℕ → Call → Type 0
@@ -131,5 +112,5 @@ pub record IsAnswered (n : ℕ) (c : Call) : Type 0 where
   pub journals : RefusesJournals n c
   pub words : RefusesWords n c
   pub spends : SpendsNone n c
-  pub reads : (Grew c.read_faults → ⊥) → n ≢ 5
-  pub writes : (Grew c.out_faults → ⊥) → n ≢ 6
+  pub reads : (Grew c.left.read_faults → ⊥) → n ≢ 5
+  pub writes : (Grew c.left.out_faults → ⊥) → n ≢ 6

@@ -2,9 +2,7 @@
 use Rattle.std.specs.Prelude.{◌≡◌, ◌<◌, ◌+◌, ◌^◌, ℕ, suc, ◌++◌, if◌then◌else◌, List, [], codes, decimal}
 use Rattle.abt_machine.specs.declared.events.Event.{Event}
 use Rattle.abt_machine.specs.declared.events.Outcome.{Outcome}
-use Rattle.abt_machine.specs.declared.events.Outcome.TheVariants as outcome
 use Rattle.abt_machine.specs.declared.events.Piece.{Piece}
-use Rattle.abt_machine.specs.declared.numbers.StreamNo.{StreamNo}
 use Rattle.abt_machine.specs.declared.workload.Parts.{Parts}
 use Rattle.abt_machine.specs.Limits.{default_steps}
 use Rattle.abt_machine.specs.Outcomes.{steps_in}
@@ -25,7 +23,7 @@ use Rattle.abt_words.specs.declared.commands.Command.TheVariants as command
 use Rattle.abt_words.specs.Commands.{Says}
 use Rattle.abt_run.specs.Given.{Compares, Given, IsReadFrom, IsTextOf}
 use Rattle.abt_run.specs.declared.status.Conclusion.{Conclusion}
-use Rattle.abt_run.specs.declared.status.Conclusion.TheVariants.{Finished, Stuck, Budget, Judged, Flows, NotConfluent, Undefined}
+use Rattle.abt_run.specs.declared.status.Conclusion.TheVariants.{Ended, Judged, Flows, NotConfluent, Undefined}
 
 -- Runs.
 
@@ -111,16 +109,8 @@ pub record HasNoFlow (g : Given) : Type 0 where
 
 -- the command was carried out and came to this, J is the journal that the call answers, and the command prints the text
 abbrev pub Prints : Given → Conclusion → List Event → Text → Type 0
-Prints g Finished J text = Ran g J outcome.Finished text
-Prints g Stuck J text = Ran g J outcome.Stuck text
-Prints g Budget J text = (s : StreamNo) × Ran g J (outcome.Budget s) text
+Prints g (Ended o) J text = Ran g J o text
 Prints g (Judged v) J text = HasVerdict g v × (text ≡ verdict_text v) × (J ≡ [])
 Prints g Flows J text = HasFlow g text × (J ≡ [])
 Prints g NotConfluent J text = IsNotConfluent g × (text ≡ codes "not confluent\n") × (J ≡ [])
 Prints g Undefined J text = HasNoFlow g × (text ≡ codes "undefined\n") × (J ≡ [])
-
--- what a run that ended so came to
-abbrev pub conclusion_of : Outcome → Conclusion
-conclusion_of outcome.Finished = Finished
-conclusion_of outcome.Stuck = Stuck
-conclusion_of (outcome.Budget s) = Budget

@@ -12,10 +12,11 @@ ghost use Rattle.abt_run.specs.Printed.{IsCounted, Prints, verdict_text};
 
 use crate::fetching::{fetch, fetch_journal};
 use crate::prepared::{Prepared, without_journal};
-use crate::status::{Conclusion, Stop};
+use crate::status::Conclusion;
 use abt_check::{Verdict, check};
 use abt_machine::Want;
 use abt_order::StoredOrder;
+use abt_shell::Stop;
 use abt_source::Files;
 use itoa::Buffer;
 use std::alloc::Global;

@@ -1,14 +1,14 @@
 //! The workloads and journals of files.
 
-ghost use Rattle.std.specs.Prelude.{◌≡◌, ◌<◌, ◌≤◌, ◌+◌, ℕ, List, IfErr, IfOk, IfSome, length, take};
+ghost use Rattle.std.specs.Prelude.{◌≡◌, ◌≤◌, ℕ, List, IfErr, IfOk, IfSome};
 ghost use Rattle.abt_machine.specs.Grammar.{Reads};
 ghost use Rattle.abt_run.specs.Given.{IsTextOf};
-ghost use Rattle.abt_run.specs.Prepared.{HasNoWorkload, HasNoJournal, Unread};
+ghost use Rattle.abt_run.specs.Prepared.{HasNoWorkload, HasNoJournal};
 
-use crate::status::Stop;
 use abt_machine::{Journal, Workload};
 use abt_report::{NotJournal, read_journal};
-use abt_source::{Files, NotFetched, read_all};
+use abt_shell::{Stop, Wrong, bytes_of};
+use abt_source::Files;
 use abt_workload::{NotRead, read};
 use std::alloc::Global;
 
@@ -22,7 +22,7 @@ const MOST_OF_JOURNAL: usize = 1_073_741_824;
 ///
 /// # Errors
 ///
-/// `Refused` if the bytes are no workload's text, `CannotRead` if they cannot be read, `OutOfMemory` if memory is refused.
+/// `BadLine` if the bytes are no workload's text, `CannotRead` if they cannot be read, `OutOfMemory` if memory is refused.
 pub fn fetch<F: Files>(alloc: Global, file: &str, files: &mut F) -> Result<Workload, Stop>
     ensures reads { IfOk result (λ w. IfSome (F.file files.old file.now) (λ bytes. Reads bytes w)) }
     ensures stop { IfErr result (HasNoWorkload (F.file files.old file.now) (F.faults files.old, F.faults files.new)) }
@@ -32,7 +32,7 @@ pub fn fetch<F: Files>(alloc: Global, file: &str, files: &mut F) -> Result<Workl
     let bytes = bytes_of(alloc, file, files, MOST)?;
     match read(alloc, &bytes) {
         Ok(w) => Ok(w),
-        Err(NotRead::Refused { line, fault }) => Err(Stop::Refused { line, fault }),
+        Err(NotRead::Refused { line, fault }) => Err(Stop::BadLine(line, Wrong::Workload(fault))),
         Err(NotRead::Memory) => Err(Stop::OutOfMemory),
     }
 }
@@ -49,32 +49,11 @@ pub(crate) fn fetch_journal<F: Files>(
 {
     let bytes = bytes_of(alloc, file, files, MOST_OF_JOURNAL)?;
     if bytes.len() > MOST_OF_JOURNAL {
-        return Err(Stop::NoJournal { line: 0 });
+        return Err(Stop::BadLine(0, Wrong::Journal));
     }
     match read_journal(alloc, &bytes) {
         Ok(journal) => Ok(journal),
-        Err(NotJournal::Bad { line }) => Err(Stop::NoJournal { line }),
+        Err(NotJournal::Bad { line }) => Err(Stop::BadLine(line, Wrong::Journal)),
         Err(NotJournal::Memory) => Err(Stop::OutOfMemory),
-    }
-}
-
-// The bytes of a file, or one more than the most if it has more.
-fn bytes_of<F: Files>(
-    alloc: Global,
-    file: &str,
-    files: &mut F,
-    most: usize,
-) -> Result<Vec<u8>, Stop>
-    requires { most < usize.MAX }
-    ensures bytes { IfOk result (λ v. IfSome (F.file files.old file.now) (λ xs. v.items ≡ take (most + 1) xs)) }
-    ensures bound { IfOk result (λ v. length v.items ≤ most + 1) }
-    ensures stop { IfErr result (Unread (F.faults files.old, F.faults files.new)) }
-    ensures same { (name : List ℕ) → F.file files.new name ≡ F.file files.old name }
-    ensures later { F.faults files.old ≤ F.faults files.new }
-{
-    match read_all(alloc, files, file, most) {
-        Ok(bytes) => Ok(bytes),
-        Err(NotFetched::Failed) => Err(Stop::CannotRead),
-        Err(NotFetched::Memory) => Err(Stop::OutOfMemory),
     }
 }

@@ -11,9 +11,10 @@ ghost use Rattle.abt_run.specs.Printed.{Prints};
 
 use crate::fetching::fetch;
 use crate::prepared::{Prepared, without_journal};
-use crate::status::{Conclusion, Stop};
+use crate::status::Conclusion;
 use abt_flow::{confluent, find_flow};
 use abt_report::outputs_text;
+use abt_shell::Stop;
 use abt_source::Files;
 use std::alloc::Global;
 

@@ -12,4 +12,4 @@ mod status;
 pub use fetching::fetch;
 pub use program::abtrun;
 pub use running::count_steps;
-pub use status::{Conclusion, Status, Stop, fault_word};
+pub use status::{Conclusion, NAME};

@@ -6,15 +6,16 @@ ghost use Rattle.abt_run.specs.Call.{IsAnswered};
 ghost use Rattle.abt_run.specs.Given.{given};
 ghost use Rattle.abt_run.specs.Prepared.{Stops};
 ghost use Rattle.abt_run.specs.Printed.{Prints};
+ghost use Rattle.abt_shell.specs.Calls.{left};
 
 use crate::checking::prepare_check;
 use crate::following::prepare_flow;
 use crate::prepared::Prepared;
 use crate::running::{prepare_file, prepare_self};
-use crate::status::{Status, Stop};
+use crate::status::NAME;
 use abt_machine::{Ended, Journal};
 use abt_order::StoredOrder;
-use abt_shell::{Ending, stop_by, write_out};
+use abt_shell::{Stop, stop_by, write_out};
 use abt_source::{Files, Sink};
 use abt_stream::Pace;
 use abt_words::{Command, WordFault, words as command};
@@ -91,11 +92,7 @@ pub fn abtrun<R: Threads + Wait + Sync, F: Files, K: Sink, E: Sink, P: Pace + Sy
     requires orders { 2 ≤ length orders.now }
     ensures { IsAnswered result.status (record {
       given = given (map string_bytes words.now) (shapes_of orders.now) (λ name. F.file files.old name);
-      read_faults = (F.faults files.old, F.faults files.new);
-      out = (K.taken out.old, K.taken out.new);
-      out_faults = (K.faults out.old, K.faults out.new);
-      err = (E.taken err.old, E.taken err.new);
-      err_faults = (E.faults err.old, E.faults err.new);
+      left = left (F.faults files.old, F.faults files.new) (K.taken out.old, K.taken out.new) (K.faults out.old, K.faults out.new) (E.taken err.old, E.taken err.new) (E.faults err.old, E.faults err.new);
       journal = result.journal;
     }) }
 {
@@ -107,16 +104,13 @@ pub fn abtrun<R: Threads + Wait + Sync, F: Files, K: Sink, E: Sink, P: Pace + Sy
                 conclusion,
             },
         ) => {
-            let status = write_out(out, err, &text, Status::Concluded(conclusion));
-            Ended {
-                status: status.number(),
-                journal,
-            }
+            let status = write_out(NAME, out, err, &text, conclusion.number());
+            Ended { status, journal }
         }
         Err(stop) => {
-            let status = stop_by(alloc, err, Status::Stopped(stop));
+            let stop = stop_by(alloc, NAME, err, stop);
             Ended {
-                status: status.number(),
+                status: stop.number(),
                 journal: Journal::new(Vec::new(alloc)),
             }
         }

@@ -13,17 +13,19 @@ ghost use Rattle.abt_words.specs.declared.commands.Command.TheVariants as comman
 ghost use Rattle.std.specs.Prelude.{Option};
 ghost use Rattle.abt_run.specs.Given.{given};
 ghost use Rattle.abt_run.specs.Prepared.{Stops};
-ghost use Rattle.abt_run.specs.Printed.{Prints, conclusion_of, output_text};
-ghost use Rattle.abt_run.specs.declared.status.Stop.TheVariants as why;
+ghost use Rattle.abt_run.specs.Printed.{Prints, output_text};
+ghost use Rattle.abt_run.specs.declared.status.Conclusion.TheVariants as conclusion;
+ghost use Rattle.abt_shell.specs.declared.status.Stop.TheVariants as why;
 
 use crate::fetching::fetch;
 use crate::prepared::Prepared;
-use crate::status::{Conclusion, Stop};
+use crate::status::Conclusion;
 use abt_drain::Run;
 use abt_generate::generate;
-use abt_machine::{Event, Journal, Outcome, Want, What, Workload};
+use abt_machine::{Event, Journal, Want, What, Workload};
 use abt_order::StoredOrder;
 use abt_report::{append_report, journal_text, short_report};
+use abt_shell::Stop;
 use abt_source::Files;
 use abt_stream::Pace;
 use abt_waves::run_streams;
@@ -81,7 +83,7 @@ pub(crate) fn prepare_self<R: Threads + Wait + Sync, P: Pace + Sync>(
 // What a run came to, with what it prints.
 fn ended(run: Run, text: Vec<u8>) -> Prepared
     ensures journal { result.journal ≡ run.journal }
-    ensures conclusion { result.conclusion ≡ conclusion_of run.outcome }
+    ensures conclusion { result.conclusion ≡ conclusion.Ended run.outcome }
     ensures text { result.text.items ≡ text.items }
 {
     let Run {
@@ -92,17 +94,7 @@ fn ended(run: Run, text: Vec<u8>) -> Prepared
     Prepared {
         journal,
         text,
-        conclusion: conclusion_by(outcome),
-    }
-}
-
-fn conclusion_by(outcome: Outcome) -> Conclusion
-    ensures { result ≡ conclusion_of outcome }
-{
-    match outcome {
-        Outcome::Finished => Conclusion::Finished,
-        Outcome::Stuck => Conclusion::Stuck,
-        Outcome::Budget(_) => Conclusion::Budget,
+        conclusion: Conclusion::Ended(outcome),
     }
 }
 

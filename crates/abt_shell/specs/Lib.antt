@@ -1,1 +1,4 @@
+pub mod Calls
+pub mod Fetched
+pub mod Status
 pub mod Told

@@ -1,9 +1,7 @@
--- What a call leaves in its sinks, and messages.
-use Rattle.std.specs.Prelude.{◌⊎◌, ◌++◌, ℕ, [], Option, codes, decimal}
+-- What a call leaves in its sinks.
+use Rattle.std.specs.Prelude.{◌⊎◌, ℕ, [], Option}
 use Rattle.abt_machine.specs.Words.{Text}
 use Rattle.abt_source.specs.Source.{Rose, Took, TookPrefix}
-use Rattle.abt_shell.specs.declared.ending.Said.{Said}
-use Rattle.abt_shell.specs.declared.ending.Said.TheVariants.{Fixed, Line}
 
 -- Pairs have what was counted or taken before and afterwards.
 
@@ -33,13 +31,3 @@ pub record WrotePart (out : Option Text × Option Text) (out_faults : ℕ × ℕ
   pub prefix : GainedPrefix out text
   pub faults : Grew out_faults
   pub told : IsTold err err_faults message
-
--- Messages.
-
--- the message about a line, and what it has wrong
-abbrev pub about_line : Text → ℕ → Text → Text
-about_line head line wrong = head ++ (decimal line ++ (codes ": " ++ (wrong ++ codes "\n")))
-
-abbrev pub said_text : Said → Text
-said_text (Fixed text) = text.now
-said_text (Line head line wrong) = about_line head.now line wrong.now

@@ -1,10 +1,12 @@
-//! What programs share round their calls: how a call ends and what is said of it, its output, and what the process gives it.
+//! What programs share round their calls: how a call ends and what is said of it, its files and its output, and what the process gives it.
 #![tactic(auto)]
 
-mod ending;
+mod fetching;
 mod process;
+mod status;
 mod writing;
 
-pub use ending::{Ending, Said};
-pub use process::{Program, run_program, words_of};
-pub use writing::{stop_by, tell, write_out};
+pub use fetching::bytes_of;
+pub use process::{Process, stored_orders, words_of};
+pub use status::{Stop, Wrong, number_of_outcome};
+pub use writing::{stop_by, write_out};

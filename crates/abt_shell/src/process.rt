@@ -1,37 +1,53 @@
-//! A program over the files and sinks of the process, and the two stored orders.
+//! What the process gives a program: its words, its files and its sinks; and the two stored orders.
 
-ghost use denote.Param.Send.{IsSync};
-ghost use Rattle.std.specs.Prelude.{◌≤◌, length};
+ghost use Rattle.std.specs.Prelude.{◌≡◌, length};
 
-use crate::ending::Ending;
+use crate::status::Stop;
 use crate::writing::stop_by;
-use abt_machine::Ended;
 use abt_order::StoredOrder;
-use abt_source::{Files, RealFiles, RealSink, Sink};
+use abt_source::{RealFiles, RealSink};
 use std::alloc::Global;
 use std::process::ExitCode;
 use std::rt::Runtime;
-use std::sync::Wait;
-use std::thread::Threads;
 use std::{env, io};
 
-/// A program with stored orders: what its `main` does.
-pub trait Program {
-    /// How its calls end.
-    type Status: Ending;
+/// The words after the program's name, the files, the standard output and the standard error.
+#[derive(Drop)]
+pub struct Process<'a, R: Runtime + AllocGlobal> {
+    pub words: Vec<String>,
+    pub files: RealFiles<'a, R>,
+    pub out: RealSink<'a, R>,
+    pub err: RealSink<'a, R>,
+}
 
-    /// A call with the words after the program's name, over any files and sinks.
-    fn call<R: Threads + Wait + Sync, F: Files, K: Sink, E: Sink>(
-        rt: &R,
-        alloc: Global,
-        words: &[String],
-        files: &mut F,
-        out: &mut K,
-        err: &mut E,
-        orders: &[StoredOrder],
-    ) -> Ended
-        requires shared { IsSync R.row }
-        requires orders { 2 ≤ length orders.now };
+impl<'a, R: Runtime + AllocGlobal> Process<'a, R> {
+    /// Those of the process, in which a program of this name runs.
+    ///
+    /// # Errors
+    ///
+    /// If the words can't be had, a message is written; the exit status.
+    pub fn new(rt: &'a R, name: &[u8]) -> Result<Self, ExitCode> {
+        let alloc = rt.alloc();
+        let mut err = RealSink::err(rt);
+        match words_of(rt, alloc) {
+            Ok(words) => Ok(Process {
+                words,
+                files: RealFiles::new(rt),
+                out: RealSink::out(rt),
+                err,
+            }),
+            Err(e) => {
+                let stop = if e.kind() == io::ErrorKind::OutOfMemory {
+                    Stop::OutOfMemory
+                } else {
+                    Stop::BadWords
+                };
+                Err(ExitCode::from(
+                    stop_by(alloc, name, &mut err, stop).number(),
+                ))
+            }
+        }
+    }
 }
 
 /// The words after the program's name.
@@ -43,26 +59,9 @@ pub fn words_of<R: Runtime>(rt: &R, alloc: Global) -> io::Result<Vec<String<R::A
     Ok(words)
 }
 
-/// A call with the words, the files and the sinks of the process. Order 0 rotates, and order 1 mirrors.
-pub fn run_program<P: Program, R: Runtime + AllocGlobal + Threads + Wait + Sync>(
-    rt: &R,
-) -> ExitCode {
-    let alloc = rt.alloc();
-    let mut files = RealFiles::new(rt);
-    let mut out = RealSink::out(rt);
-    let mut err = RealSink::err(rt);
-    let words = match words_of(rt, alloc) {
-        Ok(words) => words,
-        Err(e) => {
-            let status = if e.kind() == io::ErrorKind::OutOfMemory {
-                P::Status::out_of_memory().0
-            } else {
-                P::Status::bad_words()
-            };
-            return ExitCode::from(stop_by(alloc, &mut err, status).number());
-        }
-    };
-    let orders = [StoredOrder::rotating(), StoredOrder::mirroring()];
-    let ended = P::call(rt, alloc, &words, &mut files, &mut out, &mut err, &orders);
-    ExitCode::from(ended.status)
+/// The orders that users of a program may name: order 0 rotates, and order 1 mirrors.
+pub fn stored_orders() -> [StoredOrder; 2]
+    ensures { length result ≡ 2 }
+{
+    [StoredOrder::rotating(), StoredOrder::mirroring()]
 }

@@ -1,43 +1,26 @@
 -- What a call of the program reads and writes, and what each status says of that.
-use Rattle.std.specs.Prelude.{◌≡◌, ◌≢◌, ◌⊎◌, ℕ, List, [], Option, Some, IfSome}
+use Rattle.std.specs.Prelude.{◌≡◌, ◌≢◌, ◌⊎◌, ℕ, List, Option, Some, IfSome, codes, ⊤}
 use Rattle.std.specs.List.{All}
 use Rattle.abt_machine.specs.declared.events.Event.{Event}
 use Rattle.abt_machine.specs.Texts.{journal_text}
 use Rattle.abt_machine.specs.Words.{Text}
 use Rattle.abt_report.specs.Journals.{IsBadAt, IsEvent, IsNoJournal}
-use Rattle.abt_source.specs.Source.{Rose, Took, TookPrefix}
-use Rattle.abt_view.specs.declared.status.Status.{Status}
-use Rattle.abt_view.specs.declared.status.Status.TheVariants.{Written, BadWords, Refused, CannotRead, CannotWrite, OutOfMemory}
+use Rattle.abt_shell.specs.declared.status.Stop.{Stop}
+use Rattle.abt_shell.specs.declared.status.Wrong.{Wrong}
+use Rattle.abt_shell.specs.declared.status.Wrong.TheVariants.{Workload, Journal, Lives}
+use Rattle.abt_shell.specs.Calls.{Left, Program}
+use Rattle.abt_shell.specs.Calls as calls
+use Rattle.abt_shell.specs.Fetched.{HasNot, StopsFor}
+use Rattle.abt_shell.specs.Status.{Status}
+use Rattle.abt_shell.specs.Told.{Grew}
 use Rattle.abt_view.specs.declared.views.View.{View}
-use Rattle.abt_view.specs.Status.{message_of, number_of}
 use Rattle.abt_view.specs.Views.{Asks, view_text}
 
--- the words, the bytes of each file if they are observable, and for reading, output and messages the count of faults and the bytes
--- taken, before and afterwards
+-- the words, the bytes of each file if they are observable, and what the call left
 pub record Call : Type 0 where
   pub words : List Text
   pub file : Text → Option Text
-  pub read_faults : ℕ × ℕ
-  pub out : Option Text × Option Text
-  pub out_faults : ℕ × ℕ
-  pub err : Option Text × Option Text
-  pub err_faults : ℕ × ℕ
-
--- the count of faults rose
-abbrev pub Grew : ℕ × ℕ → Type 0
-Grew faults = Rose faults.0 faults.1
-
--- the sink took these bytes, and nothing else
-abbrev pub Gained : Option Text × Option Text → Text → Type 0
-Gained sink bytes = Took sink.0 sink.1 bytes
-
--- the sink took a prefix of these bytes, which lacks at least one
-abbrev pub GainedPrefix : Option Text × Option Text → Text → Type 0
-GainedPrefix sink bytes = TookPrefix sink.0 sink.1 bytes
-
--- the message was written, or a prefix of it, and then the count of faults rose
-abbrev pub IsTold : Option Text × Option Text → ℕ × ℕ → Text → Type 0
-IsTold sink faults text = Gained sink text ⊎ (GainedPrefix sink text × Grew faults)
+  pub left : Left
 
 -- the words ask for a view of no file
 abbrev pub AsksNothing : List Text → Type 0
@@ -69,51 +52,59 @@ pub record IsViewOf (words : List Text) (file_of : Text → Option Text) (text :
   pub asks : Asks words view file
   pub shown : IsFileView view file file_of text
 
--- the view was written
-pub record Wrote (c : Call) : Type 0 where
-  pub text : Text
-  pub is : IsViewOf c.words c.file text
-  pub out : Gained c.out text
-  pub err : Gained c.err []
-
--- a prefix of the view was written, and the count of faults of the output rose
-pub record WrotePrefix (c : Call) : Type 0 where
-  pub text : Text
-  pub is : IsViewOf c.words c.file text
-  pub out : GainedPrefix c.out text
-  pub faults : Grew c.out_faults
-  pub err : IsTold c.err c.err_faults (message_of CannotWrite)
-
--- nothing but the status's message was written
-pub record StoppedBy (status : Status) (c : Call) : Type 0 where
-  pub out : Gained c.out []
-  pub err : IsTold c.err c.err_faults (message_of status)
-
 -- the bytes are no journal, and line l is the first that is wrong
 abbrev pub IsWrongAt : ℕ → Text → Type 0
 IsWrongAt l bytes = IsBadAt bytes l × IsNoJournal bytes
 
-abbrev pub Holds : Status → Call → Type 0
-Holds Written c = Wrote c
-Holds BadWords c = AsksNothing c.words × StoppedBy BadWords c
-Holds (Refused line) c = NamesSuch c.words c.file (IsWrongAt line) × StoppedBy (Refused line) c
-Holds CannotRead c = NamesFile c.words × Grew c.read_faults × StoppedBy CannotRead c
-Holds CannotWrite c = WrotePrefix c
-Holds OutOfMemory c = StoppedBy OutOfMemory c
+-- Why a call stops before its first write.
+
+-- a line of a file, by its bytes if they are observable, has this wrong, which keeps it from being a journal's
+abbrev pub IsNoJournalLine : Option Text → ℕ → Wrong → Type 0
+IsNoJournalLine told line (Workload f) = ⊥
+IsNoJournalLine told line Journal = IfSome told (IsWrongAt line)
+IsNoJournalLine told line Lives = ⊥
+
+-- why the file has no journal to show
+abbrev pub HasNoJournal : Option Text → ℕ × ℕ → Stop → Type 0
+HasNoJournal told = HasNot (IsNoJournalLine told)
+
+-- a line of the file that the words name has this wrong
+abbrev pub IsBadLine : List Text → (Text → Option Text) → ℕ → Wrong → Type 0
+IsBadLine words file_of line (Workload f) = ⊥
+IsBadLine words file_of line Journal = NamesSuch words file_of (IsWrongAt line)
+IsBadLine words file_of line Lives = ⊥
+
+-- by the words, the files, and the count of faults of reading before and afterwards
+abbrev pub Stops : List Text → (Text → Option Text) → ℕ × ℕ → Stop → Type 0
+Stops words file_of = StopsFor (AsksNothing words) (NamesFile words) (IsBadLine words file_of)
+
+-- What each status says.
+
+-- the program, of which each status says what `Wrote`, `WrotePrefix` or `StoppedBy` of abt_shell has; it comes to a view
+abbrev pub program : Call → Program ⊤
+program c = record {
+  name = codes "abtview";
+  number = λ _. 0;
+  Prints = λ _. IsViewOf c.words c.file;
+  Stops = Stops c.words c.file c.left.read_faults;
+}
+
+abbrev pub Holds : Status ⊤ → Call → Type 0
+Holds status c = calls.Holds (program c) c.left status
 
 -- the call ended with this exit status, which has its cause
 abbrev pub EndsBy : ℕ → Call → Type 0
-EndsBy n c = (status : Status) × (n ≡ number_of status) × Holds status c
+EndsBy n c = calls.EndsBy (program c) c.left n
 
 -- if the words ask for the view of a journal, and no fault of reading or writing comes, it is written
 abbrev pub IsComplete : ℕ → Call → Type 0
 IsComplete n c = (v : View) (file : Text) (J : List Event) → Asks c.words v file → c.file file ≡ Some (journal_text J) → All IsEvent J
-    → (Grew c.read_faults → ⊥) → (Grew c.out_faults → ⊥) → (n ≡ 0) ⊎ (n ≡ 7)
+    → (Grew c.left.read_faults → ⊥) → (Grew c.left.out_faults → ⊥) → (n ≡ 0) ⊎ (n ≡ 7)
 
 -- if they name a file whose bytes are no journal's text, and no fault of reading comes, the status is 3
 abbrev pub RefusesTexts : ℕ → Call → Type 0
 RefusesTexts n c = (v : View) (file bytes : Text) → Asks c.words v file → c.file file ≡ Some bytes → ((J : List Event) → journal_text J ≡ bytes → ⊥)
-    → (Grew c.read_faults → ⊥) → (n ≡ 3) ⊎ (n ≡ 7)
+    → (Grew c.left.read_faults → ⊥) → (n ≡ 3) ⊎ (n ≡ 7)
 
 -- if the words ask for nothing, they are refused
 abbrev pub RefusesWords : ℕ → Call → Type 0
@@ -125,5 +116,5 @@ pub record IsAnswered (n : ℕ) (c : Call) : Type 0 where
   pub complete : IsComplete n c
   pub texts : RefusesTexts n c
   pub words : RefusesWords n c
-  pub reads : (Grew c.read_faults → ⊥) → n ≢ 5
-  pub writes : (Grew c.out_faults → ⊥) → n ≢ 6
+  pub reads : (Grew c.left.read_faults → ⊥) → n ≢ 5
+  pub writes : (Grew c.left.out_faults → ⊥) → n ≢ 6

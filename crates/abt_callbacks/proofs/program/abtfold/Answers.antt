@@ -1,5 +1,3 @@
+use Rattle.abt_callbacks.specs.declared.status.Status.TheVariants.{Written, BadWords, CannotWrite, OutOfMemory}
 use Rattle.abt_callbacks.proofs.Answered.{answered}
 use Rattle.abt_callbacks.proofs.program.abtfold.Goals as goal
-
-pub returns : goal.returns
-returns g c = answered c.call.result c.number.result _ c.number.ensures c.call.ensures

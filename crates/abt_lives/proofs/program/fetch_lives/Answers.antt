@@ -7,14 +7,14 @@ use Rattle.abt_lives.proofs.program.fetch_lives.Goals as goal
 
 pub returns-then-len-gt-MOST-clause-stop : goal.returns-then-len-gt-MOST-clause-stop
 returns-then-len-gt-MOST-clause-stop g c =
-    seen-long c.args.w.now (g.F.Files.file c.args.files.now c.args.file.now) c.in-Ok.bytes.items c.in-Ok.ensures.bytes (omega (arith, c.len.ensures, c.if-len-gt-MOST.true))
+    seen-long c.args.w.now (g.F.Files.file c.args.files.now c.args.file.now) c.in_ok-bytes.bytes.items c.in_ok-bytes.ensures.bytes (omega (arith, c.len.ensures, c.if-len-gt-MOST.true))
 
-pub returns-in-Ok-read_lives-clause-reads : goal.returns-in-Ok-read_lives-clause-reads
-returns-in-Ok-read_lives-clause-reads g c =
-    seen-reads c.args.w.now (g.F.Files.file c.args.files.now c.args.file.now) c.in-Ok.bytes.items c.in-Ok-read_lives.lives c.in-Ok.ensures.bytes (omega (arith, c.len.ensures, c.if-len-gt-MOST.false))
-    c.in-Ok-read_lives.ensures.lives (c.in-Ok-read_lives.ensures.text ∙ c.deref.ensures.value)
+pub returns-in-Ok-clause-reads : goal.returns-in-Ok-clause-reads
+returns-in-Ok-clause-reads g c =
+    seen-reads c.args.w.now (g.F.Files.file c.args.files.now c.args.file.now) c.in_ok-bytes.bytes.items c.in-Ok.lives c.in_ok-bytes.ensures.bytes (omega (arith, c.len.ensures, c.if-len-gt-MOST.false))
+    c.in-Ok.ensures.lives (c.in-Ok.ensures.text ∙ c.deref.ensures.value)
 
 pub returns-in-Err-Bad-clause-stop : goal.returns-in-Err-Bad-clause-stop
 returns-in-Err-Bad-clause-stop g c =
-    seen-refuses c.args.w.now (g.F.Files.file c.args.files.now c.args.file.now) c.in-Ok.bytes.items c.in-Err-Bad.field-0 c.in-Err-Bad.line _ c.in-Ok.ensures.bytes (omega (arith, c.len.ensures, c.if-len-gt-MOST.false))
+    seen-refuses c.args.w.now (g.F.Files.file c.args.files.now c.args.file.now) c.in_ok-bytes.bytes.items c.in-Err-Bad.field-0 c.in-Err-Bad.line _ c.in_ok-bytes.ensures.bytes (omega (arith, c.len.ensures, c.if-len-gt-MOST.false))
     c.in-Err-Bad.field-0-is c.in-Err-Bad.line-is (subst (λ (bytes : Text). IsCause c.args.w.now bytes c.in-Err-Bad.field-0) c.deref.ensures.value c.in-Err-Bad.ensures.cause)

@@ -1,10 +1,16 @@
-use Rattle.abt_lives.proofs.Preparing.{if-err, if-ok, prepared-first, stops-first, stops-second}
+use Rattle.abt_shell.proofs.Fetched.{passed}
+use Rattle.abt_lives.proofs.Preparing.{no-lives-stops, no-workload-stops, ran-as}
 use Rattle.abt_lives.proofs.program.prepare_files.Goals as goal
 
-pub returns-clause-done : goal.returns-clause-done
-returns-clause-done g c =
-    if-ok c.prepare_lives.result _ _ (λ p h. prepared-first c.in_ok-w.w c.args.workload.now c.args.lives.now _ _ (c.in_ok-w.ensures.file c.args.lives.now) c.in_ok-w.ensures.reads _ p.journal p.outcome p.text.items h) c.prepare_lives.ensures.done
+pub returns-in_err-w-clause-stop : goal.returns-in_err-w-clause-stop
+returns-in_err-w-clause-stop g c = λ words asks.
+    passed c.from_residual.result c.in_err-w.field-0.0 _ c.from_residual.ensures.1 (no-workload-stops _ _ _ asks c.in_err-w.field-0.0 _ c.in_err-w.ensures.stop)
 
-pub returns-clause-stop : goal.returns-clause-stop
-returns-clause-stop g c =
-    if-err c.prepare_lives.result _ _ (λ s h. stops-second c.in_ok-w.w c.args.workload.now c.args.lives.now _ _ (c.in_ok-w.ensures.file c.args.lives.now) c.in_ok-w.ensures.reads s _ _ _ c.in_ok-w.ensures.later c.prepare_lives.ensures.later h) c.prepare_lives.ensures.stop
+pub returns-in_err-lives-clause-stop : goal.returns-in_err-lives-clause-stop
+returns-in_err-lives-clause-stop g c = λ words asks.
+    passed c.from_residual-in_err-lives.result c.in_err-lives.field-0.0 _ c.from_residual-in_err-lives.ensures.1
+    (no-lives-stops _ _ _ asks c.in_err-lives.field-0.0 c.in_ok-w.w _ _ _ _ c.in_ok-w.ensures.reads (c.in_ok-w.ensures.same c.args.lives.now) c.in_ok-w.ensures.later c.in_err-lives.ensures.later c.in_err-lives.ensures.stop)
+
+pub returns-clause-done : goal.returns-clause-done
+returns-clause-done g c = λ words asks.
+    ran-as _ _ _ asks c.in_ok-w.w _ (c.in_ok-w.ensures.same c.args.lives.now) c.in_ok-w.ensures.reads c.in_ok-lives.lives c.in_ok-lives.ensures.reads c.in_ok-ran.ran.waves c.in_ok-ran.ran.journal _ c.in_ok-ran.ran.outcome _ c.in_ok-text.text.items c.new.ensures.journal c.new.ensures.outcome _ c.new.ensures.text c.in_ok-ran.ensures.run c.in_ok-text.ensures

@@ -1,14 +1,15 @@
 use Rattle.std.proofs.Common.{refl}
 use Rattle.abt_machine.specs.Words.{Text}
-use Rattle.abt_run.proofs.Preparing.{passed, stops-file, stops-journal}
+use Rattle.abt_shell.proofs.Fetched.{passed}
+use Rattle.abt_run.proofs.Preparing.{no-workload-stops, no-journal-stops}
 use Rattle.abt_run.proofs.checking.prepare_check.Goals as goal
 
 pub returns-in_err-w-clause-stop : goal.returns-in_err-w-clause-stop
 returns-in_err-w-clause-stop g c = λ words says.
-    passed c.from_residual.result c.in_err-w.field-0.0 _ c.from_residual.ensures.1 (stops-file c.in_err-w.field-0.0 _ _ _ _ says refl c.in_err-w.ensures.stop)
+    passed c.from_residual.result c.in_err-w.field-0.0 _ c.from_residual.ensures.1 (no-workload-stops c.in_err-w.field-0.0 _ _ _ _ says refl c.in_err-w.ensures.stop)
 
 pub returns-in_err-journal-clause-stop : goal.returns-in_err-journal-clause-stop
 returns-in_err-journal-clause-stop g c = λ words says.
     passed c.from_residual-in_err-journal.result c.in_err-journal.field-0.0 _ c.from_residual-in_err-journal.ensures.1
-    (stops-journal c.in_err-journal.field-0.0 _ _ _ c.in_ok-w.w _ _ _ _ says c.in_ok-w.ensures.reads (c.in_ok-w.ensures.same c.args.journal.now)
+    (no-journal-stops c.in_err-journal.field-0.0 _ _ _ c.in_ok-w.w _ _ _ _ says c.in_ok-w.ensures.reads (c.in_ok-w.ensures.same c.args.journal.now)
     c.in_ok-w.ensures.later c.in_err-journal.ensures.later c.in_err-journal.ensures.stop)

@@ -1,12 +1,13 @@
 use Rattle.std.proofs.Common.{refl, subst}
 use Rattle.abt_machine.specs.Valid.{IsValid}
 use Rattle.abt_run.proofs.FlowWords.{flow-says}
-use Rattle.abt_run.proofs.Preparing.{passed, stops-file}
+use Rattle.abt_shell.proofs.Fetched.{passed}
+use Rattle.abt_run.proofs.Preparing.{no-workload-stops}
 use Rattle.abt_run.proofs.following.prepare_flow.Goals as goal
 
 pub returns-in_err-w-clause-stop : goal.returns-in_err-w-clause-stop
 returns-in_err-w-clause-stop g c = λ words orders says.
-    passed c.from_residual.result c.in_err-w.field-0.0 _ c.from_residual.ensures.1 (stops-file c.in_err-w.field-0.0 _ _ _ _ says refl c.in_err-w.ensures.stop)
+    passed c.from_residual.result c.in_err-w.field-0.0 _ c.from_residual.ensures.1 (no-workload-stops c.in_err-w.field-0.0 _ _ _ _ says refl c.in_err-w.ensures.stop)
 
 pub outputs_text-requires : goal.outputs_text-requires
 outputs_text-requires g c =

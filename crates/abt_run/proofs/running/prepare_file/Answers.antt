@@ -1,11 +1,12 @@
 use Rattle.std.proofs.Common.{refl}
 use Rattle.abt_words.specs.declared.commands.Command.TheVariants as command
-use Rattle.abt_run.proofs.Preparing.{passed, prints-as, stops-file}
+use Rattle.abt_shell.proofs.Fetched.{passed}
+use Rattle.abt_run.proofs.Preparing.{no-workload-stops, prints-as}
 use Rattle.abt_run.proofs.running.prepare_file.Goals as goal
 
 pub returns-in_err-w-clause-stop : goal.returns-in_err-w-clause-stop
 returns-in_err-w-clause-stop g c = λ words says.
-    passed c.from_residual.result c.in_err-w.field-0.0 _ c.from_residual.ensures.1 (stops-file c.in_err-w.field-0.0 _ _ _ _ says refl c.in_err-w.ensures.stop)
+    passed c.from_residual.result c.in_err-w.field-0.0 _ c.from_residual.ensures.1 (no-workload-stops c.in_err-w.field-0.0 _ _ _ _ says refl c.in_err-w.ensures.stop)
 
 pub returns-clause-done : goal.returns-clause-done
 returns-clause-done g c = λ words says.

@@ -1,14 +1,17 @@
-use Rattle.std.proofs.Common.{◌≡◌, ◌≤◌, length, arith}
+use Rattle.std.proofs.Common.{◌≡◌, ◌≤◌, length, rules}
 use Rattle.abt_machine.specs.Texts.{journal_text}
-use Rattle.abt_view.proofs.Preparing.{if-err, if-ok, of-prefix, stops-by}
+use Rattle.abt_shell.proofs.Fetched.{of-whole}
+use Rattle.abt_view.specs.Call.{IsWrongAt}
+use Rattle.abt_view.proofs.Preparing.{wrong-line}
 use Rattle.abt_view.proofs.program.fetch.Goals as goal
 
-pub returns-clause-reads : goal.returns-clause-reads
-returns-clause-reads g c =
-    let short : length c.in-Ok.bytes.items ≤ 4294967293 = omega (arith, c.len.ensures, c.if-len-gt-MOST.false) in
-    if-ok c.parse.result _ _ (λ journal is. of-prefix (λ bytes. journal_text journal ≡ bytes) 4294967293 c.in-Ok.bytes.items (g.F.Files.file c.args.files.now c.args.file.now) c.in-Ok.ensures.bytes short (rw c.deref.ensures.value at is)) c.parse.ensures.reads
+pub returns-in-Ok-clause-reads : goal.returns-in-Ok-clause-reads
+returns-in-Ok-clause-reads g c =
+    let short : length c.in_ok-bytes.bytes.items ≤ 4294967293 = search rules in
+    of-whole 4294967293 (λ bytes. journal_text c.in-Ok.journal ≡ bytes) _ c.in_ok-bytes.bytes.items c.in_ok-bytes.ensures.bytes short (rw c.deref.ensures.value at c.in-Ok.ensures.ok)
 
-pub returns-clause-stop : goal.returns-clause-stop
-returns-clause-stop g c =
-    let short : length c.in-Ok.bytes.items ≤ 4294967293 = omega (arith, c.len.ensures, c.if-len-gt-MOST.false) in
-    if-err c.parse.result _ _ (λ s h. stops-by s 4294967293 c.in-Ok.bytes.items c.args.file.now (λ name. g.F.Files.file c.args.files.now name) _ c.in-Ok.ensures.bytes short (rw c.deref.ensures.value at h)) c.parse.ensures.stop
+pub returns-in-Err-Bad-clause-stop : goal.returns-in-Err-Bad-clause-stop
+returns-in-Err-Bad-clause-stop g c =
+    let short : length c.in_ok-bytes.bytes.items ≤ 4294967293 = search rules in
+    of-whole 4294967293 (IsWrongAt _) _ c.in_ok-bytes.bytes.items c.in_ok-bytes.ensures.bytes short
+    (wrong-line c.in_ok-bytes.bytes.items c.in-Err-Bad.field-0 c.in-Err-Bad.line _ c.in-Err-Bad.field-0-is c.in-Err-Bad.line-is (rw c.deref.ensures.value at c.in-Err-Bad.ensures.cause))

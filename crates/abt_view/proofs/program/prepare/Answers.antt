@@ -1,4 +1,5 @@
-use Rattle.abt_view.proofs.Preparing.{if-err, if-ok, stops-file}
+use Rattle.abt_shell.proofs.Calls.{if-err, if-ok}
+use Rattle.abt_view.proofs.Preparing.{no-journal-stops}
 use Rattle.abt_view.proofs.program.prepare.Goals as goal
 
 pub returns-in-Some-clause-done : goal.returns-in-Some-clause-done
@@ -7,4 +8,4 @@ returns-in-Some-clause-done g c =
 
 pub returns-in-Some-clause-stop : goal.returns-in-Some-clause-stop
 returns-in-Some-clause-stop g c =
-    if-err c.prepare_view.result _ _ (λ s h. stops-file s _ c.in-Some.view c.in-Some.file.now _ _ c.in-Some.ensures h) c.prepare_view.ensures.stop
+    if-err c.prepare_view.result _ _ (λ s h. no-journal-stops _ _ c.in-Some.view c.in-Some.file.now c.in-Some.ensures s _ h) c.prepare_view.ensures.stop

@@ -1,0 +1,22 @@
+-- Why a call stops before its first write.
+use Rattle.std.specs.Prelude.{ℕ, ⊤}
+use Rattle.abt_shell.specs.Told.{Grew}
+use Rattle.abt_shell.specs.declared.status.Stop.{Stop}
+use Rattle.abt_shell.specs.declared.status.Stop.TheVariants.{BadWords, BadLine, CannotRead, OutOfMemory}
+use Rattle.abt_shell.specs.declared.status.Wrong.{Wrong}
+
+-- The words say nothing, or they name files, and a line of one has this wrong, or one can't be read; faults are the counts of faults
+-- of reading before and afterwards.
+abbrev pub StopsFor : Type 0 → Type 0 → (ℕ → Wrong → Type 0) → ℕ × ℕ → Stop → Type 0
+StopsFor SaysNothing NamesFiles IsBadLine faults BadWords = SaysNothing
+StopsFor SaysNothing NamesFiles IsBadLine faults (BadLine line w) = IsBadLine line w
+StopsFor SaysNothing NamesFiles IsBadLine faults CannotRead = NamesFiles × Grew faults
+StopsFor SaysNothing NamesFiles IsBadLine faults OutOfMemory = ⊤
+
+-- a file has not what was to be read of it: a line has this wrong, or the bytes are not known
+abbrev pub HasNot : (ℕ → Wrong → Type 0) → ℕ × ℕ → Stop → Type 0
+HasNot = StopsFor ⊥ ⊤
+
+-- the bytes of a file are not known
+abbrev pub Unread : ℕ × ℕ → Stop → Type 0
+Unread = HasNot (λ line w. ⊥)
