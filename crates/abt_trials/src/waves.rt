@@ -10,10 +10,10 @@ use abt_stream::{NoPace, Pace};
 use abt_waves::run_streams;
 use abt_workload::read;
 use std::alloc::Global;
+use std::hint::spin_loop;
 use std::sync::Wait;
 use std::sync::atomic::{AtomicBool, Ordering};
 use std::test::Fail;
-use std::thread;
 use std::thread::Threads;
 
 // How many times each run is repeated.
@@ -63,7 +63,7 @@ impl Pace for Meeting {
                 self.met.store(true, Ordering::SeqCst);
                 return;
             }
-            thread::yield_now();
+            spin_loop();
         }
     }
 }

@@ -1,5 +1,5 @@
 use Rattle.abt_view.proofs.Joining.{four}
-use Rattle.abt_view.proofs.Preparing.{if-ok}
+use Rattle.abt_shell.proofs.Calls.{if-ok}
 use Rattle.abt_view.proofs.traces.push_slice.Goals as goal
 
 pub returns : goal.returns
