@@ -42,9 +42,7 @@ impl<'a, R: Runtime + AllocGlobal> Process<'a, R> {
                 } else {
                     Stop::BadWords
                 };
-                Err(ExitCode::from(
-                    stop_by(alloc, name, &mut err, stop).number(),
-                ))
+                Err(ExitCode::from(stop_by(alloc, name, &mut err, stop).number()))
             }
         }
     }

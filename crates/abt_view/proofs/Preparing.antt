@@ -20,7 +20,7 @@ wrong-line bytes cause line l is same why = subst (λ k. IsWrongAt k bytes) (sym
 pub no-journal-stops : (words : List Text) (file_of : Text → Option Text) (v : View) (file : Text) → Asks words v file → (s : Stop) (faults : ℕ × ℕ) → HasNoJournal (file_of file) faults s → Stops words file_of faults s
 no-journal-stops words file_of v file asks s faults =
     stops-file (AsksNothing words) (NamesFile words) (IsNoJournalLine (file_of file)) (IsBadLine words file_of) faults faults (record { view = v; file = file; asks = asks }) bad (λ grew. grew) s where
-  bad : (line : ℕ) (w : Wrong) → IsNoJournalLine (file_of file) line w → IsBadLine words file_of line w
-  bad line (Workload f) h = absurd h
-  bad line Journal h = record { view = v; file = file; asks = asks; reads = h }
-  bad line Lives h = absurd h
+      bad : (line : ℕ) (w : Wrong) → IsNoJournalLine (file_of file) line w → IsBadLine words file_of line w
+      bad line (Workload f) h = absurd h
+      bad line Journal h = record { view = v; file = file; asks = asks; reads = h }
+      bad line Lives h = absurd h
