@@ -1,11 +1,10 @@
 use Rattle.std.proofs.Common.{refl, rules}
 use Rattle.abt_shell.proofs.Calls.{concluded, stopped}
-use Rattle.abt_view.specs.Call.{program}
 use Rattle.abt_view.proofs.Complete.{answered}
 use Rattle.abt_view.proofs.program.abtview.Goals as goal
 
 pub returns-in-Ok : goal.returns-in-Ok
-returns-in-Ok g c = answered _ _ (concluded (program _) _ tt c.in-Ok.text.items 0 _ c.in-Ok.ensures.done refl (rw c.deref.ensures.value at c.write_out.ensures))
+returns-in-Ok g c = answered _ _ (concluded _ _ tt c.in-Ok.text.items 0 _ c.in-Ok.ensures.done refl (rw c.deref.ensures.value at c.write_out.ensures))
 
 pub returns-in-Err : goal.returns-in-Err
-returns-in-Err g c = answered _ _ (stopped (program _) _ c.in-Err.stop c.stop_by.result _ c.in-Err.ensures.stop tt c.number.ensures (search rules) c.stop_by.ensures.told c.stop_by.ensures.same)
+returns-in-Err g c = answered _ _ (stopped _ _ c.in-Err.stop c.stop_by.result _ c.in-Err.ensures.stop tt c.number.ensures (search rules) c.stop_by.ensures.told c.stop_by.ensures.same)
