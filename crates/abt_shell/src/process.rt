@@ -1,10 +1,7 @@
-//! What the process gives a program: its words, its files and its sinks; and the two stored orders.
-
-ghost use Rattle.std.specs.Prelude.{◌≡◌, length};
+//! What a program has of its process: its words, its files and its sinks.
 
 use crate::status::Stop;
 use crate::writing::stop_by;
-use abt_order::StoredOrder;
 use abt_source::{RealFiles, RealSink};
 use std::alloc::Global;
 use std::process::ExitCode;
@@ -55,11 +52,4 @@ pub fn words_of<R: Runtime>(rt: &R, alloc: Global) -> io::Result<Vec<String<R::A
         words.push(word)?;
     }
     Ok(words)
-}
-
-/// The orders that users of a program may name: order 0 rotates, and order 1 mirrors.
-pub fn stored_orders() -> [StoredOrder; 2]
-    ensures { length result ≡ 2 }
-{
-    [StoredOrder::rotating(), StoredOrder::mirroring()]
 }

@@ -1,8 +1,9 @@
 //! The command `abtrun`: runs a workload text, and prints its report and, if asked, its journal; checks journals; finds flows.
 #![tactic(auto)]
 
+use abt_order::StoredOrder;
 use abt_run::{NAME, abtrun};
-use abt_shell::{Process, stored_orders};
+use abt_shell::Process;
 use abt_stream::NoPace;
 use std::process::ExitCode;
 
@@ -11,6 +12,8 @@ fn main(rt: HostRuntime) -> ExitCode {
         Ok(process) => process,
         Err(status) => return status,
     };
+    // Order 0 rotates, and order 1 mirrors.
+    let orders = [StoredOrder::rotating(), StoredOrder::mirroring()];
     let ended = abtrun(
         &rt,
         rt.alloc(),
@@ -19,7 +22,7 @@ fn main(rt: HostRuntime) -> ExitCode {
         &mut process.out,
         &mut process.err,
         &NoPace,
-        &stored_orders(),
+        &orders,
     );
     ExitCode::from(ended.status)
 }

@@ -2,7 +2,8 @@
 #![tactic(auto)]
 
 use abt_lives::{NAME, abtwaves};
-use abt_shell::{Process, stored_orders};
+use abt_order::StoredOrder;
+use abt_shell::Process;
 use abt_stream::NoPace;
 use std::process::ExitCode;
 
@@ -11,6 +12,8 @@ fn main(rt: HostRuntime) -> ExitCode {
         Ok(process) => process,
         Err(status) => return status,
     };
+    // Order 0 rotates, and order 1 mirrors.
+    let orders = [StoredOrder::rotating(), StoredOrder::mirroring()];
     let ended = abtwaves(
         &rt,
         rt.alloc(),
@@ -19,7 +22,7 @@ fn main(rt: HostRuntime) -> ExitCode {
         &mut process.out,
         &mut process.err,
         &NoPace,
-        &stored_orders(),
+        &orders,
     );
     ExitCode::from(ended.status)
 }
