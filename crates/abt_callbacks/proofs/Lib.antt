@@ -1,4 +1,3 @@
-pub mod Answered
 pub mod Crosses
 pub mod Folded
 pub mod Numbers
