@@ -6,16 +6,15 @@ use abt_view::{NAME, abtview};
 use std::process::ExitCode;
 
 fn main(rt: HostRuntime) -> ExitCode {
-    let mut process = match Process::new(&rt, NAME) {
+    let Process {
+        words,
+        mut files,
+        mut out,
+        mut err,
+    } = match Process::new(&rt, NAME) {
         Ok(process) => process,
         Err(status) => return status,
     };
-    let status = abtview(
-        rt.alloc(),
-        &process.words,
-        &mut process.files,
-        &mut process.out,
-        &mut process.err,
-    );
+    let status = abtview(rt.alloc(), &words, &mut files, &mut out, &mut err);
     ExitCode::from(status)
 }

@@ -8,7 +8,12 @@ use abt_stream::NoPace;
 use std::process::ExitCode;
 
 fn main(rt: HostRuntime) -> ExitCode {
-    let mut process = match Process::new(&rt, NAME) {
+    let Process {
+        words,
+        mut files,
+        mut out,
+        mut err,
+    } = match Process::new(&rt, NAME) {
         Ok(process) => process,
         Err(status) => return status,
     };
@@ -17,10 +22,10 @@ fn main(rt: HostRuntime) -> ExitCode {
     let ended = abtwaves(
         &rt,
         rt.alloc(),
-        &process.words,
-        &mut process.files,
-        &mut process.out,
-        &mut process.err,
+        &words,
+        &mut files,
+        &mut out,
+        &mut err,
         &NoPace,
         &orders,
     );
