@@ -12,7 +12,7 @@ use Rattle.abt_booth.specs.declared.booth.Seat.{Seat}
 use Rattle.abt_interleave.specs.declared.entries.Entry.{Entry}
 use Rattle.abt_booth.specs.declared.rule.View.{View}
 use Rattle.abt_booth.specs.declared.rule.Lot.{Lot}
-use Rattle.abt_booth.specs.Rule.{Slot, Has, Free, Held, Kept, gathered, spent, all_known}
+use Rattle.abt_booth.specs.Rule.{KeptLot, Has, Free, Held, Kept, gathered, spent, all_known}
 use Rattle.abt_booth.specs.Calls.{IsClosed}
 use Rattle.abt_booth.specs.Seats.{known_of, HasEachNumber, HasNumber}
 use Rattle.abt_booth.proofs.Places.{at_end, at_or, nowhere, same_place}
@@ -96,7 +96,7 @@ module _ {O A R : Type 0} (does : O → A → R → O → Type 0) (o : O) (n : �
       (at_end v.taken (v.number, v.seen) x i e)
 
   -- once one view without the turn has every number, the slot has the object that the one history leads to
-  pub closes : (id : ℕ) (v : View O A R) (ws : List ℕ) (xs : List (Slot O A R)) → v.holds ≡ false → v.next ≡ suc v.number → HasEachNumber n (all_known v) → Final (Seen (Kept does o n) id v) ws xs
+  pub closes : (id : ℕ) (v : View O A R) (ws : List ℕ) (xs : List (KeptLot O A R)) → v.holds ≡ false → v.next ≡ suc v.number → HasEachNumber n (all_known v) → Final (Seen (Kept does o n) id v) ws xs
       → (lot : Lot O A R) × (get_elem? xs 0 ≡ some (Some lot)) × IsClosed does o n (all_known v) lot.object lot.clock
   closes id v ws xs hv one all f =
       let s = f.0 in
@@ -104,7 +104,7 @@ module _ {O A R : Type 0} (does : O → A → R → O → Type 0) (o : O) (n : �
       let at = f.1.1 in ⊎_elim
       (λ (t : Free does o r.log s). (
         t.0,
-        f.4 0 (Some t.0) (ap (λ (hs : List (Maybe (Slot O A R))). get_elem? hs 0) t.2),
+        f.4 0 (Some t.0) (ap (λ (hs : List (Maybe (KeptLot O A R))). get_elem? hs 0) t.2),
         record {
           history = r.log;
           legal = (r.rises, t.3);

@@ -17,7 +17,7 @@ use Rattle.abt_booth.specs.declared.rule.View.{View}
 use Rattle.abt_booth.specs.declared.rule.Lot.{Lot}
 use Rattle.std.specs.List.{All}
 use Rattle.std.proofs.lemmas.List.Elements.{All-push}
-use Rattle.abt_booth.specs.Rule.{counting, Slot, TableState, SeatState, Has, Fits, Free, Held, Kept, entry_at, holding, resting, took, released, yielded}
+use Rattle.abt_booth.specs.Rule.{counting, KeptLot, TableState, SeatState, Has, Fits, Free, Held, Kept, entry_at, holding, resting, took, released, yielded}
 use Rattle.abt_booth.proofs.Places.{index_at}
 use Rattle.abt_interleave.proofs.Prefixes.{extends-self}
 use Rattle.abt_booth.proofs.Histories.{rises_more, last_more, extends_more, leads_more}
@@ -82,7 +82,7 @@ module _ {O A R : Type 0} (does : O → A → R → O → Type 0) (o : O) (n : �
   own log v lt f = f v.number v.seen (inl (le_refl v.number, lt, refl))
 
   takes_free : (slots : ℕ) (s : TableState O A R) (r : Rule s) (id : ℕ) (me : SeatState O A R) (free : ℕ) → me.0.number < me.0.next → get_elem? s.views id ≡ some me.0 → word s ≡ free → Free does o r.log s
-      → (w : View O A R) × (a : Act (Slot O A R)) × Valid s.homes me.1 a × Rule (stepped s counting (either (eqb (word s) free) (free + 1) (word s)) id me.1 w a) × took does (step slots counting free (free + 1) none) me (word s) (w, carried_after me.1 a)
+      → (w : View O A R) × (a : Act (KeptLot O A R)) × Valid s.homes me.1 a × Rule (stepped s counting (either (eqb (word s) free) (free + 1) (word s)) id me.1 w a) × took does (step slots counting free (free + 1) none) me (word s) (w, carried_after me.1 a)
   takes_free slots s r id me free lt at hit t =
       let lot = t.0 in
       let words = t.1 in
@@ -95,7 +95,7 @@ module _ {O A R : Type 0} (does : O → A → R → O → Type 0) (o : O) (n : �
       let f = own r.log v lt (r.fits id v at) in (
         w,
         takes 0 (Some lot),
-        ap (λ (hs : List (Maybe (Slot O A R))). get_elem? hs 0) homes,
+        ap (λ (hs : List (Maybe (KeptLot O A R))). get_elem? hs 0) homes,
         record {
           log = r.log;
           rises = r.rises;
@@ -107,7 +107,7 @@ module _ {O A R : Type 0} (does : O → A → R → O → Type 0) (o : O) (n : �
             id,
             w,
             put_there s.words counting (2 * length r.log) _ words ∙ ap some next,
-            ap (λ (hs : List (Maybe (Slot O A R))). set hs 0 none) homes,
+            ap (λ (hs : List (Maybe (KeptLot O A R))). set hs 0 none) homes,
             put_there s.views id v w at,
             lt,
             refl,
@@ -163,7 +163,7 @@ module _ {O A R : Type 0} (does : O → A → R → O → Type 0) (o : O) (n : �
         turn = inl (
           lot,
           put_there s.words counting (2 * length r.log + 1) new t.2 ∙ ap some size,
-          ap (λ (hs : List (Maybe (Slot O A R))). set hs 0 (some (Some lot))) t.3,
+          ap (λ (hs : List (Maybe (KeptLot O A R))). set hs 0 (some (Some lot))) t.3,
           leads_more does o v.seen m e ob leads done,
           sym (last_more 0 v.seen e),
           let_go s.views id t.0 v w at hv refl (λ j u a h. (only j u a h).0),
@@ -199,7 +199,7 @@ module _ {O A R : Type 0} (does : O → A → R → O → Type 0) (o : O) (n : �
         turn = inl (
           lot,
           put_there s.words counting (2 * length r.log + 1) new t.2 ∙ ap some is,
-          ap (λ (hs : List (Maybe (Slot O A R))). set hs 0 (some (Some lot))) t.3,
+          ap (λ (hs : List (Maybe (KeptLot O A R))). set hs 0 (some (Some lot))) t.3,
           leads,
           clock,
           let_go s.views id t.0 v w at hv refl (λ j u a h. (only j u a h).0),

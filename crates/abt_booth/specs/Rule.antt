@@ -13,16 +13,16 @@ use Rattle.abt_booth.specs.declared.rule.Lot.{Lot}
 use Rattle.std.specs.List.{All}
 
 -- what the table's slot holds
-abbrev pub Slot : Type 0 → Type 0 → Type 0 → Type 0
-Slot O A R = Option (Lot O A R)
+abbrev pub KeptLot : Type 0 → Type 0 → Type 0 → Type 0
+KeptLot O A R = Option (Lot O A R)
 
 -- a state of the table
 abbrev pub TableState : Type 0 → Type 0 → Type 0 → Type 0
-TableState O A R = State (Slot O A R) (View O A R)
+TableState O A R = State (KeptLot O A R) (View O A R)
 
 -- a seat with its view and what it took out of the slot
 abbrev pub SeatState : Type 0 → Type 0 → Type 0 → Type 0
-SeatState O A R = Me (Slot O A R) (View O A R)
+SeatState O A R = Me (KeptLot O A R) (View O A R)
 
 -- the entry of the call that was made last, by seat n
 abbrev pub entry_at : {A R : Type 0} → ℕ → ℕ → Option (Snapshot A × Snapshot R) → List (Entry A R)
@@ -55,7 +55,7 @@ module _ {O A R : Type 0} where
   all_known v = v.taken ++ (v.number, v.seen) ∷ []
 
   -- a seat of this table, which began with the object o
-  abbrev pub IsOf : TableId → O → Raw (Slot O A R) (View O A R) → Type 0
+  abbrev pub IsOf : TableId → O → Raw (KeptLot O A R) (View O A R) → Type 0
   IsOf z o s = (s.table_id ≡ z) × (s.me.0.opening ≡ Some o)
 
   -- the view knows the opening object, and each list that it has is a prefix of the log with all calls of its number
@@ -98,25 +98,25 @@ module _ {O A R : Type 0} where
       × Extends m.0.number m.0.seen log
 
   -- it took the turn, or found another number
-  abbrev pub took : (O → A → R → O → Type 0) → Step (Slot O A R) → SeatState O A R → ℕ → SeatState O A R → Type 0
+  abbrev pub took : (O → A → R → O → Type 0) → Step (KeptLot O A R) → SeatState O A R → ℕ → SeatState O A R → Type 0
   took does st m r m' = (r ≡ st.first → Takes does m r m') × (¬ (r ≡ st.first) → m' ≡ m)
 
   -- the entry of the call that was made last on this lot, by seat n
-  abbrev pub entry_in : ℕ → Slot O A R → List (Entry A R)
+  abbrev pub entry_in : ℕ → KeptLot O A R → List (Entry A R)
   entry_in n (Some lot) = entry_at n lot.clock lot.last.value
   entry_in n None = []
 
   -- the same, of the lot that the seat holds
-  abbrev pub called : ℕ → List (ℕ × Slot O A R) → List (Entry A R)
+  abbrev pub called : ℕ → List (ℕ × KeptLot O A R) → List (Entry A R)
   called n [] = []
   called n (x ∷ xs) = entry_in n x.1
 
   -- the turn is given back after a call
-  abbrev pub released : Step (Slot O A R) → SeatState O A R → ℕ → SeatState O A R → Type 0
+  abbrev pub released : Step (KeptLot O A R) → SeatState O A R → ℕ → SeatState O A R → Type 0
   released st m r m' = m' ≡ (resting m.0 (m.0.seen ++ called m.0.number m.1), rest m.1)
 
   -- the turn is given back with no call
-  abbrev pub yielded : Step (Slot O A R) → SeatState O A R → ℕ → SeatState O A R → Type 0
+  abbrev pub yielded : Step (KeptLot O A R) → SeatState O A R → ℕ → SeatState O A R → Type 0
   yielded st m r m' = m' ≡ (resting m.0 m.0.seen, rest m.1)
 
   -- the lowest number goes to a new seat

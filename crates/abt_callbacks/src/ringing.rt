@@ -1,7 +1,7 @@
 //! Setting the keys of a ring, and ending it.
 
 ghost use Rattle.std.specs.Prelude.{◌≡◌, ◌<◌, ◌≤◌, IfOk, [], Some, None, length, replicate, slice_set, vec_capacity};
-ghost use Rattle.abt_callbacks.specs.Ending.{Answers};
+ghost use Rattle.abt_callbacks.specs.Ending.{AnswersAgree};
 ghost use Rattle.abt_callbacks.specs.Rings.{answers_of, same_of, sames_of, values_of};
 
 use crate::end::StoredEnd;
@@ -41,7 +41,7 @@ impl KeyRing {
     pub fn end(&mut self)
         ensures keys { sames_of self.new ≡ sames_of self.old }
         ensures values { values_of self.new ≡ replicate (length (sames_of self.old)) None }
-        ensures answers { Answers (sames_of self.old) (values_of self.old) (answers_of self.new) }
+        ensures answers { AnswersAgree (sames_of self.old) (values_of self.old) (answers_of self.new) }
     {
         self.answers.clear();
         call_each(&self.ends, &self.values, &mut self.answers);
@@ -60,7 +60,7 @@ impl KeyRing {
 fn call_each(ends: &[StoredEnd], values: &[Option<u64>], answers: &mut Vec<u64>)
     requires many { length values.now ≡ length ends.now }
     requires room { (answers.old.items ≡ []) × (length ends.now ≤ vec_capacity answers.old) }
-    ensures answers { Answers (same_of ends.now) values.now answers.new.items }
+    ensures answers { AnswersAgree (same_of ends.now) values.now answers.new.items }
     ensures room { length ends.now ≤ vec_capacity answers.new }
 {
     for (key, end) in ends.iter().enumerate() {

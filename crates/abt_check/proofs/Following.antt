@@ -36,7 +36,7 @@ use Rattle.abt_laws.proofs.Standing.{StandsIn, first-stands}
 use Rattle.abt_replay.specs.Events.{Heeds, Moves}
 use Rattle.abt_replay.specs.Objects.{ObjectsValue, object_at, same_place}
 use Rattle.abt_calls.proofs.Asked.{may-ask}
-use Rattle.abt_simulation.specs.Simulation.{Answers, IsEvent, site_heard}
+use Rattle.abt_simulation.specs.Simulation.{CalledAnswers, IsEventFrom, site_heard}
 use Rattle.abt_simulation.proofs.CalledSites.{steps-site}
 use Rattle.abt_simulation.proofs.Events.{simulation}
 use Rattle.abt_simulation.proofs.OwnedLines.{Head, head-of}
@@ -121,13 +121,13 @@ called None after = NotHere
 called (Some h) after = object_at after h.0
 
 module _ (W : Parts) (Z : List OrderShape) (n s : ℕ) (S : State) (replay : ReplayValue) (valid : IsValid W) (stored : OrdersStored W Z) (l : s < W.streams) (state : IsAfter W Z n S) (stands : StandsFor W S replay) where
-  answers-by : (heard : Option Heard) (after : ObjectsValue) → ((x : Site) → site_heard heard ≡ Some x → IsSite W x) → Heeds replay.objects heard after → Answers W S heard (called heard after)
+  answers-by : (heard : Option Heard) (after : ObjectsValue) → ((x : Site) → site_heard heard ≡ Some x → IsSite W x) → Heeds replay.objects heard after → CalledAnswers W S heard (called heard after)
   answers-by None after declared heeds = tt
   answers-by (Some h) after declared heeds = subst (λ (q : Object). SiteGives q h.1 h.2 (object_at after h.0)) (stands.objects h.0 (declared h.0 refl)) heeds.gives
 
   -- the objects after the call are those of the state after the event
   same-place-by : (h : Heard) (after : ObjectsValue) (e : Event) (new : Held) (T : State) (x : Site) (b : Bool) → same_place h.0 x ≡ b → IsSite W h.0 → IsSite W x → Heeds replay.objects (Some h) after
-      → IsEvent W Z S e (Some h) new (object_at after h.0) T → object_at after x ≡ object_of W T x
+      → IsEventFrom W Z S e (Some h) new (object_at after h.0) T → object_at after x ≡ object_of W T x
   same-place-by h after e new T x true is there here heeds event =
       let same : h.0 ≡ x = one-place W h.0 x there here is in subst (λ y. object_at after y ≡ object_of W T y) same (sym event.called)
   same-place-by h after e new T x false is there here heeds event =
@@ -135,7 +135,7 @@ module _ (W : Parts) (Z : List OrderShape) (n s : ℕ) (S : State) (replay : Rep
       heeds.others x is ∙ (stands.objects x here ∙ sym (event.other_objects x differ))
 
   objects-by : (heard : Option Heard) (after : ObjectsValue) (e : Event) (new : Held) (T : State) → ((x : Site) → site_heard heard ≡ Some x → IsSite W x) → Heeds replay.objects heard after
-      → IsEvent W Z S e heard new (called heard after) T → (x : Site) → IsSite W x → object_at after x ≡ object_of W T x
+      → IsEventFrom W Z S e heard new (called heard after) T → (x : Site) → IsSite W x → object_at after x ≡ object_of W T x
   objects-by None after e new T declared heeds event x here = ap (λ (o : ObjectsValue). object_at o x) heeds ∙ (stands.objects x here ∙ sym (event.other_objects x (λ same. none≢some same)))
   objects-by (Some h) after e new T declared heeds event x here = same-place-by h after e new T x (same_place h.0 x) refl (declared h.0 refl) here heeds event
 
@@ -157,7 +157,7 @@ module _ (W : Parts) (Z : List OrderShape) (n s : ℕ) (S : State) (replay : Rep
       let e : Event = record { stamp = 0; stream = stream_no s; what = w } in
       let declared : (x : Site) → site_heard heard ≡ Some x → IsSite W x = λ x is. heard-declared W Z s (part_of W S s) w heard new x valid (has-units W Z s S state.sound) steps is in
       let T : State = events.after W S s w in
-      let event : IsEvent W Z S e heard new (called heard after) T = simulation W Z valid stored S e heard new (called heard after) state.sound l steps (answers-by heard after declared heeds) in
+      let event : IsEventFrom W Z S e heard new (called heard after) T = simulation W Z valid stored S e heard new (called heard after) state.sound l steps (answers-by heard after declared heeds) in
       record {
         may = event.comes.1;
         state = record {

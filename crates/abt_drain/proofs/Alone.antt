@@ -28,7 +28,7 @@ use Rattle.abt_laws.proofs.Quiet.{spent-not-quiet}
 use Rattle.abt_laws.proofs.RunParts.{last_state-sound}
 use Rattle.abt_laws.proofs.SoundRuns.{runs-are-sound}
 use Rattle.abt_bounds.specs.Laws.{HasNoFreeOrder}
-use Rattle.abt_outcomes.specs.OneStream.{EndsRound, GoesToItsStop, HasEndedEmpty, HasNotStopped, IsOnlyRun, Stops}
+use Rattle.abt_outcomes.specs.OneStream.{EndsRound, GoesToItsStop, HasEndedEmpty, HasNotStopped, IsOnlyRun, HasStopped}
 use Rattle.abt_outcomes.proofs.Counted.{stamped-counted}
 use Rattle.abt_outcomes.proofs.Determined.{only-run}
 use Rattle.abt_outcomes.proofs.GoingOn.{stops-are-last, stops-grow}
@@ -83,22 +83,22 @@ step-counts : (log : List Event) (e : Event) → is_step e.what ≡ true → ste
 step-counts log e step = sum_by_push (λ (f : Event). cond {A = ℕ} (is_step f.what) 1 0) log e ∙ ap (λ b. steps_in log + cond {A = ℕ} b 1 0) step
 
 -- a journal that has not stopped has not done so before its next event
-stopped-before : (W : Parts) (n : ℕ) (J : List Event) (e : Event) → HasNotStoppedBefore W n J → (Stops W n J → ⊥) → HasNotStoppedBefore W n (J ++ e ∷ [])
+stopped-before : (W : Parts) (n : ℕ) (J : List Event) (e : Event) → HasNotStoppedBefore W n J → (HasStopped W n J → ⊥) → HasNotStoppedBefore W n (J ++ e ∷ [])
 stopped-before W n J e before here = inr (
   J,
   e,
   refl,
   elim before [
     | inl empty ↦ subst (HasNotStopped W n) (sym empty) (stops-grow W n).0
-    | inr last ↦ subst (HasNotStopped W n) (sym last.2) (((stops-grow W n).1 last.0 last.1 last.3).0 (λ stops. here (subst (Stops W n) (sym last.2) stops)))
+    | inr last ↦ subst (HasNotStopped W n) (sym last.2) (((stops-grow W n).1 last.0 last.1 last.3).0 (λ stops. here (subst (HasStopped W n) (sym last.2) stops)))
   ],
 )
 
 -- a journal that stops has gone to its stop
-goes-to-stop : (W : Parts) (n : ℕ) (J : List Event) → HasNotStoppedBefore W n J → Stops W n J → GoesToItsStop W n J
+goes-to-stop : (W : Parts) (n : ℕ) (J : List Event) → HasNotStoppedBefore W n J → HasStopped W n J → GoesToItsStop W n J
 goes-to-stop W n J before stops = elim before [
   | inl empty ↦ absurd ((stops-grow W n).0 J [] (ap (λ (K : List Event). K ++ []) (sym empty)) stops)
-  | inr last ↦ subst (GoesToItsStop W n) (sym last.2) (((stops-grow W n).1 last.0 last.1 last.3).1 (subst (Stops W n) last.2 stops))
+  | inr last ↦ subst (GoesToItsStop W n) (sym last.2) (((stops-grow W n).1 last.0 last.1 last.3).1 (subst (HasStopped W n) last.2 stops))
 ]
 
 -- what ended a journal empty is its last event
@@ -180,13 +180,13 @@ module _ (W : Parts) (Z : List OrderShape) (valid : IsValid W) (stored : OrdersS
       some : 0 < W.streams
       some = omega arith
 
-    quiet-stops : Quiet W (last_state W (new.logs 0)) → Stops W n (new.logs 0)
+    quiet-stops : Quiet W (last_state W (new.logs 0)) → HasStopped W n (new.logs 0)
     quiet-stops quiet = elim (at_stop alone) [
       | inl missed ↦ inl (ended-empty quiet missed)
       | inr spent ↦ absurd (spent-not-quiet W n 0 (new.logs 0) ((spent-seen W n 0 (new.logs 0) new.parts new.objects (made_at new) lead.stand lead.made).1 spent) quiet)
     ]
 
-    outcome-stops : (o : Outcome) → EndsAs W n (new.logs 0) o → Stops W n (new.logs 0)
+    outcome-stops : (o : Outcome) → EndsAs W n (new.logs 0) o → HasStopped W n (new.logs 0)
     outcome-stops outcome.Finished ends = quiet-stops ends.0
     outcome-stops outcome.Stuck ends = quiet-stops ends.0
     outcome-stops (outcome.Budget r) ends = inr (subst (λ q. Spent W n (new.logs 0) q) (least r.0 ends.0.0) ends.0) where

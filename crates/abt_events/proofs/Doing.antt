@@ -37,7 +37,7 @@ use Rattle.abt_laws.proofs.Options.{none≢some, some-injective}
 use Rattle.abt_laws.proofs.Orders.{next_pool-listed}
 use Rattle.abt_laws.proofs.Places.{same-self}
 use Rattle.abt_laws.proofs.Standing.{among-standing}
-use Rattle.abt_simulation.specs.Simulation.{Answers}
+use Rattle.abt_simulation.specs.Simulation.{CalledAnswers}
 use Rattle.abt_bounds.specs.Laws.{visited}
 use Rattle.abt_calls.specs.Asking.{MayCall}
 use Rattle.abt_calls.proofs.Asked.{takes-may-call}
@@ -74,7 +74,7 @@ pub record Turn (W : Parts) (Z : List OrderShape) (S : State) (s : ℕ) (w : Wha
   pub part : Held
   pub object : Object
   pub steps : Steps W Z s (part_of W S s) does heard part
-  pub answers : Answers W S heard object
+  pub answers : CalledAnswers W S heard object
   pub at_pool : visited does ≡ visited w
 
 -- a unit performs its plan
@@ -84,7 +84,7 @@ record Performed (W : Parts) (S : State) (s : ℕ) (a : Op) (o : Owned) (plan : 
   pub part : Held
   pub object : Object
   pub performs : Performs (part_of W S s) a o plan heard code part
-  pub answers : Answers W S heard object
+  pub answers : CalledAnswers W S heard object
 
 module _ (W : Parts) (Z : List OrderShape) (S : State) (s : ℕ) where
   -- of a pool that is asked for a unit, by its answer

@@ -12,20 +12,20 @@ use Rattle.abt_machine.specs.Acts.{Act, Answer}
 use Rattle.abt_machine.specs.Gives.{SiteGives}
 use Rattle.abt_machine.specs.Turns.{Heard, Steps}
 use Rattle.abt_laws.proofs.Options.{none≢some, some-injective}
-use Rattle.abt_simulation.specs.Simulation.{Answers, IsEvent, Leaves, site_heard}
+use Rattle.abt_simulation.specs.Simulation.{CalledAnswers, IsEventFrom, Leaves, site_heard}
 use Rattle.abt_simulation.proofs.Events.{simulation}
 use Rattle.abt_bounds.proofs.Choosing.{one-at-each-pool}
 use Rattle.abt_events.specs.Steps.{AnswersFrom, EventsAreSteps, IsStep, NamedSitesAreCalled, OthersCallNothing}
 use Rattle.abt_events.proofs.Doing.{Turn, turn}
 
 -- the object that was called, as states S and T have it
-answers-from : (W : Parts) (S T : State) (heard : Option Heard) (object : Object) → Answers W S heard object → Leaves W T heard object → AnswersFrom W S T heard
+answers-from : (W : Parts) (S T : State) (heard : Option Heard) (object : Object) → CalledAnswers W S heard object → Leaves W T heard object → AnswersFrom W S T heard
 answers-from W S T None object answers leaves = tt
 answers-from W S T (Some h) object answers leaves = subst (SiteGives (object_of W S h.0) h.1 h.2) (sym leaves) answers
 
 -- a step that is an event
-is-step : (W : Parts) (Z : List OrderShape) (S : State) (e : Event) (heard : Option Heard) (part : Held) (object : Object) (T : State) → Steps W Z e.stream.0 (part_of W S e.stream.0) e.what heard part → Answers W S heard object →
-    IsEvent W Z S e heard part object T → IsStep W Z S e T
+is-step : (W : Parts) (Z : List OrderShape) (S : State) (e : Event) (heard : Option Heard) (part : Held) (object : Object) (T : State) → Steps W Z e.stream.0 (part_of W S e.stream.0) e.what heard part → CalledAnswers W S heard object →
+    IsEventFrom W Z S e heard part object T → IsStep W Z S e T
 is-step W Z S e heard part object T steps answers is = record {
   heard = heard;
   site = is.site;
@@ -40,7 +40,7 @@ events-are-steps W Z valid stored S T e sound comes =
     let s : ℕ = e.stream.0 in
     let t : Turn W Z S s e.what = turn W Z S s valid sound e.what comes.1 in
     let f : Event = record e { what = t.does } in
-    let is : IsEvent W Z S f t.heard t.part t.object (after W S s t.does) = simulation W Z valid stored S f t.heard t.part t.object sound comes.0 t.steps t.answers in
+    let is : IsEventFrom W Z S f t.heard t.part t.object (after W S s t.does) = simulation W Z valid stored S f t.heard t.part t.object sound comes.0 t.steps t.answers in
     let same : t.does ≡ e.what = one-at-each-pool W Z S s t.does e.what sound is.comes.1 comes.1 t.at_pool in
     subst (IsStep W Z S e) (sym comes.2)
     (subst (λ (w : What). IsStep W Z S (record e { what = w }) (after W S s w)) same (is-step W Z S f t.heard t.part t.object (after W S s t.does) t.steps t.answers is))

@@ -8,7 +8,7 @@ use Rattle.abt_machine.specs.State.{State, Stream}
 use Rattle.abt_machine.specs.Next.{RoundDue, due}
 use Rattle.abt_machine.specs.Frames.{frame_missed, round_missed}
 use Rattle.abt_machine.specs.Events.{after}
-use Rattle.abt_laws.specs.Measure.{EndsStacked, open_frames, open_frames_of, unit_weight, weight}
+use Rattle.abt_laws.specs.Measure.{EndsStacked, open_frames, open_frames_of, unit_weight, state_weight}
 use Rattle.abt_laws.proofs.Marks.{marks-kept}
 use Rattle.abt_laws.proofs.Maps.{put_at-other, put_at-same}
 use Rattle.abt_laws.proofs.Dues.{round-not-empty}
@@ -16,7 +16,7 @@ use Rattle.abt_laws.proofs.OpenFrames.{open_count-falls, open_count-same, open_f
 use Rattle.abt_laws.proofs.Sums.{sum_up-same}
 use Rattle.abt_laws.proofs.Weights.{unit_weight-kept}
 
-pub miss-keeps-weight : (W : Parts) (S : State) (s : ℕ) (p : PoolNo) → weight W (after W S s (what.Miss p)) ≡ weight W S
+pub miss-keeps-weight : (W : Parts) (S : State) (s : ℕ) (p : PoolNo) → state_weight W (after W S s (what.Miss p)) ≡ state_weight W S
 miss-keeps-weight W S s p =
     let T : State = after W S s (what.Miss p) in
     sum_up-same (unit_weight T) (unit_weight S) (length W.units)

@@ -21,7 +21,7 @@ use Rattle.abt_machine.specs.Frames.{entered, left, marked, round_taken, sched_o
 use Rattle.abt_machine.specs.Changes.{changed, tray_moves}
 use Rattle.abt_machine.specs.Events.{after, look_row, without_requests}
 use Rattle.abt_machine.specs.Sound.{Sound}
-use Rattle.abt_laws.specs.Measure.{hand_weight, place_weight, request_weight, unit_weight, weight}
+use Rattle.abt_laws.specs.Measure.{hand_weight, place_weight, request_weight, unit_weight, state_weight}
 use Rattle.abt_laws.proofs.SoundEvents.{handed}
 use Rattle.abt_laws.proofs.Marks.{marks-kept, marks-elsewhere, left-mark}
 use Rattle.abt_laws.proofs.Places.{same-self}
@@ -39,11 +39,11 @@ HandIsFree S s = (v : ℕ) → S.place v ≡ place.Hand (stream_no s) → ⊥
 
 -- unit u is lighter, and every other unit stays where it is
 one-lighter : (W : Parts) (S T : State) (u : ℕ) → u < length W.units → unit_weight T u < unit_weight S u → ((v : ℕ) → v ≢ u → T.place v ≡ S.place v) → ((v : ℕ) → v ≢ u → T.desk v ≡ S.desk v) →
-    ((v : ℕ) (r : StreamNo) → S.place v ≡ place.Hand r → (T.stream r.0).mark ≡ (S.stream r.0).mark) → weight W T < weight W S
+    ((v : ℕ) (r : StreamNo) → S.place v ≡ place.Hand r → (T.stream r.0).mark ≡ (S.stream r.0).mark) → state_weight W T < state_weight W S
 one-lighter W S T u declared less places desks marks =
     weight-falls W S T u declared less (λ v other. unit_weight-kept S T v (places v other) (desks v other) (marks v))
 
-pub take-falls : (W : Parts) (S : State) (s : ℕ) (p : PoolNo) (u : UnitNo) → front W S s p.0 ≡ Some u.0 → weight W (after W S s (what.Take p u)) < weight W S
+pub take-falls : (W : Parts) (S : State) (s : ℕ) (p : PoolNo) (u : UnitNo) → front W S s p.0 ≡ Some u.0 → state_weight W (after W S s (what.Take p u)) < state_weight W S
 take-falls W S s p u taken =
     let T : State = after W S s (what.Take p u) in
     let stands : StandsIn W S (InPool p.0) u.0 = front-stands W S s p.0 u.0 taken in
@@ -51,7 +51,7 @@ take-falls W S s p u taken =
     let now : place_weight T (T.place u.0) ≡ 4 = ap (place_weight T) (put_at-same S.place u.0 (place.Next (stream_no s))) in
     one-lighter W S T u.0 stands.declared (omega arith) (put_at-other S.place u.0 (place.Next (stream_no s))) (λ v _. refl) (λ v r _. marks-kept S s (round_taken (S.stream s)) refl r)
 
-pub put-falls : (W : Parts) (S : State) (s : ℕ) (u : UnitNo) (p : PoolNo) → first (standing W S (InTray s)) ≡ Some u.0 → weight W (after W S s (what.Put u p)) < weight W S
+pub put-falls : (W : Parts) (S : State) (s : ℕ) (u : UnitNo) (p : PoolNo) → first (standing W S (InTray s)) ≡ Some u.0 → state_weight W (after W S s (what.Put u p)) < state_weight W S
 put-falls W S s u p put =
     let T : State = after W S s (what.Put u p) in
     let stands : StandsIn W S (InTray s) u.0 = first-stands W S (InTray s) u.0 put in
@@ -59,7 +59,7 @@ put-falls W S s u p put =
     let now : place_weight T (T.place u.0) ≡ 5 = ap (place_weight T) (put_at-same S.place u.0 (place.Pool p (S.pool_next p.0))) in
     one-lighter W S T u.0 stands.declared (omega arith) (put_at-other S.place u.0 (place.Pool p (S.pool_next p.0))) (λ v _. refl) (λ v r _. refl)
 
-pub enter-falls : (W : Parts) (S : State) (s : ℕ) (u : UnitNo) → due W S s ≡ EnterDue → hand W S s ≡ Some u.0 → weight W (after W S s (what.Enter u)) < weight W S
+pub enter-falls : (W : Parts) (S : State) (s : ℕ) (u : UnitNo) → due W S s ≡ EnterDue → hand W S s ≡ Some u.0 → state_weight W (after W S s (what.Enter u)) < state_weight W S
 enter-falls W S s u comes held =
     let T : State = after W S s (what.Enter u) in
     let to : Place = place.Frame (stream_no s) (length (S.stream s).below) in
@@ -73,7 +73,7 @@ enter-falls W S s u comes held =
 idle-hand-free : (W : Parts) (Z : List OrderShape) (S : State) (s : ℕ) → Sound W Z S → hand W S s ≡ None → HandIsFree S s
 idle-hand-free W Z S s sound none v held = none-first W S sound.undeclared (InHand s) none v 0 (ap (ticket_in (InHand s)) held ∙ same-self s 0)
 
-pub leave-falls : (W : Parts) (Z : List OrderShape) (S : State) (s : ℕ) (u : UnitNo) → Sound W Z S → due W S s ≡ LeaveDue → S.place u.0 ≡ place.Frame (stream_no s) (length (S.stream s).below - 1) → weight W (after W S s (what.Leave u)) < weight W S
+pub leave-falls : (W : Parts) (Z : List OrderShape) (S : State) (s : ℕ) (u : UnitNo) → Sound W Z S → due W S s ≡ LeaveDue → S.place u.0 ≡ place.Frame (stream_no s) (length (S.stream s).below - 1) → state_weight W (after W S s (what.Leave u)) < state_weight W S
 leave-falls W Z S s u sound comes framed =
     let T : State = after W S s (what.Leave u) in
     let below : (f : Frame) × (rest : List Frame) × ((S.stream s).below ≡ f ∷ rest) = leave-below W S s comes in
@@ -89,7 +89,7 @@ leave-falls W Z S s u sound comes framed =
 next-hand-free : (W : Parts) (Z : List OrderShape) (S : State) (s u : ℕ) → Sound W Z S → StandsIn W S (InNext s) u → HandIsFree S s
 next-hand-free W Z S s u sound stands v held = sound.hand_or_next s v u held stands.at
 
-handed-falls : (W : Parts) (S : State) (s u : ℕ) (m : Mark) → hand_weight m ≡ 3 → StandsIn W S (InNext s) u → HandIsFree S s → weight W (changed S (handed S s u m)) < weight W S
+handed-falls : (W : Parts) (S : State) (s u : ℕ) (m : Mark) → hand_weight m ≡ 3 → StandsIn W S (InNext s) u → HandIsFree S s → state_weight W (changed S (handed S s u m)) < state_weight W S
 handed-falls W S s u m heavy stands free =
     let T : State = changed S (handed S s u m) in
     let mark : (T.stream s).mark ≡ m = ap (λ (x : Stream). x.mark) (put_at-same S.stream s (marked m (S.stream s))) in
@@ -99,7 +99,7 @@ handed-falls W S s u m heavy stands free =
     one-lighter W S T u stands.declared (omega arith) (put_at-other S.place u (place.Hand (stream_no s))) (put_at-other S.desk u (without_requests (S.desk u))) (λ v. marks-elsewhere S s v (marked m (S.stream s)) (free v))
 
 -- a unit that is to migrate goes to the tray, without its request
-migrate-falls : (W : Parts) (S : State) (s u p : ℕ) → (S.desk u).migrate ≡ Some p → StandsIn W S (InNext s) u → weight W (changed S (look_row W S s u false (Some p))) < weight W S
+migrate-falls : (W : Parts) (S : State) (s u p : ℕ) → (S.desk u).migrate ≡ Some p → StandsIn W S (InNext s) u → state_weight W (changed S (look_row W S s u false (Some p))) < state_weight W S
 migrate-falls W S s u p asked stands =
     let T : State = changed S (look_row W S s u false (Some p)) in
     let to : Place = place.Tray (stream_no s) (tray_end W S s) in
@@ -109,12 +109,12 @@ migrate-falls W S s u p asked stands =
     let forgets : request_weight (T.desk u).migrate ≡ 0 = ap (λ (d : Desk). request_weight d.migrate) (put_at-same S.desk u (without_requests (S.desk u))) in
     one-lighter W S T u stands.declared (omega arith) (put_at-other S.place u to) (put_at-other S.desk u (without_requests (S.desk u))) (λ v r _. refl)
 
-look_row-falls : (W : Parts) (S : State) (s u : ℕ) (cancel : Bool) (migrate : Option ℕ) → (S.desk u).migrate ≡ migrate → StandsIn W S (InNext s) u → HandIsFree S s → weight W (changed S (look_row W S s u cancel migrate)) < weight W S
+look_row-falls : (W : Parts) (S : State) (s u : ℕ) (cancel : Bool) (migrate : Option ℕ) → (S.desk u).migrate ≡ migrate → StandsIn W S (InNext s) u → HandIsFree S s → state_weight W (changed S (look_row W S s u cancel migrate)) < state_weight W S
 look_row-falls W S s u true migrate e stands free = handed-falls W S s u Asked refl stands free
 look_row-falls W S s u false None e stands free = handed-falls W S s u Plain refl stands free
 look_row-falls W S s u false (Some p) e stands free = migrate-falls W S s u p e stands
 
-pub look-falls : (W : Parts) (Z : List OrderShape) (S : State) (s : ℕ) (u : UnitNo) → Sound W Z S → next W S s ≡ Some u.0 → weight W (after W S s (what.Look u)) < weight W S
+pub look-falls : (W : Parts) (Z : List OrderShape) (S : State) (s : ℕ) (u : UnitNo) → Sound W Z S → next W S s ≡ Some u.0 → state_weight W (after W S s (what.Look u)) < state_weight W S
 look-falls W Z S s u sound taken =
     let stands : StandsIn W S (InNext s) u.0 = first-stands W S (InNext s) u.0 taken in
     look_row-falls W S s u.0 (S.desk u.0).cancel (S.desk u.0).migrate refl stands (next-hand-free W Z S s u.0 sound stands)
@@ -146,7 +146,7 @@ ended-joiners W S s u c held =
     (λ same. let one : place_weight S (S.place w) ≡ place_weight S (S.place u) = ap (λ x. place_weight S (S.place x)) same in omega (arith, hand_weight-light (S.stream s).mark))) ∙ heavy)
     (each-stands W S (Joining u)))
 
-pub end-falls : (W : Parts) (S : State) (s : ℕ) (u : UnitNo) (c : Cause) → hand W S s ≡ Some u.0 → weight W (after W S s (what.End u c)) < weight W S
+pub end-falls : (W : Parts) (S : State) (s : ℕ) (u : UnitNo) (c : Cause) → hand W S s ≡ Some u.0 → state_weight W (after W S s (what.End u c)) < state_weight W S
 end-falls W S s u c ending =
     let T : State = after W S s (what.End u c) in
     let held : StandsIn W S (InHand s) u.0 = first-stands W S (InHand s) u.0 ending in

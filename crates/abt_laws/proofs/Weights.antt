@@ -11,7 +11,7 @@ use Rattle.abt_machine.specs.Maps.{put_at, put_all}
 use Rattle.abt_machine.specs.State.{State, Desk}
 use Rattle.abt_machine.specs.Lines.{Line, InPool, InTray, InHand, InNext, InFrames, Joining, Waiting}
 use Rattle.abt_machine.specs.Changes.{tray_moves}
-use Rattle.abt_laws.specs.Measure.{hand_weight, place_weight, request_weight, unit_weight, weight}
+use Rattle.abt_laws.specs.Measure.{hand_weight, place_weight, request_weight, unit_weight, state_weight}
 use Rattle.abt_laws.proofs.Places.{place_in}
 use Rattle.abt_laws.proofs.Standing.{StandsIn}
 use Rattle.abt_laws.proofs.Lists.{EachOf, EachOf-then}
@@ -54,7 +54,7 @@ unit_weight-kept S T v stays desk marks =
     omega arith
 
 -- the weight falls if that of one unit does, and every other keeps its own
-pub weight-falls : (W : Parts) (S T : State) (u : ℕ) → u < length W.units → unit_weight T u < unit_weight S u → ((v : ℕ) → v ≢ u → unit_weight T v ≡ unit_weight S v) → weight W T < weight W S
+pub weight-falls : (W : Parts) (S T : State) (u : ℕ) → u < length W.units → unit_weight T u < unit_weight S u → ((v : ℕ) → v ≢ u → unit_weight T v ≡ unit_weight S v) → state_weight W T < state_weight W S
 weight-falls W S T u declared less others = sum_up-falls-at (unit_weight T) (unit_weight S) (length W.units) u declared less others
 
 -- Units that go to a tray.

@@ -44,8 +44,8 @@ abbrev pub unit_weight : State → ℕ → ℕ
 unit_weight S u = place_weight S (S.place u) + request_weight (S.desk u).migrate
 
 -- the sum of the units' weights
-abbrev pub weight : Parts → State → ℕ
-weight W S = sum_by (unit_weight S) (count_up (length W.units))
+abbrev pub state_weight : Parts → State → ℕ
+state_weight W S = sum_by (unit_weight S) (count_up (length W.units))
 
 -- the frames but the last, which is the main scheduler's
 abbrev pub stacked : List Frame → List Frame
@@ -66,11 +66,11 @@ EndsStacked s T = ((T.stream s).below ≢ []) × ((T.stream s).top.empty ≡ tru
 
 -- by an event of stream s from S to T the second number falls, or for a miss stays; the third falls if a stacked frame's round ends empty, and stays at every other miss
 abbrev pub FallsBy : Parts → ℕ → What → State → State → Type 0
-FallsBy W s (what.Miss p) S T = (weight W T ≡ weight W S) × (EndsStacked s T → open_frames W T < open_frames W S) × ((EndsStacked s T → ⊥) → open_frames W T ≡ open_frames W S)
+FallsBy W s (what.Miss p) S T = (state_weight W T ≡ state_weight W S) × (EndsStacked s T → open_frames W T < open_frames W S) × ((EndsStacked s T → ⊥) → open_frames W T ≡ open_frames W S)
 FallsBy W s (what.Step u k c) S T = Unit {0}
-FallsBy W s (what.Take p u) S T = weight W T < weight W S
-FallsBy W s (what.Look u) S T = weight W T < weight W S
-FallsBy W s (what.Put u p) S T = weight W T < weight W S
-FallsBy W s (what.End u c) S T = weight W T < weight W S
-FallsBy W s (what.Enter u) S T = weight W T < weight W S
-FallsBy W s (what.Leave u) S T = weight W T < weight W S
+FallsBy W s (what.Take p u) S T = state_weight W T < state_weight W S
+FallsBy W s (what.Look u) S T = state_weight W T < state_weight W S
+FallsBy W s (what.Put u p) S T = state_weight W T < state_weight W S
+FallsBy W s (what.End u c) S T = state_weight W T < state_weight W S
+FallsBy W s (what.Enter u) S T = state_weight W T < state_weight W S
+FallsBy W s (what.Leave u) S T = state_weight W T < state_weight W S

@@ -10,7 +10,7 @@ use Rattle.std.proofs.lemmas.List.FromFn.{length-range_with_len, get_or-range_wi
 use Rattle.std.proofs.lemmas.List.Sorted.{All-permutation, Contains-permutation}
 use Rattle.abt_machine.specs.declared.operations.OrderShape.{OrderShape}
 use Rattle.abt_machine.specs.declared.operations.OrderShape.TheVariants as shape
-use Rattle.abt_order.specs.Places.{IsAnswered, IsNearest, distance}
+use Rattle.abt_order.specs.Places.{HasNearestAnswer, IsNearest, distance}
 use Rattle.abt_order.specs.Shapes.{fits_shape}
 
 -- a remainder by n, below twice n
@@ -130,9 +130,9 @@ nearest-exchanged n i at k p answer places after l past inside count swapped her
     ])
 
 -- after the exchange one place more has its answer
-pub exchanged-answered : (Answers : ℕ → ℕ → ℕ → Type 0) (n i at answer : ℕ) (places after : List ℕ) → i ≤ at → at < length places → length after ≡ length places → SwappedAt places after i at → ((k : ℕ) → k < i → IsAnswered Answers n places k) → Answers n i answer → IsNearest n places i at answer → (k : ℕ) → k < i + 1 → IsAnswered Answers n after k
+pub exchanged-answered : (Answers : ℕ → ℕ → ℕ → Type 0) (n i at answer : ℕ) (places after : List ℕ) → i ≤ at → at < length places → length after ≡ length places → SwappedAt places after i at → ((k : ℕ) → k < i → HasNearestAnswer Answers n places k) → Answers n i answer → IsNearest n places i at answer → (k : ℕ) → k < i + 1 → HasNearestAnswer Answers n after k
 exchanged-answered Answers n i at answer places after past inside count swapped earlier asked near =
-    below_more (IsAnswered Answers n after) i
-    (λ k l. let was : IsAnswered Answers n places k = earlier k l in
+    below_more (HasNearestAnswer Answers n after) i
+    (λ k l. let was : HasNearestAnswer Answers n places k = earlier k l in
     (was.0, was.1, nearest-exchanged n i at k k was.0 places after (omega arith) past inside count swapped (swapped.2 k 0 (omega arith) (omega arith)) was.2))
     (answer, asked, nearest-exchanged n i at i at answer places after (omega arith) past inside count swapped (swapped.0 0) near)

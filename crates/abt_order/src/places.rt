@@ -3,7 +3,7 @@
 ghost use Rattle.std.specs.Prelude.{◌≡◌, ◌<◌, ◌≤◌, All, EachIndex, IsPermutation, IsTrue, length, slice_index};
 ghost use Rattle.std.specs.List.{range_with_len};
 ghost use Rattle.abt_machine.specs.Limits.{listed_limit};
-ghost use Rattle.abt_order.specs.Places.{IsAnswered, distance};
+ghost use Rattle.abt_order.specs.Places.{HasNearestAnswer, distance};
 ghost use Rattle.abt_order.specs.Shapes.{fits_shape};
 ghost use Rattle.abt_order.specs.Stored.{answers_of};
 
@@ -16,7 +16,7 @@ pub(crate) fn arrange(order: &StoredOrder, round: u64, places: &mut [u32])
     requires each { places.old ≡ range_with_len 0 (length places.old) }
     ensures permutes { IsPermutation places.old places.new }
     ensures fits { EachIndex places.new (λ i. IsTrue (fits_shape order.now.shape round (length places.new) i (slice_index places.new i))) }
-    ensures asked { EachIndex places.new (IsAnswered (answers_of order.now round) (length places.new) places.new) }
+    ensures asked { EachIndex places.new (HasNearestAnswer (answers_of order.now round) (length places.new) places.new) }
 {
     let n = places.len() as u32;
     for i in 0..places.len() {

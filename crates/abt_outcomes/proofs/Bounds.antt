@@ -11,7 +11,7 @@ use Rattle.abt_machine.specs.declared.workload.Parts.{Parts}
 use Rattle.abt_machine.specs.Numbers.{stream_no}
 use Rattle.abt_machine.specs.State.{State, Frame, Mark, Plain, Asked, Left, Exited}
 use Rattle.abt_machine.specs.Sound.{Sound}
-use Rattle.abt_laws.specs.Measure.{hand_weight, open_frames, open_frames_of, place_weight, request_weight, stacked, unit_weight, weight}
+use Rattle.abt_laws.specs.Measure.{hand_weight, open_frames, open_frames_of, place_weight, request_weight, stacked, unit_weight, state_weight}
 use Rattle.abt_laws.proofs.Standing.{is-declared}
 use Rattle.abt_laws.proofs.Sums.{sum_up, sum_up-falls, sum_up-most, sum_up-rises, sum_up-suc}
 use Rattle.abt_outcomes.specs.Laws.{NumbersAreBounded}
@@ -45,7 +45,7 @@ unit-most S u =
     let a : place_weight S (S.place u) ≤ 6 = place-most S (S.place u) in
     let b : request_weight (S.desk u).migrate ≤ 3 = request-most (S.desk u).migrate in omega arith
 
-weight-most : (W : Parts) (S : State) → weight W S ≤ length W.units * 9
+weight-most : (W : Parts) (S : State) → state_weight W S ≤ length W.units * 9
 weight-most W S = sum_up-most (unit_weight S) 9 (length W.units) (unit-most S)
 
 -- Stacked frames hold units.
@@ -138,5 +138,5 @@ open_frames-most W Z S sound =
 pub numbers-are-bounded : (W : Parts) (Z : List OrderShape) → NumbersAreBounded W Z
 numbers-are-bounded W Z valid S sound =
     let few : length W.units ≤ 4096 = valid.few_units in
-    let a : weight W S ≤ length W.units * 9 = weight-most W S in
+    let a : state_weight W S ≤ length W.units * 9 = weight-most W S in
     let b : open_frames W S ≤ length W.units = open_frames-most W Z S sound in (omega arith, omega arith)

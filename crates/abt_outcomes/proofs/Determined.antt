@@ -14,7 +14,7 @@ use Rattle.abt_laws.proofs.RunParts.{run-rest, run-front}
 use Rattle.abt_bounds.specs.Laws.{HasNoFreeOrder}
 use Rattle.abt_bounds.proofs.Choosing.{one-next}
 use Rattle.abt_outcomes.proofs.Counted.{stamped-counted}
-use Rattle.abt_outcomes.specs.OneStream.{CountedFrom, GoesToItsStop, IsOnlyRun, Stops}
+use Rattle.abt_outcomes.specs.OneStream.{CountedFrom, GoesToItsStop, IsOnlyRun, HasStopped}
 
 tail-is : {A : Type 0} {x y : A} {xs ys : List A} → x ∷ xs ≡ y ∷ ys → xs ≡ ys
 tail-is e = cc
@@ -39,14 +39,14 @@ first-is W Z S e f t es fs none sound run other counted also =
 
 -- no prefix stops
 abbrev NoStopBefore : Parts → ℕ → List Event → List Event → Type 0
-NoStopBefore W n P es = (before rest : List Event) (e : Event) → es ≡ before ++ e ∷ rest → Stops W n (P ++ before) → ⊥
+NoStopBefore W n P es = (before rest : List Event) (e : Event) → es ≡ before ++ e ∷ rest → HasStopped W n (P ++ before) → ⊥
 
 cons-is : {A : Type 0} (P es : List A) (e : A) → P ++ e ∷ es ≡ (P ++ e ∷ []) ++ es
 cons-is P es e = sym (append_assoc P (e ∷ []) es)
 
 -- after the first event, which both have
 further : (W : Parts) (n : ℕ) (P es : List Event) (e : Event) → NoStopBefore W n P (e ∷ es) → NoStopBefore W n (P ++ e ∷ []) es
-further W n P es e none before rest f is = λ stops. none (e ∷ before) rest f (ap (λ xs. e ∷ xs) is) (subst (Stops W n) (sym (cons-is P before e)) stops)
+further W n P es e none before rest f is = λ stops. none (e ∷ before) rest f (ap (λ xs. e ∷ xs) is) (subst (HasStopped W n) (sym (cons-is P before e)) stops)
 
 -- the first events of two runs that go on from the same events are one
 same-first : (W : Parts) (Z : List OrderShape) (t : ℕ) (P es fs : List Event) (e f : Event) → LeavesNoChoice W Z → Run W Z (P ++ e ∷ es) → Run W Z (P ++ f ∷ fs) → CountedFrom t (e ∷ es) → CountedFrom t (f ∷ fs) → e ≡ f
@@ -55,7 +55,7 @@ same-first W Z t P es fs e f none run other counted also =
 
 -- two runs that go on from the same events to their stops are one
 one-run : (W : Parts) (Z : List OrderShape) (n t : ℕ) (P es fs : List Event) → LeavesNoChoice W Z → Run W Z (P ++ es) → Run W Z (P ++ fs) → CountedFrom t es → CountedFrom t fs →
-    Stops W n (P ++ es) → Stops W n (P ++ fs) → NoStopBefore W n P es → NoStopBefore W n P fs → es ≡ fs
+    HasStopped W n (P ++ es) → HasStopped W n (P ++ fs) → NoStopBefore W n P es → NoStopBefore W n P fs → es ≡ fs
 one-run W Z n t P [] [] choice run other counted also stops stop none nor = refl
 one-run W Z n t P [] (f ∷ fs) choice run other counted also stops stop none nor = absurd (nor [] fs f refl stops)
 one-run W Z n t P (e ∷ es) [] choice run other counted also stops stop none nor = absurd (none [] es e refl stop)
@@ -66,8 +66,8 @@ one-run W Z n t P (e ∷ es) (f ∷ fs) choice run other counted also stops stop
     (subst (Run W Z) (cons-is P es e) run)
     (subst (λ x. Run W Z ((P ++ x ∷ []) ++ fs)) (sym same) (subst (Run W Z) (cons-is P fs f) other))
     counted.2 also.2
-    (subst (Stops W n) (cons-is P es e) stops)
-    (subst (λ x. Stops W n ((P ++ x ∷ []) ++ fs)) (sym same) (subst (Stops W n) (cons-is P fs f) stop))
+    (subst (HasStopped W n) (cons-is P es e) stops)
+    (subst (λ x. HasStopped W n ((P ++ x ∷ []) ++ fs)) (sym same) (subst (HasStopped W n) (cons-is P fs f) stop))
     (further W n P es e none)
     (subst (λ x. NoStopBefore W n (P ++ x ∷ []) fs) (sym same) (further W n P fs f nor))
     in ap (λ x. x ∷ es) same ∙ ap (λ xs. f ∷ xs) rest

@@ -13,7 +13,7 @@ use Rattle.abt_machine.specs.Events.{after}
 use Rattle.abt_machine.specs.Runs.{Run, RunFrom, last_state, state_after}
 use Rattle.abt_machine.specs.Sound.{Sound}
 use Rattle.abt_machine.specs.Outcomes.{Quiet, is_step, steps_of}
-use Rattle.abt_laws.specs.Measure.{open_frames, steps_left, weight}
+use Rattle.abt_laws.specs.Measure.{open_frames, steps_left, state_weight}
 use Rattle.abt_laws.proofs.RunParts.{last_state-sound, run-front, run-rest, state_after-append}
 use Rattle.abt_laws.proofs.SoundRuns.{runs-are-sound}
 use Rattle.abt_laws.proofs.Sums.{sum_up-falls, sum_up-same}
@@ -89,13 +89,13 @@ goes W Z J es valid stored run =
 
 -- the work that is left, by the state after the last event
 abbrev work_at : Parts → ℕ → List Event → State → ℕ
-work_at W n J S = (steps_left W n J * 36865 + weight W S) * 4097 + open_frames W S
+work_at W n J S = (steps_left W n J * 36865 + state_weight W S) * 4097 + open_frames W S
 
 pub steps-fall : (W : Parts) (Z : List OrderShape) → StepsFall W Z
 steps-fall W Z valid stored n J es run within =
     let way : Goes W Z J es = goes W Z J es valid stored run in
     let T : State = state_after W (last_state W J) es in
-    let bounds : (weight W T ≤ 36864) × (open_frames W T ≤ 4096) = numbers-are-bounded W Z valid T way.later in
+    let bounds : (state_weight W T ≤ 36864) × (open_frames W T ≤ 4096) = numbers-are-bounded W Z valid T way.later in
     elim (some-step W Z (last_state W J) es way.run) [
       | inl none ↦ inl none
       | inr some ↦ inr (subst (λ U. work_at W n (J ++ es) U < work_left W n J) (sym way.last)
@@ -107,13 +107,13 @@ others-raise-none W Z valid stored n J es run still =
     let way : Goes W Z J es = goes W Z J es valid stored run in
     let S : State = last_state W J in
     let T : State = state_after W S es in
-    let bounds : (weight W T ≤ 36864) × (open_frames W T ≤ 4096) = numbers-are-bounded W Z valid T way.later in
+    let bounds : (state_weight W T ≤ 36864) × (open_frames W T ≤ 4096) = numbers-are-bounded W Z valid T way.later in
     let same : steps_left W n (J ++ es) ≡ steps_left W n J = steps-same W n J es still in
     subst (λ U. work_at W n (J ++ es) U ≤ work_left W n J) (sym way.last)
     (elim (misses-or-lower W Z S es valid stored way.before way.run still) [
       | inr lighter ↦ omega arith
       | inl all ↦
-          let weighs : weight W T ≡ weight W S = all.1 in
+          let weighs : state_weight W T ≡ state_weight W S = all.1 in
           let frames : open_frames W T ≤ open_frames W S = misses-open-none W Z S es way.run all.0 in omega arith
     ])
 
@@ -122,7 +122,7 @@ rotations-fall W Z valid stored n J es run within turns =
     let way : Goes W Z J es = goes W Z J es valid stored run in
     let S : State = last_state W J in
     let T : State = state_after W S es in
-    let bounds : (weight W T ≤ 36864) × (open_frames W T ≤ 4096) = numbers-are-bounded W Z valid T way.later in
+    let bounds : (state_weight W T ≤ 36864) × (open_frames W T ≤ 4096) = numbers-are-bounded W Z valid T way.later in
     elim (steps-fall W Z valid stored n J es run within) [
       | inr less ↦ inr less
       | inl none ↦

@@ -13,7 +13,7 @@ use Rattle.abt_machine.specs.Start.{start, start_place}
 use Rattle.abt_machine.specs.State.{State}
 use Rattle.abt_machine.specs.Events.{after}
 use Rattle.abt_outcomes.specs.Laws.{EmptiedGrows, StopsAreLast, StopsGrow}
-use Rattle.abt_outcomes.specs.OneStream.{EndsRound, GoesToItsStop, HasEndedEmpty, HasNotStopped, Stops}
+use Rattle.abt_outcomes.specs.OneStream.{EndsRound, GoesToItsStop, HasEndedEmpty, HasNotStopped, HasStopped}
 use Rattle.abt_outcomes.specs.Rotations.{HasEmptied}
 
 tail-is : {A : Type 0} {x y : A} {xs ys : List A} → x ∷ xs ≡ y ∷ ys → xs ≡ ys
@@ -34,10 +34,10 @@ prefix-cases (j ∷ J) (f ∷ prefix) rest e is =
       | inr less ↦ inr (less.0, ap (λ x. x ∷ J) same ∙ ap (λ xs. f ∷ xs) less.1)
     ]
 
-goes-on : (W : Parts) (n : ℕ) (J : List Event) (e : Event) → HasNotStopped W n J → (Stops W n (J ++ e ∷ []) → ⊥) → HasNotStopped W n (J ++ e ∷ [])
+goes-on : (W : Parts) (n : ℕ) (J : List Event) (e : Event) → HasNotStopped W n J → (HasStopped W n (J ++ e ∷ []) → ⊥) → HasNotStopped W n (J ++ e ∷ [])
 goes-on W n J e none not prefix rest is stops =
     elim (prefix-cases J prefix rest e is) [
-      | inl whole ↦ not (subst (Stops W n) whole stops)
+      | inl whole ↦ not (subst (HasStopped W n) whole stops)
       | inr less ↦ none prefix less.0 less.1 stops
     ]
 
@@ -50,7 +50,7 @@ shorter (j ∷ J) (g ∷ prefix) rest e f is =
     let less : (more : List Event) × (J ≡ prefix ++ more) = shorter J prefix rest e f (tail-is is) in
     (less.0, ap (λ x. x ∷ J) (head-is is) ∙ ap (λ xs. g ∷ xs) less.1)
 
-goes-to : (W : Parts) (n : ℕ) (J : List Event) (e : Event) → HasNotStopped W n J → Stops W n (J ++ e ∷ []) → GoesToItsStop W n (J ++ e ∷ [])
+goes-to : (W : Parts) (n : ℕ) (J : List Event) (e : Event) → HasNotStopped W n J → HasStopped W n (J ++ e ∷ []) → GoesToItsStop W n (J ++ e ∷ [])
 goes-to W n J e none stops = record {
   stops = stops;
   not_before = λ prefix rest f is stop. (let less : (more : List Event) × (J ≡ prefix ++ more) = shorter J prefix rest e f is in none prefix less.0 less.1 stop);
@@ -84,7 +84,7 @@ no-last : (prefix : List Event) (e : Event) → [] ≡ prefix ++ e ∷ [] → �
 no-last [] e is = cc
 no-last (f ∷ prefix) e is = cc
 
-start-idle : (W : Parts) (n : ℕ) → Stops W n [] → ⊥
+start-idle : (W : Parts) (n : ℕ) → HasStopped W n [] → ⊥
 start-idle W n stops =
     elim stops [
       | inl ended ↦ no-last ended.0 ended.1 ended.2
@@ -97,7 +97,7 @@ prefix-none (f ∷ prefix) rest e = cc
 
 pub stops-grow : (W : Parts) → StopsGrow W
 stops-grow W n = (
-  (λ prefix rest is stops. start-idle W n (subst (Stops W n) (prefix-none prefix rest is) stops)),
+  (λ prefix rest is stops. start-idle W n (subst (HasStopped W n) (prefix-none prefix rest is) stops)),
   (λ J e none. (goes-on W n J e none, goes-to W n J e none)),
 )
 

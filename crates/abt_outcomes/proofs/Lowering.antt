@@ -14,7 +14,7 @@ use Rattle.abt_machine.specs.Runs.{RunFrom, state_after}
 use Rattle.abt_machine.specs.Sound.{Sound}
 use Rattle.abt_machine.specs.Outcomes.{is_step}
 use Rattle.abt_laws.specs.Laws.{AllMisses, IsMiss}
-use Rattle.abt_laws.specs.Measure.{EndsStacked, open_frames, weight}
+use Rattle.abt_laws.specs.Measure.{EndsStacked, open_frames, state_weight}
 use Rattle.abt_laws.proofs.Misses.{miss-ends-stacked, miss-keeps-frames, miss-keeps-weight}
 use Rattle.abt_laws.proofs.Quiet.{miss-stacks-none}
 use Rattle.abt_laws.proofs.SoundRuns.{events-keep-sound}
@@ -30,7 +30,7 @@ is-miss (what.Miss p) = inl tt
 is-miss _ = inr (λ h. h)
 
 -- an event that is neither a step nor a miss lowers the weight
-pub other-lowers : (W : Parts) (Z : List OrderShape) (S : State) (s : ℕ) (w : What) → Sound W Z S → May W Z S s w → is_step w ≡ false → (IsMiss w → ⊥) → weight W (after W S s w) < weight W S
+pub other-lowers : (W : Parts) (Z : List OrderShape) (S : State) (s : ℕ) (w : What) → Sound W Z S → May W Z S s w → is_step w ≡ false → (IsMiss w → ⊥) → state_weight W (after W S s w) < state_weight W S
 other-lowers W Z S s (what.Miss p) sound may still other = absurd (other tt)
 other-lowers W Z S s (what.Step u k c) sound may still other = cc
 other-lowers W Z S s (what.Take p u) sound may still other = take-falls W S s p u may.1
@@ -41,7 +41,7 @@ other-lowers W Z S s (what.Enter u) sound may still other = enter-falls W S s u 
 other-lowers W Z S s (what.Leave u) sound may still other = leave-falls W Z S s u sound may.0 may.1
 
 -- a miss keeps it
-miss-keeps : (W : Parts) (S : State) (s : ℕ) (w : What) → IsMiss w → weight W (after W S s w) ≡ weight W S
+miss-keeps : (W : Parts) (S : State) (s : ℕ) (w : What) → IsMiss w → state_weight W (after W S s w) ≡ state_weight W S
 miss-keeps W S s (what.Miss p) miss = miss-keeps-weight W S s p
 miss-keeps W S s _ miss = absurd miss
 
@@ -49,19 +49,19 @@ miss-keeps W S s _ miss = absurd miss
 
 -- events without a step are all misses, and keep the weight, or lower it
 pub misses-or-lower : (W : Parts) (Z : List OrderShape) (S : State) (es : List Event) → IsValid W → OrdersStored W Z → Sound W Z S → RunFrom W Z S es → HasNoStep es →
-    (AllMisses es × (weight W (state_after W S es) ≡ weight W S)) ⊎ (weight W (state_after W S es) < weight W S)
+    (AllMisses es × (state_weight W (state_after W S es) ≡ state_weight W S)) ⊎ (state_weight W (state_after W S es) < state_weight W S)
 misses-or-lower W Z S [] valid stored sound run still = inl (tt, refl)
 misses-or-lower W Z S (e ∷ es) valid stored sound run still =
     let T : State = after W S e.stream.0 e.what in
-    let rest : (AllMisses es × (weight W (state_after W T es) ≡ weight W T)) ⊎ (weight W (state_after W T es) < weight W T) =
+    let rest : (AllMisses es × (state_weight W (state_after W T es) ≡ state_weight W T)) ⊎ (state_weight W (state_after W T es) < state_weight W T) =
     misses-or-lower W Z T es valid stored (events-keep-sound W Z valid stored S T e sound (run.0, run.1, refl)) run.2 still.1 in
     elim (is-miss e.what) [
       | inl miss ↦
-          let same : weight W T ≡ weight W S = miss-keeps W S e.stream.0 e.what miss in
+          let same : state_weight W T ≡ state_weight W S = miss-keeps W S e.stream.0 e.what miss in
           elim rest [ inl all ↦ inl ((miss, all.0), all.1 ∙ same) | inr less ↦ inr (omega arith) ]
       | inr other ↦
-          let lower : weight W T < weight W S = other-lowers W Z S e.stream.0 e.what sound run.1 still.0 other in
-          elim rest [ inl all ↦ (let e : weight W (state_after W T es) ≡ weight W T = all.1 in inr (omega arith)) | inr less ↦ inr (omega arith) ]
+          let lower : state_weight W T < state_weight W S = other-lowers W Z S e.stream.0 e.what sound run.1 still.0 other in
+          elim rest [ inl all ↦ (let e : state_weight W (state_after W T es) ≡ state_weight W T = all.1 in inr (omega arith)) | inr less ↦ inr (omega arith) ]
     ]
 
 -- Open frames.

@@ -14,7 +14,7 @@ use Rattle.abt_machine.specs.State.{State}
 use Rattle.abt_machine.specs.Lines.{Line, InPool, InTray, InHand, InNext, InFrames, Joining, if_same, standing, ticket_in}
 use Rattle.abt_machine.specs.Sound.{Sound, IsPlaced}
 use Rattle.abt_machine.specs.Values.{Owned, Held, owned_at, owned_in, part_of, object_of}
-use Rattle.abt_laws.specs.Measure.{hand_weight, open_frames_of, place_weight, request_weight, unit_weight, weight}
+use Rattle.abt_laws.specs.Measure.{hand_weight, open_frames_of, place_weight, request_weight, unit_weight, state_weight}
 use Rattle.abt_laws.proofs.Counts.{length-step, ticket_count, ticket_count-one}
 use Rattle.abt_laws.proofs.Places.{same-self, ticket-place, ticket_at, ticket_in-place_in}
 use Rattle.abt_laws.proofs.Sums.{sum_up, sum_up-none, sum_up-one, sum_up-plus, sum_up-same, sum_up-single, sum_up-suc, sum_up-swap, sum_up-times}
@@ -153,14 +153,14 @@ pool-weighs W S p = ap (λ k. 5 * k) (count-line W S (InPool p)) ∙ sym (sum_up
 desk-weighs : (W : Parts) (S : State) (v : ℕ) → object_weight (object_of W S (site.Desk (unit_no v))) ≡ sum_up (λ u. join_at (S.place u) v) (length W.units) + request_weight (S.desk v).migrate
 desk-weighs W S v = ap (λ k. k + request_weight (S.desk v).migrate) (ap (λ k. 6 * k) (count-line W S (Joining v)) ∙ sym (sum_up-times 6 (stands_in S (Joining v)) (length W.units)))
 
-weight-held : (W : Parts) (Z : List OrderShape) (S : State) → Sound W Z S → weight W S ≡ weight_seen W (part_of W S) (object_of W S)
+weight-held : (W : Parts) (Z : List OrderShape) (S : State) → Sound W Z S → state_weight W S ≡ weight_seen W (part_of W S) (object_of W S)
 weight-held W Z S sound =
     let n : ℕ = length W.units in
     let a : ℕ → ℕ = λ u. sum_up (term_at S (S.place u)) W.streams in
     let b : ℕ → ℕ = λ u. sum_up (pool_at (S.place u)) (length W.pools) in
     let c : ℕ → ℕ = λ u. sum_up (join_at (S.place u)) n in
     let r : ℕ → ℕ = λ u. request_weight (S.desk u).migrate in
-    let each : weight W S ≡ sum_up (λ u. (a u + (b u + c u)) + r u) n =
+    let each : state_weight W S ≡ sum_up (λ u. (a u + (b u + c u)) + r u) n =
     sum_up-same (unit_weight S) (λ u. (a u + (b u + c u)) + r u) n (λ u l. ap (λ k. k + r u) (sym (weighs W S u (S.place u) (sound.placed u)))) in
     let one : sum_up (λ u. (a u + (b u + c u)) + r u) n ≡ sum_up (λ u. a u + (b u + c u)) n + sum_up r n = sum_up-plus (λ u. a u + (b u + c u)) r n in
     let two : sum_up (λ u. a u + (b u + c u)) n ≡ sum_up a n + sum_up (λ u. b u + c u) n = sum_up-plus a (λ u. b u + c u) n in
@@ -184,7 +184,7 @@ weight-is-seen W Z S parts objects sound stand =
     sum_up-same _ _ (length W.pools) (λ p l. ap object_weight (stand.sites (site.Pool (pool_no p)))) in
     let desks : sum_up (λ u. object_weight (object_of W S (site.Desk (unit_no u)))) (length W.units) ≡ sum_up (λ u. object_weight (objects (site.Desk (unit_no u)))) (length W.units) =
     sum_up-same _ _ (length W.units) (λ u l. ap object_weight (stand.sites (site.Desk (unit_no u)))) in
-    let held : weight W S ≡ weight_seen W (part_of W S) (object_of W S) = weight-held W Z S sound in
+    let held : state_weight W S ≡ weight_seen W (part_of W S) (object_of W S) = weight-held W Z S sound in
     omega arith
 
 pub frames-are-seen : (W : Parts) → FramesAreSeen W

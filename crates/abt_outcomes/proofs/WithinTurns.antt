@@ -18,7 +18,7 @@ use Rattle.abt_machine.specs.Sound.{Sound}
 use Rattle.abt_machine.specs.Outcomes.{is_step}
 use Rattle.abt_machine.proofs.Declared.{few-listed}
 use Rattle.abt_laws.specs.Laws.{IsMiss}
-use Rattle.abt_laws.specs.Measure.{open_frames, weight}
+use Rattle.abt_laws.specs.Measure.{open_frames, state_weight}
 use Rattle.abt_laws.proofs.Maps.{put_at-same}
 use Rattle.abt_laws.proofs.Misses.{miss-keeps-frames, miss-keeps-weight}
 use Rattle.abt_laws.proofs.Orders.{order-permutes}
@@ -58,7 +58,7 @@ miss-falls : (W : Parts) (Z : List OrderShape) (S : State) (s : ℕ) (w : What) 
 miss-falls W Z S s (what.Miss p) may miss goes-on =
     let T : State = after W S s (what.Miss p) in
     let own : T.stream s ≡ round_missed W p.0 (S.stream s) = put_at-same S.stream s (round_missed W p.0 (S.stream s)) in
-    let same : weight W T ≡ weight W S = miss-keeps-weight W S s p in
+    let same : state_weight W T ≡ state_weight W S = miss-keeps-weight W S s p in
     let frames : open_frames W T ≡ open_frames W S = miss-keeps-frames W S s p may.0 (λ ends. (let e : false ≡ true = sym goes-on ∙ ends.1 in cc)) in
     let fewer : left_unseen W (frame_missed W (S.stream s).top p.0) < left_unseen W (S.stream s).top =
     missed-unseen W (S.stream s).top p.0 (more-pools W Z (S.stream s).top p.0 may.2) (sym (ap (λ (st : Stream). st.top.empty) own) ∙ goes-on) in
@@ -73,7 +73,7 @@ turn-falls W Z S e valid stored sound step still goes-on =
       | inl miss ↦ miss-falls W Z S e.stream.0 e.what step.1 miss (goes-on miss)
       | inr other ↦
           let later : Sound W Z T = events-keep-sound W Z valid stored S T e sound step in
-          let lower : weight W T < weight W S = other-lowers W Z S e.stream.0 e.what sound step.1 still other in
+          let lower : state_weight W T < state_weight W S = other-lowers W Z S e.stream.0 e.what sound step.1 still other in
           let frames : open_frames W T ≤ 4096 = (numbers-are-bounded W Z valid T later).1 in
           let pools : unseen W T e.stream.0 ≤ 8 = unseen-most W Z T e.stream.0 valid step.0 later in omega arith
     ]

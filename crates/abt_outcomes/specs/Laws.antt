@@ -19,10 +19,10 @@ use Rattle.abt_machine.specs.Stamps.{Stamped}
 use Rattle.abt_machine.specs.Turns.{due_of}
 use Rattle.abt_machine.specs.Values.{Held, Object, part_of}
 use Rattle.abt_laws.specs.Laws.{AllMisses, IsMiss}
-use Rattle.abt_laws.specs.Measure.{open_frames, weight}
+use Rattle.abt_laws.specs.Measure.{open_frames, state_weight}
 use Rattle.abt_outcomes.specs.Values.{HaveMade, StandFor, LooksQuiet, LooksEnded, LooksSpent, LooksAs}
 use Rattle.abt_bounds.specs.Laws.{HasNoFreeOrder}
-use Rattle.abt_outcomes.specs.OneStream.{CountedFrom, EndsRound, GoesToItsStop, HasEndedEmpty, HasNotStopped, IsOnlyRun, Stops}
+use Rattle.abt_outcomes.specs.OneStream.{CountedFrom, EndsRound, GoesToItsStop, HasEndedEmpty, HasNotStopped, IsOnlyRun, HasStopped}
 use Rattle.abt_outcomes.specs.Rotations.{HasEmptied, HasNoStacked, HasNoStep, IsRotation, IsWithin, MissesAll, QuietOrLess, turns_left, work_left}
 use Rattle.abt_outcomes.specs.Measured.{frames_seen, turns_seen, weight_seen, work_seen}
 
@@ -78,16 +78,16 @@ EmptyRoundsEnd W Z = IsValid W → OrdersStored W Z → W.streams ≡ 1 → (J :
 
 -- of one stream a run that stops has an outcome
 abbrev pub StopsHaveOutcomes : Parts → List OrderShape → Type 0
-StopsHaveOutcomes W Z = IsValid W → OrdersStored W Z → W.streams ≡ 1 → (n : ℕ) (J : List Event) → Run W Z J → Stops W n J → (o : Outcome) × EndsAs W n J o
+StopsHaveOutcomes W Z = IsValid W → OrdersStored W Z → W.streams ≡ 1 → (n : ℕ) (J : List Event) → Run W Z J → HasStopped W n J → (o : Outcome) × EndsAs W n J o
 
 -- a journal stops when its last event ended a round of the main scheduler empty, and when its stream is spent
 abbrev pub StopsAreLast : Parts → Type 0
-StopsAreLast W = (n : ℕ) (J : List Event) (e : Event) → Stops W n (J ++ e ∷ []) ↔ (EndsRound W J e ⊎ Spent W n (J ++ e ∷ []) 0)
+StopsAreLast W = (n : ℕ) (J : List Event) (e : Event) → HasStopped W n (J ++ e ∷ []) ↔ (EndsRound W J e ⊎ Spent W n (J ++ e ∷ []) 0)
 
 -- a journal without events has not stopped; one more event after which it does not stop leaves it so, and one after which it does takes it to its stop
 abbrev pub StopsGrow : Parts → Type 0
 StopsGrow W = (n : ℕ) → HasNotStopped W n [] ×
-    ((J : List Event) (e : Event) → HasNotStopped W n J → ((Stops W n (J ++ e ∷ []) → ⊥) → HasNotStopped W n (J ++ e ∷ [])) × (Stops W n (J ++ e ∷ []) → GoesToItsStop W n (J ++ e ∷ [])))
+    ((J : List Event) (e : Event) → HasNotStopped W n J → ((HasStopped W n (J ++ e ∷ []) → ⊥) → HasNotStopped W n (J ++ e ∷ [])) × (HasStopped W n (J ++ e ∷ []) → GoesToItsStop W n (J ++ e ∷ [])))
 
 -- of one stream and without a free order a stamped run that goes to its stop is the only one
 abbrev pub StopsAreOne : Parts → List OrderShape → Type 0
@@ -113,7 +113,7 @@ EmptiedGrows W = (s : ℕ) (S : State) (es fs : List Event) → (HasEmptied W s 
 
 -- in a sound state the units' weight and the number of open frames have bounds
 abbrev pub NumbersAreBounded : Parts → List OrderShape → Type 0
-NumbersAreBounded W Z = IsValid W → (S : State) → Sound W Z S → (weight W S ≤ unit_limit format.Two * 9) × (open_frames W S ≤ unit_limit format.Two)
+NumbersAreBounded W Z = IsValid W → (S : State) → Sound W Z S → (state_weight W S ≤ unit_limit format.Two * 9) × (open_frames W S ≤ unit_limit format.Two)
 
 -- where no stream makes more than n steps, events among which there is a step lower the work that is left
 abbrev pub StepsFall : Parts → List OrderShape → Type 0
@@ -145,7 +145,7 @@ StepsBeginFresh W Z = (S : State) (s : ℕ) → Sound W Z S → due W S s ≡ St
 
 -- in a sound state the units weigh what those that streams and objects hold do
 abbrev pub WeightIsSeen : Parts → List OrderShape → Type 0
-WeightIsSeen W Z = (S : State) (parts : ℕ → Held) (objects : Site → Object) → Sound W Z S → StandFor W S parts objects → weight W S ≡ weight_seen W parts objects
+WeightIsSeen W Z = (S : State) (parts : ℕ → Held) (objects : Site → Object) → Sound W Z S → StandFor W S parts objects → state_weight W S ≡ weight_seen W parts objects
 
 -- the open frames are those of the streams' parts
 abbrev pub FramesAreSeen : Parts → Type 0

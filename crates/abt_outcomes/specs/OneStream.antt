@@ -25,17 +25,17 @@ abbrev pub HasEndedEmpty : Parts → List Event → Type 0
 HasEndedEmpty W J = (prefix : List Event) × (e : Event) × (J ≡ prefix ++ e ∷ []) × EndsRound W prefix e
 
 -- one stream stops at an empty round of its main scheduler, and when it is spent: it made its n steps, and would make another
-abbrev pub Stops : Parts → ℕ → List Event → Type 0
-Stops W n J = HasEndedEmpty W J ⊎ Spent W n J 0
+abbrev pub HasStopped : Parts → ℕ → List Event → Type 0
+HasStopped W n J = HasEndedEmpty W J ⊎ Spent W n J 0
 
 -- the journal stops, and no prefix of it did: it ends with the only empty round that it has, or spent with none
 pub record GoesToItsStop (W : Parts) (n : ℕ) (J : List Event) : Type 0 where
-  pub stops : Stops W n J
-  pub not_before : (prefix rest : List Event) (e : Event) → J ≡ prefix ++ e ∷ rest → Stops W n prefix → ⊥
+  pub stops : HasStopped W n J
+  pub not_before : (prefix rest : List Event) (e : Event) → J ≡ prefix ++ e ∷ rest → HasStopped W n prefix → ⊥
 
 -- neither the journal nor a prefix of it stops
 abbrev pub HasNotStopped : Parts → ℕ → List Event → Type 0
-HasNotStopped W n J = (prefix rest : List Event) → J ≡ prefix ++ rest → Stops W n prefix → ⊥
+HasNotStopped W n J = (prefix rest : List Event) → J ≡ prefix ++ rest → HasStopped W n prefix → ⊥
 
 -- no other stamped run goes to its stop
 abbrev pub IsOnlyRun : Parts → List OrderShape → ℕ → List Event → Type 0

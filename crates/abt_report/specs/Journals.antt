@@ -52,8 +52,8 @@ abbrev pub IsNoJournal : Text → Type 0
 IsNoJournal bytes = (J : List Event) → All IsEvent J → journal_text J ≡ bytes → ⊥
 
 -- a value of this kind whose text it is, or nothing if there is none
-abbrev pub Reads : {A : Type 0} → (A → Type 0) → (A → Text) → Text → Option A → Type 0
-Reads {A} Is text_from text found = MatchOption found ((x : A) → Is x → text_from x ≡ text → ⊥) (λ x. Is x × (text_from x ≡ text))
+abbrev pub ReadsAs : {A : Type 0} → (A → Type 0) → (A → Text) → Text → Option A → Type 0
+ReadsAs {A} Is text_from text found = MatchOption found ((x : A) → Is x → text_from x ≡ text → ⊥) (λ x. Is x × (text_from x ≡ text))
 
 -- why bytes were not read
 abbrev pub IsCause : Text → NotJournal → Type 0

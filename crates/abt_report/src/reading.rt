@@ -2,7 +2,7 @@
 
 ghost use Rattle.std.specs.Prelude.{◌≡◌, ◌≢◌, ◌<◌, ◌-◌, ◌^◌, All, IfErr, IfOk, MatchBool, length};
 ghost use Rattle.abt_machine.specs.Texts.{journal_text};
-ghost use Rattle.abt_report.specs.Journals.{IsCause, IsEvent, Reads, event_line};
+ghost use Rattle.abt_report.specs.Journals.{IsCause, IsEvent, ReadsAs, event_line};
 
 use crate::cuts::cut;
 use crate::guesses::{event, split};
@@ -26,7 +26,7 @@ fn read_event<'a>(
     words: &mut Vec<&'a [u8]>,
     text: &mut Vec<u8>,
 ) -> Result<Option<Event>, Want>
-    ensures { IfOk result (Reads IsEvent event_line line.entry.now) }
+    ensures { IfOk result (ReadsAs IsEvent event_line line.entry.now) }
 {
     split(words, line)?;
     let Some(event) = event(words) else {

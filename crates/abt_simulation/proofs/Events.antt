@@ -14,7 +14,7 @@ use Rattle.abt_machine.specs.Sound.{Sound}
 use Rattle.abt_machine.specs.Values.{Held, part_of, Object}
 use Rattle.abt_machine.specs.Acts as act
 use Rattle.abt_machine.specs.Turns.{Heard, Steps}
-use Rattle.abt_simulation.specs.Simulation.{Answers, Simulation}
+use Rattle.abt_simulation.specs.Simulation.{CalledAnswers, Simulation}
 use Rattle.abt_simulation.proofs.Simulated.{Simulated, with-call, without-call, is-event}
 use Rattle.abt_simulation.proofs.CalledSites.{steps-site}
 use Rattle.abt_simulation.proofs.PoolEvents.{simulate-miss, simulate-take, simulate-put}
@@ -22,7 +22,7 @@ use Rattle.abt_simulation.proofs.DeskEvents.{simulate-end, simulate-look}
 use Rattle.abt_simulation.proofs.FrameEvents.{simulate-enter, simulate-leave}
 use Rattle.abt_simulation.proofs.StepEvents.{simulate-step}
 
-module _ (W : Parts) (Z : List OrderShape) (S : State) (s : ℕ) (heard : Option Heard) (part : Held) (object : Object) (valid : IsValid W) (sound : Sound W Z S) (answers : Answers W S heard object) where
+module _ (W : Parts) (Z : List OrderShape) (S : State) (s : ℕ) (heard : Option Heard) (part : Held) (object : Object) (valid : IsValid W) (sound : Sound W Z S) (answers : CalledAnswers W S heard object) where
   -- the event's unit is the one that is held
   of-unit : (w : ℕ → What) (n m : ℕ) → n ≡ m → Simulated W Z S s (w n) heard part object → Simulated W Z S s (w m) heard part object
   of-unit w n m e done = subst (λ k. Simulated W Z S s (w k) heard part object) e done

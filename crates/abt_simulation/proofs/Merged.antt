@@ -24,7 +24,7 @@ use Rattle.abt_interleave.specs.Machines.{TellsPlaces, IsSimulated, Gathered, Ru
 use Rattle.abt_interleave.proofs.Members.{to-among}
 use Rattle.abt_interleave.proofs.Merged.{logs-merge, log-is-own, log-rises}
 use Rattle.abt_interleave.proofs.Lifted.{events-lift}
-use Rattle.abt_simulation.specs.Simulation.{Answers, IsEvent}
+use Rattle.abt_simulation.specs.Simulation.{CalledAnswers, IsEventFrom}
 use Rattle.abt_simulation.specs.Merging.{same_site, machine_of, StreamDeed, SiteEntry, event_of, IsJournalOf, LeadsTo, Merging}
 use Rattle.abt_simulation.proofs.Events.{simulation}
 
@@ -67,12 +67,12 @@ called_at None objects = NotHere
 called_at (Some h) objects = objects h.0
 
 -- the called object answers
-called-answers : (W : Parts) (S : State) (heard : Option Heard) (objects : Site → Object) → Answered SiteGives (object_of W S) heard objects → Answers W S heard (called_at heard objects)
+called-answers : (W : Parts) (S : State) (heard : Option Heard) (objects : Site → Object) → Answered SiteGives (object_of W S) heard objects → CalledAnswers W S heard (called_at heard objects)
 called-answers W S None objects a = tt
 called-answers W S (Some h) objects a = a.0
 
 -- all objects are as the answer says
-called-all : (W : Parts) (Z : List OrderShape) (S T : State) (e : Event) (heard : Option Heard) (part : Held) (objects : Site → Object) → IsEvent W Z S e heard part (called_at heard objects) T → Answered SiteGives (object_of W S) heard objects →
+called-all : (W : Parts) (Z : List OrderShape) (S T : State) (e : Event) (heard : Option Heard) (part : Held) (objects : Site → Object) → IsEventFrom W Z S e heard part (called_at heard objects) T → Answered SiteGives (object_of W S) heard objects →
     (x : Site) → object_of W T x ≡ objects x
 called-all W Z S T e None part objects is a x = is.other_objects x (λ q. none≢some q) ∙ sym (a x)
 called-all W Z S T e (Some h) part objects is a x =
@@ -86,7 +86,7 @@ module _ (W : Parts) (Z : List OrderShape) (valid : IsValid W) (stored : OrdersS
   pub is-simulated : IsSimulated (machine_of W Z)
   is-simulated S s w heard part objects sound declared steps answered =
       let e : Event = record { stamp = 0; stream = stream_no s; what = w } in
-      let is : IsEvent W Z S e heard part (called_at heard objects) (after W S s w) = simulation W Z valid stored S e heard part (called_at heard objects) sound declared steps (called-answers W S heard objects answered) in
+      let is : IsEventFrom W Z S e heard part (called_at heard objects) (after W S s w) = simulation W Z valid stored S e heard part (called_at heard objects) sound declared steps (called-answers W S heard objects answered) in
       record {
         may = is.comes.1;
         sound = events-keep-sound W Z valid stored S (after W S s w) e sound is.comes;

@@ -15,7 +15,7 @@ use Rattle.abt_machine.specs.Gives.{SiteGives}
 use Rattle.abt_machine.specs.Turns.{Heard}
 use Rattle.abt_laws.proofs.LocalEvents.{event-local}
 use Rattle.abt_laws.proofs.Local.{IsLocal}
-use Rattle.abt_simulation.specs.Simulation.{site_heard, Answers, Leaves, IsEvent}
+use Rattle.abt_simulation.specs.Simulation.{site_heard, CalledAnswers, Leaves, IsEventFrom}
 use Rattle.abt_simulation.proofs.Others.{parts-stay, objects-stay}
 
 -- Events.
@@ -27,10 +27,10 @@ pub record Simulated (W : Parts) (Z : List OrderShape) (S : State) (s : ℕ) (w 
   pub called : Leaves W (after W S s w) heard object
 
 -- the event of a call that was heard so
-pub with-call : (W : Parts) (Z : List OrderShape) (S : State) (s : ℕ) (w : What) (heard : Option Heard) (part p : Held) (object : Object) (x : Site) (asked : Act) (b : Answer) → heard ≡ Some (x, asked, b) → part ≡ p → Answers W S heard object →
+pub with-call : (W : Parts) (Z : List OrderShape) (S : State) (s : ℕ) (w : What) (heard : Option Heard) (part p : Held) (object : Object) (x : Site) (asked : Act) (b : Answer) → heard ≡ Some (x, asked, b) → part ≡ p → CalledAnswers W S heard object →
     (SiteGives (object_of W S x) asked b object → Simulated W Z S s w (Some (x, asked, b)) p object) → Simulated W Z S s w heard part object
 with-call W Z S s w heard part p object x asked b e f answers go =
-    subst (λ (q : Option Heard × Held). Simulated W Z S s w q.0 q.1 object) (λ i. (sym e i, sym f i)) (go (subst (λ h. Answers W S h object) e answers))
+    subst (λ (q : Option Heard × Held). Simulated W Z S s w q.0 q.1 object) (λ i. (sym e i, sym f i)) (go (subst (λ h. CalledAnswers W S h object) e answers))
 
 -- an event without a call
 pub without-call : (W : Parts) (Z : List OrderShape) (S : State) (s : ℕ) (w : What) (heard : Option Heard) (part p : Held) (object : Object) → heard ≡ None → part ≡ p →
@@ -39,7 +39,7 @@ without-call W Z S s w heard part p object e f done = subst (λ (q : Option Hear
 
 -- what an event owes is all: the rest stays since the change is local
 pub is-event : (W : Parts) (Z : List OrderShape) (S : State) (e : Event) (heard : Option Heard) (part : Held) (object : Object) → IsValid W → e.stream.0 < W.streams → site_heard heard ≡ event_site W e →
-    Simulated W Z S e.stream.0 e.what heard part object → IsEvent W Z S e heard part object (after W S e.stream.0 e.what)
+    Simulated W Z S e.stream.0 e.what heard part object → IsEventFrom W Z S e heard part object (after W S e.stream.0 e.what)
 is-event W Z S e heard part object valid declared site done =
     let local : IsLocal W S e.stream.0 (event_site W e) (change W S e.stream.0 e.what) = event-local W valid Z S e.stream.0 e.what done.may in
     record {

@@ -33,7 +33,7 @@ use Rattle.abt_machine.specs.Plans.{Effect, Plan, Does, Calls, Exits, denied, re
 use Rattle.abt_machine.specs.Turns.{Heard, due_of, Performs, exited}
 use Rattle.abt_machine.proofs.Declared.{op-declared}
 use Rattle.abt_laws.proofs.DueParts.{due-same}
-use Rattle.abt_simulation.specs.Simulation.{Answers, Leaves}
+use Rattle.abt_simulation.specs.Simulation.{CalledAnswers, Leaves}
 use Rattle.abt_simulation.proofs.Acting.{IsActing, acting}
 use Rattle.abt_simulation.proofs.OwnedLines.{Head, head-of}
 use Rattle.abt_simulation.proofs.Rows.{Row, RowDone, after_step}
@@ -50,7 +50,7 @@ use Rattle.abt_simulation.proofs.Simulated.{Simulated}
 
 -- Unit u, in the hand of stream s, makes the step with this code.
 
-module _ (W : Parts) (Z : List OrderShape) (S : State) (s u : ℕ) (acts : IsActing W Z S s u) (heard : Option Heard) (c : Code) (part : Held) (object : Object) (answers : Answers W S heard object) where
+module _ (W : Parts) (Z : List OrderShape) (S : State) (s u : ℕ) (acts : IsActing W Z S s u) (heard : Option Heard) (c : Code) (part : Held) (object : Object) (answers : CalledAnswers W S heard object) where
   -- what the step of operation a owes
   record Stepped (a : Op) : Type 0 where
     pub code : c ≡ code_of W S s u a
@@ -65,7 +65,7 @@ module _ (W : Parts) (Z : List OrderShape) (S : State) (s u : ℕ) (acts : IsAct
   by-call : (a : Op) (x : Site) (asked : Act) → Row W S s u a x asked → Goes a (Calls x asked) → Stepped a
   by-call a x asked row goes =
       let e : Effect = effect_of a (owned_at S u) goes.0 in
-      let done : RowDone W S s u a x e object = row goes.0 object (subst (λ h. Answers W S h object) goes.1 answers) in
+      let done : RowDone W S s u a x e object = row goes.0 object (subst (λ h. CalledAnswers W S h object) goes.1 answers) in
       record {
         code = goes.2 ∙ done.code;
         own = ap (λ d. part_of W (after_step W S s u a d) s) goes.2 ∙ (done.own ∙ sym goes.3);
@@ -139,7 +139,7 @@ module _ (W : Parts) (Z : List OrderShape) (S : State) (s u : ℕ) (acts : IsAct
 
 -- a step, by its operation
 pub simulate-step : (W : Parts) (Z : List OrderShape) (S : State) (s : ℕ) (heard : Option Heard) (part : Held) (object : Object) (o : Owned) (c : Code) (a : Op) → IsValid W → Sound W Z S →
-    due_of W s (part_of W S s) ≡ StepDue → first (owned_in W S (InHand s)) ≡ Some o → op_at W o.number o.carried.position ≡ Some a → Performs (part_of W S s) a o (plan_of W s a o) heard c part → Answers W S heard object →
+    due_of W s (part_of W S s) ≡ StepDue → first (owned_in W S (InHand s)) ≡ Some o → op_at W o.number o.carried.position ≡ Some a → Performs (part_of W S s) a o (plan_of W s a o) heard c part → CalledAnswers W S heard object →
     Simulated W Z S s (what.Step (unit_no o.number) o.carried.position c) heard part object
 simulate-step W Z S s heard part object o c a valid sound is hands operation goes answers =
     let u : ℕ = o.number in

@@ -20,9 +20,9 @@ site_heard None = None
 site_heard (Some h) = Some h.0
 
 -- the object of state S that was called, if one was, answered as its meaning says, and is this afterwards
-abbrev pub Answers : Parts → State → Option Heard → Object → Type 0
-Answers W S None object = Unit {0}
-Answers W S (Some h) object = SiteGives (object_of W S h.0) h.1 h.2 object
+abbrev pub CalledAnswers : Parts → State → Option Heard → Object → Type 0
+CalledAnswers W S None object = Unit {0}
+CalledAnswers W S (Some h) object = SiteGives (object_of W S h.0) h.1 h.2 object
 
 -- the object of state T that was called, if one was, is this
 abbrev pub Leaves : Parts → State → Option Heard → Object → Type 0
@@ -30,7 +30,7 @@ Leaves W T None object = Unit {0}
 Leaves W T (Some h) object = object_of W T h.0 ≡ object
 
 -- e is an event that leads from S to T: there its stream's part and the object that was called are these, and all other parts and objects are those of S
-pub record IsEvent (W : Parts) (Z : List OrderShape) (S : State) (e : Event) (heard : Option Heard) (part : Held) (object : Object) (T : State) : Type 0 where
+pub record IsEventFrom (W : Parts) (Z : List OrderShape) (S : State) (e : Event) (heard : Option Heard) (part : Held) (object : Object) (T : State) : Type 0 where
   pub comes : After W Z S e T
   pub site : site_heard heard ≡ event_site W e
   pub own : part_of W T e.stream.0 ≡ part
@@ -41,4 +41,4 @@ pub record IsEvent (W : Parts) (Z : List OrderShape) (S : State) (e : Event) (he
 -- from a sound state a step of a stream's part, with the answer of the object that it called, is an event
 abbrev pub Simulation : Parts → List OrderShape → Type 0
 Simulation W Z = IsValid W → OrdersStored W Z → (S : State) (e : Event) (heard : Option Heard) (part : Held) (object : Object) → Sound W Z S → e.stream.0 < W.streams →
-    Steps W Z e.stream.0 (part_of W S e.stream.0) e.what heard part → Answers W S heard object → IsEvent W Z S e heard part object (after W S e.stream.0 e.what)
+    Steps W Z e.stream.0 (part_of W S e.stream.0) e.what heard part → CalledAnswers W S heard object → IsEventFrom W Z S e heard part object (after W S e.stream.0 e.what)

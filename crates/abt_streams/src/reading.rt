@@ -3,7 +3,7 @@
 ghost use Rattle.std.specs.Prelude.{ℕ, ◌≡◌, ◌≢◌, ◌<◌, ◌++◌, ◌↔◌, All, IfErr, IfOk, IsTrue, MatchBool, MatchOption, OnOk, Some, decimal, length, slice_index, take};
 ghost use Rattle.abt_machine.specs.Operations.{IsEventual};
 ghost use Rattle.abt_machine.specs.Words.{Text, ended};
-ghost use Rattle.abt_report.specs.Journals.{IsShort, Reads};
+ghost use Rattle.abt_report.specs.Journals.{IsShort, ReadsAs};
 ghost use Rattle.abt_streams.specs.declared.life.Life.{Life};
 ghost use Rattle.abt_streams.specs.Lives.{AreLives, MayFollow};
 ghost use Rattle.abt_streams.specs.Texts.{HasShortNumbers, IsCause, IsNoFeed, SpellNumbers, life_line, lives_text};
@@ -118,7 +118,7 @@ fn read_life(
     line: &[u8],
     text: &mut Vec<u8>,
 ) -> Result<Option<Life>, Want>
-    ensures { IfOk result (Reads (MayFollow w.now before.now) life_line line.now) }
+    ensures { IfOk result (ReadsAs (MayFollow w.now before.now) life_line line.now) }
 {
     w.known();
     let Some(life) = guess(line) else {

@@ -22,7 +22,7 @@ use Rattle.booth_caller.specs.declared.letters.Ask.{Ask}
 use Rattle.booth_caller.specs.declared.letters.Ask.TheVariants as ask
 use Rattle.booth_caller.specs.declared.letters.Reply.{Reply}
 use Rattle.booth_caller.specs.declared.letters.Reply.TheVariants as reply
-use Rattle.booth_caller.specs.Trays.{Answers, Does}
+use Rattle.booth_caller.specs.Trays.{TrayAnswers, Does}
 use Rattle.booth_caller.specs.Letters.{ArePassed}
 use Rattle.booth_caller.proofs.Calling.{class_mine, class_other, last_seen}
 
@@ -192,8 +192,8 @@ module _ {g : Ghosts Tray Ask Reply} (booth : Booth Tray Ask Reply) (p p' t t' :
       let later : stamp < stamp' = omega (arith, le-max_left stamp (last_stamp (entry_stamps take.met)), take.stamped) in
       let pair : h ≡ a ∷ b ∷ [] = two_calls 0 h a b closed.of_seats (added_first (called.Done stamp stored) pass.put_grows) (added_second (called.Done stamp' given) pass.taken_grows) later closed.legal.0 in
       let leads = subst (λ (l : List E). Leads Does (opening_of booth) l object) pair closed.legal.1 in
-      let held = subst (λ (l : Option (Box Letter Global)). Answers l (ask.Put letter) stored leads.0.letter) empty leads.1 in
-      (subst (λ (l : Option (Box Letter Global)). Answers l ask.Take given leads.2.0.letter) held.1 leads.2.1).0
+      let held = subst (λ (l : Option (Box Letter Global)). TrayAnswers l (ask.Put letter) stored leads.0.letter) empty leads.1 in
+      (subst (λ (l : Option (Box Letter Global)). TrayAnswers l ask.Take given leads.2.0.letter) held.1 leads.2.1).0
 
 -- so with the two new seats of a booth, which were taken off the end of a list and are gathered when their calls are made
 pub sent : {g : Ghosts Tray Ask Reply} (booth : Booth Tray Ask Reply) (items rest rest' : List (Seat Tray Ask Reply g)) (p p' t t' : Seat Tray Ask Reply g) (letter : Box Letter Global) (put taken : Called Tray Ask Reply)

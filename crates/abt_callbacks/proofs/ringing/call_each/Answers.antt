@@ -1,6 +1,6 @@
 use Rattle.std.proofs.Common.{◌≡◌, ◌<◌, ◌+◌, List, [], ◌∷◌, ◌++◌, ℕ, get_or, length, length-append, take, false, arith, rules, subst, sym, ◌∙◌, ap}
 use Rattle.std.proofs.lemmas.List.{get_or-map, length-map}
-use Rattle.abt_callbacks.specs.Ending.{Answers}
+use Rattle.abt_callbacks.specs.Ending.{AnswersAgree}
 use Rattle.abt_callbacks.specs.Rings.{same_of}
 use Rattle.abt_callbacks.proofs.Rounds.{next_none, next_some}
 use Rattle.abt_callbacks.proofs.ringing.call_each.Goals as goal
@@ -17,7 +17,7 @@ loop-key-preserved g c =
     let in_range : k < length (same_of ends) = omega (arith, length-map ends (λ e. e.same)) in
     let end = c.index-ends-key.result in
     let same : get_or (same_of ends) k false ≡ end.same = get_or-map (λ e. e.same) ends k end false lt ∙ ap (λ e. e.same) (sym c.index-ends-key.is) in
-    let R : List ℕ → Type 0 = λ l. Answers (take (k + 1) (same_of ends)) (take (k + 1) values) l in
+    let R : List ℕ → Type 0 = λ l. AnswersAgree (take (k + 1) (same_of ends)) (take (k + 1) values) l in
     elim c.match-values-key.branch [
       | in-Some w ↦
           let pushed : c.match-values-key.answers.items ≡ c.loop-key.answers.items ++ w.answer.result ∷ [] = ap (λ v. v.items) w.answers-is ∙ w.push_reserved.ensures.items in record {

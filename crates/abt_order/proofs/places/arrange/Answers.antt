@@ -3,7 +3,7 @@ use Rattle.std.specs.Prelude.{IsPermutation}
 use Rattle.std.specs.List.{range_with_len}
 use Rattle.std.proofs.lemmas.List.Elements.{All-take, All-drop}
 use Rattle.std.proofs.lemmas.List.Sorted.{IsPermutation-refl, IsPermutation-trans}
-use Rattle.abt_order.specs.Places.{IsAnswered}
+use Rattle.abt_order.specs.Places.{HasNearestAnswer}
 use Rattle.abt_order.specs.Stored.{answers_of}
 use Rattle.abt_order.proofs.places.arrange.Goals as goal
 use Rattle.abt_order.proofs.ChosenPlaces.{exchanged-answered, exchanged-fits, fits-below, nearest-left, places-below}
@@ -41,4 +41,4 @@ returns-clause-permutes g c = subst (λ (ps : List ℕ). IsPermutation ps c.loop
 
 pub returns-clause-asked : goal.returns-clause-asked
 returns-clause-asked g c i l =
-    subst (λ (n : ℕ). IsAnswered (answers_of c.args.order.now c.args.round) n c.loop-i.places i) (sym c.loop-i.invariant.count) (c.loop-i.invariant.asked i (omega arith))
+    subst (λ (n : ℕ). HasNearestAnswer (answers_of c.args.order.now c.args.round) n c.loop-i.places i) (sym c.loop-i.invariant.count) (c.loop-i.invariant.asked i (omega arith))

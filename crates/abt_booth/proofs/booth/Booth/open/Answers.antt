@@ -1,7 +1,7 @@
 use Rattle.std.proofs.Common.{rules, refl, replicate, sym, ap, subst, ◌∙◌, List, [], ◌∷◌, ◌++◌, Some}
 use Rattle.atomic_table.specs.Table.{opening}
 use Rattle.abt_booth.specs.declared.rule.Lot.{Lot}
-use Rattle.abt_booth.specs.Rule.{Slot, Kept, keeper}
+use Rattle.abt_booth.specs.Rule.{KeptLot, Kept, keeper}
 use Rattle.abt_booth.specs.Seats.{opening_of, seats_of}
 use Rattle.abt_booth.proofs.Dealing.{opens}
 use Rattle.abt_booth.proofs.booth.Booth.open.Goals as goal
@@ -10,7 +10,7 @@ pub new-requires : goal.new-requires
 new-requires g c =
     let o = c.of.result.value in
     let lot : Lot g.row.O.Denot g.row.O-Act.Denot g.row.O-Answer.Denot = record { object = c.args.object; clock = 0; last = c.of-last.result } in
-    subst (λ (xs : List (Slot g.row.O.Denot g.row.O-Act.Denot g.row.O-Answer.Denot)). Kept g.O.Object.does o c.args.seats (opening (replicate 31 0) xs (keeper o c.args.seats)))
+    subst (λ (xs : List (KeptLot g.row.O.Denot g.row.O-Act.Denot g.row.O-Answer.Denot)). Kept g.O.Object.does o c.args.seats (opening (replicate 31 0) xs (keeper o c.args.seats)))
     (sym (c.push_reserved.ensures.items ∙ ap (λ l. l ++ Some lot ∷ []) c.in-Ok.ensures.items)) (opens g.O.Object.does o c.args.seats lot (sym c.of.ensures) refl)
 
 pub object_in-requires : goal.object_in-requires
