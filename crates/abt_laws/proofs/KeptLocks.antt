@@ -209,7 +209,7 @@ reader_is_first-waiting : (ws : List Wish) (us : List ℕ) (u : ℕ) (w : Wish) 
 reader_is_first-waiting ws [] u w apart alone first = let P : Wish → Type 0 = λ x. is_read (slice_get (slice_set ws u x) u) ≡ false in subst P (sym (alone refl)) (noted-write ws u)
 reader_is_first-waiting ws (v ∷ us) u w apart alone first = ap is_read (noted-other ws u v w apart.0) ∙ first
 
--- a lock that a unit may not read is not free
+-- a lock that a unit must not read is not free
 not-free : (u : ℕ) (old : RwLockValue) → IsKeptValue old → IsFalse (may_read u old) → is_free old.lock ≡ false
 not-free u old kept may = elim (cases_Bool (is_free old.lock)) [
   | inl free ↦ absurd (both-tests (is_none old.lock.writer && is_empty old.waiters) (no-test-of-none old.lock.writer old.waiters (free-true old.lock.writer old.lock.counts free).0 (kept.served free)) (or-false (nat_lt 0 (count_of u old.lock)) (is_none old.lock.writer && is_empty old.waiters) may))

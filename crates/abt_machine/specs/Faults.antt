@@ -181,7 +181,7 @@ is_long (Some part) n = nat_lt unit_operation_limit (length (ops_of part.body) +
 abbrev pub is_crowded : Above → ℕ → Bool
 is_crowded a n = nat_lt operation_limit (length (all_ops (units_of a)) + a.copies * n)
 
--- the last unit may not have n operations more
+-- the last unit must not have n operations more
 abbrev pub has_no_room : Above → ℕ → Bool
 has_no_room a n = is_long a.last n || is_crowded a n
 
@@ -217,7 +217,7 @@ blocks_task a (form.Operation o) = is_task a.last && may_block o
 blocks_task a (form.Repeat o) = is_task a.last && may_block o
 blocks_task a f = false
 
--- it is a `stream` line whose scheduler lists a pool from which that stream may not take
+-- it is a `stream` line whose scheduler lists a pool from which that stream must not take
 abbrev pub is_barred : Above → Form → List ℕ → Bool
 is_barred a form.Stream numbers = not (may_take_all (parts_of a) (at numbers 0) (at numbers 1))
 is_barred a f numbers = false

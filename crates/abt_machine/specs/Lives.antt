@@ -112,7 +112,7 @@ EndsSteps ops es cause.Asked = (length (positions_in es) ≤ length ops) × NoEx
 EndsSteps ops es cause.Access = ⊥
 EndsSteps ops es cause.Own = last (done_in ops es) ≡ Some op.Exit
 
--- how a life of a scheduler unit may end: done after one entry and one leave, or asked or for want of access without an entry
+-- how a life of a scheduler unit may end: done after one entry and one leave, or asked, or without an entry for lack of access
 abbrev pub EndsSched : List What → Cause → Type 0
 EndsSched es cause.Done = (enters_in es ≡ 1) × (leaves_in es ≡ 1)
 EndsSched es cause.Asked = enters_in es ≡ 0

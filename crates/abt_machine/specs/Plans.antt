@@ -51,7 +51,7 @@ pub data Plan : Type 0 where
   Calls : Site → Act → Plan
   Exits : Owned → Plan
 
--- an operation that names a pool which the stream may not reach is refused without a call
+-- an operation that names a pool which the stream must not reach is refused without a call
 abbrev pub denied : Owned → Plan
 denied o = Does (refusal o code.PoolAccess)
 

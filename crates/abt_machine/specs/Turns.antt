@@ -1,5 +1,6 @@
 -- An event of a stream as a change of what the stream holds, with the call that it made.
 use Rattle.std.specs.Prelude.{ℕ, ◌≡◌, Bool, true, false, List, [], ◌∷◌, ◌++◌, Option, Some, None, option_map}
+use Rattle.abt_interleave.specs.Deeds as of
 use Rattle.abt_machine.specs.declared.events.Code.{Code}
 use Rattle.abt_machine.specs.declared.events.Code.TheVariants as code
 use Rattle.abt_machine.specs.declared.events.Site.{Site}
@@ -60,7 +61,7 @@ exited held o = record held { own = marked Exited held.own; hand = Some o; next 
 
 -- a call on an object and its answer, in this order: site, act, answer
 abbrev pub Heard : Type 0
-Heard = Site × Act × Answer
+Heard = of.Heard Site Act Answer
 
 -- operation a of unit o by its plan: what was heard, its code, and what the stream holds afterwards
 abbrev pub Performs : Held → Op → Owned → Plan → Option Heard → Code → Held → Type 0

@@ -22,7 +22,7 @@ pub enum Code {
 }
 
 /// Why a unit ended: by its steps (or a scheduler unit by leaving), by a cancel request, as a
-/// scheduler unit that was taken by a stream that may not take from all of its pools, or as a
+/// scheduler unit that was taken by a stream that must not take from all of its pools, or as a
 /// thread by its own `exit`.
 #[derive(Clone, Copy, Debug, PartialEq, Eq)]
 pub enum Cause {

@@ -159,7 +159,7 @@ impl Draft {
         }
     }
 
-    /// Whether the last unit may not have n operations more.
+    /// Whether the last unit must not have n operations more.
     pub(crate) fn has_no_room(&self, n: u64) -> bool
         ensures { result ≡ has_no_room self.now n }
     {

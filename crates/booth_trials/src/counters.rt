@@ -11,7 +11,7 @@ use std::sync::Wait;
 // The last stamp.
 const LAST: u64 = 1 << 62;
 
-// The least stamp that a call may not have, what it adds, and its stamp and answer, if the clock is not worn.
+// The least stamp that a call must not have, what it adds, and its stamp and answer, if the clock is not worn.
 static CALLS: [(u64, u64, Option<(u64, u64)>); 5] = [
     (0, 5, Some((1, 5))),
     (5, 1, Some((6, 6))),

@@ -104,7 +104,7 @@ static CASES: [Case; 11] = [
         next: "",
         later: &[],
     },
-    // A cancelled scheduler unit is taken by a stream that may not take from its pools.
+    // A cancelled scheduler unit is taken by a stream that must not take from its pools.
     Case {
         workload: "abt 1\nstreams 2\npool 0 fifo mpmc\npool 1 fifo priv of 1\nsched 0 prio 0\nsched 1 prio 1\nsched 2 prio 0 1\nstream 0 main 0\nstream 1 main 1\nunits 2\nunit 0 ult at 0\ncancel 1\nunit 1 sched 2 at 0\nend\n",
         lines: "1 0 take 0 0, 1 1 miss 1, 2 0 look 0, 3 0 step 0 0 ok, 4 0 end 0 done, 5 0 take 0 1, 6 0 look 1, 7 0 end 1 asked, 8 0 miss 0",

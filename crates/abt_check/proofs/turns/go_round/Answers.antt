@@ -20,7 +20,7 @@ visit-requires-clause-allowed c =
     let next : IsNextPool c.args.w.now c.args.z.now c.args.lane.now.own.top c.in-Some.p.0 = subst (λ (f : Frame). IsNextPool c.args.w.now c.args.z.now f c.in-Some.p.0) c.top.ensures (c.may_visit.ensures.0 c.if-not-may_visit.false) in
     take_allowed c.args.w.now c.args.objects.now c.args.s.0 c.in-Some.p c.requires.objects (next-declared c.args.w.now c.args.z.now c.args.lane.now.own.top c.in-Some.p.0 c.requires.valid next)
 
--- a pool that `named` visits is that pool, which may not be next
+-- a pool that `named` visits is that pool, which need not be next
 pub returns-then-not-may_visit : goal.returns-then-not-may_visit
 returns-then-not-may_visit c = (
   c.requires.due,
