@@ -1,7 +1,8 @@
 -- How a run ended, computed with the proof.
 use Rattle.std.proofs.Common.{ℕ, zero, suc, ◌≡◌, ◌<◌, ◌≤◌, List, [], ◌∷◌, length, Option, Some, None, refl, sym, subst, ◌∙◌, arith, inl, inr}
-use Rattle.std.specs.Prelude.{All, Contains, false, ◌==◌}
+use Rattle.std.specs.Prelude.{All, false, ◌==◌}
 use Rattle.std.proofs.lemmas.Bool.{cases_lt, ne_eqb}
+use Rattle.std.proofs.lemmas.List.Elements.{All-contains}
 use Rattle.std.proofs.lemmas.Option.{slice_get_past}
 use Rattle.abt_machine.specs.declared.events.Event.{Event}
 use Rattle.abt_machine.specs.declared.events.Outcome.{Outcome}
@@ -26,10 +27,6 @@ abbrev nothing_in : {A : Type 0} (xs : List A) → Option (xs ≡ [])
 nothing_in [] = Some refl
 nothing_in (x ∷ xs) = None
 
--- what holds of all elements, holds of each
-each : (P : ℕ → Type 0) (xs : List ℕ) (x : ℕ) → All P xs → Contains xs x → P x
-each P xs x every at = subst P at.2 (every at.0 x at.1)
-
 -- nothing stands in the lines of stream s, nor in its main scheduler's pools
 pub record IsQuiet (W : Parts) (S : State) (s : ℕ) : Type 0 where
   pub tray : standing W S (InTray s) ≡ []
@@ -53,7 +50,7 @@ quiet_together W S still = record {
   nexts = λ s lt. (still s lt).next;
   hands = λ s lt. (still s lt).hand;
   frames = λ s lt. (still s lt).frames;
-  pools = λ s p lt at. each (λ q. standing W S (InPool q) ≡ []) (pools_of W (main_of W s)) p (still s lt).pools at;
+  pools = λ s p lt at. All-contains (λ q. standing W S (InPool q) ≡ []) (pools_of W (main_of W s)) p (still s lt).pools at;
 }
 
 -- whether each stream is quiet
