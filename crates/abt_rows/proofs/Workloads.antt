@@ -15,7 +15,7 @@ use Rattle.abt_machine.specs.declared.workload.Parts.{Parts}
 use Rattle.abt_machine.specs.declared.workload.PoolPart.{PoolPart}
 use Rattle.abt_machine.specs.declared.workload.SchedPart.{SchedPart}
 use Rattle.abt_machine.specs.declared.workload.UnitPart.{UnitPart}
-use Rattle.abt_machine.specs.Numbers.{pool_no, sched_no}
+use Rattle.abt_machine.specs.Numbers.{pool_no, sched_no, stream_no}
 use Rattle.abt_machine.specs.Words.{Text}
 
 abbrev pub pool : Kind → Access → PoolPart
@@ -72,3 +72,9 @@ based_on_two = declared 0 (fifos 2) (sched rule.Prio (0 ∷ 1 ∷ []) ∷ []) []
 -- one stream, two such pools, the main scheduler of the first, and a scheduler of the second
 abbrev pub stacked_on_two : List UnitPart → List Text → Parts
 stacked_on_two = declared 0 (fifos 2) (sched rule.Prio (0 ∷ []) ∷ sched rule.Prio (1 ∷ []) ∷ []) []
+
+-- two streams, each with a pool of its own, and a pool into which the first alone puts and from which the second alone takes
+abbrev pub fenced : List UnitPart → List Text → Parts
+fenced = declared_for 2 0
+    (pool kind.Fifo (access.Priv (stream_no 0)) ∷ pool kind.Fifo (access.Priv (stream_no 1)) ∷ pool kind.Fifo (access.Spsc (stream_no 0) (stream_no 1)) ∷ [])
+    (sched rule.Prio (0 ∷ []) ∷ sched rule.Prio (1 ∷ 2 ∷ []) ∷ []) []
