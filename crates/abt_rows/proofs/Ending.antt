@@ -19,7 +19,7 @@ use Rattle.abt_machine.specs.Runs.{state_after, last_state}
 use Rattle.abt_machine.specs.Start.{start}
 use Rattle.abt_machine.specs.State.{State}
 use Rattle.abt_machine.specs.Workloads.{main_of, pools_of}
-use Rattle.abt_rows.proofs.Deciding.{all, each_below, given, is_less, same}
+use Rattle.abt_rows.proofs.Deciding.{all, each_below, either, given, is_less, same}
 
 -- Quiet.
 
@@ -106,14 +106,10 @@ all_ended W J =
     given (each_below (λ u. IsOver ((last_state W J).place u)) (λ u. over ((last_state W J).place u)) (length W.units)) (λ declared.
     given (undeclared_stay W (start W) J) (λ stay. Some (ended W J declared stay)))
 
-abbrev waits_or : (S : State) (u : ℕ) → Option (IsOver (S.place u) → ⊥) → Option (AllEnded S → ⊥) → Option (AllEnded S → ⊥)
-waits_or S u (Some waits) rest = Some (λ every. waits (every u))
-waits_or S u None rest = rest
-
 -- whether one of the units below n isn't over
 abbrev one_waits : (S : State) (n : ℕ) → Option (AllEnded S → ⊥)
 one_waits S zero = None
-one_waits S (suc n) = waits_or S n (not_over (S.place n)) (one_waits S n)
+one_waits S (suc n) = either (given (not_over (S.place n)) (λ waits. Some (λ every. waits (every n)))) (one_waits S n)
 
 -- Spent.
 

@@ -13,7 +13,7 @@ use Rattle.abt_machine.specs.Sites.{event_site}
 use Rattle.abt_machine.specs.Stamps.{AllAfter, Follows, IsLeast, Lamport, LamportFrom, SameSite, Shares, Stamped, StampedFrom}
 use Rattle.abt_machine.specs.Start.{start}
 use Rattle.abt_machine.specs.State.{State}
-use Rattle.abt_rows.proofs.Deciding.{all, apart, given, is_at_most, is_less, same}
+use Rattle.abt_rows.proofs.Deciding.{all, apart, either, given, is_at_most, is_less, same}
 use Rattle.abt_rows.proofs.Running.{Coming, Ran, coming, ran_by, ran_from}
 
 -- Of one stream.
@@ -79,10 +79,6 @@ lone W Z n =
     (stamped_by_count W _ c, counting W [] _ 1 (λ f at. (let lt : at.0 < 0 = at.1 in absurd (omega arith))) (inl refl) c)
 
 -- Of more streams.
-
-abbrev either : {A : Type 0} → Option A → Option A → Option A
-either (Some a) o = Some a
-either None o = o
 
 abbrev kind_number : Site → ℕ
 kind_number (site.Pool p) = 0
