@@ -14,6 +14,19 @@ abbrev pub given : {A B : Type 0} → Option A → (A → Option B) → Option B
 given None f = None
 given (Some a) f = f a
 
+-- the first decision, or else the second
+abbrev pub either : {A : Type 0} → Option A → Option A → Option A
+either (Some a) o = Some a
+either None o = o
+
+-- what follows from the element, if there is one
+abbrev found_by : {A B : Type 0} (o p : Option A) → o ≡ p → ((x : A) → o ≡ Some x → B) → Option B
+found_by o None e f = None
+found_by o (Some x) e f = Some (f x e)
+
+abbrev pub found : {A B : Type 0} (o : Option A) → ((x : A) → o ≡ Some x → B) → Option B
+found o f = found_by o o refl f
+
 -- Tests.
 
 abbrev true_by : (b : Bool) (t : Bool) → b ≡ t → Option (b ≡ true)

@@ -1,7 +1,8 @@
 -- How a run ended, computed with the proof.
 use Rattle.std.proofs.Common.{ℕ, zero, suc, ◌≡◌, ◌<◌, ◌≤◌, List, [], ◌∷◌, length, Option, Some, None, refl, sym, subst, ◌∙◌, arith, inl, inr}
-use Rattle.std.specs.Prelude.{All, Contains, false, ◌==◌}
+use Rattle.std.specs.Prelude.{All, false, ◌==◌}
 use Rattle.std.proofs.lemmas.Bool.{cases_lt, ne_eqb}
+use Rattle.std.proofs.lemmas.List.Elements.{All-contains}
 use Rattle.std.proofs.lemmas.Option.{slice_get_past}
 use Rattle.abt_machine.specs.declared.events.Event.{Event}
 use Rattle.abt_machine.specs.declared.events.Outcome.{Outcome}
@@ -18,17 +19,13 @@ use Rattle.abt_machine.specs.Runs.{state_after, last_state}
 use Rattle.abt_machine.specs.Start.{start}
 use Rattle.abt_machine.specs.State.{State}
 use Rattle.abt_machine.specs.Workloads.{main_of, pools_of}
-use Rattle.abt_rows.proofs.Deciding.{all, each_below, given, is_less, same}
+use Rattle.abt_rows.proofs.Deciding.{all, each_below, either, given, is_less, same}
 
 -- Quiet.
 
 abbrev nothing_in : {A : Type 0} (xs : List A) → Option (xs ≡ [])
 nothing_in [] = Some refl
 nothing_in (x ∷ xs) = None
-
--- what holds of all elements, holds of each
-each : (P : ℕ → Type 0) (xs : List ℕ) (x : ℕ) → All P xs → Contains xs x → P x
-each P xs x every at = subst P at.2 (every at.0 x at.1)
 
 -- nothing stands in the lines of stream s, nor in its main scheduler's pools
 pub record IsQuiet (W : Parts) (S : State) (s : ℕ) : Type 0 where
@@ -53,7 +50,7 @@ quiet_together W S still = record {
   nexts = λ s lt. (still s lt).next;
   hands = λ s lt. (still s lt).hand;
   frames = λ s lt. (still s lt).frames;
-  pools = λ s p lt at. each (λ q. standing W S (InPool q) ≡ []) (pools_of W (main_of W s)) p (still s lt).pools at;
+  pools = λ s p lt at. All-contains (λ q. standing W S (InPool q) ≡ []) (pools_of W (main_of W s)) p (still s lt).pools at;
 }
 
 -- whether each stream is quiet
@@ -109,14 +106,10 @@ all_ended W J =
     given (each_below (λ u. IsOver ((last_state W J).place u)) (λ u. over ((last_state W J).place u)) (length W.units)) (λ declared.
     given (undeclared_stay W (start W) J) (λ stay. Some (ended W J declared stay)))
 
-abbrev waits_or : (S : State) (u : ℕ) → Option (IsOver (S.place u) → ⊥) → Option (AllEnded S → ⊥) → Option (AllEnded S → ⊥)
-waits_or S u (Some waits) rest = Some (λ every. waits (every u))
-waits_or S u None rest = rest
-
 -- whether one of the units below n isn't over
 abbrev one_waits : (S : State) (n : ℕ) → Option (AllEnded S → ⊥)
 one_waits S zero = None
-one_waits S (suc n) = waits_or S n (not_over (S.place n)) (one_waits S n)
+one_waits S (suc n) = either (given (not_over (S.place n)) (λ waits. Some (λ every. waits (every n)))) (one_waits S n)
 
 -- Spent.
 

@@ -1,7 +1,5 @@
 -- A run, computed event by event, each with why it may come.
 use Rattle.std.proofs.Common.{ℕ, suc, ◌≡◌, ◌<◌, ◌-◌, ◌++◌, List, [], ◌∷◌, length, Option, Some, None, refl, ap, sym, subst, ◌∙◌}
-use Rattle.abt_machine.specs.declared.numbers.StreamNo.{StreamNo}
-use Rattle.abt_machine.specs.declared.events.Cause.{Cause}
 use Rattle.abt_machine.specs.declared.events.Event.{Event}
 use Rattle.abt_machine.specs.declared.events.Place.{Place}
 use Rattle.abt_machine.specs.declared.events.Place.TheVariants as place
@@ -20,7 +18,7 @@ use Rattle.abt_machine.specs.Rounds.{Choice, Only, AnyOrder, NoOrder, choice_of,
 use Rattle.abt_machine.specs.Codes.{code_at}
 use Rattle.abt_machine.specs.Events.{May, after}
 use Rattle.abt_machine.specs.Runs.{RunFrom}
-use Rattle.abt_rows.proofs.Deciding.{is_less, same}
+use Rattle.abt_rows.proofs.Deciding.{found, given, is_less, same}
 
 -- an event that may come
 abbrev pub Coming : Parts → List OrderShape → State → ℕ → Type 0
@@ -31,26 +29,19 @@ Coming W Z S s = (w : What) × May W Z S s w
 abbrev Following : List ℕ → List ℕ → Type 0
 Following seen order = (p : ℕ) × IsPrefixOf (seen ++ p ∷ []) order
 
-abbrev behind : (x y : ℕ) (xs ys : List ℕ) → Option (x ≡ y) → Option (Following xs ys) → Option (Following (x ∷ xs) (y ∷ ys))
-behind x y xs ys (Some e) (Some f) = Some (f.0, (f.1.0, ap (λ zs. x ∷ zs) f.1.1 ∙ ap (λ z. z ∷ ys) e))
-behind x y xs ys None f = None
-behind x y xs ys (Some e) None = None
-
 abbrev following : (seen order : List ℕ) → Option (Following seen order)
 following [] [] = None
 following [] (p ∷ ps) = Some (p, (ps, refl))
 following (x ∷ xs) [] = None
-following (x ∷ xs) (y ∷ ys) = behind x y xs ys (same x y) (following xs ys)
+following (x ∷ xs) (y ∷ ys) =
+    given (same x y) (λ e. given (following xs ys) (λ f. Some (f.0, (f.1.0, ap (λ zs. x ∷ zs) f.1.1 ∙ ap (λ z. z ∷ ys) e))))
 
 abbrev NextPool : Parts → List OrderShape → Frame → Type 0
 NextPool W Z f = (p : ℕ) × IsNextPool W Z f p
 
-abbrev by_following : (W : Parts) (Z : List OrderShape) (f : Frame) (one : List ℕ) → choice_of W Z f.sched f.round ≡ Only one → Option (Following f.seen one) → Option (NextPool W Z f)
-by_following W Z f one e None = None
-by_following W Z f one e (Some found) = Some (found.0, (one, subst (λ (c : Choice). IsChosen c (pools_of W f.sched) one) (sym e) refl, found.1))
-
 abbrev by_choice : (W : Parts) (Z : List OrderShape) (f : Frame) (c : Choice) → choice_of W Z f.sched f.round ≡ c → Option (NextPool W Z f)
-by_choice W Z f (Only one) e = by_following W Z f one e (following f.seen one)
+by_choice W Z f (Only one) e =
+    given (following f.seen one) (λ p. Some (p.0, (one, subst (λ (c : Choice). IsChosen c (pools_of W f.sched) one) (sym e) refl, p.1)))
 by_choice W Z f AnyOrder e = None
 by_choice W Z f NoOrder e = None
 
@@ -63,56 +54,21 @@ abbrev by_front : (W : Parts) (Z : List OrderShape) (S : State) (s : ℕ) → du
 by_front W Z S s d p n None e = (what.Miss (pool_no p), (d, e, n))
 by_front W Z S s d p n (Some u) e = (what.Take (pool_no p) (unit_no u), (d, e, n))
 
-abbrev by_pool : (W : Parts) (Z : List OrderShape) (S : State) (s : ℕ) → due W S s ≡ RoundDue → Option (NextPool W Z (S.stream s).top) → Option (Coming W Z S s)
-by_pool W Z S s d None = None
-by_pool W Z S s d (Some n) = Some (by_front W Z S s d n.0 n.1 (front W S s n.0) refl)
-
-abbrev by_tray : (W : Parts) (Z : List OrderShape) (S : State) (s : ℕ) → due W S s ≡ PutDue → (o : Option ℕ) → first (standing W S (InTray s)) ≡ o → Option (Coming W Z S s)
-by_tray W Z S s d None e = None
-by_tray W Z S s d (Some u) e = Some (what.Put (unit_no u) (pool_no (S.carried u).home), (d, e, refl))
-
-abbrev by_taken : (W : Parts) (Z : List OrderShape) (S : State) (s : ℕ) → due W S s ≡ LookDue → (o : Option ℕ) → next W S s ≡ o → Option (Coming W Z S s)
-by_taken W Z S s d None e = None
-by_taken W Z S s d (Some u) e = Some (what.Look (unit_no u), (d, e))
-
-abbrev by_step : (W : Parts) (Z : List OrderShape) (S : State) (s : ℕ) → due W S s ≡ StepDue → (o : Option ℕ) → hand W S s ≡ o → Option (Coming W Z S s)
-by_step W Z S s d None e = None
-by_step W Z S s d (Some u) e =
-    Some (what.Step (unit_no u) (S.carried u).position (code_at W S s u (op_at W u (S.carried u).position)), (d, e, refl, refl))
-
-abbrev by_end : (W : Parts) (Z : List OrderShape) (S : State) (s : ℕ) (c : Cause) → due W S s ≡ EndDue c → (o : Option ℕ) → hand W S s ≡ o → Option (Coming W Z S s)
-by_end W Z S s c d None e = None
-by_end W Z S s c d (Some u) e = Some (what.End (unit_no u) c, (d, e))
-
-abbrev by_enter : (W : Parts) (Z : List OrderShape) (S : State) (s : ℕ) → due W S s ≡ EnterDue → (o : Option ℕ) → hand W S s ≡ o → Option (Coming W Z S s)
-by_enter W Z S s d None e = None
-by_enter W Z S s d (Some u) e = Some (what.Enter (unit_no u), (d, e))
-
-abbrev framed_by : (s d : ℕ) (r : StreamNo) (e : ℕ) → Option (r.0 ≡ s) → Option (e ≡ d) → Option (place.Frame r e ≡ place.Frame (stream_no s) d)
-framed_by s d r e (Some a) (Some b) = Some (ap (λ q. place.Frame q e) (ap stream_no a) ∙ ap (λ t. place.Frame (stream_no s) t) b)
-framed_by s d r e None b = None
-framed_by s d r e (Some a) None = None
-
 abbrev is_framed : (s d : ℕ) (q : Place) → Option (q ≡ place.Frame (stream_no s) d)
-is_framed s d (place.Frame r e) = framed_by s d r e (same r.0 s) (same e d)
+is_framed s d (place.Frame r e) =
+    given (same r.0 s) (λ a. given (same e d) (λ b. Some (ap (λ q. place.Frame q e) (ap stream_no a) ∙ ap (λ t. place.Frame (stream_no s) t) b)))
 is_framed s d _ = None
 
-abbrev by_place : (W : Parts) (Z : List OrderShape) (S : State) (s u : ℕ) → due W S s ≡ LeaveDue → Option (S.place u ≡ place.Frame (stream_no s) (length (S.stream s).below - 1)) → Option (Coming W Z S s)
-by_place W Z S s u d None = None
-by_place W Z S s u d (Some e) = Some (what.Leave (unit_no u), (d, e))
-
-abbrev by_framed : (W : Parts) (Z : List OrderShape) (S : State) (s : ℕ) → due W S s ≡ LeaveDue → Option ℕ → Option (Coming W Z S s)
-by_framed W Z S s d None = None
-by_framed W Z S s d (Some u) = by_place W Z S s u d (is_framed s (length (S.stream s).below - 1) (S.place u))
-
 abbrev by_due : (W : Parts) (Z : List OrderShape) (S : State) (s : ℕ) (k : Due) → due W S s ≡ k → Option (Coming W Z S s)
-by_due W Z S s PutDue d = by_tray W Z S s d (first (standing W S (InTray s))) refl
-by_due W Z S s LookDue d = by_taken W Z S s d (next W S s) refl
-by_due W Z S s (EndDue c) d = by_end W Z S s c d (hand W S s) refl
-by_due W Z S s EnterDue d = by_enter W Z S s d (hand W S s) refl
-by_due W Z S s StepDue d = by_step W Z S s d (hand W S s) refl
-by_due W Z S s LeaveDue d = by_framed W Z S s d (last (standing W S (InFrames s)))
-by_due W Z S s RoundDue d = by_pool W Z S s d (next_pool W Z (S.stream s).top)
+by_due W Z S s PutDue d = found (first (standing W S (InTray s))) (λ u e. (what.Put (unit_no u) (pool_no (S.carried u).home), (d, e, refl)))
+by_due W Z S s LookDue d = found (next W S s) (λ u e. (what.Look (unit_no u), (d, e)))
+by_due W Z S s (EndDue c) d = found (hand W S s) (λ u e. (what.End (unit_no u) c, (d, e)))
+by_due W Z S s EnterDue d = found (hand W S s) (λ u e. (what.Enter (unit_no u), (d, e)))
+by_due W Z S s StepDue d =
+    found (hand W S s) (λ u e. (what.Step (unit_no u) (S.carried u).position (code_at W S s u (op_at W u (S.carried u).position)), (d, e, refl, refl)))
+by_due W Z S s LeaveDue d =
+    given (last (standing W S (InFrames s))) (λ u. given (is_framed s (length (S.stream s).below - 1) (S.place u)) (λ e. Some (what.Leave (unit_no u), (d, e))))
+by_due W Z S s RoundDue d = given (next_pool W Z (S.stream s).top) (λ n. Some (by_front W Z S s d n.0 n.1 (front W S s n.0) refl))
 
 abbrev pub coming : (W : Parts) (Z : List OrderShape) (S : State) (s : ℕ) → Option (Coming W Z S s)
 coming W Z S s = by_due W Z S s (due W S s) refl

@@ -1,7 +1,6 @@
 -- Lamport's stamps of a computed journal: of one stream by the way that it was computed, of more streams decided.
 use Rattle.std.proofs.Common.{ℕ, zero, suc, ◌≡◌, ◌≢◌, ◌<◌, ◌+◌, ◌++◌, List, [], ◌∷◌, length, replicate, Option, Some, None, Contains, refl, ap, sym, subst, ◌∙◌, arith, ◌⊎◌, inl, inr}
-use Rattle.std.specs.Prelude.{All}
-use Rattle.std.proofs.lemmas.List.Elements.{Contains-push, Contains-push_cases}
+use Rattle.std.proofs.lemmas.List.Elements.{All-contains, Contains-push, Contains-push_cases}
 use Rattle.std.proofs.lemmas.Option.{none-some, same_Some}
 use Rattle.abt_machine.specs.declared.events.Event.{Event}
 use Rattle.abt_machine.specs.declared.events.Site.{Site}
@@ -14,7 +13,7 @@ use Rattle.abt_machine.specs.Sites.{event_site}
 use Rattle.abt_machine.specs.Stamps.{AllAfter, Follows, IsLeast, Lamport, LamportFrom, SameSite, Shares, Stamped, StampedFrom}
 use Rattle.abt_machine.specs.Start.{start}
 use Rattle.abt_machine.specs.State.{State}
-use Rattle.abt_rows.proofs.Deciding.{all, apart, given, is_at_most, is_less, same}
+use Rattle.abt_rows.proofs.Deciding.{all, apart, either, given, is_at_most, is_less, same}
 use Rattle.abt_rows.proofs.Running.{Coming, Ran, coming, ran_by, ran_from}
 
 -- Of one stream.
@@ -80,10 +79,6 @@ lone W Z n =
     (stamped_by_count W _ c, counting W [] _ 1 (λ f at. (let lt : at.0 < 0 = at.1 in absurd (omega arith))) (inl refl) c)
 
 -- Of more streams.
-
-abbrev either : {A : Type 0} → Option A → Option A → Option A
-either (Some a) o = Some a
-either None o = o
 
 abbrev kind_number : Site → ℕ
 kind_number (site.Pool p) = 0
@@ -189,16 +184,13 @@ caused W (f ∷ fs) e =
 abbrev is_least : (W : Parts) (earlier : List Event) (e : Event) → Option (IsLeast W earlier e)
 is_least W earlier e = either (given (same e.stamp 1) (λ one. Some (inl one))) (given (caused W earlier e) (λ c. Some (inr c)))
 
-pub each : (P : Event → Type 0) (es : List Event) → All P es → (e : Event) → Contains es e → P e
-each P es every e at = subst P at.2 (every at.0 e at.1)
-
 abbrev lamport_from : (W : Parts) (earlier es : List Event) → Option (LamportFrom W earlier es)
 lamport_from W earlier [] = Some tt
 lamport_from W earlier (e ∷ es) =
     given (all (λ f. Shares W f e → f.stamp < e.stamp) (λ f. rises W f e) earlier) (λ before.
     given (is_least W earlier e) (λ least.
     given (lamport_from W (earlier ++ e ∷ []) es) (λ rest.
-    Some (each (λ f. Shares W f e → f.stamp < e.stamp) earlier before, least, rest))))
+    Some (λ f at. All-contains (λ f. Shares W f e → f.stamp < e.stamp) earlier f before at, least, rest))))
 
 -- whether a journal has Lamport's stamps
 abbrev pub lamport : (W : Parts) (J : List Event) → Option (Lamport W J)

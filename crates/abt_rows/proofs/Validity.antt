@@ -61,54 +61,41 @@ stream W s =
 
 -- Objects.
 
-abbrev mutex_by : (W : Parts) (x : ℕ) (o : Option Thing) → thing_at W x ≡ o → Option (IsMutex W x)
-mutex_by W x (Some thing.Mutex) e = Some e
-mutex_by W x _ e = None
+-- what an operation or a condition needs an object to be
+pub data ObjectKind : Type 0 where
+  Mutex : ObjectKind
+  Condition : ObjectKind
+  Eventual : ObjectKind
+  Future : ObjectKind
+  Barrier : ObjectKind
+  RwLock : ObjectKind
 
-abbrev mutex : (W : Parts) (x : ℕ) → Option (IsMutex W x)
-mutex W x = mutex_by W x (thing_at W x) refl
+abbrev IsOf : ObjectKind → Parts → ℕ → Type 0
+IsOf Mutex = IsMutex
+IsOf Condition = IsCondition
+IsOf Eventual = IsEventual
+IsOf Future = IsFuture
+IsOf Barrier = IsBarrier
+IsOf RwLock = IsRwLock
 
-abbrev condition_by : (W : Parts) (x : ℕ) (o : Option Thing) → thing_at W x ≡ o → Option (IsCondition W x)
-condition_by W x (Some (thing.Cond m)) e = Some (m, e)
-condition_by W x _ e = None
+abbrev of_kind_by : (k : ObjectKind) (W : Parts) (x : ℕ) (o : Option Thing) → thing_at W x ≡ o → Option (IsOf k W x)
+of_kind_by Mutex W x (Some thing.Mutex) e = Some e
+of_kind_by Condition W x (Some (thing.Cond m)) e = Some (m, e)
+of_kind_by Eventual W x (Some thing.Eventual) e = Some e
+of_kind_by Future W x (Some (thing.Future n c)) e = Some (n, c, e)
+of_kind_by Barrier W x (Some (thing.Barrier n)) e = Some (n, e)
+of_kind_by RwLock W x (Some thing.RwLock) e = Some e
+of_kind_by k W x o e = None
 
-abbrev condition : (W : Parts) (x : ℕ) → Option (IsCondition W x)
-condition W x = condition_by W x (thing_at W x) refl
-
-abbrev eventual_by : (W : Parts) (x : ℕ) (o : Option Thing) → thing_at W x ≡ o → Option (IsEventual W x)
-eventual_by W x (Some thing.Eventual) e = Some e
-eventual_by W x _ e = None
-
-abbrev eventual : (W : Parts) (x : ℕ) → Option (IsEventual W x)
-eventual W x = eventual_by W x (thing_at W x) refl
-
-abbrev future_by : (W : Parts) (x : ℕ) (o : Option Thing) → thing_at W x ≡ o → Option (IsFuture W x)
-future_by W x (Some (thing.Future n c)) e = Some (n, c, e)
-future_by W x _ e = None
-
-abbrev future : (W : Parts) (x : ℕ) → Option (IsFuture W x)
-future W x = future_by W x (thing_at W x) refl
-
-abbrev barrier_by : (W : Parts) (x : ℕ) (o : Option Thing) → thing_at W x ≡ o → Option (IsBarrier W x)
-barrier_by W x (Some (thing.Barrier n)) e = Some (n, e)
-barrier_by W x _ e = None
-
-abbrev barrier : (W : Parts) (x : ℕ) → Option (IsBarrier W x)
-barrier W x = barrier_by W x (thing_at W x) refl
-
-abbrev rwlock_by : (W : Parts) (x : ℕ) (o : Option Thing) → thing_at W x ≡ o → Option (IsRwLock W x)
-rwlock_by W x (Some thing.RwLock) e = Some e
-rwlock_by W x _ e = None
-
-abbrev rwlock : (W : Parts) (x : ℕ) → Option (IsRwLock W x)
-rwlock W x = rwlock_by W x (thing_at W x) refl
+abbrev of_kind : (k : ObjectKind) (W : Parts) (x : ℕ) → Option (IsOf k W x)
+of_kind k W x = of_kind_by k W x (thing_at W x) refl
 
 abbrev size : (n : ℕ) → Option ((0 < n) × (n ≤ 4096))
 size n = given (is_less 0 n) (λ some. given (is_at_most n 4096) (λ few. Some (some, few)))
 
 abbrev object : (W : Parts) (x : ℕ) (t : Thing) → Option (IsThing W.objects x t)
 object W x thing.Mutex = Some tt
-object W x (thing.Cond m) = given (is_less m.0 x) (λ above. given (mutex W m.0) (λ is. Some (above, is)))
+object W x (thing.Cond m) = given (is_less m.0 x) (λ above. given (of_kind Mutex W m.0) (λ is. Some (above, is)))
 object W x thing.Eventual = Some tt
 object W x (thing.Future n c) = size n
 object W x (thing.Barrier n) = size n
@@ -138,28 +125,28 @@ operation W (op.Migrate v p) = two_less v.0 (length W.units) p.0 (length W.pools
 operation W (op.MigrateTo v s) = two_less v.0 (length W.units) s.0 W.streams
 operation W (op.Migratable v b) = is_less v.0 (length W.units)
 operation W (op.Revive v p) = two_less v.0 (length W.units) p.0 (length W.pools)
-operation W (op.Lock x) = mutex W x.0
-operation W (op.TryLock x) = mutex W x.0
-operation W (op.Unlock x) = mutex W x.0
-operation W (op.Load x) = mutex W x.0
-operation W (op.Store x) = mutex W x.0
-operation W (op.CondWait x) = condition W x.0
-operation W (op.Signal x) = condition W x.0
-operation W (op.Broadcast x) = condition W x.0
-operation W (op.EvWait x) = eventual W x.0
-operation W (op.EvSet x) = eventual W x.0
-operation W (op.EvReset x) = eventual W x.0
-operation W (op.EvTest x) = eventual W x.0
-operation W (op.FuWait x) = future W x.0
-operation W (op.FuSet x) = future W x.0
-operation W (op.FuReset x) = future W x.0
-operation W (op.FuTest x) = future W x.0
-operation W (op.BarWait x) = barrier W x.0
-operation W (op.ReadLock x) = rwlock W x.0
-operation W (op.WriteLock x) = rwlock W x.0
-operation W (op.RwUnlock x) = rwlock W x.0
-operation W (op.RwLoad x) = rwlock W x.0
-operation W (op.RwStore x) = rwlock W x.0
+operation W (op.Lock x) = of_kind Mutex W x.0
+operation W (op.TryLock x) = of_kind Mutex W x.0
+operation W (op.Unlock x) = of_kind Mutex W x.0
+operation W (op.Load x) = of_kind Mutex W x.0
+operation W (op.Store x) = of_kind Mutex W x.0
+operation W (op.CondWait x) = of_kind Condition W x.0
+operation W (op.Signal x) = of_kind Condition W x.0
+operation W (op.Broadcast x) = of_kind Condition W x.0
+operation W (op.EvWait x) = of_kind Eventual W x.0
+operation W (op.EvSet x) = of_kind Eventual W x.0
+operation W (op.EvReset x) = of_kind Eventual W x.0
+operation W (op.EvTest x) = of_kind Eventual W x.0
+operation W (op.FuWait x) = of_kind Future W x.0
+operation W (op.FuSet x) = of_kind Future W x.0
+operation W (op.FuReset x) = of_kind Future W x.0
+operation W (op.FuTest x) = of_kind Future W x.0
+operation W (op.BarWait x) = of_kind Barrier W x.0
+operation W (op.ReadLock x) = of_kind RwLock W x.0
+operation W (op.WriteLock x) = of_kind RwLock W x.0
+operation W (op.RwUnlock x) = of_kind RwLock W x.0
+operation W (op.RwLoad x) = of_kind RwLock W x.0
+operation W (op.RwStore x) = of_kind RwLock W x.0
 
 abbrev unit_body : (scheds : ℕ) (b : Body) → Option (IsBody scheds b)
 unit_body scheds (body.Ult ops) = Some tt

@@ -1,6 +1,6 @@
 -- The parts of workloads.
 use Rattle.std.proofs.Common.{ℕ, List, [], ◌∷◌, Some, None}
-use Rattle.std.specs.Prelude.{map}
+use Rattle.std.specs.Prelude.{map, replicate}
 use Rattle.std.specs.List.{range_with_len}
 use Rattle.abt_machine.specs.declared.operations.Access.{Access}
 use Rattle.abt_machine.specs.declared.operations.Access.TheVariants as access
@@ -15,11 +15,15 @@ use Rattle.abt_machine.specs.declared.workload.Parts.{Parts}
 use Rattle.abt_machine.specs.declared.workload.PoolPart.{PoolPart}
 use Rattle.abt_machine.specs.declared.workload.SchedPart.{SchedPart}
 use Rattle.abt_machine.specs.declared.workload.UnitPart.{UnitPart}
-use Rattle.abt_machine.specs.Numbers.{pool_no, sched_no}
+use Rattle.abt_machine.specs.Numbers.{pool_no, sched_no, stream_no}
 use Rattle.abt_machine.specs.Words.{Text}
 
 abbrev pub pool : Kind → Access → PoolPart
 pool k a = record { kind = k; access = a }
+
+-- so many FIFO pools that all streams may use
+abbrev pub fifos : ℕ → List PoolPart
+fifos n = replicate n (pool kind.Fifo access.Mpmc)
 
 abbrev pub sched : Rule → List ℕ → SchedPart
 sched r ps = record { rule = r; pools = map pool_no ps }
@@ -59,4 +63,18 @@ declared = declared_for 1
 
 -- one stream, one FIFO pool that all streams may use, and a PRIO scheduler
 abbrev pub based : ℕ → List Thing → List UnitPart → List Text → Parts
-based keys objects units words = declared keys (pool kind.Fifo access.Mpmc ∷ []) (sched rule.Prio (0 ∷ []) ∷ []) objects units words
+based keys objects units words = declared keys (fifos 1) (sched rule.Prio (0 ∷ []) ∷ []) objects units words
+
+-- one stream, two such pools, and a PRIO scheduler of both
+abbrev pub based_on_two : List UnitPart → List Text → Parts
+based_on_two = declared 0 (fifos 2) (sched rule.Prio (0 ∷ 1 ∷ []) ∷ []) []
+
+-- one stream, two such pools, the main scheduler of the first, and a scheduler of the second
+abbrev pub stacked_on_two : List UnitPart → List Text → Parts
+stacked_on_two = declared 0 (fifos 2) (sched rule.Prio (0 ∷ []) ∷ sched rule.Prio (1 ∷ []) ∷ []) []
+
+-- two streams, each with a pool of its own, and a pool into which the first alone puts and from which the second alone takes
+abbrev pub fenced : List UnitPart → List Text → Parts
+fenced = declared_for 2 0
+    (pool kind.Fifo (access.Priv (stream_no 0)) ∷ pool kind.Fifo (access.Priv (stream_no 1)) ∷ pool kind.Fifo (access.Spsc (stream_no 0) (stream_no 1)) ∷ [])
+    (sched rule.Prio (0 ∷ []) ∷ sched rule.Prio (1 ∷ 2 ∷ []) ∷ []) []

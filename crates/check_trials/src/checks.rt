@@ -1,9 +1,9 @@
 //! Journals of worked runs, and journals that differ from them.
 
-ghost use Rattle.std.specs.Prelude.{◌≡◌, ◌<◌, ◌≤◌, length};
+ghost use Rattle.std.specs.Prelude.{◌≤◌, length};
 
 use abt_check::{Verdict, check};
-use abt_machine::{OrderShape, Want, Workload};
+use abt_machine::{Want, Workload};
 use abt_order::StoredOrder;
 use abt_report::read_journal;
 use abt_workload::read;
@@ -16,8 +16,8 @@ const RUN: Verdict = Verdict::Run;
 // How many lines of a run a journal begins with, the lines that follow, and what the journal is judged to be.
 type Other = (usize, &'static str, Verdict);
 
-// A workload, the lines of a run of it, and other journals.
-struct Case {
+/// A workload, the lines of a run of it, and other journals.
+pub(crate) struct Case {
     workload: &'static str,
     run: &'static str,
     others: &'static [Other],
@@ -161,23 +161,15 @@ static CASES: [Case; 11] = [
     },
 ];
 
-// The same if both stored orders are free.
-static FREE_CASES: [Case; 1] = [Case {
+/// The same if both stored orders are free.
+pub(crate) static FREE: Case = Case {
     workload: THREE_POOLS,
     run: "1 0 miss 2, 2 0 miss 0, 3 0 miss 1, 4 0 miss 1",
     others: &[
         (1, "2 0 miss 2", Verdict::Bad { at: 1 }),
         (2, "3 0 miss 3", Verdict::Bad { at: 2 }),
     ],
-}];
-
-// The first place, whatever place is asked for. A value may be made of a function of this crate alone.
-pub(crate) fn first(_round: u64, n: u32, _i: u32) -> u32
-    requires { 0 < n }
-    ensures { result ≡ 0 }
-{
-    0
-}
+};
 
 // The text of the first lines, so many of them, and of those that follow.
 fn text_of(alloc: Global, run: &str, kept: usize, rest: &str) -> Result<String, AllocError> {
@@ -226,8 +218,8 @@ fn is_judged(
     Ok(verdict(rt, alloc, w, orders, &text)? == Some(wanted))
 }
 
-// The run and the other journals of a case are judged as it says.
-fn check_case(
+// The run and the other journals of a case, whose workload has been read, are judged as it says.
+fn check_journals(
     rt: &impl Abort,
     alloc: Global,
     w: &Workload,
@@ -245,34 +237,25 @@ fn check_case(
     Ok(())
 }
 
-// So it is of all cases.
-fn check_cases(
+/// The run and the other journals of a case are judged as it says.
+pub(crate) fn check_case(
     rt: &impl Abort,
     alloc: Global,
     orders: &[StoredOrder],
-    cases: &[Case],
+    case: &Case,
 ) -> Result<(), Fail>
     requires { 2 ≤ length orders.now }
 {
-    for case in cases {
-        let w = read(alloc, case.workload.as_bytes())?;
-        check_case(rt, alloc, &w, orders, case)?;
-    }
+    let w = read(alloc, case.workload.as_bytes())?;
+    check_journals(rt, alloc, &w, orders, case)?;
     Ok(())
 }
 
 #[test]
 fn journals_are_judged(rt: HostRuntime) -> Result<(), Fail> {
     let orders = [StoredOrder::rotating(), StoredOrder::mirroring()];
-    check_cases(&rt, rt.alloc(), &orders, &CASES)
-}
-
-#[test]
-fn free_orders_are_not_called(rt: HostRuntime) -> Result<(), Fail> {
-    let alloc = rt.alloc();
-    let orders = [
-        StoredOrder::new(OrderShape::Free, Box::new(alloc, first)?),
-        StoredOrder::new(OrderShape::Free, Box::new(alloc, first)?),
-    ];
-    check_cases(&rt, alloc, &orders, &FREE_CASES)
+    for case in &CASES {
+        check_case(&rt, rt.alloc(), &orders, case)?;
+    }
+    Ok(())
 }

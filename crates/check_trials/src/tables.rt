@@ -1,11 +1,11 @@
 //! What worked journals are judged to be after each change of one line.
 
-ghost use Rattle.std.specs.Prelude.{◌≤◌, length};
+ghost use Rattle.std.specs.Prelude.{◌≡◌, ◌<◌, ◌≤◌, length};
 
 use crate::changes::{Change, changes, parts};
 use crate::checks::{
-    EXIT, EXIT_RUN, HI, HI_RUN, RW_REFUSALS, RW_REFUSALS_RUN, RW_WAITERS, RW_WAITERS_RUN, STACKED,
-    STACKED_RUN, WRITE_THEN_READ, WRITE_THEN_READ_RUN, first, verdict,
+    self, EXIT, EXIT_RUN, HI, HI_RUN, RW_REFUSALS, RW_REFUSALS_RUN, RW_WAITERS, RW_WAITERS_RUN,
+    STACKED, STACKED_RUN, WRITE_THEN_READ, WRITE_THEN_READ_RUN, verdict,
 };
 use abt_check::Verdict;
 use abt_machine::{OrderShape, Want, Workload};
@@ -30,7 +30,11 @@ struct Case {
     later: &'static [(&'static str, u64)],
 }
 
-// The cases over the orders Rotate and Mirror, those of reader-writer locks, and those over free orders.
+// The third unit of a workload wakes the two that wait for it.
+const WOKEN_RUN: &str =
+    "1 0 take 0 0, 2 0 look 0, 3 0 step 0 0 ok, 4 0 take 0 1, 5 0 look 1, 6 0 step 1 0 ok, 7 0 take 0 2, 8 0 look 2, 9 0 step 2 0 ok, 10 0 put 0 0, 11 0 put 1 0, 12 0 end 2 done, 13 0 take 0 0, 14 0 look 0, 15 0 end 0 done, 16 0 take 0 1, 17 0 look 1, 18 0 end 1 done, 19 0 miss 0";
+
+// The cases over the orders Rotate and Mirror, and those of reader-writer locks.
 static CASES: [Case; 11] = [
     // A unit says a word.
     Case {
@@ -80,7 +84,7 @@ static CASES: [Case; 11] = [
     // An eventual wakes two units.
     Case {
         workload: "abt 1\nstreams 1\npool 0 fifo mpmc\nsched 0 prio 0\nstream 0 main 0\nobject 0 eventual\nunits 3\nunit 0 ult at 0\newait 0\nunit 1 ult at 0\newait 0\nunit 2 ult at 0\neset 0\nend\n",
-        lines: "1 0 take 0 0, 2 0 look 0, 3 0 step 0 0 ok, 4 0 take 0 1, 5 0 look 1, 6 0 step 1 0 ok, 7 0 take 0 2, 8 0 look 2, 9 0 step 2 0 ok, 10 0 put 0 0, 11 0 put 1 0, 12 0 end 2 done, 13 0 take 0 0, 14 0 look 0, 15 0 end 0 done, 16 0 take 0 1, 17 0 look 1, 18 0 end 1 done, 19 0 miss 0",
+        lines: WOKEN_RUN,
         count: 368,
         runs: "drop 19",
         next: "",
@@ -89,7 +93,7 @@ static CASES: [Case; 11] = [
     // A future wakes two units.
     Case {
         workload: "abt 1\nstreams 1\npool 0 fifo mpmc\nsched 0 prio 0\nstream 0 main 0\nobject 0 future 1 count\nunits 3\nunit 0 ult at 0\nfwait 0\nunit 1 ult at 0\nfwait 0\nunit 2 ult at 0\nfset 0\nend\n",
-        lines: "1 0 take 0 0, 2 0 look 0, 3 0 step 0 0 ok, 4 0 take 0 1, 5 0 look 1, 6 0 step 1 0 ok, 7 0 take 0 2, 8 0 look 2, 9 0 step 2 0 ok, 10 0 put 0 0, 11 0 put 1 0, 12 0 end 2 done, 13 0 take 0 0, 14 0 look 0, 15 0 end 0 done, 16 0 take 0 1, 17 0 look 1, 18 0 end 1 done, 19 0 miss 0",
+        lines: WOKEN_RUN,
         count: 368,
         runs: "drop 19",
         next: "",
@@ -163,17 +167,15 @@ static LOCK_CASES: [Case; 3] = [
     },
 ];
 
-static FREE_CASES: [Case; 1] = [
-    // Rounds in any order.
-    Case {
-        workload: "abt 1\nstreams 1\npool 0 fifo mpmc\npool 1 fifo mpmc\npool 2 fifo mpmc\nsched 0 user 0 0 1 2\nstream 0 main 0\nunits 1\nunit 0 ult at 0\nend\n",
-        lines: "1 0 miss 1, 2 0 miss 2, 3 0 take 0 0, 4 0 look 0, 5 0 end 0 done, 6 0 miss 2, 7 0 miss 0, 8 0 miss 1",
-        count: 132,
-        runs: "drop 8",
-        next: "1: 1 0 miss 2, 7: 7 0 miss 1",
-        later: &[("6: 6 0 miss 1", 7)],
-    },
-];
+// The case over free orders: rounds in any order.
+static FREE: Case = Case {
+    workload: "abt 1\nstreams 1\npool 0 fifo mpmc\npool 1 fifo mpmc\npool 2 fifo mpmc\nsched 0 user 0 0 1 2\nstream 0 main 0\nunits 1\nunit 0 ult at 0\nend\n",
+    lines: "1 0 miss 1, 2 0 miss 2, 3 0 take 0 0, 4 0 look 0, 5 0 end 0 done, 6 0 miss 2, 7 0 miss 0, 8 0 miss 1",
+    count: 132,
+    runs: "drop 8",
+    next: "1: 1 0 miss 2, 7: 7 0 miss 1",
+    later: &[("6: 6 0 miss 1", 7)],
+};
 
 // The line at which the change of that name shows, if it is not the one expected.
 fn later_in(later: &[(&str, u64)], name: &str) -> Option<u64> {
@@ -215,7 +217,7 @@ fn wanted(case: &Case, change: &Change) -> Option<Verdict> {
     })
 }
 
-// Each change is judged as the table says.
+// Each of these changes is judged as the case says.
 fn check_changes(
     rt: &impl Abort,
     alloc: Global,
@@ -234,42 +236,56 @@ fn check_changes(
     Ok(())
 }
 
-// So it is of all cases.
-fn check_cases(
+// Each change of a case's run is judged as the case says.
+fn check_case(
     rt: &impl Abort,
     alloc: Global,
     orders: &[StoredOrder],
-    cases: &[Case],
+    case: &Case,
 ) -> Result<(), Fail>
     requires { 2 ≤ length orders.now }
 {
+    let w = read(alloc, case.workload.as_bytes())?;
+    let lines = parts(alloc, case.lines, ", ")?;
+    let changes = changes(alloc, &lines)?;
+    check_changes(rt, alloc, &w, orders, case, &changes)?;
+    Ok(())
+}
+
+// So it is of all cases, over the orders Rotate and Mirror.
+fn check_cases(rt: &impl Abort, alloc: Global, cases: &[Case]) -> Result<(), Fail> {
+    let orders = [StoredOrder::rotating(), StoredOrder::mirroring()];
     for case in cases {
-        let w = read(alloc, case.workload.as_bytes())?;
-        let lines = parts(alloc, case.lines, ", ")?;
-        let changes = changes(alloc, &lines)?;
-        check_changes(rt, alloc, &w, orders, case, &changes)?;
+        check_case(rt, alloc, &orders, case)?;
     }
     Ok(())
 }
 
 #[test]
 fn changed_journals_are_judged(rt: HostRuntime) -> Result<(), Fail> {
-    let orders = [StoredOrder::rotating(), StoredOrder::mirroring()];
-    check_cases(&rt, rt.alloc(), &orders, &CASES)
+    check_cases(&rt, rt.alloc(), &CASES)
 }
 
 #[test]
 fn changed_journals_of_locks_are_judged(rt: HostRuntime) -> Result<(), Fail> {
-    let orders = [StoredOrder::rotating(), StoredOrder::mirroring()];
-    check_cases(&rt, rt.alloc(), &orders, &LOCK_CASES)
+    check_cases(&rt, rt.alloc(), &LOCK_CASES)
+}
+
+// The first place, whatever place is asked for. A value may be made of a function of this crate alone.
+fn first(_round: u64, n: u32, _i: u32) -> u32
+    requires { 0 < n }
+    ensures { result ≡ 0 }
+{
+    0
 }
 
 #[test]
-fn changed_journals_of_free_orders_are_judged(rt: HostRuntime) -> Result<(), Fail> {
+fn free_orders_are_not_called(rt: HostRuntime) -> Result<(), Fail> {
     let alloc = rt.alloc();
     let orders = [
         StoredOrder::new(OrderShape::Free, Box::new(alloc, first)?),
         StoredOrder::new(OrderShape::Free, Box::new(alloc, first)?),
     ];
-    check_cases(&rt, alloc, &orders, &FREE_CASES)
+    checks::check_case(&rt, alloc, &orders, &checks::FREE)?;
+    check_case(&rt, alloc, &orders, &FREE)
 }

@@ -2,19 +2,16 @@ use Rattle.std.proofs.Common.{[], ◌∷◌, refl}
 use Rattle.std.specs.Prelude.{codes}
 use Rattle.std.specs.Fmt.{digits}
 use Rattle.abt_machine.specs.declared.events.Outcome.TheVariants as outcome
-use Rattle.abt_machine.specs.declared.operations.Access.TheVariants as access
-use Rattle.abt_machine.specs.declared.operations.Kind.TheVariants as kind
 use Rattle.abt_machine.specs.declared.operations.Op.TheVariants as op
-use Rattle.abt_machine.specs.declared.operations.Rule.TheVariants as rule
 use Rattle.abt_machine.specs.declared.workload.Parts.{Parts}
 use Rattle.abt_machine.specs.Numbers.{pool_no, unit_no}
 use Rattle.abt_rows.specs.Rows.{orders}
 use Rattle.abt_rows.proofs.Working.{worked}
-use Rattle.abt_rows.proofs.Workloads.{declared, pool, sched, ult_at}
+use Rattle.abt_rows.proofs.Workloads.{based_on_two, ult_at}
 use Rattle.abt_rows.proofs.requests.requests_forgotten.Goals as goal
 
 abbrev workload : Parts
-workload = declared 0 (pool kind.Fifo access.Mpmc ∷ pool kind.Fifo access.Mpmc ∷ []) (sched rule.Prio (0 ∷ 1 ∷ []) ∷ []) [] (
+workload = based_on_two (
     ult_at 0 (op.Join (unit_no 1) ∷ op.Revive (unit_no 1) (pool_no 0) ∷ []) ∷
     ult_at 0 (op.Cancel (unit_no 1) ∷ op.Migrate (unit_no 1) (pool_no 1) ∷ op.Say 0 ∷ []) ∷
     []) (codes "end" ∷ [])

@@ -1,18 +1,16 @@
 use Rattle.std.proofs.Common.{[], ◌∷◌, refl}
 use Rattle.std.specs.Fmt.{digits}
 use Rattle.abt_machine.specs.declared.events.Outcome.TheVariants as outcome
-use Rattle.abt_machine.specs.declared.operations.Access.TheVariants as access
-use Rattle.abt_machine.specs.declared.operations.Kind.TheVariants as kind
 use Rattle.abt_machine.specs.declared.operations.Op.TheVariants as op
 use Rattle.abt_machine.specs.declared.operations.Rule.TheVariants as rule
 use Rattle.abt_machine.specs.declared.workload.Parts.{Parts}
 use Rattle.abt_rows.specs.Rows.{orders}
 use Rattle.abt_rows.proofs.Working.{worked}
-use Rattle.abt_rows.proofs.Workloads.{declared, pool, sched, sched_at, ult_at}
+use Rattle.abt_rows.proofs.Workloads.{declared, fifos, sched, sched_at, ult_at}
 use Rattle.abt_rows.proofs.schedulers.generator_of_scheduler.Goals as goal
 
 abbrev workload : Parts
-workload = declared 0 (pool kind.Fifo access.Mpmc ∷ pool kind.Fifo access.Mpmc ∷ pool kind.Fifo access.Mpmc ∷ pool kind.Fifo access.Mpmc ∷ pool kind.Fifo access.Mpmc ∷ []) (sched rule.Prio (0 ∷ []) ∷ sched (rule.Randws 9) (1 ∷ 2 ∷ 3 ∷ 4 ∷ []) ∷ []) [] (
+workload = declared 0 (fifos 5) (sched rule.Prio (0 ∷ []) ∷ sched (rule.Randws 9) (1 ∷ 2 ∷ 3 ∷ 4 ∷ []) ∷ []) [] (
     sched_at 1 0 ∷
     ult_at 2 (op.Yield ∷ []) ∷
     []) []

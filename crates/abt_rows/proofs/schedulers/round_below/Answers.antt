@@ -1,17 +1,15 @@
 use Rattle.std.proofs.Common.{[], ◌∷◌, refl}
 use Rattle.std.specs.Fmt.{digits}
 use Rattle.abt_machine.specs.declared.events.Outcome.TheVariants as outcome
-use Rattle.abt_machine.specs.declared.operations.Access.TheVariants as access
-use Rattle.abt_machine.specs.declared.operations.Kind.TheVariants as kind
 use Rattle.abt_machine.specs.declared.operations.Rule.TheVariants as rule
 use Rattle.abt_machine.specs.declared.workload.Parts.{Parts}
 use Rattle.abt_rows.specs.Rows.{orders}
 use Rattle.abt_rows.proofs.Working.{worked}
-use Rattle.abt_rows.proofs.Workloads.{declared, pool, sched, sched_at, ult_at}
+use Rattle.abt_rows.proofs.Workloads.{declared, fifos, sched, sched_at, ult_at}
 use Rattle.abt_rows.proofs.schedulers.round_below.Goals as goal
 
 abbrev workload : Parts
-workload = declared 0 (pool kind.Fifo access.Mpmc ∷ pool kind.Fifo access.Mpmc ∷ pool kind.Fifo access.Mpmc ∷ []) (sched (rule.User 0) (0 ∷ 1 ∷ []) ∷ sched rule.Prio (2 ∷ []) ∷ []) [] (
+workload = declared 0 (fifos 3) (sched (rule.User 0) (0 ∷ 1 ∷ []) ∷ sched rule.Prio (2 ∷ []) ∷ []) [] (
     sched_at 1 0 ∷
     ult_at 0 [] ∷
     ult_at 1 [] ∷

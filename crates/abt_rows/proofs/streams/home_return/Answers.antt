@@ -2,19 +2,15 @@ use Rattle.std.proofs.Common.{[], ◌∷◌, ◌++◌, replicate, refl}
 use Rattle.std.specs.Prelude.{codes}
 use Rattle.std.specs.Fmt.{digits}
 use Rattle.abt_machine.specs.declared.events.Outcome.TheVariants as outcome
-use Rattle.abt_machine.specs.declared.operations.Access.TheVariants as access
-use Rattle.abt_machine.specs.declared.operations.Kind.TheVariants as kind
 use Rattle.abt_machine.specs.declared.operations.Op.TheVariants as op
-use Rattle.abt_machine.specs.declared.operations.Rule.TheVariants as rule
 use Rattle.abt_machine.specs.declared.workload.Parts.{Parts}
-use Rattle.abt_machine.specs.Numbers.{stream_no}
 use Rattle.abt_rows.specs.Rows.{orders}
 use Rattle.abt_rows.proofs.Reporting.{ran_in_turn, reported}
-use Rattle.abt_rows.proofs.Workloads.{declared_for, pool, sched, ult_at}
+use Rattle.abt_rows.proofs.Workloads.{fenced, ult_at}
 use Rattle.abt_rows.proofs.streams.home_return.Goals as goal
 
 abbrev workload : Parts
-workload = declared_for 2 0 (pool kind.Fifo (access.Priv (stream_no 0)) ∷ pool kind.Fifo (access.Priv (stream_no 1)) ∷ pool kind.Fifo (access.Spsc (stream_no 0) (stream_no 1)) ∷ []) (sched rule.Prio (0 ∷ []) ∷ sched rule.Prio (1 ∷ 2 ∷ []) ∷ []) [] (
+workload = fenced (
     ult_at 2 (op.Yield ∷ op.Say 0 ∷ []) ∷
     []) (codes "back" ∷ [])
 

@@ -7,8 +7,6 @@ use Rattle.abt_machine.specs.declared.events.Event.{Event}
 use Rattle.abt_machine.specs.declared.events.Outcome.TheVariants as outcome
 use Rattle.abt_machine.specs.declared.events.What.{What}
 use Rattle.abt_machine.specs.declared.events.What.TheVariants as what
-use Rattle.abt_machine.specs.declared.operations.Access.TheVariants as access
-use Rattle.abt_machine.specs.declared.operations.Kind.TheVariants as kind
 use Rattle.abt_machine.specs.declared.operations.Rule.TheVariants as rule
 use Rattle.abt_machine.specs.declared.workload.Parts.{Parts}
 use Rattle.abt_machine.specs.Numbers.{pool_no, stream_no, unit_no}
@@ -18,11 +16,11 @@ use Rattle.abt_rows.specs.ThreePools.{free_alone}
 use Rattle.abt_rows.proofs.Deciding.{holds}
 use Rattle.abt_rows.proofs.Stamping.{lamport}
 use Rattle.abt_rows.proofs.Working.{shown}
-use Rattle.abt_rows.proofs.Workloads.{declared, pool, sched, ult_at}
+use Rattle.abt_rows.proofs.Workloads.{declared, fifos, sched, ult_at}
 use Rattle.abt_rows.proofs.three_pools.free_order.Goals as goal
 
 abbrev workload : Parts
-workload = declared 0 (pool kind.Fifo access.Mpmc ∷ pool kind.Fifo access.Mpmc ∷ pool kind.Fifo access.Mpmc ∷ []) (sched (rule.User 0) (0 ∷ 1 ∷ 2 ∷ []) ∷ [])
+workload = declared 0 (fifos 3) (sched (rule.User 0) (0 ∷ 1 ∷ 2 ∷ []) ∷ [])
     [] (
     ult_at 0 [] ∷
     []) []
