@@ -10,7 +10,7 @@ use Rattle.abt_machine.specs.Values.{Owned, Phase, Unborn, Out, Suspended, Ended
 use Rattle.abt_machine.specs.Acts.{Act, Put, Take, Remove, Create, End, Join, AskCancel, AskMigrate, Look, Suspend, Resume, Revive, SetMigratable, Lock, TryLock, Unlock, Load, Store, Wait, Signal, Broadcast, Await, Fill, Reset, Test, Arrive, ReadLock, WriteLock, RwUnlock, Answer, Given, Through, Woke, Rested, Miss, Number, Asks, Coded, Back, received, reborn}
 use Rattle.abt_machine.specs.Pools.{PoolGives, with_end, without}
 use Rattle.abt_machine.specs.Desks.{DeskGives, ended_in, is_out, suspended_in, takes_back, unborn_in, with_ended, with_joiner, with_phase}
-use Rattle.abt_machine.specs.Monitors.{MonitorGives, admitted_by, after_broadcast, after_signal, after_wait, all_admitted, at_condition, handed_over, new_owner, rest, with_condition, with_owner}
+use Rattle.abt_machine.specs.Monitors.{MonitorGives, admitted_by, after_broadcast, after_signal, after_wait, all_admitted, at_condition, handed_over, new_owner, number_of, rest, with_condition, with_owner}
 use Rattle.abt_machine.specs.Eventuals.{EventualGives}
 use Rattle.abt_machine.specs.Futures.{FutureGives, is_ready, left_waiting, with_one_more, woken_by}
 use Rattle.abt_machine.specs.Barriers.{BarrierGives}
@@ -34,6 +34,20 @@ abbrev Even : ℕ → List Owned → List Owned → List Owned → List Owned �
 Even u asked old answered new = tally u asked + tally u old ≡ tally u answered + tally u new
 
 module _ (u : ℕ) where
+  -- What most calls do with the units that an object has.
+
+  -- they stay
+  stays : (old new : List Owned) → tally u new ≡ tally u old → Even u [] old [] new
+  stays old new e = omega (arith, e)
+
+  -- they stay, and a unit comes straight back
+  comes-back : (old new : List Owned) (o b : Owned) → b.number ≡ o.number → tally u new ≡ tally u old → Even u (o ∷ []) old (b ∷ []) new
+  comes-back old new o b is e = omega (arith, e, tally-number u b o is)
+
+  -- a unit comes to wait behind them
+  comes : (old new : List Owned) (o : Owned) → tally u new ≡ tally u (old ++ o ∷ []) → Even u (o ∷ []) old [] new
+  comes old new o e = omega (arith, e, tally-append u old (o ∷ []), tally-nil u)
+
   -- Pools.
 
   abbrev pool_tally : PoolValue → ℕ
@@ -45,20 +59,22 @@ module _ (u : ℕ) where
 
   pool-even : (old : PoolValue) (act : Act) (answer : Answer) (new : PoolValue) → PoolGives old act answer new
       → Even u (contents_asked act).units (contents_of_pool old).units (contents_answered answer).units (contents_of_pool new).units
-  pool-even old (Put o) Rested new gives =
-      let e : tally u new.units ≡ tally u (old.units ++ o ∷ []) = ap pool_tally gives in omega (arith, e, tally-append u old.units (o ∷ []), tally-nil u)
+  pool-even old (Put o) Rested new gives = comes old.units new.units o (ap pool_tally gives)
   pool-even old (Take d) (Given o) new gives =
       let e : tally u old.units ≡ tally u (with_end d o new.units) = ap (tally u) gives.1 in omega (arith, e, end-tally d o new.units, tally-nil u)
-  pool-even old (Take d) Miss new gives = let e : tally u new.units ≡ tally u old.units = ap pool_tally gives.2 in omega (arith, e)
+  pool-even old (Take d) Miss new gives = stays old.units new.units (ap pool_tally gives.2)
   pool-even old (Remove v) (Given o) new gives =
       let e : tally u new.units ≡ tally u (without v old.units) = ap pool_tally gives.1 in omega (arith, e, tally-without u v old.units o gives.0, tally-nil u)
-  pool-even old (Remove v) (Coded code.Absent) new gives = let e : tally u new.units ≡ tally u old.units = ap pool_tally gives.1 in omega (arith, e)
+  pool-even old (Remove v) (Coded code.Absent) new gives = stays old.units new.units (ap pool_tally gives.1)
   pool-even old act answer new gives = absurd gives
 
   -- Desks.
 
+  abbrev desk_units : DeskValue → List Owned
+  desk_units desk = (contents_of_desk desk).units
+
   abbrev desk_tally : DeskValue → ℕ
-  desk_tally desk = tally u (held_in desk.phase ++ desk.joiners)
+  desk_tally desk = tally u (desk_units desk)
 
   unborn-held : (p : ℕ) (phase : Phase) (o : Owned) → option_map (reborn p) (unborn_in phase) ≡ Some o → tally u (held_in phase) ≡ tally u (o ∷ [])
   unborn-held p (Unborn x) o e = let same : reborn p x ≡ o = some-injective e in tally-number u x o (ap (λ q. q.number) same)
@@ -86,55 +102,50 @@ module _ (u : ℕ) where
   out-held (Ended x c) own e = cc
 
   -- a unit comes out of its desk
-  comes-out : (old : DeskValue) (o : Owned) (new : DeskValue) → tally u (held_in old.phase) ≡ tally u (o ∷ []) → new ≡ with_phase Out old → Even u [] (contents_of_desk old).units (o ∷ []) (contents_of_desk new).units
+  comes-out : (old : DeskValue) (o : Owned) (new : DeskValue) → tally u (held_in old.phase) ≡ tally u (o ∷ []) → new ≡ with_phase Out old → Even u [] (desk_units old) (o ∷ []) (desk_units new)
   comes-out old o new held gives =
       let e : desk_tally new ≡ tally u old.joiners = ap desk_tally gives in omega (arith, e, held, tally-append u (held_in old.phase) old.joiners, tally-nil u)
 
-  -- a desk stays as it was, or as full
-  stays : (old new : DeskValue) → desk_tally new ≡ desk_tally old → Even u [] (contents_of_desk old).units [] (contents_of_desk new).units
-  stays old new e = omega (arith, e)
-
-  joins : (old : DeskValue) (o : Owned) (new : DeskValue) → new ≡ with_joiner o old → Even u (o ∷ []) (contents_of_desk old).units [] (contents_of_desk new).units
+  joins : (old : DeskValue) (o : Owned) (new : DeskValue) → new ≡ with_joiner o old → Even u (o ∷ []) (desk_units old) [] (desk_units new)
   joins old o new gives =
       let e : desk_tally new ≡ tally u (held_in old.phase ++ (old.joiners ++ o ∷ [])) = ap desk_tally gives in
       omega (arith, e, tally-append u (held_in old.phase) (old.joiners ++ o ∷ []), tally-append u old.joiners (o ∷ []), tally-append u (held_in old.phase) old.joiners, tally-nil u)
 
   ends : (old : DeskValue) (o : Owned) (cause : Cause) (os : List Owned) (new : DeskValue) (b : Bool) → takes_back old o ≡ b
-      → os ≡ (if b then old.joiners else []) → new ≡ (if b then with_ended o cause old else with_joiner o old) → Even u (o ∷ []) (contents_of_desk old).units os (contents_of_desk new).units
+      → os ≡ (if b then old.joiners else []) → new ≡ (if b then with_ended o cause old else with_joiner o old) → Even u (o ∷ []) (desk_units old) os (desk_units new)
   ends old o cause os new true is woken gives =
       let e : desk_tally new ≡ tally u (o ∷ []) = ap desk_tally gives in
       let w : tally u os ≡ tally u old.joiners = ap (tally u) woken in
       omega (arith, e, w, out-held old.phase (o.number == old.number) is, tally-append u (held_in old.phase) old.joiners)
-  ends old o cause os new false is woken gives = subst (λ qs. Even u (o ∷ []) (contents_of_desk old).units qs (contents_of_desk new).units) (sym woken) (joins old o new gives)
+  ends old o cause os new false is woken gives = subst (λ qs. Even u (o ∷ []) (desk_units old) qs (desk_units new)) (sym woken) (joins old o new gives)
 
   suspends : (old : DeskValue) (o : Owned) (new : DeskValue) (b : Bool) → takes_back old o ≡ b
-      → new ≡ (if b then with_phase (Suspended o) old else with_joiner o old) → Even u (o ∷ []) (contents_of_desk old).units [] (contents_of_desk new).units
+      → new ≡ (if b then with_phase (Suspended o) old else with_joiner o old) → Even u (o ∷ []) (desk_units old) [] (desk_units new)
   suspends old o new true is gives =
       let e : desk_tally new ≡ tally u (o ∷ old.joiners) = ap desk_tally gives in
       omega (arith, e, out-held old.phase (o.number == old.number) is, tally-append u (held_in old.phase) old.joiners, tally-cons u o old.joiners, tally-nil u)
   suspends old o new false is gives = joins old o new gives
 
   desk-even : (old : DeskValue) (act : Act) (answer : Answer) (new : DeskValue) → DeskGives old act answer new
-      → Even u (contents_asked act).units (contents_of_desk old).units (contents_answered answer).units (contents_of_desk new).units
+      → Even u (contents_asked act).units (desk_units old) (contents_answered answer).units (desk_units new)
   desk-even old (Create p) (Given o) new gives = comes-out old o new (unborn-held p old.phase o gives.0) gives.1
-  desk-even old (Create p) (Coded code.Exists) new gives = stays old new (ap desk_tally gives.1)
+  desk-even old (Create p) (Coded code.Exists) new gives = stays (desk_units old) (desk_units new) (ap desk_tally gives.1)
   desk-even old (End o cause) (Woke os) new gives = ends old o cause os new (takes_back old o) refl gives.0 gives.1
-  desk-even old (Join o) (Given b) new gives =
-      let e : desk_tally new ≡ desk_tally old = ap desk_tally gives.2 in let f : tally u (b ∷ []) ≡ tally u (o ∷ []) = ap (λ q. tally u (q ∷ [])) gives.1 in omega (arith, e, f)
+  desk-even old (Join o) (Given b) new gives = comes-back (desk_units old) (desk_units new) o b (ap number_of gives.1) (ap desk_tally gives.2)
   desk-even old (Join o) Rested new gives = joins old o new gives.1
-  desk-even old AskCancel (Coded code.Ok) new gives = stays old new (ap desk_tally gives.1)
-  desk-even old AskCancel (Coded code.UnitState) new gives = stays old new (ap desk_tally gives.1)
-  desk-even old (AskMigrate p) (Coded code.Ok) new gives = stays old new (ap desk_tally gives.2)
-  desk-even old (AskMigrate p) (Coded code.UnitState) new gives = stays old new (ap desk_tally gives.1)
-  desk-even old (AskMigrate p) (Coded code.NotMigratable) new gives = stays old new (ap desk_tally gives.2)
-  desk-even old Look (Asks cancel migrate) new gives = stays old new (ap desk_tally gives.2)
+  desk-even old AskCancel (Coded code.Ok) new gives = stays (desk_units old) (desk_units new) (ap desk_tally gives.1)
+  desk-even old AskCancel (Coded code.UnitState) new gives = stays (desk_units old) (desk_units new) (ap desk_tally gives.1)
+  desk-even old (AskMigrate p) (Coded code.Ok) new gives = stays (desk_units old) (desk_units new) (ap desk_tally gives.2)
+  desk-even old (AskMigrate p) (Coded code.UnitState) new gives = stays (desk_units old) (desk_units new) (ap desk_tally gives.1)
+  desk-even old (AskMigrate p) (Coded code.NotMigratable) new gives = stays (desk_units old) (desk_units new) (ap desk_tally gives.2)
+  desk-even old Look (Asks cancel migrate) new gives = stays (desk_units old) (desk_units new) (ap desk_tally gives.2)
   desk-even old (Suspend o) Rested new gives = suspends old o new (takes_back old o) refl gives
   desk-even old Resume (Given o) new gives = comes-out old o new (suspended-held old.phase o gives.0) gives.1
-  desk-even old Resume (Coded code.UnitState) new gives = stays old new (ap desk_tally gives.1)
+  desk-even old Resume (Coded code.UnitState) new gives = stays (desk_units old) (desk_units new) (ap desk_tally gives.1)
   desk-even old (Revive p) (Given o) new gives = comes-out old o new (ended-held p old.phase o gives.0) gives.1
-  desk-even old (Revive p) (Coded code.UnitState) new gives = stays old new (ap desk_tally gives.1)
-  desk-even old (SetMigratable allowed) (Coded code.Ok) new gives = stays old new (ap desk_tally gives.1)
-  desk-even old (SetMigratable allowed) (Coded code.NotMigratable) new gives = stays old new (ap desk_tally gives.1)
+  desk-even old (Revive p) (Coded code.UnitState) new gives = stays (desk_units old) (desk_units new) (ap desk_tally gives.1)
+  desk-even old (SetMigratable allowed) (Coded code.Ok) new gives = stays (desk_units old) (desk_units new) (ap desk_tally gives.1)
+  desk-even old (SetMigratable allowed) (Coded code.NotMigratable) new gives = stays (desk_units old) (desk_units new) (ap desk_tally gives.1)
   desk-even old act answer new gives = absurd gives
 
   -- Monitors.
@@ -202,34 +213,29 @@ module _ (u : ℕ) where
   broadcasts : (k : ℕ) (m : MonitorValue) → k < length m.conds → monitor_tally m ≡ tally u (unit_in (new_owner m.owner (at_condition k m))) + monitor_tally (after_broadcast k m)
   broadcasts k m l = omega (arith, admits (at_condition k m) (with_condition k [] m), condition-tally k [] m l, tally-nil u)
 
-  monitor-stays : (old new : MonitorValue) → monitor_tally new ≡ monitor_tally old → Even u [] (monitor_units old) [] (monitor_units new)
-  monitor-stays old new e = omega (arith, e)
-
   monitor-even : (old : MonitorValue) (act : Act) (answer : Answer) (new : MonitorValue) → MonitorGives old act answer new → MonitorAllows (length old.conds) act
       → Even u (contents_asked act).units (monitor_units old) (contents_answered answer).units (monitor_units new)
-  monitor-even old (Lock o) (Given b) new gives allowed =
-      let e : monitor_tally new ≡ monitor_tally old = ap monitor_tally gives.2 in let f : tally u (b ∷ []) ≡ tally u (o ∷ []) = ap (λ q. tally u (q ∷ [])) gives.1 in omega (arith, e, f)
+  monitor-even old (Lock o) (Given b) new gives allowed = comes-back (monitor_units old) (monitor_units new) o b (ap number_of gives.1) (ap monitor_tally gives.2)
   monitor-even old (Lock o) Rested new gives allowed =
       let k : MonitorValue = record old { waiters = old.waiters ++ o ∷ [] } in
       let e : monitor_tally new ≡ monitor_tally k = ap monitor_tally gives.1 in
       omega (arith, e, monitor-parts k, monitor-parts old, tally-append u old.waiters (o ∷ []), tally-nil u)
-  monitor-even old (TryLock v) (Coded code.Ok) new gives allowed = monitor-stays old new (ap monitor_tally gives.1)
-  monitor-even old (TryLock v) (Coded code.MutexLocked) new gives allowed = monitor-stays old new (ap monitor_tally gives.1)
+  monitor-even old (TryLock v) (Coded code.Ok) new gives allowed = stays (monitor_units old) (monitor_units new) (ap monitor_tally gives.1)
+  monitor-even old (TryLock v) (Coded code.MutexLocked) new gives allowed = stays (monitor_units old) (monitor_units new) (ap monitor_tally gives.1)
   monitor-even old (Unlock v) (Given b) new gives allowed =
       let e : monitor_tally new ≡ monitor_tally (handed_over old) = ap monitor_tally gives.2 in omega (arith, e, hands-over old, out-of (first old.waiters) b gives.1, tally-nil u)
   monitor-even old (Unlock v) Rested new gives allowed =
       let e : monitor_tally new ≡ monitor_tally (handed_over old) = ap monitor_tally gives.2 in omega (arith, e, hands-over old, none-of (first old.waiters) gives.1, tally-nil u)
-  monitor-even old (Unlock v) (Coded code.NotOwner) new gives allowed = monitor-stays old new (ap monitor_tally gives.1)
-  monitor-even old (Load v) (Number n) new gives allowed = monitor-stays old new (ap monitor_tally gives.2)
-  monitor-even old (Load v) (Coded code.NotOwner) new gives allowed = monitor-stays old new (ap monitor_tally gives.1)
-  monitor-even old (Store v n) (Coded code.Ok) new gives allowed = monitor-stays old new (ap monitor_tally gives.1)
-  monitor-even old (Store v n) (Coded code.NotOwner) new gives allowed = monitor-stays old new (ap monitor_tally gives.1)
+  monitor-even old (Unlock v) (Coded code.NotOwner) new gives allowed = stays (monitor_units old) (monitor_units new) (ap monitor_tally gives.1)
+  monitor-even old (Load v) (Number n) new gives allowed = stays (monitor_units old) (monitor_units new) (ap monitor_tally gives.2)
+  monitor-even old (Load v) (Coded code.NotOwner) new gives allowed = stays (monitor_units old) (monitor_units new) (ap monitor_tally gives.1)
+  monitor-even old (Store v n) (Coded code.Ok) new gives allowed = stays (monitor_units old) (monitor_units new) (ap monitor_tally gives.1)
+  monitor-even old (Store v n) (Coded code.NotOwner) new gives allowed = stays (monitor_units old) (monitor_units new) (ap monitor_tally gives.1)
   monitor-even old (Wait k o) (Given b) new gives allowed =
       let e : monitor_tally new ≡ monitor_tally (after_wait k o old) = ap monitor_tally gives.2 in omega (arith, e, waits k o old allowed, out-of (first old.waiters) b gives.1)
   monitor-even old (Wait k o) Rested new gives allowed =
       let e : monitor_tally new ≡ monitor_tally (after_wait k o old) = ap monitor_tally gives.2 in omega (arith, e, waits k o old allowed, none-of (first old.waiters) gives.1, tally-nil u)
-  monitor-even old (Wait k o) (Back b code.NotOwner) new gives allowed =
-      let e : monitor_tally new ≡ monitor_tally old = ap monitor_tally gives.2 in let f : tally u (b ∷ []) ≡ tally u (o ∷ []) = ap (λ q. tally u (q ∷ [])) gives.1 in omega (arith, e, f)
+  monitor-even old (Wait k o) (Back b code.NotOwner) new gives allowed = comes-back (monitor_units old) (monitor_units new) o b (ap number_of gives.1) (ap monitor_tally gives.2)
   monitor-even old (Signal k) (Given b) new gives allowed =
       let e : monitor_tally new ≡ monitor_tally (after_signal k old) = ap monitor_tally gives.1 in omega (arith, e, signals k old allowed, out-of (new_owner old.owner (at_condition k old)) b gives.0, tally-nil u)
   monitor-even old (Signal k) Rested new gives allowed =
@@ -245,23 +251,17 @@ module _ (u : ℕ) where
   abbrev eventual_tally : EventualValue → ℕ
   eventual_tally e = tally u e.waiters
 
-  -- a unit comes back with a value
-  comes-back : (o b : Owned) (n : ℕ) → b ≡ received n o → tally u (b ∷ []) ≡ tally u (o ∷ [])
-  comes-back o b n is = tally-number u b o (ap (λ q. q.number) is)
-
   eventual-even : (old : EventualValue) (act : Act) (answer : Answer) (new : EventualValue) → EventualGives old act answer new
       → Even u (contents_asked act).units old.waiters (contents_answered answer).units new.waiters
   eventual-even old (Await o) (Given b) new gives =
-      let value : (n : ℕ) × (b ≡ received n o) = received-by old.value o b gives.0 in
-      let e : eventual_tally new ≡ eventual_tally old = ap eventual_tally gives.1 in omega (arith, e, comes-back o b value.0 value.1)
-  eventual-even old (Await o) Rested new gives =
-      let e : eventual_tally new ≡ tally u (old.waiters ++ o ∷ []) = ap eventual_tally gives.1 in omega (arith, e, tally-append u old.waiters (o ∷ []), tally-nil u)
+      let value : (n : ℕ) × (b ≡ received n o) = received-by old.value o b gives.0 in comes-back old.waiters new.waiters o b (ap number_of value.1) (ap eventual_tally gives.1)
+  eventual-even old (Await o) Rested new gives = comes old.waiters new.waiters o (ap eventual_tally gives.1)
   eventual-even old (Fill n) (Woke os) new gives =
       let e : eventual_tally new ≡ tally u [] = ap eventual_tally gives.2 in
       let w : tally u os ≡ tally u (map (received n) old.waiters) = ap (tally u) gives.1 in omega (arith, e, w, tally-received u n old.waiters)
-  eventual-even old (Fill n) (Coded code.EventualSet) new gives = let e : eventual_tally new ≡ eventual_tally old = ap eventual_tally gives.1 in omega (arith, e)
-  eventual-even old Reset Rested new gives = let e : eventual_tally new ≡ eventual_tally old = ap eventual_tally gives in omega (arith, e)
-  eventual-even old Test (Number n) new gives = let e : eventual_tally new ≡ eventual_tally old = ap eventual_tally gives.1 in omega (arith, e)
+  eventual-even old (Fill n) (Coded code.EventualSet) new gives = stays old.waiters new.waiters (ap eventual_tally gives.1)
+  eventual-even old Reset Rested new gives = stays old.waiters new.waiters (ap eventual_tally gives)
+  eventual-even old Test (Number n) new gives = stays old.waiters new.waiters (ap eventual_tally gives.1)
   eventual-even old act answer new gives = absurd gives
 
   -- Futures.
@@ -276,17 +276,16 @@ module _ (u : ℕ) where
 
   future-even : (old : FutureValue) (act : Act) (answer : Answer) (new : FutureValue) → FutureGives old act answer new
       → Even u (contents_asked act).units old.waiters (contents_answered answer).units new.waiters
-  future-even old (Await o) (Given b) new gives = let e : future_tally new ≡ future_tally old = ap future_tally gives.2 in omega (arith, e, comes-back o b old.value gives.1)
-  future-even old (Await o) Rested new gives =
-      let e : future_tally new ≡ tally u (old.waiters ++ o ∷ []) = ap future_tally gives.1 in omega (arith, e, tally-append u old.waiters (o ∷ []), tally-nil u)
+  future-even old (Await o) (Given b) new gives = comes-back old.waiters new.waiters o b (ap number_of gives.1) (ap future_tally gives.2)
+  future-even old (Await o) Rested new gives = comes old.waiters new.waiters o (ap future_tally gives.1)
   future-even old (Fill n) (Woke os) new gives =
       let f : FutureValue = with_one_more n old in
       let e : future_tally new ≡ tally u (left_waiting f).waiters = ap future_tally gives.2 in
       let w : tally u os ≡ tally u (woken_by f) = ap (tally u) gives.1 in
       let h : tally u (woken_by f) + tally u (left_waiting f).waiters ≡ tally u f.waiters = wakes-by f.value f.waiters (is_ready f) in omega (arith, e, w, h, tally-nil u)
-  future-even old (Fill n) (Coded code.FutureFull) new gives = let e : future_tally new ≡ future_tally old = ap future_tally gives.1 in omega (arith, e)
-  future-even old Reset Rested new gives = let e : future_tally new ≡ future_tally old = ap future_tally gives in omega (arith, e)
-  future-even old Test (Number n) new gives = let e : future_tally new ≡ future_tally old = ap future_tally gives.1 in omega (arith, e)
+  future-even old (Fill n) (Coded code.FutureFull) new gives = stays old.waiters new.waiters (ap future_tally gives.1)
+  future-even old Reset Rested new gives = stays old.waiters new.waiters (ap future_tally gives)
+  future-even old Test (Number n) new gives = stays old.waiters new.waiters (ap future_tally gives.1)
   future-even old act answer new gives = absurd gives
 
   -- Barriers.
@@ -300,8 +299,7 @@ module _ (u : ℕ) where
       let e : barrier_tally new ≡ tally u [] = ap barrier_tally gives.3 in
       let w : tally u os ≡ tally u old.waiters = ap (tally u) gives.2 in
       let f : tally u (b ∷ []) ≡ tally u (o ∷ []) = ap (λ q. tally u (q ∷ [])) gives.1 in omega (arith, e, w, f, tally-cons u b os, tally-nil u)
-  barrier-even old (Arrive o) Rested new gives =
-      let e : barrier_tally new ≡ tally u (old.waiters ++ o ∷ []) = ap barrier_tally gives.1 in omega (arith, e, tally-append u old.waiters (o ∷ []), tally-nil u)
+  barrier-even old (Arrive o) Rested new gives = comes old.waiters new.waiters o (ap barrier_tally gives.1)
   barrier-even old act answer new gives = absurd gives
 
   -- Reader-writer locks.
@@ -309,34 +307,26 @@ module _ (u : ℕ) where
   abbrev rwlock_tally : RwLockValue → ℕ
   rwlock_tally l = tally u l.waiters
 
-  -- a unit comes straight back, and the waiters stay
-  goes-on : (old new : RwLockValue) (o b : Owned) → b ≡ o → rwlock_tally new ≡ rwlock_tally old → Even u (o ∷ []) old.waiters (b ∷ []) new.waiters
-  goes-on old new o b is e = let f : tally u (b ∷ []) ≡ tally u (o ∷ []) = ap (λ q. tally u (q ∷ [])) is in omega (arith, e, f)
-
-  -- a unit comes to wait
-  comes : (old new : RwLockValue) (o : Owned) → rwlock_tally new ≡ tally u (old.waiters ++ o ∷ []) → Even u (o ∷ []) old.waiters [] new.waiters
-  comes old new o e = omega (arith, e, tally-append u old.waiters (o ∷ []), tally-nil u)
-
   rwlock-even : (old : RwLockValue) (act : Act) (answer : Answer) (new : RwLockValue) → RwLockGives old act answer new
       → Even u (contents_asked act).units old.waiters (contents_answered answer).units new.waiters
-  rwlock-even old (ReadLock o) (Given b) new gives = goes-on old new o b gives.3 (ap rwlock_tally gives.4)
-  rwlock-even old (ReadLock o) Rested new gives = comes old new o (ap rwlock_tally gives.2)
-  rwlock-even old (ReadLock o) (Back b code.RwHeld) new gives = goes-on old new o b gives.1 (ap rwlock_tally gives.2)
-  rwlock-even old (ReadLock o) (Back b code.RwFull) new gives = goes-on old new o b gives.2 (ap rwlock_tally gives.3)
-  rwlock-even old (WriteLock o) (Given b) new gives = goes-on old new o b gives.2 (ap rwlock_tally gives.3)
-  rwlock-even old (WriteLock o) Rested new gives = comes old new o (ap rwlock_tally gives.2)
-  rwlock-even old (WriteLock o) (Back b code.RwHeld) new gives = goes-on old new o b gives.1 (ap rwlock_tally gives.2)
+  rwlock-even old (ReadLock o) (Given b) new gives = comes-back old.waiters new.waiters o b (ap number_of gives.3) (ap rwlock_tally gives.4)
+  rwlock-even old (ReadLock o) Rested new gives = comes old.waiters new.waiters o (ap rwlock_tally gives.2)
+  rwlock-even old (ReadLock o) (Back b code.RwHeld) new gives = comes-back old.waiters new.waiters o b (ap number_of gives.1) (ap rwlock_tally gives.2)
+  rwlock-even old (ReadLock o) (Back b code.RwFull) new gives = comes-back old.waiters new.waiters o b (ap number_of gives.2) (ap rwlock_tally gives.3)
+  rwlock-even old (WriteLock o) (Given b) new gives = comes-back old.waiters new.waiters o b (ap number_of gives.2) (ap rwlock_tally gives.3)
+  rwlock-even old (WriteLock o) Rested new gives = comes old.waiters new.waiters o (ap rwlock_tally gives.2)
+  rwlock-even old (WriteLock o) (Back b code.RwHeld) new gives = comes-back old.waiters new.waiters o b (ap number_of gives.1) (ap rwlock_tally gives.2)
   rwlock-even old (RwUnlock v) (Woke os) new gives =
       let left : RwLockValue = left_by v old in
       let e : rwlock_tally new ≡ tally u (passed_on left).waiters = ap rwlock_tally gives.2 in
       let w : tally u os ≡ tally u (woken left) = ap (tally u) gives.1 in
       let h : tally u (woken left ++ (passed_on left).waiters) ≡ tally u old.waiters = ap (tally u) (woken-prefix left) in
       omega (arith, e, w, h, tally-append u (woken left) (passed_on left).waiters, tally-nil u)
-  rwlock-even old (RwUnlock v) (Coded code.NotHolder) new gives = let e : rwlock_tally new ≡ rwlock_tally old = ap rwlock_tally gives.1 in omega (arith, e)
-  rwlock-even old (Load v) (Number n) new gives = let e : rwlock_tally new ≡ rwlock_tally old = ap rwlock_tally gives.2 in omega (arith, e)
-  rwlock-even old (Load v) (Coded code.NotHolder) new gives = let e : rwlock_tally new ≡ rwlock_tally old = ap rwlock_tally gives.1 in omega (arith, e)
-  rwlock-even old (Store v n) (Coded code.Ok) new gives = let e : rwlock_tally new ≡ rwlock_tally old = ap rwlock_tally gives.1 in omega (arith, e)
-  rwlock-even old (Store v n) (Coded code.NotHolder) new gives = let e : rwlock_tally new ≡ rwlock_tally old = ap rwlock_tally gives.1 in omega (arith, e)
+  rwlock-even old (RwUnlock v) (Coded code.NotHolder) new gives = stays old.waiters new.waiters (ap rwlock_tally gives.1)
+  rwlock-even old (Load v) (Number n) new gives = stays old.waiters new.waiters (ap rwlock_tally gives.2)
+  rwlock-even old (Load v) (Coded code.NotHolder) new gives = stays old.waiters new.waiters (ap rwlock_tally gives.1)
+  rwlock-even old (Store v n) (Coded code.Ok) new gives = stays old.waiters new.waiters (ap rwlock_tally gives.1)
+  rwlock-even old (Store v n) (Coded code.NotHolder) new gives = stays old.waiters new.waiters (ap rwlock_tally gives.1)
   rwlock-even old act answer new gives = absurd gives
 
 -- Objects of all kinds.

@@ -14,10 +14,10 @@ use Rattle.abt_machine.specs.Rounds.{OrdersStored}
 use Rattle.abt_machine.specs.Valid.{IsValid}
 use Rattle.abt_bounds.specs.Laws.{NamesDeclared}
 use Rattle.abt_bounds.proofs.Naming.{runs-name-declared}
-use Rattle.abt_machine.specs.Runs.{Run, RunFrom, last_state, state_after}
+use Rattle.abt_machine.specs.Runs.{Run, RunFrom, last_state}
 use Rattle.abt_machine.specs.Start.{start}
 use Rattle.abt_machine.specs.State.{State}
-use Rattle.abt_laws.proofs.RunParts.{run-front, run-rest, state_after-append}
+use Rattle.abt_laws.proofs.RunParts.{run-front, run-push, run-rest, state_after-append}
 use Rattle.abt_check.specs.Clocks.{ClocksValue, Stamps}
 use Rattle.abt_check.specs.Judges.{HasJudged, JudgeValue, Judges}
 use Rattle.abt_check.specs.Replays.{IsAfter, IsDone, ReplayValue, StandsFor}
@@ -27,13 +27,9 @@ use Rattle.abt_check.specs.declared.verdict.Verdict.TheVariants as verdict
 use Rattle.abt_check.proofs.Stamping.{stamped-front}
 
 module _ (W : Parts) (Z : List OrderShape) where
-  run-push : (S : State) (J : List Event) (e : Event) → RunFrom W Z S J → e.stream.0 < W.streams → May W Z (state_after W S J) e.stream.0 e.what → RunFrom W Z S (J ++ e ∷ [])
-  run-push S [] e run l may = (l, may, tt)
-  run-push S (f ∷ J) e run l may = (run.0, run.1, run-push (after W S f.stream.0 f.what) J e run.2 l may)
-
   -- an event that may come
   pub run-more : (J : List Event) (e : Event) → Run W Z J → e.stream.0 < W.streams → May W Z (last_state W J) e.stream.0 e.what → Run W Z (J ++ e ∷ [])
-  run-more J e run l may = run-push (start W) J e run l may
+  run-more J e run l may = run-push W Z (start W) J e run l may
 
   -- the last event of a run was one that may come
   pub run-last : (J : List Event) (e : Event) → Run W Z (J ++ e ∷ []) → (e.stream.0 < W.streams) × May W Z (last_state W J) e.stream.0 e.what

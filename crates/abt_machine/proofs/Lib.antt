@@ -1,4 +1,5 @@
 pub mod Checked
+pub mod Classes
 pub mod Decimals
 pub mod Declared
 pub mod Distinct
