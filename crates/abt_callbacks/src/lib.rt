@@ -19,4 +19,4 @@ pub use fold::{Fold, FoldFunction, FoldShape, PlainSum, StoredFold};
 pub use folding::fold_on_threads;
 pub use future::CalledFuture;
 pub use program::abtfold;
-pub use ring::KeyRing;
+pub use ring::{KeyRing, RING_LIMIT};

@@ -1,6 +1,7 @@
 //! Setting the keys of a ring, and ending it.
 
 ghost use Rattle.std.specs.Prelude.{◌≡◌, ◌<◌, ◌≤◌, IfOk, [], Some, None, length, replicate, slice_set, vec_capacity};
+ghost use Rattle.abt_callbacks.specs.declared.ring.TheConstants.{RING_LIMIT};
 ghost use Rattle.abt_callbacks.specs.Ending.{AnswersAgree};
 ghost use Rattle.abt_callbacks.specs.Rings.{answers_of, same_of, sames_of, values_of};
 
@@ -12,7 +13,7 @@ use std::alloc::Global;
 impl KeyRing {
     /// A ring with a key for each function, none of which is set. Room for the answers is taken here: no other call takes memory.
     pub fn new(alloc: Global, ends: Vec<StoredEnd>) -> Result<KeyRing, Want>
-        requires { (1 ≤ length ends.items) × (length ends.items ≤ 16) }
+        requires { (1 ≤ length ends.items) × (length ends.items ≤ RING_LIMIT) }
         ensures keys { IfOk result (λ ring. sames_of ring ≡ same_of ends.items) }
         ensures values { IfOk result (λ ring. values_of ring ≡ replicate (length ends.items) None) }
         ensures answers { IfOk result (λ ring. answers_of ring ≡ []) }

@@ -4,18 +4,38 @@ ghost use Rattle.std.specs.Prelude.{◌<◌, ◌≡◌, ◌↔◌, IfOk, IsTrue,
 ghost use Rattle.abt_machine.specs.Operations.{IsDeclared};
 ghost use Rattle.abt_machine.specs.Workloads.{access_of, start_of};
 ghost use Rattle.abt_flow.specs.Checks.{IsPlainAt, IsPlainOp, IsPlainUnit};
-ghost use Rattle.abt_flow.specs.Confluent.{Confluent, IsOpen, IsSettled};
-ghost use Rattle.abt_flow.specs.Effects.{effect};
+ghost use Rattle.abt_flow.specs.Confluent.{Confluent, IsOpen};
 
 use crate::naming::{Naming, names_once, ops_count};
 use abt_machine::{Access, Op, PoolNo, UnitNo, Want, Workload};
 use std::alloc::Global;
 
-// Whether what an operation does doesn't depend on the schedule.
-fn is_settled(op: Op) -> bool
-    ensures { IsTrue result ↔ IsSettled (effect op) }
+// Whether every stream may put into a pool.
+fn is_open(w: &Workload, p: PoolNo) -> bool
+    requires { p.0 < length w.now.pools }
+    ensures { IsTrue result ↔ IsOpen (access_of w.now p.0) }
+{
+    match w.pool(p).access {
+        Access::Mpsc(_) | Access::Mpmc => true,
+        Access::Priv(_) | Access::Spsc(_, _) | Access::Spmc(_) => false,
+    }
+}
+
+// Whether a unit has a start.
+pub(crate) fn has_start(w: &Workload, u: UnitNo) -> bool
+    requires { u.0 < length w.now.units }
+    ensures { MatchBool result ((p : ℕ) × (start_of w.now u.0 ≡ Some p)) (start_of w.now u.0 ≡ None) }
+{
+    w.unit(u).start.is_some()
+}
+
+// Whether an operation doesn't depend on the schedule and, if it creates a unit, does so in an open pool and alone.
+fn is_plain(w: &Workload, op: Op) -> bool
+    requires { IsDeclared w.now op }
+    ensures { IsTrue result ↔ IsPlainOp w.now op }
 {
     match op {
+        Op::Create(v, p) => !has_start(w, v) && is_open(w, p),
         Op::Set(_)
         | Op::Add(_)
         | Op::Say(_)
@@ -23,7 +43,6 @@ fn is_settled(op: Op) -> bool
         | Op::KeySet(_)
         | Op::KeyGet(_)
         | Op::Yield
-        | Op::Create(_, _)
         | Op::Join(_)
         | Op::EvWait(_)
         | Op::EvSet(_)
@@ -56,36 +75,6 @@ fn is_settled(op: Op) -> bool
         | Op::RwUnlock(_)
         | Op::RwLoad(_)
         | Op::RwStore(_) => false,
-    }
-}
-
-// Whether every stream may put into a pool.
-fn is_open(w: &Workload, p: PoolNo) -> bool
-    requires { p.0 < length w.now.pools }
-    ensures { IsTrue result ↔ IsOpen (access_of w.now p.0) }
-{
-    match w.pool(p).access {
-        Access::Mpsc(_) | Access::Mpmc => true,
-        Access::Priv(_) | Access::Spsc(_, _) | Access::Spmc(_) => false,
-    }
-}
-
-// Whether a unit has a start.
-pub(crate) fn has_start(w: &Workload, u: UnitNo) -> bool
-    requires { u.0 < length w.now.units }
-    ensures { MatchBool result ((p : ℕ) × (start_of w.now u.0 ≡ Some p)) (start_of w.now u.0 ≡ None) }
-{
-    w.unit(u).start.is_some()
-}
-
-// Whether an operation doesn't depend on the schedule and, if it creates a unit, does so in an open pool and alone.
-fn is_plain(w: &Workload, op: Op) -> bool
-    requires { IsDeclared w.now op }
-    ensures { IsTrue result ↔ IsPlainOp w.now op }
-{
-    match op {
-        Op::Create(v, p) => !has_start(w, v) && is_open(w, p),
-        _ => is_settled(op),
     }
 }
 

@@ -61,7 +61,40 @@ impl Progress {
             Op::Print => self.output.push(Piece::Number(self.acc))?,
             Op::KeySet(k) => self.keys[k as usize] = self.acc,
             Op::KeyGet(k) => self.acc = self.keys[k as usize],
-            _ => {}
+            Op::Yield
+            | Op::YieldTo(_, _)
+            | Op::Suspend
+            | Op::Exit
+            | Op::Resume(_)
+            | Op::Create(_, _)
+            | Op::Join(_)
+            | Op::Cancel(_)
+            | Op::Migrate(_, _)
+            | Op::MigrateTo(_, _)
+            | Op::Migratable(_, _)
+            | Op::Revive(_, _)
+            | Op::Lock(_)
+            | Op::TryLock(_)
+            | Op::Unlock(_)
+            | Op::Load(_)
+            | Op::Store(_)
+            | Op::CondWait(_)
+            | Op::Signal(_)
+            | Op::Broadcast(_)
+            | Op::EvWait(_)
+            | Op::EvSet(_)
+            | Op::EvReset(_)
+            | Op::EvTest(_)
+            | Op::FuWait(_)
+            | Op::FuSet(_)
+            | Op::FuReset(_)
+            | Op::FuTest(_)
+            | Op::BarWait(_)
+            | Op::ReadLock(_)
+            | Op::WriteLock(_)
+            | Op::RwUnlock(_)
+            | Op::RwLoad(_)
+            | Op::RwStore(_) => {}
         }
         Ok(())
     }

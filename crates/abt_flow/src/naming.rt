@@ -21,7 +21,48 @@ impl Naming {
         match (self, op) {
             (Naming::Sets, Op::EvSet(x)) => Some(x.0),
             (Naming::Creates, Op::Create(v, _)) => Some(v.0),
-            _ => None,
+            (Naming::Sets, Op::Create(_, _)) | (Naming::Creates, Op::EvSet(_)) => None,
+            (
+                _,
+                Op::Set(_)
+                | Op::Add(_)
+                | Op::Say(_)
+                | Op::Print
+                | Op::KeySet(_)
+                | Op::KeyGet(_)
+                | Op::Yield
+                | Op::YieldTo(_, _)
+                | Op::Suspend
+                | Op::Exit
+                | Op::Resume(_)
+                | Op::Join(_)
+                | Op::Cancel(_)
+                | Op::Migrate(_, _)
+                | Op::MigrateTo(_, _)
+                | Op::Migratable(_, _)
+                | Op::Revive(_, _)
+                | Op::Lock(_)
+                | Op::TryLock(_)
+                | Op::Unlock(_)
+                | Op::Load(_)
+                | Op::Store(_)
+                | Op::CondWait(_)
+                | Op::Signal(_)
+                | Op::Broadcast(_)
+                | Op::EvWait(_)
+                | Op::EvReset(_)
+                | Op::EvTest(_)
+                | Op::FuWait(_)
+                | Op::FuSet(_)
+                | Op::FuReset(_)
+                | Op::FuTest(_)
+                | Op::BarWait(_)
+                | Op::ReadLock(_)
+                | Op::WriteLock(_)
+                | Op::RwUnlock(_)
+                | Op::RwLoad(_)
+                | Op::RwStore(_),
+            ) => None,
         }
     }
 

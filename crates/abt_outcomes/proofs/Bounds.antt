@@ -6,8 +6,10 @@ use Rattle.std.proofs.lemmas.List.Sums.{sum_by-cons}
 use Rattle.abt_machine.specs.declared.events.Place.{Place}
 use Rattle.abt_machine.specs.declared.events.Place.TheVariants as place
 use Rattle.abt_machine.specs.declared.events.Spot.TheVariants as spot
+use Rattle.abt_machine.specs.declared.grammar.Format.TheVariants as format
 use Rattle.abt_machine.specs.declared.operations.OrderShape.{OrderShape}
 use Rattle.abt_machine.specs.declared.workload.Parts.{Parts}
+use Rattle.abt_machine.specs.Limits.{unit_limit}
 use Rattle.abt_machine.specs.Numbers.{stream_no}
 use Rattle.abt_machine.specs.State.{State, Frame, Mark, Plain, Asked, Left, Exited}
 use Rattle.abt_machine.specs.Sound.{Sound}
@@ -137,6 +139,6 @@ open_frames-most W Z S sound =
 
 pub numbers-are-bounded : (W : Parts) (Z : List OrderShape) → NumbersAreBounded W Z
 numbers-are-bounded W Z valid S sound =
-    let few : length W.units ≤ 4096 = valid.few_units in
+    let few : length W.units ≤ unit_limit format.Two = valid.few_units in
     let a : state_weight W S ≤ length W.units * 9 = weight-most W S in
     let b : open_frames W S ≤ length W.units = open_frames-most W Z S sound in (omega arith, omega arith)

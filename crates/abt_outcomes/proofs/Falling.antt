@@ -1,8 +1,9 @@
 -- Rotations lower the work that is left.
-use Rattle.std.proofs.Common.{◌≡◌, ℕ, ◌<◌, ◌≤◌, ◌+◌, ◌-◌, ◌*◌, ◌==◌, ◌&&◌, cond, Bool, true, false, List, [], ◌∷◌, ◌++◌, refl, ap, sym, ◌∙◌, subst, ◌⊎◌, arith, inl, inr}
+use Rattle.std.proofs.Common.{◌≡◌, ℕ, ◌<◌, ◌≤◌, ◌+◌, ◌-◌, ◌==◌, ◌&&◌, cond, Bool, true, false, List, [], ◌∷◌, ◌++◌, refl, ap, sym, ◌∙◌, subst, ◌⊎◌, arith, inl, inr}
 use Rattle.std.proofs.lemmas.Bool.{eq-eqb}
 use Rattle.std.proofs.lemmas.List.Sums.{sum_by-append, sum_by-cons}
 use Rattle.abt_machine.specs.declared.events.Event.{Event}
+use Rattle.abt_machine.specs.declared.grammar.Format.TheVariants as format
 use Rattle.abt_machine.specs.declared.operations.OrderShape.{OrderShape}
 use Rattle.abt_machine.specs.declared.workload.Parts.{Parts}
 use Rattle.abt_machine.specs.Valid.{IsValid}
@@ -10,6 +11,7 @@ use Rattle.abt_machine.specs.Rounds.{OrdersStored}
 use Rattle.abt_machine.specs.State.{State}
 use Rattle.abt_machine.specs.Start.{start}
 use Rattle.abt_machine.specs.Events.{after}
+use Rattle.abt_machine.specs.Limits.{unit_limit}
 use Rattle.abt_machine.specs.Runs.{Run, RunFrom, last_state, state_after}
 use Rattle.abt_machine.specs.Sound.{Sound}
 use Rattle.abt_machine.specs.Outcomes.{Quiet, is_step, steps_of}
@@ -18,7 +20,7 @@ use Rattle.abt_laws.proofs.RunParts.{last_state-sound, run-front, run-rest, stat
 use Rattle.abt_laws.proofs.SoundRuns.{runs-are-sound}
 use Rattle.abt_laws.proofs.Sums.{sum_up-falls, sum_up-same}
 use Rattle.abt_outcomes.specs.Laws.{OthersRaiseNone, RotationsFall, StepsFall}
-use Rattle.abt_outcomes.specs.Rotations.{HasNoStep, IsWithin, work_left}
+use Rattle.abt_outcomes.specs.Rotations.{HasNoStep, IsWithin, weight_limit, work_left, work_of}
 use Rattle.abt_outcomes.proofs.Bounds.{numbers-are-bounded}
 use Rattle.abt_outcomes.proofs.Lowering.{misses-open-none, misses-or-lower, rotations-lower}
 
@@ -89,13 +91,13 @@ goes W Z J es valid stored run =
 
 -- the work that is left, by the state after the last event
 abbrev work_at : Parts → ℕ → List Event → State → ℕ
-work_at W n J S = (steps_left W n J * 36865 + state_weight W S) * 4097 + open_frames W S
+work_at W n J S = work_of (steps_left W n J) (state_weight W S) (open_frames W S)
 
 pub steps-fall : (W : Parts) (Z : List OrderShape) → StepsFall W Z
 steps-fall W Z valid stored n J es run within =
     let way : Goes W Z J es = goes W Z J es valid stored run in
     let T : State = state_after W (last_state W J) es in
-    let bounds : (state_weight W T ≤ 36864) × (open_frames W T ≤ 4096) = numbers-are-bounded W Z valid T way.later in
+    let bounds : (state_weight W T ≤ weight_limit) × (open_frames W T ≤ unit_limit format.Two) = numbers-are-bounded W Z valid T way.later in
     elim (some-step W Z (last_state W J) es way.run) [
       | inl none ↦ inl none
       | inr some ↦ inr (subst (λ U. work_at W n (J ++ es) U < work_left W n J) (sym way.last)
@@ -107,7 +109,7 @@ others-raise-none W Z valid stored n J es run still =
     let way : Goes W Z J es = goes W Z J es valid stored run in
     let S : State = last_state W J in
     let T : State = state_after W S es in
-    let bounds : (state_weight W T ≤ 36864) × (open_frames W T ≤ 4096) = numbers-are-bounded W Z valid T way.later in
+    let bounds : (state_weight W T ≤ weight_limit) × (open_frames W T ≤ unit_limit format.Two) = numbers-are-bounded W Z valid T way.later in
     let same : steps_left W n (J ++ es) ≡ steps_left W n J = steps-same W n J es still in
     subst (λ U. work_at W n (J ++ es) U ≤ work_left W n J) (sym way.last)
     (elim (misses-or-lower W Z S es valid stored way.before way.run still) [
@@ -122,7 +124,7 @@ rotations-fall W Z valid stored n J es run within turns =
     let way : Goes W Z J es = goes W Z J es valid stored run in
     let S : State = last_state W J in
     let T : State = state_after W S es in
-    let bounds : (state_weight W T ≤ 36864) × (open_frames W T ≤ 4096) = numbers-are-bounded W Z valid T way.later in
+    let bounds : (state_weight W T ≤ weight_limit) × (open_frames W T ≤ unit_limit format.Two) = numbers-are-bounded W Z valid T way.later in
     elim (steps-fall W Z valid stored n J es run within) [
       | inr less ↦ inr less
       | inl none ↦

@@ -6,8 +6,10 @@ use Rattle.std.proofs.lemmas.List.Sorted.{length_permutation}
 use Rattle.abt_machine.specs.declared.events.Event.{Event}
 use Rattle.abt_machine.specs.declared.events.What.{What}
 use Rattle.abt_machine.specs.declared.events.What.TheVariants as what
+use Rattle.abt_machine.specs.declared.grammar.Format.TheVariants as format
 use Rattle.abt_machine.specs.declared.operations.OrderShape.{OrderShape}
 use Rattle.abt_machine.specs.declared.workload.Parts.{Parts}
+use Rattle.abt_machine.specs.Limits.{listed_limit, unit_limit}
 use Rattle.abt_machine.specs.Valid.{IsValid}
 use Rattle.abt_machine.specs.Workloads.{pools_of}
 use Rattle.abt_machine.specs.Rounds.{IsNextPool, OrdersStored}
@@ -49,10 +51,10 @@ missed-unseen W f p more =
     (λ _ e. cc)
     (λ _ e. (let seen : length (f.seen ++ p ∷ []) ≡ length f.seen + 1 = length-append f.seen (p ∷ []) in omega arith))
 
--- a round has at most 8 pools to see
-unseen-most : (W : Parts) (Z : List OrderShape) (S : State) (s : ℕ) → IsValid W → s < W.streams → Sound W Z S → unseen W S s ≤ 8
+-- a round has few pools to see
+unseen-most : (W : Parts) (Z : List OrderShape) (S : State) (s : ℕ) → IsValid W → s < W.streams → Sound W Z S → unseen W S s ≤ listed_limit
 unseen-most W Z S s valid declared sound =
-    let few : length (pools_of W (S.stream s).top.sched) ≤ 8 = few-listed W (S.stream s).top.sched valid in omega arith
+    let few : length (pools_of W (S.stream s).top.sched) ≤ listed_limit = few-listed W (S.stream s).top.sched valid in omega arith
 
 miss-falls : (W : Parts) (Z : List OrderShape) (S : State) (s : ℕ) (w : What) → May W Z S s w → IsMiss w → ((after W S s w).stream s).top.empty ≡ false → turns_left W (after W S s w) s < turns_left W S s
 miss-falls W Z S s (what.Miss p) may miss goes-on =
@@ -74,8 +76,8 @@ turn-falls W Z S e valid stored sound step still goes-on =
       | inr other ↦
           let later : Sound W Z T = events-keep-sound W Z valid stored S T e sound step in
           let lower : state_weight W T < state_weight W S = other-lowers W Z S e.stream.0 e.what sound step.1 still other in
-          let frames : open_frames W T ≤ 4096 = (numbers-are-bounded W Z valid T later).1 in
-          let pools : unseen W T e.stream.0 ≤ 8 = unseen-most W Z T e.stream.0 valid step.0 later in omega arith
+          let frames : open_frames W T ≤ unit_limit format.Two = (numbers-are-bounded W Z valid T later).1 in
+          let pools : unseen W T e.stream.0 ≤ listed_limit = unseen-most W Z T e.stream.0 valid step.0 later in omega arith
     ]
 
 pub turns-fall : (W : Parts) (Z : List OrderShape) → TurnsFall W Z

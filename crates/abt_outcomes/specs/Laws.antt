@@ -1,5 +1,5 @@
 -- The laws of how runs end. W is a workload and Z the list of the shapes of the stored orders; a law that needs it supposes that W is valid and that each user scheduler's order is stored.
-use Rattle.std.specs.Prelude.{ℕ, ◌≡◌, ◌*◌, ◌<◌, ◌≤◌, ◌↔◌, ◌⊎◌, true, false, List, [], ◌∷◌, ◌++◌, length}
+use Rattle.std.specs.Prelude.{ℕ, ◌≡◌, ◌<◌, ◌≤◌, ◌↔◌, ◌⊎◌, true, false, List, [], ◌∷◌, ◌++◌, length}
 use Rattle.abt_machine.specs.declared.events.Event.{Event}
 use Rattle.abt_machine.specs.declared.events.Outcome.{Outcome}
 use Rattle.abt_machine.specs.declared.events.Site.{Site}
@@ -23,7 +23,7 @@ use Rattle.abt_laws.specs.Measure.{open_frames, state_weight}
 use Rattle.abt_outcomes.specs.Values.{HaveMade, StandFor, LooksQuiet, LooksEnded, LooksSpent, LooksAs}
 use Rattle.abt_bounds.specs.Laws.{HasNoFreeOrder}
 use Rattle.abt_outcomes.specs.OneStream.{CountedFrom, EndsRound, GoesToItsStop, HasEndedEmpty, HasNotStopped, IsOnlyRun, HasStopped}
-use Rattle.abt_outcomes.specs.Rotations.{HasEmptied, HasNoStacked, HasNoStep, IsRotation, IsWithin, MissesAll, QuietOrLess, turns_left, work_left}
+use Rattle.abt_outcomes.specs.Rotations.{HasEmptied, HasNoStacked, HasNoStep, IsRotation, IsWithin, MissesAll, QuietOrLess, turns_left, weight_limit, work_left}
 use Rattle.abt_outcomes.specs.Measured.{frames_seen, turns_seen, weight_seen, work_seen}
 
 -- Orders.
@@ -113,7 +113,7 @@ EmptiedGrows W = (s : ℕ) (S : State) (es fs : List Event) → (HasEmptied W s 
 
 -- in a sound state the units' weight and the number of open frames have bounds
 abbrev pub NumbersAreBounded : Parts → List OrderShape → Type 0
-NumbersAreBounded W Z = IsValid W → (S : State) → Sound W Z S → (state_weight W S ≤ unit_limit format.Two * 9) × (open_frames W S ≤ unit_limit format.Two)
+NumbersAreBounded W Z = IsValid W → (S : State) → Sound W Z S → (state_weight W S ≤ weight_limit) × (open_frames W S ≤ unit_limit format.Two)
 
 -- where no stream makes more than n steps, events among which there is a step lower the work that is left
 abbrev pub StepsFall : Parts → List OrderShape → Type 0

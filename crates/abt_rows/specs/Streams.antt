@@ -46,7 +46,7 @@ foreign_yieldto_report =
     codes "unit 0 done: !pool-access on\nunit 1 done: one\n" ++
     codes "tally units 2 unborn 0 pool 0 stream 0 blocked 0 done 2 asked 0 access 0 steps 3\nfinished\n"
 
--- Each operation that names a pool is refused for want of access before it looks at the unit.
+-- Each operation that names a pool is refused for lack of access before it looks at the unit.
 
 abbrev pub foreign_pools_text : Text
 foreign_pools_text =

@@ -18,7 +18,7 @@ pub fn foreign_yieldto()
     ensures { IsReported orders 10000 foreign_yieldto_text foreign_yieldto_report }
 {}
 
-/// Each operation that names a pool is refused for want of access before it looks at the unit.
+/// Each operation that names a pool is refused for lack of access before it looks at the unit.
 pub fn foreign_pools()
     ensures { IsReported orders 10000 foreign_pools_text foreign_pools_report }
 {}
