@@ -1,31 +1,14 @@
 -- Lists by number.
-use Rattle.std.proofs.Common.{◌≡◌, ◌≢◌, ◌∙◌, ℕ, ◌+◌, ◌<◌, List, [], ◌∷◌, ◌++◌, Some, ap, arith, get_or, get_or-set_same, inl, inr, length, refl, slice_set, sym}
+use Rattle.std.proofs.Common.{◌≡◌, ◌≢◌, ◌∙◌, ℕ, ◌+◌, ◌<◌, List, [], ◌∷◌, ◌++◌, Result, Ok, Some, ap, arith, get_or, get_or-set_same, inl, inr, length, refl, slice_set, subst, sym}
 use Rattle.std.proofs.lemmas.Bool.{cases_lt}
 use Rattle.std.proofs.lemmas.List.{get_or-set_other, get_or_append_left, get_or_push, length-set, length_push}
 use Rattle.std.proofs.lemmas.Option.{get_or_from_slice_get, slice_get-get_or}
-use Rattle.abt_check.specs.Lists.{AreNumbered}
+use Rattle.abt_check.specs.Lists.{AreMade, AreNumbered}
 
 module _ {A : Type 0} (item : ℕ → A) where
-  pub numbered_none : AreNumbered 0 item []
-  numbered_none = record { many = refl; own = λ k l. absurd (omega arith) }
-
   -- what stands at a number
   pub numbered_at : (n k : ℕ) (xs : List A) (d : A) → AreNumbered n item xs → k < n → get_or xs k d ≡ item k
   numbered_at n k xs d h l = get_or_from_slice_get xs k (item k) d (h.own k l)
-
-  -- one item more
-  pub numbered_push : (n : ℕ) (xs ys : List A) (x : A) → ys ≡ xs ++ x ∷ [] → AreNumbered n item xs → x ≡ item n → AreNumbered (n + 1) item ys
-  numbered_push n xs ys x e h is =
-      let more : length (xs ++ x ∷ []) ≡ length xs + 1 = length_push xs x in
-      let many : length xs ≡ n = h.many in
-      rw e (record {
-        many = omega arith;
-        own = λ k l.
-            slice_get-get_or (xs ++ x ∷ []) k x (omega arith) ∙ ap (λ y. Some y) (elim (cases_lt k n) [
-              | inl below ↦ get_or_append_left xs (x ∷ []) x k (omega arith) ∙ numbered_at n k xs x h below
-              | inr above ↦ (let there : n ≡ k = omega arith in get_or_push xs x x k (many ∙ there) ∙ (is ∙ ap item there))
-            ]);
-      })
 
   -- another item in its place
   pub numbered_set : (n s : ℕ) (xs : List A) (x : A) (other : ℕ → A) → AreNumbered n item xs → s < n → x ≡ other s → ((k : ℕ) → k ≢ s → other k ≡ item k) → AreNumbered n other (slice_set xs s x)
@@ -46,3 +29,31 @@ module _ {A : Type 0} (item : ℕ → A) where
               ]
             ]);
       }
+
+module _ {A E : Type 0} (makes : ℕ → Result A E → Type 0) where
+  pub made_none : AreMade makes 0 []
+  made_none = record { many = refl; own = λ k l. absurd (omega arith) }
+
+  -- one item more
+  pub made_push : (n : ℕ) (xs ys : List A) (x : A) → ys ≡ xs ++ x ∷ [] → AreMade makes n xs → makes n (Ok x) → AreMade makes (n + 1) ys
+  made_push n xs ys x e h is =
+      let more : length (xs ++ x ∷ []) ≡ length xs + 1 = length_push xs x in
+      let many : length xs ≡ n = h.many in
+      rw e (record {
+        many = omega arith;
+        own = λ k l. elim (cases_lt k n) [
+          | inl below ↦
+              let old = h.own k below in
+              (old.0, slice_get-get_or (xs ++ x ∷ []) k x (omega arith) ∙ ap (λ y. Some y) (get_or_append_left xs (x ∷ []) x k (omega arith) ∙ get_or_from_slice_get xs k old.0 x old.1), old.2)
+          | inr above ↦
+              let there : n ≡ k = omega arith in
+              (x, slice_get-get_or (xs ++ x ∷ []) k x (omega arith) ∙ ap (λ y. Some y) (get_or_push xs x x k (many ∙ there)), subst (λ j. makes j (Ok x)) there is)
+        ];
+      })
+
+  -- items that can only be made so
+  pub made_numbered : (item : ℕ → A) (m n : ℕ) (xs : List A) → m ≡ n → ((k : ℕ) (x : A) → makes k (Ok x) → x ≡ item k) → AreMade makes m xs → AreNumbered n item xs
+  made_numbered item m n xs e so h = record {
+    many = h.many ∙ e;
+    own = λ k l. (let it = h.own k (subst (λ c. k < c) (sym e) l) in it.1 ∙ ap (λ y. Some y) (so k it.0 it.2));
+  }

@@ -1,8 +1,8 @@
 //! Streams and objects at the start of a run.
 
-ghost use Rattle.std.specs.Prelude.{◌≡◌, ◌<◌, IfOk, length};
+ghost use Rattle.std.specs.Prelude.{ℕ, ◌≡◌, ◌<◌, IfOk, length};
 ghost use Rattle.abt_calls.specs.Starts.{start_desk, start_part, start_phase, start_pool};
-ghost use Rattle.abt_check.specs.Lists.{AreNumbered};
+ghost use Rattle.abt_check.specs.Lists.{AreMade, AreNumbered};
 ghost use Rattle.abt_check.specs.Starts.{AreObjectsAtStart, slot_at};
 ghost use Rattle.abt_machine.specs.Fronts.{is_some_of};
 ghost use Rattle.abt_machine.specs.Start.{start};
@@ -22,34 +22,33 @@ use std::collections::VecDeque;
 pub(crate) fn lanes(alloc: Global, w: &Workload) -> Result<Vec<Lane>, Want>
     ensures { IfOk result (λ lanes. AreNumbered w.now.streams (start_part w.now) lanes.items) }
 {
-    let count = w.streams();
-    let mut lanes = Vec::with_capacity(alloc, count as usize)?;
-    for s in 0..count {
-        lanes.push(Lane::new(alloc, w, StreamNo(s)))?;
-    }
-    Ok(lanes)
+    numbered(alloc, w.streams(), |s| Ok(Lane::new(alloc, w, StreamNo(s))))
 }
 
 /// All objects. Out of memory is the only error.
 pub(crate) fn objects(alloc: Global, w: &Workload) -> Result<Objects, Want>
     ensures { IfOk result (AreObjectsAtStart w.now) }
 {
-    let pools = pools(alloc, w)?;
-    let desks = desks(alloc, w)?;
-    let slots = slots(alloc, w)?;
+    let pools = numbered(alloc, w.pools(), |p| pool(alloc, w, PoolNo(p)))?;
+    let desks = numbered(alloc, w.units(), |u| desk(alloc, w, UnitNo(u)))?;
+    let slots = numbered(alloc, w.objects(), |x| slot(alloc, w, ObjectNo(x)))?;
     Ok(Objects::new(pools, desks, slots))
 }
 
-// All pools.
-fn pools(alloc: Global, w: &Workload) -> Result<Vec<Pool>, Want>
-    ensures { IfOk result (λ pools. AreNumbered (length w.now.pools) (start_pool w.now) pools.items) }
+// What is made of each number below `count`, in order. Out of memory is the only error.
+fn numbered<T: Drop, F: Fn(u32) -> Result<T, Want>>(
+    alloc: Global,
+    count: u32,
+    make: F,
+) -> Result<Vec<T>, Want>
+    requires { (k : ℕ) → k < count → F.pre make k }
+    ensures { IfOk result (λ items. AreMade (F.post make) count items.items) }
 {
-    let count = w.pools();
-    let mut pools = Vec::with_capacity(alloc, count as usize)?;
-    for p in 0..count {
-        pools.push(pool(alloc, w, PoolNo(p))?)?;
+    let mut items = Vec::with_capacity(alloc, count as usize)?;
+    for k in 0..count {
+        items.push(make(k)?)?;
     }
-    Ok(pools)
+    Ok(items)
 }
 
 // A pool, with the units that start there in order of number.
@@ -77,18 +76,6 @@ fn starts_in(w: &Workload, p: PoolNo, u: UnitNo) -> bool
     }
 }
 
-// All desks.
-fn desks(alloc: Global, w: &Workload) -> Result<Vec<Desk>, Want>
-    ensures { IfOk result (λ desks. AreNumbered (length w.now.units) (start_desk w.now) desks.items) }
-{
-    let count = w.units();
-    let mut desks = Vec::with_capacity(alloc, count as usize)?;
-    for u in 0..count {
-        desks.push(desk(alloc, w, UnitNo(u))?)?;
-    }
-    Ok(desks)
-}
-
 // The desk of a unit, which has the unit if that starts in no pool.
 fn desk(alloc: Global, w: &Workload, u: UnitNo) -> Result<Desk, Want>
     requires { u.0 < length w.now.units }
@@ -108,18 +95,6 @@ fn phase(alloc: Global, w: &Workload, u: UnitNo) -> Result<Phase, Want>
         Some(_) => Ok(Phase::Out),
         None => Ok(Phase::Unborn(Unit::make(alloc, w, u)?)),
     }
-}
-
-// All declared objects.
-fn slots(alloc: Global, w: &Workload) -> Result<Vec<Slot>, Want>
-    ensures { IfOk result (λ slots. AreNumbered (length w.now.objects) (slot_at w.now) slots.items) }
-{
-    let count = w.objects();
-    let mut slots = Vec::with_capacity(alloc, count as usize)?;
-    for x in 0..count {
-        slots.push(slot(alloc, w, ObjectNo(x))?)?;
-    }
-    Ok(slots)
 }
 
 // A declared object.

@@ -31,12 +31,12 @@ use Rattle.abt_outcomes.proofs.Seen.{quiet-seen, spent-seen}
 use Rattle.abt_stream.specs.Streams.{StreamValue}
 use Rattle.abt_stream.specs.Streams as stream
 use Rattle.abt_stream.specs.Turned.{IsSpent}
-use Rattle.abt_drain.specs.Looks.{EndedWith, HasEmptyPools, IsEmptyAt, IsOutcomeOfRuns, IsQuietAt, IsQuietWith, IsSpentAt, IsStream, held_from, parts_of, steps_from, steps_made}
+use Rattle.abt_drain.specs.Looks.{AreStreams, EndedWith, HasEmptyPools, IsEmptyAt, IsOutcomeOfRuns, IsQuietAt, IsQuietWith, IsSpentAt, IsStream, held_from, parts_of, steps_from, steps_made}
 
 -- One stream.
 
 module _ (W : Parts) (streams : List StreamValue) (many : length streams ≡ W.streams) (s : ℕ) (one : StreamValue) (lt : s < W.streams) (at : one ≡ get_or streams s one) where
-  pub here : slice_get streams s ≡ Some one
+  here : slice_get streams s ≡ Some one
   here = slice_get_read streams W.streams s one (sym many) lt at
 
   part-here : parts_of W streams s ≡ one.held
@@ -52,18 +52,21 @@ module _ (W : Parts) (streams : List StreamValue) (many : length streams ≡ W.s
     λ idle. subst IsIdle (sym part-here) (record { tray = idle.0.0; next = idle.0.1; hand = idle.0.2; frames = idle.1 }),
   )
 
-  module _ (n : ℕ) (is : IsStream W n s one) where
+  module _ (n : ℕ) (are : AreStreams W n streams) where
+    pub is-here : IsStream W n s one
+    is-here = are.own s one here
+
     steps-here : steps_made streams s ≡ steps_in one.log
     steps-here = ap steps_from here
 
     due-here : due_of W s (parts_of W streams s) ≡ due_of W one.number.0 one.held
-    due-here = (let number = is.number in ap (due_of W s) part-here ∙ ap (λ r. due_of W r one.held) (sym number))
+    due-here = (let number = is-here.number in ap (due_of W s) part-here ∙ ap (λ r. due_of W r one.held) (sym number))
 
     -- it is spent
     pub spent-here : IsSpentAt W n streams s ↔ IsSpent W one
     spent-here = (
-      λ spent. (sym due-here ∙ spent.2, (let budget = is.budget in sym steps-here ∙ (spent.1 ∙ sym budget))),
-      λ spent. (lt, (let budget = is.budget in steps-here ∙ (spent.1 ∙ budget)), due-here ∙ spent.0),
+      λ spent. (sym due-here ∙ spent.2, (let budget = is-here.budget in sym steps-here ∙ (spent.1 ∙ sym budget))),
+      λ spent. (lt, (let budget = is-here.budget in steps-here ∙ (spent.1 ∙ budget)), due-here ∙ spent.0),
     )
 
 -- Facts of all numbers below one.

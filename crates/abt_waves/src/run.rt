@@ -42,24 +42,6 @@ pub fn run_streams<'w, R: Threads + Wait + Sync, P: Pace + Sync>(
     if w.streams() == 1 {
         return drain_at_pace(alloc, w, orders, pace, steps);
     }
-    run_waves(alloc, rt, w, orders, pace, steps)
-}
-
-// The run of a workload with several streams.
-fn run_waves<'w, R: Threads + Wait + Sync, P: Pace + Sync>(
-    alloc: Global,
-    rt: &'w R,
-    w: &'w Workload,
-    orders: &[StoredOrder],
-    pace: &P,
-    steps: u64,
-) -> Result<Run, Want>
-    requires orders { 2 ≤ length orders.now }
-    requires several { 2 ≤ w.now.streams }
-    ensures run { IfOk result (λ run. HasRun w.now (shapes_of orders.now) steps run.journal run.outcome) }
-    ensures shown { IfOk result (λ run. shown_units w.now (last_state w.now run.journal) ≡ units_of run.picture) }
-    ensures words { IfOk result (λ run. All (SaysWordsOf w.now) run.picture) }
-{
     run_over::<R, P, StoredOrders<'_>, SplitPass<'w>, Split<'w, R>>(
         alloc,
         rt,

@@ -1,9 +1,8 @@
+use Rattle.std.proofs.Common.{rules}
+use Rattle.std.proofs.lemmas.Result.{IfOk-weaker}
 use Rattle.abt_calls.specs.Starts.{start_part}
-use Rattle.abt_check.proofs.Numbered.{numbered_push}
+use Rattle.abt_check.proofs.Numbered.{made_numbered}
 use Rattle.abt_check.proofs.starts.lanes.Goals as goal
 
-pub loop-s-preserved : goal.loop-s-preserved
-loop-s-preserved c = record {
-  own = numbered_push (start_part c.args.w.now) c.loop-s.s c.loop-s.lanes.items c.push.new.self.items c.new.result c.in_ok-push.ensures.items c.loop-s.invariant.own c.new.ensures;
-  many = c.loop-s.invariant.many;
-}
+pub returns : goal.returns
+returns c = IfOk-weaker c.numbered.result _ _ (λ lanes made. made_numbered _ (start_part c.args.w.now) _ _ lanes.items c.streams.ensures.count (λ s lane one. search rules) made) c.numbered.ensures
