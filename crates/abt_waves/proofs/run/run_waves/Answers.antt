@@ -9,7 +9,7 @@ use Rattle.abt_waves.proofs.Fleets.{if-both, own-run}
 use Rattle.abt_waves.proofs.run.run_waves.Goals as goal
 
 pub run_over-requires : goal.run_over-requires
-run_over-requires g c κs = (search (sendable, SplitPass-send) depth 30, (search sendable depth 30, (search sendable depth 30, (search (sendable, StoredOrders-sync, vtable-sync, g.dyn-1.3) depth 30, (search (sendable, Split-sync) depth 30, ((refl, tt), subst (λ k. 2 ≤ k) (sym (length-map c.args.orders.now _)) c.requires.orders))))))
+run_over-requires g c κs = (search (SplitPass-send, sendable) depth 30, (search sendable depth 30, (search sendable depth 30, (search (StoredOrders-sync, vtable-sync, g.dyn-1.3, sendable) depth 30, (search (Split-sync, sendable) depth 30, ((refl, tt), subst (λ k. 2 ≤ k) (sym (length-map c.args.orders.now _)) c.requires.orders))))))
 
 pub returns-clause-run : goal.returns-clause-run
 returns-clause-run g c =

@@ -9,7 +9,7 @@ use Rattle.abt_waves.proofs.Fleets.{over-own, own-over, own-wave}
 use Rattle.abt_waves.proofs.wave.run_wave.Goals as goal
 
 pub sail-requires : goal.sail-requires
-sail-requires g c κs = (search (sendable, SplitPass-send) depth 30, (search sendable depth 30, (search sendable depth 30, (search (sendable, StoredOrders-sync, vtable-sync, g.dyn-1.3) depth 30, (search (sendable, Split-sync) depth 30, ((refl, tt), ((c.requires.fleet.0, own-over c.args.w.now (shapes_of c.args.orders.now) c.requires.fleet.0 c.args.objects c.args.streams.items c.requires.fleet.1), c.requires.flags)))))))
+sail-requires g c κs = (search (SplitPass-send, sendable) depth 30, (search sendable depth 30, (search sendable depth 30, (search (StoredOrders-sync, vtable-sync, g.dyn-1.3, sendable) depth 30, (search (Split-sync, sendable) depth 30, ((refl, tt), ((c.requires.fleet.0, own-over c.args.w.now (shapes_of c.args.orders.now) c.requires.fleet.0 c.args.objects c.args.streams.items c.requires.fleet.1), c.requires.flags)))))))
 
 pub returns-clause-fleet : goal.returns-clause-fleet
 returns-clause-fleet g c = IfOk-weaker c.sail.result _ _ (λ left over n is. over-own c.args.w.now (shapes_of c.args.orders.now) n left.0 left.1.items (over n (own-over c.args.w.now (shapes_of c.args.orders.now) n c.args.objects c.args.streams.items is))) c.sail.ensures.fleet

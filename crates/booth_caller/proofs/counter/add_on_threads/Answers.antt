@@ -6,7 +6,7 @@ use Rattle.booth_caller.specs.contracts.counter.CounterObject.TheImpl as Counter
 use Rattle.booth_caller.proofs.counter.add_on_threads.Goals as goal
 
 pub for_each_mut-requires-send-T : goal.for_each_mut-requires-send-T
-for_each_mut-requires-send-T g c κs within = search (sendable, booth_crosses) depth 20
+for_each_mut-requires-send-T g c κs within = search (booth_crosses, sendable) depth 20
 
 pub for_each_mut-requires-sync-F : goal.for_each_mut-requires-sync-F
 for_each_mut-requires-sync-F g c κs within =
