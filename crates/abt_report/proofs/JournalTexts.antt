@@ -3,14 +3,14 @@ use Rattle.std.proofs.Common.{◌≡◌, ◌≢◌, ◌<◌, ◌≤◌, ◌+◌,
 use Rattle.std.specs.List.{All}
 use Rattle.std.proofs.lemmas.Grind.{flat_map-append}
 use Rattle.std.proofs.lemmas.List.{append-nil, map_push}
-use Rattle.std.proofs.lemmas.List.Elements.{All-push}
+use Rattle.std.proofs.lemmas.List.Elements.{All-head, All-push, All-tail}
+use Rattle.abt_bounds.proofs.Solid.{unbroken-line}
 use Rattle.abt_machine.specs.declared.events.Event.{Event}
 use Rattle.abt_machine.specs.Texts.{event_words, journal_text}
 use Rattle.abt_machine.specs.Words.{Text, ended, line_of}
 use Rattle.abt_report.specs.declared.not_journal.NotJournal.TheVariants.{Bad}
 use Rattle.abt_report.specs.Journals.{BeginsNoEvent, IsCause, IsEvent, StandsAfter, event_line}
-use Rattle.abt_report.proofs.Guessing.{unbroken-line}
-use Rattle.abt_report.proofs.LineBreaks.{All-head, All-tail, IsUnbroken, broken, cut-same}
+use Rattle.abt_report.proofs.LineBreaks.{IsUnbroken, broken, cut-same}
 
 -- a line with its line feed, and what follows
 ended-front : (line rest : Text) → ended line ++ rest ≡ line ++ 10 ∷ rest
@@ -32,7 +32,7 @@ no-journal (e ∷ es) [] rest bytes at events some none events' same =
 no-journal (e ∷ es) (k ∷ ks) rest bytes at events some none events' same =
     let whole : event_line e ++ 10 ∷ (journal_text es ++ rest) ≡ event_line k ++ 10 ∷ journal_text ks =
     sym (ended-front (event_line e) (journal_text es ++ rest)) ∙ (sym (append_assoc (ended (event_line e)) (journal_text es) rest) ∙ (at ∙ (sym same ∙ ended-front (event_line k) (journal_text ks)))) in
-    let cut = cut-same (event_line e) (event_line k) (journal_text es ++ rest) (journal_text ks) (unbroken-line e (All-head IsEvent e es events)) (unbroken-line k (All-head IsEvent k ks events')) whole in
+    let cut = cut-same (event_line e) (event_line k) (journal_text es ++ rest) (journal_text ks) (unbroken-line e) (unbroken-line k) whole in
     no-journal es ks rest (journal_text ks) cut.1 (All-tail IsEvent e es events) some none (All-tail IsEvent k ks events') refl
 
 -- why the bytes are no journal's text
@@ -48,7 +48,7 @@ no-feed-at-all rest plain = λ e more is at. broken (event_line e) more rest (sy
 -- nor one whose first line is no event's
 pub no-event-line : (rest line more : Text) → IsUnbroken line → line ++ 10 ∷ more ≡ rest → ((e : Event) → IsEvent e → event_line e ≡ line → ⊥) → BeginsNoEvent rest
 no-event-line rest line more plain at none = λ e after is begins.
-    let cut = cut-same (event_line e) line after more (unbroken-line e is) plain (sym (ended-front (event_line e) after) ∙ (begins ∙ sym at)) in
+    let cut = cut-same (event_line e) line after more (unbroken-line e) plain (sym (ended-front (event_line e) after) ∙ (begins ∙ sym at)) in
     none e is cut.0
 
 -- the text of a journal with one event more

@@ -1,13 +1,11 @@
 -- Texts that are cut at their first line feed.
-use Rattle.std.proofs.Common.{◌≡◌, ◌≢◌, ◌==◌, not, true, false, ap, get_or, ℕ, suc, List, [], ◌∷◌, ◌++◌, refl, subst, sym, arith}
+use Rattle.std.proofs.Common.{◌≡◌, ◌==◌, not, true, false, ap, get_or, ℕ, [], ◌∷◌, ◌++◌, refl, subst, sym}
 use Rattle.std.specs.List.{All, list_all}
 use Rattle.std.proofs.lemmas.Bool.{eqb-false, not-true}
+use Rattle.std.proofs.lemmas.List.Elements.{All-head, All-tail}
 use Rattle.std.proofs.lemmas.List.Sums.{AllPass-from_list_all}
+use Rattle.abt_bounds.proofs.Solid.{IsNoFeed}
 use Rattle.abt_machine.specs.Words.{Text}
-
--- a byte that is no line feed
-abbrev pub IsNoFeed : ℕ → Type 0
-IsNoFeed b = b ≢ 10
 
 -- no byte is a line feed
 abbrev pub IsUnbroken : Text → Type 0
@@ -16,14 +14,6 @@ IsUnbroken = All IsNoFeed
 -- a text that is written out is unbroken by a test
 pub unbroken-by : (text : Text) → list_all (λ b. not (b == 10)) text ≡ true → IsUnbroken text
 unbroken-by text e k d lt = eqb-false (get_or text k d) 10 (not-true (get_or text k d == 10) (AllPass-from_list_all (λ b. not (b == 10)) text e k d lt))
-
--- the first element of a list whose elements all pass
-pub All-head : {X : Type 0} (P : X → Type 0) (x : X) (xs : List X) → All P (x ∷ xs) → P x
-All-head P x xs all = all 0 x (omega arith)
-
--- the rest of such a list
-pub All-tail : {X : Type 0} (P : X → Type 0) (x : X) (xs : List X) → All P (x ∷ xs) → All P xs
-All-tail P x xs all = λ k d lt. all (suc k) d (omega arith)
 
 -- the first byte
 first_or : ℕ → Text → ℕ

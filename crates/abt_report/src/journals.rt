@@ -4,7 +4,7 @@ ghost use Rattle.std.specs.Prelude.{◌≡◌, ◌++◌, IfOk, OnOk};
 ghost use Rattle.abt_machine.specs.Texts.{event_words, journal_text as text_of_journal, what_words};
 ghost use Rattle.abt_machine.specs.Words.{ended, line_of, spaced};
 
-use crate::words::{name_of_cause, name_of_code};
+use crate::words::{name_of_cause, name_of_code, push_numbered};
 use abt_lines::{end_line, push_decimal, push_number, push_word};
 use abt_machine::{Event, Journal, Want, What};
 use std::alloc::Global;
@@ -14,43 +14,27 @@ fn push_what(out: &mut Vec<u8>, what: What) -> Result<(), Want>
     ensures { OnOk result (out.new.items ≡ out.old.items ++ spaced (what_words what)) }
 {
     match what {
-        What::Miss(p) => {
-            push_word(out, b"miss")?;
-            push_decimal(out, u64::from(p.0))
-        }
+        What::Miss(p) => push_numbered(out, b"miss", u64::from(p.0)),
         What::Take(p, u) => {
-            push_word(out, b"take")?;
-            push_decimal(out, u64::from(p.0))?;
+            push_numbered(out, b"take", u64::from(p.0))?;
             push_decimal(out, u64::from(u.0))
         }
-        What::Look(u) => {
-            push_word(out, b"look")?;
-            push_decimal(out, u64::from(u.0))
-        }
+        What::Look(u) => push_numbered(out, b"look", u64::from(u.0)),
         What::Step(u, at, code) => {
-            push_word(out, b"step")?;
-            push_decimal(out, u64::from(u.0))?;
+            push_numbered(out, b"step", u64::from(u.0))?;
             push_decimal(out, u64::from(at))?;
             push_word(out, name_of_code(code))
         }
         What::Put(u, p) => {
-            push_word(out, b"put")?;
-            push_decimal(out, u64::from(u.0))?;
+            push_numbered(out, b"put", u64::from(u.0))?;
             push_decimal(out, u64::from(p.0))
         }
         What::End(u, cause) => {
-            push_word(out, b"end")?;
-            push_decimal(out, u64::from(u.0))?;
+            push_numbered(out, b"end", u64::from(u.0))?;
             push_word(out, name_of_cause(cause))
         }
-        What::Enter(u) => {
-            push_word(out, b"enter")?;
-            push_decimal(out, u64::from(u.0))
-        }
-        What::Leave(u) => {
-            push_word(out, b"leave")?;
-            push_decimal(out, u64::from(u.0))
-        }
+        What::Enter(u) => push_numbered(out, b"enter", u64::from(u.0)),
+        What::Leave(u) => push_numbered(out, b"leave", u64::from(u.0)),
     }
 }
 

@@ -9,6 +9,7 @@ mod outputs;
 mod pictures;
 mod reading;
 mod reports;
+mod steps;
 mod tallies;
 mod words;
 
@@ -18,3 +19,5 @@ pub use outputs::outputs_text;
 pub use pictures::{Picture, Row};
 pub use reading::read_journal;
 pub use reports::{append_report, report, short_report};
+pub use steps::count_steps;
+pub use words::name_of_cause;

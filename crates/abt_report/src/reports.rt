@@ -10,7 +10,7 @@ ghost use Rattle.abt_report.specs.Pictures.{SaysWordsOf, unit_of, units_of};
 
 use crate::pictures::{Picture, Row};
 use crate::tallies::{Tally, tally_of};
-use crate::words::{name_of_code, name_of_end};
+use crate::words::{name_of_code, name_of_end, push_numbered};
 use abt_lines::{end_line, push_decimal, push_word};
 use abt_machine::{Outcome, Piece, Shown, Want, Workload};
 use std::alloc::Global;
@@ -21,23 +21,11 @@ fn push_shown(out: &mut Vec<u8>, shown: Shown) -> Result<(), Want>
 {
     match shown {
         Shown::Unborn => push_word(out, b"unborn"),
-        Shown::Pool(p) => {
-            push_word(out, b"pool")?;
-            push_decimal(out, u64::from(p.0))
-        }
-        Shown::Stream(s) => {
-            push_word(out, b"stream")?;
-            push_decimal(out, u64::from(s.0))
-        }
+        Shown::Pool(p) => push_numbered(out, b"pool", u64::from(p.0)),
+        Shown::Stream(s) => push_numbered(out, b"stream", u64::from(s.0)),
         Shown::Suspended => push_word(out, b"suspended"),
-        Shown::Join(u) => {
-            push_word(out, b"join")?;
-            push_decimal(out, u64::from(u.0))
-        }
-        Shown::Object(x) => {
-            push_word(out, b"object")?;
-            push_decimal(out, u64::from(x.0))
-        }
+        Shown::Join(u) => push_numbered(out, b"join", u64::from(u.0)),
+        Shown::Object(x) => push_numbered(out, b"object", u64::from(x.0)),
         Shown::Ended(cause) => push_word(out, name_of_end(cause)),
     }
 }
@@ -93,28 +81,20 @@ fn push_units(out: &mut Vec<u8>, w: &Workload, rows: &[Row]) -> Result<(), Want>
     Ok(())
 }
 
-// Appends a word of the tally, and its number.
-fn push_count(out: &mut Vec<u8>, word: &[u8], n: u64) -> Result<(), Want>
-    ensures { OnOk result (out.new.items ≡ out.old.items ++ ((32 ∷ word.now) ++ 32 ∷ decimal n)) }
-{
-    push_word(out, word)?;
-    push_decimal(out, n)
-}
-
 // Appends the tally of so many units.
 fn push_tally(out: &mut Vec<u8>, units: u64, tally: &Tally, steps: u64) -> Result<(), Want>
     ensures { OnOk result (out.new.items ≡ out.old.items ++ ended (line_of (tally_words units tally.now steps))) }
 {
     out.extend_from_slice(b"tally")?;
-    push_count(out, b"units", units)?;
-    push_count(out, b"unborn", tally.unborn)?;
-    push_count(out, b"pool", tally.pool)?;
-    push_count(out, b"stream", tally.stream)?;
-    push_count(out, b"blocked", tally.blocked)?;
-    push_count(out, b"done", tally.done)?;
-    push_count(out, b"asked", tally.asked)?;
-    push_count(out, b"access", tally.access)?;
-    push_count(out, b"steps", steps)?;
+    push_numbered(out, b"units", units)?;
+    push_numbered(out, b"unborn", tally.unborn)?;
+    push_numbered(out, b"pool", tally.pool)?;
+    push_numbered(out, b"stream", tally.stream)?;
+    push_numbered(out, b"blocked", tally.blocked)?;
+    push_numbered(out, b"done", tally.done)?;
+    push_numbered(out, b"asked", tally.asked)?;
+    push_numbered(out, b"access", tally.access)?;
+    push_numbered(out, b"steps", steps)?;
     end_line(out)?;
     Ok(())
 }

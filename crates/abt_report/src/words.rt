@@ -1,9 +1,10 @@
-//! The words of codes and causes.
+//! The words of codes and causes, and words with a number.
 
-ghost use Rattle.std.specs.Prelude.{◌≡◌};
+ghost use Rattle.std.specs.Prelude.{◌≡◌, ◌++◌, ◌∷◌, OnOk, decimal};
 ghost use Rattle.abt_machine.specs.Texts.{cause_name, code_name, ended_name};
 
-use abt_machine::{Cause, Code};
+use abt_lines::{push_decimal, push_word};
+use abt_machine::{Cause, Code, Want};
 
 pub(crate) fn name_of_code(code: Code) -> &'static [u8]
     ensures { result.now ≡ code_name code }
@@ -25,7 +26,8 @@ pub(crate) fn name_of_code(code: Code) -> &'static [u8]
     }
 }
 
-pub(crate) fn name_of_cause(cause: Cause) -> &'static [u8]
+/// The word of a cause in a journal.
+pub fn name_of_cause(cause: Cause) -> &'static [u8]
     ensures { result.now ≡ cause_name cause }
 {
     match cause {
@@ -41,9 +43,15 @@ pub(crate) fn name_of_end(cause: Cause) -> &'static [u8]
     ensures { result.now ≡ ended_name cause }
 {
     match cause {
-        Cause::Done => b"done",
-        Cause::Asked => b"asked",
-        Cause::Access => b"access",
+        Cause::Done | Cause::Asked | Cause::Access => name_of_cause(cause),
         Cause::Own => b"exited",
     }
+}
+
+/// Appends a word and its number, with a space before each.
+pub(crate) fn push_numbered(out: &mut Vec<u8>, word: &[u8], n: u64) -> Result<(), Want>
+    ensures { OnOk result (out.new.items ≡ out.old.items ++ ((32 ∷ word.now) ++ 32 ∷ decimal n)) }
+{
+    push_word(out, word)?;
+    push_decimal(out, n)
 }

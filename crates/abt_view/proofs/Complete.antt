@@ -1,5 +1,5 @@
 -- Which status a call answers if its cause is at hand.
-use Rattle.std.proofs.Common.{◌≡◌, ◌≢◌, ◌⊎◌, ℕ, List, Option, Some, None, inl, inr, refl, sym, subst, arith}
+use Rattle.std.proofs.Common.{◌≡◌, ◌⊎◌, ℕ, List, Option, Some, inl, inr, refl, sym, subst, arith}
 use Rattle.std.specs.Prelude.{IfSome, ⊤}
 use Rattle.std.specs.List.{All}
 use Rattle.abt_machine.specs.declared.events.Event.{Event}

@@ -1,11 +1,10 @@
 //! Kinds of events, and counts of a journal.
 
 ghost use Rattle.std.specs.Prelude.{◌≡◌};
-ghost use Rattle.abt_machine.specs.Outcomes.{is_step as is_step_of, steps_in};
-ghost use Rattle.abt_machine.specs.Texts.{cause_name};
 ghost use Rattle.abt_view.specs.Kinds.{is_refused as is_refused_of, kind_word, last_stamp, refused_in, step_word as step_word_of};
 
-use abt_machine::{Cause, Code, Event, What};
+use abt_machine::{Code, Event, What};
+use abt_report::name_of_cause;
 
 fn step_word(code: Code) -> &'static [u8]
     ensures { result.now ≡ step_word_of code }
@@ -13,17 +12,6 @@ fn step_word(code: Code) -> &'static [u8]
     match code {
         Code::Ok => b"step",
         _ => b"refused",
-    }
-}
-
-fn cause_word(cause: Cause) -> &'static [u8]
-    ensures { result.now ≡ cause_name cause }
-{
-    match cause {
-        Cause::Done => b"done",
-        Cause::Asked => b"asked",
-        Cause::Access => b"access",
-        Cause::Own => b"own",
     }
 }
 
@@ -37,16 +25,10 @@ pub(crate) fn word(what: What) -> &'static [u8]
         What::Look(_) => b"look",
         What::Step(_, _, code) => step_word(code),
         What::Put(_, _) => b"put",
-        What::End(_, cause) => cause_word(cause),
+        What::End(_, cause) => name_of_cause(cause),
         What::Enter(_) => b"enter",
         What::Leave(_) => b"leave",
     }
-}
-
-fn is_step(what: What) -> bool
-    ensures { result ≡ is_step_of what }
-{
-    matches!(what, What::Step(_, _, _))
 }
 
 fn is_refused(what: What) -> bool
@@ -57,13 +39,6 @@ fn is_refused(what: What) -> bool
         What::Step(_, _, _) => true,
         _ => false,
     }
-}
-
-// How many events are steps.
-pub(crate) fn count_steps(journal: &[Event]) -> u64
-    ensures { result ≡ steps_in journal.now }
-{
-    journal.iter().filter(|event| is_step(event.what)).count() as u64
 }
 
 // How many steps were refused.

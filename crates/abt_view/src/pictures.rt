@@ -7,11 +7,11 @@ ghost use Rattle.abt_view.specs.Picture.{axis_text, bar_place, bar_shape, bar_te
 
 use crate::arrows::{Arrow, Spot, all_arrows};
 use crate::frames::{Frame, all_frames};
-use crate::kinds::{count_refused, count_steps, greatest_stamp, word};
+use crate::kinds::{count_refused, greatest_stamp, word};
 use crate::stretches::{Stretch, all_stretches, count_streams};
 use crate::texts::push_around;
 use abt_machine::{Event, Want};
-use abt_report::journal_text;
+use abt_report::{count_steps, journal_text};
 use std::alloc::Global;
 
 // Colours of the bars, the shapes of the marks, and a white ground.

@@ -47,7 +47,10 @@ flag_is : (o : Option Text) (j b : Bool) → o ≡ Some (flag_text j) → (o ≡
 flag_is o true b e on off = on e
 flag_is o false b e on off = off e
 
-module _ (words : List Text) (texts : AllTexts words) (a : App) (is : a ≡ run_app) where
+module _ {Z : Type 0} (rest : List (String Z)) (a : App) (is : a ≡ run_app) where
+  abbrev words : List Text
+  words = map string_bytes rest
+
   -- the words that `clap` takes, as it tells them apart
   pub told : (m : ArgMatches) (f : Text) (v : Option Text) (j : Bool) → fault_of a words ≡ [] → rows_of (found_of m) ≡ matches_of a words
       → Some f ≡ first_value (found_of m) (codes "file") → v ≡ first_value (found_of m) (codes "steps")
@@ -55,7 +58,7 @@ module _ (words : List Text) (texts : AllTexts words) (a : App) (is : a ≡ run_
       → (one_text (found_of m) (codes "journal") ≡ Some (codes "false") → j ≡ false)
       → rest_of false words ≡ rest_with f v j
   told m f v j passes finds file steps on off =
-      let got = (run_outcome words texts).taken (sym (run_fault words) ∙ ap (λ (x : App). fault_of x words) (sym is) ∙ passes) in
+      let got = (run_outcome words (all_texts rest)).taken (sym (run_fault words) ∙ ap (λ (x : App). fault_of x words) (sym is) ∙ passes) in
       let rows : rows_of (found_of m) ≡ matches_of run_app words = finds ∙ ap (λ (x : App). matches_of x words) is in
       let s = got.0 in
       let same_file : s.file ≡ Some f = sym got.3.file ∙ ap (first_of (codes "file")) (sym (run_matches words) ∙ sym rows) ∙ sym (first_value-rows (found_of m) (codes "file")) ∙ sym file in
@@ -68,7 +71,7 @@ module _ (words : List Text) (texts : AllTexts words) (a : App) (is : a ≡ run_
   -- a file is there
   pub has_file : (m : ArgMatches) → fault_of a words ≡ [] → rows_of (found_of m) ≡ matches_of a words → None ≡ first_value (found_of m) (codes "file") → ⊥
   has_file m passes finds none =
-      let got = (run_outcome words texts).taken (sym (run_fault words) ∙ ap (λ (x : App). fault_of x words) (sym is) ∙ passes) in
+      let got = (run_outcome words (all_texts rest)).taken (sym (run_fault words) ∙ ap (λ (x : App). fault_of x words) (sym is) ∙ passes) in
       let rows : rows_of (found_of m) ≡ matches_of run_app words = finds ∙ ap (λ (x : App). matches_of x words) is in
       let same : got.0.file ≡ None = sym got.3.file ∙ ap (first_of (codes "file")) (sym (run_matches words) ∙ sym rows) ∙ sym (first_value-rows (found_of m) (codes "file")) ∙ sym none in
       true≢false (sym got.2 ∙ ap is_some same)
@@ -92,5 +95,5 @@ module _ (words : List Text) (texts : AllTexts words) (a : App) (is : a ≡ run_
   pub refused : fault_of a words ≢ [] → (c : Command) → SaysBy (codes "run") (rest_of false words) c → ⊥
   refused bad = by_run (rest_of false words) (λ c. ⊥) (λ f n j says.
       let steps = joins_steps (rest_of false words).steps n says.2 in
-      bad (ap (λ (x : App). fault_of x words) is ∙ run_fault words ∙ (run_outcome words texts).takes (record { file = Some f; steps = steps.0; journal = j })
+      bad (ap (λ (x : App). fault_of x words) is ∙ run_fault words ∙ (run_outcome words (all_texts rest)).takes (record { file = Some f; steps = steps.0; journal = j })
       (joins_one _ f says.0, steps.1, joins_flag _ j says.3, says.4) refl))

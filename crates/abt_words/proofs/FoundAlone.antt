@@ -1,18 +1,21 @@
 -- What `clap` took is words alone, and what commands on them say.
-use Rattle.std.proofs.Common.{◌≡◌, ◌≢◌, ℕ, refl, sym, ap, ap₂, subst, ◌∙◌, List, [], ◌∷◌, codes, Option, Some, None, false}
+use Rattle.std.proofs.Common.{◌≡◌, ◌≢◌, ℕ, refl, sym, ap, ap₂, subst, ◌∙◌, List, [], ◌∷◌, map, codes, Option, Some, None, false}
+use Rattle.std.specs.Prelude.{String, string_bytes}
 use Rattle.clap.specs.Words.{App, fault_of, first_of, first_value, found_of, matches_of, rows_of}
 use Rattle.clap.specs.Walk.{Row}
 use Rattle.clap.specs.declared.parser.matches.ArgMatches.{ArgMatches}
 use Rattle.clap.proofs.WalkLemmas.{first_value-rows}
+use Rattle.abt_machine.specs.Limits.{adder_limit}
 use Rattle.abt_machine.specs.Spelling.{SaysNumber}
 use Rattle.abt_machine.specs.Words.{Text}
 use Rattle.abt_words.specs.declared.commands.Command.{Command}
 use Rattle.abt_words.specs.Commands.{Rest, SaysBy, only, rest_of}
-use Rattle.abt_words.specs.Apps.{one_app, two_app}
-use Rattle.abt_words.proofs.Endings.{AllTexts, last}
+use Rattle.abt_words.specs.Apps.{alone_app}
+use Rattle.abt_words.specs.Asked.{at_most_one}
+use Rattle.abt_words.proofs.Endings.{last}
+use Rattle.abt_words.proofs.Found.{all_texts}
 use Rattle.abt_words.proofs.Names.{by_check, by_flow, by_self}
-use Rattle.abt_words.proofs.OneWord.{FindsOne, HasOne, one_at, one_fault, one_matches, one_next, one_outcome, one_top}
-use Rattle.abt_words.proofs.TwoWords.{FindsTwo, HasTwo, Said, none, one, two, two_at, two_fault, two_matches, two_next, two_outcome, two_top}
+use Rattle.abt_words.proofs.OneOrTwo.{Finds, HasFirst, Said, alone_at, alone_fault, alone_matches, alone_next, alone_outcome, alone_top, none, says}
 use Rattle.abt_words.proofs.WordsAlone.{Lead, Whole}
 
 some_is : (a b : Text) → ◌≡◌ {A = Option Text} (Some a) (Some b) → a ≡ b
@@ -24,104 +27,78 @@ none_is a e = cc
 alone : (r : Rest) (ws : List Text) → r.words ≡ ws → r.steps ≡ [] → r.journals ≡ 0 → r.others ≡ 0 → r ≡ only ws
 alone r ws words steps journals others = λ i. record { words = words i; steps = steps i; journals = journals i; others = others i }
 
-module _ (words : List Text) (texts : AllTexts words) (a : App) (is : a ≡ one_app) where
-  one_found : (m : ArgMatches) → fault_of a words ≡ [] → rows_of (found_of m) ≡ matches_of a words
-      → (n : Text) × (first_value (found_of m) (codes "first") ≡ Some n) × (rest_of false words ≡ only (n ∷ []))
-  one_found m passes finds = by got.0 got.1 got.2
-    where
-      got : (p : Option Text) × Whole one_top one_at one_next HasOne FindsOne (Some None) (rest_of false words) p × FindsOne p (last one_top (one_at None false) words)
-      got = (one_outcome words texts).taken (sym (one_fault words) ∙ ap (λ (x : App). fault_of x words) (sym is) ∙ passes)
-
-      rows : rows_of (found_of m) ≡ matches_of one_app words
-      rows = finds ∙ ap (λ (x : App). matches_of x words) is
-
-      one_lead : (ws : List Text) (n : Text) → Lead one_top one_at one_next HasOne FindsOne (Some None) ws (Some n) → ws ≡ n ∷ []
-      one_lead [] n e = absurd (none_is n (sym e))
-      one_lead (w ∷ []) n e = ap (λ (t : Text). t ∷ []) (sym (some_is n w e))
-      one_lead (w ∷ v ∷ ws) n e = absurd e
-
-      by : (p : Option Text) → Whole one_top one_at one_next HasOne FindsOne (Some None) (rest_of false words) p → FindsOne p (last one_top (one_at None false) words)
-          → (n : Text) × (first_value (found_of m) (codes "first") ≡ Some n) × (rest_of false words ≡ only (n ∷ []))
-      by None whole found = absurd whole.1
-      by (Some n) whole found = (
-        n,
-        first_value-rows (found_of m) (codes "first") ∙ ap (first_of (codes "first")) (rows ∙ one_matches words) ∙ found,
-        alone (rest_of false words) (n ∷ []) (one_lead (rest_of false words).words n whole.0) whole.2 whole.3 whole.4,
-      )
-
-  pub one_told : (m : ArgMatches) (n : Text) → fault_of a words ≡ [] → rows_of (found_of m) ≡ matches_of a words
-      → Some n ≡ first_value (found_of m) (codes "first") → rest_of false words ≡ only (n ∷ [])
-  one_told m n passes finds word =
-      let got = one_found m passes finds in
-      got.2 ∙ ap (λ (t : Text). only (t ∷ [])) (sym (some_is n got.0 (word ∙ got.1)))
-
-  pub has_one : (m : ArgMatches) → fault_of a words ≡ [] → rows_of (found_of m) ≡ matches_of a words → None ≡ first_value (found_of m) (codes "first") → ⊥
-  has_one m passes finds absent = let got = one_found m passes finds in none_is got.0 (absent ∙ got.1)
-
-  pub one_refused : fault_of a words ≢ [] → (n : Text) → rest_of false words ≡ only (n ∷ []) → ⊥
-  one_refused bad n says =
-      bad (ap (λ (x : App). fault_of x words) is ∙ one_fault words ∙ (one_outcome words texts).takes (Some n)
-      (subst (λ (r : Rest). Whole one_top one_at one_next HasOne FindsOne (Some None) r (Some n)) (sym says) (refl, tt, refl, refl, refl)))
-
-not_none : (n o : Text) → two n o ≡ none → ⊥
+not_none : (n : Text) (o : Option Text) → says n o ≡ none → ⊥
 not_none n o e = cc
 
-not_one : (n o w : Text) → two n o ≡ one w → ⊥
-not_one n o w e = cc
+first_is : (n w : Text) (o p : Option Text) → says n o ≡ says w p → n ≡ w
+first_is n w o p e = cc
 
-first_is : (n o w v : Text) → two n o ≡ two w v → n ≡ w
-first_is n o w v e = cc
+second_is : (n w : Text) (o p : Option Text) → says n o ≡ says w p → o ≡ p
+second_is n w o p e = cc
 
-second_is : (n o w v : Text) → two n o ≡ two w v → o ≡ v
-second_is n o w v e = cc
+-- the words of the rest, as they were said
+abbrev Leads : List Text → Said → Type 0
+Leads = Lead alone_top alone_at alone_next HasFirst Finds (Some none)
 
-module _ (words : List Text) (texts : AllTexts words) (a : App) (is : a ≡ two_app) where
-  two_found : (m : ArgMatches) → fault_of a words ≡ [] → rows_of (found_of m) ≡ matches_of a words
-      → (n : Text) × (o : Text) × (first_value (found_of m) (codes "first") ≡ Some n) × (first_value (found_of m) (codes "second") ≡ Some o)
-      × (rest_of false words ≡ only (n ∷ o ∷ []))
-  two_found m passes finds = by got.0 got.1 got.2
+lead : (ws : List Text) (n : Text) (o : Option Text) → Leads ws (says n o) → ws ≡ n ∷ at_most_one o
+lead [] n o e = absurd (not_none n o e)
+lead (w ∷ []) n o e = sym (ap₂ (λ (t : Text) (p : Option Text). t ∷ at_most_one p) (first_is n w o None e) (second_is n w o None e))
+lead (w ∷ v ∷ []) n o e = sym (ap₂ (λ (t : Text) (p : Option Text). t ∷ at_most_one p) (first_is n w o (Some v) e) (second_is n w o (Some v) e))
+lead (w ∷ v ∷ u ∷ ws) n o e = absurd e
+
+abbrev AreWhole : Rest → Said → Type 0
+AreWhole = Whole alone_top alone_at alone_next HasFirst Finds (Some none)
+
+are_whole : (n : Text) (o : Option Text) → AreWhole (only (n ∷ at_most_one o)) (says n o)
+are_whole n None = (refl, tt, refl, refl, refl)
+are_whole n (Some m) = (refl, tt, refl, refl, refl)
+
+module _ {Z : Type 0} (rest : List (String Z)) (a : App) (is : a ≡ alone_app) where
+  abbrev words : List Text
+  words = map string_bytes rest
+
+  found : (m : ArgMatches) → fault_of a words ≡ [] → rows_of (found_of m) ≡ matches_of a words
+      → (n : Text) × (o : Option Text) × (first_value (found_of m) (codes "first") ≡ Some n) × (first_value (found_of m) (codes "second") ≡ o)
+      × (rest_of false words ≡ only (n ∷ at_most_one o))
+  found m passes finds = by got.0 got.1 got.2
     where
-      got : (p : Said) × Whole two_top two_at two_next HasTwo FindsTwo (Some none) (rest_of false words) p × FindsTwo p (last two_top (two_at none false) words)
-      got = (two_outcome words texts).taken (sym (two_fault words) ∙ ap (λ (x : App). fault_of x words) (sym is) ∙ passes)
+      got : (p : Said) × AreWhole (rest_of false words) p × Finds p (last alone_top (alone_at none false) words)
+      got = (alone_outcome words (all_texts rest)).taken (sym (alone_fault words) ∙ ap (λ (x : App). fault_of x words) (sym is) ∙ passes)
 
-      rows : rows_of (found_of m) ≡ matches_of two_app words
+      rows : rows_of (found_of m) ≡ matches_of alone_app words
       rows = finds ∙ ap (λ (x : App). matches_of x words) is
 
-      two_lead : (ws : List Text) (n o : Text) → Lead two_top two_at two_next HasTwo FindsTwo (Some none) ws (two n o) → ws ≡ n ∷ o ∷ []
-      two_lead [] n o e = absurd (not_none n o e)
-      two_lead (w ∷ []) n o e = absurd (not_one n o w e)
-      two_lead (w ∷ v ∷ []) n o e = λ i. sym (first_is n o w v e) i ∷ sym (second_is n o w v e) i ∷ []
-      two_lead (w ∷ v ∷ u ∷ ws) n o e = absurd e
+      value : (id : Text) → first_value (found_of m) id ≡ first_of id (last alone_top (alone_at none false) words)
+      value id = first_value-rows (found_of m) id ∙ ap (first_of id) (rows ∙ alone_matches words)
 
-      by : (p : Said) → Whole two_top two_at two_next HasTwo FindsTwo (Some none) (rest_of false words) p → FindsTwo p (last two_top (two_at none false) words)
-          → (n : Text) × (o : Text) × (first_value (found_of m) (codes "first") ≡ Some n) × (first_value (found_of m) (codes "second") ≡ Some o)
-          × (rest_of false words ≡ only (n ∷ o ∷ []))
+      by : (p : Said) → AreWhole (rest_of false words) p → Finds p (last alone_top (alone_at none false) words)
+          → (n : Text) × (o : Option Text) × (first_value (found_of m) (codes "first") ≡ Some n) × (first_value (found_of m) (codes "second") ≡ o)
+          × (rest_of false words ≡ only (n ∷ at_most_one o))
       by none whole found = absurd whole.1
-      by (one n) whole found = absurd whole.1
-      by (two n o) whole found = (
+      by (says n o) whole found = (
         n,
         o,
-        first_value-rows (found_of m) (codes "first") ∙ ap (first_of (codes "first")) (rows ∙ two_matches words) ∙ found.0,
-        first_value-rows (found_of m) (codes "second") ∙ ap (first_of (codes "second")) (rows ∙ two_matches words) ∙ found.1,
-        alone (rest_of false words) (n ∷ o ∷ []) (two_lead (rest_of false words).words n o whole.0) whole.2 whole.3 whole.4,
+        value (codes "first") ∙ found.0,
+        value (codes "second") ∙ found.1,
+        alone (rest_of false words) (n ∷ at_most_one o) (lead (rest_of false words).words n o whole.0) whole.2 whole.3 whole.4,
       )
 
-  pub two_told : (m : ArgMatches) (n o : Text) → fault_of a words ≡ [] → rows_of (found_of m) ≡ matches_of a words
-      → Some n ≡ first_value (found_of m) (codes "first") → Some o ≡ first_value (found_of m) (codes "second") → rest_of false words ≡ only (n ∷ o ∷ [])
-  two_told m n o passes finds first second =
-      let got = two_found m passes finds in
-      got.4 ∙ ap₂ (λ (s t : Text). only (s ∷ t ∷ [])) (sym (some_is n got.0 (first ∙ got.2))) (sym (some_is o got.1 (second ∙ got.3)))
+  -- the words that `clap` takes
+  pub words_told : (m : ArgMatches) (n : Text) (o : Option Text) → fault_of a words ≡ [] → rows_of (found_of m) ≡ matches_of a words
+      → Some n ≡ first_value (found_of m) (codes "first") → o ≡ first_value (found_of m) (codes "second") → rest_of false words ≡ only (n ∷ at_most_one o)
+  words_told m n o passes finds first second =
+      let got = found m passes finds in
+      got.4 ∙ ap₂ (λ (t : Text) (p : Option Text). only (t ∷ at_most_one p)) (sym (some_is n got.0 (first ∙ got.2))) (sym (second ∙ got.3))
 
-  pub has_first : (m : ArgMatches) → fault_of a words ≡ [] → rows_of (found_of m) ≡ matches_of a words → None ≡ first_value (found_of m) (codes "first") → ⊥
-  has_first m passes finds absent = let got = two_found m passes finds in none_is got.0 (absent ∙ got.2)
+  -- a word is there
+  pub has_word : (m : ArgMatches) → fault_of a words ≡ [] → rows_of (found_of m) ≡ matches_of a words → None ≡ first_value (found_of m) (codes "first") → ⊥
+  has_word m passes finds absent = let got = found m passes finds in none_is got.0 (absent ∙ got.2)
 
-  pub has_second : (m : ArgMatches) → fault_of a words ≡ [] → rows_of (found_of m) ≡ matches_of a words → None ≡ first_value (found_of m) (codes "second") → ⊥
-  has_second m passes finds absent = let got = two_found m passes finds in none_is got.1 (absent ∙ got.3)
-
-  pub two_refused : fault_of a words ≢ [] → (n o : Text) → rest_of false words ≡ only (n ∷ o ∷ []) → ⊥
-  two_refused bad n o says =
-      bad (ap (λ (x : App). fault_of x words) is ∙ two_fault words ∙ (two_outcome words texts).takes (two n o)
-      (subst (λ (r : Rest). Whole two_top two_at two_next HasTwo FindsTwo (Some none) r (two n o)) (sym says) (refl, tt, refl, refl, refl)))
+  -- words that `clap` refuses are not one or two alone
+  pub words_refused : fault_of a words ≢ [] → (n : Text) (o : Option Text) → rest_of false words ≡ only (n ∷ at_most_one o) → ⊥
+  words_refused bad n o says_so =
+      bad (ap (λ (x : App). fault_of x words) is ∙ alone_fault words ∙ (alone_outcome words (all_texts rest)).takes (says n o)
+      (subst (λ (r : Rest). AreWhole r (says n o)) (sym says_so) (are_whole n o)))
 
 -- ---- commands on words alone
 
@@ -135,10 +112,10 @@ last_of_two : (v w x y : Text) → ◌≡◌ {A = List Text} (v ∷ w ∷ []) (x
 last_of_two v w x y e = cc
 
 -- one word that is no number says nothing
-pub no_number : (r : Rest) (w : Text) → r ≡ only (w ∷ []) → ((n : ℕ) → SaysNumber 126 w n → ⊥) → (c : Command) → SaysBy (codes "self") r c → ⊥
+pub no_number : (r : Rest) (w : Text) → r ≡ only (w ∷ []) → ((n : ℕ) → SaysNumber adder_limit w n → ⊥) → (c : Command) → SaysBy (codes "self") r c → ⊥
 no_number r w is never = by_self r (λ c. ⊥) (λ n says.
     let same : says.0 ≡ w = head_of says.0 w (ap (λ (x : Rest). x.words) (sym says.1 ∙ is)) in
-    never n (subst (λ (t : Text). SaysNumber 126 t n) same says.2))
+    never n (subst (λ (t : Text). SaysNumber adder_limit t n) same says.2))
 
 -- without one word alone no number and no file is said
 pub self_needs_one : (r : Rest) → ((w : Text) → r ≡ only (w ∷ []) → ⊥) → (c : Command) → SaysBy (codes "self") r c → ⊥

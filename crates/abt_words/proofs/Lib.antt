@@ -1,7 +1,7 @@
 pub mod Endings
 pub mod Names
 pub mod OneCommand
-pub mod OneWord
+pub mod OneOrTwo
 pub mod Passed
 pub mod Plain
 pub mod Readings
@@ -10,5 +10,4 @@ pub mod Spellings
 pub mod Found
 pub mod FoundAlone
 pub mod Turns
-pub mod TwoWords
 pub mod WordsAlone

@@ -7,6 +7,7 @@ use Rattle.abt_words.specs.declared.fault.WordFault.{WordFault}
 use Rattle.abt_words.specs.declared.commands.Command.{Command}
 use Rattle.abt_words.specs.declared.commands.Command.TheVariants as command
 use Rattle.abt_machine.specs.Words.{Text}
+use Rattle.abt_machine.specs.Limits.{step_limit}
 use Rattle.abt_machine.specs.Spelling.{SaysNumber}
 use Rattle.abt_words.specs.Commands.{Rest, Says, SaysBy, SaysFile, SaysFiles, SaysRun, SaysSelf, SaysSteps, journal_count, name_of, rest_of}
 use Rattle.abt_words.proofs.Names.{by_check, by_flow, by_run, by_self}
@@ -22,7 +23,7 @@ one_number most digits m n a b = a.1 ∙ sym b.1
 
 one_steps : (vs : List Text) (m n : ℕ) → SaysSteps vs m → SaysSteps vs n → m ≡ n
 one_steps [] m n a b = a ∙ sym b
-one_steps (v ∷ []) m n a b = one_number 100000 v m n a b
+one_steps (v ∷ []) m n a b = one_number step_limit v m n a b
 one_steps (v ∷ w ∷ vs) m n a b = absurd a
 
 one_journal : (j k : Bool) → journal_count j ≡ journal_count k → j ≡ k

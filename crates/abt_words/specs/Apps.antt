@@ -1,4 +1,4 @@
--- The `clap` commands that read the words after `run`, and one or two words alone.
+-- The `clap` commands that read the words after `run`, and words alone.
 use Rattle.std.specs.Prelude.{true, codes, Some}
 use Rattle.clap.specs.Words.{App, Rule, Text, new_app, new_rule, with_rule}
 use Rattle.clap.specs.declared.builder.ArgAction.{ArgAction}
@@ -12,6 +12,10 @@ bare name =
 -- a word that has to be there
 abbrev pub needed : Text → Rule
 needed id = record (new_rule id) { required = true; action = Some Set }
+
+-- a word that may be there
+abbrev pub optional : Text → Rule
+optional id = record (new_rule id) { action = Some Set }
 
 -- an option `--name`
 abbrev pub long_rule : Text → ArgAction → Rule
@@ -28,9 +32,6 @@ journal_rule = long_rule (codes "journal") SetTrue
 abbrev pub run_app : App
 run_app = with_rule (with_rule (with_rule (bare (codes "run")) (needed (codes "file"))) steps_rule) journal_rule
 
--- one word, and two words
-abbrev pub one_app : App
-one_app = with_rule (bare (codes "one")) (needed (codes "first"))
-
-abbrev pub two_app : App
-two_app = with_rule (with_rule (bare (codes "two")) (needed (codes "first"))) (needed (codes "second"))
+-- one word, or two
+abbrev pub alone_app : App
+alone_app = with_rule (with_rule (bare (codes "alone")) (needed (codes "first"))) (optional (codes "second"))

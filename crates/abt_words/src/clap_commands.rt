@@ -1,8 +1,8 @@
-//! The commands of `clap` that read the words after `run`, and one or two words alone, and what they find.
+//! The commands of `clap` that read the words after `run`, and words alone, and what they find.
 
 ghost use Rattle.std.specs.Prelude.{◌≡◌, ◌≢◌, IfOk, [], true, false, map, string_bytes};
 ghost use Rattle.clap.specs.Words.{app_of, fault_of, found_of, is_simple_and_free, matches_of, rows_of, rule_of};
-ghost use Rattle.abt_words.specs.Apps.{bare, long_rule, needed, one_app, run_app, two_app};
+ghost use Rattle.abt_words.specs.Apps.{alone_app, bare, long_rule, needed, optional, run_app};
 
 use crate::WordFault;
 use clap::{Arg, ArgAction, ArgMatches};
@@ -26,6 +26,14 @@ fn needed_word<'a>(alloc: Global, id: &'a str) -> Arg<'a>
     Arg::new(alloc, id).required(true).action(ArgAction::Set)
 }
 
+// A word that may be there.
+fn optional_word<'a>(alloc: Global, id: &'a str) -> Arg<'a>
+    ensures rule { rule_of result ≡ optional id.entry.now }
+    ensures own { result.global ≡ false }
+{
+    Arg::new(alloc, id).action(ArgAction::Set)
+}
+
 // An option by its long name alone.
 fn long_option<'a>(alloc: Global, name: &'a str, action: ArgAction) -> Arg<'a>
     ensures rule { rule_of result ≡ long_rule name.entry.now action }
@@ -43,19 +51,12 @@ pub(crate) fn run_command<'a>(alloc: Global) -> Result<clap::Command<'a>, AllocE
     command.arg(long_option(alloc, "journal", ArgAction::SetTrue))
 }
 
-/// Reads one word.
-pub(crate) fn one_command<'a>(alloc: Global) -> Result<clap::Command<'a>, AllocError>
-    ensures { IfOk result (λ c. app_of c ≡ one_app) }
+/// Reads one word, or two.
+pub(crate) fn alone_command<'a>(alloc: Global) -> Result<clap::Command<'a>, AllocError>
+    ensures { IfOk result (λ c. app_of c ≡ alone_app) }
 {
-    bare_command(alloc, "one").arg(needed_word(alloc, "first"))
-}
-
-/// Reads two words.
-pub(crate) fn two_command<'a>(alloc: Global) -> Result<clap::Command<'a>, AllocError>
-    ensures { IfOk result (λ c. app_of c ≡ two_app) }
-{
-    let command = bare_command(alloc, "two").arg(needed_word(alloc, "first"))?;
-    command.arg(needed_word(alloc, "second"))
+    let command = bare_command(alloc, "alone").arg(needed_word(alloc, "first"))?;
+    command.arg(optional_word(alloc, "second"))
 }
 
 /// What the command finds in the words.

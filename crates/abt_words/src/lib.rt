@@ -18,3 +18,4 @@ mod self_run;
 pub use command::words;
 pub use commands::Command;
 pub use fault::WordFault;
+pub use run::DEFAULT_STEPS;

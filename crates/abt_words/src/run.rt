@@ -12,8 +12,8 @@ use crate::number::number;
 use abt_machine::Text;
 use std::alloc::Global;
 
-// The steps for each stream if no option says them.
-const DEFAULT_STEPS: u64 = 10_000;
+/// The steps for each stream if no word says them.
+pub const DEFAULT_STEPS: u64 = 10_000;
 
 // The greatest number of steps for each stream that an option may say.
 const MOST_STEPS: u64 = 100_000;

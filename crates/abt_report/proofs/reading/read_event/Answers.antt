@@ -1,25 +1,25 @@
 use Rattle.std.proofs.Common.{◌≡◌, ◌∙◌, ap, sym, List, map, Bor}
 use Rattle.std.specs.List.{slice_split}
+use Rattle.abt_bounds.proofs.Solid.{split-line}
 use Rattle.abt_machine.specs.declared.events.Event.{Event}
 use Rattle.abt_machine.specs.Texts.{event_words}
 use Rattle.abt_machine.specs.Words.{Text}
 use Rattle.abt_report.specs.Guesses.{is_space}
-use Rattle.abt_report.specs.Journals.{IsEvent, event_line}
-use Rattle.abt_report.proofs.Guessing.{split-line}
+use Rattle.abt_report.specs.Journals.{event_line}
 use Rattle.abt_report.proofs.reading.read_event.Goals as goal
 
 -- the words of a line that is an event's are that event's
-same-words : (line : Text) (ws : List Text) (e : Event) → ws ≡ slice_split is_space line → IsEvent e → event_line e ≡ line → event_words e ≡ ws
-same-words line ws e split is at = sym (split-line e is) ∙ (ap (slice_split is_space) at ∙ sym split)
+same-words : (line : Text) (ws : List Text) (e : Event) → ws ≡ slice_split is_space line → event_line e ≡ line → event_words e ≡ ws
+same-words line ws e split at = sym (split-line e) ∙ (ap (slice_split is_space) at ∙ sym split)
 
 pub returns-in_default : goal.returns-in_default
 returns-in_default c = λ e is at.
-    let found = c.event.ensures e is (same-words c.args.line.now (map (λ (word : Bor Text). word.now) c.deref.result.now) e (rw c.deref.ensures.value c.in_ok-split.ensures) is at) in
+    let found = c.event.ensures e is (same-words c.args.line.now (map (λ (word : Bor Text). word.now) c.deref.result.now) e (rw c.deref.ensures.value c.in_ok-split.ensures) at) in
     cc
 
 pub returns : goal.returns
 returns c = λ e is at.
-    let found = c.event.ensures e is (same-words c.args.line.now (map (λ (word : Bor Text). word.now) c.deref.result.now) e (rw c.deref.ensures.value c.in_ok-split.ensures) is at) in
+    let found = c.event.ensures e is (same-words c.args.line.now (map (λ (word : Bor Text). word.now) c.deref.result.now) e (rw c.deref.ensures.value c.in_ok-split.ensures) at) in
     let one : c.in-Some.event ≡ e = cc in
     let other = rw c.if-branch.false at c.in_ok-is_line_of.ensures in
     other (ap event_line one ∙ at)
