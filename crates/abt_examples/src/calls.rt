@@ -1,6 +1,6 @@
 //! Calls of the program over one file `f` in memory, and what they leave.
 
-ghost use Rattle.std.specs.Prelude.{◌<◌, ◌≤◌, length};
+ghost use Rattle.std.specs.Prelude.{◌<◌};
 
 use abt_order::StoredOrder;
 use abt_report::journal_text;
@@ -15,8 +15,8 @@ use std::thread::Threads;
 // More bytes than any output has.
 const ROOM: usize = 100_000;
 
-// More calls of a file or a sink than any call of the program makes.
-const NEVER: u64 = 1_000_000;
+/// More calls of a file or a sink than any call of the program makes.
+pub(crate) const NEVER: u64 = 1_000_000;
 
 /// Which call of the files, which write to the output and which write of the message fails, counted from 0.
 #[derive(Clone, Copy)]
@@ -40,26 +40,23 @@ impl Failing {
     pub(crate) fn files(files: u64) -> Failing {
         Failing {
             files,
-            out: NEVER,
-            err: NEVER,
+            ..Failing::none()
         }
     }
 
     /// This write to the output fails.
     pub(crate) fn out(out: u64) -> Failing {
         Failing {
-            files: NEVER,
             out,
-            err: NEVER,
+            ..Failing::none()
         }
     }
 
     /// This write of the message fails.
     pub(crate) fn err(err: u64) -> Failing {
         Failing {
-            files: NEVER,
-            out: NEVER,
             err,
+            ..Failing::none()
         }
     }
 }
@@ -86,31 +83,27 @@ impl Left {
 pub(crate) fn call<R: Threads + Wait + Sync>(
     rt: &R,
     alloc: Global,
-    orders: &[StoredOrder],
     words: &[&str],
     text: &[u8],
     most: usize,
     failing: Failing,
 ) -> Result<Left, Fail>
-    requires orders { 2 ≤ length orders.now }
-    requires most { 0 < most }
+    requires { 0 < most }
 {
-    call_with(rt, alloc, orders, words, text, b"", most, failing)
+    call_with(rt, alloc, words, text, b"", most, failing)
 }
 
 /// As `call`, if `j` has this other text.
 pub(crate) fn call_with<R: Threads + Wait + Sync>(
     rt: &R,
     alloc: Global,
-    orders: &[StoredOrder],
     words: &[&str],
     text: &[u8],
     other: &[u8],
     most: usize,
     failing: Failing,
 ) -> Result<Left, Fail>
-    requires orders { 2 ≤ length orders.now }
-    requires most { 0 < most }
+    requires { 0 < most }
 {
     let mut given = Vec::new(alloc);
     for word in words {
@@ -122,8 +115,9 @@ pub(crate) fn call_with<R: Threads + Wait + Sync>(
     let mut files = MemoryFiles::new(named, vec![in alloc; failing.files]?);
     let mut out = MemorySink::new(alloc, ROOM, most, vec![in alloc; failing.out]?)?;
     let mut err = MemorySink::new(alloc, ROOM, ROOM, vec![in alloc; failing.err]?)?;
+    let orders = [StoredOrder::rotating(), StoredOrder::mirroring()];
     let ended = abtrun(
-        rt, alloc, &given, &mut files, &mut out, &mut err, &NoPace, orders,
+        rt, alloc, &given, &mut files, &mut out, &mut err, &NoPace, &orders,
     );
     Ok(Left {
         status: ended.status,

@@ -1,7 +1,6 @@
 //! Journals that are checked against workloads.
 
 use crate::calls::{Failing, call_with};
-use abt_order::StoredOrder;
 use std::alloc::Global;
 use std::test::Fail;
 
@@ -139,12 +138,10 @@ static ROWS: [Row; 14] = [
 #[test]
 fn journals_are_judged(rt: HostRuntime) -> Result<(), Fail> {
     let alloc: Global = rt.alloc();
-    let orders = [StoredOrder::rotating(), StoredOrder::mirroring()];
     for row in &ROWS {
         let left = call_with(
             &rt,
             alloc,
-            &orders,
             &["check", "f", "j"],
             row.workload.as_bytes(),
             row.journal.as_bytes(),

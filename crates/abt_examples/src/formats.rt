@@ -1,6 +1,6 @@
 //! Worked rows of the lines that format 2 has besides, and of them in format 1.
 
-use crate::rows::{NEVER, ONE_POOL, Row};
+use crate::rows::{ONE_POOL, RUN, Row};
 
 pub(crate) const ONE_POOL_OF_TWO: &str =
     "abt 2\nstreams 1\npool 0 fifo mpmc\nsched 0 prio 0\nstream 0 main 0\n";
@@ -127,14 +127,12 @@ pub(crate) fn row(
     err: &'static str,
 ) -> Row {
     Row {
-        words: &["run", "f"],
         head,
         lines,
-        failing: NEVER,
         status,
         out,
         err,
-        journal: None,
+        ..RUN
     }
 }
 

@@ -1,11 +1,7 @@
 //! Files and outputs that fail at each of their calls in turn, and a text that is cut or spoilt at each of its bytes in turn.
 
-ghost use Rattle.std.specs.Prelude.{◌≤◌, length};
-
 use crate::calls::{Failing, Left, call};
-use abt_order::StoredOrder;
 use std::alloc::Global;
-use std::process::Abort;
 use std::sync::Wait;
 use std::test::Fail;
 use std::thread::Threads;
@@ -29,43 +25,32 @@ const WRITES: u64 = 106;
 fn run<R: Threads + Wait + Sync>(
     rt: &R,
     alloc: Global,
-    orders: &[StoredOrder],
     text: &[u8],
     failing: Failing,
-) -> Result<Left, Fail>
-    requires { 2 ≤ length orders.now }
-{
-    call(rt, alloc, orders, &["run", "f"], text, 1, failing)
+) -> Result<Left, Fail> {
+    call(rt, alloc, &["run", "f"], text, 1, failing)
 }
 
 // Each call of the files fails in turn.
-fn check_reads<R: Threads + Wait + Sync + Abort>(
-    rt: &R,
-    alloc: Global,
-    orders: &[StoredOrder],
-) -> Result<(), Fail>
-    requires { 2 ≤ length orders.now }
-{
+#[test]
+fn each_read_may_fail(rt: HostRuntime) -> Result<(), Fail> {
+    let alloc = rt.alloc();
     for number in 0..CALLS {
-        let left = run(rt, alloc, orders, HI, Failing::files(number))?;
+        let left = run(&rt, alloc, HI, Failing::files(number))?;
         assert!(rt; left.is(5, "", "abtrun: cannot read\n"), "call {number}");
         assert!(rt; left.journal.is_empty(), "call {number}");
     }
-    let left = run(rt, alloc, orders, HI, Failing::files(CALLS))?;
+    let left = run(&rt, alloc, HI, Failing::files(CALLS))?;
     assert!(rt; left.is(0, REPORT, ""));
     Ok(())
 }
 
 // Each write to the output fails in turn.
-fn check_writes<R: Threads + Wait + Sync + Abort>(
-    rt: &R,
-    alloc: Global,
-    orders: &[StoredOrder],
-) -> Result<(), Fail>
-    requires { 2 ≤ length orders.now }
-{
+#[test]
+fn each_write_may_fail(rt: HostRuntime) -> Result<(), Fail> {
+    let alloc = rt.alloc();
     for number in 0..WRITES {
-        let left = run(rt, alloc, orders, HI, Failing::out(number))?;
+        let left = run(&rt, alloc, HI, Failing::out(number))?;
         assert!(rt; left.status == 6, "write {number}");
         assert!(rt; left.out.len() as u64 == number, "write {number}");
         assert!(rt; REPORT.as_bytes().starts_with(&left.out), "write {number}");
@@ -78,26 +63,22 @@ fn check_writes<R: Threads + Wait + Sync + Abort>(
             "write {number}"
         );
     }
-    let left = run(rt, alloc, orders, HI, Failing::out(WRITES))?;
+    let left = run(&rt, alloc, HI, Failing::out(WRITES))?;
     assert!(rt; left.is(0, REPORT, ""));
-    let left = call(rt, alloc, orders, &["walk"], HI, 1, Failing::err(0))?;
+    let left = call(&rt, alloc, &["walk"], HI, 1, Failing::err(0))?;
     assert!(rt; left.is(2, "", ""));
     Ok(())
 }
 
 // The text is cut at each byte in turn. It may lack its last line feed, and no more.
-fn check_cuts<R: Threads + Wait + Sync + Abort>(
-    rt: &R,
-    alloc: Global,
-    orders: &[StoredOrder],
-) -> Result<(), Fail>
-    requires { 2 ≤ length orders.now }
-{
+#[test]
+fn a_text_may_be_cut_at_each_byte(rt: HostRuntime) -> Result<(), Fail> {
+    let alloc = rt.alloc();
     let enough = HI.len().saturating_sub(1);
     for length in 0..HI.len() {
         let mut text = Vec::from_slice(alloc, HI)?;
         text.truncate(length);
-        let left = run(rt, alloc, orders, &text, Failing::none())?;
+        let left = run(&rt, alloc, &text, Failing::none())?;
         let status = if length < enough { 3 } else { 0 };
         assert!(rt; left.status == status, "{length} bytes");
     }
@@ -114,16 +95,12 @@ fn spoilt(alloc: Global, place: usize) -> Result<Vec<u8>, Fail> {
 }
 
 // Each byte is spoilt in turn: its line is not UTF-8. That of a line feed is the one that it ends.
-fn check_bytes<R: Threads + Wait + Sync + Abort>(
-    rt: &R,
-    alloc: Global,
-    orders: &[StoredOrder],
-) -> Result<(), Fail>
-    requires { 2 ≤ length orders.now }
-{
+#[test]
+fn each_byte_may_be_spoilt(rt: HostRuntime) -> Result<(), Fail> {
+    let alloc = rt.alloc();
     let mut line: u32 = 1;
     for (at, byte) in HI.iter().enumerate() {
-        let left = run(rt, alloc, orders, &spoilt(alloc, at)?, Failing::none())?;
+        let left = run(&rt, alloc, &spoilt(alloc, at)?, Failing::none())?;
         let message = format!(in alloc; "abtrun: line {line}: utf8\n")?;
         assert!(rt; left.is(3, "", message.as_str()), "byte {at}");
         if *byte == b'\n' {
@@ -131,14 +108,4 @@ fn check_bytes<R: Threads + Wait + Sync + Abort>(
         }
     }
     Ok(())
-}
-
-#[test]
-fn faults_are_answered_wherever_they_come(rt: HostRuntime) -> Result<(), Fail> {
-    let alloc = rt.alloc();
-    let orders = [StoredOrder::rotating(), StoredOrder::mirroring()];
-    check_reads(&rt, alloc, &orders)?;
-    check_writes(&rt, alloc, &orders)?;
-    check_cuts(&rt, alloc, &orders)?;
-    check_bytes(&rt, alloc, &orders)
 }

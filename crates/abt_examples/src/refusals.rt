@@ -1,6 +1,6 @@
 //! Worked rows of what is refused: words, files, texts and an output.
 
-use crate::rows::{NEVER, ONE_POOL, Row};
+use crate::rows::{ONE_POOL, RUN, Row};
 
 /// The words of a call that is refused, the head and the lines of its file, its status and its message.
 pub(crate) type Refusal = (
@@ -140,24 +140,22 @@ pub(crate) fn refused_row(refusal: &Refusal) -> Row {
         words,
         head,
         lines,
-        failing: NEVER,
         status,
-        out: "",
         err,
         journal: Some(""),
+        ..RUN
     }
 }
 
 /// A call whose second write of the output fails.
 pub(crate) const SHORT_WRITE: Row = Row {
-    words: &["run", "f"],
-    head: ONE_POOL,
     lines: b"units 1\nunit 0 ult at 0\nsay hi\nend\n",
     failing: 1,
     status: 6,
     out: "unit 0 don",
     err: "abtrun: cannot write\n",
     journal: Some("1 0 take 0 0\n2 0 look 0\n3 0 step 0 0 ok\n4 0 end 0 done\n5 0 miss 0\n"),
+    ..RUN
 };
 
 /// For a text with one byte more than a text may have.

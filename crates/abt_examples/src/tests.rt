@@ -1,12 +1,9 @@
 //! The calls of the worked rows.
 
-ghost use Rattle.std.specs.Prelude.{◌≤◌, length};
-
 use crate::calls::{Failing, call};
 use crate::formats::{ONE_POOL_OF_TWO, finished, refused, row};
 use crate::refusals::{SHORT_WRITE, TOO_LONG, refusals, refused_row};
 use crate::rows::{Row, flows, objects, requests, schedulers, streams, units};
-use abt_order::StoredOrder;
 use std::alloc::Global;
 use std::process::Abort;
 use std::sync::Wait;
@@ -27,24 +24,13 @@ fn text_of(alloc: Global, row: &Row) -> Result<Vec<u8>, Fail> {
 }
 
 // What a row's call over this text leaves is what the row says. No write of the output takes more than 10 bytes.
-fn check<R: Threads + Wait + Sync + Abort>(
+fn check_over<R: Threads + Wait + Sync + Abort>(
     rt: &R,
     alloc: Global,
-    orders: &[StoredOrder],
     row: &Row,
     text: &[u8],
-) -> Result<(), Fail>
-    requires { 2 ≤ length orders.now }
-{
-    let left = call(
-        rt,
-        alloc,
-        orders,
-        row.words,
-        text,
-        10,
-        Failing::out(row.failing),
-    )?;
+) -> Result<(), Fail> {
+    let left = call(rt, alloc, row.words, text, 10, Failing::out(row.failing))?;
     assert!(rt; left.status == row.status, "{}", row.out);
     assert!(rt; left.out.as_slice() == row.out.as_bytes(), "{}", row.out);
     assert!(rt; left.err.as_slice() == row.err.as_bytes(), "{}", row.err);
@@ -58,32 +44,19 @@ fn check<R: Threads + Wait + Sync + Abort>(
     Ok(())
 }
 
-// So it is of all these rows.
+// So it is over the row's own text.
+fn check<R: Threads + Wait + Sync + Abort>(rt: &R, alloc: Global, row: &Row) -> Result<(), Fail> {
+    check_over(rt, alloc, row, &text_of(alloc, row)?)
+}
+
+// And of all these rows.
 fn check_all<R: Threads + Wait + Sync + Abort>(
     rt: &R,
     alloc: Global,
-    orders: &[StoredOrder],
     rows: &[Row],
-) -> Result<(), Fail>
-    requires { 2 ≤ length orders.now }
-{
+) -> Result<(), Fail> {
     for row in rows {
-        check(rt, alloc, orders, row, &text_of(alloc, row)?)?;
-    }
-    Ok(())
-}
-
-// And of all calls that are refused.
-fn check_refusals<R: Threads + Wait + Sync + Abort>(
-    rt: &R,
-    alloc: Global,
-    orders: &[StoredOrder],
-) -> Result<(), Fail>
-    requires { 2 ≤ length orders.now }
-{
-    for refusal in refusals() {
-        let row = refused_row(refusal);
-        check(rt, alloc, orders, &row, &text_of(alloc, &row)?)?;
+        check(rt, alloc, row)?;
     }
     Ok(())
 }
@@ -91,25 +64,44 @@ fn check_refusals<R: Threads + Wait + Sync + Abort>(
 #[test]
 fn calls_leave_what_their_rows_say(rt: HostRuntime) -> Result<(), Fail> {
     let alloc = rt.alloc();
-    let orders = [StoredOrder::rotating(), StoredOrder::mirroring()];
-    check_all(&rt, alloc, &orders, units())?;
-    check_all(&rt, alloc, &orders, schedulers())?;
-    check_all(&rt, alloc, &orders, requests())?;
-    check_all(&rt, alloc, &orders, objects())?;
+    check_all(&rt, alloc, units())?;
+    check_all(&rt, alloc, schedulers())?;
+    check_all(&rt, alloc, requests())?;
+    check_all(&rt, alloc, objects())?;
+    check_all(&rt, alloc, flows())
+}
+
+#[test]
+fn calls_over_several_streams_leave_what_their_rows_say(rt: HostRuntime) -> Result<(), Fail> {
     for _ in 0..TIMES {
-        check_all(&rt, alloc, &orders, streams())?;
+        check_all(&rt, rt.alloc(), streams())?;
     }
-    check_all(&rt, alloc, &orders, flows())?;
-    check_refusals(&rt, alloc, &orders)?;
-    check_all(&rt, alloc, &orders, &[SHORT_WRITE])?;
-    for (lines, out) in finished() {
-        let row = row(ONE_POOL_OF_TWO, lines, 0, out, "");
-        check(&rt, alloc, &orders, &row, &text_of(alloc, &row)?)?;
+    Ok(())
+}
+
+#[test]
+fn refused_calls_leave_what_their_rows_say(rt: HostRuntime) -> Result<(), Fail> {
+    let alloc = rt.alloc();
+    for refusal in refusals() {
+        check(&rt, alloc, &refused_row(refusal))?;
     }
-    for (head, lines, err) in refused() {
-        let row = row(head, lines, 3, "", err);
-        check(&rt, alloc, &orders, &row, &text_of(alloc, &row)?)?;
-    }
+    check(&rt, alloc, &SHORT_WRITE)?;
     let long = vec![in alloc; b'#'; TOO_LONG_LENGTH]?;
-    check(&rt, alloc, &orders, &refused_row(&TOO_LONG), &long)
+    check_over(&rt, alloc, &refused_row(&TOO_LONG), &long)
+}
+
+#[test]
+fn texts_of_format_2_finish(rt: HostRuntime) -> Result<(), Fail> {
+    for (lines, out) in finished() {
+        check(&rt, rt.alloc(), &row(ONE_POOL_OF_TWO, lines, 0, out, ""))?;
+    }
+    Ok(())
+}
+
+#[test]
+fn texts_of_format_2_are_refused(rt: HostRuntime) -> Result<(), Fail> {
+    for (head, lines, err) in refused() {
+        check(&rt, rt.alloc(), &row(head, lines, 3, "", err))?;
+    }
+    Ok(())
 }

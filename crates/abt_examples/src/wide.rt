@@ -1,16 +1,12 @@
 //! Calls over texts that are made: of many lines, pools, words, units, keys, pieces, conditions and steps.
 
-ghost use Rattle.std.specs.Prelude.{◌≤◌, length};
-
 use crate::calls::{Failing, call};
-use abt_order::StoredOrder;
+use crate::rows::ONE_POOL;
 use std::alloc::Global;
 use std::process::Abort;
 use std::sync::Wait;
 use std::test::Fail;
 use std::thread::Threads;
-
-const ONE_POOL: &str = "abt 1\nstreams 1\npool 0 fifo mpmc\nsched 0 prio 0\nstream 0 main 0\n";
 
 const HI: &str = "units 1\nunit 0 ult at 0\nsay hi\nend\n";
 
@@ -177,59 +173,58 @@ fn skipped(alloc: Global, lines: u32) -> Result<String, Fail> {
     Ok(text)
 }
 
-// A call over this text finishes, and prints this report.
+// What a call with these words over this text leaves is this status, this output and this message.
 fn check<R: Threads + Wait + Sync + Abort>(
     rt: &R,
     alloc: Global,
-    orders: &[StoredOrder],
+    words: &[&str],
     text: &str,
-    report: &str,
-) -> Result<(), Fail>
-    requires { 2 ≤ length orders.now }
-{
-    let left = call(
-        rt,
-        alloc,
-        orders,
-        &["run", "f"],
-        text.as_bytes(),
-        1000,
-        Failing::none(),
-    )?;
-    assert!(rt; left.is(0, report, ""), "{report}");
+    status: u8,
+    out: &str,
+    err: &str,
+) -> Result<(), Fail> {
+    let left = call(rt, alloc, words, text.as_bytes(), 1000, Failing::none())?;
+    assert!(rt; left.is(status, out, err), "{out}{err}");
     Ok(())
 }
 
-// Texts and words of each length.
-fn check_lengths<R: Threads + Wait + Sync + Abort>(
+// A run of this text finishes, and prints this report.
+fn check_run<R: Threads + Wait + Sync + Abort>(
     rt: &R,
     alloc: Global,
-    orders: &[StoredOrder],
-) -> Result<(), Fail>
-    requires { 2 ≤ length orders.now }
-{
+    text: &str,
+    report: &str,
+) -> Result<(), Fail> {
+    check(rt, alloc, &["run", "f"], text, 0, report, "")
+}
+
+#[test]
+fn texts_of_each_length_run(rt: HostRuntime) -> Result<(), Fail> {
+    let alloc = rt.alloc();
     for bytes in [
         3000, 3001, 3333, 3500, 3750, 3999, 4000, 4095, 4096, 4097, 9000,
     ] {
         let text = padded(alloc, bytes)?;
         assert!(rt; text.len() == bytes);
-        check(rt, alloc, orders, text.as_str(), HI_REPORT)?;
+        check_run(&rt, alloc, text.as_str(), HI_REPORT)?;
     }
+    Ok(())
+}
+
+#[test]
+fn words_of_each_length_are_said(rt: HostRuntime) -> Result<(), Fail> {
+    let alloc = rt.alloc();
     for bytes in 1..65 {
         let (text, report) = word(alloc, bytes)?;
-        check(rt, alloc, orders, text.as_str(), report.as_str())?;
+        check_run(&rt, alloc, text.as_str(), report.as_str())?;
     }
     Ok(())
 }
 
 // Workloads with as many of each kind as there may be.
-fn check_counts<R: Threads + Wait + Sync + Abort>(
-    rt: &R,
-    alloc: Global,
-    orders: &[StoredOrder],
-) -> Result<(), Fail>
-    requires { 2 ≤ length orders.now }
-{
+#[test]
+fn wide_workloads_run(rt: HostRuntime) -> Result<(), Fail> {
+    let alloc = rt.alloc();
     for (text, report) in [
         units(alloc)?,
         pieces(alloc)?,
@@ -241,83 +236,53 @@ fn check_counts<R: Threads + Wait + Sync + Abort>(
         rounds(alloc, "user 0")?,
         rounds(alloc, "user 1")?,
     ] {
-        check(rt, alloc, orders, text.as_str(), report.as_str())?;
+        check_run(&rt, alloc, text.as_str(), report.as_str())?;
     }
     Ok(())
 }
 
 // More units than format 1 has, on threads, ten times.
-fn check_barrier<R: Threads + Wait + Sync + Abort>(
-    rt: &R,
-    alloc: Global,
-    orders: &[StoredOrder],
-) -> Result<(), Fail>
-    requires { 2 ≤ length orders.now }
-{
+#[test]
+fn a_barrier_of_4001_lets_all_through(rt: HostRuntime) -> Result<(), Fail> {
+    let alloc = rt.alloc();
     let (text, report) = barrier_of_4001(alloc)?;
+    let words = ["run", "f", "--steps", "100000"];
     for _ in 0..10 {
-        let left = call(
-            rt,
-            alloc,
-            orders,
-            &["run", "f", "--steps", "100000"],
-            text.as_bytes(),
-            1000,
-            Failing::none(),
-        )?;
-        assert!(rt; left.is(0, report.as_str(), ""), "a barrier of 4001");
-    }
-    Ok(())
-}
-
-// Each stream is the one that is spent; and a fault far down.
-fn check_ends<R: Threads + Wait + Sync + Abort>(
-    rt: &R,
-    alloc: Global,
-    orders: &[StoredOrder],
-) -> Result<(), Fail>
-    requires { 2 ≤ length orders.now }
-{
-    for (format, count, s) in (0..8).map(|s| (1, 8, s)).chain((0..16).map(|s| (2, 16, s))) {
-        let text = streams(alloc, format, count, s)?;
-        let left = call(
-            rt,
-            alloc,
-            orders,
-            &["run", "f", "--steps", "1"],
-            text.as_bytes(),
-            1000,
-            Failing::none(),
-        )?;
-        let report = format!(in alloc;
-            "unit 0 stream {s}:\ntally units 1 unborn 0 pool 0 stream 1 blocked 0 done 0 asked 0 access 0 steps 1\nbudget {s}\n"
-        )?;
-        assert!(rt; left.is(4, report.as_str(), ""), "stream {s}");
-    }
-    for lines in [998, 999, 1000, 65534, 65535] {
-        let text = skipped(alloc, lines)?;
-        let left = call(
-            rt,
-            alloc,
-            orders,
-            &["run", "f"],
-            text.as_bytes(),
-            1000,
-            Failing::none(),
-        )?;
-        let fault = lines.saturating_add(2);
-        let message = format!(in alloc; "abtrun: line {fault}: unknown\n")?;
-        assert!(rt; left.is(3, "", message.as_str()), "{lines} lines");
+        check(&rt, alloc, &words, text.as_str(), 0, report.as_str(), "")?;
     }
     Ok(())
 }
 
 #[test]
-fn wide_workloads_run(rt: HostRuntime) -> Result<(), Fail> {
+fn each_stream_may_be_the_one_that_is_spent(rt: HostRuntime) -> Result<(), Fail> {
     let alloc = rt.alloc();
-    let orders = [StoredOrder::rotating(), StoredOrder::mirroring()];
-    check_lengths(&rt, alloc, &orders)?;
-    check_counts(&rt, alloc, &orders)?;
-    check_barrier(&rt, alloc, &orders)?;
-    check_ends(&rt, alloc, &orders)
+    for (format, count, s) in (0..8).map(|s| (1, 8, s)).chain((0..16).map(|s| (2, 16, s))) {
+        let text = streams(alloc, format, count, s)?;
+        let report = format!(in alloc;
+            "unit 0 stream {s}:\ntally units 1 unborn 0 pool 0 stream 1 blocked 0 done 0 asked 0 access 0 steps 1\nbudget {s}\n"
+        )?;
+        let words = ["run", "f", "--steps", "1"];
+        check(&rt, alloc, &words, text.as_str(), 4, report.as_str(), "")?;
+    }
+    Ok(())
+}
+
+#[test]
+fn a_fault_far_down_is_found(rt: HostRuntime) -> Result<(), Fail> {
+    let alloc = rt.alloc();
+    for lines in [998, 999, 1000, 65534, 65535] {
+        let text = skipped(alloc, lines)?;
+        let fault = lines.saturating_add(2);
+        let message = format!(in alloc; "abtrun: line {fault}: unknown\n")?;
+        check(
+            &rt,
+            alloc,
+            &["run", "f"],
+            text.as_str(),
+            3,
+            "",
+            message.as_str(),
+        )?;
+    }
+    Ok(())
 }
