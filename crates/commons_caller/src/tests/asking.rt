@@ -1,131 +1,68 @@
-//! Which acts may be asked at a site: a test for each kind of object.
+//! Which acts may be asked at a site.
 
 ghost use Rattle.std.specs.Prelude.{◌<◌, length, IsTrue};
 ghost use Rattle.std.specs.List.{All};
-ghost use Rattle.abt_machine.specs.declared.events.Site.TheVariants as site;
 ghost use Rattle.abt_machine.specs.Pools.{HasSide};
-ghost use Rattle.abt_machine.specs.Values.{conditions_of};
+ghost use Rattle.abt_machine.specs.State.{State};
+ghost use Rattle.abt_machine.specs.Values.{conditions_of, object_of};
 ghost use Rattle.abt_machine.specs.Workloads.{IsCondition};
 ghost use Rattle.abt_unit.specs.Fits.{Fits};
 ghost use Rattle.abt_chain.specs.Keeping.{IsPoolOf, contents_asked};
-ghost use Rattle.abt_calls.specs.Allowed.{BarrierAllows, DeskAllows, EventualAllows, MonitorAllows, PoolAllows, RwLockAllows};
-ghost use Rattle.abt_calls.specs.Asking.{MayCall};
+ghost use Rattle.abt_calls.specs.Allowed.{Allows, BarrierAllows, DeskAllows, EventualAllows, MonitorAllows, PoolAllows, RwLockAllows};
+ghost use Rattle.abt_calls.specs.Asking.{IsSite, MayCall};
 ghost use Rattle.abt_commons.specs.Acts.{act_of};
 
 use abt_commons::Act;
-use abt_machine::{Kind, ObjectNo, PoolNo, Side, Site, Thing, UnitNo, Workload};
+use abt_machine::{Kind, ObjectNo, Side, Site, Thing, Workload};
 
 // Whether the object at the site may be asked the act, whose unit is the workload's.
 pub fn may_ask(w: &Workload, site: Site, act: &Act) -> bool
     requires { All (Fits w.now) (contents_asked (act_of act.now)).units }
     ensures { IsTrue result → MayCall w.now site (act_of act.now) }
 {
+    is_site(w, site) && answers(w, site, act)
+}
+
+// Whether an object of the site's kind is declared.
+fn is_site(w: &Workload, site: Site) -> bool
+    ensures { IsTrue result → IsSite w.now site }
+{
     match site {
-        Site::Pool(p) => may_ask_pool(w, p, act),
-        Site::Desk(u) => may_ask_desk(w, u, act),
-        Site::Monitor(x) => may_ask_monitor(w, x, act),
-        Site::Eventual(x) => may_ask_eventual(w, x, act),
-        Site::Future(x) => may_ask_future(w, x, act),
-        Site::Barrier(x) => may_ask_barrier(w, x, act),
-        Site::Rw(x) => may_ask_rwlock(w, x, act),
+        Site::Pool(p) => p.0 < w.pools(),
+        Site::Desk(u) => u.0 < w.units(),
+        Site::Monitor(x) => x.0 < w.objects() && matches!(w.thing(x), Thing::Mutex),
+        Site::Eventual(x) => x.0 < w.objects() && matches!(w.thing(x), Thing::Eventual),
+        Site::Future(x) => x.0 < w.objects() && matches!(w.thing(x), Thing::Future(_, _)),
+        Site::Barrier(x) => x.0 < w.objects() && matches!(w.thing(x), Thing::Barrier(_)),
+        Site::Rw(x) => x.0 < w.objects() && matches!(w.thing(x), Thing::RwLock),
     }
 }
 
-fn may_ask_pool(w: &Workload, p: PoolNo, act: &Act) -> bool
-    requires { All (Fits w.now) (contents_asked (act_of act.now)).units }
-    ensures { IsTrue result → MayCall w.now (site.Pool p) (act_of act.now) }
+// What the object at a site answers, and those of each kind, if each pool that the act names is declared.
+
+fn answers(w: &Workload, site: Site, act: &Act) -> bool
+    requires { IsSite w.now site }
+    ensures allows { IsTrue result → (S : State) → Allows (object_of w.now S site) (act_of act.now) }
+    ensures pools { IsTrue result → All (IsPoolOf w.now) (contents_asked (act_of act.now)).pools }
 {
-    if p.0 >= w.pools() {
-        return false;
-    }
-    pool_answers(w, w.pool(p).kind, act)
-}
-
-fn may_ask_desk(w: &Workload, u: UnitNo, act: &Act) -> bool
-    requires { All (Fits w.now) (contents_asked (act_of act.now)).units }
-    ensures { IsTrue result → MayCall w.now (site.Desk u) (act_of act.now) }
-{
-    if u.0 >= w.units() {
-        return false;
-    }
-    desk_answers(w, act)
-}
-
-fn may_ask_monitor(w: &Workload, x: ObjectNo, act: &Act) -> bool
-    requires { All (Fits w.now) (contents_asked (act_of act.now)).units }
-    ensures { IsTrue result → MayCall w.now (site.Monitor x) (act_of act.now) }
-{
-    if x.0 >= w.objects() {
-        return false;
-    }
-    match w.thing(x) {
-        Thing::Mutex => monitor_answers(w, x, act),
-        _ => false,
+    match site {
+        Site::Pool(p) => pool_answers(w, w.pool(p).kind, act),
+        Site::Desk(_) => desk_answers(w, act),
+        Site::Monitor(x) => monitor_answers(w, x, act),
+        Site::Eventual(_) => eventual_answers(w, act),
+        Site::Future(_) => eventual_answers(w, act),
+        Site::Barrier(_) => barrier_answers(w, act),
+        Site::Rw(_) => rwlock_answers(w, act),
     }
 }
-
-fn may_ask_eventual(w: &Workload, x: ObjectNo, act: &Act) -> bool
-    requires { All (Fits w.now) (contents_asked (act_of act.now)).units }
-    ensures { IsTrue result → MayCall w.now (site.Eventual x) (act_of act.now) }
-{
-    if x.0 >= w.objects() {
-        return false;
-    }
-    match w.thing(x) {
-        Thing::Eventual => eventual_answers(w, act),
-        _ => false,
-    }
-}
-
-fn may_ask_future(w: &Workload, x: ObjectNo, act: &Act) -> bool
-    requires { All (Fits w.now) (contents_asked (act_of act.now)).units }
-    ensures { IsTrue result → MayCall w.now (site.Future x) (act_of act.now) }
-{
-    if x.0 >= w.objects() {
-        return false;
-    }
-    match w.thing(x) {
-        Thing::Future(_, _) => eventual_answers(w, act),
-        _ => false,
-    }
-}
-
-fn may_ask_barrier(w: &Workload, x: ObjectNo, act: &Act) -> bool
-    requires { All (Fits w.now) (contents_asked (act_of act.now)).units }
-    ensures { IsTrue result → MayCall w.now (site.Barrier x) (act_of act.now) }
-{
-    if x.0 >= w.objects() {
-        return false;
-    }
-    match w.thing(x) {
-        Thing::Barrier(_) => barrier_answers(w, act),
-        _ => false,
-    }
-}
-
-fn may_ask_rwlock(w: &Workload, x: ObjectNo, act: &Act) -> bool
-    requires { All (Fits w.now) (contents_asked (act_of act.now)).units }
-    ensures { IsTrue result → MayCall w.now (site.Rw x) (act_of act.now) }
-{
-    if x.0 >= w.objects() {
-        return false;
-    }
-    match w.thing(x) {
-        Thing::RwLock => rwlock_answers(w, act),
-        _ => false,
-    }
-}
-
-// What objects of each kind answer, if each pool that the act names is declared.
 
 fn pool_answers(w: &Workload, kind: Kind, act: &Act) -> bool
     ensures allows { IsTrue result → PoolAllows kind (act_of act.now) }
     ensures pools { IsTrue result → All (IsPoolOf w.now) (contents_asked (act_of act.now)).pools }
 {
     match act {
-        Act::Put(_) => true,
+        Act::Put(_) | Act::Remove(_) => true,
         Act::Take(side) => has_side(kind, *side),
-        Act::Remove(_) => true,
         _ => false,
     }
 }
@@ -147,16 +84,14 @@ fn desk_answers(w: &Workload, act: &Act) -> bool
     ensures pools { IsTrue result → All (IsPoolOf w.now) (contents_asked (act_of act.now)).pools }
 {
     match act {
-        Act::Create(p) => p.0 < w.pools(),
-        Act::End(_, _) => true,
-        Act::Join(_) => true,
-        Act::AskCancel => true,
-        Act::AskMigrate(p) => p.0 < w.pools(),
-        Act::Look => true,
-        Act::Suspend(_) => true,
-        Act::Resume => true,
-        Act::Revive(p) => p.0 < w.pools(),
-        Act::SetMigratable(_) => true,
+        Act::Create(p) | Act::AskMigrate(p) | Act::Revive(p) => p.0 < w.pools(),
+        Act::End(_, _)
+        | Act::Join(_)
+        | Act::AskCancel
+        | Act::Look
+        | Act::Suspend(_)
+        | Act::Resume
+        | Act::SetMigratable(_) => true,
         _ => false,
     }
 }
@@ -166,14 +101,8 @@ fn monitor_answers(w: &Workload, x: ObjectNo, act: &Act) -> bool
     ensures pools { IsTrue result → All (IsPoolOf w.now) (contents_asked (act_of act.now)).pools }
 {
     match act {
-        Act::Lock(_) => true,
-        Act::TryLock(_) => true,
-        Act::Unlock(_) => true,
-        Act::Load(_) => true,
-        Act::Store(_, _) => true,
-        Act::Wait(k, _) => has_condition(w, x, *k),
-        Act::Signal(k) => has_condition(w, x, *k),
-        Act::Broadcast(k) => has_condition(w, x, *k),
+        Act::Lock(_) | Act::TryLock(_) | Act::Unlock(_) | Act::Load(_) | Act::Store(_, _) => true,
+        Act::Wait(k, _) | Act::Signal(k) | Act::Broadcast(k) => has_condition(w, x, *k),
         _ => false,
     }
 }
@@ -182,37 +111,24 @@ fn eventual_answers(w: &Workload, act: &Act) -> bool
     ensures allows { IsTrue result → EventualAllows (act_of act.now) }
     ensures pools { IsTrue result → All (IsPoolOf w.now) (contents_asked (act_of act.now)).pools }
 {
-    match act {
-        Act::Await(_) => true,
-        Act::Fill(_) => true,
-        Act::Reset => true,
-        Act::Test => true,
-        _ => false,
-    }
+    matches!(act, Act::Await(_) | Act::Fill(_) | Act::Reset | Act::Test)
 }
 
 fn barrier_answers(w: &Workload, act: &Act) -> bool
     ensures allows { IsTrue result → BarrierAllows (act_of act.now) }
     ensures pools { IsTrue result → All (IsPoolOf w.now) (contents_asked (act_of act.now)).pools }
 {
-    match act {
-        Act::Arrive(_) => true,
-        _ => false,
-    }
+    matches!(act, Act::Arrive(_))
 }
 
 fn rwlock_answers(w: &Workload, act: &Act) -> bool
     ensures allows { IsTrue result → RwLockAllows (act_of act.now) }
     ensures pools { IsTrue result → All (IsPoolOf w.now) (contents_asked (act_of act.now)).pools }
 {
-    match act {
-        Act::ReadLock(_) => true,
-        Act::WriteLock(_) => true,
-        Act::RwUnlock(_) => true,
-        Act::Load(_) => true,
-        Act::Store(_, _) => true,
-        _ => false,
-    }
+    matches!(
+        act,
+        Act::ReadLock(_) | Act::WriteLock(_) | Act::RwUnlock(_) | Act::Load(_) | Act::Store(_, _)
+    )
 }
 
 // Whether the mutex has a condition of that place.

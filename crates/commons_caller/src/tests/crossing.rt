@@ -40,15 +40,25 @@ const ROUND: [(Site, Request); 8] = [
     (RWLOCK, Request::WriteLock),
 ];
 
-// A unit that has the mutex, or writes at the reader-writer lock, unlocks it, and so does each that gets it then, until nobody
-// waits.
-fn unlock<'w, C: Commons<'w>>(
+// What is asked at the site after what was heard there. A unit that has the mutex, or writes at the reader-writer lock, unlocks
+// it, and so does each that gets it then. After a unit that went back to the FIFO pool goes the next in hand.
+fn next_request(site: Site, heard: Option<Heard>) -> Option<Request> {
+    match heard? {
+        Heard::Given(u) | Heard::Woke(Some(u)) if site == MONITOR => Some(Request::Unlock(u)),
+        Heard::Given(u) | Heard::Woke(Some(u)) if site == RWLOCK => Some(Request::RwUnlock(u)),
+        Heard::Rested if site == FIFO => Some(Request::Put),
+        _ => None,
+    }
+}
+
+// Asks the site for this, and for what comes next, until nothing does.
+fn play_on<'w, C: Commons<'w>>(
     commons: &C,
     pass: &mut C::Pass,
     w: &Workload,
     hand: &mut Chain,
     site: Site,
-    mut owner: u32,
+    mut request: Option<Request>,
 )
     requires workload { C.workload commons.now ≡ w.now }
     requires pass { C.is_of commons.now pass.old }
@@ -58,31 +68,8 @@ fn unlock<'w, C: Commons<'w>>(
     ensures hand { All (Fits w.now) hand.new.units }
 {
     for _ in 0..w.units() {
-        let request = if site == MONITOR {
-            Request::Unlock(owner)
-        } else {
-            Request::RwUnlock(owner)
-        };
-        match play(commons, pass, w, hand, site, request) {
-            Some(Heard::Given(next)) | Some(Heard::Woke(Some(next))) => owner = next,
-            _ => return,
-        }
-    }
-}
-
-// All units in hand go back to the FIFO pool.
-fn put_all<'w, C: Commons<'w>>(commons: &C, pass: &mut C::Pass, w: &Workload, hand: &mut Chain)
-    requires workload { C.workload commons.now ≡ w.now }
-    requires pass { C.is_of commons.now pass.old }
-    requires hand { All (Fits w.now) hand.old.units }
-    ensures pass { C.is_of commons.now pass.new }
-    ensures number { C.number pass.new ≡ C.number pass.old }
-    ensures hand { All (Fits w.now) hand.new.units }
-{
-    for _ in 0..w.units() {
-        if play(commons, pass, w, hand, FIFO, Request::Put).is_none() {
-            return;
-        }
+        let Some(asked) = request else { return };
+        request = next_request(site, play(commons, pass, w, hand, site, asked));
     }
 }
 
@@ -104,13 +91,9 @@ fn play_round<'w, C: Commons<'w>>(
     for (site, request) in &ROUND {
         let heard = play(commons, pass, w, hand, *site, *request);
         assert!(rt; heard.is_some() && heard != Some(Heard::Miss));
-        if let Some(Heard::Given(owner)) = heard
-            && (*site == MONITOR || *site == RWLOCK)
-        {
-            unlock(commons, pass, w, hand, *site, owner);
-        }
+        play_on(commons, pass, w, hand, *site, next_request(*site, heard));
     }
-    put_all(commons, pass, w, hand);
+    play_on(commons, pass, w, hand, FIFO, Some(Request::Put));
 }
 
 // All rounds of a thread. It takes one unit more, and keeps it with those that the others keep.
