@@ -222,7 +222,7 @@ fn are(order: &[PoolNo], wanted: &[u32]) -> bool {
     order.len() == wanted.len() && order.iter().zip(wanted).all(|(p, number)| p.0 == *number)
 }
 
-// The rounds of a row are those that it says.
+// The rounds of a row are those that it says: in a list each, and in the list of the round before.
 fn check(
     rt: &impl Abort,
     alloc: Global,
@@ -231,31 +231,18 @@ fn check(
 ) -> Result<(), Fail> {
     let w = read(alloc, text(alloc, rule)?.as_bytes())?;
     let mut scheduler = tried(rt, &w);
+    let mut other = tried(rt, &w);
+    let mut kept = Vec::new(alloc);
     for wanted in rounds {
         let order = next_round(alloc, &mut scheduler, &w, orders)?;
         assert!(rt; are(&order, wanted), "{rule}");
+        next_round_into(&mut other, &w, orders, &mut kept)?;
+        assert!(rt; are(&kept, wanted), "{rule}");
     }
     Ok(())
 }
 
-// As `check`, each round in the list of the round before.
-fn check_into(
-    rt: &impl Abort,
-    alloc: Global,
-    orders: &[StoredOrder; 2],
-    (rule, rounds): Row,
-) -> Result<(), Fail> {
-    let w = read(alloc, text(alloc, rule)?.as_bytes())?;
-    let mut scheduler = tried(rt, &w);
-    let mut order = Vec::new(alloc);
-    for wanted in rounds {
-        next_round_into(&mut scheduler, &w, orders, &mut order)?;
-        assert!(rt; are(&order, wanted), "{rule}");
-    }
-    Ok(())
-}
-
-// Both of all rows.
+// So it is of all rows.
 fn check_all(
     rt: &impl Abort,
     alloc: Global,
@@ -264,7 +251,6 @@ fn check_all(
 ) -> Result<(), Fail> {
     for row in rows {
         check(rt, alloc, orders, *row)?;
-        check_into(rt, alloc, orders, *row)?;
     }
     Ok(())
 }

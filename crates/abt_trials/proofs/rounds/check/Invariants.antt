@@ -1,10 +1,16 @@
-use Rattle.std.proofs.Common.{◌≤◌}
-use Rattle.abt_order.specs.Schedulers.{IsSchedulerOf, IsStored}
+use Rattle.std.proofs.Common.{ℕ, ◌≤◌}
+use Rattle.abt_machine.specs.declared.workload.Parts.{Parts}
+use Rattle.abt_order.specs.Schedulers.{SchedulerValue, IsSchedulerOf, IsStored}
 use Rattle.abt_trials.proofs.rounds.check.Given as goal
+
+-- a scheduler of the workload that has made so many rounds at most
+pub record Tried (W : Parts) (s : SchedulerValue) (rounds : ℕ) : Type 0 where
+  pub scheduler : IsSchedulerOf W s
+  pub stored : IsStored W s.number 2
+  pub round : s.round ≤ rounds
 
 abbrev pub invariant-loop-wanted : goal.invariant-loop-wanted
 invariant-loop-wanted g l = record {
-  scheduler : IsSchedulerOf l.w-inside.parts l.scheduler;
-  stored : IsStored l.w-inside.parts l.scheduler.number 2;
-  round : l.scheduler.round ≤ l.wanted-index;
+  scheduler : Tried l.w-inside.parts l.scheduler l.wanted-index;
+  other : Tried l.w-inside.parts l.other l.wanted-index;
 }
