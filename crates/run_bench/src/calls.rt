@@ -1,4 +1,5 @@
-//! Runs and verdicts. Of each call Err says that no memory was found, or that a text is no journal's.
+//! Runs and verdicts. Of each call Err says that no memory was found, or that a text is no journal's. No scheduler of these
+//! workloads has a stored order, but a run is passed two.
 
 ghost use Rattle.std.specs.Prelude.{◌≤◌, length};
 
@@ -27,36 +28,31 @@ fn not_journal(cause: NotJournal) -> io::Error {
 }
 
 /// The run of a workload on this thread.
-pub fn drained(alloc: Global, orders: &[StoredOrder], w: &Workload, steps: u64) -> io::Result<Run>
-    requires orders { 2 ≤ length orders.now }
-{
-    drain(alloc, w, orders, steps).map_err(no_memory)
+pub fn drained(alloc: Global, w: &Workload, steps: u64) -> io::Result<Run> {
+    let orders = [StoredOrder::rotating(), StoredOrder::mirroring()];
+    drain(alloc, w, &orders, steps).map_err(no_memory)
 }
 
 /// A run of a workload on threads.
 pub fn threaded<R: Threads + Wait + Sync>(
     rt: &R,
     alloc: Global,
-    orders: &[StoredOrder],
     w: &Workload,
     steps: u64,
-) -> io::Result<Run>
-    requires orders { 2 ≤ length orders.now }
-{
-    run_streams(alloc, rt, w, orders, &NoPace, steps).map_err(no_memory)
+) -> io::Result<Run> {
+    let orders = [StoredOrder::rotating(), StoredOrder::mirroring()];
+    run_streams(alloc, rt, w, &orders, &NoPace, steps).map_err(no_memory)
 }
 
 /// How many events the streams of a workload make in a first wave, on threads. Their logs are not merged.
 pub fn waved<R: Threads + Wait + Sync>(
     rt: &R,
     alloc: Global,
-    orders: &[StoredOrder],
     w: &Workload,
     steps: u64,
-) -> io::Result<u64>
-    requires orders { 2 ≤ length orders.now }
-{
-    let streams = first_wave(rt, alloc, orders, w, steps).map_err(no_memory)?;
+) -> io::Result<u64> {
+    let orders = [StoredOrder::rotating(), StoredOrder::mirroring()];
+    let streams = first_wave(rt, alloc, &orders, w, steps).map_err(no_memory)?;
     Ok(
         streams.iter().fold(0, |events: u64, stream| {
             events.saturating_add(stream.log().len() as u64)
@@ -83,27 +79,14 @@ fn first_wave<'w, R: Threads + Wait + Sync>(
 }
 
 /// Whether a journal is a run of a workload.
-pub fn judged(
-    alloc: Global,
-    orders: &[StoredOrder],
-    w: &Workload,
-    journal: &Journal,
-) -> io::Result<Verdict>
-    requires orders { 2 ≤ length orders.now }
-{
-    check(alloc, w, orders, journal).map_err(no_memory)
+pub fn judged(alloc: Global, w: &Workload, journal: &Journal) -> io::Result<Verdict> {
+    let orders = [StoredOrder::rotating(), StoredOrder::mirroring()];
+    check(alloc, w, &orders, journal).map_err(no_memory)
 }
 
 /// The text of the journal of a workload's run on this thread.
-pub fn drained_text(
-    alloc: Global,
-    orders: &[StoredOrder],
-    w: &Workload,
-    steps: u64,
-) -> io::Result<Vec<u8>>
-    requires orders { 2 ≤ length orders.now }
-{
-    let run = drained(alloc, orders, w, steps)?;
+pub fn drained_text(alloc: Global, w: &Workload, steps: u64) -> io::Result<Vec<u8>> {
+    let run = drained(alloc, w, steps)?;
     journal_text(alloc, &run.journal).map_err(no_memory)
 }
 

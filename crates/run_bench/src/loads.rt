@@ -68,24 +68,6 @@ stream 2 main 2
 stream 3 main 3
 ";
 
-const LOCKS: &str = "lock 0
-unlock 0
-lock 0
-unlock 0
-lock 0
-unlock 0
-lock 0
-unlock 0
-lock 0
-unlock 0
-lock 0
-unlock 0
-lock 0
-unlock 0
-lock 0
-unlock 0
-";
-
 const BUSY_UNITS: &str = "units 200
 many 0 200 ult at 0
 repeat 250 yield
@@ -114,20 +96,8 @@ repeat 256 yield
 ",
 ];
 
-static MUTEX: [&str; 10] = [
-    FOUR_STREAMS,
-    "object 0 mutex
-units 4000
-",
-    "many 0 1000 ult at 0\n",
-    LOCKS,
-    "many 1000 1000 ult at 1\n",
-    LOCKS,
-    "many 2000 1000 ult at 2\n",
-    LOCKS,
-    "many 3000 1000 ult at 3\n",
-    LOCKS,
-];
+// The units that lock the mutex come behind these.
+static MUTEX: [&str; 2] = [FOUR_STREAMS, "object 0 mutex\nunits 4000\n"];
 
 // The units that create these come behind them.
 static POOL: [&str; 1] = [
@@ -269,14 +239,16 @@ impl Load {
         for piece in self.pieces() {
             text.push_str(piece)?;
         }
-        if let Load::Pool = self {
-            add_creators(alloc, &mut text)?;
+        match self {
+            Load::Mutex => add_lockers(alloc, &mut text)?,
+            Load::Pool => add_creators(alloc, &mut text)?,
+            _ => {}
         }
         text.push_str("end\n")?;
         Ok(text)
     }
 
-    // The pieces of its text, but for the units of `Pool` that create others, and the last line.
+    // The pieces of its text, but for the units of `Mutex`, those of `Pool` that create others, and the last line.
     fn pieces(self) -> &'static [&'static str] {
         match self {
             Load::One => &ONE,
@@ -291,6 +263,24 @@ impl Load {
             Load::BusyBesideSeven => &BUSY_BESIDE_SEVEN,
         }
     }
+}
+
+// A thousand units in each pool, that lock the mutex eight times.
+fn add_lockers(alloc: Global, text: &mut String) -> Result<(), AllocError> {
+    for pool in 0..4 {
+        let unit = pool * 1000;
+        text.push_str(&format!(in alloc; "many {unit} 1000 ult at {pool}\n")?)?;
+        add_locks(text)?;
+    }
+    Ok(())
+}
+
+// The operations of one of them.
+fn add_locks(text: &mut String) -> Result<(), AllocError> {
+    for _ in 0..8 {
+        text.push_str("lock 0\nunlock 0\n")?;
+    }
+    Ok(())
 }
 
 // The units in pool 0 that create those above.

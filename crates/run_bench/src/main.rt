@@ -2,8 +2,6 @@
 //! what is the same in every run.
 #![tactic(auto)]
 
-ghost use Rattle.std.specs.Prelude.{◌≤◌, length};
-
 mod calls;
 mod figures;
 mod loads;
@@ -12,9 +10,9 @@ mod rounds;
 mod small;
 mod subjects;
 
+use crate::races::races;
 use crate::small::small;
-use crate::subjects::{check, idle, shared, threads};
-use abt_order::StoredOrder;
+use crate::subjects::{CHECK, IDLE, SHARED, THREADS};
 use std::alloc::Global;
 use std::rt::Clock;
 use std::sync::Wait;
@@ -24,45 +22,33 @@ use std::{env, io};
 const USAGE: &str = "usage: run_bench small|threads|shared|idle|check|all";
 
 // All subjects, one after the other.
-fn all<R: Threads + Wait + Sync + Print + Clock>(
-    rt: &R,
-    alloc: Global,
-    orders: &[StoredOrder],
-) -> io::Result<()>
-    requires orders { 2 ≤ length orders.now }
-{
-    threads(rt, alloc, orders)?;
-    shared(rt, alloc, orders)?;
-    idle(rt, alloc, orders)?;
-    check(rt, alloc, orders)
+fn all<R: Threads + Wait + Sync + Print + Clock>(rt: &R, alloc: Global) -> io::Result<()> {
+    races(rt, alloc, &THREADS)?;
+    races(rt, alloc, &SHARED)?;
+    races(rt, alloc, &IDLE)?;
+    races(rt, alloc, &CHECK)
 }
 
 // The subject of that name.
 fn subject<R: Threads + Wait + Sync + Print + Eprint + Clock>(
     rt: &R,
     alloc: Global,
-    orders: &[StoredOrder],
     name: &str,
-) -> io::Result<()>
-    requires orders { 2 ≤ length orders.now }
-{
+) -> io::Result<()> {
     match name {
-        "small" => small(rt, alloc, orders),
-        "threads" => threads(rt, alloc, orders),
-        "shared" => shared(rt, alloc, orders),
-        "idle" => idle(rt, alloc, orders),
-        "check" => check(rt, alloc, orders),
-        "all" => all(rt, alloc, orders),
+        "small" => small(rt, alloc),
+        "threads" => races(rt, alloc, &THREADS),
+        "shared" => races(rt, alloc, &SHARED),
+        "idle" => races(rt, alloc, &IDLE),
+        "check" => races(rt, alloc, &CHECK),
+        "all" => all(rt, alloc),
         _ => eprintln!(rt; "{USAGE}"),
     }
 }
 
 fn main(rt: HostRuntime) -> io::Result<()> {
-    let alloc = rt.alloc();
     let Some(name) = env::args(&rt)?.nth(1) else {
         return eprintln!(&rt; "{USAGE}");
     };
-    // No scheduler of these workloads has a stored order, but a run is passed two.
-    let orders = [StoredOrder::rotating(), StoredOrder::mirroring()];
-    subject(&rt, alloc, &orders, name.as_str())
+    subject(&rt, rt.alloc(), name.as_str())
 }

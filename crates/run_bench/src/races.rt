@@ -1,12 +1,9 @@
 //! Races: kinds of work, of which a round each takes turns.
 
-ghost use Rattle.std.specs.Prelude.{◌≤◌, length};
-
 use crate::figures::{Figures, Lap};
 use crate::loads::Load;
 use crate::rounds::{Task, Work, timed};
 use abt_machine::Workload;
-use abt_order::StoredOrder;
 use std::alloc::Global;
 use std::io;
 use std::rt::Clock;
@@ -15,30 +12,24 @@ use std::thread::Threads;
 
 const ROUNDS: u32 = 21;
 
-/// A kind of work on a workload, by the name under which its times are printed.
-#[derive(Clone, Copy)]
-pub struct Entry {
-    pub name: &'static str,
-    pub load: Load,
-    pub work: Work,
-}
+/// A kind of work on a workload.
+pub type Entry = (Load, Work);
 
-// An entry with all that its rounds need.
+// An entry with all that its rounds need, by the name under which its times are printed.
 #[derive(Drop)]
 struct Racer {
-    name: &'static str,
+    name: String,
     workload: Workload,
     task: Task,
 }
 
 impl Racer {
-    fn new(alloc: Global, orders: &[StoredOrder], entry: Entry) -> io::Result<Racer>
-        requires orders { 2 ≤ length orders.now }
-    {
-        let workload = entry.load.workload(alloc)?;
-        let task = Task::new(alloc, orders, &workload, entry.work)?;
+    fn new(alloc: Global, (load, work): Entry) -> io::Result<Racer> {
+        let name = format!(in alloc; "{}, {}", load.name(), work.name())?;
+        let workload = load.workload(alloc)?;
+        let task = Task::new(alloc, &workload, work)?;
         Ok(Racer {
-            name: entry.name,
+            name,
             workload,
             task,
         })
@@ -46,35 +37,42 @@ impl Racer {
 
     // Its figures, printed.
     fn print<R: Print>(&self, rt: &R, figures: Figures) -> io::Result<()> {
-        figures.print(rt, self.name)?;
+        figures.print(rt, &self.name)?;
         match self.task.bytes() {
-            Some(bytes) => figures.print_bytes(rt, self.name, bytes),
+            Some(bytes) => figures.print_bytes(rt, &self.name, bytes),
             None => Ok(()),
         }
     }
 }
 
-/// Prints the times of all entries, and how those of each but the first stand to the first's.
-pub fn race<R: Threads + Wait + Sync + Print + Clock>(
+/// Prints the times of all entries of each race, and how those of each but the first stand to the first's.
+pub fn races<R: Threads + Wait + Sync + Print + Clock>(
     rt: &R,
     alloc: Global,
-    orders: &[StoredOrder],
+    races: &[&[Entry]],
+) -> io::Result<()> {
+    for entries in races {
+        race(rt, alloc, entries)?;
+    }
+    Ok(())
+}
+
+// The same of one race.
+fn race<R: Threads + Wait + Sync + Print + Clock>(
+    rt: &R,
+    alloc: Global,
     entries: &[Entry],
-) -> io::Result<()>
-    requires orders { 2 ≤ length orders.now }
-{
-    let racers = racers(alloc, orders, entries)?;
-    let laps = laps(rt, alloc, orders, &racers)?;
+) -> io::Result<()> {
+    let racers = racers(alloc, entries)?;
+    let laps = laps(rt, alloc, &racers)?;
     print_race(rt, alloc, &racers, &laps)
 }
 
 // The entries, each with all that its rounds need.
-fn racers(alloc: Global, orders: &[StoredOrder], entries: &[Entry]) -> io::Result<Vec<Racer>>
-    requires orders { 2 ≤ length orders.now }
-{
+fn racers(alloc: Global, entries: &[Entry]) -> io::Result<Vec<Racer>> {
     let mut racers = Vec::new(alloc);
     for entry in entries {
-        racers.push(Racer::new(alloc, orders, *entry)?)?;
+        racers.push(Racer::new(alloc, *entry)?)?;
     }
     Ok(racers)
 }
@@ -83,14 +81,11 @@ fn racers(alloc: Global, orders: &[StoredOrder], entries: &[Entry]) -> io::Resul
 fn laps<R: Threads + Wait + Sync + Clock>(
     rt: &R,
     alloc: Global,
-    orders: &[StoredOrder],
     racers: &[Racer],
-) -> io::Result<Vec<Lap>>
-    requires orders { 2 ≤ length orders.now }
-{
+) -> io::Result<Vec<Lap>> {
     let mut laps = Vec::new(alloc);
     for _ in 0..ROUNDS {
-        add_laps(rt, alloc, orders, racers, &mut laps)?;
+        add_laps(rt, alloc, racers, &mut laps)?;
     }
     Ok(laps)
 }
@@ -99,14 +94,11 @@ fn laps<R: Threads + Wait + Sync + Clock>(
 fn add_laps<R: Threads + Wait + Sync + Clock>(
     rt: &R,
     alloc: Global,
-    orders: &[StoredOrder],
     racers: &[Racer],
     laps: &mut Vec<Lap>,
-) -> io::Result<()>
-    requires orders { 2 ≤ length orders.now }
-{
+) -> io::Result<()> {
     for (number, racer) in racers.iter().enumerate() {
-        let round = timed(rt, alloc, orders, &racer.workload, &racer.task)?;
+        let round = timed(rt, alloc, &racer.workload, &racer.task)?;
         laps.push(Lap {
             racer: number,
             round,
@@ -125,7 +117,7 @@ fn print_race<R: Print>(rt: &R, alloc: Global, racers: &[Racer], laps: &[Lap]) -
     for (at, racer) in others.iter().enumerate() {
         let figures = Figures::of(alloc, laps, at + 1)?;
         racer.print(rt, figures)?;
-        figures.print_beside(rt, racer.name, base, first.name)?;
+        figures.print_beside(rt, &racer.name, base, &first.name)?;
     }
     Ok(())
 }

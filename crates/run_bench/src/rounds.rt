@@ -1,11 +1,9 @@
 //! What is timed in a round.
 
-ghost use Rattle.std.specs.Prelude.{◌≤◌, length};
-
 use crate::calls::{drained, drained_text, journal_of, judged, threaded, waved};
 use abt_check::Verdict;
+use abt_drain::Run;
 use abt_machine::{Journal, Workload};
-use abt_order::StoredOrder;
 use std::alloc::Global;
 use std::io;
 use std::rt::Clock;
@@ -31,6 +29,18 @@ pub enum Work {
     Text,
 }
 
+impl Work {
+    pub fn name(self) -> &'static str {
+        match self {
+            Work::Drain => "drained",
+            Work::Streams => "on threads",
+            Work::Wave => "a wave alone",
+            Work::Check => "checked",
+            Work::Text => "read and checked",
+        }
+    }
+}
+
 /// Some work, and what was made for it beforehand.
 #[derive(Drop)]
 pub enum Task {
@@ -42,18 +52,16 @@ pub enum Task {
 }
 
 impl Task {
-    pub fn new(alloc: Global, orders: &[StoredOrder], w: &Workload, work: Work) -> io::Result<Task>
-        requires orders { 2 ≤ length orders.now }
-    {
+    pub fn new(alloc: Global, w: &Workload, work: Work) -> io::Result<Task> {
         match work {
             Work::Drain => Ok(Task::Drain),
             Work::Streams => Ok(Task::Streams),
             Work::Wave => Ok(Task::Wave),
             Work::Check => {
-                let run = drained(alloc, orders, w, STEPS)?;
+                let run = drained(alloc, w, STEPS)?;
                 Ok(Task::Check(run.journal))
             }
-            Work::Text => Ok(Task::Text(drained_text(alloc, orders, w, STEPS)?)),
+            Work::Text => Ok(Task::Text(drained_text(alloc, w, STEPS)?)),
         }
     }
 
@@ -73,110 +81,71 @@ pub struct Round {
     pub took: Duration,
 }
 
-/// Times a task of a workload.
+/// Times a task of a workload. What the task makes is let go after the time is taken.
 pub fn timed<R: Threads + Wait + Sync + Clock>(
     rt: &R,
     alloc: Global,
-    orders: &[StoredOrder],
     w: &Workload,
     task: &Task,
-) -> io::Result<Round>
-    requires orders { 2 ≤ length orders.now }
-{
-    match task {
-        Task::Drain => drain_round(rt, alloc, orders, w),
-        Task::Streams => streams_round(rt, alloc, orders, w),
-        Task::Wave => wave_round(rt, alloc, orders, w),
-        Task::Check(journal) => check_round(rt, alloc, orders, w, journal),
-        Task::Text(text) => text_round(rt, alloc, orders, w, text),
-    }
-}
-
-fn drain_round<R: Clock>(
-    rt: &R,
-    alloc: Global,
-    orders: &[StoredOrder],
-    w: &Workload,
-) -> io::Result<Round>
-    requires orders { 2 ≤ length orders.now }
-{
+) -> io::Result<Round> {
     let start = Instant::now(rt)?;
-    let run = drained(alloc, orders, w, STEPS)?;
+    let made = made(rt, alloc, w, task)?;
     let took = start.elapsed(rt)?;
-    Ok(made(&run.journal, took))
-}
-
-fn streams_round<R: Threads + Wait + Sync + Clock>(
-    rt: &R,
-    alloc: Global,
-    orders: &[StoredOrder],
-    w: &Workload,
-) -> io::Result<Round>
-    requires orders { 2 ≤ length orders.now }
-{
-    let start = Instant::now(rt)?;
-    let run = threaded(rt, alloc, orders, w, STEPS)?;
-    let took = start.elapsed(rt)?;
-    Ok(made(&run.journal, took))
-}
-
-fn wave_round<R: Threads + Wait + Sync + Clock>(
-    rt: &R,
-    alloc: Global,
-    orders: &[StoredOrder],
-    w: &Workload,
-) -> io::Result<Round>
-    requires orders { 2 ≤ length orders.now }
-{
-    let start = Instant::now(rt)?;
-    let events = waved(rt, alloc, orders, w, STEPS)?;
-    let took = start.elapsed(rt)?;
-    Ok(Round { events, took })
-}
-
-fn check_round<R: Clock>(
-    rt: &R,
-    alloc: Global,
-    orders: &[StoredOrder],
-    w: &Workload,
-    journal: &Journal,
-) -> io::Result<Round>
-    requires orders { 2 ≤ length orders.now }
-{
-    let start = Instant::now(rt)?;
-    let verdict = judged(alloc, orders, w, journal)?;
-    let took = start.elapsed(rt)?;
-    passed(verdict, journal, took)
-}
-
-fn text_round<R: Clock>(
-    rt: &R,
-    alloc: Global,
-    orders: &[StoredOrder],
-    w: &Workload,
-    text: &[u8],
-) -> io::Result<Round>
-    requires orders { 2 ≤ length orders.now }
-{
-    let start = Instant::now(rt)?;
-    let journal = journal_of(alloc, text)?;
-    let verdict = judged(alloc, orders, w, &journal)?;
-    let took = start.elapsed(rt)?;
-    passed(verdict, &journal, took)
-}
-
-// The round of a journal.
-fn made(journal: &Journal, took: Duration) -> Round {
-    Round {
-        events: journal.items().len() as u64,
+    Ok(Round {
+        events: made.events(),
         took,
+    })
+}
+
+// What a task made or judged: a run, a journal, or so many events.
+#[derive(Drop)]
+enum Made {
+    Run(Run),
+    Journal(Journal),
+    Events(u64),
+}
+
+impl Made {
+    fn events(&self) -> u64 {
+        match self {
+            Made::Run(run) => count(&run.journal),
+            Made::Journal(journal) => count(journal),
+            Made::Events(events) => *events,
+        }
     }
 }
 
-// The round of a journal that is a run; any other is an error.
-fn passed(verdict: Verdict, journal: &Journal, took: Duration) -> io::Result<Round> {
-    match verdict {
-        Verdict::Run => Ok(made(journal, took)),
+fn count(journal: &Journal) -> u64 {
+    journal.items().len() as u64
+}
+
+// What the task makes.
+fn made<R: Threads + Wait + Sync>(
+    rt: &R,
+    alloc: Global,
+    w: &Workload,
+    task: &Task,
+) -> io::Result<Made> {
+    match task {
+        Task::Drain => Ok(Made::Run(drained(alloc, w, STEPS)?)),
+        Task::Streams => Ok(Made::Run(threaded(rt, alloc, w, STEPS)?)),
+        Task::Wave => Ok(Made::Events(waved(rt, alloc, w, STEPS)?)),
+        Task::Check(journal) => Ok(Made::Events(passed(alloc, w, journal)?)),
+        Task::Text(text) => Ok(Made::Journal(read(alloc, w, text)?)),
+    }
+}
+
+// The journal of a text that is a run's.
+fn read(alloc: Global, w: &Workload, text: &[u8]) -> io::Result<Journal> {
+    let journal = journal_of(alloc, text)?;
+    passed(alloc, w, &journal)?;
+    Ok(journal)
+}
+
+// How many events a journal has that is a run; any other is an error.
+fn passed(alloc: Global, w: &Workload, journal: &Journal) -> io::Result<u64> {
+    match judged(alloc, w, journal)? {
+        Verdict::Run => Ok(count(journal)),
         Verdict::Bad { .. } => Err(io::Error::from(io::ErrorKind::InvalidData)),
     }
 }

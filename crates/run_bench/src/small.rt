@@ -1,12 +1,9 @@
 //! A few steps of each workload.
 
-ghost use Rattle.std.specs.Prelude.{◌≤◌, length};
-
 use crate::calls::{drained_text, journal_of, judged, threaded};
 use crate::loads::{LOADS, Load};
 use abt_check::Verdict;
 use abt_machine::{Journal, Workload};
-use abt_order::StoredOrder;
 use std::alloc::Global;
 use std::io;
 use std::sync::Wait;
@@ -17,15 +14,9 @@ const STEPS: u64 = 100;
 
 /// Of each workload, how many events its run on one thread has, and that this run's text is read as a run, as any run on threads is
 /// one.
-pub fn small<R: Threads + Wait + Sync + Print>(
-    rt: &R,
-    alloc: Global,
-    orders: &[StoredOrder],
-) -> io::Result<()>
-    requires orders { 2 ≤ length orders.now }
-{
+pub fn small<R: Threads + Wait + Sync + Print>(rt: &R, alloc: Global) -> io::Result<()> {
     for load in LOADS {
-        small_load(rt, alloc, orders, load)?;
+        small_load(rt, alloc, load)?;
     }
     Ok(())
 }
@@ -34,15 +25,12 @@ pub fn small<R: Threads + Wait + Sync + Print>(
 fn small_load<R: Threads + Wait + Sync + Print>(
     rt: &R,
     alloc: Global,
-    orders: &[StoredOrder],
     load: Load,
-) -> io::Result<()>
-    requires orders { 2 ≤ length orders.now }
-{
+) -> io::Result<()> {
     let w = load.workload(alloc)?;
-    let read = drained_journal(alloc, orders, &w)?;
-    let drained = judged(alloc, orders, &w, &read)?;
-    let threaded = threaded_verdict(rt, alloc, orders, &w)?;
+    let read = drained_journal(alloc, &w)?;
+    let drained = judged(alloc, &w, &read)?;
+    let threaded = threaded_verdict(rt, alloc, &w)?;
     println!(rt;
         "{name}: {events} events, {drained:?}; on threads {threaded:?}",
         name = load.name(),
@@ -51,10 +39,8 @@ fn small_load<R: Threads + Wait + Sync + Print>(
 }
 
 // The journal of the run on one thread, read from its text.
-fn drained_journal(alloc: Global, orders: &[StoredOrder], w: &Workload) -> io::Result<Journal>
-    requires orders { 2 ≤ length orders.now }
-{
-    let text = drained_text(alloc, orders, w, STEPS)?;
+fn drained_journal(alloc: Global, w: &Workload) -> io::Result<Journal> {
+    let text = drained_text(alloc, w, STEPS)?;
     journal_of(alloc, &text)
 }
 
@@ -62,11 +48,8 @@ fn drained_journal(alloc: Global, orders: &[StoredOrder], w: &Workload) -> io::R
 fn threaded_verdict<R: Threads + Wait + Sync>(
     rt: &R,
     alloc: Global,
-    orders: &[StoredOrder],
     w: &Workload,
-) -> io::Result<Verdict>
-    requires orders { 2 ≤ length orders.now }
-{
-    let run = threaded(rt, alloc, orders, w, STEPS)?;
-    judged(alloc, orders, w, &run.journal)
+) -> io::Result<Verdict> {
+    let run = threaded(rt, alloc, w, STEPS)?;
+    judged(alloc, w, &run.journal)
 }
