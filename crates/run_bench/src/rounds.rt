@@ -89,28 +89,28 @@ pub fn timed<R: Threads + Wait + Sync + Clock>(
     task: &Task,
 ) -> io::Result<Round> {
     let start = Instant::now(rt)?;
-    let made = made(rt, alloc, w, task)?;
+    let outcome = carry_out(rt, alloc, w, task)?;
     let took = start.elapsed(rt)?;
     Ok(Round {
-        events: made.events(),
+        events: outcome.events(),
         took,
     })
 }
 
 // What a task made or judged: a run, a journal, or so many events.
 #[derive(Drop)]
-enum Made {
+enum Outcome {
     Run(Run),
     Journal(Journal),
     Events(u64),
 }
 
-impl Made {
+impl Outcome {
     fn events(&self) -> u64 {
         match self {
-            Made::Run(run) => count(&run.journal),
-            Made::Journal(journal) => count(journal),
-            Made::Events(events) => *events,
+            Outcome::Run(run) => count(&run.journal),
+            Outcome::Journal(journal) => count(journal),
+            Outcome::Events(events) => *events,
         }
     }
 }
@@ -120,18 +120,18 @@ fn count(journal: &Journal) -> u64 {
 }
 
 // What the task makes.
-fn made<R: Threads + Wait + Sync>(
+fn carry_out<R: Threads + Wait + Sync>(
     rt: &R,
     alloc: Global,
     w: &Workload,
     task: &Task,
-) -> io::Result<Made> {
+) -> io::Result<Outcome> {
     match task {
-        Task::Drain => Ok(Made::Run(drained(alloc, w, STEPS)?)),
-        Task::Streams => Ok(Made::Run(threaded(rt, alloc, w, STEPS)?)),
-        Task::Wave => Ok(Made::Events(waved(rt, alloc, w, STEPS)?)),
-        Task::Check(journal) => Ok(Made::Events(passed(alloc, w, journal)?)),
-        Task::Text(text) => Ok(Made::Journal(read(alloc, w, text)?)),
+        Task::Drain => Ok(Outcome::Run(drained(alloc, w, STEPS)?)),
+        Task::Streams => Ok(Outcome::Run(threaded(rt, alloc, w, STEPS)?)),
+        Task::Wave => Ok(Outcome::Events(waved(rt, alloc, w, STEPS)?)),
+        Task::Check(journal) => Ok(Outcome::Events(passed(alloc, w, journal)?)),
+        Task::Text(text) => Ok(Outcome::Journal(read(alloc, w, text)?)),
     }
 }
 
