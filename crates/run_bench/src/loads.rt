@@ -267,7 +267,7 @@ impl Load {
 
 // A thousand units in each pool, that lock the mutex eight times.
 fn add_lockers(alloc: Global, text: &mut String) -> Result<(), AllocError> {
-    for pool in 0..4 {
+    for pool in 0..4_u32 {
         let unit = pool * 1000;
         text.push_str(&format!(in alloc; "many {unit} 1000 ult at {pool}\n")?)?;
         add_locks(text)?;
