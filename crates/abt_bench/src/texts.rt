@@ -8,7 +8,7 @@ use abt_machine::{
     Cause, Code, Event, Journal, Op, Outcome, Output, Piece, PoolNo, Shown, StreamNo, UnitNo, What,
     Workload,
 };
-use abt_report::{NotJournal, Picture, Row, journal_text, read_journal, report};
+use abt_report::{Picture, Row, TextFault, journal_text, read_journal, report};
 use abt_workload::{read, write};
 use bench_times::least_and_middle;
 use std::alloc::Global;
@@ -56,7 +56,7 @@ pub fn times<R: Print + Clock>(rt: &R, alloc: Global) -> io::Result<()> {
     journal_times(rt, alloc)
 }
 
-fn no_journal(_cause: NotJournal) -> io::Error {
+fn no_journal(_cause: TextFault) -> io::Error {
     io::Error::from(io::ErrorKind::InvalidData)
 }
 

@@ -116,7 +116,7 @@ module _ {O A R : Type 0} (does : O → A → R → O → Type 0) (o : O) (n : �
                 (λ (c : (j ≢ id) × (get_elem? s.views j ≡ some u)). absurd (true≢false (sym h ∙ t.5 j u c.1))) (at_set s.views id j w u e)),
           );
         },
-        ((λ _. (o, r.log, lot, f.0, refl, t.3, r.rises, t.4, wd, r.capped, f.2)), (λ no. absurd (no hit))),
+        ((λ _. (o, r.log, lot, f.0, refl, (r.rises, t.3), t.4, wd, r.capped, f.2)), (λ no. absurd (no hit))),
       )
 
   pub takes_turn : (slots id : ℕ) (me : SeatState O A R) (free : ℕ) → free % 2 ≡ 0 → me.0.number < me.0.next

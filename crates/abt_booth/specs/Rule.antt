@@ -7,7 +7,7 @@ use Rattle.atomic_table.specs.Seated.{TableId}
 use Rattle.atomic_table.specs.declared.shared.Seat.{Seat as Raw}
 use Rattle.std.specs.declared.snapshot.Snapshot.{Snapshot}
 use Rattle.abt_interleave.specs.declared.entries.Entry.{Entry}
-use Rattle.abt_interleave.specs.Histories.{last_stamp, Extends, RisesAbove, Leads, entry_stamps}
+use Rattle.abt_interleave.specs.Histories.{last_stamp, Extends, RisesAbove, Leads, Legal, entry_stamps}
 use Rattle.abt_booth.specs.declared.rule.View.{View}
 use Rattle.abt_booth.specs.declared.rule.Lot.{Lot}
 use Rattle.std.specs.List.{All}
@@ -94,7 +94,7 @@ module _ {O A R : Type 0} where
   abbrev pub Takes : (O → A → R → O → Type 0) → SeatState O A R → ℕ → SeatState O A R → Type 0
   Takes does m r m' = (o : O) × (log : List (Entry A R)) × (lot : Lot O A R)
       × (m.0.opening ≡ Some o) × (m' ≡ (holding m.0 log, (0, Some lot) ∷ m.1))
-      × Leads does o log lot.object × RisesAbove 0 (entry_stamps log) × (lot.clock ≡ last_stamp (entry_stamps log)) × (r ≡ 2 * length log) × (last_stamp (entry_stamps log) ≤ 2 ^ 62)
+      × Legal does o log lot.object × (lot.clock ≡ last_stamp (entry_stamps log)) × (r ≡ 2 * length log) × (last_stamp (entry_stamps log) ≤ 2 ^ 62)
       × Extends m.0.number m.0.seen log
 
   -- it took the turn, or found another number

@@ -20,7 +20,7 @@ use Rattle.abt_laws.proofs.Options.{none≢some}
 use Rattle.abt_unit.specs.Fits.{Fits}
 use Rattle.abt_unit.proofs.Fitting.{Fits-with_home}
 use Rattle.abt_chain.specs.Keeping.{Have, IsPoolOf, contents_answered, pools_in}
-use Rattle.abt_monitor.proofs.Kept.{All-left, All-right}
+use Rattle.abt_machine.proofs.Elements.{All-left, All-right}
 use Rattle.abt_calls.specs.Effects.{unit_in, units_left}
 use Rattle.abt_calls.specs.Holders.{units_of}
 use Rattle.abt_calls.specs.Suits.{Suits}

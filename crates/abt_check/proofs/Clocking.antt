@@ -10,11 +10,12 @@ use Rattle.abt_machine.specs.declared.events.Site.TheVariants as site
 use Rattle.abt_machine.specs.declared.workload.Parts.{Parts}
 use Rattle.abt_machine.specs.Sites.{event_site}
 use Rattle.abt_machine.specs.Stamps.{Shares, Stamped}
+use Rattle.abt_machine.proofs.Sites.{place_number}
 use Rattle.abt_calls.specs.Asking.{IsSite}
 use Rattle.abt_laws.proofs.Options.{none≢some, some-injective}
 use Rattle.abt_replay.specs.Objects.{same_place}
 use Rattle.abt_check.specs.Clocks.{AreClocks, ClocksValue, FollowsLast, HasClocks, IsAllowed, IsLatest, IsOfStream, Stamps, Touches, clock_at, clock_of, noted, with_clock, with_site}
-use Rattle.abt_check.proofs.Sites.{one-place, own-place, place_number}
+use Rattle.abt_check.proofs.Sites.{one-place, own-place}
 use Rattle.abt_check.proofs.Stamping.{last-push, stamped-above, stamped-last, stamped-push, stamped-some}
 
 -- The greatest stamp.

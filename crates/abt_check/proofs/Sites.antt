@@ -8,19 +8,10 @@ use Rattle.abt_machine.specs.declared.operations.Thing.TheVariants as thing
 use Rattle.abt_machine.specs.declared.workload.Parts.{Parts}
 use Rattle.abt_machine.specs.Numbers.{object_no, pool_no, unit_no}
 use Rattle.abt_machine.specs.Workloads.{thing_at}
+use Rattle.abt_machine.proofs.Sites.{place_number}
 use Rattle.abt_laws.proofs.Options.{some-injective}
 use Rattle.abt_calls.specs.Asking.{IsSite}
 use Rattle.abt_replay.specs.Objects.{same_place}
-
--- the number of a site's place
-abbrev pub place_number : Site → ℕ
-place_number (site.Pool p) = p.0
-place_number (site.Desk u) = u.0
-place_number (site.Monitor x) = x.0
-place_number (site.Eventual x) = x.0
-place_number (site.Future x) = x.0
-place_number (site.Barrier x) = x.0
-place_number (site.Rw x) = x.0
 
 -- a site has its own place
 pub own-place : (x : Site) → same_place x x ≡ true

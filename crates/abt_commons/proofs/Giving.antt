@@ -21,7 +21,7 @@ use Rattle.abt_machine.specs.Numbers.{pool_no, unit_no}
 use Rattle.abt_machine.specs.Start.{start}
 use Rattle.abt_machine.specs.Workloads.{thing_at}
 use Rattle.abt_unit.specs.Fits.{Fits}
-use Rattle.abt_monitor.proofs.Kept.{All-left, All-right}
+use Rattle.abt_machine.proofs.Elements.{All-left, All-right}
 use Rattle.abt_desk.specs.Keeps.{held_in}
 use Rattle.abt_laws.specs.Footprint.{OfSite}
 use Rattle.abt_calls.specs.Keeps.{contents_of}

@@ -17,7 +17,7 @@ use crate::sites::site_at;
 use abt_chain::Chain;
 use abt_desk::Desk;
 use abt_machine::{ObjectNo, Shown, Site, UnitNo, Want, Workload};
-use abt_monitor::{Monitor, is_condition_of};
+use abt_monitor::Monitor;
 use abt_unit::Unit;
 use std::alloc::Global;
 
@@ -159,7 +159,7 @@ fn give_conditions(
     let mut cond = 0;
     for number in 0..w.objects() {
         let y = ObjectNo(number);
-        if !is_condition_of(x, w.thing(y)) {
+        if !w.thing(y).is_condition_of(x) {
             continue;
         }
         give_alike(Shown::Object(y), monitor.take_waiters(Some(cond)), groups)?;

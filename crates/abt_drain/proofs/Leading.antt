@@ -1,5 +1,5 @@
 -- One event more, in any journal that leads to the moment before it.
-use Rattle.std.proofs.Common.{◌≡◌, ◌≢◌, ℕ, ◌+◌, ◌<◌, ◌==◌, ◌&&◌, inl, inr, Bool, true, false, cond, List, [], ◌∷◌, ◌++◌, Option, Some, None, refl, sym, ◌∙◌, ap, subst, arith}
+use Rattle.std.proofs.Common.{◌≡◌, ◌≢◌, ℕ, ◌+◌, ◌==◌, ◌&&◌, inl, inr, Bool, true, false, cond, List, [], ◌∷◌, ◌++◌, Option, Some, None, refl, sym, ◌∙◌, ap, subst, arith}
 use Rattle.std.proofs.lemmas.Bool.{cases_eq, eq-eqb, ne_eqb}
 use Rattle.std.proofs.lemmas.List.{append_assoc, append-nil}
 use Rattle.std.proofs.lemmas.List.Sums.{sum_by_push}
@@ -8,14 +8,13 @@ use Rattle.abt_machine.specs.declared.events.Site.{Site}
 use Rattle.abt_machine.specs.declared.events.What.{What}
 use Rattle.abt_machine.specs.declared.operations.OrderShape.{OrderShape}
 use Rattle.abt_machine.specs.declared.workload.Parts.{Parts}
-use Rattle.abt_machine.specs.Events.{After, May, after}
+use Rattle.abt_machine.specs.Events.{After, after}
 use Rattle.abt_machine.specs.Gives.{SiteGives}
 use Rattle.abt_machine.specs.Outcomes.{is_step, steps_in, steps_of}
 use Rattle.abt_machine.specs.Rounds.{OrdersStored}
-use Rattle.abt_machine.specs.Runs.{RunFrom, last_state, state_after}
+use Rattle.abt_machine.specs.Runs.{last_state}
 use Rattle.abt_machine.specs.Sound.{Sound}
 use Rattle.abt_machine.specs.Start.{start}
-use Rattle.abt_machine.specs.State.{State}
 use Rattle.abt_machine.specs.Turns.{Heard, Steps}
 use Rattle.abt_machine.specs.Valid.{IsValid}
 use Rattle.abt_machine.specs.Values.{Object, object_of, part_of}
@@ -23,7 +22,7 @@ use Rattle.abt_interleave.specs.Deeds.{Answered}
 use Rattle.abt_interleave.specs.Machines.{Goes}
 use Rattle.abt_simulation.specs.Merging.{machine_of}
 use Rattle.abt_simulation.proofs.Merged.{is-simulated}
-use Rattle.abt_laws.proofs.RunParts.{last_state-sound, state_after-append}
+use Rattle.abt_laws.proofs.RunParts.{last_state-sound, run-push, state_after-append}
 use Rattle.abt_laws.proofs.SoundRuns.{runs-are-sound}
 use Rattle.abt_drain.specs.Moments.{LeadTo, Makes, Moment, event_at}
 use Rattle.abt_drain.specs.Rotations.{Lead}
@@ -31,11 +30,6 @@ use Rattle.abt_drain.specs.Rotations.{Lead}
 -- 1 if it is so
 abbrev one_if : Bool → ℕ
 one_if b = cond b 1 0
-
--- a run with one event more
-run-push : (W : Parts) (Z : List OrderShape) (S : State) (J : List Event) (e : Event) → RunFrom W Z S J → e.stream.0 < W.streams → May W Z (state_after W S J) e.stream.0 e.what → RunFrom W Z S (J ++ e ∷ [])
-run-push W Z S [] e run declared may = (declared, may, tt)
-run-push W Z S (f ∷ J) e run declared may = (run.0, run.1, run-push W Z (after W S f.stream.0 f.what) J e run.2 declared may)
 
 -- what is heard changes objects that are the same
 same-answered : (old same new : Site → Object) (heard : Option Heard) → ((x : Site) → same x ≡ old x) → Answered SiteGives old heard new → Answered SiteGives same heard new

@@ -9,7 +9,7 @@ use Rattle.abt_machine.specs.declared.workload.Parts.{Parts}
 use Rattle.abt_machine.specs.Numbers.{stream_no}
 use Rattle.abt_machine.specs.Pieces.{IsPieceOf}
 use Rattle.abt_machine.specs.Values.{Owned}
-use Rattle.abt_machine.proofs.Elements.{map-all}
+use Rattle.abt_machine.proofs.Elements.{All-left, All-right, map-all}
 use Rattle.abt_unit.specs.Fits.{Fits}
 use Rattle.abt_calls.specs.Showing as held
 use Rattle.abt_calls.specs.Showing.{rows_as}
@@ -49,26 +49,18 @@ four-put x hand next tray framed a b c d e first second third fourth =
 
 -- Numbers below a bound.
 
-all-left : {A : Type 0} (F : A → Type 0) (xs ys : List A) → All F (xs ++ ys) → All F xs
-all-left F [] ys all = All-nil F
-all-left F (x ∷ xs) ys all = All-cons F x xs (All-head F x (xs ++ ys) all) (all-left F xs ys (All-tail F x (xs ++ ys) all))
-
-all-right : {A : Type 0} (F : A → Type 0) (xs ys : List A) → All F (xs ++ ys) → All F ys
-all-right F [] ys all = all
-all-right F (x ∷ xs) ys all = all-right F xs ys (All-tail F x (xs ++ ys) all)
-
 pub below-left : (n : ℕ) (os qs : List Owned) → AreBelow n (os ++ qs) → AreBelow n os
-below-left n os qs all = all-left (λ (o : Owned). o.number < n) os qs all
+below-left n os qs all = All-left (λ (o : Owned). o.number < n) os qs all
 
 pub below-right : (n : ℕ) (os qs : List Owned) → AreBelow n (os ++ qs) → AreBelow n qs
-below-right n os qs all = all-right (λ (o : Owned). o.number < n) os qs all
+below-right n os qs all = All-right (λ (o : Owned). o.number < n) os qs all
 
 module _ (n : ℕ) (x : Shown) (os : List Owned) (ys : List held.Row) (all : All (λ (row : held.Row). row.1.number < n) (rows_as x os ++ ys)) where
   pub units-below : AreBelow n os
-  units-below = map-all (λ o. (x, o)) (λ (row : held.Row). row.1.number < n) os (all-left (λ (row : held.Row). row.1.number < n) (rows_as x os) ys all)
+  units-below = map-all (λ o. (x, o)) (λ (row : held.Row). row.1.number < n) os (All-left (λ (row : held.Row). row.1.number < n) (rows_as x os) ys all)
 
   pub others-below : All (λ (row : held.Row). row.1.number < n) ys
-  others-below = all-right (λ (row : held.Row). row.1.number < n) (rows_as x os) ys all
+  others-below = All-right (λ (row : held.Row). row.1.number < n) (rows_as x os) ys all
 
 -- units that fit have numbers below the workload's number of units
 pub fitting-below : (W : Parts) (os : List Owned) → All (Fits W) os → AreBelow (length W.units) os

@@ -121,7 +121,8 @@ unfolding generated
 objects-valid n zero t is = subst (IsThing (generated n).objects 0) (some-same is) tt
 objects-valid n (suc x) t is = absurd (none-some is)
 
-once-placed : (ps qs : List ℕ) → qs ≡ [] → ps ≡ 0 ∷ 1 ∷ 2 ∷ 3 ∷ [] → AllPairs (λ a b. a ≢ b) (ps ++ qs)
+-- the schedulers of four streams, and no other
+pub once-placed : (ps qs : List ℕ) → qs ≡ [] → ps ≡ 0 ∷ 1 ∷ 2 ∷ 3 ∷ [] → AllPairs (λ a b. a ≢ b) (ps ++ qs)
 once-placed ps qs none four = rw (none, four) (once-pairs (0 ∷ 1 ∷ 2 ∷ 3 ∷ []) refl)
 
 pub IsValid-generated : (n : ℕ) → n ≤ adder_limit → IsValid (generated n)

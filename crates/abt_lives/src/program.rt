@@ -17,12 +17,13 @@ use crate::waves::push_waves;
 use crate::words::asked;
 use abt_machine::{Ended, Journal, Outcome, Want, Workload};
 use abt_order::StoredOrder;
-use abt_report::append_report;
-use abt_run::{count_steps, fetch};
+use abt_report::{TextFault, append_report, count_steps};
+use abt_run::fetch;
 use abt_shell::{Stop, Wrong, bytes_of, number_of_outcome, stop_by, write_out};
 use abt_source::{Files, Sink};
 use abt_stream::Pace;
-use abt_streams::{Lives, LivesRun, NotLives, read_lives, run_lives};
+use abt_streams::{Lives, LivesRun, read_lives, run_lives};
+use abt_words::DEFAULT_STEPS;
 use std::alloc::Global;
 use std::sync::Wait;
 use std::thread::Threads;
@@ -32,9 +33,6 @@ pub const NAME: &[u8] = b"abtwaves";
 
 // The most bytes that a lives text has.
 const MOST: usize = 65_536;
-
-// The steps that each stream may make.
-const STEPS: u64 = 10_000;
 
 // What a call writes, the run's journal, and how the run ended.
 #[derive(Drop)]
@@ -96,8 +94,8 @@ fn fetch_lives<F: Files>(
     }
     match read_lives(alloc, w, &bytes) {
         Ok(lives) => Ok(lives),
-        Err(NotLives::Bad { line }) => Err(Stop::BadLine(line, Wrong::Lives)),
-        Err(NotLives::Memory) => Err(Stop::OutOfMemory),
+        Err(TextFault::Bad { line }) => Err(Stop::BadLine(line, Wrong::Lives)),
+        Err(TextFault::Memory) => Err(Stop::OutOfMemory),
     }
 }
 
@@ -120,7 +118,7 @@ fn prepare_files<R: Threads + Wait + Sync, F: Files, P: Pace + Sync>(
 {
     let w = fetch(alloc, workload, files)?;
     let lives = fetch_lives(alloc, &w, lives, files)?;
-    let ran = run_lives(alloc, rt, &w, &lives, orders, pace, STEPS)?;
+    let ran = run_lives(alloc, rt, &w, &lives, orders, pace, DEFAULT_STEPS)?;
     let text = output(alloc, &w, &ran)?;
     Ok(Prepared::new(ran, text))
 }

@@ -1,9 +1,13 @@
 -- What holds of each element of a list, by place and by image.
-use Rattle.std.proofs.Common.{◌≡◌, ◌≢◌, ◌<◌, ◌∙◌, ℕ, zero, suc, List, [], ◌∷◌, Option, Some, None, arith, get_or, length, map, refl, slice_get, subst, sym}
+use Rattle.std.proofs.Common.{◌≡◌, ◌≢◌, ◌<◌, ◌∙◌, ℕ, zero, suc, List, [], ◌∷◌, ◌++◌, Option, Some, None, arith, get_or, length, map, refl, slice_get, subst, sym}
 use Rattle.std.specs.Prelude.{All, AllPairs}
 use Rattle.std.proofs.lemmas.List.{length-map}
+use Rattle.std.proofs.lemmas.List.Elements.{All-cons, All-head, All-nil, All-tail}
 use Rattle.std.proofs.lemmas.Option.{get_or_from_slice_get, slice_get-get_or, slice_get_within}
 use Rattle.abt_machine.specs.declared.numbers.PoolNo.{PoolNo}
+use Rattle.abt_machine.specs.Monitors.{rest}
+use Rattle.abt_machine.specs.Queues.{first_alone}
+use Rattle.abt_machine.specs.Values.{Owned}
 
 -- the element at a place, if it has P
 abbrev pub IfAt : {A : Type 0} → (A → Type 0) → List A → Type 0
@@ -56,3 +60,23 @@ map-pairs pools h = λ i j d before within same.
     let first = get_or-map (λ (p : PoolNo). p.0) pools i d d.0 (omega arith) in
     let second = get_or-map (λ (p : PoolNo). p.0) pools j d d.0 (omega arith) in
     h i j d.0 before (omega arith) (first ∙ same ∙ sym second)
+
+-- what all elements of two lists have, those of the first have
+pub All-left : {A : Type 0} (F : A → Type 0) (xs ys : List A) → All F (xs ++ ys) → All F xs
+All-left F [] ys all = All-nil F
+All-left F (x ∷ xs) ys all = All-cons F x xs (All-head F x (xs ++ ys) all) (All-left F xs ys (All-tail F x (xs ++ ys) all))
+
+-- and those of the second
+pub All-right : {A : Type 0} (F : A → Type 0) (xs ys : List A) → All F (xs ++ ys) → All F ys
+All-right F [] ys all = all
+All-right F (x ∷ xs) ys all = All-right F xs ys (All-tail F x (xs ++ ys) all)
+
+-- and those after the first element
+pub All-rest : (F : Owned → Type 0) (os : List Owned) → All F os → All F (rest os)
+All-rest F [] all = all
+All-rest F (o ∷ os) all = All-tail F o os all
+
+-- and the first element alone
+pub All-first_alone : (F : Owned → Type 0) (os : List Owned) → All F os → All F (first_alone os)
+All-first_alone F [] all = all
+All-first_alone F (o ∷ os) all = All-cons F o [] (All-head F o os all) (All-nil F)

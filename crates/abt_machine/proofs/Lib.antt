@@ -6,4 +6,5 @@ pub mod Distinct
 pub mod Elements
 pub mod Placing
 pub mod Saying
+pub mod Sites
 pub mod Weighing

@@ -3,7 +3,7 @@
 ghost use Rattle.std.specs.Prelude.{◌≡◌};
 ghost use Rattle.abt_machine.specs.Access.{puts, takes};
 ghost use Rattle.abt_machine.specs.Operations.{may_block};
-ghost use Rattle.abt_machine.specs.Workloads.{ops_of};
+ghost use Rattle.abt_machine.specs.Workloads.{is_condition_of, ops_of};
 
 use crate::items::Items;
 use crate::numbers::{ObjectNo, PoolNo, SchedNo, StreamNo, UnitNo};
@@ -77,6 +77,18 @@ pub enum Thing {
     Future(u32, Combine),
     Barrier(u32),
     RwLock,
+}
+
+impl Thing {
+    /// Whether it is a condition of this mutex.
+    pub fn is_condition_of(self, mutex: ObjectNo) -> bool
+        ensures { result ≡ is_condition_of mutex.0 self }
+    {
+        match self {
+            Thing::Cond(m) => m.0 == mutex.0,
+            _ => false,
+        }
+    }
 }
 
 /// One operation of a unit's program. `Say` has the number of its word, counted over the whole workload.

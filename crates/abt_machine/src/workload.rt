@@ -2,7 +2,7 @@
 
 ghost use Rattle.std.specs.Prelude.{◌≡◌, ◌<◌, length, slice_get, Some, None, map, if◌then◌else◌};
 ghost use Rattle.abt_machine.specs.Valid.{IsValid};
-ghost use Rattle.abt_machine.specs.Workloads.{IsCondition, access_of, condition_number, is_condition_of, main_of, mutex_of, op_at, pools_of, thing_at};
+ghost use Rattle.abt_machine.specs.Workloads.{IsCondition, access_of, condition_number, main_of, mutex_of, op_at, pools_of, thing_at};
 ghost use Rattle.abt_machine.specs.Access.{may_put, may_take};
 ghost use Rattle.abt_machine.specs.Queues.{first};
 ghost use Rattle.abt_machine.specs.Sites.{first_pool, home_from, op_site, step_site};
@@ -234,7 +234,7 @@ impl Workload {
         let objects = self.parts.objects.items();
         let mutex = self.mutex(x);
         let before = &objects[..x.0 as usize];
-        let number = before.iter().filter(|t| is_cond_of(**t, mutex)).count();
+        let number = before.iter().filter(|t| t.is_condition_of(mutex)).count();
         (mutex, number as u32)
     }
 }
@@ -360,15 +360,5 @@ fn first_of(pools: &[PoolNo]) -> PoolNo
     match pools {
         [p, ..] => *p,
         [] => PoolNo(0),
-    }
-}
-
-// Whether an object is a condition of this mutex.
-fn is_cond_of(thing: Thing, mutex: ObjectNo) -> bool
-    ensures { result ≡ is_condition_of mutex.0 thing }
-{
-    match thing {
-        Thing::Cond(m) => m.0 == mutex.0,
-        _ => false,
     }
 }

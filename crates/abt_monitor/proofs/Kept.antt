@@ -6,22 +6,15 @@ use Rattle.std.specs.Prelude.{slice_get}
 use Rattle.abt_machine.specs.declared.events.Code.TheVariants as code
 use Rattle.abt_machine.specs.Acts.{Lock, TryLock, Unlock, Load, Store, Wait, Signal, Broadcast, Given, Rested, Number, Coded, Back}
 use Rattle.abt_machine.specs.Monitors.{MonitorGives, admitted, admitted_by, after_broadcast, after_signal, after_wait, all_admitted, at_condition, handed_over, list_from, new_owner, rest, with_condition, with_owner}
-use Rattle.abt_machine.specs.Queues.{first, first_alone}
+use Rattle.abt_machine.specs.Queues.{first}
 use Rattle.abt_machine.specs.Values.{MonitorValue, Owned}
+use Rattle.abt_machine.proofs.Elements.{All-first_alone, All-left, All-rest, All-right}
 use Rattle.abt_unit.specs.Fits.{Fits}
 use Rattle.abt_chain.specs.Keeping.{Have, IsPoolOf, Keeps}
 use Rattle.abt_chain.proofs.Kept.{Have-nothing, Have-unit, Have-units}
 use Rattle.abt_monitor.specs.Keeps.{MonitorsKeepWhatFits, contents_of_monitor}
 
 -- Facts of parts of lists.
-
-pub All-left : {A : Type 0} (F : A → Type 0) (xs ys : List A) → All F (xs ++ ys) → All F xs
-All-left F [] ys all = All-nil F
-All-left F (x ∷ xs) ys all = All-cons F x xs (All-head F x (xs ++ ys) all) (All-left F xs ys (All-tail F x (xs ++ ys) all))
-
-pub All-right : {A : Type 0} (F : A → Type 0) (xs ys : List A) → All F (xs ++ ys) → All F ys
-All-right F [] ys all = all
-All-right F (x ∷ xs) ys all = All-right F xs ys (All-tail F x (xs ++ ys) all)
 
 All-of_flat : (F : Owned → Type 0) (cs : List (List Owned)) → All F (flat_map (λ os. os) cs) → All (All F) cs
 All-of_flat F [] all = All-nil (All F)
@@ -36,14 +29,6 @@ All-list_from : (F : Owned → Type 0) (cs : List (List Owned)) (k : ℕ) → Al
 All-list_from F [] k all = All-nil F
 All-list_from F (os ∷ cs) zero all = All-head (All F) os cs all
 All-list_from F (os ∷ cs) (suc k) all = All-list_from F cs k (All-tail (All F) os cs all)
-
-All-rest : (F : Owned → Type 0) (os : List Owned) → All F os → All F (rest os)
-All-rest F [] all = all
-All-rest F (o ∷ os) all = All-tail F o os all
-
-All-first_alone : (F : Owned → Type 0) (os : List Owned) → All F os → All F (first_alone os)
-All-first_alone F [] all = all
-All-first_alone F (o ∷ os) all = All-cons F o [] (All-head F o os all) (All-nil F)
 
 first-has : (F : Owned → Type 0) (os : List Owned) (o : Owned) → All F os → first os ≡ Some o → F o
 first-has F [] o all e = cc

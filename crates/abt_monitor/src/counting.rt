@@ -3,7 +3,7 @@
 ghost use Rattle.std.specs.Prelude.{◌≡◌, count_by};
 ghost use Rattle.abt_machine.specs.Workloads.{is_condition_of};
 
-use abt_machine::{ObjectNo, Thing, Workload};
+use abt_machine::{ObjectNo, Workload};
 
 /// How many conditions the mutex has.
 pub fn conditions_of(w: &Workload, mutex: ObjectNo) -> u32
@@ -11,19 +11,9 @@ pub fn conditions_of(w: &Workload, mutex: ObjectNo) -> u32
 {
     let mut count = 0;
     for y in 0..w.objects() {
-        if is_condition_of(mutex, w.thing(ObjectNo(y))) {
+        if w.thing(ObjectNo(y)).is_condition_of(mutex) {
             count += 1;
         }
     }
     count
-}
-
-/// Whether a declared object is a condition of the mutex.
-pub fn is_condition_of(mutex: ObjectNo, thing: Thing) -> bool
-    ensures { result ≡ is_condition_of mutex.0 thing }
-{
-    match thing {
-        Thing::Cond(m) => m.0 == mutex.0,
-        _ => false,
-    }
 }

@@ -6,7 +6,7 @@ mod laws;
 mod monitor;
 mod waiters;
 
-pub use counting::{conditions_of, is_condition_of};
+pub use counting::conditions_of;
 pub use laws::{
     free_mutexes_have_no_waiters, monitors_keep_their_conditions, monitors_keep_what_fits,
 };

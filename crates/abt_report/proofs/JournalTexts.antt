@@ -8,7 +8,7 @@ use Rattle.abt_bounds.proofs.Solid.{unbroken-line}
 use Rattle.abt_machine.specs.declared.events.Event.{Event}
 use Rattle.abt_machine.specs.Texts.{event_words, journal_text}
 use Rattle.abt_machine.specs.Words.{Text, ended, line_of}
-use Rattle.abt_report.specs.declared.not_journal.NotJournal.TheVariants.{Bad}
+use Rattle.abt_report.specs.declared.text_fault.TextFault.TheVariants.{Bad}
 use Rattle.abt_report.specs.Journals.{BeginsNoEvent, IsCause, IsEvent, StandsAfter, event_line}
 use Rattle.abt_report.proofs.LineBreaks.{IsUnbroken, broken, cut-same}
 

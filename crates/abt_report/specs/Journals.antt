@@ -5,8 +5,8 @@ use Rattle.abt_machine.specs.declared.events.What.{What}
 use Rattle.abt_machine.specs.declared.events.What.TheVariants as what
 use Rattle.abt_machine.specs.Texts.{event_words, journal_text}
 use Rattle.abt_machine.specs.Words.{Text, ended, line_of}
-use Rattle.abt_report.specs.declared.not_journal.NotJournal.{NotJournal}
-use Rattle.abt_report.specs.declared.not_journal.NotJournal.TheVariants as cause
+use Rattle.abt_report.specs.declared.text_fault.TextFault.{TextFault}
+use Rattle.abt_report.specs.declared.text_fault.TextFault.TheVariants as cause
 
 -- numbers of streams, pools, units and positions have 32 bits
 abbrev pub IsShort : ℕ → Type 0
@@ -56,6 +56,6 @@ abbrev pub ReadsAs : {A : Type 0} → (A → Type 0) → (A → Text) → Text �
 ReadsAs {A} Is text_from text found = MatchOption found ((x : A) → Is x → text_from x ≡ text → ⊥) (λ x. Is x × (text_from x ≡ text))
 
 -- why bytes were not read
-abbrev pub IsCause : Text → NotJournal → Type 0
+abbrev pub IsCause : Text → TextFault → Type 0
 IsCause bytes (cause.Bad line) = IsBadAt bytes line × IsNoJournal bytes
 IsCause bytes cause.Memory = ⊤

@@ -4,20 +4,20 @@
 mod cuts;
 mod guesses;
 mod journals;
-mod not_journal;
 mod outputs;
 mod pictures;
 mod reading;
 mod reports;
 mod steps;
 mod tallies;
+mod text_fault;
 mod words;
 
 pub use journals::journal_text;
-pub use not_journal::NotJournal;
 pub use outputs::outputs_text;
 pub use pictures::{Picture, Row};
 pub use reading::read_journal;
 pub use reports::{append_report, report, short_report};
 pub use steps::count_steps;
+pub use text_fault::TextFault;
 pub use words::name_of_cause;

@@ -7,7 +7,7 @@ ghost use Rattle.abt_report.specs.Journals.{IsCause, IsEvent, ReadsAs, event_lin
 use crate::cuts::cut;
 use crate::guesses::{event, split};
 use crate::journals::push_event;
-use crate::not_journal::NotJournal;
+use crate::text_fault::TextFault;
 use abt_machine::{Event, Journal, Want};
 use std::alloc::Global;
 
@@ -43,7 +43,7 @@ fn read_event<'a>(
 /// # Errors
 ///
 /// `Bad` with the first line, counted from 1, at which no journal's text agrees with the bytes; `Memory` if memory is refused.
-pub fn read_journal(alloc: Global, bytes: &[u8]) -> Result<Journal, NotJournal>
+pub fn read_journal(alloc: Global, bytes: &[u8]) -> Result<Journal, TextFault>
     requires { length bytes.now < 2 ^ 32 - 1 }
     ensures ok { IfOk result (λ journal. journal_text journal ≡ bytes.now) }
     ensures events { IfOk result (All IsEvent) }
@@ -56,10 +56,10 @@ pub fn read_journal(alloc: Global, bytes: &[u8]) -> Result<Journal, NotJournal>
     let mut line = 1;
     while !rest.is_empty() {
         let Some((found, more)) = cut(rest, b'\n') else {
-            return Err(NotJournal::Bad { line });
+            return Err(TextFault::Bad { line });
         };
         let Some(event) = read_event(found, &mut words, &mut text)? else {
-            return Err(NotJournal::Bad { line });
+            return Err(TextFault::Bad { line });
         };
         events.push(event)?;
         rest = more;

@@ -13,6 +13,7 @@ use Rattle.abt_machine.specs.Sites.{event_site}
 use Rattle.abt_machine.specs.Stamps.{AllAfter, Follows, IsLeast, Lamport, LamportFrom, SameSite, Shares, Stamped, StampedFrom}
 use Rattle.abt_machine.specs.Start.{start}
 use Rattle.abt_machine.specs.State.{State}
+use Rattle.abt_machine.proofs.Sites.{place_number}
 use Rattle.abt_rows.proofs.Deciding.{all, apart, either, given, is_at_most, is_less, same}
 use Rattle.abt_rows.proofs.Running.{Coming, Ran, coming, ran_by, ran_from}
 
@@ -89,19 +90,10 @@ kind_number (site.Future x) = 4
 kind_number (site.Barrier x) = 5
 kind_number (site.Rw x) = 6
 
-abbrev own_number : Site → ℕ
-own_number (site.Pool p) = p.0
-own_number (site.Desk u) = u.0
-own_number (site.Monitor x) = x.0
-own_number (site.Eventual x) = x.0
-own_number (site.Future x) = x.0
-own_number (site.Barrier x) = x.0
-own_number (site.Rw x) = x.0
-
 abbrev other_site : (a b : Site) → Option (a ≢ b)
 other_site a b =
     either (given (apart (kind_number a) (kind_number b)) (λ no. Some (λ e. no (ap kind_number e))))
-    (given (apart (own_number a) (own_number b)) (λ no. Some (λ e. no (ap own_number e))))
+    (given (apart (place_number a) (place_number b)) (λ no. Some (λ e. no (ap place_number e))))
 
 abbrev same_site : (a b : Site) → Option (a ≡ b)
 same_site (site.Pool p) (site.Pool q) = given (same p.0 q.0) (λ e. Some (ap (λ n. site.Pool (pool_no n)) e))

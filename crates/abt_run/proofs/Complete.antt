@@ -1,5 +1,5 @@
 -- Which status a call answers if its cause holds.
-use Rattle.std.proofs.Common.{◌≡◌, ◌≢◌, ◌<◌, ◌≤◌, ◌⊎◌, ℕ, zero, suc, List, [], ◌∷◌, length, take, Option, Some, None, inl, inr, refl, sym, ap, subst, ◌∙◌, arith}
+use Rattle.std.proofs.Common.{◌≡◌, ◌≢◌, ◌<◌, ◌≤◌, ◌⊎◌, ℕ, zero, suc, List, [], ◌∷◌, length, Option, Some, None, inl, inr, refl, sym, ap, subst, ◌∙◌, arith}
 use Rattle.std.specs.Prelude.{IfSome}
 use Rattle.std.proofs.lemmas.List.{take_all}
 use Rattle.abt_machine.specs.declared.events.Event.{Event}
@@ -17,7 +17,7 @@ use Rattle.abt_bounds.specs.Laws.{HasNoRevive, ops_in}
 use Rattle.abt_bounds.proofs.Budgets.{steps-bound-budgets}
 use Rattle.abt_check.specs.declared.verdict.Verdict.{Verdict}
 use Rattle.abt_check.specs.declared.verdict.Verdict.TheVariants as verdict
-use Rattle.abt_check.specs.Verdicts.{IsJudged, IsRunUpTo, IsStampedRun}
+use Rattle.abt_check.specs.Verdicts.{IsJudged, IsStampedRun}
 use Rattle.abt_flow.specs.Confluent.{Confluent}
 use Rattle.abt_flow.specs.Flow.{IsFlow}
 use Rattle.abt_generate.proofs.GeneratedParts.{IsValid-generated}
@@ -34,8 +34,8 @@ use Rattle.abt_shell.specs.Status.{Status, Concluded, Stopped, CannotWrite, numb
 use Rattle.abt_shell.specs.Told.{Grew}
 use Rattle.abt_shell.proofs.Calls.{reads-well, writes-well}
 use Rattle.abt_shell.proofs.Fetched.{of-observed}
-use Rattle.abt_run.specs.Call.{Call, ChecksJournals, Decides, EndsBy, FindsFlows, Holds, IsAnswered, IsOfRun, RunsKnown, program}
-use Rattle.abt_run.specs.Given.{Compares, Given, IsNoJournalAt, IsReadFrom, IsTextOf, NamesFile, SaysNothing, Tells, workload_file}
+use Rattle.abt_run.specs.Call.{Call, Decides, EndsBy, Holds, IsAnswered, IsOfRun, RunsKnown, program}
+use Rattle.abt_run.specs.Given.{Compares, Given, IsNoJournalAt, IsReadFrom, IsTextOf, SaysNothing, Tells, workload_file}
 use Rattle.abt_run.specs.Printed.{AsksFlow, HasVerdict, IsFor, Prints, Ran, steps_for}
 use Rattle.abt_run.specs.Status.{number_of_conclusion}
 use Rattle.abt_run.specs.declared.status.Conclusion.{Conclusion}

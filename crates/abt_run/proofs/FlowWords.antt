@@ -1,5 +1,5 @@
 -- The words in a flow are the workload's.
-use Rattle.std.proofs.Common.{◌≡◌, ◌<◌, ◌++◌, ℕ, zero, suc, List, [], ◌∷◌, length, Option, Some, None, refl, sym, ap, subst, ◌∙◌, inl, inr}
+use Rattle.std.proofs.Common.{◌≡◌, ◌++◌, ℕ, zero, suc, List, [], ◌∷◌, Option, Some, None, refl, sym, ap, subst, inl, inr}
 use Rattle.std.specs.Prelude.{slice_get}
 use Rattle.std.specs.List.{All}
 use Rattle.std.proofs.lemmas.List.Elements.{All-append, All-cons, All-nil}
@@ -13,8 +13,8 @@ use Rattle.abt_machine.specs.Pieces.{IsPieceOf}
 use Rattle.abt_machine.specs.Valid.{IsValid}
 use Rattle.abt_machine.specs.Workloads.{op_at}
 use Rattle.abt_machine.proofs.Declared.{op-declared}
-use Rattle.abt_flow.specs.Effects.{Memory, effect, fresh}
-use Rattle.abt_flow.specs.Flow.{AtPoint, Does, IsFlow, IsRow, Leads, Made}
+use Rattle.abt_flow.specs.Effects.{Memory, effect}
+use Rattle.abt_flow.specs.Flow.{Does, IsFlow, IsRow, Leads, Made}
 
 abbrev Says : Parts → Memory → Type 0
 Says W m = All (IsPieceOf W) m.output

@@ -1,20 +1,17 @@
 -- What was read of a file, from what was read of its first bytes.
-use Rattle.std.proofs.Common.{◌≡◌, ◌<◌, ◌≤◌, ◌+◌, ◌^◌, ℕ, zero, suc, List, [], ◌∷◌, length, take, Option, Some, None, min, arith, lit≤, refl, sym, ap, subst, ◌∙◌, inl, inr}
+use Rattle.std.proofs.Common.{◌≡◌, ◌<◌, ◌≤◌, ◌^◌, ℕ, zero, suc, List, [], ◌∷◌, length, take, Option, Some, None, min, arith, refl, sym, ap, subst, ◌∙◌, inl, inr}
 use Rattle.std.specs.Prelude.{IfSome}
 use Rattle.std.specs.List.{All, AllByRecursion}
-use Rattle.std.proofs.lemmas.Bool.{cases_lt, lt-ltb}
-use Rattle.std.proofs.lemmas.List.{take_all, length-take}
+use Rattle.std.proofs.lemmas.Bool.{cases_lt}
+use Rattle.std.proofs.lemmas.List.{length-take}
 use Rattle.std.proofs.lemmas.List.Elements.{All-head, All-tail}
 use Rattle.abt_machine.specs.declared.events.Event.{Event}
 use Rattle.abt_machine.specs.declared.events.What.{What}
 use Rattle.abt_machine.specs.declared.events.What.TheVariants as what
-use Rattle.abt_machine.specs.declared.grammar.Format.{Format}
-use Rattle.abt_machine.specs.declared.grammar.Format.TheVariants as format
 use Rattle.abt_machine.specs.declared.program.Fault.{Fault}
 use Rattle.abt_machine.specs.declared.program.Fault.TheVariants as fault
 use Rattle.abt_machine.specs.declared.workload.Parts.{Parts}
 use Rattle.abt_machine.specs.Grammar.{Reads, Refuses, fault_at, format_of}
-use Rattle.abt_machine.specs.Limits.{text_limit}
 use Rattle.abt_machine.specs.Spelling.{lines_of}
 use Rattle.abt_machine.specs.Words.{Text}
 use Rattle.abt_bounds.specs.Laws.{IsWritten, what_numbers}
@@ -22,26 +19,20 @@ use Rattle.abt_bounds.proofs.JournalTexts.{journal-texts-differ}
 use Rattle.abt_report.specs.Journals.{HasShortNumbers, IsEvent}
 use Rattle.abt_report.specs.Journals as journals
 use Rattle.abt_machine.specs.Texts.{journal_text}
-use Rattle.abt_report.specs.declared.not_journal.NotJournal.{NotJournal}
-use Rattle.abt_report.specs.declared.not_journal.NotJournal.TheVariants as bad
+use Rattle.abt_report.specs.declared.text_fault.TextFault.{TextFault}
+use Rattle.abt_report.specs.declared.text_fault.TextFault.TheVariants as bad
 use Rattle.abt_shell.proofs.Fetched.{of-long, of-whole, whole}
 use Rattle.abt_workload.specs.Reading.{IsCause}
 use Rattle.abt_workload.specs.declared.reading.NotRead.{NotRead}
 use Rattle.abt_workload.specs.declared.reading.NotRead.TheVariants as cause
+use Rattle.abt_workload.proofs.Seen.{length-fault, most-bytes}
 use Rattle.abt_run.specs.Given.{IsNoJournalAt, IsTextOf}
 
 -- Workloads.
 
--- no format has longer texts
-most-bytes : (F : Format) → text_limit F ≤ 8388608
-most-bytes format.One = lit≤ tt
-most-bytes format.Two = lit≤ tt
-
 -- a text of more bytes is refused for its length
 too-long : (text : Text) → 8388608 < length text → fault_at text 0 ≡ Some fault.Limit
-too-long text long =
-    let most = most-bytes (format_of (lines_of text)) in
-    rw (lt-ltb (text_limit (format_of (lines_of text))) (length text) (omega (arith, most, long))) refl
+too-long text long = length-fault text (let few = most-bytes (format_of (lines_of text)) in omega (arith, few, long))
 
 -- what is read is short
 reads-short : (text : Text) (W : Parts) → Reads text W → length text ≤ 8388608
@@ -90,7 +81,7 @@ pub told-journal : (told : Option Text) (front : Text) (J : List Event) → IfSo
 told-journal told front J e short events text = of-whole 1073741824 (IsTextOf J) told front e short (record { events = events; text = text; short = short })
 
 -- or has the bad line
-pub told-bad : (told : Option Text) (front : Text) (c : NotJournal) (line l : ℕ) → IfSome told (λ xs. front ≡ take 1073741825 xs) → length front ≤ 1073741824 → c ≡ bad.Bad line → l ≡ line
+pub told-bad : (told : Option Text) (front : Text) (c : TextFault) (line l : ℕ) → IfSome told (λ xs. front ≡ take 1073741825 xs) → length front ≤ 1073741824 → c ≡ bad.Bad line → l ≡ line
     → journals.IsCause front c → IfSome told (λ bytes. IsNoJournalAt bytes l)
 told-bad told front c line l e short is same why =
     subst (λ k. IfSome told (λ bytes. IsNoJournalAt bytes k)) (sym same)

@@ -6,7 +6,7 @@ ghost use Rattle.abt_run.specs.Given.{IsTextOf};
 ghost use Rattle.abt_run.specs.Prepared.{HasNoWorkload, HasNoJournal};
 
 use abt_machine::{Journal, Workload};
-use abt_report::{NotJournal, read_journal};
+use abt_report::{TextFault, read_journal};
 use abt_shell::{Stop, Wrong, bytes_of};
 use abt_source::Files;
 use abt_workload::{NotRead, read};
@@ -53,7 +53,7 @@ pub(crate) fn fetch_journal<F: Files>(
     }
     match read_journal(alloc, &bytes) {
         Ok(journal) => Ok(journal),
-        Err(NotJournal::Bad { line }) => Err(Stop::BadLine(line, Wrong::Journal)),
-        Err(NotJournal::Memory) => Err(Stop::OutOfMemory),
+        Err(TextFault::Bad { line }) => Err(Stop::BadLine(line, Wrong::Journal)),
+        Err(TextFault::Memory) => Err(Stop::OutOfMemory),
     }
 }

@@ -11,5 +11,4 @@ mod status;
 
 pub use fetching::fetch;
 pub use program::abtrun;
-pub use running::count_steps;
 pub use status::{Conclusion, NAME};

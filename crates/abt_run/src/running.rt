@@ -2,7 +2,6 @@
 
 ghost use Rattle.std.specs.Prelude.{◌≡◌, ◌≤◌, ◌<◌, ◌++◌, ℕ, List, All, IfErr, IfOk, [], if◌then◌else◌, length};
 ghost use Rattle.abt_machine.specs.Limits.{adder_limit};
-ghost use Rattle.abt_machine.specs.Outcomes.{is_step, steps_in};
 ghost use Rattle.abt_machine.specs.Runs.{last_state};
 ghost use Rattle.abt_machine.specs.Texts.{journal_text as text_of_journal, shown_units};
 ghost use Rattle.abt_machine.specs.Words.{Text};
@@ -22,19 +21,17 @@ use crate::prepared::Prepared;
 use crate::status::Conclusion;
 use abt_drain::Run;
 use abt_generate::generate;
-use abt_machine::{Event, Journal, Want, What, Workload};
+use abt_machine::{Journal, Want, Workload};
 use abt_order::StoredOrder;
-use abt_report::{append_report, journal_text, short_report};
+use abt_report::{append_report, count_steps, journal_text, short_report};
 use abt_shell::Stop;
 use abt_source::Files;
 use abt_stream::Pace;
 use abt_waves::run_streams;
+use abt_words::DEFAULT_STEPS;
 use std::alloc::Global;
 use std::sync::Wait;
 use std::thread::Threads;
-
-// The steps that each stream of a workload made of a number may make.
-const SELF_STEPS: u64 = 10_000;
 
 /// The run of a file's workload, and what it prints.
 pub(crate) fn prepare_file<R: Threads + Wait + Sync, F: Files, P: Pace + Sync>(
@@ -75,7 +72,7 @@ pub(crate) fn prepare_self<R: Threads + Wait + Sync, P: Pace + Sync>(
     ensures stop { IfErr result (λ stop. stop ≡ why.OutOfMemory) }
 {
     let w = generate(alloc, units)?;
-    let ran = run_streams(alloc, rt, &w, orders, pace, SELF_STEPS)?;
+    let ran = run_streams(alloc, rt, &w, orders, pace, DEFAULT_STEPS)?;
     let text = short_output(alloc, &w, &ran)?;
     Ok(ended(ran, text))
 }
@@ -130,17 +127,4 @@ fn short_output(alloc: Global, w: &Workload, run: &Run) -> Result<Vec<u8>, Want>
 {
     let steps = count_steps(run.journal.items());
     short_report(alloc, w, &run.picture, run.outcome, steps)
-}
-
-/// How many events are steps.
-pub fn count_steps(journal: &[Event]) -> u64
-    ensures { result ≡ steps_in journal.now }
-{
-    journal.iter().filter(|event| is_step(event.what)).count() as u64
-}
-
-fn is_step(what: What) -> bool
-    ensures { result ≡ is_step what }
-{
-    matches!(what, What::Step(_, _, _))
 }

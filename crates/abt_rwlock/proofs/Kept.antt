@@ -4,14 +4,13 @@ use Rattle.std.proofs.lemmas.List.{length-set}
 use Rattle.std.proofs.lemmas.List.Elements.{All-append, All-cons, All-head, All-nil, All-tail}
 use Rattle.abt_machine.specs.Acts.{ReadLock, WriteLock, RwUnlock, Load, Store, Given, Woke, Rested, Number, Coded, Back}
 use Rattle.abt_machine.specs.Holders.{count_of, is_free, with_count, writes}
-use Rattle.abt_machine.specs.Monitors.{rest}
-use Rattle.abt_machine.specs.Queues.{first_alone}
 use Rattle.abt_machine.specs.RwLocks.{RwLockGives, after_readers, all_reading, first_readers, granted, granted_by, left_by, passed_on, served, served_by, wants_to_read}
 use Rattle.abt_machine.specs.State.{RwLock}
 use Rattle.abt_machine.specs.Values.{Owned, RwLockValue}
 use Rattle.abt_machine.specs.declared.events.Code.TheVariants as code
 use Rattle.abt_machine.specs.declared.events.Wish.{Wish}
 use Rattle.abt_machine.specs.declared.events.Wish.TheVariants as wish
+use Rattle.abt_machine.proofs.Elements.{All-first_alone, All-rest}
 use Rattle.abt_unit.specs.Fits.{Fits}
 use Rattle.abt_chain.specs.Keeping.{Have, IsPoolOf, Keeps}
 use Rattle.abt_chain.proofs.Kept.{Have-nothing, Have-unit, Have-units}
@@ -31,14 +30,6 @@ All-first_readers F ws (o ∷ os) all =
 All-after_readers : (F : Owned → Type 0) (ws : List Wish) (os : List Owned) → All F os → All F (after_readers ws os)
 All-after_readers F ws [] all = all
 All-after_readers F ws (o ∷ os) all = All-if F (wants_to_read ws o.number) _ _ (All-after_readers F ws os (All-tail F o os all)) all
-
-All-rest : (F : Owned → Type 0) (os : List Owned) → All F os → All F (rest os)
-All-rest F [] all = all
-All-rest F (o ∷ os) all = All-tail F o os all
-
-All-first_alone : (F : Owned → Type 0) (os : List Owned) → All F os → All F (first_alone os)
-All-first_alone F [] all = all
-All-first_alone F (o ∷ os) all = All-cons F o [] (All-head F o os all) (All-nil F)
 
 All-granted_by : (F : Owned → Type 0) (rs os : List Owned) → All F rs → All F os → All F (granted_by rs os)
 All-granted_by F [] os readers all = All-first_alone F os all

@@ -7,7 +7,7 @@ use Rattle.abt_machine.specs.declared.workload.Parts.{Parts}
 use Rattle.abt_machine.specs.Valid.{IsValid}
 use Rattle.abt_machine.specs.Words.{Text, ended, line_of}
 use Rattle.abt_streams.specs.declared.life.Life.{Life}
-use Rattle.abt_streams.specs.declared.not_lives.NotLives.TheVariants.{Bad}
+use Rattle.abt_report.specs.declared.text_fault.TextFault.TheVariants.{Bad}
 use Rattle.abt_streams.specs.Lives.{AreLives, AreLivesAfter, MayFollow}
 use Rattle.abt_streams.specs.Texts.{BeginsNoLife, IsCause, IsNoFeed, life_line, life_words, lives_text}
 use Rattle.abt_streams.proofs.Words.{lines-same, plain-line, short}

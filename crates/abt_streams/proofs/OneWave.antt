@@ -1,16 +1,15 @@
 -- One wave more, in any journal that leads to the moment before it.
-use Rattle.std.proofs.Common.{◌≡◌, ℕ, ◌+◌, ◌<◌, ◌∙◌, Bool, true, false, cond, List, [], ◌∷◌, ◌++◌, Some, refl, sym, ap, subst, arith}
+use Rattle.std.proofs.Common.{◌≡◌, ℕ, ◌+◌, ◌<◌, ◌∙◌, Bool, true, false, cond, List, ◌++◌, Some, refl, sym, ap, subst, arith}
 use Rattle.std.proofs.lemmas.List.{append_cancel_left}
 use Rattle.std.proofs.lemmas.List.Sums.{sum_by-append}
 use Rattle.abt_machine.specs.declared.events.Event.{Event}
 use Rattle.abt_machine.specs.declared.events.Site.{Site}
 use Rattle.abt_machine.specs.declared.operations.OrderShape.{OrderShape}
 use Rattle.abt_machine.specs.declared.workload.Parts.{Parts}
-use Rattle.abt_machine.specs.Events.{after}
 use Rattle.abt_machine.specs.Gives.{SiteGives}
 use Rattle.abt_machine.specs.Outcomes.{is_step, steps_in, steps_of}
 use Rattle.abt_machine.specs.Rounds.{OrdersStored}
-use Rattle.abt_machine.specs.Runs.{RunFrom, last_state, state_after}
+use Rattle.abt_machine.specs.Runs.{last_state, state_after}
 use Rattle.abt_machine.specs.Sound.{Sound}
 use Rattle.abt_machine.specs.Start.{start}
 use Rattle.abt_machine.specs.State.{State}
@@ -24,15 +23,10 @@ use Rattle.abt_simulation.specs.Journals.{JournalCounts, MergesTo, events_of}
 use Rattle.abt_simulation.specs.Merging.{IsJournalOf, LeadsTo, machine_of}
 use Rattle.abt_simulation.proofs.Merged.{merging}
 use Rattle.abt_simulation.proofs.Tallied.{journals-are-merges, journals-count}
-use Rattle.abt_laws.proofs.RunParts.{last_state-sound, state_after-append}
+use Rattle.abt_laws.proofs.RunParts.{last_state-sound, run-join, state_after-append}
 use Rattle.abt_laws.proofs.SoundRuns.{runs-are-sound}
 use Rattle.abt_drain.specs.Moments.{LeadTo, Moment}
 use Rattle.abt_waves.specs.Fleets.{IsWave}
-
--- a run, and one from its end
-run-join : (W : Parts) (Z : List OrderShape) (S : State) (J es : List Event) → RunFrom W Z S J → RunFrom W Z (state_after W S J) es → RunFrom W Z S (J ++ es)
-run-join W Z S [] es run more = more
-run-join W Z S (e ∷ J) es run more = (run.0, run.1, run-join W Z (after W S e.stream.0 e.what) J es run.2 more)
 
 module _ (W : Parts) (Z : List OrderShape) (valid : IsValid W) (stored : OrdersStored W Z) (J : List Event) (old new : Moment) (lead : LeadTo W Z J old) (live : List Bool) (wave : IsWave W Z live old new) where
   -- what was gathered in the wave, from the state before it

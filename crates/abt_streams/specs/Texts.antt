@@ -4,8 +4,8 @@ use Rattle.abt_machine.specs.declared.workload.Parts.{Parts}
 use Rattle.abt_machine.specs.Words.{Text, ended, line_of, text_of}
 use Rattle.abt_report.specs.Journals.{IsShort}
 use Rattle.abt_streams.specs.declared.life.Life.{Life}
-use Rattle.abt_streams.specs.declared.not_lives.NotLives.{NotLives}
-use Rattle.abt_streams.specs.declared.not_lives.NotLives.TheVariants as cause
+use Rattle.abt_report.specs.declared.text_fault.TextFault.{TextFault}
+use Rattle.abt_report.specs.declared.text_fault.TextFault.TheVariants as cause
 use Rattle.abt_streams.specs.Lives.{AreLives, MayFollow}
 
 abbrev pub life_words : Life → List Text
@@ -56,6 +56,6 @@ abbrev pub IsNoLivesText : Parts → Text → Type 0
 IsNoLivesText W bytes = (lives : List Life) → AreLives W lives → lives_text lives ≡ bytes → ⊥
 
 -- why bytes were not read as lives of streams of W
-abbrev pub IsCause : Parts → Text → NotLives → Type 0
+abbrev pub IsCause : Parts → Text → TextFault → Type 0
 IsCause W bytes (cause.Bad line) = IsBadAt W bytes line × IsNoLivesText W bytes
 IsCause W bytes cause.Memory = ⊤

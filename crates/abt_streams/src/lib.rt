@@ -5,14 +5,12 @@ mod journey;
 mod life;
 mod living;
 mod logs;
-mod not_lives;
 mod outcome;
 mod reading;
 mod run;
 mod wave;
 
 pub use life::{Life, Lives};
-pub use not_lives::NotLives;
 pub use reading::read_lives;
 pub use run::{LivesRun, run_lives};
 pub use wave::{Numbers, Wave, Waves};

@@ -9,9 +9,9 @@ ghost use Rattle.abt_streams.specs.Lives.{AreLives, MayFollow};
 ghost use Rattle.abt_streams.specs.Texts.{HasShortNumbers, IsCause, IsNoFeed, SpellNumbers, life_line, lives_text};
 
 use crate::life::{Life, Lives};
-use crate::not_lives::NotLives;
 use abt_lines::{end_line, push_decimal};
 use abt_machine::{ObjectNo, StreamNo, Thing, Want, Workload};
+use abt_report::TextFault;
 use std::alloc::Global;
 use std::str;
 
@@ -139,7 +139,7 @@ fn read_life(
 /// # Errors
 ///
 /// `Bad` with the first line, counted from 1, that breaks a rule; `Memory` if memory is refused.
-pub fn read_lives(alloc: Global, w: &Workload, bytes: &[u8]) -> Result<Lives, NotLives>
+pub fn read_lives(alloc: Global, w: &Workload, bytes: &[u8]) -> Result<Lives, TextFault>
     ensures lives { IfOk result (λ lives. AreLives w.now lives) }
     ensures text { IfOk result (λ lives. lives_text lives ≡ bytes.now) }
     ensures cause { IfErr result (IsCause w.now bytes.now) }
@@ -151,7 +151,7 @@ pub fn read_lives(alloc: Global, w: &Workload, bytes: &[u8]) -> Result<Lives, No
     while !rest.is_empty() {
         let (line, more) = first_line(rest);
         let Some(life) = read_life(w, &lives, line, &mut text)? else {
-            return Err(NotLives::Bad {
+            return Err(TextFault::Bad {
                 line: lives.len() as u32 + 1,
             });
         };

@@ -1,9 +1,8 @@
 //! Whole runs on the caller's thread, by what their reports say.
 
 use abt_drain::drain;
-use abt_machine::{Event, What};
 use abt_order::StoredOrder;
-use abt_report::{journal_text, report};
+use abt_report::{count_steps, journal_text, report};
 use abt_workload::read;
 use std::alloc::{AllocError, Global};
 use std::test::Fail;
@@ -38,14 +37,6 @@ const YIELDS: &str =
 // Two streams steal from one another: each of forty units adds one to a number, and the last prints it.
 const SHARED: &str =
     "abt 1\nstreams 2\npool 0 deque mpmc\npool 1 deque mpmc\nsched 0 randws 1 0 1\nsched 1 randws 2 1 0\nstream 0 main 0\nstream 1 main 1\nobject 0 mutex\nunits 41\n";
-
-// How many events are steps.
-pub(crate) fn count_steps(events: &[Event]) -> u64 {
-    events
-        .iter()
-        .filter(|event| matches!(event.what, What::Step(_, _, _)))
-        .count() as u64
-}
 
 // The journal and the report of a run.
 fn texts(alloc: Global, text: &str, steps: u64) -> Result<(Vec<u8>, Vec<u8>), Fail> {

@@ -1,10 +1,9 @@
 //! Runs on lives, by what their reports and their waves say, and the texts that are refused.
 
-use crate::drains::count_steps;
 use abt_order::StoredOrder;
-use abt_report::report;
+use abt_report::{TextFault, count_steps, report};
 use abt_stream::NoPace;
-use abt_streams::{NotLives, Waves, read_lives, run_lives};
+use abt_streams::{Waves, read_lives, run_lives};
 use abt_workload::read;
 use std::alloc::{AllocError, Global};
 use std::sync::Wait;
@@ -206,7 +205,7 @@ fn faults_are_found_at_their_lines(rt: HostRuntime) -> Result<(), Fail> {
     for (text, line) in &FAULTS {
         let found = read_lives(alloc, &w, text.as_bytes());
         assert!(rt;
-            matches!(found, Err(NotLives::Bad { line: at }) if at == *line),
+            matches!(found, Err(TextFault::Bad { line: at }) if at == *line),
             "{text}"
         );
     }

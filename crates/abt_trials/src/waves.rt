@@ -1,11 +1,11 @@
 //! Whole runs on threads, by what their reports say.
 
-use crate::drains::{count_steps, shared, shared_report};
+use crate::drains::{shared, shared_report};
 use abt_check::{Verdict, check};
 use abt_generate::generate;
 use abt_machine::{StreamNo, UnitNo, Workload};
 use abt_order::StoredOrder;
-use abt_report::report;
+use abt_report::{count_steps, report};
 use abt_stream::{NoPace, Pace};
 use abt_waves::run_streams;
 use abt_workload::read;

@@ -1,8 +1,8 @@
 -- From what was read of a file to why the call stops.
 use Rattle.std.proofs.Common.{◌≡◌, ℕ, List, Option, subst, sym}
 use Rattle.abt_machine.specs.Words.{Text}
-use Rattle.abt_report.specs.declared.not_journal.NotJournal.{NotJournal}
-use Rattle.abt_report.specs.declared.not_journal.NotJournal.TheVariants.{Bad}
+use Rattle.abt_report.specs.declared.text_fault.TextFault.{TextFault}
+use Rattle.abt_report.specs.declared.text_fault.TextFault.TheVariants.{Bad}
 use Rattle.abt_report.specs.Journals.{IsCause}
 use Rattle.abt_shell.specs.declared.status.Stop.{Stop}
 use Rattle.abt_shell.specs.declared.status.Wrong.{Wrong}
@@ -13,7 +13,7 @@ use Rattle.abt_view.specs.Views.{Asks}
 use Rattle.abt_view.specs.declared.views.View.{View}
 
 -- the line that keeps bytes from being a journal's text, by the cause that their reader states
-pub wrong-line : (bytes : Text) (cause : NotJournal) (line l : ℕ) → cause ≡ Bad line → l ≡ line → IsCause bytes cause → IsWrongAt l bytes
+pub wrong-line : (bytes : Text) (cause : TextFault) (line l : ℕ) → cause ≡ Bad line → l ≡ line → IsCause bytes cause → IsWrongAt l bytes
 wrong-line bytes cause line l is same why = subst (λ k. IsWrongAt k bytes) (sym same) (subst (IsCause bytes) is why)
 
 -- why the file has no journal is why the call stops

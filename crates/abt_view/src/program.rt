@@ -7,7 +7,7 @@ ghost use Rattle.abt_view.specs.Call.{HasNoJournal, IsAnswered, IsFileView, IsVi
 
 use crate::views::{View, asked, view_text};
 use abt_machine::Journal;
-use abt_report::{NotJournal, read_journal};
+use abt_report::{TextFault, read_journal};
 use abt_shell::{Stop, Wrong, bytes_of, stop_by, write_out};
 use abt_source::{Files, Sink};
 use std::alloc::Global;
@@ -30,8 +30,8 @@ fn fetch<F: Files>(alloc: Global, file: &str, files: &mut F) -> Result<Journal, 
     }
     match read_journal(alloc, &bytes) {
         Ok(journal) => Ok(journal),
-        Err(NotJournal::Bad { line }) => Err(Stop::BadLine(line, Wrong::Journal)),
-        Err(NotJournal::Memory) => Err(Stop::OutOfMemory),
+        Err(TextFault::Bad { line }) => Err(Stop::BadLine(line, Wrong::Journal)),
+        Err(TextFault::Memory) => Err(Stop::OutOfMemory),
     }
 }
 

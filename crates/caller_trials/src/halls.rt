@@ -2,9 +2,9 @@
 
 ghost use Rattle.std.specs.Prelude.{◌≤◌, length};
 
-use abt_machine::{Event, Want, What, Workload};
+use abt_machine::{Want, Workload};
 use abt_order::StoredOrder;
-use abt_report::report;
+use abt_report::{count_steps, report};
 use abt_stream::NoPace;
 use abt_workload::read;
 use hall_waves::run_in_hall;
@@ -22,14 +22,6 @@ const SHARED: &str =
 
 const SHARED_REPORT: &str =
     "unit 0 done:\nunit 1 done:\nunit 2 done: 2\ntally units 3 unborn 0 pool 0 stream 0 blocked 0 done 3 asked 0 access 0 steps 16\nfinished\n";
-
-// How many events are steps.
-fn count_steps(events: &[Event]) -> u64 {
-    events
-        .iter()
-        .filter(|event| matches!(event.what, What::Step(_, _, _)))
-        .count() as u64
-}
 
 // The report of a run in a hall.
 fn report_of<R: Threads + Wait + Sync>(

@@ -1,6 +1,6 @@
 -- A mesh is a valid workload.
-use Rattle.std.proofs.Common.{◌≡◌, ◌≢◌, ℕ, zero, suc, ◌<◌, ◌≤◌, ◌+◌, List, [], ◌∷◌, ◌++◌, Option, Some, length, map, get_or, slice_get, refl, sym, ◌∙◌, ap, subst, arith, lit<, lit≤}
-use Rattle.std.specs.Prelude.{◌%◌, All, AllPairs, flat_map, replicate}
+use Rattle.std.proofs.Common.{◌≡◌, ◌≢◌, ℕ, zero, suc, ◌<◌, ◌≤◌, ◌+◌, List, [], ◌∷◌, Option, Some, length, map, get_or, slice_get, refl, sym, ◌∙◌, ap, subst, arith, lit<, lit≤}
+use Rattle.std.specs.Prelude.{◌%◌, All, flat_map, replicate}
 use Rattle.std.specs.List.{enumerate_from}
 use Rattle.std.proofs.lemmas.List.{get_or-replicate, length-replicate}
 use Rattle.std.proofs.lemmas.List.Elements.{All-nil}
@@ -22,6 +22,7 @@ use Rattle.abt_machine.specs.Valid.{IsAccess, IsSched, IsStream, IsThing, IsUnit
 use Rattle.abt_machine.specs.Words.{Text, numbered}
 use Rattle.abt_machine.specs.Workloads.{ops_of, thing_at}
 use Rattle.abt_machine.proofs.Elements.{at-all}
+use Rattle.abt_generate.proofs.GeneratedParts.{once-placed}
 use Rattle.abt_generate.proofs.Lists.{Each, each-all, each-always, each-map, each-pairs, flat_map-nothing, none-some, some-same}
 use Rattle.flow_caller.specs.Meshes.{IsMesh, IsNode, fifo, mesh, node_ops, node_unit, sched_for}
 use Rattle.flow_caller.specs.declared.nodes.Node.{Node}
@@ -116,9 +117,6 @@ streams-valid nodes (suc zero) below = record { main = lit< tt; takes = refl }
 streams-valid nodes (suc (suc zero)) below = record { main = lit< tt; takes = refl }
 streams-valid nodes (suc (suc (suc zero))) below = record { main = lit< tt; takes = refl }
 streams-valid nodes (suc (suc (suc (suc s)))) below = absurd (omega arith)
-
-once-placed : (ps qs : List ℕ) → qs ≡ [] → ps ≡ 0 ∷ 1 ∷ 2 ∷ 3 ∷ [] → AllPairs (λ a b. a ≢ b) (ps ++ qs)
-once-placed ps qs none four = rw (none, four) (each-pairs (λ a b. a ≢ b) (0 ∷ 1 ∷ 2 ∷ 3 ∷ []) ((λ e. omega (arith, e), (λ e. omega (arith, e), (λ e. omega (arith, e), tt))), ((λ e. omega (arith, e), (λ e. omega (arith, e), tt)), ((λ e. omega (arith, e), tt), (tt, tt)))))
 
 pub IsValid-mesh : (nodes : List Node) → IsMesh nodes → IsValid (mesh nodes)
 unfolding mesh

@@ -6,7 +6,6 @@ use Rattle.std.proofs.lemmas.List.FromFn.{map-range_with_len_more}
 use Rattle.abt_machine.specs.declared.events.Event.{Event}
 use Rattle.abt_machine.specs.declared.events.Outcome.{Outcome}
 use Rattle.abt_machine.specs.declared.events.Outcome.TheVariants as outcome
-use Rattle.abt_machine.specs.declared.events.Piece.{Piece}
 use Rattle.abt_machine.specs.declared.events.Piece.TheVariants as piece
 use Rattle.abt_machine.specs.declared.operations.OrderShape.{OrderShape}
 use Rattle.abt_machine.specs.declared.workload.Parts.{Parts}

@@ -15,17 +15,14 @@ use Rattle.abt_machine.specs.declared.workload.Parts.{Parts}
 use Rattle.abt_machine.specs.declared.workload.PoolPart.{PoolPart}
 use Rattle.abt_machine.specs.declared.workload.SchedPart.{SchedPart}
 use Rattle.abt_machine.specs.declared.workload.UnitPart.{UnitPart}
+use Rattle.abt_machine.specs.Limits.{object_limit}
 use Rattle.abt_machine.specs.Numbers.{object_no, pool_no, sched_no}
 use Rattle.abt_machine.specs.Words.{numbered}
+use Rattle.abt_generate.specs.Generated.{stream_count, streams}
 use Rattle.flow_caller.specs.declared.nodes.Node.{Node}
+use Rattle.flow_caller.specs.declared.nodes.TheConstants.{WAIT_LIMIT}
 
--- four streams, each with a pool of its own
-abbrev pub stream_count : ℕ
-stream_count = 4
-
-abbrev pub streams : List ℕ
-streams = range_with_len 0 stream_count
-
+-- each stream has a pool of its own
 abbrev pub fifo : PoolPart
 fifo = record { kind = kind.Fifo; access = access.Mpmc }
 
@@ -53,15 +50,15 @@ mesh nodes = record {
   words = [];
 }
 
--- of n nodes one waits for 16 at most, and adds a number of 64 bits
+-- one of n nodes waits for few, and adds a number of 64 bits
 pub record IsNode (n : ℕ) (node : Node) : Type 0 where
-  pub few : length node.after ≤ 16
+  pub few : length node.after ≤ WAIT_LIMIT
   pub after : All (λ (x : ObjectNo). x.0 < n) node.after
   pub plus : node.plus < 2 ^ 64
 
 -- nodes that a workload can be made of
 pub record IsMesh (nodes : List Node) : Type 0 where
-  pub few : length nodes ≤ 256
+  pub few : length nodes ≤ object_limit
   pub each : (u : ℕ) (node : Node) → slice_get nodes u ≡ Some node → IsNode (length nodes) node
 
 -- the number of the last of these nodes, n if there is none

@@ -9,6 +9,7 @@ ghost use Rattle.flow_caller.specs.Meshes.{AreNumbers, IsMesh, mesh, number_rows
 ghost use Rattle.flow_caller.specs.Sums.{chain, sum_to};
 ghost use Rattle.flow_caller.specs.Wavefronts.{IsWavefront, wavefront};
 ghost use Rattle.flow_caller.specs.declared.nodes.Node.{Node};
+ghost use Rattle.flow_caller.specs.declared.wavefronts.TheConstants.{SIDE_LIMIT};
 
 /// The workload of a mesh is valid.
 pub fn meshes_are_valid()
@@ -32,5 +33,5 @@ pub fn chains_put_out_sums()
 
 /// By its flow each unit puts out the number of its cell.
 pub fn wavefronts_put_out_paths()
-    ensures { (n : ℕ) → n ≤ 16 → (rows : List (List Piece)) → IsFlow (mesh (wavefront n)) rows → (numbers : List ℕ) × (rows ≡ number_rows numbers) × IsWavefront n numbers }
+    ensures { (n : ℕ) → n ≤ SIDE_LIMIT → (rows : List (List Piece)) → IsFlow (mesh (wavefront n)) rows → (numbers : List ℕ) × (rows ≡ number_rows numbers) × IsWavefront n numbers }
 {}

@@ -11,7 +11,7 @@ pub use laws::{
     chains_put_out_sums, meshes_are_confluent, meshes_are_valid, meshes_put_out_numbers,
     wavefronts_put_out_paths,
 };
-pub use nodes::{Node, mesh};
+pub use nodes::{Node, WAIT_LIMIT, mesh};
 pub use runs::{numbers_on_threads, sum_on_threads, wavefront_on_threads};
 pub use sums::chain;
-pub use wavefronts::wavefront;
+pub use wavefronts::{SIDE_LIMIT, wavefront};

@@ -1,8 +1,10 @@
 //! Nodes, and the workload that they are.
 
 ghost use Rattle.std.specs.Prelude.{◌≡◌, ◌≤◌, IfOk, length, map, replicate};
+ghost use Rattle.abt_machine.specs.Limits.{object_limit};
 ghost use Rattle.abt_machine.specs.Words.{numbered};
-ghost use Rattle.flow_caller.specs.Meshes.{IsMesh, mesh, node_ops, node_unit, sched_for, streams};
+ghost use Rattle.abt_generate.specs.Generated.{streams};
+ghost use Rattle.flow_caller.specs.Meshes.{IsMesh, mesh, node_ops, node_unit, sched_for};
 
 use abt_machine::{
     Access, Body, Items, Kind, Mains, ObjectNo, Op, Ops, Parts, PoolNo, PoolPart, PoolParts, Pools,
@@ -13,6 +15,9 @@ use std::alloc::{AllocError, Global};
 
 // The streams. Each has a pool of its own.
 const STREAMS: u32 = 4;
+
+/// How many numbers a node waits for at most.
+pub const WAIT_LIMIT: usize = 16;
 
 /// A unit that waits for numbers: it waits for the eventuals `after`, in this order, adds `plus` to the value of the last (to 0
 /// if there is none), puts out the sum, and sets its own eventual to it, which has the node's number.
@@ -76,7 +81,7 @@ fn eventuals(alloc: Global, n: usize) -> Result<Vec<Thing>, AllocError>
 }
 
 fn units(alloc: Global, nodes: &[Node]) -> Result<Vec<UnitPart>, AllocError>
-    requires { length nodes.now ≤ 256 }
+    requires { length nodes.now ≤ object_limit }
     ensures { IfOk result (λ units. units.items ≡ numbered node_unit nodes.now) }
 {
     let mut units = Vec::new(alloc);

@@ -3,12 +3,14 @@
 
 ghost use Rattle.std.specs.Prelude.{ℕ, All, ◌≡◌, ◌≤◌, ◌<◌, ◌+◌, ◌-◌, ◌%◌, ◌^◌, [], ◌∷◌, IfOk, length, map, sum};
 ghost use Rattle.abt_machine.specs.declared.events.Piece.TheVariants as piece;
+ghost use Rattle.abt_machine.specs.Limits.{object_limit};
 ghost use Rattle.abt_report.specs.declared.pictures.Row.{Row};
 ghost use Rattle.flow_caller.specs.Answers.{Answers};
 ghost use Rattle.flow_caller.specs.Meshes.{AreNumbers, IsMesh, mesh, number_rows};
 ghost use Rattle.flow_caller.specs.Rows.{IsNumber, output_of};
 ghost use Rattle.flow_caller.specs.Sums.{chain};
 ghost use Rattle.flow_caller.specs.Wavefronts.{IsWavefront, wavefront};
+ghost use Rattle.flow_caller.specs.declared.wavefronts.TheConstants.{SIDE_LIMIT};
 
 use crate::nodes::{Node, mesh};
 use crate::sums::chain;
@@ -32,7 +34,7 @@ pub fn sum_on_threads<R: Threads + Wait + Sync>(
     leaves: &[u64],
 ) -> Result<Option<u64>, Want>
     requires some { 0 < length leaves.now }
-    requires few { length leaves.now ≤ 256 }
+    requires few { length leaves.now ≤ object_limit }
     ensures sum { IfOk result (λ answer. Answers (mesh (chain leaves.now)) answer (λ n. n ≡ sum leaves.now % 2 ^ 64)) }
 {
     let nodes = chain(alloc, leaves)?;
@@ -49,7 +51,7 @@ pub fn wavefront_on_threads<R: Threads + Wait + Sync>(
     rt: &R,
     n: u32,
 ) -> Result<Option<Vec<u64>>, Want>
-    requires { n ≤ 16 }
+    requires { n ≤ SIDE_LIMIT }
     ensures table { IfOk result (λ answer. Answers (mesh (wavefront n)) answer (λ numbers. IsWavefront n numbers.items)) }
 {
     let nodes = wavefront(alloc, n)?;

@@ -8,7 +8,7 @@ use abt_commons::Objects;
 use abt_drain::{Run, drain, start_streams};
 use abt_machine::{Journal, Want, Workload};
 use abt_order::StoredOrder;
-use abt_report::{NotJournal, journal_text, read_journal};
+use abt_report::{TextFault, journal_text, read_journal};
 use abt_stream::{NoPace, Stream};
 use abt_waves::{run_streams, run_wave};
 use std::alloc::Global;
@@ -20,10 +20,10 @@ fn no_memory(_want: Want) -> io::Error {
     io::Error::from(io::ErrorKind::OutOfMemory)
 }
 
-fn not_journal(cause: NotJournal) -> io::Error {
+fn not_journal(cause: TextFault) -> io::Error {
     io::Error::from(match cause {
-        NotJournal::Bad { .. } => io::ErrorKind::InvalidData,
-        NotJournal::Memory => io::ErrorKind::OutOfMemory,
+        TextFault::Bad { .. } => io::ErrorKind::InvalidData,
+        TextFault::Memory => io::ErrorKind::OutOfMemory,
     })
 }
 

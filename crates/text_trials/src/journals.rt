@@ -1,7 +1,7 @@
 //! Journals, written and read back.
 
 use abt_machine::{Cause, Code, Event, Journal, PoolNo, StreamNo, UnitNo, What};
-use abt_report::{NotJournal, journal_text, read_journal};
+use abt_report::{TextFault, journal_text, read_journal};
 use std::alloc::{AllocError, Global};
 use std::test::Fail;
 
@@ -195,7 +195,7 @@ fn bad_line(alloc: Global, text: &str) -> Option<u32> {
         return None;
     }
     match read_journal(alloc, text.as_bytes()) {
-        Err(NotJournal::Bad { line }) => Some(line),
+        Err(TextFault::Bad { line }) => Some(line),
         _ => None,
     }
 }

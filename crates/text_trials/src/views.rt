@@ -1,7 +1,7 @@
 //! The stretches, frames and arrows of worked journals.
 
 use abt_machine::{Event, Journal, Want};
-use abt_report::{NotJournal, read_journal};
+use abt_report::{TextFault, read_journal};
 use abt_view::{Arrow, Frame, Spot, Stretch, all_arrows, all_frames, all_stretches};
 use std::alloc::Global;
 use std::process::Abort;
@@ -85,7 +85,7 @@ static ARROWS: [(&str, &[Points]); 3] = [
 ];
 
 // The journal of a text.
-fn journal(rt: &impl Abort, alloc: Global, text: &str) -> Result<Journal, NotJournal> {
+fn journal(rt: &impl Abort, alloc: Global, text: &str) -> Result<Journal, TextFault> {
     assert!(rt; text.len() < 10_000);
     read_journal(alloc, text.as_bytes())
 }

@@ -1,7 +1,7 @@
 -- The bytes that were read, few or too many.
-use Rattle.std.proofs.Common.{◌≡◌, ◌<◌, ◌≤◌, ◌∙◌, length, arith, sym, ap, subst}
+use Rattle.std.proofs.Common.{◌∙◌, arith, subst}
 use Rattle.abt_machine.specs.Words.{Text}
-use Rattle.abt_streams.specs.Texts.{IsCause, lives_text}
+use Rattle.abt_streams.specs.Texts.{IsCause}
 use Rattle.abt_lives.proofs.Fetched.{seen-long, seen-reads, seen-refuses}
 use Rattle.abt_lives.proofs.program.fetch_lives.Goals as goal
 

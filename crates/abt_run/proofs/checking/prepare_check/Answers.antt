@@ -1,5 +1,4 @@
 use Rattle.std.proofs.Common.{refl}
-use Rattle.abt_machine.specs.Words.{Text}
 use Rattle.abt_shell.proofs.Fetched.{passed}
 use Rattle.abt_run.proofs.Preparing.{no-workload-stops, no-journal-stops}
 use Rattle.abt_run.proofs.checking.prepare_check.Goals as goal

@@ -1,4 +1,4 @@
-use Rattle.std.proofs.Common.{◌<◌, ◌≤◌, length, rules, arith}
+use Rattle.std.proofs.Common.{◌<◌, ◌≤◌, length, rules}
 use Rattle.abt_run.proofs.Texts.{told-bad, told-journal, told-long}
 use Rattle.abt_run.proofs.fetching.fetch_journal.Goals as goal
 

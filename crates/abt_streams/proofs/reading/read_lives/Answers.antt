@@ -1,7 +1,7 @@
 use Rattle.std.proofs.Common.{◌≡◌, ◌<◌, ◌+◌, ℕ, length, arith, rules, subst, sym, ap}
 use Rattle.abt_streams.specs.Lives.{AreLives, MayFollow}
 use Rattle.abt_streams.specs.Texts.{IsCause}
-use Rattle.abt_streams.specs.declared.not_lives.NotLives.TheVariants.{Bad}
+use Rattle.abt_report.specs.declared.text_fault.TextFault.TheVariants.{Bad}
 use Rattle.abt_streams.proofs.Many.{few-lives}
 use Rattle.abt_streams.proofs.NoLives.{bad, lives-push, no-line, text-push}
 use Rattle.abt_streams.proofs.reading.read_lives.Goals as goal

@@ -1,4 +1,4 @@
-use Rattle.std.proofs.Common.{◌≡◌, ◌∙◌, ◌+◌, ◌-◌, ◌<◌, ◌^◌, List, length, sum, Some, Option, Vec, Global, ℕ, arith, subst}
+use Rattle.std.proofs.Common.{◌≡◌, ◌∙◌, ◌-◌, ◌<◌, ◌^◌, List, length, sum, Some, Option, Vec, Global, ℕ, arith, subst}
 use Rattle.std.specs.Prelude.{◌%◌}
 use Rattle.std.proofs.lemmas.List.{get_or_read}
 use Rattle.flow_caller.specs.Answers.{Answers}

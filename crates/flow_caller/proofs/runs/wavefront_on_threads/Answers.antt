@@ -1,4 +1,4 @@
-use Rattle.std.proofs.Common.{◌∙◌, List, Option, Vec, Global, ℕ, subst}
+use Rattle.std.proofs.Common.{◌∙◌, List, Vec, Global, ℕ, subst}
 use Rattle.std.specs.Prelude.{IfOk}
 use Rattle.std.proofs.lemmas.Result.{IfOk-weaker}
 use Rattle.flow_caller.specs.Answers.{Answers}

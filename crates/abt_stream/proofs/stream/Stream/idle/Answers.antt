@@ -1,4 +1,5 @@
-use Rattle.std.proofs.Common.{rules, ◌≡◌, ◌≤◌, ◌-◌, [], length, map, reverse, take, refl, subst}
+use Rattle.std.proofs.Common.{rules, ◌≡◌, ◌≤◌, ◌-◌, List, [], length, map, reverse, take, refl, subst}
+use Rattle.abt_machine.specs.declared.operations.OrderShape.{OrderShape}
 use Rattle.abt_machine.specs.declared.operations.Side.{Side}
 use Rattle.abt_machine.specs.Turns.{side_of}
 use Rattle.abt_stream.specs.Events.{VisitBy}
@@ -8,29 +9,22 @@ use Rattle.abt_stream.proofs.Fitted.{turn_fits, visit_fits}
 use Rattle.abt_stream.proofs.Visits.{leave_due, leave_keeps, leave_turned, place_in, round_due, visit_keeps, visit_turned}
 use Rattle.abt_stream.proofs.stream.Stream.idle.Goals as goal
 
-pub returns-then-leaves-clause-turned : goal.returns-then-leaves-clause-turned
-returns-then-leaves-clause-turned g c = λ Z shaped.
+pub returns-then-leaves : goal.returns-then-leaves
+returns-then-leaves g c =
     let both = c.leaves.ensures.leaves c.if-leaves.true in
     let framed = c.leaves.ensures.framed c.if-leaves.true in
     let empty : c.args.self.now.held.own.top.empty ≡ c.args.self.now.top.empty = search rules in
     let under : c.args.self.now.held.own.below ≡ map resting (reverse c.args.self.now.below) = search rules in
     let due = leave_due c.args.w.now c.args.self.now.number.0 c.args.self.now.held c.args.self.now.top c.args.self.now.below c.requires.idle.0 c.requires.idle.1 c.requires.idle.2 empty under both.0 both.1 in
-    leave_turned (Heeds (g.C.Commons.moves c.args.commons.now) (g.C.Commons.workload c.args.commons.now)) c.args.w.now c.args.self.now c.args.pass.now c.leave.new.self c.args.pass.now c.leave.result due framed refl c.leave.ensures Z
-
-pub returns-then-leaves-clause-keeps : goal.returns-then-leaves-clause-keeps
-returns-then-leaves-clause-keeps g c =
-    leave_keeps (Heeds (g.C.Commons.moves c.args.commons.now) (g.C.Commons.workload c.args.commons.now)) c.args.w.now c.args.self.now c.args.pass.now c.leave.new.self c.args.pass.now c.leave.result c.leave.ensures
-
-pub returns-then-leaves-clause-fits : goal.returns-then-leaves-clause-fits
-returns-then-leaves-clause-fits g c =
-    turn_fits (g.C.Commons.moves c.args.commons.now) (g.C.Commons.workload c.args.commons.now) c.args.w.now c.requires.w c.requires.valid c.args.self.now c.args.pass.now c.leave.new.self c.args.pass.now c.requires.fits
-    (returns-then-leaves-clause-keeps g c) c.leave.result
-    (let both = c.leaves.ensures.leaves c.if-leaves.true in
-    let framed = c.leaves.ensures.framed c.if-leaves.true in
-    let empty : c.args.self.now.held.own.top.empty ≡ c.args.self.now.top.empty = search rules in
-    let under : c.args.self.now.held.own.below ≡ map resting (reverse c.args.self.now.below) = search rules in
-    let due = leave_due c.args.w.now c.args.self.now.number.0 c.args.self.now.held c.args.self.now.top c.args.self.now.below c.requires.idle.0 c.requires.idle.1 c.requires.idle.2 empty under both.0 both.1 in
-    leave_turned (Heeds (g.C.Commons.moves c.args.commons.now) (g.C.Commons.workload c.args.commons.now)) c.args.w.now c.args.self.now c.args.pass.now c.leave.new.self c.args.pass.now c.leave.result due framed refl c.leave.ensures [])
+    let turned = λ (Z : List OrderShape). leave_turned (Heeds (g.C.Commons.moves c.args.commons.now) (g.C.Commons.workload c.args.commons.now)) c.args.w.now c.args.self.now c.args.pass.now c.leave.new.self c.args.pass.now c.leave.result due framed refl c.leave.ensures Z in
+    let keeps = leave_keeps (Heeds (g.C.Commons.moves c.args.commons.now) (g.C.Commons.workload c.args.commons.now)) c.args.w.now c.args.self.now c.args.pass.now c.leave.new.self c.args.pass.now c.leave.result c.leave.ensures in
+    record {
+      turned = λ Z shaped. turned Z;
+      pass = c.requires.pass;
+      number = refl;
+      keeps = keeps;
+      fits = turn_fits (g.C.Commons.moves c.args.commons.now) (g.C.Commons.workload c.args.commons.now) c.args.w.now c.requires.w c.requires.valid c.args.self.now c.args.pass.now c.leave.new.self c.args.pass.now c.requires.fits keeps c.leave.result (turned []);
+    }
 
 pub next_pool-p-requires : goal.next_pool-p-requires
 next_pool-p-requires g c =
