@@ -3,4 +3,5 @@ pub mod Confluent
 pub mod Effects
 pub mod Flow
 pub mod Laws
+pub mod Roles
 pub mod Tables

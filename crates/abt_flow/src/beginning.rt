@@ -8,7 +8,8 @@ ghost use Rattle.abt_flow.specs.Tables.{AreFresh, AwaitsNone, AwaitsValue, HasWa
 
 use crate::memory::Progress;
 use crate::naming::ops_count;
-use abt_machine::{ObjectNo, Op, UnitNo, Want, Workload};
+use crate::role::Role;
+use abt_machine::{ObjectNo, UnitNo, Want, Workload};
 use std::alloc::Global;
 
 // Every unit at its beginning.
@@ -49,8 +50,8 @@ fn awaited_at(w: &Workload, u: UnitNo, k: u32) -> Option<ObjectNo>
     requires { u.0 < length w.now.units }
     ensures { MatchOption result (AwaitsNone (op_at w.now u.0 k)) (AwaitsValue (op_at w.now u.0 k)) }
 {
-    match w.op(u, k) {
-        Some(Op::EvWait(x)) => Some(x),
+    match Role::of(w.op(u, k)?) {
+        Role::AwaitValue(x) => Some(x),
         _ => None,
     }
 }

@@ -7,6 +7,7 @@ ghost use Rattle.abt_flow.specs.Checks.{IsPlainAt, IsPlainOp, IsPlainUnit};
 ghost use Rattle.abt_flow.specs.Confluent.{Confluent, IsOpen};
 
 use crate::naming::{Naming, names_once, ops_count};
+use crate::role::Role;
 use abt_machine::{Access, Op, PoolNo, UnitNo, Want, Workload};
 use std::alloc::Global;
 
@@ -34,47 +35,10 @@ fn is_plain(w: &Workload, op: Op) -> bool
     requires { IsDeclared w.now op }
     ensures { IsTrue result ↔ IsPlainOp w.now op }
 {
-    match op {
-        Op::Create(v, p) => !has_start(w, v) && is_open(w, p),
-        Op::Set(_)
-        | Op::Add(_)
-        | Op::Say(_)
-        | Op::Print
-        | Op::KeySet(_)
-        | Op::KeyGet(_)
-        | Op::Yield
-        | Op::Join(_)
-        | Op::EvWait(_)
-        | Op::EvSet(_)
-        | Op::BarWait(_) => true,
-        Op::YieldTo(_, _)
-        | Op::Suspend
-        | Op::Exit
-        | Op::Resume(_)
-        | Op::Cancel(_)
-        | Op::Migrate(_, _)
-        | Op::MigrateTo(_, _)
-        | Op::Migratable(_, _)
-        | Op::Revive(_, _)
-        | Op::Lock(_)
-        | Op::TryLock(_)
-        | Op::Unlock(_)
-        | Op::Load(_)
-        | Op::Store(_)
-        | Op::CondWait(_)
-        | Op::Signal(_)
-        | Op::Broadcast(_)
-        | Op::EvReset(_)
-        | Op::EvTest(_)
-        | Op::FuWait(_)
-        | Op::FuSet(_)
-        | Op::FuReset(_)
-        | Op::FuTest(_)
-        | Op::ReadLock(_)
-        | Op::WriteLock(_)
-        | Op::RwUnlock(_)
-        | Op::RwLoad(_)
-        | Op::RwStore(_) => false,
+    match Role::of(op) {
+        Role::Create(v, p) => !has_start(w, v) && is_open(w, p),
+        Role::Depend => false,
+        _ => true,
     }
 }
 

@@ -8,6 +8,7 @@ mod laws;
 mod memory;
 mod naming;
 mod reaching;
+mod role;
 mod table;
 
 pub use confluence::confluent;

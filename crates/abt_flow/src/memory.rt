@@ -5,6 +5,7 @@ ghost use Rattle.abt_flow.specs.Effects.{effect};
 ghost use Rattle.abt_flow.specs.Flow.{Leads};
 ghost use Rattle.abt_flow.specs.Tables.{HasKey, IsComputed, IsFresh, Nothing, memory_in};
 
+use crate::role::Role;
 use abt_machine::{Op, Piece, Want, Workload};
 use std::alloc::Global;
 
@@ -54,47 +55,14 @@ impl Progress {
         ensures memory { IfOk result (λ _. Leads Nothing (effect op) (memory_in self.old) (memory_in self.new)) }
         ensures position { self.new.position ≡ self.old.position }
     {
-        match op {
-            Op::Set(n) => self.acc = n,
-            Op::Add(n) => self.acc = self.acc.wrapping_add(n),
-            Op::Say(word) => self.output.push(Piece::Said(word))?,
-            Op::Print => self.output.push(Piece::Number(self.acc))?,
-            Op::KeySet(k) => self.keys[k as usize] = self.acc,
-            Op::KeyGet(k) => self.acc = self.keys[k as usize],
-            Op::Yield
-            | Op::YieldTo(_, _)
-            | Op::Suspend
-            | Op::Exit
-            | Op::Resume(_)
-            | Op::Create(_, _)
-            | Op::Join(_)
-            | Op::Cancel(_)
-            | Op::Migrate(_, _)
-            | Op::MigrateTo(_, _)
-            | Op::Migratable(_, _)
-            | Op::Revive(_, _)
-            | Op::Lock(_)
-            | Op::TryLock(_)
-            | Op::Unlock(_)
-            | Op::Load(_)
-            | Op::Store(_)
-            | Op::CondWait(_)
-            | Op::Signal(_)
-            | Op::Broadcast(_)
-            | Op::EvWait(_)
-            | Op::EvSet(_)
-            | Op::EvReset(_)
-            | Op::EvTest(_)
-            | Op::FuWait(_)
-            | Op::FuSet(_)
-            | Op::FuReset(_)
-            | Op::FuTest(_)
-            | Op::BarWait(_)
-            | Op::ReadLock(_)
-            | Op::WriteLock(_)
-            | Op::RwUnlock(_)
-            | Op::RwLoad(_)
-            | Op::RwStore(_) => {}
+        match Role::of(op) {
+            Role::Set(n) => self.acc = n,
+            Role::Add(n) => self.acc = self.acc.wrapping_add(n),
+            Role::Say(word) => self.output.push(Piece::Said(word))?,
+            Role::Print => self.output.push(Piece::Number(self.acc))?,
+            Role::KeySet(k) => self.keys[k as usize] = self.acc,
+            Role::KeyGet(k) => self.acc = self.keys[k as usize],
+            _ => {}
         }
         Ok(())
     }

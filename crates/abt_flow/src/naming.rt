@@ -4,6 +4,7 @@ ghost use Rattle.std.specs.Prelude.{◌+◌, ◌<◌, ◌≡◌, ◌↔◌, IfOk
 ghost use Rattle.abt_machine.specs.Workloads.{body_at, ops_of};
 ghost use Rattle.abt_flow.specs.Checks.{HasNamed, NamesOnce, named_by, names_in};
 
+use crate::role::Role;
 use abt_machine::{Op, UnitNo, Want, Workload};
 use std::alloc::Global;
 
@@ -18,51 +19,10 @@ impl Naming {
     fn of(self, op: Op) -> Option<u32>
         ensures { result ≡ named_by self op }
     {
-        match (self, op) {
-            (Naming::Sets, Op::EvSet(x)) => Some(x.0),
-            (Naming::Creates, Op::Create(v, _)) => Some(v.0),
-            (Naming::Sets, Op::Create(_, _)) | (Naming::Creates, Op::EvSet(_)) => None,
-            (
-                _,
-                Op::Set(_)
-                | Op::Add(_)
-                | Op::Say(_)
-                | Op::Print
-                | Op::KeySet(_)
-                | Op::KeyGet(_)
-                | Op::Yield
-                | Op::YieldTo(_, _)
-                | Op::Suspend
-                | Op::Exit
-                | Op::Resume(_)
-                | Op::Join(_)
-                | Op::Cancel(_)
-                | Op::Migrate(_, _)
-                | Op::MigrateTo(_, _)
-                | Op::Migratable(_, _)
-                | Op::Revive(_, _)
-                | Op::Lock(_)
-                | Op::TryLock(_)
-                | Op::Unlock(_)
-                | Op::Load(_)
-                | Op::Store(_)
-                | Op::CondWait(_)
-                | Op::Signal(_)
-                | Op::Broadcast(_)
-                | Op::EvWait(_)
-                | Op::EvReset(_)
-                | Op::EvTest(_)
-                | Op::FuWait(_)
-                | Op::FuSet(_)
-                | Op::FuReset(_)
-                | Op::FuTest(_)
-                | Op::BarWait(_)
-                | Op::ReadLock(_)
-                | Op::WriteLock(_)
-                | Op::RwUnlock(_)
-                | Op::RwLoad(_)
-                | Op::RwStore(_),
-            ) => None,
+        match (self, Role::of(op)) {
+            (Naming::Sets, Role::SetValue(x)) => Some(x.0),
+            (Naming::Creates, Role::Create(v, _)) => Some(v.0),
+            _ => None,
         }
     }
 

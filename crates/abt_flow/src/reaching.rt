@@ -7,7 +7,8 @@ ghost use Rattle.abt_flow.specs.Tables.{Adds, Closes, CreatesNone, CreatesUnit, 
 
 use crate::confluence::has_start;
 use crate::naming::ops_count;
-use abt_machine::{Op, UnitNo, Want, Workload};
+use crate::role::Role;
+use abt_machine::{UnitNo, Want, Workload};
 use std::alloc::Global;
 
 // The units that are reached, in the order in which they were found, and for each unit whether it is one.
@@ -22,8 +23,8 @@ fn created_at(w: &Workload, u: UnitNo, k: u32) -> Option<UnitNo>
     requires { u.0 < length w.now.units }
     ensures { MatchOption result (CreatesNone (op_at w.now u.0 k)) (CreatesUnit (op_at w.now u.0 k)) }
 {
-    match w.op(u, k) {
-        Some(Op::Create(v, _)) => Some(v),
+    match Role::of(w.op(u, k)?) {
+        Role::Create(v, _) => Some(v),
         _ => None,
     }
 }

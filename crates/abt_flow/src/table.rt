@@ -10,6 +10,7 @@ ghost use Rattle.abt_flow.specs.Tables.{AllRest, AllRun, IsNext, IsOther, IsOver
 
 use crate::beginning::{fresh_units, no_values, wait_lists};
 use crate::memory::Progress;
+use crate::role::Role;
 use abt_machine::{ObjectNo, Op, UnitNo, Want, Workload};
 use std::alloc::Global;
 
@@ -114,50 +115,13 @@ impl Table {
         let Some(op) = self.next(w, u) else {
             return Ok(false);
         };
-        match op {
-            Op::EvWait(x) => Ok(self.await_value(w, u, x)),
-            Op::EvSet(x) => {
+        match Role::of(op) {
+            Role::AwaitValue(x) => Ok(self.await_value(w, u, x)),
+            Role::SetValue(x) => {
                 self.set_value(w, u, x)?;
                 Ok(true)
             }
-            Op::Set(_)
-            | Op::Add(_)
-            | Op::Say(_)
-            | Op::Print
-            | Op::KeySet(_)
-            | Op::KeyGet(_)
-            | Op::Yield
-            | Op::YieldTo(_, _)
-            | Op::Suspend
-            | Op::Exit
-            | Op::Resume(_)
-            | Op::Create(_, _)
-            | Op::Join(_)
-            | Op::Cancel(_)
-            | Op::Migrate(_, _)
-            | Op::MigrateTo(_, _)
-            | Op::Migratable(_, _)
-            | Op::Revive(_, _)
-            | Op::Lock(_)
-            | Op::TryLock(_)
-            | Op::Unlock(_)
-            | Op::Load(_)
-            | Op::Store(_)
-            | Op::CondWait(_)
-            | Op::Signal(_)
-            | Op::Broadcast(_)
-            | Op::EvReset(_)
-            | Op::EvTest(_)
-            | Op::FuWait(_)
-            | Op::FuSet(_)
-            | Op::FuReset(_)
-            | Op::FuTest(_)
-            | Op::BarWait(_)
-            | Op::ReadLock(_)
-            | Op::WriteLock(_)
-            | Op::RwUnlock(_)
-            | Op::RwLoad(_)
-            | Op::RwStore(_) => {
+            _ => {
                 self.compute(w, u, op)?;
                 Ok(true)
             }
