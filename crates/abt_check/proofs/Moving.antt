@@ -144,10 +144,6 @@ visit_moves W Z s old before named p (what.Take q u) new after due next is h =
     (subst (λ (x : PoolNo). Moves W Z s old before (what.Take x u) new after) (sym h.0) (heard, (due, next, h.1, sym (ap (λ (v : UnitNo). v.0) h.2), refl, h.4), h.3), λ r. ap (λ n. Some n) same ∙ sym is)
 visit_moves W Z s old before named p made new after due next is h = absurd h
 
--- a stream from which nothing was taken is as it was
-pub with_no_next : (old taken : Held) → taken ≡ record old { next = None } → old.next ≡ None → taken ≡ old
-with_no_next old taken rest none = rest ∙ ap (λ (n : Option Owned). record old { next = n }) (sym none)
-
 -- the pools of a round
 pub next-declared : (W : Parts) (Z : List OrderShape) (f : Frame) (p : ℕ) → IsValid W → IsNextPool W Z f p → p < length W.pools
 next-declared W Z f p valid next =

@@ -1,14 +1,12 @@
 //! The next event of a stream.
 
-ghost use Rattle.std.specs.Prelude.{◌≡◌, ◌≢◌, ◌<◌, [], IfOk, None};
+ghost use Rattle.std.specs.Prelude.{◌<◌, IfOk};
 ghost use Rattle.abt_check.specs.Turns.{CanMove, MovesAs};
-ghost use Rattle.abt_machine.specs.Next.{RoundDue};
 ghost use Rattle.abt_machine.specs.Rounds.{OrdersStored};
-ghost use Rattle.abt_machine.specs.Turns.{due_of};
 ghost use Rattle.abt_machine.specs.Valid.{IsValid};
 ghost use Rattle.abt_replay.specs.Events.{AreObjects};
 
-use crate::visits::{may_visit, visited};
+use crate::visits::next_visited;
 use abt_machine::{OrderShape, StreamNo, Want, What, Workload};
 use abt_replay::{Lane, Objects};
 
@@ -41,39 +39,12 @@ pub(crate) fn move_as(
         let made = lane.run(objects, w, s, unit)?;
         return Ok(Some(made));
     }
-    if !lane.top().empty {
-        return go_round(lane, objects, w, z, s, named);
+    if lane.top().empty && lane.is_stacked() {
+        return Ok(Some(lane.leave()));
     }
-    if !lane.is_stacked() {
-        return go_round(lane, objects, w, z, s, named);
-    }
-    Ok(Some(lane.leave()))
-}
-
-// The same if a round is due.
-fn go_round(
-    lane: &mut Lane,
-    objects: &mut Objects,
-    w: &Workload,
-    z: &[OrderShape],
-    s: StreamNo,
-    named: What,
-) -> Result<Option<What>, Want>
-    requires valid { IsValid w.now }
-    requires stored { OrdersStored w.now z.now }
-    requires stream { s.0 < w.now.streams }
-    requires lane { CanMove w.now z.now lane.old }
-    requires objects { AreObjects w.now objects.old }
-    requires next { lane.old.next ≡ None }
-    requires due { due_of w.now s.0 lane.old ≡ RoundDue }
-    ensures { IfOk result (λ made. MovesAs w.now z.now s.0 lane.old objects.old named made lane.new objects.new) }
-{
-    let Some(p) = visited(named) else {
+    let Some(p) = next_visited(w, z, lane.top(), named) else {
         return Ok(None);
     };
-    if !may_visit(w, z, lane.top(), p) {
-        return Ok(None);
-    }
     let made = lane.visit(objects, w, s, p)?;
     Ok(Some(made))
 }

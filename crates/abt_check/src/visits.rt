@@ -1,6 +1,6 @@
 //! Which pool a round may visit next.
 
-ghost use Rattle.std.specs.Prelude.{◌≡◌, ◌==◌, ◌↔◌, Contains, IsTrue, length, option_map};
+ghost use Rattle.std.specs.Prelude.{◌≡◌, ◌==◌, ◌↔◌, ℕ, Contains, IfNone, IfSome, IsTrue, Some, length, option_map};
 ghost use Rattle.std.specs.List.{list_any};
 ghost use Rattle.abt_bounds.specs.Laws.{visited};
 ghost use Rattle.abt_machine.specs.Rounds.{IsNextPool, OrdersStored, choice_of};
@@ -13,8 +13,31 @@ ghost use Rattle.abt_machine.specs.declared.numbers.PoolNo.{PoolNo};
 use abt_machine::{OrderShape, PoolNo, What, Workload};
 use abt_replay::{Frame, Next, pool_at};
 
-/// The pool that an event visits, if it is of a round.
-pub(crate) fn visited(what: What) -> Option<PoolNo>
+/// The pool that `named` visits, if the frame's round may visit it next. `z` has the shapes of the stored orders.
+pub(crate) fn next_visited(
+    w: &Workload,
+    z: &[OrderShape],
+    frame: &Frame,
+    named: What,
+) -> Option<PoolNo>
+    requires valid { IsValid w.now }
+    requires stored { OrdersStored w.now z.now }
+    requires under_way { IsUnderWay w.now z.now frame.now }
+    ensures named { IfSome result (λ p. visited named ≡ Some p.0) }
+    ensures next { IfSome result (λ p. IsNextPool w.now z.now frame.now p.0) }
+    ensures none { IfNone result ((p : ℕ) → visited named ≡ Some p → IsNextPool w.now z.now frame.now p → ⊥) }
+{
+    let Some(p) = visited(named) else {
+        return None;
+    };
+    if !may_visit(w, z, frame, p) {
+        return None;
+    }
+    Some(p)
+}
+
+// The pool that an event visits, if it is of a round.
+fn visited(what: What) -> Option<PoolNo>
     ensures { option_map (λ (p : PoolNo). p.0) result ≡ visited what }
 {
     match what {
@@ -23,8 +46,8 @@ pub(crate) fn visited(what: What) -> Option<PoolNo>
     }
 }
 
-/// Whether the pool may be the next of the frame's round. `z` has the shapes of the stored orders.
-pub(crate) fn may_visit(w: &Workload, z: &[OrderShape], frame: &Frame, p: PoolNo) -> bool
+// Whether the pool may be the next of the frame's round.
+fn may_visit(w: &Workload, z: &[OrderShape], frame: &Frame, p: PoolNo) -> bool
     requires valid { IsValid w.now }
     requires stored { OrdersStored w.now z.now }
     requires under_way { IsUnderWay w.now z.now frame.now }

@@ -1,7 +1,13 @@
-use Rattle.std.proofs.Common.{◌≡◌, ◌∙◌, None, ap, sym}
+use Rattle.std.proofs.Common.{rules, ◌≡◌, ◌∙◌, ◌<◌, None, ap, length, subst, sym}
+use Rattle.abt_laws.proofs.Rounds.{order-declared}
+use Rattle.abt_machine.specs.Next.{RoundDue}
+use Rattle.abt_machine.specs.Rounds.{IsNextPool}
+use Rattle.abt_machine.specs.State.{Frame}
+use Rattle.abt_machine.specs.Turns.{due_of}
 use Rattle.abt_machine.specs.Values.{Held}
+use Rattle.abt_replay.specs.Events.{Visits}
 use Rattle.abt_check.specs.Turns.{IsOfWorkload}
-use Rattle.abt_check.proofs.Moving.{first-of, look_allowed, look_moves, put_allowed, put_moves, run_moves, some-of, with_no_next}
+use Rattle.abt_check.proofs.Moving.{first-of, look_allowed, look_moves, next-declared, put_allowed, put_moves, run_moves, some-of, take_allowed, visit_moves}
 use Rattle.abt_check.proofs.turns.move_as.Goals as goal
 
 pub put-requires : goal.put-requires
@@ -28,8 +34,28 @@ returns-in-Some-take_next c =
 
 pub returns-in-Some-take_hand : goal.returns-in-Some-take_hand
 returns-in-Some-take_hand c =
-    let first : c.take_from_tray.new.self ≡ c.args.lane.now = c.in_default.ensures.none.1 in
-    let next : c.args.lane.now.next ≡ None = ap (λ (held : Held). held.next) (sym first) ∙ (sym c.take_next.ensures.next ∙ c.in_default-take_next.is) in
-    let same : c.take_next.new.self ≡ c.args.lane.now = with_no_next c.args.lane.now c.take_next.new.self (c.take_next.ensures.others ∙ ap (λ (held : Held). record held { next = None }) first) next in
+    let next : c.args.lane.now.next ≡ None = search rules in
+    let same : c.take_next.new.self ≡ c.args.lane.now = search rules in
     run_moves c.args.w.now c.args.z.now c.args.s.0 c.args.lane.now c.args.objects.now c.args.named c.in_ok-made-3.made c.run.new.self c.run.new.objects c.in-Some-take_hand.unit c.take_hand.new.self c.in_default.ensures.none.0 next
     (ap (λ (held : Held). held.hand) (sym same) ∙ (sym c.take_hand.ensures.hand ∙ c.in-Some-take_hand.is)) (c.take_hand.ensures.others ∙ ap (λ (held : Held). record held { hand = None }) same) (c.in_ok-made-3.ensures c.args.z.now)
+
+pub visit-requires-clause-pool : goal.visit-requires-clause-pool
+visit-requires-clause-pool c = next-declared c.args.w.now c.args.z.now c.top-2.result.now c.in-Some-next_visited.p.0 c.requires.valid c.in-Some-next_visited.ensures.next
+
+pub visit-requires-clause-sched : goal.visit-requires-clause-sched
+visit-requires-clause-sched c =
+    let same : c.take_hand.new.self ≡ c.args.lane.now = search rules in
+    subst (λ (held : Held). held.own.top.sched < length c.args.w.now.scheds) (sym same)
+    (order-declared c.args.w.now c.args.z.now c.args.lane.now.own.top.sched c.args.lane.now.own.top.round c.requires.lane.round.0 c.requires.lane.round.1)
+
+pub visit-requires-clause-allowed : goal.visit-requires-clause-allowed
+visit-requires-clause-allowed c = take_allowed c.args.w.now c.args.objects.now c.args.s.0 c.in-Some-next_visited.p c.requires.objects (visit-requires-clause-pool c)
+
+pub returns : goal.returns
+returns c =
+    let same : c.take_hand.new.self ≡ c.args.lane.now = search rules in
+    let due : due_of c.args.w.now c.args.s.0 c.args.lane.now ≡ RoundDue = search rules in
+    let here : IsNextPool c.args.w.now c.args.z.now c.args.lane.now.own.top c.in-Some-next_visited.p.0 =
+    subst (λ (f : Frame). IsNextPool c.args.w.now c.args.z.now f c.in-Some-next_visited.p.0) (c.top-2.ensures ∙ ap (λ (held : Held). held.own.top) same) c.in-Some-next_visited.ensures.next in
+    visit_moves c.args.w.now c.args.z.now c.args.s.0 c.args.lane.now c.args.objects.now c.args.named c.in-Some-next_visited.p c.in_ok-made-4.made c.visit.new.self c.visit.new.objects due here c.in-Some-next_visited.ensures.named
+    (subst (λ (held : Held). Visits c.args.w.now c.args.s.0 held c.args.objects.now c.in-Some-next_visited.p c.in_ok-made-4.made c.visit.new.self c.visit.new.objects) same c.in_ok-made-4.ensures)
