@@ -1,5 +1,5 @@
 -- From what `clap` found to what the definition says.
-use Rattle.std.proofs.Common.{◌≡◌, ◌≢◌, ℕ, zero, suc, Bool, true, false, true≢false, refl, sym, ap, ap₂, subst, ◌∙◌, List, [], ◌∷◌, map, codes, Option, Some, None, is_some}
+use Rattle.std.proofs.Common.{◌≡◌, ℕ, zero, suc, Bool, true, false, true≢false, refl, sym, ap, ap₂, subst, ◌∙◌, List, [], ◌∷◌, map, codes, Option, Some, None, is_some}
 use Rattle.std.specs.Prelude.{String, string_bytes}
 use Rattle.std.proofs.lemmas.Str.{IsUtf8-string_bytes}
 use Rattle.clap.specs.Words.{App, fault_of, first_of, first_value, found_of, matches_of, one_of, one_text, rows_of}
@@ -7,8 +7,7 @@ use Rattle.clap.specs.declared.parser.matches.ArgMatches.{ArgMatches}
 use Rattle.clap.proofs.WalkLemmas.{first_value-rows, one_text-rows}
 use Rattle.abt_words.specs.declared.commands.Command.{Command}
 use Rattle.abt_machine.specs.Words.{Text}
-use Rattle.abt_machine.specs.Spelling.{SaysNumber}
-use Rattle.abt_words.specs.Commands.{Rest, SaysBy, SaysSteps, journal_count, only, rest_of}
+use Rattle.abt_words.specs.Commands.{Rest, SaysBy, SaysSteps, journal_count, rest_of}
 use Rattle.abt_words.specs.Apps.{run_app}
 use Rattle.abt_words.specs.Asked.{at_most_one}
 use Rattle.abt_words.proofs.Endings.{AllTexts}
@@ -68,14 +67,6 @@ module _ {Z : Type 0} (rest : List (String Z)) (a : App) (is : a ≡ run_app) wh
       let same_journal : j ≡ s.journal = flag_is _ s.journal j text on off in
       total_rest (rest_of false words) s f got.1 same_file ∙ ap₂ (rest_with f) same_steps (sym same_journal)
 
-  -- a file is there
-  pub has_file : (m : ArgMatches) → fault_of a words ≡ [] → rows_of (found_of m) ≡ matches_of a words → None ≡ first_value (found_of m) (codes "file") → ⊥
-  has_file m passes finds none =
-      let got = (run_outcome words (all_texts rest)).taken (sym (run_fault words) ∙ ap (λ (x : App). fault_of x words) (sym is) ∙ passes) in
-      let rows : rows_of (found_of m) ≡ matches_of run_app words = finds ∙ ap (λ (x : App). matches_of x words) is in
-      let same : got.0.file ≡ None = sym got.3.file ∙ ap (first_of (codes "file")) (sym (run_matches words) ∙ sym rows) ∙ sym (first_value-rows (found_of m) (codes "file")) ∙ sym none in
-      true≢false (sym got.2 ∙ ap is_some same)
-
   joins_one : (r : List Text) (f : Text) → r ≡ f ∷ [] → Joins None r (Some f)
   joins_one r f e = subst (λ (l : List Text). Joins None l (Some f)) (sym e) refl
 
@@ -91,9 +82,12 @@ module _ {Z : Type 0} (rest : List (String Z)) (a : App) (is : a ≡ run_app) wh
       by true = refl
       by false = refl
 
-  -- words that `clap` refuses say nothing
-  pub refused : fault_of a words ≢ [] → (c : Command) → SaysBy (codes "run") (rest_of false words) c → ⊥
+  -- words that `clap` refuses, or in which it finds no file, say nothing
+  pub refused : (fault_of a words ≡ [] → first_of (codes "file") (matches_of a words) ≡ None) → (c : Command) → SaysBy (codes "run") (rest_of false words) c → ⊥
   refused bad = by_run (rest_of false words) (λ c. ⊥) (λ f n j says.
       let steps = joins_steps (rest_of false words).steps n says.2 in
-      bad (ap (λ (x : App). fault_of x words) is ∙ run_fault words ∙ (run_outcome words (all_texts rest)).takes (record { file = Some f; steps = steps.0; journal = j })
-      (joins_one _ f says.0, steps.1, joins_flag _ j says.3, says.4) refl))
+      let run_passes = (run_outcome words (all_texts rest)).takes (record { file = Some f; steps = steps.0; journal = j }) (joins_one _ f says.0, steps.1, joins_flag _ j says.3, says.4) refl in
+      let got = (run_outcome words (all_texts rest)).taken run_passes in
+      let none : first_of (codes "file") (matches_of a words) ≡ None = bad (ap (λ (x : App). fault_of x words) is ∙ run_fault words ∙ run_passes) in
+      let same : got.0.file ≡ None = sym got.3.file ∙ ap (first_of (codes "file")) (sym (ap (λ (x : App). matches_of x words) is ∙ run_matches words)) ∙ none in
+      true≢false (sym got.2 ∙ ap is_some same))

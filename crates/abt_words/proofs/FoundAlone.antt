@@ -2,7 +2,6 @@
 use Rattle.std.proofs.Common.{◌≡◌, ◌≢◌, ℕ, refl, sym, ap, ap₂, subst, ◌∙◌, List, [], ◌∷◌, map, codes, Option, Some, None, false}
 use Rattle.std.specs.Prelude.{String, string_bytes}
 use Rattle.clap.specs.Words.{App, fault_of, first_of, first_value, found_of, matches_of, rows_of}
-use Rattle.clap.specs.Walk.{Row}
 use Rattle.clap.specs.declared.parser.matches.ArgMatches.{ArgMatches}
 use Rattle.clap.proofs.WalkLemmas.{first_value-rows}
 use Rattle.abt_machine.specs.Limits.{adder_limit}
@@ -57,22 +56,20 @@ module _ {Z : Type 0} (rest : List (String Z)) (a : App) (is : a ≡ alone_app) 
   abbrev words : List Text
   words = map string_bytes rest
 
-  found : (m : ArgMatches) → fault_of a words ≡ [] → rows_of (found_of m) ≡ matches_of a words
-      → (n : Text) × (o : Option Text) × (first_value (found_of m) (codes "first") ≡ Some n) × (first_value (found_of m) (codes "second") ≡ o)
+  -- what is there if `clap` takes the words
+  found : fault_of a words ≡ []
+      → (n : Text) × (o : Option Text) × (first_of (codes "first") (matches_of a words) ≡ Some n) × (first_of (codes "second") (matches_of a words) ≡ o)
       × (rest_of false words ≡ only (n ∷ at_most_one o))
-  found m passes finds = by got.0 got.1 got.2
+  found passes = by got.0 got.1 got.2
     where
       got : (p : Said) × AreWhole (rest_of false words) p × Finds p (last alone_top (alone_at none false) words)
       got = (alone_outcome words (all_texts rest)).taken (sym (alone_fault words) ∙ ap (λ (x : App). fault_of x words) (sym is) ∙ passes)
 
-      rows : rows_of (found_of m) ≡ matches_of alone_app words
-      rows = finds ∙ ap (λ (x : App). matches_of x words) is
-
-      value : (id : Text) → first_value (found_of m) id ≡ first_of id (last alone_top (alone_at none false) words)
-      value id = first_value-rows (found_of m) id ∙ ap (first_of id) (rows ∙ alone_matches words)
+      value : (id : Text) → first_of id (matches_of a words) ≡ first_of id (last alone_top (alone_at none false) words)
+      value id = ap (first_of id) (ap (λ (x : App). matches_of x words) is ∙ alone_matches words)
 
       by : (p : Said) → AreWhole (rest_of false words) p → Finds p (last alone_top (alone_at none false) words)
-          → (n : Text) × (o : Option Text) × (first_value (found_of m) (codes "first") ≡ Some n) × (first_value (found_of m) (codes "second") ≡ o)
+          → (n : Text) × (o : Option Text) × (first_of (codes "first") (matches_of a words) ≡ Some n) × (first_of (codes "second") (matches_of a words) ≡ o)
           × (rest_of false words ≡ only (n ∷ at_most_one o))
       by none whole found = absurd whole.1
       by (says n o) whole found = (
@@ -87,18 +84,17 @@ module _ {Z : Type 0} (rest : List (String Z)) (a : App) (is : a ≡ alone_app) 
   pub words_told : (m : ArgMatches) (n : Text) (o : Option Text) → fault_of a words ≡ [] → rows_of (found_of m) ≡ matches_of a words
       → Some n ≡ first_value (found_of m) (codes "first") → o ≡ first_value (found_of m) (codes "second") → rest_of false words ≡ only (n ∷ at_most_one o)
   words_told m n o passes finds first second =
-      let got = found m passes finds in
-      got.4 ∙ ap₂ (λ (t : Text) (p : Option Text). only (t ∷ at_most_one p)) (sym (some_is n got.0 (first ∙ got.2))) (sym (second ∙ got.3))
+      let got = found passes in
+      let value : (id : Text) → first_value (found_of m) id ≡ first_of id (matches_of a words) = λ id. first_value-rows (found_of m) id ∙ ap (first_of id) finds in
+      got.4 ∙ ap₂ (λ (t : Text) (p : Option Text). only (t ∷ at_most_one p)) (sym (some_is n got.0 (first ∙ (value (codes "first") ∙ got.2)))) (sym (second ∙ (value (codes "second") ∙ got.3)))
 
-  -- a word is there
-  pub has_word : (m : ArgMatches) → fault_of a words ≡ [] → rows_of (found_of m) ≡ matches_of a words → None ≡ first_value (found_of m) (codes "first") → ⊥
-  has_word m passes finds absent = let got = found m passes finds in none_is got.0 (absent ∙ got.2)
-
-  -- words that `clap` refuses are not one or two alone
-  pub words_refused : fault_of a words ≢ [] → (n : Text) (o : Option Text) → rest_of false words ≡ only (n ∷ at_most_one o) → ⊥
+  -- words that `clap` refuses, or in which it finds no first, are not one or two alone
+  pub words_refused : (fault_of a words ≡ [] → first_of (codes "first") (matches_of a words) ≡ None) → (n : Text) (o : Option Text) → rest_of false words ≡ only (n ∷ at_most_one o) → ⊥
   words_refused bad n o says_so =
-      bad (ap (λ (x : App). fault_of x words) is ∙ alone_fault words ∙ (alone_outcome words (all_texts rest)).takes (says n o)
-      (subst (λ (r : Rest). AreWhole r (says n o)) (sym says_so) (are_whole n o)))
+      let passes : fault_of a words ≡ [] = ap (λ (x : App). fault_of x words) is ∙ alone_fault words ∙ (alone_outcome words (all_texts rest)).takes (says n o)
+      (subst (λ (r : Rest). AreWhole r (says n o)) (sym says_so) (are_whole n o)) in
+      let got = found passes in
+      none_is got.0 (sym (bad passes) ∙ got.2)
 
 -- ---- commands on words alone
 

@@ -1,8 +1,8 @@
 -- No two commands have one name.
-use Rattle.std.proofs.Common.{◌≡◌, ℕ, Bool, ◌+◌, ◌*◌, refl, sym, ap, ◌∙◌, List, [], ◌∷◌, codes, length, arith}
+use Rattle.std.proofs.Common.{◌≡◌, ℕ, Bool, ◌+◌, ◌*◌, ap, [], ◌∷◌, codes, length, arith}
 use Rattle.abt_words.specs.declared.commands.Command.{Command}
 use Rattle.abt_words.specs.declared.commands.Command.TheVariants as command
-use Rattle.abt_words.specs.Commands.{SaysBy, SaysFile, SaysFiles, SaysRun, SaysSelf, Rest, name_of}
+use Rattle.abt_words.specs.Commands.{SaysBy, SaysFile, SaysFiles, SaysRun, SaysSelf, Rest}
 use Rattle.abt_machine.specs.Words.{Text}
 
 -- names differ in their first letter or their length

@@ -9,7 +9,7 @@ use Rattle.abt_words.specs.declared.commands.Command.TheVariants as command
 use Rattle.abt_machine.specs.Words.{Text}
 use Rattle.abt_machine.specs.Limits.{step_limit}
 use Rattle.abt_machine.specs.Spelling.{SaysNumber}
-use Rattle.abt_words.specs.Commands.{Rest, Says, SaysBy, SaysFile, SaysFiles, SaysRun, SaysSelf, SaysSteps, journal_count, name_of, rest_of}
+use Rattle.abt_words.specs.Commands.{Rest, Says, SaysBy, SaysFile, SaysFiles, SaysRun, SaysSelf, SaysSteps, journal_count, rest_of}
 use Rattle.abt_words.proofs.Names.{by_check, by_flow, by_run, by_self}
 
 head_of : (x y : Text) (xs ys : List Text) → x ∷ xs ≡ y ∷ ys → x ≡ y

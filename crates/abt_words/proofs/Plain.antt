@@ -1,9 +1,8 @@
 -- A word that is no option is a value, whatever was read before it.
 use Rattle.std.proofs.Common.{◌≡◌, ◌==◌, ℕ, Bool, true, false, refl, List, [], ◌∷◌}
 use Rattle.clap.specs.Faults.{word_fault}
-use Rattle.clap.specs.Kinds.{Kinds}
 use Rattle.clap.specs.Simple.{Shape}
-use Rattle.clap.specs.Walk.{Held, Rule, Step, idle, value, word_met}
+use Rattle.clap.specs.Walk.{Held, Rule, idle, value, word_met}
 use Rattle.clap.proofs.OnLiterals.{clap_on_literals}
 use Rattle.abt_machine.specs.Words.{Text}
 use Rattle.abt_words.specs.Commands.{is_option}

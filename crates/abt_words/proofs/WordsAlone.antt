@@ -1,5 +1,5 @@
 -- `clap` takes words exactly if there is no option among them and they are as many as it wants.
-use Rattle.std.proofs.Common.{◌≡◌, ◌≢◌, ◌⊎◌, inl, inr, ◌==◌, ℕ, suc, Bool, cond, true, false, refl, sym, ap, subst, ◌∙◌, List, [], ◌∷◌, ◌++◌, codes, Option, Some, None, arith}
+use Rattle.std.proofs.Common.{◌≡◌, ◌≢◌, ◌⊎◌, inl, inr, ◌==◌, ℕ, suc, Bool, cond, true, false, refl, sym, subst, ◌∙◌, List, [], ◌∷◌, ◌++◌, codes, Option, Some, None, arith}
 use Rattle.std.specs.Prelude.{slice_get}
 use Rattle.std.specs.Str.{chars}
 use Rattle.clap.specs.Faults.{turn_fault}

@@ -17,10 +17,7 @@ fn words_alone<'a>(
     ensures words { IfOk result (λ words. rest_of false (map string_bytes rest.entry.now) ≡ only (words.0.now ∷ at_most_one (option_map (λ v. v.now) words.1))) }
     ensures bad { result ≡ Err WordFault.Bad → (first : Text) (second : Option Text) → rest_of false (map string_bytes rest.entry.now) ≡ only (first ∷ at_most_one second) → ⊥ }
 {
-    let found = found(alone_command(alloc)?, rest)?;
-    let Some(first) = found.get_str("first") else {
-        return Err(WordFault::Bad);
-    };
+    let (found, first) = found(alone_command(alloc)?, rest, "first")?;
     Ok((first, found.get_str("second")))
 }
 

@@ -1,7 +1,7 @@
 //! The commands of `clap` that read the words after `run`, and words alone, and what they find.
 
-ghost use Rattle.std.specs.Prelude.{◌≡◌, ◌≢◌, IfOk, [], true, false, map, string_bytes};
-ghost use Rattle.clap.specs.Words.{app_of, fault_of, found_of, is_simple_and_free, matches_of, rows_of, rule_of};
+ghost use Rattle.std.specs.Prelude.{◌≡◌, IfOk, [], None, Some, true, false, map, string_bytes};
+ghost use Rattle.clap.specs.Words.{app_of, fault_of, first_of, first_value, found_of, is_simple_and_free, matches_of, rows_of, rule_of};
 ghost use Rattle.abt_words.specs.Apps.{alone_app, bare, long_rule, needed, optional, run_app};
 
 use crate::WordFault;
@@ -59,15 +59,21 @@ pub(crate) fn alone_command<'a>(alloc: Global) -> Result<clap::Command<'a>, Allo
     command.arg(optional_word(alloc, "second"))
 }
 
-/// What the command finds in the words.
+/// What the command finds in the words, and the word of that name, which has to be there.
 pub(crate) fn found<'a>(
     command: clap::Command<'a>,
     words: &'a [String],
-) -> Result<ArgMatches<'a>, WordFault>
+    needed: &str,
+) -> Result<(ArgMatches<'a>, &'a str), WordFault>
     requires { is_simple_and_free (app_of command) ≡ true }
-    ensures takes { IfOk result (λ m. fault_of (app_of command.entry) (map string_bytes words.entry.now) ≡ []) }
-    ensures finds { IfOk result (λ m. rows_of (found_of m) ≡ matches_of (app_of command.entry) (map string_bytes words.entry.now)) }
-    ensures bad { result ≡ Err WordFault.Bad → fault_of (app_of command.entry) (map string_bytes words.entry.now) ≢ [] }
+    ensures takes { IfOk result (λ found. fault_of (app_of command.entry) (map string_bytes words.entry.now) ≡ []) }
+    ensures finds { IfOk result (λ found. rows_of (found_of found.0) ≡ matches_of (app_of command.entry) (map string_bytes words.entry.now)) }
+    ensures needed { IfOk result (λ found. Some found.1.now ≡ first_value (found_of found.0) needed.now) }
+    ensures bad { result ≡ Err WordFault.Bad → fault_of (app_of command.entry) (map string_bytes words.entry.now) ≡ [] → first_of needed.now (matches_of (app_of command.entry) (map string_bytes words.entry.now)) ≡ None }
 {
-    Ok(command.try_get_matches_from(words)?)
+    let found = command.try_get_matches_from(words)?;
+    let Some(word) = found.get_str(needed) else {
+        return Err(WordFault::Bad);
+    };
+    Ok((found, word))
 }

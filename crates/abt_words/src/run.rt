@@ -31,10 +31,7 @@ fn run_words<'a>(alloc: Global, rest: &'a [String]) -> Result<RunWords<'a>, Word
     ensures told { IfOk result (λ asked. rest_of false (map string_bytes rest.entry.now) ≡ rest_as asked) }
     ensures bad { result ≡ Err WordFault.Bad → (c : Command) → SaysBy (codes "run") (rest_of false (map string_bytes rest.entry.now)) c → ⊥ }
 {
-    let found = found(run_command(alloc)?, rest)?;
-    let Some(file) = found.get_str("file") else {
-        return Err(WordFault::Bad);
-    };
+    let (found, file) = found(run_command(alloc)?, rest, "file")?;
     Ok(RunWords {
         file,
         steps: found.get_str("steps"),
