@@ -15,45 +15,9 @@ use abt_machine::*;
 use abt_workload::read;
 use std::alloc::{AllocError, Global};
 use std::process::Abort;
-use std::sync::Mutex;
+use std::sync::{Mutex, Wait};
 use std::test::*;
-
-// A unit that starts in pool 0, and one that is unborn.
-fn units(alloc: Global) -> Result<UnitParts, AllocError> {
-    let mut units = Vec::new(alloc);
-    units.push(UnitPart {
-        body: Body::Ult(Ops::new(Vec::new(alloc))),
-        start: Some(PoolNo(0)),
-    })?;
-    units.push(UnitPart {
-        body: Body::Ult(Ops::new(Vec::new(alloc))),
-        start: None,
-    })?;
-    Ok(UnitParts::new(units))
-}
-
-fn workload(rt: &impl Abort, alloc: Global) -> Result<Workload, AllocError> {
-    let pool = PoolPart {
-        kind: Kind::Fifo,
-        access: Access::Mpmc,
-    };
-    let sched = SchedPart {
-        rule: Rule::Prio,
-        pools: Pools::new(vec![in alloc; PoolNo(0)]?),
-    };
-    let parts = Parts {
-        streams: 1,
-        keys: 0,
-        pools: PoolParts::new(vec![in alloc; pool]?),
-        scheds: SchedParts::new(vec![in alloc; sched]?),
-        mains: Mains::new(vec![in alloc; SchedNo(0)]?),
-        objects: Things::new(Vec::new(alloc)),
-        units: units(alloc)?,
-        words: Texts::new(Vec::new(alloc)),
-    };
-    assert!(rt; parts.is_valid());
-    Ok(Workload::new(parts))
-}
+use std::thread::Threads;
 
 // What is shown of the two units, and that there is no third.
 fn as_placed(rt: &impl Abort, objects: &Objects) {
@@ -66,33 +30,36 @@ fn as_placed(rt: &impl Abort, objects: &Objects) {
 
 #[test]
 fn a_look_moves_no_unit(rt: HostRuntime) -> Result<(), Fail> {
-    let w = workload(&rt, rt.alloc())?;
+    let w = workload_of(&rt, rt.alloc(), 1)?;
     assert!(rt; w.units() == 2);
     let objects = looked(rt.alloc(), &w, UnitNo(0))?;
     as_placed(&rt, &objects);
     Ok(())
 }
 
-#[test]
-fn a_hall_gives_the_objects_back(rt: HostRuntime) -> Result<(), Fail> {
-    let w = workload(&rt, rt.alloc())?;
-    let objects = Objects::place(rt.alloc(), &w)?;
-    let objects = match Hall::make(rt.alloc(), &rt, objects, 2) {
+// The objects, after a hall round them, if there was memory for one.
+fn through_hall<'w, R: Wait>(rt: &'w R, alloc: Global, objects: Objects<'w>) -> Objects<'w> {
+    match Hall::make(alloc, rt, objects, 2) {
         Ok((hall, passes)) => hall.close(passes),
         Err(objects) => objects,
-    };
-    as_placed(&rt, &objects);
-    Ok(())
+    }
+}
+
+// The same of a split.
+fn through_split<'w, R: Wait>(rt: &'w R, alloc: Global, objects: Objects<'w>) -> Objects<'w> {
+    match Split::make(alloc, rt, objects, 2) {
+        Ok((split, passes)) => split.close(passes),
+        Err(objects) => objects,
+    }
 }
 
 #[test]
-fn a_split_gives_the_objects_back(rt: HostRuntime) -> Result<(), Fail> {
-    let w = workload(&rt, rt.alloc())?;
+fn halls_and_splits_give_the_objects_back(rt: HostRuntime) -> Result<(), Fail> {
+    let w = workload_of(&rt, rt.alloc(), 1)?;
     let objects = Objects::place(rt.alloc(), &w)?;
-    let objects = match Split::make(rt.alloc(), &rt, objects, 2) {
-        Ok((split, passes)) => split.close(passes),
-        Err(objects) => objects,
-    };
+    let objects = through_hall(&rt, rt.alloc(), objects);
+    as_placed(&rt, &objects);
+    let objects = through_split(&rt, rt.alloc(), objects);
     as_placed(&rt, &objects);
     Ok(())
 }
@@ -127,86 +94,115 @@ fn workload_of(rt: &impl Abort, alloc: Global, started: u8) -> Result<Workload, 
     }
 }
 
-#[test]
-fn plain_answers_each_act(rt: HostRuntime) -> Result<(), Fail> {
-    let w = workload_of(&rt, rt.alloc(), 3)?;
-    let objects = Objects::place(rt.alloc(), &w)?;
+// Plays the rows over each form of the objects.
+
+fn play_in_plain<'w>(rt: &impl Abort, objects: Objects<'w>, w: &Workload)
+    requires { objects.workload ≡ w.now }
+{
     let (plain, mut pass) = Plain::make(objects);
-    play_every_kind(&rt, &plain, &mut pass, &w);
-    Ok(())
+    play_every_kind(rt, &plain, &mut pass, w);
+}
+
+fn play_in_hall<'w, R: Abort + Wait>(rt: &'w R, alloc: Global, objects: Objects<'w>, w: &Workload)
+    requires { objects.workload ≡ w.now }
+{
+    let Ok((hall, mut passes)) = Hall::make(alloc, rt, objects, 1) else {
+        panic!(rt; "no memory")
+    };
+    let Some(mut pass) = passes.pop() else {
+        panic!(rt; "no pass")
+    };
+    play_every_kind(rt, &hall, &mut pass, w);
+}
+
+fn play_in_split<'w, R: Abort + Wait>(rt: &'w R, alloc: Global, objects: Objects<'w>, w: &Workload)
+    requires { objects.workload ≡ w.now }
+{
+    let Ok((split, mut passes)) = Split::make(alloc, rt, objects, 1) else {
+        panic!(rt; "no memory")
+    };
+    let Some(mut pass) = passes.pop() else {
+        panic!(rt; "no pass")
+    };
+    play_every_kind(rt, &split, &mut pass, w);
 }
 
 #[test]
-fn a_hall_answers_each_act(rt: HostRuntime) -> Result<(), Fail> {
+fn each_act_is_answered(rt: HostRuntime) -> Result<(), Fail> {
     let w = workload_of(&rt, rt.alloc(), 3)?;
     let objects = Objects::place(rt.alloc(), &w)?;
-    let Ok((hall, mut passes)) = Hall::make(rt.alloc(), &rt, objects, 1) else {
-        panic!(&rt; "no memory")
-    };
-    let Some(mut pass) = passes.pop() else {
-        panic!(&rt; "no pass")
-    };
-    play_every_kind(&rt, &hall, &mut pass, &w);
+    play_in_plain(&rt, objects, &w);
+    let objects = Objects::place(rt.alloc(), &w)?;
+    play_in_hall(&rt, rt.alloc(), objects, &w);
+    let objects = Objects::place(rt.alloc(), &w)?;
+    play_in_split(&rt, rt.alloc(), objects, &w);
     Ok(())
 }
 
-#[test]
-fn a_split_answers_each_act(rt: HostRuntime) -> Result<(), Fail> {
-    let w = workload_of(&rt, rt.alloc(), 3)?;
-    let objects = Objects::place(rt.alloc(), &w)?;
-    let Ok((split, mut passes)) = Split::make(rt.alloc(), &rt, objects, 1) else {
-        panic!(&rt; "no memory")
+// Threads that share a hall or a split, and what is left of the units.
+
+fn play_on_hall<'w, R: Abort + Threads + Wait + Sync>(
+    rt: &'w R,
+    alloc: Global,
+    objects: Objects<'w>,
+    w: &Workload,
+    kept: &Mutex<Chain>,
+) -> Result<Objects<'w>, AllocError>
+    requires { objects.workload ≡ w.now }
+{
+    let Ok((hall, passes)) = Hall::make(alloc, rt, objects, THREADS) else {
+        panic!(rt; "no memory")
     };
-    let Some(mut pass) = passes.pop() else {
-        panic!(&rt; "no pass")
+    let passes = play_on_threads(rt, &hall, passes, w, kept)?;
+    Ok(hall.close(passes))
+}
+
+fn play_on_split<'w, R: Abort + Threads + Wait + Sync>(
+    rt: &'w R,
+    alloc: Global,
+    objects: Objects<'w>,
+    w: &Workload,
+    kept: &Mutex<Chain>,
+) -> Result<Objects<'w>, AllocError>
+    requires { objects.workload ≡ w.now }
+{
+    let Ok((split, passes)) = Split::make(alloc, rt, objects, THREADS) else {
+        panic!(rt; "no memory")
     };
-    play_every_kind(&rt, &split, &mut pass, &w);
-    Ok(())
+    let passes = play_on_threads(rt, &split, passes, w, kept)?;
+    Ok(split.close(passes))
 }
 
 #[test]
 fn threads_lose_no_unit_in_a_hall(rt: HostRuntime) -> Result<(), Fail> {
     let w = workload_of(&rt, rt.alloc(), 255)?;
     let objects = Objects::place(rt.alloc(), &w)?;
-    let Ok((hall, passes)) = Hall::make(rt.alloc(), &rt, objects, THREADS) else {
-        panic!(&rt; "no memory")
-    };
     let kept = Mutex::new(Chain::new());
-    let passes = play_on_threads(&rt, &hall, passes, &w, &kept)?;
-    are_held_once(
-        &rt,
-        rt.alloc(),
-        hall.close(passes),
-        kept.into_inner(),
-        w.units(),
-    )
+    let objects = play_on_hall(&rt, rt.alloc(), objects, &w, &kept)?;
+    are_held_once(&rt, rt.alloc(), objects, kept.into_inner(), w.units())
 }
 
 #[test]
 fn threads_lose_no_unit_in_a_split(rt: HostRuntime) -> Result<(), Fail> {
     let w = workload_of(&rt, rt.alloc(), 255)?;
     let objects = Objects::place(rt.alloc(), &w)?;
-    let Ok((split, passes)) = Split::make(rt.alloc(), &rt, objects, THREADS) else {
-        panic!(&rt; "no memory")
-    };
     let kept = Mutex::new(Chain::new());
-    let passes = play_on_threads(&rt, &split, passes, &w, &kept)?;
-    are_held_once(
-        &rt,
-        rt.alloc(),
-        split.close(passes),
-        kept.into_inner(),
-        w.units(),
-    )
+    let objects = play_on_split(&rt, rt.alloc(), objects, &w, &kept)?;
+    are_held_once(&rt, rt.alloc(), objects, kept.into_inner(), w.units())
 }
 
 // The text of a workload with objects of all kinds, and so many units that start in pool 0 besides an unborn one.
 fn text_of(alloc: Global, started: u8) -> Result<String, AllocError> {
     let mut text = String::from_str(alloc, KINDS)?;
+    push_units(&mut text, alloc, started)?;
+    Ok(text)
+}
+
+// Appends the lines of the units.
+fn push_units(text: &mut String, alloc: Global, started: u8) -> Result<(), AllocError> {
     text.push_str(&format!(in alloc; "units {units}\n", units = u32::from(started) + 1)?)?;
     for u in 0..started {
         text.push_str(&format!(in alloc; "unit {u} ult at 0\n")?)?;
     }
-    text.push_str(&format!(in alloc; "unit {started} ult later\nend\n")?)?;
-    Ok(text)
+    text.push_str(&format!(in alloc; "unit {started} ult later\nend\n")?)
 }

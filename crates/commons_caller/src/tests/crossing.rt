@@ -228,16 +228,43 @@ pub fn are_held_once(
     kept: Chain,
     units: u32,
 ) -> Result<(), Fail> {
-    let mut shown = Vec::new(alloc);
-    push_numbers(&mut shown, kept)?;
-    assert!(rt; shown.len() == THREADS as usize);
-    let mut given = shown.clone()?;
-    push_shown(&mut shown, &objects, units)?;
+    let mut numbers = Vec::new(alloc);
+    push_numbers(&mut numbers, kept)?;
+    assert!(rt; numbers.len() == THREADS as usize);
+    are_shown_once(rt, &objects, numbers.clone()?, units)?;
+    are_given_once(rt, alloc, objects, numbers, units)
+}
+
+// The units of these numbers and those that the objects show.
+fn are_shown_once(
+    rt: &impl Abort,
+    objects: &Objects,
+    mut numbers: Vec<u32>,
+    units: u32,
+) -> Result<(), AllocError> {
+    push_shown(&mut numbers, objects, units)?;
+    are_all_once(rt, numbers, units);
+    Ok(())
+}
+
+// The units of these numbers and those that the objects give back.
+fn are_given_once(
+    rt: &impl Abort,
+    alloc: Global,
+    objects: Objects,
+    mut numbers: Vec<u32>,
+    units: u32,
+) -> Result<(), Fail> {
+    push_given(&mut numbers, alloc, objects)?;
+    are_all_once(rt, numbers, units);
+    Ok(())
+}
+
+// Appends the numbers of the units that the objects give back.
+fn push_given(numbers: &mut Vec<u32>, alloc: Global, objects: Objects) -> Result<(), Fail> {
     for group in objects.into_groups(alloc)? {
-        push_numbers(&mut given, group.units)?;
+        push_numbers(numbers, group.units)?;
     }
-    are_all_once(rt, shown, units);
-    are_all_once(rt, given, units);
     Ok(())
 }
 
