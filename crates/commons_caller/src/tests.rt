@@ -15,7 +15,7 @@ use abt_machine::*;
 use abt_workload::read;
 use std::alloc::{AllocError, Global};
 use std::process::Abort;
-use std::sync::{Mutex, Wait};
+use std::sync::Wait;
 use std::test::*;
 use std::thread::Threads;
 
@@ -139,56 +139,54 @@ fn each_act_is_answered(rt: HostRuntime) -> Result<(), Fail> {
     Ok(())
 }
 
-// Threads that share a hall or a split, and what is left of the units.
+// Threads that share a hall or a split lose no unit.
 
-fn play_on_hall<'w, R: Abort + Threads + Wait + Sync>(
+fn hall_loses_no_unit<'w, R: Abort + Threads + Wait + Sync>(
     rt: &'w R,
     alloc: Global,
     objects: Objects<'w>,
     w: &Workload,
-    kept: &Mutex<Chain>,
-) -> Result<Objects<'w>, AllocError>
+) -> Result<(), Fail>
     requires { objects.workload ≡ w.now }
 {
     let Ok((hall, passes)) = Hall::make(alloc, rt, objects, THREADS) else {
         panic!(rt; "no memory")
     };
-    let passes = play_on_threads(rt, &hall, passes, w, kept)?;
-    Ok(hall.close(passes))
+    let (passes, kept) = play_on_threads(rt, &hall, passes, w)?;
+    are_held_once(rt, alloc, hall.close(passes), kept, w.units())
 }
 
-fn play_on_split<'w, R: Abort + Threads + Wait + Sync>(
+fn split_loses_no_unit<'w, R: Abort + Threads + Wait + Sync>(
     rt: &'w R,
     alloc: Global,
     objects: Objects<'w>,
     w: &Workload,
-    kept: &Mutex<Chain>,
-) -> Result<Objects<'w>, AllocError>
+) -> Result<(), Fail>
     requires { objects.workload ≡ w.now }
 {
     let Ok((split, passes)) = Split::make(alloc, rt, objects, THREADS) else {
         panic!(rt; "no memory")
     };
-    let passes = play_on_threads(rt, &split, passes, w, kept)?;
-    Ok(split.close(passes))
+    let (passes, kept) = play_on_threads(rt, &split, passes, w)?;
+    are_held_once(rt, alloc, split.close(passes), kept, w.units())
+}
+
+// The same of both, one after the other.
+fn threads_lose_none<'w, R: Abort + Threads + Wait + Sync>(
+    rt: &'w R,
+    alloc: Global,
+    w: &'w Workload,
+) -> Result<(), Fail> {
+    let objects = Objects::place(alloc, w)?;
+    hall_loses_no_unit(rt, alloc, objects, w)?;
+    let objects = Objects::place(alloc, w)?;
+    split_loses_no_unit(rt, alloc, objects, w)
 }
 
 #[test]
-fn threads_lose_no_unit_in_a_hall(rt: HostRuntime) -> Result<(), Fail> {
+fn threads_lose_no_unit(rt: HostRuntime) -> Result<(), Fail> {
     let w = workload_of(&rt, rt.alloc(), 255)?;
-    let objects = Objects::place(rt.alloc(), &w)?;
-    let kept = Mutex::new(Chain::new());
-    let objects = play_on_hall(&rt, rt.alloc(), objects, &w, &kept)?;
-    are_held_once(&rt, rt.alloc(), objects, kept.into_inner(), w.units())
-}
-
-#[test]
-fn threads_lose_no_unit_in_a_split(rt: HostRuntime) -> Result<(), Fail> {
-    let w = workload_of(&rt, rt.alloc(), 255)?;
-    let objects = Objects::place(rt.alloc(), &w)?;
-    let kept = Mutex::new(Chain::new());
-    let objects = play_on_split(&rt, rt.alloc(), objects, &w, &kept)?;
-    are_held_once(&rt, rt.alloc(), objects, kept.into_inner(), w.units())
+    threads_lose_none(&rt, rt.alloc(), &w)
 }
 
 // The text of a workload with objects of all kinds, and so many units that start in pool 0 besides an unborn one.
@@ -202,7 +200,11 @@ fn text_of(alloc: Global, started: u8) -> Result<String, AllocError> {
 fn push_units(text: &mut String, alloc: Global, started: u8) -> Result<(), AllocError> {
     text.push_str(&format!(in alloc; "units {units}\n", units = u32::from(started) + 1)?)?;
     for u in 0..started {
-        text.push_str(&format!(in alloc; "unit {u} ult at 0\n")?)?;
+        push_unit(text, alloc, u, "ult at 0")?;
     }
-    text.push_str(&format!(in alloc; "unit {started} ult later\nend\n")?)
+    push_unit(text, alloc, started, "ult later\nend")
+}
+
+fn push_unit(text: &mut String, alloc: Global, u: u8, rest: &str) -> Result<(), AllocError> {
+    text.push_str(&format!(in alloc; "unit {u} {rest}\n")?)
 }

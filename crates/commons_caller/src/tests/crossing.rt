@@ -191,33 +191,29 @@ impl<'w, H: Wait> AreShared for Split<'w, H> {
     }
 }
 
-/// Plays with each pass on a thread of its own.
+/// Plays with each pass on a thread of its own. The passes come back, and the units that the threads keep.
 pub fn play_on_threads<
     R: Abort + Threads + Wait + Sync,
     P: Send + Drop,
     C: AreShared<Pass = P> + Sync,
->(
-    rt: &R,
-    objects: &C,
-    passes: Vec<P>,
-    w: &Workload,
-    kept: &Mutex<Chain>,
-) -> Result<Vec<P>, AllocError>
+>(rt: &R, objects: &C, passes: Vec<P>, w: &Workload) -> Result<(Vec<P>, Chain), AllocError>
     requires workload { C.workload objects.now ≡ w.now }
     requires passes { AreAll (C.is_of objects.now) C.number THREADS passes.items }
-    ensures { IfOk result (λ back. AreAll (C.is_of objects.now) C.number THREADS back.items) }
+    ensures { IfOk result (λ back. AreAll (C.is_of objects.now) C.number THREADS back.0.items) }
 {
-    thread::map_vec(
+    let kept = Mutex::new(Chain::new());
+    let passes = thread::map_vec(
         rt,
         passes,
         &|mut pass: P|
             requires { (C.workload objects.now ≡ w.now) × C.is_of objects.now pass }
             ensures { C.is_of objects.entry.now result × (C.number result ≡ C.number pass) }
         {
-            objects.play_rounds(rt, &mut pass, w, kept);
+            objects.play_rounds(rt, &mut pass, w, &kept);
             pass
         },
-    )
+    )?;
+    Ok((passes, kept.into_inner()))
 }
 
 /// Each unit is held once, by the objects or by the threads, which keep one each.

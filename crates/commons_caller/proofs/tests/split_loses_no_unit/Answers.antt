@@ -2,7 +2,7 @@ use denote.Param.Send.{sendable}
 use Rattle.std.proofs.Common.{◌∙◌, ap}
 use Rattle.abt_commons.specs.Held.{ObjectsValue}
 use Rattle.abt_commons.proofs.Crosses.{commons_crosses}
-use Rattle.commons_caller.proofs.tests.play_on_split.Goals as goal
+use Rattle.commons_caller.proofs.tests.split_loses_no_unit.Goals as goal
 
 pub play_on_threads-requires-send-P : goal.play_on_threads-requires-send-P
 play_on_threads-requires-send-P g c κs within = search (commons_crosses, sendable) depth 20
