@@ -12,6 +12,8 @@ use Rattle.abt_machine.specs.declared.events.Site.{Site}
 use Rattle.abt_machine.specs.declared.events.Site.TheVariants as site
 use Rattle.abt_machine.specs.declared.numbers.ObjectNo.{ObjectNo}
 use Rattle.abt_machine.specs.declared.numbers.UnitNo.{UnitNo}
+use Rattle.abt_machine.specs.declared.operations.Combine.{Combine}
+use Rattle.abt_machine.specs.declared.operations.Thing.TheVariants as thing
 use Rattle.abt_machine.specs.declared.workload.Parts.{Parts}
 use Rattle.abt_machine.specs.Monitors.{list_from}
 use Rattle.abt_machine.specs.Numbers.{object_no}
@@ -19,7 +21,7 @@ use Rattle.abt_machine.specs.Pools.{is_unit}
 use Rattle.abt_machine.specs.Values.{Owned, Object, Phase, MonitorIs, EventualIs, FutureIs, BarrierIs, RwLockIs, conditions_of}
 use Rattle.abt_laws.proofs.Options.{none≢some, some-injective}
 use Rattle.abt_calls.specs.Showing.{Row, rows_as, rows_at, rows_at_desk, rows_of_object}
-use Rattle.abt_commons.specs.Reading.{is_row_of, rows_at_site, waiters_of_barrier, waiters_of_condition, waiters_of_eventual, waiters_of_future, waiters_of_monitor, waiters_of_rwlock}
+use Rattle.abt_commons.specs.Reading.{is_row_of, rows_at_site, waiters_as, waiters_of_condition}
 use Rattle.abt_commons.specs.Held.{IsWhole, OneValue, held_in, object_at}
 use Rattle.abt_commons.specs.Sites.{site_number}
 use Rattle.abt_commons.proofs.Moving.{object-here, old-ours}
@@ -41,10 +43,10 @@ module _ (u : ℕ) where
   pub found-as : (x : Shown) (os : List Owned) → find (is_row_of u) (rows_as x os) ≡ option_map (λ o. (x, o)) (find (is_unit u) os)
   found-as x os = find-map (is_row_of u) (λ (o : Owned). (x, o)) os
 
-  as-there : (x : Shown) (os : List Owned) (o : Owned) → find (is_unit u) os ≡ Some o → Contains (rows_as x os) (x, o) × (o.number ≡ u)
+  pub as-there : (x : Shown) (os : List Owned) (o : Owned) → find (is_unit u) os ≡ Some o → Contains (rows_as x os) (x, o) × (o.number ≡ u)
   as-there x os o e = row-there (rows_as x os) (x, o) (found-as x os ∙ ap (option_map (λ (q : Owned). (x, q))) e)
 
-  as-other : (x : Shown) (os : List Owned) → find (is_unit u) os ≡ None → All IsOther (rows_as x os)
+  pub as-other : (x : Shown) (os : List Owned) → find (is_unit u) os ≡ None → All IsOther (rows_as x os)
   as-other x os e = rows-other (rows_as x os) (found-as x os ∙ ap (option_map (λ (q : Owned). (x, q))) e)
 
   -- Desks.
@@ -80,48 +82,16 @@ module _ (u : ℕ) where
   -- Things.
 
   module _ (W : Parts) (x : ObjectNo) where
-    pub monitor-other : (object : Object) → find (is_unit u) (waiters_of_monitor object) ≡ None → ((k c : ℕ) → slice_get (conditions_of W x.0) k ≡ Some c → find (is_unit u) (waiters_of_condition k object) ≡ None)
+    pub monitor-other : (object : Object) → find (is_unit u) (waiters_as thing.Mutex object) ≡ None → ((k c : ℕ) → slice_get (conditions_of W x.0) k ≡ Some c → find (is_unit u) (waiters_of_condition k object) ≡ None)
         → All IsOther (rows_of_object W (site.Monitor x) object)
     monitor-other (MonitorIs m) none conds = All-append IsOther (rows_as (shows.Object x) m.waiters) (rows_at (conditions_of W x.0) m.conds) (as-other (shows.Object x) m.waiters none) (rows-at-other (conditions_of W x.0) m.conds conds)
     monitor-other object none conds = All-nil IsOther
 
-    pub eventual-other : (object : Object) → find (is_unit u) (waiters_of_eventual object) ≡ None → All IsOther (rows_of_object W (site.Eventual x) object)
-    eventual-other (EventualIs e) none = as-other (shows.Object x) e.waiters none
-    eventual-other object none = All-nil IsOther
-
-    pub future-other : (object : Object) → find (is_unit u) (waiters_of_future object) ≡ None → All IsOther (rows_of_object W (site.Future x) object)
-    future-other (FutureIs f) none = as-other (shows.Object x) f.waiters none
-    future-other object none = All-nil IsOther
-
-    pub barrier-other : (object : Object) → find (is_unit u) (waiters_of_barrier object) ≡ None → All IsOther (rows_of_object W (site.Barrier x) object)
-    barrier-other (BarrierIs b) none = as-other (shows.Object x) b.waiters none
-    barrier-other object none = All-nil IsOther
-
-    pub rwlock-other : (object : Object) → find (is_unit u) (waiters_of_rwlock object) ≡ None → All IsOther (rows_of_object W (site.Rw x) object)
-    rwlock-other (RwLockIs l) none = as-other (shows.Object x) l.waiters none
-    rwlock-other object none = All-nil IsOther
-
-    pub monitor-there : (object : Object) (o : Owned) → find (is_unit u) (waiters_of_monitor object) ≡ Some o → Contains (rows_of_object W (site.Monitor x) object) (shows.Object x, o) × (o.number ≡ u)
+    pub monitor-there : (object : Object) (o : Owned) → find (is_unit u) (waiters_as thing.Mutex object) ≡ Some o → Contains (rows_of_object W (site.Monitor x) object) (shows.Object x, o) × (o.number ≡ u)
     monitor-there (MonitorIs m) o found =
         let here = as-there (shows.Object x) m.waiters o found in
         (Contains-append_left (rows_as (shows.Object x) m.waiters) (rows_at (conditions_of W x.0) m.conds) (shows.Object x, o) here.0, here.1)
     monitor-there object o found = absurd (none≢some found)
-
-    pub eventual-there : (object : Object) (o : Owned) → find (is_unit u) (waiters_of_eventual object) ≡ Some o → Contains (rows_of_object W (site.Eventual x) object) (shows.Object x, o) × (o.number ≡ u)
-    eventual-there (EventualIs e) o found = as-there (shows.Object x) e.waiters o found
-    eventual-there object o found = absurd (none≢some found)
-
-    pub future-there : (object : Object) (o : Owned) → find (is_unit u) (waiters_of_future object) ≡ Some o → Contains (rows_of_object W (site.Future x) object) (shows.Object x, o) × (o.number ≡ u)
-    future-there (FutureIs f) o found = as-there (shows.Object x) f.waiters o found
-    future-there object o found = absurd (none≢some found)
-
-    pub barrier-there : (object : Object) (o : Owned) → find (is_unit u) (waiters_of_barrier object) ≡ Some o → Contains (rows_of_object W (site.Barrier x) object) (shows.Object x, o) × (o.number ≡ u)
-    barrier-there (BarrierIs b) o found = as-there (shows.Object x) b.waiters o found
-    barrier-there object o found = absurd (none≢some found)
-
-    pub rwlock-there : (object : Object) (o : Owned) → find (is_unit u) (waiters_of_rwlock object) ≡ Some o → Contains (rows_of_object W (site.Rw x) object) (shows.Object x, o) × (o.number ≡ u)
-    rwlock-there (RwLockIs l) o found = as-there (shows.Object x) l.waiters o found
-    rwlock-there object o found = absurd (none≢some found)
 
     pub condition-there : (object : Object) (k c : ℕ) (o : Owned) → slice_get (conditions_of W x.0) k ≡ Some c → find (is_unit u) (waiters_of_condition k object) ≡ Some o
         → Contains (rows_of_object W (site.Monitor x) object) (shows.Object (object_no c), o) × (o.number ≡ u)
@@ -129,6 +99,24 @@ module _ (u : ℕ) where
         let there = rows-at-there (conditions_of W x.0) m.conds k c o at found in
         (Contains-append_right (rows_as (shows.Object x) m.waiters) (rows_at (conditions_of W x.0) m.conds) (shows.Object (object_no c), o) there.0, there.1)
     condition-there object k c o at found = absurd (none≢some found)
+
+-- The rows of an object that is no monitor are its waiters.
+module _ (W : Parts) (x : ObjectNo) where
+  pub eventual-rows : (object : Object) → rows_of_object W (site.Eventual x) object ≡ rows_as (shows.Object x) (waiters_as thing.Eventual object)
+  eventual-rows (EventualIs e) = refl
+  eventual-rows object = refl
+
+  pub future-rows : (n : ℕ) (r : Combine) (object : Object) → rows_of_object W (site.Future x) object ≡ rows_as (shows.Object x) (waiters_as (thing.Future n r) object)
+  future-rows n r (FutureIs f) = refl
+  future-rows n r object = refl
+
+  pub barrier-rows : (n : ℕ) (object : Object) → rows_of_object W (site.Barrier x) object ≡ rows_as (shows.Object x) (waiters_as (thing.Barrier n) object)
+  barrier-rows n (BarrierIs b) = refl
+  barrier-rows n object = refl
+
+  pub rwlock-rows : (object : Object) → rows_of_object W (site.Rw x) object ≡ rows_as (shows.Object x) (waiters_as thing.RwLock object)
+  rwlock-rows (RwLockIs l) = refl
+  rwlock-rows object = refl
 
 -- The object at a site's number.
 module _ (W : Parts) (ones : List OneValue) (clocks : List ℕ) (ours : All (λ one. one.workload ≡ W) ones) (whole : IsWhole (held_in W ones clocks)) (x : Site) (i : ℕ) (is : site_number W x ≡ Some i)

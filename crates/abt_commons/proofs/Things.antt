@@ -28,12 +28,12 @@ use Rattle.abt_laws.proofs.Options.{none≢some, some-injective}
 use Rattle.abt_simulation.proofs.ConditionLists.{condition-at}
 use Rattle.abt_calls.specs.Allowed.{Allows}
 use Rattle.abt_calls.specs.Asking.{IsSite}
-use Rattle.abt_calls.specs.Showing.{Row, rows_of_object}
+use Rattle.abt_calls.specs.Showing.{Row, rows_as, rows_of_object}
 use Rattle.abt_calls.proofs.Asked.{condition-below}
 use Rattle.abt_commons.specs.Held.{IsWhole, ObjectsValue, OneValue, held_in, numbered_object, object_at, object_from}
-use Rattle.abt_commons.specs.Reading.{HoldNone, IsHeldAs, is_row_of, object_of_thing, rows_at_site, waiters_at_thing, waiters_by, waiters_of_condition}
+use Rattle.abt_commons.specs.Reading.{HoldNone, IsHeldAs, is_row_of, object_of_thing, rows_at_site, waiters_as, waiters_at_thing, waiters_by, waiters_of_condition}
 use Rattle.abt_commons.specs.Sites.{barrier_number, eventual_number, future_number, monitor_number, rwlock_number, sites, thing_number}
-use Rattle.abt_commons.proofs.Rows.{IsOther, row-there, rows-other, monitor-other, eventual-other, future-other, barrier-other, rwlock-other, monitor-there, condition-there, eventual-there, future-there, barrier-there, rwlock-there}
+use Rattle.abt_commons.proofs.Rows.{IsOther, as-other, as-there, row-there, rows-other, monitor-other, monitor-there, condition-there, eventual-rows, future-rows, barrier-rows, rwlock-rows}
 
 -- Conditions by their numbers.
 
@@ -94,17 +94,17 @@ module _ (held : ObjectsValue) where
   monitor-here : (x : ObjectNo) → IsMutex W x.0 → object_at held (site.Monitor x) ≡ object_of_thing held x.0
   monitor-here x is = ap (λ t. numbered_object held.objects (first (site.Monitor x)) (monitor_number (thing_number W x.0) t)) is
 
-  eventual-here : (x : ObjectNo) → IsEventual W x.0 → object_at held (site.Eventual x) ≡ object_of_thing held x.0
-  eventual-here x is = ap (λ t. numbered_object held.objects (first (site.Eventual x)) (eventual_number (thing_number W x.0) t)) is
+  eventual-here : (x : ObjectNo) → IsEventual W x.0 → rows_at_site held (site.Eventual x) ≡ rows_as (shows.Object x) (waiters_as thing.Eventual (object_of_thing held x.0))
+  eventual-here x is = ap (λ t. rows_of_object W (site.Eventual x) (numbered_object held.objects (first (site.Eventual x)) (eventual_number (thing_number W x.0) t))) is ∙ eventual-rows W x (object_of_thing held x.0)
 
-  future-here : (x : ObjectNo) → IsFuture W x.0 → object_at held (site.Future x) ≡ object_of_thing held x.0
-  future-here x is = ap (λ t. numbered_object held.objects (first (site.Future x)) (future_number (thing_number W x.0) t)) is.2
+  future-here : (x : ObjectNo) (is : IsFuture W x.0) → rows_at_site held (site.Future x) ≡ rows_as (shows.Object x) (waiters_as (thing.Future is.0 is.1) (object_of_thing held x.0))
+  future-here x is = ap (λ t. rows_of_object W (site.Future x) (numbered_object held.objects (first (site.Future x)) (future_number (thing_number W x.0) t))) is.2 ∙ future-rows W x is.0 is.1 (object_of_thing held x.0)
 
-  barrier-here : (x : ObjectNo) → IsBarrier W x.0 → object_at held (site.Barrier x) ≡ object_of_thing held x.0
-  barrier-here x is = ap (λ t. numbered_object held.objects (first (site.Barrier x)) (barrier_number (thing_number W x.0) t)) is.1
+  barrier-here : (x : ObjectNo) (is : IsBarrier W x.0) → rows_at_site held (site.Barrier x) ≡ rows_as (shows.Object x) (waiters_as (thing.Barrier is.0) (object_of_thing held x.0))
+  barrier-here x is = ap (λ t. rows_of_object W (site.Barrier x) (numbered_object held.objects (first (site.Barrier x)) (barrier_number (thing_number W x.0) t))) is.1 ∙ barrier-rows W x is.0 (object_of_thing held x.0)
 
-  rwlock-here : (x : ObjectNo) → IsRwLock W x.0 → object_at held (site.Rw x) ≡ object_of_thing held x.0
-  rwlock-here x is = ap (λ t. numbered_object held.objects (first (site.Rw x)) (rwlock_number (thing_number W x.0) t)) is
+  rwlock-here : (x : ObjectNo) → IsRwLock W x.0 → rows_at_site held (site.Rw x) ≡ rows_as (shows.Object x) (waiters_as thing.RwLock (object_of_thing held x.0))
+  rwlock-here x is = ap (λ t. rows_of_object W (site.Rw x) (numbered_object held.objects (first (site.Rw x)) (rwlock_number (thing_number W x.0) t))) is ∙ rwlock-rows W x (object_of_thing held x.0)
 
   -- No unit u.
 
@@ -123,6 +123,10 @@ module _ (held : ObjectsValue) where
         subst (λ q. find (is_unit u) (waiters_of_condition k (object_of_thing held q)) ≡ None) mutex
         (subst (λ j. find (is_unit u) (waiters_of_condition j (object_of_thing held n.0.0.0)) ≡ None) n.2 (none-waits none c (thing.Cond n.0.0) n.0.1))
 
+    -- of units that wait for x, all that stand at the site
+    others-there : (s : Site) (x : ObjectNo) (os : List Owned) → rows_at_site held s ≡ rows_as (shows.Object x) os → find (is_unit u) os ≡ None → All (IsOther u) (rows_at_site held s)
+    others-there s x os are none = subst (All (IsOther u)) (sym are) (as-other u (shows.Object x) os none)
+
     pub hold-none : ((p : PoolNo) → p.0 < length W.pools → find (is_row_of u) (rows_at_site held (site.Pool p)) ≡ None)
         → ((v : UnitNo) → v.0 < length W.units → find (is_row_of u) (rows_at_site held (site.Desk v)) ≡ None) → WaitsNowhere → HoldNone held u
     hold-none pools desks none (site.Pool p) is = rows-other u (rows_at_site held (site.Pool p)) (pools p is)
@@ -130,14 +134,10 @@ module _ (held : ObjectsValue) where
     hold-none pools desks none (site.Monitor x) is =
         subst (λ o. All (IsOther u) (rows_of_object W (site.Monitor x) o)) (sym (monitor-here x is))
         (monitor-other u W x (object_of_thing held x.0) (none-waits none x.0 thing.Mutex is) (λ k c at. none-at-condition none x.0 k c at))
-    hold-none pools desks none (site.Eventual x) is =
-        subst (λ o. All (IsOther u) (rows_of_object W (site.Eventual x) o)) (sym (eventual-here x is)) (eventual-other u W x (object_of_thing held x.0) (none-waits none x.0 thing.Eventual is))
-    hold-none pools desks none (site.Future x) is =
-        subst (λ o. All (IsOther u) (rows_of_object W (site.Future x) o)) (sym (future-here x is)) (future-other u W x (object_of_thing held x.0) (none-waits none x.0 (thing.Future is.0 is.1) is.2))
-    hold-none pools desks none (site.Barrier x) is =
-        subst (λ o. All (IsOther u) (rows_of_object W (site.Barrier x) o)) (sym (barrier-here x is)) (barrier-other u W x (object_of_thing held x.0) (none-waits none x.0 (thing.Barrier is.0) is.1))
-    hold-none pools desks none (site.Rw x) is =
-        subst (λ o. All (IsOther u) (rows_of_object W (site.Rw x) o)) (sym (rwlock-here x is)) (rwlock-other u W x (object_of_thing held x.0) (none-waits none x.0 thing.RwLock is))
+    hold-none pools desks none (site.Eventual x) is = others-there (site.Eventual x) x (waiters_as thing.Eventual (object_of_thing held x.0)) (eventual-here x is) (none-waits none x.0 thing.Eventual is)
+    hold-none pools desks none (site.Future x) is = others-there (site.Future x) x (waiters_as (thing.Future is.0 is.1) (object_of_thing held x.0)) (future-here x is) (none-waits none x.0 (thing.Future is.0 is.1) is.2)
+    hold-none pools desks none (site.Barrier x) is = others-there (site.Barrier x) x (waiters_as (thing.Barrier is.0) (object_of_thing held x.0)) (barrier-here x is) (none-waits none x.0 (thing.Barrier is.0) is.1)
+    hold-none pools desks none (site.Rw x) is = others-there (site.Rw x) x (waiters_as thing.RwLock (object_of_thing held x.0)) (rwlock-here x is) (none-waits none x.0 thing.RwLock is)
 
     -- A unit u.
 
@@ -146,6 +146,12 @@ module _ (held : ObjectsValue) where
 
     from-object : (x : Site) (object : Object) (row : Row) → IsSite W x → object_at held x ≡ object → Contains (rows_of_object W x object) row × (row.1.number ≡ u) → IsHeldAs held u row
     from-object x object row is here there = record { site = x; declared = is; there = subst (λ o. Contains (rows_of_object W x o) row) (sym here) there.0; number = there.1 }
+
+    -- one of the units that wait for x, all that stand at the site
+    one-there : (s : Site) (x : ObjectNo) (os : List Owned) (o : Owned) → IsSite W s → rows_at_site held s ≡ rows_as (shows.Object x) os → find (is_unit u) os ≡ Some o → IsHeldAs held u (shows.Object x, o)
+    one-there s x os o is are found =
+        let r = as-there u (shows.Object x) os o found in
+        record { site = s; declared = is; there = subst (λ rows. Contains rows (shows.Object x, o)) (sym are) r.0; number = r.1 }
 
     held-by : IsValid W → (x : ObjectNo) (o : Owned) (t : Option Thing) → thing_at W x.0 ≡ t → find (is_unit u) (waiters_by held x.0 t) ≡ Some o → IsHeldAs held u (shows.Object x, o)
     held-by valid x o None is found = absurd (none≢some found)
@@ -156,13 +162,10 @@ module _ (held : ObjectsValue) where
         let at : slice_get (conditions_of W m.0) (condition_number W x.0) ≡ Some x.0 = ap (λ q. slice_get (conditions_of W q) (condition_number W x.0)) (sym mutex) ∙ condition-at W x.0 (m, is) in
         from-object (site.Monitor m) (object_of_thing held m.0) (shows.Object x, o) declared (monitor-here m declared)
         (condition-there u W m (object_of_thing held m.0) (condition_number W x.0) x.0 o at found)
-    held-by valid x o (Some thing.Eventual) is found = from-object (site.Eventual x) (object_of_thing held x.0) (shows.Object x, o) is (eventual-here x is) (eventual-there u W x (object_of_thing held x.0) o found)
-    held-by valid x o (Some (thing.Future n c)) is found =
-        from-object (site.Future x) (object_of_thing held x.0) (shows.Object x, o) (n, c, is) (future-here x (n, c, is)) (future-there u W x (object_of_thing held x.0) o found)
-    held-by valid x o (Some (thing.Barrier n)) is found =
-        from-object (site.Barrier x) (object_of_thing held x.0) (shows.Object x, o) (n, is) (barrier-here x (n, is)) (barrier-there u W x (object_of_thing held x.0) o found)
-    held-by valid x o (Some thing.RwLock) is found =
-        from-object (site.Rw x) (object_of_thing held x.0) (shows.Object x, o) is (rwlock-here x is) (rwlock-there u W x (object_of_thing held x.0) o found)
+    held-by valid x o (Some thing.Eventual) is found = one-there (site.Eventual x) x (waiters_as thing.Eventual (object_of_thing held x.0)) o is (eventual-here x is) found
+    held-by valid x o (Some (thing.Future n c)) is found = one-there (site.Future x) x (waiters_as (thing.Future n c) (object_of_thing held x.0)) o (n, c, is) (future-here x (n, c, is)) found
+    held-by valid x o (Some (thing.Barrier n)) is found = one-there (site.Barrier x) x (waiters_as (thing.Barrier n) (object_of_thing held x.0)) o (n, is) (barrier-here x (n, is)) found
+    held-by valid x o (Some thing.RwLock) is found = one-there (site.Rw x) x (waiters_as thing.RwLock (object_of_thing held x.0)) o is (rwlock-here x is) found
 
     pub held-waiting : IsValid W → (x : ObjectNo) (o : Owned) → find (is_unit u) (waiters_at_thing held x.0) ≡ Some o → IsHeldAs held u (shows.Object x, o)
     held-waiting valid x o found = held-by valid x o (thing_at W x.0) refl found

@@ -66,46 +66,29 @@ abbrev pub row_found : Option (Shown × Bor UnitValue) → Option Row
 row_found None = None
 row_found (Some found) = Some (found.0, found.1.now.owned)
 
--- Units that wait for an object, if it is of the kind.
+-- units that wait for the object itself, if it is of the thing's kind
+abbrev pub waiters_as : Thing → Object → List Owned
+waiters_as thing.Mutex (MonitorIs m) = m.waiters
+waiters_as thing.Eventual (EventualIs e) = e.waiters
+waiters_as (thing.Future n c) (FutureIs f) = f.waiters
+waiters_as (thing.Barrier n) (BarrierIs b) = b.waiters
+waiters_as thing.RwLock (RwLockIs l) = l.waiters
+waiters_as t object = []
 
-abbrev pub waiters_of_monitor : Object → List Owned
-waiters_of_monitor (MonitorIs m) = m.waiters
-waiters_of_monitor object = []
-
--- at condition k
+-- those at condition k of a monitor
 abbrev pub waiters_of_condition : ℕ → Object → List Owned
 waiters_of_condition k (MonitorIs m) = at_condition k m
 waiters_of_condition k object = []
-
-abbrev pub waiters_of_eventual : Object → List Owned
-waiters_of_eventual (EventualIs e) = e.waiters
-waiters_of_eventual object = []
-
-abbrev pub waiters_of_future : Object → List Owned
-waiters_of_future (FutureIs f) = f.waiters
-waiters_of_future object = []
-
-abbrev pub waiters_of_barrier : Object → List Owned
-waiters_of_barrier (BarrierIs b) = b.waiters
-waiters_of_barrier object = []
-
-abbrev pub waiters_of_rwlock : Object → List Owned
-waiters_of_rwlock (RwLockIs l) = l.waiters
-waiters_of_rwlock object = []
 
 -- the object of a thing
 abbrev pub object_of_thing : ObjectsValue → ℕ → Object
 object_of_thing held x = object_from (slice_get held.objects (thing_number held.workload x))
 
--- units that wait at a thing, by its kind; at a condition they are with its mutex
+-- units that wait at a thing; at a condition they are with its mutex
 abbrev pub waiters_by : ObjectsValue → ℕ → Option Thing → List Owned
 waiters_by held x None = []
-waiters_by held x (Some thing.Mutex) = waiters_of_monitor (object_of_thing held x)
 waiters_by held x (Some (thing.Cond m)) = waiters_of_condition (condition_number held.workload x) (object_of_thing held m.0)
-waiters_by held x (Some thing.Eventual) = waiters_of_eventual (object_of_thing held x)
-waiters_by held x (Some (thing.Future n c)) = waiters_of_future (object_of_thing held x)
-waiters_by held x (Some (thing.Barrier n)) = waiters_of_barrier (object_of_thing held x)
-waiters_by held x (Some thing.RwLock) = waiters_of_rwlock (object_of_thing held x)
+waiters_by held x (Some t) = waiters_as t (object_of_thing held x)
 
 abbrev pub waiters_at_thing : ObjectsValue → ℕ → List Owned
 waiters_at_thing held x = waiters_by held x (thing_at held.workload x)

@@ -210,12 +210,8 @@ impl<'w> Objects<'w> {
         ensures { find (is_unit u.0) (waiters_at_thing self.now x.0) ≡ unit_found result }
     {
         match self.w.thing(x) {
-            Thing::Mutex => self.ones[thing_number(self.w, x)].monitor_waiter(u),
             Thing::Cond(_) => self.at_condition(x, u),
-            Thing::Eventual => self.ones[thing_number(self.w, x)].eventual_waiter(u),
-            Thing::Future(_, _) => self.ones[thing_number(self.w, x)].future_waiter(u),
-            Thing::Barrier(_) => self.ones[thing_number(self.w, x)].barrier_waiter(u),
-            Thing::RwLock => self.ones[thing_number(self.w, x)].rwlock_waiter(u),
+            thing => self.ones[thing_number(self.w, x)].waiter(thing, u),
         }
     }
 

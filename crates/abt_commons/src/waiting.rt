@@ -9,12 +9,12 @@ ghost use Rattle.abt_machine.specs.Pools.{is_unit};
 ghost use Rattle.abt_chain.specs.Results.{unit_found};
 ghost use Rattle.abt_calls.specs.Allowed.{Allows};
 ghost use Rattle.abt_calls.specs.Showing.{rows_as, rows_at_desk, rows_of_object};
-ghost use Rattle.abt_commons.specs.Reading.{is_row_of, row_found, waiters_of_barrier, waiters_of_condition, waiters_of_eventual, waiters_of_future, waiters_of_monitor, waiters_of_rwlock};
+ghost use Rattle.abt_commons.specs.Reading.{is_row_of, row_found, waiters_as, waiters_of_condition};
 
 use crate::one::One;
 use crate::shared::Shared;
 use abt_desk::Desk;
-use abt_machine::{PoolNo, Shown, UnitNo};
+use abt_machine::{PoolNo, Shown, Thing, UnitNo};
 use abt_unit::Unit;
 
 impl<'w> One<'w> {
@@ -72,17 +72,22 @@ fn own_unit(desk: &Desk, u: UnitNo) -> Option<(Shown, &Unit)>
     }
 }
 
-// The first unit of that number that waits for the object, if it is of the kind.
 impl<'w> One<'w> {
-    pub(crate) fn monitor_waiter(&self, u: UnitNo) -> Option<&Unit>
-        ensures { find (is_unit u.0) (waiters_of_monitor self.now.object) ≡ unit_found result }
+    // The first unit of that number that waits for the object itself, if it is of the thing's kind.
+    pub(crate) fn waiter(&self, thing: Thing, u: UnitNo) -> Option<&Unit>
+        ensures { find (is_unit u.0) (waiters_as thing self.now.object) ≡ unit_found result }
     {
-        match &*self.shared {
-            Shared::Monitor(monitor) => monitor.waiter(None, u),
+        match (thing, &*self.shared) {
+            (Thing::Mutex, Shared::Monitor(monitor)) => monitor.waiter(None, u),
+            (Thing::Eventual, Shared::Eventual(eventual)) => eventual.waiter(u),
+            (Thing::Future(_, _), Shared::Future(future)) => future.waiter(u),
+            (Thing::Barrier(_), Shared::Barrier(barrier)) => barrier.waiter(u),
+            (Thing::RwLock, Shared::RwLock(rwlock)) => rwlock.waiter(u),
             _ => None,
         }
     }
 
+    // The first unit of that number that waits at the condition of that place.
     pub(crate) fn condition_waiter(&self, cond: u32, u: UnitNo) -> Option<&Unit>
         requires { Allows self.now.object (asked.Signal cond) }
         ensures { find (is_unit u.0) (waiters_of_condition cond self.now.object) ≡ unit_found result }
@@ -90,42 +95,6 @@ impl<'w> One<'w> {
         match &*self.shared {
             Shared::Monitor(monitor) => monitor.waiter(Some(cond), u),
             _ => unreachable!(),
-        }
-    }
-
-    pub(crate) fn eventual_waiter(&self, u: UnitNo) -> Option<&Unit>
-        ensures { find (is_unit u.0) (waiters_of_eventual self.now.object) ≡ unit_found result }
-    {
-        match &*self.shared {
-            Shared::Eventual(eventual) => eventual.waiter(u),
-            _ => None,
-        }
-    }
-
-    pub(crate) fn future_waiter(&self, u: UnitNo) -> Option<&Unit>
-        ensures { find (is_unit u.0) (waiters_of_future self.now.object) ≡ unit_found result }
-    {
-        match &*self.shared {
-            Shared::Future(future) => future.waiter(u),
-            _ => None,
-        }
-    }
-
-    pub(crate) fn barrier_waiter(&self, u: UnitNo) -> Option<&Unit>
-        ensures { find (is_unit u.0) (waiters_of_barrier self.now.object) ≡ unit_found result }
-    {
-        match &*self.shared {
-            Shared::Barrier(barrier) => barrier.waiter(u),
-            _ => None,
-        }
-    }
-
-    pub(crate) fn rwlock_waiter(&self, u: UnitNo) -> Option<&Unit>
-        ensures { find (is_unit u.0) (waiters_of_rwlock self.now.object) ≡ unit_found result }
-    {
-        match &*self.shared {
-            Shared::RwLock(rwlock) => rwlock.waiter(u),
-            _ => None,
         }
     }
 }
