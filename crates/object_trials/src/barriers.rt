@@ -1,18 +1,17 @@
 //! Barriers of one and of three parties against worked rows.
 
-ghost use Rattle.std.specs.Prelude.{◌<◌};
-
 use crate::answers::{Answer, found, through};
 use crate::samples::unit;
+use crate::tried::{Tried, check};
 use abt_barrier::Barrier;
 use abt_machine::UnitNo;
 use std::alloc::Global;
 use std::process::Abort;
 use std::test::Fail;
 
-// The unit that arrives or waits has that number.
+/// The unit that arrives or waits has that number.
 #[derive(Clone, Copy)]
-enum Call {
+pub enum Call {
     Arrive(u32),
     Waiter(u32),
 }
@@ -41,32 +40,23 @@ static THREE: [(Call, Answer); 9] = [
     ),
 ];
 
-fn answer(
-    rt: &impl Abort,
-    alloc: Global,
-    barrier: &mut Barrier,
-    call: Call,
-) -> Result<Answer, Fail> {
-    Ok(match call {
-        Call::Arrive(number) => through(barrier.arrive(unit(rt, alloc, number, 0)?)),
-        Call::Waiter(number) => found(barrier.waiter(UnitNo(number))),
-    })
-}
+impl Tried for Barrier {
+    type Call = Call;
 
-// A barrier of that many parties, call by call.
-fn check(rt: &impl Abort, alloc: Global, parties: u32, rows: &[(Call, Answer)]) -> Result<(), Fail>
-    requires { 0 < parties }
-{
-    let mut barrier = Barrier::new(parties);
-    for (at, (call, wanted)) in rows.iter().enumerate() {
-        let answer = answer(rt, alloc, &mut barrier, *call)?;
-        assert!(rt; answer == *wanted, "row {at}");
+    ghost stays = { λ barrier. Unit {0} };
+
+    fn answer<R: Abort>(&mut self, rt: &R, alloc: Global, call: Call) -> Result<Answer, Fail> {
+        Ok(match call {
+            Call::Arrive(number) => through(self.arrive(unit(rt, alloc, number, 0)?)),
+            Call::Waiter(number) => found(self.waiter(UnitNo(number))),
+        })
     }
-    Ok(())
 }
 
 #[test]
 fn the_last_party_takes_the_others_through(rt: HostRuntime) -> Result<(), Fail> {
-    check(&rt, rt.alloc(), 1, &ONE)?;
-    check(&rt, rt.alloc(), 3, &THREE)
+    let mut barrier = Barrier::new(1);
+    check(&rt, rt.alloc(), &mut barrier, &ONE)?;
+    let mut barrier = Barrier::new(3);
+    check(&rt, rt.alloc(), &mut barrier, &THREE)
 }

@@ -2,6 +2,7 @@
 
 use crate::answers::{Answer, found, out};
 use crate::samples::unit;
+use crate::tried::{Tried, check};
 use abt_chain::Chain;
 use abt_machine::UnitNo;
 use std::alloc::Global;
@@ -9,16 +10,18 @@ use std::process::Abort;
 use std::test::Fail;
 use std::thread::Builder;
 
+/// A call of a chain.
 #[derive(Clone, Copy)]
-enum Call {
+pub enum Call {
     Push(u32, u64),
     Front,
     Back,
     Remove(u32),
     Find(u32),
+    IsEmpty,
 }
 
-static ROWS: [(Call, Answer); 24] = [
+static ROWS: [(Call, Answer); 25] = [
     // nothing in it
     (Call::Front, Answer::Nobody),
     (Call::Back, Answer::Nobody),
@@ -47,30 +50,33 @@ static ROWS: [(Call, Answer); 24] = [
     (Call::Front, Answer::Unit((3, 3))),
     (Call::Back, Answer::Unit((3, 7))),
     (Call::Front, Answer::Nobody),
+    (Call::IsEmpty, Answer::Truth(true)),
 ];
 
-fn answer(rt: &impl Abort, alloc: Global, chain: &mut Chain, call: Call) -> Result<Answer, Fail> {
-    Ok(match call {
-        Call::Push(number, acc) => {
-            chain.push_back(unit(rt, alloc, number, acc)?);
-            Answer::Nobody
-        }
-        Call::Front => out(chain.take_front()),
-        Call::Back => out(chain.take_back()),
-        Call::Remove(number) => out(chain.remove(UnitNo(number))),
-        Call::Find(number) => found(chain.find(UnitNo(number))),
-    })
+impl Tried for Chain {
+    type Call = Call;
+
+    ghost stays = { λ chain. Unit {0} };
+
+    fn answer<R: Abort>(&mut self, rt: &R, alloc: Global, call: Call) -> Result<Answer, Fail> {
+        Ok(match call {
+            Call::Push(number, acc) => {
+                self.push_back(unit(rt, alloc, number, acc)?);
+                Answer::Nobody
+            }
+            Call::Front => out(self.take_front()),
+            Call::Back => out(self.take_back()),
+            Call::Remove(number) => out(self.remove(UnitNo(number))),
+            Call::Find(number) => found(self.find(UnitNo(number))),
+            Call::IsEmpty => Answer::Truth(self.is_empty()),
+        })
+    }
 }
 
 #[test]
 fn chains_are_lists(rt: HostRuntime) -> Result<(), Fail> {
     let mut chain = Chain::new();
-    for (at, (call, wanted)) in ROWS.iter().enumerate() {
-        let answer = answer(&rt, rt.alloc(), &mut chain, *call)?;
-        assert!(rt; answer == *wanted, "row {at}");
-    }
-    assert!(rt; chain.is_empty());
-    Ok(())
+    check(&rt, rt.alloc(), &mut chain, &ROWS)
 }
 
 // 20,000 units, told apart by their accumulators, of which the one in the middle alone has number 3.

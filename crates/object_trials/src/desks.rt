@@ -2,15 +2,16 @@
 
 use crate::answers::{Answer, NO_UNITS, all, found, out};
 use crate::samples::unit;
+use crate::tried::{Tried, check};
 use abt_desk::{Asks, Desk};
 use abt_machine::{Cause, Code, PoolNo, Shown, UnitNo};
 use std::alloc::Global;
 use std::process::Abort;
 use std::test::Fail;
 
-// A unit that comes to the desk has that number and accumulator.
+/// A unit that comes to the desk has that number and accumulator.
 #[derive(Clone, Copy)]
-enum Call {
+pub enum Call {
     Create(PoolNo),
     End(u32, u64, Cause),
     Join(u32, u64),
@@ -129,46 +130,53 @@ fn created(desk: &mut Desk, home: PoolNo) -> Answer {
     }
 }
 
-fn answer(rt: &impl Abort, alloc: Global, desk: &mut Desk, call: Call) -> Result<Answer, Fail> {
-    Ok(match call {
-        Call::Create(home) => created(desk, home),
-        Call::End(number, acc, cause) => all(desk.end(unit(rt, alloc, number, acc)?, cause)),
-        Call::Join(number, acc) => out(desk.join(unit(rt, alloc, number, acc)?)),
-        Call::AskCancel => Answer::Code(desk.ask_cancel()),
-        Call::AskMigrate(pool) => Answer::Code(desk.ask_migrate(pool)),
-        Call::SetMigratable(yes) => Answer::Code(desk.set_migratable(yes)),
-        Call::Suspend(number, acc) => {
-            desk.suspend(unit(rt, alloc, number, acc)?);
-            Answer::Nobody
-        }
-        Call::Resume => out(desk.resume()),
-        Call::Revive(home) => out(desk.revive(home)),
-        Call::Look => Answer::Asks(desk.look()),
-        Call::Number => Answer::Number(u64::from(desk.number().0)),
-        Call::Shown => Answer::Shown(desk.shown()),
-        Call::Held => found(desk.held()),
-        Call::Joiner(number) => found(desk.joiner(UnitNo(number))),
-    })
+impl Tried for Desk {
+    type Call = Call;
+
+    ghost stays = { λ desk. Unit {0} };
+
+    fn answer<R: Abort>(&mut self, rt: &R, alloc: Global, call: Call) -> Result<Answer, Fail> {
+        Ok(match call {
+            Call::Create(home) => created(self, home),
+            Call::End(number, acc, cause) => all(self.end(unit(rt, alloc, number, acc)?, cause)),
+            Call::Join(number, acc) => out(self.join(unit(rt, alloc, number, acc)?)),
+            Call::AskCancel => Answer::Code(self.ask_cancel()),
+            Call::AskMigrate(pool) => Answer::Code(self.ask_migrate(pool)),
+            Call::SetMigratable(yes) => Answer::Code(self.set_migratable(yes)),
+            Call::Suspend(number, acc) => {
+                self.suspend(unit(rt, alloc, number, acc)?);
+                Answer::Nobody
+            }
+            Call::Resume => out(self.resume()),
+            Call::Revive(home) => out(self.revive(home)),
+            Call::Look => Answer::Asks(self.look()),
+            Call::Number => Answer::Number(u64::from(self.number().0)),
+            Call::Shown => Answer::Shown(self.shown()),
+            Call::Held => found(self.held()),
+            Call::Joiner(number) => found(self.joiner(UnitNo(number))),
+        })
+    }
 }
 
 // The desk of unit 2, call by call.
-fn check(rt: &impl Abort, alloc: Global, sched: bool, rows: &[(Call, Answer)]) -> Result<(), Fail> {
+fn check_desk<R: Abort>(
+    rt: &R,
+    alloc: Global,
+    sched: bool,
+    rows: &[(Call, Answer)],
+) -> Result<(), Fail> {
     let mut desk = Desk::new(unit(rt, alloc, 2, 7)?, sched);
-    for (at, (call, wanted)) in rows.iter().enumerate() {
-        let answer = answer(rt, alloc, &mut desk, *call)?;
-        assert!(rt; answer == *wanted, "row {at}");
-    }
-    Ok(())
+    check(rt, alloc, &mut desk, rows)
 }
 
 #[test]
 fn desks_keep_units_and_joiners(rt: HostRuntime) -> Result<(), Fail> {
-    check(&rt, rt.alloc(), false, &LIFE)?;
-    check(&rt, rt.alloc(), false, &SECOND_END)
+    check_desk(&rt, rt.alloc(), false, &LIFE)?;
+    check_desk(&rt, rt.alloc(), false, &SECOND_END)
 }
 
 #[test]
 fn requests_are_looked_at_once(rt: HostRuntime) -> Result<(), Fail> {
-    check(&rt, rt.alloc(), false, &REQUESTS)?;
-    check(&rt, rt.alloc(), true, &SCHEDULER_REQUESTS)
+    check_desk(&rt, rt.alloc(), false, &REQUESTS)?;
+    check_desk(&rt, rt.alloc(), true, &SCHEDULER_REQUESTS)
 }

@@ -1,16 +1,20 @@
 //! Who waits for a value and what it is, on rows of calls.
 
+ghost use Rattle.abt_unit.specs.Units.{IsFree};
+
 use crate::answers::{Answer, NO_UNITS, all_or_code, found, out};
 use crate::samples::unit;
+use crate::tried::{Tried, check};
 use abt_eventual::{Eventual, Future};
 use abt_machine::{Code, Combine, UnitNo};
+use abt_unit::Unit;
 use std::alloc::Global;
 use std::process::Abort;
 use std::test::Fail;
 
-// The unit that waits has that number.
+/// The unit that waits has that number.
 #[derive(Clone, Copy)]
-enum Call {
+pub enum Call {
     Wait(u32),
     Set(u64),
     Reset,
@@ -39,32 +43,29 @@ static EVENTUAL: [(Call, Answer); 14] = [
     (Call::Set(9), Answer::Units(Some((2, 9)), None, None)),
 ];
 
-fn answer(
-    rt: &impl Abort,
-    alloc: Global,
-    eventual: &mut Eventual,
-    call: Call,
-) -> Result<Answer, Fail> {
-    Ok(match call {
-        Call::Wait(number) => out(eventual.wait(unit(rt, alloc, number, 0)?)),
-        Call::Set(value) => all_or_code(eventual.set(value)),
-        Call::Reset => {
-            eventual.reset();
-            Answer::Nobody
-        }
-        Call::Test => Answer::Truth(eventual.test()),
-        Call::Waiter(number) => found(eventual.waiter(UnitNo(number))),
-    })
+impl Tried for Eventual {
+    type Call = Call;
+
+    ghost stays = { λ eventual. Unit {0} };
+
+    fn answer<R: Abort>(&mut self, rt: &R, alloc: Global, call: Call) -> Result<Answer, Fail> {
+        Ok(match call {
+            Call::Wait(number) => out(self.wait(unit(rt, alloc, number, 0)?)),
+            Call::Set(value) => all_or_code(self.set(value)),
+            Call::Reset => {
+                self.reset();
+                Answer::Nobody
+            }
+            Call::Test => Answer::Truth(self.test()),
+            Call::Waiter(number) => found(self.waiter(UnitNo(number))),
+        })
+    }
 }
 
 #[test]
 fn eventuals_are_set_once(rt: HostRuntime) -> Result<(), Fail> {
     let mut eventual = Eventual::new();
-    for (at, (call, wanted)) in EVENTUAL.iter().enumerate() {
-        let answer = answer(&rt, rt.alloc(), &mut eventual, *call)?;
-        assert!(rt; answer == *wanted, "row {at}");
-    }
-    Ok(())
+    check(&rt, rt.alloc(), &mut eventual, &EVENTUAL)
 }
 
 // Of a future of two compartments that adds.
@@ -89,32 +90,29 @@ static FUTURE: [(Call, Answer); 14] = [
     (Call::Test, Answer::Truth(false)),
 ];
 
-fn future_answer(
-    rt: &impl Abort,
-    alloc: Global,
-    future: &mut Future,
-    call: Call,
-) -> Result<Answer, Fail> {
-    Ok(match call {
-        Call::Wait(number) => out(future.wait(unit(rt, alloc, number, 0)?)),
-        Call::Set(value) => all_or_code(future.set(value)),
-        Call::Reset => {
-            future.reset();
-            Answer::Nobody
-        }
-        Call::Test => Answer::Truth(future.test()),
-        Call::Waiter(number) => found(future.waiter(UnitNo(number))),
-    })
+impl Tried for Future {
+    type Call = Call;
+
+    ghost stays = { λ future. Unit {0} };
+
+    fn answer<R: Abort>(&mut self, rt: &R, alloc: Global, call: Call) -> Result<Answer, Fail> {
+        Ok(match call {
+            Call::Wait(number) => out(self.wait(unit(rt, alloc, number, 0)?)),
+            Call::Set(value) => all_or_code(self.set(value)),
+            Call::Reset => {
+                self.reset();
+                Answer::Nobody
+            }
+            Call::Test => Answer::Truth(self.test()),
+            Call::Waiter(number) => found(self.waiter(UnitNo(number))),
+        })
+    }
 }
 
 #[test]
 fn futures_are_ready_with_their_last_value(rt: HostRuntime) -> Result<(), Fail> {
     let mut future = Future::new(2, Combine::Sum);
-    for (at, (call, wanted)) in FUTURE.iter().enumerate() {
-        let answer = future_answer(&rt, rt.alloc(), &mut future, *call)?;
-        assert!(rt; answer == *wanted, "row {at}");
-    }
-    Ok(())
+    check(&rt, rt.alloc(), &mut future, &FUTURE)
 }
 
 // How values are combined, three of them, and what they come to.
@@ -125,15 +123,22 @@ static COMBINED: [(Combine, [u64; 3], u64); 4] = [
     (Combine::Count, [8, 8, 8], 3),
 ];
 
+// What the unit gets of a future that combines these values.
+fn combined(rt: &impl Abort, combine: Combine, values: [u64; 3], unit: Box<Unit>) -> Answer
+    requires { IsFree unit.value }
+{
+    let mut future = Future::new(3, combine);
+    for value in values {
+        assert!(rt; future.set(value).is_ok());
+    }
+    out(future.wait(unit))
+}
+
 #[test]
 fn futures_combine_their_values(rt: HostRuntime) -> Result<(), Fail> {
     for (combine, values, wanted) in COMBINED {
-        let mut future = Future::new(3, combine);
-        for value in values {
-            assert!(rt; future.set(value).is_ok());
-        }
-        let answer = out(future.wait(unit(&rt, rt.alloc(), 0, 0)?));
-        assert!(rt; answer == Answer::Unit((0, wanted)));
+        let unit = unit(&rt, rt.alloc(), 0, 0)?;
+        assert!(rt; combined(&rt, combine, values, unit) == Answer::Unit((0, wanted)));
     }
     Ok(())
 }

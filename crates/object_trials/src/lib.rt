@@ -22,4 +22,6 @@ mod rwlocks;
 #[cfg(test)]
 mod samples;
 #[cfg(test)]
+mod tried;
+#[cfg(test)]
 mod units;

@@ -4,15 +4,16 @@ ghost use Rattle.std.specs.Prelude.{◌≡◌, length};
 
 use crate::answers::{Answer, found, number_or_code, out, out_or_code, out_or_refused};
 use crate::samples::unit;
+use crate::tried::{Tried, check};
 use abt_machine::{Code, UnitNo};
 use abt_monitor::Monitor;
 use std::alloc::Global;
 use std::process::Abort;
 use std::test::Fail;
 
-// A call of the unit of that number, at that condition if it names one; a waiter is that of the mutex or of a condition.
+/// A call of the unit of that number, at that condition if it names one; a waiter is that of the mutex or of a condition.
 #[derive(Clone, Copy)]
-enum Call {
+pub enum Call {
     Lock(u32),
     TryLock(u32),
     Unlock(u32),
@@ -90,24 +91,27 @@ static BROADCAST: [(Call, Answer); 10] = [
     (Call::Unlock(2), Answer::Nobody),
 ];
 
-fn answer(rt: &impl Abort, alloc: Global, monitor: &mut Monitor, call: Call) -> Result<Answer, Fail>
-    requires { length monitor.old.conds ≡ 2 }
-    ensures { length monitor.new.conds ≡ 2 }
-{
-    Ok(match call {
-        Call::Lock(number) => out(monitor.lock(unit(rt, alloc, number, 0)?)),
-        Call::TryLock(number) => Answer::Code(monitor.trylock(UnitNo(number))),
-        Call::Unlock(number) => out_or_code(monitor.unlock(UnitNo(number))),
-        Call::Load(number) => number_or_code(monitor.load(UnitNo(number))),
-        Call::Store(number, value) => Answer::Code(monitor.store(UnitNo(number), value)),
-        Call::Wait(cond, number) => {
-            out_or_refused(monitor.wait(cond % 2, unit(rt, alloc, number, 0)?))
-        }
-        Call::Signal(cond) => out(monitor.signal(cond % 2)),
-        Call::Broadcast(cond) => out(monitor.broadcast(cond % 2)),
-        Call::Waiter(number) => found(monitor.waiter(None, UnitNo(number))),
-        Call::WaiterAt(cond, number) => found(monitor.waiter(Some(cond % 2), UnitNo(number))),
-    })
+impl Tried for Monitor {
+    type Call = Call;
+
+    ghost stays = { λ monitor. length monitor.conds ≡ 2 };
+
+    fn answer<R: Abort>(&mut self, rt: &R, alloc: Global, call: Call) -> Result<Answer, Fail> {
+        Ok(match call {
+            Call::Lock(number) => out(self.lock(unit(rt, alloc, number, 0)?)),
+            Call::TryLock(number) => Answer::Code(self.trylock(UnitNo(number))),
+            Call::Unlock(number) => out_or_code(self.unlock(UnitNo(number))),
+            Call::Load(number) => number_or_code(self.load(UnitNo(number))),
+            Call::Store(number, value) => Answer::Code(self.store(UnitNo(number), value)),
+            Call::Wait(cond, number) => {
+                out_or_refused(self.wait(cond % 2, unit(rt, alloc, number, 0)?))
+            }
+            Call::Signal(cond) => out(self.signal(cond % 2)),
+            Call::Broadcast(cond) => out(self.broadcast(cond % 2)),
+            Call::Waiter(number) => found(self.waiter(None, UnitNo(number))),
+            Call::WaiterAt(cond, number) => found(self.waiter(Some(cond % 2), UnitNo(number))),
+        })
+    }
 }
 
 #[test]
@@ -119,10 +123,7 @@ fn mutexes_and_conditions_serve_in_order(rt: HostRuntime) -> Result<(), Fail> {
         BROADCAST.as_slice(),
     ] {
         let mut monitor = Monitor::new(rt.alloc(), 2)?;
-        for (at, (call, wanted)) in rows.iter().enumerate() {
-            let answer = answer(&rt, rt.alloc(), &mut monitor, *call)?;
-            assert!(rt; answer == *wanted, "row {at}");
-        }
+        check(&rt, rt.alloc(), &mut monitor, rows)?;
     }
     Ok(())
 }

@@ -4,6 +4,7 @@ ghost use Rattle.abt_unit.specs.Units.{IsFree};
 
 use crate::answers::{Answer, NO_UNITS, all_or_code, found, number_or_code, out_or_refused};
 use crate::samples::unit;
+use crate::tried::{Tried, check};
 use abt_machine::{Code, UnitNo, Want};
 use abt_rwlock::RwLock;
 use abt_unit::Unit;
@@ -11,9 +12,9 @@ use std::alloc::Global;
 use std::process::Abort;
 use std::test::Fail;
 
-// A call of the unit of that number.
+/// A call of the unit of that number.
 #[derive(Clone, Copy)]
-enum Call {
+pub enum Call {
     Read(u32),
     Write(u32),
     Unlock(u32),
@@ -81,36 +82,39 @@ static FULL: [(Call, Answer); 5] = [
     (Call::Read(2), Answer::Code(Code::RwFull)),
 ];
 
-fn answer(rt: &impl Abort, alloc: Global, lock: &mut RwLock, call: Call) -> Result<Answer, Fail> {
-    Ok(match call {
-        Call::Read(number) => out_or_refused(lock.rdlock(unit(rt, alloc, number, 0)?)),
-        Call::Write(number) => out_or_refused(lock.wrlock(unit(rt, alloc, number, 0)?)),
-        Call::Unlock(number) => all_or_code(lock.unlock(UnitNo(number))),
-        Call::Load(number) => number_or_code(lock.load(UnitNo(number))),
-        Call::Store(number, value) => Answer::Code(lock.store(UnitNo(number), value)),
-        Call::Waiter(number) => found(lock.waiter(UnitNo(number))),
-    })
+impl Tried for RwLock {
+    type Call = Call;
+
+    ghost stays = { λ lock. Unit {0} };
+
+    fn answer<R: Abort>(&mut self, rt: &R, alloc: Global, call: Call) -> Result<Answer, Fail> {
+        Ok(match call {
+            Call::Read(number) => out_or_refused(self.rdlock(unit(rt, alloc, number, 0)?)),
+            Call::Write(number) => out_or_refused(self.wrlock(unit(rt, alloc, number, 0)?)),
+            Call::Unlock(number) => all_or_code(self.unlock(UnitNo(number))),
+            Call::Load(number) => number_or_code(self.load(UnitNo(number))),
+            Call::Store(number, value) => Answer::Code(self.store(UnitNo(number), value)),
+            Call::Waiter(number) => found(self.waiter(UnitNo(number))),
+        })
+    }
 }
 
-// The lock, call by call.
-fn check(
-    rt: &impl Abort,
+// A lock for that many units, call by call.
+fn check_lock<R: Abort>(
+    rt: &R,
     alloc: Global,
-    mut lock: RwLock,
+    units: u32,
     rows: &[(Call, Answer)],
 ) -> Result<(), Fail> {
-    for (at, (call, wanted)) in rows.iter().enumerate() {
-        let answer = answer(rt, alloc, &mut lock, *call)?;
-        assert!(rt; answer == *wanted, "row {at}");
-    }
-    Ok(())
+    let mut lock = RwLock::new(alloc, units)?;
+    check(rt, alloc, &mut lock, rows)
 }
 
 #[test]
 fn locks_are_held_and_waited_for(rt: HostRuntime) -> Result<(), Fail> {
-    check(&rt, rt.alloc(), RwLock::new(rt.alloc(), 4)?, &ORDER)?;
-    check(&rt, rt.alloc(), RwLock::new(rt.alloc(), 4)?, &HOLDERS)?;
-    check(&rt, rt.alloc(), RwLock::new(rt.alloc(), 2)?, &NARROW)
+    check_lock(&rt, rt.alloc(), 4, &ORDER)?;
+    check_lock(&rt, rt.alloc(), 4, &HOLDERS)?;
+    check_lock(&rt, rt.alloc(), 2, &NARROW)
 }
 
 // The unit reads at once.
@@ -122,14 +126,22 @@ fn reads_again(rt: &impl Abort, lock: &mut RwLock, unit: Box<Unit>) -> Box<Unit>
     answer.expect(rt, "it reads")
 }
 
+// The unit reads as often as it may.
+fn reads_often(rt: &impl Abort, lock: &mut RwLock, unit: Box<Unit>)
+    requires { IsFree unit.value }
+{
+    let mut reader = unit;
+    for _ in 0..65_535 {
+        reader = reads_again(rt, lock, reader);
+    }
+}
+
 #[test]
 fn a_unit_reads_65_535_times(rt: HostRuntime) -> Result<(), Fail> {
+    let reader = unit(&rt, rt.alloc(), 2, 0)?;
     let mut lock = RwLock::new(rt.alloc(), 4)?;
-    let mut reader = unit(&rt, rt.alloc(), 2, 0)?;
-    for _ in 0..65_535 {
-        reader = reads_again(&rt, &mut lock, reader);
-    }
-    check(&rt, rt.alloc(), lock, &FULL)
+    reads_often(&rt, &mut lock, reader);
+    check(&rt, rt.alloc(), &mut lock, &FULL)
 }
 
 // `rt try --test --fail-alloc N`, for N of 1 and 2, refuses each allocation of `new`.

@@ -1,9 +1,9 @@
 //! Units to try objects with.
 
-ghost use Rattle.std.specs.Prelude.{IfOk};
+ghost use Rattle.std.specs.Prelude.{◌<◌, length, IfOk};
 ghost use Rattle.abt_unit.specs.Units.{IsFree};
 
-use abt_machine::UnitNo;
+use abt_machine::{UnitNo, Workload};
 use abt_unit::Unit;
 use abt_workload::read;
 use std::alloc::Global;
@@ -30,7 +30,14 @@ pub fn unit(rt: &impl Abort, alloc: Global, number: u32, acc: u64) -> Result<Box
 {
     let w = read(alloc, FOUR.as_bytes())?;
     assert!(rt; number < w.units());
-    let mut unit = Unit::make(alloc, &w, UnitNo(number))?;
+    made(alloc, &w, number, acc)
+}
+
+fn made(alloc: Global, w: &Workload, number: u32, acc: u64) -> Result<Box<Unit>, Fail>
+    requires { number < length w.now.units }
+    ensures { IfOk result (λ unit. IsFree unit.value) }
+{
+    let mut unit = Unit::make(alloc, w, UnitNo(number))?;
     unit.receive(acc);
     Ok(unit)
 }

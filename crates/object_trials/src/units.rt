@@ -1,10 +1,12 @@
 //! The local operations of a unit.
 
+ghost use Rattle.std.specs.Prelude.{◌<◌, length};
 ghost use Rattle.abt_unit.specs.Fits.{Fits};
 
 use abt_machine::{Op, Piece, UnitNo, Workload};
 use abt_unit::Unit;
 use abt_workload::read;
+use std::alloc::Global;
 use std::process::Abort;
 use std::test::Fail;
 
@@ -40,13 +42,12 @@ fn step(rt: &impl Abort, unit: &mut Unit, w: &Workload)
     }
 }
 
-#[test]
-fn local_operations_do_their_rows(rt: HostRuntime) -> Result<(), Fail> {
-    let w = read(rt.alloc(), LOCAL.as_bytes())?;
-    assert_eq!(rt; w.units(), 1);
-    let mut unit = Unit::make(rt.alloc(), &w, UnitNo(0))?;
+// All of its operations, and what they leave.
+fn does_all(rt: &impl Abort, unit: &mut Unit, w: &Workload)
+    requires { Fits w.now unit.old.owned }
+{
     for _ in 0..7 {
-        step(&rt, &mut unit, &w);
+        step(rt, unit, w);
     }
     assert_eq!(rt; unit.position(), 7);
     assert_eq!(rt; unit.acc(), 7);
@@ -54,5 +55,20 @@ fn local_operations_do_their_rows(rt: HostRuntime) -> Result<(), Fail> {
         unit.output(),
         [Piece::Said(0), Piece::Number(5), Piece::Number(7)].as_slice()
     );
+}
+
+// The first unit does all of its operations.
+fn first_does_all(rt: &impl Abort, alloc: Global, w: &Workload) -> Result<(), Fail>
+    requires { 0 < length w.now.units }
+{
+    let mut unit = Unit::make(alloc, w, UnitNo(0))?;
+    does_all(rt, &mut unit, w);
     Ok(())
+}
+
+#[test]
+fn local_operations_do_their_rows(rt: HostRuntime) -> Result<(), Fail> {
+    let w = read(rt.alloc(), LOCAL.as_bytes())?;
+    assert_eq!(rt; w.units(), 1);
+    first_does_all(&rt, rt.alloc(), &w)
 }

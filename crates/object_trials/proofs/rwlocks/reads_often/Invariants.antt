@@ -1,5 +1,5 @@
 use Rattle.abt_unit.specs.Units.{IsFree}
-use Rattle.object_trials.proofs.rwlocks.a_unit_reads_65_535_times.Given as goal
+use Rattle.object_trials.proofs.rwlocks.reads_often.Given as goal
 
 -- the unit that reads is at hand
 abbrev pub invariant-loop : goal.invariant-loop
