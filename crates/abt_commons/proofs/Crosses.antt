@@ -10,13 +10,6 @@ use Rattle.abt_unit.proofs.unit.Unit.TheLaws.TheKnot.{sync-Unit}
 use Rattle.abt_unit.proofs.Crosses.{Unit-send, Workload-sync}
 use Rattle.abt_chain.specs.contracts.chain.Chain as Chain
 use Rattle.abt_chain.proofs.Crosses.{Chain-send}
-use Rattle.abt_pool.specs.contracts.pool.Pool as Pool
-use Rattle.abt_desk.specs.contracts.desk.Desk as Desk
-use Rattle.abt_monitor.specs.contracts.monitor.Monitor as Monitor
-use Rattle.abt_eventual.specs.contracts.eventual.Eventual as Eventual
-use Rattle.abt_eventual.specs.contracts.future.Future as Future
-use Rattle.abt_barrier.specs.contracts.barrier.Barrier as Barrier
-use Rattle.abt_rwlock.specs.contracts.rwlock.RwLock as RwLock
 use Rattle.abt_booth.proofs.Crosses.{Booth-field-sync, Booth-sync, Seat-send}
 use Rattle.abt_commons.specs.contracts.acts.Act as Act
 use Rattle.abt_commons.specs.contracts.acts.Answer as Answer
@@ -40,55 +33,13 @@ Unit-sync = sync-Unit (as_row_sync UnitBody.the_field UnitBody-sync) (λ h s. le
 Chain-sync : IsSync Chain.the_row
 Chain-sync = let box = Box-sync Unit.the_row Unit-sync in search sendable depth 30
 
--- An object of each kind.
-
-Pool-send : IsSend Pool.the_row
-Pool-send = search (sendable, Chain-send) depth 30
-
-Pool-sync : IsSync Pool.the_row
-Pool-sync = search (sendable, Chain-sync) depth 30
-
-Desk-send : IsSend Desk.the_row
-Desk-send = search (sendable, crosses, Chain-send, Unit-send) depth 40
-
-Desk-sync : IsSync Desk.the_row
-Desk-sync = search (sendable, crosses, Chain-sync, Unit-sync) depth 40
-
-Monitor-send : IsSend Monitor.the_row
-Monitor-send = search (sendable, crosses, Chain-send) depth 40
-
-Monitor-sync : IsSync Monitor.the_row
-Monitor-sync = search (sendable, crosses, Vec-sync, Chain-sync) depth 40
-
-Eventual-send : IsSend Eventual.the_row
-Eventual-send = search (sendable, Chain-send) depth 30
-
-Eventual-sync : IsSync Eventual.the_row
-Eventual-sync = search (sendable, Chain-sync) depth 30
-
-Future-send : IsSend Future.the_row
-Future-send = search (sendable, Chain-send) depth 30
-
-Future-sync : IsSync Future.the_row
-Future-sync = search (sendable, Chain-sync) depth 30
-
-Barrier-send : IsSend Barrier.the_row
-Barrier-send = search (sendable, Chain-send) depth 30
-
-Barrier-sync : IsSync Barrier.the_row
-Barrier-sync = search (sendable, Chain-sync) depth 30
-
-RwLock-send : IsSend RwLock.the_row
-RwLock-send = search (sendable, crosses, Chain-send, Unit-send) depth 40
-
-RwLock-sync : IsSync RwLock.the_row
-RwLock-sync = search (sendable, crosses, Vec-sync, Chain-sync, Unit-sync) depth 40
+-- An object of any kind.
 
 Shared-send : IsSend Shared.the_row
-Shared-send = search (sendable, Pool-send, Desk-send, Monitor-send, Eventual-send, Future-send, Barrier-send, RwLock-send) depth 30
+Shared-send = search (sendable, crosses, Chain-send, Unit-send) depth 60 fits 20000
 
 Shared-sync : IsSync Shared.the_row
-Shared-sync = search (sendable, Pool-sync, Desk-sync, Monitor-sync, Eventual-sync, Future-sync, Barrier-sync, RwLock-sync) depth 30
+Shared-sync = search (sendable, crosses, Vec-sync, Chain-sync, Unit-sync) depth 60 fits 20000
 
 pub One-send : (a : NamedLft) → IsSend (One.the_row a)
 One-send a = let shared = Box-send Shared.the_row Shared-send in search (sendable, Workload-sync) depth 30
