@@ -1,5 +1,5 @@
 -- All units are put in.
-use Rattle.std.proofs.Common.{◌≡◌, ◌<◌, ◌++◌, [], length, replicate, sym, ◌∙◌, ap, subst}
+use Rattle.std.proofs.Common.{◌≡◌, ◌<◌, ◌++◌, length, replicate, sym, ◌∙◌, ap, subst}
 use Rattle.std.specs.List.{All}
 use Rattle.std.proofs.lemmas.List.{length-replicate}
 use Rattle.abt_machine.specs.declared.workload.Parts.{Parts}
@@ -17,7 +17,7 @@ place_groups-requires c =
     let fit : All (FitsRow W) (rows_in c.in_ok-groups.groups.items) = subst (λ (V : Parts). All (FitsRow V) (rows_in c.in_ok-groups.groups.items)) c.requires.objects c.in_ok-groups.ensures.fits in
     let many : length c.in_ok-rows.rows.items ≡ length W.units = ap (λ rows. length rows) c.in_ok-rows.ensures ∙ (length-replicate c.units.result blank ∙ c.units.ensures) in
     subst (λ n. All (λ (row : Row). row.1.number < n) (rows_in c.in_ok-groups.groups.items))
-    (sym (some-length (rows_left 0 c.args.streams.items) [] c.in_ok-rows.rows.items c.place_streams.new.rows.items c.place_streams.ensures ∙ many))
+    (sym (some-length (rows_left 0 c.args.streams.items) c.in_ok-rows.rows.items c.place_streams.new.rows.items c.place_streams.ensures ∙ many))
     (rows-below W (rows_in c.in_ok-groups.groups.items) fit)
 
 pub returns-clause-units : goal.returns-clause-units

@@ -6,7 +6,7 @@ use Rattle.abt_machine.specs.Values.{Owned}
 use Rattle.abt_calls.specs.Showing.{rows_as}
 use Rattle.abt_stream.specs.Streams.{owned}
 use Rattle.abt_drain.specs.Pictures.{AreBelow, placed}
-use Rattle.abt_drain.proofs.Placing.{some-length, some-put}
+use Rattle.abt_drain.proofs.Placing.{some-put, still-below}
 use Rattle.abt_drain.proofs.pictures.place_frames.Goals as goal
 
 pub loop-unit-preserved : goal.loop-unit-preserved
@@ -20,8 +20,8 @@ loop-unit-preserved c =
     record {
       next = tt;
       finite = tt;
-      rows = some-put xs (rows_as c.args.shown rest) at.rows.items c.place.new.rows.items c.place.ensures _ (ap (λ us. placed (rows_as c.args.shown (map owned us)) at.rows.items) (sym is) ∙ at.invariant.rows);
-      below = subst (λ n. AreBelow n rest) (sym (some-length xs (rows_as c.args.shown rest) at.rows.items c.place.new.rows.items c.place.ensures))
+      rows = some-put xs at.rows.items c.place.new.rows.items c.place.ensures (rows_as c.args.shown rest) _ (ap (λ us. placed (rows_as c.args.shown (map owned us)) at.rows.items) (sym is) ∙ at.invariant.rows);
+      below = still-below xs at.rows.items c.place.new.rows.items c.place.ensures rest
           (All-tail (λ (q : Owned). q.number < length at.rows.items) (owned unit) rest (subst (λ us. AreBelow (length at.rows.items) (map owned us)) is at.invariant.below));
       left = (let were = at.invariant.left in let gone = c.in-Some.ensures.steps.1 in let fewer = ap (λ us. length us) is in omega (arith, were, gone, fewer));
     }

@@ -26,8 +26,8 @@ loop-group-preserved c =
     record {
       next = tt;
       finite = tt;
-      rows = some-put xs (rows_in left) at.rows.items c.place_all.new.rows.items c.place_all.ensures _ (ap (λ gs. placed (rows_in gs) at.rows.items) (sym is) ∙ at.invariant.rows);
-      below = subst (λ n. All (λ (row : Row). row.1.number < n) (rows_in left)) (sym (some-length xs (rows_in left) at.rows.items c.place_all.new.rows.items c.place_all.ensures))
+      rows = some-put xs at.rows.items c.place_all.new.rows.items c.place_all.ensures (rows_in left) _ (ap (λ gs. placed (rows_in gs) at.rows.items) (sym is) ∙ at.invariant.rows);
+      below = subst (λ n. All (λ (row : Row). row.1.number < n) (rows_in left)) (sym (some-length xs at.rows.items c.place_all.new.rows.items c.place_all.ensures))
           (others-below (length at.rows.items) group.shown group.units.units (rows_in left) (subst (λ gs. All (λ (row : Row). row.1.number < length at.rows.items) (rows_in gs)) is at.invariant.below));
       left = (let were = at.invariant.left in let gone = c.in-Some.ensures.steps.1 in let fewer = ap (λ gs. length gs) is in omega (arith, were, gone, fewer));
     }

@@ -22,9 +22,9 @@ loop-parts-preserved c =
       next = tt;
       finite = tt;
       rows = ap (λ s. placed (rows_left s left) c.place_parts.new.rows.items) more
-          ∙ some-put xs (rows_left (suc at.s) left) at.rows.items c.place_parts.new.rows.items c.place_parts.ensures _ (ap (λ ps. placed (rows_left at.s ps) at.rows.items) (sym is) ∙ at.invariant.rows);
+          ∙ some-put xs at.rows.items c.place_parts.new.rows.items c.place_parts.ensures (rows_left (suc at.s) left) _ (ap (λ ps. placed (rows_left at.s ps) at.rows.items) (sym is) ∙ at.invariant.rows);
       fits = All-tail (LeavesWhatFits c.args.w.now) parts left (subst (All (LeavesWhatFits c.args.w.now)) is at.invariant.fits);
-      units = some-length xs (rows_left (suc at.s) left) at.rows.items c.place_parts.new.rows.items c.place_parts.ensures ∙ at.invariant.units;
+      units = some-length xs at.rows.items c.place_parts.new.rows.items c.place_parts.ensures ∙ at.invariant.units;
       many = (let were = at.invariant.many in let fewer = ap (λ ps. length ps) is in omega (arith, were, fewer));
       left = (let were = at.invariant.left in let gone = c.in-Some.ensures.steps.1 in let fewer = ap (λ ps. length ps) is in omega (arith, were, gone, fewer));
     }
