@@ -16,6 +16,7 @@ use Rattle.abt_commons.specs.Held.{ObjectsValue}
 use Rattle.abt_merge.specs.Logs.{AreLogs, log_of}
 use Rattle.abt_outcomes.specs.Values.{LooksAs}
 use Rattle.abt_report.specs.declared.pictures.Row.{Row}
+use Rattle.abt_report.specs.Pictures.{IsPictureOf, SaysWordsOf}
 use Rattle.abt_report.specs.Pictures as picture
 use Rattle.abt_simulation.specs.Journals.{MergesTo}
 use Rattle.abt_stream.specs.declared.stream.StreamParts.{StreamParts}
@@ -84,6 +85,19 @@ all-fit W streams rest left fits = all-from-among (LeavesWhatFits W) rest (λ pa
     | inr later ↦ among streams rest parts left.1 (λ s other at. fits (suc s) other at) later
   ]
 
+-- the picture shows the units of each run that led to these streams and objects
+pub lead-shows : (W : Parts) (n : ℕ) (streams : List StreamValue) (objects : ObjectsValue) (rest : List StreamParts) (rows : List Row) → IsValid W → AreStreams W n streams → HaveLeft streams rest → ShowsUnits W rest objects rows →
+    (Z : List OrderShape) (J : List Event) → OrdersStored W Z → LeadTo W Z J (moment_of W streams objects) → shown_units W (last_state W J) ≡ picture.units_of rows
+lead-shows W n streams objects rest rows valid are left shows Z J stored lead = shows Z (last_state W J) (lead-sound W Z valid stored J (moment_of W streams objects) lead) (record {
+  many = left-many streams rest left ∙ are.many;
+  left = λ s parts e. (
+      let at : (stream : StreamValue) × (slice_get streams s ≡ Some stream) × (units_left parts ≡ units_of stream.held) = left-at streams rest s parts left e in
+      at.2 ∙ ap units_of (sym (lead.stand.streams s (declared s at.0 at.1) ∙ ap (held_from _) at.1)));
+  held = lead.stand.sites;
+}) where
+  declared : (s : ℕ) (stream : StreamValue) → slice_get streams s ≡ Some stream → s < W.streams
+  declared s stream e = subst (λ k. s < k) are.many (slice_get_within streams s stream e)
+
 -- after a rotation without a step an only stream is at its stop
 stopped-at-stop : (W : Parts) (Z : List OrderShape) (n : ℕ) (m : Moment) (o : Outcome) → HaveStopped W Z n m o → IsAtStop W n m
 stopped-at-stop W Z n m o stopped alone = elim (stopped.turned.emptied refl 0 (omega arith)) [ inl emptied ↦ inl emptied.1 | inr spent ↦ inr spent ]
@@ -101,17 +115,9 @@ module _ (W : Parts) (Z : List OrderShape) (valid : IsValid W) (stored : OrdersS
     lead : LeadTo W Z J (moment_of W streams objects)
     lead = come-lead W Z valid stored n (moment_of W streams objects) come J come-merges
 
-    -- the picture shows their units
-    pub come-shows : (rest : List StreamParts) (rows : List Row) → HaveLeft streams rest → ShowsUnits W rest objects rows → shown_units W (last_state W J) ≡ picture.units_of rows
-    come-shows rest rows left shows = shows Z (last_state W J) (lead-sound W Z valid stored J (moment_of W streams objects) lead) (record {
-      many = left-many streams rest left ∙ are.many;
-      left = λ s parts e. (
-          let at : (stream : StreamValue) × (slice_get streams s ≡ Some stream) × (units_left parts ≡ units_of stream.held) = left-at streams rest s parts left e in
-          at.2 ∙ ap units_of (sym (lead.stand.streams s (declared s at.0 at.1) ∙ ap (held_from _) at.1)));
-      held = lead.stand.sites;
-    }) where
-      declared : (s : ℕ) (stream : StreamValue) → slice_get streams s ≡ Some stream → s < W.streams
-      declared s stream e = subst (λ k. s < k) are.many (slice_get_within streams s stream e)
+    -- the picture is of where it ends
+    pub come-picture : (rest : List StreamParts) (rows : List Row) → HaveLeft streams rest → ShowsUnits W rest objects rows → All (SaysWordsOf W) rows → IsPictureOf W J rows
+    come-picture rest rows left shows words = record { shown = lead-shows W n streams objects rest rows valid are left shows Z J stored lead; words = words }
 
 module _ (W : Parts) (Z : List OrderShape) (n : ℕ) (crew : CrewValue) (is : IsCrew W Z n crew) where
   come : HasCome W Z n (moment_in W crew)
@@ -133,6 +139,6 @@ module _ (W : Parts) (Z : List OrderShape) (n : ℕ) (crew : CrewValue) (is : Is
     pub crew-ran : (o : Outcome) → HaveStopped W Z n (moment_in W crew) o → HasRun W Z n J o
     crew-ran o stopped = crew-ended o (stopped-at-stop W Z n (moment_in W crew) o stopped) stopped.looks
 
-    -- the picture shows its units
-    pub crew-shows : (rest : List StreamParts) (rows : List Row) → HaveLeft crew.streams rest → ShowsUnits W rest crew.objects rows → shown_units W (last_state W J) ≡ picture.units_of rows
-    crew-shows = come-shows W Z is.valid is.stored n crew.streams crew.objects is.streams come J merged
+    -- the picture is of where it ends
+    pub crew-picture : (rest : List StreamParts) (rows : List Row) → HaveLeft crew.streams rest → ShowsUnits W rest crew.objects rows → All (SaysWordsOf W) rows → IsPictureOf W J rows
+    crew-picture = come-picture W Z is.valid is.stored n crew.streams crew.objects is.streams come J merged

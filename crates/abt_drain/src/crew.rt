@@ -1,15 +1,11 @@
 //! All streams of a workload, and the objects that they share.
 
 ghost use Rattle.std.specs.Prelude.{◌≡◌, ◌<◌, ◌≤◌, ◌^◌, ℕ, true, IfOk, List, OnOk, length};
-ghost use Rattle.std.specs.List.{All};
 ghost use Rattle.abt_machine.specs.declared.events.Outcome.{Outcome};
 ghost use Rattle.abt_machine.specs.declared.operations.OrderShape.{OrderShape};
 ghost use Rattle.abt_machine.specs.Rounds.{OrdersStored};
-ghost use Rattle.abt_machine.specs.Runs.{last_state};
-ghost use Rattle.abt_machine.specs.Texts.{shown_units};
 ghost use Rattle.abt_order.specs.Stored.{shapes_of};
-ghost use Rattle.abt_report.specs.Pictures.{SaysWordsOf};
-ghost use Rattle.abt_report.specs.Pictures as picture;
+ghost use Rattle.abt_report.specs.Pictures.{IsPictureOf};
 ghost use Rattle.abt_machine.specs.Outcomes.{steps_in};
 ghost use Rattle.abt_stream.specs.Streams.{FitsShapes, FitsStream};
 ghost use Rattle.abt_drain.specs.Crews.{HaveStopped, IsCrew, IsEnd, StaysAwake, TurnBy, TurnsBy, moment_in};
@@ -168,8 +164,7 @@ impl<'w> Crew<'w> {
     pub(crate) fn end(self, alloc: Global) -> Result<(Journal, Picture), Want>
         requires crew { (Z : List OrderShape) × IsCrew self.workload Z self.steps self }
         ensures run { IfOk result (λ ended. (Z : List OrderShape) (o : Outcome) → IsCrew self.entry.workload Z self.entry.steps self.entry → HaveStopped self.entry.workload Z self.entry.steps (moment_in self.entry.workload self.entry) o → HasRun self.entry.workload Z self.entry.steps ended.0 o) }
-        ensures shown { IfOk result (λ ended. shown_units self.entry.workload (last_state self.entry.workload ended.0) ≡ picture.units_of ended.1) }
-        ensures words { IfOk result (λ ended. All (SaysWordsOf self.entry.workload) ended.1) }
+        ensures picture { IfOk result (λ ended. IsPictureOf self.entry.workload ended.0 ended.1) }
     {
         let Crew {
             w,

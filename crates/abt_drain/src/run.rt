@@ -1,11 +1,8 @@
 //! A run on the caller's thread.
 
-ghost use Rattle.std.specs.Prelude.{◌≡◌, ◌≤◌, IfOk, length};
-ghost use Rattle.std.specs.List.{All};
-ghost use Rattle.abt_machine.specs.Runs.{last_state};
-ghost use Rattle.abt_machine.specs.Texts.{shown_units};
+ghost use Rattle.std.specs.Prelude.{◌≤◌, IfOk, length};
 ghost use Rattle.abt_order.specs.Stored.{shapes_of};
-ghost use Rattle.abt_report.specs.Pictures.{SaysWordsOf, units_of};
+ghost use Rattle.abt_report.specs.Pictures.{IsPictureOf};
 ghost use Rattle.abt_drain.specs.Runs.{HasRun};
 
 use crate::crew::Crew;
@@ -29,8 +26,7 @@ pub struct Run {
 pub fn drain(alloc: Global, w: &Workload, orders: &[StoredOrder], steps: u64) -> Result<Run, Want>
     requires orders { 2 ≤ length orders.now }
     ensures run { IfOk result (λ run. HasRun w.now (shapes_of orders.now) steps run.journal run.outcome) }
-    ensures shown { IfOk result (λ run. shown_units w.now (last_state w.now run.journal) ≡ units_of run.picture) }
-    ensures words { IfOk result (λ run. All (SaysWordsOf w.now) run.picture) }
+    ensures picture { IfOk result (λ run. IsPictureOf w.now run.journal run.picture) }
 {
     drain_at_pace(alloc, w, orders, &NoPace, steps)
 }
@@ -45,8 +41,7 @@ pub fn drain_at_pace<P: Pace>(
 ) -> Result<Run, Want>
     requires orders { 2 ≤ length orders.now }
     ensures run { IfOk result (λ run. HasRun w.now (shapes_of orders.now) steps run.journal run.outcome) }
-    ensures shown { IfOk result (λ run. shown_units w.now (last_state w.now run.journal) ≡ units_of run.picture) }
-    ensures words { IfOk result (λ run. All (SaysWordsOf w.now) run.picture) }
+    ensures picture { IfOk result (λ run. IsPictureOf w.now run.journal run.picture) }
 {
     let mut crew = Crew::new(alloc, w, orders, steps)?;
     let outcome = crew.run(orders, pace)?;

@@ -1,11 +1,9 @@
 //! The top call.
 
-ghost use Rattle.std.specs.Prelude.{◌≡◌, ◌≤◌, List, All, IfErr, IfOk, IfSome, length, map, string_bytes};
-ghost use Rattle.abt_machine.specs.Runs.{last_state};
-ghost use Rattle.abt_machine.specs.Texts.{shown_units};
+ghost use Rattle.std.specs.Prelude.{◌≡◌, ◌≤◌, List, IfErr, IfOk, IfSome, length, map, string_bytes};
 ghost use Rattle.abt_machine.specs.Words.{Text};
 ghost use Rattle.abt_order.specs.Stored.{shapes_of};
-ghost use Rattle.abt_report.specs.Pictures.{SaysWordsOf, units_of};
+ghost use Rattle.abt_report.specs.Pictures.{IsPictureOf};
 ghost use Rattle.abt_run.specs.Given.{given};
 ghost use Rattle.abt_shell.specs.Calls.{left};
 ghost use Rattle.abt_lives.specs.Call.{IsAnswered, Ran, Stops, output_text};
@@ -65,8 +63,7 @@ impl Prepared {
 
 // The output of a run: its report, and its waves.
 fn output(alloc: Global, w: &Workload, run: &LivesRun) -> Result<Vec<u8>, Want>
-    requires shown { shown_units w.now (last_state w.now run.now.journal) ≡ units_of run.now.picture }
-    requires words { All (SaysWordsOf w.now) run.now.picture }
+    requires picture { IsPictureOf w.now run.now.journal run.now.picture }
     ensures { IfOk result (λ text. text.items ≡ output_text w.now run.now.journal run.now.waves run.now.outcome) }
 {
     let mut text = Vec::new(alloc);

@@ -1,12 +1,12 @@
 //! The commands `run` and `self`.
 
-ghost use Rattle.std.specs.Prelude.{◌≡◌, ◌≤◌, ◌<◌, ◌++◌, ℕ, List, All, IfErr, IfOk, [], if◌then◌else◌, length};
+ghost use Rattle.std.specs.Prelude.{◌≡◌, ◌≤◌, ◌<◌, ℕ, List, IfErr, IfOk, [], if◌then◌else◌, length};
 ghost use Rattle.abt_machine.specs.Limits.{adder_limit};
 ghost use Rattle.abt_machine.specs.Runs.{last_state};
-ghost use Rattle.abt_machine.specs.Texts.{journal_text as text_of_journal, shown_units};
+ghost use Rattle.abt_machine.specs.Texts.{journal_text as text_of_journal};
 ghost use Rattle.abt_machine.specs.Words.{Text};
 ghost use Rattle.abt_order.specs.Stored.{shapes_of};
-ghost use Rattle.abt_report.specs.Pictures.{SaysWordsOf, units_of};
+ghost use Rattle.abt_report.specs.Pictures.{IsPictureOf};
 ghost use Rattle.abt_words.specs.Commands.{Says};
 ghost use Rattle.abt_words.specs.declared.commands.Command.TheVariants as command;
 ghost use Rattle.std.specs.Prelude.{Option};
@@ -108,8 +108,7 @@ fn asked_journal(alloc: Global, journal: &Journal, with_journal: bool) -> Result
 
 // The output of a run: its journal, if it is asked for, and its report.
 fn output(alloc: Global, w: &Workload, run: &Run, with_journal: bool) -> Result<Vec<u8>, Want>
-    requires shown { shown_units w.now (last_state w.now run.now.journal) ≡ units_of run.now.picture }
-    requires words { All (SaysWordsOf w.now) run.now.picture }
+    requires picture { IsPictureOf w.now run.now.journal run.now.picture }
     ensures { (file : Text) (steps : ℕ) → IfOk result (λ text. text.items ≡ output_text w.now (last_state w.now run.now.journal) run.now.journal run.now.outcome (command.Run file steps with_journal)) }
 {
     let mut text = asked_journal(alloc, &run.journal, with_journal)?;
@@ -120,8 +119,7 @@ fn output(alloc: Global, w: &Workload, run: &Run, with_journal: bool) -> Result<
 
 // The output of the run of a workload that is made of a number: its short report.
 fn short_output(alloc: Global, w: &Workload, run: &Run) -> Result<Vec<u8>, Want>
-    requires shown { shown_units w.now (last_state w.now run.now.journal) ≡ units_of run.now.picture }
-    requires words { All (SaysWordsOf w.now) run.now.picture }
+    requires picture { IsPictureOf w.now run.now.journal run.now.picture }
     requires unit { 0 < length w.now.units }
     ensures { (units : ℕ) → IfOk result (λ text. text.items ≡ output_text w.now (last_state w.now run.now.journal) run.now.journal run.now.outcome (command.SelfRun units)) }
 {

@@ -1,5 +1,5 @@
 -- A run on lives: its start, a wave more, and its end.
-use Rattle.std.proofs.Common.{◌≡◌, ◌≢◌, ℕ, ◌+◌, ◌<◌, ◌≤◌, ◌∙◌, Bool, List, [], ◌∷◌, ◌++◌, length, map, filter, slice_get, Some, Result, Ok, Err, refl, sym, ap, subst, arith}
+use Rattle.std.proofs.Common.{◌≡◌, ◌≢◌, ℕ, ◌+◌, ◌≤◌, ◌∙◌, Bool, List, [], ◌∷◌, ◌++◌, length, map, filter, slice_get, Some, Result, Ok, Err, refl, sym, ap, subst, arith}
 use Rattle.std.specs.Prelude.{Contains, IfOk}
 use Rattle.std.specs.List.{All, range_with_len}
 use Rattle.abt_machine.specs.declared.events.Event.{Event}
@@ -10,10 +10,7 @@ use Rattle.abt_machine.specs.Outcomes.{steps_in}
 use Rattle.abt_machine.specs.Rounds.{OrdersStored}
 use Rattle.abt_machine.specs.Runs.{last_state, state_after}
 use Rattle.abt_machine.specs.Start.{start}
-use Rattle.abt_machine.specs.Texts.{shown_units}
 use Rattle.abt_machine.specs.Valid.{IsValid}
-use Rattle.abt_machine.specs.Values.{part_of}
-use Rattle.abt_calls.specs.Holders.{units_of}
 use Rattle.abt_laws.proofs.LifeRuns.{runs-live}
 use Rattle.abt_laws.proofs.SoundRuns.{runs-are-sound}
 use Rattle.abt_merge.specs.Logs.{log_of}
@@ -21,21 +18,13 @@ use Rattle.abt_simulation.specs.Journals.{MergesTo}
 use Rattle.abt_commons.specs.Held.{ObjectsValue, object_at}
 use Rattle.abt_commons.specs.Placing.{ArePlaced}
 use Rattle.abt_outcomes.specs.Values.{HaveMade}
-use Rattle.abt_report.specs.declared.pictures.Row.{Row}
-use Rattle.abt_report.specs.Pictures as picture
-use Rattle.abt_stream.specs.declared.stream.StreamParts.{StreamParts}
 use Rattle.abt_stream.specs.Streams.{StreamValue}
-use Rattle.abt_drain.specs.Crews.{AreStarted, HaveLeft, moment_of}
-use Rattle.abt_drain.specs.Looks.{held_from, steps_made}
-use Rattle.abt_drain.specs.Moments.{LeadTo}
-use Rattle.abt_drain.specs.Pictures.{ShowsUnits, units_left}
-use Rattle.abt_drain.proofs.Closing.{left-at, left-many}
-use Rattle.abt_drain.proofs.Leading.{lead-sound}
+use Rattle.abt_drain.specs.Crews.{AreStarted, moment_of}
+use Rattle.abt_drain.specs.Looks.{steps_made}
 use Rattle.abt_drain.proofs.Started.{crew-started, is-start}
 use Rattle.abt_drain.proofs.Stopping.{made-same}
 use Rattle.abt_waves.specs.Fleets.{IsFleet, MakesWave}
 use Rattle.abt_waves.proofs.Fleets.{crew-is-fleet}
-use Rattle.std.proofs.lemmas.Option.{slice_get_within}
 use Rattle.abt_streams.specs.declared.life.Life.{Life}
 use Rattle.abt_streams.specs.declared.wave.Wave.{Wave}
 use Rattle.abt_streams.specs.Cutting.{behind, log_lengths}
@@ -128,16 +117,3 @@ module _ (W : Parts) (Z : List OrderShape) (n : ℕ) (lives : List Life) (object
     waves_are = under.waves_are;
     ended = ended;
   }
-
--- the picture shows the units of each run that led there
-pub fleet-shows : (W : Parts) (Z : List OrderShape) (n : ℕ) (objects : ObjectsValue) (streams : List StreamValue) → IsFleet W Z n objects streams → (rest : List StreamParts) (rows : List Row) → HaveLeft streams rest → ShowsUnits W rest objects rows →
-    (Y : List OrderShape) (J : List Event) → OrdersStored W Y → LeadTo W Y J (moment_of W streams objects) → shown_units W (last_state W J) ≡ picture.units_of rows
-fleet-shows W Z n objects streams fleet rest rows left shows Y J stored lead = shows Y (last_state W J) (lead-sound W Y fleet.valid stored J (moment_of W streams objects) lead) (record {
-  many = left-many streams rest left ∙ fleet.streams_are.many;
-  left = λ s parts e. (
-      let at : (stream : StreamValue) × (slice_get streams s ≡ Some stream) × (units_left parts ≡ units_of stream.held) = left-at streams rest s parts left e in
-      at.2 ∙ ap units_of (sym (lead.stand.streams s (declared s at.0 at.1) ∙ ap (held_from _) at.1)));
-  held = lead.stand.sites;
-}) where
-  declared : (s : ℕ) (stream : StreamValue) → slice_get streams s ≡ Some stream → s < W.streams
-  declared s stream e = subst (λ k. s < k) fleet.streams_are.many (slice_get_within streams s stream e)

@@ -1,11 +1,8 @@
 //! A run whose streams are started and ended by units.
 
-ghost use Rattle.std.specs.Prelude.{◌≡◌, ◌≤◌, IfOk, length};
-ghost use Rattle.std.specs.List.{All};
-ghost use Rattle.abt_machine.specs.Runs.{last_state};
-ghost use Rattle.abt_machine.specs.Texts.{shown_units};
+ghost use Rattle.std.specs.Prelude.{◌≤◌, IfOk, length};
 ghost use Rattle.abt_order.specs.Stored.{shapes_of};
-ghost use Rattle.abt_report.specs.Pictures.{SaysWordsOf, units_of};
+ghost use Rattle.abt_report.specs.Pictures.{IsPictureOf};
 ghost use Rattle.abt_streams.specs.Lives.{AreLives};
 ghost use Rattle.abt_streams.specs.Waves.{HasRunOn};
 
@@ -45,8 +42,7 @@ pub fn run_lives<'w, R: Threads + Wait + Sync, P: Pace + Sync>(
     requires orders { 2 ≤ length orders.now }
     requires lives { AreLives w.now lives.now }
     ensures run { IfOk result (λ run. HasRunOn w.now (shapes_of orders.now) steps lives.now run.journal run.waves run.outcome) }
-    ensures shown { IfOk result (λ run. shown_units w.now (last_state w.now run.journal) ≡ units_of run.picture) }
-    ensures words { IfOk result (λ run. All (SaysWordsOf w.now) run.picture) }
+    ensures picture { IfOk result (λ run. IsPictureOf w.now run.journal run.picture) }
 {
     let journey = start(alloc, w, orders, steps)?;
     let (journey, outcome) = go(alloc, rt, w, lives.items(), orders, pace, steps, journey)?;

@@ -1,16 +1,14 @@
 -- Fleets at the start, over a lock for each site, and at the end.
 use Rattle.std.proofs.Common.{◌≡◌, ℕ, ◌≤◌, inl, Bool, List, Some, Result, Ok, Err, refl, sym, subst, arith}
-use Rattle.std.specs.Prelude.{IfOk}
+use Rattle.std.specs.Prelude.{All, IfOk}
 use Rattle.abt_machine.specs.declared.events.Event.{Event}
 use Rattle.abt_machine.specs.declared.events.Outcome.{Outcome}
 use Rattle.abt_machine.specs.declared.events.Site.{Site}
 use Rattle.abt_machine.specs.declared.operations.OrderShape.{OrderShape}
 use Rattle.abt_machine.specs.declared.workload.Parts.{Parts}
 use Rattle.abt_machine.specs.Rounds.{OrdersStored}
-use Rattle.abt_machine.specs.Runs.{last_state}
 use Rattle.abt_machine.specs.Stamps.{Lamport}
 use Rattle.abt_machine.specs.Start.{start}
-use Rattle.abt_machine.specs.Texts.{shown_units}
 use Rattle.abt_machine.specs.Valid.{IsValid}
 use Rattle.abt_machine.specs.Values.{object_of, part_of}
 use Rattle.abt_interleave.specs.Ticking.{IsClock}
@@ -22,7 +20,7 @@ use Rattle.abt_commons.specs.Splits.{own_lock}
 use Rattle.abt_merge.specs.Logs.{AreLogs, log_of}
 use Rattle.abt_outcomes.specs.Values.{LooksAs}
 use Rattle.abt_report.specs.declared.pictures.Row.{Row}
-use Rattle.abt_report.specs.Pictures as picture
+use Rattle.abt_report.specs.Pictures.{IsPictureOf, SaysWordsOf}
 use Rattle.abt_simulation.specs.Journals.{MergesTo}
 use Rattle.abt_stream.specs.declared.stream.StreamParts.{StreamParts}
 use Rattle.abt_stream.specs.Streams.{StreamValue}
@@ -31,7 +29,7 @@ use Rattle.abt_drain.specs.Looks.{EndedWith}
 use Rattle.abt_drain.specs.Moments.{made_at}
 use Rattle.abt_drain.specs.Pictures.{ShowsUnits}
 use Rattle.abt_drain.specs.Runs.{HasRun, IsRunOf}
-use Rattle.abt_drain.proofs.Closing.{come-logs, come-merges, come-shows}
+use Rattle.abt_drain.proofs.Closing.{come-logs, come-merges, come-picture}
 use Rattle.abt_drain.proofs.Coming.{come-ran}
 use Rattle.abt_drain.proofs.Journals.{come-lamport, has-come}
 use Rattle.abt_drain.proofs.Started.{are-streams, is-start}
@@ -175,6 +173,6 @@ module _ {Lock : Type 0} (lock : Site → Lock) (clock : ObjectsValue → Lock �
       pub fleet-lamport : TellsSites lock → Lamport W J
       fleet-lamport apart = come-lamport W Z is.fleet_is.valid is.fleet_is.stored n (moment_of W fleet.streams fleet.objects) is.fleet_is.come (is.fleet_is.have.timed apart) J merges
 
-      -- the picture shows its units
-      pub fleet-shows : (rest : List StreamParts) (rows : List Row) → HaveLeft fleet.streams rest → ShowsUnits W rest fleet.objects rows → shown_units W (last_state W J) ≡ picture.units_of rows
-      fleet-shows = come-shows W Z is.fleet_is.valid is.fleet_is.stored n fleet.streams fleet.objects is.fleet_is.streams_are is.fleet_is.come J merged
+      -- the picture is of where it ends
+      pub fleet-picture : (rest : List StreamParts) (rows : List Row) → HaveLeft fleet.streams rest → ShowsUnits W rest fleet.objects rows → All (SaysWordsOf W) rows → IsPictureOf W J rows
+      fleet-picture = come-picture W Z is.fleet_is.valid is.fleet_is.stored n fleet.streams fleet.objects is.fleet_is.streams_are is.fleet_is.come J merged

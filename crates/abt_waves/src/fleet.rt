@@ -1,14 +1,10 @@
 //! All streams of a workload, and the objects that they share, between waves.
 
 ghost use Rattle.std.specs.Prelude.{◌≡◌, ◌≤◌, IfOk, List, length};
-ghost use Rattle.std.specs.List.{All};
 ghost use Rattle.abt_machine.specs.declared.events.Outcome.{Outcome};
 ghost use Rattle.abt_machine.specs.declared.operations.OrderShape.{OrderShape};
-ghost use Rattle.abt_machine.specs.Runs.{last_state};
 ghost use Rattle.abt_machine.specs.Stamps.{Lamport};
-ghost use Rattle.abt_machine.specs.Texts.{shown_units};
-ghost use Rattle.abt_report.specs.Pictures.{SaysWordsOf};
-ghost use Rattle.abt_report.specs.Pictures as picture;
+ghost use Rattle.abt_report.specs.Pictures.{IsPictureOf};
 ghost use Rattle.abt_drain.specs.Looks.{AreStreams, EndedWith};
 ghost use Rattle.abt_drain.specs.Runs.{IsRunOf};
 ghost use Rattle.abt_waves.specs.Locks.{TellsSites};
@@ -140,8 +136,7 @@ impl<'w> Fleet<'w> {
         requires fleet { (Z : List OrderShape) × IsFleetOf L.lock L.clock self.workload Z self.steps self }
         ensures run { IfOk result (λ ended. (Z : List OrderShape) (o : Outcome) → HasEnded L.lock L.clock self.entry.workload Z self.entry.steps self.entry o → IsRunOf self.entry.workload Z self.entry.steps ended.0 o) }
         ensures lamport { IfOk result (λ ended. TellsSites L.lock → Lamport self.entry.workload ended.0) }
-        ensures shown { IfOk result (λ ended. shown_units self.entry.workload (last_state self.entry.workload ended.0) ≡ picture.units_of ended.1) }
-        ensures words { IfOk result (λ ended. All (SaysWordsOf self.entry.workload) ended.1) }
+        ensures picture { IfOk result (λ ended. IsPictureOf self.entry.workload ended.0 ended.1) }
     {
         let Fleet {
             w,

@@ -1,12 +1,9 @@
 //! A run on threads.
 
-ghost use Rattle.std.specs.Prelude.{◌≡◌, ◌≤◌, IfOk, length};
-ghost use Rattle.std.specs.List.{All};
-ghost use Rattle.abt_machine.specs.Runs.{last_state};
+ghost use Rattle.std.specs.Prelude.{◌≤◌, IfOk, length};
 ghost use Rattle.abt_machine.specs.Stamps.{Lamport};
-ghost use Rattle.abt_machine.specs.Texts.{shown_units};
 ghost use Rattle.abt_order.specs.Stored.{shapes_of};
-ghost use Rattle.abt_report.specs.Pictures.{SaysWordsOf, units_of};
+ghost use Rattle.abt_report.specs.Pictures.{IsPictureOf};
 ghost use Rattle.abt_drain.specs.Runs.{HasRun, IsRunOf};
 ghost use Rattle.abt_waves.specs.Locks.{TellsSites};
 
@@ -36,8 +33,7 @@ pub fn run_streams<'w, R: Threads + Wait + Sync, P: Pace + Sync>(
 ) -> Result<Run, Want>
     requires orders { 2 ≤ length orders.now }
     ensures run { IfOk result (λ run. HasRun w.now (shapes_of orders.now) steps run.journal run.outcome) }
-    ensures shown { IfOk result (λ run. shown_units w.now (last_state w.now run.journal) ≡ units_of run.picture) }
-    ensures words { IfOk result (λ run. All (SaysWordsOf w.now) run.picture) }
+    ensures picture { IfOk result (λ run. IsPictureOf w.now run.journal run.picture) }
 {
     if w.streams() == 1 {
         return drain_at_pace(alloc, w, orders, pace, steps);
@@ -64,8 +60,7 @@ pub fn run_over<
     requires orders { 2 ≤ length (O.shapes orders.now) }
     ensures run { IfOk result (λ run. IsRunOf w.now (O.shapes orders.now) steps run.journal run.outcome) }
     ensures lamport { IfOk result (λ run. TellsSites L.lock → Lamport w.now run.journal) }
-    ensures shown { IfOk result (λ run. shown_units w.now (last_state w.now run.journal) ≡ units_of run.picture) }
-    ensures words { IfOk result (λ run. All (SaysWordsOf w.now) run.picture) }
+    ensures picture { IfOk result (λ run. IsPictureOf w.now run.journal run.picture) }
 {
     let fleet = Fleet::new::<R, O, L>(alloc, w, orders, steps)?;
     let (fleet, outcome) = fleet.run::<R, P, O, X, L>(alloc, rt, orders, pace)?;

@@ -13,7 +13,7 @@ use Rattle.abt_machine.specs.Lives.{count_up}
 use Rattle.abt_machine.specs.Runs.{last_state}
 use Rattle.abt_machine.specs.State.{State}
 use Rattle.abt_machine.specs.Texts.{ShownUnit, shown_units}
-use Rattle.abt_report.specs.Pictures.{unit_of, units_of}
+use Rattle.abt_report.specs.Pictures.{IsPictureOf, unit_of, units_of}
 use Rattle.abt_report.specs.declared.pictures.Row.{Row}
 use Rattle.abt_drain.specs.Runs.{HasRun}
 use Rattle.abt_flow.specs.Confluent.{Confluent}
@@ -65,12 +65,12 @@ rows-more rows i row numbers next n lt is out before push =
 -- Runs.
 
 module _ (nodes : List Node) (W : Parts) (is : W ≡ mesh nodes) (Z : List OrderShape) (J : List Event) (o : Outcome) (run : HasRun W Z step_count J o) where
-  module _ (finished : o ≡ outcome.Finished) (rows : List Row) (shown : shown_units W (last_state W J) ≡ units_of rows) where
+  module _ (finished : o ≡ outcome.Finished) (rows : List Row) (pictured : IsPictureOf W J rows) where
     -- a finished run shows the flow
     flow-shown : IsFlow (mesh nodes) (map output_of rows)
     flow-shown =
         let flow : IsFlow W (outputs W (last_state W J)) = run.flow finished (subst Confluent (sym is) (Confluent-mesh nodes)) in
-        subst (λ V. IsFlow V (map output_of rows)) is (subst (IsFlow W) (outputs-shown W (last_state W J) rows shown) flow)
+        subst (λ V. IsFlow V (map output_of rows)) is (subst (IsFlow W) (outputs-shown W (last_state W J) rows pictured.shown) flow)
 
     pub shown-each : All IsNumber rows
     shown-each = rows-each rows (map number_in (map output_of rows)) (rows-are-ones nodes (map output_of rows) flow-shown)

@@ -1,9 +1,6 @@
 //! One lock round all objects, as the streams of a wave share it.
 
-ghost use Rattle.std.specs.Prelude.{◌≡◌, ◌≤◌, IfOk, length};
-ghost use Rattle.std.specs.List.{All};
-ghost use Rattle.abt_machine.specs.Runs.{last_state};
-ghost use Rattle.abt_machine.specs.Texts.{shown_units};
+ghost use Rattle.std.specs.Prelude.{◌≤◌, IfOk, length};
 ghost use Rattle.abt_machine.specs.Valid.{IsValid};
 ghost use Rattle.abt_booth.specs.Seats.{IsSeatOf, number_of, opening_of, seats_of};
 ghost use Rattle.abt_commons.specs.AllPasses.{AreAll};
@@ -11,7 +8,7 @@ ghost use Rattle.abt_commons.specs.Halls.{the_lock};
 ghost use Rattle.abt_order.specs.Stored.{shapes_of};
 ghost use Rattle.abt_waves.specs.Locks.{AreClosed};
 ghost use Rattle.hall_waves.specs.HallLocks.{clock_of_hall, locks_of_hall};
-ghost use Rattle.abt_report.specs.Pictures.{SaysWordsOf, units_of};
+ghost use Rattle.abt_report.specs.Pictures.{IsPictureOf};
 ghost use Rattle.abt_drain.specs.Runs.{IsRunOf};
 
 use abt_commons::{Commons, Hall, HallPass, Objects};
@@ -105,8 +102,7 @@ pub fn run_in_hall<'w, R: Threads + Wait + Sync, P: Pace + Sync>(
 ) -> Result<Run, Want>
     requires orders { 2 ≤ length orders.now }
     ensures run { IfOk result (λ run. IsRunOf w.now (shapes_of orders.now) steps run.journal run.outcome) }
-    ensures shown { IfOk result (λ run. shown_units w.now (last_state w.now run.journal) ≡ units_of run.picture) }
-    ensures words { IfOk result (λ run. All (SaysWordsOf w.now) run.picture) }
+    ensures picture { IfOk result (λ run. IsPictureOf w.now run.journal run.picture) }
 {
     run_over::<R, P, StoredOrders<'_>, HallPass<'w>, OneLock<'w, R>>(
         alloc,

@@ -1,7 +1,7 @@
 -- What streams and objects leave is shown.
 use Rattle.std.proofs.Common.{◌∙◌}
-use Rattle.abt_drain.proofs.Closing.{all-fit, left-many}
-use Rattle.abt_streams.proofs.Journeys.{fleet-shows, if-ok}
+use Rattle.abt_drain.proofs.Closing.{all-fit, lead-shows, left-many}
+use Rattle.abt_streams.proofs.Journeys.{if-ok}
 use Rattle.abt_streams.proofs.journey.picture_of.Goals as goal
 
 pub picture-requires-clause-streams : goal.picture-requires-clause-streams
@@ -13,5 +13,5 @@ picture-requires-clause-fits c =
 
 pub returns-clause-shown : goal.returns-clause-shown
 returns-clause-shown c =
-    if-ok c.picture.result _ _ (λ rows shows. fleet-shows c.args.w.now c.requires.under_way.0 c.requires.under_way.1 c.args.objects c.args.streams.items c.requires.under_way.2 c.in_ok-rest.rest.items rows c.in_ok-rest.ensures.parts shows)
+    if-ok c.picture.result _ _ (λ rows shows. lead-shows c.args.w.now c.requires.under_way.1 c.args.streams.items c.args.objects c.in_ok-rest.rest.items rows c.requires.under_way.2.valid c.requires.under_way.2.streams_are c.in_ok-rest.ensures.parts shows)
     c.picture.ensures.units

@@ -1,7 +1,7 @@
 -- The whole run.
 use Rattle.std.proofs.Common.{subst, sym}
 use Rattle.abt_order.specs.Stored.{shapes_of}
-use Rattle.abt_streams.specs.Runs.{HasLedTo}
+use Rattle.abt_report.specs.Pictures.{IsPictureOf}
 use Rattle.abt_streams.specs.Waves.{HasRunOn}
 use Rattle.abt_streams.proofs.Journeys.{has-run-on}
 use Rattle.abt_streams.proofs.run.run_lives.Goals as goal
@@ -19,3 +19,10 @@ returns-clause-run g c =
     subst (λ lives. HasRunOn W Z c.args.steps lives c.new.result c.new-2.result c.in_ok-journey-2.outcome) c.items.ensures
     (subst (λ J. HasRunOn W Z c.args.steps c.items.result.now J c.new-2.result c.in_ok-journey-2.outcome) (sym c.new.ensures)
     (subst (λ waves. HasRunOn W Z c.args.steps c.items.result.now j.journal.items waves c.in_ok-journey-2.outcome) (sym c.new-2.ensures) run))
+
+pub returns-clause-picture : goal.returns-clause-picture
+returns-clause-picture g c =
+    let j = c.in_ok-journey-2.journey in
+    let under = c.in_ok-journey-2.ensures.under_way in
+    subst (λ J. IsPictureOf c.args.w.now J c.in_ok-picture.picture) (sym c.new.ensures)
+    (record { shown = c.in_ok-picture.ensures.shown (shapes_of c.args.orders.now) j.journal.items under.fleet.stored under.lead; words = c.in_ok-picture.ensures.words })

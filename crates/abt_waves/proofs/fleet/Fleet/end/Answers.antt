@@ -1,12 +1,14 @@
 -- What a fleet leaves.
 use Rattle.std.proofs.Common.{◌≡◌, length, sym, ◌∙◌, ap, subst}
+use Rattle.std.specs.List.{All}
 use Rattle.abt_merge.specs.Logs.{AreLogs, log_of}
+use Rattle.abt_report.specs.Pictures.{SaysWordsOf}
 use Rattle.abt_simulation.specs.Journals.{MergesTo}
 use Rattle.abt_drain.specs.Crews.{CrewValue, HaveLeft, logs_in}
 use Rattle.abt_drain.specs.Pictures.{ShowsUnits}
 use Rattle.abt_drain.proofs.Closing.{all-fit, left-many}
 use Rattle.abt_waves.specs.Waves.{IsFleetOf}
-use Rattle.abt_waves.proofs.Fleets.{fleet-lamport, fleet-logs, fleet-ran, fleet-shows, fleet_of}
+use Rattle.abt_waves.proofs.Fleets.{fleet-lamport, fleet-logs, fleet-picture, fleet-ran, fleet_of}
 use Rattle.abt_waves.proofs.fleet.Fleet.end.Goals as goal
 
 pub merge-requires : goal.merge-requires
@@ -37,11 +39,12 @@ returns-clause-lamport g c =
     λ apart. fleet-lamport g.L.Locked.lock g.L.Locked.clock c.args.self.workload c.requires.fleet.0 c.args.self.steps c.args.self c.requires.fleet.1 c.in_ok-journal.journal
     (subst (λ logs. MergesTo (log_of logs) c.in_ok-journal.journal) same c.in_ok-journal.ensures.merged) apart
 
-pub returns-clause-shown : goal.returns-clause-shown
-returns-clause-shown g c =
+pub returns-clause-picture : goal.returns-clause-picture
+returns-clause-picture g c =
     let same : c.in_ok-logs.logs.items ≡ logs_in c.args.self.streams = c.in_ok-logs.ensures.logs ∙ ap (λ (v : CrewValue). logs_in v.streams) c.self.view_is in
-    fleet-shows g.L.Locked.lock g.L.Locked.clock c.args.self.workload c.requires.fleet.0 c.args.self.steps c.args.self c.requires.fleet.1 c.in_ok-journal.journal
+    fleet-picture g.L.Locked.lock g.L.Locked.clock c.args.self.workload c.requires.fleet.0 c.args.self.steps c.args.self c.requires.fleet.1 c.in_ok-journal.journal
     (subst (λ logs. MergesTo (log_of logs) c.in_ok-journal.journal) same c.in_ok-journal.ensures.merged)
     c.in_ok-logs.rest.items c.in_ok-picture.picture
     (subst (λ (v : CrewValue). HaveLeft v.streams c.in_ok-logs.rest.items) c.self.view_is c.in_ok-logs.ensures.parts)
     (subst (λ (v : CrewValue). ShowsUnits v.workload c.in_ok-logs.rest.items v.objects c.in_ok-picture.picture) c.self.view_is c.in_ok-picture.ensures.units)
+    (subst (λ (v : CrewValue). All (SaysWordsOf v.workload) c.in_ok-picture.picture) c.self.view_is c.in_ok-picture.ensures.words)
