@@ -1,6 +1,6 @@
 //! Worked rows of the lines that format 2 has besides, and of them in format 1.
 
-use crate::rows::{ONE_POOL, RUN, Row};
+use crate::rows::ONE_POOL;
 
 pub(crate) const ONE_POOL_OF_TWO: &str =
     "abt 2\nstreams 1\npool 0 fifo mpmc\nsched 0 prio 0\nstream 0 main 0\n";
@@ -8,8 +8,8 @@ pub(crate) const ONE_POOL_OF_TWO: &str =
 const TWO_SCHEDS_OF_TWO: &str =
     "abt 2\nstreams 1\npool 0 fifo mpmc\nsched 0 prio 0\nsched 1 prio 0\nstream 0 main 0\n";
 
-// The lines of texts that finish, below the head of one pool in format 2, and their reports.
-static FINISHED: [(&[u8], &str); 4] = [
+/// The lines of texts that finish, below the head of one pool in format 2, and their reports.
+pub(crate) static FINISHED: [(&[u8], &str); 4] = [
     // repeat
     (
         b"units 1\nunit 0 ult at 0\nrepeat 3 add 2\nprint\nend\n",
@@ -32,8 +32,8 @@ static FINISHED: [(&[u8], &str); 4] = [
     ),
 ];
 
-// Heads and lines of texts that are refused, and their messages.
-static REFUSED: [(&str, &[u8], &str); 15] = [
+/// Heads and lines of texts that are refused, and their messages.
+pub(crate) static REFUSED: [(&str, &[u8], &str); 15] = [
     // repeat in format 1
     (
         ONE_POOL,
@@ -117,31 +117,3 @@ static REFUSED: [(&str, &[u8], &str); 15] = [
         "abtrun: line 8: task-blocks\n",
     ),
 ];
-
-/// The row of a text with this head and these lines.
-pub(crate) fn row(
-    head: &'static str,
-    lines: &'static [u8],
-    status: u8,
-    out: &'static str,
-    err: &'static str,
-) -> Row {
-    Row {
-        head,
-        lines,
-        status,
-        out,
-        err,
-        ..RUN
-    }
-}
-
-/// The lines of texts that finish, below the head of one pool in format 2, and their reports.
-pub(crate) fn finished() -> &'static [(&'static [u8], &'static str)] {
-    &FINISHED
-}
-
-/// Heads and lines of texts that are refused, and their messages.
-pub(crate) fn refused() -> &'static [(&'static str, &'static [u8], &'static str)] {
-    &REFUSED
-}

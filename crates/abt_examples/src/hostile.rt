@@ -1,7 +1,9 @@
 //! Files and outputs that fail at each of their calls in turn, and a text that is cut or spoilt at each of its bytes in turn.
 
-use crate::calls::{Failing, Left, call};
-use std::alloc::Global;
+use crate::calls::{check, check_all};
+use crate::rows::{Failing, NONE, RUN, Row};
+use std::alloc::{AllocError, Global};
+use std::process::Abort;
 use std::sync::Wait;
 use std::test::Fail;
 use std::thread::Threads;
@@ -15,94 +17,149 @@ const REPORT: &str =
 
 const JOURNAL: &str = "1 0 take 0 0\n2 0 look 0\n3 0 step 0 0 ok\n4 0 end 0 done\n5 0 miss 0\n";
 
-// The calls of the files that read the text: one begins, one reads it, and one finds its end.
-const CALLS: u64 = 3;
+// Its run, of whose report a write takes one byte.
+const HI_RUN: Row<'static> = Row {
+    head: "",
+    lines: HI,
+    most: 1,
+    out: REPORT,
+    ..RUN
+};
 
 // The bytes of the report, each of which takes a write.
-const WRITES: u64 = 106;
+const WRITES: usize = 106;
 
-// What a call over this text leaves, if a write of the output takes one byte.
-fn run<R: Threads + Wait + Sync>(
-    rt: &R,
-    alloc: Global,
-    text: &[u8],
-    failing: Failing,
-) -> Result<Left, Fail> {
-    call(rt, alloc, &["run", "f"], text, 1, failing)
-}
+// A call of the files fails.
+const NOT_READ: Row<'static> = Row {
+    status: 5,
+    out: "",
+    err: "abtrun: cannot read\n",
+    journal: Some(""),
+    ..HI_RUN
+};
 
-// Each call of the files fails in turn.
+// Each call of the files fails in turn: one begins, one reads the text, and one finds its end. A fourth one and a write behind
+// those of the report are not made. The last row is that of a message's first write.
+static ROWS: [Row<'static>; 6] = [
+    Row {
+        failing: Failing { files: 0, ..NONE },
+        ..NOT_READ
+    },
+    Row {
+        failing: Failing { files: 1, ..NONE },
+        ..NOT_READ
+    },
+    Row {
+        failing: Failing { files: 2, ..NONE },
+        ..NOT_READ
+    },
+    Row {
+        failing: Failing { files: 3, ..NONE },
+        ..HI_RUN
+    },
+    Row {
+        failing: Failing {
+            out: WRITES as u64,
+            ..NONE
+        },
+        ..HI_RUN
+    },
+    Row {
+        words: "walk",
+        failing: Failing { err: 0, ..NONE },
+        status: 2,
+        out: "",
+        ..HI_RUN
+    },
+];
+
 #[test]
-fn each_read_may_fail(rt: HostRuntime) -> Result<(), Fail> {
-    let alloc = rt.alloc();
-    for number in 0..CALLS {
-        let left = run(&rt, alloc, HI, Failing::files(number))?;
-        assert!(rt; left.is(5, "", "abtrun: cannot read\n"), "call {number}");
-        assert!(rt; left.journal.is_empty(), "call {number}");
-    }
-    let left = run(&rt, alloc, HI, Failing::files(CALLS))?;
-    assert!(rt; left.is(0, REPORT, ""));
-    Ok(())
+fn a_read_and_a_message_may_fail(rt: HostRuntime) -> Result<(), Fail> {
+    check_all(&rt, rt.alloc(), &ROWS)
 }
 
 // Each write to the output fails in turn.
 #[test]
 fn each_write_may_fail(rt: HostRuntime) -> Result<(), Fail> {
-    let alloc = rt.alloc();
     for number in 0..WRITES {
-        let left = run(&rt, alloc, HI, Failing::out(number))?;
-        assert!(rt; left.status == 6, "write {number}");
-        assert!(rt; left.out.len() as u64 == number, "write {number}");
-        assert!(rt; REPORT.as_bytes().starts_with(&left.out), "write {number}");
-        assert!(rt;
-            left.err.as_slice() == b"abtrun: cannot write\n".as_slice(),
-            "write {number}"
-        );
-        assert!(rt;
-            left.journal.as_slice() == JOURNAL.as_bytes(),
-            "write {number}"
-        );
+        let row = Row {
+            failing: Failing {
+                out: number as u64,
+                ..NONE
+            },
+            status: 6,
+            out: REPORT.get(..number).unwrap_or("no such byte"),
+            err: "abtrun: cannot write\n",
+            journal: Some(JOURNAL),
+            ..HI_RUN
+        };
+        check(&rt, rt.alloc(), &row)?;
     }
-    let left = run(&rt, alloc, HI, Failing::out(WRITES))?;
-    assert!(rt; left.is(0, REPORT, ""));
-    let left = call(&rt, alloc, &["walk"], HI, 1, Failing::err(0))?;
-    assert!(rt; left.is(2, "", ""));
     Ok(())
 }
 
 // The text is cut at each byte in turn. It may lack its last line feed, and no more.
 #[test]
 fn a_text_may_be_cut_at_each_byte(rt: HostRuntime) -> Result<(), Fail> {
-    let alloc = rt.alloc();
     let enough = HI.len().saturating_sub(1);
     for length in 0..HI.len() {
-        let mut text = Vec::from_slice(alloc, HI)?;
-        text.truncate(length);
-        let left = run(&rt, alloc, &text, Failing::none())?;
-        let status = if length < enough { 3 } else { 0 };
-        assert!(rt; left.status == status, "{length} bytes");
+        let (status, out) = if length < enough {
+            (3, "")
+        } else {
+            (0, REPORT)
+        };
+        let row = Row {
+            lines: &HI[..length],
+            status,
+            out,
+            has_err: false,
+            ..HI_RUN
+        };
+        check(&rt, rt.alloc(), &row)?;
     }
     Ok(())
 }
 
 // The text with one byte that begins no character, in the place of the byte there.
-fn spoilt(alloc: Global, place: usize) -> Result<Vec<u8>, Fail> {
-    let mut text = Vec::new(alloc);
-    for (at, byte) in HI.iter().enumerate() {
-        text.push(if at == place { 255 } else { *byte })?;
+fn spoilt(alloc: Global, place: usize) -> Result<Vec<u8>, AllocError> {
+    let mut text = Vec::from_slice(alloc, HI)?;
+    if let Some(byte) = text.get_mut(place) {
+        *byte = 255;
     }
     Ok(text)
+}
+
+// A text with such a byte is refused.
+static NOT_UTF8: Row<'static> = Row {
+    status: 3,
+    out: "",
+    ..HI_RUN
+};
+
+// It is, with the byte in this place and this line.
+fn check_spoilt<R: Threads + Wait + Sync + Abort>(
+    rt: &R,
+    alloc: Global,
+    place: usize,
+    line: u32,
+    row: &Row,
+) -> Result<(), Fail> {
+    let text = spoilt(alloc, place)?;
+    let message = format!(in alloc; "abtrun: line {line}: utf8\n")?;
+    let row = Row {
+        lines: text.as_slice(),
+        err: message.as_str(),
+        ..*row
+    };
+    check(rt, alloc, &row)
 }
 
 // Each byte is spoilt in turn: its line is not UTF-8. That of a line feed is the one that it ends.
 #[test]
 fn each_byte_may_be_spoilt(rt: HostRuntime) -> Result<(), Fail> {
-    let alloc = rt.alloc();
     let mut line: u32 = 1;
     for (at, byte) in HI.iter().enumerate() {
-        let left = run(&rt, alloc, &spoilt(alloc, at)?, Failing::none())?;
-        let message = format!(in alloc; "abtrun: line {line}: utf8\n")?;
-        assert!(rt; left.is(3, "", message.as_str()), "byte {at}");
+        check_spoilt(&rt, rt.alloc(), at, line, &NOT_UTF8)?;
         if *byte == b'\n' {
             line = line.saturating_add(1);
         }

@@ -1,22 +1,17 @@
 //! Worked rows of what is refused: words, files, texts and an output.
 
-use crate::rows::{ONE_POOL, RUN, Row};
+use crate::rows::{Failing, NONE, ONE_POOL, RUN, Row};
 
 /// The words of a call that is refused, the head and the lines of its file, its status and its message.
-pub(crate) type Refusal = (
-    &'static [&'static str],
-    &'static str,
-    &'static [u8],
-    u8,
-    &'static str,
-);
+pub(crate) type Refusal = (&'static str, &'static str, &'static [u8], u8, &'static str);
 
 const BAD_WORDS: &str = "abtrun: bad command line\n";
 
-static REFUSALS: [Refusal; 20] = [
+/// Words, files and texts that are refused.
+pub(crate) static REFUSALS: [Refusal; 20] = [
     // task yields
     (
-        &["run", "f"],
+        "run f",
         ONE_POOL,
         b"units 1\nunit 0 task at 0\nyield\nend\n",
         3,
@@ -24,7 +19,7 @@ static REFUSALS: [Refusal; 20] = [
     ),
     // task exits
     (
-        &["run", "f"],
+        "run f",
         ONE_POOL,
         b"units 1\nunit 0 task at 0\nexit\nend\n",
         3,
@@ -32,7 +27,7 @@ static REFUSALS: [Refusal; 20] = [
     ),
     // too great
     (
-        &["run", "f"],
+        "run f",
         ONE_POOL,
         b"units 1\nunit 0 ult at 0\nset 18446744073709551616\nadd 1\nprint\nend\n",
         3,
@@ -40,7 +35,7 @@ static REFUSALS: [Refusal; 20] = [
     ),
     // no end
     (
-        &["run", "f"],
+        "run f",
         ONE_POOL,
         b"units 1\nunit 0 ult at 0\nsay hi\n",
         3,
@@ -48,7 +43,7 @@ static REFUSALS: [Refusal; 20] = [
     ),
     // carriage return
     (
-        &["run", "f"],
+        "run f",
         "",
         b"abt 1\nstreams 1\r\npool 0 fifo mpmc\nsched 0 prio 0\nstream 0 main 0\nunits 1\nunit 0 ult at 0\nsay hi\nend\n",
         3,
@@ -56,31 +51,31 @@ static REFUSALS: [Refusal; 20] = [
     ),
     // not utf8
     (
-        &["run", "f"],
+        "run f",
         ONE_POOL,
         b"units 1\nunit 0 ult at 0\nsay \xff\nend\n",
         3,
         "abtrun: line 8: utf8\n",
     ),
     // bad words
-    (&["walk"], "", b"", 2, BAD_WORDS),
+    ("walk", "", b"", 2, BAD_WORDS),
     // bad words
-    (&["run"], "", b"", 2, BAD_WORDS),
+    ("run", "", b"", 2, BAD_WORDS),
     // bad words
-    (&["run", "f", "--steps", "0"], "", b"", 2, BAD_WORDS),
+    ("run f --steps 0", "", b"", 2, BAD_WORDS),
     // bad words
-    (&["run", "f", "--steps", "100001"], "", b"", 2, BAD_WORDS),
+    ("run f --steps 100001", "", b"", 2, BAD_WORDS),
     // bad words
-    (&["run", "f", "g"], "", b"", 2, BAD_WORDS),
+    ("run f g", "", b"", 2, BAD_WORDS),
     // bad words
-    (&["self", "127"], "", b"", 2, BAD_WORDS),
+    ("self 127", "", b"", 2, BAD_WORDS),
     // bad words
-    (&["self"], "", b"", 2, BAD_WORDS),
+    ("self", "", b"", 2, BAD_WORDS),
     // no such file
-    (&["run", "none"], "", b"", 5, "abtrun: cannot read\n"),
+    ("run none", "", b"", 5, "abtrun: cannot read\n"),
     // nine streams
     (
-        &["run", "f"],
+        "run f",
         "",
         b"abt 1\nstreams 9\nend\n",
         3,
@@ -88,7 +83,7 @@ static REFUSALS: [Refusal; 20] = [
     ),
     // ten pools
     (
-        &["run", "f"],
+        "run f",
         "",
         b"abt 1\nstreams 1\npool 0 deque mpmc\npool 1 deque mpmc\npool 2 deque mpmc\npool 3 deque mpmc\npool 4 deque mpmc\npool 5 deque mpmc\npool 6 deque mpmc\npool 7 deque mpmc\npool 8 deque mpmc\npool 9 deque mpmc\nsched 0 prio 0 1 2 3 4 5 6 7 8 9\nstream 0 main 0\nunits 0\nend\n",
         3,
@@ -96,7 +91,7 @@ static REFUSALS: [Refusal; 20] = [
     ),
     // a great numeral of 31 digits
     (
-        &["run", "f"],
+        "run f",
         ONE_POOL,
         b"units 1\nunit 0 ult at 0\nset 1000000000000000000000000000000\nend\n",
         3,
@@ -104,7 +99,7 @@ static REFUSALS: [Refusal; 20] = [
     ),
     // a word of 65 bytes
     (
-        &["run", "f"],
+        "run f",
         ONE_POOL,
         b"units 1\nunit 0 ult at 0\nsay wwwwwwwwwwwwwwwwwwwwwwwwwwwwwwwwwwwwwwwwwwwwwwwwwwwwwwwwwwwwwwwww\nend\n",
         3,
@@ -112,7 +107,7 @@ static REFUSALS: [Refusal; 20] = [
     ),
     // bad words of 31 digits
     (
-        &["run", "f", "--steps", "1000000000000000000000000000000"],
+        "run f --steps 1000000000000000000000000000000",
         "",
         b"",
         2,
@@ -120,7 +115,7 @@ static REFUSALS: [Refusal; 20] = [
     ),
     // bad words of 31 digits
     (
-        &["self", "1000000000000000000000000000000"],
+        "self 1000000000000000000000000000000",
         "",
         b"",
         2,
@@ -128,13 +123,8 @@ static REFUSALS: [Refusal; 20] = [
     ),
 ];
 
-/// Words, files and texts that are refused.
-pub(crate) fn refusals() -> &'static [Refusal] {
-    &REFUSALS
-}
-
 /// The row of a call that is refused: it puts nothing out, and answers no journal.
-pub(crate) fn refused_row(refusal: &Refusal) -> Row {
+pub(crate) fn refused_row(refusal: &Refusal) -> Row<'static> {
     let (words, head, lines, status, err) = *refusal;
     Row {
         words,
@@ -148,15 +138,12 @@ pub(crate) fn refused_row(refusal: &Refusal) -> Row {
 }
 
 /// A call whose second write of the output fails.
-pub(crate) const SHORT_WRITE: Row = Row {
+pub(crate) static SHORT_WRITE: Row<'static> = Row {
     lines: b"units 1\nunit 0 ult at 0\nsay hi\nend\n",
-    failing: 1,
+    failing: Failing { out: 1, ..NONE },
     status: 6,
     out: "unit 0 don",
     err: "abtrun: cannot write\n",
     journal: Some("1 0 take 0 0\n2 0 look 0\n3 0 step 0 0 ok\n4 0 end 0 done\n5 0 miss 0\n"),
     ..RUN
 };
-
-/// For a text with one byte more than a text may have.
-pub(crate) static TOO_LONG: Refusal = (&["run", "f"], "", b"", 3, "abtrun: line 0: limit\n");

@@ -1,20 +1,54 @@
-//! Worked rows: a call over one file `f`, and what it leaves.
+//! Worked rows: a call over the files `f` and `j`, and what it leaves.
 
-use crate::calls::NEVER;
+// More calls of a file or a sink than any call of the program makes.
+const NEVER: u64 = 1_000_000;
 
-/// The lines of the file in two parts, and what a call with these words leaves.
+/// Which call of the files, which write to the output and which write of the message fails, counted from 0.
 #[derive(Clone, Copy)]
-pub(crate) struct Row {
-    pub(crate) words: &'static [&'static str],
-    pub(crate) head: &'static str,
-    pub(crate) lines: &'static [u8],
-    /// The number of the write to the output that fails.
-    pub(crate) failing: u64,
+pub(crate) struct Failing {
+    pub(crate) files: u64,
+    pub(crate) out: u64,
+    pub(crate) err: u64,
+}
+
+/// None fails.
+pub(crate) const NONE: Failing = Failing {
+    files: NEVER,
+    out: NEVER,
+    err: NEVER,
+};
+
+/// The words of a call, with a blank between each two, the text of the file `f` in two parts, that of the file `j`, if it is not
+/// empty, and what the call leaves.
+#[derive(Clone, Copy)]
+pub(crate) struct Row<'a> {
+    pub(crate) words: &'a str,
+    pub(crate) head: &'a str,
+    pub(crate) lines: &'a [u8],
+    pub(crate) other: Option<&'a str>,
+    /// How many bytes of the output a write takes, if it is more than none.
+    pub(crate) most: usize,
+    pub(crate) failing: Failing,
     pub(crate) status: u8,
-    pub(crate) out: &'static str,
-    pub(crate) err: &'static str,
+    pub(crate) out: &'a str,
+    pub(crate) err: &'a str,
+    /// Whether the message is stated.
+    pub(crate) has_err: bool,
     /// The text of the answered journal, if the row states it.
-    pub(crate) journal: Option<&'static str>,
+    pub(crate) journal: Option<&'a str>,
+}
+
+impl Row<'_> {
+    /// Whether the row says that this is left.
+    pub(crate) fn says(&self, status: u8, out: &[u8], err: &[u8], journal: &[u8]) -> bool {
+        self.status == status
+            && out == self.out.as_bytes()
+            && (err == self.err.as_bytes() || !self.has_err)
+            && match self.journal {
+                Some(text) => journal == text.as_bytes(),
+                None => true,
+            }
+    }
 }
 
 // The heads of texts.
@@ -31,18 +65,22 @@ const TWO_STREAMS: &str =
     "abt 1\nstreams 2\npool 0 fifo priv of 0\npool 1 fifo priv of 1\npool 2 fifo spsc from 0 to 1\nsched 0 prio 0\nsched 1 prio 1 2\nstream 0 main 0\nstream 1 main 1\n";
 
 /// A run that finishes, over one pool. A row gives the lines, the report and what else it has of its own.
-pub(crate) const RUN: Row = Row {
-    words: &["run", "f"],
+pub(crate) const RUN: Row<'static> = Row {
+    words: "run f",
     head: ONE_POOL,
     lines: b"",
-    failing: NEVER,
+    other: None,
+    most: 10,
+    failing: NONE,
     status: 0,
     out: "",
     err: "",
+    has_err: true,
     journal: None,
 };
 
-static UNITS: [Row; 13] = [
+/// Units that run, yield, join and end.
+pub(crate) static UNITS: [Row<'static>; 13] = [
     // empty
     Row {
         lines: b"units 0\nend\n",
@@ -52,7 +90,7 @@ static UNITS: [Row; 13] = [
     },
     // hi
     Row {
-        words: &["run", "f", "--journal"],
+        words: "run f --journal",
         lines: b"units 1\nunit 0 ult at 0\nsay hi\nend\n",
         out: "1 0 take 0 0\n2 0 look 0\n3 0 step 0 0 ok\n4 0 end 0 done\n5 0 miss 0\nunit 0 done: hi\ntally units 1 unborn 0 pool 0 stream 0 blocked 0 done 1 asked 0 access 0 steps 1\nfinished\n",
         journal: Some("1 0 take 0 0\n2 0 look 0\n3 0 step 0 0 ok\n4 0 end 0 done\n5 0 miss 0\n"),
@@ -140,12 +178,8 @@ static UNITS: [Row; 13] = [
     },
 ];
 
-/// Units that run, yield, join and end.
-pub(crate) fn units() -> &'static [Row] {
-    &UNITS
-}
-
-static SCHEDULERS: [Row; 9] = [
+/// Orders of pools, and schedulers that are units.
+pub(crate) static SCHEDULERS: [Row<'static>; 9] = [
     // prio
     Row {
         head: "",
@@ -236,21 +270,17 @@ static SCHEDULERS: [Row; 9] = [
     },
 ];
 
-/// Orders of pools, and schedulers that are units.
-pub(crate) fn schedulers() -> &'static [Row] {
-    &SCHEDULERS
-}
-
 // A run of two units that revive one another, of 50 steps.
-const REVIVING: Row = Row {
-    words: &["run", "f", "--steps", "50"],
+const REVIVING: Row<'static> = Row {
+    words: "run f --steps 50",
     lines: b"units 2\nunit 0 ult at 0\nrevive 1 0\nunit 1 ult at 0\nrevive 0 0\nend\n",
     status: 4,
     out: "unit 0 stream 0: !unit-state\nunit 1 done:\ntally units 2 unborn 0 pool 0 stream 1 blocked 0 done 1 asked 0 access 0 steps 50\nbudget 0\n",
     ..RUN
 };
 
-static REQUESTS: [Row; 11] = [
+/// Requests, resumption and revival.
+pub(crate) static REQUESTS: [Row<'static>; 11] = [
     // cancel suspended
     Row {
         lines: b"units 2\nunit 0 ult at 0\nsuspend\nsay never\nunit 1 ult at 0\ncancel 0\nresume 0\nend\n",
@@ -295,7 +325,7 @@ static REQUESTS: [Row; 11] = [
     REVIVING,
     // budget of one step
     Row {
-        words: &["run", "f", "--steps", "1"],
+        words: "run f --steps 1",
         out: "unit 0 done: !unit-state\nunit 1 stream 0:\ntally units 2 unborn 0 pool 0 stream 1 blocked 0 done 1 asked 0 access 0 steps 1\nbudget 0\n",
         journal: Some(
             "1 0 take 0 0\n2 0 look 0\n3 0 step 0 0 unit-state\n4 0 end 0 done\n5 0 take 0 1\n6 0 look 1\n",
@@ -310,7 +340,7 @@ static REQUESTS: [Row; 11] = [
     },
     // budget of 31 digits
     Row {
-        words: &["run", "f", "--steps", "0000000000000000000000000000050"],
+        words: "run f --steps 0000000000000000000000000000050",
         ..REVIVING
     },
     // exits while it is asked
@@ -333,12 +363,8 @@ static REQUESTS: [Row; 11] = [
     },
 ];
 
-/// Requests, resumption and revival.
-pub(crate) fn requests() -> &'static [Row] {
-    &REQUESTS
-}
-
-static OBJECTS: [Row; 8] = [
+/// Objects and keys.
+pub(crate) static OBJECTS: [Row<'static>; 8] = [
     // self lock
     Row {
         lines: b"object 0 mutex\nunits 1\nunit 0 ult at 0\nlock 0\nlock 0\nend\n",
@@ -391,12 +417,8 @@ static OBJECTS: [Row; 8] = [
     },
 ];
 
-/// Objects and keys.
-pub(crate) fn objects() -> &'static [Row] {
-    &OBJECTS
-}
-
-static STREAMS: [Row; 9] = [
+/// Several streams.
+pub(crate) static STREAMS: [Row<'static>; 9] = [
     // foreign create
     Row {
         head: TWO_STREAMS,
@@ -441,40 +463,36 @@ static STREAMS: [Row; 9] = [
     },
     // self 100
     Row {
-        words: &["self", "100"],
+        words: "self 100",
         head: "",
         out: "unit 0 done: 5050\ntally units 101 unborn 0 pool 0 stream 0 blocked 0 done 101 asked 0 access 0 steps 804\nfinished\n",
         ..RUN
     },
     // self 126
     Row {
-        words: &["self", "126"],
+        words: "self 126",
         head: "",
         out: "unit 0 done: 8001\ntally units 127 unborn 0 pool 0 stream 0 blocked 0 done 127 asked 0 access 0 steps 1012\nfinished\n",
         ..RUN
     },
     // self of 31 digits
     Row {
-        words: &["self", "0000000000000000000000000000003"],
+        words: "self 0000000000000000000000000000003",
         head: "",
         out: "unit 0 done: 6\ntally units 4 unborn 0 pool 0 stream 0 blocked 0 done 4 asked 0 access 0 steps 28\nfinished\n",
         ..RUN
     },
 ];
 
-/// Several streams.
-pub(crate) fn streams() -> &'static [Row] {
-    &STREAMS
-}
-
 // A flow, over one pool. It answers no journal.
-const FLOW: Row = Row {
-    words: &["flow", "f"],
+const FLOW: Row<'static> = Row {
+    words: "flow f",
     journal: Some(""),
     ..RUN
 };
 
-static FLOWS: [Row; 7] = [
+/// Flows, and runs beside them.
+pub(crate) static FLOWS: [Row<'static>; 7] = [
     // by an eventual
     Row {
         lines: b"object 0 eventual\nunits 2\nunit 0 ult at 0\newait 0\nprint\nunit 1 ult at 0\nset 4\nadd 1\neset 0\nsay x\nend\n",
@@ -523,7 +541,3 @@ static FLOWS: [Row; 7] = [
         ..FLOW
     },
 ];
-
-pub(crate) fn flows() -> &'static [Row] {
-    &FLOWS
-}
