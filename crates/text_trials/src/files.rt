@@ -27,14 +27,18 @@ fn a_written_file_is_read_whole(rt: HostRuntime) -> Result<(), Fail> {
     Ok(())
 }
 
+// Whether that name is not fetched.
+fn is_not_fetched(alloc: Global, files: &mut RealFiles<'_, HostRuntime>, name: &str) -> bool {
+    matches!(read_all(alloc, files, name, 9), Err(NotFetched::Failed))
+}
+
 #[test]
 fn an_absent_name_and_a_folder_are_not_fetched(rt: HostRuntime) {
     let mut files = RealFiles::new(&rt);
-    let absent = read_all(rt.alloc(), &mut files, "real-files-absent", 9);
-    assert!(rt; matches!(absent, Err(NotFetched::Failed)));
-    assert!(rt; files.read(&mut [0]) == Ok(0), "nothing is begun");
-    let folder = read_all(rt.alloc(), &mut files, ".", 9);
-    assert!(rt; matches!(folder, Err(NotFetched::Failed)));
+    let absent = is_not_fetched(rt.alloc(), &mut files, "real-files-absent");
+    let nothing = files.read(&mut [0]) == Ok(0);
+    let folder = is_not_fetched(rt.alloc(), &mut files, ".");
+    assert!(rt; absent && nothing && folder);
 }
 
 // A file in memory whose call of this number fails.

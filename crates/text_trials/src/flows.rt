@@ -5,9 +5,19 @@ ghost use Rattle.std.specs.Prelude.{IfOk};
 use abt_flow::{Flow, confluent, find_flow};
 use abt_machine::{Piece, Want, Workload};
 use abt_workload::read;
-use std::alloc::Global;
-use std::process::Abort;
+use std::alloc::{AllocError, Global};
 use std::test::Fail;
+
+// What stands before the access of the pool, and what between that and the number of units.
+static HEAD: &str = "abt 1\nstreams 1\nkeys 1\npool 0 fifo ";
+
+static OBJECTS: &str =
+    "\nsched 0 basic 0\nstream 0 main 0\nobject 0 eventual\nobject 1 eventual\nobject 2 mutex\nobject 3 rwlock\n";
+
+// So many units, of which the first starts.
+static TWO: &str = "units 2\nunit 0 ult at 0\n";
+
+static THREE: &str = "units 3\nunit 0 ult at 0\n";
 
 // An open pool.
 const OPEN: &str = "mpmc";
@@ -75,23 +85,30 @@ static FLOWS: [(&str, &str, Option<[&[Piece]; 3]>); 6] = [
     ),
 ];
 
+// Appends these parts.
+fn push_all(text: &mut String, parts: &[&str]) -> Result<(), AllocError> {
+    for part in parts {
+        text.push_str(part)?;
+    }
+    Ok(())
+}
+
 // One stream with one pool, two eventuals, a mutex and a reader-writer lock, and so many units, which have one key each.
 fn workload(
     alloc: Global,
     access: &str,
-    units: u32,
+    units: &str,
     first: &str,
     others: &str,
 ) -> Result<Workload, Fail> {
-    let text = format!(in alloc;
-        "abt 1\nstreams 1\nkeys 1\npool 0 fifo {access}\nsched 0 basic 0\nstream 0 main 0\nobject 0 eventual\nobject 1 eventual\nobject 2 mutex\nobject 3 rwlock\nunits {units}\nunit 0 ult at 0\n{first}{others}end\n"
-    )?;
+    let mut text = String::from_str(alloc, HEAD)?;
+    push_all(&mut text, &[access, OBJECTS, units, first, others, "end\n"])?;
     Ok(read(alloc, text.as_bytes())?)
 }
 
 // Whether the workload of two units is confluent.
 fn is_confluent(alloc: Global, access: &str, first: &str, second: &str) -> Result<bool, Fail> {
-    let w = workload(alloc, access, 2, first, second)?;
+    let w = workload(alloc, access, TWO, first, second)?;
     Ok(confluent(alloc, &w)?)
 }
 
@@ -114,33 +131,34 @@ fn puts_out(flow: &Flow, wanted: &[&[Piece]]) -> bool {
             .all(|(row, output)| row.items() == *output)
 }
 
-// The flow of a workload that is confluent.
-fn flow_of(rt: &impl Abort, alloc: Global, w: &Workload) -> Result<Option<Flow>, Want> {
-    let is = confluent(alloc, w)?;
-    assert!(rt; is);
-    find_flow(alloc, w)
-}
-
-// Whether the units put this out by the flow of their workload, or have no flow.
-fn has_flow(
-    rt: &impl Abort,
-    alloc: Global,
-    w: &Workload,
-    wanted: Option<[&[Piece]; 3]>,
-) -> Result<bool, Want> {
-    Ok(match (flow_of(rt, alloc, w)?, wanted) {
+// Whether the workload is confluent, and its units put this out by its flow or have no flow.
+fn has_flow(alloc: Global, w: &Workload, wanted: Option<[&[Piece]; 3]>) -> Result<bool, Want> {
+    if !confluent(alloc, w)? {
+        return Ok(false);
+    }
+    Ok(match (find_flow(alloc, w)?, wanted) {
         (Some(flow), Some(outputs)) => puts_out(&flow, &outputs),
         (None, None) => true,
         _ => false,
     })
 }
 
+// So it is of three units.
+fn flows(
+    alloc: Global,
+    first: &str,
+    others: &str,
+    wanted: Option<[&[Piece]; 3]>,
+) -> Result<bool, Fail> {
+    let w = workload(alloc, OPEN, THREE, first, others)?;
+    Ok(has_flow(alloc, &w, wanted)?)
+}
+
 #[test]
 fn values_flow_from_sets_to_waits(rt: HostRuntime) -> Result<(), Fail> {
     for (first, others, wanted) in &FLOWS {
-        let w = workload(rt.alloc(), OPEN, 3, first, others)?;
-        let has = has_flow(&rt, rt.alloc(), &w, *wanted)?;
-        assert!(rt; has, "{first}{others}");
+        let is = flows(rt.alloc(), first, others, *wanted)?;
+        assert!(rt; is, "{first}{others}");
     }
     Ok(())
 }

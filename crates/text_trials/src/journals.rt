@@ -49,7 +49,7 @@ const CODES: &[What] = &[
 ];
 
 // Texts of journals on stream 0 whose stamps are 1, 2, 3 and so on, and what happened.
-const JOURNALS: [(&str, &[What]); 4] = [
+static JOURNALS: [(&str, &[What]); 4] = [
     ("", &[]),
     (HI_TEXT, HI),
     (OTHERS_TEXT, OTHERS),
@@ -91,12 +91,17 @@ fn is_read_as(alloc: Global, text: &str, journal: &Journal) -> bool {
     }
 }
 
+// Whether the journal in which this happened is written so and read back.
+fn is_written(alloc: Global, text: &str, happened: &[What]) -> Result<bool, AllocError> {
+    let journal = journal_of(alloc, happened)?;
+    Ok(is_text_of(alloc, &journal, text) && is_read_as(alloc, text, &journal))
+}
+
 #[test]
 fn journals_are_written_and_read_back(rt: HostRuntime) -> Result<(), Fail> {
-    for (text, happened) in JOURNALS {
-        let journal = journal_of(rt.alloc(), happened)?;
-        assert!(rt; is_text_of(rt.alloc(), &journal, text), "{text}");
-        assert!(rt; is_read_as(rt.alloc(), text, &journal), "{text}");
+    for (text, happened) in &JOURNALS {
+        let is = is_written(rt.alloc(), text, happened)?;
+        assert!(rt; is, "{text}");
     }
     Ok(())
 }
@@ -130,17 +135,22 @@ fn long_text(alloc: Global) -> Result<String, AllocError> {
     Ok(text)
 }
 
+// Whether it is written so and read back.
+fn is_long_written(alloc: Global) -> Result<bool, AllocError> {
+    let journal = long_journal(alloc)?;
+    let text = long_text(alloc)?;
+    Ok(is_text_of(alloc, &journal, &text) && is_read_as(alloc, &text, &journal))
+}
+
 #[test]
 fn long_journals_are_written_and_read_back(rt: HostRuntime) -> Result<(), Fail> {
-    let journal = long_journal(rt.alloc())?;
-    let text = long_text(rt.alloc())?;
-    assert!(rt; is_text_of(rt.alloc(), &journal, &text));
-    assert!(rt; is_read_as(rt.alloc(), &text, &journal));
+    let is = is_long_written(rt.alloc())?;
+    assert!(rt; is);
     Ok(())
 }
 
 // Texts that are no journal's, and the first line at which none agrees.
-const BAD: [(&str, u32); 26] = [
+static BAD: [(&str, u32); 26] = [
     // row hi's, each line spoilt
     ("1 0 take 0 x\n2 0 look 0\n", 1),
     ("1 0 take 0 0\n2 0 lock 0\n3 0 step 0 0 ok\n", 2),
@@ -202,8 +212,8 @@ fn bad_line(alloc: Global, text: &str) -> Option<u32> {
 
 #[test]
 fn other_texts_are_refused_at_their_first_bad_line(rt: HostRuntime) {
-    for (text, line) in BAD {
-        assert!(rt; bad_line(rt.alloc(), text) == Some(line), "{text}");
+    for (text, line) in &BAD {
+        assert!(rt; bad_line(rt.alloc(), text) == Some(*line), "{text}");
     }
 }
 

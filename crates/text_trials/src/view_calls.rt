@@ -48,44 +48,77 @@ const WOKEN: &str = "{\"traceEvents\":[
 const LONG: &str =
     "<svg xmlns='http://www.w3.org/2000/svg' width='480' height='40'><text x='10' y='25'>a picture has at most 20,000 events: use abtview trace</text></svg>\n";
 
-// Words with a comma between each two, the bytes of the file `f`, and the output of the call, which ends with 0.
-static VIEWS: [(&str, &str, &str); 5] = [
-    ("trace,f", "", NOTHING),
-    ("trace,f", "1 0 take 0 7\n2 0 step 7 0 absent\n", REFUSED),
-    ("trace,f", "1 0 end 7 own\n", EXITED),
+// Words with a comma between each two, the text of the file `f`, the write of the output that fails, the status, the output and
+// the message.
+type Row = (
+    &'static str,
+    &'static str,
+    u64,
+    u8,
+    &'static str,
+    &'static str,
+);
+
+static ROWS: [Row; 14] = [
+    ("trace,f", "", NEVER, 0, NOTHING, ""),
+    (
+        "trace,f",
+        "1 0 take 0 7\n2 0 step 7 0 absent\n",
+        NEVER,
+        0,
+        REFUSED,
+        "",
+    ),
+    ("trace,f", "1 0 end 7 own\n", NEVER, 0, EXITED, ""),
     (
         "trace,f",
         "1 0 step 7 0 ok\n2 0 put 8 0\n3 1 take 0 8\n",
+        NEVER,
+        0,
         WOKEN,
+        "",
     ),
-    ("svg,f", "20001 0 miss 0\n", LONG),
-];
-
-// Words and bytes, and the status and the message of the call, which puts nothing out.
-static REFUSALS: [(&str, &str, u8, &str); 8] = [
-    ("svg", "", 2, "abtview: bad command line\n"),
-    ("svg,f,f", "", 2, "abtview: bad command line\n"),
-    ("draw,f", "", 2, "abtview: bad command line\n"),
-    ("svg,f", "\n", 3, "abtview: line 1: journal\n"),
+    ("svg,f", "20001 0 miss 0\n", NEVER, 0, LONG, ""),
+    // words that say nothing
+    ("svg", "", NEVER, 2, "", "abtview: bad command line\n"),
+    ("svg,f,f", "", NEVER, 2, "", "abtview: bad command line\n"),
+    ("draw,f", "", NEVER, 2, "", "abtview: bad command line\n"),
+    // texts that are no journal's
+    ("svg,f", "\n", NEVER, 3, "", "abtview: line 1: journal\n"),
     (
         "trace,f",
         "1 0 miss 0\n2 0 miss 0",
+        NEVER,
         3,
+        "",
         "abtview: line 2: journal\n",
     ),
     (
         "trace,f",
         "1 0 miss 0\n2 0 miss 00\n",
+        NEVER,
         3,
+        "",
         "abtview: line 2: journal\n",
     ),
     (
         "svg,f",
         "1 0 miss 0\n2 0 miss 0\nfinished\n",
+        NEVER,
         3,
+        "",
         "abtview: line 3: journal\n",
     ),
-    ("svg,absent", "", 5, "abtview: cannot read\n"),
+    // a file that is absent, and a write that fails
+    ("svg,absent", "", NEVER, 5, "", "abtview: cannot read\n"),
+    (
+        "trace,f",
+        "",
+        2,
+        6,
+        "{\"traceEvents\":[\n{",
+        "abtview: cannot write\n",
+    ),
 ];
 
 // More bytes than any output has.
@@ -93,14 +126,6 @@ const ROOM: usize = 10_000;
 
 // More writes than any call makes.
 const NEVER: u64 = 1_000_000;
-
-// What a call leaves: its status, its output and its message.
-#[derive(Clone, Copy)]
-struct Left<'a> {
-    status: u8,
-    out: &'a str,
-    err: &'a str,
-}
 
 // The file `f` with these bytes.
 fn files_of(alloc: Global, bytes: &[u8]) -> Result<MemoryFiles, AllocError> {
@@ -111,68 +136,35 @@ fn files_of(alloc: Global, bytes: &[u8]) -> Result<MemoryFiles, AllocError> {
     Ok(MemoryFiles::new(vec![in alloc; file]?, Vec::new(alloc)))
 }
 
-// Whether a call with these words over the file leaves this, if that write of the output fails. No write takes more than 9
-// bytes.
+// Whether a call with these words over the file leaves what the row says. No write takes more than 9 bytes.
 fn leaves(
     alloc: Global,
     words: &[String],
     files: &mut MemoryFiles,
-    failing: u64,
-    left: Left,
+    row: Row,
 ) -> Result<bool, Fail> {
+    let (_, _, failing, status, wanted, message) = row;
     let mut out = MemorySink::new(alloc, ROOM, 9, vec![in alloc; failing]?)?;
     let mut err = MemorySink::new(alloc, ROOM, ROOM, Vec::new(alloc))?;
-    let status = abtview(alloc, words, files, &mut out, &mut err);
     Ok(
-        status == left.status
-            && out.bytes() == left.out.as_bytes()
-            && err.bytes() == left.err.as_bytes(),
+        abtview(alloc, words, files, &mut out, &mut err) == status
+            && out.bytes() == wanted.as_bytes()
+            && err.bytes() == message.as_bytes(),
     )
 }
 
-// The same of words with a comma between each two, over a file with this text.
-fn is_left(alloc: Global, words: &str, text: &str, failing: u64, left: Left) -> Result<bool, Fail> {
-    let words = list_of(alloc, words)?;
-    let mut files = files_of(alloc, text.as_bytes())?;
-    leaves(alloc, &words, &mut files, failing, left)
+// Whether a row's call leaves what the row says.
+fn is_left(alloc: Global, row: Row) -> Result<bool, Fail> {
+    let words = list_of(alloc, row.0)?;
+    let mut files = files_of(alloc, row.1.as_bytes())?;
+    leaves(alloc, &words, &mut files, row)
 }
 
 #[test]
-fn journals_are_viewed(rt: HostRuntime) -> Result<(), Fail> {
-    for (words, text, out) in &VIEWS {
-        let left = Left {
-            status: 0,
-            out,
-            err: "",
-        };
-        let is = is_left(rt.alloc(), words, text, NEVER, left)?;
-        assert!(rt; is, "{text}");
+fn calls_leave_what_their_rows_say(rt: HostRuntime) -> Result<(), Fail> {
+    for row in &ROWS {
+        let is = is_left(rt.alloc(), *row)?;
+        assert!(rt; is, "{}: {}", row.0, row.1);
     }
-    Ok(())
-}
-
-#[test]
-fn other_calls_are_refused(rt: HostRuntime) -> Result<(), Fail> {
-    for (words, text, status, err) in &REFUSALS {
-        let left = Left {
-            status: *status,
-            out: "",
-            err,
-        };
-        let is = is_left(rt.alloc(), words, text, NEVER, left)?;
-        assert!(rt; is, "{words}: {text}");
-    }
-    Ok(())
-}
-
-#[test]
-fn a_failed_write_leaves_a_prefix(rt: HostRuntime) -> Result<(), Fail> {
-    let left = Left {
-        status: 6,
-        out: "{\"traceEvents\":[\n{",
-        err: "abtview: cannot write\n",
-    };
-    let is = is_left(rt.alloc(), "trace,f", "", 2, left)?;
-    assert!(rt; is);
     Ok(())
 }

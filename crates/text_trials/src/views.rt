@@ -50,20 +50,11 @@ const NESTED: &str = "1 0 take 0 0
 // Stream 15 and unit 4,095 are the last of a workload.
 const LAST: &str = "1 15 enter 3\n1 16 enter 3\n2 15 put 4095 0\n3 15 put 4096 0\n";
 
-// The stretches of the first: the stream, the unit, the first and the last stamp, and how many events the unit has there.
-static STRETCHES: [(u32, u32, u64, u64, usize); 4] = [
-    (0, 0, 1, 6, 5),
-    (1, 2, 1, 3, 3),
-    (1, 1, 5, 8, 4),
-    (1, 2, 11, 11, 1),
-];
+// The stream, the unit, the first and the last stamp, and how many events the unit has there.
+type Times = (u32, u32, u64, u64, usize);
 
-// Each journal, and its frames: the stream, the unit, the depth, the first and the last stamp.
-static FRAMES: [(&str, &[(u32, u32, u64, u64, u64)]); 3] = [
-    (STACKED, &[(1, 2, 0, 3, 9)]),
-    (NESTED, &[(0, 0, 0, 3, 18), (0, 1, 1, 6, 15)]),
-    (LAST, &[(15, 3, 0, 1, 3)]),
-];
+// The stream, the unit, the depth, the first and the last stamp.
+type Depths = (u32, u32, u64, u64, u64);
 
 // An event's stream and stamp.
 type Point = (u32, u64);
@@ -71,17 +62,41 @@ type Point = (u32, u64);
 // The unit, the sender, the put and the end.
 type Points = (u32, Option<Point>, Point, Option<Point>);
 
-// Each journal, and its arrows.
-static ARROWS: [(&str, &[Points]); 3] = [
-    (STACKED, &[(1, Some((0, 3)), (0, 4), Some((1, 5)))]),
+// A journal, its stretches, if they are stated, its frames and its arrows.
+type View = (
+    &'static str,
+    Option<&'static [Times]>,
+    &'static [Depths],
+    &'static [Points],
+);
+
+static VIEWS: [View; 3] = [
+    (
+        STACKED,
+        Some(&[
+            (0, 0, 1, 6, 5),
+            (1, 2, 1, 3, 3),
+            (1, 1, 5, 8, 4),
+            (1, 2, 11, 11, 1),
+        ]),
+        &[(1, 2, 0, 3, 9)],
+        &[(1, Some((0, 3)), (0, 4), Some((1, 5)))],
+    ),
     (
         NESTED,
+        None,
+        &[(0, 0, 0, 3, 18), (0, 1, 1, 6, 15)],
         &[
             (3, Some((0, 9)), (0, 10), Some((0, 13))),
             (2, None, (0, 12), None),
         ],
     ),
-    (LAST, &[(4_095, Some((15, 1)), (15, 2), None)]),
+    (
+        LAST,
+        None,
+        &[(15, 3, 0, 1, 3)],
+        &[(4_095, Some((15, 1)), (15, 2), None)],
+    ),
 ];
 
 // The journal of a text.
@@ -90,56 +105,27 @@ fn journal(rt: &impl Abort, alloc: Global, text: &str) -> Result<Journal, TextFa
     read_journal(alloc, text.as_bytes())
 }
 
-fn is_stretch(
-    found: &Stretch,
-    (stream, unit, since, until, events): (u32, u32, u64, u64, usize),
-) -> bool {
+fn is_stretch(found: &Stretch, (stream, unit, since, until, events): Times) -> bool {
     (found.stream, found.unit) == (stream, unit)
         && (found.since, found.until) == (since, until)
         && found.events.items().len() == events
 }
 
 // Whether the events have these stretches.
-fn have_stretches(
-    alloc: Global,
-    events: &[Event],
-    wanted: &[(u32, u32, u64, u64, usize)],
-) -> Result<bool, Want> {
+fn have_stretches(alloc: Global, events: &[Event], wanted: &[Times]) -> Result<bool, Want> {
     let found = all_stretches(alloc, events)?;
     Ok(found.len() == wanted.len() && found.iter().zip(wanted).all(|(f, w)| is_stretch(f, *w)))
 }
 
-#[test]
-fn a_stretch_is_a_time_in_hand(rt: HostRuntime) -> Result<(), Fail> {
-    let journal = journal(&rt, rt.alloc(), STACKED)?;
-    let have = have_stretches(rt.alloc(), journal.items(), &STRETCHES)?;
-    assert!(rt; have);
-    Ok(())
-}
-
-fn is_frame(found: &Frame, (stream, unit, depth, since, until): (u32, u32, u64, u64, u64)) -> bool {
+fn is_frame(found: &Frame, (stream, unit, depth, since, until): Depths) -> bool {
     (found.stream, found.unit, found.depth) == (stream, unit, depth)
         && (found.since, found.until) == (since, until)
 }
 
 // Whether the events have these frames.
-fn have_frames(
-    alloc: Global,
-    events: &[Event],
-    wanted: &[(u32, u32, u64, u64, u64)],
-) -> Result<bool, Want> {
+fn have_frames(alloc: Global, events: &[Event], wanted: &[Depths]) -> Result<bool, Want> {
     let found = all_frames(alloc, events)?;
     Ok(found.len() == wanted.len() && found.iter().zip(wanted).all(|(f, w)| is_frame(f, *w)))
-}
-
-#[test]
-fn a_frame_is_a_time_of_a_stacked_scheduler(rt: HostRuntime) -> Result<(), Fail> {
-    for (text, wanted) in FRAMES {
-        let journal = journal(&rt, rt.alloc(), text)?;
-        let have = have_frames(rt.alloc(), journal.items(), wanted)?;
-        assert!(rt; have, "{text}");
-    }
-    Ok(())
 }
 
 fn point(at: Spot) -> Point {
@@ -159,12 +145,33 @@ fn have_arrows(alloc: Global, events: &[Event], wanted: &[Points]) -> Result<boo
     Ok(found.len() == wanted.len() && found.iter().zip(wanted).all(|(f, w)| is_arrow(f, *w)))
 }
 
+// Whether the events are viewed so.
+fn are_viewed(
+    alloc: Global,
+    events: &[Event],
+    stretches: Option<&[Times]>,
+    frames: &[Depths],
+    arrows: &[Points],
+) -> Result<bool, Want> {
+    let are = match stretches {
+        Some(wanted) => have_stretches(alloc, events, wanted)?,
+        None => true,
+    };
+    Ok(are && have_frames(alloc, events, frames)? && have_arrows(alloc, events, arrows)?)
+}
+
+// Whether a row's journal is viewed as the row says.
+fn is_viewed(rt: &impl Abort, alloc: Global, row: View) -> Result<bool, Fail> {
+    let (text, stretches, frames, arrows) = row;
+    let journal = journal(rt, alloc, text)?;
+    Ok(are_viewed(alloc, journal.items(), stretches, frames, arrows)?)
+}
+
 #[test]
-fn an_arrow_is_the_way_of_a_unit(rt: HostRuntime) -> Result<(), Fail> {
-    for (text, wanted) in ARROWS {
-        let journal = journal(&rt, rt.alloc(), text)?;
-        let have = have_arrows(rt.alloc(), journal.items(), wanted)?;
-        assert!(rt; have, "{text}");
+fn journals_are_viewed(rt: HostRuntime) -> Result<(), Fail> {
+    for row in &VIEWS {
+        let is = is_viewed(&rt, rt.alloc(), *row)?;
+        assert!(rt; is, "{}", row.0);
     }
     Ok(())
 }

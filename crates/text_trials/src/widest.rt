@@ -117,9 +117,8 @@ fn the_longest_text_is_written_whole(rt: HostRuntime) -> Result<(), Fail> {
 #[test]
 fn a_text_of_one_byte_more_is_of_format_2(rt: HostRuntime) -> Result<(), Fail> {
     let text = widest_of(rt.alloc(), 1, MOST + 1)?;
-    assert!(rt; text.len() == MOST + 1);
-    assert!(rt; refused(rt.alloc(), text.as_bytes()) == Some((0, Fault::Limit)));
+    let found = refused(rt.alloc(), text.as_bytes());
     let is = is_widest_written(rt.alloc(), 2, MOST + 1)?;
-    assert!(rt; is);
+    assert!(rt; is && text.len() == MOST + 1 && found == Some((0, Fault::Limit)));
     Ok(())
 }

@@ -62,7 +62,7 @@ static TEXTS: [(&str, &str); 9] = [
 ];
 
 // One stream, one pool and one scheduler.
-const FRAME: &str = "streams 1\npool 0 fifo mpmc\nsched 0 prio 0\nstream 0 main 0\n";
+static FRAME: &str = "streams 1\npool 0 fifo mpmc\nsched 0 prio 0\nstream 0 main 0\n";
 
 // Numbers of units, and lines that declare them with as many operations as there may be.
 static MOST: [(u32, &str); 2] = [
