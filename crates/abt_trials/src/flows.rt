@@ -1,7 +1,7 @@
 //! Runs on threads beside the flows of their workloads.
 
 use abt_flow::{Flow, confluent, find_flow};
-use abt_machine::{Piece, Workload};
+use abt_machine::{Piece, Want, Workload};
 use abt_order::StoredOrder;
 use abt_report::Picture;
 use abt_stream::NoPace;
@@ -19,38 +19,57 @@ const UNITS: u32 = 200;
 
 const CHAINS: u32 = 4;
 
-const STREAMS: &str =
+static STREAMS: &str =
     "abt 1\nstreams 4\npool 0 fifo mpmc\npool 1 fifo mpmc\npool 2 fifo mpmc\npool 3 fifo mpmc\nsched 0 prio 0\nsched 1 prio 1\nsched 2 prio 2\nsched 3 prio 3\nstream 0 main 0\nstream 1 main 1\nstream 2 main 2\nstream 3 main 3\n";
 
-// Units in four chains over four streams. Each waits twice for the one before it in its chain, and adds 1 to what that had.
-fn chains(alloc: Global) -> Result<String, AllocError> {
-    let mut text = String::new(alloc);
-    text.push_str(STREAMS)?;
-    for x in 0..UNITS {
-        text.push_str(format!(in alloc; "object {x} eventual\n")?.as_str())?;
+// Appends a unit of a chain. It waits twice for the one before it, if there is one, and adds 1 to what that had.
+fn push_unit(text: &mut String, u: u32) -> Result<(), AllocError> {
+    let pool = u / CHAINS % 4;
+    writeln!(text, "unit {u} ult at {pool}")?;
+    if u >= CHAINS {
+        let before = u - CHAINS;
+        writeln!(text, "ewait {before}\newait {before}")?;
     }
-    text.push_str(format!(in alloc; "units {UNITS}\n")?.as_str())?;
-    for u in 0..UNITS {
-        let pool = u / CHAINS % 4;
-        text.push_str(format!(in alloc; "unit {u} ult at {pool}\n")?.as_str())?;
-        if u >= CHAINS {
-            let before = u - CHAINS;
-            text.push_str(format!(in alloc; "ewait {before}\newait {before}\n")?.as_str())?;
-        }
-        text.push_str(format!(in alloc; "add 1\nprint\neset {u}\n")?.as_str())?;
-    }
-    text.push_str("end\n")?;
-    Ok(text)
+    writeln!(text, "add 1\nprint\neset {u}")
 }
 
-// The units of the workload after a run on threads.
-fn picture_of<R: Threads + Wait + Sync>(
-    rt: &R,
-    alloc: Global,
-    w: &Workload,
-) -> Result<Picture, Fail> {
-    let orders = [StoredOrder::rotating(), StoredOrder::mirroring()];
-    Ok(run_streams(alloc, rt, w, &orders, &NoPace, 10_000)?.picture)
+// Appends units in four chains over four streams.
+fn push_chains(text: &mut String) -> Result<(), AllocError> {
+    text.push_str(STREAMS)?;
+    for x in 0..UNITS {
+        writeln!(text, "object {x} eventual")?;
+    }
+    writeln!(text, "units {UNITS}")?;
+    for u in 0..UNITS {
+        push_unit(text, u)?;
+    }
+    text.push_str("end\n")
+}
+
+// The workload of these units.
+fn chains(alloc: Global) -> Result<Workload, Fail> {
+    let mut text = String::new(alloc);
+    push_chains(&mut text)?;
+    Ok(read(alloc, text.as_bytes())?)
+}
+
+// The flow of a workload, if that is confluent and has one.
+fn flow_of(alloc: Global, w: &Workload) -> Result<Option<Flow>, Want> {
+    if confluent(alloc, w)? {
+        find_flow(alloc, w)
+    } else {
+        Ok(None)
+    }
+}
+
+// Whether the last of so many units puts out how long its chain is.
+fn counts(flow: &Flow) -> bool {
+    match flow.items().last() {
+        Some(last) => {
+            flow.items().len() == UNITS as usize && last.items() == [Piece::Number(50)].as_slice()
+        }
+        None => false,
+    }
 }
 
 // Whether the units put out what the flow says.
@@ -65,22 +84,50 @@ fn put_out(picture: &Picture, flow: &Flow) -> bool {
         .all(|(row, output)| row.output.items() == output.items())
 }
 
-#[test]
-fn runs_put_out_their_flow(rt: HostRuntime) -> Result<(), Fail> {
-    let alloc = rt.alloc();
-    let w = read(alloc, chains(alloc)?.as_bytes())?;
-    let is = confluent(alloc, &w)?;
-    assert!(rt; is);
-    let found = find_flow(alloc, &w)?;
-    assert!(rt; found.is_some());
-    if let Some(flow) = found {
-        assert!(rt; flow.items().len() == UNITS as usize);
-        if let Some(last) = flow.items().last() {
-            assert!(rt; last.items() == [Piece::Number(50)].as_slice());
-        }
-        for _ in 0..TIMES {
-            assert!(rt; put_out(&picture_of(&rt, alloc, &w)?, &flow));
+// Whether they do in a run on threads.
+fn is_put_out<R: Threads + Wait + Sync>(
+    rt: &R,
+    alloc: Global,
+    w: &Workload,
+    flow: &Flow,
+) -> Result<bool, Want> {
+    let orders = [StoredOrder::rotating(), StoredOrder::mirroring()];
+    let run = run_streams(alloc, rt, w, &orders, &NoPace, 10_000)?;
+    Ok(put_out(&run.picture, flow))
+}
+
+// Whether they do in each run, and the last counts its chain.
+fn count<R: Threads + Wait + Sync>(
+    rt: &R,
+    alloc: Global,
+    w: &Workload,
+    flow: &Flow,
+) -> Result<bool, Want> {
+    for _ in 0..TIMES {
+        if !is_put_out(rt, alloc, w, flow)? {
+            return Ok(false);
         }
     }
+    Ok(counts(flow))
+}
+
+// Whether the workload has such a flow.
+fn has_flow<R: Threads + Wait + Sync>(rt: &R, alloc: Global, w: &Workload) -> Result<bool, Want> {
+    match flow_of(alloc, w)? {
+        Some(flow) => count(rt, alloc, w, &flow),
+        None => Ok(false),
+    }
+}
+
+// Whether the workload of the chains has one.
+fn chains_count<R: Threads + Wait + Sync>(rt: &R, alloc: Global) -> Result<bool, Fail> {
+    let w = chains(alloc)?;
+    Ok(has_flow(rt, alloc, &w)?)
+}
+
+#[test]
+fn runs_put_out_their_flow(rt: HostRuntime) -> Result<(), Fail> {
+    let they_do = chains_count(&rt, rt.alloc())?;
+    assert!(rt; they_do);
     Ok(())
 }

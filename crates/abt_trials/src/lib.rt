@@ -12,6 +12,8 @@ mod lives;
 #[cfg(test)]
 mod lives_calls;
 #[cfg(test)]
+mod reports;
+#[cfg(test)]
 mod rounds;
 #[cfg(test)]
 mod turns;

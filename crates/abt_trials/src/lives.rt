@@ -1,11 +1,13 @@
 //! Runs on lives, by what their reports and their waves say, and the texts that are refused.
 
+use crate::reports::is_reported;
+use abt_machine::Workload;
 use abt_order::StoredOrder;
-use abt_report::{TextFault, count_steps, report};
+use abt_report::TextFault;
 use abt_stream::NoPace;
-use abt_streams::{Waves, read_lives, run_lives};
+use abt_streams::{Wave, read_lives, run_lives};
 use abt_workload::read;
-use std::alloc::{AllocError, Global};
+use std::alloc::Global;
 use std::sync::Wait;
 use std::test::Fail;
 use std::thread::Threads;
@@ -18,59 +20,91 @@ const PAIR: &str =
 const TRIO: &str =
     "abt 1\nstreams 3\npool 0 fifo mpmc\npool 1 fifo mpmc\npool 2 fifo mpmc\nsched 0 prio 0\nsched 1 prio 1\nsched 2 prio 2\nstream 0 main 0\nstream 1 main 1\nstream 2 main 2\nobject 0 eventual\nobject 1 eventual\nobject 2 eventual\nobject 3 eventual\n";
 
-// A workload's first lines and what follows them, the lives, the report, and the streams of each wave.
+// Eight streams with a pool each, and eight eventuals.
+const EIGHT: &str =
+    "abt 1\nstreams 8\npool 0 fifo mpmc\npool 1 fifo mpmc\npool 2 fifo mpmc\npool 3 fifo mpmc\npool 4 fifo mpmc\npool 5 fifo mpmc\npool 6 fifo mpmc\npool 7 fifo mpmc\nsched 0 prio 0\nsched 1 prio 1\nsched 2 prio 2\nsched 3 prio 3\nsched 4 prio 4\nsched 5 prio 5\nsched 6 prio 6\nsched 7 prio 7\nstream 0 main 0\nstream 1 main 1\nstream 2 main 2\nstream 3 main 3\nstream 4 main 4\nstream 5 main 5\nstream 6 main 6\nstream 7 main 7\nobject 0 eventual\nobject 1 eventual\nobject 2 eventual\nobject 3 eventual\nobject 4 eventual\nobject 5 eventual\nobject 6 eventual\nobject 7 eventual\n";
+
+// A wave: how many events came before it, if that is stated, and its streams.
+type Waved = (Option<u64>, &'static [u32]);
+
+// A workload's first lines and what follows them, the lives, the report, and the waves.
 type Row = (
     &'static str,
     &'static str,
     &'static str,
     &'static str,
-    &'static [&'static [u32]],
+    &'static [Waved],
 );
 
-static ROWS: [Row; 6] = [
+static ROWS: [Row; 7] = [
     (
         PAIR,
         "units 2\nunit 0 ult at 0\ncreate 1 1\neset 0\nunit 1 ult later\nsay made\nend\n",
         "life 1 0 1\n",
         "unit 0 done:\nunit 1 done: made\ntally units 2 unborn 0 pool 0 stream 0 blocked 0 done 2 asked 0 access 0 steps 3\nfinished\n",
-        &[&[0], &[0, 1]],
+        &[(Some(0), &[0]), (Some(7), &[0, 1])],
     ),
     (
         PAIR,
         "units 2\nunit 0 ult at 0\ncreate 1 1\nunit 1 ult later\nsay made\nend\n",
         "life 1 0 1\n",
         "unit 0 done:\nunit 1 pool 1:\ntally units 2 unborn 0 pool 1 stream 0 blocked 0 done 1 asked 0 access 0 steps 1\nstuck\n",
-        &[&[0]],
+        &[(None, &[0])],
     ),
     (
         PAIR,
         "units 2\nunit 0 ult at 0\nsay never\nunit 1 ult at 1\nsay never\nend\n",
         "life 0 0 1\nlife 1 1 0\n",
         "unit 0 pool 0:\nunit 1 pool 1:\ntally units 2 unborn 0 pool 2 stream 0 blocked 0 done 0 asked 0 access 0 steps 0\nstuck\n",
-        &[&[]],
+        &[(None, &[])],
     ),
     (
         TRIO,
         "units 4\nunit 0 ult at 0\ncreate 1 1\neset 0\nunit 1 ult later\nsay a\ncreate 2 2\neset 1\nunit 2 ult later\ncreate 3 1\nereset 1\nunit 3 ult later\nsay b\nend\n",
         "life 1 0 1\nlife 2 1 3\n",
         "unit 0 done:\nunit 1 done: a\nunit 2 done:\nunit 3 done: b\ntally units 4 unborn 0 pool 0 stream 0 blocked 0 done 4 asked 0 access 0 steps 8\nfinished\n",
-        &[&[0], &[0, 1], &[0, 2], &[0, 1]],
+        &[
+            (None, &[0]),
+            (None, &[0, 1]),
+            (None, &[0, 2]),
+            (None, &[0, 1]),
+        ],
     ),
     (
         PAIR,
         "units 1\nunit 0 ult at 1\neset 1\nyield\nsay on\nend\n",
         "life 0 0 1\n",
         "unit 0 done: on\ntally units 1 unborn 0 pool 0 stream 0 blocked 0 done 1 asked 0 access 0 steps 3\nfinished\n",
-        &[&[1]],
+        &[(None, &[1])],
     ),
     (
         PAIR,
         "units 2\nunit 0 ult at 0\ncreate 1 1\neset 0\nexit\nsay never\nunit 1 ult later\nsay made\nexit\nsay never\nend\n",
         "life 1 0 1\n",
         "unit 0 exited:\nunit 1 exited: made\ntally units 2 unborn 0 pool 0 stream 0 blocked 0 done 2 asked 0 access 0 steps 5\nfinished\n",
-        &[&[0], &[0, 1]],
+        &[(None, &[0]), (None, &[0, 1])],
+    ),
+    // each stream but the first is born by a unit of the one before it
+    (
+        EIGHT,
+        "units 8\nunit 0 ult at 0\ncreate 1 1\neset 1\nunit 1 ult later\ncreate 2 2\neset 2\nunit 2 ult later\ncreate 3 3\neset 3\nunit 3 ult later\ncreate 4 4\neset 4\nunit 4 ult later\ncreate 5 5\neset 5\nunit 5 ult later\ncreate 6 6\neset 6\nunit 6 ult later\ncreate 7 7\neset 7\nunit 7 ult later\nsay last\nend\n",
+        "life 1 1 0\nlife 2 2 0\nlife 3 3 0\nlife 4 4 0\nlife 5 5 0\nlife 6 6 0\nlife 7 7 0\n",
+        "unit 0 done:\nunit 1 done:\nunit 2 done:\nunit 3 done:\nunit 4 done:\nunit 5 done:\nunit 6 done:\nunit 7 done: last\ntally units 8 unborn 0 pool 0 stream 0 blocked 0 done 8 asked 0 access 0 steps 15\nfinished\n",
+        &[
+            (None, &[0]),
+            (None, &[0, 1]),
+            (None, &[0, 1, 2]),
+            (None, &[0, 1, 2, 3]),
+            (None, &[0, 1, 2, 3, 4]),
+            (None, &[0, 1, 2, 3, 4, 5]),
+            (None, &[0, 1, 2, 3, 4, 5, 6]),
+            (None, &[0, 1, 2, 3, 4, 5, 6, 7]),
+        ],
     ),
 ];
+
+// A workload in two parts.
+static NO_UNITS: (&str, &str) = (PAIR, "units 0\nend\n");
 
 // Texts that are refused, each at this line.
 static FAULTS: [(&str, u32); 20] = [
@@ -96,132 +130,103 @@ static FAULTS: [(&str, u32); 20] = [
     ("life 0 0 1\n\nlife 1 0 1\n", 2),
 ];
 
-// The report of a run on lives, and its waves.
-fn run_of<R: Threads + Wait + Sync>(
+fn is_wave(wave: &Wave, (from, streams): Waved) -> bool {
+    let starts = match from {
+        Some(events) => wave.from == events,
+        None => true,
+    };
+    starts && wave.streams.items() == streams
+}
+
+fn are_waves(waves: &[Wave], wanted: &[Waved]) -> bool {
+    waves.len() == wanted.len()
+        && waves
+            .iter()
+            .zip(wanted)
+            .all(|(wave, wanted)| is_wave(wave, *wanted))
+}
+
+// Whether a run on lives has this report and these waves.
+fn is_run<R: Threads + Wait + Sync>(
+    rt: &R,
+    alloc: Global,
+    w: &Workload,
+    lives: &str,
+    report: &str,
+    waves: &[Waved],
+) -> Result<bool, Fail> {
+    let lives = read_lives(alloc, w, lives.as_bytes())?;
+    let orders = [StoredOrder::rotating(), StoredOrder::mirroring()];
+    let run = run_lives(alloc, rt, w, &lives, &orders, &NoPace, 10_000)?;
+    Ok(
+        is_reported(alloc, w, &run.journal, &run.picture, run.outcome, report)
+            && are_waves(run.waves.items(), waves),
+    )
+}
+
+// So it is of the workload of this text.
+fn is_run_of<R: Threads + Wait + Sync>(
     rt: &R,
     alloc: Global,
     text: &str,
     lives: &str,
-) -> Result<(Vec<u8>, Waves), Fail> {
+    report: &str,
+    waves: &[Waved],
+) -> Result<bool, Fail> {
     let w = read(alloc, text.as_bytes())?;
-    let lives = read_lives(alloc, &w, lives.as_bytes())?;
-    let orders = [StoredOrder::rotating(), StoredOrder::mirroring()];
-    let run = run_lives(alloc, rt, &w, &lives, &orders, &NoPace, 10_000)?;
-    let steps = count_steps(run.journal.items());
-    Ok((
-        report(alloc, &w, &run.picture, run.outcome, steps)?,
-        run.waves,
-    ))
-}
-
-// Whether the waves have these streams.
-fn are(waves: &Waves, streams: &[&[u32]]) -> bool {
-    waves.items().len() == streams.len()
-        && waves
-            .items()
-            .iter()
-            .zip(streams.iter())
-            .all(|(wave, streams)| wave.streams.items() == *streams)
-}
-
-// Eight streams, each of which but the first is born by a unit of the one before it.
-fn chain(alloc: Global) -> Result<(String, String), AllocError> {
-    let mut text = String::new(alloc);
-    let mut lives = String::new(alloc);
-    text.push_str("abt 1\nstreams 8\n")?;
-    for s in 0..8 {
-        text.push_str(format!(in alloc; "pool {s} fifo mpmc\n")?.as_str())?;
-    }
-    for s in 0..8 {
-        text.push_str(format!(in alloc; "sched {s} prio {s}\n")?.as_str())?;
-    }
-    for s in 0..8 {
-        text.push_str(format!(in alloc; "stream {s} main {s}\n")?.as_str())?;
-    }
-    for x in 0..8 {
-        text.push_str(format!(in alloc; "object {x} eventual\n")?.as_str())?;
-    }
-    text.push_str("units 8\nunit 0 ult at 0\ncreate 1 1\neset 1\n")?;
-    for s in 1..7 {
-        let next = s + 1;
-        text.push_str(format!(in alloc;
-            "unit {s} ult later\ncreate {next} {next}\neset {next}\n"
-        )?.as_str())?;
-    }
-    text.push_str("unit 7 ult later\nsay last\nend\n")?;
-    for s in 1..8 {
-        lives.push_str(format!(in alloc; "life {s} {s} 0\n")?.as_str())?;
-    }
-    Ok((text, lives))
+    is_run(rt, alloc, &w, lives, report, waves)
 }
 
 #[test]
 fn runs_on_lives_end_as_reported(rt: HostRuntime) -> Result<(), Fail> {
-    let alloc = rt.alloc();
-    for (head, lines, lives, wanted, streams) in &ROWS {
-        let text = format!(in alloc; "{head}{lines}")?;
-        let (report, waves) = run_of(&rt, alloc, text.as_str(), lives)?;
-        assert!(rt; report.as_slice() == wanted.as_bytes(), "{lines}");
-        assert!(rt; are(&waves, streams), "{lines}");
+    for (head, lines, lives, report, waves) in &ROWS {
+        let text = format!(in rt.alloc(); "{head}{lines}")?;
+        let is = is_run_of(&rt, rt.alloc(), &text, lives, report, waves)?;
+        assert!(rt; is, "{lines}");
     }
     Ok(())
 }
 
-#[test]
-fn the_second_wave_starts_behind_the_first(rt: HostRuntime) -> Result<(), Fail> {
-    let alloc = rt.alloc();
-    let (head, lines, lives, _, _) = ROWS[0];
-    let text = format!(in alloc; "{head}{lines}")?;
-    let (_, waves) = run_of(&rt, alloc, text.as_str(), lives)?;
-    let waves = waves.items();
-    assert!(rt; waves.len() == 2);
-    assert_eq!(rt; waves[0].from, 0);
-    assert_eq!(rt; waves[1].from, 7);
-    Ok(())
-}
-
-#[test]
-fn streams_are_born_one_by_one(rt: HostRuntime) -> Result<(), Fail> {
-    let alloc = rt.alloc();
-    let (text, lives) = chain(alloc)?;
-    let (report, waves) = run_of(&rt, alloc, text.as_str(), lives.as_str())?;
-    let all = [0, 1, 2, 3, 4, 5, 6, 7];
-    assert!(rt;
-        report.as_slice().ends_with(
-            b"unit 7 done: last\ntally units 8 unborn 0 pool 0 stream 0 blocked 0 done 8 asked 0 access 0 steps 15\nfinished\n"
-        )
-    );
-    assert!(rt; waves.items().len() == 8);
-    for (i, wave) in waves.items().iter().enumerate() {
-        assert!(rt; wave.streams.items() == &all[..i + 1]);
+// How many lives a text has, if it is one's.
+fn count_lives(alloc: Global, w: &Workload, text: &str) -> Option<usize> {
+    match read_lives(alloc, w, text.as_bytes()) {
+        Ok(lives) => Some(lives.items().len()),
+        Err(_) => None,
     }
-    Ok(())
 }
 
-#[test]
-fn faults_are_found_at_their_lines(rt: HostRuntime) -> Result<(), Fail> {
-    let alloc = rt.alloc();
-    let w = read(alloc, format!(in alloc; "{PAIR}units 0\nend\n")?.as_bytes())?;
+// The line at which a text is refused, if it is.
+fn refused(alloc: Global, w: &Workload, text: &str) -> Option<u32> {
+    match read_lives(alloc, w, text.as_bytes()) {
+        Err(TextFault::Bad { line }) => Some(line),
+        _ => None,
+    }
+}
+
+// The first text that is not refused at its line, if there is one.
+fn other_than_refused(alloc: Global, w: &Workload) -> Option<&'static str> {
     for (text, line) in &FAULTS {
-        let found = read_lives(alloc, &w, text.as_bytes());
-        assert!(rt;
-            matches!(found, Err(TextFault::Bad { line: at }) if at == *line),
-            "{text}"
-        );
+        if refused(alloc, w, text) != Some(*line) {
+            return Some(text);
+        }
     }
-    Ok(())
+    None
+}
+
+// No units over the two streams.
+fn no_units(alloc: Global) -> Result<Workload, Fail> {
+    let (head, rest) = NO_UNITS;
+    let mut text = String::from_str(alloc, head)?;
+    text.push_str(rest)?;
+    Ok(read(alloc, text.as_bytes())?)
 }
 
 #[test]
-fn no_lives_are_read_of_no_text(rt: HostRuntime) -> Result<(), Fail> {
-    let alloc = rt.alloc();
-    let w = read(alloc, format!(in alloc; "{PAIR}units 0\nend\n")?.as_bytes())?;
-    assert!(rt; read_lives(alloc, &w, b"")?.items().is_empty());
-    assert!(rt;
-        read_lives(alloc, &w, b"life 1 0 1\nlife 0 1 0\n")?
-            .items()
-            .len()
-            == 2
-    );
+fn lives_are_read_or_refused(rt: HostRuntime) -> Result<(), Fail> {
+    let w = no_units(rt.alloc())?;
+    let none = count_lives(rt.alloc(), &w, "");
+    let two = count_lives(rt.alloc(), &w, "life 1 0 1\nlife 0 1 0\n");
+    let other = other_than_refused(rt.alloc(), &w);
+    assert!(rt; (none, two, other) == (Some(0), Some(2), None), "{other:?}");
     Ok(())
 }

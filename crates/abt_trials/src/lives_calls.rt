@@ -4,7 +4,7 @@ use abt_lives::abtwaves;
 use abt_order::StoredOrder;
 use abt_source::{MemoryFiles, MemorySink, NamedBytes};
 use abt_stream::NoPace;
-use std::alloc::Global;
+use std::alloc::{AllocError, Global};
 use std::sync::Wait;
 use std::test::Fail;
 use std::thread::Threads;
@@ -32,22 +32,14 @@ const STUCK_OUTPUT: &str =
 const BAD_WORDS: &str = "abtwaves: bad command line\n";
 
 // The words, the bytes of the files `w` and `l`, the write that fails, the status, the output and the message.
-type Row = (
-    &'static [&'static str],
-    &'static str,
-    &'static str,
-    u64,
-    u8,
-    &'static str,
-    &'static str,
-);
+type Row<'a> = (&'a [&'a str], &'a str, &'a [u8], u64, u8, &'a str, &'a str);
 
-static ROWS: [Row; 13] = [
-    (&["w", "l"], MADE, "life 1 0 1\n", NONE, 0, MADE_OUTPUT, ""),
+static ROWS: [Row<'static>; 13] = [
+    (&["w", "l"], MADE, b"life 1 0 1\n", NONE, 0, MADE_OUTPUT, ""),
     (
         &["w", "l"],
         STUCK,
-        "life 1 0 1\n",
+        b"life 1 0 1\n",
         NONE,
         1,
         STUCK_OUTPUT,
@@ -56,7 +48,7 @@ static ROWS: [Row; 13] = [
     (
         &["w", "l"],
         MADE,
-        "life 1 0 0\n",
+        b"life 1 0 0\n",
         NONE,
         3,
         "",
@@ -65,7 +57,7 @@ static ROWS: [Row; 13] = [
     (
         &["w", "l"],
         MADE,
-        "life 0 0 1\nlife 1 0 1",
+        b"life 0 0 1\nlife 1 0 1",
         NONE,
         3,
         "",
@@ -74,7 +66,7 @@ static ROWS: [Row; 13] = [
     (
         &["w", "l"],
         "abt 3\n",
-        "life",
+        b"life",
         NONE,
         3,
         "",
@@ -83,7 +75,7 @@ static ROWS: [Row; 13] = [
     (
         &["w", "l"],
         MADE,
-        "life 1 0 1\n",
+        b"life 1 0 1\n",
         0,
         6,
         "",
@@ -92,7 +84,7 @@ static ROWS: [Row; 13] = [
     (
         &["w", "x"],
         MADE,
-        "life 1 0 1\n",
+        b"life 1 0 1\n",
         NONE,
         5,
         "",
@@ -101,79 +93,105 @@ static ROWS: [Row; 13] = [
     (
         &["x", "l"],
         MADE,
-        "life 1 0 0\n",
+        b"life 1 0 0\n",
         NONE,
         5,
         "",
         "abtwaves: cannot read\n",
     ),
-    (&["w"], MADE, "", NONE, 2, "", BAD_WORDS),
-    (&["w", "l", "l"], MADE, "", NONE, 2, "", BAD_WORDS),
-    (&["-", "-"], MADE, "", NONE, 2, "", BAD_WORDS),
-    (&["w", ""], MADE, "", NONE, 2, "", BAD_WORDS),
-    (&["w", "-l"], MADE, "", NONE, 2, "", BAD_WORDS),
+    (&["w"], MADE, b"", NONE, 2, "", BAD_WORDS),
+    (&["w", "l", "l"], MADE, b"", NONE, 2, "", BAD_WORDS),
+    (&["-", "-"], MADE, b"", NONE, 2, "", BAD_WORDS),
+    (&["w", ""], MADE, b"", NONE, 2, "", BAD_WORDS),
+    (&["w", "-l"], MADE, b"", NONE, 2, "", BAD_WORDS),
 ];
 
-// A file of that name.
-fn file(alloc: Global, name: &str, bytes: &[u8]) -> Result<NamedBytes, Fail> {
-    Ok(NamedBytes {
-        name: String::from_str(alloc, name)?,
-        bytes: Vec::from_slice(alloc, bytes)?,
-    })
-}
-
-// The status of a call, its output and its message.
-fn call<R: Threads + Wait + Sync>(
-    rt: &R,
-    alloc: Global,
-    words: &[&str],
-    workload: &str,
-    lives: &[u8],
-    failing: u64,
-) -> Result<(u8, Vec<u8>, Vec<u8>), Fail> {
+// The words of a call.
+fn list_of(alloc: Global, words: &[&str]) -> Result<Vec<String>, AllocError> {
     let mut list = Vec::new(alloc);
     for word in words {
         list.push(String::from_str(alloc, word)?)?;
     }
-    let orders = [StoredOrder::rotating(), StoredOrder::mirroring()];
-    let named = vec![in alloc;
-        file(alloc, "w", workload.as_bytes())?,
-        file(alloc, "l", lives)?,
-    ]?;
-    let mut files = MemoryFiles::new(named, Vec::new(alloc));
+    Ok(list)
+}
+
+// The file of that name.
+fn file(alloc: Global, name: &str, bytes: &[u8]) -> Result<NamedBytes, AllocError> {
+    let name = String::from_str(alloc, name)?;
+    let bytes = Vec::from_slice(alloc, bytes)?;
+    Ok(NamedBytes { name, bytes })
+}
+
+// The files of a call.
+fn files_of(alloc: Global, workload: &str, lives: &[u8]) -> Result<MemoryFiles, AllocError> {
+    let w = file(alloc, "w", workload.as_bytes())?;
+    let l = file(alloc, "l", lives)?;
+    Ok(MemoryFiles::new(vec![in alloc; w, l]?, Vec::new(alloc)))
+}
+
+// Whether a call with these words over these files leaves what the row says. No write of the output takes more than 9 bytes.
+fn leaves<R: Threads + Wait + Sync>(
+    rt: &R,
+    alloc: Global,
+    words: &[String],
+    files: &mut MemoryFiles,
+    row: Row,
+) -> Result<bool, Fail> {
+    let (_, _, _, failing, status, wanted, message) = row;
     let mut out = MemorySink::new(alloc, ROOM, 9, vec![in alloc; failing]?)?;
     let mut err = MemorySink::new(alloc, ROOM, ROOM, Vec::new(alloc))?;
+    let orders = [StoredOrder::rotating(), StoredOrder::mirroring()];
     let ended = abtwaves(
-        rt, alloc, &list, &mut files, &mut out, &mut err, &NoPace, &orders,
+        rt, alloc, words, files, &mut out, &mut err, &NoPace, &orders,
     );
-    Ok((
-        ended.status,
-        Vec::from_slice(alloc, out.bytes())?,
-        Vec::from_slice(alloc, err.bytes())?,
-    ))
+    Ok(
+        ended.status == status
+            && out.bytes() == wanted.as_bytes()
+            && err.bytes() == message.as_bytes(),
+    )
+}
+
+// Whether a row's call leaves what the row says.
+fn is_left<R: Threads + Wait + Sync>(rt: &R, alloc: Global, row: Row) -> Result<bool, Fail> {
+    let (words, workload, lives, _, _, _, _) = row;
+    let words = list_of(alloc, words)?;
+    let mut files = files_of(alloc, workload, lives)?;
+    leaves(rt, alloc, &words, &mut files, row)
 }
 
 #[test]
 fn calls_on_lives_leave_what_their_rows_say(rt: HostRuntime) -> Result<(), Fail> {
-    let alloc = rt.alloc();
-    for (words, workload, lives, failing, status, out, err) in &ROWS {
-        let left = call(&rt, alloc, words, workload, lives.as_bytes(), *failing)?;
-        assert!(rt; left.0 == *status, "{lives}");
-        assert!(rt; left.1.as_slice() == out.as_bytes(), "{lives}");
-        assert!(rt; left.2.as_slice() == err.as_bytes(), "{lives}");
+    for row in &ROWS {
+        let is = is_left(&rt, rt.alloc(), *row)?;
+        assert!(rt; is, "{}{}", row.1, row.6);
     }
     Ok(())
 }
 
+// Whether a text of so many blanks is refused with this message.
+fn is_refused<R: Threads + Wait + Sync>(
+    rt: &R,
+    alloc: Global,
+    blanks: usize,
+    message: &str,
+) -> Result<bool, Fail> {
+    let lives = vec![in alloc; b' '; blanks]?;
+    let row = (
+        ["w", "l"].as_slice(),
+        MADE,
+        lives.as_slice(),
+        NONE,
+        3,
+        "",
+        message,
+    );
+    is_left(rt, alloc, row)
+}
+
 #[test]
 fn a_text_of_lives_has_65_536_bytes_at_most(rt: HostRuntime) -> Result<(), Fail> {
-    let alloc = rt.alloc();
-    let mut bytes = vec![in alloc; b' '; 65_536]?;
-    let most = call(&rt, alloc, &["w", "l"], MADE, &bytes, NONE)?;
-    assert!(rt; most.2.as_slice() == "abtwaves: line 1: life\n".as_bytes());
-    bytes.push(b' ')?;
-    let more = call(&rt, alloc, &["w", "l"], MADE, &bytes, NONE)?;
-    assert_eq!(rt; more.0, 3);
-    assert!(rt; more.2.as_slice() == "abtwaves: line 0: life\n".as_bytes());
+    let most = is_refused(&rt, rt.alloc(), 65_536, "abtwaves: line 1: life\n")?;
+    let more = is_refused(&rt, rt.alloc(), 65_537, "abtwaves: line 0: life\n")?;
+    assert!(rt; most && more);
     Ok(())
 }

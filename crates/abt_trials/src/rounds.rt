@@ -11,7 +11,7 @@ use std::process::Abort;
 use std::test::Fail;
 
 // Eight pools: for BASIC 1 and 6 are of the first class, 2, 3 and 7 of the second, and 0, 4 and 5 of the last.
-const HEAD: &str = "abt 1
+static HEAD: &str = "abt 1
 streams 2
 pool 0 fifo mpmc
 pool 1 fifo priv of 0
@@ -23,7 +23,7 @@ pool 6 deque priv of 1
 pool 7 fifo mpsc to 1
 ";
 
-const END: &str = "stream 0 main 0\nstream 1 main 1\nunits 0\nend\n";
+static END: &str = "stream 0 main 0\nstream 1 main 1\nunits 0\nend\n";
 
 // The number of the scheduler that is tried. PCG32's published words are those of stream 54 with seed 42.
 const TRIED: u32 = 54;
@@ -160,9 +160,10 @@ static TURNED: [Row; 4] = [
 fn text(alloc: Global, rule: &str) -> Result<String, AllocError> {
     let mut text = String::from_str(alloc, HEAD)?;
     for g in 0..TRIED {
-        text.push_str(&format!(in alloc; "sched {g} prio 0\n")?)?;
+        writeln!(text, "sched {g} prio 0")?;
     }
-    text.push_str(&format!(in alloc; "sched {TRIED} {rule}\n{END}")?)?;
+    writeln!(text, "sched {TRIED} {rule}")?;
+    text.push_str(END)?;
     Ok(text)
 }
 
@@ -222,23 +223,38 @@ fn are(order: &[PoolNo], wanted: &[u32]) -> bool {
     order.len() == wanted.len() && order.iter().zip(wanted).all(|(p, number)| p.0 == *number)
 }
 
-// The rounds of a row are those that it says: in a list each, and in the list of the round before.
+// Whether the rounds of the scheduler that is tried are these: in a list each, and in the list of the round before.
+fn are_rounds(
+    rt: &impl Abort,
+    alloc: Global,
+    w: &Workload,
+    orders: &[StoredOrder; 2],
+    rounds: &[&[u32]],
+) -> Result<bool, Want> {
+    let mut scheduler = tried(rt, w);
+    let mut other = tried(rt, w);
+    let mut kept = Vec::new(alloc);
+    for wanted in rounds {
+        let order = next_round(alloc, &mut scheduler, w, orders)?;
+        next_round_into(&mut other, w, orders, &mut kept)?;
+        if !are(&order, wanted) || !are(&kept, wanted) {
+            return Ok(false);
+        }
+    }
+    Ok(true)
+}
+
+// The rounds of a row are those that it says.
 fn check(
     rt: &impl Abort,
     alloc: Global,
     orders: &[StoredOrder; 2],
     (rule, rounds): Row,
 ) -> Result<(), Fail> {
-    let w = read(alloc, text(alloc, rule)?.as_bytes())?;
-    let mut scheduler = tried(rt, &w);
-    let mut other = tried(rt, &w);
-    let mut kept = Vec::new(alloc);
-    for wanted in rounds {
-        let order = next_round(alloc, &mut scheduler, &w, orders)?;
-        assert!(rt; are(&order, wanted), "{rule}");
-        next_round_into(&mut other, &w, orders, &mut kept)?;
-        assert!(rt; are(&kept, wanted), "{rule}");
-    }
+    let text = text(alloc, rule)?;
+    let w = read(alloc, text.as_bytes())?;
+    let are = are_rounds(rt, alloc, &w, orders, rounds)?;
+    assert!(rt; are, "{rule}");
     Ok(())
 }
 

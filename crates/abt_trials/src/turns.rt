@@ -5,10 +5,10 @@ ghost use Rattle.abt_order.specs.Schedulers.{IsStored};
 ghost use Rattle.abt_stream.specs.Streams.{FitsStream};
 ghost use Rattle.abt_stream.specs.Turned.{IsReady};
 
+use crate::reports::is_text_of;
 use abt_commons::{Objects, Plain, PlainPass};
 use abt_machine::{Journal, OrderShape, StreamNo, Want, Workload};
 use abt_order::StoredOrder;
-use abt_report::journal_text;
 use abt_stream::{NoPace, Stream, Turn};
 use abt_workload::read;
 use std::alloc::{AllocError, Global};
@@ -17,7 +17,7 @@ use std::test::Fail;
 
 // Stream 0 serves the pools 0 and 1, and stream 1 alone pool 2. The schedulers from 2 on are for units: 3 is not for stream 0,
 // and 6 and 7 go by stored order 0.
-const HEAD: &str = "abt 1
+static HEAD: &str = "abt 1
 streams 2
 keys 1
 pool 0 fifo mpmc
@@ -173,7 +173,10 @@ static FRAMES: [Row; 4] = [
 
 // The text of the workload with these units.
 fn text(alloc: Global, units: &str) -> Result<String, AllocError> {
-    format!(in alloc; "{HEAD}{units}end\n")
+    let mut text = String::from_str(alloc, HEAD)?;
+    text.push_str(units)?;
+    text.push_str("end\n")?;
+    Ok(text)
 }
 
 // The text of a journal of stream 0 with these events, whose stamps are 1, 2, 3 and so on.
@@ -182,7 +185,7 @@ fn journal(alloc: Global, events: &str) -> Result<String, AllocError> {
     let mut stamp: u64 = 0;
     for event in events.split(", ") {
         stamp = stamp.saturating_add(1);
-        text.push_str(&format!(in alloc; "{stamp} 0 {event}\n")?)?;
+        writeln!(text, "{stamp} 0 {event}")?;
     }
     Ok(text)
 }
@@ -263,12 +266,25 @@ fn events(
     Ok(Journal::new(stream.into_parts().log.into_items()))
 }
 
-// The events of a row are those that it says.
-fn check(rt: &impl Abort, alloc: Global, orders: &[StoredOrder; 2], row: Row) -> Result<(), Fail> {
-    let w = read(alloc, text(alloc, row.units)?.as_bytes())?;
-    let log = journal_text(alloc, &events(rt, alloc, &w, orders, row.steps)?)?;
+// Whether the events of a row, whose workload has been read, are those that it says.
+fn is_done(
+    rt: &impl Abort,
+    alloc: Global,
+    orders: &[StoredOrder; 2],
+    w: &Workload,
+    row: Row,
+) -> Result<bool, Want> {
     let wanted = journal(alloc, row.events)?;
-    assert!(rt; log.as_slice() == wanted.as_bytes(), "{}", row.units);
+    let done = events(rt, alloc, w, orders, row.steps)?;
+    Ok(is_text_of(alloc, &done, &wanted))
+}
+
+// They are.
+fn check(rt: &impl Abort, alloc: Global, orders: &[StoredOrder; 2], row: Row) -> Result<(), Fail> {
+    let text = text(alloc, row.units)?;
+    let w = read(alloc, text.as_bytes())?;
+    let is = is_done(rt, alloc, orders, &w, row)?;
+    assert!(rt; is, "{}", row.units);
     Ok(())
 }
 

@@ -1,11 +1,11 @@
-//! Whole runs on threads, by what their reports say.
+//! Whole runs on threads, whose journals are judged to be runs, by what their reports say.
 
-use crate::drains::{shared, shared_report};
+use crate::drains::{SHARED_REPORT, shared};
+use crate::reports::is_reported;
 use abt_check::{Verdict, check};
 use abt_generate::generate;
-use abt_machine::{StreamNo, UnitNo, Workload};
+use abt_machine::{StreamNo, UnitNo, Want, Workload};
 use abt_order::StoredOrder;
-use abt_report::{count_steps, report};
 use abt_stream::{NoPace, Pace};
 use abt_waves::run_streams;
 use abt_workload::read;
@@ -23,10 +23,10 @@ const TIMES: u32 = 10;
 const TURNS: u32 = 10_000_000;
 
 // Two streams that share nothing, with a step each.
-const APART: &str =
+static APART: &str =
     "abt 1\nstreams 2\npool 0 fifo priv of 0\npool 1 fifo priv of 1\nsched 0 prio 0\nsched 1 prio 1\nstream 0 main 0\nstream 1 main 1\nunits 2\nunit 0 ult at 0\nset 1\nunit 1 ult at 1\nset 1\nend\n";
 
-const APART_REPORT: &str =
+static APART_REPORT: &str =
     "unit 0 done:\nunit 1 done:\ntally units 2 unborn 0 pool 0 stream 0 blocked 0 done 2 asked 0 access 0 steps 2\nfinished\n";
 
 // Holds each step of one stream until the other has reached one, as long as the turns last.
@@ -68,70 +68,77 @@ impl Pace for Meeting {
     }
 }
 
-// The report of a run on threads.
-fn report_of<R: Threads + Wait + Sync, P: Pace + Sync>(
+// Whether a run on threads has this report, if it is stated, and a journal that is judged to be a run.
+fn is_run<R: Threads + Wait + Sync, P: Pace + Sync>(
     rt: &R,
     alloc: Global,
+    w: &Workload,
     pace: &P,
-    text: &str,
-) -> Result<Vec<u8>, Fail> {
-    let w = read(alloc, text.as_bytes())?;
+    report: Option<&str>,
+) -> Result<bool, Want> {
     let orders = [StoredOrder::rotating(), StoredOrder::mirroring()];
-    let run = run_streams(alloc, rt, &w, &orders, pace, 10_000)?;
-    let steps = count_steps(run.journal.items());
-    Ok(report(alloc, &w, &run.picture, run.outcome, steps)?)
+    let run = run_streams(alloc, rt, w, &orders, pace, 10_000)?;
+    let is = match report {
+        Some(text) => is_reported(alloc, w, &run.journal, &run.picture, run.outcome, text),
+        None => true,
+    };
+    Ok(is && check(alloc, w, &orders, &run.journal)? == Verdict::Run)
+}
+
+// Whether all runs are such.
+fn are_runs<R: Threads + Wait + Sync>(
+    rt: &R,
+    alloc: Global,
+    w: &Workload,
+    report: Option<&str>,
+) -> Result<bool, Want> {
+    for _ in 0..TIMES {
+        if !is_run(rt, alloc, w, &NoPace, report)? {
+            return Ok(false);
+        }
+    }
+    Ok(true)
+}
+
+// Whether they are, of two streams that share a number.
+fn share<R: Threads + Wait + Sync>(rt: &R, alloc: Global) -> Result<bool, Fail> {
+    let w = shared(alloc)?;
+    Ok(are_runs(rt, alloc, &w, Some(SHARED_REPORT))?)
 }
 
 #[test]
 fn streams_on_threads_share_a_number(rt: HostRuntime) -> Result<(), Fail> {
-    let alloc = rt.alloc();
-    let text = shared(alloc)?;
-    let wanted = shared_report(alloc)?;
-    for _ in 0..TIMES {
-        let report = report_of(&rt, alloc, &NoPace, text.as_str())?;
-        assert!(rt; report.as_slice() == wanted.as_bytes());
-    }
+    let they_do = share(&rt, rt.alloc())?;
+    assert!(rt; they_do);
     Ok(())
 }
 
-// Whether the journal of a run on threads is judged to be a run.
-fn is_judged_a_run<R: Threads + Wait + Sync>(
-    rt: &R,
-    alloc: Global,
-    w: &Workload,
-) -> Result<bool, Fail> {
-    let orders = [StoredOrder::rotating(), StoredOrder::mirroring()];
-    let run = run_streams(alloc, rt, w, &orders, &NoPace, 10_000)?;
-    Ok(check(alloc, w, &orders, &run.journal)? == Verdict::Run)
+// Whether they are, of 126 adders.
+fn add<R: Threads + Wait + Sync>(rt: &R, alloc: Global) -> Result<bool, Fail> {
+    let w = generate(alloc, 126)?;
+    Ok(are_runs(rt, alloc, &w, None)?)
 }
 
 #[test]
 fn journals_of_threads_are_judged_runs(rt: HostRuntime) -> Result<(), Fail> {
-    let alloc = rt.alloc();
-    let text = shared(alloc)?;
-    let w = read(alloc, text.as_bytes())?;
-    for _ in 0..TIMES {
-        assert!(rt; is_judged_a_run(&rt, alloc, &w)?);
-    }
-    let made = generate(alloc, 126)?;
-    for _ in 0..TIMES {
-        assert!(rt; is_judged_a_run(&rt, alloc, &made)?);
-    }
+    let they_are = add(&rt, rt.alloc())?;
+    assert!(rt; they_are);
     Ok(())
+}
+
+// Whether a run has its report, and a held step of this stream meets one of the other.
+fn meets<R: Threads + Wait + Sync>(rt: &R, alloc: Global, held: StreamNo) -> Result<bool, Fail> {
+    let w = read(alloc, APART.as_bytes())?;
+    let meeting = Meeting::new(held);
+    let is = is_run(rt, alloc, &w, &meeting, Some(APART_REPORT))?;
+    Ok(is && meeting.has_met())
 }
 
 #[test]
 fn steps_of_two_streams_meet(rt: HostRuntime) -> Result<(), Fail> {
-    let alloc = rt.alloc();
-    for held in [StreamNo(0), StreamNo(1)] {
-        let meeting = Meeting::new(held);
-        let report = report_of(&rt, alloc, &meeting, APART)?;
-        assert!(rt; report.as_slice() == APART_REPORT.as_bytes());
-        assert!(rt;
-            meeting.has_met(),
-            "the step of stream {} was alone",
-            held.0
-        );
-    }
+    let first = meets(&rt, rt.alloc(), StreamNo(0))?;
+    let second = meets(&rt, rt.alloc(), StreamNo(1))?;
+    assert!(rt; first, "stream 0 is held");
+    assert!(rt; second, "stream 1 is held");
     Ok(())
 }
