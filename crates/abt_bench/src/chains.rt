@@ -142,22 +142,32 @@ fn mutex_times<R: Print + Clock>(rt: &R, alloc: Global) -> io::Result<()> {
     let mut free = Vec::new(alloc);
     let mut handed = Vec::new(alloc);
     for _ in 0..ROUNDS {
-        let lone = unit(alloc, 0, 0)?;
-        let mut monitor = Monitor::new(alloc, 0).map_err(out_of_memory)?;
-        let start = Instant::now(rt)?;
-        free_turns(&mut monitor, lone);
-        free.push(start.elapsed(rt)?.as_nanos() / TURNS as u128)?;
-        let owner = unit(alloc, 0, 0)?;
-        let waiter = unit(alloc, 1, 0)?;
-        let mut monitor = Monitor::new(alloc, 0).map_err(out_of_memory)?;
-        let start = Instant::now(rt)?;
-        handed_turns(&mut monitor, owner, waiter);
-        handed.push(start.elapsed(rt)?.as_nanos() / TURNS as u128)?;
+        free.push(free_time(rt, alloc)?)?;
+        handed.push(handed_time(rt, alloc)?)?;
     }
     let (least, middle) = least_and_middle(&mut free)?;
     println!(rt; "lock and unlock a free mutex: {least} least, {middle} middle (ns)")?;
     let (least, middle) = least_and_middle(&mut handed)?;
     println!(rt; "lock and unlock a mutex that is handed over: {least} least, {middle} middle (ns)")
+}
+
+// What a turn of one unit took, alone at the mutex.
+fn free_time<R: Clock>(rt: &R, alloc: Global) -> io::Result<u128> {
+    let mut monitor = Monitor::new(alloc, 0).map_err(out_of_memory)?;
+    let lone = unit(alloc, 0, 0)?;
+    let start = Instant::now(rt)?;
+    free_turns(&mut monitor, lone);
+    Ok(start.elapsed(rt)?.as_nanos() / TURNS as u128)
+}
+
+// What a turn took at which one of two units has the mutex and the other waits.
+fn handed_time<R: Clock>(rt: &R, alloc: Global) -> io::Result<u128> {
+    let mut monitor = Monitor::new(alloc, 0).map_err(out_of_memory)?;
+    let owner = unit(alloc, 0, 0)?;
+    let waiter = unit(alloc, 1, 0)?;
+    let start = Instant::now(rt)?;
+    handed_turns(&mut monitor, owner, waiter);
+    Ok(start.elapsed(rt)?.as_nanos() / TURNS as u128)
 }
 
 fn free_turns(monitor: &mut Monitor, unit: Box<Unit>)

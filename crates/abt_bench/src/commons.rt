@@ -61,18 +61,33 @@ pub fn small<R: Threads + Wait + Sync + Print + Clock>(rt: &R, alloc: Global) ->
 /// Nanoseconds a call, the least and the middle of many rounds.
 pub fn times<R: Threads + Wait + Sync + Print + Clock>(rt: &R, alloc: Global) -> io::Result<()> {
     let w = workload(alloc, 1)?;
-    let apart = workload(alloc, SPREAD)?;
     if w.pools() < POOLS {
         return Ok(());
     }
+    form_times(rt, alloc, &w)?;
+    let apart = workload(alloc, SPREAD)?;
+    crowd_times(rt, alloc, &w, &apart)
+}
+
+fn form_times<R: Wait + Print + Clock>(rt: &R, alloc: Global, w: &Workload) -> io::Result<()>
+    requires { 4 ≤ length w.now.pools }
+{
     let mut forms = Forms::new(alloc);
     for _ in 0..ROUNDS {
-        forms.round(rt, alloc, &w)?;
+        forms.round(rt, alloc, w)?;
     }
-    forms.print(rt)?;
+    forms.print(rt)
+}
+
+fn crowd_times<R: Threads + Wait + Sync + Print + Clock>(
+    rt: &R,
+    alloc: Global,
+    w: &Workload,
+    apart: &Workload,
+) -> io::Result<()> {
     let mut crowds = Crowds::new(alloc);
     for _ in 0..ROUNDS {
-        crowds.round(rt, alloc, &w, &apart)?;
+        crowds.round(rt, alloc, w, apart)?;
     }
     crowds.print(rt)
 }

@@ -26,20 +26,41 @@ const LONG_WORD: &str = "say abcdefghijklmnopqrstuvwxyzabcdefghijklmnopqrstuvwxy
 /// A small workload and a small journal, there and back.
 pub fn small<R: Print>(rt: &R, alloc: Global) -> io::Result<()> {
     let text = text_of(alloc, 2, 3, "say hello")?;
-    let w = read(alloc, text.as_bytes()).map_err(not_read)?;
-    let written = write(alloc, &w).map_err(out_of_memory)?;
-    let picture = picture(alloc, &w)?;
-    let reported = report(alloc, &w, &picture, Outcome::Finished, 6).map_err(out_of_memory)?;
-    let lines = journal_text(alloc, &journal(alloc, 10)?).map_err(out_of_memory)?;
-    let events = read_lines(alloc, &lines)?;
+    let (written, reported) = sizes(alloc, text.as_bytes())?;
+    let (events, lines) = journal_sizes(alloc, 10)?;
     println!(rt;
         "texts: {read} bytes read, {written} written, {reported} reported; a journal of {events} events has {lines} bytes",
-        read = text.len(),
-        written = written.len(),
-        reported = reported.len(),
-        events = events.items().len(),
-        lines = lines.len()
+        read = text.len()
     )
+}
+
+// How many bytes are written of a workload, and how many its report has.
+fn sizes(alloc: Global, text: &[u8]) -> io::Result<(usize, usize)> {
+    let w = read(alloc, text).map_err(not_read)?;
+    let written = written_size(alloc, &w)?;
+    Ok((written, reported_size(alloc, &w)?))
+}
+
+fn written_size(alloc: Global, w: &Workload) -> io::Result<usize> {
+    Ok(write(alloc, w).map_err(out_of_memory)?.len())
+}
+
+fn reported_size(alloc: Global, w: &Workload) -> io::Result<usize> {
+    let picture = picture(alloc, w)?;
+    let reported = report(alloc, w, &picture, Outcome::Finished, 6).map_err(out_of_memory)?;
+    Ok(reported.len())
+}
+
+// How many events a journal of that many has when it is read back, and how many bytes its text has.
+fn journal_sizes(alloc: Global, events: u32) -> io::Result<(usize, usize)> {
+    let lines = journal_lines(alloc, events)?;
+    let read = read_lines(alloc, &lines)?;
+    Ok((read.items().len(), lines.len()))
+}
+
+fn journal_lines(alloc: Global, events: u32) -> io::Result<Vec<u8>> {
+    let journal = journal(alloc, events)?;
+    journal_text(alloc, &journal).map_err(out_of_memory)
 }
 
 /// Megabytes a second of each call, the best and the middle of many rounds.
