@@ -5,6 +5,7 @@ use Rattle.std.proofs.lemmas.List.Elements.{All-contains}
 use Rattle.std.proofs.lemmas.Option.{slice_get-get_or}
 use Rattle.abt_machine.specs.declared.events.Code.{Code}
 use Rattle.abt_machine.specs.declared.events.Code.TheVariants as code
+use Rattle.abt_machine.specs.declared.events.Site.{Site}
 use Rattle.abt_machine.specs.declared.events.Site.TheVariants as site
 use Rattle.abt_machine.specs.declared.events.What.{What}
 use Rattle.abt_machine.specs.declared.events.What.TheVariants as what
@@ -24,7 +25,7 @@ use Rattle.abt_machine.specs.Next.{RoundDue, StepDue, due}
 use Rattle.abt_machine.specs.Events.{May}
 use Rattle.abt_machine.specs.Sound.{Sound}
 use Rattle.abt_machine.specs.Values.{Held, NotHere, Object, Owned, object_of, owned_at, part_of}
-use Rattle.abt_machine.specs.Acts.{Answer, Given, Miss}
+use Rattle.abt_machine.specs.Acts.{Act, Answer, Given, Miss}
 use Rattle.abt_machine.specs.Acts as act
 use Rattle.abt_machine.specs.Gives.{SiteGives}
 use Rattle.abt_machine.specs.Plans.{Calls, Does, Exits, Plan, effect_of, plan_of}
@@ -36,13 +37,13 @@ use Rattle.abt_laws.proofs.Lists.{Among}
 use Rattle.abt_laws.proofs.Options.{none≢some, some-injective}
 use Rattle.abt_laws.proofs.Orders.{next_pool-listed}
 use Rattle.abt_laws.proofs.Places.{same-self}
-use Rattle.abt_laws.proofs.Standing.{among-standing}
+use Rattle.abt_laws.proofs.Standing.{StandsIn, among-standing, first-stands}
 use Rattle.abt_simulation.specs.Simulation.{CalledAnswers}
 use Rattle.abt_bounds.specs.Laws.{visited}
+use Rattle.abt_calls.specs.Allowed.{Allows}
 use Rattle.abt_calls.specs.Asking.{MayCall}
-use Rattle.abt_calls.proofs.Asked.{takes-may-call}
+use Rattle.abt_calls.proofs.Asked.{MayAsk, may-ask, takes-may-call}
 use Rattle.abt_calls.proofs.Replies.{allowed-is-answered}
-use Rattle.abt_events.proofs.Allowing.{IsAllowed, plan-allowed}
 
 -- Lists.
 
@@ -109,7 +110,7 @@ module _ (W : Parts) (Z : List OrderShape) (S : State) (s : ℕ) where
   }
   at-pool w p at is order _ object gives = absurd gives.2
 
-  performed : (a : Op) (o : Owned) (plan : Plan) → IsAllowed W S plan → Performed W S s a o plan
+  performed : (a : Op) (o : Owned) (plan : Plan) → ((x : Site) (asked : Act) → plan ≡ Calls x asked → Allows (object_of W S x) asked) → Performed W S s a o plan
   performed a o (Does e) allowed = record {
     heard = None;
     code = e.code;
@@ -119,7 +120,7 @@ module _ (W : Parts) (Z : List OrderShape) (S : State) (s : ℕ) where
     answers = tt;
   }
   performed a o (Calls x asked) allowed =
-      let is : (answer : Answer) × (new : Object) × SiteGives (object_of W S x) asked answer new = allowed-is-answered (object_of W S x) asked allowed in
+      let is : (answer : Answer) × (new : Object) × SiteGives (object_of W S x) asked answer new = allowed-is-answered (object_of W S x) asked (allowed x asked refl) in
       record {
         heard = Some (x, asked, is.0);
         code = (effect_of a o is.0).code;
@@ -170,8 +171,9 @@ module _ (W : Parts) (Z : List OrderShape) (S : State) (s : ℕ) where
     turn (what.Step u k c) may =
         let has : (a : Op) × (op_at W u.0 (S.carried u.0).position ≡ Some a) = has-op u.0 may.0 may.1 in
         let is : op_at W u.0 k ≡ Some has.0 = ap (op_at W u.0) (sym may.2) ∙ has.1 in
+        let stands : StandsIn W S (InHand s) u.0 = first-stands W S (InHand s) u.0 may.1 in
         let done : Performed W S s has.0 (owned_at S u.0) (plan_of W s has.0 (owned_at S u.0)) =
-        performed has.0 (owned_at S u.0) (plan_of W s has.0 (owned_at S u.0)) (plan-allowed W S s has.0 (owned_at S u.0) valid (op-declared W u.0 k has.0 valid is)) in
+        performed has.0 (owned_at S u.0) (plan_of W s has.0 (owned_at S u.0)) (λ x asked planned. (let ask : MayAsk W x asked = may-ask W s has.0 (owned_at S u.0) x asked valid stands.declared (op-declared W u.0 k has.0 valid is) planned in ask.allowed S)) in
         record {
           does = what.Step u k done.code;
           heard = done.heard;

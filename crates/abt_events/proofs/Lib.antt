@@ -1,4 +1,3 @@
-pub mod Allowing
 pub mod Doing
 pub mod Events
 pub mod Forgotten
