@@ -35,7 +35,7 @@ use Rattle.abt_shell.specs.Told.{Grew}
 use Rattle.abt_shell.proofs.Calls.{reads-well, writes-well}
 use Rattle.abt_shell.proofs.Fetched.{of-observed}
 use Rattle.abt_run.specs.Call.{Call, Decides, EndsBy, Holds, IsAnswered, IsOfRun, RunsKnown, program}
-use Rattle.abt_run.specs.Given.{Compares, Given, IsNoJournalAt, IsReadFrom, IsTextOf, SaysNothing, Tells, workload_file}
+use Rattle.abt_run.specs.Given.{Compares, Given, IsNoJournalAt, IsReadFrom, IsTextOf, SaysNothing, Tells, journal_limit, workload_file}
 use Rattle.abt_run.specs.Printed.{AsksFlow, HasVerdict, IsFor, Prints, Ran, steps_for}
 use Rattle.abt_run.specs.Status.{number_of_conclusion}
 use Rattle.abt_run.specs.declared.status.Conclusion.{Conclusion}
@@ -68,8 +68,8 @@ module _ (g : Given) (file : Text) where
 
   not-bad : (J : List Event) (line : ℕ) → Tells g file (IsTextOf J) → IfSome (g.file file) (λ bytes. IsNoJournalAt bytes line) → ⊥
   not-bad J zero tells is =
-      let long : 1073741824 < length tells.0 = of-observed (λ text. IsNoJournalAt text 0) (g.file file) tells.0 tells.1 is in
-      let short : length tells.0 ≤ 1073741824 = tells.2.short in
+      let long : journal_limit < length tells.0 = of-observed (λ text. IsNoJournalAt text 0) (g.file file) tells.0 tells.1 is in
+      let short : length tells.0 ≤ journal_limit = tells.2.short in
       absurd (omega arith)
   not-bad J (suc l) tells is =
       let bad : IsNoJournalAt tells.0 (suc l) = of-observed (λ text. IsNoJournalAt text (suc l)) (g.file file) tells.0 tells.1 is in

@@ -8,10 +8,12 @@ use Rattle.std.proofs.lemmas.List.Elements.{All-head, All-tail}
 use Rattle.abt_machine.specs.declared.events.Event.{Event}
 use Rattle.abt_machine.specs.declared.events.What.{What}
 use Rattle.abt_machine.specs.declared.events.What.TheVariants as what
+use Rattle.abt_machine.specs.declared.grammar.Format.TheVariants as format
 use Rattle.abt_machine.specs.declared.program.Fault.{Fault}
 use Rattle.abt_machine.specs.declared.program.Fault.TheVariants as fault
 use Rattle.abt_machine.specs.declared.workload.Parts.{Parts}
 use Rattle.abt_machine.specs.Grammar.{Reads, Refuses, fault_at, format_of}
+use Rattle.abt_machine.specs.Limits.{text_limit}
 use Rattle.abt_machine.specs.Spelling.{lines_of}
 use Rattle.abt_machine.specs.Words.{Text}
 use Rattle.abt_bounds.specs.Laws.{IsWritten, what_numbers}
@@ -26,45 +28,45 @@ use Rattle.abt_workload.specs.Reading.{IsCause}
 use Rattle.abt_workload.specs.declared.reading.NotRead.{NotRead}
 use Rattle.abt_workload.specs.declared.reading.NotRead.TheVariants as cause
 use Rattle.abt_workload.proofs.Seen.{length-fault, most-bytes}
-use Rattle.abt_run.specs.Given.{IsNoJournalAt, IsTextOf}
+use Rattle.abt_run.specs.Given.{IsNoJournalAt, IsTextOf, journal_limit}
 
 -- Workloads.
 
 -- a text of more bytes is refused for its length
-too-long : (text : Text) → 8388608 < length text → fault_at text 0 ≡ Some fault.Limit
+too-long : (text : Text) → text_limit format.Two < length text → fault_at text 0 ≡ Some fault.Limit
 too-long text long = length-fault text (let few = most-bytes (format_of (lines_of text)) in omega (arith, few, long))
 
 -- what is read is short
-reads-short : (text : Text) (W : Parts) → Reads text W → length text ≤ 8388608
-reads-short text W reads = elim (cases_lt 8388608 (length text)) [ inl long ↦ long-read long | inr short ↦ short ] where
-  long-read : 8388608 < length text → length text ≤ 8388608
+reads-short : (text : Text) (W : Parts) → Reads text W → length text ≤ text_limit format.Two
+reads-short text W reads = elim (cases_lt (text_limit format.Two) (length text)) [ inl long ↦ long-read long | inr short ↦ short ] where
+  long-read : text_limit format.Two < length text → length text ≤ text_limit format.Two
   long-read long = let one : fault_at text 0 ≡ None = reads.faultless 0 in let other = too-long text long in cc
 
 -- a long text is refused for its length alone
-refused-long : (text : Text) (line : ℕ) (f : Fault) → Refuses text line f → 8388608 < length text → (line ≡ 0) × (f ≡ fault.Limit)
+refused-long : (text : Text) (line : ℕ) (f : Fault) → Refuses text line f → text_limit format.Two < length text → (line ≡ 0) × (f ≡ fault.Limit)
 refused-long text zero f refuses long = let one = refuses.first in let other = too-long text long in (refl, cc)
 refused-long text (suc line) f refuses long = let one = refuses.least 0 (omega arith) in let other = too-long text long in absurd cc
 
 -- the observable bytes of the file read as the prefix does
-pub told-reads : (told : Option Text) (front : Text) (W : Parts) → IfSome told (λ xs. front ≡ take 8388609 xs) → Reads front W → IfSome told (λ xs. Reads xs W)
-told-reads told front W e reads = of-whole 8388608 (λ text. Reads text W) told front e (reads-short front W reads) reads
+pub told-reads : (told : Option Text) (front : Text) (W : Parts) → IfSome told (λ xs. front ≡ take (suc (text_limit format.Two)) xs) → Reads front W → IfSome told (λ xs. Reads xs W)
+told-reads told front W e reads = of-whole (text_limit format.Two) (λ text. Reads text W) told front e (reads-short front W reads) reads
 
 -- and are refused as the prefix is
-told-refuses : (told : Option Text) (front : Text) (line : ℕ) (f : Fault) → IfSome told (λ xs. front ≡ take 8388609 xs) → Refuses front line f → IfSome told (λ xs. Refuses xs line f)
+told-refuses : (told : Option Text) (front : Text) (line : ℕ) (f : Fault) → IfSome told (λ xs. front ≡ take (suc (text_limit format.Two)) xs) → Refuses front line f → IfSome told (λ xs. Refuses xs line f)
 told-refuses None front line f e refuses = tt
-told-refuses (Some xs) front line f e refuses = elim (cases_lt 8388608 (length front)) [
+told-refuses (Some xs) front line f e refuses = elim (cases_lt (text_limit format.Two) (length front)) [
   | inl long ↦ refused-whole long
-  | inr short ↦ subst (λ text. Refuses text line f) (whole 8388608 front xs e short) refuses
+  | inr short ↦ subst (λ text. Refuses text line f) (whole (text_limit format.Two) front xs e short) refuses
 ] where
-  refused-whole : 8388608 < length front → Refuses xs line f
+  refused-whole : text_limit format.Two < length front → Refuses xs line f
   refused-whole long =
       let is = refused-long front line f refuses long in
-      let n : length front ≡ min 8388609 (length xs) = ap length e ∙ length-take 8388609 xs in
+      let n : length front ≡ min (suc (text_limit format.Two)) (length xs) = ap length e ∙ length-take (suc (text_limit format.Two)) xs in
       let all : Refuses xs 0 fault.Limit = record { least = λ above below. absurd (omega arith); first = too-long xs (omega arith) } in
       subst (λ l. Refuses xs l f) (sym is.0) (subst (λ g. Refuses xs 0 g) (sym is.1) all)
 
 -- and by the cause that its reader states
-pub told-refused : (told : Option Text) (front : Text) (c : NotRead) (line l : ℕ) (f g : Fault) → IfSome told (λ xs. front ≡ take 8388609 xs) → c ≡ cause.Refused line f → l ≡ line → g ≡ f → IsCause front c → IfSome told (λ xs. Refuses xs l g)
+pub told-refused : (told : Option Text) (front : Text) (c : NotRead) (line l : ℕ) (f g : Fault) → IfSome told (λ xs. front ≡ take (suc (text_limit format.Two)) xs) → c ≡ cause.Refused line f → l ≡ line → g ≡ f → IsCause front c → IfSome told (λ xs. Refuses xs l g)
 told-refused told front c line l f g e is same equal why =
     subst (λ k. IfSome told (λ xs. Refuses xs k g)) (sym same)
     (subst (λ h. IfSome told (λ xs. Refuses xs line h)) (sym equal) (told-refuses told front line f e (subst (IsCause front) is why)))
@@ -72,20 +74,20 @@ told-refused told front c line l f g e is same equal why =
 -- Journals.
 
 -- a text of more bytes than were asked for is too long
-pub told-long : (told : Option Text) (front : Text) → IfSome told (λ xs. front ≡ take 1073741825 xs) → 1073741824 < length front → IfSome told (λ bytes. IsNoJournalAt bytes 0)
-told-long told front e long = of-long 1073741824 (λ bytes. IsNoJournalAt bytes 0) told front e long (λ xs more. more)
+pub told-long : (told : Option Text) (front : Text) → IfSome told (λ xs. front ≡ take (suc journal_limit) xs) → journal_limit < length front → IfSome told (λ bytes. IsNoJournalAt bytes 0)
+told-long told front e long = of-long journal_limit (λ bytes. IsNoJournalAt bytes 0) told front e long (λ xs more. more)
 
 -- a shorter one is the journal's that was read
-pub told-journal : (told : Option Text) (front : Text) (J : List Event) → IfSome told (λ xs. front ≡ take 1073741825 xs) → length front ≤ 1073741824 → All IsEvent J
+pub told-journal : (told : Option Text) (front : Text) (J : List Event) → IfSome told (λ xs. front ≡ take (suc journal_limit) xs) → length front ≤ journal_limit → All IsEvent J
     → journal_text J ≡ front → IfSome told (IsTextOf J)
-told-journal told front J e short events text = of-whole 1073741824 (IsTextOf J) told front e short (record { events = events; text = text; short = short })
+told-journal told front J e short events text = of-whole journal_limit (IsTextOf J) told front e short (record { events = events; text = text; short = short })
 
 -- or has the bad line
-pub told-bad : (told : Option Text) (front : Text) (c : TextFault) (line l : ℕ) → IfSome told (λ xs. front ≡ take 1073741825 xs) → length front ≤ 1073741824 → c ≡ bad.Bad line → l ≡ line
+pub told-bad : (told : Option Text) (front : Text) (c : TextFault) (line l : ℕ) → IfSome told (λ xs. front ≡ take (suc journal_limit) xs) → length front ≤ journal_limit → c ≡ bad.Bad line → l ≡ line
     → journals.IsCause front c → IfSome told (λ bytes. IsNoJournalAt bytes l)
 told-bad told front c line l e short is same why =
     subst (λ k. IfSome told (λ bytes. IsNoJournalAt bytes k)) (sym same)
-    (of-whole 1073741824 (λ bytes. IsNoJournalAt bytes line) told front e short (at line (subst (journals.IsCause front) is why)))
+    (of-whole journal_limit (λ bytes. IsNoJournalAt bytes line) told front e short (at line (subst (journals.IsCause front) is why)))
   where
     no-line-zero : journals.IsBadAt front 0 → ⊥
     no-line-zero h = let line : suc (length h.0) ≡ 0 = h.2.line in absurd (omega arith)

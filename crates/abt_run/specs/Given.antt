@@ -54,17 +54,21 @@ Tells g file Is = (bytes : Text) × (g.file file ≡ Some bytes) × Is bytes
 abbrev pub IsReadFrom : Given → Text → Parts → Type 0
 IsReadFrom g file W = IfSome (g.file file) (λ bytes. Reads bytes W)
 
--- Journals as texts. A text of more than 1,073,741,824 bytes is none.
+-- Journals as texts.
+
+-- how many bytes the text of a journal has at most
+abbrev pub journal_limit : ℕ
+journal_limit = 1073741824
 
 pub record IsTextOf (J : List Event) (bytes : Text) : Type 0 where
   pub events : All IsEvent J
   pub text : journal_text J ≡ bytes
-  pub short : length bytes ≤ 1073741824
+  pub short : length bytes ≤ journal_limit
 
 -- the line that keeps the bytes from being a journal's text, counted from 1; 0 is their length
 abbrev pub IsNoJournalAt : Text → ℕ → Type 0
-IsNoJournalAt bytes zero = 1073741824 < length bytes
-IsNoJournalAt bytes (suc l) = (length bytes ≤ 1073741824) × IsBadAt bytes (suc l) × IsNoJournal bytes
+IsNoJournalAt bytes zero = journal_limit < length bytes
+IsNoJournalAt bytes (suc l) = (length bytes ≤ journal_limit) × IsBadAt bytes (suc l) × IsNoJournal bytes
 
 -- the words ask to compare a workload, which is W, with a journal, of whose bytes this holds, if they are observable
 pub record Compares (g : Given) (W : Parts) (Is : Text → Type 0) : Type 0 where

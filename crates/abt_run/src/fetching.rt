@@ -5,18 +5,15 @@ ghost use Rattle.abt_machine.specs.Grammar.{Reads};
 ghost use Rattle.abt_run.specs.Given.{IsTextOf};
 ghost use Rattle.abt_run.specs.Prepared.{HasNoWorkload, HasNoJournal};
 
-use abt_machine::{Journal, Workload};
+use abt_machine::{Format, Journal, Workload};
 use abt_report::{TextFault, read_journal};
 use abt_shell::{Stop, Wrong, bytes_of};
 use abt_source::Files;
 use abt_workload::{NotRead, read};
 use std::alloc::Global;
 
-// The most bytes that a workload text has, in either format.
-const MOST: usize = 8_388_608;
-
-// The most bytes that a journal's text has.
-const MOST_OF_JOURNAL: usize = 1_073_741_824;
+// How many bytes the text of a journal has at most.
+const JOURNAL_LIMIT: usize = 1_073_741_824;
 
 /// The workload of a file.
 ///
@@ -29,7 +26,7 @@ pub fn fetch<F: Files>(alloc: Global, file: &str, files: &mut F) -> Result<Workl
     ensures same { (name : List ℕ) → F.file files.new name ≡ F.file files.old name }
     ensures later { F.faults files.old ≤ F.faults files.new }
 {
-    let bytes = bytes_of(alloc, file, files, MOST)?;
+    let bytes = bytes_of(alloc, file, files, Format::Two.text_limit())?;
     match read(alloc, &bytes) {
         Ok(w) => Ok(w),
         Err(NotRead::Refused { line, fault }) => Err(Stop::BadLine(line, Wrong::Workload(fault))),
@@ -47,8 +44,8 @@ pub(crate) fn fetch_journal<F: Files>(
     ensures stop { IfErr result (HasNoJournal (F.file files.old file.now) (F.faults files.old, F.faults files.new)) }
     ensures later { F.faults files.old ≤ F.faults files.new }
 {
-    let bytes = bytes_of(alloc, file, files, MOST_OF_JOURNAL)?;
-    if bytes.len() > MOST_OF_JOURNAL {
+    let bytes = bytes_of(alloc, file, files, JOURNAL_LIMIT)?;
+    if bytes.len() > JOURNAL_LIMIT {
         return Err(Stop::BadLine(0, Wrong::Journal));
     }
     match read_journal(alloc, &bytes) {
