@@ -40,34 +40,7 @@ module _ (W : Parts) (Found : ℕ → ℕ → Type 0) (old m : Memory) (says : S
   led (op.EvWait x) declared is = same-output W old m (ap (λ (x : Memory). x.output) is.2) says
   led (op.EvSet x) declared is = same-output W old m (ap (λ (x : Memory). x.output) is) says
   led (op.BarWait x) declared is = same-output W old m (ap (λ (x : Memory). x.output) is) says
-  led (op.YieldTo v p) declared is = absurd is
-  led op.Suspend declared is = absurd is
-  led op.Exit declared is = absurd is
-  led (op.Resume v) declared is = absurd is
-  led (op.Cancel v) declared is = absurd is
-  led (op.Migrate v p) declared is = absurd is
-  led (op.MigrateTo v r) declared is = absurd is
-  led (op.Migratable v b) declared is = absurd is
-  led (op.Revive v p) declared is = absurd is
-  led (op.Lock x) declared is = absurd is
-  led (op.TryLock x) declared is = absurd is
-  led (op.Unlock x) declared is = absurd is
-  led (op.Load x) declared is = absurd is
-  led (op.Store x) declared is = absurd is
-  led (op.CondWait x) declared is = absurd is
-  led (op.Signal x) declared is = absurd is
-  led (op.Broadcast x) declared is = absurd is
-  led (op.EvReset x) declared is = absurd is
-  led (op.EvTest x) declared is = absurd is
-  led (op.FuWait x) declared is = absurd is
-  led (op.FuSet x) declared is = absurd is
-  led (op.FuReset x) declared is = absurd is
-  led (op.FuTest x) declared is = absurd is
-  led (op.ReadLock x) declared is = absurd is
-  led (op.WriteLock x) declared is = absurd is
-  led (op.RwUnlock x) declared is = absurd is
-  led (op.RwLoad x) declared is = absurd is
-  led (op.RwStore x) declared is = absurd is
+  led _ declared is = absurd is
 
   done : (o : Option Op) → ((p : Op) → o ≡ Some p → IsDeclared W p) → Does Found o old m → Says W m
   done None declared is = absurd is
