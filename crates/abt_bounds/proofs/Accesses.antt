@@ -1,7 +1,7 @@
 -- Along every run streams keep to the access of pools.
 use Rattle.std.proofs.Common.{◌≡◌, ℕ, zero, suc, ◌<◌, ◌==◌, nat_lt, Bool, true, false, List, [], ◌∷◌, ◌++◌, length, Option, Some, None, slice_index_or, refl, sym, ◌∙◌, ap₂, subst, arith, inl, inr}
-use Rattle.std.specs.Prelude.{IsTrue}
-use Rattle.std.proofs.lemmas.Bool.{cond_both}
+use Rattle.std.specs.Prelude.{IfSome, IsTrue}
+use Rattle.std.proofs.lemmas.Bool.{cond_both, false≢true}
 use Rattle.std.proofs.lemmas.List.Elements.{All-contains}
 use Rattle.std.proofs.lemmas.List.Sums.{AllPass-from_list_all}
 use Rattle.abt_machine.specs.declared.events.Cause.TheVariants as cause
@@ -12,7 +12,6 @@ use Rattle.abt_machine.specs.declared.events.What.TheVariants as what
 use Rattle.abt_machine.specs.declared.operations.Body.{Body}
 use Rattle.abt_machine.specs.declared.operations.Body.TheVariants as body
 use Rattle.abt_machine.specs.declared.operations.Op.{Op}
-use Rattle.abt_machine.specs.declared.operations.Op.TheVariants as op
 use Rattle.abt_machine.specs.declared.operations.OrderShape.{OrderShape}
 use Rattle.abt_machine.specs.declared.workload.Parts.{Parts}
 use Rattle.abt_machine.specs.Access.{may_put, may_take, may_take_all}
@@ -23,19 +22,18 @@ use Rattle.abt_machine.specs.Maps.{put_all, put_at}
 use Rattle.abt_machine.specs.Next.{EndDue, EnterDue, StepDue, due_of_ops, due_of_unit}
 use Rattle.abt_machine.specs.Rounds.{IsNextPool}
 use Rattle.abt_machine.specs.Runs.{RunFrom, state_after}
-use Rattle.abt_machine.specs.Sites.{first_pool}
 use Rattle.abt_machine.specs.Sound.{frames_of}
 use Rattle.abt_machine.specs.Start.{start}
 use Rattle.abt_machine.specs.State.{State, Stream, Frame, Mark, Plain, Asked, Left, Exited}
 use Rattle.abt_machine.specs.Workloads.{body_at, op_at, pools_of}
-use Rattle.abt_laws.proofs.Codes.{unless-ok}
 use Rattle.abt_laws.proofs.Dues.{due-unit}
 use Rattle.abt_laws.proofs.Lists.{EachOf}
 use Rattle.abt_laws.proofs.Maps.{put_at-cases}
 use Rattle.abt_laws.proofs.Orders.{next_pool-listed}
 use Rattle.abt_laws.proofs.StepStreams.{step-keeps-frames}
-use Rattle.abt_bounds.specs.Accesses.{FramesHaveAccess, IsWithinAccess, KeepsAccess, MayRun}
+use Rattle.abt_bounds.specs.Accesses.{FramesHaveAccess, IsWithinAccess, KeepsAccess, MayRun, pool_given, pool_taken}
 use Rattle.abt_bounds.specs.Laws.{EventsKeepAccess, RunsKeepAccess, StartHasAccess}
+use Rattle.abt_bounds.proofs.Denied.{denied}
 
 -- Events.
 
@@ -44,15 +42,21 @@ next-taken : (W : Parts) (Z : List OrderShape) (s p : ℕ) (f : Frame) → IsTru
 next-taken W Z s p f all next =
     All-contains (λ q. may_take W s q ≡ true) (pools_of W f.sched) p (AllPass-from_list_all (may_take W s) (pools_of W f.sched) all) (next_pool-listed W Z f p next)
 
+-- what can't be refused is so
+stays : (test : Bool) → ((IsTrue test → ⊥) → ⊥) → IsTrue test
+stays true h = refl
+stays false h = absurd (h (λ e. false≢true e))
+
+all-stays : (o : Option ℕ) (may : ℕ → Bool) → ((IfSome o (λ p. IsTrue (may p)) → ⊥) → ⊥) → IfSome o (λ p. IsTrue (may p))
+all-stays None may h = tt
+all-stays (Some p) may h = stays (may p) h
+
 -- an operation that goes through
 within : (W : Parts) (S : State) (s u : ℕ) (o : Option Op) → code_at W S s u o ≡ code.Ok → IsWithinAccess W s o
 within W S s u None h = (tt, tt)
-within W S s u (Some (op.YieldTo v p)) h = ((unless-ok (may_take W s p.0) code.PoolAccess _ tt h).0, tt)
-within W S s u (Some (op.Create v p)) h = (tt, (unless-ok (may_put W s p.0) code.PoolAccess _ tt h).0)
-within W S s u (Some (op.Migrate v p)) h = (tt, (unless-ok (may_put W s p.0) code.PoolAccess _ tt h).0)
-within W S s u (Some (op.MigrateTo v r)) h = (tt, (unless-ok (may_put W s (first_pool W r.0)) code.PoolAccess _ tt h).0)
-within W S s u (Some (op.Revive v p)) h = (tt, (unless-ok (may_put W s p.0) code.PoolAccess _ tt h).0)
-within W S s u (Some _) h = (tt, tt)
+within W S s u (Some o) h =
+    let goes : (IsWithinAccess W s (Some o) → ⊥) → ⊥ = λ none. (let e : code.Ok ≡ code.PoolAccess = sym h ∙ (denied W S s u o).1 none in cc) in
+    (all-stays (pool_taken (Some o)) (may_take W s) (λ out. goes (λ is. out is.0)), all-stays (pool_given W (Some o)) (may_put W s) (λ out. goes (λ is. out is.1)))
 
 event-within : (W : Parts) (Z : List OrderShape) (S : State) (s : ℕ) (w : What) → s < W.streams → FramesHaveAccess W S → May W Z S s w → KeepsAccess W s w
 event-within W Z S s (what.Miss p) declared has may = next-taken W Z s p.0 (S.stream s).top (has s declared).0 may.2

@@ -1,43 +1,42 @@
 -- What is held at the start and what steps leave are the workload's.
-use Rattle.std.proofs.Common.{◌≡◌, ℕ, ◌<◌, Bool, true, false, List, [], ◌∷◌, length, map, Option, Some, None, refl, subst, arith, All}
-use Rattle.std.specs.Prelude.{if◌then◌else◌, ◌+◌, ◌%◌, ◌^◌, slice_index, slice_set}
+use Rattle.std.proofs.Common.{◌≡◌, ℕ, ◌<◌, List, [], ◌∷◌, length, map, Option, Some, None, option_map, refl, ◌∙◌, ap, arith, All}
 use Rattle.std.specs.List.{flat_map}
-use Rattle.std.proofs.lemmas.List.{length-replicate, length-set}
+use Rattle.std.proofs.lemmas.List.{length-replicate}
 use Rattle.std.proofs.lemmas.List.Elements.{All-append, All-cons, All-head, All-nil}
 use Rattle.abt_machine.specs.declared.events.Code.TheVariants as code
-use Rattle.abt_machine.specs.declared.events.Piece.TheVariants as piece
 use Rattle.abt_machine.specs.declared.events.Place.{Place}
 use Rattle.abt_machine.specs.declared.events.Place.TheVariants as place
 use Rattle.abt_machine.specs.declared.events.Site.{Site}
 use Rattle.abt_machine.specs.declared.events.Site.TheVariants as site
 use Rattle.abt_machine.specs.declared.events.Spot.TheVariants as spot
 use Rattle.abt_machine.specs.declared.operations.Op.{Op}
-use Rattle.abt_machine.specs.declared.operations.Op.TheVariants as op
 use Rattle.abt_machine.specs.declared.operations.Thing.{Thing}
 use Rattle.abt_machine.specs.declared.operations.Thing.TheVariants as thing
 use Rattle.abt_machine.specs.declared.workload.Parts.{Parts}
-use Rattle.abt_machine.specs.Operations.{IsDeclared}
+use Rattle.abt_machine.specs.Operations.{nature_of}
 use Rattle.abt_machine.specs.Workloads.{op_at, start_of, thing_at}
-use Rattle.abt_machine.specs.Access.{may_put, may_take}
-use Rattle.abt_machine.specs.Sites.{first_pool, home_from}
+use Rattle.abt_machine.specs.Carrying.{advanced}
+use Rattle.abt_machine.specs.Sites.{home_from}
 use Rattle.abt_machine.specs.Valid.{IsValid}
-use Rattle.abt_machine.specs.State.{State}
+use Rattle.abt_machine.specs.State.{Carried, State}
 use Rattle.abt_machine.specs.Start.{start}
 use Rattle.abt_machine.specs.Lines.{Line, InPool, Joining, Waiting, standing}
 use Rattle.abt_machine.specs.Pieces.{IsPieceOf}
 use Rattle.abt_machine.specs.Values.{Owned, barrier_at, conditions_of, eventual_at, future_at, monitor_at, object_of, rwlock_at, owned_at, owned_in, phase_at, waiters_at}
-use Rattle.abt_machine.specs.Acts.{Act, Answer, Given, Through, Woke, Rested, Miss, Number, Asks, Coded, Back, carrying, moved}
-use Rattle.abt_machine.specs.Plans.{Plan, Does, Calls, Exits, denied, effect_of, plan_of, to_caller, to_condition, to_giver, to_yielder}
-use Rattle.abt_machine.proofs.Declared.{op-declared, start-declared}
+use Rattle.abt_machine.specs.Acts.{Answer, Given, Through, Woke, Rested, Miss, Number, Asks, Coded, Back, carrying, moved}
+use Rattle.abt_machine.specs.Plans.{Plan, Does, Calls, Exits, plan_of, to_caller, to_condition, to_giver, to_yielder}
+use Rattle.abt_machine.proofs.Declared.{start-declared}
 use Rattle.abt_laws.proofs.Lists.{EachOf}
 use Rattle.abt_laws.proofs.Standing.{StandsIn, each-stands}
 use Rattle.abt_unit.specs.Fits.{Fits}
-use Rattle.abt_unit.proofs.Fitting.{Fits-moved, Fits-noted, Fits-printed, Fits-received}
+use Rattle.abt_unit.specs.Local.{local_step, local_step_at, with_carried}
+use Rattle.abt_unit.proofs.Fitting.{Fits-local_step, Fits-moved, Fits-noted, Fits-received}
 use Rattle.abt_chain.specs.Keeping.{IsPoolOf, contents_answered}
 use Rattle.abt_desk.specs.Keeps.{held_in}
 use Rattle.abt_calls.specs.Asking.{IsSite}
 use Rattle.abt_calls.specs.Effects.{units_left}
 use Rattle.abt_calls.specs.Keeps.{EffectsFit, OwnStepsFit, StartFits, contents_of}
+use Rattle.abt_calls.proofs.Shapes.{Asker, Caller, Giver, Waiter, Yielder, Facts, Shape, Locally, Yields, Leaves, Refused, Calling, brought, by-shape, plan_by}
 
 -- What holds of each declared unit of a state holds of all that its objects have.
 
@@ -143,71 +142,10 @@ module _ (W : Parts) where
   one-fits : (o : Owned) → Fits W o → All (Fits W) (o ∷ [])
   one-fits o fits = All-cons (Fits W) o [] fits (All-nil (Fits W))
 
-  key-fits : (o : Owned) (k n : ℕ) → Fits W o → Fits W (carrying (λ c. record c { keys = slice_set c.keys k n }) o)
-  key-fits o k n fits = record {
-    number = fits.number;
-    home = fits.home;
-    keys = rw length-set fits.keys;
-    position = fits.position;
-    output = fits.output;
-  }
-
-  -- what is planned without a call leaves a unit that fits, and so does an exit
-  abbrev PlanFits : Plan → Type 0
-  PlanFits (Does e) = All (Fits W) (units_left e)
-  PlanFits (Calls x asked) = Unit {0}
-  PlanFits (Exits b) = Fits W b
-
-  reached : (may : Bool) (x : Site) (asked : Act) (o : Owned) → Fits W (moved o) → PlanFits (if may then Calls x asked else denied o)
-  reached true x asked o fits = tt
-  reached false x asked o fits = one-fits _ (Fits-noted fits code.PoolAccess)
-
-  plan-fits : (s : ℕ) (a : Op) (o : Owned) → Fits W (moved o) → IsDeclared W a → PlanFits (plan_of W s a o)
-  plan-fits s (op.Set n) o fits is = one-fits _ (Fits-received fits n)
-  plan-fits s (op.Add n) o fits is = one-fits _ (Fits-received fits ((o.carried.acc + n) % 2 ^ 64))
-  plan-fits s (op.Say w) o fits is = one-fits _ (Fits-printed fits (piece.Said w) is)
-  plan-fits s op.Print o fits is = one-fits _ (Fits-printed fits (piece.Number o.carried.acc) tt)
-  plan-fits s (op.KeySet k) o fits is = one-fits _ (key-fits (moved o) k o.carried.acc fits)
-  plan-fits s (op.KeyGet k) o fits is = one-fits _ (Fits-received fits (slice_index o.carried.keys k))
-  plan-fits s op.Yield o fits is = one-fits (moved o) fits
-  plan-fits s (op.YieldTo v p) o fits is = reached (may_take W s p.0) _ _ o fits
-  plan-fits s op.Suspend o fits is = tt
-  plan-fits s op.Exit o fits is = fits
-  plan-fits s (op.Resume v) o fits is = tt
-  plan-fits s (op.Create v p) o fits is = reached (may_put W s p.0) _ _ o fits
-  plan-fits s (op.Join v) o fits is = tt
-  plan-fits s (op.Cancel v) o fits is = tt
-  plan-fits s (op.Migrate v p) o fits is = reached (may_put W s p.0) _ _ o fits
-  plan-fits s (op.MigrateTo v r) o fits is = reached (may_put W s (first_pool W r.0)) _ _ o fits
-  plan-fits s (op.Migratable v b) o fits is = tt
-  plan-fits s (op.Revive v p) o fits is = reached (may_put W s p.0) _ _ o fits
-  plan-fits s (op.Lock x) o fits is = tt
-  plan-fits s (op.TryLock x) o fits is = tt
-  plan-fits s (op.Unlock x) o fits is = tt
-  plan-fits s (op.Load x) o fits is = tt
-  plan-fits s (op.Store x) o fits is = tt
-  plan-fits s (op.CondWait x) o fits is = tt
-  plan-fits s (op.Signal x) o fits is = tt
-  plan-fits s (op.Broadcast x) o fits is = tt
-  plan-fits s (op.EvWait x) o fits is = tt
-  plan-fits s (op.EvSet x) o fits is = tt
-  plan-fits s (op.EvReset x) o fits is = tt
-  plan-fits s (op.EvTest x) o fits is = tt
-  plan-fits s (op.FuWait x) o fits is = tt
-  plan-fits s (op.FuSet x) o fits is = tt
-  plan-fits s (op.FuReset x) o fits is = tt
-  plan-fits s (op.FuTest x) o fits is = tt
-  plan-fits s (op.BarWait x) o fits is = tt
-  plan-fits s (op.ReadLock x) o fits is = tt
-  plan-fits s (op.WriteLock x) o fits is = tt
-  plan-fits s (op.RwUnlock x) o fits is = tt
-  plan-fits s (op.RwLoad x) o fits is = tt
-  plan-fits s (op.RwStore x) o fits is = tt
-
-  -- what an answer brings fits
-
   abbrev Comes : Answer → Type 0
   Comes answer = All (Fits W) (contents_answered answer).units
+
+  -- What an answer brings fits.
 
   caller-fits : (o : Owned) (answer : Answer) → Fits W (moved o) → Comes answer → All (Fits W) (units_left (to_caller o answer))
   caller-fits o (Given b) fits come = All-cons (Fits W) (moved o) (b ∷ []) fits come
@@ -237,26 +175,34 @@ module _ (W : Parts) where
   yielder-fits o (Coded c) fits come = one-fits _ (Fits-noted fits c)
   yielder-fits o _ fits come = one-fits (moved o) fits
 
-  effect-fits : (a : Op) (o : Owned) (answer : Answer) → Fits W (moved o) → Comes answer → All (Fits W) (units_left (effect_of a o answer))
-  effect-fits (op.YieldTo v p) o answer fits come = yielder-fits o answer fits come
-  effect-fits op.Suspend o answer fits come = giver-fits answer come
-  effect-fits (op.Join v) o answer fits come = giver-fits answer come
-  effect-fits (op.Lock x) o answer fits come = giver-fits answer come
-  effect-fits (op.CondWait x) o answer fits come = condition-fits answer come
-  effect-fits (op.EvWait x) o answer fits come = giver-fits answer come
-  effect-fits (op.FuWait x) o answer fits come = giver-fits answer come
-  effect-fits (op.BarWait x) o answer fits come = giver-fits answer come
-  effect-fits (op.ReadLock x) o answer fits come = giver-fits answer come
-  effect-fits (op.WriteLock x) o answer fits come = giver-fits answer come
-  effect-fits _ o answer fits come = caller-fits o answer fits come
+  asker-fits : (asker : Asker) (o : Owned) (answer : Answer) → Fits W (moved o) → Comes answer → All (Fits W) (units_left (brought asker o answer))
+  asker-fits Caller o answer fits come = caller-fits o answer fits come
+  asker-fits Giver o answer fits come = giver-fits answer come
+  asker-fits Waiter o answer fits come = condition-fits answer come
+  asker-fits Yielder o answer fits come = yielder-fits o answer fits come
+
+  -- what is planned leaves units that fit: with no call, with any answer, and at an exit
+  abbrev PlanFits : Plan → Type 0
+  PlanFits (Does e) = IsValid W → All (Fits W) (units_left e)
+  PlanFits (Calls x asked brings) = (answer : Answer) → Comes answer → All (Fits W) (units_left (brings answer))
+  PlanFits (Exits b) = Fits W b
+
+  -- a local operation makes of a unit what it plans
+  local-by : (a : Op) (o : Owned) (f : Carried → Carried) → op_at W o.number o.carried.position ≡ Some a → (nature_of a).local ≡ Some f → local_step W o ≡ Some (moved (carrying f o))
+  local-by a o f is local = ap (λ b. local_step_at b o) is ∙ ap (λ g. option_map (with_carried o) (option_map (λ (h : Carried → Carried). advanced (h o.carried)) g)) local
+
+  shape-fits : (a : Op) (o : Owned) → Fits W o → op_at W o.number o.carried.position ≡ Some a → (shape : Shape) → Facts W a o shape → PlanFits (plan_by o shape)
+  shape-fits a o fits is (Locally f) local = λ valid. one-fits (moved (carrying f o)) (Fits-local_step W o (moved (carrying f o)) valid fits (local-by a o f is local))
+  shape-fits a o fits is Yields facts = λ valid. one-fits (moved o) (Fits-moved fits a is)
+  shape-fits a o fits is Leaves facts = Fits-moved fits a is
+  shape-fits a o fits is Refused facts = λ valid. one-fits _ (Fits-noted (Fits-moved fits a is) code.PoolAccess)
+  shape-fits a o fits is (Calling x asked asker) facts = λ answer. asker-fits asker o answer (Fits-moved fits a is)
 
 pub own-steps-fit : OwnStepsFit
-own-steps-fit W s a o e valid fits is plan =
-    subst (PlanFits W) plan (plan-fits W s a o (Fits-moved fits a is) (op-declared W o.number o.carried.position a valid is))
+own-steps-fit W s a o e valid fits is plan = by-shape W s a o (PlanFits W) (shape-fits W a o fits is) (Does e) plan valid
 
-pub exits-fit : (W : Parts) (s : ℕ) (a : Op) (o b : Owned) → IsValid W → Fits W o → op_at W o.number o.carried.position ≡ Some a → plan_of W s a o ≡ Exits b → Fits W b
-exits-fit W s a o b valid fits is plan =
-    subst (PlanFits W) plan (plan-fits W s a o (Fits-moved fits a is) (op-declared W o.number o.carried.position a valid is))
+pub exits-fit : (W : Parts) (s : ℕ) (a : Op) (o b : Owned) → Fits W o → op_at W o.number o.carried.position ≡ Some a → plan_of W s a o ≡ Exits b → Fits W b
+exits-fit W s a o b fits is plan = by-shape W s a o (PlanFits W) (shape-fits W a o fits is) (Exits b) plan
 
 pub effects-fit : EffectsFit
-effects-fit W a o answer fits is come = effect-fits W a o answer (Fits-moved fits a is) come
+effects-fit W s a o x asked brings answer fits is plan come = by-shape W s a o (PlanFits W) (shape-fits W a o fits is) (Calls x asked brings) plan answer come

@@ -9,7 +9,9 @@ pub mod LineTallies
 pub mod Lost
 pub mod Replies
 pub mod Returned
+pub mod Shapes
 pub mod Showing
+pub mod SiteCalls
 pub mod Started
 pub mod Suited
 pub mod TakenBack

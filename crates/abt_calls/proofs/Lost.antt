@@ -7,4 +7,4 @@ pub waits-are-lost : WaitsAreLost
 waits-are-lost o = ((after_wait 0 o (bare o), refl, (refl, refl, refl)), refl)
 
 pub unsuited-are-lost : UnsuitedAreLost
-unsuited-are-lost x o b = refl
+unsuited-are-lost b = refl

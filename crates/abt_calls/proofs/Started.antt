@@ -18,7 +18,7 @@ use Rattle.abt_machine.specs.Start.{start, start_place, count_at}
 use Rattle.abt_machine.specs.Values.{Owned, owned_at, owned_in, PoolIs, DeskIs, MonitorIs, EventualIs, FutureIs, BarrierIs, RwLockIs, conditions_from, eventual_at, future_at, barrier_at, monitor_at, rwlock_at, phase_at, waiters_at}
 use Rattle.abt_laws.proofs.Lists.{EachOf-then}
 use Rattle.abt_laws.proofs.Pushes.{AllBelow, AllBelow-insert, insert_at_end}
-use Rattle.abt_calls.proofs.Asked.{condition-below}
+use Rattle.abt_calls.proofs.SiteCalls.{condition-below}
 use Rattle.abt_calls.specs.Starts.{ConditionsAreCounted, ConditionsAreNumbered, ObjectsStart, PartsStart, first_units, start_barrier, start_eventual, start_future, start_monitor, start_part, start_phase, start_rwlock, starts_in}
 
 -- Lines with nobody.

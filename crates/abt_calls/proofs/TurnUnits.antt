@@ -14,7 +14,7 @@ use Rattle.abt_machine.specs.Valid.{IsValid}
 use Rattle.abt_machine.specs.Values.{Owned, Held}
 use Rattle.abt_machine.specs.Acts.{carrying}
 use Rattle.abt_machine.specs.Carrying.{with_home}
-use Rattle.abt_machine.specs.Plans.{Effect, Plan, Does, Calls, Exits, effect_of, plan_of}
+use Rattle.abt_machine.specs.Plans.{Effect, Plan, Does, Calls, Exits, plan_of}
 use Rattle.abt_machine.specs.Turns.{Heard, Performs, Steps, exited, looked, stepped}
 use Rattle.abt_laws.proofs.Options.{none≢some}
 use Rattle.abt_unit.specs.Fits.{Fits}
@@ -101,11 +101,11 @@ module _ (W : Parts) where
   exited-fits old b each fits = record { hand = one-fits b fits; next = All-nil IsFit; tray = each.tray; framed = each.framed }
 
   performs-fits : (s : ℕ) (old : Held) (a : Op) (o : Owned) (plan : Plan) (heard : Option Heard) (c : Code) (new : Held) → plan_of W s a o ≡ plan → IsValid W → Fits W o → op_at W o.number o.carried.position ≡ Some a
-      → Each IsFit old → Have IsFit (IsPoolOf W) (contents_heard heard) → Performs old a o plan heard c new → All IsFit (units_of new)
+      → Each IsFit old → Have IsFit (IsPoolOf W) (contents_heard heard) → Performs old plan heard c new → All IsFit (units_of new)
   performs-fits s old a o (Does e) heard c new plan valid fits is each have st = becomes new (stepped old e) st.2 (stepped-fits old e each (own-steps-fit W s a o e valid fits is plan))
-  performs-fits s old a o (Calls x asked) heard c new plan valid fits is each have st =
-      becomes new (stepped old (effect_of a o st.0)) st.3 (stepped-fits old (effect_of a o st.0) each (effects-fit W a o st.0 fits is (come heard (x, asked, st.0) st.1 have).0))
-  performs-fits s old a o (Exits b) heard c new plan valid fits is each have st = becomes new (exited old b) st.2 (exited-fits old b each (exits-fit W s a o b valid fits is plan))
+  performs-fits s old a o (Calls x asked brings) heard c new plan valid fits is each have st =
+      becomes new (stepped old (brings st.0)) st.3 (stepped-fits old (brings st.0) each (effects-fit W s a o x asked brings st.0 fits is plan (come heard (x, asked, st.0) st.1 have).0))
+  performs-fits s old a o (Exits b) heard c new plan valid fits is each have st = becomes new (exited old b) st.2 (exited-fits old b each (exits-fit W s a o b fits is plan))
 
   that-op : (o : Owned) (u k : ℕ) (a : Op) → o.number ≡ u → o.carried.position ≡ k → op_at W u k ≡ Some a → op_at W o.number o.carried.position ≡ Some a
   that-op o u k a number position is = (λ i. op_at W (number i) (position i)) ∙ is
@@ -178,13 +178,13 @@ module _ (u : ℕ) where
       omega (arith, parts-tally old, parts-tally (stepped old e), unit-tally old.hand o is, none-tally old.next none, left-tally e, tally-append u old.tray e.wakes)
 
   performs-same : (W : Parts) (s : ℕ) (old : Held) (a : Op) (o : Owned) (plan : Plan) (heard : Option Heard) (c : Code) (new : Held) → plan_of W s a o ≡ plan → old.hand ≡ Some o → old.next ≡ None → IsSuited heard
-      → Performs old a o plan heard c new → Same old heard new
+      → Performs old plan heard c new → Same old heard new
   performs-same W s old a o (Does e) heard c new plan is none suited st =
       same-from old heard None new (stepped old e) st.0 st.2 (omega (arith, stepped-tally old o e is none, own-step-even u W s a o e plan))
-  performs-same W s old a o (Calls x asked) heard c new plan is none suited st =
+  performs-same W s old a o (Calls x asked brings) heard c new plan is none suited st =
       let suits : Suits asked st.0 = subst IsSuited st.1 suited in
-      same-from old heard (Some (x, asked, st.0)) new (stepped old (effect_of a o st.0)) st.1 st.3
-      (omega (arith, stepped-tally old o (effect_of a o st.0) is none, effect-even u W s a o x asked st.0 plan suits))
+      same-from old heard (Some (x, asked, st.0)) new (stepped old (brings st.0)) st.1 st.3
+      (omega (arith, stepped-tally old o (brings st.0) is none, effect-even u W s a o x asked brings st.0 plan suits))
   performs-same W s old a o (Exits b) heard c new plan is none suited st =
       same-from old heard None new (exited old b) st.0 st.2
       (omega (arith, parts-tally old, parts-tally (exited old b), unit-tally old.hand o is, none-tally old.next none, tally-nil u, tally-number u b o (exit-number W s a o b plan)))

@@ -1,27 +1,22 @@
 -- What every event of a stream keeps.
 use Rattle.std.proofs.Common.{◌≡◌, ℕ, Bool, true, false, List, [], ◌∷◌, Option, Some, None, refl, sym, subst, ◌⊎◌, inl, inr}
-use Rattle.std.specs.Prelude.{if◌then◌else◌}
 use Rattle.abt_machine.specs.declared.events.Code.{Code}
 use Rattle.abt_machine.specs.declared.events.Code.TheVariants as code
-use Rattle.abt_machine.specs.declared.events.Site.{Site}
 use Rattle.abt_machine.specs.declared.events.What.TheVariants as what
-use Rattle.abt_machine.specs.declared.operations.Op.{Op}
-use Rattle.abt_machine.specs.declared.operations.Op.TheVariants as op
 use Rattle.abt_machine.specs.declared.workload.Parts.{Parts}
 use Rattle.abt_machine.specs.Workloads.{body_at}
-use Rattle.abt_machine.specs.Access.{may_put, may_take}
-use Rattle.abt_machine.specs.Sites.{first_pool}
 use Rattle.abt_machine.specs.Queues.{first}
 use Rattle.abt_machine.specs.State.{Stream}
 use Rattle.abt_machine.specs.Lines.{InHand, InNext}
 use Rattle.abt_machine.specs.Next.{Due, LeaveDue, RoundDue, due_by}
 use Rattle.abt_machine.specs.Values.{Owned, Held, owned_in}
-use Rattle.abt_machine.specs.Acts.{Act, Answer, carrying}
+use Rattle.abt_machine.specs.Acts.{Answer}
 use Rattle.abt_machine.specs.Acts as act
-use Rattle.abt_machine.specs.Plans.{Effect, Plan, Does, Calls, Exits, denied, effect_of, plan_of, to_caller, to_condition, to_giver, to_yielder}
+use Rattle.abt_machine.specs.Plans.{Effect, Plan, Does, Calls, Exits, plan_of, to_caller, to_condition, to_giver, to_yielder}
 use Rattle.abt_machine.specs.Turns.{Heard, Performs, due_of, looked}
 use Rattle.abt_laws.proofs.Dues.{AfterNext, due_of_unit-cases}
 use Rattle.abt_calls.specs.Streams.{EventsHoldOne, HoldsOne, StreamsHoldOne}
+use Rattle.abt_calls.proofs.Shapes.{Asker, Caller, Giver, Waiter, Yielder, Shape, Locally, Yields, Leaves, Refused, Calling, brought, by-shape, plan_by}
 use Rattle.abt_calls.proofs.TakenBack.{IsFirst, first-owned}
 
 -- Dues.
@@ -87,47 +82,28 @@ yielder-one o (act.Given b) = inl refl
 yielder-one o (act.Coded c) = inr refl
 yielder-one o _ = inr refl
 
-effect-one : (a : Op) (o : Owned) (answer : Answer) → EffectHoldsOne (effect_of a o answer)
-effect-one (op.YieldTo v p) o answer = yielder-one o answer
-effect-one op.Suspend o answer = inr (giver-one answer)
-effect-one (op.Join v) o answer = inr (giver-one answer)
-effect-one (op.Lock x) o answer = inr (giver-one answer)
-effect-one (op.CondWait x) o answer = inr (condition-one answer)
-effect-one (op.EvWait x) o answer = inr (giver-one answer)
-effect-one (op.FuWait x) o answer = inr (giver-one answer)
-effect-one (op.BarWait x) o answer = inr (giver-one answer)
-effect-one (op.ReadLock x) o answer = inr (giver-one answer)
-effect-one (op.WriteLock x) o answer = inr (giver-one answer)
-effect-one _ o answer = inr (caller-one o answer)
+asker-one : (asker : Asker) (o : Owned) (answer : Answer) → EffectHoldsOne (brought asker o answer)
+asker-one Caller o answer = inr (caller-one o answer)
+asker-one Giver o answer = inr (giver-one answer)
+asker-one Waiter o answer = inr (condition-one answer)
+asker-one Yielder o answer = yielder-one o answer
 
 abbrev PlanHoldsOne : Plan → Type 0
 PlanHoldsOne (Does e) = EffectHoldsOne e
-PlanHoldsOne (Calls x asked) = Unit {0}
+PlanHoldsOne (Calls x asked brings) = (answer : Answer) → EffectHoldsOne (brings answer)
 PlanHoldsOne (Exits b) = Unit {0}
 
-reached-one : (may : Bool) (x : Site) (asked : Act) (o : Owned) → PlanHoldsOne (if may then Calls x asked else denied o)
-reached-one true x asked o = tt
-reached-one false x asked o = inr refl
+shape-one : (o : Owned) (shape : Shape) → PlanHoldsOne (plan_by o shape)
+shape-one o (Locally f) = inr refl
+shape-one o Yields = inr refl
+shape-one o Leaves = tt
+shape-one o Refused = inr refl
+shape-one o (Calling x asked asker) = asker-one asker o
 
-plan-one : (W : Parts) (s : ℕ) (a : Op) (o : Owned) → PlanHoldsOne (plan_of W s a o)
-plan-one W s (op.Set n) o = inr refl
-plan-one W s (op.Add n) o = inr refl
-plan-one W s (op.Say w) o = inr refl
-plan-one W s op.Print o = inr refl
-plan-one W s (op.KeySet k) o = inr refl
-plan-one W s (op.KeyGet k) o = inr refl
-plan-one W s op.Yield o = inr refl
-plan-one W s (op.YieldTo v p) o = reached-one (may_take W s p.0) _ _ o
-plan-one W s (op.Create v p) o = reached-one (may_put W s p.0) _ _ o
-plan-one W s (op.Migrate v p) o = reached-one (may_put W s p.0) _ _ o
-plan-one W s (op.MigrateTo v r) o = reached-one (may_put W s (first_pool W r.0)) _ _ o
-plan-one W s (op.Revive v p) o = reached-one (may_put W s p.0) _ _ o
-plan-one W s _ o = tt
-
-performs-one : (old : Held) (a : Op) (o : Owned) (plan : Plan) (heard : Option Heard) (c : Code) (new : Held) → PlanHoldsOne plan → Performs old a o plan heard c new → HoldsOne new
-performs-one old a o (Does e) heard c new one st = subst HoldsOne (sym st.2) one
-performs-one old a o (Calls x asked) heard c new one st = subst HoldsOne (sym st.3) (effect-one a o st.0)
-performs-one old a o (Exits b) heard c new one st = subst HoldsOne (sym st.2) (inr refl)
+performs-one : (old : Held) (plan : Plan) (heard : Option Heard) (c : Code) (new : Held) → PlanHoldsOne plan → Performs old plan heard c new → HoldsOne new
+performs-one old (Does e) heard c new one st = subst HoldsOne (sym st.2) one
+performs-one old (Calls x asked brings) heard c new one st = subst HoldsOne (sym st.3) (one st.0)
+performs-one old (Exits b) heard c new one st = subst HoldsOne (sym st.2) (inr refl)
 
 looked-one : (old : Held) (o : Owned) (cancel : Bool) (migrate : Option ℕ) → HoldsOne (looked old o cancel migrate)
 looked-one old o true migrate = inr refl
@@ -138,7 +114,8 @@ pub events-hold-one : EventsHoldOne
 events-hold-one W Z s old (what.Miss p) heard new st one = subst HoldsOne (sym st.3) one
 events-hold-one W Z s old (what.Take p u) heard new st one = subst HoldsOne (sym st.5) (inl (hand-none W s old RoundDue st.0 tt))
 events-hold-one W Z s old (what.Look u) heard new st one = subst HoldsOne (sym st.7) (looked-one old st.1 st.4 st.5)
-events-hold-one W Z s old (what.Step u k c) heard new st one = performs-one old st.5 st.1 (plan_of W s st.5 st.1) heard c new (plan-one W s st.5 st.1) st.7
+events-hold-one W Z s old (what.Step u k c) heard new st one =
+    performs-one old (plan_of W s st.5 st.1) heard c new (by-shape W s st.5 st.1 PlanHoldsOne (λ shape facts. shape-one st.1 shape) (plan_of W s st.5 st.1) refl) st.7
 events-hold-one W Z s old (what.Put u p) heard new st one = subst HoldsOne (sym st.7) one
 events-hold-one W Z s old (what.End u cause) heard new st one = subst HoldsOne (sym st.6) (inl refl)
 events-hold-one W Z s old (what.Enter u) heard new st one = subst HoldsOne (sym st.5) (inl refl)

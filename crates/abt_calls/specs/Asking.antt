@@ -12,8 +12,8 @@ use Rattle.abt_machine.specs.Workloads.{op_at}
 use Rattle.abt_machine.specs.Valid.{IsValid}
 use Rattle.abt_machine.specs.State.{State}
 use Rattle.abt_machine.specs.Values.{Owned, object_of}
-use Rattle.abt_machine.specs.Acts.{Act, Put, Take, Look, End}
-use Rattle.abt_machine.specs.Plans.{Calls, plan_of}
+use Rattle.abt_machine.specs.Acts.{Act, Answer, Put, Take, Look, End}
+use Rattle.abt_machine.specs.Plans.{Effect, Calls, plan_of}
 use Rattle.abt_machine.specs.Turns.{side_of}
 use Rattle.abt_unit.specs.Fits.{Fits}
 use Rattle.abt_chain.specs.Keeping.{Have, IsPoolOf, contents_asked}
@@ -39,8 +39,8 @@ pub record MayCall (W : Parts) (x : Site) (act : Act) : Type 0 where
 -- what is planned at the operation of a unit may be called
 abbrev pub PlansMayCall : Type 0
 PlansMayCall =
-    (W : Parts) (s : ℕ) (a : Op) (o : Owned) (x : Site) (act : Act) → IsValid W → Fits W o → op_at W o.number o.carried.position ≡ Some a
-    → plan_of W s a o ≡ Calls x act → MayCall W x act
+    (W : Parts) (s : ℕ) (a : Op) (o : Owned) (x : Site) (act : Act) (brings : Answer → Effect)
+    → IsValid W → Fits W o → op_at W o.number o.carried.position ≡ Some a → plan_of W s a o ≡ Calls x act brings → MayCall W x act
 
 -- a declared pool may be asked for a unit at the end at which a stream takes
 abbrev pub TakesMayCall : Type 0

@@ -8,8 +8,8 @@ use Rattle.abt_machine.specs.Workloads.{op_at}
 use Rattle.abt_machine.specs.Valid.{IsValid}
 use Rattle.abt_machine.specs.Start.{start}
 use Rattle.abt_machine.specs.Values.{Object, PoolIs, DeskIs, MonitorIs, EventualIs, FutureIs, BarrierIs, RwLockIs, NotHere, Owned, object_of}
-use Rattle.abt_machine.specs.Acts.{Answer}
-use Rattle.abt_machine.specs.Plans.{Effect, Does, effect_of, plan_of}
+use Rattle.abt_machine.specs.Acts.{Act, Answer}
+use Rattle.abt_machine.specs.Plans.{Effect, Does, Calls, plan_of}
 use Rattle.abt_machine.specs.Gives.{SiteGives}
 use Rattle.abt_unit.specs.Fits.{Fits}
 use Rattle.abt_chain.specs.Keeping.{Contents, Have, IsPoolOf, KeepsWhatFits, contents_answered, nothing}
@@ -50,5 +50,6 @@ OwnStepsFit =
 -- a step with a call leaves units that fit, if those that come out do
 abbrev pub EffectsFit : Type 0
 EffectsFit =
-    (W : Parts) (a : Op) (o : Owned) (answer : Answer) → Fits W o → op_at W o.number o.carried.position ≡ Some a
-    → All (Fits W) (contents_answered answer).units → All (Fits W) (units_left (effect_of a o answer))
+    (W : Parts) (s : ℕ) (a : Op) (o : Owned) (x : Site) (act : Act) (brings : Answer → Effect) (answer : Answer)
+    → Fits W o → op_at W o.number o.carried.position ≡ Some a → plan_of W s a o ≡ Calls x act brings
+    → All (Fits W) (contents_answered answer).units → All (Fits W) (units_left (brings answer))

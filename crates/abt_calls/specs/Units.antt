@@ -8,7 +8,7 @@ use Rattle.abt_machine.specs.Values.{Owned, Object}
 use Rattle.abt_machine.specs.Acts.{Act, Answer}
 use Rattle.abt_machine.specs.Pools.{is_unit}
 use Rattle.abt_machine.specs.Gives.{SiteGives}
-use Rattle.abt_machine.specs.Plans.{Effect, Does, Calls, plan_of, effect_of}
+use Rattle.abt_machine.specs.Plans.{Effect, Does, Calls, plan_of}
 use Rattle.abt_chain.specs.Keeping.{contents_asked, contents_answered}
 use Rattle.abt_calls.specs.Allowed.{Allows}
 use Rattle.abt_calls.specs.Suits.{Suits}
@@ -32,8 +32,9 @@ CallsKeepUnits =
 -- a stream that is answered has the unit that it had and those that came out, but for the one that went with the act
 abbrev pub EffectsKeepUnits : Type 0
 EffectsKeepUnits =
-    (W : Parts) (s : ℕ) (a : Op) (o : Owned) (x : Site) (act : Act) (answer : Answer) → plan_of W s a o ≡ Calls x act → Suits act answer
-    → KeepsEach (o ∷ []) (contents_answered answer).units (units_left (effect_of a o answer)) (contents_asked act).units
+    (W : Parts) (s : ℕ) (a : Op) (o : Owned) (x : Site) (act : Act) (brings : Answer → Effect) (answer : Answer)
+    → plan_of W s a o ≡ Calls x act brings → Suits act answer
+    → KeepsEach (o ∷ []) (contents_answered answer).units (units_left (brings answer)) (contents_asked act).units
 
 -- a step with no call keeps its unit
 abbrev pub OwnStepsKeepUnits : Type 0
@@ -43,6 +44,6 @@ OwnStepsKeepUnits =
 -- a step with a call keeps its unit and those of the object
 abbrev pub StepsKeepUnits : Type 0
 StepsKeepUnits =
-    (W : Parts) (s : ℕ) (a : Op) (o : Owned) (x : Site) (act : Act) (answer : Answer) (old new : Object) → plan_of W s a o ≡ Calls x act
-    → Allows old act → SiteGives old act answer new
-    → KeepsEach (o ∷ []) (contents_of old).units (units_left (effect_of a o answer)) (contents_of new).units
+    (W : Parts) (s : ℕ) (a : Op) (o : Owned) (x : Site) (act : Act) (brings : Answer → Effect) (answer : Answer) (old new : Object)
+    → plan_of W s a o ≡ Calls x act brings → Allows old act → SiteGives old act answer new
+    → KeepsEach (o ∷ []) (contents_of old).units (units_left (brings answer)) (contents_of new).units

@@ -7,17 +7,16 @@ use Rattle.abt_machine.specs.declared.events.Event.{Event}
 use Rattle.abt_machine.specs.declared.events.Site.{Site}
 use Rattle.abt_machine.specs.declared.events.What.{What}
 use Rattle.abt_machine.specs.declared.events.What.TheVariants as what
-use Rattle.abt_machine.specs.declared.operations.Op.{Op}
 use Rattle.abt_machine.specs.declared.operations.OrderShape.{OrderShape}
 use Rattle.abt_machine.specs.declared.workload.Parts.{Parts}
-use Rattle.abt_machine.specs.Acts.{Act}
+use Rattle.abt_machine.specs.Acts.{Act, Answer}
 use Rattle.abt_machine.specs.Events.{May}
 use Rattle.abt_machine.specs.Events as events
 use Rattle.abt_machine.specs.Gives.{SiteGives}
 use Rattle.abt_machine.specs.Lines.{InHand, InNext, InTray, Line, standing}
 use Rattle.abt_machine.specs.Next.{RoundDue, due}
 use Rattle.abt_machine.specs.Numbers.{stream_no}
-use Rattle.abt_machine.specs.Plans.{Calls, Does, Exits, Plan, plan_of}
+use Rattle.abt_machine.specs.Plans.{Calls, Does, Effect, Exits, Plan, plan_of}
 use Rattle.abt_machine.specs.Queues.{first}
 use Rattle.abt_machine.specs.Rounds.{IsNextPool, OrdersStored}
 use Rattle.abt_machine.specs.Sound.{Sound}
@@ -86,10 +85,12 @@ lane-is W S s replay lane l stands is = is ∙ numbered_at (part_of W S) W.strea
 
 -- Sites.
 
-called-by : (old : Held) (a : Op) (o : Owned) (plan : Plan) (heard : Option Heard) (c : Code) (new : Held) (x : Site) → Performs old a o plan heard c new → site_heard heard ≡ Some x → (asked : Act) × (plan ≡ Calls x asked)
-called-by old a o (Does e) heard c new x st is = absurd (none≢some (ap site_heard (sym st.0) ∙ is))
-called-by old a o (Exits b) heard c new x st is = absurd (none≢some (ap site_heard (sym st.0) ∙ is))
-called-by old a o (Calls y asked) heard c new x st is = (asked, ap (λ z. Calls z asked) (some-injective (ap site_heard (sym st.1) ∙ is)))
+-- what is heard was called as it is planned
+called-by : (old : Held) (plan : Plan) (heard : Option Heard) (c : Code) (new : Held) (x : Site) → Performs old plan heard c new → site_heard heard ≡ Some x
+    → (asked : Act) × (brings : Answer → Effect) × (plan ≡ Calls x asked brings)
+called-by old (Does e) heard c new x st is = absurd (none≢some (ap site_heard (sym st.0) ∙ is))
+called-by old (Exits o) heard c new x st is = absurd (none≢some (ap site_heard (sym st.0) ∙ is))
+called-by old (Calls y asked brings) heard c new x st is = (asked, brings, ap (λ z. Calls z asked brings) (some-injective (ap site_heard (sym st.1) ∙ is)))
 
 -- a stream calls declared sites alone
 heard-declared : (W : Parts) (Z : List OrderShape) (s : ℕ) (old : Held) (w : What) (heard : Option Heard) (new : Held) (x : Site) → IsValid W → HasUnits W old → Steps W Z s old w heard new → site_heard heard ≡ Some x → IsSite W x
@@ -102,8 +103,8 @@ heard-declared W Z s old (what.Look u) heard new x valid can st is =
     subst (IsSite W) (some-injective (sym (ap site_heard st.6) ∙ is)) (subst (λ k. k < length W.units) st.3 of.number)
 heard-declared W Z s old (what.Step u k c) heard new x valid can st is =
     let of : IsOfWorkload W st.1 = some-of W old.hand st.1 st.2 can.hand in
-    let call : (asked : Act) × (plan_of W s st.5 st.1 ≡ Calls x asked) = called-by old st.5 st.1 (plan_of W s st.5 st.1) heard c new x st.7 is in
-    (may-ask W s st.5 st.1 x call.0 valid of.number (op-declared W u.0 k st.5 valid st.6) call.1).site
+    let call = called-by old (plan_of W s st.5 st.1) heard c new x st.7 is in
+    (may-ask W s st.5 st.1 x call.0 call.1 valid of.number (op-declared W u.0 k st.5 valid st.6) call.2).site
 heard-declared W Z s old (what.Put u p) heard new x valid can st is =
     let of : IsOfWorkload W st.1 = some-of W (first old.tray) st.1 (ap first st.3) can.tray in
     subst (IsSite W) (some-injective (sym (ap site_heard st.6) ∙ is)) (subst (λ k. k < length W.pools) st.5 of.home)

@@ -5,7 +5,7 @@ use Rattle.abt_machine.specs.declared.events.Site.{Site}
 use Rattle.abt_machine.specs.declared.events.Site.TheVariants as site
 use Rattle.abt_machine.specs.declared.workload.Parts.{Parts}
 use Rattle.abt_machine.specs.Queues.{last}
-use Rattle.abt_machine.specs.Sites.{event_site}
+use Rattle.abt_machine.specs.EventSites.{event_site}
 use Rattle.abt_machine.specs.Stamps.{Follows, Stamped}
 use Rattle.abt_calls.specs.Asking.{IsSite}
 

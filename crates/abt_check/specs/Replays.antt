@@ -6,7 +6,7 @@ use Rattle.abt_machine.specs.declared.operations.OrderShape.{OrderShape}
 use Rattle.abt_machine.specs.declared.workload.Parts.{Parts}
 use Rattle.abt_machine.specs.declared.events.What.{What}
 use Rattle.abt_machine.specs.Events.{May, after}
-use Rattle.abt_machine.specs.Sites.{what_site}
+use Rattle.abt_machine.specs.EventSites.{what_site}
 use Rattle.abt_machine.specs.Sound.{Sound, frames_of}
 use Rattle.abt_machine.specs.State.{Frame, State, Stream}
 use Rattle.abt_machine.specs.Values.{Held, object_of, part_of}

@@ -4,7 +4,7 @@ ghost use Rattle.std.specs.Prelude.{◌≡◌, ◌<◌, ◌↔◌, [], IfOk, IsT
 ghost use Rattle.abt_bounds.specs.Laws.{NamesDeclared};
 ghost use Rattle.abt_calls.specs.Asking.{IsSite};
 ghost use Rattle.abt_check.specs.Clocks.{AreClocks, FollowsLast, IsAllowed, Stamps, clock_at, clock_of, noted, with_clock};
-ghost use Rattle.abt_machine.specs.Sites.{event_site};
+ghost use Rattle.abt_machine.specs.EventSites.{event_site};
 ghost use Rattle.abt_machine.specs.Stamps.{Follows, Stamped};
 ghost use Rattle.abt_machine.specs.declared.events.Event.{Event};
 ghost use Rattle.abt_machine.specs.declared.events.Site.{Site};

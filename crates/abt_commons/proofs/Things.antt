@@ -29,7 +29,7 @@ use Rattle.abt_simulation.proofs.ConditionLists.{condition-at}
 use Rattle.abt_calls.specs.Allowed.{Allows}
 use Rattle.abt_calls.specs.Asking.{IsSite}
 use Rattle.abt_calls.specs.Showing.{Row, rows_as, rows_of_object}
-use Rattle.abt_calls.proofs.Asked.{condition-below}
+use Rattle.abt_calls.proofs.SiteCalls.{condition-below}
 use Rattle.abt_commons.specs.Held.{IsWhole, ObjectsValue, OneValue, held_in, numbered_object, object_at, object_from}
 use Rattle.abt_commons.specs.Reading.{HoldNone, IsHeldAs, is_row_of, object_of_thing, rows_at_site, waiters_as, waiters_at_thing, waiters_by, waiters_of_condition}
 use Rattle.abt_commons.specs.Sites.{barrier_number, eventual_number, future_number, monitor_number, rwlock_number, sites, thing_number}

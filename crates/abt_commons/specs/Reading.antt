@@ -69,11 +69,16 @@ row_found (Some found) = Some (found.0, found.1.now.owned)
 -- units that wait for the object itself, if it is of the thing's kind
 abbrev pub waiters_as : Thing → Object → List Owned
 waiters_as thing.Mutex (MonitorIs m) = m.waiters
+waiters_as thing.Mutex object = []
+waiters_as (thing.Cond m) object = []
 waiters_as thing.Eventual (EventualIs e) = e.waiters
+waiters_as thing.Eventual object = []
 waiters_as (thing.Future n c) (FutureIs f) = f.waiters
+waiters_as (thing.Future n c) object = []
 waiters_as (thing.Barrier n) (BarrierIs b) = b.waiters
+waiters_as (thing.Barrier n) object = []
 waiters_as thing.RwLock (RwLockIs l) = l.waiters
-waiters_as t object = []
+waiters_as thing.RwLock object = []
 
 -- those at condition k of a monitor
 abbrev pub waiters_of_condition : ℕ → Object → List Owned

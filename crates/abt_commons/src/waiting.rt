@@ -83,7 +83,15 @@ impl<'w> One<'w> {
             (Thing::Future(_, _), Shared::Future(future)) => future.waiter(u),
             (Thing::Barrier(_), Shared::Barrier(barrier)) => barrier.waiter(u),
             (Thing::RwLock, Shared::RwLock(rwlock)) => rwlock.waiter(u),
-            _ => None,
+            (
+                Thing::Mutex
+                | Thing::Cond(_)
+                | Thing::Eventual
+                | Thing::Future(_, _)
+                | Thing::Barrier(_)
+                | Thing::RwLock,
+                _,
+            ) => None,
         }
     }
 

@@ -24,7 +24,7 @@ use Rattle.abt_machine.specs.Values.{Owned, object_of, part_of}
 use Rattle.abt_laws.specs.Footprint.{Holder, OfStream, OfSite}
 use Rattle.abt_calls.specs.Holders.{units_of, units_with}
 use Rattle.abt_calls.specs.Showing as held
-use Rattle.abt_calls.specs.Showing.{IsRowOf, rows_as, rows_of_object, rows_of_part, rows_with}
+use Rattle.abt_calls.specs.Showing.{IsRowOf, rows_as, rows_of_object, rows_with}
 use Rattle.abt_calls.specs.Totals.{all_holders, all_units, desks_of, holders_from, pools_at, streams_of, thing_holders}
 use Rattle.abt_calls.proofs.Showing.{rows-are-the-states, units-have-rows}
 use Rattle.abt_calls.proofs.Totals.{all-units-once}

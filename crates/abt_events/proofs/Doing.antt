@@ -1,8 +1,8 @@
 -- If an event may come its stream makes a step, with the answer of the object that it then calls.
-use Rattle.std.proofs.Common.{◌≡◌, ℕ, ◌<◌, ◌-◌, List, [], ◌∷◌, ◌++◌, length, map, get_or, Option, Some, None, refl, sym, ◌∙◌, ap}
+use Rattle.std.proofs.Common.{◌≡◌, ℕ, ◌<◌, ◌-◌, List, [], ◌∷◌, ◌++◌, length, map, Option, Some, None, refl, sym, ◌∙◌, ap, arith, inl, inr}
 use Rattle.std.proofs.lemmas.List.{map-append}
 use Rattle.std.proofs.lemmas.List.Elements.{All-contains}
-use Rattle.std.proofs.lemmas.Option.{slice_get-get_or}
+use Rattle.std.proofs.lemmas.Option.{slice_get_cases}
 use Rattle.abt_machine.specs.declared.events.Code.{Code}
 use Rattle.abt_machine.specs.declared.events.Code.TheVariants as code
 use Rattle.abt_machine.specs.declared.events.Site.{Site}
@@ -11,7 +11,6 @@ use Rattle.abt_machine.specs.declared.events.What.{What}
 use Rattle.abt_machine.specs.declared.events.What.TheVariants as what
 use Rattle.abt_machine.specs.declared.numbers.PoolNo.{PoolNo}
 use Rattle.abt_machine.specs.declared.operations.Op.{Op}
-use Rattle.abt_machine.specs.declared.operations.Op.TheVariants as op
 use Rattle.abt_machine.specs.declared.operations.OrderShape.{OrderShape}
 use Rattle.abt_machine.specs.declared.workload.Parts.{Parts}
 use Rattle.abt_machine.specs.Numbers.{unit_no}
@@ -28,7 +27,7 @@ use Rattle.abt_machine.specs.Values.{Held, NotHere, Object, Owned, object_of, ow
 use Rattle.abt_machine.specs.Acts.{Act, Answer, Given, Miss}
 use Rattle.abt_machine.specs.Acts as act
 use Rattle.abt_machine.specs.Gives.{SiteGives}
-use Rattle.abt_machine.specs.Plans.{Calls, Does, Exits, Plan, effect_of, plan_of}
+use Rattle.abt_machine.specs.Plans.{Calls, Does, Effect, Exits, Plan, plan_of}
 use Rattle.abt_machine.specs.Turns.{Heard, Performs, Steps, exited, side_of, stepped}
 use Rattle.abt_machine.proofs.Declared.{listed-declared, op-declared}
 use Rattle.abt_laws.proofs.DueParts.{due-same}
@@ -42,7 +41,8 @@ use Rattle.abt_simulation.specs.Simulation.{CalledAnswers}
 use Rattle.abt_bounds.specs.Laws.{visited}
 use Rattle.abt_calls.specs.Allowed.{Allows}
 use Rattle.abt_calls.specs.Asking.{MayCall}
-use Rattle.abt_calls.proofs.Asked.{MayAsk, may-ask, takes-may-call}
+use Rattle.abt_calls.proofs.Asked.{may-ask, takes-may-call}
+use Rattle.abt_calls.proofs.SiteCalls.{MayAsk}
 use Rattle.abt_calls.proofs.Replies.{allowed-is-answered}
 
 -- Lists.
@@ -78,13 +78,13 @@ pub record Turn (W : Parts) (Z : List OrderShape) (S : State) (s : ℕ) (w : Wha
   pub answers : CalledAnswers W S heard object
   pub at_pool : visited does ≡ visited w
 
--- a unit performs its plan
-record Performed (W : Parts) (S : State) (s : ℕ) (a : Op) (o : Owned) (plan : Plan) : Type 0 where
+-- a stream performs a plan
+record Performed (W : Parts) (S : State) (s : ℕ) (plan : Plan) : Type 0 where
   pub heard : Option Heard
   pub code : Code
   pub part : Held
   pub object : Object
-  pub performs : Performs (part_of W S s) a o plan heard code part
+  pub performs : Performs (part_of W S s) plan heard code part
   pub answers : CalledAnswers W S heard object
 
 module _ (W : Parts) (Z : List OrderShape) (S : State) (s : ℕ) where
@@ -110,8 +110,8 @@ module _ (W : Parts) (Z : List OrderShape) (S : State) (s : ℕ) where
   }
   at-pool w p at is order _ object gives = absurd gives.2
 
-  performed : (a : Op) (o : Owned) (plan : Plan) → ((x : Site) (asked : Act) → plan ≡ Calls x asked → Allows (object_of W S x) asked) → Performed W S s a o plan
-  performed a o (Does e) allowed = record {
+  performed : (plan : Plan) → ((x : Site) (asked : Act) (brings : Answer → Effect) → plan ≡ Calls x asked brings → Allows (object_of W S x) asked) → Performed W S s plan
+  performed (Does e) allowed = record {
     heard = None;
     code = e.code;
     part = stepped (part_of W S s) e;
@@ -119,17 +119,17 @@ module _ (W : Parts) (Z : List OrderShape) (S : State) (s : ℕ) where
     performs = (refl, refl, refl);
     answers = tt;
   }
-  performed a o (Calls x asked) allowed =
-      let is : (answer : Answer) × (new : Object) × SiteGives (object_of W S x) asked answer new = allowed-is-answered (object_of W S x) asked (allowed x asked refl) in
+  performed (Calls x asked brings) allowed =
+      let is : (answer : Answer) × (new : Object) × SiteGives (object_of W S x) asked answer new = allowed-is-answered (object_of W S x) asked (allowed x asked brings refl) in
       record {
         heard = Some (x, asked, is.0);
-        code = (effect_of a o is.0).code;
-        part = stepped (part_of W S s) (effect_of a o is.0);
+        code = (brings is.0).code;
+        part = stepped (part_of W S s) (brings is.0);
         object = is.1;
         performs = (is.0, refl, refl, refl);
         answers = is.2;
       }
-  performed a o (Exits b) allowed = record {
+  performed (Exits b) allowed = record {
     heard = None;
     code = code.Ok;
     part = exited (part_of W S s) b;
@@ -153,7 +153,10 @@ module _ (W : Parts) (Z : List OrderShape) (S : State) (s : ℕ) where
     has-op u is hands =
         let ops : List Op = ops_of (body_at W u) in
         let left : (S.carried u).position < length ops = (step-due W s (S.stream s).mark (body_at W u) (S.carried u).position (due-unit W S s StepDue u is tt hands)).1 in
-        (get_or ops (S.carried u).position op.Yield, slice_get-get_or ops (S.carried u).position op.Yield left)
+        elim ((slice_get_cases ops (S.carried u).position).1) [
+          | inl found ↦ (found.0, found.2)
+          | inr past ↦ absurd (omega (arith, left, past.0))
+        ]
 
     -- by the event
     pub turn : (w : What) → May W Z S s w → Turn W Z S s w
@@ -172,8 +175,8 @@ module _ (W : Parts) (Z : List OrderShape) (S : State) (s : ℕ) where
         let has : (a : Op) × (op_at W u.0 (S.carried u.0).position ≡ Some a) = has-op u.0 may.0 may.1 in
         let is : op_at W u.0 k ≡ Some has.0 = ap (op_at W u.0) (sym may.2) ∙ has.1 in
         let stands : StandsIn W S (InHand s) u.0 = first-stands W S (InHand s) u.0 may.1 in
-        let done : Performed W S s has.0 (owned_at S u.0) (plan_of W s has.0 (owned_at S u.0)) =
-        performed has.0 (owned_at S u.0) (plan_of W s has.0 (owned_at S u.0)) (λ x asked planned. (let ask : MayAsk W x asked = may-ask W s has.0 (owned_at S u.0) x asked valid stands.declared (op-declared W u.0 k has.0 valid is) planned in ask.allowed S)) in
+        let done : Performed W S s (plan_of W s has.0 (owned_at S u.0)) =
+        performed (plan_of W s has.0 (owned_at S u.0)) (λ x asked brings planned. (let ask : MayAsk W x asked = may-ask W s has.0 (owned_at S u.0) x asked brings valid stands.declared (op-declared W u.0 k has.0 valid is) planned in ask.allowed S)) in
         record {
           does = what.Step u k done.code;
           heard = done.heard;

@@ -1,43 +1,65 @@
 -- Each operation of a confluent workload goes through.
-use Rattle.std.proofs.Common.{◌≡◌, ℕ, [], Some, refl}
+use Rattle.std.proofs.Common.{◌≡◌, ℕ, [], Some, refl, sym, subst}
+use Rattle.std.specs.Option.{option_map_or}
+use Rattle.std.specs.Prelude.{⊤}
 use Rattle.abt_machine.specs.declared.events.Code.TheVariants as code
-use Rattle.abt_machine.specs.declared.events.Piece.TheVariants as piece
 use Rattle.abt_machine.specs.declared.events.Place.TheVariants as place
 use Rattle.abt_machine.specs.declared.operations.Op.{Op}
 use Rattle.abt_machine.specs.declared.operations.Op.TheVariants as op
 use Rattle.abt_machine.specs.declared.workload.Parts.{Parts}
-use Rattle.abt_machine.specs.Carrying.{added, from_key, printed, with_acc, with_key}
-use Rattle.abt_machine.specs.Changes.{changed}
+use Rattle.abt_machine.specs.Changes.{changed, goes_with}
 use Rattle.abt_machine.specs.Codes.{code_of}
 use Rattle.abt_machine.specs.Lines.{tray_end}
 use Rattle.abt_machine.specs.Numbers.{stream_no}
-use Rattle.abt_machine.specs.State.{State}
+use Rattle.abt_machine.specs.Operations.{nature_of}
+use Rattle.abt_machine.specs.State.{State, Carried}
 use Rattle.abt_machine.specs.Steps.{op_row}
 use Rattle.abt_machine.specs.Valid.{IsValid}
 use Rattle.abt_machine.specs.Workloads.{op_at}
-use Rattle.abt_flow.specs.Confluent.{Confluent}
+use Rattle.abt_flow.specs.Confluent.{Confluent, IsSettled}
+use Rattle.abt_flow.specs.Effects.{Effect, Computes, Awaits, Depends, effect}
+use Rattle.abt_flow.specs.Flow.{Leads}
+use Rattle.abt_flow.specs.Tables.{CreatesNone, IsOther}
 use Rattle.abt_flow.proofs.Creating.{create-ok, row-creates}
+use Rattle.abt_flow.proofs.Keys.{other-sets}
 use Rattle.abt_flow.proofs.Moving.{went}
+use Rattle.abt_flow.proofs.Points.{HasValue}
 use Rattle.abt_flow.proofs.Rows.{row-arrives, row-awaits, row-goes_to, row-goes_with, row-joins}
 use Rattle.abt_flow.proofs.Setting.{row-sets, set-ok}
 use Rattle.abt_flow.proofs.Stepping.{Stepped}
-use Rattle.abt_flow.proofs.Tells.{Flowing}
+use Rattle.abt_flow.proofs.Tells.{Flowing, memory_of}
 
 module _ (W : Parts) (valid : IsValid W) (confluent : Confluent W) (t : ℕ) (S : State) (flowing : Flowing W t S) (s u : ℕ) (held : S.place u ≡ place.Hand (stream_no s)) where
   abbrev pub Goes : Op → Type 0
   Goes o = (code_of W S s u o ≡ code.Ok) × Stepped W t S (changed S (op_row W S s u o)) u o
 
+  -- what unit u carries after an operation, if that is local
+  abbrev made : Op → Carried
+  made o = option_map_or (λ (f : Carried → Carried). f (S.carried u)) (nature_of o).local (S.carried u)
+
+  -- an operation of this effect depends on the schedule, or goes through and changes only what unit u carries
+  abbrev IsLocal : Op → Effect → Type 0
+  IsLocal o (Computes f) =
+      IsOther o × CreatesNone (Some o) × (code_of W S s u o ≡ code.Ok) × (op_row W S s u o ≡ goes_with u (made o)) × ((made o).position ≡ (S.carried u).position) × (memory_of (made o) ≡ f (memory_of (S.carried u)))
+  IsLocal o (Awaits x) = ⊥
+  IsLocal o Depends = ⊤
+
+  goes-locally : (o : Op) (e : Effect) → effect o ≡ e → op_at W u (S.carried u).position ≡ Some o → IsLocal o e → Goes o
+  goes-locally o (Computes f) same is local = (
+    local.2,
+    subst (λ r. Stepped W t S (changed S r) u o) (sym local.3)
+        (row-goes_with W t S flowing s u held o is (λ x. other-sets o x local.0) (λ v q e. subst (λ p. CreatesNone (Some p)) e local.1) (made o) local.4
+        (subst (λ e. Leads (HasValue W t) e (memory_of (S.carried u)) (memory_of (made o))) (sym same) local.5)),
+  )
+  goes-locally o (Awaits x) same is local = absurd local
+  goes-locally o Depends same is local = absurd (subst IsSettled same (confluent.ops u (S.carried u).position o is))
+
+  -- the last line is read for each other operation by itself
   pub goes : (o : Op) → op_at W u (S.carried u).position ≡ Some o → Goes o
-  goes (op.Set n) is = (refl, row-goes_with W t S flowing s u held (op.Set n) is (λ x e. cc) (λ v q e. cc) (with_acc n (S.carried u)) refl refl)
-  goes (op.Add n) is = (refl, row-goes_with W t S flowing s u held (op.Add n) is (λ x e. cc) (λ v q e. cc) (added n (S.carried u)) refl refl)
-  goes (op.Say w) is = (refl, row-goes_with W t S flowing s u held (op.Say w) is (λ x e. cc) (λ v q e. cc) (printed (piece.Said w) (S.carried u)) refl refl)
-  goes op.Print is = (refl, row-goes_with W t S flowing s u held op.Print is (λ x e. cc) (λ v q e. cc) (printed (piece.Number (S.carried u).acc) (S.carried u)) refl refl)
-  goes (op.KeySet k) is = (refl, row-goes_with W t S flowing s u held (op.KeySet k) is (λ x e. cc) (λ v q e. cc) (with_key k (S.carried u)) refl refl)
-  goes (op.KeyGet k) is = (refl, row-goes_with W t S flowing s u held (op.KeyGet k) is (λ x e. cc) (λ v q e. cc) (from_key k (S.carried u)) refl refl)
   goes op.Yield is = (refl, row-goes_to W t S flowing s u held op.Yield is (λ x e. cc) (λ v q e. cc) (place.Tray (stream_no s) (tray_end W S s)) (λ e. cc) (went W t S flowing s u held op.Yield is (S.carried u) refl refl) [] [])
   goes (op.Create v p) is = (create-ok W confluent t S flowing s u held v p is, row-creates W confluent t S flowing s u held v p is)
   goes (op.Join v) is = (refl, row-joins W t S flowing s u held v is (S.place v.0))
   goes (op.EvWait x) is = (refl, row-awaits W t S flowing s u held x is (S.eventual x.0) refl)
   goes (op.EvSet x) is = (set-ok W valid confluent t S flowing s u held x is, row-sets W valid confluent t S flowing s u held x is)
   goes (op.BarWait x) is = (refl, row-arrives W t S flowing s u held valid x is)
-  goes o is = absurd (confluent.ops u (S.carried u).position o is)
+  goes o is = goes-locally o (effect o) refl is (search)

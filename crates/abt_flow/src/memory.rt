@@ -62,7 +62,11 @@ impl Progress {
             Role::Print => self.output.push(Piece::Number(self.acc))?,
             Role::KeySet(k) => self.keys[k as usize] = self.acc,
             Role::KeyGet(k) => self.acc = self.keys[k as usize],
-            _ => {}
+            Role::Create(_, _)
+            | Role::AwaitValue(_)
+            | Role::SetValue(_)
+            | Role::Pass
+            | Role::Depend => {}
         }
         Ok(())
     }

@@ -51,7 +51,7 @@ first_ops-declared n =
 
 adder_ops-declared : (n v : ℕ) → v < 2 ^ 64 → Each (IsDeclared (generated n)) (adder_ops v)
 unfolding generated
-adder_ops-declared n v below = (tt, (refl, (refl, (below, (refl, (refl, tt))))))
+adder_ops-declared n v below = (tt, (refl, (refl, ((omega arith, omega arith), (refl, (refl, tt))))))
 
 -- Units.
 

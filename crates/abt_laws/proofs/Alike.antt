@@ -49,6 +49,23 @@ alike-sym W s x S T alike = record {
   stream = sym alike.stream;
 }
 
+-- S with what R has at site x, so that states that are alike there become the same
+abbrev pub seen : State → Option Site → State → State
+seen S (Some (site.Desk v)) R = record S { desk = λ _. R.desk v.0 }
+seen S (Some (site.Monitor y)) R = record S { mutex = λ _. R.mutex y.0 }
+seen S (Some (site.Eventual y)) R = record S { eventual = λ _. R.eventual y.0 }
+seen S (Some (site.Future y)) R = record S { future = λ _. R.future y.0 }
+seen S (Some (site.Rw y)) R = record S { rwlock = λ _. R.rwlock y.0 }
+seen S _ R = S
+
+pub seen-same : (W : Parts) (s : ℕ) (x : Option Site) (S T : State) → IsAlike W s x S T → seen S x S ≡ seen S x T
+seen-same W s (Some (site.Desk v)) S T alike = λ i. record S { desk = λ _. alike.desk v.0 refl i }
+seen-same W s (Some (site.Monitor y)) S T alike = λ i. record S { mutex = λ _. alike.mutex y.0 refl i }
+seen-same W s (Some (site.Eventual y)) S T alike = λ i. record S { eventual = λ _. alike.eventual y.0 refl i }
+seen-same W s (Some (site.Future y)) S T alike = λ i. record S { future = λ _. alike.future y.0 refl i }
+seen-same W s (Some (site.Rw y)) S T alike = λ i. record S { rwlock = λ _. alike.rwlock y.0 refl i }
+seen-same W s _ S T alike = refl
+
 -- nothing is kept at both of two places that are apart
 pub not-both : (s r : ℕ) (x y : Option Site) (h : Holder) → s ≢ r → Apart x y → Within s x h → Within r y h → ⊥
 not-both s r x y (OfStream q) ne apart a b = ne (sym a ∙ b)

@@ -16,7 +16,7 @@ use Rattle.abt_machine.specs.RwLocks.{passed_on, woken}
 use Rattle.abt_machine.specs.State.{State, Carried, Desk, Mutex, Future, RwLock}
 use Rattle.abt_machine.specs.Lines.{Waiting, hand, standing, tray_end}
 use Rattle.abt_machine.specs.Changes.{tray_moves, waiting_moves, goes_with, goes_on}
-use Rattle.abt_machine.specs.Steps.{owned, wakes, begins, asks, joins, waits, locks, hands_over, releases, queues, passes, receives, gives_all, awaits, learns, truth, fills, arrives, gives_up}
+use Rattle.abt_machine.specs.Steps.{owned, wakes, begins, asks, joins, waits, locks, hands_over, releases, queues, passes, receives, gives_all, awaits, fills, arrives, gives_up}
 use Rattle.abt_machine.specs.Values.{RwLockValue, owned_at, rwlock_value, waiters_at}
 use Rattle.abt_laws.specs.Footprint.{Within, holder}
 use Rattle.abt_laws.proofs.Lists.{EachOf}
@@ -128,9 +128,6 @@ module _ (W : Parts) (S T : State) (s u : ℕ) (x : Option Site) (alike : IsAlik
 
   pub alike-awaits : (y : ℕ) (o p : Option ℕ) → o ≡ p → x ≡ Some (object_site W y) → awaits S u y o ≡ awaits T u y p
   alike-awaits y o p same e = awaits-at y o e ∙ ap (awaits T u y) same
-
-  pub alike-learns : (b d : Bool) → b ≡ d → learns S u b ≡ learns T u d
-  alike-learns b d same = λ i. goes_with u (with_acc (truth (same i)) (same-caller i))
 
   fills-at : (y : ℕ) (f : Future) → x ≡ Some (object_site W y) → fills W S s u y f ≡ fills W T s u y f
   fills-at y f e = λ i. record (if f.filled == size_of W y then alike-gives_all y f.value f.value refl e i else alike-goes_on i) { futures = (y, f) ∷ [] }

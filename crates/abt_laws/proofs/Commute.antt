@@ -9,7 +9,8 @@ use Rattle.abt_machine.specs.declared.workload.Parts.{Parts}
 use Rattle.abt_machine.specs.Numbers.{pool_no, unit_no, object_no}
 use Rattle.abt_machine.specs.Maps.{put_all}
 use Rattle.abt_machine.specs.Valid.{IsValid}
-use Rattle.abt_machine.specs.Sites.{object_site, what_site, event_site}
+use Rattle.abt_machine.specs.Sites.{object_site}
+use Rattle.abt_machine.specs.EventSites.{what_site, event_site}
 use Rattle.abt_machine.specs.State.{State}
 use Rattle.abt_machine.specs.Changes.{Change, changed}
 use Rattle.abt_machine.specs.Events.{change, after, May, After}

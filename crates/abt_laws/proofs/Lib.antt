@@ -49,6 +49,7 @@ pub mod QuietRuns
 pub mod Reading
 pub mod Rounds
 pub mod RunParts
+pub mod SiteOps
 pub mod SoundBarriers
 pub mod SoundChanges
 pub mod SoundConditions

@@ -80,7 +80,7 @@ module _ (W : Parts) (Z : List OrderShape) (S : State) (sound : Sound W Z S) (s 
         (acts-by_step (body_at W v.0) v k code.Ok S T true has-step.0 may.2 held-busy held-busy refl (ap (λ (c : Carried). c.position) (put_at-same S.carried v.0 (advanced (S.carried v.0)))) mark (does-exit is))
         (λ other. record { life = refl; position = ap (λ (c : Carried). c.position) (put_at-other S.carried v.0 (advanced (S.carried v.0)) u other); moves = inl refl; marks = marks-elsewhere S s u own (held-alone other) })
 
-    row-fate : (o : Op) → op_at W v.0 k ≡ Some o → Goes W S s v.0 not-outside o → Fate W u (what.Step v k code.Ok) S (changed S (op_row W S s v.0 o))
+    row-fate : (o : Op) → op_at W v.0 k ≡ Some o → Goes W S s v.0 o → Fate W u (what.Step v k code.Ok) S (changed S (op_row W S s v.0 o))
     row-fate op.Exit is h = exit-fate is
     row-fate (op.Create w p) is over = birth-fate W S s v w p.0 k code.Ok has-step.0 may.2 held-busy not-exited (does-other (op.Create w p) is (λ e. cc)) over u (λ n. ap (life-by n) is)
     row-fate (op.Revive w p) is over = birth-fate W S s v w p.0 k code.Ok has-step.0 may.2 held-busy not-exited (does-other (op.Revive w p) is (λ e. cc)) over u (λ n. ap (life-by n) is)
@@ -92,7 +92,7 @@ module _ (W : Parts) (Z : List OrderShape) (S : State) (sound : Sound W Z S) (s 
 
     code-fate : (d : Code) (o : Op) → op_at W v.0 k ≡ Some o → d ≡ code_of W S s v.0 o → Fate W u (what.Step v k d) S (changed S (step_row W S s v.0 (Some o) d))
     code-fate code.Ok o is h = row-fate o is (goes W S s v.0 not-outside o (sym h))
-    code-fate d o is h = step-fate W S v k d u (step_row W S s v.0 (Some o) d) has-step.0 may.2 held-busy not-exited (does-other o is (refused-other d o h (λ e. cc))) (λ n. refl) (row-refused W S s v.0 not-outside d)
+    code-fate d o is h = step-fate W S v k d u (step_row W S s v.0 (Some o) d) has-step.0 may.2 held-busy not-exited (does-other o is (refused-other d o h (λ e. cc))) (λ n. refl) (row-refused S v.0 d)
 
     no-op : op_at W v.0 k ≡ None → ⊥
     no-op none =

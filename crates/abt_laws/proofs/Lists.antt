@@ -63,6 +63,14 @@ pub EachOf-first_alone : {A : Type 0} (P : A → Type 0) (xs : List A) → EachO
 EachOf-first_alone P [] a = tt
 EachOf-first_alone P (x ∷ xs) a = (a.0, tt)
 
+-- what follows for each item from two lists that are the same, made of it by f and g
+pub EachOf-made : {A B : Type 0} (P : A → Type 0) (f g : A → B) (xs : List A) → ((x : A) → f x ≡ g x → P x) → map f xs ≡ map g xs → EachOf P xs
+EachOf-made P f g [] h same = tt
+EachOf-made P f g (x ∷ xs) h same = (h x cc, EachOf-made P f g xs h cc)
+
+pub EachOf-same : {A B : Type 0} (f g : A → B) (xs : List A) → map f xs ≡ map g xs → EachOf (λ x. f x ≡ g x) xs
+EachOf-same f g xs same = EachOf-made (λ x. f x ≡ g x) f g xs (λ x e. e) same
+
 -- v is one of the items
 abbrev pub Among : ℕ → List ℕ → Type 0
 Among v [] = ⊥

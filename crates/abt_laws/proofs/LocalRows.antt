@@ -13,7 +13,7 @@ use Rattle.abt_machine.specs.Sites.{object_site}
 use Rattle.abt_machine.specs.Monitors.{number_of}
 use Rattle.abt_machine.specs.Queues.{first_alone}
 use Rattle.abt_machine.specs.RwLocks.{left_by, passed_on, woken}
-use Rattle.abt_machine.specs.State.{State, Carried, Desk, Mutex, Future, RwLock}
+use Rattle.abt_machine.specs.State.{State, Carried, Desk, Future, RwLock}
 use Rattle.abt_machine.specs.Lines.{Waiting, hand, standing, tray_end}
 use Rattle.abt_machine.specs.Changes.{Change, no_change, tray_moves, to_tray, waiting_moves, goes_with, goes_on}
 use Rattle.abt_machine.specs.Steps.{wakes, begins, asks, joins, waits, locks, hands_over, releases, queues, passes, receives, gives_all, awaits, fills, arrives, gives_up}
@@ -22,7 +22,7 @@ use Rattle.abt_laws.proofs.Granted.{woken-each}
 use Rattle.abt_laws.proofs.LineMoves.{tray_moves-each, waiting_moves-each}
 use Rattle.abt_laws.proofs.Lists.{EachOf, EachOf-append, EachOf-map}
 use Rattle.abt_laws.proofs.Keeping.{IsKept, hand-kept, standing-kept, one-kept}
-use Rattle.abt_laws.proofs.Local.{MovesWithin, IsLocal, local-none, local-moves, local-carried, local-desk, local-join_next, local-object_next, local-mutex, local-eventual, local-future, local-rwlock}
+use Rattle.abt_laws.proofs.Local.{MovesWithin, IsLocal, local-none, local-moves, local-carried, local-desk, local-join_next, local-object_next, local-mutex, local-future, local-rwlock}
 
 -- Units that stream s or site x keeps stay there when they move to a tray or to an object of the site.
 
@@ -132,15 +132,3 @@ module _ (W : Parts) (S : State) (s u : ℕ) (x : Option Site) (in_hand : hand W
 
   pub local-suspends : x ≡ Some (site.Desk (unit_no u)) → IsLocal W S s x (record (goes_on S u) { moves = (u, place.Blocked spot.Suspended 0) ∷ [] })
   local-suspends e = local-moving _ ((here, e), tt)
-
-  pub local-holds : (y : ℕ) (m : Mutex) → x ≡ Some (site.Monitor (object_no y)) → IsLocal W S s x (record (goes_on S u) { mutexes = (y, m) ∷ [] })
-  local-holds y m e = local-mutex W S s x (goes_on S u) local-goes_on y m e
-
-  pub local-writes : (y : ℕ) (k : RwLock) → x ≡ Some (site.Rw (object_no y)) → IsLocal W S s x (record (goes_on S u) { rwlocks = (y, k) ∷ [] })
-  local-writes y k e = local-rwlock W S s x (goes_on S u) local-goes_on y k e
-
-  pub local-resets_eventual : (y : ℕ) → x ≡ Some (site.Eventual (object_no y)) → IsLocal W S s x (record (goes_on S u) { eventuals = (y, None) ∷ [] })
-  local-resets_eventual y e = local-eventual W S s x (goes_on S u) local-goes_on y None e
-
-  pub local-resets_future : (y : ℕ) (f : Future) → x ≡ Some (site.Future (object_no y)) → IsLocal W S s x (record (goes_on S u) { futures = (y, f) ∷ [] })
-  local-resets_future y f e = local-future W S s x (goes_on S u) local-goes_on y f e

@@ -1,5 +1,5 @@
 -- Steps that ask something of a unit keep a sound state sound. Unit u, in the hand of stream s, makes the step.
-use Rattle.std.proofs.Common.{◌≡◌, ℕ, ◌<◌, Bool, true, List, length, Some, inl, inr}
+use Rattle.std.proofs.Common.{◌≡◌, ℕ, ◌<◌, true, List, length, Some, inr}
 use Rattle.abt_machine.specs.declared.operations.OrderShape.{OrderShape}
 use Rattle.abt_machine.specs.declared.workload.Parts.{Parts}
 use Rattle.abt_machine.specs.State.{State}
@@ -14,6 +14,3 @@ module _ (W : Parts) (Z : List OrderShape) (S : State) (s u : ℕ) (step : IsSte
 
   pub keeps-migrates : (v p : ℕ) → is_alive (S.place v) ≡ true → p < length W.pools → Keeps W Z S (asks S u v (record (S.desk v) { migrate = Some p }))
   keeps-migrates v p alive l = keeps-asks W Z S s u step v (record (S.desk v) { migrate = Some p }) (record { asks = inr alive; request = l })
-
-  pub keeps-allows : (v : ℕ) (b : Bool) → Keeps W Z S (asks S u v (record (S.desk v) { migratable = b }))
-  keeps-allows v b = keeps-asks W Z S s u step v (record (S.desk v) { migratable = b }) (record { asks = inl (λ h. h); request = step.sound.requests v })

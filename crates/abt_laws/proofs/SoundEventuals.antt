@@ -1,5 +1,5 @@
 -- Steps at an eventual, and those that give a value to all who wait at an object, keep a sound state sound. Unit u, in the hand of stream s, makes the step.
-use Rattle.std.proofs.Common.{◌≡◌, ℕ, List, [], ◌∷◌, map, Option, Some, None, refl, sym, ◌∙◌, subst, inl, inr}
+use Rattle.std.proofs.Common.{◌≡◌, ℕ, List, [], ◌∷◌, map, Option, Some, None, refl, sym, ◌∙◌, subst, inr}
 use Rattle.abt_machine.specs.declared.operations.OrderShape.{OrderShape}
 use Rattle.abt_machine.specs.declared.operations.Thing.TheVariants as thing
 use Rattle.abt_machine.specs.declared.workload.Parts.{Parts}
@@ -8,7 +8,6 @@ use Rattle.abt_machine.specs.State.{State, Carried, Future}
 use Rattle.abt_machine.specs.Lines.{Waiting, standing, tray_end}
 use Rattle.abt_machine.specs.Carrying.{advanced, with_acc}
 use Rattle.abt_machine.specs.Operations.{IsEventual}
-use Rattle.abt_machine.specs.Changes.{goes_on}
 use Rattle.abt_machine.specs.Steps.{wakes, awaits, gives_all, receives}
 use Rattle.abt_machine.specs.Sound.{HoldsUp}
 use Rattle.abt_laws.proofs.LineMoves.{tray_moves-places, tray_moves-key}
@@ -18,7 +17,7 @@ use Rattle.abt_laws.proofs.Arrivals.{IsEmpty}
 use Rattle.abt_laws.proofs.Standing.{among-standing}
 use Rattle.abt_laws.proofs.SoundChanges.{Keeps, places, CarriesWell, EventualHolds, FutureHolds}
 use Rattle.abt_laws.proofs.Wakes.{wakeable-line, empty-after}
-use Rattle.abt_laws.proofs.SoundSteps.{IsStepping, carries_on, keeps-goes_with, keeps-still, keeps-wakes, keeps-waits}
+use Rattle.abt_laws.proofs.SoundSteps.{IsStepping, carries_on, keeps-goes_with, keeps-wakes, keeps-waits}
 
 module _ (W : Parts) (Z : List OrderShape) (S : State) (s u : ℕ) (step : IsStepping W Z S s u) where
   -- whatever a unit's new accumulator is
@@ -49,9 +48,6 @@ module _ (W : Parts) (Z : List OrderShape) (S : State) (s u : ℕ) (step : IsSte
 
   pub keeps-sets : (x value : ℕ) → IsEventual W x → Keeps W Z S (record (gives_all W S s u x value) { eventuals = (x, Some value) ∷ [] })
   keeps-sets x value is = keeps-gives_all x value ((x, Some value) ∷ []) [] (no_lock x is) (inr (all-leave x), tt) tt
-
-  pub keeps-unsets : (x : ℕ) → Keeps W Z S (record (goes_on S u) { eventuals = (x, None) ∷ [] })
-  keeps-unsets x = keeps-still W Z S s u step ((u, advanced (S.carried u)) ∷ []) [] [] ((x, None) ∷ []) [] (carries_on W Z S s u step, tt) tt tt (inl refl, tt) tt
 
   -- u gets the value, or waits at x, which is no reader-writer lock and no barrier, and holds it up
   pub keeps-awaits : (x : ℕ) (o : Option ℕ) → (thing_at W x ≡ Some thing.RwLock → ⊥) → (o ≡ None → HoldsUp W S x (thing_at W x)) → ((n : ℕ) → thing_at W x ≡ Some (thing.Barrier n) → ⊥) → Keeps W Z S (awaits S u x o)

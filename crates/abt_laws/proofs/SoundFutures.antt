@@ -46,6 +46,3 @@ module _ (W : Parts) (Z : List OrderShape) (S : State) (s u : ℕ) (step : IsSte
       cond_both (f.filled == size_of W x) (gives_all W S s u x f.value) (goes_on S u) (λ d. Keeps W Z S (record d { futures = (x, f) ∷ [] }))
       (λ full. keeps-gives_all W Z S s u step x f.value [] ((x, f) ∷ []) (no_lock x is) tt ((omega arith, inr (all-leave W Z S s u step x)), tt))
       (λ part. let other : f.filled ≡ size_of W x → ⊥ = eqb-false f.filled (size_of W x) part in keeps-becomes x f (omega arith, inl (λ l. omega arith)))
-
-  pub keeps-empties : (x : ℕ) → Keeps W Z S (record (goes_on S u) { futures = (x, record { filled = 0; value = 0 }) ∷ [] })
-  keeps-empties x = keeps-becomes x (record { filled = 0; value = 0 }) (omega arith, inl (λ l. omega arith))

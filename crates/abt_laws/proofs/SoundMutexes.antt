@@ -38,7 +38,7 @@ module _ (W : Parts) (Z : List OrderShape) (S : State) (s u : ℕ) (step : IsSte
   keeps-owned : (x : ℕ) (m : Mutex) → IsSome m.owner → Keeps W Z S (record (goes_on S u) { mutexes = (x, m) ∷ [] })
   keeps-owned x m some = keeps-still W Z S s u step ((u, advanced (S.carried u)) ∷ []) [] ((x, m) ∷ []) [] [] (carries_on W Z S s u step, tt) tt (inl some, tt) tt tt
 
-  pub keeps-takes : (x : ℕ) → Keeps W Z S (record (goes_on S u) { mutexes = (x, owned (Some u) (S.mutex x)) ∷ [] })
+  keeps-takes : (x : ℕ) → Keeps W Z S (record (goes_on S u) { mutexes = (x, owned (Some u) (S.mutex x)) ∷ [] })
   keeps-takes x = keeps-owned x (owned (Some u) (S.mutex x)) refl
 
   pub keeps-stores : (x n : ℕ) → owned_by S u x ≡ true → Keeps W Z S (record (goes_on S u) { mutexes = (x, record (S.mutex x) { number = n }) ∷ [] })

@@ -15,7 +15,7 @@ use Rattle.abt_machine.specs.Valid.{IsValid}
 use Rattle.abt_machine.specs.Rounds.{OrdersStored}
 use Rattle.abt_machine.specs.State.{State}
 use Rattle.abt_machine.specs.Start.{start}
-use Rattle.abt_machine.specs.Sites.{event_site}
+use Rattle.abt_machine.specs.EventSites.{event_site}
 use Rattle.abt_machine.specs.Events.{After}
 use Rattle.abt_machine.specs.Runs.{Run, state_at, last_state}
 use Rattle.abt_machine.specs.Sound.{Sound}

@@ -8,6 +8,7 @@ pub mod Checks
 pub mod Codes
 pub mod Declaring
 pub mod Desks
+pub mod EventSites
 pub mod Events
 pub mod Eventuals
 pub mod Faults

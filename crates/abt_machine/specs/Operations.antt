@@ -1,12 +1,16 @@
 -- What an operation asks of the workload that it stands in, and what is so of it in every workload.
-use Rattle.std.specs.Prelude.{ℕ, ◌≡◌, ◌<◌, ◌^◌, Bool, true, false, List, length, Option, Some, None, option_to_list, ⊤}
+use Rattle.std.specs.Prelude.{ℕ, ◌≡◌, ◌<◌, ◌≤◌, Bool, true, false, List, [], ◌∷◌, length, Option, Some, None, option_to_list, ⊤}
 use Rattle.abt_machine.specs.declared.events.Piece.TheVariants as piece
+use Rattle.abt_machine.specs.declared.grammar.Number.{Number}
+use Rattle.abt_machine.specs.declared.grammar.Number.TheVariants as number
 use Rattle.abt_machine.specs.declared.operations.Combine.{Combine}
 use Rattle.abt_machine.specs.declared.operations.Op.{Op}
 use Rattle.abt_machine.specs.declared.operations.Op.TheVariants as op
 use Rattle.abt_machine.specs.declared.operations.Thing.TheVariants as thing
 use Rattle.abt_machine.specs.declared.workload.Parts.{Parts}
+use Rattle.abt_machine.specs.Canonical.{op_numbers}
 use Rattle.abt_machine.specs.Carrying.{added, from_key, printed, with_acc, with_key}
+use Rattle.abt_machine.specs.Forms.{Slot, Numeral, op_slots}
 use Rattle.abt_machine.specs.State.{Carried}
 use Rattle.abt_machine.specs.Workloads.{IsCondition, thing_at}
 
@@ -25,48 +29,39 @@ IsBarrier W x = (n : ℕ) × (thing_at W x ≡ Some (thing.Barrier n))
 abbrev pub IsRwLock : Parts → ℕ → Type 0
 IsRwLock W x = thing_at W x ≡ Some thing.RwLock
 
--- what an operation names is declared, its objects of the kind that it needs, and its number has 64 bits
+-- a number of this kind names what is declared, an object of the kind that is asked for, or is within its bounds if it names nothing;
+-- nothing is asked of a count, and of the number of what a line itself declares
+abbrev pub IsNamed : Parts → Number → ℕ → Type 0
+IsNamed W (number.Within low high) n = (low ≤ n) × (n ≤ high)
+IsNamed W number.StreamCount n = ⊤
+IsNamed W number.UnitCount n = ⊤
+IsNamed W number.NewPool n = ⊤
+IsNamed W number.NewSched n = ⊤
+IsNamed W number.NewObject n = ⊤
+IsNamed W number.NewUnit n = ⊤
+IsNamed W number.Stream n = n < W.streams
+IsNamed W number.Pool n = n < length W.pools
+IsNamed W number.Sched n = n < length W.scheds
+IsNamed W number.Key n = n < W.keys
+IsNamed W number.Unit n = n < length W.units
+IsNamed W number.Mutex n = IsMutex W n
+IsNamed W number.Cond n = IsCondition W n
+IsNamed W number.Eventual n = IsEventual W n
+IsNamed W number.Future n = IsFuture W n
+IsNamed W number.Barrier n = IsBarrier W n
+IsNamed W number.RwLock n = IsRwLock W n
+
+-- each of these numbers, which stand at these places of a line, names what is declared
+abbrev pub AreNamed : Parts → List Slot → List ℕ → Type 0
+AreNamed W (Numeral kind ∷ []) (n ∷ []) = IsNamed W kind n
+AreNamed W (Numeral kind ∷ places) (n ∷ numbers) = IsNamed W kind n × AreNamed W places numbers
+AreNamed W (place ∷ places) numbers = AreNamed W places numbers
+AreNamed W [] numbers = ⊤
+
+-- the word that an operation says is one of the words, and what the numbers of its line name is declared
 abbrev pub IsDeclared : Parts → Op → Type 0
-IsDeclared W (op.Set n) = n < 2 ^ 64
-IsDeclared W (op.Add n) = n < 2 ^ 64
 IsDeclared W (op.Say w) = w < length W.words
-IsDeclared W op.Print = ⊤
-IsDeclared W (op.KeySet k) = k < W.keys
-IsDeclared W (op.KeyGet k) = k < W.keys
-IsDeclared W op.Yield = ⊤
-IsDeclared W (op.YieldTo v p) = (v.0 < length W.units) × (p.0 < length W.pools)
-IsDeclared W op.Suspend = ⊤
-IsDeclared W op.Exit = ⊤
-IsDeclared W (op.Resume v) = v.0 < length W.units
-IsDeclared W (op.Create v p) = (v.0 < length W.units) × (p.0 < length W.pools)
-IsDeclared W (op.Join v) = v.0 < length W.units
-IsDeclared W (op.Cancel v) = v.0 < length W.units
-IsDeclared W (op.Migrate v p) = (v.0 < length W.units) × (p.0 < length W.pools)
-IsDeclared W (op.MigrateTo v s) = (v.0 < length W.units) × (s.0 < W.streams)
-IsDeclared W (op.Migratable v b) = v.0 < length W.units
-IsDeclared W (op.Revive v p) = (v.0 < length W.units) × (p.0 < length W.pools)
-IsDeclared W (op.Lock x) = IsMutex W x.0
-IsDeclared W (op.TryLock x) = IsMutex W x.0
-IsDeclared W (op.Unlock x) = IsMutex W x.0
-IsDeclared W (op.Load x) = IsMutex W x.0
-IsDeclared W (op.Store x) = IsMutex W x.0
-IsDeclared W (op.CondWait x) = IsCondition W x.0
-IsDeclared W (op.Signal x) = IsCondition W x.0
-IsDeclared W (op.Broadcast x) = IsCondition W x.0
-IsDeclared W (op.EvWait x) = IsEventual W x.0
-IsDeclared W (op.EvSet x) = IsEventual W x.0
-IsDeclared W (op.EvReset x) = IsEventual W x.0
-IsDeclared W (op.EvTest x) = IsEventual W x.0
-IsDeclared W (op.FuWait x) = IsFuture W x.0
-IsDeclared W (op.FuSet x) = IsFuture W x.0
-IsDeclared W (op.FuReset x) = IsFuture W x.0
-IsDeclared W (op.FuTest x) = IsFuture W x.0
-IsDeclared W (op.BarWait x) = IsBarrier W x.0
-IsDeclared W (op.ReadLock x) = IsRwLock W x.0
-IsDeclared W (op.WriteLock x) = IsRwLock W x.0
-IsDeclared W (op.RwUnlock x) = IsRwLock W x.0
-IsDeclared W (op.RwLoad x) = IsRwLock W x.0
-IsDeclared W (op.RwStore x) = IsRwLock W x.0
+IsDeclared W o = AreNamed W (op_slots o) (op_numbers o)
 
 -- what holds of an operation in every workload and in every state
 pub record Nature : Type 0 where

@@ -45,59 +45,6 @@ refusal o c = notes (moved o) c
 abbrev pub local : (Carried → Carried) → Owned → Effect
 local f o = keeps (moved (carrying f o)) []
 
--- by itself, by a call, or as the end of a thread, which stays in the hand as it is after its step
-pub data Plan : Type 0 where
-  Does : Effect → Plan
-  Calls : Site → Act → Plan
-  Exits : Owned → Plan
-
--- an operation that names a pool which the stream must not reach is refused without a call
-abbrev pub denied : Owned → Plan
-denied o = Does (refusal o code.PoolAccess)
-
--- what stream s does at an operation of unit o in its hand. A unit goes with its act as it is after the step
-abbrev pub plan_of : Parts → ℕ → Op → Owned → Plan
-plan_of W s (op.Set n) o = Does (local (with_acc n) o)
-plan_of W s (op.Add n) o = Does (local (added n) o)
-plan_of W s (op.Say w) o = Does (local (printed (piece.Said w)) o)
-plan_of W s op.Print o = Does (local (printed (piece.Number o.carried.acc)) o)
-plan_of W s (op.KeySet k) o = Does (local (with_key k) o)
-plan_of W s (op.KeyGet k) o = Does (local (from_key k) o)
-plan_of W s op.Yield o = Does (empties (moved o ∷ []))
-plan_of W s (op.YieldTo v p) o = if may_take W s p.0 then Calls (site.Pool p) (act.Remove v.0) else denied o
-plan_of W s op.Suspend o = Calls (site.Desk (unit_no o.number)) (act.Suspend (moved o))
-plan_of W s op.Exit o = Exits (moved o)
-plan_of W s (op.Resume v) o = Calls (site.Desk v) act.Resume
-plan_of W s (op.Create v p) o = if may_put W s p.0 then Calls (site.Desk v) (act.Create p.0) else denied o
-plan_of W s (op.Join v) o = Calls (site.Desk v) (act.Join (moved o))
-plan_of W s (op.Cancel v) o = Calls (site.Desk v) act.AskCancel
-plan_of W s (op.Migrate v p) o = if may_put W s p.0 then Calls (site.Desk v) (act.AskMigrate p.0) else denied o
-plan_of W s (op.MigrateTo v r) o = if may_put W s (first_pool W r.0) then Calls (site.Desk v) (act.AskMigrate (first_pool W r.0)) else denied o
-plan_of W s (op.Migratable v allowed) o = Calls (site.Desk v) (act.SetMigratable allowed)
-plan_of W s (op.Revive v p) o = if may_put W s p.0 then Calls (site.Desk v) (act.Revive p.0) else denied o
-plan_of W s (op.Lock x) o = Calls (site.Monitor x) (act.Lock (moved o))
-plan_of W s (op.TryLock x) o = Calls (site.Monitor x) (act.TryLock o.number)
-plan_of W s (op.Unlock x) o = Calls (site.Monitor x) (act.Unlock o.number)
-plan_of W s (op.Load x) o = Calls (site.Monitor x) (act.Load o.number)
-plan_of W s (op.Store x) o = Calls (site.Monitor x) (act.Store o.number o.carried.acc)
-plan_of W s (op.CondWait x) o = Calls (monitor_of W x.0) (act.Wait (condition_number W x.0) (moved o))
-plan_of W s (op.Signal x) o = Calls (monitor_of W x.0) (act.Signal (condition_number W x.0))
-plan_of W s (op.Broadcast x) o = Calls (monitor_of W x.0) (act.Broadcast (condition_number W x.0))
-plan_of W s (op.EvWait x) o = Calls (site.Eventual x) (act.Await (moved o))
-plan_of W s (op.EvSet x) o = Calls (site.Eventual x) (act.Fill o.carried.acc)
-plan_of W s (op.EvReset x) o = Calls (site.Eventual x) act.Reset
-plan_of W s (op.EvTest x) o = Calls (site.Eventual x) act.Test
-plan_of W s (op.FuWait x) o = Calls (site.Future x) (act.Await (moved o))
-plan_of W s (op.FuSet x) o = Calls (site.Future x) (act.Fill o.carried.acc)
-plan_of W s (op.FuReset x) o = Calls (site.Future x) act.Reset
-plan_of W s (op.FuTest x) o = Calls (site.Future x) act.Test
-plan_of W s (op.BarWait x) o = Calls (site.Barrier x) (act.Arrive (moved o))
-plan_of W s (op.ReadLock x) o = Calls (site.Rw x) (act.ReadLock (moved o))
-plan_of W s (op.WriteLock x) o = Calls (site.Rw x) (act.WriteLock (moved o))
-plan_of W s (op.RwUnlock x) o = Calls (site.Rw x) (act.RwUnlock o.number)
-plan_of W s (op.RwLoad x) o = Calls (site.Rw x) (act.Load o.number)
-plan_of W s (op.RwStore x) o = Calls (site.Rw x) (act.Store o.number o.carried.acc)
-
 -- What an answer brings. The last line of each is of answers that the act never gets.
 
 -- to a unit that stayed in the hand: it goes on, what comes out is woken, and a number is its own
@@ -132,45 +79,55 @@ to_yielder o (act.Given b) = record { hand = None; next = Some b; wakes = moved 
 to_yielder o (act.Coded c) = refusal o c
 to_yielder o answer = keeps (moved o) []
 
--- what the answer to an operation of unit o brings; `exit` and the first seven operations make no call
-abbrev pub effect_of : Op → Owned → Answer → Effect
-effect_of (op.Set n) o b = to_caller o b
-effect_of (op.Add n) o b = to_caller o b
-effect_of (op.Say w) o b = to_caller o b
-effect_of op.Print o b = to_caller o b
-effect_of (op.KeySet k) o b = to_caller o b
-effect_of (op.KeyGet k) o b = to_caller o b
-effect_of op.Yield o b = to_caller o b
-effect_of (op.YieldTo v p) o b = to_yielder o b
-effect_of op.Suspend o b = to_giver b
-effect_of op.Exit o b = to_caller o b
-effect_of (op.Resume v) o b = to_caller o b
-effect_of (op.Create v p) o b = to_caller o b
-effect_of (op.Join v) o b = to_giver b
-effect_of (op.Cancel v) o b = to_caller o b
-effect_of (op.Migrate v p) o b = to_caller o b
-effect_of (op.MigrateTo v r) o b = to_caller o b
-effect_of (op.Migratable v allowed) o b = to_caller o b
-effect_of (op.Revive v p) o b = to_caller o b
-effect_of (op.Lock x) o b = to_giver b
-effect_of (op.TryLock x) o b = to_caller o b
-effect_of (op.Unlock x) o b = to_caller o b
-effect_of (op.Load x) o b = to_caller o b
-effect_of (op.Store x) o b = to_caller o b
-effect_of (op.CondWait x) o b = to_condition b
-effect_of (op.Signal x) o b = to_caller o b
-effect_of (op.Broadcast x) o b = to_caller o b
-effect_of (op.EvWait x) o b = to_giver b
-effect_of (op.EvSet x) o b = to_caller o b
-effect_of (op.EvReset x) o b = to_caller o b
-effect_of (op.EvTest x) o b = to_caller o b
-effect_of (op.FuWait x) o b = to_giver b
-effect_of (op.FuSet x) o b = to_caller o b
-effect_of (op.FuReset x) o b = to_caller o b
-effect_of (op.FuTest x) o b = to_caller o b
-effect_of (op.BarWait x) o b = to_giver b
-effect_of (op.ReadLock x) o b = to_giver b
-effect_of (op.WriteLock x) o b = to_giver b
-effect_of (op.RwUnlock x) o b = to_caller o b
-effect_of (op.RwLoad x) o b = to_caller o b
-effect_of (op.RwStore x) o b = to_caller o b
+-- by itself, by a call whose answer brings this, or as the end of a thread, which stays in the hand as it is after its step
+pub data Plan : Type 0 where
+  Does : Effect → Plan
+  Calls : Site → Act → (Answer → Effect) → Plan
+  Exits : Owned → Plan
+
+-- an operation that names a pool which the stream must not reach is refused without a call
+abbrev pub denied : Owned → Plan
+denied o = Does (refusal o code.PoolAccess)
+
+-- what stream s does at an operation of unit o in its hand. A unit goes with its act as it is after the step
+abbrev pub plan_of : Parts → ℕ → Op → Owned → Plan
+plan_of W s (op.Set n) o = Does (local (with_acc n) o)
+plan_of W s (op.Add n) o = Does (local (added n) o)
+plan_of W s (op.Say w) o = Does (local (printed (piece.Said w)) o)
+plan_of W s op.Print o = Does (local (printed (piece.Number o.carried.acc)) o)
+plan_of W s (op.KeySet k) o = Does (local (with_key k) o)
+plan_of W s (op.KeyGet k) o = Does (local (from_key k) o)
+plan_of W s op.Yield o = Does (empties (moved o ∷ []))
+plan_of W s (op.YieldTo v p) o = if may_take W s p.0 then Calls (site.Pool p) (act.Remove v.0) (to_yielder o) else denied o
+plan_of W s op.Suspend o = Calls (site.Desk (unit_no o.number)) (act.Suspend (moved o)) to_giver
+plan_of W s op.Exit o = Exits (moved o)
+plan_of W s (op.Resume v) o = Calls (site.Desk v) act.Resume (to_caller o)
+plan_of W s (op.Create v p) o = if may_put W s p.0 then Calls (site.Desk v) (act.Create p.0) (to_caller o) else denied o
+plan_of W s (op.Join v) o = Calls (site.Desk v) (act.Join (moved o)) to_giver
+plan_of W s (op.Cancel v) o = Calls (site.Desk v) act.AskCancel (to_caller o)
+plan_of W s (op.Migrate v p) o = if may_put W s p.0 then Calls (site.Desk v) (act.AskMigrate p.0) (to_caller o) else denied o
+plan_of W s (op.MigrateTo v r) o = if may_put W s (first_pool W r.0) then Calls (site.Desk v) (act.AskMigrate (first_pool W r.0)) (to_caller o) else denied o
+plan_of W s (op.Migratable v allowed) o = Calls (site.Desk v) (act.SetMigratable allowed) (to_caller o)
+plan_of W s (op.Revive v p) o = if may_put W s p.0 then Calls (site.Desk v) (act.Revive p.0) (to_caller o) else denied o
+plan_of W s (op.Lock x) o = Calls (site.Monitor x) (act.Lock (moved o)) to_giver
+plan_of W s (op.TryLock x) o = Calls (site.Monitor x) (act.TryLock o.number) (to_caller o)
+plan_of W s (op.Unlock x) o = Calls (site.Monitor x) (act.Unlock o.number) (to_caller o)
+plan_of W s (op.Load x) o = Calls (site.Monitor x) (act.Load o.number) (to_caller o)
+plan_of W s (op.Store x) o = Calls (site.Monitor x) (act.Store o.number o.carried.acc) (to_caller o)
+plan_of W s (op.CondWait x) o = Calls (monitor_of W x.0) (act.Wait (condition_number W x.0) (moved o)) to_condition
+plan_of W s (op.Signal x) o = Calls (monitor_of W x.0) (act.Signal (condition_number W x.0)) (to_caller o)
+plan_of W s (op.Broadcast x) o = Calls (monitor_of W x.0) (act.Broadcast (condition_number W x.0)) (to_caller o)
+plan_of W s (op.EvWait x) o = Calls (site.Eventual x) (act.Await (moved o)) to_giver
+plan_of W s (op.EvSet x) o = Calls (site.Eventual x) (act.Fill o.carried.acc) (to_caller o)
+plan_of W s (op.EvReset x) o = Calls (site.Eventual x) act.Reset (to_caller o)
+plan_of W s (op.EvTest x) o = Calls (site.Eventual x) act.Test (to_caller o)
+plan_of W s (op.FuWait x) o = Calls (site.Future x) (act.Await (moved o)) to_giver
+plan_of W s (op.FuSet x) o = Calls (site.Future x) (act.Fill o.carried.acc) (to_caller o)
+plan_of W s (op.FuReset x) o = Calls (site.Future x) act.Reset (to_caller o)
+plan_of W s (op.FuTest x) o = Calls (site.Future x) act.Test (to_caller o)
+plan_of W s (op.BarWait x) o = Calls (site.Barrier x) (act.Arrive (moved o)) to_giver
+plan_of W s (op.ReadLock x) o = Calls (site.Rw x) (act.ReadLock (moved o)) to_giver
+plan_of W s (op.WriteLock x) o = Calls (site.Rw x) (act.WriteLock (moved o)) to_giver
+plan_of W s (op.RwUnlock x) o = Calls (site.Rw x) (act.RwUnlock o.number) (to_caller o)
+plan_of W s (op.RwLoad x) o = Calls (site.Rw x) (act.Load o.number) (to_caller o)
+plan_of W s (op.RwStore x) o = Calls (site.Rw x) (act.Store o.number o.carried.acc) (to_caller o)

@@ -4,7 +4,7 @@ use Rattle.std.specs.Prelude.{ℕ, List}
 use Rattle.abt_interleave.specs.Stamps as of
 use Rattle.abt_machine.specs.declared.events.Event.{Event}
 use Rattle.abt_machine.specs.declared.workload.Parts.{Parts}
-use Rattle.abt_machine.specs.Sites.{event_site}
+use Rattle.abt_machine.specs.EventSites.{event_site}
 
 -- an event's stamp
 abbrev pub stamp_of : Event → ℕ

@@ -24,7 +24,7 @@ use Rattle.abt_machine.specs.Frames.{marked, round_taken, round_missed, entered,
 use Rattle.abt_machine.specs.Values.{Owned, Held}
 use Rattle.abt_machine.specs.Acts.{Act, Answer, carrying}
 use Rattle.abt_machine.specs.Acts as act
-use Rattle.abt_machine.specs.Plans.{Effect, Plan, Does, Calls, Exits, plan_of, effect_of}
+use Rattle.abt_machine.specs.Plans.{Effect, Plan, Does, Calls, Exits, plan_of}
 
 abbrev pub number_and_position : Owned → ℕ × ℕ
 number_and_position o = (o.number, o.carried.position)
@@ -63,12 +63,12 @@ exited held o = record held { own = marked Exited held.own; hand = Some o; next 
 abbrev pub Heard : Type 0
 Heard = of.Heard Site Act Answer
 
--- operation a of unit o by its plan: what was heard, its code, and what the stream holds afterwards
-abbrev pub Performs : Held → Op → Owned → Plan → Option Heard → Code → Held → Type 0
-Performs old a o (Does e) heard c new = (heard ≡ None) × (c ≡ e.code) × (new ≡ stepped old e)
-Performs old a o (Calls x asked) heard c new =
-    (answer : Answer) × (heard ≡ Some (x, asked, answer)) × (c ≡ (effect_of a o answer).code) × (new ≡ stepped old (effect_of a o answer))
-Performs old a o (Exits b) heard c new = (heard ≡ None) × (c ≡ code.Ok) × (new ≡ exited old b)
+-- an operation by its plan: what was heard, its code, and what the stream holds afterwards
+abbrev pub Performs : Held → Plan → Option Heard → Code → Held → Type 0
+Performs old (Does e) heard c new = (heard ≡ None) × (c ≡ e.code) × (new ≡ stepped old e)
+Performs old (Calls x asked brings) heard c new =
+    (answer : Answer) × (heard ≡ Some (x, asked, answer)) × (c ≡ (brings answer).code) × (new ≡ stepped old (brings answer))
+Performs old (Exits o) heard c new = (heard ≡ None) × (c ≡ code.Ok) × (new ≡ exited old o)
 
 -- an event of stream s: when it comes, what was heard, and what the stream holds afterwards
 abbrev pub Steps : Parts → List OrderShape → ℕ → Held → What → Option Heard → Held → Type 0
@@ -89,7 +89,7 @@ Steps W Z s old (what.Look u) heard new =
 Steps W Z s old (what.Step u k c) heard new =
     (due_of W s old ≡ StepDue)
     × (o : Owned) × (old.hand ≡ Some o) × (o.number ≡ u.0) × (o.carried.position ≡ k)
-    × (a : Op) × (op_at W u.0 k ≡ Some a) × Performs old a o (plan_of W s a o) heard c new
+    × (a : Op) × (op_at W u.0 k ≡ Some a) × Performs old (plan_of W s a o) heard c new
 Steps W Z s old (what.Put u p) heard new =
     (due_of W s old ≡ PutDue)
     × (o : Owned) × (os : List Owned) × (old.tray ≡ o ∷ os) × (o.number ≡ u.0) × (o.carried.home ≡ p.0)

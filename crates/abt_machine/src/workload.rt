@@ -5,7 +5,8 @@ ghost use Rattle.abt_machine.specs.Valid.{IsValid};
 ghost use Rattle.abt_machine.specs.Workloads.{IsCondition, access_of, condition_number, main_of, mutex_of, op_at, pools_of, thing_at};
 ghost use Rattle.abt_machine.specs.Access.{may_put, may_take};
 ghost use Rattle.abt_machine.specs.Queues.{first};
-ghost use Rattle.abt_machine.specs.Sites.{first_pool, home_from, op_site, step_site};
+ghost use Rattle.abt_machine.specs.Sites.{first_pool, home_from};
+ghost use Rattle.abt_machine.specs.EventSites.{op_site, step_site};
 ghost use Rattle.abt_machine.specs.declared.numbers.PoolNo.{PoolNo};
 ghost use Rattle.abt_machine.specs.declared.events.Site.TheVariants as site;
 

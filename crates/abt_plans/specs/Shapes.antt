@@ -1,32 +1,25 @@
 -- What a stream does at an operation, by the shape of the call that it makes.
-use Rattle.std.specs.Prelude.{ℕ, ◌≡◌, IsSome}
-use Rattle.abt_machine.specs.declared.events.Site.{Site}
+use Rattle.std.specs.Prelude.{ℕ, ◌≡◌, [], ◌∷◌, IsSome}
 use Rattle.abt_machine.specs.declared.operations.Op.{Op}
-use Rattle.abt_machine.specs.declared.operations.Op.TheVariants as op
 use Rattle.abt_machine.specs.declared.workload.Parts.{Parts}
-use Rattle.abt_machine.specs.Acts.{Act, Answer, moved}
+use Rattle.abt_machine.specs.Acts.{moved}
 use Rattle.abt_machine.specs.Acts as asks
-use Rattle.abt_machine.specs.Plans.{Calls, Effect, denied, effect_of, plan_of, to_caller, to_yielder}
+use Rattle.abt_machine.specs.Plans.{Calls, Does, Exits, denied, empties, plan_of, to_caller, to_yielder}
 use Rattle.abt_machine.specs.Values.{Owned}
 use Rattle.abt_unit.specs.Local.{after_local}
 use Rattle.abt_plans.specs.Acts.{asked, brought, given}
 use Rattle.abt_plans.specs.declared.plans.Plan.{Plan}
 use Rattle.abt_plans.specs.declared.plans.Plan.TheVariants as plan
 
--- a call of an act, whose answer brings this
-pub record IsCall (W : Parts) (s : ℕ) (a : Op) (o : Owned) (x : Site) (act : Act) (brings : Answer → Effect) : Type 0 where
-  pub plan : plan_of W s a o ≡ Calls x act
-  pub effect : (answer : Answer) → effect_of a o answer ≡ brings answer
-
 -- stream s does so at operation a of unit o
 abbrev pub IsPlan : Parts → ℕ → Op → Owned → Plan → Type 0
 IsPlan W s a o plan.Own = IsSome (after_local a o.carried)
-IsPlan W s a o plan.Yield = a ≡ op.Yield
-IsPlan W s a o plan.Exit = a ≡ op.Exit
+IsPlan W s a o plan.Yield = plan_of W s a o ≡ Does (empties (moved o ∷ []))
+IsPlan W s a o plan.Exit = plan_of W s a o ≡ Exits (moved o)
 IsPlan W s a o plan.Deny = plan_of W s a o ≡ denied o
-IsPlan W s a o (plan.Ask x act) = IsCall W s a o x (asked act) (to_caller o)
-IsPlan W s a o (plan.Give x act) = IsCall W s a o x (given act (moved o)) (brought act)
-IsPlan W s a o (plan.YieldTo x v) = IsCall W s a o x (asks.Remove v.0) (to_yielder o)
+IsPlan W s a o (plan.Ask x act) = plan_of W s a o ≡ Calls x (asked act) (to_caller o)
+IsPlan W s a o (plan.Give x act) = plan_of W s a o ≡ Calls x (given act (moved o)) (brought act)
+IsPlan W s a o (plan.YieldTo x v) = plan_of W s a o ≡ Calls x (asks.Remove v.0) (to_yielder o)
 
 -- stream s does so at operation a of each unit with number u and accumulator n
 abbrev pub PlansFor : Parts → ℕ → Op → ℕ → ℕ → Plan → Type 0

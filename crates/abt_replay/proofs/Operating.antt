@@ -1,5 +1,5 @@
 -- From what each shape of step makes of a stream to its operation.
-use Rattle.std.proofs.Common.{◌≡◌, ◌<◌, ◌-◌, ◌^◌, ℕ, [], ◌∷◌, length, Option, None, Some, option_map, refl, sym, ap, ◌∙◌, subst, IsSome, arith}
+use Rattle.std.proofs.Common.{◌≡◌, ◌<◌, ◌-◌, ◌^◌, ℕ, [], ◌∷◌, length, Option, None, Some, refl, sym, subst, IsSome, arith}
 use Rattle.std.proofs.lemmas.Option.{slice_get_within}
 use Rattle.abt_machine.specs.declared.events.Code.{Code}
 use Rattle.abt_machine.specs.declared.events.Code.TheVariants as code
@@ -10,8 +10,8 @@ use Rattle.abt_machine.specs.declared.workload.Parts.{Parts}
 use Rattle.abt_machine.specs.Acts.{Act, Answer, moved}
 use Rattle.abt_machine.specs.Acts as asks
 use Rattle.abt_machine.specs.Plans as plans
-use Rattle.abt_machine.specs.Plans.{Calls, Does, Effect, Exits, denied, effect_of, empties, keeps, plan_of, refusal, to_caller, to_yielder}
-use Rattle.abt_machine.specs.Turns.{Performs, stepped}
+use Rattle.abt_machine.specs.Plans.{Calls, Does, Effect, Exits, empties, keeps, plan_of, refusal, to_caller, to_yielder}
+use Rattle.abt_machine.specs.Turns.{Heard, Performs}
 use Rattle.abt_machine.specs.Valid.{IsValid}
 use Rattle.abt_machine.specs.Values.{Held, Object, Owned}
 use Rattle.abt_machine.specs.Workloads.{body_at, op_at, ops_of}
@@ -23,9 +23,9 @@ use Rattle.abt_plans.specs.declared.acts.Giving.{Giving}
 use Rattle.abt_plans.specs.declared.plans.Plan.{Plan}
 use Rattle.abt_plans.specs.declared.plans.Plan.TheVariants as plan
 use Rattle.abt_plans.specs.Acts.{asked, brought, given}
-use Rattle.abt_plans.specs.Shapes.{IsCall, IsPlan}
+use Rattle.abt_plans.specs.Shapes.{IsPlan}
 use Rattle.abt_plans.proofs.Locals.{planned-own}
-use Rattle.abt_replay.specs.Events.{Alone, AreObjects, Asked, Operated, OwnExit, OwnStep}
+use Rattle.abt_replay.specs.Events.{Alone, AreObjects, Asked, Heeds, Operated, OwnExit, OwnStep}
 use Rattle.abt_replay.specs.Objects.{ObjectsValue, object_at}
 use Rattle.abt_calls.proofs.Asked.{may-ask}
 
@@ -43,48 +43,41 @@ module _ (W : Parts) (s : ℕ) (a : Op) (o : Owned) (p : Plan) (planned : IsPlan
   own_local is = subst (IsPlan W s a o) is planned
 
   module _ (valid : IsValid W) (number : o.number < length W.units) (at : op_at W o.number o.carried.position ≡ Some a) (objects : ObjectsValue) (are : AreObjects W objects) where
-    allowed : (x : Site) (act : Act) → plan_of W s a o ≡ Calls x act → Allows (object_at objects x) act
-    allowed x act calls =
-        let may = may-ask W s a o x act valid number (op-declared W o.number o.carried.position a valid at) calls in
+    allowed : (x : Site) (act : Act) (brings : Answer → Effect) → plan_of W s a o ≡ Calls x act brings → Allows (object_at objects x) act
+    allowed x act brings calls =
+        let may = may-ask W s a o x act brings valid number (op-declared W o.number o.carried.position a valid at) calls in
         subst (λ (q : Object). Allows q act) (sym (are.1 x may.site)) (may.allowed are.0)
 
     pub ask_allowed : (x : Site) (act : Asking) → p ≡ plan.Ask x act → Allows (object_at objects x) (asked act)
-    ask_allowed x act is = allowed x (asked act) (subst (IsPlan W s a o) is planned).plan
+    ask_allowed x act is = allowed x (asked act) (to_caller o) (subst (IsPlan W s a o) is planned)
 
     pub give_allowed : (x : Site) (g : Giving) → p ≡ plan.Give x g → Allows (object_at objects x) (given g (moved o))
-    give_allowed x g is = allowed x (given g (moved o)) (subst (IsPlan W s a o) is planned).plan
+    give_allowed x g is = allowed x (given g (moved o)) (brought g) (subst (IsPlan W s a o) is planned)
 
     pub yield_allowed : (x : Site) (v : UnitNo) → p ≡ plan.YieldTo x v → Allows (object_at objects x) (asks.Remove v.0)
-    yield_allowed x v is = allowed x (asks.Remove v.0) (subst (IsPlan W s a o) is planned).plan
+    yield_allowed x v is = allowed x (asks.Remove v.0) (to_yielder o) (subst (IsPlan W s a o) is planned)
 
 -- What is made of it.
 
 module _ (W : Parts) (s : ℕ) (a : Op) (o : Owned) (old : Held) (before : ObjectsValue) (c : Code) (new : Held) (after : ObjectsValue) where
-  does : (e : Effect) → plan_of W s a o ≡ Does e → Alone e old c new → after ≡ before → Operated W s a o old before c new after
-  does e does_so h stays = (None, subst (λ (p : plans.Plan). Performs old a o p None c new) (sym does_so) (refl, h.0, h.1), stays)
+  performed : (plan : plans.Plan) (heard : Option Heard) → plan_of W s a o ≡ plan → Performs old plan heard c new → Heeds before heard after → Operated W s a o old before c new after
+  performed plan heard is performs heeds = (heard, subst (λ (p : plans.Plan). Performs old p heard c new) (sym is) performs, heeds)
 
-  calls : (x : Site) (act : Act) (brings : Answer → Effect) → IsCall W s a o x act brings → Asked x act brings old before c new after → Operated W s a o old before c new after
-  calls x act brings call h =
-      let answer = h.0 in
-      let e : effect_of a o answer ≡ brings answer = call.effect answer in (
-        Some (x, act, answer),
-        subst (λ (p : plans.Plan). Performs old a o p (Some (x, act, answer)) c new) (sym call.plan)
-            (answer, refl, h.2.0 ∙ ap (λ (f : Effect). f.code) (sym e), h.2.1 ∙ ap (stepped old) (sym e)),
-        h.1,
-      )
+  does : (e : Effect) → plan_of W s a o ≡ Does e → Alone e old c new → after ≡ before → Operated W s a o old before c new after
+  does e is h stays = performed (Does e) None is (refl, h.0, h.1) stays
+
+  calls : (x : Site) (act : Act) (brings : Answer → Effect) → plan_of W s a o ≡ Calls x act brings → Asked x act brings old before c new after → Operated W s a o old before c new after
+  calls x act brings is h = performed (Calls x act brings) (Some (x, act, h.0)) is (h.0, refl, h.2.0, h.2.1) h.1
 
   module _ (p : Plan) (planned : IsPlan W s a o p) where
     pub own_made : p ≡ plan.Own → OwnStep a o old c new → after ≡ before → Operated W s a o old before c new after
-    own_made is h stays = does (keeps h.0 []) (planned-own W s o a h.0 (after_local a o.carried) refl h.1) h.2 stays
+    own_made is h stays = does (keeps h.0 []) (planned-own W s o a h.0 h.1) h.2 stays
 
     pub yield_made : p ≡ plan.Yield → Alone (empties (moved o ∷ [])) old c new → after ≡ before → Operated W s a o old before c new after
-    yield_made is h stays = does (empties (moved o ∷ [])) (ap (λ (b : Op). plan_of W s b o) (subst (IsPlan W s a o) is planned)) h stays
+    yield_made is h stays = does (empties (moved o ∷ [])) (subst (IsPlan W s a o) is planned) h stays
 
     pub exit_made : p ≡ plan.Exit → OwnExit o old c new → after ≡ before → Operated W s a o old before c new after
-    exit_made is h stays =
-        let does_so : plan_of W s a o ≡ Exits (moved o) = ap (λ (b : Op). plan_of W s b o) (subst (IsPlan W s a o) is planned) in
-        let Q : plans.Plan → Type 0 = λ q. Performs old a o q None c new in
-        (None, subst Q (sym does_so) (refl, h.0, h.1), stays)
+    exit_made is h stays = performed (Exits (moved o)) None (subst (IsPlan W s a o) is planned) (refl, h.0, h.1) stays
 
     pub deny_made : p ≡ plan.Deny → Alone (refusal o code.PoolAccess) old c new → after ≡ before → Operated W s a o old before c new after
     deny_made is h stays = does (refusal o code.PoolAccess) (subst (IsPlan W s a o) is planned) h stays

@@ -86,7 +86,7 @@ Heeds before (Some h) after = Called before h.0 h.1 h.2 after
 
 -- operation a of unit o in the hand of stream s
 abbrev pub Operated : Parts → ℕ → Op → Owned → Held → ObjectsValue → Code → Held → ObjectsValue → Type 0
-Operated W s a o old before c new after = (heard : Option Heard) × Performs old a o (plan_of W s a o) heard c new × Heeds before heard after
+Operated W s a o old before c new after = (heard : Option Heard) × Performs old (plan_of W s a o) heard c new × Heeds before heard after
 
 -- an event of stream s
 abbrev pub Moves : Parts → List OrderShape → ℕ → Held → ObjectsValue → What → Held → ObjectsValue → Type 0

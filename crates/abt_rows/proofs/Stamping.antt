@@ -9,7 +9,7 @@ use Rattle.abt_machine.specs.declared.operations.OrderShape.{OrderShape}
 use Rattle.abt_machine.specs.declared.workload.Parts.{Parts}
 use Rattle.abt_machine.specs.Events.{after}
 use Rattle.abt_machine.specs.Numbers.{object_no, pool_no, stream_no, unit_no}
-use Rattle.abt_machine.specs.Sites.{event_site}
+use Rattle.abt_machine.specs.EventSites.{event_site}
 use Rattle.abt_machine.specs.Stamps.{AllAfter, Follows, IsLeast, Lamport, LamportFrom, SameSite, Shares, Stamped, StampedFrom}
 use Rattle.abt_machine.specs.Start.{start}
 use Rattle.abt_machine.specs.State.{State}

@@ -1,10 +1,12 @@
 -- Whether parts are those of a workload, computed with the proof.
-use Rattle.std.proofs.Common.{ℕ, zero, suc, ◌≡◌, ◌<◌, ◌≤◌, ◌^◌, true, [], ◌∷◌, length, map, Option, Some, None, nat_lt, refl, arith}
+use Rattle.std.proofs.Common.{ℕ, zero, suc, ◌≡◌, ◌<◌, ◌≤◌, ◌^◌, true, List, [], ◌∷◌, length, map, Option, Some, None, nat_lt, refl, arith}
 use Rattle.std.specs.Prelude.{IsAscii}
 use Rattle.std.specs.List.{list_all, list_any, range_with_len}
 use Rattle.std.proofs.lemmas.Bool.{and_parts, ltb-true}
 use Rattle.std.proofs.lemmas.Str.{IsUtf8-from_ascii}
 use Rattle.abt_machine.specs.declared.grammar.Format.TheVariants as format
+use Rattle.abt_machine.specs.declared.grammar.Number.{Number}
+use Rattle.abt_machine.specs.declared.grammar.Number.TheVariants as number
 use Rattle.abt_machine.specs.declared.numbers.PoolNo.{PoolNo}
 use Rattle.abt_machine.specs.declared.operations.Access.{Access}
 use Rattle.abt_machine.specs.declared.operations.Access.TheVariants as access
@@ -21,11 +23,13 @@ use Rattle.abt_machine.specs.declared.workload.PoolPart.{PoolPart}
 use Rattle.abt_machine.specs.declared.workload.SchedPart.{SchedPart}
 use Rattle.abt_machine.specs.declared.workload.UnitPart.{UnitPart}
 use Rattle.abt_machine.specs.Access.{may_take_all}
+use Rattle.abt_machine.specs.Canonical.{op_numbers}
+use Rattle.abt_machine.specs.Forms.{Slot, Fixed, Numeral, op_slots}
 use Rattle.abt_machine.specs.Limits.{operation_limit, stream_limit, unit_limit}
-use Rattle.abt_machine.specs.Operations.{IsDeclared, IsMutex, IsEventual, IsFuture, IsBarrier, IsRwLock, may_block}
+use Rattle.abt_machine.specs.Operations.{AreNamed, IsDeclared, IsNamed, may_block}
 use Rattle.abt_machine.specs.Valid.{IsAccess, IsBody, IsRule, IsSched, IsStream, IsThing, IsUnit, IsValid, IsVisible, IsWord, placed_scheds, words_said}
 use Rattle.abt_machine.specs.Words.{Text}
-use Rattle.abt_machine.specs.Workloads.{IsCondition, all_ops, main_of, ops_of, thing_at}
+use Rattle.abt_machine.specs.Workloads.{all_ops, main_of, ops_of, thing_at}
 use Rattle.abt_machine.proofs.Elements.{map-pairs}
 use Rattle.abt_rows.proofs.Deciding.{all, apart, each_below, each_once, entries, given, is_at_most, is_false, is_less, is_true, same, same_list, whenever}
 
@@ -59,43 +63,31 @@ stream W s =
     given (is_true (may_take_all W s (main_of W s))) (λ takes.
     Some (record { main = main; takes = takes })))
 
--- Objects.
+-- Numbers, and the objects that they name.
 
--- what an operation or a condition needs an object to be
-pub data ObjectKind : Type 0 where
-  Mutex : ObjectKind
-  Condition : ObjectKind
-  Eventual : ObjectKind
-  Future : ObjectKind
-  Barrier : ObjectKind
-  RwLock : ObjectKind
+abbrev object_named : (W : Parts) (k : Number) (x : ℕ) (o : Option Thing) → thing_at W x ≡ o → Option (IsNamed W k x)
+object_named W number.Mutex x (Some thing.Mutex) e = Some e
+object_named W number.Cond x (Some (thing.Cond m)) e = Some (m, e)
+object_named W number.Eventual x (Some thing.Eventual) e = Some e
+object_named W number.Future x (Some (thing.Future n c)) e = Some (n, c, e)
+object_named W number.Barrier x (Some (thing.Barrier n)) e = Some (n, e)
+object_named W number.RwLock x (Some thing.RwLock) e = Some e
+object_named W k x o e = None
 
-abbrev IsOf : ObjectKind → Parts → ℕ → Type 0
-IsOf Mutex = IsMutex
-IsOf Condition = IsCondition
-IsOf Eventual = IsEventual
-IsOf Future = IsFuture
-IsOf Barrier = IsBarrier
-IsOf RwLock = IsRwLock
-
-abbrev of_kind_by : (k : ObjectKind) (W : Parts) (x : ℕ) (o : Option Thing) → thing_at W x ≡ o → Option (IsOf k W x)
-of_kind_by Mutex W x (Some thing.Mutex) e = Some e
-of_kind_by Condition W x (Some (thing.Cond m)) e = Some (m, e)
-of_kind_by Eventual W x (Some thing.Eventual) e = Some e
-of_kind_by Future W x (Some (thing.Future n c)) e = Some (n, c, e)
-of_kind_by Barrier W x (Some (thing.Barrier n)) e = Some (n, e)
-of_kind_by RwLock W x (Some thing.RwLock) e = Some e
-of_kind_by k W x o e = None
-
-abbrev of_kind : (k : ObjectKind) (W : Parts) (x : ℕ) → Option (IsOf k W x)
-of_kind k W x = of_kind_by k W x (thing_at W x) refl
+abbrev named : (W : Parts) (k : Number) (n : ℕ) → Option (IsNamed W k n)
+named W (number.Within low high) n = given (is_at_most low n) (λ above. given (is_at_most n high) (λ below. Some (above, below)))
+named W number.Stream n = is_less n W.streams
+named W number.Pool n = is_less n (length W.pools)
+named W number.Key n = is_less n W.keys
+named W number.Unit n = is_less n (length W.units)
+named W k n = object_named W k n (thing_at W n) refl
 
 abbrev size : (n : ℕ) → Option ((0 < n) × (n ≤ 4096))
 size n = given (is_less 0 n) (λ some. given (is_at_most n 4096) (λ few. Some (some, few)))
 
 abbrev object : (W : Parts) (x : ℕ) (t : Thing) → Option (IsThing W.objects x t)
 object W x thing.Mutex = Some tt
-object W x (thing.Cond m) = given (is_less m.0 x) (λ above. given (of_kind Mutex W m.0) (λ is. Some (above, is)))
+object W x (thing.Cond m) = given (is_less m.0 x) (λ above. given (named W number.Mutex m.0) (λ is. Some (above, is)))
 object W x thing.Eventual = Some tt
 object W x (thing.Future n c) = size n
 object W x (thing.Barrier n) = size n
@@ -103,50 +95,15 @@ object W x thing.RwLock = Some tt
 
 -- Units.
 
-abbrev two_less : (a m b n : ℕ) → Option ((a < m) × (b < n))
-two_less a m b n = given (is_less a m) (λ first. given (is_less b n) (λ second. Some (first, second)))
+abbrev are_named : (W : Parts) (places : List Slot) (numbers : List ℕ) → Option (AreNamed W places numbers)
+are_named W (Fixed word ∷ []) [] = Some tt
+are_named W (Fixed word ∷ Numeral k ∷ []) (n ∷ []) = named W k n
+are_named W (Fixed word ∷ Numeral k ∷ Numeral l ∷ []) (n ∷ m ∷ []) = given (named W k n) (λ first. given (named W l m) (λ second. Some (first, second)))
+are_named W places numbers = None
 
 abbrev operation : (W : Parts) (o : Op) → Option (IsDeclared W o)
-operation W (op.Set n) = is_less n (2 ^ 64)
-operation W (op.Add n) = is_less n (2 ^ 64)
 operation W (op.Say w) = is_less w (length W.words)
-operation W op.Print = Some tt
-operation W (op.KeySet k) = is_less k W.keys
-operation W (op.KeyGet k) = is_less k W.keys
-operation W op.Yield = Some tt
-operation W (op.YieldTo v p) = two_less v.0 (length W.units) p.0 (length W.pools)
-operation W op.Suspend = Some tt
-operation W op.Exit = Some tt
-operation W (op.Resume v) = is_less v.0 (length W.units)
-operation W (op.Create v p) = two_less v.0 (length W.units) p.0 (length W.pools)
-operation W (op.Join v) = is_less v.0 (length W.units)
-operation W (op.Cancel v) = is_less v.0 (length W.units)
-operation W (op.Migrate v p) = two_less v.0 (length W.units) p.0 (length W.pools)
-operation W (op.MigrateTo v s) = two_less v.0 (length W.units) s.0 W.streams
-operation W (op.Migratable v b) = is_less v.0 (length W.units)
-operation W (op.Revive v p) = two_less v.0 (length W.units) p.0 (length W.pools)
-operation W (op.Lock x) = of_kind Mutex W x.0
-operation W (op.TryLock x) = of_kind Mutex W x.0
-operation W (op.Unlock x) = of_kind Mutex W x.0
-operation W (op.Load x) = of_kind Mutex W x.0
-operation W (op.Store x) = of_kind Mutex W x.0
-operation W (op.CondWait x) = of_kind Condition W x.0
-operation W (op.Signal x) = of_kind Condition W x.0
-operation W (op.Broadcast x) = of_kind Condition W x.0
-operation W (op.EvWait x) = of_kind Eventual W x.0
-operation W (op.EvSet x) = of_kind Eventual W x.0
-operation W (op.EvReset x) = of_kind Eventual W x.0
-operation W (op.EvTest x) = of_kind Eventual W x.0
-operation W (op.FuWait x) = of_kind Future W x.0
-operation W (op.FuSet x) = of_kind Future W x.0
-operation W (op.FuReset x) = of_kind Future W x.0
-operation W (op.FuTest x) = of_kind Future W x.0
-operation W (op.BarWait x) = of_kind Barrier W x.0
-operation W (op.ReadLock x) = of_kind RwLock W x.0
-operation W (op.WriteLock x) = of_kind RwLock W x.0
-operation W (op.RwUnlock x) = of_kind RwLock W x.0
-operation W (op.RwLoad x) = of_kind RwLock W x.0
-operation W (op.RwStore x) = of_kind RwLock W x.0
+operation W o = are_named W (op_slots o) (op_numbers o)
 
 abbrev unit_body : (scheds : ℕ) (b : Body) → Option (IsBody scheds b)
 unit_body scheds (body.Ult ops) = Some tt

@@ -1,7 +1,6 @@
 -- The row of a wait at a barrier. Unit u, in the hand of stream s, makes the step.
 use Rattle.std.proofs.Common.{◌≡◌, ◌≢◌, ℕ, suc, ◌==◌, List, [], ◌∷◌, length, map, Some, refl, sym, ◌∙◌, ap}
 use Rattle.std.proofs.lemmas.Bool.{cond-true, cond-false, eq-eqb, ne_eqb}
-use Rattle.abt_machine.specs.declared.events.Site.TheVariants as site
 use Rattle.abt_machine.specs.declared.numbers.ObjectNo.{ObjectNo}
 use Rattle.abt_machine.specs.declared.operations.Op.TheVariants as op
 use Rattle.abt_machine.specs.declared.operations.OrderShape.{OrderShape}
@@ -38,22 +37,22 @@ module _ (W : Parts) (Z : List OrderShape) (S : State) (s u : ℕ) (acts : IsAct
   waiting-are : length (standing W S (Waiting x.0)) ≡ length (waiters_at W S x.0)
   waiting-are = length-owned S (standing W S (Waiting x.0))
 
-  arrive : ValueRow W S s u (op.BarWait x) value BarrierGives (act.Arrive (moved (owned_at S u)))
+  arrive : ValueRow W S s u (op.BarWait x) value BarrierGives
   arrive (act.Through b os) new gives =
       let all : suc (length (standing W S (Waiting x.0))) ≡ size_of W x.0 = ap suc waiting-are ∙ (gives.0 ∙ sym (ap size_from is)) in
-      goes-through W Z S s u acts (op.BarWait x) value (keeps b os) new (wakes W S s u (standing W S (Waiting x.0))) refl refl
+      goes-through W Z S s u acts _ value (keeps b os) new (wakes W S s u (standing W S (Waiting x.0))) refl refl
       (cond-true (suc (length (standing W S (Waiting x.0))) == size_of W x.0) (wakes W S s u (standing W S (Waiting x.0))) (waits S u x.0) (eq-eqb _ _ all))
       (wakes-part W Z S s u acts (standing W S (Waiting x.0)) (advanced (S.carried u)) no_change (standing-distinct W S (Waiting x.0)) (away-line W S s (Waiting x.0) tt)
       ∙ (λ i. stepped (part_of W S s) (keeps (sym gives.1 i) (sym gives.2 i))))
       (ap (λ us. record (value S) { waiters = us }) (line-woken W Z S s u acts (Waiting x.0) tt ((u, advanced (S.carried u)) ∷ []) no_change) ∙ sym gives.3)
   arrive act.Rested new gives =
       let ne : suc (length (standing W S (Waiting x.0))) ≢ size_of W x.0 = λ e. gives.0 (ap suc (sym waiting-are) ∙ (e ∙ ap size_from is)) in
-      goes-through W Z S s u acts (op.BarWait x) value (empties []) new (waits S u x.0) refl refl
+      goes-through W Z S s u acts _ value (empties []) new (waits S u x.0) refl refl
       (cond-false (suc (length (standing W S (Waiting x.0))) == size_of W x.0) (wakes W S s u (standing W S (Waiting x.0))) (waits S u x.0) (ne_eqb _ _ ne))
       (waits-part W Z S s u acts x.0)
       (ap (λ us. record (value S) { waiters = us }) (waits-line W Z S s u acts x.0) ∙ sym gives.1)
   arrive _ new gives = absurd gives
 
-pub barwait-row : (W : Parts) (Z : List OrderShape) (S : State) (s u : ℕ) (acts : IsActing W Z S s u) (x : ObjectNo) → IsBarrier W x.0 → Row W S s u (op.BarWait x) (site.Barrier x) (act.Arrive (moved (owned_at S u)))
+pub barwait-row : (W : Parts) (Z : List OrderShape) (S : State) (s u : ℕ) (acts : IsActing W Z S s u) (x : ObjectNo) → IsBarrier W x.0 → Row W S s u (op.BarWait x)
 barwait-row W Z S s u acts x is =
-    row-by_value W S s u (op.BarWait x) (site.Barrier x) BarrierIs (λ T. barrier_value W T x.0 is.0) BarrierGives (act.Arrive (moved (owned_at S u))) (barrier-at W x.0 is.0 is.1) (arrive W Z S s u acts x is.0 is.1)
+    row-by_value W S s u _ _ BarrierIs (λ T. barrier_value W T x.0 is.0) BarrierGives (act.Arrive (moved (owned_at S u))) _ (barrier-at W x.0 is.0 is.1) (arrive W Z S s u acts x is.0 is.1)

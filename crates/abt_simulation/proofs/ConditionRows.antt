@@ -197,14 +197,14 @@ module _ (W : Parts) (Z : List OrderShape) (S : State) (s u : ℕ) (acts : IsAct
   own-mutex : (S.mutex (mutex_of W x.0)).owner ≡ Some u → unless (owned_by S u (mutex_of W x.0)) code.NotOwner code.Ok ≡ code.Ok
   own-mutex e = unless-true (owned_by S u (mutex_of W x.0)) code.NotOwner code.Ok (is-some_of u (S.mutex (mutex_of W x.0)).owner e)
 
-  condwait : ValueRow W S s u (op.CondWait x) monitor MonitorGives (act.Wait (condition_number W x.0) (moved (owned_at S u)))
+  condwait : ValueRow W S s u (op.CondWait x) monitor MonitorGives
   condwait (act.Given b) new gives =
-      waits W Z S s u acts x.0 (mutex_of W x.0) (condition_number W x.0) declared mutex (condition-at W x.0 is) (op.CondWait x) (b ∷ []) new (own-mutex gives.0) refl (first-woken S (standing W S (Waiting (mutex_of W x.0))) b gives.1) gives.2
+      waits W Z S s u acts x.0 (mutex_of W x.0) (condition_number W x.0) declared mutex (condition-at W x.0 is) _ (b ∷ []) new (own-mutex gives.0) refl (first-woken S (standing W S (Waiting (mutex_of W x.0))) b gives.1) gives.2
   condwait act.Rested new gives =
-      waits W Z S s u acts x.0 (mutex_of W x.0) (condition_number W x.0) declared mutex (condition-at W x.0 is) (op.CondWait x) [] new (own-mutex gives.0) refl (none-woken S (standing W S (Waiting (mutex_of W x.0))) gives.1) gives.2
+      waits W Z S s u acts x.0 (mutex_of W x.0) (condition_number W x.0) declared mutex (condition-at W x.0 is) _ [] new (own-mutex gives.0) refl (none-woken S (standing W S (Waiting (mutex_of W x.0))) gives.1) gives.2
   condwait (act.Back b code.NotOwner) new gives =
       subst (λ o. ValueDone W S s u (op.CondWait x) monitor (notes o code.NotOwner) new) (sym gives.1)
-      (refuses W Z S s u acts (op.CondWait x) code.NotOwner (monitor_of W x.0) MonitorIs monitor MonitorGives new (mutex-at W (mutex_of W x.0) mutex) tt
+      (refuses W Z S s u acts _ code.NotOwner (monitor_of W x.0) MonitorIs monitor MonitorGives new (mutex-at W (mutex_of W x.0) mutex) tt
       (sym (unless-false (owned_by S u (mutex_of W x.0)) code.NotOwner code.Ok (not-some_of u (S.mutex (mutex_of W x.0)).owner gives.0))) gives.2)
   condwait _ new gives = absurd gives
 
@@ -231,10 +231,10 @@ module _ (W : Parts) (Z : List OrderShape) (S : State) (s u : ℕ) (acts : IsAct
   signals : (os : List Owned) (new : MonitorValue) → map (owned_at S) (woken_by (S.mutex (mutex_of W x.0)).owner (first_alone (standing W S (Waiting x.0)))) ≡ os → new ≡ after_signal (condition_number W x.0) (monitor S) →
       ValueDone W S s u (op.Signal x) monitor (keeps (moved (owned_at S u)) os) new
   signals os new woken same =
-      heard W Z S s u acts x.0 (mutex_of W x.0) (condition_number W x.0) declared mutex (condition-at W x.0 is) (op.Signal x) (first_alone (standing W S (Waiting x.0))) (others (standing W S (Waiting x.0))) (first-and-others (standing W S (Waiting x.0))) refl refl
+      heard W Z S s u acts x.0 (mutex_of W x.0) (condition_number W x.0) declared mutex (condition-at W x.0 is) _ (first_alone (standing W S (Waiting x.0))) (others (standing W S (Waiting x.0))) (first-and-others (standing W S (Waiting x.0))) refl refl
       os new woken (same ∙ signal-is)
 
-  signal : ValueRow W S s u (op.Signal x) monitor MonitorGives (act.Signal (condition_number W x.0))
+  signal : ValueRow W S s u (op.Signal x) monitor MonitorGives
   signal (act.Given b) new gives = signals (b ∷ []) new (given-by (S.mutex (mutex_of W x.0)).owner b (first_alone (standing W S (Waiting x.0))) (first-of-first (standing W S (Waiting x.0))) gives.0) gives.1
   signal act.Rested new gives = signals [] new (rested-by (S.mutex (mutex_of W x.0)).owner (first_alone (standing W S (Waiting x.0))) (first-of-first (standing W S (Waiting x.0))) gives.0) gives.1
   signal _ new gives = absurd gives
@@ -242,21 +242,21 @@ module _ (W : Parts) (Z : List OrderShape) (S : State) (s u : ℕ) (acts : IsAct
   broadcasts : (os : List Owned) (new : MonitorValue) → map (owned_at S) (woken_by (S.mutex (mutex_of W x.0)).owner (standing W S (Waiting x.0))) ≡ os → new ≡ after_broadcast (condition_number W x.0) (monitor S) →
       ValueDone W S s u (op.Broadcast x) monitor (keeps (moved (owned_at S u)) os) new
   broadcasts os new woken same =
-      heard W Z S s u acts x.0 (mutex_of W x.0) (condition_number W x.0) declared mutex (condition-at W x.0 is) (op.Broadcast x) (standing W S (Waiting x.0)) [] (sym (append-nil (standing W S (Waiting x.0)))) refl refl
+      heard W Z S s u acts x.0 (mutex_of W x.0) (condition_number W x.0) declared mutex (condition-at W x.0 is) _ (standing W S (Waiting x.0)) [] (sym (append-nil (standing W S (Waiting x.0)))) refl refl
       os new woken (same ∙ broadcast-is)
 
-  broadcast : ValueRow W S s u (op.Broadcast x) monitor MonitorGives (act.Broadcast (condition_number W x.0))
+  broadcast : ValueRow W S s u (op.Broadcast x) monitor MonitorGives
   broadcast (act.Given b) new gives = broadcasts (b ∷ []) new (given-by (S.mutex (mutex_of W x.0)).owner b (standing W S (Waiting x.0)) refl gives.0) gives.1
   broadcast act.Rested new gives = broadcasts [] new (rested-by (S.mutex (mutex_of W x.0)).owner (standing W S (Waiting x.0)) refl gives.0) gives.1
   broadcast _ new gives = absurd gives
 
   -- The rows.
 
-  pub condwait-row : Row W S s u (op.CondWait x) (monitor_of W x.0) (act.Wait (condition_number W x.0) (moved (owned_at S u)))
-  condwait-row = row-by_value W S s u (op.CondWait x) (monitor_of W x.0) MonitorIs monitor MonitorGives (act.Wait (condition_number W x.0) (moved (owned_at S u))) (mutex-at W (mutex_of W x.0) mutex) condwait
+  pub condwait-row : Row W S s u (op.CondWait x)
+  condwait-row = row-by_value W S s u _ _ MonitorIs monitor MonitorGives (act.Wait (condition_number W x.0) (moved (owned_at S u))) _ (mutex-at W (mutex_of W x.0) mutex) condwait
 
-  pub signal-row : Row W S s u (op.Signal x) (monitor_of W x.0) (act.Signal (condition_number W x.0))
-  signal-row = row-by_value W S s u (op.Signal x) (monitor_of W x.0) MonitorIs monitor MonitorGives (act.Signal (condition_number W x.0)) (mutex-at W (mutex_of W x.0) mutex) signal
+  pub signal-row : Row W S s u (op.Signal x)
+  signal-row = row-by_value W S s u _ _ MonitorIs monitor MonitorGives (act.Signal (condition_number W x.0)) _ (mutex-at W (mutex_of W x.0) mutex) signal
 
-  pub broadcast-row : Row W S s u (op.Broadcast x) (monitor_of W x.0) (act.Broadcast (condition_number W x.0))
-  broadcast-row = row-by_value W S s u (op.Broadcast x) (monitor_of W x.0) MonitorIs monitor MonitorGives (act.Broadcast (condition_number W x.0)) (mutex-at W (mutex_of W x.0) mutex) broadcast
+  pub broadcast-row : Row W S s u (op.Broadcast x)
+  broadcast-row = row-by_value W S s u _ _ MonitorIs monitor MonitorGives (act.Broadcast (condition_number W x.0)) _ (mutex-at W (mutex_of W x.0) mutex) broadcast

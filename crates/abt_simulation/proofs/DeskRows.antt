@@ -30,7 +30,7 @@ use Rattle.abt_machine.specs.Values.{Owned, owned_at, owned_in, part_of, DeskIs,
 use Rattle.abt_machine.specs.Acts as act
 use Rattle.abt_machine.specs.Acts.{Answer, moved, reborn}
 use Rattle.abt_machine.specs.Desks.{DeskGives, is_out, is_living, takes_back, with_phase}
-use Rattle.abt_machine.specs.Plans.{keeps, to_caller}
+use Rattle.abt_machine.specs.Plans.{Effect, Calls, keeps, to_caller}
 use Rattle.abt_machine.specs.Turns.{stepped}
 use Rattle.abt_laws.proofs.Maps.{put_at-same, put_at-other, put_at-cases}
 use Rattle.abt_laws.proofs.Places.{line_of, place_in, same-self}
@@ -40,13 +40,13 @@ use Rattle.abt_simulation.proofs.Acting.{IsActing}
 use Rattle.abt_simulation.proofs.OwnedLines.{owned-stays}
 use Rattle.abt_simulation.proofs.OwnParts.{IsAway, off-object, off-nowhere, nowhere-ticket, hand-only, away-other, part-keeps}
 use Rattle.abt_simulation.proofs.Shapes.{owned, wakes-part, goes-part, blocks-part, line-joined, line-same}
-use Rattle.abt_simulation.proofs.Rows.{Row, ValueRow, ValueDone, row-by_value, desk-at, value-same, refuses}
+use Rattle.abt_simulation.proofs.Rows.{Row, RowBy, ValueBy, ValueRow, ValueDone, row-by_value, desk-at, value-same, refuses}
 use Rattle.abt_simulation.proofs.Phases.{if_so, living-at, ended-at, unborn_in-at, suspended_in-at, ended_in-at, so-some, so-none, so-mapped, unborn-nowhere, ended-nowhere, suspended-nowhere}
 
 module _ (W : Parts) (Z : List OrderShape) (S : State) (s u : ℕ) (acts : IsActing W Z S s u) where
   -- a row by the desk's value
-  desk-row : (a : Op) (v : UnitNo) (asked : act.Act) → ValueRow W S s u a (λ T. desk_value W T v.0) DeskGives asked → Row W S s u a (site.Desk v) asked
-  desk-row a v asked row = row-by_value W S s u a (site.Desk v) DeskIs (λ T. desk_value W T v.0) DeskGives asked (desk-at W v.0) row
+  desk-row : (a : Op) (v : UnitNo) (asked : act.Act) (brings : Answer → Effect) → ValueBy W S s u a (λ T. desk_value W T v.0) DeskGives (Calls (site.Desk v) asked brings) → RowBy W S s u a (Calls (site.Desk v) asked brings)
+  desk-row a v asked brings row = row-by_value W S s u a (site.Desk v) DeskIs (λ T. desk_value W T v.0) DeskGives asked brings (desk-at W v.0) row
 
   -- a refusal by the desk
   desk-refuses : (a : Op) (c : Code) (v : UnitNo) (new : DeskValue) → IsRefusal c → c ≡ code_of W S s u a → new ≡ desk_value W S v.0 → ValueDone W S s u a (λ T. desk_value W T v.0) (to_caller (owned_at S u) (act.Coded c)) new
@@ -80,15 +80,15 @@ module _ (W : Parts) (Z : List OrderShape) (S : State) (s u : ℕ) (acts : IsAct
   by-life v b rest e = ap (λ t. unless t code.UnitState rest) (sym (living-at (owned_at S v) (S.place v)) ∙ e)
 
   -- a request to cancel, by the answer
-  cancel-value : (v : UnitNo) → ValueRow W S s u (op.Cancel v) (λ T. desk_value W T v.0) DeskGives act.AskCancel
+  cancel-value : (v : UnitNo) → ValueRow W S s u (op.Cancel v) (λ T. desk_value W T v.0) DeskGives
   cancel-value v (act.Coded code.Ok) new gives = record { code = sym (by-life v.0 true code.Ok gives.0); own = asks-own v.0 (record (S.desk v.0) { cancel = true }); called = asks-desk v.0 (record (S.desk v.0) { cancel = true }) ∙ sym gives.1 }
-  cancel-value v (act.Coded code.UnitState) new gives = desk-refuses (op.Cancel v) code.UnitState v new tt (sym (by-life v.0 false code.Ok gives.0)) gives.1
+  cancel-value v (act.Coded code.UnitState) new gives = desk-refuses _ code.UnitState v new tt (sym (by-life v.0 false code.Ok gives.0)) gives.1
   cancel-value v (act.Coded _) new gives = absurd gives
   cancel-value v _ new gives = absurd gives
 
   -- the row of cancel
-  pub cancel-row : (v : UnitNo) → Row W S s u (op.Cancel v) (site.Desk v) act.AskCancel
-  cancel-row v = desk-row (op.Cancel v) v act.AskCancel (cancel-value v)
+  pub cancel-row : (v : UnitNo) → Row W S s u (op.Cancel v)
+  cancel-row v = desk-row _ v act.AskCancel _ (cancel-value v)
 
   -- a request to migrate to pool p
   module _ (a : Op) (v : UnitNo) (p : ℕ) (is : code_of W S s u a ≡ unless (is_alive (S.place v.0)) code.UnitState (unless (S.desk v.0).migratable code.NotMigratable code.Ok)) (row : op_row W S s u a ≡ asks S u v.0 (record (S.desk v.0) { migrate = Some p })) where
@@ -109,27 +109,27 @@ module _ (W : Parts) (Z : List OrderShape) (S : State) (s u : ℕ) (acts : IsAct
     migrates _ new gives = absurd gives
 
   -- the row of migrate
-  pub migrate-row : (v : UnitNo) (p : PoolNo) → may_put W s p.0 ≡ true → Row W S s u (op.Migrate v p) (site.Desk v) (act.AskMigrate p.0)
-  migrate-row v p may = desk-row (op.Migrate v p) v (act.AskMigrate p.0) (migrates (op.Migrate v p) v p.0 (cond-true (may_put W s p.0) _ _ may) refl)
+  pub migrate-row : (v : UnitNo) (p : PoolNo) → may_put W s p.0 ≡ true → RowBy W S s u (op.Migrate v p) (Calls (site.Desk v) (act.AskMigrate p.0) (to_caller (owned_at S u)))
+  migrate-row v p may = desk-row _ v (act.AskMigrate p.0) _ (migrates _ v p.0 (cond-true (may_put W s p.0) _ _ may) refl)
 
   -- the row of migrateto
-  pub migrateto-row : (v : UnitNo) (r : StreamNo) → may_put W s (first_pool W r.0) ≡ true → Row W S s u (op.MigrateTo v r) (site.Desk v) (act.AskMigrate (first_pool W r.0))
-  migrateto-row v r may = desk-row (op.MigrateTo v r) v (act.AskMigrate (first_pool W r.0)) (migrates (op.MigrateTo v r) v (first_pool W r.0) (cond-true (may_put W s (first_pool W r.0)) _ _ may) refl)
+  pub migrateto-row : (v : UnitNo) (r : StreamNo) → may_put W s (first_pool W r.0) ≡ true → RowBy W S s u (op.MigrateTo v r) (Calls (site.Desk v) (act.AskMigrate (first_pool W r.0)) (to_caller (owned_at S u)))
+  migrateto-row v r may = desk-row _ v (act.AskMigrate (first_pool W r.0)) _ (migrates _ v (first_pool W r.0) (cond-true (may_put W s (first_pool W r.0)) _ _ may) refl)
 
   -- the code of migratable by whether the unit is a scheduler
   by-body : (v : ℕ) (b : Bool) → is_sched (body_at W v) ≡ b → unless (not (is_sched (body_at W v))) code.NotMigratable code.Ok ≡ unless (not b) code.NotMigratable code.Ok
   by-body v b e = ap (λ t. unless (not t) code.NotMigratable code.Ok) e
 
   -- whether a unit may migrate, by the answer
-  migratable-value : (v : UnitNo) (b : Bool) → ValueRow W S s u (op.Migratable v b) (λ T. desk_value W T v.0) DeskGives (act.SetMigratable b)
+  migratable-value : (v : UnitNo) (b : Bool) → ValueRow W S s u (op.Migratable v b) (λ T. desk_value W T v.0) DeskGives
   migratable-value v b (act.Coded code.Ok) new gives = record { code = sym (by-body v.0 false gives.0); own = asks-own v.0 (record (S.desk v.0) { migratable = b }); called = asks-desk v.0 (record (S.desk v.0) { migratable = b }) ∙ sym gives.1 }
-  migratable-value v b (act.Coded code.NotMigratable) new gives = desk-refuses (op.Migratable v b) code.NotMigratable v new tt (sym (by-body v.0 true gives.0)) gives.1
+  migratable-value v b (act.Coded code.NotMigratable) new gives = desk-refuses _ code.NotMigratable v new tt (sym (by-body v.0 true gives.0)) gives.1
   migratable-value v b (act.Coded _) new gives = absurd gives
   migratable-value v b _ new gives = absurd gives
 
   -- the row of migratable
-  pub migratable-row : (v : UnitNo) (b : Bool) → Row W S s u (op.Migratable v b) (site.Desk v) (act.SetMigratable b)
-  migratable-row v b = desk-row (op.Migratable v b) v (act.SetMigratable b) (migratable-value v b)
+  pub migratable-row : (v : UnitNo) (b : Bool) → Row W S s u (op.Migratable v b)
+  migratable-row v b = desk-row _ v (act.SetMigratable b) _ (migratable-value v b)
 
   -- Joining and suspension: u leaves the hand.
 
@@ -165,7 +165,7 @@ module _ (W : Parts) (Z : List OrderShape) (S : State) (s u : ℕ) (acts : IsAct
   }
 
   -- a join, by the answer
-  join-value : (v : UnitNo) → ValueRow W S s u (op.Join v) (λ T. desk_value W T v.0) DeskGives (act.Join (moved (owned_at S u)))
+  join-value : (v : UnitNo) → ValueRow W S s u (op.Join v) (λ T. desk_value W T v.0) DeskGives
   join-value v (act.Given b) new gives =
       let row : joins S u v.0 (S.place v.0) ≡ goes_on S u = joins-ended v.0 (S.place v.0) (sym (ended-at (owned_at S v.0) (S.place v.0)) ∙ gives.0) in
       record {
@@ -184,8 +184,8 @@ module _ (W : Parts) (Z : List OrderShape) (S : State) (s u : ℕ) (acts : IsAct
   join-value v _ new gives = absurd gives
 
   -- the row of join
-  pub join-row : (v : UnitNo) → Row W S s u (op.Join v) (site.Desk v) (act.Join (moved (owned_at S u)))
-  join-row v = desk-row (op.Join v) v (act.Join (moved (owned_at S u))) (join-value v)
+  pub join-row : (v : UnitNo) → Row W S s u (op.Join v)
+  join-row v = desk-row _ v (act.Join (moved (owned_at S u))) _ (join-value v)
 
   -- its own desk takes it back
   takes-own : takes_back (desk_value W S u) (moved (owned_at S u)) ≡ true
@@ -207,7 +207,7 @@ module _ (W : Parts) (Z : List OrderShape) (S : State) (s u : ℕ) (acts : IsAct
       }
 
   -- a suspension, by the answer
-  suspend-value : ValueRow W S s u op.Suspend (λ T. desk_value W T u) DeskGives (act.Suspend (moved (owned_at S u)))
+  suspend-value : ValueRow W S s u op.Suspend (λ T. desk_value W T u) DeskGives
   suspend-value act.Rested new gives = record {
     code = refl;
     own = blocks-part W Z S s u acts (place.Blocked spot.Suspended 0) [] (advanced (S.carried u)) no_change (off-nowhere s (place.Blocked spot.Suspended 0) refl) tt tt;
@@ -216,8 +216,8 @@ module _ (W : Parts) (Z : List OrderShape) (S : State) (s u : ℕ) (acts : IsAct
   suspend-value _ new gives = absurd gives
 
   -- the row of suspend
-  pub suspend-row : Row W S s u op.Suspend (site.Desk (unit_no u)) (act.Suspend (moved (owned_at S u)))
-  suspend-row = desk-row op.Suspend (unit_no u) (act.Suspend (moved (owned_at S u))) suspend-value
+  pub suspend-row : Row W S s u op.Suspend
+  suspend-row = desk-row _ (unit_no u) (act.Suspend (moved (owned_at S u))) _ suspend-value
 
   -- Units that come out of their desk, which stand in no line.
 
@@ -282,7 +282,7 @@ module _ (W : Parts) (Z : List OrderShape) (S : State) (s u : ℕ) (acts : IsAct
   refuses-by a v test c new r is none same = desk-refuses a c v new r (by-test a test false c is (so-none test (owned_at S v.0) none)) same
 
   -- a resumption, by the answer
-  resume-value : (v : UnitNo) → v.0 < length W.units → ValueRow W S s u (op.Resume v) (λ T. desk_value W T v.0) DeskGives act.Resume
+  resume-value : (v : UnitNo) → v.0 < length W.units → ValueRow W S s u (op.Resume v) (λ T. desk_value W T v.0) DeskGives
   resume-value v declared (act.Given o) new gives =
       let out : (is_suspended (S.place v.0) ≡ true) × (owned_at S v.0 ≡ o) = so-some (is_suspended (S.place v.0)) (owned_at S v.0) o (sym (suspended_in-at (owned_at S v.0) (S.place v.0)) ∙ gives.0) in
       let nowhere : line_of (S.place v.0) ≡ None = suspended-nowhere (S.place v.0) out.0 in
@@ -292,13 +292,13 @@ module _ (W : Parts) (Z : List OrderShape) (S : State) (s u : ℕ) (acts : IsAct
         called = resumes-desk v.0 declared nowhere ∙ sym gives.1;
       }
   resume-value v declared (act.Coded code.UnitState) new gives =
-      refuses-by (op.Resume v) v (is_suspended (S.place v.0)) code.UnitState new tt refl (sym (suspended_in-at (owned_at S v.0) (S.place v.0)) ∙ gives.0) gives.1
+      refuses-by _ v (is_suspended (S.place v.0)) code.UnitState new tt refl (sym (suspended_in-at (owned_at S v.0) (S.place v.0)) ∙ gives.0) gives.1
   resume-value v declared (act.Coded _) new gives = absurd gives
   resume-value v declared _ new gives = absurd gives
 
   -- the row of resume
-  pub resume-row : (v : UnitNo) → v.0 < length W.units → Row W S s u (op.Resume v) (site.Desk v) act.Resume
-  resume-row v declared = desk-row (op.Resume v) v act.Resume (resume-value v declared)
+  pub resume-row : (v : UnitNo) → v.0 < length W.units → Row W S s u (op.Resume v)
+  resume-row v declared = desk-row _ v act.Resume _ (resume-value v declared)
 
   -- v begins a life with home p if a test of its place holds
   begins-by : (a : Op) (v : UnitNo) (p : ℕ) (test : Bool) (c : Code) (o : Owned) (new : DeskValue) → v.0 < length W.units → (test ≡ true → line_of (S.place v.0) ≡ None)
@@ -313,29 +313,29 @@ module _ (W : Parts) (Z : List OrderShape) (S : State) (s u : ℕ) (acts : IsAct
       }
 
   -- a creation, by the answer
-  create-value : (v : UnitNo) (p : PoolNo) → v.0 < length W.units → may_put W s p.0 ≡ true → ValueRow W S s u (op.Create v p) (λ T. desk_value W T v.0) DeskGives (act.Create p.0)
+  create-value : (v : UnitNo) (p : PoolNo) → v.0 < length W.units → may_put W s p.0 ≡ true → ValueBy W S s u (op.Create v p) (λ T. desk_value W T v.0) DeskGives (Calls (site.Desk v) (act.Create p.0) (to_caller (owned_at S u)))
   create-value v p declared may (act.Given o) new gives =
-      begins-by (op.Create v p) v p.0 (is_unborn (S.place v.0)) code.Exists o new declared (unborn-nowhere (S.place v.0)) (cond-true (may_put W s p.0) _ _ may) refl
+      begins-by _ v p.0 (is_unborn (S.place v.0)) code.Exists o new declared (unborn-nowhere (S.place v.0)) (cond-true (may_put W s p.0) _ _ may) refl
       (ap (option_map (reborn p.0)) (sym (unborn_in-at (owned_at S v.0) (S.place v.0))) ∙ gives.0) gives.1
   create-value v p declared may (act.Coded code.Exists) new gives =
-      refuses-by (op.Create v p) v (is_unborn (S.place v.0)) code.Exists new tt (cond-true (may_put W s p.0) _ _ may) (sym (unborn_in-at (owned_at S v.0) (S.place v.0)) ∙ gives.0) gives.1
+      refuses-by _ v (is_unborn (S.place v.0)) code.Exists new tt (cond-true (may_put W s p.0) _ _ may) (sym (unborn_in-at (owned_at S v.0) (S.place v.0)) ∙ gives.0) gives.1
   create-value v p declared may (act.Coded _) new gives = absurd gives
   create-value v p declared may _ new gives = absurd gives
 
   -- the row of create
-  pub create-row : (v : UnitNo) (p : PoolNo) → v.0 < length W.units → may_put W s p.0 ≡ true → Row W S s u (op.Create v p) (site.Desk v) (act.Create p.0)
-  create-row v p declared may = desk-row (op.Create v p) v (act.Create p.0) (create-value v p declared may)
+  pub create-row : (v : UnitNo) (p : PoolNo) → v.0 < length W.units → may_put W s p.0 ≡ true → RowBy W S s u (op.Create v p) (Calls (site.Desk v) (act.Create p.0) (to_caller (owned_at S u)))
+  create-row v p declared may = desk-row _ v (act.Create p.0) _ (create-value v p declared may)
 
   -- a revival, by the answer
-  revive-value : (v : UnitNo) (p : PoolNo) → v.0 < length W.units → may_put W s p.0 ≡ true → ValueRow W S s u (op.Revive v p) (λ T. desk_value W T v.0) DeskGives (act.Revive p.0)
+  revive-value : (v : UnitNo) (p : PoolNo) → v.0 < length W.units → may_put W s p.0 ≡ true → ValueBy W S s u (op.Revive v p) (λ T. desk_value W T v.0) DeskGives (Calls (site.Desk v) (act.Revive p.0) (to_caller (owned_at S u)))
   revive-value v p declared may (act.Given o) new gives =
-      begins-by (op.Revive v p) v p.0 (is_ended (S.place v.0)) code.UnitState o new declared (ended-nowhere (S.place v.0)) (cond-true (may_put W s p.0) _ _ may) refl
+      begins-by _ v p.0 (is_ended (S.place v.0)) code.UnitState o new declared (ended-nowhere (S.place v.0)) (cond-true (may_put W s p.0) _ _ may) refl
       (ap (option_map (reborn p.0)) (sym (ended_in-at (owned_at S v.0) (S.place v.0))) ∙ gives.0) gives.1
   revive-value v p declared may (act.Coded code.UnitState) new gives =
-      refuses-by (op.Revive v p) v (is_ended (S.place v.0)) code.UnitState new tt (cond-true (may_put W s p.0) _ _ may) (sym (ended_in-at (owned_at S v.0) (S.place v.0)) ∙ gives.0) gives.1
+      refuses-by _ v (is_ended (S.place v.0)) code.UnitState new tt (cond-true (may_put W s p.0) _ _ may) (sym (ended_in-at (owned_at S v.0) (S.place v.0)) ∙ gives.0) gives.1
   revive-value v p declared may (act.Coded _) new gives = absurd gives
   revive-value v p declared may _ new gives = absurd gives
 
   -- the row of revive
-  pub revive-row : (v : UnitNo) (p : PoolNo) → v.0 < length W.units → may_put W s p.0 ≡ true → Row W S s u (op.Revive v p) (site.Desk v) (act.Revive p.0)
-  revive-row v p declared may = desk-row (op.Revive v p) v (act.Revive p.0) (revive-value v p declared may)
+  pub revive-row : (v : UnitNo) (p : PoolNo) → v.0 < length W.units → may_put W s p.0 ≡ true → RowBy W S s u (op.Revive v p) (Calls (site.Desk v) (act.Revive p.0) (to_caller (owned_at S u)))
+  revive-row v p declared may = desk-row _ v (act.Revive p.0) _ (revive-value v p declared may)

@@ -37,18 +37,18 @@ module _ (W : Parts) (Z : List OrderShape) (S : State) (s u : ℕ) (acts : IsAct
 
   -- A wait.
 
-  await : ValueRow W S s u (op.EvWait x) value EventualGives (act.Await (moved (owned_at S u)))
+  await : ValueRow W S s u (op.EvWait x) value EventualGives
   await (act.Given b) new gives = by (S.eventual x.0) refl gives.0 where
     by : (o : Option ℕ) → S.eventual x.0 ≡ o → option_map (λ n. received n (moved (owned_at S u))) o ≡ Some b → ValueDone W S s u (op.EvWait x) value (keeps b []) new
     by None e given = absurd (none≢some given)
     by (Some n) e given =
-        goes-through W Z S s u acts (op.EvWait x) value (keeps b []) new (goes_with u (with_acc n (S.carried u))) refl refl (ap (awaits S u x.0) e)
+        goes-through W Z S s u acts _ value (keeps b []) new (goes_with u (with_acc n (S.carried u))) refl refl (ap (awaits S u x.0) e)
         (goes-part W Z S s u acts (advanced (with_acc n (S.carried u))) no_change ∙ ap (λ o. stepped (part_of W S s) (keeps o [])) (some-injective given))
         (ap (λ os. record { value = S.eventual x.0; waiters = os }) (same-waiters (advanced (with_acc n (S.carried u))) no_change) ∙ sym gives.1)
   await act.Rested new gives = by (S.eventual x.0) refl gives.0 where
     by : (o : Option ℕ) → S.eventual x.0 ≡ o → is_some o ≡ false → ValueDone W S s u (op.EvWait x) value (empties []) new
     by None e none =
-        goes-through W Z S s u acts (op.EvWait x) value (empties []) new (waits S u x.0) refl refl (ap (awaits S u x.0) e)
+        goes-through W Z S s u acts _ value (empties []) new (waits S u x.0) refl refl (ap (awaits S u x.0) e)
         (waits-part W Z S s u acts x.0)
         (ap (λ os. record { value = S.eventual x.0; waiters = os }) (waits-line W Z S s u acts x.0) ∙ sym gives.1)
     by (Some n) e none = absurd cc
@@ -56,47 +56,47 @@ module _ (W : Parts) (Z : List OrderShape) (S : State) (s u : ℕ) (acts : IsAct
 
   -- A value.
 
-  fill : ValueRow W S s u (op.EvSet x) value EventualGives (act.Fill (S.carried u).acc)
+  fill : ValueRow W S s u (op.EvSet x) value EventualGives
   fill (act.Woke os) new gives =
       let c : Change = record no_change { eventuals = (x.0, Some (S.carried u).acc) ∷ [] } in
       let d : Change = giving W Z S s u acts x.0 (S.carried u).acc c in
-      goes-through W Z S s u acts (op.EvSet x) value (keeps (moved (owned_at S u)) os) new d refl (unless-true (is_none (S.eventual x.0)) code.EventualSet code.Ok (none-test (S.eventual x.0) gives.0)) refl
+      goes-through W Z S s u acts _ value (keeps (moved (owned_at S u)) os) new d refl (unless-true (is_none (S.eventual x.0)) code.EventualSet code.Ok (none-test (S.eventual x.0) gives.0)) refl
       (giving-part W Z S s u acts x.0 (S.carried u).acc c ∙ ap (λ us. stepped (part_of W S s) (keeps (moved (owned_at S u)) us)) (sym gives.1))
       ((λ i. record { value = put_at-same S.eventual x.0 (Some (S.carried u).acc) i; waiters = giving-line W Z S s u acts x.0 (S.carried u).acc c i }) ∙ sym gives.2)
   fill (act.Coded code.EventualSet) new gives =
-      refuses W Z S s u acts (op.EvSet x) code.EventualSet (site.Eventual x) EventualIs value EventualGives new (eventual-at W x.0 is) tt
+      refuses W Z S s u acts _ code.EventualSet (site.Eventual x) EventualIs value EventualGives new (eventual-at W x.0 is) tt
       (sym (unless-false (is_none (S.eventual x.0)) code.EventualSet code.Ok (some-test (S.eventual x.0) gives.0))) gives.1
   fill _ new gives = absurd gives
 
   -- A reset.
 
-  reset : ValueRow W S s u (op.EvReset x) value EventualGives act.Reset
+  reset : ValueRow W S s u (op.EvReset x) value EventualGives
   reset act.Rested new gives =
       let c : Change = record no_change { eventuals = (x.0, None) ∷ [] } in
-      goes-through W Z S s u acts (op.EvReset x) value (keeps (moved (owned_at S u)) []) new (moving [] ((u, advanced (S.carried u)) ∷ []) c) refl refl refl
+      goes-through W Z S s u acts _ value (keeps (moved (owned_at S u)) []) new (moving [] ((u, advanced (S.carried u)) ∷ []) c) refl refl refl
       (goes-part W Z S s u acts (advanced (S.carried u)) c)
       ((λ i. record { value = put_at-same S.eventual x.0 None i; waiters = same-waiters (advanced (S.carried u)) c i }) ∙ sym gives)
   reset _ new gives = absurd gives
 
   -- A test.
 
-  test : ValueRow W S s u (op.EvTest x) value EventualGives act.Test
+  test : ValueRow W S s u (op.EvTest x) value EventualGives
   test (act.Number n) new gives =
-      goes-through W Z S s u acts (op.EvTest x) value (keeps (received n (moved (owned_at S u))) []) new (learns S u (is_some (S.eventual x.0))) refl refl refl
+      goes-through W Z S s u acts _ value (keeps (received n (moved (owned_at S u))) []) new (learns S u (is_some (S.eventual x.0))) refl refl refl
       (goes-part W Z S s u acts (advanced (with_acc (truth (is_some (S.eventual x.0))) (S.carried u))) no_change ∙ ap (λ m. stepped (part_of W S s) (keeps (received m (moved (owned_at S u))) [])) (sym gives.0))
       (ap (λ os. record { value = S.eventual x.0; waiters = os }) (same-waiters (advanced (with_acc (truth (is_some (S.eventual x.0))) (S.carried u))) no_change) ∙ sym gives.1)
   test _ new gives = absurd gives
 
   -- The rows.
 
-  pub evwait-row : Row W S s u (op.EvWait x) (site.Eventual x) (act.Await (moved (owned_at S u)))
-  evwait-row = row-by_value W S s u (op.EvWait x) (site.Eventual x) EventualIs value EventualGives (act.Await (moved (owned_at S u))) (eventual-at W x.0 is) await
+  pub evwait-row : Row W S s u (op.EvWait x)
+  evwait-row = row-by_value W S s u _ _ EventualIs value EventualGives (act.Await (moved (owned_at S u))) _ (eventual-at W x.0 is) await
 
-  pub evset-row : Row W S s u (op.EvSet x) (site.Eventual x) (act.Fill (S.carried u).acc)
-  evset-row = row-by_value W S s u (op.EvSet x) (site.Eventual x) EventualIs value EventualGives (act.Fill (S.carried u).acc) (eventual-at W x.0 is) fill
+  pub evset-row : Row W S s u (op.EvSet x)
+  evset-row = row-by_value W S s u _ _ EventualIs value EventualGives (act.Fill (S.carried u).acc) _ (eventual-at W x.0 is) fill
 
-  pub evreset-row : Row W S s u (op.EvReset x) (site.Eventual x) act.Reset
-  evreset-row = row-by_value W S s u (op.EvReset x) (site.Eventual x) EventualIs value EventualGives act.Reset (eventual-at W x.0 is) reset
+  pub evreset-row : Row W S s u (op.EvReset x)
+  evreset-row = row-by_value W S s u _ _ EventualIs value EventualGives act.Reset _ (eventual-at W x.0 is) reset
 
-  pub evtest-row : Row W S s u (op.EvTest x) (site.Eventual x) act.Test
-  evtest-row = row-by_value W S s u (op.EvTest x) (site.Eventual x) EventualIs value EventualGives act.Test (eventual-at W x.0 is) test
+  pub evtest-row : Row W S s u (op.EvTest x)
+  evtest-row = row-by_value W S s u _ _ EventualIs value EventualGives act.Test _ (eventual-at W x.0 is) test

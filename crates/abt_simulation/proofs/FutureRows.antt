@@ -53,14 +53,14 @@ module _ (W : Parts) (Z : List OrderShape) (S : State) (s u : ℕ) (acts : IsAct
 
   -- A wait.
 
-  await : ValueRow W S s u (op.FuWait x) value FutureGives (act.Await (moved (owned_at S u)))
+  await : ValueRow W S s u (op.FuWait x) value FutureGives
   await (act.Given b) new gives =
-      goes-through W Z S s u acts (op.FuWait x) value (keeps b []) new (goes_with u (with_acc (S.future x.0).value (S.carried u))) refl refl
+      goes-through W Z S s u acts _ value (keeps b []) new (goes_with u (with_acc (S.future x.0).value (S.carried u))) refl refl
       (ap (awaits S u x.0) (cond-true (is_full W S x.0) (Some (S.future x.0).value) None (full-is ∙ gives.0)))
       (goes-part W Z S s u acts (advanced (with_acc (S.future x.0).value (S.carried u))) no_change ∙ ap (λ o. stepped (part_of W S s) (keeps o [])) (sym gives.1))
       (same-value (with_acc (S.future x.0).value (S.carried u)) ∙ sym gives.2)
   await act.Rested new gives =
-      goes-through W Z S s u acts (op.FuWait x) value (empties []) new (waits S u x.0) refl refl
+      goes-through W Z S s u acts _ value (empties []) new (waits S u x.0) refl refl
       (ap (awaits S u x.0) (cond-false (is_full W S x.0) (Some (S.future x.0).value) None (full-is ∙ gives.0)))
       (waits-part W Z S s u acts x.0)
       (ap (λ os. record (value S) { waiters = os }) (waits-line W Z S s u acts x.0) ∙ sym gives.1)
@@ -83,17 +83,17 @@ module _ (W : Parts) (Z : List OrderShape) (S : State) (s u : ℕ) (acts : IsAct
       new ≡ record (value S) { filled = more.filled; value = more.value; waiters = if t then [] else waiters_at W S x.0 } →
       ValueDone W S s u (op.FuSet x) value (keeps (moved (owned_at S u)) os) new
   fill-by true e os new unfilled woken same =
-      goes-through W Z S s u acts (op.FuSet x) value (keeps (moved (owned_at S u)) os) new (giving W Z S s u acts x.0 more.value others) refl (unless-true (not (is_full W S x.0)) code.FutureFull code.Ok unfilled)
+      goes-through W Z S s u acts _ value (keeps (moved (owned_at S u)) os) new (giving W Z S s u acts x.0 more.value others) refl (unless-true (not (is_full W S x.0)) code.FutureFull code.Ok unfilled)
       ((λ i. filling (size-is i) (filled_by (combine-is i) (S.future x.0) (S.carried u).acc)) ∙ ap (λ (d : Change). record d { futures = (x.0, more) ∷ [] }) (cond-true (more.filled == n) (gives_all W S s u x.0 more.value) (goes_on S u) e))
       (giving-part W Z S s u acts x.0 more.value others ∙ ap (λ us. stepped (part_of W S s) (keeps (moved (owned_at S u)) us)) (sym woken))
       ((λ i. record (value S) { filled = (put_at-same S.future x.0 more i).filled; value = (put_at-same S.future x.0 more i).value; waiters = giving-line W Z S s u acts x.0 more.value others i }) ∙ sym same)
   fill-by false e os new unfilled woken same =
-      goes-through W Z S s u acts (op.FuSet x) value (keeps (moved (owned_at S u)) os) new (moving [] ((u, advanced (S.carried u)) ∷ []) others) refl (unless-true (not (is_full W S x.0)) code.FutureFull code.Ok unfilled)
+      goes-through W Z S s u acts _ value (keeps (moved (owned_at S u)) os) new (moving [] ((u, advanced (S.carried u)) ∷ []) others) refl (unless-true (not (is_full W S x.0)) code.FutureFull code.Ok unfilled)
       ((λ i. filling (size-is i) (filled_by (combine-is i) (S.future x.0) (S.carried u).acc)) ∙ ap (λ (d : Change). record d { futures = (x.0, more) ∷ [] }) (cond-false (more.filled == n) (gives_all W S s u x.0 more.value) (goes_on S u) e))
       (goes-part W Z S s u acts (advanced (S.carried u)) others ∙ ap (λ us. stepped (part_of W S s) (keeps (moved (owned_at S u)) us)) (sym woken))
       ((λ i. record (value S) { filled = (put_at-same S.future x.0 more i).filled; value = (put_at-same S.future x.0 more i).value; waiters = same-waiters (advanced (S.carried u)) others i }) ∙ sym same)
 
-  fill : ValueRow W S s u (op.FuSet x) value FutureGives (act.Fill (S.carried u).acc)
+  fill : ValueRow W S s u (op.FuSet x) value FutureGives
   fill (act.Woke os) new gives = by (more.filled == n) refl where
     by : (t : Bool) → (more.filled == n) ≡ t → ValueDone W S s u (op.FuSet x) value (keeps (moved (owned_at S u)) os) new
     by t e =
@@ -101,25 +101,25 @@ module _ (W : Parts) (Z : List OrderShape) (S : State) (s u : ℕ) (acts : IsAct
         (gives.1 ∙ ap (λ (b : Bool). if b then map (received more.value) (waiters_at W S x.0) else []) e)
         (gives.2 ∙ ap (λ (b : Bool). record (value S) { filled = more.filled; value = more.value; waiters = if b then [] else waiters_at W S x.0 }) e)
   fill (act.Coded code.FutureFull) new gives =
-      refuses W Z S s u acts (op.FuSet x) code.FutureFull (site.Future x) FutureIs value FutureGives new (future-at W x.0 n c is) tt
+      refuses W Z S s u acts _ code.FutureFull (site.Future x) FutureIs value FutureGives new (future-at W x.0 n c is) tt
       (sym (unless-false (not (is_full W S x.0)) code.FutureFull code.Ok (ap not (full-is ∙ gives.0)))) gives.1
   fill _ new gives = absurd gives
 
   -- A reset.
 
-  reset : ValueRow W S s u (op.FuReset x) value FutureGives act.Reset
+  reset : ValueRow W S s u (op.FuReset x) value FutureGives
   reset act.Rested new gives =
       let d : Change = record no_change { futures = (x.0, record { filled = 0; value = 0 }) ∷ [] } in
-      goes-through W Z S s u acts (op.FuReset x) value (keeps (moved (owned_at S u)) []) new (moving [] ((u, advanced (S.carried u)) ∷ []) d) refl refl refl
+      goes-through W Z S s u acts _ value (keeps (moved (owned_at S u)) []) new (moving [] ((u, advanced (S.carried u)) ∷ []) d) refl refl refl
       (goes-part W Z S s u acts (advanced (S.carried u)) d)
       ((λ i. record (value S) { filled = (put_at-same S.future x.0 (record { filled = 0; value = 0 }) i).filled; value = (put_at-same S.future x.0 (record { filled = 0; value = 0 }) i).value; waiters = same-waiters (advanced (S.carried u)) d i }) ∙ sym gives)
   reset _ new gives = absurd gives
 
   -- A test.
 
-  test : ValueRow W S s u (op.FuTest x) value FutureGives act.Test
+  test : ValueRow W S s u (op.FuTest x) value FutureGives
   test (act.Number k) new gives =
-      goes-through W Z S s u acts (op.FuTest x) value (keeps (received k (moved (owned_at S u))) []) new (learns S u (is_full W S x.0)) refl refl refl
+      goes-through W Z S s u acts _ value (keeps (received k (moved (owned_at S u))) []) new (learns S u (is_full W S x.0)) refl refl refl
       (goes-part W Z S s u acts (advanced (with_acc (truth (is_full W S x.0)) (S.carried u))) no_change
       ∙ ap (λ m. stepped (part_of W S s) (keeps (received m (moved (owned_at S u))) [])) (ap truth full-is ∙ sym gives.0))
       (same-value (with_acc (truth (is_full W S x.0)) (S.carried u)) ∙ sym gives.1)
@@ -128,14 +128,14 @@ module _ (W : Parts) (Z : List OrderShape) (S : State) (s u : ℕ) (acts : IsAct
 -- The rows.
 
 module _ (W : Parts) (Z : List OrderShape) (S : State) (s u : ℕ) (acts : IsActing W Z S s u) (x : ObjectNo) (is : IsFuture W x.0) where
-  pub fuwait-row : Row W S s u (op.FuWait x) (site.Future x) (act.Await (moved (owned_at S u)))
-  fuwait-row = row-by_value W S s u (op.FuWait x) (site.Future x) FutureIs (value W Z S s u acts x is.0 is.1 is.2) FutureGives (act.Await (moved (owned_at S u))) (future-at W x.0 is.0 is.1 is.2) (await W Z S s u acts x is.0 is.1 is.2)
+  pub fuwait-row : Row W S s u (op.FuWait x)
+  fuwait-row = row-by_value W S s u _ _ FutureIs (value W Z S s u acts x is.0 is.1 is.2) FutureGives (act.Await (moved (owned_at S u))) _ (future-at W x.0 is.0 is.1 is.2) (await W Z S s u acts x is.0 is.1 is.2)
 
-  pub fuset-row : Row W S s u (op.FuSet x) (site.Future x) (act.Fill (S.carried u).acc)
-  fuset-row = row-by_value W S s u (op.FuSet x) (site.Future x) FutureIs (value W Z S s u acts x is.0 is.1 is.2) FutureGives (act.Fill (S.carried u).acc) (future-at W x.0 is.0 is.1 is.2) (fill W Z S s u acts x is.0 is.1 is.2)
+  pub fuset-row : Row W S s u (op.FuSet x)
+  fuset-row = row-by_value W S s u _ _ FutureIs (value W Z S s u acts x is.0 is.1 is.2) FutureGives (act.Fill (S.carried u).acc) _ (future-at W x.0 is.0 is.1 is.2) (fill W Z S s u acts x is.0 is.1 is.2)
 
-  pub fureset-row : Row W S s u (op.FuReset x) (site.Future x) act.Reset
-  fureset-row = row-by_value W S s u (op.FuReset x) (site.Future x) FutureIs (value W Z S s u acts x is.0 is.1 is.2) FutureGives act.Reset (future-at W x.0 is.0 is.1 is.2) (reset W Z S s u acts x is.0 is.1 is.2)
+  pub fureset-row : Row W S s u (op.FuReset x)
+  fureset-row = row-by_value W S s u _ _ FutureIs (value W Z S s u acts x is.0 is.1 is.2) FutureGives act.Reset _ (future-at W x.0 is.0 is.1 is.2) (reset W Z S s u acts x is.0 is.1 is.2)
 
-  pub futest-row : Row W S s u (op.FuTest x) (site.Future x) act.Test
-  futest-row = row-by_value W S s u (op.FuTest x) (site.Future x) FutureIs (value W Z S s u acts x is.0 is.1 is.2) FutureGives act.Test (future-at W x.0 is.0 is.1 is.2) (test W Z S s u acts x is.0 is.1 is.2)
+  pub futest-row : Row W S s u (op.FuTest x)
+  futest-row = row-by_value W S s u _ _ FutureIs (value W Z S s u acts x is.0 is.1 is.2) FutureGives act.Test _ (future-at W x.0 is.0 is.1 is.2) (test W Z S s u acts x is.0 is.1 is.2)

@@ -5,7 +5,7 @@ use Rattle.abt_machine.specs.declared.events.Site.{Site}
 use Rattle.abt_machine.specs.declared.operations.OrderShape.{OrderShape}
 use Rattle.abt_machine.specs.declared.workload.Parts.{Parts}
 use Rattle.abt_machine.specs.Numbers.{stream_no}
-use Rattle.abt_machine.specs.Sites.{event_site}
+use Rattle.abt_machine.specs.EventSites.{event_site}
 use Rattle.abt_machine.specs.Stamps.{Lamport, Stamped, stamp_of, stream_of}
 use Rattle.abt_machine.specs.Values.{Held, Object}
 use Rattle.abt_machine.specs.Turns.{Heard, Steps}

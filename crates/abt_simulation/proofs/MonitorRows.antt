@@ -16,7 +16,7 @@ use Rattle.abt_machine.specs.Codes.{unless, owned_by, code_of}
 use Rattle.abt_machine.specs.Changes.{Change, no_change, to_tray, goes_with}
 use Rattle.abt_machine.specs.Steps.{op_row, owned, waits, locks, hands_over}
 use Rattle.abt_machine.specs.Values.{Owned, owned_at, MonitorIs, MonitorValue, monitor_value, part_of}
-use Rattle.abt_machine.specs.Acts.{Act, moved, received}
+use Rattle.abt_machine.specs.Acts.{moved, received}
 use Rattle.abt_machine.specs.Acts as act
 use Rattle.abt_machine.specs.Plans.{refusal, keeps, empties}
 use Rattle.abt_machine.specs.Turns.{stepped}
@@ -44,16 +44,16 @@ module _ (W : Parts) (Z : List OrderShape) (S : State) (s u : ℕ) (acts : IsAct
       (goes-part W Z S s u acts (advanced (S.carried u)) (record no_change { mutexes = (x.0, owned (Some u) (S.mutex x.0)) ∷ [] }) ∙ ap (λ o. stepped (part_of W S s) (keeps o [])) (sym same))
       (holding-value W Z S s u acts x.0 is (advanced (S.carried u)) (owned (Some u) (S.mutex x.0)) ∙ sym is-new)
 
-  lock : ValueRow W S s u (op.Lock x) value MonitorGives (act.Lock (moved (owned_at S u)))
+  lock : ValueRow W S s u (op.Lock x) value MonitorGives
   lock (act.Given b) new gives = by (S.mutex x.0).owner refl gives.0 where
     by : (o : Option ℕ) → (S.mutex x.0).owner ≡ o → is_some o ≡ false → ValueDone W S s u (op.Lock x) value (keeps b []) new
-    by None e none = gets (op.Lock x) b new refl gives.1 gives.2 (ap (locks S u x.0) (sym e))
+    by None e none = gets _ b new refl gives.1 gives.2 (ap (locks S u x.0) (sym e))
     by (Some v) e none = absurd cc
   lock act.Rested new gives = by (S.mutex x.0).owner refl gives.0 where
     by : (o : Option ℕ) → (S.mutex x.0).owner ≡ o → is_some o ≡ true → ValueDone W S s u (op.Lock x) value (empties []) new
     by None e some = absurd cc
     by (Some v) e some =
-        goes-through W Z S s u acts (op.Lock x) value (empties []) new (waits S u x.0) refl refl (ap (locks S u x.0) e)
+        goes-through W Z S s u acts _ value (empties []) new (waits S u x.0) refl refl (ap (locks S u x.0) e)
         (waits-part W Z S s u acts x.0)
         ((λ i. record (value S) {
           waiters = waits-line W Z S s u acts x.0 i;
@@ -62,11 +62,11 @@ module _ (W : Parts) (Z : List OrderShape) (S : State) (s u : ℕ) (acts : IsAct
         }) ∙ sym gives.1)
   lock _ new gives = absurd gives
 
-  trylock : ValueRow W S s u (op.TryLock x) value MonitorGives (act.TryLock u)
+  trylock : ValueRow W S s u (op.TryLock x) value MonitorGives
   trylock (act.Coded code.Ok) new gives =
-      gets (op.TryLock x) (moved (owned_at S u)) new (unless-true (is_none (S.mutex x.0).owner) code.MutexLocked code.Ok (none-test (S.mutex x.0).owner gives.0)) refl gives.1 refl
+      gets _ (moved (owned_at S u)) new (unless-true (is_none (S.mutex x.0).owner) code.MutexLocked code.Ok (none-test (S.mutex x.0).owner gives.0)) refl gives.1 refl
   trylock (act.Coded code.MutexLocked) new gives =
-      refuses W Z S s u acts (op.TryLock x) code.MutexLocked (site.Monitor x) MonitorIs value MonitorGives new (mutex-at W x.0 is) tt
+      refuses W Z S s u acts _ code.MutexLocked (site.Monitor x) MonitorIs value MonitorGives new (mutex-at W x.0 is) tt
       (sym (unless-false (is_none (S.mutex x.0).owner) code.MutexLocked code.Ok (some-test (S.mutex x.0).owner gives.0))) gives.1
   trylock _ new gives = absurd gives
 
@@ -85,7 +85,7 @@ module _ (W : Parts) (Z : List OrderShape) (S : State) (s u : ℕ) (acts : IsAct
       ValueDone W S s u (op.Unlock x) value (keeps (moved (owned_at S u)) woken) new
   hands woken new own first-is same =
       let c : Change = record no_change { mutexes = (x.0, owned (first (standing W S (Waiting x.0))) (S.mutex x.0)) ∷ [] } in
-      goes-through W Z S s u acts (op.Unlock x) value (keeps (moved (owned_at S u)) woken) new (hands_over W S s u x.0) refl (own-mutex own) refl
+      goes-through W Z S s u acts _ value (keeps (moved (owned_at S u)) woken) new (hands_over W S s u x.0) refl (own-mutex own) refl
       (wakes-part W Z S s u acts (first_alone (standing W S (Waiting x.0))) (advanced (S.carried u)) c (distinct-first (standing W S (Waiting x.0)) (standing-distinct W S (Waiting x.0))) (away-first W S s (Waiting x.0) tt)
       ∙ ap (λ os. stepped (part_of W S s) (keeps (moved (owned_at S u)) os)) first-is)
       ((λ i. record {
@@ -96,41 +96,41 @@ module _ (W : Parts) (Z : List OrderShape) (S : State) (s u : ℕ) (acts : IsAct
             (λ y ne. (none-to_tray W S s (Waiting y) (first_alone (standing W S (Waiting x.0))) tt, first-from W Z S s u acts x.0 is y ne)) i;
       }) ∙ sym same)
 
-  unlock : ValueRow W S s u (op.Unlock x) value MonitorGives (act.Unlock u)
+  unlock : ValueRow W S s u (op.Unlock x) value MonitorGives
   unlock (act.Given b) new gives = hands (b ∷ []) new gives.0 (first-woken S (standing W S (Waiting x.0)) b gives.1) gives.2
   unlock act.Rested new gives = hands [] new gives.0 (none-woken S (standing W S (Waiting x.0)) gives.1) gives.2
-  unlock (act.Coded code.NotOwner) new gives = not-own (op.Unlock x) new refl gives.0 gives.1
+  unlock (act.Coded code.NotOwner) new gives = not-own _ new refl gives.0 gives.1
   unlock _ new gives = absurd gives
 
-  load : ValueRow W S s u (op.Load x) value MonitorGives (act.Load u)
+  load : ValueRow W S s u (op.Load x) value MonitorGives
   load (act.Number n) new gives =
-      goes-through W Z S s u acts (op.Load x) value (keeps (received n (moved (owned_at S u))) []) new (goes_with u (with_acc (S.mutex x.0).number (S.carried u))) refl (own-mutex gives.0) refl
+      goes-through W Z S s u acts _ value (keeps (received n (moved (owned_at S u))) []) new (goes_with u (with_acc (S.mutex x.0).number (S.carried u))) refl (own-mutex gives.0) refl
       (goes-part W Z S s u acts (advanced (with_acc (S.mutex x.0).number (S.carried u))) no_change ∙ ap (λ k. stepped (part_of W S s) (keeps (received k (moved (owned_at S u))) [])) (sym gives.1))
       (value-same W Z S s u acts (site.Monitor x) MonitorIs value MonitorGives (advanced (with_acc (S.mutex x.0).number (S.carried u))) (mutex-at W x.0 is) ∙ sym gives.2)
-  load (act.Coded code.NotOwner) new gives = not-own (op.Load x) new refl gives.0 gives.1
+  load (act.Coded code.NotOwner) new gives = not-own _ new refl gives.0 gives.1
   load _ new gives = absurd gives
 
-  store : ValueRow W S s u (op.Store x) value MonitorGives (act.Store u (S.carried u).acc)
+  store : ValueRow W S s u (op.Store x) value MonitorGives
   store (act.Coded code.Ok) new gives =
-      goes-through W Z S s u acts (op.Store x) value (keeps (moved (owned_at S u)) []) new (holding W Z S s u acts x.0 is (advanced (S.carried u)) (record (S.mutex x.0) { number = (S.carried u).acc })) refl (own-mutex gives.0) refl
+      goes-through W Z S s u acts _ value (keeps (moved (owned_at S u)) []) new (holding W Z S s u acts x.0 is (advanced (S.carried u)) (record (S.mutex x.0) { number = (S.carried u).acc })) refl (own-mutex gives.0) refl
       (goes-part W Z S s u acts (advanced (S.carried u)) (record no_change { mutexes = (x.0, record (S.mutex x.0) { number = (S.carried u).acc }) ∷ [] }))
       (holding-value W Z S s u acts x.0 is (advanced (S.carried u)) (record (S.mutex x.0) { number = (S.carried u).acc }) ∙ sym gives.1)
-  store (act.Coded code.NotOwner) new gives = not-own (op.Store x) new refl gives.0 gives.1
+  store (act.Coded code.NotOwner) new gives = not-own _ new refl gives.0 gives.1
   store _ new gives = absurd gives
 
   -- The rows.
 
-  pub lock-row : Row W S s u (op.Lock x) (site.Monitor x) (act.Lock (moved (owned_at S u)))
-  lock-row = row-by_value W S s u (op.Lock x) (site.Monitor x) MonitorIs value MonitorGives (act.Lock (moved (owned_at S u))) (mutex-at W x.0 is) lock
+  pub lock-row : Row W S s u (op.Lock x)
+  lock-row = row-by_value W S s u _ _ MonitorIs value MonitorGives (act.Lock (moved (owned_at S u))) _ (mutex-at W x.0 is) lock
 
-  pub trylock-row : Row W S s u (op.TryLock x) (site.Monitor x) (act.TryLock u)
-  trylock-row = row-by_value W S s u (op.TryLock x) (site.Monitor x) MonitorIs value MonitorGives (act.TryLock u) (mutex-at W x.0 is) trylock
+  pub trylock-row : Row W S s u (op.TryLock x)
+  trylock-row = row-by_value W S s u _ _ MonitorIs value MonitorGives (act.TryLock u) _ (mutex-at W x.0 is) trylock
 
-  pub unlock-row : Row W S s u (op.Unlock x) (site.Monitor x) (act.Unlock u)
-  unlock-row = row-by_value W S s u (op.Unlock x) (site.Monitor x) MonitorIs value MonitorGives (act.Unlock u) (mutex-at W x.0 is) unlock
+  pub unlock-row : Row W S s u (op.Unlock x)
+  unlock-row = row-by_value W S s u _ _ MonitorIs value MonitorGives (act.Unlock u) _ (mutex-at W x.0 is) unlock
 
-  pub load-row : Row W S s u (op.Load x) (site.Monitor x) (act.Load u)
-  load-row = row-by_value W S s u (op.Load x) (site.Monitor x) MonitorIs value MonitorGives (act.Load u) (mutex-at W x.0 is) load
+  pub load-row : Row W S s u (op.Load x)
+  load-row = row-by_value W S s u _ _ MonitorIs value MonitorGives (act.Load u) _ (mutex-at W x.0 is) load
 
-  pub store-row : Row W S s u (op.Store x) (site.Monitor x) (act.Store u (S.carried u).acc)
-  store-row = row-by_value W S s u (op.Store x) (site.Monitor x) MonitorIs value MonitorGives (act.Store u (S.carried u).acc) (mutex-at W x.0 is) store
+  pub store-row : Row W S s u (op.Store x)
+  store-row = row-by_value W S s u _ _ MonitorIs value MonitorGives (act.Store u (S.carried u).acc) _ (mutex-at W x.0 is) store

@@ -26,6 +26,7 @@ use Rattle.abt_machine.specs.Values.{Owned, owned_at, owned_in, part_of, PoolIs,
 use Rattle.abt_machine.specs.Acts as act
 use Rattle.abt_machine.specs.Acts.{moved}
 use Rattle.abt_machine.specs.Pools.{PoolGives, is_unit, without}
+use Rattle.abt_machine.specs.Plans.{Calls, to_yielder}
 use Rattle.abt_machine.specs.Turns.{stepped}
 use Rattle.abt_laws.proofs.Lists.{EachOf, Among}
 use Rattle.abt_laws.proofs.Maps.{put_at-same, put_at-other}
@@ -40,7 +41,7 @@ use Rattle.abt_simulation.proofs.Acting.{IsActing}
 use Rattle.abt_simulation.proofs.OwnedLines.{owned-same, owned-stays, carried-stays}
 use Rattle.abt_simulation.proofs.OwnParts.{IsOff, off-object, hand-only, hand-standing, tray-standing, tray-filled, away-other, standing-distinct}
 use Rattle.abt_simulation.proofs.Shapes.{owned}
-use Rattle.abt_simulation.proofs.Rows.{Row, ValueRow, row-by_value, pool-at, refuses}
+use Rattle.abt_simulation.proofs.Rows.{RowBy, ValueBy, row-by_value, pool-at, refuses}
 
 -- A unit of a list, by its number.
 
@@ -147,7 +148,7 @@ module _ (W : Parts) (Z : List OrderShape) (S : State) (s u : ℕ) (acts : IsAct
     by true e = let t : (t : ℕ) × (ticket_in (InPool p.0) (S.place v.0) ≡ Some t) = in-pool p.0 (S.place v.0) e in absurd (out (among-standing W S acts.sound.undeclared (InPool p.0) v.0 t.0 t.1))
 
   -- yielding to v, by the answer
-  yieldto-value : may_take W s p.0 ≡ true → ValueRow W S s u (op.YieldTo v p) (λ T. pool_value W T p.0) PoolGives (act.Remove v.0)
+  yieldto-value : may_take W s p.0 ≡ true → ValueBy W S s u (op.YieldTo v p) (λ T. pool_value W T p.0) PoolGives (Calls (site.Pool p) (act.Remove v.0) (to_yielder (owned_at S u)))
   yieldto-value may (act.Given o) new gives =
       let found : Among v.0 (standing W S (InPool p.0)) × (owned_at S v.0 ≡ o) = found-among S v.0 (standing W S (InPool p.0)) o gives.0 in
       let at : StandsIn W S (InPool p.0) v.0 = found-standing found.0 in
@@ -157,10 +158,10 @@ module _ (W : Parts) (Z : List OrderShape) (S : State) (s u : ℕ) (acts : IsAct
         called = ap (λ os. record { kind = kind_of W p.0; units = os }) (yields-pool at) ∙ sym gives.1;
       }
   yieldto-value may (act.Coded code.Absent) new gives =
-      refuses W Z S s u acts (op.YieldTo v p) code.Absent (site.Pool p) PoolIs (λ T. pool_value W T p.0) PoolGives new (pool-at W p.0) tt (sym (in-pool_code may false (not-in_pool (found-none S v.0 (standing W S (InPool p.0)) gives.0)))) gives.1
+      refuses W Z S s u acts _ code.Absent (site.Pool p) PoolIs (λ T. pool_value W T p.0) PoolGives new (pool-at W p.0) tt (sym (in-pool_code may false (not-in_pool (found-none S v.0 (standing W S (InPool p.0)) gives.0)))) gives.1
   yieldto-value may (act.Coded _) new gives = absurd gives
   yieldto-value may _ new gives = absurd gives
 
   -- the row of yieldto
-  pub yieldto-row : may_take W s p.0 ≡ true → Row W S s u (op.YieldTo v p) (site.Pool p) (act.Remove v.0)
-  yieldto-row may = row-by_value W S s u (op.YieldTo v p) (site.Pool p) PoolIs (λ T. pool_value W T p.0) PoolGives (act.Remove v.0) (pool-at W p.0) (yieldto-value may)
+  pub yieldto-row : may_take W s p.0 ≡ true → RowBy W S s u (op.YieldTo v p) (Calls (site.Pool p) (act.Remove v.0) (to_yielder (owned_at S u)))
+  yieldto-row may = row-by_value W S s u _ _ PoolIs (λ T. pool_value W T p.0) PoolGives (act.Remove v.0) _ (pool-at W p.0) (yieldto-value may)

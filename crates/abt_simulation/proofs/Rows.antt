@@ -20,8 +20,8 @@ use Rattle.abt_machine.specs.Codes.{code_of}
 use Rattle.abt_machine.specs.Steps.{step_row}
 use Rattle.abt_machine.specs.Values.{owned_at, part_of, Object, object_of, PoolIs, DeskIs, MonitorIs, EventualIs, FutureIs, BarrierIs, RwLockIs, pool_value, desk_value, monitor_value, eventual_value, future_value, barrier_value, rwlock_value, monitor_at, eventual_at, future_at, barrier_at, rwlock_at}
 use Rattle.abt_machine.specs.Acts.{Act, Answer}
-use Rattle.abt_machine.specs.Plans.{Effect, refusal, effect_of}
-use Rattle.abt_machine.specs.Turns.{stepped}
+use Rattle.abt_machine.specs.Plans.{Effect, Plan, Does, Calls, Exits, plan_of, refusal}
+use Rattle.abt_machine.specs.Turns.{exited, stepped}
 use Rattle.abt_machine.specs.Pools.{PoolGives}
 use Rattle.abt_machine.specs.Desks.{DeskGives}
 use Rattle.abt_machine.specs.Monitors.{MonitorGives}
@@ -43,15 +43,26 @@ use Rattle.abt_simulation.proofs.Shapes.{goes-part}
 abbrev pub after_step : Parts → State → ℕ → ℕ → Op → Code → State
 after_step W S s u a c = changed S (step_row W S s u (Some a) c)
 
+-- operation a, which called nothing, with this effect
+pub record OwnDone (W : Parts) (S : State) (s u : ℕ) (a : Op) (e : Effect) : Type 0 where
+  pub code : e.code ≡ code_of W S s u a
+  pub own : part_of W (after_step W S s u a e.code) s ≡ stepped (part_of W S s) e
+
 -- operation a, which called site x, with this effect; the object is this afterwards
 pub record RowDone (W : Parts) (S : State) (s u : ℕ) (a : Op) (x : Site) (e : Effect) (new : Object) : Type 0 where
   pub code : e.code ≡ code_of W S s u a
   pub own : part_of W (after_step W S s u a e.code) s ≡ stepped (part_of W S s) e
   pub called : object_of W (after_step W S s u a e.code) x ≡ new
 
--- what the row of operation a owes, whatever its site answers
-abbrev pub Row : Parts → State → ℕ → ℕ → Op → Site → Act → Type 0
-Row W S s u a x asked = (b : Answer) (new : Object) → SiteGives (object_of W S x) asked b new → RowDone W S s u a x (effect_of a (owned_at S u) b) new
+-- what the row of operation a owes by this plan, whatever the site answers that it calls
+abbrev pub RowBy : Parts → State → ℕ → ℕ → Op → Plan → Type 0
+RowBy W S s u a (Does e) = OwnDone W S s u a e
+RowBy W S s u a (Calls x asked brings) = (b : Answer) (new : Object) → SiteGives (object_of W S x) asked b new → RowDone W S s u a x (brings b) new
+RowBy W S s u a (Exits o) = (code.Ok ≡ code_of W S s u a) × (part_of W (after_step W S s u a code.Ok) s ≡ exited (part_of W S s) o)
+
+-- what it owes by the operation's own plan
+abbrev pub Row : Parts → State → ℕ → ℕ → Op → Type 0
+Row W S s u a = RowBy W S s u a (plan_of W s a (owned_at S u))
 
 -- The same by the value of the called object.
 
@@ -61,8 +72,13 @@ pub record ValueDone {V : Type 0} (W : Parts) (S : State) (s u : ℕ) (a : Op) (
   pub called : value (after_step W S s u a e.code) ≡ new
 
 -- what the row owes then
-abbrev pub ValueRow : {V : Type 0} → Parts → State → ℕ → ℕ → Op → (State → V) → (V → Act → Answer → V → Type 0) → Act → Type 0
-ValueRow {V = V} W S s u a value Gives asked = (b : Answer) (new : V) → Gives (value S) asked b new → ValueDone W S s u a value (effect_of a (owned_at S u) b) new
+abbrev pub ValueBy : {V : Type 0} → Parts → State → ℕ → ℕ → Op → (State → V) → (V → Act → Answer → V → Type 0) → Plan → Type 0
+ValueBy W S s u a value Gives (Does e) = Unit {0}
+ValueBy {V = V} W S s u a value Gives (Calls x asked brings) = (b : Answer) (new : V) → Gives (value S) asked b new → ValueDone W S s u a value (brings b) new
+ValueBy W S s u a value Gives (Exits o) = Unit {0}
+
+abbrev pub ValueRow : {V : Type 0} → Parts → State → ℕ → ℕ → Op → (State → V) → (V → Act → Answer → V → Type 0) → Type 0
+ValueRow W S s u a value Gives = ValueBy W S s u a value Gives (plan_of W s a (owned_at S u))
 
 -- at site x there is an object of one kind, whose value is this
 pub record IsAt {V : Type 0} (W : Parts) (x : Site) (Is : V → Object) (value : State → V) (Gives : V → Act → Answer → V → Type 0) : Type 0 where
@@ -71,12 +87,12 @@ pub record IsAt {V : Type 0} (W : Parts) (x : Site) (Is : V → Object) (value :
   pub one : (v w : V) → Is v ≡ Is w → v ≡ w
 
 -- the row by the value is the row
-pub row-by_value : {V : Type 0} (W : Parts) (S : State) (s u : ℕ) (a : Op) (x : Site) (Is : V → Object) (value : State → V) (Gives : V → Act → Answer → V → Type 0) (asked : Act) → IsAt W x Is value Gives →
-    ValueRow W S s u a value Gives asked → Row W S s u a x asked
-row-by_value {V = V} W S s u a x Is value Gives asked at row b new gives =
+pub row-by_value : {V : Type 0} (W : Parts) (S : State) (s u : ℕ) (a : Op) (x : Site) (Is : V → Object) (value : State → V) (Gives : V → Act → Answer → V → Type 0) (asked : Act) (brings : Answer → Effect) → IsAt W x Is value Gives →
+    ValueBy W S s u a value Gives (Calls x asked brings) → RowBy W S s u a (Calls x asked brings)
+row-by_value {V = V} W S s u a x Is value Gives asked brings at row b new gives =
     let after : (after : V) × (new ≡ Is after) × Gives (value S) asked b after = at.answers (value S) asked b new (subst (λ o. SiteGives o asked b new) (at.here S) gives) in
-    let done : ValueDone W S s u a value (effect_of a (owned_at S u) b) after.0 = row b after.0 after.2 in
-    record { code = done.code; own = done.own; called = at.here (after_step W S s u a (effect_of a (owned_at S u) b).code) ∙ (ap Is done.called ∙ sym after.1) }
+    let done : ValueDone W S s u a value (brings b) after.0 = row b after.0 after.2 in
+    record { code = done.code; own = done.own; called = at.here (after_step W S s u a (brings b).code) ∙ (ap Is done.called ∙ sym after.1) }
 
 -- The kinds.
 

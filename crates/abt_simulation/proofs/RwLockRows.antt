@@ -86,28 +86,28 @@ module _ (W : Parts) (Z : List OrderShape) (S : State) (s u : ℕ) (acts : IsAct
       let none : count_of u lock ≤ 0 = ltb-false 0 (count_of u lock) (or_parts (reads u lock) (is_none lock.writer && is_empty (waiters_at W S x.0)) refused).0 in
       omega arith
 
-  readlock : ValueRow W S s u (op.ReadLock x) value RwLockGives (act.ReadLock (moved (owned_at S u)))
+  readlock : ValueRow W S s u (op.ReadLock x) value RwLockGives
   readlock (act.Given b) new gives =
-      goes (op.ReadLock x) b new (read_by u lock) (read-code gives.0 gives.1) (cond-true (may_read u (value S)) _ _ gives.2) gives.3 gives.4
+      goes _ b new (read_by u lock) (read-code gives.0 gives.1) (cond-true (may_read u (value S)) _ _ gives.2) gives.3 gives.4
   readlock act.Rested new gives =
-      blocks (op.ReadLock x) new (wanting u wish.Read lock) (read-code gives.0 (few-reads gives.1)) (cond-false (may_read u (value S)) _ _ gives.1) gives.2
+      blocks _ new (wanting u wish.Read lock) (read-code gives.0 (few-reads gives.1)) (cond-false (may_read u (value S)) _ _ gives.1) gives.2
   readlock (act.Back b code.RwHeld) new gives =
-      comes_back (op.ReadLock x) code.RwHeld b new tt (unless-false (not (writes u lock)) code.RwHeld _ (ap not gives.0)) gives.1 gives.2
+      comes_back _ code.RwHeld b new tt (unless-false (not (writes u lock)) code.RwHeld _ (ap not gives.0)) gives.1 gives.2
   readlock (act.Back b code.RwFull) new gives =
-      comes_back (op.ReadLock x) code.RwFull b new tt
+      comes_back _ code.RwFull b new tt
       (unless-true (not (writes u lock)) code.RwHeld _ (ap not gives.0) ∙ unless-false (nat_lt (count_of u lock) read_limit) code.RwFull code.Ok (le-ltb (count_of u lock) read_limit gives.1))
       gives.2 gives.3
   readlock _ new gives = absurd gives
 
   -- A unit that wants to write.
 
-  writelock : ValueRow W S s u (op.WriteLock x) value RwLockGives (act.WriteLock (moved (owned_at S u)))
+  writelock : ValueRow W S s u (op.WriteLock x) value RwLockGives
   writelock (act.Given b) new gives =
-      goes (op.WriteLock x) b new (written_by u lock) (unless-true (not (holds u lock)) code.RwHeld code.Ok (ap not gives.0)) (cond-true (is_free lock) _ _ gives.1) gives.2 gives.3
+      goes _ b new (written_by u lock) (unless-true (not (holds u lock)) code.RwHeld code.Ok (ap not gives.0)) (cond-true (is_free lock) _ _ gives.1) gives.2 gives.3
   writelock act.Rested new gives =
-      blocks (op.WriteLock x) new (wanting u wish.Write lock) (unless-true (not (holds u lock)) code.RwHeld code.Ok (ap not gives.0)) (cond-false (is_free lock) _ _ gives.1) gives.2
+      blocks _ new (wanting u wish.Write lock) (unless-true (not (holds u lock)) code.RwHeld code.Ok (ap not gives.0)) (cond-false (is_free lock) _ _ gives.1) gives.2
   writelock (act.Back b code.RwHeld) new gives =
-      comes_back (op.WriteLock x) code.RwHeld b new tt (unless-false (not (holds u lock)) code.RwHeld code.Ok (ap not gives.0)) gives.1 gives.2
+      comes_back _ code.RwHeld b new tt (unless-false (not (holds u lock)) code.RwHeld code.Ok (ap not gives.0)) gives.1 gives.2
   writelock _ new gives = absurd gives
 
   -- The unit gives up the lock.
@@ -120,13 +120,13 @@ module _ (W : Parts) (Z : List OrderShape) (S : State) (s u : ℕ) (acts : IsAct
   all-owned : EachOf (λ (o : Owned). owned_at S o.number ≡ o) (woken left ++ (passed_on left).waiters)
   all-owned = subst (EachOf (λ (o : Owned). owned_at S o.number ≡ o)) (sym (woken-prefix left)) (owned-each S (standing W S (Waiting x.0)))
 
-  unlock : ValueRow W S s u (op.RwUnlock x) value RwLockGives (act.RwUnlock u)
+  unlock : ValueRow W S s u (op.RwUnlock x) value RwLockGives
   unlock (act.Woke os) new gives =
       let us : List ℕ = map number_of (woken left) in
       let others : List ℕ = map number_of (passed_on left).waiters in
       let split : standing W S (Waiting x.0) ≡ us ++ others = woken-standing W S x.0 u in
       let c : Change = record no_change { rwlocks = (x.0, (passed_on left).lock) ∷ [] } in
-      goes-through W Z S s u acts (op.RwUnlock x) value (keeps (moved (owned_at S u)) os) new (gives_up W S s u x.0 left) refl (unless-true (holds u lock) code.NotHolder code.Ok gives.0) refl
+      goes-through W Z S s u acts _ value (keeps (moved (owned_at S u)) os) new (gives_up W S s u x.0 left) refl (unless-true (holds u lock) code.NotHolder code.Ok gives.0) refl
       (wakes-part W Z S s u acts us (advanced (S.carried u)) c (distinct-prefix us others (subst IsDistinct split (standing-distinct W S (Waiting x.0)))) (woken-each (IsAway W S s) W S x.0 u (away-line W S s (Waiting x.0) tt))
       ∙ ap (λ ws. stepped (part_of W S s) (keeps (moved (owned_at S u)) ws)) (owned-again S (woken left) (EachOf-prefix _ (woken left) (passed_on left).waiters all-owned) ∙ sym gives.1))
       ((λ i. record {
@@ -134,38 +134,38 @@ module _ (W : Parts) (Z : List OrderShape) (S : State) (s u : ℕ) (acts : IsAct
         waiters = (line-prefix_woken W Z S s u acts (Waiting x.0) tt us others split [] (advanced (S.carried u)) c tt tt
             ∙ owned-again S (passed_on left).waiters (EachOf-suffix _ (woken left) (passed_on left).waiters all-owned)) i;
       }) ∙ sym gives.2)
-  unlock (act.Coded code.NotHolder) new gives = not-holder (op.RwUnlock x) new (unless-false (holds u lock) code.NotHolder code.Ok gives.0) gives.1
+  unlock (act.Coded code.NotHolder) new gives = not-holder _ new (unless-false (holds u lock) code.NotHolder code.Ok gives.0) gives.1
   unlock _ new gives = absurd gives
 
   -- The number.
 
-  load : ValueRow W S s u (op.RwLoad x) value RwLockGives (act.Load u)
+  load : ValueRow W S s u (op.RwLoad x) value RwLockGives
   load (act.Number n) new gives =
-      goes-through W Z S s u acts (op.RwLoad x) value (keeps (received n (moved (owned_at S u))) []) new (goes_with u (with_acc lock.number (S.carried u))) refl (unless-true (holds u lock) code.NotHolder code.Ok gives.0) refl
+      goes-through W Z S s u acts _ value (keeps (received n (moved (owned_at S u))) []) new (goes_with u (with_acc lock.number (S.carried u))) refl (unless-true (holds u lock) code.NotHolder code.Ok gives.0) refl
       (goes-part W Z S s u acts (advanced (with_acc lock.number (S.carried u))) no_change ∙ ap (λ k. stepped (part_of W S s) (keeps (received k (moved (owned_at S u))) [])) (sym gives.1))
       (value-same W Z S s u acts (site.Rw x) RwLockIs value RwLockGives (advanced (with_acc lock.number (S.carried u))) (rwlock-at W x.0 is) ∙ sym gives.2)
-  load (act.Coded code.NotHolder) new gives = not-holder (op.RwLoad x) new (unless-false (holds u lock) code.NotHolder code.Ok gives.0) gives.1
+  load (act.Coded code.NotHolder) new gives = not-holder _ new (unless-false (holds u lock) code.NotHolder code.Ok gives.0) gives.1
   load _ new gives = absurd gives
 
-  store : ValueRow W S s u (op.RwStore x) value RwLockGives (act.Store u (S.carried u).acc)
+  store : ValueRow W S s u (op.RwStore x) value RwLockGives
   store (act.Coded code.Ok) new gives =
-      goes (op.RwStore x) (moved (owned_at S u)) new (record lock { number = (S.carried u).acc }) (unless-true (writes u lock) code.NotHolder code.Ok gives.0) refl refl gives.1
-  store (act.Coded code.NotHolder) new gives = not-holder (op.RwStore x) new (unless-false (writes u lock) code.NotHolder code.Ok gives.0) gives.1
+      goes _ (moved (owned_at S u)) new (record lock { number = (S.carried u).acc }) (unless-true (writes u lock) code.NotHolder code.Ok gives.0) refl refl gives.1
+  store (act.Coded code.NotHolder) new gives = not-holder _ new (unless-false (writes u lock) code.NotHolder code.Ok gives.0) gives.1
   store _ new gives = absurd gives
 
   -- The rows.
 
-  pub readlock-row : Row W S s u (op.ReadLock x) (site.Rw x) (act.ReadLock (moved (owned_at S u)))
-  readlock-row = row-by_value W S s u (op.ReadLock x) (site.Rw x) RwLockIs value RwLockGives (act.ReadLock (moved (owned_at S u))) (rwlock-at W x.0 is) readlock
+  pub readlock-row : Row W S s u (op.ReadLock x)
+  readlock-row = row-by_value W S s u _ _ RwLockIs value RwLockGives (act.ReadLock (moved (owned_at S u))) _ (rwlock-at W x.0 is) readlock
 
-  pub writelock-row : Row W S s u (op.WriteLock x) (site.Rw x) (act.WriteLock (moved (owned_at S u)))
-  writelock-row = row-by_value W S s u (op.WriteLock x) (site.Rw x) RwLockIs value RwLockGives (act.WriteLock (moved (owned_at S u))) (rwlock-at W x.0 is) writelock
+  pub writelock-row : Row W S s u (op.WriteLock x)
+  writelock-row = row-by_value W S s u _ _ RwLockIs value RwLockGives (act.WriteLock (moved (owned_at S u))) _ (rwlock-at W x.0 is) writelock
 
-  pub rwunlock-row : Row W S s u (op.RwUnlock x) (site.Rw x) (act.RwUnlock u)
-  rwunlock-row = row-by_value W S s u (op.RwUnlock x) (site.Rw x) RwLockIs value RwLockGives (act.RwUnlock u) (rwlock-at W x.0 is) unlock
+  pub rwunlock-row : Row W S s u (op.RwUnlock x)
+  rwunlock-row = row-by_value W S s u _ _ RwLockIs value RwLockGives (act.RwUnlock u) _ (rwlock-at W x.0 is) unlock
 
-  pub rwload-row : Row W S s u (op.RwLoad x) (site.Rw x) (act.Load u)
-  rwload-row = row-by_value W S s u (op.RwLoad x) (site.Rw x) RwLockIs value RwLockGives (act.Load u) (rwlock-at W x.0 is) load
+  pub rwload-row : Row W S s u (op.RwLoad x)
+  rwload-row = row-by_value W S s u _ _ RwLockIs value RwLockGives (act.Load u) _ (rwlock-at W x.0 is) load
 
-  pub rwstore-row : Row W S s u (op.RwStore x) (site.Rw x) (act.Store u (S.carried u).acc)
-  rwstore-row = row-by_value W S s u (op.RwStore x) (site.Rw x) RwLockIs value RwLockGives (act.Store u (S.carried u).acc) (rwlock-at W x.0 is) store
+  pub rwstore-row : Row W S s u (op.RwStore x)
+  rwstore-row = row-by_value W S s u _ _ RwLockIs value RwLockGives (act.Store u (S.carried u).acc) _ (rwlock-at W x.0 is) store

@@ -14,13 +14,13 @@ use Rattle.abt_machine.specs.declared.operations.Body.TheVariants as body
 use Rattle.abt_machine.specs.declared.operations.Op.{Op}
 use Rattle.abt_machine.specs.declared.operations.OrderShape.{OrderShape}
 use Rattle.abt_machine.specs.declared.workload.Parts.{Parts}
-use Rattle.abt_machine.specs.Acts.{Act, Answer}
+use Rattle.abt_machine.specs.Acts.{Act}
 use Rattle.abt_machine.specs.Acts as act
 use Rattle.abt_machine.specs.Frames.{entered, sched_of}
 use Rattle.abt_machine.specs.Next.{Due, EndDue, EnterDue, LookDue, PutDue, StepDue, due_by, due_of_unit}
 use Rattle.abt_machine.specs.Numbers.{pool_no, unit_no}
 use Rattle.abt_machine.specs.Outcomes.{steps_in}
-use Rattle.abt_machine.specs.Plans.{Calls, Does, Exits, Plan, effect_of, plan_of}
+use Rattle.abt_machine.specs.Plans.{Calls, Does, Exits, Plan, plan_of}
 use Rattle.abt_machine.specs.Turns.{Heard, Performs, Steps, due_of, exited, looked, number_and_position, stepped}
 use Rattle.abt_machine.specs.Values.{Held, Owned}
 use Rattle.abt_machine.specs.Workloads.{body_at, op_at}
@@ -33,8 +33,8 @@ use Rattle.abt_plans.specs.Dues.{DueIs}
 use Rattle.abt_stream.specs.Events.{EndBy, EnterBy, IfFirst, IfHeld, LookBy, PutBy, step_of, wrote}
 use Rattle.abt_stream.specs.Streams.{FrameValue, StreamValue}
 use Rattle.abt_stream.specs.Keeping.{Keeps}
-use Rattle.abt_stream.specs.Operated.{CallsNothing, OpBy}
-use Rattle.abt_stream.specs.Turned.{IsSpent, Made, Turned, Went}
+use Rattle.abt_stream.specs.Operated.{NotPerformed, OpBy}
+use Rattle.abt_stream.specs.Turned.{IsSpent, Made, MetEnd, Turned, Went}
 use Rattle.abt_stream.proofs.Kept.{keeps_entered, keeps_holding, keeps_same}
 
 -- what is due for a unit in hand is what is due for the stream
@@ -65,12 +65,6 @@ module _ (W : Parts) (s : ℕ) (held : Held) (d : HandDue) (tray : held.tray ≡
   pub step_op : (hand : Option Owned) (a : Op) → IfHeld hand (λ o. DueIs W s held.own.mark o.number o.carried.position d) → d ≡ hands.Step a → IfHeld hand (λ o. op_at W o.number o.carried.position ≡ Some a)
   step_op None a h e = absurd h
   step_op (Some o) a h e = (subst (λ (x : HandDue). DueIs W s held.own.mark o.number o.carried.position x) e h).1
-
--- what is planned without a call is performed so
-performs-alone : (old : Held) (a : Op) (o : Owned) (plan : Plan) → CallsNothing plan → (c : Code) × (new : Held) × Performs old a o plan None c new
-performs-alone old a o (Does e) h = (e.code, stepped old e, (refl, refl, refl))
-performs-alone old a o (Calls x asked) h = absurd h
-performs-alone old a o (Exits b) h = (code.Ok, exited old b, (refl, refl, refl))
 
 module _ {P : Type 0} (moves : P → Site → ℕ → Act → Told → P → Type 0) (W : Parts) (old : StreamValue) (before : P) (new : StreamValue) (after : P) where
   -- an event that was written
@@ -109,9 +103,7 @@ module _ {P : Type 0} (moves : P → Site → ℕ → Act → Told → P → Typ
         let x = site.Desk (unit_no o.number) in
         let later : Held = record old.held { hand = None; tray = old.held.tray ++ [] } in
         (h.same, inr (x, act.End o cause, (what.End (unit_no o.number) cause, act.Woke [], later, (due, o, is, refl, [], refl, refl)), h.went), λ spent. let e : EndDue cause ≡ StepDue = sym due ∙ spent.0 in cc)
-    end_turned (Some o) cause turn.Stepped is due h = absurd h
-    end_turned (Some o) cause turn.EmptyRound is due h = absurd h
-    end_turned (Some o) cause turn.Spent is due h = absurd h
+    end_turned (Some o) cause t is due h = absurd h
 
     pub look_turned : (next : Option Owned) (t : Turn) → old.held.next ≡ next → due_of W old.number.0 old.held ≡ LookDue
         → IfHeld next (LookBy moves old before t new after) → Turned moves W Z old before t new after
@@ -122,9 +114,7 @@ module _ {P : Type 0} (moves : P → Site → ℕ → Act → Told → P → Typ
     look_turned (Some o) turn.Worn is due h =
         let x = site.Desk (unit_no o.number) in
         (h.same, inr (x, act.Look, (what.Look (unit_no o.number), act.Asks false None, looked old.held o false None, (due, o, is, refl, false, None, refl, refl)), h.went), λ spent. let e : LookDue ≡ StepDue = sym due ∙ spent.0 in cc)
-    look_turned (Some o) turn.Stepped is due h = absurd h
-    look_turned (Some o) turn.EmptyRound is due h = absurd h
-    look_turned (Some o) turn.Spent is due h = absurd h
+    look_turned (Some o) t is due h = absurd h
 
     pub put_turned : (tray : List Owned) (t : Turn) → old.held.tray ≡ tray → due_of W old.number.0 old.held ≡ PutDue
         → IfFirst tray (PutBy moves old before t new after) → Turned moves W Z old before t new after
@@ -138,13 +128,20 @@ module _ {P : Type 0} (moves : P → Site → ℕ → Act → Told → P → Typ
         let p = pool_no o.carried.home in
         let later : Held = record old.held { tray = os } in
         (h.same, inr (site.Pool p, act.Put o, (what.Put (unit_no o.number) p, act.Rested, later, (due, o, os, is, refl, refl, refl, refl)), h.went), λ spent. let e : PutDue ≡ StepDue = sym due ∙ spent.0 in cc)
-    put_turned (o ∷ os) turn.Stepped is due h = absurd h
-    put_turned (o ∷ os) turn.EmptyRound is due h = absurd h
-    put_turned (o ∷ os) turn.Spent is due h = absurd h
+    put_turned (o ∷ os) t is due h = absurd h
 
     -- a stream with a step left is not spent
     unspent : steps_in old.log < old.budget → IsSpent W old → ⊥
     unspent few spent = let made = spent.1 in omega arith
+
+    -- what is planned is the next event, which met the end of a clock if it was not performed
+    met_end : (o : Owned) (plan : Plan) → ((heard : Option Heard) (c : Code) (later : Held) → Performs old.held plan heard c later → Steps W Z old.number.0 old.held (step_of o c) heard later)
+        → NotPerformed moves old before plan after → MetEnd moves W Z old before after
+    met_end o (Does e) steps h = inl ((step_of o e.code, stepped old.held e, steps None e.code (stepped old.held e) (refl, refl, refl)), h.0, h.1)
+    met_end o (Calls x asked brings) steps h =
+        let e = brings act.Rested in
+        inr (x, asked, (step_of o e.code, act.Rested, stepped old.held e, steps (Some (x, asked, act.Rested)) e.code (stepped old.held e) (act.Rested, refl, refl, refl)), h)
+    met_end o (Exits b) steps h = inl ((step_of o code.Ok, exited old.held b, steps None code.Ok (exited old.held b) (refl, refl, refl)), h.0, h.1)
 
     pub step_turned : (hand : Option Owned) (a : Op) (t : Turn) → old.held.hand ≡ hand → steps_in old.log < old.budget → due_of W old.number.0 old.held ≡ StepDue
         → IfHeld hand (λ o. op_at W o.number o.carried.position ≡ Some a)
@@ -152,16 +149,9 @@ module _ {P : Type 0} (moves : P → Site → ℕ → Act → Told → P → Typ
     step_turned None a t is few due at h = absurd h
     step_turned (Some o) a turn.Stepped is few due at h =
         (unit_no o.number, o.carried.position, h.1, holding-made new.held (step_of o h.1) h.0 Z h.4 (due, o, is, refl, refl, a, at, h.2) h.3, few)
-    step_turned (Some o) a turn.Worn is few due at (same, inl h) =
-        let p = performs-alone old.held a o (plan_of W old.number.0 a o) h.0 in
-        (same, inl ((step_of o p.0, p.1, (due, o, is, refl, refl, a, at, p.2)), h.1, h.2), unspent few)
-    step_turned (Some o) a turn.Worn is few due at (same, inr h) =
-        let e = effect_of a o act.Rested in
-        let Q : Plan → Type 0 = λ p. Performs old.held a o p (Some (h.0, h.1, act.Rested)) e.code (stepped old.held e) in
-        (same, inr (h.0, h.1, (step_of o e.code, act.Rested, stepped old.held e, (due, o, is, refl, refl, a, at, subst Q (sym h.2) (act.Rested, refl, refl, refl))), h.3), unspent few)
-    step_turned (Some o) a turn.EmptyRound is few due at h = absurd h
-    step_turned (Some o) a turn.Moved is few due at h = absurd h
-    step_turned (Some o) a turn.Spent is few due at h = absurd h
+    step_turned (Some o) a turn.Worn is few due at h =
+        (h.0, met_end o (plan_of W old.number.0 a o) (λ heard c later performs. (due, o, is, refl, refl, a, at, performs)) h.1, unspent few)
+    step_turned (Some o) a t is few due at h = absurd h
 
     pub enter_turned : (hand : Option Owned) (g : SchedNo) (t : Turn) → old.held.hand ≡ hand → due_of W old.number.0 old.held ≡ EnterDue
         → IfHeld hand (λ o. body_at W o.number ≡ body.Sched g) → after ≡ before
@@ -174,9 +164,7 @@ module _ {P : Type 0} (moves : P → Site → ℕ → Act → Told → P → Typ
     enter_turned (Some o) g turn.Worn is due bodied stays h =
         let later : Held = record old.held { own = entered (sched_of (body_at W o.number)) old.held.own; hand = None; framed = old.held.framed ++ o ∷ [] } in
         (h.1, inl ((what.Enter (unit_no o.number), later, (due, o, is, refl, refl, refl)), h.0, stays), λ spent. let e : EnterDue ≡ StepDue = sym due ∙ spent.0 in cc)
-    enter_turned (Some o) g turn.Stepped is due bodied stays h = absurd h
-    enter_turned (Some o) g turn.EmptyRound is due bodied stays h = absurd h
-    enter_turned (Some o) g turn.Spent is due bodied stays h = absurd h
+    enter_turned (Some o) g t is due bodied stays h = absurd h
 
   -- the frames stay
 
@@ -184,38 +172,28 @@ module _ {P : Type 0} (moves : P → Site → ℕ → Act → Told → P → Typ
   end_keeps None cause t h = absurd h
   end_keeps (Some o) cause turn.Moved h = keeps_holding W old new (what.End (unit_no o.number) cause) new.clock new.rooms (record old.held { hand = None; tray = old.held.tray ++ h.0 }) h.1.same
   end_keeps (Some o) cause turn.Worn h = keeps_same W old new h.same
-  end_keeps (Some o) cause turn.Stepped h = absurd h
-  end_keeps (Some o) cause turn.EmptyRound h = absurd h
-  end_keeps (Some o) cause turn.Spent h = absurd h
+  end_keeps (Some o) cause t h = absurd h
 
   pub look_keeps : (next : Option Owned) (t : Turn) → IfHeld next (LookBy moves old before t new after) → Keeps W old new
   look_keeps None t h = absurd h
   look_keeps (Some o) turn.Moved h = keeps_holding W old new (what.Look (unit_no o.number)) new.clock new.rooms (looked old.held o h.0 h.1) h.2.same
   look_keeps (Some o) turn.Worn h = keeps_same W old new h.same
-  look_keeps (Some o) turn.Stepped h = absurd h
-  look_keeps (Some o) turn.EmptyRound h = absurd h
-  look_keeps (Some o) turn.Spent h = absurd h
+  look_keeps (Some o) t h = absurd h
 
   pub put_keeps : (tray : List Owned) (t : Turn) → IfFirst tray (PutBy moves old before t new after) → Keeps W old new
   put_keeps [] t h = absurd h
   put_keeps (o ∷ os) turn.Moved h = keeps_holding W old new (what.Put (unit_no o.number) (pool_no o.carried.home)) new.clock new.rooms (record old.held { tray = os }) h.same
   put_keeps (o ∷ os) turn.Worn h = keeps_same W old new h.same
-  put_keeps (o ∷ os) turn.Stepped h = absurd h
-  put_keeps (o ∷ os) turn.EmptyRound h = absurd h
-  put_keeps (o ∷ os) turn.Spent h = absurd h
+  put_keeps (o ∷ os) t h = absurd h
 
   pub step_keeps : (hand : Option Owned) (a : Op) (t : Turn) → IfHeld hand (OpBy moves W old before a t new after) → Keeps W old new
   step_keeps None a t h = absurd h
   step_keeps (Some o) a turn.Stepped h = keeps_holding W old new (step_of o h.1) new.clock new.rooms new.held h.4
   step_keeps (Some o) a turn.Worn h = keeps_same W old new h.0
-  step_keeps (Some o) a turn.EmptyRound h = absurd h
-  step_keeps (Some o) a turn.Moved h = absurd h
-  step_keeps (Some o) a turn.Spent h = absurd h
+  step_keeps (Some o) a t h = absurd h
 
   pub enter_keeps : (hand : Option Owned) (g : SchedNo) (t : Turn) → old.order ≡ [] → IfHeld hand (EnterBy W g.0 old t new) → Keeps W old new
   enter_keeps None g t none h = absurd h
   enter_keeps (Some o) g turn.Moved none h = keeps_entered W old new (what.Enter (unit_no o.number)) (suc old.clock) new.rooms g.0 o h.0 none h.1
   enter_keeps (Some o) g turn.Worn none h = keeps_same W old new h.1
-  enter_keeps (Some o) g turn.Stepped none h = absurd h
-  enter_keeps (Some o) g turn.EmptyRound none h = absurd h
-  enter_keeps (Some o) g turn.Spent none h = absurd h
+  enter_keeps (Some o) g t none h = absurd h

@@ -1,5 +1,5 @@
 -- The streams that live, by objects, by states, and by the events of a wave.
-use Rattle.std.proofs.Common.{◌≡◌, ◌≢◌, ℕ, zero, suc, ◌+◌, ◌<◌, ◌≤◌, ◌==◌, ◌&&◌, ◌∙◌, ◌⊎◌, inl, inr, Bool, true, false, cond, not, List, [], ◌∷◌, ◌++◌, length, map, filter, drop, drop-cons, get_or, slice_get, Option, Some, None, refl, sym, ap, subst, arith}
+use Rattle.std.proofs.Common.{◌≡◌, ℕ, zero, suc, ◌+◌, ◌<◌, ◌≤◌, ◌==◌, ◌&&◌, ◌∙◌, inl, inr, Bool, true, false, cond, not, List, [], ◌∷◌, ◌++◌, length, map, filter, drop, drop-cons, get_or, slice_get, Option, Some, None, refl, sym, ap, subst, arith}
 use Rattle.std.specs.Prelude.{Contains, is_some}
 use Rattle.std.specs.List.{All, range_with_len}
 use mathlib.Core.Path.{fun_ext}
@@ -18,7 +18,7 @@ use Rattle.abt_machine.specs.Values.{Object, eventual_at, object_of}
 use Rattle.abt_commons.specs.Reading.{is_ready}
 use Rattle.abt_interleave.proofs.Members.{Among, all-from-among, from-among, to-among}
 use Rattle.abt_interleave.proofs.Merged.{log-declared}
-use Rattle.abt_simulation.specs.Merging.{IsJournalOf, StreamDeed, event_of, machine_of}
+use Rattle.abt_simulation.specs.Merging.{IsJournalOf, StreamDeed, machine_of}
 use Rattle.abt_drain.specs.Moments.{Moment}
 use Rattle.abt_waves.specs.Fleets.{IsWave}
 use Rattle.abt_streams.specs.declared.life.Life.{Life}

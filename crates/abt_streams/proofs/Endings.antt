@@ -1,5 +1,5 @@
 -- How runs on lives ended, by their streams and objects.
-use Rattle.std.proofs.Common.{◌≡◌, ℕ, ◌<◌, Bool, true, false, List, get_or, Option, Some, None}
+use Rattle.std.proofs.Common.{◌≡◌, ℕ, ◌<◌, Bool, true, false, List, get_or, Some, None}
 use Rattle.std.specs.Prelude.{◌↔◌}
 use Rattle.std.proofs.lemmas.List.Elements.{All-contains, Contains-get_or}
 use Rattle.abt_machine.specs.declared.events.Event.{Event}
@@ -7,7 +7,7 @@ use Rattle.abt_machine.specs.declared.events.Outcome.{Outcome}
 use Rattle.abt_machine.specs.declared.events.Outcome.TheVariants as outcome
 use Rattle.abt_machine.specs.declared.operations.OrderShape.{OrderShape}
 use Rattle.abt_machine.specs.declared.workload.Parts.{Parts}
-use Rattle.abt_machine.specs.Outcomes.{AllEnded, EndsAs, Spent}
+use Rattle.abt_machine.specs.Outcomes.{AllEnded, EndsAs}
 use Rattle.abt_machine.specs.Rounds.{OrdersStored}
 use Rattle.abt_machine.specs.Runs.{Run, last_state}
 use Rattle.abt_machine.specs.Valid.{IsValid}
@@ -15,10 +15,10 @@ use Rattle.abt_machine.specs.Workloads.{main_of, pools_of}
 use Rattle.abt_commons.specs.Held.{ObjectsValue, object_at}
 use Rattle.abt_laws.proofs.RunParts.{last_state-sound}
 use Rattle.abt_laws.proofs.SoundRuns.{runs-are-sound}
-use Rattle.abt_outcomes.specs.Values.{HaveMade, LooksEnded, StandFor}
+use Rattle.abt_outcomes.specs.Values.{LooksEnded, StandFor}
 use Rattle.abt_outcomes.proofs.Seen.{ends-seen}
 use Rattle.abt_stream.specs.Streams.{StreamValue}
-use Rattle.abt_drain.specs.Looks.{IsEmptyAt, IsOutcomeOfRuns, parts_of, steps_made}
+use Rattle.abt_drain.specs.Looks.{IsEmptyAt, IsOutcomeOfRuns, parts_of}
 use Rattle.abt_streams.specs.declared.life.Life.{Life}
 use Rattle.abt_streams.specs.Ends.{EndsOn, QuietOn}
 use Rattle.abt_streams.specs.Lives.{AreLives}

@@ -1,7 +1,7 @@
 -- Texts, cut behind their first line feed.
-use Rattle.std.proofs.Common.{◌≡◌, ◌<◌, ◌+◌, ◌∙◌, ℕ, suc, List, [], ◌∷◌, ◌++◌, length, take, drop, get_or, ap, sym, arith, append_assoc, length-append, drop-cons}
+use Rattle.std.proofs.Common.{◌≡◌, ◌<◌, ◌+◌, ◌∙◌, ℕ, suc, [], ◌∷◌, ◌++◌, length, take, drop, get_or, ap, sym, arith, append_assoc, length-append, drop-cons}
 use Rattle.std.specs.List.{All}
-use Rattle.std.proofs.Math.Seq.{get_or-append_seam, take-append_seam}
+use Rattle.std.proofs.Math.Seq.{get_or-append_seam}
 use Rattle.std.proofs.lemmas.List.{take-append-drop, take_more}
 use Rattle.abt_machine.specs.Words.{Text, ended}
 use Rattle.abt_streams.specs.Texts.{IsNoFeed}

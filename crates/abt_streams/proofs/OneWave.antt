@@ -1,13 +1,12 @@
 -- One wave more, in any journal that leads to the moment before it.
-use Rattle.std.proofs.Common.{◌≡◌, ℕ, ◌+◌, ◌<◌, ◌∙◌, Bool, true, false, cond, List, ◌++◌, Some, refl, sym, ap, subst, arith}
+use Rattle.std.proofs.Common.{◌≡◌, ℕ, ◌+◌, ◌∙◌, Bool, List, ◌++◌, sym, ap, subst, arith}
 use Rattle.std.proofs.lemmas.List.{append_cancel_left}
 use Rattle.std.proofs.lemmas.List.Sums.{sum_by-append}
 use Rattle.abt_machine.specs.declared.events.Event.{Event}
-use Rattle.abt_machine.specs.declared.events.Site.{Site}
 use Rattle.abt_machine.specs.declared.operations.OrderShape.{OrderShape}
 use Rattle.abt_machine.specs.declared.workload.Parts.{Parts}
 use Rattle.abt_machine.specs.Gives.{SiteGives}
-use Rattle.abt_machine.specs.Outcomes.{is_step, steps_in, steps_of}
+use Rattle.abt_machine.specs.Outcomes.{steps_in, steps_of}
 use Rattle.abt_machine.specs.Rounds.{OrdersStored}
 use Rattle.abt_machine.specs.Runs.{last_state, state_after}
 use Rattle.abt_machine.specs.Sound.{Sound}

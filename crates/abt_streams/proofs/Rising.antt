@@ -1,6 +1,6 @@
 -- Stamps rise from wave to wave.
-use Rattle.std.proofs.Common.{◌≡◌, ℕ, ◌<◌, ◌≤◌, ◌∙◌, ◌⊎◌, inl, inr, Bool, List, [], ◌∷◌, ◌++◌, map, Option, Some, None, refl, sym, ap, subst, arith}
-use Rattle.std.specs.Prelude.{Contains, option_map}
+use Rattle.std.proofs.Common.{◌≡◌, ℕ, ◌<◌, ◌≤◌, ◌∙◌, inl, inr, Bool, List, [], ◌∷◌, ◌++◌, map, Option, Some, None, refl, sym, ap, subst, arith}
+use Rattle.std.specs.Prelude.{option_map}
 use Rattle.std.specs.List.{All}
 use Rattle.std.proofs.lemmas.List.Elements.{All-append, All-contains}
 use Rattle.abt_machine.specs.declared.events.Event.{Event}
@@ -8,11 +8,9 @@ use Rattle.abt_machine.specs.declared.events.Site.{Site}
 use Rattle.abt_machine.specs.declared.operations.OrderShape.{OrderShape}
 use Rattle.abt_machine.specs.declared.workload.Parts.{Parts}
 use Rattle.abt_machine.specs.Numbers.{stream_no}
-use Rattle.abt_machine.specs.Rounds.{OrdersStored}
-use Rattle.abt_machine.specs.Sites.{event_site}
+use Rattle.abt_machine.specs.EventSites.{event_site}
 use Rattle.abt_machine.specs.Stamps.{AllAfter, Shares}
 use Rattle.abt_machine.specs.Turns.{Heard, Steps}
-use Rattle.abt_machine.specs.Valid.{IsValid}
 use Rattle.abt_machine.specs.Values.{Held}
 use Rattle.abt_interleave.specs.Histories.{RisesAbove, entry_stamps, last_from}
 use Rattle.abt_interleave.specs.Deeds.{Does, deed_stamps}

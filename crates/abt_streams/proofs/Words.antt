@@ -1,6 +1,6 @@
 -- The words of a life's line.
 use Rattle.std.proofs.Common.{◌≡◌, ◌≢◌, ◌<◌, ◌==◌, ◌∙◌, ℕ, true, not, List, [], ◌∷◌, ◌++◌, length, get_or, refl, ap, subst, sym, arith, append_assoc, decimal, codes, Bor, Option, Some, None}
-use Rattle.std.specs.List.{All, list_all}
+use Rattle.std.specs.List.{All}
 use Rattle.std.specs.Option.{MatchOption}
 use Rattle.std.specs.Str.{IsAscii, IsUtf8}
 use Rattle.std.proofs.lemmas.Bool.{eqb-false, not-true}

@@ -1,5 +1,5 @@
 -- When streams live.
-use Rattle.std.specs.Prelude.{◌≡◌, ◌≢◌, ◌<◌, List, [], ◌∷◌, ◌++◌, All, ⊤}
+use Rattle.std.specs.Prelude.{◌≢◌, ◌<◌, List, [], ◌∷◌, ◌++◌, All, ⊤}
 use Rattle.abt_machine.specs.declared.workload.Parts.{Parts}
 use Rattle.abt_machine.specs.Operations.{IsEventual}
 use Rattle.abt_streams.specs.declared.life.Life.{Life}

@@ -1,5 +1,5 @@
 -- Which streams live, and how a run on lives ended, by objects and streams.
-use Rattle.std.specs.Prelude.{ℕ, ◌≡◌, ◌<◌, IsTrue, Bool, List, Option, Some, None, Contains}
+use Rattle.std.specs.Prelude.{ℕ, ◌<◌, IsTrue, Bool, List, Option, Some, None, Contains}
 use Rattle.abt_machine.specs.declared.events.Event.{Event}
 use Rattle.abt_machine.specs.declared.events.Outcome.{Outcome}
 use Rattle.abt_machine.specs.declared.events.Site.{Site}

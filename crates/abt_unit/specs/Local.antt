@@ -9,7 +9,7 @@ use Rattle.abt_machine.specs.Changes.{no_change}
 use Rattle.abt_machine.specs.Codes.{code_of}
 use Rattle.abt_machine.specs.Operations.{nature_of}
 use Rattle.abt_machine.specs.Plans.{Does, keeps, plan_of}
-use Rattle.abt_machine.specs.Sites.{op_site}
+use Rattle.abt_machine.specs.EventSites.{op_site}
 use Rattle.abt_machine.specs.State.{State, Carried}
 use Rattle.abt_machine.specs.Steps.{op_row}
 use Rattle.abt_machine.specs.Values.{Owned}

@@ -11,8 +11,8 @@ use Rattle.abt_machine.specs.declared.operations.Thing.{Thing}
 use Rattle.abt_machine.specs.Declaring.{Above, declared_units, parts_of}
 use Rattle.abt_machine.specs.Faults.{is_barrier, is_condition, is_eventual, is_future, is_mutex, is_rwlock, is_there, is_within}
 use Rattle.abt_machine.specs.Limits.{key_limit, object_limit, pool_limit, sched_limit, stream_limit, unit_limit}
+use Rattle.abt_machine.specs.Operations.{IsNamed}
 use Rattle.abt_workload.proofs.Keeping.{most-streams, most-units}
-use Rattle.abt_workload.proofs.Naming.{IsNamed}
 use Rattle.abt_workload.proofs.Proper.{stream_count, unit_count}
 
 -- a number may stand in a line below lines that declare a

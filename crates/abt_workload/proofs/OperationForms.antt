@@ -58,9 +58,9 @@ formed W v o h = record {
 pub op-met : (F : Format) (W : Parts) (units : List UnitPart) (last : Option UnitPart) (before said : List ℕ) (o : Op) → IsDeclared W o
     → AreMet (reached F W 9 units last before said) (given (op_slots (op_with o 0 [])) (op_numbers o))
 unfolding digits
-op-met F W units last before said (op.Set n) h = (omega arith, omega arith, h)
-op-met F W units last before said (op.Add n) h = (omega arith, omega arith, h)
+op-met F W units last before said (op.Set n) h = (h.0, h.1, omega (arith, h.1))
+op-met F W units last before said (op.Add n) h = (h.0, h.1, omega (arith, h.1))
 op-met F W units last before said (op.Say w) h = tt
-op-met F W units last before said (op.Migratable v true) h = (h, (omega arith, omega arith, omega arith))
-op-met F W units last before said (op.Migratable v false) h = (h, (omega arith, omega arith, omega arith))
+op-met F W units last before said (op.Migratable v true) h = (h.0, (omega arith, omega arith, omega arith))
+op-met F W units last before said (op.Migratable v false) h = (h.0, (omega arith, omega arith, omega arith))
 op-met F W units last before said o h = h

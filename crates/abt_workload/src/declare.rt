@@ -11,7 +11,7 @@ ghost use Rattle.abt_machine.specs.declared.grammar.Form.TheVariants as form;
 ghost use Rattle.abt_workload.specs.Declarable.{AreLater, AreOpSmall, AreSmall, AreUnitSmall, IsClosable, IsDeclarable, IsSaidBy, IsSmall, IsSmallRule, closed, is_wide, with_line};
 
 use crate::draft::Draft;
-use crate::forms::is;
+use crate::forms::{is, operations};
 use crate::judge::section;
 use crate::numbers::{Numbered, after, listed, value};
 use crate::text::words_after;
@@ -501,62 +501,27 @@ fn ops_and(ops: Ops, op: Op) -> Result<Ops, Want>
     Ok(Ops::new(items))
 }
 
+// An operation with the numbers of its row.
+macro_rules! numbered_as {
+    (($op:ident) $($name:ident $(($($number:tt)+))?: $places:tt;)+) => {
+        match $op {
+            $(Op::$name { .. } => Op::$name $(($($number)+))?,)+
+        }
+    };
+}
+
 // The operation with these numbers; this many words are said above it.
 fn op_with(op: Op, said: u32, first: u64, second: u64) -> Op
     requires first_small { is_wide op ≡ false → IsSmall first }
     requires second_small { IsSmall second }
     ensures { result ≡ op_with op said (first ∷ second ∷ []) }
 {
-    match op {
-        Op::Set(_) => Op::Set(first),
-        Op::Add(_) => Op::Add(first),
-        other => named_op(other, said, first as u32, second as u32),
-    }
-}
-
-fn named_op(op: Op, said: u32, m: u32, n: u32) -> Op
-    requires { is_wide op ≡ false }
-    ensures { result ≡ op_with op said (m ∷ n ∷ []) }
-{
-    match op {
-        Op::Set(_) | Op::Add(_) => unreachable!(),
-        Op::Say(_) => Op::Say(said),
-        Op::Print => Op::Print,
-        Op::KeySet(_) => Op::KeySet(m),
-        Op::KeyGet(_) => Op::KeyGet(m),
-        Op::Yield => Op::Yield,
-        Op::YieldTo(_, _) => Op::YieldTo(UnitNo(m), PoolNo(n)),
-        Op::Suspend => Op::Suspend,
-        Op::Exit => Op::Exit,
-        Op::Resume(_) => Op::Resume(UnitNo(m)),
-        Op::Create(_, _) => Op::Create(UnitNo(m), PoolNo(n)),
-        Op::Join(_) => Op::Join(UnitNo(m)),
-        Op::Cancel(_) => Op::Cancel(UnitNo(m)),
-        Op::Migrate(_, _) => Op::Migrate(UnitNo(m), PoolNo(n)),
-        Op::MigrateTo(_, _) => Op::MigrateTo(UnitNo(m), StreamNo(n)),
-        Op::Migratable(_, _) => Op::Migratable(UnitNo(m), n == 1),
-        Op::Revive(_, _) => Op::Revive(UnitNo(m), PoolNo(n)),
-        Op::Lock(_) => Op::Lock(ObjectNo(m)),
-        Op::TryLock(_) => Op::TryLock(ObjectNo(m)),
-        Op::Unlock(_) => Op::Unlock(ObjectNo(m)),
-        Op::Load(_) => Op::Load(ObjectNo(m)),
-        Op::Store(_) => Op::Store(ObjectNo(m)),
-        Op::CondWait(_) => Op::CondWait(ObjectNo(m)),
-        Op::Signal(_) => Op::Signal(ObjectNo(m)),
-        Op::Broadcast(_) => Op::Broadcast(ObjectNo(m)),
-        Op::EvWait(_) => Op::EvWait(ObjectNo(m)),
-        Op::EvSet(_) => Op::EvSet(ObjectNo(m)),
-        Op::EvReset(_) => Op::EvReset(ObjectNo(m)),
-        Op::EvTest(_) => Op::EvTest(ObjectNo(m)),
-        Op::FuWait(_) => Op::FuWait(ObjectNo(m)),
-        Op::FuSet(_) => Op::FuSet(ObjectNo(m)),
-        Op::FuReset(_) => Op::FuReset(ObjectNo(m)),
-        Op::FuTest(_) => Op::FuTest(ObjectNo(m)),
-        Op::BarWait(_) => Op::BarWait(ObjectNo(m)),
-        Op::ReadLock(_) => Op::ReadLock(ObjectNo(m)),
-        Op::WriteLock(_) => Op::WriteLock(ObjectNo(m)),
-        Op::RwUnlock(_) => Op::RwUnlock(ObjectNo(m)),
-        Op::RwLoad(_) => Op::RwLoad(ObjectNo(m)),
-        Op::RwStore(_) => Op::RwStore(ObjectNo(m)),
-    }
+    operations!(
+        numbered_as(op),
+        said,
+        first,
+        (first as u32),
+        (second as u32),
+        (second == 1)
+    )
 }

@@ -36,123 +36,107 @@ const SIZE: Number = Number::Within(1, SIZE_LIMIT as u64);
 // How many units a `many` line declares.
 const COPIES: Number = Number::Within(1, UNIT_LIMIT as u64);
 
-// One form of each; a form's numbers say nothing.
-static FORMS: [Form; 114] = [
-    Form::Version(Format::One),
-    Form::Version(Format::Two),
-    Form::Streams,
-    Form::Keys,
-    Form::Pool(Access::Priv(StreamNo(0))),
-    Form::Pool(Access::Spsc(StreamNo(0), StreamNo(0))),
-    Form::Pool(Access::Mpsc(StreamNo(0))),
-    Form::Pool(Access::Spmc(StreamNo(0))),
-    Form::Pool(Access::Mpmc),
-    Form::Sched(Rule::Basic),
-    Form::Sched(Rule::Prio),
-    Form::Sched(Rule::Randws(0)),
-    Form::Sched(Rule::User(0)),
-    Form::Stream,
-    Form::Object(Thing::Mutex),
-    Form::Object(Thing::Cond(ObjectNo(0))),
-    Form::Object(Thing::Eventual),
-    Form::Object(Thing::Future(0, Combine::Count)),
-    Form::Object(Thing::Barrier(0)),
-    Form::Object(Thing::RwLock),
-    Form::Units,
-    Form::Unit(Role::Ult, Some(PoolNo(0))),
-    Form::Unit(Role::Ult, None),
-    Form::Unit(Role::Task, Some(PoolNo(0))),
-    Form::Unit(Role::Task, None),
-    Form::Unit(Role::Sched, Some(PoolNo(0))),
-    Form::Unit(Role::Sched, None),
-    Form::End,
-    Form::Operation(Op::Set(0)),
-    Form::Operation(Op::Add(0)),
-    Form::Operation(Op::Say(0)),
-    Form::Operation(Op::Print),
-    Form::Operation(Op::KeySet(0)),
-    Form::Operation(Op::KeyGet(0)),
-    Form::Operation(Op::Yield),
-    Form::Operation(Op::YieldTo(UnitNo(0), PoolNo(0))),
-    Form::Operation(Op::Suspend),
-    Form::Operation(Op::Exit),
-    Form::Operation(Op::Resume(UnitNo(0))),
-    Form::Operation(Op::Create(UnitNo(0), PoolNo(0))),
-    Form::Operation(Op::Join(UnitNo(0))),
-    Form::Operation(Op::Cancel(UnitNo(0))),
-    Form::Operation(Op::Migrate(UnitNo(0), PoolNo(0))),
-    Form::Operation(Op::MigrateTo(UnitNo(0), StreamNo(0))),
-    Form::Operation(Op::Migratable(UnitNo(0), false)),
-    Form::Operation(Op::Revive(UnitNo(0), PoolNo(0))),
-    Form::Operation(Op::Lock(ObjectNo(0))),
-    Form::Operation(Op::TryLock(ObjectNo(0))),
-    Form::Operation(Op::Unlock(ObjectNo(0))),
-    Form::Operation(Op::Load(ObjectNo(0))),
-    Form::Operation(Op::Store(ObjectNo(0))),
-    Form::Operation(Op::CondWait(ObjectNo(0))),
-    Form::Operation(Op::Signal(ObjectNo(0))),
-    Form::Operation(Op::Broadcast(ObjectNo(0))),
-    Form::Operation(Op::EvWait(ObjectNo(0))),
-    Form::Operation(Op::EvSet(ObjectNo(0))),
-    Form::Operation(Op::EvReset(ObjectNo(0))),
-    Form::Operation(Op::EvTest(ObjectNo(0))),
-    Form::Operation(Op::FuWait(ObjectNo(0))),
-    Form::Operation(Op::FuSet(ObjectNo(0))),
-    Form::Operation(Op::FuReset(ObjectNo(0))),
-    Form::Operation(Op::FuTest(ObjectNo(0))),
-    Form::Operation(Op::BarWait(ObjectNo(0))),
-    Form::Operation(Op::ReadLock(ObjectNo(0))),
-    Form::Operation(Op::WriteLock(ObjectNo(0))),
-    Form::Operation(Op::RwUnlock(ObjectNo(0))),
-    Form::Operation(Op::RwLoad(ObjectNo(0))),
-    Form::Operation(Op::RwStore(ObjectNo(0))),
-    Form::Many(Role::Ult, Some(PoolNo(0))),
-    Form::Many(Role::Ult, None),
-    Form::Many(Role::Task, Some(PoolNo(0))),
-    Form::Many(Role::Task, None),
-    Form::Many(Role::Sched, Some(PoolNo(0))),
-    Form::Many(Role::Sched, None),
-    Form::Repeat(Op::Set(0)),
-    Form::Repeat(Op::Add(0)),
-    Form::Repeat(Op::Say(0)),
-    Form::Repeat(Op::Print),
-    Form::Repeat(Op::KeySet(0)),
-    Form::Repeat(Op::KeyGet(0)),
-    Form::Repeat(Op::Yield),
-    Form::Repeat(Op::YieldTo(UnitNo(0), PoolNo(0))),
-    Form::Repeat(Op::Suspend),
-    Form::Repeat(Op::Exit),
-    Form::Repeat(Op::Resume(UnitNo(0))),
-    Form::Repeat(Op::Create(UnitNo(0), PoolNo(0))),
-    Form::Repeat(Op::Join(UnitNo(0))),
-    Form::Repeat(Op::Cancel(UnitNo(0))),
-    Form::Repeat(Op::Migrate(UnitNo(0), PoolNo(0))),
-    Form::Repeat(Op::MigrateTo(UnitNo(0), StreamNo(0))),
-    Form::Repeat(Op::Migratable(UnitNo(0), false)),
-    Form::Repeat(Op::Revive(UnitNo(0), PoolNo(0))),
-    Form::Repeat(Op::Lock(ObjectNo(0))),
-    Form::Repeat(Op::TryLock(ObjectNo(0))),
-    Form::Repeat(Op::Unlock(ObjectNo(0))),
-    Form::Repeat(Op::Load(ObjectNo(0))),
-    Form::Repeat(Op::Store(ObjectNo(0))),
-    Form::Repeat(Op::CondWait(ObjectNo(0))),
-    Form::Repeat(Op::Signal(ObjectNo(0))),
-    Form::Repeat(Op::Broadcast(ObjectNo(0))),
-    Form::Repeat(Op::EvWait(ObjectNo(0))),
-    Form::Repeat(Op::EvSet(ObjectNo(0))),
-    Form::Repeat(Op::EvReset(ObjectNo(0))),
-    Form::Repeat(Op::EvTest(ObjectNo(0))),
-    Form::Repeat(Op::FuWait(ObjectNo(0))),
-    Form::Repeat(Op::FuSet(ObjectNo(0))),
-    Form::Repeat(Op::FuReset(ObjectNo(0))),
-    Form::Repeat(Op::FuTest(ObjectNo(0))),
-    Form::Repeat(Op::BarWait(ObjectNo(0))),
-    Form::Repeat(Op::ReadLock(ObjectNo(0))),
-    Form::Repeat(Op::WriteLock(ObjectNo(0))),
-    Form::Repeat(Op::RwUnlock(ObjectNo(0))),
-    Form::Repeat(Op::RwLoad(ObjectNo(0))),
-    Form::Repeat(Op::RwStore(ObjectNo(0))),
-];
+// The operations, one a row: its numbers, and then the word that its line begins with and what stands at the places
+// after it. A call names the macro that gets the rows, with what this gets before them. It gives the numbers, which are
+// 0 otherwise: of a word, of 64 bits, the first and the second of 32 bits, and the second where it is a flag.
+macro_rules! operations {
+    ($then:ident($($with:tt)*), $said:tt, $wide:tt, $first:tt, $second:tt, $flag:tt) => {
+        $then! {
+            ($($with)*)
+            Set($wide): ["set", Numeral(ANY)];
+            Add($wide): ["add", Numeral(ANY)];
+            Say($said): ["say", AnyWord];
+            Print: ["print"];
+            KeySet($first): ["kset", Numeral(Number::Key)];
+            KeyGet($first): ["kget", Numeral(Number::Key)];
+            Yield: ["yield"];
+            YieldTo(UnitNo($first), PoolNo($second)): ["yieldto", Numeral(Number::Unit), Numeral(Number::Pool)];
+            Suspend: ["suspend"];
+            Exit: ["exit"];
+            Resume(UnitNo($first)): ["resume", Numeral(Number::Unit)];
+            Create(UnitNo($first), PoolNo($second)): ["create", Numeral(Number::Unit), Numeral(Number::Pool)];
+            Join(UnitNo($first)): ["join", Numeral(Number::Unit)];
+            Cancel(UnitNo($first)): ["cancel", Numeral(Number::Unit)];
+            Migrate(UnitNo($first), PoolNo($second)): ["migrate", Numeral(Number::Unit), Numeral(Number::Pool)];
+            MigrateTo(UnitNo($first), StreamNo($second)): ["migrateto", Numeral(Number::Unit), Numeral(Number::Stream)];
+            Migratable(UnitNo($first), $flag): ["migratable", Numeral(Number::Unit), Numeral(Number::Within(0, 1))];
+            Revive(UnitNo($first), PoolNo($second)): ["revive", Numeral(Number::Unit), Numeral(Number::Pool)];
+            Lock(ObjectNo($first)): ["lock", Numeral(Number::Mutex)];
+            TryLock(ObjectNo($first)): ["trylock", Numeral(Number::Mutex)];
+            Unlock(ObjectNo($first)): ["unlock", Numeral(Number::Mutex)];
+            Load(ObjectNo($first)): ["load", Numeral(Number::Mutex)];
+            Store(ObjectNo($first)): ["store", Numeral(Number::Mutex)];
+            CondWait(ObjectNo($first)): ["cwait", Numeral(Number::Cond)];
+            Signal(ObjectNo($first)): ["signal", Numeral(Number::Cond)];
+            Broadcast(ObjectNo($first)): ["broadcast", Numeral(Number::Cond)];
+            EvWait(ObjectNo($first)): ["ewait", Numeral(Number::Eventual)];
+            EvSet(ObjectNo($first)): ["eset", Numeral(Number::Eventual)];
+            EvReset(ObjectNo($first)): ["ereset", Numeral(Number::Eventual)];
+            EvTest(ObjectNo($first)): ["etest", Numeral(Number::Eventual)];
+            FuWait(ObjectNo($first)): ["fwait", Numeral(Number::Future)];
+            FuSet(ObjectNo($first)): ["fset", Numeral(Number::Future)];
+            FuReset(ObjectNo($first)): ["freset", Numeral(Number::Future)];
+            FuTest(ObjectNo($first)): ["ftest", Numeral(Number::Future)];
+            BarWait(ObjectNo($first)): ["bwait", Numeral(Number::Barrier)];
+            ReadLock(ObjectNo($first)): ["rdlock", Numeral(Number::RwLock)];
+            WriteLock(ObjectNo($first)): ["wrlock", Numeral(Number::RwLock)];
+            RwUnlock(ObjectNo($first)): ["rwunlock", Numeral(Number::RwLock)];
+            RwLoad(ObjectNo($first)): ["rwload", Numeral(Number::RwLock)];
+            RwStore(ObjectNo($first)): ["rwstore", Numeral(Number::RwLock)];
+        }
+    };
+    ($then:ident($($with:tt)*)) => {
+        operations!($then($($with)*), 0, 0, 0, 0, false)
+    };
+}
+
+pub(crate) use operations;
+
+// One form of each, first those of both formats and then those of format 2 alone; a form's numbers say nothing.
+macro_rules! forms_with {
+    (() $($name:ident $(($($number:tt)+))?: $places:tt;)+) => {
+        [
+            Form::Version(Format::One),
+            Form::Version(Format::Two),
+            Form::Streams,
+            Form::Keys,
+            Form::Pool(Access::Priv(StreamNo(0))),
+            Form::Pool(Access::Spsc(StreamNo(0), StreamNo(0))),
+            Form::Pool(Access::Mpsc(StreamNo(0))),
+            Form::Pool(Access::Spmc(StreamNo(0))),
+            Form::Pool(Access::Mpmc),
+            Form::Sched(Rule::Basic),
+            Form::Sched(Rule::Prio),
+            Form::Sched(Rule::Randws(0)),
+            Form::Sched(Rule::User(0)),
+            Form::Stream,
+            Form::Object(Thing::Mutex),
+            Form::Object(Thing::Cond(ObjectNo(0))),
+            Form::Object(Thing::Eventual),
+            Form::Object(Thing::Future(0, Combine::Count)),
+            Form::Object(Thing::Barrier(0)),
+            Form::Object(Thing::RwLock),
+            Form::Units,
+            Form::Unit(Role::Ult, Some(PoolNo(0))),
+            Form::Unit(Role::Ult, None),
+            Form::Unit(Role::Task, Some(PoolNo(0))),
+            Form::Unit(Role::Task, None),
+            Form::Unit(Role::Sched, Some(PoolNo(0))),
+            Form::Unit(Role::Sched, None),
+            Form::End,
+            $(Form::Operation(Op::$name $(($($number)+))?),)+
+            Form::Many(Role::Ult, Some(PoolNo(0))),
+            Form::Many(Role::Ult, None),
+            Form::Many(Role::Task, Some(PoolNo(0))),
+            Form::Many(Role::Task, None),
+            Form::Many(Role::Sched, Some(PoolNo(0))),
+            Form::Many(Role::Sched, None),
+            $(Form::Repeat(Op::$name $(($($number)+))?),)+
+        ]
+    };
+}
+
+static FORMS: [Form; 114] = operations!(forms_with());
 
 /// What stands at the places of a line of this form; of a `repeat` line after its first two words, that is
 /// at the places of its operation.
@@ -364,75 +348,19 @@ pub(crate) fn slots(form: Form) -> &'static [Slot]
     }
 }
 
+// What stands at the places of an operation's line.
+macro_rules! places_of {
+    (($op:ident) $($name:ident $(($($number:tt)+))?: [$word:literal $(, $slot:ident $(($kind:expr))?)*];)+) => {
+        match $op {
+            $(Op::$name { .. } => &[Slot::Fixed($word) $(, Slot::$slot $(($kind))?)*],)+
+        }
+    };
+}
+
 fn op_slots(op: Op) -> &'static [Slot]
     ensures { map slot_of result.now ≡ op_slots op }
 {
-    match op {
-        Op::Set(_) => &[Slot::Fixed("set"), Slot::Numeral(ANY)],
-        Op::Add(_) => &[Slot::Fixed("add"), Slot::Numeral(ANY)],
-        Op::Say(_) => &[Slot::Fixed("say"), Slot::AnyWord],
-        Op::Print => &[Slot::Fixed("print")],
-        Op::KeySet(_) => &[Slot::Fixed("kset"), Slot::Numeral(Number::Key)],
-        Op::KeyGet(_) => &[Slot::Fixed("kget"), Slot::Numeral(Number::Key)],
-        Op::Yield => &[Slot::Fixed("yield")],
-        Op::YieldTo(_, _) => &[
-            Slot::Fixed("yieldto"),
-            Slot::Numeral(Number::Unit),
-            Slot::Numeral(Number::Pool),
-        ],
-        Op::Suspend => &[Slot::Fixed("suspend")],
-        Op::Exit => &[Slot::Fixed("exit")],
-        Op::Resume(_) => &[Slot::Fixed("resume"), Slot::Numeral(Number::Unit)],
-        Op::Create(_, _) => &[
-            Slot::Fixed("create"),
-            Slot::Numeral(Number::Unit),
-            Slot::Numeral(Number::Pool),
-        ],
-        Op::Join(_) => &[Slot::Fixed("join"), Slot::Numeral(Number::Unit)],
-        Op::Cancel(_) => &[Slot::Fixed("cancel"), Slot::Numeral(Number::Unit)],
-        Op::Migrate(_, _) => &[
-            Slot::Fixed("migrate"),
-            Slot::Numeral(Number::Unit),
-            Slot::Numeral(Number::Pool),
-        ],
-        Op::MigrateTo(_, _) => &[
-            Slot::Fixed("migrateto"),
-            Slot::Numeral(Number::Unit),
-            Slot::Numeral(Number::Stream),
-        ],
-        Op::Migratable(_, _) => &[
-            Slot::Fixed("migratable"),
-            Slot::Numeral(Number::Unit),
-            Slot::Numeral(Number::Within(0, 1)),
-        ],
-        Op::Revive(_, _) => &[
-            Slot::Fixed("revive"),
-            Slot::Numeral(Number::Unit),
-            Slot::Numeral(Number::Pool),
-        ],
-        Op::Lock(_) => &[Slot::Fixed("lock"), Slot::Numeral(Number::Mutex)],
-        Op::TryLock(_) => &[Slot::Fixed("trylock"), Slot::Numeral(Number::Mutex)],
-        Op::Unlock(_) => &[Slot::Fixed("unlock"), Slot::Numeral(Number::Mutex)],
-        Op::Load(_) => &[Slot::Fixed("load"), Slot::Numeral(Number::Mutex)],
-        Op::Store(_) => &[Slot::Fixed("store"), Slot::Numeral(Number::Mutex)],
-        Op::CondWait(_) => &[Slot::Fixed("cwait"), Slot::Numeral(Number::Cond)],
-        Op::Signal(_) => &[Slot::Fixed("signal"), Slot::Numeral(Number::Cond)],
-        Op::Broadcast(_) => &[Slot::Fixed("broadcast"), Slot::Numeral(Number::Cond)],
-        Op::EvWait(_) => &[Slot::Fixed("ewait"), Slot::Numeral(Number::Eventual)],
-        Op::EvSet(_) => &[Slot::Fixed("eset"), Slot::Numeral(Number::Eventual)],
-        Op::EvReset(_) => &[Slot::Fixed("ereset"), Slot::Numeral(Number::Eventual)],
-        Op::EvTest(_) => &[Slot::Fixed("etest"), Slot::Numeral(Number::Eventual)],
-        Op::FuWait(_) => &[Slot::Fixed("fwait"), Slot::Numeral(Number::Future)],
-        Op::FuSet(_) => &[Slot::Fixed("fset"), Slot::Numeral(Number::Future)],
-        Op::FuReset(_) => &[Slot::Fixed("freset"), Slot::Numeral(Number::Future)],
-        Op::FuTest(_) => &[Slot::Fixed("ftest"), Slot::Numeral(Number::Future)],
-        Op::BarWait(_) => &[Slot::Fixed("bwait"), Slot::Numeral(Number::Barrier)],
-        Op::ReadLock(_) => &[Slot::Fixed("rdlock"), Slot::Numeral(Number::RwLock)],
-        Op::WriteLock(_) => &[Slot::Fixed("wrlock"), Slot::Numeral(Number::RwLock)],
-        Op::RwUnlock(_) => &[Slot::Fixed("rwunlock"), Slot::Numeral(Number::RwLock)],
-        Op::RwLoad(_) => &[Slot::Fixed("rwload"), Slot::Numeral(Number::RwLock)],
-        Op::RwStore(_) => &[Slot::Fixed("rwstore"), Slot::Numeral(Number::RwLock)],
-    }
+    operations!(places_of(op))
 }
 
 pub(crate) fn is(word: &[u8], text: &str) -> bool

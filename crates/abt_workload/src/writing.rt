@@ -2,19 +2,19 @@
 
 ghost use Rattle.std.specs.Prelude.{◌≡◌, ◌++◌, ◌∷◌, [], All, IfOk, OnOk, decimal, flat_map, map, slice_set, true};
 ghost use Rattle.std.specs.List.{enumerate_from};
-ghost use Rattle.abt_machine.specs.Canonical.{canonical_text, filled, form_words, has_text, keys_lines, object_line, op_words, opening_lines, pool_line, role_of, rule_numbers, sched_line, stream_line, text_in, unit_header, unit_lines};
-ghost use Rattle.abt_machine.specs.Forms.{combine_name, kind_name};
+ghost use Rattle.abt_machine.specs.Canonical.{canonical_text, filled, form_words, has_text, keys_lines, object_line, op_numbers, op_word, op_words, opening_lines, pool_line, role_of, rule_numbers, sched_line, stream_line, text_in, unit_header, unit_lines};
+ghost use Rattle.abt_machine.specs.Forms.{combine_name, kind_name, op_slots};
 ghost use Rattle.abt_machine.specs.Grammar.{Reads};
 ghost use Rattle.abt_machine.specs.Operations.{IsDeclared};
 ghost use Rattle.abt_machine.specs.Valid.{IsValid};
-ghost use Rattle.abt_machine.specs.Words.{ended, line_of, numbered, spaced, text_of};
+ghost use Rattle.abt_machine.specs.Words.{Text, ended, line_of, numbered, spaced, text_of};
 ghost use Rattle.abt_machine.specs.Workloads.{ops_of};
 ghost use Rattle.abt_machine.specs.declared.grammar.Form.TheVariants as form;
 ghost use Rattle.abt_machine.specs.declared.grammar.Format.TheVariants as format;
 ghost use Rattle.abt_machine.specs.declared.numbers.PoolNo.{PoolNo};
 ghost use Rattle.abt_workload.specs.Slots.{is_headed, own_slots, slot_of};
 
-use crate::forms::{Slot, slots};
+use crate::forms::{Slot, operations, slots};
 use abt_lines::{end_line, push_decimal, push_word};
 use abt_machine::{
     Access, Body, Combine, Form, Format, Kind, ObjectNo, Op, PoolNo, PoolPart, Role, Rule, SchedNo,
@@ -250,54 +250,41 @@ fn push_objects(out: &mut Vec<u8>, w: &Workload) -> Result<(), Want>
 
 // Units.
 
+// The numbers that an operation's row gives these names; a name that it does not give one keeps the number that it has.
+macro_rules! numbers_in {
+    (($op:ident, $m:ident, $n:ident) $($name:ident $(($($number:tt)+))?: $places:tt;)+) => {
+        match $op {
+            $(Op::$name $(($($number)+))? => (u64::from($m), u64::from($n)),)+
+        }
+    };
+}
+
+// The numbers of an operation's line, and 0 in the place of each that it does not have.
+fn numbers_of(op: Op) -> (u64, u64)
+    ensures { (word : Text) → filled (op_slots op) word (result.0 ∷ result.1 ∷ []) ≡ filled (op_slots op) word (op_numbers op) }
+{
+    let (m, n) = (0u32, 0u32);
+    operations!(numbers_in(op, m, n), _, m, m, n, n)
+}
+
+// The word that an operation says, if it says one.
+fn op_word(w: &Workload, op: Op) -> &[u8]
+    requires { IsDeclared w.now op }
+    ensures { result.now ≡ op_word w.now op }
+{
+    match op {
+        Op::Say(text) => w.word(text).as_bytes(),
+        _ => b"",
+    }
+}
+
 // Appends the line of an operation.
 fn push_op(out: &mut Vec<u8>, w: &Workload, op: Op) -> Result<(), Want>
     requires { IsDeclared w.now op }
     ensures { OnOk result (out.new.items ≡ out.old.items ++ ended (line_of (op_words w.now op))) }
 {
-    let line = Form::Operation(op);
-    match op {
-        Op::Set(n) => push_line(out, line, b"", &[n]),
-        Op::Add(n) => push_line(out, line, b"", &[n]),
-        Op::Say(text) => push_line(out, line, w.word(text).as_bytes(), &[]),
-        Op::Print => push_line(out, line, b"", &[]),
-        Op::KeySet(k) => push_line(out, line, b"", &[u64::from(k)]),
-        Op::KeyGet(k) => push_line(out, line, b"", &[u64::from(k)]),
-        Op::Yield => push_line(out, line, b"", &[]),
-        Op::YieldTo(v, p) => push_line(out, line, b"", &[u64::from(v.0), u64::from(p.0)]),
-        Op::Suspend => push_line(out, line, b"", &[]),
-        Op::Exit => push_line(out, line, b"", &[]),
-        Op::Resume(v) => push_line(out, line, b"", &[u64::from(v.0)]),
-        Op::Create(v, p) => push_line(out, line, b"", &[u64::from(v.0), u64::from(p.0)]),
-        Op::Join(v) => push_line(out, line, b"", &[u64::from(v.0)]),
-        Op::Cancel(v) => push_line(out, line, b"", &[u64::from(v.0)]),
-        Op::Migrate(v, p) => push_line(out, line, b"", &[u64::from(v.0), u64::from(p.0)]),
-        Op::MigrateTo(v, s) => push_line(out, line, b"", &[u64::from(v.0), u64::from(s.0)]),
-        Op::Migratable(v, flag) => push_line(out, line, b"", &[u64::from(v.0), u64::from(flag)]),
-        Op::Revive(v, p) => push_line(out, line, b"", &[u64::from(v.0), u64::from(p.0)]),
-        Op::Lock(x) => push_line(out, line, b"", &[u64::from(x.0)]),
-        Op::TryLock(x) => push_line(out, line, b"", &[u64::from(x.0)]),
-        Op::Unlock(x) => push_line(out, line, b"", &[u64::from(x.0)]),
-        Op::Load(x) => push_line(out, line, b"", &[u64::from(x.0)]),
-        Op::Store(x) => push_line(out, line, b"", &[u64::from(x.0)]),
-        Op::CondWait(x) => push_line(out, line, b"", &[u64::from(x.0)]),
-        Op::Signal(x) => push_line(out, line, b"", &[u64::from(x.0)]),
-        Op::Broadcast(x) => push_line(out, line, b"", &[u64::from(x.0)]),
-        Op::EvWait(x) => push_line(out, line, b"", &[u64::from(x.0)]),
-        Op::EvSet(x) => push_line(out, line, b"", &[u64::from(x.0)]),
-        Op::EvReset(x) => push_line(out, line, b"", &[u64::from(x.0)]),
-        Op::EvTest(x) => push_line(out, line, b"", &[u64::from(x.0)]),
-        Op::FuWait(x) => push_line(out, line, b"", &[u64::from(x.0)]),
-        Op::FuSet(x) => push_line(out, line, b"", &[u64::from(x.0)]),
-        Op::FuReset(x) => push_line(out, line, b"", &[u64::from(x.0)]),
-        Op::FuTest(x) => push_line(out, line, b"", &[u64::from(x.0)]),
-        Op::BarWait(x) => push_line(out, line, b"", &[u64::from(x.0)]),
-        Op::ReadLock(x) => push_line(out, line, b"", &[u64::from(x.0)]),
-        Op::WriteLock(x) => push_line(out, line, b"", &[u64::from(x.0)]),
-        Op::RwUnlock(x) => push_line(out, line, b"", &[u64::from(x.0)]),
-        Op::RwLoad(x) => push_line(out, line, b"", &[u64::from(x.0)]),
-        Op::RwStore(x) => push_line(out, line, b"", &[u64::from(x.0)]),
-    }
+    let (first, second) = numbers_of(op);
+    push_line(out, Form::Operation(op), op_word(w, op), &[first, second])
 }
 
 // Appends the lines of operations.

@@ -60,7 +60,7 @@ ops-declared : (nodes : List Node) (u : ℕ) (node : Node) → u < length nodes 
 ops-declared nodes u node below is =
     let W : Parts = mesh nodes in
     each-op (IsDeclared W) u node (all-each (λ (x : ObjectNo). IsDeclared W (op.EvWait x)) node.after (λ i d within. is-eventual nodes (get_or node.after i d).0 (is.after i d within)))
-    is.plus tt (is-eventual nodes u below)
+    (let plus = is.plus in (omega arith, omega arith)) tt (is-eventual nodes u below)
 
 unit-valid : (nodes : List Node) (u : ℕ) (node : Node) → u < length nodes → IsNode (length nodes) node → IsUnit (mesh nodes) (node_unit u node)
 unfolding mesh

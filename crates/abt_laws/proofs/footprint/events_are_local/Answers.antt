@@ -3,7 +3,7 @@ use Rattle.std.proofs.Common.{sym, subst}
 use Rattle.abt_laws.specs.Footprint.{ChangesOnly}
 use Rattle.abt_laws.proofs.Local.{changes-only}
 use Rattle.abt_laws.proofs.LocalEvents.{event-local}
-use Rattle.abt_machine.specs.Sites.{event_site}
+use Rattle.abt_machine.specs.EventSites.{event_site}
 use Rattle.abt_machine.specs.Events.{change}
 use Rattle.abt_laws.proofs.footprint.events_are_local.Goals as goal
 

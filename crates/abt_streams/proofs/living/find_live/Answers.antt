@@ -1,9 +1,7 @@
 -- One stream more.
-use Rattle.std.proofs.Common.{◌≡◌, ◌∙◌, ◌+◌, suc, ap, refl, sym, arith}
-use Rattle.std.proofs.lemmas.List.FromFn.{map-range_with_len_more}
 use Rattle.abt_commons.specs.Held.{object_at}
 use Rattle.abt_streams.specs.Looks.{is_live_with}
-use Rattle.abt_streams.proofs.Alive.{filter-more, flags-more, numbers-more}
+use Rattle.abt_streams.proofs.Alive.{flags-more, numbers-more}
 use Rattle.abt_streams.proofs.living.find_live.Goals as goal
 
 pub loop-s-preserved : goal.loop-s-preserved

@@ -1,5 +1,5 @@
 -- A stream with a life.
-use Rattle.std.proofs.Common.{◌≡◌, ◌∙◌, ◌&&◌, ℕ, Bool, true, not, Some, inl, ap, sym}
+use Rattle.std.proofs.Common.{◌≡◌, ◌∙◌, ◌&&◌, ℕ, Bool, true, not, inl, ap, sym}
 use Rattle.abt_machine.specs.declared.events.Site.TheVariants as site
 use Rattle.abt_machine.specs.Numbers.{object_no}
 use Rattle.abt_commons.specs.Held.{object_at}

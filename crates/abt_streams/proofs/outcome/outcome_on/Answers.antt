@@ -1,5 +1,4 @@
 -- Each way in which a run on lives ended.
-use Rattle.std.proofs.Common.{sym, ◌∙◌, refl}
 use Rattle.abt_streams.proofs.Endings.{ends-finished, ends-none, ends-some, ends-stuck, false-is-not}
 use Rattle.abt_streams.proofs.outcome.outcome_on.Goals as goal
 

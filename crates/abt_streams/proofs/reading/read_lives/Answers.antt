@@ -1,5 +1,4 @@
-use Rattle.std.proofs.Common.{◌≡◌, ◌<◌, ◌+◌, ℕ, length, arith, rules, subst, sym, ap}
-use Rattle.abt_streams.specs.Lives.{AreLives, MayFollow}
+use Rattle.std.proofs.Common.{◌≡◌, ◌<◌, ◌+◌, ℕ, length, arith, rules, subst}
 use Rattle.abt_streams.specs.Texts.{IsCause}
 use Rattle.abt_report.specs.declared.text_fault.TextFault.TheVariants.{Bad}
 use Rattle.abt_streams.proofs.Many.{few-lives}

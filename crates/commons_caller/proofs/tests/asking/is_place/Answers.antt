@@ -2,7 +2,7 @@ use Rattle.std.proofs.Common.{◌≡◌, ◌<◌, length, sym, ◌∙◌, subst}
 use Rattle.std.proofs.lemmas.Bool.{eqb-true}
 use Rattle.abt_machine.specs.Values.{conditions_of}
 use Rattle.abt_machine.specs.Workloads.{condition_number, mutex_of}
-use Rattle.abt_calls.proofs.Asked.{condition-below}
+use Rattle.abt_calls.proofs.SiteCalls.{condition-below}
 use Rattle.commons_caller.proofs.tests.asking.is_place.Goals as goal
 
 pub returns-then-mutex-x : goal.returns-then-mutex-x
