@@ -42,7 +42,7 @@ use Rattle.abt_simulation.proofs.OwnedLines.{Head, head-of}
 use Rattle.abt_check.specs.Replays.{MayBeDone, HasBegun, IsAfter, IsDone, ReplayValue, StandsFor}
 use Rattle.abt_check.specs.Turns.{CanMove, IsOfWorkload, MovesAs}
 use Rattle.abt_check.proofs.Moving.{next-declared, some-of}
-use Rattle.abt_check.proofs.Numbered.{numbered_at, numbered_set}
+use Rattle.abt_check.proofs.Numbered.{numbered-at, numbered-set}
 use Rattle.abt_check.proofs.Rounding.{begun, steps-begun}
 use Rattle.abt_check.proofs.Sites.{one-place, own-place}
 
@@ -81,7 +81,7 @@ can-move W Z n s S few l state =
 
 -- the stream that the code moves
 pub lane-is : (W : Parts) (S : State) (s : ℕ) (replay : ReplayValue) (lane : Held) → s < W.streams → StandsFor W S replay → lane ≡ get_or replay.lanes s lane → lane ≡ part_of W S s
-lane-is W S s replay lane l stands is = is ∙ numbered_at (part_of W S) W.streams s replay.lanes lane stands.lanes l
+lane-is W S s replay lane l stands is = is ∙ numbered-at (part_of W S) W.streams s replay.lanes lane stands.lanes l
 
 -- Sites.
 
@@ -166,7 +166,7 @@ module _ (W : Parts) (Z : List OrderShape) (n s : ℕ) (S : State) (replay : Rep
           rounds = λ r. rounds-by r T new event.own (steps-begun W Z n s (part_of W S s) w heard new steps (state.rounds s)) event.other_parts;
         };
         stands = record {
-          lanes = numbered_set (part_of W S) W.streams s replay.lanes new (part_of W T) stands.lanes l (sym event.own) event.other_parts;
+          lanes = numbered-set (part_of W S) W.streams s replay.lanes new (part_of W T) stands.lanes l (sym event.own) event.other_parts;
           objects = objects-by heard after e new T declared heeds event;
         };
         site = λ x is. declared x (steps-site W Z s (part_of W S s) w heard new steps ∙ is);

@@ -37,14 +37,14 @@ use Rattle.abt_check.specs.Turns.{IsOfWorkload, MovesAs}
 
 -- What may be asked.
 
-pub put_allowed : (W : Parts) (objects : ObjectsValue) (o : Owned) → AreObjects W objects → o.carried.home < length W.pools → Allows (object_at objects (site.Pool (pool_no o.carried.home))) (act.Put o)
-put_allowed W objects o are home = subst (λ (q : Object). Allows q (act.Put o)) (sym (are.1 (site.Pool (pool_no o.carried.home)) home)) tt
+pub put-allowed : (W : Parts) (objects : ObjectsValue) (o : Owned) → AreObjects W objects → o.carried.home < length W.pools → Allows (object_at objects (site.Pool (pool_no o.carried.home))) (act.Put o)
+put-allowed W objects o are home = subst (λ (q : Object). Allows q (act.Put o)) (sym (are.1 (site.Pool (pool_no o.carried.home)) home)) tt
 
-pub look_allowed : (W : Parts) (objects : ObjectsValue) (o : Owned) → AreObjects W objects → o.number < length W.units → Allows (object_at objects (site.Desk (unit_no o.number))) act.Look
-look_allowed W objects o are number = subst (λ (q : Object). Allows q act.Look) (sym (are.1 (site.Desk (unit_no o.number)) number)) tt
+pub look-allowed : (W : Parts) (objects : ObjectsValue) (o : Owned) → AreObjects W objects → o.number < length W.units → Allows (object_at objects (site.Desk (unit_no o.number))) act.Look
+look-allowed W objects o are number = subst (λ (q : Object). Allows q act.Look) (sym (are.1 (site.Desk (unit_no o.number)) number)) tt
 
-pub take_allowed : (W : Parts) (objects : ObjectsValue) (s : ℕ) (p : PoolNo) → AreObjects W objects → p.0 < length W.pools → Allows (object_at objects (site.Pool p)) (act.Take (side_of W s p.0))
-take_allowed W objects s p are declared =
+pub take-allowed : (W : Parts) (objects : ObjectsValue) (s : ℕ) (p : PoolNo) → AreObjects W objects → p.0 < length W.pools → Allows (object_at objects (site.Pool p)) (act.Take (side_of W s p.0))
+take-allowed W objects s p are declared =
     subst (λ (q : Object). Allows q (act.Take (side_of W s p.0))) (sym (are.1 (site.Pool p) declared)) ((takes-may-call W s p declared).allowed are.0)
 
 -- a unit that is there is the workload's
@@ -105,8 +105,8 @@ module _ (W : Parts) (Z : List OrderShape) (s : ℕ) (old : Held) (before : Obje
   no-round : (d : Due) → due_of W s old ≡ d → (d ≡ RoundDue → ⊥) → Moves W Z s old before made new after → MovesAs W Z s old before named (Some made) new after
   no-round d due other moves = (moves, λ r. absurd (other (sym due ∙ r)))
 
-  pub put_moves : (o : Owned) → old.tray ≡ o ∷ new.tray → new ≡ record old { tray = new.tray } → Woken before o made after → MovesAs W Z s old before named (Some made) new after
-  put_moves o tray others h =
+  pub put-moves : (o : Owned) → old.tray ≡ o ∷ new.tray → new ≡ record old { tray = new.tray } → Woken before o made after → MovesAs W Z s old before named (Some made) new after
+  put-moves o tray others h =
       let x = site.Pool (pool_no o.carried.home) in
       let is : h.call.0 ≡ act.Rested = put-rested o h.call.0 (answers-suit (object_at before x) (act.Put o) h.call.0 (object_at after x) h.call.1.gives) in
       let due : due_of W s old ≡ PutDue = put-due W s old o new.tray tray in
@@ -114,8 +114,8 @@ module _ (W : Parts) (Z : List OrderShape) (s : ℕ) (old : Held) (before : Obje
       no-round PutDue due (λ e. cc)
       (heard, subst (λ (w : What). Steps W Z s old w heard new) (sym h.made_is) (due, o, new.tray, tray, refl, refl, ap (λ (a : Answer). Some (x, act.Put o, a)) is, others), h.call.1)
 
-  pub look_moves : (o : Owned) (taken : Held) → old.tray ≡ [] → old.next ≡ Some o → taken ≡ record old { next = None } → Looks taken before o made new after → MovesAs W Z s old before named (Some made) new after
-  look_moves o taken tray next rest h =
+  pub look-moves : (o : Owned) (taken : Held) → old.tray ≡ [] → old.next ≡ Some o → taken ≡ record old { next = None } → Looks taken before o made new after → MovesAs W Z s old before named (Some made) new after
+  look-moves o taken tray next rest h =
       let due : due_of W s old ≡ LookDue = look-due W s old o tray next in
       let heard : Option Heard = Some (site.Desk (unit_no o.number), act.Look, act.Asks h.call.0 h.call.1) in
       no-round LookDue due (λ e. cc) (
@@ -125,24 +125,24 @@ module _ (W : Parts) (Z : List OrderShape) (s : ℕ) (old : Held) (before : Obje
         h.call.2,
       )
 
-  pub run_moves : (o : Owned) (taken : Held) → old.tray ≡ [] → old.next ≡ None → old.hand ≡ Some o → taken ≡ record old { hand = None } → Moves W Z s (in_hand o taken) before made new after → MovesAs W Z s old before named (Some made) new after
-  run_moves o taken tray next hand rest moves =
+  pub run-moves : (o : Owned) (taken : Held) → old.tray ≡ [] → old.next ≡ None → old.hand ≡ Some o → taken ≡ record old { hand = None } → Moves W Z s (in_hand o taken) before made new after → MovesAs W Z s old before named (Some made) new after
+  run-moves o taken tray next hand rest moves =
       let same : in_hand o taken ≡ old = ap (in_hand o) rest ∙ ap (λ (h : Option Owned). record old { hand = h }) (sym hand) in
       no-round (due_of_unit W s old.own.mark (body_at W o.number) o.carried.position) (hand-due W s old o tray next hand) (no-round-of-unit W s old.own.mark (body_at W o.number) o.carried.position)
       (subst (λ (held : Held). Moves W Z s held before made new after) same moves)
 
 -- a round at a pool that may be next
-pub visit_moves : (W : Parts) (Z : List OrderShape) (s : ℕ) (old : Held) (before : ObjectsValue) (named : What) (p : PoolNo) (made : What) (new : Held) (after : ObjectsValue) → due_of W s old ≡ RoundDue
+pub visit-moves : (W : Parts) (Z : List OrderShape) (s : ℕ) (old : Held) (before : ObjectsValue) (named : What) (p : PoolNo) (made : What) (new : Held) (after : ObjectsValue) → due_of W s old ≡ RoundDue
     → IsNextPool W Z old.own.top p.0 → visited named ≡ Some p.0 → Visits W s old before p made new after → MovesAs W Z s old before named (Some made) new after
-visit_moves W Z s old before named p (what.Miss q) new after due next is h =
+visit-moves W Z s old before named p (what.Miss q) new after due next is h =
     let same : q.0 ≡ p.0 = ap (λ (x : PoolNo). x.0) h.0 in
     let heard : Option Heard = Some (site.Pool p, act.Take (side_of W s p.0), act.Miss) in
     (subst (λ (x : PoolNo). Moves W Z s old before (what.Miss x) new after) (sym h.0) (heard, (due, next, refl, h.2), h.1), λ r. ap (λ n. Some n) same ∙ sym is)
-visit_moves W Z s old before named p (what.Take q u) new after due next is h =
+visit-moves W Z s old before named p (what.Take q u) new after due next is h =
     let same : q.0 ≡ p.0 = ap (λ (x : PoolNo). x.0) h.0 in
     let heard : Option Heard = Some (site.Pool p, act.Take (side_of W s p.0), act.Given h.1) in
     (subst (λ (x : PoolNo). Moves W Z s old before (what.Take x u) new after) (sym h.0) (heard, (due, next, h.1, sym (ap (λ (v : UnitNo). v.0) h.2), refl, h.4), h.3), λ r. ap (λ n. Some n) same ∙ sym is)
-visit_moves W Z s old before named p made new after due next is h = absurd h
+visit-moves W Z s old before named p made new after due next is h = absurd h
 
 -- the pools of a round
 pub next-declared : (W : Parts) (Z : List OrderShape) (f : Frame) (p : ℕ) → IsValid W → IsNextPool W Z f p → p < length W.pools

@@ -7,17 +7,17 @@ use Rattle.abt_check.specs.Lists.{AreMade, AreNumbered}
 
 module _ {A : Type 0} (item : ℕ → A) where
   -- what stands at a number
-  pub numbered_at : (n k : ℕ) (xs : List A) (d : A) → AreNumbered n item xs → k < n → get_or xs k d ≡ item k
-  numbered_at n k xs d h l = get_or_from_slice_get xs k (item k) d (h.own k l)
+  pub numbered-at : (n k : ℕ) (xs : List A) (d : A) → AreNumbered n item xs → k < n → get_or xs k d ≡ item k
+  numbered-at n k xs d h l = get_or_from_slice_get xs k (item k) d (h.own k l)
 
   -- another item in its place
-  pub numbered_set : (n s : ℕ) (xs : List A) (x : A) (other : ℕ → A) → AreNumbered n item xs → s < n → x ≡ other s → ((k : ℕ) → k ≢ s → other k ≡ item k) → AreNumbered n other (slice_set xs s x)
-  numbered_set n s xs x other h within is others =
+  pub numbered-set : (n s : ℕ) (xs : List A) (x : A) (other : ℕ → A) → AreNumbered n item xs → s < n → x ≡ other s → ((k : ℕ) → k ≢ s → other k ≡ item k) → AreNumbered n other (slice_set xs s x)
+  numbered-set n s xs x other h within is others =
       let many : length xs ≡ n = h.many in
       let long : length (slice_set xs s x) ≡ length xs = length-set xs s x in
       let here : s < length xs = omega arith in
       let same : (k : ℕ) → k ≡ s → get_or (slice_set xs s x) k x ≡ other k = λ k e. rw e (get_or-set_same xs s x x here ∙ is) in
-      let differ : (k : ℕ) → k < n → k ≢ s → get_or (slice_set xs s x) k x ≡ other k = λ k l d. get_or-set_other xs s k x x d ∙ (numbered_at n k xs x h l ∙ sym (others k d)) in
+      let differ : (k : ℕ) → k < n → k ≢ s → get_or (slice_set xs s x) k x ≡ other k = λ k l d. get_or-set_other xs s k x x d ∙ (numbered-at n k xs x h l ∙ sym (others k d)) in
       record {
         many = long ∙ many;
         own = λ k l.
@@ -31,12 +31,12 @@ module _ {A : Type 0} (item : ℕ → A) where
       }
 
 module _ {A E : Type 0} (makes : ℕ → Result A E → Type 0) where
-  pub made_none : AreMade makes 0 []
-  made_none = record { many = refl; own = λ k l. absurd (omega arith) }
+  pub made-none : AreMade makes 0 []
+  made-none = record { many = refl; own = λ k l. absurd (omega arith) }
 
   -- one item more
-  pub made_push : (n : ℕ) (xs ys : List A) (x : A) → ys ≡ xs ++ x ∷ [] → AreMade makes n xs → makes n (Ok x) → AreMade makes (n + 1) ys
-  made_push n xs ys x e h is =
+  pub made-push : (n : ℕ) (xs ys : List A) (x : A) → ys ≡ xs ++ x ∷ [] → AreMade makes n xs → makes n (Ok x) → AreMade makes (n + 1) ys
+  made-push n xs ys x e h is =
       let more : length (xs ++ x ∷ []) ≡ length xs + 1 = length_push xs x in
       let many : length xs ≡ n = h.many in
       rw e (record {
@@ -52,8 +52,8 @@ module _ {A E : Type 0} (makes : ℕ → Result A E → Type 0) where
       })
 
   -- items that can only be made so
-  pub made_numbered : (item : ℕ → A) (m n : ℕ) (xs : List A) → m ≡ n → ((k : ℕ) (x : A) → makes k (Ok x) → x ≡ item k) → AreMade makes m xs → AreNumbered n item xs
-  made_numbered item m n xs e so h = record {
+  pub made-numbered : (item : ℕ → A) (m n : ℕ) (xs : List A) → m ≡ n → ((k : ℕ) (x : A) → makes k (Ok x) → x ≡ item k) → AreMade makes m xs → AreNumbered n item xs
+  made-numbered item m n xs e so h = record {
     many = h.many ∙ e;
     own = λ k l. (let it = h.own k (subst (λ c. k < c) (sym e) l) in it.1 ∙ ap (λ y. Some y) (so k it.0 it.2));
   }

@@ -35,15 +35,15 @@ module _ (W : Parts) (p n : ℕ) (units more : List Owned) (before : units ≡ f
   all-more = filter_of_map_range_with_len_more (starts_in W p) (owned_at (start W)) 0 n n (omega arith)
 
   -- a unit that starts there
-  pub pool_more : (o : Owned) (b : Bool) → b ≡ is_some_of p (start_of W n) → b ≡ true → o ≡ owned_at (start W) n → more ≡ units ++ o ∷ [] → more ≡ filter (starts_in W p) (first_units W (n + 1))
-  pool_more o b is on unit pushed =
+  pub pool-more : (o : Owned) (b : Bool) → b ≡ is_some_of p (start_of W n) → b ≡ true → o ≡ owned_at (start W) n → more ≡ units ++ o ∷ [] → more ≡ filter (starts_in W p) (first_units W (n + 1))
+  pool-more o b is on unit pushed =
       let here : is_some_of p (start_of W n) ≡ true = sym is ∙ on in
       pushed ∙ (ap (λ (us : List Owned). us ++ o ∷ []) before ∙ (ap (λ (u : Owned). filter (starts_in W p) (first_units W n) ++ u ∷ []) unit
       ∙ (ap (λ b. filter (starts_in W p) (first_units W n) ++ cond b (owned_at (start W) n ∷ []) []) (sym here) ∙ sym all-more)))
 
   -- and one that does not
-  pub pool_same : (b : Bool) → b ≡ is_some_of p (start_of W n) → b ≡ false → more ≡ units → more ≡ filter (starts_in W p) (first_units W (n + 1))
-  pool_same b is off same =
+  pub pool-same : (b : Bool) → b ≡ is_some_of p (start_of W n) → b ≡ false → more ≡ units → more ≡ filter (starts_in W p) (first_units W (n + 1))
+  pool-same b is off same =
       let there : is_some_of p (start_of W n) ≡ false = sym is ∙ off in
       same ∙ (before ∙ (sym (append-nil (filter (starts_in W p) (first_units W n)))
       ∙ (ap (λ b. filter (starts_in W p) (first_units W n) ++ cond b (owned_at (start W) n ∷ []) []) (sym there) ∙ sym all-more)))

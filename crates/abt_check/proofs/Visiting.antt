@@ -157,8 +157,8 @@ module _ (W : Parts) (Z : List OrderShape) (f : Frame) (part : SchedPart) (pools
       let few : length (pools_of W f.sched) ≤ 8 = few-listed W f.sched valid in
       let a : length (pools_of W f.sched) ≡ length pools = ap (λ (xs : List ℕ). length xs) (sym pools-are) ∙ length-pool_numbers pools in omega arith
 
-pub is_closed : (ps qs : List PoolNo) (p : ℕ) (a : Bool) → a ≡ false → a ≡ list_any (is_pool p) ps → IsTrue a ↔ (Contains (pool_numbers ps) p × (Contains (pool_numbers qs) p → ⊥))
-is_closed ps qs p a off e = (λ t. cc, λ has. absurd (none-listed ps p (sym e ∙ off) has.0))
+pub is-closed : (ps qs : List PoolNo) (p : ℕ) (a : Bool) → a ≡ false → a ≡ list_any (is_pool p) ps → IsTrue a ↔ (Contains (pool_numbers ps) p × (Contains (pool_numbers qs) p → ⊥))
+is-closed ps qs p a off e = (λ t. cc, λ has. absurd (none-listed ps p (sym e ∙ off) has.0))
 
 -- what the code finds is whether the pool may be next
 pub one-visit : (W : Parts) (Z : List OrderShape) (f : Frame) (visit : Next) (q : PoolNo) (p : ℕ) → IsUnderWay W Z f → NextIs (choice_of W Z f.sched f.round) (length f.seen) visit → visit ≡ next.One q → IsTrue (q.0 == p) ↔ IsNextPool W Z f p

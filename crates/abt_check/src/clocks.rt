@@ -10,6 +10,7 @@ ghost use Rattle.abt_machine.specs.declared.events.Event.{Event};
 ghost use Rattle.abt_machine.specs.declared.events.Site.{Site};
 
 use abt_machine::{Event, Site, Want, What, Workload};
+use abt_plans::step_site;
 use std::alloc::Global;
 use std::marker::Model;
 
@@ -185,7 +186,7 @@ fn site_of(w: &Workload, event: Event) -> Option<Site>
         What::Miss(p) => Some(Site::Pool(p)),
         What::Take(p, _) => Some(Site::Pool(p)),
         What::Look(u) => Some(Site::Desk(u)),
-        What::Step(u, at, _) => w.site(event.stream, u, at),
+        What::Step(u, at, _) => step_site(w, event.stream, u, at),
         What::Put(_, p) => Some(Site::Pool(p)),
         What::End(u, _) => Some(Site::Desk(u)),
         What::Enter(_) => None,

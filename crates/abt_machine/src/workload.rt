@@ -1,16 +1,11 @@
 //! A workload and its parts.
 
-ghost use Rattle.std.specs.Prelude.{◌≡◌, ◌<◌, length, slice_get, Some, None, map, if◌then◌else◌};
+ghost use Rattle.std.specs.Prelude.{◌≡◌, ◌<◌, length, slice_get, Some, map};
 ghost use Rattle.abt_machine.specs.Valid.{IsValid};
 ghost use Rattle.abt_machine.specs.Workloads.{IsCondition, access_of, condition_number, main_of, mutex_of, op_at, pools_of, thing_at};
 ghost use Rattle.abt_machine.specs.Access.{may_put, may_take};
-ghost use Rattle.abt_machine.specs.Queues.{first};
-ghost use Rattle.abt_machine.specs.Sites.{first_pool, home_from};
-ghost use Rattle.abt_machine.specs.EventSites.{op_site, step_site};
 ghost use Rattle.abt_machine.specs.declared.numbers.PoolNo.{PoolNo};
-ghost use Rattle.abt_machine.specs.declared.events.Site.TheVariants as site;
 
-use crate::events::Site;
 use crate::items::{Items, Text};
 use crate::numbers::{ObjectNo, PoolNo, SchedNo, StreamNo, UnitNo};
 use crate::operations::{Access, Body, Kind, Op, Pools, Rule, Thing};
@@ -214,18 +209,6 @@ impl Workload {
         self.parts.may_take(s, p)
     }
 
-    /// The object that a unit's step at a position touches when a stream makes it, if it touches one.
-    pub fn site(&self, s: StreamNo, u: UnitNo, at: u32) -> Option<Site>
-        requires stream { s.0 < self.now.streams }
-        requires unit { u.0 < length self.now.units }
-        ensures { result ≡ step_site self.now s.0 u.0 at }
-    {
-        match self.op(u, at) {
-            Some(op) => self.op_site(s, u, op),
-            None => None,
-        }
-    }
-
     /// The mutex of a condition, and how many conditions of that mutex are declared before it.
     pub fn cond(&self, x: ObjectNo) -> (ObjectNo, u32)
         requires { IsCondition self.now x.0 }
@@ -302,64 +285,5 @@ impl Workload {
             Some(Thing::Cond(m)) => m,
             _ => x,
         }
-    }
-
-    // The pool that the main scheduler of a stream lists first.
-    fn first_pool(&self, s: StreamNo) -> PoolNo
-        ensures { result.0 ≡ first_pool self.now s.0 }
-    {
-        first_of(self.parts.listed(self.parts.main(s)))
-    }
-
-    // The object that an operation touches when a stream makes it.
-    fn op_site(&self, s: StreamNo, u: UnitNo, op: Op) -> Option<Site>
-        ensures { result ≡ op_site self.now s.0 u.0 op }
-    {
-        match op {
-            Op::Set(_)
-            | Op::Add(_)
-            | Op::Say(_)
-            | Op::Print
-            | Op::KeySet(_)
-            | Op::KeyGet(_)
-            | Op::Yield
-            | Op::Exit => None,
-            Op::YieldTo(_, p) => self.parts.may_take(s, p).then_some(Site::Pool(p)),
-            Op::Suspend => Some(Site::Desk(u)),
-            Op::Create(v, p) | Op::Migrate(v, p) | Op::Revive(v, p) => self.desk_by(s, p, v),
-            Op::MigrateTo(v, r) => self.desk_by(s, self.first_pool(r), v),
-            Op::Resume(v) | Op::Join(v) | Op::Cancel(v) | Op::Migratable(v, _) => {
-                Some(Site::Desk(v))
-            }
-            Op::Lock(x) | Op::TryLock(x) | Op::Unlock(x) | Op::Load(x) | Op::Store(x) => {
-                Some(Site::Monitor(x))
-            }
-            Op::CondWait(x) | Op::Signal(x) | Op::Broadcast(x) => {
-                Some(Site::Monitor(self.mutex(x)))
-            }
-            Op::EvWait(x) | Op::EvSet(x) | Op::EvReset(x) | Op::EvTest(x) => {
-                Some(Site::Eventual(x))
-            }
-            Op::FuWait(x) | Op::FuSet(x) | Op::FuReset(x) | Op::FuTest(x) => Some(Site::Future(x)),
-            Op::BarWait(x) => Some(Site::Barrier(x)),
-            Op::ReadLock(x) | Op::WriteLock(x) | Op::RwUnlock(x) | Op::RwLoad(x) | Op::RwStore(x) =>
-                Some(Site::Rw(x)),
-        }
-    }
-
-    // The desk of v, if the stream may put into the pool.
-    fn desk_by(&self, s: StreamNo, p: PoolNo, v: UnitNo) -> Option<Site>
-        ensures { result ≡ (if may_put self.now s.0 p.0 then Some (site.Desk v) else None) }
-    {
-        self.parts.may_put(s, p).then_some(Site::Desk(v))
-    }
-}
-
-fn first_of(pools: &[PoolNo]) -> PoolNo
-    ensures { result.0 ≡ home_from (first (map (λ (p : PoolNo). p.0) pools.now)) }
-{
-    match pools {
-        [p, ..] => *p,
-        [] => PoolNo(0),
     }
 }

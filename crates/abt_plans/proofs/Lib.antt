@@ -1,3 +1,4 @@
 pub mod Answered
 pub mod Listed
 pub mod Locals
+pub mod Sites

@@ -1,15 +1,16 @@
 -- Acts by what becomes of the unit in hand.
 use Rattle.abt_machine.specs.Acts.{Act, Answer}
 use Rattle.abt_machine.specs.Acts as asks
-use Rattle.abt_machine.specs.Plans.{Effect, to_condition, to_giver}
+use Rattle.abt_machine.specs.Plans.{Effect, to_caller, to_condition, to_giver, to_yielder}
 use Rattle.abt_machine.specs.Values.{Owned}
 use Rattle.abt_plans.specs.declared.acts.Asking.{Asking}
 use Rattle.abt_plans.specs.declared.acts.Asking.TheVariants as asking
 use Rattle.abt_plans.specs.declared.acts.Giving.{Giving}
 use Rattle.abt_plans.specs.declared.acts.Giving.TheVariants as giving
 
--- the act of a unit that stays in the hand
+-- the act that does not take the unit with it
 abbrev pub asked : Asking → Act
+asked (asking.Remove v) = asks.Remove v.0
 asked (asking.Create p) = asks.Create p.0
 asked asking.AskCancel = asks.AskCancel
 asked (asking.AskMigrate p) = asks.AskMigrate p.0
@@ -26,6 +27,11 @@ asked (asking.Fill n) = asks.Fill n
 asked asking.Reset = asks.Reset
 asked asking.Test = asks.Test
 asked (asking.RwUnlock u) = asks.RwUnlock u.0
+
+-- what the answer to such an act brings to the unit: it yields to one that it takes out of a pool
+abbrev pub told : Asking → Owned → Answer → Effect
+told (asking.Remove v) = to_yielder
+told a = to_caller
 
 -- the act that takes the unit with it
 abbrev pub given : Giving → Owned → Act

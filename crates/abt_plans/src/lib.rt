@@ -9,5 +9,5 @@ mod pools;
 
 pub use acts::{Asking, Giving};
 pub use dues::{HandDue, Mark, hand_due};
-pub use plans::{Plan, planned};
+pub use plans::{Plan, planned, step_site};
 pub use pools::side;

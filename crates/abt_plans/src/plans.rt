@@ -1,16 +1,17 @@
 //! What a stream does at an operation, by the shape of the call that it makes.
 
-ghost use Rattle.std.specs.Prelude.{◌<◌};
+ghost use Rattle.std.specs.Prelude.{◌≡◌, ◌<◌, length};
+ghost use Rattle.abt_machine.specs.EventSites.{step_site};
 ghost use Rattle.abt_machine.specs.Operations.{IsDeclared};
 ghost use Rattle.abt_machine.specs.Valid.{IsValid};
-ghost use Rattle.abt_plans.specs.Shapes.{PlansFor};
+ghost use Rattle.abt_plans.specs.Shapes.{PlansFor, called_site};
 
 use crate::acts::{Asking, Giving};
 use crate::pools::first_pool;
 use abt_machine::{Op, Site, StreamNo, UnitNo, Workload};
 
-/// What an operation asks of the stream: a local step, a yield, an exit, a refusal without a call, a call by a unit that stays
-/// in the hand, a call that takes the unit with it, or a yield to another unit.
+/// What an operation asks of the stream: a local step, a yield, an exit, a refusal without a call, a call that leaves the unit
+/// to the stream, or a call that takes the unit with it.
 #[derive(Clone, Copy, Debug, PartialEq, Eq)]
 pub enum Plan {
     Own,
@@ -19,7 +20,31 @@ pub enum Plan {
     Deny,
     Ask(Site, Asking),
     Give(Site, Giving),
-    YieldTo(Site, UnitNo),
+}
+
+impl Plan {
+    // The object that it calls, if it calls one.
+    fn site(self) -> Option<Site>
+        ensures { result ≡ called_site self }
+    {
+        match self {
+            Plan::Own | Plan::Yield | Plan::Exit | Plan::Deny => None,
+            Plan::Ask(x, _) | Plan::Give(x, _) => Some(x),
+        }
+    }
+}
+
+/// The object that the step of unit `u` at position `at` touches when stream `s` makes it, if it touches one.
+pub fn step_site(w: &Workload, s: StreamNo, u: UnitNo, at: u32) -> Option<Site>
+    requires stream { s.0 < w.now.streams }
+    requires unit { u.0 < length w.now.units }
+    ensures { result ≡ step_site w.now s.0 u.0 at }
+{
+    w.known();
+    match w.op(u, at) {
+        Some(op) => planned(w, s, op, u, 0).site(),
+        None => None,
+    }
 }
 
 /// What stream `s` does at operation `op` of the unit in its hand, which has this number and accumulator.
@@ -36,7 +61,7 @@ pub fn planned(w: &Workload, s: StreamNo, op: Op, unit: UnitNo, acc: u64) -> Pla
         Op::Yield => Plan::Yield,
         Op::YieldTo(v, p) => {
             if w.may_take(s, p) {
-                Plan::YieldTo(Site::Pool(p), v)
+                Plan::Ask(Site::Pool(p), Asking::Remove(v))
             } else {
                 Plan::Deny
             }

@@ -1,5 +1,5 @@
 -- Which answers come.
-pub use Rattle.abt_plans.proofs.Answered.{bringing, for_caller, for_giver, for_taker, for_yielder}
+pub use Rattle.abt_plans.proofs.Answered.{bringing, for-caller, for_giver, for_taker, for-yielder, tells-caller}
 use Rattle.abt_machine.specs.Acts.{Act, Answer}
 use Rattle.abt_machine.specs.declared.events.Site.{Site}
 use Rattle.abt_calls.specs.Suits.{Suits}

@@ -23,12 +23,12 @@ use Rattle.abt_replay.specs.Events.{AreObjects, Ends, Entered, Moves, Stepped, i
 use Rattle.abt_replay.specs.Objects.{ObjectsValue, object_at}
 
 -- a unit's desk may be asked to end it
-pub end_allowed : (W : Parts) (objects : ObjectsValue) (o : Owned) (cause : Cause) → AreObjects W objects → o.number < length W.units → Allows (object_at objects (site.Desk (unit_no o.number))) (act.End o cause)
-end_allowed W objects o cause are number = subst (λ (q : Object). Allows q (act.End o cause)) (sym (are.1 (site.Desk (unit_no o.number)) number)) tt
+pub end-allowed : (W : Parts) (objects : ObjectsValue) (o : Owned) (cause : Cause) → AreObjects W objects → o.number < length W.units → Allows (object_at objects (site.Desk (unit_no o.number))) (act.End o cause)
+end-allowed W objects o cause are number = subst (λ (q : Object). Allows q (act.End o cause)) (sym (are.1 (site.Desk (unit_no o.number)) number)) tt
 
 -- the operation that is due
-pub due_op : (W : Parts) (s : ℕ) (m : Mark) (o : Owned) (d : HandDue) (a : Op) → DueIs W s m o.number o.carried.position d → d ≡ due.Step a → op_at W o.number o.carried.position ≡ Some a
-due_op W s m o d a h is = (subst (DueIs W s m o.number o.carried.position) is h).1
+pub due-op : (W : Parts) (s : ℕ) (m : Mark) (o : Owned) (d : HandDue) (a : Op) → DueIs W s m o.number o.carried.position d → d ≡ due.Step a → op_at W o.number o.carried.position ≡ Some a
+due-op W s m o d a h is = (subst (DueIs W s m o.number o.carried.position) is h).1
 
 -- what is due for the unit in hand is what is due for the stream
 hand-due : (W : Parts) (s : ℕ) (old : Held) (o : Owned) (d : Due) → old.tray ≡ [] → old.next ≡ None → due_of_unit W s old.own.mark (body_at W o.number) o.carried.position ≡ d → due_of W s (in_hand o old) ≡ d
@@ -37,14 +37,14 @@ hand-due W s old o d tray next e =
     (ap (λ (n : Option Owned). due_by {X = Owned} {Y = Owned} W s old.own [] n (Some (number_and_position o))) next ∙ e)
 
 module _ (W : Parts) (Z : List OrderShape) (s : ℕ) (old : Held) (before : ObjectsValue) (o : Owned) (d : HandDue) (made : What) (new : Held) (after : ObjectsValue) (tray : old.tray ≡ []) (next : old.next ≡ None) (dues : DueIs W s old.own.mark o.number o.carried.position d) where
-  pub end_moves : (cause : Cause) → d ≡ due.End cause → Ends old before o cause made new after → Moves W Z s (in_hand o old) before made new after
-  end_moves cause is h =
+  pub end-moves : (cause : Cause) → d ≡ due.End cause → Ends old before o cause made new after → Moves W Z s (in_hand o old) before made new after
+  end-moves cause is h =
       let e = hand-due W s old o (EndDue cause) tray next (subst (DueIs W s old.own.mark o.number o.carried.position) is dues) in
       let heard : Option Heard = Some (site.Desk (unit_no o.number), act.End o cause, act.Woke h.call.0) in
       (heard, subst (λ (w : What). Steps W Z s (in_hand o old) w heard new) (sym h.made_is) (e, o, refl, refl, h.call.0, refl, h.call.2), h.call.1)
 
-  pub enter_moves : (g : SchedNo) → d ≡ due.Enter g → Entered g.0 old o made new → after ≡ before → Moves W Z s (in_hand o old) before made new after
-  enter_moves g is h stays =
+  pub enter-moves : (g : SchedNo) → d ≡ due.Enter g → Entered g.0 old o made new → after ≡ before → Moves W Z s (in_hand o old) before made new after
+  enter-moves g is h stays =
       let both = subst (DueIs W s old.own.mark o.number o.carried.position) is dues in
       let e = hand-due W s old o EnterDue tray next both.0 in
       let same : sched_of (body_at W o.number) ≡ g.0 = ap sched_of both.1 in (
@@ -54,10 +54,10 @@ module _ (W : Parts) (Z : List OrderShape) (s : ℕ) (old : Held) (before : Obje
         stays,
       )
 
-  pub step_moves : (a : Op) → d ≡ due.Step a → Stepped W s a o old before made new after → Moves W Z s (in_hand o old) before made new after
-  step_moves a is h =
+  pub step-moves : (a : Op) → d ≡ due.Step a → Stepped W s a o old before made new after → Moves W Z s (in_hand o old) before made new after
+  step-moves a is h =
       let both = subst (DueIs W s old.own.mark o.number o.carried.position) is dues in
       let e = hand-due W s old o StepDue tray next both.0 in
       (h.2.0, subst (λ (w : What). Steps W Z s (in_hand o old) w h.2.0 new) (sym h.1) (e, o, refl, refl, refl, a, both.1, h.2.1), h.2.2)
 
-pub ruleset running = (end_allowed, due_op, end_moves, enter_moves, step_moves)
+pub ruleset running = (end-allowed, due-op, end-moves, enter-moves, step-moves)

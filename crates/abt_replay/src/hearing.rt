@@ -10,7 +10,7 @@ ghost use Rattle.abt_plans.specs.Hearing.{IsForCaller, IsForGiver};
 use crate::acts::{Act, Answer};
 use crate::unit::Unit;
 use abt_machine::{Code, Want};
-use abt_plans::{Asking, Giving};
+use abt_plans::{Asking, Giving, act_of_asking, act_of_giving};
 use std::collections::VecDeque;
 
 // How the call of a unit went.
@@ -64,44 +64,18 @@ pub(crate) fn hear(unit: &mut Unit, tray: &mut VecDeque<Unit>, answer: Answer) -
     }
 }
 
-/// The act of a unit that stays in the hand.
+/// The act that does not take the unit with it.
 pub(crate) fn ask(asking: Asking) -> Act
     ensures { act_of result ≡ asked asking }
 {
-    match asking {
-        Asking::Create(p) => Act::Create(p),
-        Asking::AskCancel => Act::AskCancel,
-        Asking::AskMigrate(p) => Act::AskMigrate(p),
-        Asking::Resume => Act::Resume,
-        Asking::Revive(p) => Act::Revive(p),
-        Asking::SetMigratable(allowed) => Act::SetMigratable(allowed),
-        Asking::TryLock(u) => Act::TryLock(u),
-        Asking::Unlock(u) => Act::Unlock(u),
-        Asking::Load(u) => Act::Load(u),
-        Asking::Store(u, n) => Act::Store(u, n),
-        Asking::Signal(k) => Act::Signal(k),
-        Asking::Broadcast(k) => Act::Broadcast(k),
-        Asking::Fill(n) => Act::Fill(n),
-        Asking::Reset => Act::Reset,
-        Asking::Test => Act::Test,
-        Asking::RwUnlock(u) => Act::RwUnlock(u),
-    }
+    act_of_asking!(asking, Act)
 }
 
 /// The act that takes the unit with it.
 pub(crate) fn give(giving: Giving, unit: Unit) -> Act
     ensures { act_of result ≡ given giving unit }
 {
-    match giving {
-        Giving::Suspend => Act::Suspend(unit),
-        Giving::Join => Act::Join(unit),
-        Giving::Lock => Act::Lock(unit),
-        Giving::Wait(k) => Act::Wait(k, unit),
-        Giving::Await => Act::Await(unit),
-        Giving::Arrive => Act::Arrive(unit),
-        Giving::ReadLock => Act::ReadLock(unit),
-        Giving::WriteLock => Act::WriteLock(unit),
-    }
+    act_of_giving!(giving, unit, Act)
 }
 
 // The unit notes why it was refused, and goes on.

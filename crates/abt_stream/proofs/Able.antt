@@ -24,13 +24,13 @@ use Rattle.abt_stream.specs.Streams.{IsOrderly, StreamValue}
 use Rattle.abt_stream.specs.Turned.{IsReady}
 
 -- no order is held while a unit runs
-pub no_order : (order : List PoolNo) (unit : Box UnitValue Global) → IsOrderly order (work.Running unit) → order ≡ []
-no_order [] unit h = refl
-no_order (p ∷ ps) unit h = absurd h
+pub no-order : (order : List PoolNo) (unit : Box UnitValue Global) → IsOrderly order (work.Running unit) → order ≡ []
+no-order [] unit h = refl
+no-order (p ∷ ps) unit h = absurd h
 
-pub no_order_taken : (order : List PoolNo) (unit : Box UnitValue Global) → IsOrderly order (work.Taken unit) → order ≡ []
-no_order_taken [] unit h = refl
-no_order_taken (p ∷ ps) unit h = absurd h
+pub no-order-taken : (order : List PoolNo) (unit : Box UnitValue Global) → IsOrderly order (work.Taken unit) → order ≡ []
+no-order-taken [] unit h = refl
+no-order-taken (p ∷ ps) unit h = absurd h
 
 -- the operation of a unit is declared
 pub op_declared : (W : Parts) (hand : Option Owned) (a : Op) → IsValid W → IfHeld hand (Fits W) → IfHeld hand (λ o. op_at W o.number o.carried.position ≡ Some a) → IsDeclared W a
@@ -42,9 +42,9 @@ pub sched_declared : (W : Parts) (hand : Option Owned) (g : SchedNo) → IsValid
 sched_declared W None g valid fits at = absurd fits
 sched_declared W (Some o) g valid fits at = sched-declared W o.number g valid at
 
-pub can_step : (W : Parts) (s : StreamValue) (hand : Option Owned) → IsValid W → s.held.hand ≡ hand → IfHeld hand (Fits W) → IsReady W s → steps_in s.log < s.budget → CanStep s
-can_step W s None valid is fits ready few = absurd fits
-can_step W s (Some o) valid is fits ready few = record {
+pub can-step : (W : Parts) (s : StreamValue) (hand : Option Owned) → IsValid W → s.held.hand ≡ hand → IfHeld hand (Fits W) → IsReady W s → steps_in s.log < s.budget → CanStep s
+can-step W s None valid is fits ready few = absurd fits
+can-step W s (Some o) valid is fits ready few = record {
   hand = subst (λ (h : Option Owned). IfHeld h (λ o. o.carried.position < 2 ^ 32 - 1)) (sym is) (let low = position-le W o valid fits in omega arith);
   few = few;
   events = ready.events;
@@ -55,15 +55,15 @@ can_step W s (Some o) valid is fits ready few = record {
 first-fits : (W : Parts) (os rest : List Owned) (o : Owned) → All (Fits W) (o ∷ rest) → Fits W o
 first-fits W os rest o all = All-head (Fits W) o rest all
 
-pub hand_fits : (W : Parts) (s : StreamValue) (hand : Option Owned) → s.held.hand ≡ hand → All (Fits W) (units_of s.held) → hand ≢ None → IfHeld hand (Fits W)
-hand_fits W s None is all some = absurd (some refl)
-hand_fits W s (Some o) is all some =
+pub hand-fits : (W : Parts) (s : StreamValue) (hand : Option Owned) → s.held.hand ≡ hand → All (Fits W) (units_of s.held) → hand ≢ None → IfHeld hand (Fits W)
+hand-fits W s None is all some = absurd (some refl)
+hand-fits W s (Some o) is all some =
     let there = subst (λ (h : Option Owned). All (Fits W) (((unit_in h ++ unit_in s.held.next) ++ s.held.tray) ++ s.held.framed)) is all in
     All-head (Fits W) o ((unit_in s.held.next ++ s.held.tray) ++ s.held.framed) there
 
-pub next_fits : (W : Parts) (s : StreamValue) (next : Option Owned) → s.held.hand ≡ None → s.held.next ≡ next → All (Fits W) (units_of s.held) → next ≢ None → IfHeld next (Fits W)
-next_fits W s None hand is all some = absurd (some refl)
-next_fits W s (Some o) hand is all some =
+pub next-fits : (W : Parts) (s : StreamValue) (next : Option Owned) → s.held.hand ≡ None → s.held.next ≡ next → All (Fits W) (units_of s.held) → next ≢ None → IfHeld next (Fits W)
+next-fits W s None hand is all some = absurd (some refl)
+next-fits W s (Some o) hand is all some =
     let one = subst (λ (h : Option Owned). All (Fits W) (((unit_in h ++ unit_in s.held.next) ++ s.held.tray) ++ s.held.framed)) hand all in
     let there = subst (λ (n : Option Owned). All (Fits W) (((unit_in None ++ unit_in n) ++ s.held.tray) ++ s.held.framed)) is one in
     All-head (Fits W) o (s.held.tray ++ s.held.framed) there
@@ -72,8 +72,8 @@ in-middle : (F : Owned → Type 0) (xs : List Owned) (o : Owned) (os ys : List O
 in-middle F [] o os ys all = All-head F o (os ++ ys) all
 in-middle F (x ∷ xs) o os ys all = in-middle F xs o os ys (All-tail F x ((xs ++ o ∷ os) ++ ys) all)
 
-pub tray_fits : (W : Parts) (s : StreamValue) (tray : List Owned) → s.held.tray ≡ tray → All (Fits W) (units_of s.held) → tray ≢ [] → IfFirst tray (λ o os. Fits W o)
-tray_fits W s [] is all some = absurd (some refl)
-tray_fits W s (o ∷ os) is all some =
+pub tray-fits : (W : Parts) (s : StreamValue) (tray : List Owned) → s.held.tray ≡ tray → All (Fits W) (units_of s.held) → tray ≢ [] → IfFirst tray (λ o os. Fits W o)
+tray-fits W s [] is all some = absurd (some refl)
+tray-fits W s (o ∷ os) is all some =
     in-middle (Fits W) (unit_in s.held.hand ++ unit_in s.held.next) o os s.held.framed
     (subst (λ (t : List Owned). All (Fits W) (((unit_in s.held.hand ++ unit_in s.held.next) ++ t) ++ s.held.framed)) is all)

@@ -47,12 +47,12 @@ module _ {P : Type 0} (moves : P → Site → ℕ → Act → Told → P → Typ
   unmoved : new ≡ old → FitsStream W new
   unmoved is = subst (λ (s : StreamValue). FitsStream W s) (sym is) fits
 
-  pub turn_fits : (t : Turn) → Turned (Heeds moves V) W [] old before t new after → FitsStream W new
-  turn_fits turn.Stepped h = made-fits (what.Step h.0 h.1 h.2) h.3
-  turn_fits turn.EmptyRound h = made-fits (what.Miss h.0) h.1
-  turn_fits turn.Moved h = made-fits h.0 h.1
-  turn_fits turn.Spent h = unmoved h.1
-  turn_fits turn.Worn h = unmoved h.0
+  pub turn-fits : (t : Turn) → Turned (Heeds moves V) W [] old before t new after → FitsStream W new
+  turn-fits turn.Stepped h = made-fits (what.Step h.0 h.1 h.2) h.3
+  turn-fits turn.EmptyRound h = made-fits (what.Miss h.0) h.1
+  turn-fits turn.Moved h = made-fits h.0 h.1
+  turn-fits turn.Spent h = unmoved h.1
+  turn-fits turn.Worn h = unmoved h.0
 
   -- the unit that a pool answered with
   given-fits : (o : Owned) → Have (Fits V) (IsPoolOf V) (contents_answered (act.Given o)) → Fits W o
@@ -77,6 +77,6 @@ module _ {P : Type 0} (moves : P → Site → ℕ → Act → Told → P → Typ
   visited-fits p answer t next hand have h = absurd h
 
   -- whatever round the visit was of
-  pub visit_fits : (p : PoolNo) (d : Side) (t : Turn) → old.held.next ≡ None → old.held.hand ≡ None → VisitBy (Heeds moves V) old before p d t new after → FitsStream W new
-  visit_fits p d t next hand (inl worn) = unmoved worn.1.same
-  visit_fits p d t next hand (inr h) = visited-fits p h.0 t next hand h.1.1 h.2
+  pub visit-fits : (p : PoolNo) (d : Side) (t : Turn) → old.held.next ≡ None → old.held.hand ≡ None → VisitBy (Heeds moves V) old before p d t new after → FitsStream W new
+  visit-fits p d t next hand (inl worn) = unmoved worn.1.same
+  visit-fits p d t next hand (inr h) = visited-fits p h.0 t next hand h.1.1 h.2

@@ -120,8 +120,8 @@ shapes-none W Z new order = λ holds. absurd (holds order)
 -- The events.
 
 -- no event
-pub keeps_same : (W : Parts) (old new : StreamValue) → new ≡ old → Keeps W old new
-keeps_same W old new same = subst (λ (s : StreamValue). Keeps W old s) (sym same) (record { number = refl; budget = refl; frames = λ fits. fits; shapes = λ Z shaped. shaped })
+pub keeps-same : (W : Parts) (old new : StreamValue) → new ≡ old → Keeps W old new
+keeps-same W old new same = subst (λ (s : StreamValue). Keeps W old s) (sym same) (record { number = refl; budget = refl; frames = λ fits. fits; shapes = λ Z shaped. shaped })
 
 module _ (W : Parts) (old new : StreamValue) (w : What) (n : ℕ) (rooms : Rooms) where
   abbrev written : Event
@@ -138,12 +138,12 @@ module _ (W : Parts) (old new : StreamValue) (w : What) (n : ℕ) (rooms : Rooms
   })
 
   -- an event that leaves the frames alone
-  pub keeps_holding : (held : Held) → new ≡ wrote (holding old held) w n rooms → Keeps W old new
-  keeps_holding held = kept (wrote (holding old held) w n rooms) refl refl refl refl refl refl refl
+  pub keeps-holding : (held : Held) → new ≡ wrote (holding old held) w n rooms → Keeps W old new
+  keeps-holding held = kept (wrote (holding old held) w n rooms) refl refl refl refl refl refl refl
 
   -- a missed pool, after which the round goes on
-  pub keeps_passed : (p : PoolNo) → new ≡ wrote (passed old p) w n rooms → Keeps W old new
-  keeps_passed p = kept (wrote (passed old p) w n rooms) refl refl refl refl refl refl refl
+  pub keeps-passed : (p : PoolNo) → new ≡ wrote (passed old p) w n rooms → Keeps W old new
+  keeps-passed p = kept (wrote (passed old p) w n rooms) refl refl refl refl refl refl refl
 
   -- a stream whose round has ended
   ended : (s : StreamValue) → old.order ≢ [] → s.number ≡ old.number → s.budget ≡ old.budget → s.log ≡ old.log ++ written ∷ [] → s.top.scheduler ≡ old.top.scheduler → s.top.round ≡ suc old.top.round
@@ -156,16 +156,16 @@ module _ (W : Parts) (old new : StreamValue) (w : What) (n : ℕ) (rooms : Rooms
   })
 
   -- a taken unit, which ends the round
-  pub keeps_took : (o : Owned) → old.order ≢ [] → new ≡ wrote (took old o) w n rooms → Keeps W old new
-  keeps_took o some = ended (wrote (took old o) w n rooms) some refl refl refl refl refl refl refl
+  pub keeps-took : (o : Owned) → old.order ≢ [] → new ≡ wrote (took old o) w n rooms → Keeps W old new
+  keeps-took o some = ended (wrote (took old o) w n rooms) some refl refl refl refl refl refl refl
 
   -- a missed pool, which ends the round empty
-  pub keeps_emptied : old.order ≢ [] → new ≡ wrote (emptied old) w n rooms → Keeps W old new
-  keeps_emptied some = ended (wrote (emptied old) w n rooms) some refl refl refl refl refl refl refl
+  pub keeps-emptied : old.order ≢ [] → new ≡ wrote (emptied old) w n rooms → Keeps W old new
+  keeps-emptied some = ended (wrote (emptied old) w n rooms) some refl refl refl refl refl refl refl
 
   -- a frame that is entered
-  pub keeps_entered : (g : ℕ) (o : Owned) → IsFresh W g new.top → old.order ≡ [] → new ≡ wrote (entering g old new.top o) w n rooms → Keeps W old new
-  keeps_entered g o fresh none same =
+  pub keeps-entered : (g : ℕ) (o : Owned) → IsFresh W g new.top → old.order ≡ [] → new ≡ wrote (entering g old new.top o) w n rooms → Keeps W old new
+  keeps-entered g o fresh none same =
       let order : new.order ≡ old.order = ap (λ (s : StreamValue). s.order) same in
       record {
         number = ap (λ (s : StreamValue). s.number) same;
@@ -175,8 +175,8 @@ module _ (W : Parts) (old new : StreamValue) (w : What) (n : ℕ) (rooms : Rooms
       }
 
 -- a frame that is left
-pub keeps_left : (W : Parts) (old new : StreamValue) (os : List Owned) (o : Owned) → Leaves old new os o → Keeps W old new
-keeps_left W old new os o leaves =
+pub keeps-left : (W : Parts) (old new : StreamValue) (os : List Owned) (o : Owned) → Leaves old new os o → Keeps W old new
+keeps-left W old new os o leaves =
     let order : new.order ≡ [] = ap (λ (s : StreamValue). s.order) leaves.same in
     record {
       number = ap (λ (s : StreamValue). s.number) leaves.same;

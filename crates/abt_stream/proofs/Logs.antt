@@ -17,9 +17,9 @@ rises n clock (f ∷ log) e rising past above lower =
     (rising.0, rises f.stamp clock log e rising.1 (All-tail (λ (f : Event). f.stamp ≤ clock) f log past) above (omega arith))
 
 -- the log with an event whose stamp is above the clock
-pub log_written : (number : StreamNo) (clock stamp : ℕ) (log : List Event) (w : What) → IsLog number clock log → clock < stamp
+pub log-written : (number : StreamNo) (clock stamp : ℕ) (log : List Event) (w : What) → IsLog number clock log → clock < stamp
     → IsLog number stamp (log ++ record { stamp = stamp; stream = number; what = w } ∷ [])
-log_written number clock stamp log w is above = record {
+log-written number clock stamp log w is above = record {
   rises = rises 0 clock log (record { stamp = stamp; stream = number; what = w }) is.rises is.past above (omega arith);
   own = All-push (λ (e : Event). e.stream ≡ number) log (record { stamp = stamp; stream = number; what = w }) is.own refl;
   past = All-push (λ (e : Event). e.stamp ≤ stamp) log (record { stamp = stamp; stream = number; what = w })
@@ -32,14 +32,14 @@ log_written number clock stamp log w is above = record {
 counted : (log : List Event) (e : Event) → steps_in (log ++ e ∷ []) ≡ steps_in log + cond (is_step e.what) 1 0
 counted log e = sum_by_push (λ (f : Event). cond (is_step f.what) 1 0) log e
 
-pub no_more : (log : List Event) (e : Event) → is_step e.what ≡ false → steps_in (log ++ e ∷ []) ≡ steps_in log
-no_more log e h =
+pub no-more : (log : List Event) (e : Event) → is_step e.what ≡ false → steps_in (log ++ e ∷ []) ≡ steps_in log
+no-more log e h =
     let more = counted log e in
     let none : ◌≡◌ {A = ℕ} (cond (is_step e.what) 1 0) 0 = ap (λ (b : Bool). cond {A = ℕ} b 1 0) h in
     omega arith
 
-pub one_more : (log : List Event) (e : Event) → is_step e.what ≡ true → steps_in (log ++ e ∷ []) ≡ suc (steps_in log)
-one_more log e h =
+pub one-more : (log : List Event) (e : Event) → is_step e.what ≡ true → steps_in (log ++ e ∷ []) ≡ suc (steps_in log)
+one-more log e h =
     let more = counted log e in
     let one : ◌≡◌ {A = ℕ} (cond (is_step e.what) 1 0) 1 = ap (λ (b : Bool). cond {A = ℕ} b 1 0) h in
     omega arith

@@ -36,42 +36,42 @@ module _ {P : Type 0} (moves : P → Site → ℕ → Act → Told → P → Typ
             (subst (λ k. new ≡ wrote (holding old held) (step_of o c) k new.rooms) (sym clock) same),
       )
 
-  not_performed : (plan : Plan) → plan_of W old.number.0 a o ≡ plan → new ≡ old → NotPerformed moves old before plan after → OpBy moves W old before a turn.Worn new after o
-  not_performed plan planned same not = (same, subst (λ (p : Plan). NotPerformed moves old before p after) (sym planned) not)
+  not-performed : (plan : Plan) → plan_of W old.number.0 a o ≡ plan → new ≡ old → NotPerformed moves old before plan after → OpBy moves W old before a turn.Worn new after o
+  not-performed plan planned same not = (same, subst (λ (p : Plan). NotPerformed moves old before p after) (sym planned) not)
 
   -- by itself
-  pub op_alone : (e : Effect) (t : Turn) → plan_of W old.number.0 a o ≡ Does e → StepsAlone old e t new o → after ≡ before → OpBy moves W old before a t new after o
-  op_alone e turn.Stepped planned same stays = performed (Does e) (stepped old.held e) None e.code (suc old.clock) planned (refl, refl, refl) (refl, stays) same
-  op_alone e turn.Worn planned worn stays = not_performed (Does e) planned worn.1 (worn.0, stays)
-  op_alone e t planned h stays = absurd h
+  pub op-alone : (e : Effect) (t : Turn) → plan_of W old.number.0 a o ≡ Does e → StepsAlone old e t new o → after ≡ before → OpBy moves W old before a t new after o
+  op-alone e turn.Stepped planned same stays = performed (Does e) (stepped old.held e) None e.code (suc old.clock) planned (refl, refl, refl) (refl, stays) same
+  op-alone e turn.Worn planned worn stays = not-performed (Does e) planned worn.1 (worn.0, stays)
+  op-alone e t planned h stays = absurd h
 
   -- by a call
-  pub op_called : (x : Site) (act : Act) (brings : Answer → Effect) (t : Turn) → plan_of W old.number.0 a o ≡ Calls x act brings
+  pub op-called : (x : Site) (act : Act) (brings : Answer → Effect) (t : Turn) → plan_of W old.number.0 a o ≡ Calls x act brings
       → StepsBy moves old before x act brings t new after o → OpBy moves W old before a t new after o
-  op_called x act brings turn.Stepped planned h =
+  op-called x act brings turn.Stepped planned h =
       let e = brings h.0 in
       performed (Calls x act brings) (stepped old.held e) (Some (x, act, h.0)) e.code new.clock planned (h.0, refl, refl, refl) h.1.went h.1.same
-  op_called x act brings turn.Worn planned h = not_performed (Calls x act brings) planned h.same h.went
-  op_called x act brings t planned h = absurd h
+  op-called x act brings turn.Worn planned h = not-performed (Calls x act brings) planned h.same h.went
+  op-called x act brings t planned h = absurd h
 
-  pub op_exits : (t : Turn) → plan_of W old.number.0 a o ≡ Exits (moved o) → ExitBy old t new o → after ≡ before → OpBy moves W old before a t new after o
-  op_exits turn.Stepped planned same stays = performed (Exits (moved o)) (exited old.held (moved o)) None code.Ok (suc old.clock) planned (refl, refl, refl) (refl, stays) same
-  op_exits turn.Worn planned worn stays = not_performed (Exits (moved o)) planned worn.1 (worn.0, stays)
-  op_exits t planned h stays = absurd h
+  pub op-exits : (t : Turn) → plan_of W old.number.0 a o ≡ Exits (moved o) → ExitBy old t new o → after ≡ before → OpBy moves W old before a t new after o
+  op-exits turn.Stepped planned same stays = performed (Exits (moved o)) (exited old.held (moved o)) None code.Ok (suc old.clock) planned (refl, refl, refl) (refl, stays) same
+  op-exits turn.Worn planned worn stays = not-performed (Exits (moved o)) planned worn.1 (worn.0, stays)
+  op-exits t planned h stays = absurd h
 
-  pub op_own : (t : Turn) → op_at W o.number o.carried.position ≡ Some a → IsSome (after_local a o.carried) → OwnBy W old t new o → after ≡ before → OpBy moves W old before a t new after o
-  op_own turn.Stepped at local h stays =
+  pub op-own : (t : Turn) → op_at W o.number o.carried.position ≡ Some a → IsSome (after_local a o.carried) → OwnBy W old t new o → after ≡ before → OpBy moves W old before a t new after o
+  op-own turn.Stepped at local h stays =
       let step : local_step_at (Some a) o ≡ Some h.0 = subst (λ (f : Option Op). local_step_at f o ≡ Some h.0) at h.1 in
-      op_alone (keeps h.0 []) turn.Stepped (planned-own W old.number.0 o a h.0 step) h.2 stays
-  op_own turn.Worn at local h stays = let planned = planned-alone W old.number.0 o a local in op_alone planned.0 turn.Worn planned.1 h stays
-  op_own t at local h stays = absurd h
+      op-alone (keeps h.0 []) turn.Stepped (planned-own W old.number.0 o a h.0 step) h.2 stays
+  op-own turn.Worn at local h stays = let planned = planned-alone W old.number.0 o a local in op-alone planned.0 turn.Worn planned.1 h stays
+  op-own t at local h stays = absurd h
 
 mapped : (o : Owned) (f : Option Carried) → IsSome f → IsSome (option_map (with_carried o) f)
 mapped o None h = cc
 mapped o (Some c) h = h
 
 -- a unit has the operation at its position
-pub own_local : (W : Parts) (a : Op) (o : Owned) → op_at W o.number o.carried.position ≡ Some a → IsSome (after_local a o.carried) → IsLocal W o
-own_local W a o at some = subst (λ (f : Option Op). IsSome (local_step_at f o)) (sym at) (mapped o (after_local a o.carried) some)
+pub own-local : (W : Parts) (a : Op) (o : Owned) → op_at W o.number o.carried.position ≡ Some a → IsSome (after_local a o.carried) → IsLocal W o
+own-local W a o at some = subst (λ (f : Option Op). IsSome (local_step_at f o)) (sym at) (mapped o (after_local a o.carried) some)
 
-pub ruleset operations = (op_alone, op_called, op_exits, op_own, own_local)
+pub ruleset operations = (op-alone, op-called, op-exits, op-own, own-local)

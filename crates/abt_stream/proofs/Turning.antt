@@ -35,7 +35,7 @@ use Rattle.abt_stream.specs.Streams.{FrameValue, StreamValue}
 use Rattle.abt_stream.specs.Keeping.{Keeps}
 use Rattle.abt_stream.specs.Operated.{NotPerformed, OpBy}
 use Rattle.abt_stream.specs.Turned.{IsSpent, Made, MetEnd, Turned, Went}
-use Rattle.abt_stream.proofs.Kept.{keeps_entered, keeps_holding, keeps_same}
+use Rattle.abt_stream.proofs.Kept.{keeps-entered, keeps-holding, keeps-same}
 
 -- what is due for a unit in hand is what is due for the stream
 pub hand-due : (W : Parts) (s : ℕ) (held : Held) (o : Owned) (d : Due) → held.tray ≡ [] → held.next ≡ None → held.hand ≡ Some o
@@ -46,25 +46,25 @@ hand-due W s held o d tray next hand e =
     (ap (λ (h : Option Owned). due_by {X = Owned} {Y = Owned} W s held.own [] None (option_map number_and_position h)) hand ∙ e))
 
 module _ (W : Parts) (s : ℕ) (held : Held) (d : HandDue) (tray : held.tray ≡ []) (next : held.next ≡ None) where
-  pub end_due : (hand : Option Owned) (cause : Cause) → held.hand ≡ hand → IfHeld hand (λ o. DueIs W s held.own.mark o.number o.carried.position d) → d ≡ hands.End cause → due_of W s held ≡ EndDue cause
-  end_due None cause is h e = absurd h
-  end_due (Some o) cause is h e = hand-due W s held o (EndDue cause) tray next is (subst (λ (x : HandDue). DueIs W s held.own.mark o.number o.carried.position x) e h)
+  pub end-due : (hand : Option Owned) (cause : Cause) → held.hand ≡ hand → IfHeld hand (λ o. DueIs W s held.own.mark o.number o.carried.position d) → d ≡ hands.End cause → due_of W s held ≡ EndDue cause
+  end-due None cause is h e = absurd h
+  end-due (Some o) cause is h e = hand-due W s held o (EndDue cause) tray next is (subst (λ (x : HandDue). DueIs W s held.own.mark o.number o.carried.position x) e h)
 
-  pub enter_due : (hand : Option Owned) (g : SchedNo) → held.hand ≡ hand → IfHeld hand (λ o. DueIs W s held.own.mark o.number o.carried.position d) → d ≡ hands.Enter g → due_of W s held ≡ EnterDue
-  enter_due None g is h e = absurd h
-  enter_due (Some o) g is h e = hand-due W s held o EnterDue tray next is (subst (λ (x : HandDue). DueIs W s held.own.mark o.number o.carried.position x) e h).0
+  pub enter-due : (hand : Option Owned) (g : SchedNo) → held.hand ≡ hand → IfHeld hand (λ o. DueIs W s held.own.mark o.number o.carried.position d) → d ≡ hands.Enter g → due_of W s held ≡ EnterDue
+  enter-due None g is h e = absurd h
+  enter-due (Some o) g is h e = hand-due W s held o EnterDue tray next is (subst (λ (x : HandDue). DueIs W s held.own.mark o.number o.carried.position x) e h).0
 
-  pub enter_body : (hand : Option Owned) (g : SchedNo) → IfHeld hand (λ o. DueIs W s held.own.mark o.number o.carried.position d) → d ≡ hands.Enter g → IfHeld hand (λ o. body_at W o.number ≡ body.Sched g)
-  enter_body None g h e = absurd h
-  enter_body (Some o) g h e = (subst (λ (x : HandDue). DueIs W s held.own.mark o.number o.carried.position x) e h).1
+  pub enter-body : (hand : Option Owned) (g : SchedNo) → IfHeld hand (λ o. DueIs W s held.own.mark o.number o.carried.position d) → d ≡ hands.Enter g → IfHeld hand (λ o. body_at W o.number ≡ body.Sched g)
+  enter-body None g h e = absurd h
+  enter-body (Some o) g h e = (subst (λ (x : HandDue). DueIs W s held.own.mark o.number o.carried.position x) e h).1
 
-  pub step_due : (hand : Option Owned) (a : Op) → held.hand ≡ hand → IfHeld hand (λ o. DueIs W s held.own.mark o.number o.carried.position d) → d ≡ hands.Step a → due_of W s held ≡ StepDue
-  step_due None a is h e = absurd h
-  step_due (Some o) a is h e = hand-due W s held o StepDue tray next is (subst (λ (x : HandDue). DueIs W s held.own.mark o.number o.carried.position x) e h).0
+  pub step-due : (hand : Option Owned) (a : Op) → held.hand ≡ hand → IfHeld hand (λ o. DueIs W s held.own.mark o.number o.carried.position d) → d ≡ hands.Step a → due_of W s held ≡ StepDue
+  step-due None a is h e = absurd h
+  step-due (Some o) a is h e = hand-due W s held o StepDue tray next is (subst (λ (x : HandDue). DueIs W s held.own.mark o.number o.carried.position x) e h).0
 
-  pub step_op : (hand : Option Owned) (a : Op) → IfHeld hand (λ o. DueIs W s held.own.mark o.number o.carried.position d) → d ≡ hands.Step a → IfHeld hand (λ o. op_at W o.number o.carried.position ≡ Some a)
-  step_op None a h e = absurd h
-  step_op (Some o) a h e = (subst (λ (x : HandDue). DueIs W s held.own.mark o.number o.carried.position x) e h).1
+  pub step-op : (hand : Option Owned) (a : Op) → IfHeld hand (λ o. DueIs W s held.own.mark o.number o.carried.position d) → d ≡ hands.Step a → IfHeld hand (λ o. op_at W o.number o.carried.position ≡ Some a)
+  step-op None a h e = absurd h
+  step-op (Some o) a h e = (subst (λ (x : HandDue). DueIs W s held.own.mark o.number o.carried.position x) e h).1
 
 module _ {P : Type 0} (moves : P → Site → ℕ → Act → Told → P → Type 0) (W : Parts) (old : StreamValue) (before : P) (new : StreamValue) (after : P) where
   -- an event that was written
@@ -92,108 +92,108 @@ module _ {P : Type 0} (moves : P → Site → ℕ → Act → Told → P → Typ
   entered-held o g bodied = ap (λ (b : Body). record old.held { own = entered (sched_of b) old.held.own; hand = None; framed = old.held.framed ++ o ∷ [] }) (sym bodied)
 
   module _ (Z : List OrderShape) where
-    pub end_turned : (hand : Option Owned) (cause : Cause) (t : Turn) → old.held.hand ≡ hand → due_of W old.number.0 old.held ≡ EndDue cause
+    pub end-turned : (hand : Option Owned) (cause : Cause) (t : Turn) → old.held.hand ≡ hand → due_of W old.number.0 old.held ≡ EndDue cause
         → IfHeld hand (EndBy moves old before cause t new after) → Turned moves W Z old before t new after
-    end_turned None cause t is due h = absurd h
-    end_turned (Some o) cause turn.Moved is due h =
+    end-turned None cause t is due h = absurd h
+    end-turned (Some o) cause turn.Moved is due h =
         let event = what.End (unit_no o.number) cause in
         let held : Held = record old.held { hand = None; tray = old.held.tray ++ h.0 } in
         (event, holding-made held event (Some (site.Desk (unit_no o.number), act.End o cause, act.Woke h.0)) Z h.1.same (due, o, is, refl, h.0, refl, refl) h.1.went, tt)
-    end_turned (Some o) cause turn.Worn is due h =
+    end-turned (Some o) cause turn.Worn is due h =
         let x = site.Desk (unit_no o.number) in
         let later : Held = record old.held { hand = None; tray = old.held.tray ++ [] } in
         (h.same, inr (x, act.End o cause, (what.End (unit_no o.number) cause, act.Woke [], later, (due, o, is, refl, [], refl, refl)), h.went), λ spent. let e : EndDue cause ≡ StepDue = sym due ∙ spent.0 in cc)
-    end_turned (Some o) cause t is due h = absurd h
+    end-turned (Some o) cause t is due h = absurd h
 
-    pub look_turned : (next : Option Owned) (t : Turn) → old.held.next ≡ next → due_of W old.number.0 old.held ≡ LookDue
+    pub look-turned : (next : Option Owned) (t : Turn) → old.held.next ≡ next → due_of W old.number.0 old.held ≡ LookDue
         → IfHeld next (LookBy moves old before t new after) → Turned moves W Z old before t new after
-    look_turned None t is due h = absurd h
-    look_turned (Some o) turn.Moved is due h =
+    look-turned None t is due h = absurd h
+    look-turned (Some o) turn.Moved is due h =
         let event = what.Look (unit_no o.number) in
         (event, holding-made (looked old.held o h.0 h.1) event (Some (site.Desk (unit_no o.number), act.Look, act.Asks h.0 h.1)) Z h.2.same (due, o, is, refl, h.0, h.1, refl, refl) h.2.went, tt)
-    look_turned (Some o) turn.Worn is due h =
+    look-turned (Some o) turn.Worn is due h =
         let x = site.Desk (unit_no o.number) in
         (h.same, inr (x, act.Look, (what.Look (unit_no o.number), act.Asks false None, looked old.held o false None, (due, o, is, refl, false, None, refl, refl)), h.went), λ spent. let e : LookDue ≡ StepDue = sym due ∙ spent.0 in cc)
-    look_turned (Some o) t is due h = absurd h
+    look-turned (Some o) t is due h = absurd h
 
-    pub put_turned : (tray : List Owned) (t : Turn) → old.held.tray ≡ tray → due_of W old.number.0 old.held ≡ PutDue
+    pub put-turned : (tray : List Owned) (t : Turn) → old.held.tray ≡ tray → due_of W old.number.0 old.held ≡ PutDue
         → IfFirst tray (PutBy moves old before t new after) → Turned moves W Z old before t new after
-    put_turned [] t is due h = absurd h
-    put_turned (o ∷ os) turn.Moved is due h =
+    put-turned [] t is due h = absurd h
+    put-turned (o ∷ os) turn.Moved is due h =
         let p = pool_no o.carried.home in
         let event = what.Put (unit_no o.number) p in
         let held : Held = record old.held { tray = os } in
         (event, holding-made held event (Some (site.Pool p, act.Put o, act.Rested)) Z h.same (due, o, os, is, refl, refl, refl, refl) h.went, tt)
-    put_turned (o ∷ os) turn.Worn is due h =
+    put-turned (o ∷ os) turn.Worn is due h =
         let p = pool_no o.carried.home in
         let later : Held = record old.held { tray = os } in
         (h.same, inr (site.Pool p, act.Put o, (what.Put (unit_no o.number) p, act.Rested, later, (due, o, os, is, refl, refl, refl, refl)), h.went), λ spent. let e : PutDue ≡ StepDue = sym due ∙ spent.0 in cc)
-    put_turned (o ∷ os) t is due h = absurd h
+    put-turned (o ∷ os) t is due h = absurd h
 
     -- a stream with a step left is not spent
     unspent : steps_in old.log < old.budget → IsSpent W old → ⊥
     unspent few spent = let made = spent.1 in omega arith
 
     -- what is planned is the next event, which met the end of a clock if it was not performed
-    met_end : (o : Owned) (plan : Plan) → ((heard : Option Heard) (c : Code) (later : Held) → Performs old.held plan heard c later → Steps W Z old.number.0 old.held (step_of o c) heard later)
+    met-end : (o : Owned) (plan : Plan) → ((heard : Option Heard) (c : Code) (later : Held) → Performs old.held plan heard c later → Steps W Z old.number.0 old.held (step_of o c) heard later)
         → NotPerformed moves old before plan after → MetEnd moves W Z old before after
-    met_end o (Does e) steps h = inl ((step_of o e.code, stepped old.held e, steps None e.code (stepped old.held e) (refl, refl, refl)), h.0, h.1)
-    met_end o (Calls x asked brings) steps h =
+    met-end o (Does e) steps h = inl ((step_of o e.code, stepped old.held e, steps None e.code (stepped old.held e) (refl, refl, refl)), h.0, h.1)
+    met-end o (Calls x asked brings) steps h =
         let e = brings act.Rested in
         inr (x, asked, (step_of o e.code, act.Rested, stepped old.held e, steps (Some (x, asked, act.Rested)) e.code (stepped old.held e) (act.Rested, refl, refl, refl)), h)
-    met_end o (Exits b) steps h = inl ((step_of o code.Ok, exited old.held b, steps None code.Ok (exited old.held b) (refl, refl, refl)), h.0, h.1)
+    met-end o (Exits b) steps h = inl ((step_of o code.Ok, exited old.held b, steps None code.Ok (exited old.held b) (refl, refl, refl)), h.0, h.1)
 
-    pub step_turned : (hand : Option Owned) (a : Op) (t : Turn) → old.held.hand ≡ hand → steps_in old.log < old.budget → due_of W old.number.0 old.held ≡ StepDue
+    pub step-turned : (hand : Option Owned) (a : Op) (t : Turn) → old.held.hand ≡ hand → steps_in old.log < old.budget → due_of W old.number.0 old.held ≡ StepDue
         → IfHeld hand (λ o. op_at W o.number o.carried.position ≡ Some a)
         → IfHeld hand (OpBy moves W old before a t new after) → Turned moves W Z old before t new after
-    step_turned None a t is few due at h = absurd h
-    step_turned (Some o) a turn.Stepped is few due at h =
+    step-turned None a t is few due at h = absurd h
+    step-turned (Some o) a turn.Stepped is few due at h =
         (unit_no o.number, o.carried.position, h.1, holding-made new.held (step_of o h.1) h.0 Z h.4 (due, o, is, refl, refl, a, at, h.2) h.3, few)
-    step_turned (Some o) a turn.Worn is few due at h =
-        (h.0, met_end o (plan_of W old.number.0 a o) (λ heard c later performs. (due, o, is, refl, refl, a, at, performs)) h.1, unspent few)
-    step_turned (Some o) a t is few due at h = absurd h
+    step-turned (Some o) a turn.Worn is few due at h =
+        (h.0, met-end o (plan_of W old.number.0 a o) (λ heard c later performs. (due, o, is, refl, refl, a, at, performs)) h.1, unspent few)
+    step-turned (Some o) a t is few due at h = absurd h
 
-    pub enter_turned : (hand : Option Owned) (g : SchedNo) (t : Turn) → old.held.hand ≡ hand → due_of W old.number.0 old.held ≡ EnterDue
+    pub enter-turned : (hand : Option Owned) (g : SchedNo) (t : Turn) → old.held.hand ≡ hand → due_of W old.number.0 old.held ≡ EnterDue
         → IfHeld hand (λ o. body_at W o.number ≡ body.Sched g) → after ≡ before
         → IfHeld hand (EnterBy W g.0 old t new) → Turned moves W Z old before t new after
-    enter_turned None g t is due bodied stays h = absurd h
-    enter_turned (Some o) g turn.Moved is due bodied stays h =
+    enter-turned None g t is due bodied stays h = absurd h
+    enter-turned (Some o) g turn.Moved is due bodied stays h =
         let event = what.Enter (unit_no o.number) in
         let held : Held = record old.held { own = entered g.0 old.held.own; hand = None; framed = old.held.framed ++ o ∷ [] } in
         (event, made held new.top (old.below ++ old.top ∷ []) old.order old.at (suc old.clock) event None Z h.1 (due, o, is, refl, refl, entered-held o g bodied) (refl, stays), tt)
-    enter_turned (Some o) g turn.Worn is due bodied stays h =
+    enter-turned (Some o) g turn.Worn is due bodied stays h =
         let later : Held = record old.held { own = entered (sched_of (body_at W o.number)) old.held.own; hand = None; framed = old.held.framed ++ o ∷ [] } in
         (h.1, inl ((what.Enter (unit_no o.number), later, (due, o, is, refl, refl, refl)), h.0, stays), λ spent. let e : EnterDue ≡ StepDue = sym due ∙ spent.0 in cc)
-    enter_turned (Some o) g t is due bodied stays h = absurd h
+    enter-turned (Some o) g t is due bodied stays h = absurd h
 
   -- the frames stay
 
-  pub end_keeps : (hand : Option Owned) (cause : Cause) (t : Turn) → IfHeld hand (EndBy moves old before cause t new after) → Keeps W old new
-  end_keeps None cause t h = absurd h
-  end_keeps (Some o) cause turn.Moved h = keeps_holding W old new (what.End (unit_no o.number) cause) new.clock new.rooms (record old.held { hand = None; tray = old.held.tray ++ h.0 }) h.1.same
-  end_keeps (Some o) cause turn.Worn h = keeps_same W old new h.same
-  end_keeps (Some o) cause t h = absurd h
+  pub end-keeps : (hand : Option Owned) (cause : Cause) (t : Turn) → IfHeld hand (EndBy moves old before cause t new after) → Keeps W old new
+  end-keeps None cause t h = absurd h
+  end-keeps (Some o) cause turn.Moved h = keeps-holding W old new (what.End (unit_no o.number) cause) new.clock new.rooms (record old.held { hand = None; tray = old.held.tray ++ h.0 }) h.1.same
+  end-keeps (Some o) cause turn.Worn h = keeps-same W old new h.same
+  end-keeps (Some o) cause t h = absurd h
 
-  pub look_keeps : (next : Option Owned) (t : Turn) → IfHeld next (LookBy moves old before t new after) → Keeps W old new
-  look_keeps None t h = absurd h
-  look_keeps (Some o) turn.Moved h = keeps_holding W old new (what.Look (unit_no o.number)) new.clock new.rooms (looked old.held o h.0 h.1) h.2.same
-  look_keeps (Some o) turn.Worn h = keeps_same W old new h.same
-  look_keeps (Some o) t h = absurd h
+  pub look-keeps : (next : Option Owned) (t : Turn) → IfHeld next (LookBy moves old before t new after) → Keeps W old new
+  look-keeps None t h = absurd h
+  look-keeps (Some o) turn.Moved h = keeps-holding W old new (what.Look (unit_no o.number)) new.clock new.rooms (looked old.held o h.0 h.1) h.2.same
+  look-keeps (Some o) turn.Worn h = keeps-same W old new h.same
+  look-keeps (Some o) t h = absurd h
 
-  pub put_keeps : (tray : List Owned) (t : Turn) → IfFirst tray (PutBy moves old before t new after) → Keeps W old new
-  put_keeps [] t h = absurd h
-  put_keeps (o ∷ os) turn.Moved h = keeps_holding W old new (what.Put (unit_no o.number) (pool_no o.carried.home)) new.clock new.rooms (record old.held { tray = os }) h.same
-  put_keeps (o ∷ os) turn.Worn h = keeps_same W old new h.same
-  put_keeps (o ∷ os) t h = absurd h
+  pub put-keeps : (tray : List Owned) (t : Turn) → IfFirst tray (PutBy moves old before t new after) → Keeps W old new
+  put-keeps [] t h = absurd h
+  put-keeps (o ∷ os) turn.Moved h = keeps-holding W old new (what.Put (unit_no o.number) (pool_no o.carried.home)) new.clock new.rooms (record old.held { tray = os }) h.same
+  put-keeps (o ∷ os) turn.Worn h = keeps-same W old new h.same
+  put-keeps (o ∷ os) t h = absurd h
 
-  pub step_keeps : (hand : Option Owned) (a : Op) (t : Turn) → IfHeld hand (OpBy moves W old before a t new after) → Keeps W old new
-  step_keeps None a t h = absurd h
-  step_keeps (Some o) a turn.Stepped h = keeps_holding W old new (step_of o h.1) new.clock new.rooms new.held h.4
-  step_keeps (Some o) a turn.Worn h = keeps_same W old new h.0
-  step_keeps (Some o) a t h = absurd h
+  pub step-keeps : (hand : Option Owned) (a : Op) (t : Turn) → IfHeld hand (OpBy moves W old before a t new after) → Keeps W old new
+  step-keeps None a t h = absurd h
+  step-keeps (Some o) a turn.Stepped h = keeps-holding W old new (step_of o h.1) new.clock new.rooms new.held h.4
+  step-keeps (Some o) a turn.Worn h = keeps-same W old new h.0
+  step-keeps (Some o) a t h = absurd h
 
-  pub enter_keeps : (hand : Option Owned) (g : SchedNo) (t : Turn) → old.order ≡ [] → IfHeld hand (EnterBy W g.0 old t new) → Keeps W old new
-  enter_keeps None g t none h = absurd h
-  enter_keeps (Some o) g turn.Moved none h = keeps_entered W old new (what.Enter (unit_no o.number)) (suc old.clock) new.rooms g.0 o h.0 none h.1
-  enter_keeps (Some o) g turn.Worn none h = keeps_same W old new h.1
-  enter_keeps (Some o) g t none h = absurd h
+  pub enter-keeps : (hand : Option Owned) (g : SchedNo) (t : Turn) → old.order ≡ [] → IfHeld hand (EnterBy W g.0 old t new) → Keeps W old new
+  enter-keeps None g t none h = absurd h
+  enter-keeps (Some o) g turn.Moved none h = keeps-entered W old new (what.Enter (unit_no o.number)) (suc old.clock) new.rooms g.0 o h.0 none h.1
+  enter-keeps (Some o) g turn.Worn none h = keeps-same W old new h.1
+  enter-keeps (Some o) g t none h = absurd h

@@ -27,20 +27,20 @@ use Rattle.abt_machine.specs.declared.operations.Side.{Side}
 use Rattle.abt_stream.specs.Events.{LeaveBy, VisitBy, VisitedBy, emptied, leaving, passed, took, with_top}
 use Rattle.abt_stream.specs.Keeping.{Keeps}
 use Rattle.abt_stream.specs.Streams.{FitsShapes, FitsStream, FrameValue, StreamValue, resting, seeing}
-use Rattle.abt_stream.proofs.Kept.{keeps_emptied, keeps_left, keeps_passed, keeps_same, keeps_took}
+use Rattle.abt_stream.proofs.Kept.{keeps-emptied, keeps-left, keeps-passed, keeps-same, keeps-took}
 use Rattle.abt_stream.proofs.Turning.{made}
 use Rattle.abt_stream.specs.Turned.{EndsRound, Turned}
 use Rattle.abt_stream.proofs.Stacks.{seen_more, some-order}
 
 -- What is due.
 
-pub put_due : (W : Parts) (s : ℕ) (held : Held) (tray : List Owned) → held.tray ≡ tray → tray ≢ [] → due_of W s held ≡ PutDue
-put_due W s held [] is some = absurd (some refl)
-put_due W s held (o ∷ os) is some =
+pub put-due : (W : Parts) (s : ℕ) (held : Held) (tray : List Owned) → held.tray ≡ tray → tray ≢ [] → due_of W s held ≡ PutDue
+put-due W s held [] is some = absurd (some refl)
+put-due W s held (o ∷ os) is some =
     ap (λ (l : List Owned). due_by {X = Owned} {Y = Owned} W s held.own l held.next (option_map number_and_position held.hand)) is
 
-pub look_due : (W : Parts) (s : ℕ) (held : Held) (o : Owned) → held.tray ≡ [] → held.next ≡ Some o → due_of W s held ≡ LookDue
-look_due W s held o tray next =
+pub look-due : (W : Parts) (s : ℕ) (held : Held) (o : Owned) → held.tray ≡ [] → held.next ≡ Some o → due_of W s held ≡ LookDue
+look-due W s held o tray next =
     ap (λ (l : List Owned). due_by {X = Owned} {Y = Owned} W s held.own l held.next (option_map number_and_position held.hand)) tray ∙
     ap (λ (n : Option Owned). due_by {X = Owned} {Y = Owned} W s held.own [] n (option_map number_and_position held.hand)) next
 
@@ -54,9 +54,9 @@ some-reversed : (fs : List FrameValue) → fs ≢ [] → (gs : List FrameValue) 
 some-reversed fs some [] e ds is = absurd (some (sym (reverse-reverse fs) ∙ ap reverse e))
 some-reversed fs some (g ∷ gs) e ds is = ap (due_of_frames true) (sym is)
 
-pub leave_due : (W : Parts) (s : ℕ) (held : Held) (top : FrameValue) (below : List FrameValue) → held.tray ≡ [] → held.next ≡ None → held.hand ≡ None
+pub leave-due : (W : Parts) (s : ℕ) (held : Held) (top : FrameValue) (below : List FrameValue) → held.tray ≡ [] → held.next ≡ None → held.hand ≡ None
     → held.own.top.empty ≡ top.empty → held.own.below ≡ map resting (reverse below) → top.empty ≡ true → below ≢ [] → due_of W s held ≡ LeaveDue
-leave_due W s held top below tray next hand empty under is some =
+leave-due W s held top below tray next hand empty under is some =
     frames-due W s held LeaveDue tray next hand
     (ap (λ (b : Bool). due_of_frames b held.own.below) (empty ∙ is) ∙ some-reversed below some (reverse below) refl held.own.below (sym under))
 
@@ -64,11 +64,11 @@ either : (b : Bool) → due_of_frames b [] ≡ RoundDue
 either true = refl
 either false = refl
 
-pub round_due : (W : Parts) (s : ℕ) (held : Held) (top : FrameValue) (below : List FrameValue) → held.tray ≡ [] → held.next ≡ None → held.hand ≡ None
+pub round-due : (W : Parts) (s : ℕ) (held : Held) (top : FrameValue) (below : List FrameValue) → held.tray ≡ [] → held.next ≡ None → held.hand ≡ None
     → held.own.top.empty ≡ top.empty → held.own.below ≡ map resting (reverse below) → ((top.empty ≡ false) ⊎ (below ≡ [])) → due_of W s held ≡ RoundDue
-round_due W s held top below tray next hand empty under (inl is) =
+round-due W s held top below tray next hand empty under (inl is) =
     frames-due W s held RoundDue tray next hand (ap (λ (b : Bool). due_of_frames b held.own.below) (empty ∙ is))
-round_due W s held top below tray next hand empty under (inr is) =
+round-due W s held top below tray next hand empty under (inr is) =
     frames-due W s held RoundDue tray next hand
     (ap (due_of_frames held.own.top.empty) (under ∙ ap (λ (fs : List FrameValue). map resting (reverse fs)) is) ∙ either held.own.top.empty)
 
@@ -144,45 +144,45 @@ module _ {P : Type 0} (moves : P → Site → ℕ → Act → Told → P → Typ
         (p, made moves W old before new after later.held later.top later.below later.order later.at new.clock (what.Miss p) heard Z h.0 (due, next-pool W old p own fits e Z shaped, refl, own-is) went, ends)
     visited answer t went h = absurd h
 
-    pub visit_turned : (t : Turn) → VisitBy moves old before p (side_of W old.number.0 p.0) t new after → Turned moves W Z old before t new after
-    visit_turned t (inl worn) =
+    pub visit-turned : (t : Turn) → VisitBy moves old before p (side_of W old.number.0 p.0) t new after → Turned moves W Z old before t new after
+    visit-turned t (inl worn) =
         let asked = act.Take (side_of W old.number.0 p.0) in
         let later : Held = record old.held { own = round_missed W p.0 old.held.own } in
         subst (λ (x : Turn). Turned moves W Z old before x new after) (sym worn.0)
         (worn.1.same, inr (site.Pool p, asked, (what.Miss p, act.Miss, later, (due, next-pool W old p own fits e Z shaped, refl, refl)), worn.1.went), λ spent. let e : RoundDue ≡ StepDue = sym due ∙ spent.0 in cc)
-    visit_turned t (inr h) = visited h.0 t h.1 h.2
+    visit-turned t (inr h) = visited h.0 t h.1 h.2
 
   -- the frames stay
   visited-keeps : (p : PoolNo) → slice_get old.order old.at ≡ Some p → (answer : Answer) (t : Turn) → VisitedBy old p answer t new → Keeps W old new
-  visited-keeps p e (act.Given o) turn.Moved h = keeps_took W old new (what.Take p (unit_no o.number)) new.clock new.rooms o (some-order old.order old.at p e) h
-  visited-keeps p e act.Miss turn.Moved h = keeps_passed W old new (what.Miss p) new.clock new.rooms p h.0
-  visited-keeps p e act.Miss turn.EmptyRound h = keeps_emptied W old new (what.Miss p) new.clock new.rooms (some-order old.order old.at p e) h.0
+  visited-keeps p e (act.Given o) turn.Moved h = keeps-took W old new (what.Take p (unit_no o.number)) new.clock new.rooms o (some-order old.order old.at p e) h
+  visited-keeps p e act.Miss turn.Moved h = keeps-passed W old new (what.Miss p) new.clock new.rooms p h.0
+  visited-keeps p e act.Miss turn.EmptyRound h = keeps-emptied W old new (what.Miss p) new.clock new.rooms (some-order old.order old.at p e) h.0
   visited-keeps p e answer t h = absurd h
 
-  pub visit_keeps : (p : PoolNo) (d : Side) → slice_get old.order old.at ≡ Some p → (t : Turn) → VisitBy moves old before p d t new after → Keeps W old new
-  visit_keeps p d e t (inl worn) = keeps_same W old new worn.1.same
-  visit_keeps p d e t (inr h) = visited-keeps p e h.0 t h.2
+  pub visit-keeps : (p : PoolNo) (d : Side) → slice_get old.order old.at ≡ Some p → (t : Turn) → VisitBy moves old before p d t new after → Keeps W old new
+  visit-keeps p d e t (inl worn) = keeps-same W old new worn.1.same
+  visit-keeps p d e t (inr h) = visited-keeps p e h.0 t h.2
 
-  pub leave_turned : (t : Turn) → due_of W old.number.0 old.held ≡ LeaveDue → old.held.framed ≢ [] → after ≡ before → LeaveBy old t new → (Z : List OrderShape) → Turned moves W Z old before t new after
-  leave_turned turn.Moved due some stays h Z =
+  pub leave-turned : (t : Turn) → due_of W old.number.0 old.held ≡ LeaveDue → old.held.framed ≢ [] → after ≡ before → LeaveBy old t new → (Z : List OrderShape) → Turned moves W Z old before t new after
+  leave-turned turn.Moved due some stays h Z =
       let event = what.Leave (unit_no h.1.number) in
       let later = leaving old h.0 h.1 new.top new.below in
       (event, made moves W old before new after later.held later.top later.below later.order later.at (suc old.clock) event None Z h.2.same (due, h.1, h.0, h.2.framed, refl, refl, refl) (refl, stays), tt)
-  leave_turned turn.Worn due some stays h Z =
+  leave-turned turn.Worn due some stays h Z =
       let (o, os, e) = last-one old.held.framed some in
       let later : Held = record old.held { own = left old.held.own; hand = Some o; framed = os } in
       (h.1, inl ((what.Leave (unit_no o.number), later, (due, o, os, e, refl, refl, refl)), h.0, stays), λ spent. let e : LeaveDue ≡ StepDue = sym due ∙ spent.0 in cc)
-  leave_turned turn.Stepped due some stays h Z = absurd h
-  leave_turned turn.EmptyRound due some stays h Z = absurd h
-  leave_turned turn.Spent due some stays h Z = absurd h
+  leave-turned turn.Stepped due some stays h Z = absurd h
+  leave-turned turn.EmptyRound due some stays h Z = absurd h
+  leave-turned turn.Spent due some stays h Z = absurd h
 
-  pub leave_keeps : (t : Turn) → LeaveBy old t new → Keeps W old new
-  leave_keeps turn.Moved h = keeps_left W old new h.0 h.1 h.2
-  leave_keeps turn.Worn h = keeps_same W old new h.1
-  leave_keeps turn.Stepped h = absurd h
-  leave_keeps turn.EmptyRound h = absurd h
-  leave_keeps turn.Spent h = absurd h
+  pub leave-keeps : (t : Turn) → LeaveBy old t new → Keeps W old new
+  leave-keeps turn.Moved h = keeps-left W old new h.0 h.1 h.2
+  leave-keeps turn.Worn h = keeps-same W old new h.1
+  leave-keeps turn.Stepped h = absurd h
+  leave-keeps turn.EmptyRound h = absurd h
+  leave-keeps turn.Spent h = absurd h
 
-pub place_in : (order : List PoolNo) (at : ℕ) → at ≤ length order - 1 → order ≢ [] → at < length order
-place_in [] at h some = absurd (some refl)
-place_in (p ∷ order) at h some = omega arith
+pub place-in : (order : List PoolNo) (at : ℕ) → at ≤ length order - 1 → order ≢ [] → at < length order
+place-in [] at h some = absurd (some refl)
+place-in (p ∷ order) at h some = omega arith

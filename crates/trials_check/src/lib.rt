@@ -6,4 +6,6 @@ mod changes;
 #[cfg(test)]
 mod checks;
 #[cfg(test)]
+mod sites;
+#[cfg(test)]
 mod tables;

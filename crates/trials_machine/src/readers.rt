@@ -3,7 +3,7 @@
 use crate::parts::{Role, scheds, texts, unit};
 use abt_machine::{
     Access, Combine, Kind, Mains, ObjectNo, Op, Parts, PoolNo, PoolPart, PoolParts, Rule, SchedNo,
-    Site, StreamNo, Thing, Things, UnitNo, UnitParts, Workload,
+    StreamNo, Thing, Things, UnitNo, UnitParts, Workload,
 };
 use std::alloc::{AllocError, Global};
 use std::process::Abort;
@@ -46,7 +46,7 @@ static OBJECTS: [Thing; 9] = [
     Thing::RwLock,
 ];
 
-// The operations of unit 0, which touch each kind of site.
+// The operations of unit 0.
 static OPS: [Op; 15] = [
     Op::Say(0),
     Op::Yield,
@@ -63,45 +63,6 @@ static OPS: [Op; 15] = [
     Op::FuSet(ObjectNo(6)),
     Op::BarWait(ObjectNo(7)),
     Op::RwStore(ObjectNo(8)),
-];
-
-// The site of each, if stream 0 makes it, and if stream 1 does.
-static SITES: [(Option<Site>, Option<Site>); 16] = [
-    (None, None),
-    (None, None),
-    (None, Some(Site::Pool(PoolNo(0)))),
-    (Some(Site::Desk(UnitNo(0))), Some(Site::Desk(UnitNo(0)))),
-    (None, None),
-    (None, Some(Site::Desk(UnitNo(2)))),
-    (Some(Site::Desk(UnitNo(2))), Some(Site::Desk(UnitNo(2)))),
-    (None, Some(Site::Desk(UnitNo(2)))),
-    (
-        Some(Site::Monitor(ObjectNo(1))),
-        Some(Site::Monitor(ObjectNo(1))),
-    ),
-    (
-        Some(Site::Monitor(ObjectNo(1))),
-        Some(Site::Monitor(ObjectNo(1))),
-    ),
-    (
-        Some(Site::Monitor(ObjectNo(0))),
-        Some(Site::Monitor(ObjectNo(0))),
-    ),
-    (
-        Some(Site::Eventual(ObjectNo(5))),
-        Some(Site::Eventual(ObjectNo(5))),
-    ),
-    (
-        Some(Site::Future(ObjectNo(6))),
-        Some(Site::Future(ObjectNo(6))),
-    ),
-    (
-        Some(Site::Barrier(ObjectNo(7))),
-        Some(Site::Barrier(ObjectNo(7))),
-    ),
-    (Some(Site::Rw(ObjectNo(8))), Some(Site::Rw(ObjectNo(8)))),
-    // behind the last operation
-    (None, None),
 ];
 
 // The stream, the pool, and whether the stream may put there and take from there.
@@ -209,20 +170,9 @@ fn reaches(rt: &impl Abort, w: &Workload) {
     }
 }
 
-// The site of each operation, for each stream.
-fn touches(rt: &impl Abort, w: &Workload) {
-    assert!(rt; w.streams() == 2 && w.units() == 3);
-    for (at, (by_first, by_second)) in SITES.iter().enumerate() {
-        let at = at as u32;
-        assert!(rt; w.site(StreamNo(0), UnitNo(0), at) == *by_first);
-        assert!(rt; w.site(StreamNo(1), UnitNo(0), at) == *by_second);
-    }
-}
-
 #[test]
-fn streams_reach_pools_and_touch_sites(rt: HostRuntime) -> Result<(), Fail> {
+fn streams_reach_pools(rt: HostRuntime) -> Result<(), Fail> {
     let w = workload(&rt, rt.alloc())?;
     reaches(&rt, &w);
-    touches(&rt, &w);
     Ok(())
 }

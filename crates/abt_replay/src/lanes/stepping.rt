@@ -2,25 +2,27 @@
 
 ghost use Rattle.std.specs.Prelude.{◌≡◌, ◌<◌, ◌-◌, ◌^◌, IfOk, IsSome, None, Some, [], ◌∷◌, length};
 ghost use Rattle.abt_calls.specs.Allowed.{Allows};
+ghost use Rattle.abt_calls.specs.Suits.{Suits};
+ghost use Rattle.abt_replay.specs.Acts.{answer_of};
 ghost use Rattle.abt_replay.specs.Events.{Alone, AreObjects, Asked, Operated, OwnExit, OwnStep};
 ghost use Rattle.abt_replay.specs.Objects.{object_at};
 ghost use Rattle.abt_machine.specs.declared.events.Code.TheVariants as code;
-ghost use Rattle.abt_machine.specs.Acts as asks;
 ghost use Rattle.abt_machine.specs.Acts.{moved};
 ghost use Rattle.abt_machine.specs.Operations.{IsDeclared};
 ghost use Rattle.abt_machine.specs.Plans.{empties, refusal, to_caller, to_yielder};
 ghost use Rattle.abt_machine.specs.Valid.{IsValid};
 ghost use Rattle.abt_machine.specs.Workloads.{op_at};
-ghost use Rattle.abt_plans.specs.Acts.{asked, brought, given};
+ghost use Rattle.abt_plans.specs.Acts.{asked, brought, given, told};
+ghost use Rattle.abt_plans.specs.Hearing.{IsForCaller, IsForYielder};
 ghost use Rattle.abt_plans.specs.Shapes.{IsPlan};
 ghost use Rattle.abt_unit.specs.Local.{after_local};
 
 use super::Lane;
-use crate::acts::{Act, Answer};
+use crate::acts::Answer;
 use crate::hearing;
 use crate::objects::Objects;
 use crate::unit::Unit;
-use abt_machine::{Code, Op, Site, StreamNo, UnitNo, Want, Workload};
+use abt_machine::{Code, Op, Site, StreamNo, Want, Workload};
 use abt_plans::{Asking, Giving, Mark, Plan, planned};
 
 impl Lane {
@@ -50,7 +52,6 @@ impl Lane {
             Plan::Deny => self.deny(unit),
             Plan::Ask(site, asking) => self.ask(objects, site, asking, unit),
             Plan::Give(site, giving) => self.give(objects, site, giving, unit),
-            Plan::YieldTo(site, v) => self.yield_to(objects, site, v, unit),
         }
     }
 
@@ -101,21 +102,69 @@ impl Lane {
         Ok(Code::PoolAccess)
     }
 
-    // A call by the unit, which stays in the hand.
-    #[tactic(auto, using(crate::proofs::Answered::for_caller))]
+    // A call that does not take the unit with it.
     fn ask(
         &mut self,
         objects: &mut Objects,
         site: Site,
         asking: Asking,
-        mut unit: Unit,
+        unit: Unit,
     ) -> Result<Code, Want>
         requires allowed { Allows (object_at objects.old site) (asked asking) }
         requires position { unit.carried.position < 2 ^ 32 - 1 }
+        requires hand { self.old.hand ≡ None }
         requires next { self.old.next ≡ None }
-        ensures { IfOk result (λ c. Asked site (asked asking) (to_caller unit) self.old objects.old c self.new objects.new) }
+        ensures { IfOk result (λ c. Asked site (asked asking) (told asking unit) self.old objects.old c self.new objects.new) }
     {
         let answer = objects.call(site, hearing::ask(asking))?;
+        self.heard(asking, answer, unit)
+    }
+
+    // What it is answered.
+    fn heard(&mut self, asking: Asking, answer: Answer, unit: Unit) -> Result<Code, Want>
+        requires answer { Suits (asked asking) (answer_of answer) }
+        requires position { unit.carried.position < 2 ^ 32 - 1 }
+        requires hand { self.old.hand ≡ None }
+        requires next { self.old.next ≡ None }
+        ensures { IfOk result (λ c. Alone (told asking unit (answer_of answer)) self.old c self.new) }
+    {
+        match asking {
+            Asking::Remove(_) => self.answered(answer, unit),
+            _ => self.called(answer, unit),
+        }
+    }
+
+    // What a unit that yields to another is answered.
+    fn answered(&mut self, answer: Answer, mut unit: Unit) -> Result<Code, Want>
+        requires answer { IsForYielder (answer_of answer) }
+        requires position { unit.carried.position < 2 ^ 32 - 1 }
+        requires hand { self.old.hand ≡ None }
+        requires next { self.old.next ≡ None }
+        ensures { IfOk result (λ c. Alone (to_yielder unit (answer_of answer)) self.old c self.new) }
+    {
+        match answer {
+            Answer::Given(other) => {
+                unit.advance();
+                self.tray.push_back(unit)?;
+                self.next = Some(other);
+                Ok(Code::Ok)
+            }
+            Answer::Code(code) => {
+                unit.refuse(code)?;
+                self.hand = Some(unit);
+                Ok(code)
+            }
+            _ => unreachable!(),
+        }
+    }
+
+    // What a unit that goes on is answered.
+    fn called(&mut self, answer: Answer, mut unit: Unit) -> Result<Code, Want>
+        requires answer { IsForCaller (answer_of answer) }
+        requires position { unit.carried.position < 2 ^ 32 - 1 }
+        requires next { self.old.next ≡ None }
+        ensures { IfOk result (λ c. Alone (to_caller unit (answer_of answer)) self.old c self.new) }
+    {
         let code = hearing::hear(&mut unit, &mut self.tray, answer)?;
         self.hand = Some(unit);
         Ok(code)
@@ -140,37 +189,6 @@ impl Lane {
         let (hand, code) = hearing::returned(giving, &mut self.tray, answer)?;
         self.hand = hand;
         Ok(code)
-    }
-
-    // The unit yields to another one of a pool.
-    #[tactic(auto, using(crate::proofs::Answered::for_yielder))]
-    fn yield_to(
-        &mut self,
-        objects: &mut Objects,
-        site: Site,
-        v: UnitNo,
-        mut unit: Unit,
-    ) -> Result<Code, Want>
-        requires allowed { Allows (object_at objects.old site) (asks.Remove v.0) }
-        requires position { unit.carried.position < 2 ^ 32 - 1 }
-        requires hand { self.old.hand ≡ None }
-        requires next { self.old.next ≡ None }
-        ensures { IfOk result (λ c. Asked site (asks.Remove v.0) (to_yielder unit) self.old objects.old c self.new objects.new) }
-    {
-        match objects.call(site, Act::Remove(v))? {
-            Answer::Given(other) => {
-                unit.advance();
-                self.tray.push_back(unit)?;
-                self.next = Some(other);
-                Ok(Code::Ok)
-            }
-            Answer::Code(code) => {
-                unit.refuse(code)?;
-                self.hand = Some(unit);
-                Ok(code)
-            }
-            _ => unreachable!(),
-        }
     }
 }
 

@@ -235,7 +235,6 @@ impl Stream {
                 Plan::Deny => self.deny(),
                 Plan::Ask(site, asking) => self.ask(commons, pass, site, asking),
                 Plan::Give(site, giving) => self.give(commons, pass, site, giving),
-                Plan::YieldTo(site, v) => self.yields_to(commons, pass, site, v),
             },
             _ => unreachable!(),
         }

@@ -6,8 +6,9 @@ ghost use Rattle.abt_machine.specs.Plans.{empties, refusal, to_caller, to_yielde
 ghost use Rattle.abt_machine.specs.Acts.{carrying, moved};
 ghost use Rattle.abt_machine.specs.Acts as asks;
 ghost use Rattle.abt_calls.specs.Asking.{MayCall};
+ghost use Rattle.abt_calls.specs.Suits.{Suits};
 ghost use Rattle.abt_commons.specs.Acts.{IsFreeAnswer, answer_of};
-ghost use Rattle.abt_plans.specs.Acts.{asked, brought, given};
+ghost use Rattle.abt_plans.specs.Acts.{asked, brought, given, told};
 ghost use Rattle.abt_plans.specs.Hearing.{IsForCaller, IsForYielder};
 ghost use Rattle.abt_machine.specs.Numbers.{unit_no};
 ghost use Rattle.abt_stream.specs.declared.parts.Work.TheVariants as works;
@@ -23,7 +24,7 @@ use crate::hearing;
 use crate::parts::Work;
 use crate::turns::Turn;
 use crate::units::name;
-use abt_commons::{Act, Answer, Commons, Reply};
+use abt_commons::{Answer, Commons, Reply};
 use abt_machine::{Code, Site, UnitNo, What, Workload};
 use abt_plans::{Asking, Giving, Mark};
 use abt_unit::Unit;
@@ -93,8 +94,7 @@ impl Stream {
         Turn::Stepped
     }
 
-    // A call by the unit in hand, which stays there.
-    #[tactic(auto, using(crate::proofs::Answered::for_caller))]
+    // A call that does not take the unit in hand with it.
     pub(super) fn ask<'w, C: Commons<'w>>(
         &mut self,
         commons: &C,
@@ -105,13 +105,13 @@ impl Stream {
         requires pass { C.is_of commons.now pass.old }
         requires can { CanStep self.old }
         requires may { MayCall (C.workload commons.now) site (asked asking) }
-        ensures step { IfHeld self.old.held.hand (λ o. StepsBy (Heeds (C.moves commons.now) (C.workload commons.now)) self.old pass.old site (asked asking) (to_caller o) result self.new pass.new o) }
+        ensures step { IfHeld self.old.held.hand (λ o. StepsBy (Heeds (C.moves commons.now) (C.workload commons.now)) self.old pass.old site (asked asking) (told asking o) result self.new pass.new o) }
         ensures pass { C.is_of commons.now pass.new }
         ensures number { C.number pass.new ≡ C.number pass.old }
     {
         match commons.call(pass, site, self.clock, hearing::ask(asking)) {
             Reply::Done { stamp, answer } => {
-                self.heard(stamp, answer);
+                self.heard(asking, stamp, answer);
                 Turn::Stepped
             }
             Reply::Worn(_) => Turn::Worn,
@@ -119,7 +119,23 @@ impl Stream {
     }
 
     // What it is answered.
-    fn heard(&mut self, stamp: u64, answer: Answer)
+    fn heard(&mut self, asking: Asking, stamp: u64, answer: Answer)
+        requires can { CanStep self.old }
+        requires answer { Suits (asked asking) (answer_of answer) }
+        requires free { IsFreeAnswer answer }
+        requires above { self.old.clock < stamp }
+        requires bound { stamp ≤ 2 ^ 62 }
+        ensures clock { self.new.clock ≡ stamp }
+        ensures same { IfHeld self.old.held.hand (λ o. self.new ≡ wrote (after_step self.old (told asking o (answer_of answer))) (step_of o (told asking o (answer_of answer)).code) stamp self.new.rooms) }
+    {
+        match asking {
+            Asking::Remove(_) => self.answered(stamp, answer),
+            _ => self.called(stamp, answer),
+        }
+    }
+
+    // What a unit that goes on is answered.
+    fn called(&mut self, stamp: u64, answer: Answer)
         requires can { CanStep self.old }
         requires answer { IsForCaller (answer_of answer) }
         requires free { IsFreeAnswer answer }
@@ -130,6 +146,52 @@ impl Stream {
     {
         let (mut unit, number, at) = running(mem::replace(&mut self.work, Work::Idle));
         let code = hearing::hear(&mut unit, &mut self.tray, answer);
+        self.work = Work::Running(unit);
+        self.write_step(stamp, number, at, code);
+    }
+
+    // What a unit that yields to another is answered.
+    fn answered(&mut self, stamp: u64, answer: Answer)
+        requires can { CanStep self.old }
+        requires answer { IsForYielder (answer_of answer) }
+        requires free { IsFreeAnswer answer }
+        requires above { self.old.clock < stamp }
+        requires bound { stamp ≤ 2 ^ 62 }
+        ensures clock { self.new.clock ≡ stamp }
+        ensures same { IfHeld self.old.held.hand (λ o. self.new ≡ wrote (after_step self.old (to_yielder o (answer_of answer))) (step_of o (to_yielder o (answer_of answer)).code) stamp self.new.rooms) }
+    {
+        match answer {
+            Answer::Given(other) => self.yielded(stamp, other),
+            Answer::Code(code) => self.refused(stamp, code),
+            _ => unreachable!(),
+        }
+    }
+
+    // The other unit is taken.
+    fn yielded(&mut self, stamp: u64, other: Box<Unit>)
+        requires can { CanStep self.old }
+        requires free { IsFree other.value }
+        requires above { self.old.clock < stamp }
+        requires bound { stamp ≤ 2 ^ 62 }
+        ensures clock { self.new.clock ≡ stamp }
+        ensures same { IfHeld self.old.held.hand (λ o. self.new ≡ wrote (after_step self.old (to_yielder o (asks.Given other.value.owned))) (step_of o (to_yielder o (asks.Given other.value.owned)).code) stamp self.new.rooms) }
+    {
+        let (mut unit, number, at) = running(mem::replace(&mut self.work, Work::Taken(other)));
+        unit.advance();
+        self.tray.push_back(unit);
+        self.write_step(stamp, number, at, Code::Ok);
+    }
+
+    // The operation of the unit in hand is refused.
+    fn refused(&mut self, stamp: u64, code: Code)
+        requires can { CanStep self.old }
+        requires above { self.old.clock < stamp }
+        requires bound { stamp ≤ 2 ^ 62 }
+        ensures clock { self.new.clock ≡ stamp }
+        ensures same { IfHeld self.old.held.hand (λ o. self.new ≡ wrote (after_step self.old (to_yielder o (asks.Coded code))) (step_of o (to_yielder o (asks.Coded code)).code) stamp self.new.rooms) }
+    {
+        let (mut unit, number, at) = running(mem::replace(&mut self.work, Work::Idle));
+        hearing::refuse(&mut unit, code);
         self.work = Work::Running(unit);
         self.write_step(stamp, number, at, code);
     }
@@ -178,77 +240,6 @@ impl Stream {
     {
         unit.retreat();
         self.work = Work::Running(unit);
-    }
-
-    // The unit in hand yields to another one of a pool.
-    #[tactic(auto, using(crate::proofs::Answered::for_yielder))]
-    pub(super) fn yields_to<'w, C: Commons<'w>>(
-        &mut self,
-        commons: &C,
-        pass: &mut C::Pass,
-        site: Site,
-        v: UnitNo,
-    ) -> Turn
-        requires pass { C.is_of commons.now pass.old }
-        requires can { CanStep self.old }
-        requires may { MayCall (C.workload commons.now) site (asks.Remove v.0) }
-        ensures step { IfHeld self.old.held.hand (λ o. StepsBy (Heeds (C.moves commons.now) (C.workload commons.now)) self.old pass.old site (asks.Remove v.0) (to_yielder o) result self.new pass.new o) }
-        ensures pass { C.is_of commons.now pass.new }
-        ensures number { C.number pass.new ≡ C.number pass.old }
-    {
-        match commons.call(pass, site, self.clock, Act::Remove(v)) {
-            Reply::Done { stamp, answer } => {
-                self.answered(stamp, answer);
-                Turn::Stepped
-            }
-            Reply::Worn(_) => Turn::Worn,
-        }
-    }
-
-    // What the yielding unit is answered.
-    fn answered(&mut self, stamp: u64, answer: Answer)
-        requires can { CanStep self.old }
-        requires answer { IsForYielder (answer_of answer) }
-        requires free { IsFreeAnswer answer }
-        requires above { self.old.clock < stamp }
-        requires bound { stamp ≤ 2 ^ 62 }
-        ensures clock { self.new.clock ≡ stamp }
-        ensures same { IfHeld self.old.held.hand (λ o. self.new ≡ wrote (after_step self.old (to_yielder o (answer_of answer))) (step_of o (to_yielder o (answer_of answer)).code) stamp self.new.rooms) }
-    {
-        match answer {
-            Answer::Given(other) => self.yielded(stamp, other),
-            Answer::Code(code) => self.refused(stamp, code),
-            _ => unreachable!(),
-        }
-    }
-
-    // The other unit is taken.
-    fn yielded(&mut self, stamp: u64, other: Box<Unit>)
-        requires can { CanStep self.old }
-        requires free { IsFree other.value }
-        requires above { self.old.clock < stamp }
-        requires bound { stamp ≤ 2 ^ 62 }
-        ensures clock { self.new.clock ≡ stamp }
-        ensures same { IfHeld self.old.held.hand (λ o. self.new ≡ wrote (after_step self.old (to_yielder o (asks.Given other.value.owned))) (step_of o (to_yielder o (asks.Given other.value.owned)).code) stamp self.new.rooms) }
-    {
-        let (mut unit, number, at) = running(mem::replace(&mut self.work, Work::Taken(other)));
-        unit.advance();
-        self.tray.push_back(unit);
-        self.write_step(stamp, number, at, Code::Ok);
-    }
-
-    // The operation of the unit in hand is refused.
-    fn refused(&mut self, stamp: u64, code: Code)
-        requires can { CanStep self.old }
-        requires above { self.old.clock < stamp }
-        requires bound { stamp ≤ 2 ^ 62 }
-        ensures clock { self.new.clock ≡ stamp }
-        ensures same { IfHeld self.old.held.hand (λ o. self.new ≡ wrote (after_step self.old (to_yielder o (asks.Coded code))) (step_of o (to_yielder o (asks.Coded code)).code) stamp self.new.rooms) }
-    {
-        let (mut unit, number, at) = running(mem::replace(&mut self.work, Work::Idle));
-        hearing::refuse(&mut unit, code);
-        self.work = Work::Running(unit);
-        self.write_step(stamp, number, at, code);
     }
 }
 

@@ -1,14 +1,14 @@
 use Rattle.std.proofs.Common.{◌≡◌, arith, subst}
 use Rattle.abt_check.specs.Lists.{AreMade}
-use Rattle.abt_check.proofs.Numbered.{made_none, made_push}
+use Rattle.abt_check.proofs.Numbered.{made-none, made-push}
 use Rattle.abt_check.proofs.starts.numbered.Goals as goal
 
 pub loop-k-init : goal.loop-k-init
-loop-k-init g c = rw c.in_ok-items.ensures.items (made_none (goal.F-post g c.args.make))
+loop-k-init g c = rw c.in_ok-items.ensures.items (made-none (goal.F-post g c.args.make))
 
 pub loop-k-preserved : goal.loop-k-preserved
 loop-k-preserved g c =
-    made_push (goal.F-post g c.args.make) c.loop-k.k c.loop-k.items.items c.push.new.self.items c.in_ok-make.field-0 c.in_ok-push.ensures.items c.loop-k.invariant
+    made-push (goal.F-post g c.args.make) c.loop-k.k c.loop-k.items.items c.push.new.self.items c.in_ok-make.field-0 c.in_ok-push.ensures.items c.loop-k.invariant
     (subst (goal.F-post g c.args.make c.loop-k.k) c.in_ok-make.was c.make.ensures)
 
 pub returns : goal.returns

@@ -7,36 +7,36 @@ use Rattle.abt_machine.specs.Turns.{due_of}
 use Rattle.abt_machine.specs.Values.{Held}
 use Rattle.abt_replay.specs.Events.{Visits}
 use Rattle.abt_check.specs.Turns.{IsOfWorkload}
-use Rattle.abt_check.proofs.Moving.{first-of, look_allowed, look_moves, next-declared, put_allowed, put_moves, run_moves, some-of, take_allowed, visit_moves}
+use Rattle.abt_check.proofs.Moving.{first-of, look-allowed, look-moves, next-declared, put-allowed, put-moves, run-moves, some-of, take-allowed, visit-moves}
 use Rattle.abt_check.proofs.turns.move_as.Goals as goal
 
 pub put-requires : goal.put-requires
 put-requires c =
     let of : IsOfWorkload c.args.w.now c.in-Some.unit = first-of c.args.w.now c.args.lane.now.tray c.take_from_tray.new.self.tray c.in-Some.unit c.in-Some.ensures.first c.requires.lane.tray in
-    put_allowed c.args.w.now c.args.objects.now c.in-Some.unit c.requires.objects of.home
+    put-allowed c.args.w.now c.args.objects.now c.in-Some.unit c.requires.objects of.home
 
 pub returns-in-Some : goal.returns-in-Some
 returns-in-Some c =
-    put_moves c.args.w.now c.args.z.now c.args.s.0 c.args.lane.now c.args.objects.now c.args.named c.in_ok-made.made c.take_from_tray.new.self c.put.new.objects c.in-Some.unit c.in-Some.ensures.first c.in-Some.ensures.others c.in_ok-made.ensures
+    put-moves c.args.w.now c.args.z.now c.args.s.0 c.args.lane.now c.args.objects.now c.args.named c.in_ok-made.made c.take_from_tray.new.self c.put.new.objects c.in-Some.unit c.in-Some.ensures.first c.in-Some.ensures.others c.in_ok-made.ensures
 
 pub look-requires-clause-allowed : goal.look-requires-clause-allowed
 look-requires-clause-allowed c =
     let same : c.take_from_tray.new.self ≡ c.args.lane.now = c.in_default.ensures.none.1 in
     let next = ap (λ (held : Held). held.next) (sym same) ∙ (sym c.take_next.ensures.next ∙ c.in-Some-take_next.is) in
     let of : IsOfWorkload c.args.w.now c.in-Some-take_next.unit = some-of c.args.w.now c.args.lane.now.next c.in-Some-take_next.unit next c.requires.lane.next in
-    look_allowed c.args.w.now c.args.objects.now c.in-Some-take_next.unit c.requires.objects of.number
+    look-allowed c.args.w.now c.args.objects.now c.in-Some-take_next.unit c.requires.objects of.number
 
 pub returns-in-Some-take_next : goal.returns-in-Some-take_next
 returns-in-Some-take_next c =
     let same : c.take_from_tray.new.self ≡ c.args.lane.now = c.in_default.ensures.none.1 in
-    look_moves c.args.w.now c.args.z.now c.args.s.0 c.args.lane.now c.args.objects.now c.args.named c.in_ok-made-2.made c.look.new.self c.look.new.objects c.in-Some-take_next.unit c.take_next.new.self c.in_default.ensures.none.0
+    look-moves c.args.w.now c.args.z.now c.args.s.0 c.args.lane.now c.args.objects.now c.args.named c.in_ok-made-2.made c.look.new.self c.look.new.objects c.in-Some-take_next.unit c.take_next.new.self c.in_default.ensures.none.0
     (ap (λ (held : Held). held.next) (sym same) ∙ (sym c.take_next.ensures.next ∙ c.in-Some-take_next.is)) (c.take_next.ensures.others ∙ ap (λ (held : Held). record held { next = None }) same) c.in_ok-made-2.ensures
 
 pub returns-in-Some-take_hand : goal.returns-in-Some-take_hand
 returns-in-Some-take_hand c =
     let next : c.args.lane.now.next ≡ None = search rules in
     let same : c.take_next.new.self ≡ c.args.lane.now = search rules in
-    run_moves c.args.w.now c.args.z.now c.args.s.0 c.args.lane.now c.args.objects.now c.args.named c.in_ok-made-3.made c.run.new.self c.run.new.objects c.in-Some-take_hand.unit c.take_hand.new.self c.in_default.ensures.none.0 next
+    run-moves c.args.w.now c.args.z.now c.args.s.0 c.args.lane.now c.args.objects.now c.args.named c.in_ok-made-3.made c.run.new.self c.run.new.objects c.in-Some-take_hand.unit c.take_hand.new.self c.in_default.ensures.none.0 next
     (ap (λ (held : Held). held.hand) (sym same) ∙ (sym c.take_hand.ensures.hand ∙ c.in-Some-take_hand.is)) (c.take_hand.ensures.others ∙ ap (λ (held : Held). record held { hand = None }) same) (c.in_ok-made-3.ensures c.args.z.now)
 
 pub visit-requires-clause-pool : goal.visit-requires-clause-pool
@@ -49,7 +49,7 @@ visit-requires-clause-sched c =
     (order-declared c.args.w.now c.args.z.now c.args.lane.now.own.top.sched c.args.lane.now.own.top.round c.requires.lane.round.0 c.requires.lane.round.1)
 
 pub visit-requires-clause-allowed : goal.visit-requires-clause-allowed
-visit-requires-clause-allowed c = take_allowed c.args.w.now c.args.objects.now c.args.s.0 c.in-Some-next_visited.p c.requires.objects (visit-requires-clause-pool c)
+visit-requires-clause-allowed c = take-allowed c.args.w.now c.args.objects.now c.args.s.0 c.in-Some-next_visited.p c.requires.objects (visit-requires-clause-pool c)
 
 pub returns : goal.returns
 returns c =
@@ -57,5 +57,5 @@ returns c =
     let due : due_of c.args.w.now c.args.s.0 c.args.lane.now ≡ RoundDue = search rules in
     let here : IsNextPool c.args.w.now c.args.z.now c.args.lane.now.own.top c.in-Some-next_visited.p.0 =
     subst (λ (f : Frame). IsNextPool c.args.w.now c.args.z.now f c.in-Some-next_visited.p.0) (c.top-2.ensures ∙ ap (λ (held : Held). held.own.top) same) c.in-Some-next_visited.ensures.next in
-    visit_moves c.args.w.now c.args.z.now c.args.s.0 c.args.lane.now c.args.objects.now c.args.named c.in-Some-next_visited.p c.in_ok-made-4.made c.visit.new.self c.visit.new.objects due here c.in-Some-next_visited.ensures.named
+    visit-moves c.args.w.now c.args.z.now c.args.s.0 c.args.lane.now c.args.objects.now c.args.named c.in-Some-next_visited.p c.in_ok-made-4.made c.visit.new.self c.visit.new.objects due here c.in-Some-next_visited.ensures.named
     (subst (λ (held : Held). Visits c.args.w.now c.args.s.0 held c.args.objects.now c.in-Some-next_visited.p c.in_ok-made-4.made c.visit.new.self c.visit.new.objects) same c.in_ok-made-4.ensures)

@@ -5,8 +5,8 @@ use Rattle.abt_machine.specs.Turns.{side_of}
 use Rattle.abt_stream.specs.Events.{VisitBy}
 use Rattle.abt_stream.specs.Streams.{resting, seeing}
 use Rattle.abt_stream.specs.Heeding.{Heeds}
-use Rattle.abt_stream.proofs.Fitted.{turn_fits, visit_fits}
-use Rattle.abt_stream.proofs.Visits.{leave_due, leave_keeps, leave_turned, place_in, round_due, visit_keeps, visit_turned}
+use Rattle.abt_stream.proofs.Fitted.{turn-fits, visit-fits}
+use Rattle.abt_stream.proofs.Visits.{leave-due, leave-keeps, leave-turned, place-in, round-due, visit-keeps, visit-turned}
 use Rattle.abt_stream.proofs.stream.Stream.idle.Goals as goal
 
 pub returns-then-leaves : goal.returns-then-leaves
@@ -15,15 +15,15 @@ returns-then-leaves g c =
     let framed = c.leaves.ensures.framed c.if-leaves.true in
     let empty : c.args.self.now.held.own.top.empty ≡ c.args.self.now.top.empty = search rules in
     let under : c.args.self.now.held.own.below ≡ map resting (reverse c.args.self.now.below) = search rules in
-    let due = leave_due c.args.w.now c.args.self.now.number.0 c.args.self.now.held c.args.self.now.top c.args.self.now.below c.requires.idle.0 c.requires.idle.1 c.requires.idle.2 empty under both.0 both.1 in
-    let turned = λ (Z : List OrderShape). leave_turned (Heeds (g.C.Commons.moves c.args.commons.now) (g.C.Commons.workload c.args.commons.now)) c.args.w.now c.args.self.now c.args.pass.now c.leave.new.self c.args.pass.now c.leave.result due framed refl c.leave.ensures Z in
-    let keeps = leave_keeps (Heeds (g.C.Commons.moves c.args.commons.now) (g.C.Commons.workload c.args.commons.now)) c.args.w.now c.args.self.now c.args.pass.now c.leave.new.self c.args.pass.now c.leave.result c.leave.ensures in
+    let due = leave-due c.args.w.now c.args.self.now.number.0 c.args.self.now.held c.args.self.now.top c.args.self.now.below c.requires.idle.0 c.requires.idle.1 c.requires.idle.2 empty under both.0 both.1 in
+    let turned = λ (Z : List OrderShape). leave-turned (Heeds (g.C.Commons.moves c.args.commons.now) (g.C.Commons.workload c.args.commons.now)) c.args.w.now c.args.self.now c.args.pass.now c.leave.new.self c.args.pass.now c.leave.result due framed refl c.leave.ensures Z in
+    let keeps = leave-keeps (Heeds (g.C.Commons.moves c.args.commons.now) (g.C.Commons.workload c.args.commons.now)) c.args.w.now c.args.self.now c.args.pass.now c.leave.new.self c.args.pass.now c.leave.result c.leave.ensures in
     record {
       turned = λ Z shaped. turned Z;
       pass = c.requires.pass;
       number = refl;
       keeps = keeps;
-      fits = turn_fits (g.C.Commons.moves c.args.commons.now) (g.C.Commons.workload c.args.commons.now) c.args.w.now c.requires.w c.requires.valid c.args.self.now c.args.pass.now c.leave.new.self c.args.pass.now c.requires.fits keeps c.leave.result (turned []);
+      fits = turn-fits (g.C.Commons.moves c.args.commons.now) (g.C.Commons.workload c.args.commons.now) c.args.w.now c.requires.w c.requires.valid c.args.self.now c.args.pass.now c.leave.new.self c.args.pass.now c.requires.fits keeps c.leave.result (turned []);
     }
 
 pub next_pool-p-requires : goal.next_pool-p-requires
@@ -31,28 +31,28 @@ next_pool-p-requires g c =
     let stays = c.leaves.ensures.stays c.if-leaves.false in
     let empty : c.args.self.now.held.own.top.empty ≡ c.args.self.now.top.empty = search rules in
     let under : c.args.self.now.held.own.below ≡ map resting (reverse c.args.self.now.below) = search rules in
-    let due = round_due c.args.w.now c.args.self.now.number.0 c.args.self.now.held c.args.self.now.top c.args.self.now.below c.requires.idle.0 c.requires.idle.1 c.requires.idle.2 empty under stays in
+    let due = round-due c.args.w.now c.args.self.now.number.0 c.args.self.now.held c.args.self.now.top c.args.self.now.below c.requires.idle.0 c.requires.idle.1 c.requires.idle.2 empty under stays in
     let place : c.args.self.now.at ≤ length c.args.self.now.order - 1 = search rules in
-    place_in c.args.self.now.order c.args.self.now.at place (c.requires.ready.order due)
+    place-in c.args.self.now.order c.args.self.now.at place (c.requires.ready.order due)
 
 pub returns-clause-turned : goal.returns-clause-turned
 returns-clause-turned g c = λ Z shaped.
     let stays = c.leaves.ensures.stays c.if-leaves.false in
     let empty : c.args.self.now.held.own.top.empty ≡ c.args.self.now.top.empty = search rules in
     let under : c.args.self.now.held.own.below ≡ map resting (reverse c.args.self.now.below) = search rules in
-    let due = round_due c.args.w.now c.args.self.now.number.0 c.args.self.now.held c.args.self.now.top c.args.self.now.below c.requires.idle.0 c.requires.idle.1 c.requires.idle.2 empty under stays in
+    let due = round-due c.args.w.now c.args.self.now.number.0 c.args.self.now.held c.args.self.now.top c.args.self.now.below c.requires.idle.0 c.requires.idle.1 c.requires.idle.2 empty under stays in
     let own : c.args.self.now.held.own.top ≡ seeing c.args.self.now.top (take c.args.self.now.at c.args.self.now.order) = search rules in
     let on : c.side-side.result ≡ side_of c.args.w.now c.args.self.now.number.0 c.next_pool-p.result.0 = search rules in
-    visit_turned (Heeds (g.C.Commons.moves c.args.commons.now) (g.C.Commons.workload c.args.commons.now)) c.args.w.now c.args.self.now c.args.pass.now c.visit.new.self c.visit.new.pass
+    visit-turned (Heeds (g.C.Commons.moves c.args.commons.now) (g.C.Commons.workload c.args.commons.now)) c.args.w.now c.args.self.now c.args.pass.now c.visit.new.self c.visit.new.pass
     c.next_pool-p.result own c.requires.fits c.next_pool-p.ensures due Z shaped c.visit.result
     (subst (λ (d : Side). VisitBy (Heeds (g.C.Commons.moves c.args.commons.now) (g.C.Commons.workload c.args.commons.now)) c.args.self.now c.args.pass.now c.next_pool-p.result d c.visit.result c.visit.new.self c.visit.new.pass) on c.visit.ensures.visit)
 
 pub returns-clause-keeps : goal.returns-clause-keeps
 returns-clause-keeps g c =
-    visit_keeps (Heeds (g.C.Commons.moves c.args.commons.now) (g.C.Commons.workload c.args.commons.now)) c.args.w.now c.args.self.now c.args.pass.now c.visit.new.self c.visit.new.pass
+    visit-keeps (Heeds (g.C.Commons.moves c.args.commons.now) (g.C.Commons.workload c.args.commons.now)) c.args.w.now c.args.self.now c.args.pass.now c.visit.new.self c.visit.new.pass
     c.next_pool-p.result c.side-side.result c.next_pool-p.ensures c.visit.result c.visit.ensures.visit
 
 pub returns-clause-fits : goal.returns-clause-fits
 returns-clause-fits g c =
-    visit_fits (g.C.Commons.moves c.args.commons.now) (g.C.Commons.workload c.args.commons.now) c.args.w.now c.requires.w c.requires.valid c.args.self.now c.args.pass.now c.visit.new.self c.visit.new.pass c.requires.fits
+    visit-fits (g.C.Commons.moves c.args.commons.now) (g.C.Commons.workload c.args.commons.now) c.args.w.now c.requires.w c.requires.valid c.args.self.now c.args.pass.now c.visit.new.self c.visit.new.pass c.requires.fits
     (returns-clause-keeps g c) c.next_pool-p.result c.side-side.result c.visit.result c.requires.idle.1 c.requires.idle.2 c.visit.ensures.visit

@@ -4,16 +4,16 @@ use Rattle.abt_machine.specs.declared.workload.Parts.{Parts}
 use Rattle.abt_unit.specs.Fits.{Fits}
 use Rattle.abt_stream.specs.Events.{IfFirst}
 use Rattle.abt_stream.specs.Heeding.{Heeds}
-use Rattle.abt_stream.proofs.Able.{tray_fits}
-use Rattle.abt_stream.proofs.Fitted.{turn_fits}
-use Rattle.abt_stream.proofs.Turning.{look_keeps, look_turned, put_keeps, put_turned}
-use Rattle.abt_stream.proofs.Visits.{look_due, put_due}
+use Rattle.abt_stream.proofs.Able.{tray-fits}
+use Rattle.abt_stream.proofs.Fitted.{turn-fits}
+use Rattle.abt_stream.proofs.Turning.{look-keeps, look-turned, put-keeps, put-turned}
+use Rattle.abt_stream.proofs.Visits.{look-due, put-due}
 use Rattle.abt_stream.proofs.stream.Stream.turn.Goals as goal
 
 pub put-requires : goal.put-requires
 put-requires g c κs =
     let some : c.args.self.now.held.tray ≢ [] = search rules in
-    let fits = tray_fits c.args.w.now c.args.self.now c.args.self.now.held.tray refl c.requires.fits.units some in (
+    let fits = tray-fits c.args.w.now c.args.self.now c.args.self.now.held.tray refl c.requires.fits.units some in (
       (refl, tt),
       (
         c.requires.pass,
@@ -24,14 +24,14 @@ put-requires g c κs =
 pub returns-then-not-is_empty : goal.returns-then-not-is_empty
 returns-then-not-is_empty g c =
     let some : c.args.self.now.held.tray ≢ [] = search rules in
-    let due = put_due c.args.w.now c.args.self.now.number.0 c.args.self.now.held c.args.self.now.held.tray refl some in
-    let turned = λ (Z : List OrderShape). put_turned (Heeds (g.C.Commons.moves c.args.commons.now) (g.C.Commons.workload c.args.commons.now)) c.args.w.now c.args.self.now c.args.pass.now c.put.new.self c.put.new.pass Z c.args.self.now.held.tray c.put.result refl due c.put.ensures.put in
-    let keeps = put_keeps (Heeds (g.C.Commons.moves c.args.commons.now) (g.C.Commons.workload c.args.commons.now)) c.args.w.now c.args.self.now c.args.pass.now c.put.new.self c.put.new.pass c.args.self.now.held.tray c.put.result c.put.ensures.put in
+    let due = put-due c.args.w.now c.args.self.now.number.0 c.args.self.now.held c.args.self.now.held.tray refl some in
+    let turned = λ (Z : List OrderShape). put-turned (Heeds (g.C.Commons.moves c.args.commons.now) (g.C.Commons.workload c.args.commons.now)) c.args.w.now c.args.self.now c.args.pass.now c.put.new.self c.put.new.pass Z c.args.self.now.held.tray c.put.result refl due c.put.ensures.put in
+    let keeps = put-keeps (Heeds (g.C.Commons.moves c.args.commons.now) (g.C.Commons.workload c.args.commons.now)) c.args.w.now c.args.self.now c.args.pass.now c.put.new.self c.put.new.pass c.args.self.now.held.tray c.put.result c.put.ensures.put in
     record {
       turned = λ Z shaped. turned Z;
       stream = keeps.number;
       budget = keeps.budget;
-      fits = turn_fits (g.C.Commons.moves c.args.commons.now) (g.C.Commons.workload c.args.commons.now) c.args.w.now c.requires.w c.known.ensures c.args.self.now c.args.pass.now c.put.new.self c.put.new.pass c.requires.fits keeps c.put.result (turned []);
+      fits = turn-fits (g.C.Commons.moves c.args.commons.now) (g.C.Commons.workload c.args.commons.now) c.args.w.now c.requires.w c.known.ensures c.args.self.now c.args.pass.now c.put.new.self c.put.new.pass c.requires.fits keeps c.put.result (turned []);
       shapes = keeps.shapes;
       pass = c.put.ensures.pass;
       number = c.put.ensures.number;
@@ -41,18 +41,18 @@ pub returns-in-Taken : goal.returns-in-Taken
 returns-in-Taken g c =
     let tray : c.args.self.now.held.tray ≡ [] = search rules in
     let next : c.args.self.now.held.next ≡ Some c.in-Taken.field-0.value.owned = search rules in
-    let due = look_due c.args.w.now c.args.self.now.number.0 c.args.self.now.held c.in-Taken.field-0.value.owned tray next in
-    let turned = λ (Z : List OrderShape). look_turned (Heeds (g.C.Commons.moves c.args.commons.now) (g.C.Commons.workload c.args.commons.now)) c.args.w.now c.args.self.now c.args.pass.now c.look.new.self c.look.new.pass Z c.args.self.now.held.next c.look.result refl due c.look.ensures.look in
-    let keeps = look_keeps (Heeds (g.C.Commons.moves c.args.commons.now) (g.C.Commons.workload c.args.commons.now)) c.args.w.now c.args.self.now c.args.pass.now c.look.new.self c.look.new.pass c.args.self.now.held.next c.look.result c.look.ensures.look in
+    let due = look-due c.args.w.now c.args.self.now.number.0 c.args.self.now.held c.in-Taken.field-0.value.owned tray next in
+    let turned = λ (Z : List OrderShape). look-turned (Heeds (g.C.Commons.moves c.args.commons.now) (g.C.Commons.workload c.args.commons.now)) c.args.w.now c.args.self.now c.args.pass.now c.look.new.self c.look.new.pass Z c.args.self.now.held.next c.look.result refl due c.look.ensures.look in
+    let keeps = look-keeps (Heeds (g.C.Commons.moves c.args.commons.now) (g.C.Commons.workload c.args.commons.now)) c.args.w.now c.args.self.now c.args.pass.now c.look.new.self c.look.new.pass c.args.self.now.held.next c.look.result c.look.ensures.look in
     record {
       turned = λ Z shaped. turned Z;
       stream = keeps.number;
       budget = keeps.budget;
-      fits = turn_fits (g.C.Commons.moves c.args.commons.now) (g.C.Commons.workload c.args.commons.now) c.args.w.now c.requires.w c.known.ensures c.args.self.now c.args.pass.now c.look.new.self c.look.new.pass c.requires.fits keeps c.look.result (turned []);
+      fits = turn-fits (g.C.Commons.moves c.args.commons.now) (g.C.Commons.workload c.args.commons.now) c.args.w.now c.requires.w c.known.ensures c.args.self.now c.args.pass.now c.look.new.self c.look.new.pass c.requires.fits keeps c.look.result (turned []);
       shapes = keeps.shapes;
       pass = c.look.ensures.pass;
       number = c.look.ensures.number;
     }
 
 pub returns-in-Running-clause-fits : goal.returns-in-Running-clause-fits
-returns-in-Running-clause-fits g c = turn_fits (g.C.Commons.moves c.args.commons.now) (g.C.Commons.workload c.args.commons.now) c.args.w.now c.requires.w c.known.ensures c.args.self.now c.args.pass.now c.run.new.self c.run.new.pass c.requires.fits c.run.ensures.keeps c.run.result (c.run.ensures.turned [])
+returns-in-Running-clause-fits g c = turn-fits (g.C.Commons.moves c.args.commons.now) (g.C.Commons.workload c.args.commons.now) c.args.w.now c.requires.w c.known.ensures c.args.self.now c.args.pass.now c.run.new.self c.run.new.pass c.requires.fits c.run.ensures.keeps c.run.result (c.run.ensures.turned [])

@@ -2,15 +2,15 @@ use Rattle.std.proofs.Common.{rules, ◌<◌, ◌+◌, ◌∙◌, List, sym, sub
 use Rattle.abt_machine.specs.declared.events.Event.{Event}
 use Rattle.abt_machine.specs.Outcomes.{steps_in}
 use Rattle.abt_stream.specs.Streams.{IsLog}
-use Rattle.abt_stream.proofs.Logs.{log_written, no_more}
+use Rattle.abt_stream.proofs.Logs.{log-written, no-more}
 use Rattle.abt_stream.proofs.stream.Stream.write.Goals as goal
 
 pub invariant_of-self : goal.invariant_of-self
 invariant_of-self c =
     let above : c.self.inside.clock < c.args.stamp = search rules in
-    let logged = log_written c.self.inside.number c.self.inside.clock c.args.stamp c.self.inside.log.items c.args.what c.self.invariant.5 above in
+    let logged = log-written c.self.inside.number c.self.inside.clock c.args.stamp c.self.inside.log.items c.args.what c.self.invariant.5 above in
     let e : Event = record { stamp = c.args.stamp; stream = c.self.inside.number; what = c.args.what } in
-    let count = no_more c.self.inside.log.items e c.requires.no_step in (
+    let count = no-more c.self.inside.log.items e c.requires.no_step in (
       c.self.invariant.0,
       c.self.invariant.1,
       c.self.invariant.2,
