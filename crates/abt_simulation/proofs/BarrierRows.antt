@@ -7,13 +7,12 @@ use Rattle.abt_machine.specs.declared.operations.OrderShape.{OrderShape}
 use Rattle.abt_machine.specs.declared.operations.Thing.TheVariants as thing
 use Rattle.abt_machine.specs.declared.workload.Parts.{Parts}
 use Rattle.abt_machine.specs.Workloads.{thing_at, size_of, size_from}
-use Rattle.abt_machine.specs.Operations.{IsBarrier}
 use Rattle.abt_machine.specs.State.{State}
 use Rattle.abt_machine.specs.Carrying.{advanced}
 use Rattle.abt_machine.specs.Lines.{Waiting, standing}
 use Rattle.abt_machine.specs.Changes.{no_change}
 use Rattle.abt_machine.specs.Steps.{waits, wakes}
-use Rattle.abt_machine.specs.Values.{owned_at, BarrierIs, BarrierValue, barrier_value, waiters_at, part_of}
+use Rattle.abt_machine.specs.Values.{owned_at, BarrierValue, barrier_value, waiters_at, part_of}
 use Rattle.abt_machine.specs.Acts.{moved}
 use Rattle.abt_machine.specs.Acts as act
 use Rattle.abt_machine.specs.Plans.{keeps, empties}
@@ -22,7 +21,7 @@ use Rattle.abt_machine.specs.Barriers.{BarrierGives}
 use Rattle.abt_simulation.proofs.Acting.{IsActing}
 use Rattle.abt_simulation.proofs.OwnParts.{away-line, standing-distinct}
 use Rattle.abt_simulation.proofs.Shapes.{wakes-part, line-woken}
-use Rattle.abt_simulation.proofs.Rows.{Row, ValueRow, row-by_value, barrier-at}
+use Rattle.abt_simulation.proofs.Rows.{ValueRow}
 use Rattle.abt_simulation.proofs.ObjectShapes.{goes-through, waits-part, waits-line}
 
 -- as many units stand there as are owned there
@@ -31,13 +30,13 @@ length-owned S [] = refl
 length-owned S (u ∷ us) = ap suc (length-owned S us)
 
 module _ (W : Parts) (Z : List OrderShape) (S : State) (s u : ℕ) (acts : IsActing W Z S s u) (x : ObjectNo) (n : ℕ) (is : thing_at W x.0 ≡ Some (thing.Barrier n)) where
-  abbrev value : State → BarrierValue
+  abbrev pub value : State → BarrierValue
   value T = barrier_value W T x.0 n
 
   waiting-are : length (standing W S (Waiting x.0)) ≡ length (waiters_at W S x.0)
   waiting-are = length-owned S (standing W S (Waiting x.0))
 
-  arrive : ValueRow W S s u (op.BarWait x) value BarrierGives
+  pub arrive : ValueRow W S s u (op.BarWait x) value BarrierGives
   arrive (act.Through b os) new gives =
       let all : suc (length (standing W S (Waiting x.0))) ≡ size_of W x.0 = ap suc waiting-are ∙ (gives.0 ∙ sym (ap size_from is)) in
       goes-through W Z S s u acts _ value (keeps b os) new (wakes W S s u (standing W S (Waiting x.0))) refl refl
@@ -52,7 +51,3 @@ module _ (W : Parts) (Z : List OrderShape) (S : State) (s u : ℕ) (acts : IsAct
       (waits-part W Z S s u acts x.0)
       (ap (λ us. record (value S) { waiters = us }) (waits-line W Z S s u acts x.0) ∙ sym gives.1)
   arrive _ new gives = absurd gives
-
-pub barwait-row : (W : Parts) (Z : List OrderShape) (S : State) (s u : ℕ) (acts : IsActing W Z S s u) (x : ObjectNo) → IsBarrier W x.0 → Row W S s u (op.BarWait x)
-barwait-row W Z S s u acts x is =
-    row-by_value W S s u _ _ BarrierIs (λ T. barrier_value W T x.0 is.0) BarrierGives (act.Arrive (moved (owned_at S u))) _ (barrier-at W x.0 is.0 is.1) (arrive W Z S s u acts x is.0 is.1)

@@ -39,7 +39,7 @@ use Rattle.abt_simulation.proofs.OwnParts.{IsOff, off-object, hand-elsewhere, ha
 use Rattle.abt_simulation.proofs.Shapes.{none-to_tray, others, first-and-others, owned-others, blocks-part, line-joined, line-first_woken, line-same}
 use Rattle.abt_simulation.proofs.Conditions.{conditions-declared}
 use Rattle.abt_simulation.proofs.ConditionLists.{conditions-distinct, get-map, map-changed, condition-at}
-use Rattle.abt_simulation.proofs.Rows.{ValueDone, Row, ValueRow, row-by_value, mutex-at, refuses}
+use Rattle.abt_simulation.proofs.Rows.{ValueDone, ValueRow, mutex-at, refuses}
 use Rattle.abt_simulation.proofs.ObjectShapes.{goes-through, unless-true, unless-false, is-some_of, not-some_of}
 use Rattle.abt_simulation.proofs.MonitorShapes.{first-number, first-woken, none-woken, waits-elsewhere, condition-apart, first-from}
 use Rattle.abt_simulation.proofs.Passes.{passing, passing-part, passing-left, passing-arrived, passing-others}
@@ -81,7 +81,7 @@ module _ (W : Parts) (S : State) (x : ℕ) where
 
 -- The unit waits at condition x, whose mutex is m and whose number there is k.
 module _ (W : Parts) (Z : List OrderShape) (S : State) (s u : ℕ) (acts : IsActing W Z S s u) (x m k : ℕ) (cond : thing_at W x ≡ Some (thing.Cond (object_no m))) (is : IsMutex W m) (at : slice_get (conditions_of W m) k ≡ Some x) where
-  abbrev value : State → MonitorValue
+  abbrev pub value : State → MonitorValue
   value T = monitor_value W T m
 
   apart : x ≢ m
@@ -185,19 +185,19 @@ first-of-first [] = refl
 first-of-first (u ∷ us) = refl
 
 module _ (W : Parts) (Z : List OrderShape) (S : State) (s u : ℕ) (acts : IsActing W Z S s u) (valid : IsValid W) (x : ObjectNo) (is : IsCondition W x.0) where
-  mutex : IsMutex W (mutex_of W x.0)
+  pub mutex : IsMutex W (mutex_of W x.0)
   mutex = mutex-declared W x.0 valid is
 
   declared : thing_at W x.0 ≡ Some (thing.Cond (object_no (mutex_of W x.0)))
   declared = is.1 ∙ ap (λ m. Some (thing.Cond (object_no m))) (sym (ap (mutex_from x.0) is.1))
 
-  abbrev monitor : State → MonitorValue
+  abbrev pub monitor : State → MonitorValue
   monitor T = monitor_value W T (mutex_of W x.0)
 
   own-mutex : (S.mutex (mutex_of W x.0)).owner ≡ Some u → unless (owned_by S u (mutex_of W x.0)) code.NotOwner code.Ok ≡ code.Ok
   own-mutex e = unless-true (owned_by S u (mutex_of W x.0)) code.NotOwner code.Ok (is-some_of u (S.mutex (mutex_of W x.0)).owner e)
 
-  condwait : ValueRow W S s u (op.CondWait x) monitor MonitorGives
+  pub condwait : ValueRow W S s u (op.CondWait x) monitor MonitorGives
   condwait (act.Given b) new gives =
       waits W Z S s u acts x.0 (mutex_of W x.0) (condition_number W x.0) declared mutex (condition-at W x.0 is) _ (b ∷ []) new (own-mutex gives.0) refl (first-woken S (standing W S (Waiting (mutex_of W x.0))) b gives.1) gives.2
   condwait act.Rested new gives =
@@ -234,7 +234,7 @@ module _ (W : Parts) (Z : List OrderShape) (S : State) (s u : ℕ) (acts : IsAct
       heard W Z S s u acts x.0 (mutex_of W x.0) (condition_number W x.0) declared mutex (condition-at W x.0 is) _ (first_alone (standing W S (Waiting x.0))) (others (standing W S (Waiting x.0))) (first-and-others (standing W S (Waiting x.0))) refl refl
       os new woken (same ∙ signal-is)
 
-  signal : ValueRow W S s u (op.Signal x) monitor MonitorGives
+  pub signal : ValueRow W S s u (op.Signal x) monitor MonitorGives
   signal (act.Given b) new gives = signals (b ∷ []) new (given-by (S.mutex (mutex_of W x.0)).owner b (first_alone (standing W S (Waiting x.0))) (first-of-first (standing W S (Waiting x.0))) gives.0) gives.1
   signal act.Rested new gives = signals [] new (rested-by (S.mutex (mutex_of W x.0)).owner (first_alone (standing W S (Waiting x.0))) (first-of-first (standing W S (Waiting x.0))) gives.0) gives.1
   signal _ new gives = absurd gives
@@ -245,18 +245,7 @@ module _ (W : Parts) (Z : List OrderShape) (S : State) (s u : ℕ) (acts : IsAct
       heard W Z S s u acts x.0 (mutex_of W x.0) (condition_number W x.0) declared mutex (condition-at W x.0 is) _ (standing W S (Waiting x.0)) [] (sym (append-nil (standing W S (Waiting x.0)))) refl refl
       os new woken (same ∙ broadcast-is)
 
-  broadcast : ValueRow W S s u (op.Broadcast x) monitor MonitorGives
+  pub broadcast : ValueRow W S s u (op.Broadcast x) monitor MonitorGives
   broadcast (act.Given b) new gives = broadcasts (b ∷ []) new (given-by (S.mutex (mutex_of W x.0)).owner b (standing W S (Waiting x.0)) refl gives.0) gives.1
   broadcast act.Rested new gives = broadcasts [] new (rested-by (S.mutex (mutex_of W x.0)).owner (standing W S (Waiting x.0)) refl gives.0) gives.1
   broadcast _ new gives = absurd gives
-
-  -- The rows.
-
-  pub condwait-row : Row W S s u (op.CondWait x)
-  condwait-row = row-by_value W S s u _ _ MonitorIs monitor MonitorGives (act.Wait (condition_number W x.0) (moved (owned_at S u))) _ (mutex-at W (mutex_of W x.0) mutex) condwait
-
-  pub signal-row : Row W S s u (op.Signal x)
-  signal-row = row-by_value W S s u _ _ MonitorIs monitor MonitorGives (act.Signal (condition_number W x.0)) _ (mutex-at W (mutex_of W x.0) mutex) signal
-
-  pub broadcast-row : Row W S s u (op.Broadcast x)
-  broadcast-row = row-by_value W S s u _ _ MonitorIs monitor MonitorGives (act.Broadcast (condition_number W x.0)) _ (mutex-at W (mutex_of W x.0) mutex) broadcast

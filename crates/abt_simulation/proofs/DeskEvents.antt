@@ -1,7 +1,6 @@
 -- Look and End: if a desk answers so, they are events.
-use Rattle.std.proofs.Common.{◌≡◌, ◌≢◌, ℕ, ◌<◌, ◌==◌, Bool, true, false, List, [], ◌∷◌, ◌++◌, length, map, Option, Some, None, refl, sym, ◌∙◌, ap, inl, inr}
-use Rattle.std.specs.Prelude.{◌&&◌}
-use Rattle.std.proofs.lemmas.Bool.{cond-true, eq-eqb}
+use Rattle.std.proofs.Common.{◌≡◌, ◌≢◌, ℕ, ◌<◌, Bool, true, false, List, [], ◌∷◌, ◌++◌, length, map, Option, Some, None, refl, sym, ◌∙◌, ap, inl, inr}
+use Rattle.std.proofs.lemmas.Bool.{cond-true}
 use Rattle.abt_machine.specs.declared.events.Cause.{Cause}
 use Rattle.abt_machine.specs.declared.events.Place.{Place}
 use Rattle.abt_machine.specs.declared.events.Place.TheVariants as place
@@ -12,7 +11,6 @@ use Rattle.abt_machine.specs.declared.workload.Parts.{Parts}
 use Rattle.abt_machine.specs.Numbers.{stream_no, unit_no}
 use Rattle.abt_machine.specs.Maps.{put_at, put_all}
 use Rattle.abt_machine.specs.Queues.{first}
-use Rattle.abt_machine.specs.Workloads.{body_at, is_sched}
 use Rattle.abt_machine.specs.State.{State, Carried, Mark, Plain, Asked}
 use Rattle.abt_machine.specs.Lines.{InTray, InHand, InNext, InFrames, Joining, ticket_in, standing, tray_end}
 use Rattle.abt_machine.specs.Next.{LookDue, EndDue}
@@ -23,7 +21,7 @@ use Rattle.abt_machine.specs.Events.{after, change, look_row, without_requests}
 use Rattle.abt_machine.specs.Sound.{Sound}
 use Rattle.abt_machine.specs.Values.{Owned, owned_at, owned_in, part_of, Object, DeskIs, Out, Ended, phase_at, desk_value, object_of}
 use Rattle.abt_machine.specs.Acts as act
-use Rattle.abt_machine.specs.Desks.{is_out, takes_back, with_ended, unasked}
+use Rattle.abt_machine.specs.Desks.{takes_back, with_ended, unasked}
 use Rattle.abt_machine.specs.Gives.{SiteGives}
 use Rattle.abt_machine.specs.Turns.{due_of, looked}
 use Rattle.abt_laws.proofs.Lists.{EachOf, EachOf-then}
@@ -40,16 +38,13 @@ use Rattle.abt_simulation.proofs.Acting.{IsActing, acting}
 use Rattle.abt_simulation.proofs.OwnedLines.{Head, head-of, owned-stays, owned-emptied, owned-joined}
 use Rattle.abt_simulation.proofs.OwnParts.{IsAway, off-nowhere, alone-standing, away-line, away-other, standing-distinct, next-standing, away-declared, away-loose, part-empties}
 use Rattle.abt_simulation.proofs.Shapes.{none-to_tray}
+use Rattle.abt_simulation.proofs.Phases.{desk-is, takes-own}
 use Rattle.abt_simulation.proofs.Simulated.{Simulated}
 
 module _ (W : Parts) (Z : List OrderShape) (S : State) (s : ℕ) (sound : Sound W Z S) (object : Object) (o : Owned) where
   -- End.
 
   module _ (cause : Cause) (acts : IsActing W Z S s o.number) where
-    -- a desk takes back its own unit, if it is in a hand
-    takes-own : takes_back (desk_value W S o.number) o ≡ true
-    takes-own = ap (λ pl. is_out (phase_at (owned_at S o.number) pl) && o.number == o.number) acts.in_hand ∙ eq-eqb o.number o.number refl
-
     -- the unit has ended afterwards
     end-place : put_all (put_at S.place o.number (place.Ended cause)) (to_tray W S s (standing W S (Joining o.number))) o.number ≡ place.Ended cause
     end-place =
@@ -69,18 +64,10 @@ module _ (W : Parts) (Z : List OrderShape) (S : State) (s : ℕ) (sound : Sound 
     -- its desk has it, and nobody joins it any more
     end-desk : owned_at S o.number ≡ o → desk_value W (after W S s (what.End (unit_no o.number) cause)) o.number ≡ with_ended o cause (desk_value W S o.number)
     end-desk owns =
-        let T : State = after W S s (what.End (unit_no o.number) cause) in
-        let d : T.desk o.number ≡ without_requests (S.desk o.number) = put_at-same S.desk o.number (without_requests (S.desk o.number)) in
-        λ i. record {
-          number = o.number;
-          sched = is_sched (body_at W o.number);
-          phase = (ap (phase_at (owned_at S o.number)) end-place ∙ ap (λ q. Ended q cause) owns) i;
-          joiners = owned-emptied W S (change W S s (what.End (unit_no o.number) cause)) (Joining o.number) (refl, none-to_tray W S s (Joining o.number) (standing W S (Joining o.number)) tt)
-              (each-among (λ v. KeyOf v (change W S s (what.End (unit_no o.number) cause)).moves) (standing W S (Joining o.number)) (λ v m. inr (tray_moves-key s (tray_end W S s) (standing W S (Joining o.number)) v m))) i;
-          cancel = (d i).cancel;
-          migrate = (d i).migrate;
-          migratable = (d i).migratable;
-        }
+        desk-is W (after W S s (what.End (unit_no o.number) cause)) o.number _ _ (without_requests (S.desk o.number)) (ap (phase_at (owned_at S o.number)) end-place ∙ ap (λ q. Ended q cause) owns)
+        (owned-emptied W S (change W S s (what.End (unit_no o.number) cause)) (Joining o.number) (refl, none-to_tray W S s (Joining o.number) (standing W S (Joining o.number)) tt)
+        (each-among (λ v. KeyOf v (change W S s (what.End (unit_no o.number) cause)).moves) (standing W S (Joining o.number)) (λ v m. inr (tray_moves-key s (tray_end W S s) (standing W S (Joining o.number)) v m))))
+        (put_at-same S.desk o.number (without_requests (S.desk o.number)))
 
   -- an end, if the desk answers with its joiners
   pub simulate-end : (cause : Cause) (os : List Owned) → due_of W s (part_of W S s) ≡ EndDue cause → first (owned_in W S (InHand s)) ≡ Some o → SiteGives (object_of W S (site.Desk (unit_no o.number))) (act.End o cause) (act.Woke os) object →
@@ -88,7 +75,7 @@ module _ (W : Parts) (Z : List OrderShape) (S : State) (s : ℕ) (sound : Sound 
   simulate-end cause os is hands gives =
       let h : Head S (standing W S (InHand s)) o = head-of S (standing W S (InHand s)) o hands in
       let acts : IsActing W Z S s o.number = acting W Z S s o.number (EndDue cause) sound (due-same W S s ∙ is) tt tt h.is in
-      let back : takes_back (desk_value W S o.number) o ≡ true = takes-own cause acts in
+      let back : takes_back (desk_value W S o.number) o ≡ true = takes-own W Z S s o acts in
       let woken : os ≡ owned_in W S (Joining o.number) = gives.2.0 ∙ cond-true (takes_back (desk_value W S o.number) o) _ _ back in
       let new : gives.0 ≡ with_ended o cause (desk_value W S o.number) = gives.2.1 ∙ cond-true (takes_back (desk_value W S o.number) o) _ _ back in
       record {
@@ -150,17 +137,10 @@ module _ (W : Parts) (Z : List OrderShape) (S : State) (s : ℕ) (sound : Sound 
         ((q : Owned) → phase_at q pl ≡ Out) → ticket_in (Joining o.number) pl ≡ None → EachOf (λ (m : ℕ × Carried). m.0 ≡ o.number) c.carried → desk_value W (changed S d) o.number ≡ unasked (desk_value W S o.number)
     look-desk_by pl c out none keys =
         let d : Change = record c { moves = (o.number, pl) ∷ []; desks = (o.number, without_requests (S.desk o.number)) ∷ [] } in
-        let e : put_at S.desk o.number (without_requests (S.desk o.number)) o.number ≡ without_requests (S.desk o.number) = put_at-same S.desk o.number (without_requests (S.desk o.number)) in
         let away : ticket_in (Joining o.number) (S.place o.number) ≡ None = ap (ticket_in (Joining o.number)) at in
-        λ i. record {
-          number = o.number;
-          sched = is_sched (body_at W o.number);
-          phase = look-phase (owned_at (changed S d) o.number) pl (out (owned_at (changed S d) o.number)) i;
-          joiners = owned-stays W S d (Joining o.number) (none, tt) (away, tt) (EachOf-then (λ (m : ℕ × Carried). m.0 ≡ o.number) (λ (m : ℕ × Carried). ticket_in (Joining o.number) (S.place m.0) ≡ None) c.carried (λ m e. ap (λ n. ticket_in (Joining o.number) (S.place n)) e ∙ away) keys) i;
-          cancel = (e i).cancel;
-          migrate = (e i).migrate;
-          migratable = (e i).migratable;
-        }
+        desk-is W (changed S d) o.number _ _ (without_requests (S.desk o.number)) (look-phase (owned_at (changed S d) o.number) pl (out (owned_at (changed S d) o.number)))
+        (owned-stays W S d (Joining o.number) (none, tt) (away, tt) (EachOf-then (λ (m : ℕ × Carried). m.0 ≡ o.number) (λ (m : ℕ × Carried). ticket_in (Joining o.number) (S.place m.0) ≡ None) c.carried (λ m e. ap (λ n. ticket_in (Joining o.number) (S.place n)) e ∙ away) keys))
+        (put_at-same S.desk o.number (without_requests (S.desk o.number)))
 
     -- so it is for all requests
     look-desk : (b : Bool) (m : Option ℕ) → desk_value W (changed S (look_row W S s o.number b m)) o.number ≡ unasked (desk_value W S o.number)

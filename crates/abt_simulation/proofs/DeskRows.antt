@@ -1,7 +1,7 @@
 -- Operations at a desk. Unit u, in the hand of stream s, makes the step.
-use Rattle.std.proofs.Common.{◌≡◌, ◌≢◌, ℕ, suc, ◌<◌, ◌==◌, Bool, true, false, List, [], ◌∷◌, ◌++◌, length, Some, None, refl, sym, ◌∙◌, ap, inl, inr}
-use Rattle.std.specs.Prelude.{◌&&◌, not, option_map}
-use Rattle.std.proofs.lemmas.Bool.{cond-true, eq-eqb}
+use Rattle.std.proofs.Common.{◌≡◌, ◌≢◌, ℕ, suc, ◌<◌, Bool, true, false, List, [], ◌∷◌, ◌++◌, length, Option, Some, None, refl, sym, ◌∙◌, ap, subst, inl, inr}
+use Rattle.std.specs.Prelude.{not, option_map}
+use Rattle.std.proofs.lemmas.Bool.{cond-true}
 use Rattle.abt_machine.specs.declared.events.Code.{Code}
 use Rattle.abt_machine.specs.declared.events.Code.TheVariants as code
 use Rattle.abt_machine.specs.declared.events.Place.{Place}
@@ -21,32 +21,59 @@ use Rattle.abt_machine.specs.Workloads.{body_at, is_sched}
 use Rattle.abt_machine.specs.Access.{may_put}
 use Rattle.abt_machine.specs.Sites.{first_pool}
 use Rattle.abt_machine.specs.State.{State, Carried, Desk}
-use Rattle.abt_machine.specs.Lines.{Joining, ticket_in, tray_end}
+use Rattle.abt_machine.specs.Lines.{Joining, tray_end}
 use Rattle.abt_machine.specs.Carrying.{advanced, newborn}
-use Rattle.abt_machine.specs.Changes.{no_change, changed, to_tray, goes_on}
+use Rattle.abt_machine.specs.Changes.{Change, no_change, changed, to_tray, goes_on}
 use Rattle.abt_machine.specs.Codes.{is_unborn, is_ended, is_alive, is_suspended, unless, code_of}
 use Rattle.abt_machine.specs.Steps.{begins, asks, joins, op_row}
-use Rattle.abt_machine.specs.Values.{Owned, owned_at, owned_in, part_of, DeskIs, DeskValue, Out, Suspended, phase_at, desk_value}
+use Rattle.abt_machine.specs.Values.{Owned, owned_at, owned_in, part_of, DeskIs, DeskValue, Phase, Out, Suspended, phase_at, desk_value}
 use Rattle.abt_machine.specs.Acts as act
 use Rattle.abt_machine.specs.Acts.{Answer, moved, reborn}
-use Rattle.abt_machine.specs.Desks.{DeskGives, is_out, is_living, takes_back, with_phase}
+use Rattle.abt_machine.specs.Desks.{DeskGives, unborn_in, suspended_in, ended_in, is_living, takes_back, with_phase}
 use Rattle.abt_machine.specs.Plans.{Effect, Calls, keeps, to_caller}
 use Rattle.abt_machine.specs.Turns.{stepped}
 use Rattle.abt_laws.proofs.Maps.{put_at-same, put_at-other, put_at-cases}
 use Rattle.abt_laws.proofs.Places.{line_of, place_in, same-self}
 use Rattle.abt_laws.proofs.SoundChanges.{placed-below}
 use Rattle.abt_laws.proofs.Codes.{IsRefusal}
+use Rattle.abt_laws.proofs.LinesAfter.{NoneFrom}
 use Rattle.abt_simulation.proofs.Acting.{IsActing}
 use Rattle.abt_simulation.proofs.OwnedLines.{owned-stays}
 use Rattle.abt_simulation.proofs.OwnParts.{IsAway, off-object, off-nowhere, nowhere-ticket, hand-only, away-other, part-keeps}
 use Rattle.abt_simulation.proofs.Shapes.{owned, wakes-part, goes-part, blocks-part, line-joined, line-same}
 use Rattle.abt_simulation.proofs.Rows.{Row, RowBy, ValueBy, ValueRow, ValueDone, row-by_value, desk-at, value-same, refuses}
-use Rattle.abt_simulation.proofs.Phases.{if_so, living-at, ended-at, unborn_in-at, suspended_in-at, ended_in-at, so-some, so-none, so-mapped, unborn-nowhere, ended-nowhere, suspended-nowhere}
+use Rattle.abt_simulation.proofs.Phases.{desk-is, takes-own, if_so, living-at, ended-at, unborn_in-at, suspended_in-at, ended_in-at, so-none, so-mapped, unborn-nowhere, ended-nowhere, suspended-nowhere}
+
+-- What desks answer to operations that let a unit come out.
+
+-- the desk gives its unit, as f makes it, if it is found there so, else it refuses with code c
+abbrev Told : (Phase → Option Owned) → (Owned → Owned) → Code → DeskValue → Answer → DeskValue → Type 0
+Told found f c old (act.Given o) new = (option_map f (found old.phase) ≡ Some o) × (new ≡ with_phase Out old)
+Told found f c old (act.Coded d) new = (c ≡ d) × (found old.phase ≡ None) × (new ≡ old)
+Told found f c old _ new = ⊥
+
+-- a desk that is to resume its unit
+resume-told : (old : DeskValue) (b : Answer) (new : DeskValue) → DeskGives old act.Resume b new → Told suspended_in (λ o. o) code.UnitState old b new
+resume-told old (act.Given o) new gives = (ap (option_map (λ q. q)) gives.0, gives.1)
+resume-told old (act.Coded code.UnitState) new gives = (refl, gives.0, gives.1)
+resume-told old _ new gives = absurd gives
+
+-- to create it
+create-told : (p : ℕ) (old : DeskValue) (b : Answer) (new : DeskValue) → DeskGives old (act.Create p) b new → Told unborn_in (reborn p) code.Exists old b new
+create-told p old (act.Given o) new gives = gives
+create-told p old (act.Coded code.Exists) new gives = (refl, gives.0, gives.1)
+create-told p old _ new gives = absurd gives
+
+-- to revive it
+revive-told : (p : ℕ) (old : DeskValue) (b : Answer) (new : DeskValue) → DeskGives old (act.Revive p) b new → Told ended_in (reborn p) code.UnitState old b new
+revive-told p old (act.Given o) new gives = gives
+revive-told p old (act.Coded code.UnitState) new gives = (refl, gives.0, gives.1)
+revive-told p old _ new gives = absurd gives
 
 module _ (W : Parts) (Z : List OrderShape) (S : State) (s u : ℕ) (acts : IsActing W Z S s u) where
   -- a row by the desk's value
   desk-row : (a : Op) (v : UnitNo) (asked : act.Act) (brings : Answer → Effect) → ValueBy W S s u a (λ T. desk_value W T v.0) DeskGives (Calls (site.Desk v) asked brings) → RowBy W S s u a (Calls (site.Desk v) asked brings)
-  desk-row a v asked brings row = row-by_value W S s u a (site.Desk v) DeskIs (λ T. desk_value W T v.0) DeskGives asked brings (desk-at W v.0) row
+  desk-row a v asked brings row = row-by_value W S s u a (Calls (site.Desk v) asked brings) _ _ _ (desk-at W v.0) row
 
   -- a refusal by the desk
   desk-refuses : (a : Op) (c : Code) (v : UnitNo) (new : DeskValue) → IsRefusal c → c ≡ code_of W S s u a → new ≡ desk_value W S v.0 → ValueDone W S s u a (λ T. desk_value W T v.0) (to_caller (owned_at S u) (act.Coded c)) new
@@ -65,30 +92,17 @@ module _ (W : Parts) (Z : List OrderShape) (S : State) (s u : ℕ) (acts : IsAct
 
   -- the desk has the new requests
   asks-desk : (v : ℕ) (d : Desk) → desk_value W (changed S (asks S u v d)) v ≡ record (desk_value W S v) { cancel = d.cancel; migrate = d.migrate; migratable = d.migratable }
-  asks-desk v d = λ i. record {
-    number = v;
-    sched = is_sched (body_at W v);
-    phase = (desk-same v i).phase;
-    joiners = (desk-same v i).joiners;
-    cancel = (put_at-same S.desk v d i).cancel;
-    migrate = (put_at-same S.desk v d i).migrate;
-    migratable = (put_at-same S.desk v d i).migratable;
-  }
+  asks-desk v d = desk-is W (changed S (asks S u v d)) v _ _ d (ap (λ (k : DeskValue). k.phase) (desk-same v)) (ap (λ (k : DeskValue). k.joiners) (desk-same v)) (put_at-same S.desk v d)
 
   -- the code of a request by whether the unit lives
   by-life : (v : ℕ) (b : Bool) (rest : Code) → is_living (desk_value W S v).phase ≡ b → unless (is_alive (S.place v)) code.UnitState rest ≡ unless b code.UnitState rest
   by-life v b rest e = ap (λ t. unless t code.UnitState rest) (sym (living-at (owned_at S v) (S.place v)) ∙ e)
 
   -- a request to cancel, by the answer
-  cancel-value : (v : UnitNo) → ValueRow W S s u (op.Cancel v) (λ T. desk_value W T v.0) DeskGives
+  pub cancel-value : (v : UnitNo) → ValueRow W S s u (op.Cancel v) (λ T. desk_value W T v.0) DeskGives
   cancel-value v (act.Coded code.Ok) new gives = record { code = sym (by-life v.0 true code.Ok gives.0); own = asks-own v.0 (record (S.desk v.0) { cancel = true }); called = asks-desk v.0 (record (S.desk v.0) { cancel = true }) ∙ sym gives.1 }
   cancel-value v (act.Coded code.UnitState) new gives = desk-refuses _ code.UnitState v new tt (sym (by-life v.0 false code.Ok gives.0)) gives.1
-  cancel-value v (act.Coded _) new gives = absurd gives
   cancel-value v _ new gives = absurd gives
-
-  -- the row of cancel
-  pub cancel-row : (v : UnitNo) → Row W S s u (op.Cancel v)
-  cancel-row v = desk-row _ v act.AskCancel _ (cancel-value v)
 
   -- a request to migrate to pool p
   module _ (a : Op) (v : UnitNo) (p : ℕ) (is : code_of W S s u a ≡ unless (is_alive (S.place v.0)) code.UnitState (unless (S.desk v.0).migratable code.NotMigratable code.Ok)) (row : op_row W S s u a ≡ asks S u v.0 (record (S.desk v.0) { migrate = Some p })) where
@@ -105,7 +119,6 @@ module _ (W : Parts) (Z : List OrderShape) (S : State) (s u : ℕ) (acts : IsAct
     }
     migrates (act.Coded code.UnitState) new gives = desk-refuses a code.UnitState v new tt (sym (is ∙ by-life v.0 false _ gives.0)) gives.1
     migrates (act.Coded code.NotMigratable) new gives = desk-refuses a code.NotMigratable v new tt (sym (by-both false gives.0 gives.1)) gives.2
-    migrates (act.Coded _) new gives = absurd gives
     migrates _ new gives = absurd gives
 
   -- the row of migrate
@@ -121,15 +134,10 @@ module _ (W : Parts) (Z : List OrderShape) (S : State) (s u : ℕ) (acts : IsAct
   by-body v b e = ap (λ t. unless (not t) code.NotMigratable code.Ok) e
 
   -- whether a unit may migrate, by the answer
-  migratable-value : (v : UnitNo) (b : Bool) → ValueRow W S s u (op.Migratable v b) (λ T. desk_value W T v.0) DeskGives
+  pub migratable-value : (v : UnitNo) (b : Bool) → ValueRow W S s u (op.Migratable v b) (λ T. desk_value W T v.0) DeskGives
   migratable-value v b (act.Coded code.Ok) new gives = record { code = sym (by-body v.0 false gives.0); own = asks-own v.0 (record (S.desk v.0) { migratable = b }); called = asks-desk v.0 (record (S.desk v.0) { migratable = b }) ∙ sym gives.1 }
   migratable-value v b (act.Coded code.NotMigratable) new gives = desk-refuses _ code.NotMigratable v new tt (sym (by-body v.0 true gives.0)) gives.1
-  migratable-value v b (act.Coded _) new gives = absurd gives
   migratable-value v b _ new gives = absurd gives
-
-  -- the row of migratable
-  pub migratable-row : (v : UnitNo) (b : Bool) → Row W S s u (op.Migratable v b)
-  migratable-row v b = desk-row _ v (act.SetMigratable b) _ (migratable-value v b)
 
   -- Joining and suspension: u leaves the hand.
 
@@ -154,18 +162,13 @@ module _ (W : Parts) (Z : List OrderShape) (S : State) (s u : ℕ) (acts : IsAct
   -- u is the last joiner then
   joins-desk : (v : ℕ) → desk_value W (changed S (record (goes_on S u) { moves = (u, place_in (Joining v) (S.join_next v)) ∷ []; join_next = (v, suc (S.join_next v)) ∷ [] })) v
       ≡ record (desk_value W S v) { joiners = owned_in W S (Joining v) ++ moved (owned_at S u) ∷ [] }
-  joins-desk v = λ i. record {
-    number = v;
-    sched = is_sched (body_at W v);
-    phase = phase-stays v (place_in (Joining v) (S.join_next v)) (advanced (S.carried u)) (λ q. refl) i;
-    joiners = line-joined W Z S s u acts (Joining v) tt (S.join_next v) [] (advanced (S.carried u)) (record no_change { join_next = (v, suc (S.join_next v)) ∷ [] }) (same-self v) (placed-below W Z S (Joining v) (S.join_next v) acts.sound (λ w t k. k.1)) tt i;
-    cancel = (S.desk v).cancel;
-    migrate = (S.desk v).migrate;
-    migratable = (S.desk v).migratable;
-  }
+  joins-desk v =
+      let T : State = changed S (record (goes_on S u) { moves = (u, place_in (Joining v) (S.join_next v)) ∷ []; join_next = (v, suc (S.join_next v)) ∷ [] }) in
+      desk-is W T v _ _ (S.desk v) (phase-stays v (place_in (Joining v) (S.join_next v)) (advanced (S.carried u)) (λ q. refl))
+      (line-joined W Z S s u acts (Joining v) tt (S.join_next v) [] (advanced (S.carried u)) (record no_change { join_next = (v, suc (S.join_next v)) ∷ [] }) (same-self v) (placed-below W Z S (Joining v) (S.join_next v) acts.sound (λ w t k. k.1)) tt) refl
 
   -- a join, by the answer
-  join-value : (v : UnitNo) → ValueRow W S s u (op.Join v) (λ T. desk_value W T v.0) DeskGives
+  pub join-value : (v : UnitNo) → ValueRow W S s u (op.Join v) (λ T. desk_value W T v.0) DeskGives
   join-value v (act.Given b) new gives =
       let row : joins S u v.0 (S.place v.0) ≡ goes_on S u = joins-ended v.0 (S.place v.0) (sym (ended-at (owned_at S v.0) (S.place v.0)) ∙ gives.0) in
       record {
@@ -183,43 +186,29 @@ module _ (W : Parts) (Z : List OrderShape) (S : State) (s u : ℕ) (acts : IsAct
       }
   join-value v _ new gives = absurd gives
 
-  -- the row of join
-  pub join-row : (v : UnitNo) → Row W S s u (op.Join v)
-  join-row v = desk-row _ v (act.Join (moved (owned_at S u))) _ (join-value v)
-
-  -- its own desk takes it back
-  takes-own : takes_back (desk_value W S u) (moved (owned_at S u)) ≡ true
-  takes-own = ap (λ pl. is_out (phase_at (owned_at S u) pl) && u == u) acts.in_hand ∙ eq-eqb u u refl
-
   -- the desk has its unit, suspended
   suspends-desk : desk_value W (changed S (op_row W S s u op.Suspend)) u ≡ with_phase (Suspended (moved (owned_at S u))) (desk_value W S u)
   suspends-desk =
       let pl : Place = place.Blocked spot.Suspended 0 in
       let T : State = changed S (op_row W S s u op.Suspend) in
-      λ i. record {
-        number = u;
-        sched = is_sched (body_at W u);
-        phase = (ap (phase_at (owned_at T u)) (put_at-same S.place u pl) ∙ ap (λ (k : Carried). Suspended (owned u k)) (put_at-same S.carried u (advanced (S.carried u)))) i;
-        joiners = line-same W Z S s u acts (Joining u) tt ((u, pl) ∷ []) (advanced (S.carried u)) no_change (refl, tt) (hand-only W Z S s u acts (Joining u) refl, tt) i;
-        cancel = (S.desk u).cancel;
-        migrate = (S.desk u).migrate;
-        migratable = (S.desk u).migratable;
-      }
+      desk-is W T u _ _ (S.desk u) (ap (phase_at (owned_at T u)) (put_at-same S.place u pl) ∙ ap (λ (k : Carried). Suspended (owned u k)) (put_at-same S.carried u (advanced (S.carried u))))
+      (line-same W Z S s u acts (Joining u) tt ((u, pl) ∷ []) (advanced (S.carried u)) no_change (refl, tt) (hand-only W Z S s u acts (Joining u) refl, tt)) refl
 
   -- a suspension, by the answer
-  suspend-value : ValueRow W S s u op.Suspend (λ T. desk_value W T u) DeskGives
+  pub suspend-value : ValueRow W S s u op.Suspend (λ T. desk_value W T u) DeskGives
   suspend-value act.Rested new gives = record {
     code = refl;
     own = blocks-part W Z S s u acts (place.Blocked spot.Suspended 0) [] (advanced (S.carried u)) no_change (off-nowhere s (place.Blocked spot.Suspended 0) refl) tt tt;
-    called = suspends-desk ∙ sym (gives ∙ cond-true (takes_back (desk_value W S u) (moved (owned_at S u))) _ _ takes-own);
+    called = suspends-desk ∙ sym (gives ∙ cond-true (takes_back (desk_value W S u) (moved (owned_at S u))) _ _ (takes-own W Z S s (moved (owned_at S u)) acts));
   }
   suspend-value _ new gives = absurd gives
 
-  -- the row of suspend
-  pub suspend-row : Row W S s u op.Suspend
-  suspend-row = desk-row _ (unit_no u) (act.Suspend (moved (owned_at S u))) _ suspend-value
-
   -- Units that come out of their desk, which stand in no line.
+
+  -- u goes on after this change, v comes to the tray as f makes it, and its desk is out
+  abbrev Comes : ℕ → (Owned → Owned) → Change → Type 0
+  Comes v f c =
+      (part_of W (changed S c) s ≡ stepped (part_of W S s) (keeps (moved (owned_at S u)) (f (owned_at S v) ∷ []))) × (desk_value W (changed S c) v ≡ with_phase Out (desk_value W S v))
 
   module _ (v : ℕ) (declared : v < length W.units) (nowhere : line_of (S.place v) ≡ None) where
     -- v is not with stream s
@@ -230,112 +219,63 @@ module _ (W : Parts) (Z : List OrderShape) (S : State) (s u : ℕ) (acts : IsAct
     v-other : v ≢ u
     v-other = away-other W Z S s u acts v away.off
 
-    -- v is resumed: it comes to the tray
-    resumes-part : part_of W (changed S (op_row W S s u (op.Resume (unit_no v)))) s ≡ stepped (part_of W S s) (keeps (moved (owned_at S u)) (owned_at S v ∷ []))
-    resumes-part = wakes-part W Z S s u acts (v ∷ []) (advanced (S.carried u)) no_change ((λ m. m), tt) (away, tt)
+    -- the desk is out once v is on the tray, in whichever of its lives
+    out-desk : (c : Change) (n : ℕ) → let d : Change = record c { moves = to_tray W S s (v ∷ []) } in
+        NoneFrom (Joining v) S.place c.carried → (changed S d).desk v ≡ record (S.desk v) { life = n } → desk_value W (changed S d) v ≡ with_phase Out (desk_value W S v)
+    out-desk c n keys desk =
+        let d : Change = record c { moves = to_tray W S s (v ∷ []) } in
+        desk-is W (changed S d) v _ _ (record (S.desk v) { life = n }) (ap (phase_at (owned_at (changed S d) v)) (put_at-same S.place v (place.Tray (stream_no s) (tray_end W S s))))
+        (owned-stays W S d (Joining v) (refl, tt) (nowhere-ticket (Joining v) (S.place v) nowhere, tt) keys) desk
 
-    -- and its desk is out
-    resumes-desk : desk_value W (changed S (op_row W S s u (op.Resume (unit_no v)))) v ≡ with_phase Out (desk_value W S v)
-    resumes-desk =
-        let T : State = changed S (op_row W S s u (op.Resume (unit_no v))) in
-        λ i. record {
-          number = v;
-          sched = is_sched (body_at W v);
-          phase = ap (phase_at (owned_at T v)) (put_at-same S.place v (place.Tray (stream_no s) (tray_end W S s))) i;
-          joiners = line-same W Z S s u acts (Joining v) tt (to_tray W S s (v ∷ [])) (advanced (S.carried u)) no_change (refl, tt) (nowhere-ticket (Joining v) (S.place v) nowhere, tt) i;
-          cancel = (S.desk v).cancel;
-          migrate = (S.desk v).migrate;
-          migratable = (S.desk v).migratable;
-        }
+    -- v is resumed
+    resumes : Comes v (λ o. o) (op_row W S s u (op.Resume (unit_no v)))
+    resumes = (
+      wakes-part W Z S s u acts (v ∷ []) (advanced (S.carried u)) no_change ((λ m. m), tt) (away, tt),
+      out-desk (goes_on S u) (S.desk v).life (hand-only W Z S s u acts (Joining v) refl, tt) refl,
+    )
 
-    -- v begins a life with home p: it comes to the tray so
-    begins-part : (p : ℕ) → part_of W (changed S (begins W S s u v p)) s ≡ stepped (part_of W S s) (keeps (moved (owned_at S u)) (reborn p (owned_at S v) ∷ []))
-    begins-part p =
+    -- v begins a life with home p
+    begins-life : (p : ℕ) → Comes v (reborn p) (begins W S s u v p)
+    begins-life p =
         let f : ℕ → Carried = put_at S.carried u (advanced (S.carried u)) in
-        let k : Carried = newborn p (S.carried v) in
-        part-keeps W Z S s u acts [] (v ∷ []) ((u, advanced (S.carried u)) ∷ (v, k) ∷ []) (begins W S s u v p) tt ((λ m. m), tt) (away, tt) (inl refl, (inr away.off, tt))
-        ∙ (λ i. stepped (part_of W S s) (keeps (owned u ((put_at-other f v k u (λ e. v-other (sym e)) ∙ put_at-same S.carried u (advanced (S.carried u))) i)) (owned v (put_at-same f v k i) ∷ [])))
+        let k : Carried = newborn p (S.carried v) in (
+          part-keeps W Z S s u acts [] (v ∷ []) ((u, advanced (S.carried u)) ∷ (v, k) ∷ []) (begins W S s u v p) tt ((λ m. m), tt) (away, tt) (inl refl, (inr away.off, tt))
+              ∙ (λ i. stepped (part_of W S s) (keeps (owned u ((put_at-other f v k u (λ e. v-other (sym e)) ∙ put_at-same S.carried u (advanced (S.carried u))) i)) (owned v (put_at-same f v k i) ∷ []))),
+          out-desk (begins W S s u v p) (suc (S.desk v).life) (hand-only W Z S s u acts (Joining v) refl, (nowhere-ticket (Joining v) (S.place v) nowhere, tt)) (put_at-same S.desk v (record (S.desk v) { life = suc (S.desk v).life })),
+        )
 
-    -- and its desk is out
-    begins-desk : (p : ℕ) → desk_value W (changed S (begins W S s u v p)) v ≡ with_phase Out (desk_value W S v)
-    begins-desk p =
-        let T : State = changed S (begins W S s u v p) in
-        let none : ticket_in (Joining v) (S.place v) ≡ None = nowhere-ticket (Joining v) (S.place v) nowhere in
-        let d : T.desk v ≡ record (S.desk v) { life = suc (S.desk v).life } = put_at-same S.desk v (record (S.desk v) { life = suc (S.desk v).life }) in
-        λ i. record {
-          number = v;
-          sched = is_sched (body_at W v);
-          phase = ap (phase_at (owned_at T v)) (put_at-same S.place v (place.Tray (stream_no s) (tray_end W S s))) i;
-          joiners = owned-stays W S (begins W S s u v p) (Joining v) (refl, tt) (none, tt) (hand-only W Z S s u acts (Joining v) refl, (none, tt)) i;
-          cancel = (d i).cancel;
-          migrate = (d i).migrate;
-          migratable = (d i).migratable;
-        }
+  -- the row of an operation to which v's desk answers so, and whose code is by a test of v's place
+  told-row : (a : Op) (v : UnitNo) (asked : act.Act) (found : Phase → Option Owned) (f : Owned → Owned) (c : Code) (test : Place → Bool) → IsRefusal c → ((o : Owned) (pl : Place) → found (phase_at o pl) ≡ if_so (test pl) o) →
+      ((pl : Place) → test pl ≡ true → line_of pl ≡ None) → ((b : Answer) (new : DeskValue) → DeskGives (desk_value W S v.0) asked b new → Told found f c (desk_value W S v.0) b new) →
+      code_of W S s u a ≡ unless (test (S.place v.0)) c code.Ok → (line_of (S.place v.0) ≡ None → Comes v.0 f (op_row W S s u a)) → RowBy W S s u a (Calls (site.Desk v) asked (to_caller (owned_at S u)))
+  told-row a v asked found f c test refusal at nowhere told is comes = desk-row a v asked _ (λ b new gives. by b new (told b new gives)) where
+    -- the code, and where v is found
+    by-test : (b : Bool) → test (S.place v.0) ≡ b → unless b c code.Ok ≡ code_of W S s u a
+    by-test b e = sym (is ∙ ap (λ t. unless t c code.Ok) e)
 
-  -- the code by a test of v's place
-  by-test : (a : Op) (test : Bool) (b : Bool) (c : Code) → code_of W S s u a ≡ unless test c code.Ok → test ≡ b → unless b c code.Ok ≡ code_of W S s u a
-  by-test a test b c is e = sym (is ∙ ap (λ t. unless t c code.Ok) e)
+    here : found (desk_value W S v.0).phase ≡ if_so (test (S.place v.0)) (owned_at S v.0)
+    here = at (owned_at S v.0) (S.place v.0)
 
-  -- a refusal by a test of v's place
-  refuses-by : (a : Op) (v : UnitNo) (test : Bool) (c : Code) (new : DeskValue) → IsRefusal c → code_of W S s u a ≡ unless test c code.Ok → if_so test (owned_at S v.0) ≡ None → new ≡ desk_value W S v.0
-      → ValueDone W S s u a (λ T. desk_value W T v.0) (to_caller (owned_at S u) (act.Coded c)) new
-  refuses-by a v test c new r is none same = desk-refuses a c v new r (by-test a test false c is (so-none test (owned_at S v.0) none)) same
-
-  -- a resumption, by the answer
-  resume-value : (v : UnitNo) → v.0 < length W.units → ValueRow W S s u (op.Resume v) (λ T. desk_value W T v.0) DeskGives
-  resume-value v declared (act.Given o) new gives =
-      let out : (is_suspended (S.place v.0) ≡ true) × (owned_at S v.0 ≡ o) = so-some (is_suspended (S.place v.0)) (owned_at S v.0) o (sym (suspended_in-at (owned_at S v.0) (S.place v.0)) ∙ gives.0) in
-      let nowhere : line_of (S.place v.0) ≡ None = suspended-nowhere (S.place v.0) out.0 in
-      record {
-        code = by-test (op.Resume v) (is_suspended (S.place v.0)) true code.UnitState refl out.0;
-        own = resumes-part v.0 declared nowhere ∙ ap (λ q. stepped (part_of W S s) (keeps (moved (owned_at S u)) (q ∷ []))) out.1;
-        called = resumes-desk v.0 declared nowhere ∙ sym gives.1;
-      }
-  resume-value v declared (act.Coded code.UnitState) new gives =
-      refuses-by _ v (is_suspended (S.place v.0)) code.UnitState new tt refl (sym (suspended_in-at (owned_at S v.0) (S.place v.0)) ∙ gives.0) gives.1
-  resume-value v declared (act.Coded _) new gives = absurd gives
-  resume-value v declared _ new gives = absurd gives
+    by : (b : Answer) (new : DeskValue) → Told found f c (desk_value W S v.0) b new → ValueDone W S s u a (λ T. desk_value W T v.0) (to_caller (owned_at S u) b) new
+    by (act.Given o) new t =
+        let out : (test (S.place v.0) ≡ true) × (f (owned_at S v.0) ≡ o) = so-mapped f (test (S.place v.0)) (owned_at S v.0) o (ap (option_map f) (sym here) ∙ t.0) in
+        let done : Comes v.0 f (op_row W S s u a) = comes (nowhere (S.place v.0) out.0) in
+        record { code = by-test true out.0; own = done.0 ∙ ap (λ q. stepped (part_of W S s) (keeps (moved (owned_at S u)) (q ∷ []))) out.1; called = done.1 ∙ sym t.1 }
+    by (act.Coded d) new t =
+        subst (λ k. ValueDone W S s u a (λ T. desk_value W T v.0) (to_caller (owned_at S u) (act.Coded k)) new) t.0
+        (desk-refuses a c v new refusal (by-test false (so-none (test (S.place v.0)) (owned_at S v.0) (sym here ∙ t.1))) t.2)
+    by _ new t = absurd t
 
   -- the row of resume
   pub resume-row : (v : UnitNo) → v.0 < length W.units → Row W S s u (op.Resume v)
-  resume-row v declared = desk-row _ v act.Resume _ (resume-value v declared)
-
-  -- v begins a life with home p if a test of its place holds
-  begins-by : (a : Op) (v : UnitNo) (p : ℕ) (test : Bool) (c : Code) (o : Owned) (new : DeskValue) → v.0 < length W.units → (test ≡ true → line_of (S.place v.0) ≡ None)
-      → code_of W S s u a ≡ unless test c code.Ok → op_row W S s u a ≡ begins W S s u v.0 p → option_map (reborn p) (if_so test (owned_at S v.0)) ≡ Some o → new ≡ with_phase Out (desk_value W S v.0)
-      → ValueDone W S s u a (λ T. desk_value W T v.0) (to_caller (owned_at S u) (act.Given o)) new
-  begins-by a v p test c o new declared nowhere is row given same =
-      let out : (test ≡ true) × (reborn p (owned_at S v.0) ≡ o) = so-mapped (reborn p) test (owned_at S v.0) o given in
-      record {
-        code = by-test a test true c is out.0;
-        own = ap (λ d. part_of W (changed S d) s) row ∙ (begins-part v.0 declared (nowhere out.0) p ∙ ap (λ q. stepped (part_of W S s) (keeps (moved (owned_at S u)) (q ∷ []))) out.1);
-        called = ap (λ d. desk_value W (changed S d) v.0) row ∙ (begins-desk v.0 declared (nowhere out.0) p ∙ sym same);
-      }
-
-  -- a creation, by the answer
-  create-value : (v : UnitNo) (p : PoolNo) → v.0 < length W.units → may_put W s p.0 ≡ true → ValueBy W S s u (op.Create v p) (λ T. desk_value W T v.0) DeskGives (Calls (site.Desk v) (act.Create p.0) (to_caller (owned_at S u)))
-  create-value v p declared may (act.Given o) new gives =
-      begins-by _ v p.0 (is_unborn (S.place v.0)) code.Exists o new declared (unborn-nowhere (S.place v.0)) (cond-true (may_put W s p.0) _ _ may) refl
-      (ap (option_map (reborn p.0)) (sym (unborn_in-at (owned_at S v.0) (S.place v.0))) ∙ gives.0) gives.1
-  create-value v p declared may (act.Coded code.Exists) new gives =
-      refuses-by _ v (is_unborn (S.place v.0)) code.Exists new tt (cond-true (may_put W s p.0) _ _ may) (sym (unborn_in-at (owned_at S v.0) (S.place v.0)) ∙ gives.0) gives.1
-  create-value v p declared may (act.Coded _) new gives = absurd gives
-  create-value v p declared may _ new gives = absurd gives
+  resume-row v declared = told-row _ v act.Resume suspended_in (λ o. o) code.UnitState is_suspended tt suspended_in-at suspended-nowhere (resume-told (desk_value W S v.0)) refl (resumes v.0 declared)
 
   -- the row of create
   pub create-row : (v : UnitNo) (p : PoolNo) → v.0 < length W.units → may_put W s p.0 ≡ true → RowBy W S s u (op.Create v p) (Calls (site.Desk v) (act.Create p.0) (to_caller (owned_at S u)))
-  create-row v p declared may = desk-row _ v (act.Create p.0) _ (create-value v p declared may)
-
-  -- a revival, by the answer
-  revive-value : (v : UnitNo) (p : PoolNo) → v.0 < length W.units → may_put W s p.0 ≡ true → ValueBy W S s u (op.Revive v p) (λ T. desk_value W T v.0) DeskGives (Calls (site.Desk v) (act.Revive p.0) (to_caller (owned_at S u)))
-  revive-value v p declared may (act.Given o) new gives =
-      begins-by _ v p.0 (is_ended (S.place v.0)) code.UnitState o new declared (ended-nowhere (S.place v.0)) (cond-true (may_put W s p.0) _ _ may) refl
-      (ap (option_map (reborn p.0)) (sym (ended_in-at (owned_at S v.0) (S.place v.0))) ∙ gives.0) gives.1
-  revive-value v p declared may (act.Coded code.UnitState) new gives =
-      refuses-by _ v (is_ended (S.place v.0)) code.UnitState new tt (cond-true (may_put W s p.0) _ _ may) (sym (ended_in-at (owned_at S v.0) (S.place v.0)) ∙ gives.0) gives.1
-  revive-value v p declared may (act.Coded _) new gives = absurd gives
-  revive-value v p declared may _ new gives = absurd gives
+  create-row v p declared may =
+      told-row _ v (act.Create p.0) unborn_in (reborn p.0) code.Exists is_unborn tt unborn_in-at unborn-nowhere (create-told p.0 (desk_value W S v.0)) (cond-true (may_put W s p.0) _ _ may) (λ nowhere. begins-life v.0 declared nowhere p.0)
 
   -- the row of revive
   pub revive-row : (v : UnitNo) (p : PoolNo) → v.0 < length W.units → may_put W s p.0 ≡ true → RowBy W S s u (op.Revive v p) (Calls (site.Desk v) (act.Revive p.0) (to_caller (owned_at S u)))
-  revive-row v p declared may = desk-row _ v (act.Revive p.0) _ (revive-value v p declared may)
+  revive-row v p declared may =
+      told-row _ v (act.Revive p.0) ended_in (reborn p.0) code.UnitState is_ended tt ended_in-at ended-nowhere (revive-told p.0 (desk_value W S v.0)) (cond-true (may_put W s p.0) _ _ may) (λ nowhere. begins-life v.0 declared nowhere p.0)

@@ -8,12 +8,11 @@ use Rattle.abt_machine.specs.declared.operations.Op.TheVariants as op
 use Rattle.abt_machine.specs.declared.operations.OrderShape.{OrderShape}
 use Rattle.abt_machine.specs.declared.workload.Parts.{Parts}
 use Rattle.abt_machine.specs.Operations.{IsEventual}
-use Rattle.abt_machine.specs.State.{State, Carried}
-use Rattle.abt_machine.specs.Carrying.{advanced, with_acc}
-use Rattle.abt_machine.specs.Lines.{Waiting}
-use Rattle.abt_machine.specs.Changes.{Change, no_change, changed, goes_with}
-use Rattle.abt_machine.specs.Steps.{waits, awaits, learns, truth}
-use Rattle.abt_machine.specs.Values.{owned_at, EventualIs, EventualValue, eventual_value, waiters_at, part_of}
+use Rattle.abt_machine.specs.State.{State}
+use Rattle.abt_machine.specs.Carrying.{advanced}
+use Rattle.abt_machine.specs.Changes.{Change, no_change}
+use Rattle.abt_machine.specs.Steps.{waits, awaits, truth}
+use Rattle.abt_machine.specs.Values.{owned_at, EventualIs, EventualValue, eventual_value, part_of}
 use Rattle.abt_machine.specs.Acts.{moved, received}
 use Rattle.abt_machine.specs.Acts as act
 use Rattle.abt_machine.specs.Plans.{keeps, empties}
@@ -22,29 +21,20 @@ use Rattle.abt_machine.specs.Eventuals.{EventualGives}
 use Rattle.abt_laws.proofs.Maps.{put_at-same}
 use Rattle.abt_laws.proofs.Options.{none≢some, some-injective}
 use Rattle.abt_simulation.proofs.Acting.{IsActing}
-use Rattle.abt_simulation.proofs.OwnParts.{moving}
-use Rattle.abt_simulation.proofs.Shapes.{goes-part, line-same}
-use Rattle.abt_simulation.proofs.Rows.{Row, ValueRow, ValueDone, row-by_value, eventual-at, refuses}
-use Rattle.abt_simulation.proofs.ObjectShapes.{none-test, some-test, unless-true, unless-false, goes-through, waits-part, waits-line, giving, giving-part, giving-line}
+use Rattle.abt_simulation.proofs.Rows.{ValueRow, ValueDone, eventual-at, refuses}
+use Rattle.abt_simulation.proofs.ObjectShapes.{none-test, some-test, unless-true, unless-false, goes-through, carries-on, gets-number, waiters-stay, waits-part, waits-line, giving, giving-part, giving-line}
 
 module _ (W : Parts) (Z : List OrderShape) (S : State) (s u : ℕ) (acts : IsActing W Z S s u) (x : ObjectNo) (is : IsEventual W x.0) where
-  abbrev value : State → EventualValue
+  abbrev pub value : State → EventualValue
   value T = eventual_value W T x.0
-
-  -- if only u changes, and perhaps the value, the waiters stay
-  same-waiters : (k : Carried) (c : Change) → waiters_at W (changed S (moving [] ((u, k) ∷ []) c)) x.0 ≡ waiters_at W S x.0
-  same-waiters k c = line-same W Z S s u acts (Waiting x.0) tt [] k c tt tt
 
   -- A wait.
 
-  await : ValueRow W S s u (op.EvWait x) value EventualGives
+  pub await : ValueRow W S s u (op.EvWait x) value EventualGives
   await (act.Given b) new gives = by (S.eventual x.0) refl gives.0 where
     by : (o : Option ℕ) → S.eventual x.0 ≡ o → option_map (λ n. received n (moved (owned_at S u))) o ≡ Some b → ValueDone W S s u (op.EvWait x) value (keeps b []) new
     by None e given = absurd (none≢some given)
-    by (Some n) e given =
-        goes-through W Z S s u acts _ value (keeps b []) new (goes_with u (with_acc n (S.carried u))) refl refl (ap (awaits S u x.0) e)
-        (goes-part W Z S s u acts (advanced (with_acc n (S.carried u))) no_change ∙ ap (λ o. stepped (part_of W S s) (keeps o [])) (some-injective given))
-        (ap (λ os. record { value = S.eventual x.0; waiters = os }) (same-waiters (advanced (with_acc n (S.carried u))) no_change) ∙ sym gives.1)
+    by (Some n) e given = gets-number W Z S s u acts _ _ _ value _ _ new n (eventual-at W x.0 is) (sym (some-injective given)) refl (ap (awaits S u x.0) e) gives.1
   await act.Rested new gives = by (S.eventual x.0) refl gives.0 where
     by : (o : Option ℕ) → S.eventual x.0 ≡ o → is_some o ≡ false → ValueDone W S s u (op.EvWait x) value (empties []) new
     by None e none =
@@ -56,7 +46,7 @@ module _ (W : Parts) (Z : List OrderShape) (S : State) (s u : ℕ) (acts : IsAct
 
   -- A value.
 
-  fill : ValueRow W S s u (op.EvSet x) value EventualGives
+  pub fill : ValueRow W S s u (op.EvSet x) value EventualGives
   fill (act.Woke os) new gives =
       let c : Change = record no_change { eventuals = (x.0, Some (S.carried u).acc) ∷ [] } in
       let d : Change = giving W Z S s u acts x.0 (S.carried u).acc c in
@@ -70,33 +60,16 @@ module _ (W : Parts) (Z : List OrderShape) (S : State) (s u : ℕ) (acts : IsAct
 
   -- A reset.
 
-  reset : ValueRow W S s u (op.EvReset x) value EventualGives
+  pub reset : ValueRow W S s u (op.EvReset x) value EventualGives
   reset act.Rested new gives =
       let c : Change = record no_change { eventuals = (x.0, None) ∷ [] } in
-      goes-through W Z S s u acts _ value (keeps (moved (owned_at S u)) []) new (moving [] ((u, advanced (S.carried u)) ∷ []) c) refl refl refl
-      (goes-part W Z S s u acts (advanced (S.carried u)) c)
-      ((λ i. record { value = put_at-same S.eventual x.0 None i; waiters = same-waiters (advanced (S.carried u)) c i }) ∙ sym gives)
+      carries-on W Z S s u acts _ value _ new (advanced (S.carried u)) c refl refl refl
+      ((λ i. record { value = put_at-same S.eventual x.0 None i; waiters = waiters-stay W Z S s u acts x.0 (advanced (S.carried u)) c i }) ∙ sym gives)
   reset _ new gives = absurd gives
 
   -- A test.
 
-  test : ValueRow W S s u (op.EvTest x) value EventualGives
+  pub test : ValueRow W S s u (op.EvTest x) value EventualGives
   test (act.Number n) new gives =
-      goes-through W Z S s u acts _ value (keeps (received n (moved (owned_at S u))) []) new (learns S u (is_some (S.eventual x.0))) refl refl refl
-      (goes-part W Z S s u acts (advanced (with_acc (truth (is_some (S.eventual x.0))) (S.carried u))) no_change ∙ ap (λ m. stepped (part_of W S s) (keeps (received m (moved (owned_at S u))) [])) (sym gives.0))
-      (ap (λ os. record { value = S.eventual x.0; waiters = os }) (same-waiters (advanced (with_acc (truth (is_some (S.eventual x.0))) (S.carried u))) no_change) ∙ sym gives.1)
+      gets-number W Z S s u acts _ _ _ value _ _ new (truth (is_some (S.eventual x.0))) (eventual-at W x.0 is) (ap (λ m. received m (moved (owned_at S u))) gives.0) refl refl gives.1
   test _ new gives = absurd gives
-
-  -- The rows.
-
-  pub evwait-row : Row W S s u (op.EvWait x)
-  evwait-row = row-by_value W S s u _ _ EventualIs value EventualGives (act.Await (moved (owned_at S u))) _ (eventual-at W x.0 is) await
-
-  pub evset-row : Row W S s u (op.EvSet x)
-  evset-row = row-by_value W S s u _ _ EventualIs value EventualGives (act.Fill (S.carried u).acc) _ (eventual-at W x.0 is) fill
-
-  pub evreset-row : Row W S s u (op.EvReset x)
-  evreset-row = row-by_value W S s u _ _ EventualIs value EventualGives act.Reset _ (eventual-at W x.0 is) reset
-
-  pub evtest-row : Row W S s u (op.EvTest x)
-  evtest-row = row-by_value W S s u _ _ EventualIs value EventualGives act.Test _ (eventual-at W x.0 is) test

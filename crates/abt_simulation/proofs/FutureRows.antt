@@ -10,13 +10,11 @@ use Rattle.abt_machine.specs.declared.operations.OrderShape.{OrderShape}
 use Rattle.abt_machine.specs.declared.operations.Thing.TheVariants as thing
 use Rattle.abt_machine.specs.declared.workload.Parts.{Parts}
 use Rattle.abt_machine.specs.Workloads.{thing_at, size_of, size_from, combine_of, combine_from}
-use Rattle.abt_machine.specs.Operations.{IsFuture}
-use Rattle.abt_machine.specs.State.{State, Carried, Future}
-use Rattle.abt_machine.specs.Carrying.{advanced, with_acc}
-use Rattle.abt_machine.specs.Lines.{Waiting}
+use Rattle.abt_machine.specs.State.{State, Future}
+use Rattle.abt_machine.specs.Carrying.{advanced}
 use Rattle.abt_machine.specs.Codes.{is_full}
-use Rattle.abt_machine.specs.Changes.{Change, no_change, changed, goes_with, goes_on}
-use Rattle.abt_machine.specs.Steps.{waits, awaits, learns, truth, filled_by, gives_all}
+use Rattle.abt_machine.specs.Changes.{Change, no_change, goes_on}
+use Rattle.abt_machine.specs.Steps.{waits, awaits, truth, filled_by, gives_all}
 use Rattle.abt_machine.specs.Values.{Owned, owned_at, FutureIs, FutureValue, future_value, waiters_at, part_of}
 use Rattle.abt_machine.specs.Acts.{moved, received}
 use Rattle.abt_machine.specs.Acts as act
@@ -26,12 +24,12 @@ use Rattle.abt_machine.specs.Futures.{FutureGives}
 use Rattle.abt_laws.proofs.Maps.{put_at-same}
 use Rattle.abt_simulation.proofs.Acting.{IsActing}
 use Rattle.abt_simulation.proofs.OwnParts.{moving}
-use Rattle.abt_simulation.proofs.Shapes.{goes-part, line-same}
-use Rattle.abt_simulation.proofs.Rows.{Row, ValueRow, ValueDone, row-by_value, future-at, refuses}
-use Rattle.abt_simulation.proofs.ObjectShapes.{unless-true, unless-false, goes-through, waits-part, waits-line, giving, giving-part, giving-line}
+use Rattle.abt_simulation.proofs.Shapes.{goes-part}
+use Rattle.abt_simulation.proofs.Rows.{ValueRow, ValueDone, future-at, refuses}
+use Rattle.abt_simulation.proofs.ObjectShapes.{unless-true, unless-false, goes-through, carries-on, gets-number, waiters-stay, waits-part, waits-line, giving, giving-part, giving-line}
 
 module _ (W : Parts) (Z : List OrderShape) (S : State) (s u : ℕ) (acts : IsActing W Z S s u) (x : ObjectNo) (n : ℕ) (c : Combine) (is : thing_at W x.0 ≡ Some (thing.Future n c)) where
-  abbrev value : State → FutureValue
+  abbrev pub value : State → FutureValue
   value T = future_value W T x.0 n c
 
   size-is : size_of W x.0 ≡ n
@@ -43,22 +41,11 @@ module _ (W : Parts) (Z : List OrderShape) (S : State) (s u : ℕ) (acts : IsAct
   full-is : is_full W S x.0 ≡ ((S.future x.0).filled == n)
   full-is = ap (λ k. (S.future x.0).filled == k) size-is
 
-  -- if only u changes, and perhaps the value, the waiters stay
-  same-waiters : (k : Carried) (d : Change) → waiters_at W (changed S (moving [] ((u, k) ∷ []) d)) x.0 ≡ waiters_at W S x.0
-  same-waiters k d = line-same W Z S s u acts (Waiting x.0) tt [] k d tt tt
-
-  -- if only u changes
-  same-value : (k : Carried) → value (changed S (goes_with u k)) ≡ value S
-  same-value k = ap (λ os. record (value S) { waiters = os }) (same-waiters (advanced k) no_change)
-
   -- A wait.
 
-  await : ValueRow W S s u (op.FuWait x) value FutureGives
+  pub await : ValueRow W S s u (op.FuWait x) value FutureGives
   await (act.Given b) new gives =
-      goes-through W Z S s u acts _ value (keeps b []) new (goes_with u (with_acc (S.future x.0).value (S.carried u))) refl refl
-      (ap (awaits S u x.0) (cond-true (is_full W S x.0) (Some (S.future x.0).value) None (full-is ∙ gives.0)))
-      (goes-part W Z S s u acts (advanced (with_acc (S.future x.0).value (S.carried u))) no_change ∙ ap (λ o. stepped (part_of W S s) (keeps o [])) (sym gives.1))
-      (same-value (with_acc (S.future x.0).value (S.carried u)) ∙ sym gives.2)
+      gets-number W Z S s u acts _ _ _ value _ b new (S.future x.0).value (future-at W x.0 n c is) gives.1 refl (ap (awaits S u x.0) (cond-true (is_full W S x.0) (Some (S.future x.0).value) None (full-is ∙ gives.0))) gives.2
   await act.Rested new gives =
       goes-through W Z S s u acts _ value (empties []) new (waits S u x.0) refl refl
       (ap (awaits S u x.0) (cond-false (is_full W S x.0) (Some (S.future x.0).value) None (full-is ∙ gives.0)))
@@ -91,9 +78,9 @@ module _ (W : Parts) (Z : List OrderShape) (S : State) (s u : ℕ) (acts : IsAct
       goes-through W Z S s u acts _ value (keeps (moved (owned_at S u)) os) new (moving [] ((u, advanced (S.carried u)) ∷ []) others) refl (unless-true (not (is_full W S x.0)) code.FutureFull code.Ok unfilled)
       ((λ i. filling (size-is i) (filled_by (combine-is i) (S.future x.0) (S.carried u).acc)) ∙ ap (λ (d : Change). record d { futures = (x.0, more) ∷ [] }) (cond-false (more.filled == n) (gives_all W S s u x.0 more.value) (goes_on S u) e))
       (goes-part W Z S s u acts (advanced (S.carried u)) others ∙ ap (λ us. stepped (part_of W S s) (keeps (moved (owned_at S u)) us)) (sym woken))
-      ((λ i. record (value S) { filled = (put_at-same S.future x.0 more i).filled; value = (put_at-same S.future x.0 more i).value; waiters = same-waiters (advanced (S.carried u)) others i }) ∙ sym same)
+      ((λ i. record (value S) { filled = (put_at-same S.future x.0 more i).filled; value = (put_at-same S.future x.0 more i).value; waiters = waiters-stay W Z S s u acts x.0 (advanced (S.carried u)) others i }) ∙ sym same)
 
-  fill : ValueRow W S s u (op.FuSet x) value FutureGives
+  pub fill : ValueRow W S s u (op.FuSet x) value FutureGives
   fill (act.Woke os) new gives = by (more.filled == n) refl where
     by : (t : Bool) → (more.filled == n) ≡ t → ValueDone W S s u (op.FuSet x) value (keeps (moved (owned_at S u)) os) new
     by t e =
@@ -107,35 +94,16 @@ module _ (W : Parts) (Z : List OrderShape) (S : State) (s u : ℕ) (acts : IsAct
 
   -- A reset.
 
-  reset : ValueRow W S s u (op.FuReset x) value FutureGives
+  pub reset : ValueRow W S s u (op.FuReset x) value FutureGives
   reset act.Rested new gives =
       let d : Change = record no_change { futures = (x.0, record { filled = 0; value = 0 }) ∷ [] } in
-      goes-through W Z S s u acts _ value (keeps (moved (owned_at S u)) []) new (moving [] ((u, advanced (S.carried u)) ∷ []) d) refl refl refl
-      (goes-part W Z S s u acts (advanced (S.carried u)) d)
-      ((λ i. record (value S) { filled = (put_at-same S.future x.0 (record { filled = 0; value = 0 }) i).filled; value = (put_at-same S.future x.0 (record { filled = 0; value = 0 }) i).value; waiters = same-waiters (advanced (S.carried u)) d i }) ∙ sym gives)
+      carries-on W Z S s u acts _ value _ new (advanced (S.carried u)) d refl refl refl
+      ((λ i. record (value S) { filled = (put_at-same S.future x.0 (record { filled = 0; value = 0 }) i).filled; value = (put_at-same S.future x.0 (record { filled = 0; value = 0 }) i).value; waiters = waiters-stay W Z S s u acts x.0 (advanced (S.carried u)) d i }) ∙ sym gives)
   reset _ new gives = absurd gives
 
   -- A test.
 
-  test : ValueRow W S s u (op.FuTest x) value FutureGives
+  pub test : ValueRow W S s u (op.FuTest x) value FutureGives
   test (act.Number k) new gives =
-      goes-through W Z S s u acts _ value (keeps (received k (moved (owned_at S u))) []) new (learns S u (is_full W S x.0)) refl refl refl
-      (goes-part W Z S s u acts (advanced (with_acc (truth (is_full W S x.0)) (S.carried u))) no_change
-      ∙ ap (λ m. stepped (part_of W S s) (keeps (received m (moved (owned_at S u))) [])) (ap truth full-is ∙ sym gives.0))
-      (same-value (with_acc (truth (is_full W S x.0)) (S.carried u)) ∙ sym gives.1)
+      gets-number W Z S s u acts _ _ _ value _ _ new (truth (is_full W S x.0)) (future-at W x.0 n c is) (ap (λ m. received m (moved (owned_at S u))) (gives.0 ∙ ap truth (sym full-is))) refl refl gives.1
   test _ new gives = absurd gives
-
--- The rows.
-
-module _ (W : Parts) (Z : List OrderShape) (S : State) (s u : ℕ) (acts : IsActing W Z S s u) (x : ObjectNo) (is : IsFuture W x.0) where
-  pub fuwait-row : Row W S s u (op.FuWait x)
-  fuwait-row = row-by_value W S s u _ _ FutureIs (value W Z S s u acts x is.0 is.1 is.2) FutureGives (act.Await (moved (owned_at S u))) _ (future-at W x.0 is.0 is.1 is.2) (await W Z S s u acts x is.0 is.1 is.2)
-
-  pub fuset-row : Row W S s u (op.FuSet x)
-  fuset-row = row-by_value W S s u _ _ FutureIs (value W Z S s u acts x is.0 is.1 is.2) FutureGives (act.Fill (S.carried u).acc) _ (future-at W x.0 is.0 is.1 is.2) (fill W Z S s u acts x is.0 is.1 is.2)
-
-  pub fureset-row : Row W S s u (op.FuReset x)
-  fureset-row = row-by_value W S s u _ _ FutureIs (value W Z S s u acts x is.0 is.1 is.2) FutureGives act.Reset _ (future-at W x.0 is.0 is.1 is.2) (reset W Z S s u acts x is.0 is.1 is.2)
-
-  pub futest-row : Row W S s u (op.FuTest x)
-  futest-row = row-by_value W S s u _ _ FutureIs (value W Z S s u acts x is.0 is.1 is.2) FutureGives act.Test _ (future-at W x.0 is.0 is.1 is.2) (test W Z S s u acts x is.0 is.1 is.2)

@@ -10,10 +10,10 @@ use Rattle.abt_machine.specs.declared.workload.Parts.{Parts}
 use Rattle.abt_machine.specs.Operations.{IsMutex}
 use Rattle.abt_machine.specs.Queues.{first, first_alone}
 use Rattle.abt_machine.specs.State.{State, Mutex}
-use Rattle.abt_machine.specs.Carrying.{advanced, with_acc}
+use Rattle.abt_machine.specs.Carrying.{advanced}
 use Rattle.abt_machine.specs.Lines.{Waiting, standing}
 use Rattle.abt_machine.specs.Codes.{unless, owned_by, code_of}
-use Rattle.abt_machine.specs.Changes.{Change, no_change, to_tray, goes_with}
+use Rattle.abt_machine.specs.Changes.{Change, no_change, to_tray}
 use Rattle.abt_machine.specs.Steps.{op_row, owned, waits, locks, hands_over}
 use Rattle.abt_machine.specs.Values.{Owned, owned_at, MonitorIs, MonitorValue, monitor_value, part_of}
 use Rattle.abt_machine.specs.Acts.{moved, received}
@@ -25,13 +25,13 @@ use Rattle.abt_laws.proofs.Maps.{put_at-same}
 use Rattle.abt_laws.proofs.Places.{place_in}
 use Rattle.abt_simulation.proofs.Acting.{IsActing}
 use Rattle.abt_simulation.proofs.OwnParts.{hand-elsewhere, hand-only, away-first, standing-distinct, distinct-first}
-use Rattle.abt_simulation.proofs.Shapes.{none-to_tray, goes-part, wakes-part, line-first_woken}
-use Rattle.abt_simulation.proofs.Rows.{Row, ValueRow, ValueDone, row-by_value, mutex-at, value-same, refuses}
-use Rattle.abt_simulation.proofs.ObjectShapes.{unless-true, unless-false, is-some_of, not-some_of, none-test, some-test, goes-through, waits-part, waits-line}
-use Rattle.abt_simulation.proofs.MonitorShapes.{first-number, first-woken, none-woken, waits-elsewhere, conditions-stay, first-from, holding, holding-value}
+use Rattle.abt_simulation.proofs.Shapes.{none-to_tray, wakes-part, line-first_woken}
+use Rattle.abt_simulation.proofs.Rows.{ValueRow, ValueDone, mutex-at, refuses}
+use Rattle.abt_simulation.proofs.ObjectShapes.{unless-true, unless-false, is-some_of, not-some_of, none-test, some-test, goes-through, carries-on, gets-number, waits-part, waits-line}
+use Rattle.abt_simulation.proofs.MonitorShapes.{first-number, first-woken, none-woken, waits-elsewhere, conditions-stay, first-from, holding-value}
 
 module _ (W : Parts) (Z : List OrderShape) (S : State) (s u : ℕ) (acts : IsActing W Z S s u) (x : ObjectNo) (is : IsMutex W x.0) where
-  abbrev value : State → MonitorValue
+  abbrev pub value : State → MonitorValue
   value T = monitor_value W T x.0
 
   -- The unit gets the mutex.
@@ -40,11 +40,10 @@ module _ (W : Parts) (Z : List OrderShape) (S : State) (s u : ℕ) (acts : IsAct
   gets : (a : Op) (b : Owned) (new : MonitorValue) → code_of W S s u a ≡ code.Ok → b ≡ moved (owned_at S u) → new ≡ record (value S) { owner = Some u } →
       (locks S u x.0 None ≡ op_row W S s u a) → ValueDone W S s u a value (keeps b []) new
   gets a b new ok same is-new row =
-      goes-through W Z S s u acts a value (keeps b []) new (locks S u x.0 None) refl ok (sym row)
-      (goes-part W Z S s u acts (advanced (S.carried u)) (record no_change { mutexes = (x.0, owned (Some u) (S.mutex x.0)) ∷ [] }) ∙ ap (λ o. stepped (part_of W S s) (keeps o [])) (sym same))
+      carries-on W Z S s u acts a value b new (advanced (S.carried u)) (record no_change { mutexes = (x.0, owned (Some u) (S.mutex x.0)) ∷ [] }) same ok (sym row)
       (holding-value W Z S s u acts x.0 is (advanced (S.carried u)) (owned (Some u) (S.mutex x.0)) ∙ sym is-new)
 
-  lock : ValueRow W S s u (op.Lock x) value MonitorGives
+  pub lock : ValueRow W S s u (op.Lock x) value MonitorGives
   lock (act.Given b) new gives = by (S.mutex x.0).owner refl gives.0 where
     by : (o : Option ℕ) → (S.mutex x.0).owner ≡ o → is_some o ≡ false → ValueDone W S s u (op.Lock x) value (keeps b []) new
     by None e none = gets _ b new refl gives.1 gives.2 (ap (locks S u x.0) (sym e))
@@ -62,7 +61,7 @@ module _ (W : Parts) (Z : List OrderShape) (S : State) (s u : ℕ) (acts : IsAct
         }) ∙ sym gives.1)
   lock _ new gives = absurd gives
 
-  trylock : ValueRow W S s u (op.TryLock x) value MonitorGives
+  pub trylock : ValueRow W S s u (op.TryLock x) value MonitorGives
   trylock (act.Coded code.Ok) new gives =
       gets _ (moved (owned_at S u)) new (unless-true (is_none (S.mutex x.0).owner) code.MutexLocked code.Ok (none-test (S.mutex x.0).owner gives.0)) refl gives.1 refl
   trylock (act.Coded code.MutexLocked) new gives =
@@ -96,41 +95,21 @@ module _ (W : Parts) (Z : List OrderShape) (S : State) (s u : ℕ) (acts : IsAct
             (λ y ne. (none-to_tray W S s (Waiting y) (first_alone (standing W S (Waiting x.0))) tt, first-from W Z S s u acts x.0 is y ne)) i;
       }) ∙ sym same)
 
-  unlock : ValueRow W S s u (op.Unlock x) value MonitorGives
+  pub unlock : ValueRow W S s u (op.Unlock x) value MonitorGives
   unlock (act.Given b) new gives = hands (b ∷ []) new gives.0 (first-woken S (standing W S (Waiting x.0)) b gives.1) gives.2
   unlock act.Rested new gives = hands [] new gives.0 (none-woken S (standing W S (Waiting x.0)) gives.1) gives.2
   unlock (act.Coded code.NotOwner) new gives = not-own _ new refl gives.0 gives.1
   unlock _ new gives = absurd gives
 
-  load : ValueRow W S s u (op.Load x) value MonitorGives
+  pub load : ValueRow W S s u (op.Load x) value MonitorGives
   load (act.Number n) new gives =
-      goes-through W Z S s u acts _ value (keeps (received n (moved (owned_at S u))) []) new (goes_with u (with_acc (S.mutex x.0).number (S.carried u))) refl (own-mutex gives.0) refl
-      (goes-part W Z S s u acts (advanced (with_acc (S.mutex x.0).number (S.carried u))) no_change ∙ ap (λ k. stepped (part_of W S s) (keeps (received k (moved (owned_at S u))) [])) (sym gives.1))
-      (value-same W Z S s u acts (site.Monitor x) MonitorIs value MonitorGives (advanced (with_acc (S.mutex x.0).number (S.carried u))) (mutex-at W x.0 is) ∙ sym gives.2)
+      gets-number W Z S s u acts _ _ _ value _ _ new (S.mutex x.0).number (mutex-at W x.0 is) (ap (λ k. received k (moved (owned_at S u))) gives.1) (own-mutex gives.0) refl gives.2
   load (act.Coded code.NotOwner) new gives = not-own _ new refl gives.0 gives.1
   load _ new gives = absurd gives
 
-  store : ValueRow W S s u (op.Store x) value MonitorGives
+  pub store : ValueRow W S s u (op.Store x) value MonitorGives
   store (act.Coded code.Ok) new gives =
-      goes-through W Z S s u acts _ value (keeps (moved (owned_at S u)) []) new (holding W Z S s u acts x.0 is (advanced (S.carried u)) (record (S.mutex x.0) { number = (S.carried u).acc })) refl (own-mutex gives.0) refl
-      (goes-part W Z S s u acts (advanced (S.carried u)) (record no_change { mutexes = (x.0, record (S.mutex x.0) { number = (S.carried u).acc }) ∷ [] }))
-      (holding-value W Z S s u acts x.0 is (advanced (S.carried u)) (record (S.mutex x.0) { number = (S.carried u).acc }) ∙ sym gives.1)
+      let m : Mutex = record (S.mutex x.0) { number = (S.carried u).acc } in
+      carries-on W Z S s u acts _ value _ new (advanced (S.carried u)) (record no_change { mutexes = (x.0, m) ∷ [] }) refl (own-mutex gives.0) refl (holding-value W Z S s u acts x.0 is (advanced (S.carried u)) m ∙ sym gives.1)
   store (act.Coded code.NotOwner) new gives = not-own _ new refl gives.0 gives.1
   store _ new gives = absurd gives
-
-  -- The rows.
-
-  pub lock-row : Row W S s u (op.Lock x)
-  lock-row = row-by_value W S s u _ _ MonitorIs value MonitorGives (act.Lock (moved (owned_at S u))) _ (mutex-at W x.0 is) lock
-
-  pub trylock-row : Row W S s u (op.TryLock x)
-  trylock-row = row-by_value W S s u _ _ MonitorIs value MonitorGives (act.TryLock u) _ (mutex-at W x.0 is) trylock
-
-  pub unlock-row : Row W S s u (op.Unlock x)
-  unlock-row = row-by_value W S s u _ _ MonitorIs value MonitorGives (act.Unlock u) _ (mutex-at W x.0 is) unlock
-
-  pub load-row : Row W S s u (op.Load x)
-  load-row = row-by_value W S s u _ _ MonitorIs value MonitorGives (act.Load u) _ (mutex-at W x.0 is) load
-
-  pub store-row : Row W S s u (op.Store x)
-  store-row = row-by_value W S s u _ _ MonitorIs value MonitorGives (act.Store u (S.carried u).acc) _ (mutex-at W x.0 is) store

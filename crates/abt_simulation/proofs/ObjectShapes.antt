@@ -3,6 +3,7 @@ use Rattle.std.proofs.Common.{is_none, is_some, ◌≡◌, ◌≢◌, ℕ, suc, 
 use Rattle.std.proofs.lemmas.Bool.{cond-true, cond-false, eq-eqb, ne_eqb}
 use Rattle.abt_machine.specs.declared.events.Code.{Code}
 use Rattle.abt_machine.specs.declared.events.Code.TheVariants as code
+use Rattle.abt_machine.specs.declared.events.Site.{Site}
 use Rattle.abt_machine.specs.declared.operations.Op.{Op}
 use Rattle.abt_machine.specs.declared.operations.OrderShape.{OrderShape}
 use Rattle.abt_machine.specs.declared.workload.Parts.{Parts}
@@ -11,10 +12,10 @@ use Rattle.abt_machine.specs.Carrying.{advanced, with_acc}
 use Rattle.abt_machine.specs.Lines.{Waiting, standing}
 use Rattle.abt_machine.specs.Fronts.{is_some_of}
 use Rattle.abt_machine.specs.Codes.{unless, code_of}
-use Rattle.abt_machine.specs.Changes.{Change, no_change, changed, to_tray}
+use Rattle.abt_machine.specs.Changes.{Change, no_change, changed, to_tray, goes_with}
 use Rattle.abt_machine.specs.Steps.{op_row, step_row, waits, receives}
-use Rattle.abt_machine.specs.Values.{Owned, owned_at, part_of, waiters_at}
-use Rattle.abt_machine.specs.Acts.{moved, received}
+use Rattle.abt_machine.specs.Values.{Owned, owned_at, part_of, Object, waiters_at}
+use Rattle.abt_machine.specs.Acts.{Act, Answer, moved, received}
 use Rattle.abt_machine.specs.Plans.{Effect, keeps, empties}
 use Rattle.abt_machine.specs.Turns.{stepped}
 use Rattle.abt_laws.proofs.Lists.{EachOf, EachOf-map, Among}
@@ -24,8 +25,8 @@ use Rattle.abt_laws.proofs.SoundSteps.{waiting-below}
 use Rattle.abt_laws.proofs.Pushes.{EachOf-among, each-among}
 use Rattle.abt_simulation.proofs.Acting.{IsActing}
 use Rattle.abt_simulation.proofs.OwnParts.{IsAway, IsLoose, off-object, away-line, away-other, away-loose, standing-distinct, moving, part-keeps}
-use Rattle.abt_simulation.proofs.Shapes.{blocks-part, line-joined, line-woken}
-use Rattle.abt_simulation.proofs.Rows.{ValueDone}
+use Rattle.abt_simulation.proofs.Shapes.{owned, goes-part, blocks-part, line-same, line-joined, line-woken}
+use Rattle.abt_simulation.proofs.Rows.{ValueDone, IsAt, value-same}
 
 -- Codes.
 
@@ -75,6 +76,23 @@ module _ (W : Parts) (Z : List OrderShape) (S : State) (s u : ℕ) (acts : IsAct
     own = ap (λ c. part_of W (changed S (step_row W S s u (Some a) c)) s) ok ∙ (ap (λ c. part_of W (changed S c) s) row ∙ own);
     called = ap (λ c. value (changed S (step_row W S s u (Some a) c))) ok ∙ (ap (λ c. value (changed S c)) row ∙ same);
   }
+
+  -- u goes on with this to carry, and wakes nobody
+  pub carries-on : {V : Type 0} (a : Op) (value : State → V) (b : Owned) (new : V) (k : Carried) (c : Change) → b ≡ owned u k → code_of W S s u a ≡ code.Ok → op_row W S s u a ≡ moving [] ((u, k) ∷ []) c →
+      value (changed S (moving [] ((u, k) ∷ []) c)) ≡ new → ValueDone W S s u a value (keeps b []) new
+  carries-on a value b new k c is ok row same =
+      goes-through a value (keeps b []) new (moving [] ((u, k) ∷ []) c) refl ok row (goes-part W Z S s u acts k c ∙ ap (λ o. stepped (part_of W S s) (keeps o [])) (sym is)) same
+
+  -- it gets number n, and nothing else changes
+  pub gets-number : {V : Type 0} (a : Op) (x : Site) (Is : V → Object) (value : State → V) (Gives : V → Act → Answer → V → Type 0) (b : Owned) (new : V) (n : ℕ) → IsAt W x Is value Gives → b ≡ received n (moved (owned_at S u)) →
+      code_of W S s u a ≡ code.Ok → op_row W S s u a ≡ goes_with u (with_acc n (S.carried u)) → new ≡ value S → ValueDone W S s u a value (keeps b []) new
+  gets-number a x Is value Gives b new n at is ok row same =
+      let k : Carried = advanced (with_acc n (S.carried u)) in
+      carries-on a value b new k no_change is ok row (value-same W Z S s u acts x Is value Gives k at ∙ sym same)
+
+  -- the waiters at object x stay then
+  pub waiters-stay : (x : ℕ) (k : Carried) (c : Change) → waiters_at W (changed S (moving [] ((u, k) ∷ []) c)) x ≡ waiters_at W S x
+  waiters-stay x k c = line-same W Z S s u acts (Waiting x) tt [] k c tt tt
 
   -- u waits at object x
 

@@ -159,9 +159,8 @@ module _ (W : Parts) (Z : List OrderShape) (S : State) (s u : ℕ) (acts : IsAct
       }
   yieldto-value may (act.Coded code.Absent) new gives =
       refuses W Z S s u acts _ code.Absent (site.Pool p) PoolIs (λ T. pool_value W T p.0) PoolGives new (pool-at W p.0) tt (sym (in-pool_code may false (not-in_pool (found-none S v.0 (standing W S (InPool p.0)) gives.0)))) gives.1
-  yieldto-value may (act.Coded _) new gives = absurd gives
   yieldto-value may _ new gives = absurd gives
 
   -- the row of yieldto
   pub yieldto-row : may_take W s p.0 ≡ true → RowBy W S s u (op.YieldTo v p) (Calls (site.Pool p) (act.Remove v.0) (to_yielder (owned_at S u)))
-  yieldto-row may = row-by_value W S s u _ _ PoolIs (λ T. pool_value W T p.0) PoolGives (act.Remove v.0) _ (pool-at W p.0) (yieldto-value may)
+  yieldto-row may = row-by_value W S s u _ (Calls (site.Pool p) (act.Remove v.0) (to_yielder (owned_at S u))) _ _ _ (pool-at W p.0) (yieldto-value may)

@@ -86,13 +86,26 @@ pub record IsAt {V : Type 0} (W : Parts) (x : Site) (Is : V → Object) (value :
   pub answers : (old : V) (asked : Act) (b : Answer) (new : Object) → SiteGives (Is old) asked b new → (after : V) × (new ≡ Is after) × Gives old asked b after
   pub one : (v w : V) → Is v ≡ Is w → v ≡ w
 
+-- the object that a plan calls is of one kind, if it calls one
+abbrev pub CalledIs : {V : Type 0} → Parts → Plan → (V → Object) → (State → V) → (V → Act → Answer → V → Type 0) → Type 0
+CalledIs W (Does e) Is value Gives = ⊥
+CalledIs W (Calls x asked brings) Is value Gives = IsAt W x Is value Gives
+CalledIs W (Exits o) Is value Gives = ⊥
+
 -- the row by the value is the row
-pub row-by_value : {V : Type 0} (W : Parts) (S : State) (s u : ℕ) (a : Op) (x : Site) (Is : V → Object) (value : State → V) (Gives : V → Act → Answer → V → Type 0) (asked : Act) (brings : Answer → Effect) → IsAt W x Is value Gives →
-    ValueBy W S s u a value Gives (Calls x asked brings) → RowBy W S s u a (Calls x asked brings)
-row-by_value {V = V} W S s u a x Is value Gives asked brings at row b new gives =
+pub row-by_value : {V : Type 0} (W : Parts) (S : State) (s u : ℕ) (a : Op) (plan : Plan) (Is : V → Object) (value : State → V) (Gives : V → Act → Answer → V → Type 0) → CalledIs W plan Is value Gives →
+    ValueBy W S s u a value Gives plan → RowBy W S s u a plan
+row-by_value W S s u a (Does e) Is value Gives at row = absurd at
+row-by_value {V = V} W S s u a (Calls x asked brings) Is value Gives at row = λ b new gives.
     let after : (after : V) × (new ≡ Is after) × Gives (value S) asked b after = at.answers (value S) asked b new (subst (λ o. SiteGives o asked b new) (at.here S) gives) in
     let done : ValueDone W S s u a value (brings b) after.0 = row b after.0 after.2 in
     record { code = done.code; own = done.own; called = at.here (after_step W S s u a (brings b).code) ∙ (ap Is done.called ∙ sym after.1) }
+row-by_value W S s u a (Exits o) Is value Gives at row = absurd at
+
+-- the row by the operation's own plan
+pub by-value : {V : Type 0} (W : Parts) (S : State) (s u : ℕ) (a : Op) (Is : V → Object) (value : State → V) (Gives : V → Act → Answer → V → Type 0) → CalledIs W (plan_of W s a (owned_at S u)) Is value Gives →
+    ValueRow W S s u a value Gives → Row W S s u a
+by-value W S s u a = row-by_value W S s u a (plan_of W s a (owned_at S u))
 
 -- The kinds.
 

@@ -14,10 +14,10 @@ use Rattle.abt_machine.specs.declared.workload.Parts.{Parts}
 use Rattle.abt_machine.specs.Operations.{IsRwLock}
 use Rattle.abt_machine.specs.Holders.{count_of, holds, is_free, read_by, read_limit, reads, writes, written_by}
 use Rattle.abt_machine.specs.State.{State, RwLock}
-use Rattle.abt_machine.specs.Carrying.{advanced, with_acc}
+use Rattle.abt_machine.specs.Carrying.{advanced}
 use Rattle.abt_machine.specs.Lines.{Waiting, standing}
 use Rattle.abt_machine.specs.Codes.{code_of}
-use Rattle.abt_machine.specs.Changes.{Change, no_change, goes_with, goes_on}
+use Rattle.abt_machine.specs.Changes.{Change, no_change, goes_on}
 use Rattle.abt_machine.specs.Steps.{op_row, waits, gives_up}
 use Rattle.abt_machine.specs.Values.{Owned, owned_at, RwLockIs, RwLockValue, rwlock_value, waiters_at, part_of}
 use Rattle.abt_machine.specs.Acts.{moved, received}
@@ -35,12 +35,12 @@ use Rattle.abt_laws.proofs.Pushes.{IsDistinct}
 use Rattle.abt_simulation.proofs.Acting.{IsActing}
 use Rattle.abt_simulation.proofs.OwnedLines.{owned-again, owned-each}
 use Rattle.abt_simulation.proofs.OwnParts.{IsAway, away-line, standing-distinct}
-use Rattle.abt_simulation.proofs.Shapes.{goes-part, wakes-part, line-same, line-prefix_woken}
-use Rattle.abt_simulation.proofs.Rows.{Row, ValueRow, ValueDone, row-by_value, rwlock-at, value-same, refuses}
-use Rattle.abt_simulation.proofs.ObjectShapes.{unless-true, unless-false, goes-through, waits-part, waits-line}
+use Rattle.abt_simulation.proofs.Shapes.{wakes-part, line-prefix_woken}
+use Rattle.abt_simulation.proofs.Rows.{ValueRow, ValueDone, rwlock-at, refuses}
+use Rattle.abt_simulation.proofs.ObjectShapes.{unless-true, unless-false, goes-through, carries-on, gets-number, waiters-stay, waits-part, waits-line}
 
 module _ (W : Parts) (Z : List OrderShape) (S : State) (s u : ℕ) (acts : IsActing W Z S s u) (x : ObjectNo) (is : IsRwLock W x.0) where
-  abbrev value : State → RwLockValue
+  abbrev pub value : State → RwLockValue
   value T = rwlock_value W T x.0
 
   abbrev lock : RwLock
@@ -53,9 +53,8 @@ module _ (W : Parts) (Z : List OrderShape) (S : State) (s u : ℕ) (acts : IsAct
       new ≡ record (value S) { lock = k } → ValueDone W S s u a value (keeps b []) new
   goes a b new k ok row same is-new =
       let c : Change = record no_change { rwlocks = (x.0, k) ∷ [] } in
-      goes-through W Z S s u acts a value (keeps b []) new (record (goes_on S u) { rwlocks = (x.0, k) ∷ [] }) refl ok row
-      (goes-part W Z S s u acts (advanced (S.carried u)) c ∙ ap (λ o. stepped (part_of W S s) (keeps o [])) (sym same))
-      ((λ i. record { lock = put_at-same S.rwlock x.0 k i; waiters = line-same W Z S s u acts (Waiting x.0) tt [] (advanced (S.carried u)) c tt tt i }) ∙ sym is-new)
+      carries-on W Z S s u acts a value b new (advanced (S.carried u)) c same ok row
+      ((λ i. record { lock = put_at-same S.rwlock x.0 k i; waiters = waiters-stay W Z S s u acts x.0 (advanced (S.carried u)) c i }) ∙ sym is-new)
 
   -- it waits, and the lock is this
   blocks : (a : Op) (new : RwLockValue) (k : RwLock) → code_of W S s u a ≡ code.Ok → op_row W S s u a ≡ record (waits S u x.0) { rwlocks = (x.0, k) ∷ [] } →
@@ -86,7 +85,7 @@ module _ (W : Parts) (Z : List OrderShape) (S : State) (s u : ℕ) (acts : IsAct
       let none : count_of u lock ≤ 0 = ltb-false 0 (count_of u lock) (or_parts (reads u lock) (is_none lock.writer && is_empty (waiters_at W S x.0)) refused).0 in
       omega arith
 
-  readlock : ValueRow W S s u (op.ReadLock x) value RwLockGives
+  pub readlock : ValueRow W S s u (op.ReadLock x) value RwLockGives
   readlock (act.Given b) new gives =
       goes _ b new (read_by u lock) (read-code gives.0 gives.1) (cond-true (may_read u (value S)) _ _ gives.2) gives.3 gives.4
   readlock act.Rested new gives =
@@ -101,7 +100,7 @@ module _ (W : Parts) (Z : List OrderShape) (S : State) (s u : ℕ) (acts : IsAct
 
   -- A unit that wants to write.
 
-  writelock : ValueRow W S s u (op.WriteLock x) value RwLockGives
+  pub writelock : ValueRow W S s u (op.WriteLock x) value RwLockGives
   writelock (act.Given b) new gives =
       goes _ b new (written_by u lock) (unless-true (not (holds u lock)) code.RwHeld code.Ok (ap not gives.0)) (cond-true (is_free lock) _ _ gives.1) gives.2 gives.3
   writelock act.Rested new gives =
@@ -120,7 +119,7 @@ module _ (W : Parts) (Z : List OrderShape) (S : State) (s u : ℕ) (acts : IsAct
   all-owned : EachOf (λ (o : Owned). owned_at S o.number ≡ o) (woken left ++ (passed_on left).waiters)
   all-owned = subst (EachOf (λ (o : Owned). owned_at S o.number ≡ o)) (sym (woken-prefix left)) (owned-each S (standing W S (Waiting x.0)))
 
-  unlock : ValueRow W S s u (op.RwUnlock x) value RwLockGives
+  pub unlock : ValueRow W S s u (op.RwUnlock x) value RwLockGives
   unlock (act.Woke os) new gives =
       let us : List ℕ = map number_of (woken left) in
       let others : List ℕ = map number_of (passed_on left).waiters in
@@ -139,33 +138,14 @@ module _ (W : Parts) (Z : List OrderShape) (S : State) (s u : ℕ) (acts : IsAct
 
   -- The number.
 
-  load : ValueRow W S s u (op.RwLoad x) value RwLockGives
+  pub load : ValueRow W S s u (op.RwLoad x) value RwLockGives
   load (act.Number n) new gives =
-      goes-through W Z S s u acts _ value (keeps (received n (moved (owned_at S u))) []) new (goes_with u (with_acc lock.number (S.carried u))) refl (unless-true (holds u lock) code.NotHolder code.Ok gives.0) refl
-      (goes-part W Z S s u acts (advanced (with_acc lock.number (S.carried u))) no_change ∙ ap (λ k. stepped (part_of W S s) (keeps (received k (moved (owned_at S u))) [])) (sym gives.1))
-      (value-same W Z S s u acts (site.Rw x) RwLockIs value RwLockGives (advanced (with_acc lock.number (S.carried u))) (rwlock-at W x.0 is) ∙ sym gives.2)
+      gets-number W Z S s u acts _ _ _ value _ _ new lock.number (rwlock-at W x.0 is) (ap (λ k. received k (moved (owned_at S u))) gives.1) (unless-true (holds u lock) code.NotHolder code.Ok gives.0) refl gives.2
   load (act.Coded code.NotHolder) new gives = not-holder _ new (unless-false (holds u lock) code.NotHolder code.Ok gives.0) gives.1
   load _ new gives = absurd gives
 
-  store : ValueRow W S s u (op.RwStore x) value RwLockGives
+  pub store : ValueRow W S s u (op.RwStore x) value RwLockGives
   store (act.Coded code.Ok) new gives =
       goes _ (moved (owned_at S u)) new (record lock { number = (S.carried u).acc }) (unless-true (writes u lock) code.NotHolder code.Ok gives.0) refl refl gives.1
   store (act.Coded code.NotHolder) new gives = not-holder _ new (unless-false (writes u lock) code.NotHolder code.Ok gives.0) gives.1
   store _ new gives = absurd gives
-
-  -- The rows.
-
-  pub readlock-row : Row W S s u (op.ReadLock x)
-  readlock-row = row-by_value W S s u _ _ RwLockIs value RwLockGives (act.ReadLock (moved (owned_at S u))) _ (rwlock-at W x.0 is) readlock
-
-  pub writelock-row : Row W S s u (op.WriteLock x)
-  writelock-row = row-by_value W S s u _ _ RwLockIs value RwLockGives (act.WriteLock (moved (owned_at S u))) _ (rwlock-at W x.0 is) writelock
-
-  pub rwunlock-row : Row W S s u (op.RwUnlock x)
-  rwunlock-row = row-by_value W S s u _ _ RwLockIs value RwLockGives (act.RwUnlock u) _ (rwlock-at W x.0 is) unlock
-
-  pub rwload-row : Row W S s u (op.RwLoad x)
-  rwload-row = row-by_value W S s u _ _ RwLockIs value RwLockGives (act.Load u) _ (rwlock-at W x.0 is) load
-
-  pub rwstore-row : Row W S s u (op.RwStore x)
-  rwstore-row = row-by_value W S s u _ _ RwLockIs value RwLockGives (act.Store u (S.carried u).acc) _ (rwlock-at W x.0 is) store

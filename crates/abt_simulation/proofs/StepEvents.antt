@@ -28,16 +28,16 @@ use Rattle.abt_laws.proofs.DueParts.{due-same}
 use Rattle.abt_simulation.specs.Simulation.{CalledAnswers, Leaves}
 use Rattle.abt_simulation.proofs.Acting.{IsActing, acting}
 use Rattle.abt_simulation.proofs.OwnedLines.{Head, head-of}
-use Rattle.abt_simulation.proofs.Rows.{Row, RowBy, RowDone, after_step}
+use Rattle.abt_simulation.proofs.Rows.{Row, RowBy, RowDone, after_step, by-value, desk-at, mutex-at, eventual-at, future-at, barrier-at, rwlock-at}
 use Rattle.abt_simulation.proofs.OwnRows.{local-row, yield-row, exit-row, reached-row}
 use Rattle.abt_simulation.proofs.PoolRows.{yieldto-row}
-use Rattle.abt_simulation.proofs.DeskRows.{suspend-row, resume-row, create-row, join-row, cancel-row, migrate-row, migrateto-row, migratable-row, revive-row}
-use Rattle.abt_simulation.proofs.MonitorRows.{lock-row, trylock-row, unlock-row, load-row, store-row}
-use Rattle.abt_simulation.proofs.ConditionRows.{condwait-row, signal-row, broadcast-row}
-use Rattle.abt_simulation.proofs.EventualRows.{evwait-row, evset-row, evreset-row, evtest-row}
-use Rattle.abt_simulation.proofs.FutureRows.{fuwait-row, fuset-row, fureset-row, futest-row}
-use Rattle.abt_simulation.proofs.BarrierRows.{barwait-row}
-use Rattle.abt_simulation.proofs.RwLockRows.{readlock-row, writelock-row, rwunlock-row, rwload-row, rwstore-row}
+use Rattle.abt_simulation.proofs.DeskRows.{suspend-value, join-value, cancel-value, migratable-value, resume-row, create-row, migrate-row, migrateto-row, revive-row}
+use Rattle.abt_simulation.proofs.MonitorRows as mutex
+use Rattle.abt_simulation.proofs.ConditionRows as condition
+use Rattle.abt_simulation.proofs.EventualRows as eventual
+use Rattle.abt_simulation.proofs.FutureRows as future
+use Rattle.abt_simulation.proofs.BarrierRows as barrier
+use Rattle.abt_simulation.proofs.RwLockRows as rwlock
 use Rattle.abt_simulation.proofs.Simulated.{Simulated}
 
 -- Local operations.
@@ -57,38 +57,38 @@ module _ (W : Parts) (Z : List OrderShape) (S : State) (s u : ℕ) (acts : IsAct
   each-row : IsValid W → (a : Op) → IsDeclared W a → Row W S s u a
   each-row valid op.Yield d = yield-row W Z S s u acts
   each-row valid (op.YieldTo v p) d = reached-row W Z S s u acts _ (may_take W s p.0) _ _ refl (yieldto-row W Z S s u acts v p)
-  each-row valid op.Suspend d = suspend-row W Z S s u acts
+  each-row valid op.Suspend d = by-value W S s u op.Suspend _ _ _ (desk-at W u) (suspend-value W Z S s u acts)
   each-row valid op.Exit d = exit-row W Z S s u acts
   each-row valid (op.Resume v) d = resume-row W Z S s u acts v d
   each-row valid (op.Create v p) d = reached-row W Z S s u acts _ (may_put W s p.0) _ _ refl (create-row W Z S s u acts v p d.0)
-  each-row valid (op.Join v) d = join-row W Z S s u acts v
-  each-row valid (op.Cancel v) d = cancel-row W Z S s u acts v
+  each-row valid (op.Join v) d = by-value W S s u (op.Join v) _ _ _ (desk-at W v.0) (join-value W Z S s u acts v)
+  each-row valid (op.Cancel v) d = by-value W S s u (op.Cancel v) _ _ _ (desk-at W v.0) (cancel-value W Z S s u acts v)
   each-row valid (op.Migrate v p) d = reached-row W Z S s u acts _ (may_put W s p.0) _ _ refl (migrate-row W Z S s u acts v p)
   each-row valid (op.MigrateTo v r) d = reached-row W Z S s u acts _ (may_put W s (first_pool W r.0)) _ _ refl (migrateto-row W Z S s u acts v r)
-  each-row valid (op.Migratable v b) d = migratable-row W Z S s u acts v b
+  each-row valid (op.Migratable v b) d = by-value W S s u (op.Migratable v b) _ _ _ (desk-at W v.0) (migratable-value W Z S s u acts v b)
   each-row valid (op.Revive v p) d = reached-row W Z S s u acts _ (may_put W s p.0) _ _ refl (revive-row W Z S s u acts v p d.0)
-  each-row valid (op.Lock x) d = lock-row W Z S s u acts x d
-  each-row valid (op.TryLock x) d = trylock-row W Z S s u acts x d
-  each-row valid (op.Unlock x) d = unlock-row W Z S s u acts x d
-  each-row valid (op.Load x) d = load-row W Z S s u acts x d
-  each-row valid (op.Store x) d = store-row W Z S s u acts x d
-  each-row valid (op.CondWait x) d = condwait-row W Z S s u acts valid x d
-  each-row valid (op.Signal x) d = signal-row W Z S s u acts valid x d
-  each-row valid (op.Broadcast x) d = broadcast-row W Z S s u acts valid x d
-  each-row valid (op.EvWait x) d = evwait-row W Z S s u acts x d
-  each-row valid (op.EvSet x) d = evset-row W Z S s u acts x d
-  each-row valid (op.EvReset x) d = evreset-row W Z S s u acts x d
-  each-row valid (op.EvTest x) d = evtest-row W Z S s u acts x d
-  each-row valid (op.FuWait x) d = fuwait-row W Z S s u acts x d
-  each-row valid (op.FuSet x) d = fuset-row W Z S s u acts x d
-  each-row valid (op.FuReset x) d = fureset-row W Z S s u acts x d
-  each-row valid (op.FuTest x) d = futest-row W Z S s u acts x d
-  each-row valid (op.BarWait x) d = barwait-row W Z S s u acts x d
-  each-row valid (op.ReadLock x) d = readlock-row W Z S s u acts x d
-  each-row valid (op.WriteLock x) d = writelock-row W Z S s u acts x d
-  each-row valid (op.RwUnlock x) d = rwunlock-row W Z S s u acts x d
-  each-row valid (op.RwLoad x) d = rwload-row W Z S s u acts x d
-  each-row valid (op.RwStore x) d = rwstore-row W Z S s u acts x d
+  each-row valid (op.Lock x) d = by-value W S s u (op.Lock x) _ _ _ (mutex-at W x.0 d) (mutex.lock W Z S s u acts x d)
+  each-row valid (op.TryLock x) d = by-value W S s u (op.TryLock x) _ _ _ (mutex-at W x.0 d) (mutex.trylock W Z S s u acts x d)
+  each-row valid (op.Unlock x) d = by-value W S s u (op.Unlock x) _ _ _ (mutex-at W x.0 d) (mutex.unlock W Z S s u acts x d)
+  each-row valid (op.Load x) d = by-value W S s u (op.Load x) _ _ _ (mutex-at W x.0 d) (mutex.load W Z S s u acts x d)
+  each-row valid (op.Store x) d = by-value W S s u (op.Store x) _ _ _ (mutex-at W x.0 d) (mutex.store W Z S s u acts x d)
+  each-row valid (op.CondWait x) d = by-value W S s u (op.CondWait x) _ _ _ (mutex-at W _ (condition.mutex W Z S s u acts valid x d)) (condition.condwait W Z S s u acts valid x d)
+  each-row valid (op.Signal x) d = by-value W S s u (op.Signal x) _ _ _ (mutex-at W _ (condition.mutex W Z S s u acts valid x d)) (condition.signal W Z S s u acts valid x d)
+  each-row valid (op.Broadcast x) d = by-value W S s u (op.Broadcast x) _ _ _ (mutex-at W _ (condition.mutex W Z S s u acts valid x d)) (condition.broadcast W Z S s u acts valid x d)
+  each-row valid (op.EvWait x) d = by-value W S s u (op.EvWait x) _ _ _ (eventual-at W x.0 d) (eventual.await W Z S s u acts x d)
+  each-row valid (op.EvSet x) d = by-value W S s u (op.EvSet x) _ _ _ (eventual-at W x.0 d) (eventual.fill W Z S s u acts x d)
+  each-row valid (op.EvReset x) d = by-value W S s u (op.EvReset x) _ _ _ (eventual-at W x.0 d) (eventual.reset W Z S s u acts x d)
+  each-row valid (op.EvTest x) d = by-value W S s u (op.EvTest x) _ _ _ (eventual-at W x.0 d) (eventual.test W Z S s u acts x d)
+  each-row valid (op.FuWait x) d = by-value W S s u (op.FuWait x) _ _ _ (future-at W x.0 d.0 d.1 d.2) (future.await W Z S s u acts x d.0 d.1 d.2)
+  each-row valid (op.FuSet x) d = by-value W S s u (op.FuSet x) _ _ _ (future-at W x.0 d.0 d.1 d.2) (future.fill W Z S s u acts x d.0 d.1 d.2)
+  each-row valid (op.FuReset x) d = by-value W S s u (op.FuReset x) _ _ _ (future-at W x.0 d.0 d.1 d.2) (future.reset W Z S s u acts x d.0 d.1 d.2)
+  each-row valid (op.FuTest x) d = by-value W S s u (op.FuTest x) _ _ _ (future-at W x.0 d.0 d.1 d.2) (future.test W Z S s u acts x d.0 d.1 d.2)
+  each-row valid (op.BarWait x) d = by-value W S s u (op.BarWait x) _ _ _ (barrier-at W x.0 d.0 d.1) (barrier.arrive W Z S s u acts x d.0 d.1)
+  each-row valid (op.ReadLock x) d = by-value W S s u (op.ReadLock x) _ _ _ (rwlock-at W x.0 d) (rwlock.readlock W Z S s u acts x d)
+  each-row valid (op.WriteLock x) d = by-value W S s u (op.WriteLock x) _ _ _ (rwlock-at W x.0 d) (rwlock.writelock W Z S s u acts x d)
+  each-row valid (op.RwUnlock x) d = by-value W S s u (op.RwUnlock x) _ _ _ (rwlock-at W x.0 d) (rwlock.unlock W Z S s u acts x d)
+  each-row valid (op.RwLoad x) d = by-value W S s u (op.RwLoad x) _ _ _ (rwlock-at W x.0 d) (rwlock.load W Z S s u acts x d)
+  each-row valid (op.RwStore x) d = by-value W S s u (op.RwStore x) _ _ _ (rwlock-at W x.0 d) (rwlock.store W Z S s u acts x d)
   each-row valid a d = local-row W Z S s u acts a (local_by a) refl refl
 
 module _ (W : Parts) (S : State) (s u : ℕ) (heard : Option Heard) (c : Code) (part : Held) (object : Object) (answers : CalledAnswers W S heard object) where
