@@ -7,6 +7,6 @@ mod status;
 mod writing;
 
 pub use fetching::bytes_of;
-pub use process::{Process, words_of};
+pub use process::{run, words_of};
 pub use status::{Stop, Wrong, number_of_outcome};
 pub use writing::{stop_by, write_out};
