@@ -86,8 +86,8 @@ module _ (W : Parts) (confluent : Confluent W) (t : ℕ) (S : State) (flowing : 
       subst (λ d. Tells W (suc t) u d (S.place u)) (sym (carries-here W t S flowing s u held (op.Create v p) is (S.carried u) refl))
       (subst (Tells W (suc t) u (advanced (S.carried u))) (sym held) (went W t S flowing s u held (op.Create v p) is (S.carried u) refl refl))
 
-  not_created : (n : ℕ) → Tells W (suc t) n (keeps n) (S.place n)
-  not_created n =
+  not-created : (n : ℕ) → Tells W (suc t) n (keeps n) (S.place n)
+  not-created n =
       elim (cases_eq n u) [
         | inl same ↦ subst (λ k. Tells W (suc t) k (keeps k) (S.place k)) (sym same) went-on
         | inr away ↦ others-tell W t S flowing s u held (op.Create v p) is (S.carried u) refl n away
@@ -101,11 +101,11 @@ module _ (W : Parts) (confluent : Confluent W) (t : ℕ) (S : State) (flowing : 
       elim (put_at-cases S.place v.0 tray n) [
         | inl created ↦ subst (Tells W (suc t) n (then.carried n)) (sym created.1)
             (subst (Before W (suc t) n) (sym (ap (then.carried) created.0 ∙ put_at-same keeps v.0 (newborn p.0 (S.carried v.0)))) (subst (λ k. Before W (suc t) k (newborn p.0 (S.carried v.0))) (sym created.0) began))
-        | inr away ↦ subst (Tells W (suc t) n (then.carried n)) (sym away.1) (subst (λ d. Tells W (suc t) n d (S.place n)) (sym (put_at-other keeps v.0 (newborn p.0 (S.carried v.0)) n away.0)) (not_created n))
+        | inr away ↦ subst (Tells W (suc t) n (then.carried n)) (sym away.1) (subst (λ d. Tells W (suc t) n d (S.place n)) (sym (put_at-other keeps v.0 (newborn p.0 (S.carried v.0)) n away.0)) (not-created n))
       ]
 
-  position_of : (n : ℕ) → n ≢ u → (then.carried n).position ≡ (S.carried n).position
-  position_of n away =
+  position-of : (n : ℕ) → n ≢ u → (then.carried n).position ≡ (S.carried n).position
+  position-of n away =
       elim (put_at-cases keeps v.0 (newborn p.0 (S.carried v.0)) n) [
         | inl created ↦ ap (λ (d : Carried). d.position) created.1 ∙ (sym tells.1 ∙ ap (λ k. (S.carried k).position) (sym created.0))
         | inr out ↦ ap (λ (d : Carried). d.position) out.1 ∙ ap (λ (d : Carried). d.position) (carries-there W t S flowing s u held (op.Create v p) is (S.carried u) refl n away)
@@ -115,14 +115,14 @@ module _ (W : Parts) (confluent : Confluent W) (t : ℕ) (S : State) (flowing : 
   own-position =
       ap (λ (d : Carried). d.position) (put_at-other keeps v.0 (newborn p.0 (S.carried v.0)) u (λ e. other (sym e))) ∙ ap (λ (d : Carried). d.position) (carries-here W t S flowing s u held (op.Create v p) is (S.carried u) refl)
 
-  were_unborn : (n : ℕ) → then.place n ≡ place.Unborn → S.place n ≡ place.Unborn
-  were_unborn n e = elim (put_at-cases S.place v.0 tray n) [ inl created ↦ (let h : tray ≡ place.Unborn = sym created.1 ∙ e in absurd cc) | inr away ↦ sym away.1 ∙ e ]
+  were-unborn : (n : ℕ) → then.place n ≡ place.Unborn → S.place n ≡ place.Unborn
+  were-unborn n e = elim (put_at-cases S.place v.0 tray n) [ inl created ↦ (let h : tray ≡ place.Unborn = sym created.1 ∙ e in absurd cc) | inr away ↦ sym away.1 ∙ e ]
 
   still : (n : ℕ) → S.place n ≡ place.Unborn → (then.place n ≡ place.Unborn) ⊎ ((q : PoolNo) × (op.Create v p ≡ op.Create (unit_no n) q))
   still n e = elim (put_at-cases S.place v.0 tray n) [ inl created ↦ inr (p, ap (λ k. op.Create (unit_no k) p) (sym created.0)) | inr away ↦ inl (away.1 ∙ e) ]
 
-  is_created : (n : ℕ) (q : PoolNo) → op.Create v p ≡ op.Create (unit_no n) q → then.place n ≡ place.Unborn → ⊥
-  is_created n q e unborn =
+  is-created : (n : ℕ) (q : PoolNo) → op.Create v p ≡ op.Create (unit_no n) q → then.place n ≡ place.Unborn → ⊥
+  is-created n q e unborn =
       let same : v ≡ unit_no n = cc in
       let at : v.0 ≡ n = ap (λ (k : UnitNo). k.0) same in
       let h : tray ≡ place.Unborn = sym (put_at-same S.place v.0 tray) ∙ (ap then.place at ∙ unborn) in cc
@@ -131,10 +131,10 @@ module _ (W : Parts) (confluent : Confluent W) (t : ℕ) (S : State) (flowing : 
   row-creates = record {
     units = tell;
     own = own-position;
-    others = position_of;
+    others = position-of;
     unborn = still;
-    stays = were_unborn;
-    creates = is_created;
+    stays = were-unborn;
+    creates = is-created;
     values = λ x n e. inl e;
     calm = λ n. elim (put_at-cases S.desk v.0 (let d : Desk = record (S.desk v.0) { life = suc (S.desk v.0).life } in d) n) [ inl created ↦ ap (λ (d : Desk). d.cancel) created.1 ∙ flowing.calm v.0 | inr away ↦ ap (λ (d : Desk). d.cancel) away.1 ∙ flowing.calm n ];
     marks = flowing.marks;

@@ -54,7 +54,7 @@ module _ (W : Parts) (valid : IsValid W) (confluent : Confluent W) (t : ℕ) (S 
   goes-locally o (Awaits x) same is local = absurd local
   goes-locally o Depends same is local = absurd (subst IsSettled same (confluent.ops u (S.carried u).position o is))
 
-  -- the last line is read for each other operation by itself
+  -- the last line is checked for each other operation by itself
   pub goes : (o : Op) → op_at W u (S.carried u).position ≡ Some o → Goes o
   goes op.Yield is = (refl, row-goes_to W t S flowing s u held op.Yield is (λ x e. cc) (λ v q e. cc) (place.Tray (stream_no s) (tray_end W S s)) (λ e. cc) (went W t S flowing s u held op.Yield is (S.carried u) refl refl) [] [])
   goes (op.Create v p) is = (create-ok W confluent t S flowing s u held v p is, row-creates W confluent t S flowing s u held v p is)

@@ -75,19 +75,19 @@ module _ (W : Parts) (t : ℕ) (S : State) (flowing : Flowing W t S) (s u : ℕ)
             | inr out ↦ subst (Tells W (suc t) v (carries v)) (sym (put_all-other S.place ms v out)) (unmoved v out)
           ]
 
-      still_unborn : (v : ℕ) → S.place v ≡ place.Unborn → moved.place v ≡ place.Unborn
-      still_unborn v = put_all-kept (λ n pl. S.place n ≡ place.Unborn → pl ≡ place.Unborn) S.place ms v (EachOf-then (λ (m : ℕ × Place). Lands m.0 (carries m.0) m.1) (λ (m : ℕ × Place). S.place m.0 ≡ place.Unborn → m.1 ≡ place.Unborn) ms (λ m l e. absurd (l.was e)) lands) (λ e. e)
+      still-unborn : (v : ℕ) → S.place v ≡ place.Unborn → moved.place v ≡ place.Unborn
+      still-unborn v = put_all-kept (λ n pl. S.place n ≡ place.Unborn → pl ≡ place.Unborn) S.place ms v (EachOf-then (λ (m : ℕ × Place). Lands m.0 (carries m.0) m.1) (λ (m : ℕ × Place). S.place m.0 ≡ place.Unborn → m.1 ≡ place.Unborn) ms (λ m l e. absurd (l.was e)) lands) (λ e. e)
 
-      were_unborn : (v : ℕ) → moved.place v ≡ place.Unborn → S.place v ≡ place.Unborn
-      were_unborn v = put_all-kept (λ n pl. pl ≡ place.Unborn → S.place n ≡ place.Unborn) S.place ms v (EachOf-then (λ (m : ℕ × Place). Lands m.0 (carries m.0) m.1) (λ (m : ℕ × Place). m.1 ≡ place.Unborn → S.place m.0 ≡ place.Unborn) ms (λ m l e. absurd (l.born e)) lands) (λ e. e)
+      were-unborn : (v : ℕ) → moved.place v ≡ place.Unborn → S.place v ≡ place.Unborn
+      were-unborn v = put_all-kept (λ n pl. pl ≡ place.Unborn → S.place n ≡ place.Unborn) S.place ms v (EachOf-then (λ (m : ℕ × Place). Lands m.0 (carries m.0) m.1) (λ (m : ℕ × Place). m.1 ≡ place.Unborn → S.place m.0 ≡ place.Unborn) ms (λ m l e. absurd (l.born e)) lands) (λ e. e)
 
       pub steps-moving : Stepped W t S moved u o
       steps-moving = record {
         units = tell;
         own = ap (λ (d : Carried). d.position) carries-here ∙ ap (λ k. suc k) p;
         others = λ v other. ap (λ (d : Carried). d.position) (carries-there v other);
-        unborn = λ v e. inl (still_unborn v e);
-        stays = were_unborn;
+        unborn = λ v e. inl (still-unborn v e);
+        stays = were-unborn;
         creates = λ v q e. absurd (no_create v q e);
         values = λ x n e. inl e;
         calm = flowing.calm;

@@ -58,33 +58,33 @@ module _ (W : Parts) (t : ℕ) (S : State) (flowing : Flowing W t S) (ms : List 
   never : (pl : Place) → IsPlain pl → pl ≡ place.Unborn → ⊥
   never pl h e = subst IsPlain e h
 
-  not_born : (u : ℕ) (pl : Place) → Moves W S u pl → pl ≡ place.Unborn → ⊥
-  not_born u pl (was, inl plain) e = never pl plain e
-  not_born u pl (was, inr ended) e = cc
+  not-born : (u : ℕ) (pl : Place) → Moves W S u pl → pl ≡ place.Unborn → ⊥
+  not-born u pl (was, inl plain) e = never pl plain e
+  not-born u pl (was, inr ended) e = cc
 
   -- who is unborn was so
-  were_unborn : (u : ℕ) → after-it.place u ≡ place.Unborn → S.place u ≡ place.Unborn
-  were_unborn u = put_all-kept (λ n pl. pl ≡ place.Unborn → S.place n ≡ place.Unborn) S.place ms u (EachOf-then (λ (m : ℕ × Place). Moves W S m.0 m.1) (λ (m : ℕ × Place). m.1 ≡ place.Unborn → S.place m.0 ≡ place.Unborn) ms (λ m h e. absurd (not_born m.0 m.1 h e)) passes.move) (λ e. e)
+  were-unborn : (u : ℕ) → after-it.place u ≡ place.Unborn → S.place u ≡ place.Unborn
+  were-unborn u = put_all-kept (λ n pl. pl ≡ place.Unborn → S.place n ≡ place.Unborn) S.place ms u (EachOf-then (λ (m : ℕ × Place). Moves W S m.0 m.1) (λ (m : ℕ × Place). m.1 ≡ place.Unborn → S.place m.0 ≡ place.Unborn) ms (λ m h e. absurd (not-born m.0 m.1 h e)) passes.move) (λ e. e)
 
   -- and is so afterwards
-  stay_unborn : (u : ℕ) → S.place u ≡ place.Unborn → after-it.place u ≡ place.Unborn
-  stay_unborn u = put_all-kept (λ n pl. S.place n ≡ place.Unborn → pl ≡ place.Unborn) S.place ms u (EachOf-then (λ (m : ℕ × Place). Moves W S m.0 m.1) (λ (m : ℕ × Place). S.place m.0 ≡ place.Unborn → m.1 ≡ place.Unborn) ms (λ m h e. absurd (never (S.place m.0) h.0 e)) passes.move) (λ e. e)
+  stay-unborn : (u : ℕ) → S.place u ≡ place.Unborn → after-it.place u ≡ place.Unborn
+  stay-unborn u = put_all-kept (λ n pl. S.place n ≡ place.Unborn → pl ≡ place.Unborn) S.place ms u (EachOf-then (λ (m : ℕ × Place). Moves W S m.0 m.1) (λ (m : ℕ × Place). S.place m.0 ≡ place.Unborn → m.1 ≡ place.Unborn) ms (λ m h e. absurd (never (S.place m.0) h.0 e)) passes.move) (λ e. e)
 
-  same_set : (x n : ℕ) → IsSet W t S x n → IsSet W t after-it x n
-  same_set x n is = record { setter = is.setter; at = is.at; memory = is.memory; reached = is.reached; sets = is.sets; made = is.made; value = is.value; behind = subst (λ k. is.at < k) (sym (kept is.setter).0) is.behind }
+  same-set : (x n : ℕ) → IsSet W t S x n → IsSet W t after-it x n
+  same-set x n is = record { setter = is.setter; at = is.at; memory = is.memory; reached = is.reached; sets = is.sets; made = is.made; value = is.value; behind = subst (λ k. is.at < k) (sym (kept is.setter).0) is.behind }
 
-  same_created : (u : ℕ) → IsCreated W S u → IsCreated W after-it u
-  same_created u is = record { creator = is.creator; at = is.at; pool = is.pool; creates = is.creates; behind = subst (λ k. is.at < k) (sym (kept is.creator).0) is.behind }
+  same-created : (u : ℕ) → IsCreated W S u → IsCreated W after-it u
+  same-created u is = record { creator = is.creator; at = is.at; pool = is.pool; creates = is.creates; behind = subst (λ k. is.at < k) (sym (kept is.creator).0) is.behind }
 
-  was_created : (u : ℕ) → IsCreated W after-it u → IsCreated W S u
-  was_created u is = record { creator = is.creator; at = is.at; pool = is.pool; creates = is.creates; behind = subst (λ k. is.at < k) (kept is.creator).0 is.behind }
+  was-created : (u : ℕ) → IsCreated W after-it u → IsCreated W S u
+  was-created u is = record { creator = is.creator; at = is.at; pool = is.pool; creates = is.creates; behind = subst (λ k. is.at < k) (kept is.creator).0 is.behind }
 
   pub passes-on : Flowing W t after-it
   passes-on = record {
     units = λ u. tells-same W t u (S.carried u) (after-it.carried u) (after-it.place u) (kept u).0 (kept u).1 (told u);
-    values = λ x n e. same_set x n (flowing.values x n e);
-    born = λ u is e. flowing.born u (was_created u is) (were_unborn u e);
-    created = λ u h start. same_created u (flowing.created u (λ e. h (stay_unborn u e)) start);
+    values = λ x n e. same-set x n (flowing.values x n e);
+    born = λ u is e. flowing.born u (was-created u is) (were-unborn u e);
+    created = λ u h start. same-created u (flowing.created u (λ e. h (stay-unborn u e)) start);
     calm = λ u. put_all-kept (λ n (d : Desk). d.cancel ≡ false) S.desk ds u passes.calm (flowing.calm u);
     marks = λ s. put_all-kept (λ n (own : Stream). GoesOn own.mark) S.stream ss s passes.marks (flowing.marks s);
   }

@@ -63,8 +63,8 @@ module _ (W : Parts) (t : ℕ) (S : State) (flowing : Flowing W t S) (s u : ℕ)
 
   -- Who waits at a barrier is past its operation.
 
-  no_eventual : (x : ObjectNo) → IsBarrier W x.0 → IsEventual W x.0 → ⊥
-  no_eventual x barrier eventual = let e : Some thing.Eventual ≡ Some (thing.Barrier barrier.0) = sym eventual ∙ barrier.1 in cc
+  no-eventual : (x : ObjectNo) → IsBarrier W x.0 → IsEventual W x.0 → ⊥
+  no-eventual x barrier eventual = let e : Some thing.Eventual ≡ Some (thing.Barrier barrier.0) = sym eventual ∙ barrier.1 in cc
 
   pub row-arrives : IsValid W → (x : ObjectNo) → op_at W u (S.carried u).position ≡ Some (op.BarWait x) → Stepped W t S (changed S (arrives W S s u x.0)) u (op.BarWait x)
   row-arrives valid x is =
@@ -77,11 +77,11 @@ module _ (W : Parts) (t : ℕ) (S : State) (flowing : Flowing W t S) (s u : ℕ)
         own = went W t S flowing s u held (op.BarWait x) is (S.carried u) refl refl
 
         rests : Stepped W t S (changed S (waits S u x.0)) u (op.BarWait x)
-        rests = row-goes_to (op.BarWait x) is (λ x e. cc) (λ v q e. cc) (place.Blocked (spot.Object x) (S.object_next x.0)) (λ e. cc) (inl (no_eventual x barrier, own)) [] ((x.0, suc (S.object_next x.0)) ∷ [])
+        rests = row-goes_to (op.BarWait x) is (λ x e. cc) (λ v q e. cc) (place.Blocked (spot.Object x) (S.object_next x.0)) (λ e. cc) (inl (no-eventual x barrier, own)) [] ((x.0, suc (S.object_next x.0)) ∷ [])
 
         past : (v : ℕ) (c : Carried) → Waits W (suc t) v x.0 c → Before W (suc t) v c
         past v c (inl h) = h.1
-        past v c (inr h) = absurd (no_eventual x barrier (op-declared W v h.at (op.EvWait x) valid h.waits))
+        past v c (inr h) = absurd (no-eventual x barrier (op-declared W v h.at (op.EvWait x) valid h.waits))
 
         lands : (v k : ℕ) → StandsIn W S (Waiting x.0) v → Lands W t S flowing s u held (op.BarWait x) is v (carries W t S flowing s u held (op.BarWait x) is (S.carried u) refl v) (place.Tray (stream_no s) k)
         lands v k stands =

@@ -107,8 +107,8 @@ module _ (W : Parts) (valid : IsValid W) (confluent : Confluent W) (t : ℕ) (S 
       (EachOf-map (λ (m : ℕ × Carried). m.1 ≡ with_acc acc (S.carried m.0)) (λ _. Unit {0}) (receives S acc) waiters (λ n _. refl) (EachOf-all (λ _. Unit {0}) waiters (λ _. tt)))
       (among-received S acc waiters v among)
 
-  not_given : (v : ℕ) → (Among v waiters → ⊥) → then.carried v ≡ keeps v
-  not_given v out = put_all-other keeps (map (receives S acc) waiters) v (λ k. out (received-among S acc waiters v k))
+  not-given : (v : ℕ) → (Among v waiters → ⊥) → then.carried v ≡ keeps v
+  not-given v out = put_all-other keeps (map (receives S acc) waiters) v (λ k. out (received-among S acc waiters v k))
 
   own-not_waiting : Among u waiters → ⊥
   own-not_waiting among = each-among (λ v. v ≢ u) waiters u (EachOf-then (StandsIn W S (Waiting x.0)) (λ v. v ≢ u) waiters waiter-other (each-stands W S (Waiting x.0))) among refl
@@ -118,8 +118,8 @@ module _ (W : Parts) (valid : IsValid W) (confluent : Confluent W) (t : ℕ) (S 
       subst (λ d. Tells W (suc t) u d (S.place u)) (sym (carries-here W t S flowing s u held (op.EvSet x) is (S.carried u) refl))
       (subst (Tells W (suc t) u (advanced (S.carried u))) (sym held) (went W t S flowing s u held (op.EvSet x) is (S.carried u) refl refl))
 
-  not_woken : (n : ℕ) → Tells W (suc t) n (keeps n) (S.place n)
-  not_woken n =
+  not-woken : (n : ℕ) → Tells W (suc t) n (keeps n) (S.place n)
+  not-woken n =
       elim (cases_eq n u) [
         | inl same ↦ subst (λ k. Tells W (suc t) k (keeps k) (S.place k)) (sym same) went-on
         | inr away ↦ others-tell W t S flowing s u held (op.EvSet x) is (S.carried u) refl n away
@@ -139,20 +139,20 @@ module _ (W : Parts) (valid : IsValid W) (confluent : Confluent W) (t : ℕ) (S 
             put_all-value (λ v pl. v ≡ n → Tells W (suc t) n (then.carried n) pl) S.place moves n
             (tray_moves-each (λ (m : ℕ × Place). m.0 ≡ n → Tells W (suc t) n (then.carried n) m.1) (λ _. Unit {0}) s (tray_end W S s) waiters (λ v k _ _. woken n k b among) (EachOf-all (λ _. Unit {0}) waiters (λ _. tt))) key refl)
         | inr out ↦ subst (Tells W (suc t) n (then.carried n)) (sym (put_all-other S.place moves n out))
-            (subst (λ d. Tells W (suc t) n d (S.place n)) (sym (not_given n (λ among. out (tray_moves-key s (tray_end W S s) waiters n among)))) (not_woken n))
+            (subst (λ d. Tells W (suc t) n d (S.place n)) (sym (not-given n (λ among. out (tray_moves-key s (tray_end W S s) waiters n among)))) (not-woken n))
       ]
 
-  position_of : (n : ℕ) → n ≢ u → (then.carried n).position ≡ (S.carried n).position
-  position_of n away =
+  position-of : (n : ℕ) → n ≢ u → (then.carried n).position ≡ (S.carried n).position
+  position-of n away =
       put_all-kept (λ k (c : Carried). k ≢ u → c.position ≡ (S.carried k).position) keeps (map (receives S acc) waiters) n
       (EachOf-map (λ (m : ℕ × Carried). m.0 ≢ u → m.1.position ≡ (S.carried m.0).position) (λ _. Unit {0}) (receives S acc) waiters (λ k _ _. refl) (EachOf-all (λ _. Unit {0}) waiters (λ _. tt)))
       (λ out. ap (λ (c : Carried). c.position) (carries-there W t S flowing s u held (op.EvSet x) is (S.carried u) refl n out)) away
 
   own-position : (then.carried u).position ≡ suc (S.carried u).position
-  own-position = ap (λ (c : Carried). c.position) (not_given u own-not_waiting) ∙ ap (λ (c : Carried). c.position) (carries-here W t S flowing s u held (op.EvSet x) is (S.carried u) refl)
+  own-position = ap (λ (c : Carried). c.position) (not-given u own-not_waiting) ∙ ap (λ (c : Carried). c.position) (carries-here W t S flowing s u held (op.EvSet x) is (S.carried u) refl)
 
-  were_unborn : (n : ℕ) → then.place n ≡ place.Unborn → S.place n ≡ place.Unborn
-  were_unborn n = put_all-kept (λ k pl. pl ≡ place.Unborn → S.place k ≡ place.Unborn) S.place moves n (tray_moves-each (λ (m : ℕ × Place). m.1 ≡ place.Unborn → S.place m.0 ≡ place.Unborn) (λ _. Unit {0}) s (tray_end W S s) waiters (λ v k _ e. cc) (EachOf-all (λ _. Unit {0}) waiters (λ _. tt))) (λ e. e)
+  were-unborn : (n : ℕ) → then.place n ≡ place.Unborn → S.place n ≡ place.Unborn
+  were-unborn n = put_all-kept (λ k pl. pl ≡ place.Unborn → S.place k ≡ place.Unborn) S.place moves n (tray_moves-each (λ (m : ℕ × Place). m.1 ≡ place.Unborn → S.place m.0 ≡ place.Unborn) (λ _. Unit {0}) s (tray_end W S s) waiters (λ v k _ e. cc) (EachOf-all (λ _. Unit {0}) waiters (λ _. tt))) (λ e. e)
 
   still : (n : ℕ) → S.place n ≡ place.Unborn → then.place n ≡ place.Unborn
   still n = put_all-kept (λ k pl. S.place k ≡ place.Unborn → pl ≡ place.Unborn) S.place moves n
@@ -170,9 +170,9 @@ module _ (W : Parts) (valid : IsValid W) (confluent : Confluent W) (t : ℕ) (S 
   row-sets = record {
     units = tell;
     own = own-position;
-    others = position_of;
+    others = position-of;
     unborn = λ n e. inl (still n e);
-    stays = were_unborn;
+    stays = were-unborn;
     creates = λ v q e. cc;
     values = set-to;
     calm = flowing.calm;

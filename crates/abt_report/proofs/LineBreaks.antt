@@ -16,28 +16,28 @@ pub unbroken-by : (text : Text) → list_all (λ b. not (b == 10)) text ≡ true
 unbroken-by text e k d lt = eqb-false (get_or text k d) 10 (not-true (get_or text k d == 10) (AllPass-from_list_all (λ b. not (b == 10)) text e k d lt))
 
 -- the first byte
-first_or : ℕ → Text → ℕ
-first_or d [] = d
-first_or d (x ∷ xs) = x
+first-or : ℕ → Text → ℕ
+first-or d [] = d
+first-or d (x ∷ xs) = x
 
 -- texts that are the same begin with the same byte
 pub heads-same : (a b : ℕ) (xs ys : Text) → a ∷ xs ≡ b ∷ ys → a ≡ b
-unfolding first_or
-heads-same a b xs ys e = ap (first_or a) e
+unfolding first-or
+heads-same a b xs ys e = ap (first-or a) e
 
 -- texts differ if their first bytes differ
 pub apart : (a b : ℕ) (xs ys : Text) → (a == b) ≡ false → a ∷ xs ≡ b ∷ ys → ⊥
 apart a b xs ys differ e = eqb-false a b differ (heads-same a b xs ys e)
 
 -- the text without its first byte
-rest_of : Text → Text
-rest_of [] = []
-rest_of (x ∷ xs) = xs
+rest-of : Text → Text
+rest-of [] = []
+rest-of (x ∷ xs) = xs
 
 -- texts that are the same go on the same
 pub tails-same : (a b : ℕ) (xs ys : Text) → a ∷ xs ≡ b ∷ ys → xs ≡ ys
-unfolding rest_of
-tails-same a b xs ys e = ap rest_of e
+unfolding rest-of
+tails-same a b xs ys e = ap rest-of e
 
 -- what stands before the first line feed, and after it, is one pair
 pub cut-same : (xs ys us vs : Text) → IsUnbroken xs → IsUnbroken ys → xs ++ 10 ∷ us ≡ ys ++ 10 ∷ vs → (xs ≡ ys) × (us ≡ vs)

@@ -41,82 +41,62 @@ fn is(word: &[u8], text: &[u8]) -> bool
     word == text
 }
 
+// The value of the first of these names that the word is, if it is one.
+macro_rules! named {
+    ($word:expr; $($name:literal => $value:expr,)*) => {
+        $(if is($word, $name) { Some($value) } else)* { None }
+    };
+}
+
 fn cause(word: &[u8]) -> Option<Cause>
     ensures { result ≡ cause_of word.now }
 {
-    if is(word, b"done") {
-        Some(Cause::Done)
-    } else if is(word, b"asked") {
-        Some(Cause::Asked)
-    } else if is(word, b"access") {
-        Some(Cause::Access)
-    } else if is(word, b"own") {
-        Some(Cause::Own)
-    } else {
-        None
-    }
+    named!(word;
+        b"done" => Cause::Done,
+        b"asked" => Cause::Asked,
+        b"access" => Cause::Access,
+        b"own" => Cause::Own,
+    )
 }
 
 fn code(word: &[u8]) -> Option<Code>
     ensures { result ≡ code_of word.now }
 {
-    if is(word, b"ok") {
-        Some(Code::Ok)
-    } else if is(word, b"pool-access") {
-        Some(Code::PoolAccess)
-    } else if is(word, b"exists") {
-        Some(Code::Exists)
-    } else if is(word, b"unit-state") {
-        Some(Code::UnitState)
-    } else if is(word, b"not-migratable") {
-        Some(Code::NotMigratable)
-    } else if is(word, b"absent") {
-        Some(Code::Absent)
-    } else if is(word, b"mutex-locked") {
-        Some(Code::MutexLocked)
-    } else if is(word, b"not-owner") {
-        Some(Code::NotOwner)
-    } else if is(word, b"eventual-set") {
-        Some(Code::EventualSet)
-    } else if is(word, b"future-full") {
-        Some(Code::FutureFull)
-    } else if is(word, b"rw-held") {
-        Some(Code::RwHeld)
-    } else if is(word, b"rw-full") {
-        Some(Code::RwFull)
-    } else if is(word, b"not-holder") {
-        Some(Code::NotHolder)
-    } else {
-        None
-    }
+    named!(word;
+        b"ok" => Code::Ok,
+        b"pool-access" => Code::PoolAccess,
+        b"exists" => Code::Exists,
+        b"unit-state" => Code::UnitState,
+        b"not-migratable" => Code::NotMigratable,
+        b"absent" => Code::Absent,
+        b"mutex-locked" => Code::MutexLocked,
+        b"not-owner" => Code::NotOwner,
+        b"eventual-set" => Code::EventualSet,
+        b"future-full" => Code::FutureFull,
+        b"rw-held" => Code::RwHeld,
+        b"rw-full" => Code::RwFull,
+        b"not-holder" => Code::NotHolder,
+    )
 }
 
 fn with_one(kind: &[u8], n: u32) -> Option<What>
     ensures { result ≡ what_of_one kind.now n }
 {
-    if is(kind, b"miss") {
-        Some(What::Miss(PoolNo(n)))
-    } else if is(kind, b"look") {
-        Some(What::Look(UnitNo(n)))
-    } else if is(kind, b"enter") {
-        Some(What::Enter(UnitNo(n)))
-    } else if is(kind, b"leave") {
-        Some(What::Leave(UnitNo(n)))
-    } else {
-        None
-    }
+    named!(kind;
+        b"miss" => What::Miss(PoolNo(n)),
+        b"look" => What::Look(UnitNo(n)),
+        b"enter" => What::Enter(UnitNo(n)),
+        b"leave" => What::Leave(UnitNo(n)),
+    )
 }
 
 fn with_two(kind: &[u8], n: u32, m: u32) -> Option<What>
     ensures { result ≡ what_of_two kind.now n m }
 {
-    if is(kind, b"take") {
-        Some(What::Take(PoolNo(n), UnitNo(m)))
-    } else if is(kind, b"put") {
-        Some(What::Put(UnitNo(n), PoolNo(m)))
-    } else {
-        None
-    }
+    named!(kind;
+        b"take" => What::Take(PoolNo(n), UnitNo(m)),
+        b"put" => What::Put(UnitNo(n), PoolNo(m)),
+    )
 }
 
 // What two words say.

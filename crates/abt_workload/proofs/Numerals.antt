@@ -9,22 +9,22 @@ use Rattle.abt_workload.specs.Slots.{number_in}
 abbrev pub number_from : ℕ → List ℕ → Option ℕ
 number_from n ds = if all_ascii_digits ds && nat_lt (value_from n ds) 18446744073709551616 then Some (value_from n ds) else None
 
-pub number_digit : (n d : ℕ) (ds : List ℕ) → is_ascii_digit d ≡ true → number_from n (d ∷ ds) ≡ number_from (n * 10 + (d - 48)) ds
-number_digit n d ds e = rw e refl
+pub number-digit : (n d : ℕ) (ds : List ℕ) → is_ascii_digit d ≡ true → number_from n (d ∷ ds) ≡ number_from (n * 10 + (d - 48)) ds
+number-digit n d ds e = rw e refl
 
-pub value_grows : (n : ℕ) (ds : List ℕ) → n ≤ value_from n ds
-value_grows n [] = omega arith
-value_grows n (d ∷ ds) = let h = value_grows (n * 10 + (d - 48)) ds in omega (arith, h)
+pub value-grows : (n : ℕ) (ds : List ℕ) → n ≤ value_from n ds
+value-grows n [] = omega arith
+value-grows n (d ∷ ds) = let h = value-grows (n * 10 + (d - 48)) ds in omega (arith, h)
 
-pub number_too_big : (n : ℕ) (ds : List ℕ) → 18446744073709551616 ≤ n → number_from n ds ≡ None
-number_too_big n ds le = let h = value_grows n ds in grind (arith, h)
+pub number-too-big : (n : ℕ) (ds : List ℕ) → 18446744073709551616 ≤ n → number_from n ds ≡ None
+number-too-big n ds le = let h = value-grows n ds in grind (arith, h)
 
-pub number_whole : (word : List ℕ) → 0 < length word → number_in word ≡ number_from 0 word
-number_whole [] some = absurd (omega arith)
-number_whole (d ∷ ds) some = let one : (length (d ∷ ds) == 0) ≡ false = search (rules, tests) in rw one refl
+pub number-whole : (word : List ℕ) → 0 < length word → number_in word ≡ number_from 0 word
+number-whole [] some = absurd (omega arith)
+number-whole (d ∷ ds) some = let one : (length (d ∷ ds) == 0) ≡ false = search (rules, tests) in rw one refl
 
 front : (word : List ℕ) (k : ℕ) → k < length word → drop k word ≡ get_or word k 0 ∷ drop (k + 1) word
 front word k lt = rw (add-one, drop-cons word k 0) refl
 
-pub number_passes : (word : List ℕ) (k n : ℕ) → k < length word → 0 < length word → is_ascii_digit (get_or word k 0) ≡ true → 18446744073709551616 ≤ n * 10 + (get_or word k 0 - 48) → number_from n (drop k word) ≡ number_from 0 word → number_in word ≡ None
-number_passes word k n lt some e big so_far = number_whole word some ∙ (sym so_far ∙ (ap (number_from n) (front word k lt) ∙ (number_digit n (get_or word k 0) (drop (k + 1) word) e ∙ number_too_big (n * 10 + (get_or word k 0 - 48)) (drop (k + 1) word) big)))
+pub number-passes : (word : List ℕ) (k n : ℕ) → k < length word → 0 < length word → is_ascii_digit (get_or word k 0) ≡ true → 18446744073709551616 ≤ n * 10 + (get_or word k 0 - 48) → number_from n (drop k word) ≡ number_from 0 word → number_in word ≡ None
+number-passes word k n lt some e big so_far = number-whole word some ∙ (sym so_far ∙ (ap (number_from n) (front word k lt) ∙ (number-digit n (get_or word k 0) (drop (k + 1) word) e ∙ number-too-big (n * 10 + (get_or word k 0 - 48)) (drop (k + 1) word) big)))

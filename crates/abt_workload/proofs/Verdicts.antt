@@ -45,12 +45,12 @@ module _ (test : Fault → Bool) where
 
 -- A line that has a form begins as that form's lines do.
 
-pub has_slot : List Slot → Bool
-has_slot [] = false
-has_slot (slot ∷ places) = true
+pub has-slot : List Slot → Bool
+has-slot [] = false
+has-slot (slot ∷ places) = true
 
-pub fitting-begins : (places : List Slot) (words : List Text) → has_slot places ≡ true → fits places words ≡ true → begins_with places words ≡ true
-unfolding has_slot
+pub fitting-begins : (places : List Slot) (words : List Text) → has-slot places ≡ true → fits places words ≡ true → begins_with places words ≡ true
+unfolding has-slot
 fitting-begins [] words some e = cc
 fitting-begins (slot ∷ places) [] some e = cc
 fitting-begins (PoolList ∷ places) (word ∷ words) some e = refl
@@ -60,13 +60,13 @@ fitting-begins (slot ∷ places) (word ∷ words) some e = front (suits slot wor
     front true y e = refl
     front false y e = e
 
-op_slots-some : (o : Op) → has_slot (op_slots o) ≡ true
-unfolding has_slot
+op_slots-some : (o : Op) → has-slot (op_slots o) ≡ true
+unfolding has-slot
 op_slots-some (op.Set n) = refl
 op_slots-some _ = refl
 
-pub slots-some : (f : Form) → has_slot (slots f) ≡ true
-unfolding has_slot
+pub slots-some : (f : Form) → has-slot (slots f) ≡ true
+unfolding has-slot
 slots-some (form.Version format.One) = refl
 slots-some (form.Version format.Two) = refl
 slots-some (form.Operation o) = op_slots-some o

@@ -7,26 +7,26 @@ use Rattle.abt_machine.specs.Spelling.{is_empty, is_separator, words_of}
 use Rattle.abt_machine.specs.Words.{Text}
 
 -- a separator at the start makes no word
-pub words_past : (b : ℕ) (rest : Text) → is_separator b ≡ true → words_of (b ∷ rest) ≡ words_of rest
-words_past b rest e = rw e refl
+pub words-past : (b : ℕ) (rest : Text) → is_separator b ≡ true → words_of (b ∷ rest) ≡ words_of rest
+words-past b rest e = rw e refl
 
-some_byte : (k : ℕ) (line : Text) → 0 < k → k ≤ length line → is_empty (take k line) ≡ false
-some_byte zero line some le = absurd (omega arith)
-some_byte (suc k) [] some le = absurd (omega arith)
-some_byte (suc k) (b ∷ bs) some le = search (rules, tests)
+some-byte : (k : ℕ) (line : Text) → 0 < k → k ≤ length line → is_empty (take k line) ≡ false
+some-byte zero line some le = absurd (omega arith)
+some-byte (suc k) [] some le = absurd (omega arith)
+some-byte (suc k) (b ∷ bs) some le = search (rules, tests)
 
 -- a word ends where the line ends, or before a separator
-pub words_first : (w rest : Text) → All (λ b. is_separator b ≡ false) w → is_empty w ≡ false → (0 < length rest → is_separator (get_or rest 0 0) ≡ true) → words_of (w ++ rest) ≡ w ∷ words_of rest
-words_first w [] all some at = rw (append-nil, slice_split_none is_separator w all, some) refl
-words_first w (c ∷ cs) all some at =
+pub words-first : (w rest : Text) → All (λ b. is_separator b ≡ false) w → is_empty w ≡ false → (0 < length rest → is_separator (get_or rest 0 0) ≡ true) → words_of (w ++ rest) ≡ w ∷ words_of rest
+words-first w [] all some at = rw (append-nil, slice_split_none is_separator w all, some) refl
+words-first w (c ∷ cs) all some at =
     let sep : is_separator c ≡ true = at (omega arith) in
     let split = slice_split_at is_separator w c cs all sep in
-    rw (split, some) (ap (λ (ws : List Text). w ∷ ws) (sym (words_past c cs sep)))
+    rw (split, some) (ap (λ (ws : List Text). w ∷ ws) (sym (words-past c cs sep)))
 
 -- the first word ends before the first separator
-pub words_cut : (k : ℕ) (line : Text) → 0 < k → k ≤ length line → (k < length line → is_separator (get_or line k 0) ≡ true) → ((j : ℕ) → j < k → is_separator (get_or line j 0) ≡ false)
+pub words-cut : (k : ℕ) (line : Text) → 0 < k → k ≤ length line → (k < length line → is_separator (get_or line k 0) ≡ true) → ((j : ℕ) → j < k → is_separator (get_or line j 0) ≡ false)
     → words_of line ≡ take k line ∷ words_of (drop k line)
-words_cut k line some le at before =
+words-cut k line some le at before =
     let whole : take k line ++ drop k line ≡ line = take-append-drop k line in
     let all : All (λ b. is_separator b ≡ false) (take k line) = λ j d lt.
     let lt' : j < k = omega (arith, length-take k line) in
@@ -37,18 +37,18 @@ words_cut k line some le at before =
     let e : get_or (drop k line) 0 0 ≡ get_or line (k + 0) 0 = get_or-drop k line 0 0 in
     let z : k + 0 ≡ k = omega arith in
     rw (e, z) (at there) in
-    ap words_of (sym whole) ∙ words_first (take k line) (drop k line) all (some_byte k line some le) after
+    ap words_of (sym whole) ∙ words-first (take k line) (drop k line) all (some-byte k line some le) after
 
-rest_whole : (at : ℕ) (bytes : Text) → take (length bytes - at) (drop at bytes) ≡ drop at bytes
-rest_whole at bytes = let le : length (drop at bytes) ≤ length bytes - at = simp length-drop (omega arith) in take_all _ _ le
+rest-whole : (at : ℕ) (bytes : Text) → take (length bytes - at) (drop at bytes) ≡ drop at bytes
+rest-whole at bytes = let le : length (drop at bytes) ≤ length bytes - at = simp length-drop (omega arith) in take_all _ _ le
 
 -- the same of a cut line
-pub word_taken : (k : ℕ) (line : Text) → 0 < length line → is_separator (get_or line 0 0) ≡ false → k ≤ length line → (k < length line → is_separator (get_or line k 0) ≡ true) → ((j : ℕ) → j < k → is_separator (get_or line j 0) ≡ false)
+pub word-taken : (k : ℕ) (line : Text) → 0 < length line → is_separator (get_or line 0 0) ≡ false → k ≤ length line → (k < length line → is_separator (get_or line k 0) ≡ true) → ((j : ℕ) → j < k → is_separator (get_or line j 0) ≡ false)
     → words_of line ≡ take k line ∷ words_of (take (length line - k) (drop k line))
-word_taken zero line some front le at before = absurd (let bad = at some in cc)
-word_taken (suc k) line some front le at before = rw rest_whole (words_cut (suc k) line (omega arith) le at before)
+word-taken zero line some front le at before = absurd (let bad = at some in cc)
+word-taken (suc k) line some front le at before = rw rest-whole (words-cut (suc k) line (omega arith) le at before)
 
 -- a length that is not 0
-pub some_at : (n : ℕ) → (n == 0) ≡ false → 0 < n
-some_at zero e = cc
-some_at (suc n) e = omega arith
+pub some-at : (n : ℕ) → (n == 0) ≡ false → 0 < n
+some-at zero e = cc
+some-at (suc n) e = omega arith

@@ -7,9 +7,9 @@ use Rattle.std.proofs.lemmas.Str.{IsUtf8-append, IsUtf8-from_ascii, IsUtf8-nil, 
 use Rattle.abt_machine.specs.Spelling.{has_control, is_control, is_empty, is_separator, lines_of, with_byte, words_of}
 use Rattle.abt_machine.specs.Valid.{IsVisible, IsWord}
 use Rattle.abt_machine.specs.Words.{Text, ended, line_of, spaced, text_of}
-use Rattle.abt_workload.proofs.LineEnds.{lines_nil}
+use Rattle.abt_workload.proofs.LineEnds.{lines-nil}
 use Rattle.abt_workload.proofs.Proper.{none-of}
-use Rattle.abt_workload.proofs.WordEnds.{words_first, words_past}
+use Rattle.abt_workload.proofs.WordEnds.{words-first, words-past}
 
 -- The words of a line.
 
@@ -36,12 +36,12 @@ spaced-first (w ∷ ws) some = refl
 
 -- a word, and the words that are written after it
 words-after : (w : Text) (ws : List Text) → IsWord w → words_of (spaced ws) ≡ ws → words_of (w ++ spaced ws) ≡ w ∷ ws
-words-after w ws h rest = words_first w (spaced ws) (unseparated w h.visible) (word-some w h.some_byte) (spaced-first ws) ∙ ap (λ (vs : List Text). w ∷ vs) rest
+words-after w ws h rest = words-first w (spaced ws) (unseparated w h.visible) (word-some w h.some_byte) (spaced-first ws) ∙ ap (λ (vs : List Text). w ∷ vs) rest
 
 -- words with a space before each
 words-spaced : (ws : List Text) → All IsWord ws → words_of (spaced ws) ≡ ws
 words-spaced [] h = refl
-words-spaced (w ∷ ws) h = words_past 32 (w ++ spaced ws) refl ∙ words-after w ws (All-head IsWord w ws h) (words-spaced ws (All-tail IsWord w ws h))
+words-spaced (w ∷ ws) h = words-past 32 (w ++ spaced ws) refl ∙ words-after w ws (All-head IsWord w ws h) (words-spaced ws (All-tail IsWord w ws h))
 
 -- the words that a line is written of are its words
 pub words-of-line : (words : List Text) → All IsWord words → words_of (line_of words) ≡ words
@@ -140,4 +140,4 @@ lines-before (ws ∷ lines) rest h =
 pub lines-of-text : (lines : List (List Text)) → All (All IsWord) lines → lines_of (text_of lines) ≡ map line_of lines
 lines-of-text lines h =
     ap lines_of (sym (append-nil (text_of lines)))
-    ∙ (lines-before lines [] h ∙ (ap (λ (ls : List Text). map line_of lines ++ ls) lines_nil ∙ append-nil (map line_of lines)))
+    ∙ (lines-before lines [] h ∙ (ap (λ (ls : List Text). map line_of lines ++ ls) lines-nil ∙ append-nil (map line_of lines)))

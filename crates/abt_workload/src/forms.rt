@@ -430,6 +430,13 @@ fn has_form(format: Format, form: Form, words: &[&[u8]]) -> bool
     }
 }
 
+// The forms that stand at the place of the first of these words that the word is, or all forms if it is none of them.
+macro_rules! forms_by {
+    ($word:expr; $($name:literal => $place:expr,)+) => {
+        $(if is($word, $name) { &FORMS[$place] } else)+ { FORMS.as_slice() }
+    };
+}
+
 // The forms of the lines that begin with this word, or all forms if no line does.
 fn forms_of(word: &[u8]) -> &'static [Form]
     ensures { AreFormsOf word.now result.now }
@@ -451,176 +458,116 @@ fn forms_of(word: &[u8]) -> &'static [Form]
 fn forms_of_three(word: &[u8]) -> &'static [Form]
     ensures { AreFormsOf word.now result.now }
 {
-    if is(word, "abt") {
-        &FORMS[0..2]
-    } else if is(word, "end") {
-        &FORMS[27..28]
-    } else if is(word, "set") {
-        &FORMS[28..29]
-    } else if is(word, "add") {
-        &FORMS[29..30]
-    } else if is(word, "say") {
-        &FORMS[30..31]
-    } else {
-        FORMS.as_slice()
-    }
+    forms_by!(word;
+        "abt" => 0..2,
+        "end" => 27..28,
+        "set" => 28..29,
+        "add" => 29..30,
+        "say" => 30..31,
+    )
 }
 
 // The same of a word of four bytes.
 fn forms_of_four(word: &[u8]) -> &'static [Form]
     ensures { AreFormsOf word.now result.now }
 {
-    if is(word, "keys") {
-        &FORMS[3..4]
-    } else if is(word, "pool") {
-        &FORMS[4..9]
-    } else if is(word, "unit") {
-        &FORMS[21..27]
-    } else if is(word, "kset") {
-        &FORMS[32..33]
-    } else if is(word, "kget") {
-        &FORMS[33..34]
-    } else if is(word, "exit") {
-        &FORMS[37..38]
-    } else if is(word, "join") {
-        &FORMS[40..41]
-    } else if is(word, "lock") {
-        &FORMS[46..47]
-    } else if is(word, "load") {
-        &FORMS[49..50]
-    } else if is(word, "eset") {
-        &FORMS[55..56]
-    } else if is(word, "fset") {
-        &FORMS[59..60]
-    } else if is(word, "many") {
-        &FORMS[68..74]
-    } else {
-        FORMS.as_slice()
-    }
+    forms_by!(word;
+        "keys" => 3..4,
+        "pool" => 4..9,
+        "unit" => 21..27,
+        "kset" => 32..33,
+        "kget" => 33..34,
+        "exit" => 37..38,
+        "join" => 40..41,
+        "lock" => 46..47,
+        "load" => 49..50,
+        "eset" => 55..56,
+        "fset" => 59..60,
+        "many" => 68..74,
+    )
 }
 
 // The same of a word of five bytes.
 fn forms_of_five(word: &[u8]) -> &'static [Form]
     ensures { AreFormsOf word.now result.now }
 {
-    if is(word, "sched") {
-        &FORMS[9..13]
-    } else if is(word, "units") {
-        &FORMS[20..21]
-    } else if is(word, "print") {
-        &FORMS[31..32]
-    } else if is(word, "yield") {
-        &FORMS[34..35]
-    } else if is(word, "store") {
-        &FORMS[50..51]
-    } else if is(word, "cwait") {
-        &FORMS[51..52]
-    } else if is(word, "ewait") {
-        &FORMS[54..55]
-    } else if is(word, "etest") {
-        &FORMS[57..58]
-    } else if is(word, "fwait") {
-        &FORMS[58..59]
-    } else if is(word, "ftest") {
-        &FORMS[61..62]
-    } else if is(word, "bwait") {
-        &FORMS[62..63]
-    } else {
-        FORMS.as_slice()
-    }
+    forms_by!(word;
+        "sched" => 9..13,
+        "units" => 20..21,
+        "print" => 31..32,
+        "yield" => 34..35,
+        "store" => 50..51,
+        "cwait" => 51..52,
+        "ewait" => 54..55,
+        "etest" => 57..58,
+        "fwait" => 58..59,
+        "ftest" => 61..62,
+        "bwait" => 62..63,
+    )
 }
 
 // The same of a word of six bytes.
 fn forms_of_six(word: &[u8]) -> &'static [Form]
     ensures { AreFormsOf word.now result.now }
 {
-    if is(word, "stream") {
-        &FORMS[13..14]
-    } else if is(word, "object") {
-        &FORMS[14..20]
-    } else if is(word, "resume") {
-        &FORMS[38..39]
-    } else if is(word, "create") {
-        &FORMS[39..40]
-    } else if is(word, "cancel") {
-        &FORMS[41..42]
-    } else if is(word, "revive") {
-        &FORMS[45..46]
-    } else if is(word, "unlock") {
-        &FORMS[48..49]
-    } else if is(word, "signal") {
-        &FORMS[52..53]
-    } else if is(word, "ereset") {
-        &FORMS[56..57]
-    } else if is(word, "freset") {
-        &FORMS[60..61]
-    } else if is(word, "rdlock") {
-        &FORMS[63..64]
-    } else if is(word, "wrlock") {
-        &FORMS[64..65]
-    } else if is(word, "rwload") {
-        &FORMS[66..67]
-    } else if is(word, "repeat") {
-        &FORMS[74..114]
-    } else {
-        FORMS.as_slice()
-    }
+    forms_by!(word;
+        "stream" => 13..14,
+        "object" => 14..20,
+        "resume" => 38..39,
+        "create" => 39..40,
+        "cancel" => 41..42,
+        "revive" => 45..46,
+        "unlock" => 48..49,
+        "signal" => 52..53,
+        "ereset" => 56..57,
+        "freset" => 60..61,
+        "rdlock" => 63..64,
+        "wrlock" => 64..65,
+        "rwload" => 66..67,
+        "repeat" => 74..114,
+    )
 }
 
 // The same of a word of seven bytes.
 fn forms_of_seven(word: &[u8]) -> &'static [Form]
     ensures { AreFormsOf word.now result.now }
 {
-    if is(word, "streams") {
-        &FORMS[2..3]
-    } else if is(word, "yieldto") {
-        &FORMS[35..36]
-    } else if is(word, "suspend") {
-        &FORMS[36..37]
-    } else if is(word, "migrate") {
-        &FORMS[42..43]
-    } else if is(word, "trylock") {
-        &FORMS[47..48]
-    } else if is(word, "rwstore") {
-        &FORMS[67..68]
-    } else {
-        FORMS.as_slice()
-    }
+    forms_by!(word;
+        "streams" => 2..3,
+        "yieldto" => 35..36,
+        "suspend" => 36..37,
+        "migrate" => 42..43,
+        "trylock" => 47..48,
+        "rwstore" => 67..68,
+    )
 }
 
 // The same of a word of eight bytes.
 fn forms_of_eight(word: &[u8]) -> &'static [Form]
     ensures { AreFormsOf word.now result.now }
 {
-    if is(word, "rwunlock") {
-        &FORMS[65..66]
-    } else {
-        FORMS.as_slice()
-    }
+    forms_by!(word;
+        "rwunlock" => 65..66,
+    )
 }
 
 // The same of a word of nine bytes.
 fn forms_of_nine(word: &[u8]) -> &'static [Form]
     ensures { AreFormsOf word.now result.now }
 {
-    if is(word, "migrateto") {
-        &FORMS[43..44]
-    } else if is(word, "broadcast") {
-        &FORMS[53..54]
-    } else {
-        FORMS.as_slice()
-    }
+    forms_by!(word;
+        "migrateto" => 43..44,
+        "broadcast" => 53..54,
+    )
 }
 
 // The same of a word of ten bytes.
 fn forms_of_ten(word: &[u8]) -> &'static [Form]
     ensures { AreFormsOf word.now result.now }
 {
-    if is(word, "migratable") {
-        &FORMS[44..45]
-    } else {
-        FORMS.as_slice()
-    }
+    forms_by!(word;
+        "migratable" => 44..45,
+    )
 }
 
 /// The form of a line of these words in a text of this format, if it has one.

@@ -1,9 +1,9 @@
 use Rattle.std.proofs.Common.{rules, arith, sym}
 use Rattle.std.proofs.lemmas.Grind.{common_steps}
-use Rattle.abt_workload.proofs.Numerals.{number_passes}
+use Rattle.abt_workload.proofs.Numerals.{number-passes}
 use Rattle.abt_workload.proofs.text.number.Goals as goal
 
 pub returns-then-n-digit : goal.returns-then-n-digit
 returns-then-n-digit c =
     let q = c.if-n-digit.true in
-    sym (number_passes c.args.word.now c.loop-b.b-index c.loop-b.n (omega arith) (search (rules, common_steps)) (search rules) (rw (← c.from-digit.ensures) (omega arith)) c.loop-b.invariant)
+    sym (number-passes c.args.word.now c.loop-b.b-index c.loop-b.n (omega arith) (search (rules, common_steps)) (search rules) (rw (← c.from-digit.ensures) (omega arith)) c.loop-b.invariant)
