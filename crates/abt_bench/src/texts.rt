@@ -191,6 +191,21 @@ fn rate(bytes: usize, nanoseconds: u128) -> u128 {
     bytes as u128 * 1000 / nanoseconds.max(1)
 }
 
+// Times so many rounds of a call, and prints the rate of the bytes of what it makes.
+macro_rules! rounds {
+    ($rt:expr, $alloc:expr, $name:literal, $call:expr, $made:ident => $bytes:expr) => {{
+        let mut times = Vec::new($alloc);
+        let mut bytes = 0;
+        for _ in 0..ROUNDS {
+            let start = Instant::now($rt)?;
+            let $made = $call?;
+            times.push(start.elapsed($rt)?.as_nanos())?;
+            bytes = $bytes;
+        }
+        print_rates($rt, $name, bytes, &mut times)
+    }};
+}
+
 fn workload_times<R: Print + Clock>(
     rt: &R,
     alloc: Global,
@@ -198,84 +213,24 @@ fn workload_times<R: Print + Clock>(
     text: &str,
 ) -> io::Result<()> {
     println!(rt; "a workload of operations `{name}`")?;
-    read_times(rt, alloc, text)?;
+    rounds!(rt, alloc, "read", read(alloc, text.as_bytes()).map_err(not_read), _w => text.len())?;
     let w = read(alloc, text.as_bytes()).map_err(not_read)?;
-    write_times(rt, alloc, &w)?;
-    let picture = picture(alloc, &w)?;
-    report_times(rt, alloc, &w, &picture)
+    rounds!(rt, alloc, "write", write(alloc, &w).map_err(out_of_memory), text => text.len())?;
+    report_times(rt, alloc, &w)
 }
 
-fn read_times<R: Print + Clock>(rt: &R, alloc: Global, text: &str) -> io::Result<()> {
-    let mut times = Vec::new(alloc);
-    for _ in 0..ROUNDS {
-        let start = Instant::now(rt)?;
-        let _w = read(alloc, text.as_bytes()).map_err(not_read)?;
-        times.push(start.elapsed(rt)?.as_nanos())?;
-    }
-    print_rates(rt, "read", text.len(), &mut times)
-}
-
-fn write_times<R: Print + Clock>(rt: &R, alloc: Global, w: &Workload) -> io::Result<()> {
-    let mut times = Vec::new(alloc);
-    let mut bytes = 0;
-    for _ in 0..ROUNDS {
-        let start = Instant::now(rt)?;
-        let text = write(alloc, w).map_err(out_of_memory)?;
-        times.push(start.elapsed(rt)?.as_nanos())?;
-        bytes = text.len();
-    }
-    print_rates(rt, "write", bytes, &mut times)
-}
-
-fn report_times<R: Print + Clock>(
-    rt: &R,
-    alloc: Global,
-    w: &Workload,
-    picture: &Picture,
-) -> io::Result<()>
-    requires { All (SaysWordsOf w.now) picture.now }
-{
-    let mut times = Vec::new(alloc);
-    let mut bytes = 0;
-    for _ in 0..ROUNDS {
-        let start = Instant::now(rt)?;
-        let text = report(alloc, w, picture, Outcome::Finished, 0).map_err(out_of_memory)?;
-        times.push(start.elapsed(rt)?.as_nanos())?;
-        bytes = text.len();
-    }
-    print_rates(rt, "report", bytes, &mut times)
+fn report_times<R: Print + Clock>(rt: &R, alloc: Global, w: &Workload) -> io::Result<()> {
+    let picture = picture(alloc, w)?;
+    rounds!(
+        rt, alloc, "report",
+        report(alloc, w, &picture, Outcome::Finished, 0).map_err(out_of_memory), text => text.len()
+    )
 }
 
 fn journal_times<R: Print + Clock>(rt: &R, alloc: Global) -> io::Result<()> {
     let journal = journal(alloc, EVENTS)?;
     println!(rt; "a journal of {EVENTS} events")?;
-    journal_text_times(rt, alloc, &journal)?;
+    rounds!(rt, alloc, "write", journal_text(alloc, &journal).map_err(out_of_memory), text => text.len())?;
     let text = journal_text(alloc, &journal).map_err(out_of_memory)?;
-    read_journal_times(rt, alloc, &text)
-}
-
-fn journal_text_times<R: Print + Clock>(
-    rt: &R,
-    alloc: Global,
-    journal: &Journal,
-) -> io::Result<()> {
-    let mut times = Vec::new(alloc);
-    let mut bytes = 0;
-    for _ in 0..ROUNDS {
-        let start = Instant::now(rt)?;
-        let text = journal_text(alloc, journal).map_err(out_of_memory)?;
-        times.push(start.elapsed(rt)?.as_nanos())?;
-        bytes = text.len();
-    }
-    print_rates(rt, "write", bytes, &mut times)
-}
-
-fn read_journal_times<R: Print + Clock>(rt: &R, alloc: Global, text: &[u8]) -> io::Result<()> {
-    let mut times = Vec::new(alloc);
-    for _ in 0..ROUNDS {
-        let start = Instant::now(rt)?;
-        let _journal = read_lines(alloc, text)?;
-        times.push(start.elapsed(rt)?.as_nanos())?;
-    }
-    print_rates(rt, "read", text.len(), &mut times)
+    rounds!(rt, alloc, "read", read_lines(alloc, &text), _journal => text.len())
 }

@@ -2,6 +2,7 @@
 
 ghost use Rattle.std.specs.Prelude.{◌<◌};
 
+use crate::list_of;
 use crate::rows::Row;
 use abt_order::StoredOrder;
 use abt_report::journal_text;
@@ -16,15 +17,6 @@ use std::thread::Threads;
 
 // More bytes than any output has.
 const ROOM: usize = 100_000;
-
-// The words of a row.
-fn list_of(alloc: Global, words: &str) -> Result<Vec<String>, AllocError> {
-    let mut list = Vec::new(alloc);
-    for word in words.split(' ') {
-        list.push(String::from_str(alloc, word)?)?;
-    }
-    Ok(list)
-}
 
 // The file of that name, whose text has two parts.
 fn file(alloc: Global, name: &str, head: &str, lines: &[u8]) -> Result<NamedBytes, AllocError> {

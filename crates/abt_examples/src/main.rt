@@ -22,44 +22,53 @@ use abt_order::StoredOrder;
 use abt_run::abtrun;
 use abt_source::{MemorySink, RealFiles, read_all};
 use abt_stream::NoPace;
-use std::alloc::Global;
+use std::alloc::{AllocError, Global};
 use std::sync::Wait;
 use std::test::Fail;
 use std::thread::Threads;
 
-// The words of a call, the file with what it prints, and its exit status.
-type Example = (&'static [&'static str], &'static str, u8);
+// The words of a call, with a blank between each two, the file with what it prints, and its exit status.
+type Example = (&'static str, &'static str, u8);
 
 static EXAMPLES: [Example; 25] = [
-    (&["run", "hi.abt"], "hi.out", 0),
-    (&["run", "empty.abt"], "empty.out", 0),
-    (&["run", "wrap.abt"], "wrap.out", 0),
-    (&["run", "steps.abt", "--steps", "2"], "steps.out", 4),
-    (&["run", "tasks.abt"], "tasks.out", 0),
-    (&["run", "priorities.abt"], "priorities.out", 0),
-    (&["run", "deque.abt"], "deque.out", 0),
-    (&["run", "stealing.abt"], "stealing.out", 0),
-    (&["run", "stacked.abt"], "stacked.out", 0),
-    (&["run", "mirror.abt"], "mirror.out", 0),
-    (&["run", "rotate.abt"], "rotate.out", 0),
-    (&["run", "requests.abt"], "requests.out", 0),
-    (&["run", "join.abt"], "join.out", 0),
-    (&["run", "suspend.abt"], "suspend.out", 0),
-    (&["run", "exit.abt"], "exit.out", 0),
-    (&["run", "condition.abt"], "condition.out", 0),
-    (&["run", "eventual.abt"], "eventual.out", 0),
-    (&["run", "future.abt"], "future.out", 0),
-    (&["run", "rwlock.abt"], "rwlock.out", 0),
-    (&["run", "barrier.abt"], "barrier.out", 0),
-    (&["run", "keys.abt"], "keys.out", 0),
-    (&["run", "access.abt"], "access.out", 0),
-    (&["run", "streams.abt"], "streams.out", 0),
-    (&["run", "stuck.abt"], "stuck.out", 1),
-    (&["run", "budget.abt", "--steps", "20"], "budget.out", 4),
+    ("run hi.abt", "hi.out", 0),
+    ("run empty.abt", "empty.out", 0),
+    ("run wrap.abt", "wrap.out", 0),
+    ("run steps.abt --steps 2", "steps.out", 4),
+    ("run tasks.abt", "tasks.out", 0),
+    ("run priorities.abt", "priorities.out", 0),
+    ("run deque.abt", "deque.out", 0),
+    ("run stealing.abt", "stealing.out", 0),
+    ("run stacked.abt", "stacked.out", 0),
+    ("run mirror.abt", "mirror.out", 0),
+    ("run rotate.abt", "rotate.out", 0),
+    ("run requests.abt", "requests.out", 0),
+    ("run join.abt", "join.out", 0),
+    ("run suspend.abt", "suspend.out", 0),
+    ("run exit.abt", "exit.out", 0),
+    ("run condition.abt", "condition.out", 0),
+    ("run eventual.abt", "eventual.out", 0),
+    ("run future.abt", "future.out", 0),
+    ("run rwlock.abt", "rwlock.out", 0),
+    ("run barrier.abt", "barrier.out", 0),
+    ("run keys.abt", "keys.out", 0),
+    ("run access.abt", "access.out", 0),
+    ("run streams.abt", "streams.out", 0),
+    ("run stuck.abt", "stuck.out", 1),
+    ("run budget.abt --steps 20", "budget.out", 4),
 ];
 
 // More bytes than any output has.
 const ROOM: usize = 10_000;
+
+// The words of a call.
+fn list_of(alloc: Global, words: &str) -> Result<Vec<String>, AllocError> {
+    let mut list = Vec::new(alloc);
+    for word in words.split(' ') {
+        list.push(String::from_str(alloc, word)?)?;
+    }
+    Ok(list)
+}
 
 // Whether a call over the files here ends as the example says.
 fn is_as_stored<R: Threads + Wait + Sync>(
@@ -69,15 +78,12 @@ fn is_as_stored<R: Threads + Wait + Sync>(
     example: &Example,
 ) -> Result<bool, Fail> {
     let (words, output, status) = *example;
-    let mut given = Vec::new(alloc);
-    for word in words {
-        given.push(String::from_str(alloc, word)?)?;
-    }
+    let words = list_of(alloc, words)?;
     let mut out = MemorySink::new(alloc, ROOM, ROOM, Vec::new(alloc))?;
     let mut err = MemorySink::new(alloc, ROOM, ROOM, Vec::new(alloc))?;
     let orders = [StoredOrder::rotating(), StoredOrder::mirroring()];
     let ended = abtrun(
-        rt, alloc, &given, files, &mut out, &mut err, &NoPace, &orders,
+        rt, alloc, &words, files, &mut out, &mut err, &NoPace, &orders,
     );
     let stored = read_all(alloc, files, output, ROOM)?;
     Ok(ended.status == status && out.bytes() == stored.as_slice())

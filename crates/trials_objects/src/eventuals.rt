@@ -22,6 +22,22 @@ pub enum Call {
     Waiter(u32),
 }
 
+// What an eventual or a future answers.
+macro_rules! answered {
+    ($tried:expr, $rt:expr, $alloc:expr, $call:expr) => {
+        match $call {
+            Call::Wait(number) => out($tried.wait(unit($rt, $alloc, number, 0)?)),
+            Call::Set(value) => all_or_code($tried.set(value)),
+            Call::Reset => {
+                $tried.reset();
+                Answer::Nobody
+            }
+            Call::Test => Answer::Truth($tried.test()),
+            Call::Waiter(number) => found($tried.waiter(UnitNo(number))),
+        }
+    };
+}
+
 static EVENTUAL: [(Call, Answer); 14] = [
     (Call::Test, Answer::Truth(false)),
     (Call::Wait(0), Answer::Nobody),
@@ -49,16 +65,7 @@ impl Tried for Eventual {
     ghost stays = { λ eventual. Unit {0} };
 
     fn answer<R: Abort>(&mut self, rt: &R, alloc: Global, call: Call) -> Result<Answer, Fail> {
-        Ok(match call {
-            Call::Wait(number) => out(self.wait(unit(rt, alloc, number, 0)?)),
-            Call::Set(value) => all_or_code(self.set(value)),
-            Call::Reset => {
-                self.reset();
-                Answer::Nobody
-            }
-            Call::Test => Answer::Truth(self.test()),
-            Call::Waiter(number) => found(self.waiter(UnitNo(number))),
-        })
+        Ok(answered!(self, rt, alloc, call))
     }
 }
 
@@ -96,16 +103,7 @@ impl Tried for Future {
     ghost stays = { λ future. Unit {0} };
 
     fn answer<R: Abort>(&mut self, rt: &R, alloc: Global, call: Call) -> Result<Answer, Fail> {
-        Ok(match call {
-            Call::Wait(number) => out(self.wait(unit(rt, alloc, number, 0)?)),
-            Call::Set(value) => all_or_code(self.set(value)),
-            Call::Reset => {
-                self.reset();
-                Answer::Nobody
-            }
-            Call::Test => Answer::Truth(self.test()),
-            Call::Waiter(number) => found(self.waiter(UnitNo(number))),
-        })
+        Ok(answered!(self, rt, alloc, call))
     }
 }
 
