@@ -41,7 +41,7 @@ by-put false rest is = (λ e may. false≢true may.1, λ none. refl)
 
 ruleset tests = (unless-other, by-free, by-put)
 
--- the last line is read for each other operation by itself, whose tests are found by their shape
+-- the last line is checked for each other operation by itself, whose tests are found by their shape
 pub denied : (W : Parts) (S : State) (s u : ℕ) (o : Op) → (code_of W S s u o ≡ code.PoolAccess) ↔ (IsWithinAccess W s (Some o) → ⊥)
 denied W S s u (op.YieldTo v p) = by-take (may_take W s p.0) _ (search tests)
 denied W S s u o = search tests

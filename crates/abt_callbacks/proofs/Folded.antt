@@ -9,7 +9,7 @@ use Rattle.abt_interleave.specs.declared.entries.Entry.{Entry}
 use Rattle.abt_interleave.specs.Histories.{calls_of, Leads}
 use Rattle.abt_booth.specs.Calls.{IsClosed}
 use Rattle.booth_caller.specs.Calling.{HasAsked}
-use Rattle.booth_caller.proofs.Calling.{acts_hold, all_of_classes, calls_count, weighed, wholly_asked}
+use Rattle.booth_caller.proofs.Calling.{acts-hold, all-of-classes, calls-count, weighed, wholly-asked}
 use Rattle.abt_callbacks.specs.declared.fold.FoldShape.TheVariants.{Sum}
 use Rattle.abt_callbacks.specs.declared.acts.FutureAct.{FutureAct}
 use Rattle.abt_callbacks.specs.declared.acts.FutureAct.TheVariants.{Set, Read, Reset}
@@ -18,12 +18,12 @@ use Rattle.abt_callbacks.specs.declared.acts.FutureAnswer.TheVariants.{Kept, Rea
 use Rattle.abt_callbacks.specs.Folding.{Folds}
 use Rattle.abt_callbacks.specs.Futures.{Does, Future, empty, with_answer, with_value}
 use Rattle.abt_callbacks.specs.Runs.{is_ready, numbers_of, plain_sum, sets_of, IsFolded}
-use Rattle.abt_callbacks.proofs.Numbers.{sets_count, value_of, values_sum}
+use Rattle.abt_callbacks.proofs.Numbers.{sets-count, value_of, values-sum}
 
 -- what leads a future on leads on what is seen of it
-pub leads_seen : {O P A R : Type 0} (see : O → P) (does : P → A → R → P → Type 0) (o : O) (h : List (Entry A R)) (o' : O) → Leads (λ old act answer new. does (see old) act answer (see new)) o h o' → Leads does (see o) h (see o')
-leads_seen see does o [] o' l = ap see l
-leads_seen see does o (e ∷ es) o' l = (see l.0, l.1, leads_seen see does l.0 es o' l.2)
+pub leads-seen : {O P A R : Type 0} (see : O → P) (does : P → A → R → P → Type 0) (o : O) (h : List (Entry A R)) (o' : O) → Leads (λ old act answer new. does (see old) act answer (see new)) o h o' → Leads does (see o) h (see o')
+leads-seen see does o [] o' l = ap see l
+leads-seen see does o (e ∷ es) o' l = (see l.0, l.1, leads-seen see does l.0 es o' l.2)
 
 -- the act is a set
 abbrev pub IsSet : FutureAct → Type 0
@@ -32,72 +32,72 @@ IsSet Read = ⊥
 IsSet Reset = ⊥
 
 -- the last value is answered with the fold's answer
-last_set : (o m : Future) (act : FutureAct) (answer : FutureAnswer) → Does o act answer m → IsSet act → length o.values + 1 ≡ o.most
+last-set : (o m : Future) (act : FutureAct) (answer : FutureAnswer) → Does o act answer m → IsSet act → length o.values + 1 ≡ o.most
     → (r : ℕ) × (answer ≡ Ready r) × (m ≡ with_answer o (value_of act) r) × Folds o.shape (o.values ++ value_of act ∷ []) r
-last_set o m (Set v) Kept does set last = absurd (let lt = does.0 in omega arith)
-last_set o m (Set v) (Ready r) does set last = (r, refl, does.2, does.1)
-last_set o m (Set v) Vacant does set last = absurd does
-last_set o m (Set v) Full does set last = absurd (let full = does.1 in omega arith)
-last_set o m Read answer does set last = absurd set
-last_set o m Reset answer does set last = absurd set
+last-set o m (Set v) Kept does set last = absurd (let lt = does.0 in omega arith)
+last-set o m (Set v) (Ready r) does set last = (r, refl, does.2, does.1)
+last-set o m (Set v) Vacant does set last = absurd does
+last-set o m (Set v) Full does set last = absurd (let full = does.1 in omega arith)
+last-set o m Read answer does set last = absurd set
+last-set o m Reset answer does set last = absurd set
 
 -- each value before it is kept
-early_set : (o m : Future) (act : FutureAct) (answer : FutureAnswer) → Does o act answer m → IsSet act → length o.values + 1 < o.most → (answer ≡ Kept) × (m ≡ with_value o (value_of act))
-early_set o m (Set v) Kept does set early = (refl, does.1)
-early_set o m (Set v) (Ready r) does set early = absurd (let last = does.0 in omega arith)
-early_set o m (Set v) Vacant does set early = absurd does
-early_set o m (Set v) Full does set early = absurd (let full = does.1 in omega arith)
-early_set o m Read answer does set early = absurd set
-early_set o m Reset answer does set early = absurd set
+early-set : (o m : Future) (act : FutureAct) (answer : FutureAnswer) → Does o act answer m → IsSet act → length o.values + 1 < o.most → (answer ≡ Kept) × (m ≡ with_value o (value_of act))
+early-set o m (Set v) Kept does set early = (refl, does.1)
+early-set o m (Set v) (Ready r) does set early = absurd (let last = does.0 in omega arith)
+early-set o m (Set v) Vacant does set early = absurd does
+early-set o m (Set v) Full does set early = absurd (let full = does.1 in omega arith)
+early-set o m Read answer does set early = absurd set
+early-set o m Reset answer does set early = absurd set
 
 -- the values that a history sets, in order
 abbrev pub values_in : List (Entry FutureAct FutureAnswer) → List ℕ
 values_in h = map (λ e. value_of e.act) h
 
 -- as many sets as a future wants: exactly one is answered with the fold's answer over all values, which is kept
-pub sets_fold : (o : Future) (h : List (Entry FutureAct FutureAnswer)) (o' : Future) → Leads Does o h o' → All (λ e. IsSet e.act) h → 0 < length h → length o.values + length h ≡ o.most
+pub sets-fold : (o : Future) (h : List (Entry FutureAct FutureAnswer)) (o' : Future) → Leads Does o h o' → All (λ e. IsSet e.act) h → 0 < length h → length o.values + length h ≡ o.most
     → (r : ℕ) × (o'.answer ≡ Some r) × Folds o.shape (o.values ++ values_in h) r × (count_by (λ e. is_ready e.answer) h ≡ 1)
-sets_fold o [] o' leads sets some many = absurd (omega arith)
-sets_fold o (e ∷ []) o' leads sets some many =
-    let s = last_set o leads.0 e.act e.answer leads.1 (All-head (λ (x : Entry FutureAct FutureAnswer). IsSet x.act) e [] sets) many in
+sets-fold o [] o' leads sets some many = absurd (omega arith)
+sets-fold o (e ∷ []) o' leads sets some many =
+    let s = last-set o leads.0 e.act e.answer leads.1 (All-head (λ (x : Entry FutureAct FutureAnswer). IsSet x.act) e [] sets) many in
     let count = sum_by-cons (λ (x : Entry FutureAct FutureAnswer). cond (is_ready x.answer) 1 0) e [] in
     let one : ◌≡◌ {A = ℕ} (cond (is_ready e.answer) 1 0) 1 = ap (λ (a : FutureAnswer). cond (is_ready a) 1 0) s.1 in
     (s.0, ap (λ f. f.answer) (sym leads.2 ∙ s.2), s.3, count ∙ ap (λ k. k + 0) one)
-sets_fold o (e ∷ d ∷ ds) o' leads sets some many =
+sets-fold o (e ∷ d ∷ ds) o' leads sets some many =
     let P : Entry FutureAct FutureAnswer → Type 0 = λ x. IsSet x.act in
     let v = value_of e.act in
     let early : length o.values + 1 < o.most = omega arith in
-    let s = early_set o leads.0 e.act e.answer leads.1 (All-head P e (d ∷ ds) sets) early in
+    let s = early-set o leads.0 e.act e.answer leads.1 (All-head P e (d ∷ ds) sets) early in
     let grown = length-append o.values (v ∷ []) in
-    let rest = sets_fold (with_value o v) (d ∷ ds) o' (subst (λ z. Leads Does z (d ∷ ds) o') s.1 leads.2) (All-tail P e (d ∷ ds) sets) (omega arith) (omega arith) in
+    let rest = sets-fold (with_value o v) (d ∷ ds) o' (subst (λ z. Leads Does z (d ∷ ds) o') s.1 leads.2) (All-tail P e (d ∷ ds) sets) (omega arith) (omega arith) in
     let count = sum_by-cons (λ (x : Entry FutureAct FutureAnswer). cond (is_ready x.answer) 1 0) e (d ∷ ds) in
     let none : ◌≡◌ {A = ℕ} (cond (is_ready e.answer) 1 0) 0 = ap (λ (a : FutureAnswer). cond (is_ready a) 1 0) s.0 in
     (rest.0, rest.1, subst (λ l. Folds o.shape l rest.0) (append_assoc o.values (v ∷ []) (values_in (d ∷ ds))) rest.2, count ∙ (ap (λ k. k + count_by (λ (x : Entry FutureAct FutureAnswer). is_ready x.answer) (d ∷ ds)) none ∙ (zero-add (count_by (λ (x : Entry FutureAct FutureAnswer). is_ready x.answer) (d ∷ ds)) ∙ rest.3)))
 
 -- the plain sum of at most 4,096 numbers is below 2^64
-small_sum : (n : ℕ) → n ≤ 4096 → plain_sum n % 2 ^ 64 ≡ plain_sum n
-small_sum n few = let m : n * (n + 1) ≤ 4096 * 4097 = mul-le-mul {n₂ = 4096} {m₂ = 4097} few (omega arith) in omega arith
+small-sum : (n : ℕ) → n ≤ 4096 → plain_sum n % 2 ^ 64 ≡ plain_sum n
+small-sum n few = let m : n * (n + 1) ≤ 4096 * 4097 = mul-le-mul {n₂ = 4096} {m₂ = 4097} few (omega arith) in omega arith
 
 module _ (workers n : ℕ) (some : 0 < workers) (numbers : (1 ≤ n) × (n ≤ 4096)) where
   -- what a closed booth round a future is left with, if each seat was to set its numbers
-  pub folded_whole : {O : Type 0} (see : O → Future) (opening object : O) (known : List (ℕ × List (Entry FutureAct FutureAnswer))) (clock : ℕ) → see opening ≡ empty Sum n
+  pub folded-whole : {O : Type 0} (see : O → Future) (opening object : O) (known : List (ℕ × List (Entry FutureAct FutureAnswer))) (clock : ℕ) → see opening ≡ empty Sum n
       → (closed : IsClosed (λ old act answer new. Does (see old) act answer (see new)) opening workers known object clock)
       → ((k : ℕ) → k < workers → HasAsked k (sets_of workers n k) closed.history) → IsFolded workers n (see object) clock
-  folded_whole see opening object known clock is closed asked =
+  folded-whole see opening object known clock is closed asked =
       let h = closed.history in
       let E : Type 0 = Entry FutureAct FutureAnswer in
       let acts : ℕ → List FutureAct = sets_of workers n in
-      let total = sets_count workers n some in
+      let total = sets-count workers n some in
       let few = numbers.1 in
-      let all = wholly_asked workers acts h closed.of_seats asked (omega arith) in
-      let count = calls_count workers acts h closed.of_seats asked all in
-      let all_sets : All (λ (e : E). IsSet e.act) h = all_of_classes (λ (e : E). e.caller) (λ e. IsSet e.act) workers h closed.of_seats
-      (λ k lt. let b = (asked k lt).begun in acts_hold IsSet (calls_of k h) b.0 (subst (All IsSet) (sym b.1) (All-map IsSet Set (numbers_of workers n k) (λ _ _ _. tt)))) in
-      let leads : Leads Does (empty Sum n) h (see object) = subst (λ o. Leads Does o h (see object)) is (leads_seen see Does opening h object closed.legal.1) in
+      let all = wholly-asked workers acts h closed.of_seats asked (omega arith) in
+      let count = calls-count workers acts h closed.of_seats asked all in
+      let all_sets : All (λ (e : E). IsSet e.act) h = all-of-classes (λ (e : E). e.caller) (λ e. IsSet e.act) workers h closed.of_seats
+      (λ k lt. let b = (asked k lt).begun in acts-hold IsSet (calls_of k h) b.0 (subst (All IsSet) (sym b.1) (All-map IsSet Set (numbers_of workers n k) (λ _ _ _. tt)))) in
+      let leads : Leads Does (empty Sum n) h (see object) = subst (λ o. Leads Does o h (see object)) is (leads-seen see Does opening h object closed.legal.1) in
       let least = numbers.0 in
-      let f = sets_fold (empty Sum n) h (see object) leads all_sets (omega arith) (omega arith) in
-      let sums : sum_by (λ (e : E). value_of e.act) h ≡ plain_sum n = weighed workers acts h closed.of_seats asked value_of all ∙ values_sum workers n some in
-      let answer : f.0 ≡ plain_sum n = f.2 ∙ (ap (λ s. s % 2 ^ 64) (sum-map (λ (e : E). value_of e.act) h ∙ sums) ∙ small_sum n few) in record {
+      let f = sets-fold (empty Sum n) h (see object) leads all_sets (omega arith) (omega arith) in
+      let sums : sum_by (λ (e : E). value_of e.act) h ≡ plain_sum n = weighed workers acts h closed.of_seats asked value_of all ∙ values-sum workers n some in
+      let answer : f.0 ≡ plain_sum n = f.2 ∙ (ap (λ s. s % 2 ^ 64) (sum-map (λ (e : E). value_of e.act) h ∙ sums) ∙ small-sum n few) in record {
         history = h;
         legal = (closed.legal.0, leads);
         last = closed.last;

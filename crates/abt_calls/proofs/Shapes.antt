@@ -136,8 +136,8 @@ gone Giver o = only_unit (moved o)
 gone Waiter o = only_unit (moved o)
 gone Yielder o = nothing
 
--- answers that the act never gets: by one of them a unit would be lost, or be there twice (that no code comes to a unit which went with
--- its act is said so that callers and givers have as many)
+-- answers that the act never gets, by which a unit would be lost or be there twice; of a giver also that no code comes to it, so that
+-- callers and givers have two facts each
 abbrev pub Spares : Asker → Act → Type 0
 Spares Caller asked = (b : Owned) (os : List Owned) (c : Code) → (Suits asked (act.Through b os) → ⊥) × (Suits asked (act.Back b c) → ⊥)
 Spares Giver asked = (b : Owned) (os : List Owned) (c : Code) → (Suits asked (act.Woke os) → ⊥) × (Suits asked (act.Coded c) → ⊥)

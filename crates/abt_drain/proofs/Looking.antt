@@ -79,14 +79,14 @@ one-further F i before here k lt = elim (eqb_tells k i) [
 
 -- Pools.
 
-nothing_in : {A : Type 0} (xs : List A) → length xs ≡ 0 → xs ≡ []
-nothing_in [] none = refl
-nothing_in (x ∷ xs) none = absurd (omega (arith, none))
+nothing-in : {A : Type 0} (xs : List A) → length xs ≡ 0 → xs ≡ []
+nothing-in [] none = refl
+nothing-in (x ∷ xs) none = absurd (omega (arith, none))
 
 -- a pool that has no unit
 pub empty-pool : (o : Object) → Allows o (Remove 0) → (length (contents_of o).units == 0) ≡ true → IsEmptyPool o
 empty-pool (PoolIs pool) may none = elim (eqb_tells (length pool.units) 0) [
-  | inl same ↦ nothing_in pool.units same.1
+  | inl same ↦ nothing-in pool.units same.1
   | inr other ↦ (let some = ne_eqb (length pool.units) 0 other.1 in cc)
 ]
 empty-pool (DeskIs d) may none = absurd may

@@ -44,8 +44,8 @@ is_quiet W S s =
     given (all (λ p. standing W S (InPool p) ≡ []) (λ p. nothing_in (standing W S (InPool p))) (pools_of W (main_of W s))) (λ pools.
     Some (record { tray = tray; next = next; hand = hand; frames = frames; pools = pools }))))))
 
-pub quiet_together : (W : Parts) (S : State) → ((s : ℕ) → s < W.streams → IsQuiet W S s) → Quiet W S
-quiet_together W S still = record {
+pub quiet-together : (W : Parts) (S : State) → ((s : ℕ) → s < W.streams → IsQuiet W S s) → Quiet W S
+quiet-together W S still = record {
   trays = λ s lt. (still s lt).tray;
   nexts = λ s lt. (still s lt).next;
   hands = λ s lt. (still s lt).hand;
@@ -55,7 +55,7 @@ quiet_together W S still = record {
 
 -- whether each stream is quiet
 abbrev quiet : (W : Parts) (S : State) → Option (Quiet W S)
-quiet W S = given (each_below (IsQuiet W S) (is_quiet W S) W.streams) (λ still. Some (quiet_together W S still))
+quiet W S = given (each_below (IsQuiet W S) (is_quiet W S) W.streams) (λ still. Some (quiet-together W S still))
 
 -- All units over, or not.
 
@@ -117,15 +117,15 @@ abbrev step_by : (W : Parts) (S : State) (d : Due) → due W S 0 ≡ d → Optio
 step_by W S StepDue e = Some e
 step_by W S _ e = None
 
-pub none_before : (W : Parts) (n : ℕ) (J : List Event) (r : ℕ) → r < 0 → Spent W n J r → ⊥
-none_before W n J r below h = omega (arith, below)
+pub none-before : (W : Parts) (n : ℕ) (J : List Event) (r : ℕ) → r < 0 → Spent W n J r → ⊥
+none-before W n J r below h = omega (arith, below)
 
 -- whether stream s is the first that is spent; only stream 0 is looked at
 abbrev first_spent : (W : Parts) (n : ℕ) (J : List Event) (s : ℕ) → Option (Spent W n J s × ((r : ℕ) → r < s → Spent W n J r → ⊥))
 first_spent W n J zero =
     given (is_less 0 W.streams) (λ some.
     given (same (steps_of 0 J) n) (λ steps.
-    given (step_by W (last_state W J) (due W (last_state W J) 0) refl) (λ step. Some ((some, steps, step), none_before W n J))))
+    given (step_by W (last_state W J) (due W (last_state W J) 0) refl) (λ step. Some ((some, steps, step), none-before W n J))))
 first_spent W n J (suc s) = None
 
 -- whether a journal ended so; only stream 0 is looked at for a budget

@@ -14,16 +14,16 @@ use Rattle.abt_rows.proofs.Stamping.{unshared}
 pub only : (c : Cause) → Contains (c ∷ []) c
 only c = (0, omega arith, refl)
 
-pub late_is_stamped : (W : Parts) → Stamped W late
-late_is_stamped W = (refl, ((omega arith, omega arith, λ e. absurd (omega arith)), (λ h. omega arith, tt), tt))
+pub late-is-stamped : (W : Parts) → Stamped W late
+late-is-stamped W = (refl, ((omega arith, omega arith, λ e. absurd (omega arith)), (λ h. omega arith, tt), tt))
 
 -- no event before the second shares something with it
 alone : (W : Parts) → All (λ e. Shares W e (miss 2 1) → ⊥) (miss 1 0 ∷ [])
 alone W = holds (all (λ e. Shares W e (miss 2 1) → ⊥) (λ e. unshared W e (miss 2 1)) (miss 1 0 ∷ [])) refl
 
-not_least : (W : Parts) → IsLeast W (miss 1 0 ∷ []) (miss 2 1) → ⊥
-not_least W (inl one) = omega (arith, one)
-not_least W (inr e) = All-contains (λ (e : Event). Shares W e (miss 2 1) → ⊥) (miss 1 0 ∷ []) e.0 (alone W) e.1 e.2
+not-least : (W : Parts) → IsLeast W (miss 1 0 ∷ []) (miss 2 1) → ⊥
+not-least W (inl one) = omega (arith, one)
+not-least W (inr e) = All-contains (λ (e : Event). Shares W e (miss 2 1) → ⊥) (miss 1 0 ∷ []) e.0 (alone W) e.1 e.2
 
-pub late_is_not_least : (W : Parts) → Lamport W late → ⊥
-late_is_not_least W h = not_least W h.1.2.1
+pub late-is-not-least : (W : Parts) → Lamport W late → ⊥
+late-is-not-least W h = not-least W h.1.2.1

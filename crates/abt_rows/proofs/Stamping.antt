@@ -24,16 +24,16 @@ abbrev Counts : ℕ → List Event → Type 0
 Counts t [] = Unit {0}
 Counts t (e ∷ es) = (e.stream ≡ stream_no 0) × (e.stamp ≡ t) × Counts (suc t) es
 
-count_from : (W : Parts) (Z : List OrderShape) (S : State) (o : Option (0 < W.streams)) (t : ℕ) (c : Option (Coming W Z S 0)) (rest : (c : Coming W Z S 0) → Ran W Z (after W S 0 c.0)) →
+count-from : (W : Parts) (Z : List OrderShape) (S : State) (o : Option (0 < W.streams)) (t : ℕ) (c : Option (Coming W Z S 0)) (rest : (c : Coming W Z S 0) → Ran W Z (after W S 0 c.0)) →
     ((c : Coming W Z S 0) → Counts (suc t) (rest c).0) → Counts t (ran_from W Z S 0 o t c rest).0
-count_from W Z S (Some is) t (Some c) rest count = (refl, refl, count c)
-count_from W Z S (Some is) t None rest count = tt
-count_from W Z S None t c rest count = tt
+count-from W Z S (Some is) t (Some c) rest count = (refl, refl, count c)
+count-from W Z S (Some is) t None rest count = tt
+count-from W Z S None t c rest count = tt
 
-count_by_turn : (W : Parts) (Z : List OrderShape) (n t : ℕ) (S : State) → Counts t (ran_by W Z (replicate n 0) t S).0
-count_by_turn W Z zero t S = tt
-count_by_turn W Z (suc n) t S =
-    count_from W Z S (is_less 0 W.streams) t (coming W Z S 0) (λ c. ran_by W Z (replicate n 0) (suc t) (after W S 0 c.0)) (λ c. count_by_turn W Z n (suc t) (after W S 0 c.0))
+count-by-turn : (W : Parts) (Z : List OrderShape) (n t : ℕ) (S : State) → Counts t (ran_by W Z (replicate n 0) t S).0
+count-by-turn W Z zero t S = tt
+count-by-turn W Z (suc n) t S =
+    count-from W Z S (is_less 0 W.streams) t (coming W Z S 0) (λ c. ran_by W Z (replicate n 0) (suc t) (after W S 0 c.0)) (λ c. count-by-turn W Z n (suc t) (after W S 0 c.0))
 
 later : (W : Parts) (e : Event) (es : List Event) (t : ℕ) → e.stamp < t → Counts t es → AllAfter W e es
 later W e [] t below c = tt
@@ -54,8 +54,8 @@ least : (W : Parts) (earlier : List Event) (e : Event) → e.stream ≡ stream_n
 least W earlier e own (inl one) = inl one
 least W earlier e own (inr f) = inr (f.0, f.1, inl (ap (λ (s : _). s.0) (f.2 ∙ sym own)), f.3)
 
-below_with : (earlier : List Event) (e : Event) (t : ℕ) → e.stamp ≡ t → ((f : Event) → Contains earlier f → f.stamp < t) → (f : Event) → Contains (earlier ++ e ∷ []) f → f.stamp < suc t
-below_with earlier e t is below f at = elim (Contains-push_cases earlier e f at) [
+below-with : (earlier : List Event) (e : Event) (t : ℕ) → e.stamp ≡ t → ((f : Event) → Contains earlier f → f.stamp < t) → (f : Event) → Contains (earlier ++ e ∷ []) f → f.stamp < suc t
+below-with earlier e t is below f at = elim (Contains-push_cases earlier e f at) [
   | inl before ↦ (let lt : f.stamp < t = below f before in omega arith)
   | inr equal ↦ (let eq : e.stamp ≡ f.stamp = ap (λ (e : Event). e.stamp) equal in omega arith)
 ]
@@ -66,18 +66,18 @@ counting W earlier (e ∷ es) t below is c =
     let here : e.stamp ≡ t = c.1 in (
       λ f at h. (let lt : f.stamp < t = below f at in omega arith),
       least W earlier e c.0 (subst (IsNext earlier) (sym here) is),
-      counting W (earlier ++ e ∷ []) es (suc t) (below_with earlier e t here below) (inr (e, Contains-push earlier e, c.0, omega arith)) c.2,
+      counting W (earlier ++ e ∷ []) es (suc t) (below-with earlier e t here below) (inr (e, Contains-push earlier e, c.0, omega arith)) c.2,
     )
 
-stamped_by_count : (W : Parts) (J : List Event) → Counts 1 J → Stamped W J
-stamped_by_count W [] c = tt
-stamped_by_count W (e ∷ es) c = let here : e.stamp ≡ 1 = c.1 in (here, rising W e es (subst (λ t. Counts (suc t) es) (sym here) c.2))
+stamped-by-count : (W : Parts) (J : List Event) → Counts 1 J → Stamped W J
+stamped-by-count W [] c = tt
+stamped-by-count W (e ∷ es) c = let here : e.stamp ≡ 1 = c.1 in (here, rising W e es (subst (λ t. Counts (suc t) es) (sym here) c.2))
 
 -- the events that stream 0 makes by itself have Lamport's stamps
 pub lone : (W : Parts) (Z : List OrderShape) (n : ℕ) → Lamport W (ran_by W Z (replicate n 0) 1 (start W)).0
 lone W Z n =
-    let c : Counts 1 (ran_by W Z (replicate n 0) 1 (start W)).0 = count_by_turn W Z n 1 (start W) in
-    (stamped_by_count W _ c, counting W [] _ 1 (λ f at. (let lt : at.0 < 0 = at.1 in absurd (omega arith))) (inl refl) c)
+    let c : Counts 1 (ran_by W Z (replicate n 0) 1 (start W)).0 = count-by-turn W Z n 1 (start W) in
+    (stamped-by-count W _ c, counting W [] _ 1 (λ f at. (let lt : at.0 < 0 = at.1 in absurd (omega arith))) (inl refl) c)
 
 -- Of more streams.
 
@@ -161,8 +161,8 @@ stamped W (e ∷ es) = given (same e.stamp 1) (λ one. given (stamped_from W e e
 abbrev Cause : Parts → List Event → Event → Type 0
 Cause W earlier e = (f : Event) × Contains earlier f × Shares W f e × (e.stamp ≡ f.stamp + 1)
 
-pub at_first : (W : Parts) (f : Event) (fs : List Event) (e : Event) → Shares W f e → e.stamp ≡ f.stamp + 1 → Cause W (f ∷ fs) e
-at_first W f fs e h is = (f, (0, omega arith, refl), h, is)
+pub at-first : (W : Parts) (f : Event) (fs : List Event) (e : Event) → Shares W f e → e.stamp ≡ f.stamp + 1 → Cause W (f ∷ fs) e
+at-first W f fs e h is = (f, (0, omega arith, refl), h, is)
 
 pub further : (W : Parts) (f : Event) (fs : List Event) (e : Event) → Cause W fs e → Cause W (f ∷ fs) e
 further W f fs e c = let lt : c.1.0 < length fs = c.1.1 in (c.0, (suc c.1.0, omega arith, c.1.2), c.2, c.3)
@@ -170,7 +170,7 @@ further W f fs e c = let lt : c.1.0 < length fs = c.1.1 in (c.0, (suc c.1.0, ome
 abbrev caused : (W : Parts) (earlier : List Event) (e : Event) → Option (Cause W earlier e)
 caused W [] e = None
 caused W (f ∷ fs) e =
-    either (given (same e.stamp (f.stamp + 1)) (λ is. given (shared W f e) (λ h. Some (at_first W f fs e h is))))
+    either (given (same e.stamp (f.stamp + 1)) (λ is. given (shared W f e) (λ h. Some (at-first W f fs e h is))))
     (given (caused W fs e) (λ c. Some (further W f fs e c)))
 
 abbrev is_least : (W : Parts) (earlier : List Event) (e : Event) → Option (IsLeast W earlier e)

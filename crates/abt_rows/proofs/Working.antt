@@ -48,20 +48,20 @@ restamped (t ∷ ts) [] = []
 restamped (t ∷ ts) (e ∷ es) = record e { stamp = t } ∷ restamped ts es
 
 -- a run is one whatever its stamps
-pub restamped_run : (W : Parts) (Z : List OrderShape) (ts : List ℕ) (J : List Event) (S : State) → RunFrom W Z S J → RunFrom W Z S (restamped ts J)
-restamped_run W Z [] J S h = h
-restamped_run W Z (t ∷ ts) [] S h = tt
-restamped_run W Z (t ∷ ts) (e ∷ es) S h = (h.0, h.1, restamped_run W Z ts es _ h.2)
+pub restamped-run : (W : Parts) (Z : List OrderShape) (ts : List ℕ) (J : List Event) (S : State) → RunFrom W Z S J → RunFrom W Z S (restamped ts J)
+restamped-run W Z [] J S h = h
+restamped-run W Z (t ∷ ts) [] S h = tt
+restamped-run W Z (t ∷ ts) (e ∷ es) S h = (h.0, h.1, restamped-run W Z ts es _ h.2)
 
 -- the run of the events that streams make in turn, each turn a stamp and a stream
 abbrev pub ran_at : (W : Parts) (Z : List OrderShape) → List (ℕ × ℕ) → Ran W Z (start W)
 ran_at W Z turns =
     let R : Ran W Z (start W) = ran_by W Z (map (λ t. t.1) turns) 1 (start W) in
-    (restamped (map (λ t. t.0) turns) R.0, restamped_run W Z (map (λ t. t.0) turns) R.0 (start W) R.1)
+    (restamped (map (λ t. t.0) turns) R.0, restamped-run W Z (map (λ t. t.0) turns) R.0 (start W) R.1)
 
 -- such a run, of which the stamps are decided
-pub worked_at : (W : Parts) (Z : List OrderShape) (n : ℕ) (turns : List (ℕ × ℕ)) (o : Outcome) (text journal report : Text) → is_some (lamport W (ran_at W Z turns).0) ≡ true →
+pub worked-at : (W : Parts) (Z : List OrderShape) (n : ℕ) (turns : List (ℕ × ℕ)) (o : Outcome) (text journal report : Text) → is_some (lamport W (ran_at W Z turns).0) ≡ true →
     journal_text (ran_at W Z turns).0 ≡ journal → is_some (validity W) ≡ true → is_some (ending W n (ran_at W Z turns).0 o) ≡ true → canonical_text W ≡ text →
     report_text W (last_state W (ran_at W Z turns).0) (steps_in (ran_at W Z turns).0) o ≡ report → IsWorked Z n text journal report
-worked_at W Z n turns o text journal report stamps is_journal valid ends is_text is_report =
+worked-at W Z n turns o text journal report stamps is_journal valid ends is_text is_report =
     shown W Z n (ran_at W Z turns) o text journal report (holds (lamport W (ran_at W Z turns).0) stamps) is_journal valid ends is_text is_report

@@ -25,7 +25,7 @@ use Rattle.abt_outcomes.proofs.Stored.{orders-stored}
 use Rattle.abt_words.specs.declared.commands.Command.{Command}
 use Rattle.abt_words.specs.declared.commands.Command.TheVariants as command
 use Rattle.abt_words.specs.Commands.{Says}
-use Rattle.abt_words.proofs.OneCommand.{one_command}
+use Rattle.abt_words.proofs.OneCommand.{one-command}
 use Rattle.abt_workload.proofs.RoundTrip.{only-valid}
 use Rattle.abt_shell.specs.declared.status.Stop.TheVariants.{BadWords, BadLine, CannotRead, OutOfMemory}
 use Rattle.abt_shell.specs.declared.status.Wrong.TheVariants.{Workload, Journal, Lives}
@@ -144,11 +144,11 @@ module _ (g : Given) (J : List Event) (text : Text) where
 
   module _ (d : Command) (file : Text) (says : Says g.words d) (names : workload_file d ≡ Some file) where
     ran-reads : (o : Outcome) → Ran g J o text → (W : Parts) × IsReadFrom g file W
-    ran-reads o ran = (ran.workload, runs-read g d file ran.workload (subst (λ (x : Command). IsFor x g ran.workload) (one_command g.words ran.command d ran.says says) ran.is) names)
+    ran-reads o ran = (ran.workload, runs-read g d file ran.workload (subst (λ (x : Command). IsFor x g ran.workload) (one-command g.words ran.command d ran.says says) ran.is) names)
 
     flow-reads : (W : Parts) → AsksFlow g W → (V : Parts) × IsReadFrom g file V
     flow-reads W asks =
-        let same : asks.file ≡ file = some-is asks.file file (ap workload_file (one_command g.words (command.Flow asks.file) d asks.says says) ∙ names) in
+        let same : asks.file ≡ file = some-is asks.file file (ap workload_file (one-command g.words (command.Flow asks.file) d asks.says says) ∙ names) in
         (W, subst (λ (n : Text). IsReadFrom g n W) same asks.reads)
 
     -- a workload is read from the file that the words name
@@ -156,7 +156,7 @@ module _ (g : Given) (J : List Event) (text : Text) where
     printed-reads (Ended o) prints = ran-reads o prints
     printed-reads (Judged v) prints =
         let compares = prints.0.compares in
-        let same : compares.workload ≡ file = some-is compares.workload file (ap workload_file (one_command g.words (command.Check compares.workload compares.journal) d compares.says says) ∙ names) in
+        let same : compares.workload ≡ file = some-is compares.workload file (ap workload_file (one-command g.words (command.Check compares.workload compares.journal) d compares.says says) ∙ names) in
         (prints.0.workload, subst (λ (n : Text). IsReadFrom g n prints.0.workload) same compares.reads)
     printed-reads Flows prints = flow-reads prints.0.workload prints.0.asks
     printed-reads NotConfluent prints = flow-reads prints.0.workload prints.0.asks
@@ -165,10 +165,10 @@ module _ (g : Given) (J : List Event) (text : Text) where
   -- words that ask for a check print a verdict
   module _ (w j : Text) (says : Says g.words (command.Check w j)) where
     no-run : (o : Outcome) → Ran g J o text → ⊥
-    no-run o ran = subst (λ (x : Command). IsFor x g ran.workload) (one_command g.words ran.command (command.Check w j) ran.says says) ran.is
+    no-run o ran = subst (λ (x : Command). IsFor x g ran.workload) (one-command g.words ran.command (command.Check w j) ran.says says) ran.is
 
     no-flow : (W : Parts) → AsksFlow g W → ⊥
-    no-flow W asks = check-is-no-flow w j asks.file (one_command g.words (command.Check w j) (command.Flow asks.file) says asks.says)
+    no-flow W asks = check-is-no-flow w j asks.file (one-command g.words (command.Check w j) (command.Flow asks.file) says asks.says)
 
     printed-verdict : (c : Conclusion) → Prints g c J text → (v : Verdict) × HasVerdict g v × (c ≡ Judged v)
     printed-verdict (Ended o) prints = absurd (no-run o prints)
@@ -180,21 +180,21 @@ module _ (g : Given) (J : List Event) (text : Text) where
     -- and the journal is read from the second file
     compared-journal : (W : Parts) (Is : Text → Type 0) → Compares g W Is → IsReadFrom g w W × IfSome (g.file j) Is
     compared-journal W Is compares =
-        let same = one_command g.words (command.Check compares.workload compares.journal) (command.Check w j) compares.says says in (
+        let same = one-command g.words (command.Check compares.workload compares.journal) (command.Check w j) compares.says says in (
           subst (λ (n : Text). IsReadFrom g n W) (check-first _ _ _ _ same) compares.reads,
           subst (λ (n : Text). IfSome (g.file n) Is) (check-second _ _ _ _ same) compares.is,
         )
 
   module _ (file : Text) (says : Says g.words (command.Flow file)) where
     flow-no-run : (o : Outcome) → Ran g J o text → ⊥
-    flow-no-run o ran = subst (λ (x : Command). IsFor x g ran.workload) (one_command g.words ran.command (command.Flow file) ran.says says) ran.is
+    flow-no-run o ran = subst (λ (x : Command). IsFor x g ran.workload) (one-command g.words ran.command (command.Flow file) ran.says says) ran.is
 
     flow-no-check : (W : Parts) (Is : Text → Type 0) → Compares g W Is → ⊥
-    flow-no-check W Is compares = check-is-no-flow _ _ file (one_command g.words (command.Check compares.workload compares.journal) (command.Flow file) compares.says says)
+    flow-no-check W Is compares = check-is-no-flow _ _ file (one-command g.words (command.Check compares.workload compares.journal) (command.Flow file) compares.says says)
 
     flow-asked : (W V : Parts) → Tells g file (λ bytes. Reads bytes W) → AsksFlow g V → V ≡ W
     flow-asked W V tells asks =
-        let same : asks.file ≡ file = flow-is asks.file file (one_command g.words (command.Flow asks.file) (command.Flow file) asks.says says) in
+        let same : asks.file ≡ file = flow-is asks.file file (one-command g.words (command.Flow asks.file) (command.Flow file) asks.says says) in
         same-workload g file W V tells (subst (λ (n : Text). IsReadFrom g n V) same asks.reads)
 
 -- Statuses.
@@ -209,20 +209,20 @@ runs-concluded : (c : Conclusion) (call : Call) (text : Text) (d : Command) (W :
     → IsOfRun (number_of_conclusion c)
 runs-concluded (Ended o) call text d W prints says known = outcome-is-of-run o
 runs-concluded (Judged v) call text d W prints says known =
-    absurd (subst (λ (x : Command). RunsKnown x call.given W) (one_command call.given.words d _ says prints.0.compares.says) known)
-runs-concluded Flows call text d W prints says known = absurd (subst (λ (x : Command). RunsKnown x call.given W) (one_command call.given.words d _ says prints.0.asks.says) known)
-runs-concluded NotConfluent call text d W prints says known = absurd (subst (λ (x : Command). RunsKnown x call.given W) (one_command call.given.words d _ says prints.0.asks.says) known)
-runs-concluded Undefined call text d W prints says known = absurd (subst (λ (x : Command). RunsKnown x call.given W) (one_command call.given.words d _ says prints.0.asks.says) known)
+    absurd (subst (λ (x : Command). RunsKnown x call.given W) (one-command call.given.words d _ says prints.0.compares.says) known)
+runs-concluded Flows call text d W prints says known = absurd (subst (λ (x : Command). RunsKnown x call.given W) (one-command call.given.words d _ says prints.0.asks.says) known)
+runs-concluded NotConfluent call text d W prints says known = absurd (subst (λ (x : Command). RunsKnown x call.given W) (one-command call.given.words d _ says prints.0.asks.says) known)
+runs-concluded Undefined call text d W prints says known = absurd (subst (λ (x : Command). RunsKnown x call.given W) (one-command call.given.words d _ says prints.0.asks.says) known)
 
 runs : (s : Status Conclusion) (c : Call) (d : Command) (W : Parts) → Holds s c → Says c.given.words d → RunsKnown d c.given W → IsStill c.left → IsOfRun (number_of number_of_conclusion s) ⊎ (number_of number_of_conclusion s ≡ 7)
 runs (Concluded k) c d W h says known still = inl (runs-concluded k c h.text d W h.prints says known)
 runs (Stopped BadWords) c d W h says known still = absurd (h.cause.why d says)
 runs (Stopped (BadLine line (Workload f))) c d W h says known still =
     let named = h.cause.why.named in
-    let same = one_command c.given.words named.command d named.says says in
+    let same = one-command c.given.words named.command d named.says says in
     absurd (runs-not-refused c.given d named.file W line f known (ap workload_file (sym same) ∙ named.names) h.cause.why.is)
 runs (Stopped (BadLine line Journal)) c d W h says known still =
-    absurd (subst (λ (x : Command). RunsKnown x c.given W) (one_command c.given.words d _ says h.cause.why.1.says) known)
+    absurd (subst (λ (x : Command). RunsKnown x c.given W) (one-command c.given.words d _ says h.cause.why.1.says) known)
 runs (Stopped (BadLine line Lives)) c d W h says known still = absurd h.cause.why
 runs (Stopped CannotRead) c d W h says known still = absurd (still.0 h.cause.why.1)
 runs (Stopped OutOfMemory) c d W h says known still = inr refl
@@ -255,7 +255,7 @@ module _ (c : Call) (w j : Text) (W : Parts) (J : List Event) (says : Says c.giv
   checks (Stopped BadWords) h still = absurd (h.cause.why _ says)
   checks (Stopped (BadLine line (Workload f))) h still =
       let named = h.cause.why.named in
-      let same : named.file ≡ w = some-is _ _ (sym named.names ∙ ap workload_file (one_command c.given.words named.command (command.Check w j) named.says says)) in
+      let same : named.file ≡ w = some-is _ _ (sym named.names ∙ ap workload_file (one-command c.given.words named.command (command.Check w j) named.says says)) in
       absurd (not-refused c.given w W line f tells (subst (λ (n : Text). IfSome (c.given.file n) (λ bytes. Refuses bytes line f)) same h.cause.why.is))
   checks (Stopped (BadLine line Journal)) h still =
       absurd (not-bad c.given j J line also (compared-journal c.given c.journal [] w j says h.cause.why.0 (λ bytes. IsNoJournalAt bytes line) h.cause.why.1).1)
@@ -286,7 +286,7 @@ module _ (c : Call) (file : Text) (W : Parts) (says : Says c.given.words (comman
   flows (Stopped BadWords) h still = absurd (h.cause.why _ says)
   flows (Stopped (BadLine line (Workload f))) h still =
       let named = h.cause.why.named in
-      let same : named.file ≡ file = some-is _ _ (sym named.names ∙ ap workload_file (one_command c.given.words named.command (command.Flow file) named.says says)) in
+      let same : named.file ≡ file = some-is _ _ (sym named.names ∙ ap workload_file (one-command c.given.words named.command (command.Flow file) named.says says)) in
       absurd (not-refused c.given file W line f tells (subst (λ (n : Text). IfSome (c.given.file n) (λ bytes. Refuses bytes line f)) same h.cause.why.is))
   flows (Stopped (BadLine line Journal)) h still = absurd (flow-no-check c.given c.journal [] file says h.cause.why.0 (λ bytes. IsNoJournalAt bytes line) h.cause.why.1)
   flows (Stopped (BadLine line Lives)) h still = absurd h.cause.why
@@ -298,7 +298,7 @@ module _ (c : Call) (file : Text) (W : Parts) (says : Says c.given.words (comman
 no-budget : (c : Call) (d : Command) (W : Parts) (s : StreamNo) (text : Text) → 2 ≤ length c.given.orders → Says c.given.words d → RunsKnown d c.given W → HasNoRevive W
     → ops_in W ≤ steps_for d → Ran c.given c.journal (outcome.Budget s) text → ⊥
 no-budget c d W s text two says known none few ran =
-    let same : ran.command ≡ d = one_command c.given.words ran.command d ran.says says in
+    let same : ran.command ≡ d = one-command c.given.words ran.command d ran.says says in
     let is : ran.workload ≡ W = runs-same c.given d W ran.workload known (subst (λ (x : Command). IsFor x c.given ran.workload) same ran.is) in
     let most : ops_in ran.workload ≤ steps_for ran.command = subst (λ (x : Command). ops_in ran.workload ≤ steps_for x) (sym same) (subst (λ V. ops_in V ≤ steps_for d) (sym is) few) in
     let sound : IsValid ran.workload = subst IsValid (sym is) (runs-valid c.given d W says known) in

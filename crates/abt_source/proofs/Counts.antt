@@ -24,6 +24,6 @@ cause (Ok n) old new failed = tt
 cause (Err e) old new failed = next_count-Rose old new failed
 
 -- What a sink takes is not observable after a write either.
-pub unobservable_write : (r : Result ℕ Failed) (piece : List ℕ) → WriteTakes None None r piece
-unobservable_write (Ok n) piece = refl
-unobservable_write (Err e) piece = refl
+pub unobservable-write : (r : Result ℕ Failed) (piece : List ℕ) → WriteTakes None None r piece
+unobservable-write (Ok n) piece = refl
+unobservable-write (Err e) piece = refl

@@ -16,20 +16,20 @@ take-rest at bytes =
     let le : length (drop at bytes) ≤ length bytes - at = simp length-drop (omega arith) in take_all _ _ le
 
 -- What was taken up to a place grows by the bytes from there on.
-took_rest : (a b c : Option (List ℕ)) (at n : ℕ) (bytes : List ℕ)
+took-rest : (a b c : Option (List ℕ)) (at n : ℕ) (bytes : List ℕ)
     → Took a b (take at bytes) → Took b c (take n (drop at bytes)) → Took a c (take (at + n) bytes)
-took_rest None b c at n bytes e f = rw (f, e) refl
-took_rest (Some xs) b c at n bytes e f =
+took-rest None b c at n bytes e f = rw (f, e) refl
+took-rest (Some xs) b c at n bytes e f =
     rw (f, e, take-add) (ap Some (append_assoc xs (take at bytes) (take n (drop at bytes))))
 
 -- What was taken up to a place grows by the next write's bytes.
-pub took_more : (a b c : Option (List ℕ)) (at n : ℕ) (bytes : List ℕ)
+pub took-more : (a b c : Option (List ℕ)) (at n : ℕ) (bytes : List ℕ)
     → Took a b (take at bytes) → Took b c (take n (take (length bytes - at) (drop at bytes)))
     → Took a c (take (at + n) bytes)
-took_more a b c at n bytes e f = took_rest a b c at n bytes e (rw take-rest at f)
+took-more a b c at n bytes e f = took-rest a b c at n bytes e (rw take-rest at f)
 
 -- No bytes are an end of any file.
-pub nothing_is_an_end : (file left : Option (List ℕ)) → NothingLeft left → LeavesAnEnd file left
-nothing_is_an_end None left e = tt
-nothing_is_an_end (Some xs) None e = tt
-nothing_is_an_end (Some xs) (Some rest) e = (xs, rw (e, append-nil) refl)
+pub nothing-is-an-end : (file left : Option (List ℕ)) → NothingLeft left → LeavesAnEnd file left
+nothing-is-an-end None left e = tt
+nothing-is-an-end (Some xs) None e = tt
+nothing-is-an-end (Some xs) (Some rest) e = (xs, rw (e, append-nil) refl)

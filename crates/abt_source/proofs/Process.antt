@@ -8,47 +8,47 @@ use Rattle.abt_source.specs.declared.reading.NotFetched.TheVariants as why
 use Rattle.abt_source.proofs.Counts.{next_count-le}
 
 -- What is left of a file that was begun is not observable.
-pub begin_left : (r : Result (Unit {0}) NotFetched) (old new : FilesOfProcess) → OnOk r (new ≡ one_begun old.faults) → OnOk r (unread new.begun ≡ None)
-begin_left (Ok _) old new ok = ap (λ (m : FilesOfProcess). unread m.begun) ok
-begin_left (Err e) old new ok = tt
+pub begin-left : (r : Result (Unit {0}) NotFetched) (old new : FilesOfProcess) → OnOk r (new ≡ one_begun old.faults) → OnOk r (unread new.begun ≡ None)
+begin-left (Ok _) old new ok = ap (λ (m : FilesOfProcess). unread m.begun) ok
+begin-left (Err e) old new ok = tt
 
 -- Nothing is left if none was begun.
-pub begin_nothing : (r : Result (Unit {0}) NotFetched) (old new : FilesOfProcess)
+pub begin-nothing : (r : Result (Unit {0}) NotFetched) (old new : FilesOfProcess)
     → (IsErrOf r why.Failed → new ≡ none_begun (next_count old.faults)) → (IsErrOf r why.Memory → new ≡ none_begun old.faults)
     → OnErr r (NothingLeft (unread new.begun))
-begin_nothing (Ok _) old new failed memory = tt
-begin_nothing (Err why.Failed) old new failed memory = subst (λ (m : FilesOfProcess). NothingLeft (unread m.begun)) (sym (failed refl)) refl
-begin_nothing (Err why.Memory) old new failed memory = subst (λ (m : FilesOfProcess). NothingLeft (unread m.begun)) (sym (memory refl)) refl
+begin-nothing (Ok _) old new failed memory = tt
+begin-nothing (Err why.Failed) old new failed memory = subst (λ (m : FilesOfProcess). NothingLeft (unread m.begun)) (sym (failed refl)) refl
+begin-nothing (Err why.Memory) old new failed memory = subst (λ (m : FilesOfProcess). NothingLeft (unread m.begun)) (sym (memory refl)) refl
 
 -- The count never falls at a begin.
-pub begin_later : (r : Result (Unit {0}) NotFetched) (old new : FilesOfProcess) → OnOk r (new ≡ one_begun old.faults)
+pub begin-later : (r : Result (Unit {0}) NotFetched) (old new : FilesOfProcess) → OnOk r (new ≡ one_begun old.faults)
     → (IsErrOf r why.Failed → new ≡ none_begun (next_count old.faults)) → (IsErrOf r why.Memory → new ≡ none_begun old.faults)
     → old.faults ≤ new.faults
-begin_later (Ok _) old new ok failed memory = let same : new.faults ≡ old.faults = ap (λ (m : FilesOfProcess). m.faults) ok in omega arith
-begin_later (Err why.Failed) old new ok failed memory = next_count-le old.faults new.faults (ap (λ (m : FilesOfProcess). m.faults) (failed refl))
-begin_later (Err why.Memory) old new ok failed memory = let same : new.faults ≡ old.faults = ap (λ (m : FilesOfProcess). m.faults) (memory refl) in omega arith
+begin-later (Ok _) old new ok failed memory = let same : new.faults ≡ old.faults = ap (λ (m : FilesOfProcess). m.faults) ok in omega arith
+begin-later (Err why.Failed) old new ok failed memory = next_count-le old.faults new.faults (ap (λ (m : FilesOfProcess). m.faults) (failed refl))
+begin-later (Err why.Memory) old new ok failed memory = let same : new.faults ≡ old.faults = ap (λ (m : FilesOfProcess). m.faults) (memory refl) in omega arith
 
 -- It stays if a file is begun.
-pub begin_quiet : (r : Result (Unit {0}) NotFetched) (old new : FilesOfProcess) → OnOk r (new ≡ one_begun old.faults) → OnOk r (new.faults ≡ old.faults)
-begin_quiet (Ok _) old new ok = ap (λ (m : FilesOfProcess). m.faults) ok
-begin_quiet (Err e) old new ok = tt
+pub begin-quiet : (r : Result (Unit {0}) NotFetched) (old new : FilesOfProcess) → OnOk r (new ≡ one_begun old.faults) → OnOk r (new.faults ≡ old.faults)
+begin-quiet (Ok _) old new ok = ap (λ (m : FilesOfProcess). m.faults) ok
+begin-quiet (Err e) old new ok = tt
 
 -- Bytes that aren't observable stay so, and no bytes come if nothing is begun.
-gives_next : (begun : Bool) (n : ℕ) (into : List ℕ) → (begun ≡ false → n ≡ 0) → GivesNext (unread begun) (unread begun) n into
-gives_next true n into none = refl
-gives_next false n into none = subst (λ (k : ℕ). GivesNext (Some []) (Some []) k into) (sym (none refl)) (refl, refl, λ _. refl)
+gives-next : (begun : Bool) (n : ℕ) (into : List ℕ) → (begun ≡ false → n ≡ 0) → GivesNext (unread begun) (unread begun) n into
+gives-next true n into none = refl
+gives-next false n into none = subst (λ (k : ℕ). GivesNext (Some []) (Some []) k into) (sym (none refl)) (refl, refl, λ _. refl)
 
 -- A read leaves what is left.
-pub read_next : (r : Result ℕ Failed) (old new : FilesOfProcess) (into : List ℕ) → (old.begun ≡ false → IfOk r (λ n. n ≡ 0))
+pub read-next : (r : Result ℕ Failed) (old new : FilesOfProcess) (into : List ℕ) → (old.begun ≡ false → IfOk r (λ n. n ≡ 0))
     → OnOk r (new ≡ old) → OnErr r (new ≡ after_fault old) → ReadGives (unread old.begun) (unread new.begun) r into
-read_next (Ok n) old new into none ok failed = subst (λ (m : FilesOfProcess). GivesNext (unread old.begun) (unread m.begun) n into) (sym ok) (gives_next old.begun n into none)
-read_next (Err e) old new into none ok failed = ap (λ (m : FilesOfProcess). unread m.begun) failed
+read-next (Ok n) old new into none ok failed = subst (λ (m : FilesOfProcess). GivesNext (unread old.begun) (unread m.begun) n into) (sym ok) (gives-next old.begun n into none)
+read-next (Err e) old new into none ok failed = ap (λ (m : FilesOfProcess). unread m.begun) failed
 
 -- The files before and after a read as their counts.
-pub read_ok : (r : Result ℕ Failed) (old new : FilesOfProcess) → OnOk r (new ≡ old) → OnOk r (new.faults ≡ old.faults)
-read_ok (Ok n) old new ok = ap (λ (m : FilesOfProcess). m.faults) ok
-read_ok (Err e) old new ok = tt
+pub read-ok : (r : Result ℕ Failed) (old new : FilesOfProcess) → OnOk r (new ≡ old) → OnOk r (new.faults ≡ old.faults)
+read-ok (Ok n) old new ok = ap (λ (m : FilesOfProcess). m.faults) ok
+read-ok (Err e) old new ok = tt
 
-pub read_failed : (r : Result ℕ Failed) (old new : FilesOfProcess) → OnErr r (new ≡ after_fault old) → OnErr r (new.faults ≡ next_count old.faults)
-read_failed (Ok n) old new failed = tt
-read_failed (Err e) old new failed = ap (λ (m : FilesOfProcess). m.faults) failed
+pub read-failed : (r : Result ℕ Failed) (old new : FilesOfProcess) → OnErr r (new ≡ after_fault old) → OnErr r (new.faults ≡ next_count old.faults)
+read-failed (Ok n) old new failed = tt
+read-failed (Err e) old new failed = ap (λ (m : FilesOfProcess). m.faults) failed

@@ -15,12 +15,12 @@ abbrev pub AllTexts : List Text → Type 0
 AllTexts [] = ⊤
 AllTexts (w ∷ ws) = IsUtf8 w × AllTexts ws
 
-pub no_cons : (k : ErrorKind) (ks : Kinds) → k ∷ ks ≡ [] → ⊥
-no_cons k ks e = cc
+pub no-cons : (k : ErrorKind) (ks : Kinds) → k ∷ ks ≡ [] → ⊥
+no-cons k ks e = cc
 
-or_else_assoc : (a b c : Kinds) → or_else (or_else a b) c ≡ or_else a (or_else b c)
-or_else_assoc [] b c = refl
-or_else_assoc (k ∷ ks) b c = refl
+or-else-assoc : (a b c : Kinds) → or_else (or_else a b) c ≡ or_else a (or_else b c)
+or-else-assoc [] b c = refl
+or-else-assoc (k ∷ ks) b c = refl
 
 module _ (s : Shape) where
   abbrev pub walked_all : Walk → List Text → Walk
@@ -38,7 +38,7 @@ module _ (s : Shape) where
 
   turned : (w : Walk) (x : Text) (words : List Text) → ending w (x ∷ words) ≡ or_else (turn_fault s [] w x) (ending (walked s.rules [] w x) words)
   unfolding walk_fault
-  turned w x words = or_else_assoc (turn_fault s [] w x) _ _
+  turned w x words = or-else-assoc (turn_fault s [] w x) _ _
 
   -- a word that passes
   pub goes : (w next : Walk) (x : Text) (words : List Text) → turn_fault s [] w x ≡ [] → walked s.rules [] w x ≡ next → ending w (x ∷ words) ≡ ending next words
@@ -49,4 +49,4 @@ module _ (s : Shape) where
 
   -- a word that fails
   pub fails : (w : Walk) (x : Text) (words : List Text) (k : ErrorKind) (ks : Kinds) → turn_fault s [] w x ≡ k ∷ ks → ending w (x ∷ words) ≢ []
-  fails w x words k ks e h = no_cons k _ (sym (turned w x words ∙ ap (λ (l : Kinds). or_else l (ending (walked s.rules [] w x) words)) e) ∙ h)
+  fails w x words k ks e h = no-cons k _ (sym (turned w x words ∙ ap (λ (l : Kinds). or_else l (ending (walked s.rules [] w x) words)) e) ∙ h)

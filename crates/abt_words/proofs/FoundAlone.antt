@@ -12,45 +12,45 @@ use Rattle.abt_words.specs.Commands.{Rest, SaysBy, only, rest_of}
 use Rattle.abt_words.specs.Apps.{alone_app}
 use Rattle.abt_words.specs.Asked.{at_most_one}
 use Rattle.abt_words.proofs.Endings.{last}
-use Rattle.abt_words.proofs.Found.{all_texts}
-use Rattle.abt_words.proofs.Names.{by_check, by_flow, by_self}
-use Rattle.abt_words.proofs.OneOrTwo.{Finds, HasFirst, Said, alone_at, alone_fault, alone_matches, alone_next, alone_outcome, alone_top, none, says}
+use Rattle.abt_words.proofs.Found.{all-texts}
+use Rattle.abt_words.proofs.Names.{by-check, by-flow, by-self}
+use Rattle.abt_words.proofs.OneOrTwo.{Finds, HasFirst, Said, alone_at, alone-fault, alone-matches, alone_next, alone-outcome, alone_top, none, says}
 use Rattle.abt_words.proofs.WordsAlone.{Lead, Whole}
 
-some_is : (a b : Text) → ◌≡◌ {A = Option Text} (Some a) (Some b) → a ≡ b
-some_is a b e = cc
+some-is : (a b : Text) → ◌≡◌ {A = Option Text} (Some a) (Some b) → a ≡ b
+some-is a b e = cc
 
-none_is : (a : Text) → ◌≡◌ {A = Option Text} None (Some a) → ⊥
-none_is a e = cc
+none-is : (a : Text) → ◌≡◌ {A = Option Text} None (Some a) → ⊥
+none-is a e = cc
 
 alone : (r : Rest) (ws : List Text) → r.words ≡ ws → r.steps ≡ [] → r.journals ≡ 0 → r.others ≡ 0 → r ≡ only ws
 alone r ws words steps journals others = λ i. record { words = words i; steps = steps i; journals = journals i; others = others i }
 
-not_none : (n : Text) (o : Option Text) → says n o ≡ none → ⊥
-not_none n o e = cc
+not-none : (n : Text) (o : Option Text) → says n o ≡ none → ⊥
+not-none n o e = cc
 
-first_is : (n w : Text) (o p : Option Text) → says n o ≡ says w p → n ≡ w
-first_is n w o p e = cc
+first-is : (n w : Text) (o p : Option Text) → says n o ≡ says w p → n ≡ w
+first-is n w o p e = cc
 
-second_is : (n w : Text) (o p : Option Text) → says n o ≡ says w p → o ≡ p
-second_is n w o p e = cc
+second-is : (n w : Text) (o p : Option Text) → says n o ≡ says w p → o ≡ p
+second-is n w o p e = cc
 
 -- the words of the rest, as they were said
 abbrev Leads : List Text → Said → Type 0
 Leads = Lead alone_top alone_at alone_next HasFirst Finds (Some none)
 
 lead : (ws : List Text) (n : Text) (o : Option Text) → Leads ws (says n o) → ws ≡ n ∷ at_most_one o
-lead [] n o e = absurd (not_none n o e)
-lead (w ∷ []) n o e = sym (ap₂ (λ (t : Text) (p : Option Text). t ∷ at_most_one p) (first_is n w o None e) (second_is n w o None e))
-lead (w ∷ v ∷ []) n o e = sym (ap₂ (λ (t : Text) (p : Option Text). t ∷ at_most_one p) (first_is n w o (Some v) e) (second_is n w o (Some v) e))
+lead [] n o e = absurd (not-none n o e)
+lead (w ∷ []) n o e = sym (ap₂ (λ (t : Text) (p : Option Text). t ∷ at_most_one p) (first-is n w o None e) (second-is n w o None e))
+lead (w ∷ v ∷ []) n o e = sym (ap₂ (λ (t : Text) (p : Option Text). t ∷ at_most_one p) (first-is n w o (Some v) e) (second-is n w o (Some v) e))
 lead (w ∷ v ∷ u ∷ ws) n o e = absurd e
 
 abbrev AreWhole : Rest → Said → Type 0
 AreWhole = Whole alone_top alone_at alone_next HasFirst Finds (Some none)
 
-are_whole : (n : Text) (o : Option Text) → AreWhole (only (n ∷ at_most_one o)) (says n o)
-are_whole n None = (refl, tt, refl, refl, refl)
-are_whole n (Some m) = (refl, tt, refl, refl, refl)
+are-whole : (n : Text) (o : Option Text) → AreWhole (only (n ∷ at_most_one o)) (says n o)
+are-whole n None = (refl, tt, refl, refl, refl)
+are-whole n (Some m) = (refl, tt, refl, refl, refl)
 
 module _ {Z : Type 0} (rest : List (String Z)) (a : App) (is : a ≡ alone_app) where
   abbrev words : List Text
@@ -63,10 +63,10 @@ module _ {Z : Type 0} (rest : List (String Z)) (a : App) (is : a ≡ alone_app) 
   found passes = by got.0 got.1 got.2
     where
       got : (p : Said) × AreWhole (rest_of false words) p × Finds p (last alone_top (alone_at none false) words)
-      got = (alone_outcome words (all_texts rest)).taken (sym (alone_fault words) ∙ ap (λ (x : App). fault_of x words) (sym is) ∙ passes)
+      got = (alone-outcome words (all-texts rest)).taken (sym (alone-fault words) ∙ ap (λ (x : App). fault_of x words) (sym is) ∙ passes)
 
       value : (id : Text) → first_of id (matches_of a words) ≡ first_of id (last alone_top (alone_at none false) words)
-      value id = ap (first_of id) (ap (λ (x : App). matches_of x words) is ∙ alone_matches words)
+      value id = ap (first_of id) (ap (λ (x : App). matches_of x words) is ∙ alone-matches words)
 
       by : (p : Said) → AreWhole (rest_of false words) p → Finds p (last alone_top (alone_at none false) words)
           → (n : Text) × (o : Option Text) × (first_of (codes "first") (matches_of a words) ≡ Some n) × (first_of (codes "second") (matches_of a words) ≡ o)
@@ -81,57 +81,57 @@ module _ {Z : Type 0} (rest : List (String Z)) (a : App) (is : a ≡ alone_app) 
       )
 
   -- the words that `clap` takes
-  pub words_told : (m : ArgMatches) (n : Text) (o : Option Text) → fault_of a words ≡ [] → rows_of (found_of m) ≡ matches_of a words
+  pub words-told : (m : ArgMatches) (n : Text) (o : Option Text) → fault_of a words ≡ [] → rows_of (found_of m) ≡ matches_of a words
       → Some n ≡ first_value (found_of m) (codes "first") → o ≡ first_value (found_of m) (codes "second") → rest_of false words ≡ only (n ∷ at_most_one o)
-  words_told m n o passes finds first second =
+  words-told m n o passes finds first second =
       let got = found passes in
       let value : (id : Text) → first_value (found_of m) id ≡ first_of id (matches_of a words) = λ id. first_value-rows (found_of m) id ∙ ap (first_of id) finds in
-      got.4 ∙ ap₂ (λ (t : Text) (p : Option Text). only (t ∷ at_most_one p)) (sym (some_is n got.0 (first ∙ (value (codes "first") ∙ got.2)))) (sym (second ∙ (value (codes "second") ∙ got.3)))
+      got.4 ∙ ap₂ (λ (t : Text) (p : Option Text). only (t ∷ at_most_one p)) (sym (some-is n got.0 (first ∙ (value (codes "first") ∙ got.2)))) (sym (second ∙ (value (codes "second") ∙ got.3)))
 
   -- words that `clap` refuses, or in which it finds no first, are not one or two alone
-  pub words_refused : (fault_of a words ≡ [] → first_of (codes "first") (matches_of a words) ≡ None) → (n : Text) (o : Option Text) → rest_of false words ≡ only (n ∷ at_most_one o) → ⊥
-  words_refused bad n o says_so =
-      let passes : fault_of a words ≡ [] = ap (λ (x : App). fault_of x words) is ∙ alone_fault words ∙ (alone_outcome words (all_texts rest)).takes (says n o)
-      (subst (λ (r : Rest). AreWhole r (says n o)) (sym says_so) (are_whole n o)) in
+  pub words-refused : (fault_of a words ≡ [] → first_of (codes "first") (matches_of a words) ≡ None) → (n : Text) (o : Option Text) → rest_of false words ≡ only (n ∷ at_most_one o) → ⊥
+  words-refused bad n o says_so =
+      let passes : fault_of a words ≡ [] = ap (λ (x : App). fault_of x words) is ∙ alone-fault words ∙ (alone-outcome words (all-texts rest)).takes (says n o)
+      (subst (λ (r : Rest). AreWhole r (says n o)) (sym says_so) (are-whole n o)) in
       let got = found passes in
-      none_is got.0 (sym (bad passes) ∙ got.2)
+      none-is got.0 (sym (bad passes) ∙ got.2)
 
 -- ---- commands on words alone
 
-head_of : (v w : Text) → ◌≡◌ {A = List Text} (v ∷ []) (w ∷ []) → v ≡ w
-head_of v w e = cc
+head-of : (v w : Text) → ◌≡◌ {A = List Text} (v ∷ []) (w ∷ []) → v ≡ w
+head-of v w e = cc
 
-head_of_two : (v w x y : Text) → ◌≡◌ {A = List Text} (v ∷ w ∷ []) (x ∷ y ∷ []) → v ≡ x
-head_of_two v w x y e = cc
+head-of-two : (v w x y : Text) → ◌≡◌ {A = List Text} (v ∷ w ∷ []) (x ∷ y ∷ []) → v ≡ x
+head-of-two v w x y e = cc
 
-last_of_two : (v w x y : Text) → ◌≡◌ {A = List Text} (v ∷ w ∷ []) (x ∷ y ∷ []) → w ≡ y
-last_of_two v w x y e = cc
+last-of-two : (v w x y : Text) → ◌≡◌ {A = List Text} (v ∷ w ∷ []) (x ∷ y ∷ []) → w ≡ y
+last-of-two v w x y e = cc
 
 -- one word that is no number says nothing
-pub no_number : (r : Rest) (w : Text) → r ≡ only (w ∷ []) → ((n : ℕ) → SaysNumber adder_limit w n → ⊥) → (c : Command) → SaysBy (codes "self") r c → ⊥
-no_number r w is never = by_self r (λ c. ⊥) (λ n says.
-    let same : says.0 ≡ w = head_of says.0 w (ap (λ (x : Rest). x.words) (sym says.1 ∙ is)) in
+pub no-number : (r : Rest) (w : Text) → r ≡ only (w ∷ []) → ((n : ℕ) → SaysNumber adder_limit w n → ⊥) → (c : Command) → SaysBy (codes "self") r c → ⊥
+no-number r w is never = by-self r (λ c. ⊥) (λ n says.
+    let same : says.0 ≡ w = head-of says.0 w (ap (λ (x : Rest). x.words) (sym says.1 ∙ is)) in
     never n (subst (λ (t : Text). SaysNumber adder_limit t n) same says.2))
 
 -- without one word alone no number and no file is said
-pub self_needs_one : (r : Rest) → ((w : Text) → r ≡ only (w ∷ []) → ⊥) → (c : Command) → SaysBy (codes "self") r c → ⊥
-self_needs_one r never = by_self r (λ c. ⊥) (λ n says. never says.0 says.1)
+pub self-needs-one : (r : Rest) → ((w : Text) → r ≡ only (w ∷ []) → ⊥) → (c : Command) → SaysBy (codes "self") r c → ⊥
+self-needs-one r never = by-self r (λ c. ⊥) (λ n says. never says.0 says.1)
 
-pub flow_needs_one : (r : Rest) → ((w : Text) → r ≡ only (w ∷ []) → ⊥) → (c : Command) → SaysBy (codes "flow") r c → ⊥
-flow_needs_one r never = by_flow r (λ c. ⊥) (λ f says. never f says.0)
+pub flow-needs-one : (r : Rest) → ((w : Text) → r ≡ only (w ∷ []) → ⊥) → (c : Command) → SaysBy (codes "flow") r c → ⊥
+flow-needs-one r never = by-flow r (λ c. ⊥) (λ f says. never f says.0)
 
 -- an empty word is no file
-pub no_file : (r : Rest) (w : Text) → r ≡ only (w ∷ []) → w ≡ [] → (c : Command) → SaysBy (codes "flow") r c → ⊥
-no_file r w is empty = by_flow r (λ c. ⊥) (λ f says. says.1 (head_of f w (ap (λ (x : Rest). x.words) (sym says.0 ∙ is)) ∙ empty))
+pub no-file : (r : Rest) (w : Text) → r ≡ only (w ∷ []) → w ≡ [] → (c : Command) → SaysBy (codes "flow") r c → ⊥
+no-file r w is empty = by-flow r (λ c. ⊥) (λ f says. says.1 (head-of f w (ap (λ (x : Rest). x.words) (sym says.0 ∙ is)) ∙ empty))
 
-pub check_needs_two : (r : Rest) → ((v w : Text) → r ≡ only (v ∷ w ∷ []) → ⊥) → (c : Command) → SaysBy (codes "check") r c → ⊥
-check_needs_two r never = by_check r (λ c. ⊥) (λ v w says. never v w says.0)
+pub check-needs-two : (r : Rest) → ((v w : Text) → r ≡ only (v ∷ w ∷ []) → ⊥) → (c : Command) → SaysBy (codes "check") r c → ⊥
+check-needs-two r never = by-check r (λ c. ⊥) (λ v w says. never v w says.0)
 
 -- two words are no files if one is empty, or both are `-`
-pub no_files : (r : Rest) (v w : Text) → r ≡ only (v ∷ w ∷ []) → (v ≢ [] → w ≢ [] → v ≡ codes "-" × w ≡ codes "-") → (c : Command) → SaysBy (codes "check") r c → ⊥
-no_files r v w is bad = by_check r (λ c. ⊥) (λ x y says.
+pub no-files : (r : Rest) (v w : Text) → r ≡ only (v ∷ w ∷ []) → (v ≢ [] → w ≢ [] → v ≡ codes "-" × w ≡ codes "-") → (c : Command) → SaysBy (codes "check") r c → ⊥
+no-files r v w is bad = by-check r (λ c. ⊥) (λ x y says.
     let words : ◌≡◌ {A = List Text} (x ∷ y ∷ []) (v ∷ w ∷ []) = ap (λ (x : Rest). x.words) (sym says.0 ∙ is) in
-    let first : x ≡ v = head_of_two x y v w words in
-    let last : y ≡ w = last_of_two x y v w words in
+    let first : x ≡ v = head-of-two x y v w words in
+    let last : y ≡ w = last-of-two x y v w words in
     let both = bad (λ e. says.1 (first ∙ e)) (λ e. says.2 (last ∙ e)) in
     says.3 (first ∙ both.0) (last ∙ both.1))

@@ -12,26 +12,26 @@ mark (c ∷ cs) = c + 1000 * length cs
 
 module _ (r : Rest) (P : Command → Type 0) where
   -- what says a command by its name says one of that kind
-  pub by_run : ((f : Text) (n : ℕ) (j : Bool) → SaysRun r f n j → P (command.Run f n j)) → (c : Command) → SaysBy (codes "run") r c → P c
-  by_run h (command.Run f n j) says = h f n j says.1
-  by_run h (command.SelfRun n) says = absurd (let e : 2114 ≡ 3115 = ap mark says.0 in omega arith)
-  by_run h (command.Check w j) says = absurd (let e : 2114 ≡ 4099 = ap mark says.0 in omega arith)
-  by_run h (command.Flow f) says = absurd (let e : 2114 ≡ 3102 = ap mark says.0 in omega arith)
+  pub by-run : ((f : Text) (n : ℕ) (j : Bool) → SaysRun r f n j → P (command.Run f n j)) → (c : Command) → SaysBy (codes "run") r c → P c
+  by-run h (command.Run f n j) says = h f n j says.1
+  by-run h (command.SelfRun n) says = absurd (let e : 2114 ≡ 3115 = ap mark says.0 in omega arith)
+  by-run h (command.Check w j) says = absurd (let e : 2114 ≡ 4099 = ap mark says.0 in omega arith)
+  by-run h (command.Flow f) says = absurd (let e : 2114 ≡ 3102 = ap mark says.0 in omega arith)
 
-  pub by_self : ((n : ℕ) → SaysSelf r n → P (command.SelfRun n)) → (c : Command) → SaysBy (codes "self") r c → P c
-  by_self h (command.Run f n j) says = absurd (let e : 3115 ≡ 2114 = ap mark says.0 in omega arith)
-  by_self h (command.SelfRun n) says = h n says.1
-  by_self h (command.Check w j) says = absurd (let e : 3115 ≡ 4099 = ap mark says.0 in omega arith)
-  by_self h (command.Flow f) says = absurd (let e : 3115 ≡ 3102 = ap mark says.0 in omega arith)
+  pub by-self : ((n : ℕ) → SaysSelf r n → P (command.SelfRun n)) → (c : Command) → SaysBy (codes "self") r c → P c
+  by-self h (command.Run f n j) says = absurd (let e : 3115 ≡ 2114 = ap mark says.0 in omega arith)
+  by-self h (command.SelfRun n) says = h n says.1
+  by-self h (command.Check w j) says = absurd (let e : 3115 ≡ 4099 = ap mark says.0 in omega arith)
+  by-self h (command.Flow f) says = absurd (let e : 3115 ≡ 3102 = ap mark says.0 in omega arith)
 
-  pub by_check : ((w j : Text) → SaysFiles r w j → P (command.Check w j)) → (c : Command) → SaysBy (codes "check") r c → P c
-  by_check h (command.Run f n j) says = absurd (let e : 4099 ≡ 2114 = ap mark says.0 in omega arith)
-  by_check h (command.SelfRun n) says = absurd (let e : 4099 ≡ 3115 = ap mark says.0 in omega arith)
-  by_check h (command.Check w j) says = h w j says.1
-  by_check h (command.Flow f) says = absurd (let e : 4099 ≡ 3102 = ap mark says.0 in omega arith)
+  pub by-check : ((w j : Text) → SaysFiles r w j → P (command.Check w j)) → (c : Command) → SaysBy (codes "check") r c → P c
+  by-check h (command.Run f n j) says = absurd (let e : 4099 ≡ 2114 = ap mark says.0 in omega arith)
+  by-check h (command.SelfRun n) says = absurd (let e : 4099 ≡ 3115 = ap mark says.0 in omega arith)
+  by-check h (command.Check w j) says = h w j says.1
+  by-check h (command.Flow f) says = absurd (let e : 4099 ≡ 3102 = ap mark says.0 in omega arith)
 
-  pub by_flow : ((f : Text) → SaysFile r f → P (command.Flow f)) → (c : Command) → SaysBy (codes "flow") r c → P c
-  by_flow h (command.Run f n j) says = absurd (let e : 3102 ≡ 2114 = ap mark says.0 in omega arith)
-  by_flow h (command.SelfRun n) says = absurd (let e : 3102 ≡ 3115 = ap mark says.0 in omega arith)
-  by_flow h (command.Check w j) says = absurd (let e : 3102 ≡ 4099 = ap mark says.0 in omega arith)
-  by_flow h (command.Flow f) says = h f says.1
+  pub by-flow : ((f : Text) → SaysFile r f → P (command.Flow f)) → (c : Command) → SaysBy (codes "flow") r c → P c
+  by-flow h (command.Run f n j) says = absurd (let e : 3102 ≡ 2114 = ap mark says.0 in omega arith)
+  by-flow h (command.SelfRun n) says = absurd (let e : 3102 ≡ 3115 = ap mark says.0 in omega arith)
+  by-flow h (command.Check w j) says = absurd (let e : 3102 ≡ 4099 = ap mark says.0 in omega arith)
+  by-flow h (command.Flow f) says = h f says.1

@@ -13,8 +13,8 @@ use Rattle.abt_machine.specs.Words.{Text}
 use Rattle.abt_words.specs.Commands.{is_option, rest_of}
 use Rattle.abt_words.specs.Apps.{alone_app}
 use Rattle.abt_words.proofs.WordsAlone.{Outcome, Reads, Turns, outcome}
-use Rattle.abt_words.proofs.Endings.{AllTexts, ending, last, no_cons}
-use Rattle.abt_words.proofs.Plain.{plain_fault, plain_met}
+use Rattle.abt_words.proofs.Endings.{AllTexts, ending, last, no-cons}
+use Rattle.abt_words.proofs.Plain.{plain-fault, plain-met}
 use Rattle.abt_words.proofs.Rows.{value_row}
 use Rattle.abt_words.proofs.Turns.{Pending, held, state}
 
@@ -79,16 +79,16 @@ shorts o d ds x e f = simp (e, f) refl
 plainly : (o : Said) (w : Text) → is_option w ≡ false → Turns alone_top alone_at alone_next HasFirst Finds o false w (alone_next o w)
 unfolding walked
 plainly none w e = (
-  past _ _ (plain_fault alone_top _ w e) ∙ ap (λ (m : Held × Step). step_fault alone_top 1 m.0 m.1) (plain_met alone_rules (held [] None) 1 w e),
-  ap (λ (m : Held × Step). after_step alone_rules w (alone_at none false) m.0 m.1) (plain_met alone_rules (held [] None) 1 w e),
+  past _ _ (plain-fault alone_top _ w e) ∙ ap (λ (m : Held × Step). step_fault alone_top 1 m.0 m.1) (plain-met alone_rules (held [] None) 1 w e),
+  ap (λ (m : Held × Step). after_step alone_rules w (alone_at none false) m.0 m.1) (plain-met alone_rules (held [] None) 1 w e),
 )
 plainly (says n None) w e = (
-  past _ _ (plain_fault alone_top _ w e)
-      ∙ ap (λ (m : Held × Step). step_fault alone_top 2 m.0 m.1) (plain_met alone_rules (held [] (Some (codes "first", n ∷ []))) 2 w e),
-  ap (λ (m : Held × Step). after_step alone_rules w (alone_at (says n None) false) m.0 m.1) (plain_met alone_rules (held [] (Some (codes "first", n ∷ []))) 2 w e),
+  past _ _ (plain-fault alone_top _ w e)
+      ∙ ap (λ (m : Held × Step). step_fault alone_top 2 m.0 m.1) (plain-met alone_rules (held [] (Some (codes "first", n ∷ []))) 2 w e),
+  ap (λ (m : Held × Step). after_step alone_rules w (alone_at (says n None) false) m.0 m.1) (plain-met alone_rules (held [] (Some (codes "first", n ∷ []))) 2 w e),
 )
-plainly (says n (Some m)) w e = past _ _ (plain_fault alone_top _ w e)
-    ∙ ap (λ (m : Held × Step). step_fault alone_top 3 m.0 m.1) (plain_met alone_rules (held (value_row (codes "first") n ∷ []) (Some (codes "second", m ∷ []))) 3 w e)
+plainly (says n (Some m)) w e = past _ _ (plain-fault alone_top _ w e)
+    ∙ ap (λ (m : Held × Step). step_fault alone_top 3 m.0 m.1) (plain-met alone_rules (held (value_row (codes "first") n ∷ []) (Some (codes "second", m ∷ []))) 3 w e)
 
 later : (o : Said) (w : Text) → Turns alone_top alone_at alone_next HasFirst Finds o true w (alone_next o w)
 unfolding walked
@@ -98,7 +98,7 @@ later (says n (Some m)) w = refl
 
 end : (o : Said) (t : Bool) → (HasFirst o × (ending alone_top (alone_at o t) [] ≡ []) × Finds o (last alone_top (alone_at o t) [])) ⊎ ((HasFirst o → ⊥) × (ending alone_top (alone_at o t) [] ≢ []))
 unfolding clap_on_literals
-end none t = inr (λ h. h, no_cons MissingRequiredArgument [])
+end none t = inr (λ h. h, no-cons MissingRequiredArgument [])
 end (says n None) t = inl (tt, refl, (refl, refl))
 end (says n (Some m)) t = inl (tt, refl, (refl, refl))
 
@@ -106,11 +106,11 @@ reads : Reads alone_top alone_at alone_next HasFirst Finds
 reads = record { end = end; plainly = plainly; later = later; dashes = dashes; longs = longs; shorts = shorts }
 
 -- what `clap` makes of words that are to stand alone
-pub alone_outcome : (words : List Text) → AllTexts words → Outcome alone_top alone_at alone_next HasFirst Finds (alone_at none false) words (Some none) (rest_of false words)
-alone_outcome words texts = outcome alone_top alone_at alone_next HasFirst Finds reads words texts none
+pub alone-outcome : (words : List Text) → AllTexts words → Outcome alone_top alone_at alone_next HasFirst Finds (alone_at none false) words (Some none) (rest_of false words)
+alone-outcome words texts = outcome alone_top alone_at alone_next HasFirst Finds reads words texts none
 
-pub alone_fault : (words : List Text) → fault_of alone_app words ≡ ending alone_top (alone_at none false) words
-alone_fault words = leaf_fault (built alone_app) nothing_held words refl
+pub alone-fault : (words : List Text) → fault_of alone_app words ≡ ending alone_top (alone_at none false) words
+alone-fault words = leaf_fault (built alone_app) nothing_held words refl
 
-pub alone_matches : (words : List Text) → matches_of alone_app words ≡ last alone_top (alone_at none false) words
-alone_matches words = refl
+pub alone-matches : (words : List Text) → matches_of alone_app words ≡ last alone_top (alone_at none false) words
+alone-matches words = refl

@@ -26,38 +26,38 @@ has_row-some id (r ∷ rs) = by (bytes_eq r.id id) (has_row-some id rs)
     by true e = refl
     by false e = e
 
-pub no_row : (id : Text) (rows : List Row) → row_at id rows ≡ None → has_row id rows ≡ false
-no_row id rows e = has_row-some id rows ∙ ap is_some e
+pub no-row : (id : Text) (rows : List Row) → row_at id rows ≡ None → has_row id rows ≡ false
+no-row id rows e = has_row-some id rows ∙ ap is_some e
 
-pub some_row : (id : Text) (rows : List Row) (r : Row) → row_at id rows ≡ Some r → has_row id rows ≡ true
-some_row id rows r e = has_row-some id rows ∙ ap is_some e
+pub some-row : (id : Text) (rows : List Row) (r : Row) → row_at id rows ≡ Some r → has_row id rows ≡ true
+some-row id rows r e = has_row-some id rows ∙ ap is_some e
 
 abbrev new_row : Text → Reading → ValueSource → List Text → Row
 new_row id how source values = record { id = id; values = values; count = None; source = Some source; reading = how }
 
 module _ (id : Text) where
-  without_none : (rows : List Row) → has_row id rows ≡ false → without id rows ≡ rows
-  without_none [] e = refl
-  without_none (r ∷ rs) e = by (bytes_eq r.id id) (without_none rs) e
+  without-none : (rows : List Row) → has_row id rows ≡ false → without id rows ≡ rows
+  without-none [] e = refl
+  without-none (r ∷ rs) e = by (bytes_eq r.id id) (without-none rs) e
     where
       by : (b : Bool) → (has_row id rs ≡ false → without id rs ≡ rs) → (b || has_row id rs) ≡ false → cond b ([] ++ rs) (r ∷ without id rs) ≡ r ∷ rs
       by true more f = absurd (true≢false f)
       by false more f = ap (λ l. r ∷ l) (more f)
 
-  with_none : (how : Reading) (source : ValueSource) (values : List Text) (rows : List Row) → has_row id rows ≡ false
+  with-none : (how : Reading) (source : ValueSource) (values : List Text) (rows : List Row) → has_row id rows ≡ false
       → with_values id how source values rows ≡ rows ++ new_row id how source values ∷ []
-  with_none how source values [] e = refl
-  with_none how source values (r ∷ rs) e = by (bytes_eq r.id id) (with_none how source values rs) e
+  with-none how source values [] e = refl
+  with-none how source values (r ∷ rs) e = by (bytes_eq r.id id) (with-none how source values rs) e
     where
       by : (b : Bool) → (has_row id rs ≡ false → with_values id how source values rs ≡ rs ++ new_row id how source values ∷ []) → (b || has_row id rs) ≡ false
           → cond b (more_values source values r ++ rs) (r ∷ with_values id how source values rs) ≡ r ∷ (rs ++ new_row id how source values ∷ [])
       by true more f = absurd (true≢false f)
       by false more f = ap (λ l. r ∷ l) (more f)
 
-  pub row_added : (how : Reading) (source : ValueSource) (values : List Text) (rows : List Row) → row_at id rows ≡ None
+  pub row-added : (how : Reading) (source : ValueSource) (values : List Text) (rows : List Row) → row_at id rows ≡ None
       → with_values id how source values (without id rows) ≡ rows ++ new_row id how source values ∷ []
-  row_added how source values rows e =
-      ap (with_values id how source values) (without_none rows (no_row id rows e)) ∙ with_none how source values rows (no_row id rows e)
+  row-added how source values rows e =
+      ap (with_values id how source values) (without-none rows (no-row id rows e)) ∙ with-none how source values rows (no-row id rows e)
 
 -- what a row at the end shows of an id
 row_at-end : (id : Text) (r : Row) (rows : List Row) → row_at id (rows ++ r ∷ []) ≡ cond (is_some (row_at id rows)) (row_at id rows) (row_at id (r ∷ []))
@@ -69,15 +69,15 @@ row_at-end id r (x ∷ xs) = by (bytes_eq x.id id) (row_at-end id r xs)
     by true e = refl
     by false e = e
 
-row_same : (id : Text) (r : Row) (rows : List Row) (o : Option Row) → bytes_eq r.id id ≡ false → row_at id rows ≡ o → row_at id (rows ++ r ∷ []) ≡ o
-row_same id r rows o differs e = row_at-end id r rows ∙ by o e
+row-same : (id : Text) (r : Row) (rows : List Row) (o : Option Row) → bytes_eq r.id id ≡ false → row_at id rows ≡ o → row_at id (rows ++ r ∷ []) ≡ o
+row-same id r rows o differs e = row_at-end id r rows ∙ by o e
   where
     by : (o : Option Row) → row_at id rows ≡ o → cond (is_some (row_at id rows)) (row_at id rows) (row_at id (r ∷ [])) ≡ o
     by None f = simp (f, differs) refl
     by (Some x) f = rw f refl
 
-row_new : (id : Text) (r : Row) (rows : List Row) → bytes_eq r.id id ≡ true → row_at id rows ≡ None → row_at id (rows ++ r ∷ []) ≡ Some r
-row_new id r rows same e = row_at-end id r rows ∙ simp (e, same) refl
+row-new : (id : Text) (r : Row) (rows : List Row) → bytes_eq r.id id ≡ true → row_at id rows ≡ None → row_at id (rows ++ r ∷ []) ≡ Some r
+row-new id r rows same e = row_at-end id r rows ∙ simp (e, same) refl
 
 -- what the words so far have said
 pub record Seen : Type 0 where
@@ -107,69 +107,69 @@ pub record Live (rows : List Row) (q : Pending) (s : Seen) : Type 0 where
   pub shows : Shows (all_rows rows q) s
 
 module _ (rows : List Row) (f v : Option Text) (j : Bool) where
-  with_journal : Shows rows (record { file = f; steps = v; journal = false }) → Shows (rows ++ flag_row ∷ []) (record { file = f; steps = v; journal = true })
-  with_journal h = record {
-    file = row_same (codes "file") flag_row rows _ refl h.file;
-    steps = row_same (codes "steps") flag_row rows _ refl h.steps;
-    journal = row_new (codes "journal") flag_row rows refl h.journal;
+  with-journal : Shows rows (record { file = f; steps = v; journal = false }) → Shows (rows ++ flag_row ∷ []) (record { file = f; steps = v; journal = true })
+  with-journal h = record {
+    file = row-same (codes "file") flag_row rows _ refl h.file;
+    steps = row-same (codes "steps") flag_row rows _ refl h.steps;
+    journal = row-new (codes "journal") flag_row rows refl h.journal;
   }
 
-  with_steps : (w : Text) → Shows rows (record { file = f; steps = None; journal = j })
+  with-steps : (w : Text) → Shows rows (record { file = f; steps = None; journal = j })
       → Shows (rows ++ value_row (codes "steps") w ∷ []) (record { file = f; steps = Some w; journal = j })
-  with_steps w h = record {
-    file = row_same (codes "file") (value_row (codes "steps") w) rows _ refl h.file;
-    steps = row_new (codes "steps") (value_row (codes "steps") w) rows refl h.steps;
-    journal = row_same (codes "journal") (value_row (codes "steps") w) rows _ refl h.journal;
+  with-steps w h = record {
+    file = row-same (codes "file") (value_row (codes "steps") w) rows _ refl h.file;
+    steps = row-new (codes "steps") (value_row (codes "steps") w) rows refl h.steps;
+    journal = row-same (codes "journal") (value_row (codes "steps") w) rows _ refl h.journal;
   }
 
-  with_file : (w : Text) → Shows rows (record { file = None; steps = v; journal = j })
+  with-file : (w : Text) → Shows rows (record { file = None; steps = v; journal = j })
       → Shows (rows ++ value_row (codes "file") w ∷ []) (record { file = Some w; steps = v; journal = j })
-  with_file w h = record {
-    file = row_new (codes "file") (value_row (codes "file") w) rows refl h.file;
-    steps = row_same (codes "steps") (value_row (codes "file") w) rows _ refl h.steps;
-    journal = row_same (codes "journal") (value_row (codes "file") w) rows _ refl h.journal;
+  with-file w h = record {
+    file = row-new (codes "file") (value_row (codes "file") w) rows refl h.file;
+    steps = row-same (codes "steps") (value_row (codes "file") w) rows _ refl h.steps;
+    journal = row-same (codes "journal") (value_row (codes "file") w) rows _ refl h.journal;
   }
 
   -- `--journal`, if there was none
-  pub live_journal : Shows rows (record { file = f; steps = v; journal = false })
+  pub live-journal : Shows rows (record { file = f; steps = v; journal = false })
       → Live (used journal_built [] rows) None (record { file = f; steps = v; journal = true })
-  live_journal h = record {
+  live-journal h = record {
     clean = refl;
     shows = subst (λ (l : List Row). Shows l (record { file = f; steps = v; journal = true }))
-        (sym (row_added (codes "journal") AsWritten CommandLine (codes "true" ∷ []) rows h.journal)) (with_journal h);
+        (sym (row-added (codes "journal") AsWritten CommandLine (codes "true" ∷ []) rows h.journal)) (with-journal h);
   }
 
   -- `--steps=w`, if there was no steps option
-  pub live_value : (w : Text) → Shows rows (record { file = f; steps = None; journal = j })
+  pub live-value : (w : Text) → Shows rows (record { file = f; steps = None; journal = j })
       → Live (used steps_built (w ∷ []) rows) None (record { file = f; steps = Some w; journal = j })
-  live_value w h = record {
+  live-value w h = record {
     clean = refl;
     shows = subst (λ (l : List Row). Shows l (record { file = f; steps = Some w; journal = j }))
-        (sym (row_added (codes "steps") AsWritten CommandLine (w ∷ []) rows h.steps)) (with_steps w h);
+        (sym (row-added (codes "steps") AsWritten CommandLine (w ∷ []) rows h.steps)) (with-steps w h);
   }
 
   -- the value of `--steps`, if there was no steps option
-  pub live_steps : (w : Text) → Shows rows (record { file = f; steps = None; journal = j })
+  pub live-steps : (w : Text) → Shows rows (record { file = f; steps = None; journal = j })
       → Live rows (Some (codes "steps", w ∷ [])) (record { file = f; steps = Some w; journal = j })
-  live_steps w h = record {
-    clean = let none = no_row (codes "steps") rows h.steps in simp none refl;
+  live-steps w h = record {
+    clean = let none = no-row (codes "steps") rows h.steps in simp none refl;
     shows = subst (λ (l : List Row). Shows l (record { file = f; steps = Some w; journal = j }))
-        (sym (row_added (codes "steps") AsWritten CommandLine (w ∷ []) rows h.steps)) (with_steps w h);
+        (sym (row-added (codes "steps") AsWritten CommandLine (w ∷ []) rows h.steps)) (with-steps w h);
   }
 
   -- a file, if there was none
-  pub live_file : (w : Text) → Shows rows (record { file = None; steps = v; journal = j })
+  pub live-file : (w : Text) → Shows rows (record { file = None; steps = v; journal = j })
       → Live rows (Some (codes "file", w ∷ [])) (record { file = Some w; steps = v; journal = j })
-  live_file w h = record {
-    clean = let none = no_row (codes "file") rows h.file in simp none refl;
+  live-file w h = record {
+    clean = let none = no-row (codes "file") rows h.file in simp none refl;
     shows = subst (λ (l : List Row). Shows l (record { file = Some w; steps = v; journal = j }))
-        (sym (row_added (codes "file") AsWritten CommandLine (w ∷ []) rows h.file)) (with_file w h);
+        (sym (row-added (codes "file") AsWritten CommandLine (w ∷ []) rows h.file)) (with-file w h);
   }
 
   -- the value of a second `--steps`
-  pub steps_again : (w old : Text) → Shows rows (record { file = f; steps = Some old; journal = j })
+  pub steps-again : (w old : Text) → Shows rows (record { file = f; steps = Some old; journal = j })
       → pending_fault rows (Some (codes "steps", w ∷ [])) ≡ ArgumentConflict ∷ []
-  steps_again w old h = let one = some_row (codes "steps") rows _ h.steps in simp one refl
+  steps-again w old h = let one = some-row (codes "steps") rows _ h.steps in simp one refl
 
 -- ---- the end of the words
 
@@ -191,71 +191,71 @@ pub record Ends (last : List Row) (s : Seen) : Type 0 where
   pub steps : first_of (codes "steps") last ≡ s.steps
   pub journal : one_of (codes "journal") last ≡ Some (flag_text s.journal)
 
-first_is : (id : Text) (rows : List Row) (o : Option Text) → row_at id rows ≡ value_at id o → first_of id rows ≡ o
-first_is id rows None e = rw e refl
-first_is id rows (Some v) e = rw e refl
+first-is : (id : Text) (rows : List Row) (o : Option Text) → row_at id rows ≡ value_at id o → first_of id rows ≡ o
+first-is id rows None e = rw e refl
+first-is id rows (Some v) e = rw e refl
 
 module _ (rows : List Row) (f v : Option Text) (j : Bool) (h : Shows rows (record { file = f; steps = v; journal = j })) where
-  last_file : (b : Bool) → row_at (codes "file") (last_rows rows b) ≡ value_at (codes "file") f
-  last_file true = h.file
-  last_file false = row_same (codes "file") default_row rows _ refl h.file
+  last-file : (b : Bool) → row_at (codes "file") (last_rows rows b) ≡ value_at (codes "file") f
+  last-file true = h.file
+  last-file false = row-same (codes "file") default_row rows _ refl h.file
 
-  last_steps : (b : Bool) → row_at (codes "steps") (last_rows rows b) ≡ value_at (codes "steps") v
-  last_steps true = h.steps
-  last_steps false = row_same (codes "steps") default_row rows _ refl h.steps
+  last-steps : (b : Bool) → row_at (codes "steps") (last_rows rows b) ≡ value_at (codes "steps") v
+  last-steps true = h.steps
+  last-steps false = row-same (codes "steps") default_row rows _ refl h.steps
 
-last_journal : (rows : List Row) (f v : Option Text) (j : Bool) → Shows rows (record { file = f; steps = v; journal = j })
+last-journal : (rows : List Row) (f v : Option Text) (j : Bool) → Shows rows (record { file = f; steps = v; journal = j })
     → one_of (codes "journal") (last_rows rows j) ≡ Some (flag_text j)
-last_journal rows f v true h = let e = h.journal in rw e refl
-last_journal rows f v false h = let e = row_new (codes "journal") default_row rows refl h.journal in rw e refl
+last-journal rows f v true h = let e = h.journal in rw e refl
+last-journal rows f v false h = let e = row-new (codes "journal") default_row rows refl h.journal in rw e refl
 
-pub last_ends : (rows : List Row) (f v : Option Text) (j : Bool) → Shows rows (record { file = f; steps = v; journal = j })
+pub last-ends : (rows : List Row) (f v : Option Text) (j : Bool) → Shows rows (record { file = f; steps = v; journal = j })
     → Ends (last_rows rows j) (record { file = f; steps = v; journal = j })
-last_ends rows f v j h = record {
-  file = first_is (codes "file") (last_rows rows j) f (last_file rows f v j h j);
-  steps = first_is (codes "steps") (last_rows rows j) v (last_steps rows f v j h j);
-  journal = last_journal rows f v j h;
+last-ends rows f v j h = record {
+  file = first-is (codes "file") (last_rows rows j) f (last-file rows f v j h j);
+  steps = first-is (codes "steps") (last_rows rows j) v (last-steps rows f v j h j);
+  journal = last-journal rows f v j h;
 }
 
-same_rows : (b : Bool) (rows : List Row) → cond b rows rows ≡ rows
-same_rows true rows = refl
-same_rows false rows = refl
+same-rows : (b : Bool) (rows : List Row) → cond b rows rows ≡ rows
+same-rows true rows = refl
+same-rows false rows = refl
 
 -- only the flag has a default
-pub last_is : (rows : List Row) (f v : Option Text) (j : Bool) → Shows rows (record { file = f; steps = v; journal = j })
+pub last-is : (rows : List Row) (f v : Option Text) (j : Bool) → Shows rows (record { file = f; steps = v; journal = j })
     → finished run_rules (held rows None) ≡ last_rows rows j
-last_is rows f v j h = ap (λ (l : List Row). with_default (with_default l steps_built) journal_built) (same_rows (has_row (codes "file") rows) rows)
-    ∙ ap (λ (l : List Row). with_default l journal_built) (same_rows (has_row (codes "steps") rows) rows) ∙ by j h
+last-is rows f v j h = ap (λ (l : List Row). with_default (with_default l steps_built) journal_built) (same-rows (has_row (codes "file") rows) rows)
+    ∙ ap (λ (l : List Row). with_default l journal_built) (same-rows (has_row (codes "steps") rows) rows) ∙ by j h
   where
     by : (j : Bool) → Shows rows (record { file = f; steps = v; journal = j }) → with_default rows journal_built ≡ last_rows rows j
-    by true h = let e = some_row (codes "journal") rows _ h.journal in rw e refl
-    by false h = let e = no_row (codes "journal") rows h.journal in rw e (with_none (codes "journal") AsWritten DefaultValue (codes "false" ∷ []) rows e)
+    by true h = let e = some-row (codes "journal") rows _ h.journal in rw e refl
+    by false h = let e = no-row (codes "journal") rows h.journal in rw e (with-none (codes "journal") AsWritten DefaultValue (codes "false" ∷ []) rows e)
 
 or-true : (b : Bool) → (b || true) ≡ true
 or-true true = refl
 or-true false = refl
 
-no_fault : (rows : List Row) (a : Rule) → is_empty a.defaults ≡ true → default_fault rows a ≡ []
-no_fault rows a e = rw (e, or-true (has_row a.id rows)) refl
+no-fault : (rows : List Row) (a : Rule) → is_empty a.defaults ≡ true → default_fault rows a ≡ []
+no-fault rows a e = rw (e, or-true (has_row a.id rows)) refl
 
-flag_fault : (rows : List Row) → default_fault rows journal_built ≡ []
-flag_fault rows = by (has_row (codes "journal") rows)
+flag-fault : (rows : List Row) → default_fault rows journal_built ≡ []
+flag-fault rows = by (has_row (codes "journal") rows)
   where
     by : (b : Bool) → ◌≡◌ {A = Kinds} (cond (b || false) [] []) []
     by true = refl
     by false = refl
 
-pub no_default_fault : (rows : List Row) → defaults_fault rows run_rules ≡ []
+pub no-default-fault : (rows : List Row) → defaults_fault rows run_rules ≡ []
 unfolding defaults_fault
-no_default_fault rows = past _ _ (no_fault rows file_built refl) ∙ past _ _ (no_fault (with_default rows file_built) steps_built refl)
-    ∙ past _ _ (flag_fault (with_default (with_default rows file_built) steps_built))
+no-default-fault rows = past _ _ (no-fault rows file_built refl) ∙ past _ _ (no-fault (with_default rows file_built) steps_built refl)
+    ∙ past _ _ (flag-fault (with_default (with_default rows file_built) steps_built))
 
 -- a file has to be there
 abbrev pub missing : Option Text → Kinds
 missing None = MissingRequiredArgument ∷ []
 missing (Some f) = []
 
-pub check_is : (rows : List Row) (f v : Option Text) (j : Bool) → Shows rows (record { file = f; steps = v; journal = j })
+pub check-is : (rows : List Row) (f v : Option Text) (j : Bool) → Shows rows (record { file = f; steps = v; journal = j })
     → check_fault run_top (last_rows rows j) false ≡ missing f
-check_is rows None v j h = let e = last_file rows None v j h j in simp e refl
-check_is rows (Some w) v j h = let e = last_file rows (Some w) v j h j in simp e refl
+check-is rows None v j h = let e = last-file rows None v j h j in simp e refl
+check-is rows (Some w) v j h = let e = last-file rows (Some w) v j h j in simp e refl

@@ -39,8 +39,8 @@ unfolding encode_utf8
 encode-alone = refl
 
 -- what follows the hyphen of a text has a first character
-pub first_char : (d : ℕ) (ds : Text) → IsUtf8 (45 ∷ d ∷ ds) → (x : ℕ) × (slice_get (chars (d ∷ ds)) 0 ≡ Some x)
-first_char d ds utf8 = go (chars (d ∷ ds)) refl
+pub first-char : (d : ℕ) (ds : Text) → IsUtf8 (45 ∷ d ∷ ds) → (x : ℕ) × (slice_get (chars (d ∷ ds)) 0 ≡ Some x)
+first-char d ds utf8 = go (chars (d ∷ ds)) refl
   where
     all : chars (45 ∷ d ∷ ds) ≡ 45 ∷ chars (d ∷ ds)
     all = chars_past_char (45 ∷ d ∷ ds) (d ∷ ds) 45 utf8 (ap (λ l. l ++ (d ∷ ds)) (sym encode-minus))
@@ -51,8 +51,8 @@ first_char d ds utf8 = go (chars (d ∷ ds)) refl
         let short : 45 ∷ [] ≡ 45 ∷ d ∷ ds = sym encode-alone ∙ sym (ap encode_utf8_all (all ∙ ap (λ l. 45 ∷ l) e)) ∙ encodes-chars (45 ∷ d ∷ ds) utf8 in
         absurd (omega (arith, ap length short))
 
-nat_is : (n : ℕ) → (n == 45) ≡ true → n ≡ 45
-nat_is n e = grind (arith, nat_tests)
+nat-is : (n : ℕ) → (n == 45) ≡ true → n ≡ 45
+nat-is n e = grind (arith, nat_tests)
 
 -- how a word is spelt
 pub data Spelling (w : Text) : Type 0 where
@@ -66,8 +66,8 @@ pub data Spelling (w : Text) : Type 0 where
   short : (d : ℕ) (ds : Text) (x : ℕ) → w ≡ 45 ∷ d ∷ ds → (d == 45) ≡ false → slice_get (chars (d ∷ ds)) 0 ≡ Some x → Spelling w
   plain : is_option w ≡ false → Spelling w
 
-by_name : (c : ℕ) (cs : Text) → Cut (c ∷ cs) → Spelling (45 ∷ 45 ∷ c ∷ cs)
-by_name c cs (whole h) = at (bytes_eq (codes "steps") (c ∷ cs)) (bytes_eq (codes "journal") (c ∷ cs)) refl refl
+by-name : (c : ℕ) (cs : Text) → Cut (c ∷ cs) → Spelling (45 ∷ 45 ∷ c ∷ cs)
+by-name c cs (whole h) = at (bytes_eq (codes "steps") (c ∷ cs)) (bytes_eq (codes "journal") (c ∷ cs)) refl refl
   where
     name : (name_and_value (c ∷ cs)).0 ≡ c ∷ cs
     name = ap (λ p. p.0) (name_and_value-without (c ∷ cs) h)
@@ -76,7 +76,7 @@ by_name c cs (whole h) = at (bytes_eq (codes "steps") (c ∷ cs)) (bytes_eq (cod
     at true b e f = steps (ap (λ l. 45 ∷ 45 ∷ l) (sym ((bytes_eq-Decides (codes "steps") (c ∷ cs)).0 e)))
     at false true e f = journal (ap (λ l. 45 ∷ 45 ∷ l) (sym ((bytes_eq-Decides (codes "journal") (c ∷ cs)).0 f)))
     at false false e f = long c cs refl (ap (bytes_eq (codes "steps")) name ∙ e) (ap (bytes_eq (codes "journal")) name ∙ f)
-by_name c cs (parts first value is h) = at (bytes_eq (codes "steps") first) (bytes_eq (codes "journal") first) refl refl
+by-name c cs (parts first value is h) = at (bytes_eq (codes "steps") first) (bytes_eq (codes "journal") first) refl refl
   where
     name : (name_and_value (c ∷ cs)).0 ≡ first
     name = ap (λ l. (name_and_value l).0) is ∙ ap (λ p. p.0) (name_and_value-at first value h)
@@ -88,7 +88,7 @@ by_name c cs (parts first value is h) = at (bytes_eq (codes "steps") first) (byt
 
 two : (ds : Text) → Spelling (45 ∷ 45 ∷ ds)
 two [] = ends refl
-two (c ∷ cs) = by_name c cs (cut (c ∷ cs))
+two (c ∷ cs) = by-name c cs (cut (c ∷ cs))
 
 -- every word is spelt in one of these ways
 pub spelling : (w : Text) → IsUtf8 w → Spelling w
@@ -97,50 +97,50 @@ spelling (c ∷ []) utf8 = plain refl
 spelling (c ∷ d ∷ ds) utf8 = first (c == 45) refl
   where
     after : (b : Bool) → (d == 45) ≡ b → c ≡ 45 → Spelling (c ∷ d ∷ ds)
-    after false e is = short d ds (first_char d ds (subst (λ (n : ℕ). IsUtf8 (n ∷ d ∷ ds)) is utf8)).0 (ap (λ n. n ∷ d ∷ ds) is) e
-        (first_char d ds (subst (λ (n : ℕ). IsUtf8 (n ∷ d ∷ ds)) is utf8)).1
-    after true e is = subst (λ (l : Text). Spelling l) (λ i. sym is i ∷ sym (nat_is d e) i ∷ ds) (two ds)
+    after false e is = short d ds (first-char d ds (subst (λ (n : ℕ). IsUtf8 (n ∷ d ∷ ds)) is utf8)).0 (ap (λ n. n ∷ d ∷ ds) is) e
+        (first-char d ds (subst (λ (n : ℕ). IsUtf8 (n ∷ d ∷ ds)) is utf8)).1
+    after true e is = subst (λ (l : Text). Spelling l) (λ i. sym is i ∷ sym (nat-is d e) i ∷ ds) (two ds)
 
     first : (b : Bool) → (c == 45) ≡ b → Spelling (c ∷ d ∷ ds)
-    first true e = after (d == 45) refl (nat_is c e)
+    first true e = after (d == 45) refl (nat-is c e)
     first false e = plain e
 
 -- ---- what the definition makes of them
 
-no_text : (a b : Text) → (a ≡ b → ⊥) → bytes_eq a b ≡ false
-no_text a b h = by (bytes_eq a b) refl
+no-text : (a b : Text) → (a ≡ b → ⊥) → bytes_eq a b ≡ false
+no-text a b h = by (bytes_eq a b) refl
   where
     by : (t : Bool) → bytes_eq a b ≡ t → t ≡ false
     by true e = absurd (h ((bytes_eq-Decides a b).0 e))
     by false e = refl
 
 module _ (ws : List Text) where
-  pub rest_plain : (w : Text) → is_option w ≡ false → rest_of false (w ∷ ws) ≡ and_word w (rest_of false ws)
-  rest_plain [] e = refl
-  rest_plain (c ∷ []) e = by (c == 45) refl
+  pub rest-plain : (w : Text) → is_option w ≡ false → rest_of false (w ∷ ws) ≡ and_word w (rest_of false ws)
+  rest-plain [] e = refl
+  rest-plain (c ∷ []) e = by (c == 45) refl
     where
       by : (b : Bool) → (c == 45) ≡ b → rest_of false ((c ∷ []) ∷ ws) ≡ and_word (c ∷ []) (rest_of false ws)
       by true f = simp f refl
       by false f = simp f refl
-  rest_plain (c ∷ d ∷ ds) e = simp e refl
+  rest-plain (c ∷ d ∷ ds) e = simp e refl
 
-  pub rest_short : (d : ℕ) (ds : Text) → (d == 45) ≡ false → rest_of false ((45 ∷ d ∷ ds) ∷ ws) ≡ and_other (rest_of false ws)
-  rest_short d ds e = simp e refl
+  pub rest-short : (d : ℕ) (ds : Text) → (d == 45) ≡ false → rest_of false ((45 ∷ d ∷ ds) ∷ ws) ≡ and_other (rest_of false ws)
+  rest-short d ds e = simp e refl
 
-  pub rest_long : (c : ℕ) (cs : Text) → bytes_eq (codes "steps") (name_and_value (c ∷ cs)).0 ≡ false → bytes_eq (codes "journal") (name_and_value (c ∷ cs)).0 ≡ false
+  pub rest-long : (c : ℕ) (cs : Text) → bytes_eq (codes "steps") (name_and_value (c ∷ cs)).0 ≡ false → bytes_eq (codes "journal") (name_and_value (c ∷ cs)).0 ≡ false
       → rest_of false ((45 ∷ 45 ∷ c ∷ cs) ∷ ws) ≡ and_other (rest_of false ws)
-  rest_long c cs e f = simp (journal_no, steps_no, value_no) refl
+  rest-long c cs e f = simp (journal-no, steps-no, value-no) refl
     where
       named : (name l : Text) → c ∷ cs ≡ l → bytes_eq name (name_and_value (c ∷ cs)).0 ≡ false → bytes_eq name (name_and_value l).0 ≡ true → ⊥
       named name l is differs same = true≢false (sym (ap (λ (t : Text). bytes_eq name (name_and_value t).0) is ∙ same) ∙ differs)
 
-      journal_no : bytes_eq (c ∷ cs) (codes "journal") ≡ false
-      journal_no = no_text (c ∷ cs) (codes "journal") (λ is. named (codes "journal") (codes "journal") is f refl)
+      journal-no : bytes_eq (c ∷ cs) (codes "journal") ≡ false
+      journal-no = no-text (c ∷ cs) (codes "journal") (λ is. named (codes "journal") (codes "journal") is f refl)
 
-      steps_no : bytes_eq (c ∷ cs) (codes "steps") ≡ false
-      steps_no = no_text (c ∷ cs) (codes "steps") (λ is. named (codes "steps") (codes "steps") is e refl)
+      steps-no : bytes_eq (c ∷ cs) (codes "steps") ≡ false
+      steps-no = no-text (c ∷ cs) (codes "steps") (λ is. named (codes "steps") (codes "steps") is e refl)
 
-      value_no : bytes_eq (take 6 (c ∷ cs)) (codes "steps=") ≡ false
-      value_no = no_text (take 6 (c ∷ cs)) (codes "steps=") (λ is.
+      value-no : bytes_eq (take 6 (c ∷ cs)) (codes "steps=") ≡ false
+      value-no = no-text (take 6 (c ∷ cs)) (codes "steps=") (λ is.
           let whole : c ∷ cs ≡ codes "steps=" ++ drop 6 (c ∷ cs) = sym (take-append-drop 6 (c ∷ cs)) ∙ ap (λ l. l ++ drop 6 (c ∷ cs)) is in
           named (codes "steps") _ whole e refl)

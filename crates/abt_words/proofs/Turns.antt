@@ -66,129 +66,129 @@ and-false true = refl
 and-false false = refl
 
 module _ (rows : List Row) (q : Pending) (p : ℕ) where
-  pub ends_turn : (due : Bool) → (turn_fault run_top [] (state rows q due p false) (codes "--") ≡ [])
+  pub ends-turn : (due : Bool) → (turn_fault run_top [] (state rows q due p false) (codes "--") ≡ [])
       × (walked run_rules [] (state rows q due p false) (codes "--") ≡ state rows q due p true)
   unfolding clap_on_literals
-  ends_turn true = (refl, refl)
-  ends_turn false = (refl, refl)
+  ends-turn true = (refl, refl)
+  ends-turn false = (refl, refl)
 
-  pub journal_fault : (due : Bool) (k : ErrorKind) (ks : Kinds) → pending_fault rows q ≡ k ∷ ks → turn_fault run_top [] (state rows q due p false) (codes "--journal") ≡ k ∷ ks
+  pub journal-fault : (due : Bool) (k : ErrorKind) (ks : Kinds) → pending_fault rows q ≡ k ∷ ks → turn_fault run_top [] (state rows q due p false) (codes "--journal") ≡ k ∷ ks
   unfolding clap_on_literals
-  journal_fault true k ks e = rw e refl
-  journal_fault false k ks e = rw e refl
+  journal-fault true k ks e = rw e refl
+  journal-fault false k ks e = rw e refl
 
-  pub journal_twice : pending_fault rows q ≡ [] → has_row (codes "journal") (all_rows rows q) ≡ true
+  pub journal-twice : pending_fault rows q ≡ [] → has_row (codes "journal") (all_rows rows q) ≡ true
       → turn_fault run_top [] (state rows q false p false) (codes "--journal") ≡ ArgumentConflict ∷ []
   unfolding clap_on_literals
-  journal_twice e f = simp (e, f) refl
+  journal-twice e f = simp (e, f) refl
 
-  pub journal_turn : pending_fault rows q ≡ [] → has_row (codes "journal") (all_rows rows q) ≡ false
+  pub journal-turn : pending_fault rows q ≡ [] → has_row (codes "journal") (all_rows rows q) ≡ false
       → turn_fault run_top [] (state rows q false p false) (codes "--journal") ≡ []
   unfolding clap_on_literals
-  journal_turn e f = simp (e, f) refl
+  journal-turn e f = simp (e, f) refl
 
-  pub journal_walked : walked run_rules [] (state rows q false p false) (codes "--journal") ≡ state (used journal_built [] (all_rows rows q)) None false p false
+  pub journal-walked : walked run_rules [] (state rows q false p false) (codes "--journal") ≡ state (used journal_built [] (all_rows rows q)) None false p false
   unfolding clap_on_literals
-  journal_walked = refl
+  journal-walked = refl
 
-  pub steps_fault : (due : Bool) (k : ErrorKind) (ks : Kinds) → pending_fault rows q ≡ k ∷ ks → turn_fault run_top [] (state rows q due p false) (codes "--steps") ≡ k ∷ ks
+  pub steps-fault : (due : Bool) (k : ErrorKind) (ks : Kinds) → pending_fault rows q ≡ k ∷ ks → turn_fault run_top [] (state rows q due p false) (codes "--steps") ≡ k ∷ ks
   unfolding clap_on_literals
-  steps_fault true k ks e = rw e refl
-  steps_fault false k ks e = rw e refl
+  steps-fault true k ks e = rw e refl
+  steps-fault false k ks e = rw e refl
 
-  pub steps_turn : pending_fault rows q ≡ [] → turn_fault run_top [] (state rows q false p false) (codes "--steps") ≡ []
+  pub steps-turn : pending_fault rows q ≡ [] → turn_fault run_top [] (state rows q false p false) (codes "--steps") ≡ []
   unfolding clap_on_literals
-  steps_turn e = rw e refl
+  steps-turn e = rw e refl
 
-  pub steps_walked : walked run_rules [] (state rows q false p false) (codes "--steps") ≡ state (all_rows rows q) (Some (codes "steps", [])) true p false
+  pub steps-walked : walked run_rules [] (state rows q false p false) (codes "--steps") ≡ state (all_rows rows q) (Some (codes "steps", [])) true p false
   unfolding clap_on_literals
-  steps_walked = refl
+  steps-walked = refl
 
-  pub value_fault : (due : Bool) (v : Text) (k : ErrorKind) (ks : Kinds) → pending_fault rows q ≡ k ∷ ks
+  pub value-fault : (due : Bool) (v : Text) (k : ErrorKind) (ks : Kinds) → pending_fault rows q ≡ k ∷ ks
       → turn_fault run_top [] (state rows q due p false) (codes "--steps=" ++ v) ≡ k ∷ ks
   unfolding clap_on_literals
-  value_fault true v k ks e = rw e refl
-  value_fault false v k ks e = rw e refl
+  value-fault true v k ks e = rw e refl
+  value-fault false v k ks e = rw e refl
 
-  pub value_twice : (v : Text) → pending_fault rows q ≡ [] → has_row (codes "steps") (all_rows rows q) ≡ true
+  pub value-twice : (v : Text) → pending_fault rows q ≡ [] → has_row (codes "steps") (all_rows rows q) ≡ true
       → turn_fault run_top [] (state rows q false p false) (codes "--steps=" ++ v) ≡ ArgumentConflict ∷ []
   unfolding clap_on_literals
-  value_twice v e f = simp (e, f) refl
+  value-twice v e f = simp (e, f) refl
 
-  pub value_turn : (v : Text) → pending_fault rows q ≡ [] → has_row (codes "steps") (all_rows rows q) ≡ false
+  pub value-turn : (v : Text) → pending_fault rows q ≡ [] → has_row (codes "steps") (all_rows rows q) ≡ false
       → turn_fault run_top [] (state rows q false p false) (codes "--steps=" ++ v) ≡ []
   unfolding clap_on_literals
-  value_turn v e f = simp (e, f) refl
+  value-turn v e f = simp (e, f) refl
 
-  pub value_walked : (v : Text) → walked run_rules [] (state rows q false p false) (codes "--steps=" ++ v)
+  pub value-walked : (v : Text) → walked run_rules [] (state rows q false p false) (codes "--steps=" ++ v)
       ≡ state (used steps_built (v ∷ []) (all_rows rows q)) None false p false
   unfolding clap_on_literals
-  value_walked v = refl
+  value-walked v = refl
 
-  pub journal_value_fault : (due : Bool) (v : Text) → turn_fault run_top [] (state rows q due p false) (codes "--journal=" ++ v) ≡ TooManyValues ∷ []
+  pub journal-value-fault : (due : Bool) (v : Text) → turn_fault run_top [] (state rows q due p false) (codes "--journal=" ++ v) ≡ TooManyValues ∷ []
   unfolding clap_on_literals
-  journal_value_fault true v = refl
-  journal_value_fault false v = refl
+  journal-value-fault true v = refl
+  journal-value-fault false v = refl
 
-  pub long_unknown : (due : Bool) (c : ℕ) (cs : Text) → bytes_eq (codes "steps") (name_and_value (c ∷ cs)).0 ≡ false
+  pub long-unknown : (due : Bool) (c : ℕ) (cs : Text) → bytes_eq (codes "steps") (name_and_value (c ∷ cs)).0 ≡ false
       → bytes_eq (codes "journal") (name_and_value (c ∷ cs)).0 ≡ false
       → turn_fault run_top [] (state rows q due p false) (45 ∷ 45 ∷ c ∷ cs) ≡ UnknownArgument ∷ []
   unfolding clap_on_literals
-  long_unknown true c cs e f = simp (e, f) refl
-  long_unknown false c cs e f = simp (e, f) refl
+  long-unknown true c cs e f = simp (e, f) refl
+  long-unknown false c cs e f = simp (e, f) refl
 
-  pub short_unknown : (due : Bool) (d : ℕ) (ds : Text) (x : ℕ) → (d == 45) ≡ false → slice_get (chars (d ∷ ds)) 0 ≡ Some x
+  pub short-unknown : (due : Bool) (d : ℕ) (ds : Text) (x : ℕ) → (d == 45) ≡ false → slice_get (chars (d ∷ ds)) 0 ≡ Some x
       → turn_fault run_top [] (state rows q due p false) (45 ∷ d ∷ ds) ≡ UnknownArgument ∷ []
   unfolding walked bundle_met flags_fault walk_fault defaults_fault
-  short_unknown true d ds x e f = simp (e, f) refl
-  short_unknown false d ds x e f = simp (e, f) refl
+  short-unknown true d ds x e f = simp (e, f) refl
+  short-unknown false d ds x e f = simp (e, f) refl
 
 -- a word that is no option, and the words after `--`
 module _ (rows : List Row) (q : Pending) where
-  plain_fault : (due : Bool) (p : ℕ) (w : Text) → is_option w ≡ false → word_fault run_top [] false (waits due) w (held rows q) ≡ []
+  plain-fault : (due : Bool) (p : ℕ) (w : Text) → is_option w ≡ false → word_fault run_top [] false (waits due) w (held rows q) ≡ []
   unfolding clap_on_literals
-  plain_fault true p [] e = refl
-  plain_fault false p [] e = refl
-  plain_fault true p (c ∷ []) e = by (c == 45) refl
+  plain-fault true p [] e = refl
+  plain-fault false p [] e = refl
+  plain-fault true p (c ∷ []) e = by (c == 45) refl
     where
       by : (b : Bool) → (c == 45) ≡ b → word_fault run_top [] false (waits true) (c ∷ []) (held rows q) ≡ []
       by true f = simp f refl
       by false f = simp f refl
-  plain_fault false p (c ∷ []) e = by (c == 45) refl
+  plain-fault false p (c ∷ []) e = by (c == 45) refl
     where
       by : (b : Bool) → (c == 45) ≡ b → word_fault run_top [] false (waits false) (c ∷ []) (held rows q) ≡ []
       by true f = simp f refl
       by false f = simp f refl
-  plain_fault true p (c ∷ d ∷ ds) e = simp e refl
-  plain_fault false p (c ∷ d ∷ ds) e = simp e refl
+  plain-fault true p (c ∷ d ∷ ds) e = simp e refl
+  plain-fault false p (c ∷ d ∷ ds) e = simp e refl
 
-  plain_met : (p : ℕ) (w : Text) → is_option w ≡ false → word_met run_rules [] false idle p w (held rows q) ≡ (held rows q, value)
+  plain-met : (p : ℕ) (w : Text) → is_option w ≡ false → word_met run_rules [] false idle p w (held rows q) ≡ (held rows q, value)
   unfolding clap_on_literals
-  plain_met p [] e = refl
-  plain_met p (c ∷ []) e = by (c == 45) refl
+  plain-met p [] e = refl
+  plain-met p (c ∷ []) e = by (c == 45) refl
     where
       by : (b : Bool) → (c == 45) ≡ b → word_met run_rules [] false idle p (c ∷ []) (held rows q) ≡ (held rows q, value)
       by true f = simp f refl
       by false f = simp f refl
-  plain_met p (c ∷ d ∷ ds) e = simp e refl
+  plain-met p (c ∷ d ∷ ds) e = simp e refl
 
   -- the word is a value if it is no option, and also if `--` stood before it
-  first_file : (t : Bool) (w : Text) → word_fault run_top [] t idle w (held rows q) ≡ [] → word_met run_rules [] t idle 1 w (held rows q) ≡ (held rows q, value)
+  first-file : (t : Bool) (w : Text) → word_fault run_top [] t idle w (held rows q) ≡ [] → word_met run_rules [] t idle 1 w (held rows q) ≡ (held rows q, value)
       → turn_fault run_top [] (state rows q false 1 t) w ≡ pending_fault rows q
-  first_file t w e f = past _ _ e ∙ ap (λ (m : Held × Step). step_fault run_top 1 m.0 m.1) f ∙ by (is_file q)
+  first-file t w e f = past _ _ e ∙ ap (λ (m : Held × Step). step_fault run_top 1 m.0 m.1) f ∙ by (is_file q)
     where
       by : (b : Bool) → cond (b && false) [] (pending_fault rows q) ≡ pending_fault rows q
       by true = refl
       by false = refl
 
-  second_file : (t : Bool) (w : Text) → word_fault run_top [] t idle w (held rows q) ≡ [] → word_met run_rules [] t idle 2 w (held rows q) ≡ (held rows q, value)
+  second-file : (t : Bool) (w : Text) → word_fault run_top [] t idle w (held rows q) ≡ [] → word_met run_rules [] t idle 2 w (held rows q) ≡ (held rows q, value)
       → turn_fault run_top [] (state rows q false 2 t) w ≡ UnknownArgument ∷ []
-  second_file t w e f = past _ _ e ∙ ap (λ (m : Held × Step). step_fault run_top 2 m.0 m.1) f
+  second-file t w e f = past _ _ e ∙ ap (λ (m : Held × Step). step_fault run_top 2 m.0 m.1) f
 
-  first_walked : (t : Bool) (w : Text) → word_met run_rules [] t idle 1 w (held rows q) ≡ (held rows q, value)
+  first-walked : (t : Bool) (w : Text) → word_met run_rules [] t idle 1 w (held rows q) ≡ (held rows q, value)
       → walked run_rules [] (state rows q false 1 t) w ≡ state (all_rows rows q) (Some (codes "file", w ∷ [])) false 2 t
   unfolding walked
-  first_walked t w f = ap (λ (m : Held × Step). after_step run_rules w (state rows q false 1 t) m.0 m.1) f ∙ by (is_file q)
+  first-walked t w f = ap (λ (m : Held × Step). after_step run_rules w (state rows q false 1 t) m.0 m.1) f ∙ by (is_file q)
     where
       by : (b : Bool) → ◌≡◌ {A = Walk} (record {
         held = pushed (codes "file") w (cond (b && false) (held rows q) (settled run_rules (held rows q)));
@@ -202,52 +202,52 @@ module _ (rows : List Row) (q : Pending) where
 
 -- the words of the two kinds that are values: those that are no option, and those after `--`
 module _ (rows : List Row) (q : Pending) (w : Text) (e : is_option w ≡ false) where
-  pub plain_first : turn_fault run_top [] (state rows q false 1 false) w ≡ pending_fault rows q
-  plain_first = first_file rows q false w (plain_fault rows q false 1 w e) (plain_met rows q 1 w e)
+  pub plain-first : turn_fault run_top [] (state rows q false 1 false) w ≡ pending_fault rows q
+  plain-first = first-file rows q false w (plain-fault rows q false 1 w e) (plain-met rows q 1 w e)
 
-  pub plain_second : turn_fault run_top [] (state rows q false 2 false) w ≡ UnknownArgument ∷ []
-  plain_second = second_file rows q false w (plain_fault rows q false 2 w e) (plain_met rows q 2 w e)
+  pub plain-second : turn_fault run_top [] (state rows q false 2 false) w ≡ UnknownArgument ∷ []
+  plain-second = second-file rows q false w (plain-fault rows q false 2 w e) (plain-met rows q 2 w e)
 
-  pub plain_walked : walked run_rules [] (state rows q false 1 false) w ≡ state (all_rows rows q) (Some (codes "file", w ∷ [])) false 2 false
-  plain_walked = first_walked rows q false w (plain_met rows q 1 w e)
+  pub plain-walked : walked run_rules [] (state rows q false 1 false) w ≡ state (all_rows rows q) (Some (codes "file", w ∷ [])) false 2 false
+  plain-walked = first-walked rows q false w (plain-met rows q 1 w e)
 
 -- the value of `--steps`
-due_met : (rows : List Row) (p : ℕ) (w : Text) → is_option w ≡ false
+due-met : (rows : List Row) (p : ℕ) (w : Text) → is_option w ≡ false
     → word_met run_rules [] false (waits true) p w (held rows (Some (codes "steps", []))) ≡ (held rows (Some (codes "steps", w ∷ [])), next idle)
 unfolding clap_on_literals
-due_met rows p [] e = refl
-due_met rows p (c ∷ []) e = by (c == 45) refl
+due-met rows p [] e = refl
+due-met rows p (c ∷ []) e = by (c == 45) refl
   where
     by : (b : Bool) → (c == 45) ≡ b → word_met run_rules [] false (waits true) p (c ∷ []) (held rows (Some (codes "steps", []))) ≡ (held rows (Some (codes "steps", (c ∷ []) ∷ [])), next idle)
     by true f = simp f refl
     by false f = simp f refl
-due_met rows p (c ∷ d ∷ ds) e = simp e refl
+due-met rows p (c ∷ d ∷ ds) e = simp e refl
 
 module _ (rows : List Row) (p : ℕ) (w : Text) (e : is_option w ≡ false) where
-  pub due_turn : turn_fault run_top [] (state rows (Some (codes "steps", [])) true p false) w ≡ []
-  due_turn = past _ _ (plain_fault rows (Some (codes "steps", [])) true p w e) ∙ ap (λ (m : Held × Step). step_fault run_top p m.0 m.1) (due_met rows p w e)
+  pub due-turn : turn_fault run_top [] (state rows (Some (codes "steps", [])) true p false) w ≡ []
+  due-turn = past _ _ (plain-fault rows (Some (codes "steps", [])) true p w e) ∙ ap (λ (m : Held × Step). step_fault run_top p m.0 m.1) (due-met rows p w e)
 
-  pub due_walked : walked run_rules [] (state rows (Some (codes "steps", [])) true p false) w ≡ state rows (Some (codes "steps", w ∷ [])) false p false
+  pub due-walked : walked run_rules [] (state rows (Some (codes "steps", [])) true p false) w ≡ state rows (Some (codes "steps", w ∷ [])) false p false
   unfolding walked
-  due_walked = ap (λ (m : Held × Step). after_step run_rules w (state rows (Some (codes "steps", [])) true p false) m.0 m.1) (due_met rows p w e)
+  due-walked = ap (λ (m : Held × Step). after_step run_rules w (state rows (Some (codes "steps", [])) true p false) m.0 m.1) (due-met rows p w e)
 
 -- after `--`
 module _ (rows : List Row) (q : Pending) (w : Text) where
-  pub later_first : (due : Bool) → turn_fault run_top [] (state rows q due 1 true) w ≡ pending_fault rows q
-  later_first true = by (is_file q)
+  pub later-first : (due : Bool) → turn_fault run_top [] (state rows q due 1 true) w ≡ pending_fault rows q
+  later-first true = by (is_file q)
     where
       by : (b : Bool) → cond (b && false) [] (pending_fault rows q) ≡ pending_fault rows q
       by true = refl
       by false = refl
-  later_first false = by (is_file q)
+  later-first false = by (is_file q)
     where
       by : (b : Bool) → cond (b && false) [] (pending_fault rows q) ≡ pending_fault rows q
       by true = refl
       by false = refl
 
-  pub later_second : (due : Bool) → turn_fault run_top [] (state rows q due 2 true) w ≡ UnknownArgument ∷ []
-  later_second true = refl
-  later_second false = refl
+  pub later-second : (due : Bool) → turn_fault run_top [] (state rows q due 2 true) w ≡ UnknownArgument ∷ []
+  later-second true = refl
+  later-second false = refl
 
-  pub later_walked : walked run_rules [] (state rows q false 1 true) w ≡ state (all_rows rows q) (Some (codes "file", w ∷ [])) false 2 true
-  later_walked = first_walked rows q true w refl
+  pub later-walked : walked run_rules [] (state rows q false 1 true) w ≡ state (all_rows rows q) (Some (codes "file", w ∷ [])) false 2 true
+  later-walked = first-walked rows q true w refl

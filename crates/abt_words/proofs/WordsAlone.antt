@@ -9,13 +9,13 @@ use Rattle.clap.specs.declared.error.kind.ErrorKind.TheVariants.{UnknownArgument
 use Rattle.abt_machine.specs.Words.{Text}
 use Rattle.abt_words.specs.Commands.{Rest, and_other, and_steps, and_word, is_option, only, rest_of}
 use Rattle.abt_words.proofs.Endings.{AllTexts, ending, fails, goes, last, lasts}
-use Rattle.abt_words.proofs.Spellings.{Spelling, ends, journal, journal_value, long, plain, rest_long, rest_plain, rest_short, short, spelling, steps, steps_value}
+use Rattle.abt_words.proofs.Spellings.{Spelling, ends, journal, journal_value, long, plain, rest-long, rest-plain, rest-short, short, spelling, steps, steps_value}
 
-no_more : (n : ℕ) → suc n ≡ 0 → ⊥
-no_more n e = omega arith
+no-more : (n : ℕ) → suc n ≡ 0 → ⊥
+no-more n e = omega arith
 
-no_text : (w : Text) (ws : List Text) → w ∷ ws ≡ [] → ⊥
-no_text w ws e = cc
+no-text : (w : Text) (ws : List Text) → w ∷ ws ≡ [] → ⊥
+no-text w ws e = cc
 
 -- what was said so far is an S; `next` is what one more word makes of it, if one more may come, and `Full` says that no more is wanted
 module _ {S : Type 0} (top : Shape) (at : S → Bool → Walk) (next : S → Text → Option S) (Full : S → Type 0) (Finds : S → List Row → Type 0) where
@@ -63,8 +63,8 @@ module _ {S : Type 0} (top : Shape) (at : S → Bool → Walk) (next : S → Tex
   }
 
   module _ (reads : Reads) where
-    at_end : (o : S) (t : Bool) → Outcome (at o t) [] (Some o) (only [])
-    at_end o t = by (reads.end o t)
+    at-end : (o : S) (t : Bool) → Outcome (at o t) [] (Some o) (only [])
+    at-end o t = by (reads.end o t)
       where
         by : (Full o × (ending top (at o t) [] ≡ []) × Finds o (last top (at o t) [])) ⊎ ((Full o → ⊥) × (ending top (at o t) [] ≢ [])) → Outcome (at o t) [] (Some o) (only [])
         by (inl is) = record {
@@ -82,41 +82,41 @@ module _ {S : Type 0} (top : Shape) (at : S → Bool → Walk) (next : S → Tex
         (λ q whole. (subst (λ (n : Option S). Lead n rest.words q) (sym is) whole.0, whole.1, whole.2, whole.3, whole.4))
         (λ q whole. (subst (λ (n : Option S). Lead n rest.words q) is whole.0, whole.1, whole.2, whole.3, whole.4)) (go p)
 
-    after_dashes : (words : List Text) (o : S) → Outcome (at o true) words (Some o) (only words)
-    after_dashes [] o = at_end o true
-    after_dashes (w ∷ words) o = more o true w words (only words) (next o w) (reads.later o w) (after_dashes words) refl
+    after-dashes : (words : List Text) (o : S) → Outcome (at o true) words (Some o) (only words)
+    after-dashes [] o = at-end o true
+    after-dashes (w ∷ words) o = more o true w words (only words) (next o w) (reads.later o w) (after-dashes words) refl
 
     -- the words after `--steps` are never words alone
-    due_never : (words : List Text) (o : S) (p : S) → Whole (Some o) (rest_of true words) p → ⊥
-    due_never [] o p whole = no_more 0 whole.4
-    due_never (v ∷ words) o p whole = by (is_option v) whole
+    due-never : (words : List Text) (o : S) (p : S) → Whole (Some o) (rest_of true words) p → ⊥
+    due-never [] o p whole = no-more 0 whole.4
+    due-never (v ∷ words) o p whole = by (is_option v) whole
       where
         by : (b : Bool) → Whole (Some o) (cond b (and_other (rest_of false words)) (and_steps v (rest_of false words))) p → ⊥
-        by true whole = no_more (rest_of false words).others whole.4
-        by false whole = no_text v (rest_of false words).steps whole.2
+        by true whole = no-more (rest_of false words).others whole.4
+        by false whole = no-text v (rest_of false words).steps whole.2
 
     module _ (words : List Text) where
-      reads_by : (x : Text) → Spelling x → ((o : S) → Outcome (at o false) words (Some o) (rest_of false words))
+      reads-by : (x : Text) → Spelling x → ((o : S) → Outcome (at o false) words (Some o) (rest_of false words))
           → (o : S) → Outcome (at o false) (x ∷ words) (Some o) (rest_of false (x ∷ words))
-      reads_by x (plain e) go o = subst (λ (r : Rest). Outcome (at o false) (x ∷ words) (Some o) r) (sym (rest_plain words x e))
+      reads-by x (plain e) go o = subst (λ (r : Rest). Outcome (at o false) (x ∷ words) (Some o) r) (sym (rest-plain words x e))
           (more o false x words (rest_of false words) (next o x) (reads.plainly o x e) go refl)
-      reads_by x (ends is) go o = subst (λ (x : Text). Outcome (at o false) (x ∷ words) (Some o) (rest_of false (x ∷ words))) (sym is)
-          (moves _ _ _ words (Some o) (Some o) _ (only words) (reads.dashes o).0 (reads.dashes o).1 (λ q whole. whole) (λ q whole. whole) (after_dashes words o))
-      reads_by x (journal is) go o = subst (λ (x : Text). Outcome (at o false) (x ∷ words) (Some o) (rest_of false (x ∷ words))) (sym is)
-          (refuses _ _ _ _ (fails top _ _ words _ [] (reads.longs o 106 (codes "ournal"))) (λ q whole. no_more (rest_of false words).journals whole.3))
-      reads_by x (journal_value w is) go o = subst (λ (x : Text). Outcome (at o false) (x ∷ words) (Some o) (rest_of false (x ∷ words))) (sym is)
-          (refuses _ _ _ _ (fails top _ _ words _ [] (reads.longs o 106 (codes "ournal=" ++ w))) (λ q whole. no_more (rest_of false words).others whole.4))
-      reads_by x (steps is) go o = subst (λ (x : Text). Outcome (at o false) (x ∷ words) (Some o) (rest_of false (x ∷ words))) (sym is)
-          (refuses _ _ _ _ (fails top _ _ words _ [] (reads.longs o 115 (codes "teps"))) (due_never words o))
-      reads_by x (steps_value w is) go o = subst (λ (x : Text). Outcome (at o false) (x ∷ words) (Some o) (rest_of false (x ∷ words))) (sym is)
-          (refuses _ _ _ _ (fails top _ _ words _ [] (reads.longs o 115 (codes "teps=" ++ w))) (λ q whole. no_text w (rest_of false words).steps whole.2))
-      reads_by x (long c cs is a b) go o = subst (λ (x : Text). Outcome (at o false) (x ∷ words) (Some o) (rest_of false (x ∷ words))) (sym is)
-          (subst (λ (r : Rest). Outcome (at o false) ((45 ∷ 45 ∷ c ∷ cs) ∷ words) (Some o) r) (sym (rest_long words c cs a b))
-          (refuses _ _ _ _ (fails top _ _ words _ [] (reads.longs o c cs)) (λ q whole. no_more (rest_of false words).others whole.4)))
-      reads_by x (short d ds y is a b) go o = subst (λ (x : Text). Outcome (at o false) (x ∷ words) (Some o) (rest_of false (x ∷ words))) (sym is)
-          (subst (λ (r : Rest). Outcome (at o false) ((45 ∷ d ∷ ds) ∷ words) (Some o) r) (sym (rest_short words d ds a))
-          (refuses _ _ _ _ (fails top _ _ words _ [] (reads.shorts o d ds y a b)) (λ q whole. no_more (rest_of false words).others whole.4)))
+      reads-by x (ends is) go o = subst (λ (x : Text). Outcome (at o false) (x ∷ words) (Some o) (rest_of false (x ∷ words))) (sym is)
+          (moves _ _ _ words (Some o) (Some o) _ (only words) (reads.dashes o).0 (reads.dashes o).1 (λ q whole. whole) (λ q whole. whole) (after-dashes words o))
+      reads-by x (journal is) go o = subst (λ (x : Text). Outcome (at o false) (x ∷ words) (Some o) (rest_of false (x ∷ words))) (sym is)
+          (refuses _ _ _ _ (fails top _ _ words _ [] (reads.longs o 106 (codes "ournal"))) (λ q whole. no-more (rest_of false words).journals whole.3))
+      reads-by x (journal_value w is) go o = subst (λ (x : Text). Outcome (at o false) (x ∷ words) (Some o) (rest_of false (x ∷ words))) (sym is)
+          (refuses _ _ _ _ (fails top _ _ words _ [] (reads.longs o 106 (codes "ournal=" ++ w))) (λ q whole. no-more (rest_of false words).others whole.4))
+      reads-by x (steps is) go o = subst (λ (x : Text). Outcome (at o false) (x ∷ words) (Some o) (rest_of false (x ∷ words))) (sym is)
+          (refuses _ _ _ _ (fails top _ _ words _ [] (reads.longs o 115 (codes "teps"))) (due-never words o))
+      reads-by x (steps_value w is) go o = subst (λ (x : Text). Outcome (at o false) (x ∷ words) (Some o) (rest_of false (x ∷ words))) (sym is)
+          (refuses _ _ _ _ (fails top _ _ words _ [] (reads.longs o 115 (codes "teps=" ++ w))) (λ q whole. no-text w (rest_of false words).steps whole.2))
+      reads-by x (long c cs is a b) go o = subst (λ (x : Text). Outcome (at o false) (x ∷ words) (Some o) (rest_of false (x ∷ words))) (sym is)
+          (subst (λ (r : Rest). Outcome (at o false) ((45 ∷ 45 ∷ c ∷ cs) ∷ words) (Some o) r) (sym (rest-long words c cs a b))
+          (refuses _ _ _ _ (fails top _ _ words _ [] (reads.longs o c cs)) (λ q whole. no-more (rest_of false words).others whole.4)))
+      reads-by x (short d ds y is a b) go o = subst (λ (x : Text). Outcome (at o false) (x ∷ words) (Some o) (rest_of false (x ∷ words))) (sym is)
+          (subst (λ (r : Rest). Outcome (at o false) ((45 ∷ d ∷ ds) ∷ words) (Some o) r) (sym (rest-short words d ds a))
+          (refuses _ _ _ _ (fails top _ _ words _ [] (reads.shorts o d ds y a b)) (λ q whole. no-more (rest_of false words).others whole.4)))
 
     pub outcome : (words : List Text) → AllTexts words → (o : S) → Outcome (at o false) words (Some o) (rest_of false words)
-    outcome [] texts o = at_end o false
-    outcome (x ∷ words) texts o = reads_by words x (spelling x texts.0) (outcome words texts.1) o
+    outcome [] texts o = at-end o false
+    outcome (x ∷ words) texts o = reads-by words x (spelling x texts.0) (outcome words texts.1) o

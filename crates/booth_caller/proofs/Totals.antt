@@ -11,7 +11,7 @@ use Rattle.booth_caller.specs.declared.counter.Counter.{Counter}
 use Rattle.booth_caller.specs.Calling.{acts_of, HasAsked}
 use Rattle.booth_caller.specs.Counters.{Adds}
 use Rattle.booth_caller.specs.Counts.{IsCounted}
-use Rattle.booth_caller.proofs.Calling.{acts_hold, all_of_classes, calls_count, same_sums, stamps_count, sum_below_same, whole_or_worn}
+use Rattle.booth_caller.proofs.Calling.{acts-hold, all-of-classes, calls-count, same-sums, stamps-count, sum-below-same, whole-or-worn}
 
 -- two sums modulo 2^64 in a row are one
 added : (a b c : ℕ) → ((a + b) % 2 ^ 64 + c) % 2 ^ 64 ≡ (a + (b + c)) % 2 ^ 64
@@ -34,16 +34,16 @@ counted threads times clock opening object known zero closed asked =
     let acts : ℕ → List ℕ = λ k. replicate times 1 in
     let IsOne : ℕ → Type 0 = λ a. a ≡ 1 in
     let sum = total opening object h (omega arith) closed.legal.1 in
-    let ones : All (λ (e : Entry ℕ ℕ). e.act ≡ 1) h = all_of_classes (λ (e : Entry ℕ ℕ). e.caller) (λ e. IsOne e.act) threads h closed.of_seats
-    (λ k lt. let b = (asked k lt).begun in acts_hold IsOne (calls_of k h) b.0 (subst (All IsOne) (sym b.1) (All-replicate IsOne times 1 refl))) in
+    let ones : All (λ (e : Entry ℕ ℕ). e.act ≡ 1) h = all-of-classes (λ (e : Entry ℕ ℕ). e.caller) (λ e. IsOne e.act) threads h closed.of_seats
+    (λ k lt. let b = (asked k lt).begun in acts-hold IsOne (calls_of k h) b.0 (subst (All IsOne) (sym b.1) (All-replicate IsOne times 1 refl))) in
     let all_made : ((k : ℕ) → k < threads → acts_of k h ≡ acts k) → length h ≡ threads * times = λ all.
-    calls_count threads acts h closed.of_seats asked all ∙ (same_sums (λ k. length (acts k)) (λ k. times) threads (λ k lt. length-replicate times 1) ∙ sum_below_same times threads) in record {
+    calls-count threads acts h closed.of_seats asked all ∙ (same-sums (λ k. length (acts k)) (λ k. times) threads (λ k lt. length-replicate times 1) ∙ sum-below-same times threads) in record {
       history = h;
       rises = closed.legal.0;
       last = closed.last;
       of_threads = closed.of_seats;
       ones = ones;
       total = sum ∙ ap (λ (n : ℕ). (n + sum_by (λ (e : Entry ℕ ℕ). e.act) h) % 2 ^ 64) zero ∙ ap (λ (n : ℕ). n % 2 ^ 64) (zero-add (sum_by (λ (e : Entry ℕ ℕ). e.act) h));
-      stamped = closed.last ∙ stamps_count threads acts h closed.of_seats asked;
-      many = ⊎_elim (λ all. inl (all_made all)) (λ worn. inr (closed.last ∙ worn)) (whole_or_worn threads acts h closed.of_seats asked);
+      stamped = closed.last ∙ stamps-count threads acts h closed.of_seats asked;
+      many = ⊎_elim (λ all. inl (all_made all)) (λ worn. inr (closed.last ∙ worn)) (whole-or-worn threads acts h closed.of_seats asked);
     }

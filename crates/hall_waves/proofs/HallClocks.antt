@@ -38,8 +38,8 @@ greatest-is clock clocks is =
     omega arith
 
 -- the clock that is carried to the lock, as a function
-pub carried_is : (clock : ℕ) (held : ObjectsValue) → IsGreatest clock held.clocks → (λ (l : Unit {0}). clock) ≡ clock_of_hall held
-carried_is clock held is = ap {B = Unit {0} → ℕ} (λ k l. k) (greatest-is clock held.clocks is)
+pub carried-is : (clock : ℕ) (held : ObjectsValue) → IsGreatest clock held.clocks → (λ (l : Unit {0}). clock) ≡ clock_of_hall held
+carried-is clock held is = ap {B = Unit {0} → ℕ} (λ k l. k) (greatest-is clock held.clocks is)
 
 -- if every clock is the same, and so is that of each site, that is the greatest
 pub every-is : (W : Parts) (held : ObjectsValue) (clock : ℕ) → IsValid W → ((x : Site) → IsSite W x → clock_at held x ≡ clock) → All (λ c. c ≡ clock) held.clocks → greatest held.clocks ≡ clock

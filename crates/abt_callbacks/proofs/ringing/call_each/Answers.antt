@@ -2,7 +2,7 @@ use Rattle.std.proofs.Common.{◌≡◌, ◌<◌, ◌+◌, List, [], ◌∷◌, 
 use Rattle.std.proofs.lemmas.List.{get_or-map, length-map}
 use Rattle.abt_callbacks.specs.Ending.{AnswersAgree}
 use Rattle.abt_callbacks.specs.Rings.{same_of}
-use Rattle.abt_callbacks.proofs.Rounds.{next_none, next_some}
+use Rattle.abt_callbacks.proofs.Rounds.{next-none, next-some}
 use Rattle.abt_callbacks.proofs.ringing.call_each.Goals as goal
 use Rattle.abt_callbacks.proofs.ringing.call_each.Goals.{in-Some, in_default}
 
@@ -23,12 +23,12 @@ loop-key-preserved g c =
           let pushed : c.match-values-key.answers.items ≡ c.loop-key.answers.items ++ w.answer.result ∷ [] = ap (λ v. v.items) w.answers-is ∙ w.push_reserved.ensures.items in record {
             few = let n = ap length pushed in let m = length-append c.loop-key.answers.items (w.answer.result ∷ []) in omega arith;
             room = search rules;
-            answered = subst R (sym pushed) (next_some (same_of ends) values c.loop-key.answers.items k in_range many i.answered w.in-Some.value w.answer.result w.in-Some.is (λ e. w.answer.ensures (sym same ∙ e)));
+            answered = subst R (sym pushed) (next-some (same_of ends) values c.loop-key.answers.items k in_range many i.answered w.in-Some.value w.answer.result w.in-Some.is (λ e. w.answer.ensures (sym same ∙ e)));
           }
       | in_default w ↦
           let kept : c.match-values-key.answers.items ≡ c.loop-key.answers.items = ap (λ v. v.items) w.answers-is in record {
             few = let n = ap length kept in omega arith;
             room = search rules;
-            answered = subst R (sym kept) (next_none (same_of ends) values c.loop-key.answers.items k in_range many i.answered w.in_default.is);
+            answered = subst R (sym kept) (next-none (same_of ends) values c.loop-key.answers.items k in_range many i.answered w.in_default.is);
           }
     ]

@@ -1,14 +1,14 @@
 -- The first word chooses the command.
 use Rattle.std.proofs.Common.{◌∙◌, ap, sym, map, string_bytes}
-use Rattle.abt_words.proofs.OneCommand.{by_bad, by_only}
+use Rattle.abt_words.proofs.OneCommand.{by-bad, by-only}
 use Rattle.abt_words.proofs.command.words.Goals as goal
 
 pub returns-in-run-clause-only : goal.returns-in-run-clause-only
-returns-in-run-clause-only c = by_only _ _ _ (ap (map string_bytes) c.in-Some.ensures.cases.0) _ (sym c.as_str.ensures.value ∙ c.in-run.is) c.run.result c.run.ensures.said
+returns-in-run-clause-only c = by-only _ _ _ (ap (map string_bytes) c.in-Some.ensures.cases.0) _ (sym c.as_str.ensures.value ∙ c.in-run.is) c.run.result c.run.ensures.said
 
 pub returns-in-run-clause-bad : goal.returns-in-run-clause-bad
-returns-in-run-clause-bad c = λ bad. by_bad _ _ _ (ap (map string_bytes) c.in-Some.ensures.cases.0) _ (sym c.as_str.ensures.value ∙ c.in-run.is) (c.run.ensures.bad bad)
+returns-in-run-clause-bad c = λ bad. by-bad _ _ _ (ap (map string_bytes) c.in-Some.ensures.cases.0) _ (sym c.as_str.ensures.value ∙ c.in-run.is) (c.run.ensures.bad bad)
 
 pub returns-in-self-clause-bad : goal.returns-in-self-clause-bad
 returns-in-self-clause-bad c =
-    λ bad. by_bad _ _ _ (ap (map string_bytes) c.in-Some.ensures.cases.0) _ (sym c.as_str.ensures.value ∙ c.in-self.is) (c.self_run.ensures.bad bad)
+    λ bad. by-bad _ _ _ (ap (map string_bytes) c.in-Some.ensures.cases.0) _ (sym c.as_str.ensures.value ∙ c.in-self.is) (c.self_run.ensures.bad bad)

@@ -1,7 +1,7 @@
 use Rattle.std.proofs.Common.{refl, ap}
 use Rattle.abt_source.specs.RealFiles.{FilesOfProcess}
 use Rattle.abt_source.proofs.Counts.{later, cause, next_count-Rose}
-use Rattle.abt_source.proofs.Process.{begin_later, begin_left, begin_nothing, begin_quiet, read_failed, read_next, read_ok}
+use Rattle.abt_source.proofs.Process.{begin-later, begin-left, begin-nothing, begin-quiet, read-failed, read-next, read-ok}
 use Rattle.abt_source.proofs.real_files.RealFilesFiles.TheImpl.Goals as goal
 
 pub begin-tells : goal.begin-tells
@@ -10,11 +10,11 @@ begin-tells g c =
     let new : FilesOfProcess = c.new.self.now in record {
       file = λ _. refl;
       absent = λ never. absurd never;
-      left = begin_left c.result old new c.ensures.ok;
-      nothing = begin_nothing c.result old new c.ensures.failed c.ensures.memory;
-      later = begin_later c.result old new c.ensures.ok c.ensures.failed c.ensures.memory;
+      left = begin-left c.result old new c.ensures.ok;
+      nothing = begin-nothing c.result old new c.ensures.failed c.ensures.memory;
+      later = begin-later c.result old new c.ensures.ok c.ensures.failed c.ensures.memory;
       cause = λ failed. next_count-Rose old.faults new.faults (ap (λ (m : FilesOfProcess). m.faults) (c.ensures.failed failed));
-      quiet = begin_quiet c.result old new c.ensures.ok;
+      quiet = begin-quiet c.result old new c.ensures.ok;
       memory = λ memory. ap (λ (m : FilesOfProcess). m.faults) (c.ensures.memory memory);
     }
 
@@ -22,11 +22,11 @@ pub read-tells : goal.read-tells
 read-tells g c =
     let old : FilesOfProcess = c.args.self.now in
     let new : FilesOfProcess = c.new.self.now in
-    let ok = read_ok c.result old new c.ensures.ok in
-    let failed = read_failed c.result old new c.ensures.failed in record {
+    let ok = read-ok c.result old new c.ensures.ok in
+    let failed = read-failed c.result old new c.ensures.failed in record {
       file = λ _. refl;
       bound = c.ensures.bound;
-      gives = read_next c.result old new c.new.into.now c.ensures.nothing c.ensures.ok c.ensures.failed;
+      gives = read-next c.result old new c.new.into.now c.ensures.nothing c.ensures.ok c.ensures.failed;
       later = later c.result old.faults new.faults ok failed;
       cause = cause c.result old.faults new.faults failed;
       quiet = ok;
