@@ -1,5 +1,5 @@
 //! Workload texts, reports and journals, in megabytes a second.
-ghost use Rattle.std.specs.Prelude.{◌≡◌, ◌<◌, All, IfOk, IfSome, length};
+ghost use Rattle.std.specs.Prelude.{◌<◌, All, IfOk, IfSome, length};
 ghost use Rattle.abt_machine.specs.Pieces.{IsPieceOf};
 ghost use Rattle.abt_report.specs.Pictures.{SaysWordsOf};
 

@@ -9,21 +9,21 @@ use Rattle.abt_booth.specs.Calls.{IsAnswered, IsWorn, GrowsBy}
 
 module _ {O A R : Type 0} (does : O → A → R → O → Type 0) (opening : O) (number : ℕ) (before after : List (Entry A R)) (at : ℕ) (act : A) where
   -- the seat's calls are those before it, and this one
-  pub calls_answered : (stamp : ℕ) (answer : R) → IsAnswered does opening number before after at act stamp answer
+  pub calls-answered : (stamp : ℕ) (answer : R) → IsAnswered does opening number before after at act stamp answer
       → calls_of number after ≡ calls_of number before ++ record { stamp = stamp; caller = number; act = act; answer = answer } ∷ []
-  calls_answered stamp answer a =
+  calls-answered stamp answer a =
       let e : Entry A R = record { stamp = stamp; caller = number; act = act; answer = answer } in
       ap (calls_of number) a.entered ∙ (filter-append (λ (x : Entry A R). x.caller == number) a.met (e ∷ []) ∙ ((λ i. a.extends.1 i ++ cond (eq-eqb number number refl i) (e ∷ []) [])))
 
   -- an answered call adds itself
-  pub grows_answered : (stamp : ℕ) (answer : R) → IsAnswered does opening number before after at act stamp answer → GrowsBy number before after (record { stamp = stamp; caller = number; act = act; answer = answer } ∷ [])
-  grows_answered stamp answer a =
+  pub grows-answered : (stamp : ℕ) (answer : R) → IsAnswered does opening number before after at act stamp answer → GrowsBy number before after (record { stamp = stamp; caller = number; act = act; answer = answer } ∷ [])
+  grows-answered stamp answer a =
       let e : Entry A R = record { stamp = stamp; caller = number; act = act; answer = answer } in
       let p = a.extends.0 in record {
         prefix = (p.0 ++ e ∷ [], sym (append_assoc before p.0 (e ∷ [])) ∙ (ap (λ (l : List (Entry A R)). l ++ e ∷ []) p.1 ∙ sym a.entered));
-        calls = calls_answered stamp answer a;
+        calls = calls-answered stamp answer a;
       }
 
   -- a call that found the clock worn adds nothing
-  pub grows_worn : (back : A) → IsWorn does opening number before after at act back → GrowsBy number before after []
-  grows_worn back w = record { prefix = w.extends.0; calls = w.extends.1 ∙ sym (append-nil (calls_of number before)) }
+  pub grows-worn : (back : A) → IsWorn does opening number before after at act back → GrowsBy number before after []
+  grows-worn back w = record { prefix = w.extends.0; calls = w.extends.1 ∙ sym (append-nil (calls_of number before)) }

@@ -15,22 +15,22 @@ use Rattle.abt_booth.specs.declared.rule.Lot.{Lot}
 use Rattle.abt_booth.specs.Rule.{KeptLot, Has, Free, Held, Kept, gathered, spent, all_known}
 use Rattle.abt_booth.specs.Calls.{IsClosed}
 use Rattle.abt_booth.specs.Seats.{known_of, HasEachNumber, HasNumber}
-use Rattle.abt_booth.proofs.Places.{at_end, at_or, nowhere, same_place}
+use Rattle.abt_booth.proofs.Places.{at-end, at-or, nowhere, same-place}
 
 -- a view that was taken in has no number
-has_spent : {A R : Type 0} (O : Type 0) (k : ℕ) (l : List (Entry A R)) → Has {O = O} spent k l → ⊥
-has_spent O k l h = ⊎_elim (λ (t : (0 ≤ k) × (k < 0) × (l ≡ [])). let q = t.1 in absurd (omega arith)) (λ t. nowhere [] t.0 (k, l) refl t.1) h
+has-spent : {A R : Type 0} (O : Type 0) (k : ℕ) (l : List (Entry A R)) → Has {O = O} spent k l → ⊥
+has-spent O k l h = ⊎_elim (λ (t : (0 ≤ k) × (k < 0) × (l ≡ [])). let q = t.1 in absurd (omega arith)) (λ t. nowhere [] t.0 (k, l) refl t.1) h
 
 module _ {O A R : Type 0} where
   -- the lists of the view that gathers are its own and that of the other
-  in_gathered : (v w : View O A R) (k : ℕ) (l : List (Entry A R)) (i : ℕ) → w.number < w.next → get_elem? ((w.number, w.seen) ∷ v.taken) i ≡ some (k, l) → Has v k l ⊎ Has w k l
-  in_gathered v w k l zero lt e = let p = some-injective (w.number, w.seen) (k, l) e in let a : w.number ≡ k = ap (λ z. z.0) p in let lo : w.number ≤ k = omega arith in let hi : k < w.next = omega arith in
+  in-gathered : (v w : View O A R) (k : ℕ) (l : List (Entry A R)) (i : ℕ) → w.number < w.next → get_elem? ((w.number, w.seen) ∷ v.taken) i ≡ some (k, l) → Has v k l ⊎ Has w k l
+  in-gathered v w k l zero lt e = let p = some-injective (w.number, w.seen) (k, l) e in let a : w.number ≡ k = ap (λ z. z.0) p in let lo : w.number ≤ k = omega arith in let hi : k < w.next = omega arith in
       inr (inl (lo, hi, sym (ap (λ z. z.1) p)))
-  in_gathered v w k l (suc i) lt e = inl (inr (i, e))
+  in-gathered v w k l (suc i) lt e = inl (inr (i, e))
 
   -- the same, of all that it has
-  has_gathered : (v w : View O A R) (k : ℕ) (l : List (Entry A R)) → w.number < w.next → Has (gathered v w) k l → Has v k l ⊎ Has w k l
-  has_gathered v w k l lt h = ⊎_elim (λ (t : (v.number ≤ k) × (k < v.next) × (l ≡ v.seen)). inl (inl t)) (λ t. in_gathered v w k l t.0 lt t.1) h
+  has-gathered : (v w : View O A R) (k : ℕ) (l : List (Entry A R)) → w.number < w.next → Has (gathered v w) k l → Has v k l ⊎ Has w k l
+  has-gathered v w k l lt h = ⊎_elim (λ (t : (v.number ≤ k) × (k < v.next) × (l ≡ v.seen)). inl (inl t)) (λ t. in-gathered v w k l t.0 lt t.1) h
 
 module _ {O A R : Type 0} (does : O → A → R → O → Type 0) (o : O) (n : ℕ) where
   -- a view without the turn may take in another
@@ -45,8 +45,8 @@ module _ {O A R : Type 0} (does : O → A → R → O → Type 0) (o : O) (n : �
       let where_is : (j : ℕ) (u : View O A R) → get_elem? (set ws other gone) j ≡ some u → ((j ≡ other) × (gone ≡ u)) ⊎ (((j ≡ id) × (b ≡ u)) ⊎ Old j u) = λ j u e. ⊎_elim inl
       (λ (t : (j ≢ other) × (get_elem? ws j ≡ some u)). inr (⊎_elim inl (λ (c : (j ≢ id) × (get_elem? vs j ≡ some u)). inr (t.0, c.0, c.1)) (at_set vs id j b u t.1))) (at_set ws other j gone u e) in
       let owned : (j : ℕ) (u : View O A R) (k : ℕ) (l : List (Entry A R)) → get_elem? (set ws other gone) j ≡ some u → Has u k l → ((j ≡ id) × (Has v k l ⊎ Has w k l)) ⊎ Old j u = λ j u k l e h. ⊎_elim
-      (λ (t : (j ≡ other) × (gone ≡ u)). absurd (has_spent O k l (subst (λ (x : View O A R). Has x k l) (sym t.1) h)))
-      (λ (t : ((j ≡ id) × (b ≡ u)) ⊎ Old j u). ⊎_elim (λ (c : (j ≡ id) × (b ≡ u)). inl (c.0, has_gathered v w k l lw (subst (λ (x : View O A R). Has x k l) (sym c.1) h))) inr t) (where_is j u e) in
+      (λ (t : (j ≡ other) × (gone ≡ u)). absurd (has-spent O k l (subst (λ (x : View O A R). Has x k l) (sym t.1) h)))
+      (λ (t : ((j ≡ id) × (b ≡ u)) ⊎ Old j u). ⊎_elim (λ (c : (j ≡ id) × (b ≡ u)). inl (c.0, has-gathered v w k l lw (subst (λ (x : View O A R). Has x k l) (sym c.1) h))) inr t) (where_is j u e) in
       let foreign : (j : ℕ) (u : View O A R) (k : ℕ) (l l' : List (Entry A R)) → Old j u → Has u k l → Has v k l' ⊎ Has w k l' → ⊥ = λ j u k l l' c h m. ⊎_elim
       (λ (m : Has v k l'). c.1 (r.unique j id u v k l l' c.2 at h m))
       (λ (m : Has w k l'). c.0 (r.unique j other u w k l l' c.2 atw h m)) m in
@@ -61,9 +61,9 @@ module _ {O A R : Type 0} (does : O → A → R → O → Type 0) (o : O) (n : �
         capped = r.capped;
         known = r.known;
         fits = λ j u e k l h. ⊎_elim
-            (λ (t : (j ≡ other) × (gone ≡ u)). absurd (has_spent O k l (subst (λ (x : View O A R). Has x k l) (sym t.1) h)))
+            (λ (t : (j ≡ other) × (gone ≡ u)). absurd (has-spent O k l (subst (λ (x : View O A R). Has x k l) (sym t.1) h)))
             (λ (t : ((j ≡ id) × (b ≡ u)) ⊎ Old j u). ⊎_elim
-            (λ (c : (j ≡ id) × (b ≡ u)). let m = has_gathered v w k l lw (subst (λ (x : View O A R). Has x k l) (sym c.1) h) in let op : u.opening ≡ Some o = ap (λ (y : View O A R). y.opening) (sym c.1) ∙ mine in
+            (λ (c : (j ≡ id) × (b ≡ u)). let m = has-gathered v w k l lw (subst (λ (x : View O A R). Has x k l) (sym c.1) h) in let op : u.opening ≡ Some o = ap (λ (y : View O A R). y.opening) (sym c.1) ∙ mine in
             ⊎_elim (λ (m : Has v k l). let f = fv k l m in (op, f.1, f.2)) (λ (m : Has w k l). let f = fw k l m in (op, f.1, f.2)) m)
             (λ (c : Old j u). r.fits j u c.2 k l h) t) (where_is j u e);
         unique = λ j j' u u' k l l' e e' h h'. ⊎_elim
@@ -80,8 +80,8 @@ module _ {O A R : Type 0} (does : O → A → R → O → Type 0) (o : O) (n : �
               t.1,
               t.2,
               t.3,
-              set_else ws other t.0 gone (λ is. true≢false (sym t.6 ∙ (ap (λ (y : View O A R). y.holds) (same_place vs t.0 t.1 w t.4 (subst (λ (i : ℕ). get_elem? vs i ≡ some w) (sym is) atw)) ∙ hw)))
-                  ∙ (set_else vs id t.0 b (λ is. true≢false (sym t.6 ∙ (ap (λ (y : View O A R). y.holds) (same_place vs t.0 t.1 v t.4 (subst (λ (i : ℕ). get_elem? vs i ≡ some v) (sym is) at)) ∙ hv))) ∙ t.4),
+              set_else ws other t.0 gone (λ is. true≢false (sym t.6 ∙ (ap (λ (y : View O A R). y.holds) (same-place vs t.0 t.1 w t.4 (subst (λ (i : ℕ). get_elem? vs i ≡ some w) (sym is) atw)) ∙ hw)))
+                  ∙ (set_else vs id t.0 b (λ is. true≢false (sym t.6 ∙ (ap (λ (y : View O A R). y.holds) (same-place vs t.0 t.1 v t.4 (subst (λ (i : ℕ). get_elem? vs i ≡ some v) (sym is) at)) ∙ hv))) ∙ t.4),
               t.5,
               t.6,
               λ j u e h. t.7 j u (quiet j u e h) h,
@@ -89,11 +89,11 @@ module _ {O A R : Type 0} (does : O → A → R → O → Type 0) (o : O) (n : �
       }
 
   -- a view of one number has each list that it is known by
-  has_known : (v : View O A R) → v.next ≡ suc v.number → (i : ℕ) (x : ℕ × List (Entry A R)) → get_elem? (all_known v) i ≡ some x → Has v x.0 x.1
-  has_known v one i x e = ⊎_elim
+  has-known : (v : View O A R) → v.next ≡ suc v.number → (i : ℕ) (x : ℕ × List (Entry A R)) → get_elem? (all_known v) i ≡ some x → Has v x.0 x.1
+  has-known v one i x e = ⊎_elim
       (λ (there : get_elem? v.taken i ≡ some x). inr (i, there))
       (λ (c : (i ≡ length v.taken) × ((v.number, v.seen) ≡ x)). subst (λ (y : ℕ × List (Entry A R)). Has v y.0 y.1) c.1 (let lt : v.number < v.next = omega arith in inl (le_refl v.number, lt, refl)))
-      (at_end v.taken (v.number, v.seen) x i e)
+      (at-end v.taken (v.number, v.seen) x i e)
 
   -- once one view without the turn has every number, the slot has the object that the one history leads to
   pub closes : (id : ℕ) (v : View O A R) (ws : List ℕ) (xs : List (KeptLot O A R)) → v.holds ≡ false → v.next ≡ suc v.number → HasEachNumber n (all_known v) → Final (Seen (Kept does o n) id v) ws xs
@@ -111,7 +111,7 @@ module _ {O A R : Type 0} (does : O → A → R → O → Type 0) (o : O) (n : �
           last = t.4;
           capped = subst (λ (z : ℕ). z ≤ 2 ^ 62) (sym t.4) r.capped;
           of_seats = r.known;
-          seen = λ i d lt. let x = slice_index_or (all_known v) i d in (r.fits id v at x.0 x.1 (has_known v one i x (at_or (all_known v) i d lt))).2;
+          seen = λ i d lt. let x = slice_index_or (all_known v) i d in (r.fits id v at x.0 x.1 (has-known v one i x (at-or (all_known v) i d lt))).2;
         },
       ))
       (λ (t : Held r.log s).
@@ -119,24 +119,24 @@ module _ {O A R : Type 0} (does : O → A → R → O → Type 0) (o : O) (n : �
       let below = (r.fits t.0 t.1 t.4 t.1.number t.1.seen here).1 in
       let mine = all t.1.number below in
       let x = mine.1 in
-      let has : Has v t.1.number x.1 = subst (λ (k : ℕ). Has v k x.1) mine.4 (has_known v one mine.0 x (at_index (all_known v) mine.0 x mine.2 (sym mine.3))) in
+      let has : Has v t.1.number x.1 = subst (λ (k : ℕ). Has v k x.1) mine.4 (has-known v one mine.0 x (at_index (all_known v) mine.0 x mine.2 (sym mine.3))) in
       let is = r.unique t.0 id t.1 v t.1.number t.1.seen x.1 t.4 at here has in
-      absurd (true≢false (sym t.6 ∙ (ap (λ (y : View O A R). y.holds) (same_place s.views t.0 t.1 v t.4 (subst (λ (i : ℕ). get_elem? s.views i ≡ some v) (sym is) at)) ∙ hv)))) r.turn
+      absurd (true≢false (sym t.6 ∙ (ap (λ (y : View O A R). y.holds) (same-place s.views t.0 t.1 v t.4 (subst (λ (i : ℕ). get_elem? s.views i ≡ some v) (sym is) at)) ∙ hv)))) r.turn
 
 module _ {O A R : Type 0} (v : View O A R) where
   -- a view's number is among those that it is known by
-  pub number_mine : HasNumber v.number (all_known v)
-  number_mine = Any-push (λ k. k.0 ≡ v.number) v.taken (v.number, v.seen) refl
+  pub number-mine : HasNumber v.number (all_known v)
+  number-mine = Any-push (λ k. k.0 ≡ v.number) v.taken (v.number, v.seen) refl
 
   -- so is that of a view which it gathered
-  pub number_gathered : (w : View O A R) → HasNumber w.number (all_known (gathered v w))
-  number_gathered w = (0, (w.number, w.seen), omega arith, refl, refl)
+  pub number-gathered : (w : View O A R) → HasNumber w.number (all_known (gathered v w))
+  number-gathered w = (0, (w.number, w.seen), omega arith, refl, refl)
 
   -- and each that it had
-  pub numbers_kept : (w : View O A R) (number : ℕ) → HasNumber number (all_known v) → HasNumber number (all_known (gathered v w))
-  numbers_kept w number h = let lt = h.2 in (suc h.0, h.1, omega arith, h.3, h.4)
+  pub numbers-kept : (w : View O A R) (number : ℕ) → HasNumber number (all_known v) → HasNumber number (all_known (gathered v w))
+  numbers-kept w number h = let lt = h.2 in (suc h.0, h.1, omega arith, h.3, h.4)
 
 module _ {O A R : Type 0} {g : Ghosts O A R} where
   -- the last seat goes from the seats to the lists that are known
-  pub known_pop : (seats rest : List (Seat O A R g)) (s : Seat O A R g) (known : List (ℕ × List (Entry A R))) → seats ≡ rest ++ s ∷ [] → map known_of rest ++ known_of s ∷ known ≡ map known_of seats ++ known
-  known_pop seats rest s known e = sym (append_assoc (map known_of rest) (known_of s ∷ []) known) ∙ ap (λ (l : List (ℕ × List (Entry A R))). l ++ known) (sym (ap (map known_of) e ∙ map-append known_of rest (s ∷ [])))
+  pub known-pop : (seats rest : List (Seat O A R g)) (s : Seat O A R g) (known : List (ℕ × List (Entry A R))) → seats ≡ rest ++ s ∷ [] → map known_of rest ++ known_of s ∷ known ≡ map known_of seats ++ known
+  known-pop seats rest s known e = sym (append_assoc (map known_of rest) (known_of s ∷ []) known) ∙ ap (λ (l : List (ℕ × List (Entry A R))). l ++ known) (sym (ap (map known_of) e ∙ map-append known_of rest (s ∷ [])))

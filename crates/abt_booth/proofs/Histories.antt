@@ -6,37 +6,37 @@ use Rattle.abt_interleave.specs.Histories.{calls_of, last_from, RisesAbove, Exte
 
 module _ {A R : Type 0} where
   -- one more call, at a greater stamp
-  pub rises_more : (s : ℕ) (h : List (Entry A R)) (e : Entry A R) → RisesAbove s (entry_stamps h) → last_from s (entry_stamps h) < e.stamp → RisesAbove s (entry_stamps (h ++ e ∷ []))
-  rises_more s [] e r l = (l, tt)
-  rises_more s (x ∷ xs) e r l = (r.0, rises_more x.stamp xs e r.1 l)
+  pub rises-more : (s : ℕ) (h : List (Entry A R)) (e : Entry A R) → RisesAbove s (entry_stamps h) → last_from s (entry_stamps h) < e.stamp → RisesAbove s (entry_stamps (h ++ e ∷ []))
+  rises-more s [] e r l = (l, tt)
+  rises-more s (x ∷ xs) e r l = (r.0, rises-more x.stamp xs e r.1 l)
 
   -- the last stamp is that of the last call
-  pub last_more : (s : ℕ) (h : List (Entry A R)) (e : Entry A R) → last_from s (entry_stamps (h ++ e ∷ [])) ≡ e.stamp
-  last_more s [] e = refl
-  last_more s (x ∷ xs) e = last_more x.stamp xs e
+  pub last-more : (s : ℕ) (h : List (Entry A R)) (e : Entry A R) → last_from s (entry_stamps (h ++ e ∷ [])) ≡ e.stamp
+  last-more s [] e = refl
+  last-more s (x ∷ xs) e = last-more x.stamp xs e
 
   -- there are at most as many calls as the last stamp says
-  pub length_below : (s : ℕ) (h : List (Entry A R)) → RisesAbove s (entry_stamps h) → s + length h ≤ last_from s (entry_stamps h)
-  length_below s [] r = omega arith
-  length_below s (x ∷ xs) r = let l = length_below x.stamp xs r.1 in let m = r.0 in omega arith
+  pub length-below : (s : ℕ) (h : List (Entry A R)) → RisesAbove s (entry_stamps h) → s + length h ≤ last_from s (entry_stamps h)
+  length-below s [] r = omega arith
+  length-below s (x ∷ xs) r = let l = length-below x.stamp xs r.1 in let m = r.0 in omega arith
 
   -- a call of another seat is no call of this one
-  pub calls_more : (k : ℕ) (h : List (Entry A R)) (e : Entry A R) → ¬ (e.caller ≡ k) → calls_of k (h ++ e ∷ []) ≡ calls_of k h
-  calls_more k [] e ne = ap (λ b. cond b (e ∷ []) []) (ne_eqb e.caller k ne)
-  calls_more k (x ∷ xs) e ne = ap (λ (r : List (Entry A R)). cond (eqb x.caller k) (x ∷ r) r) (calls_more k xs e ne)
+  pub calls-more : (k : ℕ) (h : List (Entry A R)) (e : Entry A R) → ¬ (e.caller ≡ k) → calls_of k (h ++ e ∷ []) ≡ calls_of k h
+  calls-more k [] e ne = ap (λ b. cond b (e ∷ []) []) (ne_eqb e.caller k ne)
+  calls-more k (x ∷ xs) e ne = ap (λ (r : List (Entry A R)). cond (eqb x.caller k) (x ∷ r) r) (calls-more k xs e ne)
 
   -- a call of another seat extends what this one had seen
-  pub extends_more : (k : ℕ) (l h : List (Entry A R)) (e : Entry A R) → ¬ (e.caller ≡ k) → Extends k l h → Extends k l (h ++ e ∷ [])
-  extends_more k l h e ne x = ((x.0.0 ++ e ∷ [], sym (append_assoc l x.0.0 (e ∷ [])) ∙ ap (λ (y : List (Entry A R)). y ++ e ∷ []) x.0.1), calls_more k h e ne ∙ x.1)
+  pub extends-more : (k : ℕ) (l h : List (Entry A R)) (e : Entry A R) → ¬ (e.caller ≡ k) → Extends k l h → Extends k l (h ++ e ∷ [])
+  extends-more k l h e ne x = ((x.0.0 ++ e ∷ [], sym (append_assoc l x.0.0 (e ∷ [])) ∙ ap (λ (y : List (Entry A R)). y ++ e ∷ []) x.0.1), calls-more k h e ne ∙ x.1)
 
 module _ {O A R : Type 0} (does : O → A → R → O → Type 0) where
   -- one more act
-  pub leads_more : (o : O) (h : List (Entry A R)) (o' : O) (e : Entry A R) (o'' : O) → Leads does o h o' → does o' e.act e.answer o'' → Leads does o (h ++ e ∷ []) o''
-  leads_more o [] o' e o'' l d = (o'', subst (λ (x : O). does x e.act e.answer o'') (sym l) d, refl)
-  leads_more o (x ∷ xs) o' e o'' l d = (l.0, l.1, leads_more l.0 xs o' e o'' l.2 d)
+  pub leads-more : (o : O) (h : List (Entry A R)) (o' : O) (e : Entry A R) (o'' : O) → Leads does o h o' → does o' e.act e.answer o'' → Leads does o (h ++ e ∷ []) o''
+  leads-more o [] o' e o'' l d = (o'', subst (λ (x : O). does x e.act e.answer o'') (sym l) d, refl)
+  leads-more o (x ∷ xs) o' e o'' l d = (l.0, l.1, leads-more l.0 xs o' e o'' l.2 d)
 
   -- what may be asked of the first object may be asked of each later one
-  pub allowed_after : (allowed : O → A → Type 0) → ((b : O) (a : A) (r : R) (c : O) (x : A) → does b a r c → allowed b x → allowed c x)
+  pub allowed-after : (allowed : O → A → Type 0) → ((b : O) (a : A) (r : R) (c : O) (x : A) → does b a r c → allowed b x → allowed c x)
       → (o : O) (h : List (Entry A R)) (o' : O) (x : A) → Leads does o h o' → allowed o x → allowed o' x
-  allowed_after allowed keeps o [] o' x l ok = subst (λ (z : O). allowed z x) l ok
-  allowed_after allowed keeps o (e ∷ es) o' x l ok = allowed_after allowed keeps l.0 es o' x l.2 (keeps o e.act e.answer l.0 x l.1 ok)
+  allowed-after allowed keeps o [] o' x l ok = subst (λ (z : O). allowed z x) l ok
+  allowed-after allowed keeps o (e ∷ es) o' x l ok = allowed-after allowed keeps l.0 es o' x l.2 (keeps o e.act e.answer l.0 x l.1 ok)

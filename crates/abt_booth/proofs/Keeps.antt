@@ -18,9 +18,9 @@ use Rattle.abt_booth.specs.declared.rule.Lot.{Lot}
 use Rattle.std.specs.List.{All}
 use Rattle.std.proofs.lemmas.List.Elements.{All-push}
 use Rattle.abt_booth.specs.Rule.{counting, KeptLot, TableState, SeatState, Has, Fits, Free, Held, Kept, entry_at, holding, resting, took, released, yielded}
-use Rattle.abt_booth.proofs.Places.{index_at}
+use Rattle.abt_booth.proofs.Places.{index-at}
 use Rattle.abt_interleave.proofs.Prefixes.{extends-self}
-use Rattle.abt_booth.proofs.Histories.{rises_more, last_more, extends_more, leads_more}
+use Rattle.abt_booth.proofs.Histories.{rises-more, last-more, extends-more, leads-more}
 
 module _ {O A R : Type 0} where
   abbrev pub At : List (View O A R) → ℕ → View O A R → Type 0
@@ -39,32 +39,32 @@ module _ {O A R : Type 0} where
       (λ (t : (j ≡ me) × (w ≡ u)). let n = same k l (subst (λ (x : View O A R). Has x k l) (sym t.1) h) in (v, n.0, subst (λ (i : ℕ). At vs i v) (sym t.0) at, n.1))
       (λ (t : (j ≢ me) × At vs j u). (u, l, t.1, h)) (at_set vs me j w u e)
 
-  pub unique_after : (vs : List (View O A R)) (me : ℕ) (v w : View O A R) → At vs me v → Narrows v w → Unique vs → Unique (set vs me w)
-  unique_after vs me v w at same un j j' u u' k l l' e e' h h' = let b = before vs me v w at same j u k l e h in let b' = before vs me v w at same j' u' k l' e' h' in
+  pub unique-after : (vs : List (View O A R)) (me : ℕ) (v w : View O A R) → At vs me v → Narrows v w → Unique vs → Unique (set vs me w)
+  unique-after vs me v w at same un j j' u u' k l l' e e' h h' = let b = before vs me v w at same j u k l e h in let b' = before vs me v w at same j' u' k l' e' h' in
       un j j' b.0 b'.0 k b.1 b'.1 b.2 b'.2 b.3 b'.3
 
   -- a fact of each view, when one becomes w
-  pub each_after : (F G : ℕ → View O A R → Type 0) (vs : List (View O A R)) (me : ℕ) (w : View O A R) → ((j : ℕ) (u : View O A R) → At vs j u → F j u) → G me w → ((j : ℕ) (u : View O A R) → j ≢ me → At vs j u → F j u → G j u)
+  pub each-after : (F G : ℕ → View O A R → Type 0) (vs : List (View O A R)) (me : ℕ) (w : View O A R) → ((j : ℕ) (u : View O A R) → At vs j u → F j u) → G me w → ((j : ℕ) (u : View O A R) → j ≢ me → At vs j u → F j u → G j u)
       → (j : ℕ) (u : View O A R) → At (set vs me w) j u → G j u
-  each_after F G vs me w all mine others j u e = ⊎_elim
+  each-after F G vs me w all mine others j u e = ⊎_elim
       (λ (t : (j ≡ me) × (w ≡ u)). subst (λ (x : ℕ × View O A R). G x.0 x.1) (λ i. (sym t.0 i, t.1 i)) mine)
       (λ (t : (j ≢ me) × At vs j u). others j u t.0 t.1 (all j u t.1)) (at_set vs me j w u e)
 
   -- with a list seen that differs, the numbers are the same
-  narrows_seen : (v : View O A R) (b : Bool) (log : List (Entry A R)) → Narrows v record { opening = v.opening; number = v.number; next = v.next; seen = log; holds = b; taken = v.taken }
-  narrows_seen v b log k l h = ⊎_elim
+  narrows-seen : (v : View O A R) (b : Bool) (log : List (Entry A R)) → Narrows v record { opening = v.opening; number = v.number; next = v.next; seen = log; holds = b; taken = v.taken }
+  narrows-seen v b log k l h = ⊎_elim
       (λ (t : (v.number ≤ k) × (k < v.next) × (l ≡ log)). (v.seen, inl (t.0, t.1, refl)))
       (λ (t : (i : ℕ) × (get_elem? v.taken i ≡ some (k, l))). (l, inr t)) h
 
-  fits_seen : (o : O) (n : ℕ) (log : List (Entry A R)) (v : View O A R) (b : Bool) → Fits o n log v → Fits o n log record { opening = v.opening; number = v.number; next = v.next; seen = log; holds = b; taken = v.taken }
-  fits_seen o n log v b f k l h = ⊎_elim
+  fits-seen : (o : O) (n : ℕ) (log : List (Entry A R)) (v : View O A R) (b : Bool) → Fits o n log v → Fits o n log record { opening = v.opening; number = v.number; next = v.next; seen = log; holds = b; taken = v.taken }
+  fits-seen o n log v b f k l h = ⊎_elim
       (λ (t : (v.number ≤ k) × (k < v.next) × (l ≡ log)). let g = f k v.seen (inl (t.0, t.1, refl)) in (g.0, g.1, subst (λ (x : List (Entry A R)). Extends k x log) (sym t.2) (extends-self k log)))
       (λ (t : (i : ℕ) × (get_elem? v.taken i ≡ some (k, l))). f k l (inr t)) h
 
-put_there : {X : Type 0} (l : List X) (i : ℕ) (a b : X) → get_elem? l i ≡ some a → get_elem? (set l i b) i ≡ some b
-put_there [] i a b e = absurd (some-ne-none a (sym e))
-put_there (x ∷ xs) zero a b e = refl
-put_there (x ∷ xs) (suc i) a b e = put_there xs i a b e
+put-there : {X : Type 0} (l : List X) (i : ℕ) (a b : X) → get_elem? l i ≡ some a → get_elem? (set l i b) i ≡ some b
+put-there [] i a b e = absurd (some-ne-none a (sym e))
+put-there (x ∷ xs) zero a b e = refl
+put-there (x ∷ xs) (suc i) a b e = put-there xs i a b e
 
 module _ {O A R : Type 0} (does : O → A → R → O → Type 0) (o : O) (n : ℕ) where
   abbrev Rule : TableState O A R → Type 0
@@ -81,16 +81,16 @@ module _ {O A R : Type 0} (does : O → A → R → O → Type 0) (o : O) (n : �
   own : (log : List (Entry A R)) (v : View O A R) → v.number < v.next → Fits o n log v → (v.opening ≡ Some o) × (v.number < n) × Extends v.number v.seen log
   own log v lt f = f v.number v.seen (inl (le_refl v.number, lt, refl))
 
-  takes_free : (slots : ℕ) (s : TableState O A R) (r : Rule s) (id : ℕ) (me : SeatState O A R) (free : ℕ) → me.0.number < me.0.next → get_elem? s.views id ≡ some me.0 → word s ≡ free → Free does o r.log s
+  takes-free : (slots : ℕ) (s : TableState O A R) (r : Rule s) (id : ℕ) (me : SeatState O A R) (free : ℕ) → me.0.number < me.0.next → get_elem? s.views id ≡ some me.0 → word s ≡ free → Free does o r.log s
       → (w : View O A R) × (a : Act (KeptLot O A R)) × Valid s.homes me.1 a × Rule (stepped s counting (either (eqb (word s) free) (free + 1) (word s)) id me.1 w a) × took does (step slots counting free (free + 1) none) me (word s) (w, carried_after me.1 a)
-  takes_free slots s r id me free lt at hit t =
+  takes-free slots s r id me free lt at hit t =
       let lot = t.0 in
       let words = t.1 in
       let homes = t.2 in
       let v = me.0 in
       let w = holding v r.log in
       let x : ℕ = word s in
-      let wd : x ≡ 2 * length r.log = (index_at s.words counting (2 * length r.log) 0 words).1 in
+      let wd : x ≡ 2 * length r.log = (index-at s.words counting (2 * length r.log) 0 words).1 in
       let next : either (eqb x free) (free + 1) x ≡ 2 * length r.log + 1 = ap (λ b. either b (free + 1) x) (eq-eqb x free hit) ∙ ap (λ (z : ℕ). z + 1) (sym hit ∙ wd) in
       let f = own r.log v lt (r.fits id v at) in (
         w,
@@ -101,14 +101,14 @@ module _ {O A R : Type 0} (does : O → A → R → O → Type 0) (o : O) (n : �
           rises = r.rises;
           capped = r.capped;
           known = r.known;
-          fits = each_after (λ _ u. Fits o n r.log u) (λ _ u. Fits o n r.log u) s.views id w r.fits (fits_seen o n r.log v true (r.fits id v at)) (λ j u _ _ g. g);
-          unique = unique_after s.views id v w at (narrows_seen v true r.log) r.unique;
+          fits = each-after (λ _ u. Fits o n r.log u) (λ _ u. Fits o n r.log u) s.views id w r.fits (fits-seen o n r.log v true (r.fits id v at)) (λ j u _ _ g. g);
+          unique = unique-after s.views id v w at (narrows-seen v true r.log) r.unique;
           turn = inr (
             id,
             w,
-            put_there s.words counting (2 * length r.log) _ words ∙ ap some next,
+            put-there s.words counting (2 * length r.log) _ words ∙ ap some next,
             ap (λ (hs : List (Maybe (KeptLot O A R))). set hs 0 none) homes,
-            put_there s.views id v w at,
+            put-there s.views id v w at,
             lt,
             refl,
             (λ j u e h. ⊎_elim
@@ -119,25 +119,25 @@ module _ {O A R : Type 0} (does : O → A → R → O → Type 0) (o : O) (n : �
         ((λ _. (o, r.log, lot, f.0, refl, (r.rises, t.3), t.4, wd, r.capped, f.2)), (λ no. absurd (no hit))),
       )
 
-  pub takes_turn : (slots id : ℕ) (me : SeatState O A R) (free : ℕ) → free % 2 ≡ 0 → me.0.number < me.0.next
+  pub takes-turn : (slots id : ℕ) (me : SeatState O A R) (free : ℕ) → free % 2 ≡ 0 → me.0.number < me.0.next
       → Allows Rule slots id me counting (λ r. either (eqb r free) (free + 1) r) (took does (step slots counting free (free + 1) none) me)
-  takes_turn slots id me free even lt s r sized at small = let x : ℕ = word s in dite (ℕ_discrete x free)
-      (λ hit. ⊎_elim (λ (t : Free does o r.log s). takes_free slots s r id me free lt at hit t)
-      (λ (t : Held r.log s). let words = t.2 in let wd : x ≡ 2 * length r.log + 1 = (index_at s.words counting (2 * length r.log + 1) 0 words).1 in let odd : free ≡ 2 * length r.log + 1 = sym hit ∙ wd in absurd (omega arith)) r.turn)
+  takes-turn slots id me free even lt s r sized at small = let x : ℕ = word s in dite (ℕ_discrete x free)
+      (λ hit. ⊎_elim (λ (t : Free does o r.log s). takes-free slots s r id me free lt at hit t)
+      (λ (t : Held r.log s). let words = t.2 in let wd : x ≡ 2 * length r.log + 1 = (index-at s.words counting (2 * length r.log + 1) 0 words).1 in let odd : free ≡ 2 * length r.log + 1 = sym hit ∙ wd in absurd (omega arith)) r.turn)
       (λ miss. (me.0, keeps, tt, unmoved s id me.0 (either (eqb x free) (free + 1) x) (ap (λ b. either b (free + 1) x) (ne_eqb x free miss)) at r, ((λ hit. absurd (miss hit)), λ _. refl)))
 
   -- no view of a free table holds the turn, if the seat's view held it and holds it no more
-  let_go : (vs : List (View O A R)) (id holder : ℕ) (v w : View O A R) → get_elem? vs id ≡ some v → v.holds ≡ true → w.holds ≡ false
+  let-go : (vs : List (View O A R)) (id holder : ℕ) (v w : View O A R) → get_elem? vs id ≡ some v → v.holds ≡ true → w.holds ≡ false
       → ((j : ℕ) (u : View O A R) → get_elem? vs j ≡ some u → u.holds ≡ true → j ≡ holder) → (j : ℕ) (u : View O A R) → get_elem? (set vs id w) j ≡ some u → u.holds ≡ false
-  let_go vs id holder v w at hv hw only j u e = ⊎_elim
+  let-go vs id holder v w at hv hw only j u e = ⊎_elim
       (λ (c : (j ≡ id) × (w ≡ u)). ap (λ (y : View O A R). y.holds) (sym c.1) ∙ hw)
       (λ (c : (j ≢ id) × (get_elem? vs j ≡ some u)). false_from_ne_true u.holds (λ h. c.0 (only j u c.1 h ∙ sym (only id v at hv)))) (at_set vs id j w u e)
 
-  releases_held : (slots : ℕ) (s : TableState O A R) (r : Rule s) (id : ℕ) (v : View O A R) (m ob : O) (clock : ℕ) (x : Snapshot A × Snapshot R) (call : Snapshot (Option (Snapshot A × Snapshot R))) (new : ℕ)
+  releases-held : (slots : ℕ) (s : TableState O A R) (r : Rule s) (id : ℕ) (v : View O A R) (m ob : O) (clock : ℕ) (x : Snapshot A × Snapshot R) (call : Snapshot (Option (Snapshot A × Snapshot R))) (new : ℕ)
       → v.holds ≡ true → v.number < v.next → v.taken ≡ [] → Leads does o v.seen m → does m x.0.value x.1.value ob → last_stamp (entry_stamps v.seen) < clock → clock ≤ 2 ^ 62 → new ≡ 2 * length v.seen + 2 → get_elem? s.views id ≡ some v
       → Held r.log s
       → let lot : Lot O A R = record { object = ob; clock = clock; last = call } in Rule (stepped s counting new id ((0, Some lot) ∷ []) (resting v (v.seen ++ entry_at v.number clock (Some x))) gives)
-  releases_held slots s r id v m ob clock x call new hv lt tk leads done later cap is at t =
+  releases-held slots s r id v m ob clock x call new hv lt tk leads done later cap is at t =
       let lot : Lot O A R = record { object = ob; clock = clock; last = call } in
       let e : Entry A R = record { stamp = clock; caller = v.number; act = x.0.value; answer = x.1.value } in
       let more : List (Entry A R) = v.seen ++ e ∷ [] in
@@ -147,26 +147,26 @@ module _ {O A R : Type 0} (does : O → A → R → O → Type 0) (o : O) (n : �
       let w = resting v more in
       let size : new ≡ 2 * length more = omega (arith, length-append v.seen (e ∷ [])) in record {
         log = more;
-        rises = rises_more 0 v.seen e (subst (λ (l : List (Entry A R)). RisesAbove 0 (entry_stamps l)) (sym sl) r.rises) later;
-        capped = subst (λ (z : ℕ). z ≤ 2 ^ 62) (sym (last_more 0 v.seen e)) cap;
+        rises = rises-more 0 v.seen e (subst (λ (l : List (Entry A R)). RisesAbove 0 (entry_stamps l)) (sym sl) r.rises) later;
+        capped = subst (λ (z : ℕ). z ≤ 2 ^ 62) (sym (last-more 0 v.seen e)) cap;
         known = All-push (λ x. x.caller < n) v.seen e (subst (All (λ x. x.caller < n)) (sym sl) r.known) (own v.seen v lt (old id v at)).1;
-        fits = each_after (λ _ u. Fits o n v.seen u) (λ _ u. Fits o n more u) s.views id w old
+        fits = each-after (λ _ u. Fits o n v.seen u) (λ _ u. Fits o n more u) s.views id w old
             (λ k l h. ⊎_elim
             (λ (c : (v.number ≤ k) × (k < v.next) × (l ≡ more)). let g = old id v at k v.seen (inl (c.0, c.1, refl)) in (g.0, g.1, subst (λ (y : List (Entry A R)). Extends k y more) (sym c.2) (extends-self k more)))
             (λ (c : (i : ℕ) × (get_elem? v.taken i ≡ some (k, l))). absurd (some-ne-none (k, l) (sym c.1 ∙ ap (λ (z : List (ℕ × List (Entry A R))). get_elem? z c.0) tk))) h)
             (λ j u other a f k l h. let g = f k l h in (
               g.0,
               g.1,
-              extends_more k l v.seen e (λ same. other (r.unique j id u v k l v.seen a at h (let lo : v.number ≤ k = omega arith in let hi : k < v.next = omega arith in inl (lo, hi, refl)))) g.2,
+              extends-more k l v.seen e (λ same. other (r.unique j id u v k l v.seen a at h (let lo : v.number ≤ k = omega arith in let hi : k < v.next = omega arith in inl (lo, hi, refl)))) g.2,
             ));
-        unique = unique_after s.views id v w at (narrows_seen v false more) r.unique;
+        unique = unique-after s.views id v w at (narrows-seen v false more) r.unique;
         turn = inl (
           lot,
-          put_there s.words counting (2 * length r.log + 1) new t.2 ∙ ap some size,
+          put-there s.words counting (2 * length r.log + 1) new t.2 ∙ ap some size,
           ap (λ (hs : List (Maybe (KeptLot O A R))). set hs 0 (some (Some lot))) t.3,
-          leads_more does o v.seen m e ob leads done,
-          sym (last_more 0 v.seen e),
-          let_go s.views id t.0 v w at hv refl (λ j u a h. (only j u a h).0),
+          leads-more does o v.seen m e ob leads done,
+          sym (last-more 0 v.seen e),
+          let-go s.views id t.0 v w at hv refl (λ j u a h. (only j u a h).0),
         );
       }
 
@@ -178,14 +178,14 @@ module _ {O A R : Type 0} (does : O → A → R → O → Type 0) (o : O) (n : �
         resting v (v.seen ++ entry_at v.number clock (Some x)),
         gives,
         tt,
-        ⊎_elim (λ (t : Free does o r.log s). absurd (true≢false (sym hv ∙ t.5 id v at))) (λ (t : Held r.log s). releases_held slots s r id v m ob clock x call new hv lt tk leads done later cap is at t) r.turn,
+        ⊎_elim (λ (t : Free does o r.log s). absurd (true≢false (sym hv ∙ t.5 id v at))) (λ (t : Held r.log s). releases-held slots s r id v m ob clock x call new hv lt tk leads done later cap is at t) r.turn,
         ap (λ (c : Option (Snapshot A × Snapshot R)). (resting v (v.seen ++ entry_at v.number clock c), rest ((0, Some lot) ∷ []))) (sym noted),
       )
 
-  yields_held : (slots : ℕ) (s : TableState O A R) (r : Rule s) (id : ℕ) (v : View O A R) (lot : Lot O A R) (new : ℕ)
+  yields-held : (slots : ℕ) (s : TableState O A R) (r : Rule s) (id : ℕ) (v : View O A R) (lot : Lot O A R) (new : ℕ)
       → v.holds ≡ true → Leads does o v.seen lot.object → lot.clock ≡ last_stamp (entry_stamps v.seen) → new ≡ 2 * length v.seen → get_elem? s.views id ≡ some v
       → Held r.log s → Rule (stepped s counting new id ((0, Some lot) ∷ []) (resting v v.seen) gives)
-  yields_held slots s r id v lot new hv leads clock is at t =
+  yields-held slots s r id v lot new hv leads clock is at t =
       let only = t.7 in
       let sl : v.seen ≡ r.log = (only id v at hv).1 in
       let w = resting v v.seen in record {
@@ -194,15 +194,15 @@ module _ {O A R : Type 0} (does : O → A → R → O → Type 0) (o : O) (n : �
         capped = subst (λ (l : List (Entry A R)). last_stamp (entry_stamps l) ≤ 2 ^ 62) (sym sl) r.capped;
         known = subst (All (λ e. e.caller < n)) (sym sl) r.known;
         fits = subst (λ (l : List (Entry A R)). (j : ℕ) (u : View O A R) → get_elem? (set s.views id w) j ≡ some u → Fits o n l u) (sym sl)
-            (each_after (λ _ u. Fits o n r.log u) (λ _ u. Fits o n r.log u) s.views id w r.fits (r.fits id v at) (λ j u _ _ g. g));
-        unique = unique_after s.views id v w at (narrows_seen v false v.seen) r.unique;
+            (each-after (λ _ u. Fits o n r.log u) (λ _ u. Fits o n r.log u) s.views id w r.fits (r.fits id v at) (λ j u _ _ g. g));
+        unique = unique-after s.views id v w at (narrows-seen v false v.seen) r.unique;
         turn = inl (
           lot,
-          put_there s.words counting (2 * length r.log + 1) new t.2 ∙ ap some is,
+          put-there s.words counting (2 * length r.log + 1) new t.2 ∙ ap some is,
           ap (λ (hs : List (Maybe (KeptLot O A R))). set hs 0 (some (Some lot))) t.3,
           leads,
           clock,
-          let_go s.views id t.0 v w at hv refl (λ j u a h. (only j u a h).0),
+          let-go s.views id t.0 v w at hv refl (λ j u a h. (only j u a h).0),
         );
       }
 
@@ -213,6 +213,6 @@ module _ {O A R : Type 0} (does : O → A → R → O → Type 0) (o : O) (n : �
     resting v v.seen,
     gives,
     tt,
-    ⊎_elim (λ (t : Free does o r.log s). absurd (true≢false (sym hv ∙ t.5 id v at))) (λ (t : Held r.log s). yields_held slots s r id v lot new hv leads clock is at t) r.turn,
+    ⊎_elim (λ (t : Free does o r.log s). absurd (true≢false (sym hv ∙ t.5 id v at))) (λ (t : Held r.log s). yields-held slots s r id v lot new hv leads clock is at t) r.turn,
     refl,
   )

@@ -1,5 +1,5 @@
 //! The call: waiting for the turn, running the object, and giving the turn back.
-ghost use Rattle.std.specs.Prelude.{length, ◌≡◌, ◌+◌, ◌*◌, ◌<◌, ◌≤◌, ◌^◌, [], ◌∷◌, ◌++◌, false, true, None, Some};
+ghost use Rattle.std.specs.Prelude.{length, ◌≡◌, ◌+◌, ◌*◌, ◌<◌, ◌≤◌, ◌^◌, [], ◌∷◌, ◌++◌, true, None, Some};
 ghost use Rattle.abt_interleave.specs.Histories.{last_stamp, Extends, RisesAbove, Leads, entry_stamps};
 ghost use Rattle.abt_booth.specs.Calls.{GrowsBy};
 ghost use Rattle.abt_booth.specs.Rule.{Takes, IsOf, holding, resting};

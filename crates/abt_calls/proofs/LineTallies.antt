@@ -84,7 +84,3 @@ module _ (S : State) (u : ℕ) where
 -- a declared unit stands once in the line of its place
 pub line-tally : (W : Parts) (S : State) (l : Line) (u : ℕ) → u < length W.units → tally u (owned_in W S l) ≡ one (is_some (ticket_in l (S.place u)))
 line-tally W S l u declared = below S u (λ v. ticket_in l (S.place v)) (length W.units) declared
-
--- and no other unit does
-pub undeclared-tally : (W : Parts) (S : State) (l : Line) (u : ℕ) → length W.units ≤ u → tally u (owned_in W S l) ≡ 0
-undeclared-tally W S l u undeclared = above S u (λ v. ticket_in l (S.place v)) (length W.units) undeclared

@@ -17,7 +17,7 @@ use Rattle.abt_machine.specs.Lines.{Line, InPool, InTray, InHand, InNext, InFram
 use Rattle.abt_machine.specs.Start.{start, start_place, count_at}
 use Rattle.abt_machine.specs.Values.{Owned, owned_at, owned_in, PoolIs, DeskIs, MonitorIs, EventualIs, FutureIs, BarrierIs, RwLockIs, conditions_from, eventual_at, future_at, barrier_at, monitor_at, rwlock_at, phase_at, waiters_at}
 use Rattle.abt_laws.proofs.Lists.{EachOf-then}
-use Rattle.abt_laws.proofs.Pushes.{AllBelow, AllBelow-insert, insert_at_end}
+use Rattle.abt_laws.proofs.Pushes.{AllBelow, AllBelow-insert, insert-at-end}
 use Rattle.abt_calls.proofs.SiteCalls.{condition-below}
 use Rattle.abt_calls.specs.Starts.{ConditionsAreCounted, ConditionsAreNumbered, ObjectsStart, PartsStart, first_units, start_barrier, start_eventual, start_future, start_monitor, start_part, start_phase, start_rwlock, starts_in}
 
@@ -70,7 +70,7 @@ module _ (W : Parts) (p : ℕ) where
       → map (λ (r : ℕ × ℕ). r.1) (ticketed_step n (if b then Some (count_at W q n) else None) ps) ≡ map (λ (r : ℕ × ℕ). r.1) ps ++ cond b (n ∷ []) []
   more-by n q true ps e a =
       let same : q ≡ p = eqb-true q p e in
-      ap (map (λ (r : ℕ × ℕ). r.1)) (insert_at_end (count_at W q n) n ps (subst (λ r. AllBelow (count_at W r n) ps) (sym same) a))
+      ap (map (λ (r : ℕ × ℕ). r.1)) (insert-at-end (count_at W q n) n ps (subst (λ r. AllBelow (count_at W r n) ps) (sym same) a))
       ∙ map-append (λ (r : ℕ × ℕ). r.1) ps ((count_at W q n, n) ∷ [])
   more-by n q false ps e a = sym (append-nil (map (λ (r : ℕ × ℕ). r.1) ps))
 

@@ -14,23 +14,23 @@ use Rattle.abt_chain.specs.Keeping.{Have, IsPoolOf, LastsWith, nothing, only_poo
 pub Fits-lasts : (W : Parts) → LastsWith (IsPoolOf W) (Fits W)
 Fits-lasts W = record { received = λ o n fits. Fits-received fits n; reborn = λ o p fits declared. Fits-reborn fits p declared }
 
-find_by : (F : Owned → Type 0) (b : Bool) (x o : Owned) (f : Option Owned) → F x → (f ≡ Some o → F o) → cond b (Some x) f ≡ Some o → F o
-find_by F true x o f has go e = let same : x ≡ o = cc in subst F same has
-find_by F false x o f has go e = go e
+find-by : (F : Owned → Type 0) (b : Bool) (x o : Owned) (f : Option Owned) → F x → (f ≡ Some o → F o) → cond b (Some x) f ≡ Some o → F o
+find-by F true x o f has go e = let same : x ≡ o = cc in subst F same has
+find-by F false x o f has go e = go e
 
 -- what is true of each unit is true of the one that is found
 pub All-find : (F : Owned → Type 0) (u : ℕ) (xs : List Owned) (o : Owned) → All F xs → find (is_unit u) xs ≡ Some o → F o
 All-find F u [] o all e = cc
-All-find F u (x ∷ xs) o all e = find_by F (is_unit u x) x o _ (All-head F x xs all) (All-find F u xs o (All-tail F x xs all)) e
+All-find F u (x ∷ xs) o all e = find-by F (is_unit u x) x o _ (All-head F x xs all) (All-find F u xs o (All-tail F x xs all)) e
 
-without_by : (F : Owned → Type 0) (b : Bool) (x : Owned) (xs w : List Owned) → F x → All F xs → All F w → All F (cond b xs (x ∷ w))
-without_by F true x xs w has all left = all
-without_by F false x xs w has all left = All-cons F x w has left
+without-by : (F : Owned → Type 0) (b : Bool) (x : Owned) (xs w : List Owned) → F x → All F xs → All F w → All F (cond b xs (x ∷ w))
+without-by F true x xs w has all left = all
+without-by F false x xs w has all left = All-cons F x w has left
 
 -- what is true of each unit is true of each that is left
 pub All-without : (F : Owned → Type 0) (u : ℕ) (xs : List Owned) → All F xs → All F (without u xs)
 All-without F u [] all = All-nil F
-All-without F u (x ∷ xs) all = without_by F (is_unit u x) x xs _ (All-head F x xs all) (All-tail F x xs all) (All-without F u xs (All-tail F x xs all))
+All-without F u (x ∷ xs) all = without-by F (is_unit u x) x xs _ (All-head F x xs all) (All-tail F x xs all) (All-without F u xs (All-tail F x xs all))
 
 -- what a received value keeps is true of each unit that has received it
 pub All-received : (F : Owned → Type 0) (D : ℕ → Type 0) → LastsWith D F → (n : ℕ) (xs : List Owned) → All F xs → All F (map (received n) xs)

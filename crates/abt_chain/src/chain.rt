@@ -1,6 +1,6 @@
 //! A chain, and its calls.
 
-ghost use Rattle.std.specs.Prelude.{◌≡◌, ◌<◌, ◌≤◌, ◌+◌, ℕ, [], ◌∷◌, ◌++◌, None, Some, IfNone, IfSome, ◌==◌, length};
+ghost use Rattle.std.specs.Prelude.{◌≡◌, ◌<◌, ◌≤◌, ◌+◌, [], ◌∷◌, ◌++◌, None, Some, IfNone, IfSome, ◌==◌, length};
 ghost use Rattle.std.specs.List.{find};
 ghost use Rattle.abt_machine.specs.Pools.{is_unit, without};
 ghost use Rattle.abt_unit.specs.Units.{IsFree};

@@ -1,6 +1,6 @@
 //! A journal judged event by event.
 
-ghost use Rattle.std.specs.Prelude.{◌≡◌, ◌<◌, ◌-◌, ◌^◌, ◌++◌, [], ◌∷◌, IfOk, List, length};
+ghost use Rattle.std.specs.Prelude.{◌<◌, ◌-◌, ◌^◌, ◌++◌, [], ◌∷◌, IfOk, List, length};
 ghost use Rattle.abt_check.specs.Judges.{HasJudged, Judges};
 ghost use Rattle.abt_machine.specs.Rounds.{OrdersStored};
 ghost use Rattle.abt_machine.specs.Valid.{IsValid};

@@ -1,5 +1,5 @@
 -- Seats are dealt to passes.
-use Rattle.std.proofs.Common.{◌≡◌, ℕ, suc, ◌+◌, ◌<◌, ◌≤◌, List, [], ◌∷◌, ◌++◌, reverse, set, length, get_or, refl, sym, ◌∙◌, ap, subst, arith, inl, inr, length-append, length-set, append_assoc}
+use Rattle.std.proofs.Common.{◌≡◌, ℕ, suc, ◌+◌, ◌<◌, ◌≤◌, List, [], ◌∷◌, ◌++◌, reverse, set, length, get_or, sym, ◌∙◌, ap, subst, arith, inl, inr, length-append, length-set, append_assoc}
 use Rattle.std.specs.Prelude.{vec_capacity}
 use Rattle.std.specs.List.{All}
 use Rattle.std.proofs.Math.Seq.{get_or-append_seam}
@@ -36,9 +36,6 @@ gets-last booth all now rest seat new is =
     )
 
 module _ (booth : SiteBooth) (old : List SplitPass) where
-  pub got-none : (n : ℕ) → n ≡ length old → HaveGot booth n old old
-  got-none n is = record { many = refl; got = λ k p q le lt. absurd (omega (arith, le, lt, is)); others = λ k p lt. refl }
-
   pub got-more : (left : ℕ) (mid : List SplitPass) (q : SplitPass) → HaveGot booth (left + 1) old mid → left < length old → ((p : SplitPass) → Gets booth left (get_or old left p) q) → HaveGot booth left old (set mid left q)
   got-more left mid q got lt gets = record {
     many = length-set mid left q ∙ got.many;
@@ -105,38 +102,9 @@ dealt-more booths booth room n old new dealt got = record {
   each = λ k pass lt. dealt-by booths booth k room (get_or old k pass) (get_or new k pass) (dealt.each k pass lt) (got.got k pass pass (omega arith) (subst (λ m. k < m) (sym dealt.many) lt));
 }
 
--- a pass that is dealt for one more has room
-pub room-for-one : (booths : List SiteBooth) (room n : ℕ) (passes : List SplitPass) → AreDealt booths (room + 1) n passes → (k : ℕ) (pass : SplitPass) → k < length passes
-    → length (get_or passes k pass).seats.items < vec_capacity (get_or passes k pass).seats
-room-for-one booths room n passes dealt k pass lt =
-    let r = (dealt.each k pass (subst (λ m. k < m) dealt.many lt)).room in
-    omega (arith, r)
-
 -- the object that goes from the room into a booth stays where it is among all
 pub one-locked : (os room : List OneValue) (one : OneValue) → (os ++ one ∷ []) ++ reverse room ≡ os ++ reverse (room ++ one ∷ [])
 one-locked os room one = append_assoc os (one ∷ []) (reverse room) ∙ ap (λ xs. os ++ xs) (sym (reverse-append room (one ∷ [])))
-
--- One pass more.
-
-module _ (room : ℕ) where
-  pub seatless-more : (passes : List SplitPass) (k : ℕ) (pass : SplitPass) → AreDealt [] room k passes → pass.stream ≡ k → pass.seats.items ≡ [] → room ≤ vec_capacity pass.seats → AreDealt [] room (k + 1) (passes ++ pass ∷ [])
-  seatless-more passes k pass dealt stream none place = record {
-    many = length-append passes (pass ∷ []) ∙ ap (λ n. n + 1) dealt.many;
-    each = λ j p lt. elim (eqb_tells j k) [
-      | inl e ↦
-          let here : pass ≡ get_or (passes ++ pass ∷ []) j p = sym (get_or-append_seam passes pass [] p) ∙ ap (λ i. get_or (passes ++ pass ∷ []) i p) (dealt.many ∙ sym e.1) in
-          let dealt-here : IsDealt [] room k pass = record {
-            stream = stream;
-            seats = subst (λ (seats : List SiteSeat). AreSeats k [] seats) (sym none) (record { many = refl; own = λ i b s less. absurd (omega (arith, less)) });
-            fresh = subst (λ (seats : List SiteSeat). All (λ seat. seen_of seat ≡ []) seats) (sym none) (All-nil (λ (seat : SiteSeat). seen_of seat ≡ []));
-            room = (let n : length pass.seats.items ≡ 0 = ap length none in omega (arith, n, place));
-          } in
-          subst (λ v. IsDealt [] room j v) here (subst (λ i. IsDealt [] room i pass) (sym e.1) dealt-here)
-      | inr e ↦
-          let less : j < k = (let ne = e.1 in omega (arith, lt, ne)) in
-          subst (λ v. IsDealt [] room j v) (sym (get_or_append_left passes (pass ∷ []) p j (subst (λ n. j < n) (sym dealt.many) less))) (dealt.each j p less)
-    ];
-  }
 
 -- passes that are dealt are those of a split
 pub dealt-passes : (split : SplitValue) (room n : ℕ) (passes : List SplitPass) → AreDealt split.booths room n passes → AreAll (IsPassOf split) stream_of n passes × All HasSeenNothing passes

@@ -13,7 +13,6 @@ use Rattle.abt_machine.specs.Monitors.{list_from}
 use Rattle.abt_machine.specs.Numbers.{object_no}
 use Rattle.abt_machine.specs.Values.{Owned, Phase, Unborn, Out, Suspended, Ended, conditions_from}
 use Rattle.abt_machine.specs.Workloads.{is_condition_of}
-use Rattle.abt_desk.specs.Phases.{shown_in}
 use Rattle.abt_machine.specs.declared.events.Site.TheVariants as site
 use Rattle.abt_machine.specs.declared.operations.Thing.TheVariants as thing
 use Rattle.abt_machine.specs.Values.{Object, PoolIs, DeskIs, MonitorIs, EventualIs, FutureIs, BarrierIs, RwLockIs, object_of}
@@ -27,18 +26,11 @@ use Rattle.abt_laws.specs.Footprint.{OfSite}
 use Rattle.abt_calls.specs.Keeps.{contents_of}
 use Rattle.abt_calls.specs.Showing.{Row, rows_as, rows_at, rows_at_desk, rows_of_object}
 use Rattle.abt_calls.specs.Totals.{desks_of, holders_from, pools_at, thing_holders}
-use Rattle.abt_commons.specs.Groups.{FitsRow, all_rows, row_of, rows_by, rows_from, rows_held}
+use Rattle.abt_commons.specs.Groups.{FitsRow, all_rows, rows_by, rows_from, rows_held}
 use Rattle.abt_commons.specs.Held.{OneValue, ObjectsValue, numbered_object, object_from}
 use Rattle.abt_commons.specs.Reading.{rows_at_site}
 use Rattle.abt_commons.specs.Sites.{monitor_number, eventual_number, future_number, barrier_number, rwlock_number, site_at, site_number, sites, thing_number}
 use Rattle.abt_commons.proofs.Numbers.{declared-some, desk-there, pool-there, thing-there}
-
--- the unit of a desk
-pub own-rows : (phase : Phase) → rows_at_desk phase ≡ row_of (shown_in phase)
-own-rows (Unborn o) = refl
-own-rows Out = refl
-own-rows (Suspended o) = refl
-own-rows (Ended o c) = refl
 
 -- Conditions of a mutex.
 

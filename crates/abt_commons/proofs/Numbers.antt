@@ -12,7 +12,6 @@ use Rattle.abt_machine.specs.declared.workload.Parts.{Parts}
 use Rattle.abt_machine.specs.Numbers.{pool_no, unit_no}
 use Rattle.abt_machine.specs.Workloads.{thing_at}
 use Rattle.abt_laws.proofs.Options.{none≢some, some-injective}
-use Rattle.abt_calls.specs.Asking.{IsSite}
 use Rattle.abt_commons.specs.Sites.{sites, site_at, site_of, site_number, thing_number, declared_number, monitor_number, eventual_number, future_number, barrier_number, rwlock_number}
 
 -- The kind of a thing that has a number as such a kind, and the number.
@@ -96,15 +95,6 @@ module _ (W : Parts) where
     | inl x ↦ ap (declared_number i) x.2
     | inr past ↦ absurd (omega (arith, past.0, lt))
   ]
-
-  pub site-numbered : (x : Site) → IsSite W x → (i : ℕ) × (site_number W x ≡ Some i)
-  site-numbered (site.Pool p) is = (p.0, declared-some p.0 W.pools p.0 is)
-  site-numbered (site.Desk u) is = (length W.pools + u.0, declared-some (length W.pools + u.0) W.units u.0 is)
-  site-numbered (site.Monitor x) is = (thing_number W x.0, ap (monitor_number (thing_number W x.0)) is)
-  site-numbered (site.Eventual x) is = (thing_number W x.0, ap (eventual_number (thing_number W x.0)) is)
-  site-numbered (site.Future x) is = (thing_number W x.0, ap (future_number (thing_number W x.0)) is.2)
-  site-numbered (site.Barrier x) is = (thing_number W x.0, ap (barrier_number (thing_number W x.0)) is.1)
-  site-numbered (site.Rw x) is = (thing_number W x.0, ap (rwlock_number (thing_number W x.0)) is)
 
 -- Lists of one item many times, and with one item set.
 

@@ -1,6 +1,6 @@
 //! The objects of a workload as a run starts with them.
 
-ghost use Rattle.std.specs.Prelude.{◌≡◌, ◌<◌, ◌+◌, ◌≤◌, length, IfOk, OnOk, Some};
+ghost use Rattle.std.specs.Prelude.{◌≡◌, ◌<◌, ◌+◌, length, IfOk, OnOk, Some};
 ghost use Rattle.abt_calls.specs.Starts.{start_desk};
 ghost use Rattle.abt_machine.specs.Workloads.{start_of, thing_at};
 ghost use Rattle.abt_commons.specs.Kinds.{object_in};

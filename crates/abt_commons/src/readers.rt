@@ -2,7 +2,6 @@
 
 ghost use Rattle.std.specs.Prelude.{ℕ, ◌≡◌, ◌<◌, ◌==◌, ◌⊎◌, length, not, None, Some, IfNone, IfSome};
 ghost use Rattle.std.specs.List.{find};
-ghost use Rattle.abt_machine.specs.declared.events.Shown.TheVariants as shows;
 ghost use Rattle.abt_machine.specs.declared.events.Site.TheVariants as site;
 ghost use Rattle.abt_machine.specs.declared.numbers.PoolNo.{PoolNo};
 ghost use Rattle.abt_machine.specs.declared.numbers.UnitNo.{UnitNo};
@@ -16,7 +15,6 @@ ghost use Rattle.abt_chain.specs.Results.{unit_found};
 ghost use Rattle.abt_calls.specs.Allowed.{Allows};
 ghost use Rattle.abt_calls.specs.Keeps.{contents_of};
 ghost use Rattle.abt_commons.specs.Held.{object_at};
-ghost use Rattle.abt_commons.specs.Kinds.{object_in};
 ghost use Rattle.abt_calls.specs.Showing.{Row};
 ghost use Rattle.abt_commons.specs.Reading.{HoldNone, IsHeldAs, is_over, is_ready, is_row_of, row_found, rows_at_site, waiters_at_thing};
 

@@ -178,10 +178,6 @@ module _ (W : Parts) (Z : List OrderShape) (n : ℕ) (crew : CrewValue) (is : Is
 pub crew-at : (streams : List StreamValue) (s : ℕ) (stream : StreamValue) → s < length streams → stream ≡ get_or streams s stream → slice_get streams s ≡ Some stream
 crew-at streams s stream lt e = slice_get-get_or streams s stream lt ∙ ap Some (sym e)
 
--- its own workload and number of steps are those that it is of
-pub to-own : (P : Parts → ℕ → Type 0) (W : Parts) (Z : List OrderShape) (n : ℕ) (crew : CrewValue) → IsCrew W Z n crew → P W n → P crew.workload crew.steps
-to-own P W Z n crew is p = subst (λ V. P V crew.steps) (sym is.workload) (subst (P W) (sym is.steps) p)
-
 pub from-own : (P : Parts → ℕ → Type 0) (W : Parts) (Z : List OrderShape) (n : ℕ) (crew : CrewValue) → IsCrew W Z n crew → P crew.workload crew.steps → P W n
 from-own P W Z n crew is p = subst (P W) is.steps (subst (λ V. P V crew.steps) is.workload p)
 

@@ -18,14 +18,13 @@ use Rattle.abt_machine.specs.Turns.{due_of}
 use Rattle.abt_machine.specs.Valid.{IsValid}
 use Rattle.abt_machine.proofs.Declared.{listed-declared}
 use Rattle.abt_machine.proofs.Elements.{map-all}
-use Rattle.abt_machine.specs.Values.{Owned, Object, PoolIs, DeskIs, MonitorIs, EventualIs, FutureIs, BarrierIs, RwLockIs, NotHere, Phase, Unborn, Out, Suspended, Ended}
+use Rattle.abt_machine.specs.Values.{Owned, Object, PoolIs, DeskIs, MonitorIs, EventualIs, FutureIs, BarrierIs, RwLockIs, NotHere}
 use Rattle.abt_machine.specs.Workloads.{main_from, main_of, pools_from, pools_of}
 use Rattle.abt_calls.specs.Allowed.{Allows}
 use Rattle.abt_calls.specs.Keeps.{contents_of}
 use Rattle.abt_calls.specs.Starts.{start_part}
 use Rattle.abt_commons.specs.Held.{ObjectsValue, object_at}
-use Rattle.abt_commons.specs.Reading.{is_over}
-use Rattle.abt_outcomes.specs.Values.{IsEmptyPool, IsIdle, IsOverAt}
+use Rattle.abt_outcomes.specs.Values.{IsEmptyPool, IsIdle}
 use Rattle.abt_outcomes.proofs.Outcomes.{outcome-seen}
 use Rattle.abt_outcomes.proofs.Seen.{quiet-seen, spent-seen}
 use Rattle.abt_stream.specs.Streams.{StreamValue}
@@ -135,36 +134,6 @@ quiet-all W streams objects = (
 )
 
 -- Desks.
-
-pub over-desk : (o : Object) → is_over o ≡ true → IsOverAt o
-over-desk (DeskIs desk) is = by desk.phase is where
-  by : (phase : Phase) → is_over (DeskIs (record desk { phase = phase })) ≡ true → IsOverAt (DeskIs (record desk { phase = phase }))
-  by (Unborn o) is = tt
-  by Out is = cc
-  by (Suspended o) is = cc
-  by (Ended o c) is = tt
-over-desk (PoolIs pool) is = cc
-over-desk (MonitorIs m) is = cc
-over-desk (EventualIs e) is = cc
-over-desk (FutureIs f) is = cc
-over-desk (BarrierIs b) is = cc
-over-desk (RwLockIs l) is = cc
-over-desk NotHere is = cc
-
-pub living-desk : (o : Object) → is_over o ≡ false → IsOverAt o → ⊥
-living-desk (DeskIs desk) is over = by desk.phase is over where
-  by : (phase : Phase) → is_over (DeskIs (record desk { phase = phase })) ≡ false → IsOverAt (DeskIs (record desk { phase = phase })) → ⊥
-  by (Unborn o) is over = cc
-  by Out is over = over
-  by (Suspended o) is over = over
-  by (Ended o c) is over = cc
-living-desk (PoolIs pool) is over = over
-living-desk (MonitorIs m) is over = over
-living-desk (EventualIs e) is over = over
-living-desk (FutureIs f) is over = over
-living-desk (BarrierIs b) is over = over
-living-desk (RwLockIs l) is over = over
-living-desk NotHere is over = over
 
 -- Runs.
 

@@ -11,7 +11,6 @@ use Rattle.abt_machine.specs.Numbers.{stream_no}
 use Rattle.abt_machine.specs.Pieces.{IsPieceOf}
 use Rattle.abt_machine.specs.Values.{Owned}
 use Rattle.abt_machine.proofs.Elements.{All-left, All-right, map-all}
-use Rattle.abt_unit.specs.Fits.{Fits}
 use Rattle.abt_calls.specs.Effects.{unit_in}
 use Rattle.abt_calls.specs.Showing as held
 use Rattle.abt_calls.specs.Showing.{rows_as}
@@ -98,10 +97,6 @@ module _ (parts : StreamParts) where
             ∙ (ap (placed (rows_as x in_frames)) (third ∙ ap (placed (rows_as x in_tray)) (second ∙ ap (placed (rows_as x in_next)) first))
             ∙ sym (alike-append x (in_hand ++ in_next ++ in_tray) in_frames a
             ∙ ap (placed (rows_as x in_frames)) (alike-append x (in_hand ++ in_next) in_tray a ∙ ap (placed (rows_as x in_tray)) (alike-append x in_hand in_next a))))
-
--- units that fit have numbers below the workload's number of units
-pub fitting-below : (W : Parts) (os : List Owned) → All (Fits W) os → AreBelow (length W.units) os
-fitting-below W os all = λ k d lt. (all k d lt).number
 
 pub rows-below : (W : Parts) (rows : List held.Row) → All (FitsRow W) rows → All (λ (row : held.Row). row.1.number < length W.units) rows
 rows-below W rows all = λ k d lt. (all k d lt).number

@@ -25,9 +25,6 @@ get-push (z ∷ xs) x y zero e = inl e
 get-push (z ∷ xs) x y (suc i) e = elim (get-push xs x y i e) [ inl a ↦ inl a | inr b ↦ inr (ap suc b.0, b.1) ]
 
 module _ (W : Parts) (n : ℕ) where
-  pub none-started : AreStarted W n 0 []
-  none-started = record { many = refl; own = λ s stream e. cc }
-
   -- one stream more
   pub started-push : (k : ℕ) (streams : List StreamValue) (stream : StreamValue) → AreStarted W n k streams → IsStarted W n k stream → AreStarted W n (k + 1) (streams ++ stream ∷ [])
   started-push k streams stream all next = record {

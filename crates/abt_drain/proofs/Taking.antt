@@ -25,7 +25,7 @@ use Rattle.abt_outcomes.proofs.Working.{turns-left-are-seen}
 use Rattle.abt_drain.specs.Moments.{IsReached, LeadTo, Makes, Moment, Stays, event_at}
 use Rattle.abt_drain.specs.Rotations.{EndsRound, HasTurned, IsFresh, IsSpentIn, Lead, MakesMove, MakesStep, Moves, turns_at}
 use Rattle.abt_drain.proofs.Journals.{some-journal}
-use Rattle.abt_drain.proofs.Leading.{event-comes, event-leads, lead-sound, leads-join, makes-lead, none-lead}
+use Rattle.abt_drain.proofs.Leading.{event-comes, event-leads, lead-sound, leads-join, makes-lead}
 
 pub stays-same : (m : Moment) (s : ℕ) → Stays m m s
 stays-same m s = record { part = refl; log = refl; clock = refl }
@@ -58,10 +58,6 @@ step-no-miss (what.Put u p) step miss = miss
 step-no-miss (what.End u c) step miss = miss
 step-no-miss (what.Enter u) step miss = miss
 step-no-miss (what.Leave u) step miss = miss
-
--- at first no turn was taken
-pub none-moved : (W : Parts) (Z : List OrderShape) (s : ℕ) (m : Moment) → Moves W Z s m m
-none-moved W Z s m = record { events = []; lead = none-lead W Z m; no_step = tt; others = λ r ne. stays-same m r }
 
 module _ (W : Parts) (Z : List OrderShape) (valid : IsValid W) (stored : OrdersStored W Z) (n s : ℕ) where
   -- one event more

@@ -5,7 +5,7 @@ use Rattle.std.proofs.lemmas.Bool.{cases_eq, cases_lt}
 use Rattle.std.proofs.lemmas.List.{length-replicate, length_push}
 use Rattle.std.proofs.lemmas.List.Elements.{Contains-append_left, Contains-push, Contains-push_cases}
 use Rattle.std.proofs.lemmas.List.Sums.{count_by-le-length, sum_by-set}
-use Rattle.std.proofs.lemmas.Option.{slice_get-get_or, slice_get_within}
+use Rattle.std.proofs.lemmas.Option.{slice_get-get_or}
 use Rattle.abt_machine.specs.declared.numbers.PoolNo.{PoolNo}
 use Rattle.abt_machine.specs.declared.numbers.UnitNo.{UnitNo}
 use Rattle.abt_machine.specs.declared.operations.Op.{Op}
@@ -13,24 +13,17 @@ use Rattle.abt_machine.specs.declared.operations.Op.TheVariants as op
 use Rattle.abt_machine.specs.declared.workload.Parts.{Parts}
 use Rattle.abt_machine.specs.Numbers.{unit_no}
 use Rattle.abt_machine.specs.Valid.{IsValid}
-use Rattle.abt_machine.specs.Workloads.{body_at, op_at, ops_of, start_of}
+use Rattle.abt_machine.specs.Workloads.{op_at, start_of}
 use Rattle.abt_machine.proofs.Declared.{op-declared, undeclared-start}
 use Rattle.abt_laws.proofs.Options.{none≢some, some-injective}
 use Rattle.abt_flow.specs.Flow.{Created, IsReached, Starts}
-use Rattle.abt_flow.specs.Tables.{Adds, Closes, CreatesNone, CreatesUnit, Finds, Grows, HasMarked, IsClosedBelow, IsMarked}
+use Rattle.abt_flow.specs.Tables.{Adds, Closes, CreatesUnit, Finds, Grows, HasMarked, IsClosedBelow, IsMarked}
 use Rattle.abt_flow.proofs.Marks.{marked-here, marked-still, none-marked, was-marked}
 
 -- Growth.
 
 pub grows-none : (units : List UnitNo) (marks : List Bool) → Grows units marks units marks
 grows-none units marks = record { marked = λ u h. h; kept = λ i l. refl; more = omega arith }
-
-pub grows-then : (one two three : List UnitNo) (ks ls ms : List Bool) → Grows one ks two ls → Grows two ls three ms → Grows one ks three ms
-grows-then one two three ks ls ms g h = record {
-  marked = λ u m. h.marked u (g.marked u m);
-  kept = λ i l. (let m = g.more in h.kept i (omega arith)) ∙ g.kept i l;
-  more = (let m = g.more in let n = h.more in omega arith);
-}
 
 get-left : {A : Type 0} (xs ys : List A) (i : ℕ) → i < length xs → slice_get (xs ++ ys) i ≡ slice_get xs i
 get-left [] ys i l = absurd (omega arith)
@@ -103,22 +96,11 @@ creates-unit W u k v None is h = absurd h
 creates-unit W u k v (Some (op.Create w p)) is h = (p, is ∙ ap (λ n. Some (op.Create n p)) h)
 creates-unit W u k v (Some _) is h = absurd h
 
-none-created : (o : Option Op) (v : UnitNo) (p : PoolNo) → CreatesNone o → o ≡ Some (op.Create v p) → ⊥
-none-created o v p h e = subst CreatesNone e h
-
 same-unit : (o : Option Op) (v w : UnitNo) (p : PoolNo) → CreatesUnit o v → o ≡ Some (op.Create w p) → w ≡ v
 same-unit o v w p h e = let c : CreatesUnit (Some (op.Create w p)) v = subst (λ q. CreatesUnit q v) e h in c
 
 pub marked-grown : (W : Parts) (one two : List UnitNo) (marks more : List Bool) (u n : ℕ) → Grows one marks two more → HasMarked W marks u n → HasMarked W more u n
 marked-grown W one two marks more u n grows h k l v p is = grows.marked v.0 (h k l v p is)
-
--- one more operation, which creates nothing or what is marked
-pub marked-none : (W : Parts) (marks : List Bool) (u n : ℕ) → HasMarked W marks u n → CreatesNone (op_at W u n) → HasMarked W marks u (n + 1)
-marked-none W marks u n h none k l v p is =
-    elim (cases_eq k n) [
-      | inl same ↦ absurd (none-created (op_at W u n) v p none (subst (λ j. op_at W u j ≡ Some (op.Create v p)) same is))
-      | inr other ↦ h k (omega arith) v p is
-    ]
 
 pub marked-unit : (W : Parts) (marks : List Bool) (u n : ℕ) (w : UnitNo) → HasMarked W marks u n → CreatesUnit (op_at W u n) w → IsMarked marks w.0 → HasMarked W marks u (n + 1)
 marked-unit W marks u n w h creates marked k l v p is =
@@ -126,9 +108,6 @@ marked-unit W marks u n w h creates marked k l v p is =
       | inl same ↦ subst (λ (x : UnitNo). IsMarked marks x.0) (sym (same-unit (op_at W u n) w v p creates (subst (λ j. op_at W u j ≡ Some (op.Create v p)) same is))) marked
       | inr other ↦ h k (omega arith) v p is
     ]
-
-pub marked-closes : (W : Parts) (marks : List Bool) (u n : ℕ) → length (ops_of (body_at W u)) ≤ n → HasMarked W marks u n → Closes W marks u
-marked-closes W marks u n over h k v p is = let l : k < length (ops_of (body_at W u)) = slice_get_within (ops_of (body_at W u)) k (op.Create v p) is in h k (omega arith) v p is
 
 pub create-declared : (W : Parts) (u k : ℕ) (v : UnitNo) (p : PoolNo) → IsValid W → op_at W u k ≡ Some (op.Create v p) → v.0 < length W.units
 create-declared W u k v p valid is = (op-declared W u k (op.Create v p) valid is).0
@@ -172,6 +151,3 @@ closed-more W units new_units marks new_marks at u grows l is below closes i v m
       | inl same ↦ subst (λ (x : UnitNo). Closes W new_marks x.0) (some-injective (sym is ∙ subst (λ j. slice_get units j ≡ Some v) same was)) closes
       | inr other ↦ (λ k w p e. grows.marked w.0 (below i v (omega arith) was k w p e))
     ]
-
-pub closed-past : (W : Parts) (units : List UnitNo) (marks : List Bool) (at : ℕ) → length units ≤ at → IsClosedBelow W units marks at → IsClosedBelow W units marks (at + 1)
-closed-past W units marks at over below i v m here = let l : i < length units = slice_get_within units i v here in below i v (omega arith) here

@@ -1,7 +1,6 @@
 -- How the table of what is named goes on from operation to operation.
-use Rattle.std.proofs.Common.{◌≡◌, ℕ, ◌+◌, ◌<◌, ◌≤◌, Bool, true, false, List, length, replicate, Option, Some, None, set, get_or, length-set, refl, sym, ◌∙◌, ap, subst, arith, ◌⊎◌, inl, inr}
+use Rattle.std.proofs.Common.{◌≡◌, ℕ, ◌+◌, ◌<◌, ◌≤◌, Bool, true, false, List, length, Option, Some, None, set, get_or, length-set, refl, sym, ◌∙◌, ap, subst, arith, ◌⊎◌, inl, inr}
 use Rattle.std.proofs.lemmas.Bool.{cases_eq, cases_lt, true≢false}
-use Rattle.std.proofs.lemmas.List.{length-replicate}
 use Rattle.std.proofs.lemmas.Option.{slice_get_past, slice_get_within, get_or_from_slice_get}
 use Rattle.std.specs.Prelude.{slice_get}
 use Rattle.abt_machine.specs.declared.operations.Op.{Op}
@@ -15,7 +14,7 @@ use Rattle.abt_machine.proofs.Declared.{op-declared}
 use Rattle.abt_laws.proofs.Options.{none≢some, some-injective}
 use Rattle.abt_flow.specs.declared.naming.Naming.{Naming}
 use Rattle.abt_flow.specs.declared.naming.Naming.TheVariants.{Sets, Creates}
-use Rattle.abt_flow.proofs.Marks.{marked-here, marked-still, none-marked, was-marked}
+use Rattle.abt_flow.proofs.Marks.{marked-here, marked-still, was-marked}
 use Rattle.abt_flow.specs.Checks.{HasNamed, NamesOnce, Prior, named_at, named_by, named_from, names_in}
 
 -- What is named is declared.
@@ -125,21 +124,3 @@ module _ (W : Parts) (n : Naming) (u k : ℕ) (seen : List Bool) (has : HasNamed
     from = λ x e. (let earlier = has.from x e in (earlier.0, earlier.1, later earlier.0 earlier.1 earlier.2, earlier.3));
     once = λ v w j i x first second named also. has.once v w j i x (passed v j x named first) (passed w i x also second) named also;
   }
-
-none-prior : (v j : ℕ) → Prior v j 0 0 → ⊥
-none-prior v j (inl l) = absurd (omega arith)
-none-prior v j (inr h) = (let l = h.1 in absurd (omega arith))
-
-pub named-none : (W : Parts) (n : Naming) → HasNamed W n 0 0 (replicate (names_in W n) false)
-named-none W n = record {
-  all = length-replicate (names_in W n) false;
-  marked = λ v j x prior named. absurd (none-prior v j prior);
-  from = λ x e. absurd (none-marked (names_in W n) x e);
-  once = λ v w j i x first second named also. absurd (none-prior v j first);
-}
-
-pub named-all : (W : Parts) (n : Naming) (u : ℕ) (seen : List Bool) → length W.units ≤ u → HasNamed W n u 0 seen → NamesOnce W n
-named-all W n u seen over has v w k j x named also =
-    let a = (named-unit W n v k x named).0 in
-    let b = (named-unit W n w j x also).0 in
-    has.once v w k j x (inl (omega arith)) (inl (omega arith)) named also

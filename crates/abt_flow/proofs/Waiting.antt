@@ -76,9 +76,6 @@ module _ (W : Parts) (waiting : List (Vec UnitNo Global)) (listed : Listed W wai
 
 -- Lists that grow.
 
-pub longer-none : (waiting : List (Vec UnitNo Global)) → Longer waiting waiting
-longer-none waiting = record { all = refl; kept = λ x us vs v a b has. subst (λ (z : Vec UnitNo Global). Contains z.items v) (some-injective (sym a ∙ b)) has }
-
 was-there : (waiting new : List (Vec UnitNo Global)) (x : ℕ) (vs : Vec UnitNo Global) → Longer waiting new → slice_get new x ≡ Some vs → (us : Vec UnitNo Global) × (slice_get waiting x ≡ Some us)
 was-there waiting new x vs longer e = get-some waiting x (let l : x < length new = slice_get_within new x vs e in let f = longer.all in omega arith)
 

@@ -88,10 +88,10 @@ AfterHand LeaveDue = Unit {0}
 AfterHand RoundDue = Unit {0}
 AfterHand _ = ⊥
 
-after_next : (d : Due) → AfterHand d → AfterNext d
-after_next LeaveDue h = tt
-after_next RoundDue h = tt
-after_next _ h = absurd h
+after-next : (d : Due) → AfterHand d → AfterNext d
+after-next LeaveDue h = tt
+after-next RoundDue h = tt
+after-next _ h = absurd h
 
 tray-by : {X Y : Type 0} (W : Parts) (s : ℕ) (own : Stream) (us : List X) (taken : Option Y) (held : Option (ℕ × ℕ)) → AfterTray (due_by W s own us taken held) → first us ≡ None
 tray-by W s own [] taken held h = refl
@@ -109,19 +109,19 @@ hand-by W s own (Some u) at h =
     absurd (due_of_unit-cases W s (at u).1 (λ m b d. AfterHand d → ⊥) (λ b a. a) (λ b a. a) (λ g a. a) (λ g a. a) (λ g a. a) (λ m b program more a. a) (λ m b program over a. a) own.mark (body_at W (at u).0) h)
 
 module _ (W : Parts) (S : State) (s : ℕ) where
-  by_hand : (d : Due) → due W S s ≡ d → AfterNext d → (first (standing W S (InTray s)) ≡ None) × (next W S s ≡ None) × (due_by_hand W s (S.stream s) (option_map (at_position S) (hand W S s)) ≡ d)
-  by_hand d e after =
+  by-hand : (d : Due) → due W S s ≡ d → AfterNext d → (first (standing W S (InTray s)) ≡ None) × (next W S s ≡ None) × (due_by_hand W s (S.stream s) (option_map (at_position S) (hand W S s)) ≡ d)
+  by-hand d e after =
       let is = next-by W s (S.stream s) (standing W S (InTray s)) (next W S s) (option_map (at_position S) (hand W S s)) (subst AfterNext (sym e) after) in
       (is.0, is.1, sym is.2 ∙ e)
 
   -- what is due for the unit in hand
   pub due-unit : (d : Due) (u : ℕ) → due W S s ≡ d → AfterNext d → hand W S s ≡ Some u → due_of_unit W s (S.stream s).mark (body_at W u) (S.carried u).position ≡ d
-  due-unit d u e after is = ap (λ o. due_by_hand W s (S.stream s) (option_map (at_position S) o)) (sym is) ∙ (by_hand d e after).2
+  due-unit d u e after is = ap (λ o. due_by_hand W s (S.stream s) (option_map (at_position S) o)) (sym is) ∙ (by-hand d e after).2
 
   -- a stream without a unit in hand does what its frames say
   pub due-idle : (d : Due) → due W S s ≡ d → AfterHand d → (hand W S s ≡ None) × (due_of_frames (S.stream s).top.empty (S.stream s).below ≡ d)
   due-idle d e after =
-      let is : due_by_hand W s (S.stream s) (option_map (at_position S) (hand W S s)) ≡ d = (by_hand d e (after_next d after)).2 in
+      let is : due_by_hand W s (S.stream s) (option_map (at_position S) (hand W S s)) ≡ d = (by-hand d e (after-next d after)).2 in
       let none : hand W S s ≡ None = hand-by W s (S.stream s) (hand W S s) (at_position S) (subst AfterHand (sym is) after) in
       (none, ap (λ o. due_by_hand W s (S.stream s) (option_map (at_position S) o)) (sym none) ∙ is)
 
@@ -130,7 +130,7 @@ module _ (W : Parts) (S : State) (s : ℕ) where
     due-no_tray d e after = none-first W S undeclared (InTray s) (tray-by W s (S.stream s) (standing W S (InTray s)) (next W S s) (option_map (at_position S) (hand W S s)) (subst AfterTray (sym e) after))
 
     pub due-no_next : (d : Due) → due W S s ≡ d → AfterNext d → IsEmpty (InNext s) S.place
-    due-no_next d e after = none-first W S undeclared (InNext s) (by_hand d e after).1
+    due-no_next d e after = none-first W S undeclared (InNext s) (by-hand d e after).1
 
     pub due-no_hand : (d : Due) → due W S s ≡ d → AfterHand d → IsEmpty (InHand s) S.place
     due-no_hand d e after = none-first W S undeclared (InHand s) (due-idle d e after).0

@@ -32,20 +32,20 @@ AllBelow-ticketed at k zero h = tt
 AllBelow-ticketed at k (suc n) h = AllBelow-step k n (at n) (ticketed at n) (h n) (AllBelow-ticketed at k n h)
 
 -- a ticket above all comes to the end
-pub insert_at_end : (k u : ℕ) (ps : List (ℕ × ℕ)) → AllBelow k ps → insert_by_ticket k u ps ≡ ps ++ (k, u) ∷ []
-insert_at_end k u [] a = refl
-insert_at_end k u (p ∷ ps) a = cond-false (nat_le k p.0) _ _ (lt-leb k p.0 a.0) ∙ ap (λ qs. p ∷ qs) (insert_at_end k u ps a.1)
+pub insert-at-end : (k u : ℕ) (ps : List (ℕ × ℕ)) → AllBelow k ps → insert_by_ticket k u ps ≡ ps ++ (k, u) ∷ []
+insert-at-end k u [] a = refl
+insert-at-end k u (p ∷ ps) a = cond-false (nat_le k p.0) _ _ (lt-leb k p.0 a.0) ∙ ap (λ qs. p ∷ qs) (insert-at-end k u ps a.1)
 
 -- a lower one comes before it
-insert_before_end : (t v k u : ℕ) (ps : List (ℕ × ℕ)) → t < k → insert_by_ticket t v (ps ++ (k, u) ∷ []) ≡ insert_by_ticket t v ps ++ (k, u) ∷ []
-insert_before_end t v k u [] h = cond-true (nat_le t k) _ _ (le-leb t k (omega arith))
-insert_before_end t v k u (p ∷ ps) h =
-    let ih : insert_by_ticket t v (ps ++ (k, u) ∷ []) ≡ insert_by_ticket t v ps ++ (k, u) ∷ [] = insert_before_end t v k u ps h in grind (arith, nat_tests)
+insert-before-end : (t v k u : ℕ) (ps : List (ℕ × ℕ)) → t < k → insert_by_ticket t v (ps ++ (k, u) ∷ []) ≡ insert_by_ticket t v ps ++ (k, u) ∷ []
+insert-before-end t v k u [] h = cond-true (nat_le t k) _ _ (le-leb t k (omega arith))
+insert-before-end t v k u (p ∷ ps) h =
+    let ih : insert_by_ticket t v (ps ++ (k, u) ∷ []) ≡ insert_by_ticket t v ps ++ (k, u) ∷ [] = insert-before-end t v k u ps h in grind (arith, nat_tests)
 
 -- so it is in a step of the queue
 step-push : (m k u : ℕ) (o : Option ℕ) (ps : List (ℕ × ℕ)) → ((t : ℕ) → o ≡ Some t → t < k) → ticketed_step m o (ps ++ (k, u) ∷ []) ≡ ticketed_step m o ps ++ (k, u) ∷ []
 step-push m k u None ps h = refl
-step-push m k u (Some t) ps h = insert_before_end t m k u ps (h t refl)
+step-push m k u (Some t) ps h = insert-before-end t m k u ps (h t refl)
 
 module _ (at : ℕ → Option ℕ) (u k : ℕ) (none : at u ≡ None) (below : (v t : ℕ) → at v ≡ Some t → t < k) where
   -- u is not yet among the units below n, or is
@@ -69,7 +69,7 @@ module _ (at : ℕ → Option ℕ) (u k : ℕ) (none : at u ≡ None) (below : (
         here =
             ap (λ o. ticketed_step u o (ticketed (put_at at u (Some k)) u)) (put_at-same at u (Some k))
             ∙ (ap (insert_by_ticket k u) (before-it u (omega arith))
-            ∙ (insert_at_end k u (ticketed at u) (AllBelow-ticketed at k u below) ∙ ap (λ o. ticketed_step u o (ticketed at u) ++ (k, u) ∷ []) (sym none)))
+            ∙ (insert-at-end k u (ticketed at u) (AllBelow-ticketed at k u below) ∙ ap (λ o. ticketed_step u o (ticketed at u) ++ (k, u) ∷ []) (sym none)))
 
   -- a unit with a ticket above all others comes to the end
   pub queue-push : (n : ℕ) → u < n → queue (put_at at u (Some k)) n ≡ queue at n ++ u ∷ []

@@ -50,8 +50,8 @@ unit-reached W S s may called refused v test c refusal seen h =
     kept-where_true (seen (plan_site (if may then called else refused)) (S.place v) (site-reached may called refused _ h)) (unless-ok (test (S.place v)) c code.Ok refusal (unless-ok may code.PoolAccess _ tt h).1).0
 
 -- what changes is of site x if each of its numbers names that
-of_site : {A : Type 0} (x : Option Site) (at : ℕ → Site) (ps : List (ℕ × A)) → map (λ (m : ℕ × A). x) ps ≡ map (λ (m : ℕ × A). Some (at m.0)) ps → EachOf (λ (m : ℕ × A). x ≡ Some (at m.0)) ps
-of_site {A = A} x at ps same = EachOf-same (λ (m : ℕ × A). x) (λ (m : ℕ × A). Some (at m.0)) ps same
+of-site : {A : Type 0} (x : Option Site) (at : ℕ → Site) (ps : List (ℕ × A)) → map (λ (m : ℕ × A). x) ps ≡ map (λ (m : ℕ × A). Some (at m.0)) ps → EachOf (λ (m : ℕ × A). x ≡ Some (at m.0)) ps
+of-site {A = A} x at ps same = EachOf-same (λ (m : ℕ × A). x) (λ (m : ℕ × A). Some (at m.0)) ps same
 
 -- a row that changes only stream s, site x, and units that these keep, and is the same in states that are alike there
 abbrev pub IsOfSite : Parts → State → ℕ → Option Site → (State → Change) → Type 0
@@ -131,14 +131,14 @@ module _ (W : Parts) (valid : IsValid W) (S : State) (s u : ℕ) (in_hand : hand
         record {
           moves = tt;
           carried = (hand-kept W S s x u in_hand, tt);
-          desks = of_site x (λ v. site.Desk (unit_no v)) row.desks refl;
+          desks = of-site x (λ v. site.Desk (unit_no v)) row.desks refl;
           pool_next = tt;
           join_next = tt;
           object_next = tt;
-          mutexes = of_site x (λ y. site.Monitor (object_no y)) row.mutexes refl;
-          eventuals = of_site x (λ y. site.Eventual (object_no y)) row.eventuals refl;
-          futures = of_site x (λ y. site.Future (object_no y)) row.futures refl;
-          rwlocks = of_site x (λ y. site.Rw (object_no y)) row.rwlocks refl;
+          mutexes = of-site x (λ y. site.Monitor (object_no y)) row.mutexes refl;
+          eventuals = of-site x (λ y. site.Eventual (object_no y)) row.eventuals refl;
+          futures = of-site x (λ y. site.Future (object_no y)) row.futures refl;
+          rwlocks = of-site x (λ y. site.Rw (object_no y)) row.rwlocks refl;
           streams = EachOf-same (λ (m : ℕ × Stream). m.0) (λ (m : ℕ × Stream). s) row.streams refl;
         },
         λ T alike i. op_row W (record (seen-same W s x S T alike i) { carried = λ _. same-carried x T alike i; stream = λ _. alike.stream i }) s u o,

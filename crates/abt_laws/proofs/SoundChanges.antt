@@ -115,43 +115,43 @@ pub record Keeps (W : Parts) (Z : List OrderShape) (S : State) (c : Change) : Ty
   pub frames : FramesKeep W Z S (changed S c)
 
 module _ (W : Parts) (Z : List OrderShape) (S : State) (c : Change) (sound : Sound W Z S) (keeps : Keeps W Z S c) where
-  held_up : (u t x : ℕ) (o : Option Thing) → thing_at W x ≡ o → ticket_in (Waiting x) (places S c u) ≡ Some t → HoldsUp W S x o → HoldsUp W (changed S c) x o
-  held_up u t x None is at h = h
-  held_up u t x (Some thing.Mutex) is at h =
+  held-up : (u t x : ℕ) (o : Option Thing) → thing_at W x ≡ o → ticket_in (Waiting x) (places S c u) ≡ Some t → HoldsUp W S x o → HoldsUp W (changed S c) x o
+  held-up u t x None is at h = h
+  held-up u t x (Some thing.Mutex) is at h =
       elim (put_all-kept (λ n (m : Mutex). (IsSome (S.mutex n).owner → IsSome m.owner) ⊎ IsEmpty (Waiting n) (places S c)) S.mutex c.mutexes x
       (EachOf-then _ _ c.mutexes (λ m k. elim k [ inl owned ↦ inl (λ _. owned) | inr none ↦ inr none ]) keeps.mutexes) (inl (λ k. k))) [
         | inl f ↦ f h
         | inr none ↦ absurd (none u t at)
       ]
-  held_up u t x (Some (thing.Cond m)) is at h = tt
-  held_up u t x (Some thing.Eventual) is at h =
+  held-up u t x (Some (thing.Cond m)) is at h = tt
+  held-up u t x (Some thing.Eventual) is at h =
       elim (put_all-kept (λ n (v : Option ℕ). (S.eventual n ≡ None → v ≡ None) ⊎ IsEmpty (Waiting n) (places S c)) S.eventual c.eventuals x
       (EachOf-then _ _ c.eventuals (λ m k. elim k [ inl unset ↦ inl (λ _. unset) | inr none ↦ inr none ]) keeps.eventuals) (inl (λ k. k))) [
         | inl f ↦ f h
         | inr none ↦ absurd (none u t at)
       ]
-  held_up u t x (Some (thing.Future n r)) is at h =
+  held-up u t x (Some (thing.Future n r)) is at h =
       let size : size_of W x ≡ n = ap size_from is in
       elim (put_all-kept (λ k (f : Future). ((S.future k).filled < size_of W k → f.filled < size_of W k) ⊎ IsEmpty (Waiting k) (places S c)) S.future c.futures x (EachOf-then _ _ c.futures (λ m k. k.1) keeps.futures) (inl (λ k. k))) [
         | inl f ↦ subst (λ k. (put_all S.future c.futures x).filled < k) size (f (subst (λ k. (S.future x).filled < k) (sym size) h))
         | inr none ↦ absurd (none u t at)
       ]
-  held_up u t x (Some (thing.Barrier n)) is at h = tt
-  held_up u t x (Some thing.RwLock) is at h = tt
+  held-up u t x (Some (thing.Barrier n)) is at h = tt
+  held-up u t x (Some thing.RwLock) is at h = tt
 
-  asks_nothing : (u : ℕ) → (is_alive (S.place u) ≡ true → ⊥) → AsksNothing (S.desk u) → AsksNothing (put_all S.desk c.desks u)
-  asks_nothing u idle h =
+  asks-nothing : (u : ℕ) → (is_alive (S.place u) ≡ true → ⊥) → AsksNothing (S.desk u) → AsksNothing (put_all S.desk c.desks u)
+  asks-nothing u idle h =
       elim (put_all-kept (λ n (d : Desk). (AsksNothing (S.desk n) → AsksNothing d) ⊎ (is_alive (S.place n) ≡ true)) S.desk c.desks u
       (EachOf-then _ _ c.desks (λ m k. k.asks) keeps.desks) (inl (λ k. k))) [ inl f ↦ f h | inr alive ↦ absurd (idle alive) ]
 
-  not_ended : (u t v : ℕ) → ticket_in (Joining v) (places S c u) ≡ Some t → HasNotEnded (S.place v) → HasNotEnded (places S c v)
-  not_ended u t v at h =
+  not-ended : (u t v : ℕ) → ticket_in (Joining v) (places S c u) ≡ Some t → HasNotEnded (S.place v) → HasNotEnded (places S c v)
+  not-ended u t v at h =
       elim (put_all-kept (λ n pl. HasNotEnded pl ⊎ IsEmpty (Joining n) (places S c)) S.place c.moves v
       (EachOf-then _ _ c.moves (λ m k. k.joined) keeps.moves) (inl h)) [ inl goes ↦ goes | inr none ↦ absurd (none u t at) ]
 
   -- a unit that does not move is placed as well as before
   stays : (u : ℕ) (pl : Place) → S.place u ≡ pl → places S c u ≡ pl → IsPlaced W S u pl → IsPlaced W (changed S c) u pl
-  stays u place.Unborn was is h = asks_nothing u (λ b. let k : false ≡ true = sym (ap is_alive was) ∙ b in cc) h
+  stays u place.Unborn was is h = asks-nothing u (λ b. let k : false ≡ true = sym (ap is_alive was) ∙ b in cc) h
   stays u (place.Pool p t) was is h = (h.0, put_all-above S.pool_next c.pool_next p.0 t keeps.pool_next h.1)
   stays u (place.Hand s) was is h = (h.0, keeps.frames.rest u s.0 (subst (OnStream s.0) (sym is) refl) h.1)
   stays u (place.Next s) was is h = (h.0, keeps.frames.rest u s.0 (subst (OnStream s.0) (sym is) refl) h.1)
@@ -159,30 +159,30 @@ module _ (W : Parts) (Z : List OrderShape) (S : State) (c : Change) (sound : Sou
   stays u (place.Frame s d) was is h = keeps.frames.held u s.0 d was is
   stays u (place.Blocked spot.Suspended t) was is h = tt
   stays u (place.Blocked (spot.Join v) t) was is h =
-      (h.0, put_all-above S.join_next c.join_next v.0 t keeps.join_next h.1, not_ended u t v.0 (ap (ticket_in (Joining v.0)) is ∙ same-self v.0 t) h.2)
+      (h.0, put_all-above S.join_next c.join_next v.0 t keeps.join_next h.1, not-ended u t v.0 (ap (ticket_in (Joining v.0)) is ∙ same-self v.0 t) h.2)
   stays u (place.Blocked (spot.Object x) t) was is h =
-      (put_all-above S.object_next c.object_next x.0 t keeps.object_next h.0, held_up u t x.0 (thing_at W x.0) refl (ap (ticket_in (Waiting x.0)) is ∙ same-self x.0 t) h.1)
-  stays u (place.Ended e) was is h = asks_nothing u (λ b. let k : false ≡ true = sym (ap is_alive was) ∙ b in cc) h
+      (put_all-above S.object_next c.object_next x.0 t keeps.object_next h.0, held-up u t x.0 (thing_at W x.0) refl (ap (ticket_in (Waiting x.0)) is ∙ same-self x.0 t) h.1)
+  stays u (place.Ended e) was is h = asks-nothing u (λ b. let k : false ≡ true = sym (ap is_alive was) ∙ b in cc) h
 
-  placed_after : (u : ℕ) → IsPlaced W (changed S c) u (places S c u)
-  placed_after u =
+  placed-after : (u : ℕ) → IsPlaced W (changed S c) u (places S c u)
+  placed-after u =
       elim (KeyOf-cases u c.moves) [
         | inl moved ↦ put_all-value (λ n pl. IsPlaced W (changed S c) n pl) S.place c.moves u (EachOf-then _ _ c.moves (λ m k. k.placed) keeps.moves) moved
         | inr out ↦ (let e : places S c u ≡ S.place u = put_all-other S.place c.moves u out in subst (IsPlaced W (changed S c) u) (sym e) (stays u (S.place u) refl e (sound.placed u)))
       ]
 
-  alone_after : (u : ℕ) → IsAlone (places S c) (places S c u) ⊎ (places S c u ≡ S.place u)
-  alone_after u =
+  alone-after : (u : ℕ) → IsAlone (places S c) (places S c u) ⊎ (places S c u ≡ S.place u)
+  alone-after u =
       elim (KeyOf-cases u c.moves) [
         | inl moved ↦ inl (put_all-value (λ n pl. IsAlone (places S c) pl) S.place c.moves u (EachOf-then _ _ c.moves (λ m k. k.alone) keeps.moves) moved)
         | inr out ↦ inr (put_all-other S.place c.moves u out)
       ]
 
-  not_both : (s u v : ℕ) → places S c u ≡ place.Hand (stream_no s) → places S c v ≡ place.Next (stream_no s) → ⊥
-  not_both s u v h g =
-      elim (alone_after u) [
+  not-both : (s u v : ℕ) → places S c u ≡ place.Hand (stream_no s) → places S c v ≡ place.Next (stream_no s) → ⊥
+  not-both s u v h g =
+      elim (alone-after u) [
         | inl came ↦ subst (IsAlone (places S c)) h came v 0 (ap (ticket_in (InNext s)) g ∙ same-self s 0)
-        | inr was ↦ elim (alone_after v) [
+        | inr was ↦ elim (alone-after v) [
           | inl arrived ↦ subst (IsAlone (places S c)) g arrived u 0 (ap (ticket_in (InHand s)) h ∙ same-self s 0)
           | inr stood ↦ sound.hand_or_next s u v (sym was ∙ h) (sym stood ∙ g)
         ]
@@ -192,9 +192,9 @@ module _ (W : Parts) (Z : List OrderShape) (S : State) (c : Change) (sound : Sou
   pub sound-after : Sound W Z (changed S c)
   sound-after = record {
     one_each = OneEach-moves S.place c.moves sound.one_each keeps.free;
-    hand_or_next = not_both;
+    hand_or_next = not-both;
     undeclared = λ u l. put_all-other S.place c.moves u (λ k. let d : u < length W.units = EachOf-key (λ n. n < length W.units) c.moves u (EachOf-then _ _ c.moves (λ m k. k.declared) keeps.moves) k in omega arith) ∙ sound.undeclared u l;
-    placed = placed_after;
+    placed = placed-after;
     frames_hold = keeps.frames.hold;
     lowest = keeps.frames.lowest;
     under_way = keeps.frames.under_way;

@@ -30,7 +30,7 @@ use Rattle.abt_laws.proofs.Locks.{MovesOffLocks}
 use Rattle.abt_laws.proofs.Wakes.{IsWakeable, wakeable-first, tray-well, tray-frameless, tray-off, empty-still}
 use Rattle.abt_laws.proofs.SoundMutexes.{mutex-no_lock, next-owner}
 use Rattle.abt_laws.proofs.SoundMoves.{keeps-moves}
-use Rattle.abt_laws.proofs.SoundSteps.{IsStepping, in_no_frame, off_locks, keeps-goes_on, waiting-below, tray-below}
+use Rattle.abt_laws.proofs.SoundSteps.{IsStepping, in-no-frame, off-locks, keeps-goes_on, waiting-below, tray-below}
 
 -- a condition is no reader-writer lock
 pub condition-no_lock : (W : Parts) (x : ℕ) → IsCondition W x → thing_at W x ≡ Some thing.RwLock → ⊥
@@ -78,8 +78,8 @@ module _ (W : Parts) (Z : List OrderShape) (S : State) (s u : ℕ) (step : IsSte
         tray-well W S c s i us step.stream step.rests woken,
       )
       (λ n b. let k : Some (thing.Cond cond.0) ≡ Some (thing.Barrier n) = sym cond.1 ∙ b in cc, tray_moves-places (IsOffBarriers W) s i us (λ t. tt))
-      ((off_locks W Z S s u step, condition-no_lock W x cond), tray-off W S s i us woken)
-      (in_no_frame W Z S s u step, tray-frameless W S s i us woken)
+      ((off-locks W Z S s u step, condition-no_lock W x cond), tray-off W S s i us woken)
+      (in-no-frame W Z S s u step, tray-frameless W S s i us woken)
       tt (omega arith, tt) (next-owner (places S c) m (standing W S (Waiting m)) (S.mutex m) still, tt)
 
   -- these units come to mutex m, which is held

@@ -17,7 +17,7 @@ use Rattle.abt_laws.proofs.Arrivals.{IsEmpty}
 use Rattle.abt_laws.proofs.Standing.{among-standing}
 use Rattle.abt_laws.proofs.SoundChanges.{Keeps, places, CarriesWell, EventualHolds, FutureHolds}
 use Rattle.abt_laws.proofs.Wakes.{wakeable-line, empty-after}
-use Rattle.abt_laws.proofs.SoundSteps.{IsStepping, carries_on, keeps-goes_with, keeps-wakes, keeps-waits}
+use Rattle.abt_laws.proofs.SoundSteps.{IsStepping, carries-on, keeps-goes_with, keeps-wakes, keeps-waits}
 
 module _ (W : Parts) (Z : List OrderShape) (S : State) (s u : ℕ) (step : IsStepping W Z S s u) where
   -- whatever a unit's new accumulator is
@@ -40,14 +40,14 @@ module _ (W : Parts) (Z : List OrderShape) (S : State) (s u : ℕ) (step : IsSte
   keeps-gives_all x value es fs other e f =
       let us : List ℕ = standing W S (Waiting x) in
       keeps-wakes W Z S s u step us ((u, advanced (S.carried u)) ∷ map (receives S value) us) [] [] es fs
-      (wakeable-line W S (Waiting x) tt other) (carries_on W Z S s u step, receives-well value us) tt tt e f
+      (wakeable-line W S (Waiting x) tt other) (carries-on W Z S s u step, receives-well value us) tt tt e f
 
   -- an eventual is no reader-writer lock
-  no_lock : (x : ℕ) → IsEventual W x → thing_at W x ≡ Some thing.RwLock → ⊥
-  no_lock x is r = let k : Some thing.Eventual ≡ Some thing.RwLock = sym is ∙ r in cc
+  no-lock : (x : ℕ) → IsEventual W x → thing_at W x ≡ Some thing.RwLock → ⊥
+  no-lock x is r = let k : Some thing.Eventual ≡ Some thing.RwLock = sym is ∙ r in cc
 
   pub keeps-sets : (x value : ℕ) → IsEventual W x → Keeps W Z S (record (gives_all W S s u x value) { eventuals = (x, Some value) ∷ [] })
-  keeps-sets x value is = keeps-gives_all x value ((x, Some value) ∷ []) [] (no_lock x is) (inr (all-leave x), tt) tt
+  keeps-sets x value is = keeps-gives_all x value ((x, Some value) ∷ []) [] (no-lock x is) (inr (all-leave x), tt) tt
 
   -- u gets the value, or waits at x, which is no reader-writer lock and no barrier, and holds it up
   pub keeps-awaits : (x : ℕ) (o : Option ℕ) → (thing_at W x ≡ Some thing.RwLock → ⊥) → (o ≡ None → HoldsUp W S x (thing_at W x)) → ((n : ℕ) → thing_at W x ≡ Some (thing.Barrier n) → ⊥) → Keeps W Z S (awaits S u x o)
@@ -56,4 +56,4 @@ module _ (W : Parts) (Z : List OrderShape) (S : State) (s u : ℕ) (step : IsSte
 
   pub keeps-awaits_eventual : (x : ℕ) → IsEventual W x → Keeps W Z S (awaits S u x (S.eventual x))
   keeps-awaits_eventual x is =
-      keeps-awaits x (S.eventual x) (no_lock x is) (λ none. subst (HoldsUp W S x) (sym is) none) (λ n b. let k : Some thing.Eventual ≡ Some (thing.Barrier n) = sym is ∙ b in cc)
+      keeps-awaits x (S.eventual x) (no-lock x is) (λ none. subst (HoldsUp W S x) (sym is) none) (λ n b. let k : Some thing.Eventual ≡ Some (thing.Barrier n) = sym is ∙ b in cc)

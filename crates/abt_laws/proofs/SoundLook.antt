@@ -39,15 +39,15 @@ module _ (W : Parts) (Z : List OrderShape) (S : State) (s u : ℕ) (sound : Soun
   off : IsOffLocks W (S.place u)
   off = off-in W S (InNext s) u is.ticket tt is.at
 
-  no_hand : IsEmpty (InHand s) S.place
-  no_hand v t h = sound.hand_or_next s v u (ticket-place (InHand s) (S.place v) t h) is.at
+  no-hand : IsEmpty (InHand s) S.place
+  no-hand v t h = sound.hand_or_next s v u (ticket-place (InHand s) (S.place v) t h) is.at
 
   -- u comes to the hand, with a mark
   keeps-look_hand : (m : Mark) → Keeps W Z S (handed S s u m)
   keeps-look_hand m =
       let c : Change = handed S s u m in
       keeps-event W Z S sound ((u, place.Hand (stream_no s)) ∷ []) [] ((u, without_requests (S.desk u)) ∷ []) [] ((s, marked m (S.stream s)) ∷ [])
-      (free-empty S.place u (place.Hand (stream_no s)) (InHand s) 0 (same-self s 0) no_hand, tt) (
+      (free-empty S.place u (place.Hand (stream_no s)) (InHand s) 0 (same-self s 0) no-hand, tt) (
         record {
           declared = is.declared;
           placed = (placed.0, subst IsAtRest (sym (put_at-same S.stream s (marked m (S.stream s)))) placed.1);

@@ -11,7 +11,7 @@ use Rattle.abt_laws.proofs.SoundChanges.{Keeps, places, MovesWell, MutexHolds}
 use Rattle.abt_laws.proofs.Barriers.{IsOffBarriers, barriers-stay}
 use Rattle.abt_laws.proofs.Locks.{MovesOffLocks, locks-stay}
 use Rattle.abt_laws.proofs.SoundFrames.{IsFrameless, frames-stay}
-use Rattle.abt_laws.proofs.SoundSteps.{IsStepping, carries_on}
+use Rattle.abt_laws.proofs.SoundSteps.{IsStepping, carries-on}
 
 module _ (W : Parts) (Z : List OrderShape) (S : State) (s u : ℕ) (step : IsStepping W Z S s u) where
   -- u goes on, and units that are in no frame move, none to a barrier, and none to or from a reader-writer lock
@@ -32,7 +32,7 @@ module _ (W : Parts) (Z : List OrderShape) (S : State) (s u : ℕ) (step : IsSte
         free = free;
         moves = well;
         barriers = barriers-stay W Z S step.sound c off;
-        carried = (carries_on W Z S s u step, tt);
+        carried = (carries-on W Z S s u step, tt);
         desks = tt;
         pool_next = tt;
         join_next = joins;

@@ -22,7 +22,7 @@ use Rattle.abt_laws.proofs.Arrivals.{IsEmpty}
 use Rattle.abt_laws.proofs.Standing.{none-first}
 use Rattle.abt_laws.proofs.SoundChanges.{Keeps, places, MutexHolds}
 use Rattle.abt_laws.proofs.Wakes.{wakeable-first, empty-still}
-use Rattle.abt_laws.proofs.SoundSteps.{IsStepping, carries_on, keeps-still, keeps-wakes, keeps-waits}
+use Rattle.abt_laws.proofs.SoundSteps.{IsStepping, carries-on, keeps-still, keeps-wakes, keeps-waits}
 
 -- the first waiter owns the mutex, or nobody waits
 pub next-owner : (f : ℕ → Place) (x : ℕ) (us : List ℕ) (m : Mutex) → (first us ≡ None → IsEmpty (Waiting x) f) → MutexHolds f x (owned (first us) m)
@@ -36,7 +36,7 @@ mutex-no_lock W x is r = let k : Some thing.Mutex ≡ Some thing.RwLock = sym is
 module _ (W : Parts) (Z : List OrderShape) (S : State) (s u : ℕ) (step : IsStepping W Z S s u) where
   -- mutex x becomes m, which has an owner
   keeps-owned : (x : ℕ) (m : Mutex) → IsSome m.owner → Keeps W Z S (record (goes_on S u) { mutexes = (x, m) ∷ [] })
-  keeps-owned x m some = keeps-still W Z S s u step ((u, advanced (S.carried u)) ∷ []) [] ((x, m) ∷ []) [] [] (carries_on W Z S s u step, tt) tt (inl some, tt) tt tt
+  keeps-owned x m some = keeps-still W Z S s u step ((u, advanced (S.carried u)) ∷ []) [] ((x, m) ∷ []) [] [] (carries-on W Z S s u step, tt) tt (inl some, tt) tt tt
 
   keeps-takes : (x : ℕ) → Keeps W Z S (record (goes_on S u) { mutexes = (x, owned (Some u) (S.mutex x)) ∷ [] })
   keeps-takes x = keeps-owned x (owned (Some u) (S.mutex x)) refl
@@ -57,4 +57,4 @@ module _ (W : Parts) (Z : List OrderShape) (S : State) (s u : ℕ) (step : IsSte
       let still : first (standing W S (Waiting x)) ≡ None → IsEmpty (Waiting x) (places S c) =
       λ none. empty-still S c (Waiting x) (tray_moves-places (λ pl. line_of pl ≡ Some (Waiting x) → ⊥) s (tray_end W S s) us (λ t e. cc)) (none-first W S step.sound.undeclared (Waiting x) none) in
       keeps-wakes W Z S s u step us ((u, advanced (S.carried u)) ∷ []) [] ((x, owned (first (standing W S (Waiting x))) (S.mutex x)) ∷ []) [] []
-      (wakeable-first W S (Waiting x) tt (mutex-no_lock W x is)) (carries_on W Z S s u step, tt) tt (next-owner (places S c) x (standing W S (Waiting x)) (S.mutex x) still, tt) tt tt
+      (wakeable-first W S (Waiting x) tt (mutex-no_lock W x is)) (carries-on W Z S s u step, tt) tt (next-owner (places S c) x (standing W S (Waiting x)) (S.mutex x) still, tt) tt tt

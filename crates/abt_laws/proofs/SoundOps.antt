@@ -33,7 +33,7 @@ use Rattle.abt_laws.proofs.Codes.{unless-second, unless-ok}
 use Rattle.abt_laws.proofs.Lists.{EachOf, EachOf-made}
 use Rattle.abt_laws.proofs.SoundChanges.{Keeps, CarriesWell, AsksWell, MutexHolds, EventualHolds, FutureHolds}
 use Rattle.abt_laws.proofs.Wakes.{IsWakeable, wakeable-line, wakeable-first, frameless-by, off-by}
-use Rattle.abt_laws.proofs.SoundSteps.{IsStepping, stepping, may_wake, carries_on, keeps-still, keeps-goes_with, keeps-wakes_only}
+use Rattle.abt_laws.proofs.SoundSteps.{IsStepping, stepping, may-wake, carries-on, keeps-still, keeps-goes_with, keeps-wakes_only}
 use Rattle.abt_laws.proofs.SoundUnits.{keeps-suspends, keeps-exits, keeps-joins, keeps-begins, keeps-yields_to}
 use Rattle.abt_laws.proofs.SoundDesks.{keeps-cancels, keeps-migrates}
 use Rattle.abt_laws.proofs.SoundMutexes.{keeps-stores, keeps-locks, keeps-hands_over}
@@ -48,7 +48,7 @@ module _ (W : Parts) (Z : List OrderShape) (S : State) (s u : ℕ) (valid : IsVa
   -- mutexes that have an owner, eventuals without a value, and futures without one.
 
   on : CarriesWell W u (advanced (S.carried u))
-  on = carries_on W Z S s u step
+  on = carries-on W Z S s u step
 
   abbrev asked : Desk → Bool × Option ℕ
   asked d = (d.cancel, d.migrate)
@@ -73,7 +73,7 @@ module _ (W : Parts) (Z : List OrderShape) (S : State) (s u : ℕ) (valid : IsVa
 
   -- an operation that goes through
   op-keeps : (o : Op) → IsDeclared W o → code_of W S s u o ≡ code.Ok → Keeps W Z S (op_row W S s u o)
-  op-keeps op.Yield d e = keeps-wakes_only W Z S s u step (u ∷ []) (may_wake W Z S s u step, tt)
+  op-keeps op.Yield d e = keeps-wakes_only W Z S s u step (u ∷ []) (may-wake W Z S s u step, tt)
   op-keeps (op.YieldTo v p) d e = keeps-yields_to W Z S s u step v.0 p.0 d.0 (unless-second (may_take W s p.0) (is_in_pool p.0 (S.place v.0)) code.PoolAccess code.Absent _ tt tt e)
   op-keeps op.Suspend d e = keeps-suspends W Z S s u step
   op-keeps op.Exit d e = keeps-exits W Z S s u step

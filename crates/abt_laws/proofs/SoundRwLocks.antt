@@ -33,7 +33,7 @@ use Rattle.abt_laws.proofs.Granted.{owned-numbers, woken-each, woken-standing}
 use Rattle.abt_laws.proofs.Locks.{elsewhere, locks-become, same-waiters}
 use Rattle.abt_laws.proofs.KeptLocks.{IsKeptValue, kept-passed_on, kept-read, kept-store, kept-wait_to_read, kept-wait_to_write, kept-write, length-given_up, length-passed_on, not-read, number-given_up, number-passed_on, released}
 use Rattle.abt_laws.proofs.Wakes.{frameless-in}
-use Rattle.abt_laws.proofs.SoundSteps.{IsStepping, carries_on, keeps-comes, tray-below, waiting-below}
+use Rattle.abt_laws.proofs.SoundSteps.{IsStepping, carries-on, keeps-comes, tray-below, waiting-below}
 
 module _ (W : Parts) (Z : List OrderShape) (S : State) (s u : ℕ) (step : IsStepping W Z S s u) (x : ℕ) (is : IsRwLock W x) where
   -- the lock with its waiters
@@ -68,7 +68,7 @@ module _ (W : Parts) (Z : List OrderShape) (S : State) (s u : ℕ) (step : IsSte
         free = tray-free s i S.place us (tray-below W Z S s u step);
         moves = tray_moves-each (λ m. MovesWell W S c m.0 m.1) (StandsIn W S (Waiting x)) s i us (λ v t at. record { declared = at.declared; placed = (step.stream, step.rests); alone = tt; joined = inl tt }) each;
         barriers = barriers-stay W Z S step.sound c (tray_moves-places (IsOffBarriers W) s i us (λ t. tt));
-        carried = (carries_on W Z S s u step, tt);
+        carried = (carries-on W Z S s u step, tt);
         desks = tt;
         pool_next = tt;
         join_next = tt;

@@ -81,16 +81,16 @@ module _ (W : Parts) (Z : List OrderShape) (S : State) (s u : ℕ) (g : SchedNo)
   abbrev enters : Change
   enters = change W S s (what.Enter (unit_no u))
 
-  in_hand : IsPlaced W S u (place.Hand (stream_no s))
-  in_hand = subst (IsPlaced W S u) at (sound.placed u)
+  in-hand : IsPlaced W S u (place.Hand (stream_no s))
+  in-hand = subst (IsPlaced W S u) at (sound.placed u)
 
-  stays_framed : (r v d : ℕ) → S.place v ≡ place.Frame (stream_no r) d → put_at S.place u (place.Frame (stream_no s) (length old_below)) v ≡ place.Frame (stream_no r) d
-  stays_framed r v d h =
+  stays-framed : (r v d : ℕ) → S.place v ≡ place.Frame (stream_no r) d → put_at S.place u (place.Frame (stream_no s) (length old_below)) v ≡ place.Frame (stream_no r) d
+  stays-framed r v d h =
       put_at-other S.place u (place.Frame (stream_no s) (length old_below)) v (λ e. let k : place.Hand (stream_no s) ≡ place.Frame (stream_no r) d = sym at ∙ (ap S.place (sym e) ∙ h) in cc) ∙ h
 
   -- the new frame is that of u
-  is_framed : s < W.streams → IsFramed W u s (length old_below) new_own
-  is_framed l = (l, omega arith, subst (RunsSched (body_at W u)) (sym (stacked-top new_top old_top old_below)) (runs-entered (body_at W u) g is))
+  is-framed : s < W.streams → IsFramed W u s (length old_below) new_own
+  is-framed l = (l, omega arith, subst (RunsSched (body_at W u)) (sym (stacked-top new_top old_top old_below)) (runs-entered (body_at W u) g is))
 
   frames-enter : FramesKeep W Z S (changed S enters)
   frames-enter = record {
@@ -100,21 +100,21 @@ module _ (W : Parts) (Z : List OrderShape) (S : State) (s u : ℕ) (g : SchedNo)
     hold = each-stream S s new_own (λ r own. (d : ℕ) → d < length own.below → (v : ℕ) × (put_at S.place u (place.Frame (stream_no s) (length old_below)) v ≡ place.Frame (stream_no r) d))
         (λ d l. elim (cases_eq d (length old_below)) [
           | inl same ↦ (u, put_at-same S.place u (place.Frame (stream_no s) (length old_below)) ∙ ap (λ (n : ℕ). place.Frame (stream_no s) n) (sym same))
-          | inr other ↦ (let old : (v : ℕ) × (S.place v ≡ place.Frame (stream_no s) d) = sound.frames_hold s d (omega arith) in (old.0, stays_framed s old.0 d old.1))
+          | inr other ↦ (let old : (v : ℕ) × (S.place v ≡ place.Frame (stream_no s) d) = sound.frames_hold s d (omega arith) in (old.0, stays-framed s old.0 d old.1))
         ])
-        (λ r ne d l. let old : (v : ℕ) × (S.place v ≡ place.Frame (stream_no r) d) = sound.frames_hold r d l in (old.0, stays_framed r old.0 d old.1));
+        (λ r ne d l. let old : (v : ℕ) × (S.place v ≡ place.Frame (stream_no r) d) = sound.frames_hold r d l in (old.0, stays-framed r old.0 d old.1));
     rest = λ v. each-stream S s new_own (λ r own. OnStream r (put_at S.place u (place.Frame (stream_no s) (length old_below)) v) → IsAtRest (S.stream r) → IsAtRest own)
         (λ k h. fresh-rest (sched_of (body_at W u)) 0 (old_top ∷ old_below) h) (λ r ne k h. h);
     lowest = each-stream S s new_own (λ r own. r < W.streams → IfSome (last (frames_of own)) (λ f. f.sched ≡ main_of W r)) (sound.lowest s) (λ r ne. sound.lowest r);
     under_way = each-stream S s new_own (λ r own. r < W.streams → AllUnderWay W Z (frames_of own))
         (λ l. (fresh-under_way W Z (sched_of (body_at W u)) 0 false valid stored (subst (λ b. sched_of b < length W.scheds) (sym is) (sched-declared W u g valid is)), sound.under_way s l)) (λ r ne. sound.under_way r);
-    below_rest = each-stream S s new_own (λ r own. r < W.streams → AllAtRest own.below) (λ l. in_hand.1) (λ r ne. sound.below_rest r);
+    below_rest = each-stream S s new_own (λ r own. r < W.streams → AllAtRest own.below) (λ l. in-hand.1) (λ r ne. sound.below_rest r);
   }
 
   keeps-enter_of : s < W.streams → u < length W.units → Keeps W Z S enters
   keeps-enter_of l declared = keeps-event W Z S sound ((u, place.Frame (stream_no s) (length old_below)) ∷ []) [] [] [] ((s, new_own) ∷ [])
       (free-above S.place u (place.Frame (stream_no s) (length old_below)) (InFrames s) (length old_below) (same-self s (length old_below)) (frames-below W Z S s sound), tt)
-      (record { declared = declared; placed = subst (IsFramed W u s (length old_below)) (sym (put_at-same S.stream s new_own)) (is_framed l); alone = tt; joined = inl tt }, tt)
+      (record { declared = declared; placed = subst (IsFramed W u s (length old_below)) (sym (put_at-same S.stream s new_own)) (is-framed l); alone = tt; joined = inl tt }, tt)
       (tt, tt) ((subst (IsOffLocks W) (sym at) tt, tt), tt) tt tt tt
       (frames-enter)
 
@@ -138,16 +138,16 @@ module _ (W : Parts) (Z : List OrderShape) (S : State) (s u : ℕ) (f : Frame) (
   was : S.place u ≡ place.Frame (stream_no s) (length fs)
   was = let e : (length (S.stream s).below) - 1 ≡ length fs = ap (λ (gs : List Frame). length gs - 1) below ∙ omega arith in at ∙ ap (λ (n : ℕ). place.Frame (stream_no s) n) e
 
-  is_left : left_to (S.stream s) (f ∷ fs) ≡ left (S.stream s)
-  is_left = ap (left_to (S.stream s)) (sym below)
+  is-left : left_to (S.stream s) (f ∷ fs) ≡ left (S.stream s)
+  is-left = ap (left_to (S.stream s)) (sym below)
 
   -- what holds of s without its top frame, and of the others as they were, holds of each afterwards
-  after_left : (P : ℕ → Stream → Type 0) → P s (left_to (S.stream s) (f ∷ fs)) → ((r : ℕ) → r ≢ s → P r (S.stream r)) → (r : ℕ) → P r (put_at S.stream s (left (S.stream s)) r)
-  after_left P new old = each-stream S s (left (S.stream s)) P (subst (P s) is_left new) old
+  after-left : (P : ℕ → Stream → Type 0) → P s (left_to (S.stream s) (f ∷ fs)) → ((r : ℕ) → r ≢ s → P r (S.stream r)) → (r : ℕ) → P r (put_at S.stream s (left (S.stream s)) r)
+  after-left P new old = each-stream S s (left (S.stream s)) P (subst (P s) is-left new) old
 
   -- who stays in a frame of s is below the top one
-  is_lower : (v d : ℕ) → S.place v ≡ place.Frame (stream_no s) d → v ≢ u → d < length fs
-  is_lower v d h differs =
+  is-lower : (v d : ℕ) → S.place v ≡ place.Frame (stream_no s) d → v ≢ u → d < length fs
+  is-lower v d h differs =
       let l : d < length (S.stream s).below = frames-below W Z S s sound v d (ap (ticket_in (InFrames s)) h ∙ same-self s d) in
       let k : length (S.stream s).below ≡ suc (length fs) = ap (λ (gs : List Frame). length gs) below in
       elim (cases_eq d (length fs)) [
@@ -155,11 +155,11 @@ module _ (W : Parts) (Z : List OrderShape) (S : State) (s u : ℕ) (f : Frame) (
         | inr other ↦ omega arith
       ]
 
-  stays_put : (r v d : ℕ) → S.place v ≡ place.Frame (stream_no r) d → v ≢ u → put_at S.place u (place.Hand (stream_no s)) v ≡ place.Frame (stream_no r) d
-  stays_put r v d h differs = put_at-other S.place u (place.Hand (stream_no s)) v differs ∙ h
+  stays-put : (r v d : ℕ) → S.place v ≡ place.Frame (stream_no r) d → v ≢ u → put_at S.place u (place.Hand (stream_no s)) v ≡ place.Frame (stream_no r) d
+  stays-put r v d h differs = put_at-other S.place u (place.Hand (stream_no s)) v differs ∙ h
 
-  not_u : (r v d : ℕ) → put_at S.place u (place.Hand (stream_no s)) v ≡ place.Frame (stream_no r) d → v ≢ u
-  not_u r v d h e = let k : place.Hand (stream_no s) ≡ place.Frame (stream_no r) d = sym (ap (put_at S.place u (place.Hand (stream_no s))) e ∙ put_at-same S.place u (place.Hand (stream_no s))) ∙ h in cc
+  not-u : (r v d : ℕ) → put_at S.place u (place.Hand (stream_no s)) v ≡ place.Frame (stream_no r) d → v ≢ u
+  not-u r v d h e = let k : place.Hand (stream_no s) ≡ place.Frame (stream_no r) d = sym (ap (put_at S.place u (place.Hand (stream_no s))) e ∙ put_at-same S.place u (place.Hand (stream_no s))) ∙ h in cc
 
   lower-framed : (v d : ℕ) → d < length fs → IsFramed W v s d (S.stream s) → IsFramed W v s d (left_to (S.stream s) (f ∷ fs))
   lower-framed v d l h =
@@ -169,20 +169,20 @@ module _ (W : Parts) (Z : List OrderShape) (S : State) (s u : ℕ) (f : Frame) (
 
   frames-leave : FramesKeep W Z S (changed S leaves)
   frames-leave = record {
-    held = λ v r d is still. after_left (λ r own. (d : ℕ) → S.place v ≡ place.Frame (stream_no r) d → v ≢ u → IsFramed W v r d own)
-        (λ d h differs. lower-framed v d (is_lower v d h differs) (subst (IsPlaced W S v) h (sound.placed v)))
-        (λ r ne d h differs. subst (IsPlaced W S v) h (sound.placed v)) r d is (not_u r v d still);
-    hold = after_left (λ r own. (d : ℕ) → d < length own.below → (v : ℕ) × (put_at S.place u (place.Hand (stream_no s)) v ≡ place.Frame (stream_no r) d))
+    held = λ v r d is still. after-left (λ r own. (d : ℕ) → S.place v ≡ place.Frame (stream_no r) d → v ≢ u → IsFramed W v r d own)
+        (λ d h differs. lower-framed v d (is-lower v d h differs) (subst (IsPlaced W S v) h (sound.placed v)))
+        (λ r ne d h differs. subst (IsPlaced W S v) h (sound.placed v)) r d is (not-u r v d still);
+    hold = after-left (λ r own. (d : ℕ) → d < length own.below → (v : ℕ) × (put_at S.place u (place.Hand (stream_no s)) v ≡ place.Frame (stream_no r) d))
         (λ d l. let k : length (S.stream s).below ≡ suc (length fs) = ap (λ (gs : List Frame). length gs) below in
         let old : (v : ℕ) × (S.place v ≡ place.Frame (stream_no s) d) = sound.frames_hold s d (omega arith) in
-        (old.0, stays_put s old.0 d old.1 (λ e. let q : place.Frame (stream_no s) d ≡ place.Frame (stream_no s) (length fs) = sym old.1 ∙ (ap S.place e ∙ was) in let n : d ≡ length fs = cc in omega arith)))
+        (old.0, stays-put s old.0 d old.1 (λ e. let q : place.Frame (stream_no s) d ≡ place.Frame (stream_no s) (length fs) = sym old.1 ∙ (ap S.place e ∙ was) in let n : d ≡ length fs = cc in omega arith)))
         (λ r ne d l. let old : (v : ℕ) × (S.place v ≡ place.Frame (stream_no r) d) = sound.frames_hold r d l in
-        (old.0, stays_put r old.0 d old.1 (λ e. let q : place.Frame (stream_no r) d ≡ place.Frame (stream_no s) (length fs) = sym old.1 ∙ (ap S.place e ∙ was) in let n : stream_no r ≡ stream_no s = cc in ne (stream-is r s n))));
-    rest = λ v. after_left (λ r own. OnStream r (put_at S.place u (place.Hand (stream_no s)) v) → IsAtRest (S.stream r) → IsAtRest own)
+        (old.0, stays-put r old.0 d old.1 (λ e. let q : place.Frame (stream_no r) d ≡ place.Frame (stream_no s) (length fs) = sym old.1 ∙ (ap S.place e ∙ was) in let n : stream_no r ≡ stream_no s = cc in ne (stream-is r s n))));
+    rest = λ v. after-left (λ r own. OnStream r (put_at S.place u (place.Hand (stream_no s)) v) → IsAtRest (S.stream r) → IsAtRest own)
         (λ k h. AllAtRest-tail (S.stream s).top (f ∷ fs) (subst (λ (gs : List Frame). AllAtRest ((S.stream s).top ∷ gs)) below h)) (λ r ne k h. h);
-    lowest = after_left (λ r own. r < W.streams → IfSome (last (frames_of own)) (λ f. f.sched ≡ main_of W r)) (λ l. subst (λ (gs : List Frame). IfSome (last ((S.stream s).top ∷ gs)) (λ f. f.sched ≡ main_of W s)) below (sound.lowest s l)) (λ r ne. sound.lowest r);
-    under_way = after_left (λ r own. r < W.streams → AllUnderWay W Z (frames_of own)) (λ l. subst (AllUnderWay W Z) below (sound.under_way s l).1) (λ r ne. sound.under_way r);
-    below_rest = after_left (λ r own. r < W.streams → AllAtRest own.below) (λ l. AllAtRest-tail f fs (subst AllAtRest below (sound.below_rest s l))) (λ r ne. sound.below_rest r);
+    lowest = after-left (λ r own. r < W.streams → IfSome (last (frames_of own)) (λ f. f.sched ≡ main_of W r)) (λ l. subst (λ (gs : List Frame). IfSome (last ((S.stream s).top ∷ gs)) (λ f. f.sched ≡ main_of W s)) below (sound.lowest s l)) (λ r ne. sound.lowest r);
+    under_way = after-left (λ r own. r < W.streams → AllUnderWay W Z (frames_of own)) (λ l. subst (AllUnderWay W Z) below (sound.under_way s l).1) (λ r ne. sound.under_way r);
+    below_rest = after-left (λ r own. r < W.streams → AllAtRest own.below) (λ l. AllAtRest-tail f fs (subst AllAtRest below (sound.below_rest s l))) (λ r ne. sound.below_rest r);
   }
 
   keeps-leave_of : s < W.streams → due W S s ≡ LeaveDue → u < length W.units → Keeps W Z S leaves
@@ -190,7 +190,7 @@ module _ (W : Parts) (Z : List OrderShape) (S : State) (s u : ℕ) (f : Frame) (
       (free-empty S.place u (place.Hand (stream_no s)) (InHand s) 0 (same-self s 0) (due-no_hand W S s sound.undeclared LeaveDue is tt), tt) (
         record {
           declared = declared;
-          placed = (l, after_left (λ r own. r ≡ s → IsAtRest own) (λ e. subst AllAtRest below (sound.below_rest s l)) (λ r ne e. absurd (ne e)) s refl);
+          placed = (l, after-left (λ r own. r ≡ s → IsAtRest own) (λ e. subst AllAtRest below (sound.below_rest s l)) (λ r ne e. absurd (ne e)) s refl);
           alone = empty-still S leaves (InNext s) ((λ e. cc), tt) (due-no_next W S s sound.undeclared LeaveDue is tt);
           joined = inl tt;
         },

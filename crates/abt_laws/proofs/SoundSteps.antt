@@ -76,15 +76,15 @@ pub waiting-below : (W : Parts) (Z : List OrderShape) (S : State) (x : ℕ) → 
 waiting-below W Z S x sound = placed-below W Z S (Waiting x) (S.object_next x) sound (λ v t k. k.0)
 
 module _ (W : Parts) (Z : List OrderShape) (S : State) (s u : ℕ) (step : IsStepping W Z S s u) where
-  pub in_no_frame : IsFrameless S u
-  in_no_frame r d h = let e : place.Hand (stream_no s) ≡ place.Frame (stream_no r) d = sym step.in_hand ∙ h in cc
+  pub in-no-frame : IsFrameless S u
+  in-no-frame r d h = let e : place.Hand (stream_no s) ≡ place.Frame (stream_no r) d = sym step.in_hand ∙ h in cc
 
   -- u waits at no reader-writer lock
-  pub off_locks : IsOffLocks W (S.place u)
-  off_locks = subst (IsOffLocks W) (sym step.in_hand) tt
+  pub off-locks : IsOffLocks W (S.place u)
+  off-locks = subst (IsOffLocks W) (sym step.in_hand) tt
 
-  pub may_wake : IsWakeable W S u
-  may_wake = record { declared = step.declared; frameless = in_no_frame; off_locks = off_locks }
+  pub may-wake : IsWakeable W S u
+  may-wake = record { declared = step.declared; frameless = in-no-frame; off_locks = off-locks }
 
   -- u goes on with another accumulator, keys or output
   carries : (c : Carried) → c.home ≡ (S.carried u).home → c.position ≡ (S.carried u).position → CarriesWell W u (advanced c)
@@ -94,8 +94,8 @@ module _ (W : Parts) (Z : List OrderShape) (S : State) (s u : ℕ) (step : IsSte
         position = subst (λ k. suc k ≤ length (ops_of (body_at W u))) (sym position) (let l : (S.carried u).position < length (ops_of (body_at W u)) = step.position in omega arith);
       }
 
-  pub carries_on : CarriesWell W u (advanced (S.carried u))
-  carries_on = carries (S.carried u) refl refl
+  pub carries-on : CarriesWell W u (advanced (S.carried u))
+  carries-on = carries (S.carried u) refl refl
 
   -- the tray has room for all
   pub tray-below : IsBelow (InTray s) (tray_end W S s) S.place
@@ -149,11 +149,11 @@ module _ (W : Parts) (Z : List OrderShape) (S : State) (s u : ℕ) (step : IsSte
 
   -- u asks something of v
   pub keeps-asks : (v : ℕ) (d : Desk) → AsksWell W S v d → Keeps W Z S (asks S u v d)
-  keeps-asks v d well = keeps-still ((u, advanced (S.carried u)) ∷ []) ((v, d) ∷ []) [] [] [] (carries_on, tt) (well, tt) tt tt tt
+  keeps-asks v d well = keeps-still ((u, advanced (S.carried u)) ∷ []) ((v, d) ∷ []) [] [] [] (carries-on, tt) (well, tt) tt tt tt
 
   -- u goes on, and these units come to the tray
   pub keeps-wakes_only : (us : List ℕ) → EachOf (IsWakeable W S) us → Keeps W Z S (wakes W S s u us)
-  keeps-wakes_only us each = keeps-wakes us ((u, advanced (S.carried u)) ∷ []) [] [] [] [] each (carries_on, tt) tt tt tt tt
+  keeps-wakes_only us each = keeps-wakes us ((u, advanced (S.carried u)) ∷ []) [] [] [] [] each (carries-on, tt) tt tt tt tt
 
   -- u waits at x, which holds it up, and has room for one more if it is a barrier, and these reader-writer locks change
   pub keeps-comes : (x : ℕ) (ks : List (ℕ × RwLock)) →
@@ -176,7 +176,7 @@ module _ (W : Parts) (Z : List OrderShape) (S : State) (s u : ℕ) (step : IsSte
           tt,
         );
         barriers = barriers-wait W Z S step.sound (changed S c) u x (S.object_next x) (λ v ne. put_at-other S.place u pl v ne) (put_at-same S.place u pl) room;
-        carried = (carries_on, tt);
+        carried = (carries-on, tt);
         desks = tt;
         pool_next = tt;
         join_next = tt;
@@ -186,9 +186,9 @@ module _ (W : Parts) (Z : List OrderShape) (S : State) (s u : ℕ) (step : IsSte
         futures = tt;
         rwlocks = rwlocks;
         locks = locks;
-        frames = frames-stay W Z S c step.sound (in_no_frame, tt) tt;
+        frames = frames-stay W Z S c step.sound (in-no-frame, tt) tt;
       }
 
   -- u waits at x, which is no reader-writer lock
   pub keeps-waits : (x : ℕ) → (thing_at W x ≡ Some thing.RwLock → ⊥) → HoldsUp W S x (thing_at W x) → ((n : ℕ) → thing_at W x ≡ Some (thing.Barrier n) → suc (length (standing W S (Waiting x))) < n) → Keeps W Z S (waits S u x)
-  keeps-waits x other up room = keeps-comes x [] up room tt (locks-stay W Z S (waits S u x) step.sound refl ((off_locks, other), tt))
+  keeps-waits x other up room = keeps-comes x [] up room tt (locks-stay W Z S (waits S u x) step.sound refl ((off-locks, other), tt))

@@ -26,7 +26,7 @@ use Rattle.abt_laws.proofs.Wakes.{IsWakeable, tray-well, tray-frameless, tray-of
 use Rattle.abt_laws.proofs.SoundEvents.{keeps-event}
 use Rattle.abt_laws.proofs.SoundFrames.{frames-stay}
 use Rattle.abt_laws.proofs.SoundMoves.{keeps-moves}
-use Rattle.abt_laws.proofs.SoundSteps.{IsStepping, in_no_frame, off_locks, may_wake, carries_on, keeps-goes_on, keeps-wakes, tray-below}
+use Rattle.abt_laws.proofs.SoundSteps.{IsStepping, in-no-frame, off-locks, may-wake, carries-on, keeps-goes_on, keeps-wakes, tray-below}
 
 module _ (W : Parts) (Z : List OrderShape) (S : State) (s u : ℕ) (step : IsStepping W Z S s u) where
   -- u goes to a free place that is no barrier and no reader-writer lock
@@ -35,7 +35,7 @@ module _ (W : Parts) (Z : List OrderShape) (S : State) (s u : ℕ) (step : IsSte
       IsFreeFor S.place u pl → IsPlaced W (changed S c) u pl → IsAlone (places S c) pl → HasNotEnded pl → IsOffBarriers W pl → IsOffLocks W pl →
       EachOf (λ (m : ℕ × ℕ). S.join_next m.0 ≤ m.1) js → Keeps W Z S c
   keeps-goes_to pl js free placed alone goes off off_to rises =
-      keeps-moves W Z S s u step ((u, pl) ∷ []) js [] [] (free, tt) (record { declared = step.declared; placed = placed; alone = alone; joined = inl goes }, tt) (off, tt) ((off_locks W Z S s u step, off_to), tt) (in_no_frame W Z S s u step, tt) rises tt tt
+      keeps-moves W Z S s u step ((u, pl) ∷ []) js [] [] (free, tt) (record { declared = step.declared; placed = placed; alone = alone; joined = inl goes }, tt) (off, tt) ((off-locks W Z S s u step, off_to), tt) (in-no-frame W Z S s u step, tt) rises tt tt
 
   pub keeps-suspends : Keeps W Z S (record (goes_on S u) { moves = (u, place.Blocked spot.Suspended 0) ∷ [] })
   keeps-suspends = let pl : Place = place.Blocked spot.Suspended 0 in keeps-goes_to pl [] (free-nowhere S.place u pl refl) tt tt tt tt tt tt
@@ -44,7 +44,7 @@ module _ (W : Parts) (Z : List OrderShape) (S : State) (s u : ℕ) (step : IsSte
   pub keeps-exits : Keeps W Z S (record (goes_on S u) { streams = (s, marked Exited (S.stream s)) ∷ [] })
   keeps-exits =
       let c : Change = record (goes_on S u) { streams = (s, marked Exited (S.stream s)) ∷ [] } in
-      keeps-event W Z S step.sound [] ((u, advanced (S.carried u)) ∷ []) [] [] ((s, marked Exited (S.stream s)) ∷ []) tt tt tt tt (carries_on W Z S s u step, tt) tt tt
+      keeps-event W Z S step.sound [] ((u, advanced (S.carried u)) ∷ []) [] [] ((s, marked Exited (S.stream s)) ∷ []) tt tt tt tt (carries-on W Z S s u step, tt) tt tt
       (frames-stay W Z S c step.sound tt (record { below = refl; sched = refl; rest = λ v at h. h; under_way = λ k. (step.sound.under_way s k).0 }, tt))
 
   -- the tickets of those who join v are below the next
@@ -71,7 +71,7 @@ module _ (W : Parts) (Z : List OrderShape) (S : State) (s u : ℕ) (step : IsSte
   keeps-begins v p wakeable l =
       let d : Desk = record (S.desk v) { life = suc (S.desk v).life } in
       keeps-wakes W Z S s u step (v ∷ []) ((u, advanced (S.carried u)) ∷ (v, newborn p (S.carried v)) ∷ []) ((v, d) ∷ []) [] [] []
-      (wakeable, tt) (carries_on W Z S s u step, (record { home = l; position = omega arith }, tt)) (record { asks = inl (λ h. h); request = step.sound.requests v }, tt) tt tt tt
+      (wakeable, tt) (carries-on W Z S s u step, (record { home = l; position = omega arith }, tt)) (record { asks = inl (λ h. h); request = step.sound.requests v }, tt) tt tt tt
 
   -- nobody else is in the hand
   hand-alone : (v t : ℕ) → ticket_in (InHand s) (S.place v) ≡ Some t → v ≡ u
@@ -86,8 +86,8 @@ module _ (W : Parts) (Z : List OrderShape) (S : State) (s u : ℕ) (step : IsSte
       let alone : IsEmpty (InHand s) (places S c) = empty-after S c (InHand s) (λ e. cc, (λ e. cc, tt)) (λ w t h. inr (inl (hand-alone w t h))) in
       keeps-moves W Z S s u step ((v, pl) ∷ to_tray W S s (u ∷ [])) [] [] []
       (free-empty S.place v pl (InNext s) 0 (same-self s 0) step.no_next, tray-free s i (put_at S.place v pl) (u ∷ []) (IsBelow-move (InTray s) i S.place v pl (λ e. cc) (tray-below W Z S s u step)))
-      (record { declared = l; placed = (step.stream, step.rests); alone = alone; joined = inl tt }, tray-well W S c s i (u ∷ []) step.stream step.rests (may_wake W Z S s u step, tt))
+      (record { declared = l; placed = (step.stream, step.rests); alone = alone; joined = inl tt }, tray-well W S c s i (u ∷ []) step.stream step.rests (may-wake W Z S s u step, tt))
       (tt, (tt, tt))
-      ((off-by W S v (is_in_pool p) (λ x t. refl) pooled, tt), tray-off W S s i (u ∷ []) (may_wake W Z S s u step, tt))
-      (frameless-by S v (is_in_pool p) (λ r d. refl) pooled, tray-frameless W S s i (u ∷ []) (may_wake W Z S s u step, tt))
+      ((off-by W S v (is_in_pool p) (λ x t. refl) pooled, tt), tray-off W S s i (u ∷ []) (may-wake W Z S s u step, tt))
+      (frameless-by S v (is_in_pool p) (λ r d. refl) pooled, tray-frameless W S s i (u ∷ []) (may-wake W Z S s u step, tt))
       tt tt tt

@@ -1,7 +1,6 @@
 //! The words of the program.
 
 ghost use Rattle.std.specs.Prelude.{◌≡◌, MatchOption, map, string_bytes};
-ghost use Rattle.std.specs.Str.{bytes_eq};
 ghost use Rattle.abt_lives.specs.Words.{Asks, AsksNothing, is_name, is_pair};
 
 // Whether the word names a file: it has a byte, and begins with no dash unless it is one alone.

@@ -86,8 +86,8 @@ Holds-after_wait F k o m holds has =
 
 -- Facts of what monitors hold, as the law says them.
 
-holds_from : (F : Owned → Type 0) (D : ℕ → Type 0) (m : MonitorValue) → Have F D (contents_of_monitor m) → Holds F m
-holds_from F D m have = record { waiters = All-left F m.waiters _ have.0; conds = All-of_flat F m.conds (All-right F m.waiters _ have.0) }
+holds-from : (F : Owned → Type 0) (D : ℕ → Type 0) (m : MonitorValue) → Have F D (contents_of_monitor m) → Holds F m
+holds-from F D m have = record { waiters = All-left F m.waiters _ have.0; conds = All-of_flat F m.conds (All-right F m.waiters _ have.0) }
 
 becomes : (F : Owned → Type 0) (D : ℕ → Type 0) (m new : MonitorValue) → new ≡ m → Holds F m → Have F D (contents_of_monitor new)
 becomes F D m new same holds =
@@ -100,36 +100,36 @@ stays F D old new same have = let P : MonitorValue → Type 0 = λ x. Have F D (
 -- monitors keep any fact of units
 pub monitors-keep : (F : Owned → Type 0) (D : ℕ → Type 0) → Keeps F D contents_of_monitor MonitorGives
 monitors-keep F D old (Lock o) (Given b) new gives have asked =
-    (Have-unit F D b (subst F (sym gives.1) (All-head F o [] asked.0)), becomes F D _ new gives.2 (Holds-with_owner F (Some o.number) old (holds_from F D old have)))
+    (Have-unit F D b (subst F (sym gives.1) (All-head F o [] asked.0)), becomes F D _ new gives.2 (Holds-with_owner F (Some o.number) old (holds-from F D old have)))
 monitors-keep F D old (Lock o) Rested new gives have asked =
-    (Have-nothing F D, becomes F D _ new gives.1 (Holds-waiting F o old (holds_from F D old have) (All-head F o [] asked.0)))
+    (Have-nothing F D, becomes F D _ new gives.1 (Holds-waiting F o old (holds-from F D old have) (All-head F o [] asked.0)))
 monitors-keep F D old (TryLock u) (Coded code.Ok) new gives have asked =
-    (Have-nothing F D, becomes F D _ new gives.1 (Holds-with_owner F (Some u) old (holds_from F D old have)))
+    (Have-nothing F D, becomes F D _ new gives.1 (Holds-with_owner F (Some u) old (holds-from F D old have)))
 monitors-keep F D old (TryLock u) (Coded code.MutexLocked) new gives have asked = (Have-nothing F D, stays F D old new gives.1 have)
 monitors-keep F D old (Unlock u) (Given b) new gives have asked =
-    (Have-unit F D b (first-has F old.waiters b (holds_from F D old have).waiters gives.1), becomes F D _ new gives.2 (Holds-handed_over F old (holds_from F D old have)))
+    (Have-unit F D b (first-has F old.waiters b (holds-from F D old have).waiters gives.1), becomes F D _ new gives.2 (Holds-handed_over F old (holds-from F D old have)))
 monitors-keep F D old (Unlock u) Rested new gives have asked =
-    (Have-nothing F D, becomes F D _ new gives.2 (Holds-handed_over F old (holds_from F D old have)))
+    (Have-nothing F D, becomes F D _ new gives.2 (Holds-handed_over F old (holds-from F D old have)))
 monitors-keep F D old (Unlock u) (Coded code.NotOwner) new gives have asked = (Have-nothing F D, stays F D old new gives.1 have)
 monitors-keep F D old (Load u) (Number n) new gives have asked = (Have-nothing F D, stays F D old new gives.2 have)
 monitors-keep F D old (Load u) (Coded code.NotOwner) new gives have asked = (Have-nothing F D, stays F D old new gives.1 have)
 monitors-keep F D old (Store u n) (Coded code.Ok) new gives have asked =
-    (Have-nothing F D, becomes F D _ new gives.1 (Holds-with_number F n old (holds_from F D old have)))
+    (Have-nothing F D, becomes F D _ new gives.1 (Holds-with_number F n old (holds-from F D old have)))
 monitors-keep F D old (Store u n) (Coded code.NotOwner) new gives have asked = (Have-nothing F D, stays F D old new gives.1 have)
 monitors-keep F D old (Wait k o) (Given b) new gives have asked =
-    (Have-unit F D b (first-has F old.waiters b (holds_from F D old have).waiters gives.1), becomes F D _ new gives.2 (Holds-after_wait F k o old (holds_from F D old have) (All-head F o [] asked.0)))
+    (Have-unit F D b (first-has F old.waiters b (holds-from F D old have).waiters gives.1), becomes F D _ new gives.2 (Holds-after_wait F k o old (holds-from F D old have) (All-head F o [] asked.0)))
 monitors-keep F D old (Wait k o) Rested new gives have asked =
-    (Have-nothing F D, becomes F D _ new gives.2 (Holds-after_wait F k o old (holds_from F D old have) (All-head F o [] asked.0)))
+    (Have-nothing F D, becomes F D _ new gives.2 (Holds-after_wait F k o old (holds-from F D old have) (All-head F o [] asked.0)))
 monitors-keep F D old (Wait k o) (Back b code.NotOwner) new gives have asked =
     (Have-unit F D b (subst F (sym gives.1) (All-head F o [] asked.0)), stays F D old new gives.2 have)
 monitors-keep F D old (Signal k) (Given b) new gives have asked =
-    (Have-unit F D b (new_owner-has F old.owner _ b (Holds-at_condition F k old (holds_from F D old have)) gives.0), becomes F D _ new gives.1 (Holds-after_signal F k old (holds_from F D old have)))
+    (Have-unit F D b (new_owner-has F old.owner _ b (Holds-at_condition F k old (holds-from F D old have)) gives.0), becomes F D _ new gives.1 (Holds-after_signal F k old (holds-from F D old have)))
 monitors-keep F D old (Signal k) Rested new gives have asked =
-    (Have-nothing F D, becomes F D _ new gives.1 (Holds-after_signal F k old (holds_from F D old have)))
+    (Have-nothing F D, becomes F D _ new gives.1 (Holds-after_signal F k old (holds-from F D old have)))
 monitors-keep F D old (Broadcast k) (Given b) new gives have asked =
-    (Have-unit F D b (new_owner-has F old.owner _ b (Holds-at_condition F k old (holds_from F D old have)) gives.0), becomes F D _ new gives.1 (Holds-after_broadcast F k old (holds_from F D old have)))
+    (Have-unit F D b (new_owner-has F old.owner _ b (Holds-at_condition F k old (holds-from F D old have)) gives.0), becomes F D _ new gives.1 (Holds-after_broadcast F k old (holds-from F D old have)))
 monitors-keep F D old (Broadcast k) Rested new gives have asked =
-    (Have-nothing F D, becomes F D _ new gives.1 (Holds-after_broadcast F k old (holds_from F D old have)))
+    (Have-nothing F D, becomes F D _ new gives.1 (Holds-after_broadcast F k old (holds-from F D old have)))
 monitors-keep F D old act answer new gives have asked = absurd gives
 
 pub monitors-keep-what-fits : MonitorsKeepWhatFits

@@ -1,6 +1,6 @@
 //! Orders that users store.
 
-ghost use Rattle.std.specs.Prelude.{◌≡◌, ◌≢◌, ◌<◌, ◌≤◌, ◌^◌, ℕ, IsTrue};
+ghost use Rattle.std.specs.Prelude.{◌≡◌, ◌≢◌, ◌<◌, ◌≤◌, ℕ, IsTrue};
 ghost use Rattle.std.specs.Option.{ForNone, ForSome};
 ghost use Rattle.abt_machine.specs.Limits.{listed_limit};
 ghost use Rattle.abt_machine.specs.declared.operations.OrderShape.TheVariants as order_shape;

@@ -2,7 +2,7 @@
 
 use abt_machine::{PoolNo, UnitNo};
 
-/// An act of the unit in hand that does not go with it: it goes on, or it yields to the unit that comes out of a pool. A
+/// An act of the unit in hand that does not take it along: it goes on, or it yields to the unit that comes out of a pool. A
 /// condition is named by its place among the monitor's.
 #[derive(Clone, Copy, Debug, PartialEq, Eq)]
 pub enum Asking {

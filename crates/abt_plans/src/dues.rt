@@ -1,6 +1,6 @@
 //! What is due for the unit in hand.
 
-ghost use Rattle.std.specs.Prelude.{ℕ, ◌≡◌, ◌<◌, length};
+ghost use Rattle.std.specs.Prelude.{ℕ, ◌<◌, length};
 ghost use Rattle.abt_machine.specs.State.{Left, Plain};
 ghost use Rattle.abt_machine.specs.Valid.{IsValid};
 ghost use Rattle.abt_plans.specs.Dues.{DueIs, ProgramIs};

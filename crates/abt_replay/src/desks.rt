@@ -1,6 +1,6 @@
 //! Desks: each keeps its unit if that is unborn, suspended or has ended, the units that join it, and what is asked of it.
 
-ghost use Rattle.std.specs.Prelude.{◌≡◌, IfOk, [], ◌∷◌, ◌++◌};
+ghost use Rattle.std.specs.Prelude.{◌≡◌, IfOk};
 ghost use Rattle.abt_calls.specs.Allowed.{DeskAllows};
 ghost use Rattle.abt_replay.specs.Acts.{act_of, answer_of};
 ghost use Rattle.abt_replay.specs.Phases.{phase_of};

@@ -1,6 +1,6 @@
 //! Frames: schedulers that run, each with its round.
 
-ghost use Rattle.std.specs.Prelude.{◌≡◌, ◌<◌, ◌+◌, ◌-◌, ◌^◌, suc, false, [], IfOk, length};
+ghost use Rattle.std.specs.Prelude.{◌≡◌, ◌<◌, ◌+◌, ◌-◌, ◌^◌, suc, false, IfOk, length};
 ghost use Rattle.abt_machine.specs.Frames.{frame_at, frame_missed};
 
 use abt_machine::{PoolNo, SchedNo, Want, Workload};

@@ -1,15 +1,13 @@
 //! What a stream holds, and what each kind of event makes of it.
 
-ghost use Rattle.std.specs.Prelude.{◌≡◌, ◌<◌, ◌-◌, ◌^◌, ◌≢◌, ◌↔◌, ◌++◌, [], ◌∷◌, IfNone, IfOk, IfSome, IsTrue, List, None, Some, length, option_map};
+ghost use Rattle.std.specs.Prelude.{◌≡◌, ◌<◌, ◌-◌, ◌^◌, ◌≢◌, ◌↔◌, [], ◌∷◌, IfNone, IfOk, IfSome, IsTrue, List, None, Some, length, option_map};
 ghost use Rattle.abt_calls.specs.Allowed.{Allows};
 ghost use Rattle.abt_calls.specs.Starts.{start_part};
 ghost use Rattle.abt_replay.specs.Events.{AreObjects, Ends, Entered, Leaves, Looks, Moves, Visits, Woken, in_hand};
 ghost use Rattle.abt_replay.specs.Objects.{object_at};
 ghost use Rattle.abt_machine.specs.declared.events.Site.TheVariants as site;
-ghost use Rattle.abt_machine.specs.declared.events.What.TheVariants as what;
 ghost use Rattle.abt_machine.specs.declared.numbers.PoolNo.{PoolNo};
 ghost use Rattle.abt_machine.specs.Acts as asked;
-ghost use Rattle.abt_machine.specs.Frames.{entered, left};
 ghost use Rattle.abt_machine.specs.Numbers.{pool_no, unit_no};
 ghost use Rattle.abt_machine.specs.Turns.{looked, side_of};
 ghost use Rattle.abt_machine.specs.Valid.{IsValid};

@@ -4,7 +4,7 @@ ghost use Rattle.std.specs.Prelude.{◌≡◌, ◌<◌, ◌↔◌, [], ◌∷◌
 ghost use Rattle.abt_calls.specs.Allowed.{MonitorAllows};
 ghost use Rattle.abt_replay.specs.Acts.{act_of, answer_of};
 ghost use Rattle.abt_machine.specs.Acts as asked;
-ghost use Rattle.abt_machine.specs.Monitors.{MonitorGives, admitted, handed_over, with_condition};
+ghost use Rattle.abt_machine.specs.Monitors.{MonitorGives, handed_over};
 ghost use Rattle.abt_machine.specs.Queues.{first};
 
 use crate::acts::{Act, Answer};
@@ -13,7 +13,6 @@ use abt_machine::{Code, UnitNo, Want};
 use std::alloc::Global;
 use std::collections::VecDeque;
 use std::marker::Model;
-use std::mem;
 
 // The units that wait at one condition.
 #[derive(Drop)]

@@ -1,6 +1,6 @@
 //! All objects of a workload, by their sites.
 
-ghost use Rattle.std.specs.Prelude.{◌≡◌, ◌<◌, false, IfOk, length};
+ghost use Rattle.std.specs.Prelude.{◌≡◌, ◌<◌, IfOk};
 ghost use Rattle.abt_calls.specs.Allowed.{Allows};
 ghost use Rattle.abt_calls.specs.Suits.{Suits};
 ghost use Rattle.abt_replay.specs.Acts.{act_of, answer_of};

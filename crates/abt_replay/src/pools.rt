@@ -1,6 +1,6 @@
 //! Pools of ready units.
 
-ghost use Rattle.std.specs.Prelude.{◌≡◌, ◌++◌, [], ◌∷◌, None, Some, IfNone, IfOk, IfSome};
+ghost use Rattle.std.specs.Prelude.{◌≡◌, [], None, Some, IfNone, IfOk, IfSome};
 ghost use Rattle.std.specs.List.{find};
 ghost use Rattle.abt_calls.specs.Allowed.{PoolAllows};
 ghost use Rattle.abt_replay.specs.Acts.{act_of, answer_of};

@@ -1,6 +1,6 @@
 //! Reader-writer locks, with the number that they guard.
 
-ghost use Rattle.std.specs.Prelude.{◌≡◌, ◌++◌, [], ◌∷◌, IfNone, IfOk, IfSome, IsTrue, None, replicate, slice_set};
+ghost use Rattle.std.specs.Prelude.{◌≡◌, [], ◌∷◌, IfNone, IfOk, IfSome, IsTrue, None, replicate, slice_set};
 ghost use Rattle.abt_calls.specs.Allowed.{RwLockAllows};
 ghost use Rattle.abt_replay.specs.Acts.{act_of, answer_of};
 ghost use Rattle.abt_machine.specs.declared.events.Wish.TheVariants as wish;

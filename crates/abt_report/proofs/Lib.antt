@@ -1,4 +1,3 @@
-mod ComparedTexts
 mod Guessing
 mod Joining
 mod JournalTexts

@@ -1,19 +1,14 @@
 -- Texts that are cut at their first line feed.
-use Rattle.std.proofs.Common.{◌≡◌, ◌==◌, not, true, false, ap, get_or, ℕ, [], ◌∷◌, ◌++◌, refl, subst, sym}
-use Rattle.std.specs.List.{All, list_all}
-use Rattle.std.proofs.lemmas.Bool.{eqb-false, not-true}
+use Rattle.std.proofs.Common.{◌≡◌, ◌==◌, false, ap, ℕ, [], ◌∷◌, ◌++◌, refl, subst, sym}
+use Rattle.std.specs.List.{All}
+use Rattle.std.proofs.lemmas.Bool.{eqb-false}
 use Rattle.std.proofs.lemmas.List.Elements.{All-head, All-tail}
-use Rattle.std.proofs.lemmas.List.Sums.{AllPass-from_list_all}
 use Rattle.abt_bounds.proofs.Solid.{IsNoFeed}
 use Rattle.abt_machine.specs.Words.{Text}
 
 -- no byte is a line feed
 abbrev pub IsUnbroken : Text → Type 0
 IsUnbroken = All IsNoFeed
-
--- a text that is written out is unbroken by a test
-pub unbroken-by : (text : Text) → list_all (λ b. not (b == 10)) text ≡ true → IsUnbroken text
-unbroken-by text e k d lt = eqb-false (get_or text k d) 10 (not-true (get_or text k d == 10) (AllPass-from_list_all (λ b. not (b == 10)) text e k d lt))
 
 -- the first byte
 first-or : ℕ → Text → ℕ

@@ -1,13 +1,13 @@
 //! The event that words may be those of: if they are the words of an event, it is that one.
 
-ghost use Rattle.std.specs.Prelude.{◌≡◌, ◌<◌, ◌^◌, ℕ, [], ◌∷◌, IsTrue, OnOk, Some, decimal, map};
+ghost use Rattle.std.specs.Prelude.{◌≡◌, ◌<◌, ◌^◌, ℕ, [], ◌∷◌, OnOk, Some, decimal, map};
 ghost use Rattle.std.specs.List.{slice_split};
 ghost use Rattle.std.specs.Str.{bytes_eq};
 ghost use Rattle.abt_machine.specs.declared.events.Cause.{Cause};
 ghost use Rattle.abt_machine.specs.declared.events.Code.{Code};
 ghost use Rattle.abt_machine.specs.declared.events.Event.{Event};
 ghost use Rattle.abt_machine.specs.declared.events.What.{What};
-ghost use Rattle.abt_machine.specs.Texts.{cause_name, code_name, event_words, what_words};
+ghost use Rattle.abt_machine.specs.Texts.{event_words, what_words};
 ghost use Rattle.abt_report.specs.Guesses.{cause_of, code_of, is_space, what_of_one, what_of_two};
 ghost use Rattle.abt_report.specs.Journals.{HasShortNumbers, IsEvent};
 

@@ -1,9 +1,7 @@
 //! The report of a run.
 
-ghost use Rattle.std.specs.Prelude.{◌≡◌, ◌<◌, ◌++◌, ◌∷◌, [], All, codes, decimal, IfOk, length, map, OnOk, flat_map};
-ghost use Rattle.std.specs.List.{slice_index};
+ghost use Rattle.std.specs.Prelude.{◌≡◌, ◌<◌, ◌++◌, ◌∷◌, [], All, IfOk, length, map, OnOk, flat_map};
 ghost use Rattle.abt_machine.specs.Pieces.{IsPieceOf};
-ghost use Rattle.abt_machine.specs.Queues.{first_alone};
 ghost use Rattle.abt_machine.specs.Texts.{outcome_words, piece_word, report_of, short_of, shown_words, tally_and_outcome, tally_words, unit_line};
 ghost use Rattle.abt_machine.specs.Words.{ended, line_of, numbered, spaced};
 ghost use Rattle.abt_report.specs.Pictures.{SaysWordsOf, unit_of, units_of};

@@ -1,5 +1,5 @@
 -- The words in a flow are the workload's.
-use Rattle.std.proofs.Common.{◌≡◌, ◌++◌, ℕ, zero, suc, List, [], ◌∷◌, Option, Some, None, refl, sym, ap, subst, inl, inr}
+use Rattle.std.proofs.Common.{◌≡◌, ◌++◌, ℕ, zero, suc, List, [], ◌∷◌, Option, Some, None, refl, sym, ap, subst, ◌∙◌, inl, inr}
 use Rattle.std.specs.Prelude.{slice_get}
 use Rattle.std.specs.List.{All}
 use Rattle.std.proofs.lemmas.List.Elements.{All-append, All-cons, All-nil}
@@ -13,7 +13,7 @@ use Rattle.abt_machine.specs.Pieces.{IsPieceOf}
 use Rattle.abt_machine.specs.Valid.{IsValid}
 use Rattle.abt_machine.specs.Workloads.{op_at}
 use Rattle.abt_machine.proofs.Declared.{op-declared}
-use Rattle.abt_flow.specs.Effects.{Memory, effect}
+use Rattle.abt_flow.specs.Effects.{Memory, Effect, Computes, Awaits, Depends, effect}
 use Rattle.abt_flow.specs.Flow.{Does, IsFlow, IsRow, Leads, Made}
 
 abbrev Says : Parts → Memory → Type 0
@@ -26,21 +26,22 @@ same-output : (W : Parts) (old m : Memory) → m.output ≡ old.output → Says 
 same-output W old m e says = subst (All (IsPieceOf W)) (sym e) says
 
 module _ (W : Parts) (Found : ℕ → ℕ → Type 0) (old m : Memory) (says : Says W old) where
+  -- the output after an effect that is known from the memory alone
+  abbrev output_after : Effect → List Piece
+  output_after (Computes f) = (f old).output
+  output_after _ = old.output
+
+  -- what adds nothing to the output says what was said before
+  led-same : (e : Effect) → output_after e ≡ old.output → Leads Found e old m → Says W m
+  led-same (Computes f) same is = same-output W old m (ap (λ (x : Memory). x.output) is ∙ same) says
+  led-same (Awaits x) same is = same-output W old m (ap (λ (x : Memory). x.output) is.2) says
+  led-same Depends same is = absurd is
+
   -- an operation says its own word, or none
   led : (o : Op) → IsDeclared W o → Leads Found (effect o) old m → Says W m
   led (op.Say w) declared is = subst (All (IsPieceOf W)) (ap (λ (x : Memory). x.output) (sym is)) (one-more W old (piece.Said w) says declared)
   led op.Print declared is = subst (All (IsPieceOf W)) (ap (λ (x : Memory). x.output) (sym is)) (one-more W old (piece.Number old.acc) says tt)
-  led (op.Set n) declared is = same-output W old m (ap (λ (x : Memory). x.output) is) says
-  led (op.Add n) declared is = same-output W old m (ap (λ (x : Memory). x.output) is) says
-  led (op.KeySet k) declared is = same-output W old m (ap (λ (x : Memory). x.output) is) says
-  led (op.KeyGet k) declared is = same-output W old m (ap (λ (x : Memory). x.output) is) says
-  led op.Yield declared is = same-output W old m (ap (λ (x : Memory). x.output) is) says
-  led (op.Create v p) declared is = same-output W old m (ap (λ (x : Memory). x.output) is) says
-  led (op.Join v) declared is = same-output W old m (ap (λ (x : Memory). x.output) is) says
-  led (op.EvWait x) declared is = same-output W old m (ap (λ (x : Memory). x.output) is.2) says
-  led (op.EvSet x) declared is = same-output W old m (ap (λ (x : Memory). x.output) is) says
-  led (op.BarWait x) declared is = same-output W old m (ap (λ (x : Memory). x.output) is) says
-  led _ declared is = absurd is
+  led o declared is = led-same (effect o) refl is
 
   done : (o : Option Op) → ((p : Op) → o ≡ Some p → IsDeclared W p) → Does Found o old m → Says W m
   done None declared is = absurd is

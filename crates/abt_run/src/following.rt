@@ -1,6 +1,6 @@
 //! The command `flow`.
 
-ghost use Rattle.std.specs.Prelude.{◌≡◌, ◌≤◌, IfErr, IfOk, List};
+ghost use Rattle.std.specs.Prelude.{◌≤◌, IfErr, IfOk, List};
 ghost use Rattle.abt_machine.specs.Words.{Text};
 ghost use Rattle.abt_machine.specs.declared.operations.OrderShape.{OrderShape};
 ghost use Rattle.abt_words.specs.Commands.{Says};

@@ -349,8 +349,8 @@ all-in-order [] n = tt
 all-in-order (e ∷ es) n = in-order e es n
 
 -- the journal is in order
-by_stamp : InOrder Sooner journal
-by_stamp =
+by-stamp : InOrder Sooner journal
+by-stamp =
     all-in-order journal (
       inl (omega arith),
       (inr (refl, omega arith), (inl (omega arith), (inr (refl, omega arith), (inl (omega arith), (inl (omega arith), (inl (omega arith), (inr (refl, omega arith), (inl (omega arith), (inl (omega arith), tt))))))))),
@@ -401,7 +401,7 @@ done = (
 -- it is the journal of the logs
 sorted : IsJournalOf logs journal
 sorted = record {
-  in_order = by_stamp;
+  in_order = by-stamp;
   all = λ s d m. from-among journal (event_of d) (each (λ f. Among (event_of f) journal) (logs s) d (logged s) (to-among (logs s) d m));
   only = λ e m. each OfDeed journal e done (to-among journal e m);
 }

@@ -13,7 +13,6 @@ use Rattle.abt_machine.specs.Lines.{Waiting, standing}
 use Rattle.abt_machine.specs.Changes.{no_change}
 use Rattle.abt_machine.specs.Steps.{waits, wakes}
 use Rattle.abt_machine.specs.Values.{owned_at, BarrierValue, barrier_value, waiters_at, part_of}
-use Rattle.abt_machine.specs.Acts.{moved}
 use Rattle.abt_machine.specs.Acts as act
 use Rattle.abt_machine.specs.Plans.{keeps, empties}
 use Rattle.abt_machine.specs.Turns.{stepped}

@@ -143,10 +143,10 @@ module _ (W : Parts) where
 module _ (W : Parts) (Z : List OrderShape) (S : State) (s u : ℕ) (acts : IsActing W Z S s u) where
   -- u is in the hand
   pub in-hand : hand W S s ≡ Some u
-  in-hand = λ i. first_of (hand-standing W Z S s u acts i) where
-    first_of : List ℕ → Option ℕ
-    first_of [] = None
-    first_of (v ∷ vs) = Some v
+  in-hand = λ i. first-of (hand-standing W Z S s u acts i) where
+    first-of : List ℕ → Option ℕ
+    first-of [] = None
+    first-of (v ∷ vs) = Some v
 
   -- they touch no site
   carried-local : (k : Carried) → IsLocal W S s None (record no_change { carried = (u, k) ∷ [] })

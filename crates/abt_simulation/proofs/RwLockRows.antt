@@ -65,14 +65,14 @@ module _ (W : Parts) (Z : List OrderShape) (S : State) (s u : ℕ) (acts : IsAct
       ((λ i. record { lock = put_at-same S.rwlock x.0 k i; waiters = waits-line W Z S s u acts x.0 i }) ∙ sym is-new)
 
   -- it comes back, refused
-  comes_back : (a : Op) (c : Code) (b : Owned) (new : RwLockValue) → IsRefusal c → code_of W S s u a ≡ c → b ≡ moved (owned_at S u) → new ≡ value S → ValueDone W S s u a value (notes b c) new
-  comes_back a c b new r is-code same is-new =
+  comes-back : (a : Op) (c : Code) (b : Owned) (new : RwLockValue) → IsRefusal c → code_of W S s u a ≡ c → b ≡ moved (owned_at S u) → new ≡ value S → ValueDone W S s u a value (notes b c) new
+  comes-back a c b new r is-code same is-new =
       subst (λ o. ValueDone W S s u a value (notes o c) new) (sym same)
       (refuses W Z S s u acts a c (site.Rw x) RwLockIs value RwLockGives new (rwlock-at W x.0 is) r (sym is-code) is-new)
 
   -- it does not hold the lock as the operation requires
   not-holder : (a : Op) (new : RwLockValue) → code_of W S s u a ≡ code.NotHolder → new ≡ value S → ValueDone W S s u a value (notes (moved (owned_at S u)) code.NotHolder) new
-  not-holder a new is-code is-new = comes_back a code.NotHolder (moved (owned_at S u)) new tt is-code refl is-new
+  not-holder a new is-code is-new = comes-back a code.NotHolder (moved (owned_at S u)) new tt is-code refl is-new
 
   -- A unit that wants to read.
 
@@ -91,9 +91,9 @@ module _ (W : Parts) (Z : List OrderShape) (S : State) (s u : ℕ) (acts : IsAct
   readlock act.Rested new gives =
       blocks _ new (wanting u wish.Read lock) (read-code gives.0 (few-reads gives.1)) (cond-false (may_read u (value S)) _ _ gives.1) gives.2
   readlock (act.Back b code.RwHeld) new gives =
-      comes_back _ code.RwHeld b new tt (unless-false (not (writes u lock)) code.RwHeld _ (ap not gives.0)) gives.1 gives.2
+      comes-back _ code.RwHeld b new tt (unless-false (not (writes u lock)) code.RwHeld _ (ap not gives.0)) gives.1 gives.2
   readlock (act.Back b code.RwFull) new gives =
-      comes_back _ code.RwFull b new tt
+      comes-back _ code.RwFull b new tt
       (unless-true (not (writes u lock)) code.RwHeld _ (ap not gives.0) ∙ unless-false (nat_lt (count_of u lock) read_limit) code.RwFull code.Ok (le-ltb (count_of u lock) read_limit gives.1))
       gives.2 gives.3
   readlock _ new gives = absurd gives
@@ -106,7 +106,7 @@ module _ (W : Parts) (Z : List OrderShape) (S : State) (s u : ℕ) (acts : IsAct
   writelock act.Rested new gives =
       blocks _ new (wanting u wish.Write lock) (unless-true (not (holds u lock)) code.RwHeld code.Ok (ap not gives.0)) (cond-false (is_free lock) _ _ gives.1) gives.2
   writelock (act.Back b code.RwHeld) new gives =
-      comes_back _ code.RwHeld b new tt (unless-false (not (holds u lock)) code.RwHeld code.Ok (ap not gives.0)) gives.1 gives.2
+      comes-back _ code.RwHeld b new tt (unless-false (not (holds u lock)) code.RwHeld code.Ok (ap not gives.0)) gives.1 gives.2
   writelock _ new gives = absurd gives
 
   -- The unit gives up the lock.

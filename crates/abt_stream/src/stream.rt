@@ -22,7 +22,7 @@ use crate::parts::{Frame, Work};
 use crate::turns::{Pace, Turn};
 use abt_chain::Chain;
 use abt_commons::Commons;
-use abt_machine::{Event, Items, Log, PoolNo, StreamNo, Want, What, Workload};
+use abt_machine::{Event, Items, Log, PoolNo, StreamNo, Want, Workload};
 use abt_order::Scheduler;
 use abt_plans::{HandDue, Mark};
 use abt_unit::Unit;
@@ -64,7 +64,7 @@ pub struct Stream {
 }
 
 impl Model for Stream {
-    ghost use Rattle.std.specs.Prelude.{ℕ, ◌≡◌, ◌≤◌, ◌+◌, ◌-◌, ◌^◌, [], length, map, take, vec_capacity, vec_len};
+    ghost use Rattle.std.specs.Prelude.{◌≡◌, ◌≤◌, ◌+◌, ◌-◌, ◌^◌, [], length, map, take, vec_capacity, vec_len};
     ghost use Rattle.std.specs.List.{All};
     ghost use Rattle.abt_machine.specs.Outcomes.{steps_in};
     ghost use Rattle.abt_stream.specs.Streams.{IsFreeUnit, IsLog, IsOrderly, StreamValue, behind_of, hand_of, next_of, own_of, owned, spare_of};

@@ -1,5 +1,5 @@
 -- The streams that live, by objects, by states, and by the events of a wave.
-use Rattle.std.proofs.Common.{◌≡◌, ℕ, zero, suc, ◌+◌, ◌<◌, ◌≤◌, ◌==◌, ◌&&◌, ◌∙◌, inl, inr, Bool, true, false, cond, not, List, [], ◌∷◌, ◌++◌, length, map, filter, drop, drop-cons, get_or, slice_get, Option, Some, None, refl, sym, ap, subst, arith}
+use Rattle.std.proofs.Common.{◌≡◌, ℕ, zero, suc, ◌+◌, ◌<◌, ◌≤◌, ◌==◌, ◌&&◌, ◌∙◌, inl, inr, Bool, true, false, cond, not, List, [], ◌∷◌, ◌++◌, length, map, filter, slice_get, Option, Some, None, refl, sym, ap, subst, arith}
 use Rattle.std.specs.Prelude.{Contains, is_some}
 use Rattle.std.specs.List.{All, range_with_len}
 use mathlib.Core.Path.{fun_ext}
@@ -62,10 +62,6 @@ module _ (W : Parts) (lives : List Life) (are : AreLives W lives) (S : State) (o
 
   pub numbers-same : filter (is_live_with objects lives) (range_with_len 0 W.streams) ≡ filter (is_live lives S) (range_with_len 0 W.streams)
   numbers-same = ap (λ f. filter f (range_with_len 0 W.streams)) (fun_ext {f = is_live_with objects lives} {g = is_live lives S} live-same)
-
--- the life of a stream among those from one on
-pub life-here : (lives : List Life) (s i : ℕ) (life : Life) → i < length lives → life ≡ get_or lives i life → life_of (drop i lives) s ≡ cond (life.stream.0 == s) (Some life) (life_of (drop (suc i) lives) s)
-life-here lives s i life lt is = ap (λ (ls : List Life). life_of ls s) (drop-cons lives i life lt) ∙ ap (λ (l : Life). cond (l.stream.0 == s) (Some l) (life_of (drop (suc i) lives) s)) (sym is)
 
 -- one number more that passes, or does not
 pub filter-more : (f : ℕ → Bool) (a n : ℕ) → filter f (range_with_len a (suc n)) ≡ filter f (range_with_len a n) ++ cond (f (a + n)) ((a + n) ∷ []) []

@@ -1,5 +1,5 @@
 -- The words of a life's line.
-use Rattle.std.proofs.Common.{◌≡◌, ◌≢◌, ◌<◌, ◌==◌, ◌∙◌, ℕ, true, not, List, [], ◌∷◌, ◌++◌, length, get_or, refl, ap, subst, sym, arith, append_assoc, decimal, codes, Bor, Option, Some, None}
+use Rattle.std.proofs.Common.{◌≡◌, ◌≢◌, ◌<◌, ◌==◌, ◌∙◌, ℕ, not, List, [], ◌∷◌, ◌++◌, length, get_or, refl, ap, subst, sym, arith, append_assoc, decimal, codes, Bor, Option, Some, None}
 use Rattle.std.specs.List.{All}
 use Rattle.std.specs.Option.{MatchOption}
 use Rattle.std.specs.Str.{IsAscii, IsUtf8}

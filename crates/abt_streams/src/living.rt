@@ -1,7 +1,7 @@
 //! Which streams live.
 
-ghost use Rattle.std.specs.Prelude.{ℕ, ◌≡◌, ◌++◌, [], ◌∷◌, IfOk, OnOk, Some, false, filter, if◌then◌else◌, length, map, slice_get};
-ghost use Rattle.std.specs.List.{find, range_with_len};
+ghost use Rattle.std.specs.Prelude.{◌≡◌, ◌++◌, [], ◌∷◌, IfOk, OnOk, Some, filter, if◌then◌else◌, map};
+ghost use Rattle.std.specs.List.{range_with_len};
 ghost use Rattle.abt_commons.specs.Held.{object_at};
 ghost use Rattle.abt_streams.specs.Lives.{AreLives};
 ghost use Rattle.abt_streams.specs.Living.{life_of};

@@ -1,9 +1,8 @@
 -- What keeps a unit fit for its workload.
-use Rattle.std.proofs.Common.{◌≡◌, ◌<◌, ◌≤◌, ◌+◌, ◌%◌, ◌^◌, ℕ, [], ◌∷◌, Option, Some, None, IfSome, length, refl, subst, slice_index, slice_set, arith}
+use Rattle.std.proofs.Common.{◌≡◌, ◌<◌, ◌+◌, ◌%◌, ◌^◌, ℕ, [], ◌∷◌, Option, Some, None, IfSome, length, refl, subst, slice_index, slice_set, arith}
 use Rattle.std.proofs.lemmas.List.{length-replicate, length-set}
 use Rattle.std.proofs.lemmas.List.Elements.{All-append, All-cons, All-nil}
 use Rattle.std.proofs.lemmas.Option.{slice_get_within}
-use Rattle.std.proofs.Math.Nat.{pred-le}
 use Rattle.abt_machine.specs.declared.events.Code.{Code}
 use Rattle.abt_machine.specs.declared.events.Piece.{Piece}
 use Rattle.abt_machine.specs.declared.events.Piece.TheVariants as piece
@@ -17,13 +16,9 @@ use Rattle.abt_machine.specs.Valid.{IsValid}
 use Rattle.abt_machine.specs.Values.{Owned}
 use Rattle.abt_machine.specs.Workloads.{body_at, op_at, ops_of}
 use Rattle.abt_machine.specs.Pieces.{IsPieceOf}
-use Rattle.abt_machine.proofs.Declared.{few-unit-ops, op-declared}
+use Rattle.abt_machine.proofs.Declared.{op-declared}
 use Rattle.abt_unit.specs.Fits.{Fits}
-use Rattle.abt_unit.specs.Local.{back, local_step, local_step_at}
-
--- the position of a unit that fits a valid workload is a small number
-pub position-le : (W : Parts) (o : Owned) → IsValid W → Fits W o → o.carried.position ≤ 256
-position-le W o valid fits = let few = few-unit-ops W o.number valid in let at = fits.position in omega arith
+use Rattle.abt_unit.specs.Local.{local_step, local_step_at}
 
 -- a unit that has an operation goes on
 pub Fits-moved : {W : Parts} {o : Owned} → Fits W o → (a : Op) → op_at W o.number o.carried.position ≡ Some a → Fits W (moved o)
@@ -32,16 +27,6 @@ Fits-moved {W = W} {o = o} fits a e = record {
   home = fits.home;
   keys = fits.keys;
   position = let within = slice_get_within (ops_of (body_at W o.number)) o.carried.position a e in omega arith;
-  output = fits.output;
-}
-
--- a unit goes back
-pub Fits-back : {W : Parts} {o : Owned} → Fits W o → Fits W (carrying back o)
-Fits-back {o = o} fits = record {
-  number = fits.number;
-  home = fits.home;
-  keys = fits.keys;
-  position = omega (arith, pred-le o.carried.position);
   output = fits.output;
 }
 

@@ -4,5 +4,4 @@ pub mod Fleets
 pub mod Going
 pub mod Lasts
 pub mod Rejoining
-pub mod SplitSeen
 pub mod Waving

@@ -1,5 +1,5 @@
 -- What `clap` took is words alone, and what commands on them say.
-use Rattle.std.proofs.Common.{◌≡◌, ◌≢◌, ℕ, refl, sym, ap, ap₂, subst, ◌∙◌, List, [], ◌∷◌, map, codes, Option, Some, None, false}
+use Rattle.std.proofs.Common.{◌≡◌, ℕ, refl, sym, ap, ap₂, subst, ◌∙◌, List, [], ◌∷◌, map, codes, Option, Some, None, false}
 use Rattle.std.specs.Prelude.{String, string_bytes}
 use Rattle.clap.specs.Words.{App, fault_of, first_of, first_value, found_of, matches_of, rows_of}
 use Rattle.clap.specs.declared.parser.matches.ArgMatches.{ArgMatches}
@@ -101,12 +101,6 @@ module _ {Z : Type 0} (rest : List (String Z)) (a : App) (is : a ≡ alone_app) 
 head-of : (v w : Text) → ◌≡◌ {A = List Text} (v ∷ []) (w ∷ []) → v ≡ w
 head-of v w e = cc
 
-head-of-two : (v w x y : Text) → ◌≡◌ {A = List Text} (v ∷ w ∷ []) (x ∷ y ∷ []) → v ≡ x
-head-of-two v w x y e = cc
-
-last-of-two : (v w x y : Text) → ◌≡◌ {A = List Text} (v ∷ w ∷ []) (x ∷ y ∷ []) → w ≡ y
-last-of-two v w x y e = cc
-
 -- one word that is no number says nothing
 pub no-number : (r : Rest) (w : Text) → r ≡ only (w ∷ []) → ((n : ℕ) → SaysNumber adder_limit w n → ⊥) → (c : Command) → SaysBy (codes "self") r c → ⊥
 no-number r w is never = by-self r (λ c. ⊥) (λ n says.
@@ -120,18 +114,5 @@ self-needs-one r never = by-self r (λ c. ⊥) (λ n says. never says.0 says.1)
 pub flow-needs-one : (r : Rest) → ((w : Text) → r ≡ only (w ∷ []) → ⊥) → (c : Command) → SaysBy (codes "flow") r c → ⊥
 flow-needs-one r never = by-flow r (λ c. ⊥) (λ f says. never f says.0)
 
--- an empty word is no file
-pub no-file : (r : Rest) (w : Text) → r ≡ only (w ∷ []) → w ≡ [] → (c : Command) → SaysBy (codes "flow") r c → ⊥
-no-file r w is empty = by-flow r (λ c. ⊥) (λ f says. says.1 (head-of f w (ap (λ (x : Rest). x.words) (sym says.0 ∙ is)) ∙ empty))
-
 pub check-needs-two : (r : Rest) → ((v w : Text) → r ≡ only (v ∷ w ∷ []) → ⊥) → (c : Command) → SaysBy (codes "check") r c → ⊥
 check-needs-two r never = by-check r (λ c. ⊥) (λ v w says. never v w says.0)
-
--- two words are no files if one is empty, or both are `-`
-pub no-files : (r : Rest) (v w : Text) → r ≡ only (v ∷ w ∷ []) → (v ≢ [] → w ≢ [] → v ≡ codes "-" × w ≡ codes "-") → (c : Command) → SaysBy (codes "check") r c → ⊥
-no-files r v w is bad = by-check r (λ c. ⊥) (λ x y says.
-    let words : ◌≡◌ {A = List Text} (x ∷ y ∷ []) (v ∷ w ∷ []) = ap (λ (x : Rest). x.words) (sym says.0 ∙ is) in
-    let first : x ≡ v = head-of-two x y v w words in
-    let last : y ≡ w = last-of-two x y v w words in
-    let both = bad (λ e. says.1 (first ∙ e)) (λ e. says.2 (last ∙ e)) in
-    says.3 (first ∙ both.0) (last ∙ both.1))

@@ -2,7 +2,6 @@
 use Rattle.std.proofs.Common.{◌≡◌, ℕ, Bool, true, false, refl, sym, ap, ap₂, subst, ◌∙◌, List, [], ◌∷◌, codes, arith}
 use Rattle.std.specs.Str.Parse.{digits_value}
 use Rattle.std.specs.Prelude.{IfOk, Result, Ok, Err}
-use Rattle.std.proofs.lemmas.Result.{IfOk-weaker}
 use Rattle.abt_words.specs.declared.fault.WordFault.{WordFault}
 use Rattle.abt_words.specs.declared.commands.Command.{Command}
 use Rattle.abt_words.specs.declared.commands.Command.TheVariants as command
@@ -72,9 +71,6 @@ module _ (words : List Text) (name : Text) (rest : List Text) (are : words ≡ n
 
   says-by : (c : Command) → Says words c → SaysBy given (rest_of false rest) c
   says-by c says = let at = subst (λ (l : List Text). Says l c) are says in (sym is ∙ at.0, at.1)
-
-  pub by-said : (r : Result Command WordFault) → IfOk r (SaysBy given (rest_of false rest)) → IfOk r (Says words)
-  by-said r h = IfOk-weaker r _ _ by-says h
 
   pub by-only : (r : Result Command WordFault) → IfOk r (SaysBy given (rest_of false rest)) → IfOk r (λ c. (d : Command) → Says words d → d ≡ c)
   by-only (Ok c) says = λ d other. one-command words d c other (by-says c says)

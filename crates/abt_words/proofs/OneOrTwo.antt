@@ -79,15 +79,15 @@ shorts o d ds x e f = simp (e, f) refl
 plainly : (o : Said) (w : Text) → is_option w ≡ false → Turns alone_top alone_at alone_next HasFirst Finds o false w (alone_next o w)
 unfolding walked
 plainly none w e = (
-  past _ _ (plain-fault alone_top _ w e) ∙ ap (λ (m : Held × Step). step_fault alone_top 1 m.0 m.1) (plain-met alone_rules (held [] None) 1 w e),
+  past _ _ (plain-fault alone_top _ None w e) ∙ ap (λ (m : Held × Step). step_fault alone_top 1 m.0 m.1) (plain-met alone_rules (held [] None) 1 w e),
   ap (λ (m : Held × Step). after_step alone_rules w (alone_at none false) m.0 m.1) (plain-met alone_rules (held [] None) 1 w e),
 )
 plainly (says n None) w e = (
-  past _ _ (plain-fault alone_top _ w e)
+  past _ _ (plain-fault alone_top _ None w e)
       ∙ ap (λ (m : Held × Step). step_fault alone_top 2 m.0 m.1) (plain-met alone_rules (held [] (Some (codes "first", n ∷ []))) 2 w e),
   ap (λ (m : Held × Step). after_step alone_rules w (alone_at (says n None) false) m.0 m.1) (plain-met alone_rules (held [] (Some (codes "first", n ∷ []))) 2 w e),
 )
-plainly (says n (Some m)) w e = past _ _ (plain-fault alone_top _ w e)
+plainly (says n (Some m)) w e = past _ _ (plain-fault alone_top _ None w e)
     ∙ ap (λ (m : Held × Step). step_fault alone_top 3 m.0 m.1) (plain-met alone_rules (held (value_row (codes "first") n ∷ []) (Some (codes "second", m ∷ []))) 3 w e)
 
 later : (o : Said) (w : Text) → Turns alone_top alone_at alone_next HasFirst Finds o true w (alone_next o w)

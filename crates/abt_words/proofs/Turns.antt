@@ -15,6 +15,7 @@ use Rattle.clap.proofs.OnLiterals.{clap_on_literals}
 use Rattle.abt_machine.specs.Words.{Text}
 use Rattle.abt_words.specs.Commands.{is_option}
 use Rattle.abt_words.specs.Apps.{run_app, needed, steps_rule, journal_rule}
+use Rattle.abt_words.proofs.Plain.{plain-fault, plain-met}
 
 abbrev pub run_top : Shape
 run_top = (built run_app).top
@@ -145,33 +146,6 @@ module _ (rows : List Row) (q : Pending) (p : ℕ) where
 
 -- a word that is no option, and the words after `--`
 module _ (rows : List Row) (q : Pending) where
-  plain-fault : (due : Bool) (p : ℕ) (w : Text) → is_option w ≡ false → word_fault run_top [] false (waits due) w (held rows q) ≡ []
-  unfolding clap_on_literals
-  plain-fault true p [] e = refl
-  plain-fault false p [] e = refl
-  plain-fault true p (c ∷ []) e = by (c == 45) refl
-    where
-      by : (b : Bool) → (c == 45) ≡ b → word_fault run_top [] false (waits true) (c ∷ []) (held rows q) ≡ []
-      by true f = simp f refl
-      by false f = simp f refl
-  plain-fault false p (c ∷ []) e = by (c == 45) refl
-    where
-      by : (b : Bool) → (c == 45) ≡ b → word_fault run_top [] false (waits false) (c ∷ []) (held rows q) ≡ []
-      by true f = simp f refl
-      by false f = simp f refl
-  plain-fault true p (c ∷ d ∷ ds) e = simp e refl
-  plain-fault false p (c ∷ d ∷ ds) e = simp e refl
-
-  plain-met : (p : ℕ) (w : Text) → is_option w ≡ false → word_met run_rules [] false idle p w (held rows q) ≡ (held rows q, value)
-  unfolding clap_on_literals
-  plain-met p [] e = refl
-  plain-met p (c ∷ []) e = by (c == 45) refl
-    where
-      by : (b : Bool) → (c == 45) ≡ b → word_met run_rules [] false idle p (c ∷ []) (held rows q) ≡ (held rows q, value)
-      by true f = simp f refl
-      by false f = simp f refl
-  plain-met p (c ∷ d ∷ ds) e = simp e refl
-
   -- the word is a value if it is no option, and also if `--` stood before it
   first-file : (t : Bool) (w : Text) → word_fault run_top [] t idle w (held rows q) ≡ [] → word_met run_rules [] t idle 1 w (held rows q) ≡ (held rows q, value)
       → turn_fault run_top [] (state rows q false 1 t) w ≡ pending_fault rows q
@@ -203,13 +177,13 @@ module _ (rows : List Row) (q : Pending) where
 -- the words of the two kinds that are values: those that are no option, and those after `--`
 module _ (rows : List Row) (q : Pending) (w : Text) (e : is_option w ≡ false) where
   pub plain-first : turn_fault run_top [] (state rows q false 1 false) w ≡ pending_fault rows q
-  plain-first = first-file rows q false w (plain-fault rows q false 1 w e) (plain-met rows q 1 w e)
+  plain-first = first-file rows q false w (plain-fault run_top (held rows q) None w e) (plain-met run_rules (held rows q) 1 w e)
 
   pub plain-second : turn_fault run_top [] (state rows q false 2 false) w ≡ UnknownArgument ∷ []
-  plain-second = second-file rows q false w (plain-fault rows q false 2 w e) (plain-met rows q 2 w e)
+  plain-second = second-file rows q false w (plain-fault run_top (held rows q) None w e) (plain-met run_rules (held rows q) 2 w e)
 
   pub plain-walked : walked run_rules [] (state rows q false 1 false) w ≡ state (all_rows rows q) (Some (codes "file", w ∷ [])) false 2 false
-  plain-walked = first-walked rows q false w (plain-met rows q 1 w e)
+  plain-walked = first-walked rows q false w (plain-met run_rules (held rows q) 1 w e)
 
 -- the value of `--steps`
 due-met : (rows : List Row) (p : ℕ) (w : Text) → is_option w ≡ false
@@ -225,7 +199,7 @@ due-met rows p (c ∷ d ∷ ds) e = simp e refl
 
 module _ (rows : List Row) (p : ℕ) (w : Text) (e : is_option w ≡ false) where
   pub due-turn : turn_fault run_top [] (state rows (Some (codes "steps", [])) true p false) w ≡ []
-  due-turn = past _ _ (plain-fault rows (Some (codes "steps", [])) true p w e) ∙ ap (λ (m : Held × Step). step_fault run_top p m.0 m.1) (due-met rows p w e)
+  due-turn = past _ _ (plain-fault run_top (held rows (Some (codes "steps", []))) (Some (codes "steps")) w e) ∙ ap (λ (m : Held × Step). step_fault run_top p m.0 m.1) (due-met rows p w e)
 
   pub due-walked : walked run_rules [] (state rows (Some (codes "steps", [])) true p false) w ≡ state rows (Some (codes "steps", w ∷ [])) false p false
   unfolding walked

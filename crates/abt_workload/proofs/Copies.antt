@@ -7,7 +7,7 @@ use Rattle.std.proofs.lemmas.List.{append-nil, length-map}
 use Rattle.std.proofs.lemmas.List.Elements.{All-append, All-cons, All-head, All-tail}
 use Rattle.std.proofs.lemmas.List.Folds.{list_any-append}
 use Rattle.std.proofs.lemmas.List.FromFn.{get_or-range_with_len, length-range_with_len}
-use Rattle.std.proofs.Math.Nat.{mul-add, mul-le-mul_right, one-mul}
+use Rattle.std.proofs.Math.Nat.{mul-add}
 use Rattle.abt_machine.specs.declared.operations.Body.{Body}
 use Rattle.abt_machine.specs.declared.operations.Body.TheVariants as body
 use Rattle.abt_machine.specs.declared.operations.Op.{Op}
@@ -249,10 +249,6 @@ units-say (part ∷ units) =
 -- the operations of all units, where each that the last line declares has n more
 pub crowd : (a : Above) (n : ℕ) → length (all_ops a.units) + a.copies * (op_count a.last + n) ≡ length (all_ops (units_of a)) + a.copies * n
 crowd a n = let e = units-ops a in let split = mul-add a.copies (op_count a.last) n in omega arith
-
--- a copy's operations and words have room where those of all have
-pub later-room : (n m : ℕ) (part : UnitPart) → 1 < n → All (λ w. w + n * m < 2 ^ 32) (flat_map said_by (ops_of part.body)) → All (λ w. w + m < 2 ^ 32) (flat_map said_by (ops_of part.body))
-later-room n m part some all = λ k d lt. let here = all k d lt in let le = mul-le-mul_right m some in let two = suc-mul 1 m in let one = one-mul m in omega arith
 
 -- the numbers of the next copy's words
 pub later-words : (n m : ℕ) (part later : UnitPart) → 1 < n → later ≡ unit_later m part → All (λ w. w + n * m < 2 ^ 32) (flat_map said_by (ops_of part.body))

@@ -1,7 +1,7 @@
 //! What a sound line adds to what the lines above it declare.
 
 ghost use Rattle.std.specs.Prelude.{◌≡◌, ◌<◌, ◌≤◌, ◌+◌, ◌^◌, ◌++◌, ◌∷◌, [], All, IfOk, IsUtf8, OnOk, false, flat_map, length, map, option_map, replicate, slice_set};
-ghost use Rattle.abt_machine.specs.Declaring.{access_with, alike, at, body_and, body_with, combine_named, declared_with, kind_named, listed, op_later, op_with, pool_with, repeated, rule_with, said_in, sched_with, start_with, thing_with, unit_and, unit_later, unit_with, with_operation, with_operations, with_copies, word_in};
+ghost use Rattle.abt_machine.specs.Declaring.{access_with, alike, at, body_and, body_with, combine_named, declared_with, kind_named, listed, op_later, op_with, repeated, rule_with, said_in, sched_with, start_with, thing_with, unit_and, unit_later, unit_with, with_operation, with_operations, with_copies, word_in};
 ghost use Rattle.abt_machine.specs.Faults.{values};
 ghost use Rattle.abt_machine.specs.Limits.{operation_limit, unit_operation_limit};
 ghost use Rattle.abt_machine.specs.Numbers.{pool_no, sched_no};

@@ -1,11 +1,10 @@
 //! What the lines above a line declare.
 
-ghost use Rattle.std.specs.Prelude.{◌≡◌, ◌==◌, ◌+◌, ◌*◌, map, nat_lt, flat_map, option_to_list, option_map, slice_get, is_none, unwrap_or, Some, None};
-ghost use Rattle.std.specs.List.{list_all, list_any};
-ghost use Rattle.std.specs.Option.{option_map_or};
-ghost use Rattle.abt_machine.specs.Access.{may_take, may_take_all};
+ghost use Rattle.std.specs.Prelude.{◌≡◌, ◌==◌, ◌+◌, ◌*◌, map, nat_lt, flat_map, option_to_list, slice_get, is_none, unwrap_or, Some, None};
+ghost use Rattle.std.specs.List.{list_any};
+ghost use Rattle.abt_machine.specs.Access.{may_take_all};
 ghost use Rattle.abt_machine.specs.Declaring.{declared_units, last_units, nothing, parts_of};
-ghost use Rattle.abt_machine.specs.Faults.{has_main, has_no_room, has_object, is_barrier, is_condition, is_crowded, is_eventual, is_future, is_long, is_mutex, is_placed, is_rwlock, is_task, is_there, takes_operations};
+ghost use Rattle.abt_machine.specs.Faults.{has_main, has_no_room, is_crowded, is_long, is_placed, is_task, is_there, takes_operations};
 ghost use Rattle.abt_machine.specs.Limits.{operation_limit};
 ghost use Rattle.abt_machine.specs.Valid.{sched_in};
 ghost use Rattle.abt_machine.specs.Workloads.{access_from};

@@ -2,7 +2,7 @@
 
 ghost use Rattle.std.specs.Prelude.{◌≡◌, ◌<◌, ◌≤◌, ◌+◌, ◌∷◌, ◌==◌, ℕ, [], true, false, None, Some, drop, if◌then◌else◌, map, length, slice_index, IfSome, IfNone, OnOk};
 ghost use Rattle.std.specs.Str.{is_utf8};
-ghost use Rattle.abt_machine.specs.Spelling.{has_control, is_number, is_separator, lines_of, value_of, words_of};
+ghost use Rattle.abt_machine.specs.Spelling.{has_control, is_separator, lines_of, words_of};
 ghost use Rattle.abt_machine.specs.Faults.{begins_comment, is_skipped};
 ghost use Rattle.abt_machine.specs.Grammar.{format_in, format_of};
 ghost use Rattle.abt_workload.specs.Slots.{number_in};

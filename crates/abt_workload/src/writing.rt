@@ -2,7 +2,7 @@
 
 ghost use Rattle.std.specs.Prelude.{◌≡◌, ◌++◌, ◌∷◌, [], All, IfOk, OnOk, decimal, flat_map, map, slice_set, true};
 ghost use Rattle.std.specs.List.{enumerate_from};
-ghost use Rattle.abt_machine.specs.Canonical.{canonical_text, filled, form_words, has_text, keys_lines, object_line, op_numbers, op_word, op_words, opening_lines, pool_line, role_of, rule_numbers, sched_line, stream_line, text_in, unit_header, unit_lines};
+ghost use Rattle.abt_machine.specs.Canonical.{canonical_text, filled, has_text, keys_lines, object_line, op_numbers, op_word, op_words, opening_lines, pool_line, role_of, rule_numbers, sched_line, stream_line, text_in, unit_header, unit_lines};
 ghost use Rattle.abt_machine.specs.Forms.{combine_name, kind_name, op_slots};
 ghost use Rattle.abt_machine.specs.Grammar.{Reads};
 ghost use Rattle.abt_machine.specs.Operations.{IsDeclared};

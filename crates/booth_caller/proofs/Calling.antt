@@ -17,8 +17,8 @@ use Rattle.abt_booth.specs.declared.booth.Called.{Called}
 use Rattle.abt_booth.specs.declared.booth.Called.TheVariants as called
 use Rattle.abt_booth.specs.Seats.{opening_of, number_of, seats_of, seen_of, known_of, AreAllSeatsOf, AreInOrder, IsSeatOf, Replies}
 use Rattle.abt_booth.specs.Calls.{IsAnswered, IsWorn, IsClosed}
-use Rattle.abt_booth.proofs.Answered.{calls_answered}
-use Rattle.abt_booth.proofs.Seats.{all_seats, written_back}
+use Rattle.abt_booth.proofs.Answered.{calls-answered}
+use Rattle.abt_booth.proofs.Seats.{all-seats, written-back}
 use Rattle.booth_caller.specs.Calling.{acts_of, AsksMore, Follows, HasAsked}
 
 -- what is added to a list and leaves it as it was is nothing
@@ -163,7 +163,7 @@ module _ {O A R : Type 0} (does : O → A → R → O → Type 0) (opening : O) 
       let stamped : stamp ≡ suc (last_stamp (entry_stamps a.met)) = a.stamped ∙ ap suc (zero-max (last_stamp (entry_stamps a.met))) in
       let follows = follows-append number 0 a.met (e ∷ []) (follows-extends number before a.met a.extends asked.follows) ((λ _. stamped), tt) in
       let acted : acts_of number after ≡ acts_of number before ++ act ∷ [] =
-      ap (map (λ (x : Entry A R). x.act)) (calls_answered does opening number before after 0 act stamp answer a) ∙ map-append (λ (x : Entry A R). x.act) (calls_of number before) (e ∷ []) in
+      ap (map (λ (x : Entry A R). x.act)) (calls-answered does opening number before after 0 act stamp answer a) ∙ map-append (λ (x : Entry A R). x.act) (calls_of number before) (e ∷ []) in
       let same : acts_of number before ≡ acts = ⊎_elim (λ s. s) (λ worn. absurd (let c = a.capped in omega arith)) asked.whole in
       let whole : acts_of number after ≡ acts ++ act ∷ [] = acted ∙ ap (λ l. l ++ act ∷ []) same in record {
         follows = subst (Follows number 0) (sym a.entered) follows;
@@ -239,12 +239,12 @@ module _ {O A R : Type 0} {g : Ghosts O A R} where
       → IsClosed does opening many (map known_of (take n (after ++ drop (length after) items))) object clock → IsClosed does opening (length after) (map known_of after) object clock
   closed-back does opening object many n items after clock is len old closed =
       let C : ℕ → List (Seat O A R g) → Type 0 = λ m s. IsClosed does opening m (map known_of s) object clock in
-      subst (C (length after)) (written_back n after items len old) (subst (λ m. C m (take n (after ++ drop (length after) items))) (is ∙ sym len) closed)
+      subst (C (length after)) (written-back n after items len old) (subst (λ m. C m (take n (after ++ drop (length after) items))) (is ∙ sym len) closed)
 
   -- and it can be closed with them
   pub closes-back : (booth : Booth O A R) (n : ℕ) (items after : List (Seat O A R g)) → length items ≡ n → length after ≡ n → length after ≡ seats_of booth → All (IsSeatOf booth) after → AreInOrder after
       → AreAllSeatsOf booth (take n (after ++ drop (length after) items))
-  closes-back booth n items after old len many each order = subst (AreAllSeatsOf booth) (sym (written_back n after items len old)) (all_seats booth after many each order)
+  closes-back booth n items after old len many each order = subst (AreAllSeatsOf booth) (sym (written-back n after items len old)) (all-seats booth after many each order)
 
   -- what new seats of a vector asked that were lent as a slice stands in the history of the booth that is closed with them
   pub asked-back : (does : O → A → R → O → Type 0) (opening object : O) (many n : ℕ) (items before after : List (Seat O A R g)) (clock : ℕ) (acts : ℕ → List A)

@@ -1,6 +1,6 @@
 //! A tray for one letter behind a booth: an object that owns boxes, and that nothing can copy.
-ghost use Rattle.std.specs.Prelude.{◌≡◌, ◌≤◌, ◌^◌, IfErr, IfOk, [], None};
-ghost use Rattle.abt_booth.specs.Seats.{number_of, opening_of, seats_of, IsSeatOf};
+ghost use Rattle.std.specs.Prelude.{◌≡◌, IfErr, IfOk, None};
+ghost use Rattle.abt_booth.specs.Seats.{number_of, IsSeatOf};
 ghost use Rattle.booth_caller.specs.Letters.{ArePassed, stamp_in};
 
 use abt_booth::{Booth, Called, Object, Seat};

@@ -1,7 +1,7 @@
 //! Meshes that run on threads, and what they put out. Of each call None says that the run did not finish, and Err that no memory was
 //! found.
 
-ghost use Rattle.std.specs.Prelude.{ℕ, All, ◌≡◌, ◌≤◌, ◌<◌, ◌+◌, ◌-◌, ◌%◌, ◌^◌, [], ◌∷◌, IfOk, length, map, sum};
+ghost use Rattle.std.specs.Prelude.{All, ◌≡◌, ◌≤◌, ◌<◌, ◌+◌, ◌-◌, ◌%◌, ◌^◌, [], ◌∷◌, IfOk, length, map, sum};
 ghost use Rattle.abt_machine.specs.declared.events.Piece.TheVariants as piece;
 ghost use Rattle.abt_machine.specs.Limits.{object_limit};
 ghost use Rattle.abt_report.specs.declared.pictures.Row.{Row};

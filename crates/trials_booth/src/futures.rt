@@ -1,8 +1,7 @@
 //! The calls of futures, by themselves and behind a booth.
 
-ghost use Rattle.std.specs.Prelude.{◌≡◌, ◌<◌, ◌≤◌, ◌^◌, ℕ, length};
-ghost use Rattle.std.specs.List.{All};
-ghost use Rattle.abt_booth.specs.Seats.{number_of, IsSeatOf};
+ghost use Rattle.std.specs.Prelude.{◌≡◌, ◌<◌, ◌≤◌, length};
+ghost use Rattle.abt_booth.specs.Seats.{IsSeatOf};
 ghost use Rattle.abt_callbacks.specs.Folding.{first_of};
 
 use abt_booth::{Booth, Called, Object, Seat};

@@ -1,6 +1,6 @@
 //! A ring of keys whose values end by stored functions.
 
-ghost use Rattle.std.specs.Prelude.{◌≡◌, ◌<◌, ◌^◌, ℕ, true};
+ghost use Rattle.std.specs.Prelude.{◌≡◌, ◌<◌, true};
 
 use abt_callbacks::{KeyRing, StoredEnd};
 use std::test::Fail;

@@ -1,7 +1,5 @@
 //! Confluent workloads and their flows, and workloads that miss one condition of confluence each.
 
-ghost use Rattle.std.specs.Prelude.{IfOk};
-
 use abt_flow::{Flow, confluent, find_flow};
 use abt_machine::{Piece, Want, Workload};
 use abt_workload::read;

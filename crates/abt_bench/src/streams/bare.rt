@@ -1,6 +1,6 @@
 //! The calls of objects that streams make, with nothing round the objects.
 
-ghost use Rattle.std.specs.Prelude.{◌≡◌, ◌<◌, length, IfOk, IfSome};
+ghost use Rattle.std.specs.Prelude.{◌<◌, length, IfSome};
 ghost use Rattle.abt_unit.specs.Units.{IsFree};
 
 use abt_barrier::{Arrival, Barrier};

@@ -25,7 +25,7 @@ use crate::parts::Work;
 use crate::turns::Turn;
 use crate::units::name;
 use abt_commons::{Answer, Commons, Reply};
-use abt_machine::{Code, Site, UnitNo, What, Workload};
+use abt_machine::{Code, Site, UnitNo, Workload};
 use abt_plans::{Asking, Giving, Mark};
 use abt_unit::Unit;
 use std::mem;

@@ -41,11 +41,11 @@ journal =
     []
 
 -- the orders of its two rounds
-first_order : IsPermutation {X = ℕ} (0 ∷ 1 ∷ 2 ∷ []) (1 ∷ 2 ∷ 0 ∷ [])
-first_order = IsPermutation-append_comm (0 ∷ []) (1 ∷ 2 ∷ [])
+first-order : IsPermutation {X = ℕ} (0 ∷ 1 ∷ 2 ∷ []) (1 ∷ 2 ∷ 0 ∷ [])
+first-order = IsPermutation-append_comm (0 ∷ []) (1 ∷ 2 ∷ [])
 
-second_order : IsPermutation {X = ℕ} (0 ∷ 1 ∷ 2 ∷ []) (2 ∷ 0 ∷ 1 ∷ [])
-second_order = IsPermutation-append_comm (0 ∷ 1 ∷ []) (2 ∷ [])
+second-order : IsPermutation {X = ℕ} (0 ∷ 1 ∷ 2 ∷ []) (2 ∷ 0 ∷ 1 ∷ [])
+second-order = IsPermutation-append_comm (0 ∷ 1 ∷ []) (2 ∷ [])
 
 one : 0 < 1
 one = omega arith
@@ -53,13 +53,13 @@ one = omega arith
 run : RunFrom workload free_alone (start workload) journal
 run = (
   one,
-  (refl, refl, (1 ∷ 2 ∷ 0 ∷ [], first_order, (2 ∷ 0 ∷ [], refl))),
+  (refl, refl, (1 ∷ 2 ∷ 0 ∷ [], first-order, (2 ∷ 0 ∷ [], refl))),
   (
     one,
-    (refl, refl, (1 ∷ 2 ∷ 0 ∷ [], first_order, (0 ∷ [], refl))),
+    (refl, refl, (1 ∷ 2 ∷ 0 ∷ [], first-order, (0 ∷ [], refl))),
     (
       one,
-      (refl, refl, (1 ∷ 2 ∷ 0 ∷ [], first_order, ([], refl))),
+      (refl, refl, (1 ∷ 2 ∷ 0 ∷ [], first-order, ([], refl))),
       (
         one,
         (refl, refl),
@@ -68,13 +68,13 @@ run = (
           (refl, refl),
           (
             one,
-            (refl, refl, (2 ∷ 0 ∷ 1 ∷ [], second_order, (0 ∷ 1 ∷ [], refl))),
+            (refl, refl, (2 ∷ 0 ∷ 1 ∷ [], second-order, (0 ∷ 1 ∷ [], refl))),
             (
               one,
-              (refl, refl, (2 ∷ 0 ∷ 1 ∷ [], second_order, (1 ∷ [], refl))),
+              (refl, refl, (2 ∷ 0 ∷ 1 ∷ [], second-order, (1 ∷ [], refl))),
               (
                 one,
-                (refl, refl, (2 ∷ 0 ∷ 1 ∷ [], second_order, ([], refl))),
+                (refl, refl, (2 ∷ 0 ∷ 1 ∷ [], second-order, ([], refl))),
                 tt,
               ),
             ),

@@ -4,11 +4,11 @@ use Rattle.abt_machine.specs.Spelling.{lines_of}
 use Rattle.abt_workload.proofs.LineEnds.{lines-at, lines-whole, lines-nil}
 use Rattle.abt_workload.proofs.text.first_line.Goals as goal
 
-rest_whole : (at : ℕ) (bytes : List ℕ) → take (length bytes - at) (drop at bytes) ≡ drop at bytes
-rest_whole at bytes = let le : length (drop at bytes) ≤ length bytes - at = simp length-drop (omega arith) in take_all _ _ le
+rest-whole : (at : ℕ) (bytes : List ℕ) → take (length bytes - at) (drop at bytes) ≡ drop at bytes
+rest-whole at bytes = let le : length (drop at bytes) ≤ length bytes - at = simp length-drop (omega arith) in take_all _ _ le
 
 cut : (text : List ℕ) (k : ℕ) → k < length text → (get_or text k 0 == 10) ≡ true → ((j : ℕ) → j < k → (get_or text j 0 == 10) ≡ false) → lines_of text ≡ take k text ∷ lines_of (take (length text - (k + 1)) (drop (k + 1) text))
-cut text k lt at before = rw (rest_whole, add-one) (lines-at text k lt at before)
+cut text k lt at before = rw (rest-whole, add-one) (lines-at text k lt at before)
 
 pub returns-then-end-text-clause-line : goal.returns-then-end-text-clause-line
 returns-then-end-text-clause-line c = cut c.args.text.now c.line_end-end.result c.if-end-text.true (c.line_end-end.ensures.at c.if-end-text.true) c.line_end-end.ensures.before

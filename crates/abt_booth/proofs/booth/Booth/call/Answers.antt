@@ -4,8 +4,8 @@ use Rattle.abt_interleave.specs.declared.entries.Entry.{Entry}
 use Rattle.abt_interleave.specs.Histories.{last_stamp, Legal, entry_stamps}
 use Rattle.abt_booth.specs.Calls.{IsWorn}
 use Rattle.abt_booth.specs.Seats.{opening_of, number_of, seen_of, IsSeatOf}
-use Rattle.abt_booth.proofs.Answered.{grows_answered, grows_worn}
-use Rattle.abt_booth.proofs.Histories.{allowed_after, length_below, leads_more, rises_more}
+use Rattle.abt_booth.proofs.Answered.{grows-answered, grows-worn}
+use Rattle.abt_booth.proofs.Histories.{allowed-after, length-below, leads-more, rises-more}
 use Rattle.abt_booth.proofs.booth.Booth.call.Goals as goal
 
 pub returns-then-greater-eq-LAST_STAMP-clause-reply : goal.returns-then-greater-eq-LAST_STAMP-clause-reply
@@ -23,10 +23,10 @@ returns-then-greater-eq-LAST_STAMP-clause-reply g c = let b = c.begin-free.ensur
 
 pub run-answer-requires : goal.run-answer-requires
 run-answer-requires g c =
-    allowed_after g.O.Object.does g.O.Object.allowed g.met.O.Object.keeps (opening_of c.args.self.now) c.begin-free.new.seat.me.0.seen c.begin-free.result.1.object c.args.act c.begin-free.ensures.object c.requires.act
+    allowed-after g.O.Object.does g.O.Object.allowed g.met.O.Object.keeps (opening_of c.args.self.now) c.begin-free.new.seat.me.0.seen c.begin-free.result.1.object c.args.act c.begin-free.ensures.object c.requires.act
 
 pub release-requires-clause-free : goal.release-requires-clause-free
-release-requires-clause-free g c = let b = c.begin-free.ensures in (b.free, omega (arith, b.free, b.clock.0, b.clock.1, length_below 0 c.begin-free.new.seat.me.0.seen b.rises))
+release-requires-clause-free g c = let b = c.begin-free.ensures in (b.free, omega (arith, b.free, b.clock.0, b.clock.1, length-below 0 c.begin-free.new.seat.me.0.seen b.rises))
 
 pub returns-clause-reply : goal.returns-clause-reply
 unfolding number_of seen_of
@@ -46,7 +46,7 @@ returns-clause-reply g c =
       extends = b.met;
       entered = entered;
       legal = subst (λ (l : List (Entry g.row.O-Act.Denot g.row.O-Answer.Denot)). Legal g.O.Object.does o l c.run-answer.new.self) (sym entered)
-          (rises_more 0 p e b.rises later, leads_more g.O.Object.does o p c.begin-free.result.1.object e c.run-answer.new.self b.object c.run-answer.ensures);
+          (rises-more 0 p e b.rises later, leads-more g.O.Object.does o p c.begin-free.result.1.object e c.run-answer.new.self b.object c.run-answer.ensures);
       stamped = omega (arith, greatest);
       capped = omega (arith, c.if-greater-eq-LAST_STAMP.false, c.requires.at, b.clock.1, c.max-greater.ensures);
     }
@@ -54,12 +54,12 @@ returns-clause-reply g c =
 pub returns-then-greater-eq-LAST_STAMP-clause-grows : goal.returns-then-greater-eq-LAST_STAMP-clause-grows
 unfolding number_of seen_of
 returns-then-greater-eq-LAST_STAMP-clause-grows g c = let s = c.args.seat.now in
-    grows_worn g.O.Object.does (opening_of c.args.self.now) (number_of s) (seen_of s) c.give_back.new.seat.me.0.seen c.args.at c.args.act c.args.act (returns-then-greater-eq-LAST_STAMP-clause-reply g c)
+    grows-worn g.O.Object.does (opening_of c.args.self.now) (number_of s) (seen_of s) c.give_back.new.seat.me.0.seen c.args.at c.args.act c.args.act (returns-then-greater-eq-LAST_STAMP-clause-reply g c)
 
 pub returns-clause-grows : goal.returns-clause-grows
 unfolding number_of seen_of
 returns-clause-grows g c = let s = c.args.seat.now in
-    grows_answered g.O.Object.does (opening_of c.args.self.now) (number_of s) (seen_of s) c.release.new.seat.me.0.seen c.args.at c.args.act (c.max-greater.result + 1) c.run-answer.result (returns-clause-reply g c)
+    grows-answered g.O.Object.does (opening_of c.args.self.now) (number_of s) (seen_of s) c.release.new.seat.me.0.seen c.args.at c.args.act (c.max-greater.result + 1) c.run-answer.result (returns-clause-reply g c)
 
 pub begin-free-requires-clause-seat : goal.begin-free-requires-clause-seat
 unfolding IsSeatOf

@@ -3,7 +3,7 @@ use Rattle.std.proofs.lemmas.List.{append-nil}
 use Rattle.std.proofs.lemmas.List.Elements.{All-pop}
 use Rattle.abt_interleave.specs.declared.entries.Entry.{Entry}
 use Rattle.abt_booth.specs.Seats.{known_of, gathered_of, seats_of, IsSeatOf, HasEachNumber}
-use Rattle.abt_booth.proofs.Gathering.{known_pop}
+use Rattle.abt_booth.proofs.Gathering.{known-pop}
 use Rattle.abt_booth.proofs.booth.Booth.close.Goals as goal
 
 pub loop-seat-init : goal.loop-seat-init
@@ -13,7 +13,7 @@ loop-seat-init g c =
     let t = All-pop (IsSeatOf c.args.self) seats rest (Some c.in-Some.last) c.in-Some.ensures.items c.requires.0 in record {
       left = t.0;
       gathered = c.retire-gathered.ensures.booth c.args.self t.1;
-      known = ap (λ l. map known_of rest ++ l) c.retire-gathered.ensures.seats ∙ (known_pop seats rest c.in-Some.last [] c.in-Some.ensures.items ∙ append-nil (map known_of seats));
+      known = ap (λ l. map known_of rest ++ l) c.retire-gathered.ensures.seats ∙ (known-pop seats rest c.in-Some.last [] c.in-Some.ensures.items ∙ append-nil (map known_of seats));
     }
 
 pub gather-requires-clause-seat : goal.gather-requires-clause-seat
@@ -25,7 +25,7 @@ loop-seat-preserved g c =
     let seats = c.loop-seat.seats.items in record {
       left = (All-pop (IsSeatOf c.args.self) seats rest (Some c.in-Some-pop.seat) c.in-Some-pop.ensures.items c.loop-seat.invariant.left).0;
       gathered = c.gather.ensures.booth;
-      known = ap (λ l. map known_of rest ++ l) c.gather.ensures.seats ∙ (known_pop seats rest c.in-Some-pop.seat (gathered_of c.loop-seat.gathered) c.in-Some-pop.ensures.items ∙ c.loop-seat.invariant.known);
+      known = ap (λ l. map known_of rest ++ l) c.gather.ensures.seats ∙ (known-pop seats rest c.in-Some-pop.seat (gathered_of c.loop-seat.gathered) c.in-Some-pop.ensures.items ∙ c.loop-seat.invariant.known);
     }
 
 pub finish-requires-clause-seats : goal.finish-requires-clause-seats

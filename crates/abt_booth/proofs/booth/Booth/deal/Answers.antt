@@ -5,7 +5,7 @@ use Rattle.abt_booth.specs.Rule.{SeatState, keeping, left}
 use Rattle.abt_booth.specs.Seats.{opening_of, seen_of, IsSeatOf, AreInOrder, number_of, seats_of}
 use Rattle.abt_booth.specs.declared.booth.Seat.{Seat}
 use Rattle.abt_booth.proofs.Dealing.{deals}
-use Rattle.abt_booth.proofs.Seats.{in_order_push}
+use Rattle.abt_booth.proofs.Seats.{in-order-push}
 use Rattle.abt_booth.proofs.booth.Booth.deal.Goals as goal
 
 pub loop-i-init : goal.loop-i-init
@@ -46,7 +46,7 @@ loop-i-preserved g c =
       len = p.len ∙ ap (λ (z : ℕ). z + 1) inv.len;
       roomy = omega (arith, p.capacity, inv.roomy);
       each = subst (All (IsSeatOf b)) now (All-push (IsSeatOf b) xs _ inv.each (r.3 ∙ inv.table, ap (λ m. m.0.opening) r.4 ∙ ap (λ m. m.0.opening) inv.left));
-      in_order = subst AreInOrder now (in_order_push xs _ inv.in_order (ap (λ m. m.0.number) r.4 ∙ (ap (λ m. m.0.number) inv.left ∙ sym inv.many)));
+      in_order = subst AreInOrder now (in-order-push xs _ inv.in_order (ap (λ m. m.0.number) r.4 ∙ (ap (λ m. m.0.number) inv.left ∙ sym inv.many)));
       fresh = subst (All (λ (s : S). seen_of s ≡ [])) now (All-push (λ (s : S). seen_of s ≡ []) xs _ inv.fresh (ap (λ m. m.0.seen) r.4 ∙ ap (λ m. m.0.seen) inv.left));
     }
 
@@ -62,6 +62,6 @@ returns g c =
     let now = sym p.items in record {
       many = ap length p.items ∙ (length-append xs _ ∙ (ap (λ (z : ℕ). z + 1) inv.many ∙ (n ∙ sym c.requires.seats.1)));
       each = subst (All (IsSeatOf b)) now (All-push (IsSeatOf b) xs _ inv.each (inv.table, ap (λ m. m.0.opening) inv.left));
-      in_order = subst AreInOrder now (in_order_push xs _ inv.in_order (ap (λ m. m.0.number) inv.left ∙ sym inv.many));
+      in_order = subst AreInOrder now (in-order-push xs _ inv.in_order (ap (λ m. m.0.number) inv.left ∙ sym inv.many));
       fresh = subst (All (λ (s : S). seen_of s ≡ [])) now (All-push (λ (s : S). seen_of s ≡ []) xs _ inv.fresh (ap (λ m. m.0.seen) inv.left));
     }

@@ -1,7 +1,7 @@
 use Rattle.std.proofs.Common.{rules, ◌<◌, arith, sym, subst}
 use Rattle.abt_booth.specs.Rule.{SeatState, all_known}
 use Rattle.abt_booth.specs.Seats.{HasNumber, number_of, opening_of, IsSeatOf, AreGatheredOf, gathered_of, seen_of}
-use Rattle.abt_booth.proofs.Gathering.{gathers, number_gathered, numbers_kept}
+use Rattle.abt_booth.proofs.Gathering.{gathers, number-gathered, numbers-kept}
 use Rattle.abt_booth.proofs.booth.Booth.gather.Goals as goal
 
 pub join_seat-requires : goal.join_seat-requires
@@ -23,13 +23,13 @@ pub returns-clause-number : goal.returns-clause-number
 unfolding number_of gathered_of
 returns-clause-number g c =
     subst (λ (m : SeatState g.row.O.Denot g.row.O-Act.Denot g.row.O-Answer.Denot). HasNumber (number_of c.args.seat) (all_known m.0)) (sym c.join_seat.ensures.2)
-    (number_gathered c.args.gathered.now.raw.me.0 c.args.seat.raw.me.0)
+    (number-gathered c.args.gathered.now.raw.me.0 c.args.seat.raw.me.0)
 
 pub returns-clause-others : goal.returns-clause-others
 unfolding gathered_of
 returns-clause-others g c number has =
     subst (λ (m : SeatState g.row.O.Denot g.row.O-Act.Denot g.row.O-Answer.Denot). HasNumber number (all_known m.0)) (sym c.join_seat.ensures.2)
-    (numbers_kept c.args.gathered.now.raw.me.0 c.args.seat.raw.me.0 number has)
+    (numbers-kept c.args.gathered.now.raw.me.0 c.args.seat.raw.me.0 number has)
 
 pub returns-clause-booth : goal.returns-clause-booth
 unfolding AreGatheredOf

@@ -1,5 +1,5 @@
 use Rattle.std.proofs.Common.{rules, ℕ, subst}
-use Rattle.abt_booth.proofs.Keeps.{takes_turn}
+use Rattle.abt_booth.proofs.Keeps.{takes-turn}
 use Rattle.abt_booth.specs.Rule.{Takes, SeatState}
 use Rattle.abt_booth.proofs.booth.Booth.take.Goals as goal
 
@@ -7,7 +7,7 @@ pub compare_exchange-requires : goal.compare_exchange-requires
 compare_exchange-requires g c = (
   search rules,
   search rules,
-  takes_turn g.O.Object.does c.args.self.now.table.shared.key.object.value c.args.self.now.table.shared.key.seats c.args.self.now.table.shared.table_id.slots c.loop.seat.id c.loop.seat.me c.peek-free.result c.if-free-eq0.true (search rules),
+  takes-turn g.O.Object.does c.args.self.now.table.shared.key.object.value c.args.self.now.table.shared.key.seats c.args.self.now.table.shared.table_id.slots c.loop.seat.id c.loop.seat.me c.peek-free.result c.if-free-eq0.true (search rules),
 )
 
 pub returns-then-compare_exchange-free-clause-turn : goal.returns-then-compare_exchange-free-clause-turn

@@ -2,7 +2,7 @@
 use Rattle.std.proofs.Common.{◌≡◌, sym, ◌∙◌, subst}
 use Rattle.std.specs.List.{All}
 use Rattle.abt_booth.specs.Seats.{IsSeatOf, number_of, seats_of}
-use Rattle.abt_booth.proofs.Seats.{all_seats}
+use Rattle.abt_booth.proofs.Seats.{all-seats}
 use Rattle.abt_commons.specs.AllPasses.{AreAll}
 use Rattle.abt_commons.specs.Halls.{HallLeft, HallValue}
 use Rattle.abt_commons.proofs.HallSights.{hall-left}
@@ -11,7 +11,7 @@ use Rattle.abt_commons.proofs.hall.HallCommons.close.Goals as goal
 pub close-closed-requires : goal.close-closed-requires
 close-closed-requires g c =
     let passes = subst (λ (h : HallValue). AreAll (IsSeatOf h.booth) number_of (seats_of h.booth) c.args.passes.items) (sym c.self.view_is) c.requires.passes in
-    all_seats c.self.inside.booth c.args.passes.items passes.many passes.each passes.in_order
+    all-seats c.self.inside.booth c.args.passes.items passes.many passes.each passes.in_order
 
 pub returns : goal.returns
 returns g c =

@@ -8,9 +8,9 @@ use Rattle.abt_commons.specs.Held.{OneValue, held_in}
 use Rattle.abt_commons.proofs.Giving.{numbered-rows, one-fits, one-given}
 use Rattle.abt_commons.proofs.objects.Objects.into_groups.Goals as goal
 
-nothing_left : {X : Type 0} (xs : List X) → length xs ≡ 0 → xs ≡ []
-nothing_left [] none = refl
-nothing_left (x ∷ xs) none = absurd (omega (arith, none))
+nothing-left : {X : Type 0} (xs : List X) → length xs ≡ 0 → xs ≡ []
+nothing-left [] none = refl
+nothing-left (x ∷ xs) none = absurd (omega (arith, none))
 
 pub loop-one-preserved : goal.loop-one-preserved
 loop-one-preserved c =
@@ -39,7 +39,7 @@ returns-clause-rows c =
     let at = c.loop-one in
     let s = c.self.inside in
     let none = c.in-None.ensures.steps in
-    let empty : into_iter_items at.one-iterator ≡ [] = nothing_left (into_iter_items at.one-iterator) (sym at.invariant.left ∙ none.0) in
+    let empty : into_iter_items at.one-iterator ≡ [] = nothing-left (into_iter_items at.one-iterator) (sym at.invariant.left ∙ none.0) in
     let all : into_iter_items c.into_iter-one-iterator.result ≡ s.ones.items = c.into_iter-one-iterator.ensures.into_iter_gives.0 in
     let e : s.w.now ≡ c.args.self.workload = ap (λ held. held.workload) c.self.view_is in
     sym (append-nil (rows_in at.groups.items))
