@@ -14,7 +14,7 @@ use Rattle.abt_machine.specs.declared.operations.Body.TheVariants as body
 use Rattle.abt_machine.specs.declared.operations.Op.{Op}
 use Rattle.abt_machine.specs.declared.operations.OrderShape.{OrderShape}
 use Rattle.abt_machine.specs.declared.workload.Parts.{Parts}
-use Rattle.abt_machine.specs.Access.{may_put, may_take, may_take_all}
+use Rattle.abt_machine.specs.Access.{may_put, may_take, may_take_all, pool_given, pool_taken}
 use Rattle.abt_machine.specs.Codes.{code_at}
 use Rattle.abt_machine.specs.Events.{May, after, look_row}
 use Rattle.abt_machine.specs.Frames.{entered, frame_at, frame_missed, left, left_to, marked, round_missed, round_taken, sched_of}
@@ -31,7 +31,7 @@ use Rattle.abt_laws.proofs.Lists.{EachOf}
 use Rattle.abt_laws.proofs.Maps.{put_at-cases}
 use Rattle.abt_laws.proofs.Orders.{next_pool-listed}
 use Rattle.abt_laws.proofs.StepStreams.{step-keeps-frames}
-use Rattle.abt_bounds.specs.Accesses.{FramesHaveAccess, IsWithinAccess, KeepsAccess, MayRun, pool_given, pool_taken}
+use Rattle.abt_bounds.specs.Accesses.{FramesHaveAccess, IsWithinAccess, KeepsAccess, MayRun}
 use Rattle.abt_bounds.specs.Laws.{EventsKeepAccess, RunsKeepAccess, StartHasAccess}
 use Rattle.abt_bounds.proofs.Denied.{denied}
 
@@ -52,11 +52,11 @@ all-stays None may h = tt
 all-stays (Some p) may h = stays (may p) h
 
 -- an operation that goes through
-within : (W : Parts) (S : State) (s u : ℕ) (o : Option Op) → code_at W S s u o ≡ code.Ok → IsWithinAccess W s o
-within W S s u None h = (tt, tt)
+within : (W : Parts) (S : State) (s u : ℕ) (o : Option Op) → code_at W S s u o ≡ code.Ok → IfSome o (IsWithinAccess W s)
+within W S s u None h = tt
 within W S s u (Some o) h =
-    let goes : (IsWithinAccess W s (Some o) → ⊥) → ⊥ = λ none. (let e : code.Ok ≡ code.PoolAccess = sym h ∙ (denied W S s u o).1 none in cc) in
-    (all-stays (pool_taken (Some o)) (may_take W s) (λ out. goes (λ is. out is.0)), all-stays (pool_given W (Some o)) (may_put W s) (λ out. goes (λ is. out is.1)))
+    let goes : (IsWithinAccess W s o → ⊥) → ⊥ = λ none. (let e : code.Ok ≡ code.PoolAccess = sym h ∙ (denied W S s u o).1 none in cc) in
+    (all-stays (pool_taken o) (may_take W s) (λ out. goes (λ is. out is.0)), all-stays (pool_given W o) (may_put W s) (λ out. goes (λ is. out is.1)))
 
 event-within : (W : Parts) (Z : List OrderShape) (S : State) (s : ℕ) (w : What) → s < W.streams → FramesHaveAccess W S → May W Z S s w → KeepsAccess W s w
 event-within W Z S s (what.Miss p) declared has may = next-taken W Z s p.0 (S.stream s).top (has s declared).0 may.2

@@ -14,7 +14,6 @@ use Rattle.abt_machine.specs.declared.operations.Op.{Op}
 use Rattle.abt_machine.specs.declared.operations.Op.TheVariants as op
 use Rattle.abt_machine.specs.declared.operations.OrderShape.{OrderShape}
 use Rattle.abt_machine.specs.declared.workload.Parts.{Parts}
-use Rattle.abt_machine.specs.Access.{may_put}
 use Rattle.abt_machine.specs.Codes.{code_at, is_unborn}
 use Rattle.abt_machine.specs.Events.{May}
 use Rattle.abt_machine.specs.Lives.{is_birth, last_life, life_after}
@@ -24,7 +23,7 @@ use Rattle.abt_machine.specs.Start.{first_life, start}
 use Rattle.abt_machine.specs.State.{State}
 use Rattle.abt_machine.specs.Valid.{IsValid}
 use Rattle.abt_machine.specs.Workloads.{op_at, start_of}
-use Rattle.abt_laws.proofs.Codes.{unless-second}
+use Rattle.abt_laws.proofs.Codes.{reached-ok, unless-ok}
 use Rattle.abt_laws.proofs.LifeJournals.{last_life-append}
 use Rattle.abt_laws.proofs.LifeRuns.{run-unborn}
 use Rattle.abt_laws.proofs.RunParts.{run-front, run-rest}
@@ -40,7 +39,7 @@ unborn-is _ e = absurd (false≢true e)
 -- if an operation that doesn't revive gives unit u a life, u is unborn
 birth-unborn : (W : Parts) (S : State) (s x u : ℕ) (o : Option Op) → ((v : UnitNo) (p : PoolNo) → o ≡ Some (op.Revive v p) → ⊥) → code_at W S s x o ≡ code.Ok → is_birth u o ≡ true → S.place u ≡ place.Unborn
 birth-unborn W S s x u (Some (op.Create v p)) none ok birth =
-    subst (λ n. S.place n ≡ place.Unborn) (eqb-true v.0 u birth) (unborn-is (S.place v.0) (unless-second (may_put W s p.0) (is_unborn (S.place v.0)) code.PoolAccess code.Exists _ tt tt ok))
+    subst (λ n. S.place n ≡ place.Unborn) (eqb-true v.0 u birth) (unborn-is (S.place v.0) (unless-ok (is_unborn (S.place v.0)) code.Exists _ tt (reached-ok W S s x (op.Create v p) ok).1).0)
 birth-unborn W S s x u (Some (op.Revive v p)) none ok birth = absurd (none v p refl)
 birth-unborn W S s x u _ none ok birth = absurd (false≢true birth)
 

@@ -1,39 +1,24 @@
 -- Which events keep to the access that pools are declared with.
-use Rattle.std.specs.Prelude.{ℕ, ◌≡◌, ◌<◌, List, [], ◌∷◌, Option, Some, None, IfSome, IsTrue}
+use Rattle.std.specs.Prelude.{ℕ, ◌≡◌, ◌<◌, List, [], ◌∷◌, IfSome, IsTrue}
 use Rattle.abt_machine.specs.declared.events.Code.TheVariants as code
 use Rattle.abt_machine.specs.declared.events.What.{What}
 use Rattle.abt_machine.specs.declared.events.What.TheVariants as what
 use Rattle.abt_machine.specs.declared.operations.Op.{Op}
-use Rattle.abt_machine.specs.declared.operations.Op.TheVariants as op
 use Rattle.abt_machine.specs.declared.workload.Parts.{Parts}
-use Rattle.abt_machine.specs.Access.{may_put, may_take, may_take_all}
-use Rattle.abt_machine.specs.Sites.{first_pool}
+use Rattle.abt_machine.specs.Access.{may_put, may_take, may_take_all, pool_given, pool_taken}
 use Rattle.abt_machine.specs.Sound.{frames_of}
 use Rattle.abt_machine.specs.State.{State, Frame}
 use Rattle.abt_machine.specs.Workloads.{op_at}
 
--- the pool that an operation takes from
-abbrev pub pool_taken : Option Op → Option ℕ
-pool_taken (Some (op.YieldTo v p)) = Some p.0
-pool_taken _ = None
-
--- the pool that an operation gives a unit as its home, now or at its next look
-abbrev pub pool_given : Parts → Option Op → Option ℕ
-pool_given W (Some (op.Create v p)) = Some p.0
-pool_given W (Some (op.Revive v p)) = Some p.0
-pool_given W (Some (op.Migrate v p)) = Some p.0
-pool_given W (Some (op.MigrateTo v r)) = Some (first_pool W r.0)
-pool_given W _ = None
-
 -- stream s may take from the pool that the operation takes from, and put into the one that it gives
-abbrev pub IsWithinAccess : Parts → ℕ → Option Op → Type 0
+abbrev pub IsWithinAccess : Parts → ℕ → Op → Type 0
 IsWithinAccess W s o = IfSome (pool_taken o) (λ p. IsTrue (may_take W s p)) × IfSome (pool_given W o) (λ p. IsTrue (may_put W s p))
 
 -- what stream s did keeps to the access of pools: it takes and misses where it may take, and its operations go through within their access
 abbrev pub KeepsAccess : Parts → ℕ → What → Type 0
 KeepsAccess W s (what.Miss p) = IsTrue (may_take W s p.0)
 KeepsAccess W s (what.Take p u) = IsTrue (may_take W s p.0)
-KeepsAccess W s (what.Step u k c) = c ≡ code.Ok → IsWithinAccess W s (op_at W u.0 k)
+KeepsAccess W s (what.Step u k c) = c ≡ code.Ok → IfSome (op_at W u.0 k) (IsWithinAccess W s)
 KeepsAccess W s _ = Unit {0}
 
 -- stream s may take from each pool of each of these frames' schedulers

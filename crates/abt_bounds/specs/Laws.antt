@@ -101,7 +101,7 @@ RunsKeepAccess W Z = IsValid W → (J : List Event) → Run W Z J →
 
 -- an operation is refused for access exactly if its stream must not reach the pool that it names
 abbrev pub DeniedAreRefused : Parts → Type 0
-DeniedAreRefused W = (S : State) (s u : ℕ) (o : Op) → (code_of W S s u o ≡ code.PoolAccess) ↔ (IsWithinAccess W s (Some o) → ⊥)
+DeniedAreRefused W = (S : State) (s u : ℕ) (o : Op) → (code_of W S s u o ≡ code.PoolAccess) ↔ (IsWithinAccess W s o → ⊥)
 
 -- Stamps.
 

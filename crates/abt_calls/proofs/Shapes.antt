@@ -15,7 +15,7 @@ use Rattle.abt_machine.specs.Operations.{AreNamed, IsDeclared, IsNamed, nature_o
 use Rattle.abt_machine.specs.Canonical.{op_numbers}
 use Rattle.abt_machine.specs.Forms.{Slot, Numeral, op_slots}
 use Rattle.abt_machine.specs.Workloads.{condition_number, mutex_of}
-use Rattle.abt_machine.specs.Access.{may_put, may_take}
+use Rattle.abt_machine.specs.Access.{may_reach}
 use Rattle.abt_machine.specs.Sites.{first_pool, monitor_of}
 use Rattle.abt_machine.specs.State.{Carried, State}
 use Rattle.abt_machine.specs.Valid.{IsValid}
@@ -23,7 +23,7 @@ use Rattle.abt_machine.specs.Values.{Owned, conditions_of, desk_value, object_of
 use Rattle.abt_machine.specs.Acts.{Act, Answer, Look, End, moved}
 use Rattle.abt_machine.specs.Acts as act
 use Rattle.abt_machine.specs.Desks.{takes_back}
-use Rattle.abt_machine.specs.Plans.{Effect, Plan, Does, Calls, Exits, denied, empties, local, plan_of, to_caller, to_condition, to_giver, to_yielder}
+use Rattle.abt_machine.specs.Plans.{Effect, Plan, Does, Calls, Exits, denied, empties, local, plan_of, to_caller, to_condition, to_giver, to_yielder, reached_plan}
 use Rattle.abt_machine.proofs.Declared.{first_pool-declared, mutex-declared}
 use Rattle.abt_unit.specs.Fits.{Fits}
 use Rattle.abt_chain.specs.Keeping.{Contents, Have, IsPoolOf, contents_asked, nothing, only_pool, only_unit}
@@ -206,17 +206,11 @@ calling W a o x asked asker may comes spares home = record {
   };
 }
 
--- a call that is made if the pool may be reached
-granted : (W : Parts) (a : Op) (o : Owned) (may : Bool) (x : Site) (asked : Act) (asker : Asker) → HasShape W a o (Calls x asked (brought asker o))
-    → HasShape W a o (if may then Calls x asked (brought asker o) else denied o)
-granted W a o true x asked asker has = has
-granted W a o false x asked asker has = record { shape = Refused; same = refl; facts = tt }
-
 -- a call on a desk that names a pool for its unit
-homing : (W : Parts) (a : Op) (o : Owned) (may : Bool) (v : UnitNo) (asked : Act) (p : ℕ) → DeskAllows asked → contents_asked asked ≡ only_pool p
+homing : (W : Parts) (a : Op) (o : Owned) (v : UnitNo) (asked : Act) (p : ℕ) → DeskAllows asked → contents_asked asked ≡ only_pool p
     → (IsValid W → IsDeclared W a → (v.0 < length W.units) × (p < length W.pools)) → Spares Caller asked → ComesHome W o (site.Desk v) asked
-    → HasShape W a o (if may then Calls (site.Desk v) asked (to_caller o) else denied o)
-homing W a o may v asked p allowed comes names spares home = granted W a o may (site.Desk v) asked Caller (record {
+    → HasShape W a o (Calls (site.Desk v) asked (to_caller o))
+homing W a o v asked p allowed comes names spares home = record {
   shape = Calling (site.Desk v) asked Caller;
   same = refl;
   facts = record {
@@ -226,7 +220,12 @@ homing W a o may v asked p allowed comes names spares home = granted W a o may (
     spares = spares;
     home = home;
   };
-})
+}
+
+-- what is planned if the stream may reach the pool that the operation names
+granted : (W : Parts) (a : Op) (o : Owned) (may : Bool) → HasShape W a o (reached_plan W a o) → HasShape W a o (if may then reached_plan W a o else denied o)
+granted W a o true has = has
+granted W a o false has = record { shape = Refused; same = refl; facts = tt }
 
 -- the site and the act of a plan, if it calls; else the unit's own desk and a look, which may be asked there
 abbrev site_of : Owned → Plan → Site
@@ -282,23 +281,22 @@ usually W a o (Calls x asked brings) f asker n local same line names at allowed 
     subst (HasShape W a o) (sym same)
     (calling W a o x asked asker (λ valid number is. may-at W x asked (subst (IsSite W) (sym at) (first-site W o valid number n (named is))) (allowed (first-placed W n (named is)))) comes spares (comes-home W o x asked home))
 
--- only an operation that names a pool which its stream may not reach has a line of its own
-shape-of : (W : Parts) (s : ℕ) (a : Op) (o : Owned) → HasShape W a o (plan_of W s a o)
-shape-of W s (op.YieldTo v p) o =
-    granted W _ o (may_take W s p.0) (site.Pool p) (act.Remove v.0) Yielder
-    (calling W _ o (site.Pool p) (act.Remove v.0) Yielder (λ valid number is. may-at W (site.Pool p) (act.Remove v.0) is.1 tt) refl (λ b os c. (λ h. h, λ h. h, λ h. h)) (λ S h. tt))
-shape-of W s (op.Create v p) o =
-    homing W _ o (may_put W s p.0) v (act.Create p.0) p.0 tt refl (λ valid is. is) (λ b os c. (λ h. h, λ h. h)) (λ S h. tt)
-shape-of W s (op.Migrate v p) o =
-    homing W _ o (may_put W s p.0) v (act.AskMigrate p.0) p.0 tt refl (λ valid is. is) (λ b os c. (λ h. h, λ h. h)) (λ S h. tt)
-shape-of W s (op.MigrateTo v r) o =
-    homing W _ o (may_put W s (first_pool W r.0)) v (act.AskMigrate (first_pool W r.0)) (first_pool W r.0) tt refl
+-- an operation that names a pool has a line of its own
+reached-shape : (W : Parts) (a : Op) (o : Owned) → HasShape W a o (reached_plan W a o)
+reached-shape W (op.YieldTo v p) o =
+    calling W _ o (site.Pool p) (act.Remove v.0) Yielder (λ valid number is. may-at W (site.Pool p) (act.Remove v.0) is.1 tt) refl (λ b os c. (λ h. h, λ h. h, λ h. h)) (λ S h. tt)
+reached-shape W (op.Create v p) o = homing W _ o v (act.Create p.0) p.0 tt refl (λ valid is. is) (λ b os c. (λ h. h, λ h. h)) (λ S h. tt)
+reached-shape W (op.Migrate v p) o = homing W _ o v (act.AskMigrate p.0) p.0 tt refl (λ valid is. is) (λ b os c. (λ h. h, λ h. h)) (λ S h. tt)
+reached-shape W (op.MigrateTo v r) o =
+    homing W _ o v (act.AskMigrate (first_pool W r.0)) (first_pool W r.0) tt refl
     (λ valid is. (is.0, first_pool-declared W r.0 valid is.1)) (λ b os c. (λ h. h, λ h. h)) (λ S h. tt)
-shape-of W s (op.Revive v p) o =
-    homing W _ o (may_put W s p.0) v (act.Revive p.0) p.0 tt refl (λ valid is. is) (λ b os c. (λ h. h, λ h. h)) (λ S h. tt)
-shape-of W s a o =
-    usually W a o (plan_of W s a o) (nature_of a).local (asker_of (plan_of W s a o) (nature_of a).may_block) (first (op_slots a) (op_numbers a))
+reached-shape W (op.Revive v p) o = homing W _ o v (act.Revive p.0) p.0 tt refl (λ valid is. is) (λ b os c. (λ h. h, λ h. h)) (λ S h. tt)
+reached-shape W a o =
+    usually W a o (reached_plan W a o) (nature_of a).local (asker_of (reached_plan W a o) (nature_of a).may_block) (first (op_slots a) (op_numbers a))
     refl refl refl (λ is. is) refl (λ placed. placed) refl (λ b os c. (λ h. h, λ h. h)) refl
+
+shape-of : (W : Parts) (s : ℕ) (a : Op) (o : Owned) → HasShape W a o (plan_of W s a o)
+shape-of W s a o = granted W a o (may_reach W s a) (reached-shape W a o)
 
 -- what is so of plans of all shapes is so of what operation a plans
 pub by-shape : (W : Parts) (s : ℕ) (a : Op) (o : Owned) (P : Plan → Type 0) → ((shape : Shape) → Facts W a o shape → P (plan_by o shape))

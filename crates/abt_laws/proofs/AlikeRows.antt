@@ -16,7 +16,7 @@ use Rattle.abt_machine.specs.RwLocks.{passed_on, woken}
 use Rattle.abt_machine.specs.State.{State, Carried, Desk, Mutex, Future, RwLock}
 use Rattle.abt_machine.specs.Lines.{Waiting, hand, standing, tray_end}
 use Rattle.abt_machine.specs.Changes.{tray_moves, waiting_moves, goes_with, goes_on}
-use Rattle.abt_machine.specs.Steps.{owned, wakes, begins, asks, joins, waits, locks, hands_over, releases, queues, passes, receives, gives_all, awaits, fills, arrives, gives_up}
+use Rattle.abt_machine.specs.Steps.{owned, wakes, begins, joins, waits, locks, hands_over, releases, queues, passes, receives, gives_all, awaits, fills, arrives, gives_up}
 use Rattle.abt_machine.specs.Values.{RwLockValue, owned_at, rwlock_value, waiters_at}
 use Rattle.abt_laws.specs.Footprint.{Within, holder}
 use Rattle.abt_laws.proofs.Lists.{EachOf}
@@ -46,9 +46,6 @@ module _ (W : Parts) (S T : State) (s u : ℕ) (x : Option Site) (alike : IsAlik
     carried = (u, advanced (same-caller i)) ∷ (v, newborn p (k i)) ∷ [];
     desks = (v, record (d i) { life = suc (d i).life }) ∷ [];
   }
-
-  pub alike-asks : (v : ℕ) (d e : Desk) → d ≡ e → asks S u v d ≡ asks T u v e
-  alike-asks v d e same = λ i. record (alike-goes_on i) { desks = (v, same i) ∷ [] }
 
   joins-at : (v : ℕ) (pl : Place) → S.join_next v ≡ T.join_next v → joins S u v pl ≡ joins T u v pl
   joins-at v (place.Ended c) n = alike-goes_on

@@ -3,9 +3,12 @@ use Rattle.std.proofs.Common.{◌≡◌, ℕ, Bool, true, false, Option, Some, N
 use Rattle.std.specs.Prelude.{IsSome}
 use Rattle.abt_machine.specs.declared.events.Code.{Code}
 use Rattle.abt_machine.specs.declared.events.Code.TheVariants as code
+use Rattle.abt_machine.specs.declared.operations.Op.{Op}
+use Rattle.abt_machine.specs.declared.workload.Parts.{Parts}
+use Rattle.abt_machine.specs.Access.{may_reach}
 use Rattle.abt_machine.specs.Fronts.{is_some_of}
 use Rattle.abt_machine.specs.State.{State}
-use Rattle.abt_machine.specs.Codes.{unless, owned_by}
+use Rattle.abt_machine.specs.Codes.{code_of, owned_by, reached_code, unless}
 
 -- every code but Ok
 abbrev pub IsRefusal : Code → Type 0
@@ -17,9 +20,9 @@ pub unless-ok : (test : Bool) (c rest : Code) → IsRefusal c → unless test c 
 unless-ok true c rest r h = (refl, h)
 unless-ok false c rest r h = absurd (subst IsRefusal h r)
 
--- if it has two
-pub unless-second : (a b : Bool) (c d rest : Code) → IsRefusal c → IsRefusal d → unless a c (unless b d rest) ≡ code.Ok → b ≡ true
-unless-second a b c d rest first second e = (unless-ok b d rest second (unless-ok a c (unless b d rest) first e).1).0
+-- it may reach the pool that it names, and its own tests hold
+pub reached-ok : (W : Parts) (S : State) (s u : ℕ) (o : Op) → code_of W S s u o ≡ code.Ok → (may_reach W s o ≡ true) × (reached_code W S u o ≡ code.Ok)
+reached-ok W S s u o h = unless-ok (may_reach W s o) code.PoolAccess (reached_code W S u o) tt h
 
 -- what is u is something
 pub some-by : (u : ℕ) (o : Option ℕ) → is_some_of u o ≡ true → IsSome o

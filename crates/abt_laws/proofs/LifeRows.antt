@@ -12,7 +12,6 @@ use Rattle.abt_machine.specs.declared.operations.Op.TheVariants as op
 use Rattle.abt_machine.specs.declared.workload.Parts.{Parts}
 use Rattle.abt_machine.specs.Workloads.{combine_of, mutex_of, size_of}
 use Rattle.abt_machine.specs.Numbers.{stream_no, unit_no, object_no}
-use Rattle.abt_machine.specs.Access.{may_put, may_take}
 use Rattle.abt_machine.specs.Carrying.{refused, with_acc}
 use Rattle.abt_machine.specs.Queues.{first_alone}
 use Rattle.abt_machine.specs.Holders.{is_free, read_by, written_by}
@@ -22,12 +21,12 @@ use Rattle.abt_machine.specs.State.{State, Stream, Carried, Desk, Future, RwLock
 use Rattle.abt_machine.specs.Values.{rwlock_value}
 use Rattle.abt_machine.specs.Lines.{Line, standing, Waiting, tray_end}
 use Rattle.abt_machine.specs.Outcomes.{IsOver}
-use Rattle.abt_machine.specs.Codes.{code_of, is_unborn, is_ended, is_suspended, is_in_pool}
+use Rattle.abt_machine.specs.Codes.{code_of, is_ended, is_in_pool, is_suspended, is_unborn, reached_code}
 use Rattle.abt_machine.specs.Changes.{Change, no_change, goes_with, goes_on, to_tray, tray_moves, waiting_moves}
 use Rattle.abt_machine.specs.Steps.{wakes, joins, waits, locks, hands_over, releases, queues, passes, receives, gives_all, awaits, ready_value, filled_by, fills, arrives, gives_up, op_row}
 use Rattle.abt_laws.proofs.Granted.{woken-each}
 use Rattle.abt_laws.proofs.LineMoves.{tray_moves-each, waiting_moves-each}
-use Rattle.abt_laws.proofs.Codes.{unless-ok, unless-second}
+use Rattle.abt_laws.proofs.Codes.{reached-ok, unless-ok}
 use Rattle.abt_laws.proofs.Places.{place_in}
 use Rattle.abt_laws.proofs.Standing.{StandsIn, each-stands}
 use Rattle.abt_laws.proofs.Lists.{EachOf, EachOf-append, EachOf-map, EachOf-then, EachOf-first_alone, EachOf-same}
@@ -178,16 +177,16 @@ module _ (W : Parts) (S : State) (s x : ℕ) (P : Type 0) (held : P → IsOutsid
   ended-over _ h = absurd (false≢true h)
 
   -- each operation, which goes through if P
-  pub row-op : (o : Op) → (P → code_of W S s x o ≡ code.Ok) → (P → Goes W S s x o) × KeepsFrames S (op_row W S s x o)
+  pub row-op : (o : Op) → (P → reached_code W S x o ≡ code.Ok) → (P → Goes W S s x o) × KeepsFrames S (op_row W S s x o)
   row-op op.Yield h = row-yields
   row-op (op.YieldTo v p) h =
-      row-yields_to v.0 (place.Next (stream_no s)) (λ k. pooled-outside p.0 (S.place v.0) (unless-second (may_take W s p.0) (is_in_pool p.0 (S.place v.0)) code.PoolAccess code.Absent _ tt tt (h k))) tt
+      row-yields_to v.0 (place.Next (stream_no s)) (λ k. pooled-outside p.0 (S.place v.0) (unless-ok (is_in_pool p.0 (S.place v.0)) code.Absent _ tt (h k)).0) tt
   row-op op.Suspend h = row-blocks (place.Blocked spot.Suspended 0) tt
   row-op op.Exit h = (λ k. tt, ((refl, refl), tt))
   row-op (op.Resume v) h = row-wakes (v.0 ∷ []) (λ k. (suspended-outside (S.place v.0) (unless-ok (is_suspended (S.place v.0)) code.UnitState code.Ok tt (h k)).0, tt))
-  row-op (op.Create v p) h = (λ k. unborn-over (S.place v.0) (unless-second (may_put W s p.0) (is_unborn (S.place v.0)) code.PoolAccess code.Exists _ tt tt (h k)), tt)
+  row-op (op.Create v p) h = (λ k. unborn-over (S.place v.0) (unless-ok (is_unborn (S.place v.0)) code.Exists _ tt (h k)).0, tt)
   row-op (op.Join v) h = row-joins v.0 (S.place v.0)
-  row-op (op.Revive v p) h = (λ k. ended-over (S.place v.0) (unless-second (may_put W s p.0) (is_ended (S.place v.0)) code.PoolAccess code.UnitState _ tt tt (h k)), tt)
+  row-op (op.Revive v p) h = (λ k. ended-over (S.place v.0) (unless-ok (is_ended (S.place v.0)) code.UnitState _ tt (h k)).0, tt)
   row-op (op.Lock y) h = row-locks y.0 (S.mutex y.0).owner
   row-op (op.Unlock y) h = row-hands_over y.0
   row-op (op.CondWait y) h = row-releases y.0 (mutex_of W y.0)
@@ -206,7 +205,7 @@ module _ (W : Parts) (S : State) (s x : ℕ) (P : Type 0) (held : P → IsOutsid
 
 -- an operation that goes through
 pub goes : (W : Parts) (S : State) (s x : ℕ) → (IsOutside (S.place x) → ⊥) → (o : Op) → code_of W S s x o ≡ code.Ok → Goes W S s x o
-goes W S s x held o h = (row-op W S s x (Unit {0}) (λ _. held) o (λ _. h)).0 tt
+goes W S s x held o h = (row-op W S s x (Unit {0}) (λ _. held) o (λ _. (reached-ok W S s x o h).1)).0 tt
 
 -- one that is refused
 pub row-refused : (S : State) (x : ℕ) (c : Code) → Steps S x (record no_change { carried = (x, refused c (S.carried x)) ∷ [] })

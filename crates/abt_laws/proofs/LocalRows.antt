@@ -16,7 +16,7 @@ use Rattle.abt_machine.specs.RwLocks.{left_by, passed_on, woken}
 use Rattle.abt_machine.specs.State.{State, Carried, Desk, Future, RwLock}
 use Rattle.abt_machine.specs.Lines.{Waiting, hand, standing, tray_end}
 use Rattle.abt_machine.specs.Changes.{Change, no_change, tray_moves, to_tray, waiting_moves, goes_with, goes_on}
-use Rattle.abt_machine.specs.Steps.{wakes, begins, asks, joins, waits, locks, hands_over, releases, queues, passes, receives, gives_all, awaits, fills, arrives, gives_up}
+use Rattle.abt_machine.specs.Steps.{wakes, begins, joins, waits, locks, hands_over, releases, queues, passes, receives, gives_all, awaits, fills, arrives, gives_up}
 use Rattle.abt_machine.specs.Values.{RwLockValue, rwlock_value}
 use Rattle.abt_laws.proofs.Granted.{woken-each}
 use Rattle.abt_laws.proofs.LineMoves.{tray_moves-each, waiting_moves-each}
@@ -58,9 +58,6 @@ module _ (W : Parts) (S : State) (s u : ℕ) (x : Option Site) (in_hand : hand W
   local-begins v p e k =
       let woken : Change = wakes W S s u (v ∷ []) in
       local-desk W S s x _ (local-carried W S s x woken (local-wakes (v ∷ []) (k, tt)) _ (here, (k, tt))) v _ e
-
-  pub local-asks : (v : ℕ) (d : Desk) → x ≡ Some (site.Desk (unit_no v)) → IsLocal W S s x (asks S u v d)
-  local-asks v d e = local-desk W S s x (goes_on S u) local-goes_on v d e
 
   pub local-joins : (v : ℕ) (pl : Place) → x ≡ Some (site.Desk (unit_no v)) → IsLocal W S s x (joins S u v pl)
   local-joins v (place.Ended c) e = local-goes_on

@@ -1,9 +1,7 @@
 -- Every operation changes only its stream, its site, and units that these keep, and reads nothing else.
-use Rattle.std.proofs.Common.{◌≡◌, ℕ, ◌==◌, if◌then◌else◌, Bool, false, List, [], ◌∷◌, map, Option, Some, None, refl, ap, inl, ◌⊎◌}
+use Rattle.std.proofs.Common.{◌≡◌, ℕ, ◌==◌, if◌then◌else◌, Bool, List, [], ◌∷◌, map, Option, Some, None, refl, sym, subst, ap, inl}
 use Rattle.std.proofs.lemmas.Bool.{cond-true}
-use Rattle.abt_machine.specs.declared.events.Code.{Code}
 use Rattle.abt_machine.specs.declared.events.Code.TheVariants as code
-use Rattle.abt_machine.specs.declared.events.Place.{Place}
 use Rattle.abt_machine.specs.declared.events.Place.TheVariants as place
 use Rattle.abt_machine.specs.declared.events.Site.{Site}
 use Rattle.abt_machine.specs.declared.events.Site.TheVariants as site
@@ -16,38 +14,36 @@ use Rattle.abt_machine.specs.Numbers.{stream_no, unit_no, object_no}
 use Rattle.abt_machine.specs.Workloads.{mutex_of, size_of, combine_of}
 use Rattle.abt_machine.specs.Operations.{IsDeclared}
 use Rattle.abt_machine.specs.Valid.{IsValid}
-use Rattle.abt_machine.specs.Access.{may_put, may_take}
-use Rattle.abt_machine.specs.Sites.{first_pool, object_site}
+use Rattle.abt_machine.specs.Access.{may_reach}
+use Rattle.abt_machine.specs.Sites.{object_site}
+use Rattle.abt_machine.specs.Start.{start}
 use Rattle.abt_machine.specs.EventSites.{op_site, plan_site}
-use Rattle.abt_machine.specs.Plans.{Plan}
+use Rattle.abt_machine.specs.Plans.{reached_plan}
 use Rattle.abt_machine.specs.Queues.{first_alone}
 use Rattle.abt_machine.specs.Holders.{is_free, read_by, written_by}
 use Rattle.abt_machine.specs.RwLocks.{left_by, may_read, wanting}
 use Rattle.abt_machine.specs.State.{State, Stream, Carried, Desk, Future, RwLock}
-use Rattle.abt_machine.specs.Values.{RwLockValue, rwlock_value}
+use Rattle.abt_machine.specs.Values.{RwLockValue, owned_at, rwlock_value}
 use Rattle.abt_machine.specs.Lines.{Waiting, hand, standing}
-use Rattle.abt_machine.specs.Codes.{unless, is_unborn, is_ended, is_in_pool, code_of}
+use Rattle.abt_machine.specs.Codes.{code_of, reached_code}
 use Rattle.abt_machine.specs.Changes.{Change, tray_moves, goes_on}
-use Rattle.abt_machine.specs.Steps.{wakes, begins, asks, waits, passes, awaits, filled_by, ready_value, op_row}
-use Rattle.abt_laws.specs.Footprint.{Within, holder}
+use Rattle.abt_machine.specs.Steps.{wakes, begins, waits, passes, awaits, filled_by, ready_value, op_row}
 use Rattle.abt_laws.proofs.Lists.{EachOf, EachOf-same}
 use Rattle.abt_laws.proofs.Keeping.{IsKept, hand-kept, standing-kept, one-kept, kept-where_true, unborn-seen, ended-seen, suspended-seen, in_pool-seen}
 use Rattle.abt_laws.proofs.Local.{IsLocal, local-eventual}
 use Rattle.abt_laws.proofs.LocalRows
 use Rattle.abt_laws.proofs.Alike.{IsAlike, tray_end-alike, caller-alike, seen-same}
 use Rattle.abt_laws.proofs.AlikeRows
-use Rattle.abt_laws.proofs.Codes.{unless-ok, IsRefusal}
+use Rattle.abt_laws.proofs.Codes.{reached-ok, unless-ok}
 use Rattle.abt_laws.proofs.ObjectSites.{mutex-waits, eventual-waits, future-waits, barrier-waits, rwlock-waits, condition-waits, condition-mutex-waits}
 
--- an operation that goes through is not denied, and reaches its site
-site-reached : (may : Bool) (called refused : Plan) (rest : Code) → unless may code.PoolAccess rest ≡ code.Ok → plan_site (if may then called else refused) ≡ plan_site called
-site-reached may called refused rest h = ap plan_site (cond-true may called refused (unless-ok may code.PoolAccess rest tt h).0)
+-- the site that an operation of unit u touches if the stream may reach the pool that it names
+abbrev reached_site : Parts → ℕ → Op → Option Site
+reached_site W u o = plan_site (reached_plan W o (owned_at (start W) u))
 
--- and the unit whose place it tests is kept there
-unit-reached : (W : Parts) (S : State) (s : ℕ) (may : Bool) (called refused : Plan) (v : ℕ) (test : Place → Bool) (c : Code) → IsRefusal c →
-    ((x : Option Site) (pl : Place) → x ≡ plan_site called → Within s x (holder W v pl) ⊎ (test pl ≡ false)) → unless may code.PoolAccess (unless (test (S.place v)) c code.Ok) ≡ code.Ok → IsKept W S s (plan_site (if may then called else refused)) v
-unit-reached W S s may called refused v test c refusal seen h =
-    kept-where_true (seen (plan_site (if may then called else refused)) (S.place v) (site-reached may called refused _ h)) (unless-ok (test (S.place v)) c code.Ok refusal (unless-ok may code.PoolAccess _ tt h).1).0
+-- an operation that goes through reaches it
+site-reached : (W : Parts) (S : State) (s u : ℕ) (o : Op) → code_of W S s u o ≡ code.Ok → op_site W s u o ≡ reached_site W u o
+site-reached W S s u o h = ap plan_site (cond-true (may_reach W s o) _ _ (reached-ok W S s u o h).0)
 
 -- what changes is of site x if each of its numbers names that
 of-site : {A : Type 0} (x : Option Site) (at : ℕ → Site) (ps : List (ℕ × A)) → map (λ (m : ℕ × A). x) ps ≡ map (λ (m : ℕ × A). Some (at m.0)) ps → EachOf (λ (m : ℕ × A). x ≡ Some (at m.0)) ps
@@ -72,9 +68,6 @@ module _ (W : Parts) (valid : IsValid W) (S : State) (s u : ℕ) (in_hand : hand
     site-begins : (v p : ℕ) → x ≡ Some (site.Desk (unit_no v)) → IsKept W S s x v → IsOfSite W S s x (λ R. begins W R s u v p)
     site-begins v p e kept = (LocalRows.local-begins W S s u x in_hand v p e kept, λ T alike. AlikeRows.alike-begins W S T s u x alike in_hand v p (alike.units v (inl kept)).1 (alike.desk v e))
 
-    site-asks : (v : ℕ) (f : Desk → Desk) → x ≡ Some (site.Desk (unit_no v)) → IsOfSite W S s x (λ R. asks R u v (f (R.desk v)))
-    site-asks v f e = (LocalRows.local-asks W S s u x in_hand v (f (S.desk v)) e, λ T alike. AlikeRows.alike-asks W S T s u x alike in_hand v _ _ (ap f (alike.desk v e)))
-
     site-passes : (z y : ℕ) (taken : List ℕ → List ℕ) → x ≡ Some (site.Monitor (object_no z)) → x ≡ Some (object_site W z) → x ≡ Some (object_site W y) → EachOf (IsKept W S s x) (taken (standing W S (Waiting y))) →
         IsOfSite W S s x (λ R. passes W R s u z (R.mutex z).owner (taken (standing W R (Waiting y))))
     site-passes z y taken m e f kept = (LocalRows.local-passes W S s u x in_hand z _ _ m e kept, λ T alike. AlikeRows.alike-passes W S T s u x alike in_hand z y taken m e f)
@@ -86,47 +79,45 @@ module _ (W : Parts) (valid : IsValid W) (S : State) (s u : ℕ) (in_hand : hand
         IsOfSite W S s x (λ R. if test (rwlock_value W R y) then record (goes_on R u) { rwlocks = (y, held (R.rwlock y)) ∷ [] } else record (waits R u y) { rwlocks = (y, wanted (R.rwlock y)) ∷ [] })
     site-goes_or_waits y test held wanted m e = (LocalRows.local-goes_or_waits W S s u x in_hand y _ _ _ m e, λ T alike. AlikeRows.alike-goes_or_waits W S T s u x alike in_hand y test held wanted m e)
 
-  -- each operation that goes through
-  pub site-op : (o : Op) → IsDeclared W o → code_of W S s u o ≡ code.Ok → IsOfSite W S s (op_site W s u o) (λ R. op_row W R s u o)
-  site-op op.Yield d h = site-wakes _ (u ∷ []) (hand-kept W S s _ u in_hand, tt)
-  site-op (op.YieldTo v p) d h = (
-    LocalRows.local-yields_to W S s u _ in_hand v.0 (unit-reached W S s (may_take W s p.0) _ _ v.0 (is_in_pool p.0) code.Absent tt (λ x pl e. in_pool-seen W s x v.0 p.0 pl e) h),
+  -- each operation whose own tests hold
+  own-op : (o : Op) → IsDeclared W o → reached_code W S u o ≡ code.Ok → IsOfSite W S s (reached_site W u o) (λ R. op_row W R s u o)
+  own-op op.Yield d h = site-wakes _ (u ∷ []) (hand-kept W S s _ u in_hand, tt)
+  own-op (op.YieldTo v p) d h = (
+    LocalRows.local-yields_to W S s u _ in_hand v.0 (kept-where_true (in_pool-seen W s _ v.0 p.0 (S.place v.0) refl) (unless-ok _ code.Absent code.Ok tt h).0),
     λ T alike i. record (AlikeRows.alike-goes_on W S T s u _ alike in_hand i) { moves = (v.0, place.Next (stream_no s)) ∷ tray_moves s (tray_end-alike W s _ S T alike i) (u ∷ []) },
   )
-  site-op op.Suspend d h = (LocalRows.local-suspends W S s u _ in_hand refl, λ T alike. ap (λ (c : Change). record c { moves = (u, place.Blocked spot.Suspended 0) ∷ [] }) (AlikeRows.alike-goes_on W S T s u _ alike in_hand))
-  site-op (op.Resume v) d h = site-wakes _ (v.0 ∷ []) (kept-where_true (suspended-seen W s _ v.0 (S.place v.0) refl) (unless-ok _ code.UnitState code.Ok tt h).0, tt)
-  site-op (op.Create v p) d h =
-      site-begins _ v.0 p.0 (site-reached (may_put W s p.0) _ _ _ h) (unit-reached W S s (may_put W s p.0) _ _ v.0 is_unborn code.Exists tt (λ x pl e. unborn-seen W s x v.0 pl e) h)
-  site-op (op.Join v) d h = (LocalRows.local-joins W S s u _ in_hand v.0 (S.place v.0) refl, λ T alike. AlikeRows.alike-joins W S T s u _ alike in_hand v.0 refl)
-  site-op (op.Migrate v p) d h = site-asks _ v.0 (λ k. record k { migrate = Some p.0 }) (site-reached (may_put W s p.0) _ _ _ h)
-  site-op (op.MigrateTo v r) d h = site-asks _ v.0 (λ k. record k { migrate = Some (first_pool W r.0) }) (site-reached (may_put W s (first_pool W r.0)) _ _ _ h)
-  site-op (op.Revive v p) d h =
-      site-begins _ v.0 p.0 (site-reached (may_put W s p.0) _ _ _ h) (unit-reached W S s (may_put W s p.0) _ _ v.0 is_ended code.UnitState tt (λ x pl e. ended-seen W s x v.0 pl e) h)
-  site-op (op.Lock y) d h = (LocalRows.local-locks W S s u _ in_hand y.0 _ refl (mutex-waits W y d), λ T alike. AlikeRows.alike-locks W S T s u _ alike in_hand y.0 refl (mutex-waits W y d))
-  site-op (op.Unlock y) d h = (LocalRows.local-hands_over W S s u _ in_hand y.0 refl (mutex-waits W y d), λ T alike. AlikeRows.alike-hands_over W S T s u _ alike in_hand y.0 refl (mutex-waits W y d))
-  site-op (op.CondWait y) d h =
+  own-op op.Suspend d h = (LocalRows.local-suspends W S s u _ in_hand refl, λ T alike. ap (λ (c : Change). record c { moves = (u, place.Blocked spot.Suspended 0) ∷ [] }) (AlikeRows.alike-goes_on W S T s u _ alike in_hand))
+  own-op (op.Resume v) d h = site-wakes _ (v.0 ∷ []) (kept-where_true (suspended-seen W s _ v.0 (S.place v.0) refl) (unless-ok _ code.UnitState code.Ok tt h).0, tt)
+  own-op (op.Create v p) d h =
+      site-begins _ v.0 p.0 refl (kept-where_true (unborn-seen W s _ v.0 (S.place v.0) refl) (unless-ok _ code.Exists code.Ok tt h).0)
+  own-op (op.Join v) d h = (LocalRows.local-joins W S s u _ in_hand v.0 (S.place v.0) refl, λ T alike. AlikeRows.alike-joins W S T s u _ alike in_hand v.0 refl)
+  own-op (op.Revive v p) d h =
+      site-begins _ v.0 p.0 refl (kept-where_true (ended-seen W s _ v.0 (S.place v.0) refl) (unless-ok _ code.UnitState code.Ok tt h).0)
+  own-op (op.Lock y) d h = (LocalRows.local-locks W S s u _ in_hand y.0 _ refl (mutex-waits W y d), λ T alike. AlikeRows.alike-locks W S T s u _ alike in_hand y.0 refl (mutex-waits W y d))
+  own-op (op.Unlock y) d h = (LocalRows.local-hands_over W S s u _ in_hand y.0 refl (mutex-waits W y d), λ T alike. AlikeRows.alike-hands_over W S T s u _ alike in_hand y.0 refl (mutex-waits W y d))
+  own-op (op.CondWait y) d h =
       let e : Some (site.Monitor (object_no (mutex_of W y.0))) ≡ Some (object_site W y.0) = condition-waits W y.0 d in
       let m : Some (site.Monitor (object_no (mutex_of W y.0))) ≡ Some (object_site W (mutex_of W y.0)) = condition-mutex-waits W y.0 valid d in
       (LocalRows.local-releases W S s u _ in_hand y.0 (mutex_of W y.0) refl e m, λ T alike. AlikeRows.alike-releases W S T s u _ alike in_hand y.0 (mutex_of W y.0) refl e m)
-  site-op (op.Signal y) d h = site-passes _ (mutex_of W y.0) y.0 first_alone refl (condition-mutex-waits W y.0 valid d) (condition-waits W y.0 d) (one-kept W S s _ (Waiting y.0) (condition-waits W y.0 d))
-  site-op (op.Broadcast y) d h = site-passes _ (mutex_of W y.0) y.0 (λ us. us) refl (condition-mutex-waits W y.0 valid d) (condition-waits W y.0 d) (standing-kept W S s _ (Waiting y.0) (condition-waits W y.0 d))
-  site-op (op.EvWait y) d h = site-awaits _ y.0 (λ R. R.eventual y.0) (eventual-waits W y d) (λ T alike. alike.eventual y.0 refl)
-  site-op (op.EvSet y) d h = (
+  own-op (op.Signal y) d h = site-passes _ (mutex_of W y.0) y.0 first_alone refl (condition-mutex-waits W y.0 valid d) (condition-waits W y.0 d) (one-kept W S s _ (Waiting y.0) (condition-waits W y.0 d))
+  own-op (op.Broadcast y) d h = site-passes _ (mutex_of W y.0) y.0 (λ us. us) refl (condition-mutex-waits W y.0 valid d) (condition-waits W y.0 d) (standing-kept W S s _ (Waiting y.0) (condition-waits W y.0 d))
+  own-op (op.EvWait y) d h = site-awaits _ y.0 (λ R. R.eventual y.0) (eventual-waits W y d) (λ T alike. alike.eventual y.0 refl)
+  own-op (op.EvSet y) d h = (
     local-eventual W S s _ _ (LocalRows.local-gives_all W S s u _ in_hand y.0 _ (eventual-waits W y d)) y.0 _ refl,
     λ T alike i. record (AlikeRows.alike-gives_all W S T s u _ alike in_hand y.0 _ _ (ap (λ (c : Carried). c.acc) (same-carried _ T alike)) (eventual-waits W y d) i) { eventuals = (y.0, Some (same-carried _ T alike i).acc) ∷ [] },
   )
-  site-op (op.FuWait y) d h = site-awaits _ y.0 (λ R. ready_value W R y.0) (future-waits W y d) (λ T alike. ap (λ (f : Future). if f.filled == size_of W y.0 then Some f.value else None) (alike.future y.0 refl))
-  site-op (op.FuSet y) d h = (
+  own-op (op.FuWait y) d h = site-awaits _ y.0 (λ R. ready_value W R y.0) (future-waits W y d) (λ T alike. ap (λ (f : Future). if f.filled == size_of W y.0 then Some f.value else None) (alike.future y.0 refl))
+  own-op (op.FuSet y) d h = (
     LocalRows.local-fills W S s u _ in_hand y.0 _ refl (future-waits W y d),
     λ T alike. AlikeRows.alike-fills W S T s u _ alike in_hand y.0 _ _ (λ i. filled_by (combine_of W y.0) (alike.future y.0 refl i) (same-carried _ T alike i).acc) (future-waits W y d),
   )
-  site-op (op.BarWait y) d h = (LocalRows.local-arrives W S s u _ in_hand y.0 (barrier-waits W y d), λ T alike. AlikeRows.alike-arrives W S T s u _ alike in_hand y.0 (barrier-waits W y d))
-  site-op (op.ReadLock y) d h = site-goes_or_waits _ y.0 (may_read u) (read_by u) (wanting u wish.Read) refl (rwlock-waits W y d)
-  site-op (op.WriteLock y) d h = site-goes_or_waits _ y.0 (λ old. is_free old.lock) (written_by u) (wanting u wish.Write) refl (rwlock-waits W y d)
-  site-op (op.RwUnlock y) d h = (LocalRows.local-gives_up W S s u _ in_hand y.0 refl (rwlock-waits W y d), λ T alike. AlikeRows.alike-gives_up W S T s u _ alike in_hand y.0 (left_by u) refl (rwlock-waits W y d))
+  own-op (op.BarWait y) d h = (LocalRows.local-arrives W S s u _ in_hand y.0 (barrier-waits W y d), λ T alike. AlikeRows.alike-arrives W S T s u _ alike in_hand y.0 (barrier-waits W y d))
+  own-op (op.ReadLock y) d h = site-goes_or_waits _ y.0 (may_read u) (read_by u) (wanting u wish.Read) refl (rwlock-waits W y d)
+  own-op (op.WriteLock y) d h = site-goes_or_waits _ y.0 (λ old. is_free old.lock) (written_by u) (wanting u wish.Write) refl (rwlock-waits W y d)
+  own-op (op.RwUnlock y) d h = (LocalRows.local-gives_up W S s u _ in_hand y.0 refl (rwlock-waits W y d), λ T alike. AlikeRows.alike-gives_up W S T s u _ alike in_hand y.0 (left_by u) refl (rwlock-waits W y d))
   -- nobody moves, and what u carries, its stream and one part at the site are all that is read
-  site-op o d h =
-      let x : Option Site = op_site W s u o in
+  own-op o d h =
+      let x : Option Site = reached_site W u o in
       let row : Change = op_row W S s u o in (
         record {
           moves = tt;
@@ -143,3 +134,7 @@ module _ (W : Parts) (valid : IsValid W) (S : State) (s u : ℕ) (in_hand : hand
         },
         λ T alike i. op_row W (record (seen-same W s x S T alike i) { carried = λ _. same-carried x T alike i; stream = λ _. alike.stream i }) s u o,
       )
+
+  -- each operation that goes through
+  pub site-op : (o : Op) → IsDeclared W o → code_of W S s u o ≡ code.Ok → IsOfSite W S s (op_site W s u o) (λ R. op_row W R s u o)
+  site-op o d h = subst (λ x. IsOfSite W S s x (λ R. op_row W R s u o)) (sym (site-reached W S s u o h)) (own-op o d (reached-ok W S s u o h).1)

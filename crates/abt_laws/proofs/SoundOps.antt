@@ -14,13 +14,12 @@ use Rattle.abt_machine.specs.declared.operations.OrderShape.{OrderShape}
 use Rattle.abt_machine.specs.declared.workload.Parts.{Parts}
 use Rattle.abt_machine.specs.Numbers.{object_no, stream_no, unit_no}
 use Rattle.abt_machine.specs.Workloads.{op_at, mutex_of, combine_of}
-use Rattle.abt_machine.specs.Access.{may_put, may_take}
 use Rattle.abt_machine.specs.Sites.{first_pool}
 use Rattle.abt_machine.specs.Carrying.{advanced, printed}
 use Rattle.abt_machine.specs.State.{State, Desk, Mutex, Future}
 use Rattle.abt_machine.specs.Lines.{Waiting}
 use Rattle.abt_machine.specs.Rounds.{OrdersStored}
-use Rattle.abt_machine.specs.Codes.{code_of, code_at, is_alive, is_ended, is_full, is_in_pool, is_suspended, is_unborn, owned_by}
+use Rattle.abt_machine.specs.Codes.{code_of, code_at, is_alive, is_ended, is_full, is_in_pool, is_suspended, is_unborn, owned_by, reached_code}
 use Rattle.abt_machine.specs.Holders.{holds, writes}
 use Rattle.abt_machine.specs.Changes.{Change, goes_with}
 use Rattle.abt_machine.specs.Steps.{op_row, step_row, filled_by}
@@ -29,7 +28,7 @@ use Rattle.abt_machine.specs.Events.{May, change}
 use Rattle.abt_machine.specs.Sound.{Sound}
 use Rattle.abt_machine.specs.Valid.{IsValid}
 use Rattle.abt_machine.proofs.Declared.{op-declared, first_pool-declared, mutex-declared}
-use Rattle.abt_laws.proofs.Codes.{unless-second, unless-ok}
+use Rattle.abt_laws.proofs.Codes.{reached-ok, unless-ok}
 use Rattle.abt_laws.proofs.Lists.{EachOf, EachOf-made}
 use Rattle.abt_laws.proofs.SoundChanges.{Keeps, CarriesWell, AsksWell, MutexHolds, EventualHolds, FutureHolds}
 use Rattle.abt_laws.proofs.Wakes.{IsWakeable, wakeable-line, wakeable-first, frameless-by, off-by}
@@ -71,20 +70,20 @@ module _ (W : Parts) (Z : List OrderShape) (S : State) (s u : ℕ) (valid : IsVa
   wakes-by : (v : ℕ) (test : Place → Bool) → ((r d : ℕ) → test (place.Frame (stream_no r) d) ≡ false) → ((x t : ℕ) → test (place.Blocked (spot.Object (object_no x)) t) ≡ false) → v < length W.units → test (S.place v) ≡ true → IsWakeable W S v
   wakes-by v test fails away declared holds = record { declared = declared; frameless = frameless-by S v test fails holds; off_locks = off-by W S v test away holds }
 
-  -- an operation that goes through
-  op-keeps : (o : Op) → IsDeclared W o → code_of W S s u o ≡ code.Ok → Keeps W Z S (op_row W S s u o)
+  -- an operation whose own tests hold
+  op-keeps : (o : Op) → IsDeclared W o → reached_code W S u o ≡ code.Ok → Keeps W Z S (op_row W S s u o)
   op-keeps op.Yield d e = keeps-wakes_only W Z S s u step (u ∷ []) (may-wake W Z S s u step, tt)
-  op-keeps (op.YieldTo v p) d e = keeps-yields_to W Z S s u step v.0 p.0 d.0 (unless-second (may_take W s p.0) (is_in_pool p.0 (S.place v.0)) code.PoolAccess code.Absent _ tt tt e)
+  op-keeps (op.YieldTo v p) d e = keeps-yields_to W Z S s u step v.0 p.0 d.0 (unless-ok (is_in_pool p.0 (S.place v.0)) code.Absent _ tt e).0
   op-keeps op.Suspend d e = keeps-suspends W Z S s u step
   op-keeps op.Exit d e = keeps-exits W Z S s u step
   op-keeps (op.Resume v) d e = keeps-wakes_only W Z S s u step (v.0 ∷ []) (wakes-by v.0 is_suspended (λ r t. refl) (λ x t. refl) d (unless-ok (is_suspended (S.place v.0)) code.UnitState code.Ok tt e).0, tt)
-  op-keeps (op.Create v p) d e = keeps-begins W Z S s u step v.0 p.0 (wakes-by v.0 is_unborn (λ r t. refl) (λ x t. refl) d.0 (unless-second (may_put W s p.0) (is_unborn (S.place v.0)) code.PoolAccess code.Exists _ tt tt e)) d.1
+  op-keeps (op.Create v p) d e = keeps-begins W Z S s u step v.0 p.0 (wakes-by v.0 is_unborn (λ r t. refl) (λ x t. refl) d.0 (unless-ok (is_unborn (S.place v.0)) code.Exists _ tt e).0) d.1
   op-keeps (op.Join v) d e = keeps-joins W Z S s u step v.0 (S.place v.0) d refl
   op-keeps (op.Cancel v) d e = keeps-cancels W Z S s u step v.0 (unless-ok (is_alive (S.place v.0)) code.UnitState code.Ok tt e).0
-  op-keeps (op.Migrate v p) d e = keeps-migrates W Z S s u step v.0 p.0 (unless-second (may_put W s p.0) (is_alive (S.place v.0)) code.PoolAccess code.UnitState _ tt tt e) d.1
+  op-keeps (op.Migrate v p) d e = keeps-migrates W Z S s u step v.0 p.0 (unless-ok (is_alive (S.place v.0)) code.UnitState _ tt e).0 d.1
   op-keeps (op.MigrateTo v r) d e =
-      keeps-migrates W Z S s u step v.0 (first_pool W r.0) (unless-second (may_put W s (first_pool W r.0)) (is_alive (S.place v.0)) code.PoolAccess code.UnitState _ tt tt e) (first_pool-declared W r.0 valid d.1)
-  op-keeps (op.Revive v p) d e = keeps-begins W Z S s u step v.0 p.0 (wakes-by v.0 is_ended (λ r t. refl) (λ x t. refl) d.0 (unless-second (may_put W s p.0) (is_ended (S.place v.0)) code.PoolAccess code.UnitState _ tt tt e)) d.1
+      keeps-migrates W Z S s u step v.0 (first_pool W r.0) (unless-ok (is_alive (S.place v.0)) code.UnitState _ tt e).0 (first_pool-declared W r.0 valid d.1)
+  op-keeps (op.Revive v p) d e = keeps-begins W Z S s u step v.0 p.0 (wakes-by v.0 is_ended (λ r t. refl) (λ x t. refl) d.0 (unless-ok (is_ended (S.place v.0)) code.UnitState _ tt e).0) d.1
   op-keeps (op.Lock x) d e = keeps-locks W Z S s u step x.0 (S.mutex x.0).owner d refl
   op-keeps (op.Unlock x) d e = keeps-hands_over W Z S s u step x.0 d
   op-keeps (op.Store x) d e = keeps-stores W Z S s u step x.0 (S.carried u).acc (unless-ok (owned_by S u x.0) code.NotOwner code.Ok tt e).0
@@ -112,7 +111,7 @@ module _ (W : Parts) (Z : List OrderShape) (S : State) (s u : ℕ) (valid : IsVa
 
   -- an operation, by its code
   row-keeps : (o : Op) (c : Code) → IsDeclared W o → code_of W S s u o ≡ c → Keeps W Z S (step_row W S s u (Some o) c)
-  row-keeps o code.Ok d e = op-keeps o d e
+  row-keeps o code.Ok d e = op-keeps o d (reached-ok W S s u o e).1
   row-keeps o c d e = refused-keeps c
 
   -- what there is at a position, by its code

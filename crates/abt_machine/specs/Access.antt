@@ -1,9 +1,12 @@
 -- Which streams may put into a pool, and which may take from it, by its declared access.
-use Rattle.std.specs.Prelude.{ℕ, ◌==◌, Bool, true}
+use Rattle.std.specs.Prelude.{ℕ, ◌==◌, ◌&&◌, Bool, true, Option, Some, None}
 use Rattle.std.specs.List.{list_all}
 use Rattle.abt_machine.specs.declared.operations.Access.{Access}
 use Rattle.abt_machine.specs.declared.operations.Access.TheVariants as access
+use Rattle.abt_machine.specs.declared.operations.Op.{Op}
+use Rattle.abt_machine.specs.declared.operations.Op.TheVariants as op
 use Rattle.abt_machine.specs.declared.workload.Parts.{Parts}
+use Rattle.abt_machine.specs.Sites.{first_pool}
 use Rattle.abt_machine.specs.Workloads.{access_of, pools_of}
 
 abbrev pub puts : Access → ℕ → Bool
@@ -31,3 +34,27 @@ may_take W s p = takes (access_of W p) s
 -- stream s may take from each pool of scheduler g
 abbrev pub may_take_all : Parts → ℕ → ℕ → Bool
 may_take_all W s g = list_all (may_take W s) (pools_of W g)
+
+-- the pool that an operation takes a unit from
+abbrev pub pool_taken : Op → Option ℕ
+pool_taken (op.YieldTo v p) = Some p.0
+pool_taken _ = None
+
+-- the pool that an operation gives a unit as its home, now or at its next look
+abbrev pub pool_given : Parts → Op → Option ℕ
+pool_given W (op.Create v p) = Some p.0
+pool_given W (op.Migrate v p) = Some p.0
+pool_given W (op.MigrateTo v r) = Some (first_pool W r.0)
+pool_given W (op.Revive v p) = Some p.0
+pool_given W _ = None
+
+-- stream s may take from the one pool and put into the other, as far as there are such
+abbrev pub may_use : Parts → ℕ → Option ℕ → Option ℕ → Bool
+may_use W s None None = true
+may_use W s (Some p) None = may_take W s p
+may_use W s None (Some q) = may_put W s q
+may_use W s (Some p) (Some q) = may_take W s p && may_put W s q
+
+-- stream s may take from the pool that an operation takes from, and put into the one that it gives
+abbrev pub may_reach : Parts → ℕ → Op → Bool
+may_reach W s a = may_use W s (pool_taken a) (pool_given W a)

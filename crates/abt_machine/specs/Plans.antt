@@ -10,7 +10,7 @@ use Rattle.abt_machine.specs.declared.operations.Op.TheVariants as op
 use Rattle.abt_machine.specs.declared.workload.Parts.{Parts}
 use Rattle.abt_machine.specs.Numbers.{unit_no}
 use Rattle.abt_machine.specs.Workloads.{condition_number}
-use Rattle.abt_machine.specs.Access.{may_put, may_take}
+use Rattle.abt_machine.specs.Access.{may_reach}
 use Rattle.abt_machine.specs.Sites.{first_pool, monitor_of}
 use Rattle.abt_machine.specs.Carrying.{added, from_key, printed, with_acc, with_key}
 use Rattle.abt_machine.specs.State.{Carried}
@@ -89,45 +89,50 @@ pub data Plan : Type 0 where
 abbrev pub denied : Owned → Plan
 denied o = Does (refusal o code.PoolAccess)
 
--- what stream s does at an operation of unit o in its hand. A unit goes with its act as it is after the step
+-- what a stream does at an operation of unit o in its hand, if it may reach the pool that the operation names. A unit goes with its
+-- act as it is after the step
+abbrev pub reached_plan : Parts → Op → Owned → Plan
+reached_plan W (op.Set n) o = Does (local (with_acc n) o)
+reached_plan W (op.Add n) o = Does (local (added n) o)
+reached_plan W (op.Say w) o = Does (local (printed (piece.Said w)) o)
+reached_plan W op.Print o = Does (local (printed (piece.Number o.carried.acc)) o)
+reached_plan W (op.KeySet k) o = Does (local (with_key k) o)
+reached_plan W (op.KeyGet k) o = Does (local (from_key k) o)
+reached_plan W op.Yield o = Does (empties (moved o ∷ []))
+reached_plan W (op.YieldTo v p) o = Calls (site.Pool p) (act.Remove v.0) (to_yielder o)
+reached_plan W op.Suspend o = Calls (site.Desk (unit_no o.number)) (act.Suspend (moved o)) to_giver
+reached_plan W op.Exit o = Exits (moved o)
+reached_plan W (op.Resume v) o = Calls (site.Desk v) act.Resume (to_caller o)
+reached_plan W (op.Create v p) o = Calls (site.Desk v) (act.Create p.0) (to_caller o)
+reached_plan W (op.Join v) o = Calls (site.Desk v) (act.Join (moved o)) to_giver
+reached_plan W (op.Cancel v) o = Calls (site.Desk v) act.AskCancel (to_caller o)
+reached_plan W (op.Migrate v p) o = Calls (site.Desk v) (act.AskMigrate p.0) (to_caller o)
+reached_plan W (op.MigrateTo v r) o = Calls (site.Desk v) (act.AskMigrate (first_pool W r.0)) (to_caller o)
+reached_plan W (op.Migratable v allowed) o = Calls (site.Desk v) (act.SetMigratable allowed) (to_caller o)
+reached_plan W (op.Revive v p) o = Calls (site.Desk v) (act.Revive p.0) (to_caller o)
+reached_plan W (op.Lock x) o = Calls (site.Monitor x) (act.Lock (moved o)) to_giver
+reached_plan W (op.TryLock x) o = Calls (site.Monitor x) (act.TryLock o.number) (to_caller o)
+reached_plan W (op.Unlock x) o = Calls (site.Monitor x) (act.Unlock o.number) (to_caller o)
+reached_plan W (op.Load x) o = Calls (site.Monitor x) (act.Load o.number) (to_caller o)
+reached_plan W (op.Store x) o = Calls (site.Monitor x) (act.Store o.number o.carried.acc) (to_caller o)
+reached_plan W (op.CondWait x) o = Calls (monitor_of W x.0) (act.Wait (condition_number W x.0) (moved o)) to_condition
+reached_plan W (op.Signal x) o = Calls (monitor_of W x.0) (act.Signal (condition_number W x.0)) (to_caller o)
+reached_plan W (op.Broadcast x) o = Calls (monitor_of W x.0) (act.Broadcast (condition_number W x.0)) (to_caller o)
+reached_plan W (op.EvWait x) o = Calls (site.Eventual x) (act.Await (moved o)) to_giver
+reached_plan W (op.EvSet x) o = Calls (site.Eventual x) (act.Fill o.carried.acc) (to_caller o)
+reached_plan W (op.EvReset x) o = Calls (site.Eventual x) act.Reset (to_caller o)
+reached_plan W (op.EvTest x) o = Calls (site.Eventual x) act.Test (to_caller o)
+reached_plan W (op.FuWait x) o = Calls (site.Future x) (act.Await (moved o)) to_giver
+reached_plan W (op.FuSet x) o = Calls (site.Future x) (act.Fill o.carried.acc) (to_caller o)
+reached_plan W (op.FuReset x) o = Calls (site.Future x) act.Reset (to_caller o)
+reached_plan W (op.FuTest x) o = Calls (site.Future x) act.Test (to_caller o)
+reached_plan W (op.BarWait x) o = Calls (site.Barrier x) (act.Arrive (moved o)) to_giver
+reached_plan W (op.ReadLock x) o = Calls (site.Rw x) (act.ReadLock (moved o)) to_giver
+reached_plan W (op.WriteLock x) o = Calls (site.Rw x) (act.WriteLock (moved o)) to_giver
+reached_plan W (op.RwUnlock x) o = Calls (site.Rw x) (act.RwUnlock o.number) (to_caller o)
+reached_plan W (op.RwLoad x) o = Calls (site.Rw x) (act.Load o.number) (to_caller o)
+reached_plan W (op.RwStore x) o = Calls (site.Rw x) (act.Store o.number o.carried.acc) (to_caller o)
+
+-- what stream s does at an operation of unit o in its hand
 abbrev pub plan_of : Parts → ℕ → Op → Owned → Plan
-plan_of W s (op.Set n) o = Does (local (with_acc n) o)
-plan_of W s (op.Add n) o = Does (local (added n) o)
-plan_of W s (op.Say w) o = Does (local (printed (piece.Said w)) o)
-plan_of W s op.Print o = Does (local (printed (piece.Number o.carried.acc)) o)
-plan_of W s (op.KeySet k) o = Does (local (with_key k) o)
-plan_of W s (op.KeyGet k) o = Does (local (from_key k) o)
-plan_of W s op.Yield o = Does (empties (moved o ∷ []))
-plan_of W s (op.YieldTo v p) o = if may_take W s p.0 then Calls (site.Pool p) (act.Remove v.0) (to_yielder o) else denied o
-plan_of W s op.Suspend o = Calls (site.Desk (unit_no o.number)) (act.Suspend (moved o)) to_giver
-plan_of W s op.Exit o = Exits (moved o)
-plan_of W s (op.Resume v) o = Calls (site.Desk v) act.Resume (to_caller o)
-plan_of W s (op.Create v p) o = if may_put W s p.0 then Calls (site.Desk v) (act.Create p.0) (to_caller o) else denied o
-plan_of W s (op.Join v) o = Calls (site.Desk v) (act.Join (moved o)) to_giver
-plan_of W s (op.Cancel v) o = Calls (site.Desk v) act.AskCancel (to_caller o)
-plan_of W s (op.Migrate v p) o = if may_put W s p.0 then Calls (site.Desk v) (act.AskMigrate p.0) (to_caller o) else denied o
-plan_of W s (op.MigrateTo v r) o = if may_put W s (first_pool W r.0) then Calls (site.Desk v) (act.AskMigrate (first_pool W r.0)) (to_caller o) else denied o
-plan_of W s (op.Migratable v allowed) o = Calls (site.Desk v) (act.SetMigratable allowed) (to_caller o)
-plan_of W s (op.Revive v p) o = if may_put W s p.0 then Calls (site.Desk v) (act.Revive p.0) (to_caller o) else denied o
-plan_of W s (op.Lock x) o = Calls (site.Monitor x) (act.Lock (moved o)) to_giver
-plan_of W s (op.TryLock x) o = Calls (site.Monitor x) (act.TryLock o.number) (to_caller o)
-plan_of W s (op.Unlock x) o = Calls (site.Monitor x) (act.Unlock o.number) (to_caller o)
-plan_of W s (op.Load x) o = Calls (site.Monitor x) (act.Load o.number) (to_caller o)
-plan_of W s (op.Store x) o = Calls (site.Monitor x) (act.Store o.number o.carried.acc) (to_caller o)
-plan_of W s (op.CondWait x) o = Calls (monitor_of W x.0) (act.Wait (condition_number W x.0) (moved o)) to_condition
-plan_of W s (op.Signal x) o = Calls (monitor_of W x.0) (act.Signal (condition_number W x.0)) (to_caller o)
-plan_of W s (op.Broadcast x) o = Calls (monitor_of W x.0) (act.Broadcast (condition_number W x.0)) (to_caller o)
-plan_of W s (op.EvWait x) o = Calls (site.Eventual x) (act.Await (moved o)) to_giver
-plan_of W s (op.EvSet x) o = Calls (site.Eventual x) (act.Fill o.carried.acc) (to_caller o)
-plan_of W s (op.EvReset x) o = Calls (site.Eventual x) act.Reset (to_caller o)
-plan_of W s (op.EvTest x) o = Calls (site.Eventual x) act.Test (to_caller o)
-plan_of W s (op.FuWait x) o = Calls (site.Future x) (act.Await (moved o)) to_giver
-plan_of W s (op.FuSet x) o = Calls (site.Future x) (act.Fill o.carried.acc) (to_caller o)
-plan_of W s (op.FuReset x) o = Calls (site.Future x) act.Reset (to_caller o)
-plan_of W s (op.FuTest x) o = Calls (site.Future x) act.Test (to_caller o)
-plan_of W s (op.BarWait x) o = Calls (site.Barrier x) (act.Arrive (moved o)) to_giver
-plan_of W s (op.ReadLock x) o = Calls (site.Rw x) (act.ReadLock (moved o)) to_giver
-plan_of W s (op.WriteLock x) o = Calls (site.Rw x) (act.WriteLock (moved o)) to_giver
-plan_of W s (op.RwUnlock x) o = Calls (site.Rw x) (act.RwUnlock o.number) (to_caller o)
-plan_of W s (op.RwLoad x) o = Calls (site.Rw x) (act.Load o.number) (to_caller o)
-plan_of W s (op.RwStore x) o = Calls (site.Rw x) (act.Store o.number o.carried.acc) (to_caller o)
+plan_of W s a o = if may_reach W s a then reached_plan W a o else denied o

@@ -1,5 +1,11 @@
 //! How a program is run, and the words that its process gives it.
 
+ghost use Rattle.std.specs.Prelude.{◌≡◌, ◌⊎◌};
+ghost use Rattle.std.specs.Fn.{FnOnceReturnsAt};
+ghost use Rattle.std.specs.Process.{exit_status};
+ghost use Rattle.abt_shell.specs.Status.{number_of_stop};
+ghost use Rattle.abt_shell.specs.declared.status.Stop.TheVariants.{BadWords, OutOfMemory};
+
 use crate::status::Stop;
 use crate::writing::stop_by;
 use abt_source::RealSink;
@@ -8,14 +14,16 @@ use std::process::ExitCode;
 use std::rt::Runtime;
 use std::{env, io};
 
-/// Runs a program of this name: a call that takes the words after the name and gives the exit status. If the words can't be had,
-/// a message is written in its place.
+/// Runs a program of this name: a call that takes the words after the name and answers the exit status, which is the program's.
+/// If the words can't be had, a message is written in its place, and the exit status is 2, or 7 if out of memory.
 pub fn run<R: Runtime + AllocGlobal, C: FnOnce(&[String]) -> u8>(
     rt: &R,
     name: &[u8],
     call: C,
 ) -> ExitCode
     requires { C.IsAlwaysCallable call }
+    ensures { ((words : _) × FnOnceReturnsAt C.FnOnce call words (exit_status result))
+        ⊎ (exit_status result ≡ number_of_stop BadWords) ⊎ (exit_status result ≡ number_of_stop OutOfMemory) }
 {
     let alloc = rt.alloc();
     let status = match words_of(rt, alloc) {

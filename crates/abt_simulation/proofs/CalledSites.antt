@@ -8,27 +8,29 @@ use Rattle.abt_machine.specs.declared.operations.Op.{Op}
 use Rattle.abt_machine.specs.declared.operations.Op.TheVariants as op
 use Rattle.abt_machine.specs.declared.operations.OrderShape.{OrderShape}
 use Rattle.abt_machine.specs.declared.workload.Parts.{Parts}
-use Rattle.abt_machine.specs.Access.{may_put, may_take}
-use Rattle.abt_machine.specs.Sites.{first_pool}
+use Rattle.abt_machine.specs.Access.{may_reach}
 use Rattle.abt_machine.specs.EventSites.{op_site, plan_site, site_at, what_site}
-use Rattle.abt_machine.specs.Values.{Owned, Held}
-use Rattle.abt_machine.specs.Plans.{Plan, Does, Calls, Exits, plan_of}
+use Rattle.abt_machine.specs.Start.{start}
+use Rattle.abt_machine.specs.Values.{Owned, Held, owned_at}
+use Rattle.abt_machine.specs.Plans.{Plan, Does, Calls, Exits, denied, plan_of, reached_plan}
 use Rattle.abt_machine.specs.Turns.{Heard, Performs, Steps}
 use Rattle.abt_simulation.specs.Simulation.{site_heard}
 
--- two plans whose sites are the same call only if the stream may reach the pool
-reached-site : (may : Bool) (called refused other denied : Plan) → plan_site called ≡ plan_site other → plan_site refused ≡ plan_site denied → plan_site (if may then called else refused) ≡ plan_site (if may then other else denied)
-reached-site true called refused other denied same e = same
-reached-site false called refused other denied same e = e
+-- the site that an operation's plan calls is the operation's, whatever its unit carries; the last line is checked for each operation
+-- by itself
+reached-site : (W : Parts) (a : Op) (o : Owned) → plan_site (reached_plan W a o) ≡ plan_site (reached_plan W a (owned_at (start W) o.number))
+reached-site W op.Yield o = refl
+reached-site W _ o = refl
 
--- the site that an operation's plan calls is the operation's, whatever its unit carries
 plan-site : (W : Parts) (s : ℕ) (a : Op) (o : Owned) → plan_site (plan_of W s a o) ≡ op_site W s o.number a
-plan-site W s (op.YieldTo v p) o = reached-site (may_take W s p.0) _ _ _ _ refl refl
-plan-site W s (op.Create v p) o = reached-site (may_put W s p.0) _ _ _ _ refl refl
-plan-site W s (op.Migrate v p) o = reached-site (may_put W s p.0) _ _ _ _ refl refl
-plan-site W s (op.MigrateTo v r) o = reached-site (may_put W s (first_pool W r.0)) _ _ _ _ refl refl
-plan-site W s (op.Revive v p) o = reached-site (may_put W s p.0) _ _ _ _ refl refl
-plan-site W s _ o = refl
+plan-site W s a o = by (may_reach W s a)
+  where
+    fresh : Owned
+    fresh = owned_at (start W) o.number
+
+    by : (may : Bool) → plan_site (if may then reached_plan W a o else denied o) ≡ plan_site (if may then reached_plan W a fresh else denied fresh)
+    by true = reached-site W a o
+    by false = refl
 
 -- what is heard comes from the site of the plan
 performs-site : (old : Held) (plan : Plan) (heard : Option Heard) (c : Code) (new : Held) → Performs old plan heard c new → site_heard heard ≡ plan_site plan
