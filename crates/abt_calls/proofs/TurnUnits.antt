@@ -140,12 +140,12 @@ events-fit W Z s old (what.Leave u) heard new valid st all have =
 -- How many units of a number a stream has.
 
 module _ (u : ℕ) where
-  part-tally : Held → ℕ
-  part-tally held = tally u (units_of held)
+  part_tally : Held → ℕ
+  part_tally held = tally u (units_of held)
 
   -- by where they are
-  parts-tally : (held : Held) → part-tally held ≡ tally u (unit_in held.hand) + tally u (unit_in held.next) + tally u held.tray + tally u held.framed
-  unfolding part-tally
+  parts-tally : (held : Held) → part_tally held ≡ tally u (unit_in held.hand) + tally u (unit_in held.next) + tally u held.tray + tally u held.framed
+  unfolding part_tally
   parts-tally held =
       let hand : List Owned = unit_in held.hand in
       let next : List Owned = unit_in held.next in
@@ -153,7 +153,7 @@ module _ (u : ℕ) where
 
   -- as many units before as afterwards
   abbrev Same : Held → Option Heard → Held → Type 0
-  Same old heard new = part-tally old + tally u (contents_heard heard).units ≡ part-tally new + tally u (contents_sent heard).units
+  Same old heard new = part_tally old + tally u (contents_heard heard).units ≡ part_tally new + tally u (contents_sent heard).units
 
   same-from : (old : Held) (heard h : Option Heard) (new held : Held) → heard ≡ h → new ≡ held → Same old h held → Same old heard new
   same-from old heard h new held is to same = subst (λ (q : Option Heard × Held). Same old q.0 q.1) (λ i. (sym is i, sym to i)) same
@@ -164,7 +164,7 @@ module _ (u : ℕ) where
   none-tally : (f : Option Owned) → f ≡ None → tally u (unit_in f) ≡ 0
   none-tally f is = ap (λ g. tally u (unit_in g)) is ∙ tally-nil u
 
-  looked-tally : (old : Held) (o : Owned) (cancel : Bool) (migrate : Option ℕ) → old.hand ≡ None → old.next ≡ Some o → part-tally old ≡ part-tally (looked old o cancel migrate)
+  looked-tally : (old : Held) (o : Owned) (cancel : Bool) (migrate : Option ℕ) → old.hand ≡ None → old.next ≡ Some o → part_tally old ≡ part_tally (looked old o cancel migrate)
   looked-tally old o true migrate none is = omega (arith, parts-tally old, parts-tally (looked old o true migrate), none-tally old.hand none, unit-tally old.next o is, tally-nil u)
   looked-tally old o false (Some p) none is =
       omega (arith, parts-tally old, parts-tally (looked old o false (Some p)), none-tally old.hand none, unit-tally old.next o is, tally-nil u, tally-append u old.tray (carrying (with_home p) o ∷ []), tally-number u (carrying (with_home p) o) o refl)
@@ -173,7 +173,7 @@ module _ (u : ℕ) where
   left-tally : (e : Effect) → tally u (units_left e) ≡ tally u (unit_in e.hand) + tally u (unit_in e.next) + tally u e.wakes
   left-tally e = let hand : List Owned = unit_in e.hand in let next : List Owned = unit_in e.next in omega (arith, tally-append u (hand ++ next) e.wakes, tally-append u hand next)
 
-  stepped-tally : (old : Held) (o : Owned) (e : Effect) → old.hand ≡ Some o → old.next ≡ None → part-tally (stepped old e) + tally u (o ∷ []) ≡ part-tally old + tally u (units_left e)
+  stepped-tally : (old : Held) (o : Owned) (e : Effect) → old.hand ≡ Some o → old.next ≡ None → part_tally (stepped old e) + tally u (o ∷ []) ≡ part_tally old + tally u (units_left e)
   stepped-tally old o e is none =
       omega (arith, parts-tally old, parts-tally (stepped old e), unit-tally old.hand o is, none-tally old.next none, left-tally e, tally-append u old.tray e.wakes)
 
@@ -220,7 +220,7 @@ module _ (u : ℕ) where
 
   events-times : (W : Parts) (Z : List OrderShape) (s : ℕ) (old : Held) (w : What) (heard : Option Heard) (new : Held) → Steps W Z s old w heard new → HoldsOne old → IsSuited heard
       → tally u (units_of old) + tally u (contents_heard heard).units ≡ tally u (units_of new) + tally u (contents_sent heard).units
-  unfolding part-tally
+  unfolding part_tally
   events-times W Z s old w heard new st one suited = events-same W Z s old w heard new st one suited
 
 pub events-keep-units : EventsKeepUnits

@@ -133,8 +133,6 @@ quiet-all W streams objects = (
   λ quiet s lt. (quiet.idle s lt, λ k d within. quiet.pools s (get_or (pools_of W (main_of W s)) k d) lt (Contains-get_or (pools_of W (main_of W s)) k d within)),
 )
 
--- Desks.
-
 -- Runs.
 
 pub runs-end : (W : Parts) (n : ℕ) (streams : List StreamValue) (objects : ObjectsValue) (o : Option Outcome) → IsValid W → EndedWith W n streams objects o → IsOutcomeOfRuns W n streams objects o

@@ -165,15 +165,12 @@ pub fn abtwaves<R: Threads + Wait + Sync, F: Files, K: Sink, E: Sink, P: Pace + 
     }) }
 {
     match prepare(rt, alloc, words, files, pace, orders) {
-        Ok(
-            Prepared {
-                journal,
-                text,
-                outcome,
-            },
-        ) => {
-            let status = write_out(NAME, out, err, &text, number_of_outcome(outcome));
-            Ended { status, journal }
+        Ok(done) => {
+            let status = write_out(NAME, out, err, &done.text, number_of_outcome(done.outcome));
+            Ended {
+                status,
+                journal: done.journal,
+            }
         }
         Err(stop) => {
             let stop = stop_by(alloc, NAME, err, stop);

@@ -1,5 +1,5 @@
 -- Which texts are workload texts, which workload each is, and why every other text is refused.
-use Rattle.std.specs.Prelude.{ℕ, zero, suc, ◌≡◌, ◌<◌, ◌==◌, ◌&&◌, if◌then◌else◌, Bool, true, false, not, IsTrue, List, [], ◌∷◌, find, fold, length, nat_lt, take, slice_index_or, Option, Some, None}
+use Rattle.std.specs.Prelude.{ℕ, zero, suc, ◌≡◌, ◌<◌, ◌==◌, ◌&&◌, if◌then◌else◌, Bool, true, false, not, List, [], ◌∷◌, find, fold, length, nat_lt, take, slice_index_or, Option, Some, None}
 use Rattle.abt_machine.specs.declared.grammar.Form.{Form}
 use Rattle.abt_machine.specs.declared.grammar.Form.TheVariants as form
 use Rattle.abt_machine.specs.declared.grammar.Format.{Format}
@@ -65,9 +65,6 @@ has_at lines i f =
 abbrev pub has_fault : Text → ℕ → Fault → Bool
 has_fault text zero f = is_too_long text f
 has_fault text (suc i) f = has_at (lines_of text) i f
-
-abbrev pub HasFault : Text → ℕ → Fault → Type 0
-HasFault text line f = IsTrue (has_fault text line f)
 
 -- the first fault of a line, in the order in which they are looked for
 abbrev pub fault_at : Text → ℕ → Option Fault

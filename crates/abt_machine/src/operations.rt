@@ -3,6 +3,7 @@
 ghost use Rattle.std.specs.Prelude.{◌≡◌};
 ghost use Rattle.abt_machine.specs.Access.{puts, takes};
 ghost use Rattle.abt_machine.specs.Operations.{may_block};
+ghost use Rattle.abt_machine.specs.Steps.{combined};
 ghost use Rattle.abt_machine.specs.Workloads.{is_condition_of, ops_of};
 
 use crate::items::Items;
@@ -65,6 +66,20 @@ pub enum Combine {
     Sum,
     Max,
     Count,
+}
+
+impl Combine {
+    /// The value of a future once one more compartment is filled, with `new`: of `old`, its value before, and `filled`, how many
+    /// compartments were filled before.
+    pub fn combined(self, old: u64, filled: u32, new: u64) -> u64
+        ensures { result ≡ combined self (record { filled = filled; value = old }) new }
+    {
+        match self {
+            Combine::Sum => old.wrapping_add(new),
+            Combine::Max => old.max(new),
+            Combine::Count => u64::from(filled) + 1,
+        }
+    }
 }
 
 /// A synchronization object. A condition has its mutex, a future its number of compartments, a barrier

@@ -180,12 +180,8 @@ impl Future {
         requires { self.old.filled ≢ self.old.size }
         ensures { self.new ≡ with_one_more value self.old }
     {
+        self.value = self.combine.combined(self.value, self.filled, value);
         self.filled += 1;
-        self.value = match self.combine {
-            Combine::Sum => self.value.wrapping_add(value),
-            Combine::Max => self.value.max(value),
-            Combine::Count => u64::from(self.filled),
-        };
     }
 }
 

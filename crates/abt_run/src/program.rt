@@ -97,15 +97,12 @@ pub fn abtrun<R: Threads + Wait + Sync, F: Files, K: Sink, E: Sink, P: Pace + Sy
     }) }
 {
     match prepare(rt, alloc, words, files, pace, orders) {
-        Ok(
-            Prepared {
-                journal,
-                text,
-                conclusion,
-            },
-        ) => {
-            let status = write_out(NAME, out, err, &text, conclusion.number());
-            Ended { status, journal }
+        Ok(done) => {
+            let status = write_out(NAME, out, err, &done.text, done.conclusion.number());
+            Ended {
+                status,
+                journal: done.journal,
+            }
         }
         Err(stop) => {
             let stop = stop_by(alloc, NAME, err, stop);

@@ -8,7 +8,7 @@ use Rattle.abt_lives.proofs.program.abtwaves.Goals as goal
 pub returns-in-Ok : goal.returns-in-Ok
 returns-in-Ok g c =
     answered _ _ (as-many _ c.args.orders.now 2 c.requires.orders)
-    (concluded (program _) _ c.in-Ok.field-0.outcome c.in-Ok.field-0.text.items _ _ c.in-Ok.ensures.done c.number_of_outcome.ensures (rw c.deref.ensures.value at c.write_out-status.ensures))
+    (concluded (program _) _ c.in-Ok.done.outcome c.in-Ok.done.text.items _ _ c.in-Ok.ensures.done c.number_of_outcome.ensures (rw c.deref.ensures.value at c.write_out-status.ensures))
 
 pub returns-in-Err : goal.returns-in-Err
 returns-in-Err g c =
