@@ -10,7 +10,7 @@ use Rattle.abt_interleave.specs.declared.entries.Entry.{Entry}
 use Rattle.abt_interleave.specs.Histories.{Extends}
 use Rattle.abt_booth.specs.declared.rule.View.{View}
 use Rattle.abt_booth.specs.declared.rule.Lot.{Lot}
-use Rattle.abt_booth.specs.Rule.{Has, Fits, Free, Held, Kept, keeper, dealt, left}
+use Rattle.abt_booth.specs.Rule.{Has, Fits, IsFree, IsHeld, Kept, keeper, dealt, left}
 use Rattle.abt_interleave.proofs.Prefixes.{extends-self}
 use Rattle.abt_booth.proofs.Places.{at-end, alone, nowhere, same-place}
 use Rattle.abt_booth.proofs.Keeps.{each-after, unique-after}
@@ -79,8 +79,8 @@ module _ {O A R : Type 0} (does : O → A → R → O → Type 0) (o : O) (n : �
             (λ (c' : get_elem? ws j' ≡ some u'). absurd (apart j' u' k l' c' h' (dealt_at u k l c.1 h)))
             (λ (c' : (j' ≡ length ws) × (dealt v ≡ u')). c.0 ∙ sym c'.0) (at-end ws (dealt v) u' j' e')) (at-end ws (dealt v) u j e);
         turn = ⊎_elim
-            (λ (t : Free does o r.log s). inl (t.0, t.1, t.2, t.3, t.4, λ j u e. false_from_ne_true u.holds (λ h. true≢false (sym h ∙ t.5 j u (quiet j u e h).1))))
-            (λ (t : Held r.log s). inr (
+            (λ (t : IsFree does o r.log s). inl (t.0, t.1, t.2, t.3, t.4, λ j u e. false_from_ne_true u.holds (λ h. true≢false (sym h ∙ t.5 j u (quiet j u e h).1))))
+            (λ (t : IsHeld r.log s). inr (
               t.0,
               t.1,
               t.2,

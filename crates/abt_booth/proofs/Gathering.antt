@@ -12,7 +12,7 @@ use Rattle.abt_booth.specs.declared.booth.Seat.{Seat}
 use Rattle.abt_interleave.specs.declared.entries.Entry.{Entry}
 use Rattle.abt_booth.specs.declared.rule.View.{View}
 use Rattle.abt_booth.specs.declared.rule.Lot.{Lot}
-use Rattle.abt_booth.specs.Rule.{KeptLot, Has, Free, Held, Kept, gathered, spent, all_known}
+use Rattle.abt_booth.specs.Rule.{KeptLot, Has, IsFree, IsHeld, Kept, gathered, spent, all_known}
 use Rattle.abt_booth.specs.Calls.{IsClosed}
 use Rattle.abt_booth.specs.Seats.{known_of, HasEachNumber, HasNumber}
 use Rattle.abt_booth.proofs.Places.{at-end, at-or, nowhere, same-place}
@@ -74,8 +74,8 @@ module _ {O A R : Type 0} (does : O → A → R → O → Type 0) (o : O) (n : �
             (λ (c' : (j' ≡ id) × (Has v k l' ⊎ Has w k l')). absurd (foreign j u k l l' c h c'.1))
             (λ (c' : Old j' u'). r.unique j j' u u' k l l' c.2 c'.2 h h') (owned j' u' k l' e' h')) (owned j u k l e h);
         turn = ⊎_elim
-            (λ (t : Free does o r.log s). inl (t.0, t.1, t.2, t.3, t.4, λ j u e. false_from_ne_true u.holds (λ h. true≢false (sym h ∙ t.5 j u (quiet j u e h)))))
-            (λ (t : Held r.log s). inr (
+            (λ (t : IsFree does o r.log s). inl (t.0, t.1, t.2, t.3, t.4, λ j u e. false_from_ne_true u.holds (λ h. true≢false (sym h ∙ t.5 j u (quiet j u e h)))))
+            (λ (t : IsHeld r.log s). inr (
               t.0,
               t.1,
               t.2,
@@ -102,7 +102,7 @@ module _ {O A R : Type 0} (does : O → A → R → O → Type 0) (o : O) (n : �
       let s = f.0 in
       let r = f.1.0 in
       let at = f.1.1 in ⊎_elim
-      (λ (t : Free does o r.log s). (
+      (λ (t : IsFree does o r.log s). (
         t.0,
         f.4 0 (Some t.0) (ap (λ (hs : List (Maybe (KeptLot O A R))). get_elem? hs 0) t.2),
         record {
@@ -114,7 +114,7 @@ module _ {O A R : Type 0} (does : O → A → R → O → Type 0) (o : O) (n : �
           seen = λ i d lt. let x = slice_index_or (all_known v) i d in (r.fits id v at x.0 x.1 (has-known v one i x (at-or (all_known v) i d lt))).2;
         },
       ))
-      (λ (t : Held r.log s).
+      (λ (t : IsHeld r.log s).
       let here = inl (le_refl t.1.number, t.5, refl) in
       let below = (r.fits t.0 t.1 t.4 t.1.number t.1.seen here).1 in
       let mine = all t.1.number below in

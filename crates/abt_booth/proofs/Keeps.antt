@@ -17,7 +17,7 @@ use Rattle.abt_booth.specs.declared.rule.View.{View}
 use Rattle.abt_booth.specs.declared.rule.Lot.{Lot}
 use Rattle.std.specs.List.{All}
 use Rattle.std.proofs.lemmas.List.Elements.{All-push}
-use Rattle.abt_booth.specs.Rule.{counting, KeptLot, TableState, SeatState, Has, Fits, Free, Held, Kept, entry_at, holding, resting, took, released, yielded}
+use Rattle.abt_booth.specs.Rule.{counting, KeptLot, TableState, SeatState, Has, Fits, IsFree, IsHeld, Kept, entry_at, holding, resting, took, released, yielded}
 use Rattle.abt_booth.proofs.Places.{index-at}
 use Rattle.abt_interleave.proofs.Prefixes.{extends-self}
 use Rattle.abt_booth.proofs.Histories.{rises-more, last-more, extends-more, leads-more}
@@ -81,7 +81,7 @@ module _ {O A R : Type 0} (does : O → A → R → O → Type 0) (o : O) (n : �
   own : (log : List (Entry A R)) (v : View O A R) → v.number < v.next → Fits o n log v → (v.opening ≡ Some o) × (v.number < n) × Extends v.number v.seen log
   own log v lt f = f v.number v.seen (inl (le_refl v.number, lt, refl))
 
-  takes-free : (slots : ℕ) (s : TableState O A R) (r : Rule s) (id : ℕ) (me : SeatState O A R) (free : ℕ) → me.0.number < me.0.next → get_elem? s.views id ≡ some me.0 → word s ≡ free → Free does o r.log s
+  takes-free : (slots : ℕ) (s : TableState O A R) (r : Rule s) (id : ℕ) (me : SeatState O A R) (free : ℕ) → me.0.number < me.0.next → get_elem? s.views id ≡ some me.0 → word s ≡ free → IsFree does o r.log s
       → (w : View O A R) × (a : Act (KeptLot O A R)) × Valid s.homes me.1 a × Rule (stepped s counting (either (eqb (word s) free) (free + 1) (word s)) id me.1 w a) × took does (step slots counting free (free + 1) none) me (word s) (w, carried_after me.1 a)
   takes-free slots s r id me free lt at hit t =
       let lot = t.0 in
@@ -122,8 +122,8 @@ module _ {O A R : Type 0} (does : O → A → R → O → Type 0) (o : O) (n : �
   pub takes-turn : (slots id : ℕ) (me : SeatState O A R) (free : ℕ) → free % 2 ≡ 0 → me.0.number < me.0.next
       → Allows Rule slots id me counting (λ r. either (eqb r free) (free + 1) r) (took does (step slots counting free (free + 1) none) me)
   takes-turn slots id me free even lt s r sized at small = let x : ℕ = word s in dite (ℕ_discrete x free)
-      (λ hit. ⊎_elim (λ (t : Free does o r.log s). takes-free slots s r id me free lt at hit t)
-      (λ (t : Held r.log s). let words = t.2 in let wd : x ≡ 2 * length r.log + 1 = (index-at s.words counting (2 * length r.log + 1) 0 words).1 in let odd : free ≡ 2 * length r.log + 1 = sym hit ∙ wd in absurd (omega arith)) r.turn)
+      (λ hit. ⊎_elim (λ (t : IsFree does o r.log s). takes-free slots s r id me free lt at hit t)
+      (λ (t : IsHeld r.log s). let words = t.2 in let wd : x ≡ 2 * length r.log + 1 = (index-at s.words counting (2 * length r.log + 1) 0 words).1 in let odd : free ≡ 2 * length r.log + 1 = sym hit ∙ wd in absurd (omega arith)) r.turn)
       (λ miss. (me.0, keeps, tt, unmoved s id me.0 (either (eqb x free) (free + 1) x) (ap (λ b. either b (free + 1) x) (ne_eqb x free miss)) at r, ((λ hit. absurd (miss hit)), λ _. refl)))
 
   -- no view of a free table holds the turn, if the seat's view held it and holds it no more
@@ -135,7 +135,7 @@ module _ {O A R : Type 0} (does : O → A → R → O → Type 0) (o : O) (n : �
 
   releases-held : (slots : ℕ) (s : TableState O A R) (r : Rule s) (id : ℕ) (v : View O A R) (m ob : O) (clock : ℕ) (x : Snapshot A × Snapshot R) (call : Snapshot (Option (Snapshot A × Snapshot R))) (new : ℕ)
       → v.holds ≡ true → v.number < v.next → v.taken ≡ [] → Leads does o v.seen m → does m x.0.value x.1.value ob → last_stamp (entry_stamps v.seen) < clock → clock ≤ 2 ^ 62 → new ≡ 2 * length v.seen + 2 → get_elem? s.views id ≡ some v
-      → Held r.log s
+      → IsHeld r.log s
       → let lot : Lot O A R = record { object = ob; clock = clock; last = call } in Rule (stepped s counting new id ((0, Some lot) ∷ []) (resting v (v.seen ++ entry_at v.number clock (Some x))) gives)
   releases-held slots s r id v m ob clock x call new hv lt tk leads done later cap is at t =
       let lot : Lot O A R = record { object = ob; clock = clock; last = call } in
@@ -178,13 +178,13 @@ module _ {O A R : Type 0} (does : O → A → R → O → Type 0) (o : O) (n : �
         resting v (v.seen ++ entry_at v.number clock (Some x)),
         gives,
         tt,
-        ⊎_elim (λ (t : Free does o r.log s). absurd (true≢false (sym hv ∙ t.5 id v at))) (λ (t : Held r.log s). releases-held slots s r id v m ob clock x call new hv lt tk leads done later cap is at t) r.turn,
+        ⊎_elim (λ (t : IsFree does o r.log s). absurd (true≢false (sym hv ∙ t.5 id v at))) (λ (t : IsHeld r.log s). releases-held slots s r id v m ob clock x call new hv lt tk leads done later cap is at t) r.turn,
         ap (λ (c : Option (Snapshot A × Snapshot R)). (resting v (v.seen ++ entry_at v.number clock c), rest ((0, Some lot) ∷ []))) (sym noted),
       )
 
   yields-held : (slots : ℕ) (s : TableState O A R) (r : Rule s) (id : ℕ) (v : View O A R) (lot : Lot O A R) (new : ℕ)
       → v.holds ≡ true → Leads does o v.seen lot.object → lot.clock ≡ last_stamp (entry_stamps v.seen) → new ≡ 2 * length v.seen → get_elem? s.views id ≡ some v
-      → Held r.log s → Rule (stepped s counting new id ((0, Some lot) ∷ []) (resting v v.seen) gives)
+      → IsHeld r.log s → Rule (stepped s counting new id ((0, Some lot) ∷ []) (resting v v.seen) gives)
   yields-held slots s r id v lot new hv leads clock is at t =
       let only = t.7 in
       let sl : v.seen ≡ r.log = (only id v at hv).1 in
@@ -213,6 +213,6 @@ module _ {O A R : Type 0} (does : O → A → R → O → Type 0) (o : O) (n : �
     resting v v.seen,
     gives,
     tt,
-    ⊎_elim (λ (t : Free does o r.log s). absurd (true≢false (sym hv ∙ t.5 id v at))) (λ (t : Held r.log s). yields-held slots s r id v lot new hv leads clock is at t) r.turn,
+    ⊎_elim (λ (t : IsFree does o r.log s). absurd (true≢false (sym hv ∙ t.5 id v at))) (λ (t : IsHeld r.log s). yields-held slots s r id v lot new hv leads clock is at t) r.turn,
     refl,
   )

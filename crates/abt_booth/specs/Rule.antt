@@ -63,13 +63,13 @@ module _ {O A R : Type 0} where
   Fits o n log v = (k : ℕ) (l : List (Entry A R)) → Has v k l → (v.opening ≡ Some o) × (k < n) × Extends k l log
 
   -- the turn is free: the word is twice the calls made, the slot has the object that the log leads to, and no view holds the turn
-  abbrev pub Free : (O → A → R → O → Type 0) → O → List (Entry A R) → TableState O A R → Type 0
-  Free does o log s = (lot : Lot O A R) × Counts s (2 * length log) × (s.homes ≡ m.some (Some lot) ∷ []) × Leads does o log lot.object × (lot.clock ≡ last_stamp (entry_stamps log))
+  abbrev pub IsFree : (O → A → R → O → Type 0) → O → List (Entry A R) → TableState O A R → Type 0
+  IsFree does o log s = (lot : Lot O A R) × Counts s (2 * length log) × (s.homes ≡ m.some (Some lot) ∷ []) × Leads does o log lot.object × (lot.clock ≡ last_stamp (entry_stamps log))
       × ((j : ℕ) (v : View O A R) → get_elem? s.views j ≡ m.some v → v.holds ≡ false)
 
   -- the turn is held: the word is one more, the slot is out, and one live view holds the turn, which has seen the log
-  abbrev pub Held : List (Entry A R) → TableState O A R → Type 0
-  Held log s = (holder : ℕ) × (who : View O A R) × Counts s (2 * length log + 1) × (s.homes ≡ m.none ∷ []) × (get_elem? s.views holder ≡ m.some who) × (who.number < who.next) × (who.holds ≡ true)
+  abbrev pub IsHeld : List (Entry A R) → TableState O A R → Type 0
+  IsHeld log s = (holder : ℕ) × (who : View O A R) × Counts s (2 * length log + 1) × (s.homes ≡ m.none ∷ []) × (get_elem? s.views holder ≡ m.some who) × (who.number < who.next) × (who.holds ≡ true)
       × ((j : ℕ) (v : View O A R) → get_elem? s.views j ≡ m.some v → v.holds ≡ true → (j ≡ holder) × (v.seen ≡ log))
 
   -- The rule. The log is the one history: its stamps rise from above 0 to at most 2^62, each call is of a number below n, and no number is with two views.
@@ -80,7 +80,7 @@ module _ {O A R : Type 0} where
     pub known : All (λ e. e.caller < n) log
     pub fits : (j : ℕ) (v : View O A R) → get_elem? s.views j ≡ m.some v → Fits o n log v
     pub unique : (j j' : ℕ) (v v' : View O A R) (k : ℕ) (l l' : List (Entry A R)) → get_elem? s.views j ≡ m.some v → get_elem? s.views j' ≡ m.some v' → Has v k l → Has v' k l' → j ≡ j'
-    pub turn : Free does o log s ⊎ Held log s
+    pub turn : IsFree does o log s ⊎ IsHeld log s
 
   -- the view with the turn, and a new list seen
   abbrev pub holding : View O A R → List (Entry A R) → View O A R

@@ -16,8 +16,8 @@ use Rattle.abt_callbacks.specs.declared.acts.FutureAct.TheVariants.{Set, Read, R
 use Rattle.abt_callbacks.specs.declared.acts.FutureAnswer.{FutureAnswer}
 use Rattle.abt_callbacks.specs.declared.acts.FutureAnswer.TheVariants.{Kept, Ready, Vacant, Full}
 use Rattle.abt_callbacks.specs.Folding.{Folds}
-use Rattle.abt_callbacks.specs.Futures.{Does, Future, empty, with_answer, with_value}
-use Rattle.abt_callbacks.specs.Runs.{is_ready, numbers_of, plain_sum, sets_of, IsFolded}
+use Rattle.abt_callbacks.specs.Futures.{Does, CalledFutureValue, empty, with_answer, with_value}
+use Rattle.abt_callbacks.specs.Runs.{is_ready, numbers_for, plain_sum, sets_of, IsFolded}
 use Rattle.abt_callbacks.proofs.Numbers.{sets-count, value_of, values-sum}
 
 -- what leads a future on leads on what is seen of it
@@ -32,7 +32,7 @@ IsSet Read = ⊥
 IsSet Reset = ⊥
 
 -- the last value is answered with the fold's answer
-last-set : (o m : Future) (act : FutureAct) (answer : FutureAnswer) → Does o act answer m → IsSet act → length o.values + 1 ≡ o.most
+last-set : (o m : CalledFutureValue) (act : FutureAct) (answer : FutureAnswer) → Does o act answer m → IsSet act → length o.values + 1 ≡ o.most
     → (r : ℕ) × (answer ≡ Ready r) × (m ≡ with_answer o (value_of act) r) × Folds o.shape (o.values ++ value_of act ∷ []) r
 last-set o m (Set v) Kept does set last = absurd (let lt = does.0 in omega arith)
 last-set o m (Set v) (Ready r) does set last = (r, refl, does.2, does.1)
@@ -42,7 +42,7 @@ last-set o m Read answer does set last = absurd set
 last-set o m Reset answer does set last = absurd set
 
 -- each value before it is kept
-early-set : (o m : Future) (act : FutureAct) (answer : FutureAnswer) → Does o act answer m → IsSet act → length o.values + 1 < o.most → (answer ≡ Kept) × (m ≡ with_value o (value_of act))
+early-set : (o m : CalledFutureValue) (act : FutureAct) (answer : FutureAnswer) → Does o act answer m → IsSet act → length o.values + 1 < o.most → (answer ≡ Kept) × (m ≡ with_value o (value_of act))
 early-set o m (Set v) Kept does set early = (refl, does.1)
 early-set o m (Set v) (Ready r) does set early = absurd (let last = does.0 in omega arith)
 early-set o m (Set v) Vacant does set early = absurd does
@@ -55,7 +55,7 @@ abbrev pub values_in : List (Entry FutureAct FutureAnswer) → List ℕ
 values_in h = map (λ e. value_of e.act) h
 
 -- as many sets as a future wants: exactly one is answered with the fold's answer over all values, which is kept
-pub sets-fold : (o : Future) (h : List (Entry FutureAct FutureAnswer)) (o' : Future) → Leads Does o h o' → All (λ e. IsSet e.act) h → 0 < length h → length o.values + length h ≡ o.most
+pub sets-fold : (o : CalledFutureValue) (h : List (Entry FutureAct FutureAnswer)) (o' : CalledFutureValue) → Leads Does o h o' → All (λ e. IsSet e.act) h → 0 < length h → length o.values + length h ≡ o.most
     → (r : ℕ) × (o'.answer ≡ Some r) × Folds o.shape (o.values ++ values_in h) r × (count_by (λ e. is_ready e.answer) h ≡ 1)
 sets-fold o [] o' leads sets some many = absurd (omega arith)
 sets-fold o (e ∷ []) o' leads sets some many =
@@ -80,7 +80,7 @@ small-sum n few = let m : n * (n + 1) ≤ 4096 * 4097 = mul-le-mul {n₂ = 4096}
 
 module _ (workers n : ℕ) (some : 0 < workers) (numbers : (1 ≤ n) × (n ≤ 4096)) where
   -- what a closed booth round a future is left with, if each seat was to set its numbers
-  pub folded-whole : {O : Type 0} (see : O → Future) (opening object : O) (known : List (ℕ × List (Entry FutureAct FutureAnswer))) (clock : ℕ) → see opening ≡ empty Sum n
+  pub folded-whole : {O : Type 0} (see : O → CalledFutureValue) (opening object : O) (known : List (ℕ × List (Entry FutureAct FutureAnswer))) (clock : ℕ) → see opening ≡ empty Sum n
       → (closed : IsClosed (λ old act answer new. Does (see old) act answer (see new)) opening workers known object clock)
       → ((k : ℕ) → k < workers → HasAsked k (sets_of workers n k) closed.history) → IsFolded workers n (see object) clock
   folded-whole see opening object known clock is closed asked =
@@ -92,7 +92,7 @@ module _ (workers n : ℕ) (some : 0 < workers) (numbers : (1 ≤ n) × (n ≤ 4
       let all = wholly-asked workers acts h closed.of_seats asked (omega arith) in
       let count = calls-count workers acts h closed.of_seats asked all in
       let all_sets : All (λ (e : E). IsSet e.act) h = all-of-classes (λ (e : E). e.caller) (λ e. IsSet e.act) workers h closed.of_seats
-      (λ k lt. let b = (asked k lt).begun in acts-hold IsSet (calls_of k h) b.0 (subst (All IsSet) (sym b.1) (All-map IsSet Set (numbers_of workers n k) (λ _ _ _. tt)))) in
+      (λ k lt. let b = (asked k lt).begun in acts-hold IsSet (calls_of k h) b.0 (subst (All IsSet) (sym b.1) (All-map IsSet Set (numbers_for workers n k) (λ _ _ _. tt)))) in
       let leads : Leads Does (empty Sum n) h (see object) = subst (λ o. Leads Does o h (see object)) is (leads-seen see Does opening h object closed.legal.1) in
       let least = numbers.0 in
       let f = sets-fold (empty Sum n) h (see object) leads all_sets (omega arith) (omega arith) in

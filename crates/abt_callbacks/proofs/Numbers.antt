@@ -8,7 +8,7 @@ use Rattle.std.proofs.lemmas.List.FromFn.{length-range_with_len}
 use Rattle.std.proofs.lemmas.List.Sums.{sum_by_push}
 use Rattle.abt_callbacks.specs.declared.acts.FutureAct.{FutureAct}
 use Rattle.abt_callbacks.specs.declared.acts.FutureAct.TheVariants.{Set, Read, Reset}
-use Rattle.abt_callbacks.specs.Runs.{numbers_of, plain_sum, sets_of}
+use Rattle.abt_callbacks.specs.Runs.{numbers_for, plain_sum, sets_of}
 use Rattle.booth_caller.proofs.Calling.{same-sums, sum_below, sum_by-of_map, sum_by-one, sum-of-classes}
 
 -- the number that an act sets
@@ -37,7 +37,7 @@ module _ (workers n worker : ℕ) where
       let plus : n + 1 ≡ suc n = omega arith in
       let all : range_with_len 1 (n + 1) ≡ range_with_len 1 n ++ (n + 1) ∷ [] = ap (range_with_len 1) plus ∙ (range-more 1 n ∙ ap (λ x. range_with_len 1 n ++ x ∷ []) next) in
       ap (map Set) (ap (filter p) all ∙ (filter-append p (range_with_len 1 n) ((n + 1) ∷ []) ∙ ap (λ l. filter p (range_with_len 1 n) ++ l) one))
-      ∙ (map-append Set (numbers_of workers n worker) (cond b ((n + 1) ∷ []) []) ∙ ap (λ l. sets_of workers n worker ++ l) (mapped b))
+      ∙ (map-append Set (numbers_for workers n worker) (cond b ((n + 1) ∷ []) []) ∙ ap (λ l. sets_of workers n worker ++ l) (mapped b))
 
   -- a number of the worker's
   pub sets-hit : (n + 1) % workers ≡ worker → sets_of workers n worker ++ Set (n + 1) ∷ [] ≡ sets_of workers (n + 1) worker
@@ -63,17 +63,17 @@ module _ (workers n : ℕ) (some : 0 < workers) where
   each-in k d lt = omega arith
 
   -- what f makes of the numbers of all workers
-  pub shares : (f : ℕ → ℕ) → sum_below (λ k. sum_by f (numbers_of workers n k)) workers ≡ sum_by f (range_with_len 1 n)
+  pub shares : (f : ℕ → ℕ) → sum_below (λ k. sum_by f (numbers_for workers n k)) workers ≡ sum_by f (range_with_len 1 n)
   shares f = sym (sum-of-classes (λ v. v % workers) f workers (range_with_len 1 n) each-in)
 
   -- together the workers have n numbers
   pub sets-count : sum_below (λ k. length (sets_of workers n k)) workers ≡ n
   sets-count =
-      same-sums (λ k. length (sets_of workers n k)) (λ k. sum_by (λ x. 1) (numbers_of workers n k)) workers (λ k lt. length-map (numbers_of workers n k) Set ∙ sym (sum_by-one (numbers_of workers n k)))
+      same-sums (λ k. length (sets_of workers n k)) (λ k. sum_by (λ x. 1) (numbers_for workers n k)) workers (λ k lt. length-map (numbers_for workers n k) Set ∙ sym (sum_by-one (numbers_for workers n k)))
       ∙ (shares (λ x. 1) ∙ (sum_by-one (range_with_len 1 n) ∙ length-range_with_len 1 n))
 
   -- and these add up to the plain sum
   pub values-sum : sum_below (λ k. sum_by value_of (sets_of workers n k)) workers ≡ plain_sum n
   values-sum =
-      let all = same-sums (λ k. sum_by value_of (sets_of workers n k)) (λ k. sum_by (λ x. x) (numbers_of workers n k)) workers (λ k lt. sum_by-of_map value_of Set (numbers_of workers n k)) ∙ shares (λ x. x) in
+      let all = same-sums (λ k. sum_by value_of (sets_of workers n k)) (λ k. sum_by (λ x. x) (numbers_for workers n k)) workers (λ k lt. sum_by-of_map value_of Set (numbers_for workers n k)) ∙ shares (λ x. x) in
       let twice = gauss n in omega arith

@@ -9,15 +9,15 @@ use Rattle.abt_callbacks.specs.declared.acts.FutureAct.{FutureAct}
 use Rattle.abt_callbacks.specs.declared.acts.FutureAct.TheVariants.{Set}
 use Rattle.abt_callbacks.specs.declared.acts.FutureAnswer.{FutureAnswer}
 use Rattle.abt_callbacks.specs.declared.acts.FutureAnswer.TheVariants.{Kept, Ready, Vacant, Full}
-use Rattle.abt_callbacks.specs.Futures.{Does, Future, empty}
+use Rattle.abt_callbacks.specs.Futures.{Does, CalledFutureValue, empty}
 
 -- the numbers of one worker: those from 1 to n whose remainder is the worker's number, rising
-abbrev pub numbers_of : ℕ → ℕ → ℕ → List ℕ
-numbers_of workers n worker = filter (λ v. v % workers == worker) (range_with_len 1 n)
+abbrev pub numbers_for : ℕ → ℕ → ℕ → List ℕ
+numbers_for workers n worker = filter (λ v. v % workers == worker) (range_with_len 1 n)
 
 -- the acts by which it sets them
 abbrev pub sets_of : ℕ → ℕ → ℕ → List FutureAct
-sets_of workers n worker = map Set (numbers_of workers n worker)
+sets_of workers n worker = map Set (numbers_for workers n worker)
 
 -- the answer is the fold's
 abbrev pub is_ready : FutureAnswer → Bool
@@ -32,7 +32,7 @@ plain_sum n = n * (n + 1) / 2
 
 -- One legal history leads from the empty future to this one: each worker set its numbers, each once, in order, and nothing else was asked; exactly one
 -- set was answered with the fold's answer; and the future keeps the plain sum.
-pub record IsFolded (workers n : ℕ) (future : Future) (clock : ℕ) : Type 0 where
+pub record IsFolded (workers n : ℕ) (future : CalledFutureValue) (clock : ℕ) : Type 0 where
   pub history : List (Entry FutureAct FutureAnswer)
   pub legal : Legal Does (empty Sum n) history future
   pub last : clock ≡ last_stamp (entry_stamps history)

@@ -18,7 +18,7 @@ use Rattle.abt_machine.specs.Turns.{side_by}
 use Rattle.abt_machine.proofs.Declared.{op-declared}
 use Rattle.abt_unit.specs.Fits.{Fits}
 use Rattle.abt_unit.proofs.Fitting.{Fits-moved}
-use Rattle.abt_chain.specs.Keeping.{Contents, Have, IsPoolOf, contents_asked, nothing}
+use Rattle.abt_chain.specs.Keeping.{Contents, Have, IsPoolOf, contents_asked, no_contents}
 use Rattle.abt_calls.specs.Asking.{MayCall, PlansMayCall, TakesMayCall, PutsMayCall, LooksMayCall, EndsMayCall}
 use Rattle.abt_calls.proofs.Shapes.{Calling, Facts, Shape, by-shape, nothing-comes, plan_by, unit-comes}
 use Rattle.abt_calls.proofs.SiteCalls.{MayAsk, may-at}
@@ -40,7 +40,7 @@ may-ask W s a o x asked brings valid number is plan = by-shape W s a o (MayPlan 
 -- what comes with the call of a plan
 abbrev comes_with : Plan → Contents
 comes_with (Calls x asked brings) = contents_asked asked
-comes_with _ = nothing
+comes_with _ = no_contents
 
 -- what comes with the call of a unit's operation is the workload's
 shape-comes : (W : Parts) (a : Op) (o : Owned) → IsValid W → Fits W (moved o) → IsDeclared W a → (shape : Shape) → Facts W a o shape

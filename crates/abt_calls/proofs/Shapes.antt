@@ -26,7 +26,7 @@ use Rattle.abt_machine.specs.Desks.{takes_back}
 use Rattle.abt_machine.specs.Plans.{Effect, Plan, Does, Calls, Exits, denied, empties, local, plan_of, to_caller, to_condition, to_giver, to_yielder, reached_plan}
 use Rattle.abt_machine.proofs.Declared.{first_pool-declared, mutex-declared}
 use Rattle.abt_unit.specs.Fits.{Fits}
-use Rattle.abt_chain.specs.Keeping.{Contents, Have, IsPoolOf, contents_asked, nothing, only_pool, only_unit}
+use Rattle.abt_chain.specs.Keeping.{Contents, Have, IsPoolOf, contents_asked, no_contents, only_pool, only_unit}
 use Rattle.abt_chain.proofs.Kept.{Have-nothing, Have-pool, Have-unit}
 use Rattle.abt_calls.specs.Allowed.{DeskAllows}
 use Rattle.abt_calls.specs.Asking.{IsSite}
@@ -104,7 +104,7 @@ first-placed W (Some f) is = named-placed W f.0 f.1 is
 
 -- Contents.
 
-pub nothing-comes : (W : Parts) → Have (Fits W) (IsPoolOf W) nothing
+pub nothing-comes : (W : Parts) → Have (Fits W) (IsPoolOf W) no_contents
 nothing-comes W = Have-nothing (Fits W) (IsPoolOf W)
 
 pub unit-comes : (W : Parts) (o : Owned) → Fits W o → Have (Fits W) (IsPoolOf W) (only_unit o)
@@ -131,10 +131,10 @@ brought Yielder o = to_yielder o
 
 -- the unit, if it goes with the act
 abbrev pub gone : Asker → Owned → Contents
-gone Caller o = nothing
+gone Caller o = no_contents
 gone Giver o = only_unit (moved o)
 gone Waiter o = only_unit (moved o)
-gone Yielder o = nothing
+gone Yielder o = no_contents
 
 -- answers that the act never gets, by which a unit would be lost or be there twice; of a giver also that no code comes to it, so that
 -- callers and givers have two facts each

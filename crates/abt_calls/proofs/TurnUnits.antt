@@ -22,7 +22,7 @@ use Rattle.abt_unit.proofs.Fitting.{Fits-with_home}
 use Rattle.abt_chain.specs.Keeping.{Have, IsPoolOf, contents_answered, pools_in}
 use Rattle.abt_machine.proofs.Elements.{All-left, All-right}
 use Rattle.abt_calls.specs.Effects.{unit_in, units_left}
-use Rattle.abt_calls.specs.Holders.{units_of}
+use Rattle.abt_calls.specs.Holders.{units_held}
 use Rattle.abt_calls.specs.Suits.{Suits}
 use Rattle.abt_calls.specs.Streams.{EventsFit, EventsKeepUnits, HoldsOne, IsSuited, contents_heard, contents_sent}
 use Rattle.abt_calls.proofs.EffectsKept.{effect-even, exit-number, own-step-even}
@@ -38,7 +38,7 @@ record Each (F : Owned → Type 0) (held : Held) : Type 0 where
   tray : All F held.tray
   framed : All F held.framed
 
-each-of : (F : Owned → Type 0) (held : Held) → All F (units_of held) → Each F held
+each-of : (F : Owned → Type 0) (held : Held) → All F (units_held held) → Each F held
 each-of F held all =
     let hand : List Owned = unit_in held.hand in
     let next : List Owned = unit_in held.next in
@@ -51,7 +51,7 @@ each-of F held all =
       framed = All-right F (hand ++ next ++ held.tray) held.framed all;
     }
 
-all-of : (F : Owned → Type 0) (held : Held) → Each F held → All F (units_of held)
+all-of : (F : Owned → Type 0) (held : Held) → Each F held → All F (units_held held)
 all-of F held each =
     let hand : List Owned = unit_in held.hand in
     let next : List Owned = unit_in held.next in
@@ -72,8 +72,8 @@ module _ (W : Parts) where
   come : (heard : Option Heard) (h : Heard) → heard ≡ Some h → Have IsFit (IsPoolOf W) (contents_heard heard) → Have IsFit (IsPoolOf W) (contents_answered h.2)
   come heard h is have = subst (λ g. Have IsFit (IsPoolOf W) (contents_heard g)) is have
 
-  becomes : (new held : Held) → new ≡ held → Each IsFit held → All IsFit (units_of new)
-  becomes new held is each = subst (λ h. All IsFit (units_of h)) (sym is) (all-of IsFit held each)
+  becomes : (new held : Held) → new ≡ held → Each IsFit held → All IsFit (units_held new)
+  becomes new held is each = subst (λ h. All IsFit (units_held h)) (sym is) (all-of IsFit held each)
 
   looked-fits : (old : Held) (o : Owned) (cancel : Bool) (migrate : Option ℕ) → Each IsFit old → Fits W o → All (IsPoolOf W) (pools_in migrate) → Each IsFit (looked old o cancel migrate)
   looked-fits old o true migrate each fits pools = record { hand = one-fits o fits; next = All-nil IsFit; tray = each.tray; framed = each.framed }
@@ -101,7 +101,7 @@ module _ (W : Parts) where
   exited-fits old b each fits = record { hand = one-fits b fits; next = All-nil IsFit; tray = each.tray; framed = each.framed }
 
   performs-fits : (s : ℕ) (old : Held) (a : Op) (o : Owned) (plan : Plan) (heard : Option Heard) (c : Code) (new : Held) → plan_of W s a o ≡ plan → IsValid W → Fits W o → op_at W o.number o.carried.position ≡ Some a
-      → Each IsFit old → Have IsFit (IsPoolOf W) (contents_heard heard) → Performs old plan heard c new → All IsFit (units_of new)
+      → Each IsFit old → Have IsFit (IsPoolOf W) (contents_heard heard) → Performs old plan heard c new → All IsFit (units_held new)
   performs-fits s old a o (Does e) heard c new plan valid fits is each have st = becomes new (stepped old e) st.2 (stepped-fits old e each (own-steps-fit W s a o e valid fits is plan))
   performs-fits s old a o (Calls x asked brings) heard c new plan valid fits is each have st =
       becomes new (stepped old (brings st.0)) st.3 (stepped-fits old (brings st.0) each (effects-fit W s a o x asked brings st.0 fits is plan (come heard (x, asked, st.0) st.1 have).0))
@@ -141,7 +141,7 @@ events-fit W Z s old (what.Leave u) heard new valid st all have =
 
 module _ (u : ℕ) where
   part_tally : Held → ℕ
-  part_tally held = tally u (units_of held)
+  part_tally held = tally u (units_held held)
 
   -- by where they are
   parts-tally : (held : Held) → part_tally held ≡ tally u (unit_in held.hand) + tally u (unit_in held.next) + tally u held.tray + tally u held.framed
@@ -219,10 +219,10 @@ module _ (u : ℕ) where
       (omega (arith, parts-tally old, parts-tally (record old { own = left old.own; hand = Some st.1; framed = st.2 }), e, none-tally old.hand (hand-none W s old LeaveDue st.0 tt), tally-append u st.2 (st.1 ∷ []), tally-nil u))
 
   events-times : (W : Parts) (Z : List OrderShape) (s : ℕ) (old : Held) (w : What) (heard : Option Heard) (new : Held) → Steps W Z s old w heard new → HoldsOne old → IsSuited heard
-      → tally u (units_of old) + tally u (contents_heard heard).units ≡ tally u (units_of new) + tally u (contents_sent heard).units
+      → tally u (units_held old) + tally u (contents_heard heard).units ≡ tally u (units_held new) + tally u (contents_sent heard).units
   unfolding part_tally
   events-times W Z s old w heard new st one suited = events-same W Z s old w heard new st one suited
 
 pub events-keep-units : EventsKeepUnits
 events-keep-units W Z s old w heard new st one suited u =
-    times-from u (units_of old) (contents_heard heard).units (units_of new) (contents_sent heard).units (events-times u W Z s old w heard new st one suited)
+    times-from u (units_held old) (contents_heard heard).units (units_held new) (contents_sent heard).units (events-times u W Z s old w heard new st one suited)

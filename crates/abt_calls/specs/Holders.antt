@@ -18,12 +18,12 @@ IsHolder W (OfStream s) = s < W.streams
 IsHolder W (OfSite x) = IsSite W x
 
 -- the units that a stream has
-abbrev pub units_of : Held → List Owned
-units_of held = unit_in held.hand ++ unit_in held.next ++ held.tray ++ held.framed
+abbrev pub units_held : Held → List Owned
+units_held held = unit_in held.hand ++ unit_in held.next ++ held.tray ++ held.framed
 
 -- the units that a stream or an object holds in a state
 abbrev pub units_with : Parts → State → Holder → List Owned
-units_with W S (OfStream s) = units_of (part_of W S s)
+units_with W S (OfStream s) = units_held (part_of W S s)
 units_with W S (OfSite x) = (contents_of (object_of W S x)).units
 
 -- in state S unit u is held once, by a declared stream or object, the one of its place

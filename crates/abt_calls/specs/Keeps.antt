@@ -12,7 +12,7 @@ use Rattle.abt_machine.specs.Acts.{Act, Answer}
 use Rattle.abt_machine.specs.Plans.{Effect, Does, Calls, plan_of}
 use Rattle.abt_machine.specs.Gives.{SiteGives}
 use Rattle.abt_unit.specs.Fits.{Fits}
-use Rattle.abt_chain.specs.Keeping.{Contents, Have, IsPoolOf, KeepsWhatFits, contents_answered, nothing}
+use Rattle.abt_chain.specs.Keeping.{Contents, Have, IsPoolOf, KeepsWhatFits, contents_answered, no_contents}
 use Rattle.abt_pool.specs.Keeps.{contents_of_pool}
 use Rattle.abt_desk.specs.Keeps.{contents_of_desk}
 use Rattle.abt_monitor.specs.Keeps.{contents_of_monitor}
@@ -31,7 +31,7 @@ contents_of (EventualIs e) = contents_of_eventual e
 contents_of (FutureIs f) = contents_of_future f
 contents_of (BarrierIs b) = contents_of_barrier b
 contents_of (RwLockIs l) = contents_of_rwlock l
-contents_of NotHere = nothing
+contents_of NotHere = no_contents
 
 -- an object of any kind keeps what fits a workload, if all that comes in fits it
 abbrev pub ObjectsKeepWhatFits : Type 0

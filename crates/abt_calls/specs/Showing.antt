@@ -11,7 +11,7 @@ use Rattle.abt_machine.specs.State.{State}
 use Rattle.abt_machine.specs.Texts.{shown}
 use Rattle.abt_machine.specs.Values.{Owned, owned_at, Held, Phase, Unborn, Out, Suspended, Ended, Object, PoolIs, DeskIs, MonitorIs, EventualIs, FutureIs, BarrierIs, RwLockIs, conditions_of, object_of, part_of}
 use Rattle.abt_laws.specs.Footprint.{Holder, OfStream, OfSite}
-use Rattle.abt_calls.specs.Holders.{units_of, units_with}
+use Rattle.abt_calls.specs.Holders.{units_held, units_with}
 
 -- a unit, and what is shown of its place
 abbrev pub Row : Type 0
@@ -46,7 +46,7 @@ rows_of_object W x object = []
 
 -- of stream s
 abbrev pub rows_of_part : ℕ → Held → List Row
-rows_of_part s held = rows_as (shows.Stream (stream_no s)) (units_of held)
+rows_of_part s held = rows_as (shows.Stream (stream_no s)) (units_held held)
 
 -- of what a stream or an object holds in a state
 abbrev pub rows_with : Parts → State → Holder → List Row

@@ -10,8 +10,8 @@ use Rattle.abt_machine.specs.Sound.{Sound}
 use Rattle.abt_machine.specs.Values.{Held, part_of}
 use Rattle.abt_machine.specs.Turns.{Heard, Steps}
 use Rattle.abt_unit.specs.Fits.{Fits}
-use Rattle.abt_chain.specs.Keeping.{Contents, Have, IsPoolOf, contents_answered, contents_asked, nothing}
-use Rattle.abt_calls.specs.Holders.{units_of}
+use Rattle.abt_chain.specs.Keeping.{Contents, Have, IsPoolOf, contents_answered, contents_asked, no_contents}
+use Rattle.abt_calls.specs.Holders.{units_held}
 use Rattle.abt_calls.specs.Suits.{Suits}
 use Rattle.abt_calls.specs.Units.{KeepsEach}
 
@@ -21,12 +21,12 @@ HoldsOne held = (held.hand ≡ None) ⊎ (held.next ≡ None)
 
 -- what went with the call that was made, if one was
 abbrev pub contents_sent : Option Heard → Contents
-contents_sent None = nothing
+contents_sent None = no_contents
 contents_sent (Some h) = contents_asked h.1
 
 -- what came of it
 abbrev pub contents_heard : Option Heard → Contents
-contents_heard None = nothing
+contents_heard None = no_contents
 contents_heard (Some h) = contents_answered h.2
 
 -- its answer suits its act
@@ -48,12 +48,12 @@ EventsHoldOne =
 abbrev pub EventsFit : Type 0
 EventsFit =
     (W : Parts) (Z : List OrderShape) (s : ℕ) (old : Held) (what : What) (heard : Option Heard) (new : Held)
-    → IsValid W → Steps W Z s old what heard new → All (Fits W) (units_of old) → Have (Fits W) (IsPoolOf W) (contents_heard heard)
-    → All (Fits W) (units_of new)
+    → IsValid W → Steps W Z s old what heard new → All (Fits W) (units_held old) → Have (Fits W) (IsPoolOf W) (contents_heard heard)
+    → All (Fits W) (units_held new)
 
 -- a stream has the units that it had and that came, but for the one that went
 abbrev pub EventsKeepUnits : Type 0
 EventsKeepUnits =
     (W : Parts) (Z : List OrderShape) (s : ℕ) (old : Held) (what : What) (heard : Option Heard) (new : Held)
     → Steps W Z s old what heard new → HoldsOne old → IsSuited heard
-    → KeepsEach (units_of old) (contents_heard heard).units (units_of new) (contents_sent heard).units
+    → KeepsEach (units_held old) (contents_heard heard).units (units_held new) (contents_sent heard).units

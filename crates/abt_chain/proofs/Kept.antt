@@ -8,7 +8,7 @@ use Rattle.abt_machine.specs.Pools.{is_unit, without}
 use Rattle.abt_machine.specs.Values.{Owned}
 use Rattle.abt_unit.specs.Fits.{Fits}
 use Rattle.abt_unit.proofs.Fitting.{Fits-received, Fits-reborn}
-use Rattle.abt_chain.specs.Keeping.{Have, IsPoolOf, LastsWith, nothing, only_pool, only_unit, only_units}
+use Rattle.abt_chain.specs.Keeping.{Have, IsPoolOf, LastsWith, no_contents, only_pool, only_unit, only_units}
 
 -- what objects do to a unit keeps it fit for its workload
 pub Fits-lasts : (W : Parts) → LastsWith (IsPoolOf W) (Fits W)
@@ -40,7 +40,7 @@ All-received F D lasts n (x ∷ xs) all =
 
 -- facts of nothing, of one unit, of units and of one pool
 
-pub Have-nothing : (F : Owned → Type 0) (D : ℕ → Type 0) → Have F D nothing
+pub Have-nothing : (F : Owned → Type 0) (D : ℕ → Type 0) → Have F D no_contents
 Have-nothing F D = (All-nil F, All-nil D)
 
 pub Have-unit : (F : Owned → Type 0) (D : ℕ → Type 0) (o : Owned) → F o → Have F D (only_unit o)

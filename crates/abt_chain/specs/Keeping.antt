@@ -11,8 +11,8 @@ pub record Contents : Type 0 where
   pub units : List Owned
   pub pools : List ℕ
 
-abbrev pub nothing : Contents
-nothing = record { units = []; pools = [] }
+abbrev pub no_contents : Contents
+no_contents = record { units = []; pools = [] }
 
 abbrev pub only_unit : Owned → Contents
 only_unit o = record { units = o ∷ []; pools = [] }
@@ -30,45 +30,45 @@ pools_in (Some p) = p ∷ []
 -- what comes in with an act
 abbrev pub contents_asked : Act → Contents
 contents_asked (Put o) = only_unit o
-contents_asked (Take d) = nothing
-contents_asked (Remove u) = nothing
+contents_asked (Take d) = no_contents
+contents_asked (Remove u) = no_contents
 contents_asked (Create p) = only_pool p
 contents_asked (End o c) = only_unit o
 contents_asked (Join o) = only_unit o
-contents_asked AskCancel = nothing
+contents_asked AskCancel = no_contents
 contents_asked (AskMigrate p) = only_pool p
-contents_asked Look = nothing
+contents_asked Look = no_contents
 contents_asked (Suspend o) = only_unit o
-contents_asked Resume = nothing
+contents_asked Resume = no_contents
 contents_asked (Revive p) = only_pool p
-contents_asked (SetMigratable b) = nothing
+contents_asked (SetMigratable b) = no_contents
 contents_asked (Lock o) = only_unit o
-contents_asked (TryLock u) = nothing
-contents_asked (Unlock u) = nothing
-contents_asked (Load u) = nothing
-contents_asked (Store u n) = nothing
+contents_asked (TryLock u) = no_contents
+contents_asked (Unlock u) = no_contents
+contents_asked (Load u) = no_contents
+contents_asked (Store u n) = no_contents
 contents_asked (Wait k o) = only_unit o
-contents_asked (Signal k) = nothing
-contents_asked (Broadcast k) = nothing
+contents_asked (Signal k) = no_contents
+contents_asked (Broadcast k) = no_contents
 contents_asked (Await o) = only_unit o
-contents_asked (Fill n) = nothing
-contents_asked Reset = nothing
-contents_asked Test = nothing
+contents_asked (Fill n) = no_contents
+contents_asked Reset = no_contents
+contents_asked Test = no_contents
 contents_asked (Arrive o) = only_unit o
 contents_asked (ReadLock o) = only_unit o
 contents_asked (WriteLock o) = only_unit o
-contents_asked (RwUnlock u) = nothing
+contents_asked (RwUnlock u) = no_contents
 
 -- what comes out with an answer
 abbrev pub contents_answered : Answer → Contents
 contents_answered (Given o) = only_unit o
 contents_answered (Through o os) = only_units (o ∷ os)
 contents_answered (Woke os) = only_units os
-contents_answered Rested = nothing
-contents_answered Miss = nothing
-contents_answered (Number n) = nothing
+contents_answered Rested = no_contents
+contents_answered Miss = no_contents
+contents_answered (Number n) = no_contents
 contents_answered (Asks cancel migrate) = record { units = []; pools = pools_in migrate }
-contents_answered (Coded c) = nothing
+contents_answered (Coded c) = no_contents
 contents_answered (Back o c) = only_unit o
 
 -- each unit has a fact, and so has each pool

@@ -32,7 +32,7 @@ use Rattle.abt_laws.proofs.DueParts.{due-same}
 use Rattle.abt_laws.proofs.Options.{none≢some, some-injective}
 use Rattle.abt_laws.proofs.SoundRuns.{events-keep-sound}
 use Rattle.abt_laws.proofs.Standing.{StandsIn, first-stands}
-use Rattle.abt_replay.specs.Events.{Heeds, Moves}
+use Rattle.abt_replay.specs.Events.{Heeds, MakesEvent}
 use Rattle.abt_replay.specs.Objects.{ObjectsValue, object_at, same_place}
 use Rattle.abt_calls.proofs.Asked.{may-ask}
 use Rattle.abt_simulation.specs.Simulation.{CalledAnswers, IsEventFrom, site_heard}
@@ -153,7 +153,7 @@ module _ (W : Parts) (Z : List OrderShape) (n s : ℕ) (S : State) (replay : Rep
       ]
 
   -- a step of the stream is done in the machine
-  pub done : (w : What) (new : Held) (after : ObjectsValue) → Moves W Z s (part_of W S s) replay.objects w new after → IsDone W Z n S s w (record { lanes = slice_set replay.lanes s new; objects = after })
+  pub done : (w : What) (new : Held) (after : ObjectsValue) → MakesEvent W Z s (part_of W S s) replay.objects w new after → IsDone W Z n S s w (record { lanes = slice_set replay.lanes s new; objects = after })
   done w new after (heard, steps, heeds) =
       let e : Event = record { stamp = 0; stream = stream_no s; what = w } in
       let declared : (x : Site) → site_heard heard ≡ Some x → IsSite W x = λ x is. heard-declared W Z s (part_of W S s) w heard new x valid (has-units W Z s S state.sound) steps is in

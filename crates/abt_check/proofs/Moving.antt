@@ -31,7 +31,7 @@ use Rattle.abt_calls.specs.Allowed.{Allows}
 use Rattle.abt_calls.specs.Suits.{Suits}
 use Rattle.abt_calls.proofs.Asked.{takes-may-call}
 use Rattle.abt_calls.proofs.Suited.{answers-suit}
-use Rattle.abt_replay.specs.Events.{AreObjects, Looks, Moves, Visits, Woken, in_hand}
+use Rattle.abt_replay.specs.Events.{AreObjects, Looks, MakesEvent, Visits, Woken, in_hand}
 use Rattle.abt_replay.specs.Objects.{ObjectsValue, object_at}
 use Rattle.abt_check.specs.Turns.{IsOfWorkload, MovesAs}
 
@@ -102,7 +102,7 @@ looked-taken old o false (Some p) = refl
 
 module _ (W : Parts) (Z : List OrderShape) (s : ℕ) (old : Held) (before : ObjectsValue) (named : What) (made : What) (new : Held) (after : ObjectsValue) where
   -- a kind of event that is no round
-  no-round : (d : Due) → due_of W s old ≡ d → (d ≡ RoundDue → ⊥) → Moves W Z s old before made new after → MovesAs W Z s old before named (Some made) new after
+  no-round : (d : Due) → due_of W s old ≡ d → (d ≡ RoundDue → ⊥) → MakesEvent W Z s old before made new after → MovesAs W Z s old before named (Some made) new after
   no-round d due other moves = (moves, λ r. absurd (other (sym due ∙ r)))
 
   pub put-moves : (o : Owned) → old.tray ≡ o ∷ new.tray → new ≡ record old { tray = new.tray } → Woken before o made after → MovesAs W Z s old before named (Some made) new after
@@ -125,11 +125,11 @@ module _ (W : Parts) (Z : List OrderShape) (s : ℕ) (old : Held) (before : Obje
         h.call.2,
       )
 
-  pub run-moves : (o : Owned) (taken : Held) → old.tray ≡ [] → old.next ≡ None → old.hand ≡ Some o → taken ≡ record old { hand = None } → Moves W Z s (in_hand o taken) before made new after → MovesAs W Z s old before named (Some made) new after
+  pub run-moves : (o : Owned) (taken : Held) → old.tray ≡ [] → old.next ≡ None → old.hand ≡ Some o → taken ≡ record old { hand = None } → MakesEvent W Z s (in_hand o taken) before made new after → MovesAs W Z s old before named (Some made) new after
   run-moves o taken tray next hand rest moves =
       let same : in_hand o taken ≡ old = ap (in_hand o) rest ∙ ap (λ (h : Option Owned). record old { hand = h }) (sym hand) in
       no-round (due_of_unit W s old.own.mark (body_at W o.number) o.carried.position) (hand-due W s old o tray next hand) (no-round-of-unit W s old.own.mark (body_at W o.number) o.carried.position)
-      (subst (λ (held : Held). Moves W Z s held before made new after) same moves)
+      (subst (λ (held : Held). MakesEvent W Z s held before made new after) same moves)
 
 -- a round at a pool that may be next
 pub visit-moves : (W : Parts) (Z : List OrderShape) (s : ℕ) (old : Held) (before : ObjectsValue) (named : What) (p : PoolNo) (made : What) (new : Held) (after : ObjectsValue) → due_of W s old ≡ RoundDue
@@ -137,11 +137,11 @@ pub visit-moves : (W : Parts) (Z : List OrderShape) (s : ℕ) (old : Held) (befo
 visit-moves W Z s old before named p (what.Miss q) new after due next is h =
     let same : q.0 ≡ p.0 = ap (λ (x : PoolNo). x.0) h.0 in
     let heard : Option Heard = Some (site.Pool p, act.Take (side_of W s p.0), act.Miss) in
-    (subst (λ (x : PoolNo). Moves W Z s old before (what.Miss x) new after) (sym h.0) (heard, (due, next, refl, h.2), h.1), λ r. ap (λ n. Some n) same ∙ sym is)
+    (subst (λ (x : PoolNo). MakesEvent W Z s old before (what.Miss x) new after) (sym h.0) (heard, (due, next, refl, h.2), h.1), λ r. ap (λ n. Some n) same ∙ sym is)
 visit-moves W Z s old before named p (what.Take q u) new after due next is h =
     let same : q.0 ≡ p.0 = ap (λ (x : PoolNo). x.0) h.0 in
     let heard : Option Heard = Some (site.Pool p, act.Take (side_of W s p.0), act.Given h.1) in
-    (subst (λ (x : PoolNo). Moves W Z s old before (what.Take x u) new after) (sym h.0) (heard, (due, next, h.1, sym (ap (λ (v : UnitNo). v.0) h.2), refl, h.4), h.3), λ r. ap (λ n. Some n) same ∙ sym is)
+    (subst (λ (x : PoolNo). MakesEvent W Z s old before (what.Take x u) new after) (sym h.0) (heard, (due, next, h.1, sym (ap (λ (v : UnitNo). v.0) h.2), refl, h.4), h.3), λ r. ap (λ n. Some n) same ∙ sym is)
 visit-moves W Z s old before named p made new after due next is h = absurd h
 
 -- the pools of a round

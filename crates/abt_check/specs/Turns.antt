@@ -10,7 +10,7 @@ use Rattle.abt_machine.specs.Sound.{IsUnderWay}
 use Rattle.abt_machine.specs.Turns.{due_of}
 use Rattle.abt_machine.specs.Values.{Held, Owned}
 use Rattle.abt_bounds.specs.Laws.{visited}
-use Rattle.abt_replay.specs.Events.{Moves}
+use Rattle.abt_replay.specs.Events.{MakesEvent}
 use Rattle.abt_replay.specs.Objects.{ObjectsValue}
 
 -- the unit's number and home are declared
@@ -29,5 +29,5 @@ pub record CanMove (W : Parts) (Z : List OrderShape) (held : Held) : Type 0 wher
 -- the event that stream s made: if a round is due, it visits the pool that `named` visits; it made none if a round is due and
 -- `named` visits no pool that may be next
 abbrev pub MovesAs : Parts → List OrderShape → ℕ → Held → ObjectsValue → What → Option What → Held → ObjectsValue → Type 0
-MovesAs W Z s old before named (Some made) new after = Moves W Z s old before made new after × (due_of W s old ≡ RoundDue → visited made ≡ visited named)
+MovesAs W Z s old before named (Some made) new after = MakesEvent W Z s old before made new after × (due_of W s old ≡ RoundDue → visited made ≡ visited named)
 MovesAs W Z s old before named None new after = (due_of W s old ≡ RoundDue) × ((p : ℕ) → visited named ≡ Some p → IsNextPool W Z old.own.top p → ⊥)

@@ -14,8 +14,8 @@ use Rattle.abt_commons.specs.declared.split.SplitPass.{SplitPass}
 use Rattle.abt_commons.specs.Asks.{Does}
 use Rattle.abt_commons.specs.Held.{OneValue}
 use Rattle.abt_commons.specs.Splits.{seen_from}
-use Rattle.abt_commons.specs.Parting.{EndsAs, IsClosedWith, SiteSeat}
-use Rattle.abt_commons.specs.Closing.{HasEnded, HaveEnded, HaveSeats, knew, knew_by}
+use Rattle.abt_commons.specs.Parting.{LastSeatHas, IsClosedWith, SiteSeat}
+use Rattle.abt_commons.specs.Closing.{WasClosed, WereClosed, HaveSeats, knew, knew_by}
 use Rattle.abt_commons.proofs.Ranges.{get-right}
 
 abbrev SiteBooth : Type 0
@@ -87,7 +87,7 @@ module _ (booths : List SiteBooth) (passes : List SplitPass) (have : HaveSeats b
       (subst (λ v. IsSeatOf (get_or booths (length left) booth) v × (number_of v ≡ k)) at own) in
       (its.0, its.1, n, ap (slice_get seats) (sym n) ∙ find-between seats init r.gone seat split)
 
-  pub ends-as : (k : ℕ) (p : SplitPass) → k < length now → EndsAs booth k (get_or now k p).seats.items
+  pub ends-as : (k : ℕ) (p : SplitPass) → k < length now → LastSeatHas booth k (get_or now k p).seats.items
   ends-as k p lt =
       let less : k < length passes = subst (λ m. k < m) remain.many lt in
       let r = remain.each k p p less in
@@ -117,7 +117,7 @@ module _ (booths : List SiteBooth) (passes : List SplitPass) (have : HaveSeats b
         let seen : knew passes (length left) k ≡ seen_of gave.seat = ap (knew_by (length left)) found ∙ ap seen_from at.3 in
         subst (λ entry. Among entry ending.known) (λ i. (at.1 i, sym seen i)) gave.there
 
-    pub has-ended : (some : 0 < length passes) (count : seats_of booth ≡ length passes) (carried clock : ℕ) → clock ≡ max carried last → HasEnded passes (length left) booth carried object clock
+    pub has-ended : (some : 0 < length passes) (count : seats_of booth ≡ length passes) (carried clock : ℕ) → clock ≡ max carried last → WasClosed passes (length left) booth carried object clock
     has-ended some count carried clock raised = record {
       known = ending.known;
       last = last;
@@ -137,9 +137,9 @@ module _ (booths : List SiteBooth) (passes : List SplitPass) (have : HaveSeats b
 
 -- One booth more has ended.
 
-module _ (booths : List SiteBooth) (passes : List SplitPass) (carried : List ℕ) (from : ℕ) (objects : List OneValue) (clocks : List ℕ) (ended : HaveEnded booths passes carried (from + 1) objects clocks)
+module _ (booths : List SiteBooth) (passes : List SplitPass) (carried : List ℕ) (from : ℕ) (objects : List OneValue) (clocks : List ℕ) (ended : WereClosed booths passes carried (from + 1) objects clocks)
     (many : length booths ≤ length carried) (object : OneValue) (raised : ℕ)
-    (one : (booth : SiteBooth) (c : ℕ) → HasEnded passes from (get_or booths from booth) (get_or carried from c) object raised) where
+    (one : (booth : SiteBooth) (c : ℕ) → WasClosed passes from (get_or booths from booth) (get_or carried from c) object raised) where
   in-clocks : from < length clocks
   in-clocks = (let a = ended.many in let b = ended.clocks_many in omega (arith, a, b, many))
 
@@ -147,16 +147,16 @@ module _ (booths : List SiteBooth) (passes : List SplitPass) (carried : List ℕ
   raised-at i d is = sym (get_or-set_same clocks from raised d in-clocks) ∙ ap (λ j. get_or (set clocks from raised) j d) (sym is)
 
   each-by : (j : ℕ) (booth : SiteBooth) (c d : ℕ) (o : OneValue) → j < length (object ∷ objects)
-      → HasEnded passes (from + j) (get_or booths (from + j) booth) (get_or carried (from + j) c) (get_or (object ∷ objects) j o) (get_or (set clocks from raised) (from + j) d)
+      → WasClosed passes (from + j) (get_or booths (from + j) booth) (get_or carried (from + j) c) (get_or (object ∷ objects) j o) (get_or (set clocks from raised) (from + j) d)
   each-by zero booth c d o lt =
       let e : from + 0 ≡ from = omega arith in
-      subst (λ i. HasEnded passes i (get_or booths i booth) (get_or carried i c) object (get_or (set clocks from raised) i d)) (sym e)
-      (subst (λ n. HasEnded passes from (get_or booths from booth) (get_or carried from c) object n) (raised-at from d refl) (one booth c))
+      subst (λ i. WasClosed passes i (get_or booths i booth) (get_or carried i c) object (get_or (set clocks from raised) i d)) (sym e)
+      (subst (λ n. WasClosed passes from (get_or booths from booth) (get_or carried from c) object n) (raised-at from d refl) (one booth c))
   each-by (suc j) booth c d o lt =
       let e : from + 1 + j ≡ from + suc j = omega arith in
       let there : get_or clocks (from + suc j) d ≡ get_or (set clocks from raised) (from + suc j) d = sym (get_or-set_other clocks from (from + suc j) raised d (λ s. omega (arith, s))) in
-      subst (λ n. HasEnded passes (from + suc j) (get_or booths (from + suc j) booth) (get_or carried (from + suc j) c) (get_or objects j o) n) there
-      (subst (λ i. HasEnded passes i (get_or booths i booth) (get_or carried i c) (get_or objects j o) (get_or clocks i d)) e (ended.each j booth c d o (omega (arith, lt))))
+      subst (λ n. WasClosed passes (from + suc j) (get_or booths (from + suc j) booth) (get_or carried (from + suc j) c) (get_or objects j o) n) there
+      (subst (λ i. WasClosed passes i (get_or booths i booth) (get_or carried i c) (get_or objects j o) (get_or clocks i d)) e (ended.each j booth c d o (omega (arith, lt))))
 
   others-by : (i c : ℕ) → (i < from) ⊎ (length booths ≤ i) → get_or (set clocks from raised) i c ≡ get_or carried i c
   others-by i c out =
@@ -164,7 +164,7 @@ module _ (booths : List SiteBooth) (passes : List SplitPass) (carried : List ℕ
       let ne : i ≢ from = λ e. elim out [ inl l ↦ omega (arith, l, e) | inr l ↦ omega (arith, l, e, m) ] in
       get_or-set_other clocks from i raised c ne ∙ ended.others i c (elim out [ inl l ↦ inl (omega (arith, l)) | inr l ↦ inr l ])
 
-  pub ended-more : HaveEnded booths passes carried from (object ∷ objects) (set clocks from raised)
+  pub ended-more : WereClosed booths passes carried from (object ∷ objects) (set clocks from raised)
   ended-more = record {
     many = (let m = ended.many in omega (arith, m));
     clocks_many = length-set clocks from raised ∙ ended.clocks_many;
@@ -172,7 +172,7 @@ module _ (booths : List SiteBooth) (passes : List SplitPass) (carried : List ℕ
     others = others-by;
   }
 
-pub none-ended : (booths : List SiteBooth) (passes : List SplitPass) (carried : List ℕ) → HaveEnded booths passes carried (length booths) [] carried
+pub none-ended : (booths : List SiteBooth) (passes : List SplitPass) (carried : List ℕ) → WereClosed booths passes carried (length booths) [] carried
 none-ended booths passes carried = record {
   many = omega arith;
   clocks_many = refl;
@@ -183,14 +183,14 @@ none-ended booths passes carried = record {
 -- the last booth that is left has ended too
 module _ (booths : List SiteBooth) (passes : List SplitPass) (have : HaveSeats booths passes) (left gone : List SiteBooth) (booth : SiteBooth) (is : booths ≡ (left ++ booth ∷ []) ++ gone)
     (now : List SplitPass) (remain : Remain (length left + 1) passes now) (after : List SplitPass) (object : OneValue) (last : ℕ) (ending : IsClosedWith booth now after object last)
-    (carried : List ℕ) (objects : List OneValue) (clocks : List ℕ) (ended : HaveEnded booths passes carried (length left + 1) objects clocks) (many : length booths ≤ length carried)
+    (carried : List ℕ) (objects : List OneValue) (clocks : List ℕ) (ended : WereClosed booths passes carried (length left + 1) objects clocks) (many : length booths ≤ length carried)
     (some : 0 < length passes) (count : seats_of booth ≡ length passes) where
-  pub closed-more : (raised : ℕ) → raised ≡ max (get_or clocks (length left) 0) last → HaveEnded booths passes carried (length left) (object ∷ objects) (set clocks (length left) raised)
+  pub closed-more : (raised : ℕ) → raised ≡ max (get_or clocks (length left) 0) last → WereClosed booths passes carried (length left) (object ∷ objects) (set clocks (length left) raised)
   closed-more raised is-raised =
       let lt : length left < length booths = within-between booths left gone booth is in
       let in-carried : length left < length carried = omega (arith, lt, many) in
       ended-more booths passes carried (length left) objects clocks ended many object raised
-      (λ b c. subst (λ v. HasEnded passes (length left) v (get_or carried (length left) c) object raised) (sym (get-between booths left gone booth b is))
+      (λ b c. subst (λ v. WasClosed passes (length left) v (get_or carried (length left) c) object raised) (sym (get-between booths left gone booth b is))
       (has-ended booths passes have left gone booth is now remain after object last ending some count (get_or carried (length left) c) raised
       (is-raised ∙ ap (λ n. max n last) (ended.others (length left) 0 (inl (omega arith)) ∙ get_or_default carried (length left) 0 c in-carried))))
 

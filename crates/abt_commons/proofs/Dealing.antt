@@ -15,7 +15,7 @@ use Rattle.abt_commons.specs.AllPasses.{AreAll}
 use Rattle.abt_commons.specs.Held.{OneValue}
 use Rattle.abt_commons.specs.Locking.{AreDealt, Gets, HaveGot, IsDealt}
 use Rattle.abt_commons.specs.Parting.{SiteSeat}
-use Rattle.abt_commons.specs.Splits.{AreSeats, HasSeenNothing, IsPassOf, SplitValue, stream_of}
+use Rattle.abt_commons.specs.Splits.{AreSeats, HasSeenNothing, IsPassOf, SplitValue, pass_stream}
 
 abbrev pub SiteBooth : Type 0
 SiteBooth = Booth OneValue Act Answer
@@ -107,7 +107,7 @@ pub one-locked : (os room : List OneValue) (one : OneValue) → (os ++ one ∷ [
 one-locked os room one = append_assoc os (one ∷ []) (reverse room) ∙ ap (λ xs. os ++ xs) (sym (reverse-append room (one ∷ [])))
 
 -- passes that are dealt are those of a split
-pub dealt-passes : (split : SplitValue) (room n : ℕ) (passes : List SplitPass) → AreDealt split.booths room n passes → AreAll (IsPassOf split) stream_of n passes × All HasSeenNothing passes
+pub dealt-passes : (split : SplitValue) (room n : ℕ) (passes : List SplitPass) → AreDealt split.booths room n passes → AreAll (IsPassOf split) pass_stream n passes × All HasSeenNothing passes
 dealt-passes split room n passes dealt = (
   record {
     many = dealt.many;

@@ -29,7 +29,7 @@ use Rattle.abt_calls.specs.Totals.{desks_of, holders_from, pools_at, thing_holde
 use Rattle.abt_commons.specs.Groups.{FitsRow, all_rows, rows_by, rows_from, rows_held}
 use Rattle.abt_commons.specs.Held.{OneValue, ObjectsValue, numbered_object, object_from}
 use Rattle.abt_commons.specs.Reading.{rows_at_site}
-use Rattle.abt_commons.specs.Sites.{monitor_number, eventual_number, future_number, barrier_number, rwlock_number, site_at, site_number, sites, thing_number}
+use Rattle.abt_commons.specs.Sites.{monitor_number, eventual_number, future_number, barrier_number, rwlock_number, site_numbered, site_number, sites, thing_number}
 use Rattle.abt_commons.proofs.Numbers.{declared-some, desk-there, pool-there, thing-there}
 
 -- Conditions of a mutex.
@@ -111,16 +111,16 @@ module _ (W : Parts) where
   abbrev objects : List OneValue → List Object
   objects ones = map (λ one. one.object) ones
 
-  module _ (i : ℕ) (one : OneValue) (x : Option Site) (rest left : List OneValue) (is : left ≡ one ∷ rest) (own : one.workload ≡ W) (there : x ≡ site_at W i) (old new : List Row)
+  module _ (i : ℕ) (one : OneValue) (x : Option Site) (rest left : List OneValue) (is : left ≡ one ∷ rest) (own : one.workload ≡ W) (there : x ≡ site_numbered W i) (old new : List Row)
       (gave : new ≡ old ++ rows_by one.workload x one.object) where
-    gave-here : new ≡ old ++ rows_by W (site_at W i) one.object
+    gave-here : new ≡ old ++ rows_by W (site_numbered W i) one.object
     gave-here = gave ∙ ap₂ (λ V y. old ++ rows_by V y one.object) own there
 
     pub one-given : (all : List Row) → old ++ rows_from W i (objects left) ≡ all → new ++ rows_from W (i + 1) (objects rest) ≡ all
     one-given all before =
         let e : i + 1 ≡ suc i = omega arith in
         ap₂ (λ rs n. rs ++ rows_from W n (objects rest)) gave-here e
-        ∙ (append_assoc old (rows_by W (site_at W i) one.object) (rows_from W (suc i) (objects rest))
+        ∙ (append_assoc old (rows_by W (site_numbered W i) one.object) (rows_from W (suc i) (objects rest))
         ∙ (ap (λ os. old ++ rows_from W i (objects os)) (sym is) ∙ before))
 
     pub one-fits : All (FitsRow one.workload) (rows_by one.workload x one.object) → All (FitsRow W) old → All (FitsRow W) new
@@ -165,16 +165,16 @@ module _ (held : ObjectsValue) (many : length held.objects ≡ sites held.worklo
   at i = object_from (slice_get held.objects i)
 
   abbrev rows : ℕ → List Row
-  rows i = rows_by W (site_at W i) (at i)
+  rows i = rows_by W (site_numbered W i) (at i)
 
   by-number : (left : List Object) (i : ℕ) → left ≡ drop i held.objects → rows_from W i left ≡ flat_map rows (range_with_len i (length left))
   by-number [] i is = refl
   by-number (o ∷ os) i is =
       let here = left-here held.objects i o os is in
       let e : suc i ≡ i + 1 = omega arith in
-      ap₂ (λ x y. x ++ y) (ap (rows_by W (site_at W i)) (sym (ap object_from here.0))) (ap (λ n. rows_from W n os) e ∙ by-number os (i + 1) here.1)
+      ap₂ (λ x y. x ++ y) (ap (rows_by W (site_numbered W i)) (sym (ap object_from here.0))) (ap (λ n. rows_from W n os) e ∙ by-number os (i + 1) here.1)
 
-  at-site : (x : Site) (i : ℕ) → site_at W i ≡ Some x → site_number W x ≡ Some i → rows i ≡ rows_at_site held x
+  at-site : (x : Site) (i : ℕ) → site_numbered W i ≡ Some x → site_number W x ≡ Some i → rows i ≡ rows_at_site held x
   at-site x i there number = ap (λ y. rows_by W y (at i)) there ∙ ap (rows_of_object W x) (sym (ap (numbered_object held.objects (object_of W (start W) x)) number))
 
   pools : flat_map rows (range_with_len 0 (length W.pools)) ≡ flat_map (rows_held held) (pools_at W)

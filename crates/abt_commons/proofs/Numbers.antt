@@ -12,7 +12,7 @@ use Rattle.abt_machine.specs.declared.workload.Parts.{Parts}
 use Rattle.abt_machine.specs.Numbers.{pool_no, unit_no}
 use Rattle.abt_machine.specs.Workloads.{thing_at}
 use Rattle.abt_laws.proofs.Options.{none≢some, some-injective}
-use Rattle.abt_commons.specs.Sites.{sites, site_at, site_of, site_number, thing_number, declared_number, monitor_number, eventual_number, future_number, barrier_number, rwlock_number}
+use Rattle.abt_commons.specs.Sites.{sites, site_numbered, site_of, site_number, thing_number, declared_number, monitor_number, eventual_number, future_number, barrier_number, rwlock_number}
 
 -- The kind of a thing that has a number as such a kind, and the number.
 
@@ -40,17 +40,17 @@ module _ (W : Parts) where
   abbrev before : ℕ
   before = length W.pools + length W.units
 
-  pub pool-there : (p : ℕ) → p < length W.pools → site_at W p ≡ Some (site.Pool (pool_no p))
+  pub pool-there : (p : ℕ) → p < length W.pools → site_numbered W p ≡ Some (site.Pool (pool_no p))
   pool-there p lt = cond-true (nat_lt p (length W.pools)) _ _ (lt-ltb p (length W.pools) lt)
 
-  pub desk-there : (u : ℕ) → u < length W.units → site_at W (length W.pools + u) ≡ Some (site.Desk (unit_no u))
+  pub desk-there : (u : ℕ) → u < length W.units → site_numbered W (length W.pools + u) ≡ Some (site.Desk (unit_no u))
   desk-there u lt =
       let e : length W.pools + u - length W.pools ≡ u = omega arith in
       cond-false (nat_lt (length W.pools + u) (length W.pools)) _ _ (le-ltb (length W.pools + u) (length W.pools) (omega arith))
       ∙ (cond-true (nat_lt (length W.pools + u) before) _ _ (lt-ltb (length W.pools + u) before (omega (arith, lt)))
       ∙ ap (λ n. Some (site.Desk (unit_no n))) e)
 
-  pub thing-there : (x : ℕ) (t : Option Thing) → thing_at W x ≡ t → site_at W (thing_number W x) ≡ site_of x t
+  pub thing-there : (x : ℕ) (t : Option Thing) → thing_at W x ≡ t → site_numbered W (thing_number W x) ≡ site_of x t
   thing-there x t is =
       let e : thing_number W x - before ≡ x = omega arith in
       cond-false (nat_lt (thing_number W x) (length W.pools)) _ _ (le-ltb (thing_number W x) (length W.pools) (omega arith))
@@ -59,7 +59,7 @@ module _ (W : Parts) where
 
   -- it is a number, and that of the site
   abbrev Numbers : Site → ℕ → Type 0
-  Numbers x i = (i < sites W) × (site_at W i ≡ Some x)
+  Numbers x i = (i < sites W) × (site_numbered W i ≡ Some x)
 
   declared-by : {Part : Type 0} (x : Site) (k i : ℕ) (part : Option Part) → ((t : Part) → part ≡ Some t → Numbers x k) → declared_number k part ≡ Some i → Numbers x i
   declared-by x k i (Some t) there is = subst (Numbers x) (some-injective is) (there t refl)

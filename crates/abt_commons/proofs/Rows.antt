@@ -22,7 +22,7 @@ use Rattle.abt_machine.specs.Values.{Owned, Object, Phase, MonitorIs, EventualIs
 use Rattle.abt_laws.proofs.Options.{none≢some, some-injective}
 use Rattle.abt_calls.specs.Showing.{Row, rows_as, rows_at, rows_at_desk, rows_of_object}
 use Rattle.abt_commons.specs.Reading.{is_row_of, rows_at_site, waiters_as, waiters_of_condition}
-use Rattle.abt_commons.specs.Held.{IsWhole, OneValue, held_in, object_at}
+use Rattle.abt_commons.specs.Held.{IsWhole, OneValue, objects_value, object_at}
 use Rattle.abt_commons.specs.Sites.{site_number}
 use Rattle.abt_commons.proofs.Moving.{object-here, old-ours}
 use Rattle.abt_commons.proofs.Finding.{find-some, find-none, find-map}
@@ -119,10 +119,10 @@ module _ (W : Parts) (x : ObjectNo) where
   rwlock-rows object = refl
 
 -- The object at a site's number.
-module _ (W : Parts) (ones : List OneValue) (clocks : List ℕ) (ours : All (λ one. one.workload ≡ W) ones) (whole : IsWhole (held_in W ones clocks)) (x : Site) (i : ℕ) (is : site_number W x ≡ Some i)
+module _ (W : Parts) (ones : List OneValue) (clocks : List ℕ) (ours : All (λ one. one.workload ≡ W) ones) (whole : IsWhole (objects_value W ones clocks)) (x : Site) (i : ℕ) (is : site_number W x ≡ Some i)
     (one : OneValue) (here : one ≡ get_or ones i one) where
   -- its rows
-  pub rows-here : rows_of_object one.workload x one.object ≡ rows_at_site (held_in W ones clocks) x
+  pub rows-here : rows_of_object one.workload x one.object ≡ rows_at_site (objects_value W ones clocks) x
   rows-here =
-      let object : object_at (held_in W ones clocks) x ≡ one.object = object-here W ones clocks ours whole x i is one ∙ sym (ap (λ (o : OneValue). o.object) here) in
+      let object : object_at (objects_value W ones clocks) x ≡ one.object = object-here W ones clocks ours whole x i is one ∙ sym (ap (λ (o : OneValue). o.object) here) in
       ap (λ V. rows_of_object V x one.object) (old-ours W ones clocks ours whole x i is one here) ∙ ap (rows_of_object W x) (sym object)

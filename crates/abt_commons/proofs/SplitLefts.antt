@@ -28,10 +28,10 @@ use Rattle.abt_commons.specs.declared.split.SplitPass.{SplitPass}
 use Rattle.abt_commons.specs.Acts.{act_of, answer_of}
 use Rattle.abt_commons.specs.Asks.{Does}
 use Rattle.abt_commons.specs.Sites.{sites, site_number}
-use Rattle.abt_commons.specs.Held.{IsWhole, OneValue, ObjectsValue, clock_at, clock_from, held_in, numbered_clock, numbered_object, object_at, object_from}
+use Rattle.abt_commons.specs.Held.{IsWhole, OneValue, ObjectsValue, clock_at, clock_from, objects_value, numbered_clock, numbered_object, object_at, object_from}
 use Rattle.abt_commons.specs.Sights.{Leaves}
 use Rattle.abt_commons.specs.Splits.{AreBooths, SplitLeft, SplitValue, asks_at, carried_to, opening_of_split, own_lock, seen_by, sights_from, site_line}
-use Rattle.abt_commons.specs.Closing.{HasEnded, HaveEnded, knew, knew_by}
+use Rattle.abt_commons.specs.Closing.{WasClosed, WereClosed, knew, knew_by}
 use Rattle.abt_commons.proofs.Legal.{leads-keep}
 use Rattle.abt_commons.proofs.Numbers.{number-within}
 
@@ -41,12 +41,12 @@ leads-allow other o p [] l may = subst (λ (q : OneValue). Allows q.object other
 leads-allow other o p (e ∷ es) l may = leads-allow other l.0 p es l.2 (allowed-stays o.object (act_of e.act) (answer_of e.answer) l.0.object other l.1.gives may)
 
 module _ (split : SplitValue) (passes : List SplitPass) (are : AreBooths split.workload split.streams split.booths split.clocks) (count : length passes ≡ split.streams)
-    (objects : List OneValue) (clocks : List ℕ) (ended : HaveEnded split.booths passes split.clocks 0 objects clocks) where
+    (objects : List OneValue) (clocks : List ℕ) (ended : WereClosed split.booths passes split.clocks 0 objects clocks) where
   abbrev W : Parts
   W = split.workload
 
   abbrev held : ObjectsValue
-  held = held_in W objects clocks
+  held = objects_value W objects clocks
 
   many : length objects ≡ length split.booths
   many = (let m = ended.many in omega (arith, m))
@@ -64,7 +64,7 @@ module _ (split : SplitValue) (passes : List SplitPass) (are : AreBooths split.w
     carried_at : slice_get split.clocks i ≡ Some carried
     object_at : slice_get objects i ≡ Some object
     clock_at : slice_get clocks i ≡ Some clock
-    closes : HasEnded passes i booth carried object clock
+    closes : WasClosed passes i booth carried object clock
 
   at-from : (i : ℕ) → i < length objects → (b : Booth OneValue Act Answer) → slice_get split.booths i ≡ Some b → (c : ℕ) → slice_get split.clocks i ≡ Some c → (o : OneValue) → slice_get objects i ≡ Some o → (d : ℕ) → slice_get clocks i ≡ Some d → At i
   at-from i lt b eb c ec o eo d ed = record {
@@ -78,11 +78,11 @@ module _ (split : SplitValue) (passes : List SplitPass) (are : AreBooths split.w
     clock_at = ed;
     closes =
         (let e : 0 + i ≡ i = zero-add i in
-        subst (λ x. HasEnded passes i x c o d) (get_or_from_slice_get split.booths i b b eb)
-        (subst (λ x. HasEnded passes i (get_or split.booths i b) x o d) (get_or_from_slice_get split.clocks i c c ec)
-        (subst (λ x. HasEnded passes i (get_or split.booths i b) (get_or split.clocks i c) x d) (get_or_from_slice_get objects i o o eo)
-        (subst (λ x. HasEnded passes i (get_or split.booths i b) (get_or split.clocks i c) (get_or objects i o) x) (get_or_from_slice_get clocks i d d ed)
-        (subst (λ j. HasEnded passes j (get_or split.booths j b) (get_or split.clocks j c) (get_or objects i o) (get_or clocks j d)) e (ended.each i b c d o lt))))));
+        subst (λ x. WasClosed passes i x c o d) (get_or_from_slice_get split.booths i b b eb)
+        (subst (λ x. WasClosed passes i (get_or split.booths i b) x o d) (get_or_from_slice_get split.clocks i c c ec)
+        (subst (λ x. WasClosed passes i (get_or split.booths i b) (get_or split.clocks i c) x d) (get_or_from_slice_get objects i o o eo)
+        (subst (λ x. WasClosed passes i (get_or split.booths i b) (get_or split.clocks i c) (get_or objects i o) x) (get_or_from_slice_get clocks i d d ed)
+        (subst (λ j. WasClosed passes j (get_or split.booths j b) (get_or split.clocks j c) (get_or objects i o) (get_or clocks j d)) e (ended.each i b c d o lt))))));
   }
 
   item : {A : Type 0} (xs : List A) (i n : ℕ) → i < n → length xs ≡ n → (x : A) × (slice_get xs i ≡ Some x)
@@ -208,11 +208,11 @@ module _ (split : SplitValue) (passes : List SplitPass) (are : AreBooths split.w
 
   -- as the objects that come back
   module _ (ones : List OneValue) (ends : List ℕ) (same_ones : ones ≡ objects) (same_clocks : ends ≡ clocks) where
-    pub left-whole : All (λ one. one.workload ≡ W) ones × IsWhole (held_in W ones ends)
+    pub left-whole : All (λ one. one.workload ≡ W) ones × IsWhole (objects_value W ones ends)
     left-whole = (
       subst (λ os. All (λ one. one.workload ≡ W) os) (sym same_ones) still-ours,
-      subst (λ os. IsWhole (held_in W os ends)) (sym same_ones) (subst (λ cs. IsWhole (held_in W objects cs)) (sym same_clocks) still-whole),
+      subst (λ os. IsWhole (objects_value W os ends)) (sym same_ones) (subst (λ cs. IsWhole (objects_value W objects cs)) (sym same_clocks) still-whole),
     )
 
-    pub left-split : SplitLeft split passes (held_in W ones ends)
-    left-split = subst (λ os. SplitLeft split passes (held_in W os ends)) (sym same_ones) (subst (λ cs. SplitLeft split passes (held_in W objects cs)) (sym same_clocks) split-left)
+    pub left-split : SplitLeft split passes (objects_value W ones ends)
+    left-split = subst (λ os. SplitLeft split passes (objects_value W os ends)) (sym same_ones) (subst (λ cs. SplitLeft split passes (objects_value W objects cs)) (sym same_clocks) split-left)

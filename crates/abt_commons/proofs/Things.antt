@@ -30,7 +30,7 @@ use Rattle.abt_calls.specs.Allowed.{Allows}
 use Rattle.abt_calls.specs.Asking.{IsSite}
 use Rattle.abt_calls.specs.Showing.{Row, rows_as, rows_of_object}
 use Rattle.abt_calls.proofs.SiteCalls.{condition-below}
-use Rattle.abt_commons.specs.Held.{IsWhole, ObjectsValue, OneValue, held_in, numbered_object, object_at, object_from}
+use Rattle.abt_commons.specs.Held.{IsWhole, ObjectsValue, OneValue, objects_value, numbered_object, object_at, object_from}
 use Rattle.abt_commons.specs.Reading.{HoldNone, IsHeldAs, is_row_of, object_of_thing, rows_at_site, waiters_as, waiters_at_thing, waiters_by, waiters_of_condition}
 use Rattle.abt_commons.specs.Sites.{barrier_number, eventual_number, future_number, monitor_number, rwlock_number, sites, thing_number}
 use Rattle.abt_commons.proofs.Rows.{IsOther, as-other, as-there, row-there, rows-other, monitor-other, monitor-there, condition-there, eventual-rows, future-rows, barrier-rows, rwlock-rows}
@@ -172,11 +172,11 @@ module _ (held : ObjectsValue) where
 
 -- Things by number.
 
-module _ (W : Parts) (ones : List OneValue) (clocks : List ℕ) (whole : IsWhole (held_in W ones clocks)) where
+module _ (W : Parts) (ones : List OneValue) (clocks : List ℕ) (whole : IsWhole (objects_value W ones clocks)) where
   pub thing-within : (x : ℕ) → x < length W.objects → thing_number W x < length ones
   thing-within x lt = (let many : length ones ≡ sites W = sym (length-map ones (λ (one : OneValue). one.object)) ∙ whole.objects in omega (arith, lt, many))
 
-  pub thing-here : (x i : ℕ) (one : OneValue) → x < length W.objects → i ≡ thing_number W x → one ≡ get_or ones i one → object_of_thing (held_in W ones clocks) x ≡ one.object
+  pub thing-here : (x i : ℕ) (one : OneValue) → x < length W.objects → i ≡ thing_number W x → one ≡ get_or ones i one → object_of_thing (objects_value W ones clocks) x ≡ one.object
   thing-here x i one lt is here =
       let within : i < length ones = subst (λ n. n < length ones) (sym is) (thing-within x lt) in
       ap (λ n. object_from (slice_get (map (λ (o : OneValue). o.object) ones) n)) (sym is)
@@ -187,26 +187,26 @@ module _ (W : Parts) (ones : List OneValue) (clocks : List ℕ) (whole : IsWhole
     mutex-within = slice_get_within W.objects (mutex_of W x) thing.Mutex (mutex-declared W x valid is)
 
     -- the condition may be signalled
-    pub signal-allowed : Allows (object_of_thing (held_in W ones clocks) (mutex_of W x)) (Signal (condition_number W x))
+    pub signal-allowed : Allows (object_of_thing (objects_value W ones clocks) (mutex_of W x)) (Signal (condition_number W x))
     signal-allowed =
         let declared = mutex-declared W x valid is in
         let n : condition_number W x < length (map (waiters_at W (start W)) (conditions_of W (mutex_of W x))) = subst (λ q. condition_number W x < q) (sym (length-map (conditions_of W (mutex_of W x)) (waiters_at W (start W)))) (condition-below W x is) in
         let first-allows : Allows (object_of W (start W) (site.Monitor (object_no (mutex_of W x)))) (Signal (condition_number W x)) = subst (λ t. Allows (monitor_at W (start W) (mutex_of W x) t) (Signal (condition_number W x))) (sym declared) n in
-        subst (λ o. Allows o (Signal (condition_number W x))) (monitor-here (held_in W ones clocks) (object_no (mutex_of W x)) declared) (whole.allowed (site.Monitor (object_no (mutex_of W x))) (Signal (condition_number W x)) first-allows)
+        subst (λ o. Allows o (Signal (condition_number W x))) (monitor-here (objects_value W ones clocks) (object_no (mutex_of W x)) declared) (whole.allowed (site.Monitor (object_no (mutex_of W x))) (Signal (condition_number W x)) first-allows)
 
     -- who waits there waits at the mutex's object
-    pub at-its-mutex : waiters_at_thing (held_in W ones clocks) x ≡ waiters_of_condition (condition_number W x) (object_of_thing (held_in W ones clocks) (mutex_of W x))
+    pub at-its-mutex : waiters_at_thing (objects_value W ones clocks) x ≡ waiters_of_condition (condition_number W x) (object_of_thing (objects_value W ones clocks) (mutex_of W x))
     at-its-mutex =
-        ap (waiters_by (held_in W ones clocks) x) is.1
-        ∙ ap (λ q. waiters_of_condition (condition_number W x) (object_of_thing (held_in W ones clocks) q)) (sym (ap (mutex_from x) is.1))
+        ap (waiters_by (objects_value W ones clocks) x) is.1
+        ∙ ap (λ q. waiters_of_condition (condition_number W x) (object_of_thing (objects_value W ones clocks) q)) (sym (ap (mutex_from x) is.1))
 
     module _ (m i k : ℕ) (one : OneValue) (mutex : m ≡ mutex_of W x) (number : k ≡ condition_number W x) (at : i ≡ thing_number W m) (here : one ≡ get_or ones i one) where
-      mutex-here : object_of_thing (held_in W ones clocks) (mutex_of W x) ≡ one.object
+      mutex-here : object_of_thing (objects_value W ones clocks) (mutex_of W x) ≡ one.object
       mutex-here = thing-here (mutex_of W x) i one mutex-within (at ∙ ap (thing_number W) mutex) here
 
       pub may-signal : Allows one.object (Signal k)
       may-signal = subst (λ n. Allows one.object (Signal n)) (sym number) (subst (λ o. Allows o (Signal (condition_number W x))) mutex-here signal-allowed)
 
       -- who waits at the condition
-      pub waiting-here : waiters_of_condition k one.object ≡ waiters_at_thing (held_in W ones clocks) x
+      pub waiting-here : waiters_of_condition k one.object ≡ waiters_at_thing (objects_value W ones clocks) x
       waiting-here = ap (λ n. waiters_of_condition n one.object) number ∙ (ap (waiters_of_condition (condition_number W x)) (sym mutex-here) ∙ sym at-its-mutex)

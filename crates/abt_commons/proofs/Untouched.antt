@@ -17,11 +17,11 @@ use Rattle.abt_commons.specs.declared.acts.Act.{Act}
 use Rattle.abt_commons.specs.declared.acts.Answer.{Answer}
 use Rattle.abt_commons.specs.declared.split.SplitPass.{SplitPass}
 use Rattle.abt_commons.specs.Asks.{Does}
-use Rattle.abt_commons.specs.Held.{IsWhole, OneValue, held_in}
+use Rattle.abt_commons.specs.Held.{IsWhole, OneValue, objects_value}
 use Rattle.abt_commons.specs.Parting.{SiteSeat}
 use Rattle.abt_commons.specs.Locking.{AreDealt}
 use Rattle.abt_commons.specs.Splits.{HasSeenNothing, SplitValue, seen_from}
-use Rattle.abt_commons.specs.Closing.{AllEnded, HasEnded, HaveEnded, knew, knew_by}
+use Rattle.abt_commons.specs.Closing.{AllClosed, WasClosed, WereClosed, knew, knew_by}
 use Rattle.abt_commons.proofs.Dealing.{dealt-passes}
 
 -- a history with no call of any seat is empty
@@ -46,7 +46,7 @@ module _ (passes : List SplitPass) (fresh : All HasSeenNothing passes) where
     | inr past ↦ absurd (omega (arith, past.0, lt))
   ]
 
-  as-made : (i : ℕ) (booth : Booth OneValue Act Answer) (carried : ℕ) (object : OneValue) (clock : ℕ) → HasEnded passes i booth carried object clock → (object ≡ opening_of booth) × (clock ≡ carried)
+  as-made : (i : ℕ) (booth : Booth OneValue Act Answer) (carried : ℕ) (object : OneValue) (clock : ℕ) → WasClosed passes i booth carried object clock → (object ≡ opening_of booth) × (clock ≡ carried)
   as-made i booth carried object clock ended =
       let closed = ended.closed in
       let none : (k : ℕ) → k < length passes → calls_of k closed.history ≡ [] = λ k lt.
@@ -57,7 +57,7 @@ module _ (passes : List SplitPass) (fresh : All HasSeenNothing passes) where
       let last : ended.last ≡ 0 = closed.last ∙ ap (λ (h : List (Entry Act Answer)). last_stamp (entry_stamps h)) empty in
       (sym leads, (let raised = ended.raised in omega (arith, raised, last)))
 
-module _ (booths : List (Booth OneValue Act Answer)) (passes : List SplitPass) (carried : List ℕ) (objects : List OneValue) (clocks : List ℕ) (ended : HaveEnded booths passes carried 0 objects clocks) (fresh : All HasSeenNothing passes)
+module _ (booths : List (Booth OneValue Act Answer)) (passes : List SplitPass) (carried : List ℕ) (objects : List OneValue) (clocks : List ℕ) (ended : WereClosed booths passes carried 0 objects clocks) (fresh : All HasSeenNothing passes)
     (fits : length booths ≤ length carried) where
   many : length objects ≡ length booths
   many = (let m = ended.many in omega (arith, m))
@@ -66,7 +66,7 @@ module _ (booths : List (Booth OneValue Act Answer)) (passes : List SplitPass) (
   made-at i booth o c d lt =
       let e : 0 + i ≡ i = zero-add i in
       as-made passes fresh i (get_or booths i booth) (get_or carried i c) (get_or objects i o) (get_or clocks i d)
-      (subst (λ j. HasEnded passes j (get_or booths j booth) (get_or carried j c) (get_or objects i o) (get_or clocks j d)) e (ended.each i booth c d o lt))
+      (subst (λ j. WasClosed passes j (get_or booths j booth) (get_or carried j c) (get_or objects i o) (get_or clocks j d)) e (ended.each i booth c d o lt))
 
   object-at : (i : ℕ) (o : OneValue) → i < length objects → get_or objects i o ≡ get_or (map opening_of booths) i o
   object-at i o lt = elim (slice_get_cases booths i).1 [
@@ -94,7 +94,7 @@ module _ (booths : List (Booth OneValue Act Answer)) (room ones : List OneValue)
       omega (arith, n, length-append (map opening_of booths) (reverse room), length-map booths opening_of, length-reverse room)
 
   -- If the locks are closed with no call made, all objects stand in the room again, and the clocks are as they were.
-  pub all-back : (W : Parts) (clocks ends : List ℕ) (n : ℕ) (passes : List SplitPass) (full : List OneValue) → IsWhole (held_in W ones clocks) → AreDealt booths (length room) n passes → AllEnded booths passes clocks room full ends
+  pub all-back : (W : Parts) (clocks ends : List ℕ) (n : ℕ) (passes : List SplitPass) (full : List OneValue) → IsWhole (objects_value W ones clocks) → AreDealt booths (length room) n passes → AllClosed booths passes clocks room full ends
       → (reverse full ≡ ones) × (ends ≡ clocks)
   all-back W clocks ends n passes full whole dealt ended =
       let split : SplitValue = record { workload = W; streams = n; booths = booths; clocks = clocks } in

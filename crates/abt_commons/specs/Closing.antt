@@ -27,7 +27,7 @@ knew passes i k = knew_by i (slice_get passes k)
 
 -- booth i was closed, with what the passes had seen there; the clock is the greater of the one that was carried to it and its
 -- last stamp
-pub record HasEnded (passes : List SplitPass) (i : ℕ) (booth : Booth OneValue Act Answer) (carried : ℕ) (object : OneValue) (clock : ℕ) : Type 0 where
+pub record WasClosed (passes : List SplitPass) (i : ℕ) (booth : Booth OneValue Act Answer) (carried : ℕ) (object : OneValue) (clock : ℕ) : Type 0 where
   pub known : List (ℕ × List (Entry Act Answer))
   pub last : ℕ
   pub closed : IsClosed Does (opening_of booth) (length passes) known object last
@@ -35,14 +35,14 @@ pub record HasEnded (passes : List SplitPass) (i : ℕ) (booth : Booth OneValue 
   pub raised : clock ≡ max carried last
 
 -- the booths from this number on were closed, and left these objects; the clocks of all others stayed
-pub record HaveEnded (booths : List (Booth OneValue Act Answer)) (passes : List SplitPass) (carried : List ℕ) (from : ℕ) (objects : List OneValue) (clocks : List ℕ) : Type 0 where
+pub record WereClosed (booths : List (Booth OneValue Act Answer)) (passes : List SplitPass) (carried : List ℕ) (from : ℕ) (objects : List OneValue) (clocks : List ℕ) : Type 0 where
   pub many : from + length objects ≡ length booths
   pub clocks_many : length clocks ≡ length carried
   pub each : (j : ℕ) (booth : Booth OneValue Act Answer) (c d : ℕ) (object : OneValue) → j < length objects
-      → HasEnded passes (from + j) (slice_index_or booths (from + j) booth) (slice_index_or carried (from + j) c) (slice_index_or objects j object) (slice_index_or clocks (from + j) d)
+      → WasClosed passes (from + j) (slice_index_or booths (from + j) booth) (slice_index_or carried (from + j) c) (slice_index_or objects j object) (slice_index_or clocks (from + j) d)
   pub others : (i c : ℕ) → (i < from) ⊎ (length booths ≤ i) → slice_index_or clocks i c ≡ slice_index_or carried i c
 
 -- all booths were closed, and their objects stand in the room from its end on
-abbrev pub AllEnded : List (Booth OneValue Act Answer) → List SplitPass → List ℕ → List OneValue → List OneValue → List ℕ → Type 0
-AllEnded booths passes carried room left clocks =
-    (objects : List OneValue) × (left ≡ room ++ reverse objects) × HaveEnded booths passes carried 0 objects clocks
+abbrev pub AllClosed : List (Booth OneValue Act Answer) → List SplitPass → List ℕ → List OneValue → List OneValue → List ℕ → Type 0
+AllClosed booths passes carried room left clocks =
+    (objects : List OneValue) × (left ≡ room ++ reverse objects) × WereClosed booths passes carried 0 objects clocks

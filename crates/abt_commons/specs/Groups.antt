@@ -11,7 +11,7 @@ use Rattle.abt_calls.specs.Totals.{desks_of, holders_from, pools_at}
 use Rattle.abt_commons.specs.declared.groups.Group.{Group}
 use Rattle.abt_commons.specs.Held.{ObjectsValue}
 use Rattle.abt_commons.specs.Reading.{rows_at_site}
-use Rattle.abt_commons.specs.Sites.{site_at}
+use Rattle.abt_commons.specs.Sites.{site_numbered}
 
 abbrev pub rows_of_group : Group → List Row
 rows_of_group group = rows_as group.shown group.units.units
@@ -48,4 +48,4 @@ rows_by W (Some x) object = rows_of_object W x object
 -- the units of these objects, the first of which has number i
 abbrev pub rows_from : Parts → ℕ → List Object → List Row
 rows_from W i [] = []
-rows_from W i (object ∷ objects) = rows_by W (site_at W i) object ++ rows_from W (suc i) objects
+rows_from W i (object ∷ objects) = rows_by W (site_numbered W i) object ++ rows_from W (suc i) objects

@@ -16,7 +16,7 @@ use Rattle.abt_commons.specs.declared.acts.Ask.{Ask}
 use Rattle.abt_commons.specs.declared.acts.Answer.{Answer}
 use Rattle.abt_commons.specs.Acts.{act_of, answer_of}
 use Rattle.abt_commons.specs.Held.{ObjectsValue, object_at, clock_at}
-use Rattle.abt_commons.specs.Sights.{Call, Leaves}
+use Rattle.abt_commons.specs.Sights.{SiteCall, Leaves}
 
 -- the lock round all objects, and the clock that was carried to it
 pub record HallValue : Type 0 where
@@ -32,7 +32,7 @@ abbrev pub asks_all : Ask → Site × asked.Act
 asks_all ask = (ask.site, act_of ask.act)
 
 -- a history of the booth, as the one line
-abbrev pub hall_line : Parts → List (Entry Ask Answer) → List Call
+abbrev pub hall_line : Parts → List (Entry Ask Answer) → List SiteCall
 hall_line W history = line_seen (machine_of W []) asks_all answer_of history
 
 module _ {g : Ghosts ObjectsValue Ask Answer} where

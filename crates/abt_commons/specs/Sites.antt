@@ -63,7 +63,7 @@ site_of x (Some (thing.Barrier n)) = Some (site.Barrier (object_no x))
 site_of x (Some thing.RwLock) = Some (site.Rw (object_no x))
 
 -- the site of number i, if it is a site's
-abbrev pub site_at : Parts → ℕ → Option Site
-site_at W i = cond (nat_lt i (length W.pools)) (Some (site.Pool (pool_no i)))
+abbrev pub site_numbered : Parts → ℕ → Option Site
+site_numbered W i = cond (nat_lt i (length W.pools)) (Some (site.Pool (pool_no i)))
     (cond (nat_lt i (length W.pools + length W.units)) (Some (site.Desk (unit_no (i - length W.pools))))
     (site_of (i - (length W.pools + length W.units)) (thing_at W (i - (length W.pools + length W.units)))))

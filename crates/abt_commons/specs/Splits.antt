@@ -16,9 +16,9 @@ use Rattle.abt_commons.specs.declared.acts.Answer.{Answer}
 use Rattle.abt_commons.specs.declared.split.SplitPass.{SplitPass}
 use Rattle.abt_commons.specs.Acts.{act_of, answer_of}
 use Rattle.abt_commons.specs.Sites.{site_number}
-use Rattle.abt_commons.specs.Held.{OneValue, ObjectsValue, IsWhole, held_in, object_at, clock_at}
+use Rattle.abt_commons.specs.Held.{OneValue, ObjectsValue, IsWhole, objects_value, object_at, clock_at}
 use Rattle.abt_commons.specs.Replies.{Told}
-use Rattle.abt_commons.specs.Sights.{Call, Leaves, Shows}
+use Rattle.abt_commons.specs.Sights.{SiteCall, Leaves, Shows}
 
 -- each site has a lock of its own
 abbrev pub own_lock : Site → Site
@@ -29,12 +29,12 @@ abbrev pub asks_at : Site → Act → Site × asked.Act
 asks_at x act = (x, act_of act)
 
 -- a history of a site's booth, as its line
-abbrev pub site_line : Parts → Site → List (Entry Act Answer) → List Call
+abbrev pub site_line : Parts → Site → List (Entry Act Answer) → List SiteCall
 site_line W x history = line_seen (machine_of W []) (asks_at x) answer_of history
 
 -- the objects that booths were made round, with the clocks that were carried to them
 abbrev pub opening_in : Parts → List (Booth OneValue Act Answer) → List ℕ → ObjectsValue
-opening_in W booths clocks = held_in W (map opening_of booths) clocks
+opening_in W booths clocks = objects_value W (map opening_of booths) clocks
 
 -- booths round all objects of the workload, with a seat for each of n streams
 pub record AreBooths (W : Parts) (n : ℕ) (booths : List (Booth OneValue Act Answer)) (clocks : List ℕ) : Type 0 where
@@ -59,7 +59,7 @@ module _ {g : Ghosts OneValue Act Answer} where
   seen_by seats (Some i) = seen_from (slice_get seats i)
 
   -- what seats have seen of the lines of all sites
-  abbrev pub sights : Parts → List (Seat OneValue Act Answer g) → Site → List Call
+  abbrev pub sights : Parts → List (Seat OneValue Act Answer g) → Site → List SiteCall
   sights W seats x = site_line W x (seen_by seats (site_number W x))
 
 -- a lock for each object, and the clocks that were carried to them
@@ -77,8 +77,8 @@ opening_of_split split = opening_in split.workload split.booths split.clocks
 abbrev pub carried_to : SplitValue → Site → ℕ
 carried_to split x = clock_at (opening_of_split split) x
 
-abbrev pub stream_of : SplitPass → ℕ
-stream_of pass = pass.stream
+abbrev pub pass_stream : SplitPass → ℕ
+pass_stream pass = pass.stream
 
 -- the pass has a seat of each lock, with its stream's number
 abbrev pub IsPassOf : SplitValue → SplitPass → Type 0
@@ -89,14 +89,14 @@ abbrev pub HasSeenNothing : SplitPass → Type 0
 HasSeenNothing pass = All (λ seat. seen_of seat ≡ []) pass.seats.items
 
 -- what a pass has seen of the lines of all sites
-abbrev pub sights_of : SplitValue → SplitPass → Site → List Call
+abbrev pub sights_of : SplitValue → SplitPass → Site → List SiteCall
 sights_of split pass = sights split.workload pass.seats.items
 
 -- what the pass sees by a call
 abbrev pub SplitMoves : SplitValue → SplitPass → Site → ℕ → asked.Act → Told → SplitPass → Type 0
 SplitMoves split old x at act told new = Shows split.workload own_lock (carried_to split) old.stream (sights_of split old) x at act told (sights_of split new)
 
-abbrev pub sights_from : SplitValue → Option SplitPass → Site → List Call
+abbrev pub sights_from : SplitValue → Option SplitPass → Site → List SiteCall
 sights_from split None x = []
 sights_from split (Some pass) x = sights_of split pass x
 

@@ -3,7 +3,7 @@
 ghost use Rattle.std.specs.Prelude.{◌≡◌, ◌<◌, Some, length};
 ghost use Rattle.abt_machine.specs.Workloads.{thing_at};
 ghost use Rattle.abt_calls.specs.Asking.{IsSite};
-ghost use Rattle.abt_commons.specs.Sites.{site_at, site_number, site_of, sites, thing_number};
+ghost use Rattle.abt_commons.specs.Sites.{site_numbered, site_number, site_of, sites, thing_number};
 
 use abt_machine::{ObjectNo, PoolNo, Site, Thing, UnitNo, Workload};
 
@@ -37,7 +37,7 @@ pub(crate) fn thing_number(w: &Workload, x: ObjectNo) -> usize
 /// The site of a number. That of a condition is no site's.
 pub(crate) fn site_at(w: &Workload, number: usize) -> Option<Site>
     requires { number < sites w.now }
-    ensures { result ≡ site_at w.now number }
+    ensures { result ≡ site_numbered w.now number }
 {
     w.known();
     let pools = w.pools() as usize;

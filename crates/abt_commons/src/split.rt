@@ -3,7 +3,7 @@
 ghost use Rattle.std.specs.Prelude.{◌≡◌, ◌≤◌, IfErr, IfOk};
 ghost use Rattle.std.specs.List.{All};
 ghost use Rattle.abt_commons.specs.AllPasses.{AreAll};
-ghost use Rattle.abt_commons.specs.Splits.{HasSeenNothing, IsPassOf, SplitLeft, opening_of_split, stream_of};
+ghost use Rattle.abt_commons.specs.Splits.{HasSeenNothing, IsPassOf, SplitLeft, opening_of_split, pass_stream};
 
 use crate::acts::{Act, Reply};
 use crate::commons::Commons;
@@ -51,7 +51,7 @@ pub struct SplitPass<'w> {
 
 impl<'w, R: Wait> Commons<'w> for Split<'w, R> {
     ghost use Rattle.abt_commons.specs.AllPasses.{AreAll};
-    ghost use Rattle.abt_commons.specs.Splits.{IsPassOf, SplitLeft, SplitMoves, stream_of};
+    ghost use Rattle.abt_commons.specs.Splits.{IsPassOf, SplitLeft, SplitMoves, pass_stream};
 
     type Pass = SplitPass<'w>;
 
@@ -59,7 +59,7 @@ impl<'w, R: Wait> Commons<'w> for Split<'w, R> {
 
     ghost is_of = { λ split pass. IsPassOf split pass };
 
-    ghost number = { λ pass. stream_of pass };
+    ghost number = { λ pass. pass_stream pass };
 
     ghost moves = { λ split old x at act told new. SplitMoves split old x at act told new };
 
@@ -78,7 +78,7 @@ impl<'w, R: Wait> Commons<'w> for Split<'w, R> {
     }
 
     fn close(self, mut passes: Vec<SplitPass<'w>>) -> Objects<'w>
-        requires passes { AreAll (IsPassOf self) stream_of self.streams passes.items }
+        requires passes { AreAll (IsPassOf self) pass_stream self.streams passes.items }
         ensures leaves { SplitLeft self.entry passes.entry.items result }
     {
         let Split {
@@ -115,7 +115,7 @@ impl<'w, R: Wait> Split<'w, R> {
         requires { 1 ≤ streams }
         ensures objects { IfOk result (λ made. opening_of_split made.0 ≡ objects.entry) }
         ensures streams { IfOk result (λ made. made.0.streams ≡ streams) }
-        ensures passes { IfOk result (λ made. AreAll (IsPassOf made.0) stream_of streams made.1.items) }
+        ensures passes { IfOk result (λ made. AreAll (IsPassOf made.0) pass_stream streams made.1.items) }
         ensures fresh { IfOk result (λ made. All HasSeenNothing made.1.items) }
         ensures refused { IfErr result (λ back. back ≡ objects.entry) }
     {

@@ -3,7 +3,7 @@
 ghost use Rattle.std.specs.Prelude.{◌≡◌, ◌+◌, ◌<◌, ◌≤◌, length, max, slice_index, slice_set, vec_capacity};
 ghost use Rattle.std.specs.List.{All};
 ghost use Rattle.abt_booth.specs.Seats.{seats_of};
-ghost use Rattle.abt_commons.specs.Closing.{AllEnded, HaveSeats};
+ghost use Rattle.abt_commons.specs.Closing.{AllClosed, HaveSeats};
 
 use crate::gathering::closed;
 use crate::one::One;
@@ -23,7 +23,7 @@ pub(crate) fn unlock_all<'w>(
     requires seats { HaveSeats booths.items passes.old }
     requires room { length room.old.items + length booths.items ≤ vec_capacity room.old }
     requires clocks { length booths.items ≤ length clocks.old }
-    ensures { AllEnded booths.entry.items passes.old clocks.old room.old.items room.new.items clocks.new }
+    ensures { AllClosed booths.entry.items passes.old clocks.old room.old.items room.new.items clocks.new }
 {
     while let Some(booth) = booths.pop() {
         let Closed { object, clock } = closed(booth, passes);

@@ -19,17 +19,17 @@ use Rattle.abt_commons.specs.Held.{ObjectsValue, clock_at, object_at}
 use Rattle.abt_commons.specs.Plains.{PlainMoves}
 use Rattle.abt_stream.specs.Heeding.{Heeds}
 use Rattle.abt_stream.specs.Streams.{StreamValue}
-use Rattle.abt_stream.specs.Turned.{EndsRound, IsMove, Made, MetEnd, Turned, Went}
+use Rattle.abt_stream.specs.Turned.{MissesLast, IsMove, Made, MetEnd, Turned, Went}
 use Rattle.abt_stream.specs.declared.turns.Turn.{Turn}
 use Rattle.abt_stream.specs.declared.turns.Turn.TheVariants as turn
 use Rattle.abt_drain.specs.Crews.{Advances, TurnsBy}
-use Rattle.abt_drain.specs.Moments.{Timed, stamp_by}
+use Rattle.abt_drain.specs.Moments.{SetsClock, stamp_by}
 
 -- what a call does, if there was one
 record Called (before : ObjectsValue) (at : ℕ) (heard : Option Heard) (stamp : ℕ) (after : ObjectsValue) : Type 0 where
   answered : Answered SiteGives (object_at before) heard (object_at after)
   clock : stamp ≡ stamp_by at (clock_at before) heard
-  times : Timed (clock_at before) heard stamp (clock_at after)
+  times : SetsClock (clock_at before) heard stamp (clock_at after)
 
 called : (W : Parts) (before after : ObjectsValue) (at stamp : ℕ) (heard : Option Heard) → Went (Heeds PlainMoves W) at before heard stamp after → Called before at heard stamp after
 called W before after at stamp None went = record {
@@ -58,7 +58,7 @@ module _ (W : Parts) (Z : List OrderShape) (old : StreamValue) (before : Objects
   other-goes-on f p ne = ap (λ g. g.empty) (cond-false (length (pools_of W f.sched) == suc (length f.seen)) (frame_at f.sched (suc f.round) true) (record { sched = f.sched; round = f.round; seen = f.seen ++ p ∷ []; empty = false })
       (ne_eqb (length (pools_of W f.sched)) (suc (length f.seen)) (λ e. ne (sym e))))
 
-  missed-empty : (p : PoolNo) → Made (Heeds PlainMoves W) W Z old before (what.Miss p) new after → EndsRound W old → new.held.own.top.empty ≡ true
+  missed-empty : (p : PoolNo) → Made (Heeds PlainMoves W) W Z old before (what.Miss p) new after → MissesLast W old → new.held.own.top.empty ≡ true
   missed-empty p made ends = ap (λ h. h.own.top.empty) made.steps.3 ∙ last-empties old.held.own.top p.0 ends
 
   move-is : (w : What) → Made (Heeds PlainMoves W) W Z old before w new after → IsMove W old w → (is_step w ≡ false) × (IsMiss w → new.held.own.top.empty ≡ false)

@@ -34,8 +34,8 @@ use Rattle.abt_outcomes.proofs.Determined.{only-run}
 use Rattle.abt_outcomes.proofs.GoingOn.{stops-are-last, stops-grow}
 use Rattle.abt_outcomes.proofs.Seen.{quiet-seen, spent-seen}
 use Rattle.abt_outcomes.proofs.Stopping.{empty-rounds-end}
-use Rattle.abt_drain.specs.Moments.{IsReached, LeadTo, Makes, Moment, event_at, made_at}
-use Rattle.abt_drain.specs.Rotations.{HasMissed, HasNotStoppedBefore, IsAtStop, IsAwake, IsGoing, IsQuietIn, IsSpentIn}
+use Rattle.abt_drain.specs.Moments.{IsReachedMoment, LeadTo, Makes, Moment, event_at, made_at}
+use Rattle.abt_drain.specs.Rotations.{LastRoundIsEmpty, HasNotStoppedBefore, IsAtStop, IsAwake, IsGoing, IsQuietIn, IsSpentIn}
 use Rattle.abt_drain.proofs.Journals.{merged-lead}
 use Rattle.abt_drain.proofs.Taking.{differ}
 
@@ -54,7 +54,7 @@ all-of-first (e ∷ J) none = elim (cases_eq e.stream.0 0) [
   apart : (s : ℕ) → 1 ≤ s → e.stream.0 ≡ 0 → e.stream.0 ≡ s → ⊥
   apart s some own q = omega arith
 
-module _ (W : Parts) (Z : List OrderShape) (n : ℕ) (m : Moment) (reached : IsReached W Z n m) (alone : W.streams ≡ 1) where
+module _ (W : Parts) (Z : List OrderShape) (n : ℕ) (m : Moment) (reached : IsReachedMoment W Z n m) (alone : W.streams ≡ 1) where
   -- the log is what all logs merge to
   pub log-merges : MergesTo m.logs (m.logs 0)
   log-merges =
@@ -112,10 +112,10 @@ ended-last W J e ended =
 
 module _ (W : Parts) (Z : List OrderShape) (valid : IsValid W) (stored : OrdersStored W Z) (n : ℕ) where
   -- the log leads to the moment
-  log-leads : (m : Moment) → IsReached W Z n m → W.streams ≡ 1 → LeadTo W Z (m.logs 0) m
+  log-leads : (m : Moment) → IsReachedMoment W Z n m → W.streams ≡ 1 → LeadTo W Z (m.logs 0) m
   log-leads m reached alone = merged-lead W Z valid stored n m reached (m.logs 0) (log-merges W Z n m reached alone)
 
-  module _ (s : ℕ) (w : What) (old new : Moment) (before : IsReached W Z n old) (after : IsReached W Z n new) (makes : Makes W Z s w old new) where
+  module _ (s : ℕ) (w : What) (old new : Moment) (before : IsReachedMoment W Z n old) (after : IsReachedMoment W Z n new) (makes : Makes W Z s w old new) where
     first : W.streams ≡ 1 → s ≡ 0
     first alone = let d : s < W.streams = makes.declared in omega arith
 
@@ -152,19 +152,19 @@ module _ (W : Parts) (Z : List OrderShape) (valid : IsValid W) (stored : OrdersS
         differ (sym e ∙ f)
 
   -- if something is left to do, the stream is awake
-  pub busy-awake : (m : Moment) → IsReached W Z n m → (IsQuietIn W m → ⊥) → IsAwake W m
+  pub busy-awake : (m : Moment) → IsReachedMoment W Z n m → (IsQuietIn W m → ⊥) → IsAwake W m
   busy-awake m reached busy alone ended =
       let lead : LeadTo W Z (m.logs 0) m = log-leads m reached alone in
       busy ((quiet-seen W (last_state W (m.logs 0)) m.parts m.objects lead.stand).0 (empty-rounds-end W Z valid stored alone (m.logs 0) lead.run ended))
 
   -- The end.
 
-  module _ (new : Moment) (reached : IsReached W Z n new) (at_stop : IsAtStop W n new) (alone : W.streams ≡ 1) where
+  module _ (new : Moment) (reached : IsReachedMoment W Z n new) (at_stop : IsAtStop W n new) (alone : W.streams ≡ 1) where
     lead : LeadTo W Z (new.logs 0) new
     lead = log-leads new reached alone
 
     -- an empty round ended the journal
-    ended-empty : Quiet W (last_state W (new.logs 0)) → HasMissed new 0 → HasEndedEmpty W (new.logs 0)
+    ended-empty : Quiet W (last_state W (new.logs 0)) → LastRoundIsEmpty new 0 → HasEndedEmpty W (new.logs 0)
     ended-empty quiet missed = (
       missed.before,
       event_at new 0 (what.Miss missed.pool),

@@ -9,7 +9,7 @@ use Rattle.abt_machine.specs.Rounds.{OrdersStored}
 use Rattle.abt_machine.specs.Runs.{last_state}
 use Rattle.abt_machine.specs.Texts.{shown_units}
 use Rattle.abt_machine.specs.Valid.{IsValid}
-use Rattle.abt_calls.specs.Holders.{units_of}
+use Rattle.abt_calls.specs.Holders.{units_held}
 use Rattle.abt_interleave.specs.Merges.{IsLogOf}
 use Rattle.abt_interleave.proofs.Members.{Among, all-from-among}
 use Rattle.abt_commons.specs.Held.{ObjectsValue}
@@ -25,7 +25,7 @@ use Rattle.abt_laws.proofs.Options.{some-injective}
 use Rattle.abt_drain.specs.Crews.{CrewValue, HaveLeft, HaveStopped, IsCrew, log_from, logs_in, moment_in, moment_of}
 use Rattle.abt_drain.specs.Looks.{AreStreams, held_from}
 use Rattle.abt_drain.specs.Moments.{HasCome, LeadTo, Moment, made_at}
-use Rattle.abt_drain.specs.Pictures.{LeavesWhatFits, ShowsUnits, units_left}
+use Rattle.abt_drain.specs.Pictures.{LeavesWhatFits, ShowsUnits, units_in_parts}
 use Rattle.abt_drain.specs.Rotations.{IsAtStop}
 use Rattle.abt_drain.specs.Runs.{HasRun}
 use Rattle.abt_drain.proofs.Coming.{come-lead, come-log}
@@ -52,7 +52,7 @@ pub none-left : HaveLeft [] []
 none-left = tt
 
 -- one stream more
-pub left-push : (streams : List StreamValue) (rest : List StreamParts) (stream : StreamValue) (parts : StreamParts) → HaveLeft streams rest → units_left parts ≡ units_of stream.held →
+pub left-push : (streams : List StreamValue) (rest : List StreamParts) (stream : StreamValue) (parts : StreamParts) → HaveLeft streams rest → units_in_parts parts ≡ units_held stream.held →
     HaveLeft (streams ++ stream ∷ []) (rest ++ parts ∷ [])
 left-push [] [] stream parts all next = (next, tt)
 left-push [] (p ∷ rest) stream parts all next = absurd all
@@ -67,11 +67,11 @@ left-many (s ∷ streams) (p ∷ rest) all = ap suc (left-many streams rest all.
 
 -- what stream s left
 pub left-at : (streams : List StreamValue) (rest : List StreamParts) (s : ℕ) (parts : StreamParts) → HaveLeft streams rest → slice_get rest s ≡ Some parts →
-    (stream : StreamValue) × (slice_get streams s ≡ Some stream) × (units_left parts ≡ units_of stream.held)
+    (stream : StreamValue) × (slice_get streams s ≡ Some stream) × (units_in_parts parts ≡ units_held stream.held)
 left-at [] [] s parts all e = cc
 left-at [] (p ∷ rest) s parts all e = absurd all
 left-at (stream ∷ streams) [] s parts all e = absurd all
-left-at (stream ∷ streams) (p ∷ rest) zero parts all e = (stream, refl, subst (λ q. units_left q ≡ units_of stream.held) (some-injective e) all.0)
+left-at (stream ∷ streams) (p ∷ rest) zero parts all e = (stream, refl, subst (λ q. units_in_parts q ≡ units_held stream.held) (some-injective e) all.0)
 left-at (stream ∷ streams) (p ∷ rest) (suc s) parts all e = left-at streams rest s parts all.1 e
 
 -- the units that they left fit the workload
@@ -87,12 +87,12 @@ all-fit W streams rest left fits = all-from-among (LeavesWhatFits W) rest (λ pa
 
 -- the picture shows the units of each run that led to these streams and objects
 pub lead-shows : (W : Parts) (n : ℕ) (streams : List StreamValue) (objects : ObjectsValue) (rest : List StreamParts) (rows : List Row) → IsValid W → AreStreams W n streams → HaveLeft streams rest → ShowsUnits W rest objects rows →
-    (Z : List OrderShape) (J : List Event) → OrdersStored W Z → LeadTo W Z J (moment_of W streams objects) → shown_units W (last_state W J) ≡ picture.units_of rows
+    (Z : List OrderShape) (J : List Event) → OrdersStored W Z → LeadTo W Z J (moment_of W streams objects) → shown_units W (last_state W J) ≡ picture.units_in_rows rows
 lead-shows W n streams objects rest rows valid are left shows Z J stored lead = shows Z (last_state W J) (lead-sound W Z valid stored J (moment_of W streams objects) lead) (record {
   many = left-many streams rest left ∙ are.many;
   left = λ s parts e. (
-      let at : (stream : StreamValue) × (slice_get streams s ≡ Some stream) × (units_left parts ≡ units_of stream.held) = left-at streams rest s parts left e in
-      at.2 ∙ ap units_of (sym (lead.stand.streams s (declared s at.0 at.1) ∙ ap (held_from _) at.1)));
+      let at : (stream : StreamValue) × (slice_get streams s ≡ Some stream) × (units_in_parts parts ≡ units_held stream.held) = left-at streams rest s parts left e in
+      at.2 ∙ ap units_held (sym (lead.stand.streams s (declared s at.0 at.1) ∙ ap (held_from _) at.1)));
   held = lead.stand.sites;
 }) where
   declared : (s : ℕ) (stream : StreamValue) → slice_get streams s ≡ Some stream → s < W.streams

@@ -22,9 +22,9 @@ use Rattle.abt_commons.specs.Held.{ObjectsValue, clock_at, object_at}
 use Rattle.abt_stream.specs.Streams.{FitsShapes, FitsStream, StreamValue}
 use Rattle.abt_stream.specs.declared.turns.Turn.{Turn}
 use Rattle.abt_stream.specs.declared.turns.Turn.TheVariants as turn
-use Rattle.abt_drain.specs.Crews.{Advances, CrewValue, IsCrew, IsEnd, StaysAwake, TurnBy, TurnsBy, clock_from, log_from, moment_in}
-use Rattle.abt_drain.specs.Looks.{AreStreams, IsStream, held_from}
-use Rattle.abt_drain.specs.Moments.{IsReached, Makes, Moment, Stays, Timed, stamp_by}
+use Rattle.abt_drain.specs.Crews.{Advances, CrewValue, IsCrew, IsEnd, StaysAwake, TurnBy, TurnsBy, stream_clock, log_from, moment_in}
+use Rattle.abt_drain.specs.Looks.{AreStreams, IsStreamOf, held_from}
+use Rattle.abt_drain.specs.Moments.{IsReachedMoment, Makes, Moment, Stays, SetsClock, stamp_by}
 use Rattle.abt_drain.specs.Rotations.{HasTurned, HaveTurned, IsAwake, IsGoing}
 use Rattle.abt_drain.proofs.Alone.{awake-after, going-on}
 use Rattle.abt_drain.proofs.Growing.{reached-grows}
@@ -74,7 +74,7 @@ module _ (W : Parts) (Z : List OrderShape) (n : ℕ) (crew : CrewValue) (is : Is
   others-stay r ne = record {
     part = ap (held_from _) (at-other r ne);
     log = ap log_from (at-other r ne);
-    clock = ap clock_from (at-other r ne);
+    clock = ap stream_clock (at-other r ne);
   }
 
   -- what the stream had and has
@@ -90,9 +90,9 @@ module _ (W : Parts) (Z : List OrderShape) (n : ℕ) (crew : CrewValue) (is : Is
     declared = declared;
     steps = subst (λ (q : ℕ × Held × Held). Steps W Z q.0 q.1 w a.heard q.2) (λ i. (ap (λ (k : StreamNo). k.0) numbered i, sym part-before i, sym part-after i)) a.steps;
     answered = a.answered;
-    clock = ap clock_from at-same ∙ (a.clock ∙ ap (λ t. stamp_by t (clock_at crew.objects) a.heard) (sym (ap clock_from at)));
-    times = subst (λ t. Timed (clock_at crew.objects) a.heard t (clock_at after)) (sym (ap clock_from at-same)) a.times;
-    log = ap log_from at-same ∙ (a.log ∙ (λ i. sym (ap log_from at) i ++ record { stamp = sym (ap clock_from at-same) i; stream = numbered i; what = w } ∷ []));
+    clock = ap stream_clock at-same ∙ (a.clock ∙ ap (λ t. stamp_by t (clock_at crew.objects) a.heard) (sym (ap stream_clock at)));
+    times = subst (λ t. SetsClock (clock_at crew.objects) a.heard t (clock_at after)) (sym (ap stream_clock at-same)) a.times;
+    log = ap log_from at-same ∙ (a.log ∙ (λ i. sym (ap log_from at) i ++ record { stamp = sym (ap stream_clock at-same) i; stream = numbered i; what = w } ∷ []));
     others = others-stay;
   }
 
@@ -101,11 +101,11 @@ module _ (W : Parts) (Z : List OrderShape) (n : ℕ) (crew : CrewValue) (is : Is
   streams-after = record {
     many = length-set crew.streams s new ∙ is.streams.many;
     own = λ r stream e. elim (cases_eq s r) [
-      | inl same ↦ subst (λ q. IsStream W n q stream) same (subst (IsStream W n s) (some-injective (sym at-same ∙ subst (λ q. slice_get next.streams q ≡ Some stream) (sym same) e)) own-after)
+      | inl same ↦ subst (λ q. IsStreamOf W n q stream) same (subst (IsStreamOf W n s) (some-injective (sym at-same ∙ subst (λ q. slice_get next.streams q ≡ Some stream) (sym same) e)) own-after)
       | inr ne ↦ is.streams.own r stream (sym (at-other r ne) ∙ e)
     ];
   } where
-    own-after : IsStream W n s new
+    own-after : IsStreamOf W n s new
     own-after = record {
       number = ap (λ (k : StreamNo). k.0) number ∙ (is.streams.own s old at).number;
       fits = fits;
@@ -118,10 +118,10 @@ module _ (W : Parts) (Z : List OrderShape) (n : ℕ) (crew : CrewValue) (is : Is
     | inr ne ↦ is.shapes r stream (sym (at-other r ne) ∙ e)
   ]
 
-  crew-after : IsReached W Z n there → IsGoing W n there → IsCrew W Z n next
+  crew-after : IsReachedMoment W Z n there → IsGoing W n there → IsCrew W Z n next
   crew-after reached going = record { valid = is.valid; stored = is.stored; workload = is.workload; steps = is.steps; objects = objects; streams = streams-after; shapes = shapes-after; reached = reached; going = going }
 
-  reached-after : (w : What) → Advances W Z old crew.objects w new after → IsReached W Z n there
+  reached-after : (w : What) → Advances W Z old crew.objects w new after → IsReachedMoment W Z n there
   reached-after w a = reached-grows W Z n s w here there is.reached (made w a)
       (subst (λ log. length log ≤ 2 ^ 57) (sym (ap log_from at-same)) few)
       (subst (λ log. steps_in log ≤ n) (sym (ap log_from at-same)) (subst (λ k. steps_in new.log ≤ k) (budget ∙ (is.streams.own s old at).budget) within))
@@ -137,7 +137,7 @@ module _ (W : Parts) (Z : List OrderShape) (n : ℕ) (crew : CrewValue) (is : Is
   same-moment held log clock same = λ i. record {
     parts = fun_ext {f = there.parts} {g = here.parts} (λ r. own (λ q. there.parts q ≡ here.parts q) (part-after ∙ (held ∙ sym part-before)) (λ q ne. (others-stay q ne).part) r) i;
     logs = fun_ext {f = there.logs} {g = here.logs} (λ r. own (λ q. there.logs q ≡ here.logs q) (ap log_from at-same ∙ (log ∙ sym (ap log_from at))) (λ q ne. (others-stay q ne).log) r) i;
-    clocks = fun_ext {f = there.clocks} {g = here.clocks} (λ r. own (λ q. there.clocks q ≡ here.clocks q) (ap clock_from at-same ∙ (clock ∙ sym (ap clock_from at))) (λ q ne. (others-stay q ne).clock) r) i;
+    clocks = fun_ext {f = there.clocks} {g = here.clocks} (λ r. own (λ q. there.clocks q ≡ here.clocks q) (ap stream_clock at-same ∙ (clock ∙ sym (ap stream_clock at))) (λ q ne. (others-stay q ne).clock) r) i;
     objects = object_at (same i);
     times = clock_at (same i);
   } where
@@ -147,7 +147,7 @@ module _ (W : Parts) (Z : List OrderShape) (n : ℕ) (crew : CrewValue) (is : Is
   -- no clock is at its end
   unworn : (old.clock ≡ 2 ^ 62) ⊎ ((x : Site) × (clock_at crew.objects x ≡ 2 ^ 62)) → ⊥
   unworn worn = elim worn [
-    | inl e ↦ (let lt : here.clocks s < 2 ^ 62 = stream-unworn W Z is.valid is.stored n here is.reached s in let q : here.clocks s ≡ old.clock = ap clock_from at in omega arith)
+    | inl e ↦ (let lt : here.clocks s < 2 ^ 62 = stream-unworn W Z is.valid is.stored n here is.reached s in let q : here.clocks s ≡ old.clock = ap stream_clock at in omega arith)
     | inr e ↦ (let lt : here.times e.0 < 2 ^ 62 = site-unworn W Z is.valid is.stored n here is.reached e.0 in let q : here.times e.0 ≡ 2 ^ 62 = e.1 in omega arith)
   ]
 
@@ -168,7 +168,7 @@ module _ (W : Parts) (Z : List OrderShape) (n : ℕ) (crew : CrewValue) (is : Is
   crew-turned turn.Spent h awake =
       let same : there ≡ here = same-moment h.2 h.3 h.4 h.5 in (
         ((declared, ap steps_in (ap log_from at) ∙ (h.1 ∙ (is.streams.own s old at).budget), ap (due_of W s) part-before ∙ subst (λ k. due_of W k.0 old.held ≡ StepDue) numbered h.0), same),
-        (crew-after (subst (IsReached W Z n) (sym same) is.reached) (subst (IsGoing W n) (sym same) is.going), subst (IsAwake W) (sym same) awake),
+        (crew-after (subst (IsReachedMoment W Z n) (sym same) is.reached) (subst (IsGoing W n) (sym same) is.going), subst (IsAwake W) (sym same) awake),
       )
   crew-turned turn.Worn h awake = absurd (unworn h.0)
 

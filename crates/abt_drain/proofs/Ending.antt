@@ -12,14 +12,14 @@ use Rattle.abt_interleave.proofs.OneList.{merges-are-one}
 use Rattle.abt_simulation.specs.Journals.{MergesTo}
 use Rattle.abt_outcomes.specs.OneStream.{GoesToItsStop, IsOnlyRun}
 use Rattle.abt_outcomes.specs.Values.{LooksAs}
-use Rattle.abt_drain.specs.Moments.{IsReached, Moment, made_at}
+use Rattle.abt_drain.specs.Moments.{IsReachedMoment, Moment, made_at}
 use Rattle.abt_drain.specs.Rotations.{IsAtStop, IsGoing}
 use Rattle.abt_drain.specs.Runs.{HasRun, IsRunOf}
 use Rattle.abt_drain.proofs.Alone.{log-is-only, log-merges, log-stops}
 use Rattle.abt_drain.proofs.Coming.{come-ran}
 use Rattle.abt_drain.proofs.Journals.{has-come, merged-lamport}
 
-module _ (W : Parts) (Z : List OrderShape) (valid : IsValid W) (stored : OrdersStored W Z) (n : ℕ) (new : Moment) (reached : IsReached W Z n new) (going : IsGoing W n new)
+module _ (W : Parts) (Z : List OrderShape) (valid : IsValid W) (stored : OrdersStored W Z) (n : ℕ) (new : Moment) (reached : IsReachedMoment W Z n new) (going : IsGoing W n new)
     (at_stop : IsAtStop W n new) (J : List Event) (merged : MergesTo new.logs J) (o : Outcome) (looks : LooksAs W n new.parts new.objects (made_at new) o) where
   ran : IsRunOf W Z n J o
   ran = come-ran W Z valid stored n new (has-come W Z valid stored n new reached) J merged o looks

@@ -22,7 +22,7 @@ use Rattle.abt_simulation.specs.Journals.{events_of}
 use Rattle.abt_simulation.specs.Merging.{StreamDeed, SiteEntry, event_of, machine_of, same_site}
 use Rattle.abt_simulation.proofs.Merged.{tells-sites}
 use Rattle.abt_laws.proofs.Maps.{put_at-same, put_at-other}
-use Rattle.abt_drain.specs.Moments.{IsReached, Makes, Moment, Timed, made_at, next_stamp}
+use Rattle.abt_drain.specs.Moments.{IsReachedMoment, Makes, Moment, SetsClock, made_at, next_stamp}
 
 -- the last stamp of a list is that of its last item
 last-push : {A : Type 0} (stamp : A → ℕ) (n : ℕ) (xs : List A) (x : A) → last_from n (map stamp (xs ++ x ∷ [])) ≡ stamp x
@@ -48,7 +48,7 @@ module _ (W : Parts) (Z : List OrderShape) where
 
   -- the last stamps of histories, if they were the sites' clocks
   times-grow : (histories longer : Site → List SiteEntry) (d : StreamDeed) (heard : Option Heard) (old new : Site → ℕ) → HistoryGrows (machine_of W Z) histories d heard longer →
-      ((x : Site) → last_stamp (entry_stamps (histories x)) ≡ old x) → Timed old heard d.stamp new → (x : Site) → last_stamp (entry_stamps (longer x)) ≡ new x
+      ((x : Site) → last_stamp (entry_stamps (histories x)) ≡ old x) → SetsClock old heard d.stamp new → (x : Site) → last_stamp (entry_stamps (longer x)) ≡ new x
   times-grow histories longer d None old new grown was timed x = ap (λ es. last_stamp (entry_stamps es)) (grown x) ∙ (was x ∙ sym (timed x))
   times-grow histories longer d (Some h) old new grown was timed x = elim (cases-place (machine_of W Z) (tells-sites W Z) h.0 x) [
     | inl e ↦ subst (λ y. last_stamp (entry_stamps (longer y)) ≡ new y) e
@@ -62,7 +62,7 @@ module _ (W : Parts) (Z : List OrderShape) where
   is-next m deeds histories d None clocks times e = e ∙ ap suc (sym (clocks d.stream))
   is-next m deeds histories d (Some h) clocks times e = e ∙ (λ i. suc (max (sym (clocks d.stream) i) (sym (times h.0) i)))
 
-  module _ (n s : ℕ) (w : What) (old new : Moment) (reached : IsReached W Z n old) (makes : Makes W Z s w old new) where
+  module _ (n s : ℕ) (w : What) (old new : Moment) (reached : IsReachedMoment W Z n old) (makes : Makes W Z s w old new) where
     abbrev deed : StreamDeed
     deed = record { stamp = new.clocks s; stream = s; what = w; heard = makes.heard }
 
@@ -82,7 +82,7 @@ module _ (W : Parts) (Z : List OrderShape) where
     by-stream : (P : ℕ → Type 0) → P s → ((r : ℕ) → s ≢ r → P r) → (r : ℕ) → P r
     by-stream P own others r = elim (cases_eq s r) [ inl e ↦ subst P e own | inr ne ↦ others r ne ]
 
-    pub reached-grows : length (new.logs s) ≤ 2 ^ 57 → made_at new s ≤ n → IsReached W Z n new
+    pub reached-grows : length (new.logs s) ≤ 2 ^ 57 → made_at new s ≤ n → IsReachedMoment W Z n new
     reached-grows few within = record {
       deeds = more;
       histories = longer;

@@ -14,7 +14,7 @@ use Rattle.abt_interleave.proofs.Ticks.{lasts-are-clocks, timed-leaves-no-gap}
 use Rattle.abt_simulation.specs.Journals.{MergesTo}
 use Rattle.abt_simulation.specs.Merging.{machine_of}
 use Rattle.abt_simulation.proofs.MergedStamps.{merged-is-lamport}
-use Rattle.abt_drain.specs.Moments.{HasCome, IsReached, LeadTo, Moment}
+use Rattle.abt_drain.specs.Moments.{HasCome, IsReachedMoment, LeadTo, Moment}
 use Rattle.abt_drain.proofs.Coming.{come-clock-low, come-journal, come-lead, come-stream-unworn, is-journal}
 
 -- if each stamp is one more than the greater of its stream's last and its site's last, the journal's stamps are Lamport's
@@ -23,7 +23,7 @@ pub come-lamport : (W : Parts) (Z : List OrderShape) (valid : IsValid W) (stored
 come-lamport W Z valid stored n m come timed J merged =
     merged-is-lamport W Z (part_of W (start W)) (object_of W (start W)) come.deeds come.histories m.parts m.objects J come.gathered timed (is-journal W Z valid stored n m come J merged)
 
-module _ (W : Parts) (Z : List OrderShape) (valid : IsValid W) (stored : OrdersStored W Z) (n : ℕ) (m : Moment) (reached : IsReached W Z n m) where
+module _ (W : Parts) (Z : List OrderShape) (valid : IsValid W) (stored : OrdersStored W Z) (n : ℕ) (m : Moment) (reached : IsReachedMoment W Z n m) where
   -- streams have come to it
   abbrev pub has-come : HasCome W Z n m
   has-come = record {

@@ -30,7 +30,7 @@ use Rattle.abt_outcomes.proofs.Seen.{quiet-seen, spent-seen}
 use Rattle.abt_stream.specs.Streams.{StreamValue}
 use Rattle.abt_stream.specs.Streams as stream
 use Rattle.abt_stream.specs.Turned.{IsSpent}
-use Rattle.abt_drain.specs.Looks.{AreStreams, EndedWith, HasEmptyPools, IsEmptyAt, IsOutcomeOfRuns, IsQuietAt, IsQuietWith, IsSpentAt, IsStream, held_from, parts_of, steps_from, steps_made}
+use Rattle.abt_drain.specs.Looks.{AreStreams, EndedWith, HasEmptyPools, IsEmptyAt, IsOutcomeOfRuns, IsQuietAt, IsQuietWith, IsSpentAt, IsStreamOf, held_from, parts_held, steps_from, steps_made}
 
 -- One stream.
 
@@ -38,11 +38,11 @@ module _ (W : Parts) (streams : List StreamValue) (many : length streams ≡ W.s
   here : slice_get streams s ≡ Some one
   here = slice_get_read streams W.streams s one (sym many) lt at
 
-  part-here : parts_of W streams s ≡ one.held
+  part-here : parts_held W streams s ≡ one.held
   part-here = ap (held_from (start_part W s)) here
 
   -- it is idle
-  pub idle-here : IsIdle (parts_of W streams s) ↔ (stream.IsIdle one × (one.held.own.below ≡ []))
+  pub idle-here : IsIdle (parts_held W streams s) ↔ (stream.IsIdle one × (one.held.own.below ≡ []))
   idle-here = (
     λ idle. (
       (subst (λ held. held.tray ≡ []) part-here idle.tray, subst (λ held. held.next ≡ None) part-here idle.next, subst (λ held. held.hand ≡ None) part-here idle.hand),
@@ -52,13 +52,13 @@ module _ (W : Parts) (streams : List StreamValue) (many : length streams ≡ W.s
   )
 
   module _ (n : ℕ) (are : AreStreams W n streams) where
-    pub is-here : IsStream W n s one
+    pub is-here : IsStreamOf W n s one
     is-here = are.own s one here
 
     steps-here : steps_made streams s ≡ steps_in one.log
     steps-here = ap steps_from here
 
-    due-here : due_of W s (parts_of W streams s) ≡ due_of W one.number.0 one.held
+    due-here : due_of W s (parts_held W streams s) ≡ due_of W one.number.0 one.held
     due-here = (let number = is-here.number in ap (due_of W s) part-here ∙ ap (λ r. due_of W r one.held) (sym number))
 
     -- it is spent
@@ -137,8 +137,8 @@ quiet-all W streams objects = (
 
 pub runs-end : (W : Parts) (n : ℕ) (streams : List StreamValue) (objects : ObjectsValue) (o : Option Outcome) → IsValid W → EndedWith W n streams objects o → IsOutcomeOfRuns W n streams objects o
 runs-end W n streams objects (Some o) valid ended = λ Z J stored run stand made.
-    (let seen = outcome-seen W Z valid stored n J o (parts_of W streams) (object_at objects) (steps_made streams) run stand made in seen.1 ended)
+    (let seen = outcome-seen W Z valid stored n J o (parts_held W streams) (object_at objects) (steps_made streams) run stand made in seen.1 ended)
 runs-end W n streams objects None valid goes = λ Z J stored run stand made. (
-  λ quiet. goes.busy ((quiet-seen W (last_state W J) (parts_of W streams) (object_at objects) stand).0 quiet),
-  λ s spent. goes.steps s ((spent-seen W n s J (parts_of W streams) (object_at objects) (steps_made streams) stand made).0 spent),
+  λ quiet. goes.busy ((quiet-seen W (last_state W J) (parts_held W streams) (object_at objects) stand).0 quiet),
+  λ s spent. goes.steps s ((spent-seen W n s J (parts_held W streams) (object_at objects) (steps_made streams) stand made).0 spent),
 )

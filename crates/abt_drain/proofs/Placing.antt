@@ -18,16 +18,16 @@ use Rattle.abt_commons.specs.Groups.{FitsRow}
 use Rattle.abt_report.specs.declared.pictures.Row.{Row}
 use Rattle.abt_report.specs.Pictures.{SaysWordsOf}
 use Rattle.abt_stream.specs.declared.stream.StreamParts.{StreamParts}
-use Rattle.abt_stream.specs.Streams.{owned}
-use Rattle.abt_drain.specs.Pictures.{AreBelow, LeavesWhatFits, blank, placed, row_of, rows_left, units_left}
+use Rattle.abt_commons.specs.Acts.{owned}
+use Rattle.abt_drain.specs.Pictures.{AreBelow, LeavesWhatFits, blank, placed, row_shown, rows_left, units_in_parts}
 
 pub placed-append : (xs ys : List held.Row) (rows : List Row) → placed (xs ++ ys) rows ≡ placed ys (placed xs rows)
 placed-append [] ys rows = refl
-placed-append (x ∷ xs) ys rows = placed-append xs ys (set rows x.1.number (row_of x))
+placed-append (x ∷ xs) ys rows = placed-append xs ys (set rows x.1.number (row_shown x))
 
 pub length-placed : (xs : List held.Row) (rows : List Row) → length (placed xs rows) ≡ length rows
 length-placed [] rows = refl
-length-placed (x ∷ xs) rows = length-placed xs (set rows x.1.number (row_of x)) ∙ length-set rows x.1.number (row_of x)
+length-placed (x ∷ xs) rows = length-placed xs (set rows x.1.number (row_shown x)) ∙ length-set rows x.1.number (row_shown x)
 
 pub alike-append : (x : Shown) (os qs : List Owned) (rows : List Row) → placed (rows_as x (os ++ qs)) rows ≡ placed (rows_as x qs) (placed (rows_as x os) rows)
 alike-append x os qs rows = ap (λ rs. placed rs rows) (map-append (λ o. (x, o)) os qs) ∙ placed-append (rows_as x os) (rows_as x qs) rows
@@ -73,25 +73,25 @@ module _ (parts : StreamParts) where
   abbrev in_frames : List Owned
   in_frames = map owned parts.frames
 
-  but-frames : (n : ℕ) → AreBelow n (units_left parts) → AreBelow n (in_hand ++ in_next ++ in_tray)
+  but-frames : (n : ℕ) → AreBelow n (units_in_parts parts) → AreBelow n (in_hand ++ in_next ++ in_tray)
   but-frames n all = below-left n (in_hand ++ in_next ++ in_tray) in_frames all
 
   -- they are put in one after the other, and the numbers of the rest are still below the number of rows
   module _ (x : Shown) (a b : List Row) (first : b ≡ placed (rows_as x in_hand) a) where
-    pub next-below : AreBelow (length a) (units_left parts) → AreBelow (length b) in_next
+    pub next-below : AreBelow (length a) (units_in_parts parts) → AreBelow (length b) in_next
     next-below all = still-below (rows_as x in_hand) a b first in_next (below-right (length a) in_hand in_next (below-left (length a) (in_hand ++ in_next) in_tray (but-frames (length a) all)))
 
     module _ (c : List Row) (second : c ≡ placed (rows_as x in_next) b) where
-      pub tray-below : AreBelow (length a) (units_left parts) → AreBelow (length c) in_tray
+      pub tray-below : AreBelow (length a) (units_in_parts parts) → AreBelow (length c) in_tray
       tray-below all = still-below (rows_as x in_next) b c second in_tray (still-below (rows_as x in_hand) a b first in_tray (below-right (length a) (in_hand ++ in_next) in_tray (but-frames (length a) all)))
 
       module _ (d : List Row) (third : d ≡ placed (rows_as x in_tray) c) where
-        pub frames-below : AreBelow (length a) (units_left parts) → AreBelow (length d) in_frames
+        pub frames-below : AreBelow (length a) (units_in_parts parts) → AreBelow (length d) in_frames
         frames-below all =
             still-below (rows_as x in_tray) c d third in_frames (still-below (rows_as x in_next) b c second in_frames
             (still-below (rows_as x in_hand) a b first in_frames (below-right (length a) (in_hand ++ in_next ++ in_tray) in_frames all)))
 
-        pub four-put : (e : List Row) → e ≡ placed (rows_as x in_frames) d → e ≡ placed (rows_as x (units_left parts)) a
+        pub four-put : (e : List Row) → e ≡ placed (rows_as x in_frames) d → e ≡ placed (rows_as x (units_in_parts parts)) a
         four-put e fourth =
             fourth
             ∙ (ap (placed (rows_as x in_frames)) (third ∙ ap (placed (rows_as x in_tray)) (second ∙ ap (placed (rows_as x in_next)) first))
@@ -107,14 +107,14 @@ rows-below W rows all = λ k d lt. (all k d lt).number
 pub words-placed : (W : Parts) (xs : List held.Row) (rows : List Row) → All (FitsRow W) xs → All (SaysWordsOf W) rows → All (SaysWordsOf W) (placed xs rows)
 words-placed W [] rows fit said = said
 words-placed W (x ∷ xs) rows fit said =
-    words-placed W xs (set rows x.1.number (row_of x)) (All-tail (FitsRow W) x xs fit)
-    (All-set (SaysWordsOf W) rows x.1.number (row_of x) (let fits = All-head (FitsRow W) x xs fit in fits.output) said)
+    words-placed W xs (set rows x.1.number (row_shown x)) (All-tail (FitsRow W) x xs fit)
+    (All-set (SaysWordsOf W) rows x.1.number (row_shown x) (let fits = All-head (FitsRow W) x xs fit in fits.output) said)
 
 pub left-fit : (W : Parts) (s : ℕ) (streams : List StreamParts) → All (LeavesWhatFits W) streams → All (FitsRow W) (rows_left s streams)
 left-fit W s [] all = All-nil (FitsRow W)
 left-fit W s (parts ∷ rest) all =
-    All-append (FitsRow W) (rows_as (shows.Stream (stream_no s)) (units_left parts)) (rows_left (suc s) rest)
-    (All-map (FitsRow W) (λ o. (shows.Stream (stream_no s), o)) (units_left parts) (All-head (LeavesWhatFits W) parts rest all))
+    All-append (FitsRow W) (rows_as (shows.Stream (stream_no s)) (units_in_parts parts)) (rows_left (suc s) rest)
+    (All-map (FitsRow W) (λ o. (shows.Stream (stream_no s), o)) (units_in_parts parts) (All-head (LeavesWhatFits W) parts rest all))
     (left-fit W (suc s) rest (All-tail (LeavesWhatFits W) parts rest all))
 
 pub blanks-say : (W : Parts) (n : ℕ) → All (SaysWordsOf W) (replicate n blank)

@@ -17,8 +17,8 @@ use Rattle.abt_outcomes.specs.Rotations.{HasEmptied, HasNoStep, IsRotation, IsWi
 use Rattle.abt_outcomes.proofs.Falling.{steps-fall}
 use Rattle.abt_outcomes.proofs.GoingOn.{emptied-grows}
 use Rattle.abt_outcomes.proofs.Working.{seen-rotations-fall, work-is-seen}
-use Rattle.abt_drain.specs.Moments.{IsReached, LeadTo, Moment, Stays, made_at}
-use Rattle.abt_drain.specs.Rotations.{Empties, HasMissed, HasTurned, HaveTurned, IsFresh, IsQuietIn, IsSpentIn, work_at}
+use Rattle.abt_drain.specs.Moments.{IsReachedMoment, LeadTo, Moment, Stays, made_at}
+use Rattle.abt_drain.specs.Rotations.{Empties, LastRoundIsEmpty, HasTurned, HaveTurned, HasSeenNone, IsQuietIn, IsSpentIn, work_at}
 use Rattle.abt_drain.proofs.Journals.{some-journal}
 use Rattle.abt_drain.proofs.Leading.{leads-join, none-lead}
 use Rattle.abt_drain.proofs.Taking.{differ, no-step-front, no-step-join, no-step-rest, stays-same, stays-then}
@@ -41,7 +41,7 @@ none-turned W Z n m = record {
 spent-stays : (W : Parts) (n : ℕ) (old new : Moment) (r : ℕ) → Stays old new r → IsSpentIn W n old r → IsSpentIn W n new r
 spent-stays W n old new r stays spent = (spent.0, ap steps_in stays.log ∙ spent.1, ap (due_of W r) stays.part ∙ spent.2)
 
-missed-stays : (old new : Moment) (r : ℕ) → Stays old new r → HasMissed old r → HasMissed new r
+missed-stays : (old new : Moment) (r : ℕ) → Stays old new r → LastRoundIsEmpty old r → LastRoundIsEmpty new r
 missed-stays old new r stays missed = record {
   before = missed.before;
   pool = missed.pool;
@@ -49,7 +49,7 @@ missed-stays old new r stays missed = record {
   empty = ap (λ p. p.own.top.empty) stays.part ∙ missed.empty;
 }
 
-fresh-stays : (old new : Moment) (r : ℕ) → Stays old new r → IsFresh old r → IsFresh new r
+fresh-stays : (old new : Moment) (r : ℕ) → Stays old new r → HasSeenNone old r → HasSeenNone new r
 fresh-stays old new r stays fresh = ap (λ p. p.own.top.seen) stays.part ∙ fresh
 
 -- whether a step was made, with the next stream's turns
@@ -80,13 +80,13 @@ module _ (W : Parts) (Z : List OrderShape) (n s : ℕ) (old mid new : Moment) (a
   lower-stays : (r : ℕ) → r < s → Stays mid new r
   lower-stays r lt = next.others r (λ e. absurd (omega arith))
 
-  all-emptied : (a ≡ false) → (b ≡ false) → (r : ℕ) → r < suc s → (Empties W Z old (turned.events ++ next.events) r × HasMissed new r) ⊎ IsSpentIn W n new r
+  all-emptied : (a ≡ false) → (b ≡ false) → (r : ℕ) → r < suc s → (Empties W Z old (turned.events ++ next.events) r × LastRoundIsEmpty new r) ⊎ IsSpentIn W n new r
   all-emptied idle none r lt = elim (below r lt) [
     | inl l ↦ elim (turned.emptied idle r l) [
       | inl m ↦ inl (empties-front r m.0, missed-stays mid new r (lower-stays r l) m.1)
       | inr spent ↦ inr (spent-stays W n mid new r (lower-stays r l) spent)
     ]
-    | inr e ↦ subst (λ q. (Empties W Z old (turned.events ++ next.events) q × HasMissed new q) ⊎ IsSpentIn W n new q) e
+    | inr e ↦ subst (λ q. (Empties W Z old (turned.events ++ next.events) q × LastRoundIsEmpty new q) ⊎ IsSpentIn W n new q) e
         (elim (next.emptied none) [ inl m ↦ inl (empties-rest s m.0, m.1) | inr spent ↦ inr spent ])
   ]
 
@@ -103,12 +103,12 @@ module _ (W : Parts) (Z : List OrderShape) (n s : ℕ) (old mid new : Moment) (a
     emptied = λ q. all-emptied (either-false a b q).0 (either-false a b q).1;
     fresh = λ r lt. elim (below r lt) [
       | inl l ↦ fresh-stays mid new r (lower-stays r l) (turned.fresh r l)
-      | inr e ↦ subst (IsFresh new) e next.fresh
+      | inr e ↦ subst (HasSeenNone new) e next.fresh
     ];
     others = λ r le. stays-then old mid new r (turned.others r (omega arith)) (next.others r (λ e. absurd (omega arith)));
   }
 
-module _ (W : Parts) (Z : List OrderShape) (valid : IsValid W) (stored : OrdersStored W Z) (n : ℕ) (old new : Moment) (before : IsReached W Z n old) (after : IsReached W Z n new) (stepped : Bool)
+module _ (W : Parts) (Z : List OrderShape) (valid : IsValid W) (stored : OrdersStored W Z) (n : ℕ) (old new : Moment) (before : IsReachedMoment W Z n old) (after : IsReachedMoment W Z n new) (stepped : Bool)
     (turned : HaveTurned W Z n W.streams old stepped new) where
   journal : (J : List Event) × LeadTo W Z J old
   journal = some-journal W Z valid stored n old before
@@ -128,7 +128,7 @@ module _ (W : Parts) (Z : List OrderShape) (valid : IsValid W) (stored : OrdersS
       ]
 
   -- so does one without a step, after which something is left to do and no stream is spent
-  pub rounds-lower : ((s : ℕ) → s < W.streams → IsFresh old s) → stepped ≡ false → (IsQuietIn W new → ⊥) → ((s : ℕ) → IsSpentIn W n new s → ⊥) → work_at W n new < work_at W n old
+  pub rounds-lower : ((s : ℕ) → s < W.streams → HasSeenNone old s) → stepped ≡ false → (IsQuietIn W new → ⊥) → ((s : ℕ) → IsSpentIn W n new s → ⊥) → work_at W n new < work_at W n old
   rounds-lower fresh idle busy unspent =
       let rotates : HasNoStep turned.events → IsRotation W (last_state W journal.0) turned.events = λ none. record {
         fresh = λ s lt. ap (λ p. p.own.top.seen) (journal.1.stand.streams s lt) ∙ fresh s lt;

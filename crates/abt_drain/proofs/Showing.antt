@@ -22,7 +22,7 @@ use Rattle.abt_machine.specs.Texts.{ShownUnit, shown}
 use Rattle.abt_machine.specs.Valid.{IsValid}
 use Rattle.abt_machine.specs.Values.{Owned, object_of, part_of}
 use Rattle.abt_laws.specs.Footprint.{Holder, OfStream, OfSite}
-use Rattle.abt_calls.specs.Holders.{units_of, units_with}
+use Rattle.abt_calls.specs.Holders.{units_held, units_with}
 use Rattle.abt_calls.specs.Showing as held
 use Rattle.abt_calls.specs.Showing.{IsRowOf, rows_as, rows_of_object, rows_with}
 use Rattle.abt_calls.specs.Totals.{all_holders, all_units, desks_of, holders_from, pools_at, streams_of, thing_holders}
@@ -33,7 +33,7 @@ use Rattle.abt_commons.specs.Held.{ObjectsValue, object_at}
 use Rattle.abt_report.specs.declared.pictures.Row.{Row}
 use Rattle.abt_report.specs.Pictures as picture
 use Rattle.abt_stream.specs.declared.stream.StreamParts.{StreamParts}
-use Rattle.abt_drain.specs.Pictures.{AreOf, ShowsUnits, blank, placed, row_of, rows_left, units_left}
+use Rattle.abt_drain.specs.Pictures.{AreOf, ShowsUnits, blank, placed, row_shown, rows_left, units_in_parts}
 use Rattle.abt_drain.proofs.Placing.{length-placed}
 
 -- Rows that are put in.
@@ -43,25 +43,25 @@ module _ (S : State) where
   abbrev unit_at : ℕ → ShownUnit
   unit_at u = record { shown = shown (S.place u); output = (S.carried u).output }
 
-  right-row : (row : held.Row) → IsRowOf S row → picture.unit_of (row_of row) ≡ unit_at row.1.number
+  right-row : (row : held.Row) → IsRowOf S row → picture.unit_in_row (row_shown row) ≡ unit_at row.1.number
   right-row row is = ap₂ (λ x (o : Owned). record { shown = x; output = o.carried.output }) is.0 is.1
 
   -- after right rows were put in, the row of a number is right if it was before, or if one was put in for it
   placed-right : (xs : List held.Row) (rows : List Row) (u : ℕ) (d : Row) → All (IsRowOf S) xs → u < length rows
-      → (picture.unit_of (get_or rows u d) ≡ unit_at u → picture.unit_of (get_or (placed xs rows) u d) ≡ unit_at u)
-      × (Contains (map (λ (row : held.Row). row.1.number) xs) u → picture.unit_of (get_or (placed xs rows) u d) ≡ unit_at u)
+      → (picture.unit_in_row (get_or rows u d) ≡ unit_at u → picture.unit_in_row (get_or (placed xs rows) u d) ≡ unit_at u)
+      × (Contains (map (λ (row : held.Row). row.1.number) xs) u → picture.unit_in_row (get_or (placed xs rows) u d) ≡ unit_at u)
   placed-right [] rows u d right lt = (λ was. was, λ has. (let within = has.1 in absurd (omega (arith, within))))
   placed-right (x ∷ xs) rows u d right lt =
-      let later = placed-right xs (set rows x.1.number (row_of x)) u d (All-tail (IsRowOf S) x xs right) (subst (λ n. u < n) (sym (length-set rows x.1.number (row_of x))) lt) in
+      let later = placed-right xs (set rows x.1.number (row_shown x)) u d (All-tail (IsRowOf S) x xs right) (subst (λ n. u < n) (sym (length-set rows x.1.number (row_shown x))) lt) in
       let here = right-row x (All-head (IsRowOf S) x xs right) in
       elim (eqb_tells u x.1.number) [
         | inl same ↦
-            let now : picture.unit_of (get_or (set rows x.1.number (row_of x)) u d) ≡ unit_at u =
-            subst (λ v. picture.unit_of (get_or (set rows x.1.number (row_of x)) v d) ≡ unit_at v) (sym same.1)
-            (ap picture.unit_of (get_or-set_same rows x.1.number (row_of x) d (subst (λ v. v < length rows) same.1 lt)) ∙ here) in
+            let now : picture.unit_in_row (get_or (set rows x.1.number (row_shown x)) u d) ≡ unit_at u =
+            subst (λ v. picture.unit_in_row (get_or (set rows x.1.number (row_shown x)) v d) ≡ unit_at v) (sym same.1)
+            (ap picture.unit_in_row (get_or-set_same rows x.1.number (row_shown x) d (subst (λ v. v < length rows) same.1 lt)) ∙ here) in
             (λ was. later.0 now, λ has. later.0 now)
         | inr other ↦ (
-          λ was. later.0 (ap picture.unit_of (get_or-set_other rows x.1.number u (row_of x) d other.1) ∙ was),
+          λ was. later.0 (ap picture.unit_in_row (get_or-set_other rows x.1.number u (row_shown x) d other.1) ∙ was),
           λ has. later.1 (Contains-tail x.1.number (map (λ (row : held.Row). row.1.number) xs) u (λ e. other.1 (sym e)) has),
         )
       ]
@@ -88,16 +88,16 @@ module _ (W : Parts) (S : State) where
       ∙ (ap₂ (λ x y. x ++ y) (numbers-alike (rows_with W S h) ∙ ap (map number_of) (units-have-rows W S h)) (numbers-of hs)
       ∙ sym (map-append number_of (units_with W S h) (flat_map (units_with W S) hs)))
 
-  streams-from : (left : List StreamParts) (s : ℕ) → ((k : ℕ) (parts : StreamParts) → slice_get left k ≡ Some parts → units_left parts ≡ units_of (part_of W S (s + k)))
+  streams-from : (left : List StreamParts) (s : ℕ) → ((k : ℕ) (parts : StreamParts) → slice_get left k ≡ Some parts → units_in_parts parts ≡ units_held (part_of W S (s + k)))
       → rows_left s left ≡ flat_map (rows_with W S) (map (λ r. OfStream r) (range_with_len s (length left)))
   streams-from [] s same = refl
   streams-from (parts ∷ left) s same =
       let e : s + 0 ≡ s = omega arith in
       let e' : suc s ≡ s + 1 = omega arith in
       ap₂ (λ x y. x ++ y)
-      (ap (rows_as (shows.Stream (stream_no s))) (same 0 parts refl ∙ ap (λ r. units_of (part_of W S r)) e))
+      (ap (rows_as (shows.Stream (stream_no s))) (same 0 parts refl ∙ ap (λ r. units_held (part_of W S r)) e))
       (ap (λ r. rows_left r left) e'
-      ∙ streams-from left (s + 1) (λ k p is. (let f : s + suc k ≡ s + 1 + k = omega arith in same (suc k) p is ∙ ap (λ r. units_of (part_of W S r)) f)))
+      ∙ streams-from left (s + 1) (λ k p is. (let f : s + suc k ≡ s + 1 + k = omega arith in same (suc k) p is ∙ ap (λ r. units_held (part_of W S r)) f)))
 
   module _ (objects : ObjectsValue) (own : objects.workload ≡ W) (same : (x : Site) → object_of W S x ≡ object_at objects x) where
     same-at : (x : Site) → rows_held objects (OfSite x) ≡ rows_with W S (OfSite x)
@@ -145,7 +145,7 @@ module _ (W : Parts) (S : State) where
         let ds = desks_of W in
         let ts = holders_from 0 W.objects in
         let left : rows_left 0 streams ≡ flat_map f ss =
-        streams-from streams 0 (λ k parts is. (let e : k ≡ 0 + k = omega arith in are.left k parts is ∙ ap (λ r. units_of (part_of W S r)) e))
+        streams-from streams 0 (λ k parts is. (let e : k ≡ 0 + k = omega arith in are.left k parts is ∙ ap (λ r. units_held (part_of W S r)) e))
         ∙ ap (λ n. flat_map f (map (λ r. OfStream r) (range_with_len 0 n))) are.many in
         ap₂ (λ a b. a ++ b) left same-objects
         ∙ (sym (append_assoc (flat_map f ss) (flat_map f ps ++ flat_map f ds) (flat_map f ts))
@@ -155,7 +155,7 @@ module _ (W : Parts) (S : State) where
 
 -- Pictures.
 
-same-items : (n a : ℕ) (g : ℕ → ShownUnit) (rows : List Row) → length rows ≡ n → ((k : ℕ) (d : Row) → k < n → picture.unit_of (get_or rows k d) ≡ g (a + k)) → map g (range_with_len a n) ≡ picture.units_of rows
+same-items : (n a : ℕ) (g : ℕ → ShownUnit) (rows : List Row) → length rows ≡ n → ((k : ℕ) (d : Row) → k < n → picture.unit_in_row (get_or rows k d) ≡ g (a + k)) → map g (range_with_len a n) ≡ picture.units_in_rows rows
 same-items zero a g [] many each = refl
 same-items zero a g (row ∷ rows) many each = absurd (omega (arith, many))
 same-items (suc n) a g [] many each = absurd (omega (arith, many))

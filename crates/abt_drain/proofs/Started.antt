@@ -12,7 +12,7 @@ use Rattle.abt_commons.specs.Held.{ObjectsValue}
 use Rattle.abt_commons.specs.Placing.{ArePlaced}
 use Rattle.abt_stream.specs.Streams.{StreamValue}
 use Rattle.abt_laws.proofs.Options.{some-injective}
-use Rattle.abt_drain.specs.Crews.{AreStarted, IsCrew, IsStarted, clock_from, log_from, moment_of}
+use Rattle.abt_drain.specs.Crews.{AreStarted, IsCrew, IsStarted, stream_clock, log_from, moment_of}
 use Rattle.abt_drain.specs.Looks.{AreStreams, held_from}
 use Rattle.abt_drain.specs.Moments.{IsStart}
 use Rattle.abt_drain.proofs.Starting.{start-going, start-reached}
@@ -44,7 +44,7 @@ module _ (W : Parts) (n : ℕ) where
     by-log s None e = refl
     by-log s (Some stream) e = (all.own s stream e).log
 
-    by-clock : (s : ℕ) (o : Option StreamValue) → slice_get streams s ≡ o → clock_from o ≡ 0
+    by-clock : (s : ℕ) (o : Option StreamValue) → slice_get streams s ≡ o → stream_clock o ≡ 0
     by-clock s None e = refl
     by-clock s (Some stream) e = (all.own s stream e).clock
 

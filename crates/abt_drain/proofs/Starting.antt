@@ -10,8 +10,8 @@ use Rattle.abt_machine.specs.Values.{object_of, part_of}
 use Rattle.abt_interleave.specs.Machines.{Gathered}
 use Rattle.abt_interleave.proofs.Members.{to-among}
 use Rattle.abt_simulation.specs.Merging.{machine_of}
-use Rattle.abt_drain.specs.Moments.{HasCome, IsReached, IsStart, Moment, made_at}
-use Rattle.abt_drain.specs.Rotations.{IsAwake, IsFresh, IsGoing}
+use Rattle.abt_drain.specs.Moments.{HasCome, IsReachedMoment, IsStart, Moment, made_at}
+use Rattle.abt_drain.specs.Rotations.{IsAwake, HasSeenNone, IsGoing}
 
 pub no-member : {A : Type 0} (x : A) → Contains [] x → ⊥
 no-member x m = to-among [] x m
@@ -35,7 +35,7 @@ module _ (W : Parts) (m : Moment) (is : IsStart W m) where
   pub start-within : (n s : ℕ) → made_at m s ≤ n
   start-within n s = subst (λ log. steps_in log ≤ n) (sym (is.logs s)) (omega arith)
 
-  pub start-reached : (Z : List OrderShape) (n : ℕ) → IsReached W Z n m
+  pub start-reached : (Z : List OrderShape) (n : ℕ) → IsReachedMoment W Z n m
   start-reached Z n = record {
     deeds = λ s. [];
     histories = λ x. [];
@@ -66,5 +66,5 @@ module _ (W : Parts) (m : Moment) (is : IsStart W m) where
   pub start-awake : IsAwake W m
   start-awake alone ended = no-last ended.0 ended.1 (sym (is.logs 0) ∙ ended.2)
 
-  pub start-fresh : (s : ℕ) → s < W.streams → IsFresh m s
+  pub start-fresh : (s : ℕ) → s < W.streams → HasSeenNone m s
   start-fresh s lt = sym (ap (λ p. p.own.top.seen) (is.parts s lt))

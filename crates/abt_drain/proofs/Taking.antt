@@ -22,8 +22,8 @@ use Rattle.abt_outcomes.proofs.GoingOn.{emptied-grows}
 use Rattle.abt_laws.proofs.DueParts.{due-same}
 use Rattle.abt_outcomes.proofs.WithinTurns.{turns-fall}
 use Rattle.abt_outcomes.proofs.Working.{turns-left-are-seen}
-use Rattle.abt_drain.specs.Moments.{IsReached, LeadTo, Makes, Moment, Stays, event_at}
-use Rattle.abt_drain.specs.Rotations.{EndsRound, HasTurned, IsFresh, IsSpentIn, Lead, MakesMove, MakesStep, Moves, turns_at}
+use Rattle.abt_drain.specs.Moments.{IsReachedMoment, LeadTo, Makes, Moment, Stays, event_at}
+use Rattle.abt_drain.specs.Rotations.{EndsRoundAt, HasTurned, HasSeenNone, IsSpentIn, Lead, MakesMove, MakesStep, MovesOn, turns_at}
 use Rattle.abt_drain.proofs.Journals.{some-journal}
 use Rattle.abt_drain.proofs.Leading.{event-comes, event-leads, lead-sound, leads-join, makes-lead}
 
@@ -61,14 +61,14 @@ step-no-miss (what.Leave u) step miss = miss
 
 module _ (W : Parts) (Z : List OrderShape) (valid : IsValid W) (stored : OrdersStored W Z) (n s : ℕ) where
   -- one event more
-  joined : (old mid new : Moment) (w : What) → (moves : Moves W Z s old mid) → Makes W Z s w mid new → Lead W Z old (moves.events ++ event_at new s w ∷ []) new
+  joined : (old mid new : Moment) (w : What) → (moves : MovesOn W Z s old mid) → Makes W Z s w mid new → Lead W Z old (moves.events ++ event_at new s w ∷ []) new
   joined old mid new w moves makes = leads-join W Z old mid new moves.events (event_at new s w ∷ []) moves.lead (makes-lead W Z valid stored s w mid new makes)
 
-  others-stay : (old mid new : Moment) (w : What) → Moves W Z s old mid → Makes W Z s w mid new → (r : ℕ) → s ≢ r → Stays old new r
+  others-stay : (old mid new : Moment) (w : What) → MovesOn W Z s old mid → Makes W Z s w mid new → (r : ℕ) → s ≢ r → Stays old new r
   others-stay old mid new w moves makes r ne = stays-then old mid new r (moves.others r ne) (makes.others r ne)
 
   -- an event that goes on
-  pub move-more : (old mid new : Moment) → Moves W Z s old mid → MakesMove W Z s mid new → Moves W Z s old new
+  pub move-more : (old mid new : Moment) → MovesOn W Z s old mid → MakesMove W Z s mid new → MovesOn W Z s old new
   move-more old mid new moves move = record {
     events = moves.events ++ event_at new s move.what ∷ [];
     lead = joined old mid new move.what moves move.makes;
@@ -77,7 +77,7 @@ module _ (W : Parts) (Z : List OrderShape) (valid : IsValid W) (stored : OrdersS
   }
 
   -- it lowers what is left to the turn
-  pub move-lowers : (old new : Moment) → IsReached W Z n old → MakesMove W Z s old new → turns_at W new s < turns_at W old s
+  pub move-lowers : (old new : Moment) → IsReachedMoment W Z n old → MakesMove W Z s old new → turns_at W new s < turns_at W old s
   move-lowers old new reached move =
       let j : (J : List Event) × LeadTo W Z J old = some-journal W Z valid stored n old reached in
       let e : Event = event_at new s move.what in
@@ -94,7 +94,7 @@ module _ (W : Parts) (Z : List OrderShape) (valid : IsValid W) (stored : OrdersS
       subst (λ k. turns_at W new s < k) a (subst (λ k. k < turns_left W S s) b less)
 
   -- after an event that is no miss, or ends the round empty, no pool is seen
-  fresh-after : (old new : Moment) (w : What) → IsReached W Z n old → Makes W Z s w old new → (IsMiss w → (new.parts s).own.top.empty ≡ true) → IsFresh new s
+  fresh-after : (old new : Moment) (w : What) → IsReachedMoment W Z n old → Makes W Z s w old new → (IsMiss w → (new.parts s).own.top.empty ≡ true) → HasSeenNone new s
   fresh-after old new w reached makes ends =
       let j : (J : List Event) × LeadTo W Z J old = some-journal W Z valid stored n old reached in
       let e : Event = event_at new s w in
@@ -105,7 +105,7 @@ module _ (W : Parts) (Z : List OrderShape) (valid : IsValid W) (stored : OrdersS
       (event-comes W Z valid stored s w old new makes j.0 j.1) (λ miss. ap (λ p. p.own.top.empty) own ∙ ends miss)
 
   -- a step ends the turns
-  pub turned-by-step : (old mid new : Moment) → Moves W Z s old mid → IsReached W Z n mid → MakesStep W Z s mid new → HasTurned W Z n s old true new
+  pub turned-by-step : (old mid new : Moment) → MovesOn W Z s old mid → IsReachedMoment W Z n mid → MakesStep W Z s mid new → HasTurned W Z n s old true new
   turned-by-step old mid new moves reached step = record {
     events = moves.events ++ event_at new s step.what ∷ [];
     lead = joined old mid new step.what moves step.makes;
@@ -117,7 +117,7 @@ module _ (W : Parts) (Z : List OrderShape) (valid : IsValid W) (stored : OrdersS
   }
 
   -- the miss by which a round ends empty
-  ends-empty : (mid new : Moment) (ends : EndsRound W Z s mid new) (S : State) (J : List Event) → LeadTo W Z J mid → last_state W J ≡ S → HasEmptied W s S (event_at new s (what.Miss ends.pool) ∷ [])
+  ends-empty : (mid new : Moment) (ends : EndsRoundAt W Z s mid new) (S : State) (J : List Event) → LeadTo W Z J mid → last_state W J ≡ S → HasEmptied W s S (event_at new s (what.Miss ends.pool) ∷ [])
   ends-empty mid new ends S J lead e =
       subst (λ T. HasEmptied W s T (event_at new s (what.Miss ends.pool) ∷ [])) e
       (let next : last_state W (J ++ event_at new s (what.Miss ends.pool) ∷ []) ≡ _ = (event-comes W Z valid stored s (what.Miss ends.pool) mid new ends.makes J lead).2 in
@@ -125,7 +125,7 @@ module _ (W : Parts) (Z : List OrderShape) (valid : IsValid W) (stored : OrdersS
       inl (refl, tt, sym (ap (λ T. (T.stream s).top.empty) next) ∙ (ap (λ p. p.own.top.empty) own ∙ ends.empty)))
 
   -- an empty round ends the turns
-  pub turned-by-round : (old mid new : Moment) → Moves W Z s old mid → IsReached W Z n mid → EndsRound W Z s mid new → HasTurned W Z n s old false new
+  pub turned-by-round : (old mid new : Moment) → MovesOn W Z s old mid → IsReachedMoment W Z n mid → EndsRoundAt W Z s mid new → HasTurned W Z n s old false new
   turned-by-round old mid new moves reached ends =
       let e : Event = event_at new s (what.Miss ends.pool) in
       record {
@@ -143,7 +143,7 @@ module _ (W : Parts) (Z : List OrderShape) (valid : IsValid W) (stored : OrdersS
       }
 
   -- so does that the stream is spent
-  pub turned-spent : (old mid : Moment) → Moves W Z s old mid → IsReached W Z n mid → IsSpentIn W n mid s → HasTurned W Z n s old false mid
+  pub turned-spent : (old mid : Moment) → MovesOn W Z s old mid → IsReachedMoment W Z n mid → IsSpentIn W n mid s → HasTurned W Z n s old false mid
   turned-spent old mid moves reached spent =
       let j : (J : List Event) × LeadTo W Z J mid = some-journal W Z valid stored n mid reached in
       let own : part_of W (last_state W j.0) s ≡ mid.parts s = j.1.stand.streams s spent.0 in

@@ -15,7 +15,7 @@ use Rattle.abt_machine.specs.Outcomes.{is_step, steps_in}
 use Rattle.abt_machine.specs.Rounds.{OrdersStored}
 use Rattle.abt_machine.specs.Turns.{Heard, Steps, due_of}
 use Rattle.abt_machine.specs.Valid.{IsValid}
-use Rattle.abt_calls.specs.Holders.{units_of}
+use Rattle.abt_calls.specs.Holders.{units_held}
 use Rattle.abt_calls.specs.Starts.{start_part}
 use Rattle.abt_interleave.specs.Deeds.{Answered}
 use Rattle.abt_commons.specs.Held.{ObjectsValue, clock_at, object_at}
@@ -25,10 +25,10 @@ use Rattle.abt_stream.specs.Streams.{FitsShapes, FitsStream, StreamValue}
 use Rattle.abt_stream.specs.declared.stream.StreamParts.{StreamParts}
 use Rattle.abt_stream.specs.declared.turns.Turn.{Turn}
 use Rattle.abt_stream.specs.declared.turns.Turn.TheVariants as turn
-use Rattle.abt_drain.specs.Looks.{AreStreams, EndedWith, parts_of}
-use Rattle.abt_drain.specs.Moments.{IsReached, Moment, Timed, made_at, stamp_by}
-use Rattle.abt_drain.specs.Pictures.{units_left}
-use Rattle.abt_drain.specs.Rotations.{EndsRound, HaveTurned, IsAwake, IsGoing, IsSpentIn, MakesMove, MakesStep}
+use Rattle.abt_drain.specs.Looks.{AreStreams, EndedWith, parts_held}
+use Rattle.abt_drain.specs.Moments.{IsReachedMoment, Moment, SetsClock, made_at, stamp_by}
+use Rattle.abt_drain.specs.Pictures.{units_in_parts}
+use Rattle.abt_drain.specs.Rotations.{EndsRoundAt, HaveTurned, IsAwake, IsGoing, IsSpentIn, MakesMove, MakesStep}
 
 -- the workload, how many steps each stream may make, the objects, and the streams in order of number
 pub record CrewValue : Type 0 where
@@ -41,16 +41,16 @@ abbrev pub log_from : Option StreamValue → List Event
 log_from None = []
 log_from (Some stream) = stream.log
 
-abbrev pub clock_from : Option StreamValue → ℕ
-clock_from None = 0
-clock_from (Some stream) = stream.clock
+abbrev pub stream_clock : Option StreamValue → ℕ
+stream_clock None = 0
+stream_clock (Some stream) = stream.clock
 
 -- the moment of a run of W at which streams and objects are so
 abbrev pub moment_of : Parts → List StreamValue → ObjectsValue → Moment
 moment_of W streams objects = record {
-  parts = parts_of W streams;
+  parts = parts_held W streams;
   logs = λ s. log_from (slice_get streams s);
-  clocks = λ s. clock_from (slice_get streams s);
+  clocks = λ s. stream_clock (slice_get streams s);
   objects = object_at objects;
   times = clock_at objects;
 }
@@ -67,7 +67,7 @@ pub record IsCrew (W : Parts) (Z : List OrderShape) (n : ℕ) (crew : CrewValue)
   pub objects : crew.objects.workload ≡ W
   pub streams : AreStreams W n crew.streams
   pub shapes : (s : ℕ) (stream : StreamValue) → slice_get crew.streams s ≡ Some stream → FitsShapes W Z stream
-  pub reached : IsReached W Z n (moment_in W crew)
+  pub reached : IsReachedMoment W Z n (moment_in W crew)
   pub going : IsGoing W n (moment_in W crew)
 
 -- One stream.
@@ -78,7 +78,7 @@ pub record Advances (W : Parts) (Z : List OrderShape) (old : StreamValue) (befor
   pub steps : Steps W Z old.number.0 old.held w heard new.held
   pub answered : Answered SiteGives (object_at before) heard (object_at after)
   pub clock : new.clock ≡ stamp_by old.clock (clock_at before) heard
-  pub times : Timed (clock_at before) heard new.clock (clock_at after)
+  pub times : SetsClock (clock_at before) heard new.clock (clock_at after)
   pub log : new.log ≡ old.log ++ record { stamp = new.clock; stream = old.number; what = w } ∷ []
 
 -- a turn of a stream, by its answer; it is worn only if its own clock or that of an object is at its end
@@ -96,7 +96,7 @@ TurnsBy W Z old before turn.Worn new after = ((old.clock ≡ 2 ^ 62) ⊎ ((x : S
 -- a turn of stream s, by its answer: no turn is worn
 abbrev pub TurnBy : Parts → List OrderShape → ℕ → ℕ → Moment → Turn → Moment → Type 0
 TurnBy W Z n s old turn.Stepped new = MakesStep W Z s old new
-TurnBy W Z n s old turn.EmptyRound new = EndsRound W Z s old new
+TurnBy W Z n s old turn.EmptyRound new = EndsRoundAt W Z s old new
 TurnBy W Z n s old turn.Moved new = MakesMove W Z s old new
 TurnBy W Z n s old turn.Spent new = IsSpentIn W n old s × (new ≡ old)
 TurnBy W Z n s old turn.Worn new = ⊥
@@ -139,7 +139,7 @@ abbrev pub HaveLeft : List StreamValue → List StreamParts → Type 0
 HaveLeft [] [] = ⊤
 HaveLeft [] (parts ∷ rest) = ⊥
 HaveLeft (stream ∷ streams) [] = ⊥
-HaveLeft (stream ∷ streams) (parts ∷ rest) = (units_left parts ≡ units_of stream.held) × HaveLeft streams rest
+HaveLeft (stream ∷ streams) (parts ∷ rest) = (units_in_parts parts ≡ units_held stream.held) × HaveLeft streams rest
 
 abbrev pub log_in : StreamValue → List Event
 log_in stream = stream.log

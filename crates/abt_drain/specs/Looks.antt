@@ -20,7 +20,7 @@ use Rattle.abt_stream.specs.Streams.{FitsStream, StreamValue}
 -- Streams by number.
 
 -- the stream is the one of that number, fits W, and may make n steps
-pub record IsStream (W : Parts) (n s : ℕ) (stream : StreamValue) : Type 0 where
+pub record IsStreamOf (W : Parts) (n s : ℕ) (stream : StreamValue) : Type 0 where
   pub number : stream.number.0 ≡ s
   pub fits : FitsStream W stream
   pub budget : stream.budget ≡ n
@@ -28,15 +28,15 @@ pub record IsStream (W : Parts) (n s : ℕ) (stream : StreamValue) : Type 0 wher
 -- all streams of W, in order of number
 pub record AreStreams (W : Parts) (n : ℕ) (streams : List StreamValue) : Type 0 where
   pub many : length streams ≡ W.streams
-  pub own : (s : ℕ) (stream : StreamValue) → slice_get streams s ≡ Some stream → IsStream W n s stream
+  pub own : (s : ℕ) (stream : StreamValue) → slice_get streams s ≡ Some stream → IsStreamOf W n s stream
 
 abbrev pub held_from : Held → Option StreamValue → Held
 held_from first None = first
 held_from first (Some stream) = stream.held
 
 -- what stream s holds: one that is not declared, what it would at the start
-abbrev pub parts_of : Parts → List StreamValue → ℕ → Held
-parts_of W streams s = held_from (start_part W s) (slice_get streams s)
+abbrev pub parts_held : Parts → List StreamValue → ℕ → Held
+parts_held W streams s = held_from (start_part W s) (slice_get streams s)
 
 abbrev pub steps_from : Option StreamValue → ℕ
 steps_from None = 0
@@ -50,7 +50,7 @@ steps_made streams s = steps_from (slice_get streams s)
 
 -- nothing
 abbrev pub IsQuietWith : Parts → List StreamValue → ObjectsValue → Type 0
-IsQuietWith W streams objects = LooksQuiet W (parts_of W streams) (object_at objects)
+IsQuietWith W streams objects = LooksQuiet W (parts_held W streams) (object_at objects)
 
 -- the pool is empty
 abbrev pub IsEmptyAt : ObjectsValue → ℕ → Type 0
@@ -62,11 +62,11 @@ HasEmptyPools W objects s = All (IsEmptyAt objects) (pools_of W (main_of W s))
 
 -- stream s holds nothing, and the pools that it takes from are empty
 abbrev pub IsQuietAt : Parts → List StreamValue → ObjectsValue → ℕ → Type 0
-IsQuietAt W streams objects s = IsIdle (parts_of W streams s) × HasEmptyPools W objects s
+IsQuietAt W streams objects s = IsIdle (parts_held W streams s) × HasEmptyPools W objects s
 
 -- stream s has made its n steps, and would make another
 abbrev pub IsSpentAt : Parts → ℕ → List StreamValue → ℕ → Type 0
-IsSpentAt W n streams s = LooksSpent W n (parts_of W streams) (steps_made streams) s
+IsSpentAt W n streams s = LooksSpent W n (parts_held W streams) (steps_made streams) s
 
 -- Outcomes.
 
@@ -77,7 +77,7 @@ pub record GoesOn (W : Parts) (n : ℕ) (streams : List StreamValue) (objects : 
 
 -- it ended so, or it goes on
 abbrev pub EndedWith : Parts → ℕ → List StreamValue → ObjectsValue → Option Outcome → Type 0
-EndedWith W n streams objects (Some o) = LooksAs W n (parts_of W streams) (object_at objects) (steps_made streams) o
+EndedWith W n streams objects (Some o) = LooksAs W n (parts_held W streams) (object_at objects) (steps_made streams) o
 EndedWith W n streams objects None = GoesOn W n streams objects
 
 -- if each stream may make n steps, the journal ended so, or it has no end yet
@@ -88,5 +88,5 @@ EndsWith W n J None = (Quiet W (last_state W J) → ⊥) × ((s : ℕ) → Spent
 -- so ended each run to whose last state these streams and objects belong
 abbrev pub IsOutcomeOfRuns : Parts → ℕ → List StreamValue → ObjectsValue → Option Outcome → Type 0
 IsOutcomeOfRuns W n streams objects outcome =
-    (Z : List OrderShape) (J : List Event) → OrdersStored W Z → Run W Z J → StandFor W (last_state W J) (parts_of W streams) (object_at objects)
+    (Z : List OrderShape) (J : List Event) → OrdersStored W Z → Run W Z J → StandFor W (last_state W J) (parts_held W streams) (object_at objects)
     → HaveMade W J (steps_made streams) → EndsWith W n J outcome

@@ -44,9 +44,9 @@ abbrev pub next_stamp : Moment → ℕ → Option Heard → ℕ
 next_stamp m s heard = stamp_by (m.clocks s) m.times heard
 
 -- the clock of the called site becomes the stamp
-abbrev pub Timed : (Site → ℕ) → Option Heard → ℕ → (Site → ℕ) → Type 0
-Timed old None stamp new = (x : Site) → new x ≡ old x
-Timed old (Some h) stamp new = (new h.0 ≡ stamp) × ((x : Site) → h.0 ≢ x → new x ≡ old x)
+abbrev pub SetsClock : (Site → ℕ) → Option Heard → ℕ → (Site → ℕ) → Type 0
+SetsClock old None stamp new = (x : Site) → new x ≡ old x
+SetsClock old (Some h) stamp new = (new h.0 ≡ stamp) × ((x : Site) → h.0 ≢ x → new x ≡ old x)
 
 -- the event of stream s that led to the moment
 abbrev pub event_at : Moment → ℕ → What → Event
@@ -65,7 +65,7 @@ pub record Makes (W : Parts) (Z : List OrderShape) (s : ℕ) (w : What) (old new
   pub steps : Steps W Z s (old.parts s) w heard (new.parts s)
   pub answered : Answered SiteGives old.objects heard new.objects
   pub clock : new.clocks s ≡ next_stamp old s heard
-  pub times : Timed old.times heard (new.clocks s) new.times
+  pub times : SetsClock old.times heard (new.clocks s) new.times
   pub log : new.logs s ≡ old.logs s ++ event_at new s w ∷ []
   pub others : (r : ℕ) → s ≢ r → Stays old new r
 
@@ -86,7 +86,7 @@ pub record LeadTo (W : Parts) (Z : List OrderShape) (J : List Event) (m : Moment
   pub made : HaveMade W J (made_at m)
 
 -- streams that may make n steps have come to the moment: what they did, and what the objects were asked, leads there from the start
-pub record IsReached (W : Parts) (Z : List OrderShape) (n : ℕ) (m : Moment) : Type 0 where
+pub record IsReachedMoment (W : Parts) (Z : List OrderShape) (n : ℕ) (m : Moment) : Type 0 where
   pub deeds : ℕ → List StreamDeed
   pub histories : Site → List SiteEntry
   pub gathered : Gathered (machine_of W Z) (part_of W (start W)) (object_of W (start W)) deeds histories m.parts m.objects

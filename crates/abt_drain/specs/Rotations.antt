@@ -24,11 +24,11 @@ abbrev pub IsQuietIn : Parts → Moment → Type 0
 IsQuietIn W m = LooksQuiet W m.parts m.objects
 
 -- the round of stream s has seen no pool
-abbrev pub IsFresh : Moment → ℕ → Type 0
-IsFresh m s = (m.parts s).own.top.seen ≡ []
+abbrev pub HasSeenNone : Moment → ℕ → Type 0
+HasSeenNone m s = (m.parts s).own.top.seen ≡ []
 
 -- the last round of the top frame of stream s ended empty, and so the last event of its log is a miss
-pub record HasMissed (m : Moment) (s : ℕ) : Type 0 where
+pub record LastRoundIsEmpty (m : Moment) (s : ℕ) : Type 0 where
   pub before : List Event
   pub pool : PoolNo
   pub log : m.logs s ≡ before ++ event_at m s (what.Miss pool) ∷ []
@@ -43,7 +43,7 @@ pub record MakesStep (W : Parts) (Z : List OrderShape) (s : ℕ) (old new : Mome
   pub step : is_step what ≡ true
 
 -- stream s missed the last pool of a round, which so ended empty
-pub record EndsRound (W : Parts) (Z : List OrderShape) (s : ℕ) (old new : Moment) : Type 0 where
+pub record EndsRoundAt (W : Parts) (Z : List OrderShape) (s : ℕ) (old new : Moment) : Type 0 where
   pub pool : PoolNo
   pub makes : Makes W Z s (what.Miss pool) old new
   pub empty : (new.parts s).own.top.empty ≡ true
@@ -66,7 +66,7 @@ abbrev pub Empties : Parts → List OrderShape → Moment → List Event → ℕ
 Empties W Z old es s = (J : List Event) → LeadTo W Z J old → HasEmptied W s (last_state W J) es
 
 -- stream s went on by events that are no steps
-pub record Moves (W : Parts) (Z : List OrderShape) (s : ℕ) (old new : Moment) : Type 0 where
+pub record MovesOn (W : Parts) (Z : List OrderShape) (s : ℕ) (old new : Moment) : Type 0 where
   pub events : List Event
   pub lead : Lead W Z old events new
   pub no_step : HasNoStep events
@@ -78,8 +78,8 @@ pub record HasTurned (W : Parts) (Z : List OrderShape) (n s : ℕ) (old : Moment
   pub lead : Lead W Z old events new
   pub no_step : stepped ≡ false → HasNoStep events
   pub step : stepped ≡ true → HasNoStep events → ⊥
-  pub emptied : stepped ≡ false → (Empties W Z old events s × HasMissed new s) ⊎ IsSpentIn W n new s
-  pub fresh : IsFresh new s
+  pub emptied : stepped ≡ false → (Empties W Z old events s × LastRoundIsEmpty new s) ⊎ IsSpentIn W n new s
+  pub fresh : HasSeenNone new s
   pub others : (r : ℕ) → s ≢ r → Stays old new r
 
 -- the streams below s had their turns since the first moment, and whether one of them made a step
@@ -88,8 +88,8 @@ pub record HaveTurned (W : Parts) (Z : List OrderShape) (n s : ℕ) (old : Momen
   pub lead : Lead W Z old events new
   pub no_step : stepped ≡ false → HasNoStep events
   pub step : stepped ≡ true → HasNoStep events → ⊥
-  pub emptied : stepped ≡ false → (r : ℕ) → r < s → (Empties W Z old events r × HasMissed new r) ⊎ IsSpentIn W n new r
-  pub fresh : (r : ℕ) → r < s → IsFresh new r
+  pub emptied : stepped ≡ false → (r : ℕ) → r < s → (Empties W Z old events r × LastRoundIsEmpty new r) ⊎ IsSpentIn W n new r
+  pub fresh : (r : ℕ) → r < s → HasSeenNone new r
   pub others : (r : ℕ) → s ≤ r → Stays old new r
 
 -- What is left to do.
@@ -106,7 +106,7 @@ turns_at W m s = turns_seen W m.parts m.objects s
 
 -- the only stream of a workload ended a round empty, or is spent
 abbrev pub IsAtStop : Parts → ℕ → Moment → Type 0
-IsAtStop W n m = W.streams ≡ 1 → HasMissed m 0 ⊎ IsSpentIn W n m 0
+IsAtStop W n m = W.streams ≡ 1 → LastRoundIsEmpty m 0 ⊎ IsSpentIn W n m 0
 
 -- the journal has no event, or no proper prefix of it stops
 abbrev pub HasNotStoppedBefore : Parts → ℕ → List Event → Type 0

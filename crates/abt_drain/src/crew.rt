@@ -10,7 +10,7 @@ ghost use Rattle.abt_machine.specs.Outcomes.{steps_in};
 ghost use Rattle.abt_stream.specs.Streams.{FitsShapes, FitsStream};
 ghost use Rattle.abt_drain.specs.Crews.{HaveStopped, IsCrew, IsEnd, StaysAwake, TurnBy, TurnsBy, moment_in};
 ghost use Rattle.abt_drain.specs.Looks.{AreStreams};
-ghost use Rattle.abt_drain.specs.Rotations.{HasTurned, HaveTurned, IsAwake, IsFresh};
+ghost use Rattle.abt_drain.specs.Rotations.{HasTurned, HaveTurned, IsAwake, HasSeenNone};
 ghost use Rattle.abt_drain.specs.Runs.{HasRun};
 
 use crate::outcomes::outcome;
@@ -56,7 +56,7 @@ impl<'w> Crew<'w> {
     ) -> Result<Crew<'w>, Want>
         requires orders { 2 ≤ length orders.now }
         ensures crew { IfOk result (IsCrew w.now (shapes_of orders.now) steps) }
-        ensures fresh { IfOk result (λ crew. (s : ℕ) → s < w.now.streams → IsFresh (moment_in w.now crew) s) }
+        ensures fresh { IfOk result (λ crew. (s : ℕ) → s < w.now.streams → HasSeenNone (moment_in w.now crew) s) }
         ensures awake { IfOk result (λ crew. IsAwake w.now (moment_in w.now crew)) }
     {
         w.known();
@@ -146,7 +146,7 @@ impl<'w> Crew<'w> {
     /// Rotations, until one without a step leaves nothing to do or a stream spent.
     pub(crate) fn run<P: Pace>(&mut self, orders: &[StoredOrder], pace: &P) -> Result<Outcome, Want>
         requires crew { IsCrew self.old.workload (shapes_of orders.now) self.old.steps self.old }
-        requires fresh { (s : ℕ) → s < self.old.workload.streams → IsFresh (moment_in self.old.workload self.old) s }
+        requires fresh { (s : ℕ) → s < self.old.workload.streams → HasSeenNone (moment_in self.old.workload self.old) s }
         requires awake { IsAwake self.old.workload (moment_in self.old.workload self.old) }
         ensures stopped { IfOk result (HaveStopped self.old.workload (shapes_of orders.now) self.old.steps (moment_in self.old.workload self.new)) }
         ensures crew { OnOk result (IsCrew self.old.workload (shapes_of orders.now) self.old.steps self.new) }

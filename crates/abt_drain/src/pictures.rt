@@ -5,9 +5,9 @@ ghost use Rattle.std.specs.List.{All};
 ghost use Rattle.abt_calls.specs.Effects.{unit_in};
 ghost use Rattle.abt_calls.specs.Showing.{rows_as};
 ghost use Rattle.abt_commons.specs.Groups.{rows_in};
-ghost use Rattle.abt_drain.specs.Pictures.{AreBelow, LeavesWhatFits, ShowsUnits, blank, placed, rows_left, units_left};
+ghost use Rattle.abt_drain.specs.Pictures.{AreBelow, LeavesWhatFits, ShowsUnits, blank, placed, rows_left, units_in_parts};
 ghost use Rattle.abt_report.specs.Pictures.{SaysWordsOf};
-ghost use Rattle.abt_stream.specs.Streams.{owned};
+ghost use Rattle.abt_commons.specs.Acts.{owned};
 
 use abt_chain::Chain;
 use abt_commons::{Group, Objects};
@@ -79,8 +79,8 @@ fn place_groups(groups: Vec<Group>, rows: &mut Vec<Row>)
 
 // Puts in the units that a stream leaves.
 fn place_parts(shown: Shown, parts: StreamParts, rows: &mut Vec<Row>)
-    requires { AreBelow (length rows.old.items) (units_left parts) }
-    ensures { rows.new.items ≡ placed (rows_as shown (units_left parts)) rows.old.items }
+    requires { AreBelow (length rows.old.items) (units_in_parts parts) }
+    ensures { rows.new.items ≡ placed (rows_as shown (units_in_parts parts)) rows.old.items }
 {
     place_some(shown, parts.hand, rows);
     place_some(shown, parts.next, rows);

@@ -1,9 +1,9 @@
 //! The streams of a workload: at the start, and what they leave at the end.
 
 ghost use Rattle.std.specs.Prelude.{◌≡◌, IfOk};
-ghost use Rattle.abt_calls.specs.Holders.{units_of};
+ghost use Rattle.abt_calls.specs.Holders.{units_held};
 ghost use Rattle.abt_drain.specs.Crews.{AreStarted, HaveLeft, logs_in};
-ghost use Rattle.abt_drain.specs.Pictures.{units_left};
+ghost use Rattle.abt_drain.specs.Pictures.{units_in_parts};
 
 use abt_machine::{Log, StreamNo, Want, Workload};
 use abt_stream::{Stream, StreamParts};
@@ -38,7 +38,7 @@ pub fn split_logs(alloc: Global, streams: Vec<Stream>) -> Result<(Vec<Log>, Vec<
 // What a stream leaves, its log apart from the rest.
 fn split_log(alloc: Global, stream: Stream) -> (Log, StreamParts)
     ensures log { result.0 ≡ stream.log }
-    ensures parts { units_left result.1 ≡ units_of stream.held }
+    ensures parts { units_in_parts result.1 ≡ units_held stream.held }
 {
     let StreamParts {
         log,

@@ -12,14 +12,14 @@ use Rattle.abt_machine.specs.Acts.{Act, Answer}
 use Rattle.abt_machine.specs.Gives.{SiteGives}
 use Rattle.abt_machine.specs.Turns.{Heard, Steps}
 use Rattle.abt_laws.proofs.Options.{none≢some, some-injective}
-use Rattle.abt_simulation.specs.Simulation.{CalledAnswers, IsEventFrom, Leaves, site_heard}
+use Rattle.abt_simulation.specs.Simulation.{CalledAnswers, IsEventFrom, LeavesObject, site_heard}
 use Rattle.abt_simulation.proofs.Events.{simulation}
 use Rattle.abt_bounds.proofs.Choosing.{one-at-each-pool}
 use Rattle.abt_events.specs.Steps.{AnswersFrom, EventsAreSteps, IsStep, NamedSitesAreCalled, OthersCallNothing}
 use Rattle.abt_events.proofs.Doing.{Turn, turn}
 
 -- the object that was called, as states S and T have it
-answers-from : (W : Parts) (S T : State) (heard : Option Heard) (object : Object) → CalledAnswers W S heard object → Leaves W T heard object → AnswersFrom W S T heard
+answers-from : (W : Parts) (S T : State) (heard : Option Heard) (object : Object) → CalledAnswers W S heard object → LeavesObject W T heard object → AnswersFrom W S T heard
 answers-from W S T None object answers leaves = tt
 answers-from W S T (Some h) object answers leaves = subst (SiteGives (object_of W S h.0) h.1 h.2) (sym leaves) answers
 

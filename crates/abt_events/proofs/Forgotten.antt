@@ -5,7 +5,7 @@ use Rattle.abt_machine.specs.declared.operations.OrderShape.{OrderShape}
 use Rattle.abt_machine.specs.declared.workload.Parts.{Parts}
 use Rattle.abt_machine.specs.Events.{after, look_row, without_requests}
 use Rattle.abt_machine.specs.Maps.{put_all}
-use Rattle.abt_machine.specs.Sound.{AsksNothing}
+use Rattle.abt_machine.specs.Sound.{HasNoRequest}
 use Rattle.abt_machine.specs.State.{State}
 use Rattle.abt_laws.proofs.Maps.{put_at-same}
 use Rattle.abt_events.specs.Requests.{LooksForget}
@@ -21,4 +21,4 @@ looks-forget W Z S T e u comes is =
     let s : ℕ = e.stream.0 in
     let found : T.desk u.0 ≡ without_requests (S.desk u.0) =
     ap (λ (U : State). U.desk u.0) comes.2 ∙ (ap (λ (w : What). (after W S s w).desk u.0) is ∙ forgotten W S s u.0 (S.desk u.0).cancel (S.desk u.0).migrate) in
-    subst AsksNothing (sym found) (refl, refl)
+    subst HasNoRequest (sym found) (refl, refl)

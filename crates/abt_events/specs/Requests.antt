@@ -6,9 +6,9 @@ use Rattle.abt_machine.specs.declared.numbers.UnitNo.{UnitNo}
 use Rattle.abt_machine.specs.declared.operations.OrderShape.{OrderShape}
 use Rattle.abt_machine.specs.declared.workload.Parts.{Parts}
 use Rattle.abt_machine.specs.Events.{After}
-use Rattle.abt_machine.specs.Sound.{AsksNothing}
+use Rattle.abt_machine.specs.Sound.{HasNoRequest}
 use Rattle.abt_machine.specs.State.{State}
 
 -- after a look nothing is asked of the unit, whatever was found
 abbrev pub LooksForget : Parts → List OrderShape → Type 0
-LooksForget W Z = (S T : State) (e : Event) (u : UnitNo) → After W Z S e T → e.what ≡ what.Look u → AsksNothing (T.desk u.0)
+LooksForget W Z = (S T : State) (e : Event) (u : UnitNo) → After W Z S e T → e.what ≡ what.Look u → HasNoRequest (T.desk u.0)

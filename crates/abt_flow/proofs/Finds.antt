@@ -17,7 +17,7 @@ use Rattle.abt_machine.specs.Workloads.{op_at, start_of}
 use Rattle.abt_machine.proofs.Declared.{op-declared, undeclared-start}
 use Rattle.abt_laws.proofs.Options.{none≢some, some-injective}
 use Rattle.abt_flow.specs.Flow.{Created, IsReached, Starts}
-use Rattle.abt_flow.specs.Tables.{Adds, Closes, CreatesUnit, Finds, Grows, HasMarked, IsClosedBelow, IsMarked}
+use Rattle.abt_flow.specs.Tables.{AddsUnit, Closes, CreatesUnit, Finds, Grows, HasMarked, IsClosedBelow, IsMarked}
 use Rattle.abt_flow.proofs.Marks.{marked-here, marked-still, none-marked, was-marked}
 
 -- Growth.
@@ -83,7 +83,7 @@ module _ (W : Parts) (u : UnitNo) (units new_units : List UnitNo) (marks new_mar
     marked = subst (λ ms. IsMarked ms u.0) (sym f) (marked-here marks u.0 below);
   }
 
-  pub added : Adds u units marks new_units new_marks → Added
+  pub added : AddsUnit u units marks new_units new_marks → Added
   added = by (get_or marks u.0 true) refl where
     by : (b : Bool) → get_or marks u.0 true ≡ b → MatchBool b ((new_units ≡ units) × (new_marks ≡ marks)) ((new_units ≡ longer) × (new_marks ≡ more)) → Added
     by true e h = was-there (slice_get-get_or marks u.0 true below ∙ ap (λ b. Some b) e) h.0 h.1

@@ -17,7 +17,7 @@ use Rattle.abt_machine.specs.Steps.{op_row}
 use Rattle.abt_machine.specs.Valid.{IsValid}
 use Rattle.abt_machine.specs.Workloads.{op_at}
 use Rattle.abt_flow.specs.Confluent.{Confluent, IsSettled}
-use Rattle.abt_flow.specs.Effects.{Effect, Computes, Awaits, Depends, effect}
+use Rattle.abt_flow.specs.Effects.{FlowEffect, Computes, Awaits, Depends, effect}
 use Rattle.abt_flow.specs.Flow.{Leads}
 use Rattle.abt_flow.specs.Tables.{CreatesNone, IsOther}
 use Rattle.abt_flow.proofs.Creating.{create-ok, row-creates}
@@ -38,13 +38,13 @@ module _ (W : Parts) (valid : IsValid W) (confluent : Confluent W) (t : ℕ) (S 
   made o = option_map_or (λ (f : Carried → Carried). f (S.carried u)) (nature_of o).local (S.carried u)
 
   -- an operation of this effect depends on the schedule, or goes through and changes only what unit u carries
-  abbrev IsLocal : Op → Effect → Type 0
+  abbrev IsLocal : Op → FlowEffect → Type 0
   IsLocal o (Computes f) =
       IsOther o × CreatesNone (Some o) × (code_of W S s u o ≡ code.Ok) × (op_row W S s u o ≡ goes_with u (made o)) × ((made o).position ≡ (S.carried u).position) × (memory_of (made o) ≡ f (memory_of (S.carried u)))
   IsLocal o (Awaits x) = ⊥
   IsLocal o Depends = ⊤
 
-  goes-locally : (o : Op) (e : Effect) → effect o ≡ e → op_at W u (S.carried u).position ≡ Some o → IsLocal o e → Goes o
+  goes-locally : (o : Op) (e : FlowEffect) → effect o ≡ e → op_at W u (S.carried u).position ≡ Some o → IsLocal o e → Goes o
   goes-locally o (Computes f) same is local = (
     local.2,
     subst (λ r. Stepped W t S (changed S r) u o) (sym local.3)

@@ -8,18 +8,18 @@ use Rattle.abt_machine.specs.Operations.{IsDeclared}
 use Rattle.abt_machine.specs.Workloads.{op_at}
 use Rattle.abt_machine.specs.Numbers.{object_no}
 use Rattle.abt_flow.specs.Confluent.{IsSettled}
-use Rattle.abt_flow.specs.Effects.{Memory, Effect, Computes, Awaits, Depends, effect}
-use Rattle.abt_flow.specs.Flow.{AtPoint, Does, Leads, Made, SetsTo}
+use Rattle.abt_flow.specs.Effects.{Memory, FlowEffect, Computes, Awaits, Depends, effect}
+use Rattle.abt_flow.specs.Flow.{AtPoint, Executes, Leads, Made, SetsTo}
 use Rattle.abt_flow.specs.Tables.{HasKey, IsComputed, IsOther}
 
 -- the keys after an operation of this effect
-abbrev keys_after : Effect → Memory → List ℕ
+abbrev keys_after : FlowEffect → Memory → List ℕ
 keys_after (Computes f) m = (f m).keys
 keys_after (Awaits x) m = m.keys
 keys_after Depends m = m.keys
 
 module _ (Found : ℕ → ℕ → Type 0) where
-  leads-keys : (e : Effect) (old new : Memory) → Leads Found e old new → length new.keys ≡ length (keys_after e old)
+  leads-keys : (e : FlowEffect) (old new : Memory) → Leads Found e old new → length new.keys ≡ length (keys_after e old)
   leads-keys (Computes f) old new h = ap (λ (m : Memory). length m.keys) h
   leads-keys (Awaits x) old new h = ap (λ (m : Memory). length m.keys) h.2
   leads-keys Depends old new h = absurd h
@@ -28,7 +28,7 @@ module _ (Found : ℕ → ℕ → Type 0) where
   keys-kept (op.KeySet k) old new h = leads-keys (effect (op.KeySet k)) old new h ∙ length-set old.keys k old.acc
   keys-kept o old new h = leads-keys (effect o) old new h
 
-  does-keys : (o : Option Op) (old new : Memory) → Does Found o old new → length new.keys ≡ length old.keys
+  does-keys : (o : Option Op) (old new : Memory) → Executes Found o old new → length new.keys ≡ length old.keys
   does-keys None old new h = absurd h
   does-keys (Some o) old new h = keys-kept o old new h
 

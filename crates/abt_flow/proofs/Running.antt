@@ -20,7 +20,7 @@ use Rattle.abt_flow.specs.declared.memory.Progress.{Progress}
 use Rattle.abt_flow.specs.declared.table.Table.{Table}
 use Rattle.abt_flow.specs.Effects.{effect}
 use Rattle.abt_flow.specs.Flow.{AtPoint, IsReached, Leads}
-use Rattle.abt_flow.specs.Tables.{Follows, IsNext, IsOver, Rests, Runs, executed, memory_in}
+use Rattle.abt_flow.specs.Tables.{FollowsFlow, IsNextOperation, HasNoneLeft, Rests, UnitRuns, executed, memory_in}
 use Rattle.abt_flow.proofs.Finds.{reached-declared}
 use Rattle.abt_flow.proofs.Points.{HasValue, point-next, points-within, value-within}
 
@@ -49,22 +49,22 @@ read-at xs k x l e = slice_get-get_or xs k x l ∙ ap (λ y. Some y) (sym e)
 
 -- What there is.
 
-pub unit-there : (W : Parts) (u : ℕ) (t : Table) → IsValid W → IsReached W u → Runs W u t → u < length t.units.items
+pub unit-there : (W : Parts) (u : ℕ) (t : Table) → IsValid W → IsReached W u → UnitRuns W u t → u < length t.units.items
 unit-there W u t valid reached runs = let l : u < length W.units = reached-declared W u valid reached in let e = runs.follows.all in omega arith
 
-pub wait-there : (W : Parts) (u : ℕ) (t : Table) (x : ObjectNo) → IsValid W → IsReached W u → Runs W u t → IsNext W t.units.items u (op.EvWait x) → x.0 < length W.objects
+pub wait-there : (W : Parts) (u : ℕ) (t : Table) (x : ObjectNo) → IsValid W → IsReached W u → UnitRuns W u t → IsNextOperation W t.units.items u (op.EvWait x) → x.0 < length W.objects
 wait-there W u t x valid reached runs next =
     let is : (p : Progress) × (slice_get t.units.items u ≡ Some p) = get-some t.units.items u (unit-there W u t valid reached runs) in
     let eventual : IsEventual W x.0 = op-declared W u is.0.position (op.EvWait x) valid (next is.0 is.1) in
     slice_get_within W.objects x.0 thing.Eventual eventual
 
-pub set-there : (W : Parts) (u : ℕ) (t : Table) (x : ObjectNo) → IsValid W → IsReached W u → Runs W u t → IsNext W t.units.items u (op.EvSet x) → x.0 < length W.objects
+pub set-there : (W : Parts) (u : ℕ) (t : Table) (x : ObjectNo) → IsValid W → IsReached W u → UnitRuns W u t → IsNextOperation W t.units.items u (op.EvSet x) → x.0 < length W.objects
 set-there W u t x valid reached runs next =
     let is : (p : Progress) × (slice_get t.units.items u ≡ Some p) = get-some t.units.items u (unit-there W u t valid reached runs) in
     let eventual : IsEventual W x.0 = op-declared W u is.0.position (op.EvSet x) valid (next is.0 is.1) in
     slice_get_within W.objects x.0 thing.Eventual eventual
 
-pub position-few : (W : Parts) (u : ℕ) (t : Table) (p : Progress) → IsValid W → IsReached W u → Runs W u t → slice_get t.units.items u ≡ Some p → p.position ≤ 256
+pub position-few : (W : Parts) (u : ℕ) (t : Table) (p : Progress) → IsValid W → IsReached W u → UnitRuns W u t → slice_get t.units.items u ≡ Some p → p.position ≤ 256
 position-few W u t p valid reached runs at =
     let l : u < length W.units = reached-declared W u valid reached in
     let few : length (ops_of (body_at W u)) ≤ 256 = few-unit-ops W u valid in
@@ -72,7 +72,7 @@ position-few W u t p valid reached runs at =
 
 -- One more operation.
 
-module _ (W : Parts) (u : ℕ) (reached : IsReached W u) (units : List Progress) (values : List (Option ℕ)) (follows : Follows W units values) (p q : Progress) (at : slice_get units u ≡ Some p) (o : Op) (is : op_at W u p.position ≡ Some o) (pos : q.position ≡ p.position + 1) where
+module _ (W : Parts) (u : ℕ) (reached : IsReached W u) (units : List Progress) (values : List (Option ℕ)) (follows : FollowsFlow W units values) (p q : Progress) (at : slice_get units u ≡ Some p) (o : Op) (is : op_at W u p.position ≡ Some o) (pos : q.position ≡ p.position + 1) where
   abbrev pub news : List Progress
   news = set units u q
 
@@ -110,7 +110,7 @@ module _ (W : Parts) (u : ℕ) (reached : IsReached W u) (units : List Progress)
           | inr before ↦ follows.set u p j x at (omega arith) sets (keeps x none)
         ]
 
-    pub goes-on : Follows W news new_values
+    pub goes-on : FollowsFlow W news new_values
     goes-on = record {
       all = length-set units u q ∙ follows.all;
       values_all = all;
@@ -134,13 +134,13 @@ module _ (W : Parts) (u : ℕ) (reached : IsReached W u) (units : List Progress)
     }
 
   -- if no value is set
-  pub goes-same : ((x : ℕ) → o ≡ op.EvSet (object_no x) → ⊥) → Leads (HasValue W (executed units)) (effect o) (memory_in p) (memory_in q) → Follows W news values
+  pub goes-same : ((x : ℕ) → o ≡ op.EvSet (object_no x) → ⊥) → Leads (HasValue W (executed units)) (effect o) (memory_in p) (memory_in q) → FollowsFlow W news values
   goes-same no_set leads = goes-on values follows.values_all (λ x e. e) (λ x n e. value-within W (executed units) (executed units + 1) x n (omega arith) (follows.found x n e)) (λ x e none. no_set x e) leads
 
   pub others-same : (ready : List UnitNo) → ((v : ℕ) → v ≢ u → IsReached W v → Contains ready (unit_no v) ⊎ Rests W units values v) → (v : ℕ) → v ≢ u → IsReached W v → Contains ready (unit_no v) ⊎ Rests W news values v
   others-same ready others v other r = elim (others v other r) [ inl a ↦ inl a | inr b ↦ inr (rests-still v other b) ]
 
 -- the next operation, if it was looked for
-pub next-is : (W : Parts) (units : List Progress) (u : ℕ) (p : Progress) → slice_get units u ≡ Some p → (o : Option Op) → o ≡ op_at W u p.position → MatchOption o (IsOver W units u) (IsNext W units u)
+pub next-is : (W : Parts) (units : List Progress) (u : ℕ) (p : Progress) → slice_get units u ≡ Some p → (o : Option Op) → o ≡ op_at W u p.position → MatchOption o (HasNoneLeft W units u) (IsNextOperation W units u)
 next-is W units u p at None e = λ q here. subst (λ (r : Progress). op_at W u r.position ≡ None) (some-injective (sym at ∙ here)) (sym e)
 next-is W units u p at (Some o) e = λ q here. subst (λ (r : Progress). op_at W u r.position ≡ Some o) (some-injective (sym at ∙ here)) (sym e)

@@ -15,8 +15,8 @@ use Rattle.abt_machine.specs.Workloads.{body_at, op_at, ops_of}
 use Rattle.abt_bounds.specs.Laws.{ops_in, ops_of_unit}
 use Rattle.abt_flow.specs.declared.memory.Progress.{Progress}
 use Rattle.abt_flow.specs.Effects.{Memory}
-use Rattle.abt_flow.specs.Flow.{AtPoint, Does, IsFlow, IsReached, IsRow, Made, SetsTo}
-use Rattle.abt_flow.specs.Tables.{Follows, Halts, Rests, executed, memory_in}
+use Rattle.abt_flow.specs.Flow.{AtPoint, Executes, IsFlow, IsReached, IsRow, Made, SetsTo}
+use Rattle.abt_flow.specs.Tables.{FollowsFlow, Halts, Rests, executed, memory_in}
 use Rattle.abt_flow.proofs.Finds.{reached-declared}
 use Rattle.abt_flow.proofs.Outputs.{get-map}
 use Rattle.abt_flow.proofs.Points.{points-within}
@@ -40,24 +40,24 @@ module _ (units : List Progress) (bound : ℕ → ℕ) (each : (k : ℕ) (p : Pr
   all-within : (n : ℕ) → length units ≡ n → executed units ≤ sum_by bound (count_up n)
   all-within n e = subst (λ us. executed us ≤ sum_by bound (count_up n)) (take_all n units (omega arith)) (first-within n (omega arith))
 
-pub executed-within : (W : Parts) (units : List Progress) (values : List (Option ℕ)) → Follows W units values → executed units ≤ ops_in W
+pub executed-within : (W : Parts) (units : List Progress) (values : List (Option ℕ)) → FollowsFlow W units values → executed units ≤ ops_in W
 executed-within W units values follows = all-within units (ops_of_unit W) follows.within (length W.units) follows.all
 
 -- Units that rest.
 
 -- what an operation on the way does
-made-does : (W : Parts) (Found : ℕ → ℕ → Type 0) (u k j : ℕ) (m : Memory) → j < k → Made W Found u k m → (old : Memory) × (new : Memory) × Does Found (op_at W u j) old new
+made-does : (W : Parts) (Found : ℕ → ℕ → Type 0) (u k j : ℕ) (m : Memory) → j < k → Made W Found u k m → (old : Memory) × (new : Memory) × Executes Found (op_at W u j) old new
 made-does W Found u zero j m l h = absurd (omega arith)
 made-does W Found u (suc k) j m l h =
     elim (cases_eq j k) [
-      | inl same ↦ (h.0, m, subst (λ i. Does Found (op_at W u i) h.0 m) (sym same) h.2)
+      | inl same ↦ (h.0, m, subst (λ i. Executes Found (op_at W u i) h.0 m) (sym same) h.2)
       | inr other ↦ made-does W Found u k j h.0 (omega arith) h.1
     ]
 
-module _ (W : Parts) (valid : IsValid W) (units : List Progress) (values : List (Option ℕ)) (follows : Follows W units values) (rest : (v : ℕ) → IsReached W v → Rests W units values v) where
+module _ (W : Parts) (valid : IsValid W) (units : List Progress) (values : List (Option ℕ)) (follows : FollowsFlow W units values) (rest : (v : ℕ) → IsReached W v → Rests W units values v) where
   -- at a wait without a value its setter is not done
   halted : (At : ℕ → ℕ → Memory → Type 0) → ((v : ℕ) (p : Progress) (k : ℕ) (m : Memory) → IsReached W v → slice_get units v ≡ Some p → p.position < k → At v k m → ⊥) →
-      (o : Option Op) (old new : Memory) → Halts values o → Does (SetsTo W At) o old new → ⊥
+      (o : Option Op) (old new : Memory) → Halts values o → Executes (SetsTo W At) o old new → ⊥
   halted At never None old new halts does = does
   halted At never (Some (op.EvWait x)) old new halts does =
       let set = does.1 in
@@ -89,7 +89,7 @@ module _ (W : Parts) (valid : IsValid W) (units : List Progress) (values : List 
 
 -- Units that are all at their ends.
 
-module _ (W : Parts) (units : List Progress) (values : List (Option ℕ)) (follows : Follows W units values)
+module _ (W : Parts) (units : List Progress) (values : List (Option ℕ)) (follows : FollowsFlow W units values)
     (done : (u : ℕ) (p : Progress) → slice_get units u ≡ Some p → (IsReached W u × (length (ops_of (body_at W u)) ≤ p.position)) ⊎ (IsReached W u → ⊥)) where
   row-done : (u : ℕ) (p : Progress) → slice_get units u ≡ Some p → IsRow W u p.output.items
   row-done u p at =

@@ -8,19 +8,19 @@ use Rattle.abt_machine.specs.Numbers.{object_no}
 use Rattle.abt_machine.specs.Workloads.{body_at, op_at, ops_of}
 use Rattle.abt_bounds.specs.Laws.{ops_in}
 use Rattle.abt_flow.specs.Confluent.{Confluent}
-use Rattle.abt_flow.specs.Effects.{Memory, Effect, Computes, Awaits, Depends, effect, with_acc}
-use Rattle.abt_flow.specs.Flow.{AtPoint, Does, IsRow, Leads, Made, SetsTo}
+use Rattle.abt_flow.specs.Effects.{Memory, FlowEffect, Computes, Awaits, Depends, effect, with_acc}
+use Rattle.abt_flow.specs.Flow.{AtPoint, Executes, IsRow, Leads, Made, SetsTo}
 use Rattle.abt_flow.specs.Laws.{FlowIsOne}
 
 -- if values are one, what they lead to is one.
 
 module _ (Found Other : ℕ → ℕ → Type 0) (one : (x n k : ℕ) → Found x n → Other x k → n ≡ k) where
-  leads-one : (e : Effect) (old new next : Memory) → Leads Found e old new → Leads Other e old next → new ≡ next
+  leads-one : (e : FlowEffect) (old new next : Memory) → Leads Found e old new → Leads Other e old next → new ≡ next
   leads-one (Computes f) old new next g h = g ∙ sym h
   leads-one (Awaits x) old new next g h = g.2 ∙ (ap (λ n. with_acc n old) (one x g.0 h.0 g.1 h.1) ∙ sym h.2)
   leads-one Depends old new next g h = absurd g
 
-  does-one : (o : Option Op) (old new next : Memory) → Does Found o old new → Does Other o old next → new ≡ next
+  does-one : (o : Option Op) (old new next : Memory) → Executes Found o old new → Executes Other o old next → new ≡ next
   does-one None old new next g h = absurd g
   does-one (Some o) old new next g h = leads-one (effect o) old new next g h
 
@@ -28,7 +28,7 @@ module _ (Found Other : ℕ → ℕ → Type 0) (one : (x n k : ℕ) → Found x
   made-one W u zero m n g h = g ∙ sym h
   made-one W u (suc k) m n g h =
       let same : g.0 ≡ h.0 = made-one W u k g.0 h.0 g.1 h.1 in
-      does-one (op_at W u k) g.0 m n g.2 (subst (λ old. Does Other (op_at W u k) old n) (sym same) h.2)
+      does-one (op_at W u k) g.0 m n g.2 (subst (λ old. Executes Other (op_at W u k) old n) (sym same) h.2)
 
 value-one : (W : Parts) (At Other : ℕ → ℕ → Memory → Type 0) → Confluent W → ((u k : ℕ) (m n : Memory) → At u k m → Other u k n → m ≡ n) → (x n k : ℕ) → SetsTo W At x n → SetsTo W Other x k → n ≡ k
 value-one W At Other confluent one x n k g h =

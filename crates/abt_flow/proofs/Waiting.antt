@@ -21,7 +21,7 @@ use Rattle.abt_laws.proofs.Options.{none≢some, some-injective}
 use Rattle.abt_flow.specs.declared.memory.Progress.{Progress}
 use Rattle.abt_flow.specs.declared.table.Table.{Table}
 use Rattle.abt_flow.specs.Flow.{AtPoint, IsReached}
-use Rattle.abt_flow.specs.Tables.{AllRun, AreFresh, AwaitsValue, Follows, HasWaited, HasWaitedAll, IsFresh, Listed, Longer, executed, memory_in}
+use Rattle.abt_flow.specs.Tables.{AllRun, AreFresh, AwaitsValue, FollowsFlow, HasWaited, HasWaitedAll, IsFresh, Listed, Longer, executed, memory_in}
 use Rattle.abt_flow.proofs.Running.{get-here, get-other, get-some}
 
 pub awaits-value : (W : Parts) (u k : ℕ) (x : ObjectNo) (o : Option Op) → op_at W u k ≡ o → AwaitsValue o x → op_at W u k ≡ Some (op.EvWait x)
@@ -110,7 +110,7 @@ get-replicate zero k v w e = absurd (none≢some e)
 get-replicate (suc n) zero v w e = some-injective e
 get-replicate (suc n) (suc k) v w e = get-replicate n k v w e
 
-begin-follows : (W : Parts) (units : List Progress) → AreFresh W units (length W.units) → Follows W units (replicate (length W.objects) None)
+begin-follows : (W : Parts) (units : List Progress) → AreFresh W units (length W.units) → FollowsFlow W units (replicate (length W.objects) None)
 begin-follows W units fresh = record {
   all = fresh.all;
   values_all = length-replicate (length W.objects) None;
@@ -124,7 +124,7 @@ begin-follows W units fresh = record {
 pub begins : (W : Parts) (t : Table) → AreFresh W t.units.items (length W.units) → t.values.items ≡ replicate (length W.objects) None → Listed W t.waiting.items → ((v : UnitNo) → Contains t.ready.items v → HasWaitedAll W t.waiting.items v.0) →
     ((v : UnitNo) → Contains t.ready.items v → IsReached W v.0) → ((u : ℕ) → IsReached W u → Contains t.ready.items (unit_no u)) → AllRun W t
 begins W t fresh none listed waited only every = record {
-  follows = subst (Follows W t.units.items) (sym none) (begin-follows W t.units.items fresh);
+  follows = subst (FollowsFlow W t.units.items) (sym none) (begin-follows W t.units.items fresh);
   waits = record { all = listed.all; reached = listed.reached; waits = λ x us u k n at r is. waited (unit_no u) (every u r) k x us is at };
   ready = only;
   each = λ v r. inl (every v r);

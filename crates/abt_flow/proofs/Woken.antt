@@ -18,7 +18,7 @@ use Rattle.abt_laws.proofs.Options.{none≢some, some-injective}
 use Rattle.abt_flow.specs.declared.memory.Progress.{Progress}
 use Rattle.abt_flow.specs.declared.table.Table.{Table}
 use Rattle.abt_flow.specs.Flow.{AtPoint, IsReached}
-use Rattle.abt_flow.specs.Tables.{Follows, Halts, Rests, Runs, Waits, executed, memory_in}
+use Rattle.abt_flow.specs.Tables.{FollowsFlow, Halts, Rests, UnitRuns, Waits, executed, memory_in}
 use Rattle.abt_flow.proofs.Finds.{reached-declared}
 use Rattle.abt_flow.proofs.Points.{HasValue, value-within}
 use Rattle.abt_flow.proofs.Running.{get-here, get-other, get-some, goes-on}
@@ -28,7 +28,7 @@ halts-cases values None h = inl refl
 halts-cases values (Some (op.EvWait y)) h = inr (y, refl, h)
 halts-cases values (Some _) h = absurd h
 
-module _ (W : Parts) (valid : IsValid W) (u : ℕ) (reached : IsReached W u) (t : Table) (runs : Runs W u t) (p q : Progress) (at : slice_get t.units.items u ≡ Some p) (x : ObjectNo) (is : op_at W u p.position ≡ Some (op.EvSet x)) (pos : q.position ≡ p.position + 1) (same : memory_in q ≡ memory_in p)
+module _ (W : Parts) (valid : IsValid W) (u : ℕ) (reached : IsReached W u) (t : Table) (runs : UnitRuns W u t) (p q : Progress) (at : slice_get t.units.items u ≡ Some p) (x : ObjectNo) (is : op_at W u p.position ≡ Some (op.EvSet x)) (pos : q.position ≡ p.position + 1) (same : memory_in q ≡ memory_in p)
     (declared : x.0 < length W.objects) (us vs : Vec UnitNo Global) (waited : slice_get t.waiting.items x.0 ≡ Some us) (cleared : vs.items ≡ []) where
   abbrev units : List Progress
   units = t.units.items
@@ -69,7 +69,7 @@ module _ (W : Parts) (valid : IsValid W) (u : ℕ) (reached : IsReached W u) (t 
   unset : (y : ℕ) → op.EvSet x ≡ op.EvSet (object_no y) → slice_get new_values y ≡ Some None → ⊥
   unset y e none = let f : object_no y ≡ x = cc in not-here y none (ap (λ (z : ObjectNo). z.0) f)
 
-  pub set-follows : Follows W new_units new_values
+  pub set-follows : FollowsFlow W new_units new_values
   set-follows = goes-on W u reached units values runs.follows p q at (op.EvSet x) is pos new_values (length-set values x.0 (Some p.acc) ∙ runs.follows.values_all) was-none found unset same
 
   -- Who waited is ready.

@@ -9,9 +9,9 @@ use Rattle.abt_machine.specs.declared.operations.Op.{Op}
 use Rattle.abt_machine.specs.declared.operations.Op.TheVariants as op
 use Rattle.abt_machine.specs.declared.workload.Parts.{Parts}
 use Rattle.abt_machine.specs.Workloads.{access_of, op_at, start_of}
-use Rattle.abt_flow.specs.Effects.{Effect, Computes, Awaits, Depends, effect}
+use Rattle.abt_flow.specs.Effects.{FlowEffect, Computes, Awaits, Depends, effect}
 
-abbrev pub IsSettled : Effect → Type 0
+abbrev pub IsSettled : FlowEffect → Type 0
 IsSettled (Computes f) = ⊤
 IsSettled (Awaits x) = ⊤
 IsSettled Depends = ⊥

@@ -38,12 +38,12 @@ abbrev pub unchanged : Memory → Memory
 unchanged m = m
 
 -- an operation computes the next memory, or sets acc to the value of an eventual, or depends on the schedule
-pub data Effect : Type 0 where
-  Computes : (Memory → Memory) → Effect
-  Awaits : ℕ → Effect
-  Depends : Effect
+pub data FlowEffect : Type 0 where
+  Computes : (Memory → Memory) → FlowEffect
+  Awaits : ℕ → FlowEffect
+  Depends : FlowEffect
 
-abbrev pub effect : Op → Effect
+abbrev pub effect : Op → FlowEffect
 effect (op.Set n) = Computes (with_acc n)
 effect (op.Add n) = Computes (added n)
 effect (op.Say w) = Computes (printed (piece.Said w))

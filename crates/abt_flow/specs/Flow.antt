@@ -8,7 +8,7 @@ use Rattle.abt_machine.specs.declared.workload.Parts.{Parts}
 use Rattle.abt_machine.specs.Numbers.{object_no, unit_no}
 use Rattle.abt_machine.specs.Workloads.{body_at, op_at, ops_of, start_of}
 use Rattle.abt_bounds.specs.Laws.{ops_in}
-use Rattle.abt_flow.specs.Effects.{Memory, Effect, Computes, Awaits, Depends, effect, fresh, with_acc}
+use Rattle.abt_flow.specs.Effects.{Memory, FlowEffect, Computes, Awaits, Depends, effect, fresh, with_acc}
 
 -- a unit is reached that has a start, or that an operation of a reached unit creates
 pub data IsReached (W : Parts) : ℕ → Type 0 where
@@ -17,19 +17,19 @@ pub data IsReached (W : Parts) : ℕ → Type 0 where
 
 -- Found x n says that eventual x has value n.
 
-abbrev pub Leads : (ℕ → ℕ → Type 0) → Effect → Memory → Memory → Type 0
+abbrev pub Leads : (ℕ → ℕ → Type 0) → FlowEffect → Memory → Memory → Type 0
 Leads Found (Computes f) old new = new ≡ f old
 Leads Found (Awaits x) old new = (n : ℕ) × Found x n × (new ≡ with_acc n old)
 Leads Found Depends old new = ⊥
 
-abbrev pub Does : (ℕ → ℕ → Type 0) → Option Op → Memory → Memory → Type 0
-Does Found None old new = ⊥
-Does Found (Some o) old new = Leads Found (effect o) old new
+abbrev pub Executes : (ℕ → ℕ → Type 0) → Option Op → Memory → Memory → Type 0
+Executes Found None old new = ⊥
+Executes Found (Some o) old new = Leads Found (effect o) old new
 
 -- the operations of unit u before operation k lead to this memory, one after the other
 abbrev pub Made : Parts → (ℕ → ℕ → Type 0) → ℕ → ℕ → Memory → Type 0
 Made W Found u zero m = m ≡ fresh W
-Made W Found u (suc k) m = (old : Memory) × Made W Found u k old × Does Found (op_at W u k) old m
+Made W Found u (suc k) m = (old : Memory) × Made W Found u k old × Executes Found (op_at W u k) old m
 
 -- the value of eventual x is acc at the operation of a reached unit that sets x
 abbrev pub SetsTo : Parts → (ℕ → ℕ → Memory → Type 0) → ℕ → ℕ → Type 0

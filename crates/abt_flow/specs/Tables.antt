@@ -11,7 +11,7 @@ use Rattle.abt_machine.specs.Workloads.{body_at, op_at, ops_of}
 use Rattle.std.specs.declared.alloc.Global.{Global}
 use Rattle.abt_flow.specs.declared.memory.Progress.{Progress}
 use Rattle.abt_flow.specs.declared.table.Table.{Table}
-use Rattle.abt_flow.specs.Effects.{Memory, Effect, Computes, Awaits, Depends, fresh}
+use Rattle.abt_flow.specs.Effects.{Memory, FlowEffect, Computes, Awaits, Depends, fresh}
 use Rattle.abt_flow.specs.Flow.{AtPoint, IsReached, SetsTo}
 
 -- Programs.
@@ -22,7 +22,7 @@ memory_in p = record { acc = p.acc; keys = p.keys.items; output = p.output.items
 abbrev pub IsFresh : Parts → Progress → Type 0
 IsFresh W p = (p.position ≡ 0) × (memory_in p ≡ fresh W)
 
-abbrev pub IsComputed : Effect → Type 0
+abbrev pub IsComputed : FlowEffect → Type 0
 IsComputed (Computes f) = ⊤
 IsComputed (Awaits x) = ⊥
 IsComputed Depends = ⊥
@@ -40,8 +40,8 @@ Nothing x n = ⊥
 -- Units that are reached.
 
 -- unit u is added to a list and to its marks, unless it is marked
-abbrev pub Adds : UnitNo → List UnitNo → List Bool → List UnitNo → List Bool → Type 0
-Adds u units marks new_units new_marks = MatchBool (slice_index_or marks u.0 true) ((new_units ≡ units) × (new_marks ≡ marks)) ((new_units ≡ units ++ u ∷ []) × (new_marks ≡ slice_set marks u.0 true))
+abbrev pub AddsUnit : UnitNo → List UnitNo → List Bool → List UnitNo → List Bool → Type 0
+AddsUnit u units marks new_units new_marks = MatchBool (slice_index_or marks u.0 true) ((new_units ≡ units) × (new_marks ≡ marks)) ((new_units ≡ units ++ u ∷ []) × (new_marks ≡ slice_set marks u.0 true))
 
 abbrev pub IsMarked : List Bool → ℕ → Type 0
 IsMarked marks u = slice_get marks u ≡ Some true
@@ -87,7 +87,7 @@ abbrev pub executed : List Progress → ℕ
 executed units = sum_by (λ (p : Progress). p.position) units
 
 -- each unit's program has come as far as its flow says, through at most one point more than operations were executed, and each value is what the one operation sets that was executed
-pub record Follows (W : Parts) (units : List Progress) (values : List (Option ℕ)) : Type 0 where
+pub record FollowsFlow (W : Parts) (units : List Progress) (values : List (Option ℕ)) : Type 0 where
   pub all : length units ≡ length W.units
   pub values_all : length values ≡ length W.objects
   pub made : (u : ℕ) (p : Progress) → slice_get units u ≡ Some p → AtPoint W (suc (executed units)) u p.position (memory_in p)
@@ -112,8 +112,8 @@ pub record Waits (W : Parts) (values : List (Option ℕ)) (waiting : List (Vec U
   pub waits : (x : ℕ) (us : Vec UnitNo Global) (u k : ℕ) → slice_get values x ≡ Some None → slice_get waiting x ≡ Some us → IsReached W u → op_at W u k ≡ Some (op.EvWait (object_no x)) → Contains us.items (unit_no u)
 
 -- unit u runs: every other that is reached is ready or rests
-pub record Runs (W : Parts) (u : ℕ) (t : Table) : Type 0 where
-  pub follows : Follows W t.units.items t.values.items
+pub record UnitRuns (W : Parts) (u : ℕ) (t : Table) : Type 0 where
+  pub follows : FollowsFlow W t.units.items t.values.items
   pub waits : Waits W t.values.items t.waiting.items
   pub ready : (v : UnitNo) → Contains t.ready.items v → IsReached W v.0
   pub others : (v : ℕ) → v ≢ u → IsReached W v → Contains t.ready.items (unit_no v) ⊎ Rests W t.units.items t.values.items v
@@ -123,12 +123,12 @@ abbrev pub work : Table → ℕ
 work t = length t.ready.items + sum_by (λ (us : Vec UnitNo Global). length us.items) t.waiting.items
 
 -- the next operation of unit u
-abbrev pub IsNext : Parts → List Progress → ℕ → Op → Type 0
-IsNext W units u o = (p : Progress) → slice_get units u ≡ Some p → op_at W u p.position ≡ Some o
+abbrev pub IsNextOperation : Parts → List Progress → ℕ → Op → Type 0
+IsNextOperation W units u o = (p : Progress) → slice_get units u ≡ Some p → op_at W u p.position ≡ Some o
 
 -- unit u has no operation left
-abbrev pub IsOver : Parts → List Progress → ℕ → Type 0
-IsOver W units u = (p : Progress) → slice_get units u ≡ Some p → op_at W u p.position ≡ None
+abbrev pub HasNoneLeft : Parts → List Progress → ℕ → Type 0
+HasNoneLeft W units u = (p : Progress) → slice_get units u ≡ Some p → op_at W u p.position ≡ None
 
 -- the first n operations of unit u have put it into the lists that they wait in
 abbrev pub HasWaited : Parts → List (Vec UnitNo Global) → ℕ → ℕ → Type 0
@@ -185,11 +185,11 @@ IsOther _ = ⊤
 
 -- every unit that is reached is ready or rests
 pub record AllRun (W : Parts) (t : Table) : Type 0 where
-  pub follows : Follows W t.units.items t.values.items
+  pub follows : FollowsFlow W t.units.items t.values.items
   pub waits : Waits W t.values.items t.waiting.items
   pub ready : (v : UnitNo) → Contains t.ready.items v → IsReached W v.0
   pub each : (v : ℕ) → IsReached W v → Contains t.ready.items (unit_no v) ⊎ Rests W t.units.items t.values.items v
 
 -- every unit that is reached rests
 abbrev pub AllRest : Parts → Table → Type 0
-AllRest W t = Follows W t.units.items t.values.items × ((v : ℕ) → IsReached W v → Rests W t.units.items t.values.items v)
+AllRest W t = FollowsFlow W t.units.items t.values.items × ((v : ℕ) → IsReached W v → Rests W t.units.items t.values.items v)

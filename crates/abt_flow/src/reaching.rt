@@ -3,7 +3,7 @@
 ghost use Rattle.std.specs.Prelude.{◌+◌, ◌<◌, ◌≡◌, IfOk, MatchOption, Some, length, ℕ};
 ghost use Rattle.abt_machine.specs.Workloads.{op_at, start_of};
 ghost use Rattle.abt_flow.specs.Flow.{IsReached};
-ghost use Rattle.abt_flow.specs.Tables.{Adds, Closes, CreatesNone, CreatesUnit, Finds, Grows, HasMarked, IsClosedBelow, IsMarked};
+ghost use Rattle.abt_flow.specs.Tables.{AddsUnit, Closes, CreatesNone, CreatesUnit, Finds, Grows, HasMarked, IsClosedBelow, IsMarked};
 
 use crate::confluence::has_start;
 use crate::naming::ops_count;
@@ -30,10 +30,10 @@ fn created_at(w: &Workload, u: UnitNo, k: u32) -> Option<UnitNo>
 }
 
 impl Reached {
-    // Adds a unit, unless it is there.
+    // AddsUnit a unit, unless it is there.
     fn add(&mut self, u: UnitNo) -> Result<(), Want>
         requires { u.0 < length self.old.marks.items }
-        ensures { IfOk result (λ _. Adds u self.old.units.items self.old.marks.items self.new.units.items self.new.marks.items) }
+        ensures { IfOk result (λ _. AddsUnit u self.old.units.items self.old.marks.items self.new.units.items self.new.marks.items) }
     {
         let i = u.0 as usize;
         if self.marks[i] {
@@ -44,7 +44,7 @@ impl Reached {
         Ok(())
     }
 
-    // Adds the unit that an operation creates, if it creates one.
+    // AddsUnit the unit that an operation creates, if it creates one.
     fn add_created(&mut self, w: &Workload, u: UnitNo, k: u32) -> Result<(), Want>
         requires finds { Finds w.now self.old.units.items self.old.marks.items }
         requires reached { IsReached w.now u.0 }
@@ -61,7 +61,7 @@ impl Reached {
         }
     }
 
-    // Adds the units that a unit creates.
+    // AddsUnit the units that a unit creates.
     fn add_all_created(&mut self, w: &Workload, u: UnitNo) -> Result<(), Want>
         requires finds { Finds w.now self.old.units.items self.old.marks.items }
         requires reached { IsReached w.now u.0 }
@@ -76,7 +76,7 @@ impl Reached {
         Ok(())
     }
 
-    // Adds a unit, if it has a start.
+    // AddsUnit a unit, if it has a start.
     fn add_start(&mut self, w: &Workload, u: UnitNo) -> Result<(), Want>
         requires finds { Finds w.now self.old.units.items self.old.marks.items }
         requires unit { u.0 < length w.now.units }
@@ -105,7 +105,7 @@ impl Reached {
         Ok(reached)
     }
 
-    // Adds the units that a unit of the list creates, if the list is that long.
+    // AddsUnit the units that a unit of the list creates, if the list is that long.
     fn look(&mut self, w: &Workload, at: usize) -> Result<(), Want>
         requires finds { Finds w.now self.old.units.items self.old.marks.items }
         requires closed { IsClosedBelow w.now self.old.units.items self.old.marks.items at }

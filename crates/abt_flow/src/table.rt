@@ -6,7 +6,7 @@ ghost use Rattle.abt_machine.specs.declared.numbers.UnitNo.{UnitNo};
 ghost use Rattle.abt_machine.specs.declared.operations.Op.TheVariants as op;
 ghost use Rattle.abt_flow.specs.Confluent.{Confluent};
 ghost use Rattle.abt_flow.specs.Flow.{IsReached};
-ghost use Rattle.abt_flow.specs.Tables.{AllRest, AllRun, IsNext, IsOther, IsOver, Rests, Runs, executed, work};
+ghost use Rattle.abt_flow.specs.Tables.{AllRest, AllRun, IsNextOperation, IsOther, HasNoneLeft, Rests, UnitRuns, executed, work};
 
 use crate::beginning::{fresh_units, no_values, wait_lists};
 use crate::memory::Progress;
@@ -43,9 +43,9 @@ impl Table {
     fn await_value(&mut self, w: &Workload, u: UnitNo, x: ObjectNo) -> bool
         requires confluent { Confluent w.now }
         requires reached { IsReached w.now u.0 }
-        requires runs { Runs w.now u.0 self.old }
-        requires here { IsNext w.now self.old.units.items u.0 (op.EvWait x) }
-        ensures runs { Runs w.now u.0 self.new }
+        requires runs { UnitRuns w.now u.0 self.old }
+        requires here { IsNextOperation w.now self.old.units.items u.0 (op.EvWait x) }
+        ensures runs { UnitRuns w.now u.0 self.new }
         ensures work { work self.new ≡ work self.old }
         ensures more { MatchBool result (executed self.new.units.items ≡ executed self.old.units.items + 1) (Rests w.now self.new.units.items self.new.values.items u.0) }
     {
@@ -63,9 +63,9 @@ impl Table {
     fn set_value(&mut self, w: &Workload, u: UnitNo, x: ObjectNo) -> Result<(), Want>
         requires confluent { Confluent w.now }
         requires reached { IsReached w.now u.0 }
-        requires runs { Runs w.now u.0 self.old }
-        requires here { IsNext w.now self.old.units.items u.0 (op.EvSet x) }
-        ensures runs { IfOk result (λ _. Runs w.now u.0 self.new) }
+        requires runs { UnitRuns w.now u.0 self.old }
+        requires here { IsNextOperation w.now self.old.units.items u.0 (op.EvSet x) }
+        ensures runs { IfOk result (λ _. UnitRuns w.now u.0 self.new) }
         ensures work { IfOk result (λ _. work self.new ≡ work self.old) }
         ensures more { IfOk result (λ _. executed self.new.units.items ≡ executed self.old.units.items + 1) }
     {
@@ -82,10 +82,10 @@ impl Table {
     fn compute(&mut self, w: &Workload, u: UnitNo, op: Op) -> Result<(), Want>
         requires confluent { Confluent w.now }
         requires reached { IsReached w.now u.0 }
-        requires runs { Runs w.now u.0 self.old }
-        requires here { IsNext w.now self.old.units.items u.0 op }
+        requires runs { UnitRuns w.now u.0 self.old }
+        requires here { IsNextOperation w.now self.old.units.items u.0 op }
         requires other { IsOther op }
-        ensures runs { IfOk result (λ _. Runs w.now u.0 self.new) }
+        ensures runs { IfOk result (λ _. UnitRuns w.now u.0 self.new) }
         ensures work { IfOk result (λ _. work self.new ≡ work self.old) }
         ensures more { IfOk result (λ _. executed self.new.units.items ≡ executed self.old.units.items + 1) }
     {
@@ -96,8 +96,8 @@ impl Table {
     // The next operation of a unit, if it doesn't rest.
     fn next(&self, w: &Workload, u: UnitNo) -> Option<Op>
         requires reached { IsReached w.now u.0 }
-        requires runs { Runs w.now u.0 self.now }
-        ensures { MatchOption result (IsOver w.now self.now.units.items u.0) (IsNext w.now self.now.units.items u.0) }
+        requires runs { UnitRuns w.now u.0 self.now }
+        ensures { MatchOption result (HasNoneLeft w.now self.now.units.items u.0) (IsNextOperation w.now self.now.units.items u.0) }
     {
         w.known();
         w.op(u, self.units[u.0 as usize].position)
@@ -107,8 +107,8 @@ impl Table {
     fn step(&mut self, w: &Workload, u: UnitNo) -> Result<bool, Want>
         requires confluent { Confluent w.now }
         requires reached { IsReached w.now u.0 }
-        requires runs { Runs w.now u.0 self.old }
-        ensures runs { IfOk result (λ _. Runs w.now u.0 self.new) }
+        requires runs { UnitRuns w.now u.0 self.old }
+        ensures runs { IfOk result (λ _. UnitRuns w.now u.0 self.new) }
         ensures work { IfOk result (λ _. work self.new ≡ work self.old) }
         ensures more { IfOk result (λ more. MatchBool more (executed self.new.units.items ≡ executed self.old.units.items + 1) (Rests w.now self.new.units.items self.new.values.items u.0)) }
     {
@@ -128,12 +128,12 @@ impl Table {
         }
     }
 
-    // Runs a unit on until it rests.
+    // UnitRuns a unit on until it rests.
     fn run(&mut self, w: &Workload, u: UnitNo) -> Result<(), Want>
         requires confluent { Confluent w.now }
         requires reached { IsReached w.now u.0 }
-        requires runs { Runs w.now u.0 self.old }
-        ensures runs { IfOk result (λ _. Runs w.now u.0 self.new) }
+        requires runs { UnitRuns w.now u.0 self.old }
+        ensures runs { IfOk result (λ _. UnitRuns w.now u.0 self.new) }
         ensures work { IfOk result (λ _. work self.new ≡ work self.old) }
         ensures rests { IfOk result (λ _. Rests w.now self.new.units.items self.new.values.items u.0) }
     {
@@ -144,7 +144,7 @@ impl Table {
         }
     }
 
-    // Runs units on until all of them rest.
+    // UnitRuns units on until all of them rest.
     pub(crate) fn run_all(&mut self, w: &Workload) -> Result<(), Want>
         requires confluent { Confluent w.now }
         requires run { AllRun w.now self.old }

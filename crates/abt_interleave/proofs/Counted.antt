@@ -4,7 +4,7 @@ use Rattle.std.specs.Prelude.{Contains}
 use Rattle.std.proofs.lemmas.Bool.{cond-true, cond-false, cond_both, eq-eqb, ne_eqb}
 use Rattle.abt_interleave.specs.Histories.{Legal}
 use Rattle.abt_interleave.specs.Deeds.{Answered, Course}
-use Rattle.abt_interleave.specs.Logs.{Leaves, IsBefore, InOrder, IsSorted}
+use Rattle.abt_interleave.specs.Logs.{LeavesEntry, IsBefore, InOrder, IsSorted}
 use Rattle.abt_interleave.specs.Machines.{DeedOf, EntryOf, TellsPlaces, IsSimulated, Gathered}
 use Rattle.abt_interleave.specs.Stamps.{AllTimed}
 use Rattle.abt_interleave.specs.Counters.{Adds, CountsUp, same_counter, counters, zeros, adds, entry, logs, histories, notes, totals, merged, CountersMerge}
@@ -44,13 +44,13 @@ simulated S s w heard part objects sound declared step answered =
     }
 
 -- what a deed leaves
-left-is : (t s n f : ℕ) (y x : Bool) (e : EntryOf counters) (d : DeedOf counters) → d ≡ adds t s y n f → Leaves d x e → (y ≡ x) × (e ≡ entry t s n f)
+left-is : (t s n f : ℕ) (y x : Bool) (e : EntryOf counters) (d : DeedOf counters) → d ≡ adds t s y n f → LeavesEntry d x e → (y ≡ x) × (e ≡ entry t s n f)
 left-is t s n f y x e d i l =
-    let k : Leaves (adds t s y n f) x e = subst (λ z. Leaves z x e) i l in
+    let k : LeavesEntry (adds t s y n f) x e = subst (λ z. LeavesEntry z x e) i l in
     let h : (y, n, f) ≡ (x, e.act, e.answer) = heard-is (y, n, f) (x, e.act, e.answer) k.2 in
     (ap (λ (p : Bool × ℕ × ℕ). p.0) h, λ j. record { stamp = sym k.0 j; caller = sym k.1 j; act = ap (λ (p : Bool × ℕ × ℕ). p.1) (sym h) j; answer = ap (λ (p : Bool × ℕ × ℕ). p.2) (sym h) j })
 
-has-entry : (s : ℕ) (d : DeedOf counters) (x : Bool) (e : EntryOf counters) → Among d (logs s) → Leaves d x e → Among e (histories x)
+has-entry : (s : ℕ) (d : DeedOf counters) (x : Bool) (e : EntryOf counters) → Among d (logs s) → LeavesEntry d x e → Among e (histories x)
 has-entry zero d x e m l = elim m [
   | inl i ↦ (let k : (true ≡ x) × (e ≡ entry 1 0 5 0) = left-is 1 0 5 0 true x e d i l in subst (λ y. Among e (histories y)) k.0 (inl k.1))
   | inr n ↦ elim n [
@@ -68,7 +68,7 @@ has-entry (suc zero) d x e m l = elim m [
 has-entry (suc (suc s)) d x e m l = absurd m
 
 abbrev IsLeft : Bool → EntryOf counters → Type 0
-IsLeft x e = (d : DeedOf counters) × Contains (logs e.caller) d × Leaves d x e
+IsLeft x e = (d : DeedOf counters) × Contains (logs e.caller) d × LeavesEntry d x e
 
 has-deed : (x : Bool) (e : EntryOf counters) → Among e (histories x) → IsLeft x e
 has-deed true e m = elim m [

@@ -3,7 +3,7 @@ use Rattle.std.proofs.Common.{◌≡◌, ℕ, ◌<◌, List, [], ◌∷◌, refl
 use Rattle.std.proofs.lemmas.Bool.{cases_lt}
 use Rattle.abt_interleave.specs.Histories.{RisesAbove, Leads}
 use Rattle.abt_interleave.specs.Deeds.{deed_stamps, Does}
-use Rattle.abt_interleave.specs.Logs.{Leaves, IsBefore, IsSorted}
+use Rattle.abt_interleave.specs.Logs.{LeavesEntry, IsBefore, IsSorted}
 use Rattle.abt_interleave.specs.Machines.{Machine, DeedOf, EntryOf, TellsPlaces, Gathered}
 use Rattle.abt_interleave.specs.Laws.{LogsMerge}
 use Rattle.abt_interleave.proofs.Members.{Among, to-among, from-among}
@@ -46,7 +46,7 @@ module _ (M : Machine) where
       history-is tells x = in-order-unique IsEntryBefore entry-one-way (of_place M x J) (histories x)
           (in-order-of_place M tells x J sorted.in_order)
           (stamps-in-order (λ (e : EntryOf M). e.stamp) IsEntryBefore (λ a b l. inl l) (histories x) (gathered.legal x).0)
-          (λ e m. let r : (d : DeedOf M) × Among d J × Leaves d x e = among-of_place M tells x e J m in
+          (λ e m. let r : (d : DeedOf M) × Among d J × LeavesEntry d x e = among-of_place M tells x e J m in
           to-among (histories x) e (gathered.matched.has_entry r.0 x e (sorted.only r.0 (from-among J r.0 r.1)) r.2))
           (λ e m. let r = gathered.matched.has_deed x e (from-among (histories x) e m) in
           to-of_place M tells x e r.0 J (to-among J r.0 (sorted.all e.caller r.0 r.1)) r.2)

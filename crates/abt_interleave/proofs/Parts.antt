@@ -2,7 +2,7 @@
 use Rattle.std.proofs.Common.{◌≡◌, ◌≢◌, ℕ, ◌<◌, ◌==◌, if◌then◌else◌, true, false, List, [], ◌∷◌, Option, Some, None, refl, sym, ◌∙◌, ap, subst, ◌⊎◌, inl, inr}
 use Rattle.std.proofs.lemmas.Bool.{cond-true, cond_both, cases_Bool, eq-eqb, eqb-true}
 use Rattle.abt_interleave.specs.Deeds.{Heard}
-use Rattle.abt_interleave.specs.Logs.{Leaves, IsBefore, BeforeAll, InOrder}
+use Rattle.abt_interleave.specs.Logs.{LeavesEntry, IsBefore, BeforeAll, InOrder}
 use Rattle.abt_interleave.specs.Machines.{Machine, DeedOf, EntryOf, TellsPlaces}
 use Rattle.abt_interleave.proofs.Members.{Among}
 use Rattle.abt_interleave.proofs.Orders.{IsEntryBefore}
@@ -88,10 +88,10 @@ module _ (M : Machine) where
     in-order-of_place x (d ∷ ds) h =
         in-order-entry x d.stamp d.stream d.heard (of_place x ds) (λ e t s. before-of_place x e d ds t s h.0) (in-order-of_place x ds h.1)
 
-    among-entry : (x : M.Place) (e : EntryOf M) (d : DeedOf M) (h : Option (Heard M.Place M.Act M.Answer)) (es : List (EntryOf M)) → d.heard ≡ h → Among e (entry_at x d.stamp d.stream h es) → Leaves d x e ⊎ Among e es
+    among-entry : (x : M.Place) (e : EntryOf M) (d : DeedOf M) (h : Option (Heard M.Place M.Act M.Answer)) (es : List (EntryOf M)) → d.heard ≡ h → Among e (entry_at x d.stamp d.stream h es) → LeavesEntry d x e ⊎ Among e es
     among-entry x e d None es q = λ m. inr m
     among-entry x e d (Some k) es q =
-        cond_both (M.same k.0 x) (record { stamp = d.stamp; caller = d.stream; act = k.1; answer = k.2 } ∷ es) es (λ ys. Among e ys → Leaves d x e ⊎ Among e es)
+        cond_both (M.same k.0 x) (record { stamp = d.stamp; caller = d.stream; act = k.1; answer = k.2 } ∷ es) es (λ ys. Among e ys → LeavesEntry d x e ⊎ Among e es)
         (λ p m. elim m [
           | inl i ↦ inl (
             ap (λ (z : EntryOf M). z.stamp) (sym i),
@@ -103,12 +103,12 @@ module _ (M : Machine) where
         (λ _ m. inr m)
 
     -- an entry there is of a deed
-    pub among-of_place : (x : M.Place) (e : EntryOf M) (J : List (DeedOf M)) → Among e (of_place x J) → (d : DeedOf M) × Among d J × Leaves d x e
+    pub among-of_place : (x : M.Place) (e : EntryOf M) (J : List (DeedOf M)) → Among e (of_place x J) → (d : DeedOf M) × Among d J × LeavesEntry d x e
     among-of_place x e [] m = absurd m
     among-of_place x e (d ∷ ds) m =
         elim (among-entry x e d d.heard (of_place x ds) refl m) [
           | inl l ↦ (d, inl refl, l)
-          | inr n ↦ (let r : (d : DeedOf M) × Among d ds × Leaves d x e = among-of_place x e ds n in (r.0, inr r.1, r.2))
+          | inr n ↦ (let r : (d : DeedOf M) × Among d ds × LeavesEntry d x e = among-of_place x e ds n in (r.0, inr r.1, r.2))
         ]
 
     entry-stays : (x : M.Place) (e : EntryOf M) (t s : ℕ) (h : Option (Heard M.Place M.Act M.Answer)) (es : List (EntryOf M)) → Among e es → Among e (entry_at x t s h es)
@@ -119,7 +119,7 @@ module _ (M : Machine) where
     entry-new x e es = subst (Among e) (sym (cond-true (M.same x x) (e ∷ es) es (same-self x))) (inl refl)
 
     -- a deed's entry is there
-    pub to-of_place : (x : M.Place) (e : EntryOf M) (d : DeedOf M) (J : List (DeedOf M)) → Among d J → Leaves d x e → Among e (of_place x J)
+    pub to-of_place : (x : M.Place) (e : EntryOf M) (d : DeedOf M) (J : List (DeedOf M)) → Among d J → LeavesEntry d x e → Among e (of_place x J)
     to-of_place x e d [] m l = absurd m
     to-of_place x e d (f ∷ fs) m l =
         elim m [

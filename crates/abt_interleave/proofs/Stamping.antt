@@ -5,7 +5,7 @@ use Rattle.std.proofs.lemmas.Bool.{cases_lt}
 use Rattle.std.proofs.lemmas.List.Elements.{Contains-append_left, Contains-push, Contains-push_cases}
 use Rattle.abt_interleave.specs.Histories.{last_stamp, entry_stamps}
 use Rattle.abt_interleave.specs.Deeds.{Heard, Deed}
-use Rattle.abt_interleave.specs.Logs.{Leaves, IsBefore, BeforeAll, InOrder, IsSorted}
+use Rattle.abt_interleave.specs.Logs.{LeavesEntry, IsBefore, BeforeAll, InOrder, IsSorted}
 use Rattle.abt_interleave.specs.Machines.{Machine, DeedOf, EntryOf, Gathered}
 use Rattle.abt_interleave.specs.Stamps as of
 use Rattle.abt_interleave.specs.Stamps.{place_of, AreStamped, AreLamports, LeavesNoGap, IsTimed, AllTimed}
@@ -42,15 +42,15 @@ module _ {Place Act Answer What : Type 0} where
 module _ (M : Machine) (parts : ℕ → M.Part) (objects : M.Place → M.Object) (logs : ℕ → List (DeedOf M)) (histories : M.Place → List (EntryOf M)) (ends : ℕ → M.Part) (finals : M.Place → M.Object) (gathered : Gathered M parts objects logs histories ends finals)
     (J : List (DeedOf M)) (sorted : IsSorted logs J) where
   -- the entry of a deed that called the object at x
-  entry-left : (d : DeedOf M) (x : M.Place) (heard : Option (Heard M.Place M.Act M.Answer)) → d.heard ≡ heard → option_map (λ (h : Heard M.Place M.Act M.Answer). h.0) heard ≡ Some x → (e : EntryOf M) × Leaves d x e
+  entry-left : (d : DeedOf M) (x : M.Place) (heard : Option (Heard M.Place M.Act M.Answer)) → d.heard ≡ heard → option_map (λ (h : Heard M.Place M.Act M.Answer). h.0) heard ≡ Some x → (e : EntryOf M) × LeavesEntry d x e
   entry-left d x None q p = absurd cc
   entry-left d x (Some h) q p = (record { stamp = d.stamp; caller = d.stream; act = h.1; answer = h.2 }, (refl, refl, q ∙ (λ i. Some (same-some h.0 x p i, h.1, h.2))))
 
   -- two deeds of one stamp at one object are of one stream
   one-caller : (d e : DeedOf M) (x : M.Place) → Among d J → Among e J → place_of d ≡ Some x → place_of e ≡ Some x → d.stamp ≡ e.stamp → d.stream ≡ e.stream
   one-caller d e x dm em dx ex q =
-      let a : (f : EntryOf M) × Leaves d x f = entry-left d x d.heard refl dx in
-      let b : (f : EntryOf M) × Leaves e x f = entry-left e x e.heard refl ex in
+      let a : (f : EntryOf M) × LeavesEntry d x f = entry-left d x d.heard refl dx in
+      let b : (f : EntryOf M) × LeavesEntry e x f = entry-left e x e.heard refl ex in
       let same : a.0 ≡ b.0 = one-stamp (λ (f : EntryOf M). f.stamp) (histories x) a.0 b.0 (rises-in-order (λ (f : EntryOf M). f.stamp) 0 (histories x) (gathered.legal x).0)
       (to-among (histories x) a.0 (gathered.matched.has_entry d x a.0 (sorted.only d (from-among J d dm)) a.1))
       (to-among (histories x) b.0 (gathered.matched.has_entry e x b.0 (sorted.only e (from-among J e em)) b.1))

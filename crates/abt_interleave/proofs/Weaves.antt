@@ -6,7 +6,7 @@ use Rattle.std.proofs.lemmas.Bool.{cases_lt, cond_both, cond-true}
 use Rattle.std.proofs.lemmas.List.Elements.{All-nil, All-contains}
 use Rattle.abt_interleave.specs.Histories.{RisesAbove, last_stamp, entry_stamps, Leads}
 use Rattle.abt_interleave.specs.Deeds.{Heard, deed_stamps, Does}
-use Rattle.abt_interleave.specs.Logs.{Leaves, Matched}
+use Rattle.abt_interleave.specs.Logs.{LeavesEntry, Matched}
 use Rattle.abt_interleave.specs.Machines.{Machine, DeedOf, EntryOf, TellsPlaces, Gathered}
 use Rattle.abt_interleave.specs.Laws.{at_place}
 use Rattle.abt_interleave.specs.Lines.{CallOf, call_of, histories_of, Walks, Stands, AllStand, Woven, IsLine}
@@ -108,14 +108,14 @@ module _ (M : Machine) where
     climb s = all-climb lock carried lines (clocks s) (logs s) (stand s)
 
     -- a deed with a call leaves its entry
-    has-entry : (d : DeedOf M) (x : M.Place) (e : EntryOf M) → Among d (logs d.stream) → Leaves d x e → Among e (histories_of M lock lines x)
+    has-entry : (d : DeedOf M) (x : M.Place) (e : EntryOf M) → Among d (logs d.stream) → LeavesEntry d x e → Among e (histories_of M lock lines x)
     has-entry d x e m l =
         let w = each-stands lock carried lines (clocks d.stream) (logs d.stream) (stand d.stream) d m in
         let c : CallOf M = call_of M d (x, e.act, e.answer) in
         let there : Among (entry_in c) (at_place M x (lines (lock x))) = among-at tells c (lines (lock x)) (stand-call lock carried lines w.0 d d.heard (x, e.act, e.answer) l.2 w.1) in
         subst (λ (z : EntryOf M). Among z (at_place M x (lines (lock x)))) (λ i. record { stamp = l.0 i; caller = l.1 i; act = e.act; answer = e.answer }) there
 
-    has-deed : (x : M.Place) (e : EntryOf M) → Among e (histories_of M lock lines x) → (d : DeedOf M) × Contains (logs e.caller) d × Leaves d x e
+    has-deed : (x : M.Place) (e : EntryOf M) → Among e (histories_of M lock lines x) → (d : DeedOf M) × Contains (logs e.caller) d × LeavesEntry d x e
     has-deed x e m =
         let r = at-among x e (lines (lock x)) tells m in
         let q = is-called (lock x) r.0 r.1 in (

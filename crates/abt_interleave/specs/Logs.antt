@@ -4,13 +4,13 @@ use Rattle.abt_interleave.specs.declared.entries.Entry.{Entry}
 use Rattle.abt_interleave.specs.Deeds.{Deed}
 
 -- the deed's call on the object at x is this entry
-abbrev pub Leaves : {Place Act Answer What : Type 0} → Deed Place Act Answer What → Place → Entry Act Answer → Type 0
-Leaves d x e = (d.stamp ≡ e.stamp) × (d.stream ≡ e.caller) × (d.heard ≡ Some (x, e.act, e.answer))
+abbrev pub LeavesEntry : {Place Act Answer What : Type 0} → Deed Place Act Answer What → Place → Entry Act Answer → Type 0
+LeavesEntry d x e = (d.stamp ≡ e.stamp) × (d.stream ≡ e.caller) × (d.heard ≡ Some (x, e.act, e.answer))
 
 -- each call in a log is an entry of its object's history, and there is no other entry
 pub record Matched {Place Act Answer What : Type 0} (logs : ℕ → List (Deed Place Act Answer What)) (histories : Place → List (Entry Act Answer)) : Type 0 where
-  pub has_entry : (d : Deed Place Act Answer What) (x : Place) (e : Entry Act Answer) → Contains (logs d.stream) d → Leaves d x e → Contains (histories x) e
-  pub has_deed : (x : Place) (e : Entry Act Answer) → Contains (histories x) e → (d : Deed Place Act Answer What) × Contains (logs e.caller) d × Leaves d x e
+  pub has_entry : (d : Deed Place Act Answer What) (x : Place) (e : Entry Act Answer) → Contains (logs d.stream) d → LeavesEntry d x e → Contains (histories x) e
+  pub has_deed : (x : Place) (e : Entry Act Answer) → Contains (histories x) e → (d : Deed Place Act Answer What) × Contains (logs e.caller) d × LeavesEntry d x e
 
 -- first by stamp, then by stream
 abbrev pub IsSooner : ℕ → ℕ → ℕ → ℕ → Type 0

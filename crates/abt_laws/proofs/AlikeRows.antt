@@ -16,7 +16,7 @@ use Rattle.abt_machine.specs.RwLocks.{passed_on, woken}
 use Rattle.abt_machine.specs.State.{State, Carried, Desk, Mutex, Future, RwLock}
 use Rattle.abt_machine.specs.Lines.{Waiting, hand, standing, tray_end}
 use Rattle.abt_machine.specs.Changes.{tray_moves, waiting_moves, goes_with, goes_on}
-use Rattle.abt_machine.specs.Steps.{owned, wakes, begins, joins, waits, locks, hands_over, releases, queues, passes, receives, gives_all, awaits, fills, arrives, gives_up}
+use Rattle.abt_machine.specs.Steps.{set_owner, wakes, begins, joins, waits, locks, hands_over, releases, queues, passes, receives, gives_all, awaits, fills, arrives, gives_up}
 use Rattle.abt_machine.specs.Values.{RwLockValue, owned_at, rwlock_value, waiters_at}
 use Rattle.abt_laws.specs.Footprint.{Within, holder}
 use Rattle.abt_laws.proofs.Lists.{EachOf}
@@ -64,7 +64,7 @@ module _ (W : Parts) (S T : State) (s u : ℕ) (x : Option Site) (alike : IsAlik
       λ i. record (alike-goes_on i) { moves = (u, place.Blocked (spot.Object (object_no y)) (n i)) ∷ []; object_next = (y, suc (n i)) ∷ [] }
 
   locks-at : (y : ℕ) (o : Option ℕ) → S.mutex y ≡ T.mutex y → x ≡ Some (object_site W y) → locks S u y o ≡ locks T u y o
-  locks-at y None m e = λ i. record (alike-goes_on i) { mutexes = (y, owned (Some u) (m i)) ∷ [] }
+  locks-at y None m e = λ i. record (alike-goes_on i) { mutexes = (y, set_owner (Some u) (m i)) ∷ [] }
   locks-at y (Some v) m e = alike-waits y e
 
   pub alike-locks : (y : ℕ) → x ≡ Some (site.Monitor (object_no y)) → x ≡ Some (object_site W y) → locks S u y (S.mutex y).owner ≡ locks T u y (T.mutex y).owner
@@ -74,7 +74,7 @@ module _ (W : Parts) (S T : State) (s u : ℕ) (x : Option Site) (alike : IsAlik
   alike-hands_over y m e =
       let w : standing W S (Waiting y) ≡ standing W T (Waiting y) = same-waiters y e in
       let k : S.mutex y ≡ T.mutex y = alike.mutex y m in
-      λ i. record (alike-wakes _ _ (ap first_alone w) i) { mutexes = (y, owned (first (w i)) (k i)) ∷ [] }
+      λ i. record (alike-wakes _ _ (ap first_alone w) i) { mutexes = (y, set_owner (first (w i)) (k i)) ∷ [] }
 
   pub alike-releases : (y z : ℕ) → x ≡ Some (site.Monitor (object_no z)) → x ≡ Some (object_site W y) → x ≡ Some (object_site W z) → releases W S s u y z ≡ releases W T s u y z
   alike-releases y z m e f =
@@ -97,7 +97,7 @@ module _ (W : Parts) (S T : State) (s u : ℕ) (x : Option Site) (alike : IsAlik
       let n : S.object_next z ≡ T.object_next z = alike.object_next z e in
       λ i. record (alike-queues z ws e i) {
         moves = waiting_moves z (n i) ws ++ tray_moves s (same-end i) (w ∷ []);
-        mutexes = (z, owned (Some w) (m i)) ∷ [];
+        mutexes = (z, set_owner (Some w) (m i)) ∷ [];
       }
 
   -- those that come from condition y, by what is taken of its waiters

@@ -11,7 +11,7 @@ use Rattle.abt_machine.specs.declared.events.Wish.TheVariants as wish
 use Rattle.abt_machine.specs.Holders.{count_of, given_up, holds, is_free, read_by, with_count, writes, written_by}
 use Rattle.abt_machine.specs.Monitors.{number_of, rest}
 use Rattle.abt_machine.specs.Queues.{first}
-use Rattle.abt_machine.specs.RwLocks.{after_readers, all_reading, first_readers, is_empty, is_read, left_by, may_read, passed_on, reader_is_first, served, served_by, wants_to_read, wanting}
+use Rattle.abt_machine.specs.RwLocks.{after_readers, all_reading, first_readers, nobody_waits, is_read, left_by, may_read, passed_on, reader_is_first, served, served_by, wants_to_read, wanting}
 use Rattle.abt_machine.specs.State.{RwLock}
 use Rattle.abt_machine.specs.Sound.{IsKept}
 use Rattle.abt_machine.specs.Values.{Owned, RwLockValue}
@@ -44,20 +44,20 @@ free-true None ns e = (refl, eqb-true (sum ns) 0 e)
 free-true (Some v) ns e = cc
 
 -- no unit writes and none waits, as a test and as facts
-no-test : (w : Option ℕ) (os : List Owned) → (is_none w && is_empty os) ≡ true → (w ≡ None) × (os ≡ [])
+no-test : (w : Option ℕ) (os : List Owned) → (is_none w && nobody_waits os) ≡ true → (w ≡ None) × (os ≡ [])
 no-test None [] e = (refl, refl)
 no-test None (o ∷ os) e = cc
 no-test (Some v) os e = cc
 
 -- and from the facts to the test
-no-test-of-none : (w : Option ℕ) (os : List Owned) → w ≡ None → map number_of os ≡ [] → (is_none w && is_empty os) ≡ true
+no-test-of-none : (w : Option ℕ) (os : List Owned) → w ≡ None → map number_of os ≡ [] → (is_none w && nobody_waits os) ≡ true
 no-test-of-none None [] none empty = refl
 no-test-of-none None (o ∷ os) none empty = cc
 no-test-of-none (Some v) os none empty = cc
 
 -- why a unit may read
-may_read-true : (n : ℕ) (w : Option ℕ) (os : List Owned) → (nat_lt 0 n || (is_none w && is_empty os)) ≡ true → (0 < n) ⊎ ((w ≡ None) × (os ≡ []))
-may_read-true n w os e = elim (or-true (nat_lt 0 n) (is_none w && is_empty os) e) [ inl t ↦ inl (ltb-true 0 n t) | inr t ↦ inr (no-test w os t) ]
+may_read-true : (n : ℕ) (w : Option ℕ) (os : List Owned) → (nat_lt 0 n || (is_none w && nobody_waits os)) ≡ true → (0 < n) ⊎ ((w ≡ None) × (os ≡ []))
+may_read-true n w os e = elim (or-true (nat_lt 0 n) (is_none w && nobody_waits os) e) [ inl t ↦ inl (ltb-true 0 n t) | inr t ↦ inr (no-test w os t) ]
 
 -- a number above 0 is not 0
 pub above-zero : (n : ℕ) → 0 < n → n ≡ 0 → ⊥
@@ -212,7 +212,7 @@ reader_is_first-waiting ws (v ∷ us) u w apart alone first = ap is_read (noted-
 -- a lock that a unit must not read is not free
 not-free : (u : ℕ) (old : RwLockValue) → IsKeptValue old → IsFalse (may_read u old) → is_free old.lock ≡ false
 not-free u old kept may = elim (cases_Bool (is_free old.lock)) [
-  | inl free ↦ absurd (both-tests (is_none old.lock.writer && is_empty old.waiters) (no-test-of-none old.lock.writer old.waiters (free-true old.lock.writer old.lock.counts free).0 (kept.served free)) (or-false (nat_lt 0 (count_of u old.lock)) (is_none old.lock.writer && is_empty old.waiters) may))
+  | inl free ↦ absurd (both-tests (is_none old.lock.writer && nobody_waits old.waiters) (no-test-of-none old.lock.writer old.waiters (free-true old.lock.writer old.lock.counts free).0 (kept.served free)) (or-false (nat_lt 0 (count_of u old.lock)) (is_none old.lock.writer && nobody_waits old.waiters) may))
   | inr held ↦ held
 ]
 
@@ -227,7 +227,7 @@ kept-wait w u lock us kept apart held first = record {
 -- to read
 pub kept-wait_to_read : (u : ℕ) (old : RwLockValue) → IsKeptValue old → EachOf (λ v. v ≢ u) (map number_of old.waiters) → IsFalse (may_read u old) → IsKept (wanting u wish.Read old.lock) (map number_of old.waiters ++ u ∷ [])
 kept-wait_to_read u old kept apart may =
-    kept-wait wish.Read u old.lock (map number_of old.waiters) kept apart (not-free u old kept may) (λ above none. absurd (both-tests (is_none old.lock.writer && is_empty old.waiters) (no-test-of-none old.lock.writer old.waiters (none-writes old.lock.writer (sum old.lock.counts) kept.alone above) none) (or-false (nat_lt 0 (count_of u old.lock)) (is_none old.lock.writer && is_empty old.waiters) may)))
+    kept-wait wish.Read u old.lock (map number_of old.waiters) kept apart (not-free u old kept may) (λ above none. absurd (both-tests (is_none old.lock.writer && nobody_waits old.waiters) (no-test-of-none old.lock.writer old.waiters (none-writes old.lock.writer (sum old.lock.counts) kept.alone above) none) (or-false (nat_lt 0 (count_of u old.lock)) (is_none old.lock.writer && nobody_waits old.waiters) may)))
 
 -- or to write
 pub kept-wait_to_write : (u : ℕ) (old : RwLockValue) → IsKeptValue old → EachOf (λ v. v ≢ u) (map number_of old.waiters) → IsFalse (is_free old.lock) → IsKept (wanting u wish.Write old.lock) (map number_of old.waiters ++ u ∷ [])

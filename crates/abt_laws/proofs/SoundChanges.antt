@@ -17,7 +17,7 @@ use Rattle.abt_machine.specs.State.{State, Carried, Desk, Mutex, Future, RwLock}
 use Rattle.abt_machine.specs.Lines.{Line, InHand, InNext, Joining, Waiting, ticket_in, standing}
 use Rattle.abt_machine.specs.Changes.{Change, changed}
 use Rattle.abt_machine.specs.Codes.{is_alive}
-use Rattle.abt_machine.specs.Sound.{Sound, IsKept, IsPlaced, IsAtRest, AllUnderWay, AllAtRest, HoldsUp, HasNotEnded, AsksNothing, frames_of}
+use Rattle.abt_machine.specs.Sound.{Sound, IsKept, IsPlaced, IsAtRest, AllUnderWay, AllAtRest, HoldsUp, HasNotEnded, HasNoRequest, frames_of}
 use Rattle.abt_laws.proofs.Lists.{EachOf, EachOf-then}
 use Rattle.abt_laws.proofs.Maps.{KeyOf-cases, put_all-other, put_all-value, put_all-kept, put_all-above, EachOf-key}
 use Rattle.abt_laws.proofs.Places.{same-self, place_in, ticket-place}
@@ -52,7 +52,7 @@ pub record CarriesWell (W : Parts) (u : ℕ) (c : Carried) : Type 0 where
 
 -- who is unborn or ended is asked nothing new, and a migrate request is to a declared pool
 pub record AsksWell (W : Parts) (S : State) (u : ℕ) (d : Desk) : Type 0 where
-  pub asks : (AsksNothing (S.desk u) → AsksNothing d) ⊎ (is_alive (S.place u) ≡ true)
+  pub asks : (HasNoRequest (S.desk u) → HasNoRequest d) ⊎ (is_alive (S.place u) ≡ true)
   pub request : IfSome d.migrate (λ p. p < length W.pools)
 
 -- Objects, if f has the places afterwards: one that holds nobody up any more has no waiters.
@@ -139,9 +139,9 @@ module _ (W : Parts) (Z : List OrderShape) (S : State) (c : Change) (sound : Sou
   held-up u t x (Some (thing.Barrier n)) is at h = tt
   held-up u t x (Some thing.RwLock) is at h = tt
 
-  asks-nothing : (u : ℕ) → (is_alive (S.place u) ≡ true → ⊥) → AsksNothing (S.desk u) → AsksNothing (put_all S.desk c.desks u)
+  asks-nothing : (u : ℕ) → (is_alive (S.place u) ≡ true → ⊥) → HasNoRequest (S.desk u) → HasNoRequest (put_all S.desk c.desks u)
   asks-nothing u idle h =
-      elim (put_all-kept (λ n (d : Desk). (AsksNothing (S.desk n) → AsksNothing d) ⊎ (is_alive (S.place n) ≡ true)) S.desk c.desks u
+      elim (put_all-kept (λ n (d : Desk). (HasNoRequest (S.desk n) → HasNoRequest d) ⊎ (is_alive (S.place n) ≡ true)) S.desk c.desks u
       (EachOf-then _ _ c.desks (λ m k. k.asks) keeps.desks) (inl (λ k. k))) [ inl f ↦ f h | inr alive ↦ absurd (idle alive) ]
 
   not-ended : (u t v : ℕ) → ticket_in (Joining v) (places S c u) ≡ Some t → HasNotEnded (S.place v) → HasNotEnded (places S c v)

@@ -15,7 +15,7 @@ use Rattle.abt_machine.specs.Queues.{first, first_alone}
 use Rattle.abt_machine.specs.Lines.{InTray, Waiting, standing, tray_end}
 use Rattle.abt_machine.specs.Operations.{IsMutex}
 use Rattle.abt_machine.specs.Changes.{Change, changed, to_tray, waiting_moves}
-use Rattle.abt_machine.specs.Steps.{owned, releases, queues, passes}
+use Rattle.abt_machine.specs.Steps.{set_owner, releases, queues, passes}
 use Rattle.abt_machine.specs.Sound.{HoldsUp}
 use Rattle.abt_laws.proofs.LineMoves.{waiting_moves-each, waiting_moves-places, tray_moves-places}
 use Rattle.abt_laws.proofs.Maps.{put_at-same}
@@ -65,7 +65,7 @@ module _ (W : Parts) (Z : List OrderShape) (S : State) (s u : ℕ) (step : IsSte
       let apart : x ≡ m → ⊥ = λ e. let k : Some (thing.Cond cond.0) ≡ Some thing.Mutex = sym cond.1 ∙ (ap (thing_at W) e ∙ is) in cc in
       let still : first (standing W S (Waiting m)) ≡ None → IsEmpty (Waiting m) (places S c) =
       λ none. empty-still S c (Waiting m) (λ e. let k : x ≡ m = cc in apart k, tray_moves-places (λ p. line_of p ≡ Some (Waiting m) → ⊥) s i us (λ t e. cc)) (none-first W S step.sound.undeclared (Waiting m) none) in
-      keeps-moves W Z S s u step ((u, pl) ∷ to_tray W S s us) [] ((x, suc (S.object_next x)) ∷ []) ((m, owned (first (standing W S (Waiting m))) (S.mutex m)) ∷ []) (
+      keeps-moves W Z S s u step ((u, pl) ∷ to_tray W S s us) [] ((x, suc (S.object_next x)) ∷ []) ((m, set_owner (first (standing W S (Waiting m))) (S.mutex m)) ∷ []) (
         free-above S.place u pl (Waiting x) (S.object_next x) (same-self x (S.object_next x)) (waiting-below W Z S x step.sound),
         tray-free s i (put_at S.place u pl) us (IsBelow-move (InTray s) i S.place u pl (λ e. cc) (tray-below W Z S s u step)),
       ) (
@@ -103,10 +103,10 @@ module _ (W : Parts) (Z : List OrderShape) (S : State) (s u : ℕ) (step : IsSte
       let i : ℕ = tray_end W S s in
       let c : Change = passes W S s u m None (w ∷ ws) in
       let next : put_at S.object_next m (t + length ws) m ≡ t + length ws = put_at-same S.object_next m (t + length ws) in
-      let owner : put_at S.mutex m (owned (Some w) (S.mutex m)) m ≡ owned (Some w) (S.mutex m) = put_at-same S.mutex m (owned (Some w) (S.mutex m)) in
-      let held : IsSome (put_at S.mutex m (owned (Some w) (S.mutex m)) m).owner = subst (λ (k : Mutex). IsSome k.owner) (sym owner) refl in
+      let owner : put_at S.mutex m (set_owner (Some w) (S.mutex m)) m ≡ set_owner (Some w) (S.mutex m) = put_at-same S.mutex m (set_owner (Some w) (S.mutex m)) in
+      let held : IsSome (put_at S.mutex m (set_owner (Some w) (S.mutex m)) m).owner = subst (λ (k : Mutex). IsSome k.owner) (sym owner) refl in
       let away : EachOf (λ (k : ℕ × Place). line_of k.1 ≡ Some (InTray s) → ⊥) (waiting_moves m t ws) = waiting_moves-places (λ p. line_of p ≡ Some (InTray s) → ⊥) m t ws (λ k e. cc) in
-      keeps-moves W Z S s u step (waiting_moves m t ws ++ to_tray W S s (w ∷ [])) [] ((m, t + length ws) ∷ []) ((m, owned (Some w) (S.mutex m)) ∷ [])
+      keeps-moves W Z S s u step (waiting_moves m t ws ++ to_tray W S s (w ∷ [])) [] ((m, t + length ws) ∷ []) ((m, set_owner (Some w) (S.mutex m)) ∷ [])
       (AllFree-append S.place (waiting_moves m t ws) (to_tray W S s (w ∷ [])) (waiting-free m t S.place ws (waiting-below W Z S m step.sound))
       (tray-free s i (put_all S.place (waiting_moves m t ws)) (w ∷ []) (IsBelow-moves (InTray s) i S.place (waiting_moves m t ws) away (tray-below W Z S s u step))))
       (EachOf-append _ (waiting_moves m t ws) (to_tray W S s (w ∷ []))

@@ -12,7 +12,7 @@ use Rattle.abt_machine.specs.Lines.{InTray, InHand, Joining, standing, tray_end}
 use Rattle.abt_machine.specs.Next.{EndDue}
 use Rattle.abt_machine.specs.Changes.{Change, to_tray}
 use Rattle.abt_machine.specs.Events.{May, change, without_requests}
-use Rattle.abt_machine.specs.Sound.{Sound, IsPlaced, AsksNothing}
+use Rattle.abt_machine.specs.Sound.{Sound, IsPlaced, HasNoRequest}
 use Rattle.abt_laws.proofs.LineMoves.{tray_moves-places, tray_moves-key}
 use Rattle.abt_laws.proofs.SoundEvents.{keeps-event}
 use Rattle.abt_laws.proofs.Dues.{due-no_tray}
@@ -26,8 +26,8 @@ use Rattle.abt_laws.proofs.Barriers.{IsOffBarriers}
 use Rattle.abt_laws.proofs.SoundLook.{asks-nothing}
 use Rattle.abt_laws.proofs.Wakes.{frameless-in, off-in, wakeable-line, empty-after, tray-well, tray-frameless, tray-off}
 
-ended-asks : (S : State) (u : ℕ) → AsksNothing (put_at S.desk u (without_requests (S.desk u)) u)
-ended-asks S u = subst AsksNothing (sym (put_at-same S.desk u (without_requests (S.desk u)))) (refl, refl)
+ended-asks : (S : State) (u : ℕ) → HasNoRequest (put_at S.desk u (without_requests (S.desk u)) u)
+ended-asks S u = subst HasNoRequest (sym (put_at-same S.desk u (without_requests (S.desk u)))) (refl, refl)
 
 pub keeps-end : (W : Parts) (Z : List OrderShape) (S : State) (s u : ℕ) (e : Cause) → Sound W Z S → May W Z S s (what.End (unit_no u) e) → Keeps W Z S (change W S s (what.End (unit_no u) e))
 keeps-end W Z S s u e sound may =

@@ -13,7 +13,7 @@ use Rattle.abt_machine.specs.Carrying.{advanced}
 use Rattle.abt_machine.specs.Operations.{IsMutex}
 use Rattle.abt_machine.specs.Codes.{owned_by}
 use Rattle.abt_machine.specs.Changes.{Change, goes_on}
-use Rattle.abt_machine.specs.Steps.{owned, wakes, locks, hands_over}
+use Rattle.abt_machine.specs.Steps.{set_owner, wakes, locks, hands_over}
 use Rattle.abt_machine.specs.Sound.{HoldsUp}
 use Rattle.abt_laws.proofs.LineMoves.{tray_moves-places}
 use Rattle.abt_laws.proofs.Codes.{owned-some}
@@ -25,7 +25,7 @@ use Rattle.abt_laws.proofs.Wakes.{wakeable-first, empty-still}
 use Rattle.abt_laws.proofs.SoundSteps.{IsStepping, carries-on, keeps-still, keeps-wakes, keeps-waits}
 
 -- the first waiter owns the mutex, or nobody waits
-pub next-owner : (f : ℕ → Place) (x : ℕ) (us : List ℕ) (m : Mutex) → (first us ≡ None → IsEmpty (Waiting x) f) → MutexHolds f x (owned (first us) m)
+pub next-owner : (f : ℕ → Place) (x : ℕ) (us : List ℕ) (m : Mutex) → (first us ≡ None → IsEmpty (Waiting x) f) → MutexHolds f x (set_owner (first us) m)
 next-owner f x [] m none = inr (none refl)
 next-owner f x (u ∷ us) m none = inl refl
 
@@ -38,8 +38,8 @@ module _ (W : Parts) (Z : List OrderShape) (S : State) (s u : ℕ) (step : IsSte
   keeps-owned : (x : ℕ) (m : Mutex) → IsSome m.owner → Keeps W Z S (record (goes_on S u) { mutexes = (x, m) ∷ [] })
   keeps-owned x m some = keeps-still W Z S s u step ((u, advanced (S.carried u)) ∷ []) [] ((x, m) ∷ []) [] [] (carries-on W Z S s u step, tt) tt (inl some, tt) tt tt
 
-  keeps-takes : (x : ℕ) → Keeps W Z S (record (goes_on S u) { mutexes = (x, owned (Some u) (S.mutex x)) ∷ [] })
-  keeps-takes x = keeps-owned x (owned (Some u) (S.mutex x)) refl
+  keeps-takes : (x : ℕ) → Keeps W Z S (record (goes_on S u) { mutexes = (x, set_owner (Some u) (S.mutex x)) ∷ [] })
+  keeps-takes x = keeps-owned x (set_owner (Some u) (S.mutex x)) refl
 
   pub keeps-stores : (x n : ℕ) → owned_by S u x ≡ true → Keeps W Z S (record (goes_on S u) { mutexes = (x, record (S.mutex x) { number = n }) ∷ [] })
   keeps-stores x n mine = keeps-owned x (record (S.mutex x) { number = n }) (owned-some S u x mine)
@@ -56,5 +56,5 @@ module _ (W : Parts) (Z : List OrderShape) (S : State) (s u : ℕ) (step : IsSte
       let c : Change = wakes W S s u us in
       let still : first (standing W S (Waiting x)) ≡ None → IsEmpty (Waiting x) (places S c) =
       λ none. empty-still S c (Waiting x) (tray_moves-places (λ pl. line_of pl ≡ Some (Waiting x) → ⊥) s (tray_end W S s) us (λ t e. cc)) (none-first W S step.sound.undeclared (Waiting x) none) in
-      keeps-wakes W Z S s u step us ((u, advanced (S.carried u)) ∷ []) [] ((x, owned (first (standing W S (Waiting x))) (S.mutex x)) ∷ []) [] []
+      keeps-wakes W Z S s u step us ((u, advanced (S.carried u)) ∷ []) [] ((x, set_owner (first (standing W S (Waiting x))) (S.mutex x)) ∷ []) [] []
       (wakeable-first W S (Waiting x) tt (mutex-no_lock W x is)) (carries-on W Z S s u step, tt) tt (next-owner (places S c) x (standing W S (Waiting x)) (S.mutex x) still, tt) tt tt

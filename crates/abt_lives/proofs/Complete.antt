@@ -15,13 +15,14 @@ use Rattle.abt_run.specs.Call.{Call, IsOfRun}
 use Rattle.abt_run.proofs.Complete.{no-fault, outcome-is-of-run, reads-whole}
 use Rattle.abt_shell.specs.declared.status.Stop.TheVariants.{BadWords, BadLine, CannotRead, OutOfMemory}
 use Rattle.abt_shell.specs.declared.status.Wrong.TheVariants.{Workload, Journal, Lives}
+use Rattle.abt_shell.specs.Calls.{EndsBy, Holds}
 use Rattle.abt_shell.specs.Status.{Status, Concluded, Stopped, CannotWrite, number_of, number_of_outcome}
 use Rattle.abt_shell.specs.Told.{Grew}
 use Rattle.abt_shell.proofs.Calls.{reads-well, writes-well}
 use Rattle.abt_shell.proofs.Fetched.{of-observed}
 use Rattle.abt_streams.specs.declared.life.Life.{Life}
 use Rattle.abt_workload.proofs.RoundTrip.{only-valid}
-use Rattle.abt_lives.specs.Call.{EndsBy, Holds, IsAnswered, NamesFiles, Ran, Tells, TellsBoth, program}
+use Rattle.abt_lives.specs.Call.{IsAnswered, NamesFiles, RanOnLives, TellsWorkload, TellsBoth, program}
 use Rattle.abt_lives.specs.Lives.{ReadsLives, RefusesLives}
 use Rattle.abt_lives.specs.Words.{AsksNothing}
 use Rattle.abt_lives.proofs.Naming.{of-first, of-second, one-workload, same-names}
@@ -39,7 +40,7 @@ first-is c named bytes other P seen known = of-observed P (c.given.file other.wo
 
 -- Both texts are right.
 
-runs : (s : Status Outcome) (c : Call) (W : Parts) (text : Text) (lives : List Life) → Holds s c → TellsBoth c W text → ReadsLives W text lives → (Grew c.left.read_faults → ⊥) → (Grew c.left.out_faults → ⊥) →
+runs : (s : Status Outcome) (c : Call) (W : Parts) (text : Text) (lives : List Life) → Holds (program c) c.left s → TellsBoth c W text → ReadsLives W text lives → (Grew c.left.read_faults → ⊥) → (Grew c.left.out_faults → ⊥) →
     IsOfRun (number_of number_of_outcome s) ⊎ (number_of number_of_outcome s ≡ 7)
 runs (Concluded o) c W text lives h tells reads still quiet = inl (outcome-is-of-run o)
 runs (Stopped OutOfMemory) c W text lives h tells reads still quiet = inr refl
@@ -57,12 +58,12 @@ runs (Stopped (BadLine line Lives)) c W text lives h tells reads still quiet =
 -- The second is wrong.
 
 -- what ran are lives
-ran-lives : (c : Call) (W : Parts) (text : Text) (o : Outcome) (printed : Text) → Ran c.given c.journal o printed → TellsBoth c W text → ((lives : List Life) → ReadsLives W text lives → ⊥) → ⊥
+ran-lives : (c : Call) (W : Parts) (text : Text) (o : Outcome) (printed : Text) → RanOnLives c.given c.journal o printed → TellsBoth c W text → ((lives : List Life) → ReadsLives W text lives → ⊥) → ⊥
 ran-lives c W text o printed ran tells none =
     let same : ran.workload ≡ W = one-workload c W ran.named ran.workload tells.first ran.reads in
     none ran.run.lives (subst (λ (V : Parts). ReadsLives V text ran.run.lives) same (of-second c W ran.named (λ bytes. ReadsLives ran.workload bytes ran.run.lives) text tells ran.run.reads))
 
-refuses-lives : (s : Status Outcome) (c : Call) (W : Parts) (text : Text) → Holds s c → TellsBoth c W text → ((lives : List Life) → ReadsLives W text lives → ⊥) → (Grew c.left.read_faults → ⊥) → (number_of number_of_outcome s ≡ 3) ⊎ (number_of number_of_outcome s ≡ 7)
+refuses-lives : (s : Status Outcome) (c : Call) (W : Parts) (text : Text) → Holds (program c) c.left s → TellsBoth c W text → ((lives : List Life) → ReadsLives W text lives → ⊥) → (Grew c.left.read_faults → ⊥) → (number_of number_of_outcome s ≡ 3) ⊎ (number_of number_of_outcome s ≡ 7)
 refuses-lives (Concluded o) c W text h tells none still = absurd (ran-lives c W text o h.text h.prints tells none)
 refuses-lives CannotWrite c W text h tells none still = absurd (ran-lives c W text h.conclusion h.text h.prints tells none)
 refuses-lives (Stopped BadWords) c W text h tells none still = absurd (h.cause.why tells.first.named.workload tells.first.named.lives tells.first.named.asks)
@@ -72,7 +73,7 @@ refuses-lives (Stopped OutOfMemory) c W text h tells none still = inr refl
 
 -- The first is wrong.
 
-refuses : (s : Status Outcome) (c : Call) (named : NamesFiles c.given.words) (bytes : Text) → Holds s c → c.given.file named.workload ≡ Some bytes → ((W : Parts) → Reads bytes W → ⊥) → (Grew c.left.read_faults → ⊥) → (number_of number_of_outcome s ≡ 3) ⊎ (number_of number_of_outcome s ≡ 7)
+refuses : (s : Status Outcome) (c : Call) (named : NamesFiles c.given.words) (bytes : Text) → Holds (program c) c.left s → c.given.file named.workload ≡ Some bytes → ((W : Parts) → Reads bytes W → ⊥) → (Grew c.left.read_faults → ⊥) → (number_of number_of_outcome s ≡ 3) ⊎ (number_of number_of_outcome s ≡ 7)
 refuses (Concluded o) c named bytes h seen none still = absurd (none h.prints.workload (first-is c named bytes h.prints.named (λ text. Reads text h.prints.workload) seen h.prints.reads))
 refuses CannotWrite c named bytes h seen none still = absurd (none h.prints.workload (first-is c named bytes h.prints.named (λ text. Reads text h.prints.workload) seen h.prints.reads))
 refuses (Stopped BadWords) c named bytes h seen none still = absurd (h.cause.why named.workload named.lives named.asks)
@@ -82,7 +83,7 @@ refuses (Stopped OutOfMemory) c named bytes h seen none still = inr refl
 
 -- The words are wrong.
 
-refuses-words : (s : Status Outcome) (c : Call) → Holds s c → AsksNothing c.given.words → (number_of number_of_outcome s ≡ 2) ⊎ (number_of number_of_outcome s ≡ 7)
+refuses-words : (s : Status Outcome) (c : Call) → Holds (program c) c.left s → AsksNothing c.given.words → (number_of number_of_outcome s ≡ 2) ⊎ (number_of number_of_outcome s ≡ 7)
 refuses-words (Concluded o) c h none = absurd (none h.prints.named.workload h.prints.named.lives h.prints.named.asks)
 refuses-words CannotWrite c h none = absurd (none h.prints.named.workload h.prints.named.lives h.prints.named.asks)
 refuses-words (Stopped BadWords) c h none = inl refl
@@ -94,14 +95,14 @@ refuses-words (Stopped OutOfMemory) c h none = inr refl
 
 -- Steps.
 
-no-budget : (c : Call) (W : Parts) (s : StreamNo) (printed : Text) → 2 ≤ length c.given.orders → Tells c W → HasNoRevive W → ops_in W ≤ 10000 → Ran c.given c.journal (outcome.Budget s) printed → ⊥
+no-budget : (c : Call) (W : Parts) (s : StreamNo) (printed : Text) → 2 ≤ length c.given.orders → TellsWorkload c W → HasNoRevive W → ops_in W ≤ 10000 → RanOnLives c.given c.journal (outcome.Budget s) printed → ⊥
 no-budget c W s printed two tells none few ran =
     let is : ran.workload ≡ W = one-workload c W ran.named ran.workload tells ran.reads in
     let sound : IsValid ran.workload = subst IsValid (sym is) (only-valid tells.bytes W tells.reads) in
     steps-bound-budgets ran.workload c.given.orders sound (orders-stored ran.workload c.given.orders sound two) (subst HasNoRevive (sym is) none) 10000 s.0 c.journal (subst (λ (V : Parts). ops_in V ≤ 10000) (sym is) few) ran.run.run.run
     ran.run.run.ended.0
 
-spends : (s : Status Outcome) (c : Call) (W : Parts) → Holds s c → 2 ≤ length c.given.orders → Tells c W → HasNoRevive W → ops_in W ≤ 10000 → number_of number_of_outcome s ≢ 4
+spends : (s : Status Outcome) (c : Call) (W : Parts) → Holds (program c) c.left s → 2 ≤ length c.given.orders → TellsWorkload c W → HasNoRevive W → ops_in W ≤ 10000 → number_of number_of_outcome s ≢ 4
 spends (Concluded outcome.Finished) c W h two tells none few = λ e. absurd (omega arith)
 spends (Concluded outcome.Stuck) c W h two tells none few = λ e. absurd (omega arith)
 spends (Concluded (outcome.Budget s)) c W h two tells none few = λ e. no-budget c W s h.text two tells none few h.prints
@@ -112,9 +113,9 @@ spends (Stopped OutOfMemory) c W h two tells none few = λ e. absurd (omega arit
 spends CannotWrite c W h two tells none few = λ e. absurd (omega arith)
 
 -- a call that ended with this exit status is answered
-pub answered : (n : ℕ) (c : Call) → 2 ≤ length c.given.orders → EndsBy n c → IsAnswered n c
+pub answered : (n : ℕ) (c : Call) → 2 ≤ length c.given.orders → EndsBy (program c) c.left n → IsAnswered n c
 answered n c two ends = by ends.0 ends.1 ends.2 where
-  by : (s : Status Outcome) → n ≡ number_of number_of_outcome s → Holds s c → IsAnswered n c
+  by : (s : Status Outcome) → n ≡ number_of number_of_outcome s → Holds (program c) c.left s → IsAnswered n c
   by s is h = subst (λ m. IsAnswered m c) (sym is) (record {
     cause = (s, refl, h);
     complete = λ W text lives tells reads still quiet. runs s c W text lives h tells reads still quiet;

@@ -8,7 +8,7 @@ use Rattle.abt_streams.specs.declared.life.Life.{Life}
 use Rattle.abt_report.specs.declared.text_fault.TextFault.{TextFault}
 use Rattle.abt_report.specs.declared.text_fault.TextFault.TheVariants as cause
 use Rattle.abt_streams.specs.Lives.{AreLives}
-use Rattle.abt_streams.specs.Texts.{IsCause, lives_text}
+use Rattle.abt_streams.specs.Texts.{IsLivesCause, lives_text}
 use Rattle.abt_lives.specs.Lives.{lives_limit, ReadsLives, RefusesLives}
 
 -- what is seen of the file reads as the prefix does
@@ -16,10 +16,10 @@ pub seen-reads : (W : Parts) (seen : Option Text) (front : Text) (lives : List L
 seen-reads W seen front lives e short are text = of-whole lives_limit (λ bytes. ReadsLives W bytes lives) seen front e short (record { few = short; are = are; text = text })
 
 -- and is refused as the prefix is
-pub seen-refuses : (W : Parts) (seen : Option Text) (front : Text) (c : TextFault) (line l : ℕ) → IfSome seen (λ xs. front ≡ take (lives_limit + 1) xs) → length front ≤ lives_limit → c ≡ cause.Bad line → l ≡ line → IsCause W front c →
+pub seen-refuses : (W : Parts) (seen : Option Text) (front : Text) (c : TextFault) (line l : ℕ) → IfSome seen (λ xs. front ≡ take (lives_limit + 1) xs) → length front ≤ lives_limit → c ≡ cause.Bad line → l ≡ line → IsLivesCause W front c →
     IfSome seen (λ xs. RefusesLives W xs l)
 seen-refuses W seen front c line l e short is same why =
-    let known : IsCause W front (cause.Bad line) = subst (IsCause W front) is why in
+    let known : IsLivesCause W front (cause.Bad line) = subst (IsLivesCause W front) is why in
     subst (λ k. IfSome seen (λ xs. RefusesLives W xs k)) (sym same) (of-whole lives_limit (λ bytes. RefusesLives W bytes line) seen front e short (inr (short, known.0, known.1)))
 
 -- a longer one is refused for its length

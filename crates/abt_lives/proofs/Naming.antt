@@ -6,7 +6,7 @@ use Rattle.abt_machine.specs.Grammar.{Reads}
 use Rattle.abt_machine.specs.Words.{Text}
 use Rattle.abt_run.specs.Call.{Call}
 use Rattle.abt_shell.proofs.Fetched.{of-observed}
-use Rattle.abt_lives.specs.Call.{NamesFiles, Tells, TellsBoth}
+use Rattle.abt_lives.specs.Call.{NamesFiles, TellsWorkload, TellsBoth}
 
 pair-is : (a b c d : Text) → a ∷ b ∷ [] ≡ c ∷ d ∷ [] → (a ≡ c) × (b ≡ d)
 pair-is a b c d e = (cc, cc)
@@ -17,11 +17,11 @@ same-names words a b = pair-is a.workload a.lives b.workload b.lives (sym a.asks
 
 module _ (c : Call) (W : Parts) (named : NamesFiles c.given.words) where
   -- what is known of the first file
-  pub of-first : (P : Text → Type 0) (tells : Tells c W) → IfSome (c.given.file named.workload) P → P tells.bytes
+  pub of-first : (P : Text → Type 0) (tells : TellsWorkload c W) → IfSome (c.given.file named.workload) P → P tells.bytes
   of-first P tells known = of-observed P (c.given.file named.workload) tells.bytes (ap c.given.file (same-names c.given.words named tells.named).0 ∙ tells.seen) known
 
   -- is of its workload
-  pub one-workload : (V : Parts) → Tells c W → IfSome (c.given.file named.workload) (λ bytes. Reads bytes V) → V ≡ W
+  pub one-workload : (V : Parts) → TellsWorkload c W → IfSome (c.given.file named.workload) (λ bytes. Reads bytes V) → V ≡ W
   one-workload V tells known = (of-first (λ bytes. Reads bytes V) tells known).parts ∙ sym tells.reads.parts
 
   -- and of the second

@@ -15,10 +15,9 @@ use Rattle.abt_run.specs.Given.{Given, IsReadFrom}
 use Rattle.abt_shell.specs.declared.status.Stop.{Stop}
 use Rattle.abt_shell.specs.declared.status.Wrong.{Wrong}
 use Rattle.abt_shell.specs.declared.status.Wrong.TheVariants.{Workload, Journal, Lives}
-use Rattle.abt_shell.specs.Calls.{Program}
-use Rattle.abt_shell.specs.Calls as calls
+use Rattle.abt_shell.specs.Calls.{EndsBy, Program}
 use Rattle.abt_shell.specs.Fetched.{StopsFor}
-use Rattle.abt_shell.specs.Status.{Status, number_of_outcome}
+use Rattle.abt_shell.specs.Status.{number_of_outcome}
 use Rattle.abt_shell.specs.Told.{Grew}
 use Rattle.abt_streams.specs.declared.life.Life.{Life}
 use Rattle.abt_streams.specs.declared.wave.Wave.{Wave}
@@ -49,8 +48,8 @@ pub record NamesBadLives (g : Given) (l : ℕ) : Type 0 where
 -- What runs.
 
 -- what is printed of a run of W in these waves: the report, and the waves
-abbrev pub output_text : Parts → List Event → List Wave → Outcome → Text
-output_text W J waves o = report_text W (last_state W J) (steps_in J) o ++ waves_text waves
+abbrev pub waves_output : Parts → List Event → List Wave → Outcome → Text
+waves_output W J waves o = report_text W (last_state W J) (steps_in J) o ++ waves_text waves
 
 -- J is a run of W on the lives in a file, in these waves, and ended so; the file's bytes, if they are seen, are the lives' text
 pub record IsRunOn (W : Parts) (file : Text) (g : Given) (J : List Event) (o : Outcome) : Type 0 where
@@ -61,12 +60,12 @@ pub record IsRunOn (W : Parts) (file : Text) (g : Given) (J : List Event) (o : O
 
 -- the workload of the first file that the words name ran on the lives in the second, J is the run and ended so, and the text is what the
 -- program prints of it
-pub record Ran (g : Given) (J : List Event) (o : Outcome) (text : Text) : Type 0 where
+pub record RanOnLives (g : Given) (J : List Event) (o : Outcome) (text : Text) : Type 0 where
   pub named : NamesFiles g.words
   pub workload : Parts
   pub reads : IsReadFrom g named.workload workload
   pub run : IsRunOn workload named.lives g J o
-  pub output : text ≡ output_text workload J run.waves o
+  pub output : text ≡ waves_output workload J run.waves o
 
 -- Why a call stops before its first write.
 
@@ -77,14 +76,14 @@ IsBadLine g line Journal = ⊥
 IsBadLine g line Lives = NamesBadLives g line
 
 -- by the words, the files, and the count of faults of reading before and afterwards
-abbrev pub Stops : Given → ℕ × ℕ → Stop → Type 0
-Stops g = StopsFor (AsksNothing g.words) (NamesFiles g.words) (IsBadLine g)
+abbrev pub StopsLives : Given → ℕ × ℕ → Stop → Type 0
+StopsLives g = StopsFor (AsksNothing g.words) (NamesFiles g.words) (IsBadLine g)
 
 -- What each status says.
 
 -- the call stops for this reason, and no journal is answered
 pub record IsStopped (c : Call) (stop : Stop) : Type 0 where
-  pub why : Stops c.given c.left.read_faults stop
+  pub why : StopsLives c.given c.left.read_faults stop
   pub journal : c.journal ≡ []
 
 -- the program, of which each status says what `Wrote`, `WrotePrefix` or `StoppedBy` of abt_shell has
@@ -92,21 +91,14 @@ abbrev pub program : Call → Program Outcome
 program c = record {
   name = codes "abtwaves";
   number = number_of_outcome;
-  Prints = Ran c.given c.journal;
+  Prints = RanOnLives c.given c.journal;
   Stops = IsStopped c;
 }
-
-abbrev pub Holds : Status Outcome → Call → Type 0
-Holds status c = calls.Holds (program c) c.left status
-
--- the call ended with this exit status, which has its cause
-abbrev pub EndsBy : ℕ → Call → Type 0
-EndsBy n c = calls.EndsBy (program c) c.left n
 
 -- When each status must come, unless memory runs out.
 
 -- the words name two files, and the bytes of the first are seen and are the text of W
-pub record Tells (c : Call) (W : Parts) : Type 0 where
+pub record TellsWorkload (c : Call) (W : Parts) : Type 0 where
   pub named : NamesFiles c.given.words
   pub bytes : Text
   pub seen : c.given.file named.workload ≡ Some bytes
@@ -114,7 +106,7 @@ pub record Tells (c : Call) (W : Parts) : Type 0 where
 
 -- and those of the second are seen
 pub record TellsBoth (c : Call) (W : Parts) (text : Text) : Type 0 where
-  pub first : Tells c W
+  pub first : TellsWorkload c W
   pub second : c.given.file first.named.lives ≡ Some text
 
 -- if both texts are right, and no fault of reading or writing comes, the workload runs
@@ -137,11 +129,11 @@ RefusesWords n c = AsksNothing c.given.words → (n ≡ 2) ⊎ (n ≡ 7)
 
 -- if each stream may make as many steps as the workload has operations, and none of these revives a unit, no stream uses up its steps
 abbrev pub SpendsNone : ℕ → Call → Type 0
-SpendsNone n c = (W : Parts) → Tells c W → HasNoRevive W → ops_in W ≤ default_steps → n ≢ 4
+SpendsNone n c = (W : Parts) → TellsWorkload c W → HasNoRevive W → ops_in W ≤ default_steps → n ≢ 4
 
 -- the exit status of a call has its cause, and if that cause is at hand the status comes
 pub record IsAnswered (n : ℕ) (c : Call) : Type 0 where
-  pub cause : EndsBy n c
+  pub cause : EndsBy (program c) c.left n
   pub complete : IsComplete n c
   pub lives : RefusesBadLives n c
   pub texts : RefusesTexts n c

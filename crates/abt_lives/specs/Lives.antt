@@ -9,7 +9,7 @@ use Rattle.abt_shell.specs.Fetched.{HasNot}
 use Rattle.abt_streams.specs.declared.life.Life.{Life}
 use Rattle.abt_streams.specs.declared.wave.Wave.{Wave}
 use Rattle.abt_streams.specs.Lives.{AreLives}
-use Rattle.abt_streams.specs.Texts.{IsBadAt, IsNoLivesText, lives_text}
+use Rattle.abt_streams.specs.Texts.{IsBadLifeAt, IsNoLivesText, lives_text}
 
 -- how many bytes the text of lives has at most
 abbrev pub lives_limit : ℕ
@@ -23,7 +23,7 @@ pub record ReadsLives (W : Parts) (bytes : Text) (lives : List Life) : Type 0 wh
 
 -- why the bytes are not: they are too many, which line 0 stands for, or line l is the first that breaks a rule
 abbrev pub RefusesLives : Parts → Text → ℕ → Type 0
-RefusesLives W bytes l = ((lives_limit < length bytes) × (l ≡ 0)) ⊎ ((length bytes ≤ lives_limit) × IsBadAt W bytes l × IsNoLivesText W bytes)
+RefusesLives W bytes l = ((lives_limit < length bytes) × (l ≡ 0)) ⊎ ((length bytes ≤ lives_limit) × IsBadLifeAt W bytes l × IsNoLivesText W bytes)
 
 -- a line of a file, by its bytes if they are observable, has this wrong, which keeps it from being the text of lives of streams of W
 abbrev pub IsNoLivesLine : Parts → Option Text → ℕ → Wrong → Type 0

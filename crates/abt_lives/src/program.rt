@@ -6,7 +6,7 @@ ghost use Rattle.abt_order.specs.Stored.{shapes_of};
 ghost use Rattle.abt_report.specs.Pictures.{IsPictureOf};
 ghost use Rattle.abt_run.specs.Given.{given};
 ghost use Rattle.abt_shell.specs.Calls.{left};
-ghost use Rattle.abt_lives.specs.Call.{IsAnswered, Ran, Stops, output_text};
+ghost use Rattle.abt_lives.specs.Call.{IsAnswered, RanOnLives, StopsLives, waves_output};
 ghost use Rattle.abt_lives.specs.Lives.{HasNoLives, ReadsLives};
 ghost use Rattle.abt_lives.specs.Words.{Asks};
 ghost use Rattle.abt_streams.specs.Lives.{AreLives};
@@ -64,7 +64,7 @@ impl Prepared {
 // The output of a run: its report, and its waves.
 fn output(alloc: Global, w: &Workload, run: &LivesRun) -> Result<Vec<u8>, Want>
     requires picture { IsPictureOf w.now run.now.journal run.now.picture }
-    ensures { IfOk result (λ text. text.items ≡ output_text w.now run.now.journal run.now.waves run.now.outcome) }
+    ensures { IfOk result (λ text. text.items ≡ waves_output w.now run.now.journal run.now.waves run.now.outcome) }
 {
     let mut text = Vec::new(alloc);
     let steps = count_steps(run.journal.items());
@@ -108,9 +108,9 @@ fn prepare_files<R: Threads + Wait + Sync, F: Files, P: Pace + Sync>(
 ) -> Result<Prepared, Stop>
     requires orders { 2 ≤ length orders.now }
     ensures done { (words : List Text) → Asks words workload.now lives.now
-        → IfOk result (λ p. Ran (given words (shapes_of orders.now) (λ name. F.file files.old name)) p.journal p.outcome p.text.items) }
+        → IfOk result (λ p. RanOnLives (given words (shapes_of orders.now) (λ name. F.file files.old name)) p.journal p.outcome p.text.items) }
     ensures stop { (words : List Text) → Asks words workload.now lives.now
-        → IfErr result (Stops (given words (shapes_of orders.now) (λ name. F.file files.old name)) (F.faults files.old, F.faults files.new)) }
+        → IfErr result (StopsLives (given words (shapes_of orders.now) (λ name. F.file files.old name)) (F.faults files.old, F.faults files.new)) }
     ensures later { F.faults files.old ≤ F.faults files.new }
 {
     let w = fetch(alloc, workload, files)?;
@@ -130,8 +130,8 @@ fn prepare<R: Threads + Wait + Sync, F: Files, P: Pace + Sync>(
     orders: &[StoredOrder],
 ) -> Result<Prepared, Stop>
     requires orders { 2 ≤ length orders.now }
-    ensures done { IfOk result (λ p. Ran (given (map string_bytes words.now) (shapes_of orders.now) (λ name. F.file files.old name)) p.journal p.outcome p.text.items) }
-    ensures stop { IfErr result (Stops (given (map string_bytes words.now) (shapes_of orders.now) (λ name. F.file files.old name)) (F.faults files.old, F.faults files.new)) }
+    ensures done { IfOk result (λ p. RanOnLives (given (map string_bytes words.now) (shapes_of orders.now) (λ name. F.file files.old name)) p.journal p.outcome p.text.items) }
+    ensures stop { IfErr result (StopsLives (given (map string_bytes words.now) (shapes_of orders.now) (λ name. F.file files.old name)) (F.faults files.old, F.faults files.new)) }
     ensures later { F.faults files.old ≤ F.faults files.new }
 {
     match asked(words) {

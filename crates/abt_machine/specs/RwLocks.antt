@@ -12,13 +12,13 @@ use Rattle.abt_machine.specs.Acts.{Act, ReadLock, WriteLock, RwUnlock, Load, Sto
 
 -- Who waits.
 
-abbrev pub is_empty : List Owned → Bool
-is_empty [] = true
-is_empty (o ∷ os) = false
+abbrev pub nobody_waits : List Owned → Bool
+nobody_waits [] = true
+nobody_waits (o ∷ os) = false
 
 -- unit u reads already, or no unit writes and none waits
 abbrev pub may_read : ℕ → RwLockValue → Bool
-may_read u old = reads u old.lock || (is_none old.lock.writer && is_empty old.waiters)
+may_read u old = reads u old.lock || (is_none old.lock.writer && nobody_waits old.waiters)
 
 -- what unit u wants is noted
 abbrev pub wanting : ℕ → Wish → RwLock → RwLock

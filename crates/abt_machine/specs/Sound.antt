@@ -54,8 +54,8 @@ RunsSched b f = ⊥
 
 -- Units.
 
-abbrev pub AsksNothing : Desk → Type 0
-AsksNothing d = (d.cancel ≡ false) × (d.migrate ≡ None)
+abbrev pub HasNoRequest : Desk → Type 0
+HasNoRequest d = (d.cancel ≡ false) × (d.migrate ≡ None)
 
 -- a unit of this place may be joined: it has not ended
 abbrev pub HasNotEnded : Place → Type 0
@@ -83,7 +83,7 @@ pub record IsKept (lock : RwLock) (waiters : List ℕ) : Type 0 where
 
 -- what holds of unit u by its place, whose numbers are declared
 abbrev pub IsPlaced : Parts → State → ℕ → Place → Type 0
-IsPlaced W S u place.Unborn = AsksNothing (S.desk u)
+IsPlaced W S u place.Unborn = HasNoRequest (S.desk u)
 IsPlaced W S u (place.Pool p t) = (p.0 < length W.pools) × (t < S.pool_next p.0)
 IsPlaced W S u (place.Hand s) = (s.0 < W.streams) × IsAtRest (S.stream s.0)
 IsPlaced W S u (place.Next s) = (s.0 < W.streams) × IsAtRest (S.stream s.0)
@@ -92,7 +92,7 @@ IsPlaced W S u (place.Frame s d) = (s.0 < W.streams) × (d < length (S.stream s.
 IsPlaced W S u (place.Blocked spot.Suspended t) = Unit {0}
 IsPlaced W S u (place.Blocked (spot.Join v) t) = (v.0 < length W.units) × (t < S.join_next v.0) × HasNotEnded (S.place v.0)
 IsPlaced W S u (place.Blocked (spot.Object x) t) = (t < S.object_next x.0) × HoldsUp W S x.0 (thing_at W x.0)
-IsPlaced W S u (place.Ended c) = AsksNothing (S.desk u)
+IsPlaced W S u (place.Ended c) = HasNoRequest (S.desk u)
 
 -- Z being the shapes of the stored orders
 pub record Sound (W : Parts) (Z : List OrderShape) (S : State) : Type 0 where

@@ -27,8 +27,8 @@ use Rattle.abt_machine.specs.RwLocks.{left_by, may_read, passed_on, wanting, wok
 use Rattle.abt_machine.specs.Values.{RwLockValue, rwlock_value}
 use Rattle.abt_machine.specs.Changes.{Change, no_change, to_tray, waiting_moves, goes_with, goes_on}
 
-abbrev pub owned : Option ℕ → Mutex → Mutex
-owned o m = record m { owner = o }
+abbrev pub set_owner : Option ℕ → Mutex → Mutex
+set_owner o m = record m { owner = o }
 
 -- Units and their desks.
 
@@ -60,13 +60,13 @@ waits S u x = record (goes_on S u) { moves = (u, place.Blocked (spot.Object (obj
 
 -- the mutex is unit u's if it was free, else u waits
 abbrev pub locks : State → ℕ → ℕ → Option ℕ → Change
-locks S u x None = record (goes_on S u) { mutexes = (x, owned (Some u) (S.mutex x)) ∷ [] }
+locks S u x None = record (goes_on S u) { mutexes = (x, set_owner (Some u) (S.mutex x)) ∷ [] }
 locks S u x (Some v) = waits S u x
 
 -- mutex m goes to the first of its waiters, who is woken, and is free if there is none
 abbrev pub hands_over : Parts → State → ℕ → ℕ → ℕ → Change
 hands_over W S s u m = record (wakes W S s u (first_alone (standing W S (Waiting m)))) {
-  mutexes = (m, owned (first (standing W S (Waiting m))) (S.mutex m)) ∷ [];
+  mutexes = (m, set_owner (first (standing W S (Waiting m))) (S.mutex m)) ∷ [];
 }
 
 -- unit u waits at condition x, and mutex m is handed over
@@ -86,7 +86,7 @@ passes W S s u m o [] = goes_on S u
 passes W S s u m (Some v) (w ∷ ws) = queues S u m (w ∷ ws)
 passes W S s u m None (w ∷ ws) = record (queues S u m ws) {
   moves = waiting_moves m (S.object_next m) ws ++ to_tray W S s (w ∷ []);
-  mutexes = (m, owned (Some w) (S.mutex m)) ∷ [];
+  mutexes = (m, set_owner (Some w) (S.mutex m)) ∷ [];
 }
 
 abbrev pub receives : State → ℕ → ℕ → ℕ × Carried
@@ -170,7 +170,7 @@ op_row W S s u (op.MigrateTo v r) = asks S u v.0 (record (S.desk v.0) { migrate 
 op_row W S s u (op.Migratable v b) = asks S u v.0 (record (S.desk v.0) { migratable = b })
 op_row W S s u (op.Revive v p) = begins W S s u v.0 p.0
 op_row W S s u (op.Lock x) = locks S u x.0 (S.mutex x.0).owner
-op_row W S s u (op.TryLock x) = record (goes_on S u) { mutexes = (x.0, owned (Some u) (S.mutex x.0)) ∷ [] }
+op_row W S s u (op.TryLock x) = record (goes_on S u) { mutexes = (x.0, set_owner (Some u) (S.mutex x.0)) ∷ [] }
 op_row W S s u (op.Unlock x) = hands_over W S s u x.0
 op_row W S s u (op.Load x) = goes_with u (with_acc (S.mutex x.0).number (S.carried u))
 op_row W S s u (op.Store x) = record (goes_on S u) { mutexes = (x.0, record (S.mutex x.0) { number = (S.carried u).acc }) ∷ [] }

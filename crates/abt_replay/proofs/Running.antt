@@ -19,7 +19,7 @@ use Rattle.abt_calls.specs.Allowed.{Allows}
 use Rattle.abt_plans.specs.declared.dues.HandDue.{HandDue}
 use Rattle.abt_plans.specs.declared.dues.HandDue.TheVariants as due
 use Rattle.abt_plans.specs.Dues.{DueIs}
-use Rattle.abt_replay.specs.Events.{AreObjects, Ends, Entered, Moves, Stepped, in_hand}
+use Rattle.abt_replay.specs.Events.{AreObjects, Ends, Entered, MakesEvent, Stepped, in_hand}
 use Rattle.abt_replay.specs.Objects.{ObjectsValue, object_at}
 
 -- a unit's desk may be asked to end it
@@ -37,13 +37,13 @@ hand-due W s old o d tray next e =
     (ap (λ (n : Option Owned). due_by {X = Owned} {Y = Owned} W s old.own [] n (Some (number_and_position o))) next ∙ e)
 
 module _ (W : Parts) (Z : List OrderShape) (s : ℕ) (old : Held) (before : ObjectsValue) (o : Owned) (d : HandDue) (made : What) (new : Held) (after : ObjectsValue) (tray : old.tray ≡ []) (next : old.next ≡ None) (dues : DueIs W s old.own.mark o.number o.carried.position d) where
-  pub end-moves : (cause : Cause) → d ≡ due.End cause → Ends old before o cause made new after → Moves W Z s (in_hand o old) before made new after
+  pub end-moves : (cause : Cause) → d ≡ due.End cause → Ends old before o cause made new after → MakesEvent W Z s (in_hand o old) before made new after
   end-moves cause is h =
       let e = hand-due W s old o (EndDue cause) tray next (subst (DueIs W s old.own.mark o.number o.carried.position) is dues) in
       let heard : Option Heard = Some (site.Desk (unit_no o.number), act.End o cause, act.Woke h.call.0) in
       (heard, subst (λ (w : What). Steps W Z s (in_hand o old) w heard new) (sym h.made_is) (e, o, refl, refl, h.call.0, refl, h.call.2), h.call.1)
 
-  pub enter-moves : (g : SchedNo) → d ≡ due.Enter g → Entered g.0 old o made new → after ≡ before → Moves W Z s (in_hand o old) before made new after
+  pub enter-moves : (g : SchedNo) → d ≡ due.Enter g → Entered g.0 old o made new → after ≡ before → MakesEvent W Z s (in_hand o old) before made new after
   enter-moves g is h stays =
       let both = subst (DueIs W s old.own.mark o.number o.carried.position) is dues in
       let e = hand-due W s old o EnterDue tray next both.0 in
@@ -54,7 +54,7 @@ module _ (W : Parts) (Z : List OrderShape) (s : ℕ) (old : Held) (before : Obje
         stays,
       )
 
-  pub step-moves : (a : Op) → d ≡ due.Step a → Stepped W s a o old before made new after → Moves W Z s (in_hand o old) before made new after
+  pub step-moves : (a : Op) → d ≡ due.Step a → Stepped W s a o old before made new after → MakesEvent W Z s (in_hand o old) before made new after
   step-moves a is h =
       let both = subst (DueIs W s old.own.mark o.number o.carried.position) is dues in
       let e = hand-due W s old o StepDue tray next both.0 in

@@ -89,8 +89,8 @@ abbrev pub Operated : Parts → ℕ → Op → Owned → Held → ObjectsValue �
 Operated W s a o old before c new after = (heard : Option Heard) × Performs old (plan_of W s a o) heard c new × Heeds before heard after
 
 -- an event of stream s
-abbrev pub Moves : Parts → List OrderShape → ℕ → Held → ObjectsValue → What → Held → ObjectsValue → Type 0
-Moves W Z s old before made new after = (heard : Option Heard) × Steps W Z s old made heard new × Heeds before heard after
+abbrev pub MakesEvent : Parts → List OrderShape → ℕ → Held → ObjectsValue → What → Held → ObjectsValue → Type 0
+MakesEvent W Z s old before made new after = (heard : Option Heard) × Steps W Z s old made heard new × Heeds before heard after
 
 -- the objects are those of some state
 abbrev pub AreObjects : Parts → ObjectsValue → Type 0

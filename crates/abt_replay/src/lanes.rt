@@ -3,7 +3,7 @@
 ghost use Rattle.std.specs.Prelude.{◌≡◌, ◌<◌, ◌-◌, ◌^◌, ◌≢◌, ◌↔◌, [], ◌∷◌, IfNone, IfOk, IfSome, IsTrue, List, None, Some, length, option_map};
 ghost use Rattle.abt_calls.specs.Allowed.{Allows};
 ghost use Rattle.abt_calls.specs.Starts.{start_part};
-ghost use Rattle.abt_replay.specs.Events.{AreObjects, Ends, Entered, Leaves, Looks, Moves, Visits, Woken, in_hand};
+ghost use Rattle.abt_replay.specs.Events.{AreObjects, Ends, Entered, Leaves, Looks, MakesEvent, Visits, Woken, in_hand};
 ghost use Rattle.abt_replay.specs.Objects.{object_at};
 ghost use Rattle.abt_machine.specs.declared.events.Site.TheVariants as site;
 ghost use Rattle.abt_machine.specs.declared.numbers.PoolNo.{PoolNo};
@@ -267,7 +267,7 @@ impl Lane {
         requires tray { self.old.tray ≡ [] }
         requires hand { self.old.hand ≡ None }
         requires next { self.old.next ≡ None }
-        ensures { IfOk result (λ made. (Z : List OrderShape) → Moves w.now Z s.0 (in_hand unit self.old) objects.old made self.new objects.new) }
+        ensures { IfOk result (λ made. (Z : List OrderShape) → MakesEvent w.now Z s.0 (in_hand unit self.old) objects.old made self.new objects.new) }
     {
         match hand_due(w, s, self.mark, unit.number(), unit.position()) {
             HandDue::End(cause) => self.end(objects, unit, cause),

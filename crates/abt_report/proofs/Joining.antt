@@ -4,7 +4,7 @@ use Rattle.std.proofs.lemmas.List.{append-nil, length-map}
 use Rattle.abt_machine.specs.declared.events.Outcome.{Outcome}
 use Rattle.abt_machine.specs.Texts.{Tally, outcome_words, tally_and_outcome, tally_of, tally_words}
 use Rattle.abt_machine.specs.Words.{Text, ended, line_of}
-use Rattle.abt_report.specs.Pictures.{unit_of, units_of}
+use Rattle.abt_report.specs.Pictures.{unit_in_row, units_in_rows}
 use Rattle.abt_report.specs.declared.pictures.Row.{Row}
 
 -- a text behind what stands there goes on with one piece more
@@ -21,11 +21,11 @@ both out first second old new before behind =
     cc
 
 -- the tally and the outcome behind what stands there
-pub ending : (rows : List Row) (n : ℕ) (t : Tally) (steps : ℕ) (o : Outcome) (out old new : Text) → n ≡ length rows → t ≡ tally_of (units_of rows) →
-    old ≡ out ++ ended (line_of (tally_words n t steps)) → new ≡ old ++ ended (line_of (outcome_words o)) → new ≡ out ++ tally_and_outcome (units_of rows) steps o
+pub ending : (rows : List Row) (n : ℕ) (t : Tally) (steps : ℕ) (o : Outcome) (out old new : Text) → n ≡ length rows → t ≡ tally_of (units_in_rows rows) →
+    old ≡ out ++ ended (line_of (tally_words n t steps)) → new ≡ old ++ ended (line_of (outcome_words o)) → new ≡ out ++ tally_and_outcome (units_in_rows rows) steps o
 ending rows n t steps o out old new units is before behind =
     let whole : new ≡ out ++ (ended (line_of (tally_words n t steps)) ++ (ended (line_of (outcome_words o)) ++ [])) = both out (ended (line_of (tally_words n t steps))) (ended (line_of (outcome_words o))) old new before behind in
-    rw (length-map rows unit_of, sym units, sym is) whole
+    rw (length-map rows unit_in_row, sym units, sym is) whole
 
 -- a word, nine pieces and an end, one behind the other
 ten-joined : (out t a b c d e f g h i end : Text) →

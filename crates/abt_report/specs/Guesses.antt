@@ -36,8 +36,8 @@ cause_of name =
     else None
 
 -- the code of that name
-abbrev pub code_of : Text → Option Code
-code_of name =
+abbrev pub code_named : Text → Option Code
+code_named name =
     if bytes_eq name (codes "ok") then Some code.Ok
     else if bytes_eq name (codes "pool-access") then Some code.PoolAccess
     else if bytes_eq name (codes "exists") then Some code.Exists

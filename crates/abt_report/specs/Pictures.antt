@@ -8,12 +8,12 @@ use Rattle.abt_machine.specs.Texts.{ShownUnit, shown_units}
 use Rattle.abt_report.specs.declared.pictures.Row.{Row}
 
 -- a row as a report shows it
-abbrev pub unit_of : Row → ShownUnit
-unit_of row = record { shown = row.shown; output = row.output }
+abbrev pub unit_in_row : Row → ShownUnit
+unit_in_row row = record { shown = row.shown; output = row.output }
 
 -- the units of a picture, as a report shows them
-abbrev pub units_of : List Row → List ShownUnit
-units_of = map unit_of
+abbrev pub units_in_rows : List Row → List ShownUnit
+units_in_rows = map unit_in_row
 
 -- the words that the unit said are the workload's
 abbrev pub SaysWordsOf : Parts → Row → Type 0
@@ -22,6 +22,6 @@ SaysWordsOf W row = All (IsPieceOf W) row.output
 -- the picture of where the journal ends
 pub record IsPictureOf (W : Parts) (J : List Event) (picture : List Row) : Type 0 where
   -- it shows each unit as the last state has it
-  pub shown : shown_units W (last_state W J) ≡ units_of picture
+  pub shown : shown_units W (last_state W J) ≡ units_in_rows picture
   -- its words are the workload's
   pub words : All (SaysWordsOf W) picture

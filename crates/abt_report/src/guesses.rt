@@ -8,7 +8,7 @@ ghost use Rattle.abt_machine.specs.declared.events.Code.{Code};
 ghost use Rattle.abt_machine.specs.declared.events.Event.{Event};
 ghost use Rattle.abt_machine.specs.declared.events.What.{What};
 ghost use Rattle.abt_machine.specs.Texts.{event_words, what_words};
-ghost use Rattle.abt_report.specs.Guesses.{cause_of, code_of, is_space, what_of_one, what_of_two};
+ghost use Rattle.abt_report.specs.Guesses.{cause_of, code_named, is_space, what_of_one, what_of_two};
 ghost use Rattle.abt_report.specs.Journals.{HasShortNumbers, IsEvent};
 
 use crate::cuts::cut;
@@ -60,7 +60,7 @@ fn cause(word: &[u8]) -> Option<Cause>
 }
 
 fn code(word: &[u8]) -> Option<Code>
-    ensures { result ≡ code_of word.now }
+    ensures { result ≡ code_named word.now }
 {
     named!(word;
         b"ok" => Code::Ok,

@@ -4,7 +4,7 @@ ghost use Rattle.std.specs.Prelude.{◌≡◌, ◌<◌, ◌++◌, ◌∷◌, [],
 ghost use Rattle.abt_machine.specs.Pieces.{IsPieceOf};
 ghost use Rattle.abt_machine.specs.Texts.{outcome_words, piece_word, report_of, short_of, shown_words, tally_and_outcome, tally_words, unit_line};
 ghost use Rattle.abt_machine.specs.Words.{ended, line_of, numbered, spaced};
-ghost use Rattle.abt_report.specs.Pictures.{SaysWordsOf, unit_of, units_of};
+ghost use Rattle.abt_report.specs.Pictures.{SaysWordsOf, unit_in_row, units_in_rows};
 
 use crate::pictures::{Picture, Row};
 use crate::tallies::{Tally, tally_of};
@@ -58,7 +58,7 @@ pub(crate) fn push_output(out: &mut Vec<u8>, w: &Workload, output: &[Piece]) -> 
 // Appends the line of unit u.
 fn push_unit(out: &mut Vec<u8>, w: &Workload, u: u64, row: &Row) -> Result<(), Want>
     requires { SaysWordsOf w.now row.now }
-    ensures { OnOk result (out.new.items ≡ out.old.items ++ ended (unit_line w.now u (unit_of row.now))) }
+    ensures { OnOk result (out.new.items ≡ out.old.items ++ ended (unit_line w.now u (unit_in_row row.now))) }
 {
     out.extend_from_slice(b"unit")?;
     push_decimal(out, u)?;
@@ -71,7 +71,7 @@ fn push_unit(out: &mut Vec<u8>, w: &Workload, u: u64, row: &Row) -> Result<(), W
 // Appends the lines of these units.
 fn push_units(out: &mut Vec<u8>, w: &Workload, rows: &[Row]) -> Result<(), Want>
     requires { All (SaysWordsOf w.now) rows.now }
-    ensures { OnOk result (out.new.items ≡ out.old.items ++ flat_map ended (numbered (unit_line w.now) (units_of rows.now))) }
+    ensures { OnOk result (out.new.items ≡ out.old.items ++ flat_map ended (numbered (unit_line w.now) (units_in_rows rows.now))) }
 {
     for (u, row) in rows.iter().enumerate() {
         push_unit(out, w, u as u64, row)?;
@@ -114,7 +114,7 @@ fn push_outcome(out: &mut Vec<u8>, outcome: Outcome) -> Result<(), Want>
 
 // Appends the tally of these units, and how the run ended.
 fn push_end(out: &mut Vec<u8>, rows: &[Row], outcome: Outcome, steps: u64) -> Result<(), Want>
-    ensures { OnOk result (out.new.items ≡ out.old.items ++ tally_and_outcome (units_of rows.now) steps outcome) }
+    ensures { OnOk result (out.new.items ≡ out.old.items ++ tally_and_outcome (units_in_rows rows.now) steps outcome) }
 {
     push_tally(out, rows.len() as u64, &tally_of(rows), steps)?;
     push_outcome(out, outcome)?;
@@ -130,7 +130,7 @@ pub fn append_report(
     steps: u64,
 ) -> Result<(), Want>
     requires words { All (SaysWordsOf w.now) picture.now }
-    ensures { OnOk result (out.new.items ≡ out.old.items ++ report_of w.now (units_of picture.now) steps outcome) }
+    ensures { OnOk result (out.new.items ≡ out.old.items ++ report_of w.now (units_in_rows picture.now) steps outcome) }
 {
     push_units(out, w, picture.items())?;
     push_end(out, picture.items(), outcome, steps)
@@ -145,7 +145,7 @@ pub fn report(
     steps: u64,
 ) -> Result<Vec<u8>, Want>
     requires words { All (SaysWordsOf w.now) picture.now }
-    ensures { IfOk result (λ text. text.items ≡ report_of w.now (units_of picture.now) steps outcome) }
+    ensures { IfOk result (λ text. text.items ≡ report_of w.now (units_in_rows picture.now) steps outcome) }
 {
     let mut out = Vec::new(alloc);
     append_report(&mut out, w, picture, outcome, steps)?;
@@ -162,7 +162,7 @@ pub fn short_report(
 ) -> Result<Vec<u8>, Want>
     requires words { All (SaysWordsOf w.now) picture.now }
     requires unit { 0 < length picture.now }
-    ensures { IfOk result (λ text. text.items ≡ short_of w.now (units_of picture.now) steps outcome) }
+    ensures { IfOk result (λ text. text.items ≡ short_of w.now (units_in_rows picture.now) steps outcome) }
 {
     let mut out = Vec::new(alloc);
     push_unit(&mut out, w, 0, &picture.items()[0])?;

@@ -2,7 +2,7 @@
 
 ghost use Rattle.std.specs.Prelude.{◌≡◌, ◌<◌, ◌+◌, ◌-◌, ◌^◌};
 ghost use Rattle.abt_machine.specs.Texts.{counted, empty_tally, tally_of as tally_of_units};
-ghost use Rattle.abt_report.specs.Pictures.{units_of};
+ghost use Rattle.abt_report.specs.Pictures.{units_in_rows};
 ghost use Rattle.abt_report.specs.Tallies.{IsAtMost};
 
 use crate::pictures::Row;
@@ -73,7 +73,7 @@ impl Tally {
 
 /// The tally of these units.
 pub(crate) fn tally_of(rows: &[Row]) -> Tally
-    ensures { result ≡ tally_of_units (units_of rows.now) }
+    ensures { result ≡ tally_of_units (units_in_rows rows.now) }
 {
     let mut tally = Tally::new();
     for (i, row) in rows.iter().enumerate() {

@@ -39,8 +39,8 @@ abbrev pub stepless : List What
 stepless = what.Look (unit_no 0) ∷ what.End (unit_no 0) cause.Done ∷ []
 
 -- its first step twice
-abbrev pub repeated : List What
-repeated = what.Step (unit_no 0) 0 code.Ok ∷ what.Step (unit_no 0) 0 code.Ok ∷ []
+abbrev pub first_step_twice : List What
+first_step_twice = what.Step (unit_no 0) 0 code.Ok ∷ what.Step (unit_no 0) 0 code.Ok ∷ []
 
 -- a look after its end
 abbrev pub going_on : List What

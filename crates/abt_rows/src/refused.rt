@@ -1,6 +1,6 @@
 //! Rows on what is no life of a unit, on what are no stamps, and on streams that are not spent.
 
-ghost use Rattle.abt_rows.specs.Refused.{IsNoLife, IsNotLeast, IsNotSpent, IsNotStamped, asked_after_a_step, asked_inside, barred, ended_itself, exiting, falling, gap, going_on, late, left_itself, level, repeated, scheduler, stepless, tasklet, thread, two_operations, two_steps};
+ghost use Rattle.abt_rows.specs.Refused.{IsNoLife, IsNotLeast, IsNotSpent, IsNotStamped, asked_after_a_step, asked_inside, barred, ended_itself, exiting, falling, gap, going_on, late, left_itself, level, first_step_twice, scheduler, stepless, tasklet, thread, two_operations, two_steps};
 
 /// A thread is not done without all its steps.
 pub fn thread_done_too_early()
@@ -19,7 +19,7 @@ pub fn scheduler_done_too_early()
 
 /// No operation is made twice.
 pub fn step_made_twice()
-    ensures { IsNoLife thread repeated }
+    ensures { IsNoLife thread first_step_twice }
 {}
 
 /// Nothing comes after an end.

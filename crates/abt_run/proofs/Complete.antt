@@ -29,12 +29,12 @@ use Rattle.abt_words.proofs.OneCommand.{one-command}
 use Rattle.abt_workload.proofs.RoundTrip.{only-valid}
 use Rattle.abt_shell.specs.declared.status.Stop.TheVariants.{BadWords, BadLine, CannotRead, OutOfMemory}
 use Rattle.abt_shell.specs.declared.status.Wrong.TheVariants.{Workload, Journal, Lives}
-use Rattle.abt_shell.specs.Calls.{IsStill}
+use Rattle.abt_shell.specs.Calls.{EndsBy, Holds, IsStill}
 use Rattle.abt_shell.specs.Status.{Status, Concluded, Stopped, CannotWrite, number_of, number_of_outcome}
 use Rattle.abt_shell.specs.Told.{Grew}
 use Rattle.abt_shell.proofs.Calls.{reads-well, writes-well}
 use Rattle.abt_shell.proofs.Fetched.{of-observed}
-use Rattle.abt_run.specs.Call.{Call, Decides, EndsBy, Holds, IsAnswered, IsOfRun, RunsKnown, program}
+use Rattle.abt_run.specs.Call.{Call, Decides, IsAnswered, IsOfRun, RunsKnown, program}
 use Rattle.abt_run.specs.Given.{Compares, Given, IsNoJournalAt, IsReadFrom, IsTextOf, SaysNothing, Tells, journal_limit, workload_file}
 use Rattle.abt_run.specs.Printed.{AsksFlow, HasVerdict, IsFor, Prints, Ran, steps_for}
 use Rattle.abt_run.specs.Status.{number_of_conclusion}
@@ -214,7 +214,7 @@ runs-concluded Flows call text d W prints says known = absurd (subst (λ (x : Co
 runs-concluded NotConfluent call text d W prints says known = absurd (subst (λ (x : Command). RunsKnown x call.given W) (one-command call.given.words d _ says prints.0.asks.says) known)
 runs-concluded Undefined call text d W prints says known = absurd (subst (λ (x : Command). RunsKnown x call.given W) (one-command call.given.words d _ says prints.0.asks.says) known)
 
-runs : (s : Status Conclusion) (c : Call) (d : Command) (W : Parts) → Holds s c → Says c.given.words d → RunsKnown d c.given W → IsStill c.left → IsOfRun (number_of number_of_conclusion s) ⊎ (number_of number_of_conclusion s ≡ 7)
+runs : (s : Status Conclusion) (c : Call) (d : Command) (W : Parts) → Holds (program c) c.left s → Says c.given.words d → RunsKnown d c.given W → IsStill c.left → IsOfRun (number_of number_of_conclusion s) ⊎ (number_of number_of_conclusion s ≡ 7)
 runs (Concluded k) c d W h says known still = inl (runs-concluded k c h.text d W h.prints says known)
 runs (Stopped BadWords) c d W h says known still = absurd (h.cause.why d says)
 runs (Stopped (BadLine line (Workload f))) c d W h says known still =
@@ -248,7 +248,7 @@ module _ (c : Call) (w j : Text) (W : Parts) (J : List Event) (says : Says c.giv
       let equal : has.journal ≡ J = same-journal c.given j J has.journal also read.1 in
       decided W c.given.orders J v (subst (λ (V : Parts). IsJudged V c.given.orders J v) same (subst (λ (K : List Event). IsJudged has.workload c.given.orders K v) equal has.judged))
 
-  checks : (s : Status Conclusion) → Holds s c → IsStill c.left → Decides (number_of number_of_conclusion s) (IsStampedRun W c.given.orders J) ⊎ (number_of number_of_conclusion s ≡ 7)
+  checks : (s : Status Conclusion) → Holds (program c) c.left s → IsStill c.left → Decides (number_of number_of_conclusion s) (IsStampedRun W c.given.orders J) ⊎ (number_of number_of_conclusion s ≡ 7)
   checks (Concluded k) h still =
       let has = printed-verdict c.given c.journal h.text w j says k h.prints in
       inl (subst (λ (x : Conclusion). Decides (number_of_conclusion x) (IsStampedRun W c.given.orders J)) (sym has.2) (checked-verdict has.0 has.1))
@@ -281,7 +281,7 @@ module _ (c : Call) (file : Text) (W : Parts) (says : Says c.given.words (comman
       let same = flow-asked c.given c.journal text file says W prints.0.workload tells prints.0.asks in
       inr (λ has. prints.0.none has.1.0 (subst (λ (V : Parts). IsFlow V has.1.0) (sym same) has.1.1), refl)
 
-  flows : (s : Status Conclusion) → Holds s c → IsStill c.left → Decides (number_of number_of_conclusion s) (HasFlows W) ⊎ (number_of number_of_conclusion s ≡ 7)
+  flows : (s : Status Conclusion) → Holds (program c) c.left s → IsStill c.left → Decides (number_of number_of_conclusion s) (HasFlows W) ⊎ (number_of number_of_conclusion s ≡ 7)
   flows (Concluded k) h still = inl (flow-concluded k h.text h.prints)
   flows (Stopped BadWords) h still = absurd (h.cause.why _ says)
   flows (Stopped (BadLine line (Workload f))) h still =
@@ -316,7 +316,7 @@ spends-concluded Flows c text d W prints two says known none few = λ e. absurd 
 spends-concluded NotConfluent c text d W prints two says known none few = λ e. absurd (omega arith)
 spends-concluded Undefined c text d W prints two says known none few = λ e. absurd (omega arith)
 
-spends : (s : Status Conclusion) (c : Call) (d : Command) (W : Parts) → Holds s c → 2 ≤ length c.given.orders → Says c.given.words d → RunsKnown d c.given W → HasNoRevive W
+spends : (s : Status Conclusion) (c : Call) (d : Command) (W : Parts) → Holds (program c) c.left s → 2 ≤ length c.given.orders → Says c.given.words d → RunsKnown d c.given W → HasNoRevive W
     → ops_in W ≤ steps_for d → number_of number_of_conclusion s ≢ 4
 spends (Concluded k) c d W h two says known none few = spends-concluded k c h.text d W h.prints two says known none few
 spends (Stopped BadWords) c d W h two says known none few = λ e. absurd (omega arith)
@@ -326,7 +326,7 @@ spends (Stopped OutOfMemory) c d W h two says known none few = λ e. absurd (ome
 spends CannotWrite c d W h two says known none few = λ e. absurd (omega arith)
 
 -- a text that is no workload's is refused
-refuses : (s : Status Conclusion) (c : Call) (d : Command) (file : Text) → Holds s c → Says c.given.words d → workload_file d ≡ Some file
+refuses : (s : Status Conclusion) (c : Call) (d : Command) (file : Text) → Holds (program c) c.left s → Says c.given.words d → workload_file d ≡ Some file
     → Tells c.given file (λ bytes. (W : Parts) → Reads bytes W → ⊥) → (Grew c.left.read_faults → ⊥) → (number_of number_of_conclusion s ≡ 3) ⊎ (number_of number_of_conclusion s ≡ 7)
 refuses (Concluded k) c d file h says names tells still =
     let read = printed-reads c.given c.journal h.text d file says names k h.prints in
@@ -340,7 +340,7 @@ refuses CannotWrite c d file h says names tells still =
     absurd (not-read c.given file read.0 tells read.1)
 
 -- and one that is no journal's
-refuses-journal : (s : Status Conclusion) (c : Call) (w j : Text) → Holds s c → Says c.given.words (command.Check w j)
+refuses-journal : (s : Status Conclusion) (c : Call) (w j : Text) → Holds (program c) c.left s → Says c.given.words (command.Check w j)
     → Tells c.given j (λ bytes. (J : List Event) → IsTextOf J bytes → ⊥) → (Grew c.left.read_faults → ⊥) → (number_of number_of_conclusion s ≡ 3) ⊎ (number_of number_of_conclusion s ≡ 7)
 refuses-journal (Concluded k) c w j h says tells still =
     let has = printed-verdict c.given c.journal h.text w j says k h.prints in
@@ -354,7 +354,7 @@ refuses-journal CannotWrite c w j h says tells still =
     absurd (not-journal c.given j has.1.journal tells (compared-journal c.given c.journal [] w j says has.1.workload (IsTextOf has.1.journal) has.1.compares).1)
 
 -- words that say no command are refused
-refuses-words : (s : Status Conclusion) (c : Call) → Holds s c → SaysNothing c.given.words → (number_of number_of_conclusion s ≡ 2) ⊎ (number_of number_of_conclusion s ≡ 7)
+refuses-words : (s : Status Conclusion) (c : Call) → Holds (program c) c.left s → SaysNothing c.given.words → (number_of number_of_conclusion s ≡ 2) ⊎ (number_of number_of_conclusion s ≡ 7)
 refuses-words (Concluded k) c h none = let said = printed-says c.given c.journal h.text k h.prints in absurd (none said.0 said.1)
 refuses-words (Stopped BadWords) c h none = inl refl
 refuses-words (Stopped (BadLine line (Workload f))) c h none = absurd (none h.cause.why.named.command h.cause.why.named.says)
@@ -380,9 +380,9 @@ none-concludes n high NotConfluent = λ e. absurd (omega arith)
 none-concludes n high Undefined = λ e. absurd (omega arith)
 
 -- a call that ended with this exit status is answered
-pub answered : (n : ℕ) (c : Call) → 2 ≤ length c.given.orders → EndsBy n c → IsAnswered n c
+pub answered : (n : ℕ) (c : Call) → 2 ≤ length c.given.orders → EndsBy (program c) c.left n → IsAnswered n c
 answered n c two ends = by ends.0 ends.1 ends.2 where
-  by : (s : Status Conclusion) → n ≡ number_of number_of_conclusion s → Holds s c → IsAnswered n c
+  by : (s : Status Conclusion) → n ≡ number_of number_of_conclusion s → Holds (program c) c.left s → IsAnswered n c
   by s is h = subst (λ m. IsAnswered m c) (sym is) (record {
     cause = (s, refl, h);
     complete = λ d W says known still. runs s c d W h says known still;

@@ -13,8 +13,8 @@ use Rattle.abt_machine.specs.Pieces.{IsPieceOf}
 use Rattle.abt_machine.specs.Valid.{IsValid}
 use Rattle.abt_machine.specs.Workloads.{op_at}
 use Rattle.abt_machine.proofs.Declared.{op-declared}
-use Rattle.abt_flow.specs.Effects.{Memory, Effect, Computes, Awaits, Depends, effect}
-use Rattle.abt_flow.specs.Flow.{Does, IsFlow, IsRow, Leads, Made}
+use Rattle.abt_flow.specs.Effects.{Memory, FlowEffect, Computes, Awaits, Depends, effect}
+use Rattle.abt_flow.specs.Flow.{Executes, IsFlow, IsRow, Leads, Made}
 
 abbrev Says : Parts → Memory → Type 0
 Says W m = All (IsPieceOf W) m.output
@@ -27,12 +27,12 @@ same-output W old m e says = subst (All (IsPieceOf W)) (sym e) says
 
 module _ (W : Parts) (Found : ℕ → ℕ → Type 0) (old m : Memory) (says : Says W old) where
   -- the output after an effect that is known from the memory alone
-  abbrev output_after : Effect → List Piece
+  abbrev output_after : FlowEffect → List Piece
   output_after (Computes f) = (f old).output
   output_after _ = old.output
 
   -- what adds nothing to the output says what was said before
-  led-same : (e : Effect) → output_after e ≡ old.output → Leads Found e old m → Says W m
+  led-same : (e : FlowEffect) → output_after e ≡ old.output → Leads Found e old m → Says W m
   led-same (Computes f) same is = same-output W old m (ap (λ (x : Memory). x.output) is ∙ same) says
   led-same (Awaits x) same is = same-output W old m (ap (λ (x : Memory). x.output) is.2) says
   led-same Depends same is = absurd is
@@ -43,7 +43,7 @@ module _ (W : Parts) (Found : ℕ → ℕ → Type 0) (old m : Memory) (says : S
   led op.Print declared is = subst (All (IsPieceOf W)) (ap (λ (x : Memory). x.output) (sym is)) (one-more W old (piece.Number old.acc) says tt)
   led o declared is = led-same (effect o) refl is
 
-  done : (o : Option Op) → ((p : Op) → o ≡ Some p → IsDeclared W p) → Does Found o old m → Says W m
+  done : (o : Option Op) → ((p : Op) → o ≡ Some p → IsDeclared W p) → Executes Found o old m → Says W m
   done None declared is = absurd is
   done (Some o) declared is = led o (declared o refl) is
 

@@ -14,13 +14,13 @@ use Rattle.abt_shell.specs.declared.status.Wrong.{Wrong}
 use Rattle.abt_shell.specs.declared.status.Wrong.TheVariants.{Workload, Journal, Lives}
 use Rattle.abt_shell.proofs.Fetched.{grew-later, stops-file}
 use Rattle.abt_run.specs.Given.{Given, IsReadFrom, NamesFile, SaysNothing, workload_file}
-use Rattle.abt_run.specs.Prepared.{HasNoJournal, HasNoWorkload, IsBadLine, IsNoJournalLine, IsNoWorkload, Stops}
+use Rattle.abt_run.specs.Prepared.{HasNoJournal, HasNoWorkload, IsBadLine, IsNoJournalLine, IsNoWorkload, StopsCommand}
 use Rattle.abt_run.specs.Printed.{Prints, Ran}
 use Rattle.abt_run.specs.declared.status.Conclusion.{Conclusion}
 use Rattle.abt_run.specs.declared.status.Conclusion.TheVariants.{Ended}
 
 -- why a file has no workload is why the call stops
-pub no-workload-stops : (s : Stop) (g : Given) (d : Command) (file : Text) (faults : ℕ × ℕ) → Says g.words d → workload_file d ≡ Some file → HasNoWorkload (g.file file) faults s → Stops g faults s
+pub no-workload-stops : (s : Stop) (g : Given) (d : Command) (file : Text) (faults : ℕ × ℕ) → Says g.words d → workload_file d ≡ Some file → HasNoWorkload (g.file file) faults s → StopsCommand g faults s
 no-workload-stops s g d file faults says names = stops-file (SaysNothing g.words) (NamesFile g.words) (IsNoWorkload (g.file file)) (IsBadLine g) faults faults named bad (λ grew. grew) s where
   named : NamesFile g.words
   named = record { command = d; file = file; says = says; names = names }
@@ -32,7 +32,7 @@ no-workload-stops s g d file faults says names = stops-file (SaysNothing g.words
 
 -- and so is why the other file has no journal
 pub no-journal-stops : (s : Stop) (g : Given) (w j : Text) (W : Parts) (told : Option Text) (a b c : ℕ) → Says g.words (command.Check w j) → IsReadFrom g w W → told ≡ g.file j
-    → a ≤ b → b ≤ c → HasNoJournal told (b, c) s → Stops g (a, c) s
+    → a ≤ b → b ≤ c → HasNoJournal told (b, c) s → StopsCommand g (a, c) s
 no-journal-stops s g w j W told a b c says reads same first second =
     stops-file (SaysNothing g.words) (NamesFile g.words) (IsNoJournalLine told) (IsBadLine g) (b, c) (a, c) (record { command = command.Check w j; file = w; says = says; names = refl }) bad (grew-later a b c first second) s where
       bad : (line : ℕ) (wrong : Wrong) → IsNoJournalLine told line wrong → IsBadLine g line wrong

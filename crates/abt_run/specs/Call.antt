@@ -10,16 +10,14 @@ use Rattle.abt_check.specs.Verdicts.{IsStampedRun}
 use Rattle.abt_flow.specs.Confluent.{Confluent}
 use Rattle.abt_flow.specs.Flow.{IsFlow}
 use Rattle.abt_generate.specs.Generated.{generated}
-use Rattle.abt_shell.specs.Calls.{IsStill, Left, Program}
-use Rattle.abt_shell.specs.Calls as calls
-use Rattle.abt_shell.specs.Status.{Status}
+use Rattle.abt_shell.specs.Calls.{EndsBy, IsStill, Left, Program}
 use Rattle.abt_shell.specs.Told.{Grew}
 use Rattle.abt_shell.specs.declared.status.Stop.{Stop}
 use Rattle.abt_words.specs.declared.commands.Command.{Command}
 use Rattle.abt_words.specs.declared.commands.Command.TheVariants as command
 use Rattle.abt_words.specs.Commands.{Says}
 use Rattle.abt_run.specs.Given.{Given, IsTextOf, SaysNothing, Tells, workload_file}
-use Rattle.abt_run.specs.Prepared.{Stops}
+use Rattle.abt_run.specs.Prepared.{StopsCommand}
 use Rattle.abt_run.specs.Printed.{Prints, steps_for}
 use Rattle.abt_run.specs.Status.{name, number_of_conclusion}
 use Rattle.abt_run.specs.declared.status.Conclusion.{Conclusion}
@@ -34,7 +32,7 @@ pub record Call : Type 0 where
 
 -- the command is not carried out for this reason, and no journal is answered
 pub record IsStopped (c : Call) (stop : Stop) : Type 0 where
-  pub why : Stops c.given c.left.read_faults stop
+  pub why : StopsCommand c.given c.left.read_faults stop
   pub journal : c.journal ≡ []
 
 -- the program, of which each status says what `Wrote`, `WrotePrefix` or `StoppedBy` of abt_shell has
@@ -45,13 +43,6 @@ program c = record {
   Prints = λ conclusion text. Prints c.given conclusion c.journal text;
   Stops = IsStopped c;
 }
-
-abbrev pub Holds : Status Conclusion → Call → Type 0
-Holds status c = calls.Holds (program c) c.left status
-
--- the call ended with this exit status, which has its cause
-abbrev pub EndsBy : ℕ → Call → Type 0
-EndsBy n c = calls.EndsBy (program c) c.left n
 
 -- When each status must come, unless memory runs out.
 
@@ -104,7 +95,7 @@ SpendsNone n c = (command : Command) (W : Parts) → Says c.given.words command 
 
 -- the exit status of a call has its cause, and the status comes if its cause holds
 pub record IsAnswered (n : ℕ) (c : Call) : Type 0 where
-  pub cause : EndsBy n c
+  pub cause : EndsBy (program c) c.left n
   pub complete : IsComplete n c
   pub checks : ChecksJournals n c
   pub flows : FindsFlows n c

@@ -16,8 +16,8 @@ IsBadLine g line Journal = (W : Parts) × Compares g W (λ bytes. IsNoJournalAt 
 IsBadLine g line Lives = ⊥
 
 -- by the words, the files, and the count of faults of reading before and afterwards
-abbrev pub Stops : Given → ℕ × ℕ → Stop → Type 0
-Stops g = StopsFor (SaysNothing g.words) (NamesFile g.words) (IsBadLine g)
+abbrev pub StopsCommand : Given → ℕ × ℕ → Stop → Type 0
+StopsCommand g = StopsFor (SaysNothing g.words) (NamesFile g.words) (IsBadLine g)
 
 -- One file, by its bytes, if they are observable.
 

@@ -61,9 +61,9 @@ pub record Ran (g : Given) (J : List Event) (o : Outcome) (text : Text) : Type 0
 -- Verdicts.
 
 -- the number of the journal's events has 64 bits
-abbrev pub IsCounted : Verdict → Type 0
-IsCounted verdict.Run = Unit {0}
-IsCounted (verdict.Bad at) = at + 1 < 2 ^ 64
+abbrev pub HasShortCount : Verdict → Type 0
+HasShortCount verdict.Run = Unit {0}
+HasShortCount (verdict.Bad at) = at + 1 < 2 ^ 64
 
 abbrev pub verdict_text : Verdict → Text
 verdict_text verdict.Run = codes "run\n"

@@ -7,8 +7,8 @@ ghost use Rattle.abt_words.specs.Commands.{Says};
 ghost use Rattle.abt_words.specs.declared.commands.Command.TheVariants as command;
 ghost use Rattle.abt_check.specs.declared.verdict.Verdict.TheVariants as verdict;
 ghost use Rattle.abt_run.specs.Given.{given};
-ghost use Rattle.abt_run.specs.Prepared.{Stops};
-ghost use Rattle.abt_run.specs.Printed.{IsCounted, Prints, verdict_text};
+ghost use Rattle.abt_run.specs.Prepared.{StopsCommand};
+ghost use Rattle.abt_run.specs.Printed.{HasShortCount, Prints, verdict_text};
 
 use crate::fetching::{fetch, fetch_journal};
 use crate::prepared::{Prepared, without_journal};
@@ -33,7 +33,7 @@ pub(crate) fn prepare_check<F: Files>(
     ensures done { (words : List Text) → Says words (command.Check workload.now journal.now)
         → IfOk result (λ p. Prints (given words (shapes_of orders.now) (λ name. F.file files.old name)) p.conclusion p.journal p.text.items) }
     ensures stop { (words : List Text) → Says words (command.Check workload.now journal.now)
-        → IfErr result (Stops (given words (shapes_of orders.now) (λ name. F.file files.old name)) (F.faults files.old, F.faults files.new)) }
+        → IfErr result (StopsCommand (given words (shapes_of orders.now) (λ name. F.file files.old name)) (F.faults files.old, F.faults files.new)) }
     ensures later { F.faults files.old ≤ F.faults files.new }
 {
     let w = fetch(alloc, workload, files)?;
@@ -45,7 +45,7 @@ pub(crate) fn prepare_check<F: Files>(
 
 // What is printed of a verdict.
 fn text_of(alloc: Global, verdict: Verdict) -> Result<Vec<u8>, Want>
-    requires { IsCounted verdict }
+    requires { HasShortCount verdict }
     ensures { IfOk result (λ text. text.items ≡ verdict_text verdict) }
 {
     match verdict {

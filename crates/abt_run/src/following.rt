@@ -6,7 +6,7 @@ ghost use Rattle.abt_machine.specs.declared.operations.OrderShape.{OrderShape};
 ghost use Rattle.abt_words.specs.Commands.{Says};
 ghost use Rattle.abt_words.specs.declared.commands.Command.TheVariants as command;
 ghost use Rattle.abt_run.specs.Given.{given};
-ghost use Rattle.abt_run.specs.Prepared.{Stops};
+ghost use Rattle.abt_run.specs.Prepared.{StopsCommand};
 ghost use Rattle.abt_run.specs.Printed.{Prints};
 
 use crate::fetching::fetch;
@@ -27,7 +27,7 @@ pub(crate) fn prepare_flow<F: Files>(
     ensures done { (words : List Text) (orders : List OrderShape) → Says words (command.Flow file.now)
         → IfOk result (λ p. Prints (given words orders (λ name. F.file files.old name)) p.conclusion p.journal p.text.items) }
     ensures stop { (words : List Text) (orders : List OrderShape) → Says words (command.Flow file.now)
-        → IfErr result (Stops (given words orders (λ name. F.file files.old name)) (F.faults files.old, F.faults files.new)) }
+        → IfErr result (StopsCommand (given words orders (λ name. F.file files.old name)) (F.faults files.old, F.faults files.new)) }
     ensures later { F.faults files.old ≤ F.faults files.new }
 {
     let w = fetch(alloc, file, files)?;

@@ -4,7 +4,7 @@ ghost use Rattle.std.specs.Prelude.{◌≤◌, IfErr, IfOk, length, map, string_
 ghost use Rattle.abt_order.specs.Stored.{shapes_of};
 ghost use Rattle.abt_run.specs.Call.{IsAnswered};
 ghost use Rattle.abt_run.specs.Given.{given};
-ghost use Rattle.abt_run.specs.Prepared.{Stops};
+ghost use Rattle.abt_run.specs.Prepared.{StopsCommand};
 ghost use Rattle.abt_run.specs.Printed.{Prints};
 ghost use Rattle.abt_shell.specs.Calls.{left};
 
@@ -34,7 +34,7 @@ fn prepare<R: Threads + Wait + Sync, F: Files, P: Pace + Sync>(
 ) -> Result<Prepared, Stop>
     requires orders { 2 ≤ length orders.now }
     ensures done { IfOk result (λ p. Prints (given (map string_bytes words.now) (shapes_of orders.now) (λ name. F.file files.old name)) p.conclusion p.journal p.text.items) }
-    ensures stop { IfErr result (Stops (given (map string_bytes words.now) (shapes_of orders.now) (λ name. F.file files.old name)) (F.faults files.old, F.faults files.new)) }
+    ensures stop { IfErr result (StopsCommand (given (map string_bytes words.now) (shapes_of orders.now) (λ name. F.file files.old name)) (F.faults files.old, F.faults files.new)) }
     ensures later { F.faults files.old ≤ F.faults files.new }
 {
     match command(alloc, words) {

@@ -11,7 +11,7 @@ ghost use Rattle.abt_words.specs.Commands.{Says};
 ghost use Rattle.abt_words.specs.declared.commands.Command.TheVariants as command;
 ghost use Rattle.std.specs.Prelude.{Option};
 ghost use Rattle.abt_run.specs.Given.{given};
-ghost use Rattle.abt_run.specs.Prepared.{Stops};
+ghost use Rattle.abt_run.specs.Prepared.{StopsCommand};
 ghost use Rattle.abt_run.specs.Printed.{Prints, output_text};
 ghost use Rattle.abt_run.specs.declared.status.Conclusion.TheVariants as conclusion;
 ghost use Rattle.abt_shell.specs.declared.status.Stop.TheVariants as why;
@@ -48,7 +48,7 @@ pub(crate) fn prepare_file<R: Threads + Wait + Sync, F: Files, P: Pace + Sync>(
     ensures done { (words : List Text) → Says words (command.Run file.now steps with_journal)
         → IfOk result (λ p. Prints (given words (shapes_of orders.now) (λ name. F.file files.old name)) p.conclusion p.journal p.text.items) }
     ensures stop { (words : List Text) → Says words (command.Run file.now steps with_journal)
-        → IfErr result (Stops (given words (shapes_of orders.now) (λ name. F.file files.old name)) (F.faults files.old, F.faults files.new)) }
+        → IfErr result (StopsCommand (given words (shapes_of orders.now) (λ name. F.file files.old name)) (F.faults files.old, F.faults files.new)) }
     ensures later { F.faults files.old ≤ F.faults files.new }
 {
     let w = fetch(alloc, file, files)?;

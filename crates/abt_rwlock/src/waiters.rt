@@ -4,7 +4,7 @@ ghost use Rattle.std.specs.Prelude.{◌≡◌, [], ◌∷◌, ◌++◌, IfNone, 
 ghost use Rattle.std.specs.List.{find};
 ghost use Rattle.abt_machine.specs.Monitors.{number_of};
 ghost use Rattle.abt_machine.specs.Pools.{is_unit};
-ghost use Rattle.abt_machine.specs.RwLocks.{first_readers, is_empty, reader_is_first, wants_to_read};
+ghost use Rattle.abt_machine.specs.RwLocks.{first_readers, nobody_waits, reader_is_first, wants_to_read};
 ghost use Rattle.abt_machine.specs.declared.events.Wish.TheVariants as wish;
 ghost use Rattle.abt_unit.specs.Units.{IsFree};
 ghost use Rattle.abt_chain.specs.Results.{unit_found};
@@ -48,7 +48,7 @@ impl Waiters {
     }
 
     pub fn is_empty(&self) -> bool
-        ensures { result ≡ is_empty self.now.units }
+        ensures { result ≡ nobody_waits self.now.units }
     {
         self.first.is_none()
     }

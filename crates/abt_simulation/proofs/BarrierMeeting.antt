@@ -30,7 +30,7 @@ use Rattle.abt_laws.proofs.SoundStart.{start-is-sound}
 use Rattle.abt_laws.proofs.TwoStreams.{no-order, sharing-is-valid, two-places}
 use Rattle.abt_interleave.specs.Histories.{Legal}
 use Rattle.abt_interleave.specs.Deeds.{Course}
-use Rattle.abt_interleave.specs.Logs.{Leaves, Matched, IsSooner, BeforeAll, InOrder}
+use Rattle.abt_interleave.specs.Logs.{LeavesEntry, Matched, IsSooner, BeforeAll, InOrder}
 use Rattle.abt_interleave.specs.Machines.{Gathered}
 use Rattle.abt_interleave.specs.Stamps.{AllTimed}
 use Rattle.abt_interleave.proofs.Members.{Among, to-among, from-among}
@@ -85,7 +85,7 @@ HasEntry d (Some h) = Among (entry d.stamp d.stream h.1 h.2) (histories h.0)
 
 -- an entry at x is a deed of its caller
 abbrev HasDeed : Site → SiteEntry → Type 0
-HasDeed x e = (d : StreamDeed) × Among d (logs e.caller) × Leaves d x e
+HasDeed x e = (d : StreamDeed) × Among d (logs e.caller) × LeavesEntry d x e
 
 -- a call that is in the history of its object is the entry that the deed leaves
 entry-is : (d : StreamDeed) (heard : Option Heard) (x : Site) (e : SiteEntry) → HasEntry d heard → d.stamp ≡ e.stamp → d.stream ≡ e.caller → heard ≡ Some (x, e.act, e.answer) → Among e (histories x)
@@ -113,7 +113,7 @@ entries (suc zero) = (at (pool_history 0) 1 _ refl, (at (desk_history 1) 0 _ ref
 entries (suc (suc s)) = tt
 
 -- the deed at a place of a log
-left : (s k : ℕ) (d : StreamDeed) (x : Site) (e : SiteEntry) → e.caller ≡ s → slice_get (logs s) k ≡ Some d → Leaves d x e → HasDeed x e
+left : (s k : ℕ) (d : StreamDeed) (x : Site) (e : SiteEntry) → e.caller ≡ s → slice_get (logs s) k ≡ Some d → LeavesEntry d x e → HasDeed x e
 left s k d x e same is leaves = (d, subst (λ n. Among d (logs n)) (sym same) (at (logs s) k d is), leaves)
 
 -- each entry at the pool is a deed

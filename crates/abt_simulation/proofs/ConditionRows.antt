@@ -16,7 +16,7 @@ use Rattle.abt_machine.specs.Lines.{Waiting, ticket_in, standing}
 use Rattle.abt_machine.specs.Maps.{put_at}
 use Rattle.abt_machine.specs.Codes.{code_of, unless, owned_by}
 use Rattle.abt_machine.specs.Changes.{Change, no_change, changed, to_tray, waiting_moves}
-use Rattle.abt_machine.specs.Steps.{op_row, owned, releases, queues, passes}
+use Rattle.abt_machine.specs.Steps.{op_row, set_owner, releases, queues, passes}
 use Rattle.abt_machine.specs.Values.{Owned, owned_at, MonitorValue, monitor_value, waiters_at, conditions_of, part_of, MonitorIs}
 use Rattle.abt_machine.specs.Acts.{moved}
 use Rattle.abt_machine.specs.Plans.{keeps, empties, notes}
@@ -101,7 +101,7 @@ module _ (W : Parts) (Z : List OrderShape) (S : State) (s u : ℕ) (acts : IsAct
   -- A wait.
 
   abbrev rest_of : Change
-  rest_of = record no_change { mutexes = (m, owned (first (standing W S (Waiting m))) (S.mutex m)) ∷ []; object_next = (x, suc (S.object_next x)) ∷ [] }
+  rest_of = record no_change { mutexes = (m, set_owner (first (standing W S (Waiting m))) (S.mutex m)) ∷ []; object_next = (x, suc (S.object_next x)) ∷ [] }
 
   woken-elsewhere : EachOf (λ v. (v ≢ u) × (ticket_in (Waiting x) (S.place v) ≡ None)) (first_alone (standing W S (Waiting m)))
   woken-elsewhere =
@@ -127,7 +127,7 @@ module _ (W : Parts) (Z : List OrderShape) (S : State) (s u : ℕ) (acts : IsAct
   waits : (a : Op) (os : List Owned) (new : MonitorValue) → code_of W S s u a ≡ code.Ok → op_row W S s u a ≡ releases W S s u x m → map (owned_at S) (first_alone (standing W S (Waiting m))) ≡ os →
       new ≡ after_wait k (moved (owned_at S u)) (value S) → ValueDone W S s u a value (empties os) new
   waits a os new ok row first-is same =
-      let mutex : put_at S.mutex m (owned (first (standing W S (Waiting m))) (S.mutex m)) m ≡ owned (first (standing W S (Waiting m))) (S.mutex m) = put_at-same S.mutex m (owned (first (standing W S (Waiting m))) (S.mutex m)) in
+      let mutex : put_at S.mutex m (set_owner (first (standing W S (Waiting m))) (S.mutex m)) m ≡ set_owner (first (standing W S (Waiting m))) (S.mutex m) = put_at-same S.mutex m (set_owner (first (standing W S (Waiting m))) (S.mutex m)) in
       goes-through W Z S s u acts a value (empties os) new (releases W S s u x m) refl ok row
       (blocks-part W Z S s u acts (place_in (Waiting x) (S.object_next x)) (first_alone (standing W S (Waiting m))) (advanced (S.carried u)) rest_of (off-object s (Waiting x) (S.object_next x) tt)
       (distinct-first (standing W S (Waiting m)) (standing-distinct W S (Waiting m))) (away-first W S s (Waiting m) tt)
@@ -171,9 +171,9 @@ module _ (W : Parts) (Z : List OrderShape) (S : State) (s u : ℕ) (acts : IsAct
         (row ∙ (ap₂ (passes W S s u m) held are ∙ (λ i. record (queues S u m (w ∷ ws)) { moves = sym (append-nil (waiting_moves m (S.object_next m) (w ∷ ws))) i })))
         refl (same ∙ all-queued v (map (owned_at S) (w ∷ ws)) (with_condition k (map (owned_at S) left) (value S)) held)
     goes None (w ∷ ws) new free are same =
-        some (w ∷ []) ws (record no_change { object_next = (m, S.object_next m + length ws) ∷ []; mutexes = (m, owned (Some w) (S.mutex m)) ∷ [] }) (owned (Some w) (S.mutex m)) new are
+        some (w ∷ []) ws (record no_change { object_next = (m, S.object_next m + length ws) ∷ []; mutexes = (m, set_owner (Some w) (S.mutex m)) ∷ [] }) (set_owner (Some w) (S.mutex m)) new are
         (row ∙ ap₂ (passes W S s u m) free are)
-        (put_at-same S.mutex m (owned (Some w) (S.mutex m))) (same ∙ first-admitted (owned_at S w) (map (owned_at S) ws) (with_condition k (map (owned_at S) left) (value S)) free)
+        (put_at-same S.mutex m (set_owner (Some w) (S.mutex m))) (same ∙ first-admitted (owned_at S w) (map (owned_at S) ws) (with_condition k (map (owned_at S) left) (value S)) free)
 
     -- what the stream hears of it
     heard : (os : List Owned) (new : MonitorValue) → map (owned_at S) (woken_by (S.mutex m).owner vs) ≡ os → new ≡ all_admitted (map (owned_at S) vs) (with_condition k (map (owned_at S) left) (value S)) →

@@ -14,7 +14,7 @@ use Rattle.abt_machine.specs.Carrying.{advanced}
 use Rattle.abt_machine.specs.Lines.{Waiting, standing}
 use Rattle.abt_machine.specs.Codes.{unless, owned_by, code_of}
 use Rattle.abt_machine.specs.Changes.{Change, no_change, to_tray}
-use Rattle.abt_machine.specs.Steps.{op_row, owned, waits, locks, hands_over}
+use Rattle.abt_machine.specs.Steps.{op_row, set_owner, waits, locks, hands_over}
 use Rattle.abt_machine.specs.Values.{Owned, owned_at, MonitorIs, MonitorValue, monitor_value, part_of}
 use Rattle.abt_machine.specs.Acts.{moved, received}
 use Rattle.abt_machine.specs.Acts as act
@@ -40,8 +40,8 @@ module _ (W : Parts) (Z : List OrderShape) (S : State) (s u : ℕ) (acts : IsAct
   gets : (a : Op) (b : Owned) (new : MonitorValue) → code_of W S s u a ≡ code.Ok → b ≡ moved (owned_at S u) → new ≡ record (value S) { owner = Some u } →
       (locks S u x.0 None ≡ op_row W S s u a) → ValueDone W S s u a value (keeps b []) new
   gets a b new ok same is-new row =
-      carries-on W Z S s u acts a value b new (advanced (S.carried u)) (record no_change { mutexes = (x.0, owned (Some u) (S.mutex x.0)) ∷ [] }) same ok (sym row)
-      (holding-value W Z S s u acts x.0 is (advanced (S.carried u)) (owned (Some u) (S.mutex x.0)) ∙ sym is-new)
+      carries-on W Z S s u acts a value b new (advanced (S.carried u)) (record no_change { mutexes = (x.0, set_owner (Some u) (S.mutex x.0)) ∷ [] }) same ok (sym row)
+      (holding-value W Z S s u acts x.0 is (advanced (S.carried u)) (set_owner (Some u) (S.mutex x.0)) ∙ sym is-new)
 
   pub lock : ValueRow W S s u (op.Lock x) value MonitorGives
   lock (act.Given b) new gives = by (S.mutex x.0).owner refl gives.0 where
@@ -83,13 +83,13 @@ module _ (W : Parts) (Z : List OrderShape) (S : State) (s u : ℕ) (acts : IsAct
   hands : (woken : List Owned) (new : MonitorValue) → (S.mutex x.0).owner ≡ Some u → map (owned_at S) (first_alone (standing W S (Waiting x.0))) ≡ woken → new ≡ handed_over (value S) →
       ValueDone W S s u (op.Unlock x) value (keeps (moved (owned_at S u)) woken) new
   hands woken new own first-is same =
-      let c : Change = record no_change { mutexes = (x.0, owned (first (standing W S (Waiting x.0))) (S.mutex x.0)) ∷ [] } in
+      let c : Change = record no_change { mutexes = (x.0, set_owner (first (standing W S (Waiting x.0))) (S.mutex x.0)) ∷ [] } in
       goes-through W Z S s u acts _ value (keeps (moved (owned_at S u)) woken) new (hands_over W S s u x.0) refl (own-mutex own) refl
       (wakes-part W Z S s u acts (first_alone (standing W S (Waiting x.0))) (advanced (S.carried u)) c (distinct-first (standing W S (Waiting x.0)) (standing-distinct W S (Waiting x.0))) (away-first W S s (Waiting x.0) tt)
       ∙ ap (λ os. stepped (part_of W S s) (keeps (moved (owned_at S u)) os)) first-is)
       ((λ i. record {
-        owner = (ap (λ (k : Mutex). k.owner) (put_at-same S.mutex x.0 (owned (first (standing W S (Waiting x.0))) (S.mutex x.0))) ∙ first-number S (standing W S (Waiting x.0))) i;
-        number = ap (λ (k : Mutex). k.number) (put_at-same S.mutex x.0 (owned (first (standing W S (Waiting x.0))) (S.mutex x.0))) i;
+        owner = (ap (λ (k : Mutex). k.owner) (put_at-same S.mutex x.0 (set_owner (first (standing W S (Waiting x.0))) (S.mutex x.0))) ∙ first-number S (standing W S (Waiting x.0))) i;
+        number = ap (λ (k : Mutex). k.number) (put_at-same S.mutex x.0 (set_owner (first (standing W S (Waiting x.0))) (S.mutex x.0))) i;
         waiters = line-first_woken W Z S s u acts (Waiting x.0) tt [] (advanced (S.carried u)) c tt tt i;
         conds = conditions-stay W Z S s u acts x.0 is (to_tray W S s (first_alone (standing W S (Waiting x.0)))) (advanced (S.carried u)) c
             (λ y ne. (none-to_tray W S s (Waiting y) (first_alone (standing W S (Waiting x.0))) tt, first-from W Z S s u acts x.0 is y ne)) i;

@@ -25,7 +25,7 @@ use Rattle.abt_machine.specs.Acts as act
 use Rattle.abt_machine.specs.Monitors.{number_of}
 use Rattle.abt_machine.specs.Plans.{keeps, empties, notes}
 use Rattle.abt_machine.specs.Turns.{stepped}
-use Rattle.abt_machine.specs.RwLocks.{RwLockGives, is_empty, left_by, may_read, passed_on, wanting, woken}
+use Rattle.abt_machine.specs.RwLocks.{RwLockGives, nobody_waits, left_by, may_read, passed_on, wanting, woken}
 use Rattle.abt_laws.proofs.Codes.{IsRefusal}
 use Rattle.abt_laws.proofs.Granted.{woken-prefix, woken-standing, woken-each}
 use Rattle.abt_laws.proofs.Lists.{EachOf, EachOf-prefix}
@@ -82,7 +82,7 @@ module _ (W : Parts) (Z : List OrderShape) (S : State) (s u : ℕ) (acts : IsAct
   -- a unit that has to wait does not read yet
   few-reads : IsFalse (may_read u (value S)) → count_of u lock < read_limit
   few-reads refused =
-      let none : count_of u lock ≤ 0 = ltb-false 0 (count_of u lock) (or_parts (reads u lock) (is_none lock.writer && is_empty (waiters_at W S x.0)) refused).0 in
+      let none : count_of u lock ≤ 0 = ltb-false 0 (count_of u lock) (or_parts (reads u lock) (is_none lock.writer && nobody_waits (waiters_at W S x.0)) refused).0 in
       omega arith
 
   pub readlock : ValueRow W S s u (op.ReadLock x) value RwLockGives

@@ -15,7 +15,7 @@ use Rattle.abt_machine.specs.Gives.{SiteGives}
 use Rattle.abt_machine.specs.Turns.{Heard}
 use Rattle.abt_laws.proofs.LocalEvents.{event-local}
 use Rattle.abt_laws.proofs.Local.{IsLocal}
-use Rattle.abt_simulation.specs.Simulation.{site_heard, CalledAnswers, Leaves, IsEventFrom}
+use Rattle.abt_simulation.specs.Simulation.{site_heard, CalledAnswers, LeavesObject, IsEventFrom}
 use Rattle.abt_simulation.proofs.Others.{parts-stay, objects-stay}
 
 -- Events.
@@ -24,7 +24,7 @@ use Rattle.abt_simulation.proofs.Others.{parts-stay, objects-stay}
 pub record Simulated (W : Parts) (Z : List OrderShape) (S : State) (s : ℕ) (w : What) (heard : Option Heard) (part : Held) (object : Object) : Type 0 where
   pub may : May W Z S s w
   pub own : part_of W (after W S s w) s ≡ part
-  pub called : Leaves W (after W S s w) heard object
+  pub called : LeavesObject W (after W S s w) heard object
 
 -- the event of a call that was heard so
 pub with-call : (W : Parts) (Z : List OrderShape) (S : State) (s : ℕ) (w : What) (heard : Option Heard) (part p : Held) (object : Object) (x : Site) (asked : Act) (b : Answer) → heard ≡ Some (x, asked, b) → part ≡ p → CalledAnswers W S heard object →

@@ -25,7 +25,7 @@ use Rattle.abt_machine.specs.Plans.{Plan, Does, Calls, Exits, plan_of}
 use Rattle.abt_machine.specs.Turns.{Heard, due_of, Performs}
 use Rattle.abt_machine.proofs.Declared.{op-declared}
 use Rattle.abt_laws.proofs.DueParts.{due-same}
-use Rattle.abt_simulation.specs.Simulation.{CalledAnswers, Leaves}
+use Rattle.abt_simulation.specs.Simulation.{CalledAnswers, LeavesObject}
 use Rattle.abt_simulation.proofs.Acting.{IsActing, acting}
 use Rattle.abt_simulation.proofs.OwnedLines.{Head, head-of}
 use Rattle.abt_simulation.proofs.Rows.{Row, RowBy, RowDone, after_step, by-value, desk-at, mutex-at, eventual-at, future-at, barrier-at, rwlock-at}
@@ -96,26 +96,26 @@ module _ (W : Parts) (S : State) (s u : ℕ) (heard : Option Heard) (c : Code) (
   record Stepped (a : Op) : Type 0 where
     pub code : c ≡ code_of W S s u a
     pub own : part_of W (after_step W S s u a c) s ≡ part
-    pub called : Leaves W (after_step W S s u a c) heard object
+    pub called : LeavesObject W (after_step W S s u a c) heard object
 
   -- a step by its row
   step-by-row : (a : Op) (plan : Plan) → RowBy W S s u a plan → Performs (part_of W S s) plan heard c part → Stepped a
   step-by-row a (Does e) done goes = record {
     code = goes.1 ∙ done.code;
     own = ap (λ d. part_of W (after_step W S s u a d) s) goes.1 ∙ (done.own ∙ sym goes.2);
-    called = subst (λ h. Leaves W (after_step W S s u a c) h object) (sym goes.0) tt;
+    called = subst (λ h. LeavesObject W (after_step W S s u a c) h object) (sym goes.0) tt;
   }
   step-by-row a (Calls x asked brings) row goes =
       let done : RowDone W S s u a x (brings goes.0) object = row goes.0 object (subst (λ h. CalledAnswers W S h object) goes.1 answers) in
       record {
         code = goes.2 ∙ done.code;
         own = ap (λ d. part_of W (after_step W S s u a d) s) goes.2 ∙ (done.own ∙ sym goes.3);
-        called = subst (λ h. Leaves W (after_step W S s u a c) h object) (sym goes.1) (ap (λ d. object_of W (after_step W S s u a d) x) goes.2 ∙ done.called);
+        called = subst (λ h. LeavesObject W (after_step W S s u a c) h object) (sym goes.1) (ap (λ d. object_of W (after_step W S s u a d) x) goes.2 ∙ done.called);
       }
   step-by-row a (Exits o) done goes = record {
     code = goes.1 ∙ done.0;
     own = ap (λ d. part_of W (after_step W S s u a d) s) goes.1 ∙ (done.1 ∙ sym goes.2);
-    called = subst (λ h. Leaves W (after_step W S s u a c) h object) (sym goes.0) tt;
+    called = subst (λ h. LeavesObject W (after_step W S s u a c) h object) (sym goes.0) tt;
   }
 
 -- a step, by its operation
@@ -132,5 +132,5 @@ simulate-step W Z S s heard part object o c a valid sound is hands operation goe
     record {
       may = (due-same W S s ∙ is, h.is, ap (λ (q : Owned). q.carried.position) h.owns, done.code ∙ ap (code_at W S s u) (sym operation));
       own = ap (λ m. part_of W (changed S (step_row W S s u m c)) s) operation ∙ done.own;
-      called = subst (λ m. Leaves W (changed S (step_row W S s u m c)) heard object) (sym operation) done.called;
+      called = subst (λ m. LeavesObject W (changed S (step_row W S s u m c)) heard object) (sym operation) done.called;
     }

@@ -25,16 +25,16 @@ CalledAnswers W S None object = Unit {0}
 CalledAnswers W S (Some h) object = SiteGives (object_of W S h.0) h.1 h.2 object
 
 -- the object of state T that was called, if one was, is this
-abbrev pub Leaves : Parts → State → Option Heard → Object → Type 0
-Leaves W T None object = Unit {0}
-Leaves W T (Some h) object = object_of W T h.0 ≡ object
+abbrev pub LeavesObject : Parts → State → Option Heard → Object → Type 0
+LeavesObject W T None object = Unit {0}
+LeavesObject W T (Some h) object = object_of W T h.0 ≡ object
 
 -- e is an event that leads from S to T: there its stream's part and the object that was called are these, and all other parts and objects are those of S
 pub record IsEventFrom (W : Parts) (Z : List OrderShape) (S : State) (e : Event) (heard : Option Heard) (part : Held) (object : Object) (T : State) : Type 0 where
   pub comes : After W Z S e T
   pub site : site_heard heard ≡ event_site W e
   pub own : part_of W T e.stream.0 ≡ part
-  pub called : Leaves W T heard object
+  pub called : LeavesObject W T heard object
   pub other_parts : (s : ℕ) → s ≢ e.stream.0 → part_of W T s ≡ part_of W S s
   pub other_objects : (x : Site) → site_heard heard ≢ Some x → object_of W T x ≡ object_of W S x
 

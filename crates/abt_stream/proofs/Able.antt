@@ -6,7 +6,7 @@ use Rattle.abt_machine.specs.declared.numbers.PoolNo.{PoolNo}
 use Rattle.abt_machine.specs.declared.workload.Parts.{Parts}
 use Rattle.abt_machine.specs.Values.{Owned}
 use Rattle.abt_calls.specs.Effects.{unit_in}
-use Rattle.abt_calls.specs.Holders.{units_of}
+use Rattle.abt_calls.specs.Holders.{units_held}
 use Rattle.abt_unit.specs.Fits.{Fits}
 use Rattle.abt_unit.specs.Units.{UnitValue}
 use Rattle.abt_stream.specs.declared.parts.Work.TheVariants as work
@@ -22,7 +22,7 @@ in-middle : (F : Owned → Type 0) (xs : List Owned) (o : Owned) (os ys : List O
 in-middle F [] o os ys all = All-head F o (os ++ ys) all
 in-middle F (x ∷ xs) o os ys all = in-middle F xs o os ys (All-tail F x ((xs ++ o ∷ os) ++ ys) all)
 
-pub tray-fits : (W : Parts) (s : StreamValue) (tray : List Owned) → s.held.tray ≡ tray → All (Fits W) (units_of s.held) → tray ≢ [] → IfFirst tray (λ o os. Fits W o)
+pub tray-fits : (W : Parts) (s : StreamValue) (tray : List Owned) → s.held.tray ≡ tray → All (Fits W) (units_held s.held) → tray ≢ [] → IfFirst tray (λ o os. Fits W o)
 tray-fits W s [] is all some = absurd (some refl)
 tray-fits W s (o ∷ os) is all some =
     in-middle (Fits W) (unit_in s.held.hand ++ unit_in s.held.next) o os s.held.framed

@@ -15,7 +15,7 @@ use Rattle.abt_machine.specs.Turns.{Heard}
 use Rattle.abt_machine.specs.Valid.{IsValid}
 use Rattle.abt_machine.specs.Values.{Held, Owned}
 use Rattle.abt_calls.specs.Effects.{unit_in}
-use Rattle.abt_calls.specs.Holders.{units_of}
+use Rattle.abt_calls.specs.Holders.{units_held}
 use Rattle.abt_calls.specs.Streams.{contents_heard}
 use Rattle.abt_calls.proofs.TurnUnits.{events-fit}
 use Rattle.abt_chain.specs.Keeping.{Have, IsPoolOf, contents_answered}
@@ -25,18 +25,18 @@ use Rattle.abt_stream.specs.declared.turns.Turn.{Turn}
 use Rattle.abt_stream.specs.declared.turns.Turn.TheVariants as turn
 use Rattle.abt_stream.specs.Heeding.{Heeds}
 use Rattle.abt_stream.specs.Events.{VisitBy, VisitedBy, emptied, passed, took}
-use Rattle.abt_stream.specs.Keeping.{Keeps}
+use Rattle.abt_stream.specs.Keeping.{KeepsStream}
 use Rattle.abt_stream.specs.Streams.{FitsStream, StreamValue}
 use Rattle.abt_stream.specs.Turned.{Made, Turned, Went}
 
 module _ {P : Type 0} (moves : P → Site → ℕ → Act → Told → P → Type 0) (V W : Parts) (same : V ≡ W) (valid : IsValid W) (old : StreamValue) (before : P) (new : StreamValue) (after : P)
-    (fits : FitsStream W old) (keeps : Keeps W old new) where
+    (fits : FitsStream W old) (keeps : KeepsStream W old new) where
   -- what was heard is the workload's
   told : (heard : Option Heard) → Went (Heeds moves V) old.clock before heard new.clock after → Have (Fits W) (IsPoolOf W) (contents_heard heard)
   told None went = (All-nil (Fits W), All-nil (IsPoolOf W))
   told (Some h) went = subst (λ (U : Parts). Have (Fits U) (IsPoolOf U) (contents_answered h.2)) same went.1
 
-  fits-with : All (Fits W) (units_of new.held) → FitsStream W new
+  fits-with : All (Fits W) (units_held new.held) → FitsStream W new
   fits-with units =
       let kept = keeps.frames (record { top = fits.top; below = fits.below; order = fits.order }) in
       record { number = subst (λ (n : StreamNo). n.0 < W.streams) (sym keeps.number) fits.number; top = kept.top; below = kept.below; order = kept.order; units = units }
@@ -67,13 +67,13 @@ module _ {P : Type 0} (moves : P → Site → ℕ → Act → Told → P → Typ
       let others : All (Fits W) (old.held.tray ++ old.held.framed) = nobody in
       let one : All (Fits W) (((unit_in None ++ unit_in (Some o)) ++ old.held.tray) ++ old.held.framed) = All-cons (Fits W) o (old.held.tray ++ old.held.framed) (given-fits o have) others in
       let all = subst (λ (n : Option Owned). All (Fits W) (((unit_in n ++ unit_in (Some o)) ++ old.held.tray) ++ old.held.framed)) (sym hand) one in
-      fits-with (subst (λ (k : Held). All (Fits W) (units_of k)) (sym held) all)
+      fits-with (subst (λ (k : Held). All (Fits W) (units_held k)) (sym held) all)
   visited-fits p act.Miss turn.Moved next hand have h =
       let held : new.held ≡ (passed old p).held = ap (λ (s : StreamValue). s.held) h.0 in
-      fits-with (subst (λ (k : Held). All (Fits W) (units_of k)) (sym held) fits.units)
+      fits-with (subst (λ (k : Held). All (Fits W) (units_held k)) (sym held) fits.units)
   visited-fits p act.Miss turn.EmptyRound next hand have h =
       let held : new.held ≡ (emptied old).held = ap (λ (s : StreamValue). s.held) h.0 in
-      fits-with (subst (λ (k : Held). All (Fits W) (units_of k)) (sym held) fits.units)
+      fits-with (subst (λ (k : Held). All (Fits W) (units_held k)) (sym held) fits.units)
   visited-fits p answer t next hand have h = absurd h
 
   -- whatever round the visit was of

@@ -6,7 +6,7 @@ use Rattle.std.specs.List.{All}
 use Rattle.abt_machine.specs.declared.events.Event.{Event}
 use Rattle.abt_machine.specs.declared.numbers.PoolNo.{PoolNo}
 use Rattle.abt_machine.specs.declared.workload.Parts.{Parts}
-use Rattle.abt_stream.specs.Keeping.{FitsFrames, Keeps}
+use Rattle.abt_stream.specs.Keeping.{FitsFrames, KeepsStream}
 use Rattle.abt_order.specs.Schedulers.{IsSchedulerOf, SchedulerValue, pool_numbers}
 use Rattle.abt_machine.specs.Rounds.{IsOrder}
 use Rattle.abt_machine.specs.declared.operations.OrderShape.{OrderShape}
@@ -14,7 +14,7 @@ use Rattle.abt_machine.specs.declared.events.What.{What}
 use Rattle.abt_machine.specs.Values.{Held, Owned}
 use Rattle.abt_machine.specs.Numbers.{unit_no}
 use Rattle.abt_machine.specs.declared.events.What.TheVariants as what
-use Rattle.abt_stream.specs.Events.{IsFresh, Leaves, emptied, entering, holding, passed, took, wrote}
+use Rattle.abt_stream.specs.Events.{IsFreshFrame, Leaves, emptied, entering, holding, passed, took, wrote}
 use Rattle.abt_stream.specs.Streams.{FrameValue, IsFrame, IsOrderFor, FitsShapes, Rooms, StreamValue, ahead}
 
 -- after more events
@@ -79,7 +79,7 @@ front-of W n (g ∷ fs) f all =
     All-cons (IsFrame W n []) g fs (All-head (IsFrame W n []) g (fs ++ f ∷ []) all) (front-of W n fs f (All-tail (IsFrame W n []) g (fs ++ f ∷ []) all))
 
 -- if a frame is stacked on those that there are
-frame-entered : (W : Parts) (g : ℕ) (old new : StreamValue) (e : Event) → new.log ≡ old.log ++ e ∷ [] → IsFresh W g new.top → new.below ≡ old.below ++ old.top ∷ [] → new.order ≡ old.order → old.order ≡ []
+frame-entered : (W : Parts) (g : ℕ) (old new : StreamValue) (e : Event) → new.log ≡ old.log ++ e ∷ [] → IsFreshFrame W g new.top → new.below ≡ old.below ++ old.top ∷ [] → new.order ≡ old.order → old.order ≡ []
     → FitsFrames W old → FitsFrames W new
 frame-entered W g old new e log fresh below order none fits =
     let more = longer old.log new.log e log in
@@ -120,8 +120,8 @@ shapes-none W Z new order = λ holds. absurd (holds order)
 -- The events.
 
 -- no event
-pub keeps-same : (W : Parts) (old new : StreamValue) → new ≡ old → Keeps W old new
-keeps-same W old new same = subst (λ (s : StreamValue). Keeps W old s) (sym same) (record { number = refl; budget = refl; frames = λ fits. fits; shapes = λ Z shaped. shaped })
+pub keeps-same : (W : Parts) (old new : StreamValue) → new ≡ old → KeepsStream W old new
+keeps-same W old new same = subst (λ (s : StreamValue). KeepsStream W old s) (sym same) (record { number = refl; budget = refl; frames = λ fits. fits; shapes = λ Z shaped. shaped })
 
 module _ (W : Parts) (old new : StreamValue) (w : What) (n : ℕ) (rooms : Rooms) where
   abbrev written : Event
@@ -129,8 +129,8 @@ module _ (W : Parts) (old new : StreamValue) (w : What) (n : ℕ) (rooms : Rooms
 
   -- a stream whose frames and order are as before
   kept : (s : StreamValue) → s.number ≡ old.number → s.budget ≡ old.budget → s.log ≡ old.log ++ written ∷ [] → s.top.scheduler ≡ old.top.scheduler → s.top.round ≡ old.top.round
-      → s.below ≡ old.below → s.order ≡ old.order → new ≡ s → Keeps W old new
-  kept s number budget log scheduler round below order same = subst (λ (t : StreamValue). Keeps W old t) (sym same) (record {
+      → s.below ≡ old.below → s.order ≡ old.order → new ≡ s → KeepsStream W old new
+  kept s number budget log scheduler round below order same = subst (λ (t : StreamValue). KeepsStream W old t) (sym same) (record {
     number = number;
     budget = budget;
     frames = frames-same W old s written log scheduler round below order;
@@ -138,17 +138,17 @@ module _ (W : Parts) (old new : StreamValue) (w : What) (n : ℕ) (rooms : Rooms
   })
 
   -- an event that leaves the frames alone
-  pub keeps-holding : (held : Held) → new ≡ wrote (holding old held) w n rooms → Keeps W old new
+  pub keeps-holding : (held : Held) → new ≡ wrote (holding old held) w n rooms → KeepsStream W old new
   keeps-holding held = kept (wrote (holding old held) w n rooms) refl refl refl refl refl refl refl
 
   -- a missed pool, after which the round goes on
-  pub keeps-passed : (p : PoolNo) → new ≡ wrote (passed old p) w n rooms → Keeps W old new
+  pub keeps-passed : (p : PoolNo) → new ≡ wrote (passed old p) w n rooms → KeepsStream W old new
   keeps-passed p = kept (wrote (passed old p) w n rooms) refl refl refl refl refl refl refl
 
   -- a stream whose round has ended
   ended : (s : StreamValue) → old.order ≢ [] → s.number ≡ old.number → s.budget ≡ old.budget → s.log ≡ old.log ++ written ∷ [] → s.top.scheduler ≡ old.top.scheduler → s.top.round ≡ suc old.top.round
-      → s.below ≡ old.below → s.order ≡ [] → new ≡ s → Keeps W old new
-  ended s some number budget log scheduler round below order same = subst (λ (t : StreamValue). Keeps W old t) (sym same) (record {
+      → s.below ≡ old.below → s.order ≡ [] → new ≡ s → KeepsStream W old new
+  ended s some number budget log scheduler round below order same = subst (λ (t : StreamValue). KeepsStream W old t) (sym same) (record {
     number = number;
     budget = budget;
     frames = round-ended W old s written log scheduler round below order some;
@@ -156,15 +156,15 @@ module _ (W : Parts) (old new : StreamValue) (w : What) (n : ℕ) (rooms : Rooms
   })
 
   -- a taken unit, which ends the round
-  pub keeps-took : (o : Owned) → old.order ≢ [] → new ≡ wrote (took old o) w n rooms → Keeps W old new
+  pub keeps-took : (o : Owned) → old.order ≢ [] → new ≡ wrote (took old o) w n rooms → KeepsStream W old new
   keeps-took o some = ended (wrote (took old o) w n rooms) some refl refl refl refl refl refl refl
 
   -- a missed pool, which ends the round empty
-  pub keeps-emptied : old.order ≢ [] → new ≡ wrote (emptied old) w n rooms → Keeps W old new
+  pub keeps-emptied : old.order ≢ [] → new ≡ wrote (emptied old) w n rooms → KeepsStream W old new
   keeps-emptied some = ended (wrote (emptied old) w n rooms) some refl refl refl refl refl refl refl
 
   -- a frame that is entered
-  pub keeps-entered : (g : ℕ) (o : Owned) → IsFresh W g new.top → old.order ≡ [] → new ≡ wrote (entering g old new.top o) w n rooms → Keeps W old new
+  pub keeps-entered : (g : ℕ) (o : Owned) → IsFreshFrame W g new.top → old.order ≡ [] → new ≡ wrote (entering g old new.top o) w n rooms → KeepsStream W old new
   keeps-entered g o fresh none same =
       let order : new.order ≡ old.order = ap (λ (s : StreamValue). s.order) same in
       record {
@@ -175,7 +175,7 @@ module _ (W : Parts) (old new : StreamValue) (w : What) (n : ℕ) (rooms : Rooms
       }
 
 -- a frame that is left
-pub keeps-left : (W : Parts) (old new : StreamValue) (os : List Owned) (o : Owned) → Leaves old new os o → Keeps W old new
+pub keeps-left : (W : Parts) (old new : StreamValue) (os : List Owned) (o : Owned) → Leaves old new os o → KeepsStream W old new
 keeps-left W old new os o leaves =
     let order : new.order ≡ [] = ap (λ (s : StreamValue). s.order) leaves.same in
     record {

@@ -32,7 +32,7 @@ use Rattle.abt_plans.specs.declared.dues.HandDue.TheVariants as hands
 use Rattle.abt_plans.specs.Dues.{DueIs}
 use Rattle.abt_stream.specs.Events.{EndBy, EnterBy, IfFirst, IfHeld, LookBy, PutBy, step_of, wrote}
 use Rattle.abt_stream.specs.Streams.{FrameValue, StreamValue}
-use Rattle.abt_stream.specs.Keeping.{Keeps}
+use Rattle.abt_stream.specs.Keeping.{KeepsStream}
 use Rattle.abt_stream.specs.Operated.{NotPerformed, OpBy}
 use Rattle.abt_stream.specs.Turned.{IsSpent, Made, MetEnd, Turned, Went}
 use Rattle.abt_stream.proofs.Kept.{keeps-entered, keeps-holding, keeps-same}
@@ -168,31 +168,31 @@ module _ {P : Type 0} (moves : P → Site → ℕ → Act → Told → P → Typ
 
   -- the frames stay
 
-  pub end-keeps : (hand : Option Owned) (cause : Cause) (t : Turn) → IfHeld hand (EndBy moves old before cause t new after) → Keeps W old new
+  pub end-keeps : (hand : Option Owned) (cause : Cause) (t : Turn) → IfHeld hand (EndBy moves old before cause t new after) → KeepsStream W old new
   end-keeps None cause t h = absurd h
   end-keeps (Some o) cause turn.Moved h = keeps-holding W old new (what.End (unit_no o.number) cause) new.clock new.rooms (record old.held { hand = None; tray = old.held.tray ++ h.0 }) h.1.same
   end-keeps (Some o) cause turn.Worn h = keeps-same W old new h.same
   end-keeps (Some o) cause t h = absurd h
 
-  pub look-keeps : (next : Option Owned) (t : Turn) → IfHeld next (LookBy moves old before t new after) → Keeps W old new
+  pub look-keeps : (next : Option Owned) (t : Turn) → IfHeld next (LookBy moves old before t new after) → KeepsStream W old new
   look-keeps None t h = absurd h
   look-keeps (Some o) turn.Moved h = keeps-holding W old new (what.Look (unit_no o.number)) new.clock new.rooms (looked old.held o h.0 h.1) h.2.same
   look-keeps (Some o) turn.Worn h = keeps-same W old new h.same
   look-keeps (Some o) t h = absurd h
 
-  pub put-keeps : (tray : List Owned) (t : Turn) → IfFirst tray (PutBy moves old before t new after) → Keeps W old new
+  pub put-keeps : (tray : List Owned) (t : Turn) → IfFirst tray (PutBy moves old before t new after) → KeepsStream W old new
   put-keeps [] t h = absurd h
   put-keeps (o ∷ os) turn.Moved h = keeps-holding W old new (what.Put (unit_no o.number) (pool_no o.carried.home)) new.clock new.rooms (record old.held { tray = os }) h.same
   put-keeps (o ∷ os) turn.Worn h = keeps-same W old new h.same
   put-keeps (o ∷ os) t h = absurd h
 
-  pub step-keeps : (hand : Option Owned) (a : Op) (t : Turn) → IfHeld hand (OpBy moves W old before a t new after) → Keeps W old new
+  pub step-keeps : (hand : Option Owned) (a : Op) (t : Turn) → IfHeld hand (OpBy moves W old before a t new after) → KeepsStream W old new
   step-keeps None a t h = absurd h
   step-keeps (Some o) a turn.Stepped h = keeps-holding W old new (step_of o h.1) new.clock new.rooms new.held h.4
   step-keeps (Some o) a turn.Worn h = keeps-same W old new h.0
   step-keeps (Some o) a t h = absurd h
 
-  pub enter-keeps : (hand : Option Owned) (g : SchedNo) (t : Turn) → old.order ≡ [] → IfHeld hand (EnterBy W g.0 old t new) → Keeps W old new
+  pub enter-keeps : (hand : Option Owned) (g : SchedNo) (t : Turn) → old.order ≡ [] → IfHeld hand (EnterBy W g.0 old t new) → KeepsStream W old new
   enter-keeps None g t none h = absurd h
   enter-keeps (Some o) g turn.Moved none h = keeps-entered W old new (what.Enter (unit_no o.number)) (suc old.clock) new.rooms g.0 o h.0 none h.1
   enter-keeps (Some o) g turn.Worn none h = keeps-same W old new h.1

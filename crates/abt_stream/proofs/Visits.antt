@@ -25,11 +25,11 @@ use Rattle.abt_stream.specs.declared.turns.Turn.{Turn}
 use Rattle.abt_stream.specs.declared.turns.Turn.TheVariants as turn
 use Rattle.abt_machine.specs.declared.operations.Side.{Side}
 use Rattle.abt_stream.specs.Events.{LeaveBy, VisitBy, VisitedBy, emptied, leaving, passed, took, with_top}
-use Rattle.abt_stream.specs.Keeping.{Keeps}
+use Rattle.abt_stream.specs.Keeping.{KeepsStream}
 use Rattle.abt_stream.specs.Streams.{FitsShapes, FitsStream, FrameValue, StreamValue, resting, seeing}
 use Rattle.abt_stream.proofs.Kept.{keeps-emptied, keeps-left, keeps-passed, keeps-same, keeps-took}
 use Rattle.abt_stream.proofs.Turning.{made}
-use Rattle.abt_stream.specs.Turned.{EndsRound, Turned}
+use Rattle.abt_stream.specs.Turned.{MissesLast, Turned}
 use Rattle.abt_stream.proofs.Stacks.{seen_more, some-order}
 
 -- What is due.
@@ -88,19 +88,19 @@ module _ (W : Parts) (s : StreamValue) (p : PoolNo) (own : s.held.own.top ≡ se
       ap (λ (f : Frame). length (pools_of W f.sched)) own ∙
       (sym (length_permutation (pools_of W s.top.scheduler.number) (pool_numbers s.order) (fits.order (some-order s.order s.at p e))) ∙ length-map s.order (λ (q : PoolNo). q.0))
 
-  ends-to : suc s.at ≡ length s.order → EndsRound W s
+  ends-to : suc s.at ≡ length s.order → MissesLast W s
   ends-to h = ap suc seen-at ∙ (h ∙ sym pools-listed)
 
-  ends-from : EndsRound W s → suc s.at ≡ length s.order
+  ends-from : MissesLast W s → suc s.at ≡ length s.order
   ends-from h = ap suc (sym seen-at) ∙ (h ∙ pools-listed)
 
-  missed-last : EndsRound W s → round_missed W p.0 s.held.own ≡ with_top (frame_at s.held.own.top.sched (suc s.held.own.top.round) true) s.held.own
+  missed-last : MissesLast W s → round_missed W p.0 s.held.own ≡ with_top (frame_at s.held.own.top.sched (suc s.held.own.top.round) true) s.held.own
   missed-last h =
       let f = s.held.own.top in
       ap (λ (b : Bool). with_top (if b then frame_at f.sched (suc f.round) true else record { sched = f.sched; round = f.round; seen = f.seen ++ p.0 ∷ []; empty = false }) s.held.own)
       (eq-eqb (length (pools_of W f.sched)) (suc (length f.seen)) (sym h))
 
-  missed-more : (EndsRound W s → ⊥) → round_missed W p.0 s.held.own ≡ with_top (record s.held.own.top { seen = s.held.own.top.seen ++ p.0 ∷ []; empty = false }) s.held.own
+  missed-more : (MissesLast W s → ⊥) → round_missed W p.0 s.held.own ≡ with_top (record s.held.own.top { seen = s.held.own.top.seen ++ p.0 ∷ []; empty = false }) s.held.own
   missed-more h =
       let f = s.held.own.top in
       ap (λ (b : Bool). with_top (if b then frame_at f.sched (suc f.round) true else record { sched = f.sched; round = f.round; seen = f.seen ++ p.0 ∷ []; empty = false }) s.held.own)
@@ -131,7 +131,7 @@ module _ {P : Type 0} (moves : P → Site → ℕ → Act → Told → P → Typ
         let later = took old o in
         (event, made moves W old before new after later.held later.top later.below later.order later.at new.clock event heard Z h (due, next-pool W old p own fits e Z shaped, o, refl, refl, refl) went, tt)
     visited act.Miss turn.Moved went h =
-        let more : EndsRound W old → ⊥ = λ ends. h.1 (ends-from W old p own fits e ends) in
+        let more : MissesLast W old → ⊥ = λ ends. h.1 (ends-from W old p own fits e ends) in
         let heard = Some (site.Pool p, act.Take (side_of W old.number.0 p.0), act.Miss) in
         let later = passed old p in
         let own-is = ap (λ (m : Stream). record old.held { own = m }) (sym (missed-more W old p own fits e more)) in
@@ -153,13 +153,13 @@ module _ {P : Type 0} (moves : P → Site → ℕ → Act → Told → P → Typ
     visit-turned t (inr h) = visited h.0 t h.1 h.2
 
   -- the frames stay
-  visited-keeps : (p : PoolNo) → slice_get old.order old.at ≡ Some p → (answer : Answer) (t : Turn) → VisitedBy old p answer t new → Keeps W old new
+  visited-keeps : (p : PoolNo) → slice_get old.order old.at ≡ Some p → (answer : Answer) (t : Turn) → VisitedBy old p answer t new → KeepsStream W old new
   visited-keeps p e (act.Given o) turn.Moved h = keeps-took W old new (what.Take p (unit_no o.number)) new.clock new.rooms o (some-order old.order old.at p e) h
   visited-keeps p e act.Miss turn.Moved h = keeps-passed W old new (what.Miss p) new.clock new.rooms p h.0
   visited-keeps p e act.Miss turn.EmptyRound h = keeps-emptied W old new (what.Miss p) new.clock new.rooms (some-order old.order old.at p e) h.0
   visited-keeps p e answer t h = absurd h
 
-  pub visit-keeps : (p : PoolNo) (d : Side) → slice_get old.order old.at ≡ Some p → (t : Turn) → VisitBy moves old before p d t new after → Keeps W old new
+  pub visit-keeps : (p : PoolNo) (d : Side) → slice_get old.order old.at ≡ Some p → (t : Turn) → VisitBy moves old before p d t new after → KeepsStream W old new
   visit-keeps p d e t (inl worn) = keeps-same W old new worn.1.same
   visit-keeps p d e t (inr h) = visited-keeps p e h.0 t h.2
 
@@ -176,7 +176,7 @@ module _ {P : Type 0} (moves : P → Site → ℕ → Act → Told → P → Typ
   leave-turned turn.EmptyRound due some stays h Z = absurd h
   leave-turned turn.Spent due some stays h Z = absurd h
 
-  pub leave-keeps : (t : Turn) → LeaveBy old t new → Keeps W old new
+  pub leave-keeps : (t : Turn) → LeaveBy old t new → KeepsStream W old new
   leave-keeps turn.Moved h = keeps-left W old new h.0 h.1 h.2
   leave-keeps turn.Worn h = keeps-same W old new h.1
   leave-keeps turn.Stepped h = absurd h

@@ -148,7 +148,7 @@ VisitBy moves old before p d t new after =
 -- Frames.
 
 -- a frame that begins
-pub record IsFresh (W : Parts) (g : ℕ) (f : FrameValue) : Type 0 where
+pub record IsFreshFrame (W : Parts) (g : ℕ) (f : FrameValue) : Type 0 where
   pub scheduler : IsSchedulerOf W f.scheduler
   pub number : f.scheduler.number ≡ g
   pub before : f.scheduler.round ≡ 0
@@ -164,7 +164,7 @@ entering g s f o = record s {
 }
 
 abbrev pub EnterBy : Parts → ℕ → StreamValue → Turn → StreamValue → Owned → Type 0
-EnterBy W g old turn.Moved new o = IsFresh W g new.top × (new ≡ wrote (entering g old new.top o) (what.Enter (unit_no o.number)) (suc old.clock) new.rooms)
+EnterBy W g old turn.Moved new o = IsFreshFrame W g new.top × (new ≡ wrote (entering g old new.top o) (what.Enter (unit_no o.number)) (suc old.clock) new.rooms)
 EnterBy W g old turn.Worn new o = (old.clock ≡ 2 ^ 62) × (new ≡ old)
 EnterBy W g old t new o = ⊥
 

@@ -13,7 +13,7 @@ pub record FitsFrames (W : Parts) (s : StreamValue) : Type 0 where
 
 -- what every event keeps of a stream: its number, how many steps it may make, that its frames fit, and that an order that it
 -- holds is one that the round may have
-pub record Keeps (W : Parts) (old new : StreamValue) : Type 0 where
+pub record KeepsStream (W : Parts) (old new : StreamValue) : Type 0 where
   pub number : new.number ≡ old.number
   pub budget : new.budget ≡ old.budget
   pub frames : FitsFrames W old → FitsFrames W new

@@ -11,7 +11,8 @@ use Rattle.abt_machine.specs.Rounds.{IsOrder}
 use Rattle.abt_machine.specs.State.{Frame, Stream}
 use Rattle.abt_machine.specs.Values.{Held, Owned}
 use Rattle.abt_machine.specs.Workloads.{pools_of}
-use Rattle.abt_calls.specs.Holders.{units_of}
+use Rattle.abt_calls.specs.Holders.{units_held}
+use Rattle.abt_commons.specs.Acts.{owned}
 use Rattle.abt_interleave.specs.Histories.{RisesAbove}
 use Rattle.abt_order.specs.Schedulers.{IsSchedulerOf, SchedulerValue, pool_numbers}
 use Rattle.abt_unit.specs.Fits.{Fits}
@@ -47,9 +48,6 @@ pub record StreamValue : Type 0 where
   pub at : ℕ
   pub log : List Event
   pub rooms : Rooms
-
-abbrev pub owned : Box UnitValue Global → Owned
-owned unit = unit.value.owned
 
 abbrev pub hand_of : Work → Option Owned
 hand_of work.Idle = None
@@ -124,7 +122,7 @@ pub record FitsStream (W : Parts) (s : StreamValue) : Type 0 where
   pub top : IsFrame W (length s.log) s.order s.top
   pub below : All (IsFrame W (length s.log) []) s.below
   pub order : IsOrderFor W s.top.scheduler.number s.order
-  pub units : All (Fits W) (units_of s.held)
+  pub units : All (Fits W) (units_held s.held)
 
 -- an order that is held is one that the round may have
 abbrev pub FitsShapes : Parts → List OrderShape → StreamValue → Type 0

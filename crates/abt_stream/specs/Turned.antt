@@ -46,12 +46,12 @@ pub record Made {P : Type 0} (moves : P → Site → ℕ → Act → Told → P 
   pub log : new.log ≡ old.log ++ record { stamp = new.clock; stream = old.number; what = w } ∷ []
 
 -- the pool that was missed was the last of its round
-abbrev pub EndsRound : Parts → StreamValue → Type 0
-EndsRound W s = suc (length s.held.own.top.seen) ≡ length (pools_of W s.held.own.top.sched)
+abbrev pub MissesLast : Parts → StreamValue → Type 0
+MissesLast W s = suc (length s.held.own.top.seen) ≡ length (pools_of W s.held.own.top.sched)
 
 -- an event that is no step and ends no round empty
 abbrev pub IsMove : Parts → StreamValue → What → Type 0
-IsMove W old (what.Miss p) = EndsRound W old → ⊥
+IsMove W old (what.Miss p) = MissesLast W old → ⊥
 IsMove W old (what.Take p u) = ⊤
 IsMove W old (what.Look u) = ⊤
 IsMove W old (what.Step u k c) = ⊥
@@ -68,7 +68,7 @@ IsSpent W s = (due_of W s.number.0 s.held ≡ StepDue) × (steps_in s.log ≡ s.
 abbrev pub Turned : {P : Type 0} → (P → Site → ℕ → Act → Told → P → Type 0) → Parts → List OrderShape → StreamValue → P → Turn → StreamValue → P → Type 0
 Turned moves W Z old before turn.Stepped new after =
     (u : UnitNo) × (k : ℕ) × (c : Code) × Made moves W Z old before (what.Step u k c) new after × (steps_in old.log < old.budget)
-Turned moves W Z old before turn.EmptyRound new after = (p : PoolNo) × Made moves W Z old before (what.Miss p) new after × EndsRound W old
+Turned moves W Z old before turn.EmptyRound new after = (p : PoolNo) × Made moves W Z old before (what.Miss p) new after × MissesLast W old
 Turned moves W Z old before turn.Moved new after = (w : What) × Made moves W Z old before w new after × IsMove W old w
 Turned moves W Z old before turn.Spent new after = IsSpent W old × (new ≡ old) × (after ≡ before)
 Turned moves W Z old before turn.Worn new after = (new ≡ old) × MetEnd moves W Z old before after × (IsSpent W old → ⊥)

@@ -1,7 +1,8 @@
 //! A stream and its turns.
 
 ghost use Rattle.std.specs.Prelude.{◌≡◌, ◌<◌, ◌≤◌, ◌↔◌, [], IfOk, option_map, map, IsTrue, List};
-ghost use Rattle.abt_stream.specs.Streams.{FitsShapes, FitsStream, IsIdle, hand_of, next_of, owned, IsLog};
+ghost use Rattle.abt_commons.specs.Acts.{owned};
+ghost use Rattle.abt_stream.specs.Streams.{FitsShapes, FitsStream, IsIdle, hand_of, next_of, IsLog};
 ghost use Rattle.abt_stream.specs.Dues.{HasStep};
 ghost use Rattle.abt_stream.specs.Heeding.{Heeds};
 ghost use Rattle.abt_stream.specs.Turned.{IsReady, Turned, IsSpent};
@@ -67,7 +68,8 @@ impl Model for Stream {
     ghost use Rattle.std.specs.Prelude.{◌≡◌, ◌≤◌, ◌+◌, ◌-◌, ◌^◌, [], length, map, take, vec_capacity, vec_len};
     ghost use Rattle.std.specs.List.{All};
     ghost use Rattle.abt_machine.specs.Outcomes.{steps_in};
-    ghost use Rattle.abt_stream.specs.Streams.{IsFreeUnit, IsLog, IsOrderly, StreamValue, behind_of, hand_of, next_of, own_of, owned, spare_of};
+    ghost use Rattle.abt_commons.specs.Acts.{owned};
+    ghost use Rattle.abt_stream.specs.Streams.{IsFreeUnit, IsLog, IsOrderly, StreamValue, behind_of, hand_of, next_of, own_of, spare_of};
 
     ghost Value = { StreamValue };
 

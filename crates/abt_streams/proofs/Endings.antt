@@ -18,7 +18,7 @@ use Rattle.abt_laws.proofs.SoundRuns.{runs-are-sound}
 use Rattle.abt_outcomes.specs.Values.{LooksEnded, StandFor}
 use Rattle.abt_outcomes.proofs.Seen.{ends-seen}
 use Rattle.abt_stream.specs.Streams.{StreamValue}
-use Rattle.abt_drain.specs.Looks.{IsEmptyAt, IsOutcomeOfRuns, parts_of}
+use Rattle.abt_drain.specs.Looks.{IsEmptyAt, IsOutcomeOfRuns, parts_held}
 use Rattle.abt_streams.specs.declared.life.Life.{Life}
 use Rattle.abt_streams.specs.Ends.{EndsOn, QuietOn}
 use Rattle.abt_streams.specs.Lives.{AreLives}
@@ -49,11 +49,11 @@ module _ (W : Parts) (lives : List Life) (are : AreLives W lives) (n : ℕ) (str
   pub ends-some : (o : Outcome) → IsOutcomeOfRuns W n streams objects (Some o) → IsOutcomeOnLives W lives n streams objects (Some o)
   ends-some o ended Z J stored run stand made = ends-on W lives n J o (ended Z J stored run stand made)
 
-  quiet : (J : List Event) → StandFor W (last_state W J) (parts_of W streams) (object_at objects) → QuietOn W lives (last_state W J) ↔ IsQuietOnWith W lives streams objects
-  quiet J stand = quiet-on-seen W lives are (last_state W J) (parts_of W streams) (object_at objects) stand
+  quiet : (J : List Event) → StandFor W (last_state W J) (parts_held W streams) (object_at objects) → QuietOn W lives (last_state W J) ↔ IsQuietOnWith W lives streams objects
+  quiet J stand = quiet-on-seen W lives are (last_state W J) (parts_held W streams) (object_at objects) stand
 
-  over : (Z : List OrderShape) (J : List Event) → OrdersStored W Z → Run W Z J → StandFor W (last_state W J) (parts_of W streams) (object_at objects) → AllEnded (last_state W J) ↔ LooksEnded W (object_at objects)
-  over Z J stored run stand = ends-seen W Z (last_state W J) (parts_of W streams) (object_at objects) (last_state-sound W Z J (runs-are-sound W Z) valid stored run) stand
+  over : (Z : List OrderShape) (J : List Event) → OrdersStored W Z → Run W Z J → StandFor W (last_state W J) (parts_held W streams) (object_at objects) → AllEnded (last_state W J) ↔ LooksEnded W (object_at objects)
+  over Z J stored run stand = ends-seen W Z (last_state W J) (parts_held W streams) (object_at objects) (last_state-sound W Z J (runs-are-sound W Z) valid stored run) stand
 
   pub ends-none : IsOutcomeOfRuns W n streams objects None → (IsQuietOnWith W lives streams objects → ⊥) → IsOutcomeOnLives W lives n streams objects None
   ends-none goes busy Z J stored run stand made = (λ is. busy ((quiet J stand).0 is), (goes Z J stored run stand made).1)

@@ -9,7 +9,7 @@ use Rattle.abt_machine.specs.Words.{Text, ended, line_of}
 use Rattle.abt_streams.specs.declared.life.Life.{Life}
 use Rattle.abt_report.specs.declared.text_fault.TextFault.TheVariants.{Bad}
 use Rattle.abt_streams.specs.Lives.{AreLives, AreLivesAfter, MayFollow}
-use Rattle.abt_streams.specs.Texts.{BeginsNoLife, IsCause, IsNoFeed, life_line, life_words, lives_text}
+use Rattle.abt_streams.specs.Texts.{BeginsNoLife, IsLivesCause, IsNoFeed, life_line, life_words, lives_text}
 use Rattle.abt_streams.proofs.Words.{lines-same, plain-line, short}
 
 -- a text with a life's line is not empty
@@ -32,7 +32,7 @@ no-lives W before (l ∷ ls) all (k ∷ ks) rest bytes valid whole are at some n
 
 -- why the bytes are the text of no lives
 pub bad : (W : Parts) (bytes rest : Text) (lives : List Life) → IsValid W → AreLives W lives → lives_text lives ++ rest ≡ bytes → 0 < length rest → BeginsNoLife W lives rest →
-    IsCause W bytes (Bad (length lives + 1))
+    IsLivesCause W bytes (Bad (length lives + 1))
 bad W bytes rest lives valid are at some none =
     let filled : rest ≢ [] = λ e. absurd (omega (arith, ap length e)) in (
       record { before = lives; rest = rest; lives = are; text = at; line = omega arith; some = filled; none = none },

@@ -14,7 +14,7 @@ use Rattle.abt_machine.specs.Turns.{Heard, Steps}
 use Rattle.abt_machine.specs.Values.{Held}
 use Rattle.abt_interleave.specs.Histories.{RisesAbove, entry_stamps, last_from}
 use Rattle.abt_interleave.specs.Deeds.{Does, deed_stamps}
-use Rattle.abt_interleave.specs.Logs.{BeforeAll, InOrder, IsSooner, Leaves}
+use Rattle.abt_interleave.specs.Logs.{BeforeAll, InOrder, IsSooner, LeavesEntry}
 use Rattle.abt_interleave.specs.Stamps.{place_of}
 use Rattle.abt_interleave.proofs.Clocks.{among-above}
 use Rattle.abt_interleave.proofs.Members.{Among, all-from-among, from-among, to-among}
@@ -66,7 +66,7 @@ same-some {A} a b e = ap get e where
   get (Some x) = x
 
 -- the entry of a deed that called the object at x
-entry-left : (d : StreamDeed) (x : Site) (heard : Option Heard) → d.heard ≡ heard → option_map (λ (h : Heard). h.0) heard ≡ Some x → (e : SiteEntry) × Leaves d x e
+entry-left : (d : StreamDeed) (x : Site) (heard : Option Heard) → d.heard ≡ heard → option_map (λ (h : Heard). h.0) heard ≡ Some x → (e : SiteEntry) × LeavesEntry d x e
 entry-left d x None q p = absurd cc
 entry-left d x (Some h) q p = (record { stamp = d.stamp; caller = d.stream; act = h.1; answer = h.2 }, (refl, refl, q ∙ (λ i. Some (same-some h.0 x p i, h.1, h.2))))
 
@@ -109,9 +109,9 @@ module _ (W : Parts) (Z : List OrderShape) (old new : Moment) (live : List Bool)
       (wave.gathered.courses d.stream (log-declared (machine_of W Z) old.parts old.objects wave.deeds wave.histories new.parts new.objects wave.gathered d.stream d m)).1 d m
 
   -- its entry at its site
-  entry-of : (d : StreamDeed) (x : Site) → Among d (wave.deeds d.stream) → event_site W (event_of d) ≡ Some x → (e : SiteEntry) × Leaves d x e × Among e (wave.histories x)
+  entry-of : (d : StreamDeed) (x : Site) → Among d (wave.deeds d.stream) → event_site W (event_of d) ≡ Some x → (e : SiteEntry) × LeavesEntry d x e × Among e (wave.histories x)
   entry-of d x m at =
-      let left : (e : SiteEntry) × Leaves d x e = entry-left d x d.heard refl (calls d m ∙ at) in
+      let left : (e : SiteEntry) × LeavesEntry d x e = entry-left d x d.heard refl (calls d m ∙ at) in
       (left.0, left.1, to-among (wave.histories x) left.0 (wave.gathered.matched.has_entry d x left.0 (from-among (wave.deeds d.stream) d m) left.1))
 
   -- and between the clocks of its site

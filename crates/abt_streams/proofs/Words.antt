@@ -21,7 +21,7 @@ use Rattle.abt_streams.specs.declared.life.Life.{Life}
 use Rattle.abt_streams.specs.Lives.{MayFollow}
 use Rattle.abt_streams.proofs.Cutting.{Lacks, cut-same}
 use Rattle.abt_streams.proofs.FirstLines.{ended-front}
-use Rattle.abt_streams.specs.Texts.{HasShortNumbers, IsNoFeed, life_line, life_words}
+use Rattle.abt_streams.specs.Texts.{IsShortLife, IsNoFeed, life_line, life_words}
 
 -- the bytes of a number are digits
 pub no-digit : (b n : ℕ) → b < 48 → IsShort n → (i : ℕ) → i < length (decimal n) → get_or (decimal n) i 0 ≢ b
@@ -69,7 +69,7 @@ plain-words word a b c hw ha hb hc =
     (All-append (λ x. x ≢ 10) (32 ∷ a) ((32 ∷ b) ++ ((32 ∷ c) ++ [])) (All-cons (λ x. x ≢ 10) 32 a no_space ha) behind_b)
 
 -- nor has a life's
-pub plain-line : (life : Life) → HasShortNumbers life → All IsNoFeed (line_of (life_words life))
+pub plain-line : (life : Life) → IsShortLife life → All IsNoFeed (line_of (life_words life))
 plain-line life fits =
     plain-words (codes "life") (decimal life.stream.0) (decimal life.begins.0) (decimal life.ends.0) plain-word
     (plain-number 10 life.stream.0 (omega arith) fits.stream) (plain-number 10 life.begins.0 (omega arith) fits.begins) (plain-number 10 life.ends.0 (omega arith) fits.ends)
@@ -79,7 +79,7 @@ same-number : (m n : ℕ) → IsShort m → IsShort n → decimal m ≡ decimal 
 same-number m n fits fits' e = decimal_injective m n (omega arith) (omega arith) e
 
 -- lines that begin the same text are of one life
-pub lines-same : (l k : Life) (us vs : Text) → HasShortNumbers l → HasShortNumbers k → life_line l ++ us ≡ life_line k ++ vs → (l ≡ k) × (us ≡ vs)
+pub lines-same : (l k : Life) (us vs : Text) → IsShortLife l → IsShortLife k → life_line l ++ us ≡ life_line k ++ vs → (l ≡ k) × (us ≡ vs)
 lines-same l k us vs hl hk e =
     let first = cut-same 10 (line_of (life_words l)) (line_of (life_words k)) us vs (plain-line l hl) (plain-line k hk)
     (ended-front (line_of (life_words l)) us (life_line l ++ us) refl ∙ (e ∙ sym (ended-front (line_of (life_words k)) vs (life_line k ++ vs) refl))) in
@@ -96,7 +96,7 @@ lines-same l k us vs hl hk e =
     (same, first.1)
 
 -- a line is text
-pub is-text : (life : Life) → HasShortNumbers life → IsUtf8 (life_line life)
+pub is-text : (life : Life) → IsShortLife life → IsUtf8 (life_line life)
 is-text life fits =
     let ascii : (n : ℕ) → IsShort n → IsAscii (decimal n) = λ n few. IsAscii-decimal n (omega arith) in
     let behind : (xs ys : Text) → IsAscii xs → IsAscii ys → IsAscii (xs ++ 32 ∷ ys) = λ xs ys a b. IsAscii-append xs (32 ∷ ys) a (IsAscii-cons 32 ys (omega arith) b) in
@@ -106,7 +106,7 @@ is-text life fits =
     (behind (decimal life.begins.0) (behind_begins life) (ascii life.begins.0 fits.begins) (IsAscii-append (decimal life.ends.0) (10 ∷ []) (ascii life.ends.0 fits.ends) (IsAscii-cons 10 [] (omega arith) IsAscii-nil))))))
 
 -- the numbers of a life are those of a valid workload, so they are short
-pub short : (W : Parts) (before : List Life) (life : Life) → IsValid W → MayFollow W before life → HasShortNumbers life
+pub short : (W : Parts) (before : List Life) (life : Life) → IsValid W → MayFollow W before life → IsShortLife life
 short W before life valid may =
     let begins = slice_get_within W.objects life.begins.0 _ may.begins in
     let ends = slice_get_within W.objects life.ends.0 _ may.ends in
@@ -131,16 +131,16 @@ word-cut life line found is cut = second found (split_after 32 line (codes "life
     second (Some parts) both = both.1
 
 -- what follows, at the next
-pub stream-cut : (life : Life) (text : Text) (found : Option (Bor Text × Bor Text)) → HasShortNumbers life → text ≡ behind_word life → Cuts 32 text found →
+pub stream-cut : (life : Life) (text : Text) (found : Option (Bor Text × Bor Text)) → IsShortLife life → text ≡ behind_word life → Cuts 32 text found →
     MatchOption found ⊥ (λ parts. (parts.0.now ≡ decimal life.stream.0) × (parts.1.now ≡ behind_stream life))
 stream-cut life text found fits is cut = split_after 32 text (decimal life.stream.0) (behind_stream life) found cut (omega arith) is (no-digit 32 life.stream.0 (omega arith) fits.stream)
 
 -- and at the last
-pub begins-cut : (life : Life) (text : Text) (found : Option (Bor Text × Bor Text)) → HasShortNumbers life → text ≡ behind_stream life → Cuts 32 text found →
+pub begins-cut : (life : Life) (text : Text) (found : Option (Bor Text × Bor Text)) → IsShortLife life → text ≡ behind_stream life → Cuts 32 text found →
     MatchOption found ⊥ (λ parts. (parts.0.now ≡ decimal life.begins.0) × (parts.1.now ≡ behind_begins life))
 begins-cut life text found fits is cut = split_after 32 text (decimal life.begins.0) (behind_begins life) found cut (omega arith) is (no-digit 32 life.begins.0 (omega arith) fits.begins)
 
 -- the last number stands before the line feed
-pub ends-cut : (life : Life) (text : Text) (found : Option (Bor Text × Bor Text)) → HasShortNumbers life → text ≡ behind_begins life → Cuts 10 text found →
+pub ends-cut : (life : Life) (text : Text) (found : Option (Bor Text × Bor Text)) → IsShortLife life → text ≡ behind_begins life → Cuts 10 text found →
     MatchOption found ⊥ (λ parts. (parts.0.now ≡ decimal life.ends.0) × (parts.1.now ≡ []))
 ends-cut life text found fits is cut = split_after 10 text (decimal life.ends.0) [] found cut (omega arith) is (no-digit 10 life.ends.0 (omega arith) fits.ends)

@@ -16,7 +16,7 @@ use Rattle.abt_commons.specs.Held.{ObjectsValue, object_at}
 use Rattle.abt_commons.specs.Reading.{is_ready}
 use Rattle.abt_outcomes.specs.Values.{HaveMade, IsEmptyPool, IsIdle, StandFor}
 use Rattle.abt_stream.specs.Streams.{StreamValue}
-use Rattle.abt_drain.specs.Looks.{HasEmptyPools, parts_of, steps_made}
+use Rattle.abt_drain.specs.Looks.{HasEmptyPools, parts_held, steps_made}
 use Rattle.abt_streams.specs.declared.life.Life.{Life}
 use Rattle.abt_streams.specs.Ends.{EndsOn, QuietOn}
 use Rattle.abt_streams.specs.Living.{life_of, lives_by}
@@ -32,7 +32,7 @@ pub record LooksQuietOn (W : Parts) (lives : List Life) (parts : ℕ → Held) (
 
 -- nothing is left to do on these lives
 abbrev pub IsQuietOnWith : Parts → List Life → List StreamValue → ObjectsValue → Type 0
-IsQuietOnWith W lives streams objects = LooksQuietOn W lives (parts_of W streams) (object_at objects)
+IsQuietOnWith W lives streams objects = LooksQuietOn W lives (parts_held W streams) (object_at objects)
 
 -- the pools that stream s takes from are empty, if it lives
 abbrev pub FindsNothing : Parts → List Life → ObjectsValue → ℕ → Type 0
@@ -40,7 +40,7 @@ FindsNothing W lives objects s = IsTrue (is_live_with (object_at objects) lives 
 
 -- stream s holds nothing, and finds nothing
 abbrev pub IsQuietOnAt : Parts → List Life → List StreamValue → ObjectsValue → ℕ → Type 0
-IsQuietOnAt W lives streams objects s = IsIdle (parts_of W streams s) × FindsNothing W lives objects s
+IsQuietOnAt W lives streams objects s = IsIdle (parts_held W streams s) × FindsNothing W lives objects s
 
 -- the journal ended so on these lives, or nothing of an end is in it
 abbrev pub EndsOnWith : Parts → List Life → ℕ → List Event → Option Outcome → Type 0
@@ -50,5 +50,5 @@ EndsOnWith W lives n J None = (QuietOn W lives (last_state W J) → ⊥) × ((s 
 -- so ended each run to whose last state these streams and objects belong
 abbrev pub IsOutcomeOnLives : Parts → List Life → ℕ → List StreamValue → ObjectsValue → Option Outcome → Type 0
 IsOutcomeOnLives W lives n streams objects outcome =
-    (Z : List OrderShape) (J : List Event) → OrdersStored W Z → Run W Z J → StandFor W (last_state W J) (parts_of W streams) (object_at objects)
+    (Z : List OrderShape) (J : List Event) → OrdersStored W Z → Run W Z J → StandFor W (last_state W J) (parts_held W streams) (object_at objects)
     → HaveMade W J (steps_made streams) → EndsOnWith W lives n J outcome

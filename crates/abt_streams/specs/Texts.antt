@@ -26,7 +26,7 @@ abbrev pub IsNoFeed : ℕ → Type 0
 IsNoFeed b = b ≢ 10
 
 -- its numbers have 32 bits
-pub record HasShortNumbers (life : Life) : Type 0 where
+pub record IsShortLife (life : Life) : Type 0 where
   pub stream : IsShort life.stream.0
   pub begins : IsShort life.begins.0
   pub ends : IsShort life.ends.0
@@ -42,7 +42,7 @@ abbrev pub BeginsNoLife : Parts → List Life → Text → Type 0
 BeginsNoLife W before rest = (life : Life) (more : Text) → MayFollow W before life → life_line life ++ more ≡ rest → ⊥
 
 -- line l is the first that breaks a rule: the lines before it are those of lives, and it is there and is not the line of a life that may follow them
-pub record IsBadAt (W : Parts) (bytes : Text) (l : ℕ) : Type 0 where
+pub record IsBadLifeAt (W : Parts) (bytes : Text) (l : ℕ) : Type 0 where
   pub before : List Life
   pub rest : Text
   pub lives : AreLives W before
@@ -56,6 +56,6 @@ abbrev pub IsNoLivesText : Parts → Text → Type 0
 IsNoLivesText W bytes = (lives : List Life) → AreLives W lives → lives_text lives ≡ bytes → ⊥
 
 -- why bytes were not read as lives of streams of W
-abbrev pub IsCause : Parts → Text → TextFault → Type 0
-IsCause W bytes (cause.Bad line) = IsBadAt W bytes line × IsNoLivesText W bytes
-IsCause W bytes cause.Memory = ⊤
+abbrev pub IsLivesCause : Parts → Text → TextFault → Type 0
+IsLivesCause W bytes (cause.Bad line) = IsBadLifeAt W bytes line × IsNoLivesText W bytes
+IsLivesCause W bytes cause.Memory = ⊤

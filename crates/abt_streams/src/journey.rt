@@ -8,7 +8,7 @@ ghost use Rattle.abt_machine.specs.Rounds.{OrdersStored};
 ghost use Rattle.abt_machine.specs.Runs.{last_state};
 ghost use Rattle.abt_machine.specs.Texts.{shown_units};
 ghost use Rattle.abt_order.specs.Stored.{shapes_of};
-ghost use Rattle.abt_report.specs.Pictures.{SaysWordsOf, units_of};
+ghost use Rattle.abt_report.specs.Pictures.{SaysWordsOf, units_in_rows};
 ghost use Rattle.abt_streams.specs.Lives.{AreLives};
 ghost use Rattle.abt_drain.specs.Crews.{moment_of};
 ghost use Rattle.abt_drain.specs.Moments.{LeadTo};
@@ -136,7 +136,7 @@ pub(crate) fn picture_of<'w>(
     streams: Vec<Stream>,
 ) -> Result<Picture, Want>
     requires under_way { (Z : List OrderShape) × (n : ℕ) × IsFleet w.now Z n objects streams.items }
-    ensures shown { IfOk result (λ picture. (Z : List OrderShape) (J : List Event) → OrdersStored w.now Z → LeadTo w.now Z J (moment_of w.now streams.items objects.entry) → shown_units w.now (last_state w.now J) ≡ units_of picture) }
+    ensures shown { IfOk result (λ picture. (Z : List OrderShape) (J : List Event) → OrdersStored w.now Z → LeadTo w.now Z J (moment_of w.now streams.items objects.entry) → shown_units w.now (last_state w.now J) ≡ units_in_rows picture) }
     ensures words { IfOk result (λ picture. All (SaysWordsOf w.now) picture) }
 {
     let (_, rest) = split_logs(alloc, streams)?;

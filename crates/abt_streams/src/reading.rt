@@ -6,7 +6,7 @@ ghost use Rattle.abt_machine.specs.Words.{Text, ended};
 ghost use Rattle.abt_report.specs.Journals.{IsShort, ReadsAs};
 ghost use Rattle.abt_streams.specs.declared.life.Life.{Life};
 ghost use Rattle.abt_streams.specs.Lives.{AreLives, MayFollow};
-ghost use Rattle.abt_streams.specs.Texts.{HasShortNumbers, IsCause, IsNoFeed, SpellNumbers, life_line, lives_text};
+ghost use Rattle.abt_streams.specs.Texts.{IsShortLife, IsLivesCause, IsNoFeed, SpellNumbers, life_line, lives_text};
 
 use crate::life::{Life, Lives};
 use abt_lines::{end_line, push_decimal};
@@ -43,7 +43,7 @@ fn number(word: &str) -> Option<u32>
 
 // The life with these numbers.
 fn life_of(stream: &str, begins: &str, ends: &str) -> Option<Life>
-    ensures { (life : Life) → HasShortNumbers life → SpellNumbers life stream.now begins.now ends.now → result ≡ Some life }
+    ensures { (life : Life) → IsShortLife life → SpellNumbers life stream.now begins.now ends.now → result ≡ Some life }
 {
     Some(Life {
         stream: StreamNo(number(stream)?),
@@ -54,7 +54,7 @@ fn life_of(stream: &str, begins: &str, ends: &str) -> Option<Life>
 
 // The words of a line behind its first.
 fn numbers<'a>(line: &'a str) -> Option<(&'a str, &'a str, &'a str)>
-    ensures { (life : Life) → HasShortNumbers life → life_line life ≡ line.entry.now → MatchOption result ⊥ (λ words. SpellNumbers life words.0.now words.1.now words.2.now) }
+    ensures { (life : Life) → IsShortLife life → life_line life ≡ line.entry.now → MatchOption result ⊥ (λ words. SpellNumbers life words.0.now words.1.now words.2.now) }
 {
     let (_, numbers) = line.split_once(' ')?;
     let (stream, objects) = numbers.split_once(' ')?;
@@ -65,7 +65,7 @@ fn numbers<'a>(line: &'a str) -> Option<(&'a str, &'a str, &'a str)>
 
 // The life that the line may be that of: if it is the line of a life, it is of that one.
 fn guess(line: &[u8]) -> Option<Life>
-    ensures { (life : Life) → HasShortNumbers life → life_line life ≡ line.now → result ≡ Some life }
+    ensures { (life : Life) → IsShortLife life → life_line life ≡ line.now → result ≡ Some life }
 {
     let Ok(line) = str::from_utf8(line) else {
         return None;
@@ -142,7 +142,7 @@ fn read_life(
 pub fn read_lives(alloc: Global, w: &Workload, bytes: &[u8]) -> Result<Lives, TextFault>
     ensures lives { IfOk result (λ lives. AreLives w.now lives) }
     ensures text { IfOk result (λ lives. lives_text lives ≡ bytes.now) }
-    ensures cause { IfErr result (IsCause w.now bytes.now) }
+    ensures cause { IfErr result (IsLivesCause w.now bytes.now) }
 {
     w.known();
     let mut lives = Vec::new(alloc);

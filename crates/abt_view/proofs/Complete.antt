@@ -8,11 +8,12 @@ use Rattle.abt_machine.specs.Words.{Text}
 use Rattle.abt_report.specs.Journals.{IsEvent}
 use Rattle.abt_shell.specs.declared.status.Stop.TheVariants.{BadWords, BadLine, CannotRead, OutOfMemory}
 use Rattle.abt_shell.specs.declared.status.Wrong.TheVariants.{Workload, Journal, Lives}
+use Rattle.abt_shell.specs.Calls.{EndsBy, Holds}
 use Rattle.abt_shell.specs.Status.{Status, Concluded, Stopped, CannotWrite, number_of}
 use Rattle.abt_shell.specs.Told.{Grew}
 use Rattle.abt_shell.proofs.Calls.{reads-well, writes-well}
 use Rattle.abt_shell.proofs.Fetched.{of-observed}
-use Rattle.abt_view.specs.Call.{AsksNothing, Call, EndsBy, Holds, IsAnswered, IsWrongAt, program}
+use Rattle.abt_view.specs.Call.{AsksNothing, Call, IsAnswered, IsWrongAt, program}
 use Rattle.abt_view.specs.Views.{Asks}
 use Rattle.abt_view.specs.declared.views.View.{View}
 
@@ -26,7 +27,7 @@ of-named P words v w f g bytes file_of one two at known =
     of-observed P (file_of g) bytes at (subst (λ name. IfSome (file_of name) P) (one-file words v w f g one two) known)
 
 -- the view of a journal is written
-shown : (s : Status ⊤) (c : Call) (v : View) (file : Text) (J : List Event) → Holds s c → Asks c.words v file → c.file file ≡ Some (journal_text J) → All IsEvent J →
+shown : (s : Status ⊤) (c : Call) (v : View) (file : Text) (J : List Event) → Holds (program c) c.left s → Asks c.words v file → c.file file ≡ Some (journal_text J) → All IsEvent J →
     (Grew c.left.read_faults → ⊥) → (Grew c.left.out_faults → ⊥) → (number_of (λ _. 0) s ≡ 0) ⊎ (number_of (λ _. 0) s ≡ 7)
 shown (Concluded shows) c v file J h asks at are still quiet = inl refl
 shown (Stopped OutOfMemory) c v file J h asks at are still quiet = inr refl
@@ -40,7 +41,7 @@ shown (Stopped (BadLine line (Workload f))) c v file J h asks at are still quiet
 shown (Stopped (BadLine line Lives)) c v file J h asks at are still quiet = absurd h.cause
 
 -- a text that is no journal's is refused
-refuses : (s : Status ⊤) (c : Call) (v : View) (file bytes : Text) → Holds s c → Asks c.words v file → c.file file ≡ Some bytes → ((J : List Event) → journal_text J ≡ bytes → ⊥) →
+refuses : (s : Status ⊤) (c : Call) (v : View) (file bytes : Text) → Holds (program c) c.left s → Asks c.words v file → c.file file ≡ Some bytes → ((J : List Event) → journal_text J ≡ bytes → ⊥) →
     (Grew c.left.read_faults → ⊥) → (number_of (λ _. 0) s ≡ 3) ⊎ (number_of (λ _. 0) s ≡ 7)
 refuses (Concluded shows) c v file bytes h asks at none still =
     absurd (none h.prints.shown.journal (of-named (λ b. journal_text h.prints.shown.journal ≡ b) c.words h.prints.view v h.prints.file file bytes c.file h.prints.asks asks at h.prints.shown.reads))
@@ -52,7 +53,7 @@ refuses (Stopped CannotRead) c v file bytes h asks at none still = absurd (still
 refuses (Stopped OutOfMemory) c v file bytes h asks at none still = inr refl
 
 -- words that ask for nothing are refused
-refuses-words : (s : Status ⊤) (c : Call) → Holds s c → AsksNothing c.words → (number_of (λ _. 0) s ≡ 2) ⊎ (number_of (λ _. 0) s ≡ 7)
+refuses-words : (s : Status ⊤) (c : Call) → Holds (program c) c.left s → AsksNothing c.words → (number_of (λ _. 0) s ≡ 2) ⊎ (number_of (λ _. 0) s ≡ 7)
 refuses-words (Concluded v) c h none = absurd (none h.prints.view h.prints.file h.prints.asks)
 refuses-words CannotWrite c h none = absurd (none h.prints.view h.prints.file h.prints.asks)
 refuses-words (Stopped BadWords) c h none = inl refl
@@ -63,9 +64,9 @@ refuses-words (Stopped CannotRead) c h none = absurd (none h.cause.0.view h.caus
 refuses-words (Stopped OutOfMemory) c h none = inr refl
 
 -- a call that ended with this exit status is answered
-pub answered : (n : ℕ) (c : Call) → EndsBy n c → IsAnswered n c
+pub answered : (n : ℕ) (c : Call) → EndsBy (program c) c.left n → IsAnswered n c
 answered n c ends = by ends.0 ends.1 ends.2 where
-  by : (s : Status ⊤) → n ≡ number_of (λ _. 0) s → Holds s c → IsAnswered n c
+  by : (s : Status ⊤) → n ≡ number_of (λ _. 0) s → Holds (program c) c.left s → IsAnswered n c
   by s is h = subst (λ m. IsAnswered m c) (sym is) (record {
     cause = (s, refl, h);
     complete = λ v file J asks at are still quiet. shown s c v file J h asks at are still quiet;

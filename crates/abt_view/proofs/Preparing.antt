@@ -8,7 +8,7 @@ use Rattle.abt_shell.specs.declared.status.Stop.{Stop}
 use Rattle.abt_shell.specs.declared.status.Wrong.{Wrong}
 use Rattle.abt_shell.specs.declared.status.Wrong.TheVariants.{Workload, Journal, Lives}
 use Rattle.abt_shell.proofs.Fetched.{stops-file}
-use Rattle.abt_view.specs.Call.{AsksNothing, HasNoJournal, IsBadLine, IsNoJournalLine, IsWrongAt, NamesFile, Stops}
+use Rattle.abt_view.specs.Call.{AsksNothing, HasNoJournal, IsBadLine, IsNoJournalLine, IsWrongAt, NamesFile, StopsView}
 use Rattle.abt_view.specs.Views.{Asks}
 use Rattle.abt_view.specs.declared.views.View.{View}
 
@@ -17,7 +17,7 @@ pub wrong-line : (bytes : Text) (cause : TextFault) (line l : ℕ) → cause ≡
 wrong-line bytes cause line l is same why = subst (λ k. IsWrongAt k bytes) (sym same) (subst (IsCause bytes) is why)
 
 -- why the file has no journal is why the call stops
-pub no-journal-stops : (words : List Text) (file_of : Text → Option Text) (v : View) (file : Text) → Asks words v file → (s : Stop) (faults : ℕ × ℕ) → HasNoJournal (file_of file) faults s → Stops words file_of faults s
+pub no-journal-stops : (words : List Text) (file_of : Text → Option Text) (v : View) (file : Text) → Asks words v file → (s : Stop) (faults : ℕ × ℕ) → HasNoJournal (file_of file) faults s → StopsView words file_of faults s
 no-journal-stops words file_of v file asks s faults =
     stops-file (AsksNothing words) (NamesFile words) (IsNoJournalLine (file_of file)) (IsBadLine words file_of) faults faults (record { view = v; file = file; asks = asks }) bad (λ grew. grew) s where
       bad : (line : ℕ) (w : Wrong) → IsNoJournalLine (file_of file) line w → IsBadLine words file_of line w

@@ -8,10 +8,8 @@ use Rattle.abt_report.specs.Journals.{IsBadAt, IsEvent, IsNoJournal}
 use Rattle.abt_shell.specs.declared.status.Stop.{Stop}
 use Rattle.abt_shell.specs.declared.status.Wrong.{Wrong}
 use Rattle.abt_shell.specs.declared.status.Wrong.TheVariants.{Workload, Journal, Lives}
-use Rattle.abt_shell.specs.Calls.{Left, Program}
-use Rattle.abt_shell.specs.Calls as calls
+use Rattle.abt_shell.specs.Calls.{EndsBy, Left, Program}
 use Rattle.abt_shell.specs.Fetched.{HasNot, StopsFor}
-use Rattle.abt_shell.specs.Status.{Status}
 use Rattle.abt_shell.specs.Told.{Grew}
 use Rattle.abt_view.specs.declared.views.View.{View}
 use Rattle.abt_view.specs.Views.{Asks, view_text}
@@ -75,8 +73,8 @@ IsBadLine words file_of line Journal = NamesSuch words file_of (IsWrongAt line)
 IsBadLine words file_of line Lives = ⊥
 
 -- by the words, the files, and the count of faults of reading before and afterwards
-abbrev pub Stops : List Text → (Text → Option Text) → ℕ × ℕ → Stop → Type 0
-Stops words file_of = StopsFor (AsksNothing words) (NamesFile words) (IsBadLine words file_of)
+abbrev pub StopsView : List Text → (Text → Option Text) → ℕ × ℕ → Stop → Type 0
+StopsView words file_of = StopsFor (AsksNothing words) (NamesFile words) (IsBadLine words file_of)
 
 -- What each status says.
 
@@ -86,15 +84,8 @@ program c = record {
   name = codes "abtview";
   number = λ _. 0;
   Prints = λ _. IsViewOf c.words c.file;
-  Stops = Stops c.words c.file c.left.read_faults;
+  Stops = StopsView c.words c.file c.left.read_faults;
 }
-
-abbrev pub Holds : Status ⊤ → Call → Type 0
-Holds status c = calls.Holds (program c) c.left status
-
--- the call ended with this exit status, which has its cause
-abbrev pub EndsBy : ℕ → Call → Type 0
-EndsBy n c = calls.EndsBy (program c) c.left n
 
 -- if the words ask for the view of a journal, and no fault of reading or writing comes, it is written
 abbrev pub IsComplete : ℕ → Call → Type 0
@@ -112,7 +103,7 @@ RefusesWords n c = AsksNothing c.words → (n ≡ 2) ⊎ (n ≡ 7)
 
 -- the exit status of a call has its cause, and the status comes if its cause holds
 pub record IsAnswered (n : ℕ) (c : Call) : Type 0 where
-  pub cause : EndsBy n c
+  pub cause : EndsBy (program c) c.left n
   pub complete : IsComplete n c
   pub texts : RefusesTexts n c
   pub words : RefusesWords n c

@@ -14,17 +14,17 @@ pub record NestValue : Type 0 where
   pub last : ℕ
 
 -- a scheduler unit begins a frame, within so many others
-abbrev pub entered : ℕ → Event → ℕ → Frame
-entered depth e u = record { stream = e.stream.0; unit = u; depth = depth; since = e.stamp; until = e.stamp }
+abbrev pub frame_begun : ℕ → Event → ℕ → Frame
+frame_begun depth e u = record { stream = e.stream.0; unit = u; depth = depth; since = e.stamp; until = e.stamp }
 
 -- the frame lasts until that stamp
 abbrev pub lasting : ℕ → Frame → Frame
 lasting t frame = record frame { until = t }
 
 -- the innermost frame is left, if there is one
-abbrev pub left_by : NestValue → Option Frame → NestValue
-left_by nest None = nest
-left_by nest (Some frame) = record nest { past = nest.past ++ lasting nest.last frame ∷ []; inside = take (length nest.inside - 1) nest.inside }
+abbrev pub frame_left : NestValue → Option Frame → NestValue
+frame_left nest None = nest
+frame_left nest (Some frame) = record nest { past = nest.past ++ lasting nest.last frame ∷ []; inside = take (length nest.inside - 1) nest.inside }
 
 -- what an event of the stream makes of its frames: an enter begins one, and a leave ends the innermost
 abbrev pub nested : NestValue → Event → What → NestValue
@@ -34,8 +34,8 @@ nested nest e (what.Look u) = nest
 nested nest e (what.Step u k c) = nest
 nested nest e (what.Put u p) = nest
 nested nest e (what.End u c) = nest
-nested nest e (what.Enter u) = record nest { inside = nest.inside ++ entered (length nest.inside) e u.0 ∷ [] }
-nested nest e (what.Leave u) = left_by nest (slice_get nest.inside (length nest.inside - 1))
+nested nest e (what.Enter u) = record nest { inside = nest.inside ++ frame_begun (length nest.inside) e u.0 ∷ [] }
+nested nest e (what.Leave u) = frame_left nest (slice_get nest.inside (length nest.inside - 1))
 
 -- an event of stream s is judged, and that of another is in none of its frames
 abbrev pub framed : ℕ → NestValue → Event → NestValue
@@ -50,9 +50,9 @@ abbrev pub frames_in : NestValue → List Frame
 frames_in nest = map (lasting nest.last) nest.inside ++ reverse nest.past
 
 -- the frames of stream s in a journal
-abbrev pub frames_of : List Event → ℕ → List Frame
-frames_of J s = frames_in (fold (framed s) unnested J)
+abbrev pub frames_in_lane : List Event → ℕ → List Frame
+frames_in_lane J s = frames_in (fold (framed s) unnested J)
 
 -- the frames of the streams that a picture shows
 abbrev pub all_frames : List Event → List Frame
-all_frames J = flat_map (frames_of J) (range_with_len 0 (streams_in J))
+all_frames J = flat_map (frames_in_lane J) (range_with_len 0 (streams_in J))

@@ -38,5 +38,5 @@ abbrev pub refused_in : List Event → ℕ
 refused_in J = count_by (λ (e : Event). is_refused e.what) J
 
 -- the greatest stamp of a journal
-abbrev pub last_stamp : List Event → ℕ
-last_stamp J = fold (λ n (e : Event). max n e.stamp) 0 J
+abbrev pub greatest_stamp : List Event → ℕ
+greatest_stamp J = fold (λ n (e : Event). max n e.stamp) 0 J

@@ -12,7 +12,7 @@ use Rattle.abt_view.specs.declared.pictures.TheConstants.{FOOT, LEGEND, STYLE, T
 use Rattle.abt_view.specs.declared.stretches.Stretch.{Stretch}
 use Rattle.abt_view.specs.Arrows.{arrows_of}
 use Rattle.abt_view.specs.Frames.{all_frames}
-use Rattle.abt_view.specs.Kinds.{kind_word, last_stamp, refused_in}
+use Rattle.abt_view.specs.Kinds.{kind_word, greatest_stamp, refused_in}
 use Rattle.abt_view.specs.Stretches.{all_stretches, streams_in}
 
 -- a number between two texts
@@ -51,19 +51,19 @@ abbrev pub point_text : Text → Spot → ℕ → Text → Text
 point_text before at down after = around before at.stamp (codes "5 ") ++ around [] (48 * at.stream + down) after
 
 -- a line from event to event that names a unit
-abbrev pub line_text : ℕ → Spot → Spot → Text
-line_text u from to =
+abbrev pub line_shape : ℕ → Spot → Spot → Text
+line_shape u from to =
     point_text (codes "<path class='arrow' d='M") from 31 (codes "C")
     ++ (point_text [] from 39 (codes " ") ++ (point_text [] to 39 (codes " ") ++ (point_text [] to 31 (codes "'><title>unit ") ++ around [] u (codes "</title></path>\n"))))
 
 -- the line from the event that sent the unit, and that to where it is taken
 abbrev pub sent_text : ℕ → Option Spot → Spot → Text
 sent_text u None put = []
-sent_text u (Some sent) put = line_text u sent put
+sent_text u (Some sent) put = line_shape u sent put
 
 abbrev pub taken_text : ℕ → Spot → Option Spot → Text
 taken_text u put None = []
-taken_text u put (Some taken) = line_text u put taken
+taken_text u put (Some taken) = line_shape u put taken
 
 abbrev pub lines_text : Arrow → Text
 lines_text a = sent_text a.unit a.sent a.put ++ taken_text a.unit a.put a.taken
@@ -90,7 +90,7 @@ counts_text J = around (codes "<text class='counts' x='-62' y='-36'>events ") (l
 
 -- what stands before the bars
 abbrev pub head_text : List Event → Text
-head_text J = size_text (max (10 * last_stamp J + 120) 560) (48 * streams_in J + 100) ++ (STYLE.now ++ counts_text J)
+head_text J = size_text (max (10 * greatest_stamp J + 120) 560) (48 * streams_in J + 100) ++ (STYLE.now ++ counts_text J)
 
 -- the kinds of marks, below so many lanes
 abbrev pub legend_text : ℕ → Text
@@ -98,7 +98,7 @@ legend_text streams = around (codes "<g transform='translate(-62 ") (48 * stream
 
 -- the axis, the names of the streams, and the kinds of marks
 abbrev pub axis_text : List Event → Text
-axis_text J = flat_map tick_text (range_with_len 1 (last_stamp J / 10)) ++ (flat_map lane_text (range_with_len 0 (streams_in J)) ++ legend_text (streams_in J))
+axis_text J = flat_map tick_text (range_with_len 1 (greatest_stamp J / 10)) ++ (flat_map lane_text (range_with_len 0 (streams_in J)) ++ legend_text (streams_in J))
 
 -- the picture
 abbrev pub picture_text : List Event → Text
@@ -107,7 +107,7 @@ picture_text J =
 
 -- a journal that is drawn: of at most 20,000 events, and with no stamp beyond
 abbrev pub is_small : List Event → Bool
-is_small J = nat_le (length J) 20000 && nat_le (last_stamp J) 20000
+is_small J = nat_le (length J) 20000 && nat_le (greatest_stamp J) 20000
 
 -- the svg: the picture, or a line that says that it would be too long
 abbrev pub svg_text : List Event → Text

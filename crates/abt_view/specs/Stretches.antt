@@ -52,15 +52,15 @@ abbrev pub closed : Cut → Cut
 closed cut = closed_by cut.past cut.held
 
 -- what an event makes of the stretches so far
-abbrev pub turned : Cut → Event → Turn → Cut
-turned cut e (Begins u) = record { past = (closed cut).past; held = Some (begun u e) }
-turned cut e GoesOn = record { past = cut.past; held = option_map (λ (stretch : Stretch). longer stretch e) cut.held }
-turned cut e Ends = closed cut
-turned cut e Stays = cut
+abbrev pub cut_by : Cut → Event → Turn → Cut
+cut_by cut e (Begins u) = record { past = (closed cut).past; held = Some (begun u e) }
+cut_by cut e GoesOn = record { past = cut.past; held = option_map (λ (stretch : Stretch). longer stretch e) cut.held }
+cut_by cut e Ends = closed cut
+cut_by cut e Stays = cut
 
 -- an event of stream s is judged, and that of another is none of its stretches
-abbrev pub advanced : ℕ → Cut → Event → Cut
-advanced s cut e = if e.stream.0 == s then turned cut e (turn_of cut.held e.what) else cut
+abbrev pub cut_at : ℕ → Cut → Event → Cut
+cut_at s cut e = if e.stream.0 == s then cut_by cut e (turn_of cut.held e.what) else cut
 
 -- before the first event
 abbrev pub uncut : Cut
@@ -68,7 +68,7 @@ uncut = record { past = []; held = None }
 
 -- the stretches of stream s in a journal
 abbrev pub stretches_of : List Event → ℕ → List Stretch
-stretches_of J s = (closed (fold (advanced s) uncut J)).past
+stretches_of J s = (closed (fold (cut_at s) uncut J)).past
 
 -- how many streams a picture shows: up to the greatest that has an event, and at most as many as a workload may have
 abbrev pub streams_in : List Event → ℕ

@@ -1,7 +1,7 @@
 //! The frames of a stream.
 
 ghost use Rattle.std.specs.Prelude.{◌≡◌, ◌-◌, IfOk, OnOk, length, slice_get};
-ghost use Rattle.abt_view.specs.Frames.{all_frames as frames_of_all, entered, framed, frames_in, frames_of, lasting, left_by, nested, unnested};
+ghost use Rattle.abt_view.specs.Frames.{all_frames as frames_of_all, frame_begun, framed, frames_in, frames_in_lane, lasting, frame_left, nested, unnested};
 
 use crate::stretches::count_streams;
 use abt_machine::{Event, Want, What};
@@ -37,7 +37,7 @@ impl Model for Nest {
 
 // The frame of a scheduler unit that enters, within so many others.
 fn enter(event: Event, u: u32, depth: u64) -> Frame
-    ensures { result ≡ entered depth event u }
+    ensures { result ≡ frame_begun depth event u }
 {
     Frame {
         stream: event.stream.0,
@@ -72,7 +72,7 @@ impl Nest {
 
     // Leaves the innermost frame, if there is one.
     fn leave(&mut self) -> Result<(), Want>
-        ensures { OnOk result (self.new ≡ left_by self.old (slice_get self.old.inside (length self.old.inside - 1))) }
+        ensures { OnOk result (self.new ≡ frame_left self.old (slice_get self.old.inside (length self.old.inside - 1))) }
     {
         let Some(frame) = self.inside.last().copied() else {
             return Ok(());
@@ -134,7 +134,7 @@ impl Nest {
 
 // The frames of stream s.
 fn frames(alloc: Global, journal: &[Event], s: u64) -> Result<Vec<Frame>, Want>
-    ensures { IfOk result (λ frames. frames.items ≡ frames_of journal.now s) }
+    ensures { IfOk result (λ frames. frames.items ≡ frames_in_lane journal.now s) }
 {
     let mut nest = Nest::start(alloc);
     for event in journal {

@@ -1,7 +1,7 @@
 //! Kinds of events, and counts of a journal.
 
 ghost use Rattle.std.specs.Prelude.{◌≡◌};
-ghost use Rattle.abt_view.specs.Kinds.{is_refused as is_refused_of, kind_word, last_stamp, refused_in, step_word as step_word_of};
+ghost use Rattle.abt_view.specs.Kinds.{is_refused as is_refused_of, kind_word, greatest_stamp, refused_in, step_word as step_word_of};
 
 use abt_machine::{Code, Event, What};
 use abt_report::name_of_cause;
@@ -53,7 +53,7 @@ pub(crate) fn count_refused(journal: &[Event]) -> u64
 
 // The greatest stamp, 0 of no event.
 pub(crate) fn greatest_stamp(journal: &[Event]) -> u64
-    ensures { result ≡ last_stamp journal.now }
+    ensures { result ≡ greatest_stamp journal.now }
 {
     let mut last = 0;
     for event in journal {

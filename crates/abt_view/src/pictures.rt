@@ -2,8 +2,8 @@
 
 ghost use Rattle.std.specs.Prelude.{◌≡◌, ◌*◌, ◌++◌, ◌<◌, ◌≤◌, IfOk, OnOk, flat_map};
 ghost use Rattle.std.specs.List.{range_with_len};
-ghost use Rattle.abt_view.specs.Kinds.{last_stamp};
-ghost use Rattle.abt_view.specs.Picture.{axis_text, bar_place, bar_shape, bar_text, bar_title, counts_text, frame_place, frame_shape, frame_text, head_text, is_small, lane_text, legend_text, line_text, lines_text, margin_of, mark_text, picture_text, point_text, sent_text, size_text, svg_text, taken_text, tick_text};
+ghost use Rattle.abt_view.specs.Kinds.{greatest_stamp};
+ghost use Rattle.abt_view.specs.Picture.{axis_text, bar_place, bar_shape, bar_text, bar_title, counts_text, frame_place, frame_shape, frame_text, head_text, is_small, lane_text, legend_text, line_shape, lines_text, margin_of, mark_text, picture_text, point_text, sent_text, size_text, svg_text, taken_text, tick_text};
 
 use crate::arrows::{Arrow, Spot, all_arrows};
 use crate::frames::{Frame, all_frames};
@@ -179,7 +179,7 @@ fn push_point(
 
 // Appends a line from event to event that names a unit.
 fn push_line(out: &mut Vec<u8>, u: u32, from: Spot, to: Spot) -> Result<(), Want>
-    ensures { OnOk result (out.new.items ≡ out.old.items ++ line_text u from to) }
+    ensures { OnOk result (out.new.items ≡ out.old.items ++ line_shape u from to) }
 {
     push_point(out, b"<path class='arrow' d='M", from, 31, b"C")?;
     push_point(out, b"", from, 39, b" ")?;
@@ -275,7 +275,7 @@ fn push_counts(out: &mut Vec<u8>, journal: &[Event]) -> Result<(), Want>
 
 // Appends what stands before the bars.
 fn push_head(out: &mut Vec<u8>, journal: &[Event]) -> Result<(), Want>
-    requires { last_stamp journal.now ≤ 20000 }
+    requires { greatest_stamp journal.now ≤ 20000 }
     ensures { OnOk result (out.new.items ≡ out.old.items ++ head_text journal.now) }
 {
     let last = greatest_stamp(journal);
@@ -325,7 +325,7 @@ fn push_legend(out: &mut Vec<u8>, streams: u64) -> Result<(), Want>
 
 // Appends the axis, the names of the streams and the kinds of marks.
 fn push_axis(out: &mut Vec<u8>, journal: &[Event]) -> Result<(), Want>
-    requires { last_stamp journal.now ≤ 20000 }
+    requires { greatest_stamp journal.now ≤ 20000 }
     ensures { OnOk result (out.new.items ≡ out.old.items ++ axis_text journal.now) }
 {
     let last = greatest_stamp(journal);
@@ -377,7 +377,7 @@ fn push_arrows(out: &mut Vec<u8>, arrows: &[Arrow]) -> Result<(), Want>
 
 // The picture of a journal whose stamps are small.
 fn picture(alloc: Global, journal: &[Event]) -> Result<Vec<u8>, Want>
-    requires { last_stamp journal.now ≤ 20000 }
+    requires { greatest_stamp journal.now ≤ 20000 }
     ensures { IfOk result (λ text. text.items ≡ picture_text journal.now) }
 {
     let frames = all_frames(alloc, journal)?;

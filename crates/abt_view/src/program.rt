@@ -3,7 +3,7 @@
 ghost use Rattle.std.specs.Prelude.{◌≡◌, ◌≤◌, IfErr, IfOk, IfSome, map, string_bytes};
 ghost use Rattle.abt_machine.specs.Texts.{journal_text};
 ghost use Rattle.abt_shell.specs.Calls.{left};
-ghost use Rattle.abt_view.specs.Call.{HasNoJournal, IsAnswered, IsFileView, IsViewOf, Stops};
+ghost use Rattle.abt_view.specs.Call.{HasNoJournal, IsAnswered, IsFileView, IsViewOf, StopsView};
 
 use crate::views::{View, asked, view_text};
 use abt_machine::Journal;
@@ -54,7 +54,7 @@ fn prepare_view<F: Files>(
 // All of a call but its writes: the text of the view.
 fn prepare<F: Files>(alloc: Global, words: &[String], files: &mut F) -> Result<Vec<u8>, Stop>
     ensures done { IfOk result (λ text. IsViewOf (map string_bytes words.now) (λ name. F.file files.old name) text.items) }
-    ensures stop { IfErr result (Stops (map string_bytes words.now) (λ name. F.file files.old name) (F.faults files.old, F.faults files.new)) }
+    ensures stop { IfErr result (StopsView (map string_bytes words.now) (λ name. F.file files.old name) (F.faults files.old, F.faults files.new)) }
     ensures later { F.faults files.old ≤ F.faults files.new }
 {
     match asked(words) {

@@ -1,7 +1,7 @@
 //! The stretches of a stream.
 
 ghost use Rattle.std.specs.Prelude.{◌≡◌, ◌++◌, ◌∷◌, [], IfOk};
-ghost use Rattle.abt_view.specs.Stretches.{advanced, all_stretches as stretches_of_all, begun, closed, goes_on_or_begins as turn_by, goes_on_or_stays as stays_by, is_held as is_held_by, longer as longer_by, streams_in, stretches_of, turn_of as turn_at, turned};
+ghost use Rattle.abt_view.specs.Stretches.{cut_at, all_stretches as stretches_of_all, begun, closed, goes_on_or_begins as turn_by, goes_on_or_stays as stays_by, is_held as is_held_by, longer as longer_by, streams_in, stretches_of, turn_of as turn_at, cut_by};
 
 use abt_machine::{Event, Format, Items, Journal, Want, What};
 use std::alloc::Global;
@@ -137,7 +137,7 @@ fn close(cut: Cut) -> Result<Cut, Want>
 
 // The stretch so far is over, and an event begins another.
 fn begin_another(alloc: Global, cut: Cut, u: u32, event: Event) -> Result<Cut, Want>
-    ensures { IfOk result (λ new. new ≡ turned cut event (Turn.Begins u)) }
+    ensures { IfOk result (λ new. new ≡ cut_by cut event (Turn.Begins u)) }
 {
     let Cut { past, held: _ } = close(cut)?;
     let stretch = begin(alloc, u, event)?;
@@ -149,7 +149,7 @@ fn begin_another(alloc: Global, cut: Cut, u: u32, event: Event) -> Result<Cut, W
 
 // The stretch so far goes on with an event.
 fn go_on(cut: Cut, event: Event) -> Result<Cut, Want>
-    ensures { IfOk result (λ new. new ≡ turned cut event Turn.GoesOn) }
+    ensures { IfOk result (λ new. new ≡ cut_by cut event Turn.GoesOn) }
 {
     let Cut { past, held } = cut;
     match held {
@@ -166,7 +166,7 @@ fn go_on(cut: Cut, event: Event) -> Result<Cut, Want>
 
 // What an event makes of the stretches so far.
 fn take_turn(alloc: Global, cut: Cut, event: Event, turn: Turn) -> Result<Cut, Want>
-    ensures { IfOk result (λ new. new ≡ turned cut event turn) }
+    ensures { IfOk result (λ new. new ≡ cut_by cut event turn) }
 {
     match turn {
         Turn::Begins(u) => begin_another(alloc, cut, u, event),
@@ -178,7 +178,7 @@ fn take_turn(alloc: Global, cut: Cut, event: Event, turn: Turn) -> Result<Cut, W
 
 // What an event makes of the stretches of stream s.
 fn advance(alloc: Global, s: u64, cut: Cut, event: Event) -> Result<Cut, Want>
-    ensures { IfOk result (λ new. new ≡ advanced s cut event) }
+    ensures { IfOk result (λ new. new ≡ cut_at s cut event) }
 {
     if u64::from(event.stream.0) == s {
         let turn = turn_of(&cut.held, event.what);

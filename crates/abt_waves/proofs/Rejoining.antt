@@ -25,11 +25,11 @@ use Rattle.abt_simulation.specs.Journals.{events_of}
 use Rattle.abt_simulation.specs.Merging.{SiteEntry, StreamDeed, event_of, machine_of}
 use Rattle.abt_simulation.proofs.Merged.{tells-sites}
 use Rattle.abt_commons.specs.Held.{ObjectsValue}
-use Rattle.abt_commons.specs.Sights.{Call}
+use Rattle.abt_commons.specs.Sights.{SiteCall}
 use Rattle.abt_laws.proofs.Options.{some-injective}
 use Rattle.abt_stream.specs.Streams.{FitsShapes, StreamValue}
-use Rattle.abt_drain.specs.Crews.{clock_from, log_from, moment_of}
-use Rattle.abt_drain.specs.Looks.{AreStreams, IsStream, held_from}
+use Rattle.abt_drain.specs.Crews.{stream_clock, log_from, moment_of}
+use Rattle.abt_drain.specs.Looks.{AreStreams, IsStreamOf, held_from}
 use Rattle.abt_drain.specs.Moments.{HasCome, Moment, made_at}
 use Rattle.abt_drain.proofs.Coming.{come-clock-low, come-stream-unworn}
 use Rattle.abt_waves.specs.declared.voyages.Returned.{Returned}
@@ -109,14 +109,14 @@ module _ {Lock Pass : Type 0} (IsOf : Pass → Type 0) (locks : LocksValue Lock 
     more s = more-by s (slice_get streams s) refl
 
     -- what each pass saw
-    abbrev seen : ℕ → Lock → List Call
+    abbrev seen : ℕ → Lock → List SiteCall
     seen s l = sights_from locks (slice_get (map pass_in returned) s) l
 
-    gone-by : (s : ℕ) (o : Option StreamValue) (e : slice_get streams s ≡ o) → s < W.streams → last_stamp (deed_stamps (come.deeds s)) ≡ clock_from o →
+    gone-by : (s : ℕ) (o : Option StreamValue) (e : slice_get streams s ≡ o) → s < W.streams → last_stamp (deed_stamps (come.deeds s)) ≡ stream_clock o →
         Gone M lock locks.carried s (last_stamp (deed_stamps (come.deeds s))) (held_from (start_part W s) o) (more-by s o e) (now.parts s) (seen s)
     gone-by s None e lt clock = absurd (declared s e lt)
     gone-by s (Some stream) e lt clock =
-        subst (λ (q : ℕ × ℕ × Held × (Lock → List Call)). Gone M lock locks.carried q.0 q.1 stream.held (came s stream e).gone.deeds q.2 q.3)
+        subst (λ (q : ℕ × ℕ × Held × (Lock → List SiteCall)). Gone M lock locks.carried q.0 q.1 stream.held (came s stream e).gone.deeds q.2 q.3)
         (λ i. (numbered s stream e i, sym clock i, held_from (start_part W s) (sym (stream-back s stream e) i), λ l. sights_from locks (sym (pass-back s stream e) i) l))
         (came s stream e).gone.gone
 
@@ -163,11 +163,11 @@ module _ {Lock Pass : Type 0} (IsOf : Pass → Type 0) (locks : LocksValue Lock 
         map-append event_of (come.deeds s) (came s stream e).gone.deeds
         ∙ (ap (λ es. es ++ map event_of (came s stream e).gone.deeds) had ∙ (sym (came s stream e).gone.log ∙ sym (ap log_from (stream-back s stream e))))
 
-    clocks-by : (s : ℕ) (o : Option StreamValue) (e : slice_get streams s ≡ o) → last_stamp (deed_stamps (come.deeds s)) ≡ clock_from o → last_stamp (deed_stamps (come.deeds s ++ more-by s o e)) ≡ now.clocks s
-    clocks-by s None e had = last-append (λ (d : StreamDeed). d.stamp) 0 (come.deeds s) [] ∙ (had ∙ sym (ap clock_from (none-back s e)))
+    clocks-by : (s : ℕ) (o : Option StreamValue) (e : slice_get streams s ≡ o) → last_stamp (deed_stamps (come.deeds s)) ≡ stream_clock o → last_stamp (deed_stamps (come.deeds s ++ more-by s o e)) ≡ now.clocks s
+    clocks-by s None e had = last-append (λ (d : StreamDeed). d.stamp) 0 (come.deeds s) [] ∙ (had ∙ sym (ap stream_clock (none-back s e)))
     clocks-by s (Some stream) e had =
         last-append (λ (d : StreamDeed). d.stamp) 0 (come.deeds s) (came s stream e).gone.deeds
-        ∙ (ap (λ t. last_from t (deed_stamps (came s stream e).gone.deeds)) had ∙ (sym (came s stream e).gone.clock ∙ sym (ap clock_from (stream-back s stream e))))
+        ∙ (ap (λ t. last_from t (deed_stamps (came s stream e).gone.deeds)) had ∙ (sym (came s stream e).gone.clock ∙ sym (ap stream_clock (stream-back s stream e))))
 
     few-by : (s : ℕ) (o : Option StreamValue) → slice_get streams s ≡ o → length (now.logs s) ≤ 2 ^ 57
     few-by s None e = subst (λ es. length es ≤ 2 ^ 57) (sym (ap log_from (none-back s e))) (omega arith)
@@ -208,7 +208,7 @@ module _ {Lock Pass : Type 0} (IsOf : Pass → Type 0) (locks : LocksValue Lock 
       many = length-map returned stream_in ∙ (many ∙ is.streams_are.many);
       own = λ s stream at. (
           let b = back-at s stream at (slice_get streams s) refl in
-          subst (IsStream W n s) b.2 (record {
+          subst (IsStreamOf W n s) b.2 (record {
             number = ap (λ (k : StreamNo). k.0) (came s b.0 b.1).gone.number ∙ numbered s b.0 b.1;
             fits = (came s b.0 b.1).has.fits;
             budget = (came s b.0 b.1).gone.budget ∙ (is.streams_are.own s b.0 b.1).budget;
@@ -237,9 +237,9 @@ module _ {Lock Pass : Type 0} (IsOf : Pass → Type 0) (locks : LocksValue Lock 
     new-logs-by s None e = ap log_from (none-back s e) ∙ sym (append-nil [])
     new-logs-by s (Some stream) e = ap log_from (stream-back s stream e) ∙ (came s stream e).gone.log
 
-    new-clocks-by : (s : ℕ) (o : Option StreamValue) (e : slice_get streams s ≡ o) → now.clocks s ≡ last_from (clock_from o) (deed_stamps (more-by s o e))
-    new-clocks-by s None e = ap clock_from (none-back s e)
-    new-clocks-by s (Some stream) e = ap clock_from (stream-back s stream e) ∙ (came s stream e).gone.clock
+    new-clocks-by : (s : ℕ) (o : Option StreamValue) (e : slice_get streams s ≡ o) → now.clocks s ≡ last_from (stream_clock o) (deed_stamps (more-by s o e))
+    new-clocks-by s None e = ap stream_clock (none-back s e)
+    new-clocks-by s (Some stream) e = ap stream_clock (stream-back s stream e) ∙ (came s stream e).gone.clock
 
     abbrev wave-histories : Site → List SiteEntry
     wave-histories = histories_of M lock wave-left.lines
@@ -278,7 +278,7 @@ module _ {Lock Pass : Type 0} (IsOf : Pass → Type 0) (locks : LocksValue Lock 
           (max-low (came s stream e).back.stream.clock (locks.carried (lock met.0)) (2 ^ 62) own-low (carried-low (lock met.0))) (seen-low (lock met.0)) in let q = met.1 in omega arith)
     ] where
       own-low : (came s stream e).back.stream.clock < 2 ^ 62
-      own-low = subst (λ k. k < 2 ^ 62) (ap clock_from (stream-back s stream e)) (come-stream-unworn W Z is.valid is.stored n now come-after s)
+      own-low = subst (λ k. k < 2 ^ 62) (ap stream_clock (stream-back s stream e)) (come-stream-unworn W Z is.valid is.stored n now come-after s)
 
       carried-low : (l : Lock) → locks.carried l < 2 ^ 62
       carried-low l = come-clock-low W Z is.valid is.stored n was come (locks.carried l) (subst (IsClock M come.deeds) (sym (carried-at l)) (is.have.clocks l))
@@ -292,7 +292,7 @@ module _ {Lock Pass : Type 0} (IsOf : Pass → Type 0) (locks : LocksValue Lock 
           let known : Extends s (sights_from locks (Some (came s stream e).back.pass) l) k.line = subst (λ o. Extends s (sights_from locks o l) k.line) (pass-back s stream e) (k.is_line.seen s declares) in
           let low : last_stamp (entry_stamps (locks.sights (came s stream e).back.pass l)) ≤ last_stamp (entry_stamps k.line) =
           subst (λ line. last_stamp (entry_stamps (locks.sights (came s stream e).back.pass l)) ≤ last_stamp (entry_stamps line)) known.0.1
-          (prefix-low (λ (c : Call). c.stamp) 0 (locks.sights (came s stream e).back.pass l) known.0.0 (subst (λ (line : List Call). RisesAbove 0 (entry_stamps line)) (sym known.0.1) k.is_line.rises)) in
+          (prefix-low (λ (c : SiteCall). c.stamp) 0 (locks.sights (came s stream e).back.pass l) known.0.0 (subst (λ (line : List SiteCall). RisesAbove 0 (entry_stamps line)) (sym known.0.1) k.is_line.rises)) in
           let closes : left.closing l ≡ last_stamp (entry_stamps k.line) = k.last in
           let next : clock held l ≡ max (locks.carried l) (left.closing l) = left.clocks l in
           let end : clock held l < 2 ^ 62 = come-clock-low W Z is.valid is.stored n now come-after (clock held l) (have-after.clocks l) in

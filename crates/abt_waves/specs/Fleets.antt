@@ -16,7 +16,7 @@ use Rattle.abt_commons.specs.Held.{ObjectsValue}
 use Rattle.abt_stream.specs.Streams.{FitsShapes, StreamValue}
 use Rattle.abt_drain.specs.Crews.{moment_of}
 use Rattle.abt_drain.specs.Looks.{AreStreams}
-use Rattle.abt_drain.specs.Moments.{HasCome, IsReached, Moment}
+use Rattle.abt_drain.specs.Moments.{HasCome, IsReachedMoment, Moment}
 use Rattle.abt_waves.specs.Locks.{TellsSites}
 
 -- the streams of a valid W with these stored orders, which may make n steps each, and the objects that they share, at a moment that
@@ -27,7 +27,7 @@ pub record IsFleet (W : Parts) (Z : List OrderShape) (n : ℕ) (objects : Object
   pub workload : objects.workload ≡ W
   pub streams_are : AreStreams W n streams
   pub shapes : (s : ℕ) (stream : StreamValue) → slice_get streams s ≡ Some stream → FitsShapes W Z stream
-  pub reached : IsReached W Z n (moment_of W streams objects)
+  pub reached : IsReachedMoment W Z n (moment_of W streams objects)
 
 -- a wave leads from one moment to the other: what each stream did in it, and what each site was asked. Stamps rise from the clocks
 -- before it. A stream that is not live did nothing.

@@ -4,7 +4,7 @@ use Rattle.abt_machine.specs.declared.events.Site.{Site}
 use Rattle.abt_machine.specs.Acts as asked
 use Rattle.abt_commons.specs.Held.{ObjectsValue, object_at}
 use Rattle.abt_commons.specs.Replies.{Told}
-use Rattle.abt_commons.specs.Sights.{Call, Leaves, Shows}
+use Rattle.abt_commons.specs.Sights.{SiteCall, Leaves, Shows}
 
 -- locks round the objects of a workload, for so many streams: of each lock the clock that was carried to it, and of a pass the number of
 -- its stream and what it has seen of each lock's line
@@ -13,7 +13,7 @@ pub record LocksValue (Lock Pass : Type 0) : Type 0 where
   pub streams : ℕ
   pub carried : Lock → ℕ
   pub number : Pass → ℕ
-  pub sights : Pass → Lock → List Call
+  pub sights : Pass → Lock → List SiteCall
 
 -- each site has a lock of its own
 abbrev pub TellsSites : {Lock : Type 0} → (Site → Lock) → Type 0
@@ -24,7 +24,7 @@ module _ {Lock Pass : Type 0} (locks : LocksValue Lock Pass) where
   abbrev pub HasSeenNothing : Pass → Type 0
   HasSeenNothing pass = (l : Lock) → locks.sights pass l ≡ []
 
-  abbrev pub sights_from : Option Pass → Lock → List Call
+  abbrev pub sights_from : Option Pass → Lock → List SiteCall
   sights_from None l = []
   sights_from (Some pass) l = locks.sights pass l
 

@@ -9,7 +9,7 @@ use Rattle.abt_simulation.proofs.Merged.{tells-sites}
 use Rattle.abt_commons.specs.Held.{ObjectsValue, clock_at}
 use Rattle.abt_commons.specs.Placing.{ArePlaced}
 use Rattle.abt_commons.specs.declared.split.SplitPass.{SplitPass}
-use Rattle.abt_commons.specs.Splits.{SplitValue, carried_to, opening_of_split, sights_of, stream_of}
+use Rattle.abt_commons.specs.Splits.{SplitValue, carried_to, opening_of_split, sights_of, pass_stream}
 use Rattle.abt_waves.specs.Locks.{LocksValue}
 
 abbrev pub locks_of_split : SplitValue → LocksValue Site SplitPass
@@ -17,7 +17,7 @@ locks_of_split split = record {
   objects = opening_of_split split;
   streams = split.streams;
   carried = carried_to split;
-  number = stream_of;
+  number = pass_stream;
   sights = sights_of split;
 }
 

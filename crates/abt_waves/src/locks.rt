@@ -11,7 +11,7 @@ ghost use Rattle.abt_interleave.specs.Weaving.{TellsLocks};
 ghost use Rattle.abt_commons.specs.AllPasses.{AreAll};
 ghost use Rattle.abt_commons.specs.Held.{ObjectsValue, clock_at};
 ghost use Rattle.abt_commons.specs.Placing.{ArePlaced};
-ghost use Rattle.abt_commons.specs.Splits.{IsPassOf, opening_of_split, own_lock, stream_of};
+ghost use Rattle.abt_commons.specs.Splits.{IsPassOf, opening_of_split, own_lock, pass_stream};
 ghost use Rattle.abt_stream.specs.Heeding.{Heeds};
 ghost use Rattle.abt_stream.specs.Streams.{FitsShapes, FitsStream};
 ghost use Rattle.abt_stream.specs.Turned.{IsPrepared, IsReady, Turned};
@@ -172,7 +172,7 @@ impl<'w, R: Wait> Locking<'w, R> for Split<'w, R> {
 
     fn open(self, passes: Vec<SplitPass<'w>>) -> Objects<'w>
         requires valid { IsValid (opening_of_split self).workload }
-        requires passes { AreAll (IsPassOf self) stream_of self.streams passes.items }
+        requires passes { AreAll (IsPassOf self) pass_stream self.streams passes.items }
         ensures { AreClosed (locks_of_split self.entry) own_lock clock_at passes.entry.items result }
     {
         self.close(passes)

@@ -14,9 +14,9 @@ use Rattle.abt_machine.specs.Numbers.{object_no}
 use Rattle.abt_machine.specs.Workloads.{body_at, op_at, ops_of, start_from}
 use Rattle.abt_bounds.specs.Laws.{ops_in}
 use Rattle.abt_flow.specs.Effects.{Memory, added, effect, fresh, with_acc, with_number}
-use Rattle.abt_flow.specs.Flow.{AtPoint, Does, IsFlow, IsRow, Leads, Made, PutsOut, SetsTo, Starts}
+use Rattle.abt_flow.specs.Flow.{AtPoint, Executes, IsFlow, IsRow, Leads, Made, PutsOut, SetsTo, Starts}
 use Rattle.abt_generate.proofs.Lists.{none-some, some-same}
-use Rattle.flow_caller.specs.Meshes.{AreNumbers, IsNumbering, last_number, mesh, node_ops, node_unit, number_rows, numbers_of}
+use Rattle.flow_caller.specs.Meshes.{AreNumbers, IsNumbering, last_number, mesh, node_ops, node_unit, number_rows, numbers_below}
 use Rattle.flow_caller.specs.declared.nodes.Node.{Node}
 use Rattle.flow_caller.proofs.Confluence.{set-by-its-node}
 use Rattle.flow_caller.proofs.Lists.{each-get}
@@ -40,7 +40,7 @@ module _ (Found : ℕ → ℕ → Type 0) where
   passes-push [] o old mid new is leads = (new, subst (λ m. Leads Found (effect o) m new) is leads, refl)
   passes-push (p ∷ os) o old mid new is leads = (is.0, is.1, passes-push os o is.0 mid new is.2 leads)
 
-  does-some : (o : Option Op) (old new : Memory) → Does Found o old new → (p : Op) × (o ≡ Some p) × Leads Found (effect p) old new
+  does-some : (o : Option Op) (old new : Memory) → Executes Found o old new → (p : Op) × (o ≡ Some p) × Leads Found (effect p) old new
   does-some None old new is = absurd is
   does-some (Some p) old new is = (p, refl, is)
 
@@ -154,7 +154,7 @@ module _ (nodes : List Node) (f : ℕ → ℕ) (are : IsNumbering nodes f) where
       let put : PutsOut (mesh nodes) u (get_or rows u []) = put-out nodes u node (get_or rows u []) is (flow.each u (get_or rows u []) (slice_get-get_or rows u [] below)) in
       ap number_in (sym put.2 ∙ end-number (ops_in (mesh nodes)) u node put.0 is put.1)
 
-  numbers-found : (rows : List (List Piece)) → IsFlow (mesh nodes) rows → map number_in rows ≡ numbers_of f (length nodes)
+  numbers-found : (rows : List (List Piece)) → IsFlow (mesh nodes) rows → map number_in rows ≡ numbers_below f (length nodes)
   numbers-found rows flow =
       let count : length rows ≡ length nodes = flow.one_each ∙ mesh-units nodes in
       fill_by_all f (map number_in rows) (length nodes) 0 (length-map rows number_in ∙ count) (λ u below. get_or-map number_in rows u [] 0 (omega arith) ∙ row-number rows u flow (omega arith))

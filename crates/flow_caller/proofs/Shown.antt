@@ -13,14 +13,14 @@ use Rattle.abt_machine.specs.Lives.{count_up}
 use Rattle.abt_machine.specs.Runs.{last_state}
 use Rattle.abt_machine.specs.State.{State}
 use Rattle.abt_machine.specs.Texts.{ShownUnit, shown_units}
-use Rattle.abt_report.specs.Pictures.{IsPictureOf, unit_of, units_of}
+use Rattle.abt_report.specs.Pictures.{IsPictureOf, unit_in_row, units_in_rows}
 use Rattle.abt_report.specs.declared.pictures.Row.{Row}
 use Rattle.abt_drain.specs.Runs.{HasRun}
 use Rattle.abt_flow.specs.Confluent.{Confluent}
 use Rattle.abt_flow.specs.Flow.{IsFlow}
 use Rattle.abt_flow.specs.Laws.{outputs}
 use Rattle.abt_generate.proofs.Lists.{none-some}
-use Rattle.flow_caller.specs.Answers.{Answers, Shows, step_count}
+use Rattle.flow_caller.specs.Answers.{AnswersRun, AnswersOutcome, step_count}
 use Rattle.flow_caller.specs.Meshes.{AreNumbers, mesh, number_rows}
 use Rattle.flow_caller.specs.Rows.{IsNumber, output_of}
 use Rattle.flow_caller.specs.declared.nodes.Node.{Node}
@@ -41,10 +41,10 @@ map-count_up f (suc n) =
     map_push f (count_up n) n ∙ (ap (λ ys. ys ++ f n ∷ []) (map-count_up f n) ∙ sym more)
 
 -- the outputs that a picture shows are the state's
-outputs-shown : (W : Parts) (S : State) (rows : List Row) → shown_units W S ≡ units_of rows → outputs W S ≡ map output_of rows
+outputs-shown : (W : Parts) (S : State) (rows : List Row) → shown_units W S ≡ units_in_rows rows → outputs W S ≡ map output_of rows
 outputs-shown W S rows shown =
     map-count_up (λ u. (S.carried u).output) (length W.units) ∙ (sym (map-map (λ (unit : ShownUnit). unit.output) _ (range_with_len 0 (length W.units))) ∙
-    (ap (map (λ (unit : ShownUnit). unit.output)) shown ∙ map-map (λ (unit : ShownUnit). unit.output) unit_of rows))
+    (ap (map (λ (unit : ShownUnit). unit.output)) shown ∙ map-map (λ (unit : ShownUnit). unit.output) unit_in_row rows))
 
 -- rows that are numbers, one by one
 rows-each : (rows : List Row) (numbers : List ℕ) → map output_of rows ≡ number_rows numbers → All IsNumber rows
@@ -78,50 +78,50 @@ module _ (nodes : List Node) (W : Parts) (is : W ≡ mesh nodes) (Z : List Order
     pub shown-numbers : (numbers : List ℕ) → number_rows numbers ≡ map output_of rows → AreNumbers nodes numbers
     shown-numbers numbers are = subst (AreNumbers nodes) (ap (map number_in) (sym are) ∙ numbers-back numbers) (rows-are-numbers nodes (map output_of rows) flow-shown)
 
-  pub answers-finished : {A : Type 0} (P : A → Type 0) (x : A) → o ≡ outcome.Finished → P x → Answers (mesh nodes) (Some x) P
+  pub answers-finished : {A : Type 0} (P : A → Type 0) (x : A) → o ≡ outcome.Finished → P x → AnswersRun (mesh nodes) (Some x) P
   answers-finished P x finished holds = record {
     orders = Z;
     journal = J;
     end = o;
     run = subst (λ V. HasRun V Z step_count J o) is run;
-    shows = subst (λ e. Shows e (Some x) P) (sym finished) holds;
+    shows = subst (λ e. AnswersOutcome e (Some x) P) (sym finished) holds;
   }
 
--- Answers.
+-- AnswersRun.
 
 -- these are the numbers of the nodes
 abbrev pub AreOf : List Node → Vec ℕ Global → Type 0
 AreOf nodes numbers = AreNumbers nodes numbers.items
 
 module _ {A : Type 0} (P : A → Type 0) where
-  shows-right : (o : Outcome) (x : A) → Shows o (Some x) P → P x
+  shows-right : (o : Outcome) (x : A) → AnswersOutcome o (Some x) P → P x
   shows-right outcome.Finished x is = is
   shows-right outcome.Stuck x is = absurd (none-some (sym is))
   shows-right (outcome.Budget s) x is = absurd (none-some (sym is))
 
   -- an answer is right
-  pub answer-right : (W : Parts) (x : A) → Answers W (Some x) P → P x
+  pub answer-right : (W : Parts) (x : A) → AnswersRun W (Some x) P → P x
   answer-right W x is = shows-right is.end x is.shows
 
 module _ {A B : Type 0} (P : A → Type 0) (Q : B → Type 0) where
-  shows-some : (a : A) (b : B) → (P a → Q b) → (o : Outcome) → Shows o (Some a) P → Shows o (Some b) Q
+  shows-some : (a : A) (b : B) → (P a → Q b) → (o : Outcome) → AnswersOutcome o (Some a) P → AnswersOutcome o (Some b) Q
   shows-some a b h outcome.Finished is = h is
   shows-some a b h outcome.Stuck is = absurd (none-some (sym is))
   shows-some a b h (outcome.Budget s) is = absurd (none-some (sym is))
 
-  shows-none : (o : Outcome) → Shows {A = A} o None P → Shows {A = B} o None Q
+  shows-none : (o : Outcome) → AnswersOutcome {A = A} o None P → AnswersOutcome {A = B} o None Q
   shows-none outcome.Finished is = absurd is
   shows-none outcome.Stuck is = refl
   shows-none (outcome.Budget s) is = refl
 
   -- an answer that is made of another
-  pub answers-some : (W : Parts) (a : A) (b : B) → (P a → Q b) → Answers W (Some a) P → Answers W (Some b) Q
+  pub answers-some : (W : Parts) (a : A) (b : B) → (P a → Q b) → AnswersRun W (Some a) P → AnswersRun W (Some b) Q
   answers-some W a b h is = record { orders = is.orders; journal = is.journal; end = is.end; run = is.run; shows = shows-some a b h is.end is.shows }
 
-  pub answers-none : (W : Parts) → Answers {A = A} W None P → Answers {A = B} W None Q
+  pub answers-none : (W : Parts) → AnswersRun {A = A} W None P → AnswersRun {A = B} W None Q
   answers-none W is = record { orders = is.orders; journal = is.journal; end = is.end; run = is.run; shows = shows-none is.end is.shows }
 
 -- an answer of a weaker kind
-pub answers-weaker : {A : Type 0} (P Q : A → Type 0) → ((x : A) → P x → Q x) → (W : Parts) (answer : Option A) → Answers W answer P → Answers W answer Q
+pub answers-weaker : {A : Type 0} (P Q : A → Type 0) → ((x : A) → P x → Q x) → (W : Parts) (answer : Option A) → AnswersRun W answer P → AnswersRun W answer Q
 answers-weaker P Q h W None is = answers-none P Q W is
 answers-weaker P Q h W (Some x) is = answers-some P Q W x x (h x) is

@@ -10,7 +10,7 @@ use Rattle.std.proofs.lemmas.List.Sums.{sum_by_more}
 use Rattle.std.proofs.lemmas.Option.{get_or_from_slice_get, slice_get_within}
 use Rattle.abt_machine.specs.declared.numbers.ObjectNo.{ObjectNo}
 use Rattle.abt_machine.specs.Numbers.{object_no}
-use Rattle.flow_caller.specs.Meshes.{AreNumbers, IsMesh, IsNode, IsNumbering, last_number, numbers_of}
+use Rattle.flow_caller.specs.Meshes.{AreNumbers, IsMesh, IsNode, IsNumbering, last_number, numbers_below}
 use Rattle.flow_caller.specs.Sums.{before, chain, leaf_node, sum_to}
 use Rattle.flow_caller.specs.declared.nodes.Node.{Node}
 use Rattle.flow_caller.proofs.Lists.{mapped-some}
@@ -63,8 +63,8 @@ IsMesh-chain leaves few small =
     }
 
 -- the numbers of a chain are the sums
-pub sums-found : (leaves numbers : List ℕ) → AreNumbers (chain leaves) numbers → numbers ≡ numbers_of (sum_to leaves) (length leaves)
-sums-found leaves numbers are = are (sum_to leaves) (sums-are-numbers leaves) ∙ ap (numbers_of (sum_to leaves)) (length-chain leaves)
+pub sums-found : (leaves numbers : List ℕ) → AreNumbers (chain leaves) numbers → numbers ≡ numbers_below (sum_to leaves) (length leaves)
+sums-found leaves numbers are = are (sum_to leaves) (sums-are-numbers leaves) ∙ ap (numbers_below (sum_to leaves)) (length-chain leaves)
 
 pub length-sums : (leaves numbers : List ℕ) → AreNumbers (chain leaves) numbers → length numbers ≡ length leaves
 length-sums leaves numbers are = ap length (sums-found leaves numbers are) ∙ length-map-range_with_len (sum_to leaves) 0 (length leaves)

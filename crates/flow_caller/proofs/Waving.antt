@@ -9,7 +9,7 @@ use Rattle.std.proofs.lemmas.Nat.{div-mul-add, div_below, mod-mul-add, mod_below
 use Rattle.std.proofs.lemmas.Option.{get_or_from_slice_get, slice_get-get_or, slice_get_within}
 use Rattle.abt_machine.specs.declared.numbers.ObjectNo.{ObjectNo}
 use Rattle.abt_machine.specs.Numbers.{object_no}
-use Rattle.flow_caller.specs.Meshes.{IsMesh, IsNode, IsNumbering, last_number, numbers_of}
+use Rattle.flow_caller.specs.Meshes.{IsMesh, IsNode, IsNumbering, last_number, numbers_below}
 use Rattle.flow_caller.specs.Wavefronts.{IsWavefront, cell, left, upper, wavefront}
 use Rattle.flow_caller.specs.declared.nodes.Node.{Node}
 
@@ -113,15 +113,15 @@ IsMesh-wavefront n few =
     }
 
 -- what the numbers of the nodes are, by row and column
-pub IsWavefront-numbers : (n : ℕ) (numbers : List ℕ) → numbers ≡ numbers_of (path n) (length (wavefront n)) → IsWavefront n numbers
+pub IsWavefront-numbers : (n : ℕ) (numbers : List ℕ) → numbers ≡ numbers_below (path n) (length (wavefront n)) → IsWavefront n numbers
 IsWavefront-numbers n numbers is =
-    let same : numbers ≡ numbers_of (path n) (n * n) = is ∙ ap (numbers_of (path n)) (length-wavefront n) in
-    let long : length (numbers_of (path n) (n * n)) ≡ n * n = length-map-range_with_len (path n) 0 (n * n) in
+    let same : numbers ≡ numbers_below (path n) (n * n) = is ∙ ap (numbers_below (path n)) (length-wavefront n) in
+    let long : length (numbers_below (path n) (n * n)) ≡ n * n = length-map-range_with_len (path n) 0 (n * n) in
     record {
       one_each = ap length same ∙ long;
       cells = λ i j row column.
           let within : i * n + j < n * n = number-below n i j row column in
-          ap (λ ns. slice_get ns (i * n + j)) same ∙ (slice_get-get_or (numbers_of (path n) (n * n)) (i * n + j) 0 (omega arith) ∙
+          ap (λ ns. slice_get ns (i * n + j)) same ∙ (slice_get-get_or (numbers_below (path n) (n * n)) (i * n + j) 0 (omega arith) ∙
           ap (λ k. let o : Option ℕ = Some k in o) (get_or-map-range_with_len (path n) 0 (n * n) (i * n + j) (i * n + j) 0 within (zero-add (i * n + j)) ∙ path-to n i j column));
     }
 

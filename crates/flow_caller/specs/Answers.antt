@@ -13,15 +13,15 @@ abbrev pub step_count : ℕ
 step_count = default_steps
 
 -- there is an answer exactly if the run finished, and it is right
-abbrev pub Shows : {A : Type 0} → Outcome → Option A → (A → Type 0) → Type 0
-Shows outcome.Finished answer IsRight = MatchOption answer ⊥ IsRight
-Shows outcome.Stuck answer IsRight = answer ≡ None
-Shows (outcome.Budget s) answer IsRight = answer ≡ None
+abbrev pub AnswersOutcome : {A : Type 0} → Outcome → Option A → (A → Type 0) → Type 0
+AnswersOutcome outcome.Finished answer IsRight = MatchOption answer ⊥ IsRight
+AnswersOutcome outcome.Stuck answer IsRight = answer ≡ None
+AnswersOutcome (outcome.Budget s) answer IsRight = answer ≡ None
 
 -- W was run, and that is what the run shows
-pub record Answers {A : Type 0} (W : Parts) (answer : Option A) (IsRight : A → Type 0) : Type 0 where
+pub record AnswersRun {A : Type 0} (W : Parts) (answer : Option A) (IsRight : A → Type 0) : Type 0 where
   pub orders : List OrderShape
   pub journal : List Event
   pub end : Outcome
   pub run : HasRun W orders step_count journal end
-  pub shows : Shows end answer IsRight
+  pub shows : AnswersOutcome end answer IsRight

@@ -71,12 +71,12 @@ abbrev pub IsNumbering : List Node → (ℕ → ℕ) → Type 0
 IsNumbering nodes f = (u : ℕ) (node : Node) → slice_get nodes u ≡ Some node → f u ≡ (last_number f node.after 0 + node.plus) % 2 ^ 64
 
 -- the numbers of n nodes, in order
-abbrev pub numbers_of : (ℕ → ℕ) → ℕ → List ℕ
-numbers_of f n = map f (range_with_len 0 n)
+abbrev pub numbers_below : (ℕ → ℕ) → ℕ → List ℕ
+numbers_below f n = map f (range_with_len 0 n)
 
 -- the numbers of the nodes, in order, by whichever function gives them
 abbrev pub AreNumbers : List Node → List ℕ → Type 0
-AreNumbers nodes numbers = (f : ℕ → ℕ) → IsNumbering nodes f → numbers ≡ numbers_of f (length nodes)
+AreNumbers nodes numbers = (f : ℕ → ℕ) → IsNumbering nodes f → numbers ≡ numbers_below f (length nodes)
 
 -- units that put out a number each
 abbrev pub number_rows : List ℕ → List (List Piece)

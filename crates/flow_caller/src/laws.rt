@@ -5,7 +5,7 @@ ghost use Rattle.abt_flow.specs.Confluent.{Confluent};
 ghost use Rattle.abt_flow.specs.Flow.{IsFlow};
 ghost use Rattle.abt_machine.specs.declared.events.Piece.{Piece};
 ghost use Rattle.abt_machine.specs.Valid.{IsValid};
-ghost use Rattle.flow_caller.specs.Meshes.{AreNumbers, IsMesh, mesh, number_rows, numbers_of};
+ghost use Rattle.flow_caller.specs.Meshes.{AreNumbers, IsMesh, mesh, number_rows, numbers_below};
 ghost use Rattle.flow_caller.specs.Sums.{chain, sum_to};
 ghost use Rattle.flow_caller.specs.Wavefronts.{IsWavefront, wavefront};
 ghost use Rattle.flow_caller.specs.declared.nodes.Node.{Node};
@@ -28,7 +28,7 @@ pub fn meshes_put_out_numbers()
 
 /// By its flow each unit puts out the sum of the leaves up to its own.
 pub fn chains_put_out_sums()
-    ensures { (leaves : List ℕ) (rows : List (List Piece)) → IsFlow (mesh (chain leaves)) rows → rows ≡ number_rows (numbers_of (sum_to leaves) (length leaves)) }
+    ensures { (leaves : List ℕ) (rows : List (List Piece)) → IsFlow (mesh (chain leaves)) rows → rows ≡ number_rows (numbers_below (sum_to leaves) (length leaves)) }
 {}
 
 /// By its flow each unit puts out the number of its cell.

@@ -5,7 +5,7 @@ ghost use Rattle.std.specs.Prelude.{All, ◌≡◌, ◌≤◌, ◌<◌, ◌+◌,
 ghost use Rattle.abt_machine.specs.declared.events.Piece.TheVariants as piece;
 ghost use Rattle.abt_machine.specs.Limits.{object_limit};
 ghost use Rattle.abt_report.specs.declared.pictures.Row.{Row};
-ghost use Rattle.flow_caller.specs.Answers.{Answers};
+ghost use Rattle.flow_caller.specs.Answers.{AnswersRun};
 ghost use Rattle.flow_caller.specs.Meshes.{AreNumbers, IsMesh, mesh, number_rows};
 ghost use Rattle.flow_caller.specs.Rows.{IsNumber, output_of};
 ghost use Rattle.flow_caller.specs.Sums.{chain};
@@ -35,7 +35,7 @@ pub fn sum_on_threads<R: Threads + Wait + Sync>(
 ) -> Result<Option<u64>, Want>
     requires some { 0 < length leaves.now }
     requires few { length leaves.now ≤ object_limit }
-    ensures sum { IfOk result (λ answer. Answers (mesh (chain leaves.now)) answer (λ n. n ≡ sum leaves.now % 2 ^ 64)) }
+    ensures sum { IfOk result (λ answer. AnswersRun (mesh (chain leaves.now)) answer (λ n. n ≡ sum leaves.now % 2 ^ 64)) }
 {
     let nodes = chain(alloc, leaves)?;
     match numbers_on_threads(alloc, rt, &nodes)? {
@@ -52,7 +52,7 @@ pub fn wavefront_on_threads<R: Threads + Wait + Sync>(
     n: u32,
 ) -> Result<Option<Vec<u64>>, Want>
     requires { n ≤ SIDE_LIMIT }
-    ensures table { IfOk result (λ answer. Answers (mesh (wavefront n)) answer (λ numbers. IsWavefront n numbers.items)) }
+    ensures table { IfOk result (λ answer. AnswersRun (mesh (wavefront n)) answer (λ numbers. IsWavefront n numbers.items)) }
 {
     let nodes = wavefront(alloc, n)?;
     numbers_on_threads(alloc, rt, &nodes)
@@ -65,7 +65,7 @@ pub fn numbers_on_threads<R: Threads + Wait + Sync>(
     nodes: &[Node],
 ) -> Result<Option<Vec<u64>>, Want>
     requires { IsMesh nodes.now }
-    ensures numbers { IfOk result (λ answer. Answers (mesh nodes.now) answer (λ numbers. AreNumbers nodes.now numbers.items)) }
+    ensures numbers { IfOk result (λ answer. AnswersRun (mesh nodes.now) answer (λ numbers. AreNumbers nodes.now numbers.items)) }
 {
     let w = mesh(alloc, nodes)?;
     // No scheduler of a mesh has a stored order, but a run is passed two.

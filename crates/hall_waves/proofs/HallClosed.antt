@@ -12,7 +12,7 @@ use Rattle.abt_commons.specs.declared.acts.Ask.{Ask}
 use Rattle.abt_commons.specs.declared.acts.Answer.{Answer}
 use Rattle.abt_commons.specs.Halls.{HallLeft, HallValue, hall_line, seen_from, the_lock}
 use Rattle.abt_commons.specs.Held.{ObjectsValue, object_at}
-use Rattle.abt_commons.specs.Sights.{Call, Leaves}
+use Rattle.abt_commons.specs.Sights.{SiteCall, Leaves}
 use Rattle.abt_waves.specs.Locks.{AreClosed, HasSeenNothing, LocksValue, sights_from}
 use Rattle.hall_waves.specs.HallLocks.{clock_of_hall, locks_of_hall}
 use Rattle.hall_waves.proofs.HallClocks.{every-is}
@@ -36,7 +36,7 @@ module _ {g : Ghosts ObjectsValue Ask Answer} (hall : HallValue) where
   hall-closed passes held valid left = record {
     workload = left.workload;
     closing = λ l. left.closing;
-    left = λ l. subst (λ (seen : ℕ → Unit {0} → List Call). Leaves (W hall) the_lock (λ k. hall.clock) l (seats_of hall.booth) seen (object_at (opening_of hall.booth)) (object_at held) left.closing)
+    left = λ l. subst (λ (seen : ℕ → Unit {0} → List SiteCall). Leaves (W hall) the_lock (λ k. hall.clock) l (seats_of hall.booth) seen (object_at (opening_of hall.booth)) (object_at held) left.closing)
         (fun_ext {f = λ s k. hall_line (W hall) (seen_from (slice_get passes s))} {g = λ s. sights_from locks (slice_get passes s)}
         (λ s. fun_ext {f = λ k. hall_line (W hall) (seen_from (slice_get passes s))} {g = sights_from locks (slice_get passes s)} (λ k. same-sights (slice_get passes s) k))) left.left;
     clocks = λ l. every-is (W hall) held (max hall.clock left.closing) valid left.clocks left.every;

@@ -13,7 +13,7 @@ ghost use Rattle.abt_machine.specs.Valid.{IsValid};
 ghost use Rattle.abt_plans.specs.Hearing.{IsForTaker};
 ghost use Rattle.abt_unit.specs.Units.{IsFree};
 ghost use Rattle.abt_stream.specs.Events.{LeaveBy, VisitBy, VisitedBy, emptied, passed, took, wrote};
-ghost use Rattle.abt_stream.specs.Keeping.{Keeps};
+ghost use Rattle.abt_stream.specs.Keeping.{KeepsStream};
 
 use super::{LAST, Stream};
 use crate::parts::Work;
@@ -42,7 +42,7 @@ impl Stream {
         ensures turned { (Z : List OrderShape) → FitsShapes w.now Z self.old → Turned (Heeds (C.moves commons.now) (C.workload commons.now)) w.now Z self.old pass.old result self.new pass.new }
         ensures pass { C.is_of commons.now pass.new }
         ensures number { C.number pass.new ≡ C.number pass.old }
-        ensures keeps { Keeps w.now self.old self.new }
+        ensures keeps { KeepsStream w.now self.old self.new }
         ensures fits { FitsStream w.now self.new }
     {
         if self.leaves() {

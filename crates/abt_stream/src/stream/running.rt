@@ -12,7 +12,7 @@ ghost use Rattle.abt_machine.specs.Valid.{IsValid};
 ghost use Rattle.abt_unit.specs.Fits.{Fits};
 ghost use Rattle.abt_stream.specs.Events.{IfHeld, EndBy, CanStep, EnterBy, holding, wrote};
 ghost use Rattle.abt_plans.specs.Shapes.{IsPlan};
-ghost use Rattle.abt_stream.specs.Keeping.{Keeps};
+ghost use Rattle.abt_stream.specs.Keeping.{KeepsStream};
 ghost use Rattle.abt_stream.specs.Operated.{OpBy};
 
 use super::{LAST, Stream};
@@ -48,7 +48,7 @@ impl Stream {
         ensures turned { (Z : List OrderShape) → Turned (Heeds (C.moves commons.now) (C.workload commons.now)) w.now Z self.old pass.old result self.new pass.new }
         ensures pass { C.is_of commons.now pass.new }
         ensures number { C.number pass.new ≡ C.number pass.old }
-        ensures keeps { Keeps w.now self.old self.new }
+        ensures keeps { KeepsStream w.now self.old self.new }
     {
         match self.hand_due(w) {
             HandDue::End(cause) => self.end(commons, pass, cause),

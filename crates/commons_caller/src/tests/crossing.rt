@@ -6,7 +6,7 @@ ghost use Rattle.abt_machine.specs.declared.workload.Parts.{Parts};
 ghost use Rattle.abt_unit.specs.Fits.{Fits};
 ghost use Rattle.abt_booth.specs.Seats.{IsSeatOf, number_of, opening_of};
 ghost use Rattle.abt_commons.specs.AllPasses.{AreAll};
-ghost use Rattle.abt_commons.specs.Splits.{IsPassOf, stream_of};
+ghost use Rattle.abt_commons.specs.Splits.{IsPassOf, pass_stream};
 
 use super::players::{Heard, Request, play};
 use super::rows::{BARRIER, DEQUE, FIFO, MONITOR, RWLOCK};
@@ -178,7 +178,7 @@ impl<'w, H: Wait> AreShared for Split<'w, H> {
 
     ghost is_of = { λ split pass. IsPassOf split pass };
 
-    ghost number = { λ pass. stream_of pass };
+    ghost number = { λ pass. pass_stream pass };
 
     fn play_rounds<R: Abort + Wait>(
         &self,

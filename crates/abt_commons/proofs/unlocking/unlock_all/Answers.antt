@@ -1,7 +1,7 @@
 -- One lock more is closed.
 use Rattle.std.proofs.Common.{◌≡◌, ◌+◌, ◌++◌, [], ◌∷◌, max, set, reverse, length, get_or, refl, sym, ◌∙◌, ap, subst, arith, length-append, append_assoc}
 use Rattle.std.proofs.lemmas.List.{append-nil, reverse-append}
-use Rattle.abt_commons.specs.Closing.{HaveEnded}
+use Rattle.abt_commons.specs.Closing.{WereClosed}
 use Rattle.abt_commons.proofs.Closings.{Remain, closed-more, ends-as, none-ended, remain-all, remain-less, same-count}
 use Rattle.abt_commons.proofs.unlocking.unlock_all.Goals as goal
 
@@ -41,7 +41,7 @@ loop-booth-preserved c =
     let split = inv.split ∙ ap (λ xs. xs ++ inv.gone) c.in-Some.ensures.items in
     let fewer : length c.loop-booth.booths.items ≡ length left + 1 = ap length c.in-Some.ensures.items ∙ length-append left (booth ∷ []) in
     let remain = subst (λ n. Remain n passes c.loop-booth.passes) fewer inv.remain in
-    let ended = subst (λ n. HaveEnded booths passes c.args.clocks.now n inv.objects c.loop-booth.clocks) fewer inv.ended in
+    let ended = subst (λ n. WereClosed booths passes c.args.clocks.now n inv.objects c.loop-booth.clocks) fewer inv.ended in
     let count = same-count booths left inv.gone booth (length passes) split c.requires.seated in
     let at : c.len.result ≡ length left = omega (arith, c.len.ensures, c.pop.new.self.ok.0) in
     let raised = max (get_or c.loop-booth.clocks (length left) 0) c.closed-object.result.clock in
@@ -51,7 +51,7 @@ loop-booth-preserved c =
       gone = booth ∷ inv.gone;
       split = split ∙ append_assoc left (booth ∷ []) inv.gone;
       objects = object ∷ inv.objects;
-      ended = subst (λ cs. HaveEnded booths passes c.args.clocks.now (length left) (object ∷ inv.objects) cs) (sym clocks)
+      ended = subst (λ cs. WereClosed booths passes c.args.clocks.now (length left) (object ∷ inv.objects) cs) (sym clocks)
           (closed-more booths passes c.requires.seats left inv.gone booth split c.loop-booth.passes remain c.closed-object.new.passes object c.closed-object.result.clock c.closed-object.ensures
           c.args.clocks.now inv.objects c.loop-booth.clocks ended c.requires.clocks c.requires.some count raised refl);
       put = c.push_reserved.ensures.items ∙ (ap (λ xs. xs ++ object ∷ []) inv.put ∙ (append_assoc c.args.room.now.items (reverse inv.objects) (object ∷ []) ∙ ap (λ xs. c.args.room.now.items ++ xs) (sym (reverse-append (object ∷ []) inv.objects))));

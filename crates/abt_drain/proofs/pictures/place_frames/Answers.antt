@@ -4,7 +4,7 @@ use Rattle.std.specs.Vec.Iter.{into_iter_items}
 use Rattle.std.proofs.lemmas.List.Elements.{All-tail}
 use Rattle.abt_machine.specs.Values.{Owned}
 use Rattle.abt_calls.specs.Showing.{rows_as}
-use Rattle.abt_stream.specs.Streams.{owned}
+use Rattle.abt_commons.specs.Acts.{owned}
 use Rattle.abt_drain.specs.Pictures.{AreBelow, placed}
 use Rattle.abt_drain.proofs.Placing.{some-put, still-below}
 use Rattle.abt_drain.proofs.pictures.place_frames.Goals as goal

@@ -2,7 +2,7 @@
 use Rattle.std.proofs.Common.{◌≡◌, length, map}
 use Rattle.std.specs.Vec.Iter.{into_iter_items, into_iter_len}
 use Rattle.abt_calls.specs.Showing.{rows_as}
-use Rattle.abt_stream.specs.Streams.{owned}
+use Rattle.abt_commons.specs.Acts.{owned}
 use Rattle.abt_drain.specs.Pictures.{AreBelow, placed}
 use Rattle.abt_drain.proofs.pictures.place_frames.Given as goal
 

@@ -6,7 +6,7 @@ use Rattle.std.proofs.lemmas.List.Elements.{All-tail}
 use Rattle.abt_machine.specs.declared.events.Shown.TheVariants as shows
 use Rattle.abt_machine.specs.Numbers.{stream_no}
 use Rattle.abt_calls.specs.Showing.{rows_as}
-use Rattle.abt_drain.specs.Pictures.{LeavesWhatFits, placed, rows_left, units_left}
+use Rattle.abt_drain.specs.Pictures.{LeavesWhatFits, placed, rows_left, units_in_parts}
 use Rattle.abt_drain.proofs.Placing.{some-length, some-put}
 use Rattle.abt_drain.proofs.pictures.place_streams.Goals as goal
 
@@ -16,7 +16,7 @@ loop-parts-preserved c =
     let parts = c.in-Some.parts in
     let left = into_iter_items c.next.new.self in
     let is : into_iter_items at.parts-iterator ≡ parts ∷ left = c.in-Some.ensures.steps.0 in
-    let xs = rows_as (shows.Stream (stream_no at.s)) (units_left parts) in
+    let xs = rows_as (shows.Stream (stream_no at.s)) (units_in_parts parts) in
     let more : at.s + 1 ≡ suc at.s = omega arith in
     record {
       next = tt;

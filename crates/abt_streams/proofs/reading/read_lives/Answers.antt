@@ -1,5 +1,5 @@
 use Rattle.std.proofs.Common.{◌≡◌, ◌<◌, ◌+◌, ℕ, length, arith, rules, subst}
-use Rattle.abt_streams.specs.Texts.{IsCause}
+use Rattle.abt_streams.specs.Texts.{IsLivesCause}
 use Rattle.abt_report.specs.declared.text_fault.TextFault.TheVariants.{Bad}
 use Rattle.abt_streams.proofs.Many.{few-lives}
 use Rattle.abt_streams.proofs.NoLives.{bad, lives-push, no-line, text-push}
@@ -22,7 +22,7 @@ returns-in_default-clause-cause c =
     let lives = c.loop-rest.lives.items in
     let none = rw (c.in_default.is, c.deref.ensures.value) at c.in_ok-life.ensures in
     let begins = no-line W lives c.loop-rest.rest.now c.first_line.result.0.now c.known.ensures c.first_line.ensures.first none in
-    let Is : ℕ → Type 0 = λ n. IsCause W c.args.bytes.now (Bad (n + 1)) in
+    let Is : ℕ → Type 0 = λ n. IsLivesCause W c.args.bytes.now (Bad (n + 1)) in
     let long : length lives ≡ c.len.result = omega (arith, c.len.ensures) in
     subst Is long (bad W c.args.bytes.now c.loop-rest.rest.now lives c.known.ensures c.loop-rest.invariant.lives c.loop-rest.invariant.text some begins)
 

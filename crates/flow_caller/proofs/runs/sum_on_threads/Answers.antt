@@ -1,7 +1,7 @@
 use Rattle.std.proofs.Common.{◌≡◌, ◌∙◌, ◌-◌, ◌<◌, ◌^◌, List, length, sum, Some, Option, Vec, Global, ℕ, arith, subst}
 use Rattle.std.specs.Prelude.{◌%◌}
 use Rattle.std.proofs.lemmas.List.{get_or_read}
-use Rattle.flow_caller.specs.Answers.{Answers}
+use Rattle.flow_caller.specs.Answers.{AnswersRun}
 use Rattle.flow_caller.specs.Meshes.{mesh}
 use Rattle.flow_caller.specs.Sums.{chain}
 use Rattle.flow_caller.specs.declared.nodes.Node.{Node}
@@ -10,9 +10,9 @@ use Rattle.flow_caller.proofs.Summing.{last-sum, length-sums}
 use Rattle.flow_caller.proofs.runs.sum_on_threads.Goals as goal
 
 -- the answer of the call below, of nodes that are a chain
-chain-answer : (leaves : List ℕ) (now nodes : List Node) (answer : Option (Vec ℕ Global)) (sums : Vec ℕ Global) → now ≡ nodes → nodes ≡ chain leaves → answer ≡ Some sums → Answers (mesh now) answer (AreOf now) → Answers (mesh (chain leaves)) (Some sums) (AreOf (chain leaves))
+chain-answer : (leaves : List ℕ) (now nodes : List Node) (answer : Option (Vec ℕ Global)) (sums : Vec ℕ Global) → now ≡ nodes → nodes ≡ chain leaves → answer ≡ Some sums → AnswersRun (mesh now) answer (AreOf now) → AnswersRun (mesh (chain leaves)) (Some sums) (AreOf (chain leaves))
 chain-answer leaves now nodes answer sums same is some found =
-    subst (λ ns. Answers (mesh ns) (Some sums) (AreOf ns)) (same ∙ is) (subst (λ a. Answers (mesh now) a (AreOf now)) some found)
+    subst (λ ns. AnswersRun (mesh ns) (Some sums) (AreOf ns)) (same ∙ is) (subst (λ a. AnswersRun (mesh now) a (AreOf now)) some found)
 
 pub index-requires : goal.index-requires
 index-requires g c =

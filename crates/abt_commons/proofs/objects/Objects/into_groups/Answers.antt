@@ -4,7 +4,7 @@ use Rattle.std.specs.List.{All}
 use Rattle.std.specs.Vec.Iter.{into_iter_items}
 use Rattle.std.proofs.lemmas.List.Elements.{All-head, All-tail}
 use Rattle.abt_commons.specs.Groups.{all_rows, rows_from, rows_in}
-use Rattle.abt_commons.specs.Held.{OneValue, held_in}
+use Rattle.abt_commons.specs.Held.{OneValue, objects_value}
 use Rattle.abt_commons.proofs.Giving.{numbered-rows, one-fits, one-given}
 use Rattle.abt_commons.proofs.objects.Objects.into_groups.Goals as goal
 
@@ -46,5 +46,5 @@ returns-clause-rows c =
     ∙ (ap (λ (os : List OneValue). rows_in at.groups.items ++ rows_from s.w.now at.number (map (λ one. one.object) os)) (sym empty)
     ∙ (at.invariant.rows
     ∙ (ap (λ (os : List OneValue). rows_from s.w.now 0 (map (λ one. one.object) os)) all
-    ∙ (numbered-rows (held_in s.w.now s.ones.items s.clocks.items) c.self.invariant.1.objects
+    ∙ (numbered-rows (objects_value s.w.now s.ones.items s.clocks.items) c.self.invariant.1.objects
     ∙ ap all_rows c.self.view_is))))

@@ -4,8 +4,8 @@ use Rattle.std.specs.List.{All}
 use Rattle.std.specs.Vec.{with_items}
 use Rattle.std.proofs.lemmas.List.{append-nil, reverse-reverse, with_items_is}
 use Rattle.abt_booth.specs.Seats.{opening_of}
-use Rattle.abt_commons.specs.Held.{IsWhole, held_in}
-use Rattle.abt_commons.specs.Closing.{AllEnded}
+use Rattle.abt_commons.specs.Held.{IsWhole, objects_value}
+use Rattle.abt_commons.specs.Closing.{AllClosed}
 use Rattle.abt_commons.proofs.Untouched.{all-back, whole-room}
 use Rattle.abt_commons.proofs.split.Split.make.Goals.{After-lock_all, After-reverse-2}
 use Rattle.abt_commons.proofs.split.Split.make.Goals as goal
@@ -26,7 +26,7 @@ invariant_of-result g c =
     let many = whole-room booths room s.ones.items whole in (
       record {
         ours = subst (λ os. All (λ one. one.workload ≡ s.w.now) os) (sym locked) c.objects.invariant.0;
-        whole = subst (λ os. IsWhole (held_in s.w.now os s.clocks.items)) (sym locked) c.objects.invariant.1;
+        whole = subst (λ os. IsWhole (objects_value s.w.now os s.clocks.items)) (sym locked) c.objects.invariant.1;
         seated = c.lock_all.ensures.seated;
         some = c.requires;
       },
@@ -45,9 +45,9 @@ module _ (g : _) (c : After-reverse-2 g) (whole : map opening_of c.lock_all.new.
   seats : c.as_mut_slice-2.result.now ≡ c.lock_all.new.passes
   seats = c.as_mut_slice-2.ensures.value ∙ with_items_is c.in-Ok-seatless.passes c.lock_all.new.passes (c.lock_all.ensures.dealt.many ∙ (sym c.in-Ok-seatless.ensures.many ∙ sym c.in-Ok-seatless.passes.ok.0))
 
-  ended : AllEnded c.lock_all.new.booths.items c.lock_all.new.passes c.objects.inside.clocks.items c.lock_all.new.room.items c.unlock_all.new.room.items c.unlock_all.new.clocks
-  ended = subst (λ ps. AllEnded c.lock_all.new.booths.items ps c.objects.inside.clocks.items c.lock_all.new.room.items c.unlock_all.new.room.items c.unlock_all.new.clocks) seats
-      (subst (λ cs. AllEnded c.lock_all.new.booths.items c.as_mut_slice-2.result.now cs c.lock_all.new.room.items c.unlock_all.new.room.items c.unlock_all.new.clocks) c.as_mut_slice-3.ensures.value c.unlock_all.ensures)
+  ended : AllClosed c.lock_all.new.booths.items c.lock_all.new.passes c.objects.inside.clocks.items c.lock_all.new.room.items c.unlock_all.new.room.items c.unlock_all.new.clocks
+  ended = subst (λ ps. AllClosed c.lock_all.new.booths.items ps c.objects.inside.clocks.items c.lock_all.new.room.items c.unlock_all.new.room.items c.unlock_all.new.clocks) seats
+      (subst (λ cs. AllClosed c.lock_all.new.booths.items c.as_mut_slice-2.result.now cs c.lock_all.new.room.items c.unlock_all.new.room.items c.unlock_all.new.clocks) c.as_mut_slice-3.ensures.value c.unlock_all.ensures)
 
   back : (reverse c.unlock_all.new.room.items ≡ c.objects.inside.ones.items) × (c.unlock_all.new.clocks ≡ c.objects.inside.clocks.items)
   back = all-back c.lock_all.new.booths.items c.lock_all.new.room.items c.objects.inside.ones.items whole c.objects.inside.w.now c.objects.inside.clocks.items c.unlock_all.new.clocks c.args.streams c.lock_all.new.passes
@@ -65,11 +65,11 @@ invariant_of-result-2 g c =
     let path = (goal.at.invariant_of-result-2 g c).After-reverse-2 in
     let whole = all g (goal.at.invariant_of-result-2 g c).After-lock_all in (
       subst (λ os. All (λ one. one.workload ≡ s.w.now) os) (sym (ones g path whole)) c.objects.invariant.0,
-      subst (λ os. IsWhole (held_in s.w.now os (with_items s.clocks c.unlock_all.new.clocks).items)) (sym (ones g path whole)) (subst (λ cs. IsWhole (held_in s.w.now s.ones.items cs)) (sym (clocks g path whole)) c.objects.invariant.1),
+      subst (λ os. IsWhole (objects_value s.w.now os (with_items s.clocks c.unlock_all.new.clocks).items)) (sym (ones g path whole)) (subst (λ cs. IsWhole (objects_value s.w.now s.ones.items cs)) (sym (clocks g path whole)) c.objects.invariant.1),
     )
 
 pub returns-clause-refused : goal.returns-clause-refused
 returns-clause-refused g c =
     let path = (goal.at.returns-clause-refused g c).After-reverse-2 in
     let whole = all g (goal.at.returns-clause-refused g c).After-lock_all in
-    (λ i. held_in c.objects.inside.w.now (ones g path whole i) (clocks g path whole i)) ∙ c.objects.view_is
+    (λ i. objects_value c.objects.inside.w.now (ones g path whole i) (clocks g path whole i)) ∙ c.objects.view_is

@@ -4,7 +4,7 @@ use Rattle.std.specs.Prelude.{slice_get}
 use Rattle.abt_machine.proofs.Declared.{op-declared}
 use Rattle.abt_flow.specs.Effects.{effect}
 use Rattle.abt_flow.specs.Flow.{Leads}
-use Rattle.abt_flow.specs.Tables.{Nothing, Runs, executed, memory_in}
+use Rattle.abt_flow.specs.Tables.{Nothing, UnitRuns, executed, memory_in}
 use Rattle.abt_flow.proofs.Keys.{computed-other, has-key, other-sets, point-keys}
 use Rattle.abt_flow.proofs.Plain.{ok-both, ok-then}
 use Rattle.abt_flow.proofs.Points.{HasValue, leads-then}
@@ -40,7 +40,7 @@ returns-clause-runs c =
     let below : c.args.u.0 < length c.args.self.now.units.items = unit-there c.args.w.now c.args.u.0 c.args.self.now c.known.ensures c.requires.reached c.requires.runs in
     let at : slice_get c.args.self.now.units.items c.args.u.0 ≡ Some c.index_mut.result.now = read-at c.args.self.now.units.items c.args.u.0 c.index_mut.result.now below c.index_mut.ensures.value in
     ok-both (λ _. Leads Nothing (effect c.args.op) (memory_in c.index_mut.result.now) (memory_in c.compute.new.self)) (λ _. c.compute.new.self.position ≡ c.index_mut.result.now.position + 1)
-    (λ _. Runs c.args.w.now c.args.u.0 (record c.args.self.now { units = with_item c.args.self.now.units c.args.u.0 c.compute.new.self })) c.compute.result
+    (λ _. UnitRuns c.args.w.now c.args.u.0 (record c.args.self.now { units = with_item c.args.self.now.units c.args.u.0 c.compute.new.self })) c.compute.result
     (λ _ leads pos. record {
       follows = goes-same c.args.w.now c.args.u.0 c.requires.reached c.args.self.now.units.items c.args.self.now.values.items c.requires.runs.follows c.index_mut.result.now c.compute.new.self at c.args.op (c.requires.here c.index_mut.result.now at) pos
           (λ x e. other-sets c.args.op x c.requires.other e) (leads-then Nothing (HasValue c.args.w.now (executed c.args.self.now.units.items)) (λ x n h. absurd h) (effect c.args.op) (memory_in c.index_mut.result.now) (memory_in c.compute.new.self) leads);

@@ -6,7 +6,7 @@ use Rattle.abt_machine.specs.Numbers.{unit_no}
 use Rattle.abt_machine.specs.declared.operations.Op.TheVariants as op
 use Rattle.abt_laws.proofs.Options.{some-injective}
 use Rattle.abt_flow.specs.declared.memory.Progress.{Progress}
-use Rattle.abt_flow.specs.Tables.{Follows, Rests, Waits, memory_in}
+use Rattle.abt_flow.specs.Tables.{FollowsFlow, Rests, Waits, memory_in}
 use Rattle.abt_flow.proofs.Running.{one-more, position-few, read-at, set-there, unit-there}
 use Rattle.abt_flow.proofs.Woken.{set-follows, set-others, set-ready, set-waits, set-work}
 use Rattle.abt_flow.proofs.table.Table.set_value.Goals as goal
@@ -56,7 +56,7 @@ returns c =
     let values : set c.args.self.now.values.items c.args.x.0 (Some c.index-2.result.now.acc) ≡ set c.args.self.now.values.items c.args.x.0 (Some c.index_mut-3.result.now.acc) = ap (λ a. set c.args.self.now.values.items c.args.x.0 (Some a)) acc in
     record {
       runs = record {
-        follows = subst (Follows c.args.w.now (set c.args.self.now.units.items c.args.u.0 c.pass.new.self)) (sym values) (set-follows c.args.w.now c.known.ensures c.args.u.0 c.requires.reached c.args.self.now c.requires.runs c.index_mut-3.result.now c.pass.new.self at c.args.x (c.requires.here c.index_mut-3.result.now at) pos same there c.index.result.now c.clear.new.self waited c.clear.ensures.items);
+        follows = subst (FollowsFlow c.args.w.now (set c.args.self.now.units.items c.args.u.0 c.pass.new.self)) (sym values) (set-follows c.args.w.now c.known.ensures c.args.u.0 c.requires.reached c.args.self.now c.requires.runs c.index_mut-3.result.now c.pass.new.self at c.args.x (c.requires.here c.index_mut-3.result.now at) pos same there c.index.result.now c.clear.new.self waited c.clear.ensures.items);
         waits = subst (λ vs. Waits c.args.w.now vs (set c.args.self.now.waiting.items c.args.x.0 c.clear.new.self)) (sym values) (set-waits c.args.w.now c.known.ensures c.args.u.0 c.requires.reached c.args.self.now c.requires.runs c.index_mut-3.result.now c.pass.new.self at c.args.x (c.requires.here c.index_mut-3.result.now at) pos same there c.index.result.now c.clear.new.self waited c.clear.ensures.items);
         ready = λ v has. set-ready c.args.w.now c.known.ensures c.args.u.0 c.requires.reached c.args.self.now c.requires.runs c.index_mut-3.result.now c.pass.new.self at c.args.x (c.requires.here c.index_mut-3.result.now at) pos same there c.index.result.now c.clear.new.self waited c.clear.ensures.items v (subst (λ us. Contains us v) ready has);
         others = λ v other r. subst (λ us. Contains us (unit_no v) ⊎ Rests c.args.w.now (set c.args.self.now.units.items c.args.u.0 c.pass.new.self) (set c.args.self.now.values.items c.args.x.0 (Some c.index-2.result.now.acc)) v) (sym ready)
