@@ -1,30 +1,28 @@
 -- What each part of the code makes of a stream is a step of it.
 use Rattle.std.proofs.Common.{◌≡◌, ◌∙◌, ℕ, ◌<◌, Bool, true, false, List, [], ◌∷◌, Option, None, Some, ap, length, option_map, refl, subst, sym}
 use Rattle.std.proofs.lemmas.List.Elements.{All-contains}
-use Rattle.std.specs.Prelude.{IfSome, if◌then◌else◌, nat_lt}
-use Rattle.abt_machine.specs.declared.events.Cause.TheVariants as cause
+use Rattle.std.specs.Prelude.{IfSome}
 use Rattle.abt_machine.specs.declared.events.Site.TheVariants as site
 use Rattle.abt_machine.specs.declared.events.What.{What}
 use Rattle.abt_machine.specs.declared.events.What.TheVariants as what
 use Rattle.abt_machine.specs.declared.numbers.PoolNo.{PoolNo}
 use Rattle.abt_machine.specs.declared.numbers.UnitNo.{UnitNo}
 use Rattle.abt_machine.specs.declared.operations.Body.{Body}
-use Rattle.abt_machine.specs.declared.operations.Body.TheVariants as body
 use Rattle.abt_machine.specs.declared.operations.OrderShape.{OrderShape}
 use Rattle.abt_machine.specs.declared.workload.Parts.{Parts}
-use Rattle.abt_machine.specs.Access.{may_take_all}
 use Rattle.abt_machine.specs.Acts.{Answer}
 use Rattle.abt_machine.specs.Acts as act
-use Rattle.abt_machine.specs.Next.{Due, EndDue, EnterDue, LookDue, PutDue, RoundDue, StepDue, due_by, due_of_unit}
+use Rattle.abt_machine.specs.Next.{Due, LookDue, PutDue, RoundDue, due_by, due_of_unit}
 use Rattle.abt_machine.specs.Numbers.{pool_no, unit_no}
 use Rattle.abt_machine.specs.Queues.{first}
 use Rattle.abt_machine.specs.Rounds.{IsNextPool}
-use Rattle.abt_machine.specs.State.{Asked, Exited, Frame, Left, Mark, Plain}
+use Rattle.abt_machine.specs.State.{Frame, Mark}
 use Rattle.abt_machine.specs.Turns.{Heard, Steps, due_of, looked, number_and_position, side_of}
 use Rattle.abt_machine.specs.Values.{Held, Object, Owned}
 use Rattle.abt_machine.specs.Valid.{IsValid}
 use Rattle.abt_machine.specs.Workloads.{body_at, pools_of}
 use Rattle.abt_machine.proofs.Declared.{listed-declared}
+use Rattle.abt_laws.proofs.Dues.{due_of_unit-cases}
 use Rattle.abt_laws.proofs.Orders.{next_pool-listed}
 use Rattle.abt_bounds.specs.Laws.{visited}
 use Rattle.abt_calls.specs.Allowed.{Allows}
@@ -56,23 +54,10 @@ first-of W tray os o is h = some-of W (first tray) o (ap first is) h
 
 -- What is due.
 
-no-round-of-ops : (b : Bool) → (if b then StepDue else EndDue cause.Done) ≡ RoundDue → ⊥
-no-round-of-ops true e = cc
-no-round-of-ops false e = cc
-
-no-round-of-sched : (b : Bool) → (if b then EnterDue else EndDue cause.Access) ≡ RoundDue → ⊥
-no-round-of-sched true e = cc
-no-round-of-sched false e = cc
-
+-- no round is due while a unit is in hand
 no-round-of-unit : (W : Parts) (s : ℕ) (m : Mark) (b : Body) (k : ℕ) → due_of_unit W s m b k ≡ RoundDue → ⊥
-no-round-of-unit W s Asked b k e = cc
-no-round-of-unit W s Exited b k e = cc
-no-round-of-unit W s Plain (body.Sched g) k e = no-round-of-sched (may_take_all W s g.0) e
-no-round-of-unit W s Left (body.Sched g) k e = cc
-no-round-of-unit W s Plain (body.Ult ops) k e = no-round-of-ops (nat_lt k (length ops)) e
-no-round-of-unit W s Left (body.Ult ops) k e = no-round-of-ops (nat_lt k (length ops)) e
-no-round-of-unit W s Plain (body.Task ops) k e = no-round-of-ops (nat_lt k (length ops)) e
-no-round-of-unit W s Left (body.Task ops) k e = no-round-of-ops (nat_lt k (length ops)) e
+no-round-of-unit W s m b k =
+    due_of_unit-cases W s k (λ m b d. d ≡ RoundDue → ⊥) (λ b h. cc) (λ b h. cc) (λ g h. cc) (λ g h. cc) (λ g h. cc) (λ m b program more h. cc) (λ m b program over h. cc) m b
 
 -- what is due for these parts of a stream
 abbrev due_for : Parts → ℕ → Held → List Owned → Option Owned → Option Owned → Due
