@@ -1,5 +1,5 @@
 -- A walk of a command without subcommands, from any place on: its faults, and the rows that its matches have.
-use Rattle.std.proofs.Common.{◌≡◌, ◌≢◌, false, refl, sym, ap, ◌∙◌, List, [], ◌∷◌}
+use Rattle.std.proofs.Common.{◌≡◌, ◌≢◌, ℕ, suc, false, refl, sym, ap, ◌∙◌, List, [], ◌∷◌, arith}
 use Rattle.std.specs.Prelude.{fold, ⊤}
 use Rattle.std.specs.Str.{IsUtf8}
 use Rattle.clap.specs.Faults.{check_fault, defaults_fault, settle_fault, turn_fault, walk_fault}
@@ -17,6 +17,9 @@ AllTexts (w ∷ ws) = IsUtf8 w × AllTexts ws
 
 pub no-cons : (k : ErrorKind) (ks : Kinds) → k ∷ ks ≡ [] → ⊥
 no-cons k ks e = cc
+
+pub no-more : (n : ℕ) → suc n ≡ 0 → ⊥
+no-more n e = omega arith
 
 or-else-assoc : (a b c : Kinds) → or_else (or_else a b) c ≡ or_else a (or_else b c)
 or-else-assoc [] b c = refl

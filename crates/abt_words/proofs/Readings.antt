@@ -1,5 +1,5 @@
 -- `clap` takes the words after `run` exactly if they are a FILE and the options, each at most once.
-use Rattle.std.proofs.Common.{◌≡◌, ◌≢◌, ℕ, zero, suc, Bool, cond, true, false, true≢false, refl, sym, ap, subst, ◌∙◌, List, [], ◌∷◌, ◌++◌, codes, Option, Some, None, is_some, arith}
+use Rattle.std.proofs.Common.{◌≡◌, ◌≢◌, ℕ, zero, suc, Bool, cond, true, false, true≢false, refl, sym, ap, subst, ◌∙◌, List, [], ◌∷◌, ◌++◌, codes, Option, Some, None, is_some}
 use Rattle.clap.specs.Faults.{check_fault, defaults_fault, fault_of, turn_fault, walk_fault}
 use Rattle.clap.specs.Kinds.{Kinds, or_else}
 use Rattle.clap.specs.Walk.{Row, Walk, finished, nothing_held, used, walked}
@@ -11,7 +11,7 @@ use Rattle.clap.specs.Simple.{built}
 use Rattle.abt_machine.specs.Words.{Text}
 use Rattle.abt_words.specs.Commands.{Rest, and_journal, and_other, and_steps, and_word, is_option, only, rest_of}
 use Rattle.abt_words.specs.Apps.{run_app}
-use Rattle.abt_words.proofs.Endings.{AllTexts, ending, fails, goes, last, lasts, no-cons}
+use Rattle.abt_words.proofs.Endings.{AllTexts, ending, fails, goes, last, lasts, no-cons, no-more}
 use Rattle.abt_words.proofs.Spellings.{Spelling, ends, journal, journal_value, long, plain, rest-long, rest-plain, rest-short, short, spelling, steps, steps_value}
 use Rattle.abt_words.proofs.Turns.{Pending, all_rows, due-turn, due-walked, ends-turn, held, journal_built, journal-fault, journal-turn, journal-twice, journal-value-fault, journal-walked, later-first, later-second, later-walked, long-unknown, pending_fault, plain-first, plain-second, plain-walked, run_rules, run_top, short-unknown, state, steps_built, steps-fault, steps-turn, steps-walked, value-fault, value-turn, value-twice, value-walked}
 use Rattle.abt_words.proofs.Rows.{Ends, Live, Seen, Shows, check-is, last-ends, last-is, last_rows, live-file, live-journal, live-steps, live-value, missing, no-default-fault, no-row, some-row, steps-again}
@@ -57,9 +57,6 @@ moves w next x words s t r rest e f to from o = record {
 abbrev pub place : Option Text → ℕ
 place None = 1
 place (Some f) = 2
-
-no-more : (n : ℕ) → suc n ≡ 0 → ⊥
-no-more n e = omega arith
 
 -- ---- the end of the words
 

@@ -1,5 +1,5 @@
 -- `clap` takes words exactly if there is no option among them and they are as many as it wants.
-use Rattle.std.proofs.Common.{◌≡◌, ◌≢◌, ◌⊎◌, inl, inr, ◌==◌, ℕ, suc, Bool, cond, true, false, refl, sym, subst, ◌∙◌, List, [], ◌∷◌, ◌++◌, codes, Option, Some, None, arith}
+use Rattle.std.proofs.Common.{◌≡◌, ◌≢◌, ◌⊎◌, inl, inr, ◌==◌, ℕ, Bool, cond, true, false, refl, sym, subst, ◌∙◌, List, [], ◌∷◌, ◌++◌, codes, Option, Some, None}
 use Rattle.std.specs.Prelude.{slice_get}
 use Rattle.std.specs.Str.{chars}
 use Rattle.clap.specs.Faults.{turn_fault}
@@ -8,11 +8,8 @@ use Rattle.clap.specs.Walk.{Row, Walk, walked}
 use Rattle.clap.specs.declared.error.kind.ErrorKind.TheVariants.{UnknownArgument}
 use Rattle.abt_machine.specs.Words.{Text}
 use Rattle.abt_words.specs.Commands.{Rest, and_other, and_steps, and_word, is_option, only, rest_of}
-use Rattle.abt_words.proofs.Endings.{AllTexts, ending, fails, goes, last, lasts}
+use Rattle.abt_words.proofs.Endings.{AllTexts, ending, fails, goes, last, lasts, no-more}
 use Rattle.abt_words.proofs.Spellings.{Spelling, ends, journal, journal_value, long, plain, rest-long, rest-plain, rest-short, short, spelling, steps, steps_value}
-
-no-more : (n : ℕ) → suc n ≡ 0 → ⊥
-no-more n e = omega arith
 
 no-text : (w : Text) (ws : List Text) → w ∷ ws ≡ [] → ⊥
 no-text w ws e = cc
