@@ -1,5 +1,5 @@
 -- Nothing is left to do on lives, by parts and objects.
-use Rattle.std.proofs.Common.{◌≡◌, ℕ, ◌<◌, ◌∙◌, true, List, [], ◌∷◌, map, None, refl, sym, ap, subst}
+use Rattle.std.proofs.Common.{◌≡◌, ℕ, ◌<◌, ◌∙◌, true, List, [], map, sym, ap, subst}
 use Rattle.std.specs.Prelude.{◌↔◌, Contains}
 use Rattle.abt_machine.specs.declared.events.Site.{Site}
 use Rattle.abt_machine.specs.declared.events.Site.TheVariants as site
@@ -12,20 +12,13 @@ use Rattle.abt_machine.specs.State.{State}
 use Rattle.abt_machine.specs.Values.{Held, Object, object_of, owned_at, part_of}
 use Rattle.abt_machine.specs.Workloads.{main_of, pools_of}
 use Rattle.abt_outcomes.specs.Values.{IsEmptyPool, IsIdle, StandFor}
+use Rattle.abt_outcomes.proofs.Seen.{first-none, owned-none}
 use Rattle.abt_streams.specs.declared.life.Life.{Life}
 use Rattle.abt_streams.specs.Ends.{QuietOn}
 use Rattle.abt_streams.specs.Lives.{AreLives}
 use Rattle.abt_streams.specs.Looks.{LooksQuietOn, is_live_with}
 use Rattle.abt_streams.specs.Living.{is_live}
 use Rattle.abt_streams.proofs.Alive.{live-same}
-
-owned-none : (S : State) (us : List ℕ) → map (owned_at S) us ≡ [] → us ≡ []
-owned-none S [] e = refl
-owned-none S (u ∷ us) e = cc
-
-first-none : (S : State) (us : List ℕ) → first (map (owned_at S) us) ≡ None → us ≡ []
-first-none S [] e = refl
-first-none S (u ∷ us) e = cc
 
 -- if nothing at all is left to do, nothing is on any lives
 pub quiet-on : (W : Parts) (lives : List Life) (S : State) → Quiet W S → QuietOn W lives S
