@@ -1,9 +1,9 @@
 -- A turn of one stream of a crew.
 use Rattle.std.proofs.Common.{◌≡◌, ◌≢◌, ℕ, ◌<◌, ◌≤◌, ◌^◌, ◌⊎◌, inl, inr, Bool, true, false, List, [], ◌∷◌, ◌++◌, length, set, slice_get, get_or, Option, Some, Result, Ok, Err, IfOk, OnOk, sym, ◌∙◌, ap, subst, arith}
 use mathlib.Core.Path.{fun_ext}
-use Rattle.std.proofs.lemmas.Bool.{cases_eq, cases_lt}
-use Rattle.std.proofs.lemmas.List.{get_or-set_other, get_or-set_same, length-set}
-use Rattle.std.proofs.lemmas.Option.{slice_get-get_or, slice_get_past, slice_get_within}
+use Rattle.std.proofs.lemmas.Bool.{cases_eq}
+use Rattle.std.proofs.lemmas.List.{length-set}
+use Rattle.std.proofs.lemmas.Option.{slice_get-get_or, slice_get_within}
 use Rattle.abt_machine.specs.declared.events.What.{What}
 use Rattle.abt_machine.specs.declared.events.What.TheVariants as what
 use Rattle.abt_machine.specs.declared.operations.OrderShape.{OrderShape}
@@ -19,6 +19,7 @@ use Rattle.abt_machine.specs.Outcomes.{steps_in}
 use Rattle.abt_laws.specs.Laws.{IsMiss}
 use Rattle.abt_laws.proofs.Options.{some-injective}
 use Rattle.abt_commons.specs.Held.{ObjectsValue, clock_at, object_at}
+use Rattle.abt_commons.proofs.Numbers.{get-set-here, get-set-other}
 use Rattle.abt_stream.specs.Streams.{FitsShapes, FitsStream, StreamValue}
 use Rattle.abt_stream.specs.declared.turns.Turn.{Turn}
 use Rattle.abt_stream.specs.declared.turns.Turn.TheVariants as turn
@@ -30,20 +31,6 @@ use Rattle.abt_drain.proofs.Alone.{awake-after, going-on}
 use Rattle.abt_drain.proofs.Growing.{reached-grows}
 use Rattle.abt_drain.proofs.Journals.{site-unworn, stream-unworn}
 use Rattle.abt_drain.proofs.Taking.{step-no-miss}
-
--- an element in place of another
-set-same : {A : Type 0} (xs : List A) (i : ℕ) (x : A) → i < length xs → slice_get (set xs i x) i ≡ Some x
-set-same xs i x lt =
-    let within : i < length (set xs i x) = subst (λ k. i < k) (sym (length-set xs i x)) lt in
-    slice_get-get_or (set xs i x) i x within ∙ ap Some (get_or-set_same xs i x x lt)
-
-set-other : {A : Type 0} (xs : List A) (i j : ℕ) (x : A) → j ≢ i → slice_get (set xs i x) j ≡ slice_get xs j
-set-other xs i j x ne = elim (within (length xs)) [
-  | inl lt ↦ slice_get-get_or (set xs i x) j x (subst (λ k. j < k) (sym (length-set xs i x)) lt) ∙ (ap Some (get_or-set_other xs i j x x ne) ∙ sym (slice_get-get_or xs j x lt))
-  | inr le ↦ slice_get_past (set xs i x) j (subst (λ k. k ≤ j) (sym (length-set xs i x)) le) ∙ sym (slice_get_past xs j le)
-] where
-  within : (n : ℕ) → (j < n) ⊎ (n ≤ j)
-  within n = cases_lt j n
 
 module _ (W : Parts) (Z : List OrderShape) (n : ℕ) (crew : CrewValue) (is : IsCrew W Z n crew) (s : ℕ) (declared : s < W.streams)
     (old new : StreamValue) (at : slice_get crew.streams s ≡ Some old) (after : ObjectsValue)
@@ -62,10 +49,10 @@ module _ (W : Parts) (Z : List OrderShape) (n : ℕ) (crew : CrewValue) (is : Is
   inside = slice_get_within crew.streams s old at
 
   at-same : slice_get next.streams s ≡ Some new
-  at-same = set-same crew.streams s new inside
+  at-same = get-set-here crew.streams s new inside
 
   at-other : (r : ℕ) → s ≢ r → slice_get next.streams r ≡ slice_get crew.streams r
-  at-other r ne = set-other crew.streams s r new (λ e. ne (sym e))
+  at-other r ne = get-set-other crew.streams s r new (λ e. ne (sym e))
 
   numbered : old.number ≡ stream_no s
   numbered = ap stream_no (is.streams.own s old at).number
