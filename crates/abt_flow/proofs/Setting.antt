@@ -9,7 +9,7 @@ use Rattle.abt_machine.specs.declared.numbers.ObjectNo.{ObjectNo}
 use Rattle.abt_machine.specs.declared.operations.Op.TheVariants as op
 use Rattle.abt_machine.specs.declared.workload.Parts.{Parts}
 use Rattle.abt_machine.specs.Carrying.{advanced, with_acc}
-use Rattle.abt_machine.specs.Changes.{changed, to_tray, tray_moves}
+use Rattle.abt_machine.specs.Changes.{changed, to_tray}
 use Rattle.abt_machine.specs.Codes.{code_of, unless}
 use Rattle.abt_machine.specs.Lines.{Waiting, standing, tray_end}
 use Rattle.abt_machine.specs.Numbers.{object_no, stream_no}
@@ -18,10 +18,11 @@ use Rattle.abt_machine.specs.Steps.{op_row, receives}
 use Rattle.abt_machine.specs.Valid.{IsValid}
 use Rattle.abt_machine.specs.Workloads.{op_at}
 use Rattle.abt_machine.proofs.Declared.{op-declared}
-use Rattle.abt_laws.proofs.LineMoves.{tray_moves-each, tray_moves-key}
-use Rattle.abt_laws.proofs.Lists.{Among, EachOf, EachOf-all, EachOf-map, EachOf-then}
+use Rattle.abt_laws.proofs.LineMoves.{tray_moves-among, tray_moves-each, tray_moves-key}
+use Rattle.abt_laws.proofs.Lists.{Among, EachOf-all, EachOf-map, EachOf-then}
 use Rattle.abt_laws.proofs.Maps.{KeyOf, KeyOf-cases, put_all-kept, put_all-other, put_all-value, put_at-cases}
 use Rattle.abt_laws.proofs.Options.{some-injective}
+use Rattle.abt_laws.proofs.Pushes.{EachOf-among}
 use Rattle.abt_laws.proofs.Standing.{StandsIn, each-stands}
 use Rattle.abt_flow.specs.Confluent.{Confluent}
 use Rattle.abt_flow.specs.Effects.{Memory}
@@ -42,17 +43,6 @@ among-received : (S : State) (n : ℕ) (us : List ℕ) (v : ℕ) → Among v us 
 among-received S n [] v k = k
 among-received S n (u ∷ us) v (inl e) = inl e
 among-received S n (u ∷ us) v (inr k) = inr (among-received S n us v k)
-
-among-tray : (s i : ℕ) (us : List ℕ) (v : ℕ) → KeyOf v (tray_moves s i us) → Among v us
-among-tray s i [] v k = k
-among-tray s i (u ∷ us) v (inl e) = inl e
-among-tray s i (u ∷ us) v (inr k) = inr (among-tray s (suc i) us v k)
-
--- what holds of each unit of a list holds of one that is among them
-each-among : (P : ℕ → Type 0) (us : List ℕ) (v : ℕ) → EachOf P us → Among v us → P v
-each-among P [] v each k = absurd k
-each-among P (u ∷ us) v each (inl e) = subst P (sym e) each.0
-each-among P (u ∷ us) v each (inr k) = each-among P us v each.1 k
 
 module _ (W : Parts) (valid : IsValid W) (confluent : Confluent W) (t : ℕ) (S : State) (flowing : Flowing W t S) (s u : ℕ) (held : S.place u ≡ place.Hand (stream_no s)) (x : ObjectNo) (is : op_at W u (S.carried u).position ≡ Some (op.EvSet x)) where
   abbrev acc : ℕ
@@ -111,7 +101,7 @@ module _ (W : Parts) (valid : IsValid W) (confluent : Confluent W) (t : ℕ) (S 
   not-given v out = put_all-other keeps (map (receives S acc) waiters) v (λ k. out (received-among S acc waiters v k))
 
   own-not_waiting : Among u waiters → ⊥
-  own-not_waiting among = each-among (λ v. v ≢ u) waiters u (EachOf-then (StandsIn W S (Waiting x.0)) (λ v. v ≢ u) waiters waiter-other (each-stands W S (Waiting x.0))) among refl
+  own-not_waiting among = EachOf-among (λ v. v ≢ u) waiters u (EachOf-then (StandsIn W S (Waiting x.0)) (λ v. v ≢ u) waiters waiter-other (each-stands W S (Waiting x.0))) among refl
 
   went-on : Tells W (suc t) u (keeps u) (S.place u)
   went-on =
@@ -134,8 +124,8 @@ module _ (W : Parts) (valid : IsValid W) (confluent : Confluent W) (t : ℕ) (S 
   tell : (n : ℕ) → Tells W (suc t) n (then.carried n) (then.place n)
   tell n =
       elim (KeyOf-cases n moves) [
-        | inl key ↦ (let among : Among n waiters = among-tray s (tray_end W S s) waiters n key in
-            let b : Before W (suc t) n (with_acc acc (S.carried n)) = each-among (λ v. Before W (suc t) v (with_acc acc (S.carried v))) waiters n (EachOf-then (StandsIn W S (Waiting x.0)) (λ v. Before W (suc t) v (with_acc acc (S.carried v))) waiters waiter-tells (each-stands W S (Waiting x.0))) among in
+        | inl key ↦ (let among : Among n waiters = tray_moves-among s (tray_end W S s) waiters n key in
+            let b : Before W (suc t) n (with_acc acc (S.carried n)) = EachOf-among (λ v. Before W (suc t) v (with_acc acc (S.carried v))) waiters n (EachOf-then (StandsIn W S (Waiting x.0)) (λ v. Before W (suc t) v (with_acc acc (S.carried v))) waiters waiter-tells (each-stands W S (Waiting x.0))) among in
             put_all-value (λ v pl. v ≡ n → Tells W (suc t) n (then.carried n) pl) S.place moves n
             (tray_moves-each (λ (m : ℕ × Place). m.0 ≡ n → Tells W (suc t) n (then.carried n) m.1) (λ _. Unit {0}) s (tray_end W S s) waiters (λ v k _ _. woken n k b among) (EachOf-all (λ _. Unit {0}) waiters (λ _. tt))) key refl)
         | inr out ↦ subst (Tells W (suc t) n (then.carried n)) (sym (put_all-other S.place moves n out))
