@@ -15,6 +15,7 @@ use Rattle.abt_machine.specs.Numbers.{object_no}
 use Rattle.abt_machine.specs.Operations.{IsEventual}
 use Rattle.abt_machine.specs.State.{State}
 use Rattle.abt_machine.specs.Values.{Object, eventual_at, object_of}
+use Rattle.abt_laws.proofs.Options.{some-injective}
 use Rattle.abt_commons.specs.Reading.{is_ready}
 use Rattle.abt_interleave.proofs.Members.{Among, all-from-among, from-among, to-among}
 use Rattle.abt_interleave.proofs.Merged.{log-declared}
@@ -28,15 +29,12 @@ use Rattle.abt_streams.specs.Looks.{is_live_with}
 
 -- By objects and by states.
 
-some-is : {A : Type 0} {a b : A} → ◌≡◌ {A = Option A} (Some a) (Some b) → a ≡ b
-some-is e = cc
-
 -- a life is between eventuals
 life-declared : (W : Parts) (before lives : List Life) (s : ℕ) (life : Life) → AreLivesAfter W before lives → life_of lives s ≡ Some life → IsEventual W life.begins.0 × IsEventual W life.ends.0
 life-declared W before [] s life are at = absurd cc
 life-declared W before (l ∷ ls) s life are at = by (l.stream.0 == s) (λ later. life-declared W (before ++ l ∷ []) ls s life are.1 later) at where
   by : (b : Bool) → (life_of ls s ≡ Some life → IsEventual W life.begins.0 × IsEventual W life.ends.0) → cond b (Some l) (life_of ls s) ≡ Some life → IsEventual W life.begins.0 × IsEventual W life.ends.0
-  by true later e = subst (λ (x : Life). IsEventual W x.begins.0 × IsEventual W x.ends.0) (some-is e) (are.0.begins, are.0.ends)
+  by true later e = subst (λ (x : Life). IsEventual W x.begins.0 × IsEventual W x.ends.0) (some-injective e) (are.0.begins, are.0.ends)
   by false later e = later e
 
 -- an eventual is ready if the state has its value
