@@ -7,7 +7,6 @@ use Rattle.abt_machine.specs.declared.events.What.{What}
 use Rattle.abt_machine.specs.declared.events.What.TheVariants as what
 use Rattle.abt_machine.specs.declared.numbers.PoolNo.{PoolNo}
 use Rattle.abt_machine.specs.declared.numbers.UnitNo.{UnitNo}
-use Rattle.abt_machine.specs.declared.operations.Body.{Body}
 use Rattle.abt_machine.specs.declared.operations.OrderShape.{OrderShape}
 use Rattle.abt_machine.specs.declared.workload.Parts.{Parts}
 use Rattle.abt_machine.specs.Acts.{Answer}
@@ -16,13 +15,13 @@ use Rattle.abt_machine.specs.Next.{Due, LookDue, PutDue, RoundDue, due_by, due_o
 use Rattle.abt_machine.specs.Numbers.{pool_no, unit_no}
 use Rattle.abt_machine.specs.Queues.{first}
 use Rattle.abt_machine.specs.Rounds.{IsNextPool}
-use Rattle.abt_machine.specs.State.{Frame, Mark}
+use Rattle.abt_machine.specs.State.{Frame}
 use Rattle.abt_machine.specs.Turns.{Heard, Steps, due_of, looked, number_and_position, side_of}
 use Rattle.abt_machine.specs.Values.{Held, Object, Owned}
 use Rattle.abt_machine.specs.Valid.{IsValid}
 use Rattle.abt_machine.specs.Workloads.{body_at, pools_of}
 use Rattle.abt_machine.proofs.Declared.{listed-declared}
-use Rattle.abt_laws.proofs.Dues.{due_of_unit-cases}
+use Rattle.abt_laws.proofs.Dues.{no-round-in-hand}
 use Rattle.abt_laws.proofs.Orders.{next_pool-listed}
 use Rattle.abt_bounds.specs.Laws.{visited}
 use Rattle.abt_calls.specs.Allowed.{Allows}
@@ -53,11 +52,6 @@ pub first-of : (W : Parts) (tray os : List Owned) (o : Owned) → tray ≡ o ∷
 first-of W tray os o is h = some-of W (first tray) o (ap first is) h
 
 -- What is due.
-
--- no round is due while a unit is in hand
-no-round-of-unit : (W : Parts) (s : ℕ) (m : Mark) (b : Body) (k : ℕ) → due_of_unit W s m b k ≡ RoundDue → ⊥
-no-round-of-unit W s m b k =
-    due_of_unit-cases W s k (λ m b d. d ≡ RoundDue → ⊥) (λ b h. cc) (λ b h. cc) (λ g h. cc) (λ g h. cc) (λ g h. cc) (λ m b program more h. cc) (λ m b program over h. cc) m b
 
 -- what is due for these parts of a stream
 abbrev due_for : Parts → ℕ → Held → List Owned → Option Owned → Option Owned → Due
@@ -113,7 +107,7 @@ module _ (W : Parts) (Z : List OrderShape) (s : ℕ) (old : Held) (before : Obje
   pub run-moves : (o : Owned) (taken : Held) → old.tray ≡ [] → old.next ≡ None → old.hand ≡ Some o → taken ≡ record old { hand = None } → MakesEvent W Z s (in_hand o taken) before made new after → MovesAs W Z s old before named (Some made) new after
   run-moves o taken tray next hand rest moves =
       let same : in_hand o taken ≡ old = ap (in_hand o) rest ∙ ap (λ (h : Option Owned). record old { hand = h }) (sym hand) in
-      no-round (due_of_unit W s old.own.mark (body_at W o.number) o.carried.position) (hand-due W s old o tray next hand) (no-round-of-unit W s old.own.mark (body_at W o.number) o.carried.position)
+      no-round (due_of_unit W s old.own.mark (body_at W o.number) o.carried.position) (hand-due W s old o tray next hand) (no-round-in-hand W s old.own.mark (body_at W o.number) o.carried.position)
       (subst (λ (held : Held). MakesEvent W Z s held before made new after) same moves)
 
 -- a round at a pool that may be next

@@ -42,6 +42,11 @@ pub step-due : (W : Parts) (s : ℕ) (m : Mark) (b : Body) (k : ℕ) → due_of_
 step-due W s m b k =
     due_of_unit-cases W s k (λ m b d. d ≡ StepDue → (is_sched b ≡ false) × (k < length (ops_of b))) (λ b h. cc) (λ b h. cc) (λ g h. cc) (λ g h. cc) (λ g h. cc) (λ m b program more h. (program, more)) (λ m b program over h. cc) m b
 
+-- no round is due while a unit is in hand
+pub no-round-in-hand : (W : Parts) (s : ℕ) (m : Mark) (b : Body) (k : ℕ) → due_of_unit W s m b k ≡ RoundDue → ⊥
+no-round-in-hand W s m b k =
+    due_of_unit-cases W s k (λ m b d. d ≡ RoundDue → ⊥) (λ b h. cc) (λ b h. cc) (λ g h. cc) (λ g h. cc) (λ g h. cc) (λ m b program more h. cc) (λ m b program over h. cc) m b
+
 -- a unit that is to make a step has not ended itself
 pub step-mark : (W : Parts) (s : ℕ) (m : Mark) (b : Body) (k : ℕ) → due_of_unit W s m b k ≡ StepDue → is_exited m ≡ false
 step-mark W s Plain b k h = refl
