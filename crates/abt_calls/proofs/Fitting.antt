@@ -1,5 +1,5 @@
 -- What is held at the start and what steps leave are the workload's.
-use Rattle.std.proofs.Common.{◌≡◌, ℕ, ◌<◌, List, [], ◌∷◌, length, map, Option, Some, None, option_map, refl, ◌∙◌, ap, arith, All}
+use Rattle.std.proofs.Common.{◌≡◌, ℕ, ◌<◌, List, [], ◌∷◌, length, map, Option, Some, option_map, ◌∙◌, ap, arith, All}
 use Rattle.std.specs.List.{flat_map}
 use Rattle.std.proofs.lemmas.List.{length-replicate}
 use Rattle.std.proofs.lemmas.List.Elements.{All-append, All-cons, All-head, All-nil}
@@ -14,9 +14,8 @@ use Rattle.abt_machine.specs.declared.operations.Thing.{Thing}
 use Rattle.abt_machine.specs.declared.operations.Thing.TheVariants as thing
 use Rattle.abt_machine.specs.declared.workload.Parts.{Parts}
 use Rattle.abt_machine.specs.Operations.{nature_of}
-use Rattle.abt_machine.specs.Workloads.{op_at, start_of, thing_at}
+use Rattle.abt_machine.specs.Workloads.{op_at, thing_at}
 use Rattle.abt_machine.specs.Carrying.{advanced}
-use Rattle.abt_machine.specs.Sites.{home_from}
 use Rattle.abt_machine.specs.Valid.{IsValid}
 use Rattle.abt_machine.specs.State.{Carried, State}
 use Rattle.abt_machine.specs.Start.{start}
@@ -25,7 +24,7 @@ use Rattle.abt_machine.specs.Pieces.{IsPieceOf}
 use Rattle.abt_machine.specs.Values.{Owned, barrier_at, conditions_of, eventual_at, future_at, monitor_at, object_of, rwlock_at, owned_at, owned_in, phase_at, waiters_at}
 use Rattle.abt_machine.specs.Acts.{Answer, Given, Through, Woke, Rested, Miss, Number, Asks, Coded, Back, carrying, moved}
 use Rattle.abt_machine.specs.Plans.{Plan, Does, Calls, Exits, plan_of, to_caller, to_condition, to_giver, to_yielder}
-use Rattle.abt_machine.proofs.Declared.{start-declared}
+use Rattle.abt_laws.proofs.SoundStart.{start-home}
 use Rattle.abt_laws.proofs.Lists.{EachOf}
 use Rattle.abt_laws.proofs.Standing.{StandsIn, each-stands}
 use Rattle.abt_unit.specs.Fits.{Fits}
@@ -88,12 +87,6 @@ module _ (W : Parts) (S : State) (F : Owned → Type 0) (each : (u : ℕ) → u 
   object-has (site.Rw x) is = rwlock-has x.0 (thing_at W x.0)
 
 -- The start.
-
-start-home : (W : Parts) (u : ℕ) → IsValid W → home_from (start_of W u) < length W.pools
-start-home W u valid = by (start_of W u) refl where
-  by : (o : Option ℕ) → start_of W u ≡ o → home_from o < length W.pools
-  by None e = valid.some_pool
-  by (Some p) e = start-declared W u p valid e
 
 unit-fits : (W : Parts) → IsValid W → (u : ℕ) → u < length W.units → Fits W (owned_at (start W) u)
 unit-fits W valid u declared = record {

@@ -1,7 +1,7 @@
 -- If all units of a run have ended, their outputs are the flow's.
 use Rattle.std.proofs.Common.{◌≡◌, ℕ, zero, suc, ◌<◌, ◌≤◌, List, [], ◌∷◌, ◌++◌, length, map, Some, refl, sym, ◌∙◌, ap, subst, arith, ◌⊎◌, inl, inr}
 use Rattle.std.specs.Prelude.{slice_get}
-use Rattle.std.proofs.lemmas.List.{length-map, length_push}
+use Rattle.std.proofs.lemmas.List.{length-map}
 use Rattle.std.proofs.lemmas.Option.{slice_get_within}
 use Rattle.abt_machine.specs.declared.events.Piece.{Piece}
 use Rattle.abt_machine.specs.declared.events.Place.{Place}
@@ -15,6 +15,7 @@ use Rattle.abt_machine.specs.Runs.{last_state}
 use Rattle.abt_machine.specs.Sound.{Sound}
 use Rattle.abt_machine.specs.State.{State, Carried}
 use Rattle.abt_machine.specs.Workloads.{body_at, ops_of}
+use Rattle.abt_laws.proofs.LifeLists.{length-count_up}
 use Rattle.abt_laws.proofs.Options.{none≢some, some-injective}
 use Rattle.abt_laws.proofs.RunParts.{last_state-sound}
 use Rattle.abt_laws.proofs.SoundRuns.{runs-are-sound}
@@ -29,10 +30,6 @@ use Rattle.abt_flow.proofs.Runs.{run-flows}
 use Rattle.abt_flow.proofs.Tells.{Before, Flowing, Tells, memory_of}
 
 -- The list of outputs.
-
-length-count_up : (n : ℕ) → length (count_up n) ≡ n
-length-count_up zero = refl
-length-count_up (suc n) = length_push (count_up n) n ∙ (let e = length-count_up n in omega arith)
 
 get-push : {A : Type 0} (xs : List A) (x y : A) (k : ℕ) → slice_get (xs ++ x ∷ []) k ≡ Some y → (slice_get xs k ≡ Some y) ⊎ ((k ≡ length xs) × (x ≡ y))
 get-push [] x y zero e = inr (refl, some-injective e)

@@ -27,11 +27,12 @@ use Rattle.abt_interleave.proofs.Weaves.{entry_in, among-at}
 -- Last stamps.
 
 module _ {A : Type 0} (stamp : A → ℕ) where
-  last-append : (n : ℕ) (xs ys : List A) → last_from n (map stamp (xs ++ ys)) ≡ last_from (last_from n (map stamp xs)) (map stamp ys)
+  -- the last of two lists
+  pub last-append : (n : ℕ) (xs ys : List A) → last_from n (map stamp (xs ++ ys)) ≡ last_from (last_from n (map stamp xs)) (map stamp ys)
   last-append n [] ys = refl
   last-append n (x ∷ xs) ys = last-append (stamp x) xs ys
 
-  rises-last : (n : ℕ) (xs : List A) → RisesAbove n (map stamp xs) → n ≤ last_from n (map stamp xs)
+  pub rises-last : (n : ℕ) (xs : List A) → RisesAbove n (map stamp xs) → n ≤ last_from n (map stamp xs)
   rises-last n [] r = omega arith
   rises-last n (x ∷ xs) r = let k : n < stamp x = r.0 in let l : stamp x ≤ last_from (stamp x) (map stamp xs) = rises-last (stamp x) xs r.1 in omega arith
 

@@ -18,7 +18,7 @@ use Rattle.abt_laws.proofs.Exits.{is_own, HasDone, NoTaskExits, no-exit-nil, no-
 use Rattle.abt_laws.proofs.Lists.{nil≢middle, last-or-within}
 use Rattle.abt_laws.proofs.LifeJournals.{ends_in-append}
 
-length-count_up : (n : ℕ) → length (count_up n) ≡ n
+pub length-count_up : (n : ℕ) → length (count_up n) ≡ n
 length-count_up zero = refl
 length-count_up (suc n) = let ih : length (count_up n) ≡ n = length-count_up n in omega (arith, length-append (count_up n) (n ∷ []))
 

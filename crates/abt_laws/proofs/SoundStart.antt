@@ -89,7 +89,8 @@ start-placed W u valid = by (start_of W u) refl where
   by None e = (refl, refl)
   by (Some p) e = (start-declared W u p valid e, count-below W p u (length W.units) e (starts-declared W u p e))
 
-start-home : (W : Parts) (u : ℕ) → IsValid W → home_from (start_of W u) < length W.pools
+-- the home of each unit at the start is declared
+pub start-home : (W : Parts) (u : ℕ) → IsValid W → home_from (start_of W u) < length W.pools
 start-home W u valid = by (start_of W u) refl where
   by : (o : Option ℕ) → start_of W u ≡ o → home_from o < length W.pools
   by None e = valid.some_pool

@@ -23,7 +23,7 @@ use Rattle.abt_simulation.proofs.CalledSites.{steps-site}
 use Rattle.abt_simulation.proofs.Merged.{deeds-of}
 
 -- a deed calls the site of its event, or nothing if that has none
-abbrev CallsSite : Parts → StreamDeed → Type 0
+abbrev pub CallsSite : Parts → StreamDeed → Type 0
 CallsSite W d = Agrees event_of stamp_of stream_of (event_site W) place_of d
 
 -- the place of what is heard is its site
@@ -32,7 +32,7 @@ place-heard None = refl
 place-heard (Some h) = refl
 
 -- so does each deed of a course
-does-call : (W : Parts) (Z : List OrderShape) (s : ℕ) (p q : Held) (log : List StreamDeed) → Does (Steps W Z) s p log q → (d : StreamDeed) → Among d log → CallsSite W d
+pub does-call : (W : Parts) (Z : List OrderShape) (s : ℕ) (p q : Held) (log : List StreamDeed) → Does (Steps W Z) s p log q → (d : StreamDeed) → Among d log → CallsSite W d
 does-call W Z s p q [] c d m = absurd m
 does-call W Z s p q (e ∷ es) c d m =
     elim m [

@@ -7,22 +7,18 @@ use Rattle.abt_machine.specs.declared.events.Event.{Event}
 use Rattle.abt_machine.specs.declared.events.Site.{Site}
 use Rattle.abt_machine.specs.declared.operations.OrderShape.{OrderShape}
 use Rattle.abt_machine.specs.declared.workload.Parts.{Parts}
-use Rattle.abt_machine.specs.Numbers.{stream_no}
 use Rattle.abt_machine.specs.EventSites.{event_site}
 use Rattle.abt_machine.specs.Stamps.{AllAfter, Shares}
-use Rattle.abt_machine.specs.Turns.{Heard, Steps}
-use Rattle.abt_machine.specs.Values.{Held}
+use Rattle.abt_machine.specs.Turns.{Heard}
 use Rattle.abt_interleave.specs.Histories.{RisesAbove, entry_stamps, last_from}
-use Rattle.abt_interleave.specs.Deeds.{Does, deed_stamps}
+use Rattle.abt_interleave.specs.Deeds.{deed_stamps}
 use Rattle.abt_interleave.specs.Logs.{BeforeAll, InOrder, IsSooner, LeavesEntry}
-use Rattle.abt_interleave.specs.Stamps.{place_of}
 use Rattle.abt_interleave.proofs.Clocks.{among-above}
 use Rattle.abt_interleave.proofs.Members.{Among, all-from-among, from-among, to-among}
 use Rattle.abt_interleave.proofs.Merged.{log-declared}
 use Rattle.abt_interleave.proofs.Orders.{one-stamp, rises-in-order}
 use Rattle.abt_simulation.specs.Merging.{IsJournalOf, SiteEntry, StreamDeed, event_of, machine_of}
-use Rattle.abt_simulation.specs.Simulation.{site_heard}
-use Rattle.abt_simulation.proofs.CalledSites.{steps-site}
+use Rattle.abt_simulation.proofs.MergedStamps.{CallsSite, does-call}
 use Rattle.abt_drain.specs.Moments.{Moment}
 use Rattle.abt_waves.specs.Fleets.{IsWave, MakesWave}
 use Rattle.abt_streams.specs.Runs.{IsBelow}
@@ -43,21 +39,6 @@ module _ {A : Type 0} (stamp : A → ℕ) where
   ]
 
 -- Deeds and their sites.
-
--- a deed calls the site of its event, or nothing if that has none
-abbrev CallsSite : Parts → StreamDeed → Type 0
-CallsSite W d = place_of d ≡ event_site W (event_of d)
-
-place-heard : (heard : Option Heard) → option_map (λ h. h.0) heard ≡ site_heard heard
-place-heard None = refl
-place-heard (Some h) = refl
-
-does-call : (W : Parts) (Z : List OrderShape) (s : ℕ) (p q : Held) (log : List StreamDeed) → Does (Steps W Z) s p log q → (d : StreamDeed) → Among d log → CallsSite W d
-does-call W Z s p q [] c d m = absurd m
-does-call W Z s p q (e ∷ es) c d m = elim m [
-  | inl same ↦ subst (CallsSite W) (sym same) (place-heard e.heard ∙ (steps-site W Z s p e.what e.heard c.1 c.2 ∙ ap (λ r. event_site W (record { stamp = e.stamp; stream = stream_no r; what = e.what })) (sym c.0)))
-  | inr later ↦ does-call W Z s c.1 q es c.3 d later
-]
 
 same-some : {A : Type 0} (a b : A) → ◌≡◌ {A = Option A} (Some a) (Some b) → a ≡ b
 same-some {A} a b e = ap get e where

@@ -24,7 +24,7 @@ use Rattle.abt_stream.specs.declared.turns.Turn.{Turn}
 use Rattle.abt_stream.specs.declared.turns.Turn.TheVariants as turn
 use Rattle.abt_waves.specs.Locks.{HasSeenNothing, LocksValue, Moves}
 use Rattle.abt_waves.specs.Voyages.{HasGone, IsWorn}
-use Rattle.abt_waves.proofs.Lasts.{last-append}
+use Rattle.abt_interleave.proofs.Carried.{last-append}
 
 module _ {Lock Pass : Type 0} (locks : LocksValue Lock Pass) (lock : Site → Lock) (Z : List OrderShape) where
   abbrev W : Parts

@@ -38,7 +38,8 @@ use Rattle.abt_waves.specs.Locks.{AreClosed, LocksValue, TellsSites, sights_from
 use Rattle.abt_waves.specs.Stops.{StopsBy}
 use Rattle.abt_waves.specs.Voyages.{HasGone, HasPass, IsWorn}
 use Rattle.abt_waves.specs.Waves.{pass_in, stream_in}
-use Rattle.abt_waves.proofs.Lasts.{last-append, max-low, prefix-low}
+use Rattle.abt_interleave.proofs.Carried.{last-append}
+use Rattle.abt_waves.proofs.Lasts.{max-low, prefix-low}
 
 -- what came back of a stream
 pub record Came {Lock Pass : Type 0} (IsOf : Pass → Type 0) (locks : LocksValue Lock Pass) (lock : Site → Lock) (Z : List OrderShape) (live : List Bool) (returned : List (Returned Pass)) (s : ℕ) (stream : StreamValue) : Type 0 where
