@@ -1,6 +1,6 @@
 //! A stream and its turns.
 
-ghost use Rattle.std.specs.Prelude.{◌≡◌, ◌<◌, ◌≤◌, ◌↔◌, [], IfOk, option_map, map, IsTrue, List};
+ghost use Rattle.std.specs.Prelude.{◌≡◌, ◌<◌, ◌≤◌, ◌↔◌, ◌^◌, [], IfOk, option_map, map, IsTrue, List};
 ghost use Rattle.abt_commons.specs.Acts.{owned};
 ghost use Rattle.abt_stream.specs.Streams.{FitsShapes, FitsStream, IsIdle, hand_of, next_of, IsLog};
 ghost use Rattle.abt_stream.specs.Dues.{HasStep};
@@ -138,7 +138,8 @@ impl Stream {
         })
     }
 
-    /// One turn: the stream's next event, or none.
+    /// One turn: the stream's next event, or none. No clock of a stream is above 2^62 (`log`), so a turn that met a
+    /// clock at its end answers `Worn`, and by `turned` no other does.
     pub fn turn<'w, C: Commons<'w>, P: Pace>(
         &mut self,
         commons: &C,
@@ -206,6 +207,7 @@ impl Stream {
     pub fn log(&self) -> &[Event]
         ensures log { result.now ≡ self.now.log }
         ensures own { IsLog self.now.number self.now.clock self.now.log }
+        ensures clock { self.now.clock ≤ 2 ^ 62 }
         ensures steps { steps_in self.now.log ≤ self.now.budget }
     {
         self.log.as_slice()
