@@ -25,7 +25,7 @@ use Rattle.abt_machine.specs.declared.workload.UnitPart.{UnitPart}
 use Rattle.abt_machine.specs.Access.{may_take_all}
 use Rattle.abt_machine.specs.Canonical.{op_numbers}
 use Rattle.abt_machine.specs.Forms.{Slot, Fixed, Numeral, op_slots}
-use Rattle.abt_machine.specs.Limits.{operation_limit, stream_limit, unit_limit}
+use Rattle.abt_machine.specs.Limits.{key_limit, listed_limit, object_limit, operation_limit, pool_limit, sched_limit, size_limit, stream_limit, unit_limit, unit_operation_limit, word_limit}
 use Rattle.abt_machine.specs.Operations.{AreNamed, IsDeclared, IsNamed, may_block}
 use Rattle.abt_machine.specs.Valid.{IsAccess, IsBody, IsRule, IsSched, IsStream, IsThing, IsUnit, IsValid, IsVisible, IsWord, placed_scheds, words_said}
 use Rattle.abt_machine.specs.Words.{Text}
@@ -52,7 +52,7 @@ abbrev scheduler : (pools : ℕ) (part : SchedPart) → Option (IsSched pools pa
 scheduler pools part =
     given (sched_rule part.rule) (λ rule.
     given (is_less 0 (length part.pools)) (λ some.
-    given (is_at_most (length part.pools) 8) (λ few.
+    given (is_at_most (length part.pools) listed_limit) (λ few.
     given (all (λ (p : PoolNo). p.0 < pools) (λ (p : PoolNo). is_less p.0 pools) part.pools) (λ listed.
     given (each_once (map (λ (p : PoolNo). p.0) part.pools)) (λ once.
     Some (record { rule = rule; some_pool = some; few_pools = few; listed = listed; once = map-pairs part.pools once }))))))
@@ -82,8 +82,8 @@ named W number.Key n = is_less n W.keys
 named W number.Unit n = is_less n (length W.units)
 named W k n = object_named W k n (thing_at W n) refl
 
-abbrev size : (n : ℕ) → Option ((0 < n) × (n ≤ 4096))
-size n = given (is_less 0 n) (λ some. given (is_at_most n 4096) (λ few. Some (some, few)))
+abbrev size : (n : ℕ) → Option ((0 < n) × (n ≤ size_limit))
+size n = given (is_less 0 n) (λ some. given (is_at_most n size_limit) (λ few. Some (some, few)))
 
 abbrev object : (W : Parts) (x : ℕ) (t : Thing) → Option (IsThing W.objects x t)
 object W x thing.Mutex = Some tt
@@ -113,7 +113,7 @@ unit_body scheds (body.Sched g) = is_less g.0 scheds
 abbrev unit : (W : Parts) (part : UnitPart) → Option (IsUnit W part)
 unit W part =
     given (unit_body (length W.scheds) part.body) (λ kind.
-    given (is_at_most (length (ops_of part.body)) 256) (λ few.
+    given (is_at_most (length (ops_of part.body)) unit_operation_limit) (λ few.
     given (all (IsDeclared W) (operation W) (ops_of part.body)) (λ ops.
     given (whenever (λ (p : PoolNo). p.0 < length W.pools) (λ (p : PoolNo). is_less p.0 (length W.pools)) part.start) (λ start.
     Some (record { kind = kind; few_ops = few; ops = ops; start = start })))))
@@ -131,7 +131,7 @@ visible b = given (is_less 32 b) (λ no_blank. given (apart b 127) (λ no_delete
 abbrev said_word : (word : Text) → Option (IsWord word)
 said_word word =
     given (is_less 0 (length word)) (λ some.
-    given (is_at_most (length word) 64) (λ few.
+    given (is_at_most (length word) word_limit) (λ few.
     given (all IsVisible visible word) (λ seen.
     given (is_true (list_all (λ b. nat_lt b 128) word)) (λ plain.
     Some (record { some_byte = some; few_bytes = few; visible = seen; utf8 = IsUtf8-from_ascii word (ascii word plain) })))))
@@ -143,17 +143,17 @@ abbrev pub validity : (W : Parts) → Option (IsValid W)
 validity W =
     given (is_less 0 W.streams) (λ some_stream.
     given (is_at_most W.streams (stream_limit format.Two)) (λ few_streams.
-    given (is_at_most W.keys 16) (λ few_keys.
+    given (is_at_most W.keys key_limit) (λ few_keys.
     given (is_less 0 (length W.pools)) (λ some_pool.
-    given (is_at_most (length W.pools) 64) (λ few_pools.
+    given (is_at_most (length W.pools) pool_limit) (λ few_pools.
     given (all (λ (part : PoolPart). IsAccess W.streams part.access) (λ (part : PoolPart). pool_access W.streams part.access) W.pools) (λ pools.
     given (is_less 0 (length W.scheds)) (λ some_sched.
-    given (is_at_most (length W.scheds) 64) (λ few_scheds.
+    given (is_at_most (length W.scheds) sched_limit) (λ few_scheds.
     given (all (IsSched (length W.pools)) (scheduler (length W.pools)) W.scheds) (λ scheds.
     given (same (length W.mains) W.streams) (λ mains.
     given (each_below (IsStream W) (stream W) W.streams) (λ streams.
     given (each_once (placed_scheds W)) (λ one_place.
-    given (is_at_most (length W.objects) 256) (λ few_objects.
+    given (is_at_most (length W.objects) object_limit) (λ few_objects.
     given (entries W.objects (IsThing W.objects) (object W)) (λ objects.
     given (is_at_most (length W.units) (unit_limit format.Two)) (λ few_units.
     given (all (IsUnit W) (unit W) W.units) (λ units.
