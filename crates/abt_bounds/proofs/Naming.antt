@@ -6,9 +6,11 @@ use Rattle.abt_machine.specs.declared.events.Event.{Event}
 use Rattle.abt_machine.specs.declared.events.Place.TheVariants as place
 use Rattle.abt_machine.specs.declared.events.What.{What}
 use Rattle.abt_machine.specs.declared.events.What.TheVariants as what
+use Rattle.abt_machine.specs.declared.grammar.Format.TheVariants as format
 use Rattle.abt_machine.specs.declared.operations.OrderShape.{OrderShape}
 use Rattle.abt_machine.specs.declared.workload.Parts.{Parts}
 use Rattle.abt_machine.specs.Events.{May, after}
+use Rattle.abt_machine.specs.Limits.{pool_limit, stream_limit, unit_limit, unit_operation_limit}
 use Rattle.abt_machine.specs.Lines.{InHand, InNext, InTray}
 use Rattle.abt_machine.specs.Numbers.{stream_no}
 use Rattle.abt_machine.specs.Rounds.{IsNextPool, OrdersStored}
@@ -68,14 +70,14 @@ runs-name-declared W Z valid stored J e run has =
 -- Texts.
 
 few-pools : (W : Parts) (p : ℕ) → IsValid W → p < length W.pools → p < 10 ^ 64
-few-pools W p valid l = let few : length W.pools ≤ 64 = valid.few_pools in omega arith
+few-pools W p valid l = let few : length W.pools ≤ pool_limit = valid.few_pools in omega arith
 
 few-units : (W : Parts) (u : ℕ) → IsValid W → u < length W.units → u < 10 ^ 64
-few-units W u valid l = let few : length W.units ≤ 4096 = valid.few_units in omega arith
+few-units W u valid l = let few : length W.units ≤ unit_limit format.Two = valid.few_units in omega arith
 
 few-ops : (W : Parts) (u k : ℕ) → IsValid W → u < length W.units → k < length (ops_of (body_at W u)) → k < 10 ^ 64
 few-ops W u k valid declared l =
-    let few : length (ops_of (body_at W u)) ≤ 256 = few-unit-ops W u valid in omega arith
+    let few : length (ops_of (body_at W u)) ≤ unit_operation_limit = few-unit-ops W u valid in omega arith
 
 what-written : (W : Parts) (w : What) → IsValid W → NamesDeclared W w → AllByRecursion (λ n. n < 10 ^ 64) (what_numbers w)
 what-written W (what.Miss p) valid h = (few-pools W p.0 valid h, tt)
@@ -89,7 +91,7 @@ what-written W (what.Leave u) valid h = (few-units W u.0 valid h, tt)
 
 event-written : (W : Parts) (e : Event) (n : ℕ) → IsValid W → IsNamed W e → e.stamp ≤ n → n < 10 ^ 64 → IsWritten e
 event-written W e n valid named few short =
-    let few_streams : W.streams ≤ 16 = valid.few_streams in
+    let few_streams : W.streams ≤ stream_limit format.Two = valid.few_streams in
     let declared : e.stream.0 < W.streams = named.0 in
     let stamp : e.stamp < 10 ^ 64 = omega arith in
     let stream : e.stream.0 < 10 ^ 64 = omega arith in (stamp, (stream, what-written W e.what valid named.1))
