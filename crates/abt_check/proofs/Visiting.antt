@@ -17,6 +17,7 @@ use Rattle.abt_machine.specs.declared.operations.Rule.{Rule}
 use Rattle.abt_machine.specs.declared.operations.Rule.TheVariants as rule
 use Rattle.abt_machine.specs.declared.workload.Parts.{Parts}
 use Rattle.abt_machine.specs.declared.workload.SchedPart.{SchedPart}
+use Rattle.abt_machine.specs.Limits.{listed_limit}
 use Rattle.abt_machine.specs.Rounds.{AnyOrder, Choice, IsChosen, IsNextPool, IsOrder, Only, choice_by, choice_of, shaped}
 use Rattle.abt_machine.specs.Sound.{IsUnderWay}
 use Rattle.abt_machine.specs.State.{Frame}
@@ -152,9 +153,9 @@ module _ (W : Parts) (Z : List OrderShape) (f : Frame) (part : SchedPart) (pools
   pub pools-declared : IsValid W → IsUnderWay W Z f → All (λ p. p < length W.pools) (pool_numbers pools)
   pools-declared valid way = subst (All (λ p. p < length W.pools)) (sym pools-are) (listed-declared W f.sched valid)
 
-  pub few-pools : IsValid W → IsUnderWay W Z f → length pools ≤ 8
+  pub few-pools : IsValid W → IsUnderWay W Z f → length pools ≤ listed_limit
   few-pools valid way =
-      let few : length (pools_of W f.sched) ≤ 8 = few-listed W f.sched valid in
+      let few : length (pools_of W f.sched) ≤ listed_limit = few-listed W f.sched valid in
       let a : length (pools_of W f.sched) ≡ length pools = ap (λ (xs : List ℕ). length xs) (sym pools-are) ∙ length-pool_numbers pools in omega arith
 
 pub is-closed : (ps qs : List PoolNo) (p : ℕ) (a : Bool) → a ≡ false → a ≡ list_any (is_pool p) ps → IsTrue a ↔ (Contains (pool_numbers ps) p × (Contains (pool_numbers qs) p → ⊥))
