@@ -4,8 +4,10 @@ use Rattle.std.specs.Prelude.{Contains}
 use Rattle.std.proofs.lemmas.List.{length-map}
 use Rattle.abt_machine.specs.declared.events.Event.{Event}
 use Rattle.abt_machine.specs.declared.events.Site.{Site}
+use Rattle.abt_machine.specs.declared.grammar.Format.TheVariants as format
 use Rattle.abt_machine.specs.declared.operations.OrderShape.{OrderShape}
 use Rattle.abt_machine.specs.declared.workload.Parts.{Parts}
+use Rattle.abt_machine.specs.Limits.{stream_limit}
 use Rattle.abt_machine.specs.Outcomes.{is_step}
 use Rattle.abt_machine.specs.Values.{Held, Object}
 use Rattle.abt_interleave.specs.Machines.{Gathered}
@@ -60,4 +62,4 @@ pub journals-count : (W : Parts) (Z : List OrderShape) → JournalsCount W Z
 journals-count W Z parts objects logs histories ends finals gathered J j = counts W Z parts objects logs histories ends finals gathered J j
 
 pub nothing-is-worn : (W : Parts) (Z : List OrderShape) → NothingIsWorn W Z
-nothing-is-worn W Z valid parts objects logs histories ends finals gathered rule short = never-worn (machine_of W Z) parts objects logs histories ends finals gathered rule (let k : W.streams ≤ 16 = valid.few_streams in omega arith) short
+nothing-is-worn W Z valid parts objects logs histories ends finals gathered rule short = never-worn (machine_of W Z) parts objects logs histories ends finals gathered rule (let k : W.streams ≤ stream_limit format.Two = valid.few_streams in omega arith) short
