@@ -5,7 +5,7 @@ use Rattle.std.proofs.lemmas.List.{length-map}
 use Rattle.std.proofs.lemmas.List.FromFn.{length-enumerate_from}
 use Rattle.abt_machine.specs.declared.operations.Op.TheVariants as op
 use Rattle.abt_machine.specs.declared.workload.UnitPart.{UnitPart}
-use Rattle.abt_machine.specs.Limits.{operation_limit}
+use Rattle.abt_machine.specs.Limits.{object_limit, operation_limit}
 use Rattle.abt_machine.specs.Numbers.{object_no}
 use Rattle.abt_machine.specs.Words.{numbered}
 use Rattle.abt_machine.specs.Workloads.{all_ops, ops_of}
@@ -36,6 +36,6 @@ pub few-ops : (nodes : List Node) → IsMesh nodes → length (all_ops (numbered
 few-ops nodes is =
     let units : List UnitPart = numbered node_unit nodes in
     let count : length units ≡ length nodes = length-units nodes in
-    let few : length nodes ≤ 256 = is.few in
+    let few : length nodes ≤ object_limit = is.few in
     let most : length (all_ops units) ≤ length units * 19 = length-flat_map-most (λ (part : UnitPart). ops_of part.body) 19 units (each-get (λ (part : UnitPart). length (ops_of part.body) ≤ 19) units (unit-few nodes is)) in
     omega arith

@@ -16,6 +16,7 @@ use Rattle.abt_machine.specs.declared.workload.Parts.{Parts}
 use Rattle.abt_machine.specs.declared.workload.PoolPart.{PoolPart}
 use Rattle.abt_machine.specs.declared.workload.SchedPart.{SchedPart}
 use Rattle.abt_machine.specs.declared.workload.UnitPart.{UnitPart}
+use Rattle.abt_machine.specs.Limits.{object_limit}
 use Rattle.abt_machine.specs.Numbers.{pool_no, sched_no}
 use Rattle.abt_machine.specs.Operations.{IsDeclared, IsEventual, said_by}
 use Rattle.abt_machine.specs.Valid.{IsAccess, IsSched, IsStream, IsThing, IsUnit, IsValid, IsWord, sched_in, words_said}
@@ -122,9 +123,9 @@ pub IsValid-mesh : (nodes : List Node) → IsMesh nodes → IsValid (mesh nodes)
 unfolding mesh
 IsValid-mesh nodes is =
     let W : Parts = mesh nodes in
-    let few : length nodes ≤ 256 = is.few in
+    let few : length nodes ≤ object_limit = is.few in
     let objects : length (replicate (length nodes) thing.Eventual) ≡ length nodes = length-replicate (length nodes) thing.Eventual in
-    let few_objects : length (replicate (length nodes) thing.Eventual) ≤ 256 = omega arith in
+    let few_objects : length (replicate (length nodes) thing.Eventual) ≤ object_limit = omega arith in
     let units : length W.units ≡ length nodes = length-units nodes in
     record {
       some_stream = lit< tt;
