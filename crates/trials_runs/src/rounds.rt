@@ -1,6 +1,7 @@
 //! Rounds of one scheduler over one to eight pools, by each rule.
 
 ghost use Rattle.std.specs.Prelude.{◌≡◌, ◌<◌, ◌≤◌, ◌+◌, ◌-◌, ◌%◌, ◌^◌};
+ghost use Rattle.abt_machine.specs.Limits.{listed_limit};
 ghost use Rattle.abt_order.specs.Schedulers.{IsSchedulerOf, IsStored};
 
 use abt_machine::{OrderShape, PoolNo, SchedNo, Want, Workload};
@@ -270,7 +271,7 @@ fn check_all(
 
 // The answer of shape Rotate. A value may be made of a function of this crate alone.
 fn turn(round: u64, n: u32, i: u32) -> u32
-    requires count { (0 < n) × (n ≤ 8) }
+    requires count { (0 < n) × (n ≤ listed_limit) }
     requires place { i < n }
     ensures { result ≡ (round + i) % n }
 {
@@ -279,7 +280,7 @@ fn turn(round: u64, n: u32, i: u32) -> u32
 
 // The answer of shape Mirror.
 fn turn_round(round: u64, n: u32, i: u32) -> u32
-    requires count { (0 < n) × (n ≤ 8) }
+    requires count { (0 < n) × (n ≤ listed_limit) }
     requires place { i < n }
     ensures { result ≡ n - 1 - i }
 {
