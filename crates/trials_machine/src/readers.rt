@@ -121,7 +121,7 @@ fn has_pools(rt: &impl Abort, w: &Workload) {
 
 // Units, their operations, and what they say.
 fn has_units(rt: &impl Abort, w: &Workload) {
-    assert!(rt; w.streams() == 2);
+    w.known();
     assert!(rt; w.units() == 3);
     assert!(rt; w.unit(UnitNo(0)).start == Some(PoolNo(4)));
     for (u, at, wanted) in [

@@ -5,4 +5,4 @@ use Rattle.abt_machine.proofs.Declared.{op-declared}
 use Rattle.trials_machine.proofs.readers.has_units.Goals as goal
 
 pub word-requires : goal.word-requires
-word-requires g c = op-declared c.args.w.now 2 0 (op.Say c.in-Some-Say.word) c.streams.ensures.valid (sym (rw c.in-Some-Say.field-0-is at c.in-Some-Say.ensures))
+word-requires g c = op-declared c.args.w.now 2 0 (op.Say c.in-Some-Say.word) c.known.ensures (sym (rw c.in-Some-Say.field-0-is at c.in-Some-Say.ensures))
