@@ -15,7 +15,7 @@ use Rattle.abt_callbacks.specs.declared.acts.FutureAct.{FutureAct}
 use Rattle.abt_callbacks.specs.declared.acts.FutureAct.TheVariants.{Set, Read, Reset}
 use Rattle.abt_callbacks.specs.declared.acts.FutureAnswer.{FutureAnswer}
 use Rattle.abt_callbacks.specs.declared.acts.FutureAnswer.TheVariants.{Kept, Ready, Vacant, Full}
-use Rattle.abt_callbacks.specs.Folding.{Folds}
+use Rattle.abt_callbacks.specs.Folding.{Folds, number_limit}
 use Rattle.abt_callbacks.specs.Futures.{Does, CalledFutureValue, empty, with_answer, with_value}
 use Rattle.abt_callbacks.specs.Runs.{is_ready, numbers_for, plain_sum, sets_of, IsFolded}
 use Rattle.abt_callbacks.proofs.Numbers.{sets-count, value_of, values-sum}
@@ -75,10 +75,10 @@ sets-fold o (e ∷ d ∷ ds) o' leads sets some many =
     (rest.0, rest.1, subst (λ l. Folds o.shape l rest.0) (append_assoc o.values (v ∷ []) (values_in (d ∷ ds))) rest.2, count ∙ (ap (λ k. k + count_by (λ (x : Entry FutureAct FutureAnswer). is_ready x.answer) (d ∷ ds)) none ∙ (zero-add (count_by (λ (x : Entry FutureAct FutureAnswer). is_ready x.answer) (d ∷ ds)) ∙ rest.3)))
 
 -- the plain sum of at most 4,096 numbers is below 2^64
-small-sum : (n : ℕ) → n ≤ 4096 → plain_sum n % 2 ^ 64 ≡ plain_sum n
+small-sum : (n : ℕ) → n ≤ number_limit → plain_sum n % 2 ^ 64 ≡ plain_sum n
 small-sum n few = let m : n * (n + 1) ≤ 4096 * 4097 = mul-le-mul {n₂ = 4096} {m₂ = 4097} few (omega arith) in omega arith
 
-module _ (workers n : ℕ) (some : 0 < workers) (numbers : (1 ≤ n) × (n ≤ 4096)) where
+module _ (workers n : ℕ) (some : 0 < workers) (numbers : (1 ≤ n) × (n ≤ number_limit)) where
   -- what a closed booth round a future is left with, if each seat was to set its numbers
   pub folded-whole : {O : Type 0} (see : O → CalledFutureValue) (opening object : O) (known : List (ℕ × List (Entry FutureAct FutureAnswer))) (clock : ℕ) → see opening ≡ empty Sum n
       → (closed : IsClosed (λ old act answer new. Does (see old) act answer (see new)) opening workers known object clock)

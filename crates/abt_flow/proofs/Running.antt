@@ -10,6 +10,7 @@ use Rattle.abt_machine.specs.declared.operations.Op.{Op}
 use Rattle.abt_machine.specs.declared.operations.Op.TheVariants as op
 use Rattle.abt_machine.specs.declared.operations.Thing.TheVariants as thing
 use Rattle.abt_machine.specs.declared.workload.Parts.{Parts}
+use Rattle.abt_machine.specs.Limits.{unit_operation_limit}
 use Rattle.abt_machine.specs.Numbers.{object_no, unit_no}
 use Rattle.abt_machine.specs.Operations.{IsEventual}
 use Rattle.abt_machine.specs.Valid.{IsValid}
@@ -64,10 +65,10 @@ set-there W u t x valid reached runs next =
     let eventual : IsEventual W x.0 = op-declared W u is.0.position (op.EvSet x) valid (next is.0 is.1) in
     slice_get_within W.objects x.0 thing.Eventual eventual
 
-pub position-few : (W : Parts) (u : ℕ) (t : Table) (p : Progress) → IsValid W → IsReached W u → UnitRuns W u t → slice_get t.units.items u ≡ Some p → p.position ≤ 256
+pub position-few : (W : Parts) (u : ℕ) (t : Table) (p : Progress) → IsValid W → IsReached W u → UnitRuns W u t → slice_get t.units.items u ≡ Some p → p.position ≤ unit_operation_limit
 position-few W u t p valid reached runs at =
     let l : u < length W.units = reached-declared W u valid reached in
-    let few : length (ops_of (body_at W u)) ≤ 256 = few-unit-ops W u valid in
+    let few : length (ops_of (body_at W u)) ≤ unit_operation_limit = few-unit-ops W u valid in
     let within = runs.follows.within u p at in omega arith
 
 -- One more operation.

@@ -8,6 +8,7 @@ use Rattle.abt_machine.specs.declared.workload.Parts.{Parts}
 use Rattle.abt_machine.specs.Grammar.{Reads, Refuses}
 use Rattle.abt_machine.specs.Valid.{IsValid}
 use Rattle.abt_machine.specs.Words.{Text}
+use Rattle.abt_machine.specs.Limits.{default_steps}
 use Rattle.abt_bounds.specs.Laws.{HasNoRevive, ops_in}
 use Rattle.abt_bounds.proofs.Budgets.{steps-bound-budgets}
 use Rattle.abt_outcomes.proofs.Stored.{orders-stored}
@@ -95,14 +96,14 @@ refuses-words (Stopped OutOfMemory) c h none = inr refl
 
 -- Steps.
 
-no-budget : (c : Call) (W : Parts) (s : StreamNo) (printed : Text) → 2 ≤ length c.given.orders → TellsWorkload c W → HasNoRevive W → ops_in W ≤ 10000 → RanOnLives c.given c.journal (outcome.Budget s) printed → ⊥
+no-budget : (c : Call) (W : Parts) (s : StreamNo) (printed : Text) → 2 ≤ length c.given.orders → TellsWorkload c W → HasNoRevive W → ops_in W ≤ default_steps → RanOnLives c.given c.journal (outcome.Budget s) printed → ⊥
 no-budget c W s printed two tells none few ran =
     let is : ran.workload ≡ W = one-workload c W ran.named ran.workload tells ran.reads in
     let sound : IsValid ran.workload = subst IsValid (sym is) (only-valid tells.bytes W tells.reads) in
-    steps-bound-budgets ran.workload c.given.orders sound (orders-stored ran.workload c.given.orders sound two) (subst HasNoRevive (sym is) none) 10000 s.0 c.journal (subst (λ (V : Parts). ops_in V ≤ 10000) (sym is) few) ran.run.run.run
+    steps-bound-budgets ran.workload c.given.orders sound (orders-stored ran.workload c.given.orders sound two) (subst HasNoRevive (sym is) none) default_steps s.0 c.journal (subst (λ (V : Parts). ops_in V ≤ default_steps) (sym is) few) ran.run.run.run
     ran.run.run.ended.0
 
-spends : (s : Status Outcome) (c : Call) (W : Parts) → Holds (program c) c.left s → 2 ≤ length c.given.orders → TellsWorkload c W → HasNoRevive W → ops_in W ≤ 10000 → number_of number_of_outcome s ≢ 4
+spends : (s : Status Outcome) (c : Call) (W : Parts) → Holds (program c) c.left s → 2 ≤ length c.given.orders → TellsWorkload c W → HasNoRevive W → ops_in W ≤ default_steps → number_of number_of_outcome s ≢ 4
 spends (Concluded outcome.Finished) c W h two tells none few = λ e. absurd (omega arith)
 spends (Concluded outcome.Stuck) c W h two tells none few = λ e. absurd (omega arith)
 spends (Concluded (outcome.Budget s)) c W h two tells none few = λ e. no-budget c W s h.text two tells none few h.prints

@@ -1,6 +1,7 @@
 use Rattle.std.proofs.Common.{◌≡◌, ◌+◌, ◌<◌, ◌≤◌, length, Some, None, sym, ◌∙◌, ap, subst, arith}
 use Rattle.std.specs.Prelude.{slice_get}
 use Rattle.abt_machine.specs.declared.operations.Op.TheVariants as op
+use Rattle.abt_machine.specs.Limits.{unit_operation_limit}
 use Rattle.abt_flow.specs.declared.memory.Progress.{Progress}
 use Rattle.abt_flow.specs.Tables.{Halts, memory_in}
 use Rattle.abt_flow.proofs.Running.{goes-same, one-more, others-same, position-few, read-at, unit-there, wait-there}
@@ -18,7 +19,7 @@ pub receive-requires : goal.receive-requires
 receive-requires c =
     let l : c.args.u.0 < length c.args.self.now.units.items = unit-there c.args.w.now c.args.u.0 c.args.self.now c.known.ensures c.requires.reached c.requires.runs in
     let at : slice_get c.args.self.now.units.items c.args.u.0 ≡ Some c.index_mut.result.now = read-at c.args.self.now.units.items c.args.u.0 c.index_mut.result.now l c.index_mut.ensures.value in
-    let few : c.index_mut.result.now.position ≤ 256 = position-few c.args.w.now c.args.u.0 c.args.self.now c.index_mut.result.now c.known.ensures c.requires.reached c.requires.runs at in omega arith
+    let few : c.index_mut.result.now.position ≤ unit_operation_limit = position-few c.args.w.now c.args.u.0 c.args.self.now c.index_mut.result.now c.known.ensures c.requires.reached c.requires.runs at in omega arith
 
 pub returns-in-None-clause-more : goal.returns-in-None-clause-more
 returns-in-None-clause-more c p at =

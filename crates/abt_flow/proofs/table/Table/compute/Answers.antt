@@ -2,6 +2,7 @@ use Rattle.std.proofs.Common.{◌≡◌, ◌+◌, ◌<◌, ◌≤◌, length, So
 use Rattle.std.specs.Vec.{with_item}
 use Rattle.std.specs.Prelude.{slice_get}
 use Rattle.abt_machine.proofs.Declared.{op-declared}
+use Rattle.abt_machine.specs.Limits.{unit_operation_limit}
 use Rattle.abt_flow.specs.Effects.{effect}
 use Rattle.abt_flow.specs.Flow.{Leads}
 use Rattle.abt_flow.specs.Tables.{Nothing, UnitRuns, executed, memory_in}
@@ -20,7 +21,7 @@ pub compute-requires-clause-room : goal.compute-requires-clause-room
 compute-requires-clause-room c =
     let below : c.args.u.0 < length c.args.self.now.units.items = unit-there c.args.w.now c.args.u.0 c.args.self.now c.known.ensures c.requires.reached c.requires.runs in
     let at : slice_get c.args.self.now.units.items c.args.u.0 ≡ Some c.index_mut.result.now = read-at c.args.self.now.units.items c.args.u.0 c.index_mut.result.now below c.index_mut.ensures.value in
-    let few : c.index_mut.result.now.position ≤ 256 = position-few c.args.w.now c.args.u.0 c.args.self.now c.index_mut.result.now c.known.ensures c.requires.reached c.requires.runs at in omega arith
+    let few : c.index_mut.result.now.position ≤ unit_operation_limit = position-few c.args.w.now c.args.u.0 c.args.self.now c.index_mut.result.now c.known.ensures c.requires.reached c.requires.runs at in omega arith
 
 pub compute-requires-clause-computed : goal.compute-requires-clause-computed
 compute-requires-clause-computed c =

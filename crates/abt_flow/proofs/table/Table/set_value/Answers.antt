@@ -4,6 +4,7 @@ use Rattle.std.specs.declared.alloc.Global.{Global}
 use Rattle.abt_machine.specs.declared.numbers.UnitNo.{UnitNo}
 use Rattle.abt_machine.specs.Numbers.{unit_no}
 use Rattle.abt_machine.specs.declared.operations.Op.TheVariants as op
+use Rattle.abt_machine.specs.Limits.{unit_operation_limit}
 use Rattle.abt_laws.proofs.Options.{some-injective}
 use Rattle.abt_flow.specs.declared.memory.Progress.{Progress}
 use Rattle.abt_flow.specs.Tables.{FollowsFlow, Rests, Waits, memory_in}
@@ -40,7 +41,7 @@ pub pass-requires : goal.pass-requires
 pass-requires c =
     let below : c.args.u.0 < length c.args.self.now.units.items = unit-there c.args.w.now c.args.u.0 c.args.self.now c.known.ensures c.requires.reached c.requires.runs in
     let at : slice_get c.args.self.now.units.items c.args.u.0 ≡ Some c.index_mut-3.result.now = read-at c.args.self.now.units.items c.args.u.0 c.index_mut-3.result.now below c.index_mut-3.ensures.value in
-    let few : c.index_mut-3.result.now.position ≤ 256 = position-few c.args.w.now c.args.u.0 c.args.self.now c.index_mut-3.result.now c.known.ensures c.requires.reached c.requires.runs at in omega arith
+    let few : c.index_mut-3.result.now.position ≤ unit_operation_limit = position-few c.args.w.now c.args.u.0 c.args.self.now c.index_mut-3.result.now c.known.ensures c.requires.reached c.requires.runs at in omega arith
 
 pub returns : goal.returns
 returns c =
