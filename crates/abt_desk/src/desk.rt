@@ -12,7 +12,7 @@ ghost use Rattle.abt_machine.specs.Desks.{DeskGives, ended_in, suspended_in, unb
 ghost use Rattle.abt_machine.specs.Pools.{is_unit};
 ghost use Rattle.abt_machine.specs.Values.{Ended, Out, Owned, Suspended, Unborn};
 ghost use Rattle.abt_unit.specs.Units.{IsFree};
-ghost use Rattle.abt_chain.specs.Results.{coded_or, given_or, unit_found, unit_given};
+ghost use Rattle.abt_chain.specs.Results.{coded_or, given_or, unit_found, unit_given, units_woken};
 ghost use Rattle.abt_desk.specs.Phases.{behind_in, phase_of, shown_in, shown_unit};
 
 use abt_chain::Chain;
@@ -115,7 +115,7 @@ impl Desk {
     /// unit is not its own, the unit is kept as the last joiner instead, and nothing comes out.
     pub fn end(&mut self, unit: Box<Unit>, cause: Cause) -> Chain
         requires { IsFree unit.value }
-        ensures { DeskGives self.old (act.End unit.value.owned cause) (act.Woke result.units) self.new }
+        ensures { DeskGives self.old (act.End unit.value.owned cause) (units_woken result) self.new }
     {
         if self.takes_back(&unit) {
             self.phase = Phase::Ended(unit, cause);

@@ -133,7 +133,7 @@ impl Monitor {
         requires cond { cond < length self.old.conds }
         ensures gives { MonitorGives self.old (Wait cond unit.value.owned) (back_or (given_or Rested) result) self.new }
         ensures free { IfOk result (λ next. IfSome next (λ given. IsFree given.value)) }
-        ensures same { IfErr result (λ refused. refused.unit.value ≡ unit.value) }
+        ensures back { IfErr result (λ refused. refused.unit.value ≡ unit.value) }
     {
         if !self.is_owner(unit.number()) {
             return Err(Refused {

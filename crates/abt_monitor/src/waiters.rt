@@ -45,7 +45,7 @@ impl Waiters {
 
     pub fn take_front(&mut self) -> Option<Box<Unit>>
         ensures none { IfNone result ((self.old ≡ []) × (self.new ≡ [])) }
-        ensures some { IfSome result (λ unit. self.old ≡ unit.value.owned ∷ self.new) }
+        ensures first { IfSome result (λ unit. self.old ≡ unit.value.owned ∷ self.new) }
         ensures free { IfSome result (λ unit. IsFree unit.value) }
     {
         self.units.take_front()
@@ -60,7 +60,7 @@ impl Waiters {
 
     pub fn drain_into(&mut self, other: &mut Chain)
         ensures drained { self.new ≡ [] }
-        ensures other { other.new.units ≡ other.old.units ++ self.old }
+        ensures appended { other.new.units ≡ other.old.units ++ self.old }
     {
         self.units.drain_into(other);
     }

@@ -72,7 +72,7 @@ impl Waiters {
     /// The first waiter comes out.
     pub fn take_first(&mut self) -> Option<Box<Unit>>
         ensures none { IfNone result ((self.old.units ≡ []) × (self.new.units ≡ [])) }
-        ensures some { IfSome result (λ unit. self.old.units ≡ unit.value.owned ∷ self.new.units) }
+        ensures first { IfSome result (λ unit. self.old.units ≡ unit.value.owned ∷ self.new.units) }
         ensures free { IfSome result (λ unit. IsFree unit.value) }
         ensures wishes { self.new.wishes ≡ self.old.wishes }
     {
@@ -85,7 +85,7 @@ impl Waiters {
     #[tactic(auto, using(crate::proofs::Readers::no_first_readers))]
     pub fn take_reader(&mut self) -> Option<Box<Unit>>
         ensures none { IfNone result ((self.new ≡ self.old) × (first_readers self.old.wishes self.old.units ≡ [])) }
-        ensures some { IfSome result (λ unit. self.old.units ≡ unit.value.owned ∷ self.new.units) }
+        ensures first { IfSome result (λ unit. self.old.units ≡ unit.value.owned ∷ self.new.units) }
         ensures reader { IfSome result (λ unit. IsTrue (wants_to_read self.old.wishes unit.value.owned.number)) }
         ensures free { IfSome result (λ unit. IsFree unit.value) }
         ensures wishes { self.new.wishes ≡ self.old.wishes }
