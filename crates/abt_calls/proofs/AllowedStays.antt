@@ -1,7 +1,7 @@
 -- What may be asked of an object stays so.
 use Rattle.std.proofs.Common.{◌≡◌, sym, ap, subst}
 use Rattle.abt_machine.specs.declared.events.Code.TheVariants as code
-use Rattle.abt_machine.specs.Values.{PoolIs, DeskIs, MonitorIs, EventualIs, FutureIs, BarrierIs, RwLockIs, NotHere, PoolValue}
+use Rattle.abt_machine.specs.Values.{PoolIs, MonitorIs, NotHere, PoolValue}
 use Rattle.abt_machine.specs.Acts.{Act, Put, Take, Remove, Answer, Given, Rested, Miss, Coded}
 use Rattle.abt_machine.specs.Pools.{PoolGives}
 use Rattle.abt_monitor.proofs.Conditions.{monitors-keep-their-conditions}
@@ -19,11 +19,7 @@ kind-stays old act answer new gives = absurd gives
 pub allowed-stays : AllowedStays
 allowed-stays (PoolIs old) act answer new other gives allowed =
     subst (λ m. Allows m other) (sym gives.1) (subst (λ kind. PoolAllows kind other) (sym (kind-stays old act answer gives.0 gives.2)) allowed)
-allowed-stays (DeskIs old) act answer new other gives allowed = subst (λ m. Allows m other) (sym gives.1) allowed
 allowed-stays (MonitorIs old) act answer new other gives allowed =
     subst (λ m. Allows m other) (sym gives.1) (subst (λ n. MonitorAllows n other) (sym (monitors-keep-their-conditions old act answer gives.0 gives.2)) allowed)
-allowed-stays (EventualIs old) act answer new other gives allowed = subst (λ m. Allows m other) (sym gives.1) allowed
-allowed-stays (FutureIs old) act answer new other gives allowed = subst (λ m. Allows m other) (sym gives.1) allowed
-allowed-stays (BarrierIs old) act answer new other gives allowed = subst (λ m. Allows m other) (sym gives.1) allowed
-allowed-stays (RwLockIs old) act answer new other gives allowed = subst (λ m. Allows m other) (sym gives.1) allowed
 allowed-stays NotHere act answer new other gives allowed = absurd gives
+allowed-stays _ act answer new other gives allowed = subst (λ m. Allows m other) (sym gives.1) allowed

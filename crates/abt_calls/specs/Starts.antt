@@ -75,6 +75,16 @@ start_rwlock W (Some thing.RwLock) = RwLockIs (record {
 })
 start_rwlock W _ = NotHere
 
+-- what a declared object is at the start, by its kind; a condition has nothing of its own
+abbrev pub start_thing : Parts → ℕ → Option Thing → Object
+start_thing W x None = NotHere
+start_thing W x (Some thing.Mutex) = start_monitor W x (Some thing.Mutex)
+start_thing W x (Some (thing.Cond m)) = NotHere
+start_thing W x (Some thing.Eventual) = start_eventual (Some thing.Eventual)
+start_thing W x (Some (thing.Future n c)) = start_future (Some (thing.Future n c))
+start_thing W x (Some (thing.Barrier n)) = start_barrier (Some (thing.Barrier n))
+start_thing W x (Some thing.RwLock) = start_rwlock W (Some thing.RwLock)
+
 -- the object at a site, at the start
 abbrev pub start_object : Parts → Site → Object
 start_object W (site.Pool p) = PoolIs (start_pool W p.0)

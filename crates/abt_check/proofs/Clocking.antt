@@ -10,7 +10,7 @@ use Rattle.abt_machine.specs.declared.events.Site.TheVariants as site
 use Rattle.abt_machine.specs.declared.workload.Parts.{Parts}
 use Rattle.abt_machine.specs.EventSites.{event_site}
 use Rattle.abt_machine.specs.Stamps.{Shares, Stamped}
-use Rattle.abt_machine.proofs.Sites.{place_number}
+use Rattle.abt_machine.specs.Sites.{place_number}
 use Rattle.abt_calls.specs.Asking.{IsSite}
 use Rattle.abt_laws.proofs.Options.{none≢some, some-injective}
 use Rattle.abt_replay.specs.Objects.{same_place}

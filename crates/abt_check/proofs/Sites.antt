@@ -8,7 +8,7 @@ use Rattle.abt_machine.specs.declared.operations.Thing.TheVariants as thing
 use Rattle.abt_machine.specs.declared.workload.Parts.{Parts}
 use Rattle.abt_machine.specs.Numbers.{object_no, pool_no, unit_no}
 use Rattle.abt_machine.specs.Workloads.{thing_at}
-use Rattle.abt_machine.proofs.Sites.{place_number}
+use Rattle.abt_machine.specs.Sites.{place_number}
 use Rattle.abt_laws.proofs.Options.{some-injective}
 use Rattle.abt_calls.specs.Asking.{IsSite}
 use Rattle.abt_replay.specs.Objects.{same_place}

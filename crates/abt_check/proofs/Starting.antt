@@ -18,7 +18,7 @@ use Rattle.abt_machine.specs.Valid.{IsValid}
 use Rattle.abt_machine.specs.Values.{Held, Owned, owned_at}
 use Rattle.abt_machine.specs.Workloads.{start_of, thing_at}
 use Rattle.abt_calls.specs.Asking.{IsSite}
-use Rattle.abt_calls.specs.Starts.{first_units, start_barrier, start_eventual, start_future, start_monitor, start_object, start_part, start_rwlock, starts_in}
+use Rattle.abt_calls.specs.Starts.{first_units, start_barrier, start_eventual, start_future, start_monitor, start_object, start_part, start_rwlock, start_thing, starts_in}
 use Rattle.abt_calls.proofs.Started.{objects-start, parts-start}
 use Rattle.abt_laws.proofs.SoundStart.{start-is-sound}
 use Rattle.abt_replay.specs.Objects.{ObjectsValue, desk_from, object_at, pool_from, slot_from}
@@ -26,7 +26,7 @@ use Rattle.abt_check.specs.Clocks.{AreClocks, ClocksValue}
 use Rattle.abt_check.specs.Judges.{HasJudged}
 use Rattle.abt_check.specs.Lists.{AreNumbered}
 use Rattle.abt_check.specs.Replays.{ReplayValue, StandsFor}
-use Rattle.abt_check.specs.Starts.{AreObjectsAtStart, slot_at, slot_for}
+use Rattle.abt_check.specs.Starts.{AreObjectsAtStart, slot_at}
 
 -- Pools.
 
@@ -50,20 +50,20 @@ module _ (W : Parts) (p n : ℕ) (units more : List Owned) (before : units ≡ f
 
 -- Objects.
 
-slot-monitor : (W : Parts) (x : ℕ) (t : Option Thing) → t ≡ Some thing.Mutex → slot_for W x t ≡ start_monitor W x t
-slot-monitor W x t is = subst (λ t. slot_for W x t ≡ start_monitor W x t) (sym is) refl
+slot-monitor : (W : Parts) (x : ℕ) (t : Option Thing) → t ≡ Some thing.Mutex → start_thing W x t ≡ start_monitor W x t
+slot-monitor W x t is = subst (λ t. start_thing W x t ≡ start_monitor W x t) (sym is) refl
 
-slot-eventual : (W : Parts) (x : ℕ) (t : Option Thing) → t ≡ Some thing.Eventual → slot_for W x t ≡ start_eventual t
-slot-eventual W x t is = subst (λ t. slot_for W x t ≡ start_eventual t) (sym is) refl
+slot-eventual : (W : Parts) (x : ℕ) (t : Option Thing) → t ≡ Some thing.Eventual → start_thing W x t ≡ start_eventual t
+slot-eventual W x t is = subst (λ t. start_thing W x t ≡ start_eventual t) (sym is) refl
 
-slot-future : (W : Parts) (x : ℕ) (t : Option Thing) (n : ℕ) (c : Combine) → t ≡ Some (thing.Future n c) → slot_for W x t ≡ start_future t
-slot-future W x t n c is = subst (λ t. slot_for W x t ≡ start_future t) (sym is) refl
+slot-future : (W : Parts) (x : ℕ) (t : Option Thing) (n : ℕ) (c : Combine) → t ≡ Some (thing.Future n c) → start_thing W x t ≡ start_future t
+slot-future W x t n c is = subst (λ t. start_thing W x t ≡ start_future t) (sym is) refl
 
-slot-barrier : (W : Parts) (x n : ℕ) (t : Option Thing) → t ≡ Some (thing.Barrier n) → slot_for W x t ≡ start_barrier t
-slot-barrier W x n t is = subst (λ t. slot_for W x t ≡ start_barrier t) (sym is) refl
+slot-barrier : (W : Parts) (x n : ℕ) (t : Option Thing) → t ≡ Some (thing.Barrier n) → start_thing W x t ≡ start_barrier t
+slot-barrier W x n t is = subst (λ t. start_thing W x t ≡ start_barrier t) (sym is) refl
 
-slot-rwlock : (W : Parts) (x : ℕ) (t : Option Thing) → t ≡ Some thing.RwLock → slot_for W x t ≡ start_rwlock W t
-slot-rwlock W x t is = subst (λ t. slot_for W x t ≡ start_rwlock W t) (sym is) refl
+slot-rwlock : (W : Parts) (x : ℕ) (t : Option Thing) → t ≡ Some thing.RwLock → start_thing W x t ≡ start_rwlock W t
+slot-rwlock W x t is = subst (λ t. start_thing W x t ≡ start_rwlock W t) (sym is) refl
 
 slot-there : (W : Parts) (objects : ObjectsValue) (x : ℕ) (t : Thing) → AreObjectsAtStart W objects → thing_at W x ≡ Some t → slot_from (slice_get objects.slots x) ≡ slot_at W x
 slot-there W objects x t are is = ap slot_from (are.slots.own x (slice_get_within W.objects x t is))

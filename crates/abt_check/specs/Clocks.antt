@@ -6,6 +6,7 @@ use Rattle.abt_machine.specs.declared.events.Site.TheVariants as site
 use Rattle.abt_machine.specs.declared.workload.Parts.{Parts}
 use Rattle.abt_machine.specs.Queues.{last}
 use Rattle.abt_machine.specs.EventSites.{event_site}
+use Rattle.abt_machine.specs.Sites.{place_number}
 use Rattle.abt_machine.specs.Stamps.{Follows, Stamped}
 use Rattle.abt_calls.specs.Asking.{IsSite}
 
@@ -21,11 +22,7 @@ pub record ClocksValue : Type 0 where
 abbrev pub clock_at : ClocksValue → Site → ℕ
 clock_at c (site.Pool p) = get_or c.pools p.0 0
 clock_at c (site.Desk u) = get_or c.desks u.0 0
-clock_at c (site.Monitor x) = get_or c.slots x.0 0
-clock_at c (site.Eventual x) = get_or c.slots x.0 0
-clock_at c (site.Future x) = get_or c.slots x.0 0
-clock_at c (site.Barrier x) = get_or c.slots x.0 0
-clock_at c (site.Rw x) = get_or c.slots x.0 0
+clock_at c x = get_or c.slots (place_number x) 0
 
 -- the clock of the site, if there is one
 abbrev pub clock_of : ClocksValue → Option Site → ℕ
@@ -73,11 +70,7 @@ pub record IsAllowed (c : ClocksValue) (x : Option Site) (e : Event) : Type 0 wh
 abbrev pub with_clock : Site → ℕ → ClocksValue → ClocksValue
 with_clock (site.Pool p) t c = record c { pools = slice_set c.pools p.0 t }
 with_clock (site.Desk u) t c = record c { desks = slice_set c.desks u.0 t }
-with_clock (site.Monitor x) t c = record c { slots = slice_set c.slots x.0 t }
-with_clock (site.Eventual x) t c = record c { slots = slice_set c.slots x.0 t }
-with_clock (site.Future x) t c = record c { slots = slice_set c.slots x.0 t }
-with_clock (site.Barrier x) t c = record c { slots = slice_set c.slots x.0 t }
-with_clock (site.Rw x) t c = record c { slots = slice_set c.slots x.0 t }
+with_clock x t c = record c { slots = slice_set c.slots (place_number x) t }
 
 -- so is that of the site, if there is one
 abbrev pub with_site : Option Site → ℕ → ClocksValue → ClocksValue

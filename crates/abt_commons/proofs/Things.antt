@@ -38,12 +38,8 @@ use Rattle.abt_commons.proofs.Rows.{IsOther, as-other, as-there, row-there, rows
 -- Conditions by their numbers.
 
 condition-by : (m : ℕ) (t : Thing) → is_condition_of m t ≡ true → (n : ObjectNo) × (t ≡ thing.Cond n) × (n.0 ≡ m)
-condition-by m thing.Mutex e = absurd (false≢true e)
 condition-by m (thing.Cond n) e = (n, refl, eqb-true n.0 m e)
-condition-by m thing.Eventual e = absurd (false≢true e)
-condition-by m (thing.Future k c) e = absurd (false≢true e)
-condition-by m (thing.Barrier k) e = absurd (false≢true e)
-condition-by m thing.RwLock e = absurd (false≢true e)
+condition-by m _ e = absurd (false≢true e)
 
 -- the thing at a place of the list of conditions
 record IsAt (m i k c : ℕ) (ts : List Thing) : Type 0 where

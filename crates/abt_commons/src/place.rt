@@ -1,10 +1,10 @@
 //! The objects of a workload as a run starts with them.
 
 ghost use Rattle.std.specs.Prelude.{◌≡◌, ◌<◌, ◌+◌, length, IfOk, OnOk, Some};
-ghost use Rattle.abt_calls.specs.Starts.{start_desk};
+ghost use Rattle.abt_calls.specs.Starts.{start_desk, start_thing};
 ghost use Rattle.abt_machine.specs.Workloads.{start_of, thing_at};
 ghost use Rattle.abt_commons.specs.Kinds.{object_in};
-ghost use Rattle.abt_commons.specs.Placing.{ArePlaced, IsNewUnit, empty_pools, placed_units, placed_things, thing_object, units_in_pools};
+ghost use Rattle.abt_commons.specs.Placing.{ArePlaced, IsNewUnit, empty_pools, placed_units, placed_things, units_in_pools};
 
 use crate::acts::Act;
 use crate::objects::Objects;
@@ -126,7 +126,7 @@ fn place_things<'w>(alloc: Global, w: &'w Workload, ones: &mut Vec<One<'w>>) -> 
 // A thing at the start.
 fn placed_thing(alloc: Global, w: &Workload, x: ObjectNo) -> Result<Shared, Want>
     requires { x.0 < length w.now.objects }
-    ensures { IfOk result (λ shared. object_in shared ≡ thing_object w.now x.0 (thing_at w.now x.0)) }
+    ensures { IfOk result (λ shared. object_in shared ≡ start_thing w.now x.0 (thing_at w.now x.0)) }
 {
     w.known();
     Ok(match w.thing(x) {

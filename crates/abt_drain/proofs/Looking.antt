@@ -18,7 +18,7 @@ use Rattle.abt_machine.specs.Turns.{due_of}
 use Rattle.abt_machine.specs.Valid.{IsValid}
 use Rattle.abt_machine.proofs.Declared.{listed-declared}
 use Rattle.abt_machine.proofs.Elements.{map-all}
-use Rattle.abt_machine.specs.Values.{Owned, Object, PoolIs, DeskIs, MonitorIs, EventualIs, FutureIs, BarrierIs, RwLockIs, NotHere}
+use Rattle.abt_machine.specs.Values.{Owned, Object, PoolIs}
 use Rattle.abt_machine.specs.Workloads.{main_from, main_of, pools_from, pools_of}
 use Rattle.abt_calls.specs.Allowed.{Allows}
 use Rattle.abt_calls.specs.Keeps.{contents_of}
@@ -88,23 +88,11 @@ empty-pool (PoolIs pool) may none = elim (eqb_tells (length pool.units) 0) [
   | inl same ↦ nothing-in pool.units same.1
   | inr other ↦ (let some = ne_eqb (length pool.units) 0 other.1 in cc)
 ]
-empty-pool (DeskIs d) may none = absurd may
-empty-pool (MonitorIs m) may none = absurd may
-empty-pool (EventualIs e) may none = absurd may
-empty-pool (FutureIs f) may none = absurd may
-empty-pool (BarrierIs b) may none = absurd may
-empty-pool (RwLockIs l) may none = absurd may
-empty-pool NotHere may none = absurd may
+empty-pool _ may none = absurd may
 
 pub used-pool : (o : Object) → (length (contents_of o).units == 0) ≡ false → IsEmptyPool o → ⊥
 used-pool (PoolIs pool) some empty = (let none : length pool.units ≡ 0 = ap (λ (us : List Owned). length us) empty in let yes : (length pool.units == 0) ≡ true = eq-eqb (length pool.units) 0 none in cc)
-used-pool (DeskIs d) some empty = empty
-used-pool (MonitorIs m) some empty = empty
-used-pool (EventualIs e) some empty = empty
-used-pool (FutureIs f) some empty = empty
-used-pool (BarrierIs b) some empty = empty
-used-pool (RwLockIs l) some empty = empty
-used-pool NotHere some empty = empty
+used-pool _ some empty = empty
 
 module _ (W : Parts) (s : ℕ) (g : SchedNo) (part : SchedPart) (pools : List PoolNo) (main : slice_get W.mains s ≡ Some g) (sched : slice_get W.scheds g.0 ≡ Some part) (same : pools ≡ part.pools) where
   listed : pools_of W (main_of W s) ≡ map (λ (p : PoolNo). p.0) pools

@@ -65,11 +65,9 @@ stepping W Z S s u k c sound l may =
 HoldsUp-same : (W : Parts) (S T : State) (x : ℕ) (o : Option Thing) → T.mutex x ≡ S.mutex x → T.eventual x ≡ S.eventual x → T.future x ≡ S.future x → HoldsUp W S x o → HoldsUp W T x o
 HoldsUp-same W S T x None m e f h = h
 HoldsUp-same W S T x (Some thing.Mutex) m e f h = subst (λ (k : Mutex). IsSome k.owner) (sym m) h
-HoldsUp-same W S T x (Some (thing.Cond n)) m e f h = tt
 HoldsUp-same W S T x (Some thing.Eventual) m e f h = e ∙ h
 HoldsUp-same W S T x (Some (thing.Future n r)) m e f h = subst (λ (k : Future). k.filled < n) (sym f) h
-HoldsUp-same W S T x (Some (thing.Barrier n)) m e f h = tt
-HoldsUp-same W S T x (Some thing.RwLock) m e f h = tt
+HoldsUp-same W S T x (Some _) m e f h = tt
 
 -- the tickets of those who wait at x are below the next
 pub waiting-below : (W : Parts) (Z : List OrderShape) (S : State) (x : ℕ) → Sound W Z S → IsBelow (Waiting x) (S.object_next x) S.place

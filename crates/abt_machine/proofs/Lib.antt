@@ -6,5 +6,4 @@ pub mod Distinct
 pub mod Elements
 pub mod Placing
 pub mod Saying
-pub mod Sites
 pub mod Weighing

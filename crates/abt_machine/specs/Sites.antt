@@ -33,3 +33,13 @@ home_from (Some p) = p
 -- the pool that the main scheduler of a stream lists first
 abbrev pub first_pool : Parts → ℕ → ℕ
 first_pool W s = home_from (first (pools_of W (main_of W s)))
+
+-- the number of the pool, unit or object that a site is of
+abbrev pub place_number : Site → ℕ
+place_number (site.Pool p) = p.0
+place_number (site.Desk u) = u.0
+place_number (site.Monitor x) = x.0
+place_number (site.Eventual x) = x.0
+place_number (site.Future x) = x.0
+place_number (site.Barrier x) = x.0
+place_number (site.Rw x) = x.0

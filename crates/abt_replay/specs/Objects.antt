@@ -4,6 +4,7 @@ use Rattle.abt_machine.specs.declared.events.Site.{Site}
 use Rattle.abt_machine.specs.declared.events.Site.TheVariants as site
 use Rattle.abt_machine.specs.Acts.{Act, Answer}
 use Rattle.abt_machine.specs.Gives.{SiteGives}
+use Rattle.abt_machine.specs.Sites.{place_number}
 use Rattle.abt_machine.specs.Values.{Object, PoolIs, DeskIs, NotHere, PoolValue, DeskValue}
 
 -- the pools, the desks of all units, and the declared objects, each in order of number
@@ -28,21 +29,13 @@ slot_from (Some object) = object
 abbrev pub object_at : ObjectsValue → Site → Object
 object_at o (site.Pool p) = pool_from (slice_get o.pools p.0)
 object_at o (site.Desk u) = desk_from (slice_get o.desks u.0)
-object_at o (site.Monitor x) = slot_from (slice_get o.slots x.0)
-object_at o (site.Eventual x) = slot_from (slice_get o.slots x.0)
-object_at o (site.Future x) = slot_from (slice_get o.slots x.0)
-object_at o (site.Barrier x) = slot_from (slice_get o.slots x.0)
-object_at o (site.Rw x) = slot_from (slice_get o.slots x.0)
+object_at o x = slot_from (slice_get o.slots (place_number x))
 
 -- the number of a declared object's site
 abbrev pub slot_of : Site → Option ℕ
 slot_of (site.Pool p) = None
 slot_of (site.Desk u) = None
-slot_of (site.Monitor x) = Some x.0
-slot_of (site.Eventual x) = Some x.0
-slot_of (site.Future x) = Some x.0
-slot_of (site.Barrier x) = Some x.0
-slot_of (site.Rw x) = Some x.0
+slot_of x = Some (place_number x)
 
 abbrev pub is_slot : ℕ → Option ℕ → Bool
 is_slot n None = false
@@ -54,11 +47,7 @@ same_place (site.Pool p) (site.Pool q) = p.0 == q.0
 same_place (site.Pool p) y = false
 same_place (site.Desk u) (site.Desk v) = u.0 == v.0
 same_place (site.Desk u) y = false
-same_place (site.Monitor x) y = is_slot x.0 (slot_of y)
-same_place (site.Eventual x) y = is_slot x.0 (slot_of y)
-same_place (site.Future x) y = is_slot x.0 (slot_of y)
-same_place (site.Barrier x) y = is_slot x.0 (slot_of y)
-same_place (site.Rw x) y = is_slot x.0 (slot_of y)
+same_place x y = is_slot (place_number x) (slot_of y)
 
 -- the object at the site answered the act so, and all others are as they were
 pub record Called (old : ObjectsValue) (x : Site) (act : Act) (answer : Answer) (new : ObjectsValue) : Type 0 where

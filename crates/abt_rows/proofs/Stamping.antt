@@ -13,7 +13,7 @@ use Rattle.abt_machine.specs.EventSites.{event_site}
 use Rattle.abt_machine.specs.Stamps.{AllAfter, Follows, IsLeast, Lamport, LamportFrom, SameSite, Shares, Stamped, StampedFrom}
 use Rattle.abt_machine.specs.Start.{start}
 use Rattle.abt_machine.specs.State.{State}
-use Rattle.abt_machine.proofs.Sites.{place_number}
+use Rattle.abt_machine.specs.Sites.{place_number}
 use Rattle.abt_rows.proofs.Deciding.{all, apart, either, given, is_at_most, is_less, same}
 use Rattle.abt_rows.proofs.Running.{Coming, Ran, coming, ran_by, ran_from}
 

@@ -86,12 +86,10 @@ abbrev size : (n : ℕ) → Option ((0 < n) × (n ≤ size_limit))
 size n = given (is_less 0 n) (λ some. given (is_at_most n size_limit) (λ few. Some (some, few)))
 
 abbrev object : (W : Parts) (x : ℕ) (t : Thing) → Option (IsThing W.objects x t)
-object W x thing.Mutex = Some tt
 object W x (thing.Cond m) = given (is_less m.0 x) (λ above. given (named W number.Mutex m.0) (λ is. Some (above, is)))
-object W x thing.Eventual = Some tt
 object W x (thing.Future n c) = size n
 object W x (thing.Barrier n) = size n
-object W x thing.RwLock = Some tt
+object W x _ = Some tt
 
 -- Units.
 

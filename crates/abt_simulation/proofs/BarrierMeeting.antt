@@ -136,11 +136,8 @@ barrier-deeds (suc x) = tt
 deeds : (x : Site) → EachOf (HasDeed x) (histories x)
 deeds (site.Pool p) = pool-deeds p.0
 deeds (site.Desk u) = desk-deeds u.0
-deeds (site.Monitor x) = tt
-deeds (site.Eventual x) = tt
-deeds (site.Future x) = tt
 deeds (site.Barrier x) = barrier-deeds x.0
-deeds (site.Rw x) = tt
+deeds _ = tt
 
 -- The courses of the streams.
 
@@ -298,11 +295,8 @@ legal-barrier (suc x) = (tt, refl)
 legal : (x : Site) → Legal SiteGives (first_object x) (histories x) (objects x)
 legal (site.Pool p) = legal-pool p.0
 legal (site.Desk u) = legal-desk u.0
-legal (site.Monitor x) = (tt, refl)
-legal (site.Eventual x) = (tt, refl)
-legal (site.Future x) = (tt, refl)
 legal (site.Barrier x) = legal-barrier x.0
-legal (site.Rw x) = (tt, refl)
+legal _ = (tt, refl)
 
 -- so logs and histories are gathered from the start
 gathered : Gathered (machine_of meeting no_orders) (part_of meeting (start meeting)) (object_of meeting (start meeting)) logs histories parts objects

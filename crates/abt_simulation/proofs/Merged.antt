@@ -9,6 +9,7 @@ use Rattle.abt_machine.specs.declared.workload.Parts.{Parts}
 use Rattle.abt_machine.specs.Numbers.{stream_no, pool_no, unit_no, object_no}
 use Rattle.abt_machine.specs.Valid.{IsValid}
 use Rattle.abt_machine.specs.Rounds.{OrdersStored}
+use Rattle.abt_machine.specs.Sites.{place_number}
 use Rattle.abt_machine.specs.State.{State}
 use Rattle.abt_machine.specs.Events.{after}
 use Rattle.abt_machine.specs.Runs.{RunFrom, state_after}
@@ -44,12 +45,7 @@ site-is _ _ e = absurd (false≢true e)
 -- it holds of each site and itself
 pub site-self : (x : Site) → same_site x x ≡ true
 site-self (site.Pool p) = eq-eqb p.0 p.0 refl
-site-self (site.Desk u) = eq-eqb u.0 u.0 refl
-site-self (site.Monitor x) = eq-eqb x.0 x.0 refl
-site-self (site.Eventual x) = eq-eqb x.0 x.0 refl
-site-self (site.Future x) = eq-eqb x.0 x.0 refl
-site-self (site.Barrier x) = eq-eqb x.0 x.0 refl
-site-self (site.Rw x) = eq-eqb x.0 x.0 refl
+site-self x = eq-eqb (place_number x) (place_number x) refl
 
 -- so it tells sites apart
 pub tells-sites : (W : Parts) (Z : List OrderShape) → TellsPlaces (machine_of W Z)

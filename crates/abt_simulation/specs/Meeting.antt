@@ -115,11 +115,8 @@ barrier_history (suc x) = []
 abbrev pub histories : Site → List SiteEntry
 histories (site.Pool p) = pool_history p.0
 histories (site.Desk u) = desk_history u.0
-histories (site.Monitor x) = []
-histories (site.Eventual x) = []
-histories (site.Future x) = []
 histories (site.Barrier x) = barrier_history x.0
-histories (site.Rw x) = []
+histories _ = []
 
 -- The ends.
 
@@ -156,11 +153,8 @@ barrier_object (suc x) = object_of meeting (start meeting) (site.Barrier (object
 abbrev pub objects : Site → Object
 objects (site.Pool p) = pool_object p.0
 objects (site.Desk u) = desk_object u.0
-objects (site.Monitor x) = object_of meeting (start meeting) (site.Monitor x)
-objects (site.Eventual x) = object_of meeting (start meeting) (site.Eventual x)
-objects (site.Future x) = object_of meeting (start meeting) (site.Future x)
 objects (site.Barrier x) = barrier_object x.0
-objects (site.Rw x) = object_of meeting (start meeting) (site.Rw x)
+objects x = object_of meeting (start meeting) x
 
 -- The journal.
 

@@ -94,12 +94,8 @@ get-more (z ∷ zs) ys zero x e = e
 get-more (z ∷ zs) ys (suc k) x e = get-more zs ys k x e
 
 pub thing-grows : (xs : List Thing) (y : Thing) (x : ℕ) (t : Thing) → IsThing xs x t → IsThing (xs ++ y ∷ []) x t
-thing-grows xs y x thing.Mutex h = tt
 thing-grows xs y x (thing.Cond m) h = (h.0, get-more xs (y ∷ []) m.0 thing.Mutex h.1)
-thing-grows xs y x thing.Eventual h = tt
-thing-grows xs y x (thing.Future n c) h = h
-thing-grows xs y x (thing.Barrier n) h = h
-thing-grows xs y x thing.RwLock h = tt
+thing-grows xs y x _ h = h
 
 -- Pools that are listed.
 

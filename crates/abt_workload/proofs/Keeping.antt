@@ -74,14 +74,12 @@ module _ {a : Above} {line : Text} {words : List Text} (r : Rule) (s : IsSound a
       rule-in (rule.User n) t = let w = between 0 1 (at (values_of (form.Sched (rule.User n)) words) 1) (within-at (form.Sched (rule.User n)) t 1 0 1 refl) in omega arith
 
 thing-in : {a : Above} {line : Text} {words : List Text} (x : Thing) → IsSound a line words (form.Object x) → IsThing a.objects (length a.objects) (thing_with x words (values_of (form.Object x) words))
-thing-in thing.Mutex s = tt
 thing-in {a} (thing.Cond m) s =
     let there = mutex-there (slice_get a.objects _) (there-at (form.Object (thing.Cond m)) s 1 number.Mutex refl) in
     (slice_get_within a.objects _ thing.Mutex there, there)
-thing-in thing.Eventual s = tt
 thing-in (thing.Future n c) s = between 1 size_limit _ (within-at (form.Object (thing.Future n c)) s 1 1 size_limit refl)
 thing-in (thing.Barrier n) s = between 1 size_limit _ (within-at (form.Object (thing.Barrier n)) s 1 1 size_limit refl)
-thing-in thing.RwLock s = tt
+thing-in _ s = tt
 
 -- no format has more streams than format 2, or more units
 pub most-streams : (F : Format) → stream_limit F ≤ stream_limit format.Two

@@ -156,12 +156,10 @@ module _ (W : Parts) (v : IsValid W) where
   combine-light combine.Count = omega arith
 
   thing-light : (x : ℕ) (t : Thing) → x < object_limit → IsThing W.objects x t → weight (filled (thing_slots t) (thing_word t) (thing_numbers t)) ≤ 60
-  thing-light x thing.Mutex lt h = omega arith
   thing-light x (thing.Cond m) lt h = let below = h.0 in let d = few-digits m.0 (omega arith) in omega arith
-  thing-light x thing.Eventual lt h = omega arith
   thing-light x (thing.Future n c) lt h = let most = h.1 in let d = few-digits n (omega arith) in let e = combine-light c in omega arith
   thing-light x (thing.Barrier n) lt h = let most = h.1 in let d = few-digits n (omega arith) in omega arith
-  thing-light x thing.RwLock lt h = omega arith
+  thing-light x _ lt h = omega arith
 
   object-light : (x : ℕ) (t : Thing) → x < 2 ^ 64 → IsSmallThing t → IsLight 119 (object_line x t)
   object-light x t lt h = let d = few-digits x lt in let w = thing-light h.0 t h.1 h.2 in (refl, omega arith)

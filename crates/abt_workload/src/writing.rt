@@ -227,14 +227,12 @@ fn push_object(out: &mut Vec<u8>, x: u32, thing: Thing) -> Result<(), Want>
     let line = Form::Object(thing);
     let x = u64::from(x);
     match thing {
-        Thing::Mutex => push_line(out, line, b"", &[x]),
+        Thing::Mutex | Thing::Eventual | Thing::RwLock => push_line(out, line, b"", &[x]),
         Thing::Cond(m) => push_line(out, line, b"", &[x, u64::from(m.0)]),
-        Thing::Eventual => push_line(out, line, b"", &[x]),
         Thing::Future(n, combine) => {
             push_line(out, line, name_of_combine(combine), &[x, u64::from(n)])
         }
         Thing::Barrier(n) => push_line(out, line, b"", &[x, u64::from(n)]),
-        Thing::RwLock => push_line(out, line, b"", &[x]),
     }
 }
 
