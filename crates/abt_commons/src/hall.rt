@@ -111,8 +111,8 @@ impl<'w, R: Wait> Commons<'w> for Hall<'w, R> {
 impl<'w, R: Wait> Hall<'w, R> {
     /// One booth round all objects, with a pass for each stream. Err hands the objects back: no memory was found.
     pub fn make(
-        alloc: Global,
         rt: &'w R,
+        alloc: Global,
         objects: Objects<'w>,
         streams: u32,
     ) -> Result<(Hall<'w, R>, Vec<HallPass<'w>>), Objects<'w>>

@@ -107,8 +107,8 @@ impl<'w, R: Wait> Commons<'w> for Split<'w, R> {
 impl<'w, R: Wait> Split<'w, R> {
     /// One booth for each object, with a pass for each stream. Err hands the objects back: no memory was found.
     pub fn make(
-        alloc: Global,
         rt: &'w R,
+        alloc: Global,
         objects: Objects<'w>,
         streams: u32,
     ) -> Result<(Split<'w, R>, Vec<SplitPass<'w>>), Objects<'w>>

@@ -115,7 +115,7 @@ fn prepare_files<R: Threads + Wait + Sync, F: Files, P: Pace + Sync>(
 {
     let w = fetch(alloc, workload, files)?;
     let lives = fetch_lives(alloc, &w, lives, files)?;
-    let ran = run_lives(alloc, rt, &w, &lives, orders, pace, DEFAULT_STEPS)?;
+    let ran = run_lives(rt, alloc, &w, &lives, orders, pace, DEFAULT_STEPS)?;
     let text = output(alloc, &w, &ran)?;
     Ok(Prepared::new(ran, text))
 }

@@ -52,7 +52,7 @@ pub(crate) fn prepare_file<R: Threads + Wait + Sync, F: Files, P: Pace + Sync>(
     ensures later { F.faults files.old ≤ F.faults files.new }
 {
     let w = fetch(alloc, file, files)?;
-    let ran = run_streams(alloc, rt, &w, orders, pace, steps)?;
+    let ran = run_streams(rt, alloc, &w, orders, pace, steps)?;
     let text = output(alloc, &w, &ran, with_journal)?;
     Ok(ended(ran, text))
 }
@@ -72,7 +72,7 @@ pub(crate) fn prepare_self<R: Threads + Wait + Sync, P: Pace + Sync>(
     ensures stop { IfErr result (λ stop. stop ≡ why.OutOfMemory) }
 {
     let w = generate(alloc, units)?;
-    let ran = run_streams(alloc, rt, &w, orders, pace, DEFAULT_STEPS)?;
+    let ran = run_streams(rt, alloc, &w, orders, pace, DEFAULT_STEPS)?;
     let text = short_output(alloc, &w, &ran)?;
     Ok(ended(ran, text))
 }

@@ -65,8 +65,8 @@ pub(crate) fn start<'w>(
 
 /// A wave more.
 pub(crate) fn advance<'w, R: Threads + Wait + Sync, P: Pace + Sync>(
-    alloc: Global,
     rt: &'w R,
+    alloc: Global,
     w: &'w Workload,
     lives: &[Life],
     orders: &[StoredOrder],
@@ -90,7 +90,7 @@ pub(crate) fn advance<'w, R: Threads + Wait + Sync, P: Pace + Sync>(
         from: journal.len() as u64,
         streams: Numbers::new(numbers),
     })?;
-    let (objects, streams) = run_wave(alloc, rt, w, orders, pace, objects, streams, &flags)?;
+    let (objects, streams) = run_wave(rt, alloc, w, orders, pace, objects, streams, &flags)?;
     append_wave(alloc, &mut journal, &streams, &lengths)?;
     Ok(Journey {
         objects,
@@ -102,8 +102,8 @@ pub(crate) fn advance<'w, R: Threads + Wait + Sync, P: Pace + Sync>(
 
 /// Waves, until one leaves nothing to do on these lives, or a stream spent.
 pub(crate) fn go<'w, R: Threads + Wait + Sync, P: Pace + Sync>(
-    alloc: Global,
     rt: &'w R,
+    alloc: Global,
     w: &'w Workload,
     lives: &[Life],
     orders: &[StoredOrder],
@@ -119,7 +119,7 @@ pub(crate) fn go<'w, R: Threads + Wait + Sync, P: Pace + Sync>(
 {
     let mut journey = journey;
     'waves: for _ in rt.forever() {
-        journey = advance(alloc, rt, w, lives, orders, pace, journey)?;
+        journey = advance(rt, alloc, w, lives, orders, pace, journey)?;
         match outcome_on(w, lives, &journey.objects, &journey.streams, steps) {
             Some(outcome) => return Ok((journey, outcome)),
             None => {}

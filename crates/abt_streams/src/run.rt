@@ -31,8 +31,8 @@ pub struct LivesRun {
 /// ends within the wave leaves at the wave's end. Waves go on until one leaves nothing to do on these lives, or a stream spent; there
 /// is always one. Err: memory was refused, to one stream or to all; its wave is the last.
 pub fn run_lives<'w, R: Threads + Wait + Sync, P: Pace + Sync>(
-    alloc: Global,
     rt: &'w R,
+    alloc: Global,
     w: &'w Workload,
     lives: &Lives,
     orders: &[StoredOrder],
@@ -45,7 +45,7 @@ pub fn run_lives<'w, R: Threads + Wait + Sync, P: Pace + Sync>(
     ensures picture { IfOk result (λ run. IsPictureOf w.now run.journal run.picture) }
 {
     let journey = start(alloc, w, orders, steps)?;
-    let (journey, outcome) = go(alloc, rt, w, lives.items(), orders, pace, steps, journey)?;
+    let (journey, outcome) = go(rt, alloc, w, lives.items(), orders, pace, steps, journey)?;
     let Journey {
         objects,
         streams,

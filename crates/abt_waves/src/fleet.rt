@@ -72,8 +72,8 @@ impl<'w> Fleet<'w> {
         L: Locking<'w, R> + Locked<Pass = X> + Sync + Drop,
     >(
         self,
-        alloc: Global,
         rt: &'w R,
+        alloc: Global,
         orders: &O,
         pace: &P,
         live: &[bool],
@@ -89,7 +89,7 @@ impl<'w> Fleet<'w> {
             streams,
         } = self;
         let (objects, streams) = sail::<R, P, O, X, L>(
-            alloc, rt, w, orders, pace, objects, streams, live,
+            rt, alloc, w, orders, pace, objects, streams, live,
         )?;
         Ok(Fleet {
             w,
@@ -122,7 +122,7 @@ impl<'w> Fleet<'w> {
         let live = vec![in alloc; true; self.w.streams() as usize]?;
         let mut fleet = self;
         'waves: for _ in rt.forever() {
-            fleet = fleet.wave::<R, P, O, X, L>(alloc, rt, orders, pace, &live)?;
+            fleet = fleet.wave::<R, P, O, X, L>(rt, alloc, orders, pace, &live)?;
             match fleet.ended() {
                 Some(outcome) => return Ok((fleet, outcome)),
                 None => {}

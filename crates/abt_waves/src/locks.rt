@@ -73,8 +73,8 @@ pub trait Locked {
 pub trait Locking<'w, R>: Locked {
     /// Locks round the objects, with a pass for each stream. Err: no memory was found.
     fn make(
-        alloc: Global,
         rt: &'w R,
+        alloc: Global,
         objects: Objects<'w>,
         streams: u32,
     ) -> Result<(Self, Vec<Self::Pass>), Want>
@@ -159,12 +159,12 @@ impl<'w, R: Wait> Locked for Split<'w, R> {
 impl<'w, R: Wait> Locking<'w, R> for Split<'w, R> {
     #[tactic(auto, using(crate::specs::SplitLocks::tells_sites))]
     fn make(
-        alloc: Global,
         rt: &'w R,
+        alloc: Global,
         objects: Objects<'w>,
         streams: u32,
     ) -> Result<(Split<'w, R>, Vec<SplitPass<'w>>), Want> {
-        match Split::make(alloc, rt, objects, streams) {
+        match Split::make(rt, alloc, objects, streams) {
             Ok(made) => Ok(made),
             Err(_) => Err(Want),
         }

@@ -24,8 +24,8 @@ use std::thread::Threads;
 /// work. A workload with one stream runs on the caller's thread, without a lock. Err: memory was refused, to one stream or to
 /// all; its wave is the last.
 pub fn run_streams<'w, R: Threads + Wait + Sync, P: Pace + Sync>(
-    alloc: Global,
     rt: &'w R,
+    alloc: Global,
     w: &'w Workload,
     orders: &[StoredOrder],
     pace: &P,
@@ -63,7 +63,7 @@ pub fn run_over<
     ensures picture { IfOk result (λ run. IsPictureOf w.now run.journal run.picture) }
 {
     let fleet = Fleet::new::<R, O, L>(alloc, w, orders, steps)?;
-    let (fleet, outcome) = fleet.run::<R, P, O, X, L>(alloc, rt, orders, pace)?;
+    let (fleet, outcome) = fleet.run::<R, P, O, X, L>(rt, alloc, orders, pace)?;
     let (journal, picture) = fleet.end::<R, L>(alloc)?;
     Ok(Run {
         journal,

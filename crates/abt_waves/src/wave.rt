@@ -24,8 +24,8 @@ use std::thread::Threads;
 /// spent, or finds nothing while no other stream has work. All others stay as they are. If no thread can be started the
 /// caller's does its work. Err: memory was refused, to one stream or to all.
 pub fn run_wave<'w, R: Threads + Wait + Sync, P: Pace + Sync>(
-    alloc: Global,
     rt: &'w R,
+    alloc: Global,
     w: &'w Workload,
     orders: &[StoredOrder],
     pace: &P,
@@ -60,8 +60,8 @@ pub(crate) fn sail<
     X: Send + Drop,
     L: Locking<'w, R> + Locked<Pass = X> + Sync + Drop,
 >(
-    alloc: Global,
     rt: &'w R,
+    alloc: Global,
     w: &'w Workload,
     orders: &O,
     pace: &P,
@@ -76,7 +76,7 @@ pub(crate) fn sail<
     ensures still { IfOk result (λ left. (s : ℕ) → slice_get live.now s ≡ Some false → slice_get left.1.items s ≡ slice_get streams.items s) }
 {
     let count = w.streams();
-    let Ok((locks, passes)) = L::make(alloc, rt, objects, count) else {
+    let Ok((locks, passes)) = L::make(rt, alloc, objects, count) else {
         return Err(Want);
     };
     let watch = Watch::new(live);

@@ -39,7 +39,7 @@ fn a_look_moves_no_unit(rt: HostRuntime) -> Result<(), Fail> {
 
 // The objects, after a hall round them, if there was memory for one.
 fn through_hall<'w, R: Wait>(rt: &'w R, alloc: Global, objects: Objects<'w>) -> Objects<'w> {
-    match Hall::make(alloc, rt, objects, 2) {
+    match Hall::make(rt, alloc, objects, 2) {
         Ok((hall, passes)) => hall.close(passes),
         Err(objects) => objects,
     }
@@ -47,7 +47,7 @@ fn through_hall<'w, R: Wait>(rt: &'w R, alloc: Global, objects: Objects<'w>) -> 
 
 // The same of a split.
 fn through_split<'w, R: Wait>(rt: &'w R, alloc: Global, objects: Objects<'w>) -> Objects<'w> {
-    match Split::make(alloc, rt, objects, 2) {
+    match Split::make(rt, alloc, objects, 2) {
         Ok((split, passes)) => split.close(passes),
         Err(objects) => objects,
     }
@@ -106,7 +106,7 @@ fn play_in_plain<'w>(rt: &impl Abort, objects: Objects<'w>, w: &Workload)
 fn play_in_hall<'w, R: Abort + Wait>(rt: &'w R, alloc: Global, objects: Objects<'w>, w: &Workload)
     requires { objects.workload ≡ w.now }
 {
-    let Ok((hall, mut passes)) = Hall::make(alloc, rt, objects, 1) else {
+    let Ok((hall, mut passes)) = Hall::make(rt, alloc, objects, 1) else {
         panic!(rt; "no memory")
     };
     let Some(mut pass) = passes.pop() else {
@@ -118,7 +118,7 @@ fn play_in_hall<'w, R: Abort + Wait>(rt: &'w R, alloc: Global, objects: Objects<
 fn play_in_split<'w, R: Abort + Wait>(rt: &'w R, alloc: Global, objects: Objects<'w>, w: &Workload)
     requires { objects.workload ≡ w.now }
 {
-    let Ok((split, mut passes)) = Split::make(alloc, rt, objects, 1) else {
+    let Ok((split, mut passes)) = Split::make(rt, alloc, objects, 1) else {
         panic!(rt; "no memory")
     };
     let Some(mut pass) = passes.pop() else {
@@ -149,7 +149,7 @@ fn hall_loses_no_unit<'w, R: Abort + Threads + Wait + Sync>(
 ) -> Result<(), Fail>
     requires { objects.workload ≡ w.now }
 {
-    let Ok((hall, passes)) = Hall::make(alloc, rt, objects, THREADS) else {
+    let Ok((hall, passes)) = Hall::make(rt, alloc, objects, THREADS) else {
         panic!(rt; "no memory")
     };
     let (passes, kept) = play_on_threads(rt, &hall, passes, w)?;
@@ -164,7 +164,7 @@ fn split_loses_no_unit<'w, R: Abort + Threads + Wait + Sync>(
 ) -> Result<(), Fail>
     requires { objects.workload ≡ w.now }
 {
-    let Ok((split, passes)) = Split::make(alloc, rt, objects, THREADS) else {
+    let Ok((split, passes)) = Split::make(rt, alloc, objects, THREADS) else {
         panic!(rt; "no memory")
     };
     let (passes, kept) = play_on_threads(rt, &split, passes, w)?;

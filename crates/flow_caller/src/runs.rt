@@ -29,8 +29,8 @@ const STEPS: u64 = 10_000;
 
 /// The sum of leaves, added up on the threads of four streams.
 pub fn sum_on_threads<R: Threads + Wait + Sync>(
-    alloc: Global,
     rt: &R,
+    alloc: Global,
     leaves: &[u64],
 ) -> Result<Option<u64>, Want>
     requires some { 0 < length leaves.now }
@@ -38,7 +38,7 @@ pub fn sum_on_threads<R: Threads + Wait + Sync>(
     ensures sum { IfOk result (λ answer. AnswersRun (mesh (chain leaves.now)) answer (λ n. n ≡ sum leaves.now % 2 ^ 64)) }
 {
     let nodes = chain(alloc, leaves)?;
-    match numbers_on_threads(alloc, rt, &nodes)? {
+    match numbers_on_threads(rt, alloc, &nodes)? {
         Some(sums) => Ok(Some(sums[leaves.len() - 1])),
         None => Ok(None),
     }
@@ -47,21 +47,21 @@ pub fn sum_on_threads<R: Threads + Wait + Sync>(
 /// The numbers of the cells of an n by n table, row by row: each cell waits for its left and its upper neighbour, and has one more
 /// than they.
 pub fn wavefront_on_threads<R: Threads + Wait + Sync>(
-    alloc: Global,
     rt: &R,
+    alloc: Global,
     n: u32,
 ) -> Result<Option<Vec<u64>>, Want>
     requires { n ≤ SIDE_LIMIT }
     ensures table { IfOk result (λ answer. AnswersRun (mesh (wavefront n)) answer (λ numbers. IsWavefront n numbers.items)) }
 {
     let nodes = wavefront(alloc, n)?;
-    numbers_on_threads(alloc, rt, &nodes)
+    numbers_on_threads(rt, alloc, &nodes)
 }
 
 /// The numbers of all nodes, from a run on the threads of four streams.
 pub fn numbers_on_threads<R: Threads + Wait + Sync>(
-    alloc: Global,
     rt: &R,
+    alloc: Global,
     nodes: &[Node],
 ) -> Result<Option<Vec<u64>>, Want>
     requires { IsMesh nodes.now }
@@ -70,7 +70,7 @@ pub fn numbers_on_threads<R: Threads + Wait + Sync>(
     let w = mesh(alloc, nodes)?;
     // No scheduler of a mesh has a stored order, but a run is passed two.
     let orders = [StoredOrder::rotating(), StoredOrder::mirroring()];
-    let run = run_streams(alloc, rt, &w, &orders, &NoPace, STEPS)?;
+    let run = run_streams(rt, alloc, &w, &orders, &NoPace, STEPS)?;
     match run.outcome {
         Outcome::Finished => Ok(Some(numbers(alloc, run.picture.items())?)),
         Outcome::Stuck | Outcome::Budget(_) => Ok(None),

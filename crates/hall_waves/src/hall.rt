@@ -70,12 +70,12 @@ impl<'w, R: Wait> Locked for OneLock<'w, R> {
 impl<'w, R: Wait> Locking<'w, R> for OneLock<'w, R> {
     #[tactic(auto, using(crate::specs::HallLaws::tells_one, crate::proofs::HallClosed::hall_fresh))]
     fn make(
-        alloc: Global,
         rt: &'w R,
+        alloc: Global,
         objects: Objects<'w>,
         streams: u32,
     ) -> Result<(OneLock<'w, R>, Vec<HallPass<'w>>), Want> {
-        match Hall::make(alloc, rt, objects, streams) {
+        match Hall::make(rt, alloc, objects, streams) {
             Ok((hall, passes)) => Ok((OneLock { hall }, passes)),
             Err(_) => Err(Want),
         }
@@ -93,8 +93,8 @@ impl<'w, R: Wait> Locking<'w, R> for OneLock<'w, R> {
 /// Runs a workload as `run_streams` of abt_waves does, but with one lock round all objects. No more is claimed of stamps than that
 /// they leave no gap: calls on different objects get stamps by the one lock too.
 pub fn run_in_hall<'w, R: Threads + Wait + Sync, P: Pace + Sync>(
-    alloc: Global,
     rt: &'w R,
+    alloc: Global,
     w: &'w Workload,
     orders: &[StoredOrder],
     pace: &P,

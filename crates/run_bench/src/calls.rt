@@ -41,7 +41,7 @@ pub fn threaded<R: Threads + Wait + Sync>(
     steps: u64,
 ) -> io::Result<Run> {
     let orders = [StoredOrder::rotating(), StoredOrder::mirroring()];
-    run_streams(alloc, rt, w, &orders, &NoPace, steps).map_err(no_memory)
+    run_streams(rt, alloc, w, &orders, &NoPace, steps).map_err(no_memory)
 }
 
 /// How many events the streams of a workload make in a first wave, on threads. Their logs are not merged.
@@ -74,7 +74,7 @@ fn first_wave<'w, R: Threads + Wait + Sync>(
     let streams = start_streams(alloc, w, steps)?;
     let objects = Objects::place(alloc, w)?;
     let live = vec![in alloc; true; w.streams() as usize]?;
-    let (_, streams) = run_wave(alloc, rt, w, orders, &NoPace, objects, streams, &live)?;
+    let (_, streams) = run_wave(rt, alloc, w, orders, &NoPace, objects, streams, &live)?;
     Ok(streams)
 }
 

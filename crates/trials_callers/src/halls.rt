@@ -32,7 +32,7 @@ fn report_of<R: Threads + Wait + Sync>(
 ) -> Result<Vec<u8>, Want>
     requires { 2 ≤ length orders.now }
 {
-    let run = run_in_hall(alloc, rt, w, orders, &NoPace, 10_000)?;
+    let run = run_in_hall(rt, alloc, w, orders, &NoPace, 10_000)?;
     let steps = count_steps(run.journal.items());
     report(alloc, w, &run.picture, run.outcome, steps)
 }

@@ -17,18 +17,18 @@ fn threads_add_up_leaves(rt: HostRuntime) -> Result<(), Fail> {
         leaves[k] = (k * k) as u64;
     }
     for _ in 0..TIMES {
-        let sum = sum_on_threads(alloc, &rt, &leaves)?;
+        let sum = sum_on_threads(&rt, alloc, &leaves)?;
         assert!(rt; sum == Some(85_344));
     }
     leaves[0] = u64::MAX;
-    let sum = sum_on_threads(alloc, &rt, &leaves)?;
+    let sum = sum_on_threads(&rt, alloc, &leaves)?;
     assert!(rt; sum == Some(85_343), "a sum has 64 bits");
     Ok(())
 }
 
 #[test]
 fn one_leaf_is_its_sum(rt: HostRuntime) -> Result<(), Fail> {
-    let sum = sum_on_threads(rt.alloc(), &rt, &[7])?;
+    let sum = sum_on_threads(&rt, rt.alloc(), &[7])?;
     assert!(rt; sum == Some(7));
     Ok(())
 }
@@ -46,7 +46,7 @@ fn has_steps(table: &[u64]) -> bool {
 #[test]
 fn cells_wait_for_their_neighbours(rt: HostRuntime) -> Result<(), Fail> {
     for _ in 0..TIMES {
-        let table = wavefront_on_threads(rt.alloc(), &rt, SIDE as u32)?;
+        let table = wavefront_on_threads(&rt, rt.alloc(), SIDE as u32)?;
         assert!(rt; table.is_some());
         if let Some(table) = table {
             assert!(rt; table.len() == SIDE * SIDE);

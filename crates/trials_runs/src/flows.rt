@@ -92,7 +92,7 @@ fn is_put_out<R: Threads + Wait + Sync>(
     flow: &Flow,
 ) -> Result<bool, Want> {
     let orders = [StoredOrder::rotating(), StoredOrder::mirroring()];
-    let run = run_streams(alloc, rt, w, &orders, &NoPace, 10_000)?;
+    let run = run_streams(rt, alloc, w, &orders, &NoPace, 10_000)?;
     Ok(put_out(&run.picture, flow))
 }
 

@@ -157,7 +157,7 @@ fn is_run<R: Threads + Wait + Sync>(
 ) -> Result<bool, Fail> {
     let lives = read_lives(alloc, w, lives.as_bytes())?;
     let orders = [StoredOrder::rotating(), StoredOrder::mirroring()];
-    let run = run_lives(alloc, rt, w, &lives, &orders, &NoPace, 10_000)?;
+    let run = run_lives(rt, alloc, w, &lives, &orders, &NoPace, 10_000)?;
     Ok(
         is_reported(alloc, w, &run.journal, &run.picture, run.outcome, report)
             && are_waves(run.waves.items(), waves),

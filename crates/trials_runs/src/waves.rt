@@ -77,7 +77,7 @@ fn is_run<R: Threads + Wait + Sync, P: Pace + Sync>(
     report: Option<&str>,
 ) -> Result<bool, Want> {
     let orders = [StoredOrder::rotating(), StoredOrder::mirroring()];
-    let run = run_streams(alloc, rt, w, &orders, pace, 10_000)?;
+    let run = run_streams(rt, alloc, w, &orders, pace, 10_000)?;
     let is = match report {
         Some(text) => is_reported(alloc, w, &run.journal, &run.picture, run.outcome, text),
         None => true,

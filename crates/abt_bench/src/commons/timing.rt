@@ -110,7 +110,7 @@ pub fn plain_in_turn_time<R: Clock>(rt: &R, alloc: Global, w: &Workload) -> io::
 pub fn split_time<R: Clock + Wait>(rt: &R, alloc: Global, w: &Workload) -> io::Result<Duration>
     requires { 0 < length w.now.pools }
 {
-    let Ok((split, mut passes)) = Split::make(alloc, rt, placed(alloc, w)?, 1) else {
+    let Ok((split, mut passes)) = Split::make(rt, alloc, placed(alloc, w)?, 1) else {
         return Err(no_memory());
     };
     let Some(mut pass) = passes.pop() else {
@@ -123,7 +123,7 @@ pub fn split_time<R: Clock + Wait>(rt: &R, alloc: Global, w: &Workload) -> io::R
 pub fn hall_time<R: Clock + Wait>(rt: &R, alloc: Global, w: &Workload) -> io::Result<Duration>
     requires { 0 < length w.now.pools }
 {
-    let Ok((hall, mut passes)) = Hall::make(alloc, rt, placed(alloc, w)?, 1) else {
+    let Ok((hall, mut passes)) = Hall::make(rt, alloc, placed(alloc, w)?, 1) else {
         return Err(no_memory());
     };
     let Some(mut pass) = passes.pop() else {
@@ -144,7 +144,7 @@ pub fn split_work<R: Clock + Threads + Wait + Sync>(
 ) -> io::Result<(u64, Duration)>
     requires { 1 ≤ threads }
 {
-    let Ok((split, passes)) = Split::make(alloc, rt, placed(alloc, w)?, threads) else {
+    let Ok((split, passes)) = Split::make(rt, alloc, placed(alloc, w)?, threads) else {
         return Err(no_memory());
     };
     let start = Instant::now(rt)?;
@@ -163,7 +163,7 @@ pub fn hall_work<R: Clock + Threads + Wait + Sync>(
 ) -> io::Result<(u64, Duration)>
     requires { 1 ≤ threads }
 {
-    let Ok((hall, passes)) = Hall::make(alloc, rt, placed(alloc, w)?, threads) else {
+    let Ok((hall, passes)) = Hall::make(rt, alloc, placed(alloc, w)?, threads) else {
         return Err(no_memory());
     };
     let start = Instant::now(rt)?;
