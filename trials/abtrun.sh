@@ -189,41 +189,17 @@ try_few_bytes() {
 
 # Each read and each write fails in turn.
 try_failing_calls() {
-    local number writes
-    for number in 1 2 3; do
-        meddled TRIAL_READ=100 TRIAL_NO_READ=$number "$program" run "$data/streams.abt"
-        came "read $number fails" 5 "" "$cannot_read"
-    done
+    tries_failing_reads run "$data/streams.abt" 100
     printf '%s\n' "$hi_report" >"$room/whole"
-    writes=$((($(wc -c <"$room/whole") + 9) / 10))
-    for number in $(seq "$writes"); do
-        head -c $((10 * (number - 1))) "$room/whole" >"$room/wanted"
-        meddled TRIAL_WRITE=10 TRIAL_NO_WRITE="$number" "$program" run "$hi"
-        # (the message is written in pieces of ten bytes as well, after the write that fails)
-        came "write $number fails" 6 "@$room/wanted" "$cannot_write"
-    done
-    meddled TRIAL_WRITE=10 TRIAL_NO_WRITE=$((writes + 1)) "$program" run "$hi"
-    came "no write fails" 0 "$hi_report" ""
-    meddled TRIAL_NO_WRITE=1 "$program" walk
-    came "a message cannot be written" 2 "" ""
+    tries_failing_writes run "$hi" "$room/whole" 10 walk
 }
 
 try_names() {
     local name
-    name=$(printf '%0300d' 0)
-    call "$program" run "$name"
-    came "a name of 300 bytes in one part" 5 "" "$cannot_read"
-    name=$(printf '%0100d/' 1 2 3)w.abt
-    mkdir -p "$room/names/${name%/*}"
-    cp "$hi" "$room/names/$name"
+    mkdir -p "$room/names"
     cd "$room/names" || return
-    call "$program" run "$name"
-    came "a name of 308 bytes in four parts" 0 "$hi_report" ""
-    for name in 'with  blanks.abt' ' ' $'line\nfeed' $'t\tab' 'größe.abt' "quote'\"" '*' '#' 'run' 'a=b' '...'; do
-        cp "$hi" "./$name"
-        call "$program" run "$name"
-        came "the name '$name'" 0 "$hi_report" ""
-    done
+    tries_long_names run "$hi" "$hi_report"
+    tries_names run "$hi" "$hi_report" 'with  blanks.abt' ' ' $'line\nfeed' $'t\tab' 'größe.abt' "quote'\"" '*' '#' 'run' 'a=b' '...'
     for name in --journal -x -; do
         cp "$hi" "./$name"
         call "$program" run "./$name"
@@ -240,26 +216,11 @@ try_names() {
 }
 
 try_reading() {
-    call "$program" run - <"$hi"
-    came "standard input" 0 "$hi_report" ""
+    tries_reading run "$hi" "$hi_report"
     call "$program" run - --journal <"$root/crates/abtrun/data/hi.abt"
     came "standard input with a journal" 0 "@$root/crates/abtrun/stdout" ""
     call "$program" run -
     came "an empty standard input" 3 "" "abtrun: line 1: no-end"
-    call "$program" run "$room/absent"
-    came "an absent file" 5 "" "$cannot_read"
-    call "$program" run "$room"
-    came "a folder" 5 "" "$cannot_read"
-    call "$program" run "$hi/below"
-    came "a file as a folder" 5 "" "$cannot_read"
-    call "$program" run - <"$room"
-    came "a folder on standard input" 5 "" "$cannot_read"
-    call "$program" run - <&-
-    came "a closed standard input" 5 "" "$cannot_read"
-    call "$program" run - 0>"$room/text.abt"
-    came "a standard input that is open for writing" 5 "" "$cannot_read"
-    call "$program" run "$hi" <&-
-    came "a file and a closed standard input" 0 "$hi_report" ""
     if [ "$(id -u)" != 0 ]; then
         cp "$hi" "$room/text.abt"
         chmod 000 "$room/text.abt"
@@ -270,45 +231,8 @@ try_reading() {
 }
 
 try_writing() {
-    fills "$cannot_write" "$program" run "$hi"
-    "$program" run "$hi" >&- 2>"$room/err"
-    status=$?
-    ended "a closed standard output" 6 "$cannot_write"
-    "$program" run "$hi" 2>"$room/err" 1<"$hi"
-    status=$?
-    ended "a standard output that is open for reading" 6 "$cannot_write"
-    unread "$program" run "$hi"
-    ended "a pipe that nobody reads" 6 "$cannot_write"
-    limited "$program" run "$room/varied.abt"
-    head -c 1024 "$room/varied.out" >"$room/wanted"
-    came "a file that may not grow" 6 "@$room/wanted" "$cannot_write"
-    local way ways
-    closed_ways
-    for way in "${ways[@]}"; do
-        eval "\"\$program\" walk >\"\$room/out\" $way"
-        status=$?
-        : >"$room/err"
-        came "bad words with $way" 2 "" ""
-        eval "\"\$program\" run \"\$hi\" >\"\$room/out\" $way"
-        status=$?
-        came "hi with $way" 0 "$hi_report" ""
-    done
-    "$program" run "$hi" >&- 2>&- <&-
-    status=$?
-    : >"$room/err"
-    ended "all three closed" 6 ""
-    if has_full_device; then
-        "$program" run "$hi" >/dev/full 2>/dev/full
-        status=$?
-        : >"$room/err"
-        ended "both devices full" 6 ""
-    fi
-    "$program" run "$hi" >"$room/out" 2>&1
-    status=$?
-    came "both outputs in one file" 0 "$hi_report" ""
-    env -i "$program" run "$hi" >"$room/out" 2>"$room/err"
-    status=$?
-    came "no environment" 0 "$hi_report" ""
+    tries_writing run "$hi" "$hi_report" walk
+    tries_a_small_file "$room/varied.out" run "$room/varied.abt"
 }
 
 # Journals that are checked, and flows.

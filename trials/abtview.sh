@@ -171,7 +171,7 @@ try_faults() {
 
 # A few bytes at a time, in and out; and each read and each write fails in turn.
 try_few_bytes() {
-    local most number writes
+    local most
     for most in 1 7; do
         meddled TRIAL_READ=$most TRIAL_WRITE=$most "$program" svg "$journal"
         came "reads and writes of $most bytes" 0 "@$picture" ""
@@ -180,38 +180,15 @@ try_few_bytes() {
         meddled TRIAL_WRITE=$most "$program" draw
         came "writes of $most bytes of a message" 2 "" "$words_are_bad"
     done
-    for number in 1 2 3; do
-        meddled TRIAL_READ=25 TRIAL_NO_READ=$number "$program" svg "$journal"
-        came "read $number fails" 5 "" "$cannot_read"
-    done
-    writes=$((($(wc -c <"$picture") + 99) / 100))
-    for number in $(seq "$writes"); do
-        head -c $((100 * (number - 1))) "$picture" >"$room/wanted"
-        meddled TRIAL_WRITE=100 TRIAL_NO_WRITE="$number" "$program" svg "$journal"
-        came "write $number fails" 6 "@$room/wanted" "$cannot_write"
-    done
-    meddled TRIAL_WRITE=100 TRIAL_NO_WRITE=$((writes + 1)) "$program" svg "$journal"
-    came "no write fails" 0 "@$picture" ""
-    meddled TRIAL_NO_WRITE=1 "$program" draw
-    came "a message cannot be written" 2 "" ""
+    tries_failing_reads svg "$journal" 25
+    tries_failing_writes svg "$journal" "$picture" 100 draw
 }
 
 try_names() {
-    local name
-    name=$(printf '%0300d' 0)
-    call "$program" svg "$name"
-    came "a name of 300 bytes in one part" 5 "" "$cannot_read"
-    name=$(printf '%0100d/' 1 2 3)w.journal
-    mkdir -p "$room/views/${name%/*}"
-    cp "$journal" "$room/views/$name"
+    mkdir -p "$room/views"
     cd "$room/views" || return
-    call "$program" svg "$name"
-    came "a name of 312 bytes in four parts" 0 "@$picture" ""
-    for name in 'with  blanks' ' ' $'line\nfeed' $'t\tab' 'größe' "quote'\"" '*' '#' svg --help -x -- 'a=b' '...'; do
-        cp "$journal" "./$name"
-        call "$program" svg "$name"
-        came "the name '$name'" 0 "@$picture" ""
-    done
+    tries_long_names svg "$journal" "@$picture"
+    tries_names svg "$journal" "@$picture" 'with  blanks' ' ' $'line\nfeed' $'t\tab' 'größe' "quote'\"" '*' '#' svg --help -x -- 'a=b' '...'
     cp "$journal" ./-
     call "$program" svg ./-
     came "the name './-'" 0 "@$picture" ""
@@ -219,60 +196,14 @@ try_names() {
 }
 
 try_reading() {
-    call "$program" svg - <"$journal"
-    came "standard input" 0 "@$picture" ""
-    call "$program" svg "$room/absent"
-    came "an absent file" 5 "" "$cannot_read"
+    tries_reading svg "$journal" "@$picture"
     call "$program" svg ''
     came "an empty name" 5 "" "$cannot_read"
-    call "$program" svg "$room"
-    came "a folder" 5 "" "$cannot_read"
-    call "$program" svg "$journal/below"
-    came "a file as a folder" 5 "" "$cannot_read"
-    call "$program" svg - <"$room"
-    came "a folder on standard input" 5 "" "$cannot_read"
-    call "$program" svg - <&-
-    came "a closed standard input" 5 "" "$cannot_read"
-    call "$program" svg - 0>"$room/text"
-    came "a standard input that is open for writing" 5 "" "$cannot_read"
-    call "$program" svg "$journal" <&-
-    came "a file and a closed standard input" 0 "@$picture" ""
 }
 
 try_writing() {
-    fills "$cannot_write" "$program" svg "$journal"
-    "$program" svg "$journal" >&- 2>"$room/err"
-    status=$?
-    ended "a closed standard output" 6 "$cannot_write"
-    "$program" svg "$journal" 2>"$room/err" 1<"$journal"
-    status=$?
-    ended "a standard output that is open for reading" 6 "$cannot_write"
-    unread "$program" svg "$journal"
-    ended "a pipe that nobody reads" 6 "$cannot_write"
-    limited "$program" svg "$journal"
-    head -c 1024 "$picture" >"$room/wanted"
-    came "a file that may not grow" 6 "@$room/wanted" "$cannot_write"
-    local way ways
-    closed_ways
-    for way in "${ways[@]}"; do
-        eval "\"\$program\" draw >\"\$room/out\" $way"
-        status=$?
-        : >"$room/err"
-        came "bad words with $way" 2 "" ""
-        eval "\"\$program\" svg \"\$journal\" >\"\$room/out\" $way"
-        status=$?
-        came "hi with $way" 0 "@$picture" ""
-    done
-    "$program" svg "$journal" >&- 2>&- <&-
-    status=$?
-    : >"$room/err"
-    ended "all three closed" 6 ""
-    "$program" svg "$journal" >"$room/out" 2>&1
-    status=$?
-    came "both outputs in one file" 0 "@$picture" ""
-    env -i "$program" svg "$journal" >"$room/out" 2>"$room/err"
-    status=$?
-    came "no environment" 0 "@$picture" ""
+    tries_writing svg "$journal" "@$picture" draw
+    tries_a_small_file "$picture" svg "$journal"
 }
 
 if ! make_meddler; then

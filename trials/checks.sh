@@ -177,3 +177,123 @@ make_meddler() {
     kit=$(rt doc) && kit=${kit%/*}/toolchain/bin &&
         "$kit/clang" -shared -fPIC -nostdlib -O1 --ld-path="$kit/ld.lld" -o "$room/meddle.so" trials/meddle.c
 }
+
+# What programs do with files and standard streams, tried alike of those that have a command of a word and a file. Its output
+# for that file is WANTED, as `came` takes it; $cannot_read and $cannot_write are the program's messages.
+
+# tries_names WORD FILE WANTED NAME..: a file may have any of these names.
+tries_names() {
+    local word=$1 file=$2 wanted=$3 name
+    shift 3
+    for name in "$@"; do
+        cp "$file" "./$name"
+        call "$program" "$word" "$name"
+        came "the name '$name'" 0 "$wanted" ""
+    done
+}
+
+# tries_long_names WORD FILE WANTED: names that are longer than a part of a name may be, and those that are not.
+tries_long_names() {
+    local name
+    name=$(printf '%0300d' 0)
+    call "$program" "$1" "$name"
+    came "a name of 300 bytes in one part" 5 "" "$cannot_read"
+    name=$(printf '%0100d/' 1 2 3)file
+    mkdir -p "./${name%/*}"
+    cp "$2" "./$name"
+    call "$program" "$1" "$name"
+    came "a name of 307 bytes in four parts" 0 "$3" ""
+}
+
+# tries_reading WORD FILE WANTED: what can be read, and what can't.
+tries_reading() {
+    call "$program" "$1" - <"$2"
+    came "standard input" 0 "$3" ""
+    call "$program" "$1" "$room/absent"
+    came "an absent file" 5 "" "$cannot_read"
+    call "$program" "$1" "$room"
+    came "a folder" 5 "" "$cannot_read"
+    call "$program" "$1" "$2/below"
+    came "a file as a folder" 5 "" "$cannot_read"
+    call "$program" "$1" - <"$room"
+    came "a folder on standard input" 5 "" "$cannot_read"
+    call "$program" "$1" - <&-
+    came "a closed standard input" 5 "" "$cannot_read"
+    call "$program" "$1" - 0>"$room/written"
+    came "a standard input that is open for writing" 5 "" "$cannot_read"
+    call "$program" "$1" "$2" <&-
+    came "a file and a closed standard input" 0 "$3" ""
+}
+
+# tries_writing WORD FILE WANTED BAD: outputs that can't be written; BAD is no word of the program.
+tries_writing() {
+    local way ways
+    fills "$cannot_write" "$program" "$1" "$2"
+    "$program" "$1" "$2" >&- 2>"$room/err"
+    status=$?
+    ended "a closed standard output" 6 "$cannot_write"
+    "$program" "$1" "$2" 2>"$room/err" 1<"$2"
+    status=$?
+    ended "a standard output that is open for reading" 6 "$cannot_write"
+    unread "$program" "$1" "$2"
+    ended "a pipe that nobody reads" 6 "$cannot_write"
+    closed_ways
+    for way in "${ways[@]}"; do
+        eval "\"\$program\" \"\$4\" >\"\$room/out\" $way"
+        status=$?
+        : >"$room/err"
+        came "bad words with $way" 2 "" ""
+        eval "\"\$program\" \"\$1\" \"\$2\" >\"\$room/out\" $way"
+        status=$?
+        : >"$room/err"
+        came "an output with $way" 0 "$3" ""
+    done
+    "$program" "$1" "$2" >&- 2>&- <&-
+    status=$?
+    : >"$room/err"
+    ended "all three closed" 6 ""
+    if has_full_device; then
+        "$program" "$1" "$2" >/dev/full 2>/dev/full
+        status=$?
+        : >"$room/err"
+        ended "both devices full" 6 ""
+    fi
+    "$program" "$1" "$2" >"$room/out" 2>&1
+    status=$?
+    came "both outputs in one file" 0 "$3" ""
+    env -i "$program" "$1" "$2" >"$room/out" 2>"$room/err"
+    status=$?
+    came "no environment" 0 "$3" ""
+}
+
+# tries_a_small_file WANTED WORD FILE: an output that may not be as long as the text of the file WANTED.
+tries_a_small_file() {
+    limited "$program" "$2" "$3"
+    head -c 1024 "$1" >"$room/wanted"
+    came "a file that may not grow" 6 "@$room/wanted" "$cannot_write"
+}
+
+# tries_failing_reads WORD FILE MOST: each of the first three reads of MOST bytes fails in turn.
+tries_failing_reads() {
+    local number
+    for number in 1 2 3; do
+        meddled TRIAL_READ="$3" TRIAL_NO_READ=$number "$program" "$1" "$2"
+        came "read $number fails" 5 "" "$cannot_read"
+    done
+}
+
+# tries_failing_writes WORD FILE TEXT MOST BAD: each write of MOST bytes of the output, which the file TEXT has, fails in turn.
+tries_failing_writes() {
+    local number writes
+    writes=$((($(wc -c <"$3") + $4 - 1) / $4))
+    for number in $(seq "$writes"); do
+        head -c $(($4 * (number - 1))) "$3" >"$room/wanted"
+        meddled TRIAL_WRITE="$4" TRIAL_NO_WRITE="$number" "$program" "$1" "$2"
+        # (the message is written in such pieces as well, after the write that fails)
+        came "write $number fails" 6 "@$room/wanted" "$cannot_write"
+    done
+    meddled TRIAL_WRITE="$4" TRIAL_NO_WRITE=$((writes + 1)) "$program" "$1" "$2"
+    came "no write fails" 0 "@$3" ""
+    meddled TRIAL_NO_WRITE=1 "$program" "$5"
+    came "a message cannot be written" 2 "" ""
+}
