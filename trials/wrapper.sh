@@ -305,7 +305,7 @@ try_unproved() {
     cd "$root" || return
     holds "try ends as the program does" [ "$status" = 5 ]
     holds "try says that nothing is proved" [ "$(cat "$room/err")" = \
-        "try: nothing is proved; rt try compiles toy as it stands and runs it, in about a minute" ]
+        "try: nothing is proved; rt try compiles toy as it stands and runs it, in a minute or two" ]
     holds "try passes words and files on" [ "$(cat "$room/calls")" = "try --data here=$room/else where/here --data ./here=$room/else \
 where/./here -- run here ./here $room/else where/a=b $room/else where/../in $room/in absent" ]
 }

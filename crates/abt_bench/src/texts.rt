@@ -20,7 +20,7 @@ const ROUNDS: u32 = 21;
 
 const EVENTS: u32 = 1_000_000;
 
-// A word of 58 bytes: with it in each of 65,536 operations a text is nearly as long as a text may be.
+// A word of 58 bytes: with it in each of 65,536 operations a text is nearly as long as one of format 1 may be.
 const LONG_WORD: &str = "say abcdefghijklmnopqrstuvwxyzabcdefghijklmnopqrstuvwxyzabcdef";
 
 /// A small workload and a small journal, there and back.
