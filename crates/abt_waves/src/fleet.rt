@@ -115,7 +115,7 @@ impl<'w> Fleet<'w> {
         O: Orders + Sync,
         X: Send + Drop,
         L: Locking<'w, R> + Locked<Pass = X> + Sync + Drop,
-    >(self, alloc: Global, rt: &'w R, orders: &O, pace: &P) -> Result<(Fleet<'w>, Outcome), Want>
+    >(self, rt: &'w R, alloc: Global, orders: &O, pace: &P) -> Result<(Fleet<'w>, Outcome), Want>
         requires fleet { IsFleetOf L.lock L.clock self.workload (O.shapes orders.now) self.steps self }
         ensures { IfOk result (λ ended. HasEnded L.lock L.clock self.entry.workload (O.shapes orders.now) self.entry.steps ended.0 ended.1) }
     {

@@ -39,8 +39,8 @@ pub fn run_streams<'w, R: Threads + Wait + Sync, P: Pace + Sync>(
         return drain_at_pace(alloc, w, orders, pace, steps);
     }
     run_over::<R, P, StoredOrders<'_>, SplitPass<'w>, Split<'w, R>>(
-        alloc,
         rt,
+        alloc,
         w,
         &StoredOrders { orders },
         pace,
@@ -56,7 +56,7 @@ pub fn run_over<
     O: Orders + Sync,
     X: Send + Drop,
     L: Locking<'w, R> + Locked<Pass = X> + Sync + Drop,
->(alloc: Global, rt: &'w R, w: &'w Workload, orders: &O, pace: &P, steps: u64) -> Result<Run, Want>
+>(rt: &'w R, alloc: Global, w: &'w Workload, orders: &O, pace: &P, steps: u64) -> Result<Run, Want>
     requires orders { 2 ≤ length (O.shapes orders.now) }
     ensures run { IfOk result (λ run. IsRunOf w.now (O.shapes orders.now) steps run.journal run.outcome) }
     ensures lamport { IfOk result (λ run. TellsSites L.lock → Lamport w.now run.journal) }

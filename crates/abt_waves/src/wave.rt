@@ -40,8 +40,8 @@ pub fn run_wave<'w, R: Threads + Wait + Sync, P: Pace + Sync>(
     ensures still { IfOk result (λ left. (s : ℕ) → slice_get live.now s ≡ Some false → slice_get left.1.items s ≡ slice_get streams.items s) }
 {
     sail::<R, P, StoredOrders<'_>, SplitPass<'w>, Split<'w, R>>(
-        alloc,
         rt,
+        alloc,
         w,
         &StoredOrders { orders },
         pace,

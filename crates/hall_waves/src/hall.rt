@@ -105,8 +105,8 @@ pub fn run_in_hall<'w, R: Threads + Wait + Sync, P: Pace + Sync>(
     ensures picture { IfOk result (λ run. IsPictureOf w.now run.journal run.picture) }
 {
     run_over::<R, P, StoredOrders<'_>, HallPass<'w>, OneLock<'w, R>>(
-        alloc,
         rt,
+        alloc,
         w,
         &StoredOrders { orders },
         pace,
