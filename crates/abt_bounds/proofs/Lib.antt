@@ -6,6 +6,7 @@ pub mod Counting
 pub mod Denied
 pub mod FewLives
 pub mod Freedom
+pub mod Homes
 pub mod JournalTexts
 pub mod Naming
 pub mod Solid

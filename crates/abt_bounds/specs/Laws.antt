@@ -1,8 +1,9 @@
 -- Laws that bound the machine from above: what a stream may do next, and what no run does. W is a workload and Z the list of the shapes of the stored orders.
-use Rattle.std.specs.Prelude.{ℕ, suc, ◌≡◌, ◌≢◌, ◌<◌, ◌≤◌, ◌*◌, ◌^◌, ◌↔◌, List, [], ◌∷◌, length, map, sum_by, Option, Some, None, Bool, Contains, IsTrue, slice_get}
+use Rattle.std.specs.Prelude.{ℕ, suc, ◌≡◌, ◌≢◌, ◌<◌, ◌≤◌, ◌*◌, ◌^◌, ◌↔◌, ◌⊎◌, List, [], ◌∷◌, length, map, sum_by, Option, Some, None, Bool, Contains, IsTrue, slice_get}
 use Rattle.std.specs.List.{AllByRecursion}
 use Rattle.abt_machine.specs.declared.events.Code.TheVariants as code
 use Rattle.abt_machine.specs.declared.events.Event.{Event}
+use Rattle.abt_machine.specs.declared.events.Place.TheVariants as place
 use Rattle.abt_machine.specs.declared.events.What.{What}
 use Rattle.abt_machine.specs.declared.events.What.TheVariants as what
 use Rattle.abt_machine.specs.declared.numbers.PoolNo.{PoolNo}
@@ -13,6 +14,7 @@ use Rattle.abt_machine.specs.declared.operations.OrderShape.{OrderShape}
 use Rattle.abt_machine.specs.declared.operations.OrderShape.TheVariants as shape
 use Rattle.abt_machine.specs.declared.operations.Rule.TheVariants as rule
 use Rattle.abt_machine.specs.declared.workload.Parts.{Parts}
+use Rattle.abt_machine.specs.Access.{may_put, may_take}
 use Rattle.abt_machine.specs.Valid.{IsValid}
 use Rattle.abt_machine.specs.Rounds.{IsNextPool, IsOrder, OrdersStored}
 use Rattle.abt_machine.specs.Workloads.{body_at, op_at, ops_of, pools_of, rule_of}
@@ -102,6 +104,24 @@ RunsKeepAccess W Z = IsValid W → (J : List Event) → Run W Z J →
 -- an operation is refused for access exactly if its stream must not reach the pool that it names
 abbrev pub DeniedAreRefused : Parts → Type 0
 DeniedAreRefused W = (S : State) (s u : ℕ) (o : Op) → (code_of W S s u o ≡ code.PoolAccess) ↔ (IsWithinAccess W s o → ⊥)
+
+-- a unit's home becomes only a pool that the event's stream may put into, or at its look the one of its request to migrate
+abbrev pub HomesNeedAccess : Parts → List OrderShape → Type 0
+HomesNeedAccess W Z = (S T : State) (e : Event) (v : UnitNo) → After W Z S e T → (T.carried v.0).home ≢ (S.carried v.0).home →
+    IsTrue (may_put W e.stream.0 (T.carried v.0).home) ⊎ ((e.what ≡ what.Look v) × ((S.desk v.0).migrate ≡ Some (T.carried v.0).home))
+
+-- a unit begins a life only with a home that the event's stream may put into
+abbrev pub BirthsNeedAccess : Parts → List OrderShape → Type 0
+BirthsNeedAccess W Z = (S T : State) (e : Event) (v : UnitNo) → After W Z S e T → (T.desk v.0).life ≢ (S.desk v.0).life → IsTrue (may_put W e.stream.0 (T.carried v.0).home)
+
+-- a unit is newly asked to migrate only to a pool that the event's stream may put into
+abbrev pub RequestsNeedAccess : Parts → List OrderShape → Type 0
+RequestsNeedAccess W Z = (S T : State) (e : Event) (v : UnitNo) (p : ℕ) → After W Z S e T → (T.desk v.0).migrate ≡ Some p → (S.desk v.0).migrate ≢ Some p → IsTrue (may_put W e.stream.0 p)
+
+-- if each stream may take from all pools of the schedulers that it runs, a unit leaves a pool only if the event's stream may take from it
+abbrev pub TakersHaveAccess : Parts → List OrderShape → Type 0
+TakersHaveAccess W Z = (S T : State) (e : Event) (v : UnitNo) (p : PoolNo) (t : ℕ) → FramesHaveAccess W S → After W Z S e T →
+    S.place v.0 ≡ place.Pool p t → T.place v.0 ≢ S.place v.0 → IsTrue (may_take W e.stream.0 p.0)
 
 -- Stamps.
 

@@ -13,7 +13,10 @@ pub use choice::{
     orders_are_one, some_after, some_next, some_run_of_turns,
 };
 pub use clock::{stamps_fit_length, stamps_fit_places};
-pub use reach::{denied_are_refused, events_keep_access, runs_keep_access, start_has_access};
+pub use reach::{
+    births_need_access, denied_are_refused, events_keep_access, homes_need_access,
+    requests_need_access, runs_keep_access, start_has_access, takers_have_access,
+};
 pub use texts::{
     journal_texts_differ, long_numbers_coincide, run_texts_differ, runs_name_declared,
 };

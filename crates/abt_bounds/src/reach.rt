@@ -3,7 +3,7 @@
 ghost use Rattle.std.specs.Prelude.{List};
 ghost use Rattle.abt_machine.specs.declared.operations.OrderShape.{OrderShape};
 ghost use Rattle.abt_machine.specs.declared.workload.Parts.{Parts};
-ghost use Rattle.abt_bounds.specs.Laws.{DeniedAreRefused, EventsKeepAccess, RunsKeepAccess, StartHasAccess};
+ghost use Rattle.abt_bounds.specs.Laws.{BirthsNeedAccess, DeniedAreRefused, EventsKeepAccess, HomesNeedAccess, RequestsNeedAccess, RunsKeepAccess, StartHasAccess, TakersHaveAccess};
 
 /// At the start each stream may take from all pools of the schedulers that it runs.
 pub fn start_has_access()
@@ -24,4 +24,26 @@ pub fn runs_keep_access()
 /// An operation is refused for access exactly if its stream must not reach the pool that it names.
 pub fn denied_are_refused()
     ensures { (W : Parts) → DeniedAreRefused W }
+{}
+
+/// A unit's home becomes only a pool that the event's stream may put into, or at its look the one
+/// of its request to migrate. No table of operations is named here or in the next three.
+pub fn homes_need_access()
+    ensures { (W : Parts) (Z : List OrderShape) → HomesNeedAccess W Z }
+{}
+
+/// A unit begins a life only with a home that the event's stream may put into.
+pub fn births_need_access()
+    ensures { (W : Parts) (Z : List OrderShape) → BirthsNeedAccess W Z }
+{}
+
+/// A unit is newly asked to migrate only to a pool that the event's stream may put into.
+pub fn requests_need_access()
+    ensures { (W : Parts) (Z : List OrderShape) → RequestsNeedAccess W Z }
+{}
+
+/// A unit leaves a pool only if the event's stream may take from it, if each stream may take from
+/// all pools of the schedulers that it runs.
+pub fn takers_have_access()
+    ensures { (W : Parts) (Z : List OrderShape) → TakersHaveAccess W Z }
 {}
