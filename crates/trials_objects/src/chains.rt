@@ -1,12 +1,17 @@
-//! A chain against worked rows, and a chain that is longer than the stack is deep.
+//! A chain against worked rows, the links that counted calls walk, and a chain that is longer than the stack is deep.
+
+ghost use Rattle.std.specs.Prelude.{◌≡◌, ◌<◌, ◌≤◌, ◌+◌};
+ghost use Rattle.abt_chain.specs.Links.{IsCounted, walk_of};
 
 use crate::answers::{Answer, found, out};
 use crate::samples::unit;
 use crate::tried::{Tried, check};
-use abt_chain::Chain;
+use abt_chain::{Chain, Steps};
 use abt_machine::UnitNo;
 use std::alloc::Global;
+use std::marker::Brand;
 use std::process::Abort;
+use std::sync::ledger::{Blank, Ledger};
 use std::test::Fail;
 use std::thread::Builder;
 
@@ -77,6 +82,57 @@ impl Tried for Chain {
 fn chains_are_lists(rt: HostRuntime) -> Result<(), Fail> {
     let mut chain = Chain::new();
     check(&rt, rt.alloc(), &mut chain, &ROWS)
+}
+
+// Appends the unit of that number.
+fn push<L: Ledger>(
+    rt: &impl Abort,
+    alloc: Global,
+    chain: &mut Chain,
+    number: u32,
+    steps: &mut Steps<L>,
+) -> Result<(), Fail>
+    ensures { IsCounted (walk_of steps.old chain.old) (walk_of steps.new chain.new) }
+{
+    chain.push_back_counted(unit(rt, alloc, number, 0)?, steps);
+    Ok(())
+}
+
+// The first unit, which is taken.
+fn take<L: Ledger>(chain: &mut Chain, steps: &mut Steps<L>) -> Answer
+    ensures { IsCounted (walk_of steps.old chain.old) (walk_of steps.new chain.new) }
+{
+    out(chain.take_front_counted(steps))
+}
+
+// Four units are appended, and come out in order.
+fn eight_calls<L: Ledger>(rt: &impl Abort, alloc: Global, steps: &mut Steps<L>) -> Result<(), Fail>
+    ensures { steps.new ≤ steps.old + 8 }
+{
+    let mut chain = Chain::new();
+    push(rt, alloc, &mut chain, 0, steps)?;
+    push(rt, alloc, &mut chain, 1, steps)?;
+    push(rt, alloc, &mut chain, 2, steps)?;
+    assert!(rt; take(&mut chain, steps) == Answer::Unit((0, 0)));
+    assert!(rt; take(&mut chain, steps) == Answer::Unit((1, 0)));
+    assert!(rt; take(&mut chain, steps) == Answer::Unit((2, 0)));
+    push(rt, alloc, &mut chain, 3, steps)?;
+    assert!(rt; take(&mut chain, steps) == Answer::Unit((3, 0)));
+    Ok(())
+}
+
+fn counted<L: Ledger>(rt: &impl Abort, alloc: Global, blank: Blank) -> Result<(), Fail>
+    requires name { blank.name ≡ L.name }
+    requires parts { blank.parts ≡ L.parts }
+    requires some { 0 < L.parts }
+{
+    let mut steps = Steps::<L>::new(blank);
+    eight_calls(rt, alloc, &mut steps)
+}
+
+#[test]
+fn eight_calls_walk_few_links(rt: HostRuntime) -> Result<(), Fail> {
+    counted::<Brand>(&rt, rt.alloc(), Blank::new(1))
 }
 
 // 20,000 units, told apart by their accumulators, of which the one in the middle alone has number 3.
