@@ -4,7 +4,7 @@ use crate::drains::{SHARED_REPORT, shared};
 use crate::reports::is_reported;
 use abt_check::{Verdict, check};
 use abt_generate::generate;
-use abt_machine::{StreamNo, UnitNo, Want, Workload};
+use abt_machine::{Outcome, StreamNo, UnitNo, Want, Workload};
 use abt_order::StoredOrder;
 use abt_stream::{NoPace, Pace};
 use abt_waves::run_streams;
@@ -28,6 +28,10 @@ static APART: &str =
 
 static APART_REPORT: &str =
     "unit 0 done:\nunit 1 done:\ntally units 2 unborn 0 pool 0 stream 0 blocked 0 done 2 asked 0 access 0 steps 2\nfinished\n";
+
+// 4,000 units add 1 to a number and meet at a barrier, where one more waits for them and then prints the number.
+static BARRIER: &str =
+    "abt 2\nstreams 2\npool 0 fifo mpmc\nsched 0 prio 0\nsched 1 prio 0\nstream 0 main 0\nstream 1 main 1\nobject 0 mutex\nobject 1 barrier 4001\nunits 4001\nmany 0 4000 ult at 0\nlock 0\nload 0\nadd 1\nstore 0\nunlock 0\nbwait 1\nunit 4000 ult at 0\nbwait 1\nlock 0\nload 0\nprint\nunlock 0\nend\n";
 
 // Holds each step of one stream until the other has reached one, as long as the turns last.
 #[derive(Drop)]
@@ -68,19 +72,20 @@ impl Pace for Meeting {
     }
 }
 
-// Whether a run on threads has this report, if it is stated, and a journal that is judged to be a run.
+// Whether a run on threads has this report, or is finished if none is stated, and has a journal that is judged to be a run.
 fn is_run<R: Threads + Wait + Sync, P: Pace + Sync>(
     rt: &R,
     alloc: Global,
     w: &Workload,
     pace: &P,
+    steps: u64,
     report: Option<&str>,
 ) -> Result<bool, Want> {
     let orders = [StoredOrder::rotating(), StoredOrder::mirroring()];
-    let run = run_streams(rt, alloc, w, &orders, pace, 10_000)?;
+    let run = run_streams(rt, alloc, w, &orders, pace, steps)?;
     let is = match report {
         Some(text) => is_reported(alloc, w, &run.journal, &run.picture, run.outcome, text),
-        None => true,
+        None => run.outcome == Outcome::Finished,
     };
     Ok(is && check(alloc, w, &orders, &run.journal)? == Verdict::Run)
 }
@@ -93,7 +98,7 @@ fn are_runs<R: Threads + Wait + Sync>(
     report: Option<&str>,
 ) -> Result<bool, Want> {
     for _ in 0..TIMES {
-        if !is_run(rt, alloc, w, &NoPace, report)? {
+        if !is_run(rt, alloc, w, &NoPace, 10_000, report)? {
             return Ok(false);
         }
     }
@@ -126,11 +131,24 @@ fn journals_of_threads_are_judged_runs(rt: HostRuntime) -> Result<(), Fail> {
     Ok(())
 }
 
+// Whether one is, of a barrier that lets 4,001 units through.
+fn let_through<R: Threads + Wait + Sync>(rt: &R, alloc: Global) -> Result<bool, Fail> {
+    let w = read(alloc, BARRIER.as_bytes())?;
+    Ok(is_run(rt, alloc, &w, &NoPace, 100_000, None)?)
+}
+
+#[test]
+fn a_journal_of_4001_units_is_judged_a_run(rt: HostRuntime) -> Result<(), Fail> {
+    let it_is = let_through(&rt, rt.alloc())?;
+    assert!(rt; it_is);
+    Ok(())
+}
+
 // Whether a run has its report, and a held step of this stream meets one of the other.
 fn meets<R: Threads + Wait + Sync>(rt: &R, alloc: Global, held: StreamNo) -> Result<bool, Fail> {
     let w = read(alloc, APART.as_bytes())?;
     let meeting = Meeting::new(held);
-    let is = is_run(rt, alloc, &w, &meeting, Some(APART_REPORT))?;
+    let is = is_run(rt, alloc, &w, &meeting, 10_000, Some(APART_REPORT))?;
     Ok(is && meeting.has_met())
 }
 
