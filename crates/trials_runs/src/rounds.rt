@@ -1,9 +1,11 @@
-//! Rounds of one scheduler over one to eight pools, by each rule.
+//! Rounds of one scheduler over one to eight pools, by each rule, and a run whose rounds go by a free order.
 
 ghost use Rattle.std.specs.Prelude.{◌≡◌, ◌<◌, ◌≤◌, ◌+◌, ◌-◌, ◌%◌, ◌^◌};
 ghost use Rattle.abt_machine.specs.Limits.{listed_limit};
 ghost use Rattle.abt_order.specs.Schedulers.{IsSchedulerOf, IsStored};
 
+use crate::reports::is_text_of;
+use abt_drain::drain;
 use abt_machine::{OrderShape, PoolNo, SchedNo, Want, Workload};
 use abt_order::{Scheduler, StoredOrder, mirror, rotate};
 use abt_workload::read;
@@ -153,6 +155,14 @@ static TURNED: [Row; 4] = [
         ],
     ),
 ];
+
+// Two units of the first of two pools, which a stream visits by order 0.
+static BY_ORDER: &str =
+    "abt 1\nstreams 1\npool 0 fifo mpmc\npool 1 fifo mpmc\nsched 0 user 0 0 1\nstream 0 main 0\nunits 2\nunit 0 ult at 0\nunit 1 ult at 0\nend\n";
+
+// The journal of a run of theirs, in which each round begins at the other pool.
+const LAST_FIRST: &str =
+    "1 0 miss 1\n2 0 take 0 0\n3 0 look 0\n4 0 end 0 done\n5 0 miss 1\n6 0 take 0 1\n7 0 look 1\n8 0 end 1 done\n9 0 miss 1\n10 0 miss 0\n";
 
 // The text of a workload whose scheduler that is tried has this rule and these pools.
 fn text(alloc: Global, rule: &str) -> Result<String, AllocError> {
@@ -318,4 +328,29 @@ fn free_orders_are_made_permutations(rt: HostRuntime) -> Result<(), Fail> {
         StoredOrder::new(OrderShape::Free, Box::new(alloc, last)?),
     ];
     check_all(&rt, alloc, &orders, &TURNED)
+}
+
+// Whether that is the journal of the run by these orders.
+fn goes_last_first(alloc: Global, orders: &[StoredOrder; 2]) -> Result<bool, Fail> {
+    let w = read(alloc, BY_ORDER.as_bytes())?;
+    let run = drain(alloc, &w, orders, 10_000)?;
+    Ok(is_text_of(alloc, &run.journal, LAST_FIRST))
+}
+
+#[test]
+fn a_run_goes_by_its_free_order(rt: HostRuntime) -> Result<(), Fail> {
+    let alloc = rt.alloc();
+    let orders = [
+        StoredOrder::new(OrderShape::Free, Box::new(alloc, turn_round)?),
+        StoredOrder::new(OrderShape::Free, Box::new(alloc, turn)?),
+    ];
+    let is = goes_last_first(alloc, &orders)?;
+    assert!(rt; is, "the order answers 1 and 0");
+    let orders = [
+        StoredOrder::new(OrderShape::Free, Box::new(alloc, last)?),
+        StoredOrder::new(OrderShape::Free, Box::new(alloc, turn)?),
+    ];
+    let is = goes_last_first(alloc, &orders)?;
+    assert!(rt; is, "the order answers 1 and 1");
+    Ok(())
 }
