@@ -205,16 +205,32 @@ fn check_orders(w: &Workload)
     w.known();
 }
 
-// What the next turn needs. If memory is refused it is asked for once more: the stream is as it was.
-fn prepare(stream: &mut Stream, w: &Workload, orders: &[StoredOrder]) -> Result<(), Want>
+// What is seen of a stream: how many events it made, and whether it is idle and spent.
+fn seen(stream: &Stream, w: &Workload) -> (usize, bool, bool)
+    requires { FitsStream w.now stream.now }
+{
+    (stream.log().len(), stream.is_idle(), stream.is_spent(w))
+}
+
+// What the next turn needs. If memory is refused the stream is as it was, and it is asked for once more.
+fn prepare(
+    rt: &impl Abort,
+    stream: &mut Stream,
+    w: &Workload,
+    orders: &[StoredOrder],
+) -> Result<(), Want>
     requires stored { (g : ℕ) → IsStored w.now g (length orders.now) }
     requires fits { FitsStream w.now stream.old }
     ensures ready { OnOk result (IsReady w.now stream.new) }
     ensures fits { FitsStream w.now stream.new }
 {
+    let before = seen(stream, w);
     match stream.prepare(w, orders) {
         Ok(()) => Ok(()),
-        Err(Want) => stream.prepare(w, orders),
+        Err(Want) => {
+            assert!(rt; seen(stream, w) == before);
+            stream.prepare(w, orders)
+        }
     }
 }
 
@@ -229,6 +245,7 @@ fn ends(turn: Turn, idle: bool) -> bool {
 
 // The stream's turns until it ends.
 fn drive<'w>(
+    rt: &impl Abort,
     stream: &mut Stream,
     plain: &Plain<'w>,
     pass: &mut PlainPass<'w>,
@@ -241,7 +258,7 @@ fn drive<'w>(
     requires fits { FitsStream w.now stream.old }
 {
     'turns: for _ in 0..MOST {
-        prepare(stream, w, orders)?;
+        prepare(rt, stream, w, orders)?;
         let turn = stream.turn(plain, pass, w, &NoPace);
         if ends(turn, stream.is_idle()) {
             return Ok(());
@@ -262,7 +279,7 @@ fn events(
     check_orders(w);
     let mut stream = Stream::new(alloc, w, StreamNo(0), steps)?;
     let (plain, mut pass) = Plain::make(Objects::place(alloc, w)?);
-    drive(&mut stream, &plain, &mut pass, w, orders)?;
+    drive(rt, &mut stream, &plain, &mut pass, w, orders)?;
     Ok(Journal::new(stream.into_parts().log.into_items()))
 }
 
