@@ -6,6 +6,7 @@ ghost use Rattle.abt_callbacks.specs.Folding.{first_of};
 
 use abt_booth::{Booth, Called, Object, Seat};
 use abt_callbacks::{CalledFuture, Fold, FoldShape, FutureAct, FutureAnswer, PlainSum, StoredFold};
+use abt_machine::Code;
 use std::process::Abort;
 use std::sync::Wait;
 use std::test::Fail;
@@ -49,6 +50,17 @@ fn a_future_calls_its_fold_over_the_last_value(rt: HostRuntime) -> Result<(), Fa
     for (act, answer, _) in CALLS {
         assert_eq!(rt; future.run(act), answer);
     }
+    Ok(())
+}
+
+#[test]
+fn a_future_of_two_values_is_set_twice(rt: HostRuntime) -> Result<(), Fail> {
+    let alloc = rt.alloc();
+    let fold = StoredFold::new(FoldShape::First, Box::new(alloc, first)?);
+    let mut future = CalledFuture::new(alloc, 2, fold)?;
+    assert_eq!(rt; future.set(7), Ok(None));
+    assert_eq!(rt; future.set(9), Ok(Some(7)));
+    assert_eq!(rt; future.set(1), Err(Code::FutureFull));
     Ok(())
 }
 
