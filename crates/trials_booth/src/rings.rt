@@ -36,19 +36,3 @@ fn a_ring_calls_for_the_last_values_in_order(rt: HostRuntime) -> Result<(), Fail
     assert_eq!(rt; ring.answers(), [8, 6].as_slice());
     Ok(())
 }
-
-#[test]
-fn a_ring_of_two_keys_ends_a_value_once(rt: HostRuntime) -> Result<(), Fail> {
-    let alloc = rt.alloc();
-    let ends = vec![in alloc;
-        StoredEnd::new(true, Box::new(alloc, same)?),
-        StoredEnd::new(true, Box::new(alloc, same)?),
-    ]?;
-    let mut ring = KeyRing::new(alloc, ends)?;
-    ring.set(1, 4);
-    ring.end();
-    assert_eq!(rt; ring.answers(), [4].as_slice());
-    ring.end();
-    assert!(rt; ring.answers().is_empty());
-    Ok(())
-}
