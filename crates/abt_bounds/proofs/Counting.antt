@@ -9,7 +9,8 @@ use Rattle.abt_machine.specs.declared.events.Event.{Event}
 use Rattle.abt_machine.specs.declared.events.What.{What}
 use Rattle.abt_machine.specs.declared.events.What.TheVariants as what
 use Rattle.abt_machine.specs.declared.workload.Parts.{Parts}
-use Rattle.abt_machine.specs.Lives.{events_from, is_birth, is_of, last_life_from, life_after, positions_in, unit_of}
+use Rattle.abt_machine.specs.Fronts.{is_some_of}
+use Rattle.abt_machine.specs.Lives.{events_from, is_birth, last_life_from, life_after, positions_in, unit_of}
 use Rattle.abt_machine.specs.Outcomes.{is_step}
 use Rattle.abt_machine.specs.Workloads.{op_at}
 use Rattle.abt_laws.proofs.LifeJournals.{added_event, positions_in-append}
@@ -20,10 +21,10 @@ one_if b = cond b 1 0
 
 -- 1 for a step of unit u, 0 for any other event
 abbrev pub step_by : ℕ → What → ℕ
-step_by u w = one_if (is_step w && is_of u (unit_of w))
+step_by u w = one_if (is_step w && is_some_of u (unit_of w))
 
 abbrev pub steps_by : ℕ → List Event → ℕ
-steps_by u J = count_by (λ (e : Event). is_step e.what && is_of u (unit_of e.what)) J
+steps_by u J = count_by (λ (e : Event). is_step e.what && is_some_of u (unit_of e.what)) J
 
 pub steps_by-cons : (u : ℕ) (e : Event) (es : List Event) → steps_by u (e ∷ es) ≡ step_by u e.what + steps_by u es
 steps_by-cons u e es = sum_by-cons (λ (e : Event). step_by u e.what) e es
@@ -52,10 +53,10 @@ abbrev added_steps : ℕ → ℕ → What → ℕ → ℕ
 added_steps u now w l = length (positions_in (added_event u l now w))
 
 added-now : (u now : ℕ) (w : What) → added_steps u now w now ≡ step_by u w
-added-now u now w = positions-of (is_of u (unit_of w)) (now == now) w ∙ and-true (is_step w) (is_of u (unit_of w)) (now == now) (eq-eqb now now refl)
+added-now u now w = positions-of (is_some_of u (unit_of w)) (now == now) w ∙ and-true (is_step w) (is_some_of u (unit_of w)) (now == now) (eq-eqb now now refl)
 
 added-other : (u now : ℕ) (w : What) (l : ℕ) → l ≢ now → added_steps u now w l ≡ 0
-added-other u now w l ne = positions-of (is_of u (unit_of w)) (now == l) w ∙ and-false (is_step w) (is_of u (unit_of w)) (now == l) (ne_eqb now l (λ e. ne (sym e)))
+added-other u now w l ne = positions-of (is_some_of u (unit_of w)) (now == l) w ∙ and-false (is_step w) (is_some_of u (unit_of w)) (now == l) (ne_eqb now l (λ e. ne (sym e)))
 
 -- Journals.
 

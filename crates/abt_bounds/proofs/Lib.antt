@@ -11,4 +11,5 @@ pub mod JournalTexts
 pub mod Naming
 pub mod Solid
 pub mod Stamping
+pub mod Tallying
 pub mod Turns

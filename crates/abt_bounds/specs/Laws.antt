@@ -1,5 +1,5 @@
 -- Laws that bound the machine from above: what a stream may do next, and what no run does. W is a workload and Z the list of the shapes of the stored orders.
-use Rattle.std.specs.Prelude.{ℕ, suc, ◌≡◌, ◌≢◌, ◌<◌, ◌≤◌, ◌*◌, ◌^◌, ◌↔◌, ◌⊎◌, List, [], ◌∷◌, length, map, sum_by, Option, Some, None, Bool, Contains, IsTrue, slice_get}
+use Rattle.std.specs.Prelude.{ℕ, suc, ◌≡◌, ◌≢◌, ◌<◌, ◌≤◌, ◌+◌, ◌*◌, ◌^◌, ◌↔◌, ◌⊎◌, List, [], ◌∷◌, length, map, sum_by, Option, Some, None, Bool, Contains, IsTrue, slice_get}
 use Rattle.std.specs.List.{AllByRecursion}
 use Rattle.abt_machine.specs.declared.events.Code.TheVariants as code
 use Rattle.abt_machine.specs.declared.events.Event.{Event}
@@ -27,7 +27,7 @@ use Rattle.abt_machine.specs.Sound.{IsUnderWay, Sound}
 use Rattle.abt_machine.specs.Lives.{count_up, last_life}
 use Rattle.abt_machine.specs.Outcomes.{Spent, steps_in}
 use Rattle.abt_machine.specs.Stamps.{Stamped}
-use Rattle.abt_machine.specs.Texts.{journal_text}
+use Rattle.abt_machine.specs.Texts.{ShownUnit, Tally, journal_text, tally_of}
 use Rattle.abt_bounds.specs.Accesses.{FramesHaveAccess, IsWithinAccess, KeepsAccess}
 
 -- What comes next.
@@ -212,3 +212,13 @@ LongNumbersCoincide = (J : List Event) × (K : List Event) × (journal_text J �
 -- so stamped runs that are not the same have texts that are not the same
 abbrev pub RunTextsDiffer : Parts → List OrderShape → Type 0
 RunTextsDiffer W Z = IsValid W → OrdersStored W Z → (J K : List Event) → Run W Z J → Run W Z K → Stamped W J → Stamped W K → length J < 10 ^ 64 → length K < 10 ^ 64 → journal_text J ≡ journal_text K → J ≡ K
+
+-- Reports.
+
+-- the units that a tally counts
+abbrev pub total : Tally → ℕ
+total t = t.unborn + t.pool + t.stream + t.blocked + t.done + t.asked + t.access
+
+-- the numbers of a tally add up to its units
+abbrev pub TalliesAddUp : Type 0
+TalliesAddUp = (units : List ShownUnit) → total (tally_of units) ≡ length units

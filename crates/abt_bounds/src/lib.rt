@@ -19,4 +19,5 @@ pub use reach::{
 };
 pub use texts::{
     journal_texts_differ, long_numbers_coincide, run_texts_differ, runs_name_declared,
+    tallies_add_up,
 };

@@ -8,13 +8,12 @@ use Rattle.abt_machine.specs.declared.operations.Op.{Op}
 use Rattle.abt_machine.specs.declared.workload.Parts.{Parts}
 use Rattle.abt_machine.specs.Operations.{IsDeclared}
 use Rattle.abt_machine.specs.Workloads.{kind_of}
-use Rattle.abt_machine.specs.Fronts.{owns}
+use Rattle.abt_machine.specs.Fronts.{owns, side_by}
 use Rattle.abt_machine.specs.Valid.{IsValid}
 use Rattle.abt_machine.specs.Values.{Owned}
 use Rattle.abt_machine.specs.Acts.{Act, Answer, Look, End, moved}
 use Rattle.abt_machine.specs.Pools.{HasSide}
 use Rattle.abt_machine.specs.Plans.{Effect, Plan, Calls, plan_of}
-use Rattle.abt_machine.specs.Turns.{side_by}
 use Rattle.abt_machine.proofs.Declared.{op-declared}
 use Rattle.abt_unit.specs.Fits.{Fits}
 use Rattle.abt_unit.proofs.Fitting.{Fits-moved}

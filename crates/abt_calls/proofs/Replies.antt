@@ -10,7 +10,7 @@ use Rattle.abt_machine.specs.declared.operations.Side.{Side}
 use Rattle.abt_machine.specs.declared.operations.Side.TheVariants as side
 use Rattle.abt_machine.specs.Fronts.{is_some_of}
 use Rattle.abt_machine.specs.Queues.{first}
-use Rattle.abt_machine.specs.Steps.{truth}
+use Rattle.abt_machine.specs.Numbers.{truth}
 use Rattle.abt_machine.specs.Values.{Owned, Out, Suspended, Object, PoolIs, DeskIs, MonitorIs, EventualIs, FutureIs, BarrierIs, RwLockIs, NotHere, PoolValue, DeskValue, MonitorValue, EventualValue, FutureValue, BarrierValue, RwLockValue}
 use Rattle.abt_machine.specs.Acts.{Act, Put, Take, Remove, Create, End, Join, AskCancel, AskMigrate, Look, Suspend, Resume, Revive, SetMigratable, Lock, TryLock, Unlock, Load, Store, Wait, Signal, Broadcast, Await, Fill, Reset, Test, Arrive, ReadLock, WriteLock, RwUnlock, Answer, Given, Through, Woke, Rested, Miss, Number, Asks, Coded, Back, received, reborn}
 use Rattle.abt_machine.specs.Pools.{PoolGives, HasSide, is_unit, with_end, with_units, without}

@@ -14,7 +14,7 @@ use Rattle.abt_machine.specs.State.{State}
 use Rattle.abt_machine.specs.Values.{Owned, object_of}
 use Rattle.abt_machine.specs.Acts.{Act, Answer, Put, Take, Look, End}
 use Rattle.abt_machine.specs.Plans.{Effect, Calls, plan_of}
-use Rattle.abt_machine.specs.Turns.{side_of}
+use Rattle.abt_machine.specs.Fronts.{side_of}
 use Rattle.abt_unit.specs.Fits.{Fits}
 use Rattle.abt_chain.specs.Keeping.{Have, IsPoolOf, contents_asked}
 use Rattle.abt_calls.specs.Allowed.{Allows}

@@ -16,7 +16,8 @@ use Rattle.abt_machine.specs.Numbers.{pool_no, unit_no}
 use Rattle.abt_machine.specs.Queues.{first}
 use Rattle.abt_machine.specs.Rounds.{IsNextPool}
 use Rattle.abt_machine.specs.State.{Frame}
-use Rattle.abt_machine.specs.Turns.{Heard, Steps, due_of, looked, number_and_position, side_of}
+use Rattle.abt_machine.specs.Fronts.{side_of}
+use Rattle.abt_machine.specs.Turns.{Heard, Steps, due_of, looked, number_and_position}
 use Rattle.abt_machine.specs.Values.{Held, Object, Owned}
 use Rattle.abt_machine.specs.Valid.{IsValid}
 use Rattle.abt_machine.specs.Workloads.{body_at, pools_of}

@@ -28,7 +28,8 @@ use Rattle.abt_machine.specs.Acts.{Act, Answer, Given, Miss}
 use Rattle.abt_machine.specs.Acts as act
 use Rattle.abt_machine.specs.Gives.{SiteGives}
 use Rattle.abt_machine.specs.Plans.{Calls, Does, Effect, Exits, Plan, plan_of}
-use Rattle.abt_machine.specs.Turns.{Heard, Performs, Steps, exited, side_of, stepped}
+use Rattle.abt_machine.specs.Fronts.{side_of}
+use Rattle.abt_machine.specs.Turns.{Heard, Performs, Steps, exited, stepped}
 use Rattle.abt_machine.proofs.Declared.{listed-declared, op-declared}
 use Rattle.abt_laws.proofs.DueParts.{due-same}
 use Rattle.abt_laws.proofs.Dues.{due-unit, step-due}

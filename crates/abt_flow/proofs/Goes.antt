@@ -18,7 +18,7 @@ use Rattle.abt_machine.specs.Valid.{IsValid}
 use Rattle.abt_machine.specs.Workloads.{op_at}
 use Rattle.abt_flow.specs.Confluent.{Confluent, IsSettled}
 use Rattle.abt_flow.specs.Effects.{FlowEffect, Computes, Awaits, Depends, effect}
-use Rattle.abt_flow.specs.Flow.{Leads}
+use Rattle.abt_flow.specs.Flow.{Becomes}
 use Rattle.abt_flow.specs.Tables.{CreatesNone, IsOther}
 use Rattle.abt_flow.proofs.Creating.{create-ok, row-creates}
 use Rattle.abt_flow.proofs.Keys.{other-sets}
@@ -49,7 +49,7 @@ module _ (W : Parts) (valid : IsValid W) (confluent : Confluent W) (t : ℕ) (S 
     local.2,
     subst (λ r. Stepped W t S (changed S r) u o) (sym local.3)
         (row-goes_with W t S flowing s u held o is (λ x. other-sets o x local.0) (λ v q e. subst (λ p. CreatesNone (Some p)) e local.1) (made o) local.4
-        (subst (λ e. Leads (HasValue W t) e (memory_of (S.carried u)) (memory_of (made o))) (sym same) local.5)),
+        (subst (λ e. Becomes (HasValue W t) e (memory_of (S.carried u)) (memory_of (made o))) (sym same) local.5)),
   )
   goes-locally o (Awaits x) same is local = absurd local
   goes-locally o Depends same is local = absurd (subst IsSettled same (confluent.ops u (S.carried u).position o is))

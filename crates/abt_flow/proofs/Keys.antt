@@ -9,7 +9,7 @@ use Rattle.abt_machine.specs.Workloads.{op_at}
 use Rattle.abt_machine.specs.Numbers.{object_no}
 use Rattle.abt_flow.specs.Confluent.{IsSettled}
 use Rattle.abt_flow.specs.Effects.{Memory, FlowEffect, Computes, Awaits, Depends, effect}
-use Rattle.abt_flow.specs.Flow.{AtPoint, Executes, Leads, Made, SetsTo}
+use Rattle.abt_flow.specs.Flow.{AtPoint, Executes, Becomes, Made, SetsTo}
 use Rattle.abt_flow.specs.Tables.{HasKey, IsComputed, IsOther}
 
 -- the keys after an operation of this effect
@@ -19,12 +19,12 @@ keys_after (Awaits x) m = m.keys
 keys_after Depends m = m.keys
 
 module _ (Found : ℕ → ℕ → Type 0) where
-  leads-keys : (e : FlowEffect) (old new : Memory) → Leads Found e old new → length new.keys ≡ length (keys_after e old)
+  leads-keys : (e : FlowEffect) (old new : Memory) → Becomes Found e old new → length new.keys ≡ length (keys_after e old)
   leads-keys (Computes f) old new h = ap (λ (m : Memory). length m.keys) h
   leads-keys (Awaits x) old new h = ap (λ (m : Memory). length m.keys) h.2
   leads-keys Depends old new h = absurd h
 
-  keys-kept : (o : Op) (old new : Memory) → Leads Found (effect o) old new → length new.keys ≡ length old.keys
+  keys-kept : (o : Op) (old new : Memory) → Becomes Found (effect o) old new → length new.keys ≡ length old.keys
   keys-kept (op.KeySet k) old new h = leads-keys (effect (op.KeySet k)) old new h ∙ length-set old.keys k old.acc
   keys-kept o old new h = leads-keys (effect o) old new h
 

@@ -16,7 +16,7 @@ use Rattle.abt_machine.specs.Workloads.{op_at}
 use Rattle.abt_laws.proofs.Lists.{EachOf, EachOf-then}
 use Rattle.abt_laws.proofs.Maps.{KeyOf, KeyOf-cases, put_all-kept, put_all-other, put_all-value, put_at-other, put_at-same}
 use Rattle.abt_flow.specs.Effects.{effect}
-use Rattle.abt_flow.specs.Flow.{AtPoint, Leads}
+use Rattle.abt_flow.specs.Flow.{AtPoint, Becomes}
 use Rattle.abt_flow.proofs.Points.{HasValue, point-next, points-within}
 use Rattle.abt_flow.proofs.Stepping.{Stepped}
 use Rattle.abt_flow.proofs.Tells.{Before, Flowing, Tells, memory_of, plain-tells, tells-more}
@@ -31,7 +31,7 @@ module _ (W : Parts) (t : ℕ) (S : State) (flowing : Flowing W t S) (s u : ℕ)
   elsewhere v pl at h same = h (sym at ∙ (ap S.place same ∙ held))
 
   -- what the operation makes
-  pub went : (c : Carried) → c.position ≡ (S.carried u).position → Leads (HasValue W t) (effect o) (memory_of (S.carried u)) (memory_of c) → Before W (suc t) u (advanced c)
+  pub went : (c : Carried) → c.position ≡ (S.carried u).position → Becomes (HasValue W t) (effect o) (memory_of (S.carried u)) (memory_of c) → Before W (suc t) u (advanced c)
   went c p leads =
       let made : AtPoint W (suc t) u (suc (S.carried u).position) (memory_of c) = point-next W t u (S.carried u).position o (memory_of (S.carried u)) (memory_of c) is before.1 leads in
       (before.0, subst (λ k. AtPoint W (suc (suc t)) u (suc k) (memory_of c)) (sym p) (points-within W (suc t) (suc (suc t)) u (suc (S.carried u).position) (memory_of c) (omega arith) made))

@@ -4,12 +4,12 @@ use Rattle.abt_machine.specs.declared.operations.Op.{Op}
 use Rattle.abt_machine.specs.declared.workload.Parts.{Parts}
 use Rattle.abt_machine.specs.Workloads.{op_at}
 use Rattle.abt_flow.specs.Effects.{Memory, FlowEffect, Computes, Awaits, Depends, effect}
-use Rattle.abt_flow.specs.Flow.{AtPoint, Executes, Leads, Made, SetsTo}
+use Rattle.abt_flow.specs.Flow.{AtPoint, Executes, Becomes, Made, SetsTo}
 
 -- values that are found may be found in another way.
 
 module _ (Found Other : ℕ → ℕ → Type 0) (then : (x n : ℕ) → Found x n → Other x n) where
-  pub leads-then : (e : FlowEffect) (old new : Memory) → Leads Found e old new → Leads Other e old new
+  pub leads-then : (e : FlowEffect) (old new : Memory) → Becomes Found e old new → Becomes Other e old new
   leads-then (Computes f) old new h = h
   leads-then (Awaits x) old new h = (h.0, then x h.0 h.1, h.2)
   leads-then Depends old new h = h
@@ -41,5 +41,5 @@ pub value-within : (W : Parts) (f g x n : ℕ) → f ≤ g → HasValue W f x n 
 value-within W f g x n l h = sets-then W (λ v j c. AtPoint W f v j c) (λ v j c. AtPoint W g v j c) (λ v j c. points-within W f g v j c l) x n h
 
 -- the operation at a point leads on
-pub point-next : (W : Parts) (f u k : ℕ) (o : Op) (old new : Memory) → op_at W u k ≡ Some o → AtPoint W (suc f) u k old → Leads (HasValue W f) (effect o) old new → AtPoint W (suc f) u (suc k) new
+pub point-next : (W : Parts) (f u k : ℕ) (o : Op) (old new : Memory) → op_at W u k ≡ Some o → AtPoint W (suc f) u k old → Becomes (HasValue W f) (effect o) old new → AtPoint W (suc f) u (suc k) new
 point-next W f u k o old new is at leads = (old, at, subst (λ p. Executes (HasValue W f) p old new) (sym is) leads)

@@ -24,7 +24,7 @@ use Rattle.abt_machine.proofs.Declared.{op-declared}
 use Rattle.abt_laws.proofs.LineMoves.{tray_moves-each}
 use Rattle.abt_laws.proofs.Standing.{StandsIn, each-stands}
 use Rattle.abt_flow.specs.Effects.{effect}
-use Rattle.abt_flow.specs.Flow.{Leads}
+use Rattle.abt_flow.specs.Flow.{Becomes}
 use Rattle.abt_flow.proofs.Moving.{Lands, before, carries, carries-here, elsewhere, others-tell, steps-moving, went}
 use Rattle.abt_flow.proofs.Points.{HasValue, points-within}
 use Rattle.abt_flow.proofs.Stepping.{Stepped}
@@ -33,7 +33,7 @@ use Rattle.abt_flow.proofs.Tells.{Before, Flowing, IsSet, Tells, Waits, memory_o
 module _ (W : Parts) (t : ℕ) (S : State) (flowing : Flowing W t S) (s u : ℕ) (held : S.place u ≡ place.Hand (stream_no s)) where
   -- unit u goes on with this to carry
   pub row-goes_with : (o : Op) → op_at W u (S.carried u).position ≡ Some o → ((x : ℕ) → o ≡ op.EvSet (object_no x) → ⊥) → ((v : ℕ) (q : PoolNo) → o ≡ op.Create (unit_no v) q → ⊥) →
-      (c : Carried) → c.position ≡ (S.carried u).position → Leads (HasValue W t) (effect o) (memory_of (S.carried u)) (memory_of c) → Stepped W t S (changed S (goes_with u c)) u o
+      (c : Carried) → c.position ≡ (S.carried u).position → Becomes (HasValue W t) (effect o) (memory_of (S.carried u)) (memory_of c) → Stepped W t S (changed S (goes_with u c)) u o
   row-goes_with o is no_set no_create c p leads = steps-moving W t S flowing s u held o is c p no_set no_create [] tt (λ out. went W t S flowing s u held o is c p leads) [] []
 
   -- unit u goes on, and comes to another place

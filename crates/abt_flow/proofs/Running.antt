@@ -12,7 +12,7 @@ use Rattle.abt_machine.specs.declared.operations.Thing.TheVariants as thing
 use Rattle.abt_machine.specs.declared.workload.Parts.{Parts}
 use Rattle.abt_machine.specs.Limits.{unit_operation_limit}
 use Rattle.abt_machine.specs.Numbers.{object_no, unit_no}
-use Rattle.abt_machine.specs.Operations.{IsEventual}
+use Rattle.abt_machine.specs.Operations.{IsDeclared, IsEventual}
 use Rattle.abt_machine.specs.Valid.{IsValid}
 use Rattle.abt_machine.specs.Workloads.{body_at, op_at, ops_of}
 use Rattle.abt_machine.proofs.Declared.{few-unit-ops, op-declared}
@@ -20,7 +20,7 @@ use Rattle.abt_laws.proofs.Options.{none≢some, some-injective}
 use Rattle.abt_flow.specs.declared.memory.Progress.{Progress}
 use Rattle.abt_flow.specs.declared.table.Table.{Table}
 use Rattle.abt_flow.specs.Effects.{effect}
-use Rattle.abt_flow.specs.Flow.{AtPoint, IsReached, Leads}
+use Rattle.abt_flow.specs.Flow.{AtPoint, IsReached, Becomes}
 use Rattle.abt_flow.specs.Tables.{FollowsFlow, IsNextOperation, HasNoneLeft, Rests, UnitRuns, executed, memory_in}
 use Rattle.abt_flow.proofs.Finds.{reached-declared}
 use Rattle.abt_flow.proofs.Points.{HasValue, point-next, points-within, value-within}
@@ -44,7 +44,7 @@ get-other (x ∷ xs) zero (suc j) y h = refl
 get-other (x ∷ xs) (suc k) zero y h = refl
 get-other (x ∷ xs) (suc k) (suc j) y h = get-other xs k j y (λ e. h (ap (λ n. suc n) e))
 
--- what v[i] gives
+-- what is read at an index
 pub read-at : {A : Type 0} (xs : List A) (k : ℕ) (x : A) → k < length xs → x ≡ get_or xs k x → slice_get xs k ≡ Some x
 read-at xs k x l e = slice_get-get_or xs k x l ∙ ap (λ y. Some y) (sym e)
 
@@ -53,17 +53,20 @@ read-at xs k x l e = slice_get-get_or xs k x l ∙ ap (λ y. Some y) (sym e)
 pub unit-there : (W : Parts) (u : ℕ) (t : Table) → IsValid W → IsReached W u → UnitRuns W u t → u < length t.units.items
 unit-there W u t valid reached runs = let l : u < length W.units = reached-declared W u valid reached in let e = runs.follows.all in omega arith
 
-pub wait-there : (W : Parts) (u : ℕ) (t : Table) (x : ObjectNo) → IsValid W → IsReached W u → UnitRuns W u t → IsNextOperation W t.units.items u (op.EvWait x) → x.0 < length W.objects
-wait-there W u t x valid reached runs next =
+pub unit-read : (W : Parts) (u : ℕ) (t : Table) (p : Progress) → IsValid W → IsReached W u → UnitRuns W u t → p ≡ get_or t.units.items u p → slice_get t.units.items u ≡ Some p
+unit-read W u t p valid reached runs e = read-at t.units.items u p (unit-there W u t valid reached runs) e
+
+-- the eventual that the next operation names
+eventual-there : (W : Parts) (u : ℕ) (t : Table) (x : ObjectNo) (o : Op) → (IsDeclared W o → IsEventual W x.0) → IsValid W → IsReached W u → UnitRuns W u t → IsNextOperation W t.units.items u o → x.0 < length W.objects
+eventual-there W u t x o names valid reached runs next =
     let is : (p : Progress) × (slice_get t.units.items u ≡ Some p) = get-some t.units.items u (unit-there W u t valid reached runs) in
-    let eventual : IsEventual W x.0 = op-declared W u is.0.position (op.EvWait x) valid (next is.0 is.1) in
-    slice_get_within W.objects x.0 thing.Eventual eventual
+    slice_get_within W.objects x.0 thing.Eventual (names (op-declared W u is.0.position o valid (next is.0 is.1)))
+
+pub wait-there : (W : Parts) (u : ℕ) (t : Table) (x : ObjectNo) → IsValid W → IsReached W u → UnitRuns W u t → IsNextOperation W t.units.items u (op.EvWait x) → x.0 < length W.objects
+wait-there W u t x = eventual-there W u t x (op.EvWait x) (λ declared. declared)
 
 pub set-there : (W : Parts) (u : ℕ) (t : Table) (x : ObjectNo) → IsValid W → IsReached W u → UnitRuns W u t → IsNextOperation W t.units.items u (op.EvSet x) → x.0 < length W.objects
-set-there W u t x valid reached runs next =
-    let is : (p : Progress) × (slice_get t.units.items u ≡ Some p) = get-some t.units.items u (unit-there W u t valid reached runs) in
-    let eventual : IsEventual W x.0 = op-declared W u is.0.position (op.EvSet x) valid (next is.0 is.1) in
-    slice_get_within W.objects x.0 thing.Eventual eventual
+set-there W u t x = eventual-there W u t x (op.EvSet x) (λ declared. declared)
 
 pub position-few : (W : Parts) (u : ℕ) (t : Table) (p : Progress) → IsValid W → IsReached W u → UnitRuns W u t → slice_get t.units.items u ≡ Some p → p.position ≤ unit_operation_limit
 position-few W u t p valid reached runs at =
@@ -93,7 +96,7 @@ module _ (W : Parts) (u : ℕ) (reached : IsReached W u) (units : List Progress)
 
   module _ (new_values : List (Option ℕ)) (all : length new_values ≡ length W.objects) (keeps : (x : ℕ) → slice_get new_values x ≡ Some None → slice_get values x ≡ Some None)
       (found : (x n : ℕ) → slice_get new_values x ≡ Some (Some n) → HasValue W (executed units + 1) x n) (unset : (x : ℕ) → o ≡ op.EvSet (object_no x) → slice_get new_values x ≡ Some None → ⊥)
-      (leads : Leads (HasValue W (executed units)) (effect o) (memory_in p) (memory_in q)) where
+      (leads : Becomes (HasValue W (executed units)) (effect o) (memory_in p) (memory_in q)) where
     made-here : AtPoint W (suc (executed news)) u q.position (memory_in q)
     made-here =
         let next : AtPoint W (suc (executed units)) u (suc p.position) (memory_in q) = point-next W (executed units) u p.position o (memory_in p) (memory_in q) is (follows.made u p at) leads in
@@ -135,7 +138,7 @@ module _ (W : Parts) (u : ℕ) (reached : IsReached W u) (units : List Progress)
     }
 
   -- if no value is set
-  pub goes-same : ((x : ℕ) → o ≡ op.EvSet (object_no x) → ⊥) → Leads (HasValue W (executed units)) (effect o) (memory_in p) (memory_in q) → FollowsFlow W news values
+  pub goes-same : ((x : ℕ) → o ≡ op.EvSet (object_no x) → ⊥) → Becomes (HasValue W (executed units)) (effect o) (memory_in p) (memory_in q) → FollowsFlow W news values
   goes-same no_set leads = goes-on values follows.values_all (λ x e. e) (λ x n e. value-within W (executed units) (executed units + 1) x n (omega arith) (follows.found x n e)) (λ x e none. no_set x e) leads
 
   pub others-same : (ready : List UnitNo) → ((v : ℕ) → v ≢ u → IsReached W v → Contains ready (unit_no v) ⊎ Rests W units values v) → (v : ℕ) → v ≢ u → IsReached W v → Contains ready (unit_no v) ⊎ Rests W news values v

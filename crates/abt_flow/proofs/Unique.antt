@@ -9,13 +9,13 @@ use Rattle.abt_machine.specs.Workloads.{body_at, op_at, ops_of}
 use Rattle.abt_bounds.specs.Laws.{ops_in}
 use Rattle.abt_flow.specs.Confluent.{Confluent}
 use Rattle.abt_flow.specs.Effects.{Memory, FlowEffect, Computes, Awaits, Depends, effect, with_acc}
-use Rattle.abt_flow.specs.Flow.{AtPoint, Executes, IsRow, Leads, Made, SetsTo}
+use Rattle.abt_flow.specs.Flow.{AtPoint, Executes, IsRow, Becomes, Made, SetsTo}
 use Rattle.abt_flow.specs.Laws.{FlowIsOne}
 
 -- if values are one, what they lead to is one.
 
 module _ (Found Other : ℕ → ℕ → Type 0) (one : (x n k : ℕ) → Found x n → Other x k → n ≡ k) where
-  leads-one : (e : FlowEffect) (old new next : Memory) → Leads Found e old new → Leads Other e old next → new ≡ next
+  leads-one : (e : FlowEffect) (old new next : Memory) → Becomes Found e old new → Becomes Other e old next → new ≡ next
   leads-one (Computes f) old new next g h = g ∙ sym h
   leads-one (Awaits x) old new next g h = g.2 ∙ (ap (λ n. with_acc n old) (one x g.0 h.0 g.1 h.1) ∙ sym h.2)
   leads-one Depends old new next g h = absurd g

@@ -11,6 +11,7 @@ use Rattle.abt_machine.specs.declared.workload.Parts.{Parts}
 use Rattle.abt_machine.specs.Workloads.{access_of, op_at, start_of}
 use Rattle.abt_flow.specs.Effects.{FlowEffect, Computes, Awaits, Depends, effect}
 
+-- the effect does not depend on the schedule
 abbrev pub IsSettled : FlowEffect → Type 0
 IsSettled (Computes f) = ⊤
 IsSettled (Awaits x) = ⊤

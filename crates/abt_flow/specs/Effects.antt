@@ -1,4 +1,4 @@
--- What each operation means to the unit that does it, if the schedule can't matter.
+-- What each operation means to the unit that does it, if that does not depend on the schedule.
 use Rattle.std.specs.Prelude.{ℕ, ◌+◌, ◌%◌, ◌^◌, List, [], ◌∷◌, ◌++◌, replicate, slice_index, slice_set}
 use Rattle.abt_machine.specs.declared.events.Piece.{Piece}
 use Rattle.abt_machine.specs.declared.events.Piece.TheVariants as piece

@@ -17,14 +17,16 @@ pub data IsReached (W : Parts) : ℕ → Type 0 where
 
 -- Found x n says that eventual x has value n.
 
-abbrev pub Leads : (ℕ → ℕ → Type 0) → FlowEffect → Memory → Memory → Type 0
-Leads Found (Computes f) old new = new ≡ f old
-Leads Found (Awaits x) old new = (n : ℕ) × Found x n × (new ≡ with_acc n old)
-Leads Found Depends old new = ⊥
+-- a memory becomes another by an effect
+abbrev pub Becomes : (ℕ → ℕ → Type 0) → FlowEffect → Memory → Memory → Type 0
+Becomes Found (Computes f) old new = new ≡ f old
+Becomes Found (Awaits x) old new = (n : ℕ) × Found x n × (new ≡ with_acc n old)
+Becomes Found Depends old new = ⊥
 
+-- a memory becomes another by an operation
 abbrev pub Executes : (ℕ → ℕ → Type 0) → Option Op → Memory → Memory → Type 0
 Executes Found None old new = ⊥
-Executes Found (Some o) old new = Leads Found (effect o) old new
+Executes Found (Some o) old new = Becomes Found (effect o) old new
 
 -- the operations of unit u before operation k lead to this memory, one after the other
 abbrev pub Made : Parts → (ℕ → ℕ → Type 0) → ℕ → ℕ → Memory → Type 0

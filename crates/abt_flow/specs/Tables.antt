@@ -118,7 +118,7 @@ pub record UnitRuns (W : Parts) (u : ℕ) (t : Table) : Type 0 where
   pub ready : (v : UnitNo) → Contains t.ready.items v → IsReached W v.0
   pub others : (v : ℕ) → v ≢ u → IsReached W v → Contains t.ready.items (unit_no v) ⊎ Rests W t.units.items t.values.items v
 
--- how often a unit may be run yet
+-- how many times units may still be run
 abbrev pub work : Table → ℕ
 work t = length t.ready.items + sum_by (λ (us : Vec UnitNo Global). length us.items) t.waiting.items
 

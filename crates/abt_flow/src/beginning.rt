@@ -27,11 +27,7 @@ pub(crate) fn fresh_units(alloc: Global, w: &Workload) -> Result<Vec<Progress>, 
 pub(crate) fn no_values(alloc: Global, n: u32) -> Result<Vec<Option<u64>>, Want>
     ensures { IfOk result (λ values. values.items ≡ replicate n None) }
 {
-    let mut values = Vec::new(alloc);
-    for _x in 0..n {
-        values.push(None)?;
-    }
-    Ok(values)
+    Ok(vec![in alloc; None; n as usize]?)
 }
 
 // An empty list for each object.

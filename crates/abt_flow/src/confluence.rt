@@ -30,7 +30,7 @@ pub(crate) fn has_start(w: &Workload, u: UnitNo) -> bool
     w.unit(u).start.is_some()
 }
 
-// Whether an operation doesn't depend on the schedule and, if it creates a unit, does so in an open pool and alone.
+// Whether an operation does not depend on the schedule and, if it creates a unit, that unit has no start and its pool is open.
 fn is_plain(w: &Workload, op: Op) -> bool
     requires { IsDeclared w.now op }
     ensures { IsTrue result ↔ IsPlainOp w.now op }

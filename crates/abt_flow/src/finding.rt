@@ -58,9 +58,9 @@ fn rows(alloc: Global, units: Vec<Progress>) -> Result<Vec<FlowRow>, Want>
     Ok(rows)
 }
 
-/// What the units of a confluent workload put out by their programs alone, if that is defined: it
-/// isn't if some wait has no operation of a reached unit that sets its eventual, or has one only
-/// behind itself. Each operation is done once.
+/// What the units of a confluent workload put out by their programs alone, if that is defined. It is not defined if some wait
+/// of a reached unit has no operation of a reached unit that sets its eventual, or has one that comes only after the wait.
+/// Each operation is done once.
 pub fn find_flow(alloc: Global, w: &Workload) -> Result<Option<Flow>, Want>
     requires { Confluent w.now }
     ensures { IfOk result (λ flow. MatchOption flow ((rows : List (List Piece)) → IsFlow w.now rows → ⊥) (IsFlow w.now)) }

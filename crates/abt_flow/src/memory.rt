@@ -2,7 +2,7 @@
 
 ghost use Rattle.std.specs.Prelude.{◌+◌, ◌-◌, ◌<◌, ◌≡◌, ◌^◌, IfOk, length};
 ghost use Rattle.abt_flow.specs.Effects.{effect};
-ghost use Rattle.abt_flow.specs.Flow.{Leads};
+ghost use Rattle.abt_flow.specs.Flow.{Becomes};
 ghost use Rattle.abt_flow.specs.Tables.{HasKey, IsComputed, IsFresh, Nothing, memory_in};
 
 use crate::role::Role;
@@ -52,7 +52,7 @@ impl Progress {
     fn change(&mut self, op: Op) -> Result<(), Want>
         requires computed { IsComputed (effect op) }
         requires key { HasKey op (length self.old.keys.items) }
-        ensures memory { IfOk result (λ _. Leads Nothing (effect op) (memory_in self.old) (memory_in self.new)) }
+        ensures memory { IfOk result (λ _. Becomes Nothing (effect op) (memory_in self.old) (memory_in self.new)) }
         ensures position { self.new.position ≡ self.old.position }
     {
         match Role::of(op) {
@@ -76,7 +76,7 @@ impl Progress {
         requires room { self.old.position < 2 ^ 32 - 1 }
         requires computed { IsComputed (effect op) }
         requires key { HasKey op (length self.old.keys.items) }
-        ensures memory { IfOk result (λ _. Leads Nothing (effect op) (memory_in self.old) (memory_in self.new)) }
+        ensures memory { IfOk result (λ _. Becomes Nothing (effect op) (memory_in self.old) (memory_in self.new)) }
         ensures position { IfOk result (λ _. self.new.position ≡ self.old.position + 1) }
     {
         self.change(op)?;

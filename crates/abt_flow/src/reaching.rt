@@ -30,7 +30,7 @@ fn created_at(w: &Workload, u: UnitNo, k: u32) -> Option<UnitNo>
 }
 
 impl Reached {
-    // AddsUnit a unit, unless it is there.
+    // Adds a unit, unless it is there.
     fn add(&mut self, u: UnitNo) -> Result<(), Want>
         requires { u.0 < length self.old.marks.items }
         ensures { IfOk result (λ _. AddsUnit u self.old.units.items self.old.marks.items self.new.units.items self.new.marks.items) }
@@ -44,7 +44,7 @@ impl Reached {
         Ok(())
     }
 
-    // AddsUnit the unit that an operation creates, if it creates one.
+    // Adds the unit that an operation creates, if it creates one.
     fn add_created(&mut self, w: &Workload, u: UnitNo, k: u32) -> Result<(), Want>
         requires finds { Finds w.now self.old.units.items self.old.marks.items }
         requires reached { IsReached w.now u.0 }
@@ -61,7 +61,7 @@ impl Reached {
         }
     }
 
-    // AddsUnit the units that a unit creates.
+    // Adds the units that a unit creates.
     fn add_all_created(&mut self, w: &Workload, u: UnitNo) -> Result<(), Want>
         requires finds { Finds w.now self.old.units.items self.old.marks.items }
         requires reached { IsReached w.now u.0 }
@@ -76,7 +76,7 @@ impl Reached {
         Ok(())
     }
 
-    // AddsUnit a unit, if it has a start.
+    // Adds a unit, if it has a start.
     fn add_start(&mut self, w: &Workload, u: UnitNo) -> Result<(), Want>
         requires finds { Finds w.now self.old.units.items self.old.marks.items }
         requires unit { u.0 < length w.now.units }
@@ -105,7 +105,7 @@ impl Reached {
         Ok(reached)
     }
 
-    // AddsUnit the units that a unit of the list creates, if the list is that long.
+    // Adds the units that a unit of the list creates, if the list is that long.
     fn look(&mut self, w: &Workload, at: usize) -> Result<(), Want>
         requires finds { Finds w.now self.old.units.items self.old.marks.items }
         requires closed { IsClosedBelow w.now self.old.units.items self.old.marks.items at }

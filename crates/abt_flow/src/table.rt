@@ -128,7 +128,7 @@ impl Table {
         }
     }
 
-    // UnitRuns a unit on until it rests.
+    // Runs a unit on until it rests.
     fn run(&mut self, w: &Workload, u: UnitNo) -> Result<(), Want>
         requires confluent { Confluent w.now }
         requires reached { IsReached w.now u.0 }
@@ -144,7 +144,7 @@ impl Table {
         }
     }
 
-    // UnitRuns units on until all of them rest.
+    // Runs units on until all of them rest.
     pub(crate) fn run_all(&mut self, w: &Workload) -> Result<(), Want>
         requires confluent { Confluent w.now }
         requires run { AllRun w.now self.old }

@@ -6,13 +6,12 @@ use Rattle.abt_machine.specs.declared.events.Site.TheVariants as site
 use Rattle.abt_machine.specs.declared.workload.Parts.{Parts}
 use Rattle.abt_machine.specs.Numbers.{pool_no, unit_no, object_no}
 use Rattle.abt_machine.specs.Maps.{put_all}
-use Rattle.abt_machine.specs.Workloads.{kind_of}
 use Rattle.abt_machine.specs.Sites.{object_site}
 use Rattle.abt_machine.specs.Queues.{first, last}
 use Rattle.abt_machine.specs.State.{State, Carried}
 use Rattle.abt_machine.specs.Lines.{Line, InPool, InTray, InHand, InNext, ticket_in, standing, hand, next, end_from, tray_end}
 use Rattle.abt_machine.specs.Next.{due, due_by, at_position}
-use Rattle.abt_machine.specs.Fronts.{owns, front, front_by}
+use Rattle.abt_machine.specs.Fronts.{at_end, front, side_of}
 use Rattle.abt_machine.specs.Changes.{Change, changed}
 use Rattle.abt_laws.specs.Footprint.{Holder, OfStream, OfSite, holder, Within, Apart}
 use Rattle.abt_laws.proofs.Lists.{EachOf}
@@ -134,7 +133,7 @@ module _ (W : Parts) (s : ℕ) (x : Option Site) (S T : State) (alike : IsAlike 
   next-alike = ap first (standing-alike (InNext s) refl)
 
   pub front-alike : (p : ℕ) → x ≡ Some (site.Pool (pool_no p)) → front W S s p ≡ front W T s p
-  front-alike p e = ap (front_by (kind_of W p) (owns W s p)) (standing-alike (InPool p) e)
+  front-alike p e = ap (at_end (side_of W s p)) (standing-alike (InPool p) e)
 
   end-alike : (o : Option ℕ) → end_from S (InTray s) o ≡ end_from T (InTray s) o
   end-alike None = refl

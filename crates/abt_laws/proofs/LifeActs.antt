@@ -9,7 +9,8 @@ use Rattle.abt_machine.specs.declared.operations.Body.{Body}
 use Rattle.abt_machine.specs.declared.workload.Parts.{Parts}
 use Rattle.abt_machine.specs.Workloads.{body_at, ops_of}
 use Rattle.abt_machine.specs.State.{State}
-use Rattle.abt_machine.specs.Lives.{life_after, unit_of, is_of, positions_in, cause_in, enters_in, leaves_in, count_up}
+use Rattle.abt_machine.specs.Fronts.{is_some_of}
+use Rattle.abt_machine.specs.Lives.{life_after, unit_of, positions_in, cause_in, enters_in, leaves_in, count_up}
 use Rattle.abt_laws.proofs.Options.{none≢some}
 use Rattle.abt_laws.proofs.Exits.{exited_at, done-kept}
 use Rattle.abt_laws.proofs.LifeTies.{IsOutside, IsBusy, IsBusy-outside, ends-busy, passage_at, passage-outside, exited-outside, Drifts, Acts, Fate, Drifting, Acting}
@@ -20,7 +21,7 @@ pub event-fate : (W : Parts) (w : What) (S T : State) (v : UnitNo) (u : ℕ) →
 event-fate W w S T v u of same acts drifts =
     elim (cases_eq u v.0) [
       | inl own ↦ Acting (of ∙ ap (λ (n : ℕ). Some n) (sym own)) same (subst (λ n. Acts (body_at W n) n w S T) (sym own) acts)
-      | inr other ↦ Drifting (ap (is_of u) of ∙ not-of u v other) same (drifts other)
+      | inr other ↦ Drifting (ap (is_some_of u) of ∙ not-of u v other) same (drifts other)
     ]
 
 -- neither a step, an end, an entry nor a leave

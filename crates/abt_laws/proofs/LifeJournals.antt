@@ -9,11 +9,12 @@ use Rattle.abt_machine.specs.declared.events.What.{What}
 use Rattle.abt_machine.specs.declared.workload.Parts.{Parts}
 use Rattle.abt_machine.specs.Workloads.{start_of}
 use Rattle.abt_machine.specs.Start.{first_life}
-use Rattle.abt_machine.specs.Lives.{life_after, last_life_from, last_life, unit_of, is_of, events_from, life_events, positions_in, position_in, ends_in, cause_in, enters_in, leaves_in, is_enter, is_leave}
+use Rattle.abt_machine.specs.Fronts.{is_some_of}
+use Rattle.abt_machine.specs.Lives.{life_after, last_life_from, last_life, unit_of, events_from, life_events, positions_in, position_in, ends_in, cause_in, enters_in, leaves_in, is_enter, is_leave}
 
 -- what an event adds to the events of unit u in life l, now being the life that u is in
 abbrev pub added_event : ℕ → ℕ → ℕ → What → List What
-added_event u l now w = if is_of u (unit_of w) && (now == l) then w ∷ [] else []
+added_event u l now w = if is_some_of u (unit_of w) && (now == l) then w ∷ [] else []
 
 last_life_from-append : (W : Parts) (u now : ℕ) (J : List Event) (e : Event) → last_life_from W u now (J ++ e ∷ []) ≡ life_after W u (last_life_from W u now J) e.what
 last_life_from-append W u now [] e = refl
@@ -32,15 +33,15 @@ pub life_events-append : (W : Parts) (J : List Event) (e : Event) (u l : ℕ) �
 life_events-append W J e u l = events_from-append W u l (first_life (start_of W u)) J e
 
 -- an event of another unit adds nothing
-pub added_event-other : (u l now : ℕ) (w : What) → is_of u (unit_of w) ≡ false → added_event u l now w ≡ []
+pub added_event-other : (u l now : ℕ) (w : What) → is_some_of u (unit_of w) ≡ false → added_event u l now w ≡ []
 added_event-other u l now w h = ap (λ b. if b && (now == l) then w ∷ [] else []) h
 
 -- an event of the unit adds itself to the life that the unit is in, and nothing to others
 pub added_event-now : (u now : ℕ) (w : What) → unit_of w ≡ Some u → added_event u now now w ≡ w ∷ []
-added_event-now u now w h = ap (λ o. if is_of u o && (now == now) then w ∷ [] else []) h ∙ ap₂ (λ b c. if b && c then w ∷ [] else []) (eq-eqb u u refl) (eq-eqb now now refl)
+added_event-now u now w h = ap (λ o. if is_some_of u o && (now == now) then w ∷ [] else []) h ∙ ap₂ (λ b c. if b && c then w ∷ [] else []) (eq-eqb u u refl) (eq-eqb now now refl)
 
 pub added_event-another : (u l now : ℕ) (w : What) → unit_of w ≡ Some u → now ≢ l → added_event u l now w ≡ []
-added_event-another u l now w h ne = ap (λ o. if is_of u o && (now == l) then w ∷ [] else []) h ∙ ap₂ (λ b c. if b && c then w ∷ [] else []) (eq-eqb u u refl) (ne_eqb now l ne)
+added_event-another u l now w h ne = ap (λ o. if is_some_of u o && (now == l) then w ∷ [] else []) h ∙ ap₂ (λ b c. if b && c then w ∷ [] else []) (eq-eqb u u refl) (ne_eqb now l ne)
 
 -- Steps, ends, entries and leaves of two lists one after the other.
 

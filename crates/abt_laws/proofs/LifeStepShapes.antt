@@ -17,7 +17,8 @@ use Rattle.abt_machine.specs.Lines.{tray_end}
 use Rattle.abt_machine.specs.Outcomes.{IsOver}
 use Rattle.abt_machine.specs.Changes.{Change, changed}
 use Rattle.abt_machine.specs.Steps.{begins}
-use Rattle.abt_machine.specs.Lives.{life_after, is_of, count_up}
+use Rattle.abt_machine.specs.Fronts.{is_some_of}
+use Rattle.abt_machine.specs.Lives.{life_after, count_up}
 use Rattle.abt_laws.proofs.Options.{none≢some}
 use Rattle.abt_laws.proofs.Lists.{EachOf, EachOf-then}
 use Rattle.abt_laws.proofs.Maps.{put_at-same, put_at-other, put_all-kept}
@@ -122,7 +123,7 @@ step-acts b v k c S ch program at busy alive does step =
 
 -- Fates.
 
-pub not-of : (u : ℕ) (v : UnitNo) → u ≢ v.0 → is_of u (Some v.0) ≡ false
+pub not-of : (u : ℕ) (v : UnitNo) → u ≢ v.0 → is_some_of u (Some v.0) ≡ false
 not-of u v ne = ne_eqb v.0 u (λ e. ne (sym e))
 
 -- what a step with which no life begins means to unit u

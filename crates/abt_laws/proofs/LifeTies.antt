@@ -14,7 +14,8 @@ use Rattle.abt_machine.specs.declared.workload.Parts.{Parts}
 use Rattle.abt_machine.specs.Workloads.{body_at, ops_of, is_sched}
 use Rattle.abt_machine.specs.State.{State, Stream, Mark, Plain, Asked, Left, Exited}
 use Rattle.abt_machine.specs.Outcomes.{IsOver}
-use Rattle.abt_machine.specs.Lives.{life_after, last_life, unit_of, is_of, life_events, positions_in, ends_in, cause_in, enters_in, leaves_in, count_up, EndsLife, IsLife}
+use Rattle.abt_machine.specs.Fronts.{is_some_of}
+use Rattle.abt_machine.specs.Lives.{life_after, last_life, unit_of, life_events, positions_in, ends_in, cause_in, enters_in, leaves_in, count_up, EndsLife, IsLife}
 use Rattle.abt_laws.proofs.LifeJournals.{last_life-append, life_events-append, added_event-other, added_event-now, added_event-another, positions_in-append, ends_in-append, enters_in-append, leaves_in-append}
 use Rattle.abt_laws.proofs.Exits.{exited_at, exited-marks, HasDone, NoTaskExits, no-exit-nil, done-kept}
 use Rattle.abt_laws.proofs.LifeLists.{passages_in, passage_of_cause, MayEnd, IsLife-push, IsLife-nil, ends-life}
@@ -126,9 +127,9 @@ pub record Begins (u : ℕ) (S T : State) : Type 0 where
 
 -- what an event means to unit u: nothing or a way from place to place, an event of its own, or a new life
 pub data Fate (W : Parts) (u : ℕ) (w : What) (S T : State) : Type 0 where
-  Drifting : is_of u (unit_of w) ≡ false → ((n : ℕ) → life_after W u n w ≡ n) → Drifts u S T → Fate W u w S T
+  Drifting : is_some_of u (unit_of w) ≡ false → ((n : ℕ) → life_after W u n w ≡ n) → Drifts u S T → Fate W u w S T
   Acting : unit_of w ≡ Some u → ((n : ℕ) → life_after W u n w ≡ n) → Acts (body_at W u) u w S T → Fate W u w S T
-  Beginning : is_of u (unit_of w) ≡ false → ((n : ℕ) → life_after W u n w ≡ suc n) → Begins u S T → Fate W u w S T
+  Beginning : is_some_of u (unit_of w) ≡ false → ((n : ℕ) → life_after W u n w ≡ suc n) → Begins u S T → Fate W u w S T
 
 -- The tie is kept.
 
@@ -268,7 +269,7 @@ module _ (W : Parts) (J : List Event) (e : Event) (u : ℕ) (S T : State) (tied 
   same-life : (n : ℕ) → life_after W u (last_life W J u) e.what ≡ n → n ≡ last_life W (J ++ e ∷ []) u
   same-life n h = sym h ∙ sym (last_life-append W J e u)
 
-  same-events : is_of u (unit_of e.what) ≡ false → (l : ℕ) → life_events W J u l ≡ life_events W (J ++ e ∷ []) u l
+  same-events : is_some_of u (unit_of e.what) ≡ false → (l : ℕ) → life_events W J u l ≡ life_events W (J ++ e ∷ []) u l
   same-events other l = sym (append-nil (life_events W J u l)) ∙ (ap (λ es. life_events W J u l ++ es) (sym (added_event-other u l (last_life W J u) e.what other)) ∙ sym (life_events-append W J e u l))
 
   -- one event keeps the tie

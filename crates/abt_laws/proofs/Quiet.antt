@@ -18,7 +18,7 @@ use Rattle.abt_machine.specs.Queues.{first, last}
 use Rattle.abt_machine.specs.State.{State, Stream, Frame}
 use Rattle.abt_machine.specs.Lines.{Line, InPool, InTray, InHand, InNext, ticket_in, standing, hand, next}
 use Rattle.abt_machine.specs.Next.{StepDue, LeaveDue, at_position, due, due_by, due_by_hand, due_by_next, due_of_frames}
-use Rattle.abt_machine.specs.Fronts.{front, front_by, owns}
+use Rattle.abt_machine.specs.Fronts.{at_end, front, owns, side_by}
 use Rattle.abt_machine.specs.Rounds.{IsNextPool}
 use Rattle.abt_machine.specs.Events.{After, May, after}
 use Rattle.abt_machine.specs.Runs.{last_state}
@@ -83,7 +83,7 @@ spent-not-quiet W n s J spent quiet = no-step ((last_state W J).stream s).top.em
 nobody-first : (us : List ℕ) (u : ℕ) → us ≡ [] → first us ≡ Some u → ⊥
 nobody-first us u e h = none≢some (ap first (sym e) ∙ h)
 
-nobody-in-front : (k : Kind) (own : Bool) (us : List ℕ) (u : ℕ) → us ≡ [] → front_by k own us ≡ Some u → ⊥
+nobody-in-front : (k : Kind) (own : Bool) (us : List ℕ) (u : ℕ) → us ≡ [] → at_end (side_by k own) us ≡ Some u → ⊥
 nobody-in-front kind.Fifo own us u e h = nobody-first us u e h
 nobody-in-front kind.Deque false us u e h = nobody-first us u e h
 nobody-in-front kind.Deque true us u e h = none≢some (ap last (sym e) ∙ h)

@@ -11,7 +11,7 @@ use Rattle.abt_machine.specs.Workloads.{kind_of}
 use Rattle.abt_machine.specs.Queues.{first}
 use Rattle.abt_machine.specs.State.{State}
 use Rattle.abt_machine.specs.Lines.{Line, InPool, InHand, InNext, ticket_in, standing, hand, next}
-use Rattle.abt_machine.specs.Fronts.{front, front_by, owns}
+use Rattle.abt_machine.specs.Fronts.{at_end, front, owns, side_by}
 use Rattle.abt_laws.proofs.Lists.{EachOf, EachOf-then, EachOf-first, EachOf-last, Among}
 use Rattle.abt_laws.proofs.Options.{none≢some}
 use Rattle.abt_laws.proofs.Queues.{HasTicket, queue-each, queue-among, queue-none}
@@ -42,7 +42,7 @@ first-stands W S l u e = EachOf-first (StandsIn W S l) (standing W S l) u (each-
 -- the unit that a stream takes stands in the pool
 pub front-stands : (W : Parts) (S : State) (s p u : ℕ) → front W S s p ≡ Some u → StandsIn W S (InPool p) u
 front-stands W S s p u e = by (kind_of W p) (owns W s p) e where
-  by : (k : Kind) (own : Bool) → front_by k own (standing W S (InPool p)) ≡ Some u → StandsIn W S (InPool p) u
+  by : (k : Kind) (own : Bool) → at_end (side_by k own) (standing W S (InPool p)) ≡ Some u → StandsIn W S (InPool p) u
   by kind.Fifo own e = first-stands W S (InPool p) u e
   by kind.Deque false e = first-stands W S (InPool p) u e
   by kind.Deque true e = EachOf-last (StandsIn W S (InPool p)) (standing W S (InPool p)) u (each-stands W S (InPool p)) e

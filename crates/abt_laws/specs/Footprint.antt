@@ -46,6 +46,6 @@ pub record ChangesOnly (W : Parts) (s : ℕ) (x : Option Site) (S T : State) : T
   pub others : (u : ℕ) → (Within s x (holder W u (S.place u)) → ⊥) → (T.place u ≡ S.place u) × (T.carried u ≡ S.carried u)
   pub kept : (u : ℕ) → Within s x (holder W u (S.place u)) → Within s x (holder W u (T.place u))
 
--- two objects, if there are two, that are not one
+-- the two sites differ, if there are two
 abbrev pub Apart : Option Site → Option Site → Type 0
 Apart x y = (z : Site) → x ≡ Some z → y ≡ Some z → ⊥

@@ -1,4 +1,4 @@
--- The laws of the machine. W is a workload and Z the list of the shapes of the stored orders; each law supposes that W is valid and that each user scheduler's order is stored.
+-- The laws of the machine. W is a workload and Z the list of the shapes of the stored orders; each law but OneAfter supposes that W is valid and that each user scheduler's order is stored.
 use Rattle.std.specs.Prelude.{ℕ, ◌≡◌, ◌≢◌, ◌<◌, ◌↔◌, true, false, List, [], ◌∷◌, ◌++◌, length, Some}
 use Rattle.abt_machine.specs.declared.events.Code.TheVariants as code
 use Rattle.abt_machine.specs.declared.events.Place.TheVariants as place
@@ -63,10 +63,11 @@ ReadsStay W Z = IsValid W → OrdersStored W Z → (J : List Event) (e : Event) 
 abbrev pub EndedIsQuiet : Parts → List OrderShape → Type 0
 EndedIsQuiet W Z = IsValid W → OrdersStored W Z → (S : State) → Sound W Z S → AllEnded S → Quiet W S
 
--- a spent stream excludes that nothing is left to do
+-- if a stream is spent, something is left to do
 abbrev pub SpentIsNotQuiet : Parts → List OrderShape → Type 0
 SpentIsNotQuiet W Z = IsValid W → OrdersStored W Z → (n s : ℕ) (J : List Event) → Run W Z J → Spent W n J s → Quiet W (last_state W J) → ⊥
 
+-- the event finds a pool empty
 abbrev pub IsMiss : What → Type 0
 IsMiss (what.Miss p) = Unit {0}
 IsMiss _ = ⊥
@@ -83,7 +84,7 @@ AllMisses (e ∷ es) = IsMiss e.what × AllMisses es
 abbrev pub QuietRunsMiss : Parts → List OrderShape → Type 0
 QuietRunsMiss W Z = IsValid W → OrdersStored W Z → (J K : List Event) → Run W Z (J ++ K) → Quiet W (last_state W J) → AllMisses K × Quiet W (last_state W (J ++ K))
 
--- in every run each life of each unit goes as lives do
+-- in every run each life of each unit goes as LivesOf says
 abbrev pub RunsLive : Parts → List OrderShape → Type 0
 RunsLive W Z = IsValid W → OrdersStored W Z → (J : List Event) → Run W Z J → LivesOf W J
 

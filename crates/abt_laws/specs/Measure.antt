@@ -16,6 +16,7 @@ use Rattle.abt_machine.specs.Lives.{count_up}
 abbrev pub steps_left : Parts → ℕ → List Event → ℕ
 steps_left W n J = sum_by (λ s. n - steps_of s J) (count_up W.streams)
 
+-- how far a unit in a hand with this mark is from its end
 abbrev pub hand_weight : Mark → ℕ
 hand_weight Plain = 3
 hand_weight Asked = 3
@@ -35,7 +36,7 @@ place_weight S (place.Blocked (spot.Join v) t) = 6
 place_weight S (place.Blocked (spot.Object x) t) = 0
 place_weight S (place.Ended c) = 0
 
--- a request to migrate adds a way round by the tray
+-- a request to migrate adds the weight of the way by the tray
 abbrev pub request_weight : Option ℕ → ℕ
 request_weight None = 0
 request_weight (Some p) = 3

@@ -17,7 +17,7 @@ use abt_machine::{Ended, Journal, Outcome, Want, Workload};
 use abt_order::StoredOrder;
 use abt_report::{TextFault, append_report, count_steps};
 use abt_run::fetch;
-use abt_shell::{Stop, Wrong, bytes_of, number_of_outcome, stop_by, write_out};
+use abt_shell::{Stop, Wrong, bytes_of, conclude_run, number_of_outcome, stop_without_run};
 use abt_source::{Files, Sink};
 use abt_stream::Pace;
 use abt_streams::{Lives, LivesRun, read_lives, run_lives};
@@ -165,19 +165,14 @@ pub fn abtwaves<R: Threads + Wait + Sync, F: Files, K: Sink, E: Sink, P: Pace + 
     }) }
 {
     match prepare(rt, alloc, words, files, pace, orders) {
-        Ok(done) => {
-            let status = write_out(NAME, out, err, &done.text, number_of_outcome(done.outcome));
-            Ended {
-                status,
-                journal: done.journal,
-            }
-        }
-        Err(stop) => {
-            let stop = stop_by(alloc, NAME, err, stop);
-            Ended {
-                status: stop.number(),
-                journal: Journal::new(Vec::new(alloc)),
-            }
-        }
+        Ok(done) => conclude_run(
+            NAME,
+            out,
+            err,
+            &done.text,
+            number_of_outcome(done.outcome),
+            done.journal,
+        ),
+        Err(stop) => stop_without_run(alloc, NAME, err, stop),
     }
 }

@@ -1,4 +1,4 @@
--- A valid workload has the counts and the places that are looked for.
+-- The schedulers that have a place in a valid workload are of those that there may be.
 use Rattle.std.proofs.Common.{◌≡◌, ◌≢◌, ◌≤◌, ◌<◌, zero, suc, List, [], ◌∷◌, ap, arith, flat_map, length, map}
 use Rattle.std.specs.Prelude.{All, AllPairs}
 use Rattle.std.proofs.lemmas.List.Elements.{All-append, All-map}
@@ -8,26 +8,10 @@ use Rattle.abt_machine.specs.declared.operations.Body.{Body}
 use Rattle.abt_machine.specs.declared.operations.Body.TheVariants as body
 use Rattle.abt_machine.specs.declared.workload.Parts.{Parts}
 use Rattle.abt_machine.specs.declared.workload.UnitPart.{UnitPart}
-use Rattle.abt_machine.specs.Checks.{AreCounts}
 use Rattle.abt_machine.specs.Limits.{sched_limit}
 use Rattle.abt_machine.specs.Valid.{IsBody, IsUnit, IsValid, placed_scheds, sched_in}
 use Rattle.abt_machine.specs.Workloads.{main_from, main_of}
 use Rattle.abt_machine.proofs.Elements.{at-all}
-
--- there are as many of each as there may be
-pub valid-counts : (W : Parts) → IsValid W → AreCounts W
-valid-counts W h = record {
-  some_stream = h.some_stream;
-  few_streams = h.few_streams;
-  few_keys = h.few_keys;
-  some_pool = h.some_pool;
-  few_pools = h.few_pools;
-  some_sched = h.some_sched;
-  few_scheds = h.few_scheds;
-  mains = h.mains;
-  few_objects = h.few_objects;
-  few_units = h.few_units;
-}
 
 -- the scheduler that a right body is, is one of those that there may be
 body-places : (W : Parts) (b : Body) → IsBody (length W.scheds) b → length W.scheds ≤ sched_limit → All (λ g. g < sched_limit) (sched_in b)

@@ -6,8 +6,16 @@ use Rattle.abt_machine.specs.declared.operations.Op.{Op}
 use Rattle.abt_machine.specs.declared.operations.Op.TheVariants as op
 use Rattle.abt_machine.specs.declared.workload.Parts.{Parts}
 use Rattle.abt_machine.specs.Canonical.{op_words}
-use Rattle.abt_machine.specs.Weights.{weight, size}
 use Rattle.abt_machine.specs.Words.{Text, ended, line_of, spaced, text_of}
+
+-- the bytes of words, each with the space or the line feed after it
+abbrev pub weight : List Text → ℕ
+weight [] = 0
+weight (w ∷ ws) = length w + 1 + weight ws
+
+-- the bytes of lines
+unfoldable pub size : List (List Text) → ℕ
+size lines = length (text_of lines)
 
 -- words with a space before each have their weight
 spaced-length : (ws : List Text) → length (spaced ws) ≡ weight ws

@@ -24,7 +24,7 @@ pub data Act : Type 0 where
   Resume : Act
   Revive : ℕ → Act
   SetMigratable : Bool → Act
-  -- of a monitor: a unit or its number, with the number to be stored; of a condition by its place among the monitor's
+  -- of a monitor: the unit, or its number and, for a store, the number to store; a condition by its place among the monitor's
   Lock : Owned → Act
   TryLock : ℕ → Act
   Unlock : ℕ → Act

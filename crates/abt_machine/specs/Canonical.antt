@@ -1,5 +1,5 @@
 -- The one text in which a workload is written.
-use Rattle.std.specs.Prelude.{ℕ, zero, suc, ◌&&◌, Bool, true, false, if◌then◌else◌, List, [], ◌∷◌, ◌++◌, length, nat_le, map, flat_map, Option, Some, None, slice_index_or, decimal}
+use Rattle.std.specs.Prelude.{ℕ, zero, suc, ◌&&◌, Bool, if◌then◌else◌, List, [], ◌∷◌, ◌++◌, length, nat_le, map, flat_map, Option, Some, None, slice_index_or, decimal}
 use Rattle.std.specs.List.{enumerate_from}
 use Rattle.abt_machine.specs.declared.grammar.Form.{Form}
 use Rattle.abt_machine.specs.declared.grammar.Form.TheVariants as form
@@ -25,12 +25,13 @@ use Rattle.abt_machine.specs.declared.workload.SchedPart.{SchedPart}
 use Rattle.abt_machine.specs.declared.workload.UnitPart.{UnitPart}
 use Rattle.abt_machine.specs.Forms.{Slot, Fixed, KindWord, CombineWord, AnyWord, Numeral, PoolList, combine_name, kind_name, slots}
 use Rattle.abt_machine.specs.Limits.{stream_limit, text_limit, unit_limit}
+use Rattle.abt_machine.specs.Numbers.{truth}
 use Rattle.abt_machine.specs.Words.{Text, text_of, numbered}
 use Rattle.abt_machine.specs.Workloads.{ops_of}
 
 -- Lines of a form.
 
--- the words at these places: the fixed words, this word where there is a choice, and in order the digits of these numbers
+-- the words at these places: the fixed words, this word at a place with a choice, and in order the digits of these numbers
 abbrev pub filled : List Slot → Text → List ℕ → List Text
 filled [] word numbers = []
 filled (Fixed t ∷ places) word numbers = t ∷ filled places word numbers
@@ -41,7 +42,7 @@ filled (Numeral kind ∷ places) word [] = []
 filled (Numeral kind ∷ places) word (n ∷ numbers) = decimal n ∷ filled places word numbers
 filled (PoolList ∷ places) word numbers = map decimal numbers
 
--- the words of a line of this form, with these numbers; the word is `[]` where the form leaves no choice
+-- the words of a line of this form, with these numbers; the word is `[]` if the form leaves no choice
 abbrev pub form_words : Form → Text → List ℕ → List Text
 form_words f word numbers = filled (slots f) word numbers
 
@@ -98,14 +99,9 @@ object_line x thing = form_words (form.Object thing) (thing_word thing) (x ∷ t
 
 -- Units.
 
--- the word that a number stands for
+-- the word of this number
 abbrev pub word_of : Parts → ℕ → Text
 word_of W n = slice_index_or W.words n []
-
--- the number that says whether something holds
-abbrev pub bit : Bool → ℕ
-bit true = 1
-bit false = 0
 
 -- the numbers of an operation's line, in order
 abbrev pub op_numbers : Op → List ℕ
@@ -125,7 +121,7 @@ op_numbers (op.Join v) = v.0 ∷ []
 op_numbers (op.Cancel v) = v.0 ∷ []
 op_numbers (op.Migrate v p) = v.0 ∷ p.0 ∷ []
 op_numbers (op.MigrateTo v s) = v.0 ∷ s.0 ∷ []
-op_numbers (op.Migratable v b) = v.0 ∷ bit b ∷ []
+op_numbers (op.Migratable v b) = v.0 ∷ truth b ∷ []
 op_numbers (op.Revive v p) = v.0 ∷ p.0 ∷ []
 op_numbers (op.Lock x) = x.0 ∷ []
 op_numbers (op.TryLock x) = x.0 ∷ []

@@ -1,21 +1,5 @@
 -- What the computations find that tell whether parts are those of a workload.
-use Rattle.std.specs.Prelude.{ℕ, ◌≡◌, ◌==◌, ◌+◌, ◌<◌, ◌≤◌, ◌&&◌, Bool, true, false, not, nat_lt, option_and_then, if◌then◌else◌, List, [], ◌∷◌, length, slice_index_or, slice_set, Option, Some, None}
-use Rattle.abt_machine.specs.declared.grammar.Format.TheVariants as format
-use Rattle.abt_machine.specs.declared.workload.Parts.{Parts}
-use Rattle.abt_machine.specs.Limits.{key_limit, object_limit, pool_limit, sched_limit, stream_limit, unit_limit}
-
--- there are as many of each as there may be
-pub record AreCounts (W : Parts) : Type 0 where
-  pub some_stream : 0 < W.streams
-  pub few_streams : W.streams ≤ stream_limit format.Two
-  pub few_keys : W.keys ≤ key_limit
-  pub some_pool : 0 < length W.pools
-  pub few_pools : length W.pools ≤ pool_limit
-  pub some_sched : 0 < length W.scheds
-  pub few_scheds : length W.scheds ≤ sched_limit
-  pub mains : length W.mains ≡ W.streams
-  pub few_objects : length W.objects ≤ object_limit
-  pub few_units : length W.units ≤ unit_limit format.Two
+use Rattle.std.specs.Prelude.{ℕ, ◌≡◌, ◌==◌, ◌+◌, ◌<◌, ◌&&◌, Bool, true, false, not, nat_lt, option_and_then, if◌then◌else◌, List, [], ◌∷◌, length, slice_index_or, slice_set, Option, Some, None}
 
 -- what is left of room after so much is taken of it, if there is enough
 abbrev pub IsLeft : ℕ → ℕ → Option ℕ → Type 0

@@ -18,8 +18,8 @@ plan_site (Does e) = None
 plan_site (Calls x asked brings) = Some x
 plan_site (Exits o) = None
 
--- the site of an operation of unit u that stream s makes: none if it is local, if it yields, or if s can not reach the pool that it
--- names. Of the unit only its number matters to it, so the plan is that of the unit as it is at the start
+-- the site of an operation of unit u that stream s makes: none if it is local, if it yields, or if s must not reach the pool that it
+-- names. The site depends on the unit's number alone, so the plan is that of the unit at the start
 abbrev pub op_site : Parts → ℕ → ℕ → Op → Option Site
 op_site W s u o = plan_site (plan_of W s o (owned_at (start W) u))
 

@@ -1,7 +1,7 @@
 -- What an eventual answers, and what it is afterwards.
 use Rattle.std.specs.Prelude.{◌≡◌, is_some, [], ◌∷◌, ◌++◌, map, Some, None, option_map, IsSome, IsNone}
 use Rattle.abt_machine.specs.declared.events.Code.TheVariants as code
-use Rattle.abt_machine.specs.Steps.{truth}
+use Rattle.abt_machine.specs.Numbers.{truth}
 use Rattle.abt_machine.specs.Values.{EventualValue}
 use Rattle.abt_machine.specs.Acts.{Act, Await, Fill, Reset, Test, Answer, Given, Woke, Rested, Number, Coded, received}
 

@@ -224,7 +224,7 @@ suits AnyWord word = true
 suits (Numeral n) word = true
 suits PoolList word = true
 
--- a line of these words has these places: as many words, and each fixed word where it belongs
+-- a line of these words has these places: as many words, and each fixed word at its place
 abbrev pub fits : List Slot → List Text → Bool
 fits [] [] = true
 fits [] (word ∷ words) = false

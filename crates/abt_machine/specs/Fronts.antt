@@ -2,6 +2,8 @@
 use Rattle.std.specs.Prelude.{ℕ, ◌==◌, Bool, true, false, List, Option, Some, None}
 use Rattle.abt_machine.specs.declared.operations.Kind.{Kind}
 use Rattle.abt_machine.specs.declared.operations.Kind.TheVariants as kind
+use Rattle.abt_machine.specs.declared.operations.Side.{Side}
+use Rattle.abt_machine.specs.declared.operations.Side.TheVariants as side
 use Rattle.abt_machine.specs.declared.workload.Parts.{Parts}
 use Rattle.abt_machine.specs.Workloads.{kind_of, pools_of, main_of}
 use Rattle.abt_machine.specs.Queues.{first, last}
@@ -16,12 +18,21 @@ is_some_of n (Some m) = m == n
 abbrev pub owns : Parts → ℕ → ℕ → Bool
 owns W s p = is_some_of p (first (pools_of W (main_of W s)))
 
--- a FIFO pool answers with the unit that came first, a deque the one that came last to its owners and the one that came first to others
-abbrev pub front_by : {A : Type 0} → Kind → Bool → List A → Option A
-front_by kind.Fifo own us = first us
-front_by kind.Deque false us = first us
-front_by kind.Deque true us = last us
+-- the end at which units are taken: the front of a FIFO pool; of a deque the back for its owners, and the front for others
+abbrev pub side_by : Kind → Bool → Side
+side_by kind.Fifo own = side.Front
+side_by kind.Deque false = side.Front
+side_by kind.Deque true = side.Back
+
+-- the end of pool p at which stream s takes
+abbrev pub side_of : Parts → ℕ → ℕ → Side
+side_of W s p = side_by (kind_of W p) (owns W s p)
+
+-- the unit at an end of a line, if there is one
+abbrev pub at_end : {A : Type 0} → Side → List A → Option A
+at_end side.Front us = first us
+at_end side.Back us = last us
 
 -- the unit that stream s takes from pool p, if there is one
 abbrev pub front : Parts → State → ℕ → ℕ → Option ℕ
-front W S s p = front_by (kind_of W p) (owns W s p) (standing W S (InPool p))
+front W S s p = at_end (side_of W s p) (standing W S (InPool p))

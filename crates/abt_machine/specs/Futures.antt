@@ -2,7 +2,8 @@
 use Rattle.std.specs.Prelude.{ℕ, ◌≡◌, ◌==◌, if◌then◌else◌, Bool, List, [], ◌∷◌, ◌++◌, map, IsTrue, IsFalse}
 use Rattle.abt_machine.specs.declared.events.Code.TheVariants as code
 use Rattle.abt_machine.specs.State.{Future}
-use Rattle.abt_machine.specs.Steps.{filled_by, truth}
+use Rattle.abt_machine.specs.Numbers.{truth}
+use Rattle.abt_machine.specs.Steps.{filled_by}
 use Rattle.abt_machine.specs.Values.{Owned, FutureValue}
 use Rattle.abt_machine.specs.Acts.{Act, Await, Fill, Reset, Test, Answer, Given, Woke, Rested, Number, Coded, received}
 

@@ -46,6 +46,5 @@ pub mod Texts
 pub mod Turns
 pub mod Valid
 pub mod Values
-pub mod Weights
 pub mod Words
 pub mod Workloads

@@ -11,19 +11,16 @@ use Rattle.abt_machine.specs.declared.operations.Body.TheVariants as body
 use Rattle.abt_machine.specs.declared.operations.Op.{Op}
 use Rattle.abt_machine.specs.declared.operations.Op.TheVariants as op
 use Rattle.abt_machine.specs.declared.workload.Parts.{Parts}
+use Rattle.abt_machine.specs.Fronts.{is_some_of}
 use Rattle.abt_machine.specs.Operations.{nature_of}
 use Rattle.abt_machine.specs.Workloads.{body_at, op_at, start_of}
 use Rattle.abt_machine.specs.Queues.{last}
 use Rattle.abt_machine.specs.Start.{first_life}
 
-abbrev pub is_of : ℕ → Option ℕ → Bool
-is_of u None = false
-is_of u (Some v) = v == u
-
 -- the operation gives unit u a life
 abbrev pub is_birth : ℕ → Option Op → Bool
 is_birth u None = false
-is_birth u (Some o) = is_of u (nature_of o).birth
+is_birth u (Some o) = is_some_of u (nature_of o).birth
 
 -- the life of unit u after an event, now being the one before: it rises at each step that creates or revives u and goes through
 abbrev pub life_after : Parts → ℕ → ℕ → What → ℕ
@@ -51,7 +48,7 @@ unit_of (what.Leave u) = Some u.0
 
 abbrev pub events_from : Parts → ℕ → ℕ → ℕ → List Event → List What
 events_from W u l now [] = []
-events_from W u l now (e ∷ es) = (if is_of u (unit_of e.what) && (now == l) then e.what ∷ [] else []) ++ events_from W u l (life_after W u now e.what) es
+events_from W u l now (e ∷ es) = (if is_some_of u (unit_of e.what) && (now == l) then e.what ∷ [] else []) ++ events_from W u l (life_after W u now e.what) es
 
 -- the events of unit u that come while it is in life l
 abbrev pub life_events : Parts → List Event → ℕ → ℕ → List What
@@ -112,7 +109,7 @@ EndsSteps ops es cause.Asked = (length (positions_in es) ≤ length ops) × NoEx
 EndsSteps ops es cause.Access = ⊥
 EndsSteps ops es cause.Own = last (done_in ops es) ≡ Some op.Exit
 
--- how a life of a scheduler unit may end: done after one entry and one leave, or asked, or without an entry for lack of access
+-- how a life of a scheduler unit may end: done after one entry and one leave; or, without an entry, asked or for lack of access
 abbrev pub EndsSched : List What → Cause → Type 0
 EndsSched es cause.Done = (enters_in es ≡ 1) × (leaves_in es ≡ 1)
 EndsSched es cause.Asked = enters_in es ≡ 0

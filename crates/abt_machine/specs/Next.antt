@@ -26,8 +26,8 @@ abbrev pub due_of_ops : List Op → ℕ → Due
 due_of_ops ops k = if nat_lt k (length ops) then StepDue else EndDue cause.Done
 
 -- what is due for a unit in hand at position k: its end if its look found a cancel request or its last step was `exit`;
--- for a scheduler unit its entry if s can take from all of its pools, or its end if s can not or it has left; for any
--- other its program
+-- for a scheduler unit its entry if s may take from all of its pools, or its end if s must not or the unit has left; for any
+-- other its next step, or its end if no operation is left
 abbrev pub due_of_unit : Parts → ℕ → Mark → Body → ℕ → Due
 due_of_unit W s Asked b k = EndDue cause.Asked
 due_of_unit W s Exited b k = EndDue cause.Own

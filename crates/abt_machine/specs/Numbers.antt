@@ -1,5 +1,5 @@
--- The number types of the crate, made from plain numbers.
-use Rattle.std.specs.Prelude.{ℕ}
+-- The number types of the crate, made from plain numbers, and truth as a number.
+use Rattle.std.specs.Prelude.{ℕ, Bool, true, false}
 use Rattle.abt_machine.specs.declared.numbers.StreamNo.{StreamNo}
 use Rattle.abt_machine.specs.declared.numbers.PoolNo.{PoolNo}
 use Rattle.abt_machine.specs.declared.numbers.SchedNo.{SchedNo}
@@ -20,3 +20,8 @@ unit_no n = record { 0 = n }
 
 abbrev pub object_no : ℕ → ObjectNo
 object_no n = record { 0 = n }
+
+-- 1 if it holds, else 0
+abbrev pub truth : Bool → ℕ
+truth true = 1
+truth false = 0

@@ -1,7 +1,7 @@
 -- The units that stand in a line, in order by rising ticket.
 use Rattle.std.specs.Prelude.{ℕ, zero, suc, nat_le, if◌then◌else◌, List, [], ◌∷◌, Option, Some, None, map}
 
--- a ticket and a unit, before the first that has no lower ticket
+-- the list with unit u at ticket t, before the first entry whose ticket is not lower
 abbrev pub insert_by_ticket : ℕ → ℕ → List (ℕ × ℕ) → List (ℕ × ℕ)
 insert_by_ticket t u [] = (t, u) ∷ []
 insert_by_ticket t u (p ∷ ps) = if nat_le t p.0 then (t, u) ∷ p ∷ ps else p ∷ insert_by_ticket t u ps

@@ -71,6 +71,7 @@ choice_by W Z g r None ps = NoOrder
 abbrev pub choice_of : Parts → List OrderShape → ℕ → ℕ → Choice
 choice_of W Z g r = choice_by W Z g r (rule_of W g) (pools_of W g)
 
+-- a round of these pools may visit them in this order
 abbrev pub IsChosen : Choice → List ℕ → List ℕ → Type 0
 IsChosen (Only one) ps order = order ≡ one
 IsChosen AnyOrder ps order = IsPermutation ps order
@@ -80,6 +81,7 @@ IsChosen NoOrder ps order = ⊥
 abbrev pub IsOrder : Parts → List OrderShape → ℕ → ℕ → List ℕ → Type 0
 IsOrder W Z g r order = IsChosen (choice_of W Z g r) (pools_of W g) order
 
+-- the second list begins with the first
 abbrev pub IsPrefixOf : List ℕ → List ℕ → Type 0
 IsPrefixOf xs ys = (rest : List ℕ) × (xs ++ rest ≡ ys)
 

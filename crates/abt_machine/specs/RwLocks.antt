@@ -49,7 +49,7 @@ abbrev pub first_readers : List Wish → List Owned → List Owned
 first_readers wishes [] = []
 first_readers wishes (o ∷ os) = if wants_to_read wishes o.number then o ∷ first_readers wishes os else []
 
--- the waiters from the first on that wants to write
+-- the waiters from the first that wants to write on
 abbrev pub after_readers : List Wish → List Owned → List Owned
 after_readers wishes [] = []
 after_readers wishes (o ∷ os) = if wants_to_read wishes o.number then after_readers wishes os else o ∷ os
@@ -59,6 +59,7 @@ abbrev pub all_reading : List Owned → List ℕ → List ℕ
 all_reading [] counts = counts
 all_reading (o ∷ os) counts = all_reading os (slice_set counts o.number 1)
 
+-- these readers get the lock, or the first waiter if there are none
 abbrev pub granted_by : List Owned → List Owned → List Owned
 granted_by [] waiters = first_alone waiters
 granted_by (o ∷ os) waiters = o ∷ os
@@ -67,6 +68,7 @@ granted_by (o ∷ os) waiters = o ∷ os
 abbrev pub granted : List Wish → List Owned → List Owned
 granted wishes waiters = granted_by (first_readers wishes waiters) waiters
 
+-- a free lock that these readers have got, or its first waiter if there are none
 abbrev pub served_by : List Owned → RwLockValue → RwLockValue
 served_by [] old = record { lock = record old.lock { writer = option_map number_of (first old.waiters) }; waiters = rest old.waiters }
 served_by (o ∷ os) old = record {
@@ -74,7 +76,7 @@ served_by (o ∷ os) old = record {
   waiters = after_readers old.lock.wishes old.waiters;
 }
 
--- a free lock after these have got it
+-- a free lock after its first waiters have got it
 abbrev pub served : RwLockValue → RwLockValue
 served old = served_by (first_readers old.lock.wishes old.waiters) old
 
@@ -82,7 +84,7 @@ served old = served_by (first_readers old.lock.wishes old.waiters) old
 abbrev pub left_by : ℕ → RwLockValue → RwLockValue
 left_by u old = record old { lock = given_up u old.lock }
 
--- whom a lock wakes if units have given it up
+-- whom a lock wakes after a unit gave it up or reads once less: nobody if it is not free
 abbrev pub woken : RwLockValue → List Owned
 woken old = if is_free old.lock then granted old.lock.wishes old.waiters else []
 

@@ -1,5 +1,5 @@
 -- What each operation changes when it goes through, and a refused one.
-use Rattle.std.specs.Prelude.{ℕ, suc, max, ◌+◌, ◌%◌, ◌^◌, ◌==◌, if◌then◌else◌, Bool, true, false, List, [], ◌∷◌, ◌++◌, length, map, is_some, Option, Some, None}
+use Rattle.std.specs.Prelude.{ℕ, suc, max, ◌+◌, ◌%◌, ◌^◌, ◌==◌, if◌then◌else◌, Bool, true, List, [], ◌∷◌, ◌++◌, length, map, is_some, Option, Some, None}
 use Rattle.abt_machine.specs.declared.events.Code.{Code}
 use Rattle.abt_machine.specs.declared.events.Code.TheVariants as code
 use Rattle.abt_machine.specs.declared.events.Piece.TheVariants as piece
@@ -12,7 +12,7 @@ use Rattle.abt_machine.specs.declared.operations.Combine.TheVariants as combine
 use Rattle.abt_machine.specs.declared.operations.Op.{Op}
 use Rattle.abt_machine.specs.declared.operations.Op.TheVariants as op
 use Rattle.abt_machine.specs.declared.workload.Parts.{Parts}
-use Rattle.abt_machine.specs.Numbers.{stream_no, unit_no, object_no}
+use Rattle.abt_machine.specs.Numbers.{stream_no, unit_no, object_no, truth}
 use Rattle.abt_machine.specs.Workloads.{combine_of, mutex_of, size_of}
 use Rattle.abt_machine.specs.Sites.{first_pool}
 use Rattle.abt_machine.specs.Queues.{first, first_alone}
@@ -103,11 +103,7 @@ abbrev pub awaits : State → ℕ → ℕ → Option ℕ → Change
 awaits S u x None = waits S u x
 awaits S u x (Some value) = goes_with u (with_acc value (S.carried u))
 
-abbrev pub truth : Bool → ℕ
-truth true = 1
-truth false = 0
-
--- unit u learns whether it is so
+-- unit u gets 1 if it is so, else 0
 abbrev pub learns : State → ℕ → Bool → Change
 learns S u b = goes_with u (with_acc (truth b) (S.carried u))
 

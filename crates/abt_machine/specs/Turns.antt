@@ -7,18 +7,14 @@ use Rattle.abt_machine.specs.declared.events.Site.{Site}
 use Rattle.abt_machine.specs.declared.events.Site.TheVariants as site
 use Rattle.abt_machine.specs.declared.events.What.{What}
 use Rattle.abt_machine.specs.declared.events.What.TheVariants as what
-use Rattle.abt_machine.specs.declared.operations.Kind.{Kind}
-use Rattle.abt_machine.specs.declared.operations.Kind.TheVariants as kind
 use Rattle.abt_machine.specs.declared.operations.Op.{Op}
 use Rattle.abt_machine.specs.declared.operations.OrderShape.{OrderShape}
-use Rattle.abt_machine.specs.declared.operations.Side.{Side}
-use Rattle.abt_machine.specs.declared.operations.Side.TheVariants as side
 use Rattle.abt_machine.specs.declared.workload.Parts.{Parts}
-use Rattle.abt_machine.specs.Workloads.{body_at, kind_of, op_at}
+use Rattle.abt_machine.specs.Workloads.{body_at, op_at}
 use Rattle.abt_machine.specs.Carrying.{with_home}
 use Rattle.abt_machine.specs.State.{Plain, Asked, Exited}
 use Rattle.abt_machine.specs.Next.{Due, due_by, PutDue, LookDue, EndDue, EnterDue, StepDue, LeaveDue, RoundDue}
-use Rattle.abt_machine.specs.Fronts.{owns}
+use Rattle.abt_machine.specs.Fronts.{side_of}
 use Rattle.abt_machine.specs.Rounds.{IsNextPool}
 use Rattle.abt_machine.specs.Frames.{marked, round_taken, round_missed, entered, sched_of, left}
 use Rattle.abt_machine.specs.Values.{Owned, Held}
@@ -32,15 +28,6 @@ number_and_position o = (o.number, o.carried.position)
 -- what a stream does next, decided by what it holds
 abbrev pub due_of : Parts → ℕ → Held → Due
 due_of W s held = due_by W s held.own held.tray held.next (option_map number_and_position held.hand)
-
-abbrev pub side_by : Kind → Bool → Side
-side_by kind.Fifo own = side.Front
-side_by kind.Deque false = side.Front
-side_by kind.Deque true = side.Back
-
--- the end of pool p at which stream s takes
-abbrev pub side_of : Parts → ℕ → ℕ → Side
-side_of W s p = side_by (kind_of W p) (owns W s p)
 
 -- Looks.
 

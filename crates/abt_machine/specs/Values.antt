@@ -165,7 +165,7 @@ barrier_value W S x n = record { size = n; waiters = waiters_at W S x }
 abbrev pub rwlock_value : Parts → State → ℕ → RwLockValue
 rwlock_value W S x = record { lock = S.rwlock x; waiters = waiters_at W S x }
 
--- a monitor, an eventual, a future, a barrier or a reader-writer lock is where the workload declares it
+-- a monitor, an eventual, a future, a barrier or a reader-writer lock is at its site only if the workload declares it there
 
 abbrev pub monitor_at : Parts → State → ℕ → Option Thing → Object
 monitor_at W S x (Some thing.Mutex) = MonitorIs (monitor_value W S x)

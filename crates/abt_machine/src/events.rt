@@ -85,7 +85,7 @@ pub enum Site {
 }
 
 /// What happened: a miss at a pool, a unit taken from it, a look at a taken unit's requests, a step at
-/// a position with its code, a unit put into its home, an end, and a scheduler unit's start and end.
+/// a position with its code, a unit put into its home, an end, and a scheduler unit's entry and leave.
 #[derive(Clone, Copy, Debug, PartialEq, Eq)]
 pub enum What {
     Miss(PoolNo),

@@ -3,11 +3,12 @@
 ghost use Rattle.std.specs.Prelude.{◌↔◌, ◌≡◌, ◌≢◌, ◌==◌, ◌<◌, ◌≤◌, ℕ, All, AllPairs, IfSome, IsTrue, None, Some, flat_map, if◌then◌else◌, length, map};
 ghost use Rattle.std.specs.List.{list_all, list_any, range_with_len};
 ghost use Rattle.abt_machine.specs.Access.{may_take, may_take_all};
-ghost use Rattle.abt_machine.specs.Checks.{AreCounts, IsLeft, after_said, place, places};
-ghost use Rattle.abt_machine.specs.Limits.{operation_limit, sched_limit};
+ghost use Rattle.abt_machine.specs.Checks.{IsLeft, after_said, place, places};
+ghost use Rattle.abt_machine.specs.Limits.{key_limit, object_limit, operation_limit, pool_limit, sched_limit, stream_limit, unit_limit};
 ghost use Rattle.abt_machine.specs.Operations.{IsBarrier, IsDeclared, IsEventual, IsFuture, IsMutex, IsRwLock, may_block, said_by};
 ghost use Rattle.abt_machine.specs.Valid.{IsAccess, IsBody, IsRule, IsSched, IsStream, IsThing, IsUnit, IsValid, IsVisible, IsWord, placed_scheds, sched_in, words_said};
 ghost use Rattle.abt_machine.specs.Workloads.{IsCondition, all_ops, ops_of, thing_at};
+ghost use Rattle.abt_machine.specs.declared.grammar.Format.TheVariants as format;
 ghost use Rattle.abt_machine.specs.declared.numbers.PoolNo.{PoolNo};
 ghost use Rattle.abt_machine.specs.declared.numbers.SchedNo.{SchedNo};
 ghost use Rattle.abt_machine.specs.declared.workload.PoolPart.{PoolPart};
@@ -165,17 +166,18 @@ fn ops_left(units: &[UnitPart], room: usize) -> Option<usize>
 }
 
 impl Parts {
-    // Whether there are as many streams, keys, pools, schedulers, objects and units as there may be.
-    fn has_counts(&self) -> bool
-        ensures { IsTrue result ↔ AreCounts self.now }
+    // Whether there is a stream, and are as many as there may be.
+    fn has_streams(&self) -> bool
+        ensures { IsTrue result ↔ ((0 < self.now.streams) × (self.now.streams ≤ stream_limit format.Two)) }
     {
         is_among(self.streams as usize, Format::Two.stream_limit() as usize)
-            && self.keys <= KEY_LIMIT
-            && is_among(self.pools.items().len(), POOL_LIMIT)
-            && is_among(self.scheds.items().len(), SCHED_LIMIT)
-            && self.mains.items().len() == self.streams as usize
-            && self.objects.items().len() <= OBJECT_LIMIT
-            && self.units.items().len() <= Format::Two.unit_limit() as usize
+    }
+
+    // Whether there are no more keys than there may be.
+    fn has_few_keys(&self) -> bool
+        ensures { IsTrue result ↔ (self.now.keys ≤ key_limit) }
+    {
+        self.keys <= KEY_LIMIT
     }
 
     // Whether a stream is declared.
@@ -217,14 +219,12 @@ impl Parts {
         }
     }
 
-    // Whether each pool's access names declared streams.
-    fn has_accesses(&self) -> bool
-        ensures { IsTrue result ↔ All (λ (part : PoolPart). IsAccess self.now.streams part.access) self.now.pools }
+    // Whether there is a pool, and are as many as there may be, and each pool's access names declared streams.
+    fn has_pools(&self) -> bool
+        ensures { IsTrue result ↔ ((0 < length self.now.pools) × (length self.now.pools ≤ pool_limit) × All (λ (part : PoolPart). IsAccess self.now.streams part.access) self.now.pools) }
     {
-        self.pools
-            .items()
-            .iter()
-            .all(|part| self.is_access(part.access))
+        let pools = self.pools.items();
+        is_among(pools.len(), POOL_LIMIT) && pools.iter().all(|part| self.is_access(part.access))
     }
 
     // Whether these pools are declared.
@@ -245,11 +245,12 @@ impl Parts {
             && are_distinct(pools)
     }
 
-    // Whether each scheduler's rule and pools are as they may be.
-    fn has_listings(&self) -> bool
-        ensures { IsTrue result ↔ All (IsSched (length self.now.pools)) self.now.scheds }
+    // Whether there is a scheduler, and are as many as there may be, and each one's rule and pools are as they may be.
+    fn has_scheds(&self) -> bool
+        ensures { IsTrue result ↔ ((0 < length self.now.scheds) × (length self.now.scheds ≤ sched_limit) × All (IsSched (length self.now.pools)) self.now.scheds) }
     {
-        self.scheds.items().iter().all(|part| self.is_sched(part))
+        let scheds = self.scheds.items();
+        is_among(scheds.len(), SCHED_LIMIT) && scheds.iter().all(|part| self.is_sched(part))
     }
 
     // Whether a stream may take from each of these pools.
@@ -275,7 +276,7 @@ impl Parts {
     }
 
     // Whether each stream has a declared main scheduler, and may take from all of its pools.
-    fn has_mains(&self) -> bool
+    fn are_streams(&self) -> bool
         ensures { IsTrue result ↔ ((s : ℕ) → s < self.now.streams → IsStream self.now s) }
     {
         for s in 0..self.streams {
@@ -284,6 +285,13 @@ impl Parts {
             }
         }
         true
+    }
+
+    // Whether there is one main scheduler for each stream, which is declared and from whose pools the stream may take.
+    fn has_mains(&self) -> bool
+        ensures { IsTrue result ↔ ((length self.now.mains ≡ self.now.streams) × ((s : ℕ) → s < self.now.streams → IsStream self.now s)) }
+    {
+        self.mains.items().len() == self.streams as usize && self.are_streams()
     }
 
     // Whether an object of this number is declared as a mutex.
@@ -340,7 +348,7 @@ impl Parts {
     }
 
     // Whether each object may be what it is declared as.
-    fn has_things(&self) -> bool
+    fn are_things(&self) -> bool
         ensures { IsTrue result ↔ ((x : ℕ) (t : Thing) → thing_at self.now x ≡ Some t → IsThing self.now.objects x t) }
     {
         for (x, thing) in self.objects.items().iter().enumerate() {
@@ -349,6 +357,13 @@ impl Parts {
             }
         }
         true
+    }
+
+    // Whether there are no more objects than there may be, and each may be what it is declared as.
+    fn has_objects(&self) -> bool
+        ensures { IsTrue result ↔ ((length self.now.objects ≤ object_limit) × ((x : ℕ) (t : Thing) → thing_at self.now x ≡ Some t → IsThing self.now.objects x t)) }
+    {
+        self.objects.items().len() <= OBJECT_LIMIT && self.are_things()
     }
 
     // Whether a tasklet has no operation that may block or yield, and a unit's scheduler is declared.
@@ -415,11 +430,13 @@ impl Parts {
             && self.is_start(part.start)
     }
 
-    // Whether each unit is as it may be.
+    // Whether there are no more units than there may be, and each is as it may be.
     fn has_units(&self) -> bool
-        ensures { IsTrue result ↔ All (IsUnit self.now) self.now.units }
+        ensures { IsTrue result ↔ ((length self.now.units ≤ unit_limit format.Two) × All (IsUnit self.now) self.now.units) }
     {
-        self.units.items().iter().all(|part| self.is_unit(part))
+        let units = self.units.items();
+        units.len() <= Format::Two.unit_limit() as usize
+            && units.iter().all(|part| self.is_unit(part))
     }
 
     // Whether each text is a word that can be said.
@@ -456,11 +473,12 @@ impl Parts {
     pub fn is_valid(&self) -> bool
         ensures { IsTrue result ↔ IsValid self.now }
     {
-        self.has_counts()
-            && self.has_accesses()
-            && self.has_listings()
+        self.has_streams()
+            && self.has_few_keys()
+            && self.has_pools()
+            && self.has_scheds()
             && self.has_mains()
-            && self.has_things()
+            && self.has_objects()
             && self.has_units()
             && self.has_own_places()
             && self.says_words()

@@ -16,7 +16,7 @@ use Rattle.abt_machine.specs.Queues.{first, last}
 use Rattle.abt_machine.specs.State.{State, Stream, Frame}
 use Rattle.abt_machine.specs.Lines.{InPool, InTray, InHand, InNext, standing}
 use Rattle.abt_machine.specs.Next.{RoundDue}
-use Rattle.abt_machine.specs.Fronts.{front, front_by, owns}
+use Rattle.abt_machine.specs.Fronts.{at_end, front, owns, side_by}
 use Rattle.abt_machine.specs.Rounds.{IsNextPool}
 use Rattle.abt_machine.specs.Frames.{frame_at, frame_missed, round_missed}
 use Rattle.abt_machine.specs.Events.{May, after}
@@ -53,7 +53,7 @@ first-none : (us : List ℕ) → first us ≡ None → us ≡ []
 first-none [] e = refl
 first-none (u ∷ us) e = absurd (none≢some (sym e))
 
-no-front : (k : Kind) (own : Bool) (us : List ℕ) → front_by k own us ≡ None → us ≡ []
+no-front : (k : Kind) (own : Bool) (us : List ℕ) → at_end (side_by k own) us ≡ None → us ≡ []
 no-front kind.Fifo own us e = first-none us e
 no-front kind.Deque false us e = first-none us e
 no-front kind.Deque true us e = last-none us e

@@ -115,7 +115,7 @@ EmptiedGrows W = (s : ℕ) (S : State) (es fs : List Event) → (HasEmptied W s 
 abbrev pub NumbersAreBounded : Parts → List OrderShape → Type 0
 NumbersAreBounded W Z = IsValid W → (S : State) → Sound W Z S → (state_weight W S ≤ weight_limit) × (open_frames W S ≤ unit_limit format.Two)
 
--- where no stream makes more than n steps, events among which there is a step lower the work that is left
+-- if no stream makes more than n steps, events among which there is a step lower the work that is left
 abbrev pub StepsFall : Parts → List OrderShape → Type 0
 StepsFall W Z = IsValid W → OrdersStored W Z → (n : ℕ) (J es : List Event) → Run W Z (J ++ es) → IsWithin W n (J ++ es) → HasNoStep es ⊎ (work_left W n (J ++ es) < work_left W n J)
 

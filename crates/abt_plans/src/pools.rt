@@ -4,7 +4,7 @@ ghost use Rattle.std.specs.Prelude.{◌≡◌, ◌<◌, Some, length};
 ghost use Rattle.std.specs.List.{All, list_all};
 ghost use Rattle.abt_machine.specs.Access.{may_take};
 ghost use Rattle.abt_machine.specs.Queues.{first};
-ghost use Rattle.abt_machine.specs.Turns.{side_of};
+ghost use Rattle.abt_machine.specs.Fronts.{side_of};
 ghost use Rattle.abt_machine.specs.Valid.{IsValid};
 ghost use Rattle.abt_machine.specs.Workloads.{main_of, pools_of};
 ghost use Rattle.abt_order.specs.Schedulers.{pool_numbers};

@@ -17,7 +17,8 @@ use Rattle.abt_machine.specs.Frames.{entered, left, round_missed, round_taken}
 use Rattle.abt_machine.specs.Numbers.{pool_no, unit_no}
 use Rattle.abt_machine.specs.Plans.{Effect, keeps, plan_of}
 use Rattle.abt_machine.specs.State.{State}
-use Rattle.abt_machine.specs.Turns.{Heard, Performs, Steps, exited, looked, side_of, stepped}
+use Rattle.abt_machine.specs.Fronts.{side_of}
+use Rattle.abt_machine.specs.Turns.{Heard, Performs, Steps, exited, looked, stepped}
 use Rattle.abt_machine.specs.Values.{Held, Owned, object_of}
 use Rattle.abt_calls.specs.Asking.{IsSite}
 use Rattle.abt_unit.specs.Local.{after_local, with_carried}

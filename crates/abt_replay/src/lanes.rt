@@ -9,7 +9,8 @@ ghost use Rattle.abt_machine.specs.declared.events.Site.TheVariants as site;
 ghost use Rattle.abt_machine.specs.declared.numbers.PoolNo.{PoolNo};
 ghost use Rattle.abt_machine.specs.Acts as asked;
 ghost use Rattle.abt_machine.specs.Numbers.{pool_no, unit_no};
-ghost use Rattle.abt_machine.specs.Turns.{looked, side_of};
+ghost use Rattle.abt_machine.specs.Fronts.{side_of};
+ghost use Rattle.abt_machine.specs.Turns.{looked};
 ghost use Rattle.abt_machine.specs.Valid.{IsValid};
 ghost use Rattle.abt_machine.specs.declared.operations.OrderShape.{OrderShape};
 

@@ -13,9 +13,9 @@ use crate::following::prepare_flow;
 use crate::prepared::Prepared;
 use crate::running::{prepare_file, prepare_self};
 use crate::status::NAME;
-use abt_machine::{Ended, Journal};
+use abt_machine::Ended;
 use abt_order::StoredOrder;
-use abt_shell::{Stop, stop_by, write_out};
+use abt_shell::{Stop, conclude_run, stop_without_run};
 use abt_source::{Files, Sink};
 use abt_stream::Pace;
 use abt_words::{Command, WordFault, words as command};
@@ -97,19 +97,14 @@ pub fn abtrun<R: Threads + Wait + Sync, F: Files, K: Sink, E: Sink, P: Pace + Sy
     }) }
 {
     match prepare(rt, alloc, words, files, pace, orders) {
-        Ok(done) => {
-            let status = write_out(NAME, out, err, &done.text, done.conclusion.number());
-            Ended {
-                status,
-                journal: done.journal,
-            }
-        }
-        Err(stop) => {
-            let stop = stop_by(alloc, NAME, err, stop);
-            Ended {
-                status: stop.number(),
-                journal: Journal::new(Vec::new(alloc)),
-            }
-        }
+        Ok(done) => conclude_run(
+            NAME,
+            out,
+            err,
+            &done.text,
+            done.conclusion.number(),
+            done.journal,
+        ),
+        Err(stop) => stop_without_run(alloc, NAME, err, stop),
     }
 }

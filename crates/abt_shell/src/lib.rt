@@ -9,4 +9,4 @@ mod writing;
 pub use fetching::bytes_of;
 pub use process::{run, words_of};
 pub use status::{Stop, Wrong, number_of_outcome};
-pub use writing::{stop_by, write_out};
+pub use writing::{conclude_run, stop_by, stop_without_run, write_out};

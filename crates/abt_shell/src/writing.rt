@@ -1,13 +1,14 @@
 //! Messages and the output, written to sinks.
 
-ghost use Rattle.std.specs.Prelude.{◌≡◌, ◌≤◌, ◌⊎◌, ◌++◌, IfOk, codes};
-ghost use Rattle.abt_shell.specs.Status.{line_text, stop_text};
+ghost use Rattle.std.specs.Prelude.{◌≡◌, ◌≤◌, ◌⊎◌, ◌++◌, [], IfOk, codes};
+ghost use Rattle.abt_shell.specs.Status.{line_text, number_of_stop, stop_text};
 ghost use Rattle.abt_shell.specs.Told.{IsTold, WroteAll, WrotePart};
+ghost use Rattle.abt_shell.specs.declared.status.Stop.{Stop};
 ghost use Rattle.abt_shell.specs.declared.status.Stop.TheVariants.{OutOfMemory};
 
 use crate::status::{Said, Stop};
 use abt_lines::push_number;
-use abt_machine::Want;
+use abt_machine::{Ended, Journal, Want};
 use abt_source::{Failed, Sink, write_whole};
 use std::alloc::Global;
 
@@ -85,5 +86,37 @@ pub fn write_out<K: Sink, E: Sink>(
             tell(name, err, b": cannot write\n");
             6
         }
+    }
+}
+
+/// Writes the output of a call that made a run, as `write_out` does; how the call ended.
+pub fn conclude_run<K: Sink, E: Sink>(
+    name: &[u8],
+    out: &mut K,
+    err: &mut E,
+    text: &[u8],
+    status: u8,
+    journal: Journal,
+) -> Ended
+    ensures status { ((result.status ≡ status) × WroteAll (K.taken out.old, K.taken out.new) (E.taken err.old, E.taken err.new) text.now)
+        ⊎ ((result.status ≡ 6) × WrotePart (K.taken out.old, K.taken out.new) (K.faults out.old, K.faults out.new)
+        (E.taken err.old, E.taken err.new) (E.faults err.old, E.faults err.new) text.now (name.now ++ codes ": cannot write\n")) }
+    ensures journal { result.journal ≡ journal }
+{
+    let status = write_out(name, out, err, text, status);
+    Ended { status, journal }
+}
+
+/// Writes the message of a call that stopped before it made a run, as `stop_by` does; how the call ended, which is with an empty
+/// journal.
+pub fn stop_without_run<E: Sink>(alloc: Global, name: &[u8], err: &mut E, stop: Stop) -> Ended
+    ensures stopped { (why : Stop) × (result.status ≡ number_of_stop why) × ((why ≡ stop) ⊎ (why ≡ OutOfMemory))
+        × IsTold (E.taken err.old, E.taken err.new) (E.faults err.old, E.faults err.new) (name.now ++ stop_text why) }
+    ensures journal { result.journal ≡ [] }
+{
+    let why = stop_by(alloc, name, err, stop);
+    Ended {
+        status: why.number(),
+        journal: Journal::new(Vec::new(alloc)),
     }
 }

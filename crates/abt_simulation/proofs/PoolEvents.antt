@@ -14,7 +14,7 @@ use Rattle.abt_machine.specs.Workloads.{kind_of}
 use Rattle.abt_machine.specs.State.{State}
 use Rattle.abt_machine.specs.Lines.{Line, InPool, InTray, InHand, InNext, InFrames, ticket_in, standing}
 use Rattle.abt_machine.specs.Next.{RoundDue, PutDue}
-use Rattle.abt_machine.specs.Fronts.{front_by, owns}
+use Rattle.abt_machine.specs.Fronts.{at_end, owns, side_by, side_of}
 use Rattle.abt_machine.specs.Frames.{round_taken, round_missed}
 use Rattle.abt_machine.specs.Rounds.{IsNextPool}
 use Rattle.abt_machine.specs.Changes.{Change}
@@ -24,7 +24,7 @@ use Rattle.abt_machine.specs.Values.{Owned, owned_at, owned_in, part_of, Object,
 use Rattle.abt_machine.specs.Acts as act
 use Rattle.abt_machine.specs.Pools.{with_end}
 use Rattle.abt_machine.specs.Gives.{SiteGives}
-use Rattle.abt_machine.specs.Turns.{side_by, side_of, due_of}
+use Rattle.abt_machine.specs.Turns.{due_of}
 use Rattle.abt_laws.proofs.Maps.{put_at-same}
 use Rattle.abt_laws.proofs.Places.{same-self}
 use Rattle.abt_laws.proofs.Arrivals.{IsEmpty, IsBelow-empty}
@@ -43,13 +43,13 @@ use Rattle.abt_simulation.proofs.Simulated.{Simulated}
 
 -- unit o is the one that is taken, and the others are left
 pub record Fronted (S : State) (k : Kind) (own : Bool) (us : List ℕ) (o : Owned) (os : List Owned) : Type 0 where
-  pub is : front_by k own us ≡ Some o.number
+  pub is : at_end (side_by k own) us ≡ Some o.number
   pub owns : owned_at S o.number ≡ o
   pub others : (pl : Place) → map (owned_at S) (all_but o.number pl us) ≡ os
 
 module _ (S : State) (us : List ℕ) (o : Owned) (os : List Owned) (distinct : IsDistinct us) where
   -- a take of the first
-  from-front : (k : Kind) (own : Bool) → ((vs : List ℕ) → front_by k own vs ≡ first vs) → map (owned_at S) us ≡ o ∷ os → Fronted S k own us o os
+  from-front : (k : Kind) (own : Bool) → ((vs : List ℕ) → at_end (side_by k own) vs ≡ first vs) → map (owned_at S) us ≡ o ∷ os → Fronted S k own us o os
   from-front k own is_first e =
       let f : AtFront S us o os = at-front S us o os e in
       record {
@@ -75,7 +75,7 @@ module _ (S : State) (us : List ℕ) (o : Owned) (os : List Owned) (distinct : I
   fronted kind.Deque true e = from-back e
 
 -- there is none in an empty pool
-no-front : (k : Kind) (own : Bool) (us : List ℕ) → us ≡ [] → front_by k own us ≡ None
+no-front : (k : Kind) (own : Bool) (us : List ℕ) → us ≡ [] → at_end (side_by k own) us ≡ None
 no-front kind.Fifo own us e = ap first e
 no-front kind.Deque false us e = ap first e
 no-front kind.Deque true us e = ap last e

@@ -16,7 +16,8 @@ use Rattle.abt_machine.specs.Next.{Due, LeaveDue, LookDue, PutDue, RoundDue, Ste
 use Rattle.abt_machine.specs.Numbers.{unit_no}
 use Rattle.abt_machine.specs.Rounds.{IsNextPool}
 use Rattle.abt_machine.specs.State.{Frame, Stream}
-use Rattle.abt_machine.specs.Turns.{due_of, number_and_position, side_of}
+use Rattle.abt_machine.specs.Fronts.{side_of}
+use Rattle.abt_machine.specs.Turns.{due_of, number_and_position}
 use Rattle.abt_machine.specs.Values.{Held, Owned}
 use Rattle.abt_machine.specs.Workloads.{pools_of}
 use Rattle.abt_order.specs.Schedulers.{pool_numbers}

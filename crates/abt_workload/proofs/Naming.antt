@@ -11,7 +11,8 @@ use Rattle.abt_machine.specs.declared.operations.Op.{Op}
 use Rattle.abt_machine.specs.declared.operations.Op.TheVariants as op
 use Rattle.abt_machine.specs.declared.workload.Parts.{Parts}
 use Rattle.abt_machine.specs.declared.workload.UnitPart.{UnitPart}
-use Rattle.abt_machine.specs.Canonical.{bit, op_numbers}
+use Rattle.abt_machine.specs.Canonical.{op_numbers}
+use Rattle.abt_machine.specs.Numbers.{truth}
 use Rattle.abt_machine.specs.Declaring.{Above, at, op_later, op_with}
 use Rattle.abt_machine.specs.Faults.{is_there, is_within, valued, values}
 use Rattle.abt_machine.specs.Forms.{Slot, Numeral, fits, numerals, op_slots}
@@ -71,7 +72,7 @@ module _ {a : Above} {words : List Text} (o : Op) (s : IsSoundOp a o words) wher
   all-named (k ∷ l ∷ ks) e = (op-named 0 k (ap (λ (ns : List Number). slice_get ns 0) e), op-named 1 l (ap (λ (ns : List Number). slice_get ns 1) e))
 
 -- the number that says whether something holds is within its bounds
-few-bits : (b : Bool) → (0 ≤ bit b) × (bit b ≤ 1)
+few-bits : (b : Bool) → (0 ≤ truth b) × (truth b ≤ 1)
 few-bits true = (omega arith, omega arith)
 few-bits false = (omega arith, omega arith)
 

@@ -32,12 +32,11 @@ use Rattle.abt_machine.specs.Forms.{Slot, Fixed, Numeral, PoolList, access_slots
 use Rattle.abt_machine.specs.Limits.{key_limit, object_limit, sched_limit, text_limit, word_limit}
 use Rattle.abt_machine.specs.Operations.{IsDeclared}
 use Rattle.abt_machine.specs.Valid.{IsAccess, IsBody, IsRule, IsSched, IsThing, IsUnit, IsValid}
-use Rattle.abt_machine.specs.Weights.{size, weight}
 use Rattle.abt_machine.specs.Words.{Text, numbered}
 use Rattle.abt_machine.specs.Workloads.{all_ops, ops_of}
 use Rattle.abt_machine.proofs.Checked.{mains-places}
 use Rattle.abt_machine.proofs.Decimals.{few-digits}
-use Rattle.abt_machine.proofs.Weighing.{has_words, size-append, size-line, size-nil, some-op}
+use Rattle.abt_machine.proofs.Weighing.{has_words, size, size-append, size-line, size-nil, some-op, weight}
 use Rattle.abt_workload.proofs.Filled.{given, has_choice}
 use Rattle.abt_workload.proofs.Fitting.{AreFit, all-fit}
 use Rattle.abt_workload.proofs.Growing.{ends_list}

@@ -14,7 +14,7 @@ use Rattle.abt_machine.specs.Numbers.{object_no}
 use Rattle.abt_machine.specs.Workloads.{body_at, op_at, ops_of, start_from}
 use Rattle.abt_bounds.specs.Laws.{ops_in}
 use Rattle.abt_flow.specs.Effects.{Memory, added, effect, fresh, with_acc, with_number}
-use Rattle.abt_flow.specs.Flow.{AtPoint, Executes, IsFlow, IsRow, Leads, Made, PutsOut, SetsTo, Starts}
+use Rattle.abt_flow.specs.Flow.{AtPoint, Executes, IsFlow, IsRow, Becomes, Made, PutsOut, SetsTo, Starts}
 use Rattle.abt_generate.proofs.Lists.{none-some, some-same}
 use Rattle.flow_caller.specs.Meshes.{AreNumbers, IsNumbering, last_number, mesh, node_ops, node_unit, number_rows, numbers_below}
 use Rattle.flow_caller.specs.declared.nodes.Node.{Node}
@@ -34,13 +34,13 @@ take-next (y ∷ xs) (suc k) x is = ap (λ zs. y ∷ zs) (take-next xs k x is)
 module _ (Found : ℕ → ℕ → Type 0) where
   abbrev Passes : List Op → Memory → Memory → Type 0
   Passes [] old new = new ≡ old
-  Passes (o ∷ os) old new = (mid : Memory) × Leads Found (effect o) old mid × Passes os mid new
+  Passes (o ∷ os) old new = (mid : Memory) × Becomes Found (effect o) old mid × Passes os mid new
 
-  passes-push : (os : List Op) (o : Op) (old mid new : Memory) → Passes os old mid → Leads Found (effect o) mid new → Passes (os ++ o ∷ []) old new
-  passes-push [] o old mid new is leads = (new, subst (λ m. Leads Found (effect o) m new) is leads, refl)
+  passes-push : (os : List Op) (o : Op) (old mid new : Memory) → Passes os old mid → Becomes Found (effect o) mid new → Passes (os ++ o ∷ []) old new
+  passes-push [] o old mid new is leads = (new, subst (λ m. Becomes Found (effect o) m new) is leads, refl)
   passes-push (p ∷ os) o old mid new is leads = (is.0, is.1, passes-push os o is.0 mid new is.2 leads)
 
-  does-some : (o : Option Op) (old new : Memory) → Executes Found o old new → (p : Op) × (o ≡ Some p) × Leads Found (effect p) old new
+  does-some : (o : Option Op) (old new : Memory) → Executes Found o old new → (p : Op) × (o ≡ Some p) × Becomes Found (effect p) old new
   does-some None old new is = absurd is
   does-some (Some p) old new is = (p, refl, is)
 

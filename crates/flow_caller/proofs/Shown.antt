@@ -87,7 +87,7 @@ module _ (nodes : List Node) (W : Parts) (is : W ≡ mesh nodes) (Z : List Order
     shows = subst (λ e. AnswersOutcome e (Some x) P) (sym finished) holds;
   }
 
--- AnswersRun.
+-- Answers.
 
 -- these are the numbers of the nodes
 abbrev pub AreOf : List Node → Vec ℕ Global → Type 0

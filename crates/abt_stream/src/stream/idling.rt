@@ -3,7 +3,7 @@
 ghost use Rattle.std.specs.Prelude.{◌≡◌, ◌<◌, ◌≤◌, ◌+◌, ◌-◌, ◌^◌, [], slice_get, false, ◌⊎◌, IsTrue, IsFalse, true, None, Some, length, ◌≢◌, List};
 ghost use Rattle.abt_machine.specs.declared.events.What.TheVariants as what;
 ghost use Rattle.abt_machine.specs.Numbers.{unit_no};
-ghost use Rattle.abt_machine.specs.Turns.{side_of};
+ghost use Rattle.abt_machine.specs.Fronts.{side_of};
 ghost use Rattle.abt_commons.specs.Acts.{IsFreeAnswer, answer_of};
 ghost use Rattle.abt_stream.specs.Streams.{FitsShapes, FitsStream, IsIdle};
 ghost use Rattle.abt_stream.specs.Heeding.{Heeds};

@@ -8,9 +8,10 @@ use Rattle.abt_run.proofs.program.abtrun.Goals as goal
 pub returns-in-Ok : goal.returns-in-Ok
 returns-in-Ok g c =
     answered _ _ (as-many _ c.args.orders.now 2 c.requires.orders)
-    (concluded (program _) _ c.in-Ok.done.conclusion c.in-Ok.done.text.items _ _ c.in-Ok.ensures.done c.number.ensures (rw c.deref.ensures.value at c.write_out-status.ensures))
+    (concluded (program _) _ c.in-Ok.done.conclusion c.in-Ok.done.text.items _ _ c.in-Ok.ensures.done c.number.ensures (rw c.deref.ensures.value at c.conclude_run.ensures.status))
 
 pub returns-in-Err : goal.returns-in-Err
 returns-in-Err g c =
+    let (why, number, same, told) = c.stop_without_run.ensures.stopped in
     answered _ _ (as-many _ c.args.orders.now 2 c.requires.orders)
-    (stopped (program _) _ c.in-Err.stop c.stop_by-stop.result _ (record { why = c.in-Err.ensures.stop; journal = search rules }) (record { why = tt; journal = search rules }) c.number-in-Err.ensures (search rules) c.stop_by-stop.ensures.told c.stop_by-stop.ensures.same)
+    (stopped (program _) _ c.in-Err.stop why _ (record { why = c.in-Err.ensures.stop; journal = c.stop_without_run.ensures.journal }) (record { why = tt; journal = c.stop_without_run.ensures.journal }) number (search rules) told same)

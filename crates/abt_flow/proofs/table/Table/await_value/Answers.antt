@@ -4,7 +4,7 @@ use Rattle.abt_machine.specs.declared.operations.Op.TheVariants as op
 use Rattle.abt_machine.specs.Limits.{unit_operation_limit}
 use Rattle.abt_flow.specs.declared.memory.Progress.{Progress}
 use Rattle.abt_flow.specs.Tables.{Halts, memory_in}
-use Rattle.abt_flow.proofs.Running.{goes-same, one-more, others-same, position-few, read-at, unit-there, wait-there}
+use Rattle.abt_flow.proofs.Running.{goes-same, one-more, others-same, position-few, read-at, unit-read, unit-there, wait-there}
 use Rattle.abt_flow.proofs.table.Table.await_value.Goals as goal
 
 pub index-requires : goal.index-requires
@@ -17,8 +17,7 @@ index_mut-requires c = let l : c.args.u.0 < length c.args.self.now.units.items =
 
 pub receive-requires : goal.receive-requires
 receive-requires c =
-    let l : c.args.u.0 < length c.args.self.now.units.items = unit-there c.args.w.now c.args.u.0 c.args.self.now c.known.ensures c.requires.reached c.requires.runs in
-    let at : slice_get c.args.self.now.units.items c.args.u.0 ≡ Some c.index_mut.result.now = read-at c.args.self.now.units.items c.args.u.0 c.index_mut.result.now l c.index_mut.ensures.value in
+    let at = unit-read c.args.w.now c.args.u.0 c.args.self.now c.index_mut.result.now c.known.ensures c.requires.reached c.requires.runs c.index_mut.ensures.value in
     let few : c.index_mut.result.now.position ≤ unit_operation_limit = position-few c.args.w.now c.args.u.0 c.args.self.now c.index_mut.result.now c.known.ensures c.requires.reached c.requires.runs at in omega arith
 
 pub returns-in-None-clause-more : goal.returns-in-None-clause-more
@@ -33,8 +32,7 @@ returns-in-Some-clause-runs c =
     let l : c.args.x.0 < length c.args.self.now.values.items =
     (let m : c.args.x.0 < length c.args.w.now.objects = wait-there c.args.w.now c.args.u.0 c.args.self.now c.args.x c.known.ensures c.requires.reached c.requires.runs c.requires.here in let e = c.requires.runs.follows.values_all in omega arith) in
     let value : slice_get c.args.self.now.values.items c.args.x.0 ≡ Some (Some c.in-Some.value) = read-at c.args.self.now.values.items c.args.x.0 c.index.result.now l c.index.ensures ∙ ap (λ v. Some v) c.in-Some.is in
-    let below : c.args.u.0 < length c.args.self.now.units.items = unit-there c.args.w.now c.args.u.0 c.args.self.now c.known.ensures c.requires.reached c.requires.runs in
-    let at : slice_get c.args.self.now.units.items c.args.u.0 ≡ Some c.index_mut.result.now = read-at c.args.self.now.units.items c.args.u.0 c.index_mut.result.now below c.index_mut.ensures.value in
+    let at = unit-read c.args.w.now c.args.u.0 c.args.self.now c.index_mut.result.now c.known.ensures c.requires.reached c.requires.runs c.index_mut.ensures.value in
     let pos : c.receive.new.self.position ≡ c.index_mut.result.now.position + 1 = ap (λ (p : Progress). p.position) c.receive.ensures in
     record {
       follows = goes-same c.args.w.now c.args.u.0 c.requires.reached c.args.self.now.units.items c.args.self.now.values.items c.requires.runs.follows c.index_mut.result.now c.receive.new.self at (op.EvWait c.args.x) (c.requires.here c.index_mut.result.now at) pos
@@ -47,7 +45,6 @@ returns-in-Some-clause-runs c =
 
 pub returns-in-Some-clause-more : goal.returns-in-Some-clause-more
 returns-in-Some-clause-more c =
-    let below : c.args.u.0 < length c.args.self.now.units.items = unit-there c.args.w.now c.args.u.0 c.args.self.now c.known.ensures c.requires.reached c.requires.runs in
-    let at : slice_get c.args.self.now.units.items c.args.u.0 ≡ Some c.index_mut.result.now = read-at c.args.self.now.units.items c.args.u.0 c.index_mut.result.now below c.index_mut.ensures.value in
+    let at = unit-read c.args.w.now c.args.u.0 c.args.self.now c.index_mut.result.now c.known.ensures c.requires.reached c.requires.runs c.index_mut.ensures.value in
     let pos : c.receive.new.self.position ≡ c.index_mut.result.now.position + 1 = ap (λ (p : Progress). p.position) c.receive.ensures in
     one-more c.args.w.now c.args.u.0 c.requires.reached c.args.self.now.units.items c.args.self.now.values.items c.requires.runs.follows c.index_mut.result.now c.receive.new.self at (op.EvWait c.args.x) (c.requires.here c.index_mut.result.now at) pos

@@ -1,15 +1,14 @@
 use Rattle.std.proofs.Common.{◌≡◌, ◌+◌, ◌<◌, ◌≤◌, length, Some, arith, set, suc}
 use Rattle.std.specs.Vec.{with_item}
-use Rattle.std.specs.Prelude.{slice_get}
 use Rattle.abt_machine.proofs.Declared.{op-declared}
 use Rattle.abt_machine.specs.Limits.{unit_operation_limit}
 use Rattle.abt_flow.specs.Effects.{effect}
-use Rattle.abt_flow.specs.Flow.{Leads}
+use Rattle.abt_flow.specs.Flow.{Becomes}
 use Rattle.abt_flow.specs.Tables.{Nothing, UnitRuns, executed, memory_in}
 use Rattle.abt_flow.proofs.Keys.{computed-other, has-key, other-sets, point-keys}
 use Rattle.abt_flow.proofs.Plain.{ok-both, ok-then}
 use Rattle.abt_flow.proofs.Points.{HasValue, leads-then}
-use Rattle.abt_flow.proofs.Running.{goes-same, one-more, others-same, position-few, read-at, unit-there}
+use Rattle.abt_flow.proofs.Running.{goes-same, one-more, others-same, position-few, unit-read, unit-there}
 use Rattle.abt_flow.proofs.table.Table.compute.Goals as goal
 
 pub index_mut-requires : goal.index_mut-requires
@@ -19,28 +18,24 @@ index_mut-requires c =
 
 pub compute-requires-clause-room : goal.compute-requires-clause-room
 compute-requires-clause-room c =
-    let below : c.args.u.0 < length c.args.self.now.units.items = unit-there c.args.w.now c.args.u.0 c.args.self.now c.known.ensures c.requires.reached c.requires.runs in
-    let at : slice_get c.args.self.now.units.items c.args.u.0 ≡ Some c.index_mut.result.now = read-at c.args.self.now.units.items c.args.u.0 c.index_mut.result.now below c.index_mut.ensures.value in
+    let at = unit-read c.args.w.now c.args.u.0 c.args.self.now c.index_mut.result.now c.known.ensures c.requires.reached c.requires.runs c.index_mut.ensures.value in
     let few : c.index_mut.result.now.position ≤ unit_operation_limit = position-few c.args.w.now c.args.u.0 c.args.self.now c.index_mut.result.now c.known.ensures c.requires.reached c.requires.runs at in omega arith
 
 pub compute-requires-clause-computed : goal.compute-requires-clause-computed
 compute-requires-clause-computed c =
-    let below : c.args.u.0 < length c.args.self.now.units.items = unit-there c.args.w.now c.args.u.0 c.args.self.now c.known.ensures c.requires.reached c.requires.runs in
-    let at : slice_get c.args.self.now.units.items c.args.u.0 ≡ Some c.index_mut.result.now = read-at c.args.self.now.units.items c.args.u.0 c.index_mut.result.now below c.index_mut.ensures.value in
+    let at = unit-read c.args.w.now c.args.u.0 c.args.self.now c.index_mut.result.now c.known.ensures c.requires.reached c.requires.runs c.index_mut.ensures.value in
     computed-other c.args.op (c.requires.confluent.ops c.args.u.0 c.index_mut.result.now.position c.args.op (c.requires.here c.index_mut.result.now at)) c.requires.other
 
 pub compute-requires-clause-key : goal.compute-requires-clause-key
 compute-requires-clause-key c =
-    let below : c.args.u.0 < length c.args.self.now.units.items = unit-there c.args.w.now c.args.u.0 c.args.self.now c.known.ensures c.requires.reached c.requires.runs in
-    let at : slice_get c.args.self.now.units.items c.args.u.0 ≡ Some c.index_mut.result.now = read-at c.args.self.now.units.items c.args.u.0 c.index_mut.result.now below c.index_mut.ensures.value in
+    let at = unit-read c.args.w.now c.args.u.0 c.args.self.now c.index_mut.result.now c.known.ensures c.requires.reached c.requires.runs c.index_mut.ensures.value in
     has-key c.args.w.now c.args.op (length c.index_mut.result.now.keys.items) (op-declared c.args.w.now c.args.u.0 c.index_mut.result.now.position c.args.op c.known.ensures (c.requires.here c.index_mut.result.now at))
     (point-keys c.args.w.now (suc (executed c.args.self.now.units.items)) c.args.u.0 c.index_mut.result.now.position (memory_in c.index_mut.result.now) (c.requires.runs.follows.made c.args.u.0 c.index_mut.result.now at))
 
 pub returns-clause-runs : goal.returns-clause-runs
 returns-clause-runs c =
-    let below : c.args.u.0 < length c.args.self.now.units.items = unit-there c.args.w.now c.args.u.0 c.args.self.now c.known.ensures c.requires.reached c.requires.runs in
-    let at : slice_get c.args.self.now.units.items c.args.u.0 ≡ Some c.index_mut.result.now = read-at c.args.self.now.units.items c.args.u.0 c.index_mut.result.now below c.index_mut.ensures.value in
-    ok-both (λ _. Leads Nothing (effect c.args.op) (memory_in c.index_mut.result.now) (memory_in c.compute.new.self)) (λ _. c.compute.new.self.position ≡ c.index_mut.result.now.position + 1)
+    let at = unit-read c.args.w.now c.args.u.0 c.args.self.now c.index_mut.result.now c.known.ensures c.requires.reached c.requires.runs c.index_mut.ensures.value in
+    ok-both (λ _. Becomes Nothing (effect c.args.op) (memory_in c.index_mut.result.now) (memory_in c.compute.new.self)) (λ _. c.compute.new.self.position ≡ c.index_mut.result.now.position + 1)
     (λ _. UnitRuns c.args.w.now c.args.u.0 (record c.args.self.now { units = with_item c.args.self.now.units c.args.u.0 c.compute.new.self })) c.compute.result
     (λ _ leads pos. record {
       follows = goes-same c.args.w.now c.args.u.0 c.requires.reached c.args.self.now.units.items c.args.self.now.values.items c.requires.runs.follows c.index_mut.result.now c.compute.new.self at c.args.op (c.requires.here c.index_mut.result.now at) pos
@@ -53,7 +48,6 @@ returns-clause-runs c =
 
 pub returns-clause-more : goal.returns-clause-more
 returns-clause-more c =
-    let below : c.args.u.0 < length c.args.self.now.units.items = unit-there c.args.w.now c.args.u.0 c.args.self.now c.known.ensures c.requires.reached c.requires.runs in
-    let at : slice_get c.args.self.now.units.items c.args.u.0 ≡ Some c.index_mut.result.now = read-at c.args.self.now.units.items c.args.u.0 c.index_mut.result.now below c.index_mut.ensures.value in
+    let at = unit-read c.args.w.now c.args.u.0 c.args.self.now c.index_mut.result.now c.known.ensures c.requires.reached c.requires.runs c.index_mut.ensures.value in
     ok-then (λ _. c.compute.new.self.position ≡ c.index_mut.result.now.position + 1) (λ _. executed (set c.args.self.now.units.items c.args.u.0 c.compute.new.self) ≡ executed c.args.self.now.units.items + 1) c.compute.result
     (λ _ pos. one-more c.args.w.now c.args.u.0 c.requires.reached c.args.self.now.units.items c.args.self.now.values.items c.requires.runs.follows c.index_mut.result.now c.compute.new.self at c.args.op (c.requires.here c.index_mut.result.now at) pos) c.compute.ensures.position

@@ -1,6 +1,6 @@
 use Rattle.std.proofs.Common.{◌<◌, length, arith}
 use Rattle.abt_flow.proofs.Finds.{reached-declared}
-use Rattle.abt_flow.proofs.Running.{next-is, read-at, unit-there}
+use Rattle.abt_flow.proofs.Running.{next-is, unit-read, unit-there}
 use Rattle.abt_flow.proofs.table.Table.next.Goals as goal
 
 pub index-requires : goal.index-requires
@@ -11,5 +11,4 @@ op-requires c = reached-declared c.args.w.now c.args.u.0 c.known.ensures c.requi
 
 pub returns : goal.returns
 returns c =
-    let below : c.args.u.0 < length c.args.self.now.units.items = unit-there c.args.w.now c.args.u.0 c.args.self.now c.known.ensures c.requires.reached c.requires.runs in
-    next-is c.args.w.now c.args.self.now.units.items c.args.u.0 c.index.result.now (read-at c.args.self.now.units.items c.args.u.0 c.index.result.now below c.index.ensures) c.op.result c.op.ensures
+    next-is c.args.w.now c.args.self.now.units.items c.args.u.0 c.index.result.now (unit-read c.args.w.now c.args.u.0 c.args.self.now c.index.result.now c.known.ensures c.requires.reached c.requires.runs c.index.ensures) c.op.result c.op.ensures

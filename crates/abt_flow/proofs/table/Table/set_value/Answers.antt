@@ -8,7 +8,7 @@ use Rattle.abt_machine.specs.Limits.{unit_operation_limit}
 use Rattle.abt_laws.proofs.Options.{some-injective}
 use Rattle.abt_flow.specs.declared.memory.Progress.{Progress}
 use Rattle.abt_flow.specs.Tables.{FollowsFlow, Rests, Waits, memory_in}
-use Rattle.abt_flow.proofs.Running.{one-more, position-few, read-at, set-there, unit-there}
+use Rattle.abt_flow.proofs.Running.{one-more, position-few, read-at, set-there, unit-read, unit-there}
 use Rattle.abt_flow.proofs.Woken.{set-follows, set-others, set-ready, set-waits, set-work}
 use Rattle.abt_flow.proofs.table.Table.set_value.Goals as goal
 
@@ -39,20 +39,18 @@ index_mut-requires-3 c =
 
 pub pass-requires : goal.pass-requires
 pass-requires c =
-    let below : c.args.u.0 < length c.args.self.now.units.items = unit-there c.args.w.now c.args.u.0 c.args.self.now c.known.ensures c.requires.reached c.requires.runs in
-    let at : slice_get c.args.self.now.units.items c.args.u.0 ≡ Some c.index_mut-3.result.now = read-at c.args.self.now.units.items c.args.u.0 c.index_mut-3.result.now below c.index_mut-3.ensures.value in
+    let at = unit-read c.args.w.now c.args.u.0 c.args.self.now c.index_mut-3.result.now c.known.ensures c.requires.reached c.requires.runs c.index_mut-3.ensures.value in
     let few : c.index_mut-3.result.now.position ≤ unit_operation_limit = position-few c.args.w.now c.args.u.0 c.args.self.now c.index_mut-3.result.now c.known.ensures c.requires.reached c.requires.runs at in omega arith
 
 pub returns : goal.returns
 returns c =
-    let below : c.args.u.0 < length c.args.self.now.units.items = unit-there c.args.w.now c.args.u.0 c.args.self.now c.known.ensures c.requires.reached c.requires.runs in
-    let at : slice_get c.args.self.now.units.items c.args.u.0 ≡ Some c.index_mut-3.result.now = read-at c.args.self.now.units.items c.args.u.0 c.index_mut-3.result.now below c.index_mut-3.ensures.value in
+    let at = unit-read c.args.w.now c.args.u.0 c.args.self.now c.index_mut-3.result.now c.known.ensures c.requires.reached c.requires.runs c.index_mut-3.ensures.value in
     let there : c.args.x.0 < length c.args.w.now.objects = set-there c.args.w.now c.args.u.0 c.args.self.now c.args.x c.known.ensures c.requires.reached c.requires.runs c.requires.here in
     let listed : c.args.x.0 < length c.args.self.now.waiting.items = (let e = c.requires.runs.waits.all in omega arith) in
     let waited : slice_get c.args.self.now.waiting.items c.args.x.0 ≡ Some c.index.result.now = read-at c.args.self.now.waiting.items c.args.x.0 c.index.result.now listed c.index.ensures in
     let pos : c.pass.new.self.position ≡ c.index_mut-3.result.now.position + 1 = ap (λ (p : Progress). p.position) c.pass.ensures in
     let same : memory_in c.pass.new.self ≡ memory_in c.index_mut-3.result.now = ap memory_in c.pass.ensures in
-    let acc : c.index-2.result.now.acc ≡ c.index_mut-3.result.now.acc = ap (λ (p : Progress). p.acc) (some-injective (sym (read-at c.args.self.now.units.items c.args.u.0 c.index-2.result.now below c.index-2.ensures) ∙ at)) in
+    let acc : c.index-2.result.now.acc ≡ c.index_mut-3.result.now.acc = ap (λ (p : Progress). p.acc) (some-injective (sym (unit-read c.args.w.now c.args.u.0 c.args.self.now c.index-2.result.now c.known.ensures c.requires.reached c.requires.runs c.index-2.ensures) ∙ at)) in
     let ready : c.extend_from_slice.new.self.items ≡ c.args.self.now.ready.items ++ c.index.result.now.items = c.in_ok-extend_from_slice.ensures.items ∙ ap (λ us. c.args.self.now.ready.items ++ us) c.deref.ensures.value in
     let values : set c.args.self.now.values.items c.args.x.0 (Some c.index-2.result.now.acc) ≡ set c.args.self.now.values.items c.args.x.0 (Some c.index_mut-3.result.now.acc) = ap (λ a. set c.args.self.now.values.items c.args.x.0 (Some a)) acc in
     record {

@@ -1,7 +1,7 @@
 use Rattle.std.proofs.Common.{rules, ◌≡◌, ◌≤◌, ◌-◌, List, [], length, map, reverse, take, refl, subst}
 use Rattle.abt_machine.specs.declared.operations.OrderShape.{OrderShape}
 use Rattle.abt_machine.specs.declared.operations.Side.{Side}
-use Rattle.abt_machine.specs.Turns.{side_of}
+use Rattle.abt_machine.specs.Fronts.{side_of}
 use Rattle.abt_stream.specs.Events.{VisitBy}
 use Rattle.abt_stream.specs.Streams.{resting, seeing}
 use Rattle.abt_stream.specs.Heeding.{Heeds}
