@@ -4,7 +4,7 @@ use Rattle.std.specs.Prelude.{fold}
 use Rattle.abt_machine.specs.declared.events.Cause.TheVariants as cause
 use Rattle.abt_machine.specs.declared.events.Shown.{Shown}
 use Rattle.abt_machine.specs.declared.events.Shown.TheVariants as shows
-use Rattle.abt_machine.specs.Texts.{ShownUnit, Tally, counted, empty_tally}
+use Rattle.abt_machine.specs.Texts.{ShownUnit, Tally, counted, empty_tally, tally_of}
 use Rattle.abt_bounds.specs.Laws.{TalliesAddUp, total}
 
 -- a unit is counted once
@@ -25,4 +25,4 @@ counted-all [] t = omega arith
 counted-all (unit ∷ units) t = let rest = counted-all units (counted t unit.shown) in let one = one-more t unit.shown in omega arith
 
 pub tallies-add-up : TalliesAddUp
-tallies-add-up units = counted-all units empty_tally
+tallies-add-up units = let all : total (tally_of units) ≡ 0 + length units = counted-all units empty_tally in omega arith

@@ -5,7 +5,7 @@ ghost use Rattle.std.specs.List.{find};
 ghost use Rattle.abt_machine.specs.Acts.{Await, Fill, Number, Reset, Rested, Test};
 ghost use Rattle.abt_machine.specs.Eventuals.{EventualGives};
 ghost use Rattle.abt_machine.specs.Pools.{is_unit};
-ghost use Rattle.abt_machine.specs.Steps.{truth};
+ghost use Rattle.abt_machine.specs.Numbers.{truth};
 ghost use Rattle.abt_unit.specs.Units.{IsFree};
 ghost use Rattle.abt_chain.specs.Results.{coded_or, given_or, unit_found, units_woken};
 

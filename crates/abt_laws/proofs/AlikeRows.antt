@@ -13,7 +13,7 @@ use Rattle.abt_machine.specs.Monitors.{number_of}
 use Rattle.abt_machine.specs.Queues.{first, first_alone}
 use Rattle.abt_machine.specs.Carrying.{advanced, newborn, with_acc}
 use Rattle.abt_machine.specs.RwLocks.{passed_on, woken}
-use Rattle.abt_machine.specs.State.{State, Carried, Desk, Mutex, Future, RwLock}
+use Rattle.abt_machine.specs.State.{State, Carried, Mutex, Future, RwLock}
 use Rattle.abt_machine.specs.Lines.{Waiting, hand, standing, tray_end}
 use Rattle.abt_machine.specs.Changes.{tray_moves, waiting_moves, goes_with, goes_on}
 use Rattle.abt_machine.specs.Steps.{set_owner, wakes, begins, joins, waits, locks, hands_over, releases, queues, passes, receives, gives_all, awaits, fills, arrives, gives_up}

@@ -13,7 +13,7 @@ use Rattle.abt_machine.specs.Sites.{object_site}
 use Rattle.abt_machine.specs.Monitors.{number_of}
 use Rattle.abt_machine.specs.Queues.{first_alone}
 use Rattle.abt_machine.specs.RwLocks.{left_by, passed_on, woken}
-use Rattle.abt_machine.specs.State.{State, Carried, Desk, Future, RwLock}
+use Rattle.abt_machine.specs.State.{State, Carried, Future, RwLock}
 use Rattle.abt_machine.specs.Lines.{Waiting, hand, standing, tray_end}
 use Rattle.abt_machine.specs.Changes.{Change, no_change, tray_moves, to_tray, waiting_moves, goes_with, goes_on}
 use Rattle.abt_machine.specs.Steps.{wakes, begins, joins, waits, locks, hands_over, releases, queues, passes, receives, gives_all, awaits, fills, arrives, gives_up}

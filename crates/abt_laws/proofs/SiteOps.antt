@@ -22,7 +22,7 @@ use Rattle.abt_machine.specs.Plans.{reached_plan}
 use Rattle.abt_machine.specs.Queues.{first_alone}
 use Rattle.abt_machine.specs.Holders.{is_free, read_by, written_by}
 use Rattle.abt_machine.specs.RwLocks.{left_by, may_read, wanting}
-use Rattle.abt_machine.specs.State.{State, Stream, Carried, Desk, Future, RwLock}
+use Rattle.abt_machine.specs.State.{State, Stream, Carried, Future, RwLock}
 use Rattle.abt_machine.specs.Values.{RwLockValue, owned_at, rwlock_value}
 use Rattle.abt_machine.specs.Lines.{Waiting, hand, standing}
 use Rattle.abt_machine.specs.Codes.{code_of, reached_code}

@@ -11,7 +11,8 @@ use Rattle.abt_machine.specs.Operations.{IsEventual}
 use Rattle.abt_machine.specs.State.{State}
 use Rattle.abt_machine.specs.Carrying.{advanced}
 use Rattle.abt_machine.specs.Changes.{Change, no_change}
-use Rattle.abt_machine.specs.Steps.{waits, awaits, truth}
+use Rattle.abt_machine.specs.Numbers.{truth}
+use Rattle.abt_machine.specs.Steps.{waits, awaits}
 use Rattle.abt_machine.specs.Values.{owned_at, EventualIs, EventualValue, eventual_value, part_of}
 use Rattle.abt_machine.specs.Acts.{moved, received}
 use Rattle.abt_machine.specs.Acts as act

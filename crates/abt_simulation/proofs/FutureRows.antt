@@ -14,7 +14,8 @@ use Rattle.abt_machine.specs.State.{State, Future}
 use Rattle.abt_machine.specs.Carrying.{advanced}
 use Rattle.abt_machine.specs.Codes.{is_full}
 use Rattle.abt_machine.specs.Changes.{Change, no_change, goes_on}
-use Rattle.abt_machine.specs.Steps.{waits, awaits, truth, filled_by, gives_all}
+use Rattle.abt_machine.specs.Numbers.{truth}
+use Rattle.abt_machine.specs.Steps.{waits, awaits, filled_by, gives_all}
 use Rattle.abt_machine.specs.Values.{Owned, owned_at, FutureIs, FutureValue, future_value, waiters_at, part_of}
 use Rattle.abt_machine.specs.Acts.{moved, received}
 use Rattle.abt_machine.specs.Acts as act
