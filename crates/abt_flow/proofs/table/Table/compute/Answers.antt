@@ -1,4 +1,4 @@
-use Rattle.std.proofs.Common.{◌≡◌, ◌+◌, ◌<◌, ◌≤◌, length, Some, arith, set, suc}
+use Rattle.std.proofs.Common.{◌≡◌, ◌+◌, ◌<◌, ◌≤◌, length, arith, set, suc}
 use Rattle.std.specs.Vec.{with_item}
 use Rattle.abt_machine.proofs.Declared.{op-declared}
 use Rattle.abt_machine.specs.Limits.{unit_operation_limit}
