@@ -1,6 +1,7 @@
-//! Rows on what is no life of a unit, on what are no stamps, and on streams that are not spent.
+//! Rows on what is no life of a unit, on what are no lives of a workload's units, on what are no stamps, and on streams that
+//! are not spent.
 
-ghost use Rattle.abt_rows.specs.Refused.{IsNoLife, IsNotLeast, IsNotSpent, IsNotStamped, asked_after_a_step, asked_inside, barred, ended_itself, exiting, falling, gap, going_on, late, left_itself, level, first_step_twice, scheduler, stepless, tasklet, thread, two_operations, two_steps};
+ghost use Rattle.abt_rows.specs.Refused.{AreNoLives, IsNoLife, IsNotLeast, IsNotSpent, IsNotStamped, asked_after_a_step, asked_inside, barred, barred_inside, done_after_a_step, ended_itself, exiting, exiting_last, falling, from_zero, gap, going_back, going_on, late, left_itself, level, level_at_a_pool, looked_at_unborn, first_step_twice, never_left, one_step, revived_alive, scheduler, stepless, tasklet, thread, three_units, two_operations, two_steps};
 
 /// A thread is not done without all its steps.
 pub fn thread_done_too_early()
@@ -15,6 +16,26 @@ pub fn tasklet_done_too_early()
 /// A scheduler unit is not done if it did not enter.
 pub fn scheduler_done_too_early()
     ensures { IsNoLife scheduler stepless }
+{}
+
+/// Nor if it did not leave.
+pub fn scheduler_done_inside()
+    ensures { IsNoLife scheduler never_left }
+{}
+
+/// A scheduler unit makes no step.
+pub fn scheduler_makes_a_step()
+    ensures { IsNoLife scheduler one_step }
+{}
+
+/// A thread makes no more steps than it has operations.
+pub fn thread_makes_too_many_steps()
+    ensures { IsNoLife thread two_operations }
+{}
+
+/// Nor does a tasklet.
+pub fn tasklet_makes_too_many_steps()
+    ensures { IsNoLife tasklet two_operations }
 {}
 
 /// No operation is made twice.
@@ -37,6 +58,11 @@ pub fn scheduler_asked_inside()
     ensures { IsNoLife scheduler asked_inside }
 {}
 
+/// Nor does it end for lack of access.
+pub fn scheduler_barred_inside()
+    ensures { IsNoLife scheduler barred_inside }
+{}
+
 /// A thread does not end itself without an `exit`.
 pub fn thread_exits_without_its_operation()
     ensures { IsNoLife thread ended_itself }
@@ -52,6 +78,11 @@ pub fn asked_after_the_exit()
     ensures { IsNoLife exiting asked_after_a_step }
 {}
 
+/// Nor is it done then, although it has made all its steps.
+pub fn done_after_the_exit()
+    ensures { IsNoLife exiting_last done_after_a_step }
+{}
+
 /// A tasklet does not end itself.
 pub fn tasklet_exits()
     ensures { IsNoLife tasklet ended_itself }
@@ -62,9 +93,29 @@ pub fn scheduler_exits()
     ensures { IsNoLife scheduler left_itself }
 {}
 
+/// No unit is revived before it has ended.
+pub fn revived_before_its_end()
+    ensures { AreNoLives three_units revived_alive }
+{}
+
+/// An unborn unit has no event.
+pub fn event_of_an_unborn_unit()
+    ensures { AreNoLives three_units looked_at_unborn }
+{}
+
+/// Stamps begin at 1.
+pub fn stamps_from_zero()
+    ensures { IsNotStamped from_zero }
+{}
+
 /// Stamps leave no gap.
 pub fn stamps_with_a_gap()
     ensures { IsNotStamped gap }
+{}
+
+/// Stamps do not fall, also between events that share nothing.
+pub fn stamps_that_fall()
+    ensures { IsNotStamped going_back }
 {}
 
 /// Events of equal stamp stand in order of stream.
@@ -75,6 +126,11 @@ pub fn stamps_out_of_order()
 /// Stamps rise along each stream.
 pub fn stamps_that_stay()
     ensures { IsNotStamped level }
+{}
+
+/// Stamps rise along each object, also if two streams touch it.
+pub fn stamps_that_stay_at_a_pool()
+    ensures { IsNotStamped level_at_a_pool }
 {}
 
 /// A stamp is the least that the rule allows.
