@@ -120,27 +120,31 @@ length-given_if false u n lock = length-set lock.counts u n
 pub length-given_up : (u : ℕ) (lock : RwLock) → length (given_up u lock).counts ≡ length lock.counts
 length-given_up u lock = length-given_if (writes u lock) u (count_of u lock - 1) lock
 
--- The number.
+-- The wishes and the number.
 
-number-served_by : (rs : List Owned) (old : RwLockValue) → (served_by rs old).lock.number ≡ old.lock.number
-number-served_by [] old = refl
-number-served_by (r ∷ rs) old = refl
+-- what of a lock does not say who holds it
+abbrev pub apart_from_holders : RwLock → List Wish × ℕ
+apart_from_holders lock = (lock.wishes, lock.number)
 
-number-passed_if : (b : Bool) (old : RwLockValue) → (if b then served old else old).lock.number ≡ old.lock.number
-number-passed_if true old = number-served_by (first_readers old.lock.wishes old.waiters) old
-number-passed_if false old = refl
+rest-served_by : (rs : List Owned) (old : RwLockValue) → apart_from_holders (served_by rs old).lock ≡ apart_from_holders old.lock
+rest-served_by [] old = refl
+rest-served_by (r ∷ rs) old = refl
 
--- a lock that is passed on keeps its number
-pub number-passed_on : (old : RwLockValue) → (passed_on old).lock.number ≡ old.lock.number
-number-passed_on old = number-passed_if (is_free old.lock) old
+rest-passed_if : (b : Bool) (old : RwLockValue) → apart_from_holders (if b then served old else old).lock ≡ apart_from_holders old.lock
+rest-passed_if true old = rest-served_by (first_readers old.lock.wishes old.waiters) old
+rest-passed_if false old = refl
 
-number-given_if : (b : Bool) (u n : ℕ) (lock : RwLock) → (if b then record lock { writer = None } else with_count u n lock).number ≡ lock.number
-number-given_if true u n lock = refl
-number-given_if false u n lock = refl
+-- a lock that is passed on keeps its wishes and its number
+pub rest-passed_on : (old : RwLockValue) → apart_from_holders (passed_on old).lock ≡ apart_from_holders old.lock
+rest-passed_on old = rest-passed_if (is_free old.lock) old
+
+rest-given_if : (b : Bool) (u n : ℕ) (lock : RwLock) → apart_from_holders (if b then record lock { writer = None } else with_count u n lock) ≡ apart_from_holders lock
+rest-given_if true u n lock = refl
+rest-given_if false u n lock = refl
 
 -- so does one that a unit gives up
-pub number-given_up : (u : ℕ) (lock : RwLock) → (given_up u lock).number ≡ lock.number
-number-given_up u lock = number-given_if (writes u lock) u (count_of u lock - 1) lock
+pub rest-given_up : (u : ℕ) (lock : RwLock) → apart_from_holders (given_up u lock) ≡ apart_from_holders lock
+rest-given_up u lock = rest-given_if (writes u lock) u (count_of u lock - 1) lock
 
 -- A unit reads or writes.
 

@@ -47,6 +47,7 @@ abbrev pub BarriersHold : Parts → State → Type 0
 BarriersHold W S = (x n : ℕ) → thing_at W x ≡ Some (thing.Barrier n) → length (standing W S (Waiting x)) < n
 
 pub record CarriesWell (W : Parts) (u : ℕ) (c : Carried) : Type 0 where
+  pub keys : length c.keys ≡ W.keys
   pub home : c.home < length W.pools
   pub position : c.position ≤ length (ops_of (body_at W u))
 
@@ -68,9 +69,10 @@ FutureHolds W S f x v = (v.filled ≤ size_of W x) × (((S.future x).filled < si
 
 -- Reader-writer locks.
 
--- lock x, which becomes this, has a count for each unit, and its number stays if it was read
+-- lock x, which becomes this, has a count and a wish for each unit, and its number stays if it was read
 pub record LocksWell (W : Parts) (S : State) (x : ℕ) (lock : RwLock) : Type 0 where
   pub counts : length lock.counts ≡ length W.units
+  pub wishes : length lock.wishes ≡ length W.units
   pub number : 0 < sum (S.rwlock x).counts → lock.number ≡ (S.rwlock x).number
 
 -- each lock is kept, with its waiters
@@ -202,7 +204,9 @@ module _ (W : Parts) (Z : List OrderShape) (S : State) (c : Change) (sound : Sou
     filled = λ x. put_all-kept (λ n (f : Future). f.filled ≤ size_of W n) S.future c.futures x (EachOf-then _ _ c.futures (λ m k. k.0) keeps.futures) (sound.filled x);
     waiting = keeps.barriers;
     counts = λ x. put_all-kept (λ n (k : RwLock). length k.counts ≡ length W.units) S.rwlock c.rwlocks x (EachOf-then _ _ c.rwlocks (λ m k. k.counts) keeps.rwlocks) (sound.counts x);
+    wishes = λ x. put_all-kept (λ n (k : RwLock). length k.wishes ≡ length W.units) S.rwlock c.rwlocks x (EachOf-then _ _ c.rwlocks (λ m k. k.wishes) keeps.rwlocks) (sound.wishes x);
     locks = keeps.locks;
+    keys = λ u. put_all-kept (λ n (k : Carried). length k.keys ≡ W.keys) S.carried c.carried u (EachOf-then _ _ c.carried (λ m k. k.keys) keeps.carried) (sound.keys u);
     homes = λ u. put_all-kept (λ n (k : Carried). k.home < length W.pools) S.carried c.carried u (EachOf-then _ _ c.carried (λ m k. k.home) keeps.carried) (sound.homes u);
     requests = λ u. put_all-kept (λ n (d : Desk). IfSome d.migrate (λ p. p < length W.pools)) S.desk c.desks u (EachOf-then _ _ c.desks (λ m k. k.request) keeps.desks) (sound.requests u);
     positions = λ u. put_all-kept (λ n (k : Carried). k.position ≤ length (ops_of (body_at W n))) S.carried c.carried u (EachOf-then _ _ c.carried (λ m k. k.position) keeps.carried) (sound.positions u);

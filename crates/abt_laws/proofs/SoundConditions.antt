@@ -41,7 +41,7 @@ condition-no_lock W x is r = let k : Some (thing.Cond is.0) ≡ Some thing.RwLoc
 waiting-well : (W : Parts) (S : State) (c : Change) (x i : ℕ) (vs : List ℕ) → i + length vs ≤ put_all S.object_next c.object_next x → HoldsUp W (changed S c) x (thing_at W x) →
     EachOf (IsWakeable W S) vs → EachOf (λ (m : ℕ × Place). MovesWell W S c m.0 m.1) (waiting_moves x i vs)
 waiting-well W S c x i vs l up each =
-    waiting_moves-each (λ m. MovesWell W S c m.0 m.1) (IsWakeable W S) x i vs (λ v t b wakes. record { declared = wakes.declared; placed = (omega arith, up); alone = tt; joined = inl tt }) each
+    waiting_moves-each (λ m. MovesWell W S c m.0 m.1) (IsWakeable W S) x i vs (λ v t b wakes. record { declared = wakes.declared; placed = (omega arith, up); alone = tt; joined = inl refl }) each
 
 waiting-frameless : (W : Parts) (S : State) (x i : ℕ) (vs : List ℕ) → EachOf (IsWakeable W S) vs → EachOf (λ (m : ℕ × Place). IsFrameless S m.0) (waiting_moves x i vs)
 waiting-frameless W S x i vs each = waiting_moves-each (λ m. IsFrameless S m.0) (IsWakeable W S) x i vs (λ v t b wakes. wakes.frameless) each
@@ -73,7 +73,7 @@ module _ (W : Parts) (Z : List OrderShape) (S : State) (s u : ℕ) (step : IsSte
           declared = step.declared;
           placed = (subst (λ n. S.object_next x < n) (sym next) (omega arith), subst (HoldsUp W (changed S c) x) (sym cond.1) tt);
           alone = tt;
-          joined = inl tt;
+          joined = inl refl;
         },
         tray-well W S c s i us step.stream step.rests woken,
       )

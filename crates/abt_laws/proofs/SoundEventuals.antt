@@ -23,7 +23,7 @@ module _ (W : Parts) (Z : List OrderShape) (S : State) (s u : ℕ) (step : IsSte
   -- whatever a unit's new accumulator is
   receives-well : (value : ℕ) (vs : List ℕ) → EachOf (λ (m : ℕ × Carried). CarriesWell W m.0 m.1) (map (receives S value) vs)
   receives-well value vs =
-      EachOf-map (λ m. CarriesWell W m.0 m.1) (λ _. Unit {0}) (receives S value) vs (λ v _. record { home = step.sound.homes v; position = step.sound.positions v }) (EachOf-all (λ _. Unit {0}) vs (λ v. tt))
+      EachOf-map (λ m. CarriesWell W m.0 m.1) (λ _. Unit {0}) (receives S value) vs (λ v _. record { keys = step.sound.keys v; home = step.sound.homes v; position = step.sound.positions v }) (EachOf-all (λ _. Unit {0}) vs (λ v. tt))
 
   -- all who wait at x leave
   pub all-leave : (x : ℕ) → IsEmpty (Waiting x) (places S (wakes W S s u (standing W S (Waiting x))))
@@ -52,7 +52,7 @@ module _ (W : Parts) (Z : List OrderShape) (S : State) (s u : ℕ) (step : IsSte
   -- u gets the value, or waits at x, which is no reader-writer lock and no barrier, and holds it up
   pub keeps-awaits : (x : ℕ) (o : Option ℕ) → (thing_at W x ≡ Some thing.RwLock → ⊥) → (o ≡ None → HoldsUp W S x (thing_at W x)) → ((n : ℕ) → thing_at W x ≡ Some (thing.Barrier n) → ⊥) → Keeps W Z S (awaits S u x o)
   keeps-awaits x None unlocked up other = keeps-waits W Z S s u step x unlocked (up refl) (λ n b. absurd (other n b))
-  keeps-awaits x (Some value) unlocked up other = keeps-goes_with W Z S s u step (with_acc value (S.carried u)) refl refl
+  keeps-awaits x (Some value) unlocked up other = keeps-goes_with W Z S s u step (with_acc value (S.carried u)) refl refl refl
 
   pub keeps-awaits_eventual : (x : ℕ) → IsEventual W x → Keeps W Z S (awaits S u x (S.eventual x))
   keeps-awaits_eventual x is =

@@ -52,7 +52,7 @@ module _ (W : Parts) (Z : List OrderShape) (S : State) (s u : ℕ) (sound : Soun
           declared = is.declared;
           placed = (placed.0, subst IsAtRest (sym (put_at-same S.stream s (marked m (S.stream s)))) placed.1);
           alone = empty-after S c (InNext s) ((λ e. cc), tt) (λ v t h. inl (sound.one_each (InNext s) v u 0 (ap (ticket_in (InNext s)) (ticket-place (InNext s) (S.place v) t h) ∙ same-self s 0) (ap (ticket_in (InNext s)) is.at ∙ same-self s 0)));
-          joined = inl tt;
+          joined = inl refl;
         },
         tt,
       )
@@ -67,7 +67,7 @@ module _ (W : Parts) (Z : List OrderShape) (S : State) (s u : ℕ) (sound : Soun
       keeps-event W Z S sound (to_tray W S s (u ∷ [])) ((u, with_home p (S.carried u)) ∷ []) ((u, without_requests (S.desk u)) ∷ []) [] []
       (tray-free s (tray_end W S s) S.place (u ∷ []) (IsBelow-empty (InTray s) (tray_end W S s) S.place no_tray))
       (tray-well W S c s (tray_end W S s) (u ∷ []) placed.0 placed.1 (wakes, tt))
-      (tt, tt) ((off, tt), tt) (record { home = l; position = sound.positions u }, tt) (asks-nothing W S u, tt) tt
+      (tt, tt) ((off, tt), tt) (record { keys = sound.keys u; home = l; position = sound.positions u }, tt) (asks-nothing W S u, tt) tt
       (frames-stay W Z S c sound (frameless, tt) tt)
 
   keeps-look_by : (b : Bool) (m : Option ℕ) → (S.desk u).migrate ≡ m → Keeps W Z S (look_row W S s u b m)

@@ -1,5 +1,6 @@
 -- Every step keeps a sound state sound: a line for each operation whose change needs a reason of its own.
 use Rattle.std.proofs.Common.{◌≡◌, ℕ, ◌<◌, Bool, true, false, not, List, [], ◌∷◌, length, map, is_some, Option, Some, None, refl, sym, ◌∙◌, ap, subst, arith, inl}
+use Rattle.std.proofs.lemmas.List.{length-set}
 use Rattle.std.specs.Prelude.{IfSome}
 use Rattle.abt_machine.specs.declared.events.Code.{Code}
 use Rattle.abt_machine.specs.declared.events.Code.TheVariants as code
@@ -15,7 +16,7 @@ use Rattle.abt_machine.specs.declared.workload.Parts.{Parts}
 use Rattle.abt_machine.specs.Numbers.{object_no, stream_no, unit_no}
 use Rattle.abt_machine.specs.Workloads.{op_at, mutex_of, combine_of}
 use Rattle.abt_machine.specs.Sites.{first_pool}
-use Rattle.abt_machine.specs.Carrying.{advanced, printed}
+use Rattle.abt_machine.specs.Carrying.{advanced, printed, with_key}
 use Rattle.abt_machine.specs.State.{State, Desk, Mutex, Future}
 use Rattle.abt_machine.specs.Lines.{Waiting}
 use Rattle.abt_machine.specs.Rounds.{OrdersStored}
@@ -72,6 +73,7 @@ module _ (W : Parts) (Z : List OrderShape) (S : State) (s u : ℕ) (valid : IsVa
 
   -- an operation whose own tests hold
   op-keeps : (o : Op) → IsDeclared W o → reached_code W S u o ≡ code.Ok → Keeps W Z S (op_row W S s u o)
+  op-keeps (op.KeySet k) d e = keeps-goes_with W Z S s u step (with_key k (S.carried u)) (length-set (S.carried u).keys k (S.carried u).acc) refl refl
   op-keeps op.Yield d e = keeps-wakes_only W Z S s u step (u ∷ []) (may-wake W Z S s u step, tt)
   op-keeps (op.YieldTo v p) d e = keeps-yields_to W Z S s u step v.0 p.0 d.0 (unless-ok (is_in_pool p.0 (S.place v.0)) code.Absent _ tt e).0
   op-keeps op.Suspend d e = keeps-suspends W Z S s u step
@@ -104,10 +106,10 @@ module _ (W : Parts) (Z : List OrderShape) (S : State) (s u : ℕ) (valid : IsVa
   op-keeps o d e =
       let row : Change = op_row W S s u o in
       keeps-still W Z S s u step row.carried row.desks row.mutexes row.eventuals row.futures
-      (record { home = on.home; position = on.position }, tt) (all-asked row.desks refl) (all-owned row.mutexes refl) (all-unset row.eventuals refl) (all-empty row.futures refl)
+      (record { keys = on.keys; home = on.home; position = on.position }, tt) (all-asked row.desks refl) (all-owned row.mutexes refl) (all-unset row.eventuals refl) (all-empty row.futures refl)
 
   refused-keeps : (c : Code) → Keeps W Z S (goes_with u (printed (piece.Refused c) (S.carried u)))
-  refused-keeps c = keeps-goes_with W Z S s u step (printed (piece.Refused c) (S.carried u)) refl refl
+  refused-keeps c = keeps-goes_with W Z S s u step (printed (piece.Refused c) (S.carried u)) refl refl refl
 
   -- an operation, by its code
   row-keeps : (o : Op) (c : Code) → IsDeclared W o → code_of W S s u o ≡ c → Keeps W Z S (step_row W S s u (Some o) c)

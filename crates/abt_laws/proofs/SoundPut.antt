@@ -1,5 +1,5 @@
 -- A put keeps a sound state sound.
-use Rattle.std.proofs.Common.{ℕ, suc, ◌<◌, List, [], ◌∷◌, length, sym, subst, arith, inl}
+use Rattle.std.proofs.Common.{ℕ, suc, ◌<◌, List, [], ◌∷◌, length, refl, sym, subst, arith, inl}
 use Rattle.abt_machine.specs.declared.events.Place.TheVariants as place
 use Rattle.abt_machine.specs.declared.events.What.TheVariants as what
 use Rattle.abt_machine.specs.declared.operations.OrderShape.{OrderShape}
@@ -34,7 +34,7 @@ keeps-put W Z S s u p sound may =
         declared = is.declared;
         placed = (subst (λ n. n < length W.pools) may.2 (sound.homes u), subst (λ n. t < n) (sym (put_at-same S.pool_next p (suc t))) (omega arith));
         alone = tt;
-        joined = inl tt;
+        joined = inl refl;
       },
       tt,
     )

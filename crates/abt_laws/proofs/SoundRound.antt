@@ -58,7 +58,7 @@ keeps-take W Z S s p u valid stored sound l may =
         declared = is.declared;
         placed = (l, subst IsAtRest (sym (put_at-same S.stream s (round_taken own))) rests);
         alone = empty-still S c (InHand s) ((λ e. cc), tt) (due-no_hand W S s sound.undeclared RoundDue may.0 tt);
-        joined = inl tt;
+        joined = inl refl;
       },
       tt,
     )

@@ -31,7 +31,7 @@ use Rattle.abt_laws.proofs.Barriers.{IsOffBarriers, barriers-stay}
 use Rattle.abt_laws.proofs.SoundFrames.{IsFrameless, frames-stay}
 use Rattle.abt_laws.proofs.Granted.{owned-numbers, woken-each, woken-standing}
 use Rattle.abt_laws.proofs.Locks.{elsewhere, locks-become, same-waiters}
-use Rattle.abt_laws.proofs.KeptLocks.{IsKeptValue, kept-passed_on, kept-read, kept-store, kept-wait_to_read, kept-wait_to_write, kept-write, length-given_up, length-passed_on, not-read, number-given_up, number-passed_on, released}
+use Rattle.abt_laws.proofs.KeptLocks.{IsKeptValue, apart_from_holders, kept-passed_on, kept-read, kept-store, kept-wait_to_read, kept-wait_to_write, kept-write, length-given_up, length-passed_on, not-read, released, rest-given_up, rest-passed_on}
 use Rattle.abt_laws.proofs.Wakes.{frameless-in}
 use Rattle.abt_laws.proofs.SoundSteps.{IsStepping, carries-on, keeps-comes, tray-below, waiting-below}
 
@@ -66,7 +66,7 @@ module _ (W : Parts) (Z : List OrderShape) (S : State) (s u : ℕ) (step : IsSte
       let i : ℕ = tray_end W S s in
       record {
         free = tray-free s i S.place us (tray-below W Z S s u step);
-        moves = tray_moves-each (λ m. MovesWell W S c m.0 m.1) (StandsIn W S (Waiting x)) s i us (λ v t at. record { declared = at.declared; placed = (step.stream, step.rests); alone = tt; joined = inl tt }) each;
+        moves = tray_moves-each (λ m. MovesWell W S c m.0 m.1) (StandsIn W S (Waiting x)) s i us (λ v t at. record { declared = at.declared; placed = (step.stream, step.rests); alone = tt; joined = inl refl }) each;
         barriers = barriers-stay W Z S step.sound c (tray_moves-places (IsOffBarriers W) s i us (λ t. tt));
         carried = (carries-on W Z S s u step, tt);
         desks = tt;
@@ -95,7 +95,7 @@ module _ (W : Parts) (Z : List OrderShape) (S : State) (s u : ℕ) (step : IsSte
       let line : standing W (changed S c) (Waiting x) ≡ standing W S (Waiting x) ++ u ∷ [] =
       line-gets (length W.units) (Waiting x) S.place u t (same-self x t) step.declared (ap (ticket_in (Waiting x)) step.in_hand) (waiting-below W Z S x step.sound) in
       keeps-comes W Z S s u step x ((x, wanting u w (S.rwlock x)) ∷ []) (subst (HoldsUp W S x) (sym is) tt)
-      (λ n b. let k : Some thing.RwLock ≡ Some (thing.Barrier n) = sym is ∙ b in cc) (record { counts = step.sound.counts x; number = λ _. refl }, tt)
+      (λ n b. let k : Some thing.RwLock ≡ Some (thing.Barrier n) = sym is ∙ b in cc) (record { counts = step.sound.counts x; wishes = length-set (S.rwlock x).wishes u w ∙ step.sound.wishes x; number = λ _. refl }, tt)
       (locks-become W Z S c step.sound x (wanting u w (S.rwlock x)) refl
       (subst (IsKept (wanting u w (S.rwlock x))) (ap (λ us. us ++ u ∷ []) as-numbers ∙ sym line) kept)
       (λ y other. same-waiters W S c y (elsewhere x y t other, tt) (ap (ticket_in (Waiting y)) step.in_hand, tt)))
@@ -103,21 +103,21 @@ module _ (W : Parts) (Z : List OrderShape) (S : State) (s u : ℕ) (step : IsSte
   pub keeps-reads_or_waits : Keeps W Z S (reads_or_waits S u x (rwlock_value W S x))
   keeps-reads_or_waits =
       cond_both (may_read u old) (record (goes_on S u) { rwlocks = (x, read_by u (S.rwlock x)) ∷ [] }) (record (waits S u x) { rwlocks = (x, wanting u wish.Read (S.rwlock x)) ∷ [] }) (Keeps W Z S)
-      (λ may. keeps-alone (read_by u (S.rwlock x)) (record { counts = length-set (S.rwlock x).counts u (count_of u (S.rwlock x) + 1) ∙ step.sound.counts x; number = λ _. refl })
+      (λ may. keeps-alone (read_by u (S.rwlock x)) (record { counts = length-set (S.rwlock x).counts u (count_of u (S.rwlock x) + 1) ∙ step.sound.counts x; wishes = step.sound.wishes x; number = λ _. refl })
       (subst (IsKept (read_by u (S.rwlock x))) as-numbers (kept-read u old is-kept (has-count u step.declared) may)))
       (λ no. keeps-wishes wish.Read (kept-wait_to_read u old is-kept apart no))
 
   pub keeps-writes_or_waits : Keeps W Z S (writes_or_waits S u x (rwlock_value W S x))
   keeps-writes_or_waits =
       cond_both (is_free (S.rwlock x)) (record (goes_on S u) { rwlocks = (x, written_by u (S.rwlock x)) ∷ [] }) (record (waits S u x) { rwlocks = (x, wanting u wish.Write (S.rwlock x)) ∷ [] }) (Keeps W Z S)
-      (λ free. keeps-alone (written_by u (S.rwlock x)) (record { counts = step.sound.counts x; number = λ _. refl }) (subst (IsKept (written_by u (S.rwlock x))) as-numbers (kept-write u old free)))
+      (λ free. keeps-alone (written_by u (S.rwlock x)) (record { counts = step.sound.counts x; wishes = step.sound.wishes x; number = λ _. refl }) (subst (IsKept (written_by u (S.rwlock x))) as-numbers (kept-write u old free)))
       (λ held. keeps-wishes wish.Write (kept-wait_to_write u old is-kept apart held))
 
   -- u writes the lock, so no unit reads it
   pub keeps-rw_stores : (n : ℕ) → IsTrue (writes u (S.rwlock x)) → Keeps W Z S (record (goes_on S u) { rwlocks = (x, record (S.rwlock x) { number = n }) ∷ [] })
   keeps-rw_stores n has =
       let kept : IsKept (S.rwlock x) (standing W S (Waiting x)) = step.sound.locks x is in
-      keeps-alone (record (S.rwlock x) { number = n }) (record { counts = step.sound.counts x; number = λ above. absurd (not-read u (S.rwlock x) (standing W S (Waiting x)) kept has above) }) (kept-store n (S.rwlock x) (standing W S (Waiting x)) kept)
+      keeps-alone (record (S.rwlock x) { number = n }) (record { counts = step.sound.counts x; wishes = step.sound.wishes x; number = λ above. absurd (not-read u (S.rwlock x) (standing W S (Waiting x)) kept has above) }) (kept-store n (S.rwlock x) (standing W S (Waiting x)) kept)
 
   -- the lock that u has given up has a count for each waiter
   fits : EachOf (λ (o : Owned). o.number < length (left_by u old).lock.counts) old.waiters
@@ -133,9 +133,14 @@ module _ (W : Parts) (Z : List OrderShape) (S : State) (s u : ℕ) (step : IsSte
       let i : ℕ = tray_end W S s in
       let c : Change = gives_up W S s u x left in
       let parts : standing W S (Waiting x) ≡ us ++ vs = woken-standing W S x u in
+      let rest : apart_from_holders (passed_on left).lock ≡ apart_from_holders (S.rwlock x) = rest-passed_on left ∙ rest-given_up u (S.rwlock x) in
       let line : standing W (changed S c) (Waiting x) ≡ vs =
       line-behind (length W.units) (Waiting x) S.place (to_tray W S s us) us vs (tray_moves-places (λ pl. ticket_in (Waiting x) pl ≡ None) s i us (λ t. refl)) parts (tray_moves-key s i us) (tray_moves-among s i us) in
-      keeps-becomes us (passed_on left).lock
-      (woken-each (StandsIn W S (Waiting x)) W S x u (each-stands W S (Waiting x)))
-      (record { counts = length-passed_on left ∙ (length-given_up u (S.rwlock x) ∙ step.sound.counts x); number = λ _. number-passed_on left ∙ number-given_up u (S.rwlock x) })
+      let well : LocksWell W S x (passed_on left).lock =
+      record {
+        counts = length-passed_on left ∙ (length-given_up u (S.rwlock x) ∙ step.sound.counts x);
+        wishes = ap (λ p. length p.0) rest ∙ step.sound.wishes x;
+        number = λ _. ap (λ p. p.1) rest;
+      } in
+      keeps-becomes us (passed_on left).lock (woken-each (StandsIn W S (Waiting x)) W S x u (each-stands W S (Waiting x))) well
       (subst (IsKept (passed_on left).lock) (sym line) (kept-passed_on left (released u old is-kept has) fits))

@@ -114,7 +114,7 @@ module _ (W : Parts) (Z : List OrderShape) (S : State) (s u : ℕ) (g : SchedNo)
   keeps-enter_of : s < W.streams → u < length W.units → Keeps W Z S enters
   keeps-enter_of l declared = keeps-event W Z S sound ((u, place.Frame (stream_no s) (length old_below)) ∷ []) [] [] [] ((s, new_own) ∷ [])
       (free-above S.place u (place.Frame (stream_no s) (length old_below)) (InFrames s) (length old_below) (same-self s (length old_below)) (frames-below W Z S s sound), tt)
-      (record { declared = declared; placed = subst (IsFramed W u s (length old_below)) (sym (put_at-same S.stream s new_own)) (is-framed l); alone = tt; joined = inl tt }, tt)
+      (record { declared = declared; placed = subst (IsFramed W u s (length old_below)) (sym (put_at-same S.stream s new_own)) (is-framed l); alone = tt; joined = inl refl }, tt)
       (tt, tt) ((subst (IsOffLocks W) (sym at) tt, tt), tt) tt tt tt
       (frames-enter)
 
@@ -192,7 +192,7 @@ module _ (W : Parts) (Z : List OrderShape) (S : State) (s u : ℕ) (f : Frame) (
           declared = declared;
           placed = (l, after-left (λ r own. r ≡ s → IsAtRest own) (λ e. subst AllAtRest below (sound.below_rest s l)) (λ r ne e. absurd (ne e)) s refl);
           alone = empty-still S leaves (InNext s) ((λ e. cc), tt) (due-no_next W S s sound.undeclared LeaveDue is tt);
-          joined = inl tt;
+          joined = inl refl;
         },
         tt,
       )

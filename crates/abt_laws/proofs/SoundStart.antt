@@ -5,6 +5,7 @@ use Rattle.std.proofs.lemmas.List.Folds.{sum_by-replicate}
 use Rattle.std.specs.List.{sum}
 use Rattle.std.proofs.lemmas.Bool.{cases_eq, cases_order, cases_lt, eq-eqb}
 use Rattle.abt_machine.specs.declared.events.Place.TheVariants as place
+use Rattle.abt_machine.specs.declared.events.Wish.TheVariants as wish
 use Rattle.abt_machine.specs.declared.operations.OrderShape.{OrderShape}
 use Rattle.abt_machine.specs.declared.workload.Parts.{Parts}
 use Rattle.abt_machine.specs.Numbers.{pool_no}
@@ -115,7 +116,9 @@ start-is-sound W Z valid stored = record {
   filled = λ x. omega arith;
   waiting = λ x n is. subst (λ (us : List ℕ). length us < n) (sym (empty-standing W (start W) (Waiting x) (start-empty W (Waiting x) (λ p e. cc)))) (barrier-some W x n valid is);
   counts = λ x. length-replicate (length W.units) 0;
+  wishes = λ x. length-replicate (length W.units) wish.Read;
   locks = λ x is. start-kept W (standing W (start W) (Waiting x)) (empty-standing W (start W) (Waiting x) (start-empty W (Waiting x) (λ p e. cc)));
+  keys = λ u. length-replicate W.keys 0;
   homes = λ u. start-home W u valid;
   requests = λ u. tt;
   positions = λ u. omega arith;

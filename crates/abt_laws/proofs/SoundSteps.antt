@@ -85,15 +85,16 @@ module _ (W : Parts) (Z : List OrderShape) (S : State) (s u : ℕ) (step : IsSte
   may-wake = record { declared = step.declared; frameless = in-no-frame; off_locks = off-locks }
 
   -- u goes on with another accumulator, keys or output
-  carries : (c : Carried) → c.home ≡ (S.carried u).home → c.position ≡ (S.carried u).position → CarriesWell W u (advanced c)
-  carries c home position =
+  carries : (c : Carried) → length c.keys ≡ length (S.carried u).keys → c.home ≡ (S.carried u).home → c.position ≡ (S.carried u).position → CarriesWell W u (advanced c)
+  carries c keys home position =
       record {
+        keys = keys ∙ step.sound.keys u;
         home = subst (λ p. p < length W.pools) (sym home) (step.sound.homes u);
         position = subst (λ k. suc k ≤ length (ops_of (body_at W u))) (sym position) (let l : (S.carried u).position < length (ops_of (body_at W u)) = step.position in omega arith);
       }
 
   pub carries-on : CarriesWell W u (advanced (S.carried u))
-  carries-on = carries (S.carried u) refl refl
+  carries-on = carries (S.carried u) refl refl refl
 
   -- the tray has room for all
   pub tray-below : IsBelow (InTray s) (tray_end W S s) S.place
@@ -139,11 +140,11 @@ module _ (W : Parts) (Z : List OrderShape) (S : State) (s u : ℕ) (step : IsSte
   keeps-still cs ds ms es fs a b d e f = keeps-wakes [] cs ds ms es fs tt a b d e f
 
   -- u goes on, with this to carry
-  pub keeps-goes_with : (c : Carried) → c.home ≡ (S.carried u).home → c.position ≡ (S.carried u).position → Keeps W Z S (goes_with u c)
-  keeps-goes_with c home position = keeps-still ((u, advanced c) ∷ []) [] [] [] [] (carries c home position, tt) tt tt tt tt
+  pub keeps-goes_with : (c : Carried) → length c.keys ≡ length (S.carried u).keys → c.home ≡ (S.carried u).home → c.position ≡ (S.carried u).position → Keeps W Z S (goes_with u c)
+  keeps-goes_with c keys home position = keeps-still ((u, advanced c) ∷ []) [] [] [] [] (carries c keys home position, tt) tt tt tt tt
 
   pub keeps-goes_on : Keeps W Z S (goes_on S u)
-  keeps-goes_on = keeps-goes_with (S.carried u) refl refl
+  keeps-goes_on = keeps-goes_with (S.carried u) refl refl refl
 
   -- u asks something of v
   pub keeps-asks : (v : ℕ) (d : Desk) → AsksWell W S v d → Keeps W Z S (asks S u v d)
@@ -169,7 +170,7 @@ module _ (W : Parts) (Z : List OrderShape) (S : State) (s u : ℕ) (step : IsSte
             declared = step.declared;
             placed = (subst (λ n. S.object_next x < n) (sym next) (omega arith), HoldsUp-same W S (changed S c) x (thing_at W x) refl refl refl up);
             alone = tt;
-            joined = inl tt;
+            joined = inl refl;
           },
           tt,
         );

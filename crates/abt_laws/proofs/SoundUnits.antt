@@ -1,5 +1,6 @@
 -- Steps that move units keep a sound state sound: yielding to a unit, suspending, joining, the beginning of a life, and its end by the unit itself. Unit u, in the hand of stream s, makes the step.
 use Rattle.std.proofs.Common.{◌≡◌, ℕ, suc, ◌<◌, ◌≤◌, true, List, [], ◌∷◌, length, Some, refl, sym, ◌∙◌, ap, subst, arith, inl, inr}
+use Rattle.std.proofs.lemmas.List.{length-replicate}
 use Rattle.abt_machine.specs.declared.events.Place.{Place}
 use Rattle.abt_machine.specs.declared.events.Place.TheVariants as place
 use Rattle.abt_machine.specs.declared.events.Spot.TheVariants as spot
@@ -38,7 +39,7 @@ module _ (W : Parts) (Z : List OrderShape) (S : State) (s u : ℕ) (step : IsSte
       keeps-moves W Z S s u step ((u, pl) ∷ []) js [] [] (free, tt) (record { declared = step.declared; placed = placed; alone = alone; joined = inl goes }, tt) (off, tt) ((off-locks W Z S s u step, off_to), tt) (in-no-frame W Z S s u step, tt) rises tt tt
 
   pub keeps-suspends : Keeps W Z S (record (goes_on S u) { moves = (u, place.Blocked spot.Suspended 0) ∷ [] })
-  keeps-suspends = let pl : Place = place.Blocked spot.Suspended 0 in keeps-goes_to pl [] (free-nowhere S.place u pl refl) tt tt tt tt tt tt
+  keeps-suspends = let pl : Place = place.Blocked spot.Suspended 0 in keeps-goes_to pl [] (free-nowhere S.place u pl refl) tt tt refl tt tt tt
 
   -- u stays in the hand, to be ended
   pub keeps-exits : Keeps W Z S (record (goes_on S u) { streams = (s, marked Exited (S.stream s)) ∷ [] })
@@ -57,21 +58,21 @@ module _ (W : Parts) (Z : List OrderShape) (S : State) (s u : ℕ) (step : IsSte
       let pl : Place = place.Blocked (spot.Join (unit_no v)) (S.join_next v) in
       let next : put_at S.join_next v (suc (S.join_next v)) v ≡ suc (S.join_next v) = put_at-same S.join_next v (suc (S.join_next v)) in
       let still : HasNotEnded (put_at S.place u pl v) =
-      elim (put_at-cases S.place u pl v) [ inl same ↦ subst HasNotEnded (sym same.1) tt | inr other ↦ subst HasNotEnded (sym other.1) goes ] in
+      elim (put_at-cases S.place u pl v) [ inl same ↦ subst HasNotEnded (sym same.1) refl | inr other ↦ subst HasNotEnded (sym other.1) goes ] in
       keeps-goes_to pl ((v, suc (S.join_next v)) ∷ []) (free-above S.place u pl (Joining v) (S.join_next v) (same-self v (S.join_next v)) (joining-below v))
-      (l, subst (λ n. S.join_next v < n) (sym next) (omega arith), still) tt tt tt tt (omega arith, tt)
+      (l, subst (λ n. S.join_next v < n) (sym next) (omega arith), still) tt refl tt tt (omega arith, tt)
 
   -- u goes on if v has ended, else it joins v
   pub keeps-joins : (v : ℕ) (pl : Place) → v < length W.units → S.place v ≡ pl → Keeps W Z S (joins S u v pl)
   keeps-joins v (place.Ended e) l is = keeps-goes_on W Z S s u step
-  keeps-joins v pl l is = keeps-joining v l (subst HasNotEnded (sym is) tt)
+  keeps-joins v pl l is = keeps-joining v l (subst HasNotEnded (sym is) refl)
 
   -- v begins a life with home p
   pub keeps-begins : (v p : ℕ) → IsWakeable W S v → p < length W.pools → Keeps W Z S (begins W S s u v p)
   keeps-begins v p wakeable l =
       let d : Desk = record (S.desk v) { life = suc (S.desk v).life } in
       keeps-wakes W Z S s u step (v ∷ []) ((u, advanced (S.carried u)) ∷ (v, newborn p (S.carried v)) ∷ []) ((v, d) ∷ []) [] [] []
-      (wakeable, tt) (carries-on W Z S s u step, (record { home = l; position = omega arith }, tt)) (record { asks = inl (λ h. h); request = step.sound.requests v }, tt) tt tt tt
+      (wakeable, tt) (carries-on W Z S s u step, (record { keys = length-replicate (length (S.carried v).keys) 0 ∙ step.sound.keys v; home = l; position = omega arith }, tt)) (record { asks = inl (λ h. h); request = step.sound.requests v }, tt) tt tt tt
 
   -- nobody else is in the hand
   hand-alone : (v t : ℕ) → ticket_in (InHand s) (S.place v) ≡ Some t → v ≡ u
@@ -86,7 +87,7 @@ module _ (W : Parts) (Z : List OrderShape) (S : State) (s u : ℕ) (step : IsSte
       let alone : IsEmpty (InHand s) (places S c) = empty-after S c (InHand s) (λ e. cc, (λ e. cc, tt)) (λ w t h. inr (inl (hand-alone w t h))) in
       keeps-moves W Z S s u step ((v, pl) ∷ to_tray W S s (u ∷ [])) [] [] []
       (free-empty S.place v pl (InNext s) 0 (same-self s 0) step.no_next, tray-free s i (put_at S.place v pl) (u ∷ []) (IsBelow-move (InTray s) i S.place v pl (λ e. cc) (tray-below W Z S s u step)))
-      (record { declared = l; placed = (step.stream, step.rests); alone = alone; joined = inl tt }, tray-well W S c s i (u ∷ []) step.stream step.rests (may-wake W Z S s u step, tt))
+      (record { declared = l; placed = (step.stream, step.rests); alone = alone; joined = inl refl }, tray-well W S c s i (u ∷ []) step.stream step.rests (may-wake W Z S s u step, tt))
       (tt, (tt, tt))
       ((off-by W S v (is_in_pool p) (λ x t. refl) pooled, tt), tray-off W S s i (u ∷ []) (may-wake W Z S s u step, tt))
       (frameless-by S v (is_in_pool p) (λ r d. refl) pooled, tray-frameless W S s i (u ∷ []) (may-wake W Z S s u step, tt))

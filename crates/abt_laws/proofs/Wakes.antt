@@ -1,6 +1,6 @@
 -- Units that come to a tray.
 use Rattle.std.proofs.lemmas.Bool.{false≢true}
-use Rattle.std.proofs.Common.{Bool, true, false, ◌≡◌, ℕ, ◌<◌, List, length, Some, sym, ◌∙◌, ap, subst, inl, inr}
+use Rattle.std.proofs.Common.{Bool, true, false, ◌≡◌, ℕ, ◌<◌, List, length, Some, refl, sym, ◌∙◌, ap, subst, inl, inr}
 use Rattle.abt_machine.specs.declared.events.Place.{Place}
 use Rattle.abt_machine.specs.declared.events.Place.TheVariants as place
 use Rattle.abt_machine.specs.declared.events.Spot.TheVariants as spot
@@ -67,7 +67,7 @@ wakeable-first W S l other unlocked = EachOf-then _ _ (first_alone (standing W S
 
 pub tray-well : (W : Parts) (S : State) (c : Change) (s i : ℕ) (us : List ℕ) → s < W.streams → IsAtRest ((changed S c).stream s) → EachOf (IsWakeable W S) us → EachOf (λ (m : ℕ × Place). MovesWell W S c m.0 m.1) (tray_moves s i us)
 tray-well W S c s i us l rests each =
-    tray_moves-each (λ m. MovesWell W S c m.0 m.1) (IsWakeable W S) s i us (λ u t wakes. record { declared = wakes.declared; placed = (l, rests); alone = tt; joined = inl tt }) each
+    tray_moves-each (λ m. MovesWell W S c m.0 m.1) (IsWakeable W S) s i us (λ u t wakes. record { declared = wakes.declared; placed = (l, rests); alone = tt; joined = inl refl }) each
 
 pub tray-frameless : (W : Parts) (S : State) (s i : ℕ) (us : List ℕ) → EachOf (IsWakeable W S) us → EachOf (λ (m : ℕ × Place). IsFrameless S m.0) (tray_moves s i us)
 tray-frameless W S s i us each = tray_moves-each (λ m. IsFrameless S m.0) (IsWakeable W S) s i us (λ u t wakes. wakes.frameless) each

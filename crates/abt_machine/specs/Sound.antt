@@ -12,6 +12,7 @@ use Rattle.abt_machine.specs.declared.operations.Thing.TheVariants as thing
 use Rattle.abt_machine.specs.declared.workload.Parts.{Parts}
 use Rattle.abt_machine.specs.Numbers.{stream_no}
 use Rattle.abt_machine.specs.Workloads.{body_at, ops_of, main_of, thing_at, size_of}
+use Rattle.abt_machine.specs.Codes.{is_ended}
 use Rattle.abt_machine.specs.Holders.{is_free}
 use Rattle.abt_machine.specs.Queues.{last}
 use Rattle.abt_machine.specs.RwLocks.{reader_is_first}
@@ -57,10 +58,9 @@ RunsSched b f = ⊥
 abbrev pub HasNoRequest : Desk → Type 0
 HasNoRequest d = (d.cancel ≡ false) × (d.migrate ≡ None)
 
--- a unit of this place may be joined: it has not ended
+-- a unit of this place may have joiners: it has not ended
 abbrev pub HasNotEnded : Place → Type 0
-HasNotEnded (place.Ended c) = ⊥
-HasNotEnded _ = Unit {0}
+HasNotEnded p = IsFalse (is_ended p)
 
 -- why a unit may wait at this object: a mutex is held, an eventual isn't ready, a future isn't full
 abbrev pub HoldsUp : Parts → State → ℕ → Option Thing → Type 0
@@ -98,20 +98,35 @@ IsPlaced W S u (place.Ended c) = HasNoRequest (S.desk u)
 pub record Sound (W : Parts) (Z : List OrderShape) (S : State) : Type 0 where
   -- two units do not share a ticket in a line, so a hand and a Next hold one unit at most
   pub one_each : (l : Line) (u v t : ℕ) → ticket_in l (S.place u) ≡ Some t → ticket_in l (S.place v) ≡ Some t → u ≡ v
+  -- a stream does not have one unit in its hand and one in Next
   pub hand_or_next : (s u v : ℕ) → S.place u ≡ place.Hand (stream_no s) → S.place v ≡ place.Next (stream_no s) → ⊥
+  -- a unit that is not declared is unborn
   pub undeclared : (u : ℕ) → length W.units ≤ u → S.place u ≡ place.Unborn
+  -- what must hold of a unit at its place
   pub placed : (u : ℕ) → IsPlaced W S u (S.place u)
   -- each stacked frame holds a unit
   pub frames_hold : (s d : ℕ) → d < length (S.stream s).below → (u : ℕ) × (S.place u ≡ place.Frame (stream_no s) d)
+  -- the lowest frame of a stream runs its main scheduler
   pub lowest : (s : ℕ) → s < W.streams → IfSome (last (frames_of (S.stream s))) (λ f. f.sched ≡ main_of W s)
+  -- what each frame has seen is a proper prefix of a list that its round may visit
   pub under_way : (s : ℕ) → s < W.streams → AllUnderWay W Z (frames_of (S.stream s))
   -- only the top frame has a round under way or an empty round behind it
   pub below_rest : (s : ℕ) → s < W.streams → AllAtRest ((S.stream s).below)
+  -- no future has more compartments filled than it has
   pub filled : (x : ℕ) → (S.future x).filled ≤ size_of W x
+  -- a barrier has fewer waiters than parties
   pub waiting : (x n : ℕ) → thing_at W x ≡ Some (thing.Barrier n) → length (standing W S (Waiting x)) < n
   -- a reader-writer lock has a count for each unit
   pub counts : (x : ℕ) → length (S.rwlock x).counts ≡ length W.units
+  -- and a wish
+  pub wishes : (x : ℕ) → length (S.rwlock x).wishes ≡ length W.units
+  -- what holds of a reader-writer lock and its waiters
   pub locks : (x : ℕ) → thing_at W x ≡ Some thing.RwLock → IsKept (S.rwlock x) (standing W S (Waiting x))
+  -- a unit has the workload's keys
+  pub keys : (u : ℕ) → length (S.carried u).keys ≡ W.keys
+  -- its home is a declared pool
   pub homes : (u : ℕ) → (S.carried u).home < length W.pools
+  -- it is asked to migrate only to a declared pool
   pub requests : (u : ℕ) → IfSome (S.desk u).migrate (λ p. p < length W.pools)
+  -- its position is not past the end of its operations
   pub positions : (u : ℕ) → (S.carried u).position ≤ length (ops_of (body_at W u))
