@@ -20,7 +20,7 @@ write_refused() {
 JSON
 }
 
-# A journal of so many misses, whose stamps go beyond 32 bits, and its trace.
+# A journal of COUNT misses, whose stamps exceed 32 bits, and its trace.
 write_long() {
     awk -v count="$1" -v journal="$room/long.journal" -v trace="$room/long.json" 'BEGIN {
         printf "{\"traceEvents\":[\n{\"ph\":\"M\",\"pid\":0,\"name\":\"process_name\",\"args\":{\"name\":\"abtrun\"}}" >trace
@@ -33,7 +33,7 @@ write_long() {
     }'
 }
 
-# A journal of so many misses with stamps from 1 on.
+# A journal of COUNT misses with stamps from 1 on.
 misses() { awk -v count="$1" 'BEGIN { for (i = 1; i <= count; i++) printf "%d 0 miss 0\n", i }'; }
 
 try_views() {
@@ -222,6 +222,7 @@ try_names
 try_reading
 try_writing
 signalled TERM 143 "$journal" "$program" svg -
+signalled INT 130 "$journal" "$program" svg -
 signalled HUP 129 "$journal" "$program" svg -
 signalled KILL 137 "$journal" "$program" svg -
 refuse_memory

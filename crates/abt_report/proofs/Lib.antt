@@ -1,5 +1,6 @@
 mod Guessing
 mod Joining
 mod JournalTexts
+pub mod Limits
 mod LineBreaks
 mod Numbering

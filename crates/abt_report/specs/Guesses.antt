@@ -1,4 +1,4 @@
--- What words may be those of an event.
+-- The event that words can be those of.
 use Rattle.std.specs.Prelude.{ℕ, Bool, if◌then◌else◌, Option, Some, None, codes, ◌==◌}
 use Rattle.std.specs.Str.{bytes_eq}
 use Rattle.abt_machine.specs.declared.events.Cause.{Cause}

@@ -1,5 +1,5 @@
 -- Texts that are read as journals.
-use Rattle.std.specs.Prelude.{ℕ, suc, ◌≡◌, ◌≢◌, ◌<◌, ◌^◌, List, [], ◌++◌, length, All, MatchOption, Option, ⊤}
+use Rattle.std.specs.Prelude.{ℕ, zero, suc, ◌≡◌, ◌≢◌, ◌<◌, ◌≤◌, ◌^◌, List, [], ◌++◌, length, All, MatchOption, Option, ⊤}
 use Rattle.abt_machine.specs.declared.events.Event.{Event}
 use Rattle.abt_machine.specs.declared.events.What.{What}
 use Rattle.abt_machine.specs.declared.events.What.TheVariants as what
@@ -32,7 +32,7 @@ pub record IsEvent (e : Event) : Type 0 where
 abbrev pub event_line : Event → Text
 event_line e = line_of (event_words e)
 
--- the rest stands from line l of the bytes on, after the lines of these events
+-- the rest is what the bytes have from line l on, after the lines of these events
 pub record StandsAfter (bytes : Text) (l : ℕ) (J : List Event) (rest : Text) : Type 0 where
   pub text : journal_text J ++ rest ≡ bytes
   pub events : All IsEvent J
@@ -42,14 +42,33 @@ pub record StandsAfter (bytes : Text) (l : ℕ) (J : List Event) (rest : Text) :
 abbrev pub BeginsNoEvent : Text → Type 0
 BeginsNoEvent rest = (e : Event) (more : Text) → IsEvent e → ended (event_line e) ++ more ≡ rest → ⊥
 
--- line l is the first at which no journal's text agrees with the bytes: the lines before it are those of events, and it is
--- there and is none
+-- line l is the first at which no journal's text agrees with the bytes: the lines before it are those of events, and the bytes from
+-- it on are not empty and do not begin with an event's line
 abbrev pub IsBadAt : Text → ℕ → Type 0
 IsBadAt bytes l = (J : List Event) × (rest : Text) × StandsAfter bytes l J rest × (rest ≢ []) × BeginsNoEvent rest
 
 -- the bytes are no journal's text
 abbrev pub IsNoJournal : Text → Type 0
 IsNoJournal bytes = (J : List Event) → All IsEvent J → journal_text J ≡ bytes → ⊥
+
+-- Texts of files, which programs read up to a limit.
+
+-- how many bytes the text of a journal in a file has at most
+abbrev pub journal_limit : ℕ
+journal_limit = 1073741824
+
+-- the bytes of a file are the journal's text
+pub record IsTextOf (J : List Event) (bytes : Text) : Type 0 where
+  pub events : All IsEvent J
+  pub text : journal_text J ≡ bytes
+  pub short : length bytes ≤ journal_limit
+
+-- the line that keeps the bytes of a file from being a journal's text, counted from 1; 0 says that they are too many
+abbrev pub IsNoJournalAt : Text → ℕ → Type 0
+IsNoJournalAt bytes zero = journal_limit < length bytes
+IsNoJournalAt bytes (suc l) = (length bytes ≤ journal_limit) × IsBadAt bytes (suc l) × IsNoJournal bytes
+
+-- What a reader returns.
 
 -- a value of this kind whose text it is, or nothing if there is none
 abbrev pub ReadsAs : {A : Type 0} → (A → Type 0) → (A → Text) → Text → Option A → Type 0

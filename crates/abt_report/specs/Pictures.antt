@@ -19,7 +19,7 @@ units_in_rows = map unit_in_row
 abbrev pub SaysWordsOf : Parts → Row → Type 0
 SaysWordsOf W row = All (IsPieceOf W) row.output
 
--- the picture of where the journal ends
+-- the picture of the state in which the journal ends
 pub record IsPictureOf (W : Parts) (J : List Event) (picture : List Row) : Type 0 where
   -- it shows each unit as the last state has it
   pub shown : shown_units W (last_state W J) ≡ units_in_rows picture

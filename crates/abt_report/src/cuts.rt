@@ -2,7 +2,7 @@
 
 ghost use Rattle.std.specs.Prelude.{◌≡◌, ◌≢◌, ◌++◌, ◌∷◌, All, MatchOption};
 
-/// The text before the first such byte, and the text after it.
+/// The text before the first byte that equals the mark, and the text after it; nothing if there is no such byte.
 pub(crate) fn cut(text: &[u8], mark: u8) -> Option<(&[u8], &[u8])>
     ensures { MatchOption result
         (All (λ b. b ≢ mark) text.now)

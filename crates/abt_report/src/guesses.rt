@@ -1,6 +1,6 @@
-//! The event that words may be those of: if they are the words of an event, it is that one.
+//! The only event that can have these words: if they are the words of an event, it is that one.
 
-ghost use Rattle.std.specs.Prelude.{◌≡◌, ◌<◌, ◌^◌, ℕ, [], ◌∷◌, OnOk, Some, decimal, map};
+ghost use Rattle.std.specs.Prelude.{◌≡◌, ◌<◌, ◌^◌, ℕ, [], ◌∷◌, OnOk, Some, decimal, map, take};
 ghost use Rattle.std.specs.List.{slice_split};
 ghost use Rattle.std.specs.Str.{bytes_eq};
 ghost use Rattle.abt_machine.specs.declared.events.Cause.{Cause};
@@ -15,7 +15,7 @@ use crate::cuts::cut;
 use abt_machine::{Cause, Code, Event, PoolNo, StreamNo, UnitNo, Want, What};
 use std::str;
 
-// The number of 64 bits that a word is.
+// The number of 64 bits whose decimal digits the word is.
 fn long(word: &[u8]) -> Option<u64>
     ensures { (n : ℕ) → n < 2 ^ 64 → decimal n ≡ word.now → result ≡ Some n }
 {
@@ -28,7 +28,7 @@ fn long(word: &[u8]) -> Option<u64>
     Some(n)
 }
 
-// The number of 32 bits that a word is.
+// The number of 32 bits whose decimal digits the word is.
 fn short(word: &[u8]) -> Option<u32>
     ensures { (n : ℕ) → n < 2 ^ 32 → decimal n ≡ word.now → result ≡ Some n }
 {
@@ -41,7 +41,7 @@ fn is(word: &[u8], text: &[u8]) -> bool
     word == text
 }
 
-// The value of the first of these names that the word is, if it is one.
+// The value of the first name that equals the word, if there is one.
 macro_rules! named {
     ($word:expr; $($name:literal => $value:expr,)*) => {
         $(if is($word, $name) { Some($value) } else)* { None }
@@ -152,16 +152,23 @@ pub(crate) fn event(words: &[&[u8]]) -> Option<Event>
     })
 }
 
-/// The words of a line, which stand between single spaces.
+// An event has six words at most, so a line with this many words is not an event's.
+const TOO_MANY: usize = 7;
+
+/// The words of a line, which stand between single spaces: all of them, or the first seven if there are more. So a long line takes no
+/// more memory than a short one.
 pub(crate) fn split<'a>(words: &mut Vec<&'a [u8]>, line: &'a [u8]) -> Result<(), Want>
-    ensures { OnOk result (map (λ word. word.now) words.new.items ≡ slice_split is_space line.entry.now) }
+    ensures { OnOk result (map (λ word. word.now) words.new.items ≡ take 7 (slice_split is_space line.entry.now)) }
 {
     words.clear();
     let mut rest = line;
-    while let Some((word, more)) = cut(rest, b' ') {
+    while words.len() < TOO_MANY {
+        let Some((word, more)) = cut(rest, b' ') else {
+            words.push(rest)?;
+            return Ok(());
+        };
         words.push(word)?;
         rest = more;
     }
-    words.push(rest)?;
     Ok(())
 }

@@ -16,7 +16,7 @@ mod words;
 pub use journals::journal_text;
 pub use outputs::outputs_text;
 pub use pictures::{Picture, Row};
-pub use reading::read_journal;
+pub use reading::{JOURNAL_LIMIT, read_journal};
 pub use reports::{append_report, report, short_report};
 pub use steps::count_steps;
 pub use text_fault::TextFault;

@@ -1,4 +1,4 @@
-//! What units put out, without where they are.
+//! What units put out, without the places where they are.
 
 ghost use Rattle.std.specs.Prelude.{◌≡◌, ◌++◌, All, IfOk, OnOk};
 ghost use Rattle.abt_machine.specs.Pieces.{IsPieceOf};

@@ -11,7 +11,10 @@ use crate::text_fault::TextFault;
 use abt_machine::{Event, Journal, Want};
 use std::alloc::Global;
 
-// Whether the line is that of the event, which is written into the text for it.
+/// The most bytes of a file that programs read as a journal's text.
+pub const JOURNAL_LIMIT: usize = 1_073_741_824;
+
+// Whether the line is that of the event, whose line is written into the text in order to compare them.
 fn is_line_of(line: &[u8], event: &Event, text: &mut Vec<u8>) -> Result<bool, Want>
     ensures { IfOk result (λ is. MatchBool is (event_line event.now ≡ line.now) (event_line event.now ≢ line.now)) }
 {
@@ -20,7 +23,7 @@ fn is_line_of(line: &[u8], event: &Event, text: &mut Vec<u8>) -> Result<bool, Wa
     Ok(text.as_slice() == line)
 }
 
-// The event whose line this is. Words and text are room that is used again.
+// The event whose line this is. Words and text are buffers, used again for each line.
 fn read_event<'a>(
     line: &'a [u8],
     words: &mut Vec<&'a [u8]>,

@@ -79,7 +79,7 @@ fn push_units(out: &mut Vec<u8>, w: &Workload, rows: &[Row]) -> Result<(), Want>
     Ok(())
 }
 
-// Appends the tally of so many units.
+// Appends the line of a tally and of the number of units.
 fn push_tally(out: &mut Vec<u8>, units: u64, tally: &Tally, steps: u64) -> Result<(), Want>
     ensures { OnOk result (out.new.items ≡ out.old.items ++ ended (line_of (tally_words units tally.now steps))) }
 {
@@ -121,7 +121,7 @@ fn push_end(out: &mut Vec<u8>, rows: &[Row], outcome: Outcome, steps: u64) -> Re
     Ok(())
 }
 
-/// Appends the report of a run after so many steps: a line for each unit of the picture, the tally, and how the run ended.
+/// Appends the report of a run with that number of steps: a line for each unit of the picture, the tally, and how the run ended.
 pub fn append_report(
     out: &mut Vec<u8>,
     w: &Workload,
@@ -136,7 +136,7 @@ pub fn append_report(
     push_end(out, picture.items(), outcome, steps)
 }
 
-/// The report alone.
+/// The report of a run, as `append_report` appends it.
 pub fn report(
     alloc: Global,
     w: &Workload,
@@ -152,7 +152,7 @@ pub fn report(
     Ok(out)
 }
 
-/// The report with the line of unit 0 alone.
+/// The short report: as the report, but with the line of unit 0 only.
 pub fn short_report(
     alloc: Global,
     w: &Workload,

@@ -52,7 +52,7 @@ impl Tally {
         }
     }
 
-    // Counts one more unit, of at most `seen` so far.
+    // Counts one more unit; no count is above `seen` before.
     fn count(&mut self, shown: Shown, seen: usize)
         requires few { IsAtMost seen self.old }
         requires room { seen < 2 ^ 64 - 1 }

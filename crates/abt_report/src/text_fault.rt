@@ -10,7 +10,7 @@ use thiserror::Error;
 /// Why a text of lines was not read.
 #[derive(Clone, Copy, Debug, PartialEq, Eq, Error)]
 pub enum TextFault {
-    /// The first line, counted from 1, that is not as the text's reader states.
+    /// The first line, counted from 1, that is refused, as the reader of the text states.
     #[error("line {line} is refused")]
     Bad { line: u32 },
     #[error("out of memory")]

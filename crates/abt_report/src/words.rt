@@ -38,7 +38,7 @@ pub fn name_of_cause(cause: Cause) -> &'static [u8]
     }
 }
 
-/// How a report calls an end.
+/// The word of a cause in a report.
 pub(crate) fn name_of_end(cause: Cause) -> &'static [u8]
     ensures { result.now ≡ ended_name cause }
 {

@@ -1,5 +1,5 @@
 -- Which status a call answers if its cause holds.
-use Rattle.std.proofs.Common.{◌≡◌, ◌≢◌, ◌<◌, ◌≤◌, ◌⊎◌, ℕ, zero, suc, List, [], ◌∷◌, length, Option, Some, None, inl, inr, refl, sym, ap, subst, ◌∙◌, arith}
+use Rattle.std.proofs.Common.{◌≡◌, ◌≢◌, ◌<◌, ◌≤◌, ◌⊎◌, ℕ, List, [], ◌∷◌, length, Option, Some, None, inl, inr, refl, sym, ap, subst, ◌∙◌, arith}
 use Rattle.std.specs.Prelude.{IfSome}
 use Rattle.std.proofs.lemmas.List.{take_all}
 use Rattle.abt_machine.specs.declared.events.Event.{Event}
@@ -27,6 +27,8 @@ use Rattle.abt_words.specs.declared.commands.Command.TheVariants as command
 use Rattle.abt_words.specs.Commands.{Says}
 use Rattle.abt_words.proofs.OneCommand.{one-command}
 use Rattle.abt_workload.proofs.RoundTrip.{only-valid}
+use Rattle.abt_report.specs.Journals.{IsNoJournalAt, IsTextOf}
+use Rattle.abt_report.proofs.Limits.{not-both}
 use Rattle.abt_shell.specs.declared.status.Stop.TheVariants.{BadWords, BadLine, CannotRead, OutOfMemory}
 use Rattle.abt_shell.specs.declared.status.Wrong.TheVariants.{Workload, Journal, Lives}
 use Rattle.abt_shell.specs.Calls.{EndsBy, Holds, IsStill}
@@ -35,7 +37,7 @@ use Rattle.abt_shell.specs.Told.{Grew}
 use Rattle.abt_shell.proofs.Calls.{reads-well, writes-well}
 use Rattle.abt_shell.proofs.Fetched.{of-observed}
 use Rattle.abt_run.specs.Call.{Call, Decides, IsAnswered, IsOfRun, RunsKnown, program}
-use Rattle.abt_run.specs.Given.{Compares, Given, IsNoJournalAt, IsReadFrom, IsTextOf, SaysNothing, Tells, journal_limit, workload_file}
+use Rattle.abt_run.specs.Given.{Compares, Given, IsReadFrom, SaysNothing, Tells, workload_file}
 use Rattle.abt_run.specs.Printed.{AsksFlow, HasVerdict, IsFor, Prints, Ran, steps_for}
 use Rattle.abt_run.specs.Status.{number_of_conclusion}
 use Rattle.abt_run.specs.declared.status.Conclusion.{Conclusion}
@@ -67,13 +69,7 @@ module _ (g : Given) (file : Text) where
   same-journal J K tells is = one-journal tells.0 K J (of-observed (IsTextOf K) (g.file file) tells.0 tells.1 is) tells.2
 
   not-bad : (J : List Event) (line : ℕ) → Tells g file (IsTextOf J) → IfSome (g.file file) (λ bytes. IsNoJournalAt bytes line) → ⊥
-  not-bad J zero tells is =
-      let long : journal_limit < length tells.0 = of-observed (λ text. IsNoJournalAt text 0) (g.file file) tells.0 tells.1 is in
-      let short : length tells.0 ≤ journal_limit = tells.2.short in
-      absurd (omega arith)
-  not-bad J (suc l) tells is =
-      let bad : IsNoJournalAt tells.0 (suc l) = of-observed (λ text. IsNoJournalAt text (suc l)) (g.file file) tells.0 tells.1 is in
-      bad.2 J tells.2.events tells.2.text
+  not-bad J line tells is = not-both J tells.0 line tells.2 (of-observed (λ text. IsNoJournalAt text line) (g.file file) tells.0 tells.1 is)
 
   not-journal : (K : List Event) → Tells g file (λ bytes. (J : List Event) → IsTextOf J bytes → ⊥) → IfSome (g.file file) (IsTextOf K) → ⊥
   not-journal K tells is = tells.2 K (of-observed (IsTextOf K) (g.file file) tells.0 tells.1 is)

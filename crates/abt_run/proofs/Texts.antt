@@ -18,17 +18,17 @@ use Rattle.abt_machine.specs.Spelling.{lines_of}
 use Rattle.abt_machine.specs.Words.{Text}
 use Rattle.abt_bounds.specs.Laws.{IsWritten, what_numbers}
 use Rattle.abt_bounds.proofs.JournalTexts.{journal-texts-differ}
-use Rattle.abt_report.specs.Journals.{HasShortNumbers, IsEvent}
+use Rattle.abt_report.specs.Journals.{HasShortNumbers, IsEvent, IsNoJournalAt, IsTextOf, journal_limit}
 use Rattle.abt_report.specs.Journals as journals
 use Rattle.abt_machine.specs.Texts.{journal_text}
 use Rattle.abt_report.specs.declared.text_fault.TextFault.{TextFault}
 use Rattle.abt_report.specs.declared.text_fault.TextFault.TheVariants as bad
+use Rattle.abt_report.proofs.Limits.{bad-line}
 use Rattle.abt_shell.proofs.Fetched.{of-long, of-whole, whole}
 use Rattle.abt_workload.specs.Reading.{IsCause}
 use Rattle.abt_workload.specs.declared.reading.NotRead.{NotRead}
 use Rattle.abt_workload.specs.declared.reading.NotRead.TheVariants as cause
 use Rattle.abt_workload.proofs.Seen.{length-fault, most-bytes}
-use Rattle.abt_run.specs.Given.{IsNoJournalAt, IsTextOf, journal_limit}
 
 -- Workloads.
 
@@ -87,14 +87,7 @@ pub told-bad : (told : Option Text) (front : Text) (c : TextFault) (line l : ℕ
     → journals.IsCause front c → IfSome told (λ bytes. IsNoJournalAt bytes l)
 told-bad told front c line l e short is same why =
     subst (λ k. IfSome told (λ bytes. IsNoJournalAt bytes k)) (sym same)
-    (of-whole journal_limit (λ bytes. IsNoJournalAt bytes line) told front e short (at line (subst (journals.IsCause front) is why)))
-  where
-    no-line-zero : journals.IsBadAt front 0 → ⊥
-    no-line-zero h = let line : suc (length h.0) ≡ 0 = h.2.line in absurd (omega arith)
-
-    at : (k : ℕ) → journals.IsCause front (bad.Bad k) → IsNoJournalAt front k
-    at zero h = absurd (no-line-zero h.0)
-    at (suc k) h = (short, h.0, h.1)
+    (of-whole journal_limit (λ bytes. IsNoJournalAt bytes line) told front e short (bad-line front line short (subst (journals.IsCause front) is why)))
 
 -- One text, one journal.
 

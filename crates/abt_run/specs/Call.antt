@@ -10,13 +10,14 @@ use Rattle.abt_check.specs.Verdicts.{IsStampedRun}
 use Rattle.abt_flow.specs.Confluent.{Confluent}
 use Rattle.abt_flow.specs.Flow.{IsFlow}
 use Rattle.abt_generate.specs.Generated.{generated}
+use Rattle.abt_report.specs.Journals.{IsTextOf}
 use Rattle.abt_shell.specs.Calls.{EndsBy, IsStill, Left, Program}
 use Rattle.abt_shell.specs.Told.{Grew}
 use Rattle.abt_shell.specs.declared.status.Stop.{Stop}
 use Rattle.abt_words.specs.declared.commands.Command.{Command}
 use Rattle.abt_words.specs.declared.commands.Command.TheVariants as command
 use Rattle.abt_words.specs.Commands.{Says}
-use Rattle.abt_run.specs.Given.{Given, IsTextOf, SaysNothing, Tells, workload_file}
+use Rattle.abt_run.specs.Given.{Given, SaysNothing, Tells, workload_file}
 use Rattle.abt_run.specs.Prepared.{StopsCommand}
 use Rattle.abt_run.specs.Printed.{Prints, steps_for}
 use Rattle.abt_run.specs.Status.{name, number_of_conclusion}

@@ -1,13 +1,9 @@
 -- What a call of the program is given, and what its words ask for.
-use Rattle.std.specs.Prelude.{◌≡◌, ◌<◌, ◌≤◌, ℕ, zero, suc, List, Option, Some, None, IfSome, length}
-use Rattle.std.specs.List.{All}
-use Rattle.abt_machine.specs.declared.events.Event.{Event}
+use Rattle.std.specs.Prelude.{◌≡◌, List, Option, Some, None, IfSome}
 use Rattle.abt_machine.specs.declared.operations.OrderShape.{OrderShape}
 use Rattle.abt_machine.specs.declared.workload.Parts.{Parts}
 use Rattle.abt_machine.specs.Grammar.{Reads}
-use Rattle.abt_machine.specs.Texts.{journal_text}
 use Rattle.abt_machine.specs.Words.{Text}
-use Rattle.abt_report.specs.Journals.{IsBadAt, IsEvent, IsNoJournal}
 use Rattle.abt_words.specs.declared.commands.Command.{Command}
 use Rattle.abt_words.specs.declared.commands.Command.TheVariants as command
 use Rattle.abt_words.specs.Commands.{Says}
@@ -53,22 +49,6 @@ Tells g file Is = (bytes : Text) × (g.file file ≡ Some bytes) × Is bytes
 -- W is the workload of the file
 abbrev pub IsReadFrom : Given → Text → Parts → Type 0
 IsReadFrom g file W = IfSome (g.file file) (λ bytes. Reads bytes W)
-
--- Journals as texts.
-
--- how many bytes the text of a journal has at most
-abbrev pub journal_limit : ℕ
-journal_limit = 1073741824
-
-pub record IsTextOf (J : List Event) (bytes : Text) : Type 0 where
-  pub events : All IsEvent J
-  pub text : journal_text J ≡ bytes
-  pub short : length bytes ≤ journal_limit
-
--- the line that keeps the bytes from being a journal's text, counted from 1; 0 is their length
-abbrev pub IsNoJournalAt : Text → ℕ → Type 0
-IsNoJournalAt bytes zero = journal_limit < length bytes
-IsNoJournalAt bytes (suc l) = (length bytes ≤ journal_limit) × IsBadAt bytes (suc l) × IsNoJournal bytes
 
 -- the words ask to compare a workload, which is W, with a journal, of whose bytes this holds, if they are observable
 pub record Compares (g : Given) (W : Parts) (Is : Text → Type 0) : Type 0 where

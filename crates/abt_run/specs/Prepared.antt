@@ -3,11 +3,12 @@ use Rattle.std.specs.Prelude.{ℕ, Option, IfSome}
 use Rattle.abt_machine.specs.declared.workload.Parts.{Parts}
 use Rattle.abt_machine.specs.Grammar.{Refuses}
 use Rattle.abt_machine.specs.Words.{Text}
+use Rattle.abt_report.specs.Journals.{IsNoJournalAt}
 use Rattle.abt_shell.specs.Fetched.{HasNot, StopsFor}
 use Rattle.abt_shell.specs.declared.status.Stop.{Stop}
 use Rattle.abt_shell.specs.declared.status.Wrong.{Wrong}
 use Rattle.abt_shell.specs.declared.status.Wrong.TheVariants.{Workload, Journal, Lives}
-use Rattle.abt_run.specs.Given.{Compares, Given, IsNoJournalAt, NamesFile, NamesSuch, SaysNothing}
+use Rattle.abt_run.specs.Given.{Compares, Given, NamesFile, NamesSuch, SaysNothing}
 
 -- a line of a file that the words name has this wrong
 abbrev pub IsBadLine : Given → ℕ → Wrong → Type 0

@@ -17,11 +17,12 @@ use Rattle.abt_drain.specs.Runs.{HasRun}
 use Rattle.abt_flow.specs.Confluent.{Confluent}
 use Rattle.abt_flow.specs.Flow.{IsFlow}
 use Rattle.abt_generate.specs.Generated.{generated}
+use Rattle.abt_report.specs.Journals.{IsTextOf}
 use Rattle.abt_report.specs.Outputs.{outputs_text}
 use Rattle.abt_words.specs.declared.commands.Command.{Command}
 use Rattle.abt_words.specs.declared.commands.Command.TheVariants as command
 use Rattle.abt_words.specs.Commands.{Says}
-use Rattle.abt_run.specs.Given.{Compares, Given, IsReadFrom, IsTextOf}
+use Rattle.abt_run.specs.Given.{Compares, Given, IsReadFrom}
 use Rattle.abt_run.specs.declared.status.Conclusion.{Conclusion}
 use Rattle.abt_run.specs.declared.status.Conclusion.TheVariants.{Ended, Judged, Flows, NotConfluent, Undefined}
 

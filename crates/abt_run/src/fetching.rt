@@ -2,18 +2,15 @@
 
 ghost use Rattle.std.specs.Prelude.{◌≡◌, ◌≤◌, ℕ, List, IfErr, IfOk, IfSome};
 ghost use Rattle.abt_machine.specs.Grammar.{Reads};
-ghost use Rattle.abt_run.specs.Given.{IsTextOf};
+ghost use Rattle.abt_report.specs.Journals.{IsTextOf};
 ghost use Rattle.abt_run.specs.Prepared.{HasNoWorkload, HasNoJournal};
 
 use abt_machine::{Format, Journal, Workload};
-use abt_report::{TextFault, read_journal};
+use abt_report::{JOURNAL_LIMIT, TextFault, read_journal};
 use abt_shell::{Stop, Wrong, bytes_of};
 use abt_source::Files;
 use abt_workload::{NotRead, read};
 use std::alloc::Global;
-
-// How many bytes the text of a journal has at most.
-const JOURNAL_LIMIT: usize = 1_073_741_824;
 
 /// The workload of a file.
 ///

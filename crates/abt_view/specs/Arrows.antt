@@ -13,32 +13,32 @@ use Rattle.abt_view.specs.declared.arrows.Spot.{Spot}
 abbrev pub spot_of : Event → Spot
 spot_of e = record { stream = e.stream.0; stamp = e.stamp }
 
--- of each stream its last event that is no put, if that names a unit; of each unit the put that no take or look has
--- followed, if there is one; and the arrows that have ended
+-- the last event of each stream that is not a put, if it names a unit; the arrow of each unit's put that no take or look has followed, if
+-- there is one; and the arrows that have ended
 pub record WaysValue : Type 0 where
   pub senders : List (Option Sender)
   pub waiting : List (Option Arrow)
   pub past : List Arrow
 
--- the event that sent unit u to the tray: the stream's last one that is no put, if it is of another unit
+-- the event that sent unit u to the tray: the stream's last one that is not a put, if it is of another unit
 abbrev pub sent_by : Option Sender → ℕ → Option Spot
 sent_by None u = None
 sent_by (Some sender) u = if sender.unit == u then None else Some sender.spot
 
--- the arrow of the open put, if there is one, ends at a take or a look, or at none
+-- the open arrow, if there is one, with its end at a take or a look, or without an end
 abbrev pub ended_at : Option Spot → Option Arrow → List Arrow
 ended_at at None = []
 ended_at at (Some arrow) = record arrow { taken = at } ∷ []
 
--- the open arrow of unit u ends, and another is in its place
+-- the open arrow of unit u, if there is one, ends, and another takes its place
 abbrev pub replaced : ℕ → Option Spot → Option Arrow → WaysValue → WaysValue
 replaced u at new ways = record ways { waiting = slice_set ways.waiting u new; past = ways.past ++ ended_at at (get_or ways.waiting u None) }
 
--- the last event of stream s that is no put
+-- the last event of stream s that is not a put is noted
 abbrev pub noted : ℕ → Option Sender → WaysValue → WaysValue
 noted s sender ways = record ways { senders = slice_set ways.senders s sender }
 
--- an event of unit u that is no put
+-- an event of unit u that is not a put is noted
 abbrev pub sent : Event → ℕ → WaysValue → WaysValue
 sent e u ways = noted e.stream.0 (Some (record { unit = u; spot = spot_of e })) ways
 
@@ -46,11 +46,11 @@ sent e u ways = noted e.stream.0 (Some (record { unit = u; spot = spot_of e })) 
 abbrev pub taken : Event → ℕ → WaysValue → WaysValue
 taken e u ways = sent e u (replaced u (Some (spot_of e)) None ways)
 
--- the arrow of a put of unit u
+-- the arrow that begins with a put of unit u
 abbrev pub begun : Event → ℕ → WaysValue → Arrow
 begun e u ways = record { unit = u; sent = sent_by (get_or ways.senders e.stream.0 None) u; put = spot_of e; taken = None }
 
--- what an event makes of the arrows
+-- the arrows after an event
 abbrev pub met : WaysValue → Event → What → WaysValue
 met ways e (what.Miss p) = noted e.stream.0 None ways
 met ways e (what.Take p u) = taken e u.0 ways
@@ -64,7 +64,7 @@ met ways e (what.Leave u) = sent e u.0 ways
 abbrev pub followed : WaysValue → Event → WaysValue
 followed ways e = met ways e e.what
 
--- before the first event, for as many streams and units as a workload may have
+-- the state before the first event, for as many streams and units as a workload may have
 abbrev pub at_start : WaysValue
 at_start = record { senders = replicate (stream_limit format.Two) None; waiting = replicate (unit_limit format.Two) None; past = [] }
 

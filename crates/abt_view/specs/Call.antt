@@ -1,10 +1,9 @@
--- What a call of the program reads and writes, and what each status says of that.
+-- What a call of the program reads and writes, and what each exit status says about that.
 use Rattle.std.specs.Prelude.{◌≡◌, ◌≢◌, ◌⊎◌, ℕ, List, Option, Some, IfSome, codes, ⊤}
 use Rattle.std.specs.List.{All}
 use Rattle.abt_machine.specs.declared.events.Event.{Event}
-use Rattle.abt_machine.specs.Texts.{journal_text}
 use Rattle.abt_machine.specs.Words.{Text}
-use Rattle.abt_report.specs.Journals.{IsBadAt, IsEvent, IsNoJournal}
+use Rattle.abt_report.specs.Journals.{IsEvent, IsNoJournalAt, IsTextOf}
 use Rattle.abt_shell.specs.declared.status.Stop.{Stop}
 use Rattle.abt_shell.specs.declared.status.Wrong.{Wrong}
 use Rattle.abt_shell.specs.declared.status.Wrong.TheVariants.{Workload, Journal, Lives}
@@ -20,27 +19,29 @@ pub record Call : Type 0 where
   pub file : Text → Option Text
   pub left : Left
 
--- the words ask for a view of no file
+-- the words do not ask for a view
 abbrev pub AsksNothing : List Text → Type 0
 AsksNothing words = (v : View) (file : Text) → Asks words v file → ⊥
 
--- the words ask for the view of a file
+-- the words ask for a view of a file
 pub record NamesFile (words : List Text) : Type 0 where
   pub view : View
   pub file : Text
   pub asks : Asks words view file
 
--- and that is so of its bytes, if they are observable
+-- the words ask for a view of a file, and `Is` holds of its bytes, if they are observable
 pub record NamesSuch (words : List Text) (file_of : Text → Option Text) (Is : Text → Type 0) : Type 0 where
   pub view : View
   pub file : Text
   pub asks : Asks words view file
   pub reads : IfSome (file_of file) Is
 
--- the text is that view of the journal in a file, whose bytes, if they are observable, are the journal's text
+-- the text is that view of the journal in a file: its numbers are within their types, and the bytes of the file, if they are observable,
+-- are its text
 pub record IsFileView (v : View) (file : Text) (file_of : Text → Option Text) (text : Text) : Type 0 where
   pub journal : List Event
-  pub reads : IfSome (file_of file) (λ bytes. journal_text journal ≡ bytes)
+  pub events : All IsEvent journal
+  pub reads : IfSome (file_of file) (IsTextOf journal)
   pub shows : text ≡ view_text v journal
 
 -- the text is the view that the words ask for
@@ -50,35 +51,31 @@ pub record IsViewOf (words : List Text) (file_of : Text → Option Text) (text :
   pub asks : Asks words view file
   pub shown : IsFileView view file file_of text
 
--- the bytes are no journal, and line l is the first that is wrong
-abbrev pub IsWrongAt : ℕ → Text → Type 0
-IsWrongAt l bytes = IsBadAt bytes l × IsNoJournal bytes
-
 -- Why a call stops before its first write.
 
--- a line of a file, by its bytes if they are observable, has this wrong, which keeps it from being a journal's
+-- this fault of a line keeps a file, by its bytes if they are observable, from being a journal's; line 0 says that they are too many
 abbrev pub IsNoJournalLine : Option Text → ℕ → Wrong → Type 0
 IsNoJournalLine told line (Workload f) = ⊥
-IsNoJournalLine told line Journal = IfSome told (IsWrongAt line)
+IsNoJournalLine told line Journal = IfSome told (λ bytes. IsNoJournalAt bytes line)
 IsNoJournalLine told line Lives = ⊥
 
 -- why the file has no journal to show
 abbrev pub HasNoJournal : Option Text → ℕ × ℕ → Stop → Type 0
 HasNoJournal told = HasNot (IsNoJournalLine told)
 
--- a line of the file that the words name has this wrong
+-- a line of the file that the words name has this fault
 abbrev pub IsBadLine : List Text → (Text → Option Text) → ℕ → Wrong → Type 0
 IsBadLine words file_of line (Workload f) = ⊥
-IsBadLine words file_of line Journal = NamesSuch words file_of (IsWrongAt line)
+IsBadLine words file_of line Journal = NamesSuch words file_of (λ bytes. IsNoJournalAt bytes line)
 IsBadLine words file_of line Lives = ⊥
 
--- by the words, the files, and the count of faults of reading before and afterwards
+-- why the call stops, by the words, the files, and the count of read faults before and afterwards
 abbrev pub StopsView : List Text → (Text → Option Text) → ℕ × ℕ → Stop → Type 0
 StopsView words file_of = StopsFor (AsksNothing words) (NamesFile words) (IsBadLine words file_of)
 
 -- What each status says.
 
--- the program, of which each status says what `Wrote`, `WrotePrefix` or `StoppedBy` of abt_shell has; it comes to a view
+-- the program: each status says what `Wrote`, `WrotePrefix` or `StoppedBy` of abt_shell states; its one conclusion is that a view is written
 abbrev pub program : Call → Program ⊤
 program c = record {
   name = codes "abtview";
@@ -87,17 +84,17 @@ program c = record {
   Stops = StopsView c.words c.file c.left.read_faults;
 }
 
--- if the words ask for the view of a journal, and no fault of reading or writing comes, it is written
+-- if the words ask for the view of a file whose bytes are a journal's text, and no fault of reading or writing comes, it is written
 abbrev pub IsComplete : ℕ → Call → Type 0
-IsComplete n c = (v : View) (file : Text) (J : List Event) → Asks c.words v file → c.file file ≡ Some (journal_text J) → All IsEvent J
+IsComplete n c = (v : View) (file bytes : Text) (J : List Event) → Asks c.words v file → c.file file ≡ Some bytes → IsTextOf J bytes
     → (Grew c.left.read_faults → ⊥) → (Grew c.left.out_faults → ⊥) → (n ≡ 0) ⊎ (n ≡ 7)
 
--- if they name a file whose bytes are no journal's text, and no fault of reading comes, the status is 3
+-- if they name a file whose bytes are the text of no journal, and no fault of reading comes, the status is 3
 abbrev pub RefusesTexts : ℕ → Call → Type 0
-RefusesTexts n c = (v : View) (file bytes : Text) → Asks c.words v file → c.file file ≡ Some bytes → ((J : List Event) → journal_text J ≡ bytes → ⊥)
+RefusesTexts n c = (v : View) (file bytes : Text) → Asks c.words v file → c.file file ≡ Some bytes → ((J : List Event) → IsTextOf J bytes → ⊥)
     → (Grew c.left.read_faults → ⊥) → (n ≡ 3) ⊎ (n ≡ 7)
 
--- if the words ask for nothing, they are refused
+-- if the words ask for no view, they are refused
 abbrev pub RefusesWords : ℕ → Call → Type 0
 RefusesWords n c = AsksNothing c.words → (n ≡ 2) ⊎ (n ≡ 7)
 

@@ -13,11 +13,11 @@ pub record NestValue : Type 0 where
   pub inside : List Frame
   pub last : ℕ
 
--- a scheduler unit begins a frame, within so many others
+-- the frame that begins where a scheduler unit enters, within `depth` others
 abbrev pub frame_begun : ℕ → Event → ℕ → Frame
 frame_begun depth e u = record { stream = e.stream.0; unit = u; depth = depth; since = e.stamp; until = e.stamp }
 
--- the frame lasts until that stamp
+-- the frame, ended at that stamp
 abbrev pub lasting : ℕ → Frame → Frame
 lasting t frame = record frame { until = t }
 
@@ -26,7 +26,7 @@ abbrev pub frame_left : NestValue → Option Frame → NestValue
 frame_left nest None = nest
 frame_left nest (Some frame) = record nest { past = nest.past ++ lasting nest.last frame ∷ []; inside = take (length nest.inside - 1) nest.inside }
 
--- what an event of the stream makes of its frames: an enter begins one, and a leave ends the innermost
+-- the frames after an event of their stream: an enter begins one, and a leave ends the innermost
 abbrev pub nested : NestValue → Event → What → NestValue
 nested nest e (what.Miss p) = nest
 nested nest e (what.Take p u) = nest
@@ -37,11 +37,11 @@ nested nest e (what.End u c) = nest
 nested nest e (what.Enter u) = record nest { inside = nest.inside ++ frame_begun (length nest.inside) e u.0 ∷ [] }
 nested nest e (what.Leave u) = frame_left nest (slice_get nest.inside (length nest.inside - 1))
 
--- an event of stream s is judged, and that of another is in none of its frames
+-- the frames of stream s after an event of any stream: that of another stream changes nothing
 abbrev pub framed : ℕ → NestValue → Event → NestValue
 framed s nest e = if e.stream.0 == s then record (nested nest e e.what) { last = e.stamp } else nest
 
--- before the first event
+-- the state before the first event
 abbrev pub unnested : NestValue
 unnested = record { past = []; inside = []; last = 0 }
 
@@ -53,6 +53,6 @@ frames_in nest = map (lasting nest.last) nest.inside ++ reverse nest.past
 abbrev pub frames_in_lane : List Event → ℕ → List Frame
 frames_in_lane J s = frames_in (fold (framed s) unnested J)
 
--- the frames of the streams that a picture shows
+-- the frames of the streams that a view shows
 abbrev pub all_frames : List Event → List Frame
 all_frames J = flat_map (frames_in_lane J) (range_with_len 0 (streams_in J))

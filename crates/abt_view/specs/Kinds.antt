@@ -1,4 +1,4 @@
--- Kinds of events, in a word.
+-- The kinds of events, each as a word, and counts of a journal.
 use Rattle.std.specs.Prelude.{ℕ, Bool, true, false, List, codes, count_by, fold, max}
 use Rattle.abt_machine.specs.declared.events.Code.{Code}
 use Rattle.abt_machine.specs.declared.events.Code.TheVariants as code
@@ -24,7 +24,7 @@ kind_word (what.End u c) = cause_name c
 kind_word (what.Enter u) = codes "enter"
 kind_word (what.Leave u) = codes "leave"
 
--- a refused step
+-- whether a step with this code was refused
 abbrev pub is_refusal : Code → Bool
 is_refusal code.Ok = false
 is_refusal _ = true
@@ -37,6 +37,6 @@ is_refused _ = false
 abbrev pub refused_in : List Event → ℕ
 refused_in J = count_by (λ (e : Event). is_refused e.what) J
 
--- the greatest stamp of a journal
+-- the greatest stamp of a journal, or 0 if it has no event
 abbrev pub greatest_stamp : List Event → ℕ
 greatest_stamp J = fold (λ n (e : Event). max n e.stamp) 0 J

@@ -32,11 +32,11 @@ bar_title b = codes "<title>" ++ (journal_text b.events ++ codes "</title></g>\n
 abbrev pub bar_text : Stretch → Text
 bar_text b = bar_place b ++ (bar_shape b ++ bar_title b)
 
--- how far a frame goes beyond the bars and the marks within it: the less, the deeper it is
+-- by how many pixels a frame extends beyond the bars and marks within it: a deeper frame extends less
 abbrev pub margin_of : Frame → ℕ
 margin_of f = 6 - 2 * min f.depth 2
 
--- The frame of a stacked scheduler round what runs within it: from behind its enter to before its leave.
+-- The frame of a stacked scheduler around what runs within it: from after its enter to before its leave.
 abbrev pub frame_place : Frame → Text
 frame_place f = around (codes "<rect class='frame' transform='translate(") f.since (codes "0 ") ++ around [] (48 * f.stream) (codes ")' x='9' ")
 
@@ -46,7 +46,7 @@ frame_shape f = around (codes "y='-") (margin_of f) (codes "' ") ++ (around (cod
 abbrev pub frame_text : Frame → Text
 frame_text f = frame_place f ++ (frame_shape f ++ around (codes "<title>scheduler unit ") f.unit (codes "</title></rect>\n"))
 
--- a point below the mark of an event, so many pixels from the top of its lane
+-- a point below the mark of an event, `down` pixels below the top of its lane
 abbrev pub point_text : Text → Spot → ℕ → Text → Text
 point_text before at down after = around before at.stamp (codes "5 ") ++ around [] (48 * at.stream + down) after
 
@@ -56,7 +56,7 @@ line_shape u from to =
     point_text (codes "<path class='arrow' d='M") from 31 (codes "C")
     ++ (point_text [] from 39 (codes " ") ++ (point_text [] to 39 (codes " ") ++ (point_text [] to 31 (codes "'><title>unit ") ++ around [] u (codes "</title></path>\n"))))
 
--- the line from the event that sent the unit, and that to where it is taken
+-- the line from the event that sent the unit, and the line to where it is taken
 abbrev pub sent_text : ℕ → Option Spot → Spot → Text
 sent_text u None put = []
 sent_text u (Some sent) put = line_shape u sent put
@@ -68,7 +68,7 @@ taken_text u put (Some taken) = line_shape u put taken
 abbrev pub lines_text : Arrow → Text
 lines_text a = sent_text a.unit a.sent a.put ++ taken_text a.unit a.put a.taken
 
--- the mark of an event, a shape of its kind
+-- the mark of an event, whose shape shows its kind
 abbrev pub mark_text : Event → Text
 mark_text e = codes "<use href='#" ++ (kind_word e.what ++ (around (codes "' x='") e.stamp (codes "0' y='") ++ around [] (48 * e.stream.0) (codes "'/>\n")))
 
@@ -76,7 +76,7 @@ mark_text e = codes "<use href='#" ++ (kind_word e.what ++ (around (codes "' x='
 abbrev pub lane_text : ℕ → Text
 lane_text s = around (codes "<text class='lane' x='-62' y='") (48 * s + 14) (codes "'>") ++ around (codes "stream ") s (codes "</text>\n")
 
--- each tenth stamp on the axis
+-- a stamp on the axis, which has every tenth
 abbrev pub tick_text : ℕ → Text
 tick_text t = around (codes "<use href='#tick' x='") t (codes "00'/>") ++ (around (codes "<text class='tick' x='") t (codes "00' y='-12'>") ++ around [] t (codes "0</text>\n"))
 
@@ -88,11 +88,11 @@ size_text width height = around (codes "<svg xmlns='http://www.w3.org/2000/svg' 
 abbrev pub counts_text : List Event → Text
 counts_text J = around (codes "<text class='counts' x='-62' y='-36'>events ") (length J) (codes ", steps ") ++ (around [] (steps_in J) (codes ", refused ") ++ (around [] (refused_in J) (codes ", streams ") ++ around [] (streams_in J) (codes "</text>\n")))
 
--- what stands before the bars
+-- what comes before the axis
 abbrev pub head_text : List Event → Text
 head_text J = size_text (max (10 * greatest_stamp J + 120) 560) (48 * streams_in J + 100) ++ (STYLE.now ++ counts_text J)
 
--- the kinds of marks, below so many lanes
+-- the kinds of marks, below that number of lanes
 abbrev pub legend_text : ℕ → Text
 legend_text streams = around (codes "<g transform='translate(-62 ") (48 * streams + 10) (codes ")'>") ++ LEGEND.now
 
@@ -105,10 +105,10 @@ abbrev pub picture_text : List Event → Text
 picture_text J =
     head_text J ++ (axis_text J ++ (flat_map frame_text (all_frames J) ++ (flat_map bar_text (all_stretches J) ++ (flat_map mark_text J ++ (flat_map lines_text (arrows_of J) ++ FOOT.now)))))
 
--- a journal that is drawn: of at most 20,000 events, and with no stamp beyond
+-- a journal is drawn if it has at most 20,000 events and no stamp above 20,000
 abbrev pub is_small : List Event → Bool
 is_small J = nat_le (length J) 20000 && nat_le (greatest_stamp J) 20000
 
--- the svg: the picture, or a line that says that it would be too long
+-- the svg: the picture, or a line that says why there is none
 abbrev pub svg_text : List Event → Text
 svg_text J = if is_small J then picture_text J else TOO_LONG.now

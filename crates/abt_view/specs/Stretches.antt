@@ -16,16 +16,16 @@ abbrev pub is_held : Option Stretch → ℕ → Bool
 is_held None u = false
 is_held (Some stretch) u = stretch.unit == u
 
--- an event of unit u is one more of its stretch, and begins one if another unit or none was in hand
+-- an event of unit u belongs to its stretch, or begins one if another unit or none was in hand
 abbrev pub goes_on_or_begins : Option Stretch → ℕ → Turn
 goes_on_or_begins held u = if is_held held u then GoesOn else Begins u
 
--- the way home of unit u is the last event of its own stretch, and leaves that of another unit as it is
+-- a put of unit u belongs to its stretch, and does not change the stretch of another unit
 abbrev pub goes_on_or_stays : Option Stretch → ℕ → Turn
 goes_on_or_stays held u = if is_held held u then GoesOn else Stays
 
--- what an event of the stream is for the stretch so far: a take begins one, and at a miss and when a stacked scheduler
--- leaves no unit is in hand
+-- what an event of the stream means for the current stretch: a take begins another, and after a miss, or after a stacked scheduler
+-- leaves, no unit is in hand
 abbrev pub turn_of : Option Stretch → What → Turn
 turn_of held (what.Miss p) = Ends
 turn_of held (what.Take p u) = Begins u.0
@@ -36,14 +36,14 @@ turn_of held (what.End u c) = goes_on_or_begins held u.0
 turn_of held (what.Enter u) = goes_on_or_begins held u.0
 turn_of held (what.Leave u) = Ends
 
--- a stretch that begins with an event, and one with an event more
+-- a stretch that begins with an event, and a stretch with an event appended
 abbrev pub begun : ℕ → Event → Stretch
 begun u e = record { stream = e.stream.0; unit = u; since = e.stamp; until = e.stamp; events = e ∷ [] }
 
 abbrev pub longer : Stretch → Event → Stretch
 longer stretch e = record stretch { until = e.stamp; events = stretch.events ++ e ∷ [] }
 
--- the stretch so far is over
+-- the current stretch, if there is one, ends
 abbrev pub closed_by : List Stretch → Option Stretch → Cut
 closed_by past None = record { past = past; held = None }
 closed_by past (Some stretch) = record { past = past ++ stretch ∷ []; held = None }
@@ -51,18 +51,18 @@ closed_by past (Some stretch) = record { past = past ++ stretch ∷ []; held = N
 abbrev pub closed : Cut → Cut
 closed cut = closed_by cut.past cut.held
 
--- what an event makes of the stretches so far
+-- the stretches after an event of their stream, by what it means for the current one
 abbrev pub cut_by : Cut → Event → Turn → Cut
 cut_by cut e (Begins u) = record { past = (closed cut).past; held = Some (begun u e) }
 cut_by cut e GoesOn = record { past = cut.past; held = option_map (λ (stretch : Stretch). longer stretch e) cut.held }
 cut_by cut e Ends = closed cut
 cut_by cut e Stays = cut
 
--- an event of stream s is judged, and that of another is none of its stretches
+-- the stretches of stream s after an event of any stream: that of another stream changes nothing
 abbrev pub cut_at : ℕ → Cut → Event → Cut
 cut_at s cut e = if e.stream.0 == s then cut_by cut e (turn_of cut.held e.what) else cut
 
--- before the first event
+-- the state before the first event
 abbrev pub uncut : Cut
 uncut = record { past = []; held = None }
 
@@ -70,7 +70,7 @@ uncut = record { past = []; held = None }
 abbrev pub stretches_of : List Event → ℕ → List Stretch
 stretches_of J s = (closed (fold (cut_at s) uncut J)).past
 
--- how many streams a picture shows: up to the greatest that has an event, and at most as many as a workload may have
+-- how many streams a view shows: up to the greatest that has an event, and at most as many as a workload may have
 abbrev pub streams_in : List Event → ℕ
 streams_in J = min (stream_limit format.Two) (fold (λ n (e : Event). max n (e.stream.0 + 1)) 0 J)
 

@@ -26,7 +26,7 @@ slice_text b =
     around (codes ",\n{\"ph\":\"X\",\"pid\":0,\"tid\":") b.stream (codes ",\"ts\":")
     ++ (around [] b.since (codes ".0,\"dur\":") ++ (around [] (b.until - b.since) (codes ".8,\"name\":\"unit ") ++ around [] b.unit (codes "\"}")))
 
--- an item of a phase on an event's track, that fraction of a microsecond after its stamp; what it says follows
+-- the beginning of an item: its phase, the event's track, and a time at that fraction of a microsecond after the stamp
 abbrev pub item_text : Text → Spot → Text → Text
 item_text phase at fraction = codes ",\n{\"ph\":\"" ++ (phase ++ (around (codes "\",\"pid\":0,\"tid\":") at.stream (codes ",\"ts\":") ++ around [] at.stamp fraction))
 
@@ -34,7 +34,7 @@ item_text phase at fraction = codes ",\n{\"ph\":\"" ++ (phase ++ (around (codes 
 abbrev pub moment_text : Event → Text
 moment_text e = item_text (codes "X") (spot_of e) (codes ".1") ++ (codes ",\"dur\":0.6,\"name\":\"" ++ (kind_word e.what ++ codes "\"}"))
 
--- an instant that stands out
+-- the instant of an event
 abbrev pub instant_text : Event → ℕ → Text
 instant_text e u = item_text (codes "i") (spot_of e) (codes ".4") ++ (codes ",\"s\":\"t\",\"name\":\"" ++ (kind_word e.what ++ around (codes ", unit ") u (codes "\"}")))
 
@@ -49,7 +49,7 @@ abbrev pub step_more : Event → ℕ → Code → Text
 step_more e u code.Ok = []
 step_more e u _ = instant_text e u
 
--- what an event has beside its slice: a frame for the time of a stacked scheduler, an instant at an end and at a refused step
+-- what an event has besides its slice: an enter and a leave the ends of a frame, an end and a refused step an instant
 abbrev pub more_text : Event → What → Text
 more_text e (what.Miss p) = []
 more_text e (what.Take p u) = []
@@ -63,14 +63,14 @@ more_text e (what.Leave u) = leave_text e
 abbrev pub event_text : Event → Text
 event_text e = moment_text e ++ more_text e e.what
 
--- a point of an arrow, in the slice of an event; its identifier is the stamp of the put with its stream in two digits behind
+-- a point of an arrow, in the slice of an event; its identifier is the stamp of the put, followed by the stream in two digits
 abbrev pub point_text : Text → Arrow → Spot → Text
 point_text phase a at =
     item_text phase at (codes ".4")
     ++ (around (codes ",\"bp\":\"e\",\"cat\":\"pool\",\"name\":\"unit ") a.unit (codes "\",\"id\":") ++ (around [] a.put.stamp [] ++ (around [] (a.put.stream / 10) [] ++ around [] (a.put.stream % 10) (codes "}"))))
 
--- an arrow by its points: from the event that sent the unit, if there is one, by its put, to where it is taken, if it is; that of
--- a unit that no other sent and none takes has no points
+-- the points of an arrow: the event that sent the unit, if there is one, the put, and the event that takes it, if there is one; an arrow
+-- whose only point is its put is left out
 abbrev pub arrow_text : Arrow → Option Spot → Option Spot → Text
 arrow_text a None None = []
 arrow_text a (Some sent) None = point_text (codes "s") a sent ++ point_text (codes "f") a a.put

@@ -21,6 +21,6 @@ abbrev pub view_text : View → List Event → Text
 view_text view.Svg J = svg_text J
 view_text view.Trace J = trace_text J
 
--- no view's word
+-- the word is not that of a view
 abbrev pub IsNoView : Text → Type 0
 IsNoView word = (v : View) → view_word v ≡ word → ⊥

@@ -14,8 +14,8 @@ pub struct Spot {
     pub stamp: u64,
 }
 
-/// The way of a unit through a pool: the event of another unit that sent it, if one did, its put, and the take that follows or
-/// the look, if one does.
+/// The way of a unit through a pool: the event of another unit that sent it, if there is one, its put, and the take or look that follows,
+/// if there is one.
 #[derive(Clone, Copy)]
 pub struct Arrow {
     pub unit: u32,
@@ -31,7 +31,7 @@ pub(crate) struct Sender {
     spot: Spot,
 }
 
-// The last events of streams that are no puts, the open arrows of units, and those that have ended.
+// The last event of each stream that is not a put, the open arrow of each unit, and the arrows that have ended.
 #[derive(Drop)]
 struct Ways {
     senders: Vec<Option<Sender>>,
@@ -57,21 +57,21 @@ pub(crate) fn spot_at(event: &Event) -> Spot
     }
 }
 
-// So many streams without an event.
+// Streams without an event, as many as the count says.
 fn no_senders(alloc: Global, count: u32) -> Result<Vec<Option<Sender>>, Want>
     ensures { IfOk result (λ senders. senders.items ≡ replicate count None) }
 {
     Ok(vec![in alloc; None; count as usize]?)
 }
 
-// So many units without an arrow.
+// Units without an arrow, as many as the count says.
 fn no_arrows(alloc: Global, count: u32) -> Result<Vec<Option<Arrow>>, Want>
     ensures { IfOk result (λ arrows. arrows.items ≡ replicate count None) }
 {
     Ok(vec![in alloc; None; count as usize]?)
 }
 
-// Stores an item at that place, if there is one.
+// Stores an item at a position, if the list has it.
 fn store<T: Copy>(items: &mut Vec<Option<T>>, at: u32, item: Option<T>)
     ensures { items.new.items ≡ slice_set items.old.items at item }
 {
@@ -80,7 +80,7 @@ fn store<T: Copy>(items: &mut Vec<Option<T>>, at: u32, item: Option<T>)
     }
 }
 
-// The item at that place, if there is one.
+// The item at a position, or none if the list does not have it.
 fn item_at<T: Copy>(items: &[Option<T>], at: u32) -> Option<T>
     ensures { result ≡ get_or items.now at None }
 {
@@ -103,7 +103,7 @@ fn sent_by(sender: Option<Sender>, u: u32) -> Option<Spot>
     }
 }
 
-// Appends the open arrow, if there is one, with its end.
+// Appends an open arrow, if there is one, with its end.
 fn push_ended(
     arrows: &mut Vec<Arrow>,
     taken: Option<Spot>,
@@ -121,7 +121,7 @@ fn push_ended(
 }
 
 impl Ways {
-    // Before the first event.
+    // The state before the first event.
     fn start(alloc: Global) -> Result<Ways, Want>
         ensures { IfOk result (λ ways. ways ≡ at_start) }
     {
@@ -132,7 +132,7 @@ impl Ways {
         })
     }
 
-    // The open arrow of unit u ends, and another is in its place.
+    // Ends the open arrow of unit u, if there is one, and puts another in its place.
     fn replace(&mut self, u: u32, taken: Option<Spot>, new: Option<Arrow>) -> Result<(), Want>
         ensures { OnOk result (self.new ≡ replaced u taken new self.old) }
     {
@@ -141,14 +141,14 @@ impl Ways {
         Ok(())
     }
 
-    // Notes the last event of stream s that is no put.
+    // Notes the last event of stream s that is not a put.
     fn note(&mut self, s: u32, sender: Option<Sender>)
         ensures { self.new ≡ noted_by s sender self.old }
     {
         store(&mut self.senders, s, sender);
     }
 
-    // An event of unit u that is no put.
+    // Notes an event of unit u that is not a put.
     fn send(&mut self, event: Event, u: u32)
         ensures { self.new ≡ sent_of event u self.old }
     {
@@ -159,7 +159,7 @@ impl Ways {
         self.note(event.stream.0, Some(sender));
     }
 
-    // Unit u is taken, or looked at.
+    // Ends the open arrow of unit u, which is taken or looked at.
     fn take(&mut self, event: Event, u: u32) -> Result<(), Want>
         ensures { OnOk result (self.new ≡ taken_of event u self.old) }
     {
@@ -168,7 +168,7 @@ impl Ways {
         Ok(())
     }
 
-    // The arrow of a put of unit u.
+    // The arrow that begins with a put of unit u.
     fn begin(&self, event: Event, u: u32) -> Arrow
         ensures { result ≡ begun event u self.now }
     {
@@ -180,7 +180,7 @@ impl Ways {
         }
     }
 
-    // What an event makes of the arrows.
+    // Changes the arrows as an event does.
     fn follow(&mut self, event: Event) -> Result<(), Want>
         ensures { OnOk result (self.new ≡ followed self.old event) }
     {
@@ -214,7 +214,7 @@ impl Ways {
         }
     }
 
-    // The arrows that ended, and then those that did not.
+    // The arrows that ended, and then the open ones.
     fn finish(self) -> Result<Vec<Arrow>, Want>
         ensures { IfOk result (λ all. all.items ≡ arrows_in self) }
     {
@@ -231,7 +231,7 @@ impl Ways {
     }
 }
 
-/// The arrows of a journal: first those that end at a take or a look, in order of these.
+/// The arrows of a journal: first those that ended, in order of their ends, then the others in order of unit.
 pub fn all_arrows(alloc: Global, journal: &[Event]) -> Result<Vec<Arrow>, Want>
     ensures { IfOk result (λ arrows. arrows.items ≡ arrows_of journal.now) }
 {

@@ -19,7 +19,7 @@ pub struct Frame {
     pub until: u64,
 }
 
-// Frames that were left, frames that were not, from the outermost on, and the stream's last stamp.
+// The frames that were left, the frames that were not, from the outermost on, and the stream's last stamp.
 #[derive(Drop)]
 struct Nest {
     past: Vec<Frame>,
@@ -35,7 +35,7 @@ impl Model for Nest {
     ghost view = { λ n. record { past = n.past.items; inside = n.inside.items; last = n.last } };
 }
 
-// The frame of a scheduler unit that enters, within so many others.
+// The frame that begins where a scheduler unit enters, within `depth` others.
 fn enter(event: Event, u: u32, depth: u64) -> Frame
     ensures { result ≡ frame_begun depth event u }
 {
@@ -48,7 +48,7 @@ fn enter(event: Event, u: u32, depth: u64) -> Frame
     }
 }
 
-// The frame until that stamp.
+// The frame, ended at that stamp.
 fn last_until(stamp: u64, frame: Frame) -> Frame
     ensures { result ≡ lasting stamp frame }
 {
@@ -59,7 +59,7 @@ fn last_until(stamp: u64, frame: Frame) -> Frame
 }
 
 impl Nest {
-    // Before the first event.
+    // The state before the first event.
     fn start(alloc: Global) -> Nest
         ensures { result ≡ unnested }
     {
@@ -82,7 +82,7 @@ impl Nest {
         Ok(())
     }
 
-    // What an event of the stream makes of its frames.
+    // Changes the frames as an event of their stream does.
     fn take(&mut self, event: Event) -> Result<(), Want>
         ensures { OnOk result (self.new ≡ nested self.old event event.what) }
     {
@@ -102,7 +102,7 @@ impl Nest {
         }
     }
 
-    // What an event makes of the frames of stream s.
+    // Changes the frames of stream s as an event of any stream does.
     fn follow(&mut self, s: u64, event: Event) -> Result<(), Want>
         ensures { OnOk result (self.new ≡ framed s self.old event) }
     {
@@ -143,7 +143,7 @@ fn frames(alloc: Global, journal: &[Event], s: u64) -> Result<Vec<Frame>, Want>
     nest.finish()
 }
 
-/// The frames of streams 0 to 15, in order of stream, and of each stream the outer ones before the inner ones.
+/// The frames of streams 0 to 15, in order of stream, and within a stream the outer before the inner.
 pub fn all_frames(alloc: Global, journal: &[Event]) -> Result<Vec<Frame>, Want>
     ensures { IfOk result (λ all. all.items ≡ frames_of_all journal.now) }
 {

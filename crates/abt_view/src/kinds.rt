@@ -51,7 +51,7 @@ pub(crate) fn count_refused(journal: &[Event]) -> u64
         .count() as u64
 }
 
-// The greatest stamp, 0 of no event.
+// The greatest stamp, or 0 if there is no event.
 pub(crate) fn greatest_stamp(journal: &[Event]) -> u64
     ensures { result ≡ greatest_stamp journal.now }
 {

@@ -1,4 +1,5 @@
-//! The picture of a journal: the stretches for which units are in a stream's hand, drawn as an svg or listed as a trace.
+//! Views of a journal: the stretches of time for which units are in a stream's hand, the frames of stacked schedulers, and the ways of
+//! units through pools, drawn as an svg or listed as a trace.
 #![tactic(auto)]
 
 mod arrows;

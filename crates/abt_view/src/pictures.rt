@@ -64,9 +64,9 @@ const LEGEND: &[u8] = b"<path d='M-8 -8H201000V60H-8z' fill='#fff'/>
 
 const FOOT: &[u8] = b"</svg>\n";
 
-// The picture of a line of text.
+// The svg in place of a picture that would be too large: one line of text that says why.
 const TOO_LONG: &[u8] =
-    b"<svg xmlns='http://www.w3.org/2000/svg' width='480' height='40'><text x='10' y='25'>a picture has at most 20,000 events: use abtview trace</text></svg>\n";
+    b"<svg xmlns='http://www.w3.org/2000/svg' width='720' height='40'><text x='10' y='25'>a picture has at most 20,000 events and no stamp above 20,000: use abtview trace</text></svg>\n";
 
 // The top of a stream's lane.
 fn lane_top(stream: u32) -> u64
@@ -89,7 +89,7 @@ fn push_place(out: &mut Vec<u8>, bar: &Stretch) -> Result<(), Want>
     push_around(out, b"", lane_top(bar.stream), b")'>")
 }
 
-// Appends the bar itself, with its unit.
+// Appends the bar itself, with the number of its unit.
 fn push_shape(out: &mut Vec<u8>, bar: &Stretch) -> Result<(), Want>
     ensures { OnOk result (out.new.items ≡ out.old.items ++ bar_shape bar.now) }
 {
@@ -98,7 +98,7 @@ fn push_shape(out: &mut Vec<u8>, bar: &Stretch) -> Result<(), Want>
     push_around(out, b"<text x='2' y='14'>", u64::from(bar.unit), b"</text>")
 }
 
-// Appends what is shown over the bar.
+// Appends the title of the bar, which a browser shows while the pointer is on it.
 fn push_title(alloc: Global, out: &mut Vec<u8>, bar: &Stretch) -> Result<(), Want>
     ensures { OnOk result (out.new.items ≡ out.old.items ++ bar_title bar.now) }
 {
@@ -118,7 +118,7 @@ fn push_bar(alloc: Global, out: &mut Vec<u8>, bar: &Stretch) -> Result<(), Want>
     push_title(alloc, out, bar)
 }
 
-// How far a frame goes beyond what is within it.
+// By how many pixels a frame extends beyond what is within it.
 fn margin(frame: &Frame) -> u64
     ensures { result ≡ margin_of frame.now }
 {
@@ -163,7 +163,7 @@ fn push_frame(out: &mut Vec<u8>, frame: &Frame) -> Result<(), Want>
     )
 }
 
-// Appends a point so many pixels from the top of an event's lane.
+// Appends the point that is `down` pixels below the top of an event's lane.
 fn push_point(
     out: &mut Vec<u8>,
     before: &[u8],
@@ -198,7 +198,7 @@ fn push_sent(out: &mut Vec<u8>, u: u32, sent: Option<Spot>, put: Spot) -> Result
     }
 }
 
-// Appends the line to where a unit is taken, if it is.
+// Appends the line to the event that takes a unit, if one does.
 fn push_taken(out: &mut Vec<u8>, u: u32, put: Spot, taken: Option<Spot>) -> Result<(), Want>
     ensures { OnOk result (out.new.items ≡ out.old.items ++ taken_text u put taken) }
 {
@@ -226,7 +226,7 @@ fn push_mark(out: &mut Vec<u8>, event: &Event) -> Result<(), Want>
     push_around(out, b"", lane_top(event.stream.0), b"'/>\n")
 }
 
-// Appends the name of a stream.
+// Appends the name of a stream before its lane.
 fn push_lane(out: &mut Vec<u8>, s: u64) -> Result<(), Want>
     requires { s < 16 }
     ensures { OnOk result (out.new.items ≡ out.old.items ++ lane_text s) }
@@ -235,7 +235,7 @@ fn push_lane(out: &mut Vec<u8>, s: u64) -> Result<(), Want>
     push_around(out, b"stream ", s, b"</text>\n")
 }
 
-// Appends a tenth stamp.
+// Appends a stamp on the axis, ten times t.
 fn push_tick(out: &mut Vec<u8>, t: u64) -> Result<(), Want>
     ensures { OnOk result (out.new.items ≡ out.old.items ++ tick_text t) }
 {
@@ -244,6 +244,7 @@ fn push_tick(out: &mut Vec<u8>, t: u64) -> Result<(), Want>
     push_around(out, b"", t, b"0</text>\n")
 }
 
+// Appends the size, in pixels.
 fn push_size(out: &mut Vec<u8>, width: u64, height: u64) -> Result<(), Want>
     ensures { OnOk result (out.new.items ≡ out.old.items ++ size_text width height) }
 {
@@ -273,7 +274,7 @@ fn push_counts(out: &mut Vec<u8>, journal: &[Event]) -> Result<(), Want>
     push_around(out, b"", count_streams(journal), b"</text>\n")
 }
 
-// Appends what stands before the bars.
+// Appends what comes before the axis: the size, the style and the counts.
 fn push_head(out: &mut Vec<u8>, journal: &[Event]) -> Result<(), Want>
     requires { greatest_stamp journal.now ≤ 20000 }
     ensures { OnOk result (out.new.items ≡ out.old.items ++ head_text journal.now) }
@@ -286,7 +287,7 @@ fn push_head(out: &mut Vec<u8>, journal: &[Event]) -> Result<(), Want>
     Ok(())
 }
 
-// Appends each tenth stamp up to ten times that many.
+// Appends the axis: every tenth stamp, up to ten times the count.
 fn push_ticks(out: &mut Vec<u8>, count: u64) -> Result<(), Want>
     requires { count ≤ 2000 }
     ensures { OnOk result (out.new.items ≡ out.old.items ++ flat_map tick_text (range_with_len 1 count)) }
@@ -297,7 +298,7 @@ fn push_ticks(out: &mut Vec<u8>, count: u64) -> Result<(), Want>
     Ok(())
 }
 
-// Appends the names of so many streams.
+// Appends the names of the first streams, as many as the count says.
 fn push_lanes(out: &mut Vec<u8>, count: u64) -> Result<(), Want>
     requires { count ≤ 16 }
     ensures { OnOk result (out.new.items ≡ out.old.items ++ flat_map lane_text (range_with_len 0 count)) }
@@ -308,7 +309,7 @@ fn push_lanes(out: &mut Vec<u8>, count: u64) -> Result<(), Want>
     Ok(())
 }
 
-// Appends the kinds of marks, below so many lanes.
+// Appends the kinds of marks, below that number of lanes.
 fn push_legend(out: &mut Vec<u8>, streams: u64) -> Result<(), Want>
     requires { streams ≤ 16 }
     ensures { OnOk result (out.new.items ≡ out.old.items ++ legend_text streams) }
@@ -323,7 +324,7 @@ fn push_legend(out: &mut Vec<u8>, streams: u64) -> Result<(), Want>
     Ok(())
 }
 
-// Appends the axis, the names of the streams and the kinds of marks.
+// Appends the axis, the names of the streams, and the kinds of marks.
 fn push_axis(out: &mut Vec<u8>, journal: &[Event]) -> Result<(), Want>
     requires { greatest_stamp journal.now ≤ 20000 }
     ensures { OnOk result (out.new.items ≡ out.old.items ++ axis_text journal.now) }
@@ -375,7 +376,7 @@ fn push_arrows(out: &mut Vec<u8>, arrows: &[Arrow]) -> Result<(), Want>
     Ok(())
 }
 
-// The picture of a journal whose stamps are small.
+// The picture of a journal without a stamp above 20,000.
 fn picture(alloc: Global, journal: &[Event]) -> Result<Vec<u8>, Want>
     requires { greatest_stamp journal.now ≤ 20000 }
     ensures { IfOk result (λ text. text.items ≡ picture_text journal.now) }
@@ -394,14 +395,15 @@ fn picture(alloc: Global, journal: &[Event]) -> Result<Vec<u8>, Want>
     Ok(out)
 }
 
-// Whether a picture of the journal is drawn: it has at most 20,000 events, and no stamp beyond them.
+// Whether the journal is drawn: it has at most 20,000 events and no stamp above 20,000.
 fn is_drawn(journal: &[Event]) -> bool
     ensures { result ≡ is_small journal.now }
 {
     journal.len() <= 20_000 && greatest_stamp(journal) <= 20_000
 }
 
-/// The picture of a journal; of a long one the picture of a line that says so.
+/// The picture of a journal as an svg. If the journal has more than 20,000 events, or a stamp above 20,000, the svg is one line of text
+/// that says so.
 pub fn svg(alloc: Global, journal: &[Event]) -> Result<Vec<u8>, Want>
     ensures { IfOk result (λ text. text.items ≡ svg_text journal.now) }
 {

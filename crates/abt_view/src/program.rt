@@ -1,13 +1,13 @@
 //! The top call.
 
-ghost use Rattle.std.specs.Prelude.{◌≡◌, ◌≤◌, IfErr, IfOk, IfSome, map, string_bytes};
-ghost use Rattle.abt_machine.specs.Texts.{journal_text};
+ghost use Rattle.std.specs.Prelude.{◌≤◌, All, IfErr, IfOk, IfSome, map, string_bytes};
+ghost use Rattle.abt_report.specs.Journals.{IsEvent, IsTextOf};
 ghost use Rattle.abt_shell.specs.Calls.{left};
 ghost use Rattle.abt_view.specs.Call.{HasNoJournal, IsAnswered, IsFileView, IsViewOf, StopsView};
 
 use crate::views::{View, asked, view_text};
 use abt_machine::Journal;
-use abt_report::{TextFault, read_journal};
+use abt_report::{JOURNAL_LIMIT, TextFault, read_journal};
 use abt_shell::{Stop, Wrong, bytes_of, stop_by, write_out};
 use abt_source::{Files, Sink};
 use std::alloc::Global;
@@ -15,18 +15,16 @@ use std::alloc::Global;
 /// The name of the program.
 pub const NAME: &[u8] = b"abtview";
 
-// The most bytes that are read as a journal.
-const MOST: usize = 4_294_967_293;
-
 // The journal in a file.
 fn fetch<F: Files>(alloc: Global, file: &str, files: &mut F) -> Result<Journal, Stop>
-    ensures reads { IfOk result (λ journal. IfSome (F.file files.old file.now) (λ bytes. journal_text journal ≡ bytes)) }
+    ensures reads { IfOk result (λ journal. IfSome (F.file files.old file.now) (IsTextOf journal)) }
+    ensures events { IfOk result (All IsEvent) }
     ensures stop { IfErr result (HasNoJournal (F.file files.old file.now) (F.faults files.old, F.faults files.new)) }
     ensures later { F.faults files.old ≤ F.faults files.new }
 {
-    let bytes = bytes_of(alloc, file, files, MOST)?;
-    if bytes.len() > MOST {
-        return Err(Stop::OutOfMemory);
+    let bytes = bytes_of(alloc, file, files, JOURNAL_LIMIT)?;
+    if bytes.len() > JOURNAL_LIMIT {
+        return Err(Stop::BadLine(0, Wrong::Journal));
     }
     match read_journal(alloc, &bytes) {
         Ok(journal) => Ok(journal),
@@ -51,7 +49,7 @@ fn prepare_view<F: Files>(
     Ok(text)
 }
 
-// All of a call but its writes: the text of the view.
+// The text of the view that the words ask for: all of a call except its writes.
 fn prepare<F: Files>(alloc: Global, words: &[String], files: &mut F) -> Result<Vec<u8>, Stop>
     ensures done { IfOk result (λ text. IsViewOf (map string_bytes words.now) (λ name. F.file files.old name) text.items) }
     ensures stop { IfErr result (StopsView (map string_bytes words.now) (λ name. F.file files.old name) (F.faults files.old, F.faults files.new)) }
@@ -63,10 +61,10 @@ fn prepare<F: Files>(alloc: Global, words: &[String], files: &mut F) -> Result<V
     }
 }
 
-/// What the command of the program does: reads the journal in a file, and writes its view.
+/// Runs the program's command: reads the journal in a file, and writes its view.
 ///
-/// Exit statuses: 0 the view is written, 2 bad command line, 3 the file is no journal, 5 cannot read, 6 cannot write, 7 out of
-/// memory.
+/// Exit statuses: 0 the view is written, 2 bad command line, 3 the file is not a journal's text or is too long, 5 cannot read, 6
+/// cannot write, 7 out of memory.
 pub fn abtview<F: Files, K: Sink, E: Sink>(
     alloc: Global,
     words: &[String],

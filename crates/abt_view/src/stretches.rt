@@ -16,14 +16,14 @@ pub struct Stretch {
     pub events: Journal,
 }
 
-// Stretches that are over, and the one that may go on.
+// The stretches that are over, and the one that may go on.
 #[derive(Drop)]
 pub(crate) struct Cut {
     past: Items<Stretch>,
     held: Option<Stretch>,
 }
 
-// What an event is for the stretch so far.
+// What an event means for the current stretch.
 #[derive(Clone, Copy)]
 pub(crate) enum Turn {
     Begins(u32),
@@ -77,7 +77,7 @@ fn turn_of(held: &Option<Stretch>, what: What) -> Turn
     }
 }
 
-// The list with one item more.
+// The list with an item appended.
 fn more<T: Drop>(items: Items<T>, item: T) -> Result<Items<T>, Want>
     ensures { IfOk result (λ more. more ≡ items ++ item ∷ []) }
 {
@@ -100,7 +100,7 @@ fn begin(alloc: Global, u: u32, event: Event) -> Result<Stretch, Want>
     })
 }
 
-// A stretch with an event more.
+// A stretch with an event appended.
 fn longer(stretch: Stretch, event: Event) -> Result<Stretch, Want>
     ensures { IfOk result (λ longer. longer ≡ longer_by stretch event) }
 {
@@ -121,7 +121,7 @@ fn longer(stretch: Stretch, event: Event) -> Result<Stretch, Want>
     })
 }
 
-// The stretch so far is over.
+// Ends the current stretch, if there is one.
 fn close(cut: Cut) -> Result<Cut, Want>
     ensures { IfOk result (λ new. new ≡ closed cut) }
 {
@@ -135,7 +135,7 @@ fn close(cut: Cut) -> Result<Cut, Want>
     }
 }
 
-// The stretch so far is over, and an event begins another.
+// Ends the current stretch, and begins another with an event.
 fn begin_another(alloc: Global, cut: Cut, u: u32, event: Event) -> Result<Cut, Want>
     ensures { IfOk result (λ new. new ≡ cut_by cut event (Turn.Begins u)) }
 {
@@ -147,7 +147,7 @@ fn begin_another(alloc: Global, cut: Cut, u: u32, event: Event) -> Result<Cut, W
     })
 }
 
-// The stretch so far goes on with an event.
+// Appends an event to the current stretch.
 fn go_on(cut: Cut, event: Event) -> Result<Cut, Want>
     ensures { IfOk result (λ new. new ≡ cut_by cut event Turn.GoesOn) }
 {
@@ -164,7 +164,7 @@ fn go_on(cut: Cut, event: Event) -> Result<Cut, Want>
     }
 }
 
-// What an event makes of the stretches so far.
+// Changes the stretches as an event of their stream does, by what it means for the current one.
 fn take_turn(alloc: Global, cut: Cut, event: Event, turn: Turn) -> Result<Cut, Want>
     ensures { IfOk result (λ new. new ≡ cut_by cut event turn) }
 {
@@ -176,7 +176,7 @@ fn take_turn(alloc: Global, cut: Cut, event: Event, turn: Turn) -> Result<Cut, W
     }
 }
 
-// What an event makes of the stretches of stream s.
+// Changes the stretches of stream s as an event of any stream does.
 fn advance(alloc: Global, s: u64, cut: Cut, event: Event) -> Result<Cut, Want>
     ensures { IfOk result (λ new. new ≡ cut_at s cut event) }
 {
@@ -203,8 +203,7 @@ fn stretches(alloc: Global, journal: &[Event], s: u64) -> Result<Items<Stretch>,
     Ok(past)
 }
 
-/// How many streams a picture shows: up to the greatest that has an event, and at most as many as
-/// a workload may have.
+/// How many streams a view shows: up to the greatest that has an event, and at most as many as a workload may have.
 pub(crate) fn count_streams(journal: &[Event]) -> u64
     ensures { result ≡ streams_in journal.now }
 {
@@ -215,7 +214,7 @@ pub(crate) fn count_streams(journal: &[Event]) -> u64
     count.min(u64::from(Format::Two.stream_limit()))
 }
 
-/// The stretches of streams 0 to 15, in order of stream, and of each stream in order of time.
+/// The stretches of streams 0 to 15, in order of stream, and within a stream in order of time.
 pub fn all_stretches(alloc: Global, journal: &[Event]) -> Result<Vec<Stretch>, Want>
     ensures { IfOk result (λ all. all.items ≡ stretches_of_all journal.now) }
 {

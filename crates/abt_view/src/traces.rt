@@ -29,7 +29,7 @@ fn push_track(out: &mut Vec<u8>, s: u64) -> Result<(), Want>
     push_around(out, b"", s, b"\"}}")
 }
 
-// Appends the names of so many tracks.
+// Appends the names of the first tracks, as many as the count says.
 fn push_tracks(out: &mut Vec<u8>, count: u64) -> Result<(), Want>
     ensures { OnOk result (out.new.items ≡ out.old.items ++ flat_map track_text (range_with_len 0 count)) }
 {
@@ -65,7 +65,7 @@ fn push_slices(out: &mut Vec<u8>, slices: &[Stretch]) -> Result<(), Want>
     Ok(())
 }
 
-// Appends the beginning of an item of that phase on the event's track, that fraction of a microsecond after its stamp.
+// Appends the beginning of an item: its phase, the event's track, and a time at that fraction of a microsecond after the stamp.
 fn push_item(out: &mut Vec<u8>, phase: &[u8], at: Spot, fraction: &[u8]) -> Result<(), Want>
     ensures { OnOk result (out.new.items ≡ out.old.items ++ item_text phase.now at fraction.now) }
 {
@@ -91,7 +91,7 @@ fn push_moment(out: &mut Vec<u8>, event: &Event) -> Result<(), Want>
     Ok(())
 }
 
-// Appends an instant that stands out.
+// Appends the instant of an event.
 fn push_instant(out: &mut Vec<u8>, event: &Event, u: u32) -> Result<(), Want>
     ensures { OnOk result (out.new.items ≡ out.old.items ++ instant_text event.now u) }
 {
@@ -101,7 +101,7 @@ fn push_instant(out: &mut Vec<u8>, event: &Event, u: u32) -> Result<(), Want>
     push_around(out, b", unit ", u64::from(u), b"\"}")
 }
 
-// Appends what a step has beside its slice.
+// Appends what a step has besides its slice.
 fn push_step(out: &mut Vec<u8>, event: &Event, u: u32, code: Code) -> Result<(), Want>
     ensures { OnOk result (out.new.items ≡ out.old.items ++ step_more event.now u code) }
 {
@@ -128,7 +128,7 @@ fn push_leave(out: &mut Vec<u8>, event: &Event) -> Result<(), Want>
     Ok(())
 }
 
-// Appends what an event has beside its slice.
+// Appends what an event has besides its slice.
 fn push_more(out: &mut Vec<u8>, event: &Event, what: What) -> Result<(), Want>
     ensures { OnOk result (out.new.items ≡ out.old.items ++ more_text event.now what) }
 {
@@ -178,7 +178,7 @@ fn push_point(out: &mut Vec<u8>, phase: &[u8], arrow: &Arrow, at: Spot) -> Resul
     push_around(out, b"", u64::from(arrow.put.stream % 10), b"}")
 }
 
-// Appends the points of an arrow, of which these are the ends.
+// Appends the points of an arrow with these ends.
 fn push_points(
     out: &mut Vec<u8>,
     arrow: &Arrow,

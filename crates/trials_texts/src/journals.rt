@@ -150,7 +150,7 @@ fn long_journals_are_written_and_read_back(rt: HostRuntime) -> Result<(), Fail> 
 }
 
 // Texts that are no journal's, and the first line at which none agrees.
-static BAD: [(&str, u32); 26] = [
+static BAD: [(&str, u32); 29] = [
     // row hi's, each line spoilt
     ("1 0 take 0 x\n2 0 look 0\n", 1),
     ("1 0 take 0 0\n2 0 lock 0\n3 0 step 0 0 ok\n", 2),
@@ -183,6 +183,9 @@ static BAD: [(&str, u32); 26] = [
     ("1 0 miss 0 \n", 1),
     ("1  0 miss 0\n", 1),
     ("1\t0 miss 0\n", 1),
+    ("1 0 step 0 0 ok \n", 1),
+    ("1 0 step 0 0 ok 0 0\n", 1),
+    ("1 0 miss 0\n          \n", 2),
     // numbers
     ("01 0 miss 0\n", 1),
     ("1 00 miss 0\n", 1),
@@ -215,6 +218,23 @@ fn other_texts_are_refused_at_their_first_bad_line(rt: HostRuntime) {
     for (text, line) in &BAD {
         assert!(rt; bad_line(rt.alloc(), text) == Some(*line), "{text}");
     }
+}
+
+// A journal of one event, and then a line of 50,000 blanks.
+fn blank_text(alloc: Global) -> Result<String, AllocError> {
+    let mut text = String::from_str(alloc, "1 0 miss 0\n")?;
+    for _ in 0..5_000 {
+        text.push_str("          ")?;
+    }
+    text.push_str("\n")?;
+    Ok(text)
+}
+
+#[test]
+fn a_long_line_of_blanks_is_refused(rt: HostRuntime) -> Result<(), Fail> {
+    let text = blank_text(rt.alloc())?;
+    assert!(rt; bad_line(rt.alloc(), &text) == Some(2));
+    Ok(())
 }
 
 #[test]

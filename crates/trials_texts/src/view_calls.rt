@@ -46,7 +46,7 @@ const WOKEN: &str = "{\"traceEvents\":[
 ";
 
 const LONG: &str =
-    "<svg xmlns='http://www.w3.org/2000/svg' width='480' height='40'><text x='10' y='25'>a picture has at most 20,000 events: use abtview trace</text></svg>\n";
+    "<svg xmlns='http://www.w3.org/2000/svg' width='720' height='40'><text x='10' y='25'>a picture has at most 20,000 events and no stamp above 20,000: use abtview trace</text></svg>\n";
 
 // Words with a comma between each two, the text of the file `f`, the write of the output that fails, the status, the output and
 // the message.
@@ -59,7 +59,7 @@ type Row = (
     &'static str,
 );
 
-static ROWS: [Row; 14] = [
+static ROWS: [Row; 17] = [
     ("trace,f", "", NEVER, 0, NOTHING, ""),
     (
         "trace,f",
@@ -79,6 +79,14 @@ static ROWS: [Row; 14] = [
         "",
     ),
     ("svg,f", "20001 0 miss 0\n", NEVER, 0, LONG, ""),
+    (
+        "svg,f",
+        "18446744073709551615 0 miss 0\n",
+        NEVER,
+        0,
+        LONG,
+        "",
+    ),
     // words that say nothing
     ("svg", "", NEVER, 2, "", "abtview: bad command line\n"),
     ("svg,f,f", "", NEVER, 2, "", "abtview: bad command line\n"),
@@ -108,6 +116,23 @@ static ROWS: [Row; 14] = [
         3,
         "",
         "abtview: line 3: journal\n",
+    ),
+    // numbers that are too large for a journal
+    (
+        "svg,f",
+        "18446744073709551616 0 miss 0\n",
+        NEVER,
+        3,
+        "",
+        "abtview: line 1: journal\n",
+    ),
+    (
+        "trace,f",
+        "1 0 miss 0\n2 4294967296 miss 0\n",
+        NEVER,
+        3,
+        "",
+        "abtview: line 2: journal\n",
     ),
     // a file that is absent, and a write that fails
     ("svg,absent", "", NEVER, 5, "", "abtview: cannot read\n"),

@@ -1,5 +1,5 @@
 use Rattle.std.proofs.Common.{◌<◌, ◌≤◌, length, rules}
-use Rattle.abt_run.specs.Given.{journal_limit}
+use Rattle.abt_report.specs.Journals.{journal_limit}
 use Rattle.abt_run.proofs.Texts.{told-bad, told-journal, told-long}
 use Rattle.abt_run.proofs.fetching.fetch_journal.Goals as goal
 

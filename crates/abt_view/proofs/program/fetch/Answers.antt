@@ -1,17 +1,22 @@
-use Rattle.std.proofs.Common.{◌≡◌, ◌≤◌, length, rules}
-use Rattle.abt_machine.specs.Texts.{journal_text}
-use Rattle.abt_shell.proofs.Fetched.{of-whole}
-use Rattle.abt_view.specs.Call.{IsWrongAt}
+use Rattle.std.proofs.Common.{◌<◌, ◌≤◌, length, rules}
+use Rattle.abt_report.specs.Journals.{IsNoJournalAt, IsTextOf, journal_limit}
+use Rattle.abt_shell.proofs.Fetched.{of-long, of-whole}
 use Rattle.abt_view.proofs.Preparing.{wrong-line}
 use Rattle.abt_view.proofs.program.fetch.Goals as goal
 
+pub returns-then-len-gt-JOURNAL_LIMIT-clause-stop : goal.returns-then-len-gt-JOURNAL_LIMIT-clause-stop
+returns-then-len-gt-JOURNAL_LIMIT-clause-stop g c =
+    let long : journal_limit < length c.in_ok-bytes.bytes.items = search rules in
+    of-long journal_limit (λ bytes. IsNoJournalAt bytes 0) _ c.in_ok-bytes.bytes.items c.in_ok-bytes.ensures.bytes long (λ xs more. more)
+
 pub returns-in-Ok-clause-reads : goal.returns-in-Ok-clause-reads
 returns-in-Ok-clause-reads g c =
-    let short : length c.in_ok-bytes.bytes.items ≤ 4294967293 = search rules in
-    of-whole 4294967293 (λ bytes. journal_text c.in-Ok.journal ≡ bytes) _ c.in_ok-bytes.bytes.items c.in_ok-bytes.ensures.bytes short (rw c.deref.ensures.value at c.in-Ok.ensures.ok)
+    let short : length c.in_ok-bytes.bytes.items ≤ journal_limit = search rules in
+    of-whole journal_limit (IsTextOf c.in-Ok.journal) _ c.in_ok-bytes.bytes.items c.in_ok-bytes.ensures.bytes short
+    (record { events = c.in-Ok.ensures.events; text = rw c.deref.ensures.value at c.in-Ok.ensures.ok; short = short })
 
 pub returns-in-Err-Bad-clause-stop : goal.returns-in-Err-Bad-clause-stop
 returns-in-Err-Bad-clause-stop g c =
-    let short : length c.in_ok-bytes.bytes.items ≤ 4294967293 = search rules in
-    of-whole 4294967293 (IsWrongAt _) _ c.in_ok-bytes.bytes.items c.in_ok-bytes.ensures.bytes short
-    (wrong-line c.in_ok-bytes.bytes.items c.in-Err-Bad.field-0 c.in-Err-Bad.line _ c.in-Err-Bad.field-0-is c.in-Err-Bad.line-is (rw c.deref.ensures.value at c.in-Err-Bad.ensures.cause))
+    let short : length c.in_ok-bytes.bytes.items ≤ journal_limit = search rules in
+    of-whole journal_limit (λ bytes. IsNoJournalAt bytes _) _ c.in_ok-bytes.bytes.items c.in_ok-bytes.ensures.bytes short
+    (wrong-line c.in_ok-bytes.bytes.items c.in-Err-Bad.field-0 c.in-Err-Bad.line _ short c.in-Err-Bad.field-0-is c.in-Err-Bad.line-is (rw c.deref.ensures.value at c.in-Err-Bad.ensures.cause))
