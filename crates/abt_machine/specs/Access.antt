@@ -48,7 +48,7 @@ pool_given W (op.MigrateTo v r) = Some (first_pool W r.0)
 pool_given W (op.Revive v p) = Some p.0
 pool_given W _ = None
 
--- stream s may take from the first pool and put into the second, if there are such
+-- stream s may take from the first pool and put into the second, each if there is one
 abbrev pub may_use : Parts → ℕ → Option ℕ → Option ℕ → Bool
 may_use W s None None = true
 may_use W s (Some p) None = may_take W s p

@@ -1,4 +1,4 @@
--- What a stream asks of an object, and what it is answered.
+-- What a stream asks of an object, and the answers.
 use Rattle.std.specs.Prelude.{ℕ, Bool, List, Option}
 use Rattle.abt_machine.specs.declared.events.Cause.{Cause}
 use Rattle.abt_machine.specs.declared.events.Code.{Code}
@@ -13,7 +13,7 @@ pub data Act : Type 0 where
   Take : Side → Act
   Remove : ℕ → Act
   -- of a desk: a life that begins in a pool, an end, a join, the requests and the look at them, a suspension and its end,
-  -- a further life, and whether the unit may migrate
+  -- another life, and whether the unit may migrate
   Create : ℕ → Act
   End : Owned → Cause → Act
   Join : Owned → Act
@@ -64,7 +64,7 @@ pub data Answer : Type 0 where
   -- the unit that came with the act is refused
   Back : Owned → Code → Answer
 
--- What objects and steps make of a unit.
+-- What objects and steps do to a unit.
 
 abbrev pub carrying : (Carried → Carried) → Owned → Owned
 carrying f o = record o { carried = f o.carried }

@@ -89,7 +89,7 @@ thing_numbers (thing.Future n c) = n ∷ []
 thing_numbers (thing.Barrier n) = n ∷ []
 thing_numbers thing.RwLock = []
 
--- the word of what a future makes of its values
+-- the word for what a future computes from its values
 abbrev pub thing_word : Thing → Text
 thing_word (thing.Future n c) = combine_name c
 thing_word t = []
@@ -155,7 +155,7 @@ op_word W o = []
 abbrev pub op_words : Parts → Op → List Text
 op_words W o = form_words (form.Operation o) (op_word W o) (op_numbers o)
 
--- what a unit's line says that it is
+-- what a unit is, by its line
 abbrev pub role_of : Body → Role
 role_of (body.Ult ops) = role.Ult
 role_of (body.Task ops) = role.Task
@@ -182,7 +182,7 @@ unit_lines W u part = unit_header u part ∷ map (op_words W) (ops_of part.body)
 
 -- The whole text.
 
--- keys are declared only if there are some
+-- keys are declared only if there are any
 abbrev pub keys_lines : ℕ → List (List Text)
 keys_lines zero = []
 keys_lines (suc n) = form_words form.Keys [] (suc n ∷ []) ∷ []
@@ -216,11 +216,11 @@ workload_lines F W =
 abbrev pub text_in : Format → Parts → Text
 text_in F W = text_of (workload_lines F W)
 
--- a format has a workload of as many streams and units, and a text of as many bytes as this one has in it
+-- a format allows as many streams and units as this workload has, and as many bytes as its text has in that format
 abbrev pub has_text : Format → Parts → Bool
 has_text F W = nat_le W.streams (stream_limit F) && nat_le (length W.units) (unit_limit F) && nat_le (length (text_in F W)) (text_limit F)
 
--- a workload is written in format 1 exactly if that has a text of it
+-- a workload is written in format 1 exactly if format 1 has a text of it
 abbrev pub format_for : Parts → Format
 format_for W = if has_text format.One W then format.One else format.Two
 

@@ -1,11 +1,11 @@
--- What a step makes of what a unit carries.
+-- How a step changes what a unit carries.
 use Rattle.std.specs.Prelude.{ℕ, suc, ◌+◌, ◌%◌, ◌^◌, [], ◌∷◌, ◌++◌, length, replicate, slice_index, slice_set}
 use Rattle.abt_machine.specs.declared.events.Code.{Code}
 use Rattle.abt_machine.specs.declared.events.Piece.{Piece}
 use Rattle.abt_machine.specs.declared.events.Piece.TheVariants as piece
 use Rattle.abt_machine.specs.State.{Carried}
 
--- the position rises at each step, also at one that is refused, yields or blocks
+-- the position rises at each step, even at one that is refused, yields or blocks
 abbrev pub advanced : Carried → Carried
 advanced c = record c { position = suc c.position }
 

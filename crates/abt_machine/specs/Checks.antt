@@ -1,7 +1,7 @@
--- What the computations find that tell whether parts are those of a workload.
+-- What the computations find that decide whether parts are those of a workload.
 use Rattle.std.specs.Prelude.{ℕ, ◌≡◌, ◌==◌, ◌+◌, ◌<◌, ◌&&◌, Bool, true, false, not, nat_lt, option_and_then, if◌then◌else◌, List, [], ◌∷◌, length, slice_index_or, slice_set, Option, Some, None}
 
--- what is left of room after so much is taken of it, if there is enough
+-- what is left of the room after this much is taken from it, if there is enough
 abbrev pub IsLeft : ℕ → ℕ → Option ℕ → Type 0
 IsLeft room taken None = room < taken
 IsLeft room taken (Some left) = left + taken ≡ room
@@ -15,7 +15,7 @@ after_said n (w ∷ ws) = if w == n then after_said (n + 1) ws else None
 abbrev pub place : ℕ → List Bool → Option (List Bool)
 place g taken = if nat_lt g (length taken) && not (slice_index_or taken g false) then Some (slice_set taken g true) else None
 
--- the same for one after the other
+-- the same for several, one after the other
 abbrev pub places : List ℕ → List Bool → Option (List Bool)
 places [] taken = Some taken
 places (g ∷ gs) taken = option_and_then (places gs) (place g taken)

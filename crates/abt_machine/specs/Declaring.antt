@@ -32,7 +32,7 @@ use Rattle.abt_machine.specs.Words.{Text}
 
 -- What the lines above a line declare.
 pub record Above : Type 0 where
-  -- whether a line is among them that is not skipped
+  -- whether one of them is not skipped
   pub begun : Bool
   -- the format that the version line names
   pub format : Format
@@ -49,7 +49,7 @@ pub record Above : Type 0 where
   pub objects : List Thing
   -- the number of units, if it is declared
   pub unit_count : Option ℕ
-  -- the units that are declared but those of the last `unit` or `many` line
+  -- the units that are declared, except those of the last `unit` or `many` line
   pub units : List UnitPart
   -- the unit that this last line declares, which has the operation lines that follow; the first of them if it is a `many` line
   pub last : Option UnitPart
@@ -65,7 +65,7 @@ nothing = record { begun = false; format = format.One; section = 0; streams = No
 
 -- Copies of a unit.
 
--- an operation whose word, if it says one, has a number that is so much higher
+-- an operation whose word, if it says one, has a number that is this much higher
 abbrev pub op_later : ℕ → Op → Op
 op_later n (op.Say w) = op.Say (w + n)
 op_later n o = o
@@ -78,12 +78,12 @@ body_later n (body.Sched g) = body.Sched g
 abbrev pub unit_later : ℕ → UnitPart → UnitPart
 unit_later n part = record part { body = body_later n part.body }
 
--- so many units like this one, which says so many words: each unit says words of its own, whose numbers follow those of the unit before it
+-- this many units like this one, which says this many words: each unit says words of its own, whose numbers follow those of the unit before it
 abbrev pub alike : ℕ → ℕ → UnitPart → List UnitPart
 alike zero said part = []
 alike (suc n) said part = part ∷ alike n said (unit_later said part)
 
--- the same words so many times
+-- the same words, this many times
 abbrev pub repeated : ℕ → List Text → List Text
 repeated zero words = []
 repeated (suc n) words = words ++ repeated n words
@@ -239,7 +239,7 @@ sched_with r numbers = record { rule = rule_with r numbers; pools = map pool_no 
 abbrev pub unit_with : Role → Option PoolNo → List ℕ → UnitPart
 unit_with r start numbers = record { body = body_with r numbers; start = start_with r start numbers }
 
--- a body with one operation more
+-- a body with one more operation
 abbrev pub body_and : Op → Body → Body
 body_and o (body.Ult ops) = body.Ult (ops ++ o ∷ [])
 body_and o (body.Task ops) = body.Task (ops ++ o ∷ [])
@@ -248,7 +248,7 @@ body_and o (body.Sched g) = body.Sched g
 abbrev pub unit_and : Op → UnitPart → UnitPart
 unit_and o part = record part { body = body_and o part.body }
 
--- what is declared with a line that declares so many units like this one
+-- what is declared with a line that declares this many units like this one
 abbrev pub with_copies : Above → ℕ → UnitPart → Above
 with_copies a n part = record a { units = units_of a; last = Some part; copies = n; words = said_words a; said = [] }
 
@@ -256,7 +256,7 @@ with_copies a n part = record a { units = units_of a; last = Some part; copies =
 abbrev pub with_operation : Op → List Text → List ℕ → Above → Above
 with_operation o words numbers a = record a { last = option_map (unit_and (op_with o (length a.words + length a.said) numbers)) a.last; said = a.said ++ said_in o words }
 
--- with so many such lines
+-- with this many such lines
 abbrev pub with_operations : ℕ → Op → List Text → List ℕ → Above → Above
 with_operations zero o words numbers a = a
 with_operations (suc n) o words numbers a = with_operations n o words numbers (with_operation o words numbers a)

@@ -62,7 +62,7 @@ unasked desk = record desk { cancel = false; migrate = None }
 abbrev pub with_ended : Owned → Cause → DeskValue → DeskValue
 with_ended o cause desk = record desk { phase = Ended o cause; joiners = []; cancel = false; migrate = None }
 
--- a desk answers so, and is this afterwards; a unit that ends or is suspended at a desk that is not its own or not out is kept
+-- a desk's answer, and the desk afterwards; a unit that ends or is suspended at a desk that is not its own or not out is kept
 -- as the last joiner
 abbrev pub DeskGives : DeskValue → Act → Answer → DeskValue → Type 0
 DeskGives old (Create p) (Given o) new = (option_map (reborn p) (unborn_in old.phase) ≡ Some o) × (new ≡ with_phase Out old)

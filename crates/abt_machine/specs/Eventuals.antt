@@ -5,7 +5,7 @@ use Rattle.abt_machine.specs.Numbers.{truth}
 use Rattle.abt_machine.specs.Values.{EventualValue}
 use Rattle.abt_machine.specs.Acts.{Act, Await, Fill, Reset, Test, Answer, Given, Woke, Rested, Number, Coded, received}
 
--- an eventual answers so, and is this afterwards
+-- an eventual's answer, and the eventual afterwards
 abbrev pub EventualGives : EventualValue → Act → Answer → EventualValue → Type 0
 EventualGives old (Await o) (Given b) new = (option_map (λ n. received n o) old.value ≡ Some b) × (new ≡ old)
 EventualGives old (Await o) Rested new = IsNone old.value × (new ≡ record old { waiters = old.waiters ++ o ∷ [] })

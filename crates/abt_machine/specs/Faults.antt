@@ -54,11 +54,11 @@ is_unknown F words = not (list_any (λ f. is_in F f && begins_with (slots f) wor
 
 -- Shape.
 
--- of sections 1, 2, 3 and 8 a text has one line at most
+-- of sections 1, 2, 3 and 8 a text has at most one line
 abbrev pub is_single : ℕ → Bool
 is_single n = (n == 1) || (n == 2) || (n == 3) || (n == 8)
 
--- operations belong to a unit that is no scheduler
+-- operations belong to a unit that is not a scheduler
 abbrev pub takes_operations : Option UnitPart → Bool
 takes_operations None = false
 takes_operations (Some part) = not (is_sched part.body)
@@ -84,7 +84,7 @@ is_placed a g = list_any (λ h. h == g) (placed_scheds (parts_of a))
 abbrev pub has_main : Above → ℕ → Bool
 has_main a s = option_map_or is_some (slice_get a.mains s) false
 
--- a number stands twice in a list
+-- a number appears twice in a list
 abbrev pub has_repeated : List ℕ → Bool
 has_repeated [] = false
 has_repeated (n ∷ ns) = list_any (λ m. m == n) ns || has_repeated ns
@@ -128,11 +128,11 @@ abbrev pub is_rwlock : Thing → Bool
 is_rwlock thing.RwLock = true
 is_rwlock t = false
 
--- object x is there, and is such a thing
+-- object x is declared, and is such a thing
 abbrev pub has_object : Above → (Thing → Bool) → ℕ → Bool
 has_object a test x = option_map_or test (slice_get a.objects x) false
 
--- a number that is declared here skips none of its kind; what is named is there, an object as the thing that its word needs
+-- a number that is declared here skips none of its kind; what is named is declared, an object as the thing that its word needs
 abbrev pub is_there : Above → Number → ℕ → Bool
 is_there a (number.Within low high) n = true
 is_there a number.StreamCount n = true
@@ -254,7 +254,7 @@ numbers_of f words = valued (numerals (slots f) words)
 abbrev pub values_of : Form → List Text → List ℕ
 values_of f words = values (numbers_of f words)
 
--- what is asked of a line's form holds if it has one
+-- this holds of a line's form, if it has one
 abbrev pub of_form : (Form → Bool) → Option Form → Bool
 of_form test form = option_map_or test form false
 

@@ -27,7 +27,7 @@ use Rattle.abt_machine.specs.Words.{Text}
 
 -- what stands at a place of a line
 pub data Slot : Type 0 where
-  -- this very word
+  -- exactly this word
   Fixed : Text → Slot
   -- the word of a kind of pool
   KindWord : Slot
@@ -57,7 +57,7 @@ combine_name combine.Count = codes "count"
 abbrev pub any_number : Slot
 any_number = Numeral (number.Within 0 (2 ^ 64 - 1))
 
--- a number between these two, the two among them
+-- a number between these two, inclusive
 abbrev pub within : ℕ → ℕ → Slot
 within low high = Numeral (number.Within low high)
 

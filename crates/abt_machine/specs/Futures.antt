@@ -26,7 +26,7 @@ woken_by f = if is_ready f then map (received f.value) f.waiters else []
 abbrev pub left_waiting : FutureValue → FutureValue
 left_waiting f = record f { waiters = if is_ready f then [] else f.waiters }
 
--- a future answers so, and is this afterwards
+-- a future's answer, and the future afterwards
 abbrev pub FutureGives : FutureValue → Act → Answer → FutureValue → Type 0
 FutureGives old (Await o) (Given b) new = IsTrue (is_ready old) × (b ≡ received old.value o) × (new ≡ old)
 FutureGives old (Await o) Rested new = IsFalse (is_ready old) × (new ≡ record old { waiters = old.waiters ++ o ∷ [] })

@@ -10,7 +10,7 @@ use Rattle.abt_machine.specs.Futures.{FutureGives}
 use Rattle.abt_machine.specs.Barriers.{BarrierGives}
 use Rattle.abt_machine.specs.RwLocks.{RwLockGives}
 
--- an object of any kind answers an act so, and is this afterwards
+-- the answer of an object of any kind to an act, and the object afterwards
 abbrev pub SiteGives : Object → Act → Answer → Object → Type 0
 SiteGives (PoolIs old) act answer new = (after : PoolValue) × (new ≡ PoolIs after) × PoolGives old act answer after
 SiteGives (DeskIs old) act answer new = (after : DeskValue) × (new ≡ DeskIs after) × DeskGives old act answer after

@@ -26,7 +26,7 @@ abbrev pub and_words : Above → List Text → Option Fault → Above
 and_words a words None = and_form a words (form_of a.format words)
 and_words a words (Some f) = a
 
--- what is declared with one line more; a line that is skipped declares nothing
+-- what is declared with one more line; a line that is skipped declares nothing
 abbrev pub and_line : Above → Text → Above
 and_line a line = if is_skipped (words_of line) then a else record (and_words a (words_of line) (line_fault a line)) { begun = true }
 
@@ -61,7 +61,7 @@ has_at lines i f =
     if nat_lt i (length lines) then line_has (declared_by (take i lines)) (slice_index_or lines i []) f
     else ((i == length lines) && ends_early (declared_by lines) f)
 
--- the line of this number, counted from 1, has this fault; 0 stands for the text's length
+-- the line of this number, counted from 1, has this fault; 0 means the text's length
 abbrev pub has_fault : Text → ℕ → Fault → Bool
 has_fault text zero f = is_too_long text f
 has_fault text (suc i) f = has_at (lines_of text) i f

@@ -4,11 +4,11 @@ use Rattle.std.specs.List.{sum}
 use Rattle.abt_machine.specs.Fronts.{is_some_of}
 use Rattle.abt_machine.specs.State.{RwLock}
 
--- how often a unit may read at once
+-- how many times a unit may read at the same time
 abbrev pub read_limit : ℕ
 read_limit = 65535
 
--- how often unit u reads
+-- how many times unit u reads
 abbrev pub count_of : ℕ → RwLock → ℕ
 count_of u lock = slice_index lock.counts u
 
@@ -38,6 +38,6 @@ read_by u lock = with_count u (count_of u lock + 1) lock
 abbrev pub written_by : ℕ → RwLock → RwLock
 written_by u lock = record lock { writer = Some u }
 
--- unit u gives up the lock if it writes, and else reads once less
+-- unit u gives up the lock if it writes, and otherwise reads once less
 abbrev pub given_up : ℕ → RwLock → RwLock
 given_up u lock = if writes u lock then record lock { writer = None } else with_count u (count_of u lock - 1) lock

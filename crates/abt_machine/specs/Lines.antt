@@ -31,7 +31,7 @@ ticket_in (Joining v) (place.Blocked (spot.Join w) t) = if_same w.0 v t
 ticket_in (Waiting x) (place.Blocked (spot.Object y) t) = if_same y.0 x t
 ticket_in _ _ = None
 
--- who stands in a line, in order by rising ticket
+-- who stands in a line, in order of rising ticket
 abbrev pub standing : Parts → State → Line → List ℕ
 standing W S l = queue (λ u. ticket_in l (S.place u)) (length W.units)
 

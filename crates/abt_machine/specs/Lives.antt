@@ -1,4 +1,4 @@
--- What a journal says of each life of each unit.
+-- What a journal says about each life of each unit.
 use Rattle.std.specs.Prelude.{ℕ, zero, suc, ◌≡◌, ◌≢◌, ◌<◌, ◌≤◌, ◌==◌, ◌&&◌, if◌then◌else◌, Bool, true, false, List, [], ◌∷◌, ◌++◌, length, take, filter_map, count_by, Option, Some, None, Contains}
 use Rattle.abt_machine.specs.declared.events.Cause.{Cause}
 use Rattle.abt_machine.specs.declared.events.Cause.TheVariants as cause
@@ -62,7 +62,7 @@ position_in _ = None
 abbrev pub positions_in : List What → List ℕ
 positions_in es = filter_map position_in es
 
--- 0, 1 and so on up to below n
+-- the numbers below n, in order
 abbrev pub count_up : ℕ → List ℕ
 count_up zero = []
 count_up (suc n) = count_up n ++ n ∷ []
@@ -101,7 +101,7 @@ NoExit ops = Contains ops op.Exit → ⊥
 abbrev pub NoExitBefore : List Op → Type 0
 NoExitBefore ops = (before rest : List Op) → ops ≡ before ++ op.Exit ∷ rest → rest ≡ []
 
--- how a life of a unit with these operations may end: done after all of them or asked after at most so many, none of them
+-- how a life of a unit with these operations may end: done after all of them or asked after at most that many, none of them
 -- an `exit`, or by its own `exit`, its last step
 abbrev pub EndsSteps : List Op → List What → Cause → Type 0
 EndsSteps ops es cause.Done = (length (positions_in es) ≡ length ops) × NoExit ops

@@ -60,7 +60,7 @@ after_broadcast k m = all_admitted (at_condition k m) (with_condition k [] m)
 abbrev pub after_wait : ℕ → Owned → MonitorValue → MonitorValue
 after_wait k o m = handed_over (with_condition k (at_condition k m ++ o ∷ []) m)
 
--- a monitor answers so, and is this afterwards
+-- a monitor's answer, and the monitor afterwards
 abbrev pub MonitorGives : MonitorValue → Act → Answer → MonitorValue → Type 0
 MonitorGives old (Lock o) (Given b) new = IsNone old.owner × (b ≡ o) × (new ≡ with_owner (Some o.number) old)
 MonitorGives old (Lock o) Rested new = IsSome old.owner × (new ≡ record old { waiters = old.waiters ++ o ∷ [] })

@@ -1,4 +1,4 @@
--- What an operation asks of the workload that it stands in, and what is so of it in every workload.
+-- What an operation requires of its workload, and what holds of it in every workload.
 use Rattle.std.specs.Prelude.{ℕ, ◌≡◌, ◌<◌, ◌≤◌, Bool, true, false, List, [], ◌∷◌, length, Option, Some, None, option_to_list, ⊤}
 use Rattle.abt_machine.specs.declared.events.Piece.TheVariants as piece
 use Rattle.abt_machine.specs.declared.grammar.Number.{Number}
@@ -30,7 +30,7 @@ abbrev pub IsRwLock : Parts → ℕ → Type 0
 IsRwLock W x = thing_at W x ≡ Some thing.RwLock
 
 -- a number of this kind names what is declared, an object of the kind that is asked for, or is within its bounds if it names nothing;
--- nothing is asked of a count, and of the number of what a line itself declares
+-- nothing is required of a count, and of the number of what a line itself declares
 abbrev pub IsNamed : Parts → Number → ℕ → Type 0
 IsNamed W (number.Within low high) n = (low ≤ n) × (n ≤ high)
 IsNamed W number.StreamCount n = ⊤
@@ -73,10 +73,10 @@ pub record Nature : Type 0 where
   pub key : Option ℕ
   -- the number of the unit that it gives a life, if it gives one
   pub birth : Option ℕ
-  -- what it makes of what its unit carries, if it is local: if it changes nothing else
+  -- how it changes what its unit carries, if it is local: if it changes nothing else
   pub local : Option (Carried → Carried)
 
--- it has none of this
+-- it has none of these
 abbrev pub plain : Nature
 plain = record { may_block = false; word = None; key = None; birth = None; local = None }
 
@@ -88,7 +88,7 @@ blocking = record plain { may_block = true }
 abbrev pub gives_life : ℕ → Nature
 gives_life v = record plain { birth = Some v }
 
--- it is local, and makes f of what its unit carries
+-- it is local, and changes what its unit carries by f
 abbrev pub locally : (Carried → Carried) → Nature
 locally f = record plain { local = Some f }
 
@@ -96,7 +96,7 @@ locally f = record plain { local = Some f }
 abbrev pub says : ℕ → Nature
 says w = record (locally (printed (piece.Said w))) { word = Some w }
 
--- it names key k, is local, and makes f of what its unit carries
+-- it names key k, is local, and changes what its unit carries by f
 abbrev pub at_key : ℕ → (Carried → Carried) → Nature
 at_key k f = record (locally f) { key = Some k }
 

@@ -45,7 +45,7 @@ refusal o c = notes (moved o) c
 abbrev pub local : (Carried → Carried) → Owned → Effect
 local f o = keeps (moved (carrying f o)) []
 
--- What an answer brings. The last line of each is of answers that the act never gets.
+-- What an answer brings. The last line of each is for answers that the act never gets.
 
 -- to a unit that stayed in the hand: it goes on, what comes out is woken, and a number is its own
 abbrev pub to_caller : Owned → Answer → Effect

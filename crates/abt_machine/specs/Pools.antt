@@ -31,7 +31,7 @@ without u (o ∷ os) = if is_unit u o then os else o ∷ without u os
 abbrev pub with_units : List Owned → PoolValue → PoolValue
 with_units os pool = record pool { units = os }
 
--- a pool answers so, and is this afterwards
+-- a pool's answer, and the pool afterwards
 abbrev pub PoolGives : PoolValue → Act → Answer → PoolValue → Type 0
 PoolGives old (Put o) Rested new = new ≡ with_units (old.units ++ o ∷ []) old
 PoolGives old (Take d) (Given o) new = HasSide old.kind d × (old.units ≡ with_end d o new.units) × (new.kind ≡ old.kind)

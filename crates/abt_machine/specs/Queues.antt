@@ -1,4 +1,4 @@
--- The units that stand in a line, in order by rising ticket.
+-- The units that stand in a line, in order of rising ticket.
 use Rattle.std.specs.Prelude.{ℕ, zero, suc, nat_le, if◌then◌else◌, List, [], ◌∷◌, Option, Some, None, map}
 
 -- the list with unit u at ticket t, before the first entry whose ticket is not lower
@@ -15,7 +15,7 @@ abbrev pub ticketed : (ℕ → Option ℕ) → ℕ → List (ℕ × ℕ)
 ticketed at zero = []
 ticketed at (suc n) = ticketed_step n (at n) (ticketed at n)
 
--- the units below n that have a ticket, in order by rising ticket
+-- the units below n that have a ticket, in order of rising ticket
 abbrev pub queue : (ℕ → Option ℕ) → ℕ → List ℕ
 queue at n = map (λ p. p.1) (ticketed at n)
 

@@ -92,7 +92,7 @@ woken old = if is_free old.lock then granted old.lock.wishes old.waiters else []
 abbrev pub passed_on : RwLockValue → RwLockValue
 passed_on old = if is_free old.lock then served old else old
 
--- a reader-writer lock answers so, and is this afterwards
+-- a reader-writer lock's answer, and the lock afterwards
 abbrev pub RwLockGives : RwLockValue → Act → Answer → RwLockValue → Type 0
 RwLockGives old (ReadLock o) (Given b) new =
     IsFalse (writes o.number old.lock) × (count_of o.number old.lock < read_limit) × IsTrue (may_read o.number old) × (b ≡ o)

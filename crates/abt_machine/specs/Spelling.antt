@@ -41,7 +41,7 @@ value_from n (d ∷ ds) = value_from (n * 10 + (d - 48)) ds
 abbrev pub value_of : Text → ℕ
 value_of word = value_from 0 word
 
--- a number is one or more digits, leading zeros among them, of a value below 2 ^ 64
+-- a number is one or more digits, perhaps with leading zeros, of a value below 2 ^ 64
 abbrev pub is_number : Text → Bool
 is_number word = not (is_empty word) && all_ascii_digits word && nat_lt (value_of word) (2 ^ 64)
 

@@ -1,5 +1,5 @@
 -- Stamps of events: a clock for each stream and each shared object. The words are those of abt_interleave's Stamps, which says what
--- they mean of anything that has a stamp, a stream and perhaps a place: an event's place is its site.
+-- they mean for anything that has a stamp, a stream and perhaps a place: an event's place is its site.
 use Rattle.std.specs.Prelude.{ℕ, List}
 use Rattle.abt_interleave.specs.Stamps as of
 use Rattle.abt_machine.specs.declared.events.Event.{Event}
@@ -14,7 +14,7 @@ stamp_of e = e.stamp
 abbrev pub stream_of : Event → ℕ
 stream_of e = e.stream.0
 
--- f follows e at once: the stamp doesn't fall, and rises by at most one; events of equal stamp stand in order of stream
+-- f follows e directly: the stamp doesn't fall, and rises by at most one; events of equal stamp stand in order of stream
 abbrev pub Follows : Event → Event → Type 0
 Follows e f = of.Follows stamp_of stream_of e f
 
@@ -31,7 +31,7 @@ module _ (W : Parts) where
   abbrev pub AllAfter : Event → List Event → Type 0
   AllAfter e fs = of.AllAfter stamp_of stream_of (event_site W) e fs
 
-  -- these follow e, one at once after the other, and their stamps rise strictly along each stream and each object
+  -- these follow e, each directly after the one before, and their stamps rise strictly along each stream and each object
   abbrev pub StampedFrom : Event → List Event → Type 0
   StampedFrom e fs = of.StampedFrom stamp_of stream_of (event_site W) e fs
 
@@ -47,6 +47,6 @@ module _ (W : Parts) where
   abbrev pub LamportFrom : List Event → List Event → Type 0
   LamportFrom earlier es = of.LamportFrom stamp_of stream_of (event_site W) earlier es
 
-  -- stamped, and each stamp is one more than the greatest earlier stamp of its stream and of its object, 0 standing for none
+  -- stamped, and each stamp is one more than the greatest earlier stamp of its stream and of its object, 0 if there is none
   abbrev pub Lamport : List Event → Type 0
   Lamport J = of.Lamport stamp_of stream_of (event_site W) J

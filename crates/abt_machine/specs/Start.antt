@@ -20,7 +20,7 @@ abbrev pub start_place : Parts → ℕ → Option ℕ → Place
 start_place W u None = place.Unborn
 start_place W u (Some p) = place.Pool (pool_no p) (count_at W p u)
 
--- lives are numbered from 1, so 0 is no life
+-- lives are numbered from 1, so 0 is not a life
 abbrev pub first_life : Option ℕ → ℕ
 first_life None = 0
 first_life (Some p) = 1

@@ -28,7 +28,7 @@ pub record Future : Type 0 where
   pub filled : ℕ
   pub value : ℕ
 
--- a reader-writer lock: who writes, how often each unit reads, what each unit wanted when it last came to wait, and the number
+-- a reader-writer lock: who writes, how many times each unit reads, what each unit wanted when it last came to wait, and the number
 pub record RwLock : Type 0 where
   pub writer : Option ℕ
   pub counts : List ℕ

@@ -103,7 +103,7 @@ abbrev pub awaits : State → ℕ → ℕ → Option ℕ → Change
 awaits S u x None = waits S u x
 awaits S u x (Some value) = goes_with u (with_acc value (S.carried u))
 
--- unit u gets 1 if it is so, else 0
+-- unit u gets 1 if this holds, else 0
 abbrev pub learns : State → ℕ → Bool → Change
 learns S u b = goes_with u (with_acc (truth b) (S.carried u))
 
@@ -111,7 +111,7 @@ learns S u b = goes_with u (with_acc (truth b) (S.carried u))
 abbrev pub ready_value : Parts → State → ℕ → Option ℕ
 ready_value W S x = if is_full W S x then Some (S.future x).value else None
 
--- what a future's rule makes of its values and one more
+-- what a future's rule computes from its values and one more
 abbrev pub combined : Combine → Future → ℕ → ℕ
 combined combine.Sum f a = (f.value + a) % 2 ^ 64
 combined combine.Max f a = max f.value a

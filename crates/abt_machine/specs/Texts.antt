@@ -170,7 +170,7 @@ short_of W units steps o = flat_map ended (first_alone (numbered (unit_line W) u
 abbrev pub shown_units : Parts → State → List ShownUnit
 shown_units W S = map (λ u. record { shown = shown (S.place u); output = (S.carried u).output }) (range_with_len 0 (length W.units))
 
--- the report on a state, after so many steps
+-- the report on a state, after this many steps
 abbrev pub report_text : Parts → State → ℕ → Outcome → Text
 report_text W S steps o = report_of W (shown_units W S) steps o
 

@@ -41,7 +41,7 @@ IsRule rule.Prio = ⊤
 IsRule (rule.Randws seed) = seed < 2 ^ 64
 IsRule (rule.User k) = k < 2
 
--- a scheduler lists some of this many pools, one at least and as many as the limit at most, each once
+-- a scheduler lists some of this many pools, at least one and at most as many as the limit, each once
 pub record IsSched (pools : ℕ) (part : SchedPart) : Type 0 where
   pub rule : IsRule part.rule
   pub some_pool : 0 < length part.pools
@@ -66,7 +66,7 @@ placed_scheds W = map (λ (g : SchedNo). g.0) W.mains ++ flat_map (λ (part : Un
 
 -- Objects.
 
--- object x of these: a condition belongs to a mutex that is declared above it; a future has compartments, and a barrier parties, as many as the limit at most
+-- object x of these: a condition belongs to a mutex that is declared above it; a future has compartments, and a barrier parties, at most as many as the limit
 abbrev pub IsThing : List Thing → ℕ → Thing → Type 0
 IsThing objects x thing.Mutex = ⊤
 IsThing objects x (thing.Cond m) = (m.0 < x) × (slice_get objects m.0 ≡ Some thing.Mutex)
@@ -96,11 +96,11 @@ pub record IsUnit (W : Parts) (part : UnitPart) : Type 0 where
 abbrev pub words_said : Parts → List ℕ
 words_said W = flat_map (λ (part : UnitPart). flat_map said_by (ops_of part.body)) W.units
 
--- a byte that is no blank and no control character
+-- a byte that is neither a blank nor a control character
 abbrev pub IsVisible : ℕ → Type 0
 IsVisible b = (32 < b) × (b ≢ 127)
 
--- a word that can be said: visible bytes, one at least and as many as the limit at most
+-- a word that can be said: visible bytes, at least one and at most as many as the limit
 pub record IsWord (word : Text) : Type 0 where
   pub some_byte : 0 < length word
   pub few_bytes : length word ≤ word_limit

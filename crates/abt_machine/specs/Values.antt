@@ -110,7 +110,7 @@ pub data Object : Type 0 where
   RwLockIs : RwLockValue → Object
   NotHere : Object
 
--- What a state makes of each object.
+-- What each object is in a state.
 
 abbrev pub pool_value : Parts → State → ℕ → PoolValue
 pool_value W S p = record { kind = kind_of W p; units = owned_in W S (InPool p) }

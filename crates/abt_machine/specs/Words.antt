@@ -23,6 +23,6 @@ ended line = line ++ 10 ∷ []
 abbrev pub text_of : List (List Text) → Text
 text_of = flat_map (λ words. ended (line_of words))
 
--- what f makes of each element and its number, counted from 0
+-- f applied to each element and its number, counted from 0
 abbrev pub numbered : {A B : Type 0} → (ℕ → A → B) → List A → List B
 numbered f xs = map (λ p. f p.0 p.1) (enumerate_from 0 xs)

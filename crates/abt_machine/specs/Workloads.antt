@@ -130,6 +130,6 @@ abbrev pub combine_from : Option Thing → Combine
 combine_from (Some (thing.Future n c)) = c
 combine_from _ = combine.Sum
 
--- what a future makes of its values
+-- what a future computes from its values
 abbrev pub combine_of : Parts → ℕ → Combine
 combine_of W x = combine_from (thing_at W x)

@@ -47,7 +47,7 @@ pub enum Wish {
     Write,
 }
 
-/// Where a unit is. The number beside a pool, a tray, a frame or a spot is its ticket there.
+/// Where a unit is. The number with a pool, a tray, a frame or a spot is its ticket there.
 #[derive(Clone, Copy, Debug, PartialEq, Eq)]
 pub enum Place {
     Unborn,
@@ -72,7 +72,7 @@ pub enum Shown {
     Ended(Cause),
 }
 
-/// A shared object: what one event may touch beside its stream.
+/// A shared object: what one event may touch besides its stream.
 #[derive(Clone, Copy, Debug, PartialEq, Eq)]
 pub enum Site {
     Pool(PoolNo),
@@ -112,7 +112,7 @@ pub type Journal = Items<Event>;
 /// The events of one stream, in order.
 pub type Log = Items<Event>;
 
-/// One piece of a unit's output: the word of that number, a number, or a refusal.
+/// One piece of a unit's output: the word with that number, a number, or a refusal.
 #[derive(Clone, Copy, Debug, PartialEq, Eq)]
 pub enum Piece {
     Said(u32),

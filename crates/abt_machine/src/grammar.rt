@@ -14,7 +14,7 @@ pub enum Format {
 }
 
 impl Format {
-    /// How many bytes a text has at most.
+    /// The maximum number of bytes of a text.
     pub fn text_limit(self) -> usize
         ensures { result ≡ text_limit self }
     {
@@ -24,7 +24,7 @@ impl Format {
         }
     }
 
-    /// How many streams a text declares at most.
+    /// The maximum number of streams that a text declares.
     pub fn stream_limit(self) -> u32
         ensures { result ≡ stream_limit self }
     {
@@ -34,7 +34,7 @@ impl Format {
         }
     }
 
-    /// How many units a text declares at most.
+    /// The maximum number of units that a text declares.
     pub fn unit_limit(self) -> u32
         ensures { result ≡ unit_limit self }
     {
@@ -45,37 +45,37 @@ impl Format {
     }
 }
 
-/// How many keys a text declares at most.
+/// The maximum number of keys that a text declares.
 pub const KEY_LIMIT: u32 = 16;
 
-/// How many pools a text declares at most.
+/// The maximum number of pools that a text declares.
 pub const POOL_LIMIT: usize = 64;
 
-/// How many schedulers a text declares at most.
+/// The maximum number of schedulers that a text declares.
 pub const SCHED_LIMIT: usize = 64;
 
-/// How many objects a text declares at most.
+/// The maximum number of objects that a text declares.
 pub const OBJECT_LIMIT: usize = 256;
 
-/// How many pools a scheduler lists at most.
+/// The maximum number of pools that a scheduler lists.
 pub const LISTED_LIMIT: usize = 8;
 
-/// How many compartments a future and how many parties a barrier has at most.
+/// The maximum number of compartments of a future, and of parties of a barrier.
 pub const SIZE_LIMIT: u32 = 4_096;
 
-/// How many bytes a said word has at most.
+/// The maximum number of bytes of a said word.
 pub const WORD_LIMIT: usize = 64;
 
-/// How many units a text of any format declares at most.
+/// The maximum number of units that a text of any format declares.
 pub const UNIT_LIMIT: u32 = 4_096;
 
-/// How many operations a unit has at most.
+/// The maximum number of operations of a unit.
 pub const UNIT_OPERATION_LIMIT: usize = 256;
 
-/// How many operations all units have at most.
+/// The maximum number of operations of all units.
 pub const OPERATION_LIMIT: usize = 65_536;
 
-/// What a unit's line says that it is.
+/// What a unit is, by its line.
 #[derive(Clone, Copy, Debug, PartialEq, Eq)]
 pub enum Role {
     Ult,
@@ -83,7 +83,7 @@ pub enum Role {
     Sched,
 }
 
-/// A form of line. Of the values that it carries only the variants count and not their numbers: one
+/// A form of line. Of the values that it carries, only the variants count, not their numbers: one
 /// form, `Operation(Op::Lock(ObjectNo(0)))`, stands for every `lock` line.
 #[derive(Clone, Copy, Debug, PartialEq, Eq)]
 pub enum Form {

@@ -60,7 +60,7 @@ pub enum Rule {
     User(u32),
 }
 
-/// What a future makes of its compartments' values: their sum modulo 2^64, their greatest, or their number.
+/// What a future computes from its compartments' values: their sum modulo 2^64, their maximum, or their number.
 #[derive(Clone, Copy, Debug, PartialEq, Eq)]
 pub enum Combine {
     Sum,
@@ -69,7 +69,7 @@ pub enum Combine {
 }
 
 impl Combine {
-    /// The value of a future once one more compartment is filled, with `new`: of `old`, its value before, and `filled`, how many
+    /// The value of a future once one more compartment is filled, with `new`, from `old`, its value before, and `filled`, how many
     /// compartments were filled before.
     pub fn combined(self, old: u64, filled: u32, new: u64) -> u64
         ensures { result ≡ combined self (record { filled = filled; value = old }) new }
@@ -201,14 +201,14 @@ impl Body {
     }
 }
 
-/// Which of a pool's ends.
+/// One of a pool's ends.
 #[derive(Clone, Copy, Debug, PartialEq, Eq)]
 pub enum Side {
     Front,
     Back,
 }
 
-/// What a stored order promises of its answer for round r, n pools and place i: `Rotate` (r + i) mod n,
+/// What a stored order guarantees about its answer for round r, n pools and place i: `Rotate` (r + i) mod n,
 /// `Mirror` n - 1 - i, `Free` any number below n.
 #[derive(Clone, Copy, Debug, PartialEq, Eq)]
 pub enum OrderShape {

@@ -1,4 +1,4 @@
-//! What the program is asked and what it answers.
+//! What the program is asked, and what it returns.
 
 use crate::events::Journal;
 use std::alloc::{AllocError, AllocFailed};
@@ -19,7 +19,7 @@ impl<T: Drop> From<AllocFailed<T>> for Want {
     }
 }
 
-/// What a line of a workload text may have wrong.
+/// What may be wrong with a line of a workload text.
 #[derive(Clone, Copy, Debug, PartialEq, Eq)]
 pub enum Fault {
     Utf8,

@@ -59,7 +59,7 @@ fn are_distinct(pools: &[PoolNo]) -> bool
     true
 }
 
-// Whether a byte is no blank and no control character.
+// Whether a byte is neither a blank nor a control character.
 fn is_visible(byte: u8) -> bool
     ensures { IsTrue result ↔ IsVisible byte }
 {
@@ -97,7 +97,7 @@ fn next_word(ops: &[Op], from: u64) -> Option<u64>
     Some(next)
 }
 
-// Whether a scheduler is in the table and has no place yet; then from now on it has one.
+// Whether a scheduler is in the table and has no place yet; if so, it has one from now on.
 fn take_place(g: SchedNo, taken: &mut [bool]) -> bool
     ensures { (if result then Some taken.new else None) ≡ place g.0 taken.old }
 {
@@ -166,7 +166,7 @@ fn ops_left(units: &[UnitPart], room: usize) -> Option<usize>
 }
 
 impl Parts {
-    // Whether there is a stream, and are as many as there may be.
+    // Whether there is at least one stream, and there are no more than there may be.
     fn has_streams(&self) -> bool
         ensures { IsTrue result ↔ ((0 < self.now.streams) × (self.now.streams ≤ stream_limit format.Two)) }
     {
@@ -219,7 +219,7 @@ impl Parts {
         }
     }
 
-    // Whether there is a pool, and are as many as there may be, and each pool's access names declared streams.
+    // Whether there is at least one pool, there are no more than there may be, and each pool's access names declared streams.
     fn has_pools(&self) -> bool
         ensures { IsTrue result ↔ ((0 < length self.now.pools) × (length self.now.pools ≤ pool_limit) × All (λ (part : PoolPart). IsAccess self.now.streams part.access) self.now.pools) }
     {
@@ -234,7 +234,7 @@ impl Parts {
         pools.iter().all(|p| self.has_pool(*p))
     }
 
-    // Whether a scheduler lists declared pools, one at least and as many as the limit at most, each once.
+    // Whether a scheduler lists declared pools, at least one and at most as many as the limit, each once.
     fn is_sched(&self, part: &SchedPart) -> bool
         ensures { IsTrue result ↔ IsSched (length self.now.pools) part.now }
     {
@@ -245,7 +245,7 @@ impl Parts {
             && are_distinct(pools)
     }
 
-    // Whether there is a scheduler, and are as many as there may be, and each one's rule and pools are as they may be.
+    // Whether there is at least one scheduler, there are no more than there may be, and each one's rule and pools are allowed.
     fn has_scheds(&self) -> bool
         ensures { IsTrue result ↔ ((0 < length self.now.scheds) × (length self.now.scheds ≤ sched_limit) × All (IsSched (length self.now.pools)) self.now.scheds) }
     {
@@ -419,7 +419,7 @@ impl Parts {
         }
     }
 
-    // Whether a unit's body, operations and pool are as they may be.
+    // Whether a unit's body, operations and pool are allowed.
     fn is_unit(&self, part: &UnitPart) -> bool
         ensures { IsTrue result ↔ IsUnit self.now part.now }
     {
@@ -430,7 +430,7 @@ impl Parts {
             && self.is_start(part.start)
     }
 
-    // Whether there are no more units than there may be, and each is as it may be.
+    // Whether there are no more units than there may be, and each is allowed.
     fn has_units(&self) -> bool
         ensures { IsTrue result ↔ ((length self.now.units ≤ unit_limit format.Two) × All (IsUnit self.now) self.now.units) }
     {
@@ -462,7 +462,7 @@ impl Parts {
         next_unit_word(self.units.items(), 0) == Some(self.words.items().len() as u64)
     }
 
-    // Whether all units together have as few operations as they may have.
+    // Whether all units together have no more operations than they may have.
     fn has_few_ops(&self) -> bool
         ensures { IsTrue result ↔ (length (all_ops self.now.units) ≤ operation_limit) }
     {

@@ -277,7 +277,7 @@ impl Parts {
 }
 
 impl Workload {
-    // The mutex of a condition, and the object itself if it is no condition.
+    // The mutex of a condition, and the object itself if it is not a condition.
     fn mutex(&self, x: ObjectNo) -> ObjectNo
         ensures { result.0 ≡ mutex_of self.now x.0 }
     {
