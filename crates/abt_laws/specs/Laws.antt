@@ -80,11 +80,11 @@ abbrev pub AllMisses : List Event → Type 0
 AllMisses [] = Unit {0}
 AllMisses (e ∷ es) = IsMiss e.what × AllMisses es
 
--- no continuation of a journal after which nothing is left to do has another event than a miss
+-- no continuation of a journal after which nothing is left to do has an event other than a miss
 abbrev pub QuietRunsMiss : Parts → List OrderShape → Type 0
 QuietRunsMiss W Z = IsValid W → OrdersStored W Z → (J K : List Event) → Run W Z (J ++ K) → Quiet W (last_state W J) → AllMisses K × Quiet W (last_state W (J ++ K))
 
--- in every run each life of each unit goes as LivesOf says
+-- in every run each life of each unit is as LivesOf says
 abbrev pub RunsLive : Parts → List OrderShape → Type 0
 RunsLive W Z = IsValid W → OrdersStored W Z → (J : List Event) → Run W Z J → LivesOf W J
 

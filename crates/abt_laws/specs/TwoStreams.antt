@@ -1,4 +1,4 @@
--- A workload to see the laws at work: two streams share a pool.
+-- A workload that shows the laws at work: two streams share a pool.
 use Rattle.std.specs.Prelude.{List, [], ◌∷◌}
 use Rattle.abt_machine.specs.declared.numbers.PoolNo.{PoolNo}
 use Rattle.abt_machine.specs.declared.operations.Access.TheVariants as access

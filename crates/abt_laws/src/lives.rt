@@ -5,7 +5,7 @@ ghost use Rattle.abt_machine.specs.declared.operations.OrderShape.{OrderShape};
 ghost use Rattle.abt_machine.specs.declared.workload.Parts.{Parts};
 ghost use Rattle.abt_laws.specs.Laws.{LifeIsTheJournals, RunsLive};
 
-/// In every run each life of each unit goes as lives do.
+/// In every run each life of each unit follows the rules of lives.
 pub fn runs_live()
     ensures { (W : Parts) (Z : List OrderShape) → RunsLive W Z }
 {}
