@@ -36,11 +36,11 @@ use Rattle.abt_bounds.specs.Accesses.{FramesHaveAccess, IsWithinAccess, KeepsAcc
 abbrev pub HasNoFreeOrder : Parts → List OrderShape → Type 0
 HasNoFreeOrder W Z = (g k : ℕ) → rule_of W g ≡ Some (rule.User k) → slice_get Z k ≡ Some shape.Free → ⊥
 
--- if no order is free, a round of a scheduler has one order at most
+-- if no order is free, a round of a scheduler has at most one order
 abbrev pub OrdersAreOne : Parts → List OrderShape → Type 0
 OrdersAreOne W Z = HasNoFreeOrder W Z → (g r : ℕ) (one two : List ℕ) → IsOrder W Z g r one → IsOrder W Z g r two → one ≡ two
 
--- if no order is free, a stream of a sound state has one event at most that may come
+-- if no order is free, a stream of a sound state has at most one event that may come
 abbrev pub OneNext : Parts → List OrderShape → Type 0
 OneNext W Z = HasNoFreeOrder W Z → (S : State) (s : ℕ) (w v : What) → Sound W Z S → May W Z S s w → May W Z S s v → w ≡ v
 
@@ -67,7 +67,7 @@ SomeNext W Z = (S : State) (s : ℕ) → Sound W Z S → s < W.streams → (w : 
 abbrev pub SomeAfter : Parts → List OrderShape → Type 0
 SomeAfter W Z = (S : State) (s : ℕ) → Sound W Z S → s < W.streams → (e : Event) × (T : State) × (e.stream.0 ≡ s) × After W Z S e T
 
--- so a wider relation that has one event at most has no event that May has not
+-- so a wider relation that has at most one event has no event that May does not have
 abbrev pub NothingWider : Parts → List OrderShape → Type 0
 NothingWider W Z = (wide : State → ℕ → What → Bool) →
     ((S : State) (s : ℕ) (w : What) → May W Z S s w → IsTrue (wide S s w)) →
@@ -172,7 +172,7 @@ StepsAreOfLives W Z = IsValid W → OrdersStored W Z → (J : List Event) → Ru
 abbrev pub HasNoRevive : Parts → Type 0
 HasNoRevive W = (u k : ℕ) (v : UnitNo) (p : PoolNo) → op_at W u k ≡ Some (op.Revive v p) → ⊥
 
--- without revivals each unit has one life at most
+-- without revivals each unit has at most one life
 abbrev pub LivesAreFew : Parts → List OrderShape → Type 0
 LivesAreFew W Z = IsValid W → OrdersStored W Z → HasNoRevive W → (J : List Event) (u : ℕ) → Run W Z J → u < length W.units → last_life W J u ≤ 1
 
@@ -197,19 +197,19 @@ what_numbers (what.End u c) = u.0 ∷ []
 what_numbers (what.Enter u) = u.0 ∷ []
 what_numbers (what.Leave u) = u.0 ∷ []
 
--- each number of the event has 64 digits at most: of a longer one a text has the last 64 alone
+-- each number of the event has at most 64 digits: of a longer one a text has only the last 64
 abbrev pub IsWritten : Event → Type 0
 IsWritten e = AllByRecursion (λ n. n < 10 ^ 64) (e.stamp ∷ e.stream.0 ∷ what_numbers e.what)
 
--- journals that are not the same have texts that are not the same
+-- different journals have different texts
 abbrev pub JournalTextsDiffer : Type 0
 JournalTextsDiffer = (J K : List Event) → AllByRecursion IsWritten J → AllByRecursion IsWritten K → journal_text J ≡ journal_text K → J ≡ K
 
--- that numbers are short is needed: some two journals, of a look each, have one text
+-- it is needed that numbers are short: some two journals, of one look each, have the same text
 abbrev pub LongNumbersCoincide : Type 0
 LongNumbersCoincide = (J : List Event) × (K : List Event) × (journal_text J ≡ journal_text K) × (J ≢ K)
 
--- so stamped runs that are not the same have texts that are not the same
+-- so different stamped runs have different texts
 abbrev pub RunTextsDiffer : Parts → List OrderShape → Type 0
 RunTextsDiffer W Z = IsValid W → OrdersStored W Z → (J K : List Event) → Run W Z J → Run W Z K → Stamped W J → Stamped W K → length J < 10 ^ 64 → length K < 10 ^ 64 → journal_text J ≡ journal_text K → J ≡ K
 

@@ -10,7 +10,7 @@ pub fn steps_are_of_lives()
     ensures { (W : Parts) (Z : List OrderShape) → StepsAreOfLives W Z }
 {}
 
-/// Without revivals each unit has one life at most.
+/// Without revivals each unit has at most one life.
 pub fn lives_are_few()
     ensures { (W : Parts) (Z : List OrderShape) → LivesAreFew W Z }
 {}

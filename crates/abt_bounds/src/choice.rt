@@ -5,12 +5,12 @@ ghost use Rattle.abt_machine.specs.declared.operations.OrderShape.{OrderShape};
 ghost use Rattle.abt_machine.specs.declared.workload.Parts.{Parts};
 ghost use Rattle.abt_bounds.specs.Laws.{FreeOrdersAreFree, NothingWider, OneAtEachPool, OneNext, OneRunOfTurns, OrdersAreOne, SomeAfter, SomeNext, SomeRunOfTurns};
 
-/// If no order is free, a round has one order at most.
+/// If no order is free, a round has at most one order.
 pub fn orders_are_one()
     ensures { (W : Parts) (Z : List OrderShape) → OrdersAreOne W Z }
 {}
 
-/// If no order is free, a stream of a sound state has one event at most that may come.
+/// If no order is free, a stream of a sound state has at most one event that may come.
 pub fn one_next()
     ensures { (W : Parts) (Z : List OrderShape) → OneNext W Z }
 {}
@@ -40,7 +40,7 @@ pub fn some_run_of_turns()
     ensures { (W : Parts) (Z : List OrderShape) → SomeRunOfTurns W Z }
 {}
 
-/// A wider relation that has one event at most in each sound state has no event that `May` has not.
+/// A wider relation that has at most one event in each sound state has no event that `May` does not have.
 pub fn nothing_wider()
     ensures { (W : Parts) (Z : List OrderShape) → NothingWider W Z }
 {}

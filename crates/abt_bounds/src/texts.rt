@@ -5,12 +5,12 @@ ghost use Rattle.abt_machine.specs.declared.operations.OrderShape.{OrderShape};
 ghost use Rattle.abt_machine.specs.declared.workload.Parts.{Parts};
 ghost use Rattle.abt_bounds.specs.Laws.{JournalTextsDiffer, LongNumbersCoincide, RunTextsDiffer, RunsNameDeclared, TalliesAddUp};
 
-/// Journals that are not the same have texts that are not the same.
+/// Different journals have different texts.
 pub fn journal_texts_differ()
     ensures { JournalTextsDiffer }
 {}
 
-/// Of longer numbers that does not hold.
+/// This does not hold for longer numbers.
 pub fn long_numbers_coincide()
     ensures { LongNumbersCoincide }
 {}
@@ -20,7 +20,7 @@ pub fn runs_name_declared()
     ensures { (W : Parts) (Z : List OrderShape) → RunsNameDeclared W Z }
 {}
 
-/// So stamped runs that are not the same have texts that are not the same.
+/// So different stamped runs have different texts.
 pub fn run_texts_differ()
     ensures { (W : Parts) (Z : List OrderShape) → RunTextsDiffer W Z }
 {}
