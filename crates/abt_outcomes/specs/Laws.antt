@@ -38,11 +38,11 @@ OrdersAreStored W Z = IsValid W → 2 ≤ length Z → OrdersStored W Z
 abbrev pub PartsDecide : Parts → Type 0
 PartsDecide W = (S : State) (s : ℕ) → due W S s ≡ due_of W s (part_of W S s)
 
--- nothing is left to do exactly if parts and objects look so
+-- nothing is left to do exactly if parts and objects show it
 abbrev pub QuietIsSeen : Parts → Type 0
 QuietIsSeen W = (S : State) (parts : ℕ → Held) (objects : Site → Object) → StandFor W S parts objects → Quiet W S ↔ LooksQuiet W parts objects
 
--- every unit of a sound state is unborn or ended exactly if the declared ones' desks hold them so
+-- every unit of a sound state is unborn or ended exactly if the desks of the declared ones show it
 abbrev pub EndsAreSeen : Parts → List OrderShape → Type 0
 EndsAreSeen W Z = (S : State) (parts : ℕ → Held) (objects : Site → Object) → Sound W Z S → StandFor W S parts objects → AllEnded S ↔ LooksEnded W objects
 
@@ -58,7 +58,7 @@ OutcomeIsSeen W Z = IsValid W → OrdersStored W Z → (n : ℕ) (J : List Event
 
 -- Outcomes.
 
--- a run has one outcome at most
+-- a run has at most one outcome
 abbrev pub OutcomesAreOne : Parts → Type 0
 OutcomesAreOne W = (n : ℕ) (J : List Event) (o p : Outcome) → EndsAs W n J o → EndsAs W n J p → o ≡ p
 
@@ -68,15 +68,15 @@ OutcomesCome W Z = IsValid W → OrdersStored W Z → (n : ℕ) (J : List Event)
 
 -- One stream.
 
--- of one stream a run is stamped exactly if its stamps are 1, 2, 3 and so on
+-- with one stream a run is stamped exactly if its stamps are 1, 2, 3 and so on
 abbrev pub StampsCount : Parts → List OrderShape → Type 0
 StampsCount W Z = W.streams ≡ 1 → (J : List Event) → Run W Z J → Stamped W J ↔ CountedFrom 1 J
 
--- of one stream a run whose last event ended a round of the main scheduler empty leaves nothing to do
+-- with one stream a run whose last event ended a round of the main scheduler empty leaves nothing to do
 abbrev pub EmptyRoundsEnd : Parts → List OrderShape → Type 0
 EmptyRoundsEnd W Z = IsValid W → OrdersStored W Z → W.streams ≡ 1 → (J : List Event) → Run W Z J → HasEndedEmpty W J → Quiet W (last_state W J)
 
--- of one stream a run that stops has an outcome
+-- with one stream a run that stops has an outcome
 abbrev pub StopsHaveOutcomes : Parts → List OrderShape → Type 0
 StopsHaveOutcomes W Z = IsValid W → OrdersStored W Z → W.streams ≡ 1 → (n : ℕ) (J : List Event) → Run W Z J → HasStopped W n J → (o : Outcome) × EndsAs W n J o
 
@@ -89,7 +89,7 @@ abbrev pub StopsGrow : Parts → Type 0
 StopsGrow W = (n : ℕ) → HasNotStopped W n [] ×
     ((J : List Event) (e : Event) → HasNotStopped W n J → ((HasStopped W n (J ++ e ∷ []) → ⊥) → HasNotStopped W n (J ++ e ∷ [])) × (HasStopped W n (J ++ e ∷ []) → GoesToItsStop W n (J ++ e ∷ [])))
 
--- of one stream and without a free order a stamped run that goes to its stop is the only one
+-- with one stream and without a free order a stamped run that goes to its stop is the only one
 abbrev pub StopsAreOne : Parts → List OrderShape → Type 0
 StopsAreOne W Z = IsValid W → OrdersStored W Z → W.streams ≡ 1 → HasNoFreeOrder W Z → (n : ℕ) (J : List Event) → Run W Z J → Stamped W J → GoesToItsStop W n J → IsOnlyRun W Z n J
 
@@ -107,7 +107,7 @@ MissedRotationsEnd W Z = IsValid W → OrdersStored W Z → (S : State) (es : Li
 abbrev pub RotationsLower : Parts → List OrderShape → Type 0
 RotationsLower W Z = IsValid W → OrdersStored W Z → (S : State) (es : List Event) → Sound W Z S → RunFrom W Z S es → HasNoStep es → IsRotation W S es → QuietOrLess W S (state_after W S es)
 
--- a round that ended empty within some events did so with others behind or before them
+-- a round that ended empty within some events did so also with others before or after them
 abbrev pub EmptiedGrows : Parts → Type 0
 EmptiedGrows W = (s : ℕ) (S : State) (es fs : List Event) → (HasEmptied W s S es → HasEmptied W s S (es ++ fs)) × (HasEmptied W s (state_after W S es) fs → HasEmptied W s S (es ++ fs))
 
@@ -133,7 +133,7 @@ abbrev pub TurnsFall : Parts → List OrderShape → Type 0
 TurnsFall W Z = IsValid W → OrdersStored W Z → (S T : State) (e : Event) → Sound W Z S → After W Z S e T → is_step e.what ≡ false → (IsMiss e.what → (T.stream e.stream.0).top.empty ≡ false) →
     turns_left W T e.stream.0 < turns_left W S e.stream.0
 
--- after an event of a stream that is no miss, and after a miss that ended its round empty, its round has seen no pool
+-- after an event of a stream that is not a miss, and after a miss that ended its round empty, its round has seen no pool
 abbrev pub RoundsBeginFresh : Parts → List OrderShape → Type 0
 RoundsBeginFresh W Z = IsValid W → OrdersStored W Z → (S T : State) (e : Event) → Sound W Z S → After W Z S e T → (IsMiss e.what → (T.stream e.stream.0).top.empty ≡ true) → (T.stream e.stream.0).top.seen ≡ []
 
@@ -143,7 +143,7 @@ StepsBeginFresh W Z = (S : State) (s : ℕ) → Sound W Z S → due W S s ≡ St
 
 -- The numbers by values.
 
--- in a sound state the units weigh what those that streams and objects hold do
+-- in a sound state the units weigh as much as those that streams and objects hold
 abbrev pub WeightIsSeen : Parts → List OrderShape → Type 0
 WeightIsSeen W Z = (S : State) (parts : ℕ → Held) (objects : Site → Object) → Sound W Z S → StandFor W S parts objects → state_weight W S ≡ weight_seen W parts objects
 

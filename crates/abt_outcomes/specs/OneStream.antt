@@ -1,4 +1,4 @@
--- Runs of one stream: when they stop, and that there is one run at most.
+-- Runs of one stream: when they stop, and that there is at most one run.
 use Rattle.std.specs.Prelude.{ℕ, suc, ◌≡◌, ◌⊎◌, true, List, [], ◌∷◌, ◌++◌}
 use Rattle.abt_machine.specs.declared.events.Event.{Event}
 use Rattle.abt_machine.specs.declared.operations.OrderShape.{OrderShape}

@@ -19,7 +19,7 @@ pub record StandFor (W : Parts) (S : State) (parts : ℕ → Held) (objects : Si
   pub streams : (s : ℕ) → s < W.streams → part_of W S s ≡ parts s
   pub sites : (x : Site) → object_of W S x ≡ objects x
 
--- each declared stream made so many steps in the journal
+-- each declared stream made this many steps in the journal
 abbrev pub HaveMade : Parts → List Event → (ℕ → ℕ) → Type 0
 HaveMade W J made = (s : ℕ) → s < W.streams → steps_of s J ≡ made s
 
@@ -54,11 +54,11 @@ IsOverAt _ = ⊥
 abbrev pub LooksEnded : Parts → (Site → Object) → Type 0
 LooksEnded W objects = (u : ℕ) → u < length W.units → IsOverAt (objects (site.Desk (unit_no u)))
 
--- stream s, which made so many steps, has made its n steps, and would make another
+-- stream s, which made this many steps, has made its n steps, and would make another
 abbrev pub LooksSpent : Parts → ℕ → (ℕ → Held) → (ℕ → ℕ) → ℕ → Type 0
 LooksSpent W n parts made s = (s < W.streams) × (made s ≡ n) × (due_of W s (parts s) ≡ StepDue)
 
--- how it ended, if each stream may make n steps, and made so many: quiet, and every unit is unborn or ended; quiet, and
+-- how it ended, if each stream may make n steps, and made this many: quiet, and every unit is unborn or ended; quiet, and
 -- some unit is not; or by the least stream that is spent
 abbrev pub LooksAs : Parts → ℕ → (ℕ → Held) → (Site → Object) → (ℕ → ℕ) → Outcome → Type 0
 LooksAs W n parts objects made outcome.Finished = LooksQuiet W parts objects × LooksEnded W objects

@@ -10,17 +10,17 @@ pub fn stamps_count()
     ensures { (W : Parts) (Z : List OrderShape) → StampsCount W Z }
 {}
 
-/// Of one stream an empty round of the main scheduler leaves nothing to do.
+/// With one stream an empty round of the main scheduler leaves nothing to do.
 pub fn empty_rounds_end()
     ensures { (W : Parts) (Z : List OrderShape) → EmptyRoundsEnd W Z }
 {}
 
-/// Of one stream a run that stops has an outcome.
+/// With one stream a run that stops has an outcome.
 pub fn stops_have_outcomes()
     ensures { (W : Parts) (Z : List OrderShape) → StopsHaveOutcomes W Z }
 {}
 
-/// Of one stream and without a free order there is one stamped run that goes to its stop, at most.
+/// With one stream and without a free order there is at most one stamped run that goes to its stop.
 pub fn stops_are_one()
     ensures { (W : Parts) (Z : List OrderShape) → StopsAreOne W Z }
 {}
