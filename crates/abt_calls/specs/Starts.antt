@@ -113,7 +113,7 @@ ObjectsStart = (W : Parts) (x : Site) → object_of W (start W) x ≡ start_obje
 abbrev pub PartsStart : Type 0
 PartsStart = (W : Parts) (s : ℕ) → part_of W (start W) s ≡ start_part W s
 
--- a mutex has so many conditions
+-- a mutex has this many conditions
 abbrev pub ConditionsAreCounted : Type 0
 ConditionsAreCounted = (W : Parts) (m : ℕ) → length (conditions_of W m) ≡ conditions W m
 

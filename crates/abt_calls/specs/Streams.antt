@@ -15,7 +15,7 @@ use Rattle.abt_calls.specs.Holders.{units_held}
 use Rattle.abt_calls.specs.Suits.{Suits}
 use Rattle.abt_calls.specs.Units.{KeepsEach}
 
--- there is not a unit in hand and one in Next at once
+-- there is not a unit in hand and one in Next at the same time
 abbrev pub HoldsOne : Held → Type 0
 HoldsOne held = (held.hand ≡ None) ⊎ (held.next ≡ None)
 
@@ -24,7 +24,7 @@ abbrev pub contents_sent : Option Heard → Contents
 contents_sent None = no_contents
 contents_sent (Some h) = contents_asked h.1
 
--- what came of it
+-- what came out of it
 abbrev pub contents_heard : Option Heard → Contents
 contents_heard None = no_contents
 contents_heard (Some h) = contents_answered h.2
@@ -51,7 +51,7 @@ EventsFit =
     → IsValid W → Steps W Z s old what heard new → All (Fits W) (units_held old) → Have (Fits W) (IsPoolOf W) (contents_heard heard)
     → All (Fits W) (units_held new)
 
--- a stream has the units that it had and that came, but for the one that went
+-- a stream has the units that it had and that came, except the one that went
 abbrev pub EventsKeepUnits : Type 0
 EventsKeepUnits =
     (W : Parts) (Z : List OrderShape) (s : ℕ) (old : Held) (what : What) (heard : Option Heard) (new : Held)

@@ -23,13 +23,13 @@ times u os = count_by (is_unit u) os
 abbrev pub KeepsEach : List Owned → List Owned → List Owned → List Owned → Type 0
 KeepsEach here there here_after there_after = (u : ℕ) → times u here + times u there ≡ times u here_after + times u there_after
 
--- an object that answers has the units that it had and that came, but for those that come out
+-- an object that answers has the units that it had and that came, except those that come out
 abbrev pub CallsKeepUnits : Type 0
 CallsKeepUnits =
     (old : Object) (act : Act) (answer : Answer) (new : Object) → SiteGives old act answer new → Allows old act
     → KeepsEach (contents_asked act).units (contents_of old).units (contents_answered answer).units (contents_of new).units
 
--- a stream that is answered has the unit that it had and those that came out, but for the one that went with the act
+-- a stream that is answered has the unit that it had and those that came out, except the one that went with the act
 abbrev pub EffectsKeepUnits : Type 0
 EffectsKeepUnits =
     (W : Parts) (s : ℕ) (a : Op) (o : Owned) (x : Site) (act : Act) (brings : Answer → Effect) (answer : Answer)

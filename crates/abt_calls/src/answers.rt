@@ -1,4 +1,4 @@
-//! What an act may get for an answer.
+//! Which answers an act may get.
 
 ghost use Rattle.abt_calls.specs.Suits.{AnswersSuit};
 

@@ -1,9 +1,9 @@
-//! What objects of all kinds keep, and steps.
+//! What objects of all kinds and steps keep.
 
 ghost use Rattle.abt_calls.specs.Keeps.{EffectsFit, ObjectsKeepWhatFits, OwnStepsFit, StartFits};
 
 /// If the units that an object holds and that come in fit a workload, those that come out and that it then holds do too, and
-/// so it is with pools.
+/// the same holds for pools.
 pub fn objects_keep_what_fits()
     ensures { ObjectsKeepWhatFits }
 {}

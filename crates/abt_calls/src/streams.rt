@@ -2,12 +2,12 @@
 
 ghost use Rattle.abt_calls.specs.Streams.{EventsFit, EventsHoldOne, EventsKeepUnits, StreamsHoldOne};
 
-/// A stream of a sound state has not a unit in hand and one in Next at once.
+/// A stream of a sound state does not have a unit in hand and one in Next at the same time.
 pub fn streams_hold_one()
     ensures { StreamsHoldOne }
 {}
 
-/// Nor has it after an event, if it had not before.
+/// Nor does it after an event, if it did not before.
 pub fn events_hold_one()
     ensures { EventsHoldOne }
 {}
@@ -17,7 +17,7 @@ pub fn events_fit()
     ensures { EventsFit }
 {}
 
-/// A stream has the units that it had and that came, but for the one that went.
+/// A stream has the units that it had and that came, except the one that went.
 pub fn events_keep_units()
     ensures { EventsKeepUnits }
 {}

@@ -2,12 +2,12 @@
 
 ghost use Rattle.abt_calls.specs.Units.{CallsKeepUnits, EffectsKeepUnits, OwnStepsKeepUnits, StepsKeepUnits};
 
-/// An object that answers has the units that it had and that came, but for those that come out.
+/// An object that answers has the units that it had and that came, except those that come out.
 pub fn calls_keep_units()
     ensures { CallsKeepUnits }
 {}
 
-/// A stream that is answered has the unit that it had and those that came out, but for the one that went with the act.
+/// A stream that is answered has the unit that it had and those that came out, except the one that went with the act.
 pub fn effects_keep_units()
     ensures { EffectsKeepUnits }
 {}
