@@ -14,7 +14,7 @@ use Rattle.abt_machine.specs.State.{Frame, State}
 abbrev pub next_round : Frame → Frame
 next_round f = record { sched = f.sched; round = suc f.round; seen = []; empty = false }
 
--- the same, behind a round that ended empty
+-- the same, after a round that ended empty
 abbrev pub after_empty_round : Frame → Frame
 after_empty_round f = record (next_round f) { empty = true }
 
@@ -34,7 +34,7 @@ TakesEndRounds W Z = (S T : State) (e : Event) (p : PoolNo) (u : UnitNo) → Aft
 abbrev pub IsWholeRound : Parts → List OrderShape → Frame → List ℕ → Type 0
 IsWholeRound W Z f ps = IsOrder W Z f.sched f.round ps
 
--- a miss ends the round empty if the round is over with its pool, and else the round goes on behind it
+-- a miss ends the round empty if the round is over with its pool, and otherwise the round goes on after it
 abbrev pub MissesEndRounds : Parts → List OrderShape → Type 0
 MissesEndRounds W Z = (S T : State) (e : Event) (p : PoolNo) → After W Z S e T → e.what ≡ what.Miss p →
     let seen : List ℕ = (top_of S e).seen ++ p.0 ∷ [] in

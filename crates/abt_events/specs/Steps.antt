@@ -1,4 +1,4 @@
--- An event of the machine as a step of a stream with at most one call: no event does more. The simulation says the converse.
+-- An event of the machine as a step of a stream with at most one call: no event does more. The simulation states the converse.
 use Rattle.std.specs.Prelude.{◌≡◌, ◌≢◌, ℕ, List, Option, Some, None}
 use Rattle.abt_machine.specs.declared.events.Event.{Event}
 use Rattle.abt_machine.specs.declared.events.Site.{Site}
