@@ -37,7 +37,7 @@ named_from n (Some o) = named_by n o
 abbrev pub named_at : Parts → Naming → ℕ → ℕ → Option ℕ
 named_at W n u k = named_from n (op_at W u k)
 
--- one operation at most names each
+-- at most one operation names each
 abbrev pub NamesOnce : Parts → Naming → Type 0
 NamesOnce W n = (u v k j x : ℕ) → named_at W n u k ≡ Some x → named_at W n v j ≡ Some x → (u ≡ v) × (k ≡ j)
 

@@ -1,4 +1,4 @@
--- When the schedule can't matter to what a workload's units put out.
+-- When what a workload's units put out does not depend on the schedule.
 use Rattle.std.specs.Prelude.{ℕ, ◌≡◌, Some, None, ⊤}
 use Rattle.abt_machine.specs.declared.numbers.ObjectNo.{ObjectNo}
 use Rattle.abt_machine.specs.declared.numbers.PoolNo.{PoolNo}
@@ -28,9 +28,9 @@ IsOpen access.Mpmc = ⊤
 pub record Confluent (W : Parts) : Type 0 where
   -- no operation depends on the schedule
   pub ops : (u k : ℕ) (o : Op) → op_at W u k ≡ Some o → IsSettled (effect o)
-  -- one operation at most sets each eventual
+  -- at most one operation sets each eventual
   pub sets_once : (u v k j : ℕ) (x : ObjectNo) → op_at W u k ≡ Some (op.EvSet x) → op_at W v j ≡ Some (op.EvSet x) → (u ≡ v) × (k ≡ j)
-  -- one operation at most creates each unit
+  -- at most one operation creates each unit
   pub creates_once : (u v k j : ℕ) (t : UnitNo) (p q : PoolNo) → op_at W u k ≡ Some (op.Create t p) → op_at W v j ≡ Some (op.Create t q) → (u ≡ v) × (k ≡ j)
   -- and none creates a unit that has a start
   pub creates_later : (u k : ℕ) (t : UnitNo) (p : PoolNo) → op_at W u k ≡ Some (op.Create t p) → start_of W t.0 ≡ None

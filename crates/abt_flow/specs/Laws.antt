@@ -21,6 +21,6 @@ outputs W S = map (λ u. (S.carried u).output) (count_up (length W.units))
 abbrev pub OutputsAreFlow : Parts → List OrderShape → Type 0
 OutputsAreFlow W Z = IsValid W → OrdersStored W Z → Confluent W → (J : List Event) → Run W Z J → AllEnded (last_state W J) → IsFlow W (outputs W (last_state W J))
 
--- a confluent workload has one flow at most
+-- a confluent workload has at most one flow
 abbrev pub FlowIsOne : Parts → Type 0
 FlowIsOne W = Confluent W → (one two : List (List Piece)) → IsFlow W one → IsFlow W two → one ≡ two

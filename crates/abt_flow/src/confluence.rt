@@ -79,7 +79,7 @@ fn has_plain_ops(w: &Workload) -> bool
     true
 }
 
-/// Whether the schedule can't matter to what the units of a workload put out: no operation depends on
+/// Whether what the units of a workload put out does not depend on the schedule: no operation depends on
 /// it, at most one sets each eventual, at most one creates each unit that has no start and none any
 /// other, and units are created in pools that every stream may put into.
 pub fn confluent(alloc: Global, w: &Workload) -> Result<bool, Want>

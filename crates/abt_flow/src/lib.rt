@@ -1,4 +1,4 @@
-//! Confluent workloads, in which the schedule can't matter: their outputs by a recursion over units.
+//! Confluent workloads, whose outputs do not depend on the schedule, and these outputs by a recursion over units.
 #![tactic(auto)]
 
 mod beginning;

@@ -4,7 +4,7 @@ ghost use Rattle.abt_flow.specs.Roles.{IsRole};
 
 use abt_machine::{ObjectNo, Op, PoolNo, UnitNo};
 
-// What an operation makes of its unit's memory, creates, waits for or sets, that it does none of
+// How an operation changes its unit's memory, what it creates, waits for or sets, that it does none of
 // these, or that it depends on the schedule.
 #[derive(Clone, Copy)]
 pub(crate) enum Role {
