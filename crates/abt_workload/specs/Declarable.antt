@@ -30,7 +30,7 @@ abbrev pub IsSmallRule : Rule → List ℕ → Type 0
 IsSmallRule (rule.User k) numbers = IsSmall (at numbers 1)
 IsSmallRule r numbers = ⊤
 
--- the numbers of a `unit` line but the unit's own, and of an operation's line
+-- the numbers of a `unit` line except the unit's own, and of an operation's line
 abbrev pub AreUnitSmall : List ℕ → Type 0
 AreUnitSmall numbers = IsSmall (at numbers 1) × IsSmall (at numbers 2)
 
@@ -58,7 +58,7 @@ abbrev pub IsSaidBy : Op → List Text → Type 0
 IsSaidBy (op.Say w) words = IsUtf8 (word_in words 1)
 IsSaidBy o words = ⊤
 
--- the same of a line
+-- the same for a line
 abbrev pub IsSaid : Form → List Text → Type 0
 IsSaid (form.Operation o) words = IsSaidBy o words
 IsSaid (form.Repeat o) words = IsSaidBy o (drop 2 words)

@@ -37,7 +37,7 @@ abbrev pub IsShaped : Above → Text → List Text → Verdict → Type 0
 IsShaped a line words (verdict.Faulty f) = find (has a line words (form_of a.format words)) faults ≡ Some f
 IsShaped a line words (verdict.Sound form) = HasForm a line words form
 
--- the first fault of a line of these words; where it has none, its numbers are these
+-- the first fault of a line of these words; if it has none, its numbers are these
 abbrev pub IsJudged : Above → Text → List Text → Verdict → List (Number × ℕ) → Type 0
 IsJudged a line words (verdict.Faulty f) numbers = find (has a line words (form_of a.format words)) faults ≡ Some f
 IsJudged a line words (verdict.Sound form) numbers = (find (has a line words (form_of a.format words)) faults ≡ None) × (form_of a.format words ≡ Some form) × (numbers ≡ numbers_of form words)

@@ -145,7 +145,7 @@ impl Draft {
         Ok(())
     }
 
-    // Adds as many units like this one.
+    // Adds this many units like this one.
     fn add_units(
         &mut self,
         alloc: Global,
@@ -180,7 +180,7 @@ impl Draft {
         Ok(())
     }
 
-    // Adds as many operations of this line.
+    // Adds this many operations of this line.
     fn add_operations(
         &mut self,
         alloc: Global,
@@ -380,7 +380,7 @@ fn said_text(alloc: Global, word: &[u8]) -> Result<Text, Want>
     }
 }
 
-// Appends as many units like this one, each of which says so many words of its own.
+// Appends this many units like this one, each of which says this many words of its own.
 fn push_alike(
     alloc: Global,
     units: &mut Units,
@@ -406,7 +406,7 @@ fn push_alike(
     Ok(())
 }
 
-// The same unit, whose words have numbers that are so much higher.
+// The same unit, whose words have numbers that are this much higher.
 fn unit_later(alloc: Global, n: u32, part: &UnitPart) -> Result<UnitPart, Want>
     requires { All (λ w. w + n < 2 ^ 32) (flat_map said_by (ops_of part.now.body)) }
     ensures { IfOk result (λ later. later ≡ unit_later n part.now) }
@@ -420,7 +420,7 @@ fn unit_later(alloc: Global, n: u32, part: &UnitPart) -> Result<UnitPart, Want>
     Ok(UnitPart { body, start })
 }
 
-// The same operations, whose words have numbers that are so much higher.
+// The same operations, whose words have numbers that are this much higher.
 fn ops_later(alloc: Global, n: u32, ops: &[Op]) -> Result<Ops, Want>
     requires { All (λ w. w + n < 2 ^ 32) (flat_map said_by ops.now) }
     ensures { IfOk result (λ later. later ≡ map (op_later n) ops.now) }
@@ -432,7 +432,7 @@ fn ops_later(alloc: Global, n: u32, ops: &[Op]) -> Result<Ops, Want>
     Ok(Ops::new(later))
 }
 
-// The same operation, whose word, if it says one, has a number that is so much higher.
+// The same operation, whose word, if it says one, has a number that is this much higher.
 fn op_later(n: u32, op: Op) -> Op
     requires { All (λ w. w + n < 2 ^ 32) (said_by op) }
     ensures { result ≡ op_later n op }
@@ -443,7 +443,7 @@ fn op_later(n: u32, op: Op) -> Op
     }
 }
 
-// Moves words to others, as many times over.
+// Moves words to others, this many times.
 fn push_repeated(
     alloc: Global,
     words: &mut Vec<Text>,
@@ -474,7 +474,7 @@ fn push_copies(alloc: Global, words: &mut Vec<Text>, said: &[Text]) -> Result<()
     Ok(())
 }
 
-// A unit with one operation more.
+// A unit with one more operation.
 fn unit_and(part: UnitPart, op: Op) -> Result<UnitPart, Want>
     ensures { IfOk result (λ new. new ≡ unit_and op part) }
 {

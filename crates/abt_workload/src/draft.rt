@@ -117,7 +117,7 @@ impl Draft {
         self.objects.get(x as usize).copied()
     }
 
-    /// Whether what a number names is there, or the number that it declares is the next of its kind.
+    /// Whether what a number names is declared, or the number that it declares is the next of its kind.
     pub(crate) fn is_there(&self, number: Number, n: u64) -> bool
         ensures { result ≡ is_there self.now number n }
     {
@@ -304,7 +304,7 @@ fn last_ops(last: &Option<UnitPart>) -> usize
     }
 }
 
-// Whether so many operations, and those of the copies of a unit with n more each, are more than all units
+// Whether this many operations, and those of the copies of a unit with n more each, are more than all units
 // may have.
 fn are_too_many(above: usize, copies: u32, each: usize, n: u64) -> bool
     ensures { result ≡ nat_lt operation_limit (above + copies * (each + n)) }

@@ -92,7 +92,7 @@ macro_rules! operations {
 
 pub(crate) use operations;
 
-// One form of each, first those of both formats and then those of format 2 alone; a form's numbers say nothing.
+// One form of each, first those of both formats and then those of format 2 alone; a form's numbers have no meaning.
 macro_rules! forms_with {
     (() $($name:ident $(($($number:tt)+))?: $places:tt;)+) => {
         [
@@ -454,7 +454,7 @@ fn forms_of(word: &[u8]) -> &'static [Form]
     }
 }
 
-// The same of a word of three bytes.
+// The same for a word of three bytes.
 fn forms_of_three(word: &[u8]) -> &'static [Form]
     ensures { AreFormsOf word.now result.now }
 {
@@ -467,7 +467,7 @@ fn forms_of_three(word: &[u8]) -> &'static [Form]
     )
 }
 
-// The same of a word of four bytes.
+// The same for a word of four bytes.
 fn forms_of_four(word: &[u8]) -> &'static [Form]
     ensures { AreFormsOf word.now result.now }
 {
@@ -487,7 +487,7 @@ fn forms_of_four(word: &[u8]) -> &'static [Form]
     )
 }
 
-// The same of a word of five bytes.
+// The same for a word of five bytes.
 fn forms_of_five(word: &[u8]) -> &'static [Form]
     ensures { AreFormsOf word.now result.now }
 {
@@ -506,7 +506,7 @@ fn forms_of_five(word: &[u8]) -> &'static [Form]
     )
 }
 
-// The same of a word of six bytes.
+// The same for a word of six bytes.
 fn forms_of_six(word: &[u8]) -> &'static [Form]
     ensures { AreFormsOf word.now result.now }
 {
@@ -528,7 +528,7 @@ fn forms_of_six(word: &[u8]) -> &'static [Form]
     )
 }
 
-// The same of a word of seven bytes.
+// The same for a word of seven bytes.
 fn forms_of_seven(word: &[u8]) -> &'static [Form]
     ensures { AreFormsOf word.now result.now }
 {
@@ -542,7 +542,7 @@ fn forms_of_seven(word: &[u8]) -> &'static [Form]
     )
 }
 
-// The same of a word of eight bytes.
+// The same for a word of eight bytes.
 fn forms_of_eight(word: &[u8]) -> &'static [Form]
     ensures { AreFormsOf word.now result.now }
 {
@@ -551,7 +551,7 @@ fn forms_of_eight(word: &[u8]) -> &'static [Form]
     )
 }
 
-// The same of a word of nine bytes.
+// The same for a word of nine bytes.
 fn forms_of_nine(word: &[u8]) -> &'static [Form]
     ensures { AreFormsOf word.now result.now }
 {
@@ -561,7 +561,7 @@ fn forms_of_nine(word: &[u8]) -> &'static [Form]
     )
 }
 
-// The same of a word of ten bytes.
+// The same for a word of ten bytes.
 fn forms_of_ten(word: &[u8]) -> &'static [Form]
     ensures { AreFormsOf word.now result.now }
 {

@@ -38,7 +38,7 @@ pub(crate) fn section(form: Form) -> u8
 }
 
 // Finds the numbers of a line, in place of those that were there; false if a word in a number's place is
-// no number.
+// not a number.
 fn find_numbers(form: Form, words: &[&[u8]], numbers: &mut Vec<Numbered>) -> Result<bool, Want>
     ensures all { IfOk result (λ all. all ≡ list_all (λ p. is_number p.1) (numerals (slots form) (map (λ w. w.now) words.now))) }
     ensures numbers { IfOk result (λ all. OnTrue all (numbers.new.items ≡ numbers_of form (map (λ w. w.now) words.now))) }
@@ -106,7 +106,7 @@ impl Draft {
         Verdict::Sound(form)
     }
 
-    // Whether this is the first line that is not skipped, and is no version line.
+    // Whether this is the first line that is not skipped, and is not a version line.
     fn is_no_version(&self, words: &[&[u8]]) -> bool
         ensures { result ≡ is_no_version self.now (map (λ w. w.now) words.now) }
     {
@@ -164,7 +164,7 @@ impl Draft {
         }
     }
 
-    // Whether all that a line names is there, and it skips no number.
+    // Whether all that a line names is declared, and it skips no number.
     fn all_there(&self, numbers: &[Numbered]) -> bool
         ensures { result ≡ list_all (λ p. is_there self.now p.0 p.1) numbers.now }
     {

@@ -21,7 +21,7 @@ use std::collections::BTreeSet;
 /// A number and what it is.
 pub(crate) type Numbered = (Number, u64);
 
-/// Adds the numbers of a line; false if a word in a number's place is no number.
+/// Adds the numbers of a line; false if a word in a number's place is not a number.
 pub(crate) fn add_numbers(
     slots: &[Slot],
     words: &[&[u8]],
@@ -45,7 +45,7 @@ pub(crate) fn add_numbers(
     }
 }
 
-/// The same of a `repeat` line whose operation has these places.
+/// The same for a `repeat` line whose operation has these places.
 pub(crate) fn add_repeated(
     slots: &[Slot],
     words: &[&[u8]],
@@ -141,7 +141,7 @@ pub(crate) fn after(numbers: &[Numbered], k: usize) -> &[Numbered]
     }
 }
 
-/// Whether a number stands twice.
+/// Whether a number appears twice.
 pub(crate) fn has_repeated(alloc: Global, numbers: &[Numbered]) -> Result<bool, Want>
     ensures { IfOk result (λ repeated. repeated ≡ has_repeated (values numbers.now)) }
 {

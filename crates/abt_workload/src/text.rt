@@ -44,7 +44,7 @@ fn is_separator(b: u8) -> bool
     b == b' ' || b == b'\t'
 }
 
-// The line from its first byte that is no separator.
+// The line from its first byte that is not a separator.
 fn without_front(line: &[u8]) -> &[u8]
     ensures words { words_of result.now ≡ words_of line.now }
     ensures start { 0 < length result.now → is_separator (slice_index result.now 0) ≡ false }

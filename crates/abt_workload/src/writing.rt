@@ -86,7 +86,7 @@ fn push_line(out: &mut Vec<u8>, form: Form, word: &[u8], numbers: &[u64]) -> Res
     end_line(out)
 }
 
-// Appends the line of the keys, if there are some.
+// Appends the line of the keys, if there are any.
 fn push_keys(out: &mut Vec<u8>, keys: u32) -> Result<(), Want>
     ensures { OnOk result (out.new.items ≡ out.old.items ++ text_of (keys_lines keys)) }
 {
@@ -296,7 +296,7 @@ fn push_ops(out: &mut Vec<u8>, w: &Workload, ops: &[Op]) -> Result<(), Want>
     Ok(())
 }
 
-// What a unit's line says that it is.
+// What a unit is, by its line.
 fn role_of(body: &Body) -> Role
     ensures { result ≡ role_of body.now }
 {
@@ -379,7 +379,7 @@ fn settle(w: &Workload, text: &mut Vec<u8>)
 }
 
 /// The canonical text of a workload: the text in which it is written, which reads to it again. It is of
-/// format 1 if that has a text of the workload, else of format 2.
+/// format 1 if format 1 has a text of the workload, else of format 2.
 ///
 /// # Errors
 /// Out of memory.
