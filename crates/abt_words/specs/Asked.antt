@@ -8,7 +8,7 @@ use Rattle.abt_words.specs.declared.fault.WordFault.{WordFault}
 use Rattle.abt_words.specs.declared.fault.WordFault.TheVariants as fault
 use Rattle.abt_words.specs.declared.run.RunWords.{RunWords}
 
--- of `clap`'s errors only out of memory is none of the words' own
+-- of `clap`'s errors only out of memory does not come from the words
 abbrev pub fault_of_kind : ErrorKind → WordFault
 fault_of_kind kind.OutOfMemory = fault.Memory
 fault_of_kind _ = fault.Bad
@@ -17,7 +17,7 @@ abbrev pub at_most_one : Option Text → List Text
 at_most_one None = []
 at_most_one (Some v) = v ∷ []
 
--- the rest that has just these words
+-- the rest that has exactly these words
 abbrev pub rest_as : RunWords → Rest
 rest_as asked = record {
   words = asked.file.now ∷ [];

@@ -7,8 +7,8 @@ use Rattle.abt_machine.specs.Words.{Text}
 use Rattle.abt_words.specs.declared.commands.Command.{Command}
 use Rattle.abt_words.specs.declared.commands.Command.TheVariants as command
 
--- the rest, which is the words after the command's name: its FILE or N words, the values of its steps options, and how often
--- `--journal` and any other option stand in it
+-- the rest, which is the words after the command's name: its FILE or N words, the values of its steps options, and how many times
+-- `--journal` and any other option appear in it
 pub record Rest : Type 0 where
   pub words : List Text
   pub steps : List Text
