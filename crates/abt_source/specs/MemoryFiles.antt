@@ -47,11 +47,11 @@ not_begun files failing = record { files = files; failing = failing; calls = 0; 
 abbrev pub FailsToBegin : FilesInMemory → List ℕ → Type 0
 FailsToBegin m name = Contains m.failing m.calls ⊎ IsNone (file_of m.files name)
 
--- one call more, which did not fail and left these bytes
+-- one more call, which did not fail and left these bytes
 abbrev pub after_success : FilesInMemory → List ℕ → FilesInMemory
 after_success m left = record m { calls = next_count m.calls; left = left }
 
--- one call more, which failed and left these bytes
+-- one more call, which failed and left these bytes
 abbrev pub after_failure : FilesInMemory → List ℕ → FilesInMemory
 after_failure m left =
     record m { calls = next_count m.calls; faults = next_count m.faults; left = left }

@@ -30,10 +30,10 @@ FailsToWrite s = Contains s.failing s.calls ⊎ (s.room ≤ length s.bytes)
 abbrev pub count_taken : SinkInMemory → List ℕ → ℕ
 count_taken s piece = min (min (length piece) s.most) (s.room - length s.bytes)
 
--- one write more, which took these bytes
+-- one more write, which took these bytes
 abbrev pub after_taking : SinkInMemory → List ℕ → SinkInMemory
 after_taking s bytes = record s { bytes = s.bytes ++ bytes; calls = next_count s.calls }
 
--- one write more, which failed
+-- one more write, which failed
 abbrev pub after_failing : SinkInMemory → SinkInMemory
 after_failing s = record s { calls = next_count s.calls; faults = next_count s.faults }

@@ -14,14 +14,14 @@ abbrev pub unread : Bool → Option (List ℕ)
 unread true = None
 unread false = Some []
 
--- no file is begun, and so many calls failed
+-- no file is begun, and this many calls failed
 abbrev pub none_begun : ℕ → FilesOfProcess
 none_begun faults = record { begun = false; faults = faults }
 
--- a file is begun, and so many calls failed
+-- a file is begun, and this many calls failed
 abbrev pub one_begun : ℕ → FilesOfProcess
 one_begun faults = record { begun = true; faults = faults }
 
--- one failure more
+-- one more failure
 abbrev pub after_fault : FilesOfProcess → FilesOfProcess
 after_fault files = record files { faults = next_count files.faults }

@@ -3,7 +3,7 @@ use Rattle.std.specs.Prelude.{◌≡◌, ◌<◌, ◌-◌, ◌+◌, ◌^◌, if�
 use Rattle.std.specs.Prelude.{Option, Some, None, IfSome, option_map, Result, Ok, Err}
 use Rattle.abt_source.specs.declared.Failed.{Failed}
 
--- the number after this one, in a count that stands still at its last value
+-- the number after this one, in a count that stops at its last value
 abbrev pub next_count : ℕ → ℕ
 next_count n = if nat_lt n (2 ^ 64 - 1) then n + 1 else n
 

@@ -8,7 +8,7 @@ use abt_machine::Want;
 use std::alloc::Global;
 use std::marker::Model;
 
-/// A sink in memory with room for so many bytes.
+/// A sink in memory with room for this many bytes.
 #[derive(Drop)]
 pub struct MemorySink {
     bytes: Vec<u8>,

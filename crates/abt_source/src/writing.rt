@@ -10,7 +10,7 @@ pub trait Sink {
     /// The bytes that were taken, if they are observable.
     ghost taken: { Self → Option (List ℕ) };
 
-    /// How often a write has failed. It never falls.
+    /// How many times a write has failed. It never falls.
     ghost faults: { Self → ℕ };
 
     /// Takes at least one byte from the start of the piece, or fails and takes none.
