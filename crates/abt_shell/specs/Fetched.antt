@@ -13,7 +13,7 @@ StopsFor SaysNothing NamesFiles IsBadLine faults (BadLine line w) = IsBadLine li
 StopsFor SaysNothing NamesFiles IsBadLine faults CannotRead = NamesFiles × Grew faults
 StopsFor SaysNothing NamesFiles IsBadLine faults OutOfMemory = ⊤
 
--- a file has not what was to be read of it: a line has this wrong, or the bytes are not known
+-- a file does not have what was to be read from it: a line has this wrong, or the bytes are not known
 abbrev pub HasNot : (ℕ → Wrong → Type 0) → ℕ × ℕ → Stop → Type 0
 HasNot = StopsFor ⊥ ⊤
 

@@ -1,4 +1,4 @@
--- How a call of a program ends: its exit status, and what is said of it.
+-- How a call of a program ends: its exit status, and what is said about it.
 use Rattle.std.specs.Prelude.{ℕ, [], ◌++◌, codes, decimal}
 use Rattle.abt_machine.specs.declared.events.Outcome.{Outcome}
 use Rattle.abt_machine.specs.declared.events.Outcome.TheVariants as outcome
@@ -57,17 +57,17 @@ fault_word fault.Access = codes "access"
 fault_word fault.NoEnd = codes "no-end"
 fault_word fault.Missing = codes "missing"
 
--- what a line has wrong, in a word
+-- what is wrong with a line, in a word
 abbrev pub wrong_word : Wrong → Text
 wrong_word (wrong.Workload f) = fault_word f
 wrong_word wrong.Journal = codes "journal"
 wrong_word wrong.Lives = codes "life"
 
--- what is said of a line after the name of the program, and what it has wrong
+-- what is said about a line, after the name of the program, and what is wrong with it
 abbrev pub line_text : ℕ → Text → Text
 line_text line word = codes ": line " ++ (decimal line ++ (codes ": " ++ (word ++ codes "\n")))
 
--- and of a stop
+-- and about a stop
 abbrev pub stop_text : Stop → Text
 stop_text BadWords = codes ": bad command line\n"
 stop_text (BadLine line w) = line_text line (wrong_word w)

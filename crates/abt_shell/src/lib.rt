@@ -1,4 +1,4 @@
-//! What programs share round their calls: how a call ends and what is said of it, its files and its output, and what the process gives it.
+//! What programs share around their calls: how a call ends, the message about it, its files and output, and what the process passes to it.
 #![tactic(auto)]
 
 mod fetching;

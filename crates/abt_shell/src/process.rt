@@ -1,4 +1,4 @@
-//! How a program is run, and the words that its process gives it.
+//! How a program is run, and the words that its process passes to it.
 
 ghost use Rattle.std.specs.Prelude.{◌≡◌, ◌⊎◌};
 ghost use Rattle.std.specs.Fn.{FnOnceReturnsAt};
@@ -14,8 +14,8 @@ use std::process::ExitCode;
 use std::rt::Runtime;
 use std::{env, io};
 
-/// Runs a program of this name: a call that takes the words after the name and answers the exit status, which is the program's.
-/// If the words can't be had, a message is written in its place, and the exit status is 2, or 7 if out of memory.
+/// Runs a program of this name: a call that takes the words after the name and returns the exit status, which is the program's.
+/// If the words can't be obtained, a message is written in its place, and the exit status is 2, or 7 if out of memory.
 pub fn run<R: Runtime + AllocGlobal, C: FnOnce(&[String]) -> u8>(
     rt: &R,
     name: &[u8],

@@ -1,4 +1,4 @@
-//! How calls end: why a command was not carried out, exit statuses, and what is said of them.
+//! How calls end: why a command was not carried out, exit statuses, and what is said about them.
 
 ghost use Rattle.std.specs.Prelude.{◌≡◌};
 ghost use Rattle.abt_shell.specs.Status.{fault_word, number_of_outcome, number_of_stop, said_text, stop_text, wrong_word};
@@ -6,7 +6,7 @@ ghost use Rattle.abt_shell.specs.Status.{fault_word, number_of_outcome, number_o
 use abt_machine::{Fault, Outcome, Want};
 use std::alloc::AllocError;
 
-/// What a line of a file has wrong.
+/// What is wrong with a line of a file.
 #[derive(Clone, Copy, Debug, PartialEq, Eq)]
 pub enum Wrong {
     /// It breaks a rule of workload texts.
@@ -21,18 +21,18 @@ pub enum Wrong {
 #[derive(Clone, Copy, Debug, PartialEq, Eq)]
 pub enum Stop {
     BadWords,
-    /// A line of a file, counted from 1, and what it has wrong; line 0 stands for the file's length.
+    /// A line of a file, counted from 1, and what is wrong with it; line 0 means the file's length.
     BadLine(u32, Wrong),
     CannotRead,
     OutOfMemory,
 }
 
-// What is said of a stop after the name of the program.
+// What is said about a stop, after the name of the program.
 #[derive(Clone, Copy)]
 pub(crate) enum Said {
     /// These bytes.
     Fixed(&'static [u8]),
-    /// The number of a line, and what that has wrong, in a word.
+    /// The number of a line, and what is wrong with that line, in a word.
     Line { line: u32, wrong: &'static [u8] },
 }
 
@@ -69,7 +69,7 @@ impl Stop {
         }
     }
 
-    // What is said of it after the name of the program.
+    // What is said about it, after the name of the program.
     pub(crate) fn said(self) -> Said
         ensures { said_text result ≡ stop_text self }
     {
@@ -85,7 +85,7 @@ impl Stop {
     }
 }
 
-/// The exit status of a run that ended so, if all of its output was written.
+/// The exit status of a run that ended this way, if all of its output was written.
 pub fn number_of_outcome(outcome: Outcome) -> u8
     ensures { result ≡ number_of_outcome outcome }
 {

@@ -31,7 +31,7 @@ fn tell<E: Sink>(name: &[u8], err: &mut E, text: &[u8])
     }
 }
 
-// What is said of a line, and what it has wrong.
+// What is said about a line, and what is wrong with it.
 fn text_of_line(alloc: Global, line: u32, wrong: &[u8]) -> Result<Vec<u8>, Want>
     ensures { IfOk result (λ text. text.items ≡ line_text line wrong.now) }
 {
