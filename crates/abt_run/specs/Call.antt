@@ -1,4 +1,4 @@
--- What each status says of what a call of the program left, and when it comes.
+-- What each status says about what a call of the program left, and when it comes.
 use Rattle.std.specs.Prelude.{◌≡◌, ◌≢◌, ◌≤◌, ◌⊎◌, ℕ, List, [], Some}
 use Rattle.abt_machine.specs.declared.events.Event.{Event}
 use Rattle.abt_machine.specs.declared.events.Piece.{Piece}
@@ -23,7 +23,7 @@ use Rattle.abt_run.specs.Printed.{Prints, steps_for}
 use Rattle.abt_run.specs.Status.{name, number_of_conclusion}
 use Rattle.abt_run.specs.declared.status.Conclusion.{Conclusion}
 
--- what the call was given, what it left, and the journal that was answered
+-- what the call was given, what it left, and the journal that was returned
 pub record Call : Type 0 where
   pub given : Given
   pub left : Left
@@ -31,7 +31,7 @@ pub record Call : Type 0 where
 
 -- What each status says.
 
--- the command is not carried out for this reason, and no journal is answered
+-- the command is not carried out for this reason, and no journal is returned
 pub record IsStopped (c : Call) (stop : Stop) : Type 0 where
   pub why : StopsCommand c.given c.left.read_faults stop
   pub journal : c.journal ≡ []
@@ -76,17 +76,17 @@ abbrev pub FindsFlows : ℕ → Call → Type 0
 FindsFlows n c = (file : Text) (W : Parts) → Says c.given.words (command.Flow file) → Tells c.given file (λ bytes. Reads bytes W) → IsStill c.left
     → Decides n (Confluent W × ((rows : List (List Piece)) × IsFlow W rows)) ⊎ (n ≡ 7)
 
--- if the words name a file whose bytes are observable and are no workload's text, and no fault of reading comes, the status is 3
+-- if the words name a file whose bytes are observable and are not a workload's text, and no fault of reading comes, the status is 3
 abbrev pub RefusesTexts : ℕ → Call → Type 0
 RefusesTexts n c = (command : Command) (file : Text) → Says c.given.words command → workload_file command ≡ Some file
     → Tells c.given file (λ bytes. (W : Parts) → Reads bytes W → ⊥) → (Grew c.left.read_faults → ⊥) → (n ≡ 3) ⊎ (n ≡ 7)
 
--- and so it is if a journal's bytes are observable and are no journal's text
+-- and so it is if a journal's bytes are observable and are not a journal's text
 abbrev pub RefusesJournals : ℕ → Call → Type 0
 RefusesJournals n c = (workload journal : Text) (W : Parts) → Says c.given.words (command.Check workload journal) → Tells c.given workload (λ bytes. Reads bytes W)
     → Tells c.given journal (λ bytes. (J : List Event) → IsTextOf J bytes → ⊥) → (Grew c.left.read_faults → ⊥) → (n ≡ 3) ⊎ (n ≡ 7)
 
--- if the words say no command, they are refused
+-- if the words are not a command, they are refused
 abbrev pub RefusesWords : ℕ → Call → Type 0
 RefusesWords n c = SaysNothing c.given.words → (n ≡ 2) ⊎ (n ≡ 7)
 

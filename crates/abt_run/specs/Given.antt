@@ -17,7 +17,7 @@ pub record Given : Type 0 where
 abbrev pub given : List Text → List OrderShape → (Text → Option Text) → Given
 given words orders file = record { words = words; orders = orders; file = file }
 
--- no command is said by the words
+-- the words are not a command
 abbrev pub SaysNothing : List Text → Type 0
 SaysNothing words = (c : Command) → Says words c → ⊥
 

@@ -108,7 +108,7 @@ pub record HasNoFlow (g : Given) : Type 0 where
 
 -- All commands.
 
--- the command was carried out and came to this, J is the journal that the call answers, and the command prints the text
+-- the command was carried out and came to this, J is the journal that the call returns, and the command prints the text
 abbrev pub Prints : Given → Conclusion → List Event → Text → Type 0
 Prints g (Ended o) J text = Ran g J o text
 Prints g (Judged v) J text = HasVerdict g v × (text ≡ verdict_text v) × (J ≡ [])

@@ -43,7 +43,7 @@ pub(crate) fn prepare_check<F: Files>(
     Ok(without_journal(alloc, text, Conclusion::Judged(verdict)))
 }
 
-// What is printed of a verdict.
+// What is printed for a verdict.
 fn text_of(alloc: Global, verdict: Verdict) -> Result<Vec<u8>, Want>
     requires { HasShortCount verdict }
     ensures { IfOk result (λ text. text.items ≡ verdict_text verdict) }
@@ -54,7 +54,7 @@ fn text_of(alloc: Global, verdict: Verdict) -> Result<Vec<u8>, Want>
     }
 }
 
-// What is printed of a journal whose first events alone, so many of them, are a run.
+// What is printed for a journal of which only the first events, this many, are a run.
 fn bad_line(alloc: Global, at: u64) -> Result<Vec<u8>, Want>
     requires { at + 1 < 2 ^ 64 }
     ensures { IfOk result (λ text. text.items ≡ verdict_text (verdict.Bad at)) }

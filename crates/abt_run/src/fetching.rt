@@ -16,7 +16,7 @@ use std::alloc::Global;
 ///
 /// # Errors
 ///
-/// `BadLine` if the bytes are no workload's text, `CannotRead` if they cannot be read, `OutOfMemory` if memory is refused.
+/// `BadLine` if the bytes are not a workload's text, `CannotRead` if they cannot be read, `OutOfMemory` if memory is refused.
 pub fn fetch<F: Files>(alloc: Global, file: &str, files: &mut F) -> Result<Workload, Stop>
     ensures reads { IfOk result (λ w. IfSome (F.file files.old file.now) (λ bytes. Reads bytes w)) }
     ensures stop { IfErr result (HasNoWorkload (F.file files.old file.now) (F.faults files.old, F.faults files.new)) }

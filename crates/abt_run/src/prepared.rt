@@ -6,7 +6,7 @@ use crate::status::Conclusion;
 use abt_machine::Journal;
 use std::alloc::Global;
 
-/// What a call answers and writes, and what its command came to.
+/// What a call returns and writes, and what its command came to.
 #[derive(Drop)]
 pub(crate) struct Prepared {
     pub(crate) journal: Journal,
@@ -14,7 +14,7 @@ pub(crate) struct Prepared {
     pub(crate) conclusion: Conclusion,
 }
 
-/// A call that answers no journal.
+/// A call that returns no journal.
 pub(crate) fn without_journal(alloc: Global, text: Vec<u8>, conclusion: Conclusion) -> Prepared
     ensures journal { result.journal ≡ [] }
     ensures text { result.text.items ≡ text.items }

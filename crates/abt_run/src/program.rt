@@ -68,8 +68,8 @@ fn prepare<R: Threads + Wait + Sync, F: Files, P: Pace + Sync>(
 
 /// What the command of the program does. `run` reads the file and the workload in it, runs the workload, and writes the run's
 /// journal, if `--journal` asks for it, and its report; `self` runs the workload that it makes of a number, and writes the
-/// short report; `check` reads a workload and a journal, and writes whether that is a run of it with stamps, or else its first line
-/// with which it is none; `flow` writes what each unit of a workload puts out, if the schedule can't matter. The words are those
+/// short report; `check` reads a workload and a journal, and writes whether that is a run of it with stamps, or otherwise its first line
+/// at which it is not one; `flow` writes what each unit of a workload puts out, if that does not depend on the schedule. The words are those
 /// after the program's name. User schedulers name the stored orders by number.
 ///
 /// Each stream runs on a thread of its own, as far as threads can be started; `pace` is called before each step, outside every
@@ -77,8 +77,8 @@ fn prepare<R: Threads + Wait + Sync, F: Files, P: Pace + Sync>(
 ///
 /// Exit statuses: 0 finished, 1 stuck, 2 bad command line, 3 a file is refused, 4 a stream made all the steps that it may
 /// make, 5 cannot read, 6 cannot write, 7 out of memory; `check` ends with 0 if the journal is a run and with 1 if it is not, and
-/// `flow` with 0 if there is a flow and with 1 if there is none. The journal that is answered is that of the run that was made,
-/// and else empty.
+/// `flow` with 0 if there is a flow and with 1 if there is none. The journal that is returned is that of the run that was made,
+/// and otherwise empty.
 pub fn abtrun<R: Threads + Wait + Sync, F: Files, K: Sink, E: Sink, P: Pace + Sync>(
     rt: &R,
     alloc: Global,

@@ -57,7 +57,7 @@ pub(crate) fn prepare_file<R: Threads + Wait + Sync, F: Files, P: Pace + Sync>(
     Ok(ended(ran, text))
 }
 
-/// The run of the workload that is made of so many units, and what it prints.
+/// The run of the workload that is made of this many units, and what it prints.
 pub(crate) fn prepare_self<R: Threads + Wait + Sync, P: Pace + Sync>(
     rt: &R,
     alloc: Global,

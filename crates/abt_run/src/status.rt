@@ -13,7 +13,7 @@ pub const NAME: &[u8] = b"abtrun";
 /// What a command that was carried out came to.
 #[derive(Clone, Copy, Debug, PartialEq, Eq)]
 pub enum Conclusion {
-    /// A run ended so.
+    /// A run ended this way.
     Ended(Outcome),
     /// A journal was judged.
     Judged(Verdict),
