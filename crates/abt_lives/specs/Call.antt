@@ -1,4 +1,4 @@
--- What each status says of what a call of the program left, and when it comes.
+-- What each status says about what a call of the program left, and when it comes.
 use Rattle.std.specs.Prelude.{◌≡◌, ◌≢◌, ◌≤◌, ◌⊎◌, ◌++◌, ℕ, List, [], Some, IfSome, codes}
 use Rattle.abt_machine.specs.declared.events.Event.{Event}
 use Rattle.abt_machine.specs.declared.events.Outcome.{Outcome}
@@ -81,7 +81,7 @@ StopsLives g = StopsFor (AsksNothing g.words) (NamesFiles g.words) (IsBadLine g)
 
 -- What each status says.
 
--- the call stops for this reason, and no journal is answered
+-- the call stops for this reason, and no journal is returned
 pub record IsStopped (c : Call) (stop : Stop) : Type 0 where
   pub why : StopsLives c.given c.left.read_faults stop
   pub journal : c.journal ≡ []
@@ -123,7 +123,7 @@ abbrev pub RefusesTexts : ℕ → Call → Type 0
 RefusesTexts n c = (named : NamesFiles c.given.words) (bytes : Text) → c.given.file named.workload ≡ Some bytes → ((W : Parts) → Reads bytes W → ⊥)
     → (Grew c.left.read_faults → ⊥) → (n ≡ 3) ⊎ (n ≡ 7)
 
--- if the words name no two files, they are refused
+-- if the words do not name two files, they are refused
 abbrev pub RefusesWords : ℕ → Call → Type 0
 RefusesWords n c = AsksNothing c.given.words → (n ≡ 2) ⊎ (n ≡ 7)
 

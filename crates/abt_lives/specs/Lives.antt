@@ -1,4 +1,4 @@
--- What the text of lives is, and what is written of waves.
+-- What the text of lives is, and what is written about waves.
 use Rattle.std.specs.Prelude.{ℕ, ◌≡◌, ◌<◌, ◌≤◌, ◌⊎◌, List, ◌∷◌, Option, IfSome, codes, decimal, length, map}
 use Rattle.abt_machine.specs.declared.workload.Parts.{Parts}
 use Rattle.abt_machine.specs.Words.{Text, numbered, text_of}
@@ -21,7 +21,7 @@ pub record ReadsLives (W : Parts) (bytes : Text) (lives : List Life) : Type 0 wh
   pub are : AreLives W lives
   pub text : lives_text lives ≡ bytes
 
--- why the bytes are not: they are too many, which line 0 stands for, or line l is the first that breaks a rule
+-- why the bytes are not: they are too many, which line 0 means, or line l is the first that breaks a rule
 abbrev pub RefusesLives : Parts → Text → ℕ → Type 0
 RefusesLives W bytes l = ((lives_limit < length bytes) × (l ≡ 0)) ⊎ ((length bytes ≤ lives_limit) × IsBadLifeAt W bytes l × IsNoLivesText W bytes)
 
@@ -35,7 +35,7 @@ IsNoLivesLine W told line Lives = IfSome told (λ bytes. RefusesLives W bytes li
 abbrev pub HasNoLives : Parts → Option Text → ℕ × ℕ → Stop → Type 0
 HasNoLives W told = HasNot (IsNoLivesLine W told)
 
--- what is written of wave i
+-- what is written about wave i
 abbrev pub wave_words : ℕ → Wave → List Text
 wave_words i wave = codes "wave" ∷ decimal i ∷ codes "from" ∷ decimal wave.from ∷ codes "streams" ∷ map decimal wave.streams
 

@@ -3,7 +3,7 @@ use Rattle.std.specs.Prelude.{◌≡◌, ◌==◌, ◌&&◌, Bool, true, false, 
 use Rattle.std.specs.Str.{bytes_eq}
 use Rattle.abt_machine.specs.Words.{Text}
 
--- the word names a file: it has a byte, and begins with no dash unless it is one alone
+-- the word names a file: it has a byte, and does not begin with a dash unless it is a dash alone
 abbrev pub is_name : Text → Bool
 is_name [] = false
 is_name (b ∷ []) = true
@@ -17,6 +17,6 @@ is_pair workload lives = is_name workload && is_name lives && not (bytes_eq work
 abbrev pub Asks : List Text → Text → Text → Type 0
 Asks words workload lives = (words ≡ workload ∷ lives ∷ []) × IsTrue (is_pair workload lives)
 
--- they are no such names
+-- they are not such names
 abbrev pub AsksNothing : List Text → Type 0
 AsksNothing words = (workload lives : Text) → Asks words workload lives → ⊥

@@ -29,7 +29,7 @@ use std::thread::Threads;
 /// The name of the program.
 pub const NAME: &[u8] = b"abtwaves";
 
-// The most bytes that a lives text has.
+// The maximum number of bytes of a lives text.
 const MOST: usize = 65_536;
 
 // What a call writes, the run's journal, and how the run ended.

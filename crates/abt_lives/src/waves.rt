@@ -1,4 +1,4 @@
-//! What is written of waves.
+//! What is written about waves.
 
 ghost use Rattle.std.specs.Prelude.{◌≡◌, ◌++◌, OnOk, decimal, map};
 ghost use Rattle.abt_machine.specs.Words.{ended, line_of, spaced};

@@ -3,7 +3,7 @@
 ghost use Rattle.std.specs.Prelude.{◌≡◌, MatchOption, map, string_bytes};
 ghost use Rattle.abt_lives.specs.Words.{Asks, AsksNothing, is_name, is_pair};
 
-// Whether the word names a file: it has a byte, and begins with no dash unless it is one alone.
+// Whether the word names a file: it has a byte, and does not begin with a dash unless it is a dash alone.
 fn is_name(word: &str) -> bool
     ensures { result ≡ is_name word.now }
 {
