@@ -65,7 +65,7 @@ Lead W Z old es new = (J : List Event) → LeadTo W Z J old → LeadTo W Z (J ++
 abbrev pub Empties : Parts → List OrderShape → Moment → List Event → ℕ → Type 0
 Empties W Z old es s = (J : List Event) → LeadTo W Z J old → HasEmptied W s (last_state W J) es
 
--- stream s went on by events that are no steps
+-- stream s went on by events that are not steps
 pub record MovesOn (W : Parts) (Z : List OrderShape) (s : ℕ) (old new : Moment) : Type 0 where
   pub events : List Event
   pub lead : Lead W Z old events new

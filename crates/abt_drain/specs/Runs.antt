@@ -17,7 +17,7 @@ use Rattle.abt_flow.specs.Laws.{outputs}
 use Rattle.abt_outcomes.specs.OneStream.{GoesToItsStop, IsOnlyRun}
 use Rattle.abt_outcomes.specs.Rotations.{IsWithin}
 
--- the journal is a run of the workload whose streams may make n steps each, stamped, through sound states, with lives as they go, and it
+-- the journal is a run of the workload whose streams may make n steps each, stamped, through sound states, with lives as LivesOf says, and it
 -- ended so; if it finished and W is confluent, the units put out what its flow says
 pub record IsRunOf (W : Parts) (Z : List OrderShape) (n : ℕ) (J : List Event) (o : Outcome) : Type 0 where
   pub run : Run W Z J
@@ -28,7 +28,7 @@ pub record IsRunOf (W : Parts) (Z : List OrderShape) (n : ℕ) (J : List Event) 
   pub ended : EndsAs W n J o
   pub flow : o ≡ outcome.Finished → Confluent W → IsFlow W (outputs W (last_state W J))
 
--- the same with Lamport's stamps; of one stream it goes to its stop, and if no order is free there is no other such run
+-- the same with Lamport's stamps; with one stream it goes to its stop, and if no order is free there is no other such run
 pub record HasRun (W : Parts) (Z : List OrderShape) (n : ℕ) (J : List Event) (o : Outcome) : Type 0 where
   pub run : Run W Z J
   pub stamped : Stamped W J

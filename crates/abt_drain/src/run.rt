@@ -20,8 +20,8 @@ pub struct Run {
     pub outcome: Outcome,
 }
 
-/// Runs a workload whose streams may make so many steps each. In order of number each stream makes turns until one is a step,
-/// ends a round empty, or is none since the stream is spent; this goes on until a rotation without a step leaves nothing to do
+/// Runs a workload whose streams may make `steps` steps each. In order of number each stream makes turns until one is a step,
+/// ends a round empty, or is none because the stream is spent; this goes on until a rotation without a step leaves nothing to do
 /// or a stream spent.
 pub fn drain(alloc: Global, w: &Workload, orders: &[StoredOrder], steps: u64) -> Result<Run, Want>
     requires orders { 2 ≤ length orders.now }
