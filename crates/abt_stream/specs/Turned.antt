@@ -49,7 +49,7 @@ pub record Made {P : Type 0} (moves : P → Site → ℕ → Act → Told → P 
 abbrev pub MissesLast : Parts → StreamValue → Type 0
 MissesLast W s = suc (length s.held.own.top.seen) ≡ length (pools_of W s.held.own.top.sched)
 
--- an event that is no step and ends no round empty
+-- an event that is not a step and does not end a round empty
 abbrev pub IsMove : Parts → StreamValue → What → Type 0
 IsMove W old (what.Miss p) = MissesLast W old → ⊥
 IsMove W old (what.Take p u) = ⊤
@@ -82,6 +82,6 @@ pub record IsReady (W : Parts) (s : StreamValue) : Type 0 where
   pub order : due_of W s.number.0 s.held ≡ RoundDue → s.order ≢ []
   pub few : length s.log < 2 ^ 57
 
--- all is as it was, but for room, and for the order and the scheduler of the round that is to come
+-- all is as it was, except room, and the order and the scheduler of the round that is to come
 abbrev pub IsPrepared : StreamValue → StreamValue → Type 0
 IsPrepared old new = new ≡ record old { top = record old.top { scheduler = new.top.scheduler }; order = new.order; rooms = new.rooms }

@@ -9,7 +9,7 @@ use super::Stream;
 use abt_machine::{Code, Event, UnitNo, What};
 
 impl Stream {
-    // Writes an event that is no step into room that was taken before.
+    // Writes an event that is not a step into room that was taken before.
     pub(super) fn write(&mut self, stamp: u64, what: What)
         requires no_step { is_step what ≡ false }
         requires room { 0 < self.old.rooms.events }
