@@ -21,7 +21,7 @@ lives_text lives = text_of (map life_words lives)
 
 -- Lines and numbers.
 
--- a byte that is no line feed
+-- a byte that is not a line feed
 abbrev pub IsNoFeed : ℕ → Type 0
 IsNoFeed b = b ≢ 10
 

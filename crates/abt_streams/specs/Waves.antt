@@ -1,4 +1,4 @@
--- The waves of a run, and what is said of runs on lives.
+-- The waves of a run, and what is said about runs on lives.
 use Rattle.std.specs.Prelude.{ℕ, ◌≡◌, ◌≢◌, ◌+◌, List, [], ◌∷◌, ◌++◌, length, All, Contains, ⊤}
 use Rattle.abt_machine.specs.declared.events.Event.{Event}
 use Rattle.abt_machine.specs.declared.events.Outcome.{Outcome}
@@ -16,14 +16,14 @@ use Rattle.abt_streams.specs.declared.wave.Wave.{Wave}
 use Rattle.abt_streams.specs.Ends.{EndsOn}
 use Rattle.abt_streams.specs.Living.{live_streams}
 
--- a wave that starts behind n events, in state S, with these events: its streams are those that live in S, and each event is of
+-- a wave that starts after n events, in state S, with these events: its streams are those that live in S, and each event is of
 -- one of them
 pub record IsWaveOf (W : Parts) (lives : List Life) (S : State) (n : ℕ) (wave : Wave) (es : List Event) : Type 0 where
   pub from : wave.from ≡ n
   pub streams : wave.streams ≡ live_streams W lives S
   pub own : All (λ e. Contains wave.streams e.stream.0) es
 
--- the events from state S on, behind n events, are those of these waves, one after the other
+-- the events from state S on, after n events, are those of these waves, one after the other
 abbrev pub AreWaves : Parts → List Life → State → ℕ → List Wave → List Event → Type 0
 AreWaves W lives S n [] J = J ≡ []
 AreWaves W lives S n (wave ∷ waves) J =

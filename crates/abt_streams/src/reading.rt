@@ -15,7 +15,7 @@ use abt_report::TextFault;
 use std::alloc::Global;
 use std::str;
 
-// Where the first line feed stands.
+// Where the first line feed is.
 fn feed_at(text: &[u8]) -> Option<usize>
     ensures { MatchOption result (All IsNoFeed text.now) (λ i. (i < length text.now) × All IsNoFeed (take i text.now) × (slice_index text.now i ≡ 10)) }
 {
@@ -52,7 +52,7 @@ fn life_of(stream: &str, begins: &str, ends: &str) -> Option<Life>
     })
 }
 
-// The words of a line behind its first.
+// The words of a line after its first.
 fn numbers<'a>(line: &'a str) -> Option<(&'a str, &'a str, &'a str)>
     ensures { (life : Life) → IsShortLife life → life_line life ≡ line.entry.now → MatchOption result ⊥ (λ words. SpellNumbers life words.0.now words.1.now words.2.now) }
 {

@@ -26,7 +26,7 @@ pub struct LivesRun {
     pub outcome: Outcome,
 }
 
-/// Runs a workload whose streams may make so many steps each, and live as these lives say; `pace` is called before each step.
+/// Runs a workload whose streams may make this many steps each, and live as these lives say; `pace` is called before each step.
 /// In a wave each stream that lives when the wave begins makes turns on a thread of its own, as in `run_streams`: a stream that
 /// ends within the wave leaves at the wave's end. Waves go on until one leaves nothing to do on these lives, or a stream spent; there
 /// is always one. Err: memory was refused, to one stream or to all; its wave is the last.
