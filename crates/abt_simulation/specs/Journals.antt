@@ -1,4 +1,4 @@
--- The journal of all logs: that it is there, and what is counted in it.
+-- The journal of all logs: that it exists, and what is counted in it.
 use Rattle.std.specs.Prelude.{ℕ, ◌≡◌, ◌<◌, ◌^◌, ◌↔◌, List, map, length}
 use Rattle.abt_machine.specs.declared.events.Event.{Event}
 use Rattle.abt_machine.specs.declared.events.Site.{Site}
@@ -30,7 +30,7 @@ OfGathered W Z Law = (parts : ℕ → Held) (objects : Site → Object) (logs : 
 abbrev pub JournalsAreMerges : Parts → List OrderShape → Type 0
 JournalsAreMerges W Z = OfGathered W Z (λ logs histories. (J : List Event) → IsJournalOf logs J ↔ MergesTo (events_of logs) J)
 
--- there is just one journal
+-- there is exactly one journal
 abbrev pub JournalsExist : Parts → List OrderShape → Type 0
 JournalsExist W Z = OfGathered W Z (λ logs histories. (J : List Event) × IsJournalOf logs J × ((K : List Event) → IsJournalOf logs K → K ≡ J))
 

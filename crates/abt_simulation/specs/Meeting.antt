@@ -1,4 +1,4 @@
--- A workload to see the laws at work: two streams share a pool, and their two units meet at a barrier.
+-- A workload that shows the laws at work: two streams share a pool, and their two units meet at a barrier.
 use Rattle.std.specs.Prelude.{ℕ, zero, suc, true, false, List, [], ◌∷◌, Some, None}
 use Rattle.abt_machine.specs.declared.events.Cause.TheVariants as cause
 use Rattle.abt_machine.specs.declared.events.Code.TheVariants as code
@@ -35,7 +35,7 @@ use Rattle.abt_simulation.specs.Merging.{machine_of, StreamDeed, SiteEntry, IsJo
 abbrev pub meeting : Parts
 meeting = sharing (thing.Barrier 2 ∷ []) (record { body = body.Ult (op.BarWait (object_no 0) ∷ []); start = Some (pool_no 0) } ∷ record { body = body.Ult (op.BarWait (object_no 0) ∷ []); start = Some (pool_no 0) } ∷ [])
 
--- no scheduler has an order of the user's
+-- no scheduler has a user's order
 abbrev pub no_orders : List OrderShape
 no_orders = []
 

@@ -88,7 +88,7 @@ pub record LeadsTo (W : Parts) (Z : List OrderShape) (S : State) (J : List Event
   pub objects : (x : Site) → object_of W (state_after W S J) x ≡ finals x
 
 -- from a sound state, if each stream's log is a course of the stream with the answers that it heard, each object's history
--- is legal, and each call in a log is just one entry of the called object's history, all logs merge into one run, and it
+-- is legal, and each call in a log is exactly one entry of the called object's history, all logs merge into one run, and it
 -- leads to the state that the ends of logs and histories make up
 abbrev pub Merging : Parts → List OrderShape → Type 0
 Merging W Z = IsValid W → OrdersStored W Z → (S : State) → Sound W Z S →

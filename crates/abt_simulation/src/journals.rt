@@ -5,7 +5,7 @@ ghost use Rattle.abt_machine.specs.declared.operations.OrderShape.{OrderShape};
 ghost use Rattle.abt_machine.specs.declared.workload.Parts.{Parts};
 ghost use Rattle.abt_simulation.specs.Journals.{JournalsAreMerges, JournalsCount, JournalsExist, NothingIsWorn};
 
-/// There is just one journal, and it is what the logs' events merge to.
+/// There is exactly one journal, and it is what the logs' events merge to.
 pub fn journals_exist()
     ensures exist { (W : Parts) (Z : List OrderShape) → JournalsExist W Z }
     ensures merge { (W : Parts) (Z : List OrderShape) → JournalsAreMerges W Z }
