@@ -1,4 +1,4 @@
--- What a call that runs a workload answers.
+-- What a call that runs a workload returns.
 use Rattle.std.specs.Prelude.{ℕ, ◌≡◌, List, MatchOption, Option, None}
 use Rattle.abt_machine.specs.declared.events.Event.{Event}
 use Rattle.abt_machine.specs.declared.events.Outcome.{Outcome}

@@ -16,7 +16,7 @@ pub fn meshes_are_valid()
     ensures { (nodes : List Node) → IsMesh nodes → IsValid (mesh nodes) }
 {}
 
-/// The schedule can't matter to what its units put out.
+/// What its units put out does not depend on the schedule.
 pub fn meshes_are_confluent()
     ensures { (nodes : List Node) → Confluent (mesh nodes) }
 {}

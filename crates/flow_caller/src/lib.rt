@@ -1,4 +1,4 @@
-//! A caller of the whole runtime: workloads that are made in code, run on threads, and put out numbers that are known beforehand.
+//! A caller of the whole runtime: workloads that are made in code, run on threads, and put out numbers that are known in advance.
 #![tactic(auto)]
 
 mod laws;

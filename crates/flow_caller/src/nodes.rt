@@ -16,7 +16,7 @@ use std::alloc::{AllocError, Global};
 // The streams. Each has a pool of its own.
 const STREAMS: u32 = 4;
 
-/// How many numbers a node waits for at most.
+/// The maximum number of numbers that a node waits for.
 pub const WAIT_LIMIT: usize = 16;
 
 /// A unit that waits for numbers: it waits for the eventuals `after`, in this order, adds `plus` to the value of the last (to 0

@@ -1,4 +1,4 @@
-//! Meshes that run on threads, and what they put out. Of each call None says that the run did not finish, and Err that no memory was
+//! Meshes that run on threads, and what they put out. For each call None says that the run did not finish, and Err that no memory was
 //! found.
 
 ghost use Rattle.std.specs.Prelude.{All, ◌≡◌, ◌≤◌, ◌<◌, ◌+◌, ◌-◌, ◌%◌, ◌^◌, [], ◌∷◌, IfOk, length, map, sum};

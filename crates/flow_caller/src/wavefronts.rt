@@ -9,7 +9,7 @@ use crate::nodes::Node;
 use abt_machine::{Items, ObjectNo};
 use std::alloc::{AllocError, Global};
 
-/// How many rows and columns a table has at most.
+/// The maximum number of rows and columns of a table.
 pub const SIDE_LIMIT: u32 = 16;
 
 /// The nodes of a table of n by n cells, each of which puts out one more than its left and its upper neighbour.
@@ -38,7 +38,7 @@ fn cell(alloc: Global, n: u32, i: u32, j: u32) -> Result<Node, AllocError>
     })
 }
 
-// The eventuals of the left and the upper neighbour of cell (i, j), where it has them.
+// The eventuals of the left and the upper neighbour of cell (i, j), if it has them.
 fn neighbours(alloc: Global, n: u32, i: u32, j: u32) -> Result<Vec<ObjectNo>, AllocError>
     requires side { n ≤ SIDE_LIMIT }
     requires row { i < SIDE_LIMIT }
