@@ -20,7 +20,7 @@ abbrev pub stamp_in : {O A R : Type 0} → Called O A R → ℕ
 stamp_in (called.Done stamp answer) = stamp
 stamp_in (called.Worn back) = 0
 
--- The letter was put with one seat, and then one was taken with the other, at the first call's stamp; each seat made just its one call.
+-- The letter was put with one seat, and then one was taken with the other, at the first call's stamp; each seat made exactly its one call.
 pub record ArePassed {g : Ghosts Tray Ask Reply} (booth : Booth Tray Ask Reply) (putter putter' taker taker' : Seat Tray Ask Reply g) (letter : Box Letter Global) (put taken : Called Tray Ask Reply) : Type 0 where
   pub put_replies : Replies Does booth putter putter' 0 (ask.Put letter) put
   pub put_grows : GrowsBy (number_of putter) (seen_of putter) (seen_of putter') (added_by (number_of putter) (ask.Put letter) put)

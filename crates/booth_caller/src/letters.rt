@@ -73,7 +73,7 @@ impl Object for Tray {
 /// Sends a letter from one seat of a booth to another. Err hands the letter back: out of memory.
 ///
 /// The second call's `at` is the first one's stamp, so its own stamp is greater. Once the booth is closed there is
-/// one history, which has just these two calls in order of stamp: so what came out is what went in, and the clock was
+/// one history, which has exactly these two calls in order of stamp: so what came out is what went in, and the clock was
 /// not worn.
 pub fn deliver<R: Wait>(rt: &R, alloc: Global, letter: Box<Letter>) -> Result<Reply, Box<Letter>>
     ensures given { IfOk result (λ reply. reply ≡ Reply.Given letter) }
@@ -99,7 +99,7 @@ pub fn deliver<R: Wait>(rt: &R, alloc: Global, letter: Box<Letter>) -> Result<Re
     Ok(answer)
 }
 
-/// Puts a letter into the tray with one seat, and then takes a letter out with the other. What each call was answered.
+/// Puts a letter into the tray with one seat, and then takes a letter out with the other. Returns the answer to each call.
 pub fn pass_on<R: Wait>(
     rt: &R,
     booth: &Booth<Tray>,
