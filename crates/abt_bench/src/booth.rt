@@ -1,4 +1,4 @@
-//! The calls of a booth, beside the kit's mutex round a number.
+//! The calls of a booth, compared with the kit's mutex around a number.
 ghost use Rattle.std.specs.Prelude.{◌≤◌};
 
 use bench_times::least_and_middle;

@@ -34,7 +34,7 @@ const SPREAD: u32 = 8;
 // The pools that are called, each of which has ten units.
 const POOLS: u32 = 4;
 
-// A workload in which every so many-th pool has ten units, four in all. Where they are neighbours their units are mixed, and else
+// A workload in which every `spread`-th pool has ten units, four in all. Where they are neighbours their units are mixed, and otherwise
 // those of one pool stand side by side.
 fn workload(alloc: Global, spread: u32) -> io::Result<Workload> {
     let mut text = String::from_str(alloc, "abt 1\nstreams 1\n")?;

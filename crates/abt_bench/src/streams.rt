@@ -1,4 +1,4 @@
-//! Events of one stream, beside the calls of objects that they make.
+//! Events of one stream, compared with the calls of objects that they make.
 
 ghost use Rattle.std.specs.Prelude.{ℕ, ◌<◌};
 ghost use Rattle.abt_order.specs.Schedulers.{IsStored};

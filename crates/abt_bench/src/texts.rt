@@ -175,7 +175,7 @@ fn read_lines(alloc: Global, text: &[u8]) -> io::Result<Journal> {
     read_journal(alloc, text).map_err(no_journal)
 }
 
-// Prints megabytes a second, of so many bytes in each of these nanoseconds.
+// Prints megabytes a second, for this many bytes in each of these nanoseconds.
 fn print_rates<R: Print>(
     rt: &R,
     name: &str,
@@ -191,7 +191,7 @@ fn rate(bytes: usize, nanoseconds: u128) -> u128 {
     bytes as u128 * 1000 / nanoseconds.max(1)
 }
 
-// Times so many rounds of a call, and prints the rate of the bytes of what it makes.
+// Times this many rounds of a call, and prints the rate of the bytes of what it makes.
 macro_rules! rounds {
     ($rt:expr, $alloc:expr, $name:literal, $call:expr, $made:ident => $bytes:expr) => {{
         let mut times = Vec::new($alloc);

@@ -64,7 +64,7 @@ fn turn<R: Wait>(rt: &R, booth: &Booth<Shelf>, seat: &mut Seat<Shelf>) -> bool
     }
 }
 
-/// So many turns.
+/// This many turns.
 pub fn turns<R: Wait>(rt: &R, booth: &Booth<Shelf>, seat: &mut Seat<Shelf>, times: u32)
     requires { IsSeatOf booth.now seat.old }
     ensures seat { IsSeatOf booth.now seat.new }

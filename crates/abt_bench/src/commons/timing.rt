@@ -53,7 +53,7 @@ fn time<'w, R: Clock, C: Commons<'w>>(
     start.elapsed(rt)
 }
 
-/// Turns of a pool with nothing round it.
+/// Turns of a pool with nothing around it.
 pub fn pool_time<R: Clock>(rt: &R, alloc: Global) -> io::Result<Duration> {
     let mut pool = new_pool(alloc)?;
     let start = Instant::now(rt)?;
@@ -61,7 +61,7 @@ pub fn pool_time<R: Clock>(rt: &R, alloc: Global) -> io::Result<Duration> {
     start.elapsed(rt)
 }
 
-/// Turns of four pools with nothing round them, each of the next one.
+/// Turns of four pools with nothing around them, each of the next one.
 pub fn pools_time<R: Clock>(rt: &R, alloc: Global) -> io::Result<Duration> {
     let mut pools = Vec::new(alloc);
     for _ in 0..4 {
@@ -132,7 +132,7 @@ pub fn hall_time<R: Clock + Wait>(rt: &R, alloc: Global, w: &Workload) -> io::Re
     time(rt, &hall, &mut pass)
 }
 
-/// So many turns on each of some threads over `Split`, each on a pool of its own, between two of which `spread` - 1 stand: how
+/// This many turns on each of some threads over `Split`, each on a pool of its own, between two of which `spread` - 1 stand: how
 /// many all made, and what they took.
 pub fn split_work<R: Clock + Threads + Wait + Sync>(
     rt: &R,

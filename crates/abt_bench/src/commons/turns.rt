@@ -55,7 +55,7 @@ fn turn<'w, C: Commons<'w>>(commons: &C, pass: &mut C::Pass, p: PoolNo) -> bool
     }
 }
 
-/// So many turns, fewer if a pool has no unit to take. Returns how many were made.
+/// This many turns, fewer if a pool has no unit to take. Returns how many were made.
 pub fn turns<'w, C: Commons<'w>>(commons: &C, pass: &mut C::Pass, p: PoolNo, times: u32) -> u32
     requires pass { C.is_of commons.now pass.old }
     requires pool { p.0 < length (C.workload commons.now).pools }
@@ -70,7 +70,7 @@ pub fn turns<'w, C: Commons<'w>>(commons: &C, pass: &mut C::Pass, p: PoolNo, tim
     times
 }
 
-/// The same of a pool with nothing round it.
+/// The same for a pool with nothing around it.
 pub fn bare_turns(pool: &mut Pool, times: u32) {
     for _ in 0..times {
         if let Some(unit) = pool.take(Side::Front) {
@@ -79,7 +79,7 @@ pub fn bare_turns(pool: &mut Pool, times: u32) {
     }
 }
 
-/// So many turns, each of the next of four pools.
+/// This many turns, each of the next of four pools.
 pub fn turns_in_turn<'w, C: Commons<'w>>(commons: &C, pass: &mut C::Pass, times: u32)
     requires pass { C.is_of commons.now pass.old }
     requires pools { 4 ≤ length (C.workload commons.now).pools }
@@ -89,7 +89,7 @@ pub fn turns_in_turn<'w, C: Commons<'w>>(commons: &C, pass: &mut C::Pass, times:
     }
 }
 
-/// The same of pools with nothing round them, each of which is reached by its number for each call.
+/// The same for pools with nothing around them, each of which is reached by its number for each call.
 pub fn bare_turns_in_turn(pools: &mut Vec<Pool>, times: u32) {
     for i in 0..times {
         let p = i as usize % 4;

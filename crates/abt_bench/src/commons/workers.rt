@@ -14,7 +14,7 @@ use std::sync::atomic::{AtomicU64, Ordering};
 use std::thread;
 use std::thread::Threads;
 
-// So many turns of the next pool that no thread has yet, of every `spread`-th, if there is one. Returns how many were made.
+// This many turns of the next pool that no thread has yet, of every `spread`-th, if there is one. Returns how many were made.
 fn work<'w, C: Commons<'w>>(
     commons: &C,
     pass: &mut C::Pass,
@@ -33,7 +33,7 @@ fn work<'w, C: Commons<'w>>(
     turns(commons, pass, PoolNo(pool as u32), times)
 }
 
-/// So many turns with each pass, each on a thread of its own. Returns how many all made.
+/// This many turns with each pass, each on a thread of its own. Returns how many all made.
 pub fn work_over_split<'w, R: Threads + Wait + Sync>(
     rt: &R,
     split: &Split<'w, R>,

@@ -1,4 +1,4 @@
-//! The calls of objects that streams make, with nothing round the objects.
+//! The calls of objects that streams make, with nothing around the objects.
 
 ghost use Rattle.std.specs.Prelude.{◌<◌, length, IfSome};
 ghost use Rattle.abt_unit.specs.Units.{IsFree};
@@ -32,7 +32,7 @@ impl Bench {
         Ok(bench)
     }
 
-    // One unit more, with its desk.
+    // One more unit, with its desk.
     fn add(&mut self, w: &Workload, u: UnitNo, unit: Box<Unit>) -> Result<(), Want>
         requires unit { u.0 < length w.now.units }
         requires free { IsFree unit.value }
@@ -65,7 +65,7 @@ impl Bench {
         Some(unit)
     }
 
-    // The units go into the pool, at most so many.
+    // The units go into the pool, at most this many.
     fn put_all(&mut self, mut units: Chain, most: u32) {
         for _ in 0..most {
             match units.take_front() {
@@ -94,7 +94,7 @@ impl Bench {
         }
     }
 
-    /// So many yields of all units; then they end.
+    /// This many yields of all units; then they end.
     pub fn yields(&mut self, times: u32) {
         for _ in 0..times {
             if let Some(unit) = self.next() {
@@ -104,7 +104,7 @@ impl Bench {
         self.end_all();
     }
 
-    /// Each unit locks and unlocks the mutex so often, and ends.
+    /// Each unit locks and unlocks the mutex this many times, and ends.
     pub fn locks(&mut self, monitor: &mut Monitor, times: u32) {
         for _ in 0..self.desks.len() {
             if let Some(unit) = self.next() {
@@ -143,7 +143,7 @@ impl Bench {
         self.next()
     }
 
-    /// So many arrivals at the barrier of all units, whose number is its size; then they end.
+    /// This many arrivals at the barrier of all units, whose number is its size; then they end.
     pub fn barriers(&mut self, barrier: &mut Barrier, times: u32) {
         let mut hand = self.next();
         for _ in 0..times {
@@ -173,7 +173,7 @@ impl Bench {
     }
 }
 
-// The unit locks and unlocks a free mutex so often.
+// The unit locks and unlocks a free mutex this many times.
 fn lock(monitor: &mut Monitor, unit: Box<Unit>, times: u32) -> Option<Box<Unit>>
     requires { IsFree unit.value }
     ensures { IfSome result (λ unit. IsFree unit.value) }

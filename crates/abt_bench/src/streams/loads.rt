@@ -15,7 +15,7 @@ pub enum Work {
     Barriers,
 }
 
-/// So many units, each of which does it so often. Of units that are joined the first creates and joins all others, once.
+/// This many units, each of which does it this many times. Of units that are joined the first creates and joins all others, once.
 #[derive(Clone, Copy)]
 pub struct Load {
     pub work: Work,
