@@ -1,4 +1,4 @@
-//! Runs and verdicts. Of each call Err says that no memory was found, or that a text is no journal's. No scheduler of these
+//! Runs and verdicts. For each call Err says that memory ran out, or that a text is not a journal's. No scheduler of these
 //! workloads has a stored order, but a run is passed two.
 
 ghost use Rattle.std.specs.Prelude.{◌≤◌, length};

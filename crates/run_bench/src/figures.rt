@@ -95,7 +95,7 @@ impl Figures {
         )
     }
 
-    /// How fast so many bytes were read.
+    /// How fast this many bytes were read.
     pub fn print_bytes<R: Print>(&self, rt: &R, name: &str, bytes: usize) -> io::Result<()> {
         println!(rt;
             "{name}: {bytes} bytes, {best} at best, {usual} in the middle (MB/s)",
@@ -104,7 +104,7 @@ impl Figures {
         )
     }
 
-    /// How these stand to those of another racer.
+    /// How these compare with those of another racer.
     pub fn print_beside<R: Print>(
         &self,
         rt: &R,
@@ -131,7 +131,7 @@ fn rate(each: u128) -> u128 {
     100_000_000_000 / each.max(1)
 }
 
-// Megabytes a second of so many bytes in these nanoseconds.
+// Megabytes a second for this many bytes in these nanoseconds.
 fn megabytes(bytes: usize, nanoseconds: u128) -> u128 {
     bytes as u128 * 1000 / nanoseconds.max(1)
 }

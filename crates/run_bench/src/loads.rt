@@ -26,9 +26,9 @@ pub enum Load {
     Deque,
     /// A stream whose units yield often.
     Busy,
-    /// The same, beside one stream without a unit.
+    /// The same, with one stream without a unit.
     BusyBesideOne,
-    /// The same, beside seven streams without a unit.
+    /// The same, with seven streams without a unit.
     BusyBesideSeven,
 }
 
@@ -96,10 +96,10 @@ repeat 256 yield
 ",
 ];
 
-// The units that lock the mutex come behind these.
+// The units that lock the mutex come after these.
 static MUTEX: [&str; 2] = [FOUR_STREAMS, "object 0 mutex\nunits 4000\n"];
 
-// The units that create these come behind them.
+// The units that create these come after them.
 static POOL: [&str; 1] = [
     "abt 2
 streams 4

@@ -45,7 +45,7 @@ impl Racer {
     }
 }
 
-/// Prints the times of all entries of each race, and how those of each but the first stand to the first's.
+/// Prints the times of all entries of each race, and how those of each but the first compare with the first's.
 pub fn races<R: Threads + Wait + Sync + Print + Clock>(
     rt: &R,
     alloc: Global,
@@ -107,7 +107,7 @@ fn add_laps<R: Threads + Wait + Sync + Clock>(
     Ok(())
 }
 
-// The figures of all racers, and how those of each but the first stand to the first's.
+// The figures of all racers, and how those of each but the first compare with the first's.
 fn print_race<R: Print>(rt: &R, alloc: Global, racers: &[Racer], laps: &[Lap]) -> io::Result<()> {
     let Some((first, others)) = racers.split_first() else {
         return Ok(());

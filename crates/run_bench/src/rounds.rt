@@ -41,7 +41,7 @@ impl Work {
     }
 }
 
-/// Some work, and what was made for it beforehand.
+/// Some work, and what was made for it in advance.
 #[derive(Drop)]
 pub enum Task {
     Drain,
@@ -81,7 +81,7 @@ pub struct Round {
     pub took: Duration,
 }
 
-/// Times a task of a workload. What the task makes is let go after the time is taken.
+/// Times a task of a workload. What the task makes is dropped after the time is taken.
 pub fn timed<R: Threads + Wait + Sync + Clock>(
     rt: &R,
     alloc: Global,
@@ -97,7 +97,7 @@ pub fn timed<R: Threads + Wait + Sync + Clock>(
     })
 }
 
-// What a task made or judged: a run, a journal, or so many events.
+// What a task made or judged: a run, a journal, or a number of events.
 #[derive(Drop)]
 enum Outcome {
     Run(Run),

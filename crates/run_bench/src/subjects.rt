@@ -1,10 +1,10 @@
-//! The races of each subject. The first entry of a race is the one beside which the others are printed.
+//! The races of each subject. The first entry of a race is the one with which the others are compared.
 
 use crate::loads::Load;
 use crate::races::Entry;
 use crate::rounds::Work;
 
-/// Four streams that share nothing, beside one of them: whole runs, the same with a lock for each object in both, and waves whose
+/// Four streams that share nothing, compared with one of them: whole runs, the same with a lock for each object in both, and waves whose
 /// logs are not merged.
 pub static THREADS: [&[Entry]; 3] = [
     &[
@@ -19,7 +19,7 @@ pub static THREADS: [&[Entry]; 3] = [
     &[(Load::One, Work::Wave), (Load::Four, Work::Wave)],
 ];
 
-/// Four streams that share one object, on threads beside one thread.
+/// Four streams that share one object, on threads, compared with one thread.
 pub static SHARED: [&[Entry]; 4] = [
     &[(Load::Mutex, Work::Drain), (Load::Mutex, Work::Streams)],
     &[(Load::Pool, Work::Drain), (Load::Pool, Work::Streams)],
@@ -27,7 +27,7 @@ pub static SHARED: [&[Entry]; 4] = [
     &[(Load::Deque, Work::Drain), (Load::Deque, Work::Streams)],
 ];
 
-/// A busy stream beside seven idle ones, compared with it alone and with it beside one idle stream.
+/// A busy stream next to seven idle ones, compared with it alone and with it next to one idle stream.
 pub static IDLE: [&[Entry]; 2] = [
     &[
         (Load::Busy, Work::Streams),
@@ -39,7 +39,7 @@ pub static IDLE: [&[Entry]; 2] = [
     ],
 ];
 
-/// The check of a journal, beside the runs that make it.
+/// The check of a journal, compared with the runs that make it.
 pub static CHECK: [&[Entry]; 2] = [
     &[
         (Load::Busy, Work::Check),
