@@ -40,7 +40,7 @@ impl Display for Hundredths {
     }
 }
 
-/// Hundredths of a nanosecond for each of so many calls, rounded down; no call counts as one.
+/// Hundredths of a nanosecond for each of this many calls, rounded down; no call counts as one.
 pub fn each(took: Duration, calls: u128) -> u128
     ensures { result ≡ as_nanos took * 100 / max calls 1 }
 {
