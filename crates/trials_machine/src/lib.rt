@@ -1,4 +1,4 @@
-//! Trials of workloads: one made and read back, parts that are none by one change, and those at the limits.
+//! Tests of workloads: one made and read back, parts that one change makes invalid, and those at the limits.
 #![tactic(auto)]
 
 #[cfg(test)]

@@ -7,7 +7,7 @@ use abt_machine::{
 use std::alloc::{AllocError, Global};
 use std::test::Fail;
 
-// So many streams over one pool, with a scheduler for each, these units and these words.
+// This many streams over one pool, with a scheduler for each, these units and these words.
 fn wide(
     alloc: Global,
     streams: u32,
@@ -39,24 +39,24 @@ fn wide(
 // A word of 64 bytes.
 const LONG: &str = "1234567890123456789012345678901234567890123456789012345678901234";
 
-// Whether so many streams may be declared.
+// Whether this many streams may be declared.
 fn are_streams(alloc: Global, streams: u32) -> Result<bool, AllocError> {
     Ok(wide(alloc, streams, &[], &[])?.is_valid())
 }
 
-// Whether so many units may be declared that do nothing.
+// Whether this many units may be declared that do nothing.
 fn are_units(alloc: Global, units: usize) -> Result<bool, AllocError> {
     let rows = vec![in alloc; (Role::Ult(&[]), None); units]?;
     Ok(wide(alloc, 1, &rows, &[])?.is_valid())
 }
 
-// Whether a unit may have so many operations.
+// Whether a unit may have this many operations.
 fn are_operations(alloc: Global, ops: usize) -> Result<bool, AllocError> {
     let ops = vec![in alloc; Op::Print; ops]?;
     Ok(wide(alloc, 1, &[(Role::Ult(&ops), None)], &[])?.is_valid())
 }
 
-// Whether units may have so many operations in all, 256 each. Each operation says a word of its own, so that the text is longer
+// Whether units may have this many operations in all, 256 each. Each operation says a word of its own, so that the text is longer
 // than one of format 1 may be.
 fn are_said(alloc: Global, words: u32) -> Result<bool, AllocError> {
     let mut ops = Vec::new(alloc);
@@ -71,7 +71,7 @@ fn are_said(alloc: Global, words: u32) -> Result<bool, AllocError> {
     Ok(wide(alloc, 1, &rows, &words)?.is_valid())
 }
 
-// What there may be so much of.
+// What has a limit.
 #[derive(Clone, Copy)]
 enum Limit {
     Streams,
@@ -93,7 +93,7 @@ static ROWS: [(Limit, u32, bool); 10] = [
     (Limit::Operations, 65537, false),
 ];
 
-// Whether parts with so much of it are valid.
+// Whether parts with this much of it are valid.
 fn are_valid(alloc: Global, limit: Limit, n: u32) -> Result<bool, AllocError> {
     match limit {
         Limit::Streams => are_streams(alloc, n),

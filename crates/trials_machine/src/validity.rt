@@ -1,4 +1,4 @@
-//! A small workload, and what is none by one change of it.
+//! A small workload, and parts that one change of it makes invalid.
 
 use crate::parts::{Role, scheds, texts, unit};
 use abt_machine::{
@@ -41,7 +41,7 @@ const SMALL: Small = Small {
     words: &["hi", "on"],
 };
 
-// One thing that is otherwise.
+// One thing that is different.
 #[derive(Clone, Copy)]
 enum Change {
     Streams(u32),
@@ -56,7 +56,7 @@ enum Change {
     Words(&'static [&'static str]),
 }
 
-// What makes it none.
+// What makes it invalid.
 static REFUSED: [Change; 55] = [
     Change::Streams(0),
     Change::Streams(1),
