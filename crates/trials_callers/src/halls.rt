@@ -1,4 +1,4 @@
-//! A run over one lock round all objects, by what its report says.
+//! A run over one lock around all objects, by what its report says.
 
 ghost use Rattle.std.specs.Prelude.{◌≤◌, length};
 

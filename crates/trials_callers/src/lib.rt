@@ -1,4 +1,4 @@
-//! Trials of callers of the runtime: numbers that runs on threads put out, and a run over one lock.
+//! Tests of callers of the runtime: numbers that runs on threads put out, and a run over one lock.
 #![tactic(auto)]
 
 #[cfg(test)]
