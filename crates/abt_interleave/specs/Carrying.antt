@@ -63,7 +63,7 @@ pub record Timed (M : Machine) {Lock : Type 0} (lock : M.Place → Lock) (carrie
   pub deeds : (s : ℕ) → AllTimed histories 0 (logs s)
   pub clocks : (x : M.Place) → carried (lock x) ≡ last_stamp (entry_stamps (histories x))
 
--- so it is before the first wave
+-- the times are right before the first wave
 abbrev pub TimesBegin : Machine → Type 0 → Type 0
 TimesBegin M Lock = (lock : M.Place → Lock) → Timed M lock (λ l. 0) (no_logs M) (no_histories M)
 

@@ -28,7 +28,7 @@ module _ {Place Act Answer What Part : Type 0} (Steps : ℕ → Part → What �
   abbrev pub Course : ℕ → Part → List (Deed Place Act Answer What) → Part → Type 0
   Course s p log q = RisesAbove 0 (deed_stamps log) × Does s p log q
 
--- what is heard changes objects so: that at the called place gives the answer, and all others stay
+-- what is heard changes the objects: the called one answers, all others stay
 abbrev pub Answered : {Place Act Answer Object : Type 0} → (Object → Act → Answer → Object → Type 0) → (Place → Object) → Option (Heard Place Act Answer) → (Place → Object) → Type 0
 Answered {Place} Gives old None new = (x : Place) → new x ≡ old x
 Answered {Place} Gives old (Some h) new = Gives (old h.0) h.1 h.2 (new h.0) × ((x : Place) → h.0 ≢ x → new x ≡ old x)

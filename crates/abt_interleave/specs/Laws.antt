@@ -99,7 +99,7 @@ at_place M x (e ∷ es) = if M.same e.act.0 x then record { stamp = e.stamp; cal
 abbrev pub AllGive : (M : Machine) → (M.Place → M.Object) → M.Place × M.Act → M.Answer → (M.Place → M.Object) → Type 0
 AllGive M old asked answer new = Answered M.Gives old (Some (asked.0, asked.1, answer)) new
 
--- a history of all objects gives one of each
+-- a history of all objects makes a history of each
 abbrev pub HistorySplits : Machine → Type 0
 HistorySplits M = TellsPlaces M → (old new : M.Place → M.Object) (history : List (Entry (M.Place × M.Act) M.Answer)) → Legal (AllGive M) old history new →
     (x : M.Place) → Legal M.Gives (old x) (at_place M x history) (new x)

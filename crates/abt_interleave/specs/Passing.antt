@@ -20,7 +20,7 @@ StepsPass M test =
     (S : M.State) (s : ℕ) (w : M.What) (heard : Option (Heard M.Place M.Act M.Answer)) (part : M.Part) → M.Sound S → s < M.streams
     → M.Steps s (M.part_of S s) w heard part → CallPasses M test S heard
 
--- an object gives an answer to an act that passes
+-- an object answers an act that passes
 abbrev pub GivesPassing : (M : Machine) → TestOf M → M.Object → M.Act → M.Answer → M.Object → Type 0
 GivesPassing M test old act answer new = M.Gives old act answer new × IsTrue (test old act)
 

@@ -4,7 +4,7 @@ ghost use Rattle.abt_interleave.specs.MergeLaws.{EventsSort, MembersMakeMerges, 
 
 use crate::machine::AnyMachine;
 
-/// Logs of finitely many streams have a merge, and but one.
+/// Logs of finitely many streams have exactly one merge.
 pub fn merges_exist<E>()
     ensures exist { MergesExist E }
     ensures one { MergesAreOne E }

@@ -14,7 +14,7 @@ pub fn events_lift<M: AnyMachine, E>()
     ensures { EventsLift M.machine E }
 {}
 
-/// A history of all objects gives one of each.
+/// A history of all objects makes a history of each.
 pub fn history_splits<M: AnyMachine>()
     ensures { HistorySplits M.machine }
 {}

@@ -11,12 +11,12 @@ pub fn next_stamps<M: AnyMachine>()
     ensures follows { NextFollowsClock M.machine }
 {}
 
-/// Stamps by Lamport's rule, with the next one.
+/// Stamps by Lamport's rule stay so with the next one.
 pub fn timed_grows<M: AnyMachine>()
     ensures { TimedGrows M.machine }
 {}
 
-/// Stamps that leave no gap, with the next one.
+/// Stamps that leave no gap leave none with one that is one more than a clock.
 pub fn no_gap_grows<M: AnyMachine>()
     ensures { NoGapGrows M.machine }
 {}

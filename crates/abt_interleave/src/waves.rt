@@ -4,22 +4,22 @@ ghost use Rattle.abt_interleave.specs.Laws.{CoursesJoin, GatheredJoin, Histories
 
 use crate::machine::AnyMachine;
 
-/// Two logs of a stream.
+/// Two logs of a stream, one after the other, are one log if the later stamps are greater.
 pub fn courses_join<M: AnyMachine>()
     ensures { CoursesJoin M.machine }
 {}
 
-/// Two histories of an object.
+/// Two histories of an object, one after the other, are one history if the later stamps are greater.
 pub fn histories_join<M: AnyMachine>()
     ensures { HistoriesJoin M.machine }
 {}
 
-/// Logs and histories that fit each other, of two waves.
+/// Logs and histories of two waves that fit each other still do when they are joined.
 pub fn matched_join<M: AnyMachine>()
     ensures { MatchedJoin M.machine }
 {}
 
-/// All logs and histories of two waves.
+/// The gathered logs and histories of two waves are gathered when they are joined.
 pub fn gathered_join<M: AnyMachine>()
     ensures { GatheredJoin M.machine }
 {}
