@@ -13,7 +13,7 @@ mod ringing;
 mod setting;
 
 pub use acts::{FutureAct, FutureAnswer};
-pub use end::{EndFunction, StoredEnd};
+pub use end::{End, EndFunction, StoredEnd};
 pub use fold::{Fold, FoldFunction, FoldShape, PlainSum, StoredFold};
 pub use folding::fold_on_threads;
 pub use future::CalledFuture;
