@@ -19,7 +19,7 @@ use std::sync::Wait;
 use std::thread;
 use std::thread::Threads;
 
-/// Sets the numbers from 1 to `n` on one future with so many workers, each on a thread of its own with a seat of one booth. Worker
+/// Sets the numbers from 1 to `n` on one future with `workers` workers, each on a thread of its own with a seat of one booth. Worker
 /// i sets those whose remainder by the number of workers is i. Returns the future and the last stamp.
 ///
 /// The clock is never worn: each call is asked at 0, so that the stamps are 1, 2, .. up to `n`.
