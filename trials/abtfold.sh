@@ -1,4 +1,6 @@
 # The program abtfold, as docs/FORMAT.md has it: each status with both outputs, and all ways out.
+words_are_bad='abtfold: bad command line'
+cannot_write='abtfold: cannot write'
 
 # Folds, each with its words and what it prints.
 try_sums() {
@@ -30,22 +32,22 @@ try_bad_words() {
     for words in '' 3 '3 100 1' '0 5' '9 5' '3 0' '3 4097' '-3 5' '+3 5' '3 -5' '3 +5' '3x 5' '3 5x' '3.0 5' '0x3 5' 'three 5' \
         '3 4294967297' '18446744073709551617 5' '3 99999999999999999999999999999999' '-- 3 100' '--help' '-h' '--version' help; do
         call "$program" $words
-        came "the words '$words'" 2 "" ""
+        came "the words '$words'" 2 "" "$words_are_bad"
     done
     call "$program" '' 5
-    came "an empty word" 2 "" ""
+    came "an empty word" 2 "" "$words_are_bad"
     call "$program" 3 ''
-    came "an empty second word" 2 "" ""
+    came "an empty second word" 2 "" "$words_are_bad"
     call "$program" '3 100'
-    came "two words in one" 2 "" ""
+    came "two words in one" 2 "" "$words_are_bad"
     call "$program" ' 3' 100
-    came "a blank before a number" 2 "" ""
+    came "a blank before a number" 2 "" "$words_are_bad"
     call "$program" 3 $'100\n'
-    came "a line feed after a number" 2 "" ""
+    came "a line feed after a number" 2 "" "$words_are_bad"
     call "$program" 3 $'1\xff'
-    came "a word that is not UTF-8" 2 "" ""
+    came "a word that is not UTF-8" 2 "" "$words_are_bad"
     call "$program" ٣ 100
-    came "digits that are not ASCII" 2 "" ""
+    came "digits that are not ASCII" 2 "" "$words_are_bad"
 }
 
 # Each write fails in turn, and writes move few bytes.
@@ -59,33 +61,44 @@ try_few_bytes() {
     for number in 1 2 3; do
         head -c $((3 * (number - 1))) "$room/whole" >"$room/wanted"
         meddled TRIAL_WRITE=3 TRIAL_NO_WRITE=$number "$program" 3 100
-        came "write $number fails" 6 "@$room/wanted" ""
+        # (the message is written in such pieces as well, after the write that fails)
+        came "write $number fails" 6 "@$room/wanted" "$cannot_write"
     done
     meddled TRIAL_WRITE=3 TRIAL_NO_WRITE=4 "$program" 3 100
     came "no write fails" 0 "sum 5050" ""
+    meddled TRIAL_WRITE=1 "$program" 3
+    came "a message in writes of one byte" 2 "" "$words_are_bad"
+    meddled TRIAL_NO_WRITE=1 "$program" 3
+    came "a message cannot be written" 2 "" ""
 }
 
 try_writing() {
-    fills "" "$program" 3 100
+    fills "$cannot_write" "$program" 3 100
     "$program" 3 100 >&- 2>"$room/err"
     status=$?
-    ended "a closed standard output" 6 ""
+    ended "a closed standard output" 6 "$cannot_write"
     "$program" 3 100 2>"$room/err" 1</dev/null
     status=$?
-    ended "a standard output that is open for reading" 6 ""
+    ended "a standard output that is open for reading" 6 "$cannot_write"
     unread "$program" 3 100
-    ended "a pipe that nobody reads" 6 ""
+    ended "a pipe that nobody reads" 6 "$cannot_write"
     slowly "$program" 3 100
     came "a slow reader" 0 "sum 5050" ""
     "$program" 3 100 >"$room/out" 2>&- <&-
     status=$?
     : >"$room/err"
     came "closed standard input and error" 0 "sum 5050" ""
+    "$program" 0 100 >"$room/out" 2>&- <&-
+    status=$?
+    : >"$room/err"
+    came "bad words with closed standard input and error" 2 "" ""
     "$program" 3 100 >&- 2>&- <&-
     status=$?
+    : >"$room/err"
     ended "all three closed" 6 ""
     "$program" 0 100 >&- 2>&- <&-
     status=$?
+    : >"$room/err"
     ended "bad words with all three closed" 2 ""
     echo 7 7 >"$room/in"
     call "$program" 3 100 <"$room/in"

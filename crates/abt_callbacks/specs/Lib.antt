@@ -5,3 +5,4 @@ pub mod Program
 pub mod Rings
 pub mod Runs
 pub mod Seen
+pub mod Stored

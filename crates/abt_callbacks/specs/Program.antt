@@ -1,18 +1,18 @@
 -- What a call of the program was given, and what each status says of what it left.
-use Rattle.std.specs.Prelude.{◌≡◌, ◌≢◌, ℕ, List, [], ◌∷◌, ◌++◌, Option, codes, decimal}
+use Rattle.std.specs.Prelude.{◌≡◌, ◌≢◌, ℕ, List, [], ◌∷◌, ◌++◌, codes, decimal, ⊤}
 use Rattle.abt_machine.specs.Spelling.{SaysNumber}
 use Rattle.abt_machine.specs.Words.{Text, ended}
-use Rattle.abt_source.specs.Source.{Rose, Took, TookPrefix}
+use Rattle.abt_shell.specs.declared.status.Stop.{Stop}
+use Rattle.abt_shell.specs.declared.status.Stop.TheVariants.{BadWords, BadLine, CannotRead, OutOfMemory}
+use Rattle.abt_shell.specs.Calls.{EndsBy, Left, Program}
+use Rattle.abt_shell.specs.Told.{Grew}
 use Rattle.abt_callbacks.specs.Folding.{number_limit}
 use Rattle.abt_callbacks.specs.Runs.{plain_sum}
-use Rattle.abt_callbacks.specs.declared.status.Status.{Status}
-use Rattle.abt_callbacks.specs.declared.status.Status.TheVariants.{Written, BadWords, CannotWrite, OutOfMemory}
 
--- the words, and of the output the bytes taken, if they are observable, and the count of faults, before and afterwards
+-- the words, and what the call left
 pub record Call : Type 0 where
   pub words : List Text
-  pub out : Option Text × Option Text
-  pub faults : ℕ × ℕ
+  pub left : Left
 
 -- how many workers the words ask for at most
 abbrev pub worker_limit : ℕ
@@ -30,26 +30,39 @@ pub record Asks (words : List Text) (workers n : ℕ) : Type 0 where
 abbrev pub AsksNothing : List Text → Type 0
 AsksNothing words = (workers n : ℕ) → Asks words workers n → ⊥
 
+-- they ask for a sum
+pub record AsksSum (words : List Text) : Type 0 where
+  pub workers : ℕ
+  pub numbers : ℕ
+  pub asks : Asks words workers numbers
+
 -- the line of the sum of the numbers from 1 to n
 abbrev pub sum_line : ℕ → Text
 sum_line n = ended (codes "sum " ++ decimal (plain_sum n))
 
--- the exit status
-abbrev pub number_of : Status → ℕ
-number_of Written = 0
-number_of BadWords = 2
-number_of CannotWrite = 6
-number_of OutOfMemory = 7
+-- the text is the line of the sum that the words ask for
+pub record IsSumLine (words : List Text) (text : Text) : Type 0 where
+  pub asked : AsksSum words
+  pub line : text ≡ sum_line asked.numbers
 
--- what each status says
-abbrev pub Holds : Status → Call → Type 0
-Holds Written c = (workers n : ℕ) × Asks c.words workers n × Took c.out.0 c.out.1 (sum_line n)
-Holds BadWords c = AsksNothing c.words × Took c.out.0 c.out.1 []
-Holds CannotWrite c = (workers n : ℕ) × Asks c.words workers n × TookPrefix c.out.0 c.out.1 (sum_line n) × Rose c.faults.0 c.faults.1
-Holds OutOfMemory c = (workers n : ℕ) × Asks c.words workers n × Took c.out.0 c.out.1 []
+-- Why a call stops before its first write. It reads nothing.
+abbrev pub StopsFold : List Text → Stop → Type 0
+StopsFold words BadWords = AsksNothing words
+StopsFold words (BadLine line w) = ⊥
+StopsFold words CannotRead = ⊥
+StopsFold words OutOfMemory = AsksSum words
+
+-- the program, of which each status says what `Wrote`, `WrotePrefix` or `StoppedBy` of abt_shell has; it comes to a sum
+abbrev pub program : Call → Program ⊤
+program c = record {
+  name = codes "abtfold";
+  number = λ _. 0;
+  Prints = λ _. IsSumLine c.words;
+  Stops = StopsFold c.words;
+}
 
 -- The exit status has its cause. The words decide whether it is 2, and if no write fails it is 0, 2 or 7.
-pub record IsAnswered (status : ℕ) (c : Call) : Type 0 where
-  pub cause : (of : Status) × (status ≡ number_of of) × Holds of c
-  pub words : AsksNothing c.words → status ≡ 2
-  pub writes : (Rose c.faults.0 c.faults.1 → ⊥) → status ≢ 6
+pub record IsAnswered (n : ℕ) (c : Call) : Type 0 where
+  pub cause : EndsBy (program c) c.left n
+  pub words : AsksNothing c.words → n ≡ 2
+  pub writes : (Grew c.left.out_faults → ⊥) → n ≢ 6

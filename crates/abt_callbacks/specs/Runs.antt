@@ -4,7 +4,7 @@ use Rattle.std.specs.List.{All, count_by, filter, range_with_len}
 use Rattle.abt_interleave.specs.declared.entries.Entry.{Entry}
 use Rattle.abt_interleave.specs.Histories.{last_stamp, Legal, entry_stamps}
 use Rattle.booth_caller.specs.Calling.{acts_of}
-use Rattle.abt_callbacks.specs.declared.fold.FoldShape.TheVariants.{Sum}
+use Rattle.abt_callbacks.specs.declared.fold.FoldShape.{FoldShape}
 use Rattle.abt_callbacks.specs.declared.acts.FutureAct.{FutureAct}
 use Rattle.abt_callbacks.specs.declared.acts.FutureAct.TheVariants.{Set}
 use Rattle.abt_callbacks.specs.declared.acts.FutureAnswer.{FutureAnswer}
@@ -30,11 +30,11 @@ is_ready Full = false
 abbrev pub plain_sum : ℕ → ℕ
 plain_sum n = n * (n + 1) / 2
 
--- One legal history leads from the empty future to this one: each worker set its numbers, each once, in order, and nothing else was asked; exactly one
--- set was answered with the fold's answer; and the future keeps the plain sum.
-pub record IsFolded (workers n : ℕ) (future : CalledFutureValue) (clock : ℕ) : Type 0 where
+-- One legal history leads from the empty future of this fold to this one: each worker set its numbers, each once, in order, and nothing else was asked;
+-- exactly one set was answered with the fold's answer; and the future keeps the plain sum.
+pub record IsFolded {F : Type 0} (shape_of : F → FoldShape) (May : F → List ℕ → ℕ → Type 0) (fold : F) (workers n : ℕ) (future : CalledFutureValue F) (clock : ℕ) : Type 0 where
   pub history : List (Entry FutureAct FutureAnswer)
-  pub legal : Legal Does (empty Sum n) history future
+  pub legal : Legal (Does shape_of May) (empty fold n) history future
   pub last : clock ≡ last_stamp (entry_stamps history)
   pub of_workers : All (λ e. e.caller < workers) history
   pub sets : (worker : ℕ) → worker < workers → acts_of worker history ≡ sets_of workers n worker

@@ -22,7 +22,7 @@ pub enum FutureAnswer {
     Kept,
     /// The fold's answer, which came with the last value.
     Ready(u64),
-    /// There is no answer.
+    /// There is no answer yet; also the answer to every reset.
     Vacant,
     /// The future has all its values.
     Full,
@@ -38,7 +38,7 @@ impl<F: Fold> Object for CalledFuture<F> {
 
     ghost allowed = { λ future act. Unit {0} };
 
-    ghost does = { λ old act answer new. Does (future_of F.shape old) act answer (future_of F.shape new) };
+    ghost does = { λ old act answer new. Does F.shape F.may_return (future_of old) act answer (future_of new) };
 
     ghost keeps = { λ _ _ _ _ _ _ _. tt };
 

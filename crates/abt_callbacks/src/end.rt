@@ -2,7 +2,19 @@
 
 ghost use Rattle.std.specs.Prelude.{◌≡◌, ◌<◌, ◌^◌, ℕ, true};
 
-/// A function of a number.
+/// A function of a number, which is called for the value of a key.
+pub trait End {
+    ghost use Rattle.std.specs.Prelude.{ℕ};
+
+    // Whether it may return this answer for a value.
+    ghost may_answer: { Self → ℕ → ℕ → Type 0 };
+
+    /// What the function returns for this value.
+    fn answer(&self, value: u64) -> u64
+        ensures { may_answer self.now value result };
+}
+
+/// A function of a number that is chosen at run time.
 pub type EndFunction = Box<dyn Fn(u64) -> u64 + Send + Sync>;
 
 /// The function of a key, stored beside what it answers: the number that it is called for if `same` is true, else any number.
@@ -15,19 +27,25 @@ pub struct StoredEnd {
 }
 
 impl StoredEnd {
-    /// Stores the function beside what it answers.
+    ghost use Rattle.abt_callbacks.specs.Stored.{MayAnswer};
+
+    /// Stores the function, whose answers are then the key's, beside what it answers.
     pub fn new(same: bool, function: EndFunction) -> StoredEnd
         requires callable { (value : ℕ) → value < 2 ^ 64 → EndFunction.pre function value }
         requires fits { (value answer : ℕ) → value < 2 ^ 64 → EndFunction.post function value answer → same ≡ true → answer ≡ value }
-        ensures { result.same ≡ same }
+        ensures same { result.same ≡ same }
+        ensures answers { (value answer : ℕ) → MayAnswer result value answer → EndFunction.post function value answer }
     {
         StoredEnd { same, function }
     }
+}
 
-    // What the function answers for this value.
-    pub(crate) fn answer(&self, value: u64) -> u64
-        ensures { self.now.same ≡ true → result ≡ value }
-    {
+impl End for StoredEnd {
+    ghost use Rattle.abt_callbacks.specs.Stored.{MayAnswer};
+
+    ghost may_answer = { λ end value answer. MayAnswer end value answer };
+
+    fn answer(&self, value: u64) -> u64 {
         (self.function)(value)
     }
 }

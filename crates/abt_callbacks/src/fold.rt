@@ -1,6 +1,6 @@
 //! Folds: functions that make one number of a list of numbers.
 
-ghost use Rattle.std.specs.Prelude.{◌≡◌, ◌<◌, sum};
+ghost use Rattle.std.specs.Prelude.{◌≡◌, ◌<◌, ◌%◌, ◌^◌, ℕ, List, sum};
 ghost use Rattle.abt_callbacks.specs.Folding.{Folds, IsFoldable};
 ghost use Rattle.abt_callbacks.specs.declared.fold.FoldShape.TheVariants as shape;
 
@@ -21,15 +21,20 @@ pub enum FoldShape {
 
 /// A function of 1 to 4,096 numbers, whose shape says what it answers.
 pub trait Fold {
+    ghost use Rattle.std.specs.Prelude.{ℕ, List};
     ghost use Rattle.abt_callbacks.specs.declared.fold.FoldShape.{FoldShape};
 
-    // What it answers.
+    // What it answers of a list.
     ghost shape: { Self → FoldShape };
 
-    /// The number that it makes of these.
+    // Whether it may return this number for a list.
+    ghost may_return: { Self → List ℕ → ℕ → Type 0 };
+
+    /// Folds the values into one number.
     fn fold(&self, values: &[u64]) -> u64
         requires { IsFoldable values.now }
-        ensures { Folds (shape self.now) values.now result };
+        ensures folds { Folds (shape self.now) values.now result }
+        ensures returned { may_return self.now values.now result };
 }
 
 /// A function of a list of numbers.
@@ -45,18 +50,25 @@ pub struct StoredFold {
 }
 
 impl StoredFold {
-    /// Stores the function beside its shape.
+    ghost use Rattle.abt_callbacks.specs.Stored.{MayReturn};
+
+    /// Stores the function, whose answers are then the fold's, beside its shape.
     pub fn new(shape: FoldShape, function: FoldFunction) -> StoredFold
         requires callable { (list : _) → IsFoldable list.now → FoldFunction.pre function list }
         requires fits { (list answer : _) → IsFoldable list.now → FoldFunction.post function list answer → Folds shape list.now answer }
-        ensures { result.shape ≡ shape }
+        ensures shape { result.shape ≡ shape }
+        ensures answers { (list : List ℕ) (answer : ℕ) → MayReturn result list answer → (values : _) × (values.now ≡ list) × FoldFunction.post function values answer }
     {
         StoredFold { shape, function }
     }
 }
 
 impl Fold for StoredFold {
+    ghost use Rattle.abt_callbacks.specs.Stored.{MayReturn};
+
     ghost shape = { λ fold. fold.shape };
+
+    ghost may_return = { λ fold list answer. MayReturn fold list answer };
 
     fn fold(&self, values: &[u64]) -> u64 {
         (self.function)(values)
@@ -69,6 +81,8 @@ pub struct PlainSum;
 
 impl Fold for PlainSum {
     ghost shape = { λ _. shape.Sum };
+
+    ghost may_return = { λ _ list answer. answer ≡ sum list % 2 ^ 64 };
 
     fn fold(&self, values: &[u64]) -> u64 {
         let mut sum = 0u64;

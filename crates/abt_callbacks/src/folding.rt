@@ -19,8 +19,8 @@ use std::sync::Wait;
 use std::thread;
 use std::thread::Threads;
 
-/// Sets the numbers from 1 to `n` on one future with so many workers, each on a thread of its own with a seat of one booth. Worker
-/// i sets those whose remainder is i. The future that is left, and the last stamp.
+/// Sets the numbers from 1 to `n` on one future with `workers` workers, each on a thread of its own with a seat of one booth. Worker
+/// i sets those whose remainder by the number of workers is i. Returns the future and the last stamp.
 ///
 /// The clock is never worn: each call is asked at 0, so that the stamps are 1, 2, .. up to `n`.
 pub fn fold_on_threads<R: Threads + Wait + Sync, F: Fold + Send + Drop>(
@@ -33,7 +33,7 @@ pub fn fold_on_threads<R: Threads + Wait + Sync, F: Fold + Send + Drop>(
     requires workers { 1 ≤ workers }
     requires numbers { (1 ≤ n) × (n ≤ number_limit) }
     requires fold { F.shape fold ≡ shape.Sum }
-    ensures { IfOk result (λ closed. IsFolded workers n (future_of F.shape closed.object) closed.clock) }
+    ensures { IfOk result (λ closed. IsFolded F.shape F.may_return fold workers n (future_of closed.object) closed.clock) }
 {
     let future = CalledFuture::new(alloc, n, fold)?;
     let Ok((booth, mut seats)) = Booth::make(alloc, future, workers) else {

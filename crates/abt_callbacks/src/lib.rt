@@ -11,12 +11,11 @@ mod program;
 mod ring;
 mod ringing;
 mod setting;
-mod status;
 
 pub use acts::{FutureAct, FutureAnswer};
-pub use end::{EndFunction, StoredEnd};
+pub use end::{End, EndFunction, StoredEnd};
 pub use fold::{Fold, FoldFunction, FoldShape, PlainSum, StoredFold};
 pub use folding::fold_on_threads;
 pub use future::CalledFuture;
-pub use program::abtfold;
+pub use program::{NAME, abtfold};
 pub use ring::{KeyRing, RING_LIMIT};

@@ -2,53 +2,65 @@
 
 ghost use Rattle.std.specs.Prelude.{◌≡◌, ◌≤◌, ℕ, IfOk, MatchOption, map, string_bytes};
 ghost use Rattle.abt_machine.specs.Spelling.{SaysNumber};
+ghost use Rattle.abt_shell.specs.Calls.{left};
+ghost use Rattle.abt_shell.specs.Told.{IsTold};
 ghost use Rattle.abt_callbacks.specs.declared.fold.FoldShape.TheVariants as shape;
 ghost use Rattle.abt_callbacks.specs.Folding.{number_limit};
 ghost use Rattle.abt_callbacks.specs.Program.{Asks, AsksNothing, IsAnswered, sum_line};
 
 use crate::fold::Fold;
 use crate::folding::fold_on_threads;
-use crate::status::Status;
 use abt_lines::{end_line, push_number};
 use abt_machine::Want;
-use abt_source::{Failed, Sink, write_whole};
+use abt_shell::{Stop, write_out};
+use abt_source::{Sink, write_whole};
 use std::alloc::Global;
 use std::sync::Wait;
 use std::thread::Threads;
 
-// The most workers, and the most numbers.
+/// The name of the program.
+pub const NAME: &[u8] = b"abtfold";
+
+// The most workers.
 const WORKERS: u32 = 8;
 
+// The most numbers.
 const NUMBERS: u32 = 4096;
 
-/// What the program does: it folds the numbers from 1 to N with W workers on threads, and writes the sum. The words are W, from
-/// 1 to 8, and N, from 1 to 4,096.
+/// What the command of the program does: folds the numbers from 1 to N with W workers on threads, and writes the sum. The words
+/// are W, from 1 to 8, and N, from 1 to 4,096.
 ///
-/// Exit statuses: 0 written, 2 bad words, 6 cannot write, 7 out of memory.
-pub fn abtfold<R: Threads + Wait + Sync, K: Sink, F: Fold + Send + Drop>(
+/// Exit statuses: 0 the sum is written, 2 bad command line, 6 cannot write, 7 out of memory.
+pub fn abtfold<R: Threads + Wait + Sync, K: Sink, E: Sink, F: Fold + Send + Drop>(
     rt: &R,
     alloc: Global,
     words: &[String],
     out: &mut K,
+    err: &mut E,
     fold: F,
 ) -> u8
     requires { F.shape fold ≡ shape.Sum }
     ensures { IsAnswered result (record {
       words = map string_bytes words.now;
-      out = (K.taken out.old, K.taken out.new);
-      faults = (K.faults out.old, K.faults out.new);
+      left = left (0, 0) (K.taken out.old, K.taken out.new) (K.faults out.old, K.faults out.new) (E.taken err.old, E.taken err.new) (E.faults err.old, E.faults err.new);
     }) }
 {
     let Some((workers, n)) = asked(words) else {
-        return Status::BadWords.number();
+        tell(err, b"abtfold: bad command line\n");
+        return Stop::BadWords.number();
     };
     let Ok(line) = line(rt, alloc, workers, n, fold) else {
-        return Status::OutOfMemory.number();
+        tell(err, b"abtfold: out of memory\n");
+        return Stop::OutOfMemory.number();
     };
-    match write_whole(out, &line) {
-        Ok(()) => Status::Written.number(),
-        Err(Failed) => Status::CannotWrite.number(),
-    }
+    write_out(NAME, out, err, &line, 0)
+}
+
+// Writes a message. If a write fails, the sink has a prefix of it.
+fn tell<E: Sink>(err: &mut E, message: &[u8])
+    ensures { IsTold (E.taken err.old, E.taken err.new) (E.faults err.old, E.faults err.new) message.now }
+{
+    let _ = write_whole(err, message);
 }
 
 // How many workers and numbers the words ask for.

@@ -10,8 +10,8 @@ pub const RING_LIMIT: usize = 16;
 
 /// A ring of 1 to `RING_LIMIT` keys.
 #[derive(Drop)]
-pub struct KeyRing {
-    pub(crate) ends: Vec<StoredEnd>,
+pub struct KeyRing<E = StoredEnd> {
+    pub(crate) ends: Vec<E>,
     pub(crate) values: Vec<Option<u64>>,
     pub(crate) answers: Vec<u64>,
     ghost limits: { (1 ≤ length ends.items) × (length ends.items ≤ RING_LIMIT) },

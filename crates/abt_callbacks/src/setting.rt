@@ -16,7 +16,7 @@ impl<F: Fold> CalledFuture<F> {
     where
         F: Drop,
         requires { (1 ≤ n) × (n ≤ number_limit) }
-        ensures { IfOk result (λ f. future_of F.shape f ≡ empty (F.shape fold) n) }
+        ensures { IfOk result (λ f. future_of f ≡ empty fold n) }
     {
         let values = Vec::with_capacity(alloc, n as usize)?;
         Ok(CalledFuture {
@@ -27,10 +27,13 @@ impl<F: Fold> CalledFuture<F> {
         })
     }
 
-    /// Sets one more value. Some is the fold's answer, which comes with the last value and is kept. A future that has all its
-    /// values is full.
+    /// Sets one more value. Some is the fold's answer, which comes with the last value and is kept.
+    ///
+    /// # Errors
+    ///
+    /// `FutureFull` if all values stand; nothing then changes.
     pub fn set(&mut self, value: u64) -> Result<Option<u64>, Code>
-        ensures { SetGives (future_of F.shape self.old) value result (future_of F.shape self.new) }
+        ensures { SetGives F.shape F.may_return (future_of self.old) value result (future_of self.new) }
     {
         if self.values.len() == self.most as usize {
             return Err(Code::FutureFull);
@@ -46,15 +49,15 @@ impl<F: Fold> CalledFuture<F> {
 
     /// The kept answer, None if fewer values stand than the future is for.
     pub fn value(&self) -> Option<u64>
-        ensures kept { result ≡ (future_of F.shape self.now).answer }
-        ensures vacant { (result ≡ None) ↔ (length (future_of F.shape self.now).values < (future_of F.shape self.now).most) }
+        ensures kept { result ≡ (future_of self.now).answer }
+        ensures vacant { (result ≡ None) ↔ (length (future_of self.now).values < (future_of self.now).most) }
     {
         self.answer
     }
 
     /// Takes all values away.
     pub fn reset(&mut self)
-        ensures { future_of F.shape self.new ≡ empty (future_of F.shape self.old).shape (future_of F.shape self.old).most }
+        ensures { future_of self.new ≡ empty (future_of self.old).fold (future_of self.old).most }
     {
         self.values.clear();
         self.answer = None;

@@ -26,7 +26,7 @@ total opening closed (e ∷ es) small leads =
     let parts = sum_by-cons (λ (e : Entry ℕ ℕ). e.act) e es in
     rest ∙ (ap (λ (n : ℕ). (n + sum_by (λ e. e.act) es) % 2 ^ 64) now ∙ (added opening.sum e.act (sum_by (λ e. e.act) es) ∙ ap (λ (n : ℕ). (opening.sum + n) % 2 ^ 64) (sym parts)))
 
--- what a closed booth round a new counter has counted, if each of its seats was to add 1 so often
+-- what a closed booth round a new counter has counted, if each of its seats was to add 1 `times` times
 pub counted : (threads times clock : ℕ) (opening object : Counter) (known : List (ℕ × List (Entry ℕ ℕ))) → opening.sum ≡ 0
     → (closed : IsClosed Adds opening threads known object clock) → ((k : ℕ) → k < threads → HasAsked k (replicate times 1) closed.history) → IsCounted threads times object.sum clock
 counted threads times clock opening object known zero closed asked =

@@ -36,8 +36,7 @@ impl Object for Counter {
     }
 }
 
-/// Counts from 0 with the given number of threads, each adding 1 the given number of times, and closes the booth. None
-/// means out of memory.
+/// Counts from 0 with `threads` threads, each of which adds 1 `times` times, and closes the booth. None means out of memory.
 pub fn count<R: Threads + Wait + Sync>(
     rt: &R,
     alloc: Global,
@@ -54,7 +53,7 @@ pub fn count<R: Threads + Wait + Sync>(
     Some(booth.close(seats))
 }
 
-/// Adds 1 the given number of times, with one seat.
+/// Adds 1 `times` times, with one seat.
 pub fn add<R: Wait>(rt: &R, booth: &Booth<Counter>, seat: &mut Seat<Counter>, times: u32)
     requires { IsSeatOf booth.now seat.old }
     ensures seat { IsSeatOf booth.now seat.new }
@@ -66,7 +65,7 @@ pub fn add<R: Wait>(rt: &R, booth: &Booth<Counter>, seat: &mut Seat<Counter>, ti
     }
 }
 
-/// Adds 1 the given number of times with each seat, each on a thread of its own.
+/// Adds 1 `times` times with each seat, each on a thread of its own.
 pub fn add_on_threads<R: Threads + Wait + Sync>(
     rt: &R,
     booth: &Booth<Counter>,

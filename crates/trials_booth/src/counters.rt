@@ -4,9 +4,10 @@ ghost use Rattle.std.specs.Prelude.{◌≡◌, ◌≤◌, ◌^◌};
 ghost use Rattle.abt_booth.specs.Seats.{number_of, IsSeatOf};
 
 use abt_booth::{Booth, Called, Seat};
-use booth_caller::{Counter, count};
+use booth_caller::{Counter, add_on_threads, count};
 use std::process::Abort;
 use std::sync::Wait;
+use weave_caller::add_twice;
 
 // The last stamp.
 const LAST: u64 = 1 << 62;
@@ -71,6 +72,21 @@ fn a_counter_answers_behind_a_booth(rt: HostRuntime) {
 fn four_threads_add_a_thousand_times_each(rt: HostRuntime) {
     let closed = count(&rt, rt.alloc(), 4, 1000).expect(&rt, "there is memory");
     assert_eq!(rt; (closed.object.sum, closed.clock), (4000, 4000));
+}
+
+#[test]
+fn a_booth_closes_with_all_its_seats(rt: HostRuntime) {
+    let Ok((booth, mut seats)) = Booth::make(rt.alloc(), Counter { sum: 0 }, 4) else {
+        panic!(rt; "no memory")
+    };
+    add_on_threads(&rt, &booth, seats.as_mut_slice(), 1000);
+    let closed = booth.close(seats);
+    assert_eq!(rt; (closed.object.sum, closed.clock), (4000, 4000));
+}
+
+#[test]
+fn two_streams_add_to_one_sum(rt: HostRuntime) {
+    assert_eq!(rt; add_twice(&rt, rt.alloc()), Some(7));
 }
 
 // `rt try --test --fail-alloc N`, for N from 1 to 4, refuses each allocation of `make` in turn.

@@ -1,8 +1,10 @@
 //! A ring of keys whose values end by stored functions.
 
-ghost use Rattle.std.specs.Prelude.{◌≡◌, ◌<◌, true};
+ghost use Rattle.std.specs.Prelude.{◌≡◌, ◌<◌, length, true};
+ghost use Rattle.abt_callbacks.specs.Rings.{ends_of};
 
-use abt_callbacks::{KeyRing, StoredEnd};
+use abt_callbacks::{KeyRing, RING_LIMIT, StoredEnd};
+use std::process::Abort;
 use std::test::Fail;
 
 fn same(value: u64) -> u64
@@ -15,24 +17,60 @@ fn six(_value: u64) -> u64 {
     6
 }
 
+// What is set of a ring, key by key, and what its end then answers.
+type Round = (&'static [(u32, u64)], &'static [u64]);
+
+// Rings, by whether the function of each key answers the number that it is called for, or 6, and their rounds.
+const RINGS: [(&[bool], &[Round]); 2] = [
+    (&[true, true], &[(&[(1, 4)], &[4]), (&[], &[])]),
+    (
+        &[true, true, false],
+        &[
+            (&[(1, 4)], &[4]),
+            (&[], &[]),
+            (&[(2, 4), (0, 7), (0, 8)], &[8, 6]),
+        ],
+    ),
+];
+
+// Each round of a ring with `keys` keys has its answers.
+fn run_rounds<R: Abort>(rt: &R, ring: &mut KeyRing, keys: u32, rounds: &[Round])
+    requires { keys ≡ length (ends_of ring.old) }
+{
+    for (sets, answers) in rounds {
+        for (key, value) in *sets {
+            assert!(rt; *key < keys);
+            ring.set(*key, *value);
+        }
+        ends_with(rt, ring, answers);
+    }
+}
+
+// The ring ends with these answers.
+fn ends_with<R: Abort>(rt: &R, ring: &mut KeyRing, answers: &[u64])
+    ensures { ends_of ring.new ≡ ends_of ring.old }
+{
+    let answered = ring.end();
+    assert!(rt; answered == answers);
+}
+
 #[test]
-fn a_ring_calls_for_the_last_values_in_order(rt: HostRuntime) -> Result<(), Fail> {
+fn rings_call_for_the_last_values_in_order(rt: HostRuntime) -> Result<(), Fail> {
     let alloc = rt.alloc();
-    let ends = vec![in alloc;
-        StoredEnd::new(true, Box::new(alloc, same)?),
-        StoredEnd::new(true, Box::new(alloc, same)?),
-        StoredEnd::new(false, Box::new(alloc, six)?),
-    ]?;
-    let mut ring = KeyRing::new(alloc, ends)?;
-    ring.set(1, 4);
-    ring.end();
-    assert_eq!(rt; ring.answers(), [4].as_slice());
-    ring.end();
-    assert!(rt; ring.answers().is_empty());
-    ring.set(2, 4);
-    ring.set(0, 7);
-    ring.set(0, 8);
-    ring.end();
-    assert_eq!(rt; ring.answers(), [8, 6].as_slice());
+    for (functions, rounds) in RINGS {
+        let mut ends = Vec::new(alloc);
+        for answers_same in functions {
+            let end = if *answers_same {
+                StoredEnd::new(true, Box::new(alloc, same)?)
+            } else {
+                StoredEnd::new(false, Box::new(alloc, six)?)
+            };
+            ends.push(end)?;
+        }
+        let keys = ends.len();
+        assert!(rt; 1 <= keys && keys <= RING_LIMIT);
+        let mut ring = KeyRing::new(alloc, ends)?;
+        run_rounds(&rt, &mut ring, keys as u32, rounds);
+    }
     Ok(())
 }

@@ -22,7 +22,7 @@ loop-below-preserved g c =
     elim c.if-value-workers.branch [
       | then-value-workers w ↦
           let hit = w.if-value-workers.true in
-          let asked = asks-more (λ old act answer new. Does (future_of g.F.Fold.shape old) act answer (future_of g.F.Fold.shape new)) c.args.booth.now c.loop-below.seat w.call.new.seat (number_of first) more (Set (n + 1)) w.call.result (seen_of first) i.number i.asked w.call.ensures.reply in record {
+          let asked = asks-more (λ old act answer new. Does g.F.Fold.shape g.F.Fold.may_return (future_of old) act answer (future_of new)) c.args.booth.now c.loop-below.seat w.call.new.seat (number_of first) more (Set (n + 1)) w.call.result (seen_of first) i.number i.asked w.call.ensures.reply in record {
             seat = subst (IsSeatOf c.args.booth.now) (sym w.seat-is) w.call.ensures.seat;
             bound = lt;
             number = ap number_of w.seat-is ∙ (w.call.ensures.number ∙ i.number);
