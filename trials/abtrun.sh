@@ -225,8 +225,10 @@ try_reading() {
         cp "$hi" "$room/text.abt"
         chmod 000 "$room/text.abt"
         call "$program" run "$room/text.abt"
-        came "a file that may not be read" 5 "" "$cannot_read"
+        came "a file that must not be read" 5 "" "$cannot_read"
         chmod 644 "$room/text.abt"
+    else
+        skip "a file that must not be read" "root can read every file"
     fi
 }
 
@@ -289,6 +291,7 @@ try_writing
 signalled TERM 143 "$hi" "$program" run -
 signalled HUP 129 "$hi" "$program" run -
 signalled KILL 137 "$hi" "$program" run -
+signalled INT 130 "$hi" "$program" run -
 try_checks
 refuse_memory
 rm "$room/fifo"

@@ -1,44 +1,65 @@
 # The program abtwaves, as docs/FORMAT.md has it: each status with both outputs, and all ways in and out.
-
-lives=crates/abtwaves/data
+lives=$root/crates/abtwaves/data
+made=$root/crates/abtwaves/stdout
+words_are_bad='abtwaves: bad command line'
+cannot_read='abtwaves: cannot read'
+cannot_write='abtwaves: cannot write'
 
 # The workload without the event that starts stream 1.
 stuck_text() { grep -v '^eset 0$' "$lives/made.abt"; }
+
+# Two units that revive each other for ever.
+reviving_text() {
+    printf '%s\n' 'abt 1' 'streams 1' 'pool 0 fifo mpmc' 'sched 0 prio 0' 'stream 0 main 0' 'units 2' 'unit 0 ult at 0' 'revive 1 0' \
+        'unit 1 ult at 0' 'revive 0 0' end
+}
+
+# A workload of a hundred units, no lives, and what it prints.
+write_long() {
+    local unit
+    printf '%s\n' 'abt 2' 'streams 1' 'pool 0 fifo mpmc' 'sched 0 prio 0' 'stream 0 main 0' 'units 100' 'many 0 100 ult at 0' 'say hello' \
+        end >"$room/long.abt"
+    : >"$room/none.lives"
+    {
+        for unit in $(seq 0 99); do echo "unit $unit done: hello"; done
+        printf '%s\n' 'tally units 100 unborn 0 pool 0 stream 0 blocked 0 done 100 asked 0 access 0 steps 100' finished 'wave 0 from 0 streams 0'
+    } >"$room/long.out"
+}
 
 try_runs() {
     local time
     for time in 1 2 3 4 5 6 7 8 9 10; do
         call "$program" "$lives/made.abt" "$lives/made.lives"
-        came "a stream that is born, time $time" 0 "@crates/abtwaves/stdout" ""
+        came "a stream that is born, time $time" 0 "@$made" ""
     done
     stuck_text >"$room/stuck.abt"
     call "$program" "$room/stuck.abt" "$lives/made.lives"
     came "a stream that is never born" 1 "$(printf '%s\n' 'unit 0 done:' 'unit 1 pool 1:' 'tally units 2 unborn 0 pool 1 stream 0 blocked 0 done 1 asked 0 access 0 steps 1' stuck 'wave 0 from 0 streams 0')" ""
-    : >"$room/none.lives"
     call "$program" "$lives/made.abt" "$room/none.lives"
     holds "without lives both streams run" [ "$status" = 0 ]
+    reviving_text >"$room/reviving.abt"
+    call "$program" "$room/reviving.abt" "$room/none.lives"
+    came "as many steps as a stream may make" 4 "$(printf '%s\n' 'unit 0 stream 0: !unit-state' 'unit 1 done:' 'tally units 2 unborn 0 pool 0 stream 1 blocked 0 done 1 asked 0 access 0 steps 10000' 'budget 0' 'wave 0 from 0 streams 0')" ""
+    call "$program" "$room/long.abt" "$room/none.lives"
+    came "a hundred units" 0 "@$room/long.out" ""
     call "$program" - "$lives/made.lives" <"$lives/made.abt"
-    came "the workload on standard input" 0 "@crates/abtwaves/stdout" ""
+    came "the workload on standard input" 0 "@$made" ""
     call "$program" "$lives/made.abt" - <"$lives/made.lives"
-    came "the lives on standard input" 0 "@crates/abtwaves/stdout" ""
-    mkdir -p "$room/a folder"
-    cp "$lives/made.abt" "$room/a folder/a workload"
-    call "$program" "$room/a folder/a workload" "$lives/made.lives"
-    came "a name with blanks" 0 "@crates/abtwaves/stdout" ""
+    came "the lives on standard input" 0 "@$made" ""
 }
 
 try_bad_words() {
     local words
     for words in '' one 'one two three' '- -' '--help' '-h one' '--version' 'one --journal' '--steps 5 one'; do
         call "$program" $words
-        came "the words '$words'" 2 "" "abtwaves: bad command line"
+        came "the words '$words'" 2 "" "$words_are_bad"
     done
     call "$program" '' "$lives/made.lives"
-    came "an empty word" 2 "" "abtwaves: bad command line"
+    came "an empty word" 2 "" "$words_are_bad"
     call "$program" "$lives/made.abt" ''
-    came "an empty second word" 2 "" "abtwaves: bad command line"
+    came "an empty second word" 2 "" "$words_are_bad"
     call "$program" "$lives/made.abt" $'a\xff'
-    came "a word that is not UTF-8" 2 "" "abtwaves: bad command line"
+    came "a word that is not UTF-8" 2 "" "$words_are_bad"
 }
 
 # Lives texts that break a rule, each with its line.
@@ -62,7 +83,10 @@ try_bad_lives() {
 2|life 1 0 1\nlife 1 0 1\n
 2|life 1 0 1\n\n
 ROWS
-    { head -c 65537 /dev/zero | tr '\0' '#'; } >"$room/long.lives"
+    head -c 65536 /dev/zero | tr '\0' '#' >"$room/long.lives"
+    call "$program" "$lives/made.abt" "$room/long.lives"
+    came "lives of 65,536 bytes" 3 "" "abtwaves: line 1: life"
+    printf '#' >>"$room/long.lives"
     call "$program" "$lives/made.abt" "$room/long.lives"
     came "lives of 65,537 bytes" 3 "" "abtwaves: line 0: life"
     echo "abt 3" >"$room/bad.abt"
@@ -70,40 +94,93 @@ ROWS
     came "a workload that is refused first" 3 "" "abtwaves: line 1: version"
 }
 
+# The longest workload that there may be, and one byte more.
+try_lengths() {
+    local length
+    length=$(wc -c <"$lives/made.abt")
+    { cat "$lives/made.abt" && printf '#%*s' $((4194304 - length - 1)) x; } >"$room/longest.abt"
+    holds "the longest workload has as many bytes" [ "$(wc -c <"$room/longest.abt")" = 4194304 ]
+    call "$program" "$room/longest.abt" "$lives/made.lives"
+    came "the longest workload" 0 "@$made" ""
+    call "$program" - "$lives/made.lives" <"$room/longest.abt"
+    came "the longest workload on standard input" 0 "@$made" ""
+    cat "$room/longest.abt" >"$room/fifo" &
+    call "$program" "$room/fifo" "$lives/made.lives"
+    came "the longest workload through a named pipe" 0 "@$made" ""
+    printf y >>"$room/longest.abt"
+    call "$program" "$room/longest.abt" "$lives/made.lives"
+    came "one byte more" 3 "" "abtwaves: line 0: limit"
+}
+
+# A few bytes at a time, in and out; and each read and each write fails in turn.
+try_few_bytes() {
+    local most number
+    for most in 1 7; do
+        meddled TRIAL_READ=$most TRIAL_WRITE=$most "$program" "$lives/made.abt" "$lives/made.lives"
+        came "reads and writes of $most bytes" 0 "@$made" ""
+        meddled TRIAL_READ=$most TRIAL_WRITE=$most "$program" "$lives/made.abt" - <"$lives/made.lives"
+        came "reads and writes of $most bytes on standard input" 0 "@$made" ""
+        meddled TRIAL_WRITE=$most "$program" walk
+        came "writes of $most bytes of a message" 2 "" "$words_are_bad"
+    done
+    tries_failing_reads "$lives/made.abt" "$lives/made.lives" 100
+    # (four reads end the workload, and two the lives)
+    for number in 4 5 6; do
+        meddled TRIAL_READ=100 TRIAL_NO_READ=$number "$program" "$lives/made.abt" "$lives/made.lives"
+        came "read $number fails" 5 "" "$cannot_read"
+    done
+    meddled TRIAL_READ=100 TRIAL_NO_READ=7 "$program" "$lives/made.abt" "$lives/made.lives"
+    came "no read fails" 0 "@$made" ""
+    tries_failing_writes "$lives/made.abt" "$lives/made.lives" "$made" 10 walk
+}
+
+try_names() {
+    mkdir -p "$room/lives"
+    cd "$room/lives" || return
+    tries_long_names "$lives/made.abt" "$lives/made.lives" "@$made"
+    tries_names "$lives/made.abt" "$lives/made.lives" "@$made" 'with  blanks' ' ' $'line\nfeed' $'t\tab' 'größe' "quote'\"" '*' '#' life ./-x ./- \
+        'a=b' '...'
+    mkdir -p "a folder"
+    cp "$lives/made.abt" "a folder/a workload"
+    call "$program" "a folder/a workload" "$lives/made.lives"
+    came "a workload with blanks in its name" 0 "@$made" ""
+    cd "$root" || return
+}
+
 try_reading() {
+    tries_reading "$lives/made.abt" "$lives/made.lives" "@$made"
     call "$program" "$room/absent" "$lives/made.lives"
-    came "a workload that is absent" 5 "" "abtwaves: cannot read"
-    call "$program" "$lives/made.abt" "$room/absent"
-    came "lives that are absent" 5 "" "abtwaves: cannot read"
+    came "a workload that is absent" 5 "" "$cannot_read"
     call "$program" "$room" "$lives/made.lives"
-    came "a folder" 5 "" "abtwaves: cannot read"
+    came "a folder as the workload" 5 "" "$cannot_read"
+    call "$program" - "$lives/made.lives" <&-
+    came "a workload on a closed standard input" 5 "" "$cannot_read"
 }
 
 try_writing() {
-    fills "abtwaves: cannot write" "$program" "$lives/made.abt" "$lives/made.lives"
-    "$program" "$lives/made.abt" "$lives/made.lives" >&- 2>"$room/err"
-    status=$?
-    ended "a closed standard output" 6 "abtwaves: cannot write"
-    unread "$program" "$lives/made.abt" "$lives/made.lives"
-    ended "a pipe that nobody reads" 6 "abtwaves: cannot write"
+    tries_writing "$lives/made.abt" "$lives/made.lives" "@$made" walk
     slowly "$program" "$lives/made.abt" "$lives/made.lives"
-    came "a slow reader" 0 "@crates/abtwaves/stdout" ""
-    local most
-    for most in 1 7; do
-        meddled TRIAL_WRITE=$most "$program" "$lives/made.abt" "$lives/made.lives"
-        came "writes of $most bytes" 0 "@crates/abtwaves/stdout" ""
-        meddled TRIAL_READ=$most "$program" "$lives/made.abt" "$lives/made.lives"
-        came "reads of $most bytes" 0 "@crates/abtwaves/stdout" ""
-    done
+    came "a slow reader" 0 "@$made" ""
+    tries_a_small_file "$room/long.out" "$room/long.abt" "$room/none.lives"
 }
 
 if ! make_meddler; then
     miss meddle "trials/meddle.c cannot be compiled"
     return
 fi
+mkfifo "$room/fifo"
+write_long
 try_runs
 try_bad_words
 try_bad_lives
+try_lengths
+try_few_bytes
+try_names
 try_reading
 try_writing
+signalled TERM 143 "$lives/made.lives" "$program" "$lives/made.abt" -
+signalled HUP 129 "$lives/made.lives" "$program" "$lives/made.abt" -
+signalled KILL 137 "$lives/made.lives" "$program" "$lives/made.abt" -
+signalled INT 130 "$lives/made.lives" "$program" "$lives/made.abt" -
 refuse_memory
+rm "$room/fifo"

@@ -266,11 +266,11 @@ tries_writing() {
     came "no environment" 0 "$3" ""
 }
 
-# tries_a_small_file WANTED WORD FILE: an output that may not be as long as the text of the file WANTED.
+# tries_a_small_file WANTED WORD FILE: an output that must not be as long as the text of the file WANTED.
 tries_a_small_file() {
     limited "$program" "$2" "$3"
     head -c 1024 "$1" >"$room/wanted"
-    came "a file that may not grow" 6 "@$room/wanted" "$cannot_write"
+    came "a file that must not grow" 6 "@$room/wanted" "$cannot_write"
 }
 
 # tries_failing_reads WORD FILE MOST: each of the first three reads of MOST bytes fails in turn.
