@@ -9,7 +9,7 @@ use abt_commons::Objects;
 use abt_machine::{Outcome, StreamNo, UnitNo, Workload};
 use abt_stream::Stream;
 
-/// How the run ended that these objects and streams are of: `Finished` if nothing is left to do and every unit is unborn or
+/// How the run of these objects and streams ended: `Finished` if nothing is left to do and every unit is unborn or
 /// ended, `Stuck` if nothing is left to do and some unit is neither, and `Budget` of the least stream that has made its
 /// steps and would make another. None if it goes on. It allocates nothing.
 pub fn outcome<'w>(

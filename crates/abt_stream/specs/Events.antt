@@ -77,7 +77,7 @@ EndBy moves old before cause t new after o = ⊥
 abbrev pub step_of : Owned → Code → What
 step_of o c = what.Step (unit_no o.number) o.carried.position c
 
--- this came of a step
+-- the stream after a step with this effect
 abbrev pub after_step : StreamValue → Effect → StreamValue
 after_step old e = holding old (stepped old.held e)
 
@@ -93,7 +93,7 @@ ExitBy old turn.Stepped new o = new ≡ wrote (holding old (exited old.held (mov
 ExitBy old turn.Worn new o = (old.clock ≡ 2 ^ 62) × (new ≡ old)
 ExitBy old t new o = ⊥
 
--- a step with a call of this act, whose answer brings so much
+-- a step with a call of this act, and what each answer brings
 abbrev pub StepsBy : {P : Type 0} → (P → Site → ℕ → Act → Told → P → Type 0) → StreamValue → P → Site → Act → (Answer → Effect) → Turn → StreamValue → P → Owned → Type 0
 StepsBy moves old before x asked brings turn.Stepped new after o =
     (answer : Answer) × Called moves old before x asked answer (after_step old (brings answer)) (step_of o (brings answer).code) new after

@@ -103,7 +103,7 @@ impl Model for Stream {
 }
 
 impl Stream {
-    /// The stream at the start, which may make so many steps.
+    /// The stream at the start, which may make `steps` steps.
     #[tactic(auto, using(crate::proofs::Starting::main_is))]
     pub fn new(alloc: Global, w: &Workload, s: StreamNo, steps: u64) -> Result<Stream, Want>
         requires { s.0 < w.now.streams }

@@ -63,7 +63,7 @@ pub(crate) fn start<'w>(
     })
 }
 
-/// A wave more.
+/// One more wave.
 pub(crate) fn advance<'w, R: Threads + Wait + Sync, P: Pace + Sync>(
     rt: &'w R,
     alloc: Global,

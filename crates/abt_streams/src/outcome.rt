@@ -12,7 +12,7 @@ use abt_drain::{has_empty_pools, has_ended, outcome};
 use abt_machine::{Outcome, StreamNo, Workload};
 use abt_stream::Stream;
 
-/// How the run on these lives ended that these objects and streams are of, if it did.
+/// How the run of these objects and streams on these lives ended, if it did.
 pub(crate) fn outcome_on<'w>(
     w: &Workload,
     lives: &[Life],

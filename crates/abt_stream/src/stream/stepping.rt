@@ -229,7 +229,7 @@ impl Stream {
         }
     }
 
-    // The unit that went with an act for nothing is in the hand again, at the same operation.
+    // The unit that went with an act to a worn clock is in the hand again, at the same operation.
     fn take_back(&mut self, mut unit: Box<Unit>)
         requires free { IsFree unit.value }
         requires position { 0 < unit.value.owned.carried.position }
