@@ -7,6 +7,7 @@ pub mod Giving
 pub mod Greatest
 pub mod HallSights
 pub mod Holding
+pub mod KindsSeen
 pub mod Legal
 pub mod Moving
 pub mod Numbers

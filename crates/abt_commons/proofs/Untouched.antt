@@ -3,7 +3,7 @@ use Rattle.std.proofs.Common.{◌≡◌, ◌==◌, ℕ, ◌+◌, ◌<◌, ◌≤
 use Rattle.std.specs.Prelude.{option_map}
 use Rattle.std.specs.List.{All}
 use Rattle.std.proofs.lemmas.Bool.{cond-true, eq-eqb}
-use Rattle.std.proofs.lemmas.List.{length-map, length-reverse, reverse-append, reverse-reverse, ext_get_or}
+use Rattle.std.proofs.lemmas.List.{length-map, length-reverse, ext_get_or}
 use Rattle.std.proofs.lemmas.List.Elements.{All-head, All-contains}
 use Rattle.std.proofs.lemmas.Option.{slice_get-map, slice_get_cases, get_or_from_slice_get}
 use Rattle.abt_machine.specs.declared.workload.Parts.{Parts}
@@ -21,7 +21,7 @@ use Rattle.abt_commons.specs.Held.{IsWhole, OneValue, objects_value}
 use Rattle.abt_commons.specs.Parting.{SiteSeat}
 use Rattle.abt_commons.specs.Locking.{AreDealt}
 use Rattle.abt_commons.specs.Splits.{HasSeenNothing, SplitValue, seen_from}
-use Rattle.abt_commons.specs.Closing.{AllClosed, WasClosed, WereClosed, knew, knew_by}
+use Rattle.abt_commons.specs.Closing.{AllUnlocked, WasClosed, WereClosed, knew, knew_by}
 use Rattle.abt_commons.proofs.Dealing.{dealt-passes}
 
 -- a history with no call of any seat is empty
@@ -93,9 +93,9 @@ module _ (booths : List (Booth OneValue Act Answer)) (room ones : List OneValue)
       let n : length (map opening_of booths ++ reverse room) ≡ length ones = ap length all in
       omega (arith, n, length-append (map opening_of booths) (reverse room), length-map booths opening_of, length-reverse room)
 
-  -- If the locks are closed with no call made, all objects stand in the room again, and the clocks are as they were.
-  pub all-back : (W : Parts) (clocks ends : List ℕ) (n : ℕ) (passes : List SplitPass) (full : List OneValue) → IsWhole (objects_value W ones clocks) → AreDealt booths (length room) n passes → AllClosed booths passes clocks room full ends
-      → (reverse full ≡ ones) × (ends ≡ clocks)
+  -- If the locks are closed with no call made, all objects come back, and the clocks are as they were.
+  pub all-back : (W : Parts) (clocks ends : List ℕ) (n : ℕ) (passes : List SplitPass) (full : List OneValue) → IsWhole (objects_value W ones clocks) → AreDealt booths (length room) n passes → AllUnlocked booths passes clocks room full ends
+      → (full ≡ ones) × (ends ≡ clocks)
   all-back W clocks ends n passes full whole dealt ended =
       let split : SplitValue = record { workload = W; streams = n; booths = booths; clocks = clocks } in
       let fresh = (dealt-passes split (length room) n passes dealt).1 in
@@ -103,6 +103,6 @@ module _ (booths : List (Booth OneValue Act Answer)) (room ones : List OneValue)
       let some = whole-room in
       let fits : length booths ≤ length clocks = omega (arith, many, some) in
       let same = objects-back booths passes clocks ended.0 ends ended.2 fresh fits (record { workload = W; object = NotHere }) in (
-        ap reverse ended.1 ∙ (reverse-append room (reverse ended.0) ∙ (ap (λ xs. xs ++ reverse room) (reverse-reverse ended.0 ∙ same) ∙ all)),
+        ended.1 ∙ (ap (λ xs. xs ++ reverse room) same ∙ all),
         clocks-back booths passes clocks ended.0 ends ended.2 fresh fits,
       )

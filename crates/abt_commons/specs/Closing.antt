@@ -46,3 +46,8 @@ pub record WereClosed (booths : List (Booth OneValue Act Answer)) (passes : List
 abbrev pub AllClosed : List (Booth OneValue Act Answer) → List SplitPass → List ℕ → List OneValue → List OneValue → List ℕ → Type 0
 AllClosed booths passes carried room left clocks =
     (objects : List OneValue) × (left ≡ room ++ reverse objects) × WereClosed booths passes carried 0 objects clocks
+
+-- all booths were closed, and these are their objects, and behind them those of the room, from its end on
+abbrev pub AllUnlocked : List (Booth OneValue Act Answer) → List SplitPass → List ℕ → List OneValue → List OneValue → List ℕ → Type 0
+AllUnlocked booths passes carried room ones clocks =
+    (objects : List OneValue) × (ones ≡ objects ++ reverse room) × WereClosed booths passes carried 0 objects clocks

@@ -18,7 +18,7 @@ use Rattle.abt_commons.specs.Acts.{act_of, answer_of}
 use Rattle.abt_commons.specs.Held.{ObjectsValue, object_at, clock_at}
 use Rattle.abt_commons.specs.Sights.{SiteCall, Leaves}
 
--- the lock round all objects, and the clock that was carried to it
+-- the lock around all objects, and the clock that was carried to it
 pub record HallValue : Type 0 where
   pub booth : Booth ObjectsValue Ask Answer
   pub clock : ℕ
@@ -40,8 +40,8 @@ module _ {g : Ghosts ObjectsValue Ask Answer} where
   seen_from None = []
   seen_from (Some seat) = seen_of seat
 
-  -- the hall was closed: its line leads all objects from what they were to what they are, the passes' calls are its calls, and
-  -- each site has the greater of the clock that was carried to the hall and the last stamp, and so has every other number
+  -- the hall was closed: its line leads all objects from what they were to what they are, the passes' calls are its calls, and the
+  -- clock of each site, and of every other number, is the greater of the clock that was carried to the hall and the last stamp
   pub record HallLeft (booth : Booth ObjectsValue Ask Answer) (carried : ℕ) (passes : List (Seat ObjectsValue Ask Answer g)) (held : ObjectsValue) : Type 0 where
     pub workload : held.workload ≡ (opening_of booth).workload
     pub closing : ℕ

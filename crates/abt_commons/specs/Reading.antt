@@ -1,5 +1,5 @@
 -- What is read off objects.
-use Rattle.std.specs.Prelude.{ℕ, ◌≡◌, ◌≢◌, Bool, false, is_some, not, List, [], slice_get, Option, Some, None, Contains}
+use Rattle.std.specs.Prelude.{ℕ, ◌≡◌, ◌≢◌, ◌<◌, ⊤, Bool, false, is_some, not, List, [], length, slice_get, Option, Some, None, Contains}
 use Rattle.std.specs.Borrow.{Bor}
 use Rattle.std.specs.List.{All}
 use Rattle.abt_machine.specs.declared.events.Shown.{Shown}
@@ -17,6 +17,39 @@ use Rattle.abt_calls.specs.Asking.{IsSite}
 use Rattle.abt_calls.specs.Showing.{Row, rows_of_object}
 use Rattle.abt_commons.specs.Held.{ObjectsValue, object_at, object_from}
 use Rattle.abt_commons.specs.Sites.{thing_number}
+
+-- the object is a pool
+abbrev pub IsPool : Object → Type 0
+IsPool (PoolIs pool) = ⊤
+IsPool (DeskIs desk) = ⊥
+IsPool (MonitorIs m) = ⊥
+IsPool (EventualIs e) = ⊥
+IsPool (FutureIs f) = ⊥
+IsPool (BarrierIs b) = ⊥
+IsPool (RwLockIs l) = ⊥
+IsPool NotHere = ⊥
+
+-- the object is a desk
+abbrev pub IsDesk : Object → Type 0
+IsDesk (PoolIs pool) = ⊥
+IsDesk (DeskIs desk) = ⊤
+IsDesk (MonitorIs m) = ⊥
+IsDesk (EventualIs e) = ⊥
+IsDesk (FutureIs f) = ⊥
+IsDesk (BarrierIs b) = ⊥
+IsDesk (RwLockIs l) = ⊥
+IsDesk NotHere = ⊥
+
+-- the object is a mutex with a condition of number k
+abbrev pub HasCondition : ℕ → Object → Type 0
+HasCondition k (PoolIs pool) = ⊥
+HasCondition k (DeskIs desk) = ⊥
+HasCondition k (MonitorIs m) = k < length m.conds
+HasCondition k (EventualIs e) = ⊥
+HasCondition k (FutureIs f) = ⊥
+HasCondition k (BarrierIs b) = ⊥
+HasCondition k (RwLockIs l) = ⊥
+HasCondition k NotHere = ⊥
 
 -- the eventual or the future is ready
 abbrev pub is_ready : Object → Bool

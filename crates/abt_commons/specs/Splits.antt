@@ -32,11 +32,11 @@ asks_at x act = (x, act_of act)
 abbrev pub site_line : Parts → Site → List (Entry Act Answer) → List SiteCall
 site_line W x history = line_seen (machine_of W []) (asks_at x) answer_of history
 
--- the objects that booths were made round, with the clocks that were carried to them
+-- the objects that booths were made around, with the clocks that were carried to them
 abbrev pub opening_in : Parts → List (Booth OneValue Act Answer) → List ℕ → ObjectsValue
 opening_in W booths clocks = objects_value W (map opening_of booths) clocks
 
--- booths round all objects of the workload, with a seat for each of n streams
+-- booths around all objects of the workload, with a seat for each of n streams
 pub record AreBooths (W : Parts) (n : ℕ) (booths : List (Booth OneValue Act Answer)) (clocks : List ℕ) : Type 0 where
   pub ours : All (λ one. one.workload ≡ W) (map opening_of booths)
   pub whole : IsWhole (opening_in W booths clocks)
@@ -69,7 +69,7 @@ pub record SplitValue : Type 0 where
   pub booths : List (Booth OneValue Act Answer)
   pub clocks : List ℕ
 
--- the objects that the locks were made round, with the clocks that were carried to them
+-- the objects that the locks were made around, with the clocks that were carried to them
 abbrev pub opening_of_split : SplitValue → ObjectsValue
 opening_of_split split = opening_in split.workload split.booths split.clocks
 

@@ -13,7 +13,7 @@ use crate::acts::{Act, Answer, Ask, Reply};
 use crate::commons::Commons;
 use crate::objects::Objects;
 use crate::sites::site_number;
-use abt_booth::{Booth, Called, Closed, Object, Seat};
+use abt_booth::{Booth, Called, Object, Seat};
 use abt_machine::Site;
 use std::alloc::Global;
 use std::marker::Model;
@@ -43,7 +43,7 @@ impl<'w> Object for Objects<'w> {
 /// The right of one stream to call.
 pub type HallPass<'w> = Seat<Objects<'w>>;
 
-/// One lock round all objects, with one clock.
+/// One lock around all objects, with one clock.
 #[derive(Drop)]
 pub struct Hall<'w, R> {
     rt: &'w R,
@@ -109,7 +109,7 @@ impl<'w, R: Wait> Commons<'w> for Hall<'w, R> {
 }
 
 impl<'w, R: Wait> Hall<'w, R> {
-    /// One booth round all objects, with a pass for each stream. Err hands the objects back: no memory was found.
+    /// One booth around all objects, with a pass for each stream. Err hands the objects back: out of memory.
     pub fn make(
         rt: &'w R,
         alloc: Global,
@@ -137,8 +137,8 @@ impl<'w> Objects<'w> {
         ensures capped { result ≤ 2 ^ 62 }
     {
         let mut greatest = 0;
-        for i in 0..self.clocks.len() {
-            greatest = self.clocks[i].max(greatest);
+        for clock in &self.clocks {
+            greatest = (*clock).max(greatest);
         }
         greatest
     }

@@ -1,6 +1,6 @@
-//! Making a lock round each object.
+//! Making a lock around each object.
 
-ghost use Rattle.std.specs.Prelude.{ℕ, ◌≡◌, ◌+◌, ◌<◌, ◌≤◌, ◌++◌, ◌∷◌, [], length, map, reverse, slice_index_or, vec_capacity, IfOk, IsTrue};
+ghost use Rattle.std.specs.Prelude.{ℕ, ◌≡◌, ◌+◌, ◌<◌, ◌≤◌, ◌++◌, ◌∷◌, [], length, map, reverse, slice_index_or, vec_capacity, IfOk, OnOk};
 ghost use Rattle.std.specs.List.{All};
 ghost use Rattle.abt_booth.specs.Seats.{AreNewSeatsOf, opening_of, seats_of};
 ghost use Rattle.abt_commons.specs.declared.split.SplitPass.{SplitPass};
@@ -9,9 +9,10 @@ ghost use Rattle.abt_commons.specs.Locking.{AreDealt, HaveGot};
 use crate::one::One;
 use crate::split::SplitPass;
 use abt_booth::{Booth, Seat};
+use abt_machine::Want;
 use std::alloc::{AllocError, Global};
 
-// Passes with no seat, and with room for so many.
+// Passes with no seat, each with room for that count of seats.
 pub(crate) fn seatless<'w>(
     alloc: Global,
     streams: u32,
@@ -27,15 +28,15 @@ pub(crate) fn seatless<'w>(
     Ok(passes)
 }
 
-// Makes a booth round each object in the room, from the room's end on, and deals its seats to the passes. False: no memory was
-// found, and the room has the objects that are left.
+// Makes a booth around each object in the room, from the room's end on, and deals its seats to the passes. Err: out of memory; the
+// room has the objects that are left.
 pub(crate) fn lock_all<'w>(
     alloc: Global,
     streams: u32,
     room: &mut Vec<One<'w>>,
     booths: &mut Vec<Booth<One<'w>>>,
     passes: &mut [SplitPass<'w>],
-) -> bool
+) -> Result<(), Want>
     requires some { 1 ≤ streams }
     requires dealt { AreDealt booths.old.items (length room.old.items) streams passes.old }
     requires seated { All (λ booth. seats_of booth ≡ streams) booths.old.items }
@@ -44,7 +45,7 @@ pub(crate) fn lock_all<'w>(
     ensures seated { All (λ booth. seats_of booth ≡ streams) booths.new.items }
     ensures objects { map opening_of booths.new.items ++ reverse room.new.items ≡ map opening_of booths.old.items ++ reverse room.old.items }
     ensures room { vec_capacity room.new ≡ vec_capacity room.old }
-    ensures all { IsTrue result → room.new.items ≡ [] }
+    ensures all { OnOk result (room.new.items ≡ []) }
 {
     while let Some(one) = room.pop() {
         match Booth::make(alloc, one, streams) {
@@ -54,11 +55,11 @@ pub(crate) fn lock_all<'w>(
             }
             Err(one) => {
                 room.push_reserved(one);
-                return false;
+                return Err(Want);
             }
         }
     }
-    true
+    Ok(())
 }
 
 // Each pass gets the seat of its number.

@@ -61,7 +61,7 @@ fn place_units<'w>(alloc: Global, w: &'w Workload, ones: &mut Vec<One<'w>>) -> R
     Ok(())
 }
 
-// One unit more.
+// One more unit.
 fn place_unit<'w>(
     alloc: Global,
     w: &'w Workload,

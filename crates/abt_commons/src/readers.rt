@@ -5,18 +5,16 @@ ghost use Rattle.std.specs.List.{find};
 ghost use Rattle.abt_machine.specs.declared.events.Site.TheVariants as site;
 ghost use Rattle.abt_machine.specs.declared.numbers.PoolNo.{PoolNo};
 ghost use Rattle.abt_machine.specs.declared.numbers.UnitNo.{UnitNo};
-ghost use Rattle.abt_machine.specs.Acts.{Remove};
 ghost use Rattle.abt_machine.specs.Desks.{is_living};
 ghost use Rattle.abt_machine.specs.Operations.{IsEventual, IsFuture};
 ghost use Rattle.abt_machine.specs.Workloads.{IsCondition};
 ghost use Rattle.abt_machine.specs.Pools.{is_unit};
 ghost use Rattle.abt_machine.specs.Values.{Owned};
 ghost use Rattle.abt_chain.specs.Results.{unit_found};
-ghost use Rattle.abt_calls.specs.Allowed.{Allows};
 ghost use Rattle.abt_calls.specs.Keeps.{contents_of};
 ghost use Rattle.abt_commons.specs.Held.{object_at};
 ghost use Rattle.abt_calls.specs.Showing.{Row};
-ghost use Rattle.abt_commons.specs.Reading.{HoldNone, IsHeldAs, is_over, is_ready, is_row_of, row_found, rows_at_site, waiters_at_thing};
+ghost use Rattle.abt_commons.specs.Reading.{HoldNone, IsHeldAs, IsPool, is_over, is_ready, is_row_of, row_found, rows_at_site, waiters_at_thing};
 
 use crate::objects::Objects;
 use crate::one::One;
@@ -31,7 +29,7 @@ impl<'w> Objects<'w> {
     pub fn pool_is_empty(&self, p: PoolNo) -> bool
         requires { p.0 < length self.now.workload.pools }
         ensures empty { result ≡ (length (contents_of (object_at self.now (site.Pool p))).units == 0) }
-        ensures pool { Allows (object_at self.now (site.Pool p)) (Remove 0) }
+        ensures pool { IsPool (object_at self.now (site.Pool p)) }
     {
         self.ones[site_number(self.w, Site::Pool(p))].is_empty_pool()
     }
@@ -77,7 +75,7 @@ impl<'w> Objects<'w> {
 impl<'w> One<'w> {
     // Whether the pool has no unit.
     fn is_empty_pool(&self) -> bool
-        requires { Allows self.now.object (Remove 0) }
+        requires { IsPool self.now.object }
         ensures { result ≡ (length (contents_of self.now.object).units == 0) }
     {
         match &*self.shared {
@@ -115,10 +113,8 @@ impl<'w> Objects<'w> {
         ensures none { IfNone result (HoldNone self.now u.0) }
         ensures held { IfSome result (λ shown. (o : Owned) × IsHeldAs self.now u.0 (shown, o)) }
     {
-        match self.find(u) {
-            Some((shown, _)) => Some(shown),
-            None => None,
-        }
+        let (shown, _) = self.find(u)?;
+        Some(shown)
     }
 
     /// The output of the unit of that number. None exactly if the objects hold no such unit. The time is that of `shown`.
@@ -126,10 +122,8 @@ impl<'w> Objects<'w> {
         ensures none { IfNone result (HoldNone self.now u.0) }
         ensures held { IfSome result (λ pieces. (row : Row) × IsHeldAs self.now u.0 row × (row.1.carried.output ≡ pieces.now)) }
     {
-        match self.find(u) {
-            Some((_, unit)) => Some(unit.output()),
-            None => None,
-        }
+        let (_, unit) = self.find(u)?;
+        Some(unit.output())
     }
 
     // A unit of that number, and what a report shows of it.
@@ -227,11 +221,5 @@ impl<'w> Objects<'w> {
 fn is_over(desk: &Desk) -> bool
     ensures { result ≡ not (is_living desk.now.phase) }
 {
-    match desk.shown() {
-        Some(shown) => match shown {
-            Shown::Unborn | Shown::Ended(_) => true,
-            _ => false,
-        },
-        None => false,
-    }
+    matches!(desk.shown(), Some(Shown::Unborn | Shown::Ended(_)))
 }

@@ -18,11 +18,8 @@ pub(crate) fn site_number(w: &Workload, site: Site) -> usize
     match site {
         Site::Pool(p) => p.0 as usize,
         Site::Desk(u) => pools + u.0 as usize,
-        Site::Monitor(x) => things + x.0 as usize,
-        Site::Eventual(x) => things + x.0 as usize,
-        Site::Future(x) => things + x.0 as usize,
-        Site::Barrier(x) => things + x.0 as usize,
-        Site::Rw(x) => things + x.0 as usize,
+        Site::Monitor(x) | Site::Eventual(x) | Site::Future(x) | Site::Barrier(x) | Site::Rw(x) =>
+            things + x.0 as usize,
     }
 }
 

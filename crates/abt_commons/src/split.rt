@@ -11,9 +11,9 @@ use crate::locking::{lock_all, seatless};
 use crate::objects::Objects;
 use crate::one::One;
 use crate::sites::site_number;
-use crate::unlocking::unlock_all;
+use crate::unlocking::unlocked;
 use abt_booth::{Booth, Called, Seat};
-use abt_machine::{Site, Workload};
+use abt_machine::{Site, Want, Workload};
 use std::alloc::Global;
 use std::marker::Model;
 use std::sync::Wait;
@@ -86,26 +86,16 @@ impl<'w, R: Wait> Commons<'w> for Split<'w, R> {
             w,
             streams: _,
             booths,
-            mut clocks,
-            mut room,
-        } = self;
-        unlock_all(
-            booths,
-            passes.as_mut_slice(),
-            &mut room,
-            clocks.as_mut_slice(),
-        );
-        room.reverse();
-        Objects {
-            w,
-            ones: room,
             clocks,
-        }
+            room,
+        } = self;
+        let (ones, clocks) = unlocked(booths, passes.as_mut_slice(), room, clocks);
+        Objects { w, ones, clocks }
     }
 }
 
 impl<'w, R: Wait> Split<'w, R> {
-    /// One booth for each object, with a pass for each stream. Err hands the objects back: no memory was found.
+    /// One booth for each object, with a pass for each stream. Err hands the objects back: out of memory.
     pub fn make(
         rt: &'w R,
         alloc: Global,
@@ -129,39 +119,29 @@ impl<'w, R: Wait> Split<'w, R> {
         let Objects {
             w,
             ones: mut room,
-            mut clocks,
+            clocks,
         } = objects;
         room.reverse();
-        if lock_all(
+        if let Err(Want) = lock_all(
             alloc,
             streams,
             &mut room,
             &mut booths,
             passes.as_mut_slice(),
         ) {
-            return Ok((
-                Split {
-                    rt,
-                    w,
-                    streams,
-                    booths,
-                    clocks,
-                    room,
-                },
-                passes,
-            ));
+            let (ones, clocks) = unlocked(booths, passes.as_mut_slice(), room, clocks);
+            return Err(Objects { w, ones, clocks });
         }
-        unlock_all(
-            booths,
-            passes.as_mut_slice(),
-            &mut room,
-            clocks.as_mut_slice(),
-        );
-        room.reverse();
-        Err(Objects {
-            w,
-            ones: room,
-            clocks,
-        })
+        Ok((
+            Split {
+                rt,
+                w,
+                streams,
+                booths,
+                clocks,
+                room,
+            },
+            passes,
+        ))
     }
 }

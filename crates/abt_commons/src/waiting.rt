@@ -4,12 +4,10 @@ ghost use Rattle.std.specs.Prelude.{◌≡◌, ◌++◌};
 ghost use Rattle.std.specs.List.{find};
 ghost use Rattle.abt_machine.specs.declared.events.Shown.TheVariants as shows;
 ghost use Rattle.abt_machine.specs.declared.events.Site.TheVariants as site;
-ghost use Rattle.abt_machine.specs.Acts as asked;
 ghost use Rattle.abt_machine.specs.Pools.{is_unit};
 ghost use Rattle.abt_chain.specs.Results.{unit_found};
-ghost use Rattle.abt_calls.specs.Allowed.{Allows};
 ghost use Rattle.abt_calls.specs.Showing.{rows_as, rows_at_desk, rows_of_object};
-ghost use Rattle.abt_commons.specs.Reading.{is_row_of, row_found, waiters_as, waiters_of_condition};
+ghost use Rattle.abt_commons.specs.Reading.{HasCondition, IsDesk, IsPool, is_row_of, row_found, waiters_as, waiters_of_condition};
 
 use crate::one::One;
 use crate::shared::Shared;
@@ -20,7 +18,7 @@ use abt_unit::Unit;
 impl<'w> One<'w> {
     // The first unit of that number in pool p, and what a report shows of it.
     pub(crate) fn in_pool(&self, p: PoolNo, u: UnitNo) -> Option<(Shown, &Unit)>
-        requires { Allows self.now.object (asked.Remove 0) }
+        requires { IsPool self.now.object }
         ensures { find (is_row_of u.0) (rows_of_object self.now.workload (site.Pool p) self.now.object) ≡ row_found result }
     {
         match &*self.shared {
@@ -34,7 +32,7 @@ impl<'w> One<'w> {
 
     // The first unit of that number at the desk of unit v, and what a report shows of it.
     pub(crate) fn at_desk(&self, v: UnitNo, u: UnitNo) -> Option<(Shown, &Unit)>
-        requires { Allows self.now.object asked.Look }
+        requires { IsDesk self.now.object }
         ensures { find (is_row_of u.0) (rows_of_object self.now.workload (site.Desk v) self.now.object) ≡ row_found result }
     {
         match &*self.shared {
@@ -97,7 +95,7 @@ impl<'w> One<'w> {
 
     // The first unit of that number that waits at the condition of that place.
     pub(crate) fn condition_waiter(&self, cond: u32, u: UnitNo) -> Option<&Unit>
-        requires { Allows self.now.object (asked.Signal cond) }
+        requires { HasCondition cond self.now.object }
         ensures { find (is_unit u.0) (waiters_of_condition cond self.now.object) ≡ unit_found result }
     {
         match &*self.shared {

@@ -4,8 +4,10 @@ use Rattle.std.proofs.lemmas.List.{length-map}
 use Rattle.std.proofs.lemmas.List.Elements.{All-map}
 use Rattle.abt_machine.specs.declared.events.Event.{Event}
 use Rattle.abt_machine.specs.declared.events.Outcome.{Outcome}
+use Rattle.abt_machine.specs.declared.grammar.Format.TheVariants as format
 use Rattle.abt_machine.specs.declared.operations.OrderShape.{OrderShape}
 use Rattle.abt_machine.specs.declared.workload.Parts.{Parts}
+use Rattle.abt_machine.specs.Limits.{stream_limit}
 use Rattle.abt_machine.specs.Rounds.{OrdersStored}
 use Rattle.abt_machine.specs.Outcomes.{EndsAs, steps_in}
 use Rattle.abt_machine.specs.Stamps.{Stamped}
@@ -97,17 +99,14 @@ module _ (W : Parts) (Z : List OrderShape) (valid : IsValid W) (stored : OrdersS
 
   -- Clocks.
 
-  -- there are at most 16 logs of at most 2^57 events
-  few-events : sum_below W.streams (λ s. length (come.deeds s)) ≤ sum_below 16 (λ s. 2 ^ 57)
-  few-events = sum-below-le W.streams (2 ^ 57) (λ s. length (come.deeds s)) (λ s lt. few s) 16 few-streams where
+  -- there are few logs, of at most 2^57 events
+  few-events : sum_below W.streams (λ s. length (come.deeds s)) ≤ sum_below (stream_limit format.Two) (λ s. 2 ^ 57)
+  few-events = sum-below-le W.streams (2 ^ 57) (λ s. length (come.deeds s)) (λ s lt. few s) (stream_limit format.Two) valid.few_streams where
     few : (s : ℕ) → length (come.deeds s) ≤ 2 ^ 57
     few s =
         let a : length (m.logs s) ≤ 2 ^ 57 = come.few s in
         let b : length (m.logs s) ≡ length (come.deeds s) = ap length (sym (come.logs s)) ∙ length-map (come.deeds s) event_of in
         subst (λ k. k ≤ 2 ^ 57) b a
-
-    few-streams : W.streams ≤ 16
-    few-streams = valid.few_streams
 
   pub come-clock-low : (clock : ℕ) → IsClock (machine_of W Z) come.deeds clock → clock < 2 ^ 62
   come-clock-low clock is = elim is [

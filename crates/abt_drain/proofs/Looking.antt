@@ -11,7 +11,6 @@ use Rattle.abt_machine.specs.declared.numbers.PoolNo.{PoolNo}
 use Rattle.abt_machine.specs.declared.numbers.SchedNo.{SchedNo}
 use Rattle.abt_machine.specs.declared.workload.Parts.{Parts}
 use Rattle.abt_machine.specs.declared.workload.SchedPart.{SchedPart}
-use Rattle.abt_machine.specs.Acts.{Remove}
 use Rattle.abt_machine.specs.Outcomes.{steps_in}
 use Rattle.abt_machine.specs.Runs.{last_state}
 use Rattle.abt_machine.specs.Turns.{due_of}
@@ -20,10 +19,10 @@ use Rattle.abt_machine.proofs.Declared.{listed-declared}
 use Rattle.abt_machine.proofs.Elements.{map-all}
 use Rattle.abt_machine.specs.Values.{Owned, Object, PoolIs}
 use Rattle.abt_machine.specs.Workloads.{main_from, main_of, pools_from, pools_of}
-use Rattle.abt_calls.specs.Allowed.{Allows}
 use Rattle.abt_calls.specs.Keeps.{contents_of}
 use Rattle.abt_calls.specs.Starts.{start_part}
 use Rattle.abt_commons.specs.Held.{ObjectsValue, object_at}
+use Rattle.abt_commons.specs.Reading.{IsPool}
 use Rattle.abt_outcomes.specs.Values.{IsEmptyPool, IsIdle}
 use Rattle.abt_outcomes.proofs.Outcomes.{outcome-seen}
 use Rattle.abt_outcomes.proofs.Seen.{quiet-seen, spent-seen}
@@ -83,7 +82,7 @@ nothing-in [] none = refl
 nothing-in (x ∷ xs) none = absurd (omega (arith, none))
 
 -- a pool that has no unit
-pub empty-pool : (o : Object) → Allows o (Remove 0) → (length (contents_of o).units == 0) ≡ true → IsEmptyPool o
+pub empty-pool : (o : Object) → IsPool o → (length (contents_of o).units == 0) ≡ true → IsEmptyPool o
 empty-pool (PoolIs pool) may none = elim (eqb_tells (length pool.units) 0) [
   | inl same ↦ nothing-in pool.units same.1
   | inr other ↦ (let some = ne_eqb (length pool.units) 0 other.1 in cc)

@@ -70,7 +70,7 @@ IsSpentAt W n streams s = LooksSpent W n (parts_held W streams) (steps_made stre
 
 -- Outcomes.
 
--- the run that these streams and objects are of goes on
+-- the run of these streams and objects goes on
 pub record GoesOn (W : Parts) (n : ℕ) (streams : List StreamValue) (objects : ObjectsValue) : Type 0 where
   pub busy : IsQuietWith W streams objects → ⊥
   pub steps : (s : ℕ) → IsSpentAt W n streams s → ⊥
@@ -80,12 +80,12 @@ abbrev pub EndedWith : Parts → ℕ → List StreamValue → ObjectsValue → O
 EndedWith W n streams objects (Some o) = LooksAs W n (parts_held W streams) (object_at objects) (steps_made streams) o
 EndedWith W n streams objects None = GoesOn W n streams objects
 
--- if each stream may make n steps, the journal ended so, or it has no end yet
+-- if each stream may make n steps, the journal ended so, or it has not ended
 abbrev pub EndsWith : Parts → ℕ → List Event → Option Outcome → Type 0
 EndsWith W n J (Some o) = EndsAs W n J o
 EndsWith W n J None = (Quiet W (last_state W J) → ⊥) × ((s : ℕ) → Spent W n J s → ⊥)
 
--- so ended each run to whose last state these streams and objects belong
+-- each run to whose last state these streams and objects belong ended so
 abbrev pub IsOutcomeOfRuns : Parts → ℕ → List StreamValue → ObjectsValue → Option Outcome → Type 0
 IsOutcomeOfRuns W n streams objects outcome =
     (Z : List OrderShape) (J : List Event) → OrdersStored W Z → Run W Z J → StandFor W (last_state W J) (parts_held W streams) (object_at objects)

@@ -90,7 +90,7 @@ impl<'w> Crew<'w> {
         )
     }
 
-    // A stream's turns until one is a step, ends a round empty, or is none; whether it was a step.
+    // Makes turns of a stream until one is a step, ends a round empty, or is none; returns whether it was a step.
     fn take_turns<P: Pace>(
         &mut self,
         orders: &[StoredOrder],
@@ -115,7 +115,7 @@ impl<'w> Crew<'w> {
         }
     }
 
-    // The turns of each stream, in order of number; whether one of them made a step.
+    // Makes the turns of each stream, in order of number; returns whether one of them was a step.
     fn rotate<P: Pace>(&mut self, orders: &[StoredOrder], pace: &P) -> Result<bool, Want>
         requires crew { IsCrew self.old.workload (shapes_of orders.now) self.old.steps self.old }
         requires awake { IsAwake self.old.workload (moment_in self.old.workload self.old) }
@@ -131,7 +131,7 @@ impl<'w> Crew<'w> {
         Ok(stepped)
     }
 
-    // How the run ended, if it did, after a rotation in which a step was made or none.
+    // How the run ended, if it did, after a rotation; `stepped` says whether a step was made in it.
     fn ended(&self, stepped: bool) -> Option<Outcome>
         requires objects { self.now.objects.workload ≡ self.now.workload }
         requires streams { AreStreams self.now.workload self.now.steps self.now.streams }
@@ -143,7 +143,7 @@ impl<'w> Crew<'w> {
         outcome(self.w, self.pass.objects(), &self.streams, self.steps)
     }
 
-    /// Rotations, until one without a step leaves nothing to do or a stream spent.
+    /// Makes rotations, until one without a step leaves nothing to do or a stream spent.
     pub(crate) fn run<P: Pace>(&mut self, orders: &[StoredOrder], pace: &P) -> Result<Outcome, Want>
         requires crew { IsCrew self.old.workload (shapes_of orders.now) self.old.steps self.old }
         requires fresh { (s : ℕ) → s < self.old.workload.streams → HasSeenNone (moment_in self.old.workload self.old) s }
@@ -181,7 +181,7 @@ impl<'w> Crew<'w> {
     }
 }
 
-// What a stream needs for one turn, and the turn.
+// Takes the memory that one turn of a stream needs, and makes the turn.
 fn advance<'w, P: Pace>(
     stream: &mut Stream,
     w: &Workload,

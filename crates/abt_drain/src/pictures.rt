@@ -38,7 +38,7 @@ pub fn picture<'w>(
     Ok(Picture::new(rows))
 }
 
-// That many rows, each of an unborn unit.
+// `units` rows, each of an unborn unit.
 fn blanks(alloc: Global, units: u32) -> Result<Vec<Row>, Want>
     ensures { IfOk result (λ rows. rows.items ≡ replicate units blank) }
 {

@@ -21,8 +21,8 @@ pub struct Run {
 }
 
 /// Runs a workload whose streams may make `steps` steps each. In order of number each stream makes turns until one is a step,
-/// ends a round empty, or is none because the stream is spent; this goes on until a rotation without a step leaves nothing to do
-/// or a stream spent.
+/// ends a round empty, or is none since the stream is spent; this goes on until a rotation without a step leaves nothing to do
+/// or a stream spent. Err: out of memory.
 pub fn drain(alloc: Global, w: &Workload, orders: &[StoredOrder], steps: u64) -> Result<Run, Want>
     requires orders { 2 ≤ length orders.now }
     ensures run { IfOk result (λ run. HasRun w.now (shapes_of orders.now) steps run.journal run.outcome) }
@@ -31,7 +31,7 @@ pub fn drain(alloc: Global, w: &Workload, orders: &[StoredOrder], steps: u64) ->
     drain_at_pace(alloc, w, orders, &NoPace, steps)
 }
 
-/// As `drain`; `pace` is called before each step.
+/// The same as `drain`; `pace` is called before each step.
 pub fn drain_at_pace<P: Pace>(
     alloc: Global,
     w: &Workload,

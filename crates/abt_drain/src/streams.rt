@@ -9,7 +9,7 @@ use abt_machine::{Log, StreamNo, Want, Workload};
 use abt_stream::{Stream, StreamParts};
 use std::alloc::Global;
 
-/// Each stream of the workload at the start, in order of number; each may make this many steps.
+/// Each stream of the workload at the start, in order of number; each may make `steps` steps.
 pub fn start_streams(alloc: Global, w: &Workload, steps: u64) -> Result<Vec<Stream>, Want>
     ensures { IfOk result (λ streams. AreStarted w.now steps w.now.streams streams.items) }
 {

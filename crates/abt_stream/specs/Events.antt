@@ -93,7 +93,7 @@ ExitBy old turn.Stepped new o = new ≡ wrote (holding old (exited old.held (mov
 ExitBy old turn.Worn new o = (old.clock ≡ 2 ^ 62) × (new ≡ old)
 ExitBy old t new o = ⊥
 
--- a step with a call of this act, whose answer brings this
+-- a step with a call of this act, and what each answer brings
 abbrev pub StepsBy : {P : Type 0} → (P → Site → ℕ → Act → Told → P → Type 0) → StreamValue → P → Site → Act → (Answer → Effect) → Turn → StreamValue → P → Owned → Type 0
 StepsBy moves old before x asked brings turn.Stepped new after o =
     (answer : Answer) × Called moves old before x asked answer (after_step old (brings answer)) (step_of o (brings answer).code) new after

@@ -106,7 +106,7 @@ abbrev pub ahead : List PoolNo → ℕ → ℕ
 ahead [] round = round
 ahead (p ∷ ps) round = suc round
 
--- a frame of a scheduler of W, for which this order is held, after that many events
+-- a frame of a scheduler of W, for which this order is held, after a count of events
 pub record IsFrame (W : Parts) (count : ℕ) (order : List PoolNo) (f : FrameValue) : Type 0 where
   pub scheduler : IsSchedulerOf W f.scheduler
   pub round : f.scheduler.round ≡ ahead order f.round

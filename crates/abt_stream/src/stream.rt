@@ -103,7 +103,7 @@ impl Model for Stream {
 }
 
 impl Stream {
-    /// The stream at the start, which may make this many steps.
+    /// The stream at the start, which may make `steps` steps.
     #[tactic(auto, using(crate::proofs::Starting::main_is))]
     pub fn new(alloc: Global, w: &Workload, s: StreamNo, steps: u64) -> Result<Stream, Want>
         requires { s.0 < w.now.streams }
@@ -139,7 +139,7 @@ impl Stream {
     }
 
     /// One turn: the stream's next event, or none. No clock of a stream is above 2^62 (`log`), so a turn that met a
-    /// clock at its end returns `Worn`, and by `turned` no other does.
+    /// clock at its end answers `Worn`, and by `turned` no other does.
     pub fn turn<'w, C: Commons<'w>, P: Pace>(
         &mut self,
         commons: &C,

@@ -7,7 +7,7 @@ use Rattle.abt_stream.specs.Streams.{StreamValue}
 abbrev pub log_lengths : List StreamValue → List ℕ
 log_lengths = map (λ (stream : StreamValue). length stream.log)
 
--- what each log has after this many events
+-- what each log has after as many events as its number says
 abbrev pub behind : List StreamValue → List ℕ → List (List Event)
 behind [] ns = []
 behind (stream ∷ streams) [] = []

@@ -42,12 +42,12 @@ FindsNothing W lives objects s = IsTrue (is_live_with (object_at objects) lives 
 abbrev pub IsQuietOnAt : Parts → List Life → List StreamValue → ObjectsValue → ℕ → Type 0
 IsQuietOnAt W lives streams objects s = IsIdle (parts_held W streams s) × FindsNothing W lives objects s
 
--- the journal ended so on these lives, or nothing of an end is in it
+-- the journal ended so on these lives, or it has not ended
 abbrev pub EndsOnWith : Parts → List Life → ℕ → List Event → Option Outcome → Type 0
 EndsOnWith W lives n J (Some o) = EndsOn W lives n J o
 EndsOnWith W lives n J None = (QuietOn W lives (last_state W J) → ⊥) × ((s : ℕ) → Spent W n J s → ⊥)
 
--- so ended each run to whose last state these streams and objects belong
+-- each run to whose last state these streams and objects belong ended so
 abbrev pub IsOutcomeOnLives : Parts → List Life → ℕ → List StreamValue → ObjectsValue → Option Outcome → Type 0
 IsOutcomeOnLives W lives n streams objects outcome =
     (Z : List OrderShape) (J : List Event) → OrdersStored W Z → Run W Z J → StandFor W (last_state W J) (parts_held W streams) (object_at objects)

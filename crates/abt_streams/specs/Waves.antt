@@ -34,8 +34,8 @@ abbrev pub RiseWhereShared : Parts → List Event → Type 0
 RiseWhereShared W [] = ⊤
 RiseWhereShared W (e ∷ es) = AllAfter W e es × RiseWhereShared W es
 
--- the journal is a run of the workload on these lives, whose streams may make n steps each, in these waves, of which there is one
--- at least; it ended so
+-- the journal is a run of the workload on these lives, whose streams may make n steps each; it was made in these waves, of which there
+-- is at least one, and it ended so
 pub record HasRunOn (W : Parts) (Z : List OrderShape) (n : ℕ) (lives : List Life) (J : List Event) (waves : List Wave) (o : Outcome) : Type 0 where
   pub run : Run W Z J
   pub sound : (i : ℕ) → Sound W Z (state_at W J i)

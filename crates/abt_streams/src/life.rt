@@ -2,7 +2,7 @@
 
 use abt_machine::{Items, ObjectNo, StreamNo};
 
-/// When a stream lives: from the wave on that finds the first eventual ready, up to the wave that finds the second ready too.
+/// When a stream lives: in each wave at whose start `begins` is ready and `ends` is not.
 #[derive(Clone, Copy, Debug, PartialEq, Eq)]
 pub struct Life {
     pub stream: StreamNo,

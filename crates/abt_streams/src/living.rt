@@ -12,7 +12,7 @@ use abt_commons::Objects;
 use abt_machine::{StreamNo, Want, Workload};
 use std::alloc::Global;
 
-/// Of each stream whether it lives, and the numbers of those that do.
+/// Whether each stream lives, and the numbers of those that do.
 #[derive(Drop)]
 pub(crate) struct LiveStreams {
     pub(crate) flags: Vec<bool>,

@@ -22,7 +22,7 @@ pub(crate) fn log_lengths(alloc: Global, streams: &[Stream]) -> Result<Vec<usize
     Ok(lengths)
 }
 
-// What a log has after this many events.
+// What a log has after its first `from` events.
 fn log_behind(alloc: Global, log: &[Event], from: usize) -> Result<Log, Want>
     ensures { IfOk result (λ rest. rest ≡ drop from log.now) }
 {
@@ -30,7 +30,7 @@ fn log_behind(alloc: Global, log: &[Event], from: usize) -> Result<Log, Want>
     Ok(Log::new(Vec::from_slice(alloc, &log[from..])?))
 }
 
-// What each log has after this many events.
+// What each log has after as many events as its length says.
 fn logs_behind(alloc: Global, streams: &[Stream], lengths: &[usize]) -> Result<Vec<Log>, Want>
     requires { length lengths.now ≡ length streams.now }
     ensures { IfOk result (λ logs. logs.items ≡ behind streams.now lengths.now) }
@@ -42,7 +42,7 @@ fn logs_behind(alloc: Global, streams: &[Stream], lengths: &[usize]) -> Result<V
     Ok(logs)
 }
 
-/// Appends the events of a wave, merged; the logs had this many before it.
+/// Appends the events of a wave, merged; `lengths` says how many events each log had before it.
 pub(crate) fn append_wave(
     alloc: Global,
     journal: &mut Vec<Event>,

@@ -138,7 +138,7 @@ fn read_life(
 ///
 /// # Errors
 ///
-/// `Bad` with the first line, counted from 1, that breaks a rule; `Memory` if memory is refused.
+/// `Bad` with the first line, counted from 1, that breaks a rule; `Memory` if it is out of memory.
 pub fn read_lives(alloc: Global, w: &Workload, bytes: &[u8]) -> Result<Lives, TextFault>
     ensures lives { IfOk result (λ lives. AreLives w.now lives) }
     ensures text { IfOk result (λ lives. lives_text lives ≡ bytes.now) }

@@ -46,7 +46,7 @@ pub record MakesWave (W : Parts) (Z : List OrderShape) (live : List Bool) (old n
   pub wave : IsWave W Z live old new
   pub times : (x : Site) → new.times x ≡ last_from (old.times x) (entry_stamps (wave.histories x))
 
--- The same over any locks: of each site the lock, and of objects the clock that is carried to each lock.
+-- The same over any locks: the lock of each site, and the clock that objects carry to each lock.
 module _ {Lock : Type 0} (lock : Site → Lock) (clock : ObjectsValue → Lock → ℕ) where
   -- no site has a later stamp than its lock's clock, and each of these is 0 or the stamp of a deed. If each site has a lock of its own
   -- stamps are Lamport's, and its last one is its lock's clock.

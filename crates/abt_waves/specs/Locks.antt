@@ -6,7 +6,7 @@ use Rattle.abt_commons.specs.Held.{ObjectsValue, object_at}
 use Rattle.abt_commons.specs.Replies.{Told}
 use Rattle.abt_commons.specs.Sights.{SiteCall, Leaves, Shows}
 
--- locks round the objects of a workload, for so many streams: of each lock the clock that was carried to it, and of a pass the number of
+-- locks around the objects of a workload, for that number of streams: the clock that was carried to each lock, and of a pass the number of
 -- its stream and what it has seen of each lock's line
 pub record LocksValue (Lock Pass : Type 0) : Type 0 where
   pub objects : ObjectsValue
@@ -28,7 +28,7 @@ module _ {Lock Pass : Type 0} (locks : LocksValue Lock Pass) where
   sights_from None l = []
   sights_from (Some pass) l = locks.sights pass l
 
-  -- of each site the lock
+  -- the lock of each site
   module _ (lock : Site → Lock) where
     -- what a pass sees by a call
     abbrev pub Moves : Pass → Site → ℕ → asked.Act → Told → Pass → Type 0

@@ -33,10 +33,10 @@ pub trait Locked {
     // What a lock is named by.
     ghost Lock: { Type 0 };
 
-    // Of each site the lock.
+    // The lock of each site.
     ghost lock: { Site → Lock };
 
-    // Of objects the clock that is carried to each lock.
+    // The clock that objects carry to each lock.
     ghost clock: { ObjectsValue → Lock → ℕ };
 
     // The locks with what passes see of them.
@@ -69,9 +69,9 @@ pub trait Locked {
     ghost begins: { (W : Parts) (held : ObjectsValue) → ArePlaced W held → (l : Lock) → clock held l ≡ 0 };
 }
 
-/// Locks that are put round objects for one wave.
+/// Locks that are put around objects for one wave.
 pub trait Locking<'w, R>: Locked {
-    /// Locks round the objects, with a pass for each stream. Err: no memory was found.
+    /// Locks around the objects, with a pass for each stream. Err: out of memory.
     fn make(
         rt: &'w R,
         alloc: Global,
@@ -98,7 +98,7 @@ pub trait Orders {
     // Their shapes.
     ghost shapes: { Self → List OrderShape };
 
-    /// Takes what one turn of the stream needs.
+    /// Takes the memory that one turn of the stream needs. Err: out of memory.
     fn prepare(&self, stream: &mut Stream, w: &Workload) -> Result<(), Want>
         requires stored { OrdersStored w.now (shapes self.now) }
         requires fits { FitsStream w.now stream.old }

@@ -14,7 +14,7 @@ pub(crate) struct Tally {
 }
 
 impl Tally {
-    /// The tally that `word` made a number of.
+    /// The tally that this number holds; `word` packs it.
     pub(crate) fn of(word: u64) -> Tally {
         Tally {
             calls: (word % (1 << 32)) as u32,
@@ -78,7 +78,7 @@ impl Tally {
         }
     }
 
-    // None is active: those that wait are called to leave.
+    // None is active. Those that wait are called, so that they leave.
     fn ended(self) -> Tally {
         Tally {
             calls: self.calls.wrapping_add(1),

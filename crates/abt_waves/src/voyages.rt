@@ -33,7 +33,7 @@ impl<'a, C, X> Model for Job<'a, C, X> {
     ghost view = { λ job. record { locks = job.locks.now; stream = job.stream; pass = job.pass; live = job.live } };
 }
 
-/// Why a stream left a wave: it found nothing, it has made its steps, its memory was refused, or a clock is at its end.
+/// Why a stream left a wave: it found nothing, it has made its steps, it is out of memory, or a clock is at its end.
 #[derive(Clone, Copy, Debug, PartialEq, Eq)]
 pub(crate) enum Stop {
     Idle,
@@ -149,7 +149,7 @@ fn idle_unless(goes_on: bool) -> Option<Stop>
     if goes_on { None } else { Some(Stop::Idle) }
 }
 
-// What a stream needs for one turn, and the turn.
+// Takes the memory that one turn of a stream needs, and makes the turn.
 fn advance<P: Pace, O: Orders, C: Locked>(
     w: &Workload,
     orders: &O,

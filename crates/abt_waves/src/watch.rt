@@ -2,7 +2,8 @@
 //! when it leaves the wave. Whatever it decides, what the streams do is a run.
 //!
 //! A stream that finds nothing calls the others if it had work since it last did so, and then waits for a call. A call makes all that wait
-//! active at once, before they wake. So when none is active, each has looked in vain after the last work of all, and the wave is over.
+//! active at once, before they wake. So when none is active, each stream that has not left has looked in vain after the last work of all,
+//! and the wave is over. A stream leaves before that if it is spent, if it is out of memory, or if it has found nothing too often in a row.
 
 use crate::tally::Tally;
 use std::hint::spin_loop;
@@ -10,18 +11,20 @@ use std::sync::Wait;
 use std::sync::atomic::{AtomicBool, AtomicU64, Ordering};
 use std::time::Duration;
 
-// After so many turns at first a stream with work calls those that wait, and after twice as many each time that none of them found work
-// since the last call, up to the second number.
+// A stream with work calls those that wait after this many turns; the number doubles each time none of them found work since the last
+// call, up to `RAREST_CALL`.
 const FIRST_CALL: u32 = 1 << 11;
 
 const RAREST_CALL: u32 = 1 << 16;
 
-// So often a stream that waits looks whether it was called, before it sleeps: half as often each time that no call came meanwhile,
-// until it finds work.
+// How many times a waiting stream checks for a call before it sleeps; halved each time no call came, until it finds work.
 const LONGEST_LOOK: u32 = 512;
 
-// So often a stream without work sleeps, a millisecond at most, while there are streams that have not started.
+// How many times a stream without work sleeps, a millisecond at most, while some stream has not started.
 const PATIENCE: u32 = 32;
+
+// How many further empty rounds in a row a stream without work makes at most, while others have work.
+const FURTHER_ROUNDS: u32 = 1_000;
 
 /// The streams that are live in a wave.
 #[derive(Drop)]
@@ -53,6 +56,8 @@ pub(crate) struct Shift {
     helped: u64,
     // How often it looks before it sleeps.
     look: u32,
+    // How many further rounds it has begun since the first that found nothing after it last had work.
+    further_rounds: u32,
 }
 
 impl Watch {
@@ -86,6 +91,7 @@ impl Watch {
             interval: FIRST_CALL,
             helped: 0,
             look: LONGEST_LOOK,
+            further_rounds: 0,
         }
     }
 
@@ -108,8 +114,12 @@ impl Watch {
     }
 
     /// After a round in which a stream found nothing: whether it goes on. It looks again if there was a call since it began to look, and
-    /// else waits for one.
+    /// else waits for one. It does not go on if it has made all the further rounds that it may make.
     pub(crate) fn found_none<R: Wait>(&self, rt: &R, shift: &mut Shift) -> bool {
+        if shift.further_rounds >= FURTHER_ROUNDS {
+            return false;
+        }
+        shift.further_rounds += 1;
         self.await_starts(rt);
         match self.rest(shift) {
             Some(tally) if !tally.over => self.await_call(rt, shift, tally.calls),
@@ -134,7 +144,7 @@ impl Watch {
         }
     }
 
-    /// Memory was refused: the others are to leave too.
+    /// The stream is out of memory, and all others are to leave too.
     pub(crate) fn refuse(&self) {
         self.refused.store(true, Ordering::SeqCst);
         self.call();
@@ -165,6 +175,7 @@ impl Watch {
     // The stream has work.
     fn note_work(&self, shift: &mut Shift) {
         shift.worked = true;
+        shift.further_rounds = 0;
         if shift.waited {
             shift.waited = false;
             shift.look = LONGEST_LOOK;
@@ -173,7 +184,7 @@ impl Watch {
         }
     }
 
-    // The stream calls next after as many turns as at first if its last call helped, and else after twice as many as before.
+    // The stream calls next after `FIRST_CALL` turns if its last call helped, and else after twice as many turns as before.
     fn choose_interval(&self, shift: &mut Shift) {
         let helped = self.helped.load(Ordering::SeqCst);
         shift.interval = if helped != shift.helped {
@@ -184,7 +195,7 @@ impl Watch {
         shift.helped = helped;
     }
 
-    // The stream waits, and the tally after that; None if it is to look again, or the wave is over.
+    // The stream waits; returns the tally after that, or None if it is to look again, or if the wave is over.
     fn rest(&self, shift: &mut Shift) -> Option<Tally> {
         let calls = shift.calls;
         let worked = shift.worked;
@@ -201,7 +212,7 @@ impl Watch {
         Some(calling(Tally::of(word), worked).rested())
     }
 
-    // Waits until there was one more call than so many.
+    // Waits until the count of calls is no longer this one.
     fn await_call<R: Wait>(&self, rt: &R, shift: &mut Shift, calls: u32) {
         shift.waited = true;
         if !self.looks(shift.look, calls) {
@@ -210,7 +221,7 @@ impl Watch {
         }
     }
 
-    // Looks so often whether there was one more call, and whether there was.
+    // Checks this many times whether the count of calls is no longer this one; returns whether it found that.
     fn looks(&self, look: u32, calls: u32) -> bool {
         for _ in 0..look {
             if self.tally().calls != calls {
@@ -221,7 +232,7 @@ impl Watch {
         false
     }
 
-    // Sleeps until there was one more call.
+    // Sleeps until the count of calls is no longer this one.
     fn sleep<R: Wait>(&self, rt: &R, calls: u32) {
         self.asleep.fetch_add(1, Ordering::SeqCst);
         for _ in rt.forever() {
@@ -233,7 +244,7 @@ impl Watch {
         self.asleep.fetch_sub(1, Ordering::SeqCst);
     }
 
-    // Waits while there are streams that have not started, for some time.
+    // Waits while some stream has not started, `PATIENCE` sleeps at most.
     fn await_starts<R: Wait>(&self, rt: &R) {
         for _ in 0..PATIENCE {
             let started = self.started.load(Ordering::SeqCst);
@@ -251,7 +262,7 @@ fn calling(tally: Tally, worked: bool) -> Tally {
     if worked { tally.called() } else { tally }
 }
 
-// The tally if a stream rests that began to look after so many calls; None if there was one since then, or the wave is over.
+// The tally when a stream rests that began to look at this count of calls; None if there was a call since then, or the wave is over.
 fn rested(tally: Tally, calls: u32, worked: bool) -> Option<u64> {
     if tally.over || tally.calls != calls {
         return None;

@@ -21,8 +21,8 @@ use std::sync::Wait;
 use std::thread::Threads;
 
 /// One wave: each stream that `live` marks makes turns on a thread of its own, over objects that have a lock each, until it is
-/// spent, or finds nothing while no other stream has work. All others stay as they are. If no thread can be started the
-/// caller's does its work. Err: memory was refused, to one stream or to all.
+/// spent, or finds nothing while no other stream has work, or finds nothing too often in a row. All others stay as they are. If no
+/// thread can be started the caller's does its work. Err: out of memory, in one stream or before all.
 pub fn run_wave<'w, R: Threads + Wait + Sync, P: Pace + Sync>(
     rt: &'w R,
     alloc: Global,
@@ -107,7 +107,7 @@ fn parted<X: Drop>(
     Ok((streams, passes, stops))
 }
 
-// Err: memory was refused to a stream.
+// Err: a stream is out of memory.
 fn settle(stops: &[Stop]) -> Result<(), Want>
     requires { All (λ stop. stop ≢ why.Worn) stops.now }
 {

@@ -16,7 +16,7 @@ use abt_desk::Asks;
 use abt_machine::{Site, UnitNo, Want, Workload};
 use std::alloc::Global;
 
-/// What is asked of the unit, which is then forgotten. None: the clock of the desk's lock is worn.
+/// What is asked of the unit; after that nothing is asked of it. None: the clock of the desk's lock is worn.
 pub fn look<'w, C: Commons<'w>>(commons: &C, pass: &mut C::Pass, u: UnitNo, at: u64) -> Option<Asks>
     requires pass { C.is_of commons.now pass.old }
     requires may { MayCall (C.workload commons.now) (site.Desk u) asked.Look }
@@ -36,7 +36,7 @@ pub fn look<'w, C: Commons<'w>>(commons: &C, pass: &mut C::Pass, u: UnitNo, at: 
     }
 }
 
-/// The objects of a new run, after one look at the unit's desk.
+/// The objects of a new run, after one look at the unit's desk. Err: out of memory.
 pub fn looked<'w>(alloc: Global, w: &'w Workload, u: UnitNo) -> Result<Objects<'w>, Want>
     requires { u.0 < length w.now.units }
     ensures workload { IfOk result (λ held. held.workload ≡ w.now) }

@@ -37,7 +37,7 @@ fn a_look_moves_no_unit(rt: HostRuntime) -> Result<(), Fail> {
     Ok(())
 }
 
-// The objects, after a hall round them, if there was memory for one.
+// The objects, after a hall around them was closed, if there was memory for one.
 fn through_hall<'w, R: Wait>(rt: &'w R, alloc: Global, objects: Objects<'w>) -> Objects<'w> {
     match Hall::make(rt, alloc, objects, 2) {
         Ok((hall, passes)) => hall.close(passes),
@@ -85,7 +85,7 @@ fn play_every_kind<'w, C: Commons<'w>>(
     play_all(rt, commons, pass, w, &mut hand, &RWLOCKS);
 }
 
-// The workload with objects of all kinds, and so many units that start in pool 0 besides an unborn one.
+// The workload with objects of all kinds, and `started` units that start in pool 0 besides an unborn one.
 fn workload_of(rt: &impl Abort, alloc: Global, started: u8) -> Result<Workload, AllocError> {
     let text = text_of(alloc, started)?;
     match read(alloc, text.as_bytes()) {
@@ -189,7 +189,7 @@ fn threads_lose_no_unit(rt: HostRuntime) -> Result<(), Fail> {
     threads_lose_none(&rt, rt.alloc(), &w)
 }
 
-// The text of a workload with objects of all kinds, and so many units that start in pool 0 besides an unborn one.
+// The text of a workload with objects of all kinds, and `started` units that start in pool 0 besides an unborn one.
 fn text_of(alloc: Global, started: u8) -> Result<String, AllocError> {
     let mut text = String::from_str(alloc, KINDS)?;
     push_units(&mut text, alloc, started)?;

@@ -1,4 +1,4 @@
-//! One lock round all objects, as the streams of a wave share it.
+//! One lock around all objects, as the streams of a wave share it.
 
 ghost use Rattle.std.specs.Prelude.{◌≤◌, IfOk, length};
 ghost use Rattle.abt_machine.specs.Valid.{IsValid};
@@ -90,8 +90,8 @@ impl<'w, R: Wait> Locking<'w, R> for OneLock<'w, R> {
     }
 }
 
-/// Runs a workload as `run_streams` of abt_waves does, but with one lock round all objects. No more is claimed of stamps than that
-/// they leave no gap: calls on different objects get stamps by the one lock too.
+/// Runs a workload as `run_streams` of abt_waves does, but with one lock around all objects. No more is claimed of stamps than that
+/// they leave no gap: calls on different objects get stamps by the one lock too. Err: out of memory.
 pub fn run_in_hall<'w, R: Threads + Wait + Sync, P: Pace + Sync>(
     rt: &'w R,
     alloc: Global,

@@ -1,4 +1,4 @@
-//! Runs on threads over one lock round all objects: the crate of waves takes any locks.
+//! Runs on threads over one lock around all objects: the crate of waves takes any locks.
 #![tactic(auto)]
 
 mod hall;

@@ -118,7 +118,7 @@ impl Stream {
         }
     }
 
-    // The answer to it.
+    // What it is answered.
     fn heard(&mut self, asking: Asking, stamp: u64, answer: Answer)
         requires can { CanStep self.old }
         requires answer { Suits (asked asking) (answer_of answer) }
@@ -134,7 +134,7 @@ impl Stream {
         }
     }
 
-    // The answer to a unit that goes on.
+    // What a unit that goes on is answered.
     fn called(&mut self, stamp: u64, answer: Answer)
         requires can { CanStep self.old }
         requires answer { IsForCaller (answer_of answer) }
@@ -150,7 +150,7 @@ impl Stream {
         self.write_step(stamp, number, at, code);
     }
 
-    // The answer to a unit that yields to another.
+    // What a unit that yields to another is answered.
     fn answered(&mut self, stamp: u64, answer: Answer)
         requires can { CanStep self.old }
         requires answer { IsForYielder (answer_of answer) }
@@ -229,7 +229,7 @@ impl Stream {
         }
     }
 
-    // The unit that went with an act in vain is in the hand again, at the same operation.
+    // The unit that went with an act to a worn clock is in the hand again, at the same operation.
     fn take_back(&mut self, mut unit: Box<Unit>)
         requires free { IsFree unit.value }
         requires position { 0 < unit.value.owned.carried.position }

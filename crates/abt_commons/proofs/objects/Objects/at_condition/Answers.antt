@@ -6,6 +6,7 @@ use Rattle.abt_machine.specs.Workloads.{IsCondition}
 use Rattle.abt_chain.specs.Results.{unit_found}
 use Rattle.abt_commons.specs.Held.{ObjectsValue}
 use Rattle.abt_commons.specs.Reading.{waiters_at_thing}
+use Rattle.abt_commons.proofs.KindsSeen.{condition-seen}
 use Rattle.abt_commons.proofs.Things.{mutex-within, thing-within, may-signal, waiting-here}
 use Rattle.abt_commons.proofs.objects.Objects.at_condition.Goals as goal
 
@@ -28,8 +29,9 @@ pub condition_waiter-requires : goal.condition_waiter-requires
 condition_waiter-requires c =
     let s = c.self.inside in
     let is = subst (λ (held : ObjectsValue). IsCondition held.workload c.args.x.0) (sym c.self.view_is) c.requires in
-    may-signal s.w.now s.ones.items s.clocks.items c.self.invariant.1 c.args.x.0 c.known.ensures is c.cond-cond.result.0.0 c.thing_number.result c.cond-cond.result.1 c.index.result.now
-    c.cond-cond.ensures.mutex c.cond-cond.ensures.number c.thing_number.ensures c.index.ensures
+    condition-seen c.cond-cond.result.1 c.index.result.now.object
+    (may-signal s.w.now s.ones.items s.clocks.items c.self.invariant.1 c.args.x.0 c.known.ensures is c.cond-cond.result.0.0 c.thing_number.result c.cond-cond.result.1 c.index.result.now
+    c.cond-cond.ensures.mutex c.cond-cond.ensures.number c.thing_number.ensures c.index.ensures)
 
 pub returns : goal.returns
 returns c =

@@ -2,9 +2,10 @@
 use Rattle.std.proofs.Common.{◌==◌, length, sym, ◌∙◌, ap, subst}
 use Rattle.abt_machine.specs.declared.events.Site.TheVariants as site
 use Rattle.abt_machine.specs.Acts.{Remove}
-use Rattle.abt_calls.specs.Allowed.{Allows}
 use Rattle.abt_calls.specs.Keeps.{contents_of}
 use Rattle.abt_commons.specs.Held.{OneValue, object_at}
+use Rattle.abt_commons.specs.Reading.{IsPool}
+use Rattle.abt_commons.proofs.KindsSeen.{pool-seen}
 use Rattle.abt_commons.proofs.Moving.{object-here}
 use Rattle.abt_commons.proofs.objects.Objects.pool_is_empty.Goals as goal
 
@@ -12,11 +13,11 @@ pub is_empty_pool-requires : goal.is_empty_pool-requires
 is_empty_pool-requires c =
     let s = c.self.inside in
     let here = object-here s.w.now s.ones.items s.clocks.items c.self.invariant.0 c.self.invariant.1 (site.Pool c.args.p) c.site_number.result c.site_number.ensures c.index.result.now ∙ ap (λ (one : OneValue). one.object) (sym c.index.ensures) in
-    subst (λ object. Allows object (Remove 0)) here (c.self.invariant.1.allowed (site.Pool c.args.p) (Remove 0) tt)
+    subst IsPool here (pool-seen _ (c.self.invariant.1.allowed (site.Pool c.args.p) (Remove 0) tt))
 
 pub returns-clause-pool : goal.returns-clause-pool
 returns-clause-pool c =
-    subst (λ held. Allows (object_at held (site.Pool c.args.p)) (Remove 0)) c.self.view_is (c.self.invariant.1.allowed (site.Pool c.args.p) (Remove 0) tt)
+    subst (λ held. IsPool (object_at held (site.Pool c.args.p))) c.self.view_is (pool-seen _ (c.self.invariant.1.allowed (site.Pool c.args.p) (Remove 0) tt))
 
 pub returns-clause-empty : goal.returns-clause-empty
 returns-clause-empty c =
