@@ -40,8 +40,8 @@ pub fn run<R: Runtime + AllocGlobal, C: FnOnce(&[String]) -> u8>(
     ExitCode::from(status)
 }
 
-/// The words after the program's name.
-pub fn words_of<R: Runtime>(rt: &R, alloc: Global) -> io::Result<Vec<String<R::A>>> {
+// The words after the program's name.
+fn words_of<R: Runtime>(rt: &R, alloc: Global) -> io::Result<Vec<String<R::A>>> {
     let mut words = Vec::new(alloc);
     for word in env::args(rt)?.skip(1) {
         words.push(word)?;
