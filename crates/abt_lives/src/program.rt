@@ -165,14 +165,14 @@ pub fn abtwaves<R: Threads + Wait + Sync, F: Files, K: Sink, E: Sink, P: Pace + 
     }) }
 {
     match prepare(rt, alloc, words, files, pace, orders) {
-        Ok(done) => conclude_run(
-            NAME,
-            out,
-            err,
-            &done.text,
-            number_of_outcome(done.outcome),
-            done.journal,
-        ),
+        Ok(done) => {
+            let Prepared {
+                journal,
+                text,
+                outcome,
+            } = done;
+            conclude_run(NAME, out, err, &text, number_of_outcome(outcome), journal)
+        }
         Err(stop) => stop_without_run(alloc, NAME, err, stop),
     }
 }

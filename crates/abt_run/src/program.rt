@@ -97,14 +97,14 @@ pub fn abtrun<R: Threads + Wait + Sync, F: Files, K: Sink, E: Sink, P: Pace + Sy
     }) }
 {
     match prepare(rt, alloc, words, files, pace, orders) {
-        Ok(done) => conclude_run(
-            NAME,
-            out,
-            err,
-            &done.text,
-            done.conclusion.number(),
-            done.journal,
-        ),
+        Ok(done) => {
+            let Prepared {
+                conclusion,
+                journal,
+                text,
+            } = done;
+            conclude_run(NAME, out, err, &text, conclusion.number(), journal)
+        }
         Err(stop) => stop_without_run(alloc, NAME, err, stop),
     }
 }
