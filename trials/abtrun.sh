@@ -15,17 +15,18 @@ hello() {
 }
 
 try_statuses() {
-    local file steps wanted
+    local file command steps wanted
     call "$program" run "$root/crates/abtrun/data/hi.abt" --journal
     came "hi with its journal" 0 "@$root/crates/abtrun/stdout" ""
     for file in "$data"/*.abt; do
-        steps=() wanted=0
+        command=run steps=() wanted=0
         case ${file##*/} in
+        flow.abt) command=flow ;;
         stuck.abt) wanted=1 ;;
         steps.abt) wanted=4 steps=(--steps 2) ;;
         budget.abt) wanted=4 steps=(--steps=20) ;;
         esac
-        call "$program" run "${steps[@]}" "$file"
+        call "$program" "$command" "${steps[@]}" "$file"
         came "the example ${file##*/}" "$wanted" "@${file%.abt}.out" ""
     done
     # Each of the workloads that it makes.
@@ -249,6 +250,8 @@ try_checks() {
     "$program" run "$data/streams.abt" --journal | sed '/^unit 0 /,$d' >"$room/streams.journal"
     call "$program" check "$data/streams.abt" "$room/streams.journal"
     came "a run on threads is checked" 0 "run" ""
+    call "$program" check "$data/flow.abt" - < <("$program" run "$data/flow.abt" --journal | grep '^[0-9]')
+    came "a journal through a pipe" 0 "run" ""
     sed '$d' "$room/streams.journal" >"$room/shorter.journal"
     call "$program" check "$data/streams.abt" "$room/shorter.journal"
     came "its first events" 0 "run" ""
@@ -266,6 +269,9 @@ try_checks() {
     came "standard input twice" 2 "" "abtrun: bad command line"
     call "$program" flow "$hi"
     came "a flow" 0 "unit 0: hi" ""
+    "$program" run "$data/flow.abt" >"$room/text"
+    sed -n 's/^\(unit [0-9]*\) done:/\1:/p' "$room/text" >"$room/flow.out"
+    holds "a run puts out the flow" cmp -s "$room/flow.out" "$data/flow.out"
     call "$program" flow "$data/streams.abt"
     came "a workload that is not confluent" 1 "not confluent" ""
     call "$program" flow "$hi" "$hi"

@@ -34,7 +34,7 @@ fn files_of(alloc: Global, row: &Row) -> Result<MemoryFiles, AllocError> {
     Ok(MemoryFiles::new(named, vec![in alloc; row.failing.files]?))
 }
 
-// A sink of which a write takes so many bytes, and this one fails.
+// A sink that takes at most `most` bytes in a write, and whose write of the number `failing` fails.
 fn sink(alloc: Global, most: usize, failing: u64) -> Result<MemorySink, Fail>
     requires { 0 < most }
 {
@@ -72,7 +72,7 @@ pub(crate) fn check<R: Threads + Wait + Sync + Abort>(
     Ok(())
 }
 
-/// So do the calls of all these rows.
+/// The call of each of these rows leaves what its row says.
 pub(crate) fn check_all<R: Threads + Wait + Sync + Abort>(
     rt: &R,
     alloc: Global,

@@ -1,4 +1,4 @@
-//! Worked rows of the lines that format 2 has besides, and of them in format 1.
+//! Worked rows of the lines that only format 2 has, and of the same lines in format 1.
 
 use crate::rows::ONE_POOL;
 

@@ -17,7 +17,7 @@ const REPORT: &str =
 
 const JOURNAL: &str = "1 0 take 0 0\n2 0 look 0\n3 0 step 0 0 ok\n4 0 end 0 done\n5 0 miss 0\n";
 
-// Its run, of whose report a write takes one byte.
+// Its run, whose report is written one byte at a time.
 const HI_RUN: Row<'static> = Row {
     head: "",
     lines: HI,
@@ -26,7 +26,7 @@ const HI_RUN: Row<'static> = Row {
     ..RUN
 };
 
-// The bytes of the report, each of which takes a write.
+// The bytes of the report, and so its writes.
 const WRITES: usize = 106;
 
 // A call of the files fails.
@@ -38,8 +38,8 @@ const NOT_READ: Row<'static> = Row {
     ..HI_RUN
 };
 
-// Each call of the files fails in turn: one begins, one reads the text, and one finds its end. A fourth one and a write behind
-// those of the report are not made. The last row is that of a message's first write.
+// Each call of the files fails in turn: one begins, one reads the text, and one finds its end. There is no
+// fourth one, and no write after those of the report. In the last row the first write of a message fails.
 static ROWS: [Row<'static>; 6] = [
     Row {
         failing: Failing { files: 0, ..NONE },
@@ -154,7 +154,7 @@ fn check_spoilt<R: Threads + Wait + Sync + Abort>(
     check(rt, alloc, &row)
 }
 
-// Each byte is spoilt in turn: its line is not UTF-8. That of a line feed is the one that it ends.
+// Each byte is spoilt in turn: the line that it is in is not UTF-8. A line feed is in the line that it ends.
 #[test]
 fn each_byte_may_be_spoilt(rt: HostRuntime) -> Result<(), Fail> {
     let mut line: u32 = 1;

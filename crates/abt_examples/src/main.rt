@@ -1,4 +1,4 @@
-//! Runs each workload of `data/`, and compares what the program prints with the output that stands beside it.
+//! Calls the program with each workload of `data/`, and compares what it prints with the output that stands beside it.
 #![tactic(auto)]
 
 #[cfg(test)]
@@ -30,7 +30,7 @@ use std::thread::Threads;
 // The words of a call, with a blank between each two, the file with what it prints, and its exit status.
 type Example = (&'static str, &'static str, u8);
 
-static EXAMPLES: [Example; 25] = [
+static EXAMPLES: [Example; 27] = [
     ("run hi.abt", "hi.out", 0),
     ("run empty.abt", "empty.out", 0),
     ("run wrap.abt", "wrap.out", 0),
@@ -54,6 +54,8 @@ static EXAMPLES: [Example; 25] = [
     ("run keys.abt", "keys.out", 0),
     ("run access.abt", "access.out", 0),
     ("run streams.abt", "streams.out", 0),
+    ("run many.abt", "many.out", 0),
+    ("flow flow.abt", "flow.out", 0),
     ("run stuck.abt", "stuck.out", 1),
     ("run budget.abt --steps 20", "budget.out", 4),
 ];

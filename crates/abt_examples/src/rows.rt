@@ -26,7 +26,7 @@ pub(crate) struct Row<'a> {
     pub(crate) head: &'a str,
     pub(crate) lines: &'a [u8],
     pub(crate) other: Option<&'a str>,
-    /// How many bytes of the output a write takes, if it is more than none.
+    /// The most bytes of the output that a write takes; 0 stands for 1.
     pub(crate) most: usize,
     pub(crate) failing: Failing,
     pub(crate) status: u8,
@@ -179,7 +179,7 @@ pub(crate) static UNITS: [Row<'static>; 13] = [
 ];
 
 /// Orders of pools, and schedulers that are units.
-pub(crate) static SCHEDULERS: [Row<'static>; 9] = [
+pub(crate) static SCHEDULERS: [Row<'static>; 10] = [
     // prio
     Row {
         head: "",
@@ -266,6 +266,15 @@ pub(crate) static SCHEDULERS: [Row<'static>; 9] = [
         journal: Some(
             "1 0 take 9 1\n2 0 look 1\n3 0 step 1 0 ok\n4 0 end 1 done\n5 0 take 9 0\n6 0 look 0\n7 0 step 0 0 ok\n8 0 end 0 done\n9 0 miss 9\n",
         ),
+        ..RUN
+    },
+    // a pool that no scheduler lists
+    Row {
+        head: "",
+        lines: b"abt 1\nstreams 1\npool 0 fifo mpmc\npool 1 fifo mpmc\nsched 0 prio 0\nstream 0 main 0\nunits 1\nunit 0 ult at 1\nend\n",
+        status: 1,
+        out: "unit 0 pool 1:\ntally units 1 unborn 0 pool 1 stream 0 blocked 0 done 0 asked 0 access 0 steps 0\nstuck\n",
+        journal: Some("1 0 miss 0\n"),
         ..RUN
     },
 ];

@@ -8,7 +8,7 @@ use std::sync::Wait;
 use std::test::Fail;
 use std::thread::Threads;
 
-// A part of a text for each number from the first on and short of the second, which stands in the place of each `@`.
+// A part of a text for each number from the first up to the one before the second, with the number in place of each `@`.
 type Part<'a> = (u32, u32, &'a str);
 
 const HI: &str = "units 1\nunit 0 ult at 0\nsay hi\nend\n";
@@ -16,7 +16,7 @@ const HI: &str = "units 1\nunit 0 ult at 0\nsay hi\nend\n";
 const HI_REPORT: &str =
     "unit 0 done: hi\ntally units 1 unborn 0 pool 0 stream 0 blocked 0 done 1 asked 0 access 0 steps 1\nfinished\n";
 
-// Eight units that yield 256 times each, so that there are as many rounds, and their report.
+// Eight units that yield 256 times each, which takes 2,048 rounds, and their report.
 static YIELDS: [Part<'static>; 17] = [
     (0, 1, "unit @ ult at 0\n"),
     (0, 256, "yield\n"),
@@ -55,7 +55,7 @@ static RULES: [&str; 5] = [
     "abt 1\nstreams 1\npool 0 fifo mpmc\npool 1 fifo mpmc\nsched 0 user 1 0 1\nstream 0 main 0\nunits 8\n",
 ];
 
-// The heads of texts with as many of a kind as there may be, the other parts, and the reports.
+// The heads of texts that have as many of a kind as a text may have, the other parts, and the reports.
 static WIDEST: [(&str, &[Part<'static>], &[Part<'static>]); 4] = [
     // units that say their numbers
     (
@@ -169,7 +169,7 @@ fn made(alloc: Global, parts: &[Part]) -> Result<String, AllocError> {
     Ok(text)
 }
 
-// As `check`, of a row whose text goes on with parts, and which puts parts out.
+// As `check`, of the row with these parts for its lines and those for its output.
 fn check_made<R: Threads + Wait + Sync + Abort>(
     rt: &R,
     alloc: Global,
@@ -191,7 +191,7 @@ fn check_made<R: Threads + Wait + Sync + Abort>(
 // The bytes of a padded text that are not its padding.
 const OTHERS: u32 = 101;
 
-// Texts of so many bytes, most of which are a comment.
+// Texts of these lengths, most of which are a comment.
 #[test]
 fn texts_of_each_length_run(rt: HostRuntime) -> Result<(), Fail> {
     for bytes in [
@@ -267,7 +267,7 @@ fn a_barrier_of_4001_lets_all_through(rt: HostRuntime) -> Result<(), Fail> {
     Ok(())
 }
 
-// Of so many streams below this head each may be the one that has a unit, of two operations, and is spent.
+// Each of the `count` streams below this head in turn has the only unit, of two operations, and is spent.
 fn check_spent<R: Threads + Wait + Sync + Abort>(
     rt: &R,
     alloc: Global,
@@ -303,7 +303,7 @@ fn each_stream_may_be_the_one_that_is_spent(rt: HostRuntime) -> Result<(), Fail>
     check_spent(&rt, rt.alloc(), "abt 2\nstreams 16\n", 16)
 }
 
-// A faulty line behind so many that are skipped.
+// A faulty line after lines that are skipped.
 #[test]
 fn a_fault_far_down_is_found(rt: HostRuntime) -> Result<(), Fail> {
     for (skipped, message) in [

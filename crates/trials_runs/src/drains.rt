@@ -63,7 +63,7 @@ fn is_run(
     Ok(is && is_reported(alloc, w, &run.journal, &run.picture, run.outcome, report))
 }
 
-// So it is of a row.
+// Whether a row's run has the journal and the report of the row.
 fn is_row(alloc: Global, (lines, steps, journal, report): Row) -> Result<bool, Fail> {
     let text = format!(in alloc; "{ALONE}{lines}")?;
     let w = read(alloc, text.as_bytes())?;

@@ -62,7 +62,7 @@ fn flow_of(alloc: Global, w: &Workload) -> Result<Option<Flow>, Want> {
     }
 }
 
-// Whether the last of so many units puts out how long its chain is.
+// Whether there is a row for each unit, and that of the last is the length of its chain.
 fn counts(flow: &Flow) -> bool {
     match flow.items().last() {
         Some(last) => {
@@ -84,7 +84,7 @@ fn put_out(picture: &Picture, flow: &Flow) -> bool {
         .all(|(row, output)| row.output.items() == output.items())
 }
 
-// Whether they do in a run on threads.
+// Whether they put it out in a run on threads.
 fn is_put_out<R: Threads + Wait + Sync>(
     rt: &R,
     alloc: Global,
@@ -96,7 +96,7 @@ fn is_put_out<R: Threads + Wait + Sync>(
     Ok(put_out(&run.picture, flow))
 }
 
-// Whether they do in each run, and the last counts its chain.
+// Whether they put it out in each run, and the last unit counts its chain.
 fn count<R: Threads + Wait + Sync>(
     rt: &R,
     alloc: Global,
@@ -111,7 +111,7 @@ fn count<R: Threads + Wait + Sync>(
     Ok(counts(flow))
 }
 
-// Whether the workload has such a flow.
+// Whether the workload has a flow that its runs put out and that counts the last chain.
 fn has_flow<R: Threads + Wait + Sync>(rt: &R, alloc: Global, w: &Workload) -> Result<bool, Want> {
     match flow_of(alloc, w)? {
         Some(flow) => count(rt, alloc, w, &flow),
@@ -119,7 +119,7 @@ fn has_flow<R: Threads + Wait + Sync>(rt: &R, alloc: Global, w: &Workload) -> Re
     }
 }
 
-// Whether the workload of the chains has one.
+// Whether the workload of the chains has such a flow.
 fn chains_count<R: Threads + Wait + Sync>(rt: &R, alloc: Global) -> Result<bool, Fail> {
     let w = chains(alloc)?;
     Ok(has_flow(rt, alloc, &w)?)

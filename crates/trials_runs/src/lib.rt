@@ -1,4 +1,4 @@
-//! Trials of rounds, of turns, of runs and of booths.
+//! Tests of rounds, of turns, of runs and of booths.
 #![tactic(auto)]
 
 #[cfg(test)]

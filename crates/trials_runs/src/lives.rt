@@ -164,7 +164,7 @@ fn is_run<R: Threads + Wait + Sync>(
     )
 }
 
-// So it is of the workload of this text.
+// As `is_run`, of the workload of this text.
 fn is_run_of<R: Threads + Wait + Sync>(
     rt: &R,
     alloc: Global,
@@ -187,7 +187,7 @@ fn runs_on_lives_end_as_reported(rt: HostRuntime) -> Result<(), Fail> {
     Ok(())
 }
 
-// How many lives a text has, if it is one's.
+// How many lives a text has, if it is a text of lives.
 fn count_lives(alloc: Global, w: &Workload, text: &str) -> Option<usize> {
     match read_lives(alloc, w, text.as_bytes()) {
         Ok(lives) => Some(lives.items().len()),

@@ -12,14 +12,14 @@ use std::thread::Threads;
 // The most bytes that a sink takes.
 const ROOM: usize = 4096;
 
-// A number of no write.
+// The number of a write that no call makes.
 const NONE: u64 = 1_000_000;
 
 // Two streams, the second of which a unit starts.
 const MADE: &str =
     "abt 1\nstreams 2\npool 0 fifo mpmc\npool 1 fifo mpmc\nsched 0 prio 0\nsched 1 prio 1\nstream 0 main 0\nstream 1 main 1\nobject 0 eventual\nobject 1 eventual\nunits 2\nunit 0 ult at 0\ncreate 1 1\neset 0\nunit 1 ult later\nsay made\nend\n";
 
-// The same, but that nothing starts it.
+// The same, except that nothing starts it.
 const STUCK: &str =
     "abt 1\nstreams 2\npool 0 fifo mpmc\npool 1 fifo mpmc\nsched 0 prio 0\nsched 1 prio 1\nstream 0 main 0\nstream 1 main 1\nobject 0 eventual\nobject 1 eventual\nunits 2\nunit 0 ult at 0\ncreate 1 1\nunit 1 ult later\nsay made\nend\n";
 
@@ -29,12 +29,19 @@ const MADE_OUTPUT: &str =
 const STUCK_OUTPUT: &str =
     "unit 0 done:\nunit 1 pool 1:\ntally units 2 unborn 0 pool 1 stream 0 blocked 0 done 1 asked 0 access 0 steps 1\nstuck\nwave 0 from 0 streams 0\n";
 
+// Two units that revive each other for ever.
+const REVIVING: &str =
+    "abt 1\nstreams 1\npool 0 fifo mpmc\nsched 0 prio 0\nstream 0 main 0\nunits 2\nunit 0 ult at 0\nrevive 1 0\nunit 1 ult at 0\nrevive 0 0\nend\n";
+
+const REVIVING_OUTPUT: &str =
+    "unit 0 stream 0: !unit-state\nunit 1 done:\ntally units 2 unborn 0 pool 0 stream 1 blocked 0 done 1 asked 0 access 0 steps 10000\nbudget 0\nwave 0 from 0 streams 0\n";
+
 const BAD_WORDS: &str = "abtwaves: bad command line\n";
 
 // The words, the bytes of the files `w` and `l`, the write that fails, the status, the output and the message.
 type Row<'a> = (&'a [&'a str], &'a str, &'a [u8], u64, u8, &'a str, &'a str);
 
-static ROWS: [Row<'static>; 13] = [
+static ROWS: [Row<'static>; 14] = [
     (&["w", "l"], MADE, b"life 1 0 1\n", NONE, 0, MADE_OUTPUT, ""),
     (
         &["w", "l"],
@@ -45,6 +52,7 @@ static ROWS: [Row<'static>; 13] = [
         STUCK_OUTPUT,
         "",
     ),
+    (&["w", "l"], REVIVING, b"", NONE, 4, REVIVING_OUTPUT, ""),
     (
         &["w", "l"],
         MADE,
@@ -168,7 +176,7 @@ fn calls_on_lives_leave_what_their_rows_say(rt: HostRuntime) -> Result<(), Fail>
     Ok(())
 }
 
-// Whether a text of so many blanks is refused with this message.
+// Whether a text of this many blanks is refused with this message.
 fn is_refused<R: Threads + Wait + Sync>(
     rt: &R,
     alloc: Global,

@@ -206,7 +206,7 @@ fn next_round(
     }
 }
 
-// As `next_round`, in the memory of the list of an earlier round.
+// As `next_round`, in the list of an earlier round.
 fn next_round_into(
     scheduler: &mut Scheduler,
     w: &Workload,
@@ -266,7 +266,7 @@ fn check(
     Ok(())
 }
 
-// So it is of all rows.
+// The rounds of each row are those that it says.
 fn check_all(
     rt: &impl Abort,
     alloc: Global,

@@ -7,7 +7,7 @@ ghost use Rattle.abt_stream.specs.Turned.{IsReady};
 
 use crate::reports::is_text_of;
 use abt_commons::{Objects, Plain, PlainPass};
-use abt_machine::{Journal, OrderShape, StreamNo, Want, Workload};
+use abt_machine::{Event, Journal, OrderShape, StreamNo, Want, Workload};
 use abt_order::StoredOrder;
 use abt_stream::{NoPace, Stream, Turn};
 use abt_workload::read;
@@ -205,14 +205,17 @@ fn check_orders(w: &Workload)
     w.known();
 }
 
-// What is seen of a stream: how many events it made, and whether it is idle and spent.
-fn seen(stream: &Stream, w: &Workload) -> (usize, bool, bool)
+// What is seen of a stream: how many events it made, the last of them, and whether it is idle and spent.
+fn seen(stream: &Stream, w: &Workload) -> (usize, Option<Event>, bool, bool)
     requires { FitsStream w.now stream.now }
 {
-    (stream.log().len(), stream.is_idle(), stream.is_spent(w))
+    let log = stream.log();
+    let last = log.last().copied();
+    (log.len(), last, stream.is_idle(), stream.is_spent(w))
 }
 
-// What the next turn needs. If memory is refused the stream is as it was, and it is asked for once more.
+// What the next turn needs. If memory is refused, the same is seen of the stream as before, and it is asked for once more. That
+// the stream also holds what it held, and has the same next round, shows in the events that follow, which the row says.
 fn prepare(
     rt: &impl Abort,
     stream: &mut Stream,
@@ -234,7 +237,7 @@ fn prepare(
     }
 }
 
-// Whether this was the last turn of a stream that is then idle or not: it made its steps, or has nothing to do.
+// Whether this was the stream's last turn: it has made its steps, or its round was empty and it is idle.
 fn ends(turn: Turn, idle: bool) -> bool {
     match turn {
         Turn::Spent | Turn::Worn => true,
@@ -296,7 +299,7 @@ fn is_done(
     Ok(is_text_of(alloc, &done, &wanted))
 }
 
-// They are.
+// The events of a row are those that it says.
 fn check(rt: &impl Abort, alloc: Global, orders: &[StoredOrder; 2], row: Row) -> Result<(), Fail> {
     let text = text(alloc, row.units)?;
     let w = read(alloc, text.as_bytes())?;
@@ -305,7 +308,7 @@ fn check(rt: &impl Abort, alloc: Global, orders: &[StoredOrder; 2], row: Row) ->
     Ok(())
 }
 
-// The same of all rows.
+// The events of each row are those that it says.
 fn check_all(rt: &impl Abort, alloc: Global, rows: &[Row]) -> Result<(), Fail> {
     let orders = [
         StoredOrder::new(OrderShape::Free, Box::new(alloc, first_once)?),

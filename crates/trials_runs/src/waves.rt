@@ -19,7 +19,7 @@ use std::thread::Threads;
 // How many times each run is repeated.
 const TIMES: u32 = 10;
 
-// How many turns a held step waits.
+// The most turns that a held step waits.
 const TURNS: u32 = 10_000_000;
 
 // Two streams that share nothing, with a step each.
@@ -33,7 +33,7 @@ static APART_REPORT: &str =
 static BARRIER: &str =
     "abt 2\nstreams 2\npool 0 fifo mpmc\nsched 0 prio 0\nsched 1 prio 0\nstream 0 main 0\nstream 1 main 1\nobject 0 mutex\nobject 1 barrier 4001\nunits 4001\nmany 0 4000 ult at 0\nlock 0\nload 0\nadd 1\nstore 0\nunlock 0\nbwait 1\nunit 4000 ult at 0\nbwait 1\nlock 0\nload 0\nprint\nunlock 0\nend\n";
 
-// Holds each step of one stream until the other has reached one, as long as the turns last.
+// Holds each step of one stream until the other has reached one, or for as many turns as a held step waits.
 #[derive(Drop)]
 struct Meeting {
     held: StreamNo,
@@ -90,7 +90,7 @@ fn is_run<R: Threads + Wait + Sync, P: Pace + Sync>(
     Ok(is && check(alloc, w, &orders, &run.journal)? == Verdict::Run)
 }
 
-// Whether all runs are such.
+// As `is_run`, of each of several runs of at most 10,000 steps a stream.
 fn are_runs<R: Threads + Wait + Sync>(
     rt: &R,
     alloc: Global,
@@ -105,7 +105,7 @@ fn are_runs<R: Threads + Wait + Sync>(
     Ok(true)
 }
 
-// Whether they are, of two streams that share a number.
+// As `are_runs`, of two streams that share a number.
 fn share<R: Threads + Wait + Sync>(rt: &R, alloc: Global) -> Result<bool, Fail> {
     let w = shared(alloc)?;
     Ok(are_runs(rt, alloc, &w, Some(SHARED_REPORT))?)
@@ -118,7 +118,7 @@ fn streams_on_threads_share_a_number(rt: HostRuntime) -> Result<(), Fail> {
     Ok(())
 }
 
-// Whether they are, of 126 adders.
+// As `are_runs`, of 126 adders.
 fn add<R: Threads + Wait + Sync>(rt: &R, alloc: Global) -> Result<bool, Fail> {
     let w = generate(alloc, 126)?;
     Ok(are_runs(rt, alloc, &w, None)?)
@@ -131,7 +131,7 @@ fn journals_of_threads_are_judged_runs(rt: HostRuntime) -> Result<(), Fail> {
     Ok(())
 }
 
-// Whether one is, of a barrier that lets 4,001 units through.
+// As `is_run`, of a barrier that lets 4,001 units through.
 fn let_through<R: Threads + Wait + Sync>(rt: &R, alloc: Global) -> Result<bool, Fail> {
     let w = read(alloc, BARRIER.as_bytes())?;
     Ok(is_run(rt, alloc, &w, &NoPace, 100_000, None)?)
