@@ -16,11 +16,11 @@ BarriersKeepWhatFits = KeepsWhatFits contents_of_barrier BarrierGives
 abbrev pub LacksAParty : BarrierValue → Type 0
 LacksAParty barrier = length barrier.waiters < barrier.size
 
--- the barrier has as many parties as before, and fewer wait
+-- the barrier has as many parties as before, and fewer units wait
 abbrev pub StaysShort : BarrierValue → BarrierValue → Type 0
 StaysShort old new = (new.size ≡ old.size) × LacksAParty new
 
--- no call changes how many parties a barrier has, or leaves it with as many waiters
+-- no call changes how many parties a barrier has, and none leaves as many units waiting
 abbrev pub BarriersLackAParty : Type 0
 BarriersLackAParty =
     (old : BarrierValue) (act : Act) (answer : Answer) (new : BarrierValue) → BarrierGives old act answer new → LacksAParty old → StaysShort old new

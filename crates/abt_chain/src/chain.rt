@@ -38,6 +38,7 @@ impl Model for Chain {
 }
 
 impl Chain {
+    /// A chain without units.
     pub fn new() -> Self
         ensures units { result.units ≡ [] }
         ensures owed { result.owed ≡ 0 }
@@ -87,7 +88,7 @@ impl Chain {
         pop(&mut self.back)
     }
 
-    /// Takes the first unit of that number; the others stay in order. It walks as many links as there are units.
+    /// Takes the first unit of that number; the others stay in order. The time is that of a walk over the chain.
     #[tactic(auto, using(crate::proofs::Finds::leaving))]
     pub fn remove(&mut self, u: UnitNo) -> Option<Box<Unit>>
         ensures none { IfNone result ((find (is_unit u.0) self.old.units ≡ None) × (self.new.units ≡ self.old.units)) }
@@ -105,7 +106,7 @@ impl Chain {
         back.found
     }
 
-    /// The first unit of that number. It walks as many links as there are units.
+    /// The first unit of that number. The time is that of a walk over the chain.
     #[tactic(auto, using(crate::proofs::Finds::leaving))]
     pub fn find(&self, u: UnitNo) -> Option<&Unit>
         ensures { find (is_unit u.0) self.now.units ≡ unit_found result }
@@ -116,8 +117,8 @@ impl Chain {
         }
     }
 
-    /// Appends all units to another chain, in order. It walks as many links as there are units here, and none if the
-    /// other chain is empty.
+    /// Appends all units to another chain, in order. The time is that of a walk over the units here; if the other chain is
+    /// empty, no link is walked.
     pub fn drain_into(&mut self, other: &mut Chain)
         ensures drained { self.new.units ≡ [] }
         ensures appended { other.new.units ≡ other.old.units ++ self.old.units }
@@ -151,8 +152,7 @@ impl Chain {
         if self.front.is_none() {
             self.front = turned(self.back.take(), None, steps);
         }
-        let mut unit = self.front.take()?;
-        self.front = unit.link.take();
+        let unit = pop(&mut self.front)?;
         steps.tick();
         Some(unit)
     }

@@ -91,7 +91,7 @@ pub fn halved(part: Part) -> Halves
     }
 }
 
-// How many units a part has, as far as a number goes.
+// How many units a part has, or the greatest `usize` if it has more.
 fn counted(part: &Part) -> usize
     ensures { result ≤ length (units_in part.now) }
 {

@@ -168,7 +168,7 @@ impl Desk {
         Code::Ok
     }
 
-    /// What is asked of the unit, which is then forgotten.
+    /// Takes what is asked of the unit: afterwards nothing is asked of it.
     pub fn look(&mut self) -> Asks
         ensures { DeskGives self.old act.Look (act.Asks result.cancel (option_map (λ (p : PoolNo). p.0) result.migrate)) self.new }
     {
@@ -196,7 +196,7 @@ impl Desk {
         }
     }
 
-    /// The unit, which goes on. None (`UnitState`) if it is not suspended.
+    /// Lets the suspended unit go on: it comes out. None (`UnitState`) if it is not suspended.
     pub fn resume(&mut self) -> Option<Box<Unit>>
         ensures gives { DeskGives self.old act.Resume (given_or (act.Coded code.UnitState) result) self.new }
         ensures free { IfSome result (λ unit. IsFree unit.value) }
@@ -210,7 +210,7 @@ impl Desk {
         }
     }
 
-    /// The unit at the beginning of a further life, with that home. None (`UnitState`) if it has not ended.
+    /// Begins a further life of the unit, with that home: it comes out. None (`UnitState`) if it has not ended.
     pub fn revive(&mut self, home: PoolNo) -> Option<Box<Unit>>
         ensures gives { DeskGives self.old (act.Revive home.0) (given_or (act.Coded code.UnitState) result) self.new }
         ensures free { IfSome result (λ unit. IsFree unit.value) }
@@ -224,7 +224,7 @@ impl Desk {
         }
     }
 
-    /// Says whether the unit may be asked to migrate. `NotMigratable` for a scheduler unit.
+    /// Sets whether the unit may be asked to migrate. `NotMigratable` for a scheduler unit.
     pub fn set_migratable(&mut self, yes: bool) -> Code
         ensures { DeskGives self.old (act.SetMigratable yes) (act.Coded result) self.new }
     {
@@ -272,7 +272,7 @@ impl Desk {
         (shown_in(self.phase), self.joiners)
     }
 
-    /// The first joiner of that number. None if there is none.
+    /// The first joiner of that number. The time is that of a walk over the joiners.
     pub fn joiner(&self, u: UnitNo) -> Option<&Unit>
         ensures { find (is_unit u.0) self.now.joiners ≡ unit_found result }
     {

@@ -74,7 +74,7 @@ impl Eventual {
         }
     }
 
-    /// The eventual is not ready any longer. Who waits goes on waiting.
+    /// The eventual is not ready any longer. The units that wait go on waiting.
     pub fn reset(&mut self)
         ensures { EventualGives self.old Reset Rested self.new }
     {

@@ -87,7 +87,7 @@ impl Future {
         Ok(Chain::new())
     }
 
-    /// No compartment is filled any longer. Who waits goes on waiting.
+    /// No compartment is filled any longer. The units that wait go on waiting.
     pub fn reset(&mut self)
         ensures { FutureGives self.old Reset Rested self.new }
     {

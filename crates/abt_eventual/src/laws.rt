@@ -7,7 +7,7 @@ pub fn eventuals_keep_what_fits()
     ensures { EventualsKeepWhatFits }
 {}
 
-/// The same of futures.
+/// If the units that a future holds and that come in fit a workload, those that come out and that it then holds do too.
 pub fn futures_keep_what_fits()
     ensures { FuturesKeepWhatFits }
 {}

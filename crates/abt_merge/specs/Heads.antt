@@ -21,12 +21,12 @@ pub record IsFirst (rests : List (List Event)) (n but : ℕ) (first : ℕ × ℕ
   pub head : head_of first.1 (log_of rests first.1) ≡ Some first
   pub ahead : (r : ℕ) → r < n → r ≢ but → r ≢ first.1 → IsAhead first (head_of r (log_of rests r))
 
--- the same, if they have an event
+-- the same, if one of these streams has an event
 abbrev pub FirstOf : List (List Event) → ℕ → ℕ → Option (ℕ × ℕ) → Type 0
 FirstOf rests n but None = (r : ℕ) → r < n → r ≢ but → head_of r (log_of rests r) ≡ None
 FirstOf rests n but (Some first) = IsFirst rests n but first
 
--- of all streams but one
+-- the same of all streams but one
 abbrev pub FirstBut : List (List Event) → ℕ → Option (ℕ × ℕ) → Type 0
 FirstBut rests but first = FirstOf rests (length rests) but first
 

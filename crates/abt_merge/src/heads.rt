@@ -11,9 +11,9 @@ pub(crate) fn first_but(rests: &[&[Event]], but: usize) -> Option<(u64, usize)>
     ensures { FirstBut (map (λ rest. rest.now) rests.now) but result }
 {
     let mut first = None;
-    for stream in 0..rests.len() {
+    for (stream, rest) in rests.iter().enumerate() {
         if stream != but {
-            first = sooner(first, stream, rests[stream]);
+            first = sooner(first, stream, rest);
         }
     }
     first

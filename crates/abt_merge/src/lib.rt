@@ -53,7 +53,7 @@ fn rests_of<'a>(alloc: Global, logs: &'a [Log]) -> Result<Vec<&'a [Event]>, Want
     Ok(rests)
 }
 
-// How many events are left. Memory cannot hold more than a number can.
+// How many events are left. A count that does not fit is out of memory, since that many events would not fit either.
 fn count_events(rests: &[&[Event]]) -> Result<usize, Want>
     ensures { IfOk result (λ count. count ≡ count_events (map (λ rest. rest.now) rests.now)) }
 {

@@ -46,7 +46,7 @@ impl Model for Monitor {
 }
 
 impl Monitor {
-    /// A free mutex that guards 0, with so many conditions. It alone of a monitor's calls takes memory.
+    /// A free mutex that guards 0, with that many conditions. It alone of a monitor's calls takes memory.
     pub fn new(alloc: Global, conds: u32) -> Result<Monitor, Want>
         ensures { IfOk result (λ monitor. monitor ≡ record { owner = None; number = 0; waiters = []; conds = replicate conds [] }) }
     {
@@ -80,7 +80,7 @@ impl Monitor {
         }
     }
 
-    /// The unit of that number is the owner if the mutex is free, and `MutexLocked` comes if it is held.
+    /// Makes the unit of that number the owner, if the mutex is free. `MutexLocked` if it is held.
     pub fn trylock(&mut self, who: UnitNo) -> Code
         ensures { MonitorGives self.old (TryLock who.0) (Coded result) self.new }
     {
@@ -145,8 +145,8 @@ impl Monitor {
         Ok(self.hand_over())
     }
 
-    /// The first unit that waits at the condition is the owner and comes out if the mutex is free; if it is held, that
-    /// unit is the last that waits for it.
+    /// Takes the first unit that waits at the condition. If the mutex is free the unit becomes the owner and comes out; if it
+    /// is held the unit waits for it behind all others. None also if nobody waits at the condition.
     pub fn signal(&mut self, cond: u32) -> Option<Box<Unit>>
         requires { cond < length self.old.conds }
         ensures gives { MonitorGives self.old (Signal cond) (given_or Rested result) self.new }
@@ -156,7 +156,7 @@ impl Monitor {
         self.lock(unit)
     }
 
-    /// As `signal` for each unit that waits at the condition, in order.
+    /// As `signal` for each unit that waits at the condition, in order. Some has the unit that became the owner.
     pub fn broadcast(&mut self, cond: u32) -> Option<Box<Unit>>
         requires { cond < length self.old.conds }
         ensures gives { MonitorGives self.old (Broadcast cond) (given_or Rested result) self.new }
@@ -208,10 +208,7 @@ impl Monitor {
         ensures free { IfSome result (λ unit. IsFree unit.value) }
     {
         let next = self.waiters.take_front();
-        self.owner = match &next {
-            None => None,
-            Some(unit) => Some(unit.number()),
-        };
+        self.owner = next.as_ref().map(|unit| unit.number());
         next
     }
 }

@@ -47,6 +47,6 @@ pub record IsSchedulerOf (W : Parts) (s : SchedulerValue) : Type 0 where
   pub declared : s.number < length W.scheds
   pub words : s.words ≡ words_before W s.number s.round
 
--- the stored order that scheduler g names is among so many
+-- scheduler g names no stored order from number count on
 abbrev pub IsStored : Parts → ℕ → ℕ → Type 0
 IsStored W g count = (k : ℕ) → rule_of W g ≡ Some (rule.User k) → k < count

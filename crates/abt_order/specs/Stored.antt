@@ -10,7 +10,7 @@ use Rattle.abt_order.specs.Shapes.{fits_shape}
 use Rattle.abt_order.specs.declared.stored.StoredOrder.{StoredOrder}
 use denote.Param.Members.{Mut}
 
--- stored orders as their shapes
+-- the shapes of stored orders
 abbrev pub shapes_of : {X : Type 0} {F : X → Type 0} {called : Mut ((x : X) × F x) (ℕ × (ℕ × (ℕ × Unit {0}))) ℕ} → List (StoredOrder X F called) → List OrderShape
 shapes_of {X} {F} {called} = map (λ (o : StoredOrder X F called). o.shape)
 
@@ -26,6 +26,6 @@ IsAnsweredBy orders round (Some (rule.Randws seed)) ps order = Unit {0}
 IsAnsweredBy orders round (Some (rule.User k)) ps order = IfSome (slice_get orders k) (λ stored. IsOrderedBy (answers_of stored round) ps order)
 IsAnsweredBy orders round None ps order = Unit {0}
 
--- so it is of a round of scheduler g
+-- The same holds of the pools of scheduler g, by its own rule.
 abbrev pub IsAnsweredOrder : {X : Type 0} {F : X → Type 0} {called : Mut ((x : X) × F x) (ℕ × (ℕ × (ℕ × Unit {0}))) ℕ} → Parts → List (StoredOrder X F called) → ℕ → ℕ → List ℕ → Type 0
 IsAnsweredOrder W orders g round order = IsAnsweredBy orders round (rule_of W g) (pools_of W g) order

@@ -67,6 +67,13 @@ impl StoredOrder {
         }
     }
 
+    /// The shape, which says what the order's answers are.
+    pub fn shape(&self) -> OrderShape
+        ensures { result ≡ self.now.shape }
+    {
+        self.shape
+    }
+
     /// What the order answers for a round, a number of pools and a place.
     pub(crate) fn answer(&self, round: u64, n: u32, i: u32) -> u32
         requires count { (0 < n) × (n ≤ listed_limit) }

@@ -44,7 +44,7 @@ given giving.Arrive o = asks.Arrive o
 given giving.ReadLock o = asks.ReadLock o
 given giving.WriteLock o = asks.WriteLock o
 
--- what the answer to such an act brings: who went to a condition is not back at once
+-- what the answer to such an act brings: a unit that went to a condition does not come back at once
 abbrev pub brought : Giving → Answer → Effect
 brought (giving.Wait k) = to_condition
 brought g = to_giver

@@ -11,7 +11,7 @@ use Rattle.abt_plans.specs.Acts.{asked, brought, given, told}
 use Rattle.abt_plans.specs.declared.plans.Plan.{Plan}
 use Rattle.abt_plans.specs.declared.plans.Plan.TheVariants as plan
 
--- stream s does so at operation a of unit o
+-- what stream s does at operation a of unit o has this plan
 abbrev pub IsPlan : Parts → ℕ → Op → Owned → Plan → Type 0
 IsPlan W s a o plan.Own = IsSome (after_local a o.carried)
 IsPlan W s a o plan.Yield = plan_of W s a o ≡ Does (empties (moved o ∷ []))
@@ -20,11 +20,11 @@ IsPlan W s a o plan.Deny = plan_of W s a o ≡ denied o
 IsPlan W s a o (plan.Ask x act) = plan_of W s a o ≡ Calls x (asked act) (told act o)
 IsPlan W s a o (plan.Give x act) = plan_of W s a o ≡ Calls x (given act (moved o)) (brought act)
 
--- stream s does so at operation a of each unit with number u and accumulator n
+-- the same holds of each unit with number u and accumulator n
 abbrev pub PlansFor : Parts → ℕ → Op → ℕ → ℕ → Plan → Type 0
 PlansFor W s a u n p = (o : Owned) → o.number ≡ u → o.carried.acc ≡ n → IsPlan W s a o p
 
--- the site that it calls, if it calls one
+-- the site that a plan calls, if it calls one
 abbrev pub called_site : Plan → Option Site
 called_site plan.Own = None
 called_site plan.Yield = None

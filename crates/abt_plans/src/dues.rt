@@ -42,7 +42,7 @@ pub fn hand_due(w: &Workload, s: StreamNo, mark: Mark, unit: UnitNo, position: u
     }
 }
 
-// For a unit of which nothing was asked.
+// What is due if nothing was asked of the unit.
 fn plain(w: &Workload, s: StreamNo, unit: UnitNo, position: u32) -> HandDue
     requires valid { IsValid w.now }
     requires stream { s.0 < w.now.streams }
@@ -57,12 +57,11 @@ fn plain(w: &Workload, s: StreamNo, unit: UnitNo, position: u32) -> HandDue
                 HandDue::End(Cause::Access)
             }
         }
-        Body::Ult(ops) => program(ops.items(), position),
-        Body::Task(ops) => program(ops.items(), position),
+        Body::Ult(ops) | Body::Task(ops) => program(ops.items(), position),
     }
 }
 
-// For a scheduler unit that has left.
+// What is due if the unit, being a scheduler unit, has left.
 fn left(w: &Workload, unit: UnitNo, position: u32) -> HandDue
     requires valid { IsValid w.now }
     requires unit { unit.0 < length w.now.units }
@@ -70,12 +69,11 @@ fn left(w: &Workload, unit: UnitNo, position: u32) -> HandDue
 {
     match &w.unit(unit).body {
         Body::Sched(_) => HandDue::End(Cause::Done),
-        Body::Ult(ops) => program(ops.items(), position),
-        Body::Task(ops) => program(ops.items(), position),
+        Body::Ult(ops) | Body::Task(ops) => program(ops.items(), position),
     }
 }
 
-// For a program at a position.
+// What is due at that position of a program.
 fn program(ops: &[Op], at: u32) -> HandDue
     ensures { ProgramIs ops.now at result }
 {

@@ -1,5 +1,5 @@
 //! What an operation makes its stream do, and what is due for the unit in its hand, by the unit's number, position and
-//! accumulator: so for units of any type.
+//! accumulator. It serves units of any type.
 #![tactic(auto)]
 
 mod acts;

@@ -41,10 +41,8 @@ pub fn step_site(w: &Workload, s: StreamNo, u: UnitNo, at: u32) -> Option<Site>
     ensures { result ≡ step_site w.now s.0 u.0 at }
 {
     w.known();
-    match w.op(u, at) {
-        Some(op) => planned(w, s, op, u, 0).site(),
-        None => None,
-    }
+    let op = w.op(u, at)?;
+    planned(w, s, op, u, 0).site()
 }
 
 /// What stream `s` does at operation `op` of the unit in its hand, which has this number and accumulator.

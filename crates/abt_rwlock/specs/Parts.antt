@@ -20,7 +20,7 @@ pub record WaitersValue : Type 0 where
 abbrev pub held_by : HoldersValue → List Wish → ℕ → RwLock
 held_by holders wishes n = record { writer = holders.writer; counts = holders.counts; wishes = wishes; number = n }
 
--- and its waiters
+-- the lock of these holders, with these waiters
 abbrev pub lock_of : HoldersValue → WaitersValue → ℕ → RwLockValue
 lock_of holders waiters n = record { lock = held_by holders waiters.wishes n; waiters = waiters.units }
 

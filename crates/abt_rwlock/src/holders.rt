@@ -34,7 +34,7 @@ impl Model for Holders {
 }
 
 impl Holders {
-    /// Nobody holds the lock. There is room for the counts of so many units.
+    /// Nobody holds the lock. There is room for the counts of that many units.
     pub fn new(alloc: Global, units: u32) -> Result<Holders, Want>
         ensures { IfOk result (λ holders. holders ≡ record { writer = None; counts = replicate units 0 }) }
     {
@@ -60,20 +60,14 @@ impl Holders {
     pub fn is_writer(&self, who: UnitNo) -> bool
         ensures { result ≡ is_some_of who.0 self.now.writer }
     {
-        match self.writer {
-            None => false,
-            Some(writer) => writer == who,
-        }
+        self.writer == Some(who)
     }
 
     /// How often the unit reads: 0 if there is no room for its count.
     pub fn count(&self, who: UnitNo) -> u16
         ensures { result ≡ slice_index self.now.counts who.0 }
     {
-        match self.counts.get(who.0 as usize) {
-            None => 0,
-            Some(count) => *count,
-        }
+        self.counts.get(who.0 as usize).copied().unwrap_or(0)
     }
 
     pub fn set_writer(&mut self, writer: Option<UnitNo>)

@@ -22,8 +22,8 @@ use std::marker::Model;
 /// A lock that is free, held by one unit that writes, or held by units that read, each with a count of how often it does; the
 /// units that wait for it in order of arrival; and the number that it guards.
 ///
-/// A unit that waits holds the lock once it is the first, nobody holds the lock, and, if it wants to read, together with those
-/// behind it that want to read, up to the first that wants to write. A unit that reads already may read again at once.
+/// When nobody holds the lock, the first waiter gets it: to write, or to read together with all waiters up to the first that
+/// wants to write. A unit that reads already may read again at once.
 #[derive(Drop)]
 pub struct RwLock {
     holders: Holders,
@@ -41,7 +41,9 @@ impl Model for RwLock {
 }
 
 impl RwLock {
-    /// A free lock that guards 0, with room for units whose numbers are below that. It alone of a lock's calls takes memory.
+    /// A free lock that guards 0, for units whose numbers are below `units`: there is room for a count and a wish of each. It
+    /// alone of a lock's calls takes memory. Of a unit with a greater number no read is counted, and if it waits it is served
+    /// as one that wants to write, so callers pass none.
     pub fn new(alloc: Global, units: u32) -> Result<RwLock, Want>
         ensures { IfOk result (λ made. made ≡ record {
           lock = record { writer = None; counts = replicate units 0; wishes = replicate units wish.Read; number = 0 };

@@ -36,7 +36,7 @@ impl Model for Waiters {
 }
 
 impl Waiters {
-    /// Nobody waits. There is room for the wishes of so many units.
+    /// Nobody waits. There is room for the wishes of that many units.
     pub fn new(alloc: Global, units: u32) -> Result<Waiters, Want>
         ensures { IfOk result (λ waiters. waiters ≡ record { wishes = replicate units wish.Read; units = [] }) }
     {

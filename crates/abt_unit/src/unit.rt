@@ -98,6 +98,7 @@ impl Unit {
         Ok(Box::new(alloc, Unit { body, link: None })?)
     }
 
+    /// The unit's number.
     pub fn number(&self) -> UnitNo
         ensures { result.0 ≡ self.now.owned.number }
     {
@@ -149,7 +150,7 @@ impl Unit {
         self.body.keys[k as usize]
     }
 
-    /// Takes room for one more piece of output, if there is none.
+    /// Takes room for one more piece of output, if there is none. If that is out of memory, nothing changes.
     pub fn reserve_output(&mut self) -> Result<(), Want>
         ensures room { OnOk result (0 < self.new.spare) }
         ensures kept { self.old.spare ≤ self.new.spare }
@@ -194,7 +195,7 @@ impl Unit {
         self.body.position -= 1;
     }
 
-    /// Puts out why an operation was refused.
+    /// Appends the code of a refused operation to the output.
     pub fn note(&mut self, code: Code)
         requires { 0 < self.old.spare }
         ensures { self.new ≡ record self.old { owned = carrying (printed (Refused code)) self.old.owned; spare = self.old.spare - 1 } }
@@ -209,6 +210,7 @@ impl Unit {
         self.body.acc = value;
     }
 
+    /// Sets the home.
     pub fn set_home(&mut self, p: PoolNo)
         ensures { self.new ≡ record self.old { owned = carrying (with_home p.0) self.old.owned } }
     {
