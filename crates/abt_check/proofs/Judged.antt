@@ -117,7 +117,7 @@ first-more J items at d same l =
     let within : at < length J = subst (λ (xs : List Event). at < length xs) same l in
     (within, take_more J at d within ∙ ap (λ (xs : List Event). take at J ++ get_or xs at d ∷ []) (sym same))
 
--- so many first events were judged
+-- that many first events were judged
 pub first-long : (J items : List Event) (at : ℕ) → items ≡ J → at < length items → length items < 2 ^ 64 → length (take at J) < 2 ^ 64 - 1
 first-long J items at same l few =
     let within : at < length J = subst (λ (xs : List Event). at < length xs) same l in

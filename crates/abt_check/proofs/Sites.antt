@@ -33,7 +33,7 @@ record IsFor (W : Parts) (x : Site) (n : ℕ) : Type 0 where
   pub there : thing_at W n ≡ Some object
   pub own : site_for object n ≡ Some x
 
--- so it is for a declared site, unless that is a pool or a desk
+-- the same holds of a declared site, unless that is a pool or a desk
 abbrev IsForOwn : Parts → Site → Type 0
 IsForOwn W (site.Pool p) = Unit {0}
 IsForOwn W (site.Desk u) = Unit {0}

@@ -72,7 +72,7 @@ with_clock (site.Pool p) t c = record c { pools = slice_set c.pools p.0 t }
 with_clock (site.Desk u) t c = record c { desks = slice_set c.desks u.0 t }
 with_clock x t c = record c { slots = slice_set c.slots (place_number x) t }
 
--- so is that of the site, if there is one
+-- the clock of the site is t, if there is a site
 abbrev pub with_site : Option Site → ℕ → ClocksValue → ClocksValue
 with_site None t c = c
 with_site (Some x) t c = with_clock x t c

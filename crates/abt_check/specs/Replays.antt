@@ -19,7 +19,7 @@ pub record ReplayValue : Type 0 where
   pub lanes : List Held
   pub objects : ObjectsValue
 
--- they are those of state S
+-- what the streams hold, and the objects, are those of state S
 pub record StandsFor (W : Parts) (S : State) (replay : ReplayValue) : Type 0 where
   pub lanes : AreNumbered W.streams (part_of W S) replay.lanes
   pub objects : (x : Site) → IsSite W x → object_at replay.objects x ≡ object_of W S x

@@ -133,7 +133,7 @@ impl Clocks {
     }
 }
 
-// So many clocks before the first event.
+// That many clocks, all 0.
 fn zeros(alloc: Global, count: u32) -> Result<Vec<u64>, Want>
     ensures { IfOk result (λ clocks. clocks.items ≡ replicate count 0) }
 {

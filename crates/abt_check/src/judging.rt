@@ -39,7 +39,7 @@ fn shapes(alloc: Global, orders: &[StoredOrder]) -> Result<Vec<OrderShape>, Want
 {
     let mut shapes = Vec::with_capacity(alloc, orders.len())?;
     for order in orders {
-        shapes.push(order.shape)?;
+        shapes.push(order.shape())?;
     }
     Ok(shapes)
 }

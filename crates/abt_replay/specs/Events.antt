@@ -74,7 +74,7 @@ OwnStep a o old c new = (b : Owned) × (option_map (with_carried o) (after_local
 abbrev pub OwnExit : Owned → Held → Code → Held → Type 0
 OwnExit o old c new = (c ≡ code.Ok) × (new ≡ exited old (moved o))
 
--- a step with a call of this act, whose answer brings so much
+-- a step with a call of this act, whose answer has this effect
 abbrev pub Asked : Site → Act → (Answer → Effect) → Held → ObjectsValue → Code → Held → ObjectsValue → Type 0
 Asked x asked brings old before c new after = (answer : Answer) × Called before x asked answer after × Alone (brings answer) old c new
 
@@ -97,7 +97,7 @@ MakesEvent W Z s old before made new after = (heard : Option Heard) × Steps W Z
 abbrev pub AreObjects : Parts → ObjectsValue → Type 0
 AreObjects W objects = (S : State) × ((x : Site) → IsSite W x → object_at objects x ≡ object_of W S x)
 
--- with unit o in hand
+-- what the stream holds, with unit o in hand
 abbrev pub in_hand : Owned → Held → Held
 in_hand o held = record held { hand = Some o }
 

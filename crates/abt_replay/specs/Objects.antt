@@ -49,7 +49,7 @@ same_place (site.Desk u) (site.Desk v) = u.0 == v.0
 same_place (site.Desk u) y = false
 same_place x y = is_slot (place_number x) (slot_of y)
 
--- the object at the site answered the act so, and all others are as they were
+-- the object at the site has answered the act with this, and all others are as they were
 pub record Called (old : ObjectsValue) (x : Site) (act : Act) (answer : Answer) (new : ObjectsValue) : Type 0 where
   pub gives : SiteGives (object_at old x) act answer (object_at new x)
   pub others : (y : Site) → same_place x y ≡ false → object_at new y ≡ object_at old y

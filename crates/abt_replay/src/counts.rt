@@ -26,7 +26,7 @@ impl Model for Counts {
 }
 
 impl Counts {
-    /// The counts of so many units, all 0. Out of memory is the only error.
+    /// The counts of that many units, all 0. Out of memory is the only error.
     pub(crate) fn new(alloc: Global, units: u32) -> Result<Counts, Want>
         ensures { IfOk result (λ counts. counts ≡ replicate units 0) }
     {

@@ -19,8 +19,8 @@ use std::marker::Model;
 // How often a unit may read at once.
 const READ_LIMIT: u32 = 65_535;
 
-/// A lock that is free, or held by a unit that writes, or by units that read, each so many times; what each unit wanted when it
-/// last came to wait; the units that wait, in order of arrival; and the number that the lock guards.
+/// A lock that is free, or held by a unit that writes, or by units that read, each with a count of how often it does; what each
+/// unit wanted when it last came to wait; the units that wait, in order of arrival; and the number that the lock guards.
 #[derive(Drop)]
 pub struct RwLock {
     writer: Option<UnitNo>,
@@ -49,7 +49,7 @@ impl Model for RwLock {
 }
 
 impl RwLock {
-    /// A free lock of so many units that guards 0, for which nobody waits. Out of memory is the only error.
+    /// A free lock that guards 0, for units whose numbers are below `units`; nobody waits for it. Out of memory is the only error.
     pub fn new(alloc: Global, units: u32) -> Result<RwLock, Want>
         ensures { IfOk result (λ lock. lock ≡ record {
           lock = record { writer = None; counts = replicate units 0; wishes = replicate units wish.Read; number = 0 };

@@ -130,7 +130,7 @@ struct Changing<'a> {
 }
 
 impl Changing<'_> {
-    // Adds a change: it has new lines in the place of `count`, and the first so many in common with the journal.
+    // Adds a change: it has new lines in the place of `count`, and its first `kept` lines in common with the journal.
     fn push(
         &mut self,
         name: String,

@@ -252,7 +252,7 @@ fn check_case(
     Ok(())
 }
 
-// So it is of all cases, over the orders Rotate and Mirror.
+// The same holds of all cases, over the orders Rotate and Mirror.
 fn check_cases(rt: &impl Abort, alloc: Global, cases: &[Case]) -> Result<(), Fail> {
     let orders = [StoredOrder::rotating(), StoredOrder::mirroring()];
     for case in cases {

@@ -1,9 +1,9 @@
-//! The local operations of a unit.
+//! The local operations of a unit, and its other calls.
 
 ghost use Rattle.std.specs.Prelude.{◌<◌, length};
 ghost use Rattle.abt_unit.specs.Fits.{Fits};
 
-use abt_machine::{Op, Piece, UnitNo, Workload};
+use abt_machine::{Code, Op, Piece, PoolNo, UnitNo, Workload};
 use abt_unit::Unit;
 use abt_workload::read;
 use std::alloc::Global;
@@ -51,10 +51,19 @@ fn does_all(rt: &impl Abort, unit: &mut Unit, w: &Workload)
     }
     assert_eq!(rt; unit.position(), 7);
     assert_eq!(rt; unit.acc(), 7);
+    assert_eq!(rt; first_key(rt, unit, w), 7);
+    assert_eq!(rt; unit.home(), PoolNo(0));
     assert_eq!(rt;
         unit.output(),
         [Piece::Said(0), Piece::Number(5), Piece::Number(7)].as_slice()
     );
+}
+
+fn first_key(rt: &impl Abort, unit: &Unit, w: &Workload) -> u64
+    requires { Fits w.now unit.now.owned }
+{
+    assert!(rt; w.keys() > 0);
+    unit.key(0)
 }
 
 // The first unit does all of its operations.
@@ -66,9 +75,48 @@ fn first_does_all(rt: &impl Abort, alloc: Global, w: &Workload) -> Result<(), Fa
     Ok(())
 }
 
+// The first unit begins a further life after a step that is refused and one that is taken back.
+fn first_begins_anew(rt: &impl Abort, alloc: Global, w: &Workload) -> Result<(), Fail>
+    requires { 0 < length w.now.units }
+{
+    let mut unit = Unit::make(alloc, w, UnitNo(0))?;
+    lives_on(rt, &mut unit);
+    assert_eq!(rt;
+        (unit.position(), unit.acc(), unit.home()),
+        (0, 0, PoolNo(2))
+    );
+    assert_eq!(rt; unit.output(), [Piece::Refused(Code::NotOwner)].as_slice());
+    Ok(())
+}
+
+fn lives_on(rt: &impl Abort, unit: &mut Unit) {
+    assert!(rt; unit.reserve_output().is_ok());
+    unit.note(Code::NotOwner);
+    assert_eq!(rt; unit.position(), 0);
+    unit.advance();
+    assert_eq!(rt; unit.position(), 1);
+    unit.retreat();
+    assert_eq!(rt; unit.position(), 0);
+    unit.advance();
+    unit.receive(9);
+    unit.set_home(PoolNo(1));
+    assert_eq!(rt;
+        (unit.position(), unit.acc(), unit.home()),
+        (1, 9, PoolNo(1))
+    );
+    unit.begin_life(PoolNo(2));
+}
+
 #[test]
 fn local_operations_do_their_rows(rt: HostRuntime) -> Result<(), Fail> {
     let w = read(rt.alloc(), LOCAL.as_bytes())?;
     assert_eq!(rt; w.units(), 1);
     first_does_all(&rt, rt.alloc(), &w)
+}
+
+#[test]
+fn calls_change_what_a_unit_carries(rt: HostRuntime) -> Result<(), Fail> {
+    let w = read(rt.alloc(), LOCAL.as_bytes())?;
+    assert_eq!(rt; w.units(), 1);
+    first_begins_anew(&rt, rt.alloc(), &w)
 }
