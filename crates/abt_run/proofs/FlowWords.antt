@@ -14,7 +14,7 @@ use Rattle.abt_machine.specs.Valid.{IsValid}
 use Rattle.abt_machine.specs.Workloads.{op_at}
 use Rattle.abt_machine.proofs.Declared.{op-declared}
 use Rattle.abt_flow.specs.Effects.{Memory, FlowEffect, Computes, Awaits, Depends, effect}
-use Rattle.abt_flow.specs.Flow.{Executes, IsFlow, IsRow, Leads, Made}
+use Rattle.abt_flow.specs.Flow.{Executes, IsFlow, IsRow, Becomes, Made}
 
 abbrev Says : Parts → Memory → Type 0
 Says W m = All (IsPieceOf W) m.output
@@ -32,13 +32,13 @@ module _ (W : Parts) (Found : ℕ → ℕ → Type 0) (old m : Memory) (says : S
   output_after _ = old.output
 
   -- what adds nothing to the output says what was said before
-  led-same : (e : FlowEffect) → output_after e ≡ old.output → Leads Found e old m → Says W m
+  led-same : (e : FlowEffect) → output_after e ≡ old.output → Becomes Found e old m → Says W m
   led-same (Computes f) same is = same-output W old m (ap (λ (x : Memory). x.output) is ∙ same) says
   led-same (Awaits x) same is = same-output W old m (ap (λ (x : Memory). x.output) is.2) says
   led-same Depends same is = absurd is
 
   -- an operation says its own word, or none
-  led : (o : Op) → IsDeclared W o → Leads Found (effect o) old m → Says W m
+  led : (o : Op) → IsDeclared W o → Becomes Found (effect o) old m → Says W m
   led (op.Say w) declared is = subst (All (IsPieceOf W)) (ap (λ (x : Memory). x.output) (sym is)) (one-more W old (piece.Said w) says declared)
   led op.Print declared is = subst (All (IsPieceOf W)) (ap (λ (x : Memory). x.output) (sym is)) (one-more W old (piece.Number old.acc) says tt)
   led o declared is = led-same (effect o) refl is

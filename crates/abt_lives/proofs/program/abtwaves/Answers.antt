@@ -1,14 +1,14 @@
-use Rattle.std.proofs.Common.{rules}
+use Rattle.std.proofs.Common.{rules, subst, sym}
 use Rattle.abt_run.proofs.Preparing.{as-many}
 use Rattle.abt_shell.proofs.Calls.{concluded, stopped}
-use Rattle.abt_lives.specs.Call.{program}
+use Rattle.abt_lives.specs.Call.{RanOnLives, program}
 use Rattle.abt_lives.proofs.Complete.{answered}
 use Rattle.abt_lives.proofs.program.abtwaves.Goals as goal
 
 pub returns-in-Ok : goal.returns-in-Ok
 returns-in-Ok g c =
     answered _ _ (as-many _ c.args.orders.now 2 c.requires.orders)
-    (concluded (program _) _ c.in-Ok.done.outcome c.in-Ok.done.text.items _ _ c.in-Ok.ensures.done c.number_of_outcome.ensures (rw c.deref.ensures.value at c.conclude_run.ensures.status))
+    (concluded (program _) _ c.in-Ok.done.outcome c.in-Ok.done.text.items _ _ (subst (λ j. RanOnLives _ j c.in-Ok.done.outcome c.in-Ok.done.text.items) (sym c.conclude_run.ensures.journal) c.in-Ok.ensures.done) c.number_of_outcome.ensures (rw c.deref.ensures.value at c.conclude_run.ensures.status))
 
 pub returns-in-Err : goal.returns-in-Err
 returns-in-Err g c =
