@@ -1,6 +1,8 @@
-use Rattle.std.proofs.Common.{rules, subst, sym}
+use Rattle.std.proofs.Common.{map, rules, string_bytes, subst, sym}
 use Rattle.abt_run.proofs.Preparing.{as-many}
+use Rattle.abt_order.specs.Stored.{shapes_of}
 use Rattle.abt_shell.proofs.Calls.{concluded, stopped}
+use Rattle.abt_run.specs.Given.{given}
 use Rattle.abt_lives.specs.Call.{RanOnLives, program}
 use Rattle.abt_lives.proofs.Complete.{answered}
 use Rattle.abt_lives.proofs.program.abtwaves.Goals as goal
@@ -8,7 +10,7 @@ use Rattle.abt_lives.proofs.program.abtwaves.Goals as goal
 pub returns-in-Ok : goal.returns-in-Ok
 returns-in-Ok g c =
     answered _ _ (as-many _ c.args.orders.now 2 c.requires.orders)
-    (concluded (program _) _ c.in-Ok.done.outcome c.in-Ok.done.text.items _ _ (subst (λ j. RanOnLives _ j c.in-Ok.done.outcome c.in-Ok.done.text.items) (sym c.conclude_run.ensures.journal) c.in-Ok.ensures.done) c.number_of_outcome.ensures (rw c.deref.ensures.value at c.conclude_run.ensures.status))
+    (concluded (program _) _ c.in-Ok.done.outcome c.in-Ok.done.text.items _ _ (subst (λ j. RanOnLives (given (map string_bytes c.args.words.now) (shapes_of c.args.orders.now) (λ name. g.F.Files.file c.args.files.now name)) j c.in-Ok.done.outcome c.in-Ok.done.text.items) (sym c.conclude_run.ensures.journal) c.in-Ok.ensures.done) c.number_of_outcome.ensures (rw c.deref.ensures.value at c.conclude_run.ensures.status))
 
 pub returns-in-Err : goal.returns-in-Err
 returns-in-Err g c =

@@ -1,5 +1,7 @@
-use Rattle.std.proofs.Common.{rules, subst, sym}
+use Rattle.std.proofs.Common.{map, rules, string_bytes, subst, sym}
+use Rattle.abt_order.specs.Stored.{shapes_of}
 use Rattle.abt_shell.proofs.Calls.{concluded, stopped}
+use Rattle.abt_run.specs.Given.{given}
 use Rattle.abt_run.specs.Call.{program}
 use Rattle.abt_run.specs.Printed.{Prints}
 use Rattle.abt_run.proofs.Complete.{answered}
@@ -9,7 +11,7 @@ use Rattle.abt_run.proofs.program.abtrun.Goals as goal
 pub returns-in-Ok : goal.returns-in-Ok
 returns-in-Ok g c =
     answered _ _ (as-many _ c.args.orders.now 2 c.requires.orders)
-    (concluded (program _) _ c.in-Ok.done.conclusion c.in-Ok.done.text.items _ _ (subst (λ j. Prints _ c.in-Ok.done.conclusion j c.in-Ok.done.text.items) (sym c.conclude_run.ensures.journal) c.in-Ok.ensures.done) c.number.ensures (rw c.deref.ensures.value at c.conclude_run.ensures.status))
+    (concluded (program _) _ c.in-Ok.done.conclusion c.in-Ok.done.text.items _ _ (subst (λ j. Prints (given (map string_bytes c.args.words.now) (shapes_of c.args.orders.now) (λ name. g.F.Files.file c.args.files.now name)) c.in-Ok.done.conclusion j c.in-Ok.done.text.items) (sym c.conclude_run.ensures.journal) c.in-Ok.ensures.done) c.number.ensures (rw c.deref.ensures.value at c.conclude_run.ensures.status))
 
 pub returns-in-Err : goal.returns-in-Err
 returns-in-Err g c =
