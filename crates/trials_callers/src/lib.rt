@@ -1,7 +1,5 @@
-//! Tests of callers of the runtime: numbers that runs on threads put out, and a run over one lock.
+//! Tests of callers of the runtime: numbers that runs on threads put out.
 #![tactic(auto)]
 
-#[cfg(test)]
-mod halls;
 #[cfg(test)]
 mod numbers;

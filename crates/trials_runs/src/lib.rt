@@ -8,6 +8,8 @@ mod drains;
 #[cfg(test)]
 mod flows;
 #[cfg(test)]
+mod halls;
+#[cfg(test)]
 mod lives;
 #[cfg(test)]
 mod lives_calls;
