@@ -52,50 +52,21 @@ try_bad_words() {
 
 # Each write fails in turn, and writes move few bytes.
 try_few_bytes() {
-    local most number
+    local most
     for most in 1 7; do
         meddled TRIAL_WRITE=$most "$program" 3 100
         came "writes of $most bytes" 0 "sum 5050" ""
     done
     printf 'sum 5050\n' >"$room/whole"
-    for number in 1 2 3; do
-        head -c $((3 * (number - 1))) "$room/whole" >"$room/wanted"
-        meddled TRIAL_WRITE=3 TRIAL_NO_WRITE=$number "$program" 3 100
-        # (the message is written in such pieces as well, after the write that fails)
-        came "write $number fails" 6 "@$room/wanted" "$cannot_write"
-    done
-    meddled TRIAL_WRITE=3 TRIAL_NO_WRITE=4 "$program" 3 100
-    came "no write fails" 0 "sum 5050" ""
+    tries_failing_writes 3 100 "$room/whole" 3 3
     meddled TRIAL_WRITE=1 "$program" 3
     came "a message in writes of one byte" 2 "" "$words_are_bad"
-    meddled TRIAL_NO_WRITE=1 "$program" 3
-    came "a message cannot be written" 2 "" ""
 }
 
 try_writing() {
-    fills "$cannot_write" "$program" 3 100
-    "$program" 3 100 >&- 2>"$room/err"
-    status=$?
-    ended "a closed standard output" 6 "$cannot_write"
-    "$program" 3 100 2>"$room/err" 1</dev/null
-    status=$?
-    ended "a standard output that is open for reading" 6 "$cannot_write"
-    unread "$program" 3 100
-    ended "a pipe that nobody reads" 6 "$cannot_write"
+    tries_writing 3 100 "sum 5050" 3
     slowly "$program" 3 100
     came "a slow reader" 0 "sum 5050" ""
-    "$program" 3 100 >"$room/out" 2>&- <&-
-    status=$?
-    : >"$room/err"
-    came "closed standard input and error" 0 "sum 5050" ""
-    "$program" 0 100 >"$room/out" 2>&- <&-
-    status=$?
-    : >"$room/err"
-    came "bad words with closed standard input and error" 2 "" ""
-    "$program" 3 100 >&- 2>&- <&-
-    status=$?
-    : >"$room/err"
-    ended "all three closed" 6 ""
     "$program" 0 100 >&- 2>&- <&-
     status=$?
     : >"$room/err"
@@ -103,9 +74,6 @@ try_writing() {
     echo 7 7 >"$room/in"
     call "$program" 3 100 <"$room/in"
     came "standard input is not read" 0 "sum 5050" ""
-    env -i "$program" 3 100 >"$room/out" 2>"$room/err"
-    status=$?
-    came "no environment" 0 "sum 5050" ""
 }
 
 if ! make_meddler; then

@@ -11,6 +11,9 @@ failed=0
 # What is tried, as the lines of failed trials name it.
 subject=
 
+# The folder that `make_room` makes.
+room=
+
 pass() { passed=$((passed + 1)); }
 
 # miss TITLE WHY: a trial that failed.
@@ -232,7 +235,7 @@ tries_writing() {
     "$program" "$1" "$2" >&- 2>"$room/err"
     status=$?
     ended "a closed standard output" 6 "$cannot_write"
-    "$program" "$1" "$2" 2>"$room/err" 1<"$2"
+    "$program" "$1" "$2" 2>"$room/err" 1</dev/null
     status=$?
     ended "a standard output that is open for reading" 6 "$cannot_write"
     unread "$program" "$1" "$2"

@@ -225,6 +225,8 @@ try_terminal() {
     fi
     as build
     echo term >"$toy/crates/low/src/lib.rt"
+    # A first build has no log yet.
+    rm -f "$toy/out/toy.log"
     call python3 -c 'import pty, sys; sys.exit(pty.spawn(sys.argv[1:]) >> 8)' \
         sh -c '"$0" "$@" </dev/null' "$toy/toy" 0 shown
     tr -d '\r' <"$room/out" >"$room/shown"

@@ -1,6 +1,7 @@
 //! The calls of a booth, compared with the kit's mutex around a number.
 ghost use Rattle.std.specs.Prelude.{◌≤◌};
 
+use crate::faults::no_memory;
 use bench_times::least_and_middle;
 use booth_caller::count;
 use std::alloc::Global;
@@ -24,7 +25,7 @@ pub fn small<R: Threads + Wait + Sync + Print>(rt: &R, alloc: Global) -> io::Res
                 closed.object.sum
             )
         }
-        None => Err(io::Error::from(io::ErrorKind::OutOfMemory)),
+        None => Err(no_memory()),
     }
 }
 
@@ -59,7 +60,7 @@ fn booth_time<R: Threads + Wait + Sync + Clock>(
 {
     let start = Instant::now(rt)?;
     if count(rt, alloc, threads, CALLS).is_none() {
-        return Err(io::Error::from(io::ErrorKind::OutOfMemory));
+        return Err(no_memory());
     }
     start.elapsed(rt)
 }

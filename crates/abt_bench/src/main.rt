@@ -14,10 +14,16 @@ use std::{env, io};
 
 const USAGE: &str = "usage: abt_bench small|booth|chains|commons|streams|texts";
 
+// Words that are no subject are an error.
+fn refuse<R: Eprint>(rt: &R) -> io::Result<()> {
+    eprintln!(rt; "{USAGE}")?;
+    Err(io::Error::from(io::ErrorKind::InvalidInput))
+}
+
 fn main(rt: HostRuntime) -> io::Result<()> {
     let mut words = env::args(&rt)?.skip(1);
     let Some(word) = words.next() else {
-        return eprintln!(&rt; "{USAGE}");
+        return refuse(&rt);
     };
     match word.as_str() {
         "small" => {
@@ -32,6 +38,6 @@ fn main(rt: HostRuntime) -> io::Result<()> {
         "commons" => commons::times(&rt, rt.alloc()),
         "streams" => streams::times(&rt, rt.alloc()),
         "texts" => texts::times(&rt, rt.alloc()),
-        _ => eprintln!(&rt; "{USAGE}"),
+        _ => refuse(&rt),
     }
 }

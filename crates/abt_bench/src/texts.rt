@@ -3,12 +3,12 @@ ghost use Rattle.std.specs.Prelude.{◌<◌, All, IfOk, IfSome, length};
 ghost use Rattle.abt_machine.specs.Pieces.{IsPieceOf};
 ghost use Rattle.abt_report.specs.Pictures.{SaysWordsOf};
 
-use crate::faults::{not_read, out_of_memory};
+use crate::faults::{not_journal, not_read, out_of_memory};
 use abt_machine::{
     Cause, Code, Event, Journal, Op, Outcome, Output, Piece, PoolNo, Shown, StreamNo, UnitNo, What,
     Workload,
 };
-use abt_report::{Picture, Row, TextFault, journal_text, read_journal, report};
+use abt_report::{Picture, Row, journal_text, read_journal, report};
 use abt_workload::{read, write};
 use bench_times::least_and_middle;
 use std::alloc::Global;
@@ -75,10 +75,6 @@ pub fn times<R: Print + Clock>(rt: &R, alloc: Global) -> io::Result<()> {
         workload_times(rt, alloc, name, &text)?;
     }
     journal_times(rt, alloc)
-}
-
-fn no_journal(_cause: TextFault) -> io::Error {
-    io::Error::from(io::ErrorKind::InvalidData)
 }
 
 // The text of a workload with one pool and these units, each of which makes one operation many times.
@@ -172,7 +168,7 @@ fn read_lines(alloc: Global, text: &[u8]) -> io::Result<Journal> {
     if text.len() >= u32::MAX as usize {
         return Err(io::Error::from(io::ErrorKind::InvalidData));
     }
-    read_journal(alloc, text).map_err(no_journal)
+    read_journal(alloc, text).map_err(not_journal)
 }
 
 // Prints megabytes a second, for this many bytes in each of these nanoseconds.

@@ -29,7 +29,7 @@ pub struct StoredEnd {
 impl StoredEnd {
     ghost use Rattle.abt_callbacks.specs.Stored.{MayAnswer};
 
-    /// Stores the function, whose answers are then the key's, beside what it answers.
+    /// Stores a function and whether it answers the value that it is called for; the key then answers as the function does.
     pub fn new(same: bool, function: EndFunction) -> StoredEnd
         requires callable { (value : ℕ) → value < 2 ^ 64 → EndFunction.pre function value }
         requires fits { (value answer : ℕ) → value < 2 ^ 64 → EndFunction.post function value answer → same ≡ true → answer ≡ value }

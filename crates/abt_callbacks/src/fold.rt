@@ -52,7 +52,7 @@ pub struct StoredFold {
 impl StoredFold {
     ghost use Rattle.abt_callbacks.specs.Stored.{MayReturn};
 
-    /// Stores the function, whose answers are then the fold's, beside its shape.
+    /// Stores a function and its shape; the fold then answers as the function does.
     pub fn new(shape: FoldShape, function: FoldFunction) -> StoredFold
         requires callable { (list : _) → IsFoldable list.now → FoldFunction.pre function list }
         requires fits { (list answer : _) → IsFoldable list.now → FoldFunction.post function list answer → Folds shape list.now answer }

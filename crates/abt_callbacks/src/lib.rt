@@ -1,5 +1,5 @@
 //! Functions that users store: folds, which a future calls when its last value is set, and ends, which a ring of keys calls for
-//! the values of its keys. The program above folds the numbers of many threads behind a lock with seats.
+//! the values of its keys. `abtfold` is the top call of a program that folds the numbers of many threads behind a lock with seats.
 #![tactic(auto)]
 
 mod acts;

@@ -21,11 +21,11 @@ use std::thread::Threads;
 /// The name of the program.
 pub const NAME: &[u8] = b"abtfold";
 
-// The most workers.
-const WORKERS: u32 = 8;
+// The maximum number of workers.
+const WORKER_LIMIT: u32 = 8;
 
-// The most numbers.
-const NUMBERS: u32 = 4096;
+// The maximum number of numbers.
+const NUMBER_LIMIT: u32 = 4096;
 
 /// What the command of the program does: folds the numbers from 1 to N with W workers on threads, and writes the sum. The words
 /// are W, from 1 to 8, and N, from 1 to 4,096.
@@ -67,11 +67,11 @@ fn tell<E: Sink>(err: &mut E, message: &[u8])
 fn asked(words: &[String]) -> Option<(u32, u32)>
     ensures { MatchOption result (AsksNothing (map string_bytes words.now)) (λ asked. Asks (map string_bytes words.now) asked.0 asked.1) }
 {
-    if words.len() != 2 {
+    let [workers, n] = words else {
         return None;
-    }
-    let workers = number(words[0].as_str(), WORKERS)?;
-    let n = number(words[1].as_str(), NUMBERS)?;
+    };
+    let workers = number(workers.as_str(), WORKER_LIMIT)?;
+    let n = number(n.as_str(), NUMBER_LIMIT)?;
     Some((workers, n))
 }
 

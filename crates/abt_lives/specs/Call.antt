@@ -15,7 +15,7 @@ use Rattle.abt_run.specs.Given.{Given, IsReadFrom}
 use Rattle.abt_shell.specs.declared.status.Stop.{Stop}
 use Rattle.abt_shell.specs.declared.status.Wrong.{Wrong}
 use Rattle.abt_shell.specs.declared.status.Wrong.TheVariants.{Workload, Journal, Lives}
-use Rattle.abt_shell.specs.Calls.{EndsBy, Program}
+use Rattle.abt_shell.specs.Calls.{EndsBy, HasReadFault, Program}
 use Rattle.abt_shell.specs.Fetched.{StopsFor}
 use Rattle.abt_shell.specs.Status.{number_of_outcome}
 use Rattle.abt_shell.specs.Told.{Grew}
@@ -123,6 +123,10 @@ abbrev pub RefusesTexts : ℕ → Call → Type 0
 RefusesTexts n c = (named : NamesFiles c.given.words) (bytes : Text) → c.given.file named.workload ≡ Some bytes → ((W : Parts) → Reads bytes W → ⊥)
     → (Grew c.left.read_faults → ⊥) → (n ≡ 3) ⊎ (n ≡ 7)
 
+-- if no file has the name of the workload, which is observable, it cannot be read
+abbrev pub MissesFiles : ℕ → Call → Type 0
+MissesFiles n c = (named : NamesFiles c.given.words) → c.absent named.workload → (n ≡ 5) ⊎ (n ≡ 7)
+
 -- if the words do not name two files, they are refused
 abbrev pub RefusesWords : ℕ → Call → Type 0
 RefusesWords n c = AsksNothing c.given.words → (n ≡ 2) ⊎ (n ≡ 7)
@@ -139,5 +143,7 @@ pub record IsAnswered (n : ℕ) (c : Call) : Type 0 where
   pub texts : RefusesTexts n c
   pub words : RefusesWords n c
   pub spends : SpendsNone n c
+  pub absent : MissesFiles n c
   pub reads : (Grew c.left.read_faults → ⊥) → n ≢ 5
+  pub faulty : HasReadFault c.left → (n ≡ 5) ⊎ (n ≡ 7)
   pub writes : (Grew c.left.out_faults → ⊥) → n ≢ 6

@@ -1,11 +1,12 @@
 //! The top call.
 
-ghost use Rattle.std.specs.Prelude.{◌≡◌, ◌≤◌, List, IfErr, IfOk, IfSome, length, map, string_bytes};
+ghost use Rattle.std.specs.Prelude.{◌≡◌, ◌≢◌, ◌≤◌, List, IfErr, IfOk, IfSome, IsErrOf, length, map, string_bytes};
 ghost use Rattle.abt_machine.specs.Words.{Text};
 ghost use Rattle.abt_order.specs.Stored.{shapes_of};
 ghost use Rattle.abt_report.specs.Pictures.{IsPictureOf};
 ghost use Rattle.abt_run.specs.Given.{given};
 ghost use Rattle.abt_shell.specs.Calls.{left};
+ghost use Rattle.abt_shell.specs.declared.status.Stop.TheVariants.{CannotRead};
 ghost use Rattle.abt_lives.specs.Call.{IsAnswered, RanOnLives, StopsLives, waves_output};
 ghost use Rattle.abt_lives.specs.Lives.{HasNoLives, ReadsLives};
 ghost use Rattle.abt_lives.specs.Words.{Asks};
@@ -30,7 +31,7 @@ use std::thread::Threads;
 pub const NAME: &[u8] = b"abtwaves";
 
 // The maximum number of bytes of a lives text.
-const MOST: usize = 65_536;
+const LIVES_LIMIT: usize = 65_536;
 
 // What a call writes, the run's journal, and how the run ended.
 #[derive(Drop)]
@@ -83,10 +84,11 @@ fn fetch_lives<F: Files>(
     ensures are { IfOk result (λ lives. AreLives w.now lives) }
     ensures reads { IfOk result (λ lives. IfSome (F.file files.old file.now) (λ bytes. ReadsLives w.now bytes lives)) }
     ensures stop { IfErr result (HasNoLives w.now (F.file files.old file.now) (F.faults files.old, F.faults files.new)) }
+    ensures faulty { F.faults files.new ≢ F.faults files.old → IsErrOf result CannotRead }
     ensures later { F.faults files.old ≤ F.faults files.new }
 {
-    let bytes = bytes_of(alloc, file, files, MOST)?;
-    if bytes.len() > MOST {
+    let bytes = bytes_of(alloc, file, files, LIVES_LIMIT)?;
+    if bytes.len() > LIVES_LIMIT {
         return Err(Stop::BadLine(0, Wrong::Lives));
     }
     match read_lives(alloc, w, &bytes) {
@@ -111,6 +113,8 @@ fn prepare_files<R: Threads + Wait + Sync, F: Files, P: Pace + Sync>(
         → IfOk result (λ p. RanOnLives (given words (shapes_of orders.now) (λ name. F.file files.old name)) p.journal p.outcome p.text.items) }
     ensures stop { (words : List Text) → Asks words workload.now lives.now
         → IfErr result (StopsLives (given words (shapes_of orders.now) (λ name. F.file files.old name)) (F.faults files.old, F.faults files.new)) }
+    ensures absent { F.absent files.old workload.now → IsErrOf result CannotRead }
+    ensures faulty { F.faults files.new ≢ F.faults files.old → IsErrOf result CannotRead }
     ensures later { F.faults files.old ≤ F.faults files.new }
 {
     let w = fetch(alloc, workload, files)?;
@@ -132,6 +136,8 @@ fn prepare<R: Threads + Wait + Sync, F: Files, P: Pace + Sync>(
     requires orders { 2 ≤ length orders.now }
     ensures done { IfOk result (λ p. RanOnLives (given (map string_bytes words.now) (shapes_of orders.now) (λ name. F.file files.old name)) p.journal p.outcome p.text.items) }
     ensures stop { IfErr result (StopsLives (given (map string_bytes words.now) (shapes_of orders.now) (λ name. F.file files.old name)) (F.faults files.old, F.faults files.new)) }
+    ensures absent { (workload lives : Text) → Asks (map string_bytes words.now) workload lives → F.absent files.old workload → IsErrOf result CannotRead }
+    ensures faulty { F.faults files.new ≢ F.faults files.old → IsErrOf result CannotRead }
     ensures later { F.faults files.old ≤ F.faults files.new }
 {
     match asked(words) {
@@ -160,6 +166,7 @@ pub fn abtwaves<R: Threads + Wait + Sync, F: Files, K: Sink, E: Sink, P: Pace + 
     requires orders { 2 ≤ length orders.now }
     ensures { IsAnswered result.status (record {
       given = given (map string_bytes words.now) (shapes_of orders.now) (λ name. F.file files.old name);
+      absent = λ name. F.absent files.old name;
       left = left (F.faults files.old, F.faults files.new) (K.taken out.old, K.taken out.new) (K.faults out.old, K.faults out.new) (E.taken err.old, E.taken err.new) (E.faults err.old, E.faults err.new);
       journal = result.journal;
     }) }

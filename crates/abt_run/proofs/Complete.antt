@@ -1,5 +1,5 @@
 -- Which status a call answers if its cause holds.
-use Rattle.std.proofs.Common.{◌≡◌, ◌≢◌, ◌<◌, ◌≤◌, ◌⊎◌, ℕ, List, [], ◌∷◌, length, Option, Some, None, inl, inr, refl, sym, ap, subst, ◌∙◌, arith}
+use Rattle.std.proofs.Common.{◌≡◌, ◌≢◌, ◌<◌, ◌≤◌, ◌⊎◌, ℕ, List, [], ◌∷◌, length, Some, inl, inr, refl, sym, ap, subst, ◌∙◌, arith}
 use Rattle.std.specs.Prelude.{IfSome}
 use Rattle.std.proofs.lemmas.List.{take_all}
 use Rattle.abt_machine.specs.declared.events.Event.{Event}
@@ -31,17 +31,18 @@ use Rattle.abt_report.specs.Journals.{IsNoJournalAt, IsTextOf}
 use Rattle.abt_report.proofs.Limits.{not-both}
 use Rattle.abt_shell.specs.declared.status.Stop.TheVariants.{BadWords, BadLine, CannotRead, OutOfMemory}
 use Rattle.abt_shell.specs.declared.status.Wrong.TheVariants.{Workload, Journal, Lives}
-use Rattle.abt_shell.specs.Calls.{EndsBy, Holds, IsStill}
+use Rattle.abt_shell.specs.Calls.{EndsBy, HasReadFault, Holds, IsStill}
 use Rattle.abt_shell.specs.Status.{Status, Concluded, Stopped, CannotWrite, number_of, number_of_outcome}
 use Rattle.abt_shell.specs.Told.{Grew}
 use Rattle.abt_shell.proofs.Calls.{reads-well, writes-well}
 use Rattle.abt_shell.proofs.Fetched.{of-observed}
-use Rattle.abt_run.specs.Call.{Call, Decides, IsAnswered, IsOfRun, RunsKnown, program}
+use Rattle.abt_run.specs.Call.{Call, Decides, IsAnswered, IsOfRun, MissesFiles, RunsKnown, program}
 use Rattle.abt_run.specs.Given.{Compares, Given, IsReadFrom, SaysNothing, Tells, workload_file}
 use Rattle.abt_run.specs.Printed.{AsksFlow, HasVerdict, IsFor, Prints, Ran, steps_for}
 use Rattle.abt_run.specs.Status.{number_of_conclusion}
 use Rattle.abt_run.specs.declared.status.Conclusion.{Conclusion}
 use Rattle.abt_run.specs.declared.status.Conclusion.TheVariants.{Ended, Judged, Flows, NotConfluent, Undefined}
+use Rattle.abt_run.proofs.Preparing.{none-is, some-is}
 use Rattle.abt_run.proofs.Texts.{one-journal}
 
 -- Files.
@@ -75,12 +76,6 @@ module _ (g : Given) (file : Text) where
   not-journal K tells is = tells.2 K (of-observed (IsTextOf K) (g.file file) tells.0 tells.1 is)
 
 -- Commands.
-
-some-is : (a b : Text) → ◌≡◌ {A = Option Text} (Some a) (Some b) → a ≡ b
-some-is a b e = cc
-
-none-is : (a : Text) → ◌≡◌ {A = Option Text} None (Some a) → ⊥
-none-is a e = cc
 
 check-first : (v w j k : Text) → command.Check v j ≡ command.Check w k → v ≡ w
 check-first v w j k e = cc
@@ -376,8 +371,8 @@ none-concludes n high NotConfluent = λ e. absurd (omega arith)
 none-concludes n high Undefined = λ e. absurd (omega arith)
 
 -- a call that ended with this exit status is answered
-pub answered : (n : ℕ) (c : Call) → 2 ≤ length c.given.orders → EndsBy (program c) c.left n → IsAnswered n c
-answered n c two ends = by ends.0 ends.1 ends.2 where
+pub answered : (n : ℕ) (c : Call) → 2 ≤ length c.given.orders → EndsBy (program c) c.left n → MissesFiles n c → (HasReadFault c.left → (n ≡ 5) ⊎ (n ≡ 7)) → IsAnswered n c
+answered n c two ends absent faulty = by ends.0 ends.1 ends.2 where
   by : (s : Status Conclusion) → n ≡ number_of number_of_conclusion s → Holds (program c) c.left s → IsAnswered n c
   by s is h = subst (λ m. IsAnswered m c) (sym is) (record {
     cause = (s, refl, h);
@@ -388,6 +383,8 @@ answered n c two ends = by ends.0 ends.1 ends.2 where
     journals = λ w j W says tells also still. refuses-journal s c w j h says also still;
     words = refuses-words s c h;
     spends = λ d W says known none few. spends s c d W h two says known none few;
+    absent = subst (λ m. MissesFiles m c) is absent;
     reads = reads-well (program c) c.left (none-concludes 5 (omega arith)) (λ cause. cause.why.1) s h;
+    faulty = subst (λ m. HasReadFault c.left → (m ≡ 5) ⊎ (m ≡ 7)) is faulty;
     writes = writes-well (program c) c.left (none-concludes 6 (omega arith)) s h;
   })

@@ -1,5 +1,5 @@
 -- From what is known of one file to what is known of a call.
-use Rattle.std.proofs.Common.{◌≡◌, ◌<◌, ◌≤◌, ℕ, List, length, map, Option, Some, refl, subst, sym, arith}
+use Rattle.std.proofs.Common.{◌≡◌, ◌∙◌, ◌<◌, ◌≤◌, ℕ, List, length, map, Option, Some, None, ap, refl, subst, sym, arith}
 use Rattle.std.proofs.lemmas.List.{length-map}
 use Rattle.abt_machine.specs.declared.events.Event.{Event}
 use Rattle.abt_machine.specs.declared.events.Outcome.{Outcome}
@@ -9,15 +9,33 @@ use Rattle.abt_generate.specs.Generated.{generated}
 use Rattle.abt_words.specs.declared.commands.Command.{Command}
 use Rattle.abt_words.specs.declared.commands.Command.TheVariants as command
 use Rattle.abt_words.specs.Commands.{Says}
+use Rattle.abt_words.proofs.OneCommand.{one-command}
+use Rattle.abt_shell.specs.Fetched.{HasNoJournal, IsNoJournalLine}
 use Rattle.abt_shell.specs.declared.status.Stop.{Stop}
 use Rattle.abt_shell.specs.declared.status.Wrong.{Wrong}
 use Rattle.abt_shell.specs.declared.status.Wrong.TheVariants.{Workload, Journal, Lives}
 use Rattle.abt_shell.proofs.Fetched.{grew-later, stops-file}
 use Rattle.abt_run.specs.Given.{Given, IsReadFrom, NamesFile, SaysNothing, workload_file}
-use Rattle.abt_run.specs.Prepared.{HasNoJournal, HasNoWorkload, IsBadLine, IsNoJournalLine, IsNoWorkload, StopsCommand}
+use Rattle.abt_run.specs.Prepared.{HasNoWorkload, IsBadLine, IsNoWorkload, StopsCommand}
 use Rattle.abt_run.specs.Printed.{Prints, Ran}
 use Rattle.abt_run.specs.declared.status.Conclusion.{Conclusion}
 use Rattle.abt_run.specs.declared.status.Conclusion.TheVariants.{Ended}
+
+-- Files that the words name.
+
+pub some-is : (a b : Text) → ◌≡◌ {A = Option Text} (Some a) (Some b) → a ≡ b
+some-is a b e = cc
+
+pub none-is : (a : Text) → ◌≡◌ {A = Option Text} None (Some a) → ⊥
+none-is a e = cc
+
+-- words name one workload's file
+pub one-file : (words : List Text) (d e : Command) (f g : Text) → Says words d → Says words e → workload_file d ≡ Some f → workload_file e ≡ Some g → f ≡ g
+one-file words d e f g one two names other = some-is f g (sym names ∙ (ap workload_file (one-command words d e one two) ∙ other))
+
+-- or none
+pub no-file : (words : List Text) (d e : Command) (f : Text) → Says words d → Says words e → workload_file d ≡ Some f → workload_file e ≡ None → ⊥
+no-file words d e f one two names none = none-is f (sym none ∙ (ap workload_file (one-command words e d two one) ∙ names))
 
 -- why a file has no workload is why the call stops
 pub no-workload-stops : (s : Stop) (g : Given) (d : Command) (file : Text) (faults : ℕ × ℕ) → Says g.words d → workload_file d ≡ Some file → HasNoWorkload (g.file file) faults s → StopsCommand g faults s

@@ -18,13 +18,8 @@ use Rattle.abt_machine.specs.Spelling.{lines_of}
 use Rattle.abt_machine.specs.Words.{Text}
 use Rattle.abt_bounds.specs.Laws.{IsWritten, what_numbers}
 use Rattle.abt_bounds.proofs.JournalTexts.{journal-texts-differ}
-use Rattle.abt_report.specs.Journals.{HasShortNumbers, IsEvent, IsNoJournalAt, IsTextOf, journal_limit}
-use Rattle.abt_report.specs.Journals as journals
-use Rattle.abt_machine.specs.Texts.{journal_text}
-use Rattle.abt_report.specs.declared.text_fault.TextFault.{TextFault}
-use Rattle.abt_report.specs.declared.text_fault.TextFault.TheVariants as bad
-use Rattle.abt_report.proofs.Limits.{bad-line}
-use Rattle.abt_shell.proofs.Fetched.{of-long, of-whole, whole}
+use Rattle.abt_report.specs.Journals.{HasShortNumbers, IsEvent, IsTextOf}
+use Rattle.abt_shell.proofs.Fetched.{of-whole, whole}
 use Rattle.abt_workload.specs.Reading.{IsCause}
 use Rattle.abt_workload.specs.declared.reading.NotRead.{NotRead}
 use Rattle.abt_workload.specs.declared.reading.NotRead.TheVariants as cause
@@ -70,24 +65,6 @@ pub told-refused : (told : Option Text) (front : Text) (c : NotRead) (line l : �
 told-refused told front c line l f g e is same equal why =
     subst (λ k. IfSome told (λ xs. Refuses xs k g)) (sym same)
     (subst (λ h. IfSome told (λ xs. Refuses xs line h)) (sym equal) (told-refuses told front line f e (subst (IsCause front) is why)))
-
--- Journals.
-
--- a text of more bytes than were asked for is too long
-pub told-long : (told : Option Text) (front : Text) → IfSome told (λ xs. front ≡ take (suc journal_limit) xs) → journal_limit < length front → IfSome told (λ bytes. IsNoJournalAt bytes 0)
-told-long told front e long = of-long journal_limit (λ bytes. IsNoJournalAt bytes 0) told front e long (λ xs more. more)
-
--- a shorter one is the journal's that was read
-pub told-journal : (told : Option Text) (front : Text) (J : List Event) → IfSome told (λ xs. front ≡ take (suc journal_limit) xs) → length front ≤ journal_limit → All IsEvent J
-    → journal_text J ≡ front → IfSome told (IsTextOf J)
-told-journal told front J e short events text = of-whole journal_limit (IsTextOf J) told front e short (record { events = events; text = text; short = short })
-
--- or has the bad line
-pub told-bad : (told : Option Text) (front : Text) (c : TextFault) (line l : ℕ) → IfSome told (λ xs. front ≡ take (suc journal_limit) xs) → length front ≤ journal_limit → c ≡ bad.Bad line → l ≡ line
-    → journals.IsCause front c → IfSome told (λ bytes. IsNoJournalAt bytes l)
-told-bad told front c line l e short is same why =
-    subst (λ k. IfSome told (λ bytes. IsNoJournalAt bytes k)) (sym same)
-    (of-whole journal_limit (λ bytes. IsNoJournalAt bytes line) told front e short (bad-line front line short (subst (journals.IsCause front) is why)))
 
 -- One text, one journal.
 

@@ -11,7 +11,7 @@ use Rattle.abt_flow.specs.Confluent.{Confluent}
 use Rattle.abt_flow.specs.Flow.{IsFlow}
 use Rattle.abt_generate.specs.Generated.{generated}
 use Rattle.abt_report.specs.Journals.{IsTextOf}
-use Rattle.abt_shell.specs.Calls.{EndsBy, IsStill, Left, Program}
+use Rattle.abt_shell.specs.Calls.{EndsBy, HasReadFault, IsStill, Left, Program}
 use Rattle.abt_shell.specs.Told.{Grew}
 use Rattle.abt_shell.specs.declared.status.Stop.{Stop}
 use Rattle.abt_words.specs.declared.commands.Command.{Command}
@@ -23,9 +23,10 @@ use Rattle.abt_run.specs.Printed.{Prints, steps_for}
 use Rattle.abt_run.specs.Status.{name, number_of_conclusion}
 use Rattle.abt_run.specs.declared.status.Conclusion.{Conclusion}
 
--- what the call was given, what it left, and the journal that was returned
-pub record Call : Type 0 where
+-- what the call was given, of which names it is observable that no file has them, what it left, and the journal that was returned
+pub record Call : Type 1 where
   pub given : Given
+  pub absent : Text → Type 0
   pub left : Left
   pub journal : List Event
 
@@ -86,6 +87,10 @@ abbrev pub RefusesJournals : ℕ → Call → Type 0
 RefusesJournals n c = (workload journal : Text) (W : Parts) → Says c.given.words (command.Check workload journal) → Tells c.given workload (λ bytes. Reads bytes W)
     → Tells c.given journal (λ bytes. (J : List Event) → IsTextOf J bytes → ⊥) → (Grew c.left.read_faults → ⊥) → (n ≡ 3) ⊎ (n ≡ 7)
 
+-- if no file has the name of the workload, which is observable, it cannot be read
+abbrev pub MissesFiles : ℕ → Call → Type 0
+MissesFiles n c = (command : Command) (file : Text) → Says c.given.words command → workload_file command ≡ Some file → c.absent file → (n ≡ 5) ⊎ (n ≡ 7)
+
 -- if the words are not a command, they are refused
 abbrev pub RefusesWords : ℕ → Call → Type 0
 RefusesWords n c = SaysNothing c.given.words → (n ≡ 2) ⊎ (n ≡ 7)
@@ -104,5 +109,7 @@ pub record IsAnswered (n : ℕ) (c : Call) : Type 0 where
   pub journals : RefusesJournals n c
   pub words : RefusesWords n c
   pub spends : SpendsNone n c
+  pub absent : MissesFiles n c
   pub reads : (Grew c.left.read_faults → ⊥) → n ≢ 5
+  pub faulty : HasReadFault c.left → (n ≡ 5) ⊎ (n ≡ 7)
   pub writes : (Grew c.left.out_faults → ⊥) → n ≢ 6

@@ -31,13 +31,3 @@ IsNoWorkload told line Lives = ⊥
 -- why the file has no workload
 abbrev pub HasNoWorkload : Option Text → ℕ × ℕ → Stop → Type 0
 HasNoWorkload told = HasNot (IsNoWorkload told)
-
--- a line has this wrong, which keeps the file from being a journal's
-abbrev pub IsNoJournalLine : Option Text → ℕ → Wrong → Type 0
-IsNoJournalLine told line (Workload f) = ⊥
-IsNoJournalLine told line Journal = IfSome told (λ bytes. IsNoJournalAt bytes line)
-IsNoJournalLine told line Lives = ⊥
-
--- why the file has no journal
-abbrev pub HasNoJournal : Option Text → ℕ × ℕ → Stop → Type 0
-HasNoJournal told = HasNot (IsNoJournalLine told)

@@ -1,6 +1,6 @@
 //! The command `check`.
 
-ghost use Rattle.std.specs.Prelude.{◌≡◌, ◌<◌, ◌≤◌, ◌+◌, ◌^◌, IfErr, IfOk, List, length};
+ghost use Rattle.std.specs.Prelude.{◌≡◌, ◌≢◌, ◌<◌, ◌≤◌, ◌+◌, ◌^◌, IfErr, IfOk, IsErrOf, List, length};
 ghost use Rattle.abt_machine.specs.Words.{Text};
 ghost use Rattle.abt_order.specs.Stored.{shapes_of};
 ghost use Rattle.abt_words.specs.Commands.{Says};
@@ -9,16 +9,17 @@ ghost use Rattle.abt_check.specs.declared.verdict.Verdict.TheVariants as verdict
 ghost use Rattle.abt_run.specs.Given.{given};
 ghost use Rattle.abt_run.specs.Prepared.{StopsCommand};
 ghost use Rattle.abt_run.specs.Printed.{HasShortCount, Prints, verdict_text};
+ghost use Rattle.abt_shell.specs.declared.status.Stop.TheVariants.{CannotRead};
 
-use crate::fetching::{fetch, fetch_journal};
+use crate::fetching::fetch;
 use crate::prepared::{Prepared, without_journal};
 use crate::status::Conclusion;
 use abt_check::{Verdict, check};
+use abt_lines::{end_line, push_number};
 use abt_machine::Want;
 use abt_order::StoredOrder;
-use abt_shell::Stop;
+use abt_shell::{Stop, fetch_journal};
 use abt_source::Files;
-use itoa::Buffer;
 use std::alloc::Global;
 
 /// The verdict on a file's journal as a run of another file's workload. The workload is read first.
@@ -34,6 +35,8 @@ pub(crate) fn prepare_check<F: Files>(
         → IfOk result (λ p. Prints (given words (shapes_of orders.now) (λ name. F.file files.old name)) p.conclusion p.journal p.text.items) }
     ensures stop { (words : List Text) → Says words (command.Check workload.now journal.now)
         → IfErr result (StopsCommand (given words (shapes_of orders.now) (λ name. F.file files.old name)) (F.faults files.old, F.faults files.new)) }
+    ensures absent { F.absent files.old workload.now → IsErrOf result CannotRead }
+    ensures faulty { F.faults files.new ≢ F.faults files.old → IsErrOf result CannotRead }
     ensures later { F.faults files.old ≤ F.faults files.new }
 {
     let w = fetch(alloc, workload, files)?;
@@ -60,8 +63,7 @@ fn bad_line(alloc: Global, at: u64) -> Result<Vec<u8>, Want>
     ensures { IfOk result (λ text. text.items ≡ verdict_text (verdict.Bad at)) }
 {
     let mut text = Vec::from_slice(alloc, b"bad ")?;
-    let mut buffer = Buffer::new();
-    text.extend_from_slice(buffer.format(at + 1).as_bytes())?;
-    text.extend_from_slice(b"\n")?;
+    push_number(&mut text, at + 1)?;
+    end_line(&mut text)?;
     Ok(text)
 }

@@ -1,12 +1,11 @@
-//! The workloads and journals of files.
+//! The workloads of files.
 
-ghost use Rattle.std.specs.Prelude.{◌≡◌, ◌≤◌, ℕ, List, IfErr, IfOk, IfSome};
+ghost use Rattle.std.specs.Prelude.{◌≡◌, ◌≢◌, ◌≤◌, ℕ, List, IfErr, IfOk, IfSome, IsErrOf};
 ghost use Rattle.abt_machine.specs.Grammar.{Reads};
-ghost use Rattle.abt_report.specs.Journals.{IsTextOf};
-ghost use Rattle.abt_run.specs.Prepared.{HasNoWorkload, HasNoJournal};
+ghost use Rattle.abt_run.specs.Prepared.{HasNoWorkload};
+ghost use Rattle.abt_shell.specs.declared.status.Stop.TheVariants.{CannotRead};
 
-use abt_machine::{Format, Journal, Workload};
-use abt_report::{JOURNAL_LIMIT, TextFault, read_journal};
+use abt_machine::{Format, Workload};
 use abt_shell::{Stop, Wrong, bytes_of};
 use abt_source::Files;
 use abt_workload::{NotRead, read};
@@ -20,6 +19,8 @@ use std::alloc::Global;
 pub fn fetch<F: Files>(alloc: Global, file: &str, files: &mut F) -> Result<Workload, Stop>
     ensures reads { IfOk result (λ w. IfSome (F.file files.old file.now) (λ bytes. Reads bytes w)) }
     ensures stop { IfErr result (HasNoWorkload (F.file files.old file.now) (F.faults files.old, F.faults files.new)) }
+    ensures absent { F.absent files.old file.now → IsErrOf result CannotRead }
+    ensures faulty { F.faults files.new ≢ F.faults files.old → IsErrOf result CannotRead }
     ensures same { (name : List ℕ) → F.file files.new name ≡ F.file files.old name }
     ensures later { F.faults files.old ≤ F.faults files.new }
 {
@@ -28,26 +29,5 @@ pub fn fetch<F: Files>(alloc: Global, file: &str, files: &mut F) -> Result<Workl
         Ok(w) => Ok(w),
         Err(NotRead::Refused { line, fault }) => Err(Stop::BadLine(line, Wrong::Workload(fault))),
         Err(NotRead::Memory) => Err(Stop::OutOfMemory),
-    }
-}
-
-/// The journal of a file.
-pub(crate) fn fetch_journal<F: Files>(
-    alloc: Global,
-    file: &str,
-    files: &mut F,
-) -> Result<Journal, Stop>
-    ensures reads { IfOk result (λ journal. IfSome (F.file files.old file.now) (IsTextOf journal)) }
-    ensures stop { IfErr result (HasNoJournal (F.file files.old file.now) (F.faults files.old, F.faults files.new)) }
-    ensures later { F.faults files.old ≤ F.faults files.new }
-{
-    let bytes = bytes_of(alloc, file, files, JOURNAL_LIMIT)?;
-    if bytes.len() > JOURNAL_LIMIT {
-        return Err(Stop::BadLine(0, Wrong::Journal));
-    }
-    match read_journal(alloc, &bytes) {
-        Ok(journal) => Ok(journal),
-        Err(TextFault::Bad { line }) => Err(Stop::BadLine(line, Wrong::Journal)),
-        Err(TextFault::Memory) => Err(Stop::OutOfMemory),
     }
 }

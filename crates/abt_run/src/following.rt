@@ -1,6 +1,6 @@
 //! The command `flow`.
 
-ghost use Rattle.std.specs.Prelude.{◌≤◌, IfErr, IfOk, List};
+ghost use Rattle.std.specs.Prelude.{◌≢◌, ◌≤◌, IfErr, IfOk, IsErrOf, List};
 ghost use Rattle.abt_machine.specs.Words.{Text};
 ghost use Rattle.abt_machine.specs.declared.operations.OrderShape.{OrderShape};
 ghost use Rattle.abt_words.specs.Commands.{Says};
@@ -8,6 +8,7 @@ ghost use Rattle.abt_words.specs.declared.commands.Command.TheVariants as comman
 ghost use Rattle.abt_run.specs.Given.{given};
 ghost use Rattle.abt_run.specs.Prepared.{StopsCommand};
 ghost use Rattle.abt_run.specs.Printed.{Prints};
+ghost use Rattle.abt_shell.specs.declared.status.Stop.TheVariants.{CannotRead};
 
 use crate::fetching::fetch;
 use crate::prepared::{Prepared, without_journal};
@@ -28,6 +29,8 @@ pub(crate) fn prepare_flow<F: Files>(
         → IfOk result (λ p. Prints (given words orders (λ name. F.file files.old name)) p.conclusion p.journal p.text.items) }
     ensures stop { (words : List Text) (orders : List OrderShape) → Says words (command.Flow file.now)
         → IfErr result (StopsCommand (given words orders (λ name. F.file files.old name)) (F.faults files.old, F.faults files.new)) }
+    ensures absent { F.absent files.old file.now → IsErrOf result CannotRead }
+    ensures faulty { F.faults files.new ≢ F.faults files.old → IsErrOf result CannotRead }
     ensures later { F.faults files.old ≤ F.faults files.new }
 {
     let w = fetch(alloc, file, files)?;

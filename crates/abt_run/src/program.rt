@@ -1,12 +1,16 @@
 //! The top call.
 
-ghost use Rattle.std.specs.Prelude.{◌≤◌, IfErr, IfOk, length, map, string_bytes};
+ghost use Rattle.std.specs.Prelude.{◌≡◌, ◌≢◌, ◌≤◌, ◌⊎◌, IfErr, IfOk, IsErrOf, Some, length, map, string_bytes};
+ghost use Rattle.abt_machine.specs.Words.{Text};
 ghost use Rattle.abt_order.specs.Stored.{shapes_of};
+ghost use Rattle.abt_words.specs.Commands.{Says};
+ghost use Rattle.abt_words.specs.declared.commands.Command.{Command};
 ghost use Rattle.abt_run.specs.Call.{IsAnswered};
-ghost use Rattle.abt_run.specs.Given.{given};
+ghost use Rattle.abt_run.specs.Given.{given, workload_file};
 ghost use Rattle.abt_run.specs.Prepared.{StopsCommand};
 ghost use Rattle.abt_run.specs.Printed.{Prints};
 ghost use Rattle.abt_shell.specs.Calls.{left};
+ghost use Rattle.abt_shell.specs.declared.status.Stop.TheVariants.{CannotRead, OutOfMemory};
 
 use crate::checking::prepare_check;
 use crate::following::prepare_flow;
@@ -35,6 +39,9 @@ fn prepare<R: Threads + Wait + Sync, F: Files, P: Pace + Sync>(
     requires orders { 2 ≤ length orders.now }
     ensures done { IfOk result (λ p. Prints (given (map string_bytes words.now) (shapes_of orders.now) (λ name. F.file files.old name)) p.conclusion p.journal p.text.items) }
     ensures stop { IfErr result (StopsCommand (given (map string_bytes words.now) (shapes_of orders.now) (λ name. F.file files.old name)) (F.faults files.old, F.faults files.new)) }
+    ensures absent { (command : Command) (file : Text) → Says (map string_bytes words.now) command → workload_file command ≡ Some file → F.absent files.old file
+        → IsErrOf result CannotRead ⊎ IsErrOf result OutOfMemory }
+    ensures faulty { F.faults files.new ≢ F.faults files.old → IsErrOf result CannotRead }
     ensures later { F.faults files.old ≤ F.faults files.new }
 {
     match command(alloc, words) {
@@ -92,6 +99,7 @@ pub fn abtrun<R: Threads + Wait + Sync, F: Files, K: Sink, E: Sink, P: Pace + Sy
     requires orders { 2 ≤ length orders.now }
     ensures { IsAnswered result.status (record {
       given = given (map string_bytes words.now) (shapes_of orders.now) (λ name. F.file files.old name);
+      absent = λ name. F.absent files.old name;
       left = left (F.faults files.old, F.faults files.new) (K.taken out.old, K.taken out.new) (K.faults out.old, K.faults out.new) (E.taken err.old, E.taken err.new) (E.faults err.old, E.faults err.new);
       journal = result.journal;
     }) }

@@ -1,6 +1,6 @@
 //! The commands `run` and `self`.
 
-ghost use Rattle.std.specs.Prelude.{◌≡◌, ◌≤◌, ◌<◌, ℕ, List, IfErr, IfOk, [], if◌then◌else◌, length};
+ghost use Rattle.std.specs.Prelude.{◌≡◌, ◌≢◌, ◌≤◌, ◌<◌, ℕ, List, IfErr, IfOk, IsErrOf, [], if◌then◌else◌, length};
 ghost use Rattle.abt_machine.specs.Limits.{adder_limit};
 ghost use Rattle.abt_machine.specs.Runs.{last_state};
 ghost use Rattle.abt_machine.specs.Texts.{journal_text as text_of_journal};
@@ -15,6 +15,7 @@ ghost use Rattle.abt_run.specs.Prepared.{StopsCommand};
 ghost use Rattle.abt_run.specs.Printed.{Prints, output_text};
 ghost use Rattle.abt_run.specs.declared.status.Conclusion.TheVariants as conclusion;
 ghost use Rattle.abt_shell.specs.declared.status.Stop.TheVariants as why;
+ghost use Rattle.abt_shell.specs.declared.status.Stop.TheVariants.{CannotRead};
 
 use crate::fetching::fetch;
 use crate::prepared::Prepared;
@@ -49,6 +50,8 @@ pub(crate) fn prepare_file<R: Threads + Wait + Sync, F: Files, P: Pace + Sync>(
         → IfOk result (λ p. Prints (given words (shapes_of orders.now) (λ name. F.file files.old name)) p.conclusion p.journal p.text.items) }
     ensures stop { (words : List Text) → Says words (command.Run file.now steps with_journal)
         → IfErr result (StopsCommand (given words (shapes_of orders.now) (λ name. F.file files.old name)) (F.faults files.old, F.faults files.new)) }
+    ensures absent { F.absent files.old file.now → IsErrOf result CannotRead }
+    ensures faulty { F.faults files.new ≢ F.faults files.old → IsErrOf result CannotRead }
     ensures later { F.faults files.old ≤ F.faults files.new }
 {
     let w = fetch(alloc, file, files)?;

@@ -1,6 +1,6 @@
 -- How a call ends, by what was prepared and written.
-use Rattle.std.proofs.Common.{◌≡◌, ◌≢◌, ◌⊎◌, ◌∙◌, ◌++◌, ℕ, [], codes, Result, Ok, Err, inl, inr, sym, subst, arith}
-use Rattle.std.specs.Prelude.{IfErr, IfOk}
+use Rattle.std.proofs.Common.{◌≡◌, ◌≢◌, ◌⊎◌, ◌∙◌, ◌++◌, ℕ, [], codes, Result, Ok, Err, inl, inr, sym, ap, subst, arith}
+use Rattle.std.specs.Prelude.{IfErr, IfOk, IsErrOf}
 use Rattle.abt_machine.specs.Words.{Text}
 use Rattle.abt_shell.specs.declared.status.Stop.{Stop}
 use Rattle.abt_shell.specs.declared.status.Stop.TheVariants.{BadWords, BadLine, CannotRead, OutOfMemory}
@@ -52,3 +52,16 @@ module _ {C : Type 0} (P : Program C) (left : Left) where
   writes-well other (Stopped CannotRead) h still = λ e. absurd (omega arith)
   writes-well other (Stopped OutOfMemory) h still = λ e. absurd (omega arith)
   writes-well other CannotWrite h still = absurd (still h.faults)
+
+-- what went well did not stop, and what stopped did so for one reason
+pub not-stopped : {A : Type 0} (a : A) (stop : Stop) → IsErrOf (Ok a) stop → ⊥
+not-stopped a stop e = cc
+
+pub stopped-by : {A : Type 0} (cause stop : Stop) → IsErrOf {T = A} (Err cause) stop → cause ≡ stop
+stopped-by cause stop e = cc
+
+-- a call that could not read ends with 5, or with 7 if memory was refused
+pub missing-ends : (n : ℕ) (cause stop : Stop) → (cause ≡ CannotRead) ⊎ (cause ≡ OutOfMemory) → n ≡ number_of_stop stop → (stop ≡ cause) ⊎ (stop ≡ OutOfMemory) → (n ≡ 5) ⊎ (n ≡ 7)
+missing-ends n cause stop (inl why) is (inl same) = inl (is ∙ ap number_of_stop (same ∙ why))
+missing-ends n cause stop (inr why) is (inl same) = inr (is ∙ ap number_of_stop (same ∙ why))
+missing-ends n cause stop why is (inr none) = inr (is ∙ ap number_of_stop none)

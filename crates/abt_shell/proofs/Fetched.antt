@@ -1,9 +1,13 @@
 -- What was read of a file, from what was read of its first bytes; and why a call stops.
-use Rattle.std.proofs.Common.{◌≡◌, ◌∙◌, ◌<◌, ◌≤◌, ◌+◌, ◌-◌, ◌^◌, ℕ, length, take, Option, Some, None, Result, Ok, Err, min, ap, subst, sym, arith, inl, inr}
+use Rattle.std.proofs.Common.{◌≡◌, ◌≢◌, ◌∙◌, ◌<◌, ◌≤◌, ◌+◌, ◌-◌, ◌^◌, ℕ, length, take, Option, Some, None, Result, Ok, Err, min, ap, subst, sym, arith, inl, inr}
 use Rattle.std.specs.Prelude.{IfErr, IfSome, IsErrAnd, ⊤}
 use Rattle.std.proofs.lemmas.Bool.{cases_lt}
 use Rattle.std.proofs.lemmas.List.{take_all, length-take}
 use Rattle.abt_machine.specs.Words.{Text}
+use Rattle.abt_report.specs.declared.text_fault.TextFault.{TextFault}
+use Rattle.abt_report.specs.declared.text_fault.TextFault.TheVariants.{Bad}
+use Rattle.abt_report.specs.Journals.{IsCause, IsNoJournalAt, journal_limit}
+use Rattle.abt_report.proofs.Limits.{bad-line}
 use Rattle.abt_shell.specs.Fetched.{HasNot, StopsFor}
 use Rattle.abt_shell.specs.Told.{Grew}
 use Rattle.abt_shell.specs.declared.status.Stop.{Stop}
@@ -53,3 +57,13 @@ stops-file N F B D faults more named = stops-more ⊥ N ⊤ F B D faults more (�
 pub passed : {T : Type 0} (r : Result T Stop) (s : Stop) (P : Stop → Type 0) → IsErrAnd r (λ y. y ≡ s) → P s → IfErr r P
 passed (Err y) s P same h = subst P (sym same) h
 passed (Ok x) s P same h = absurd same
+
+-- the line that keeps bytes from being a journal's text, by the cause that their reader states
+pub wrong-line : (bytes : Text) (cause : TextFault) (line l : ℕ) → length bytes ≤ journal_limit → cause ≡ Bad line → l ≡ line → IsCause bytes cause → IsNoJournalAt bytes l
+wrong-line bytes cause line l short is same why = subst (IsNoJournalAt bytes) (sym same) (bad-line bytes line short (subst (IsCause bytes) is why))
+
+-- A fault of reading.
+
+-- if none came before, it came later
+pub faulty-later : {A : Type 0} (a b c : ℕ) → (b ≢ a → ⊥) → (c ≢ b → A) → c ≢ a → A
+faulty-later a b c still faulty other = faulty (λ later. still (λ first. other (later ∙ first)))

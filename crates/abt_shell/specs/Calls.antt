@@ -1,5 +1,5 @@
 -- What a call of a program leaves, by how it ends.
-use Rattle.std.specs.Prelude.{◌≡◌, ℕ, [], Option}
+use Rattle.std.specs.Prelude.{◌≡◌, ◌≢◌, ℕ, [], Option}
 use Rattle.abt_machine.specs.Words.{Text}
 use Rattle.abt_shell.specs.declared.status.Stop.{Stop}
 use Rattle.abt_shell.specs.Status.{Status, Concluded, Stopped, CannotWrite, message_of, number_of}
@@ -15,6 +15,10 @@ pub record Left : Type 0 where
 
 abbrev pub left : ℕ × ℕ → Option Text × Option Text → ℕ × ℕ → Option Text × Option Text → ℕ × ℕ → Left
 left read_faults out out_faults err err_faults = record { read_faults = read_faults; out = out; out_faults = out_faults; err = err; err_faults = err_faults }
+
+-- the count of faults of reading is another one
+abbrev pub HasReadFault : Left → Type 0
+HasReadFault left = left.read_faults.1 ≢ left.read_faults.0
 
 -- no fault of reading came, and none of writing the output
 abbrev pub IsStill : Left → Type 0

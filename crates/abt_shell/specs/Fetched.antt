@@ -1,9 +1,12 @@
 -- Why a call stops before its first write.
-use Rattle.std.specs.Prelude.{ℕ, ⊤}
+use Rattle.std.specs.Prelude.{ℕ, Option, IfSome, ⊤}
+use Rattle.abt_machine.specs.Words.{Text}
+use Rattle.abt_report.specs.Journals.{IsNoJournalAt}
 use Rattle.abt_shell.specs.Told.{Grew}
 use Rattle.abt_shell.specs.declared.status.Stop.{Stop}
 use Rattle.abt_shell.specs.declared.status.Stop.TheVariants.{BadWords, BadLine, CannotRead, OutOfMemory}
 use Rattle.abt_shell.specs.declared.status.Wrong.{Wrong}
+use Rattle.abt_shell.specs.declared.status.Wrong.TheVariants.{Workload, Journal, Lives}
 
 -- The words say nothing, or they name files, and a line of one has this wrong, or one can't be read; faults are the counts of faults
 -- of reading before and afterwards.
@@ -20,3 +23,13 @@ HasNot = StopsFor ⊥ ⊤
 -- the bytes of a file are not known
 abbrev pub Unread : ℕ × ℕ → Stop → Type 0
 Unread = HasNot (λ line w. ⊥)
+
+-- a line has this wrong, which keeps a file, by its bytes if they are observable, from being a journal's; line 0 says that they are too many
+abbrev pub IsNoJournalLine : Option Text → ℕ → Wrong → Type 0
+IsNoJournalLine told line (Workload f) = ⊥
+IsNoJournalLine told line Journal = IfSome told (λ bytes. IsNoJournalAt bytes line)
+IsNoJournalLine told line Lives = ⊥
+
+-- why the file has no journal
+abbrev pub HasNoJournal : Option Text → ℕ × ℕ → Stop → Type 0
+HasNoJournal told = HasNot (IsNoJournalLine told)

@@ -1,9 +1,13 @@
-//! The bytes of files.
+//! The bytes of files, and the journals in them.
 
-ghost use Rattle.std.specs.Prelude.{◌≡◌, ◌<◌, ◌≤◌, ◌+◌, ℕ, List, IfErr, IfOk, IfSome, length, take};
-ghost use Rattle.abt_shell.specs.Fetched.{Unread};
+ghost use Rattle.std.specs.Prelude.{◌≡◌, ◌≢◌, ◌<◌, ◌≤◌, ◌+◌, ℕ, List, All, IfErr, IfOk, IfSome, IsErrOf, length, take};
+ghost use Rattle.abt_report.specs.Journals.{IsEvent, IsTextOf};
+ghost use Rattle.abt_shell.specs.Fetched.{HasNoJournal, Unread};
+ghost use Rattle.abt_shell.specs.declared.status.Stop.TheVariants.{CannotRead};
 
-use crate::status::Stop;
+use crate::status::{Stop, Wrong};
+use abt_machine::Journal;
+use abt_report::{JOURNAL_LIMIT, TextFault, read_journal};
 use abt_source::{Files, NotFetched, read_all};
 use std::alloc::Global;
 
@@ -22,6 +26,8 @@ pub fn bytes_of<F: Files>(
     ensures bytes { IfOk result (λ v. IfSome (F.file files.old file.now) (λ xs. v.items ≡ take (most + 1) xs)) }
     ensures bound { IfOk result (λ v. length v.items ≤ most + 1) }
     ensures stop { IfErr result (Unread (F.faults files.old, F.faults files.new)) }
+    ensures absent { F.absent files.old file.now → IsErrOf result CannotRead }
+    ensures faulty { F.faults files.new ≢ F.faults files.old → IsErrOf result CannotRead }
     ensures same { (name : List ℕ) → F.file files.new name ≡ F.file files.old name }
     ensures later { F.faults files.old ≤ F.faults files.new }
 {
@@ -29,5 +35,30 @@ pub fn bytes_of<F: Files>(
         Ok(bytes) => Ok(bytes),
         Err(NotFetched::Failed) => Err(Stop::CannotRead),
         Err(NotFetched::Memory) => Err(Stop::OutOfMemory),
+    }
+}
+
+/// The journal of a file.
+///
+/// # Errors
+///
+/// `BadLine` if the bytes are not a journal's text, with line 0 if they are too many, `CannotRead` if they cannot be read, `OutOfMemory`
+/// if memory is refused.
+pub fn fetch_journal<F: Files>(alloc: Global, file: &str, files: &mut F) -> Result<Journal, Stop>
+    ensures reads { IfOk result (λ journal. IfSome (F.file files.old file.now) (IsTextOf journal)) }
+    ensures events { IfOk result (All IsEvent) }
+    ensures stop { IfErr result (HasNoJournal (F.file files.old file.now) (F.faults files.old, F.faults files.new)) }
+    ensures absent { F.absent files.old file.now → IsErrOf result CannotRead }
+    ensures faulty { F.faults files.new ≢ F.faults files.old → IsErrOf result CannotRead }
+    ensures later { F.faults files.old ≤ F.faults files.new }
+{
+    let bytes = bytes_of(alloc, file, files, JOURNAL_LIMIT)?;
+    if bytes.len() > JOURNAL_LIMIT {
+        return Err(Stop::BadLine(0, Wrong::Journal));
+    }
+    match read_journal(alloc, &bytes) {
+        Ok(journal) => Ok(journal),
+        Err(TextFault::Bad { line }) => Err(Stop::BadLine(line, Wrong::Journal)),
+        Err(TextFault::Memory) => Err(Stop::OutOfMemory),
     }
 }

@@ -20,10 +20,13 @@ pub enum Wrong {
 /// Why a command was not carried out.
 #[derive(Clone, Copy, Debug, PartialEq, Eq)]
 pub enum Stop {
+    /// The words are not a command.
     BadWords,
     /// A line of a file, counted from 1, and what is wrong with it; line 0 means the file's length.
     BadLine(u32, Wrong),
+    /// A file cannot be read.
     CannotRead,
+    /// Memory is refused.
     OutOfMemory,
 }
 

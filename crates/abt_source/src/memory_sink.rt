@@ -8,7 +8,7 @@ use abt_machine::Want;
 use std::alloc::Global;
 use std::marker::Model;
 
-/// A sink in memory with room for this many bytes.
+/// A sink in memory that keeps a fixed number of bytes at most.
 #[derive(Drop)]
 pub struct MemorySink {
     bytes: Vec<u8>,
@@ -38,8 +38,8 @@ impl Model for MemorySink {
 }
 
 impl MemorySink {
-    /// A write takes at most `most` bytes. The writes whose numbers, counted from 0, are in `failing` fail,
-    /// and so does one that finds the room full.
+    /// It keeps `room` bytes, and a write takes at most `most`. The writes whose numbers, counted from 0, are in `failing` fail,
+    /// and so does one that finds the room full. Err: out of memory; no later call takes memory.
     pub fn new(
         alloc: Global,
         room: usize,

@@ -67,6 +67,10 @@ pub trait Files {
 const PIECE: usize = 8192;
 
 /// The whole file, or its first `most + 1` bytes if it is longer.
+///
+/// # Errors
+///
+/// `Failed` if a call failed, `Memory` if memory is refused.
 pub fn read_all<F: Files>(
     alloc: Global,
     files: &mut F,
@@ -84,6 +88,7 @@ pub fn read_all<F: Files>(
     // After a failure, or if memory ran out, an end of the file is left.
     ensures stands { OnErr result (LeavesAnEnd (F.file files.old name.now) (F.left files.new)) }
     ensures cause { IsErrOf result NotFetched.Failed → Rose (F.faults files.old) (F.faults files.new) }
+    ensures quiet { OnOk result (F.faults files.new ≡ F.faults files.old) }
     ensures memory { IsErrOf result NotFetched.Memory → F.faults files.new ≡ F.faults files.old }
 
     ensures file { (n : List ℕ) → F.file files.new n ≡ F.file files.old n }

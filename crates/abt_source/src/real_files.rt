@@ -1,5 +1,5 @@
-//! The files and the standard input of the process. What they hold is not observable; whether one is begun is, and the
-//! count of failed calls.
+//! The files and the standard input of the process. Contracts do not see what they hold; they see whether a file is begun, and
+//! the count of failed calls.
 
 ghost use Rattle.std.specs.Prelude.{◌≡◌, ◌<◌, ◌≤◌, length, None, IfOk, OnOk, OnErr, IsErrOf, false};
 ghost use Rattle.abt_source.specs.RealFiles.{after_fault, none_begun, one_begun, unread};

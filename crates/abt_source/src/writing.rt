@@ -25,6 +25,10 @@ pub trait Sink {
 }
 
 /// Writes all the bytes.
+///
+/// # Errors
+///
+/// `Failed` if a write failed; the sink then has a prefix of the bytes.
 pub fn write_whole<K: Sink>(sink: &mut K, bytes: &[u8]) -> Result<(), Failed>
     ensures whole { OnOk result (Took (K.taken sink.old) (K.taken sink.new) bytes.now) }
     ensures prefix { OnErr result (TookPrefix (K.taken sink.old) (K.taken sink.new) bytes.now) }

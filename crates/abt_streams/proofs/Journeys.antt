@@ -13,6 +13,7 @@ use Rattle.abt_machine.specs.Start.{start}
 use Rattle.abt_machine.specs.Valid.{IsValid}
 use Rattle.abt_laws.proofs.LifeRuns.{runs-live}
 use Rattle.abt_laws.proofs.SoundRuns.{runs-are-sound}
+use Rattle.abt_interleave.proofs.Members.{to-among}
 use Rattle.abt_merge.specs.Logs.{log_of}
 use Rattle.abt_simulation.specs.Journals.{MergesTo}
 use Rattle.abt_commons.specs.Held.{ObjectsValue, object_at}
@@ -36,6 +37,7 @@ use Rattle.abt_streams.specs.Waves.{HasRunOn, IsWaveOf}
 use Rattle.abt_streams.proofs.Alive.{live-own, numbers-same}
 use Rattle.abt_streams.proofs.Behind.{behind-cut}
 use Rattle.abt_streams.proofs.Joined.{waves-push}
+use Rattle.abt_streams.proofs.Lamports.{lives-lamport, logs-with-wave}
 use Rattle.abt_streams.proofs.OneWave.{wave-journal, wave-leads}
 use Rattle.abt_streams.proofs.Rising.{all-below, all-rise}
 
@@ -58,6 +60,7 @@ under-way-at-start W Z n lives objects streams valid stored all placed =
       };
       below = λ k d lt. absurd (omega arith);
       rise = tt;
+      has_logs = record { all = λ s e c. subst (λ (l : List Event). Contains l e) (is.logs s) c; only = λ e c. absurd (to-among [] e c) };
       waves_are = refl;
     }
 
@@ -77,6 +80,7 @@ module _ (W : Parts) (Z : List OrderShape) (n : ℕ) (lives : List Life) (are : 
         (live-own W Z (moment_of W streams objects) (moment_of W after left) flags makes.wave es
         (wave-journal W Z fleet.valid fleet.stored J (moment_of W streams objects) (moment_of W after left) under.lead flags makes.wave (log_of (behind after (log_lengths streams))) (behind-cut W Z objects left streams after flags makes.wave many) es merged)
         (is_live_with (object_at objects) lives) flags_are);
+    in_order = merged.in_order;
   }
 
   further : HasLedTo W Z n lives left after (J ++ es) (waves ++ wave ∷ [])
@@ -88,6 +92,7 @@ module _ (W : Parts) (Z : List OrderShape) (n : ℕ) (lives : List Life) (are : 
         lead = wave-leads W Z fleet.valid fleet.stored J (moment_of W streams objects) (moment_of W after left) under.lead flags makes.wave (log_of (behind after (log_lengths streams))) cut es merged;
         below = all-below W Z (moment_of W streams objects) (moment_of W after left) flags makes es journal J under.below;
         rise = all-rise W Z (moment_of W streams objects) (moment_of W after left) flags makes es journal J under.below under.rise;
+        has_logs = logs-with-wave W Z flags (moment_of W streams objects) (moment_of W after left) makes.wave es journal J under.has_logs;
         waves_are = waves-push W lives (start W) 0 waves J wave es under.waves_are is-wave;
       }
 
@@ -111,7 +116,7 @@ module _ (W : Parts) (Z : List OrderShape) (n : ℕ) (lives : List Life) (object
     run = under.lead.run;
     sound = λ i. runs-are-sound W Z under.fleet.valid under.fleet.stored J i under.lead.run;
     lives_are = runs-live W Z (runs-are-sound W Z) under.fleet.valid under.fleet.stored J under.lead.run;
-    rise = under.rise;
+    lamport = lives-lamport W Z n (moment_of W streams objects) under.fleet.reached J under.has_logs under.rise;
     within = λ s lt. subst (λ k. k ≤ n) (sym (under.lead.made s lt)) (under.fleet.reached.within s);
     some_wave = some;
     waves_are = under.waves_are;

@@ -5,6 +5,7 @@ mod Endings
 mod FirstLines
 mod Joined
 mod Journeys
+mod Lamports
 mod Many
 mod NoLives
 mod OneWave

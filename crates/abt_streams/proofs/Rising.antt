@@ -21,8 +21,7 @@ use Rattle.abt_simulation.specs.Merging.{IsJournalOf, SiteEntry, StreamDeed, eve
 use Rattle.abt_simulation.proofs.MergedStamps.{CallsSite, does-call}
 use Rattle.abt_drain.specs.Moments.{Moment}
 use Rattle.abt_waves.specs.Fleets.{IsWave, MakesWave}
-use Rattle.abt_streams.specs.Runs.{IsBelow}
-use Rattle.abt_streams.specs.Waves.{RiseWhereShared}
+use Rattle.abt_streams.specs.Runs.{IsBelow, RiseWhereShared}
 
 -- Numbers that rise.
 

@@ -1,5 +1,5 @@
 -- The waves of a run, and what is said about runs on lives.
-use Rattle.std.specs.Prelude.{ℕ, ◌≡◌, ◌≢◌, ◌+◌, List, [], ◌∷◌, ◌++◌, length, All, Contains, ⊤}
+use Rattle.std.specs.Prelude.{ℕ, ◌≡◌, ◌≢◌, ◌+◌, List, [], ◌∷◌, ◌++◌, length, All, Contains}
 use Rattle.abt_machine.specs.declared.events.Event.{Event}
 use Rattle.abt_machine.specs.declared.events.Outcome.{Outcome}
 use Rattle.abt_machine.specs.declared.operations.OrderShape.{OrderShape}
@@ -7,21 +7,23 @@ use Rattle.abt_machine.specs.declared.workload.Parts.{Parts}
 use Rattle.abt_machine.specs.Lives.{LivesOf}
 use Rattle.abt_machine.specs.Runs.{Run, state_after, state_at}
 use Rattle.abt_machine.specs.Sound.{Sound}
-use Rattle.abt_machine.specs.Stamps.{AllAfter}
+use Rattle.abt_machine.specs.Stamps.{LamportFrom}
 use Rattle.abt_machine.specs.Start.{start}
 use Rattle.abt_machine.specs.State.{State}
+use Rattle.abt_interleave.specs.Logs.{InOrder, IsSooner}
 use Rattle.abt_outcomes.specs.Rotations.{IsWithin}
 use Rattle.abt_streams.specs.declared.life.Life.{Life}
 use Rattle.abt_streams.specs.declared.wave.Wave.{Wave}
 use Rattle.abt_streams.specs.Ends.{EndsOn}
 use Rattle.abt_streams.specs.Living.{live_streams}
 
--- a wave that starts after n events, in state S, with these events: its streams are those that live in S, and each event is of
--- one of them
+-- a wave that starts after n events, in state S, with these events: its streams are those that live in S, each event is of one of
+-- them, and they are in order of stamp, and those of equal stamp in order of stream
 pub record IsWaveOf (W : Parts) (lives : List Life) (S : State) (n : ℕ) (wave : Wave) (es : List Event) : Type 0 where
   pub from : wave.from ≡ n
   pub streams : wave.streams ≡ live_streams W lives S
   pub own : All (λ e. Contains wave.streams e.stream.0) es
+  pub in_order : InOrder (λ (e f : Event). IsSooner e.stamp e.stream.0 f.stamp f.stream.0) es
 
 -- the events from state S on, after n events, are those of these waves, one after the other
 abbrev pub AreWaves : Parts → List Life → State → ℕ → List Wave → List Event → Type 0
@@ -29,18 +31,14 @@ AreWaves W lives S n [] J = J ≡ []
 AreWaves W lives S n (wave ∷ waves) J =
     (es : List Event) × (rest : List Event) × (J ≡ es ++ rest) × IsWaveOf W lives S n wave es × AreWaves W lives (state_after W S es) (n + length es) waves rest
 
--- of events that share a stream or an object the later one has the greater stamp
-abbrev pub RiseWhereShared : Parts → List Event → Type 0
-RiseWhereShared W [] = ⊤
-RiseWhereShared W (e ∷ es) = AllAfter W e es × RiseWhereShared W es
-
--- the journal is a run of the workload on these lives, whose streams may make n steps each; it was made in these waves, of which there
--- is at least one, and it ended so
+-- the journal is a run of the workload on these lives, whose streams may make n steps each; each stamp is one more than the greatest
+-- earlier stamp of its stream and of its object, 0 if there is none; it was made in these waves, of which there is at least one, and it
+-- ended so
 pub record HasRunOn (W : Parts) (Z : List OrderShape) (n : ℕ) (lives : List Life) (J : List Event) (waves : List Wave) (o : Outcome) : Type 0 where
   pub run : Run W Z J
   pub sound : (i : ℕ) → Sound W Z (state_at W J i)
   pub lives_are : LivesOf W J
-  pub rise : RiseWhereShared W J
+  pub lamport : LamportFrom W [] J
   pub within : IsWithin W n J
   pub some_wave : waves ≢ []
   pub waves_are : AreWaves W lives (start W) 0 waves J

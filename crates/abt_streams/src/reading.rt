@@ -42,7 +42,7 @@ fn number(word: &str) -> Option<u32>
 }
 
 // The life with these numbers.
-fn life_of(stream: &str, begins: &str, ends: &str) -> Option<Life>
+fn parsed_life(stream: &str, begins: &str, ends: &str) -> Option<Life>
     ensures { (life : Life) → IsShortLife life → SpellNumbers life stream.now begins.now ends.now → result ≡ Some life }
 {
     Some(Life {
@@ -71,7 +71,7 @@ fn guess(line: &[u8]) -> Option<Life>
         return None;
     };
     let (stream, begins, ends) = numbers(line)?;
-    life_of(stream, begins, ends)
+    parsed_life(stream, begins, ends)
 }
 
 // Writes the line of the life into the text.

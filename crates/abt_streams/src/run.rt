@@ -29,7 +29,7 @@ pub struct LivesRun {
 /// Runs a workload whose streams may make `steps` steps each, and live as these lives say; `pace` is called before each step.
 /// In a wave each stream that lives when the wave begins makes turns on a thread of its own, as in `run_streams`: a stream that
 /// ends within the wave leaves at the wave's end. Waves go on until one leaves nothing to do on these lives, or a stream spent; there
-/// is always one. Err: out of memory, in one stream or before all; its wave is the last.
+/// is always one. Err: out of memory, before the first wave or in a stream; the wave in which that happens is the last.
 pub fn run_lives<'w, R: Threads + Wait + Sync, P: Pace + Sync>(
     rt: &'w R,
     alloc: Global,

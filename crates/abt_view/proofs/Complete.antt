@@ -7,17 +7,17 @@ use Rattle.abt_report.specs.Journals.{IsNoJournalAt, IsTextOf}
 use Rattle.abt_report.proofs.Limits.{not-both}
 use Rattle.abt_shell.specs.declared.status.Stop.TheVariants.{BadWords, BadLine, CannotRead, OutOfMemory}
 use Rattle.abt_shell.specs.declared.status.Wrong.TheVariants.{Workload, Journal, Lives}
-use Rattle.abt_shell.specs.Calls.{EndsBy, Holds}
+use Rattle.abt_shell.specs.Calls.{EndsBy, HasReadFault, Holds}
 use Rattle.abt_shell.specs.Status.{Status, Concluded, Stopped, CannotWrite, number_of}
 use Rattle.abt_shell.specs.Told.{Grew}
 use Rattle.abt_shell.proofs.Calls.{reads-well, writes-well}
 use Rattle.abt_shell.proofs.Fetched.{of-observed}
-use Rattle.abt_view.specs.Call.{AsksNothing, Call, IsAnswered, program}
+use Rattle.abt_view.specs.Call.{AsksNothing, Call, IsAnswered, MissesFiles, program}
 use Rattle.abt_view.specs.Views.{Asks}
 use Rattle.abt_view.specs.declared.views.View.{View}
 
 -- words name one file
-one-file : (words : List Text) (v w : View) (f g : Text) → Asks words v f → Asks words w g → f ≡ g
+pub one-file : (words : List Text) (v w : View) (f g : Text) → Asks words v f → Asks words w g → f ≡ g
 one-file words v w f g one two = cc
 
 -- what is known of the file that the words name is known of each name that they say
@@ -62,14 +62,16 @@ refuses-words (Stopped CannotRead) c h none = absurd (none h.cause.0.view h.caus
 refuses-words (Stopped OutOfMemory) c h none = inr refl
 
 -- a call that ended with this exit status is answered
-pub answered : (n : ℕ) (c : Call) → EndsBy (program c) c.left n → IsAnswered n c
-answered n c ends = by ends.0 ends.1 ends.2 where
+pub answered : (n : ℕ) (c : Call) → EndsBy (program c) c.left n → MissesFiles n c → (HasReadFault c.left → (n ≡ 5) ⊎ (n ≡ 7)) → IsAnswered n c
+answered n c ends absent faulty = by ends.0 ends.1 ends.2 where
   by : (s : Status ⊤) → n ≡ number_of (λ _. 0) s → Holds (program c) c.left s → IsAnswered n c
   by s is h = subst (λ m. IsAnswered m c) (sym is) (record {
     cause = (s, refl, h);
     complete = λ v file bytes J asks at written still quiet. shown s c v file bytes J h asks at written still quiet;
     texts = λ v file bytes asks at none still. refuses s c v file bytes h asks at none still;
     words = refuses-words s c h;
+    absent = subst (λ m. MissesFiles m c) is absent;
     reads = reads-well (program c) c.left (λ v e. absurd (omega arith)) (λ cause. cause.1) s h;
+    faulty = subst (λ m. HasReadFault c.left → (m ≡ 5) ⊎ (m ≡ 7)) is faulty;
     writes = writes-well (program c) c.left (λ v e. absurd (omega arith)) s h;
   })

@@ -1,21 +1,14 @@
 -- From what was read of a file to why the call stops.
-use Rattle.std.proofs.Common.{◌≡◌, ◌≤◌, ℕ, List, length, Option, subst, sym}
+use Rattle.std.proofs.Common.{ℕ, List, Option}
 use Rattle.abt_machine.specs.Words.{Text}
-use Rattle.abt_report.specs.declared.text_fault.TextFault.{TextFault}
-use Rattle.abt_report.specs.declared.text_fault.TextFault.TheVariants.{Bad}
-use Rattle.abt_report.specs.Journals.{IsCause, IsNoJournalAt, journal_limit}
-use Rattle.abt_report.proofs.Limits.{bad-line}
+use Rattle.abt_shell.specs.Fetched.{HasNoJournal, IsNoJournalLine}
 use Rattle.abt_shell.specs.declared.status.Stop.{Stop}
 use Rattle.abt_shell.specs.declared.status.Wrong.{Wrong}
 use Rattle.abt_shell.specs.declared.status.Wrong.TheVariants.{Workload, Journal, Lives}
 use Rattle.abt_shell.proofs.Fetched.{stops-file}
-use Rattle.abt_view.specs.Call.{AsksNothing, HasNoJournal, IsBadLine, IsNoJournalLine, NamesFile, StopsView}
+use Rattle.abt_view.specs.Call.{AsksNothing, IsBadLine, NamesFile, StopsView}
 use Rattle.abt_view.specs.Views.{Asks}
 use Rattle.abt_view.specs.declared.views.View.{View}
-
--- the line that keeps bytes from being a journal's text, by the cause that their reader states
-pub wrong-line : (bytes : Text) (cause : TextFault) (line l : ℕ) → length bytes ≤ journal_limit → cause ≡ Bad line → l ≡ line → IsCause bytes cause → IsNoJournalAt bytes l
-wrong-line bytes cause line l short is same why = subst (IsNoJournalAt bytes) (sym same) (bad-line bytes line short (subst (IsCause bytes) is why))
 
 -- why the file has no journal is why the call stops
 pub no-journal-stops : (words : List Text) (file_of : Text → Option Text) (v : View) (file : Text) → Asks words v file → (s : Stop) (faults : ℕ × ℕ) → HasNoJournal (file_of file) faults s → StopsView words file_of faults s

@@ -7,16 +7,17 @@ use Rattle.abt_report.specs.Journals.{IsEvent, IsNoJournalAt, IsTextOf}
 use Rattle.abt_shell.specs.declared.status.Stop.{Stop}
 use Rattle.abt_shell.specs.declared.status.Wrong.{Wrong}
 use Rattle.abt_shell.specs.declared.status.Wrong.TheVariants.{Workload, Journal, Lives}
-use Rattle.abt_shell.specs.Calls.{EndsBy, Left, Program}
-use Rattle.abt_shell.specs.Fetched.{HasNot, StopsFor}
+use Rattle.abt_shell.specs.Calls.{EndsBy, HasReadFault, Left, Program}
+use Rattle.abt_shell.specs.Fetched.{StopsFor}
 use Rattle.abt_shell.specs.Told.{Grew}
 use Rattle.abt_view.specs.declared.views.View.{View}
 use Rattle.abt_view.specs.Views.{Asks, view_text}
 
--- the words, the bytes of each file if they are observable, and what the call left
-pub record Call : Type 0 where
+-- the words, the bytes of each file if they are observable, of which names it is observable that no file has them, and what the call left
+pub record Call : Type 1 where
   pub words : List Text
   pub file : Text → Option Text
+  pub absent : Text → Type 0
   pub left : Left
 
 -- the words do not ask for a view
@@ -53,16 +54,6 @@ pub record IsViewOf (words : List Text) (file_of : Text → Option Text) (text :
 
 -- Why a call stops before its first write.
 
--- this fault of a line keeps a file, by its bytes if they are observable, from being a journal's; line 0 says that they are too many
-abbrev pub IsNoJournalLine : Option Text → ℕ → Wrong → Type 0
-IsNoJournalLine told line (Workload f) = ⊥
-IsNoJournalLine told line Journal = IfSome told (λ bytes. IsNoJournalAt bytes line)
-IsNoJournalLine told line Lives = ⊥
-
--- why the file has no journal to show
-abbrev pub HasNoJournal : Option Text → ℕ × ℕ → Stop → Type 0
-HasNoJournal told = HasNot (IsNoJournalLine told)
-
 -- a line of the file that the words name has this fault
 abbrev pub IsBadLine : List Text → (Text → Option Text) → ℕ → Wrong → Type 0
 IsBadLine words file_of line (Workload f) = ⊥
@@ -94,6 +85,10 @@ abbrev pub RefusesTexts : ℕ → Call → Type 0
 RefusesTexts n c = (v : View) (file bytes : Text) → Asks c.words v file → c.file file ≡ Some bytes → ((J : List Event) → IsTextOf J bytes → ⊥)
     → (Grew c.left.read_faults → ⊥) → (n ≡ 3) ⊎ (n ≡ 7)
 
+-- if no file has the name that they have, which is observable, it cannot be read
+abbrev pub MissesFiles : ℕ → Call → Type 0
+MissesFiles n c = (v : View) (file : Text) → Asks c.words v file → c.absent file → (n ≡ 5) ⊎ (n ≡ 7)
+
 -- if the words ask for no view, they are refused
 abbrev pub RefusesWords : ℕ → Call → Type 0
 RefusesWords n c = AsksNothing c.words → (n ≡ 2) ⊎ (n ≡ 7)
@@ -104,5 +99,7 @@ pub record IsAnswered (n : ℕ) (c : Call) : Type 0 where
   pub complete : IsComplete n c
   pub texts : RefusesTexts n c
   pub words : RefusesWords n c
+  pub absent : MissesFiles n c
   pub reads : (Grew c.left.read_faults → ⊥) → n ≢ 5
+  pub faulty : HasReadFault c.left → (n ≡ 5) ⊎ (n ≡ 7)
   pub writes : (Grew c.left.out_faults → ⊥) → n ≢ 6

@@ -8,7 +8,7 @@ use Rattle.abt_machine.specs.Words.{Text}
 use Rattle.abt_view.specs.declared.arrows.Arrow.{Arrow}
 use Rattle.abt_view.specs.declared.arrows.Spot.{Spot}
 use Rattle.abt_view.specs.declared.frames.Frame.{Frame}
-use Rattle.abt_view.specs.declared.pictures.TheConstants.{FOOT, LEGEND, STYLE, TOO_LONG}
+use Rattle.abt_view.specs.declared.pictures.TheConstants.{LEGEND, STYLE}
 use Rattle.abt_view.specs.declared.stretches.Stretch.{Stretch}
 use Rattle.abt_view.specs.Arrows.{arrows_of}
 use Rattle.abt_view.specs.Frames.{all_frames}
@@ -88,11 +88,11 @@ size_text width height = around (codes "<svg xmlns='http://www.w3.org/2000/svg' 
 abbrev pub counts_text : List Event → Text
 counts_text J = around (codes "<text class='counts' x='-62' y='-36'>events ") (length J) (codes ", steps ") ++ (around [] (steps_in J) (codes ", refused ") ++ (around [] (refused_in J) (codes ", streams ") ++ around [] (streams_in J) (codes "</text>\n")))
 
--- what comes before the axis
+-- what comes before the axis, with the program's style
 abbrev pub head_text : List Event → Text
 head_text J = size_text (max (10 * greatest_stamp J + 120) 560) (48 * streams_in J + 100) ++ (STYLE.now ++ counts_text J)
 
--- the kinds of marks, below that number of lanes
+-- the kinds of marks, as the program draws them, below that number of lanes
 abbrev pub legend_text : ℕ → Text
 legend_text streams = around (codes "<g transform='translate(-62 ") (48 * streams + 10) (codes ")'>") ++ LEGEND.now
 
@@ -103,12 +103,16 @@ axis_text J = flat_map tick_text (range_with_len 1 (greatest_stamp J / 10)) ++ (
 -- the picture
 abbrev pub picture_text : List Event → Text
 picture_text J =
-    head_text J ++ (axis_text J ++ (flat_map frame_text (all_frames J) ++ (flat_map bar_text (all_stretches J) ++ (flat_map mark_text J ++ (flat_map lines_text (arrows_of J) ++ FOOT.now)))))
+    head_text J ++ (axis_text J ++ (flat_map frame_text (all_frames J) ++ (flat_map bar_text (all_stretches J) ++ (flat_map mark_text J ++ (flat_map lines_text (arrows_of J) ++ codes "</svg>\n")))))
 
 -- a journal is drawn if it has at most 20,000 events and no stamp above 20,000
 abbrev pub is_small : List Event → Bool
 is_small J = nat_le (length J) 20000 && nat_le (greatest_stamp J) 20000
 
+-- the svg in place of a picture that would be too large
+abbrev pub too_large : Text
+too_large = codes "<svg xmlns='http://www.w3.org/2000/svg' width='720' height='40'><text x='10' y='25'>a picture has at most 20,000 events and no stamp above 20,000: use abtview trace</text></svg>\n"
+
 -- the svg: the picture, or a line that says why there is none
 abbrev pub svg_text : List Event → Text
-svg_text J = if is_small J then picture_text J else TOO_LONG.now
+svg_text J = if is_small J then picture_text J else too_large

@@ -9,7 +9,6 @@ use Rattle.abt_machine.specs.declared.events.What.TheVariants as what
 use Rattle.abt_machine.specs.Words.{Text}
 use Rattle.abt_view.specs.declared.arrows.Arrow.{Arrow}
 use Rattle.abt_view.specs.declared.arrows.Spot.{Spot}
-use Rattle.abt_view.specs.declared.traces.TheConstants.{TRACE_FOOT, TRACE_HEAD}
 use Rattle.abt_view.specs.declared.stretches.Stretch.{Stretch}
 use Rattle.abt_view.specs.Arrows.{arrows_of, spot_of}
 use Rattle.abt_view.specs.Kinds.{kind_word}
@@ -83,4 +82,4 @@ points_text a = arrow_text a a.sent a.taken
 -- the trace
 abbrev pub trace_text : List Event → Text
 trace_text J =
-    TRACE_HEAD.now ++ (flat_map track_text (range_with_len 0 (streams_in J)) ++ (flat_map slice_text (all_stretches J) ++ (flat_map event_text J ++ (flat_map points_text (arrows_of J) ++ TRACE_FOOT.now))))
+    codes "{\"traceEvents\":[\n{\"ph\":\"M\",\"pid\":0,\"name\":\"process_name\",\"args\":{\"name\":\"abtrun\"}}" ++ (flat_map track_text (range_with_len 0 (streams_in J)) ++ (flat_map slice_text (all_stretches J) ++ (flat_map event_text J ++ (flat_map points_text (arrows_of J) ++ codes "\n]}\n"))))

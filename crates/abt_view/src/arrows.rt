@@ -189,25 +189,12 @@ impl Ways {
                 self.note(event.stream.0, None);
                 Ok(())
             }
-            What::Take(_, u) => self.take(event, u.0),
-            What::Look(u) => self.take(event, u.0),
-            What::Step(u, _, _) => {
-                self.send(event, u.0);
-                Ok(())
-            }
+            What::Take(_, u) | What::Look(u) => self.take(event, u.0),
             What::Put(u, _) => {
                 let arrow = self.begin(event, u.0);
                 self.replace(u.0, None, Some(arrow))
             }
-            What::End(u, _) => {
-                self.send(event, u.0);
-                Ok(())
-            }
-            What::Enter(u) => {
-                self.send(event, u.0);
-                Ok(())
-            }
-            What::Leave(u) => {
+            What::Step(u, _, _) | What::End(u, _) | What::Enter(u) | What::Leave(u) => {
                 self.send(event, u.0);
                 Ok(())
             }

@@ -74,11 +74,10 @@ impl Nest {
     fn leave(&mut self) -> Result<(), Want>
         ensures { OnOk result (self.new ≡ frame_left self.old (slice_get self.old.inside (length self.old.inside - 1))) }
     {
-        let Some(frame) = self.inside.last().copied() else {
+        let Some(frame) = self.inside.pop() else {
             return Ok(());
         };
         self.past.push(last_until(self.last, frame))?;
-        self.inside.truncate(self.inside.len() - 1);
         Ok(())
     }
 

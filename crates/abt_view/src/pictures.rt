@@ -62,17 +62,17 @@ const LEGEND: &[u8] = b"<path d='M-8 -8H201000V60H-8z' fill='#fff'/>
 </g>
 ";
 
-const FOOT: &[u8] = b"</svg>\n";
+// The height of a stream's lane.
+const LANE: u64 = 48;
 
-// The svg in place of a picture that would be too large: one line of text that says why.
-const TOO_LONG: &[u8] =
-    b"<svg xmlns='http://www.w3.org/2000/svg' width='720' height='40'><text x='10' y='25'>a picture has at most 20,000 events and no stamp above 20,000: use abtview trace</text></svg>\n";
+// The number of events, and the stamp, up to which a journal is drawn.
+const MOST_DRAWN: u64 = 20_000;
 
 // The top of a stream's lane.
 fn lane_top(stream: u32) -> u64
     ensures { result ≡ 48 * stream }
 {
-    48 * u64::from(stream)
+    LANE * u64::from(stream)
 }
 
 // Appends the place of a bar, and its colour.
@@ -231,7 +231,7 @@ fn push_lane(out: &mut Vec<u8>, s: u64) -> Result<(), Want>
     requires { s < 16 }
     ensures { OnOk result (out.new.items ≡ out.old.items ++ lane_text s) }
 {
-    push_around(out, b"<text class='lane' x='-62' y='", 48 * s + 14, b"'>")?;
+    push_around(out, b"<text class='lane' x='-62' y='", LANE * s + 14, b"'>")?;
     push_around(out, b"stream ", s, b"</text>\n")
 }
 
@@ -281,7 +281,7 @@ fn push_head(out: &mut Vec<u8>, journal: &[Event]) -> Result<(), Want>
 {
     let last = greatest_stamp(journal);
     let streams = count_streams(journal);
-    push_size(out, (10 * last + 120).max(560), 48 * streams + 100)?;
+    push_size(out, (10 * last + 120).max(560), LANE * streams + 100)?;
     out.extend_from_slice(STYLE)?;
     push_counts(out, journal)?;
     Ok(())
@@ -317,7 +317,7 @@ fn push_legend(out: &mut Vec<u8>, streams: u64) -> Result<(), Want>
     push_around(
         out,
         b"<g transform='translate(-62 ",
-        48 * streams + 10,
+        LANE * streams + 10,
         b")'>",
     )?;
     out.extend_from_slice(LEGEND)?;
@@ -391,7 +391,7 @@ fn picture(alloc: Global, journal: &[Event]) -> Result<Vec<u8>, Want>
     push_bars(alloc, &mut out, &bars)?;
     push_marks(&mut out, journal)?;
     push_arrows(&mut out, &arrows)?;
-    out.extend_from_slice(FOOT)?;
+    out.extend_from_slice(b"</svg>\n")?;
     Ok(out)
 }
 
@@ -399,7 +399,7 @@ fn picture(alloc: Global, journal: &[Event]) -> Result<Vec<u8>, Want>
 fn is_drawn(journal: &[Event]) -> bool
     ensures { result ≡ is_small journal.now }
 {
-    journal.len() <= 20_000 && greatest_stamp(journal) <= 20_000
+    journal.len() as u64 <= MOST_DRAWN && greatest_stamp(journal) <= MOST_DRAWN
 }
 
 /// The picture of a journal as an svg. If the journal has more than 20,000 events, or a stamp above 20,000, the svg is one line of text
@@ -410,5 +410,8 @@ pub fn svg(alloc: Global, journal: &[Event]) -> Result<Vec<u8>, Want>
     if is_drawn(journal) {
         return picture(alloc, journal);
     }
-    Ok(Vec::from_slice(alloc, TOO_LONG)?)
+    Ok(Vec::from_slice(
+        alloc,
+        b"<svg xmlns='http://www.w3.org/2000/svg' width='720' height='40'><text x='10' y='25'>a picture has at most 20,000 events and no stamp above 20,000: use abtview trace</text></svg>\n",
+    )?)
 }

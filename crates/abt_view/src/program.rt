@@ -1,37 +1,20 @@
 //! The top call.
 
-ghost use Rattle.std.specs.Prelude.{◌≤◌, All, IfErr, IfOk, IfSome, map, string_bytes};
-ghost use Rattle.abt_report.specs.Journals.{IsEvent, IsTextOf};
+ghost use Rattle.std.specs.Prelude.{◌≢◌, ◌≤◌, IfErr, IfOk, IsErrOf, map, string_bytes};
+ghost use Rattle.abt_machine.specs.Words.{Text};
 ghost use Rattle.abt_shell.specs.Calls.{left};
-ghost use Rattle.abt_view.specs.Call.{HasNoJournal, IsAnswered, IsFileView, IsViewOf, StopsView};
+ghost use Rattle.abt_shell.specs.Fetched.{HasNoJournal};
+ghost use Rattle.abt_shell.specs.declared.status.Stop.TheVariants.{CannotRead};
+ghost use Rattle.abt_view.specs.Call.{IsAnswered, IsFileView, IsViewOf, StopsView};
+ghost use Rattle.abt_view.specs.Views.{Asks};
 
 use crate::views::{View, asked, view_text};
-use abt_machine::Journal;
-use abt_report::{JOURNAL_LIMIT, TextFault, read_journal};
-use abt_shell::{Stop, Wrong, bytes_of, stop_by, write_out};
+use abt_shell::{Stop, fetch_journal, stop_by, write_out};
 use abt_source::{Files, Sink};
 use std::alloc::Global;
 
 /// The name of the program.
 pub const NAME: &[u8] = b"abtview";
-
-// The journal in a file.
-fn fetch<F: Files>(alloc: Global, file: &str, files: &mut F) -> Result<Journal, Stop>
-    ensures reads { IfOk result (λ journal. IfSome (F.file files.old file.now) (IsTextOf journal)) }
-    ensures events { IfOk result (All IsEvent) }
-    ensures stop { IfErr result (HasNoJournal (F.file files.old file.now) (F.faults files.old, F.faults files.new)) }
-    ensures later { F.faults files.old ≤ F.faults files.new }
-{
-    let bytes = bytes_of(alloc, file, files, JOURNAL_LIMIT)?;
-    if bytes.len() > JOURNAL_LIMIT {
-        return Err(Stop::BadLine(0, Wrong::Journal));
-    }
-    match read_journal(alloc, &bytes) {
-        Ok(journal) => Ok(journal),
-        Err(TextFault::Bad { line }) => Err(Stop::BadLine(line, Wrong::Journal)),
-        Err(TextFault::Memory) => Err(Stop::OutOfMemory),
-    }
-}
 
 // The view of the journal in a file.
 fn prepare_view<F: Files>(
@@ -42,9 +25,11 @@ fn prepare_view<F: Files>(
 ) -> Result<Vec<u8>, Stop>
     ensures done { IfOk result (λ text. IsFileView view file.now (λ name. F.file files.old name) text.items) }
     ensures stop { IfErr result (HasNoJournal (F.file files.old file.now) (F.faults files.old, F.faults files.new)) }
+    ensures absent { F.absent files.old file.now → IsErrOf result CannotRead }
+    ensures faulty { F.faults files.new ≢ F.faults files.old → IsErrOf result CannotRead }
     ensures later { F.faults files.old ≤ F.faults files.new }
 {
-    let journal = fetch(alloc, file, files)?;
+    let journal = fetch_journal(alloc, file, files)?;
     let text = view_text(alloc, view, journal.items())?;
     Ok(text)
 }
@@ -53,6 +38,8 @@ fn prepare_view<F: Files>(
 fn prepare<F: Files>(alloc: Global, words: &[String], files: &mut F) -> Result<Vec<u8>, Stop>
     ensures done { IfOk result (λ text. IsViewOf (map string_bytes words.now) (λ name. F.file files.old name) text.items) }
     ensures stop { IfErr result (StopsView (map string_bytes words.now) (λ name. F.file files.old name) (F.faults files.old, F.faults files.new)) }
+    ensures absent { (view : View) (file : Text) → Asks (map string_bytes words.now) view file → F.absent files.old file → IsErrOf result CannotRead }
+    ensures faulty { F.faults files.new ≢ F.faults files.old → IsErrOf result CannotRead }
     ensures later { F.faults files.old ≤ F.faults files.new }
 {
     match asked(words) {
@@ -75,6 +62,7 @@ pub fn abtview<F: Files, K: Sink, E: Sink>(
     ensures { IsAnswered result (record {
       words = map string_bytes words.now;
       file = λ name. F.file files.old name;
+      absent = λ name. F.absent files.old name;
       left = left (F.faults files.old, F.faults files.new) (K.taken out.old, K.taken out.new) (K.faults out.old, K.faults out.new) (E.taken err.old, E.taken err.new) (E.faults err.old, E.faults err.new);
     }) }
 {

@@ -11,11 +11,6 @@ use crate::texts::push_around;
 use abt_machine::{Code, Event, Want, What};
 use std::alloc::Global;
 
-const TRACE_HEAD: &[u8] = b"{\"traceEvents\":[
-{\"ph\":\"M\",\"pid\":0,\"name\":\"process_name\",\"args\":{\"name\":\"abtrun\"}}";
-
-const TRACE_FOOT: &[u8] = b"\n]}\n";
-
 // Appends the name of a stream's track.
 fn push_track(out: &mut Vec<u8>, s: u64) -> Result<(), Want>
     ensures { OnOk result (out.new.items ≡ out.old.items ++ track_text s) }
@@ -222,11 +217,13 @@ pub fn trace(alloc: Global, journal: &[Event]) -> Result<Vec<u8>, Want>
     let slices = all_stretches(alloc, journal)?;
     let arrows = all_arrows(alloc, journal)?;
     let mut out = Vec::new(alloc);
-    out.extend_from_slice(TRACE_HEAD)?;
+    out.extend_from_slice(
+        b"{\"traceEvents\":[\n{\"ph\":\"M\",\"pid\":0,\"name\":\"process_name\",\"args\":{\"name\":\"abtrun\"}}",
+    )?;
     push_tracks(&mut out, count_streams(journal))?;
     push_slices(&mut out, &slices)?;
     push_events(&mut out, journal)?;
     push_arrows(&mut out, &arrows)?;
-    out.extend_from_slice(TRACE_FOOT)?;
+    out.extend_from_slice(b"\n]}\n")?;
     Ok(out)
 }

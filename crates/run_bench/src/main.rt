@@ -42,13 +42,19 @@ fn subject<R: Threads + Wait + Sync + Print + Eprint + Clock>(
         "idle" => races(rt, alloc, &IDLE),
         "check" => races(rt, alloc, &CHECK),
         "all" => all(rt, alloc),
-        _ => eprintln!(rt; "{USAGE}"),
+        _ => refuse(rt),
     }
+}
+
+// Words that are no subject are an error.
+fn refuse<R: Eprint>(rt: &R) -> io::Result<()> {
+    eprintln!(rt; "{USAGE}")?;
+    Err(io::Error::from(io::ErrorKind::InvalidInput))
 }
 
 fn main(rt: HostRuntime) -> io::Result<()> {
     let Some(name) = env::args(&rt)?.nth(1) else {
-        return eprintln!(&rt; "{USAGE}");
+        return refuse(&rt);
     };
     subject(&rt, rt.alloc(), name.as_str())
 }

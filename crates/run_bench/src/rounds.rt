@@ -81,7 +81,8 @@ pub struct Round {
     pub took: Duration,
 }
 
-/// Times a task of a workload. What the task makes is dropped after the time is taken.
+/// Times a task of a workload. A run or a journal that the task makes is dropped after the time is taken; the streams and objects of a
+/// wave are dropped within it.
 pub fn timed<R: Threads + Wait + Sync + Clock>(
     rt: &R,
     alloc: Global,

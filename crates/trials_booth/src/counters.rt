@@ -4,7 +4,7 @@ ghost use Rattle.std.specs.Prelude.{◌≡◌, ◌≤◌, ◌^◌};
 ghost use Rattle.abt_booth.specs.Seats.{number_of, IsSeatOf};
 
 use abt_booth::{Booth, Called, Seat};
-use booth_caller::{Counter, add_on_threads, count};
+use booth_caller::{Counter, count};
 use std::process::Abort;
 use std::sync::Wait;
 use weave_caller::add_twice;
@@ -75,13 +75,9 @@ fn four_threads_add_a_thousand_times_each(rt: HostRuntime) {
 }
 
 #[test]
-fn a_booth_closes_with_all_its_seats(rt: HostRuntime) {
-    let Ok((booth, mut seats)) = Booth::make(rt.alloc(), Counter { sum: 0 }, 4) else {
-        panic!(rt; "no memory")
-    };
-    add_on_threads(&rt, &booth, seats.as_mut_slice(), 1000);
-    let closed = booth.close(seats);
-    assert_eq!(rt; (closed.object.sum, closed.clock), (4000, 4000));
+fn a_hundred_seats_count(rt: HostRuntime) {
+    let closed = count(&rt, rt.alloc(), 100, 3).expect(&rt, "there is memory");
+    assert_eq!(rt; (closed.object.sum, closed.clock), (300, 300));
 }
 
 #[test]

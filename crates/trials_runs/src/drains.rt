@@ -1,42 +1,12 @@
-//! Whole runs on the caller's thread, by what their journals and their reports say.
+//! A whole run on the caller's thread, by what its report says.
 
-use crate::reports::{is_reported, is_text_of};
+use crate::reports::is_reported;
 use abt_drain::drain;
 use abt_machine::{Want, Workload};
 use abt_order::StoredOrder;
 use abt_workload::read;
 use std::alloc::{AllocError, Global};
 use std::test::Fail;
-
-static ALONE: &str = "abt 1\nstreams 1\npool 0 fifo mpmc\nsched 0 prio 0\nstream 0 main 0\n";
-
-// The journal of the first row.
-const YIELDS: &str =
-    "1 0 take 0 0\n2 0 look 0\n3 0 step 0 0 ok\n4 0 step 0 1 ok\n5 0 put 0 0\n6 0 take 0 1\n7 0 look 1\n8 0 step 1 0 ok\n9 0 step 1 1 ok\n10 0 put 1 0\n11 0 take 0 0\n12 0 look 0\n13 0 step 0 2 ok\n14 0 end 0 done\n15 0 take 0 1\n16 0 look 1\n17 0 step 1 2 ok\n18 0 end 1 done\n19 0 miss 0\n";
-
-// What follows these lines, how many steps a stream may make, the journal, if the row states it, and the report.
-type Row = (&'static str, u64, Option<&'static str>, &'static str);
-
-static ROWS: [Row; 3] = [
-    (
-        "units 2\nunit 0 ult at 0\nsay a\nyield\nsay b\nunit 1 ult at 0\nsay a\nyield\nsay b\nend\n",
-        10_000,
-        Some(YIELDS),
-        "unit 0 done: a b\nunit 1 done: a b\ntally units 2 unborn 0 pool 0 stream 0 blocked 0 done 2 asked 0 access 0 steps 6\nfinished\n",
-    ),
-    (
-        "units 2\nunit 0 ult at 0\nrevive 1 0\nunit 1 ult at 0\nrevive 0 0\nend\n",
-        50,
-        None,
-        "unit 0 stream 0: !unit-state\nunit 1 done:\ntally units 2 unborn 0 pool 0 stream 1 blocked 0 done 1 asked 0 access 0 steps 50\nbudget 0\n",
-    ),
-    (
-        "units 2\nunit 0 ult at 0\nresume 1\nunit 1 ult at 0\nsuspend\nend\n",
-        10_000,
-        None,
-        "unit 0 done: !unit-state\nunit 1 suspended:\ntally units 2 unborn 0 pool 0 stream 0 blocked 1 done 1 asked 0 access 0 steps 2\nstuck\n",
-    ),
-];
 
 // Two streams steal from one another: each of forty units adds one to a number, and the last prints it.
 static SHARED: &str =
@@ -46,37 +16,11 @@ static SHARED: &str =
 pub(crate) static SHARED_REPORT: &str =
     "unit 0 done:\nunit 1 done:\nunit 2 done:\nunit 3 done:\nunit 4 done:\nunit 5 done:\nunit 6 done:\nunit 7 done:\nunit 8 done:\nunit 9 done:\nunit 10 done:\nunit 11 done:\nunit 12 done:\nunit 13 done:\nunit 14 done:\nunit 15 done:\nunit 16 done:\nunit 17 done:\nunit 18 done:\nunit 19 done:\nunit 20 done:\nunit 21 done:\nunit 22 done:\nunit 23 done:\nunit 24 done:\nunit 25 done:\nunit 26 done:\nunit 27 done:\nunit 28 done:\nunit 29 done:\nunit 30 done:\nunit 31 done:\nunit 32 done:\nunit 33 done:\nunit 34 done:\nunit 35 done:\nunit 36 done:\nunit 37 done:\nunit 38 done:\nunit 39 done:\nunit 40 done: 40\ntally units 41 unborn 0 pool 0 stream 0 blocked 0 done 41 asked 0 access 0 steps 244\nfinished\n";
 
-// Whether a run in rotation has this journal, if it is stated, and this report.
-fn is_run(
-    alloc: Global,
-    w: &Workload,
-    steps: u64,
-    journal: Option<&str>,
-    report: &str,
-) -> Result<bool, Want> {
+// Whether the run of a workload in rotation has this report.
+fn is_run(alloc: Global, w: &Workload, steps: u64, report: &str) -> Result<bool, Want> {
     let orders = [StoredOrder::rotating(), StoredOrder::mirroring()];
     let run = drain(alloc, w, &orders, steps)?;
-    let is = match journal {
-        Some(text) => is_text_of(alloc, &run.journal, text),
-        None => true,
-    };
-    Ok(is && is_reported(alloc, w, &run.journal, &run.picture, run.outcome, report))
-}
-
-// Whether a row's run has the journal and the report of the row.
-fn is_row(alloc: Global, (lines, steps, journal, report): Row) -> Result<bool, Fail> {
-    let text = format!(in alloc; "{ALONE}{lines}")?;
-    let w = read(alloc, text.as_bytes())?;
-    Ok(is_run(alloc, &w, steps, journal, report)?)
-}
-
-#[test]
-fn runs_end_as_reported(rt: HostRuntime) -> Result<(), Fail> {
-    for row in &ROWS {
-        let is = is_row(rt.alloc(), *row)?;
-        assert!(rt; is, "{}", row.0);
-    }
-    Ok(())
+    Ok(is_reported(alloc, w, &run.journal, &run.picture, run.outcome, report))
 }
 
 // Appends forty units that add, and the one that joins them all and prints.
@@ -106,7 +50,7 @@ pub(crate) fn shared(alloc: Global) -> Result<Workload, Fail> {
 // Whether their run in rotation has this report.
 fn share(alloc: Global) -> Result<bool, Fail> {
     let w = shared(alloc)?;
-    Ok(is_run(alloc, &w, 10_000, None, SHARED_REPORT)?)
+    Ok(is_run(alloc, &w, 10_000, SHARED_REPORT)?)
 }
 
 #[test]

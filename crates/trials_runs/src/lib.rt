@@ -1,8 +1,6 @@
-//! Tests of rounds, of turns, of runs and of booths.
+//! Tests of rounds, of turns and of runs.
 #![tactic(auto)]
 
-#[cfg(test)]
-mod booths;
 #[cfg(test)]
 mod drains;
 #[cfg(test)]

@@ -5,16 +5,16 @@ use Rattle.abt_streams.specs.Texts.{IsLivesCause}
 use Rattle.abt_lives.proofs.Fetched.{seen-long, seen-reads, seen-refuses}
 use Rattle.abt_lives.proofs.program.fetch_lives.Goals as goal
 
-pub returns-then-len-gt-MOST-clause-stop : goal.returns-then-len-gt-MOST-clause-stop
-returns-then-len-gt-MOST-clause-stop g c =
-    seen-long c.args.w.now (g.F.Files.file c.args.files.now c.args.file.now) c.in_ok-bytes.bytes.items c.in_ok-bytes.ensures.bytes (omega (arith, c.len.ensures, c.if-len-gt-MOST.true))
+pub returns-then-len-gt-LIVES_LIMIT-clause-stop : goal.returns-then-len-gt-LIVES_LIMIT-clause-stop
+returns-then-len-gt-LIVES_LIMIT-clause-stop g c =
+    seen-long c.args.w.now (g.F.Files.file c.args.files.now c.args.file.now) c.in_ok-bytes.bytes.items c.in_ok-bytes.ensures.bytes (omega (arith, c.len.ensures, c.if-len-gt-LIVES_LIMIT.true))
 
 pub returns-in-Ok-clause-reads : goal.returns-in-Ok-clause-reads
 returns-in-Ok-clause-reads g c =
-    seen-reads c.args.w.now (g.F.Files.file c.args.files.now c.args.file.now) c.in_ok-bytes.bytes.items c.in-Ok.lives c.in_ok-bytes.ensures.bytes (omega (arith, c.len.ensures, c.if-len-gt-MOST.false))
+    seen-reads c.args.w.now (g.F.Files.file c.args.files.now c.args.file.now) c.in_ok-bytes.bytes.items c.in-Ok.lives c.in_ok-bytes.ensures.bytes (omega (arith, c.len.ensures, c.if-len-gt-LIVES_LIMIT.false))
     c.in-Ok.ensures.lives (c.in-Ok.ensures.text ∙ c.deref.ensures.value)
 
 pub returns-in-Err-Bad-clause-stop : goal.returns-in-Err-Bad-clause-stop
 returns-in-Err-Bad-clause-stop g c =
-    seen-refuses c.args.w.now (g.F.Files.file c.args.files.now c.args.file.now) c.in_ok-bytes.bytes.items c.in-Err-Bad.field-0 c.in-Err-Bad.line _ c.in_ok-bytes.ensures.bytes (omega (arith, c.len.ensures, c.if-len-gt-MOST.false))
+    seen-refuses c.args.w.now (g.F.Files.file c.args.files.now c.args.file.now) c.in_ok-bytes.bytes.items c.in-Err-Bad.field-0 c.in-Err-Bad.line _ c.in_ok-bytes.ensures.bytes (omega (arith, c.len.ensures, c.if-len-gt-LIVES_LIMIT.false))
     c.in-Err-Bad.field-0-is c.in-Err-Bad.line-is (subst (λ (bytes : Text). IsLivesCause c.args.w.now bytes c.in-Err-Bad.field-0) c.deref.ensures.value c.in-Err-Bad.ensures.cause)

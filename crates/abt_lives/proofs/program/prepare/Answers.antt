@@ -1,3 +1,5 @@
+use Rattle.std.proofs.Common.{subst}
+use Rattle.abt_lives.proofs.Naming.{same-names}
 use Rattle.abt_lives.proofs.program.prepare.Goals as goal
 
 pub returns-in-Some-clause-done : goal.returns-in-Some-clause-done
@@ -5,3 +7,7 @@ returns-in-Some-clause-done g c = c.prepare_files.ensures.done _ c.in-Some.ensur
 
 pub returns-in-Some-clause-stop : goal.returns-in-Some-clause-stop
 returns-in-Some-clause-stop g c = c.prepare_files.ensures.stop _ c.in-Some.ensures
+
+pub returns-in-Some-clause-absent : goal.returns-in-Some-clause-absent
+returns-in-Some-clause-absent g c = λ workload lives asks gone.
+    c.prepare_files.ensures.absent (subst (g.F.Files.absent c.args.files.now) (same-names _ (record { workload = workload; lives = lives; asks = asks }) (record { workload = _; lives = _; asks = c.in-Some.ensures })).0 gone)

@@ -1,6 +1,6 @@
-use Rattle.std.proofs.Common.{map, rules, string_bytes, subst, sym}
+use Rattle.std.proofs.Common.{inl, inr, map, rules, string_bytes, subst, sym}
 use Rattle.abt_order.specs.Stored.{shapes_of}
-use Rattle.abt_shell.proofs.Calls.{concluded, stopped}
+use Rattle.abt_shell.proofs.Calls.{concluded, missing-ends, not-stopped, stopped, stopped-by}
 use Rattle.abt_run.specs.Given.{given}
 use Rattle.abt_run.specs.Call.{program}
 use Rattle.abt_run.specs.Printed.{Prints}
@@ -12,9 +12,13 @@ pub returns-in-Ok : goal.returns-in-Ok
 returns-in-Ok g c =
     answered _ _ (as-many _ c.args.orders.now 2 c.requires.orders)
     (concluded (program _) _ c.in-Ok.done.conclusion c.in-Ok.done.text.items _ _ (subst (λ j. Prints (given (map string_bytes c.args.words.now) (shapes_of c.args.orders.now) (λ name. g.F.Files.file c.args.files.now name)) c.in-Ok.done.conclusion j c.in-Ok.done.text.items) (sym c.conclude_run.ensures.journal) c.in-Ok.ensures.done) c.number.ensures (rw c.deref.ensures.value at c.conclude_run.ensures.status))
+    (λ command file says names gone. elim (c.in-Ok.ensures.absent command file says names gone) [ inl read ↦ absurd (not-stopped _ _ read) | inr refused ↦ absurd (not-stopped _ _ refused) ])
+    (λ fault. absurd (not-stopped _ _ (c.in-Ok.ensures.faulty fault)))
 
 pub returns-in-Err : goal.returns-in-Err
 returns-in-Err g c =
     let (why, number, same, told) = c.stop_without_run.ensures.stopped in
     answered _ _ (as-many _ c.args.orders.now 2 c.requires.orders)
     (stopped (program _) _ c.in-Err.stop why _ (record { why = c.in-Err.ensures.stop; journal = c.stop_without_run.ensures.journal }) (record { why = tt; journal = c.stop_without_run.ensures.journal }) number (search rules) told same)
+    (λ command file says names gone. elim (c.in-Err.ensures.absent command file says names gone) [ inl read ↦ missing-ends _ c.in-Err.stop why (inl (stopped-by _ _ read)) number same | inr refused ↦ missing-ends _ c.in-Err.stop why (inr (stopped-by _ _ refused)) number same ])
+    (λ fault. missing-ends _ c.in-Err.stop why (inl (stopped-by _ _ (c.in-Err.ensures.faulty fault))) number same)

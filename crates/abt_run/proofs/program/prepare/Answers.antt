@@ -1,6 +1,7 @@
-use Rattle.std.proofs.Common.{map, string_bytes, subst, sym}
+use Rattle.std.proofs.Common.{inl, map, refl, string_bytes, subst, sym}
 use Rattle.abt_words.specs.declared.commands.Command.TheVariants as command
 use Rattle.abt_words.specs.Commands.{Says}
+use Rattle.abt_run.proofs.Preparing.{no-file, one-file}
 use Rattle.abt_run.proofs.program.prepare.Goals as goal
 
 pub returns-in-Ok-Run-clause-done : goal.returns-in-Ok-Run-clause-done
@@ -30,3 +31,19 @@ returns-in-Ok-Flow-clause-stop g c =
     c.prepare_flow.ensures.stop _ _
     (subst (λ f. Says (map string_bytes c.args.words.now) (command.Flow f)) (sym c.as_str-in-Ok-Flow.ensures)
     (subst (Says (map string_bytes c.args.words.now)) c.in-Ok-Flow.field-0-is c.in-Ok-Flow.ensures.said))
+
+pub returns-in-Ok-Run-clause-absent : goal.returns-in-Ok-Run-clause-absent
+returns-in-Ok-Run-clause-absent g c = λ d file says names gone.
+    inl (c.prepare_file.ensures.absent (subst (g.F.Files.absent c.args.files.now) (one-file (map string_bytes c.args.words.now) d _ file _ says
+    (subst (λ f. Says (map string_bytes c.args.words.now) (command.Run f c.in-Ok-Run.steps c.in-Ok-Run.journal)) (sym c.as_str.ensures)
+    (subst (Says (map string_bytes c.args.words.now)) c.in-Ok-Run.field-0-is c.in-Ok-Run.ensures.said)) names refl) gone))
+
+pub returns-in-Ok-SelfRun-clause-absent : goal.returns-in-Ok-SelfRun-clause-absent
+returns-in-Ok-SelfRun-clause-absent g c = λ d file says names gone.
+    absurd (no-file (map string_bytes c.args.words.now) d _ file says (subst (Says (map string_bytes c.args.words.now)) c.in-Ok-SelfRun.field-0-is c.in-Ok-SelfRun.ensures.said) names refl)
+
+pub returns-in-Ok-Flow-clause-absent : goal.returns-in-Ok-Flow-clause-absent
+returns-in-Ok-Flow-clause-absent g c = λ d file says names gone.
+    inl (c.prepare_flow.ensures.absent (subst (g.F.Files.absent c.args.files.now) (one-file (map string_bytes c.args.words.now) d _ file _ says
+    (subst (λ f. Says (map string_bytes c.args.words.now) (command.Flow f)) (sym c.as_str-in-Ok-Flow.ensures)
+    (subst (Says (map string_bytes c.args.words.now)) c.in-Ok-Flow.field-0-is c.in-Ok-Flow.ensures.said)) names refl) gone))

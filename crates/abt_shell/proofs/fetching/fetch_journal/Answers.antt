@@ -1,8 +1,7 @@
 use Rattle.std.proofs.Common.{◌<◌, ◌≤◌, length, rules}
 use Rattle.abt_report.specs.Journals.{IsNoJournalAt, IsTextOf, journal_limit}
-use Rattle.abt_shell.proofs.Fetched.{of-long, of-whole}
-use Rattle.abt_view.proofs.Preparing.{wrong-line}
-use Rattle.abt_view.proofs.program.fetch.Goals as goal
+use Rattle.abt_shell.proofs.Fetched.{of-long, of-whole, wrong-line}
+use Rattle.abt_shell.proofs.fetching.fetch_journal.Goals as goal
 
 pub returns-then-len-gt-JOURNAL_LIMIT-clause-stop : goal.returns-then-len-gt-JOURNAL_LIMIT-clause-stop
 returns-then-len-gt-JOURNAL_LIMIT-clause-stop g c =
