@@ -1,5 +1,5 @@
 -- What a crew leaves at the end.
-use Rattle.std.proofs.Common.{◌≡◌, ℕ, zero, suc, ◌<◌, List, [], ◌∷◌, ◌++◌, length, Some, slice_get, refl, sym, ◌∙◌, ap, subst, inl, inr, All, arith}
+use Rattle.std.proofs.Common.{◌≡◌, ℕ, zero, suc, false, ◌<◌, List, [], ◌∷◌, ◌++◌, length, Some, slice_get, refl, sym, ◌∙◌, ap, subst, inl, inr, All, arith}
 use Rattle.std.proofs.lemmas.Option.{slice_get_within}
 use Rattle.abt_machine.specs.declared.events.Event.{Event}
 use Rattle.abt_machine.specs.declared.events.Outcome.{Outcome}
@@ -23,6 +23,7 @@ use Rattle.abt_stream.specs.declared.stream.StreamParts.{StreamParts}
 use Rattle.abt_stream.specs.Streams.{FitsStream, StreamValue}
 use Rattle.abt_laws.proofs.Options.{some-injective}
 use Rattle.abt_drain.specs.Crews.{CrewValue, HaveLeft, HaveStopped, IsCrew, log_from, logs_in, moment_in, moment_of}
+use Rattle.abt_drain.specs.InRotation.{IsMadeInRotation}
 use Rattle.abt_drain.specs.Looks.{AreStreams, held_from}
 use Rattle.abt_drain.specs.Moments.{HasCome, LeadTo, Moment, made_at}
 use Rattle.abt_drain.specs.Pictures.{LeavesWhatFits, ShowsUnits, units_in_parts}
@@ -33,6 +34,7 @@ use Rattle.abt_drain.proofs.Ending.{has-run}
 use Rattle.abt_drain.proofs.Journals.{has-come}
 use Rattle.abt_drain.proofs.Leading.{lead-sound}
 use Rattle.abt_drain.proofs.Leaving.{left-fits}
+use Rattle.abt_drain.proofs.Stopping.{made-in-rotation}
 
 -- Lists.
 
@@ -138,6 +140,10 @@ module _ (W : Parts) (Z : List OrderShape) (n : ℕ) (crew : CrewValue) (is : Is
     -- and of one that stopped
     pub crew-ran : (o : Outcome) → HaveStopped W Z n (moment_in W crew) o → HasRun W Z n J o
     crew-ran o stopped = crew-ended o (stopped-at-stop W Z n (moment_in W crew) o stopped) stopped.looks
+
+    -- which were made in rotation
+    pub crew-rotated : (o : Outcome) → HaveStopped W Z n (moment_in W crew) o → IsMadeInRotation W Z n J
+    crew-rotated o stopped = made-in-rotation W Z n stopped.before (moment_in W crew) false stopped.turned stopped.rotated is.valid is.stored refl o stopped.looks J merges
 
     -- the picture is of where it ends
     pub crew-picture : (rest : List StreamParts) (rows : List Row) → HaveLeft crew.streams rest → ShowsUnits W rest crew.objects rows → All (SaysWordsOf W) rows → IsPictureOf W J rows

@@ -17,3 +17,4 @@ pub mod Started
 pub mod Starting
 pub mod Stopping
 pub mod Taking
+pub mod Turning

@@ -22,12 +22,15 @@ use Rattle.abt_drain.specs.Rotations.{Empties, LastRoundIsEmpty, HasTurned, Have
 use Rattle.abt_drain.proofs.Journals.{some-journal}
 use Rattle.abt_drain.proofs.Leading.{leads-join, none-lead}
 use Rattle.abt_drain.proofs.Taking.{differ, no-step-front, no-step-join, no-step-rest, stays-same, stays-then}
+use Rattle.abt_drain.proofs.Turning.{logged-join, none-logged}
 
 -- at first no stream had its turn
 pub none-turned : (W : Parts) (Z : List OrderShape) (n : ℕ) (m : Moment) → HaveTurned W Z n 0 m false m
 none-turned W Z n m = record {
   events = [];
   lead = none-lead W Z m;
+  logged = none-logged m;
+  turns = λ J lead. refl;
   no_step = λ q. tt;
   step = λ q. differ (sym q);
   emptied = λ q r lt. absurd (none r lt);
@@ -95,6 +98,8 @@ module _ (W : Parts) (Z : List OrderShape) (n s : ℕ) (old mid new : Moment) (a
   turned-more = record {
     events = turned.events ++ next.events;
     lead = leads-join W Z old mid new turned.events next.events turned.lead next.lead;
+    logged = logged-join old mid new turned.events next.events turned.logged next.logged;
+    turns = λ J lead. (turned.events, next.events, refl, turned.turns J lead, next.turns (J ++ turned.events) (turned.lead J lead));
     no_step = λ q. no-step-join turned.events next.events (turned.no_step (either-false a b q).0) (next.no_step (either-false a b q).1);
     step = λ q none. elim (either-true a b q) [
       | inl one ↦ turned.step one (no-step-front turned.events next.events none)

@@ -11,7 +11,7 @@ use Rattle.abt_interleave.specs.Machines.{Gathered}
 use Rattle.abt_interleave.proofs.Members.{to-among}
 use Rattle.abt_simulation.specs.Merging.{machine_of}
 use Rattle.abt_drain.specs.Moments.{HasCome, IsReachedMoment, IsStart, Moment, made_at}
-use Rattle.abt_drain.specs.Rotations.{IsAwake, HasSeenNone, IsGoing}
+use Rattle.abt_drain.specs.Rotations.{HaveRotated, IsAwake, HasSeenNone, IsGoing}
 
 pub no-member : {A : Type 0} (x : A) → Contains [] x → ⊥
 no-member x m = to-among [] x m
@@ -58,6 +58,16 @@ module _ (W : Parts) (m : Moment) (is : IsStart W m) where
     clocks = λ s. sym (is.clocks s);
     few = start-few;
     within = start-within n;
+  }
+
+  -- no rotation leads there
+  pub start-rotated : (Z : List OrderShape) (n : ℕ) → HaveRotated W Z n m
+  start-rotated Z n = record {
+    many = 0;
+    events = [];
+    lead = record { run = tt; stand = record { streams = is.parts; sites = is.objects }; made = λ s lt. sym (ap steps_in (is.logs s)) };
+    logs = λ s. sym (is.logs s);
+    rotations = refl;
   }
 
   pub start-going : (n : ℕ) → IsGoing W n m

@@ -1,5 +1,7 @@
 -- The turns of one stream: events that go on, and the one that ends them.
 use Rattle.std.proofs.Common.{◌≡◌, ◌≢◌, ℕ, ◌<◌, inl, inr, true, false, List, [], ◌∷◌, ◌++◌, refl, sym, ◌∙◌, ap, subst}
+use Rattle.std.specs.List.{All}
+use Rattle.std.proofs.lemmas.List.Elements.{All-append, All-cons, All-nil}
 use Rattle.abt_machine.specs.declared.events.Event.{Event}
 use Rattle.abt_machine.specs.declared.events.What.{What}
 use Rattle.abt_machine.specs.declared.events.What.TheVariants as what
@@ -19,13 +21,16 @@ use Rattle.abt_laws.proofs.RunParts.{state_after-append}
 use Rattle.abt_outcomes.specs.Rotations.{HasEmptied, HasNoStep, turns_left}
 use Rattle.abt_outcomes.proofs.Beginning.{rounds-begin-fresh, steps-begin-fresh}
 use Rattle.abt_outcomes.proofs.GoingOn.{emptied-grows}
+use Rattle.abt_outcomes.proofs.Seen.{spent-seen}
 use Rattle.abt_laws.proofs.DueParts.{due-same}
 use Rattle.abt_outcomes.proofs.WithinTurns.{turns-fall}
 use Rattle.abt_outcomes.proofs.Working.{turns-left-are-seen}
-use Rattle.abt_drain.specs.Moments.{IsReachedMoment, LeadTo, Makes, Moment, Stays, event_at}
-use Rattle.abt_drain.specs.Rotations.{EndsRoundAt, HasTurned, HasSeenNone, IsSpentIn, Lead, MakesMove, MakesStep, MovesOn, turns_at}
+use Rattle.abt_drain.specs.InRotation.{AreTurns, EndsTurns}
+use Rattle.abt_drain.specs.Moments.{IsReachedMoment, LeadTo, Makes, Moment, Stays, event_at, made_at}
+use Rattle.abt_drain.specs.Rotations.{AreLogged, EndsRoundAt, HasTurned, HasSeenNone, IsSpentIn, Lead, MakesMove, MakesStep, MovesOn, turns_at}
 use Rattle.abt_drain.proofs.Journals.{some-journal}
-use Rattle.abt_drain.proofs.Leading.{event-comes, event-leads, lead-sound, leads-join, makes-lead}
+use Rattle.abt_drain.proofs.Leading.{event-comes, event-leads, lead-sound, leads-join, makes-lead, none-lead}
+use Rattle.abt_drain.proofs.Turning.{logged-join, makes-logged, none-ends-join, none-logged}
 
 pub stays-same : (m : Moment) (s : ℕ) → Stays m m s
 stays-same m s = record { part = refl; log = refl; clock = refl }
@@ -59,10 +64,39 @@ step-no-miss (what.End u c) step miss = miss
 step-no-miss (what.Enter u) step miss = miss
 step-no-miss (what.Leave u) step miss = miss
 
+-- at first the stream has made no event
+pub none-moved : (W : Parts) (Z : List OrderShape) (s : ℕ) (m : Moment) → MovesOn W Z s m m
+none-moved W Z s m = record {
+  events = [];
+  lead = none-lead W Z m;
+  logged = none-logged m;
+  own = All-nil (λ (e : Event). e.stream.0 ≡ s);
+  none = λ J lead. tt;
+  no_step = tt;
+  others = λ r ne. stays-same m r;
+}
+
 module _ (W : Parts) (Z : List OrderShape) (valid : IsValid W) (stored : OrdersStored W Z) (n s : ℕ) where
   -- one event more
   joined : (old mid new : Moment) (w : What) → (moves : MovesOn W Z s old mid) → Makes W Z s w mid new → Lead W Z old (moves.events ++ event_at new s w ∷ []) new
   joined old mid new w moves makes = leads-join W Z old mid new moves.events (event_at new s w ∷ []) moves.lead (makes-lead W Z valid stored s w mid new makes)
+
+  logged : (old mid new : Moment) (w : What) → (moves : MovesOn W Z s old mid) → Makes W Z s w mid new → AreLogged old (moves.events ++ event_at new s w ∷ []) new
+  logged old mid new w moves makes = logged-join old mid new moves.events (event_at new s w ∷ []) moves.logged (makes-logged W Z s w mid new makes)
+
+  all-own : (old mid new : Moment) (w : What) → (moves : MovesOn W Z s old mid) → All (λ (e : Event). e.stream.0 ≡ s) (moves.events ++ event_at new s w ∷ [])
+  all-own old mid new w moves =
+      let is_own : Event → Type 0 = λ e. e.stream.0 ≡ s in
+      All-append is_own moves.events (event_at new s w ∷ []) moves.own (All-cons is_own (event_at new s w) [] refl (All-nil is_own))
+
+  -- an event that goes on ends no turns
+  move-ends-none : (old new : Moment) (move : MakesMove W Z s old new) (J : List Event) → LeadTo W Z J old → EndsTurns W s J (event_at new s move.what) → ⊥
+  move-ends-none old new move J lead ends =
+      let own = (event-leads W Z valid stored s move.what old new move.makes J lead).stand.streams s move.makes.declared in
+      elim ends [
+        | inl step ↦ differ (sym step ∙ move.other)
+        | inr empty ↦ differ (sym empty.2 ∙ (ap (λ p. p.own.top.empty) own ∙ move.goes_on empty.1))
+      ]
 
   others-stay : (old mid new : Moment) (w : What) → MovesOn W Z s old mid → Makes W Z s w mid new → (r : ℕ) → s ≢ r → Stays old new r
   others-stay old mid new w moves makes r ne = stays-then old mid new r (moves.others r ne) (makes.others r ne)
@@ -72,8 +106,19 @@ module _ (W : Parts) (Z : List OrderShape) (valid : IsValid W) (stored : OrdersS
   move-more old mid new moves move = record {
     events = moves.events ++ event_at new s move.what ∷ [];
     lead = joined old mid new move.what moves move.makes;
+    logged = logged old mid new move.what moves move.makes;
+    own = all-own old mid new move.what moves;
+    none = λ J lead. none-ends-join W s J moves.events (event_at new s move.what ∷ []) (moves.none J lead) (move-ends-none mid new move (J ++ moves.events) (moves.lead J lead), tt);
     no_step = no-step-join moves.events (event_at new s move.what ∷ []) moves.no_step (move.other, tt);
     others = others-stay old mid new move.what moves move.makes;
+  }
+
+  -- turns that the last event ends
+  last-ends : (old mid new : Moment) (w : What) (moves : MovesOn W Z s old mid) → ((J : List Event) → LeadTo W Z J mid → EndsTurns W s J (event_at new s w)) → (J : List Event) → LeadTo W Z J old →
+      AreTurns W n s J (moves.events ++ event_at new s w ∷ [])
+  last-ends old mid new w moves ends J lead = record {
+    own = all-own old mid new w moves;
+    ended = inl (record { before = moves.events; last = event_at new s w; all = refl; none = moves.none J lead; ends = ends (J ++ moves.events) (moves.lead J lead) });
   }
 
   -- it lowers what is left to the turn
@@ -109,6 +154,8 @@ module _ (W : Parts) (Z : List OrderShape) (valid : IsValid W) (stored : OrdersS
   turned-by-step old mid new moves reached step = record {
     events = moves.events ++ event_at new s step.what ∷ [];
     lead = joined old mid new step.what moves step.makes;
+    logged = logged old mid new step.what moves step.makes;
+    turns = last-ends old mid new step.what moves (λ J lead. inl step.step);
     no_step = λ e. differ e;
     step = λ e none. differ (sym step.step ∙ (no-step-rest moves.events (event_at new s step.what ∷ []) none).0);
     emptied = λ e. differ e;
@@ -131,6 +178,12 @@ module _ (W : Parts) (Z : List OrderShape) (valid : IsValid W) (stored : OrdersS
       record {
         events = moves.events ++ e ∷ [];
         lead = joined old mid new (what.Miss ends.pool) moves ends.makes;
+        logged = logged old mid new (what.Miss ends.pool) moves ends.makes;
+        turns = last-ends old mid new (what.Miss ends.pool) moves (λ J lead. inr (
+          refl,
+          tt,
+          (let own = (event-leads W Z valid stored s (what.Miss ends.pool) mid new ends.makes J lead).stand.streams s ends.makes.declared in ap (λ p. p.own.top.empty) own ∙ ends.empty),
+        ));
         no_step = λ q. no-step-join moves.events (e ∷ []) moves.no_step (refl, tt);
         step = λ q. differ (sym q);
         emptied = λ q. inl (
@@ -150,6 +203,13 @@ module _ (W : Parts) (Z : List OrderShape) (valid : IsValid W) (stored : OrdersS
       record {
         events = moves.events;
         lead = moves.lead;
+        logged = moves.logged;
+        turns = λ J lead. (
+            let led : LeadTo W Z (J ++ moves.events) mid = moves.lead J lead in
+            record {
+              own = moves.own;
+              ended = inr (record { none = moves.none J lead; spent = (spent-seen W n s (J ++ moves.events) mid.parts mid.objects (made_at mid) led.stand led.made).1 spent });
+            });
         no_step = λ q. moves.no_step;
         step = λ q. differ (sym q);
         emptied = λ q. inr spent;

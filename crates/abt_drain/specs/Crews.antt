@@ -28,7 +28,7 @@ use Rattle.abt_stream.specs.declared.turns.Turn.TheVariants as turn
 use Rattle.abt_drain.specs.Looks.{AreStreams, EndedWith, parts_held}
 use Rattle.abt_drain.specs.Moments.{IsReachedMoment, Moment, SetsClock, made_at, stamp_by}
 use Rattle.abt_drain.specs.Pictures.{units_in_parts}
-use Rattle.abt_drain.specs.Rotations.{EndsRoundAt, HaveTurned, IsAwake, IsGoing, IsSpentIn, MakesMove, MakesStep}
+use Rattle.abt_drain.specs.Rotations.{EndsRoundAt, HaveRotated, HaveTurned, IsAwake, IsGoing, IsSpentIn, MakesMove, MakesStep}
 
 -- the workload, how many steps each stream may make, the objects, and the streams in order of number
 pub record CrewValue : Type 0 where
@@ -109,9 +109,10 @@ StaysAwake W turn.Moved m = IsAwake W m
 StaysAwake W turn.Spent m = IsAwake W m
 StaysAwake W turn.Worn m = ⊤
 
--- the streams stopped: the last rotation made no step, and the run ended so
+-- the streams stopped after rotations: the last made no step, and the run ended so
 pub record HaveStopped (W : Parts) (Z : List OrderShape) (n : ℕ) (m : Moment) (o : Outcome) : Type 0 where
   pub before : Moment
+  pub rotated : HaveRotated W Z n before
   pub turned : HaveTurned W Z n W.streams before false m
   pub looks : LooksAs W n m.parts m.objects (made_at m) o
 

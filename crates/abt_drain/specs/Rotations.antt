@@ -1,5 +1,6 @@
 -- Turns and rotations: what streams do one after the other.
 use Rattle.std.specs.Prelude.{ℕ, ◌≡◌, ◌≢◌, ◌<◌, ◌≤◌, ◌⊎◌, Bool, true, false, List, [], ◌∷◌, ◌++◌}
+use Rattle.std.specs.List.{All}
 use Rattle.abt_machine.specs.declared.events.Event.{Event}
 use Rattle.abt_machine.specs.declared.events.What.{What}
 use Rattle.abt_machine.specs.declared.events.What.TheVariants as what
@@ -13,6 +14,7 @@ use Rattle.abt_outcomes.specs.OneStream.{HasEndedEmpty, HasNotStopped}
 use Rattle.abt_outcomes.specs.Rotations.{HasEmptied, HasNoStep}
 use Rattle.abt_outcomes.specs.Values.{LooksQuiet, LooksSpent}
 use Rattle.abt_outcomes.specs.Measured.{turns_seen, work_seen}
+use Rattle.abt_drain.specs.InRotation.{AreRotations, AreTurns, AreTurnsBelow, NoneEndsTurns, events_by}
 use Rattle.abt_drain.specs.Moments.{LeadTo, Makes, Moment, Stays, event_at, made_at}
 
 -- stream s has made its n steps, and would make another
@@ -65,10 +67,17 @@ Lead W Z old es new = (J : List Event) → LeadTo W Z J old → LeadTo W Z (J ++
 abbrev pub Empties : Parts → List OrderShape → Moment → List Event → ℕ → Type 0
 Empties W Z old es s = (J : List Event) → LeadTo W Z J old → HasEmptied W s (last_state W J) es
 
--- stream s went on by events that are not steps
+-- each stream's log grew by its own of these events
+abbrev pub AreLogged : Moment → List Event → Moment → Type 0
+AreLogged old es new = (s : ℕ) → new.logs s ≡ old.logs s ++ events_by s es
+
+-- stream s went on by events that are not steps, none of which ends its turns
 pub record MovesOn (W : Parts) (Z : List OrderShape) (s : ℕ) (old new : Moment) : Type 0 where
   pub events : List Event
   pub lead : Lead W Z old events new
+  pub logged : AreLogged old events new
+  pub own : All (λ (e : Event). e.stream.0 ≡ s) events
+  pub none : (J : List Event) → LeadTo W Z J old → NoneEndsTurns W s J events
   pub no_step : HasNoStep events
   pub others : (r : ℕ) → s ≢ r → Stays old new r
 
@@ -76,6 +85,8 @@ pub record MovesOn (W : Parts) (Z : List OrderShape) (s : ℕ) (old new : Moment
 pub record HasTurned (W : Parts) (Z : List OrderShape) (n s : ℕ) (old : Moment) (stepped : Bool) (new : Moment) : Type 0 where
   pub events : List Event
   pub lead : Lead W Z old events new
+  pub logged : AreLogged old events new
+  pub turns : (J : List Event) → LeadTo W Z J old → AreTurns W n s J events
   pub no_step : stepped ≡ false → HasNoStep events
   pub step : stepped ≡ true → HasNoStep events → ⊥
   pub emptied : stepped ≡ false → (Empties W Z old events s × LastRoundIsEmpty new s) ⊎ IsSpentIn W n new s
@@ -86,11 +97,21 @@ pub record HasTurned (W : Parts) (Z : List OrderShape) (n s : ℕ) (old : Moment
 pub record HaveTurned (W : Parts) (Z : List OrderShape) (n s : ℕ) (old : Moment) (stepped : Bool) (new : Moment) : Type 0 where
   pub events : List Event
   pub lead : Lead W Z old events new
+  pub logged : AreLogged old events new
+  pub turns : (J : List Event) → LeadTo W Z J old → AreTurnsBelow W n s J events
   pub no_step : stepped ≡ false → HasNoStep events
   pub step : stepped ≡ true → HasNoStep events → ⊥
   pub emptied : stepped ≡ false → (r : ℕ) → r < s → (Empties W Z old events r × LastRoundIsEmpty new r) ⊎ IsSpentIn W n new r
   pub fresh : (r : ℕ) → r < s → HasSeenNone new r
   pub others : (r : ℕ) → s ≤ r → Stays old new r
+
+-- the streams came to the moment by rotations, after none of which the run stops
+pub record HaveRotated (W : Parts) (Z : List OrderShape) (n : ℕ) (m : Moment) : Type 0 where
+  pub many : ℕ
+  pub events : List Event
+  pub lead : LeadTo W Z events m
+  pub logs : (s : ℕ) → events_by s events ≡ m.logs s
+  pub rotations : AreRotations W n many events
 
 -- What is left to do.
 

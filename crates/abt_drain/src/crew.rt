@@ -9,8 +9,9 @@ ghost use Rattle.abt_report.specs.Pictures.{IsPictureOf};
 ghost use Rattle.abt_machine.specs.Outcomes.{steps_in};
 ghost use Rattle.abt_stream.specs.Streams.{FitsShapes, FitsStream};
 ghost use Rattle.abt_drain.specs.Crews.{HaveStopped, IsCrew, IsEnd, StaysAwake, TurnBy, TurnsBy, moment_in};
+ghost use Rattle.abt_drain.specs.InRotation.{IsMadeInRotation};
 ghost use Rattle.abt_drain.specs.Looks.{AreStreams};
-ghost use Rattle.abt_drain.specs.Rotations.{HasTurned, HaveTurned, IsAwake, HasSeenNone};
+ghost use Rattle.abt_drain.specs.Rotations.{HasTurned, HaveRotated, HaveTurned, IsAwake, HasSeenNone};
 ghost use Rattle.abt_drain.specs.Runs.{HasRun};
 
 use crate::outcomes::outcome;
@@ -58,6 +59,7 @@ impl<'w> Crew<'w> {
         ensures crew { IfOk result (IsCrew w.now (shapes_of orders.now) steps) }
         ensures fresh { IfOk result (λ crew. (s : ℕ) → s < w.now.streams → HasSeenNone (moment_in w.now crew) s) }
         ensures awake { IfOk result (λ crew. IsAwake w.now (moment_in w.now crew)) }
+        ensures rotated { IfOk result (λ crew. HaveRotated w.now (shapes_of orders.now) steps (moment_in w.now crew)) }
     {
         w.known();
         let streams = start_streams(alloc, w, steps)?;
@@ -148,6 +150,7 @@ impl<'w> Crew<'w> {
         requires crew { IsCrew self.old.workload (shapes_of orders.now) self.old.steps self.old }
         requires fresh { (s : ℕ) → s < self.old.workload.streams → HasSeenNone (moment_in self.old.workload self.old) s }
         requires awake { IsAwake self.old.workload (moment_in self.old.workload self.old) }
+        requires rotated { HaveRotated self.old.workload (shapes_of orders.now) self.old.steps (moment_in self.old.workload self.old) }
         ensures stopped { IfOk result (HaveStopped self.old.workload (shapes_of orders.now) self.old.steps (moment_in self.old.workload self.new)) }
         ensures crew { OnOk result (IsCrew self.old.workload (shapes_of orders.now) self.old.steps self.new) }
     {
@@ -164,6 +167,7 @@ impl<'w> Crew<'w> {
     pub(crate) fn end(self, alloc: Global) -> Result<(Journal, Picture), Want>
         requires crew { (Z : List OrderShape) × IsCrew self.workload Z self.steps self }
         ensures run { IfOk result (λ ended. (Z : List OrderShape) (o : Outcome) → IsCrew self.entry.workload Z self.entry.steps self.entry → HaveStopped self.entry.workload Z self.entry.steps (moment_in self.entry.workload self.entry) o → HasRun self.entry.workload Z self.entry.steps ended.0 o) }
+        ensures rotation { IfOk result (λ ended. (Z : List OrderShape) (o : Outcome) → IsCrew self.entry.workload Z self.entry.steps self.entry → HaveStopped self.entry.workload Z self.entry.steps (moment_in self.entry.workload self.entry) o → IsMadeInRotation self.entry.workload Z self.entry.steps ended.0) }
         ensures picture { IfOk result (λ ended. IsPictureOf self.entry.workload ended.0 ended.1) }
     {
         let Crew {

@@ -3,6 +3,7 @@
 ghost use Rattle.std.specs.Prelude.{◌≤◌, IfOk, length};
 ghost use Rattle.abt_order.specs.Stored.{shapes_of};
 ghost use Rattle.abt_report.specs.Pictures.{IsPictureOf};
+ghost use Rattle.abt_drain.specs.InRotation.{IsMadeInRotation};
 ghost use Rattle.abt_drain.specs.Runs.{HasRun};
 
 use crate::crew::Crew;
@@ -26,6 +27,7 @@ pub struct Run {
 pub fn drain(alloc: Global, w: &Workload, orders: &[StoredOrder], steps: u64) -> Result<Run, Want>
     requires orders { 2 ≤ length orders.now }
     ensures run { IfOk result (λ run. HasRun w.now (shapes_of orders.now) steps run.journal run.outcome) }
+    ensures rotation { IfOk result (λ run. IsMadeInRotation w.now (shapes_of orders.now) steps run.journal) }
     ensures picture { IfOk result (λ run. IsPictureOf w.now run.journal run.picture) }
 {
     drain_at_pace(alloc, w, orders, &NoPace, steps)
@@ -41,6 +43,7 @@ pub fn drain_at_pace<P: Pace>(
 ) -> Result<Run, Want>
     requires orders { 2 ≤ length orders.now }
     ensures run { IfOk result (λ run. HasRun w.now (shapes_of orders.now) steps run.journal run.outcome) }
+    ensures rotation { IfOk result (λ run. IsMadeInRotation w.now (shapes_of orders.now) steps run.journal) }
     ensures picture { IfOk result (λ run. IsPictureOf w.now run.journal run.picture) }
 {
     let mut crew = Crew::new(alloc, w, orders, steps)?;

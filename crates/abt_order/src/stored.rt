@@ -35,11 +35,12 @@ struct UserFunction {
 impl StoredOrder {
     ghost use Rattle.abt_order.specs.Stored.{answers_of};
 
-    /// An order whose answers are a function's.
+    /// An order whose answers are a function's, which fit the shape.
     pub fn new(shape: OrderShape, function: OrderFunction) -> StoredOrder
         requires callable { (round n i : ℕ) → IsAsked round n i → OrderFunction.pre function round n i }
         requires fits { (round n i answer : ℕ) → IsAsked round n i → OrderFunction.post function round n i answer → IsTrue (fits_shape shape round n i answer) }
-        ensures { result.shape ≡ shape }
+        ensures shape { result.shape ≡ shape }
+        ensures answers { (round n i answer : ℕ) → answers_of result round n i answer → OrderFunction.post function round n i answer }
     {
         StoredOrder {
             shape,

@@ -6,7 +6,7 @@ use Rattle.abt_report.specs.Pictures.{SaysWordsOf}
 use Rattle.abt_simulation.specs.Journals.{MergesTo}
 use Rattle.abt_drain.specs.Crews.{CrewValue, HaveLeft, IsCrew, logs_in}
 use Rattle.abt_drain.specs.Pictures.{ShowsUnits}
-use Rattle.abt_drain.proofs.Closing.{all-fit, are-logs, crew-picture, crew-ran, left-many, only-one}
+use Rattle.abt_drain.proofs.Closing.{all-fit, are-logs, crew-picture, crew-ran, crew-rotated, left-many, only-one}
 use Rattle.abt_drain.proofs.crew.Crew.end.Goals as goal
 
 pub merge-requires : goal.merge-requires
@@ -29,6 +29,12 @@ pub returns-clause-run : goal.returns-clause-run
 returns-clause-run c =
     let same : c.in_ok-logs.logs.items ≡ logs_in c.args.self.streams = c.in_ok-logs.ensures.logs ∙ ap (λ (v : CrewValue). logs_in v.streams) c.self.view_is in
     λ Z o crew stopped. crew-ran c.args.self.workload Z c.args.self.steps c.args.self crew c.in_ok-journal.journal
+    (subst (λ logs. MergesTo (log_of logs) c.in_ok-journal.journal) same c.in_ok-journal.ensures.merged) o stopped
+
+pub returns-clause-rotation : goal.returns-clause-rotation
+returns-clause-rotation c =
+    let same : c.in_ok-logs.logs.items ≡ logs_in c.args.self.streams = c.in_ok-logs.ensures.logs ∙ ap (λ (v : CrewValue). logs_in v.streams) c.self.view_is in
+    λ Z o crew stopped. crew-rotated c.args.self.workload Z c.args.self.steps c.args.self crew c.in_ok-journal.journal
     (subst (λ logs. MergesTo (log_of logs) c.in_ok-journal.journal) same c.in_ok-journal.ensures.merged) o stopped
 
 pub returns-clause-picture : goal.returns-clause-picture

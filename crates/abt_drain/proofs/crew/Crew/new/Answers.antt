@@ -6,7 +6,7 @@ use Rattle.abt_order.specs.Stored.{shapes_of}
 use Rattle.abt_commons.specs.Placing.{ArePlaced}
 use Rattle.abt_outcomes.proofs.Stored.{orders-stored}
 use Rattle.abt_drain.proofs.Started.{crew-started, is-start}
-use Rattle.abt_drain.proofs.Starting.{start-awake, start-fresh}
+use Rattle.abt_drain.proofs.Starting.{start-awake, start-fresh, start-rotated}
 use Rattle.abt_drain.proofs.crew.Crew.new.Goals as goal
 
 pub returns-clause-crew : goal.returns-clause-crew
@@ -22,3 +22,8 @@ returns-clause-fresh g c =
 pub returns-clause-awake : goal.returns-clause-awake
 returns-clause-awake g c =
     start-awake c.args.w.now _ (is-start c.args.w.now c.args.steps c.in_ok-streams.streams.items c.make-plain.result.1 c.in_ok-streams.ensures (subst (ArePlaced c.args.w.now) (sym c.make-plain.ensures.pass) c.in_ok-place.ensures))
+
+pub returns-clause-rotated : goal.returns-clause-rotated
+returns-clause-rotated g c =
+    start-rotated c.args.w.now _ (is-start c.args.w.now c.args.steps c.in_ok-streams.streams.items c.make-plain.result.1 c.in_ok-streams.ensures (subst (ArePlaced c.args.w.now) (sym c.make-plain.ensures.pass) c.in_ok-place.ensures))
+    (shapes_of c.args.orders.now) c.args.steps

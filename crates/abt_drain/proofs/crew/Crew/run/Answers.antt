@@ -4,7 +4,7 @@ use Rattle.abt_order.specs.Stored.{shapes_of}
 use Rattle.abt_drain.specs.Crews.{IsCrew, moment_in}
 use Rattle.abt_drain.specs.Rotations.{HaveTurned}
 use Rattle.abt_drain.proofs.Crewed.{own-crew, own-end, own-rotated, own-stepped}
-use Rattle.abt_drain.proofs.Stopping.{goes-on-awake, goes-on-less, has-stopped}
+use Rattle.abt_drain.proofs.Stopping.{goes-on-awake, goes-on-less, goes-on-rotated, has-stopped}
 use Rattle.abt_drain.proofs.crew.Crew.run.Goals as goal
 
 pub returns-in-Some-clause-stopped : goal.returns-in-Some-clause-stopped
@@ -13,7 +13,7 @@ returns-in-Some-clause-stopped g c =
     own-crew c.args.self.now.workload (shapes_of c.args.orders.now) c.args.self.now.steps c.rotations.self c.rotate.new.self c.rotations.invariant.crew c.in_ok-stepped.ensures.crew in
     has-stopped c.args.self.now.workload (shapes_of c.args.orders.now) c.args.self.now.steps c.rotations.self c.rotate.new.self c.rotations.invariant.crew later c.in_ok-stepped.stepped
     (own-rotated c.args.self.now.workload (shapes_of c.args.orders.now) c.args.self.now.steps c.rotations.self c.rotate.new.self c.rotations.invariant.crew c.in_ok-stepped.stepped c.in_ok-stepped.ensures.turned)
-    c.in-Some.outcome (own-end c.args.self.now.workload (shapes_of c.args.orders.now) c.args.self.now.steps c.rotate.new.self c.rotate.new.self later c.in_ok-stepped.stepped (Some c.in-Some.outcome) c.in-Some.ensures)
+    c.rotations.invariant.rotated c.in-Some.outcome (own-end c.args.self.now.workload (shapes_of c.args.orders.now) c.args.self.now.steps c.rotate.new.self c.rotate.new.self later c.in_ok-stepped.stepped (Some c.in-Some.outcome) c.in-Some.ensures)
 
 pub rotations-smaller : goal.rotations-smaller
 rotations-smaller g c =
@@ -33,6 +33,8 @@ rotations-preserved g c =
     record {
       crew = later;
       fresh = turned.fresh;
+      rotated = goes-on-rotated c.args.self.now.workload (shapes_of c.args.orders.now) c.args.self.now.steps c.rotations.self c.rotate.new.self c.rotations.invariant.crew later c.in_ok-stepped.stepped turned
+          (own-end c.args.self.now.workload (shapes_of c.args.orders.now) c.args.self.now.steps c.rotate.new.self c.rotate.new.self later c.in_ok-stepped.stepped None c.in-None.ensures) c.rotations.invariant.rotated;
       awake = goes-on-awake c.args.self.now.workload (shapes_of c.args.orders.now) c.args.self.now.steps c.rotations.self c.rotate.new.self c.rotations.invariant.crew later c.in_ok-stepped.stepped turned
           (own-end c.args.self.now.workload (shapes_of c.args.orders.now) c.args.self.now.steps c.rotate.new.self c.rotate.new.self later c.in_ok-stepped.stepped None c.in-None.ensures)
           (own-stepped c.args.self.now.workload (shapes_of c.args.orders.now) c.args.self.now.steps c.rotations.self c.rotate.new.self c.rotations.invariant.crew c.in_ok-stepped.stepped c.in_ok-stepped.ensures.awake);

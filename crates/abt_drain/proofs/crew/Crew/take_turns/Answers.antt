@@ -5,7 +5,7 @@ use Rattle.abt_stream.specs.declared.turns.Turn.TheVariants as turn
 use Rattle.abt_drain.specs.Crews.{TurnBy, moment_in}
 use Rattle.abt_drain.specs.Rotations.{HasTurned}
 use Rattle.abt_drain.proofs.Crewed.{own-awake, own-crew, own-turn}
-use Rattle.abt_drain.proofs.Taking.{move-lowers, move-more, turned-by-round, turned-by-step, turned-spent}
+use Rattle.abt_drain.proofs.Taking.{move-lowers, move-more, none-moved, turned-by-round, turned-by-step, turned-spent}
 use Rattle.abt_drain.proofs.crew.Crew.take_turns.Goals as goal
 
 pub turns-smaller : goal.turns-smaller
@@ -13,6 +13,13 @@ turns-smaller g c =
     move-lowers c.args.self.now.workload (shapes_of c.args.orders.now) c.turns.invariant.crew.valid c.turns.invariant.crew.stored c.args.self.now.steps c.args.s
     (moment_in c.args.self.now.workload c.turns.self) (moment_in c.args.self.now.workload c.turn.new.self) c.turns.invariant.crew.reached
     (own-turn c.args.self.now.workload (shapes_of c.args.orders.now) c.args.self.now.steps c.turns.self c.turn.new.self c.turns.invariant.crew c.args.s c.in_ok-turn.field-0 turn.Moved c.in-Moved.is c.in_ok-turn.ensures.turn)
+
+pub turns-init : goal.turns-init
+turns-init g c = record {
+  crew = c.requires.crew;
+  moves = none-moved c.args.self.now.workload (shapes_of c.args.orders.now) c.args.s (moment_in c.args.self.now.workload c.args.self.now);
+  awake = c.requires.awake;
+}
 
 pub turns-preserved : goal.turns-preserved
 turns-preserved g c = record {
