@@ -97,11 +97,11 @@ impl Clocks {
         match site {
             Site::Pool(p) => clock_in(&self.pools, p.0),
             Site::Desk(u) => clock_in(&self.desks, u.0),
-            Site::Monitor(x) => clock_in(&self.slots, x.0),
-            Site::Eventual(x) => clock_in(&self.slots, x.0),
-            Site::Future(x) => clock_in(&self.slots, x.0),
-            Site::Barrier(x) => clock_in(&self.slots, x.0),
-            Site::Rw(x) => clock_in(&self.slots, x.0),
+            Site::Monitor(x)
+            | Site::Eventual(x)
+            | Site::Future(x)
+            | Site::Barrier(x)
+            | Site::Rw(x) => clock_in(&self.slots, x.0),
         }
     }
 
@@ -124,11 +124,11 @@ impl Clocks {
         match site {
             Site::Pool(p) => set(&mut self.pools, p.0, stamp),
             Site::Desk(u) => set(&mut self.desks, u.0, stamp),
-            Site::Monitor(x) => set(&mut self.slots, x.0, stamp),
-            Site::Eventual(x) => set(&mut self.slots, x.0, stamp),
-            Site::Future(x) => set(&mut self.slots, x.0, stamp),
-            Site::Barrier(x) => set(&mut self.slots, x.0, stamp),
-            Site::Rw(x) => set(&mut self.slots, x.0, stamp),
+            Site::Monitor(x)
+            | Site::Eventual(x)
+            | Site::Future(x)
+            | Site::Barrier(x)
+            | Site::Rw(x) => set(&mut self.slots, x.0, stamp),
         }
     }
 }

@@ -1,9 +1,10 @@
 //! Verdicts on journals.
 
-/// What a journal is judged to be: a run of its workload with stamps, or not, and then of which of its first events, at most,
-/// that is true: `at` is their number.
+/// Whether a journal is a run of its workload with stamps.
 #[derive(Clone, Copy, Debug, PartialEq, Eq)]
 pub enum Verdict {
+    /// It is.
     Run,
+    /// It is not: `at` is the greatest number of its first events that are such a run.
     Bad { at: u64 },
 }

@@ -85,7 +85,7 @@ abbrev pub RefusesTexts : ℕ → Call → Type 0
 RefusesTexts n c = (v : View) (file bytes : Text) → Asks c.words v file → c.file file ≡ Some bytes → ((J : List Event) → IsTextOf J bytes → ⊥)
     → (Grew c.left.read_faults → ⊥) → (n ≡ 3) ⊎ (n ≡ 7)
 
--- if no file has the name that they have, which is observable, it cannot be read
+-- if no file has the name of the journal, which is observable, it cannot be read
 abbrev pub MissesFiles : ℕ → Call → Type 0
 MissesFiles n c = (v : View) (file : Text) → Asks c.words v file → c.absent file → (n ≡ 5) ⊎ (n ≡ 7)
 

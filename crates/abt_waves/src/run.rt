@@ -21,8 +21,11 @@ use std::thread::Threads;
 /// Runs a workload whose streams may make `steps` steps each; `pace` is called before each step. In a wave each stream makes
 /// turns on a thread of its own, over objects that have a lock each, until it is spent, or finds nothing while no other stream
 /// has work, or finds nothing too often in a row. Waves go on until one leaves nothing to do or a stream spent. If no thread can be
-/// started the caller's does its work. A workload with one stream runs on the caller's thread, without a lock. Err: out of memory, in
-/// one stream or before all; its wave is the last.
+/// started the caller's does its work. A workload with one stream runs on the caller's thread, without a lock.
+///
+/// # Errors
+///
+/// Out of memory. If a stream lacks memory, the wave that it is in is the last.
 pub fn run_streams<'w, R: Threads + Wait + Sync, P: Pace + Sync>(
     rt: &'w R,
     alloc: Global,

@@ -33,10 +33,8 @@ impl Tally {
     /// One more is active.
     pub(crate) fn joined(self) -> Tally {
         Tally {
-            calls: self.calls,
             active: self.active.saturating_add(1),
-            waiting: self.waiting,
-            over: self.over,
+            ..self
         }
     }
 
@@ -46,7 +44,7 @@ impl Tally {
             calls: self.calls.wrapping_add(1),
             active: self.active.saturating_add(self.waiting),
             waiting: 0,
-            over: self.over,
+            ..self
         }
     }
 
@@ -56,12 +54,7 @@ impl Tally {
         if active == 0 {
             return self.ended();
         }
-        Tally {
-            calls: self.calls,
-            active,
-            waiting: self.waiting,
-            over: self.over,
-        }
+        Tally { active, ..self }
     }
 
     /// One that was active waits; or none is active any longer.
@@ -71,10 +64,8 @@ impl Tally {
             return left;
         }
         Tally {
-            calls: left.calls,
-            active: left.active,
             waiting: left.waiting.saturating_add(1),
-            over: false,
+            ..left
         }
     }
 

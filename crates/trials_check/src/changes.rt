@@ -39,24 +39,9 @@ const KINDS: [&[&[&str]]; 3] = [
     &[&["done", "asked", "access", "own"]],
 ];
 
-// Whether a list of words has this one.
-fn has(words: &[&str], word: &str) -> bool {
-    for other in words {
-        if *other == word {
-            return true;
-        }
-    }
-    false
-}
-
 // Whether one of the groups has this word.
 fn is_of(groups: &[&[&str]], word: &str) -> bool {
-    for group in groups {
-        if has(group, word) {
-            return true;
-        }
-    }
-    false
+    groups.iter().any(|group| group.contains(&word))
 }
 
 /// The parts of a text between separators.
@@ -180,7 +165,7 @@ impl Changing<'_> {
         word: &str,
     ) -> Result<(), AllocError> {
         for group in groups {
-            let is_journal = has(group, word);
+            let is_journal = group.contains(&word);
             for new in *group {
                 if *new != word {
                     self.push_word(words, at, new, is_journal)?;
