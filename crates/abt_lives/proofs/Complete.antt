@@ -23,7 +23,7 @@ use Rattle.abt_shell.proofs.Calls.{reads-well, writes-well}
 use Rattle.abt_shell.proofs.Fetched.{of-observed}
 use Rattle.abt_streams.specs.declared.life.Life.{Life}
 use Rattle.abt_workload.proofs.RoundTrip.{only-valid}
-use Rattle.abt_lives.specs.Call.{IsAnswered, MissesFiles, NamesFiles, RanOnLives, TellsWorkload, TellsBoth, program}
+use Rattle.abt_lives.specs.Call.{IsAnswered, MissesFiles, MissesLives, NamesFiles, RanOnLives, TellsWorkload, TellsBoth, program}
 use Rattle.abt_lives.specs.Lives.{ReadsLives, RefusesLives}
 use Rattle.abt_lives.specs.Words.{AsksNothing}
 use Rattle.abt_lives.proofs.Naming.{of-first, of-second, one-workload, same-names}
@@ -114,8 +114,8 @@ spends (Stopped OutOfMemory) c W h two tells none few = λ e. absurd (omega arit
 spends CannotWrite c W h two tells none few = λ e. absurd (omega arith)
 
 -- a call that ended with this exit status is answered
-pub answered : (n : ℕ) (c : Call) → 2 ≤ length c.given.orders → EndsBy (program c) c.left n → MissesFiles n c → (HasReadFault c.left → (n ≡ 5) ⊎ (n ≡ 7)) → IsAnswered n c
-answered n c two ends absent faulty = by ends.0 ends.1 ends.2 where
+pub answered : (n : ℕ) (c : Call) → 2 ≤ length c.given.orders → EndsBy (program c) c.left n → MissesFiles n c → MissesLives n c → (HasReadFault c.left → (n ≡ 5) ⊎ (n ≡ 7)) → IsAnswered n c
+answered n c two ends absent missing faulty = by ends.0 ends.1 ends.2 where
   by : (s : Status Outcome) → n ≡ number_of number_of_outcome s → Holds (program c) c.left s → IsAnswered n c
   by s is h = subst (λ m. IsAnswered m c) (sym is) (record {
     cause = (s, refl, h);
@@ -125,6 +125,7 @@ answered n c two ends absent faulty = by ends.0 ends.1 ends.2 where
     words = refuses-words s c h;
     spends = λ W tells none few. spends s c W h two tells none few;
     absent = subst (λ m. MissesFiles m c) is absent;
+    missing = subst (λ m. MissesLives m c) is missing;
     reads = reads-well (program c) c.left (λ o. no-fault o 5 (omega arith)) (λ cause. cause.why.1) s h;
     faulty = subst (λ m. HasReadFault c.left → (m ≡ 5) ⊎ (m ≡ 7)) is faulty;
     writes = writes-well (program c) c.left (λ o. no-fault o 6 (omega arith)) s h;

@@ -127,6 +127,10 @@ RefusesTexts n c = (named : NamesFiles c.given.words) (bytes : Text) → c.given
 abbrev pub MissesFiles : ℕ → Call → Type 0
 MissesFiles n c = (named : NamesFiles c.given.words) → c.absent named.workload → (n ≡ 5) ⊎ (n ≡ 7)
 
+-- nor can the lives, if no file has their name, which is observable, and the workload is known
+abbrev pub MissesLives : ℕ → Call → Type 0
+MissesLives n c = (W : Parts) (tells : TellsWorkload c W) → c.absent tells.named.lives → (n ≡ 5) ⊎ (n ≡ 7)
+
 -- if the words do not name two files, they are refused
 abbrev pub RefusesWords : ℕ → Call → Type 0
 RefusesWords n c = AsksNothing c.given.words → (n ≡ 2) ⊎ (n ≡ 7)
@@ -144,6 +148,7 @@ pub record IsAnswered (n : ℕ) (c : Call) : Type 0 where
   pub words : RefusesWords n c
   pub spends : SpendsNone n c
   pub absent : MissesFiles n c
+  pub missing : MissesLives n c
   pub reads : (Grew c.left.read_faults → ⊥) → n ≢ 5
   pub faulty : HasReadFault c.left → (n ≡ 5) ⊎ (n ≡ 7)
   pub writes : (Grew c.left.out_faults → ⊥) → n ≢ 6

@@ -1,10 +1,11 @@
 //! The top call.
 
-ghost use Rattle.std.specs.Prelude.{◌≡◌, ◌≢◌, ◌≤◌, List, IfErr, IfOk, IfSome, IsErrOf, length, map, string_bytes};
+ghost use Rattle.std.specs.Prelude.{◌≡◌, ◌≢◌, ◌≤◌, List, IfErr, IfOk, IfSome, IsErrAnd, IsErrOf, length, map, string_bytes};
 ghost use Rattle.abt_machine.specs.Words.{Text};
 ghost use Rattle.abt_order.specs.Stored.{shapes_of};
 ghost use Rattle.abt_report.specs.Pictures.{IsPictureOf};
 ghost use Rattle.abt_run.specs.Given.{given};
+ghost use Rattle.abt_run.specs.Prepared.{LacksSecond};
 ghost use Rattle.abt_shell.specs.Calls.{left};
 ghost use Rattle.abt_shell.specs.declared.status.Stop.TheVariants.{CannotRead};
 ghost use Rattle.abt_lives.specs.Call.{IsAnswered, RanOnLives, StopsLives, waves_output};
@@ -84,6 +85,7 @@ fn fetch_lives<F: Files>(
     ensures are { IfOk result (λ lives. AreLives w.now lives) }
     ensures reads { IfOk result (λ lives. IfSome (F.file files.old file.now) (λ bytes. ReadsLives w.now bytes lives)) }
     ensures stop { IfErr result (HasNoLives w.now (F.file files.old file.now) (F.faults files.old, F.faults files.new)) }
+    ensures absent { F.absent files.old file.now → IsErrOf result CannotRead }
     ensures faulty { F.faults files.new ≢ F.faults files.old → IsErrOf result CannotRead }
     ensures later { F.faults files.old ≤ F.faults files.new }
 {
@@ -114,6 +116,7 @@ fn prepare_files<R: Threads + Wait + Sync, F: Files, P: Pace + Sync>(
     ensures stop { (words : List Text) → Asks words workload.now lives.now
         → IfErr result (StopsLives (given words (shapes_of orders.now) (λ name. F.file files.old name)) (F.faults files.old, F.faults files.new)) }
     ensures absent { F.absent files.old workload.now → IsErrOf result CannotRead }
+    ensures missing { F.absent files.old lives.now → IsErrAnd result (LacksSecond (F.file files.old workload.now) (F.faults files.old, F.faults files.new)) }
     ensures faulty { F.faults files.new ≢ F.faults files.old → IsErrOf result CannotRead }
     ensures later { F.faults files.old ≤ F.faults files.new }
 {
@@ -137,6 +140,8 @@ fn prepare<R: Threads + Wait + Sync, F: Files, P: Pace + Sync>(
     ensures done { IfOk result (λ p. RanOnLives (given (map string_bytes words.now) (shapes_of orders.now) (λ name. F.file files.old name)) p.journal p.outcome p.text.items) }
     ensures stop { IfErr result (StopsLives (given (map string_bytes words.now) (shapes_of orders.now) (λ name. F.file files.old name)) (F.faults files.old, F.faults files.new)) }
     ensures absent { (workload lives : Text) → Asks (map string_bytes words.now) workload lives → F.absent files.old workload → IsErrOf result CannotRead }
+    ensures missing { (workload lives : Text) → Asks (map string_bytes words.now) workload lives → F.absent files.old lives
+        → IsErrAnd result (LacksSecond (F.file files.old workload) (F.faults files.old, F.faults files.new)) }
     ensures faulty { F.faults files.new ≢ F.faults files.old → IsErrOf result CannotRead }
     ensures later { F.faults files.old ≤ F.faults files.new }
 {

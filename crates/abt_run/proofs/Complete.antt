@@ -1,5 +1,5 @@
 -- Which status a call answers if its cause holds.
-use Rattle.std.proofs.Common.{◌≡◌, ◌≢◌, ◌<◌, ◌≤◌, ◌⊎◌, ℕ, List, [], ◌∷◌, length, Some, inl, inr, refl, sym, ap, subst, ◌∙◌, arith}
+use Rattle.std.proofs.Common.{◌≡◌, ◌≢◌, ◌<◌, ◌≤◌, ◌⊎◌, ℕ, List, [], ◌∷◌, length, Option, Some, inl, inr, refl, sym, ap, subst, ◌∙◌, arith}
 use Rattle.std.specs.Prelude.{IfSome}
 use Rattle.std.proofs.lemmas.List.{take_all}
 use Rattle.abt_machine.specs.declared.events.Event.{Event}
@@ -29,6 +29,7 @@ use Rattle.abt_words.proofs.OneCommand.{one-command}
 use Rattle.abt_workload.proofs.RoundTrip.{only-valid}
 use Rattle.abt_report.specs.Journals.{IsNoJournalAt, IsTextOf}
 use Rattle.abt_report.proofs.Limits.{not-both}
+use Rattle.abt_shell.specs.declared.status.Stop.{Stop}
 use Rattle.abt_shell.specs.declared.status.Stop.TheVariants.{BadWords, BadLine, CannotRead, OutOfMemory}
 use Rattle.abt_shell.specs.declared.status.Wrong.TheVariants.{Workload, Journal, Lives}
 use Rattle.abt_shell.specs.Calls.{EndsBy, HasReadFault, Holds, IsStill}
@@ -36,8 +37,9 @@ use Rattle.abt_shell.specs.Status.{Status, Concluded, Stopped, CannotWrite, numb
 use Rattle.abt_shell.specs.Told.{Grew}
 use Rattle.abt_shell.proofs.Calls.{reads-well, writes-well}
 use Rattle.abt_shell.proofs.Fetched.{of-observed}
-use Rattle.abt_run.specs.Call.{Call, Decides, IsAnswered, IsOfRun, MissesFiles, RunsKnown, program}
+use Rattle.abt_run.specs.Call.{Call, Decides, IsAnswered, IsOfRun, MissesFiles, MissesJournals, RunsKnown, program}
 use Rattle.abt_run.specs.Given.{Compares, Given, IsReadFrom, SaysNothing, Tells, workload_file}
+use Rattle.abt_run.specs.Prepared.{HasNoWorkload, LacksSecond}
 use Rattle.abt_run.specs.Printed.{AsksFlow, HasVerdict, IsFor, Prints, Ran, steps_for}
 use Rattle.abt_run.specs.Status.{number_of_conclusion}
 use Rattle.abt_run.specs.declared.status.Conclusion.{Conclusion}
@@ -74,6 +76,17 @@ module _ (g : Given) (file : Text) where
 
   not-journal : (K : List Event) → Tells g file (λ bytes. (J : List Event) → IsTextOf J bytes → ⊥) → IfSome (g.file file) (IsTextOf K) → ⊥
   not-journal K tells is = tells.2 K (of-observed (IsTextOf K) (g.file file) tells.0 tells.1 is)
+
+-- a workload that is known is no reason to stop
+pub lacks-second : (told : Option Text) (bytes : Text) (W : Parts) (faults : ℕ × ℕ) (s : Stop) → told ≡ Some bytes → Reads bytes W → LacksSecond told faults s → (s ≡ CannotRead) ⊎ (s ≡ OutOfMemory)
+lacks-second told bytes W faults s seen reads lacks = elim lacks [ inl read ↦ inl read | inr none ↦ by s none ] where
+  by : (s : Stop) → HasNoWorkload told faults s → (s ≡ CannotRead) ⊎ (s ≡ OutOfMemory)
+  by BadWords none = absurd none
+  by (BadLine line (Workload f)) none = absurd (reads-whole bytes W line f reads (of-observed (λ text. Refuses text line f) told bytes seen none))
+  by (BadLine line Journal) none = absurd none
+  by (BadLine line Lives) none = absurd none
+  by CannotRead none = inl refl
+  by OutOfMemory none = inr refl
 
 -- Commands.
 
@@ -371,8 +384,8 @@ none-concludes n high NotConfluent = λ e. absurd (omega arith)
 none-concludes n high Undefined = λ e. absurd (omega arith)
 
 -- a call that ended with this exit status is answered
-pub answered : (n : ℕ) (c : Call) → 2 ≤ length c.given.orders → EndsBy (program c) c.left n → MissesFiles n c → (HasReadFault c.left → (n ≡ 5) ⊎ (n ≡ 7)) → IsAnswered n c
-answered n c two ends absent faulty = by ends.0 ends.1 ends.2 where
+pub answered : (n : ℕ) (c : Call) → 2 ≤ length c.given.orders → EndsBy (program c) c.left n → MissesFiles n c → MissesJournals n c → (HasReadFault c.left → (n ≡ 5) ⊎ (n ≡ 7)) → IsAnswered n c
+answered n c two ends absent missing faulty = by ends.0 ends.1 ends.2 where
   by : (s : Status Conclusion) → n ≡ number_of number_of_conclusion s → Holds (program c) c.left s → IsAnswered n c
   by s is h = subst (λ m. IsAnswered m c) (sym is) (record {
     cause = (s, refl, h);
@@ -384,6 +397,7 @@ answered n c two ends absent faulty = by ends.0 ends.1 ends.2 where
     words = refuses-words s c h;
     spends = λ d W says known none few. spends s c d W h two says known none few;
     absent = subst (λ m. MissesFiles m c) is absent;
+    missing = subst (λ m. MissesJournals m c) is missing;
     reads = reads-well (program c) c.left (none-concludes 5 (omega arith)) (λ cause. cause.why.1) s h;
     faulty = subst (λ m. HasReadFault c.left → (m ≡ 5) ⊎ (m ≡ 7)) is faulty;
     writes = writes-well (program c) c.left (none-concludes 6 (omega arith)) s h;

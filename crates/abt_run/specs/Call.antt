@@ -91,6 +91,11 @@ RefusesJournals n c = (workload journal : Text) (W : Parts) → Says c.given.wor
 abbrev pub MissesFiles : ℕ → Call → Type 0
 MissesFiles n c = (command : Command) (file : Text) → Says c.given.words command → workload_file command ≡ Some file → c.absent file → (n ≡ 5) ⊎ (n ≡ 7)
 
+-- nor can a journal, if no file has its name, which is observable, and the workload is known
+abbrev pub MissesJournals : ℕ → Call → Type 0
+MissesJournals n c = (workload journal : Text) (W : Parts) → Says c.given.words (command.Check workload journal) → Tells c.given workload (λ bytes. Reads bytes W)
+    → c.absent journal → (n ≡ 5) ⊎ (n ≡ 7)
+
 -- if the words are not a command, they are refused
 abbrev pub RefusesWords : ℕ → Call → Type 0
 RefusesWords n c = SaysNothing c.given.words → (n ≡ 2) ⊎ (n ≡ 7)
@@ -110,6 +115,7 @@ pub record IsAnswered (n : ℕ) (c : Call) : Type 0 where
   pub words : RefusesWords n c
   pub spends : SpendsNone n c
   pub absent : MissesFiles n c
+  pub missing : MissesJournals n c
   pub reads : (Grew c.left.read_faults → ⊥) → n ≢ 5
   pub faulty : HasReadFault c.left → (n ≡ 5) ⊎ (n ≡ 7)
   pub writes : (Grew c.left.out_faults → ⊥) → n ≢ 6

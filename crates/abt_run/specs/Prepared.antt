@@ -1,11 +1,12 @@
 -- Why a command is not carried out.
-use Rattle.std.specs.Prelude.{ℕ, Option, IfSome}
+use Rattle.std.specs.Prelude.{ℕ, ◌≡◌, ◌⊎◌, Option, IfSome}
 use Rattle.abt_machine.specs.declared.workload.Parts.{Parts}
 use Rattle.abt_machine.specs.Grammar.{Refuses}
 use Rattle.abt_machine.specs.Words.{Text}
 use Rattle.abt_report.specs.Journals.{IsNoJournalAt}
 use Rattle.abt_shell.specs.Fetched.{HasNot, StopsFor}
 use Rattle.abt_shell.specs.declared.status.Stop.{Stop}
+use Rattle.abt_shell.specs.declared.status.Stop.TheVariants.{CannotRead}
 use Rattle.abt_shell.specs.declared.status.Wrong.{Wrong}
 use Rattle.abt_shell.specs.declared.status.Wrong.TheVariants.{Workload, Journal, Lives}
 use Rattle.abt_run.specs.Given.{Compares, Given, NamesFile, NamesSuch, SaysNothing}
@@ -31,3 +32,7 @@ IsNoWorkload told line Lives = ⊥
 -- why the file has no workload
 abbrev pub HasNoWorkload : Option Text → ℕ × ℕ → Stop → Type 0
 HasNoWorkload told = HasNot (IsNoWorkload told)
+
+-- two files are to be read, of which the first has the workload: the second cannot be read, or the first has no workload
+abbrev pub LacksSecond : Option Text → ℕ × ℕ → Stop → Type 0
+LacksSecond told faults stop = (stop ≡ CannotRead) ⊎ HasNoWorkload told faults stop

@@ -1,13 +1,13 @@
 //! The command `check`.
 
-ghost use Rattle.std.specs.Prelude.{◌≡◌, ◌≢◌, ◌<◌, ◌≤◌, ◌+◌, ◌^◌, IfErr, IfOk, IsErrOf, List, length};
+ghost use Rattle.std.specs.Prelude.{◌≡◌, ◌≢◌, ◌<◌, ◌≤◌, ◌+◌, ◌^◌, IfErr, IfOk, IsErrAnd, IsErrOf, List, length};
 ghost use Rattle.abt_machine.specs.Words.{Text};
 ghost use Rattle.abt_order.specs.Stored.{shapes_of};
 ghost use Rattle.abt_words.specs.Commands.{Says};
 ghost use Rattle.abt_words.specs.declared.commands.Command.TheVariants as command;
 ghost use Rattle.abt_check.specs.declared.verdict.Verdict.TheVariants as verdict;
 ghost use Rattle.abt_run.specs.Given.{given};
-ghost use Rattle.abt_run.specs.Prepared.{StopsCommand};
+ghost use Rattle.abt_run.specs.Prepared.{LacksSecond, StopsCommand};
 ghost use Rattle.abt_run.specs.Printed.{HasShortCount, Prints, verdict_text};
 ghost use Rattle.abt_shell.specs.declared.status.Stop.TheVariants.{CannotRead};
 
@@ -36,6 +36,7 @@ pub(crate) fn prepare_check<F: Files>(
     ensures stop { (words : List Text) → Says words (command.Check workload.now journal.now)
         → IfErr result (StopsCommand (given words (shapes_of orders.now) (λ name. F.file files.old name)) (F.faults files.old, F.faults files.new)) }
     ensures absent { F.absent files.old workload.now → IsErrOf result CannotRead }
+    ensures missing { F.absent files.old journal.now → IsErrAnd result (LacksSecond (F.file files.old workload.now) (F.faults files.old, F.faults files.new)) }
     ensures faulty { F.faults files.new ≢ F.faults files.old → IsErrOf result CannotRead }
     ensures later { F.faults files.old ≤ F.faults files.new }
 {

@@ -1,13 +1,14 @@
 //! The top call.
 
-ghost use Rattle.std.specs.Prelude.{◌≡◌, ◌≢◌, ◌≤◌, ◌⊎◌, IfErr, IfOk, IsErrOf, Some, length, map, string_bytes};
+ghost use Rattle.std.specs.Prelude.{◌≡◌, ◌≢◌, ◌≤◌, ◌⊎◌, IfErr, IfOk, IsErrAnd, IsErrOf, Some, length, map, string_bytes};
 ghost use Rattle.abt_machine.specs.Words.{Text};
 ghost use Rattle.abt_order.specs.Stored.{shapes_of};
 ghost use Rattle.abt_words.specs.Commands.{Says};
 ghost use Rattle.abt_words.specs.declared.commands.Command.{Command};
+ghost use Rattle.abt_words.specs.declared.commands.Command.TheVariants.{Check};
 ghost use Rattle.abt_run.specs.Call.{IsAnswered};
 ghost use Rattle.abt_run.specs.Given.{given, workload_file};
-ghost use Rattle.abt_run.specs.Prepared.{StopsCommand};
+ghost use Rattle.abt_run.specs.Prepared.{LacksSecond, StopsCommand};
 ghost use Rattle.abt_run.specs.Printed.{Prints};
 ghost use Rattle.abt_shell.specs.Calls.{left};
 ghost use Rattle.abt_shell.specs.declared.status.Stop.TheVariants.{CannotRead, OutOfMemory};
@@ -41,6 +42,8 @@ fn prepare<R: Threads + Wait + Sync, F: Files, P: Pace + Sync>(
     ensures stop { IfErr result (StopsCommand (given (map string_bytes words.now) (shapes_of orders.now) (λ name. F.file files.old name)) (F.faults files.old, F.faults files.new)) }
     ensures absent { (command : Command) (file : Text) → Says (map string_bytes words.now) command → workload_file command ≡ Some file → F.absent files.old file
         → IsErrOf result CannotRead ⊎ IsErrOf result OutOfMemory }
+    ensures missing { (workload journal : Text) → Says (map string_bytes words.now) (Check workload journal) → F.absent files.old journal
+        → IsErrAnd result (LacksSecond (F.file files.old workload) (F.faults files.old, F.faults files.new)) }
     ensures faulty { F.faults files.new ≢ F.faults files.old → IsErrOf result CannotRead }
     ensures later { F.faults files.old ≤ F.faults files.new }
 {

@@ -54,8 +54,12 @@ pub stops-file : (N F : Type 0) (B D : ℕ → Wrong → Type 0) (faults more : 
 stops-file N F B D faults more named = stops-more ⊥ N ⊤ F B D faults more (λ no. absurd no) (λ known. named)
 
 -- what is passed on by `?` stops for the reason that was found
+pub passed-on : {T : Type 0} (r : Result T Stop) (s : Stop) (P : Stop → Type 0) → IsErrAnd r (λ y. y ≡ s) → P s → IsErrAnd r P
+passed-on (Err y) s P same h = subst P (sym same) h
+passed-on (Ok x) s P same h = absurd same
+
 pub passed : {T : Type 0} (r : Result T Stop) (s : Stop) (P : Stop → Type 0) → IsErrAnd r (λ y. y ≡ s) → P s → IfErr r P
-passed (Err y) s P same h = subst P (sym same) h
+passed {T} (Err y) s P same h = passed-on {T = T} (Err y) s P same h
 passed (Ok x) s P same h = absurd same
 
 -- the line that keeps bytes from being a journal's text, by the cause that their reader states

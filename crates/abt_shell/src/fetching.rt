@@ -29,6 +29,7 @@ pub fn bytes_of<F: Files>(
     ensures absent { F.absent files.old file.now → IsErrOf result CannotRead }
     ensures faulty { F.faults files.new ≢ F.faults files.old → IsErrOf result CannotRead }
     ensures same { (name : List ℕ) → F.file files.new name ≡ F.file files.old name }
+    ensures missing { (name : List ℕ) → F.absent files.old name → F.absent files.new name }
     ensures later { F.faults files.old ≤ F.faults files.new }
 {
     match read_all(alloc, files, file, most) {

@@ -32,7 +32,7 @@ pub trait Files {
     /// The bytes of a name, if they are observable. No call changes them.
     ghost file: { Self → List ℕ → Option (List ℕ) };
 
-    /// That no file has the name, if that is observable.
+    /// That no file has the name, if that is observable. It stays so.
     ghost absent: { Self → List ℕ → Type 0 };
 
     /// The bytes that are left of the file that was begun last, if they are observable.
@@ -45,6 +45,7 @@ pub trait Files {
     fn begin(&mut self, name: &str) -> Result<(), NotFetched>
         ensures file { (n : List ℕ) → file self.new n ≡ file self.old n }
         ensures absent { absent self.old name.now → IsErrOf result NotFetched.Failed }
+        ensures missing { (n : List ℕ) → absent self.old n → absent self.new n }
         ensures left { OnOk result (left self.new ≡ file self.old name.now) }
         ensures nothing { OnErr result (NothingLeft (left self.new)) }
         ensures later { faults self.old ≤ faults self.new }
@@ -56,6 +57,7 @@ pub trait Files {
     fn read(&mut self, into: &mut [u8]) -> Result<usize, Failed>
         requires { 0 < length into.old }
         ensures file { (n : List ℕ) → file self.new n ≡ file self.old n }
+        ensures missing { (n : List ℕ) → absent self.old n → absent self.new n }
         ensures bound { IfOk result (λ n. n ≤ length into.new) }
         ensures gives { ReadGives (left self.old) (left self.new) result into.new }
         ensures later { faults self.old ≤ faults self.new }
@@ -92,6 +94,7 @@ pub fn read_all<F: Files>(
     ensures memory { IsErrOf result NotFetched.Memory → F.faults files.new ≡ F.faults files.old }
 
     ensures file { (n : List ℕ) → F.file files.new n ≡ F.file files.old n }
+    ensures missing { (n : List ℕ) → F.absent files.old n → F.absent files.new n }
     ensures later { F.faults files.old ≤ F.faults files.new }
 {
     files.begin(name)?;

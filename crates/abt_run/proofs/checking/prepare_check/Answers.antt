@@ -1,5 +1,6 @@
-use Rattle.std.proofs.Common.{refl}
-use Rattle.abt_shell.proofs.Fetched.{passed}
+use Rattle.std.proofs.Common.{inl, inr, refl}
+use Rattle.abt_shell.proofs.Calls.{not-stopped, stopped-by}
+use Rattle.abt_shell.proofs.Fetched.{passed, passed-on}
 use Rattle.abt_run.proofs.Preparing.{no-workload-stops, no-journal-stops}
 use Rattle.abt_run.proofs.checking.prepare_check.Goals as goal
 
@@ -12,3 +13,15 @@ returns-in_err-journal-clause-stop g c = λ words says.
     passed c.from_residual-in_err-journal.result c.in_err-journal.field-0.0 _ c.from_residual-in_err-journal.ensures.1
     (no-journal-stops c.in_err-journal.field-0.0 _ _ _ c.in_ok-w.w _ _ _ _ says c.in_ok-w.ensures.reads (c.in_ok-w.ensures.same c.args.journal.now)
     c.in_ok-w.ensures.later c.in_err-journal.ensures.later c.in_err-journal.ensures.stop)
+
+pub returns-in_err-w-clause-missing : goal.returns-in_err-w-clause-missing
+returns-in_err-w-clause-missing g c = λ gone.
+    passed-on c.from_residual.result c.in_err-w.field-0.0 _ c.from_residual.ensures.1 (inr c.in_err-w.ensures.stop)
+
+pub returns-in_err-journal-clause-missing : goal.returns-in_err-journal-clause-missing
+returns-in_err-journal-clause-missing g c = λ gone.
+    passed-on c.from_residual-in_err-journal.result c.in_err-journal.field-0.0 _ c.from_residual-in_err-journal.ensures.1
+    (inl (stopped-by _ _ (c.in_err-journal.ensures.absent (c.in_ok-w.ensures.missing c.args.journal.now gone))))
+
+pub returns-clause-missing : goal.returns-clause-missing
+returns-clause-missing g c = λ gone. absurd (not-stopped _ _ (c.in_ok-journal.ensures.absent (c.in_ok-w.ensures.missing c.args.journal.now gone)))

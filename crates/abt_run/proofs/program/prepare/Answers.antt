@@ -1,4 +1,4 @@
-use Rattle.std.proofs.Common.{inl, map, refl, string_bytes, subst, sym}
+use Rattle.std.proofs.Common.{◌∙◌, inl, map, refl, string_bytes, subst, sym}
 use Rattle.abt_words.specs.declared.commands.Command.TheVariants as command
 use Rattle.abt_words.specs.Commands.{Says}
 use Rattle.abt_run.proofs.Preparing.{no-file, one-file}
@@ -47,3 +47,15 @@ returns-in-Ok-Flow-clause-absent g c = λ d file says names gone.
     inl (c.prepare_flow.ensures.absent (subst (g.F.Files.absent c.args.files.now) (one-file (map string_bytes c.args.words.now) d _ file _ says
     (subst (λ f. Says (map string_bytes c.args.words.now) (command.Flow f)) (sym c.as_str-in-Ok-Flow.ensures)
     (subst (Says (map string_bytes c.args.words.now)) c.in-Ok-Flow.field-0-is c.in-Ok-Flow.ensures.said)) names refl) gone))
+
+pub returns-in-Ok-Run-clause-missing : goal.returns-in-Ok-Run-clause-missing
+returns-in-Ok-Run-clause-missing g c = λ workload journal says gone.
+    (let same = c.in-Ok-Run.ensures.only (command.Check workload journal) says ∙ c.in-Ok-Run.field-0-is in absurd (cc))
+
+pub returns-in-Ok-SelfRun-clause-missing : goal.returns-in-Ok-SelfRun-clause-missing
+returns-in-Ok-SelfRun-clause-missing g c = λ workload journal says gone.
+    (let same = c.in-Ok-SelfRun.ensures.only (command.Check workload journal) says ∙ c.in-Ok-SelfRun.field-0-is in absurd (cc))
+
+pub returns-in-Ok-Flow-clause-missing : goal.returns-in-Ok-Flow-clause-missing
+returns-in-Ok-Flow-clause-missing g c = λ workload journal says gone.
+    (let same = c.in-Ok-Flow.ensures.only (command.Check workload journal) says ∙ c.in-Ok-Flow.field-0-is in absurd (cc))

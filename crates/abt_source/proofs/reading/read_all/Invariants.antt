@@ -6,6 +6,7 @@ abbrev pub invariant-loop-piece : goal.invariant-loop-piece
 invariant-loop-piece g l = record {
   in_range : length l.bytes.items ≤ l.most + 1;
   file : (n : List ℕ) → g.F.Files.file l.files n ≡ g.F.Files.file l.fn.files n;
+  missing : (n : List ℕ) → g.F.Files.absent l.fn.files n → g.F.Files.absent l.files n;
   split : IsSplit (g.F.Files.file l.fn.files l.name) l.bytes.items (g.F.Files.left l.files);
   later : g.F.Files.faults l.fn.files ≤ g.F.Files.faults l.files;
   quiet : g.F.Files.faults l.files ≡ g.F.Files.faults l.fn.files;
