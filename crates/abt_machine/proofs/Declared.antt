@@ -4,6 +4,7 @@ use Rattle.std.specs.Prelude.{All, AllPairs}
 use Rattle.std.proofs.lemmas.List.{length-map}
 use Rattle.std.proofs.lemmas.List.Elements.{All-map, All-nil}
 use Rattle.std.proofs.lemmas.Option.{slice_get-get_or, slice_get_past}
+use Rattle.abt_machine.specs.declared.grammar.Format.TheVariants as format
 use Rattle.abt_machine.specs.declared.numbers.PoolNo.{PoolNo}
 use Rattle.abt_machine.specs.declared.numbers.SchedNo.{SchedNo}
 use Rattle.abt_machine.specs.declared.operations.Body.TheVariants as body
@@ -29,8 +30,8 @@ pub body-valid : (W : Parts) (u : ℕ) → IsValid W → IsBody (length W.scheds
 body-valid W u valid = at-place (λ (o : Option UnitPart). IsBody (length W.scheds) (body_from o)) W.units u tt (λ k d lt. (valid.units k d lt).kind)
 
 -- a unit has few operations
-pub few-unit-ops : (W : Parts) (u : ℕ) → IsValid W → length (ops_of (body_at W u)) ≤ unit_operation_limit
-few-unit-ops W u valid = at-place (λ (o : Option UnitPart). length (ops_of (body_from o)) ≤ unit_operation_limit) W.units u (omega arith) (λ k d lt. (valid.units k d lt).few_ops)
+pub few-unit-ops : (W : Parts) (u : ℕ) → IsValid W → length (ops_of (body_at W u)) ≤ unit_operation_limit format.Three
+few-unit-ops W u valid = at-place (λ (o : Option UnitPart). length (ops_of (body_from o)) ≤ unit_operation_limit format.Three) W.units u (omega arith) (λ k d lt. (valid.units k d lt).few_ops)
 
 -- what an operation of a unit names is declared
 pub op-declared : (W : Parts) (u k : ℕ) (o : Op) → IsValid W → op_at W u k ≡ Some o → IsDeclared W o

@@ -3,6 +3,7 @@ pub mod Classes
 pub mod Decimals
 pub mod Declared
 pub mod Distinct
+pub mod Divisors
 pub mod Elements
 pub mod Placing
 pub mod Saying

@@ -4,6 +4,7 @@ use Rattle.std.specs.Prelude.{All, AllPairs, option_and_then}
 use Rattle.std.proofs.lemmas.Bool.{and_from, and_parts, lt-ltb, ltb-true, not-true, not_from_false}
 use Rattle.std.proofs.lemmas.List.Elements.{All-cons}
 use Rattle.std.proofs.lemmas.List.Kept.{AllPairs-cons}
+use Rattle.abt_machine.specs.declared.grammar.Format.TheVariants as format
 use Rattle.abt_machine.specs.Checks.{place, places}
 use Rattle.abt_machine.specs.Limits.{sched_limit}
 
@@ -84,24 +85,24 @@ never (suc n) (suc k) = never n k
 
 -- schedulers of a table of as many as there may be, apart
 abbrev pub HaveOwnPlaces : List ℕ → Type 0
-HaveOwnPlaces xs = All (λ g. g < sched_limit) xs × AllPairs (λ a b. a ≢ b) xs
+HaveOwnPlaces xs = All (λ g. g < sched_limit format.Three) xs × AllPairs (λ a b. a ≢ b) xs
 
 -- a test that says whether all were placed says whether they are apart
-pub own-places : (b : Bool) (xs : List ℕ) (o : Option (List Bool)) → o ≡ places xs (replicate sched_limit false) → b ≡ is_some o → IsTrue b ↔ HaveOwnPlaces xs
+pub own-places : (b : Bool) (xs : List ℕ) (o : Option (List Bool)) → o ≡ places xs (replicate (sched_limit format.Three) false) → b ≡ is_some o → IsTrue b ↔ HaveOwnPlaces xs
 own-places b xs None is e = (
   λ t. cc,
   λ h. absurd
-      (let some = free-placed xs (replicate sched_limit false) (record { below = h.0; apart = h.1; free = λ k d within. never sched_limit (get_or xs k d) }) in
-      let none : is_some (places xs (replicate sched_limit false)) ≡ false = ap is_some (sym is) in
+      (let some = free-placed xs (replicate (sched_limit format.Three) false) (record { below = h.0; apart = h.1; free = λ k d within. never (sched_limit format.Three) (get_or xs k d) }) in
+      let none : is_some (places xs (replicate (sched_limit format.Three) false)) ≡ false = ap is_some (sym is) in
       let P : ⊥ = cc in P),
 )
-own-places b xs (Some new) is e = (λ t. let h = placed-free xs (replicate sched_limit false) new (sym is) in (h.below, h.apart), λ h. e)
+own-places b xs (Some new) is e = (λ t. let h = placed-free xs (replicate (sched_limit format.Three) false) new (sym is) in (h.below, h.apart), λ h. e)
 
 -- the second test decides, if the first passed
-pub own-then : (m b : Bool) (t1 t2 : List Bool) (xs ys : List ℕ) → m ≡ true → cond m (Some t1) None ≡ places xs (replicate sched_limit false) → cond b (Some t2) None ≡ places ys t1 → IsTrue b ↔ HaveOwnPlaces (xs ++ ys)
+pub own-then : (m b : Bool) (t1 t2 : List Bool) (xs ys : List ℕ) → m ≡ true → cond m (Some t1) None ≡ places xs (replicate (sched_limit format.Three) false) → cond b (Some t2) None ≡ places ys t1 → IsTrue b ↔ HaveOwnPlaces (xs ++ ys)
 own-then m b t1 t2 xs ys was first then =
     own-places b (xs ++ ys) (cond b (Some t2) None)
-    (then ∙ ap (option_and_then (places ys)) (sym (ap (λ (t : Bool). cond t (Some t1) None) was) ∙ first) ∙ sym (places-append xs ys (replicate sched_limit false)))
+    (then ∙ ap (option_and_then (places ys)) (sym (ap (λ (t : Bool). cond t (Some t1) None) was) ∙ first) ∙ sym (places-append xs ys (replicate (sched_limit format.Three) false)))
     (by b)
   where
     by : (c : Bool) → c ≡ is_some (cond c (Some t2) None)
@@ -109,8 +110,8 @@ own-then m b t1 t2 xs ys was first then =
     by false = refl
 
 -- the first test decides, if it failed
-pub own-else : (m : Bool) (t : List Bool) (xs ys : List ℕ) → m ≡ false → cond m (Some t) None ≡ places xs (replicate sched_limit false) → IsTrue m ↔ HaveOwnPlaces (xs ++ ys)
+pub own-else : (m : Bool) (t : List Bool) (xs ys : List ℕ) → m ≡ false → cond m (Some t) None ≡ places xs (replicate (sched_limit format.Three) false) → IsTrue m ↔ HaveOwnPlaces (xs ++ ys)
 own-else m t xs ys was first =
     own-places m (xs ++ ys) None
-    (ap (option_and_then (places ys)) (sym (ap (λ (c : Bool). cond c (Some t) None) was) ∙ first) ∙ sym (places-append xs ys (replicate sched_limit false)))
+    (ap (option_and_then (places ys)) (sym (ap (λ (c : Bool). cond c (Some t) None) was) ∙ first) ∙ sym (places-append xs ys (replicate (sched_limit format.Three) false)))
     was

@@ -1,6 +1,6 @@
 -- The one text in which a workload is written.
 use Rattle.std.specs.Prelude.{ℕ, zero, suc, ◌&&◌, Bool, if◌then◌else◌, List, [], ◌∷◌, ◌++◌, length, nat_le, map, flat_map, Option, Some, None, slice_index_or, decimal}
-use Rattle.std.specs.List.{enumerate_from}
+use Rattle.std.specs.List.{enumerate_from, list_all}
 use Rattle.abt_machine.specs.declared.grammar.Form.{Form}
 use Rattle.abt_machine.specs.declared.grammar.Form.TheVariants as form
 use Rattle.abt_machine.specs.declared.grammar.Format.{Format}
@@ -23,11 +23,11 @@ use Rattle.abt_machine.specs.declared.workload.Parts.{Parts}
 use Rattle.abt_machine.specs.declared.workload.PoolPart.{PoolPart}
 use Rattle.abt_machine.specs.declared.workload.SchedPart.{SchedPart}
 use Rattle.abt_machine.specs.declared.workload.UnitPart.{UnitPart}
-use Rattle.abt_machine.specs.Forms.{Slot, Fixed, KindWord, CombineWord, AnyWord, Numeral, PoolList, combine_name, kind_name, slots}
-use Rattle.abt_machine.specs.Limits.{stream_limit, text_limit, unit_limit}
+use Rattle.abt_machine.specs.Forms.{Slot, Fixed, KindWord, CombineWord, AnyWord, Numeral, PoolList, combine_name, is_in, kind_name, slots}
+use Rattle.abt_machine.specs.Limits.{object_limit, operation_limit, pool_limit, sched_limit, stream_limit, text_limit, unit_limit, unit_operation_limit}
 use Rattle.abt_machine.specs.Numbers.{truth}
 use Rattle.abt_machine.specs.Words.{Text, text_of, numbered}
-use Rattle.abt_machine.specs.Workloads.{ops_of}
+use Rattle.abt_machine.specs.Workloads.{all_ops, ops_of}
 
 -- Lines of a form.
 
@@ -145,6 +145,8 @@ op_numbers (op.WriteLock x) = x.0 ∷ []
 op_numbers (op.RwUnlock x) = x.0 ∷ []
 op_numbers (op.RwLoad x) = x.0 ∷ []
 op_numbers (op.RwStore x) = x.0 ∷ []
+op_numbers (op.Calc c k) = k ∷ []
+op_numbers (op.Call f) = f ∷ []
 
 -- the word that it says, if it says one
 abbrev pub op_word : Parts → Op → Text
@@ -216,13 +218,23 @@ workload_lines F W =
 abbrev pub text_in : Format → Parts → Text
 text_in F W = text_of (workload_lines F W)
 
--- a format allows as many streams and units as this workload has, and as many bytes as its text has in that format
-abbrev pub has_text : Format → Parts → Bool
-has_text F W = nat_le W.streams (stream_limit F) && nat_le (length W.units) (unit_limit F) && nat_le (length (text_in F W)) (text_limit F)
+-- a format allows this unit's operations: as many as it has, and each of them
+abbrev pub has_unit : Format → UnitPart → Bool
+has_unit F part = nat_le (length (ops_of part.body)) (unit_operation_limit F) && list_all (λ o. is_in F (form.Operation o)) (ops_of part.body)
 
--- a workload is written in format 1 exactly if format 1 has a text of it
+-- a format allows as many parts of each kind as this workload has, and its operations
+abbrev pub has_parts : Format → Parts → Bool
+has_parts F W =
+    nat_le W.streams (stream_limit F) && nat_le (length W.pools) (pool_limit F) && nat_le (length W.scheds) (sched_limit F) && nat_le (length W.objects) (object_limit F) &&
+    nat_le (length W.units) (unit_limit F) && nat_le (length (all_ops W.units)) (operation_limit F) && list_all (has_unit F) W.units
+
+-- a format has a text of this workload: it allows its parts, and as many bytes as its text has in that format
+abbrev pub has_text : Format → Parts → Bool
+has_text F W = has_parts F W && nat_le (length (text_in F W)) (text_limit F)
+
+-- a workload is written in the least format that has a text of it
 abbrev pub format_for : Parts → Format
-format_for W = if has_text format.One W then format.One else format.Two
+format_for W = if has_text format.One W then format.One else (if has_text format.Two W then format.Two else format.Three)
 
 abbrev pub canonical_text : Parts → Text
 canonical_text W = text_in (format_for W) W

@@ -89,6 +89,8 @@ reached_code W S u (op.WriteLock x) = unless (not (holds u (S.rwlock x.0))) code
 reached_code W S u (op.RwUnlock x) = unless (holds u (S.rwlock x.0)) code.NotHolder code.Ok
 reached_code W S u (op.RwLoad x) = unless (holds u (S.rwlock x.0)) code.NotHolder code.Ok
 reached_code W S u (op.RwStore x) = unless (writes u (S.rwlock x.0)) code.NotHolder code.Ok
+reached_code W S u (op.Calc c k) = code.Ok
+reached_code W S u (op.Call f) = code.Ok
 
 -- the code of an operation of unit u in the hand of stream s
 abbrev pub code_of : Parts → State → ℕ → ℕ → Op → Code

@@ -222,6 +222,8 @@ op_with (op.WriteLock x) said numbers = op.WriteLock (object_no (at numbers 0))
 op_with (op.RwUnlock x) said numbers = op.RwUnlock (object_no (at numbers 0))
 op_with (op.RwLoad x) said numbers = op.RwLoad (object_no (at numbers 0))
 op_with (op.RwStore x) said numbers = op.RwStore (object_no (at numbers 0))
+op_with (op.Calc c k) said numbers = op.Calc c (at numbers 0)
+op_with (op.Call f) said numbers = op.Call (at numbers 0)
 
 -- the words that an operation's line says
 abbrev pub said_in : Op → List Text → List Text

@@ -37,6 +37,7 @@ what_site W s (what.Miss p) = Some (site.Pool p)
 what_site W s (what.Take p u) = Some (site.Pool p)
 what_site W s (what.Look u) = Some (site.Desk u)
 what_site W s (what.Step u k c) = step_site W s u.0 k
+what_site W s (what.Call u k n) = None
 what_site W s (what.Put u p) = Some (site.Pool p)
 what_site W s (what.End u c) = Some (site.Desk u)
 what_site W s (what.Enter u) = None

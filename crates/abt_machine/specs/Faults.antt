@@ -42,9 +42,9 @@ is_skipped (word ∷ words) = begins_comment word
 
 -- Version.
 
--- it is the first line that is not skipped, and its words are neither `abt`, `1` nor `abt`, `2`
+-- it is the first line that is not skipped, and its words are neither `abt`, `1` nor `abt`, `2` nor `abt`, `3`
 abbrev pub is_no_version : Above → List Text → Bool
-is_no_version a words = not a.begun && not (fits (slots (form.Version format.One)) words || fits (slots (form.Version format.Two)) words)
+is_no_version a words = not a.begun && not (fits (slots (form.Version format.One)) words || fits (slots (form.Version format.Two)) words || fits (slots (form.Version format.Three)) words)
 
 -- Unknown.
 
@@ -137,6 +137,8 @@ abbrev pub is_there : Above → Number → ℕ → Bool
 is_there a (number.Within low high) n = true
 is_there a number.StreamCount n = true
 is_there a number.UnitCount n = true
+is_there a number.Copies n = true
+is_there a number.Times n = true
 is_there a number.NewPool n = nat_le n (length a.pools)
 is_there a number.NewSched n = nat_le n (length a.scheds)
 is_there a number.NewObject n = nat_le n (length a.objects)
@@ -170,20 +172,22 @@ abbrev pub is_within : Format → Number → ℕ → Bool
 is_within F (number.Within low high) n = nat_le low n && nat_le n high
 is_within F number.StreamCount n = nat_le 1 n && nat_le n (stream_limit F)
 is_within F number.UnitCount n = nat_le n (unit_limit F)
+is_within F number.Copies n = nat_le 1 n && nat_le n (unit_limit F)
+is_within F number.Times n = nat_le 1 n && nat_le n (unit_operation_limit F)
 is_within F kind n = true
 
 -- a unit has too many operations with n more
-abbrev pub is_long : Option UnitPart → ℕ → Bool
-is_long None n = false
-is_long (Some part) n = nat_lt unit_operation_limit (length (ops_of part.body) + n)
+abbrev pub is_long : Format → Option UnitPart → ℕ → Bool
+is_long F None n = false
+is_long F (Some part) n = nat_lt (unit_operation_limit F) (length (ops_of part.body) + n)
 
 -- all units have too many operations, if each that the last `unit` or `many` line declares has n more
 abbrev pub is_crowded : Above → ℕ → Bool
-is_crowded a n = nat_lt operation_limit (length (all_ops (units_of a)) + a.copies * n)
+is_crowded a n = nat_lt (operation_limit a.format) (length (all_ops (units_of a)) + a.copies * n)
 
 -- the last unit must not have n operations more
 abbrev pub has_no_room : Above → ℕ → Bool
-has_no_room a n = is_long a.last n || is_crowded a n
+has_no_room a n = is_long a.format a.last n || is_crowded a n
 
 -- a said word of more bytes than it may have
 abbrev pub is_long_word : Op → List Text → Bool
@@ -193,9 +197,9 @@ is_long_word o words = false
 -- there are as many as there may be: pools, schedulers or pools of one, objects, operations of a unit or of all units, or bytes
 -- of a word; the numbers of streams, keys and units are looked at by themselves
 abbrev pub is_past_limit : Above → Form → List Text → List ℕ → Bool
-is_past_limit a (form.Pool access) words numbers = nat_le pool_limit (length a.pools)
-is_past_limit a (form.Sched rule) words numbers = nat_le sched_limit (length a.scheds) || nat_lt listed_limit (length (listed rule numbers))
-is_past_limit a (form.Object thing) words numbers = nat_le object_limit (length a.objects)
+is_past_limit a (form.Pool access) words numbers = nat_le (pool_limit a.format) (length a.pools)
+is_past_limit a (form.Sched rule) words numbers = nat_le (sched_limit a.format) (length a.scheds) || nat_lt listed_limit (length (listed rule numbers))
+is_past_limit a (form.Object thing) words numbers = nat_le (object_limit a.format) (length a.objects)
 is_past_limit a (form.Operation o) words numbers = has_no_room a 1 || is_long_word o words
 is_past_limit a (form.Repeat o) words numbers = has_no_room a (at numbers 0) || is_long_word o (drop 2 words)
 is_past_limit a f words numbers = false

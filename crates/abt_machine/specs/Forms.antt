@@ -1,5 +1,5 @@
 -- The forms of a workload text's lines, as a table: what stands at each place of a line, and the section that it belongs to.
-use Rattle.std.specs.Prelude.{ℕ, ◌-◌, ◌^◌, ◌||◌, ◌&&◌, Bool, true, false, List, [], ◌∷◌, ◌++◌, map, find, Option, Some, None, codes, bytes_eq}
+use Rattle.std.specs.Prelude.{ℕ, ◌-◌, ◌^◌, ◌||◌, ◌&&◌, Bool, true, false, not, List, [], ◌∷◌, ◌++◌, map, find, Option, Some, None, codes, bytes_eq}
 use Rattle.abt_machine.specs.declared.grammar.Form.{Form}
 use Rattle.abt_machine.specs.declared.grammar.Form.TheVariants as form
 use Rattle.abt_machine.specs.declared.grammar.Format.{Format}
@@ -11,6 +11,8 @@ use Rattle.abt_machine.specs.declared.grammar.Role.TheVariants as role
 use Rattle.abt_machine.specs.declared.numbers.PoolNo.{PoolNo}
 use Rattle.abt_machine.specs.declared.operations.Access.{Access}
 use Rattle.abt_machine.specs.declared.operations.Access.TheVariants as access
+use Rattle.abt_machine.specs.declared.operations.Calc.{Calc}
+use Rattle.abt_machine.specs.declared.operations.Calc.TheVariants as calc
 use Rattle.abt_machine.specs.declared.operations.Combine.{Combine}
 use Rattle.abt_machine.specs.declared.operations.Combine.TheVariants as combine
 use Rattle.abt_machine.specs.declared.operations.Kind.{Kind}
@@ -21,7 +23,7 @@ use Rattle.abt_machine.specs.declared.operations.Rule.{Rule}
 use Rattle.abt_machine.specs.declared.operations.Rule.TheVariants as rule
 use Rattle.abt_machine.specs.declared.operations.Thing.{Thing}
 use Rattle.abt_machine.specs.declared.operations.Thing.TheVariants as thing
-use Rattle.abt_machine.specs.Limits.{key_limit, size_limit, unit_limit, unit_operation_limit}
+use Rattle.abt_machine.specs.Limits.{function_limit, key_limit, size_limit}
 use Rattle.abt_machine.specs.Numbers.{object_no, pool_no, stream_no, unit_no}
 use Rattle.abt_machine.specs.Words.{Text}
 
@@ -50,6 +52,21 @@ abbrev pub combine_name : Combine → Text
 combine_name combine.Sum = codes "sum"
 combine_name combine.Max = codes "max"
 combine_name combine.Count = codes "count"
+
+abbrev pub calc_name : Calc → Text
+calc_name calc.Add = codes "add"
+calc_name calc.Sub = codes "sub"
+calc_name calc.Mul = codes "mul"
+calc_name calc.Div = codes "div"
+calc_name calc.Rem = codes "rem"
+calc_name calc.Min = codes "min"
+calc_name calc.Max = codes "max"
+calc_name calc.And = codes "and"
+calc_name calc.Or = codes "or"
+calc_name calc.Xor = codes "xor"
+calc_name calc.Eq = codes "eq"
+calc_name calc.Lt = codes "lt"
+calc_name calc.Gcd = codes "gcd"
 
 -- What stands at the places of a line.
 
@@ -132,11 +149,14 @@ op_slots (op.WriteLock x) = Fixed (codes "wrlock") ∷ Numeral number.RwLock ∷
 op_slots (op.RwUnlock x) = Fixed (codes "rwunlock") ∷ Numeral number.RwLock ∷ []
 op_slots (op.RwLoad x) = Fixed (codes "rwload") ∷ Numeral number.RwLock ∷ []
 op_slots (op.RwStore x) = Fixed (codes "rwstore") ∷ Numeral number.RwLock ∷ []
+op_slots (op.Calc c k) = Fixed (codes "calc") ∷ Fixed (calc_name c) ∷ Numeral number.Key ∷ []
+op_slots (op.Call f) = Fixed (codes "call") ∷ within 0 (function_limit - 1) ∷ []
 
 -- the places of a line of each form
 abbrev pub slots : Form → List Slot
 slots (form.Version format.One) = Fixed (codes "abt") ∷ Fixed (codes "1") ∷ []
 slots (form.Version format.Two) = Fixed (codes "abt") ∷ Fixed (codes "2") ∷ []
+slots (form.Version format.Three) = Fixed (codes "abt") ∷ Fixed (codes "3") ∷ []
 slots form.Streams = Fixed (codes "streams") ∷ Numeral number.StreamCount ∷ []
 slots form.Keys = Fixed (codes "keys") ∷ within 0 key_limit ∷ []
 slots (form.Pool a) = Fixed (codes "pool") ∷ Numeral number.NewPool ∷ KindWord ∷ access_slots a
@@ -145,15 +165,24 @@ slots form.Stream = Fixed (codes "stream") ∷ Numeral number.Stream ∷ Fixed (
 slots (form.Object t) = Fixed (codes "object") ∷ Numeral number.NewObject ∷ thing_slots t
 slots form.Units = Fixed (codes "units") ∷ Numeral number.UnitCount ∷ []
 slots (form.Unit r start) = Fixed (codes "unit") ∷ Numeral number.NewUnit ∷ role_slots r ++ start_slots start
-slots (form.Many r start) = Fixed (codes "many") ∷ Numeral number.NewUnit ∷ within 1 (unit_limit format.Two) ∷ role_slots r ++ start_slots start
+slots (form.Many r start) = Fixed (codes "many") ∷ Numeral number.NewUnit ∷ Numeral number.Copies ∷ role_slots r ++ start_slots start
 slots form.End = Fixed (codes "end") ∷ []
 slots (form.Operation o) = op_slots o
-slots (form.Repeat o) = Fixed (codes "repeat") ∷ within 1 unit_operation_limit ∷ op_slots o
+slots (form.Repeat o) = Fixed (codes "repeat") ∷ Numeral number.Times ∷ op_slots o
+
+-- the operation computes or calls, which texts of format 3 alone can say
+abbrev pub computes : Op → Bool
+computes (op.Calc c k) = true
+computes (op.Call f) = true
+computes o = false
 
 -- a line of this form stands in texts of this format
 abbrev pub is_in : Format → Form → Bool
 is_in format.One (form.Many r start) = false
 is_in format.One (form.Repeat o) = false
+is_in format.One (form.Operation o) = not (computes o)
+is_in format.Two (form.Operation o) = not (computes o)
+is_in format.Two (form.Repeat o) = not (computes o)
 is_in F f = true
 
 -- the section that a line belongs to
@@ -174,6 +203,9 @@ section (form.Repeat o) = 9
 
 -- All forms, one of each, whose numbers are all 0.
 
+abbrev pub calcs : List Calc
+calcs = calc.Add ∷ calc.Sub ∷ calc.Mul ∷ calc.Div ∷ calc.Rem ∷ calc.Min ∷ calc.Max ∷ calc.And ∷ calc.Or ∷ calc.Xor ∷ calc.Eq ∷ calc.Lt ∷ calc.Gcd ∷ []
+
 abbrev pub operations : List Op
 operations =
     op.Set 0 ∷ op.Add 0 ∷ op.Say 0 ∷ op.Print ∷ op.KeySet 0 ∷ op.KeyGet 0 ∷ op.Yield ∷ op.YieldTo (unit_no 0) (pool_no 0) ∷
@@ -185,7 +217,8 @@ operations =
     op.EvWait (object_no 0) ∷ op.EvSet (object_no 0) ∷ op.EvReset (object_no 0) ∷ op.EvTest (object_no 0) ∷
     op.FuWait (object_no 0) ∷ op.FuSet (object_no 0) ∷ op.FuReset (object_no 0) ∷ op.FuTest (object_no 0) ∷
     op.BarWait (object_no 0) ∷
-    op.ReadLock (object_no 0) ∷ op.WriteLock (object_no 0) ∷ op.RwUnlock (object_no 0) ∷ op.RwLoad (object_no 0) ∷ op.RwStore (object_no 0) ∷ []
+    op.ReadLock (object_no 0) ∷ op.WriteLock (object_no 0) ∷ op.RwUnlock (object_no 0) ∷ op.RwLoad (object_no 0) ∷ op.RwStore (object_no 0) ∷
+    map (λ c. op.Calc c 0) calcs ++ op.Call 0 ∷ []
 
 abbrev pub accesses : List Access
 accesses = access.Priv (stream_no 0) ∷ access.Spsc (stream_no 0) (stream_no 0) ∷ access.Mpsc (stream_no 0) ∷ access.Spmc (stream_no 0) ∷ access.Mpmc ∷ []
@@ -200,13 +233,13 @@ things = thing.Mutex ∷ thing.Cond (object_no 0) ∷ thing.Eventual ∷ thing.F
 abbrev pub starts : List (Option PoolNo)
 starts = Some (pool_no 0) ∷ None ∷ []
 
--- the forms of both formats
+-- the forms of all formats, and the operations of format 3
 abbrev pub shared_forms : List Form
 shared_forms =
-    form.Version format.One ∷ form.Version format.Two ∷ form.Streams ∷ form.Keys ∷ map form.Pool accesses ++ map form.Sched rules ++ form.Stream ∷ map form.Object things ++
+    form.Version format.One ∷ form.Version format.Two ∷ form.Version format.Three ∷ form.Streams ∷ form.Keys ∷ map form.Pool accesses ++ map form.Sched rules ++ form.Stream ∷ map form.Object things ++
     form.Units ∷ map (form.Unit role.Ult) starts ++ map (form.Unit role.Task) starts ++ map (form.Unit role.Sched) starts ++ form.End ∷ map form.Operation operations
 
--- the forms of format 2 alone
+-- the forms that format 1 does not have
 abbrev pub added_forms : List Form
 added_forms = map (form.Many role.Ult) starts ++ map (form.Many role.Task) starts ++ map (form.Many role.Sched) starts ++ map form.Repeat operations
 

@@ -38,7 +38,7 @@ declared_by = fold and_line nothing
 
 -- the format of a text whose first line that is not skipped has these words
 abbrev pub format_in : List Text → Format
-format_in words = if fits (slots (form.Version format.Two)) words then format.Two else format.One
+format_in words = if fits (slots (form.Version format.Three)) words then format.Three else (if fits (slots (form.Version format.Two)) words then format.Two else format.One)
 
 -- the format of a text of these lines
 abbrev pub format_of : List Text → Format

@@ -42,6 +42,7 @@ pub mod Stamps
 pub mod Start
 pub mod State
 pub mod Steps
+pub mod Stored
 pub mod Texts
 pub mod Turns
 pub mod Valid

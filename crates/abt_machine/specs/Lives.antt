@@ -41,6 +41,7 @@ unit_of (what.Miss p) = None
 unit_of (what.Take p u) = Some u.0
 unit_of (what.Look u) = Some u.0
 unit_of (what.Step u k c) = Some u.0
+unit_of (what.Call u k n) = Some u.0
 unit_of (what.Put u p) = Some u.0
 unit_of (what.End u c) = Some u.0
 unit_of (what.Enter u) = Some u.0
@@ -56,6 +57,7 @@ life_events W J u l = events_from W u l (first_life (start_of W u)) J
 
 abbrev pub position_in : What → Option ℕ
 position_in (what.Step u k c) = Some k
+position_in (what.Call u k n) = Some k
 position_in _ = None
 
 -- the positions of the steps among these events

@@ -9,7 +9,7 @@ use Rattle.abt_machine.specs.declared.operations.Op.TheVariants as op
 use Rattle.abt_machine.specs.declared.operations.Thing.TheVariants as thing
 use Rattle.abt_machine.specs.declared.workload.Parts.{Parts}
 use Rattle.abt_machine.specs.Canonical.{op_numbers}
-use Rattle.abt_machine.specs.Carrying.{added, from_key, printed, with_acc, with_key}
+use Rattle.abt_machine.specs.Carrying.{added, calculated, from_key, printed, with_acc, with_key}
 use Rattle.abt_machine.specs.Forms.{Slot, Numeral, op_slots}
 use Rattle.abt_machine.specs.State.{Carried}
 use Rattle.abt_machine.specs.Workloads.{IsCondition, thing_at}
@@ -35,6 +35,8 @@ abbrev pub IsNamed : Parts → Number → ℕ → Type 0
 IsNamed W (number.Within low high) n = (low ≤ n) × (n ≤ high)
 IsNamed W number.StreamCount n = ⊤
 IsNamed W number.UnitCount n = ⊤
+IsNamed W number.Copies n = ⊤
+IsNamed W number.Times n = ⊤
 IsNamed W number.NewPool n = ⊤
 IsNamed W number.NewSched n = ⊤
 IsNamed W number.NewObject n = ⊤
@@ -141,6 +143,9 @@ nature_of (op.WriteLock x) = blocking
 nature_of (op.RwUnlock x) = plain
 nature_of (op.RwLoad x) = plain
 nature_of (op.RwStore x) = plain
+nature_of (op.Calc c k) = at_key k (calculated c k)
+-- what the call itself changes is said by its event
+nature_of (op.Call f) = locally (λ c. c)
 
 -- whether an operation may block or yield, which a tasklet must not
 abbrev pub may_block : Op → Bool

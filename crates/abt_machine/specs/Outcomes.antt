@@ -34,6 +34,7 @@ AllEnded S = (u : ℕ) → IsOver (S.place u)
 
 abbrev pub is_step : What → Bool
 is_step (what.Step u k c) = true
+is_step (what.Call u k n) = true
 is_step _ = false
 
 -- the number of steps in a journal, and of those that stream s made

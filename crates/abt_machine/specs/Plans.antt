@@ -12,7 +12,7 @@ use Rattle.abt_machine.specs.Numbers.{unit_no}
 use Rattle.abt_machine.specs.Workloads.{condition_number}
 use Rattle.abt_machine.specs.Access.{may_reach}
 use Rattle.abt_machine.specs.Sites.{first_pool, monitor_of}
-use Rattle.abt_machine.specs.Carrying.{added, from_key, printed, with_acc, with_key}
+use Rattle.abt_machine.specs.Carrying.{added, calculated, from_key, printed, with_acc, with_key}
 use Rattle.abt_machine.specs.State.{Carried}
 use Rattle.abt_machine.specs.Values.{Owned}
 use Rattle.abt_machine.specs.Acts.{Act, Answer, carrying, moved, received}
@@ -132,6 +132,9 @@ reached_plan W (op.WriteLock x) o = Calls (site.Rw x) (act.WriteLock (moved o)) 
 reached_plan W (op.RwUnlock x) o = Calls (site.Rw x) (act.RwUnlock o.number) (to_caller o)
 reached_plan W (op.RwLoad x) o = Calls (site.Rw x) (act.Load o.number) (to_caller o)
 reached_plan W (op.RwStore x) o = Calls (site.Rw x) (act.Store o.number o.carried.acc) (to_caller o)
+reached_plan W (op.Calc c k) o = Does (local (calculated c k) o)
+-- the step of a call is an event of its own
+reached_plan W (op.Call f) o = Does (local (λ c. c) o)
 
 -- what stream s does at an operation of unit o in its hand
 abbrev pub plan_of : Parts → ℕ → Op → Owned → Plan

@@ -1,7 +1,7 @@
 -- Journals that are runs, and the states along them.
 use Rattle.std.specs.Prelude.{ℕ, ◌<◌, List, [], ◌∷◌, take}
 use Rattle.abt_machine.specs.declared.events.Event.{Event}
-use Rattle.abt_machine.specs.declared.operations.OrderShape.{OrderShape}
+use Rattle.abt_machine.specs.Stored.{Stored}
 use Rattle.abt_machine.specs.declared.workload.Parts.{Parts}
 use Rattle.abt_machine.specs.State.{State}
 use Rattle.abt_machine.specs.Start.{start}
@@ -13,12 +13,12 @@ state_after W S [] = S
 state_after W S (e ∷ es) = state_after W (after W S e.stream.0 e.what) es
 
 -- each event, of a declared stream, is one that may come then
-abbrev pub RunFrom : Parts → List OrderShape → State → List Event → Type 0
+abbrev pub RunFrom : Parts → Stored → State → List Event → Type 0
 RunFrom W Z S [] = Unit {0}
 RunFrom W Z S (e ∷ es) = (e.stream.0 < W.streams) × May W Z S e.stream.0 e.what × RunFrom W Z (after W S e.stream.0 e.what) es
 
--- the journal is a run of the workload, Z being the shapes of the stored orders
-abbrev pub Run : Parts → List OrderShape → List Event → Type 0
+-- the journal is a run of the workload, with these stored orders and functions
+abbrev pub Run : Parts → Stored → List Event → Type 0
 Run W Z J = RunFrom W Z (start W) J
 
 -- the state after the first i events, and after all

@@ -7,6 +7,7 @@ use Rattle.abt_machine.specs.declared.events.Spot.TheVariants as spot
 use Rattle.abt_machine.specs.declared.operations.Body.{Body}
 use Rattle.abt_machine.specs.declared.operations.Body.TheVariants as body
 use Rattle.abt_machine.specs.declared.operations.OrderShape.{OrderShape}
+use Rattle.abt_machine.specs.Stored.{Stored}
 use Rattle.abt_machine.specs.declared.operations.Thing.{Thing}
 use Rattle.abt_machine.specs.declared.operations.Thing.TheVariants as thing
 use Rattle.abt_machine.specs.declared.workload.Parts.{Parts}
@@ -94,8 +95,8 @@ IsPlaced W S u (place.Blocked (spot.Join v) t) = (v.0 < length W.units) × (t < 
 IsPlaced W S u (place.Blocked (spot.Object x) t) = (t < S.object_next x.0) × HoldsUp W S x.0 (thing_at W x.0)
 IsPlaced W S u (place.Ended c) = HasNoRequest (S.desk u)
 
--- Z being the shapes of the stored orders
-pub record Sound (W : Parts) (Z : List OrderShape) (S : State) : Type 0 where
+-- Z being the stored orders and functions
+pub record Sound (W : Parts) (Z : Stored) (S : State) : Type 0 where
   -- two units do not share a ticket in a line, so a hand and a Next hold one unit at most
   pub one_each : (l : Line) (u v t : ℕ) → ticket_in l (S.place u) ≡ Some t → ticket_in l (S.place v) ≡ Some t → u ≡ v
   -- a stream does not have one unit in its hand and one in Next
@@ -109,7 +110,7 @@ pub record Sound (W : Parts) (Z : List OrderShape) (S : State) : Type 0 where
   -- the lowest frame of a stream runs its main scheduler
   pub lowest : (s : ℕ) → s < W.streams → IfSome (last (frames_of (S.stream s))) (λ f. f.sched ≡ main_of W s)
   -- what each frame has seen is a proper prefix of a list that its round may visit
-  pub under_way : (s : ℕ) → s < W.streams → AllUnderWay W Z (frames_of (S.stream s))
+  pub under_way : (s : ℕ) → s < W.streams → AllUnderWay W Z.orders (frames_of (S.stream s))
   -- only the top frame has a round under way or an empty round behind it
   pub below_rest : (s : ℕ) → s < W.streams → AllAtRest ((S.stream s).below)
   -- no future has more compartments filled than it has

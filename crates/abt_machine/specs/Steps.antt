@@ -17,7 +17,7 @@ use Rattle.abt_machine.specs.Workloads.{combine_of, mutex_of, size_of}
 use Rattle.abt_machine.specs.Sites.{first_pool}
 use Rattle.abt_machine.specs.Queues.{first, first_alone}
 use Rattle.abt_machine.specs.Frames.{marked}
-use Rattle.abt_machine.specs.Carrying.{added, advanced, from_key, newborn, printed, refused, with_acc, with_key}
+use Rattle.abt_machine.specs.Carrying.{added, advanced, calculated, from_key, newborn, printed, refused, with_acc, with_key}
 use Rattle.abt_machine.specs.State.{State, Carried, Desk, Mutex, Future, Exited}
 use Rattle.abt_machine.specs.Lines.{standing, Waiting}
 use Rattle.abt_machine.specs.Codes.{is_full}
@@ -187,6 +187,9 @@ op_row W S s u (op.WriteLock x) = writes_or_waits S u x.0 (rwlock_value W S x.0)
 op_row W S s u (op.RwUnlock x) = gives_up W S s u x.0 (left_by u (rwlock_value W S x.0))
 op_row W S s u (op.RwLoad x) = goes_with u (with_acc (S.rwlock x.0).number (S.carried u))
 op_row W S s u (op.RwStore x) = record (goes_on S u) { rwlocks = (x.0, record (S.rwlock x.0) { number = (S.carried u).acc }) ∷ [] }
+op_row W S s u (op.Calc c k) = goes_with u (calculated c k (S.carried u))
+-- the step of a call is an event of its own
+op_row W S s u (op.Call f) = goes_on S u
 
 -- a step by its code: what its operation changes, or a refusal, which changes nothing but the unit's output and position
 abbrev pub step_row : Parts → State → ℕ → ℕ → Option Op → Code → Change

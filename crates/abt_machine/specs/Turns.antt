@@ -8,7 +8,7 @@ use Rattle.abt_machine.specs.declared.events.Site.TheVariants as site
 use Rattle.abt_machine.specs.declared.events.What.{What}
 use Rattle.abt_machine.specs.declared.events.What.TheVariants as what
 use Rattle.abt_machine.specs.declared.operations.Op.{Op}
-use Rattle.abt_machine.specs.declared.operations.OrderShape.{OrderShape}
+use Rattle.abt_machine.specs.Stored.{Stored, IsNoCall, Returns}
 use Rattle.abt_machine.specs.declared.workload.Parts.{Parts}
 use Rattle.abt_machine.specs.Workloads.{body_at, op_at}
 use Rattle.abt_machine.specs.Carrying.{with_home}
@@ -18,9 +18,9 @@ use Rattle.abt_machine.specs.Fronts.{side_of}
 use Rattle.abt_machine.specs.Rounds.{IsNextPool}
 use Rattle.abt_machine.specs.Frames.{marked, round_taken, round_missed, entered, sched_of, left}
 use Rattle.abt_machine.specs.Values.{Owned, Held}
-use Rattle.abt_machine.specs.Acts.{Act, Answer, carrying}
+use Rattle.abt_machine.specs.Acts.{Act, Answer, carrying, moved, received}
 use Rattle.abt_machine.specs.Acts as act
-use Rattle.abt_machine.specs.Plans.{Effect, Plan, Does, Calls, Exits, plan_of}
+use Rattle.abt_machine.specs.Plans.{Effect, Plan, Does, Calls, Exits, keeps, plan_of}
 
 abbrev pub number_and_position : Owned → ℕ × ℕ
 number_and_position o = (o.number, o.carried.position)
@@ -58,13 +58,13 @@ Performs old (Calls x asked brings) heard c new =
 Performs old (Exits o) heard c new = (heard ≡ None) × (c ≡ code.Ok) × (new ≡ exited old o)
 
 -- an event of stream s: when it comes, what was heard, and what the stream holds afterwards
-abbrev pub Steps : Parts → List OrderShape → ℕ → Held → What → Option Heard → Held → Type 0
+abbrev pub Steps : Parts → Stored → ℕ → Held → What → Option Heard → Held → Type 0
 Steps W Z s old (what.Miss p) heard new =
-    (due_of W s old ≡ RoundDue) × IsNextPool W Z old.own.top p.0
+    (due_of W s old ≡ RoundDue) × IsNextPool W Z.orders old.own.top p.0
     × (heard ≡ Some (site.Pool p, act.Take (side_of W s p.0), act.Miss))
     × (new ≡ record old { own = round_missed W p.0 old.own })
 Steps W Z s old (what.Take p u) heard new =
-    (due_of W s old ≡ RoundDue) × IsNextPool W Z old.own.top p.0
+    (due_of W s old ≡ RoundDue) × IsNextPool W Z.orders old.own.top p.0
     × (o : Owned) × (o.number ≡ u.0)
     × (heard ≡ Some (site.Pool p, act.Take (side_of W s p.0), act.Given o))
     × (new ≡ record old { own = round_taken old.own; next = Some o })
@@ -76,7 +76,13 @@ Steps W Z s old (what.Look u) heard new =
 Steps W Z s old (what.Step u k c) heard new =
     (due_of W s old ≡ StepDue)
     × (o : Owned) × (old.hand ≡ Some o) × (o.number ≡ u.0) × (o.carried.position ≡ k)
-    × (a : Op) × (op_at W u.0 k ≡ Some a) × Performs old (plan_of W s a o) heard c new
+    × (a : Op) × (op_at W u.0 k ≡ Some a) × Performs old (plan_of W s a o) heard c new × IsNoCall (Some a)
+Steps W Z s old (what.Call u k n) heard new =
+    (due_of W s old ≡ StepDue)
+    × (o : Owned) × (old.hand ≡ Some o) × (o.number ≡ u.0) × (o.carried.position ≡ k)
+    × Returns Z (op_at W u.0 k) o.number o.carried n
+    × (heard ≡ None)
+    × (new ≡ stepped old (keeps (received n (moved o)) []))
 Steps W Z s old (what.Put u p) heard new =
     (due_of W s old ≡ PutDue)
     × (o : Owned) × (os : List Owned) × (old.tray ≡ o ∷ os) × (o.number ≡ u.0) × (o.carried.home ≡ p.0)

@@ -86,7 +86,7 @@ IsBody scheds (body.Sched g) = g.0 < scheds
 -- a unit has as many operations as a unit may have, and starts in a declared pool, if in any
 pub record IsUnit (W : Parts) (part : UnitPart) : Type 0 where
   pub kind : IsBody (length W.scheds) part.body
-  pub few_ops : length (ops_of part.body) ≤ unit_operation_limit
+  pub few_ops : length (ops_of part.body) ≤ unit_operation_limit format.Three
   pub ops : All (IsDeclared W) (ops_of part.body)
   pub start : IfSome part.start (λ (p : PoolNo). p.0 < length W.pools)
 
@@ -107,27 +107,27 @@ pub record IsWord (word : Text) : Type 0 where
   pub visible : All IsVisible word
   pub utf8 : IsUtf8 word
 
--- in the order in which a text declares its parts; format 2 has the greater limits, and a text for whatever keeps them
+-- in the order in which a text declares its parts; format 3 has the greatest limits, and a text for whatever keeps them
 pub record IsValid (W : Parts) : Type 0 where
   pub some_stream : 0 < W.streams
-  pub few_streams : W.streams ≤ stream_limit format.Two
+  pub few_streams : W.streams ≤ stream_limit format.Three
   pub few_keys : W.keys ≤ key_limit
   pub some_pool : 0 < length W.pools
-  pub few_pools : length W.pools ≤ pool_limit
+  pub few_pools : length W.pools ≤ pool_limit format.Three
   pub pools : All (λ (part : PoolPart). IsAccess W.streams part.access) W.pools
   pub some_sched : 0 < length W.scheds
-  pub few_scheds : length W.scheds ≤ sched_limit
+  pub few_scheds : length W.scheds ≤ sched_limit format.Three
   pub scheds : All (IsSched (length W.pools)) W.scheds
   -- each stream has one main scheduler
   pub mains : length W.mains ≡ W.streams
   pub streams : (s : ℕ) → s < W.streams → IsStream W s
   -- no scheduler has two places
   pub one_place : AllPairs (λ a b. a ≢ b) (placed_scheds W)
-  pub few_objects : length W.objects ≤ object_limit
+  pub few_objects : length W.objects ≤ object_limit format.Three
   pub objects : (x : ℕ) (t : Thing) → thing_at W x ≡ Some t → IsThing W.objects x t
-  pub few_units : length W.units ≤ unit_limit format.Two
+  pub few_units : length W.units ≤ unit_limit format.Three
   pub units : All (IsUnit W) W.units
-  pub few_ops : length (all_ops W.units) ≤ operation_limit
+  pub few_ops : length (all_ops W.units) ≤ operation_limit format.Three
   -- the words are said in their order, each by one operation
   pub said : words_said W ≡ range_with_len 0 (length W.words)
   pub words : All IsWord W.words

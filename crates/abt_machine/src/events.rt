@@ -1,7 +1,7 @@
 //! What a run is made of: codes, places, sites, events and output.
 
 use crate::items::Items;
-use crate::numbers::{ObjectNo, PoolNo, StreamNo, UnitNo};
+use crate::numbers::{ObjectNo, PoolNo, Returned, StreamNo, UnitNo};
 
 /// How an operation went: `Ok`, or why it was refused.
 #[derive(Clone, Copy, Debug, PartialEq, Eq)]
@@ -85,13 +85,15 @@ pub enum Site {
 }
 
 /// What happened: a miss at a pool, a unit taken from it, a look at a taken unit's requests, a step at
-/// a position with its code, a unit put into its home, an end, and a scheduler unit's entry and leave.
+/// a position with its code, a call at a position with what the function returned, a unit put into its home, an end, and a
+/// scheduler unit's entry and leave.
 #[derive(Clone, Copy, Debug, PartialEq, Eq)]
 pub enum What {
     Miss(PoolNo),
     Take(PoolNo, UnitNo),
     Look(UnitNo),
     Step(UnitNo, u32, Code),
+    Call(UnitNo, u32, Returned),
     Put(UnitNo, PoolNo),
     End(UnitNo, Cause),
     Enter(UnitNo),

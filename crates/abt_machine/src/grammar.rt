@@ -1,16 +1,26 @@
 //! The formats of a workload text, and its lines, as data.
 
 ghost use Rattle.std.specs.Prelude.{◌≡◌};
-ghost use Rattle.abt_machine.specs.Limits.{stream_limit, text_limit, unit_limit};
+ghost use Rattle.abt_machine.specs.Limits.{
+  object_limit,
+  operation_limit,
+  pool_limit,
+  sched_limit,
+  stream_limit,
+  text_limit,
+  unit_limit,
+  unit_operation_limit,
+};
 
 use crate::numbers::PoolNo;
 use crate::operations::{Access, Op, Rule, Thing};
 
-/// A format of workload texts: `abt 1` or `abt 2`.
+/// A format of workload texts: `abt 1`, `abt 2` or `abt 3`.
 #[derive(Clone, Copy, Debug, PartialEq, Eq)]
 pub enum Format {
     One,
     Two,
+    Three,
 }
 
 impl Format {
@@ -21,6 +31,7 @@ impl Format {
         match self {
             Format::One => 4_194_304,
             Format::Two => 8_388_608,
+            Format::Three => 134_217_728,
         }
     }
 
@@ -31,6 +42,37 @@ impl Format {
         match self {
             Format::One => 8,
             Format::Two => 16,
+            Format::Three => 64,
+        }
+    }
+
+    /// The maximum number of pools that a text declares.
+    pub fn pool_limit(self) -> usize
+        ensures { result ≡ pool_limit self }
+    {
+        match self {
+            Format::One | Format::Two => 64,
+            Format::Three => 1_024,
+        }
+    }
+
+    /// The maximum number of schedulers that a text declares.
+    pub fn sched_limit(self) -> usize
+        ensures { result ≡ sched_limit self }
+    {
+        match self {
+            Format::One | Format::Two => 64,
+            Format::Three => 1_024,
+        }
+    }
+
+    /// The maximum number of objects that a text declares.
+    pub fn object_limit(self) -> usize
+        ensures { result ≡ object_limit self }
+    {
+        match self {
+            Format::One | Format::Two => 256,
+            Format::Three => 65_536,
         }
     }
 
@@ -40,7 +82,28 @@ impl Format {
     {
         match self {
             Format::One => 256,
-            Format::Two => UNIT_LIMIT,
+            Format::Two => 4_096,
+            Format::Three => 65_536,
+        }
+    }
+
+    /// The maximum number of operations of a unit.
+    pub fn unit_operation_limit(self) -> usize
+        ensures { result ≡ unit_operation_limit self }
+    {
+        match self {
+            Format::One | Format::Two => 256,
+            Format::Three => 4_096,
+        }
+    }
+
+    /// The maximum number of operations of all units.
+    pub fn operation_limit(self) -> usize
+        ensures { result ≡ operation_limit self }
+    {
+        match self {
+            Format::One | Format::Two => 65_536,
+            Format::Three => 1_048_576,
         }
     }
 }
@@ -48,14 +111,8 @@ impl Format {
 /// The maximum number of keys that a text declares.
 pub const KEY_LIMIT: u32 = 16;
 
-/// The maximum number of pools that a text declares.
-pub const POOL_LIMIT: usize = 64;
-
-/// The maximum number of schedulers that a text declares.
-pub const SCHED_LIMIT: usize = 64;
-
-/// The maximum number of objects that a text declares.
-pub const OBJECT_LIMIT: usize = 256;
+/// The maximum number of functions that units call.
+pub const FUNCTION_LIMIT: u32 = 8;
 
 /// The maximum number of pools that a scheduler lists.
 pub const LISTED_LIMIT: usize = 8;
@@ -65,15 +122,6 @@ pub const SIZE_LIMIT: u32 = 4_096;
 
 /// The maximum number of bytes of a said word.
 pub const WORD_LIMIT: usize = 64;
-
-/// The maximum number of units that a text of any format declares.
-pub const UNIT_LIMIT: u32 = 4_096;
-
-/// The maximum number of operations of a unit.
-pub const UNIT_OPERATION_LIMIT: usize = 256;
-
-/// The maximum number of operations of all units.
-pub const OPERATION_LIMIT: usize = 65_536;
 
 /// What a unit is, by its line.
 #[derive(Clone, Copy, Debug, PartialEq, Eq)]
@@ -103,13 +151,16 @@ pub enum Form {
 }
 
 /// What a number of a line is. `Within` names nothing and has a least and a greatest value; `StreamCount` and
-/// `UnitCount` say how many there are, which the text's format limits; the next four declare the number
+/// `UnitCount` say how many there are, `Copies` how many units a `many` line declares and `Times` how many operations a
+/// `repeat` line, which the text's format limits; the next four declare the number
 /// that comes next of their kind; all others name what is declared.
 #[derive(Clone, Copy, Debug, PartialEq, Eq)]
 pub enum Number {
     Within(u64, u64),
     StreamCount,
     UnitCount,
+    Copies,
+    Times,
     NewPool,
     NewSched,
     NewObject,

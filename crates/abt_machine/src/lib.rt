@@ -14,12 +14,13 @@ pub use events::{
     Cause, Code, Event, Journal, Log, Outcome, Output, Piece, Place, Shown, Site, Spot, What, Wish,
 };
 pub use grammar::{
-    Form, Format, KEY_LIMIT, LISTED_LIMIT, Number, OBJECT_LIMIT, OPERATION_LIMIT, POOL_LIMIT, Role,
-    SCHED_LIMIT, SIZE_LIMIT, UNIT_LIMIT, UNIT_OPERATION_LIMIT, WORD_LIMIT,
+    FUNCTION_LIMIT, Form, Format, KEY_LIMIT, LISTED_LIMIT, Number, Role, SIZE_LIMIT, WORD_LIMIT,
 };
 pub use items::{Items, Text};
-pub use numbers::{ObjectNo, PoolNo, SchedNo, StreamNo, UnitNo};
-pub use operations::{Access, Body, Combine, Kind, Op, Ops, OrderShape, Pools, Rule, Side, Thing};
+pub use numbers::{ObjectNo, PoolNo, Returned, SchedNo, StreamNo, UnitNo};
+pub use operations::{
+    Access, Body, Calc, Combine, Kind, Op, Ops, OrderShape, Pools, Rule, Side, Thing, gcd,
+};
 pub use program::{Ended, Fault, Want};
 pub use workload::{
     Mains, Parts, PoolPart, PoolParts, SchedPart, SchedParts, Texts, Things, UnitPart, UnitParts,

@@ -1,10 +1,13 @@
 //! What a workload is made of: pools, schedulers, objects, units and their operations.
 
 ghost use Rattle.std.specs.Prelude.{◌≡◌};
+ghost use Rattle.std.specs.Int.{IsGcd};
 ghost use Rattle.abt_machine.specs.Access.{puts, takes};
+ghost use Rattle.abt_machine.specs.Carrying.{gcd, word_from};
 ghost use Rattle.abt_machine.specs.Operations.{may_block};
 ghost use Rattle.abt_machine.specs.Steps.{combined};
 ghost use Rattle.abt_machine.specs.Workloads.{is_condition_of, ops_of};
+ghost use Rattle.abt_machine.specs.declared.operations.Calc.TheVariants as calc;
 
 use crate::items::Items;
 use crate::numbers::{ObjectNo, PoolNo, SchedNo, StreamNo, UnitNo};
@@ -82,6 +85,71 @@ impl Combine {
     }
 }
 
+/// What `calc` makes of the accumulator and a key, modulo 2^64: their sum, difference, product, quotient, remainder, minimum or
+/// maximum, their bits in common, in either or in one alone, 1 if they are equal or if the accumulator is less and else 0, or
+/// their greatest common divisor. A quotient by 0 is 0, and a remainder by 0 is the accumulator.
+#[derive(Clone, Copy, Debug, PartialEq, Eq)]
+pub enum Calc {
+    Add,
+    Sub,
+    Mul,
+    Div,
+    Rem,
+    Min,
+    Max,
+    And,
+    Or,
+    Xor,
+    Eq,
+    Lt,
+    Gcd,
+}
+
+impl Calc {
+    /// The accumulator after it, from the accumulator before it and the key.
+    pub fn word_from(self, acc: u64, key: u64) -> u64
+        ensures { result ≡ word_from self acc key }
+    {
+        match self {
+            Calc::Add => acc.wrapping_add(key),
+            Calc::Sub => acc.wrapping_sub(key),
+            Calc::Mul => acc.wrapping_mul(key),
+            Calc::Div => quotient(acc, key),
+            Calc::Rem => remainder(acc, key),
+            Calc::Min => acc.min(key),
+            Calc::Max => acc.max(key),
+            Calc::And => acc & key,
+            Calc::Or => acc | key,
+            Calc::Xor => acc ^ key,
+            Calc::Eq => u64::from(acc == key),
+            Calc::Lt => u64::from(acc < key),
+            Calc::Gcd => gcd(acc, key),
+        }
+    }
+}
+
+// The quotient, 0 if the divisor is 0.
+fn quotient(acc: u64, key: u64) -> u64
+    ensures { result ≡ word_from calc.Div acc key }
+{
+    if key == 0 { 0 } else { acc / key }
+}
+
+// The remainder, of a division by 0 the accumulator.
+fn remainder(acc: u64, key: u64) -> u64
+    ensures { result ≡ word_from calc.Rem acc key }
+{
+    if key == 0 { acc } else { acc % key }
+}
+
+/// The greatest common divisor; with 0 it is the other number.
+pub fn gcd(a: u64, b: u64) -> u64
+    ensures euclid { result ≡ gcd a b }
+    ensures greatest { IsGcd a b result }
+{
+    if b == 0 { a } else { gcd(b, a % b) }
+}
+
 /// A synchronization object. A condition has its mutex, a future its number of compartments, a barrier
 /// its number of parties.
 #[derive(Clone, Copy, Debug, PartialEq, Eq)]
@@ -149,6 +217,10 @@ pub enum Op {
     RwUnlock(ObjectNo),
     RwLoad(ObjectNo),
     RwStore(ObjectNo),
+    /// Computes the accumulator from itself and a key.
+    Calc(Calc, u32),
+    /// Calls the user's function of this number.
+    Call(u32),
 }
 
 impl Op {

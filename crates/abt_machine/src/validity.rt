@@ -14,10 +14,7 @@ ghost use Rattle.abt_machine.specs.declared.numbers.SchedNo.{SchedNo};
 ghost use Rattle.abt_machine.specs.declared.workload.PoolPart.{PoolPart};
 ghost use Rattle.abt_machine.specs.declared.workload.UnitPart.{UnitPart};
 
-use crate::grammar::{
-    Format, KEY_LIMIT, LISTED_LIMIT, OBJECT_LIMIT, OPERATION_LIMIT, POOL_LIMIT, SCHED_LIMIT,
-    SIZE_LIMIT, UNIT_OPERATION_LIMIT, WORD_LIMIT,
-};
+use crate::grammar::{FUNCTION_LIMIT, Format, KEY_LIMIT, LISTED_LIMIT, SIZE_LIMIT, WORD_LIMIT};
 use crate::items::Text;
 use crate::numbers::{ObjectNo, PoolNo, SchedNo, StreamNo, UnitNo};
 use crate::operations::{Access, Body, Op, Rule, Thing};
@@ -168,9 +165,9 @@ fn ops_left(units: &[UnitPart], room: usize) -> Option<usize>
 impl Parts {
     // Whether there is at least one stream, and there are no more than there may be.
     fn has_streams(&self) -> bool
-        ensures { IsTrue result ↔ ((0 < self.now.streams) × (self.now.streams ≤ stream_limit format.Two)) }
+        ensures { IsTrue result ↔ ((0 < self.now.streams) × (self.now.streams ≤ stream_limit format.Three)) }
     {
-        is_among(self.streams as usize, Format::Two.stream_limit() as usize)
+        is_among(self.streams as usize, Format::Three.stream_limit() as usize)
     }
 
     // Whether there are no more keys than there may be.
@@ -221,10 +218,11 @@ impl Parts {
 
     // Whether there is at least one pool, there are no more than there may be, and each pool's access names declared streams.
     fn has_pools(&self) -> bool
-        ensures { IsTrue result ↔ ((0 < length self.now.pools) × (length self.now.pools ≤ pool_limit) × All (λ (part : PoolPart). IsAccess self.now.streams part.access) self.now.pools) }
+        ensures { IsTrue result ↔ ((0 < length self.now.pools) × (length self.now.pools ≤ pool_limit format.Three) × All (λ (part : PoolPart). IsAccess self.now.streams part.access) self.now.pools) }
     {
         let pools = self.pools.items();
-        is_among(pools.len(), POOL_LIMIT) && pools.iter().all(|part| self.is_access(part.access))
+        is_among(pools.len(), Format::Three.pool_limit())
+            && pools.iter().all(|part| self.is_access(part.access))
     }
 
     // Whether these pools are declared.
@@ -247,10 +245,11 @@ impl Parts {
 
     // Whether there is at least one scheduler, there are no more than there may be, and each one's rule and pools are allowed.
     fn has_scheds(&self) -> bool
-        ensures { IsTrue result ↔ ((0 < length self.now.scheds) × (length self.now.scheds ≤ sched_limit) × All (IsSched (length self.now.pools)) self.now.scheds) }
+        ensures { IsTrue result ↔ ((0 < length self.now.scheds) × (length self.now.scheds ≤ sched_limit format.Three) × All (IsSched (length self.now.pools)) self.now.scheds) }
     {
         let scheds = self.scheds.items();
-        is_among(scheds.len(), SCHED_LIMIT) && scheds.iter().all(|part| self.is_sched(part))
+        is_among(scheds.len(), Format::Three.sched_limit())
+            && scheds.iter().all(|part| self.is_sched(part))
     }
 
     // Whether a stream may take from each of these pools.
@@ -361,9 +360,9 @@ impl Parts {
 
     // Whether there are no more objects than there may be, and each may be what it is declared as.
     fn has_objects(&self) -> bool
-        ensures { IsTrue result ↔ ((length self.now.objects ≤ object_limit) × ((x : ℕ) (t : Thing) → thing_at self.now x ≡ Some t → IsThing self.now.objects x t)) }
+        ensures { IsTrue result ↔ ((length self.now.objects ≤ object_limit format.Three) × ((x : ℕ) (t : Thing) → thing_at self.now x ≡ Some t → IsThing self.now.objects x t)) }
     {
-        self.objects.items().len() <= OBJECT_LIMIT && self.are_things()
+        self.objects.items().len() <= Format::Three.object_limit() && self.are_things()
     }
 
     // Whether a tasklet has no operation that may block or yield, and a unit's scheduler is declared.
@@ -383,8 +382,9 @@ impl Parts {
     {
         match op {
             Op::Set(_) | Op::Add(_) | Op::Print | Op::Yield | Op::Suspend | Op::Exit => true,
+            Op::Call(f) => f < FUNCTION_LIMIT,
             Op::Say(w) => (w as usize) < self.words.items().len(),
-            Op::KeySet(k) | Op::KeyGet(k) => k < self.keys,
+            Op::KeySet(k) | Op::KeyGet(k) | Op::Calc(_, k) => k < self.keys,
             Op::Resume(v) | Op::Join(v) | Op::Cancel(v) | Op::Migratable(v, _) => self.has_unit(v),
             Op::YieldTo(v, p) | Op::Create(v, p) | Op::Migrate(v, p) | Op::Revive(v, p) => {
                 self.has_unit(v) && self.has_pool(p)
@@ -425,17 +425,17 @@ impl Parts {
     {
         let ops = part.body.ops();
         self.is_body(&part.body)
-            && ops.len() <= UNIT_OPERATION_LIMIT
+            && ops.len() <= Format::Three.unit_operation_limit()
             && self.are_declared_ops(ops)
             && self.is_start(part.start)
     }
 
     // Whether there are no more units than there may be, and each is allowed.
     fn has_units(&self) -> bool
-        ensures { IsTrue result ↔ ((length self.now.units ≤ unit_limit format.Two) × All (IsUnit self.now) self.now.units) }
+        ensures { IsTrue result ↔ ((length self.now.units ≤ unit_limit format.Three) × All (IsUnit self.now) self.now.units) }
     {
         let units = self.units.items();
-        units.len() <= Format::Two.unit_limit() as usize
+        units.len() <= Format::Three.unit_limit() as usize
             && units.iter().all(|part| self.is_unit(part))
     }
 
@@ -448,9 +448,9 @@ impl Parts {
 
     // Whether each scheduler that has a place is one of those that there may be, and none has two places.
     fn has_own_places(&self) -> bool
-        ensures { IsTrue result ↔ (All (λ g. g < sched_limit) (placed_scheds self.now) × AllPairs (λ a b. a ≢ b) (placed_scheds self.now)) }
+        ensures { IsTrue result ↔ (All (λ g. g < sched_limit format.Three) (placed_scheds self.now) × AllPairs (λ a b. a ≢ b) (placed_scheds self.now)) }
     {
-        let mut taken = [false; SCHED_LIMIT];
+        let mut taken = [false; 1_024];
         take_main_places(self.mains.items(), &mut taken)
             && take_body_places(self.units.items(), &mut taken)
     }
@@ -464,9 +464,9 @@ impl Parts {
 
     // Whether all units together have no more operations than they may have.
     fn has_few_ops(&self) -> bool
-        ensures { IsTrue result ↔ (length (all_ops self.now.units) ≤ operation_limit) }
+        ensures { IsTrue result ↔ (length (all_ops self.now.units) ≤ operation_limit format.Three) }
     {
-        ops_left(self.units.items(), OPERATION_LIMIT).is_some()
+        ops_left(self.units.items(), Format::Three.operation_limit()).is_some()
     }
 
     /// Whether these are the parts of a workload: what a text can declare.

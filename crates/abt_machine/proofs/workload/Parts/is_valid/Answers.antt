@@ -18,17 +18,17 @@ returns-then-has_words c =
     elim c.if-says_words.branch [ then-says_words w ↦ (w.if-says_words.true, w.has_words.ensures.0 (sym w.value-is ∙ c.if-has_words.true)) | else-says_words w ↦ absurd (cc (w.value-is, c.if-has_words.true)) ] in
     let said : (c.if-has_units.value ≡ true) × (words_said W ≡ range_with_len 0 (length W.words)) =
     elim c.if-has_own_places.branch [ then-has_own_places w ↦ (w.if-has_own_places.true, w.says_words.ensures.0 (sym w.value-is ∙ words.0)) | else-has_own_places w ↦ absurd (cc (w.value-is, words.0)) ] in
-    let places : (c.if-has_objects.value ≡ true) × (All (λ g. g < sched_limit) (placed_scheds W) × AllPairs (λ a b. a ≢ b) (placed_scheds W)) =
+    let places : (c.if-has_objects.value ≡ true) × (All (λ g. g < sched_limit format.Three) (placed_scheds W) × AllPairs (λ a b. a ≢ b) (placed_scheds W)) =
     elim c.if-has_units.branch [ then-has_units w ↦ (w.if-has_units.true, w.has_own_places.ensures.0 (sym w.value-is ∙ said.0)) | else-has_units w ↦ absurd (cc (w.value-is, said.0)) ] in
-    let units : (c.if-has_mains.value ≡ true) × ((length W.units ≤ unit_limit format.Two) × All (IsUnit W) W.units) =
+    let units : (c.if-has_mains.value ≡ true) × ((length W.units ≤ unit_limit format.Three) × All (IsUnit W) W.units) =
     elim c.if-has_objects.branch [ then-has_objects w ↦ (w.if-has_objects.true, w.has_units.ensures.0 (sym w.value-is ∙ places.0)) | else-has_objects w ↦ absurd (cc (w.value-is, places.0)) ] in
-    let objects : (c.if-has_scheds.value ≡ true) × ((length W.objects ≤ object_limit) × ((x : ℕ) (t : Thing) → thing_at W x ≡ Some t → IsThing W.objects x t)) =
+    let objects : (c.if-has_scheds.value ≡ true) × ((length W.objects ≤ object_limit format.Three) × ((x : ℕ) (t : Thing) → thing_at W x ≡ Some t → IsThing W.objects x t)) =
     elim c.if-has_mains.branch [ then-has_mains w ↦ (w.if-has_mains.true, w.has_objects.ensures.0 (sym w.value-is ∙ units.0)) | else-has_mains w ↦ absurd (cc (w.value-is, units.0)) ] in
     let mains : (c.if-has_pools.value ≡ true) × ((length W.mains ≡ W.streams) × ((s : ℕ) → s < W.streams → IsStream W s)) =
     elim c.if-has_scheds.branch [ then-has_scheds w ↦ (w.if-has_scheds.true, w.has_mains.ensures.0 (sym w.value-is ∙ objects.0)) | else-has_scheds w ↦ absurd (cc (w.value-is, objects.0)) ] in
-    let scheds : (c.if-has_few_keys.value ≡ true) × ((0 < length W.scheds) × (length W.scheds ≤ sched_limit) × All (IsSched (length W.pools)) W.scheds) =
+    let scheds : (c.if-has_few_keys.value ≡ true) × ((0 < length W.scheds) × (length W.scheds ≤ sched_limit format.Three) × All (IsSched (length W.pools)) W.scheds) =
     elim c.if-has_pools.branch [ then-has_pools w ↦ (w.if-has_pools.true, w.has_scheds.ensures.0 (sym w.value-is ∙ mains.0)) | else-has_pools w ↦ absurd (cc (w.value-is, mains.0)) ] in
-    let pools : (c.if-has_streams.value ≡ true) × ((0 < length W.pools) × (length W.pools ≤ pool_limit) × All (λ (part : PoolPart). IsAccess W.streams part.access) W.pools) =
+    let pools : (c.if-has_streams.value ≡ true) × ((0 < length W.pools) × (length W.pools ≤ pool_limit format.Three) × All (λ (part : PoolPart). IsAccess W.streams part.access) W.pools) =
     elim c.if-has_few_keys.branch [ then-has_few_keys w ↦ (w.if-has_few_keys.true, w.has_pools.ensures.0 (sym w.value-is ∙ scheds.0)) | else-has_few_keys w ↦ absurd (cc (w.value-is, scheds.0)) ] in
     let keys : (c.has_streams.result ≡ true) × (W.keys ≤ key_limit) =
     elim c.if-has_streams.branch [ then-has_streams w ↦ (w.if-has_streams.true, w.has_few_keys.ensures.0 (sym w.value-is ∙ pools.0)) | else-has_streams w ↦ absurd (cc) ] in
