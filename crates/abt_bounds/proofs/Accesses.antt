@@ -12,7 +12,7 @@ use Rattle.abt_machine.specs.declared.events.What.TheVariants as what
 use Rattle.abt_machine.specs.declared.operations.Body.{Body}
 use Rattle.abt_machine.specs.declared.operations.Body.TheVariants as body
 use Rattle.abt_machine.specs.declared.operations.Op.{Op}
-use Rattle.abt_machine.specs.declared.operations.OrderShape.{OrderShape}
+use Rattle.abt_machine.specs.Stored.{Stored}
 use Rattle.abt_machine.specs.declared.workload.Parts.{Parts}
 use Rattle.abt_machine.specs.Access.{may_put, may_take, may_take_all, pool_given, pool_taken}
 use Rattle.abt_machine.specs.Codes.{code_at}
@@ -38,7 +38,7 @@ use Rattle.abt_bounds.proofs.Denied.{denied}
 -- Events.
 
 -- the next pool of a scheduler's round, if all of its pools may be taken from
-next-taken : (W : Parts) (Z : List OrderShape) (s p : ℕ) (f : Frame) → IsTrue (may_take_all W s f.sched) → IsNextPool W Z f p → IsTrue (may_take W s p)
+next-taken : (W : Parts) (Z : Stored) (s p : ℕ) (f : Frame) → IsTrue (may_take_all W s f.sched) → IsNextPool W Z.orders f p → IsTrue (may_take W s p)
 next-taken W Z s p f all next =
     All-contains (λ q. may_take W s q ≡ true) (pools_of W f.sched) p (AllPass-from_list_all (may_take W s) (pools_of W f.sched) all) (next_pool-listed W Z f p next)
 
@@ -58,10 +58,11 @@ within W S s u (Some o) h =
     let goes : (IsWithinAccess W s o → ⊥) → ⊥ = λ none. (let e : code.Ok ≡ code.PoolAccess = sym h ∙ (denied W S s u o).1 none in cc) in
     (all-stays (pool_taken o) (may_take W s) (λ out. goes (λ is. out is.0)), all-stays (pool_given W o) (may_put W s) (λ out. goes (λ is. out is.1)))
 
-event-within : (W : Parts) (Z : List OrderShape) (S : State) (s : ℕ) (w : What) → s < W.streams → FramesHaveAccess W S → May W Z S s w → KeepsAccess W s w
+event-within : (W : Parts) (Z : Stored) (S : State) (s : ℕ) (w : What) → s < W.streams → FramesHaveAccess W S → May W Z S s w → KeepsAccess W s w
 event-within W Z S s (what.Miss p) declared has may = next-taken W Z s p.0 (S.stream s).top (has s declared).0 may.2
 event-within W Z S s (what.Take p u) declared has may = next-taken W Z s p.0 (S.stream s).top (has s declared).0 may.2
 event-within W Z S s (what.Step u k c) declared has may = λ ok. within W S s u.0 (op_at W u.0 k) (sym may.3 ∙ ok)
+event-within W Z S s (what.Call u k n) declared has may = tt
 event-within W Z S s (what.Look u) declared has may = tt
 event-within W Z S s (what.Put u p) declared has may = tt
 event-within W Z S s (what.End u c) declared has may = tt
@@ -107,12 +108,13 @@ look-runs W S s u true migrate declared has r l = each-runs W S s (marked Asked 
 look-runs W S s u false (Some p) declared has r l = has r l
 look-runs W S s u false None declared has r l = each-runs W S s (marked Plain (S.stream s)) has (has s declared) r l
 
-frames-keep : (W : Parts) (Z : List OrderShape) (S : State) (s : ℕ) (w : What) → s < W.streams → FramesHaveAccess W S → May W Z S s w → FramesHaveAccess W (after W S s w)
+frames-keep : (W : Parts) (Z : Stored) (S : State) (s : ℕ) (w : What) → s < W.streams → FramesHaveAccess W S → May W Z S s w → FramesHaveAccess W (after W S s w)
 frames-keep W Z S s (what.Miss p) declared has may =
     each-runs W S s (round_missed W p.0 (S.stream s)) has (subst (λ g. IsTrue (may_take_all W s g)) (sym (missed-sched W (S.stream s).top p.0)) (has s declared).0, (has s declared).1)
 frames-keep W Z S s (what.Take p u) declared has may = each-runs W S s (round_taken (S.stream s)) has (has s declared)
 frames-keep W Z S s (what.Look u) declared has may = look-runs W S s u.0 (S.desk u.0).cancel (S.desk u.0).migrate declared has
 frames-keep W Z S s (what.Step u k c) declared has may = λ r l. subst (MayRun W r) (sym (ap₂ (λ (f : Frame) fs. f ∷ fs) (step-keeps-frames W S s u.0 k c r).0 (step-keeps-frames W S s u.0 k c r).1)) (has r l)
+frames-keep W Z S s (what.Call u k n) declared has may = has
 frames-keep W Z S s (what.Put u p) declared has may = has
 frames-keep W Z S s (what.End u c) declared has may = has
 frames-keep W Z S s (what.Enter u) declared has may =
@@ -120,7 +122,7 @@ frames-keep W Z S s (what.Enter u) declared has may =
     (enter-access W s (S.carried u.0).position (S.stream s).mark (body_at W u.0) (due-unit W S s EnterDue u.0 may.0 tt may.1), has s declared)
 frames-keep W Z S s (what.Leave u) declared has may = each-runs W S s (left (S.stream s)) has (left-runs W s (S.stream s) (S.stream s).below (has s declared) (has s declared).1)
 
-pub events-keep-access : (W : Parts) (Z : List OrderShape) → EventsKeepAccess W Z
+pub events-keep-access : (W : Parts) (Z : Stored) → EventsKeepAccess W Z
 events-keep-access W Z S T e has came =
     (event-within W Z S e.stream.0 e.what came.0 has came.1, subst (FramesHaveAccess W) (sym came.2) (frames-keep W Z S e.stream.0 e.what came.0 has came.1))
 
@@ -132,7 +134,7 @@ start-has-access W valid s declared = ((valid.streams s declared).takes, tt)
 abbrev EventKeeps : Parts → Event → Type 0
 EventKeeps W e = KeepsAccess W e.stream.0 e.what
 
-along : (W : Parts) (Z : List OrderShape) (S : State) (es : List Event) → FramesHaveAccess W S → RunFrom W Z S es → EachOf (EventKeeps W) es × FramesHaveAccess W (state_after W S es)
+along : (W : Parts) (Z : Stored) (S : State) (es : List Event) → FramesHaveAccess W S → RunFrom W Z S es → EachOf (EventKeeps W) es × FramesHaveAccess W (state_after W S es)
 along W Z S [] has run = (tt, has)
 along W Z S (e ∷ es) has run =
     let rest : EachOf (EventKeeps W) es × FramesHaveAccess W (state_after W (after W S e.stream.0 e.what) es) =
@@ -145,7 +147,7 @@ each-at P [] k x each l = absurd (omega arith)
 each-at P (y ∷ ys) zero x each l = each.0
 each-at P (y ∷ ys) (suc k) x each l = each-at P ys k x each.1 (omega arith)
 
-pub runs-keep-access : (W : Parts) (Z : List OrderShape) → RunsKeepAccess W Z
+pub runs-keep-access : (W : Parts) (Z : Stored) → RunsKeepAccess W Z
 runs-keep-access W Z valid J run =
     let all : EachOf (EventKeeps W) J × FramesHaveAccess W (state_after W (start W) J) = along W Z (start W) J (start-has-access W valid) run in
     (λ e has. subst (EventKeeps W) has.2 (each-at (EventKeeps W) J has.0 e all.0 has.1), all.1)

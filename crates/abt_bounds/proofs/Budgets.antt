@@ -8,7 +8,7 @@ use Rattle.abt_machine.specs.declared.events.What.{What}
 use Rattle.abt_machine.specs.declared.events.What.TheVariants as what
 use Rattle.abt_machine.specs.declared.operations.Body.{Body}
 use Rattle.abt_machine.specs.declared.operations.Body.TheVariants as body
-use Rattle.abt_machine.specs.declared.operations.OrderShape.{OrderShape}
+use Rattle.abt_machine.specs.Stored.{Stored}
 use Rattle.abt_machine.specs.declared.workload.Parts.{Parts}
 use Rattle.abt_machine.specs.Events.{May, after}
 use Rattle.abt_machine.specs.Lines.{InHand}
@@ -32,15 +32,19 @@ use Rattle.abt_bounds.specs.Laws.{StepsAreFew, StepsAreOfLives, StepsBoundBudget
 
 -- Steps by unit.
 
-one-step : (W : Parts) (Z : List OrderShape) (S : State) (s : ℕ) (w : What) → May W Z S s w → one_if (is_step w) ≡ sum_up (λ u. step_by u w) (length W.units)
+one-step : (W : Parts) (Z : Stored) (S : State) (s : ℕ) (w : What) → May W Z S s w → one_if (is_step w) ≡ sum_up (λ u. step_by u w) (length W.units)
 one-step W Z S s (what.Step u k c) may =
     let is : StandsIn W S (InHand s) u.0 = first-stands W S (InHand s) u.0 may.1 in
     let own : step_by u.0 (what.Step u k c) ≡ 1 = ap one_if (eq-eqb u.0 u.0 refl) in
     sym (sum_up-single (λ v. step_by v (what.Step u k c)) (length W.units) u.0 is.declared (λ v ne. ap one_if (ne_eqb u.0 v (λ e. ne (sym e)))) ∙ own)
+one-step W Z S s (what.Call u k n) may =
+    let is : StandsIn W S (InHand s) u.0 = first-stands W S (InHand s) u.0 may.1 in
+    let own : step_by u.0 (what.Call u k n) ≡ 1 = ap one_if (eq-eqb u.0 u.0 refl) in
+    sym (sum_up-single (λ v. step_by v (what.Call u k n)) (length W.units) u.0 is.declared (λ v ne. ap one_if (ne_eqb u.0 v (λ e. ne (sym e)))) ∙ own)
 one-step W Z S s w may = sym (sum_up-none (λ u. step_by u w) (length W.units) (λ v l. refl))
 
 -- each step is of a declared unit
-steps-by-unit : (W : Parts) (Z : List OrderShape) (S : State) (J : List Event) → RunFrom W Z S J → steps_in J ≡ sum_up (λ u. steps_by u J) (length W.units)
+steps-by-unit : (W : Parts) (Z : Stored) (S : State) (J : List Event) → RunFrom W Z S J → steps_in J ≡ sum_up (λ u. steps_by u J) (length W.units)
 steps-by-unit W Z S [] run = sym (sum_up-none (λ u. 0) (length W.units) (λ v l. refl))
 steps-by-unit W Z S (e ∷ es) run =
     let n : ℕ = length W.units in
@@ -65,14 +69,14 @@ unit-steps W J u live declared =
     sum-of-lives (life_steps W u (first_life (start_of W u)) J) m (ops_of_unit W u) (ap (λ es. length (positions_in es)) (live.unborn u declared))
     (λ l some. life-fits (body_at W u) (life_events W J u l) (live.lives u l declared some).fit) in omega arith
 
-pub steps-are-of-lives : (W : Parts) (Z : List OrderShape) → StepsAreOfLives W Z
+pub steps-are-of-lives : (W : Parts) (Z : Stored) → StepsAreOfLives W Z
 steps-are-of-lives W Z valid stored J run =
     let live : LivesOf W J = runs-live W Z (runs-are-sound W Z) valid stored J run in
     let all : steps_in J ≡ sum_up (λ u. steps_by u J) (length W.units) = steps-by-unit W Z (start W) J run in
     let most : sum_up (λ u. steps_by u J) (length W.units) ≤ ops_lived W J =
     sum_up-rises (λ u. steps_by u J) (λ u. last_life W J u * ops_of_unit W u) (length W.units) (λ u l. unit-steps W J u live l) in omega arith
 
-pub steps-are-few : (W : Parts) (Z : List OrderShape) → StepsAreFew W Z
+pub steps-are-few : (W : Parts) (Z : Stored) → StepsAreFew W Z
 steps-are-few W Z valid stored none J run =
     let lived : steps_in J ≤ ops_lived W J = steps-are-of-lives W Z valid stored J run in
     let most : ops_lived W J ≤ ops_in W =
@@ -86,7 +90,7 @@ steps-are-few W Z valid stored none J run =
 -- Budgets.
 
 -- a stream that is to make a step can make one
-step-comes : (W : Parts) (Z : List OrderShape) (S : State) (s : ℕ) (w : What) → due W S s ≡ StepDue → May W Z S s w → is_step w ≡ true
+step-comes : (W : Parts) (Z : Stored) (S : State) (s : ℕ) (w : What) → due W S s ≡ StepDue → May W Z S s w → is_step w ≡ true
 step-comes W Z S s (what.Step u k c) e may = refl
 step-comes W Z S s _ e may = cc
 
@@ -102,7 +106,7 @@ own-steps s (e ∷ J) =
       no-more true false = omega arith
       no-more false b = omega arith
 
-pub steps-bound-budgets : (W : Parts) (Z : List OrderShape) → StepsBoundBudgets W Z
+pub steps-bound-budgets : (W : Parts) (Z : Stored) → StepsBoundBudgets W Z
 steps-bound-budgets W Z valid stored none n s J most run spent =
     let S : State = last_state W J in
     let is : (w : What) × May W Z S s w = some-next W Z S s (last_state-sound W Z J (runs-are-sound W Z) valid stored run) spent.0 in

@@ -12,7 +12,7 @@ use Rattle.abt_machine.specs.declared.numbers.PoolNo.{PoolNo}
 use Rattle.abt_machine.specs.declared.numbers.UnitNo.{UnitNo}
 use Rattle.abt_machine.specs.declared.operations.Op.{Op}
 use Rattle.abt_machine.specs.declared.operations.Op.TheVariants as op
-use Rattle.abt_machine.specs.declared.operations.OrderShape.{OrderShape}
+use Rattle.abt_machine.specs.Stored.{Stored}
 use Rattle.abt_machine.specs.declared.workload.Parts.{Parts}
 use Rattle.abt_machine.specs.Codes.{code_at, is_unborn}
 use Rattle.abt_machine.specs.Events.{May}
@@ -43,7 +43,7 @@ birth-unborn W S s x u (Some (op.Create v p)) none ok birth =
 birth-unborn W S s x u (Some (op.Revive v p)) none ok birth = absurd (none v p refl)
 birth-unborn W S s x u _ none ok birth = absurd (false≢true birth)
 
-few-after : (W : Parts) (Z : List OrderShape) (S : State) (s u now : ℕ) (w : What) → HasNoRevive W → May W Z S s w → (S.place u ≡ place.Unborn → now ≡ 0) → now ≤ 1 → life_after W u now w ≤ 1
+few-after : (W : Parts) (Z : Stored) (S : State) (s u now : ℕ) (w : What) → HasNoRevive W → May W Z S s w → (S.place u ≡ place.Unborn → now ≡ 0) → now ≤ 1 → life_after W u now w ≤ 1
 few-after W Z S s u now (what.Step v k code.Ok) none may unborn few =
     cond_both (is_birth u (op_at W v.0 k)) (suc now) now (λ n. n ≤ 1)
     (λ birth. (let zero : now ≡ 0 = unborn (birth-unborn W S s v.0 u (op_at W v.0 k) (none v.0 k) (sym may.3) birth) in omega arith)) (λ _. few)
@@ -55,7 +55,7 @@ few-start : (o : Option ℕ) → first_life o ≤ 1
 few-start None = omega arith
 few-start (Some p) = omega arith
 
-module _ (W : Parts) (Z : List OrderShape) (valid : IsValid W) (stored : OrdersStored W Z) (none : HasNoRevive W) (u : ℕ) (declared : u < length W.units) where
+module _ (W : Parts) (Z : Stored) (valid : IsValid W) (stored : OrdersStored W Z.orders) (none : HasNoRevive W) (u : ℕ) (declared : u < length W.units) where
   few-along : (K es : List Event) → Run W Z (K ++ es) → last_life W K u ≤ 1 → last_life W (K ++ es) u ≤ 1
   few-along K [] run few = subst (λ J. last_life W J u ≤ 1) (sym (append-nil K)) few
   few-along K (e ∷ es) run few =
@@ -67,5 +67,5 @@ module _ (W : Parts) (Z : List OrderShape) (valid : IsValid W) (stored : OrdersS
       (few-after W Z (last_state W K) e.stream.0 u (last_life W K u) e.what none may (run-unborn W Z (runs-are-sound W Z) valid stored u declared K before).0 few) in
       subst (λ J. last_life W J u ≤ 1) shift (few-along (K ++ e ∷ []) es (subst (Run W Z) (sym shift) run) next)
 
-pub lives-are-few : (W : Parts) (Z : List OrderShape) → LivesAreFew W Z
+pub lives-are-few : (W : Parts) (Z : Stored) → LivesAreFew W Z
 lives-are-few W Z valid stored none J u run declared = few-along W Z valid stored none u declared [] J run (few-start (start_of W u))

@@ -4,7 +4,7 @@ use Rattle.std.specs.Prelude.{All}
 use Rattle.std.specs.List.Sorted.{IsPermutation}
 use Rattle.std.proofs.lemmas.List.Elements.{All-contains, All-contains_itself, Contains-append_cases}
 use Rattle.std.proofs.lemmas.List.Sorted.{All-permutation, IsPermutation-append_right, IsPermutation-middle, IsPermutation-sym, IsPermutation-trans}
-use Rattle.abt_machine.specs.declared.operations.OrderShape.{OrderShape}
+use Rattle.abt_machine.specs.Stored.{Stored}
 use Rattle.abt_machine.specs.declared.operations.OrderShape.TheVariants as shape
 use Rattle.abt_machine.specs.declared.operations.Rule.TheVariants as rule
 use Rattle.abt_machine.specs.declared.workload.Parts.{Parts}
@@ -20,13 +20,13 @@ split-at (y ∷ ys) (suc k) x l is =
     let rest : (us : List ℕ) × (vs : List ℕ) × (ys ≡ us ++ x ∷ vs) = split-at ys k x (omega arith) is in
     (y ∷ rest.0, rest.1, ap (λ zs. y ∷ zs) rest.2)
 
-free-choice : (W : Parts) (Z : List OrderShape) (g r k : ℕ) → rule_of W g ≡ Some (rule.User k) → slice_get Z k ≡ Some shape.Free → choice_of W Z g r ≡ AnyOrder
-free-choice W Z g r k user free = ap (λ o. choice_by W Z g r o (pools_of W g)) user ∙ ap (λ o. shaped o r (pools_of W g)) free
+free-choice : (W : Parts) (Z : Stored) (g r k : ℕ) → rule_of W g ≡ Some (rule.User k) → slice_get Z.orders k ≡ Some shape.Free → choice_of W Z.orders g r ≡ AnyOrder
+free-choice W Z g r k user free = ap (λ o. choice_by W Z.orders g r o (pools_of W g)) user ∙ ap (λ o. shaped o r (pools_of W g)) free
 
-pub free-orders-are-free : (W : Parts) (Z : List OrderShape) → FreeOrdersAreFree W Z
+pub free-orders-are-free : (W : Parts) (Z : Stored) → FreeOrdersAreFree W Z
 free-orders-are-free W Z f k p way user free listed unseen =
     let ps : List ℕ = pools_of W f.sched in
-    let any : choice_of W Z f.sched f.round ≡ AnyOrder = free-choice W Z f.sched f.round k user free in
+    let any : choice_of W Z.orders f.sched f.round ≡ AnyOrder = free-choice W Z f.sched f.round k user free in
     let permutes : IsPermutation ps way.0 = subst (λ (c : Choice). IsChosen c ps way.0) any way.1 in
     let all : All (Contains way.0) ps = All-permutation (Contains way.0) way.0 ps (IsPermutation-sym ps way.0 permutes) (All-contains_itself way.0) in
     let has : Contains (f.seen ++ way.2 ∷ way.3) p = subst (λ xs. Contains xs p) (sym way.4) (All-contains (Contains way.0) ps p all listed) in

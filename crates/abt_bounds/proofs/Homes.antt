@@ -13,7 +13,7 @@ use Rattle.abt_machine.specs.declared.numbers.PoolNo.{PoolNo}
 use Rattle.abt_machine.specs.declared.numbers.UnitNo.{UnitNo}
 use Rattle.abt_machine.specs.declared.operations.Op.{Op}
 use Rattle.abt_machine.specs.declared.operations.Op.TheVariants as op
-use Rattle.abt_machine.specs.declared.operations.OrderShape.{OrderShape}
+use Rattle.abt_machine.specs.Stored.{Stored}
 use Rattle.abt_machine.specs.declared.workload.Parts.{Parts}
 use Rattle.abt_machine.specs.Access.{may_put, may_reach, may_take}
 use Rattle.abt_machine.specs.Carrying.{advanced, newborn}
@@ -248,7 +248,7 @@ look-leaves W S s u true migrate may = (may, tt)
 look-leaves W S s u false (Some p) may = (may, tt)
 look-leaves W S s u false None may = (may, tt)
 
-module _ (W : Parts) (Z : List OrderShape) (S : State) (s : ℕ) where
+module _ (W : Parts) (Z : Stored) (S : State) (s : ℕ) where
   stepped-within : (u : UnitNo) (k : ℕ) (c : Code) → May W Z S s (what.Step u k c) → GivesWithin W S s (step_row W S s u.0 (op_at W u.0 k) c)
   stepped-within u k c may = step-within W S s u.0 (hand-place W S s u.0 may.1) (op_at W u.0 k) c (sym may.3)
 
@@ -265,6 +265,7 @@ module _ (W : Parts) (Z : List OrderShape) (S : State) (s : ℕ) where
         | inl same ↦ inl same
         | inr given ↦ inr (inl given)
       ]
+  home-after v (what.Call u k n) may = inl (put_all-kept (λ i (d : Carried). d.home ≡ (S.carried i).home) S.carried (change W S s (what.Call u k n)).carried v.0 (refl, tt) refl)
   home-after v _ may = inl refl
 
   request-after : (v : ℕ) (w : What) → May W Z S s w → IsRequestGiven W S s v ((after W S s w).desk v).migrate
@@ -291,6 +292,7 @@ module _ (W : Parts) (Z : List OrderShape) (S : State) (s : ℕ) where
   event-leaves (what.Take p u) keeps may = (let is : StandsIn W S (InPool p.0) u.0 = front-stands W S s p.0 u.0 may.1 in subst (MayLeave W s) (sym is.at) keeps, tt)
   event-leaves (what.Look u) keeps may = look-leaves W S s u.0 (S.desk u.0).cancel (S.desk u.0).migrate (subst (MayLeave W s) (sym (next-place W S s u.0 may.1)) tt)
   event-leaves (what.Step u k c) keeps may = (stepped-within u k c may).3
+  event-leaves (what.Call u k n) keeps may = tt
   event-leaves (what.Put u p) keeps may = (let is : StandsIn W S (InTray s) u.0 = first-stands W S (InTray s) u.0 may.1 in subst (MayLeave W s) (sym is.at) tt, tt)
   event-leaves (what.End u c) keeps may = (hand-leaves W S s u.0 (hand-place W S s u.0 may.1), to-tray W S s (tray_end W S s) (standing W S (Joining u.0)) (line-leaves W S s (Joining u.0) (λ t. tt)))
   event-leaves (what.Enter u) keeps may = (hand-leaves W S s u.0 (hand-place W S s u.0 may.1), tt)
@@ -298,26 +300,26 @@ module _ (W : Parts) (Z : List OrderShape) (S : State) (s : ℕ) where
 
 -- The laws.
 
-pub homes-need-access : (W : Parts) (Z : List OrderShape) → HomesNeedAccess W Z
+pub homes-need-access : (W : Parts) (Z : Stored) → HomesNeedAccess W Z
 homes-need-access W Z S T e v came new =
     let is : IsHomeAfter W S e.stream.0 e.what v (T.carried v.0).home =
     subst (λ (U : State). IsHomeAfter W S e.stream.0 e.what v (U.carried v.0).home) (sym came.2) (home-after W Z S e.stream.0 v e.what came.1) in
     elim is [ inl same ↦ absurd (new same) | inr given ↦ given ]
 
-pub births-need-access : (W : Parts) (Z : List OrderShape) → BirthsNeedAccess W Z
+pub births-need-access : (W : Parts) (Z : Stored) → BirthsNeedAccess W Z
 births-need-access W Z S T e v came new =
     let is : IsLifeGiven W S e.stream.0 v.0 (T.desk v.0).life (T.carried v.0).home =
     subst (λ (U : State). IsLifeGiven W S e.stream.0 v.0 (U.desk v.0).life (U.carried v.0).home) (sym came.2) (life-after W Z S e.stream.0 v.0 e.what came.1) in
     elim is [ inl same ↦ absurd (new same) | inr given ↦ given ]
 
-pub requests-need-access : (W : Parts) (Z : List OrderShape) → RequestsNeedAccess W Z
+pub requests-need-access : (W : Parts) (Z : Stored) → RequestsNeedAccess W Z
 requests-need-access W Z S T e v p came asked new =
     let found : IsRequestGiven W S e.stream.0 v.0 (T.desk v.0).migrate =
     subst (λ (U : State). IsRequestGiven W S e.stream.0 v.0 (U.desk v.0).migrate) (sym came.2) (request-after W Z S e.stream.0 v.0 e.what came.1) in
     let is : IsRequestGiven W S e.stream.0 v.0 (Some p) = subst (IsRequestGiven W S e.stream.0 v.0) asked found in
     elim is [ inl same ↦ absurd (new (sym same)) | inr given ↦ given ]
 
-pub takers-have-access : (W : Parts) (Z : List OrderShape) → TakersHaveAccess W Z
+pub takers-have-access : (W : Parts) (Z : Stored) → TakersHaveAccess W Z
 takers-have-access W Z S T e v p t has came at moved =
     let moves : List (ℕ × Place) = (change W S e.stream.0 e.what).moves in
     let keeps : KeepsAccess W e.stream.0 e.what = (events-keep-access W Z S T e has came).0 in

@@ -74,6 +74,7 @@ kind_read kind a b c =
     else if bytes_eq kind (codes "take") then what.Take (pool_no (value a)) (unit_no (value b))
     else if bytes_eq kind (codes "look") then what.Look (unit_no (value a))
     else if bytes_eq kind (codes "step") then what.Step (unit_no (value a)) (value b) (code_read c)
+    else if bytes_eq kind (codes "call") then what.Call (unit_no (value a)) (value b) (value c)
     else if bytes_eq kind (codes "put") then what.Put (unit_no (value a)) (pool_no (value b))
     else if bytes_eq kind (codes "end") then what.End (unit_no (value a)) (cause_read b)
     else if bytes_eq kind (codes "enter") then what.Enter (unit_no (value a))
@@ -92,6 +93,9 @@ what-back (what.Look u) h = ap (λ n. what.Look (unit_no n)) (value-decimal u.0 
 what-back (what.Step u k c) h =
     ap (λ n. what.Step (unit_no n) (value (decimal k)) (code_read (code_name c))) (value-decimal u.0 h.0)
     ∙ (ap (λ n. what.Step u n (code_read (code_name c))) (value-decimal k h.1.0) ∙ ap (what.Step u k) (code-back c))
+what-back (what.Call u k n) h =
+    ap (λ i. what.Call (unit_no i) (value (decimal k)) (value (decimal n))) (value-decimal u.0 h.0)
+    ∙ (ap (λ i. what.Call u i (value (decimal n))) (value-decimal k h.1.0) ∙ ap (what.Call u k) (value-decimal n h.1.1.0))
 what-back (what.Put u p) h = ap (λ n. what.Put (unit_no n) (pool_no (value (decimal p.0)))) (value-decimal u.0 h.0) ∙ ap (λ n. what.Put u (pool_no n)) (value-decimal p.0 h.1.0)
 what-back (what.End u c) h = ap (λ n. what.End (unit_no n) (cause_read (cause_name c))) (value-decimal u.0 h.0) ∙ ap (what.End u) (cause-back c)
 what-back (what.Enter u) h = ap (λ n. what.Enter (unit_no n)) (value-decimal u.0 h.0)

@@ -63,6 +63,7 @@ solid-what (what.Miss p) = (solid-by (codes "miss") refl, (solid-decimal p.0, tt
 solid-what (what.Take p u) = (solid-by (codes "take") refl, (solid-decimal p.0, (solid-decimal u.0, tt)))
 solid-what (what.Look u) = (solid-by (codes "look") refl, (solid-decimal u.0, tt))
 solid-what (what.Step u k c) = (solid-by (codes "step") refl, (solid-decimal u.0, (solid-decimal k, (solid-code c, tt))))
+solid-what (what.Call u k n) = (solid-by (codes "call") refl, (solid-decimal u.0, (solid-decimal k, (solid-decimal n, tt))))
 solid-what (what.Put u p) = (solid-by (codes "put") refl, (solid-decimal u.0, (solid-decimal p.0, tt)))
 solid-what (what.End u c) = (solid-by (codes "end") refl, (solid-decimal u.0, (solid-cause c, tt)))
 solid-what (what.Enter u) = (solid-by (codes "enter") refl, (solid-decimal u.0, tt))

@@ -1,7 +1,6 @@
 //! Laws of the texts of journals and reports.
 
-ghost use Rattle.std.specs.Prelude.{List};
-ghost use Rattle.abt_machine.specs.declared.operations.OrderShape.{OrderShape};
+ghost use Rattle.abt_machine.specs.Stored.{Stored};
 ghost use Rattle.abt_machine.specs.declared.workload.Parts.{Parts};
 ghost use Rattle.abt_bounds.specs.Laws.{JournalTextsDiffer, LongNumbersCoincide, RunTextsDiffer, RunsNameDeclared, TalliesAddUp};
 
@@ -17,12 +16,12 @@ pub fn long_numbers_coincide()
 
 /// Every event of a run is of a declared stream and names declared things.
 pub fn runs_name_declared()
-    ensures { (W : Parts) (Z : List OrderShape) → RunsNameDeclared W Z }
+    ensures { (W : Parts) (Z : Stored) → RunsNameDeclared W Z }
 {}
 
 /// So different stamped runs have different texts.
 pub fn run_texts_differ()
-    ensures { (W : Parts) (Z : List OrderShape) → RunTextsDiffer W Z }
+    ensures { (W : Parts) (Z : Stored) → RunTextsDiffer W Z }
 {}
 
 /// Each unit of a report is counted once: the numbers of a tally add up to its units.

@@ -56,15 +56,15 @@ module _ (M : Machine) where
         let b : length J ≡ sum_below M.streams (λ r. length (logs r)) = length-logs (λ (e : DeedOf M). e.stamp) (λ (e : DeedOf M). e.stream) logs J merged.1 M.streams gathered.undeclared in
         omega arith
 
-    module _ (rule : LeavesNoGap logs) (streams : M.streams ≤ 16) (short : (s : ℕ) → length (logs s) < 2 ^ 57) where
-      sixteen : (b : ℕ) → sum_below 16 (λ s. b) ≡ 16 * b
-      sixteen b = omega arith
+    module _ (rule : LeavesNoGap logs) (streams : M.streams ≤ 64) (short : (s : ℕ) → length (logs s) < 2 ^ 55) where
+      all-alike : (b : ℕ) → sum_below 64 (λ s. b) ≡ 64 * b
+      all-alike b = omega arith
 
       deeds-low : (s : ℕ) (d : DeedOf M) → Among d (logs s) → d.stamp < 2 ^ 62
       deeds-low s d m =
           let a : d.stamp ≤ sum_below M.streams (λ r. length (logs r)) = few rule s d m in
-          let b : sum_below M.streams (λ r. length (logs r)) ≤ sum_below 16 (λ r. 2 ^ 57) = sum-below-le M.streams (2 ^ 57) (λ r. length (logs r)) (λ r l. let k : length (logs r) < 2 ^ 57 = short r in omega arith) 16 streams in
-          let c : sum_below 16 (λ r. 2 ^ 57) ≡ 16 * (2 ^ 57) = sixteen (2 ^ 57) in
+          let b : sum_below M.streams (λ r. length (logs r)) ≤ sum_below 64 (λ r. 2 ^ 55) = sum-below-le M.streams (2 ^ 55) (λ r. length (logs r)) (λ r l. let k : length (logs r) < 2 ^ 55 = short r in omega arith) 64 streams in
+          let c : sum_below 64 (λ r. 2 ^ 55) ≡ 64 * (2 ^ 55) = all-alike (2 ^ 55) in
           omega arith
 
       none-worn : NoneWorn M logs histories

@@ -21,7 +21,7 @@ pub record NoneWorn (M : Machine) (logs : ℕ → List (DeedOf M)) (histories : 
   pub streams : (s : ℕ) → last_stamp (deed_stamps (logs s)) < 2 ^ 62
   pub objects : (x : M.Place) → last_stamp (entry_stamps (histories x)) < 2 ^ 62
 
--- no clock is worn with at most 16 streams, whose logs are shorter than 2^57
+-- no clock is worn with at most 64 streams, whose logs are shorter than 2^55
 abbrev pub NeverWorn : Machine → Type 0
 NeverWorn M = (parts : ℕ → M.Part) (objects : M.Place → M.Object) (logs : ℕ → List (DeedOf M)) (histories : M.Place → List (EntryOf M)) (ends : ℕ → M.Part) (finals : M.Place → M.Object) →
-    Gathered M parts objects logs histories ends finals → LeavesNoGap logs → M.streams ≤ 16 → ((s : ℕ) → length (logs s) < 2 ^ 57) → NoneWorn M logs histories
+    Gathered M parts objects logs histories ends finals → LeavesNoGap logs → M.streams ≤ 64 → ((s : ℕ) → length (logs s) < 2 ^ 55) → NoneWorn M logs histories

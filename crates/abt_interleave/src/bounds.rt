@@ -14,7 +14,7 @@ pub fn stamps_are_few<M: AnyMachine>()
     ensures { StampsAreFew M.machine }
 {}
 
-/// A machine of at most 16 streams with logs shorter than 2^57 has all stamps below 2^62.
+/// A machine of at most 64 streams with logs shorter than 2^55 has all stamps below 2^62.
 pub fn never_worn<M: AnyMachine>()
     ensures { NeverWorn M.machine }
 {}

@@ -1,5 +1,5 @@
 -- An event may come, and changes the same, in states that are alike at its stream and its site.
-use Rattle.std.proofs.Common.{◌≡◌, ℕ, suc, ◌-◌, Bool, true, false, List, [], ◌∷◌, length, Option, Some, None, refl, sym, ◌∙◌, ap, subst, inl}
+use Rattle.std.proofs.Common.{◌≡◌, ℕ, suc, ◌-◌, Bool, true, false, [], ◌∷◌, length, Option, Some, None, refl, sym, ◌∙◌, ap, subst, inl}
 use Rattle.abt_machine.specs.declared.events.Code.{Code}
 use Rattle.abt_machine.specs.declared.events.Code.TheVariants as code
 use Rattle.abt_machine.specs.declared.events.Place.TheVariants as place
@@ -7,7 +7,7 @@ use Rattle.abt_machine.specs.declared.events.Site.TheVariants as site
 use Rattle.abt_machine.specs.declared.events.What.{What}
 use Rattle.abt_machine.specs.declared.events.What.TheVariants as what
 use Rattle.abt_machine.specs.declared.operations.Op.{Op}
-use Rattle.abt_machine.specs.declared.operations.OrderShape.{OrderShape}
+use Rattle.abt_machine.specs.Stored.{Stored, Returns}
 use Rattle.abt_machine.specs.declared.workload.Parts.{Parts}
 use Rattle.abt_machine.specs.Numbers.{stream_no, unit_no}
 use Rattle.abt_machine.specs.Workloads.{body_at, op_at}
@@ -15,7 +15,7 @@ use Rattle.abt_machine.specs.Operations.{IsDeclared}
 use Rattle.abt_machine.specs.Valid.{IsValid}
 use Rattle.abt_machine.specs.EventSites.{op_site, site_at, what_site}
 use Rattle.abt_machine.specs.Queues.{first}
-use Rattle.abt_machine.specs.Carrying.{refused, with_home}
+use Rattle.abt_machine.specs.Carrying.{advanced, refused, with_acc, with_home}
 use Rattle.abt_machine.specs.State.{State, Stream, Carried, Desk, Plain, Asked}
 use Rattle.abt_machine.specs.Lines.{InTray, Joining, hand, standing}
 use Rattle.abt_machine.specs.Rounds.{IsNextPool}
@@ -62,13 +62,14 @@ module _ (W : Parts) (S T : State) (s u : ℕ) (alike : IsAlike W s (Some (site.
   look-alike : look_row W S s u (S.desk u).cancel (S.desk u).migrate ≡ look_row W T s u (T.desk u).cancel (T.desk u).migrate
   look-alike = look-at (S.desk u).cancel (S.desk u).migrate ∙ ap (λ (d : Desk). look_row W T s u d.cancel d.migrate) same-desk
 
-module _ (W : Parts) (valid : IsValid W) (Z : List OrderShape) (S T : State) (s : ℕ) where
+module _ (W : Parts) (valid : IsValid W) (Z : Stored) (S T : State) (s : ℕ) where
   -- an event changes the same
   pub change-alike : (w : What) → IsAlike W s (what_site W s w) S T → May W Z S s w → change W S s w ≡ change W T s w
   change-alike (what.Miss p) alike may = λ i. record no_change { streams = (s, round_missed W p.0 (alike.stream i)) ∷ [] }
   change-alike (what.Take p u) alike may = λ i. record no_change { moves = (u.0, place.Next (stream_no s)) ∷ []; streams = (s, round_taken (alike.stream i)) ∷ [] }
   change-alike (what.Look u) alike may = look-alike W S T s u.0 alike (next-kept W S s _ u.0 may.1)
   change-alike (what.Step u k c) alike may = step-alike W valid S T s u.0 may.1 (op_at W u.0 k) c (λ o e. op-declared W u.0 k o valid e) (sym may.3) alike
+  change-alike (what.Call u k n) alike may = ap (λ (c : Carried). record no_change { carried = (u.0, advanced (with_acc n c)) ∷ [] }) (caller-alike W s _ S T alike u.0 may.1)
   change-alike (what.Put u p) alike may = λ i. record no_change { moves = (u.0, place.Pool p (alike.pool_next p.0 refl i)) ∷ []; pool_next = (p.0, suc (alike.pool_next p.0 refl i)) ∷ [] }
   change-alike (what.End u c) alike may =
       let w : standing W S (Joining u.0) ≡ standing W T (Joining u.0) = standing-alike W s _ S T alike (Joining u.0) refl in
@@ -79,9 +80,9 @@ module _ (W : Parts) (valid : IsValid W) (Z : List OrderShape) (S T : State) (s 
   -- an event may come
   pub may-alike : (w : What) → IsAlike W s (what_site W s w) S T → May W Z S s w → May W Z T s w
   may-alike (what.Miss p) alike may =
-      (sym (due-alike W s _ S T alike) ∙ may.0, sym (front-alike W s _ S T alike p.0 refl) ∙ may.1, subst (λ (own : Stream). IsNextPool W Z own.top p.0) alike.stream may.2)
+      (sym (due-alike W s _ S T alike) ∙ may.0, sym (front-alike W s _ S T alike p.0 refl) ∙ may.1, subst (λ (own : Stream). IsNextPool W Z.orders own.top p.0) alike.stream may.2)
   may-alike (what.Take p u) alike may =
-      (sym (due-alike W s _ S T alike) ∙ may.0, sym (front-alike W s _ S T alike p.0 refl) ∙ may.1, subst (λ (own : Stream). IsNextPool W Z own.top p.0) alike.stream may.2)
+      (sym (due-alike W s _ S T alike) ∙ may.0, sym (front-alike W s _ S T alike p.0 refl) ∙ may.1, subst (λ (own : Stream). IsNextPool W Z.orders own.top p.0) alike.stream may.2)
   may-alike (what.Look u) alike may = (sym (due-alike W s _ S T alike) ∙ may.0, sym (next-alike W s _ S T alike) ∙ may.1)
   may-alike (what.Step u k c) alike may =
       let same : S.carried u.0 ≡ T.carried u.0 = caller-alike W s _ S T alike u.0 may.1 in (
@@ -89,6 +90,14 @@ module _ (W : Parts) (valid : IsValid W) (Z : List OrderShape) (S T : State) (s 
         sym (hand-alike W s _ S T alike) ∙ may.1,
         ap (λ (c : Carried). c.position) (sym same) ∙ may.2,
         may.3 ∙ code_at-alike W s u.0 S T (op_at W u.0 k) alike,
+        may.4,
+      )
+  may-alike (what.Call u k n) alike may =
+      let same : S.carried u.0 ≡ T.carried u.0 = caller-alike W s _ S T alike u.0 may.1 in (
+        sym (due-alike W s _ S T alike) ∙ may.0,
+        sym (hand-alike W s _ S T alike) ∙ may.1,
+        ap (λ (c : Carried). c.position) (sym same) ∙ may.2,
+        subst (λ (c : Carried). Returns Z (op_at W u.0 k) u.0 c n) same may.3,
       )
   may-alike (what.Put u p) alike may =
       let same : S.carried u.0 ≡ T.carried u.0 = (alike.units u.0 (inl (first-kept W S s _ (InTray s) u.0 refl may.1))).1 in (

@@ -1,10 +1,10 @@
 -- No barrier has as many waiters as parties after a change.
-use Rattle.std.proofs.Common.{◌≡◌, ◌≢◌, ℕ, suc, ◌<◌, ◌≤◌, List, length, Some, sym, ◌∙◌, ap, subst, arith, inl, inr}
+use Rattle.std.proofs.Common.{◌≡◌, ◌≢◌, ℕ, suc, ◌<◌, ◌≤◌, length, Some, sym, ◌∙◌, ap, subst, arith, inl, inr}
 use Rattle.std.proofs.lemmas.Bool.{cases_eq}
 use Rattle.abt_machine.specs.declared.events.Place.{Place}
 use Rattle.abt_machine.specs.declared.events.Place.TheVariants as place
 use Rattle.abt_machine.specs.declared.events.Spot.TheVariants as spot
-use Rattle.abt_machine.specs.declared.operations.OrderShape.{OrderShape}
+use Rattle.abt_machine.specs.Stored.{Stored}
 use Rattle.abt_machine.specs.declared.operations.Thing.TheVariants as thing
 use Rattle.abt_machine.specs.declared.workload.Parts.{Parts}
 use Rattle.abt_machine.specs.Workloads.{thing_at}
@@ -23,7 +23,7 @@ abbrev pub IsOffBarriers : Parts → Place → Type 0
 IsOffBarriers W (place.Blocked (spot.Object x) t) = (n : ℕ) → thing_at W x.0 ≡ Some (thing.Barrier n) → ⊥
 IsOffBarriers W _ = Unit {0}
 
-module _ (W : Parts) (Z : List OrderShape) (S : State) (sound : Sound W Z S) where
+module _ (W : Parts) (Z : Stored) (S : State) (sound : Sound W Z S) where
   -- if nobody comes to wait at a barrier, barriers hold
   pub barriers-stay : (c : Change) → EachOf (λ (m : ℕ × Place). IsOffBarriers W m.1) c.moves → BarriersHold W (changed S c)
   barriers-stay c off x n is =

@@ -4,7 +4,7 @@ use Rattle.abt_machine.specs.declared.events.Event.{Event}
 use Rattle.abt_machine.specs.declared.events.Site.{Site}
 use Rattle.abt_machine.specs.declared.events.Site.TheVariants as site
 use Rattle.abt_machine.specs.declared.events.What.{What}
-use Rattle.abt_machine.specs.declared.operations.OrderShape.{OrderShape}
+use Rattle.abt_machine.specs.Stored.{Stored}
 use Rattle.abt_machine.specs.declared.workload.Parts.{Parts}
 use Rattle.abt_machine.specs.Numbers.{pool_no, unit_no, object_no}
 use Rattle.abt_machine.specs.Maps.{put_all}
@@ -54,7 +54,7 @@ module _ (W : Parts) (S : State) (s r : ℕ) (x y : Option Site) (c d : Change) 
     stream = streams-commute i;
   }
 
-module _ (W : Parts) (valid : IsValid W) (Z : List OrderShape) (S : State) (s r : ℕ) (w v : What) (ne : s ≢ r) (apart : Apart (what_site W s w) (what_site W r v)) (first : May W Z S s w) where
+module _ (W : Parts) (valid : IsValid W) (Z : Stored) (S : State) (s r : ℕ) (w v : What) (ne : s ≢ r) (apart : Apart (what_site W s w) (what_site W r v)) (first : May W Z S s w) where
   here : IsLocal W S s (what_site W s w) (change W S s w)
   here = event-local W valid Z S s w first
 
@@ -89,7 +89,8 @@ module _ (W : Parts) (valid : IsValid W) (Z : List OrderShape) (S : State) (s r 
         ∙ ap (changed (after W S r v)) (change-alike W valid Z S (after W S r v) s w left first))
 
 -- if one event may come and then the other, the other may come first and then the one, with the same state after both
-pub events-commute : (W : Parts) → IsValid W → (Z : List OrderShape) (S T U : State) (e f : Event) → e.stream.0 ≢ f.stream.0 → Apart (event_site W e) (event_site W f) → After W Z S e T → After W Z T f U → (V : State) × After W Z S f V × After W Z V e U
+pub events-commute : (W : Parts) → IsValid W → (Z : Stored) (S T U : State) (e f : Event) → e.stream.0 ≢ f.stream.0 → Apart (event_site W e) (event_site W f) → After W Z S e T → After W Z T f U →
+    (V : State) × After W Z S f V × After W Z V e U
 events-commute W valid Z S T U e f ne apart one two =
     let second : May W Z (after W S e.stream.0 e.what) f.stream.0 f.what = subst (λ R. May W Z R f.stream.0 f.what) one.2 two.1 in
     let end : U ≡ after W (after W S e.stream.0 e.what) f.stream.0 f.what = two.2 ∙ ap (λ R. after W R f.stream.0 f.what) one.2 in (

@@ -1,8 +1,8 @@
 -- Every event lowers the measure of a run.
-use Rattle.std.proofs.Common.{ℕ, ◌<◌, List, [], ◌∷◌, sym, subst}
+use Rattle.std.proofs.Common.{ℕ, ◌<◌, [], ◌∷◌, sym, subst}
 use Rattle.abt_machine.specs.declared.events.What.{What}
 use Rattle.abt_machine.specs.declared.events.What.TheVariants as what
-use Rattle.abt_machine.specs.declared.operations.OrderShape.{OrderShape}
+use Rattle.abt_machine.specs.Stored.{Stored}
 use Rattle.abt_machine.specs.declared.workload.Parts.{Parts}
 use Rattle.abt_machine.specs.State.{State}
 use Rattle.abt_machine.specs.Start.{start}
@@ -17,9 +17,10 @@ use Rattle.abt_laws.proofs.StepsLeft.{steps_left-falls, steps_left-same}
 use Rattle.abt_laws.proofs.WeightFalls.{end-falls, enter-falls, leave-falls, look-falls, put-falls, take-falls}
 
 -- what an event lowers in a sound state
-event-falls : (W : Parts) (Z : List OrderShape) (S : State) (s : ℕ) (w : What) → s < W.streams → Sound W Z S → May W Z S s w → FallsBy W s w S (after W S s w)
+event-falls : (W : Parts) (Z : Stored) (S : State) (s : ℕ) (w : What) → s < W.streams → Sound W Z S → May W Z S s w → FallsBy W s w S (after W S s w)
 event-falls W Z S s (what.Miss p) declared sound may = (miss-keeps-weight W S s p, miss-ends-stacked W S s p declared may.0, miss-keeps-frames W S s p may.0)
 event-falls W Z S s (what.Step u k c) declared sound may = tt
+event-falls W Z S s (what.Call u k n) declared sound may = tt
 event-falls W Z S s (what.Take p u) declared sound may = take-falls W S s p u may.1
 event-falls W Z S s (what.Look u) declared sound may = look-falls W Z S s u sound may.1
 event-falls W Z S s (what.Put u p) declared sound may = put-falls W S s u p may.1
@@ -27,7 +28,7 @@ event-falls W Z S s (what.End u c) declared sound may = end-falls W S s u c may.
 event-falls W Z S s (what.Enter u) declared sound may = enter-falls W S s u may.0 may.1
 event-falls W Z S s (what.Leave u) declared sound may = leave-falls W Z S s u sound may.0 may.1
 
-pub events-fall : (W : Parts) (Z : List OrderShape) → RunsAreSound W Z → EventsFall W Z
+pub events-fall : (W : Parts) (Z : Stored) → RunsAreSound W Z → EventsFall W Z
 events-fall W Z runs valid stored n J e run =
     let known : Sound W Z (last_state W J) = last_state-sound W Z J runs valid stored (run-front W Z (start W) J (e ∷ []) run) in
     let last : RunFrom W Z (last_state W J) (e ∷ []) = run-rest W Z (start W) J (e ∷ []) run in

@@ -16,11 +16,13 @@ pub mod Granted
 pub mod Keeping
 pub mod KeptLocks
 pub mod LifeActs
+mod LifeCalls
 pub mod LifeEnds
 pub mod LifeEvents
 pub mod LifeJournals
 pub mod LifeLists
 pub mod LifeMoves
+pub mod LifeOver
 pub mod LifeRows
 pub mod LifeRuns
 pub mod LifeStepShapes
@@ -40,6 +42,7 @@ pub mod ObjectSites
 pub mod OpenFrames
 pub mod Options
 pub mod Orders
+pub mod Owning
 pub mod Places
 pub mod Prefixes
 pub mod Pushes

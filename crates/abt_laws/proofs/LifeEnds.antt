@@ -9,7 +9,7 @@ use Rattle.abt_machine.specs.declared.events.What.TheVariants as what
 use Rattle.abt_machine.specs.declared.numbers.UnitNo.{UnitNo}
 use Rattle.abt_machine.specs.declared.operations.Body.{Body}
 use Rattle.abt_machine.specs.declared.operations.Body.TheVariants as body
-use Rattle.abt_machine.specs.declared.operations.OrderShape.{OrderShape}
+use Rattle.abt_machine.specs.Stored.{Stored}
 use Rattle.abt_machine.specs.declared.workload.Parts.{Parts}
 use Rattle.abt_machine.specs.Numbers.{stream_no}
 use Rattle.abt_machine.specs.Maps.{put_at}
@@ -67,7 +67,7 @@ due-fits W s m b k c =
     (λ m b program over h. let e : cause.Done ≡ c = cc in subst (EndFits m b k) e (done-fits m b k program over))
     m b
 
-module _ (W : Parts) (Z : List OrderShape) (S : State) (s u : ℕ) where
+module _ (W : Parts) (Z : Stored) (S : State) (s u : ℕ) where
   -- An end.
 
   module _ (v : UnitNo) (c : Cause) (may : May W Z S s (what.End v c)) where

@@ -1,11 +1,11 @@
 -- What a miss, a take, a put and a look mean to units.
-use Rattle.std.proofs.Common.{◌≡◌, ℕ, Bool, true, false, List, [], ◌∷◌, Option, Some, None, refl, sym, ◌∙◌, ap, subst, inl}
+use Rattle.std.proofs.Common.{◌≡◌, ℕ, Bool, true, false, [], ◌∷◌, Option, Some, None, refl, sym, ◌∙◌, ap, subst, inl}
 use Rattle.abt_machine.specs.declared.events.Place.{Place}
 use Rattle.abt_machine.specs.declared.events.Place.TheVariants as place
 use Rattle.abt_machine.specs.declared.events.What.TheVariants as what
 use Rattle.abt_machine.specs.declared.numbers.PoolNo.{PoolNo}
 use Rattle.abt_machine.specs.declared.numbers.UnitNo.{UnitNo}
-use Rattle.abt_machine.specs.declared.operations.OrderShape.{OrderShape}
+use Rattle.abt_machine.specs.Stored.{Stored}
 use Rattle.abt_machine.specs.declared.workload.Parts.{Parts}
 use Rattle.abt_machine.specs.Numbers.{stream_no, pool_no}
 use Rattle.abt_machine.specs.Maps.{put_at}
@@ -25,7 +25,7 @@ use Rattle.abt_laws.proofs.Exits.{is_exited, exited_at}
 use Rattle.abt_laws.proofs.LifeTies.{IsOutside, IsBusy, passage_of_mark, passage_at, Fate, Drifting}
 use Rattle.abt_laws.proofs.LifeActs.{event-fate, acts-quietly}
 
-module _ (W : Parts) (Z : List OrderShape) (S : State) (s u : ℕ) where
+module _ (W : Parts) (Z : Stored) (S : State) (s u : ℕ) where
   pub miss-fate : (p : PoolNo) → Fate W u (what.Miss p) S (after W S s (what.Miss p))
   miss-fate p = Drifting refl (λ n. refl) (record { life = refl; position = refl; moves = inl refl; marks = λ r at. marks-kept S s (round_missed W p.0 (S.stream s)) refl r })
 

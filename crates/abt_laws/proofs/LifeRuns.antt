@@ -5,7 +5,7 @@ use Rattle.std.proofs.lemmas.List.{append-nil}
 use Rattle.abt_machine.specs.declared.events.Event.{Event}
 use Rattle.abt_machine.specs.declared.events.Place.TheVariants as place
 use Rattle.abt_machine.specs.declared.events.What.{What}
-use Rattle.abt_machine.specs.declared.operations.OrderShape.{OrderShape}
+use Rattle.abt_machine.specs.Stored.{Stored}
 use Rattle.abt_machine.specs.declared.workload.Parts.{Parts}
 use Rattle.abt_machine.specs.Valid.{IsValid}
 use Rattle.abt_machine.specs.Rounds.{OrdersStored}
@@ -68,7 +68,7 @@ start-tied W u = record {
 
 -- Runs.
 
-module _ (W : Parts) (Z : List OrderShape) (sound : RunsAreSound W Z) (valid : IsValid W) (stored : OrdersStored W Z) (u : ℕ) (declared : u < length W.units) where
+module _ (W : Parts) (Z : Stored) (sound : RunsAreSound W Z) (valid : IsValid W) (stored : OrdersStored W Z.orders) (u : ℕ) (declared : u < length W.units) where
   -- one event more
   tied-more : (K : List Event) (e : Event) → Run W Z K → Run W Z (K ++ e ∷ []) → May W Z (last_state W K) e.stream.0 e.what → TiedTo W K (last_state W K) u → TiedTo W (K ++ e ∷ []) (last_state W (K ++ e ∷ [])) u
   tied-more K e run more may tied =
@@ -89,7 +89,7 @@ module _ (W : Parts) (Z : List OrderShape) (sound : RunsAreSound W Z) (valid : I
       subst (λ J. TiedTo W J (last_state W J) u) shift (tied-along-run (K ++ e ∷ []) es whole more)
 
   -- after a run its events are tied to the last state
-  run-tied : (J : List Event) → Run W Z J → TiedTo W J (last_state W J) u
+  pub run-tied : (J : List Event) → Run W Z J → TiedTo W J (last_state W J) u
   run-tied J run = tied-along-run [] J run (start-tied W u)
 
   -- the life that unit u is in after a run is the state's
@@ -117,7 +117,7 @@ tied-lives W u now events S tied l some =
       ]
     ]
 
-pub runs-live : (W : Parts) (Z : List OrderShape) → RunsAreSound W Z → RunsLive W Z
+pub runs-live : (W : Parts) (Z : Stored) → RunsAreSound W Z → RunsLive W Z
 runs-live W Z sound valid stored J run = record {
   lives = λ u l declared some. tied-lives W u (last_life W J u) (life_events W J u) (last_state W J) (run-tied W Z sound valid stored u declared J run) l some;
   ended = λ u l declared some below. ((run-tied W Z sound valid stored u declared J run).earlier l some below).1;

@@ -111,6 +111,23 @@ acts-by_step b v k c S T now program at busy stays life position exited does = r
   cause = λ x h. absurd (none≢some h);
 }
 
+-- so does one that makes a call
+pub acts-by_call : (b : Body) (v : UnitNo) (k : ℕ) (n : ℕ) (S T : State) (now : Bool) → is_sched b ≡ false → (S.carried v.0).position ≡ k → IsBusy (S.place v.0) → IsBusy (T.place v.0) →
+    (T.desk v.0).life ≡ (S.desk v.0).life → (T.carried v.0).position ≡ suc (S.carried v.0).position →
+    exited_at T.stream (T.place v.0) ≡ now → DoesNext b v.0 k S now → Acts b v.0 (what.Call v k n) S T
+acts-by_call b v k n S T now program at busy stays life position exited does = record {
+  busy = busy;
+  born = λ e. subst IsBusy e stays;
+  life = life;
+  steps = ap count_up position ∙ ap (λ i. count_up (S.carried v.0).position ++ i ∷ []) at;
+  ends = ends-busy (T.place v.0) stays;
+  passes = λ h. absurd (true≢false (sym h ∙ program));
+  done = λ done.
+      done-kept (ops_of b) now (exited_at T.stream (T.place v.0)) (suc k) (T.carried v.0).position exited (position ∙ ap (λ i. suc i) at)
+      (does (subst (λ i. HasDone (exited_at S.stream (S.place v.0)) (take i (ops_of b))) at done));
+  cause = λ x h. absurd (none≢some h);
+}
+
 -- a unit that has not ended itself has not after such a step
 alive-own : (S : State) (x : ℕ) (ch : Change) → exited_at S.stream (S.place x) ≡ false → Steps S x ch → exited_at (changed S ch).stream ((changed S ch).place x) ≡ false
 alive-own S x ch alive step =

@@ -8,7 +8,7 @@ use Rattle.abt_machine.specs.declared.events.What.TheVariants as what
 use Rattle.abt_machine.specs.declared.numbers.UnitNo.{UnitNo}
 use Rattle.abt_machine.specs.declared.operations.Op.{Op}
 use Rattle.abt_machine.specs.declared.operations.Op.TheVariants as op
-use Rattle.abt_machine.specs.declared.operations.OrderShape.{OrderShape}
+use Rattle.abt_machine.specs.Stored.{Stored}
 use Rattle.abt_machine.specs.declared.workload.Parts.{Parts}
 use Rattle.abt_machine.specs.Numbers.{stream_no}
 use Rattle.abt_machine.specs.Workloads.{body_at, op_at, ops_of, is_sched}
@@ -35,7 +35,7 @@ use Rattle.abt_laws.proofs.LifeActs.{event-fate}
 use Rattle.abt_laws.proofs.LifeStepShapes.{DoesNext, acts-by_step, step-fate, birth-fate}
 use Rattle.abt_laws.proofs.LifeRows.{Goes, goes, row-refused}
 
-module _ (W : Parts) (Z : List OrderShape) (S : State) (sound : Sound W Z S) (s u : ℕ) where
+module _ (W : Parts) (Z : Stored) (S : State) (sound : Sound W Z S) (s u : ℕ) where
   module _ (v : UnitNo) (k : ℕ) (c : Code) (may : May W Z S s (what.Step v k c)) where
     steps-from : S.place v.0 ≡ place.Hand (stream_no s)
     steps-from = hand-place W S s v.0 may.1

@@ -1,12 +1,12 @@
 -- Every event changes only its stream, its site, and units that these keep.
-use Rattle.std.proofs.Common.{◌≡◌, ℕ, Bool, true, false, List, Option, Some, None, refl, sym, subst}
+use Rattle.std.proofs.Common.{◌≡◌, ℕ, Bool, true, false, Option, Some, None, refl, sym, subst}
 use Rattle.abt_machine.specs.declared.events.Code.{Code}
 use Rattle.abt_machine.specs.declared.events.Code.TheVariants as code
 use Rattle.abt_machine.specs.declared.events.Site.TheVariants as site
 use Rattle.abt_machine.specs.declared.events.What.{What}
 use Rattle.abt_machine.specs.declared.events.What.TheVariants as what
 use Rattle.abt_machine.specs.declared.operations.Op.{Op}
-use Rattle.abt_machine.specs.declared.operations.OrderShape.{OrderShape}
+use Rattle.abt_machine.specs.Stored.{Stored}
 use Rattle.abt_machine.specs.declared.workload.Parts.{Parts}
 use Rattle.abt_machine.specs.Numbers.{unit_no}
 use Rattle.abt_machine.specs.Workloads.{op_at}
@@ -48,7 +48,7 @@ module _ (W : Parts) (S : State) (s u : ℕ) where
   local-look false None k = local-stream W S s _ _ (local-desk W S s _ _ (local-moves W S s _ no_change (local-none W S s _) _ ((k, refl), tt)) u _ refl) _
   local-look false (Some p) k = local-desk W S s _ _ (local-carried W S s _ _ (local-moves W S s _ no_change (local-none W S s _) _ ((k, refl), tt)) _ (k, tt)) u _ refl
 
-module _ (W : Parts) (valid : IsValid W) (Z : List OrderShape) (S : State) (s : ℕ) where
+module _ (W : Parts) (valid : IsValid W) (Z : Stored) (S : State) (s : ℕ) where
   pub event-local : (w : What) → May W Z S s w → IsLocal W S s (what_site W s w) (change W S s w)
   event-local (what.Miss p) may = local-stream W S s _ no_change (local-none W S s _) _
   event-local (what.Take p u) may = local-stream W S s _ _ (local-moves W S s _ no_change (local-none W S s _) _ ((front-kept W S s _ p.0 u.0 refl may.1, refl), tt)) _
@@ -56,6 +56,7 @@ module _ (W : Parts) (valid : IsValid W) (Z : List OrderShape) (S : State) (s : 
   event-local (what.Step u k c) may =
       subst (λ d. IsLocal W S s (step_site W s u.0 k) (step_row W S s u.0 (op_at W u.0 k) d)) (sym may.3)
       (local-step W valid S s u.0 may.1 (op_at W u.0 k) (λ o e. op-declared W u.0 k o valid e))
+  event-local (what.Call u k n) may = local-carried W S s _ no_change (local-none W S s _) _ (hand-kept W S s _ u.0 may.1, tt)
   event-local (what.Put u p) may = local-pool_next W S s _ _ (local-moves W S s _ no_change (local-none W S s _) _ ((first-kept W S s _ (InTray s) u.0 refl may.1, refl), tt)) p.0 _ refl
   event-local (what.End u c) may =
       local-desk W S s _ _

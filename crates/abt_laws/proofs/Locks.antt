@@ -1,10 +1,10 @@
 -- Reader-writer locks at which the same units wait after a change.
-use Rattle.std.proofs.Common.{◌≡◌, ◌≢◌, ℕ, ◌==◌, List, [], ◌∷◌, length, Option, Some, None, refl, sym, ◌∙◌, ap, subst, inl, inr}
+use Rattle.std.proofs.Common.{◌≡◌, ◌≢◌, ℕ, ◌==◌, [], ◌∷◌, length, Option, Some, None, refl, sym, ◌∙◌, ap, subst, inl, inr}
 use Rattle.std.proofs.lemmas.Bool.{cases_eq, cond-false, ne_eqb}
 use Rattle.abt_machine.specs.declared.events.Place.{Place}
 use Rattle.abt_machine.specs.declared.events.Place.TheVariants as place
 use Rattle.abt_machine.specs.declared.events.Spot.TheVariants as spot
-use Rattle.abt_machine.specs.declared.operations.OrderShape.{OrderShape}
+use Rattle.abt_machine.specs.Stored.{Stored}
 use Rattle.abt_machine.specs.declared.operations.Thing.TheVariants as thing
 use Rattle.abt_machine.specs.declared.workload.Parts.{Parts}
 use Rattle.abt_machine.specs.Maps.{put_all}
@@ -53,7 +53,7 @@ elsewhere x y t apart = cond-false (x == y) (Some t) None (ne_eqb x y (λ e. apa
 pub same-waiters : (W : Parts) (S : State) (c : Change) (x : ℕ) → NoneTo (Waiting x) c.moves → NoneFrom (Waiting x) S.place c.moves → standing W (changed S c) (Waiting x) ≡ standing W S (Waiting x)
 same-waiters W S c x to from = line-stays (length W.units) (Waiting x) S.place c.moves to from
 
-module _ (W : Parts) (Z : List OrderShape) (S : State) (c : Change) (sound : Sound W Z S) where
+module _ (W : Parts) (Z : Stored) (S : State) (c : Change) (sound : Sound W Z S) where
   -- a lock that is the same, at which the same units wait
   holds-still : (x : ℕ) → thing_at W x ≡ Some thing.RwLock → (changed S c).rwlock x ≡ S.rwlock x → standing W (changed S c) (Waiting x) ≡ standing W S (Waiting x) →
       IsKept ((changed S c).rwlock x) (standing W (changed S c) (Waiting x))

@@ -9,7 +9,7 @@ use Rattle.abt_machine.specs.declared.events.What.{What}
 use Rattle.abt_machine.specs.declared.events.What.TheVariants as what
 use Rattle.abt_machine.specs.declared.operations.Kind.{Kind}
 use Rattle.abt_machine.specs.declared.operations.Kind.TheVariants as kind
-use Rattle.abt_machine.specs.declared.operations.OrderShape.{OrderShape}
+use Rattle.abt_machine.specs.Stored.{Stored}
 use Rattle.abt_machine.specs.declared.workload.Parts.{Parts}
 use Rattle.abt_machine.specs.Numbers.{stream_no}
 use Rattle.abt_machine.specs.Maps.{put_at}
@@ -42,7 +42,7 @@ over-in-no-line _ _ over = absurd over
 all-over-stand-nowhere : (W : Parts) (S : State) (l : Line) → AllEnded S → standing W S l ≡ []
 all-over-stand-nowhere W S l ended = empty-standing W S l (λ v t h. none≢some (sym (over-in-no-line l (S.place v) (ended v)) ∙ h))
 
-all-over-no-frame : (W : Parts) (Z : List OrderShape) (S : State) (s : ℕ) → Sound W Z S → AllEnded S → (fs : List Frame) → (S.stream s).below ≡ fs → fs ≡ []
+all-over-no-frame : (W : Parts) (Z : Stored) (S : State) (s : ℕ) → Sound W Z S → AllEnded S → (fs : List Frame) → (S.stream s).below ≡ fs → fs ≡ []
 all-over-no-frame W Z S s sound ended [] e = refl
 all-over-no-frame W Z S s sound ended (f ∷ fs) e =
     let some : 0 < length (S.stream s).below = subst (λ (gs : List Frame). 0 < length gs) (sym e) (omega arith) in
@@ -50,7 +50,7 @@ all-over-no-frame W Z S s sound ended (f ∷ fs) e =
     let over : IsOver (place.Frame (stream_no s) 0) = subst IsOver held.1 (ended held.0) in
     absurd over
 
-pub ended-quiet : (W : Parts) (Z : List OrderShape) (S : State) → Sound W Z S → AllEnded S → Quiet W S
+pub ended-quiet : (W : Parts) (Z : Stored) (S : State) → Sound W Z S → AllEnded S → Quiet W S
 ended-quiet W Z S sound ended = record {
   trays = λ s _. all-over-stand-nowhere W S (InTray s) ended;
   nexts = λ s _. all-over-stand-nowhere W S (InNext s) ended;
@@ -89,21 +89,22 @@ nobody-in-front kind.Deque false us u e h = nobody-first us u e h
 nobody-in-front kind.Deque true us u e h = none≢some (ap last (sym e) ∙ h)
 
 -- without stacked frames the top frame is the main scheduler's
-pub lone-frame-main : (W : Parts) (Z : List OrderShape) (S : State) (s : ℕ) → s < W.streams → Sound W Z S → (S.stream s).below ≡ [] → (S.stream s).top.sched ≡ main_of W s
+pub lone-frame-main : (W : Parts) (Z : Stored) (S : State) (s : ℕ) → s < W.streams → Sound W Z S → (S.stream s).below ≡ [] → (S.stream s).top.sched ≡ main_of W s
 lone-frame-main W Z S s declared sound alone =
     subst (λ (fs : List Frame). IfSome (last ((S.stream s).top ∷ fs)) (λ (f : Frame). f.sched ≡ main_of W s)) alone (sound.lowest s declared)
 
-quiet-front : (W : Parts) (Z : List OrderShape) (S : State) (s p u : ℕ) → s < W.streams → Sound W Z S → Quiet W S → IsNextPool W Z (S.stream s).top p → front W S s p ≡ Some u → ⊥
+quiet-front : (W : Parts) (Z : Stored) (S : State) (s p u : ℕ) → s < W.streams → Sound W Z S → Quiet W S → IsNextPool W Z.orders (S.stream s).top p → front W S s p ≡ Some u → ⊥
 quiet-front W Z S s p u declared sound quiet following taken =
     let listed : Contains (pools_of W (main_of W s)) p =
     subst (λ g. Contains (pools_of W g) p) (lone-frame-main W Z S s declared sound (quiet.frames s declared)) (next_pool-listed W Z (S.stream s).top p following) in
     nobody-in-front (kind_of W p) (owns W s p) (standing W S (InPool p)) u (quiet.pools s p declared listed) taken
 
-quiet-misses : (W : Parts) (Z : List OrderShape) (S : State) (s : ℕ) (w : What) → s < W.streams → Sound W Z S → Quiet W S → May W Z S s w → IsMiss w
+quiet-misses : (W : Parts) (Z : Stored) (S : State) (s : ℕ) (w : What) → s < W.streams → Sound W Z S → Quiet W S → May W Z S s w → IsMiss w
 quiet-misses W Z S s (what.Miss p) declared sound quiet may = tt
 quiet-misses W Z S s (what.Take p u) declared sound quiet may = absurd (quiet-front W Z S s p.0 u.0 declared sound quiet may.2 may.1)
 quiet-misses W Z S s (what.Look u) declared sound quiet may = absurd (nobody-first (standing W S (InNext s)) u.0 (quiet.nexts s declared) may.1)
 quiet-misses W Z S s (what.Step u k c) declared sound quiet may = absurd (nobody-first (standing W S (InHand s)) u.0 (quiet.hands s declared) may.1)
+quiet-misses W Z S s (what.Call u k n) declared sound quiet may = absurd (nobody-first (standing W S (InHand s)) u.0 (quiet.hands s declared) may.1)
 quiet-misses W Z S s (what.Put u p) declared sound quiet may = absurd (nobody-first (standing W S (InTray s)) u.0 (quiet.trays s declared) may.1)
 quiet-misses W Z S s (what.End u c) declared sound quiet may = absurd (nobody-first (standing W S (InHand s)) u.0 (quiet.hands s declared) may.1)
 quiet-misses W Z S s (what.Enter u) declared sound quiet may = absurd (nobody-first (standing W S (InHand s)) u.0 (quiet.hands s declared) may.1)
@@ -130,7 +131,7 @@ quiet-after W S s (what.Miss p) miss quiet = record {
 }
 quiet-after W S s _ miss quiet = absurd miss
 
-pub quiet-stays : (W : Parts) (Z : List OrderShape) (S T : State) (e : Event) → Sound W Z S → Quiet W S → After W Z S e T → IsMiss e.what × Quiet W T
+pub quiet-stays : (W : Parts) (Z : Stored) (S T : State) (e : Event) → Sound W Z S → Quiet W S → After W Z S e T → IsMiss e.what × Quiet W T
 quiet-stays W Z S T e sound quiet step =
     let miss : IsMiss e.what = quiet-misses W Z S e.stream.0 e.what step.0 sound quiet step.1 in
     (miss, subst (Quiet W) (sym step.2) (quiet-after W S e.stream.0 e.what miss quiet))

@@ -1,7 +1,7 @@
 -- Arrivals at a barrier keep a sound state sound. Unit u, in the hand of stream s, makes the step.
 use Rattle.std.proofs.Common.{◌≡◌, ℕ, suc, ◌<◌, ◌==◌, false, List, length, Some, sym, ◌∙◌, ap, subst, arith}
 use Rattle.std.proofs.lemmas.Bool.{cond_both, eqb-false}
-use Rattle.abt_machine.specs.declared.operations.OrderShape.{OrderShape}
+use Rattle.abt_machine.specs.Stored.{Stored}
 use Rattle.abt_machine.specs.declared.operations.Thing.TheVariants as thing
 use Rattle.abt_machine.specs.declared.workload.Parts.{Parts}
 use Rattle.abt_machine.specs.Workloads.{thing_at, size_of, size_from}
@@ -14,7 +14,7 @@ use Rattle.abt_laws.proofs.SoundChanges.{Keeps}
 use Rattle.abt_laws.proofs.Wakes.{wakeable-line}
 use Rattle.abt_laws.proofs.SoundSteps.{IsStepping, keeps-wakes_only, keeps-waits}
 
-module _ (W : Parts) (Z : List OrderShape) (S : State) (s u : ℕ) (step : IsStepping W Z S s u) where
+module _ (W : Parts) (Z : Stored) (S : State) (s u : ℕ) (step : IsStepping W Z S s u) where
   -- who is not the last party leaves room for it
   has-room : (x n : ℕ) → (suc (length (standing W S (Waiting x))) == size_of W x) ≡ false → thing_at W x ≡ Some (thing.Barrier n) → suc (length (standing W S (Waiting x))) < n
   has-room x n part is =

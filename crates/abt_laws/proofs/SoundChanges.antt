@@ -1,11 +1,11 @@
 -- What a change must meet to keep a sound state sound.
-use Rattle.std.proofs.Common.{◌≡◌, ℕ, ◌<◌, ◌≤◌, true, false, List, length, Option, Some, None, refl, sym, ◌∙◌, ap, subst, arith, ◌⊎◌, inl, inr}
+use Rattle.std.proofs.Common.{◌≡◌, ℕ, ◌<◌, ◌≤◌, true, false, length, Option, Some, None, refl, sym, ◌∙◌, ap, subst, arith, ◌⊎◌, inl, inr}
 use Rattle.std.specs.Prelude.{IfSome, IsSome}
 use Rattle.std.specs.List.{sum}
 use Rattle.abt_machine.specs.declared.events.Place.{Place}
 use Rattle.abt_machine.specs.declared.events.Place.TheVariants as place
 use Rattle.abt_machine.specs.declared.events.Spot.TheVariants as spot
-use Rattle.abt_machine.specs.declared.operations.OrderShape.{OrderShape}
+use Rattle.abt_machine.specs.Stored.{Stored}
 use Rattle.abt_machine.specs.declared.operations.Thing.{Thing}
 use Rattle.abt_machine.specs.declared.operations.Thing.TheVariants as thing
 use Rattle.abt_machine.specs.declared.workload.Parts.{Parts}
@@ -88,19 +88,19 @@ OnStream s (place.Next r) = r.0 ≡ s
 OnStream s (place.Tray r t) = r.0 ≡ s
 OnStream s _ = ⊥
 
-pub record FramesKeep (W : Parts) (Z : List OrderShape) (S T : State) : Type 0 where
+pub record FramesKeep (W : Parts) (Z : Stored) (S T : State) : Type 0 where
   -- who stays in a frame is its unit, and each stacked frame has one
   pub held : (u s d : ℕ) → S.place u ≡ place.Frame (stream_no s) d → T.place u ≡ place.Frame (stream_no s) d → IsPlaced W T u (place.Frame (stream_no s) d)
   pub hold : (s d : ℕ) → d < length (T.stream s).below → (u : ℕ) × (T.place u ≡ place.Frame (stream_no s) d)
   -- a stream that holds a unit stays at rest
   pub rest : (u s : ℕ) → OnStream s (T.place u) → IsAtRest (S.stream s) → IsAtRest (T.stream s)
   pub lowest : (s : ℕ) → s < W.streams → IfSome (last (frames_of (T.stream s))) (λ f. f.sched ≡ main_of W s)
-  pub under_way : (s : ℕ) → s < W.streams → AllUnderWay W Z (frames_of (T.stream s))
+  pub under_way : (s : ℕ) → s < W.streams → AllUnderWay W Z.orders (frames_of (T.stream s))
   pub below_rest : (s : ℕ) → s < W.streams → AllAtRest ((T.stream s).below)
 
 -- All that a change must meet.
 
-pub record Keeps (W : Parts) (Z : List OrderShape) (S : State) (c : Change) : Type 0 where
+pub record Keeps (W : Parts) (Z : Stored) (S : State) (c : Change) : Type 0 where
   pub free : AllFree S.place c.moves
   pub moves : EachOf (λ (m : ℕ × Place). MovesWell W S c m.0 m.1) c.moves
   pub barriers : BarriersHold W (changed S c)
@@ -116,7 +116,7 @@ pub record Keeps (W : Parts) (Z : List OrderShape) (S : State) (c : Change) : Ty
   pub locks : LocksHold W (changed S c)
   pub frames : FramesKeep W Z S (changed S c)
 
-module _ (W : Parts) (Z : List OrderShape) (S : State) (c : Change) (sound : Sound W Z S) (keeps : Keeps W Z S c) where
+module _ (W : Parts) (Z : Stored) (S : State) (c : Change) (sound : Sound W Z S) (keeps : Keeps W Z S c) where
   held-up : (u t x : ℕ) (o : Option Thing) → thing_at W x ≡ o → ticket_in (Waiting x) (places S c u) ≡ Some t → HoldsUp W S x o → HoldsUp W (changed S c) x o
   held-up u t x None is at h = h
   held-up u t x (Some thing.Mutex) is at h =
@@ -213,10 +213,10 @@ module _ (W : Parts) (Z : List OrderShape) (S : State) (c : Change) (sound : Sou
   }
 
 -- a reader-writer lock that is read keeps its number
-pub number-after : (W : Parts) (Z : List OrderShape) (S : State) (c : Change) → Keeps W Z S c → (x : ℕ) → 0 < sum (S.rwlock x).counts → ((changed S c).rwlock x).number ≡ (S.rwlock x).number
+pub number-after : (W : Parts) (Z : Stored) (S : State) (c : Change) → Keeps W Z S c → (x : ℕ) → 0 < sum (S.rwlock x).counts → ((changed S c).rwlock x).number ≡ (S.rwlock x).number
 number-after W Z S c keeps x above =
     put_all-kept (λ n (k : RwLock). 0 < sum (S.rwlock n).counts → k.number ≡ (S.rwlock n).number) S.rwlock c.rwlocks x (EachOf-then _ _ c.rwlocks (λ m k. k.number) keeps.rwlocks) (λ _. refl) above
 
 -- the tickets in a line are below what its units' places say
-pub placed-below : (W : Parts) (Z : List OrderShape) (S : State) (l : Line) (n : ℕ) → Sound W Z S → ((v t : ℕ) → IsPlaced W S v (place_in l t) → t < n) → IsBelow l n S.place
+pub placed-below : (W : Parts) (Z : Stored) (S : State) (l : Line) (n : ℕ) → Sound W Z S → ((v t : ℕ) → IsPlaced W S v (place_in l t) → t < n) → IsBelow l n S.place
 placed-below W Z S l n sound below v t h = below v t (subst (IsPlaced W S v) (ticket-place l (S.place v) t h) (sound.placed v))

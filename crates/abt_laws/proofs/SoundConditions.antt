@@ -4,7 +4,7 @@ use Rattle.std.specs.Prelude.{IsSome}
 use Rattle.abt_machine.specs.declared.events.Place.{Place}
 use Rattle.abt_machine.specs.declared.events.Place.TheVariants as place
 use Rattle.abt_machine.specs.declared.events.Spot.TheVariants as spot
-use Rattle.abt_machine.specs.declared.operations.OrderShape.{OrderShape}
+use Rattle.abt_machine.specs.Stored.{Stored}
 use Rattle.abt_machine.specs.declared.operations.Thing.TheVariants as thing
 use Rattle.abt_machine.specs.declared.workload.Parts.{Parts}
 use Rattle.abt_machine.specs.Numbers.{object_no}
@@ -52,7 +52,7 @@ waiting-off W S x i vs other each = waiting_moves-each (MovesOffLocks W S) (IsWa
 mutex-off : (W : Parts) (m n : ℕ) → IsMutex W m → thing_at W m ≡ Some (thing.Barrier n) → ⊥
 mutex-off W m n is b = let k : Some thing.Mutex ≡ Some (thing.Barrier n) = sym is ∙ b in cc
 
-module _ (W : Parts) (Z : List OrderShape) (S : State) (s u : ℕ) (step : IsStepping W Z S s u) where
+module _ (W : Parts) (Z : Stored) (S : State) (s u : ℕ) (step : IsStepping W Z S s u) where
   -- u waits at condition x, and mutex m is handed over
   pub keeps-releases : (x m : ℕ) → IsCondition W x → IsMutex W m → Keeps W Z S (releases W S s u x m)
   keeps-releases x m cond is =

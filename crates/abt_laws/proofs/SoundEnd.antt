@@ -3,7 +3,7 @@ use Rattle.std.proofs.Common.{◌≡◌, ℕ, List, Some, refl, sym, subst, inr,
 use Rattle.abt_machine.specs.declared.events.Cause.{Cause}
 use Rattle.abt_machine.specs.declared.events.Place.TheVariants as place
 use Rattle.abt_machine.specs.declared.events.What.TheVariants as what
-use Rattle.abt_machine.specs.declared.operations.OrderShape.{OrderShape}
+use Rattle.abt_machine.specs.Stored.{Stored}
 use Rattle.abt_machine.specs.declared.workload.Parts.{Parts}
 use Rattle.abt_machine.specs.Numbers.{stream_no, unit_no}
 use Rattle.abt_machine.specs.Maps.{put_at}
@@ -29,7 +29,7 @@ use Rattle.abt_laws.proofs.Wakes.{frameless-in, off-in, wakeable-line, empty-aft
 ended-asks : (S : State) (u : ℕ) → HasNoRequest (put_at S.desk u (without_requests (S.desk u)) u)
 ended-asks S u = subst HasNoRequest (sym (put_at-same S.desk u (without_requests (S.desk u)))) (refl, refl)
 
-pub keeps-end : (W : Parts) (Z : List OrderShape) (S : State) (s u : ℕ) (e : Cause) → Sound W Z S → May W Z S s (what.End (unit_no u) e) → Keeps W Z S (change W S s (what.End (unit_no u) e))
+pub keeps-end : (W : Parts) (Z : Stored) (S : State) (s u : ℕ) (e : Cause) → Sound W Z S → May W Z S s (what.End (unit_no u) e) → Keeps W Z S (change W S s (what.End (unit_no u) e))
 keeps-end W Z S s u e sound may =
     let c : Change = change W S s (what.End (unit_no u) e) in
     let is : StandsIn W S (InHand s) u = first-stands W S (InHand s) u may.1 in

@@ -2,7 +2,7 @@
 use Rattle.std.proofs.Common.{ℕ, ◌≤◌, List, [], ◌∷◌, refl}
 use Rattle.abt_machine.specs.declared.events.Place.{Place}
 use Rattle.abt_machine.specs.declared.events.Place.TheVariants as place
-use Rattle.abt_machine.specs.declared.operations.OrderShape.{OrderShape}
+use Rattle.abt_machine.specs.Stored.{Stored}
 use Rattle.abt_machine.specs.declared.workload.Parts.{Parts}
 use Rattle.abt_machine.specs.Numbers.{stream_no}
 use Rattle.abt_machine.specs.State.{State, Stream, Carried, Desk, Mark}
@@ -20,7 +20,7 @@ use Rattle.abt_laws.proofs.Locks.{MovesOffLocks, locks-stay}
 abbrev pub handed : State → ℕ → ℕ → Mark → Change
 handed S s u m = record no_change { moves = (u, place.Hand (stream_no s)) ∷ []; desks = (u, without_requests (S.desk u)) ∷ []; streams = (s, marked m (S.stream s)) ∷ [] }
 
-pub keeps-event : (W : Parts) (Z : List OrderShape) (S : State) → Sound W Z S →
+pub keeps-event : (W : Parts) (Z : Stored) (S : State) → Sound W Z S →
     (ms : List (ℕ × Place)) (cs : List (ℕ × Carried)) (ds : List (ℕ × Desk)) (ps : List (ℕ × ℕ)) (ss : List (ℕ × Stream)) →
     let c : Change = record no_change { moves = ms; carried = cs; desks = ds; pool_next = ps; streams = ss } in
     AllFree S.place ms →

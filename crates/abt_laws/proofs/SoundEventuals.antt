@@ -1,6 +1,6 @@
 -- Steps at an eventual, and those that give a value to all who wait at an object, keep a sound state sound. Unit u, in the hand of stream s, makes the step.
 use Rattle.std.proofs.Common.{◌≡◌, ℕ, List, [], ◌∷◌, map, Option, Some, None, refl, sym, ◌∙◌, subst, inr}
-use Rattle.abt_machine.specs.declared.operations.OrderShape.{OrderShape}
+use Rattle.abt_machine.specs.Stored.{Stored}
 use Rattle.abt_machine.specs.declared.operations.Thing.TheVariants as thing
 use Rattle.abt_machine.specs.declared.workload.Parts.{Parts}
 use Rattle.abt_machine.specs.Workloads.{thing_at}
@@ -19,7 +19,7 @@ use Rattle.abt_laws.proofs.SoundChanges.{Keeps, places, CarriesWell, EventualHol
 use Rattle.abt_laws.proofs.Wakes.{wakeable-line, empty-after}
 use Rattle.abt_laws.proofs.SoundSteps.{IsStepping, carries-on, keeps-goes_with, keeps-wakes, keeps-waits}
 
-module _ (W : Parts) (Z : List OrderShape) (S : State) (s u : ℕ) (step : IsStepping W Z S s u) where
+module _ (W : Parts) (Z : Stored) (S : State) (s u : ℕ) (step : IsStepping W Z S s u) where
   -- whatever a unit's new accumulator is
   receives-well : (value : ℕ) (vs : List ℕ) → EachOf (λ (m : ℕ × Carried). CarriesWell W m.0 m.1) (map (receives S value) vs)
   receives-well value vs =

@@ -5,7 +5,7 @@ use Rattle.abt_machine.specs.declared.events.Place.{Place}
 use Rattle.abt_machine.specs.declared.events.Place.TheVariants as place
 use Rattle.abt_machine.specs.declared.operations.Body.{Body}
 use Rattle.abt_machine.specs.declared.operations.Body.TheVariants as body
-use Rattle.abt_machine.specs.declared.operations.OrderShape.{OrderShape}
+use Rattle.abt_machine.specs.Stored.{Stored}
 use Rattle.abt_machine.specs.declared.workload.Parts.{Parts}
 use Rattle.abt_machine.specs.Numbers.{stream_no}
 use Rattle.abt_machine.specs.Maps.{put_all}
@@ -23,11 +23,11 @@ abbrev pub IsFrameless : State → ℕ → Type 0
 IsFrameless S u = (r d : ℕ) → S.place u ≡ place.Frame (stream_no r) d → ⊥
 
 -- stream s has the frames that it had, at the top in another round at most
-pub record FramesGoOn (W : Parts) (Z : List OrderShape) (S : State) (c : Change) (s : ℕ) (own : Stream) : Type 0 where
+pub record FramesGoOn (W : Parts) (Z : Stored) (S : State) (c : Change) (s : ℕ) (own : Stream) : Type 0 where
   pub below : own.below ≡ (S.stream s).below
   pub sched : own.top.sched ≡ (S.stream s).top.sched
   pub rest : (u : ℕ) → OnStream s (places S c u) → IsAtRest (S.stream s) → IsAtRest own
-  pub under_way : s < W.streams → IsUnderWay W Z own.top
+  pub under_way : s < W.streams → IsUnderWay W Z.orders own.top
 
 runs-same : (b : Body) (f g : Frame) → g.sched ≡ f.sched → RunsSched b (Some f) → RunsSched b (Some g)
 runs-same (body.Sched n) f g e h = e ∙ h
@@ -42,7 +42,7 @@ lowest-same : (f g : Frame) (fs : List Frame) (n : ℕ) → g.sched ≡ f.sched 
 lowest-same f g [] n e h = e ∙ h
 lowest-same f g (k ∷ fs) n e h = h
 
-module _ (W : Parts) (Z : List OrderShape) (S : State) (c : Change) (sound : Sound W Z S) (on : (s : ℕ) → FramesGoOn W Z S c s (put_all S.stream c.streams s)) where
+module _ (W : Parts) (Z : Stored) (S : State) (c : Change) (sound : Sound W Z S) (on : (s : ℕ) → FramesGoOn W Z S c s (put_all S.stream c.streams s)) where
   held : (u s d : ℕ) → IsPlaced W S u (place.Frame (stream_no s) d) → IsPlaced W (changed S c) u (place.Frame (stream_no s) d)
   held u s d h =
       let own : Stream = put_all S.stream c.streams s in
@@ -68,12 +68,12 @@ module _ (W : Parts) (Z : List OrderShape) (S : State) (c : Change) (sound : Sou
         (old.0, put_all-other S.place c.moves old.0 (λ k. EachOf-key (IsFrameless S) c.moves old.0 frameless k s d old.1) ∙ old.1);
     rest = λ u s at h. (on s).rest u at h;
     lowest = lowest;
-    under_way = λ s l. ((on s).under_way l, subst (AllUnderWay W Z) (sym (on s).below) (sound.under_way s l).1);
+    under_way = λ s l. ((on s).under_way l, subst (AllUnderWay W Z.orders) (sym (on s).below) (sound.under_way s l).1);
     below_rest = λ s l. subst AllAtRest (sym (on s).below) (sound.below_rest s l);
   }
 
 -- if no unit leaves a frame and streams go on, the frames stay
-pub frames-stay : (W : Parts) (Z : List OrderShape) (S : State) (c : Change) → Sound W Z S → EachOf (λ (m : ℕ × Place). IsFrameless S m.0) c.moves →
+pub frames-stay : (W : Parts) (Z : Stored) (S : State) (c : Change) → Sound W Z S → EachOf (λ (m : ℕ × Place). IsFrameless S m.0) c.moves →
     EachOf (λ (m : ℕ × Stream). FramesGoOn W Z S c m.0 m.1) c.streams → FramesKeep W Z S (changed S c)
 frames-stay W Z S c sound frameless goes =
     frames-go_on W Z S c sound (λ s. put_all-kept (λ r own. FramesGoOn W Z S c r own) S.stream c.streams s goes

@@ -1,7 +1,7 @@
 -- Steps at a future keep a sound state sound. Unit u, in the hand of stream s, makes the step.
-use Rattle.std.proofs.Common.{◌≡◌, ℕ, suc, ◌<◌, ◌≤◌, ◌==◌, true, false, not, List, [], ◌∷◌, Some, None, sym, ◌∙◌, ap, subst, arith, inl, inr}
+use Rattle.std.proofs.Common.{◌≡◌, ℕ, suc, ◌<◌, ◌≤◌, ◌==◌, true, false, not, [], ◌∷◌, Some, None, sym, ◌∙◌, ap, subst, arith, inl, inr}
 use Rattle.std.proofs.lemmas.Bool.{cond_both, eqb-false, not-true}
-use Rattle.abt_machine.specs.declared.operations.OrderShape.{OrderShape}
+use Rattle.abt_machine.specs.Stored.{Stored}
 use Rattle.abt_machine.specs.declared.operations.Thing.TheVariants as thing
 use Rattle.abt_machine.specs.declared.workload.Parts.{Parts}
 use Rattle.abt_machine.specs.Workloads.{size_of, size_from, thing_at}
@@ -17,7 +17,7 @@ use Rattle.abt_laws.proofs.SoundChanges.{Keeps, FutureHolds}
 use Rattle.abt_laws.proofs.SoundSteps.{IsStepping, carries-on, keeps-still}
 use Rattle.abt_laws.proofs.SoundEventuals.{all-leave, keeps-gives_all, keeps-awaits}
 
-module _ (W : Parts) (Z : List OrderShape) (S : State) (s u : ℕ) (step : IsStepping W Z S s u) where
+module _ (W : Parts) (Z : Stored) (S : State) (s u : ℕ) (step : IsStepping W Z S s u) where
   -- a future that is not full has a compartment left
   has-room : (x : ℕ) → is_full W S x ≡ false → (S.future x).filled < size_of W x
   has-room x unfilled = let few : (S.future x).filled ≤ size_of W x = step.sound.filled x in let other : (S.future x).filled ≡ size_of W x → ⊥ = eqb-false (S.future x).filled (size_of W x) unfilled in omega arith

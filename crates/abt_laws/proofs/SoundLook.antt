@@ -1,9 +1,9 @@
 -- A look keeps a sound state sound.
-use Rattle.std.proofs.Common.{◌≡◌, ℕ, ◌<◌, Bool, true, false, List, [], ◌∷◌, length, Option, Some, None, refl, sym, ◌∙◌, ap, subst, inl}
+use Rattle.std.proofs.Common.{◌≡◌, ℕ, ◌<◌, Bool, true, false, [], ◌∷◌, length, Option, Some, None, refl, sym, ◌∙◌, ap, subst, inl}
 use Rattle.std.specs.Prelude.{IfSome}
 use Rattle.abt_machine.specs.declared.events.Place.TheVariants as place
 use Rattle.abt_machine.specs.declared.events.What.TheVariants as what
-use Rattle.abt_machine.specs.declared.operations.OrderShape.{OrderShape}
+use Rattle.abt_machine.specs.Stored.{Stored}
 use Rattle.abt_machine.specs.declared.workload.Parts.{Parts}
 use Rattle.abt_machine.specs.Numbers.{stream_no, unit_no}
 use Rattle.abt_machine.specs.Carrying.{with_home}
@@ -29,7 +29,7 @@ use Rattle.abt_laws.proofs.Wakes.{IsWakeable, frameless-in, off-in, empty-after,
 pub asks-nothing : (W : Parts) (S : State) (u : ℕ) → AsksWell W S u (without_requests (S.desk u))
 asks-nothing W S u = record { asks = inl (λ h. (refl, refl)); request = tt }
 
-module _ (W : Parts) (Z : List OrderShape) (S : State) (s u : ℕ) (sound : Sound W Z S) (no_tray : IsEmpty (InTray s) S.place) (is : StandsIn W S (InNext s) u) where
+module _ (W : Parts) (Z : Stored) (S : State) (s u : ℕ) (sound : Sound W Z S) (no_tray : IsEmpty (InTray s) S.place) (is : StandsIn W S (InNext s) u) where
   placed : IsPlaced W S u (place.Next (stream_no s))
   placed = subst (IsPlaced W S u) is.at (sound.placed u)
 
@@ -75,6 +75,6 @@ module _ (W : Parts) (Z : List OrderShape) (S : State) (s u : ℕ) (sound : Soun
   keeps-look_by false (Some p) e = keeps-look_tray p (subst (λ o. IfSome o (λ q. q < length W.pools)) e (sound.requests u))
   keeps-look_by false None e = keeps-look_hand Plain
 
-pub keeps-look : (W : Parts) (Z : List OrderShape) (S : State) (s u : ℕ) → Sound W Z S → May W Z S s (what.Look (unit_no u)) → Keeps W Z S (change W S s (what.Look (unit_no u)))
+pub keeps-look : (W : Parts) (Z : Stored) (S : State) (s u : ℕ) → Sound W Z S → May W Z S s (what.Look (unit_no u)) → Keeps W Z S (change W S s (what.Look (unit_no u)))
 keeps-look W Z S s u sound may =
     keeps-look_by W Z S s u sound (due-no_tray W S s sound.undeclared LookDue may.0 tt) (first-stands W S (InNext s) u may.1) (S.desk u).cancel (S.desk u).migrate refl

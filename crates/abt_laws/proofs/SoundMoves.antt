@@ -1,7 +1,7 @@
 -- A step at which units move, none to a barrier, and none to or from a reader-writer lock. Unit u, in the hand of stream s, makes the step.
 use Rattle.std.proofs.Common.{ℕ, ◌≤◌, List, refl}
 use Rattle.abt_machine.specs.declared.events.Place.{Place}
-use Rattle.abt_machine.specs.declared.operations.OrderShape.{OrderShape}
+use Rattle.abt_machine.specs.Stored.{Stored}
 use Rattle.abt_machine.specs.declared.workload.Parts.{Parts}
 use Rattle.abt_machine.specs.State.{State, Mutex}
 use Rattle.abt_machine.specs.Changes.{Change, goes_on}
@@ -13,7 +13,7 @@ use Rattle.abt_laws.proofs.Locks.{MovesOffLocks, locks-stay}
 use Rattle.abt_laws.proofs.SoundFrames.{IsFrameless, frames-stay}
 use Rattle.abt_laws.proofs.SoundSteps.{IsStepping, carries-on}
 
-module _ (W : Parts) (Z : List OrderShape) (S : State) (s u : ℕ) (step : IsStepping W Z S s u) where
+module _ (W : Parts) (Z : Stored) (S : State) (s u : ℕ) (step : IsStepping W Z S s u) where
   -- u goes on, and units that are in no frame move, none to a barrier, and none to or from a reader-writer lock
   pub keeps-moves : (ms : List (ℕ × Place)) (js os : List (ℕ × ℕ)) (xs : List (ℕ × Mutex)) →
       let c : Change = record (goes_on S u) { moves = ms; join_next = js; object_next = os; mutexes = xs } in

@@ -2,7 +2,7 @@
 use Rattle.std.proofs.Common.{◌≡◌, ℕ, true, List, [], ◌∷◌, Option, Some, None, refl, sym, ◌∙◌, subst, inl, inr}
 use Rattle.std.specs.Prelude.{IsSome}
 use Rattle.abt_machine.specs.declared.events.Place.{Place}
-use Rattle.abt_machine.specs.declared.operations.OrderShape.{OrderShape}
+use Rattle.abt_machine.specs.Stored.{Stored}
 use Rattle.abt_machine.specs.declared.operations.Thing.TheVariants as thing
 use Rattle.abt_machine.specs.declared.workload.Parts.{Parts}
 use Rattle.abt_machine.specs.Workloads.{thing_at}
@@ -33,7 +33,7 @@ next-owner f x (u ∷ us) m none = inl refl
 pub mutex-no_lock : (W : Parts) (x : ℕ) → IsMutex W x → thing_at W x ≡ Some thing.RwLock → ⊥
 mutex-no_lock W x is r = let k : Some thing.Mutex ≡ Some thing.RwLock = sym is ∙ r in cc
 
-module _ (W : Parts) (Z : List OrderShape) (S : State) (s u : ℕ) (step : IsStepping W Z S s u) where
+module _ (W : Parts) (Z : Stored) (S : State) (s u : ℕ) (step : IsStepping W Z S s u) where
   -- mutex x becomes m, which has an owner
   keeps-owned : (x : ℕ) (m : Mutex) → IsSome m.owner → Keeps W Z S (record (goes_on S u) { mutexes = (x, m) ∷ [] })
   keeps-owned x m some = keeps-still W Z S s u step ((u, advanced (S.carried u)) ∷ []) [] ((x, m) ∷ []) [] [] (carries-on W Z S s u step, tt) tt (inl some, tt) tt tt

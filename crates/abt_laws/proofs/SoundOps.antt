@@ -11,12 +11,12 @@ use Rattle.abt_machine.specs.declared.events.Spot.TheVariants as spot
 use Rattle.abt_machine.specs.declared.events.What.TheVariants as what
 use Rattle.abt_machine.specs.declared.operations.Op.{Op}
 use Rattle.abt_machine.specs.declared.operations.Op.TheVariants as op
-use Rattle.abt_machine.specs.declared.operations.OrderShape.{OrderShape}
+use Rattle.abt_machine.specs.Stored.{Stored}
 use Rattle.abt_machine.specs.declared.workload.Parts.{Parts}
 use Rattle.abt_machine.specs.Numbers.{object_no, stream_no, unit_no}
 use Rattle.abt_machine.specs.Workloads.{op_at, mutex_of, combine_of}
 use Rattle.abt_machine.specs.Sites.{first_pool}
-use Rattle.abt_machine.specs.Carrying.{advanced, printed, with_key}
+use Rattle.abt_machine.specs.Carrying.{with_acc, advanced, printed, with_key}
 use Rattle.abt_machine.specs.State.{State, Desk, Mutex, Future}
 use Rattle.abt_machine.specs.Lines.{Waiting}
 use Rattle.abt_machine.specs.Rounds.{OrdersStored}
@@ -43,7 +43,7 @@ use Rattle.abt_laws.proofs.SoundFutures.{keeps-awaits_future, keeps-fills}
 use Rattle.abt_laws.proofs.SoundBarriers.{keeps-arrives}
 use Rattle.abt_laws.proofs.SoundRwLocks.{keeps-reads_or_waits, keeps-writes_or_waits, keeps-gives_up, keeps-rw_stores}
 
-module _ (W : Parts) (Z : List OrderShape) (S : State) (s u : ℕ) (valid : IsValid W) (step : IsStepping W Z S s u) where
+module _ (W : Parts) (Z : Stored) (S : State) (s u : ℕ) (valid : IsValid W) (step : IsStepping W Z S s u) where
   -- Parts that keep a sound state sound where nobody moves, whatever the operation is: what u carries on its way, desks that are asked what they were,
   -- mutexes that have an owner, eventuals without a value, and futures without one.
 
@@ -122,8 +122,12 @@ module _ (W : Parts) (Z : List OrderShape) (S : State) (s u : ℕ) (valid : IsVa
   step_row-keeps (Some o) c declared e = row-keeps o c (declared o refl) e
 
 -- so does a step that may come
-pub step-keeps : (W : Parts) (Z : List OrderShape) → IsValid W → OrdersStored W Z → (S : State) (s u k : ℕ) (c : Code) → Sound W Z S → s < W.streams → May W Z S s (what.Step (unit_no u) k c) →
+pub step-keeps : (W : Parts) (Z : Stored) → IsValid W → OrdersStored W Z.orders → (S : State) (s u k : ℕ) (c : Code) → Sound W Z S → s < W.streams → May W Z S s (what.Step (unit_no u) k c) →
     Keeps W Z S (change W S s (what.Step (unit_no u) k c))
 step-keeps W Z valid stored S s u k c sound l may =
-    let step : IsStepping W Z S s u = stepping W Z S s u k c sound l may in
+    let step : IsStepping W Z S s u = stepping W Z S s u sound l may.0 may.1 in
     step_row-keeps W Z S s u valid step (op_at W u k) c (λ o is. op-declared W u k o valid is) (sym may.3)
+
+-- so does a call, which changes what the operation does that sets the returned number
+pub call-keeps : (W : Parts) (Z : Stored) (S : State) (s u k n : ℕ) → Sound W Z S → s < W.streams → May W Z S s (what.Call (unit_no u) k n) → Keeps W Z S (change W S s (what.Call (unit_no u) k n))
+call-keeps W Z S s u k n sound l may = keeps-goes_with W Z S s u (stepping W Z S s u sound l may.0 may.1) (with_acc n (S.carried u)) refl refl refl

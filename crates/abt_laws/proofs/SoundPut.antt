@@ -1,8 +1,8 @@
 -- A put keeps a sound state sound.
-use Rattle.std.proofs.Common.{ℕ, suc, ◌<◌, List, [], ◌∷◌, length, refl, sym, subst, arith, inl}
+use Rattle.std.proofs.Common.{ℕ, suc, ◌<◌, [], ◌∷◌, length, refl, sym, subst, arith, inl}
 use Rattle.abt_machine.specs.declared.events.Place.TheVariants as place
 use Rattle.abt_machine.specs.declared.events.What.TheVariants as what
-use Rattle.abt_machine.specs.declared.operations.OrderShape.{OrderShape}
+use Rattle.abt_machine.specs.Stored.{Stored}
 use Rattle.abt_machine.specs.declared.workload.Parts.{Parts}
 use Rattle.abt_machine.specs.Numbers.{pool_no, unit_no}
 use Rattle.abt_machine.specs.State.{State}
@@ -20,10 +20,10 @@ use Rattle.abt_laws.proofs.SoundFrames.{frames-stay}
 use Rattle.abt_laws.proofs.Wakes.{frameless-in, off-in}
 
 -- the tickets in a pool are below its next
-pool-below : (W : Parts) (Z : List OrderShape) (S : State) (p : ℕ) → Sound W Z S → IsBelow (InPool p) (S.pool_next p) S.place
+pool-below : (W : Parts) (Z : Stored) (S : State) (p : ℕ) → Sound W Z S → IsBelow (InPool p) (S.pool_next p) S.place
 pool-below W Z S p sound = placed-below W Z S (InPool p) (S.pool_next p) sound (λ v t k. k.1)
 
-pub keeps-put : (W : Parts) (Z : List OrderShape) (S : State) (s u p : ℕ) → Sound W Z S → May W Z S s (what.Put (unit_no u) (pool_no p)) → Keeps W Z S (change W S s (what.Put (unit_no u) (pool_no p)))
+pub keeps-put : (W : Parts) (Z : Stored) (S : State) (s u p : ℕ) → Sound W Z S → May W Z S s (what.Put (unit_no u) (pool_no p)) → Keeps W Z S (change W S s (what.Put (unit_no u) (pool_no p)))
 keeps-put W Z S s u p sound may =
     let t : ℕ = S.pool_next p in
     let c : Change = change W S s (what.Put (unit_no u) (pool_no p)) in

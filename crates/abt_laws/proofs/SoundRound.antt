@@ -4,7 +4,7 @@ use Rattle.std.proofs.lemmas.Bool.{cond_both, cond-true, eq-eqb}
 use Rattle.abt_machine.specs.declared.events.Place.{Place}
 use Rattle.abt_machine.specs.declared.events.Place.TheVariants as place
 use Rattle.abt_machine.specs.declared.events.What.TheVariants as what
-use Rattle.abt_machine.specs.declared.operations.OrderShape.{OrderShape}
+use Rattle.abt_machine.specs.Stored.{Stored}
 use Rattle.abt_machine.specs.declared.workload.Parts.{Parts}
 use Rattle.abt_machine.specs.Numbers.{stream_no, pool_no, unit_no}
 use Rattle.abt_machine.specs.Workloads.{pools_of}
@@ -46,7 +46,8 @@ off-stream S s no_tray no_next no_hand u = by (S.place u) refl where
   by (place.Blocked b t) is e = e
   by (place.Ended c) is e = e
 
-pub keeps-take : (W : Parts) (Z : List OrderShape) (S : State) (s p u : ℕ) → IsValid W → OrdersStored W Z → Sound W Z S → s < W.streams → May W Z S s (what.Take (pool_no p) (unit_no u)) → Keeps W Z S (change W S s (what.Take (pool_no p) (unit_no u)))
+pub keeps-take : (W : Parts) (Z : Stored) (S : State) (s p u : ℕ) → IsValid W → OrdersStored W Z.orders → Sound W Z S → s < W.streams → May W Z S s (what.Take (pool_no p) (unit_no u)) →
+    Keeps W Z S (change W S s (what.Take (pool_no p) (unit_no u)))
 keeps-take W Z S s p u valid stored sound l may =
     let c : Change = change W S s (what.Take (pool_no p) (unit_no u)) in
     let own : Stream = S.stream s in
@@ -70,7 +71,8 @@ missed-sched : (W : Parts) (f : Frame) (p : ℕ) → (frame_missed W f p).sched 
 missed-sched W f p =
     cond_both (length (pools_of W f.sched) == suc (length f.seen)) (frame_at f.sched (suc f.round) true) (record { sched = f.sched; round = f.round; seen = f.seen ++ p ∷ []; empty = false }) (λ (g : Frame). g.sched ≡ f.sched) (λ _. refl) (λ _. refl)
 
-pub keeps-miss : (W : Parts) (Z : List OrderShape) (S : State) (s p : ℕ) → IsValid W → OrdersStored W Z → Sound W Z S → s < W.streams → May W Z S s (what.Miss (pool_no p)) → Keeps W Z S (change W S s (what.Miss (pool_no p)))
+pub keeps-miss : (W : Parts) (Z : Stored) (S : State) (s p : ℕ) → IsValid W → OrdersStored W Z.orders → Sound W Z S → s < W.streams → May W Z S s (what.Miss (pool_no p)) → Keeps W Z S
+    (change W S s (what.Miss (pool_no p)))
 keeps-miss W Z S s p valid stored sound l may =
     let c : Change = change W S s (what.Miss (pool_no p)) in
     let own : Stream = S.stream s in

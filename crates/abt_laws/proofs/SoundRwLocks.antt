@@ -6,7 +6,7 @@ use Rattle.std.specs.Prelude.{IsTrue}
 use Rattle.abt_machine.specs.declared.events.Place.TheVariants as place
 use Rattle.abt_machine.specs.declared.events.Wish.{Wish}
 use Rattle.abt_machine.specs.declared.events.Wish.TheVariants as wish
-use Rattle.abt_machine.specs.declared.operations.OrderShape.{OrderShape}
+use Rattle.abt_machine.specs.Stored.{Stored}
 use Rattle.abt_machine.specs.declared.operations.Thing.TheVariants as thing
 use Rattle.abt_machine.specs.declared.workload.Parts.{Parts}
 use Rattle.abt_machine.specs.Numbers.{stream_no}
@@ -35,7 +35,7 @@ use Rattle.abt_laws.proofs.KeptLocks.{IsKeptValue, apart_from_holders, kept-pass
 use Rattle.abt_laws.proofs.Wakes.{frameless-in}
 use Rattle.abt_laws.proofs.SoundSteps.{IsStepping, carries-on, keeps-comes, tray-below, waiting-below}
 
-module _ (W : Parts) (Z : List OrderShape) (S : State) (s u : ℕ) (step : IsStepping W Z S s u) (x : ℕ) (is : IsRwLock W x) where
+module _ (W : Parts) (Z : Stored) (S : State) (s u : ℕ) (step : IsStepping W Z S s u) (x : ℕ) (is : IsRwLock W x) where
   -- the lock with its waiters
   abbrev old : RwLockValue
   old = rwlock_value W S x

@@ -7,7 +7,7 @@ use Rattle.abt_machine.specs.declared.events.What.TheVariants as what
 use Rattle.abt_machine.specs.declared.numbers.SchedNo.{SchedNo}
 use Rattle.abt_machine.specs.declared.operations.Body.{Body}
 use Rattle.abt_machine.specs.declared.operations.Body.TheVariants as body
-use Rattle.abt_machine.specs.declared.operations.OrderShape.{OrderShape}
+use Rattle.abt_machine.specs.Stored.{Stored}
 use Rattle.abt_machine.specs.declared.workload.Parts.{Parts}
 use Rattle.abt_machine.specs.Numbers.{stream_no, unit_no}
 use Rattle.abt_machine.specs.Maps.{put_at}
@@ -44,7 +44,7 @@ stacked-top : (top f : Frame) (fs : List Frame) → slice_get (top ∷ f ∷ fs)
 stacked-top top f fs = let e : (length (f ∷ fs) - 1) - length fs ≡ 0 = omega arith in ap (slice_get (top ∷ f ∷ fs)) e
 
 -- numbers in frames are below the number of stacked frames
-frames-below : (W : Parts) (Z : List OrderShape) (S : State) (s : ℕ) → Sound W Z S → IsBelow (InFrames s) (length (S.stream s).below) S.place
+frames-below : (W : Parts) (Z : Stored) (S : State) (s : ℕ) → Sound W Z S → IsBelow (InFrames s) (length (S.stream s).below) S.place
 frames-below W Z S s sound = placed-below W Z S (InFrames s) (length (S.stream s).below) sound (λ v d k. k.1)
 
 -- what holds of stream s with new frames, and of the others as they were, holds of each afterwards
@@ -64,7 +64,8 @@ IsFramed W u r d own = (r < W.streams) × (d < length own.below) × RunsSched (b
 runs-entered : (b : Body) (g : SchedNo) → b ≡ body.Sched g → RunsSched b (Some (frame_at (sched_of b) 0 false))
 runs-entered b g is = subst (λ (k : Body). RunsSched k (Some (frame_at (sched_of k) 0 false))) (sym is) refl
 
-module _ (W : Parts) (Z : List OrderShape) (S : State) (s u : ℕ) (g : SchedNo) (valid : IsValid W) (stored : OrdersStored W Z) (sound : Sound W Z S) (at : S.place u ≡ place.Hand (stream_no s)) (is : body_at W u ≡ body.Sched g) where
+module _ (W : Parts) (Z : Stored) (S : State) (s u : ℕ) (g : SchedNo) (valid : IsValid W) (stored : OrdersStored W Z.orders) (sound : Sound W Z S) (at : S.place u ≡ place.Hand (stream_no s))
+    (is : body_at W u ≡ body.Sched g) where
   abbrev old_top : Frame
   old_top = (S.stream s).top
 
@@ -106,7 +107,7 @@ module _ (W : Parts) (Z : List OrderShape) (S : State) (s u : ℕ) (g : SchedNo)
     rest = λ v. each-stream S s new_own (λ r own. OnStream r (put_at S.place u (place.Frame (stream_no s) (length old_below)) v) → IsAtRest (S.stream r) → IsAtRest own)
         (λ k h. fresh-rest (sched_of (body_at W u)) 0 (old_top ∷ old_below) h) (λ r ne k h. h);
     lowest = each-stream S s new_own (λ r own. r < W.streams → IfSome (last (frames_of own)) (λ f. f.sched ≡ main_of W r)) (sound.lowest s) (λ r ne. sound.lowest r);
-    under_way = each-stream S s new_own (λ r own. r < W.streams → AllUnderWay W Z (frames_of own))
+    under_way = each-stream S s new_own (λ r own. r < W.streams → AllUnderWay W Z.orders (frames_of own))
         (λ l. (fresh-under_way W Z (sched_of (body_at W u)) 0 false valid stored (subst (λ b. sched_of b < length W.scheds) (sym is) (sched-declared W u g valid is)), sound.under_way s l)) (λ r ne. sound.under_way r);
     below_rest = each-stream S s new_own (λ r own. r < W.streams → AllAtRest own.below) (λ l. in-hand.1) (λ r ne. sound.below_rest r);
   }
@@ -118,7 +119,8 @@ module _ (W : Parts) (Z : List OrderShape) (S : State) (s u : ℕ) (g : SchedNo)
       (tt, tt) ((subst (IsOffLocks W) (sym at) tt, tt), tt) tt tt tt
       (frames-enter)
 
-pub keeps-enter : (W : Parts) (Z : List OrderShape) (S : State) (s u : ℕ) → IsValid W → OrdersStored W Z → Sound W Z S → s < W.streams → May W Z S s (what.Enter (unit_no u)) → Keeps W Z S (change W S s (what.Enter (unit_no u)))
+pub keeps-enter : (W : Parts) (Z : Stored) (S : State) (s u : ℕ) → IsValid W → OrdersStored W Z.orders → Sound W Z S → s < W.streams → May W Z S s (what.Enter (unit_no u)) → Keeps W Z S
+    (change W S s (what.Enter (unit_no u)))
 keeps-enter W Z S s u valid stored sound l may =
     let is : StandsIn W S (InHand s) u = first-stands W S (InHand s) u may.1 in
     let sched : (g : SchedNo) × (body_at W u ≡ body.Sched g) = (enter-due W s (S.stream s).mark (body_at W u) (S.carried u).position (due-unit W S s EnterDue u may.0 tt may.1)).1 in
@@ -130,7 +132,8 @@ AllAtRest-tail : (f : Frame) (fs : List Frame) → AllAtRest (f ∷ fs) → AllA
 AllAtRest-tail f [] h = tt
 AllAtRest-tail f (g ∷ fs) h = h.2
 
-module _ (W : Parts) (Z : List OrderShape) (S : State) (s u : ℕ) (f : Frame) (fs : List Frame) (sound : Sound W Z S) (below : (S.stream s).below ≡ f ∷ fs) (at : S.place u ≡ place.Frame (stream_no s) ((length (S.stream s).below) - 1)) where
+module _ (W : Parts) (Z : Stored) (S : State) (s u : ℕ) (f : Frame) (fs : List Frame) (sound : Sound W Z S) (below : (S.stream s).below ≡ f ∷ fs)
+    (at : S.place u ≡ place.Frame (stream_no s) ((length (S.stream s).below) - 1)) where
   abbrev leaves : Change
   leaves = change W S s (what.Leave (unit_no u))
 
@@ -181,7 +184,7 @@ module _ (W : Parts) (Z : List OrderShape) (S : State) (s u : ℕ) (f : Frame) (
     rest = λ v. after-left (λ r own. OnStream r (put_at S.place u (place.Hand (stream_no s)) v) → IsAtRest (S.stream r) → IsAtRest own)
         (λ k h. AllAtRest-tail (S.stream s).top (f ∷ fs) (subst (λ (gs : List Frame). AllAtRest ((S.stream s).top ∷ gs)) below h)) (λ r ne k h. h);
     lowest = after-left (λ r own. r < W.streams → IfSome (last (frames_of own)) (λ f. f.sched ≡ main_of W r)) (λ l. subst (λ (gs : List Frame). IfSome (last ((S.stream s).top ∷ gs)) (λ f. f.sched ≡ main_of W s)) below (sound.lowest s l)) (λ r ne. sound.lowest r);
-    under_way = after-left (λ r own. r < W.streams → AllUnderWay W Z (frames_of own)) (λ l. subst (AllUnderWay W Z) below (sound.under_way s l).1) (λ r ne. sound.under_way r);
+    under_way = after-left (λ r own. r < W.streams → AllUnderWay W Z.orders (frames_of own)) (λ l. subst (AllUnderWay W Z.orders) below (sound.under_way s l).1) (λ r ne. sound.under_way r);
     below_rest = after-left (λ r own. r < W.streams → AllAtRest own.below) (λ l. AllAtRest-tail f fs (subst AllAtRest below (sound.below_rest s l))) (λ r ne. sound.below_rest r);
   }
 
@@ -199,7 +202,7 @@ module _ (W : Parts) (Z : List OrderShape) (S : State) (s u : ℕ) (f : Frame) (
       (tt, tt) ((subst (IsOffLocks W) (sym at) tt, tt), tt) tt tt tt
       (frames-leave)
 
-pub keeps-leave : (W : Parts) (Z : List OrderShape) (S : State) (s u : ℕ) → Sound W Z S → s < W.streams → May W Z S s (what.Leave (unit_no u)) → Keeps W Z S (change W S s (what.Leave (unit_no u)))
+pub keeps-leave : (W : Parts) (Z : Stored) (S : State) (s u : ℕ) → Sound W Z S → s < W.streams → May W Z S s (what.Leave (unit_no u)) → Keeps W Z S (change W S s (what.Leave (unit_no u)))
 keeps-leave W Z S s u sound l may =
     let is : (f : Frame) × (fs : List Frame) × ((S.stream s).below ≡ f ∷ fs) = leave-below W S s may.0 in
     keeps-leave_of W Z S s u is.0 is.1 sound is.2 may.1 l may.0 (is-declared W S sound.undeclared u (place.Frame (stream_no s) (length (S.stream s).below - 1)) may.1 (λ e. cc))

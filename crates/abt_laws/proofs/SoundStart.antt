@@ -6,7 +6,7 @@ use Rattle.std.specs.List.{sum}
 use Rattle.std.proofs.lemmas.Bool.{cases_eq, cases_order, cases_lt, eq-eqb}
 use Rattle.abt_machine.specs.declared.events.Place.TheVariants as place
 use Rattle.abt_machine.specs.declared.events.Wish.TheVariants as wish
-use Rattle.abt_machine.specs.declared.operations.OrderShape.{OrderShape}
+use Rattle.abt_machine.specs.Stored.{Stored}
 use Rattle.abt_machine.specs.declared.workload.Parts.{Parts}
 use Rattle.abt_machine.specs.Numbers.{pool_no}
 use Rattle.abt_machine.specs.Workloads.{start_of, main_of}
@@ -103,7 +103,7 @@ start-kept W us none =
     let unread : sum (replicate (length W.units) 0) ≡ 0 = sum_by-replicate (λ n. n) (length W.units) 0 ∙ omega arith in
     record { alone = λ some. unread; served = λ free. none; writer_first = λ above. absurd (above-zero (sum (replicate (length W.units) 0)) above unread) }
 
-pub start-is-sound : (W : Parts) (Z : List OrderShape) → StartIsSound W Z
+pub start-is-sound : (W : Parts) (Z : Stored) → StartIsSound W Z
 start-is-sound W Z valid stored = record {
   one_each = start-one_each W;
   hand_or_next = λ s u v h g. start-empty W (InHand s) (λ p e. cc) u 0 (ap (ticket_in (InHand s)) h ∙ same-self s 0);

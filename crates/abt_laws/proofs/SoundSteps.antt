@@ -1,25 +1,22 @@
 -- What the rows of steps have in common. Unit u, in the hand of stream s, makes a step.
 use Rattle.std.proofs.Common.{◌≡◌, ℕ, suc, ◌<◌, ◌≤◌, List, [], ◌∷◌, length, Option, Some, None, refl, sym, ◌∙◌, subst, arith, inl}
 use Rattle.std.specs.Prelude.{IsSome}
-use Rattle.abt_machine.specs.declared.events.Code.{Code}
 use Rattle.abt_machine.specs.declared.events.Place.{Place}
 use Rattle.abt_machine.specs.declared.events.Place.TheVariants as place
 use Rattle.abt_machine.specs.declared.events.Spot.TheVariants as spot
-use Rattle.abt_machine.specs.declared.events.What.TheVariants as what
-use Rattle.abt_machine.specs.declared.operations.OrderShape.{OrderShape}
+use Rattle.abt_machine.specs.Stored.{Stored}
 use Rattle.abt_machine.specs.declared.operations.Thing.{Thing}
 use Rattle.abt_machine.specs.declared.operations.Thing.TheVariants as thing
 use Rattle.abt_machine.specs.declared.workload.Parts.{Parts}
-use Rattle.abt_machine.specs.Numbers.{stream_no, unit_no, object_no}
+use Rattle.abt_machine.specs.Numbers.{stream_no, object_no}
 use Rattle.abt_machine.specs.Maps.{put_at}
 use Rattle.abt_machine.specs.Workloads.{body_at, ops_of, thing_at}
 use Rattle.abt_machine.specs.State.{State, Carried, Desk, Mutex, Future, RwLock}
-use Rattle.abt_machine.specs.Lines.{InTray, InHand, InNext, Waiting, standing, tray_end}
+use Rattle.abt_machine.specs.Lines.{InTray, hand, InHand, InNext, Waiting, standing, tray_end}
 use Rattle.abt_machine.specs.Carrying.{advanced}
-use Rattle.abt_machine.specs.Next.{StepDue}
+use Rattle.abt_machine.specs.Next.{StepDue, due}
 use Rattle.abt_machine.specs.Changes.{Change, no_change, changed, to_tray, goes_with, goes_on}
 use Rattle.abt_machine.specs.Steps.{wakes, waits, asks}
-use Rattle.abt_machine.specs.Events.{May}
 use Rattle.abt_machine.specs.Sound.{Sound, IsPlaced, IsAtRest, HoldsUp}
 use Rattle.abt_laws.proofs.LineMoves.{tray_moves-places}
 use Rattle.abt_laws.proofs.Dues.{due-no_tray, due-no_next, due-unit, step-due}
@@ -35,7 +32,7 @@ use Rattle.abt_laws.proofs.Locks.{IsOffLocks, locks-stay}
 use Rattle.abt_laws.proofs.Wakes.{IsWakeable, tray-well, tray-frameless, tray-off}
 
 -- what is known if stream s makes a step of the unit u in its hand
-pub record IsStepping (W : Parts) (Z : List OrderShape) (S : State) (s u : ℕ) : Type 0 where
+pub record IsStepping (W : Parts) (Z : Stored) (S : State) (s u : ℕ) : Type 0 where
   pub sound : Sound W Z S
   pub stream : s < W.streams
   pub declared : u < length W.units
@@ -45,9 +42,9 @@ pub record IsStepping (W : Parts) (Z : List OrderShape) (S : State) (s u : ℕ) 
   pub no_next : IsEmpty (InNext s) S.place
   pub position : (S.carried u).position < length (ops_of (body_at W u))
 
-pub stepping : (W : Parts) (Z : List OrderShape) (S : State) (s u k : ℕ) (c : Code) → Sound W Z S → s < W.streams → May W Z S s (what.Step (unit_no u) k c) → IsStepping W Z S s u
-stepping W Z S s u k c sound l may =
-    let is : StandsIn W S (InHand s) u = first-stands W S (InHand s) u may.1 in
+pub stepping : (W : Parts) (Z : Stored) (S : State) (s u : ℕ) → Sound W Z S → s < W.streams → due W S s ≡ StepDue → hand W S s ≡ Some u → IsStepping W Z S s u
+stepping W Z S s u sound l is_due held =
+    let is : StandsIn W S (InHand s) u = first-stands W S (InHand s) u held in
     let at : S.place u ≡ place.Hand (stream_no s) = is.at in
     let placed : IsPlaced W S u (place.Hand (stream_no s)) = subst (IsPlaced W S u) at (sound.placed u) in
     record {
@@ -56,9 +53,9 @@ stepping W Z S s u k c sound l may =
       declared = is.declared;
       in_hand = at;
       rests = placed.1;
-      no_tray = due-no_tray W S s sound.undeclared StepDue may.0 tt;
-      no_next = due-no_next W S s sound.undeclared StepDue may.0 tt;
-      position = (step-due W s (S.stream s).mark (body_at W u) (S.carried u).position (due-unit W S s StepDue u may.0 tt may.1)).1;
+      no_tray = due-no_tray W S s sound.undeclared StepDue is_due tt;
+      no_next = due-no_next W S s sound.undeclared StepDue is_due tt;
+      position = (step-due W s (S.stream s).mark (body_at W u) (S.carried u).position (due-unit W S s StepDue u is_due tt held)).1;
     }
 
 -- what holds up a unit depends on the object alone
@@ -70,10 +67,10 @@ HoldsUp-same W S T x (Some (thing.Future n r)) m e f h = subst (λ (k : Future).
 HoldsUp-same W S T x (Some _) m e f h = tt
 
 -- the tickets of those who wait at x are below the next
-pub waiting-below : (W : Parts) (Z : List OrderShape) (S : State) (x : ℕ) → Sound W Z S → IsBelow (Waiting x) (S.object_next x) S.place
+pub waiting-below : (W : Parts) (Z : Stored) (S : State) (x : ℕ) → Sound W Z S → IsBelow (Waiting x) (S.object_next x) S.place
 waiting-below W Z S x sound = placed-below W Z S (Waiting x) (S.object_next x) sound (λ v t k. k.0)
 
-module _ (W : Parts) (Z : List OrderShape) (S : State) (s u : ℕ) (step : IsStepping W Z S s u) where
+module _ (W : Parts) (Z : Stored) (S : State) (s u : ℕ) (step : IsStepping W Z S s u) where
   pub in-no-frame : IsFrameless S u
   in-no-frame r d h = let e : place.Hand (stream_no s) ≡ place.Frame (stream_no r) d = sym step.in_hand ∙ h in cc
 

@@ -4,7 +4,7 @@ use Rattle.std.proofs.lemmas.List.{length-replicate}
 use Rattle.abt_machine.specs.declared.events.Place.{Place}
 use Rattle.abt_machine.specs.declared.events.Place.TheVariants as place
 use Rattle.abt_machine.specs.declared.events.Spot.TheVariants as spot
-use Rattle.abt_machine.specs.declared.operations.OrderShape.{OrderShape}
+use Rattle.abt_machine.specs.Stored.{Stored}
 use Rattle.abt_machine.specs.declared.workload.Parts.{Parts}
 use Rattle.abt_machine.specs.Numbers.{stream_no, unit_no}
 use Rattle.abt_machine.specs.Maps.{put_at}
@@ -29,7 +29,7 @@ use Rattle.abt_laws.proofs.SoundFrames.{frames-stay}
 use Rattle.abt_laws.proofs.SoundMoves.{keeps-moves}
 use Rattle.abt_laws.proofs.SoundSteps.{IsStepping, in-no-frame, off-locks, may-wake, carries-on, keeps-goes_on, keeps-wakes, tray-below}
 
-module _ (W : Parts) (Z : List OrderShape) (S : State) (s u : ℕ) (step : IsStepping W Z S s u) where
+module _ (W : Parts) (Z : Stored) (S : State) (s u : ℕ) (step : IsStepping W Z S s u) where
   -- u goes to a free place that is no barrier and no reader-writer lock
   keeps-goes_to : (pl : Place) (js : List (ℕ × ℕ)) →
       let c : Change = record (goes_on S u) { moves = (u, pl) ∷ []; join_next = js } in

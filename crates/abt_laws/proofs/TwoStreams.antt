@@ -5,7 +5,7 @@ use Rattle.std.proofs.lemmas.List.Elements.{All-cons, All-from_recursion, All-ni
 use Rattle.std.proofs.lemmas.List.Kept.{AllPairs-cons}
 use Rattle.abt_machine.specs.declared.grammar.Format.TheVariants as format
 use Rattle.abt_machine.specs.declared.numbers.PoolNo.{PoolNo}
-use Rattle.abt_machine.specs.declared.operations.OrderShape.{OrderShape}
+use Rattle.abt_machine.specs.Stored.{Stored}
 use Rattle.abt_machine.specs.declared.operations.Rule.TheVariants as rule
 use Rattle.abt_machine.specs.declared.operations.Thing.{Thing}
 use Rattle.abt_machine.specs.declared.workload.Parts.{Parts}
@@ -43,7 +43,7 @@ one-pool pools p l = record {
 }
 
 -- two schedulers that list pools in order ask for no order of the user's
-pub no-order : (W : Parts) (Z : List OrderShape) (first second : List PoolNo) → W.scheds ≡ in_order first ∷ in_order second ∷ [] → OrdersStored W Z
+pub no-order : (W : Parts) (Z : Stored) (first second : List PoolNo) → W.scheds ≡ in_order first ∷ in_order second ∷ [] → OrdersStored W Z.orders
 no-order W Z first second is g k e = absurd (by g (ap (λ parts. option_map (λ (part : SchedPart). part.rule) (slice_get parts g)) (sym is) ∙ e)) where
   by : (g : ℕ) → option_map (λ (part : SchedPart). part.rule) (slice_get (in_order first ∷ in_order second ∷ []) g) ≡ Some (rule.User k) → ⊥
   by zero e = cc
@@ -52,8 +52,9 @@ no-order W Z first second is g k e = absurd (by g (ap (λ parts. option_map (λ 
 
 -- two streams that share a pool are a workload if their objects and units are those of one
 pub sharing-is-valid : (objects : List Thing) (units : List UnitPart) → AllPairs (λ (a b : ℕ). a ≢ b) (placed_scheds (sharing objects units)) →
-    length objects ≤ object_limit → ((x : ℕ) (t : Thing) → thing_at (sharing objects units) x ≡ Some t → IsThing objects x t) →
-    length units ≤ unit_limit format.Two → All (IsUnit (sharing objects units)) units → length (all_ops units) ≤ operation_limit → words_said (sharing objects units) ≡ [] → IsValid (sharing objects units)
+    length objects ≤ object_limit format.Three → ((x : ℕ) (t : Thing) → thing_at (sharing objects units) x ≡ Some t → IsThing objects x t) →
+    length units ≤ unit_limit format.Three → All (IsUnit (sharing objects units)) units → length (all_ops units) ≤ operation_limit format.Three → words_said (sharing objects units) ≡ [] → IsValid
+    (sharing objects units)
 sharing-is-valid objects units places few_objects things few_units each few_ops said = record {
   some_stream = omega arith;
   few_streams = omega arith;

@@ -7,7 +7,7 @@ use Rattle.abt_machine.specs.declared.events.What.TheVariants as what
 use Rattle.abt_machine.specs.declared.numbers.PoolNo.{PoolNo}
 use Rattle.abt_machine.specs.declared.numbers.StreamNo.{StreamNo}
 use Rattle.abt_machine.specs.declared.numbers.UnitNo.{UnitNo}
-use Rattle.abt_machine.specs.declared.operations.OrderShape.{OrderShape}
+use Rattle.abt_machine.specs.Stored.{Stored}
 use Rattle.abt_machine.specs.declared.workload.Parts.{Parts}
 use Rattle.abt_machine.specs.Numbers.{stream_no}
 use Rattle.abt_machine.specs.Maps.{put_at, put_all}
@@ -70,10 +70,11 @@ enter-falls W S s u comes held =
 
 -- Leave.
 
-idle-hand-free : (W : Parts) (Z : List OrderShape) (S : State) (s : ℕ) → Sound W Z S → hand W S s ≡ None → HandIsFree S s
+idle-hand-free : (W : Parts) (Z : Stored) (S : State) (s : ℕ) → Sound W Z S → hand W S s ≡ None → HandIsFree S s
 idle-hand-free W Z S s sound none v held = none-first W S sound.undeclared (InHand s) none v 0 (ap (ticket_in (InHand s)) held ∙ same-self s 0)
 
-pub leave-falls : (W : Parts) (Z : List OrderShape) (S : State) (s : ℕ) (u : UnitNo) → Sound W Z S → due W S s ≡ LeaveDue → S.place u.0 ≡ place.Frame (stream_no s) (length (S.stream s).below - 1) → state_weight W (after W S s (what.Leave u)) < state_weight W S
+pub leave-falls : (W : Parts) (Z : Stored) (S : State) (s : ℕ) (u : UnitNo) → Sound W Z S → due W S s ≡ LeaveDue → S.place u.0 ≡ place.Frame (stream_no s) (length (S.stream s).below - 1) →
+    state_weight W (after W S s (what.Leave u)) < state_weight W S
 leave-falls W Z S s u sound comes framed =
     let T : State = after W S s (what.Leave u) in
     let below : (f : Frame) × (rest : List Frame) × ((S.stream s).below ≡ f ∷ rest) = leave-below W S s comes in
@@ -86,7 +87,7 @@ leave-falls W Z S s u sound comes framed =
 -- Look.
 
 -- a unit in the Next of s leaves its hand free
-next-hand-free : (W : Parts) (Z : List OrderShape) (S : State) (s u : ℕ) → Sound W Z S → StandsIn W S (InNext s) u → HandIsFree S s
+next-hand-free : (W : Parts) (Z : Stored) (S : State) (s u : ℕ) → Sound W Z S → StandsIn W S (InNext s) u → HandIsFree S s
 next-hand-free W Z S s u sound stands v held = sound.hand_or_next s v u held stands.at
 
 handed-falls : (W : Parts) (S : State) (s u : ℕ) (m : Mark) → hand_weight m ≡ 3 → StandsIn W S (InNext s) u → HandIsFree S s → state_weight W (changed S (handed S s u m)) < state_weight W S
@@ -114,7 +115,7 @@ look_row-falls W S s u true migrate e stands free = handed-falls W S s u Asked r
 look_row-falls W S s u false None e stands free = handed-falls W S s u Plain refl stands free
 look_row-falls W S s u false (Some p) e stands free = migrate-falls W S s u p e stands
 
-pub look-falls : (W : Parts) (Z : List OrderShape) (S : State) (s : ℕ) (u : UnitNo) → Sound W Z S → next W S s ≡ Some u.0 → state_weight W (after W S s (what.Look u)) < state_weight W S
+pub look-falls : (W : Parts) (Z : Stored) (S : State) (s : ℕ) (u : UnitNo) → Sound W Z S → next W S s ≡ Some u.0 → state_weight W (after W S s (what.Look u)) < state_weight W S
 look-falls W Z S s u sound taken =
     let stands : StandsIn W S (InNext s) u.0 = first-stands W S (InNext s) u.0 taken in
     look_row-falls W S s u.0 (S.desk u.0).cancel (S.desk u.0).migrate refl stands (next-hand-free W Z S s u.0 sound stands)

@@ -69,6 +69,7 @@ EndsStacked s T = ((T.stream s).below ≢ []) × ((T.stream s).top.empty ≡ tru
 abbrev pub FallsBy : Parts → ℕ → What → State → State → Type 0
 FallsBy W s (what.Miss p) S T = (state_weight W T ≡ state_weight W S) × (EndsStacked s T → open_frames W T < open_frames W S) × ((EndsStacked s T → ⊥) → open_frames W T ≡ open_frames W S)
 FallsBy W s (what.Step u k c) S T = Unit {0}
+FallsBy W s (what.Call u k n) S T = Unit {0}
 FallsBy W s (what.Take p u) S T = state_weight W T < state_weight W S
 FallsBy W s (what.Look u) S T = state_weight W T < state_weight W S
 FallsBy W s (what.Put u p) S T = state_weight W T < state_weight W S

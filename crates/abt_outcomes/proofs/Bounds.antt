@@ -7,7 +7,7 @@ use Rattle.abt_machine.specs.declared.events.Place.{Place}
 use Rattle.abt_machine.specs.declared.events.Place.TheVariants as place
 use Rattle.abt_machine.specs.declared.events.Spot.TheVariants as spot
 use Rattle.abt_machine.specs.declared.grammar.Format.TheVariants as format
-use Rattle.abt_machine.specs.declared.operations.OrderShape.{OrderShape}
+use Rattle.abt_machine.specs.Stored.{Stored}
 use Rattle.abt_machine.specs.declared.workload.Parts.{Parts}
 use Rattle.abt_machine.specs.Limits.{unit_limit}
 use Rattle.abt_machine.specs.Numbers.{stream_no}
@@ -93,7 +93,7 @@ abbrev total : Parts → State → ℕ → ℕ → ℕ
 total W S n k = sum_up (λ u. held n k (S.place u)) (length W.units)
 
 -- each further frame holds one more
-one-stream : (W : Parts) (Z : List OrderShape) (S : State) (n base k : ℕ) → Sound W Z S → k ≤ length (S.stream n).below → base ≤ total W S n 0 → base + k ≤ total W S n k
+one-stream : (W : Parts) (Z : Stored) (S : State) (n base k : ℕ) → Sound W Z S → k ≤ length (S.stream n).below → base ≤ total W S n 0 → base + k ≤ total W S n k
 one-stream W Z S n base zero sound l h = omega arith
 one-stream W Z S n base (suc k) sound l h =
     let rest : base + k ≤ total W S n k = one-stream W Z S n base k sound (omega arith) h in
@@ -105,7 +105,7 @@ one-stream W Z S n base (suc k) sound l h =
     sum_up-falls (λ u. held n k (S.place u)) (λ u. held n (suc k) (S.place u)) (length W.units) has.0 declared (omega arith)
     (λ u _. truth-rises (is_held n k (S.place u)) (is_held n (suc k) (S.place u)) (held-more n k (S.place u))) in omega arith
 
-all-streams : (W : Parts) (Z : List OrderShape) (S : State) (n : ℕ) → Sound W Z S → sum_up (λ s. length (S.stream s).below) n ≤ total W S n 0
+all-streams : (W : Parts) (Z : Stored) (S : State) (n : ℕ) → Sound W Z S → sum_up (λ s. length (S.stream s).below) n ≤ total W S n 0
 all-streams W Z S zero sound = omega arith
 all-streams W Z S (suc n) sound =
     let base : ℕ = sum_up (λ s. length (S.stream s).below) n in
@@ -116,7 +116,7 @@ all-streams W Z S (suc n) sound =
     (λ u _. truth-rises (is_held n k (S.place u)) (is_held (suc n) 0 (S.place u)) (held-next n k (S.place u))) in
     omega (arith, sum_up-suc (λ s. length (S.stream s).below) n)
 
-frames-most : (W : Parts) (Z : List OrderShape) (S : State) → Sound W Z S → sum_up (λ s. length (S.stream s).below) W.streams ≤ length W.units
+frames-most : (W : Parts) (Z : Stored) (S : State) → Sound W Z S → sum_up (λ s. length (S.stream s).below) W.streams ≤ length W.units
 frames-most W Z S sound =
     let a : sum_up (λ s. length (S.stream s).below) W.streams ≤ total W S W.streams 0 = all-streams W Z S W.streams sound in
     let b : total W S W.streams 0 ≤ length W.units * 1 =
@@ -131,14 +131,14 @@ open-most f (g ∷ fs) =
     let one : cond {A = ℕ} (not f.empty) 1 0 ≤ 1 = truth-one (not f.empty) in
     omega (arith, sum_by-cons (λ (g : Frame). cond {A = ℕ} (not g.empty) 1 0) f (stacked (g ∷ fs)))
 
-open_frames-most : (W : Parts) (Z : List OrderShape) (S : State) → Sound W Z S → open_frames W S ≤ length W.units
+open_frames-most : (W : Parts) (Z : Stored) (S : State) → Sound W Z S → open_frames W S ≤ length W.units
 open_frames-most W Z S sound =
     let a : open_frames W S ≤ sum_up (λ s. length (S.stream s).below) W.streams =
     sum_up-rises (λ s. open_frames_of (S.stream s)) (λ s. length (S.stream s).below) W.streams (λ s _. open-most (S.stream s).top (S.stream s).below) in
     let b : sum_up (λ s. length (S.stream s).below) W.streams ≤ length W.units = frames-most W Z S sound in omega arith
 
-pub numbers-are-bounded : (W : Parts) (Z : List OrderShape) → NumbersAreBounded W Z
+pub numbers-are-bounded : (W : Parts) (Z : Stored) → NumbersAreBounded W Z
 numbers-are-bounded W Z valid S sound =
-    let few : length W.units ≤ unit_limit format.Two = valid.few_units in
+    let few : length W.units ≤ unit_limit format.Three = valid.few_units in
     let a : state_weight W S ≤ length W.units * 9 = weight-most W S in
     let b : open_frames W S ≤ length W.units = open_frames-most W Z S sound in (omega arith, omega arith)

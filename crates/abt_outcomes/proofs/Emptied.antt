@@ -9,7 +9,7 @@ use Rattle.abt_machine.specs.declared.events.What.TheVariants as what
 use Rattle.abt_machine.specs.declared.numbers.PoolNo.{PoolNo}
 use Rattle.abt_machine.specs.declared.operations.Kind.{Kind}
 use Rattle.abt_machine.specs.declared.operations.Kind.TheVariants as kind
-use Rattle.abt_machine.specs.declared.operations.OrderShape.{OrderShape}
+use Rattle.abt_machine.specs.Stored.{Stored}
 use Rattle.abt_machine.specs.declared.workload.Parts.{Parts}
 use Rattle.abt_machine.specs.Workloads.{kind_of, main_of, pools_of}
 use Rattle.abt_machine.specs.Queues.{first, last}
@@ -88,7 +88,7 @@ seen-other W S s r p other seen q has =
     seen q (subst (λ (own : Stream). Contains own.top.seen q) (put_at-other S.stream r (round_missed W p.0 (S.stream r)) s other) has)
 
 -- any miss
-pub seen-after-miss : (W : Parts) (Z : List OrderShape) (S : State) (s r : ℕ) (w : What) → IsMiss w → May W Z S r w → SeenEmpty W S s → SeenEmpty W (after W S r w) s
+pub seen-after-miss : (W : Parts) (Z : Stored) (S : State) (s r : ℕ) (w : What) → IsMiss w → May W Z S r w → SeenEmpty W S s → SeenEmpty W (after W S r w) s
 seen-after-miss W Z S s r (what.Miss p) miss may seen =
     elim (cases_eq s r) [
       | inl same ↦ subst (λ q. SeenEmpty W (after W S r (what.Miss p)) q) (sym same) (seen-missed W S r p may.1 (subst (SeenEmpty W S) same seen))
@@ -97,11 +97,12 @@ seen-after-miss W Z S s r (what.Miss p) miss may seen =
 seen-after-miss W Z S s r _ miss may seen = absurd miss
 
 -- any event of the stream itself
-pub seen-after-own : (W : Parts) (Z : List OrderShape) (S : State) (s : ℕ) (w : What) → s < W.streams → Sound W Z S → May W Z S s w → SeenEmpty W S s → SeenEmpty W (after W S s w) s
+pub seen-after-own : (W : Parts) (Z : Stored) (S : State) (s : ℕ) (w : What) → s < W.streams → Sound W Z S → May W Z S s w → SeenEmpty W S s → SeenEmpty W (after W S s w) s
 seen-after-own W Z S s (what.Miss p) declared sound may seen = seen-missed W S s p may.1 seen
 seen-after-own W Z S s (what.Take p u) declared sound may seen = fresh-empty W (after W S s (what.Take p u)) s (others-fresh W Z S s (what.Take p u) declared sound may (λ m. m))
 seen-after-own W Z S s (what.Look u) declared sound may seen = fresh-empty W (after W S s (what.Look u)) s (others-fresh W Z S s (what.Look u) declared sound may (λ m. m))
 seen-after-own W Z S s (what.Step u k c) declared sound may seen = fresh-empty W (after W S s (what.Step u k c)) s (others-fresh W Z S s (what.Step u k c) declared sound may (λ m. m))
+seen-after-own W Z S s (what.Call u k n) declared sound may seen = fresh-empty W (after W S s (what.Call u k n)) s (others-fresh W Z S s (what.Call u k n) declared sound may (λ m. m))
 seen-after-own W Z S s (what.Put u p) declared sound may seen = fresh-empty W (after W S s (what.Put u p)) s (others-fresh W Z S s (what.Put u p) declared sound may (λ m. m))
 seen-after-own W Z S s (what.End u c) declared sound may seen = fresh-empty W (after W S s (what.End u c)) s (others-fresh W Z S s (what.End u c) declared sound may (λ m. m))
 seen-after-own W Z S s (what.Enter u) declared sound may seen = fresh-empty W (after W S s (what.Enter u)) s (others-fresh W Z S s (what.Enter u) declared sound may (λ m. m))
@@ -118,7 +119,8 @@ ended-whole W f p =
     (λ no e. cc)
 
 -- if the last pool of a round is missed, each pool of its scheduler was seen or is the missed one
-listed-seen : (W : Parts) (Z : List OrderShape) (f : Frame) (p q : ℕ) → IsNextPool W Z f p → length (pools_of W f.sched) ≡ suc (length f.seen) → Contains (pools_of W f.sched) q → Contains (f.seen ++ p ∷ []) q
+listed-seen : (W : Parts) (Z : Stored) (f : Frame) (p q : ℕ) → IsNextPool W Z.orders f p → length (pools_of W f.sched) ≡ suc (length f.seen) → Contains (pools_of W f.sched) q → Contains
+    (f.seen ++ p ∷ []) q
 listed-seen W Z f p q (order, chosen, more) whole listed =
     let permutes : IsPermutation (pools_of W f.sched) order = order-permutes W Z f.sched f.round order chosen in
     let long : length order ≡ length (pools_of W f.sched) = length_permutation (pools_of W f.sched) order permutes in
@@ -129,7 +131,7 @@ listed-seen W Z f p q (order, chosen, more) whole listed =
     elim (Contains-append_cases (f.seen ++ p ∷ []) more.0 q has) [ inl is ↦ is | inr out ↦ (let l = out.1 in absurd (omega arith)) ]
 
 -- all pools of its scheduler are empty
-pub round-emptied : (W : Parts) (Z : List OrderShape) (S : State) (s : ℕ) (p : PoolNo) → May W Z S s (what.Miss p) → SeenEmpty W S s → (frame_missed W (S.stream s).top p.0).empty ≡ true →
+pub round-emptied : (W : Parts) (Z : Stored) (S : State) (s : ℕ) (p : PoolNo) → May W Z S s (what.Miss p) → SeenEmpty W S s → (frame_missed W (S.stream s).top p.0).empty ≡ true →
     (q : ℕ) → Contains (pools_of W (S.stream s).top.sched) q → standing W S (InPool q) ≡ []
 round-emptied W Z S s p may seen ended q listed =
     let f : Frame = (S.stream s).top in
@@ -162,7 +164,7 @@ quiet-at-stays W S s r (what.Miss p) miss at = record { tray = at.tray; next = a
 quiet-at-stays W S s r _ miss at = absurd miss
 
 -- a stream is so after a miss that ends a round of its main scheduler empty, if the pools that the round saw before are empty
-pub main-round-quiet : (W : Parts) (Z : List OrderShape) (S : State) (s : ℕ) (w : What) → s < W.streams → Sound W Z S → May W Z S s w → SeenEmpty W S s → IsMiss w →
+pub main-round-quiet : (W : Parts) (Z : Stored) (S : State) (s : ℕ) (w : What) → s < W.streams → Sound W Z S → May W Z S s w → SeenEmpty W S s → IsMiss w →
     ((after W S s w).stream s).below ≡ [] → ((after W S s w).stream s).top.empty ≡ true → IsQuietAt W (after W S s w) s
 main-round-quiet W Z S s (what.Miss p) declared sound may seen miss alone ended =
     let none : (S.stream s).below ≡ [] = sym (ap (λ (own : Stream). own.below) (missed W S s p)) ∙ alone in

@@ -4,7 +4,7 @@ use Rattle.std.proofs.lemmas.Bool.{eq-eqb}
 use Rattle.std.proofs.lemmas.List.Sums.{sum_by-append, sum_by-cons}
 use Rattle.abt_machine.specs.declared.events.Event.{Event}
 use Rattle.abt_machine.specs.declared.grammar.Format.TheVariants as format
-use Rattle.abt_machine.specs.declared.operations.OrderShape.{OrderShape}
+use Rattle.abt_machine.specs.Stored.{Stored}
 use Rattle.abt_machine.specs.declared.workload.Parts.{Parts}
 use Rattle.abt_machine.specs.Valid.{IsValid}
 use Rattle.abt_machine.specs.Rounds.{OrdersStored}
@@ -47,7 +47,7 @@ step-or-not true = inl refl
 step-or-not false = inr refl
 
 -- none of these events is a step, or a declared stream made one
-some-step : (W : Parts) (Z : List OrderShape) (S : State) (es : List Event) → RunFrom W Z S es → HasNoStep es ⊎ ((s : ℕ) × (s < W.streams) × (0 < steps_of s es))
+some-step : (W : Parts) (Z : Stored) (S : State) (es : List Event) → RunFrom W Z S es → HasNoStep es ⊎ ((s : ℕ) × (s < W.streams) × (0 < steps_of s es))
 some-step W Z S [] run = inl tt
 some-step W Z S (e ∷ es) run =
     elim (step-or-not (is_step e.what)) [
@@ -73,13 +73,13 @@ steps-less W n J es s within declared some =
 
 -- What is left after a run and some more events.
 
-record Goes (W : Parts) (Z : List OrderShape) (J es : List Event) : Type 0 where
+record Goes (W : Parts) (Z : Stored) (J es : List Event) : Type 0 where
   before : Sound W Z (last_state W J)
   later : Sound W Z (state_after W (last_state W J) es)
   run : RunFrom W Z (last_state W J) es
   last : last_state W (J ++ es) ≡ state_after W (last_state W J) es
 
-goes : (W : Parts) (Z : List OrderShape) (J es : List Event) → IsValid W → OrdersStored W Z → Run W Z (J ++ es) → Goes W Z J es
+goes : (W : Parts) (Z : Stored) (J es : List Event) → IsValid W → OrdersStored W Z.orders → Run W Z (J ++ es) → Goes W Z J es
 goes W Z J es valid stored run =
     let last : last_state W (J ++ es) ≡ state_after W (last_state W J) es = state_after-append W (start W) J es in
     record {
@@ -93,23 +93,23 @@ goes W Z J es valid stored run =
 abbrev work_at : Parts → ℕ → List Event → State → ℕ
 work_at W n J S = work_of (steps_left W n J) (state_weight W S) (open_frames W S)
 
-pub steps-fall : (W : Parts) (Z : List OrderShape) → StepsFall W Z
+pub steps-fall : (W : Parts) (Z : Stored) → StepsFall W Z
 steps-fall W Z valid stored n J es run within =
     let way : Goes W Z J es = goes W Z J es valid stored run in
     let T : State = state_after W (last_state W J) es in
-    let bounds : (state_weight W T ≤ weight_limit) × (open_frames W T ≤ unit_limit format.Two) = numbers-are-bounded W Z valid T way.later in
+    let bounds : (state_weight W T ≤ weight_limit) × (open_frames W T ≤ unit_limit format.Three) = numbers-are-bounded W Z valid T way.later in
     elim (some-step W Z (last_state W J) es way.run) [
       | inl none ↦ inl none
       | inr some ↦ inr (subst (λ U. work_at W n (J ++ es) U < work_left W n J) (sym way.last)
           (let fewer : steps_left W n (J ++ es) < steps_left W n J = steps-less W n J es some.0 within some.1 some.2 in omega arith))
     ]
 
-pub others-raise-none : (W : Parts) (Z : List OrderShape) → OthersRaiseNone W Z
+pub others-raise-none : (W : Parts) (Z : Stored) → OthersRaiseNone W Z
 others-raise-none W Z valid stored n J es run still =
     let way : Goes W Z J es = goes W Z J es valid stored run in
     let S : State = last_state W J in
     let T : State = state_after W S es in
-    let bounds : (state_weight W T ≤ weight_limit) × (open_frames W T ≤ unit_limit format.Two) = numbers-are-bounded W Z valid T way.later in
+    let bounds : (state_weight W T ≤ weight_limit) × (open_frames W T ≤ unit_limit format.Three) = numbers-are-bounded W Z valid T way.later in
     let same : steps_left W n (J ++ es) ≡ steps_left W n J = steps-same W n J es still in
     subst (λ U. work_at W n (J ++ es) U ≤ work_left W n J) (sym way.last)
     (elim (misses-or-lower W Z S es valid stored way.before way.run still) [
@@ -119,12 +119,12 @@ others-raise-none W Z valid stored n J es run still =
           let frames : open_frames W T ≤ open_frames W S = misses-open-none W Z S es way.run all.0 in omega arith
     ])
 
-pub rotations-fall : (W : Parts) (Z : List OrderShape) → RotationsFall W Z
+pub rotations-fall : (W : Parts) (Z : Stored) → RotationsFall W Z
 rotations-fall W Z valid stored n J es run within turns =
     let way : Goes W Z J es = goes W Z J es valid stored run in
     let S : State = last_state W J in
     let T : State = state_after W S es in
-    let bounds : (state_weight W T ≤ weight_limit) × (open_frames W T ≤ unit_limit format.Two) = numbers-are-bounded W Z valid T way.later in
+    let bounds : (state_weight W T ≤ weight_limit) × (open_frames W T ≤ unit_limit format.Three) = numbers-are-bounded W Z valid T way.later in
     elim (steps-fall W Z valid stored n J es run within) [
       | inr less ↦ inr less
       | inl none ↦

@@ -4,7 +4,7 @@ use Rattle.abt_machine.specs.declared.events.Place.{Place}
 use Rattle.abt_machine.specs.declared.events.Place.TheVariants as place
 use Rattle.abt_machine.specs.declared.events.What.{What}
 use Rattle.abt_machine.specs.declared.events.What.TheVariants as what
-use Rattle.abt_machine.specs.declared.operations.OrderShape.{OrderShape}
+use Rattle.abt_machine.specs.Stored.{Stored}
 use Rattle.abt_machine.specs.declared.workload.Parts.{Parts}
 use Rattle.abt_machine.specs.Numbers.{stream_no}
 use Rattle.abt_machine.specs.Maps.{put_all}
@@ -27,19 +27,19 @@ head-fresh : (f : Frame) (fs : List Frame) → AllAtRest (f ∷ fs) → f.seen �
 head-fresh f [] rest = rest
 head-fresh f (g ∷ fs) rest = rest.0
 
-placed-at : (W : Parts) (Z : List OrderShape) (S : State) (u : ℕ) (at : Place) → Sound W Z S → S.place u ≡ at → IsPlaced W S u at
+placed-at : (W : Parts) (Z : Stored) (S : State) (u : ℕ) (at : Place) → Sound W Z S → S.place u ≡ at → IsPlaced W S u at
 placed-at W Z S u at sound is = subst (IsPlaced W S u) is (sound.placed u)
 
 rest-fresh : (own : Stream) → IsAtRest own → own.top.seen ≡ []
 rest-fresh own rest = head-fresh own.top own.below rest
 
-pub hand-fresh : (W : Parts) (Z : List OrderShape) (S : State) (s u : ℕ) → Sound W Z S → S.place u ≡ place.Hand (stream_no s) → (S.stream s).top.seen ≡ []
+pub hand-fresh : (W : Parts) (Z : Stored) (S : State) (s u : ℕ) → Sound W Z S → S.place u ≡ place.Hand (stream_no s) → (S.stream s).top.seen ≡ []
 hand-fresh W Z S s u sound at = rest-fresh (S.stream s) (placed-at W Z S u (place.Hand (stream_no s)) sound at).1
 
-next-fresh : (W : Parts) (Z : List OrderShape) (S : State) (s u : ℕ) → Sound W Z S → S.place u ≡ place.Next (stream_no s) → (S.stream s).top.seen ≡ []
+next-fresh : (W : Parts) (Z : Stored) (S : State) (s u : ℕ) → Sound W Z S → S.place u ≡ place.Next (stream_no s) → (S.stream s).top.seen ≡ []
 next-fresh W Z S s u sound at = rest-fresh (S.stream s) (placed-at W Z S u (place.Next (stream_no s)) sound at).1
 
-tray-fresh : (W : Parts) (Z : List OrderShape) (S : State) (s u : ℕ) → Sound W Z S → first (standing W S (InTray s)) ≡ Some u → (S.stream s).top.seen ≡ []
+tray-fresh : (W : Parts) (Z : Stored) (S : State) (s u : ℕ) → Sound W Z S → first (standing W S (InTray s)) ≡ Some u → (S.stream s).top.seen ≡ []
 tray-fresh W Z S s u sound e =
     let is : StandsIn W S (InTray s) u = first-stands W S (InTray s) u e in
     rest-fresh (S.stream s) (placed-at W Z S u (place.Tray (stream_no s) is.ticket) sound is.at).1
@@ -55,12 +55,13 @@ left-fresh : (own : Stream) (f : Frame) (fs : List Frame) → own.below ≡ f �
 left-fresh own f fs below rest = ap (λ gs. (left_to own gs).top.seen) below ∙ head-fresh f fs (subst AllAtRest below rest)
 
 -- after an event of stream s that is no miss its round has seen no pool
-pub others-fresh : (W : Parts) (Z : List OrderShape) (S : State) (s : ℕ) (w : What) → s < W.streams → Sound W Z S → May W Z S s w → (IsMiss w → ⊥) → ((after W S s w).stream s).top.seen ≡ []
+pub others-fresh : (W : Parts) (Z : Stored) (S : State) (s : ℕ) (w : What) → s < W.streams → Sound W Z S → May W Z S s w → (IsMiss w → ⊥) → ((after W S s w).stream s).top.seen ≡ []
 others-fresh W Z S s (what.Miss p) declared sound may other = absurd (other tt)
 others-fresh W Z S s (what.Take p u) declared sound may other = ap (λ (own : Stream). own.top.seen) (put_at-same S.stream s (round_taken (S.stream s)))
 others-fresh W Z S s (what.Look u) declared sound may other = look-fresh W S s u.0 (S.desk u.0).cancel (S.desk u.0).migrate (next-fresh W Z S s u.0 sound (next-place W S s u.0 may.1))
 others-fresh W Z S s (what.Step u k c) declared sound may other =
     ap (λ (f : Frame). f.seen) (step-keeps-frames W S s u.0 k c s).0 ∙ hand-fresh W Z S s u.0 sound (hand-place W S s u.0 may.1)
+others-fresh W Z S s (what.Call u k n) declared sound may other = hand-fresh W Z S s u.0 sound (hand-place W S s u.0 may.1)
 others-fresh W Z S s (what.Put u p) declared sound may other = tray-fresh W Z S s u.0 sound may.1
 others-fresh W Z S s (what.End u c) declared sound may other = hand-fresh W Z S s u.0 sound (hand-place W S s u.0 may.1)
 others-fresh W Z S s (what.Enter u) declared sound may other = ap (λ (own : Stream). own.top.seen) (put_at-same S.stream s (entered (sched_of (body_at W u.0)) (S.stream s)))

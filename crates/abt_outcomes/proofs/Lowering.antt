@@ -4,7 +4,7 @@ use Rattle.std.proofs.lemmas.Bool.{cases_eq}
 use Rattle.abt_machine.specs.declared.events.Event.{Event}
 use Rattle.abt_machine.specs.declared.events.What.{What}
 use Rattle.abt_machine.specs.declared.events.What.TheVariants as what
-use Rattle.abt_machine.specs.declared.operations.OrderShape.{OrderShape}
+use Rattle.abt_machine.specs.Stored.{Stored}
 use Rattle.abt_machine.specs.declared.workload.Parts.{Parts}
 use Rattle.abt_machine.specs.Valid.{IsValid}
 use Rattle.abt_machine.specs.Rounds.{OrdersStored}
@@ -30,9 +30,10 @@ is-miss (what.Miss p) = inl tt
 is-miss _ = inr (λ h. h)
 
 -- an event that is neither a step nor a miss lowers the weight
-pub other-lowers : (W : Parts) (Z : List OrderShape) (S : State) (s : ℕ) (w : What) → Sound W Z S → May W Z S s w → is_step w ≡ false → (IsMiss w → ⊥) → state_weight W (after W S s w) < state_weight W S
+pub other-lowers : (W : Parts) (Z : Stored) (S : State) (s : ℕ) (w : What) → Sound W Z S → May W Z S s w → is_step w ≡ false → (IsMiss w → ⊥) → state_weight W (after W S s w) < state_weight W S
 other-lowers W Z S s (what.Miss p) sound may still other = absurd (other tt)
 other-lowers W Z S s (what.Step u k c) sound may still other = cc
+other-lowers W Z S s (what.Call u k n) sound may still other = cc
 other-lowers W Z S s (what.Take p u) sound may still other = take-falls W S s p u may.1
 other-lowers W Z S s (what.Look u) sound may still other = look-falls W Z S s u sound may.1
 other-lowers W Z S s (what.Put u p) sound may still other = put-falls W S s u p may.1
@@ -48,7 +49,7 @@ miss-keeps W S s _ miss = absurd miss
 -- The weight.
 
 -- events without a step are all misses, and keep the weight, or lower it
-pub misses-or-lower : (W : Parts) (Z : List OrderShape) (S : State) (es : List Event) → IsValid W → OrdersStored W Z → Sound W Z S → RunFrom W Z S es → HasNoStep es →
+pub misses-or-lower : (W : Parts) (Z : Stored) (S : State) (es : List Event) → IsValid W → OrdersStored W Z.orders → Sound W Z S → RunFrom W Z S es → HasNoStep es →
     (AllMisses es × (state_weight W (state_after W S es) ≡ state_weight W S)) ⊎ (state_weight W (state_after W S es) < state_weight W S)
 misses-or-lower W Z S [] valid stored sound run still = inl (tt, refl)
 misses-or-lower W Z S (e ∷ es) valid stored sound run still =
@@ -81,12 +82,12 @@ ends-stacked s T =
       | inr some ↦ elim (true-or-not (T.stream s).top.empty) [ inl empty ↦ inl (some, empty) | inr not ↦ inr (λ ends. not ends.1) ]
     ]
 
-miss-ends : (W : Parts) (Z : List OrderShape) (S : State) (s : ℕ) (w : What) → s < W.streams → May W Z S s w → IsMiss w → EndsStacked s (after W S s w) → open_frames W (after W S s w) < open_frames W S
+miss-ends : (W : Parts) (Z : Stored) (S : State) (s : ℕ) (w : What) → s < W.streams → May W Z S s w → IsMiss w → EndsStacked s (after W S s w) → open_frames W (after W S s w) < open_frames W S
 miss-ends W Z S s (what.Miss p) declared may miss ends = miss-ends-stacked W S s p declared may.0 ends
 miss-ends W Z S s _ declared may miss ends = absurd miss
 
 -- a miss opens no frame
-miss-opens-none : (W : Parts) (Z : List OrderShape) (S : State) (s : ℕ) (w : What) → s < W.streams → May W Z S s w → IsMiss w → open_frames W (after W S s w) ≤ open_frames W S
+miss-opens-none : (W : Parts) (Z : Stored) (S : State) (s : ℕ) (w : What) → s < W.streams → May W Z S s w → IsMiss w → open_frames W (after W S s w) ≤ open_frames W S
 miss-opens-none W Z S s (what.Miss p) declared may miss =
     elim (ends-stacked s (after W S s (what.Miss p))) [
       | inl ends ↦ (let less : open_frames W (after W S s (what.Miss p)) < open_frames W S = miss-ends-stacked W S s p declared may.0 ends in omega arith)
@@ -94,7 +95,7 @@ miss-opens-none W Z S s (what.Miss p) declared may miss =
     ]
 miss-opens-none W Z S s _ declared may miss = absurd miss
 
-pub misses-open-none : (W : Parts) (Z : List OrderShape) (S : State) (es : List Event) → RunFrom W Z S es → AllMisses es → open_frames W (state_after W S es) ≤ open_frames W S
+pub misses-open-none : (W : Parts) (Z : Stored) (S : State) (es : List Event) → RunFrom W Z S es → AllMisses es → open_frames W (state_after W S es) ≤ open_frames W S
 misses-open-none W Z S [] run misses = omega arith
 misses-open-none W Z S (e ∷ es) run misses =
     let T : State = after W S e.stream.0 e.what in
@@ -102,7 +103,8 @@ misses-open-none W Z S (e ∷ es) run misses =
     let rest : open_frames W (state_after W T es) ≤ open_frames W T = misses-open-none W Z T es run.2 misses.1 in omega arith
 
 -- misses by which a round of a stacked frame ends empty lower the number of open frames
-stacked-lower : (W : Parts) (Z : List OrderShape) (S : State) (s : ℕ) (es : List Event) → RunFrom W Z S es → AllMisses es → (S.stream s).below ≢ [] → HasEmptied W s S es → open_frames W (state_after W S es) < open_frames W S
+stacked-lower : (W : Parts) (Z : Stored) (S : State) (s : ℕ) (es : List Event) → RunFrom W Z S es → AllMisses es → (S.stream s).below ≢ [] → HasEmptied W s S es → open_frames W
+    (state_after W S es) < open_frames W S
 stacked-lower W Z S s [] run misses some emptied = absurd emptied
 stacked-lower W Z S s (e ∷ es) run misses some emptied =
     let T : State = after W S e.stream.0 e.what in
@@ -132,7 +134,7 @@ stacked-or-none S (suc n) =
       ]
     ]
 
-pub rotations-lower : (W : Parts) (Z : List OrderShape) → RotationsLower W Z
+pub rotations-lower : (W : Parts) (Z : Stored) → RotationsLower W Z
 rotations-lower W Z valid stored S es sound run still rotation =
     elim (misses-or-lower W Z S es valid stored sound run still) [
       | inr less ↦ inr (inl less)

@@ -8,7 +8,7 @@ use Rattle.abt_machine.specs.declared.events.Place.TheVariants as place
 use Rattle.abt_machine.specs.declared.events.Site.{Site}
 use Rattle.abt_machine.specs.declared.events.Site.TheVariants as site
 use Rattle.abt_machine.specs.declared.events.Spot.TheVariants as spot
-use Rattle.abt_machine.specs.declared.operations.OrderShape.{OrderShape}
+use Rattle.abt_machine.specs.Stored.{Stored}
 use Rattle.abt_machine.specs.declared.workload.Parts.{Parts}
 use Rattle.abt_machine.specs.Numbers.{pool_no, unit_no}
 use Rattle.abt_machine.specs.Workloads.{pools_of, main_of}
@@ -83,7 +83,7 @@ shown-over o (place.Ended c) shows = tt
 shown-over o (place.Blocked spot.Suspended t) shows = shows
 shown-over o _ shows = shows
 
-pub ends-seen : (W : Parts) (Z : List OrderShape) (S : State) (parts : ℕ → Held) (objects : Site → Object) → Sound W Z S → StandFor W S parts objects → AllEnded S ↔ LooksEnded W objects
+pub ends-seen : (W : Parts) (Z : Stored) (S : State) (parts : ℕ → Held) (objects : Site → Object) → Sound W Z S → StandFor W S parts objects → AllEnded S ↔ LooksEnded W objects
 ends-seen W Z S parts objects sound stand = (to, from) where
   to : AllEnded S → LooksEnded W objects
   to ended u l = subst IsOverAt (stand.sites (site.Desk (unit_no u))) (over-shows (owned_at S u) (S.place u) (ended u))

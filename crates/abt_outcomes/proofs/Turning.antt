@@ -6,7 +6,7 @@ use Rattle.abt_machine.specs.declared.events.What.{What}
 use Rattle.abt_machine.specs.declared.events.What.TheVariants as what
 use Rattle.abt_machine.specs.declared.numbers.PoolNo.{PoolNo}
 use Rattle.abt_machine.specs.declared.numbers.StreamNo.{StreamNo}
-use Rattle.abt_machine.specs.declared.operations.OrderShape.{OrderShape}
+use Rattle.abt_machine.specs.Stored.{Stored}
 use Rattle.abt_machine.specs.declared.workload.Parts.{Parts}
 use Rattle.abt_machine.specs.Numbers.{pool_no}
 use Rattle.abt_machine.specs.Workloads.{main_of, pools_of}
@@ -36,7 +36,7 @@ stays-quiet W S s (e ∷ es) misses at = stays-quiet W (after W S e.stream.0 e.w
 -- Whole rounds.
 
 -- a miss that ends the round of a main scheduler empty
-ends-quiet : (W : Parts) (Z : List OrderShape) (S : State) (s : ℕ) (e : Event) → e.stream.0 < W.streams → Sound W Z S → May W Z S e.stream.0 e.what → (S.stream s).below ≡ [] → SeenEmpty W S s →
+ends-quiet : (W : Parts) (Z : Stored) (S : State) (s : ℕ) (e : Event) → e.stream.0 < W.streams → Sound W Z S → May W Z S e.stream.0 e.what → (S.stream s).below ≡ [] → SeenEmpty W S s →
     EndsEmpty s e (after W S e.stream.0 e.what) → IsQuietAt W (after W S e.stream.0 e.what) s
 ends-quiet W Z S s e declared sound may alone seen ends =
     let T : State = after W S e.stream.0 e.what in
@@ -44,7 +44,8 @@ ends-quiet W Z S s e declared sound may alone seen ends =
     let empty : (T.stream e.stream.0).top.empty ≡ true = ap (λ r. (T.stream r).top.empty) ends.0 ∙ ends.2 in
     subst (IsQuietAt W T) ends.0 (main-round-quiet W Z S e.stream.0 e.what declared sound may (subst (SeenEmpty W S) (sym ends.0) seen) ends.1 below empty)
 
-emptied-quiet : (W : Parts) (Z : List OrderShape) (S : State) (s : ℕ) (es : List Event) → IsValid W → OrdersStored W Z → Sound W Z S → RunFrom W Z S es → AllMisses es → (S.stream s).below ≡ [] → SeenEmpty W S s →
+emptied-quiet : (W : Parts) (Z : Stored) (S : State) (s : ℕ) (es : List Event) → IsValid W → OrdersStored W Z.orders → Sound W Z S → RunFrom W Z S es → AllMisses es → (S.stream s).below ≡ [] →
+    SeenEmpty W S s →
     HasEmptied W s S es → IsQuietAt W (state_after W S es) s
 emptied-quiet W Z S s [] valid stored sound run misses alone seen emptied = absurd emptied
 emptied-quiet W Z S s (e ∷ es) valid stored sound run misses alone seen emptied =
@@ -56,7 +57,7 @@ emptied-quiet W Z S s (e ∷ es) valid stored sound run misses alone seen emptie
           (miss-stacks-none W S s e.stream.0 e.what misses.0 ∙ alone) (seen-after-miss W Z S s e.stream.0 e.what misses.0 run.1 seen) later
     ]
 
-pub missed-rotations-end : (W : Parts) (Z : List OrderShape) → MissedRotationsEnd W Z
+pub missed-rotations-end : (W : Parts) (Z : Stored) → MissedRotationsEnd W Z
 missed-rotations-end W Z valid stored S es sound run misses alone rotation =
     quiet-everywhere W (state_after W S es) (λ s l.
     emptied-quiet W Z S s es valid stored sound run misses (alone s l) (fresh-empty W S s (rotation.fresh s l)) (rotation.emptied s l))
@@ -69,7 +70,7 @@ record IsIdleAt (W : Parts) (S : State) (s : ℕ) : Type 0 where
   next : standing W S (InNext s) ≡ []
   hand : standing W S (InHand s) ≡ []
 
-miss-idle : (W : Parts) (Z : List OrderShape) (S : State) (s : ℕ) (p : PoolNo) → Sound W Z S → May W Z S s (what.Miss p) → IsIdleAt W S s
+miss-idle : (W : Parts) (Z : Stored) (S : State) (s : ℕ) (p : PoolNo) → Sound W Z S → May W Z S s (what.Miss p) → IsIdleAt W S s
 miss-idle W Z S s p sound may = record {
   tray = empty-standing W S (InTray s) (due-no_tray W S s sound.undeclared RoundDue may.0 tt);
   next = empty-standing W S (InNext s) (due-no_next W S s sound.undeclared RoundDue may.0 tt);
@@ -96,7 +97,8 @@ idle-before W S T s e idle = record {
 }
 
 -- if stream s missed pool p, with misses alone before, it holds nothing at first, and the pool is empty
-missed-shows : (W : Parts) (Z : List OrderShape) (S : State) (s p : ℕ) (es : List Event) → IsValid W → OrdersStored W Z → Sound W Z S → RunFrom W Z S es → AllMisses es → HasMissed s p es → IsIdleAt W S s × (standing W S (InPool p) ≡ [])
+missed-shows : (W : Parts) (Z : Stored) (S : State) (s p : ℕ) (es : List Event) → IsValid W → OrdersStored W Z.orders → Sound W Z S → RunFrom W Z S es → AllMisses es → HasMissed s p es →
+    IsIdleAt W S s × (standing W S (InPool p) ≡ [])
 missed-shows W Z S s p [] valid stored sound run misses has = absurd has
 missed-shows W Z S s p (e ∷ es) valid stored sound run misses has =
     let T : State = after W S e.stream.0 e.what in
@@ -118,7 +120,7 @@ lists-some W s valid l =
     let stream : IsStream W s = valid.streams s l in
     (get_or (pools_of W (main_of W s)) 0 0, Contains-get_or (pools_of W (main_of W s)) 0 0 (some-listed W (main_of W s) valid stream.main))
 
-pub misses-end : (W : Parts) (Z : List OrderShape) → MissesEnd W Z
+pub misses-end : (W : Parts) (Z : Stored) → MissesEnd W Z
 misses-end W Z valid stored S es sound run misses alone missed =
     quiet-everywhere W (state_after W S es) (λ s l.
     let some : (p : ℕ) × Contains (pools_of W (main_of W s)) p = lists-some W s valid l in

@@ -6,7 +6,7 @@ use Rattle.abt_machine.specs.declared.events.Place.{Place}
 use Rattle.abt_machine.specs.declared.events.Place.TheVariants as place
 use Rattle.abt_machine.specs.declared.events.Site.TheVariants as site
 use Rattle.abt_machine.specs.declared.events.Spot.TheVariants as spot
-use Rattle.abt_machine.specs.declared.operations.OrderShape.{OrderShape}
+use Rattle.abt_machine.specs.Stored.{Stored}
 use Rattle.abt_machine.specs.declared.workload.Parts.{Parts}
 use Rattle.abt_machine.specs.Numbers.{pool_no, unit_no}
 use Rattle.abt_machine.specs.Queues.{first, ticketed}
@@ -51,7 +51,7 @@ one-first (o ∷ []) l = refl
 one-first (o ∷ p ∷ os) l = absurd (omega arith)
 
 -- a line in which all tickets are 0
-module _ (W : Parts) (Z : List OrderShape) (S : State) (l : Line) (sound : Sound W Z S) (zero_at : (t : ℕ) → ticket_at l t ≡ 0) where
+module _ (W : Parts) (Z : Stored) (S : State) (l : Line) (sound : Sound W Z S) (zero_at : (t : ℕ) → ticket_at l t ≡ 0) where
   ticket-zero : (u : ℕ) → stands_in S l u ≡ 1 → ticket_in l (S.place u) ≡ Some 0
   ticket-zero u stands =
       let has : (t : ℕ) × (ticket_in l (S.place u) ≡ Some t) = counted-ticket (ticket_in l (S.place u)) stands in
@@ -130,7 +130,7 @@ weighs W S u (place.Ended c) placed = sums-are W S (place.Ended c) 0 0 0 (sum_up
 abbrev count : Parts → State → Line → ℕ
 count W S l = sum_up (stands_in S l) (length W.units)
 
-stream-weighs : (W : Parts) (Z : List OrderShape) (S : State) (s : ℕ) → Sound W Z S → held_weight (part_of W S s) ≡ sum_up (λ u. term_at S (S.place u) s) (length W.units)
+stream-weighs : (W : Parts) (Z : Stored) (S : State) (s : ℕ) → Sound W Z S → held_weight (part_of W S s) ≡ sum_up (λ u. term_at S (S.place u) s) (length W.units)
 stream-weighs W Z S s sound =
     let n : ℕ = length W.units in
     let hw : ℕ = hand_weight (S.stream s).mark in
@@ -153,7 +153,7 @@ pool-weighs W S p = ap (λ k. 5 * k) (count-line W S (InPool p)) ∙ sym (sum_up
 desk-weighs : (W : Parts) (S : State) (v : ℕ) → object_weight (object_of W S (site.Desk (unit_no v))) ≡ sum_up (λ u. join_at (S.place u) v) (length W.units) + request_weight (S.desk v).migrate
 desk-weighs W S v = ap (λ k. k + request_weight (S.desk v).migrate) (ap (λ k. 6 * k) (count-line W S (Joining v)) ∙ sym (sum_up-times 6 (stands_in S (Joining v)) (length W.units)))
 
-weight-held : (W : Parts) (Z : List OrderShape) (S : State) → Sound W Z S → state_weight W S ≡ weight_seen W (part_of W S) (object_of W S)
+weight-held : (W : Parts) (Z : Stored) (S : State) → Sound W Z S → state_weight W S ≡ weight_seen W (part_of W S) (object_of W S)
 weight-held W Z S sound =
     let n : ℕ = length W.units in
     let a : ℕ → ℕ = λ u. sum_up (term_at S (S.place u)) W.streams in
@@ -176,7 +176,7 @@ weight-held W Z S sound =
 
 -- By any values that stand for the state.
 
-pub weight-is-seen : (W : Parts) (Z : List OrderShape) → WeightIsSeen W Z
+pub weight-is-seen : (W : Parts) (Z : Stored) → WeightIsSeen W Z
 weight-is-seen W Z S parts objects sound stand =
     let streams : sum_up (λ s. held_weight (part_of W S s)) W.streams ≡ sum_up (λ s. held_weight (parts s)) W.streams =
     sum_up-same _ _ W.streams (λ s l. ap held_weight (stand.streams s l)) in

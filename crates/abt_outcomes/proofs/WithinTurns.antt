@@ -1,5 +1,5 @@
 -- Within a stream's turn each event lowers what is left to it.
-use Rattle.std.proofs.Common.{◌≡◌, ℕ, suc, ◌<◌, ◌≤◌, ◌+◌, ◌-◌, ◌==◌, true, false, List, [], ◌∷◌, ◌++◌, length, refl, ap, sym, ◌∙◌, subst, arith, inl, inr, length-append}
+use Rattle.std.proofs.Common.{◌≡◌, ℕ, suc, ◌<◌, ◌≤◌, ◌+◌, ◌-◌, ◌==◌, true, false, [], ◌∷◌, ◌++◌, length, refl, ap, sym, ◌∙◌, subst, arith, inl, inr, length-append}
 use Rattle.std.specs.List.Sorted.{IsPermutation}
 use Rattle.std.proofs.lemmas.Bool.{cond_both}
 use Rattle.std.proofs.lemmas.List.Sorted.{length_permutation}
@@ -7,7 +7,7 @@ use Rattle.abt_machine.specs.declared.events.Event.{Event}
 use Rattle.abt_machine.specs.declared.events.What.{What}
 use Rattle.abt_machine.specs.declared.events.What.TheVariants as what
 use Rattle.abt_machine.specs.declared.grammar.Format.TheVariants as format
-use Rattle.abt_machine.specs.declared.operations.OrderShape.{OrderShape}
+use Rattle.abt_machine.specs.Stored.{Stored}
 use Rattle.abt_machine.specs.declared.workload.Parts.{Parts}
 use Rattle.abt_machine.specs.Limits.{listed_limit, unit_limit}
 use Rattle.abt_machine.specs.Valid.{IsValid}
@@ -35,7 +35,7 @@ abbrev left_unseen : Parts → Frame → ℕ
 left_unseen W f = length (pools_of W f.sched) - length f.seen
 
 -- a frame that has a next pool has seen fewer pools than its scheduler lists
-more-pools : (W : Parts) (Z : List OrderShape) (f : Frame) (p : ℕ) → IsNextPool W Z f p → length f.seen < length (pools_of W f.sched)
+more-pools : (W : Parts) (Z : Stored) (f : Frame) (p : ℕ) → IsNextPool W Z.orders f p → length f.seen < length (pools_of W f.sched)
 more-pools W Z f p (order, chosen, more) =
     let permutes : IsPermutation (pools_of W f.sched) order = order-permutes W Z f.sched f.round order chosen in
     let long : length order ≡ length (pools_of W f.sched) = length_permutation (pools_of W f.sched) order permutes in
@@ -52,11 +52,11 @@ missed-unseen W f p more =
     (λ _ e. (let seen : length (f.seen ++ p ∷ []) ≡ length f.seen + 1 = length-append f.seen (p ∷ []) in omega arith))
 
 -- a round has few pools to see
-unseen-most : (W : Parts) (Z : List OrderShape) (S : State) (s : ℕ) → IsValid W → s < W.streams → Sound W Z S → unseen W S s ≤ listed_limit
+unseen-most : (W : Parts) (Z : Stored) (S : State) (s : ℕ) → IsValid W → s < W.streams → Sound W Z S → unseen W S s ≤ listed_limit
 unseen-most W Z S s valid declared sound =
     let few : length (pools_of W (S.stream s).top.sched) ≤ listed_limit = few-listed W (S.stream s).top.sched valid in omega arith
 
-miss-falls : (W : Parts) (Z : List OrderShape) (S : State) (s : ℕ) (w : What) → May W Z S s w → IsMiss w → ((after W S s w).stream s).top.empty ≡ false → turns_left W (after W S s w) s < turns_left W S s
+miss-falls : (W : Parts) (Z : Stored) (S : State) (s : ℕ) (w : What) → May W Z S s w → IsMiss w → ((after W S s w).stream s).top.empty ≡ false → turns_left W (after W S s w) s < turns_left W S s
 miss-falls W Z S s (what.Miss p) may miss goes-on =
     let T : State = after W S s (what.Miss p) in
     let own : T.stream s ≡ round_missed W p.0 (S.stream s) = put_at-same S.stream s (round_missed W p.0 (S.stream s)) in
@@ -67,7 +67,7 @@ miss-falls W Z S s (what.Miss p) may miss goes-on =
     let now : unseen W T s < unseen W S s = subst (λ (st : Stream). left_unseen W st.top < left_unseen W (S.stream s).top) (sym own) fewer in omega arith
 miss-falls W Z S s _ may miss goes-on = absurd miss
 
-turn-falls : (W : Parts) (Z : List OrderShape) (S : State) (e : Event) → IsValid W → OrdersStored W Z → Sound W Z S → After W Z S e (after W S e.stream.0 e.what) → is_step e.what ≡ false →
+turn-falls : (W : Parts) (Z : Stored) (S : State) (e : Event) → IsValid W → OrdersStored W Z.orders → Sound W Z S → After W Z S e (after W S e.stream.0 e.what) → is_step e.what ≡ false →
     (IsMiss e.what → ((after W S e.stream.0 e.what).stream e.stream.0).top.empty ≡ false) → turns_left W (after W S e.stream.0 e.what) e.stream.0 < turns_left W S e.stream.0
 turn-falls W Z S e valid stored sound step still goes-on =
     let T : State = after W S e.stream.0 e.what in
@@ -76,11 +76,11 @@ turn-falls W Z S e valid stored sound step still goes-on =
       | inr other ↦
           let later : Sound W Z T = events-keep-sound W Z valid stored S T e sound step in
           let lower : state_weight W T < state_weight W S = other-lowers W Z S e.stream.0 e.what sound step.1 still other in
-          let frames : open_frames W T ≤ unit_limit format.Two = (numbers-are-bounded W Z valid T later).1 in
+          let frames : open_frames W T ≤ unit_limit format.Three = (numbers-are-bounded W Z valid T later).1 in
           let pools : unseen W T e.stream.0 ≤ listed_limit = unseen-most W Z T e.stream.0 valid step.0 later in omega arith
     ]
 
-pub turns-fall : (W : Parts) (Z : List OrderShape) → TurnsFall W Z
+pub turns-fall : (W : Parts) (Z : Stored) → TurnsFall W Z
 turns-fall W Z valid stored S T e sound step still goes-on =
     subst (λ U. turns_left W U e.stream.0 < turns_left W S e.stream.0) (sym step.2)
     (turn-falls W Z S e valid stored sound (step.0, step.1, refl) still (λ miss. subst (λ (U : State). (U.stream e.stream.0).top.empty ≡ false) step.2 (goes-on miss)))

@@ -1,7 +1,7 @@
 -- Runs of one stream: when they stop, and that there is at most one run.
 use Rattle.std.specs.Prelude.{ℕ, suc, ◌≡◌, ◌⊎◌, true, List, [], ◌∷◌, ◌++◌}
 use Rattle.abt_machine.specs.declared.events.Event.{Event}
-use Rattle.abt_machine.specs.declared.operations.OrderShape.{OrderShape}
+use Rattle.abt_machine.specs.Stored.{Stored}
 use Rattle.abt_machine.specs.declared.workload.Parts.{Parts}
 use Rattle.abt_machine.specs.Numbers.{stream_no}
 use Rattle.abt_machine.specs.Outcomes.{Spent}
@@ -38,7 +38,7 @@ abbrev pub HasNotStopped : Parts → ℕ → List Event → Type 0
 HasNotStopped W n J = (prefix rest : List Event) → J ≡ prefix ++ rest → HasStopped W n prefix → ⊥
 
 -- no other stamped run goes to its stop
-abbrev pub IsOnlyRun : Parts → List OrderShape → ℕ → List Event → Type 0
+abbrev pub IsOnlyRun : Parts → Stored → ℕ → List Event → Type 0
 IsOnlyRun W Z n J = (K : List Event) → Run W Z K → Stamped W K → GoesToItsStop W n K → K ≡ J
 
 -- Stamps.

@@ -2,7 +2,7 @@
 use Rattle.std.proofs.Common.{ℕ, ◌≡◌, List, replicate, true}
 use Rattle.std.specs.Prelude.{is_some}
 use Rattle.abt_machine.specs.declared.events.Outcome.{Outcome}
-use Rattle.abt_machine.specs.declared.operations.OrderShape.{OrderShape}
+use Rattle.abt_machine.specs.Stored.{Stored}
 use Rattle.abt_machine.specs.declared.workload.Parts.{Parts}
 use Rattle.abt_machine.specs.Canonical.{canonical_text}
 use Rattle.abt_machine.specs.Outcomes.{steps_in}
@@ -17,15 +17,15 @@ use Rattle.abt_rows.proofs.Running.{Ran, ran_by}
 use Rattle.abt_rows.proofs.Validity.{validity}
 
 -- the run of the first events of stream 0, so many
-abbrev pub ran : (W : Parts) (Z : List OrderShape) → ℕ → Ran W Z (start W)
+abbrev pub ran : (W : Parts) (Z : Stored) → ℕ → Ran W Z (start W)
 ran W Z count = ran_by W Z (replicate count 0) 1 (start W)
 
 -- the run of the events that these streams make in turn
-abbrev pub ran_in_turn : (W : Parts) (Z : List OrderShape) → List ℕ → Ran W Z (start W)
+abbrev pub ran_in_turn : (W : Parts) (Z : Stored) → List ℕ → Ran W Z (start W)
 ran_in_turn W Z streams = ran_by W Z streams 1 (start W)
 
 -- a run, of which the validity, the end and the texts are computed
-unfoldable pub reported : (W : Parts) (Z : List OrderShape) (n : ℕ) (R : Ran W Z (start W)) (o : Outcome) (text report : Text) →
+unfoldable pub reported : (W : Parts) (Z : Stored) (n : ℕ) (R : Ran W Z (start W)) (o : Outcome) (text report : Text) →
     is_some (validity W) ≡ true → is_some (ending W n R.0 o) ≡ true → canonical_text W ≡ text → report_text W (last_state W R.0) (steps_in R.0) o ≡ report →
     Reports Z n text report R.0
 reported W Z n R o text report valid ends is_text is_report = record {

@@ -5,7 +5,7 @@ use Rattle.std.proofs.lemmas.Option.{none-some, same_Some}
 use Rattle.abt_machine.specs.declared.events.Event.{Event}
 use Rattle.abt_machine.specs.declared.events.Site.{Site}
 use Rattle.abt_machine.specs.declared.events.Site.TheVariants as site
-use Rattle.abt_machine.specs.declared.operations.OrderShape.{OrderShape}
+use Rattle.abt_machine.specs.Stored.{Stored}
 use Rattle.abt_machine.specs.declared.workload.Parts.{Parts}
 use Rattle.abt_machine.specs.Events.{after}
 use Rattle.abt_machine.specs.Numbers.{object_no, pool_no, stream_no, unit_no}
@@ -24,13 +24,13 @@ abbrev Counts : ℕ → List Event → Type 0
 Counts t [] = Unit {0}
 Counts t (e ∷ es) = (e.stream ≡ stream_no 0) × (e.stamp ≡ t) × Counts (suc t) es
 
-count-from : (W : Parts) (Z : List OrderShape) (S : State) (o : Option (0 < W.streams)) (t : ℕ) (c : Option (Coming W Z S 0)) (rest : (c : Coming W Z S 0) → Ran W Z (after W S 0 c.0)) →
+count-from : (W : Parts) (Z : Stored) (S : State) (o : Option (0 < W.streams)) (t : ℕ) (c : Option (Coming W Z S 0)) (rest : (c : Coming W Z S 0) → Ran W Z (after W S 0 c.0)) →
     ((c : Coming W Z S 0) → Counts (suc t) (rest c).0) → Counts t (ran_from W Z S 0 o t c rest).0
 count-from W Z S (Some is) t (Some c) rest count = (refl, refl, count c)
 count-from W Z S (Some is) t None rest count = tt
 count-from W Z S None t c rest count = tt
 
-count-by-turn : (W : Parts) (Z : List OrderShape) (n t : ℕ) (S : State) → Counts t (ran_by W Z (replicate n 0) t S).0
+count-by-turn : (W : Parts) (Z : Stored) (n t : ℕ) (S : State) → Counts t (ran_by W Z (replicate n 0) t S).0
 count-by-turn W Z zero t S = tt
 count-by-turn W Z (suc n) t S =
     count-from W Z S (is_less 0 W.streams) t (coming W Z S 0) (λ c. ran_by W Z (replicate n 0) (suc t) (after W S 0 c.0)) (λ c. count-by-turn W Z n (suc t) (after W S 0 c.0))
@@ -74,7 +74,7 @@ stamped-by-count W [] c = tt
 stamped-by-count W (e ∷ es) c = let here : e.stamp ≡ 1 = c.1 in (here, rising W e es (subst (λ t. Counts (suc t) es) (sym here) c.2))
 
 -- the events that stream 0 makes by itself have Lamport's stamps
-pub lone : (W : Parts) (Z : List OrderShape) (n : ℕ) → Lamport W (ran_by W Z (replicate n 0) 1 (start W)).0
+pub lone : (W : Parts) (Z : Stored) (n : ℕ) → Lamport W (ran_by W Z (replicate n 0) 1 (start W)).0
 lone W Z n =
     let c : Counts 1 (ran_by W Z (replicate n 0) 1 (start W)).0 = count-by-turn W Z n 1 (start W) in
     (stamped-by-count W _ c, counting W [] _ 1 (λ f at. (let lt : at.0 < 0 = at.1 in absurd (omega arith))) (inl refl) c)

@@ -97,6 +97,7 @@ abbrev are_named : (W : Parts) (places : List Slot) (numbers : List ℕ) → Opt
 are_named W (Fixed word ∷ []) [] = Some tt
 are_named W (Fixed word ∷ Numeral k ∷ []) (n ∷ []) = named W k n
 are_named W (Fixed word ∷ Numeral k ∷ Numeral l ∷ []) (n ∷ m ∷ []) = given (named W k n) (λ first. given (named W l m) (λ second. Some (first, second)))
+are_named W (Fixed word ∷ Fixed other ∷ Numeral k ∷ []) (n ∷ []) = named W k n
 are_named W places numbers = None
 
 abbrev operation : (W : Parts) (o : Op) → Option (IsDeclared W o)
@@ -111,7 +112,7 @@ unit_body scheds (body.Sched g) = is_less g.0 scheds
 abbrev unit : (W : Parts) (part : UnitPart) → Option (IsUnit W part)
 unit W part =
     given (unit_body (length W.scheds) part.body) (λ kind.
-    given (is_at_most (length (ops_of part.body)) unit_operation_limit) (λ few.
+    given (is_at_most (length (ops_of part.body)) (unit_operation_limit format.Three)) (λ few.
     given (all (IsDeclared W) (operation W) (ops_of part.body)) (λ ops.
     given (whenever (λ (p : PoolNo). p.0 < length W.pools) (λ (p : PoolNo). is_less p.0 (length W.pools)) part.start) (λ start.
     Some (record { kind = kind; few_ops = few; ops = ops; start = start })))))
@@ -140,22 +141,22 @@ said_word word =
 abbrev pub validity : (W : Parts) → Option (IsValid W)
 validity W =
     given (is_less 0 W.streams) (λ some_stream.
-    given (is_at_most W.streams (stream_limit format.Two)) (λ few_streams.
+    given (is_at_most W.streams (stream_limit format.Three)) (λ few_streams.
     given (is_at_most W.keys key_limit) (λ few_keys.
     given (is_less 0 (length W.pools)) (λ some_pool.
-    given (is_at_most (length W.pools) pool_limit) (λ few_pools.
+    given (is_at_most (length W.pools) (pool_limit format.Three)) (λ few_pools.
     given (all (λ (part : PoolPart). IsAccess W.streams part.access) (λ (part : PoolPart). pool_access W.streams part.access) W.pools) (λ pools.
     given (is_less 0 (length W.scheds)) (λ some_sched.
-    given (is_at_most (length W.scheds) sched_limit) (λ few_scheds.
+    given (is_at_most (length W.scheds) (sched_limit format.Three)) (λ few_scheds.
     given (all (IsSched (length W.pools)) (scheduler (length W.pools)) W.scheds) (λ scheds.
     given (same (length W.mains) W.streams) (λ mains.
     given (each_below (IsStream W) (stream W) W.streams) (λ streams.
     given (each_once (placed_scheds W)) (λ one_place.
-    given (is_at_most (length W.objects) object_limit) (λ few_objects.
+    given (is_at_most (length W.objects) (object_limit format.Three)) (λ few_objects.
     given (entries W.objects (IsThing W.objects) (object W)) (λ objects.
-    given (is_at_most (length W.units) (unit_limit format.Two)) (λ few_units.
+    given (is_at_most (length W.units) (unit_limit format.Three)) (λ few_units.
     given (all (IsUnit W) (unit W) W.units) (λ units.
-    given (is_at_most (length (all_ops W.units)) operation_limit) (λ few_ops.
+    given (is_at_most (length (all_ops W.units)) (operation_limit format.Three)) (λ few_ops.
     given (same_list (words_said W) (range_with_len 0 (length W.words))) (λ said.
     given (all IsWord said_word W.words) (λ words.
     Some (record {

@@ -3,7 +3,7 @@ use Rattle.std.proofs.Common.{ℕ, ◌≡◌, List, [], ◌∷◌, true}
 use Rattle.std.specs.Prelude.{is_some, map}
 use Rattle.abt_machine.specs.declared.events.Event.{Event}
 use Rattle.abt_machine.specs.declared.events.Outcome.{Outcome}
-use Rattle.abt_machine.specs.declared.operations.OrderShape.{OrderShape}
+use Rattle.abt_machine.specs.Stored.{Stored}
 use Rattle.abt_machine.specs.declared.workload.Parts.{Parts}
 use Rattle.abt_machine.specs.Canonical.{canonical_text}
 use Rattle.abt_machine.specs.Outcomes.{steps_in}
@@ -22,7 +22,7 @@ use Rattle.abt_rows.proofs.Stamping.{lamport, lone}
 use Rattle.abt_rows.proofs.Validity.{validity}
 
 -- a run with Lamport's stamps, of which the validity, the end and the texts are computed
-pub shown : (W : Parts) (Z : List OrderShape) (n : ℕ) (R : Ran W Z (start W)) (o : Outcome) (text journal report : Text) → Lamport W R.0 →
+pub shown : (W : Parts) (Z : Stored) (n : ℕ) (R : Ran W Z (start W)) (o : Outcome) (text journal report : Text) → Lamport W R.0 →
     journal_text R.0 ≡ journal → is_some (validity W) ≡ true → is_some (ending W n R.0 o) ≡ true → canonical_text W ≡ text → report_text W (last_state W R.0) (steps_in R.0) o ≡ report →
     IsWorked Z n text journal report
 unfolding reported
@@ -34,7 +34,7 @@ shown W Z n R o text journal report stamps is_journal valid ends is_text is_repo
 )
 
 -- the run of the first events of stream 0, so many
-pub worked : (W : Parts) (Z : List OrderShape) (n count : ℕ) (o : Outcome) (text journal report : Text) →
+pub worked : (W : Parts) (Z : Stored) (n count : ℕ) (o : Outcome) (text journal report : Text) →
     journal_text (ran W Z count).0 ≡ journal → is_some (validity W) ≡ true → is_some (ending W n (ran W Z count).0 o) ≡ true → canonical_text W ≡ text →
     report_text W (last_state W (ran W Z count).0) (steps_in (ran W Z count).0) o ≡ report → IsWorked Z n text journal report
 worked W Z n count o text journal report is_journal valid ends is_text is_report = shown W Z n (ran W Z count) o text journal report (lone W Z count) is_journal valid ends is_text is_report
@@ -48,19 +48,19 @@ restamped (t ∷ ts) [] = []
 restamped (t ∷ ts) (e ∷ es) = record e { stamp = t } ∷ restamped ts es
 
 -- a run is one whatever its stamps
-pub restamped-run : (W : Parts) (Z : List OrderShape) (ts : List ℕ) (J : List Event) (S : State) → RunFrom W Z S J → RunFrom W Z S (restamped ts J)
+pub restamped-run : (W : Parts) (Z : Stored) (ts : List ℕ) (J : List Event) (S : State) → RunFrom W Z S J → RunFrom W Z S (restamped ts J)
 restamped-run W Z [] J S h = h
 restamped-run W Z (t ∷ ts) [] S h = tt
 restamped-run W Z (t ∷ ts) (e ∷ es) S h = (h.0, h.1, restamped-run W Z ts es _ h.2)
 
 -- the run of the events that streams make in turn, each turn a stamp and a stream
-abbrev pub ran_at : (W : Parts) (Z : List OrderShape) → List (ℕ × ℕ) → Ran W Z (start W)
+abbrev pub ran_at : (W : Parts) (Z : Stored) → List (ℕ × ℕ) → Ran W Z (start W)
 ran_at W Z turns =
     let R : Ran W Z (start W) = ran_by W Z (map (λ t. t.1) turns) 1 (start W) in
     (restamped (map (λ t. t.0) turns) R.0, restamped-run W Z (map (λ t. t.0) turns) R.0 (start W) R.1)
 
 -- such a run, of which the stamps are decided
-pub worked-at : (W : Parts) (Z : List OrderShape) (n : ℕ) (turns : List (ℕ × ℕ)) (o : Outcome) (text journal report : Text) → is_some (lamport W (ran_at W Z turns).0) ≡ true →
+pub worked-at : (W : Parts) (Z : Stored) (n : ℕ) (turns : List (ℕ × ℕ)) (o : Outcome) (text journal report : Text) → is_some (lamport W (ran_at W Z turns).0) ≡ true →
     journal_text (ran_at W Z turns).0 ≡ journal → is_some (validity W) ≡ true → is_some (ending W n (ran_at W Z turns).0 o) ≡ true → canonical_text W ≡ text →
     report_text W (last_state W (ran_at W Z turns).0) (steps_in (ran_at W Z turns).0) o ≡ report → IsWorked Z n text journal report
 worked-at W Z n turns o text journal report stamps is_journal valid ends is_text is_report =

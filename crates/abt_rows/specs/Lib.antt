@@ -15,3 +15,4 @@ pub mod Accumulators
 pub mod ThreePools
 pub mod Conditions
 pub mod Refused
+pub mod Calls

@@ -1,12 +1,12 @@
 -- Rows on orders of three pools.
-use Rattle.std.specs.Prelude.{List, [], ◌∷◌, codes, ◌++◌}
-use Rattle.abt_machine.specs.declared.operations.OrderShape.{OrderShape}
+use Rattle.std.specs.Prelude.{[], ◌∷◌, codes, ◌++◌, None}
 use Rattle.abt_machine.specs.declared.operations.OrderShape.TheVariants as shape
+use Rattle.abt_machine.specs.Stored.{Stored}
 use Rattle.abt_machine.specs.Words.{Text}
 
--- one stored order, which is free
-abbrev pub free_alone : List OrderShape
-free_alone = shape.Free ∷ []
+-- one stored order, which is free, and functions that return any word
+abbrev pub free_alone : Stored
+free_alone = record { orders = shape.Free ∷ []; returns = λ f u acc keys. None }
 
 -- A rotated order of three begins at the first pool again in its fourth round.
 

@@ -4,6 +4,7 @@
 
 pub mod accumulators;
 pub mod budgets;
+pub mod calls;
 pub mod conditions;
 pub mod eventuals;
 pub mod locals;

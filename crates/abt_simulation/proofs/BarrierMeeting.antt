@@ -60,7 +60,7 @@ valid : IsValid meeting
 valid = sharing-is-valid meeting.objects meeting.units two-places (omega arith) thing (omega arith) (All-from_recursion (IsUnit meeting) meeting.units (program, (program, tt))) (omega arith) refl
 
 -- no order is asked for
-stored : OrdersStored meeting no_orders
+stored : OrdersStored meeting no_orders.orders
 stored = no-order meeting no_orders (pool_no 0 ∷ []) (pool_no 0 ∷ []) refl
 
 -- Lists.
@@ -172,7 +172,7 @@ course-0 = (
       (
         refl,
         waiting (in_hand 0 (fresh 0) (begins 0)),
-        (refl, fresh 0, refl, refl, refl, op.BarWait (object_no 0), refl, (act.Rested, refl, refl, refl)),
+        (refl, fresh 0, refl, refl, refl, op.BarWait (object_no 0), refl, (act.Rested, refl, refl, refl), tt),
         (
           refl,
           taken (waiting (in_hand 0 (fresh 0) (begins 0))) (moved (fresh 0)),
@@ -208,7 +208,7 @@ course-1 = (
       (
         refl,
         through (in_hand 1 (fresh 1) (begins 1)),
-        (refl, fresh 1, refl, refl, refl, op.BarWait (object_no 0), refl, (act.Through (moved (fresh 1)) (moved (fresh 0) ∷ []), refl, refl, refl)),
+        (refl, fresh 1, refl, refl, refl, op.BarWait (object_no 0), refl, (act.Through (moved (fresh 1)) (moved (fresh 0) ∷ []), refl, refl, refl), tt),
         (
           refl,
           record (through (in_hand 1 (fresh 1) (begins 1))) { tray = [] },

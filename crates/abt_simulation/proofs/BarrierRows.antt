@@ -3,7 +3,7 @@ use Rattle.std.proofs.Common.{◌≡◌, ◌≢◌, ℕ, suc, ◌==◌, List, []
 use Rattle.std.proofs.lemmas.Bool.{cond-true, cond-false, eq-eqb, ne_eqb}
 use Rattle.abt_machine.specs.declared.numbers.ObjectNo.{ObjectNo}
 use Rattle.abt_machine.specs.declared.operations.Op.TheVariants as op
-use Rattle.abt_machine.specs.declared.operations.OrderShape.{OrderShape}
+use Rattle.abt_machine.specs.Stored.{Stored}
 use Rattle.abt_machine.specs.declared.operations.Thing.TheVariants as thing
 use Rattle.abt_machine.specs.declared.workload.Parts.{Parts}
 use Rattle.abt_machine.specs.Workloads.{thing_at, size_of, size_from}
@@ -28,7 +28,7 @@ length-owned : (S : State) (us : List ℕ) → length us ≡ length (map (owned_
 length-owned S [] = refl
 length-owned S (u ∷ us) = ap suc (length-owned S us)
 
-module _ (W : Parts) (Z : List OrderShape) (S : State) (s u : ℕ) (acts : IsActing W Z S s u) (x : ObjectNo) (n : ℕ) (is : thing_at W x.0 ≡ Some (thing.Barrier n)) where
+module _ (W : Parts) (Z : Stored) (S : State) (s u : ℕ) (acts : IsActing W Z S s u) (x : ObjectNo) (n : ℕ) (is : thing_at W x.0 ≡ Some (thing.Barrier n)) where
   abbrev pub value : State → BarrierValue
   value T = barrier_value W T x.0 n
 

@@ -1,12 +1,12 @@
 -- A stream calls the site of its event, if the event has one.
-use Rattle.std.proofs.Common.{◌≡◌, ℕ, Bool, true, false, List, Option, refl, sym, ◌∙◌, ap}
+use Rattle.std.proofs.Common.{◌≡◌, ℕ, Bool, true, false, Option, refl, sym, ◌∙◌, ap}
 use Rattle.std.specs.Prelude.{if◌then◌else◌}
 use Rattle.abt_machine.specs.declared.events.Code.{Code}
 use Rattle.abt_machine.specs.declared.events.What.{What}
 use Rattle.abt_machine.specs.declared.events.What.TheVariants as what
 use Rattle.abt_machine.specs.declared.operations.Op.{Op}
 use Rattle.abt_machine.specs.declared.operations.Op.TheVariants as op
-use Rattle.abt_machine.specs.declared.operations.OrderShape.{OrderShape}
+use Rattle.abt_machine.specs.Stored.{Stored}
 use Rattle.abt_machine.specs.declared.workload.Parts.{Parts}
 use Rattle.abt_machine.specs.Access.{may_reach}
 use Rattle.abt_machine.specs.EventSites.{op_site, plan_site, site_at, what_site}
@@ -39,12 +39,13 @@ performs-site old (Calls x asked brings) heard c new st = ap site_heard st.1
 performs-site old (Exits o) heard c new st = ap site_heard st.0
 
 -- the site that is called by an event is the event's
-pub steps-site : (W : Parts) (Z : List OrderShape) (s : ℕ) (old : Held) (w : What) (heard : Option Heard) (new : Held) → Steps W Z s old w heard new → site_heard heard ≡ what_site W s w
+pub steps-site : (W : Parts) (Z : Stored) (s : ℕ) (old : Held) (w : What) (heard : Option Heard) (new : Held) → Steps W Z s old w heard new → site_heard heard ≡ what_site W s w
 steps-site W Z s old (what.Miss p) heard new st = ap site_heard st.2
 steps-site W Z s old (what.Take p u) heard new st = ap site_heard st.4
 steps-site W Z s old (what.Look u) heard new st = ap site_heard st.6
 steps-site W Z s old (what.Step u k c) heard new st =
     performs-site old (plan_of W s st.5 st.1) heard c new st.7 ∙ (plan-site W s st.5 st.1 ∙ (ap (λ n. op_site W s n st.5) st.3 ∙ ap (site_at W s u.0) (sym st.6)))
+steps-site W Z s old (what.Call u k n) heard new st = ap site_heard st.6
 steps-site W Z s old (what.Put u p) heard new st = ap site_heard st.6
 steps-site W Z s old (what.End u c) heard new st = ap site_heard st.5
 steps-site W Z s old (what.Enter u) heard new st = ap site_heard st.4

@@ -3,7 +3,7 @@ use Rattle.std.proofs.Common.{◌≡◌, ◌≢◌, ℕ, suc, ◌+◌, List, [],
 use Rattle.std.proofs.lemmas.List.{append-nil}
 use Rattle.abt_machine.specs.declared.events.Code.TheVariants as code
 use Rattle.abt_machine.specs.declared.operations.Op.{Op}
-use Rattle.abt_machine.specs.declared.operations.OrderShape.{OrderShape}
+use Rattle.abt_machine.specs.Stored.{Stored}
 use Rattle.abt_machine.specs.declared.operations.Thing.TheVariants as thing
 use Rattle.abt_machine.specs.declared.workload.Parts.{Parts}
 use Rattle.abt_machine.specs.Numbers.{object_no}
@@ -80,7 +80,8 @@ module _ (W : Parts) (S : State) (x : ℕ) where
   rested (Some v) vs one e = refl
 
 -- The unit waits at condition x, whose mutex is m and whose number there is k.
-module _ (W : Parts) (Z : List OrderShape) (S : State) (s u : ℕ) (acts : IsActing W Z S s u) (x m k : ℕ) (cond : thing_at W x ≡ Some (thing.Cond (object_no m))) (is : IsMutex W m) (at : slice_get (conditions_of W m) k ≡ Some x) where
+module _ (W : Parts) (Z : Stored) (S : State) (s u : ℕ) (acts : IsActing W Z S s u) (x m k : ℕ) (cond : thing_at W x ≡ Some (thing.Cond (object_no m))) (is : IsMutex W m)
+    (at : slice_get (conditions_of W m) k ≡ Some x) where
   abbrev pub value : State → MonitorValue
   value T = monitor_value W T m
 
@@ -184,7 +185,7 @@ first-of-first : (us : List ℕ) → first_alone (first_alone us) ≡ first_alon
 first-of-first [] = refl
 first-of-first (u ∷ us) = refl
 
-module _ (W : Parts) (Z : List OrderShape) (S : State) (s u : ℕ) (acts : IsActing W Z S s u) (valid : IsValid W) (x : ObjectNo) (is : IsCondition W x.0) where
+module _ (W : Parts) (Z : Stored) (S : State) (s u : ℕ) (acts : IsActing W Z S s u) (valid : IsValid W) (x : ObjectNo) (is : IsCondition W x.0) where
   pub mutex : IsMutex W (mutex_of W x.0)
   mutex = mutex-declared W x.0 valid is
 

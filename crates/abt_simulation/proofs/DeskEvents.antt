@@ -6,7 +6,7 @@ use Rattle.abt_machine.specs.declared.events.Place.{Place}
 use Rattle.abt_machine.specs.declared.events.Place.TheVariants as place
 use Rattle.abt_machine.specs.declared.events.Site.TheVariants as site
 use Rattle.abt_machine.specs.declared.events.What.TheVariants as what
-use Rattle.abt_machine.specs.declared.operations.OrderShape.{OrderShape}
+use Rattle.abt_machine.specs.Stored.{Stored}
 use Rattle.abt_machine.specs.declared.workload.Parts.{Parts}
 use Rattle.abt_machine.specs.Numbers.{stream_no, unit_no}
 use Rattle.abt_machine.specs.Maps.{put_at, put_all}
@@ -41,7 +41,7 @@ use Rattle.abt_simulation.proofs.Shapes.{none-to_tray}
 use Rattle.abt_simulation.proofs.Phases.{desk-is, takes-own}
 use Rattle.abt_simulation.proofs.Simulated.{Simulated}
 
-module _ (W : Parts) (Z : List OrderShape) (S : State) (s : ℕ) (sound : Sound W Z S) (object : Object) (o : Owned) where
+module _ (W : Parts) (Z : Stored) (S : State) (s : ℕ) (sound : Sound W Z S) (object : Object) (o : Owned) where
   -- End.
 
   module _ (cause : Cause) (acts : IsActing W Z S s o.number) where

@@ -1,5 +1,5 @@
 -- Operations at a desk. Unit u, in the hand of stream s, makes the step.
-use Rattle.std.proofs.Common.{◌≡◌, ◌≢◌, ℕ, suc, ◌<◌, Bool, true, false, List, [], ◌∷◌, ◌++◌, length, Option, Some, None, refl, sym, ◌∙◌, ap, subst, inl, inr}
+use Rattle.std.proofs.Common.{◌≡◌, ◌≢◌, ℕ, suc, ◌<◌, Bool, true, false, [], ◌∷◌, ◌++◌, length, Option, Some, None, refl, sym, ◌∙◌, ap, subst, inl, inr}
 use Rattle.std.specs.Prelude.{not, option_map}
 use Rattle.std.proofs.lemmas.Bool.{cond-true}
 use Rattle.abt_machine.specs.declared.events.Code.{Code}
@@ -13,7 +13,7 @@ use Rattle.abt_machine.specs.declared.numbers.StreamNo.{StreamNo}
 use Rattle.abt_machine.specs.declared.numbers.UnitNo.{UnitNo}
 use Rattle.abt_machine.specs.declared.operations.Op.{Op}
 use Rattle.abt_machine.specs.declared.operations.Op.TheVariants as op
-use Rattle.abt_machine.specs.declared.operations.OrderShape.{OrderShape}
+use Rattle.abt_machine.specs.Stored.{Stored}
 use Rattle.abt_machine.specs.declared.workload.Parts.{Parts}
 use Rattle.abt_machine.specs.Numbers.{stream_no, unit_no}
 use Rattle.abt_machine.specs.Maps.{put_at}
@@ -70,7 +70,7 @@ revive-told p old (act.Given o) new gives = gives
 revive-told p old (act.Coded code.UnitState) new gives = (refl, gives.0, gives.1)
 revive-told p old _ new gives = absurd gives
 
-module _ (W : Parts) (Z : List OrderShape) (S : State) (s u : ℕ) (acts : IsActing W Z S s u) where
+module _ (W : Parts) (Z : Stored) (S : State) (s u : ℕ) (acts : IsActing W Z S s u) where
   -- a row by the desk's value
   desk-row : (a : Op) (v : UnitNo) (asked : act.Act) (brings : Answer → Effect) → ValueBy W S s u a (λ T. desk_value W T v.0) DeskGives (Calls (site.Desk v) asked brings) → RowBy W S s u a (Calls (site.Desk v) asked brings)
   desk-row a v asked brings row = row-by_value W S s u a (Calls (site.Desk v) asked brings) _ _ _ (desk-at W v.0) row

@@ -1,9 +1,9 @@
 -- Each event of a stream, with the answer of the object that it called, is an event of the machine.
-use Rattle.std.proofs.Common.{◌≡◌, ℕ, List, [], ◌∷◌, ◌++◌, Option, Some, None, sym, ◌∙◌, ap, ap₂, subst}
+use Rattle.std.proofs.Common.{◌≡◌, ℕ, [], ◌∷◌, ◌++◌, Option, Some, None, sym, ◌∙◌, ap, ap₂, subst}
 use Rattle.abt_machine.specs.declared.events.What.{What}
 use Rattle.abt_machine.specs.declared.events.What.TheVariants as what
 use Rattle.abt_machine.specs.declared.events.Site.TheVariants as site
-use Rattle.abt_machine.specs.declared.operations.OrderShape.{OrderShape}
+use Rattle.abt_machine.specs.Stored.{Stored, Returns}
 use Rattle.abt_machine.specs.declared.workload.Parts.{Parts}
 use Rattle.abt_machine.specs.Numbers.{unit_no}
 use Rattle.abt_machine.specs.Workloads.{body_at, op_at}
@@ -21,8 +21,9 @@ use Rattle.abt_simulation.proofs.PoolEvents.{simulate-miss, simulate-take, simul
 use Rattle.abt_simulation.proofs.DeskEvents.{simulate-end, simulate-look}
 use Rattle.abt_simulation.proofs.FrameEvents.{simulate-enter, simulate-leave}
 use Rattle.abt_simulation.proofs.StepEvents.{simulate-step}
+use Rattle.abt_simulation.proofs.CallEvents.{simulate-call}
 
-module _ (W : Parts) (Z : List OrderShape) (S : State) (s : ℕ) (heard : Option Heard) (part : Held) (object : Object) (valid : IsValid W) (sound : Sound W Z S) (answers : CalledAnswers W S heard object) where
+module _ (W : Parts) (Z : Stored) (S : State) (s : ℕ) (heard : Option Heard) (part : Held) (object : Object) (valid : IsValid W) (sound : Sound W Z S) (answers : CalledAnswers W S heard object) where
   -- the event's unit is the one that is held
   of-unit : (w : ℕ → What) (n m : ℕ) → n ≡ m → Simulated W Z S s (w n) heard part object → Simulated W Z S s (w m) heard part object
   of-unit w n m e done = subst (λ k. Simulated W Z S s (w k) heard part object) e done
@@ -37,7 +38,11 @@ module _ (W : Parts) (Z : List OrderShape) (S : State) (s : ℕ) (heard : Option
       (with-call W Z S s (what.Look (unit_no st.1.number)) heard part _ object _ _ _ (st.6 ∙ ap (λ n. Some (site.Desk (unit_no n), act.Look, act.Asks st.4 st.5)) (sym st.3)) st.7 answers (simulate-look W Z S s sound object st.1 st.4 st.5 st.0 st.2))
   simulate (what.Step u k c) st =
       subst (λ (q : ℕ × ℕ). Simulated W Z S s (what.Step (unit_no q.0) q.1 c) heard part object) (λ i. (st.3 i, st.4 i))
-      (simulate-step W Z S s heard part object st.1 c st.5 valid sound st.0 st.2 (ap₂ (op_at W) st.3 st.4 ∙ st.6) st.7 answers)
+      (simulate-step W Z S s heard part object st.1 c st.5 valid sound st.0 st.2 (ap₂ (op_at W) st.3 st.4 ∙ st.6) st.7 answers st.8)
+  simulate (what.Call u k n) st =
+      subst (λ (q : ℕ × ℕ). Simulated W Z S s (what.Call (unit_no q.0) q.1 n) heard part object) (λ i. (st.3 i, st.4 i))
+      (without-call W Z S s (what.Call (unit_no st.1.number) st.1.carried.position n) heard part _ object st.6 st.7
+      (simulate-call W Z S s sound object st.1 n st.0 st.2 (subst (λ m. Returns Z m st.1.number st.1.carried n) (sym (ap₂ (op_at W) st.3 st.4)) st.5)))
   simulate (what.Put u p) st =
       of-unit (λ n. what.Put (unit_no n) p) st.1.number u.0 st.4 (with-call W Z S s (what.Put (unit_no st.1.number) p) heard part _ object _ _ _ st.6 st.7 answers (simulate-put W Z S s p.0 sound object st.1 st.2 st.0 st.3 st.5))
   simulate (what.End u cause) st =
@@ -51,6 +56,6 @@ module _ (W : Parts) (Z : List OrderShape) (S : State) (s : ℕ) (heard : Option
       of-unit (λ n. what.Leave (unit_no n)) st.1.number u.0 st.4 (without-call W Z S s (what.Leave (unit_no st.1.number)) heard part _ object st.5 st.6 (simulate-leave W Z S s sound object st.1 st.2 st.0 st.3))
 
 -- the law
-pub simulation : (W : Parts) (Z : List OrderShape) → Simulation W Z
+pub simulation : (W : Parts) (Z : Stored) → Simulation W Z
 simulation W Z valid stored S e heard part object sound declared steps answers =
     is-event W Z S e heard part object valid declared (steps-site W Z e.stream.0 (part_of W S e.stream.0) e.what heard part steps) (simulate W Z S e.stream.0 heard part object valid sound answers e.what steps)

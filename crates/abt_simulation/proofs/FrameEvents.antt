@@ -3,7 +3,7 @@ use Rattle.std.proofs.Common.{◌≡◌, ℕ, suc, ◌<◌, ◌≤◌, ◌-◌, 
 use Rattle.abt_machine.specs.declared.events.Place.{Place}
 use Rattle.abt_machine.specs.declared.events.Place.TheVariants as place
 use Rattle.abt_machine.specs.declared.events.What.TheVariants as what
-use Rattle.abt_machine.specs.declared.operations.OrderShape.{OrderShape}
+use Rattle.abt_machine.specs.Stored.{Stored}
 use Rattle.abt_machine.specs.declared.workload.Parts.{Parts}
 use Rattle.abt_machine.specs.Numbers.{stream_no, unit_no}
 use Rattle.abt_machine.specs.Queues.{first, last}
@@ -33,7 +33,7 @@ use Rattle.abt_simulation.proofs.OwnParts.{hand-standing, standing-distinct}
 use Rattle.abt_simulation.proofs.Ends.{AtBack, at-back, last-append}
 use Rattle.abt_simulation.proofs.Simulated.{Simulated}
 
-module _ (W : Parts) (Z : List OrderShape) (S : State) (s : ℕ) (sound : Sound W Z S) (object : Object) (o : Owned) where
+module _ (W : Parts) (Z : Stored) (S : State) (s : ℕ) (sound : Sound W Z S) (object : Object) (o : Owned) where
   -- an entry: the unit goes from the hand to a frame of its own
   pub simulate-enter : due_of W s (part_of W S s) ≡ EnterDue → first (owned_in W S (InHand s)) ≡ Some o →
       Simulated W Z S s (what.Enter (unit_no o.number)) None (record (part_of W S s) { own = entered (sched_of (body_at W o.number)) (S.stream s); hand = None; framed = (part_of W S s).framed ++ o ∷ [] }) object

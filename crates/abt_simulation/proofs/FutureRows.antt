@@ -6,7 +6,7 @@ use Rattle.abt_machine.specs.declared.events.Site.TheVariants as site
 use Rattle.abt_machine.specs.declared.numbers.ObjectNo.{ObjectNo}
 use Rattle.abt_machine.specs.declared.operations.Combine.{Combine}
 use Rattle.abt_machine.specs.declared.operations.Op.TheVariants as op
-use Rattle.abt_machine.specs.declared.operations.OrderShape.{OrderShape}
+use Rattle.abt_machine.specs.Stored.{Stored}
 use Rattle.abt_machine.specs.declared.operations.Thing.TheVariants as thing
 use Rattle.abt_machine.specs.declared.workload.Parts.{Parts}
 use Rattle.abt_machine.specs.Workloads.{thing_at, size_of, size_from, combine_of, combine_from}
@@ -29,7 +29,7 @@ use Rattle.abt_simulation.proofs.Shapes.{goes-part}
 use Rattle.abt_simulation.proofs.Rows.{ValueRow, ValueDone, future-at, refuses}
 use Rattle.abt_simulation.proofs.ObjectShapes.{unless-true, unless-false, goes-through, carries-on, gets-number, waiters-stay, waits-part, waits-line, giving, giving-part, giving-line}
 
-module _ (W : Parts) (Z : List OrderShape) (S : State) (s u : ℕ) (acts : IsActing W Z S s u) (x : ObjectNo) (n : ℕ) (c : Combine) (is : thing_at W x.0 ≡ Some (thing.Future n c)) where
+module _ (W : Parts) (Z : Stored) (S : State) (s u : ℕ) (acts : IsActing W Z S s u) (x : ObjectNo) (n : ℕ) (c : Combine) (is : thing_at W x.0 ≡ Some (thing.Future n c)) where
   abbrev pub value : State → FutureValue
   value T = future_value W T x.0 n c
 

@@ -1,6 +1,7 @@
 pub mod Acting
 pub mod BarrierMeeting
 pub mod BarrierRows
+pub mod CallEvents
 pub mod CalledSites
 pub mod ConditionLists
 pub mod ConditionRows

@@ -4,7 +4,7 @@ use Rattle.std.proofs.lemmas.Bool.{eq-eqb, eqb-true, cases_Bool, false≢true}
 use Rattle.abt_machine.specs.declared.events.Event.{Event}
 use Rattle.abt_machine.specs.declared.events.Site.{Site}
 use Rattle.abt_machine.specs.declared.events.Site.TheVariants as site
-use Rattle.abt_machine.specs.declared.operations.OrderShape.{OrderShape}
+use Rattle.abt_machine.specs.Stored.{Stored}
 use Rattle.abt_machine.specs.declared.workload.Parts.{Parts}
 use Rattle.abt_machine.specs.Numbers.{stream_no, pool_no, unit_no, object_no}
 use Rattle.abt_machine.specs.Valid.{IsValid}
@@ -48,7 +48,7 @@ site-self (site.Pool p) = eq-eqb p.0 p.0 refl
 site-self x = eq-eqb (place_number x) (place_number x) refl
 
 -- so it tells sites apart
-pub tells-sites : (W : Parts) (Z : List OrderShape) → TellsPlaces (machine_of W Z)
+pub tells-sites : (W : Parts) (Z : Stored) → TellsPlaces (machine_of W Z)
 tells-sites W Z x y = (site-is x y, λ e. subst (λ z. same_site x z ≡ true) e (site-self x))
 
 -- two sites are one, or are not
@@ -68,7 +68,8 @@ called-answers W S None objects a = tt
 called-answers W S (Some h) objects a = a.0
 
 -- all objects are as the answer says
-called-all : (W : Parts) (Z : List OrderShape) (S T : State) (e : Event) (heard : Option Heard) (part : Held) (objects : Site → Object) → IsEventFrom W Z S e heard part (called_at heard objects) T → Answered SiteGives (object_of W S) heard objects →
+called-all : (W : Parts) (Z : Stored) (S T : State) (e : Event) (heard : Option Heard) (part : Held) (objects : Site → Object) → IsEventFrom W Z S e heard part (called_at heard objects) T →
+    Answered SiteGives (object_of W S) heard objects →
     (x : Site) → object_of W T x ≡ objects x
 called-all W Z S T e None part objects is a x = is.other_objects x (λ q. none≢some q) ∙ sym (a x)
 called-all W Z S T e (Some h) part objects is a x =
@@ -77,7 +78,7 @@ called-all W Z S T e (Some h) part objects is a x =
       | inr other ↦ is.other_objects x (λ q. other (some-injective q)) ∙ sym (a.1 x other)
     ]
 
-module _ (W : Parts) (Z : List OrderShape) (valid : IsValid W) (stored : OrdersStored W Z) where
+module _ (W : Parts) (Z : Stored) (valid : IsValid W) (stored : OrdersStored W Z.orders) where
   -- a step of a stream with its call is an event
   pub is-simulated : IsSimulated (machine_of W Z)
   is-simulated S s w heard part objects sound declared steps answered =
@@ -113,14 +114,15 @@ module _ (W : Parts) (Z : List OrderShape) (valid : IsValid W) (stored : OrdersS
   }
 
 -- the deeds of a journal, in its order
-pub deeds-of : (W : Parts) (Z : List OrderShape) (parts : ℕ → Held) (objects : Site → Object) (logs : ℕ → List StreamDeed) (histories : Site → List SiteEntry) (ends : ℕ → Held) (finals : Site → Object) (J : List Event) →
+pub deeds-of : (W : Parts) (Z : Stored) (parts : ℕ → Held) (objects : Site → Object) (logs : ℕ → List StreamDeed) (histories : Site → List SiteEntry) (ends : ℕ → Held) (finals : Site → Object)
+    (J : List Event) →
     Gathered (machine_of W Z) parts objects logs histories ends finals → IsJournalOf logs J → (ds : List StreamDeed) × IsSorted logs ds × (map event_of ds ≡ J)
 deeds-of W Z parts objects logs histories ends finals J gathered sorted =
     events-lift (machine_of W Z) Event event_of (λ e. e.stamp) (λ e. e.stream.0) (λ d. (refl, refl)) logs J (log-rises (machine_of W Z) parts objects logs histories ends finals gathered)
     (λ s d m. log-is-own (machine_of W Z) parts objects logs histories ends finals gathered s d (to-among (logs s) d m)) sorted
 
 -- the law
-pub merging : (W : Parts) (Z : List OrderShape) → Merging W Z
+pub merging : (W : Parts) (Z : Stored) → Merging W Z
 merging W Z valid stored S sound logs histories ends finals J gathered sorted =
     let l : (ds : List StreamDeed) × IsSorted logs ds × (map event_of ds ≡ J) = deeds-of W Z (part_of W S) (object_of W S) logs histories ends finals J gathered sorted in
     subst (λ es. LeadsTo W Z S es ends finals) l.2

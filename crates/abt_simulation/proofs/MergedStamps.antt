@@ -2,7 +2,7 @@
 use Rattle.std.proofs.Common.{◌≡◌, ℕ, List, [], ◌∷◌, map, Option, Some, None, refl, sym, ◌∙◌, ap, subst, inl, inr}
 use Rattle.std.specs.Prelude.{option_map}
 use Rattle.abt_machine.specs.declared.events.Site.{Site}
-use Rattle.abt_machine.specs.declared.operations.OrderShape.{OrderShape}
+use Rattle.abt_machine.specs.Stored.{Stored}
 use Rattle.abt_machine.specs.declared.workload.Parts.{Parts}
 use Rattle.abt_machine.specs.Numbers.{stream_no}
 use Rattle.abt_machine.specs.EventSites.{event_site}
@@ -32,7 +32,7 @@ place-heard None = refl
 place-heard (Some h) = refl
 
 -- so does each deed of a course
-pub does-call : (W : Parts) (Z : List OrderShape) (s : ℕ) (p q : Held) (log : List StreamDeed) → Does (Steps W Z) s p log q → (d : StreamDeed) → Among d log → CallsSite W d
+pub does-call : (W : Parts) (Z : Stored) (s : ℕ) (p q : Held) (log : List StreamDeed) → Does (Steps W Z) s p log q → (d : StreamDeed) → Among d log → CallsSite W d
 does-call W Z s p q [] c d m = absurd m
 does-call W Z s p q (e ∷ es) c d m =
     elim m [
@@ -40,7 +40,8 @@ does-call W Z s p q (e ∷ es) c d m =
       | inr later ↦ does-call W Z s c.1 q es c.3 d later
     ]
 
-module _ (W : Parts) (Z : List OrderShape) (parts : ℕ → Held) (objects : Site → Object) (logs : ℕ → List StreamDeed) (histories : Site → List SiteEntry) (ends : ℕ → Held) (finals : Site → Object) (gathered : Gathered (machine_of W Z) parts objects logs histories ends finals) where
+module _ (W : Parts) (Z : Stored) (parts : ℕ → Held) (objects : Site → Object) (logs : ℕ → List StreamDeed) (histories : Site → List SiteEntry) (ends : ℕ → Held) (finals : Site → Object)
+    (gathered : Gathered (machine_of W Z) parts objects logs histories ends finals) where
   -- each deed of the sorted list calls the site of its event
   sorted-call : (ds : List StreamDeed) → IsSorted logs ds → (d : StreamDeed) → Among d ds → CallsSite W d
   sorted-call ds sorted d m =
@@ -48,13 +49,13 @@ module _ (W : Parts) (Z : List OrderShape) (parts : ℕ → Held) (objects : Sit
       does-call W Z d.stream (parts d.stream) (ends d.stream) (logs d.stream) (gathered.courses d.stream (log-declared (machine_of W Z) parts objects logs histories ends finals gathered d.stream d there)).1 d there
 
 -- the merged journal is stamped
-pub merged-is-stamped : (W : Parts) (Z : List OrderShape) → MergedIsStamped W Z
+pub merged-is-stamped : (W : Parts) (Z : Stored) → MergedIsStamped W Z
 merged-is-stamped W Z parts objects logs histories ends finals J gathered gapless sorted =
     let l : (ds : List StreamDeed) × IsSorted logs ds × (map event_of ds ≡ J) = deeds-of W Z parts objects logs histories ends finals J gathered sorted in
     subst (Stamped W) l.2 (stamped-seen event_of stamp_of stream_of (event_site W) place_of l.0 (sorted-call W Z parts objects logs histories ends finals gathered l.0 l.1) (stamps-close (machine_of W Z) parts objects logs histories ends finals l.0 gathered gapless l.1))
 
 -- its stamps are Lamport's
-pub merged-is-lamport : (W : Parts) (Z : List OrderShape) → MergedIsLamport W Z
+pub merged-is-lamport : (W : Parts) (Z : Stored) → MergedIsLamport W Z
 merged-is-lamport W Z parts objects logs histories ends finals J gathered timed sorted =
     let l : (ds : List StreamDeed) × IsSorted logs ds × (map event_of ds ≡ J) = deeds-of W Z parts objects logs histories ends finals J gathered sorted in
     subst (Lamport W) l.2 (lamport-seen event_of stamp_of stream_of (event_site W) place_of l.0 (sorted-call W Z parts objects logs histories ends finals gathered l.0 l.1) (stamps-are-lamports (machine_of W Z) parts objects logs histories ends finals l.0 gathered timed l.1))

@@ -5,7 +5,7 @@ use Rattle.abt_machine.specs.declared.events.Site.TheVariants as site
 use Rattle.abt_machine.specs.declared.numbers.ObjectNo.{ObjectNo}
 use Rattle.abt_machine.specs.declared.operations.Op.{Op}
 use Rattle.abt_machine.specs.declared.operations.Op.TheVariants as op
-use Rattle.abt_machine.specs.declared.operations.OrderShape.{OrderShape}
+use Rattle.abt_machine.specs.Stored.{Stored}
 use Rattle.abt_machine.specs.declared.workload.Parts.{Parts}
 use Rattle.abt_machine.specs.Operations.{IsMutex}
 use Rattle.abt_machine.specs.Queues.{first, first_alone}
@@ -30,7 +30,7 @@ use Rattle.abt_simulation.proofs.Rows.{ValueRow, ValueDone, mutex-at, refuses}
 use Rattle.abt_simulation.proofs.ObjectShapes.{unless-true, unless-false, is-some_of, not-some_of, none-test, some-test, goes-through, carries-on, gets-number, waits-part, waits-line}
 use Rattle.abt_simulation.proofs.MonitorShapes.{first-number, first-woken, none-woken, waits-elsewhere, conditions-stay, first-from, holding-value}
 
-module _ (W : Parts) (Z : List OrderShape) (S : State) (s u : ℕ) (acts : IsActing W Z S s u) (x : ObjectNo) (is : IsMutex W x.0) where
+module _ (W : Parts) (Z : Stored) (S : State) (s u : ℕ) (acts : IsActing W Z S s u) (x : ObjectNo) (is : IsMutex W x.0) where
   abbrev pub value : State → MonitorValue
   value T = monitor_value W T x.0
 

@@ -3,7 +3,7 @@ use Rattle.std.proofs.Common.{◌≡◌, ◌≢◌, ℕ, ◌==◌, List, [], ◌
 use Rattle.std.specs.Prelude.{option_map}
 use Rattle.std.proofs.lemmas.Bool.{cond-false, ne_eqb}
 use Rattle.abt_machine.specs.declared.events.Place.{Place}
-use Rattle.abt_machine.specs.declared.operations.OrderShape.{OrderShape}
+use Rattle.abt_machine.specs.Stored.{Stored}
 use Rattle.abt_machine.specs.declared.operations.Thing.TheVariants as thing
 use Rattle.abt_machine.specs.declared.workload.Parts.{Parts}
 use Rattle.abt_machine.specs.Numbers.{object_no}
@@ -57,7 +57,7 @@ line-apart W S x y ne =
 pub condition-apart : (W : Parts) (m x : ℕ) → IsMutex W m → thing_at W x ≡ Some (thing.Cond (object_no m)) → x ≢ m
 condition-apart W m x is cond e = let k : Some (thing.Cond (object_no m)) ≡ Some thing.Mutex = sym cond ∙ (ap (thing_at W) e ∙ is) in absurd cc
 
-module _ (W : Parts) (Z : List OrderShape) (S : State) (s u : ℕ) (acts : IsActing W Z S s u) (m : ℕ) (is : IsMutex W m) where
+module _ (W : Parts) (Z : Stored) (S : State) (s u : ℕ) (acts : IsActing W Z S s u) (m : ℕ) (is : IsMutex W m) where
   -- if nobody comes to or leaves its conditions, these stay
   pub conditions-stay : (ms : List (ℕ × Place)) (k : Carried) (c : Change) → ((x : ℕ) → x ≢ m → NoneTo (Waiting x) ms × NoneFrom (Waiting x) S.place ms) →
       map (waiters_at W (changed S (moving ms ((u, k) ∷ []) c))) (conditions_of W m) ≡ map (waiters_at W S) (conditions_of W m)

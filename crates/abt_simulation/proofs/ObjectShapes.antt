@@ -5,7 +5,7 @@ use Rattle.abt_machine.specs.declared.events.Code.{Code}
 use Rattle.abt_machine.specs.declared.events.Code.TheVariants as code
 use Rattle.abt_machine.specs.declared.events.Site.{Site}
 use Rattle.abt_machine.specs.declared.operations.Op.{Op}
-use Rattle.abt_machine.specs.declared.operations.OrderShape.{OrderShape}
+use Rattle.abt_machine.specs.Stored.{Stored}
 use Rattle.abt_machine.specs.declared.workload.Parts.{Parts}
 use Rattle.abt_machine.specs.State.{State, Carried}
 use Rattle.abt_machine.specs.Carrying.{advanced, with_acc}
@@ -67,7 +67,7 @@ receives-key : (S : State) (value : ℕ) (us : List ℕ) (v : ℕ) → Among v u
 receives-key S value [] v m = m
 receives-key S value (u ∷ us) v m = elim m [ inl e ↦ inl e | inr b ↦ inr (receives-key S value us v b) ]
 
-module _ (W : Parts) (Z : List OrderShape) (S : State) (s u : ℕ) (acts : IsActing W Z S s u) where
+module _ (W : Parts) (Z : Stored) (S : State) (s u : ℕ) (acts : IsActing W Z S s u) where
   -- a step that goes through, by its row
   pub goes-through : {V : Type 0} (a : Op) (value : State → V) (e : Effect) (new : V) (d : Change) → e.code ≡ code.Ok → code_of W S s u a ≡ code.Ok → op_row W S s u a ≡ d →
       part_of W (changed S d) s ≡ stepped (part_of W S s) e → value (changed S d) ≡ new → ValueDone W S s u a value e new

@@ -4,7 +4,7 @@ use Rattle.std.specs.Prelude.{filter}
 use Rattle.std.proofs.lemmas.Bool.{cond-false}
 use Rattle.abt_machine.specs.declared.events.Place.{Place}
 use Rattle.abt_machine.specs.declared.events.Place.TheVariants as place
-use Rattle.abt_machine.specs.declared.operations.OrderShape.{OrderShape}
+use Rattle.abt_machine.specs.Stored.{Stored}
 use Rattle.abt_machine.specs.declared.workload.Parts.{Parts}
 use Rattle.abt_machine.specs.Numbers.{stream_no}
 use Rattle.abt_machine.specs.Maps.{put_all}
@@ -135,7 +135,7 @@ moving ms cs c = record c { moves = ms; carried = cs; streams = [] }
 
 -- The lines of s after moves of some units, and then of others to its tray.
 
-module _ (W : Parts) (Z : List OrderShape) (S : State) (s u : ℕ) (acts : IsActing W Z S s u) where
+module _ (W : Parts) (Z : Stored) (S : State) (s u : ℕ) (acts : IsActing W Z S s u) where
   -- u alone is in the hand
   pub hand-standing : standing W S (InHand s) ≡ u ∷ []
   hand-standing = alone-standing W S (InHand s) u (λ k v t. acts.sound.one_each (InHand s) k v t) (λ t. refl) acts.declared acts.in_hand

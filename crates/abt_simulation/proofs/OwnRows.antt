@@ -6,7 +6,7 @@ use Rattle.abt_machine.specs.declared.events.Code.{Code}
 use Rattle.abt_machine.specs.declared.events.Code.TheVariants as code
 use Rattle.abt_machine.specs.declared.operations.Op.{Op}
 use Rattle.abt_machine.specs.declared.operations.Op.TheVariants as op
-use Rattle.abt_machine.specs.declared.operations.OrderShape.{OrderShape}
+use Rattle.abt_machine.specs.Stored.{Stored}
 use Rattle.abt_machine.specs.declared.workload.Parts.{Parts}
 use Rattle.abt_machine.specs.State.{State, Stream, Carried, Exited}
 use Rattle.abt_machine.specs.Carrying.{advanced, refused}
@@ -25,7 +25,7 @@ use Rattle.abt_simulation.proofs.OwnParts.{part-empties}
 use Rattle.abt_simulation.proofs.Shapes.{owned, goes-part}
 use Rattle.abt_simulation.proofs.Rows.{OwnDone, Row, RowBy, refused-row}
 
-module _ (W : Parts) (Z : List OrderShape) (S : State) (s u : ℕ) (acts : IsActing W Z S s u) where
+module _ (W : Parts) (Z : Stored) (S : State) (s u : ℕ) (acts : IsActing W Z S s u) where
   -- what u carries changes
   pub local-row : (a : Op) (f : Carried → Carried) → code.Ok ≡ code_of W S s u a → op_row W S s u a ≡ goes_with u (f (S.carried u)) → OwnDone W S s u a (local f (owned_at S u))
   local-row a f is row = record { code = is; own = ap (λ c. part_of W (changed S c) s) row ∙ goes-part W Z S s u acts (advanced (f (S.carried u))) no_change }

@@ -3,7 +3,7 @@ use Rattle.std.proofs.Common.{◌≡◌, ◌≢◌, ℕ, suc, ◌<◌, true, fal
 use Rattle.std.specs.Prelude.{filter}
 use Rattle.std.proofs.lemmas.List.{map-append}
 use Rattle.abt_machine.specs.declared.events.Place.{Place}
-use Rattle.abt_machine.specs.declared.operations.OrderShape.{OrderShape}
+use Rattle.abt_machine.specs.Stored.{Stored}
 use Rattle.abt_machine.specs.declared.workload.Parts.{Parts}
 use Rattle.abt_machine.specs.Maps.{put_at, put_all}
 use Rattle.abt_machine.specs.State.{State}
@@ -52,7 +52,8 @@ key-waiting m t [] v k = k
 key-waiting m t (u ∷ us) v k = elim k [ inl e ↦ inl e | inr b ↦ inr (key-waiting m (suc t) us v b) ]
 
 -- Of those that wait at x, these go to the tray of s and then those to the end of the waiters of m.
-module _ (W : Parts) (Z : List OrderShape) (S : State) (s u : ℕ) (acts : IsActing W Z S s u) (x m : ℕ) (apart : x ≢ m) (us ws left : List ℕ) (split : standing W S (Waiting x) ≡ us ++ (ws ++ left)) (c : Change) where
+module _ (W : Parts) (Z : Stored) (S : State) (s u : ℕ) (acts : IsActing W Z S s u) (x m : ℕ) (apart : x ≢ m) (us ws left : List ℕ) (split : standing W S (Waiting x) ≡ us ++ (ws ++ left))
+    (c : Change) where
   abbrev moves : List (ℕ × Place)
   moves = waiting_moves m (S.object_next m) ws ++ to_tray W S s us
 

@@ -5,7 +5,7 @@ use Rattle.std.specs.Prelude.{◌&&◌, if◌then◌else◌, option_map}
 use Rattle.abt_machine.specs.declared.events.Place.{Place}
 use Rattle.abt_machine.specs.declared.events.Place.TheVariants as place
 use Rattle.abt_machine.specs.declared.events.Spot.TheVariants as spot
-use Rattle.abt_machine.specs.declared.operations.OrderShape.{OrderShape}
+use Rattle.abt_machine.specs.Stored.{Stored}
 use Rattle.abt_machine.specs.declared.workload.Parts.{Parts}
 use Rattle.abt_machine.specs.Workloads.{body_at, is_sched}
 use Rattle.abt_machine.specs.State.{State, Desk}
@@ -23,7 +23,7 @@ pub desk-is : (W : Parts) (T : State) (v : ℕ) (phase : Phase) (joiners : List 
 desk-is W T v phase joiners d p j e = λ i. record { number = v; sched = is_sched (body_at W v); phase = p i; joiners = j i; cancel = (e i).cancel; migrate = (e i).migrate; migratable = (e i).migratable }
 
 -- a desk takes back its own unit, if it is in a hand
-pub takes-own : (W : Parts) (Z : List OrderShape) (S : State) (s : ℕ) (o : Owned) → IsActing W Z S s o.number → takes_back (desk_value W S o.number) o ≡ true
+pub takes-own : (W : Parts) (Z : Stored) (S : State) (s : ℕ) (o : Owned) → IsActing W Z S s o.number → takes_back (desk_value W S o.number) o ≡ true
 takes-own W Z S s o acts = ap (λ pl. is_out (phase_at (owned_at S o.number) pl) && o.number == o.number) acts.in_hand ∙ eq-eqb o.number o.number refl
 
 -- the unit if the test holds

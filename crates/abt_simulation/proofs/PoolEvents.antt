@@ -6,7 +6,7 @@ use Rattle.abt_machine.specs.declared.events.Site.TheVariants as site
 use Rattle.abt_machine.specs.declared.events.What.TheVariants as what
 use Rattle.abt_machine.specs.declared.operations.Kind.{Kind}
 use Rattle.abt_machine.specs.declared.operations.Kind.TheVariants as kind
-use Rattle.abt_machine.specs.declared.operations.OrderShape.{OrderShape}
+use Rattle.abt_machine.specs.Stored.{Stored}
 use Rattle.abt_machine.specs.declared.workload.Parts.{Parts}
 use Rattle.abt_machine.specs.Numbers.{stream_no, pool_no, unit_no}
 use Rattle.abt_machine.specs.Queues.{first, last}
@@ -82,9 +82,9 @@ no-front kind.Deque true us e = ap last e
 
 -- Events at pool p.
 
-module _ (W : Parts) (Z : List OrderShape) (S : State) (s p : ℕ) (sound : Sound W Z S) (object : Object) where
+module _ (W : Parts) (Z : Stored) (S : State) (s p : ℕ) (sound : Sound W Z S) (object : Object) where
   -- a miss, if the pool answers so
-  pub simulate-miss : due_of W s (part_of W S s) ≡ RoundDue → IsNextPool W Z (S.stream s).top p → SiteGives (object_of W S (site.Pool (pool_no p))) (act.Take (side_of W s p)) act.Miss object →
+  pub simulate-miss : due_of W s (part_of W S s) ≡ RoundDue → IsNextPool W Z.orders (S.stream s).top p → SiteGives (object_of W S (site.Pool (pool_no p))) (act.Take (side_of W s p)) act.Miss object →
       Simulated W Z S s (what.Miss (pool_no p)) (Some (site.Pool (pool_no p), act.Take (side_of W s p), act.Miss)) (record (part_of W S s) { own = round_missed W p (S.stream s) }) object
   simulate-miss is order gives = record {
     may = (due-same W S s ∙ is, no-front (kind_of W p) (owns W s p) (standing W S (InPool p)) (nobody-owned S (standing W S (InPool p)) gives.2.1), order);
@@ -93,7 +93,8 @@ module _ (W : Parts) (Z : List OrderShape) (S : State) (s p : ℕ) (sound : Soun
   }
 
   -- a take of the unit that the pool answers with
-  pub simulate-take : (o : Owned) → due_of W s (part_of W S s) ≡ RoundDue → IsNextPool W Z (S.stream s).top p → SiteGives (object_of W S (site.Pool (pool_no p))) (act.Take (side_of W s p)) (act.Given o) object →
+  pub simulate-take : (o : Owned) → due_of W s (part_of W S s) ≡ RoundDue → IsNextPool W Z.orders (S.stream s).top p → SiteGives (object_of W S (site.Pool (pool_no p))) (act.Take (side_of W s p))
+      (act.Given o) object →
       Simulated W Z S s (what.Take (pool_no p) (unit_no o.number)) (Some (site.Pool (pool_no p), act.Take (side_of W s p), act.Given o)) (record (part_of W S s) { own = round_taken (S.stream s); next = Some o }) object
   simulate-take o is order gives =
       let u : ℕ = o.number in

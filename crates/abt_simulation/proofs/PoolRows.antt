@@ -9,7 +9,7 @@ use Rattle.abt_machine.specs.declared.events.Site.TheVariants as site
 use Rattle.abt_machine.specs.declared.numbers.PoolNo.{PoolNo}
 use Rattle.abt_machine.specs.declared.numbers.UnitNo.{UnitNo}
 use Rattle.abt_machine.specs.declared.operations.Op.TheVariants as op
-use Rattle.abt_machine.specs.declared.operations.OrderShape.{OrderShape}
+use Rattle.abt_machine.specs.Stored.{Stored}
 use Rattle.abt_machine.specs.declared.workload.Parts.{Parts}
 use Rattle.abt_machine.specs.Numbers.{stream_no}
 use Rattle.abt_machine.specs.Maps.{put_at}
@@ -81,7 +81,7 @@ in-pool : (p : ℕ) (pl : Place) → is_in_pool p pl ≡ true → (t : ℕ) × (
 in-pool p (place.Pool q t) e = (t, cond-true (q.0 == p) (Some t) None e)
 in-pool p _ e = absurd cc
 
-module _ (W : Parts) (Z : List OrderShape) (S : State) (s u : ℕ) (acts : IsActing W Z S s u) (v : UnitNo) (p : PoolNo) where
+module _ (W : Parts) (Z : Stored) (S : State) (s u : ℕ) (acts : IsActing W Z S s u) (v : UnitNo) (p : PoolNo) where
   -- v stands in p
   module _ (at : StandsIn W S (InPool p.0) v.0) where
     -- v is in no line of s

@@ -9,7 +9,7 @@ use Rattle.abt_machine.specs.declared.events.Wish.TheVariants as wish
 use Rattle.abt_machine.specs.declared.numbers.ObjectNo.{ObjectNo}
 use Rattle.abt_machine.specs.declared.operations.Op.{Op}
 use Rattle.abt_machine.specs.declared.operations.Op.TheVariants as op
-use Rattle.abt_machine.specs.declared.operations.OrderShape.{OrderShape}
+use Rattle.abt_machine.specs.Stored.{Stored}
 use Rattle.abt_machine.specs.declared.workload.Parts.{Parts}
 use Rattle.abt_machine.specs.Operations.{IsRwLock}
 use Rattle.abt_machine.specs.Holders.{count_of, holds, is_free, read_by, read_limit, reads, writes, written_by}
@@ -39,7 +39,7 @@ use Rattle.abt_simulation.proofs.Shapes.{wakes-part, line-prefix_woken}
 use Rattle.abt_simulation.proofs.Rows.{ValueRow, ValueDone, rwlock-at, refuses}
 use Rattle.abt_simulation.proofs.ObjectShapes.{unless-true, unless-false, goes-through, carries-on, gets-number, waiters-stay, waits-part, waits-line}
 
-module _ (W : Parts) (Z : List OrderShape) (S : State) (s u : ℕ) (acts : IsActing W Z S s u) (x : ObjectNo) (is : IsRwLock W x.0) where
+module _ (W : Parts) (Z : Stored) (S : State) (s u : ℕ) (acts : IsActing W Z S s u) (x : ObjectNo) (is : IsRwLock W x.0) where
   abbrev pub value : State → RwLockValue
   value T = rwlock_value W T x.0
 

@@ -1,7 +1,7 @@
 -- What most steps do: the unit in hand goes on, and perhaps wakes others; or it leaves the hand for an object's line, and perhaps wakes others. Unit u, in the hand of stream s, makes the step.
 use Rattle.std.proofs.Common.{◌≡◌, ◌≢◌, ℕ, suc, List, [], ◌∷◌, ◌++◌, length, map, Some, None, refl, ◌∙◌, ap, subst, inl}
 use Rattle.abt_machine.specs.declared.events.Place.{Place}
-use Rattle.abt_machine.specs.declared.operations.OrderShape.{OrderShape}
+use Rattle.abt_machine.specs.Stored.{Stored}
 use Rattle.abt_machine.specs.declared.workload.Parts.{Parts}
 use Rattle.abt_machine.specs.Maps.{put_at, put_all}
 use Rattle.abt_machine.specs.Queues.{first_alone}
@@ -47,7 +47,7 @@ pub first-and-others : (us : List ℕ) → us ≡ first_alone us ++ others us
 first-and-others [] = refl
 first-and-others (u ∷ us) = refl
 
-module _ (W : Parts) (Z : List OrderShape) (S : State) (s u : ℕ) (acts : IsActing W Z S s u) where
+module _ (W : Parts) (Z : Stored) (S : State) (s u : ℕ) (acts : IsActing W Z S s u) where
   -- who is away carries the same if only u's own changes
   away-same : (k : Carried) (us : List ℕ) → EachOf (IsAway W S s) us → EachOf (λ v. put_at S.carried u k v ≡ S.carried v) us
   away-same k us away = EachOf-then (IsAway W S s) (λ v. put_at S.carried u k v ≡ S.carried v) us (λ v a. put_at-other S.carried u k v (away-other W Z S s u acts v a.off)) away

@@ -1,10 +1,10 @@
 -- Steps are events: each operation, by its row.
-use Rattle.std.proofs.Common.{◌≡◌, ℕ, List, Option, Some, None, refl, sym, ◌∙◌, ap, subst}
+use Rattle.std.proofs.Common.{◌≡◌, ℕ, Option, Some, None, refl, sym, ◌∙◌, ap, subst}
 use Rattle.abt_machine.specs.declared.events.Code.{Code}
 use Rattle.abt_machine.specs.declared.events.What.TheVariants as what
 use Rattle.abt_machine.specs.declared.operations.Op.{Op}
 use Rattle.abt_machine.specs.declared.operations.Op.TheVariants as op
-use Rattle.abt_machine.specs.declared.operations.OrderShape.{OrderShape}
+use Rattle.abt_machine.specs.Stored.{Stored, IsNoCall}
 use Rattle.abt_machine.specs.declared.workload.Parts.{Parts}
 use Rattle.abt_machine.specs.Numbers.{unit_no}
 use Rattle.abt_machine.specs.Workloads.{op_at}
@@ -52,7 +52,7 @@ local_by a = function (nature_of a).local
 
 -- Unit u, in the hand of stream s, makes a step.
 
-module _ (W : Parts) (Z : List OrderShape) (S : State) (s u : ℕ) (acts : IsActing W Z S s u) where
+module _ (W : Parts) (Z : Stored) (S : State) (s u : ℕ) (acts : IsActing W Z S s u) where
   -- the row of each operation; the last line is of the local ones
   each-row : IsValid W → (a : Op) → IsDeclared W a → Row W S s u a
   each-row valid op.Yield d = yield-row W Z S s u acts
@@ -119,10 +119,11 @@ module _ (W : Parts) (S : State) (s u : ℕ) (heard : Option Heard) (c : Code) (
   }
 
 -- a step, by its operation
-pub simulate-step : (W : Parts) (Z : List OrderShape) (S : State) (s : ℕ) (heard : Option Heard) (part : Held) (object : Object) (o : Owned) (c : Code) (a : Op) → IsValid W → Sound W Z S →
-    due_of W s (part_of W S s) ≡ StepDue → first (owned_in W S (InHand s)) ≡ Some o → op_at W o.number o.carried.position ≡ Some a → Performs (part_of W S s) (plan_of W s a o) heard c part → CalledAnswers W S heard object →
+pub simulate-step : (W : Parts) (Z : Stored) (S : State) (s : ℕ) (heard : Option Heard) (part : Held) (object : Object) (o : Owned) (c : Code) (a : Op) → IsValid W → Sound W Z S →
+    due_of W s (part_of W S s) ≡ StepDue → first (owned_in W S (InHand s)) ≡ Some o → op_at W o.number o.carried.position ≡ Some a → Performs (part_of W S s) (plan_of W s a o) heard c part →
+    CalledAnswers W S heard object → IsNoCall (Some a) →
     Simulated W Z S s (what.Step (unit_no o.number) o.carried.position c) heard part object
-simulate-step W Z S s heard part object o c a valid sound is hands operation goes answers =
+simulate-step W Z S s heard part object o c a valid sound is hands operation goes answers other =
     let u : ℕ = o.number in
     let k : ℕ = o.carried.position in
     let h : Head S (standing W S (InHand s)) o = head-of S (standing W S (InHand s)) o hands in
@@ -130,7 +131,7 @@ simulate-step W Z S s heard part object o c a valid sound is hands operation goe
     let done : Stepped W S s u heard c part object answers a =
     step-by-row W S s u heard c part object answers a (plan_of W s a (owned_at S u)) (each-row W Z S s u acts valid a (op-declared W u k a valid operation)) (subst (λ (q : Owned). Performs (part_of W S s) (plan_of W s a q) heard c part) (sym h.owns) goes) in
     record {
-      may = (due-same W S s ∙ is, h.is, ap (λ (q : Owned). q.carried.position) h.owns, done.code ∙ ap (code_at W S s u) (sym operation));
+      may = (due-same W S s ∙ is, h.is, ap (λ (q : Owned). q.carried.position) h.owns, done.code ∙ ap (code_at W S s u) (sym operation), subst IsNoCall (sym operation) other);
       own = ap (λ m. part_of W (changed S (step_row W S s u m c)) s) operation ∙ done.own;
       called = subst (λ m. LeavesObject W (changed S (step_row W S s u m c)) heard object) (sym operation) done.called;
     }

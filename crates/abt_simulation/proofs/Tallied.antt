@@ -5,7 +5,7 @@ use Rattle.std.proofs.lemmas.List.{length-map}
 use Rattle.abt_machine.specs.declared.events.Event.{Event}
 use Rattle.abt_machine.specs.declared.events.Site.{Site}
 use Rattle.abt_machine.specs.declared.grammar.Format.TheVariants as format
-use Rattle.abt_machine.specs.declared.operations.OrderShape.{OrderShape}
+use Rattle.abt_machine.specs.Stored.{Stored}
 use Rattle.abt_machine.specs.declared.workload.Parts.{Parts}
 use Rattle.abt_machine.specs.Limits.{stream_limit}
 use Rattle.abt_machine.specs.Outcomes.{is_step}
@@ -21,7 +21,7 @@ use Rattle.abt_interleave.proofs.Sorts.{merge-sorts, seen-merge}
 use Rattle.abt_simulation.specs.Merging.{machine_of, StreamDeed, SiteEntry, event_of, IsJournalOf}
 use Rattle.abt_simulation.specs.Journals.{events_of, MergesTo, JournalsAreMerges, JournalsExist, JournalCounts, JournalsCount, NothingIsWorn}
 
-module _ (W : Parts) (Z : List OrderShape) (parts : ℕ → Held) (objects : Site → Object) (logs : ℕ → List StreamDeed) (histories : Site → List SiteEntry) (ends : ℕ → Held) (finals : Site → Object)
+module _ (W : Parts) (Z : Stored) (parts : ℕ → Held) (objects : Site → Object) (logs : ℕ → List StreamDeed) (histories : Site → List SiteEntry) (ends : ℕ → Held) (finals : Site → Object)
     (gathered : Gathered (machine_of W Z) parts objects logs histories ends finals) where
   own : (s : ℕ) (d : StreamDeed) → Contains (logs s) d → d.stream ≡ s
   own s d m = own-log (machine_of W Z) parts objects logs histories ends finals gathered s d (to-among (logs s) d m)
@@ -50,16 +50,17 @@ module _ (W : Parts) (Z : List OrderShape) (parts : ℕ → Held) (objects : Sit
     all_events = merges-lengthen Event (λ e. e.stamp) (λ e. e.stream.0) W.streams (events_of logs) J (to J j) none-left ∙ sum-same W.streams (λ s. length (events_of logs s)) (λ s. length (logs s)) (λ s lt. length-map (logs s) event_of);
   }
 
-pub journals-are-merges : (W : Parts) (Z : List OrderShape) → JournalsAreMerges W Z
+pub journals-are-merges : (W : Parts) (Z : Stored) → JournalsAreMerges W Z
 journals-are-merges W Z parts objects logs histories ends finals gathered J = (to W Z parts objects logs histories ends finals gathered J, from W Z parts objects logs histories ends finals gathered J)
 
-pub journals-exist : (W : Parts) (Z : List OrderShape) → JournalsExist W Z
+pub journals-exist : (W : Parts) (Z : Stored) → JournalsExist W Z
 journals-exist W Z parts objects logs histories ends finals gathered =
     let j = journal W Z parts objects logs histories ends finals gathered in
     (j.0, j.1, λ K k. one W Z parts objects logs histories ends finals gathered j.0 K j.1 k)
 
-pub journals-count : (W : Parts) (Z : List OrderShape) → JournalsCount W Z
+pub journals-count : (W : Parts) (Z : Stored) → JournalsCount W Z
 journals-count W Z parts objects logs histories ends finals gathered J j = counts W Z parts objects logs histories ends finals gathered J j
 
-pub nothing-is-worn : (W : Parts) (Z : List OrderShape) → NothingIsWorn W Z
-nothing-is-worn W Z valid parts objects logs histories ends finals gathered rule short = never-worn (machine_of W Z) parts objects logs histories ends finals gathered rule (let k : W.streams ≤ stream_limit format.Two = valid.few_streams in omega arith) short
+pub nothing-is-worn : (W : Parts) (Z : Stored) → NothingIsWorn W Z
+nothing-is-worn W Z valid parts objects logs histories ends finals gathered rule short = never-worn (machine_of W Z) parts objects logs histories ends finals gathered rule
+    (let k : W.streams ≤ stream_limit format.Three = valid.few_streams in omega arith) short

@@ -10,7 +10,7 @@ use Rattle.abt_machine.specs.declared.events.What.TheVariants as what
 use Rattle.abt_machine.specs.declared.operations.Body.TheVariants as body
 use Rattle.abt_machine.specs.declared.operations.Kind.TheVariants as kind
 use Rattle.abt_machine.specs.declared.operations.Op.TheVariants as op
-use Rattle.abt_machine.specs.declared.operations.OrderShape.{OrderShape}
+use Rattle.abt_machine.specs.Stored.{Stored}
 use Rattle.abt_machine.specs.declared.operations.Side.TheVariants as side
 use Rattle.abt_machine.specs.declared.operations.Thing.TheVariants as thing
 use Rattle.abt_machine.specs.declared.workload.Parts.{Parts}
@@ -35,9 +35,9 @@ use Rattle.abt_simulation.specs.Merging.{machine_of, StreamDeed, SiteEntry, IsJo
 abbrev pub meeting : Parts
 meeting = sharing (thing.Barrier 2 ∷ []) (record { body = body.Ult (op.BarWait (object_no 0) ∷ []); start = Some (pool_no 0) } ∷ record { body = body.Ult (op.BarWait (object_no 0) ∷ []); start = Some (pool_no 0) } ∷ [])
 
--- no scheduler has a user's order
-abbrev pub no_orders : List OrderShape
-no_orders = []
+-- no order is stored, and no function
+abbrev pub no_orders : Stored
+no_orders = record { orders = []; returns = λ f u a ks. None }
 
 -- a unit that has done nothing yet
 abbrev pub fresh : ℕ → Owned
@@ -181,7 +181,7 @@ journal =
 -- what the laws suppose holds here, and so does what they say: the merged run is the journal
 pub record MeetingMerges : Type 0 where
   pub valid : IsValid meeting
-  pub stored : OrdersStored meeting no_orders
+  pub stored : OrdersStored meeting no_orders.orders
   pub sound : Sound meeting no_orders (start meeting)
   pub gathered : Gathered (machine_of meeting no_orders) (part_of meeting (start meeting)) (object_of meeting (start meeting)) logs histories parts objects
   pub sorted : IsJournalOf logs journal

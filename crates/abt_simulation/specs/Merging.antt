@@ -4,7 +4,7 @@ use Rattle.abt_machine.specs.declared.events.Event.{Event}
 use Rattle.abt_machine.specs.declared.events.Site.{Site}
 use Rattle.abt_machine.specs.declared.events.Site.TheVariants as site
 use Rattle.abt_machine.specs.declared.events.What.{What}
-use Rattle.abt_machine.specs.declared.operations.OrderShape.{OrderShape}
+use Rattle.abt_machine.specs.Stored.{Stored}
 use Rattle.abt_machine.specs.declared.workload.Parts.{Parts}
 use Rattle.abt_machine.specs.Numbers.{stream_no}
 use Rattle.abt_machine.specs.Valid.{IsValid}
@@ -38,7 +38,7 @@ same_site (site.Rw x) (site.Rw y) = x.0 == y.0
 same_site x y = false
 
 -- a state's parts are those of its streams, and its objects stand at sites
-abbrev pub machine_of : Parts → List OrderShape → Machine
+abbrev pub machine_of : Parts → Stored → Machine
 machine_of W Z = record {
   State = State;
   Part = Held;
@@ -59,8 +59,8 @@ machine_of W Z = record {
 }
 
 -- a step of a stream, with the answer of the object that it called, is an event
-abbrev pub StepsAreEvents : Parts → List OrderShape → Type 0
-StepsAreEvents W Z = IsValid W → OrdersStored W Z → IsSimulated (machine_of W Z)
+abbrev pub StepsAreEvents : Parts → Stored → Type 0
+StepsAreEvents W Z = IsValid W → OrdersStored W Z.orders → IsSimulated (machine_of W Z)
 
 -- Logs and histories.
 
@@ -81,7 +81,7 @@ abbrev pub IsJournalOf : (ℕ → List StreamDeed) → List Event → Type 0
 IsJournalOf logs J = IsSortedAs event_of (λ e. e.stamp) (λ e. e.stream.0) logs J
 
 -- from state S these events are a run, which ends in a sound state with these parts of streams and these objects
-pub record LeadsTo (W : Parts) (Z : List OrderShape) (S : State) (J : List Event) (ends : ℕ → Held) (finals : Site → Object) : Type 0 where
+pub record LeadsTo (W : Parts) (Z : Stored) (S : State) (J : List Event) (ends : ℕ → Held) (finals : Site → Object) : Type 0 where
   pub run : RunFrom W Z S J
   pub sound : Sound W Z (state_after W S J)
   pub parts : (s : ℕ) → s < W.streams → part_of W (state_after W S J) s ≡ ends s
@@ -90,18 +90,18 @@ pub record LeadsTo (W : Parts) (Z : List OrderShape) (S : State) (J : List Event
 -- from a sound state, if each stream's log is a course of the stream with the answers that it heard, each object's history
 -- is legal, and each call in a log is exactly one entry of the called object's history, all logs merge into one run, and it
 -- leads to the state that the ends of logs and histories make up
-abbrev pub Merging : Parts → List OrderShape → Type 0
-Merging W Z = IsValid W → OrdersStored W Z → (S : State) → Sound W Z S →
+abbrev pub Merging : Parts → Stored → Type 0
+Merging W Z = IsValid W → OrdersStored W Z.orders → (S : State) → Sound W Z S →
     (logs : ℕ → List StreamDeed) (histories : Site → List SiteEntry) (ends : ℕ → Held) (finals : Site → Object) (J : List Event) →
     Gathered (machine_of W Z) (part_of W S) (object_of W S) logs histories ends finals → IsJournalOf logs J → LeadsTo W Z S J ends finals
 
 -- if stamps leave no gap, the merged journal is stamped
-abbrev pub MergedIsStamped : Parts → List OrderShape → Type 0
+abbrev pub MergedIsStamped : Parts → Stored → Type 0
 MergedIsStamped W Z = (parts : ℕ → Held) (objects : Site → Object) (logs : ℕ → List StreamDeed) (histories : Site → List SiteEntry) (ends : ℕ → Held) (finals : Site → Object) (J : List Event) →
     Gathered (machine_of W Z) parts objects logs histories ends finals → LeavesNoGap logs → IsJournalOf logs J → Stamped W J
 
 -- if each stamp is one more than the greater of its stream's last and its object's last, the merged journal has
 -- Lamport's stamps
-abbrev pub MergedIsLamport : Parts → List OrderShape → Type 0
+abbrev pub MergedIsLamport : Parts → Stored → Type 0
 MergedIsLamport W Z = (parts : ℕ → Held) (objects : Site → Object) (logs : ℕ → List StreamDeed) (histories : Site → List SiteEntry) (ends : ℕ → Held) (finals : Site → Object) (J : List Event) →
     Gathered (machine_of W Z) parts objects logs histories ends finals → ((s : ℕ) → AllTimed histories 0 (logs s)) → IsJournalOf logs J → Lamport W J

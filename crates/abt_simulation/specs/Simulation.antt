@@ -1,8 +1,8 @@
 -- If parts of streams and objects are those of a state, a step of one stream with at most one call is an event of the machine.
-use Rattle.std.specs.Prelude.{ℕ, ◌≡◌, ◌≢◌, ◌<◌, List, Option, Some, None}
+use Rattle.std.specs.Prelude.{ℕ, ◌≡◌, ◌≢◌, ◌<◌, Option, Some, None}
 use Rattle.abt_machine.specs.declared.events.Event.{Event}
 use Rattle.abt_machine.specs.declared.events.Site.{Site}
-use Rattle.abt_machine.specs.declared.operations.OrderShape.{OrderShape}
+use Rattle.abt_machine.specs.Stored.{Stored}
 use Rattle.abt_machine.specs.declared.workload.Parts.{Parts}
 use Rattle.abt_machine.specs.Valid.{IsValid}
 use Rattle.abt_machine.specs.Rounds.{OrdersStored}
@@ -30,7 +30,7 @@ LeavesObject W T None object = Unit {0}
 LeavesObject W T (Some h) object = object_of W T h.0 ≡ object
 
 -- e is an event that leads from S to T: there its stream's part and the object that was called are these, and all other parts and objects are those of S
-pub record IsEventFrom (W : Parts) (Z : List OrderShape) (S : State) (e : Event) (heard : Option Heard) (part : Held) (object : Object) (T : State) : Type 0 where
+pub record IsEventFrom (W : Parts) (Z : Stored) (S : State) (e : Event) (heard : Option Heard) (part : Held) (object : Object) (T : State) : Type 0 where
   pub comes : After W Z S e T
   pub site : site_heard heard ≡ event_site W e
   pub own : part_of W T e.stream.0 ≡ part
@@ -39,6 +39,6 @@ pub record IsEventFrom (W : Parts) (Z : List OrderShape) (S : State) (e : Event)
   pub other_objects : (x : Site) → site_heard heard ≢ Some x → object_of W T x ≡ object_of W S x
 
 -- from a sound state a step of a stream's part, with the answer of the object that it called, is an event
-abbrev pub Simulation : Parts → List OrderShape → Type 0
-Simulation W Z = IsValid W → OrdersStored W Z → (S : State) (e : Event) (heard : Option Heard) (part : Held) (object : Object) → Sound W Z S → e.stream.0 < W.streams →
+abbrev pub Simulation : Parts → Stored → Type 0
+Simulation W Z = IsValid W → OrdersStored W Z.orders → (S : State) (e : Event) (heard : Option Heard) (part : Held) (object : Object) → Sound W Z S → e.stream.0 < W.streams →
     Steps W Z e.stream.0 (part_of W S e.stream.0) e.what heard part → CalledAnswers W S heard object → IsEventFrom W Z S e heard part object (after W S e.stream.0 e.what)

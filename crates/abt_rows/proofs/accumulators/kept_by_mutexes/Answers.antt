@@ -5,7 +5,7 @@ use Rattle.abt_machine.specs.declared.operations.Op.TheVariants as op
 use Rattle.abt_machine.specs.declared.operations.Thing.TheVariants as thing
 use Rattle.abt_machine.specs.declared.workload.Parts.{Parts}
 use Rattle.abt_machine.specs.Numbers.{object_no}
-use Rattle.abt_rows.specs.Rows.{orders}
+use Rattle.abt_rows.specs.Rows.{stored}
 use Rattle.abt_rows.proofs.Working.{worked}
 use Rattle.abt_rows.proofs.Workloads.{based, ult_at}
 use Rattle.abt_rows.proofs.accumulators.kept_by_mutexes.Goals as goal
@@ -17,4 +17,4 @@ workload = based 0 (thing.Mutex ∷ thing.Cond (object_no 0) ∷ []) (
 
 pub returns : goal.returns
 unfolding digits
-returns c = worked workload orders 10000 27 outcome.Finished _ _ _ refl refl refl refl refl
+returns c = worked workload stored 10000 27 outcome.Finished _ _ _ refl refl refl refl refl

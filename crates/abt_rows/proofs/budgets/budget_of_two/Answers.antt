@@ -5,7 +5,7 @@ use Rattle.abt_machine.specs.declared.events.Outcome.TheVariants as outcome
 use Rattle.abt_machine.specs.declared.operations.Op.TheVariants as op
 use Rattle.abt_machine.specs.declared.workload.Parts.{Parts}
 use Rattle.abt_machine.specs.Numbers.{stream_no}
-use Rattle.abt_rows.specs.Rows.{orders}
+use Rattle.abt_rows.specs.Rows.{stored}
 use Rattle.abt_rows.proofs.Reporting.{ran, reported}
 use Rattle.abt_rows.proofs.Workloads.{based, ult_at}
 use Rattle.abt_rows.proofs.budgets.budget_of_two.Goals as goal
@@ -15,4 +15,4 @@ workload = based 0 [] (ult_at 0 (op.Say 0 ∷ op.Say 1 ∷ op.Say 2 ∷ []) ∷ 
 
 pub returns : goal.returns
 unfolding digits
-returns c = (_, reported workload orders 2 (ran workload orders 4) (outcome.Budget (stream_no 0)) _ _ refl refl refl refl)
+returns c = (_, reported workload stored 2 (ran workload stored 4) (outcome.Budget (stream_no 0)) _ _ refl refl refl refl)

@@ -2,7 +2,7 @@ use Rattle.std.proofs.Common.{[], refl}
 use Rattle.std.specs.Fmt.{digits}
 use Rattle.abt_machine.specs.declared.events.Outcome.TheVariants as outcome
 use Rattle.abt_machine.specs.declared.workload.Parts.{Parts}
-use Rattle.abt_rows.specs.Rows.{orders}
+use Rattle.abt_rows.specs.Rows.{stored}
 use Rattle.abt_rows.proofs.Working.{worked}
 use Rattle.abt_rows.proofs.Workloads.{based}
 use Rattle.abt_rows.proofs.locals.empty.Goals as goal
@@ -12,4 +12,4 @@ workload = based 0 [] [] []
 
 pub returns : goal.returns
 unfolding digits
-returns c = worked workload orders 10000 1 outcome.Finished _ _ _ refl refl refl refl refl
+returns c = worked workload stored 10000 1 outcome.Finished _ _ _ refl refl refl refl refl

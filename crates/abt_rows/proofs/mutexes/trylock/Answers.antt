@@ -5,7 +5,7 @@ use Rattle.abt_machine.specs.declared.operations.Op.TheVariants as op
 use Rattle.abt_machine.specs.declared.operations.Thing.TheVariants as thing
 use Rattle.abt_machine.specs.declared.workload.Parts.{Parts}
 use Rattle.abt_machine.specs.Numbers.{object_no}
-use Rattle.abt_rows.specs.Rows.{orders}
+use Rattle.abt_rows.specs.Rows.{stored}
 use Rattle.abt_rows.proofs.Reporting.{ran, reported}
 use Rattle.abt_rows.proofs.Workloads.{based, ult_at}
 use Rattle.abt_rows.proofs.mutexes.trylock.Goals as goal
@@ -18,4 +18,4 @@ workload = based 0 (thing.Mutex ∷ []) (
 
 pub returns : goal.returns
 unfolding digits
-returns c = (_, reported workload orders 10000 (ran workload orders 15) outcome.Finished _ _ refl refl refl refl)
+returns c = (_, reported workload stored 10000 (ran workload stored 15) outcome.Finished _ _ refl refl refl refl)

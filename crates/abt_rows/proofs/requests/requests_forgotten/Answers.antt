@@ -5,7 +5,7 @@ use Rattle.abt_machine.specs.declared.events.Outcome.TheVariants as outcome
 use Rattle.abt_machine.specs.declared.operations.Op.TheVariants as op
 use Rattle.abt_machine.specs.declared.workload.Parts.{Parts}
 use Rattle.abt_machine.specs.Numbers.{pool_no, unit_no}
-use Rattle.abt_rows.specs.Rows.{orders}
+use Rattle.abt_rows.specs.Rows.{stored}
 use Rattle.abt_rows.proofs.Working.{worked}
 use Rattle.abt_rows.proofs.Workloads.{based_on_two, ult_at}
 use Rattle.abt_rows.proofs.requests.requests_forgotten.Goals as goal
@@ -18,4 +18,4 @@ workload = based_on_two (
 
 pub returns : goal.returns
 unfolding digits
-returns c = worked workload orders 10000 23 outcome.Finished _ _ _ refl refl refl refl refl
+returns c = worked workload stored 10000 23 outcome.Finished _ _ _ refl refl refl refl refl

@@ -6,7 +6,7 @@ use Rattle.abt_machine.specs.declared.operations.Kind.TheVariants as kind
 use Rattle.abt_machine.specs.declared.operations.Rule.TheVariants as rule
 use Rattle.abt_machine.specs.declared.workload.Parts.{Parts}
 use Rattle.abt_machine.specs.Numbers.{stream_no}
-use Rattle.abt_rows.specs.Rows.{orders}
+use Rattle.abt_rows.specs.Rows.{stored}
 use Rattle.abt_rows.proofs.Working.{worked}
 use Rattle.abt_rows.proofs.Workloads.{declared, pool, sched, ult_at}
 use Rattle.abt_rows.proofs.rounds.basic.Goals as goal
@@ -19,4 +19,4 @@ workload = declared 0 (pool kind.Fifo access.Mpmc ∷ pool kind.Fifo (access.Pri
 
 pub returns : goal.returns
 unfolding digits
-returns c = worked workload orders 10000 9 outcome.Finished _ _ _ refl refl refl refl refl
+returns c = worked workload stored 10000 9 outcome.Finished _ _ _ refl refl refl refl refl

@@ -6,7 +6,7 @@ use Rattle.abt_machine.specs.declared.operations.Kind.TheVariants as kind
 use Rattle.abt_machine.specs.declared.operations.Rule.TheVariants as rule
 use Rattle.abt_machine.specs.declared.workload.Parts.{Parts}
 use Rattle.abt_machine.specs.Numbers.{stream_no}
-use Rattle.abt_rows.specs.Rows.{orders}
+use Rattle.abt_rows.specs.Rows.{stored}
 use Rattle.abt_rows.proofs.Working.{worked}
 use Rattle.abt_rows.proofs.Workloads.{declared, pool, sched}
 use Rattle.abt_rows.proofs.rounds.basic_classes.Goals as goal
@@ -16,4 +16,4 @@ workload = declared 0 (pool kind.Fifo (access.Spmc (stream_no 0)) ∷ pool kind.
 
 pub returns : goal.returns
 unfolding digits
-returns c = worked workload orders 10000 7 outcome.Finished _ _ _ refl refl refl refl refl
+returns c = worked workload stored 10000 7 outcome.Finished _ _ _ refl refl refl refl refl

@@ -5,7 +5,7 @@ use Rattle.abt_machine.specs.declared.operations.Access.TheVariants as access
 use Rattle.abt_machine.specs.declared.operations.Kind.TheVariants as kind
 use Rattle.abt_machine.specs.declared.operations.Rule.TheVariants as rule
 use Rattle.abt_machine.specs.declared.workload.Parts.{Parts}
-use Rattle.abt_rows.specs.Rows.{orders}
+use Rattle.abt_rows.specs.Rows.{stored}
 use Rattle.abt_rows.proofs.Working.{worked}
 use Rattle.abt_rows.proofs.Workloads.{declared, pool, sched, ult_at}
 use Rattle.abt_rows.proofs.rounds.deque.Goals as goal
@@ -18,4 +18,4 @@ workload = declared 0 (pool kind.Deque access.Mpmc âˆ· []) (sched rule.Prio (0 â
 
 pub returns : goal.returns
 unfolding digits
-returns c = worked workload orders 10000 7 outcome.Finished _ _ _ refl refl refl refl refl
+returns c = worked workload stored 10000 7 outcome.Finished _ _ _ refl refl refl refl refl

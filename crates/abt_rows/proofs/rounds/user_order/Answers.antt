@@ -3,7 +3,7 @@ use Rattle.std.specs.Fmt.{digits}
 use Rattle.abt_machine.specs.declared.events.Outcome.TheVariants as outcome
 use Rattle.abt_machine.specs.declared.operations.Rule.TheVariants as rule
 use Rattle.abt_machine.specs.declared.workload.Parts.{Parts}
-use Rattle.abt_rows.specs.Rows.{orders}
+use Rattle.abt_rows.specs.Rows.{stored}
 use Rattle.abt_rows.proofs.Working.{worked}
 use Rattle.abt_rows.proofs.Workloads.{declared, fifos, sched, ult_at}
 use Rattle.abt_rows.proofs.rounds.user_order.Goals as goal
@@ -16,4 +16,4 @@ workload = declared 0 (fifos 2) (sched (rule.User 0) (0 ∷ 1 ∷ []) ∷ []) []
 
 pub returns : goal.returns
 unfolding digits
-returns c = worked workload orders 10000 9 outcome.Finished _ _ _ refl refl refl refl refl
+returns c = worked workload stored 10000 9 outcome.Finished _ _ _ refl refl refl refl refl

@@ -5,7 +5,7 @@ use Rattle.abt_machine.specs.declared.operations.Op.TheVariants as op
 use Rattle.abt_machine.specs.declared.operations.Rule.TheVariants as rule
 use Rattle.abt_machine.specs.declared.workload.Parts.{Parts}
 use Rattle.abt_machine.specs.Numbers.{pool_no, unit_no}
-use Rattle.abt_rows.specs.Rows.{orders}
+use Rattle.abt_rows.specs.Rows.{stored}
 use Rattle.abt_rows.proofs.Working.{worked}
 use Rattle.abt_rows.proofs.Workloads.{declared, fifos, sched, ult_at}
 use Rattle.abt_rows.proofs.rounds.yieldto_keeps_the_round.Goals as goal
@@ -19,4 +19,4 @@ workload = declared 0 (fifos 2) (sched (rule.User 0) (0 ∷ 1 ∷ []) ∷ []) []
 
 pub returns : goal.returns
 unfolding digits
-returns c = worked workload orders 10000 14 outcome.Finished _ _ _ refl refl refl refl refl
+returns c = worked workload stored 10000 14 outcome.Finished _ _ _ refl refl refl refl refl

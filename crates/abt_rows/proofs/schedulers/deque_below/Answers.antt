@@ -5,7 +5,7 @@ use Rattle.abt_machine.specs.declared.operations.Access.TheVariants as access
 use Rattle.abt_machine.specs.declared.operations.Kind.TheVariants as kind
 use Rattle.abt_machine.specs.declared.operations.Rule.TheVariants as rule
 use Rattle.abt_machine.specs.declared.workload.Parts.{Parts}
-use Rattle.abt_rows.specs.Rows.{orders}
+use Rattle.abt_rows.specs.Rows.{stored}
 use Rattle.abt_rows.proofs.Working.{worked}
 use Rattle.abt_rows.proofs.Workloads.{declared, pool, sched, sched_at, ult_at}
 use Rattle.abt_rows.proofs.schedulers.deque_below.Goals as goal
@@ -19,4 +19,4 @@ workload = declared 0 (pool kind.Fifo access.Mpmc ∷ pool kind.Deque access.Mpm
 
 pub returns : goal.returns
 unfolding digits
-returns c = worked workload orders 10000 13 outcome.Finished _ _ _ refl refl refl refl refl
+returns c = worked workload stored 10000 13 outcome.Finished _ _ _ refl refl refl refl refl

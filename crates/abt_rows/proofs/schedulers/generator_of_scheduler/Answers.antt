@@ -4,7 +4,7 @@ use Rattle.abt_machine.specs.declared.events.Outcome.TheVariants as outcome
 use Rattle.abt_machine.specs.declared.operations.Op.TheVariants as op
 use Rattle.abt_machine.specs.declared.operations.Rule.TheVariants as rule
 use Rattle.abt_machine.specs.declared.workload.Parts.{Parts}
-use Rattle.abt_rows.specs.Rows.{orders}
+use Rattle.abt_rows.specs.Rows.{stored}
 use Rattle.abt_rows.proofs.Working.{worked}
 use Rattle.abt_rows.proofs.Workloads.{declared, fifos, sched, sched_at, ult_at}
 use Rattle.abt_rows.proofs.schedulers.generator_of_scheduler.Goals as goal
@@ -17,4 +17,4 @@ workload = declared 0 (fifos 5) (sched rule.Prio (0 ∷ []) ∷ sched (rule.Rand
 
 pub returns : goal.returns
 unfolding digits
-returns c = worked workload orders 10000 20 outcome.Finished _ _ _ refl refl refl refl refl
+returns c = worked workload stored 10000 20 outcome.Finished _ _ _ refl refl refl refl refl

@@ -3,7 +3,7 @@ use Rattle.std.specs.Fmt.{digits}
 use Rattle.abt_machine.specs.declared.events.Outcome.TheVariants as outcome
 use Rattle.abt_machine.specs.declared.operations.Rule.TheVariants as rule
 use Rattle.abt_machine.specs.declared.workload.Parts.{Parts}
-use Rattle.abt_rows.specs.Rows.{orders}
+use Rattle.abt_rows.specs.Rows.{stored}
 use Rattle.abt_rows.proofs.Working.{worked}
 use Rattle.abt_rows.proofs.Workloads.{declared, fifos, sched, sched_at, ult_at}
 use Rattle.abt_rows.proofs.schedulers.left_after_a_round.Goals as goal
@@ -16,4 +16,4 @@ workload = declared 0 (fifos 3) (sched rule.Prio (0 ∷ []) ∷ sched rule.Prio 
 
 pub returns : goal.returns
 unfolding digits
-returns c = worked workload orders 10000 12 outcome.Finished _ _ _ refl refl refl refl refl
+returns c = worked workload stored 10000 12 outcome.Finished _ _ _ refl refl refl refl refl

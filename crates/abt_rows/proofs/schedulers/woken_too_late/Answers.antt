@@ -5,7 +5,7 @@ use Rattle.abt_machine.specs.declared.events.Outcome.TheVariants as outcome
 use Rattle.abt_machine.specs.declared.operations.Op.TheVariants as op
 use Rattle.abt_machine.specs.declared.workload.Parts.{Parts}
 use Rattle.abt_machine.specs.Numbers.{unit_no}
-use Rattle.abt_rows.specs.Rows.{orders}
+use Rattle.abt_rows.specs.Rows.{stored}
 use Rattle.abt_rows.proofs.Reporting.{ran, reported}
 use Rattle.abt_rows.proofs.Workloads.{sched_at, stacked_on_two, ult_at}
 use Rattle.abt_rows.proofs.schedulers.woken_too_late.Goals as goal
@@ -19,4 +19,4 @@ workload = stacked_on_two (
 
 pub returns : goal.returns
 unfolding digits
-returns c = (_, reported workload orders 10000 (ran workload orders 15) outcome.Stuck _ _ refl refl refl refl)
+returns c = (_, reported workload stored 10000 (ran workload stored 15) outcome.Stuck _ _ refl refl refl refl)

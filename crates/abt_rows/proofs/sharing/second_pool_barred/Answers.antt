@@ -6,7 +6,7 @@ use Rattle.abt_machine.specs.declared.operations.Kind.TheVariants as kind
 use Rattle.abt_machine.specs.declared.operations.Rule.TheVariants as rule
 use Rattle.abt_machine.specs.declared.workload.Parts.{Parts}
 use Rattle.abt_machine.specs.Numbers.{stream_no}
-use Rattle.abt_rows.specs.Rows.{orders}
+use Rattle.abt_rows.specs.Rows.{stored}
 use Rattle.abt_rows.proofs.Working.{worked-at}
 use Rattle.abt_rows.proofs.Workloads.{declared_for, pool, sched, sched_at}
 use Rattle.abt_rows.proofs.sharing.second_pool_barred.Goals as goal
@@ -19,4 +19,4 @@ workload = declared_for 2 0 (pool kind.Fifo access.Mpmc ∷ pool kind.Fifo (acce
 
 pub returns : goal.returns
 unfolding digits
-returns c = worked-at workload orders 10000 ((1, 0) ∷ (1, 1) ∷ (2, 0) ∷ (3, 0) ∷ (4, 0) ∷ []) outcome.Finished _ _ _ refl refl refl refl refl refl
+returns c = worked-at workload stored 10000 ((1, 0) ∷ (1, 1) ∷ (2, 0) ∷ (3, 0) ∷ (4, 0) ∷ []) outcome.Finished _ _ _ refl refl refl refl refl refl

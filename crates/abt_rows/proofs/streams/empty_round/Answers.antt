@@ -8,7 +8,7 @@ use Rattle.abt_machine.specs.declared.operations.Rule.TheVariants as rule
 use Rattle.abt_machine.specs.declared.operations.Thing.TheVariants as thing
 use Rattle.abt_machine.specs.declared.workload.Parts.{Parts}
 use Rattle.abt_machine.specs.Numbers.{object_no, pool_no, stream_no, unit_no}
-use Rattle.abt_rows.specs.Rows.{orders}
+use Rattle.abt_rows.specs.Rows.{stored}
 use Rattle.abt_rows.proofs.Reporting.{ran_in_turn, reported}
 use Rattle.abt_rows.proofs.Workloads.{declared_for, pool, sched, ult_at, ult_later}
 use Rattle.abt_rows.proofs.streams.empty_round.Goals as goal
@@ -23,4 +23,4 @@ workload = declared_for 2 0 (pool kind.Fifo (access.Priv (stream_no 0)) ∷ pool
 
 pub returns : goal.returns
 unfolding digits
-returns c = (_, reported workload orders 10000 (ran_in_turn workload orders (replicate 2 1 ++ replicate 8 0 ++ replicate 10 1)) outcome.Finished _ _ refl refl refl refl)
+returns c = (_, reported workload stored 10000 (ran_in_turn workload stored (replicate 2 1 ++ replicate 8 0 ++ replicate 10 1)) outcome.Finished _ _ refl refl refl refl)

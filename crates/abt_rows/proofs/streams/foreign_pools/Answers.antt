@@ -5,7 +5,7 @@ use Rattle.abt_machine.specs.declared.events.Outcome.TheVariants as outcome
 use Rattle.abt_machine.specs.declared.operations.Op.TheVariants as op
 use Rattle.abt_machine.specs.declared.workload.Parts.{Parts}
 use Rattle.abt_machine.specs.Numbers.{pool_no, stream_no, unit_no}
-use Rattle.abt_rows.specs.Rows.{orders}
+use Rattle.abt_rows.specs.Rows.{stored}
 use Rattle.abt_rows.proofs.Reporting.{ran_in_turn, reported}
 use Rattle.abt_rows.proofs.Workloads.{fenced, ult_at, ult_later}
 use Rattle.abt_rows.proofs.streams.foreign_pools.Goals as goal
@@ -19,4 +19,4 @@ workload = fenced (
 
 pub returns : goal.returns
 unfolding digits
-returns c = (_, reported workload orders 10000 (ran_in_turn workload orders (replicate 11 0 ++ replicate 2 1)) outcome.Finished _ _ refl refl refl refl)
+returns c = (_, reported workload stored 10000 (ran_in_turn workload stored (replicate 11 0 ++ replicate 2 1)) outcome.Finished _ _ refl refl refl refl)

@@ -5,7 +5,7 @@ use Rattle.abt_machine.specs.declared.events.Outcome.TheVariants as outcome
 use Rattle.abt_machine.specs.declared.operations.Op.TheVariants as op
 use Rattle.abt_machine.specs.declared.workload.Parts.{Parts}
 use Rattle.abt_machine.specs.Numbers.{unit_no}
-use Rattle.abt_rows.specs.Rows.{orders}
+use Rattle.abt_rows.specs.Rows.{stored}
 use Rattle.abt_rows.proofs.Reporting.{ran, reported}
 use Rattle.abt_rows.proofs.Workloads.{based, ult_at}
 use Rattle.abt_rows.proofs.units.join.Goals as goal
@@ -18,4 +18,4 @@ workload = based 0 [] (
 
 pub returns : goal.returns
 unfolding digits
-returns c = (_, reported workload orders 10000 (ran workload orders 13) outcome.Finished _ _ refl refl refl refl)
+returns c = (_, reported workload stored 10000 (ran workload stored 13) outcome.Finished _ _ refl refl refl refl)

@@ -1,0 +1,17 @@
+use Rattle.std.proofs.Common.{[], ◌∷◌, refl}
+use Rattle.std.specs.Fmt.{digits}
+use Rattle.abt_machine.specs.declared.events.Outcome.TheVariants as outcome
+use Rattle.abt_machine.specs.declared.operations.Op.TheVariants as op
+use Rattle.abt_machine.specs.declared.workload.Parts.{Parts}
+use Rattle.abt_machine.specs.Numbers.{unit_no}
+use Rattle.abt_rows.specs.Rows.{stored}
+use Rattle.abt_rows.proofs.Working.{worked}
+use Rattle.abt_rows.proofs.Workloads.{based, ult_at}
+use Rattle.abt_rows.proofs.calls.cancelled_before_its_call.Goals as goal
+
+abbrev workload : Parts
+workload = based 2 [] (ult_at 0 (op.Cancel (unit_no 1) ∷ []) ∷ ult_at 0 (op.Call 0 ∷ op.Print ∷ []) ∷ []) []
+
+pub returns : goal.returns
+unfolding digits
+returns c = worked workload stored 10000 8 outcome.Finished _ _ _ refl refl refl refl refl
