@@ -143,7 +143,8 @@ reached-declared W u valid (Starts _ p start) = elim (cases_lt u (length W.units
 reached-declared W u valid (Created _ v k p reached is) = create-declared W v k (unit_no u) p valid is
 
 -- one more unit of the list
-pub closed-more : (W : Parts) (units new_units : List UnitNo) (marks new_marks : List Bool) (at : ℕ) (u : UnitNo) → Grows units marks new_units new_marks → at < length units → slice_get units at ≡ Some u →
+pub closed-more : (W : Parts) (units new_units : List UnitNo) (marks new_marks : List Bool) (at : ℕ) (u : UnitNo) → Grows units marks new_units new_marks → at < length units →
+    slice_get units at ≡ Some u →
     IsClosedBelow W units marks at → Closes W new_marks u.0 → IsClosedBelow W new_units new_marks (at + 1)
 closed-more W units new_units marks new_marks at u grows l is below closes i v m here =
     let was : slice_get units i ≡ Some v = sym (grows.kept i (omega arith)) ∙ here in

@@ -9,6 +9,7 @@ mod Goes
 mod Keys
 mod Marks
 mod Moving
+mod PutOut
 mod Rows
 mod Runs
 mod Running

@@ -4,6 +4,7 @@ use Rattle.std.specs.Prelude.{Contains, MatchOption, slice_get}
 use Rattle.std.proofs.lemmas.Bool.{cases_eq}
 use Rattle.std.proofs.lemmas.List.Sums.{sum_by-set}
 use Rattle.std.proofs.lemmas.Option.{get_or_from_slice_get, slice_get-get_or, slice_get_within}
+use Rattle.abt_machine.specs.declared.grammar.Format.TheVariants as format
 use Rattle.abt_machine.specs.declared.numbers.ObjectNo.{ObjectNo}
 use Rattle.abt_machine.specs.declared.numbers.UnitNo.{UnitNo}
 use Rattle.abt_machine.specs.declared.operations.Op.{Op}
@@ -20,7 +21,7 @@ use Rattle.abt_laws.proofs.Options.{none≢some, some-injective}
 use Rattle.abt_flow.specs.declared.memory.Progress.{Progress}
 use Rattle.abt_flow.specs.declared.table.Table.{Table}
 use Rattle.abt_flow.specs.Effects.{effect}
-use Rattle.abt_flow.specs.Flow.{AtPoint, IsReached, Becomes}
+use Rattle.abt_flow.specs.Flow.{AtPoint, Becomes, Functions, IsReached}
 use Rattle.abt_flow.specs.Tables.{FollowsFlow, IsNextOperation, HasNoneLeft, Rests, UnitRuns, executed, memory_in}
 use Rattle.abt_flow.proofs.Finds.{reached-declared}
 use Rattle.abt_flow.proofs.Points.{HasValue, point-next, points-within, value-within}
@@ -50,33 +51,37 @@ read-at xs k x l e = slice_get-get_or xs k x l ∙ ap (λ y. Some y) (sym e)
 
 -- What there is.
 
-pub unit-there : (W : Parts) (u : ℕ) (t : Table) → IsValid W → IsReached W u → UnitRuns W u t → u < length t.units.items
-unit-there W u t valid reached runs = let l : u < length W.units = reached-declared W u valid reached in let e = runs.follows.all in omega arith
+pub unit-there : {W : Parts} {R : Functions} {u : ℕ} {t : Table} → IsValid W → IsReached W u → UnitRuns W R u t → u < length t.units.items
+unit-there {W = W} {u = u} valid reached runs = let l : u < length W.units = reached-declared W u valid reached in let e = runs.follows.all in omega arith
 
-pub unit-read : (W : Parts) (u : ℕ) (t : Table) (p : Progress) → IsValid W → IsReached W u → UnitRuns W u t → p ≡ get_or t.units.items u p → slice_get t.units.items u ≡ Some p
-unit-read W u t p valid reached runs e = read-at t.units.items u p (unit-there W u t valid reached runs) e
+pub unit-read : {W : Parts} {R : Functions} {u : ℕ} {t : Table} {p : Progress} → IsValid W → IsReached W u → UnitRuns W R u t → p ≡ get_or t.units.items u p → slice_get t.units.items u ≡ Some p
+unit-read {u = u} {t = t} {p = p} valid reached runs e = read-at t.units.items u p (unit-there valid reached runs) e
 
 -- the eventual that the next operation names
-eventual-there : (W : Parts) (u : ℕ) (t : Table) (x : ObjectNo) (o : Op) → (IsDeclared W o → IsEventual W x.0) → IsValid W → IsReached W u → UnitRuns W u t → IsNextOperation W t.units.items u o → x.0 < length W.objects
-eventual-there W u t x o names valid reached runs next =
-    let is : (p : Progress) × (slice_get t.units.items u ≡ Some p) = get-some t.units.items u (unit-there W u t valid reached runs) in
+eventual-there : {W : Parts} {R : Functions} {u : ℕ} {t : Table} (x : ObjectNo) (o : Op) → (IsDeclared W o → IsEventual W x.0) → IsValid W → IsReached W u → UnitRuns W R u t →
+    IsNextOperation W t.units.items u o → x.0 < length W.objects
+eventual-there {W = W} {u = u} {t = t} x o names valid reached runs next =
+    let is : (p : Progress) × (slice_get t.units.items u ≡ Some p) = get-some t.units.items u (unit-there valid reached runs) in
     slice_get_within W.objects x.0 thing.Eventual (names (op-declared W u is.0.position o valid (next is.0 is.1)))
 
-pub wait-there : (W : Parts) (u : ℕ) (t : Table) (x : ObjectNo) → IsValid W → IsReached W u → UnitRuns W u t → IsNextOperation W t.units.items u (op.EvWait x) → x.0 < length W.objects
-wait-there W u t x = eventual-there W u t x (op.EvWait x) (λ declared. declared)
+pub wait-there : {W : Parts} {R : Functions} {u : ℕ} {t : Table} {x : ObjectNo} → IsValid W → IsReached W u → UnitRuns W R u t → IsNextOperation W t.units.items u (op.EvWait x) →
+    x.0 < length W.objects
+wait-there {x = x} = eventual-there x (op.EvWait x) (λ declared. declared)
 
-pub set-there : (W : Parts) (u : ℕ) (t : Table) (x : ObjectNo) → IsValid W → IsReached W u → UnitRuns W u t → IsNextOperation W t.units.items u (op.EvSet x) → x.0 < length W.objects
-set-there W u t x = eventual-there W u t x (op.EvSet x) (λ declared. declared)
+pub set-there : {W : Parts} {R : Functions} {u : ℕ} {t : Table} {x : ObjectNo} → IsValid W → IsReached W u → UnitRuns W R u t → IsNextOperation W t.units.items u (op.EvSet x) → x.0 < length W.objects
+set-there {x = x} = eventual-there x (op.EvSet x) (λ declared. declared)
 
-pub position-few : (W : Parts) (u : ℕ) (t : Table) (p : Progress) → IsValid W → IsReached W u → UnitRuns W u t → slice_get t.units.items u ≡ Some p → p.position ≤ unit_operation_limit
-position-few W u t p valid reached runs at =
+pub position-few : {W : Parts} {R : Functions} {u : ℕ} {t : Table} {p : Progress} → IsValid W → IsReached W u → UnitRuns W R u t → slice_get t.units.items u ≡ Some p →
+    p.position ≤ unit_operation_limit format.Three
+position-few {W = W} {u = u} {p = p} valid reached runs at =
     let l : u < length W.units = reached-declared W u valid reached in
-    let few : length (ops_of (body_at W u)) ≤ unit_operation_limit = few-unit-ops W u valid in
+    let few : length (ops_of (body_at W u)) ≤ unit_operation_limit format.Three = few-unit-ops W u valid in
     let within = runs.follows.within u p at in omega arith
 
 -- One more operation.
 
-module _ (W : Parts) (u : ℕ) (reached : IsReached W u) (units : List Progress) (values : List (Option ℕ)) (follows : FollowsFlow W units values) (p q : Progress) (at : slice_get units u ≡ Some p) (o : Op) (is : op_at W u p.position ≡ Some o) (pos : q.position ≡ p.position + 1) where
+module _ {W : Parts} {R : Functions} {u : ℕ} (reached : IsReached W u) {units : List Progress} {values : List (Option ℕ)} (follows : FollowsFlow W R units values) {p : Progress} (q : Progress)
+    (at : slice_get units u ≡ Some p) {o : Op} (is : op_at W u p.position ≡ Some o) (pos : q.position ≡ p.position + 1) where
   abbrev pub news : List Progress
   news = set units u q
 
@@ -91,18 +96,18 @@ module _ (W : Parts) (u : ℕ) (reached : IsReached W u) (units : List Progress)
   was : (v : ℕ) (r : Progress) → v ≢ u → slice_get news v ≡ Some r → slice_get units v ≡ Some r
   was v r other e = sym (get-other units u v q other) ∙ e
 
-  pub rests-still : (v : ℕ) → v ≢ u → Rests W units values v → Rests W news values v
+  pub rests-still : (v : ℕ) → v ≢ u → Rests W R units values v → Rests W R news values v
   rests-still v other rests r e = rests r (was v r other e)
 
   module _ (new_values : List (Option ℕ)) (all : length new_values ≡ length W.objects) (keeps : (x : ℕ) → slice_get new_values x ≡ Some None → slice_get values x ≡ Some None)
-      (found : (x n : ℕ) → slice_get new_values x ≡ Some (Some n) → HasValue W (executed units + 1) x n) (unset : (x : ℕ) → o ≡ op.EvSet (object_no x) → slice_get new_values x ≡ Some None → ⊥)
-      (leads : Becomes (HasValue W (executed units)) (effect o) (memory_in p) (memory_in q)) where
-    made-here : AtPoint W (suc (executed news)) u q.position (memory_in q)
+      (found : (x n : ℕ) → slice_get new_values x ≡ Some (Some n) → HasValue W R (executed units + 1) x n) (unset : (x : ℕ) → o ≡ op.EvSet (object_no x) → slice_get new_values x ≡ Some None → ⊥)
+      (leads : Becomes R u (HasValue W R (executed units)) (effect o) (memory_in p) (memory_in q)) where
+    made-here : AtPoint W R (suc (executed news)) u q.position (memory_in q)
     made-here =
-        let next : AtPoint W (suc (executed units)) u (suc p.position) (memory_in q) = point-next W (executed units) u p.position o (memory_in p) (memory_in q) is (follows.made u p at) leads in
+        let next : AtPoint W R (suc (executed units)) u (suc p.position) (memory_in q) = point-next W R (executed units) u p.position o (memory_in p) (memory_in q) is (follows.made u p at) leads in
         let e : suc p.position ≡ q.position = omega arith in
         let m = one-more in
-        subst (λ k. AtPoint W (suc (executed news)) u k (memory_in q)) e (points-within W (suc (executed units)) (suc (executed news)) u (suc p.position) (memory_in q) (omega arith) next)
+        subst (λ k. AtPoint W R (suc (executed news)) u k (memory_in q)) e (points-within W R (suc (executed units)) (suc (executed news)) u (suc p.position) (memory_in q) (omega arith) next)
 
     inside : q.position ≤ length (ops_of (body_at W u))
     inside = let l : p.position < length (ops_of (body_at W u)) = slice_get_within (ops_of (body_at W u)) p.position o is in omega arith
@@ -114,14 +119,15 @@ module _ (W : Parts) (u : ℕ) (reached : IsReached W u) (units : List Progress)
           | inr before ↦ follows.set u p j x at (omega arith) sets (keeps x none)
         ]
 
-    pub goes-on : FollowsFlow W news new_values
+    pub goes-on : FollowsFlow W R news new_values
     goes-on = record {
       all = length-set units u q ∙ follows.all;
       values_all = all;
       made = λ v r e. elim (cases_eq v u) [
         | inl same ↦ (let f : slice_get news u ≡ Some r = subst (λ n. slice_get news n ≡ Some r) same e in
-            subst (λ n. AtPoint W (suc (executed news)) n r.position (memory_in r)) (sym same) (subst (λ (x : Progress). AtPoint W (suc (executed news)) u x.position (memory_in x)) (is-new r f) made-here))
-        | inr other ↦ (let m = one-more in points-within W (suc (executed units)) (suc (executed news)) v r.position (memory_in r) (omega arith) (follows.made v r (was v r other e)))
+            subst (λ n. AtPoint W R (suc (executed news)) n r.position (memory_in r)) (sym same)
+            (subst (λ (x : Progress). AtPoint W R (suc (executed news)) u x.position (memory_in x)) (is-new r f) made-here))
+        | inr other ↦ (let m = one-more in points-within W R (suc (executed units)) (suc (executed news)) v r.position (memory_in r) (omega arith) (follows.made v r (was v r other e)))
       ];
       within = λ v r e. elim (cases_eq v u) [
         | inl same ↦ (let f : slice_get news u ≡ Some r = subst (λ n. slice_get news n ≡ Some r) same e in
@@ -129,7 +135,7 @@ module _ (W : Parts) (u : ℕ) (reached : IsReached W u) (units : List Progress)
         | inr other ↦ follows.within v r (was v r other e)
       ];
       reached = λ v r e l. elim (cases_eq v u) [ inl same ↦ subst (IsReached W) (sym same) reached | inr other ↦ follows.reached v r (was v r other e) l ];
-      found = λ x n e. value-within W (executed units + 1) (executed news) x n (let m = one-more in let l : executed units + 1 ≤ executed news = omega arith in l) (found x n e);
+      found = λ x n e. value-within W R (executed units + 1) (executed news) x n (let m = one-more in let l : executed units + 1 ≤ executed news = omega arith in l) (found x n e);
       set = λ v r j x e l sets none. elim (cases_eq v u) [
         | inl same ↦ (let f : slice_get news u ≡ Some r = subst (λ n. slice_get news n ≡ Some r) same e in
             set-here j x (subst (λ (y : Progress). j < y.position) (sym (is-new r f)) l) (subst (λ n. op_at W n j ≡ Some (op.EvSet (object_no x))) same sets) none)
@@ -138,13 +144,16 @@ module _ (W : Parts) (u : ℕ) (reached : IsReached W u) (units : List Progress)
     }
 
   -- if no value is set
-  pub goes-same : ((x : ℕ) → o ≡ op.EvSet (object_no x) → ⊥) → Becomes (HasValue W (executed units)) (effect o) (memory_in p) (memory_in q) → FollowsFlow W news values
-  goes-same no_set leads = goes-on values follows.values_all (λ x e. e) (λ x n e. value-within W (executed units) (executed units + 1) x n (omega arith) (follows.found x n e)) (λ x e none. no_set x e) leads
+  pub goes-same : ((x : ℕ) → o ≡ op.EvSet (object_no x) → ⊥) → Becomes R u (HasValue W R (executed units)) (effect o) (memory_in p) (memory_in q) → FollowsFlow W R news values
+  goes-same no_set leads = goes-on values follows.values_all (λ x e. e) (λ x n e. value-within W R (executed units) (executed units + 1) x n (omega arith) (follows.found x n e))
+      (λ x e none. no_set x e) leads
 
-  pub others-same : (ready : List UnitNo) → ((v : ℕ) → v ≢ u → IsReached W v → Contains ready (unit_no v) ⊎ Rests W units values v) → (v : ℕ) → v ≢ u → IsReached W v → Contains ready (unit_no v) ⊎ Rests W news values v
+  pub others-same : (ready : List UnitNo) → ((v : ℕ) → v ≢ u → IsReached W v → Contains ready (unit_no v) ⊎ Rests W R units values v) → (v : ℕ) → v ≢ u → IsReached W v → Contains ready
+      (unit_no v) ⊎ Rests W R news values v
   others-same ready others v other r = elim (others v other r) [ inl a ↦ inl a | inr b ↦ inr (rests-still v other b) ]
 
 -- the next operation, if it was looked for
-pub next-is : (W : Parts) (units : List Progress) (u : ℕ) (p : Progress) → slice_get units u ≡ Some p → (o : Option Op) → o ≡ op_at W u p.position → MatchOption o (HasNoneLeft W units u) (IsNextOperation W units u)
+pub next-is : (W : Parts) (units : List Progress) (u : ℕ) (p : Progress) → slice_get units u ≡ Some p → (o : Option Op) → o ≡ op_at W u p.position → MatchOption o (HasNoneLeft W units u)
+    (IsNextOperation W units u)
 next-is W units u p at None e = λ q here. subst (λ (r : Progress). op_at W u r.position ≡ None) (some-injective (sym at ∙ here)) (sym e)
 next-is W units u p at (Some o) e = λ q here. subst (λ (r : Progress). op_at W u r.position ≡ Some o) (some-injective (sym at ∙ here)) (sym e)

@@ -27,7 +27,7 @@ use Rattle.abt_laws.proofs.Standing.{StandsIn, each-stands}
 use Rattle.abt_flow.specs.Confluent.{Confluent}
 use Rattle.abt_flow.specs.Effects.{Memory}
 use Rattle.abt_flow.specs.Effects as flow
-use Rattle.abt_flow.specs.Flow.{AtPoint}
+use Rattle.abt_flow.specs.Flow.{AtPoint, Functions}
 use Rattle.abt_flow.proofs.Moving.{before, carries, carries-here, carries-there, elsewhere, others-tell, went}
 use Rattle.abt_flow.proofs.Points.{point-next, points-within}
 use Rattle.abt_flow.proofs.Stepping.{Stepped}
@@ -44,7 +44,8 @@ among-received S n [] v k = k
 among-received S n (u ∷ us) v (inl e) = inl e
 among-received S n (u ∷ us) v (inr k) = inr (among-received S n us v k)
 
-module _ (W : Parts) (valid : IsValid W) (confluent : Confluent W) (t : ℕ) (S : State) (flowing : Flowing W t S) (s u : ℕ) (held : S.place u ≡ place.Hand (stream_no s)) (x : ObjectNo) (is : op_at W u (S.carried u).position ≡ Some (op.EvSet x)) where
+module _ (W : Parts) (R : Functions) (valid : IsValid W) (confluent : Confluent W) (t : ℕ) (S : State) (flowing : Flowing W R t S) (s u : ℕ) (held : S.place u ≡ place.Hand (stream_no s))
+    (x : ObjectNo) (is : op_at W u (S.carried u).position ≡ Some (op.EvSet x)) where
   abbrev acc : ℕ
   acc = (S.carried u).acc
 
@@ -54,7 +55,7 @@ module _ (W : Parts) (valid : IsValid W) (confluent : Confluent W) (t : ℕ) (S 
     by : (o : Option ℕ) → S.eventual x.0 ≡ o → o ≡ None
     by None e = refl
     by (Some n) e =
-        let set : IsSet W t S x.0 n = flowing.values x.0 n e in
+        let set : IsSet W R t S x.0 n = flowing.values x.0 n e in
         let same : (set.setter ≡ u) × (set.at ≡ (S.carried u).position) = confluent.sets_once set.setter u set.at (S.carried u).position x set.sets is in
         let behind : set.at < (S.carried u).position = subst (λ k. set.at < (S.carried k).position) same.0 set.behind in
         let here : set.at ≡ (S.carried u).position = same.1 in absurd (omega arith)
@@ -62,33 +63,33 @@ module _ (W : Parts) (valid : IsValid W) (confluent : Confluent W) (t : ℕ) (S 
   pub set-ok : code_of W S s u (op.EvSet x) ≡ code.Ok
   set-ok = ap (λ o. unless (is_none o) code.EventualSet code.Ok) unset
 
-  own : Before W t u (S.carried u)
-  own = before W t S flowing s u held (op.EvSet x) is
+  own : Before W R t u (S.carried u)
+  own = before W R t S flowing s u held (op.EvSet x) is
 
   abbrev waiters : List ℕ
   waiters = standing W S (Waiting x.0)
 
   abbrev keeps : ℕ → Carried
-  keeps = carries W t S flowing s u held (op.EvSet x) is (S.carried u) refl
+  keeps = carries W R t S flowing s u held (op.EvSet x) is (S.carried u) refl
 
   abbrev then : State
   then = changed S (op_row W S s u (op.EvSet x))
 
   -- a unit that waits gets the value
-  waiter-told : (v : ℕ) → Waits W t v x.0 (S.carried v) → Before W (suc t) v (with_acc acc (S.carried v))
+  waiter-told : (v : ℕ) → Waits W R t v x.0 (S.carried v) → Before W R (suc t) v (with_acc acc (S.carried v))
   waiter-told v (inl h) = absurd (h.0 (op-declared W u (S.carried u).position (op.EvSet x) valid is))
   waiter-told v (inr h) =
       let old : Memory = memory_of (S.carried v) in
-      let made : AtPoint W (suc (suc t)) v (suc h.at) (flow.with_acc acc old) =
-      point-next W (suc t) v h.at (op.EvWait x) old (flow.with_acc acc old) h.waits (points-within W (suc t) (suc (suc t)) v h.at old (omega arith) h.made)
+      let made : AtPoint W R (suc (suc t)) v (suc h.at) (flow.with_acc acc old) =
+      point-next W R (suc t) v h.at (op.EvWait x) old (flow.with_acc acc old) h.waits (points-within W R (suc t) (suc (suc t)) v h.at old (omega arith) h.made)
       (acc, (u, (S.carried u).position, memory_of (S.carried u), own.0, is, own.1, refl), refl) in
-      (h.reached, subst (λ k. AtPoint W (suc (suc t)) v k (flow.with_acc acc old)) (sym h.position) made)
+      (h.reached, subst (λ k. AtPoint W R (suc (suc t)) v k (flow.with_acc acc old)) (sym h.position) made)
 
   waiter-other : (v : ℕ) → StandsIn W S (Waiting x.0) v → v ≢ u
-  waiter-other v stands = elsewhere W t S flowing s u held (op.EvSet x) is v (place.Blocked (spot.Object x) stands.ticket) stands.at (λ e. cc)
+  waiter-other v stands = elsewhere W R t S flowing s u held (op.EvSet x) is v (place.Blocked (spot.Object x) stands.ticket) stands.at (λ e. cc)
 
-  waiter-tells : (v : ℕ) → StandsIn W S (Waiting x.0) v → Before W (suc t) v (with_acc acc (S.carried v))
-  waiter-tells v stands = waiter-told v (subst (Tells W t v (S.carried v)) stands.at (flowing.units v))
+  waiter-tells : (v : ℕ) → StandsIn W S (Waiting x.0) v → Before W R (suc t) v (with_acc acc (S.carried v))
+  waiter-tells v stands = waiter-told v (subst (Tells W R t v (S.carried v)) stands.at (flowing.units v))
 
   -- what a waiter has afterwards
   given : (v : ℕ) → Among v waiters → then.carried v ≡ with_acc acc (S.carried v)
@@ -103,46 +104,50 @@ module _ (W : Parts) (valid : IsValid W) (confluent : Confluent W) (t : ℕ) (S 
   own-not_waiting : Among u waiters → ⊥
   own-not_waiting among = EachOf-among (λ v. v ≢ u) waiters u (EachOf-then (StandsIn W S (Waiting x.0)) (λ v. v ≢ u) waiters waiter-other (each-stands W S (Waiting x.0))) among refl
 
-  went-on : Tells W (suc t) u (keeps u) (S.place u)
+  went-on : Tells W R (suc t) u (keeps u) (S.place u)
   went-on =
-      subst (λ d. Tells W (suc t) u d (S.place u)) (sym (carries-here W t S flowing s u held (op.EvSet x) is (S.carried u) refl))
-      (subst (Tells W (suc t) u (advanced (S.carried u))) (sym held) (went W t S flowing s u held (op.EvSet x) is (S.carried u) refl refl))
+      subst (λ d. Tells W R (suc t) u d (S.place u)) (sym (carries-here W R t S flowing s u held (op.EvSet x) is (S.carried u) refl))
+      (subst (Tells W R (suc t) u (advanced (S.carried u))) (sym held) (went W R t S flowing s u held (op.EvSet x) is (S.carried u) refl refl))
 
-  not-woken : (n : ℕ) → Tells W (suc t) n (keeps n) (S.place n)
+  not-woken : (n : ℕ) → Tells W R (suc t) n (keeps n) (S.place n)
   not-woken n =
       elim (cases_eq n u) [
-        | inl same ↦ subst (λ k. Tells W (suc t) k (keeps k) (S.place k)) (sym same) went-on
-        | inr away ↦ others-tell W t S flowing s u held (op.EvSet x) is (S.carried u) refl n away
+        | inl same ↦ subst (λ k. Tells W R (suc t) k (keeps k) (S.place k)) (sym same) went-on
+        | inr away ↦ others-tell W R t S flowing s u held (op.EvSet x) is (S.carried u) refl n away
       ]
 
   abbrev moves : List (ℕ × Place)
   moves = to_tray W S s waiters
 
-  woken : (v k : ℕ) → Before W (suc t) v (with_acc acc (S.carried v)) → Among v waiters → Tells W (suc t) v (then.carried v) (place.Tray (stream_no s) k)
-  woken v k b among = subst (Before W (suc t) v) (sym (given v among)) b
+  woken : (v k : ℕ) → Before W R (suc t) v (with_acc acc (S.carried v)) → Among v waiters → Tells W R (suc t) v (then.carried v) (place.Tray (stream_no s) k)
+  woken v k b among = subst (Before W R (suc t) v) (sym (given v among)) b
 
-  tell : (n : ℕ) → Tells W (suc t) n (then.carried n) (then.place n)
+  tell : (n : ℕ) → Tells W R (suc t) n (then.carried n) (then.place n)
   tell n =
       elim (KeyOf-cases n moves) [
         | inl key ↦ (let among : Among n waiters = tray_moves-among s (tray_end W S s) waiters n key in
-            let b : Before W (suc t) n (with_acc acc (S.carried n)) = EachOf-among (λ v. Before W (suc t) v (with_acc acc (S.carried v))) waiters n (EachOf-then (StandsIn W S (Waiting x.0)) (λ v. Before W (suc t) v (with_acc acc (S.carried v))) waiters waiter-tells (each-stands W S (Waiting x.0))) among in
-            put_all-value (λ v pl. v ≡ n → Tells W (suc t) n (then.carried n) pl) S.place moves n
-            (tray_moves-each (λ (m : ℕ × Place). m.0 ≡ n → Tells W (suc t) n (then.carried n) m.1) (λ _. Unit {0}) s (tray_end W S s) waiters (λ v k _ _. woken n k b among) (EachOf-all (λ _. Unit {0}) waiters (λ _. tt))) key refl)
-        | inr out ↦ subst (Tells W (suc t) n (then.carried n)) (sym (put_all-other S.place moves n out))
-            (subst (λ d. Tells W (suc t) n d (S.place n)) (sym (not-given n (λ among. out (tray_moves-key s (tray_end W S s) waiters n among)))) (not-woken n))
+            let b : Before W R (suc t) n (with_acc acc (S.carried n)) = EachOf-among (λ v. Before W R (suc t) v (with_acc acc (S.carried v))) waiters n
+            (EachOf-then (StandsIn W S (Waiting x.0)) (λ v. Before W R (suc t) v (with_acc acc (S.carried v))) waiters waiter-tells (each-stands W S (Waiting x.0))) among in
+            put_all-value (λ v pl. v ≡ n → Tells W R (suc t) n (then.carried n) pl) S.place moves n
+            (tray_moves-each (λ (m : ℕ × Place). m.0 ≡ n → Tells W R (suc t) n (then.carried n) m.1) (λ _. Unit {0}) s (tray_end W S s) waiters (λ v k _ _. woken n k b among)
+            (EachOf-all (λ _. Unit {0}) waiters (λ _. tt))) key refl)
+        | inr out ↦ subst (Tells W R (suc t) n (then.carried n)) (sym (put_all-other S.place moves n out))
+            (subst (λ d. Tells W R (suc t) n d (S.place n)) (sym (not-given n (λ among. out (tray_moves-key s (tray_end W S s) waiters n among)))) (not-woken n))
       ]
 
   position-of : (n : ℕ) → n ≢ u → (then.carried n).position ≡ (S.carried n).position
   position-of n away =
       put_all-kept (λ k (c : Carried). k ≢ u → c.position ≡ (S.carried k).position) keeps (map (receives S acc) waiters) n
       (EachOf-map (λ (m : ℕ × Carried). m.0 ≢ u → m.1.position ≡ (S.carried m.0).position) (λ _. Unit {0}) (receives S acc) waiters (λ k _ _. refl) (EachOf-all (λ _. Unit {0}) waiters (λ _. tt)))
-      (λ out. ap (λ (c : Carried). c.position) (carries-there W t S flowing s u held (op.EvSet x) is (S.carried u) refl n out)) away
+      (λ out. ap (λ (c : Carried). c.position) (carries-there W R t S flowing s u held (op.EvSet x) is (S.carried u) refl n out)) away
 
   own-position : (then.carried u).position ≡ suc (S.carried u).position
-  own-position = ap (λ (c : Carried). c.position) (not-given u own-not_waiting) ∙ ap (λ (c : Carried). c.position) (carries-here W t S flowing s u held (op.EvSet x) is (S.carried u) refl)
+  own-position = ap (λ (c : Carried). c.position) (not-given u own-not_waiting) ∙ ap (λ (c : Carried). c.position) (carries-here W R t S flowing s u held (op.EvSet x) is (S.carried u) refl)
 
   were-unborn : (n : ℕ) → then.place n ≡ place.Unborn → S.place n ≡ place.Unborn
-  were-unborn n = put_all-kept (λ k pl. pl ≡ place.Unborn → S.place k ≡ place.Unborn) S.place moves n (tray_moves-each (λ (m : ℕ × Place). m.1 ≡ place.Unborn → S.place m.0 ≡ place.Unborn) (λ _. Unit {0}) s (tray_end W S s) waiters (λ v k _ e. cc) (EachOf-all (λ _. Unit {0}) waiters (λ _. tt))) (λ e. e)
+  were-unborn n = put_all-kept (λ k pl. pl ≡ place.Unborn → S.place k ≡ place.Unborn) S.place moves n
+      (tray_moves-each (λ (m : ℕ × Place). m.1 ≡ place.Unborn → S.place m.0 ≡ place.Unborn) (λ _. Unit {0}) s (tray_end W S s) waiters (λ v k _ e. cc)
+      (EachOf-all (λ _. Unit {0}) waiters (λ _. tt))) (λ e. e)
 
   still : (n : ℕ) → S.place n ≡ place.Unborn → then.place n ≡ place.Unborn
   still n = put_all-kept (λ k pl. S.place k ≡ place.Unborn → pl ≡ place.Unborn) S.place moves n
@@ -156,7 +161,7 @@ module _ (W : Parts) (valid : IsValid W) (confluent : Confluent W) (t : ℕ) (S 
         | inr away ↦ inl (sym away.1 ∙ e)
       ]
 
-  pub row-sets : Stepped W t S then u (op.EvSet x)
+  pub row-sets : Stepped W R t S then u (op.EvSet x)
   row-sets = record {
     units = tell;
     own = own-position;

@@ -13,10 +13,11 @@ use Rattle.abt_machine.specs.Workloads.{op_at, start_of}
 use Rattle.abt_laws.proofs.Options.{some-injective}
 use Rattle.abt_flow.proofs.Points.{points-within}
 use Rattle.abt_flow.proofs.Tells.{Before, Flowing, GoesOn, IsCreated, IsSet, Tells, memory_of}
+use Rattle.abt_flow.specs.Flow.{Functions}
 
 -- unit u has done its operation o
-pub record Stepped (W : Parts) (t : ℕ) (S T : State) (u : ℕ) (o : Op) : Type 0 where
-  pub units : (v : ℕ) → Tells W (suc t) v (T.carried v) (T.place v)
+pub record Stepped (W : Parts) (R : Functions) (t : ℕ) (S T : State) (u : ℕ) (o : Op) : Type 0 where
+  pub units : (v : ℕ) → Tells W R (suc t) v (T.carried v) (T.place v)
   pub own : (T.carried u).position ≡ suc (S.carried u).position
   pub others : (v : ℕ) → v ≢ u → (T.carried v).position ≡ (S.carried v).position
   -- who is unborn stays so, but whom the operation creates
@@ -37,7 +38,8 @@ is_unborn-cases (place.Frame s k) = inr (λ e. cc)
 is_unborn-cases (place.Blocked x k) = inr (λ e. cc)
 is_unborn-cases (place.Ended c) = inr (λ e. cc)
 
-module _ (W : Parts) (t : ℕ) (S T : State) (u : ℕ) (o : Op) (flowing : Flowing W t S) (is : op_at W u (S.carried u).position ≡ Some o) (before : Before W t u (S.carried u)) (stepped : Stepped W t S T u o) where
+module _ (W : Parts) (R : Functions) (t : ℕ) (S T : State) (u : ℕ) (o : Op) (flowing : Flowing W R t S) (is : op_at W u (S.carried u).position ≡ Some o) (before : Before W R t u (S.carried u))
+    (stepped : Stepped W R t S T u o) where
   -- positions don't fall
   grows : (v k : ℕ) → k < (S.carried v).position → k < (T.carried v).position
   grows v k l =
@@ -58,20 +60,40 @@ module _ (W : Parts) (t : ℕ) (S T : State) (u : ℕ) (o : Op) (flowing : Flowi
         | inr other ↦ inl (let e = stepped.others v other in omega arith)
       ]
 
-  set-more : (x n : ℕ) → IsSet W t S x n → IsSet W (suc t) T x n
-  set-more x n set = record { setter = set.setter; at = set.at; memory = set.memory; reached = set.reached; sets = set.sets; made = points-within W t (suc t) set.setter set.at set.memory (omega arith) set.made; value = set.value; behind = grows set.setter set.at set.behind }
+  set-more : (x n : ℕ) → IsSet W R t S x n → IsSet W R (suc t) T x n
+  set-more x n set = record {
+    setter = set.setter;
+    at = set.at;
+    memory = set.memory;
+    reached = set.reached;
+    sets = set.sets;
+    made = points-within W R t (suc t) set.setter set.at set.memory
+        (omega arith) set.made;
+    value = set.value;
+    behind = grows set.setter set.at set.behind;
+  }
 
-  set-now : (x n : ℕ) → (o ≡ op.EvSet (object_no x)) → ((S.carried u).acc ≡ n) → IsSet W (suc t) T x n
-  set-now x n sets acc = record { setter = u; at = (S.carried u).position; memory = memory_of (S.carried u); reached = before.0; sets = is ∙ ap (λ p. Some p) sets; made = before.1; value = acc; behind = let own = stepped.own in omega arith }
+  set-now : (x n : ℕ) → (o ≡ op.EvSet (object_no x)) → ((S.carried u).acc ≡ n) → IsSet W R (suc t) T x n
+  set-now x n sets acc = record {
+    setter = u;
+    at = (S.carried u).position;
+    memory = memory_of (S.carried u);
+    reached = before.0;
+    sets = is ∙ ap (λ p. Some p) sets;
+    made = before.1;
+    value = acc;
+    behind = let own = stepped.own in omega arith;
+  }
 
-  valued : (x n : ℕ) → T.eventual x ≡ Some n → IsSet W (suc t) T x n
+  valued : (x n : ℕ) → T.eventual x ≡ Some n → IsSet W R (suc t) T x n
   valued x n e = elim (stepped.values x n e) [ inl was ↦ set-more x n (flowing.values x n was) | inr now ↦ set-now x n now.0 now.1 ]
 
   bears : (v : ℕ) → IsCreated W T v → T.place v ≡ place.Unborn → ⊥
   bears v c e =
       elim (behind c.creator c.at c.behind) [
         | inl was ↦ flowing.born v (record { creator = c.creator; at = c.at; pool = c.pool; creates = c.creates; behind = was }) (stepped.stays v e)
-        | inr now ↦ stepped.creates v c.pool (some-injective (sym is ∙ subst (λ k. op_at W u k ≡ Some (op.Create (unit_no v) c.pool)) now.1 (subst (λ w. op_at W w c.at ≡ Some (op.Create (unit_no v) c.pool)) now.0 c.creates))) e
+        | inr now ↦ stepped.creates v c.pool
+            (some-injective (sym is ∙ subst (λ k. op_at W u k ≡ Some (op.Create (unit_no v) c.pool)) now.1 (subst (λ w. op_at W w c.at ≡ Some (op.Create (unit_no v) c.pool)) now.0 c.creates))) e
       ]
 
   creation-more : (v : ℕ) → IsCreated W S v → IsCreated W T v
@@ -87,5 +109,5 @@ module _ (W : Parts) (t : ℕ) (S T : State) (u : ℕ) (o : Op) (flowing : Flowi
         | inl unborn ↦ elim (stepped.unborn v unborn) [ inl still ↦ absurd (there still) | inr now ↦ creation-now v now.0 now.1 ]
       ]
 
-  pub steps-on : Flowing W (suc t) T
+  pub steps-on : Flowing W R (suc t) T
   steps-on = record { units = stepped.units; values = valued; born = bears; created = creation; calm = stepped.calm; marks = stepped.marks }

@@ -20,7 +20,7 @@ use Rattle.abt_machine.proofs.Declared.{op-declared}
 use Rattle.abt_laws.proofs.Options.{none≢some, some-injective}
 use Rattle.abt_flow.specs.declared.memory.Progress.{Progress}
 use Rattle.abt_flow.specs.declared.table.Table.{Table}
-use Rattle.abt_flow.specs.Flow.{AtPoint, IsReached}
+use Rattle.abt_flow.specs.Flow.{AtPoint, Functions, IsReached}
 use Rattle.abt_flow.specs.Tables.{AllRun, AreFresh, AwaitsValue, FollowsFlow, HasWaited, HasWaitedAll, IsFresh, Listed, Longer, executed, memory_in}
 use Rattle.abt_flow.proofs.Running.{get-here, get-other, get-some}
 
@@ -34,7 +34,8 @@ awaited-declared W u k x valid is = let eventual : IsEventual W x.0 = op-declare
 
 -- One more unit in a list.
 
-module _ (W : Parts) (waiting : List (Vec UnitNo Global)) (listed : Listed W waiting) (u : UnitNo) (reached : IsReached W u.0) (x : ℕ) (us vs : Vec UnitNo Global) (at : slice_get waiting x ≡ Some us) (more : vs.items ≡ us.items ++ u ∷ []) where
+module _ (W : Parts) (waiting : List (Vec UnitNo Global)) (listed : Listed W waiting) (u : UnitNo) (reached : IsReached W u.0) (x : ℕ) (us vs : Vec UnitNo Global)
+    (at : slice_get waiting x ≡ Some us) (more : vs.items ≡ us.items ++ u ∷ []) where
   abbrev new : List (Vec UnitNo Global)
   new = set waiting x vs
 
@@ -110,21 +111,22 @@ get-replicate zero k v w e = absurd (none≢some e)
 get-replicate (suc n) zero v w e = some-injective e
 get-replicate (suc n) (suc k) v w e = get-replicate n k v w e
 
-begin-follows : (W : Parts) (units : List Progress) → AreFresh W units (length W.units) → FollowsFlow W units (replicate (length W.objects) None)
-begin-follows W units fresh = record {
+begin-follows : (W : Parts) (R : Functions) (units : List Progress) → AreFresh W units (length W.units) → FollowsFlow W R units (replicate (length W.objects) None)
+begin-follows W R units fresh = record {
   all = fresh.all;
   values_all = length-replicate (length W.objects) None;
-  made = λ u p at. (let f : IsFresh W p = fresh.fresh u p at in subst (λ k. AtPoint W (suc (executed units)) u k (memory_in p)) (sym f.0) f.1);
+  made = λ u p at. (let f : IsFresh W p = fresh.fresh u p at in subst (λ k. AtPoint W R (suc (executed units)) u k (memory_in p)) (sym f.0) f.1);
   within = λ u p at. (let f : IsFresh W p = fresh.fresh u p at in let z : p.position ≡ 0 = f.0 in omega arith);
   reached = λ u p at l. (let f : IsFresh W p = fresh.fresh u p at in let z : p.position ≡ 0 = f.0 in absurd (omega arith));
   found = λ x n e. absurd (none≢some (get-replicate (length W.objects) x None (Some n) e));
   set = λ u p j x at l. (let f : IsFresh W p = fresh.fresh u p at in let z : p.position ≡ 0 = f.0 in absurd (omega arith));
 }
 
-pub begins : (W : Parts) (t : Table) → AreFresh W t.units.items (length W.units) → t.values.items ≡ replicate (length W.objects) None → Listed W t.waiting.items → ((v : UnitNo) → Contains t.ready.items v → HasWaitedAll W t.waiting.items v.0) →
-    ((v : UnitNo) → Contains t.ready.items v → IsReached W v.0) → ((u : ℕ) → IsReached W u → Contains t.ready.items (unit_no u)) → AllRun W t
-begins W t fresh none listed waited only every = record {
-  follows = subst (FollowsFlow W t.units.items) (sym none) (begin-follows W t.units.items fresh);
+pub begins : (W : Parts) (R : Functions) (t : Table) → AreFresh W t.units.items (length W.units) → t.values.items ≡ replicate (length W.objects) None → Listed W t.waiting.items →
+    ((v : UnitNo) → Contains t.ready.items v → HasWaitedAll W t.waiting.items v.0) →
+    ((v : UnitNo) → Contains t.ready.items v → IsReached W v.0) → ((u : ℕ) → IsReached W u → Contains t.ready.items (unit_no u)) → AllRun W R t
+begins W R t fresh none listed waited only every = record {
+  follows = subst (FollowsFlow W R t.units.items) (sym none) (begin-follows W R t.units.items fresh);
   waits = record { all = listed.all; reached = listed.reached; waits = λ x us u k n at r is. waited (unit_no u) (every u r) k x us is at };
   ready = only;
   each = λ v r. inl (every v r);

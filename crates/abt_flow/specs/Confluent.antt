@@ -1,4 +1,4 @@
--- When what a workload's units put out does not depend on the schedule.
+-- When what a workload's units put out does not depend on the schedule, if each function that they call returns one word.
 use Rattle.std.specs.Prelude.{ℕ, ◌≡◌, Some, None, ⊤}
 use Rattle.abt_machine.specs.declared.numbers.ObjectNo.{ObjectNo}
 use Rattle.abt_machine.specs.declared.numbers.PoolNo.{PoolNo}
@@ -9,11 +9,12 @@ use Rattle.abt_machine.specs.declared.operations.Op.{Op}
 use Rattle.abt_machine.specs.declared.operations.Op.TheVariants as op
 use Rattle.abt_machine.specs.declared.workload.Parts.{Parts}
 use Rattle.abt_machine.specs.Workloads.{access_of, op_at, start_of}
-use Rattle.abt_flow.specs.Effects.{FlowEffect, Computes, Awaits, Depends, effect}
+use Rattle.abt_flow.specs.Effects.{FlowEffect, Computes, Calls, Awaits, Depends, effect}
 
 -- the effect does not depend on the schedule
 abbrev pub IsSettled : FlowEffect → Type 0
 IsSettled (Computes f) = ⊤
+IsSettled (Calls f) = ⊤
 IsSettled (Awaits x) = ⊤
 IsSettled Depends = ⊥
 

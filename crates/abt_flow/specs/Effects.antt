@@ -2,9 +2,11 @@
 use Rattle.std.specs.Prelude.{ℕ, ◌+◌, ◌%◌, ◌^◌, List, [], ◌∷◌, ◌++◌, replicate, slice_index, slice_set}
 use Rattle.abt_machine.specs.declared.events.Piece.{Piece}
 use Rattle.abt_machine.specs.declared.events.Piece.TheVariants as piece
+use Rattle.abt_machine.specs.declared.operations.Calc.{Calc}
 use Rattle.abt_machine.specs.declared.operations.Op.{Op}
 use Rattle.abt_machine.specs.declared.operations.Op.TheVariants as op
 use Rattle.abt_machine.specs.declared.workload.Parts.{Parts}
+use Rattle.abt_machine.specs.Carrying.{word_from}
 
 -- what a unit's program works on
 pub record Memory : Type 0 where
@@ -34,12 +36,16 @@ with_key k m = record m { keys = slice_set m.keys k m.acc }
 abbrev pub from_key : ℕ → Memory → Memory
 from_key k m = with_acc (slice_index m.keys k) m
 
+abbrev pub calculated : Calc → ℕ → Memory → Memory
+calculated c k m = with_acc (word_from c m.acc (slice_index m.keys k)) m
+
 abbrev pub unchanged : Memory → Memory
 unchanged m = m
 
--- an operation computes the next memory, or sets acc to the value of an eventual, or depends on the schedule
+-- an operation computes the next memory, or sets acc to what a function returns or to the value of an eventual, or depends on the schedule
 pub data FlowEffect : Type 0 where
   Computes : (Memory → Memory) → FlowEffect
+  Calls : ℕ → FlowEffect
   Awaits : ℕ → FlowEffect
   Depends : FlowEffect
 
@@ -50,6 +56,7 @@ effect (op.Say w) = Computes (printed (piece.Said w))
 effect op.Print = Computes with_number
 effect (op.KeySet k) = Computes (with_key k)
 effect (op.KeyGet k) = Computes (from_key k)
+effect (op.Calc c k) = Computes (calculated c k)
 effect op.Yield = Computes unchanged
 effect (op.YieldTo v p) = Depends
 effect op.Suspend = Depends
@@ -84,3 +91,4 @@ effect (op.WriteLock x) = Depends
 effect (op.RwUnlock x) = Depends
 effect (op.RwLoad x) = Depends
 effect (op.RwStore x) = Depends
+effect (op.Call f) = Calls f

@@ -11,8 +11,8 @@ use Rattle.abt_machine.specs.Workloads.{body_at, op_at, ops_of}
 use Rattle.std.specs.declared.alloc.Global.{Global}
 use Rattle.abt_flow.specs.declared.memory.Progress.{Progress}
 use Rattle.abt_flow.specs.declared.table.Table.{Table}
-use Rattle.abt_flow.specs.Effects.{Memory, FlowEffect, Computes, Awaits, Depends, fresh}
-use Rattle.abt_flow.specs.Flow.{AtPoint, IsReached, SetsTo}
+use Rattle.abt_flow.specs.Effects.{Memory, FlowEffect, Computes, Calls, Awaits, Depends, fresh}
+use Rattle.abt_flow.specs.Flow.{AtPoint, Functions, IsReached, SetsTo}
 
 -- Programs.
 
@@ -24,6 +24,7 @@ IsFresh W p = (p.position ≡ 0) × (memory_in p ≡ fresh W)
 
 abbrev pub IsComputed : FlowEffect → Type 0
 IsComputed (Computes f) = ⊤
+IsComputed (Calls f) = ⊥
 IsComputed (Awaits x) = ⊥
 IsComputed Depends = ⊥
 
@@ -31,17 +32,20 @@ IsComputed Depends = ⊥
 abbrev pub HasKey : Op → ℕ → Type 0
 HasKey (op.KeySet k) n = k < n
 HasKey (op.KeyGet k) n = k < n
+HasKey (op.Calc c k) n = k < n
 HasKey _ n = ⊤
 
--- no eventual has a value
-abbrev pub Nothing : ℕ → ℕ → Type 0
-Nothing x n = ⊥
+-- a memory becomes another by an effect that looks at nothing else
+abbrev pub ComputesTo : FlowEffect → Memory → Memory → Type 0
+ComputesTo (Computes f) old new = new ≡ f old
+ComputesTo _ old new = ⊥
 
 -- Units that are reached.
 
 -- unit u is added to a list and to its marks, unless it is marked
 abbrev pub AddsUnit : UnitNo → List UnitNo → List Bool → List UnitNo → List Bool → Type 0
-AddsUnit u units marks new_units new_marks = MatchBool (slice_index_or marks u.0 true) ((new_units ≡ units) × (new_marks ≡ marks)) ((new_units ≡ units ++ u ∷ []) × (new_marks ≡ slice_set marks u.0 true))
+AddsUnit u units marks new_units new_marks = MatchBool (slice_index_or marks u.0 true) ((new_units ≡ units) × (new_marks ≡ marks))
+    ((new_units ≡ units ++ u ∷ []) × (new_marks ≡ slice_set marks u.0 true))
 
 abbrev pub IsMarked : List Bool → ℕ → Type 0
 IsMarked marks u = slice_get marks u ≡ Some true
@@ -87,40 +91,42 @@ abbrev pub executed : List Progress → ℕ
 executed units = sum_by (λ (p : Progress). p.position) units
 
 -- each unit's program has come as far as its flow says, through at most one point more than operations were executed, and each value is what the one operation sets that was executed
-pub record FollowsFlow (W : Parts) (units : List Progress) (values : List (Option ℕ)) : Type 0 where
+pub record FollowsFlow (W : Parts) (R : Functions) (units : List Progress) (values : List (Option ℕ)) : Type 0 where
   pub all : length units ≡ length W.units
   pub values_all : length values ≡ length W.objects
-  pub made : (u : ℕ) (p : Progress) → slice_get units u ≡ Some p → AtPoint W (suc (executed units)) u p.position (memory_in p)
+  pub made : (u : ℕ) (p : Progress) → slice_get units u ≡ Some p → AtPoint W R (suc (executed units)) u p.position (memory_in p)
   pub within : (u : ℕ) (p : Progress) → slice_get units u ≡ Some p → p.position ≤ length (ops_of (body_at W u))
   pub reached : (u : ℕ) (p : Progress) → slice_get units u ≡ Some p → 0 < p.position → IsReached W u
-  pub found : (x n : ℕ) → slice_get values x ≡ Some (Some n) → SetsTo W (λ v j c. AtPoint W (executed units) v j c) x n
+  pub found : (x n : ℕ) → slice_get values x ≡ Some (Some n) → SetsTo W (λ v j c. AtPoint W R (executed units) v j c) x n
   pub set : (u : ℕ) (p : Progress) (j x : ℕ) → slice_get units u ≡ Some p → j < p.position → op_at W u j ≡ Some (op.EvSet (object_no x)) → slice_get values x ≡ Some None → ⊥
 
--- a unit halts at its end, and at a wait for an eventual without a value
-abbrev pub Halts : List (Option ℕ) → Option Op → Type 0
-Halts values None = ⊤
-Halts values (Some (op.EvWait x)) = slice_get values x.0 ≡ Some None
-Halts values _ = ⊥
+-- a unit halts at its end, at a wait for an eventual without a value, and at a call that may return any word
+abbrev pub Halts : Functions → List (Option ℕ) → ℕ → Progress → Option Op → Type 0
+Halts R values u p None = ⊤
+Halts R values u p (Some (op.EvWait x)) = slice_get values x.0 ≡ Some None
+Halts R values u p (Some (op.Call f)) = R f u p.acc p.keys.items ≡ None
+Halts R values u p _ = ⊥
 
-abbrev pub Rests : Parts → List Progress → List (Option ℕ) → ℕ → Type 0
-Rests W units values u = (p : Progress) → slice_get units u ≡ Some p → Halts values (op_at W u p.position)
+abbrev pub Rests : Parts → Functions → List Progress → List (Option ℕ) → ℕ → Type 0
+Rests W R units values u = (p : Progress) → slice_get units u ≡ Some p → Halts R values u p (op_at W u p.position)
 
 -- each reached unit that waits for an eventual without a value is in its list
 pub record Waits (W : Parts) (values : List (Option ℕ)) (waiting : List (Vec UnitNo Global)) : Type 0 where
   pub all : length waiting ≡ length W.objects
   pub reached : (x : ℕ) (us : Vec UnitNo Global) (v : UnitNo) → slice_get waiting x ≡ Some us → Contains us.items v → IsReached W v.0
-  pub waits : (x : ℕ) (us : Vec UnitNo Global) (u k : ℕ) → slice_get values x ≡ Some None → slice_get waiting x ≡ Some us → IsReached W u → op_at W u k ≡ Some (op.EvWait (object_no x)) → Contains us.items (unit_no u)
+  pub waits : (x : ℕ) (us : Vec UnitNo Global) (u k : ℕ) → slice_get values x ≡ Some None → slice_get waiting x ≡ Some us → IsReached W u → op_at W u k ≡ Some (op.EvWait (object_no x)) →
+      Contains us.items (unit_no u)
 
 -- unit u runs: every other that is reached is ready or rests
-pub record UnitRuns (W : Parts) (u : ℕ) (t : Table) : Type 0 where
-  pub follows : FollowsFlow W t.units.items t.values.items
+pub record UnitRuns (W : Parts) (R : Functions) (u : ℕ) (t : Table) : Type 0 where
+  pub follows : FollowsFlow W R t.units.items t.values.items
   pub waits : Waits W t.values.items t.waiting.items
   pub ready : (v : UnitNo) → Contains t.ready.items v → IsReached W v.0
-  pub others : (v : ℕ) → v ≢ u → IsReached W v → Contains t.ready.items (unit_no v) ⊎ Rests W t.units.items t.values.items v
+  pub others : (v : ℕ) → v ≢ u → IsReached W v → Contains t.ready.items (unit_no v) ⊎ Rests W R t.units.items t.values.items v
 
 -- how many times units may still be run
-abbrev pub work : Table → ℕ
-work t = length t.ready.items + sum_by (λ (us : Vec UnitNo Global). length us.items) t.waiting.items
+abbrev pub runs_left : Table → ℕ
+runs_left t = length t.ready.items + sum_by (λ (us : Vec UnitNo Global). length us.items) t.waiting.items
 
 -- the next operation of unit u
 abbrev pub IsNextOperation : Parts → List Progress → ℕ → Op → Type 0
@@ -177,19 +183,20 @@ IsDone W units u = (p : Progress) → slice_get units u ≡ Some p → (IsReache
 abbrev pub IsStuck : Parts → List Progress → ℕ → Type 0
 IsStuck W units u = IsReached W u × ((p : Progress) × (slice_get units u ≡ Some p) × (p.position < length (ops_of (body_at W u))))
 
--- an operation that neither sets an eventual nor waits for one
+-- an operation that neither sets an eventual nor waits for one, and that calls no function
 abbrev pub IsOther : Op → Type 0
 IsOther (op.EvWait x) = ⊥
 IsOther (op.EvSet x) = ⊥
+IsOther (op.Call f) = ⊥
 IsOther _ = ⊤
 
 -- every unit that is reached is ready or rests
-pub record AllRun (W : Parts) (t : Table) : Type 0 where
-  pub follows : FollowsFlow W t.units.items t.values.items
+pub record AllRun (W : Parts) (R : Functions) (t : Table) : Type 0 where
+  pub follows : FollowsFlow W R t.units.items t.values.items
   pub waits : Waits W t.values.items t.waiting.items
   pub ready : (v : UnitNo) → Contains t.ready.items v → IsReached W v.0
-  pub each : (v : ℕ) → IsReached W v → Contains t.ready.items (unit_no v) ⊎ Rests W t.units.items t.values.items v
+  pub each : (v : ℕ) → IsReached W v → Contains t.ready.items (unit_no v) ⊎ Rests W R t.units.items t.values.items v
 
 -- every unit that is reached rests
-abbrev pub AllRest : Parts → Table → Type 0
-AllRest W t = FollowsFlow W t.units.items t.values.items × ((v : ℕ) → IsReached W v → Rests W t.units.items t.values.items v)
+abbrev pub AllRest : Parts → Functions → Table → Type 0
+AllRest W R t = FollowsFlow W R t.units.items t.values.items × ((v : ℕ) → IsReached W v → Rests W R t.units.items t.values.items v)

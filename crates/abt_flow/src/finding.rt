@@ -2,6 +2,7 @@
 
 ghost use Rattle.std.specs.Prelude.{◌<◌, ◌≡◌, IfOk, List, MatchBool, MatchOption, length, map, ℕ};
 ghost use Rattle.abt_machine.specs.declared.events.Piece.{Piece};
+ghost use Rattle.abt_machine.specs.Stored.{CallsStored};
 ghost use Rattle.abt_flow.specs.Confluent.{Confluent};
 ghost use Rattle.abt_flow.specs.Flow.{IsFlow};
 ghost use Rattle.abt_flow.specs.Tables.{AreReached, IsDone, IsStuck};
@@ -12,6 +13,7 @@ use crate::naming::ops_count;
 use crate::reaching::Reached;
 use crate::table::Table;
 use abt_machine::{Items, Output, UnitNo, Want, Workload};
+use abt_work::Work;
 use std::alloc::Global;
 
 /// A unit's output.
@@ -59,16 +61,17 @@ fn rows(alloc: Global, units: Vec<Progress>) -> Result<Vec<FlowRow>, Want>
 }
 
 /// What the units of a confluent workload put out by their programs alone, if that is defined. It is not defined if some wait
-/// of a reached unit has no operation of a reached unit that sets its eventual, or has one that comes only after the wait.
-/// Each operation is done once.
-pub fn find_flow(alloc: Global, w: &Workload) -> Result<Option<Flow>, Want>
-    requires { Confluent w.now }
-    ensures { IfOk result (λ flow. MatchOption flow ((rows : List (List Piece)) → IsFlow w.now rows → ⊥) (IsFlow w.now)) }
+/// of a reached unit has no operation of a reached unit that sets its eventual, or has one that comes only after the wait, or if
+/// a call of a reached unit may return more than one word. Each operation is done once.
+pub fn find_flow<P: Work>(alloc: Global, w: &Workload, work: &P) -> Result<Option<Flow>, Want>
+    requires confluent { Confluent w.now }
+    requires stored { CallsStored w.now (P.count work.now) }
+    ensures { IfOk result (λ flow. MatchOption flow ((rows : List (List Piece)) → IsFlow w.now (P.returns work.now) rows → ⊥) (IsFlow w.now (P.returns work.now))) }
 {
     w.known();
     let Reached { units, marks } = Reached::find(alloc, w)?;
     let mut table = Table::make(alloc, w, units)?;
-    table.run_all(w)?;
+    table.run_all(w, work)?;
     if !is_done(w, &table.units, &marks) {
         return Ok(None);
     }

@@ -2,9 +2,9 @@
 
 ghost use Rattle.abt_flow.specs.Roles.{IsRole};
 
-use abt_machine::{ObjectNo, Op, PoolNo, UnitNo};
+use abt_machine::{Calc, ObjectNo, Op, PoolNo, UnitNo};
 
-// How an operation changes its unit's memory, what it creates, waits for or sets, that it does none of
+// How an operation changes its unit's memory, what it calls, creates, waits for or sets, that it does none of
 // these, or that it depends on the schedule.
 #[derive(Clone, Copy)]
 pub(crate) enum Role {
@@ -14,6 +14,8 @@ pub(crate) enum Role {
     Print,
     KeySet(u32),
     KeyGet(u32),
+    Calc(Calc, u32),
+    Call(u32),
     Create(UnitNo, PoolNo),
     AwaitValue(ObjectNo),
     SetValue(ObjectNo),
@@ -33,6 +35,8 @@ impl Role {
             Op::Print => Role::Print,
             Op::KeySet(k) => Role::KeySet(k),
             Op::KeyGet(k) => Role::KeyGet(k),
+            Op::Calc(calc, k) => Role::Calc(calc, k),
+            Op::Call(f) => Role::Call(f),
             Op::Create(v, p) => Role::Create(v, p),
             Op::EvWait(x) => Role::AwaitValue(x),
             Op::EvSet(x) => Role::SetValue(x),

@@ -14,7 +14,8 @@ use Rattle.abt_flow.proofs.beginning.wait_lists.Goals as goal
 pub wait_unit-requires-clause-unit : goal.wait_unit-requires-clause-unit
 wait_unit-requires-clause-unit c =
     let l : c.loop-u.u-index < length c.args.reached.now = omega arith in
-    reached-declared c.args.w.now (get_or c.args.reached.now c.loop-u.u-index (unit_no 0)).0 c.known.ensures (c.requires (get_or c.args.reached.now c.loop-u.u-index (unit_no 0)) (Contains-get_or c.args.reached.now c.loop-u.u-index (unit_no 0) l))
+    reached-declared c.args.w.now (get_or c.args.reached.now c.loop-u.u-index (unit_no 0)).0 c.known.ensures
+    (c.requires (get_or c.args.reached.now c.loop-u.u-index (unit_no 0)) (Contains-get_or c.args.reached.now c.loop-u.u-index (unit_no 0) l))
 
 pub loop-u-preserved : goal.loop-u-preserved
 loop-u-preserved c =
@@ -22,7 +23,8 @@ loop-u-preserved c =
     record {
       listed = c.in_ok-wait_unit.ensures.listed;
       waited = λ i v below at. elim (cases_eq i c.loop-u.u-index) [
-        | inl same ↦ (let e : get_or c.args.reached.now c.loop-u.u-index (unit_no 0) ≡ v = some-injective (sym (slice_get-get_or c.args.reached.now c.loop-u.u-index (unit_no 0) l) ∙ subst (λ j. slice_get c.args.reached.now j ≡ Some v) same at) in
+        | inl same ↦ (let e : get_or c.args.reached.now c.loop-u.u-index (unit_no 0) ≡ v = some-injective
+            (sym (slice_get-get_or c.args.reached.now c.loop-u.u-index (unit_no 0) l) ∙ subst (λ j. slice_get c.args.reached.now j ≡ Some v) same at) in
             subst (λ (z : UnitNo). HasWaitedAll c.args.w.now c.wait_unit.new.waiting.items z.0) e c.in_ok-wait_unit.ensures.waited)
         | inr other ↦ all-longer c.args.w.now c.loop-u.waiting.items c.wait_unit.new.waiting.items v.0 c.in_ok-wait_unit.ensures.longer (c.loop-u.invariant.waited i v (omega arith) at)
       ];

@@ -16,5 +16,9 @@ returns-then-not-branch c = (λ t. absurd (false≢true t), λ is. absurd (false
 pub returns : goal.returns
 returns c =
     ok-then (λ once. IsTrue once ↔ NamesOnce c.args.w.now Creates) (λ is. IsTrue is ↔ Confluent c.args.w.now) c.names_once-2.result
-    (λ b h. (λ t. plain-confluent c.args.w.now (c.has_plain_ops.ensures.0 c.if-not-has_plain_ops.false) (c.in_ok-names_once.ensures.0 c.if-not-branch.false) (h.0 t), λ is. h.1 (confluent-creates c.args.w.now is)))
+    (λ b h. (
+      λ t. plain-confluent c.args.w.now (c.has_plain_ops.ensures.0 c.if-not-has_plain_ops.false) (c.in_ok-names_once.ensures.0 c.if-not-branch.false) (h.0 t),
+      λ is. h.1
+          (confluent-creates c.args.w.now is),
+    ))
     c.names_once-2.ensures

@@ -19,19 +19,23 @@ returns c =
     let same : (get_or c.args.units.now c.args.u c.index-units-u.result).position ≡ c.index-units-u.result.position = ap (λ (p : Progress). p.position) (sym c.index-units-u.is) in
     let reached : IsReached c.args.w.now c.args.u = c.requires.marks.only c.args.u (slice_get-get_or c.args.marks.now c.args.u false m ∙ ap (λ b. Some b) c.if-not-marks-u.false) in
     let count = c.ops_count.ensures in
-    decided (nat_le c.ops_count.result (get_or c.args.units.now c.args.u c.index-units-u.result).position) (IsDone c.args.w.now c.args.units.now c.args.u) (IsStuck c.args.w.now c.args.units.now c.args.u)
+    decided (nat_le c.ops_count.result (get_or c.args.units.now c.args.u c.index-units-u.result).position) (IsDone c.args.w.now c.args.units.now c.args.u)
+    (IsStuck c.args.w.now c.args.units.now c.args.u)
     (λ yes p here. inl (
       reached,
-      (let le : c.ops_count.result ≤ (get_or c.args.units.now c.args.u c.index-units-u.result).position = leb-true c.ops_count.result (get_or c.args.units.now c.args.u c.index-units-u.result).position yes in
+      (let le : c.ops_count.result ≤ (get_or c.args.units.now c.args.u c.index-units-u.result).position = leb-true c.ops_count.result
+          (get_or c.args.units.now c.args.u c.index-units-u.result).position yes in
           let e : c.index-units-u.result ≡ p = some-injective (sym at ∙ here) in
-          subst (λ (q : Progress). length (ops_of (body_at c.args.w.now c.args.u)) ≤ q.position) e (let r : length (ops_of (body_at c.args.w.now c.args.u)) ≤ c.index-units-u.result.position = omega arith in r)),
+          subst (λ (q : Progress). length (ops_of (body_at c.args.w.now c.args.u)) ≤ q.position) e
+          (let r : length (ops_of (body_at c.args.w.now c.args.u)) ≤ c.index-units-u.result.position = omega arith in r)),
     ))
     (λ no. (
       reached,
       (
         c.index-units-u.result,
         at,
-        (let lt : (get_or c.args.units.now c.args.u c.index-units-u.result).position < c.ops_count.result = leb-false c.ops_count.result (get_or c.args.units.now c.args.u c.index-units-u.result).position no in
+        (let lt : (get_or c.args.units.now c.args.u c.index-units-u.result).position < c.ops_count.result = leb-false c.ops_count.result
+            (get_or c.args.units.now c.args.u c.index-units-u.result).position no in
             let r : c.index-units-u.result.position < length (ops_of (body_at c.args.w.now c.args.u)) = omega arith in r),
       ),
     ))

@@ -7,7 +7,8 @@ use Rattle.abt_flow.proofs.reaching.Reached.look.Goals as goal
 
 pub add_all_created-requires-clause-unit : goal.add_all_created-requires-clause-unit
 add_all_created-requires-clause-unit c =
-    reached-declared c.args.w.now c.index-u.result.now.0 c.known.ensures (c.requires.finds.reached c.index-u.result.now (c.args.at, (let l : c.args.at < length c.args.self.now.units.items = omega arith in l), sym c.index-u.ensures))
+    reached-declared c.args.w.now c.index-u.result.now.0 c.known.ensures
+    (c.requires.finds.reached c.index-u.result.now (c.args.at, (let l : c.args.at < length c.args.self.now.units.items = omega arith in l), sym c.index-u.ensures))
 
 pub returns-clause-closed : goal.returns-clause-closed
 returns-clause-closed c =
@@ -15,6 +16,7 @@ returns-clause-closed c =
     ok-both (λ _. Grows c.args.self.now.units.items c.args.self.now.marks.items c.add_all_created.new.self.units.items c.add_all_created.new.self.marks.items)
     (λ _. Closes c.args.w.now c.add_all_created.new.self.marks.items c.index-u.result.now.0)
     (λ _. IsClosedBelow c.args.w.now c.add_all_created.new.self.units.items c.add_all_created.new.self.marks.items (c.args.at + 1)) c.add_all_created.result
-    (λ _ grows closes. closed-more c.args.w.now c.args.self.now.units.items c.add_all_created.new.self.units.items c.args.self.now.marks.items c.add_all_created.new.self.marks.items c.args.at c.index-u.result.now grows l
+    (λ _ grows closes. closed-more c.args.w.now c.args.self.now.units.items c.add_all_created.new.self.units.items c.args.self.now.marks.items
+    c.add_all_created.new.self.marks.items c.args.at c.index-u.result.now grows l
     (slice_get-get_or c.args.self.now.units.items c.args.at c.index-u.result.now l ∙ ap (λ x. Some x) (sym c.index-u.ensures)) c.requires.closed closes)
     c.add_all_created.ensures.grows c.add_all_created.ensures.marked
