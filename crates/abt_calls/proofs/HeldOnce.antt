@@ -11,7 +11,7 @@ use Rattle.abt_machine.specs.declared.events.Spot.TheVariants as spot
 use Rattle.abt_machine.specs.declared.numbers.ObjectNo.{ObjectNo}
 use Rattle.abt_machine.specs.declared.numbers.PoolNo.{PoolNo}
 use Rattle.abt_machine.specs.declared.numbers.UnitNo.{UnitNo}
-use Rattle.abt_machine.specs.declared.operations.OrderShape.{OrderShape}
+use Rattle.abt_machine.specs.Stored.{Stored}
 use Rattle.abt_machine.specs.declared.operations.Thing.{Thing}
 use Rattle.abt_machine.specs.declared.operations.Thing.TheVariants as thing
 use Rattle.abt_machine.specs.declared.workload.Parts.{Parts}
@@ -146,7 +146,7 @@ alone S [] none = refl
 alone S (a ∷ []) none = refl
 alone S (a ∷ b ∷ rest) none = absurd (none a b rest refl)
 
-module _ (W : Parts) (Z : List OrderShape) (S : State) (sound : Sound W Z S) where
+module _ (W : Parts) (Z : Stored) (S : State) (sound : Sound W Z S) where
   -- two in a hand or a Next are one, and so there are no two
   no-two : (l : Line) (k : ℕ) → ((v : ℕ) → StandsIn W S l v → ticket_in l (S.place v) ≡ Some k) → (us : List ℕ) → EachOf (StandsIn W S l) us → ((v : ℕ) → v < length W.units → tally v (map (owned_at S) us) ≤ 1)
       → (a b : ℕ) (rest : List ℕ) → us ≡ a ∷ b ∷ rest → ⊥

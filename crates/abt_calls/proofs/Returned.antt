@@ -1,6 +1,6 @@
 -- In the histories of a run a unit that ends or is suspended comes back to its own desk, which is out.
 use Rattle.std.proofs.Common.{◌≡◌, Bool, true, false, List, [], ◌∷◌, Option, Some, None, refl}
-use Rattle.abt_machine.specs.declared.operations.OrderShape.{OrderShape}
+use Rattle.abt_machine.specs.Stored.{Stored}
 use Rattle.abt_machine.specs.declared.workload.Parts.{Parts}
 use Rattle.abt_machine.specs.State.{State}
 use Rattle.abt_machine.specs.Values.{Owned, Object, DeskIs, part_of, object_of}
@@ -45,7 +45,7 @@ from-test (End o cause) object is = from-takes object o is
 from-test (Suspend o) object is = from-takes object o is
 from-test _ object is = tt
 
-module _ (W : Parts) (Z : List OrderShape) where
+module _ (W : Parts) (Z : Stored) where
   passes : (S : State) (heard : Option Heard) → BringsBack W S heard → CallPasses (machine_of W Z) taken_back S heard
   passes S None is = tt
   passes S (Some h) is = to-test h.1 (object_of W S h.0) is
@@ -57,7 +57,7 @@ module _ (W : Parts) (Z : List OrderShape) where
   comes-back o [] q l = l
   comes-back o (e ∷ es) q l = (l.0, (l.1.0, from-test e.act o l.1.1), comes-back l.0 es q l.2)
 
-pub entries-come-back : (W : Parts) (Z : List OrderShape) → EntriesComeBack W Z
+pub entries-come-back : (W : Parts) (Z : Stored) → EntriesComeBack W Z
 entries-come-back W Z valid stored S sound logs histories ends finals J gathered sorted x =
     let l = deeds-of W Z (part_of W S) (object_of W S) logs histories ends finals J gathered sorted in
     let pass : Legal (GivesPassing (machine_of W Z) taken_back) (object_of W S x) (histories x) (finals x) =

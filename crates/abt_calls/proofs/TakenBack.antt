@@ -61,6 +61,7 @@ steps-bring-back W Z S s (what.Look u) heard new st = subst (BringsBack W S) (sy
 steps-bring-back W Z S s (what.Step u k c) heard new st =
     performs-brings W S (part_of W S s) (plan_of W s st.5 st.1) heard c new
     (by-shape W s st.5 st.1 (PlanBringsBack W S) (shape-brings W S st.5 st.1 (hands-are-out W S s st.1 st.2)) (plan_of W s st.5 st.1) refl) st.7
+steps-bring-back W Z S s (what.Call u k n) heard new st = subst (BringsBack W S) (sym st.6) tt
 steps-bring-back W Z S s (what.Put u p) heard new st = subst (BringsBack W S) (sym st.6) tt
 steps-bring-back W Z S s (what.End u c) heard new st =
     subst (BringsBack W S) (sym st.5) (subst (λ n. takes_back (desk_value W S n) st.1 ≡ true) st.3 (hands-are-out W S s st.1 st.2))

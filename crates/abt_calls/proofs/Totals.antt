@@ -6,7 +6,7 @@ use Rattle.std.proofs.lemmas.List.Elements.{All-append, All-cons, All-head, All-
 use Rattle.abt_machine.specs.declared.events.Site.{Site}
 use Rattle.abt_machine.specs.declared.events.Site.TheVariants as site
 use Rattle.abt_machine.specs.declared.numbers.ObjectNo.{ObjectNo}
-use Rattle.abt_machine.specs.declared.operations.OrderShape.{OrderShape}
+use Rattle.abt_machine.specs.Stored.{Stored}
 use Rattle.abt_machine.specs.declared.operations.Thing.{Thing}
 use Rattle.abt_machine.specs.declared.operations.Thing.TheVariants as thing
 use Rattle.abt_machine.specs.declared.workload.Parts.{Parts}
@@ -232,7 +232,7 @@ module _ (W : Parts) (S : State) where
 
 -- A declared unit.
 
-module _ (W : Parts) (Z : List OrderShape) (S : State) (sound : Sound W Z S) (valid : IsValid W) (u : ℕ) (declared : u < length W.units) where
+module _ (W : Parts) (Z : Stored) (S : State) (sound : Sound W Z S) (valid : IsValid W) (u : ℕ) (declared : u < length W.units) where
   holders-tally : (hs : List Holder) → tally u (flat_map (units_with W S) hs) ≡ hits (holder W u (S.place u)) hs
   holders-tally [] = tally-nil u
   holders-tally (h ∷ hs) = omega (arith, tally-append u (units_with W S h) (flat_map (units_with W S) hs), holder-tally W Z S sound valid u declared h, holders-tally hs)

@@ -5,20 +5,21 @@ use Rattle.abt_machine.specs.declared.events.Code.{Code}
 use Rattle.abt_machine.specs.declared.events.What.{What}
 use Rattle.abt_machine.specs.declared.events.What.TheVariants as what
 use Rattle.abt_machine.specs.declared.operations.Op.{Op}
-use Rattle.abt_machine.specs.declared.operations.OrderShape.{OrderShape}
+use Rattle.abt_machine.specs.declared.operations.Op.TheVariants as op
+use Rattle.abt_machine.specs.Stored.{Stored, Returns}
 use Rattle.abt_machine.specs.declared.workload.Parts.{Parts}
 use Rattle.abt_machine.specs.Frames.{entered, left, round_missed, round_taken, sched_of}
 use Rattle.abt_machine.specs.Workloads.{body_at, op_at}
 use Rattle.abt_machine.specs.Next.{StepDue, LeaveDue, RoundDue}
 use Rattle.abt_machine.specs.Valid.{IsValid}
 use Rattle.abt_machine.specs.Values.{Owned, Held}
-use Rattle.abt_machine.specs.Acts.{carrying}
+use Rattle.abt_machine.specs.Acts.{carrying, moved, received}
 use Rattle.abt_machine.specs.Carrying.{with_home}
-use Rattle.abt_machine.specs.Plans.{Effect, Plan, Does, Calls, Exits, plan_of}
+use Rattle.abt_machine.specs.Plans.{Effect, Plan, Does, Calls, Exits, keeps, plan_of}
 use Rattle.abt_machine.specs.Turns.{Heard, Performs, Steps, exited, looked, stepped}
 use Rattle.abt_laws.proofs.Options.{none≢some}
 use Rattle.abt_unit.specs.Fits.{Fits}
-use Rattle.abt_unit.proofs.Fitting.{Fits-with_home}
+use Rattle.abt_unit.proofs.Fitting.{Fits-moved, Fits-received, Fits-with_home}
 use Rattle.abt_chain.specs.Keeping.{Have, IsPoolOf, contents_answered, pools_in}
 use Rattle.abt_machine.proofs.Elements.{All-left, All-right}
 use Rattle.abt_calls.specs.Effects.{unit_in, units_left}
@@ -110,6 +111,12 @@ module _ (W : Parts) where
   that-op : (o : Owned) (u k : ℕ) (a : Op) → o.number ≡ u → o.carried.position ≡ k → op_at W u k ≡ Some a → op_at W o.number o.carried.position ≡ Some a
   that-op o u k a number position is = (λ i. op_at W (number i) (position i)) ∙ is
 
+-- the unit after a call of its function
+call-fits : (W : Parts) (Z : Stored) (o : Owned) (n : ℕ) (a : Option Op) → op_at W o.number o.carried.position ≡ a → Returns Z a o.number o.carried n → Fits W o → Fits W (received n (moved o))
+call-fits W Z o n (Some (op.Call f)) is h fits = Fits-received (Fits-moved fits (op.Call f) is) n
+call-fits W Z o n None is h fits = absurd h
+call-fits W Z o n (Some a) is h fits = absurd h
+
 pub events-fit : EventsFit
 events-fit W Z s old (what.Miss p) heard new valid st all have =
     let each : Each (IsFit W) old = each-of (IsFit W) old all in
@@ -123,6 +130,12 @@ events-fit W Z s old (what.Look u) heard new valid st all have =
 events-fit W Z s old (what.Step u k c) heard new valid st all have =
     let each : Each (IsFit W) old = each-of (IsFit W) old all in
     performs-fits W s old st.5 st.1 (plan_of W s st.5 st.1) heard c new refl valid (that-fits W old.hand st.1 each.hand st.2) (that-op W st.1 u.0 k st.5 st.3 st.4 st.6) each have st.7
+events-fit W Z s old (what.Call u k n) heard new valid st all have =
+    let each : Each (IsFit W) old = each-of (IsFit W) old all in
+    let returned : Returns Z (op_at W st.1.number st.1.carried.position) st.1.number st.1.carried n = subst (λ m. Returns Z m st.1.number st.1.carried n) (sym (λ i. op_at W (st.3 i) (st.4 i))) st.5 in
+    becomes W new _ st.7
+    (stepped-fits W old (keeps (received n (moved st.1)) []) each
+    (one-fits W _ (call-fits W Z st.1 n (op_at W st.1.number st.1.carried.position) refl returned (that-fits W old.hand st.1 each.hand st.2))))
 events-fit W Z s old (what.Put u p) heard new valid st all have =
     let each : Each (IsFit W) old = each-of (IsFit W) old all in
     becomes W new _ st.7 (record { hand = each.hand; next = each.next; tray = All-tail (IsFit W) st.1 st.2 (subst (All (IsFit W)) st.3 each.tray); framed = each.framed })
@@ -194,7 +207,7 @@ module _ (u : ℕ) where
   hand-empty old o (inl none) is = none
   hand-empty old o (inr none) is = absurd (none≢some (sym none ∙ is))
 
-  events-same : (W : Parts) (Z : List OrderShape) (s : ℕ) (old : Held) (w : What) (heard : Option Heard) (new : Held) → Steps W Z s old w heard new → HoldsOne old → IsSuited heard → Same old heard new
+  events-same : (W : Parts) (Z : Stored) (s : ℕ) (old : Held) (w : What) (heard : Option Heard) (new : Held) → Steps W Z s old w heard new → HoldsOne old → IsSuited heard → Same old heard new
   events-same W Z s old (what.Miss p) heard new st one suited =
       same-from old heard _ new _ st.2 st.3 (omega (arith, parts-tally old, parts-tally (record old { own = round_missed W p.0 old.own })))
   events-same W Z s old (what.Take p v) heard new st one suited =
@@ -204,6 +217,10 @@ module _ (u : ℕ) where
       same-from old heard _ new (looked old st.1 st.4 st.5) st.6 st.7 (omega (arith, looked-tally old st.1 st.4 st.5 (hand-empty old st.1 one st.2) st.2))
   events-same W Z s old (what.Step v k c) heard new st one suited =
       performs-same W s old st.5 st.1 (plan_of W s st.5 st.1) heard c new refl st.2 (next-none W s old StepDue st.0 tt) suited st.7
+  events-same W Z s old (what.Call v k n) heard new st one suited =
+      let e : Effect = keeps (received n (moved st.1)) [] in
+      same-from old heard None new (stepped old e) st.6 st.7
+      (omega (arith, stepped-tally old st.1 e st.2 (next-none W s old StepDue st.0 tt), tally-number u (received n (moved st.1)) st.1 refl, tally-nil u))
   events-same W Z s old (what.Put v p) heard new st one suited =
       let e : tally u old.tray ≡ tally u (st.1 ∷ st.2) = ap (tally u) st.3 in
       same-from old heard _ new (record old { tray = st.2 }) st.6 st.7 (omega (arith, parts-tally old, parts-tally (record old { tray = st.2 }), e, tally-cons u st.1 st.2, tally-nil u))
@@ -218,7 +235,7 @@ module _ (u : ℕ) where
       same-from old heard _ new (record old { own = left old.own; hand = Some st.1; framed = st.2 }) st.5 st.6
       (omega (arith, parts-tally old, parts-tally (record old { own = left old.own; hand = Some st.1; framed = st.2 }), e, none-tally old.hand (hand-none W s old LeaveDue st.0 tt), tally-append u st.2 (st.1 ∷ []), tally-nil u))
 
-  events-times : (W : Parts) (Z : List OrderShape) (s : ℕ) (old : Held) (w : What) (heard : Option Heard) (new : Held) → Steps W Z s old w heard new → HoldsOne old → IsSuited heard
+  events-times : (W : Parts) (Z : Stored) (s : ℕ) (old : Held) (w : What) (heard : Option Heard) (new : Held) → Steps W Z s old w heard new → HoldsOne old → IsSuited heard
       → tally u (units_held old) + tally u (contents_heard heard).units ≡ tally u (units_held new) + tally u (contents_sent heard).units
   unfolding part_tally
   events-times W Z s old w heard new st one suited = events-same W Z s old w heard new st one suited

@@ -116,6 +116,7 @@ events-hold-one W Z s old (what.Take p u) heard new st one = subst HoldsOne (sym
 events-hold-one W Z s old (what.Look u) heard new st one = subst HoldsOne (sym st.7) (looked-one old st.1 st.4 st.5)
 events-hold-one W Z s old (what.Step u k c) heard new st one =
     performs-one old (plan_of W s st.5 st.1) heard c new (by-shape W s st.5 st.1 PlanHoldsOne (λ shape facts. shape-one st.1 shape) (plan_of W s st.5 st.1) refl) st.7
+events-hold-one W Z s old (what.Call u k n) heard new st one = subst HoldsOne (sym st.7) (inr refl)
 events-hold-one W Z s old (what.Put u p) heard new st one = subst HoldsOne (sym st.7) one
 events-hold-one W Z s old (what.End u cause) heard new st one = subst HoldsOne (sym st.6) (inl refl)
 events-hold-one W Z s old (what.Enter u) heard new st one = subst HoldsOne (sym st.5) (inl refl)

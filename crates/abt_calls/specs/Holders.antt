@@ -1,6 +1,6 @@
 -- Which stream or object holds a unit: each declared unit is held once.
 use Rattle.std.specs.Prelude.{ℕ, ◌≡◌, ◌≢◌, ◌<◌, List, ◌++◌, length}
-use Rattle.abt_machine.specs.declared.operations.OrderShape.{OrderShape}
+use Rattle.abt_machine.specs.Stored.{Stored}
 use Rattle.abt_machine.specs.declared.workload.Parts.{Parts}
 use Rattle.abt_machine.specs.Valid.{IsValid}
 use Rattle.abt_machine.specs.State.{State}
@@ -34,4 +34,4 @@ pub record IsHeldOnce (W : Parts) (S : State) (u : ℕ) : Type 0 where
 
 -- in a sound state each declared unit is held once
 abbrev pub UnitsAreHeldOnce : Type 0
-UnitsAreHeldOnce = (W : Parts) (Z : List OrderShape) (S : State) (u : ℕ) → IsValid W → Sound W Z S → u < length W.units → IsHeldOnce W S u
+UnitsAreHeldOnce = (W : Parts) (Z : Stored) (S : State) (u : ℕ) → IsValid W → Sound W Z S → u < length W.units → IsHeldOnce W S u

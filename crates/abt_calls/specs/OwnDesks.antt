@@ -1,7 +1,7 @@
 -- A unit that ends or is suspended comes back to its own desk, and finds it out.
-use Rattle.std.specs.Prelude.{ℕ, ◌≡◌, List, Option, Some, None, IsTrue, ⊤}
+use Rattle.std.specs.Prelude.{ℕ, ◌≡◌, Option, Some, None, IsTrue, ⊤}
 use Rattle.abt_machine.specs.declared.events.What.{What}
-use Rattle.abt_machine.specs.declared.operations.OrderShape.{OrderShape}
+use Rattle.abt_machine.specs.Stored.{Stored}
 use Rattle.abt_machine.specs.declared.workload.Parts.{Parts}
 use Rattle.abt_machine.specs.State.{State}
 use Rattle.abt_machine.specs.Values.{Owned, Held, Object, DeskIs, desk_value, object_of, part_of}
@@ -32,5 +32,5 @@ HandsAreOut = (W : Parts) (S : State) (s : ℕ) (o : Owned) → (part_of W S s).
 -- a step of a stream in a state brings a unit back to its own desk alone
 abbrev pub StepsBringBack : Type 0
 StepsBringBack =
-    (W : Parts) (Z : List OrderShape) (S : State) (s : ℕ) (what : What) (heard : Option Heard) (new : Held)
+    (W : Parts) (Z : Stored) (S : State) (s : ℕ) (what : What) (heard : Option Heard) (new : Held)
     → Steps W Z s (part_of W S s) what heard new → BringsBack W S heard

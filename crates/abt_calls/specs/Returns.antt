@@ -2,7 +2,7 @@
 use Rattle.std.specs.Prelude.{ℕ, List}
 use Rattle.abt_machine.specs.declared.events.Event.{Event}
 use Rattle.abt_machine.specs.declared.events.Site.{Site}
-use Rattle.abt_machine.specs.declared.operations.OrderShape.{OrderShape}
+use Rattle.abt_machine.specs.Stored.{Stored}
 use Rattle.abt_machine.specs.declared.workload.Parts.{Parts}
 use Rattle.abt_machine.specs.Valid.{IsValid}
 use Rattle.abt_machine.specs.Rounds.{OrdersStored}
@@ -21,8 +21,8 @@ abbrev pub GivesOwn : Object → Act → Answer → Object → Type 0
 GivesOwn old act answer new = SiteGives old act answer new × IsTakenBack act old
 
 -- from a sound state, each history that all logs gather to is one in which units come back to their own desks alone
-abbrev pub EntriesComeBack : Parts → List OrderShape → Type 0
-EntriesComeBack W Z = IsValid W → OrdersStored W Z → (S : State) → Sound W Z S →
+abbrev pub EntriesComeBack : Parts → Stored → Type 0
+EntriesComeBack W Z = IsValid W → OrdersStored W Z.orders → (S : State) → Sound W Z S →
     (logs : ℕ → List StreamDeed) (histories : Site → List SiteEntry) (ends : ℕ → Held) (finals : Site → Object) (J : List Event) →
     Gathered (machine_of W Z) (part_of W S) (object_of W S) logs histories ends finals → IsJournalOf logs J →
     (x : Site) → Legal GivesOwn (object_of W S x) (histories x) (finals x)

@@ -1,8 +1,8 @@
 -- What every event of a stream keeps.
-use Rattle.std.specs.Prelude.{ℕ, ◌≡◌, ◌⊎◌, List, Option, Some, None, ⊤}
+use Rattle.std.specs.Prelude.{ℕ, ◌≡◌, ◌⊎◌, Option, Some, None, ⊤}
 use Rattle.std.specs.List.{All}
 use Rattle.abt_machine.specs.declared.events.What.{What}
-use Rattle.abt_machine.specs.declared.operations.OrderShape.{OrderShape}
+use Rattle.abt_machine.specs.Stored.{Stored}
 use Rattle.abt_machine.specs.declared.workload.Parts.{Parts}
 use Rattle.abt_machine.specs.Valid.{IsValid}
 use Rattle.abt_machine.specs.State.{State}
@@ -36,24 +36,24 @@ IsSuited (Some h) = Suits h.1 h.2
 
 -- a stream of a sound state does not hold both
 abbrev pub StreamsHoldOne : Type 0
-StreamsHoldOne = (W : Parts) (Z : List OrderShape) (S : State) (s : ℕ) → Sound W Z S → HoldsOne (part_of W S s)
+StreamsHoldOne = (W : Parts) (Z : Stored) (S : State) (s : ℕ) → Sound W Z S → HoldsOne (part_of W S s)
 
 -- nor does one that held at most one of them, after an event
 abbrev pub EventsHoldOne : Type 0
 EventsHoldOne =
-    (W : Parts) (Z : List OrderShape) (s : ℕ) (old : Held) (what : What) (heard : Option Heard) (new : Held)
+    (W : Parts) (Z : Stored) (s : ℕ) (old : Held) (what : What) (heard : Option Heard) (new : Held)
     → Steps W Z s old what heard new → HoldsOne old → HoldsOne new
 
 -- the units that a stream has after an event fit the workload, if those before it and what it heard do
 abbrev pub EventsFit : Type 0
 EventsFit =
-    (W : Parts) (Z : List OrderShape) (s : ℕ) (old : Held) (what : What) (heard : Option Heard) (new : Held)
+    (W : Parts) (Z : Stored) (s : ℕ) (old : Held) (what : What) (heard : Option Heard) (new : Held)
     → IsValid W → Steps W Z s old what heard new → All (Fits W) (units_held old) → Have (Fits W) (IsPoolOf W) (contents_heard heard)
     → All (Fits W) (units_held new)
 
 -- a stream has the units that it had and that came, except the one that went
 abbrev pub EventsKeepUnits : Type 0
 EventsKeepUnits =
-    (W : Parts) (Z : List OrderShape) (s : ℕ) (old : Held) (what : What) (heard : Option Heard) (new : Held)
+    (W : Parts) (Z : Stored) (s : ℕ) (old : Held) (what : What) (heard : Option Heard) (new : Held)
     → Steps W Z s old what heard new → HoldsOne old → IsSuited heard
     → KeepsEach (units_held old) (contents_heard heard).units (units_held new) (contents_sent heard).units

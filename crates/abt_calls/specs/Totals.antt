@@ -3,7 +3,7 @@ use Rattle.std.specs.Prelude.{ℕ, suc, List, [], ◌∷◌, ◌++◌, length, m
 use Rattle.std.specs.List.{flat_map, range_with_len}
 use Rattle.std.specs.List.Sorted.{IsPermutation}
 use Rattle.abt_machine.specs.declared.events.Site.TheVariants as site
-use Rattle.abt_machine.specs.declared.operations.OrderShape.{OrderShape}
+use Rattle.abt_machine.specs.Stored.{Stored}
 use Rattle.abt_machine.specs.declared.operations.Thing.{Thing}
 use Rattle.abt_machine.specs.declared.operations.Thing.TheVariants as thing
 use Rattle.abt_machine.specs.declared.workload.Parts.{Parts}
@@ -53,5 +53,5 @@ all_units W S = flat_map (units_with W S) (all_holders W)
 -- in a sound state they hold as many units as the workload has, one of each number
 abbrev pub AllUnitsOnce : Type 0
 AllUnitsOnce =
-    (W : Parts) (Z : List OrderShape) (S : State) → IsValid W → Sound W Z S
+    (W : Parts) (Z : Stored) (S : State) → IsValid W → Sound W Z S
     → IsPermutation (range_with_len 0 (length W.units)) (map number_of (all_units W S))

@@ -1,7 +1,6 @@
 //! A unit that ends or is suspended comes back to its own desk, and finds it out.
 
-ghost use Rattle.std.specs.Prelude.{List};
-ghost use Rattle.abt_machine.specs.declared.operations.OrderShape.{OrderShape};
+ghost use Rattle.abt_machine.specs.Stored.{Stored};
 ghost use Rattle.abt_machine.specs.declared.workload.Parts.{Parts};
 ghost use Rattle.abt_calls.specs.OwnDesks.{HandsAreOut, StepsBringBack};
 ghost use Rattle.abt_calls.specs.Returns.{EntriesComeBack};
@@ -18,5 +17,5 @@ pub fn steps_bring_back()
 
 /// In the histories of a run a unit that ends or is suspended comes back to its own desk, which is out.
 pub fn entries_come_back()
-    ensures { (W : Parts) (Z : List OrderShape) → EntriesComeBack W Z }
+    ensures { (W : Parts) (Z : Stored) → EntriesComeBack W Z }
 {}

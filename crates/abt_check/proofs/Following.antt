@@ -1,5 +1,5 @@
 -- From what the code makes of a stream to an event of the machine.
-use Rattle.std.proofs.Common.{◌≡◌, ◌≢◌, ◌∙◌, ◌↔◌, ℕ, suc, ◌<◌, ◌≤◌, ◌-◌, ◌^◌, Bool, true, false, List, Option, None, Some, IsTrue, ap, arith, get_or, inl, inr, length, refl, slice_set, subst, sym}
+use Rattle.std.proofs.Common.{◌≡◌, ◌≢◌, ◌∙◌, ◌↔◌, ℕ, suc, ◌<◌, ◌≤◌, ◌-◌, ◌^◌, Bool, true, false, Option, None, Some, IsTrue, ap, arith, get_or, inl, inr, length, refl, slice_set, subst, sym}
 use Rattle.std.specs.Prelude.{IfSome}
 use Rattle.std.proofs.lemmas.Bool.{cases_lt}
 use Rattle.abt_machine.specs.declared.events.Code.{Code}
@@ -7,32 +7,35 @@ use Rattle.abt_machine.specs.declared.events.Event.{Event}
 use Rattle.abt_machine.specs.declared.events.Site.{Site}
 use Rattle.abt_machine.specs.declared.events.What.{What}
 use Rattle.abt_machine.specs.declared.events.What.TheVariants as what
-use Rattle.abt_machine.specs.declared.operations.OrderShape.{OrderShape}
+use Rattle.abt_machine.specs.declared.operations.Op.{Op}
+use Rattle.abt_machine.specs.declared.operations.Op.TheVariants as op
+use Rattle.abt_machine.specs.Stored.{IsNoCall, Returns, Stored}
 use Rattle.abt_machine.specs.declared.workload.Parts.{Parts}
 use Rattle.abt_machine.specs.Acts.{Act, Answer}
 use Rattle.abt_machine.specs.Events.{May}
 use Rattle.abt_machine.specs.Events as events
 use Rattle.abt_machine.specs.Gives.{SiteGives}
-use Rattle.abt_machine.specs.Lines.{InHand, InNext, InTray, Line, standing}
-use Rattle.abt_machine.specs.Next.{RoundDue, due}
+use Rattle.abt_machine.specs.Lines.{InHand, InNext, InTray, Line, hand, standing}
+use Rattle.abt_machine.specs.Next.{RoundDue, StepDue, due}
 use Rattle.abt_machine.specs.Numbers.{stream_no}
 use Rattle.abt_machine.specs.Plans.{Calls, Does, Effect, Exits, Plan, plan_of}
 use Rattle.abt_machine.specs.Queues.{first}
 use Rattle.abt_machine.specs.Rounds.{IsNextPool, OrdersStored}
 use Rattle.abt_machine.specs.Sound.{Sound}
-use Rattle.abt_machine.specs.State.{State}
+use Rattle.abt_machine.specs.State.{Carried, State}
 use Rattle.abt_machine.specs.Turns.{Heard, Performs, Steps, due_of}
 use Rattle.abt_machine.specs.Valid.{IsValid}
 use Rattle.abt_machine.specs.Values.{Held, NotHere, Object, Owned, object_of, owned_in, part_of}
+use Rattle.abt_machine.specs.Workloads.{op_at}
 use Rattle.abt_machine.proofs.Declared.{op-declared}
-use Rattle.abt_bounds.specs.Laws.{visited}
+use Rattle.abt_bounds.specs.Laws.{returned, visited}
 use Rattle.abt_bounds.proofs.Choosing.{one-at-each-pool}
 use Rattle.abt_calls.specs.Asking.{IsSite}
 use Rattle.abt_laws.proofs.DueParts.{due-same}
 use Rattle.abt_laws.proofs.Options.{none≢some, some-injective}
 use Rattle.abt_laws.proofs.SoundRuns.{events-keep-sound}
 use Rattle.abt_laws.proofs.Standing.{StandsIn, first-stands}
-use Rattle.abt_replay.specs.Events.{Heeds, MakesEvent}
+use Rattle.abt_replay.specs.Events.{CannotCall, Heeds, MakesEvent, ReturnsSaid}
 use Rattle.abt_replay.specs.Objects.{ObjectsValue, object_at, same_place}
 use Rattle.abt_calls.proofs.Asked.{may-ask}
 use Rattle.abt_simulation.specs.Simulation.{CalledAnswers, IsEventFrom, site_heard}
@@ -49,7 +52,7 @@ use Rattle.abt_check.proofs.Sites.{one-place, own-place}
 -- Units.
 
 -- the first unit of a line is the workload's
-stands-of : (W : Parts) (Z : List OrderShape) (S : State) (l : Line) (o : Owned) → Sound W Z S → first (owned_in W S l) ≡ Some o → IsOfWorkload W o
+stands-of : (W : Parts) (Z : Stored) (S : State) (l : Line) (o : Owned) → Sound W Z S → first (owned_in W S l) ≡ Some o → IsOfWorkload W o
 stands-of W Z S l o sound e =
     let head : Head S (standing W S l) o = head-of S (standing W S l) o e in
     let at : StandsIn W S l o.number = first-stands W S l o.number head.is in
@@ -65,7 +68,7 @@ record HasUnits (W : Parts) (held : Held) : Type 0 where
   next : IfSome held.next (IsOfWorkload W)
   tray : IfSome (first held.tray) (IsOfWorkload W)
 
-has-units : (W : Parts) (Z : List OrderShape) (s : ℕ) (S : State) → Sound W Z S → HasUnits W (part_of W S s)
+has-units : (W : Parts) (Z : Stored) (s : ℕ) (S : State) → Sound W Z S → HasUnits W (part_of W S s)
 has-units W Z s S sound = record {
   hand = if-some W (first (owned_in W S (InHand s))) (λ o e. stands-of W Z S (InHand s) o sound e);
   next = if-some W (first (owned_in W S (InNext s))) (λ o e. stands-of W Z S (InNext s) o sound e);
@@ -73,7 +76,7 @@ has-units W Z s S sound = record {
 }
 
 -- what a stream holds in a state can move
-pub can-move : (W : Parts) (Z : List OrderShape) (n s : ℕ) (S : State) → n < 2 ^ 64 - 1 → s < W.streams → IsAfter W Z n S → CanMove W Z (part_of W S s)
+pub can-move : (W : Parts) (Z : Stored) (n s : ℕ) (S : State) → n < 2 ^ 64 - 1 → s < W.streams → IsAfter W Z n S → CanMove W Z.orders (part_of W S s)
 can-move W Z n s S few l state =
     let has : HasUnits W (part_of W S s) = has-units W Z s S state.sound in
     let at : (S.stream s).top.round ≤ n = (state.rounds s).0 in
@@ -93,7 +96,7 @@ called-by old (Exits o) heard c new x st is = absurd (none≢some (ap site_heard
 called-by old (Calls y asked brings) heard c new x st is = (asked, brings, ap (λ z. Calls z asked brings) (some-injective (ap site_heard (sym st.1) ∙ is)))
 
 -- a stream calls declared sites alone
-heard-declared : (W : Parts) (Z : List OrderShape) (s : ℕ) (old : Held) (w : What) (heard : Option Heard) (new : Held) (x : Site) → IsValid W → HasUnits W old → Steps W Z s old w heard new → site_heard heard ≡ Some x → IsSite W x
+heard-declared : (W : Parts) (Z : Stored) (s : ℕ) (old : Held) (w : What) (heard : Option Heard) (new : Held) (x : Site) → IsValid W → HasUnits W old → Steps W Z s old w heard new → site_heard heard ≡ Some x → IsSite W x
 heard-declared W Z s old (what.Miss p) heard new x valid can st is =
     subst (IsSite W) (some-injective (sym (ap site_heard st.2) ∙ is)) (next-declared W Z old.own.top p.0 valid st.1)
 heard-declared W Z s old (what.Take p u) heard new x valid can st is =
@@ -105,6 +108,7 @@ heard-declared W Z s old (what.Step u k c) heard new x valid can st is =
     let of : IsOfWorkload W st.1 = some-of W old.hand st.1 st.2 can.hand in
     let call = called-by old (plan_of W s st.5 st.1) heard c new x st.7 is in
     (may-ask W s st.5 st.1 x call.0 call.1 valid of.number (op-declared W u.0 k st.5 valid st.6) call.2).site
+heard-declared W Z s old (what.Call u k n) heard new x valid can st is = absurd (none≢some (sym (ap site_heard st.6) ∙ is))
 heard-declared W Z s old (what.Put u p) heard new x valid can st is =
     let of : IsOfWorkload W st.1 = some-of W (first old.tray) st.1 (ap first st.3) can.tray in
     subst (IsSite W) (some-injective (sym (ap site_heard st.6) ∙ is)) (subst (λ k. k < length W.pools) st.5 of.home)
@@ -121,7 +125,7 @@ abbrev called : Option Heard → ObjectsValue → Object
 called None after = NotHere
 called (Some h) after = object_at after h.0
 
-module _ (W : Parts) (Z : List OrderShape) (n s : ℕ) (S : State) (replay : ReplayValue) (valid : IsValid W) (stored : OrdersStored W Z) (l : s < W.streams) (state : IsAfter W Z n S) (stands : StandsFor W S replay) where
+module _ (W : Parts) (Z : Stored) (n s : ℕ) (S : State) (replay : ReplayValue) (valid : IsValid W) (stored : OrdersStored W Z.orders) (l : s < W.streams) (state : IsAfter W Z n S) (stands : StandsFor W S replay) where
   answers-by : (heard : Option Heard) (after : ObjectsValue) → ((x : Site) → site_heard heard ≡ Some x → IsSite W x) → Heeds replay.objects heard after → CalledAnswers W S heard (called heard after)
   answers-by None after declared heeds = tt
   answers-by (Some h) after declared heeds = subst (λ (q : Object). SiteGives q h.1 h.2 (object_at after h.0)) (stands.objects h.0 (declared h.0 refl)) heeds.gives
@@ -179,17 +183,19 @@ module _ (W : Parts) (Z : List OrderShape) (n s : ℕ) (S : State) (replay : Rep
   visits-due (what.Take q u) p may e = may.0
   visits-due (what.Look u) p may e = absurd (none≢some e)
   visits-due (what.Step u k c) p may e = absurd (none≢some e)
+  visits-due (what.Call u k m) p may e = absurd (none≢some e)
   visits-due (what.Put u q) p may e = absurd (none≢some e)
   visits-due (what.End u c) p may e = absurd (none≢some e)
   visits-due (what.Enter u) p may e = absurd (none≢some e)
   visits-due (what.Leave u) p may e = absurd (none≢some e)
 
   -- if a round is due, and none of its next pools is visited
-  none-may : (named : What) → due_of W s (part_of W S s) ≡ RoundDue → ((p : ℕ) → visited named ≡ Some p → IsNextPool W Z (S.stream s).top p → ⊥) → May W Z S s named → ⊥
+  none-may : (named : What) → due_of W s (part_of W S s) ≡ RoundDue → ((p : ℕ) → visited named ≡ Some p → IsNextPool W Z.orders (S.stream s).top p → ⊥) → May W Z S s named → ⊥
   none-may (what.Miss q) round none may = none q.0 refl may.2
   none-may (what.Take q u) round none may = none q.0 refl may.2
   none-may (what.Look u) round none may = let other = sym may.0 ∙ (due-same W S s ∙ round) in cc
   none-may (what.Step u k c) round none may = let other = sym may.0 ∙ (due-same W S s ∙ round) in cc
+  none-may (what.Call u k m) round none may = let other = sym may.0 ∙ (due-same W S s ∙ round) in cc
   none-may (what.Put u q) round none may = let other = sym may.0 ∙ (due-same W S s ∙ round) in cc
   none-may (what.End u c) round none may = let other = sym may.0 ∙ (due-same W S s ∙ round) in cc
   none-may (what.Enter u) round none may = let other = sym may.0 ∙ (due-same W S s ∙ round) in cc
@@ -201,15 +207,81 @@ module _ (W : Parts) (Z : List OrderShape) (n s : ℕ) (S : State) (replay : Rep
   same-visit D None (Some q) f g r = r (g q refl)
   same-visit D (Some p) b f g r = r (f p refl)
 
+  -- the unit in hand is to call
+  record IsCalling : Type 0 where
+    unit : ℕ
+    due : due W S s ≡ StepDue
+    hand : hand W S s ≡ Some unit
+    calls : IsNoCall (op_at W unit (S.carried unit).position) → ⊥
+
+  no-call-returns : (o : Option Op) (u m : ℕ) (c : Carried) → Returns Z o u c m → IsNoCall o → ⊥
+  no-call-returns (Some (op.Call f)) u m c h own = own
+  no-call-returns o u m c h own = h
+
+  -- it is, if a call may come
+  is-calling : (v : What) (m : ℕ) → returned v ≡ Some m → May W Z S s v → IsCalling
+  is-calling (what.Call u k r) m e may = record {
+    unit = u.0;
+    due = may.0;
+    hand = may.1;
+    calls = λ own. no-call-returns (op_at W u.0 k) u.0 r (S.carried u.0) may.3 (subst (λ n. IsNoCall (op_at W u.0 n)) may.2 own);
+  }
+  is-calling v m e may = absurd (none≢some e)
+
+  -- and then nothing else may
+  calling-alone : (w : What) → returned w ≡ None → May W Z S s w → IsCalling → ⊥
+  calling-alone (what.Step u k c) e may is =
+      let same : u.0 ≡ is.unit = some-injective (sym may.1 ∙ is.hand) in is.calls (subst (λ v. IsNoCall (op_at W v (S.carried v).position)) same (subst (λ n. IsNoCall (op_at W u.0 n)) (sym may.2) may.4))
+  calling-alone (what.Call u k m) e may is = absurd (none≢some (sym e))
+  calling-alone (what.Miss p) e may is = let other = sym may.0 ∙ is.due in cc
+  calling-alone (what.Take p u) e may is = let other = sym may.0 ∙ is.due in cc
+  calling-alone (what.Look u) e may is = let other = sym may.0 ∙ is.due in cc
+  calling-alone (what.Put u p) e may is = let other = sym may.0 ∙ is.due in cc
+  calling-alone (what.End u c) e may is = let other = sym may.0 ∙ is.due in cc
+  calling-alone (what.Enter u) e may is = let other = sym may.0 ∙ is.due in cc
+  calling-alone (what.Leave u) e may is = let other = sym may.0 ∙ is.due in cc
+
+  said-of : (said : Option ℕ) (made : What) (m : ℕ) → ReturnsSaid said made → returned made ≡ Some m → said ≡ Some m
+  said-of said (what.Call u k r) m says e = says ∙ e
+  said-of said made m says e = absurd (none≢some e)
+
+  -- the event that was made and the named one return the same
+  same-return-by : (made named : What) (a b : Option ℕ) → returned made ≡ a → returned named ≡ b → ReturnsSaid (returned named) made → May W Z S s made → May W Z S s named → a ≡ b
+  same-return-by made named (Some m) b is also says may other = sym (said-of (returned named) made m says is) ∙ also
+  same-return-by made named None None is also says may other = refl
+  same-return-by made named None (Some m) is also says may other = absurd (calling-alone made is may (is-calling named m also other))
+
   -- the event that was made is the only one that may come there
   only-may : (made named : What) (new : Held) (after : ObjectsValue) → MovesAs W Z s (part_of W S s) replay.objects named (Some made) new after → May W Z S s named → made ≡ named
   only-may made named new after moves may =
       let made_may : May W Z S s made = (done made new after moves.0).may in
       one-at-each-pool W Z S s made named state.sound made_may may
       (same-visit (due W S s ≡ RoundDue) (visited made) (visited named) (λ p e. visits-due made p made_may e) (λ p e. visits-due named p may e) (λ d. moves.1 (sym (due-same W S s) ∙ d)))
+      (same-return-by made named (returned made) (returned named) refl refl moves.2 made_may may)
+
+  -- a unit that is to call and may not return what is named
+  no-call-may : (named : What) (o : Owned) → CannotCall W Z s o (part_of W S s) (returned named) → May W Z S s named → ⊥
+  no-call-may named o cannot may =
+      let head : Head S (standing W S (InHand s)) o = head-of S (standing W S (InHand s)) o cannot.hand in
+      let carries : S.carried o.number ≡ o.carried = ap (λ (b : Owned). b.carried) head.owns in
+      let calling : IsCalling = record {
+        unit = o.number;
+        due = due-same W S s ∙ cannot.due;
+        hand = head.is;
+        calls = λ own. cannot.calls (subst (λ (c : Carried). IsNoCall (op_at W o.number c.position)) carries own);
+      } in by named (returned named) refl may calling cannot.returns head.is carries
+    where
+      by : (v : What) (said : Option ℕ) → returned v ≡ said → May W Z S s v → IsCalling → ((m : ℕ) → said ≡ Some m → Returns Z (op_at W o.number o.carried.position) o.number o.carried m → ⊥)
+          → hand W S s ≡ Some o.number → S.carried o.number ≡ o.carried → ⊥
+      by (what.Call u k m) said e m' is none here carries =
+          let same : u.0 ≡ o.number = some-injective (sym m'.1 ∙ here) in
+          none m (sym e) (subst (λ (c : Carried). Returns Z (op_at W o.number c.position) o.number c m) carries
+          (subst (λ v. Returns Z (op_at W v (S.carried v).position) v (S.carried v) m) same (subst (λ n. Returns Z (op_at W u.0 n) u.0 (S.carried u.0) m) (sym m'.2) m'.3)))
+      by v said e m' is none here carries = calling-alone v refl m' is
 
   refuses : (made : Option What) (named : What) (new : Held) (after : ObjectsValue) → MovesAs W Z s (part_of W S s) replay.objects named made new after → (made ≡ Some named → ⊥) → May W Z S s named → ⊥
-  refuses None named new after moves other may = none-may named moves.0 moves.1 may
+  refuses None named new after (inl visits) other may = none-may named visits.0 visits.1 may
+  refuses None named new after (inr calls) other may = no-call-may named calls.0 calls.1 may
   refuses (Some made) named new after moves other may = other (ap (λ (w : What). Some w) (only-may made named new after moves may))
 
   -- whether the named event was made is whether it may come

@@ -5,9 +5,7 @@ use Rattle.std.proofs.lemmas.List.{length-take-le, length_push, take-append-drop
 use Rattle.std.proofs.lemmas.List.Elements.{Contains-push}
 use Rattle.std.proofs.Math.Seq.{take-length}
 use Rattle.abt_machine.specs.declared.events.Event.{Event}
-use Rattle.abt_machine.specs.declared.events.What.TheVariants as what
-use Rattle.abt_machine.specs.Numbers.{pool_no, stream_no}
-use Rattle.abt_machine.specs.declared.operations.OrderShape.{OrderShape}
+use Rattle.abt_machine.specs.Stored.{Stored}
 use Rattle.abt_machine.specs.declared.workload.Parts.{Parts}
 use Rattle.abt_machine.specs.Events.{May, after}
 use Rattle.abt_machine.specs.Rounds.{OrdersStored}
@@ -26,7 +24,7 @@ use Rattle.abt_check.specs.declared.verdict.Verdict.{Verdict}
 use Rattle.abt_check.specs.declared.verdict.Verdict.TheVariants as verdict
 use Rattle.abt_check.proofs.Stamping.{stamped-front}
 
-module _ (W : Parts) (Z : List OrderShape) where
+module _ (W : Parts) (Z : Stored) where
   -- an event that may come
   pub run-more : (J : List Event) (e : Event) → Run W Z J → e.stream.0 < W.streams → May W Z (last_state W J) e.stream.0 e.what → Run W Z (J ++ e ∷ [])
   run-more J e run l may = run-push W Z (start W) J e run l may
@@ -39,7 +37,7 @@ module _ (W : Parts) (Z : List OrderShape) where
   last_state-more J e = state_after-append W (start W) J (e ∷ [])
 
   -- what an event of a run names is declared
-  pub names-declared : (J : List Event) (e : Event) → IsValid W → OrdersStored W Z → Run W Z J → e.stream.0 < W.streams → May W Z (last_state W J) e.stream.0 e.what → NamesDeclared W e.what
+  pub names-declared : (J : List Event) (e : Event) → IsValid W → OrdersStored W Z.orders → Run W Z J → e.stream.0 < W.streams → May W Z (last_state W J) e.stream.0 e.what → NamesDeclared W e.what
   names-declared J e valid stored run l may = (runs-name-declared W Z valid stored (J ++ e ∷ []) e (run-more J e run l may) (Contains-push J e)).1
 
   -- first events of a stamped run are one
@@ -87,7 +85,7 @@ module _ (W : Parts) (Z : List OrderShape) where
   }
 
 -- a journal has one right verdict
-one-by : (W : Parts) (Z : List OrderShape) (J : List Event) (one two : Verdict) → IsJudged W Z J one → IsJudged W Z J two → one ≡ two
+one-by : (W : Parts) (Z : Stored) (J : List Event) (one two : Verdict) → IsJudged W Z J one → IsJudged W Z J two → one ≡ two
 one-by W Z J verdict.Run verdict.Run a b = refl
 one-by W Z J verdict.Run (verdict.Bad at) a b =
     let most : length J ≤ at = b.greatest (length J) (omega arith) (subst (IsStampedRun W Z) (sym (take-length J)) a) in
@@ -102,14 +100,10 @@ one-by W Z J (verdict.Bad i) (verdict.Bad j) a b =
     let down : j ≤ i = a.greatest j (omega arith) b.holds in
     let same : i ≡ j = omega arith in ap (λ n. verdict.Bad n) same
 
-pub one-right_verdict : (W : Parts) (Z : List OrderShape) → OneVerdict W Z
+pub one-right_verdict : (W : Parts) (Z : Stored) → OneVerdict W Z
 one-right_verdict W Z J one two a b = one-by W Z J one two a b
 
 -- Judging all events.
-
--- what the code finds past the end of a journal
-abbrev pub no_event : Event
-no_event = record { stamp = 0; stream = stream_no 0; what = what.Miss (pool_no 0) }
 
 -- one event more of a journal
 pub first-more : (J items : List Event) (at : ℕ) (d : Event) → items ≡ J → at < length items → (at < length J) × (take (at + 1) J ≡ take at J ++ get_or items at d ∷ [])
@@ -124,7 +118,7 @@ first-long J items at same l few =
     let long : length (take at J) ≡ at = length-take-le at J (omega arith) in omega arith
 
 -- all events were judged
-pub all-judged : (W : Parts) (Z : List OrderShape) (J items : List Event) (at : ℕ) (judge : JudgeValue) → items ≡ J → at ≤ length items → length items ≤ at → HasJudged W Z (take at J) judge → IsStampedRun W Z J
+pub all-judged : (W : Parts) (Z : Stored) (J items : List Event) (at : ℕ) (judge : JudgeValue) → items ≡ J → at ≤ length items → length items ≤ at → HasJudged W Z (take at J) judge → IsStampedRun W Z J
 all-judged W Z J items at judge same up down h =
     let long : length items ≡ length J = ap (λ (xs : List Event). length xs) same in
     let all : at ≡ length J = omega arith in

@@ -1,5 +1,5 @@
 -- What each part of the code makes of a stream is a step of it.
-use Rattle.std.proofs.Common.{◌≡◌, ◌∙◌, ℕ, ◌<◌, Bool, true, false, List, [], ◌∷◌, Option, None, Some, ap, length, option_map, refl, subst, sym}
+use Rattle.std.proofs.Common.{◌≡◌, ◌∙◌, ℕ, ◌<◌, Bool, true, false, List, [], ◌∷◌, Option, None, Some, ap, inr, length, option_map, refl, subst, sym}
 use Rattle.std.proofs.lemmas.List.Elements.{All-contains}
 use Rattle.std.specs.Prelude.{IfSome}
 use Rattle.abt_machine.specs.declared.events.Site.TheVariants as site
@@ -7,7 +7,7 @@ use Rattle.abt_machine.specs.declared.events.What.{What}
 use Rattle.abt_machine.specs.declared.events.What.TheVariants as what
 use Rattle.abt_machine.specs.declared.numbers.PoolNo.{PoolNo}
 use Rattle.abt_machine.specs.declared.numbers.UnitNo.{UnitNo}
-use Rattle.abt_machine.specs.declared.operations.OrderShape.{OrderShape}
+use Rattle.abt_machine.specs.Stored.{Stored}
 use Rattle.abt_machine.specs.declared.workload.Parts.{Parts}
 use Rattle.abt_machine.specs.Acts.{Answer}
 use Rattle.abt_machine.specs.Acts as act
@@ -24,12 +24,12 @@ use Rattle.abt_machine.specs.Workloads.{body_at, pools_of}
 use Rattle.abt_machine.proofs.Declared.{listed-declared}
 use Rattle.abt_laws.proofs.Dues.{no-round-in-hand}
 use Rattle.abt_laws.proofs.Orders.{next_pool-listed}
-use Rattle.abt_bounds.specs.Laws.{visited}
+use Rattle.abt_bounds.specs.Laws.{returned, visited}
 use Rattle.abt_calls.specs.Allowed.{Allows}
 use Rattle.abt_calls.specs.Suits.{Suits}
 use Rattle.abt_calls.proofs.Asked.{takes-may-call}
 use Rattle.abt_calls.proofs.Suited.{answers-suit}
-use Rattle.abt_replay.specs.Events.{AreObjects, Looks, MakesEvent, Visits, Woken, in_hand}
+use Rattle.abt_replay.specs.Events.{AreObjects, CannotCall, Looks, MakesEvent, ReturnsSaid, Runs, Visits, Woken, in_hand}
 use Rattle.abt_replay.specs.Objects.{ObjectsValue, object_at}
 use Rattle.abt_check.specs.Turns.{IsOfWorkload, MovesAs}
 
@@ -80,10 +80,10 @@ looked-taken old o true migrate = refl
 looked-taken old o false None = refl
 looked-taken old o false (Some p) = refl
 
-module _ (W : Parts) (Z : List OrderShape) (s : ℕ) (old : Held) (before : ObjectsValue) (named : What) (made : What) (new : Held) (after : ObjectsValue) where
+module _ (W : Parts) (Z : Stored) (s : ℕ) (old : Held) (before : ObjectsValue) (named : What) (made : What) (new : Held) (after : ObjectsValue) where
   -- a kind of event that is no round
-  no-round : (d : Due) → due_of W s old ≡ d → (d ≡ RoundDue → ⊥) → MakesEvent W Z s old before made new after → MovesAs W Z s old before named (Some made) new after
-  no-round d due other moves = (moves, λ r. absurd (other (sym due ∙ r)))
+  no-round : (d : Due) → due_of W s old ≡ d → (d ≡ RoundDue → ⊥) → MakesEvent W Z s old before made new after → ReturnsSaid (returned named) made → MovesAs W Z s old before named (Some made) new after
+  no-round d due other moves says = (moves, λ r. absurd (other (sym due ∙ r)), says)
 
   pub put-moves : (o : Owned) → old.tray ≡ o ∷ new.tray → new ≡ record old { tray = new.tray } → Woken before o made after → MovesAs W Z s old before named (Some made) new after
   put-moves o tray others h =
@@ -93,6 +93,7 @@ module _ (W : Parts) (Z : List OrderShape) (s : ℕ) (old : Held) (before : Obje
       let heard : Option Heard = Some (x, act.Put o, h.call.0) in
       no-round PutDue due (λ e. cc)
       (heard, subst (λ (w : What). Steps W Z s old w heard new) (sym h.made_is) (due, o, new.tray, tray, refl, refl, ap (λ (a : Answer). Some (x, act.Put o, a)) is, others), h.call.1)
+      (subst (ReturnsSaid (returned named)) (sym h.made_is) tt)
 
   pub look-moves : (o : Owned) (taken : Held) → old.tray ≡ [] → old.next ≡ Some o → taken ≡ record old { next = None } → Looks taken before o made new after → MovesAs W Z s old before named (Some made) new after
   look-moves o taken tray next rest h =
@@ -103,28 +104,34 @@ module _ (W : Parts) (Z : List OrderShape) (s : ℕ) (old : Held) (before : Obje
         subst (λ (w : What). Steps W Z s old w heard new) (sym h.made_is)
             (due, o, next, refl, h.call.0, h.call.1, refl, h.call.3 ∙ (ap (λ (held : Held). looked held o h.call.0 h.call.1) rest ∙ looked-taken old o h.call.0 h.call.1)),
         h.call.2,
-      )
+      ) (subst (ReturnsSaid (returned named)) (sym h.made_is) tt)
 
-  pub run-moves : (o : Owned) (taken : Held) → old.tray ≡ [] → old.next ≡ None → old.hand ≡ Some o → taken ≡ record old { hand = None } → MakesEvent W Z s (in_hand o taken) before made new after → MovesAs W Z s old before named (Some made) new after
-  run-moves o taken tray next hand rest moves =
+-- the unit in hand, which goes on or cannot call
+module _ (W : Parts) (Z : Stored) (s : ℕ) (old : Held) (before : ObjectsValue) (named : What) (new : Held) (after : ObjectsValue) where
+  pub run-moves : (made : Option What) (o : Owned) (taken : Held) → old.tray ≡ [] → old.next ≡ None → old.hand ≡ Some o → taken ≡ record old { hand = None } → Runs W Z s o taken before (returned named) made new after
+      → MovesAs W Z s old before named made new after
+  run-moves (Some made) o taken tray next hand rest moves =
       let same : in_hand o taken ≡ old = ap (in_hand o) rest ∙ ap (λ (h : Option Owned). record old { hand = h }) (sym hand) in
-      no-round (due_of_unit W s old.own.mark (body_at W o.number) o.carried.position) (hand-due W s old o tray next hand) (no-round-in-hand W s old.own.mark (body_at W o.number) o.carried.position)
-      (subst (λ (held : Held). MakesEvent W Z s held before made new after) same moves)
+      no-round W Z s old before named made new after (due_of_unit W s old.own.mark (body_at W o.number) o.carried.position) (hand-due W s old o tray next hand) (no-round-in-hand W s old.own.mark (body_at W o.number) o.carried.position)
+      (subst (λ (held : Held). MakesEvent W Z s held before made new after) same moves.0) moves.1
+  run-moves None o taken tray next hand rest moves =
+      let same : in_hand o taken ≡ old = ap (in_hand o) rest ∙ ap (λ (h : Option Owned). record old { hand = h }) (sym hand) in
+      inr (o, subst (λ (held : Held). CannotCall W Z s o held (returned named)) same moves)
 
 -- a round at a pool that may be next
-pub visit-moves : (W : Parts) (Z : List OrderShape) (s : ℕ) (old : Held) (before : ObjectsValue) (named : What) (p : PoolNo) (made : What) (new : Held) (after : ObjectsValue) → due_of W s old ≡ RoundDue
-    → IsNextPool W Z old.own.top p.0 → visited named ≡ Some p.0 → Visits W s old before p made new after → MovesAs W Z s old before named (Some made) new after
+pub visit-moves : (W : Parts) (Z : Stored) (s : ℕ) (old : Held) (before : ObjectsValue) (named : What) (p : PoolNo) (made : What) (new : Held) (after : ObjectsValue) → due_of W s old ≡ RoundDue
+    → IsNextPool W Z.orders old.own.top p.0 → visited named ≡ Some p.0 → Visits W s old before p made new after → MovesAs W Z s old before named (Some made) new after
 visit-moves W Z s old before named p (what.Miss q) new after due next is h =
     let same : q.0 ≡ p.0 = ap (λ (x : PoolNo). x.0) h.0 in
     let heard : Option Heard = Some (site.Pool p, act.Take (side_of W s p.0), act.Miss) in
-    (subst (λ (x : PoolNo). MakesEvent W Z s old before (what.Miss x) new after) (sym h.0) (heard, (due, next, refl, h.2), h.1), λ r. ap (λ n. Some n) same ∙ sym is)
+    (subst (λ (x : PoolNo). MakesEvent W Z s old before (what.Miss x) new after) (sym h.0) (heard, (due, next, refl, h.2), h.1), λ r. ap (λ n. Some n) same ∙ sym is, tt)
 visit-moves W Z s old before named p (what.Take q u) new after due next is h =
     let same : q.0 ≡ p.0 = ap (λ (x : PoolNo). x.0) h.0 in
     let heard : Option Heard = Some (site.Pool p, act.Take (side_of W s p.0), act.Given h.1) in
-    (subst (λ (x : PoolNo). MakesEvent W Z s old before (what.Take x u) new after) (sym h.0) (heard, (due, next, h.1, sym (ap (λ (v : UnitNo). v.0) h.2), refl, h.4), h.3), λ r. ap (λ n. Some n) same ∙ sym is)
+    (subst (λ (x : PoolNo). MakesEvent W Z s old before (what.Take x u) new after) (sym h.0) (heard, (due, next, h.1, sym (ap (λ (v : UnitNo). v.0) h.2), refl, h.4), h.3), λ r. ap (λ n. Some n) same ∙ sym is, tt)
 visit-moves W Z s old before named p made new after due next is h = absurd h
 
 -- the pools of a round
-pub next-declared : (W : Parts) (Z : List OrderShape) (f : Frame) (p : ℕ) → IsValid W → IsNextPool W Z f p → p < length W.pools
+pub next-declared : (W : Parts) (Z : Stored) (f : Frame) (p : ℕ) → IsValid W → IsNextPool W Z.orders f p → p < length W.pools
 next-declared W Z f p valid next =
     All-contains (λ q. q < length W.pools) (pools_of W f.sched) p (listed-declared W f.sched valid) (next_pool-listed W Z f p next)

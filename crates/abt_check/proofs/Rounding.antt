@@ -5,7 +5,7 @@ use Rattle.std.specs.List.{AllByRecursion}
 use Rattle.abt_machine.specs.declared.events.Code.{Code}
 use Rattle.abt_machine.specs.declared.events.What.{What}
 use Rattle.abt_machine.specs.declared.events.What.TheVariants as what
-use Rattle.abt_machine.specs.declared.operations.OrderShape.{OrderShape}
+use Rattle.abt_machine.specs.Stored.{Stored}
 use Rattle.abt_machine.specs.declared.workload.Parts.{Parts}
 use Rattle.abt_machine.specs.Frames.{frame_at, left_to, round_missed}
 use Rattle.abt_machine.specs.Plans.{Calls, Does, Exits, Plan, plan_of}
@@ -47,12 +47,13 @@ performed-begun n old (Calls x asked brings) heard c new st h = subst (λ (held 
 performed-begun n old (Exits b) heard c new st h = subst (λ (held : Held). HasBegun (suc n) held.own) (sym st.2) (begun n old.own h)
 
 -- an event begins one round at most
-pub steps-begun : (W : Parts) (Z : List OrderShape) (n s : ℕ) (old : Held) (w : What) (heard : Option Heard) (new : Held) → Steps W Z s old w heard new → HasBegun n old.own → HasBegun (suc n) new.own
+pub steps-begun : (W : Parts) (Z : Stored) (n s : ℕ) (old : Held) (w : What) (heard : Option Heard) (new : Held) → Steps W Z s old w heard new → HasBegun n old.own → HasBegun (suc n) new.own
 steps-begun W Z n s old (what.Miss p) heard new st h = subst (λ (held : Held). HasBegun (suc n) held.own) (sym st.3) (missed-begun W n p.0 old.own h)
 steps-begun W Z n s old (what.Take p u) heard new st h =
     let l : old.own.top.round ≤ n = h.0 in subst (λ (held : Held). HasBegun (suc n) held.own) (sym st.5) (omega arith, begun-frames n old.own.below h.1)
 steps-begun W Z n s old (what.Look u) heard new st h = subst (λ (held : Held). HasBegun (suc n) held.own) (sym st.7) (looked-begun n old st.1 st.4 st.5 h)
 steps-begun W Z n s old (what.Step u k c) heard new st h = performed-begun n old (plan_of W s st.5 st.1) heard c new st.7 h
+steps-begun W Z n s old (what.Call u k m) heard new st h = subst (λ (held : Held). HasBegun (suc n) held.own) (sym st.7) (begun n old.own h)
 steps-begun W Z n s old (what.Put u p) heard new st h = subst (λ (held : Held). HasBegun (suc n) held.own) (sym st.7) (begun n old.own h)
 steps-begun W Z n s old (what.End u c) heard new st h = subst (λ (held : Held). HasBegun (suc n) held.own) (sym st.6) (begun n old.own h)
 steps-begun W Z n s old (what.Enter u) heard new st h =

@@ -7,7 +7,7 @@ use Rattle.std.proofs.lemmas.Option.{slice_get_within}
 use Rattle.abt_machine.specs.declared.events.Site.{Site}
 use Rattle.abt_machine.specs.declared.events.Site.TheVariants as site
 use Rattle.abt_machine.specs.declared.operations.Combine.{Combine}
-use Rattle.abt_machine.specs.declared.operations.OrderShape.{OrderShape}
+use Rattle.abt_machine.specs.Stored.{Stored}
 use Rattle.abt_machine.specs.declared.operations.Thing.{Thing}
 use Rattle.abt_machine.specs.declared.operations.Thing.TheVariants as thing
 use Rattle.abt_machine.specs.declared.workload.Parts.{Parts}
@@ -86,7 +86,7 @@ replay-starts W lanes objects numbered are = record {
 }
 
 -- the empty journal is judged
-pub judge-starts : (W : Parts) (Z : List OrderShape) (replay : ReplayValue) (clocks : ClocksValue) → IsValid W → OrdersStored W Z → StandsFor W (start W) replay → AreClocks W [] clocks → HasJudged W Z [] (record { replay = replay; clocks = clocks })
+pub judge-starts : (W : Parts) (Z : Stored) (replay : ReplayValue) (clocks : ClocksValue) → IsValid W → OrdersStored W Z.orders → StandsFor W (start W) replay → AreClocks W [] clocks → HasJudged W Z [] (record { replay = replay; clocks = clocks })
 judge-starts W Z replay clocks valid stored stands are = record {
   run = tt;
   stamped = tt;

@@ -28,6 +28,7 @@ use Rattle.abt_bounds.proofs.Freedom.{free-orders-are-free}
 use Rattle.abt_laws.proofs.Orders.{next_pool-listed, order-permutes}
 use Rattle.abt_order.specs.Schedulers.{pool_numbers}
 use Rattle.abt_order.proofs.PoolNumbers.{length-pool_numbers}
+use Rattle.abt_check.specs.Verdicts.{stored_with}
 use Rattle.abt_replay.specs.Nexts.{NextIs}
 use Rattle.abt_replay.specs.declared.rounds.Next.{Next}
 use Rattle.abt_replay.specs.declared.rounds.Next.TheVariants as next
@@ -59,7 +60,7 @@ module _ (W : Parts) (Z : List OrderShape) (f : Frame) where
   -- the round has seen fewer pools than its scheduler lists
   pub seen-few : IsUnderWay W Z f → length f.seen < length (pools_of W f.sched)
   seen-few way =
-      let all : length way.0 ≡ length (pools_of W f.sched) = length_permutation (pools_of W f.sched) way.0 (order-permutes W Z f.sched f.round way.0 way.1) in
+      let all : length way.0 ≡ length (pools_of W f.sched) = length_permutation (pools_of W f.sched) way.0 (order-permutes W (stored_with Z (λ f u acc keys. None)) f.sched f.round way.0 way.1) in
       let long : length (f.seen ++ way.2 ∷ way.3) ≡ length f.seen + length (way.2 ∷ way.3) = length-append f.seen (way.2 ∷ way.3) in
       let same : length (f.seen ++ way.2 ∷ way.3) ≡ length way.0 = ap (λ (xs : List ℕ). length xs) way.4 in omega arith
 
@@ -83,7 +84,7 @@ module _ (W : Parts) (Z : List OrderShape) (f : Frame) where
   pub unseen-next : (p : ℕ) → IsUnderWay W Z f → choice_of W Z f.sched f.round ≡ AnyOrder → Contains (pools_of W f.sched) p → (Contains f.seen p → ⊥) → IsNextPool W Z f p
   unseen-next p way is listed unseen =
       let free : IsFree Z (rule_of W f.sched) = chosen-free W Z f.sched f.round (rule_of W f.sched) (pools_of W f.sched) is in
-      free-orders-are-free W Z f free.0 p way free.1 free.2 listed unseen
+      free-orders-are-free W (stored_with Z (λ f u acc keys. None)) f free.0 p way free.1 free.2 listed unseen
 
   -- no order visits a pool twice
   pub next-unseen : (p : ℕ) → IsValid W → IsNextPool W Z f p → Contains f.seen p → ⊥
@@ -91,7 +92,7 @@ module _ (W : Parts) (Z : List OrderShape) (f : Frame) where
       let apart : IsDistinct (λ x y. x == y) (pools_of W f.sched) = IsDistinct-from_AllPairs Decides-eqb (pools_of W f.sched) (listed-once W f.sched valid) in
       let order : List ℕ = f.seen ++ p ∷ next.2.0 in
       let same : next.0 ≡ order = sym next.2.1 ∙ append_assoc f.seen (p ∷ []) next.2.0 in
-      let permutes : IsPermutation (pools_of W f.sched) order = subst (IsPermutation (pools_of W f.sched)) same (order-permutes W Z f.sched f.round next.0 next.1) in
+      let permutes : IsPermutation (pools_of W f.sched) order = subst (IsPermutation (pools_of W f.sched)) same (order-permutes W (stored_with Z (λ f u acc keys. None)) f.sched f.round next.0 next.1) in
       let distinct : IsDistinct (λ x y. x == y) order = IsDistinct-IsPermutation (λ x y. x == y) (λ x y. flips-by x y (x == y) (y == x) refl refl) (pools_of W f.sched) order permutes apart in
       let long : length order ≡ length f.seen + length (p ∷ next.2.0) = length-append f.seen (p ∷ next.2.0) in
       let k : ℕ = seen.0 in
@@ -172,5 +173,5 @@ pub open-visit : (W : Parts) (Z : List OrderShape) (f : Frame) (visit : Next) (p
 open-visit W Z f visit ps seen b p valid way is e pools before found =
     let found_next : NextIs (choice_of W Z f.sched f.round) (length f.seen) next.Any = subst (NextIs (choice_of W Z f.sched f.round) (length f.seen)) e is in (
       λ t. unseen-next W Z f p way found_next (subst (λ xs. Contains xs p) pools (found.0 t).0) (λ has. (found.0 t).1 (subst (λ xs. Contains xs p) (sym before) has)),
-      λ n. found.1 (subst (λ xs. Contains xs p) (sym pools) (next_pool-listed W Z f p n), λ has. next-unseen W Z f p valid n (subst (λ xs. Contains xs p) before has)),
+      λ n. found.1 (subst (λ xs. Contains xs p) (sym pools) (next_pool-listed W (stored_with Z (λ f u acc keys. None)) f p n), λ has. next-unseen W Z f p valid n (subst (λ xs. Contains xs p) before has)),
     )

@@ -1,7 +1,7 @@
 -- What is known of a journal that was judged event by event.
 use Rattle.std.specs.Prelude.{Bool, true, false, List, length}
 use Rattle.abt_machine.specs.declared.events.Event.{Event}
-use Rattle.abt_machine.specs.declared.operations.OrderShape.{OrderShape}
+use Rattle.abt_machine.specs.Stored.{Stored}
 use Rattle.abt_machine.specs.declared.workload.Parts.{Parts}
 use Rattle.abt_machine.specs.Runs.{Run, last_state}
 use Rattle.abt_machine.specs.Stamps.{Stamped}
@@ -15,7 +15,7 @@ pub record JudgeValue : Type 0 where
   pub clocks : ClocksValue
 
 -- the journal is a stamped run, and streams, objects and clocks are as it leaves them
-pub record HasJudged (W : Parts) (Z : List OrderShape) (J : List Event) (judge : JudgeValue) : Type 0 where
+pub record HasJudged (W : Parts) (Z : Stored) (J : List Event) (judge : JudgeValue) : Type 0 where
   pub run : Run W Z J
   pub stamped : Stamped W J
   pub state : IsAfter W Z (length J) (last_state W J)
@@ -23,6 +23,6 @@ pub record HasJudged (W : Parts) (Z : List OrderShape) (J : List Event) (judge :
   pub clocks : AreClocks W J judge.clocks
 
 -- whether the journal is a stamped run
-abbrev pub Judges : Parts → List OrderShape → List Event → Bool → JudgeValue → Type 0
+abbrev pub Judges : Parts → Stored → List Event → Bool → JudgeValue → Type 0
 Judges W Z J true judge = HasJudged W Z J judge
 Judges W Z J false judge = IsStampedRun W Z J → ⊥

@@ -2,7 +2,7 @@
 use Rattle.std.specs.Prelude.{ℕ, suc, ◌≡◌, ◌≤◌, Bool, true, false, List, Some}
 use Rattle.std.specs.List.{AllByRecursion}
 use Rattle.abt_machine.specs.declared.events.Site.{Site}
-use Rattle.abt_machine.specs.declared.operations.OrderShape.{OrderShape}
+use Rattle.abt_machine.specs.Stored.{Stored}
 use Rattle.abt_machine.specs.declared.workload.Parts.{Parts}
 use Rattle.abt_machine.specs.declared.events.What.{What}
 use Rattle.abt_machine.specs.Events.{May, after}
@@ -29,18 +29,18 @@ abbrev pub HasBegun : ℕ → Stream → Type 0
 HasBegun n own = AllByRecursion (λ (f : Frame). f.round ≤ n) (frames_of own)
 
 -- a state to which n events can have led
-pub record IsAfter (W : Parts) (Z : List OrderShape) (n : ℕ) (S : State) : Type 0 where
+pub record IsAfter (W : Parts) (Z : Stored) (n : ℕ) (S : State) : Type 0 where
   pub sound : Sound W Z S
   pub rounds : (s : ℕ) → HasBegun n (S.stream s)
 
 -- what stream s did in state S, and what it led to after n + 1 events
-pub record IsDone (W : Parts) (Z : List OrderShape) (n : ℕ) (S : State) (s : ℕ) (w : What) (new : ReplayValue) : Type 0 where
+pub record IsDone (W : Parts) (Z : Stored) (n : ℕ) (S : State) (s : ℕ) (w : What) (new : ReplayValue) : Type 0 where
   pub may : May W Z S s w
   pub state : IsAfter W Z (suc n) (after W S s w)
   pub stands : StandsFor W (after W S s w) new
   pub site : (x : Site) → what_site W s w ≡ Some x → IsSite W x
 
 -- whether what stream s is to do in state S may come; if it may, it is done
-abbrev pub MayBeDone : Parts → List OrderShape → ℕ → State → ℕ → What → Bool → ReplayValue → Type 0
+abbrev pub MayBeDone : Parts → Stored → ℕ → State → ℕ → What → Bool → ReplayValue → Type 0
 MayBeDone W Z n S s w true new = IsDone W Z n S s w new
 MayBeDone W Z n S s w false new = May W Z S s w → ⊥

@@ -53,11 +53,11 @@ impl Clocks {
     }
 
     /// Whether the event's stamp may come next; if it may, it is noted.
-    pub(crate) fn follow(&mut self, w: &Workload, event: Event) -> bool
-        requires stream { event.stream.0 < w.now.streams }
-        requires names { NamesDeclared w.now event.what }
-        requires site { (x : Site) → event_site w.now event ≡ Some x → IsSite w.now x }
-        ensures { (J : List Event) → AreClocks w.now J self.old → Stamped w.now J → Stamps w.now J event result self.new }
+    pub(crate) fn follow(&mut self, w: &Workload, event: &Event) -> bool
+        requires stream { event.now.stream.0 < w.now.streams }
+        requires names { NamesDeclared w.now event.now.what }
+        requires site { (x : Site) → event_site w.now event.now ≡ Some x → IsSite w.now x }
+        ensures { (J : List Event) → AreClocks w.now J self.old → Stamped w.now J → Stamps w.now J event.now result self.new }
     {
         let site = site_of(w, event);
         if !self.allows(site, event) {
@@ -68,10 +68,10 @@ impl Clocks {
     }
 
     // Whether the stamp of the event at that site may come next.
-    fn allows(&self, site: Option<Site>, event: Event) -> bool
-        ensures { IsTrue result ↔ IsAllowed self.now site event }
+    fn allows(&self, site: Option<Site>, event: &Event) -> bool
+        ensures { IsTrue result ↔ IsAllowed self.now site event.now }
     {
-        if !follows_last(self.last, event) {
+        if !follows_last(&self.last, event) {
             return false;
         }
         if clock_in(&self.streams, event.stream.0) >= event.stamp {
@@ -106,10 +106,11 @@ impl Clocks {
     }
 
     // Notes the event at that site.
-    fn note(&mut self, site: Option<Site>, event: Event)
-        ensures { self.new ≡ noted site event self.old }
+    fn note(&mut self, site: Option<Site>, event: &Event)
+        ensures { self.new ≡ noted site event.now self.old }
     {
-        self.last = Some(event);
+        let last = *event;
+        self.last = Some(last);
         set(&mut self.streams, event.stream.0, event.stamp);
         match site {
             None => {}
@@ -157,8 +158,8 @@ fn clock_in(clocks: &[u64], number: u32) -> u64
 }
 
 // Whether the event's stamp may follow at once upon that of the last event, if there was one.
-fn follows_last(last: Option<Event>, event: Event) -> bool
-    ensures { IsTrue result ↔ FollowsLast last event }
+fn follows_last(last: &Option<Event>, event: &Event) -> bool
+    ensures { IsTrue result ↔ FollowsLast last.now event.now }
 {
     match last {
         None => event.stamp == 1,
@@ -167,8 +168,8 @@ fn follows_last(last: Option<Event>, event: Event) -> bool
 }
 
 // Whether a stamp may follow at once upon another.
-fn follows(last: Event, event: Event) -> bool
-    ensures { IsTrue result ↔ Follows last event }
+fn follows(last: &Event, event: &Event) -> bool
+    ensures { IsTrue result ↔ Follows last.now event.now }
 {
     if event.stamp == last.stamp {
         return last.stream.0 < event.stream.0;
@@ -177,16 +178,17 @@ fn follows(last: Event, event: Event) -> bool
 }
 
 // The site of the event, if it has one.
-fn site_of(w: &Workload, event: Event) -> Option<Site>
-    requires stream { event.stream.0 < w.now.streams }
-    requires names { NamesDeclared w.now event.what }
-    ensures { result ≡ event_site w.now event }
+fn site_of(w: &Workload, event: &Event) -> Option<Site>
+    requires stream { event.now.stream.0 < w.now.streams }
+    requires names { NamesDeclared w.now event.now.what }
+    ensures { result ≡ event_site w.now event.now }
 {
     match event.what {
         What::Miss(p) => Some(Site::Pool(p)),
         What::Take(p, _) => Some(Site::Pool(p)),
         What::Look(u) => Some(Site::Desk(u)),
         What::Step(u, at, _) => step_site(w, event.stream, u, at),
+        What::Call(_, _, _) => None,
         What::Put(_, p) => Some(Site::Pool(p)),
         What::End(u, _) => Some(Site::Desk(u)),
         What::Enter(_) => None,

@@ -5,11 +5,13 @@ ghost use Rattle.abt_check.specs.Judges.{HasJudged, Judges};
 ghost use Rattle.abt_machine.specs.Rounds.{OrdersStored};
 ghost use Rattle.abt_machine.specs.Valid.{IsValid};
 ghost use Rattle.abt_machine.specs.declared.events.Event.{Event};
-ghost use Rattle.abt_machine.specs.declared.operations.OrderShape.{OrderShape};
+ghost use Rattle.abt_machine.specs.Stored.{CallsStored, Stored};
+ghost use Rattle.abt_check.specs.Verdicts.{stored_with};
 
 use crate::clocks::Clocks;
 use crate::replay::Replay;
 use abt_machine::{Event, OrderShape, Want, Workload};
+use abt_work::Work;
 use std::alloc::Global;
 use std::marker::Model;
 
@@ -32,7 +34,7 @@ impl Judge {
     /// Before the first event. Out of memory is the only error.
     pub(crate) fn start(alloc: Global, w: &Workload) -> Result<Judge, Want>
         requires { IsValid w.now }
-        ensures { IfOk result (λ judge. (Z : List OrderShape) → OrdersStored w.now Z → HasJudged w.now Z [] judge) }
+        ensures { IfOk result (λ judge. (Z : Stored) → OrdersStored w.now Z.orders → HasJudged w.now Z [] judge) }
     {
         let replay = Replay::start(alloc, w)?;
         let clocks = Clocks::start(alloc, w)?;
@@ -41,21 +43,23 @@ impl Judge {
 
     /// Whether the events judged so far, all of which were right, are a stamped run with this event too. `z` has the shapes of
     /// the stored orders. Out of memory is the only error.
-    pub(crate) fn follow(
+    pub(crate) fn follow<P: Work>(
         &mut self,
         w: &Workload,
         z: &[OrderShape],
-        event: Event,
+        work: &P,
+        event: &Event,
     ) -> Result<bool, Want>
         requires valid { IsValid w.now }
         requires stored { OrdersStored w.now z.now }
-        requires judged { (J : List Event) × (length J < 2 ^ 64 - 1) × HasJudged w.now z.now J self.old }
-        ensures { IfOk result (λ right. (J : List Event) → HasJudged w.now z.now J self.old → Judges w.now z.now (J ++ event ∷ []) right self.new) }
+        requires calls { CallsStored w.now (P.count work.now) }
+        requires judged { (J : List Event) × (length J < 2 ^ 64 - 1) × HasJudged w.now (stored_with z.now (P.returns work.now)) J self.old }
+        ensures { IfOk result (λ right. (J : List Event) → HasJudged w.now (stored_with z.now (P.returns work.now)) J self.old → Judges w.now (stored_with z.now (P.returns work.now)) (J ++ event.now ∷ []) right self.new) }
     {
         if event.stream.0 >= w.streams() {
             return Ok(false);
         }
-        if !self.replay.follow(w, z, event.stream, event.what)? {
+        if !self.replay.follow(w, z, work, event.stream, &event.what)? {
             return Ok(false);
         }
         Ok(self.clocks.follow(w, event))

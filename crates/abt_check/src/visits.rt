@@ -18,14 +18,14 @@ pub(crate) fn next_visited(
     w: &Workload,
     z: &[OrderShape],
     frame: &Frame,
-    named: What,
+    named: &What,
 ) -> Option<PoolNo>
     requires valid { IsValid w.now }
     requires stored { OrdersStored w.now z.now }
     requires under_way { IsUnderWay w.now z.now frame.now }
-    ensures named { IfSome result (λ p. visited named ≡ Some p.0) }
+    ensures named { IfSome result (λ p. visited named.now ≡ Some p.0) }
     ensures next { IfSome result (λ p. IsNextPool w.now z.now frame.now p.0) }
-    ensures none { IfNone result ((p : ℕ) → visited named ≡ Some p → IsNextPool w.now z.now frame.now p → ⊥) }
+    ensures none { IfNone result ((p : ℕ) → visited named.now ≡ Some p → IsNextPool w.now z.now frame.now p → ⊥) }
 {
     let Some(p) = visited(named) else {
         return None;
@@ -37,10 +37,10 @@ pub(crate) fn next_visited(
 }
 
 // The pool that an event visits, if it is of a round.
-fn visited(what: What) -> Option<PoolNo>
-    ensures { option_map (λ (p : PoolNo). p.0) result ≡ visited what }
+fn visited(what: &What) -> Option<PoolNo>
+    ensures { option_map (λ (p : PoolNo). p.0) result ≡ visited what.now }
 {
-    match what {
+    match *what {
         What::Miss(p) | What::Take(p, _) => Some(p),
         _ => None,
     }

@@ -1,5 +1,5 @@
 -- If an event may come its stream makes a step, with the answer of the object that it then calls.
-use Rattle.std.proofs.Common.{◌≡◌, ℕ, ◌<◌, ◌-◌, List, [], ◌∷◌, ◌++◌, length, map, Option, Some, None, refl, sym, ◌∙◌, ap, arith, inl, inr}
+use Rattle.std.proofs.Common.{subst, ◌≡◌, ℕ, ◌<◌, ◌-◌, List, [], ◌∷◌, ◌++◌, length, map, Option, Some, None, refl, sym, ◌∙◌, ap, arith, inl, inr}
 use Rattle.std.proofs.lemmas.List.{map-append}
 use Rattle.std.proofs.lemmas.List.Elements.{All-contains}
 use Rattle.std.proofs.lemmas.Option.{slice_get_cases}
@@ -11,7 +11,7 @@ use Rattle.abt_machine.specs.declared.events.What.{What}
 use Rattle.abt_machine.specs.declared.events.What.TheVariants as what
 use Rattle.abt_machine.specs.declared.numbers.PoolNo.{PoolNo}
 use Rattle.abt_machine.specs.declared.operations.Op.{Op}
-use Rattle.abt_machine.specs.declared.operations.OrderShape.{OrderShape}
+use Rattle.abt_machine.specs.Stored.{Stored, IsNoCall}
 use Rattle.abt_machine.specs.declared.workload.Parts.{Parts}
 use Rattle.abt_machine.specs.Numbers.{unit_no}
 use Rattle.abt_machine.specs.Valid.{IsValid}
@@ -39,7 +39,7 @@ use Rattle.abt_laws.proofs.Orders.{next_pool-listed}
 use Rattle.abt_laws.proofs.Places.{same-self}
 use Rattle.abt_laws.proofs.Standing.{StandsIn, among-standing, first-stands}
 use Rattle.abt_simulation.specs.Simulation.{CalledAnswers}
-use Rattle.abt_bounds.specs.Laws.{visited}
+use Rattle.abt_bounds.specs.Laws.{returned, visited}
 use Rattle.abt_calls.specs.Allowed.{Allows}
 use Rattle.abt_calls.specs.Asking.{MayCall}
 use Rattle.abt_calls.proofs.Asked.{may-ask, takes-may-call}
@@ -70,7 +70,7 @@ last-of (w ∷ us) u among = has-last w us
 -- What a stream does.
 
 -- if event w may come, stream s makes this step of its part, with this answer of the object that it calls; in a round at the same pool
-pub record Turn (W : Parts) (Z : List OrderShape) (S : State) (s : ℕ) (w : What) : Type 0 where
+pub record Turn (W : Parts) (Z : Stored) (S : State) (s : ℕ) (w : What) : Type 0 where
   pub does : What
   pub heard : Option Heard
   pub part : Held
@@ -78,6 +78,7 @@ pub record Turn (W : Parts) (Z : List OrderShape) (S : State) (s : ℕ) (w : Wha
   pub steps : Steps W Z s (part_of W S s) does heard part
   pub answers : CalledAnswers W S heard object
   pub at_pool : visited does ≡ visited w
+  pub said : returned does ≡ returned w
 
 -- a stream performs a plan
 record Performed (W : Parts) (S : State) (s : ℕ) (plan : Plan) : Type 0 where
@@ -88,10 +89,11 @@ record Performed (W : Parts) (S : State) (s : ℕ) (plan : Plan) : Type 0 where
   pub performs : Performs (part_of W S s) plan heard code part
   pub answers : CalledAnswers W S heard object
 
-module _ (W : Parts) (Z : List OrderShape) (S : State) (s : ℕ) where
+module _ (W : Parts) (Z : Stored) (S : State) (s : ℕ) where
   -- of a pool that is asked for a unit, by its answer
-  at-pool : (w : What) (p : PoolNo) → visited w ≡ Some p.0 → due W S s ≡ RoundDue → IsNextPool W Z (S.stream s).top p.0 → (answer : Answer) (object : Object) → SiteGives (object_of W S (site.Pool p)) (act.Take (side_of W s p.0)) answer object → Turn W Z S s w
-  at-pool w p at is order (Given o) object gives = record {
+  at-pool : (w : What) (p : PoolNo) → visited w ≡ Some p.0 → returned w ≡ None → due W S s ≡ RoundDue → IsNextPool W Z.orders (S.stream s).top p.0 → (answer : Answer) (object : Object) → SiteGives
+      (object_of W S (site.Pool p)) (act.Take (side_of W s p.0)) answer object → Turn W Z S s w
+  at-pool w p at none is order (Given o) object gives = record {
     does = what.Take p (unit_no o.number);
     heard = Some (site.Pool p, act.Take (side_of W s p.0), Given o);
     part = _;
@@ -99,8 +101,9 @@ module _ (W : Parts) (Z : List OrderShape) (S : State) (s : ℕ) where
     steps = (sym (due-same W S s) ∙ is, order, o, refl, refl, refl);
     answers = gives;
     at_pool = sym at;
+    said = sym none;
   }
-  at-pool w p at is order Miss object gives = record {
+  at-pool w p at none is order Miss object gives = record {
     does = what.Miss p;
     heard = Some (site.Pool p, act.Take (side_of W s p.0), Miss);
     part = _;
@@ -108,8 +111,9 @@ module _ (W : Parts) (Z : List OrderShape) (S : State) (s : ℕ) where
     steps = (sym (due-same W S s) ∙ is, order, refl, refl);
     answers = gives;
     at_pool = sym at;
+    said = sym none;
   }
-  at-pool w p at is order _ object gives = absurd gives.2
+  at-pool w p at none is order _ object gives = absurd gives.2
 
   performed : (plan : Plan) → ((x : Site) (asked : Act) (brings : Answer → Effect) → plan ≡ Calls x asked brings → Allows (object_of W S x) asked) → Performed W S s plan
   performed (Does e) allowed = record {
@@ -141,13 +145,13 @@ module _ (W : Parts) (Z : List OrderShape) (S : State) (s : ℕ) where
 
   module _ (valid : IsValid W) (sound : Sound W Z S) where
     -- a round goes on at pool p
-    round : (w : What) (p : PoolNo) → visited w ≡ Some p.0 → due W S s ≡ RoundDue → IsNextPool W Z (S.stream s).top p.0 → Turn W Z S s w
-    round w p at is order =
+    round : (w : What) (p : PoolNo) → visited w ≡ Some p.0 → returned w ≡ None → due W S s ≡ RoundDue → IsNextPool W Z.orders (S.stream s).top p.0 → Turn W Z S s w
+    round w p at none is order =
         let f : Frame = (S.stream s).top in
         let declared : p.0 < length W.pools = All-contains (λ q. q < length W.pools) (pools_of W f.sched) p.0 (listed-declared W f.sched valid) (next_pool-listed W Z f p.0 order) in
         let may : MayCall W (site.Pool p) (act.Take (side_of W s p.0)) = takes-may-call W s p declared in
         let answered : (answer : Answer) × (new : Object) × SiteGives (object_of W S (site.Pool p)) (act.Take (side_of W s p.0)) answer new = allowed-is-answered (object_of W S (site.Pool p)) (act.Take (side_of W s p.0)) (may.allowed S) in
-        at-pool w p at is order answered.0 answered.1 answered.2
+        at-pool w p at none is order answered.0 answered.1 answered.2
 
     -- a unit has an operation left if a step is due
     has-op : (u : ℕ) → due W S s ≡ StepDue → hand W S s ≡ Some u → (a : Op) × (op_at W u (S.carried u).position ≡ Some a)
@@ -161,8 +165,8 @@ module _ (W : Parts) (Z : List OrderShape) (S : State) (s : ℕ) where
 
     -- by the event
     pub turn : (w : What) → May W Z S s w → Turn W Z S s w
-    turn (what.Miss p) may = round (what.Miss p) p refl may.0 may.2
-    turn (what.Take p u) may = round (what.Take p u) p refl may.0 may.2
+    turn (what.Miss p) may = round (what.Miss p) p refl refl may.0 may.2
+    turn (what.Take p u) may = round (what.Take p u) p refl refl may.0 may.2
     turn (what.Look u) may = record {
       does = what.Look u;
       heard = _;
@@ -171,6 +175,7 @@ module _ (W : Parts) (Z : List OrderShape) (S : State) (s : ℕ) where
       steps = (sym (due-same W S s) ∙ may.0, owned_at S u.0, first-owned S (standing W S (InNext s)) u.0 may.1, refl, (S.desk u.0).cancel, (S.desk u.0).migrate, refl, refl);
       answers = (_, refl, (refl, refl, refl));
       at_pool = refl;
+      said = refl;
     }
     turn (what.Step u k c) may =
         let has : (a : Op) × (op_at W u.0 (S.carried u.0).position ≡ Some a) = has-op u.0 may.0 may.1 in
@@ -183,10 +188,21 @@ module _ (W : Parts) (Z : List OrderShape) (S : State) (s : ℕ) where
           heard = done.heard;
           part = done.part;
           object = done.object;
-          steps = (sym (due-same W S s) ∙ may.0, owned_at S u.0, first-owned S (standing W S (InHand s)) u.0 may.1, refl, may.2, has.0, is, done.performs);
+          steps = (sym (due-same W S s) ∙ may.0, owned_at S u.0, first-owned S (standing W S (InHand s)) u.0 may.1, refl, may.2, has.0, is, done.performs, subst IsNoCall is may.4);
           answers = done.answers;
           at_pool = refl;
+          said = refl;
         }
+    turn (what.Call u k n) may = record {
+      does = what.Call u k n;
+      heard = None;
+      part = _;
+      object = NotHere;
+      steps = (sym (due-same W S s) ∙ may.0, owned_at S u.0, first-owned S (standing W S (InHand s)) u.0 may.1, refl, may.2, may.3, refl, refl);
+      answers = tt;
+      at_pool = refl;
+      said = refl;
+    }
     turn (what.Put u p) may =
         let tray : (rest : List ℕ) × (standing W S (InTray s) ≡ u.0 ∷ rest) = begins (standing W S (InTray s)) u.0 may.1 in
         record {
@@ -197,6 +213,7 @@ module _ (W : Parts) (Z : List OrderShape) (S : State) (s : ℕ) where
           steps = (sym (due-same W S s) ∙ may.0, owned_at S u.0, map (owned_at S) tray.0, ap (map (owned_at S)) tray.1, refl, may.2, refl, refl);
           answers = (_, refl, refl);
           at_pool = refl;
+          said = refl;
         }
     turn (what.End u c) may = record {
       does = what.End u c;
@@ -206,6 +223,7 @@ module _ (W : Parts) (Z : List OrderShape) (S : State) (s : ℕ) where
       steps = (sym (due-same W S s) ∙ may.0, owned_at S u.0, first-owned S (standing W S (InHand s)) u.0 may.1, refl, _, refl, refl);
       answers = (_, refl, (refl, refl));
       at_pool = refl;
+      said = refl;
     }
     turn (what.Enter u) may = record {
       does = what.Enter u;
@@ -215,6 +233,7 @@ module _ (W : Parts) (Z : List OrderShape) (S : State) (s : ℕ) where
       steps = (sym (due-same W S s) ∙ may.0, owned_at S u.0, first-owned S (standing W S (InHand s)) u.0 may.1, refl, refl, refl);
       answers = tt;
       at_pool = refl;
+      said = refl;
     }
     turn (what.Leave u) may =
         let d : ℕ = length (S.stream s).below - 1 in
@@ -229,4 +248,5 @@ module _ (W : Parts) (Z : List OrderShape) (S : State) (s : ℕ) where
           steps = (sym (due-same W S s) ∙ may.0, owned_at S top.1, os, ap (map (owned_at S)) top.2 ∙ map-append (owned_at S) top.0 (top.1 ∷ []), refl, refl, refl);
           answers = tt;
           at_pool = refl;
+          said = refl;
         }

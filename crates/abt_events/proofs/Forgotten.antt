@@ -1,7 +1,7 @@
 -- After a look nothing is asked of the unit.
-use Rattle.std.proofs.Common.{◌≡◌, ℕ, Bool, true, false, List, Option, Some, None, refl, sym, ◌∙◌, ap, subst}
+use Rattle.std.proofs.Common.{◌≡◌, ℕ, Bool, true, false, Option, Some, None, refl, sym, ◌∙◌, ap, subst}
 use Rattle.abt_machine.specs.declared.events.What.{What}
-use Rattle.abt_machine.specs.declared.operations.OrderShape.{OrderShape}
+use Rattle.abt_machine.specs.Stored.{Stored}
 use Rattle.abt_machine.specs.declared.workload.Parts.{Parts}
 use Rattle.abt_machine.specs.Events.{after, look_row, without_requests}
 use Rattle.abt_machine.specs.Maps.{put_all}
@@ -16,7 +16,7 @@ forgotten W S s u true migrate = put_at-same S.desk u (without_requests (S.desk 
 forgotten W S s u false (Some p) = put_at-same S.desk u (without_requests (S.desk u))
 forgotten W S s u false None = put_at-same S.desk u (without_requests (S.desk u))
 
-pub looks-forget : (W : Parts) (Z : List OrderShape) → LooksForget W Z
+pub looks-forget : (W : Parts) (Z : Stored) → LooksForget W Z
 looks-forget W Z S T e u comes is =
     let s : ℕ = e.stream.0 in
     let found : T.desk u.0 ≡ without_requests (S.desk u.0) =

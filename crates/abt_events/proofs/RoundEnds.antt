@@ -6,7 +6,7 @@ use Rattle.std.proofs.lemmas.List.{append-nil}
 use Rattle.std.proofs.lemmas.List.Sorted.{length_permutation}
 use Rattle.abt_machine.specs.declared.events.What.{What}
 use Rattle.abt_machine.specs.declared.events.What.TheVariants as what
-use Rattle.abt_machine.specs.declared.operations.OrderShape.{OrderShape}
+use Rattle.abt_machine.specs.Stored.{Stored}
 use Rattle.abt_machine.specs.declared.workload.Parts.{Parts}
 use Rattle.abt_machine.specs.Events.{May, after}
 use Rattle.abt_machine.specs.Frames.{frame_missed, round_missed, round_taken}
@@ -24,7 +24,7 @@ nothing-left ps (q ∷ rest) order e long =
     let all : length (ps ++ q ∷ rest) ≡ length ps + suc (length rest) = length-append ps (q ∷ rest) in
     let same : length (ps ++ q ∷ rest) ≡ length order = ap length e in absurd (omega arith)
 
-module _ (W : Parts) (Z : List OrderShape) (f : Frame) (p : ℕ) where
+module _ (W : Parts) (Z : Stored) (f : Frame) (p : ℕ) where
   -- a whole round visits all pools
   visits-all : IsWholeRound W Z f (f.seen ++ p ∷ []) → length (pools_of W f.sched) ≡ suc (length f.seen)
   visits-all is =
@@ -32,7 +32,7 @@ module _ (W : Parts) (Z : List OrderShape) (f : Frame) (p : ℕ) where
       let more : length (f.seen ++ p ∷ []) ≡ length f.seen + 1 = length-append f.seen (p ∷ []) in omega arith
 
   -- and if all are visited the round is whole
-  is-whole : IsNextPool W Z f p → length (pools_of W f.sched) ≡ suc (length f.seen) → IsWholeRound W Z f (f.seen ++ p ∷ [])
+  is-whole : IsNextPool W Z.orders f p → length (pools_of W f.sched) ≡ suc (length f.seen) → IsWholeRound W Z f (f.seen ++ p ∷ [])
   is-whole next all =
       let long : length next.0 ≡ length (pools_of W f.sched) = length_permutation (pools_of W f.sched) next.0 (order-permutes W Z f.sched f.round next.0 next.1) in
       let more : length (f.seen ++ p ∷ []) ≡ length f.seen + 1 = length-append f.seen (p ∷ []) in
@@ -42,19 +42,19 @@ module _ (W : Parts) (Z : List OrderShape) (f : Frame) (p : ℕ) where
   missed-last : IsWholeRound W Z f (f.seen ++ p ∷ []) → frame_missed W f p ≡ after_empty_round f
   missed-last is = cond-true (length (pools_of W f.sched) == suc (length f.seen)) _ _ (eq-eqb (length (pools_of W f.sched)) (suc (length f.seen)) (visits-all is))
 
-  missed-other : IsNextPool W Z f p → (IsWholeRound W Z f (f.seen ++ p ∷ []) → ⊥) → frame_missed W f p ≡ having_seen (f.seen ++ p ∷ []) f
+  missed-other : IsNextPool W Z.orders f p → (IsWholeRound W Z f (f.seen ++ p ∷ []) → ⊥) → frame_missed W f p ≡ having_seen (f.seen ++ p ∷ []) f
   missed-other next goes_on = cond-false (length (pools_of W f.sched) == suc (length f.seen)) _ _ (ne_eqb (length (pools_of W f.sched)) (suc (length f.seen)) (λ all. goes_on (is-whole next all)))
 
 -- the frame on top of stream s after an event
 top-after : (W : Parts) (S T : State) (s : ℕ) (w v : What) (own : Stream) → T ≡ after W S s w → w ≡ v → (after W S s v).stream s ≡ own → (T.stream s).top ≡ own.top
 top-after W S T s w v own leads is has = ap (λ (U : State). (U.stream s).top) leads ∙ (ap (λ x. ((after W S s x).stream s).top) is ∙ ap (λ (r : Stream). r.top) has)
 
-pub takes-end-rounds : (W : Parts) (Z : List OrderShape) → TakesEndRounds W Z
+pub takes-end-rounds : (W : Parts) (Z : Stored) → TakesEndRounds W Z
 takes-end-rounds W Z S T e p u comes is =
     let s : ℕ = e.stream.0 in
     top-after W S T s e.what (what.Take p u) (round_taken (S.stream s)) comes.2 is (put_at-same S.stream s (round_taken (S.stream s)))
 
-pub misses-end-rounds : (W : Parts) (Z : List OrderShape) → MissesEndRounds W Z
+pub misses-end-rounds : (W : Parts) (Z : Stored) → MissesEndRounds W Z
 misses-end-rounds W Z S T e p comes is =
     let s : ℕ = e.stream.0 in
     let f : Frame = (S.stream s).top in

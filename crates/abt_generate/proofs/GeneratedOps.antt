@@ -3,6 +3,7 @@ use Rattle.std.proofs.Common.{◌≡◌, ℕ, ◌≤◌, ◌+◌, ◌*◌, List,
 use Rattle.std.specs.Prelude.{◌%◌}
 use Rattle.std.proofs.lemmas.List.{length-map}
 use Rattle.std.proofs.lemmas.List.FromFn.{length-range_with_len}
+use Rattle.abt_machine.specs.declared.grammar.Format.TheVariants as format
 use Rattle.abt_machine.specs.declared.operations.Op.{Op}
 use Rattle.abt_machine.specs.declared.operations.Op.TheVariants as op
 use Rattle.abt_machine.specs.declared.workload.UnitPart.{UnitPart}
@@ -31,7 +32,7 @@ length-first_ops n =
     omega arith
 
 -- and each adder has six
-pub few-ops : (n : ℕ) → n ≤ adder_limit → length (all_ops (first_unit n ∷ map adder (adders n))) ≤ operation_limit
+pub few-ops : (n : ℕ) → n ≤ adder_limit → length (all_ops (first_unit n ∷ map adder (adders n))) ≤ operation_limit format.Three
 few-ops n few =
     let units : List UnitPart = map adder (adders n) in
     let six : Each (λ (part : UnitPart). length (ops_of part.body) ≤ 6) units =

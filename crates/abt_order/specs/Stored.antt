@@ -1,9 +1,10 @@
--- The shapes of stored orders, and the rounds that their answers choose.
+-- The shapes of stored orders, what is stored with them, and the rounds that their answers choose.
 use Rattle.std.specs.Prelude.{ℕ, List, map, Option, Some, None, IfSome, IsTrue, MatchOption, slice_get}
 use Rattle.abt_machine.specs.declared.operations.OrderShape.{OrderShape}
 use Rattle.abt_machine.specs.declared.operations.Rule.{Rule}
 use Rattle.abt_machine.specs.declared.operations.Rule.TheVariants as rule
 use Rattle.abt_machine.specs.declared.workload.Parts.{Parts}
+use Rattle.abt_machine.specs.Stored.{Stored}
 use Rattle.abt_machine.specs.Workloads.{pools_of, rule_of}
 use Rattle.abt_order.specs.Places.{IsOrderedBy}
 use Rattle.abt_order.specs.Shapes.{fits_shape}
@@ -13,6 +14,10 @@ use denote.Param.Members.{Mut}
 -- the shapes of stored orders
 abbrev pub shapes_of : {X : Type 0} {F : X → Type 0} {called : Mut ((x : X) × F x) (ℕ × (ℕ × (ℕ × Unit {0}))) ℕ} → List (StoredOrder X F called) → List OrderShape
 shapes_of {X} {F} {called} = map (λ (o : StoredOrder X F called). o.shape)
+
+-- what is stored: these orders, and functions that return this
+abbrev pub stored_of : {X : Type 0} {F : X → Type 0} {called : Mut ((x : X) × F x) (ℕ × (ℕ × (ℕ × Unit {0}))) ℕ} → List (StoredOrder X F called) → (ℕ → ℕ → ℕ → List ℕ → Option ℕ) → Stored
+stored_of orders returns = record { orders = shapes_of orders; returns = returns }
 
 -- an answer of a stored order in a round, for a number of pools and a place: its function's, if it has one, and else the one that its shape leaves
 abbrev pub answers_of : {X : Type 0} {F : X → Type 0} {called : Mut ((x : X) × F x) (ℕ × (ℕ × (ℕ × Unit {0}))) ℕ} → StoredOrder X F called → ℕ → ℕ → ℕ → ℕ → Type 0

@@ -53,9 +53,8 @@ pub fn planned(w: &Workload, s: StreamNo, op: Op, unit: UnitNo, acc: u64) -> Pla
     ensures { PlansFor w.now s.0 op unit.0 acc result }
 {
     match op {
-        Op::Set(_) | Op::Add(_) | Op::Say(_) | Op::Print | Op::KeySet(_) | Op::KeyGet(_) => {
-            Plan::Own
-        }
+        Op::Set(_) | Op::Add(_) | Op::Say(_) | Op::Print => Plan::Own,
+        Op::KeySet(_) | Op::KeyGet(_) | Op::Calc(_, _) | Op::Call(_) => Plan::Own,
         Op::Yield => Plan::Yield,
         Op::YieldTo(v, p) => {
             if w.may_take(s, p) {

@@ -1,5 +1,5 @@
 -- What each kind of event makes of a stream and of the objects.
-use Rattle.std.specs.Prelude.{ℕ, ◌≡◌, ◌++◌, Bool, List, [], ◌∷◌, Option, Some, None, option_map}
+use Rattle.std.specs.Prelude.{ℕ, ◌≡◌, ◌++◌, Bool, List, [], ◌∷◌, Option, Some, None, option_map, ⊤}
 use Rattle.abt_machine.specs.declared.events.Cause.{Cause}
 use Rattle.abt_machine.specs.declared.events.Code.{Code}
 use Rattle.abt_machine.specs.declared.events.Code.TheVariants as code
@@ -9,17 +9,19 @@ use Rattle.abt_machine.specs.declared.events.What.{What}
 use Rattle.abt_machine.specs.declared.events.What.TheVariants as what
 use Rattle.abt_machine.specs.declared.numbers.PoolNo.{PoolNo}
 use Rattle.abt_machine.specs.declared.operations.Op.{Op}
-use Rattle.abt_machine.specs.declared.operations.OrderShape.{OrderShape}
+use Rattle.abt_machine.specs.Stored.{IsNoCall, IsReturned, Returns, Stored}
 use Rattle.abt_machine.specs.declared.workload.Parts.{Parts}
-use Rattle.abt_machine.specs.Acts.{Act, Answer, moved}
+use Rattle.abt_machine.specs.Acts.{Act, Answer, moved, received}
 use Rattle.abt_machine.specs.Acts as act
 use Rattle.abt_machine.specs.Frames.{entered, left, round_missed, round_taken}
+use Rattle.abt_machine.specs.Next.{StepDue}
 use Rattle.abt_machine.specs.Numbers.{pool_no, unit_no}
 use Rattle.abt_machine.specs.Plans.{Effect, keeps, plan_of}
 use Rattle.abt_machine.specs.State.{State}
 use Rattle.abt_machine.specs.Fronts.{side_of}
-use Rattle.abt_machine.specs.Turns.{Heard, Performs, Steps, exited, looked, stepped}
+use Rattle.abt_machine.specs.Turns.{Heard, Performs, Steps, due_of, exited, looked, stepped}
 use Rattle.abt_machine.specs.Values.{Held, Owned, object_of}
+use Rattle.abt_machine.specs.Workloads.{op_at}
 use Rattle.abt_calls.specs.Asking.{IsSite}
 use Rattle.abt_unit.specs.Local.{after_local, with_carried}
 use Rattle.abt_replay.specs.Objects.{Called, ObjectsValue, object_at}
@@ -90,7 +92,7 @@ abbrev pub Operated : Parts → ℕ → Op → Owned → Held → ObjectsValue �
 Operated W s a o old before c new after = (heard : Option Heard) × Performs old (plan_of W s a o) heard c new × Heeds before heard after
 
 -- an event of stream s
-abbrev pub MakesEvent : Parts → List OrderShape → ℕ → Held → ObjectsValue → What → Held → ObjectsValue → Type 0
+abbrev pub MakesEvent : Parts → Stored → ℕ → Held → ObjectsValue → What → Held → ObjectsValue → Type 0
 MakesEvent W Z s old before made new after = (heard : Option Heard) × Steps W Z s old made heard new × Heeds before heard after
 
 -- the objects are those of some state
@@ -105,3 +107,29 @@ in_hand o held = record held { hand = Some o }
 abbrev pub Stepped : Parts → ℕ → Op → Owned → Held → ObjectsValue → What → Held → ObjectsValue → Type 0
 Stepped W s a o old before made new after =
     (c : Code) × (made ≡ what.Step (unit_no o.number) o.carried.position c) × Operated W s a o old before c new after
+
+-- Calls.
+
+-- unit o calls a function that returns this, if that may be the number that is said
+abbrev pub CallsBy : (ℕ → ℕ → List ℕ → Option ℕ) → Owned → Held → Option ℕ → Option What → Held → Type 0
+CallsBy returns o old said (Some made) new =
+    (n : ℕ) × (said ≡ Some n) × IsReturned (returns o.number o.carried.acc o.carried.keys) n
+    × (made ≡ what.Call (unit_no o.number) o.carried.position n) × (new ≡ stepped old (keeps (received n (moved o)) []))
+CallsBy returns o old said None new = (n : ℕ) → said ≡ Some n → IsReturned (returns o.number o.carried.acc o.carried.keys) n → ⊥
+
+-- if the event is a call, it returned the number that is said
+abbrev pub ReturnsSaid : Option ℕ → What → Type 0
+ReturnsSaid said (what.Call u k n) = said ≡ Some n
+ReturnsSaid said made = ⊤
+
+-- unit o in the hand of stream s is to call a function, which may not return the number that is said
+pub record CannotCall (W : Parts) (Z : Stored) (s : ℕ) (o : Owned) (held : Held) (said : Option ℕ) : Type 0 where
+  pub due : due_of W s held ≡ StepDue
+  pub hand : held.hand ≡ Some o
+  pub calls : IsNoCall (op_at W o.number o.carried.position) → ⊥
+  pub returns : (n : ℕ) → said ≡ Some n → Returns Z (op_at W o.number o.carried.position) o.number o.carried n → ⊥
+
+-- the event of a stream with unit o in its hand, in which a call returns the number that is said; there is none if the unit cannot call
+abbrev pub Runs : Parts → Stored → ℕ → Owned → Held → ObjectsValue → Option ℕ → Option What → Held → ObjectsValue → Type 0
+Runs W Z s o old before said (Some made) new after = MakesEvent W Z s (in_hand o old) before made new after × ReturnsSaid said made
+Runs W Z s o old before said None new after = CannotCall W Z s o (in_hand o old) said

@@ -3,7 +3,7 @@
 ghost use Rattle.std.specs.Prelude.{◌≡◌, ◌<◌, ◌-◌, ◌^◌, ◌≢◌, ◌↔◌, [], ◌∷◌, IfNone, IfOk, IfSome, IsTrue, List, None, Some, length, option_map};
 ghost use Rattle.abt_calls.specs.Allowed.{Allows};
 ghost use Rattle.abt_calls.specs.Starts.{start_part};
-ghost use Rattle.abt_replay.specs.Events.{AreObjects, Ends, Entered, Leaves, Looks, MakesEvent, Visits, Woken, in_hand};
+ghost use Rattle.abt_replay.specs.Events.{AreObjects, CallsBy, Ends, Entered, Leaves, Looks, Runs, Stepped, Visits, Woken};
 ghost use Rattle.abt_replay.specs.Objects.{object_at};
 ghost use Rattle.abt_machine.specs.declared.events.Site.TheVariants as site;
 ghost use Rattle.abt_machine.specs.declared.numbers.PoolNo.{PoolNo};
@@ -12,7 +12,9 @@ ghost use Rattle.abt_machine.specs.Numbers.{pool_no, unit_no};
 ghost use Rattle.abt_machine.specs.Fronts.{side_of};
 ghost use Rattle.abt_machine.specs.Turns.{looked};
 ghost use Rattle.abt_machine.specs.Valid.{IsValid};
-ghost use Rattle.abt_machine.specs.declared.operations.OrderShape.{OrderShape};
+ghost use Rattle.abt_machine.specs.Stored.{CallsStored, IsNoCall, Stored};
+ghost use Rattle.abt_machine.specs.Workloads.{op_at};
+ghost use Rattle.abt_machine.specs.declared.operations.Op.TheVariants as operation;
 
 mod stepping;
 
@@ -21,8 +23,9 @@ use crate::frames::Frame;
 use crate::objects::Objects;
 use crate::unit::Unit;
 use abt_desk::Asks;
-use abt_machine::{Cause, PoolNo, SchedNo, Site, StreamNo, Want, What, Workload};
+use abt_machine::{Cause, Op, PoolNo, Returned, SchedNo, Site, StreamNo, Want, What, Workload};
 use abt_plans::{HandDue, Mark, hand_due, side};
+use abt_work::Work;
 use std::alloc::Global;
 use std::collections::VecDeque;
 use std::marker::Model;
@@ -250,35 +253,106 @@ impl Lane {
 }
 
 impl Lane {
-    /// What is due for `unit`, which was taken out of the hand: it ends (the event is `End`), runs as a scheduler (`Enter`) or
-    /// makes a step (`Step`). The event is one that the machine's stream makes with `unit` in its hand, with one call of an
-    /// object or none, whatever the shapes of the stored orders.
+    /// What is due for `unit`, which was taken out of the hand: it ends (the event is `End`), runs as a scheduler (`Enter`),
+    /// makes a step (`Step`) or calls a function (`Call`), which returns the number that is `said`. The event is one that the
+    /// machine's stream makes with `unit` in its hand, with one call of an object or none, whatever the stored orders. None if
+    /// the unit is to call, and its function may not return what is said, or nothing is.
     #[tactic(auto, using(crate::proofs::Running::running))]
-    pub fn run(
+    pub fn run<P: Work>(
         &mut self,
         objects: &mut Objects,
         w: &Workload,
+        work: &P,
         s: StreamNo,
         unit: Unit,
-    ) -> Result<What, Want>
+        said: Option<u64>,
+    ) -> Result<Option<What>, Want>
         requires valid { IsValid w.now }
+        requires calls { CallsStored w.now (P.count work.now) }
         requires stream { s.0 < w.now.streams }
         requires number { unit.number < length w.now.units }
         requires objects { AreObjects w.now objects.old }
         requires tray { self.old.tray ≡ [] }
         requires hand { self.old.hand ≡ None }
         requires next { self.old.next ≡ None }
-        ensures { IfOk result (λ made. (Z : List OrderShape) → MakesEvent w.now Z s.0 (in_hand unit self.old) objects.old made self.new objects.new) }
+        ensures { IfOk result (λ made. (Z : Stored) → Z.returns ≡ P.returns work.now → Runs w.now Z s.0 unit self.old objects.old said made self.new objects.new) }
     {
         match hand_due(w, s, self.mark, unit.number(), unit.position()) {
-            HandDue::End(cause) => self.end(objects, unit, cause),
-            HandDue::Enter(g) => self.enter(g, unit),
-            HandDue::Step(op) => {
-                let number = unit.number();
-                let at = unit.position();
-                let code = self.step(objects, w, s, op, unit)?;
-                Ok(What::Step(number, at, code))
+            HandDue::End(cause) => {
+                let made = self.end(objects, unit, cause)?;
+                Ok(Some(made))
             }
+            HandDue::Enter(g) => {
+                let made = self.enter(g, unit)?;
+                Ok(Some(made))
+            }
+            HandDue::Step(op) => match called(op) {
+                Some(function) => Ok(self.call(work, function, unit, said)),
+                None => {
+                    let made = self.go_on(objects, w, s, op, unit)?;
+                    Ok(Some(made))
+                }
+            },
         }
+    }
+
+    // A step of the unit in hand.
+    fn go_on(
+        &mut self,
+        objects: &mut Objects,
+        w: &Workload,
+        s: StreamNo,
+        op: Op,
+        unit: Unit,
+    ) -> Result<What, Want>
+        requires valid { IsValid w.now }
+        requires stream { s.0 < w.now.streams }
+        requires number { unit.number < length w.now.units }
+        requires at { op_at w.now unit.number unit.carried.position ≡ Some op }
+        requires objects { AreObjects w.now objects.old }
+        requires hand { self.old.hand ≡ None }
+        requires next { self.old.next ≡ None }
+        ensures { IfOk result (λ made. Stepped w.now s.0 op unit self.old objects.old made self.new objects.new) }
+    {
+        let number = unit.number();
+        let at = unit.position();
+        let code = self.step(objects, w, s, op, unit)?;
+        Ok(What::Step(number, at, code))
+    }
+
+    // A call of the unit in hand, if the function may return what is said.
+    fn call<P: Work>(
+        &mut self,
+        work: &P,
+        function: u32,
+        mut unit: Unit,
+        said: Option<u64>,
+    ) -> Option<What>
+        requires stored { function < P.count work.now }
+        requires position { unit.carried.position < 2 ^ 32 - 1 }
+        requires next { self.old.next ≡ None }
+        ensures { CallsBy (P.returns work.now function) unit self.old said result self.new }
+    {
+        let number = unit.number();
+        let value = said?;
+        if !work.accepts(function, number, unit.acc(), unit.keys(), value) {
+            return None;
+        }
+        let at = unit.position();
+        unit.advance();
+        unit.receive(value);
+        self.hand = Some(unit);
+        Some(What::Call(number, at, Returned::new(value)))
+    }
+}
+
+// The function that an operation calls, if it calls one.
+fn called(op: Op) -> Option<u32>
+    ensures some { IfSome result (λ f. op ≡ operation.Call f) }
+    ensures none { IfNone result (IsNoCall (Some op)) }
+{
+    match op {
+        Op::Call(function) => Some(function),
+        _ => None,
     }
 }

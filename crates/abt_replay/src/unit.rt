@@ -1,6 +1,6 @@
 //! Work units. Who has a unit owns it.
 
-ghost use Rattle.std.specs.Prelude.{◌≡◌, ◌<◌, ◌-◌, ◌^◌, IfOk, IsSome, Some, length, option_map, slice_set};
+ghost use Rattle.std.specs.Prelude.{◌≡◌, ◌<◌, ◌-◌, ◌^◌, IfOk, IsSome, Some, length, option_map, slice_index, slice_set};
 ghost use Rattle.abt_machine.specs.declared.numbers.PoolNo.{PoolNo};
 ghost use Rattle.abt_machine.specs.declared.events.Piece.TheVariants.{Refused};
 ghost use Rattle.abt_machine.specs.Acts.{carrying, moved, received, reborn};
@@ -90,6 +90,13 @@ impl Unit {
         self.load.acc
     }
 
+    /// Its keys.
+    pub fn keys(&self) -> &[u64]
+        ensures { result.now ≡ self.now.carried.keys }
+    {
+        self.load.keys.as_slice()
+    }
+
     /// The pool to which it goes when it is ready.
     pub fn home(&self) -> PoolNo
         ensures { result.0 ≡ self.now.carried.home }
@@ -161,7 +168,9 @@ impl Unit {
             Op::Say(word) => load.output.push(Piece::Said(word))?,
             Op::Print => load.output.push(Piece::Number(acc))?,
             Op::KeySet(key) => set_key(&mut load.keys, key, acc),
-            Op::KeyGet(key) => load.acc = load.keys.get(key as usize).copied().unwrap_or(0),
+            Op::KeyGet(key) => load.acc = key_in(&load.keys, key),
+            Op::Calc(calc, key) => load.acc = calc.word_from(acc, key_in(&load.keys, key)),
+            Op::Call(_) => {}
             _ => unreachable!(),
         }
         load.position += 1;
@@ -174,6 +183,13 @@ fn first_home(start: Option<PoolNo>) -> PoolNo
     ensures { result.0 ≡ home_from (option_map (λ (p : PoolNo). p.0) start) }
 {
     start.unwrap_or(PoolNo(0))
+}
+
+// The value of a key, 0 if there is none of that number.
+fn key_in(keys: &[u64], key: u32) -> u64
+    ensures { result ≡ slice_index keys.now key }
+{
+    keys.get(key as usize).copied().unwrap_or(0)
 }
 
 // Sets a key, if there is one of that number.

@@ -5,6 +5,7 @@ use denote.Param.SendFields.{as_row_send}
 use Rattle.std.proofs.Crossing.{Box-send, Vec-sync, crosses}
 use Rattle.abt_machine.specs.contracts.items.Items as Items
 use Rattle.abt_machine.specs.contracts.operations.Body as Body
+use Rattle.abt_machine.specs.contracts.operations.Calc as Calc
 use Rattle.abt_machine.specs.contracts.operations.Op as Op
 use Rattle.abt_machine.specs.contracts.workload.Parts as Parts
 use Rattle.abt_machine.specs.contracts.workload.SchedPart as SchedPart
@@ -22,8 +23,11 @@ pub Unit-send : IsSend Unit.the_row
 Unit-send = send-Unit (as_row_send UnitBody.the_field UnitBody-send) (λ h s. let box = Box-send h s in search sendable depth 20)
 
 -- The workload's parts, from those within, since one search for all of them is too long.
+Calc-sync : IsSync (Calc.the_field).row
+Calc-sync = search sendable depth 30
+
 Op-sync : IsSync Op.the_row
-Op-sync = search sendable depth 90 fits 20000
+Op-sync = search (sendable, Calc-sync) depth 90 fits 20000
 
 Items-sync : (T : RattleType) → IsSync T → IsSync (Items.the_row T)
 Items-sync T s = search (sendable, Vec-sync) depth 30

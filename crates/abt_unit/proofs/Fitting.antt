@@ -10,7 +10,7 @@ use Rattle.abt_machine.specs.declared.operations.Op.{Op}
 use Rattle.abt_machine.specs.declared.operations.Op.TheVariants as op
 use Rattle.abt_machine.specs.declared.workload.Parts.{Parts}
 use Rattle.abt_machine.specs.Acts.{carrying, moved, received, reborn}
-use Rattle.abt_machine.specs.Carrying.{printed, with_home}
+use Rattle.abt_machine.specs.Carrying.{printed, with_home, word_from}
 use Rattle.abt_machine.specs.Operations.{IsDeclared, nature_of}
 use Rattle.abt_machine.specs.Valid.{IsValid}
 use Rattle.abt_machine.specs.Values.{Owned}
@@ -75,6 +75,7 @@ Fits-keys {o = o} fits k n = record {
 key-declared : (W : Parts) (a : Op) → IsDeclared W a → IfSome (nature_of a).key (λ k. k < W.keys)
 key-declared W (op.KeySet k) declared = declared
 key-declared W (op.KeyGet k) declared = declared
+key-declared W (op.Calc c k) declared = declared
 key-declared W _ declared = tt
 
 -- the key that a unit's operation names, if it names one, is a key of the unit
@@ -93,6 +94,8 @@ Fits-local_step_at W o p (op.Say w) fits declared e = becomes W _ p e (Fits-prin
 Fits-local_step_at W o p op.Print fits declared e = becomes W _ p e (Fits-printed fits (piece.Number o.carried.acc) tt)
 Fits-local_step_at W o p (op.KeySet k) fits declared e = becomes W _ p e (Fits-keys fits k o.carried.acc)
 Fits-local_step_at W o p (op.KeyGet k) fits declared e = becomes W _ p e (Fits-received fits (slice_index o.carried.keys k))
+Fits-local_step_at W o p (op.Calc c k) fits declared e = becomes W _ p e (Fits-received fits (word_from c o.carried.acc (slice_index o.carried.keys k)))
+Fits-local_step_at W o p (op.Call f) fits declared e = becomes W _ p e fits
 Fits-local_step_at W o p _ fits declared e = cc
 
 Fits-local_step_by : (W : Parts) (o p : Owned) (a : Option Op) → IsValid W → Fits W o → op_at W o.number o.carried.position ≡ a → local_step_at a o ≡ Some p → Fits W p

@@ -150,6 +150,13 @@ impl Unit {
         self.body.keys[k as usize]
     }
 
+    /// The values of all keys.
+    pub fn keys(&self) -> &[u64]
+        ensures { result.now ≡ self.now.owned.carried.keys }
+    {
+        self.body.keys.as_slice()
+    }
+
     /// Takes room for one more piece of output, if there is none. If that is out of memory, nothing changes.
     pub fn reserve_output(&mut self) -> Result<(), Want>
         ensures room { OnOk result (0 < self.new.spare) }
@@ -248,6 +255,10 @@ impl Unit {
             Op::Print => body.output.push_reserved(Piece::Number(body.acc)),
             Op::KeySet(key) => body.keys[key as usize] = body.acc,
             Op::KeyGet(key) => body.acc = body.keys[key as usize],
+            Op::Calc(calc, key) => {
+                body.acc = calc.word_from(body.acc, body.keys[key as usize]);
+            }
+            Op::Call(_) => {}
             _ => unreachable!(),
         }
         body.position += 1;

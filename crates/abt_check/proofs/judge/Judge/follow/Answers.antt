@@ -3,49 +3,65 @@ use Rattle.abt_machine.specs.declared.events.Event.{Event}
 use Rattle.abt_machine.specs.Runs.{last_state}
 use Rattle.abt_check.specs.Judges.{HasJudged, JudgeValue}
 use Rattle.abt_check.specs.Replays.{MayBeDone, IsDone}
+use Rattle.abt_check.specs.Verdicts.{stored_with}
 use Rattle.abt_check.proofs.Judged.{judged-by, may-not, names-declared, not-declared}
 use Rattle.abt_check.proofs.judge.Judge.follow.Goals.{Else-not-branch}
 use Rattle.abt_check.proofs.judge.Judge.follow.Goals as goal
 
 pub returns-then-event-streams : goal.returns-then-event-streams
-returns-then-event-streams c J judged =
+returns-then-event-streams g c J judged =
     let W = c.args.w.now in
     let count : c.streams.result ≡ W.streams = c.streams.ensures.count in
-    let other : c.streams.result ≤ c.args.event.stream.0 = c.if-event-streams.true in
-    not-declared W c.args.z.now J c.args.event (λ l. omega arith)
+    let other : c.streams.result ≤ c.args.event.now.stream.0 = c.if-event-streams.true in
+    not-declared W (stored_with c.args.z.now (g.P.Work.returns c.args.work.now)) J c.args.event.now (λ l. omega arith)
 
 pub returns-then-not-branch : goal.returns-then-not-branch
-returns-then-not-branch c J judged =
+returns-then-not-branch g c J judged =
     let W = c.args.w.now in
-    let Z = c.args.z.now in
+    let Z = stored_with c.args.z.now (g.P.Work.returns c.args.work.now) in
     let judge : JudgeValue = record { replay = c.self.inside.replay; clocks = c.self.inside.clocks } in
     let here : HasJudged W Z J judge = subst (HasJudged W Z J) (sym c.self.view_is) judged in
-    may-not W Z J c.args.event (subst (λ b. MayBeDone W Z (length J) (last_state W J) c.args.event.stream.0 c.args.event.what b c.follow.new.self) c.if-not-branch.true (c.in_ok-follow.ensures (length J) (last_state W J) here.state here.stands))
+    may-not W Z J c.args.event.now (subst (λ b. MayBeDone W Z (length J) (last_state W J) c.args.event.now.stream.0 c.args.event.now.what b c.follow.new.self) c.if-not-branch.true (c.in_ok-follow.ensures (length J) (last_state W J) here.state here.stands))
 
--- what the journal's streams and objects have followed is done
-module _ (c : Else-not-branch) (J : List Event) (judged : HasJudged c.args.w.now c.args.z.now J c.args.self.now) where
-  here : HasJudged c.args.w.now c.args.z.now J (record { replay = c.self.inside.replay; clocks = c.self.inside.clocks })
-  here = subst (HasJudged c.args.w.now c.args.z.now J) (sym c.self.view_is) judged
-
-  done : IsDone c.args.w.now c.args.z.now (length J) (last_state c.args.w.now J) c.args.event.stream.0 c.args.event.what c.follow.new.self
-  done = subst (λ b. MayBeDone c.args.w.now c.args.z.now (length J) (last_state c.args.w.now J) c.args.event.stream.0 c.args.event.what b c.follow.new.self) c.if-not-branch.false
-      (c.in_ok-follow.ensures (length J) (last_state c.args.w.now J) here.state here.stands)
-
-  declared : c.args.event.stream.0 < c.args.w.now.streams
-  declared = let count : c.streams.result ≡ c.args.w.now.streams = c.streams.ensures.count in omega arith
+-- What the streams and objects have followed is done.
 
 pub follow-requires-2-clause-names : goal.follow-requires-2-clause-names
-follow-requires-2-clause-names c =
-    let path = (goal.at.follow-requires-2-clause-names c).Else-not-branch in
+follow-requires-2-clause-names g c =
+    let p : Else-not-branch g = (goal.at.follow-requires-2-clause-names g c).Else-not-branch in
+    let W = c.args.w.now in
+    let Z = stored_with c.args.z.now (g.P.Work.returns c.args.work.now) in
     let J : List Event = c.requires.judged.0 in
     let judged = c.requires.judged.2 in
-    names-declared c.args.w.now c.args.z.now J c.args.event c.requires.valid c.requires.stored (here path J judged).run (declared path J judged) (done path J judged).may
+    let e = c.args.event.now in
+    let here : HasJudged W Z J (record { replay = p.self.inside.replay; clocks = p.self.inside.clocks }) = subst (HasJudged W Z J) (sym p.self.view_is) judged in
+    let done : IsDone W Z (length J) (last_state W J) e.stream.0 e.what p.follow.new.self =
+    subst (λ b. MayBeDone W Z (length J) (last_state W J) e.stream.0 e.what b p.follow.new.self) p.if-not-branch.false (p.in_ok-follow.ensures (length J) (last_state W J) here.state here.stands) in
+    let count : p.streams.result ≡ W.streams = p.streams.ensures.count in
+    let declared : e.stream.0 < W.streams = omega arith in
+    names-declared W Z J e c.requires.valid c.requires.stored here.run declared done.may
 
 pub follow-requires-2-clause-site : goal.follow-requires-2-clause-site
-follow-requires-2-clause-site c = (done (goal.at.follow-requires-2-clause-site c).Else-not-branch c.requires.judged.0 c.requires.judged.2).site
+follow-requires-2-clause-site g c =
+    let p : Else-not-branch g = (goal.at.follow-requires-2-clause-site g c).Else-not-branch in
+    let W = c.args.w.now in
+    let Z = stored_with c.args.z.now (g.P.Work.returns c.args.work.now) in
+    let J : List Event = c.requires.judged.0 in
+    let judged = c.requires.judged.2 in
+    let e = c.args.event.now in
+    let here : HasJudged W Z J (record { replay = p.self.inside.replay; clocks = p.self.inside.clocks }) = subst (HasJudged W Z J) (sym p.self.view_is) judged in
+    let done : IsDone W Z (length J) (last_state W J) e.stream.0 e.what p.follow.new.self =
+    subst (λ b. MayBeDone W Z (length J) (last_state W J) e.stream.0 e.what b p.follow.new.self) p.if-not-branch.false (p.in_ok-follow.ensures (length J) (last_state W J) here.state here.stands) in
+    done.site
 
 pub returns : goal.returns
-returns c J judged =
-    let path = (goal.at.returns c).Else-not-branch in
-    let before = here path J judged in
-    judged-by c.args.w.now c.args.z.now J c.args.event c.follow-2.result c.follow.new.self c.follow-2.new.self before.run (declared path J judged) (done path J judged) (c.follow-2.ensures J before.clocks before.stamped)
+returns g c J judged =
+    let p : Else-not-branch g = (goal.at.returns g c).Else-not-branch in
+    let W = c.args.w.now in
+    let Z = stored_with c.args.z.now (g.P.Work.returns c.args.work.now) in
+    let e = c.args.event.now in
+    let here : HasJudged W Z J (record { replay = p.self.inside.replay; clocks = p.self.inside.clocks }) = subst (HasJudged W Z J) (sym p.self.view_is) judged in
+    let done : IsDone W Z (length J) (last_state W J) e.stream.0 e.what p.follow.new.self =
+    subst (λ b. MayBeDone W Z (length J) (last_state W J) e.stream.0 e.what b p.follow.new.self) p.if-not-branch.false (p.in_ok-follow.ensures (length J) (last_state W J) here.state here.stands) in
+    let count : p.streams.result ≡ W.streams = p.streams.ensures.count in
+    let declared : e.stream.0 < W.streams = omega arith in
+    judged-by W Z J e c.follow-2.result c.follow.new.self c.follow-2.new.self here.run declared done (c.follow-2.ensures J here.clocks here.stamped)
