@@ -16,7 +16,7 @@ use Rattle.abt_commons.specs.declared.acts.Ask.{Ask}
 use Rattle.abt_commons.specs.declared.acts.Answer.{Answer}
 use Rattle.abt_commons.specs.Acts.{act_of, answer_of}
 use Rattle.abt_commons.specs.Held.{ObjectsValue, object_at, clock_at}
-use Rattle.abt_commons.specs.Sights.{SiteCall, Leaves}
+use Rattle.abt_commons.specs.Sights.{SiteCall, Leaves, nothing_stored}
 
 -- the lock around all objects, and the clock that was carried to it
 pub record HallValue : Type 0 where
@@ -33,7 +33,7 @@ asks_all ask = (ask.site, act_of ask.act)
 
 -- a history of the booth, as the one line
 abbrev pub hall_line : Parts → List (Entry Ask Answer) → List SiteCall
-hall_line W history = line_seen (machine_of W []) asks_all answer_of history
+hall_line W history = line_seen (machine_of W nothing_stored) asks_all answer_of history
 
 module _ {g : Ghosts ObjectsValue Ask Answer} where
   abbrev pub seen_from : Option (Seat ObjectsValue Ask Answer g) → List (Entry Ask Answer)

@@ -18,7 +18,7 @@ use Rattle.abt_commons.specs.Acts.{act_of, answer_of}
 use Rattle.abt_commons.specs.Sites.{site_number}
 use Rattle.abt_commons.specs.Held.{OneValue, ObjectsValue, IsWhole, objects_value, object_at, clock_at}
 use Rattle.abt_commons.specs.Replies.{Told}
-use Rattle.abt_commons.specs.Sights.{SiteCall, Leaves, Shows}
+use Rattle.abt_commons.specs.Sights.{SiteCall, Leaves, Shows, nothing_stored}
 
 -- each site has a lock of its own
 abbrev pub own_lock : Site → Site
@@ -30,7 +30,7 @@ asks_at x act = (x, act_of act)
 
 -- a history of a site's booth, as its line
 abbrev pub site_line : Parts → Site → List (Entry Act Answer) → List SiteCall
-site_line W x history = line_seen (machine_of W []) (asks_at x) answer_of history
+site_line W x history = line_seen (machine_of W nothing_stored) (asks_at x) answer_of history
 
 -- the objects that booths were made around, with the clocks that were carried to them
 abbrev pub opening_in : Parts → List (Booth OneValue Act Answer) → List ℕ → ObjectsValue

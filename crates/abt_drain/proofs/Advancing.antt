@@ -1,11 +1,11 @@
 -- A turn of one stream over objects in the hands of one caller.
-use Rattle.std.proofs.Common.{◌≡◌, ℕ, suc, max, ◌^◌, ◌==◌, ◌⊎◌, inl, inr, true, false, List, [], ◌∷◌, ◌++◌, length, Option, Some, None, refl, sym, ◌∙◌, ap, arith}
+use Rattle.std.proofs.Common.{◌≡◌, ℕ, suc, max, ◌^◌, ◌==◌, ◌⊎◌, inl, inr, true, false, [], ◌∷◌, ◌++◌, length, Option, Some, None, refl, sym, ◌∙◌, ap, arith}
 use Rattle.std.proofs.lemmas.Bool.{cases_lt, cond-true, cond-false, eq-eqb, ne_eqb}
 use Rattle.abt_machine.specs.declared.events.Site.{Site}
 use Rattle.abt_machine.specs.declared.events.What.{What}
 use Rattle.abt_machine.specs.declared.events.What.TheVariants as what
 use Rattle.abt_machine.specs.declared.numbers.PoolNo.{PoolNo}
-use Rattle.abt_machine.specs.declared.operations.OrderShape.{OrderShape}
+use Rattle.abt_machine.specs.Stored.{Stored}
 use Rattle.abt_machine.specs.declared.workload.Parts.{Parts}
 use Rattle.abt_machine.specs.Frames.{frame_at, frame_missed}
 use Rattle.abt_machine.specs.Gives.{SiteGives}
@@ -43,7 +43,7 @@ called W before after at stamp (Some h) went = record {
   times = (went.0.clock, went.0.other_clocks);
 }
 
-module _ (W : Parts) (Z : List OrderShape) (old : StreamValue) (before : ObjectsValue) (new : StreamValue) (after : ObjectsValue) where
+module _ (W : Parts) (Z : Stored) (old : StreamValue) (before : ObjectsValue) (new : StreamValue) (after : ObjectsValue) where
   made-advances : (w : What) → Made (Heeds PlainMoves W) W Z old before w new after → Advances W Z old before w new after
   made-advances w made =
       let c : Called before old.clock made.heard new.clock after = called W before after old.clock new.clock made.heard made.went in
@@ -66,6 +66,7 @@ module _ (W : Parts) (Z : List OrderShape) (old : StreamValue) (before : Objects
   move-is (what.Take p u) made move = (refl, λ miss. absurd miss)
   move-is (what.Look u) made move = (refl, λ miss. absurd miss)
   move-is (what.Step u k c) made move = absurd move
+  move-is (what.Call u k n) made move = absurd move
   move-is (what.Put u p) made move = (refl, λ miss. absurd miss)
   move-is (what.End u c) made move = (refl, λ miss. absurd miss)
   move-is (what.Enter u) made move = (refl, λ miss. absurd miss)
@@ -82,7 +83,7 @@ module _ (W : Parts) (Z : List OrderShape) (old : StreamValue) (before : Objects
 
   -- a turn over a plain pass
   pub turned-by : (t : Turn) → Turned (Heeds PlainMoves W) W Z old before t new after → TurnsBy W Z old before t new after
-  turned-by turn.Stepped h = (what.Step h.0 h.1 h.2, made-advances (what.Step h.0 h.1 h.2) h.3, refl)
+  turned-by turn.Stepped h = (h.0, made-advances h.0 h.1, h.2)
   turned-by turn.EmptyRound h = (h.0, made-advances (what.Miss h.0) h.1, missed-empty h.0 h.1 h.2)
   turned-by turn.Moved h = (h.0, made-advances h.0 h.1, (move-is h.0 h.1 h.2).0, (move-is h.0 h.1 h.2).1)
   turned-by turn.Spent h = (h.0.0, h.0.1, ap (λ (s : StreamValue). s.held) h.1, ap (λ (s : StreamValue). s.log) h.1, ap (λ (s : StreamValue). s.clock) h.1, h.2)

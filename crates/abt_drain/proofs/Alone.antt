@@ -7,7 +7,7 @@ use Rattle.abt_machine.specs.declared.events.Outcome.{Outcome}
 use Rattle.abt_machine.specs.declared.events.Outcome.TheVariants as outcome
 use Rattle.abt_machine.specs.declared.events.What.{What}
 use Rattle.abt_machine.specs.declared.events.What.TheVariants as what
-use Rattle.abt_machine.specs.declared.operations.OrderShape.{OrderShape}
+use Rattle.abt_machine.specs.Stored.{Stored}
 use Rattle.abt_machine.specs.declared.workload.Parts.{Parts}
 use Rattle.abt_machine.specs.Next.{EndDue, EnterDue, LeaveDue, LookDue, PutDue, RoundDue, StepDue}
 use Rattle.abt_machine.specs.Outcomes.{EndsAs, Quiet, Spent, is_step, steps_in, steps_of}
@@ -27,7 +27,7 @@ use Rattle.abt_laws.specs.Laws.{IsMiss}
 use Rattle.abt_laws.proofs.Quiet.{spent-not-quiet}
 use Rattle.abt_laws.proofs.RunParts.{last_state-sound}
 use Rattle.abt_laws.proofs.SoundRuns.{runs-are-sound}
-use Rattle.abt_bounds.specs.Laws.{HasNoFreeOrder}
+use Rattle.abt_bounds.specs.Laws.{HasNoFree}
 use Rattle.abt_outcomes.specs.OneStream.{EndsRound, GoesToItsStop, HasEndedEmpty, HasNotStopped, IsOnlyRun, HasStopped}
 use Rattle.abt_outcomes.proofs.Counted.{stamped-counted}
 use Rattle.abt_outcomes.proofs.Determined.{only-run}
@@ -54,7 +54,7 @@ all-of-first (e ∷ J) none = elim (cases_eq e.stream.0 0) [
   apart : (s : ℕ) → 1 ≤ s → e.stream.0 ≡ 0 → e.stream.0 ≡ s → ⊥
   apart s some own q = omega arith
 
-module _ (W : Parts) (Z : List OrderShape) (n : ℕ) (m : Moment) (reached : IsReachedMoment W Z n m) (alone : W.streams ≡ 1) where
+module _ (W : Parts) (Z : Stored) (n : ℕ) (m : Moment) (reached : IsReachedMoment W Z n m) (alone : W.streams ≡ 1) where
   -- the log is what all logs merge to
   pub log-merges : MergesTo m.logs (m.logs 0)
   log-merges =
@@ -68,11 +68,12 @@ module _ (W : Parts) (Z : List OrderShape) (n : ℕ) (m : Moment) (reached : IsR
 -- Going on.
 
 -- an event that is no step comes if no step is due
-step-due : (W : Parts) (Z : List OrderShape) (s : ℕ) (old : Held) (w : What) (heard : Option Heard) (new : Held) → Steps W Z s old w heard new → is_step w ≡ false → due_of W s old ≡ StepDue → ⊥
+step-due : (W : Parts) (Z : Stored) (s : ℕ) (old : Held) (w : What) (heard : Option Heard) (new : Held) → Steps W Z s old w heard new → is_step w ≡ false → due_of W s old ≡ StepDue → ⊥
 step-due W Z s old (what.Miss p) heard new steps other e = let d : due_of W s old ≡ RoundDue = steps.0 in cc
 step-due W Z s old (what.Take p u) heard new steps other e = let d : due_of W s old ≡ RoundDue = steps.0 in cc
 step-due W Z s old (what.Look u) heard new steps other e = let d : due_of W s old ≡ LookDue = steps.0 in cc
 step-due W Z s old (what.Step u k c) heard new steps other e = differ other
+step-due W Z s old (what.Call u k n) heard new steps other e = differ other
 step-due W Z s old (what.Put u p) heard new steps other e = let d : due_of W s old ≡ PutDue = steps.0 in cc
 step-due W Z s old (what.End u c) heard new steps other e = let d : due_of W s old ≡ EndDue c = steps.0 in cc
 step-due W Z s old (what.Enter u) heard new steps other e = let d : due_of W s old ≡ EnterDue = steps.0 in cc
@@ -110,7 +111,7 @@ ended-last W J e ended =
       | inr spent ↦ (let q : steps_of 0 (J ++ e ∷ []) ≡ suc (steps_of 0 (J ++ e ∷ [])) = spent.1 in absurd (omega arith))
     ]
 
-module _ (W : Parts) (Z : List OrderShape) (valid : IsValid W) (stored : OrdersStored W Z) (n : ℕ) where
+module _ (W : Parts) (Z : Stored) (valid : IsValid W) (stored : OrdersStored W Z.orders) (n : ℕ) where
   -- the log leads to the moment
   log-leads : (m : Moment) → IsReachedMoment W Z n m → W.streams ≡ 1 → LeadTo W Z (m.logs 0) m
   log-leads m reached alone = merged-lead W Z valid stored n m reached (m.logs 0) (log-merges W Z n m reached alone)
@@ -198,7 +199,7 @@ module _ (W : Parts) (Z : List OrderShape) (valid : IsValid W) (stored : OrdersS
     log-stops going o ends = goes-to-stop W n (new.logs 0) (going alone) (outcome-stops o ends)
 
     -- without a free order no other stamped run does
-    pub log-is-only : HasNoFreeOrder W Z → Stamped W (new.logs 0) → GoesToItsStop W n (new.logs 0) → IsOnlyRun W Z n (new.logs 0)
+    pub log-is-only : HasNoFree W Z → Stamped W (new.logs 0) → GoesToItsStop W n (new.logs 0) → IsOnlyRun W Z n (new.logs 0)
     log-is-only bound stamped goes =
         only-run W Z n (new.logs 0)
         (record { one_stream = alone; no_free = bound; sound = λ K other. last_state-sound W Z K (runs-are-sound W Z) valid stored other })

@@ -3,7 +3,7 @@ use Rattle.std.proofs.Common.{◌≡◌, ℕ, zero, suc, false, ◌<◌, List, [
 use Rattle.std.proofs.lemmas.Option.{slice_get_within}
 use Rattle.abt_machine.specs.declared.events.Event.{Event}
 use Rattle.abt_machine.specs.declared.events.Outcome.{Outcome}
-use Rattle.abt_machine.specs.declared.operations.OrderShape.{OrderShape}
+use Rattle.abt_machine.specs.Stored.{Stored}
 use Rattle.abt_machine.specs.declared.workload.Parts.{Parts}
 use Rattle.abt_machine.specs.Rounds.{OrdersStored}
 use Rattle.abt_machine.specs.Runs.{last_state}
@@ -89,7 +89,7 @@ all-fit W streams rest left fits = all-from-among (LeavesWhatFits W) rest (λ pa
 
 -- the picture shows the units of each run that led to these streams and objects
 pub lead-shows : (W : Parts) (n : ℕ) (streams : List StreamValue) (objects : ObjectsValue) (rest : List StreamParts) (rows : List Row) → IsValid W → AreStreams W n streams → HaveLeft streams rest → ShowsUnits W rest objects rows →
-    (Z : List OrderShape) (J : List Event) → OrdersStored W Z → LeadTo W Z J (moment_of W streams objects) → shown_units W (last_state W J) ≡ picture.units_in_rows rows
+    (Z : Stored) (J : List Event) → OrdersStored W Z.orders → LeadTo W Z J (moment_of W streams objects) → shown_units W (last_state W J) ≡ picture.units_in_rows rows
 lead-shows W n streams objects rest rows valid are left shows Z J stored lead = shows Z (last_state W J) (lead-sound W Z valid stored J (moment_of W streams objects) lead) (record {
   many = left-many streams rest left ∙ are.many;
   left = λ s parts e. (
@@ -101,10 +101,10 @@ lead-shows W n streams objects rest rows valid are left shows Z J stored lead = 
   declared s stream e = subst (λ k. s < k) are.many (slice_get_within streams s stream e)
 
 -- after a rotation without a step an only stream is at its stop
-stopped-at-stop : (W : Parts) (Z : List OrderShape) (n : ℕ) (m : Moment) (o : Outcome) → HaveStopped W Z n m o → IsAtStop W n m
+stopped-at-stop : (W : Parts) (Z : Stored) (n : ℕ) (m : Moment) (o : Outcome) → HaveStopped W Z n m o → IsAtStop W n m
 stopped-at-stop W Z n m o stopped alone = elim (stopped.turned.emptied refl 0 (omega arith)) [ inl emptied ↦ inl emptied.1 | inr spent ↦ inr spent ]
 
-module _ (W : Parts) (Z : List OrderShape) (valid : IsValid W) (stored : OrdersStored W Z) (n : ℕ) (streams : List StreamValue) (objects : ObjectsValue) (are : AreStreams W n streams)
+module _ (W : Parts) (Z : Stored) (valid : IsValid W) (stored : OrdersStored W Z.orders) (n : ℕ) (streams : List StreamValue) (objects : ObjectsValue) (are : AreStreams W n streams)
     (come : HasCome W Z n (moment_of W streams objects)) where
   -- the logs of streams that have come to a moment are logs
   pub come-logs : AreLogs (logs_in streams)
@@ -121,7 +121,7 @@ module _ (W : Parts) (Z : List OrderShape) (valid : IsValid W) (stored : OrdersS
     pub come-picture : (rest : List StreamParts) (rows : List Row) → HaveLeft streams rest → ShowsUnits W rest objects rows → All (SaysWordsOf W) rows → IsPictureOf W J rows
     come-picture rest rows left shows words = record { shown = lead-shows W n streams objects rest rows valid are left shows Z J stored lead; words = words }
 
-module _ (W : Parts) (Z : List OrderShape) (n : ℕ) (crew : CrewValue) (is : IsCrew W Z n crew) where
+module _ (W : Parts) (Z : Stored) (n : ℕ) (crew : CrewValue) (is : IsCrew W Z n crew) where
   come : HasCome W Z n (moment_in W crew)
   come = has-come W Z is.valid is.stored n (moment_in W crew) is.reached
 

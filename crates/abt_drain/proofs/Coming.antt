@@ -5,7 +5,7 @@ use Rattle.std.proofs.lemmas.List.Elements.{All-map}
 use Rattle.abt_machine.specs.declared.events.Event.{Event}
 use Rattle.abt_machine.specs.declared.events.Outcome.{Outcome}
 use Rattle.abt_machine.specs.declared.grammar.Format.TheVariants as format
-use Rattle.abt_machine.specs.declared.operations.OrderShape.{OrderShape}
+use Rattle.abt_machine.specs.Stored.{Stored}
 use Rattle.abt_machine.specs.declared.workload.Parts.{Parts}
 use Rattle.abt_machine.specs.Limits.{stream_limit}
 use Rattle.abt_machine.specs.Rounds.{OrdersStored}
@@ -29,6 +29,7 @@ use Rattle.abt_simulation.specs.Merging.{IsJournalOf, LeadsTo, StreamDeed, event
 use Rattle.abt_simulation.proofs.Merged.{merging}
 use Rattle.abt_simulation.proofs.MergedStamps.{merged-is-stamped}
 use Rattle.abt_simulation.proofs.Tallied.{journals-are-merges, journals-count, journals-exist}
+use Rattle.abt_laws.proofs.LifeOver.{ends-are-the-journals}
 use Rattle.abt_laws.proofs.LifeRuns.{runs-live}
 use Rattle.abt_laws.proofs.SoundRuns.{runs-are-sound}
 use Rattle.abt_laws.proofs.SoundStart.{start-is-sound}
@@ -41,7 +42,7 @@ map-of-map : {A B C : Type 0} (f : A → B) (g : B → C) (xs : List A) → map 
 map-of-map f g [] = refl
 map-of-map f g (x ∷ xs) = ap (λ ys. g (f x) ∷ ys) (map-of-map f g xs)
 
-module _ (W : Parts) (Z : List OrderShape) (valid : IsValid W) (stored : OrdersStored W Z) (n : ℕ) (m : Moment) (come : HasCome W Z n m) where
+module _ (W : Parts) (Z : Stored) (valid : IsValid W) (stored : OrdersStored W Z.orders) (n : ℕ) (m : Moment) (come : HasCome W Z n m) where
   -- what the logs merge to is the journal of all deeds
   pub is-journal : (J : List Event) → MergesTo m.logs J → IsJournalOf come.deeds J
   is-journal J merged = (journals-are-merges W Z (part_of W (start W)) (object_of W (start W)) come.deeds come.histories m.parts m.objects come.gathered J).1
@@ -92,21 +93,22 @@ module _ (W : Parts) (Z : List OrderShape) (valid : IsValid W) (stored : OrdersS
         stamped = come-stamped J merged;
         sound = λ i. runs-are-sound W Z valid stored J i lead.run;
         lives = runs-live W Z (runs-are-sound W Z) valid stored J lead.run;
+        ends = ends-are-the-journals W Z (runs-are-sound W Z) valid stored J lead.run;
         within = λ s lt. subst (λ k. k ≤ n) (sym (lead.made s lt)) (come.within s);
         ended = ended;
-        flow = λ finished confluent. outputs-are-flow W Z valid stored confluent J lead.run (subst (EndsAs W n J) finished ended).1;
+        flow = λ finished confluent one. outputs-are-flow W Z valid stored confluent one J lead.run (subst (EndsAs W n J) finished ended).1;
       }
 
   -- Clocks.
 
-  -- there are few logs, of at most 2^57 events
-  few-events : sum_below W.streams (λ s. length (come.deeds s)) ≤ sum_below (stream_limit format.Two) (λ s. 2 ^ 57)
-  few-events = sum-below-le W.streams (2 ^ 57) (λ s. length (come.deeds s)) (λ s lt. few s) (stream_limit format.Two) valid.few_streams where
-    few : (s : ℕ) → length (come.deeds s) ≤ 2 ^ 57
+  -- there are few logs, of at most 2^55 events
+  few-events : sum_below W.streams (λ s. length (come.deeds s)) ≤ sum_below (stream_limit format.Three) (λ s. 2 ^ 55)
+  few-events = sum-below-le W.streams (2 ^ 55) (λ s. length (come.deeds s)) (λ s lt. few s) (stream_limit format.Three) valid.few_streams where
+    few : (s : ℕ) → length (come.deeds s) ≤ 2 ^ 55
     few s =
-        let a : length (m.logs s) ≤ 2 ^ 57 = come.few s in
+        let a : length (m.logs s) ≤ 2 ^ 55 = come.few s in
         let b : length (m.logs s) ≡ length (come.deeds s) = ap length (sym (come.logs s)) ∙ length-map (come.deeds s) event_of in
-        subst (λ k. k ≤ 2 ^ 57) b a
+        subst (λ k. k ≤ 2 ^ 55) b a
 
   pub come-clock-low : (clock : ℕ) → IsClock (machine_of W Z) come.deeds clock → clock < 2 ^ 62
   come-clock-low clock is = elim is [

@@ -6,7 +6,7 @@ use Rattle.std.proofs.lemmas.List.{length-set}
 use Rattle.std.proofs.lemmas.Option.{slice_get-get_or, slice_get_within}
 use Rattle.abt_machine.specs.declared.events.What.{What}
 use Rattle.abt_machine.specs.declared.events.What.TheVariants as what
-use Rattle.abt_machine.specs.declared.operations.OrderShape.{OrderShape}
+use Rattle.abt_machine.specs.Stored.{Stored}
 use Rattle.abt_machine.specs.declared.workload.Parts.{Parts}
 use Rattle.abt_machine.specs.declared.events.Outcome.{Outcome}
 use Rattle.abt_machine.specs.declared.events.Site.{Site}
@@ -32,9 +32,9 @@ use Rattle.abt_drain.proofs.Growing.{reached-grows}
 use Rattle.abt_drain.proofs.Journals.{site-unworn, stream-unworn}
 use Rattle.abt_drain.proofs.Taking.{step-no-miss}
 
-module _ (W : Parts) (Z : List OrderShape) (n : ℕ) (crew : CrewValue) (is : IsCrew W Z n crew) (s : ℕ) (declared : s < W.streams)
+module _ (W : Parts) (Z : Stored) (n : ℕ) (crew : CrewValue) (is : IsCrew W Z n crew) (s : ℕ) (declared : s < W.streams)
     (old new : StreamValue) (at : slice_get crew.streams s ≡ Some old) (after : ObjectsValue)
-    (fits : FitsStream W new) (shapes : FitsShapes W Z new) (number : new.number ≡ old.number) (budget : new.budget ≡ old.budget) (few : length new.log ≤ 2 ^ 57) (within : steps_in new.log ≤ new.budget)
+    (fits : FitsStream W new) (shapes : FitsShapes W Z new) (number : new.number ≡ old.number) (budget : new.budget ≡ old.budget) (few : length new.log ≤ 2 ^ 55) (within : steps_in new.log ≤ new.budget)
     (objects : after.workload ≡ W) where
   abbrev next : CrewValue
   next = record crew { objects = after; streams = set crew.streams s new }
@@ -110,7 +110,7 @@ module _ (W : Parts) (Z : List OrderShape) (n : ℕ) (crew : CrewValue) (is : Is
 
   reached-after : (w : What) → Advances W Z old crew.objects w new after → IsReachedMoment W Z n there
   reached-after w a = reached-grows W Z n s w here there is.reached (made w a)
-      (subst (λ log. length log ≤ 2 ^ 57) (sym (ap log_from at-same)) few)
+      (subst (λ log. length log ≤ 2 ^ 55) (sym (ap log_from at-same)) few)
       (subst (λ log. steps_in log ≤ n) (sym (ap log_from at-same)) (subst (λ k. steps_in new.log ≤ k) (budget ∙ (is.streams.own s old at).budget) within))
 
   going-after : (w : What) → Advances W Z old crew.objects w new after → IsAwake W here → IsGoing W n there
@@ -165,18 +165,21 @@ module _ (W : Parts) (Z : List OrderShape) (n : ℕ) (crew : CrewValue) (is : Is
 pub crew-at : (streams : List StreamValue) (s : ℕ) (stream : StreamValue) → s < length streams → stream ≡ get_or streams s stream → slice_get streams s ≡ Some stream
 crew-at streams s stream lt e = slice_get-get_or streams s stream lt ∙ ap Some (sym e)
 
-pub from-own : (P : Parts → ℕ → Type 0) (W : Parts) (Z : List OrderShape) (n : ℕ) (crew : CrewValue) → IsCrew W Z n crew → P crew.workload crew.steps → P W n
+pub from-own : (P : Parts → ℕ → Type 0) (W : Parts) (Z : Stored) (n : ℕ) (crew : CrewValue) → IsCrew W Z n crew → P crew.workload crew.steps → P W n
 from-own P W Z n crew is p = subst (P W) is.steps (subst (λ V. P V crew.steps) is.workload p)
 
+pub crew-own : (W : Parts) (Z : Stored) (n : ℕ) (crew : CrewValue) → IsCrew W Z n crew → (P : Parts → ℕ → Type 0) → P W n → P crew.workload crew.steps
+crew-own W Z n crew is P p = subst (λ V. P V crew.steps) (sym is.workload) (subst (P W) (sym is.steps) p)
+
 -- what a turn of one stream is to the crew, if there was memory for it
-pub record CrewResult {E : Type 0} (W : Parts) (Z : List OrderShape) (n s : ℕ) (crew : CrewValue) (result : Result Turn E) (next : CrewValue) : Type 0 where
+pub record CrewResult {E : Type 0} (W : Parts) (Z : Stored) (n s : ℕ) (crew : CrewValue) (result : Result Turn E) (next : CrewValue) : Type 0 where
   pub turn : IfOk result (λ t. TurnBy W Z n s (moment_in W crew) t (moment_in W next))
   pub is_crew : OnOk result (IsCrew W Z n next)
   pub awake : IfOk result (λ t. StaysAwake W t (moment_in W next))
 
-pub crew-result : {E : Type 0} (W : Parts) (Z : List OrderShape) (n : ℕ) (crew : CrewValue) (is : IsCrew W Z n crew) (s : ℕ) (declared : s < W.streams) (old new : StreamValue) (at : slice_get crew.streams s ≡ Some old)
+pub crew-result : {E : Type 0} (W : Parts) (Z : Stored) (n : ℕ) (crew : CrewValue) (is : IsCrew W Z n crew) (s : ℕ) (declared : s < W.streams) (old new : StreamValue) (at : slice_get crew.streams s ≡ Some old)
     (after : ObjectsValue) (result : Result Turn E) → IfOk result (λ t. TurnsBy W Z old crew.objects t new after) → OnOk result (FitsStream W new) → OnOk result (FitsShapes W Z new) → OnOk result (new.number ≡ old.number) →
-    OnOk result (new.budget ≡ old.budget) → OnOk result (length new.log ≤ 2 ^ 57) → OnOk result (steps_in new.log ≤ new.budget) → OnOk result (after.workload ≡ W) → IsAwake W (moment_in W crew) →
+    OnOk result (new.budget ≡ old.budget) → OnOk result (length new.log ≤ 2 ^ 55) → OnOk result (steps_in new.log ≤ new.budget) → OnOk result (after.workload ≡ W) → IsAwake W (moment_in W crew) →
     CrewResult W Z n s crew result (record crew { objects = after; streams = set crew.streams s new })
 crew-result W Z n crew is s declared old new at after (Ok t) turn fits shapes number budget few within objects awake =
     let r = crew-turned W Z n crew is s declared old new at after fits shapes number budget few within objects t turn awake in
@@ -184,7 +187,7 @@ crew-result W Z n crew is s declared old new at after (Ok t) turn fits shapes nu
 crew-result W Z n crew is s declared old new at after (Err e) turn fits shapes number budget few within objects awake = record { turn = tt; is_crew = tt; awake = tt }
 
 -- what is said of its own workload and number of steps is said of those that it is of
-module _ (W : Parts) (Z : List OrderShape) (n : ℕ) (crew next : CrewValue) (is : IsCrew W Z n crew) where
+module _ (W : Parts) (Z : Stored) (n : ℕ) (crew next : CrewValue) (is : IsCrew W Z n crew) where
   pub own-turn : (s : ℕ) (t u : Turn) → t ≡ u → TurnBy crew.workload Z crew.steps s (moment_in crew.workload crew) t (moment_in crew.workload next) → TurnBy W Z n s (moment_in W crew) u (moment_in W next)
   own-turn s t u e turn = from-own (λ V k. TurnBy V Z k s (moment_in V crew) u (moment_in V next)) W Z n crew is
       (subst (λ v. TurnBy crew.workload Z crew.steps s (moment_in crew.workload crew) v (moment_in crew.workload next)) e turn)

@@ -2,7 +2,7 @@
 use Rattle.std.proofs.Common.{◌≡◌, ℕ, List, sym, subst}
 use Rattle.abt_machine.specs.declared.events.Event.{Event}
 use Rattle.abt_machine.specs.declared.events.Outcome.{Outcome}
-use Rattle.abt_machine.specs.declared.operations.OrderShape.{OrderShape}
+use Rattle.abt_machine.specs.Stored.{Stored}
 use Rattle.abt_machine.specs.declared.workload.Parts.{Parts}
 use Rattle.abt_machine.specs.Outcomes.{EndsAs}
 use Rattle.abt_machine.specs.Rounds.{OrdersStored}
@@ -19,7 +19,7 @@ use Rattle.abt_drain.proofs.Alone.{log-is-only, log-merges, log-stops}
 use Rattle.abt_drain.proofs.Coming.{come-ran}
 use Rattle.abt_drain.proofs.Journals.{has-come, merged-lamport}
 
-module _ (W : Parts) (Z : List OrderShape) (valid : IsValid W) (stored : OrdersStored W Z) (n : ℕ) (new : Moment) (reached : IsReachedMoment W Z n new) (going : IsGoing W n new)
+module _ (W : Parts) (Z : Stored) (valid : IsValid W) (stored : OrdersStored W Z.orders) (n : ℕ) (new : Moment) (reached : IsReachedMoment W Z n new) (going : IsGoing W n new)
     (at_stop : IsAtStop W n new) (J : List Event) (merged : MergesTo new.logs J) (o : Outcome) (looks : LooksAs W n new.parts new.objects (made_at new) o) where
   ran : IsRunOf W Z n J o
   ran = come-ran W Z valid stored n new (has-come W Z valid stored n new reached) J merged o looks
@@ -38,6 +38,7 @@ module _ (W : Parts) (Z : List OrderShape) (valid : IsValid W) (stored : OrdersS
     lamport = merged-lamport W Z valid stored n new reached J merged;
     sound = ran.sound;
     lives = ran.lives;
+    ends = ran.ends;
     within = ran.within;
     ended = ran.ended;
     flow = ran.flow;

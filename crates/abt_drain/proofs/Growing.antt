@@ -4,7 +4,7 @@ use Rattle.std.proofs.lemmas.Bool.{cases_eq, cond-true, cond-false, false_from_n
 use Rattle.std.proofs.lemmas.List.{map-append}
 use Rattle.abt_machine.specs.declared.events.Site.{Site}
 use Rattle.abt_machine.specs.declared.events.What.{What}
-use Rattle.abt_machine.specs.declared.operations.OrderShape.{OrderShape}
+use Rattle.abt_machine.specs.Stored.{Stored}
 use Rattle.abt_machine.specs.declared.workload.Parts.{Parts}
 use Rattle.abt_machine.specs.Maps.{put_at}
 use Rattle.abt_machine.specs.Outcomes.{steps_in}
@@ -38,7 +38,7 @@ abbrev longer_by : (Site → List SiteEntry) → StreamDeed → Option Heard →
 longer_by histories d None x = histories x
 longer_by histories d (Some h) x = cond (same_site h.0 x) (histories x ++ entry_by d h ∷ []) (histories x)
 
-module _ (W : Parts) (Z : List OrderShape) where
+module _ (W : Parts) (Z : Stored) where
   history-grows : (histories : Site → List SiteEntry) (d : StreamDeed) (heard : Option Heard) → HistoryGrows (machine_of W Z) histories d heard (longer_by histories d heard)
   history-grows histories d None = λ x. refl
   history-grows histories d (Some h) = (
@@ -82,7 +82,7 @@ module _ (W : Parts) (Z : List OrderShape) where
     by-stream : (P : ℕ → Type 0) → P s → ((r : ℕ) → s ≢ r → P r) → (r : ℕ) → P r
     by-stream P own others r = elim (cases_eq s r) [ inl e ↦ subst P e own | inr ne ↦ others r ne ]
 
-    pub reached-grows : length (new.logs s) ≤ 2 ^ 57 → made_at new s ≤ n → IsReachedMoment W Z n new
+    pub reached-grows : length (new.logs s) ≤ 2 ^ 55 → made_at new s ≤ n → IsReachedMoment W Z n new
     reached-grows few within = record {
       deeds = more;
       histories = longer;
@@ -98,6 +98,6 @@ module _ (W : Parts) (Z : List OrderShape) where
           (ap (λ ds. last_stamp (deed_stamps ds)) log-grows.0 ∙ last-push (λ (d : StreamDeed). d.stamp) 0 (reached.deeds s) deed)
           (λ r ne. ap (λ ds. last_stamp (deed_stamps ds)) (log-grows.1 r ne) ∙ (reached.clocks r ∙ sym (makes.others r ne).clock));
       times = times-grow reached.histories longer deed makes.heard old.times new.times (history-grows reached.histories deed makes.heard) reached.times makes.times;
-      few = by-stream (λ r. length (new.logs r) ≤ 2 ^ 57) few (λ r ne. subst (λ es. length es ≤ 2 ^ 57) (sym (makes.others r ne).log) (reached.few r));
+      few = by-stream (λ r. length (new.logs r) ≤ 2 ^ 55) few (λ r ne. subst (λ es. length es ≤ 2 ^ 55) (sym (makes.others r ne).log) (reached.few r));
       within = by-stream (λ r. made_at new r ≤ n) within (λ r ne. subst (λ es. steps_in es ≤ n) (sym (makes.others r ne).log) (reached.within r));
     }

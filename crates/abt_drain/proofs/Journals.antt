@@ -2,7 +2,7 @@
 use Rattle.std.proofs.Common.{ℕ, ◌<◌, ◌^◌, List, subst}
 use Rattle.abt_machine.specs.declared.events.Event.{Event}
 use Rattle.abt_machine.specs.declared.events.Site.{Site}
-use Rattle.abt_machine.specs.declared.operations.OrderShape.{OrderShape}
+use Rattle.abt_machine.specs.Stored.{Stored}
 use Rattle.abt_machine.specs.declared.workload.Parts.{Parts}
 use Rattle.abt_machine.specs.Rounds.{OrdersStored}
 use Rattle.abt_machine.specs.Stamps.{Lamport}
@@ -18,12 +18,12 @@ use Rattle.abt_drain.specs.Moments.{HasCome, IsReachedMoment, LeadTo, Moment}
 use Rattle.abt_drain.proofs.Coming.{come-clock-low, come-journal, come-lead, come-stream-unworn, is-journal}
 
 -- if each stamp is one more than the greater of its stream's last and its site's last, the journal's stamps are Lamport's
-pub come-lamport : (W : Parts) (Z : List OrderShape) (valid : IsValid W) (stored : OrdersStored W Z) (n : ℕ) (m : Moment) (come : HasCome W Z n m) → ((s : ℕ) → AllTimed come.histories 0 (come.deeds s)) →
+pub come-lamport : (W : Parts) (Z : Stored) (valid : IsValid W) (stored : OrdersStored W Z.orders) (n : ℕ) (m : Moment) (come : HasCome W Z n m) → ((s : ℕ) → AllTimed come.histories 0 (come.deeds s)) →
     (J : List Event) → MergesTo m.logs J → Lamport W J
 come-lamport W Z valid stored n m come timed J merged =
     merged-is-lamport W Z (part_of W (start W)) (object_of W (start W)) come.deeds come.histories m.parts m.objects J come.gathered timed (is-journal W Z valid stored n m come J merged)
 
-module _ (W : Parts) (Z : List OrderShape) (valid : IsValid W) (stored : OrdersStored W Z) (n : ℕ) (m : Moment) (reached : IsReachedMoment W Z n m) where
+module _ (W : Parts) (Z : Stored) (valid : IsValid W) (stored : OrdersStored W Z.orders) (n : ℕ) (m : Moment) (reached : IsReachedMoment W Z n m) where
   -- streams have come to it
   abbrev pub has-come : HasCome W Z n m
   has-come = record {

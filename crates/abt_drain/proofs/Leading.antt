@@ -6,7 +6,7 @@ use Rattle.std.proofs.lemmas.List.Sums.{sum_by_push}
 use Rattle.abt_machine.specs.declared.events.Event.{Event}
 use Rattle.abt_machine.specs.declared.events.Site.{Site}
 use Rattle.abt_machine.specs.declared.events.What.{What}
-use Rattle.abt_machine.specs.declared.operations.OrderShape.{OrderShape}
+use Rattle.abt_machine.specs.Stored.{Stored}
 use Rattle.abt_machine.specs.declared.workload.Parts.{Parts}
 use Rattle.abt_machine.specs.Events.{After, after}
 use Rattle.abt_machine.specs.Gives.{SiteGives}
@@ -58,7 +58,7 @@ other-steps s J e other =
     none true q e = ap one_if e
     none false q e = refl
 
-module _ (W : Parts) (Z : List OrderShape) (valid : IsValid W) (stored : OrdersStored W Z) where
+module _ (W : Parts) (Z : Stored) (valid : IsValid W) (stored : OrdersStored W Z.orders) where
   -- the state that a run leads to is sound
   pub lead-sound : (J : List Event) (m : Moment) → LeadTo W Z J m → Sound W Z (last_state W J)
   lead-sound J m lead = last_state-sound W Z J (runs-are-sound W Z) valid stored lead.run
@@ -96,9 +96,9 @@ module _ (W : Parts) (Z : List OrderShape) (valid : IsValid W) (stored : OrdersS
   makes-lead s w old new makes J lead = event-leads s w old new makes J lead
 
 -- nothing leads from a moment to itself
-pub none-lead : (W : Parts) (Z : List OrderShape) (m : Moment) → Lead W Z m [] m
+pub none-lead : (W : Parts) (Z : Stored) (m : Moment) → Lead W Z m [] m
 none-lead W Z m J lead = subst (λ K. LeadTo W Z K m) (sym (append-nil J)) lead
 
 -- events that follow one another
-pub leads-join : (W : Parts) (Z : List OrderShape) (old mid new : Moment) (es fs : List Event) → Lead W Z old es mid → Lead W Z mid fs new → Lead W Z old (es ++ fs) new
+pub leads-join : (W : Parts) (Z : Stored) (old mid new : Moment) (es fs : List Event) → Lead W Z old es mid → Lead W Z mid fs new → Lead W Z old (es ++ fs) new
 leads-join W Z old mid new es fs one two J lead = subst (λ K. LeadTo W Z K new) (append_assoc J es fs) (two (J ++ es) (one J lead))

@@ -4,6 +4,7 @@ pub mod Closing
 pub mod Coming
 pub mod Crewed
 pub mod Ending
+pub mod Functions
 pub mod Growing
 pub mod Journals
 pub mod Leading

@@ -3,7 +3,7 @@ use Rattle.std.proofs.Common.{◌≡◌, ℕ, ◌+◌, ◌<◌, ◌≤◌, List,
 use Rattle.std.proofs.lemmas.List.{length-append}
 use Rattle.abt_machine.specs.declared.numbers.PoolNo.{PoolNo}
 use Rattle.abt_machine.specs.declared.events.What.{What}
-use Rattle.abt_machine.specs.declared.operations.OrderShape.{OrderShape}
+use Rattle.abt_machine.specs.Stored.{Stored}
 use Rattle.abt_machine.specs.declared.workload.Parts.{Parts}
 use Rattle.abt_commons.specs.Held.{ObjectsValue}
 use Rattle.abt_order.specs.Schedulers.{SchedulerValue}
@@ -17,7 +17,7 @@ use Rattle.abt_drain.specs.Crews.{Advances, TurnsBy}
 abbrev prepared : StreamValue → SchedulerValue → List PoolNo → Rooms → StreamValue
 prepared s scheduler order rooms = record s { top = record s.top { scheduler = scheduler }; order = order; rooms = rooms }
 
-module _ (W : Parts) (Z : List OrderShape) (old : StreamValue) (scheduler : SchedulerValue) (order : List PoolNo) (rooms : Rooms) (before : ObjectsValue) (new : StreamValue) (after : ObjectsValue) where
+module _ (W : Parts) (Z : Stored) (old : StreamValue) (scheduler : SchedulerValue) (order : List PoolNo) (rooms : Rooms) (before : ObjectsValue) (new : StreamValue) (after : ObjectsValue) where
   same-advances : (w : What) → Advances W Z (prepared old scheduler order rooms) before w new after → Advances W Z old before w new after
   same-advances w a = record { heard = a.heard; steps = a.steps; answered = a.answered; clock = a.clock; times = a.times; log = a.log }
 
@@ -29,12 +29,12 @@ module _ (W : Parts) (Z : List OrderShape) (old : StreamValue) (scheduler : Sche
   same-turns turn.Worn h = h
 
 -- it is a turn of the stream as it was
-pub prepared-turns : (W : Parts) (Z : List OrderShape) (old ready : StreamValue) (before : ObjectsValue) (new : StreamValue) (after : ObjectsValue) (t : Turn) → IsPrepared old ready →
+pub prepared-turns : (W : Parts) (Z : Stored) (old ready : StreamValue) (before : ObjectsValue) (new : StreamValue) (after : ObjectsValue) (t : Turn) → IsPrepared old ready →
     TurnsBy W Z ready before t new after → TurnsBy W Z old before t new after
 prepared-turns W Z old ready before new after t is h =
     same-turns W Z old ready.top.scheduler ready.order ready.rooms before new after t (subst (λ s. TurnsBy W Z s before t new after) is h)
 
-module _ (W : Parts) (Z : List OrderShape) (ready : StreamValue) (before : ObjectsValue) (new : StreamValue) (after : ObjectsValue) (n : ℕ) (short : length ready.log < n) where
+module _ (W : Parts) (Z : Stored) (ready : StreamValue) (before : ObjectsValue) (new : StreamValue) (after : ObjectsValue) (n : ℕ) (short : length ready.log < n) where
   grown : (w : What) → Advances W Z ready before w new after → length new.log ≤ n
   grown w a = let e : length new.log ≡ length ready.log + 1 = ap length a.log ∙ length-append ready.log (_ ∷ []) in omega arith
 

@@ -3,7 +3,7 @@ use Rattle.std.proofs.Common.{◌≡◌, ℕ, suc, ◌<◌, ◌≤◌, ◌⊎◌
 use Rattle.std.proofs.lemmas.Bool.{cases_eq}
 use Rattle.abt_machine.specs.declared.events.Event.{Event}
 use Rattle.abt_machine.specs.declared.events.What.TheVariants as what
-use Rattle.abt_machine.specs.declared.operations.OrderShape.{OrderShape}
+use Rattle.abt_machine.specs.Stored.{Stored}
 use Rattle.abt_machine.specs.declared.workload.Parts.{Parts}
 use Rattle.abt_machine.specs.Numbers.{stream_no}
 use Rattle.abt_machine.specs.Outcomes.{steps_in}
@@ -25,7 +25,7 @@ use Rattle.abt_drain.proofs.Taking.{differ, no-step-front, no-step-join, no-step
 use Rattle.abt_drain.proofs.Turning.{logged-join, none-logged}
 
 -- at first no stream had its turn
-pub none-turned : (W : Parts) (Z : List OrderShape) (n : ℕ) (m : Moment) → HaveTurned W Z n 0 m false m
+pub none-turned : (W : Parts) (Z : Stored) (n : ℕ) (m : Moment) → HaveTurned W Z n 0 m false m
 none-turned W Z n m = record {
   events = [];
   lead = none-lead W Z m;
@@ -68,7 +68,7 @@ either-true : (a b : Bool) → either a b ≡ true → (a ≡ true) ⊎ (b ≡ t
 either-true true b e = inl refl
 either-true false b e = inr e
 
-module _ (W : Parts) (Z : List OrderShape) (n s : ℕ) (old mid new : Moment) (a b : Bool) (turned : HaveTurned W Z n s old a mid) (next : HasTurned W Z n s mid b new) where
+module _ (W : Parts) (Z : Stored) (n s : ℕ) (old mid new : Moment) (a b : Bool) (turned : HaveTurned W Z n s old a mid) (next : HasTurned W Z n s mid b new) where
   empties-front : (r : ℕ) → Empties W Z old turned.events r → Empties W Z old (turned.events ++ next.events) r
   empties-front r empties J lead = (emptied-grows W r (last_state W J) turned.events next.events).0 (empties J lead)
 
@@ -113,7 +113,7 @@ module _ (W : Parts) (Z : List OrderShape) (n s : ℕ) (old mid new : Moment) (a
     others = λ r le. stays-then old mid new r (turned.others r (omega arith)) (next.others r (λ e. absurd (omega arith)));
   }
 
-module _ (W : Parts) (Z : List OrderShape) (valid : IsValid W) (stored : OrdersStored W Z) (n : ℕ) (old new : Moment) (before : IsReachedMoment W Z n old) (after : IsReachedMoment W Z n new) (stepped : Bool)
+module _ (W : Parts) (Z : Stored) (valid : IsValid W) (stored : OrdersStored W Z.orders) (n : ℕ) (old new : Moment) (before : IsReachedMoment W Z n old) (after : IsReachedMoment W Z n new) (stepped : Bool)
     (turned : HaveTurned W Z n W.streams old stepped new) where
   journal : (J : List Event) × LeadTo W Z J old
   journal = some-journal W Z valid stored n old before

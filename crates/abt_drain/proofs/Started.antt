@@ -2,7 +2,7 @@
 use Rattle.std.proofs.Common.{◌≡◌, ℕ, zero, suc, ◌+◌, ◌⊎◌, inl, inr, List, [], ◌∷◌, ◌++◌, length, Option, Some, None, slice_get, refl, sym, ◌∙◌, ap, subst}
 use Rattle.std.proofs.lemmas.List.{length-append}
 use Rattle.abt_machine.specs.declared.numbers.StreamNo.{StreamNo}
-use Rattle.abt_machine.specs.declared.operations.OrderShape.{OrderShape}
+use Rattle.abt_machine.specs.Stored.{Stored}
 use Rattle.abt_machine.specs.declared.workload.Parts.{Parts}
 use Rattle.abt_machine.specs.Rounds.{OrdersStored}
 use Rattle.abt_machine.specs.Valid.{IsValid}
@@ -63,7 +63,7 @@ module _ (W : Parts) (n : ℕ) where
       own = λ s stream e. record { number = ap (λ (k : StreamNo). k.0) (all.own s stream e).number; fits = (all.own s stream e).fits; budget = (all.own s stream e).budget };
     }
 
-    pub crew-started : (Z : List OrderShape) → IsValid W → OrdersStored W Z → IsCrew W Z n (record { workload = W; steps = n; objects = objects; streams = streams })
+    pub crew-started : (Z : Stored) → IsValid W → OrdersStored W Z.orders → IsCrew W Z n (record { workload = W; steps = n; objects = objects; streams = streams })
     crew-started Z valid stored = record {
       valid = valid;
       stored = stored;

@@ -2,7 +2,7 @@
 use Rattle.std.proofs.Common.{◌≡◌, ℕ, ◌<◌, ◌≤◌, ◌^◌, inl, List, [], ◌∷◌, ◌++◌, length, refl, sym, ◌∙◌, ap, subst, arith}
 use Rattle.std.specs.Prelude.{Contains}
 use Rattle.abt_machine.specs.declared.events.Event.{Event}
-use Rattle.abt_machine.specs.declared.operations.OrderShape.{OrderShape}
+use Rattle.abt_machine.specs.Stored.{Stored}
 use Rattle.abt_machine.specs.declared.workload.Parts.{Parts}
 use Rattle.abt_machine.specs.Outcomes.{steps_in}
 use Rattle.abt_machine.specs.Start.{start}
@@ -21,7 +21,7 @@ no-last [] e is = cc
 no-last (f ∷ front) e is = cc
 
 module _ (W : Parts) (m : Moment) (is : IsStart W m) where
-  pub start-gathered : (Z : List OrderShape) → Gathered (machine_of W Z) (part_of W (start W)) (object_of W (start W)) (λ s. []) (λ x. []) m.parts m.objects
+  pub start-gathered : (Z : Stored) → Gathered (machine_of W Z) (part_of W (start W)) (object_of W (start W)) (λ s. []) (λ x. []) m.parts m.objects
   start-gathered Z = record {
     courses = λ s lt. (tt, is.parts s lt);
     undeclared = λ s ge. refl;
@@ -29,13 +29,13 @@ module _ (W : Parts) (m : Moment) (is : IsStart W m) where
     matched = record { has_entry = λ d x e a l. absurd (no-member d a); has_deed = λ x e a. absurd (no-member e a) };
   }
 
-  pub start-few : (s : ℕ) → length (m.logs s) ≤ 2 ^ 57
-  start-few s = subst (λ log. length log ≤ 2 ^ 57) (sym (is.logs s)) (omega arith)
+  pub start-few : (s : ℕ) → length (m.logs s) ≤ 2 ^ 55
+  start-few s = subst (λ log. length log ≤ 2 ^ 55) (sym (is.logs s)) (omega arith)
 
   pub start-within : (n s : ℕ) → made_at m s ≤ n
   start-within n s = subst (λ log. steps_in log ≤ n) (sym (is.logs s)) (omega arith)
 
-  pub start-reached : (Z : List OrderShape) (n : ℕ) → IsReachedMoment W Z n m
+  pub start-reached : (Z : Stored) (n : ℕ) → IsReachedMoment W Z n m
   start-reached Z n = record {
     deeds = λ s. [];
     histories = λ x. [];
@@ -48,7 +48,7 @@ module _ (W : Parts) (m : Moment) (is : IsStart W m) where
     within = start-within n;
   }
 
-  abbrev pub start-come : (Z : List OrderShape) (n : ℕ) → HasCome W Z n m
+  abbrev pub start-come : (Z : Stored) (n : ℕ) → HasCome W Z n m
   start-come Z n = record {
     deeds = λ s. [];
     histories = λ x. [];
@@ -61,7 +61,7 @@ module _ (W : Parts) (m : Moment) (is : IsStart W m) where
   }
 
   -- no rotation leads there
-  pub start-rotated : (Z : List OrderShape) (n : ℕ) → HaveRotated W Z n m
+  pub start-rotated : (Z : Stored) (n : ℕ) → HaveRotated W Z n m
   start-rotated Z n = record {
     many = 0;
     events = [];

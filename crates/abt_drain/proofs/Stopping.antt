@@ -5,7 +5,7 @@ use Rattle.std.proofs.lemmas.Bool.{cases_Bool}
 use Rattle.abt_machine.specs.declared.events.Event.{Event}
 use Rattle.abt_machine.specs.declared.events.Outcome.{Outcome}
 use Rattle.abt_machine.specs.declared.events.Outcome.TheVariants as outcome
-use Rattle.abt_machine.specs.declared.operations.OrderShape.{OrderShape}
+use Rattle.abt_machine.specs.Stored.{Stored}
 use Rattle.abt_machine.specs.declared.workload.Parts.{Parts}
 use Rattle.abt_machine.specs.Outcomes.{EndsAs, Quiet, Spent, steps_in}
 use Rattle.abt_machine.specs.Rounds.{OrdersStored}
@@ -45,7 +45,7 @@ ended-over W n J outcome.Finished ended = inl ended.0
 ended-over W n J outcome.Stuck ended = inl ended.0
 ended-over W n J (outcome.Budget s) ended = inr (s.0, ended.0)
 
-module _ (W : Parts) (Z : List OrderShape) (n : ℕ) (old new : Moment) (stepped : Bool) (turned : HaveTurned W Z n W.streams old stepped new) (rotated : HaveRotated W Z n old) where
+module _ (W : Parts) (Z : Stored) (n : ℕ) (old new : Moment) (stepped : Bool) (turned : HaveTurned W Z n W.streams old stepped new) (rotated : HaveRotated W Z n old) where
   led : LeadTo W Z (rotated.events ++ turned.events) new
   led = turned.lead rotated.events rotated.lead
 
@@ -73,7 +73,7 @@ module _ (W : Parts) (Z : List OrderShape) (n : ℕ) (old new : Moment) (stepped
   ]
 
   -- it stopped: the journal of all logs was made in rotation
-  pub made-in-rotation : IsValid W → OrdersStored W Z → stepped ≡ false → (o : Outcome) → LooksAs W n new.parts new.objects (made_at new) o → (J : List Event) → MergesTo new.logs J → IsMadeInRotation W Z n J
+  pub made-in-rotation : IsValid W → OrdersStored W Z.orders → stepped ≡ false → (o : Outcome) → LooksAs W n new.parts new.objects (made_at new) o → (J : List Event) → MergesTo new.logs J → IsMadeInRotation W Z n J
   made-in-rotation valid stored idle o looks J merged = record {
     many = rotated.many;
     before = rotated.events;
@@ -92,7 +92,7 @@ module _ (W : Parts) (Z : List OrderShape) (n : ℕ) (old new : Moment) (stepped
 
 -- Crews.
 
-module _ (W : Parts) (Z : List OrderShape) (n : ℕ) (crew next : CrewValue) (before : IsCrew W Z n crew) (after : IsCrew W Z n next) (stepped : Bool)
+module _ (W : Parts) (Z : Stored) (n : ℕ) (crew next : CrewValue) (before : IsCrew W Z n crew) (after : IsCrew W Z n next) (stepped : Bool)
     (turned : HaveTurned W Z n W.streams (moment_in W crew) stepped (moment_in W next)) where
   -- no stream is spent
   unspent : EndedWith W n next.streams next.objects None → (s : ℕ) → IsSpentIn W n (moment_in W next) s → ⊥

@@ -5,7 +5,7 @@ use Rattle.std.proofs.lemmas.List.Elements.{All-append, All-cons, All-nil}
 use Rattle.abt_machine.specs.declared.events.Event.{Event}
 use Rattle.abt_machine.specs.declared.events.What.{What}
 use Rattle.abt_machine.specs.declared.events.What.TheVariants as what
-use Rattle.abt_machine.specs.declared.operations.OrderShape.{OrderShape}
+use Rattle.abt_machine.specs.Stored.{Stored}
 use Rattle.abt_machine.specs.declared.workload.Parts.{Parts}
 use Rattle.abt_machine.specs.Outcomes.{is_step}
 use Rattle.abt_machine.specs.Rounds.{OrdersStored}
@@ -59,13 +59,14 @@ step-no-miss (what.Miss p) step miss = differ (sym step)
 step-no-miss (what.Take p u) step miss = miss
 step-no-miss (what.Look u) step miss = miss
 step-no-miss (what.Step u k c) step miss = miss
+step-no-miss (what.Call u k n) step miss = miss
 step-no-miss (what.Put u p) step miss = miss
 step-no-miss (what.End u c) step miss = miss
 step-no-miss (what.Enter u) step miss = miss
 step-no-miss (what.Leave u) step miss = miss
 
 -- at first the stream has made no event
-pub none-moved : (W : Parts) (Z : List OrderShape) (s : ℕ) (m : Moment) → MovesOn W Z s m m
+pub none-moved : (W : Parts) (Z : Stored) (s : ℕ) (m : Moment) → MovesOn W Z s m m
 none-moved W Z s m = record {
   events = [];
   lead = none-lead W Z m;
@@ -76,7 +77,7 @@ none-moved W Z s m = record {
   others = λ r ne. stays-same m r;
 }
 
-module _ (W : Parts) (Z : List OrderShape) (valid : IsValid W) (stored : OrdersStored W Z) (n s : ℕ) where
+module _ (W : Parts) (Z : Stored) (valid : IsValid W) (stored : OrdersStored W Z.orders) (n s : ℕ) where
   -- one event more
   joined : (old mid new : Moment) (w : What) → (moves : MovesOn W Z s old mid) → Makes W Z s w mid new → Lead W Z old (moves.events ++ event_at new s w ∷ []) new
   joined old mid new w moves makes = leads-join W Z old mid new moves.events (event_at new s w ∷ []) moves.lead (makes-lead W Z valid stored s w mid new makes)

@@ -5,7 +5,7 @@ use Rattle.std.proofs.lemmas.List.{append_assoc, append-nil}
 use Rattle.std.proofs.lemmas.List.Elements.{filter-append}
 use Rattle.abt_machine.specs.declared.events.Event.{Event}
 use Rattle.abt_machine.specs.declared.events.What.{What}
-use Rattle.abt_machine.specs.declared.operations.OrderShape.{OrderShape}
+use Rattle.abt_machine.specs.Stored.{Stored}
 use Rattle.abt_machine.specs.declared.workload.Parts.{Parts}
 use Rattle.abt_interleave.proofs.OneList.{of-other, of-own}
 use Rattle.abt_drain.specs.InRotation.{NoneEndsTurns, events_by}
@@ -30,7 +30,7 @@ logged-join old mid new es fs one two r =
     two r ∙ (ap (λ log. log ++ events_by r fs) (one r)
     ∙ (append_assoc (old.logs r) (events_by r es) (events_by r fs) ∙ ap (λ log. old.logs r ++ log) (sym (by-join r es fs))))
 
-pub makes-logged : (W : Parts) (Z : List OrderShape) (s : ℕ) (w : What) (old new : Moment) → Makes W Z s w old new → AreLogged old (event_at new s w ∷ []) new
+pub makes-logged : (W : Parts) (Z : Stored) (s : ℕ) (w : What) (old new : Moment) → Makes W Z s w old new → AreLogged old (event_at new s w ∷ []) new
 makes-logged W Z s w old new makes r = elim (cases_eq s r) [
   | inl e ↦ subst (λ q. new.logs q ≡ old.logs q ++ events_by q (event_at new s w ∷ [])) e
       (makes.log ∙ ap (λ log. old.logs s ++ log) (sym (of-own (λ (e : Event). e.stamp) (λ (e : Event). e.stream.0) s (event_at new s w) [] refl)))

@@ -6,7 +6,7 @@ use Rattle.abt_machine.specs.declared.events.Site.{Site}
 use Rattle.abt_machine.specs.declared.events.What.{What}
 use Rattle.abt_machine.specs.declared.events.What.TheVariants as what
 use Rattle.abt_machine.specs.declared.numbers.PoolNo.{PoolNo}
-use Rattle.abt_machine.specs.declared.operations.OrderShape.{OrderShape}
+use Rattle.abt_machine.specs.Stored.{Stored}
 use Rattle.abt_machine.specs.declared.workload.Parts.{Parts}
 use Rattle.abt_machine.specs.Gives.{SiteGives}
 use Rattle.abt_machine.specs.Next.{StepDue}
@@ -59,9 +59,9 @@ abbrev pub moment_in : Parts → CrewValue → Moment
 moment_in W crew = moment_of W crew.streams crew.objects
 
 -- a crew of a valid W with these stored orders, whose streams may make n steps, at a moment that its run has reached
-pub record IsCrew (W : Parts) (Z : List OrderShape) (n : ℕ) (crew : CrewValue) : Type 0 where
+pub record IsCrew (W : Parts) (Z : Stored) (n : ℕ) (crew : CrewValue) : Type 0 where
   pub valid : IsValid W
-  pub stored : OrdersStored W Z
+  pub stored : OrdersStored W Z.orders
   pub workload : crew.workload ≡ W
   pub steps : crew.steps ≡ n
   pub objects : crew.objects.workload ≡ W
@@ -73,7 +73,7 @@ pub record IsCrew (W : Parts) (Z : List OrderShape) (n : ℕ) (crew : CrewValue)
 -- One stream.
 
 -- one event of a stream, over objects that answer it
-pub record Advances (W : Parts) (Z : List OrderShape) (old : StreamValue) (before : ObjectsValue) (w : What) (new : StreamValue) (after : ObjectsValue) : Type 0 where
+pub record Advances (W : Parts) (Z : Stored) (old : StreamValue) (before : ObjectsValue) (w : What) (new : StreamValue) (after : ObjectsValue) : Type 0 where
   pub heard : Option Heard
   pub steps : Steps W Z old.number.0 old.held w heard new.held
   pub answered : Answered SiteGives (object_at before) heard (object_at after)
@@ -82,7 +82,7 @@ pub record Advances (W : Parts) (Z : List OrderShape) (old : StreamValue) (befor
   pub log : new.log ≡ old.log ++ record { stamp = new.clock; stream = old.number; what = w } ∷ []
 
 -- a turn of a stream, by its answer; it is worn only if its own clock or that of an object is at its end
-abbrev pub TurnsBy : Parts → List OrderShape → StreamValue → ObjectsValue → Turn → StreamValue → ObjectsValue → Type 0
+abbrev pub TurnsBy : Parts → Stored → StreamValue → ObjectsValue → Turn → StreamValue → ObjectsValue → Type 0
 TurnsBy W Z old before turn.Stepped new after = (w : What) × Advances W Z old before w new after × (is_step w ≡ true)
 TurnsBy W Z old before turn.EmptyRound new after = (p : PoolNo) × Advances W Z old before (what.Miss p) new after × (new.held.own.top.empty ≡ true)
 TurnsBy W Z old before turn.Moved new after =
@@ -94,7 +94,7 @@ TurnsBy W Z old before turn.Worn new after = ((old.clock ≡ 2 ^ 62) ⊎ ((x : S
 -- All streams.
 
 -- a turn of stream s, by its answer: no turn is worn
-abbrev pub TurnBy : Parts → List OrderShape → ℕ → ℕ → Moment → Turn → Moment → Type 0
+abbrev pub TurnBy : Parts → Stored → ℕ → ℕ → Moment → Turn → Moment → Type 0
 TurnBy W Z n s old turn.Stepped new = MakesStep W Z s old new
 TurnBy W Z n s old turn.EmptyRound new = EndsRoundAt W Z s old new
 TurnBy W Z n s old turn.Moved new = MakesMove W Z s old new
@@ -110,7 +110,7 @@ StaysAwake W turn.Spent m = IsAwake W m
 StaysAwake W turn.Worn m = ⊤
 
 -- the streams stopped after rotations: the last made no step, and the run ended so
-pub record HaveStopped (W : Parts) (Z : List OrderShape) (n : ℕ) (m : Moment) (o : Outcome) : Type 0 where
+pub record HaveStopped (W : Parts) (Z : Stored) (n : ℕ) (m : Moment) (o : Outcome) : Type 0 where
   pub before : Moment
   pub rotated : HaveRotated W Z n before
   pub turned : HaveTurned W Z n W.streams before false m

@@ -2,7 +2,7 @@
 use Rattle.std.specs.Prelude.{ℕ, zero, suc, ◌≡◌, ◌⊎◌, true, List, [], ◌∷◌, ◌++◌}
 use Rattle.std.specs.List.{All}
 use Rattle.abt_machine.specs.declared.events.Event.{Event}
-use Rattle.abt_machine.specs.declared.operations.OrderShape.{OrderShape}
+use Rattle.abt_machine.specs.Stored.{Stored}
 use Rattle.abt_machine.specs.declared.workload.Parts.{Parts}
 use Rattle.abt_machine.specs.Outcomes.{Quiet, Spent, is_step}
 use Rattle.abt_machine.specs.Runs.{Run, last_state}
@@ -61,7 +61,7 @@ AreRotations W n (suc k) J =
     (before : List Event) × (es : List Event) × (J ≡ before ++ es) × AreRotations W n k before × AreTurnsBelow W n W.streams before es × (StopsBy W n before es → ⊥)
 
 -- the events of J, in the order in which they were made, are a run in rotation, which stops after its last rotation: J has the same events of each stream
-pub record IsMadeInRotation (W : Parts) (Z : List OrderShape) (n : ℕ) (J : List Event) : Type 0 where
+pub record IsMadeInRotation (W : Parts) (Z : Stored) (n : ℕ) (J : List Event) : Type 0 where
   pub many : ℕ
   pub before : List Event
   pub last : List Event

@@ -4,7 +4,7 @@ use Rattle.std.specs.List.{All}
 use Rattle.abt_machine.specs.declared.events.Event.{Event}
 use Rattle.abt_machine.specs.declared.events.Outcome.{Outcome}
 use Rattle.abt_machine.specs.declared.events.Site.TheVariants as site
-use Rattle.abt_machine.specs.declared.operations.OrderShape.{OrderShape}
+use Rattle.abt_machine.specs.Stored.{Stored}
 use Rattle.abt_machine.specs.declared.workload.Parts.{Parts}
 use Rattle.abt_machine.specs.Numbers.{pool_no}
 use Rattle.abt_machine.specs.Outcomes.{EndsAs, Quiet, Spent, steps_in}
@@ -88,5 +88,5 @@ EndsWith W n J None = (Quiet W (last_state W J) → ⊥) × ((s : ℕ) → Spent
 -- each run to whose last state these streams and objects belong ended so
 abbrev pub IsOutcomeOfRuns : Parts → ℕ → List StreamValue → ObjectsValue → Option Outcome → Type 0
 IsOutcomeOfRuns W n streams objects outcome =
-    (Z : List OrderShape) (J : List Event) → OrdersStored W Z → Run W Z J → StandFor W (last_state W J) (parts_held W streams) (object_at objects)
+    (Z : Stored) (J : List Event) → OrdersStored W Z.orders → Run W Z J → StandFor W (last_state W J) (parts_held W streams) (object_at objects)
     → HaveMade W J (steps_made streams) → EndsWith W n J outcome

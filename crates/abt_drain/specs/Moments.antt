@@ -3,7 +3,7 @@ use Rattle.std.specs.Prelude.{ℕ, suc, max, ◌≡◌, ◌≢◌, ◌<◌, ◌�
 use Rattle.abt_machine.specs.declared.events.Event.{Event}
 use Rattle.abt_machine.specs.declared.events.Site.{Site}
 use Rattle.abt_machine.specs.declared.events.What.{What}
-use Rattle.abt_machine.specs.declared.operations.OrderShape.{OrderShape}
+use Rattle.abt_machine.specs.Stored.{Stored}
 use Rattle.abt_machine.specs.declared.workload.Parts.{Parts}
 use Rattle.abt_machine.specs.Numbers.{stream_no}
 use Rattle.abt_machine.specs.Gives.{SiteGives}
@@ -59,7 +59,7 @@ pub record Stays (old new : Moment) (s : ℕ) : Type 0 where
   pub clock : new.clocks s ≡ old.clocks s
 
 -- an event of stream s leads from the first moment to the second
-pub record Makes (W : Parts) (Z : List OrderShape) (s : ℕ) (w : What) (old new : Moment) : Type 0 where
+pub record Makes (W : Parts) (Z : Stored) (s : ℕ) (w : What) (old new : Moment) : Type 0 where
   pub heard : Option Heard
   pub declared : s < W.streams
   pub steps : Steps W Z s (old.parts s) w heard (new.parts s)
@@ -80,13 +80,13 @@ pub record IsStart (W : Parts) (m : Moment) : Type 0 where
   pub times : (x : Site) → m.times x ≡ 0
 
 -- the events lead to the moment
-pub record LeadTo (W : Parts) (Z : List OrderShape) (J : List Event) (m : Moment) : Type 0 where
+pub record LeadTo (W : Parts) (Z : Stored) (J : List Event) (m : Moment) : Type 0 where
   pub run : Run W Z J
   pub stand : StandFor W (last_state W J) m.parts m.objects
   pub made : HaveMade W J (made_at m)
 
 -- streams that may make n steps have come to the moment: what they did, and what the objects were asked, leads there from the start
-pub record IsReachedMoment (W : Parts) (Z : List OrderShape) (n : ℕ) (m : Moment) : Type 0 where
+pub record IsReachedMoment (W : Parts) (Z : Stored) (n : ℕ) (m : Moment) : Type 0 where
   pub deeds : ℕ → List StreamDeed
   pub histories : Site → List SiteEntry
   pub gathered : Gathered (machine_of W Z) (part_of W (start W)) (object_of W (start W)) deeds histories m.parts m.objects
@@ -94,16 +94,16 @@ pub record IsReachedMoment (W : Parts) (Z : List OrderShape) (n : ℕ) (m : Mome
   pub logs : (s : ℕ) → events_of deeds s ≡ m.logs s
   pub clocks : (s : ℕ) → last_stamp (deed_stamps (deeds s)) ≡ m.clocks s
   pub times : (x : Site) → last_stamp (entry_stamps (histories x)) ≡ m.times x
-  pub few : (s : ℕ) → length (m.logs s) ≤ 2 ^ 57
+  pub few : (s : ℕ) → length (m.logs s) ≤ 2 ^ 55
   pub within : (s : ℕ) → made_at m s ≤ n
 
 -- the same, whatever clocks the objects' stamps went by: no more is known of stamps than that they leave no gap
-pub record HasCome (W : Parts) (Z : List OrderShape) (n : ℕ) (m : Moment) : Type 0 where
+pub record HasCome (W : Parts) (Z : Stored) (n : ℕ) (m : Moment) : Type 0 where
   pub deeds : ℕ → List StreamDeed
   pub histories : Site → List SiteEntry
   pub gathered : Gathered (machine_of W Z) (part_of W (start W)) (object_of W (start W)) deeds histories m.parts m.objects
   pub no_gap : LeavesNoGap deeds
   pub logs : (s : ℕ) → events_of deeds s ≡ m.logs s
   pub clocks : (s : ℕ) → last_stamp (deed_stamps (deeds s)) ≡ m.clocks s
-  pub few : (s : ℕ) → length (m.logs s) ≤ 2 ^ 57
+  pub few : (s : ℕ) → length (m.logs s) ≤ 2 ^ 55
   pub within : (s : ℕ) → made_at m s ≤ n

@@ -3,7 +3,7 @@ use Rattle.std.specs.Prelude.{ℕ, suc, ◌≡◌, ◌<◌, List, [], ◌∷◌,
 use Rattle.std.specs.List.{All}
 use Rattle.abt_machine.specs.declared.events.Shown.TheVariants as shows
 use Rattle.abt_machine.specs.declared.events.Site.{Site}
-use Rattle.abt_machine.specs.declared.operations.OrderShape.{OrderShape}
+use Rattle.abt_machine.specs.Stored.{Stored}
 use Rattle.abt_machine.specs.declared.workload.Parts.{Parts}
 use Rattle.abt_machine.specs.Numbers.{stream_no}
 use Rattle.abt_machine.specs.Sound.{Sound}
@@ -64,4 +64,4 @@ pub record AreOf (W : Parts) (S : State) (streams : List StreamParts) (objects :
 -- the picture shows the units of each sound state whose streams left this, and whose objects are these
 abbrev pub ShowsUnits : Parts → List StreamParts → ObjectsValue → List Row → Type 0
 ShowsUnits W streams objects rows =
-    (Z : List OrderShape) (S : State) → Sound W Z S → AreOf W S streams objects → shown_units W S ≡ picture.units_in_rows rows
+    (Z : Stored) (S : State) → Sound W Z S → AreOf W S streams objects → shown_units W S ≡ picture.units_in_rows rows

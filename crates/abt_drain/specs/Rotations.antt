@@ -5,7 +5,7 @@ use Rattle.abt_machine.specs.declared.events.Event.{Event}
 use Rattle.abt_machine.specs.declared.events.What.{What}
 use Rattle.abt_machine.specs.declared.events.What.TheVariants as what
 use Rattle.abt_machine.specs.declared.numbers.PoolNo.{PoolNo}
-use Rattle.abt_machine.specs.declared.operations.OrderShape.{OrderShape}
+use Rattle.abt_machine.specs.Stored.{Stored}
 use Rattle.abt_machine.specs.declared.workload.Parts.{Parts}
 use Rattle.abt_machine.specs.Outcomes.{is_step}
 use Rattle.abt_machine.specs.Runs.{last_state}
@@ -39,19 +39,19 @@ pub record LastRoundIsEmpty (m : Moment) (s : ℕ) : Type 0 where
 -- Turns.
 
 -- stream s made a step
-pub record MakesStep (W : Parts) (Z : List OrderShape) (s : ℕ) (old new : Moment) : Type 0 where
+pub record MakesStep (W : Parts) (Z : Stored) (s : ℕ) (old new : Moment) : Type 0 where
   pub what : What
   pub makes : Makes W Z s what old new
   pub step : is_step what ≡ true
 
 -- stream s missed the last pool of a round, which so ended empty
-pub record EndsRoundAt (W : Parts) (Z : List OrderShape) (s : ℕ) (old new : Moment) : Type 0 where
+pub record EndsRoundAt (W : Parts) (Z : Stored) (s : ℕ) (old new : Moment) : Type 0 where
   pub pool : PoolNo
   pub makes : Makes W Z s (what.Miss pool) old new
   pub empty : (new.parts s).own.top.empty ≡ true
 
 -- stream s made another event
-pub record MakesMove (W : Parts) (Z : List OrderShape) (s : ℕ) (old new : Moment) : Type 0 where
+pub record MakesMove (W : Parts) (Z : Stored) (s : ℕ) (old new : Moment) : Type 0 where
   pub what : What
   pub makes : Makes W Z s what old new
   pub other : is_step what ≡ false
@@ -60,11 +60,11 @@ pub record MakesMove (W : Parts) (Z : List OrderShape) (s : ℕ) (old new : Mome
 -- Events that lead on.
 
 -- these events lead from one moment to the other
-abbrev pub Lead : Parts → List OrderShape → Moment → List Event → Moment → Type 0
+abbrev pub Lead : Parts → Stored → Moment → List Event → Moment → Type 0
 Lead W Z old es new = (J : List Event) → LeadTo W Z J old → LeadTo W Z (J ++ es) new
 
 -- within these events from the moment on a round of stream s ends empty
-abbrev pub Empties : Parts → List OrderShape → Moment → List Event → ℕ → Type 0
+abbrev pub Empties : Parts → Stored → Moment → List Event → ℕ → Type 0
 Empties W Z old es s = (J : List Event) → LeadTo W Z J old → HasEmptied W s (last_state W J) es
 
 -- each stream's log grew by its own of these events
@@ -72,7 +72,7 @@ abbrev pub AreLogged : Moment → List Event → Moment → Type 0
 AreLogged old es new = (s : ℕ) → new.logs s ≡ old.logs s ++ events_by s es
 
 -- stream s went on by events that are not steps, none of which ends its turns
-pub record MovesOn (W : Parts) (Z : List OrderShape) (s : ℕ) (old new : Moment) : Type 0 where
+pub record MovesOn (W : Parts) (Z : Stored) (s : ℕ) (old new : Moment) : Type 0 where
   pub events : List Event
   pub lead : Lead W Z old events new
   pub logged : AreLogged old events new
@@ -82,7 +82,7 @@ pub record MovesOn (W : Parts) (Z : List OrderShape) (s : ℕ) (old new : Moment
   pub others : (r : ℕ) → s ≢ r → Stays old new r
 
 -- stream s had its turns, and whether the last was a step; else it ended a round empty, or is spent
-pub record HasTurned (W : Parts) (Z : List OrderShape) (n s : ℕ) (old : Moment) (stepped : Bool) (new : Moment) : Type 0 where
+pub record HasTurned (W : Parts) (Z : Stored) (n s : ℕ) (old : Moment) (stepped : Bool) (new : Moment) : Type 0 where
   pub events : List Event
   pub lead : Lead W Z old events new
   pub logged : AreLogged old events new
@@ -94,7 +94,7 @@ pub record HasTurned (W : Parts) (Z : List OrderShape) (n s : ℕ) (old : Moment
   pub others : (r : ℕ) → s ≢ r → Stays old new r
 
 -- the streams below s had their turns since the first moment, and whether one of them made a step
-pub record HaveTurned (W : Parts) (Z : List OrderShape) (n s : ℕ) (old : Moment) (stepped : Bool) (new : Moment) : Type 0 where
+pub record HaveTurned (W : Parts) (Z : Stored) (n s : ℕ) (old : Moment) (stepped : Bool) (new : Moment) : Type 0 where
   pub events : List Event
   pub lead : Lead W Z old events new
   pub logged : AreLogged old events new
@@ -106,7 +106,7 @@ pub record HaveTurned (W : Parts) (Z : List OrderShape) (n s : ℕ) (old : Momen
   pub others : (r : ℕ) → s ≤ r → Stays old new r
 
 -- the streams came to the moment by rotations, after none of which the run stops
-pub record HaveRotated (W : Parts) (Z : List OrderShape) (n : ℕ) (m : Moment) : Type 0 where
+pub record HaveRotated (W : Parts) (Z : Stored) (n : ℕ) (m : Moment) : Type 0 where
   pub many : ℕ
   pub events : List Event
   pub lead : LeadTo W Z events m

@@ -1,10 +1,10 @@
 //! All streams of a workload, and the objects that they share.
 
-ghost use Rattle.std.specs.Prelude.{◌≡◌, ◌<◌, ◌≤◌, ◌^◌, ℕ, true, IfOk, List, OnOk, length};
+ghost use Rattle.std.specs.Prelude.{◌≡◌, ◌<◌, ◌≤◌, ◌^◌, ℕ, true, IfOk, List, OnOk, Option, length};
 ghost use Rattle.abt_machine.specs.declared.events.Outcome.{Outcome};
-ghost use Rattle.abt_machine.specs.declared.operations.OrderShape.{OrderShape};
+ghost use Rattle.abt_machine.specs.Stored.{CallsStored, Stored};
 ghost use Rattle.abt_machine.specs.Rounds.{OrdersStored};
-ghost use Rattle.abt_order.specs.Stored.{shapes_of};
+ghost use Rattle.abt_order.specs.Stored.{shapes_of, stored_of};
 ghost use Rattle.abt_report.specs.Pictures.{IsPictureOf};
 ghost use Rattle.abt_machine.specs.Outcomes.{steps_in};
 ghost use Rattle.abt_stream.specs.Streams.{FitsShapes, FitsStream};
@@ -22,7 +22,8 @@ use abt_machine::{Journal, Outcome, Want, Workload};
 use abt_merge::merge;
 use abt_order::StoredOrder;
 use abt_report::Picture;
-use abt_stream::{Pace, Stream, Turn};
+use abt_stream::{Stream, Turn};
+use abt_work::Work;
 use std::alloc::Global;
 use std::marker::Model;
 
@@ -56,10 +57,10 @@ impl<'w> Crew<'w> {
         steps: u64,
     ) -> Result<Crew<'w>, Want>
         requires orders { 2 ≤ length orders.now }
-        ensures crew { IfOk result (IsCrew w.now (shapes_of orders.now) steps) }
+        ensures crew { IfOk result (λ crew. (returns : ℕ → ℕ → ℕ → List ℕ → Option ℕ) → IsCrew w.now (stored_of orders.now returns) steps crew) }
         ensures fresh { IfOk result (λ crew. (s : ℕ) → s < w.now.streams → HasSeenNone (moment_in w.now crew) s) }
         ensures awake { IfOk result (λ crew. IsAwake w.now (moment_in w.now crew)) }
-        ensures rotated { IfOk result (λ crew. HaveRotated w.now (shapes_of orders.now) steps (moment_in w.now crew)) }
+        ensures rotated { IfOk result (λ crew. (returns : ℕ → ℕ → ℕ → List ℕ → Option ℕ) → HaveRotated w.now (stored_of orders.now returns) steps (moment_in w.now crew)) }
     {
         w.known();
         let streams = start_streams(alloc, w, steps)?;
@@ -74,12 +75,13 @@ impl<'w> Crew<'w> {
     }
 
     // One turn of a stream.
-    fn turn<P: Pace>(&mut self, orders: &[StoredOrder], pace: &P, s: u32) -> Result<Turn, Want>
+    fn turn<P: Work>(&mut self, orders: &[StoredOrder], work: &P, s: u32) -> Result<Turn, Want>
         requires stream { s < self.old.workload.streams }
-        requires crew { IsCrew self.old.workload (shapes_of orders.now) self.old.steps self.old }
+        requires calls { CallsStored self.old.workload (P.count work.now) }
+        requires crew { IsCrew self.old.workload (stored_of orders.now (P.returns work.now)) self.old.steps self.old }
         requires awake { IsAwake self.old.workload (moment_in self.old.workload self.old) }
-        ensures turn { IfOk result (λ turn. TurnBy self.old.workload (shapes_of orders.now) self.old.steps s (moment_in self.old.workload self.old) turn (moment_in self.old.workload self.new)) }
-        ensures crew { OnOk result (IsCrew self.old.workload (shapes_of orders.now) self.old.steps self.new) }
+        ensures turn { IfOk result (λ turn. TurnBy self.old.workload (stored_of orders.now (P.returns work.now)) self.old.steps s (moment_in self.old.workload self.old) turn (moment_in self.old.workload self.new)) }
+        ensures crew { OnOk result (IsCrew self.old.workload (stored_of orders.now (P.returns work.now)) self.old.steps self.new) }
         ensures awake { IfOk result (λ turn. StaysAwake self.old.workload turn (moment_in self.old.workload self.new)) }
     {
         advance(
@@ -88,26 +90,27 @@ impl<'w> Crew<'w> {
             orders,
             &self.plain,
             &mut self.pass,
-            pace,
+            work,
         )
     }
 
     // Makes turns of a stream until one is a step, ends a round empty, or is none; returns whether it was a step.
-    fn take_turns<P: Pace>(
+    fn take_turns<P: Work>(
         &mut self,
         orders: &[StoredOrder],
-        pace: &P,
+        work: &P,
         s: u32,
     ) -> Result<bool, Want>
         requires stream { s < self.old.workload.streams }
-        requires crew { IsCrew self.old.workload (shapes_of orders.now) self.old.steps self.old }
+        requires calls { CallsStored self.old.workload (P.count work.now) }
+        requires crew { IsCrew self.old.workload (stored_of orders.now (P.returns work.now)) self.old.steps self.old }
         requires awake { IsAwake self.old.workload (moment_in self.old.workload self.old) }
-        ensures turned { IfOk result (λ stepped. HasTurned self.old.workload (shapes_of orders.now) self.old.steps s (moment_in self.old.workload self.old) stepped (moment_in self.old.workload self.new)) }
-        ensures crew { OnOk result (IsCrew self.old.workload (shapes_of orders.now) self.old.steps self.new) }
+        ensures turned { IfOk result (λ stepped. HasTurned self.old.workload (stored_of orders.now (P.returns work.now)) self.old.steps s (moment_in self.old.workload self.old) stepped (moment_in self.old.workload self.new)) }
+        ensures crew { OnOk result (IsCrew self.old.workload (stored_of orders.now (P.returns work.now)) self.old.steps self.new) }
         ensures awake { IfOk result (λ stepped. stepped ≡ true → IsAwake self.old.workload (moment_in self.old.workload self.new)) }
     {
         'turns: loop {
-            match self.turn(orders, pace, s)? {
+            match self.turn(orders, work, s)? {
                 Turn::Moved => {}
                 Turn::Stepped => return Ok(true),
                 Turn::EmptyRound => return Ok(false),
@@ -118,16 +121,17 @@ impl<'w> Crew<'w> {
     }
 
     // Makes the turns of each stream, in order of number; returns whether one of them was a step.
-    fn rotate<P: Pace>(&mut self, orders: &[StoredOrder], pace: &P) -> Result<bool, Want>
-        requires crew { IsCrew self.old.workload (shapes_of orders.now) self.old.steps self.old }
+    fn rotate<P: Work>(&mut self, orders: &[StoredOrder], work: &P) -> Result<bool, Want>
+        requires calls { CallsStored self.old.workload (P.count work.now) }
+        requires crew { IsCrew self.old.workload (stored_of orders.now (P.returns work.now)) self.old.steps self.old }
         requires awake { IsAwake self.old.workload (moment_in self.old.workload self.old) }
-        ensures turned { IfOk result (λ stepped. HaveTurned self.old.workload (shapes_of orders.now) self.old.steps self.old.workload.streams (moment_in self.old.workload self.old) stepped (moment_in self.old.workload self.new)) }
-        ensures crew { OnOk result (IsCrew self.old.workload (shapes_of orders.now) self.old.steps self.new) }
+        ensures turned { IfOk result (λ stepped. HaveTurned self.old.workload (stored_of orders.now (P.returns work.now)) self.old.steps self.old.workload.streams (moment_in self.old.workload self.old) stepped (moment_in self.old.workload self.new)) }
+        ensures crew { OnOk result (IsCrew self.old.workload (stored_of orders.now (P.returns work.now)) self.old.steps self.new) }
         ensures awake { IfOk result (λ stepped. stepped ≡ true → IsAwake self.old.workload (moment_in self.old.workload self.new)) }
     {
         let mut stepped = false;
         'streams: for s in 0..self.w.streams() {
-            let step = self.take_turns(orders, pace, s)?;
+            let step = self.take_turns(orders, work, s)?;
             stepped = stepped || step;
         }
         Ok(stepped)
@@ -146,16 +150,17 @@ impl<'w> Crew<'w> {
     }
 
     /// Makes rotations, until one without a step leaves nothing to do or a stream spent.
-    pub(crate) fn run<P: Pace>(&mut self, orders: &[StoredOrder], pace: &P) -> Result<Outcome, Want>
-        requires crew { IsCrew self.old.workload (shapes_of orders.now) self.old.steps self.old }
+    pub(crate) fn run<P: Work>(&mut self, orders: &[StoredOrder], work: &P) -> Result<Outcome, Want>
+        requires calls { CallsStored self.old.workload (P.count work.now) }
+        requires crew { IsCrew self.old.workload (stored_of orders.now (P.returns work.now)) self.old.steps self.old }
         requires fresh { (s : ℕ) → s < self.old.workload.streams → HasSeenNone (moment_in self.old.workload self.old) s }
         requires awake { IsAwake self.old.workload (moment_in self.old.workload self.old) }
-        requires rotated { HaveRotated self.old.workload (shapes_of orders.now) self.old.steps (moment_in self.old.workload self.old) }
-        ensures stopped { IfOk result (HaveStopped self.old.workload (shapes_of orders.now) self.old.steps (moment_in self.old.workload self.new)) }
-        ensures crew { OnOk result (IsCrew self.old.workload (shapes_of orders.now) self.old.steps self.new) }
+        requires rotated { HaveRotated self.old.workload (stored_of orders.now (P.returns work.now)) self.old.steps (moment_in self.old.workload self.old) }
+        ensures stopped { IfOk result (HaveStopped self.old.workload (stored_of orders.now (P.returns work.now)) self.old.steps (moment_in self.old.workload self.new)) }
+        ensures crew { OnOk result (IsCrew self.old.workload (stored_of orders.now (P.returns work.now)) self.old.steps self.new) }
     {
         'rotations: loop {
-            let stepped = self.rotate(orders, pace)?;
+            let stepped = self.rotate(orders, work)?;
             match self.ended(stepped) {
                 Some(outcome) => return Ok(outcome),
                 None => {}
@@ -165,9 +170,9 @@ impl<'w> Crew<'w> {
 
     /// The journal of all events, and where each unit is.
     pub(crate) fn end(self, alloc: Global) -> Result<(Journal, Picture), Want>
-        requires crew { (Z : List OrderShape) × IsCrew self.workload Z self.steps self }
-        ensures run { IfOk result (λ ended. (Z : List OrderShape) (o : Outcome) → IsCrew self.entry.workload Z self.entry.steps self.entry → HaveStopped self.entry.workload Z self.entry.steps (moment_in self.entry.workload self.entry) o → HasRun self.entry.workload Z self.entry.steps ended.0 o) }
-        ensures rotation { IfOk result (λ ended. (Z : List OrderShape) (o : Outcome) → IsCrew self.entry.workload Z self.entry.steps self.entry → HaveStopped self.entry.workload Z self.entry.steps (moment_in self.entry.workload self.entry) o → IsMadeInRotation self.entry.workload Z self.entry.steps ended.0) }
+        requires crew { (Z : Stored) × IsCrew self.workload Z self.steps self }
+        ensures run { IfOk result (λ ended. (Z : Stored) (o : Outcome) → IsCrew self.entry.workload Z self.entry.steps self.entry → HaveStopped self.entry.workload Z self.entry.steps (moment_in self.entry.workload self.entry) o → HasRun self.entry.workload Z self.entry.steps ended.0 o) }
+        ensures rotation { IfOk result (λ ended. (Z : Stored) (o : Outcome) → IsCrew self.entry.workload Z self.entry.steps self.entry → HaveStopped self.entry.workload Z self.entry.steps (moment_in self.entry.workload self.entry) o → IsMadeInRotation self.entry.workload Z self.entry.steps ended.0) }
         ensures picture { IfOk result (λ ended. IsPictureOf self.entry.workload ended.0 ended.1) }
     {
         let Crew {
@@ -186,31 +191,32 @@ impl<'w> Crew<'w> {
 }
 
 // Takes the memory that one turn of a stream needs, and makes the turn.
-fn advance<'w, P: Pace>(
+fn advance<'w, P: Work>(
     stream: &mut Stream,
     w: &Workload,
     orders: &[StoredOrder],
     plain: &Plain<'w>,
     pass: &mut PlainPass<'w>,
-    pace: &P,
+    work: &P,
 ) -> Result<Turn, Want>
     requires orders { OrdersStored w.now (shapes_of orders.now) }
+    requires calls { CallsStored w.now (P.count work.now) }
     requires plain { plain.now ≡ w.now }
     requires pass { pass.old.workload ≡ w.now }
     requires fits { FitsStream w.now stream.old }
-    requires shapes { FitsShapes w.now (shapes_of orders.now) stream.old }
-    ensures turn { IfOk result (λ turn. TurnsBy w.now (shapes_of orders.now) stream.old pass.old turn stream.new pass.new) }
+    requires shapes { FitsShapes w.now (stored_of orders.now (P.returns work.now)) stream.old }
+    ensures turn { IfOk result (λ turn. TurnsBy w.now (stored_of orders.now (P.returns work.now)) stream.old pass.old turn stream.new pass.new) }
     ensures fits { OnOk result (FitsStream w.now stream.new) }
-    ensures shapes { OnOk result (FitsShapes w.now (shapes_of orders.now) stream.new) }
+    ensures shapes { OnOk result (FitsShapes w.now (stored_of orders.now (P.returns work.now)) stream.new) }
     ensures number { OnOk result (stream.new.number ≡ stream.old.number) }
     ensures budget { OnOk result (stream.new.budget ≡ stream.old.budget) }
-    ensures few { OnOk result (length stream.new.log ≤ 2 ^ 57) }
+    ensures few { OnOk result (length stream.new.log ≤ 2 ^ 55) }
     ensures within { OnOk result (steps_in stream.new.log ≤ stream.new.budget) }
     ensures pass { OnOk result (pass.new.workload ≡ w.now) }
 {
     w.known();
     stream.prepare(w, orders)?;
-    let turn = stream.turn(plain, pass, w, pace);
+    let turn = stream.turn(plain, pass, w, work);
     // The log is of no use here, but its contract says that it has no more steps than the stream may make.
     stream.log();
     Ok(turn)

@@ -9,5 +9,5 @@ mod streams;
 
 pub use outcomes::{has_empty_pools, has_ended, outcome};
 pub use pictures::picture;
-pub use run::{Run, drain, drain_at_pace};
+pub use run::{Run, drain, drain_with};
 pub use streams::{split_logs, start_streams};

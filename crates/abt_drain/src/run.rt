@@ -1,7 +1,8 @@
 //! A run on the caller's thread.
 
-ghost use Rattle.std.specs.Prelude.{◌≤◌, IfOk, length};
-ghost use Rattle.abt_order.specs.Stored.{shapes_of};
+ghost use Rattle.std.specs.Prelude.{◌≤◌, IfOk, None, length};
+ghost use Rattle.abt_machine.specs.Stored.{CallsStored};
+ghost use Rattle.abt_order.specs.Stored.{stored_of};
 ghost use Rattle.abt_report.specs.Pictures.{IsPictureOf};
 ghost use Rattle.abt_drain.specs.InRotation.{IsMadeInRotation};
 ghost use Rattle.abt_drain.specs.Runs.{HasRun};
@@ -10,7 +11,7 @@ use crate::crew::Crew;
 use abt_machine::{Journal, Outcome, Want, Workload};
 use abt_order::StoredOrder;
 use abt_report::Picture;
-use abt_stream::{NoPace, Pace};
+use abt_work::{AnyWork, Work};
 use std::alloc::Global;
 
 /// A run: its journal, its units at the end, and how it ended.
@@ -23,31 +24,35 @@ pub struct Run {
 
 /// Runs a workload whose streams may make `steps` steps each. In order of number each stream makes turns until one is a step,
 /// ends a round empty, or is none since the stream is spent; this goes on until a rotation without a step leaves nothing to do
-/// or a stream spent. Err: out of memory.
+/// or a stream spent. A call leaves its unit's accumulator as it is. Err: out of memory.
+#[tactic(auto, using(crate::proofs::Functions::calls_stored))]
 pub fn drain(alloc: Global, w: &Workload, orders: &[StoredOrder], steps: u64) -> Result<Run, Want>
     requires orders { 2 ≤ length orders.now }
-    ensures run { IfOk result (λ run. HasRun w.now (shapes_of orders.now) steps run.journal run.outcome) }
-    ensures rotation { IfOk result (λ run. IsMadeInRotation w.now (shapes_of orders.now) steps run.journal) }
+    ensures run { IfOk result (λ run. HasRun w.now (stored_of orders.now (λ _ _ _ _. None)) steps run.journal run.outcome) }
+    ensures rotation { IfOk result (λ run. IsMadeInRotation w.now (stored_of orders.now (λ _ _ _ _. None)) steps run.journal) }
     ensures picture { IfOk result (λ run. IsPictureOf w.now run.journal run.picture) }
 {
-    drain_at_pace(alloc, w, orders, &NoPace, steps)
+    w.known();
+    drain_with(alloc, w, orders, &AnyWork, steps)
 }
 
-/// The same as `drain`; `pace` is called before each step.
-pub fn drain_at_pace<P: Pace>(
+/// The same as `drain` for a workload whose units call functions; `work` has these, and is called before each step. A function runs
+/// on the caller's thread.
+pub fn drain_with<P: Work>(
     alloc: Global,
     w: &Workload,
     orders: &[StoredOrder],
-    pace: &P,
+    work: &P,
     steps: u64,
 ) -> Result<Run, Want>
     requires orders { 2 ≤ length orders.now }
-    ensures run { IfOk result (λ run. HasRun w.now (shapes_of orders.now) steps run.journal run.outcome) }
-    ensures rotation { IfOk result (λ run. IsMadeInRotation w.now (shapes_of orders.now) steps run.journal) }
+    requires calls { CallsStored w.now (P.count work.now) }
+    ensures run { IfOk result (λ run. HasRun w.now (stored_of orders.now (P.returns work.now)) steps run.journal run.outcome) }
+    ensures rotation { IfOk result (λ run. IsMadeInRotation w.now (stored_of orders.now (P.returns work.now)) steps run.journal) }
     ensures picture { IfOk result (λ run. IsPictureOf w.now run.journal run.picture) }
 {
     let mut crew = Crew::new(alloc, w, orders, steps)?;
-    let outcome = crew.run(orders, pace)?;
+    let outcome = crew.run(orders, work)?;
     let (journal, picture) = crew.end(alloc)?;
     Ok(Run {
         journal,

@@ -1,5 +1,5 @@
 -- What a stream that is ready may do.
-use Rattle.std.proofs.Common.{◌≡◌, ◌≢◌, ◌-◌, List, [], ◌∷◌, Box, Global, refl, subst, ◌++◌}
+use Rattle.std.proofs.Common.{◌≡◌, ◌≢◌, List, [], ◌∷◌, Box, Global, refl, subst, ◌++◌}
 use Rattle.std.proofs.lemmas.List.Elements.{All-head, All-tail}
 use Rattle.std.specs.List.{All}
 use Rattle.abt_machine.specs.declared.numbers.PoolNo.{PoolNo}
@@ -9,12 +9,12 @@ use Rattle.abt_calls.specs.Effects.{unit_in}
 use Rattle.abt_calls.specs.Holders.{units_held}
 use Rattle.abt_unit.specs.Fits.{Fits}
 use Rattle.abt_unit.specs.Units.{UnitValue}
-use Rattle.abt_stream.specs.declared.parts.Work.TheVariants as work
+use Rattle.abt_stream.specs.declared.parts.Current.TheVariants as current
 use Rattle.abt_stream.specs.Events.{IfFirst}
 use Rattle.abt_stream.specs.Streams.{IsOrderly, StreamValue}
 
 -- no order is held while a unit runs
-pub no-order : (order : List PoolNo) (unit : Box UnitValue Global) → IsOrderly order (work.Running unit) → order ≡ []
+pub no-order : (order : List PoolNo) (unit : Box UnitValue Global) → IsOrderly order (current.Running unit) → order ≡ []
 no-order [] unit h = refl
 no-order (p ∷ ps) unit h = absurd h
 

@@ -9,6 +9,7 @@ use Rattle.abt_machine.specs.declared.numbers.PoolNo.{PoolNo}
 use Rattle.abt_machine.specs.declared.numbers.StreamNo.{StreamNo}
 use Rattle.abt_machine.specs.declared.operations.Side.{Side}
 use Rattle.abt_machine.specs.declared.workload.Parts.{Parts}
+use Rattle.abt_machine.specs.Stored.{Stored}
 use Rattle.abt_machine.specs.Acts.{Act, Answer}
 use Rattle.abt_machine.specs.Acts as act
 use Rattle.abt_machine.specs.Turns.{Heard}
@@ -41,18 +42,18 @@ module _ {P : Type 0} (moves : P → Site → ℕ → Act → Told → P → Typ
       let kept = keeps.frames (record { top = fits.top; below = fits.below; order = fits.order }) in
       record { number = subst (λ (n : StreamNo). n.0 < W.streams) (sym keeps.number) fits.number; top = kept.top; below = kept.below; order = kept.order; units = units }
 
-  made-fits : (w : What) → Made (Heeds moves V) W [] old before w new after → FitsStream W new
-  made-fits w m = fits-with (events-fit W [] old.number.0 old.held w m.heard new.held valid m.steps fits.units (told m.heard m.went))
+  made-fits : (Z : Stored) (w : What) → Made (Heeds moves V) W Z old before w new after → FitsStream W new
+  made-fits Z w m = fits-with (events-fit W Z old.number.0 old.held w m.heard new.held valid m.steps fits.units (told m.heard m.went))
 
   unmoved : new ≡ old → FitsStream W new
   unmoved is = subst (λ (s : StreamValue). FitsStream W s) (sym is) fits
 
-  pub turn-fits : (t : Turn) → Turned (Heeds moves V) W [] old before t new after → FitsStream W new
-  turn-fits turn.Stepped h = made-fits (what.Step h.0 h.1 h.2) h.3
-  turn-fits turn.EmptyRound h = made-fits (what.Miss h.0) h.1
-  turn-fits turn.Moved h = made-fits h.0 h.1
-  turn-fits turn.Spent h = unmoved h.1
-  turn-fits turn.Worn h = unmoved h.0
+  pub turn-fits : (Z : Stored) (t : Turn) → Turned (Heeds moves V) W Z old before t new after → FitsStream W new
+  turn-fits Z turn.Stepped h = made-fits Z h.0 h.1
+  turn-fits Z turn.EmptyRound h = made-fits Z (what.Miss h.0) h.1
+  turn-fits Z turn.Moved h = made-fits Z h.0 h.1
+  turn-fits Z turn.Spent h = unmoved h.1
+  turn-fits Z turn.Worn h = unmoved h.0
 
   -- the unit that a pool answered with
   given-fits : (o : Owned) → Have (Fits V) (IsPoolOf V) (contents_answered (act.Given o)) → Fits W o

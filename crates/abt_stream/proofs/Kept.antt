@@ -9,7 +9,7 @@ use Rattle.abt_machine.specs.declared.workload.Parts.{Parts}
 use Rattle.abt_stream.specs.Keeping.{FitsFrames, KeepsStream}
 use Rattle.abt_order.specs.Schedulers.{IsSchedulerOf, SchedulerValue, pool_numbers}
 use Rattle.abt_machine.specs.Rounds.{IsOrder}
-use Rattle.abt_machine.specs.declared.operations.OrderShape.{OrderShape}
+use Rattle.abt_machine.specs.Stored.{Stored}
 use Rattle.abt_machine.specs.declared.events.What.{What}
 use Rattle.abt_machine.specs.Values.{Held, Owned}
 use Rattle.abt_machine.specs.Numbers.{unit_no}
@@ -108,13 +108,13 @@ frame-left W old new e log below order fits =
     }
 
 -- what is held stays of its shape
-shapes-same : (W : Parts) (Z : List OrderShape) (old new : StreamValue) → new.top.scheduler ≡ old.top.scheduler → new.top.round ≡ old.top.round → new.order ≡ old.order → FitsShapes W Z old → FitsShapes W Z new
+shapes-same : (W : Parts) (Z : Stored) (old new : StreamValue) → new.top.scheduler ≡ old.top.scheduler → new.top.round ≡ old.top.round → new.order ≡ old.order → FitsShapes W Z old → FitsShapes W Z new
 shapes-same W Z old new scheduler round order shaped =
-    subst (λ (ps : List PoolNo). (ps ≢ []) → IsOrder W Z new.top.scheduler.number new.top.round (pool_numbers ps)) (sym order)
-    (subst (λ (s : SchedulerValue). (old.order ≢ []) → IsOrder W Z s.number new.top.round (pool_numbers old.order)) (sym scheduler)
-    (subst (λ n. (old.order ≢ []) → IsOrder W Z old.top.scheduler.number n (pool_numbers old.order)) (sym round) shaped))
+    subst (λ (ps : List PoolNo). (ps ≢ []) → IsOrder W Z.orders new.top.scheduler.number new.top.round (pool_numbers ps)) (sym order)
+    (subst (λ (s : SchedulerValue). (old.order ≢ []) → IsOrder W Z.orders s.number new.top.round (pool_numbers old.order)) (sym scheduler)
+    (subst (λ n. (old.order ≢ []) → IsOrder W Z.orders old.top.scheduler.number n (pool_numbers old.order)) (sym round) shaped))
 
-shapes-none : (W : Parts) (Z : List OrderShape) (new : StreamValue) → new.order ≡ [] → FitsShapes W Z new
+shapes-none : (W : Parts) (Z : Stored) (new : StreamValue) → new.order ≡ [] → FitsShapes W Z new
 shapes-none W Z new order = λ holds. absurd (holds order)
 
 -- The events.

@@ -1,5 +1,5 @@
 -- From what each kind of event makes of a stream to its turn.
-use Rattle.std.proofs.Common.{◌≡◌, ◌<◌, ◌++◌, ℕ, suc, false, List, [], ◌∷◌, Option, None, Some, option_map, inl, inr, refl, sym, ap, ◌∙◌, subst, arith}
+use Rattle.std.proofs.Common.{◌≡◌, ◌<◌, ◌++◌, ◌%◌, ◌^◌, ℕ, suc, false, List, [], ◌∷◌, Option, None, Some, option_map, inl, inr, refl, sym, ap, ◌∙◌, subst, arith}
 use Rattle.abt_machine.specs.declared.events.Cause.{Cause}
 use Rattle.abt_machine.specs.declared.events.Code.{Code}
 use Rattle.abt_machine.specs.declared.events.Code.TheVariants as code
@@ -12,15 +12,16 @@ use Rattle.abt_machine.specs.declared.numbers.SchedNo.{SchedNo}
 use Rattle.abt_machine.specs.declared.operations.Body.{Body}
 use Rattle.abt_machine.specs.declared.operations.Body.TheVariants as body
 use Rattle.abt_machine.specs.declared.operations.Op.{Op}
-use Rattle.abt_machine.specs.declared.operations.OrderShape.{OrderShape}
+use Rattle.abt_machine.specs.declared.operations.Op.TheVariants as op
+use Rattle.abt_machine.specs.Stored.{IsNoCall, IsReturned, Returns, Stored}
 use Rattle.abt_machine.specs.declared.workload.Parts.{Parts}
-use Rattle.abt_machine.specs.Acts.{Act}
+use Rattle.abt_machine.specs.Acts.{Act, moved, received}
 use Rattle.abt_machine.specs.Acts as act
 use Rattle.abt_machine.specs.Frames.{entered, sched_of}
 use Rattle.abt_machine.specs.Next.{Due, EndDue, EnterDue, LookDue, PutDue, StepDue, due_by, due_of_unit}
 use Rattle.abt_machine.specs.Numbers.{pool_no, unit_no}
 use Rattle.abt_machine.specs.Outcomes.{steps_in}
-use Rattle.abt_machine.specs.Plans.{Calls, Does, Exits, Plan, plan_of}
+use Rattle.abt_machine.specs.Plans.{Calls, Does, Exits, Plan, keeps, plan_of}
 use Rattle.abt_machine.specs.Turns.{Heard, Performs, Steps, due_of, exited, looked, number_and_position, stepped}
 use Rattle.abt_machine.specs.Values.{Held, Owned}
 use Rattle.abt_machine.specs.Workloads.{body_at, op_at}
@@ -30,7 +31,7 @@ use Rattle.abt_stream.specs.declared.turns.Turn.TheVariants as turn
 use Rattle.abt_plans.specs.declared.dues.HandDue.{HandDue}
 use Rattle.abt_plans.specs.declared.dues.HandDue.TheVariants as hands
 use Rattle.abt_plans.specs.Dues.{DueIs}
-use Rattle.abt_stream.specs.Events.{EndBy, EnterBy, IfFirst, IfHeld, LookBy, PutBy, step_of, wrote}
+use Rattle.abt_stream.specs.Events.{CallBy, EndBy, EnterBy, IfFirst, IfHeld, LookBy, PutBy, call_of, step_of, wrote}
 use Rattle.abt_stream.specs.Streams.{FrameValue, StreamValue}
 use Rattle.abt_stream.specs.Keeping.{KeepsStream}
 use Rattle.abt_stream.specs.Operated.{NotPerformed, OpBy}
@@ -66,9 +67,14 @@ module _ (W : Parts) (s : ℕ) (held : Held) (d : HandDue) (tray : held.tray ≡
   step-op None a h e = absurd h
   step-op (Some o) a h e = (subst (λ (x : HandDue). DueIs W s held.own.mark o.number o.carried.position x) e h).1
 
+-- some word may be returned
+some-returned : (r : Option ℕ) → (n : ℕ) × IsReturned r n
+some-returned None = (0, omega arith)
+some-returned (Some m) = (m % 2 ^ 64, refl)
+
 module _ {P : Type 0} (moves : P → Site → ℕ → Act → Told → P → Type 0) (W : Parts) (old : StreamValue) (before : P) (new : StreamValue) (after : P) where
   -- an event that was written
-  pub made : (held : Held) (top : FrameValue) (below : List FrameValue) (order : List PoolNo) (at n : ℕ) (w : What) (heard : Option Heard) (Z : List OrderShape)
+  pub made : (held : Held) (top : FrameValue) (below : List FrameValue) (order : List PoolNo) (at n : ℕ) (w : What) (heard : Option Heard) (Z : Stored)
       → new ≡ wrote (record old { held = held; top = top; below = below; order = order; at = at }) w n new.rooms
       → Steps W Z old.number.0 old.held w heard held → Went moves old.clock before heard n after → Made moves W Z old before w new after
   made held top below order at n w heard Z same steps went =
@@ -81,7 +87,7 @@ module _ {P : Type 0} (moves : P → Site → ℕ → Act → Told → P → Typ
       }
 
   -- one that left the frames alone
-  holding-made : (held : Held) (w : What) (heard : Option Heard) (Z : List OrderShape) → new ≡ wrote (record old { held = held }) w new.clock new.rooms
+  holding-made : (held : Held) (w : What) (heard : Option Heard) (Z : Stored) → new ≡ wrote (record old { held = held }) w new.clock new.rooms
       → Steps W Z old.number.0 old.held w heard held → Went moves old.clock before heard new.clock after → Made moves W Z old before w new after
   holding-made held w heard Z same steps went = made held old.top old.below old.order old.at new.clock w heard Z same steps went
 
@@ -91,7 +97,7 @@ module _ {P : Type 0} (moves : P → Site → ℕ → Act → Told → P → Typ
       (record old.held { own = entered (sched_of (body_at W o.number)) old.held.own; hand = None; framed = old.held.framed ++ o ∷ [] })
   entered-held o g bodied = ap (λ (b : Body). record old.held { own = entered (sched_of b) old.held.own; hand = None; framed = old.held.framed ++ o ∷ [] }) (sym bodied)
 
-  module _ (Z : List OrderShape) where
+  module _ (Z : Stored) where
     pub end-turned : (hand : Option Owned) (cause : Cause) (t : Turn) → old.held.hand ≡ hand → due_of W old.number.0 old.held ≡ EndDue cause
         → IfHeld hand (EndBy moves old before cause t new after) → Turned moves W Z old before t new after
     end-turned None cause t is due h = absurd h
@@ -144,14 +150,35 @@ module _ {P : Type 0} (moves : P → Site → ℕ → Act → Told → P → Typ
     met-end o (Exits b) steps h = inl ((step_of o code.Ok, exited old.held b, steps None code.Ok (exited old.held b) (refl, refl, refl)), h.0, h.1)
 
     pub step-turned : (hand : Option Owned) (a : Op) (t : Turn) → old.held.hand ≡ hand → steps_in old.log < old.budget → due_of W old.number.0 old.held ≡ StepDue
-        → IfHeld hand (λ o. op_at W o.number o.carried.position ≡ Some a)
+        → IfHeld hand (λ o. op_at W o.number o.carried.position ≡ Some a) → IsNoCall (Some a)
         → IfHeld hand (OpBy moves W old before a t new after) → Turned moves W Z old before t new after
-    step-turned None a t is few due at h = absurd h
-    step-turned (Some o) a turn.Stepped is few due at h =
-        (unit_no o.number, o.carried.position, h.1, holding-made new.held (step_of o h.1) h.0 Z h.4 (due, o, is, refl, refl, a, at, h.2) h.3, few)
-    step-turned (Some o) a turn.Worn is few due at h =
-        (h.0, met-end o (plan_of W old.number.0 a o) (λ heard c later performs. (due, o, is, refl, refl, a, at, performs)) h.1, unspent few)
-    step-turned (Some o) a t is few due at h = absurd h
+    step-turned None a t is few due at plain h = absurd h
+    step-turned (Some o) a turn.Stepped is few due at plain h =
+        (step_of o h.1, holding-made new.held (step_of o h.1) h.0 Z h.4 (due, o, is, refl, refl, a, at, h.2, plain) h.3, refl, few)
+    step-turned (Some o) a turn.Worn is few due at plain h =
+        (h.0, met-end o (plan_of W old.number.0 a o) (λ heard c later performs. (due, o, is, refl, refl, a, at, performs, plain)) h.1, unspent few)
+    step-turned (Some o) a t is few due at plain h = absurd h
+
+    -- a call of function f, which these functions returned
+    module _ (returns : ℕ → ℕ → ℕ → List ℕ → Option ℕ) (stored : Z.returns ≡ returns) (f : ℕ) where
+      as-stored : (o : Owned) (n : ℕ) → op_at W o.number o.carried.position ≡ Some (op.Call f) → IsReturned (returns f o.number o.carried.acc o.carried.keys) n
+          → Returns Z (op_at W o.number o.carried.position) o.number o.carried n
+      as-stored o n at by =
+          subst (λ (a : Option Op). Returns Z a o.number o.carried n) (sym at)
+          (subst (λ (r : ℕ → ℕ → ℕ → List ℕ → Option ℕ). IsReturned (r f o.number o.carried.acc o.carried.keys) n) (sym stored) by)
+
+      pub call-turned : (hand : Option Owned) (t : Turn) → old.held.hand ≡ hand → steps_in old.log < old.budget → due_of W old.number.0 old.held ≡ StepDue
+          → IfHeld hand (λ o. op_at W o.number o.carried.position ≡ Some (op.Call f)) → after ≡ before
+          → IfHeld hand (CallBy (returns f) old t new) → Turned moves W Z old before t new after
+      call-turned None t is few due at stays h = absurd h
+      call-turned (Some o) turn.Stepped is few due at stays h =
+          let held = stepped old.held (keeps (received h.0 (moved o)) []) in
+          (call_of o h.0, made held old.top old.below old.order old.at (suc old.clock) (call_of o h.0) None Z h.2 (due, o, is, refl, refl, as-stored o h.0 at h.1, refl, refl) (refl, stays), refl, few)
+      call-turned (Some o) turn.Worn is few due at stays h =
+          let any = some-returned (returns f o.number o.carried.acc o.carried.keys) in
+          let later = stepped old.held (keeps (received any.0 (moved o)) []) in
+          (h.1, inl ((call_of o any.0, later, (due, o, is, refl, refl, as-stored o any.0 at any.1, refl, refl)), h.0, stays), unspent few)
+      call-turned (Some o) t is few due at stays h = absurd h
 
     pub enter-turned : (hand : Option Owned) (g : SchedNo) (t : Turn) → old.held.hand ≡ hand → due_of W old.number.0 old.held ≡ EnterDue
         → IfHeld hand (λ o. body_at W o.number ≡ body.Sched g) → after ≡ before
@@ -191,6 +218,12 @@ module _ {P : Type 0} (moves : P → Site → ℕ → Act → Told → P → Typ
   step-keeps (Some o) a turn.Stepped h = keeps-holding W old new (step_of o h.1) new.clock new.rooms new.held h.4
   step-keeps (Some o) a turn.Worn h = keeps-same W old new h.0
   step-keeps (Some o) a t h = absurd h
+
+  pub call-keeps : (hand : Option Owned) (returns : ℕ → ℕ → List ℕ → Option ℕ) (t : Turn) → IfHeld hand (CallBy returns old t new) → KeepsStream W old new
+  call-keeps None returns t h = absurd h
+  call-keeps (Some o) returns turn.Stepped h = keeps-holding W old new (call_of o h.0) (suc old.clock) new.rooms (stepped old.held (keeps (received h.0 (moved o)) [])) h.2
+  call-keeps (Some o) returns turn.Worn h = keeps-same W old new h.1
+  call-keeps (Some o) returns t h = absurd h
 
   pub enter-keeps : (hand : Option Owned) (g : SchedNo) (t : Turn) → old.order ≡ [] → IfHeld hand (EnterBy W g.0 old t new) → KeepsStream W old new
   enter-keeps None g t none h = absurd h

@@ -7,7 +7,7 @@ use Rattle.abt_machine.specs.declared.events.Site.{Site}
 use Rattle.abt_machine.specs.declared.events.Site.TheVariants as site
 use Rattle.abt_machine.specs.declared.events.What.TheVariants as what
 use Rattle.abt_machine.specs.declared.numbers.PoolNo.{PoolNo}
-use Rattle.abt_machine.specs.declared.operations.OrderShape.{OrderShape}
+use Rattle.abt_machine.specs.Stored.{Stored}
 use Rattle.abt_machine.specs.declared.workload.Parts.{Parts}
 use Rattle.abt_machine.specs.Acts.{Act, Answer}
 use Rattle.abt_machine.specs.Acts as act
@@ -107,13 +107,13 @@ module _ (W : Parts) (s : StreamValue) (p : PoolNo) (own : s.held.own.top ≡ se
       ap (λ (b : Bool). with_top (if b then frame_at f.sched (suc f.round) true else record { sched = f.sched; round = f.round; seen = f.seen ++ p.0 ∷ []; empty = false }) s.held.own)
       (ne_eqb (length (pools_of W f.sched)) (suc (length f.seen)) (λ same. h (sym same)))
 
-  next-pool : (Z : List OrderShape) → FitsShapes W Z s → IsNextPool W Z s.held.own.top p.0
+  next-pool : (Z : Stored) → FitsShapes W Z s → IsNextPool W Z.orders s.held.own.top p.0
   next-pool Z shaped =
       let rest = pool_numbers (drop (suc s.at) s.order) in
       let front : (pool_numbers (take s.at s.order) ++ p.0 ∷ []) ++ rest ≡ pool_numbers s.order =
       ap (λ (xs : List ℕ). xs ++ rest) (sym (seen_more s.order s.at p e)) ∙
       (sym (map-append (λ (q : PoolNo). q.0) (take (suc s.at) s.order) (drop (suc s.at) s.order)) ∙ ap pool_numbers (take-append-drop (suc s.at) s.order)) in
-      subst (λ (f : Frame). IsNextPool W Z f p.0) (sym own) (pool_numbers s.order, shaped (some-order s.order s.at p e), (rest, front))
+      subst (λ (f : Frame). IsNextPool W Z.orders f p.0) (sym own) (pool_numbers s.order, shaped (some-order s.order s.at p e), (rest, front))
 
 -- some units have a last one
 last-one : (units : List Owned) → units ≢ [] → (o : Owned) × (os : List Owned) × (units ≡ os ++ o ∷ [])
@@ -123,7 +123,7 @@ last-one (o ∷ b ∷ os) some = let others : (b ∷ os) ≢ [] = λ e. cc in le
 
 module _ {P : Type 0} (moves : P → Site → ℕ → Act → Told → P → Type 0) (W : Parts) (old : StreamValue) (before : P) (new : StreamValue) (after : P) where
   module _ (p : PoolNo) (own : old.held.own.top ≡ seeing old.top (take old.at old.order)) (fits : FitsStream W old) (e : slice_get old.order old.at ≡ Some p)
-      (due : due_of W old.number.0 old.held ≡ RoundDue) (Z : List OrderShape) (shaped : FitsShapes W Z old) where
+      (due : due_of W old.number.0 old.held ≡ RoundDue) (Z : Stored) (shaped : FitsShapes W Z old) where
     visited : (answer : Answer) (t : Turn) → moves before (site.Pool p) old.clock (act.Take (side_of W old.number.0 p.0)) (Done new.clock answer) after
         → VisitedBy old p answer t new → Turned moves W Z old before t new after
     visited (act.Given o) turn.Moved went h =
@@ -164,7 +164,7 @@ module _ {P : Type 0} (moves : P → Site → ℕ → Act → Told → P → Typ
   visit-keeps p d e t (inl worn) = keeps-same W old new worn.1.same
   visit-keeps p d e t (inr h) = visited-keeps p e h.0 t h.2
 
-  pub leave-turned : (t : Turn) → due_of W old.number.0 old.held ≡ LeaveDue → old.held.framed ≢ [] → after ≡ before → LeaveBy old t new → (Z : List OrderShape) → Turned moves W Z old before t new after
+  pub leave-turned : (t : Turn) → due_of W old.number.0 old.held ≡ LeaveDue → old.held.framed ≢ [] → after ≡ before → LeaveBy old t new → (Z : Stored) → Turned moves W Z old before t new after
   leave-turned turn.Moved due some stays h Z =
       let event = what.Leave (unit_no h.1.number) in
       let later = leaving old h.0 h.1 new.top new.below in

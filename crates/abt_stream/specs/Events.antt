@@ -10,13 +10,14 @@ use Rattle.abt_machine.specs.declared.events.What.TheVariants as what
 use Rattle.abt_machine.specs.declared.operations.Side.{Side}
 use Rattle.abt_machine.specs.declared.numbers.PoolNo.{PoolNo}
 use Rattle.abt_machine.specs.declared.workload.Parts.{Parts}
-use Rattle.abt_machine.specs.Acts.{Act, Answer, moved}
+use Rattle.abt_machine.specs.Acts.{Act, Answer, moved, received}
 use Rattle.abt_machine.specs.Acts as act
 use Rattle.abt_machine.specs.Frames.{entered, frame_at, left, round_taken}
 use Rattle.abt_machine.specs.Numbers.{pool_no, unit_no}
 use Rattle.abt_machine.specs.Outcomes.{steps_in}
 use Rattle.abt_machine.specs.Plans.{Effect, keeps}
 use Rattle.abt_machine.specs.State.{Frame, Stream}
+use Rattle.abt_machine.specs.Stored.{IsReturned}
 use Rattle.abt_order.specs.Schedulers.{IsSchedulerOf}
 use Rattle.abt_machine.specs.Turns.{exited, looked, stepped}
 use Rattle.abt_machine.specs.Values.{Held, Owned}
@@ -76,6 +77,10 @@ EndBy moves old before cause t new after o = ⊥
 
 abbrev pub step_of : Owned → Code → What
 step_of o c = what.Step (unit_no o.number) o.carried.position c
+
+-- a call by unit o, in which the function returned n
+abbrev pub call_of : Owned → ℕ → What
+call_of o n = what.Call (unit_no o.number) o.carried.position n
 
 -- the stream after a step with this effect
 abbrev pub after_step : StreamValue → Effect → StreamValue
@@ -200,3 +205,11 @@ abbrev pub OwnBy : Parts → StreamValue → Turn → StreamValue → Owned → 
 OwnBy W old turn.Stepped new o = (b : Owned) × (local_step W o ≡ Some b) × StepsAlone old (keeps b []) turn.Stepped new o
 OwnBy W old turn.Worn new o = StepsAlone old (keeps o []) turn.Worn new o
 OwnBy W old t new o = ⊥
+
+-- a call of a function that returns this for a unit's number, accumulator and keys: the unit receives what was returned
+abbrev pub CallBy : (ℕ → ℕ → List ℕ → Option ℕ) → StreamValue → Turn → StreamValue → Owned → Type 0
+CallBy returns old turn.Stepped new o =
+    (n : ℕ) × IsReturned (returns o.number o.carried.acc o.carried.keys) n
+    × (new ≡ wrote (after_step old (keeps (received n (moved o)) [])) (call_of o n) (suc old.clock) new.rooms)
+CallBy returns old turn.Worn new o = (old.clock ≡ 2 ^ 62) × (new ≡ old)
+CallBy returns old t new o = ⊥

@@ -1,7 +1,7 @@
 -- What every event keeps of a stream.
-use Rattle.std.specs.Prelude.{◌≡◌, List, [], length}
+use Rattle.std.specs.Prelude.{◌≡◌, [], length}
 use Rattle.std.specs.List.{All}
-use Rattle.abt_machine.specs.declared.operations.OrderShape.{OrderShape}
+use Rattle.abt_machine.specs.Stored.{Stored}
 use Rattle.abt_machine.specs.declared.workload.Parts.{Parts}
 use Rattle.abt_stream.specs.Streams.{FitsShapes, IsFrame, IsOrderFor, StreamValue}
 
@@ -17,4 +17,4 @@ pub record KeepsStream (W : Parts) (old new : StreamValue) : Type 0 where
   pub number : new.number ≡ old.number
   pub budget : new.budget ≡ old.budget
   pub frames : FitsFrames W old → FitsFrames W new
-  pub shapes : (Z : List OrderShape) → FitsShapes W Z old → FitsShapes W Z new
+  pub shapes : (Z : Stored) → FitsShapes W Z old → FitsShapes W Z new

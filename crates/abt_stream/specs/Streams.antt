@@ -5,7 +5,7 @@ use Rattle.std.specs.declared.alloc.Global.{Global}
 use Rattle.abt_machine.specs.declared.events.Event.{Event}
 use Rattle.abt_machine.specs.declared.numbers.PoolNo.{PoolNo}
 use Rattle.abt_machine.specs.declared.numbers.StreamNo.{StreamNo}
-use Rattle.abt_machine.specs.declared.operations.OrderShape.{OrderShape}
+use Rattle.abt_machine.specs.Stored.{Stored}
 use Rattle.abt_machine.specs.declared.workload.Parts.{Parts}
 use Rattle.abt_machine.specs.Rounds.{IsOrder}
 use Rattle.abt_machine.specs.State.{Frame, Stream}
@@ -19,8 +19,8 @@ use Rattle.abt_unit.specs.Fits.{Fits}
 use Rattle.abt_unit.specs.Units.{UnitValue}
 use Rattle.abt_plans.specs.declared.dues.Mark.{Mark}
 use Rattle.abt_plans.specs.Marks.{mark_of}
-use Rattle.abt_stream.specs.declared.parts.Work.{Work}
-use Rattle.abt_stream.specs.declared.parts.Work.TheVariants as work
+use Rattle.abt_stream.specs.declared.parts.Current.{Current}
+use Rattle.abt_stream.specs.declared.parts.Current.TheVariants as current
 
 -- a frame: its scheduler, its round, and whether its last round ended empty
 pub record FrameValue : Type 0 where
@@ -49,25 +49,25 @@ pub record StreamValue : Type 0 where
   pub log : List Event
   pub rooms : Rooms
 
-abbrev pub hand_of : Work → Option Owned
-hand_of work.Idle = None
-hand_of (work.Taken unit) = None
-hand_of (work.Running unit) = Some (owned unit)
+abbrev pub hand_of : Current → Option Owned
+hand_of current.Idle = None
+hand_of (current.Taken unit) = None
+hand_of (current.Running unit) = Some (owned unit)
 
-abbrev pub next_of : Work → Option Owned
-next_of work.Idle = None
-next_of (work.Taken unit) = Some (owned unit)
-next_of (work.Running unit) = None
+abbrev pub next_of : Current → Option Owned
+next_of current.Idle = None
+next_of (current.Taken unit) = Some (owned unit)
+next_of (current.Running unit) = None
 
-abbrev pub spare_of : Work → ℕ
-spare_of work.Idle = 0
-spare_of (work.Taken unit) = 0
-spare_of (work.Running unit) = unit.value.spare
+abbrev pub spare_of : Current → ℕ
+spare_of current.Idle = 0
+spare_of (current.Taken unit) = 0
+spare_of (current.Running unit) = unit.value.spare
 
-abbrev pub behind_of : Work → List Owned
-behind_of work.Idle = []
-behind_of (work.Taken unit) = unit.value.behind
-behind_of (work.Running unit) = unit.value.behind
+abbrev pub behind_of : Current → List Owned
+behind_of current.Idle = []
+behind_of (current.Taken unit) = unit.value.behind
+behind_of (current.Running unit) = unit.value.behind
 
 -- a frame that has seen these pools in its round
 abbrev pub seeing : FrameValue → List PoolNo → Frame
@@ -93,11 +93,11 @@ abbrev pub IsFreeUnit : Box UnitValue Global → Type 0
 IsFreeUnit unit = unit.value.behind ≡ []
 
 -- an order is held while there is no unit in hand and in Next
-abbrev pub IsOrderly : List PoolNo → Work → Type 0
-IsOrderly [] work = ⊤
-IsOrderly (p ∷ ps) work.Idle = ⊤
-IsOrderly (p ∷ ps) (work.Taken unit) = ⊥
-IsOrderly (p ∷ ps) (work.Running unit) = ⊥
+abbrev pub IsOrderly : List PoolNo → Current → Type 0
+IsOrderly [] c = ⊤
+IsOrderly (p ∷ ps) current.Idle = ⊤
+IsOrderly (p ∷ ps) (current.Taken unit) = ⊥
+IsOrderly (p ∷ ps) (current.Running unit) = ⊥
 
 -- Fitting a workload.
 
@@ -125,8 +125,8 @@ pub record FitsStream (W : Parts) (s : StreamValue) : Type 0 where
   pub units : All (Fits W) (units_held s.held)
 
 -- an order that is held is one that the round may have
-abbrev pub FitsShapes : Parts → List OrderShape → StreamValue → Type 0
-FitsShapes W Z s = (s.order ≢ []) → IsOrder W Z s.top.scheduler.number s.top.round (pool_numbers s.order)
+abbrev pub FitsShapes : Parts → Stored → StreamValue → Type 0
+FitsShapes W Z s = (s.order ≢ []) → IsOrder W Z.orders s.top.scheduler.number s.top.round (pool_numbers s.order)
 
 abbrev pub IsIdle : StreamValue → Type 0
 IsIdle s = (s.held.tray ≡ []) × (s.held.next ≡ None) × (s.held.hand ≡ None)

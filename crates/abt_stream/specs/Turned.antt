@@ -1,16 +1,14 @@
 -- What a turn is.
-use Rattle.std.specs.Prelude.{ℕ, suc, ◌≡◌, ◌≢◌, ◌<◌, ◌^◌, ◌⊎◌, ⊤, List, [], ◌∷◌, ◌++◌, length, Option, Some, None, IsSome}
-use Rattle.abt_machine.specs.declared.events.Code.{Code}
+use Rattle.std.specs.Prelude.{ℕ, suc, ◌≡◌, ◌≢◌, ◌<◌, ◌^◌, ◌⊎◌, ⊤, true, [], ◌∷◌, ◌++◌, length, Option, Some, None, IsSome}
 use Rattle.abt_machine.specs.declared.events.Site.{Site}
 use Rattle.abt_machine.specs.declared.events.What.{What}
 use Rattle.abt_machine.specs.declared.events.What.TheVariants as what
 use Rattle.abt_machine.specs.declared.numbers.PoolNo.{PoolNo}
-use Rattle.abt_machine.specs.declared.numbers.UnitNo.{UnitNo}
-use Rattle.abt_machine.specs.declared.operations.OrderShape.{OrderShape}
+use Rattle.abt_machine.specs.Stored.{Stored}
 use Rattle.abt_machine.specs.declared.workload.Parts.{Parts}
 use Rattle.abt_machine.specs.Acts.{Act, Answer}
 use Rattle.abt_machine.specs.Next.{RoundDue, StepDue}
-use Rattle.abt_machine.specs.Outcomes.{steps_in}
+use Rattle.abt_machine.specs.Outcomes.{is_step, steps_in}
 use Rattle.abt_machine.specs.Turns.{Heard, Steps, due_of}
 use Rattle.abt_machine.specs.Values.{Held}
 use Rattle.abt_machine.specs.Workloads.{pools_of}
@@ -25,21 +23,21 @@ Went moves at before None stamp after = (stamp ≡ suc at) × (after ≡ before)
 Went moves at before (Some h) stamp after = moves before h.0 at h.1 (Done stamp h.2) after
 
 -- an event that may come next makes this call
-abbrev pub IsNextCall : Parts → List OrderShape → ℕ → Held → Site → Act → Type 0
+abbrev pub IsNextCall : Parts → Stored → ℕ → Held → Site → Act → Type 0
 IsNextCall W Z s held x asked = (w : What) × (answer : Answer) × (later : Held) × Steps W Z s held w (Some (x, asked, answer)) later
 
 -- an event that may come next makes no call
-abbrev pub MakesNoCall : Parts → List OrderShape → ℕ → Held → Type 0
+abbrev pub MakesNoCall : Parts → Stored → ℕ → Held → Type 0
 MakesNoCall W Z s held = (w : What) × (later : Held) × Steps W Z s held w None later
 
 -- no event, since a clock is at its end: the stream's own if the next event makes no call, else the one that its call met
-abbrev pub MetEnd : {P : Type 0} → (P → Site → ℕ → Act → Told → P → Type 0) → Parts → List OrderShape → StreamValue → P → P → Type 0
+abbrev pub MetEnd : {P : Type 0} → (P → Site → ℕ → Act → Told → P → Type 0) → Parts → Stored → StreamValue → P → P → Type 0
 MetEnd moves W Z s before after =
     (MakesNoCall W Z s.number.0 s.held × (s.clock ≡ 2 ^ 62) × (after ≡ before))
     ⊎ ((x : Site) × (asked : Act) × IsNextCall W Z s.number.0 s.held x asked × moves before x s.clock asked Worn after)
 
 -- one event of the stream
-pub record Made {P : Type 0} (moves : P → Site → ℕ → Act → Told → P → Type 0) (W : Parts) (Z : List OrderShape) (old : StreamValue) (before : P) (w : What) (new : StreamValue) (after : P) : Type 0 where
+pub record Made {P : Type 0} (moves : P → Site → ℕ → Act → Told → P → Type 0) (W : Parts) (Z : Stored) (old : StreamValue) (before : P) (w : What) (new : StreamValue) (after : P) : Type 0 where
   pub heard : Option Heard
   pub steps : Steps W Z old.number.0 old.held w heard new.held
   pub went : Went moves old.clock before heard new.clock after
@@ -55,6 +53,7 @@ IsMove W old (what.Miss p) = MissesLast W old → ⊥
 IsMove W old (what.Take p u) = ⊤
 IsMove W old (what.Look u) = ⊤
 IsMove W old (what.Step u k c) = ⊥
+IsMove W old (what.Call u k n) = ⊥
 IsMove W old (what.Put u p) = ⊤
 IsMove W old (what.End u c) = ⊤
 IsMove W old (what.Enter u) = ⊤
@@ -65,9 +64,9 @@ abbrev pub IsSpent : Parts → StreamValue → Type 0
 IsSpent W s = (due_of W s.number.0 s.held ≡ StepDue) × (steps_in s.log ≡ s.budget)
 
 -- a turn, by its answer
-abbrev pub Turned : {P : Type 0} → (P → Site → ℕ → Act → Told → P → Type 0) → Parts → List OrderShape → StreamValue → P → Turn → StreamValue → P → Type 0
+abbrev pub Turned : {P : Type 0} → (P → Site → ℕ → Act → Told → P → Type 0) → Parts → Stored → StreamValue → P → Turn → StreamValue → P → Type 0
 Turned moves W Z old before turn.Stepped new after =
-    (u : UnitNo) × (k : ℕ) × (c : Code) × Made moves W Z old before (what.Step u k c) new after × (steps_in old.log < old.budget)
+    (w : What) × Made moves W Z old before w new after × (is_step w ≡ true) × (steps_in old.log < old.budget)
 Turned moves W Z old before turn.EmptyRound new after = (p : PoolNo) × Made moves W Z old before (what.Miss p) new after × MissesLast W old
 Turned moves W Z old before turn.Moved new after = (w : What) × Made moves W Z old before w new after × IsMove W old w
 Turned moves W Z old before turn.Spent new after = IsSpent W old × (new ≡ old) × (after ≡ before)
@@ -80,7 +79,7 @@ pub record IsReady (W : Parts) (s : StreamValue) : Type 0 where
   pub units : 0 < s.rooms.units
   pub output : IsSome s.held.hand → 0 < s.rooms.output
   pub order : due_of W s.number.0 s.held ≡ RoundDue → s.order ≢ []
-  pub few : length s.log < 2 ^ 57
+  pub few : length s.log < 2 ^ 55
 
 -- all is as it was, except room, and the order and the scheduler of the round that is to come
 abbrev pub IsPrepared : StreamValue → StreamValue → Type 0

@@ -1,12 +1,12 @@
 //! A stream and its turns.
 
-ghost use Rattle.std.specs.Prelude.{◌≡◌, ◌<◌, ◌≤◌, ◌↔◌, ◌^◌, [], IfOk, option_map, map, IsTrue, List};
+ghost use Rattle.std.specs.Prelude.{◌≡◌, ◌≢◌, ◌<◌, ◌≤◌, ◌↔◌, ◌^◌, [], IfOk, option_map, map, IsTrue, List};
 ghost use Rattle.abt_commons.specs.Acts.{owned};
 ghost use Rattle.abt_stream.specs.Streams.{FitsShapes, FitsStream, IsIdle, hand_of, next_of, IsLog};
 ghost use Rattle.abt_stream.specs.Dues.{HasStep};
 ghost use Rattle.abt_stream.specs.Heeding.{Heeds};
 ghost use Rattle.abt_stream.specs.Turned.{IsReady, Turned, IsSpent};
-ghost use Rattle.abt_machine.specs.declared.operations.OrderShape.{OrderShape};
+ghost use Rattle.abt_machine.specs.Stored.{CallsStored, Stored};
 ghost use Rattle.abt_calls.specs.Starts.{start_part};
 ghost use Rattle.abt_machine.specs.Valid.{IsValid};
 ghost use Rattle.abt_machine.specs.Outcomes.{steps_in};
@@ -19,14 +19,15 @@ mod running;
 mod stepping;
 mod writing;
 
-use crate::parts::{Frame, Work};
-use crate::turns::{Pace, Turn};
+use crate::parts::{Current, Frame};
+use crate::turns::Turn;
 use abt_chain::Chain;
 use abt_commons::Commons;
 use abt_machine::{Event, Items, Log, PoolNo, StreamNo, Want, Workload};
 use abt_order::Scheduler;
 use abt_plans::{HandDue, Mark};
 use abt_unit::Unit;
+use abt_work::Work;
 use std::alloc::Global;
 use std::marker::Model;
 
@@ -54,7 +55,7 @@ pub struct Stream {
     left: u64,
     clock: u64,
     mark: Mark,
-    work: Work,
+    current: Current,
     tray: Chain,
     top: Frame,
     below: Vec<Frame>,
@@ -79,8 +80,8 @@ impl Model for Stream {
       clock = s.clock;
       held = record {
         own = own_of s.mark s.top (take s.at s.order.items) s.below.items;
-        hand = hand_of s.work;
-        next = next_of s.work;
+        hand = hand_of s.current;
+        next = next_of s.current;
         tray = s.tray.units;
         framed = map owned s.framed.items;
       };
@@ -93,12 +94,12 @@ impl Model for Stream {
         events = vec_capacity s.log - vec_len s.log;
         frames = vec_capacity s.below - vec_len s.below;
         units = vec_capacity s.framed - vec_len s.framed;
-        output = spare_of s.work;
+        output = spare_of s.current;
       };
     } };
 
-    ghost invariant = { λ s. (behind_of s.work ≡ []) × All IsFreeUnit s.framed.items × (length s.framed.items ≡ length s.below.items)
-        × (s.at ≤ length s.order.items - 1) × IsOrderly s.order.items s.work × IsLog s.number s.clock s.log.items × (s.clock ≤ 2 ^ 62)
+    ghost invariant = { λ s. (behind_of s.current ≡ []) × All IsFreeUnit s.framed.items × (length s.framed.items ≡ length s.below.items)
+        × (s.at ≤ length s.order.items - 1) × IsOrderly s.order.items s.current × IsLog s.number s.clock s.log.items × (s.clock ≤ 2 ^ 62)
         × (s.left + steps_in s.log.items ≡ s.budget) };
 }
 
@@ -127,7 +128,7 @@ impl Stream {
             left: steps,
             clock: 0,
             mark: Mark::Plain,
-            work: Work::Idle,
+            current: Current::Idle,
             tray: Chain::new(),
             top,
             below: Vec::new(alloc),
@@ -140,22 +141,23 @@ impl Stream {
 
     /// One turn: the stream's next event, or none. No clock of a stream is above 2^62 (`log`), so a turn that met a
     /// clock at its end answers `Worn`, and by `turned` no other does.
-    pub fn turn<'w, C: Commons<'w>, P: Pace>(
+    pub fn turn<'w, C: Commons<'w>, P: Work>(
         &mut self,
         commons: &C,
         pass: &mut C::Pass,
         w: &Workload,
-        pace: &P,
+        work: &P,
     ) -> Turn
         requires pass { C.is_of commons.now pass.old }
         requires w { C.workload commons.now ≡ w.now }
         requires fits { FitsStream w.now self.old }
         requires ready { IsReady w.now self.old }
-        ensures turned { (Z : List OrderShape) → FitsShapes w.now Z self.old → Turned (Heeds (C.moves commons.now) (C.workload commons.now)) w.now Z self.old pass.old result self.new pass.new }
+        requires stored { CallsStored w.now (P.count work.now) }
+        ensures turned { (Z : Stored) → FitsShapes w.now Z self.old → Z.returns ≡ P.returns work.now → Turned (Heeds (C.moves commons.now) (C.workload commons.now)) w.now Z self.old pass.old result self.new pass.new }
         ensures stream { self.new.number ≡ self.old.number }
         ensures budget { self.new.budget ≡ self.old.budget }
         ensures fits { FitsStream w.now self.new }
-        ensures shapes { (Z : List OrderShape) → FitsShapes w.now Z self.old → FitsShapes w.now Z self.new }
+        ensures shapes { (Z : Stored) → FitsShapes w.now Z self.old → FitsShapes w.now Z self.new }
         ensures pass { C.is_of commons.now pass.new }
         ensures number { C.number pass.new ≡ C.number pass.old }
     {
@@ -163,10 +165,10 @@ impl Stream {
         if !self.tray.is_empty() {
             return self.put(commons, pass);
         }
-        match &self.work {
-            Work::Taken(_) => self.look(commons, pass),
-            Work::Running(_) => self.run(commons, pass, w, pace),
-            Work::Idle => self.idle(commons, pass, w),
+        match &self.current {
+            Current::Taken(_) => self.look(commons, pass),
+            Current::Running(_) => self.run(commons, pass, w, work),
+            Current::Idle => self.idle(commons, pass, w),
         }
     }
 
@@ -186,21 +188,28 @@ impl Stream {
         requires fits { FitsStream w.now self.now }
         ensures { IsTrue result ↔ HasStep w.now self.now.number.0 self.now.held }
     {
-        match &self.work {
-            Work::Running(_) => match self.hand_due(w) {
+        match &self.current {
+            Current::Running(_) => match self.hand_due(w) {
                 HandDue::Step(_) => true,
                 HandDue::End(_) => false,
                 HandDue::Enter(_) => false,
             },
-            Work::Taken(_) | Work::Idle => false,
+            Current::Taken(_) | Current::Idle => false,
         }
+    }
+
+    /// Whether the next event puts a unit into a pool.
+    pub fn puts(&self) -> bool
+        ensures { IsTrue result ↔ self.now.held.tray ≢ [] }
+    {
+        !self.tray.is_empty()
     }
 
     /// Whether hand, Next and tray are empty and there is no stacked frame.
     pub fn is_idle(&self) -> bool
         ensures { IsTrue result ↔ (IsIdle self.now × (self.now.held.own.below ≡ [])) }
     {
-        self.tray.is_empty() && matches!(&self.work, Work::Idle) && self.below.is_empty()
+        self.tray.is_empty() && matches!(&self.current, Current::Idle) && self.below.is_empty()
     }
 
     /// The events so far.
@@ -223,7 +232,7 @@ impl Stream {
         ensures tray { result.tray.units ≡ self.held.tray }
         ensures frames { map owned result.frames ≡ self.held.framed }
     {
-        let (hand, next) = parted(self.work);
+        let (hand, next) = parted(self.current);
         StreamParts {
             log: Items::new(self.log),
             hand,
@@ -235,13 +244,13 @@ impl Stream {
 }
 
 // The unit in hand, and the one in Next.
-fn parted(work: Work) -> (Option<Box<Unit>>, Option<Box<Unit>>)
-    ensures hand { option_map owned result.0 ≡ hand_of work }
-    ensures next { option_map owned result.1 ≡ next_of work }
+fn parted(current: Current) -> (Option<Box<Unit>>, Option<Box<Unit>>)
+    ensures hand { option_map owned result.0 ≡ hand_of current }
+    ensures next { option_map owned result.1 ≡ next_of current }
 {
-    match work {
-        Work::Idle => (None, None),
-        Work::Taken(unit) => (None, Some(unit)),
-        Work::Running(unit) => (Some(unit), None),
+    match current {
+        Current::Idle => (None, None),
+        Current::Taken(unit) => (None, Some(unit)),
+        Current::Running(unit) => (Some(unit), None),
     }
 }

@@ -8,7 +8,7 @@ ghost use Rattle.abt_commons.specs.Acts.{IsFreeAnswer, answer_of};
 ghost use Rattle.abt_stream.specs.Streams.{FitsShapes, FitsStream, IsIdle};
 ghost use Rattle.abt_stream.specs.Heeding.{Heeds};
 ghost use Rattle.abt_stream.specs.Turned.{IsReady, Turned};
-ghost use Rattle.abt_machine.specs.declared.operations.OrderShape.{OrderShape};
+ghost use Rattle.abt_machine.specs.Stored.{Stored};
 ghost use Rattle.abt_machine.specs.Valid.{IsValid};
 ghost use Rattle.abt_plans.specs.Hearing.{IsForTaker};
 ghost use Rattle.abt_unit.specs.Units.{IsFree};
@@ -16,7 +16,7 @@ ghost use Rattle.abt_stream.specs.Events.{LeaveBy, VisitBy, VisitedBy, emptied, 
 ghost use Rattle.abt_stream.specs.Keeping.{KeepsStream};
 
 use super::{LAST, Stream};
-use crate::parts::Work;
+use crate::parts::Current;
 use crate::turns::Turn;
 use crate::units::name;
 use abt_commons::{Act, Answer, Commons, Reply};
@@ -39,7 +39,7 @@ impl Stream {
         requires fits { FitsStream w.now self.old }
         requires ready { IsReady w.now self.old }
         requires idle { IsIdle self.old }
-        ensures turned { (Z : List OrderShape) → FitsShapes w.now Z self.old → Turned (Heeds (C.moves commons.now) (C.workload commons.now)) w.now Z self.old pass.old result self.new pass.new }
+        ensures turned { (Z : Stored) → FitsShapes w.now Z self.old → Turned (Heeds (C.moves commons.now) (C.workload commons.now)) w.now Z self.old pass.old result self.new pass.new }
         ensures pass { C.is_of commons.now pass.new }
         ensures number { C.number pass.new ≡ C.number pass.old }
         ensures keeps { KeepsStream w.now self.old self.new }
@@ -84,7 +84,7 @@ impl Stream {
                     self.order.clear();
                     self.at = 0;
                     self.mark = Mark::Left;
-                    self.work = Work::Running(unit);
+                    self.current = Current::Running(unit);
                     self.write(self.clock + 1, What::Leave(number));
                     Turn::Moved
                 }
@@ -173,7 +173,7 @@ impl Stream {
         ensures same { self.new ≡ wrote (took self.old unit.value.owned) (what.Take p (unit_no unit.value.owned.number)) stamp self.new.rooms }
     {
         let number = name(&unit);
-        self.work = Work::Taken(unit);
+        self.current = Current::Taken(unit);
         self.top.round += 1;
         self.top.empty = false;
         self.order.clear();

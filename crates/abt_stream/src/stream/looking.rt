@@ -11,7 +11,7 @@ ghost use Rattle.abt_unit.specs.Fits.{Fits};
 ghost use Rattle.abt_stream.specs.Events.{IfHeld, LookBy, holding, wrote};
 
 use super::Stream;
-use crate::parts::Work;
+use crate::parts::Current;
 use crate::turns::Turn;
 use crate::units::name;
 use abt_commons::{Act, Answer, Commons, Reply};
@@ -32,8 +32,8 @@ impl Stream {
         ensures pass { C.is_of commons.now pass.new }
         ensures number { C.number pass.new ≡ C.number pass.old }
     {
-        match mem::replace(&mut self.work, Work::Idle) {
-            Work::Taken(unit) => {
+        match mem::replace(&mut self.current, Current::Idle) {
+            Current::Taken(unit) => {
                 let number = name(&unit);
                 match commons.call(pass, Site::Desk(number), self.clock, Act::Look) {
                     Reply::Done { stamp, answer } => {
@@ -44,7 +44,7 @@ impl Stream {
                         Turn::Moved
                     }
                     Reply::Worn(_) => {
-                        self.work = Work::Taken(unit);
+                        self.current = Current::Taken(unit);
                         Turn::Worn
                     }
                 }
@@ -81,7 +81,7 @@ impl Stream {
     {
         if asks.cancel {
             self.mark = Mark::Asked;
-            self.work = Work::Running(unit);
+            self.current = Current::Running(unit);
         } else {
             match asks.migrate {
                 Some(p) => {
@@ -90,7 +90,7 @@ impl Stream {
                 }
                 None => {
                     self.mark = Mark::Plain;
-                    self.work = Work::Running(unit);
+                    self.current = Current::Running(unit);
                 }
             }
         }

@@ -1,6 +1,6 @@
 //! The memory that a turn needs.
 
-ghost use Rattle.std.specs.Prelude.{◌≡◌, ◌<◌, ◌+◌, ◌^◌, ◌↔◌, ℕ, [], OnOk, OnErr, IsSome, false, ◌⊎◌, IsTrue, length, ◌≢◌, IsPermutation};
+ghost use Rattle.std.specs.Prelude.{◌≡◌, ◌<◌, ◌+◌, ◌^◌, ◌↔◌, ℕ, [], List, OnOk, OnErr, IsSome, Option, false, ◌⊎◌, IsTrue, length, ◌≢◌, IsPermutation};
 ghost use Rattle.abt_stream.specs.Streams.{FitsShapes, FitsStream, IsIdle};
 ghost use Rattle.abt_stream.specs.Turned.{IsPrepared, IsReady};
 ghost use Rattle.abt_machine.specs.Rounds.{IsOrder};
@@ -9,12 +9,12 @@ ghost use Rattle.abt_order.specs.Schedulers.{IsSchedulerOf, IsStored, pool_numbe
 ghost use Rattle.abt_machine.specs.Valid.{IsValid};
 
 use super::Stream;
-use crate::parts::Work;
+use crate::parts::Current;
 use abt_machine::{Want, Workload};
 use abt_order::StoredOrder;
 
 impl Stream {
-    ghost use Rattle.abt_order.specs.Stored.{shapes_of};
+    ghost use Rattle.abt_order.specs.Stored.{shapes_of, stored_of};
 
     /// Takes what one turn needs: room for one event, for one frame, and for one piece of output of the unit in hand, and the
     /// next round's order, if the next event starts a round and none is held.
@@ -24,13 +24,13 @@ impl Stream {
         ensures held { self.new.held ≡ self.old.held }
         ensures ready { OnOk result (IsReady w.now self.new) }
         ensures fits { FitsStream w.now self.new }
-        ensures shapes { FitsShapes w.now (shapes_of orders.now) self.old → FitsShapes w.now (shapes_of orders.now) self.new }
+        ensures shapes { (returns : ℕ → ℕ → ℕ → List ℕ → Option ℕ) → FitsShapes w.now (stored_of orders.now returns) self.old → FitsShapes w.now (stored_of orders.now returns) self.new }
         ensures same { OnOk result (IsPrepared self.old self.new) }
         ensures kept { self.old.order ≢ [] → self.new ≡ record self.old { rooms = self.new.rooms } }
         ensures err { OnErr result (self.new ≡ record self.old { rooms = self.new.rooms }) }
     {
         w.known();
-        if self.log.len() >= 1 << 57 {
+        if self.log.len() >= 1 << 55 {
             return Err(Want);
         }
         self.make_room()?;
@@ -45,7 +45,7 @@ impl Stream {
         ensures { IsTrue result ↔ (IsIdle self.now × ((self.now.top.empty ≡ false) ⊎ (self.now.below ≡ [])) × (self.now.order ≡ [])) }
     {
         self.tray.is_empty()
-            && matches!(&self.work, Work::Idle)
+            && matches!(&self.current, Current::Idle)
             && (!self.top.empty || self.below.is_empty())
             && self.order.is_empty()
     }
@@ -61,9 +61,9 @@ impl Stream {
         self.log.reserve(1)?;
         self.below.reserve(1)?;
         self.framed.reserve(1)?;
-        match &mut self.work {
-            Work::Running(unit) => unit.reserve_output()?,
-            Work::Taken(_) | Work::Idle => {}
+        match &mut self.current {
+            Current::Running(unit) => unit.reserve_output()?,
+            Current::Taken(_) | Current::Idle => {}
         }
         Ok(())
     }

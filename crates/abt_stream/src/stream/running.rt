@@ -1,11 +1,12 @@
 //! The unit in hand ends, goes on top as a scheduler, or makes a step.
 
-ghost use Rattle.std.specs.Prelude.{◌≡◌, ◌<◌, ◌≤◌, ◌^◌, [], ◌++◌, IsSome, None, Some, length, List};
+ghost use Rattle.std.specs.Prelude.{◌≡◌, ◌<◌, ◌≤◌, ◌^◌, [], ◌++◌, IfSome, IsSome, None, Some, length, List};
 ghost use Rattle.abt_machine.specs.declared.events.What.TheVariants as what;
 ghost use Rattle.abt_plans.specs.Dues.{DueIs};
 ghost use Rattle.abt_stream.specs.Heeding.{Heeds};
 ghost use Rattle.abt_stream.specs.Turned.{IsReady, Turned};
-ghost use Rattle.abt_machine.specs.declared.operations.OrderShape.{OrderShape};
+ghost use Rattle.abt_machine.specs.declared.operations.Op.TheVariants as ops;
+ghost use Rattle.abt_machine.specs.Stored.{CallsStored, IsNoCall, Stored};
 ghost use Rattle.abt_machine.specs.Operations.{IsDeclared};
 ghost use Rattle.abt_machine.specs.Workloads.{op_at};
 ghost use Rattle.abt_machine.specs.Valid.{IsValid};
@@ -16,8 +17,8 @@ ghost use Rattle.abt_stream.specs.Keeping.{KeepsStream};
 ghost use Rattle.abt_stream.specs.Operated.{OpBy};
 
 use super::{LAST, Stream};
-use crate::parts::{Frame, Work};
-use crate::turns::{Pace, Turn};
+use crate::parts::{Current, Frame};
+use crate::turns::Turn;
 use crate::units::name;
 use abt_chain::Chain;
 use abt_commons::{Act, Answer, Commons, Reply};
@@ -25,27 +26,29 @@ use abt_machine::{Cause, Op, SchedNo, Site, StreamNo, UnitNo, What, Workload};
 use abt_order::Scheduler;
 use abt_plans::{HandDue, Plan, hand_due, planned};
 use abt_unit::Unit;
+use abt_work::Work;
 use std::mem;
 
 impl Stream {
     // The unit in hand goes on, or ends.
-    pub(super) fn run<'w, C: Commons<'w>, P: Pace>(
+    pub(super) fn run<'w, C: Commons<'w>, P: Work>(
         &mut self,
         commons: &C,
         pass: &mut C::Pass,
         w: &Workload,
-        pace: &P,
+        work: &P,
     ) -> Turn
         requires pass { C.is_of commons.now pass.old }
         requires w { C.workload commons.now ≡ w.now }
         requires valid { IsValid w.now }
+        requires stored { CallsStored w.now (P.count work.now) }
         requires stream { self.old.number.0 < w.now.streams }
         requires ready { IsReady w.now self.old }
         requires tray { self.old.held.tray ≡ [] }
         requires next { self.old.held.next ≡ None }
         requires fits { IfHeld self.old.held.hand (Fits w.now) }
         requires order { self.old.order ≡ [] }
-        ensures turned { (Z : List OrderShape) → Turned (Heeds (C.moves commons.now) (C.workload commons.now)) w.now Z self.old pass.old result self.new pass.new }
+        ensures turned { (Z : Stored) → Z.returns ≡ P.returns work.now → Turned (Heeds (C.moves commons.now) (C.workload commons.now)) w.now Z self.old pass.old result self.new pass.new }
         ensures pass { C.is_of commons.now pass.new }
         ensures number { C.number pass.new ≡ C.number pass.old }
         ensures keeps { KeepsStream w.now self.old self.new }
@@ -54,10 +57,14 @@ impl Stream {
             HandDue::End(cause) => self.end(commons, pass, cause),
             HandDue::Enter(g) => self.enter(w, g),
             HandDue::Step(op) => {
-                if self.may_step() {
-                    return self.operate(commons, pass, w, pace, op);
+                if !self.may_step() {
+                    return Turn::Spent;
                 }
-                Turn::Spent
+                self.announce(work);
+                match called(op) {
+                    Some(function) => self.call(work, function),
+                    None => self.operate(commons, pass, w, op),
+                }
             }
         }
     }
@@ -69,8 +76,8 @@ impl Stream {
         requires fits { IfHeld self.now.held.hand (Fits w.now) }
         ensures { IfHeld self.now.held.hand (λ o. DueIs w.now self.now.number.0 self.now.held.own.mark o.number o.carried.position result) }
     {
-        match &self.work {
-            Work::Running(unit) => {
+        match &self.current {
+            Current::Running(unit) => {
                 hand_due(w, self.number, self.mark, unit.number(), unit.position())
             }
             _ => unreachable!(),
@@ -87,8 +94,8 @@ impl Stream {
         ensures pass { C.is_of commons.now pass.new }
         ensures number { C.number pass.new ≡ C.number pass.old }
     {
-        match mem::replace(&mut self.work, Work::Idle) {
-            Work::Running(unit) => {
+        match mem::replace(&mut self.current, Current::Idle) {
+            Current::Running(unit) => {
                 let number = name(&unit);
                 match commons.call(pass, Site::Desk(number), self.clock, Act::End(unit, cause)) {
                     Reply::Done { stamp, answer } => {
@@ -100,7 +107,7 @@ impl Stream {
                     }
                     Reply::Worn(act) => {
                         match act {
-                            Act::End(unit, _) => self.work = Work::Running(unit),
+                            Act::End(unit, _) => self.current = Current::Running(unit),
                             _ => unreachable!(),
                         }
                         Turn::Worn
@@ -137,8 +144,8 @@ impl Stream {
         if self.clock == LAST {
             return Turn::Worn;
         }
-        match mem::replace(&mut self.work, Work::Idle) {
-            Work::Running(unit) => {
+        match mem::replace(&mut self.current, Current::Idle) {
+            Current::Running(unit) => {
                 let number = name(&unit);
                 let frame = Frame {
                     scheduler: Scheduler::new(w, g),
@@ -154,13 +161,12 @@ impl Stream {
         }
     }
 
-    // The operation of the unit in hand.
-    fn operate<'w, C: Commons<'w>, P: Pace>(
+    // The operation of the unit in hand, which is no call of the user's.
+    fn operate<'w, C: Commons<'w>>(
         &mut self,
         commons: &C,
         pass: &mut C::Pass,
         w: &Workload,
-        pace: &P,
         op: Op,
     ) -> Turn
         requires pass { C.is_of commons.now pass.old }
@@ -175,18 +181,17 @@ impl Stream {
         ensures pass { C.is_of commons.now pass.new }
         ensures number { C.number pass.new ≡ C.number pass.old }
     {
-        self.announce(pace);
         let plan = self.plan(w, op);
         self.step(commons, pass, w, plan, op)
     }
 
     // The step is about to come.
-    fn announce<P: Pace>(&self, pace: &P)
+    fn announce<P: Work>(&self, work: &P)
         requires { IsSome self.now.held.hand }
     {
-        match &self.work {
-            Work::Running(unit) => {
-                pace.before_step(self.number, unit.number(), unit.position());
+        match &self.current {
+            Current::Running(unit) => {
+                work.before_step(self.number, unit.number(), unit.position());
             }
             _ => unreachable!(),
         }
@@ -200,8 +205,8 @@ impl Stream {
         requires declared { IsDeclared w.now op }
         ensures { IfHeld self.now.held.hand (λ o. IsPlan w.now self.now.number.0 op o result) }
     {
-        match &self.work {
-            Work::Running(unit) => plan_for(w, self.number, op, unit),
+        match &self.current {
+            Current::Running(unit) => plan_for(w, self.number, op, unit),
             _ => unreachable!(),
         }
     }
@@ -227,8 +232,8 @@ impl Stream {
         ensures pass { C.is_of commons.now pass.new }
         ensures number { C.number pass.new ≡ C.number pass.old }
     {
-        match &self.work {
-            Work::Running(_) => match plan {
+        match &self.current {
+            Current::Running(_) => match plan {
                 Plan::Own => self.own(w),
                 Plan::Yield => self.yields(),
                 Plan::Exit => self.exits(),
@@ -238,6 +243,17 @@ impl Stream {
             },
             _ => unreachable!(),
         }
+    }
+}
+
+// The function that the operation calls, if it calls one.
+fn called(op: Op) -> Option<u32>
+    ensures some { IfSome result (λ f. op ≡ ops.Call f) }
+    ensures none { result ≡ None → IsNoCall (Some op) }
+{
+    match op {
+        Op::Call(function) => Some(function),
+        _ => None,
     }
 }
 

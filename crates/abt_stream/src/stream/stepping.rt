@@ -11,23 +11,24 @@ ghost use Rattle.abt_commons.specs.Acts.{IsFreeAnswer, answer_of};
 ghost use Rattle.abt_plans.specs.Acts.{asked, brought, given, told};
 ghost use Rattle.abt_plans.specs.Hearing.{IsForCaller, IsForYielder};
 ghost use Rattle.abt_machine.specs.Numbers.{unit_no};
-ghost use Rattle.abt_stream.specs.declared.parts.Work.TheVariants as works;
+ghost use Rattle.abt_stream.specs.declared.parts.Current.TheVariants as currents;
 ghost use Rattle.abt_stream.specs.Heeding.{Heeds};
 ghost use Rattle.abt_stream.specs.Streams.{hand_of};
 ghost use Rattle.abt_unit.specs.Units.{IsFree};
 ghost use Rattle.abt_unit.specs.Fits.{Fits};
 ghost use Rattle.abt_unit.specs.Local.{IsLocal, back};
-ghost use Rattle.abt_stream.specs.Events.{IfHeld, CanStep, ExitBy, OwnBy, StepsAlone, StepsBy, after_step, step_of, wrote};
+ghost use Rattle.abt_stream.specs.Events.{IfHeld, CallBy, CanStep, ExitBy, OwnBy, StepsAlone, StepsBy, after_step, step_of, wrote};
 
 use super::{LAST, Stream};
 use crate::hearing;
-use crate::parts::Work;
+use crate::parts::Current;
 use crate::turns::Turn;
 use crate::units::name;
 use abt_commons::{Answer, Commons, Reply};
-use abt_machine::{Code, Site, UnitNo, Workload};
+use abt_machine::{Code, Returned, Site, UnitNo, What, Workload};
 use abt_plans::{Asking, Giving, Mark};
 use abt_unit::Unit;
+use abt_work::Work;
 use std::mem;
 
 impl Stream {
@@ -41,10 +42,28 @@ impl Stream {
         if self.clock == LAST {
             return Turn::Worn;
         }
-        let (mut unit, number, at) = running(mem::replace(&mut self.work, Work::Idle));
+        let (mut unit, number, at) = running(mem::replace(&mut self.current, Current::Idle));
         unit.step_local(w);
-        self.work = Work::Running(unit);
+        self.current = Current::Running(unit);
         self.write_step(self.clock + 1, number, at, Code::Ok);
+        Turn::Stepped
+    }
+
+    // The unit in hand calls a function of the user's, and receives what it returns.
+    pub(super) fn call<P: Work>(&mut self, work: &P, function: u32) -> Turn
+        requires can { CanStep self.old }
+        requires stored { function < P.count work.now }
+        ensures { IfHeld self.old.held.hand (CallBy (P.returns work.now function) self.old result self.new) }
+    {
+        if self.clock == LAST {
+            return Turn::Worn;
+        }
+        let (mut unit, number, at) = running(mem::replace(&mut self.current, Current::Idle));
+        let value = work.call(function, number, unit.acc(), unit.keys());
+        unit.advance();
+        unit.receive(value);
+        self.current = Current::Running(unit);
+        self.count_step(self.clock + 1, What::Call(number, at, Returned::new(value)));
         Turn::Stepped
     }
 
@@ -56,7 +75,7 @@ impl Stream {
         if self.clock == LAST {
             return Turn::Worn;
         }
-        let (mut unit, number, at) = running(mem::replace(&mut self.work, Work::Idle));
+        let (mut unit, number, at) = running(mem::replace(&mut self.current, Current::Idle));
         unit.advance();
         self.tray.push_back(unit);
         self.write_step(self.clock + 1, number, at, Code::Ok);
@@ -71,9 +90,9 @@ impl Stream {
         if self.clock == LAST {
             return Turn::Worn;
         }
-        let (mut unit, number, at) = running(mem::replace(&mut self.work, Work::Idle));
+        let (mut unit, number, at) = running(mem::replace(&mut self.current, Current::Idle));
         unit.advance();
-        self.work = Work::Running(unit);
+        self.current = Current::Running(unit);
         self.mark = Mark::Exited;
         self.write_step(self.clock + 1, number, at, Code::Ok);
         Turn::Stepped
@@ -87,9 +106,9 @@ impl Stream {
         if self.clock == LAST {
             return Turn::Worn;
         }
-        let (mut unit, number, at) = running(mem::replace(&mut self.work, Work::Idle));
+        let (mut unit, number, at) = running(mem::replace(&mut self.current, Current::Idle));
         hearing::refuse(&mut unit, Code::PoolAccess);
-        self.work = Work::Running(unit);
+        self.current = Current::Running(unit);
         self.write_step(self.clock + 1, number, at, Code::PoolAccess);
         Turn::Stepped
     }
@@ -144,9 +163,9 @@ impl Stream {
         ensures clock { self.new.clock ≡ stamp }
         ensures same { IfHeld self.old.held.hand (λ o. self.new ≡ wrote (after_step self.old (to_caller o (answer_of answer))) (step_of o (to_caller o (answer_of answer)).code) stamp self.new.rooms) }
     {
-        let (mut unit, number, at) = running(mem::replace(&mut self.work, Work::Idle));
+        let (mut unit, number, at) = running(mem::replace(&mut self.current, Current::Idle));
         let code = hearing::hear(&mut unit, &mut self.tray, answer);
-        self.work = Work::Running(unit);
+        self.current = Current::Running(unit);
         self.write_step(stamp, number, at, code);
     }
 
@@ -176,7 +195,10 @@ impl Stream {
         ensures clock { self.new.clock ≡ stamp }
         ensures same { IfHeld self.old.held.hand (λ o. self.new ≡ wrote (after_step self.old (to_yielder o (asks.Given other.value.owned))) (step_of o (to_yielder o (asks.Given other.value.owned)).code) stamp self.new.rooms) }
     {
-        let (mut unit, number, at) = running(mem::replace(&mut self.work, Work::Taken(other)));
+        let (mut unit, number, at) = running(mem::replace(
+            &mut self.current,
+            Current::Taken(other),
+        ));
         unit.advance();
         self.tray.push_back(unit);
         self.write_step(stamp, number, at, Code::Ok);
@@ -190,9 +212,9 @@ impl Stream {
         ensures clock { self.new.clock ≡ stamp }
         ensures same { IfHeld self.old.held.hand (λ o. self.new ≡ wrote (after_step self.old (to_yielder o (asks.Coded code))) (step_of o (to_yielder o (asks.Coded code)).code) stamp self.new.rooms) }
     {
-        let (mut unit, number, at) = running(mem::replace(&mut self.work, Work::Idle));
+        let (mut unit, number, at) = running(mem::replace(&mut self.current, Current::Idle));
         hearing::refuse(&mut unit, code);
-        self.work = Work::Running(unit);
+        self.current = Current::Running(unit);
         self.write_step(stamp, number, at, code);
     }
 
@@ -212,13 +234,13 @@ impl Stream {
         ensures pass { C.is_of commons.now pass.new }
         ensures number { C.number pass.new ≡ C.number pass.old }
     {
-        let (mut unit, number, at) = running(mem::replace(&mut self.work, Work::Idle));
+        let (mut unit, number, at) = running(mem::replace(&mut self.current, Current::Idle));
         unit.advance();
         let act = hearing::give(giving, unit);
         match commons.call(pass, site, self.clock, act) {
             Reply::Done { stamp, answer } => {
-                let (work, code) = hearing::returned(giving, &mut self.tray, answer);
-                self.work = work;
+                let (current, code) = hearing::returned(giving, &mut self.tray, answer);
+                self.current = current;
                 self.write_step(stamp, number, at, code);
                 Turn::Stepped
             }
@@ -239,19 +261,19 @@ impl Stream {
         ensures { self.new ≡ record self.old { held = record self.old.held { hand = Some (carrying back unit.value.owned) }; rooms = record self.old.rooms { output = unit.value.spare } } }
     {
         unit.retreat();
-        self.work = Work::Running(unit);
+        self.current = Current::Running(unit);
     }
 }
 
 // The unit that runs, its number and its position.
-fn running(work: Work) -> (Box<Unit>, UnitNo, u32)
-    requires { IsSome (hand_of work) }
-    ensures unit { work ≡ works.Running result.0 }
+fn running(current: Current) -> (Box<Unit>, UnitNo, u32)
+    requires { IsSome (hand_of current) }
+    ensures unit { current ≡ currents.Running result.0 }
     ensures number { result.1 ≡ unit_no result.0.value.owned.number }
     ensures position { result.2 ≡ result.0.value.owned.carried.position }
 {
-    match work {
-        Work::Running(unit) => {
+    match current {
+        Current::Running(unit) => {
             let number = name(&unit);
             let at = unit.position();
             (unit, number, at)

@@ -1,6 +1,6 @@
 //! What a stream writes into its log.
 
-ghost use Rattle.std.specs.Prelude.{◌≡◌, ◌<◌, ◌≤◌, ◌-◌, ◌^◌, false, IsTrue, IsFalse};
+ghost use Rattle.std.specs.Prelude.{◌≡◌, ◌<◌, ◌≤◌, ◌-◌, ◌^◌, false, true, IsTrue, IsFalse};
 ghost use Rattle.abt_machine.specs.declared.events.What.TheVariants as what;
 ghost use Rattle.abt_stream.specs.Events.{wrote};
 ghost use Rattle.abt_machine.specs.Outcomes.{is_step, steps_in};
@@ -27,7 +27,7 @@ impl Stream {
         self.log.push_reserved(event);
     }
 
-    // Writes a step.
+    // Writes the step of an operation that is no call.
     pub(super) fn write_step(&mut self, stamp: u64, unit: UnitNo, at: u32, code: Code)
         requires few { steps_in self.old.log < self.old.budget }
         requires room { 0 < self.old.rooms.events }
@@ -36,10 +36,23 @@ impl Stream {
         ensures clock { self.new.clock ≡ stamp }
         ensures same { self.new ≡ wrote self.old (what.Step unit at code) stamp (record self.old.rooms { events = self.old.rooms.events - 1 }) }
     {
+        self.count_step(stamp, What::Step(unit, at, code));
+    }
+
+    // Writes a step, which leaves the stream one less to make.
+    pub(super) fn count_step(&mut self, stamp: u64, what: What)
+        requires step { is_step what ≡ true }
+        requires few { steps_in self.old.log < self.old.budget }
+        requires room { 0 < self.old.rooms.events }
+        requires above { self.old.clock < stamp }
+        requires bound { stamp ≤ 2 ^ 62 }
+        ensures clock { self.new.clock ≡ stamp }
+        ensures same { self.new ≡ wrote self.old what stamp (record self.old.rooms { events = self.old.rooms.events - 1 }) }
+    {
         let event = Event {
             stamp,
             stream: self.number,
-            what: What::Step(unit, at, code),
+            what,
         };
         self.left -= 1;
         self.clock = stamp;

@@ -2,7 +2,7 @@
 use Rattle.std.proofs.Common.{◌≤◌, sym, subst}
 use Rattle.std.proofs.lemmas.List.{length-map}
 use Rattle.abt_machine.specs.Rounds.{OrdersStored}
-use Rattle.abt_order.specs.Stored.{shapes_of}
+use Rattle.abt_order.specs.Stored.{stored_of}
 use Rattle.abt_commons.specs.Placing.{ArePlaced}
 use Rattle.abt_outcomes.proofs.Stored.{orders-stored}
 use Rattle.abt_drain.proofs.Started.{crew-started, is-start}
@@ -11,9 +11,11 @@ use Rattle.abt_drain.proofs.crew.Crew.new.Goals as goal
 
 pub returns-clause-crew : goal.returns-clause-crew
 returns-clause-crew g c =
-    let stored : OrdersStored c.args.w.now (shapes_of c.args.orders.now) = orders-stored c.args.w.now (shapes_of c.args.orders.now) c.known.ensures (subst (λ k. 2 ≤ k) (sym (length-map c.args.orders.now _)) c.requires.orders) in
+    λ returns.
+    let Z = stored_of c.args.orders.now returns in
+    let stored : OrdersStored c.args.w.now Z.orders = orders-stored c.args.w.now Z c.known.ensures (subst (λ k. 2 ≤ k) (sym (length-map c.args.orders.now _)) c.requires.orders) in
     crew-started c.args.w.now c.args.steps c.in_ok-streams.streams.items c.make-plain.result.1 c.in_ok-streams.ensures (subst (ArePlaced c.args.w.now) (sym c.make-plain.ensures.pass) c.in_ok-place.ensures)
-    (shapes_of c.args.orders.now) c.known.ensures stored
+    Z c.known.ensures stored
 
 pub returns-clause-fresh : goal.returns-clause-fresh
 returns-clause-fresh g c =
@@ -25,5 +27,6 @@ returns-clause-awake g c =
 
 pub returns-clause-rotated : goal.returns-clause-rotated
 returns-clause-rotated g c =
+    λ returns.
     start-rotated c.args.w.now _ (is-start c.args.w.now c.args.steps c.in_ok-streams.streams.items c.make-plain.result.1 c.in_ok-streams.ensures (subst (ArePlaced c.args.w.now) (sym c.make-plain.ensures.pass) c.in_ok-place.ensures))
-    (shapes_of c.args.orders.now) c.args.steps
+    (stored_of c.args.orders.now returns) c.args.steps

@@ -1,7 +1,8 @@
-use Rattle.std.proofs.Common.{rules, ◌≡◌, ◌≤◌, ◌-◌, List, [], length, map, reverse, take, refl, subst}
-use Rattle.abt_machine.specs.declared.operations.OrderShape.{OrderShape}
+use Rattle.std.proofs.Common.{rules, ◌≡◌, ◌≤◌, ◌-◌, length, map, reverse, take, refl, subst}
+use Rattle.abt_machine.specs.Stored.{Stored}
 use Rattle.abt_machine.specs.declared.operations.Side.{Side}
 use Rattle.abt_machine.specs.Fronts.{side_of}
+use Rattle.abt_commons.specs.Sights.{nothing_stored}
 use Rattle.abt_stream.specs.Events.{VisitBy}
 use Rattle.abt_stream.specs.Streams.{resting, seeing}
 use Rattle.abt_stream.specs.Heeding.{Heeds}
@@ -16,14 +17,14 @@ returns-then-leaves g c =
     let empty : c.args.self.now.held.own.top.empty ≡ c.args.self.now.top.empty = search rules in
     let under : c.args.self.now.held.own.below ≡ map resting (reverse c.args.self.now.below) = search rules in
     let due = leave-due c.args.w.now c.args.self.now.number.0 c.args.self.now.held c.args.self.now.top c.args.self.now.below c.requires.idle.0 c.requires.idle.1 c.requires.idle.2 empty under both.0 both.1 in
-    let turned = λ (Z : List OrderShape). leave-turned (Heeds (g.C.Commons.moves c.args.commons.now) (g.C.Commons.workload c.args.commons.now)) c.args.w.now c.args.self.now c.args.pass.now c.leave.new.self c.args.pass.now c.leave.result due framed refl c.leave.ensures Z in
+    let turned = λ (Z : Stored). leave-turned (Heeds (g.C.Commons.moves c.args.commons.now) (g.C.Commons.workload c.args.commons.now)) c.args.w.now c.args.self.now c.args.pass.now c.leave.new.self c.args.pass.now c.leave.result due framed refl c.leave.ensures Z in
     let keeps = leave-keeps (Heeds (g.C.Commons.moves c.args.commons.now) (g.C.Commons.workload c.args.commons.now)) c.args.w.now c.args.self.now c.args.pass.now c.leave.new.self c.args.pass.now c.leave.result c.leave.ensures in
     record {
       turned = λ Z shaped. turned Z;
       pass = c.requires.pass;
       number = refl;
       keeps = keeps;
-      fits = turn-fits (g.C.Commons.moves c.args.commons.now) (g.C.Commons.workload c.args.commons.now) c.args.w.now c.requires.w c.requires.valid c.args.self.now c.args.pass.now c.leave.new.self c.args.pass.now c.requires.fits keeps c.leave.result (turned []);
+      fits = turn-fits (g.C.Commons.moves c.args.commons.now) (g.C.Commons.workload c.args.commons.now) c.args.w.now c.requires.w c.requires.valid c.args.self.now c.args.pass.now c.leave.new.self c.args.pass.now c.requires.fits keeps nothing_stored c.leave.result (turned nothing_stored);
     }
 
 pub next_pool-p-requires : goal.next_pool-p-requires

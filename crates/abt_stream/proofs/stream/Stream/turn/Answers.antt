@@ -1,7 +1,8 @@
-use Rattle.std.proofs.Common.{rules, ◌≡◌, ◌≢◌, List, [], Some, refl, sym, subst}
-use Rattle.abt_machine.specs.declared.operations.OrderShape.{OrderShape}
+use Rattle.std.proofs.Common.{rules, ◌≡◌, ◌≢◌, [], Some, refl, sym, subst}
+use Rattle.abt_machine.specs.Stored.{Stored}
 use Rattle.abt_machine.specs.declared.workload.Parts.{Parts}
 use Rattle.abt_unit.specs.Fits.{Fits}
+use Rattle.abt_commons.specs.Sights.{nothing_stored}
 use Rattle.abt_stream.specs.Events.{IfFirst}
 use Rattle.abt_stream.specs.Heeding.{Heeds}
 use Rattle.abt_stream.proofs.Able.{tray-fits}
@@ -25,13 +26,13 @@ pub returns-then-not-is_empty : goal.returns-then-not-is_empty
 returns-then-not-is_empty g c =
     let some : c.args.self.now.held.tray ≢ [] = search rules in
     let due = put-due c.args.w.now c.args.self.now.number.0 c.args.self.now.held c.args.self.now.held.tray refl some in
-    let turned = λ (Z : List OrderShape). put-turned (Heeds (g.C.Commons.moves c.args.commons.now) (g.C.Commons.workload c.args.commons.now)) c.args.w.now c.args.self.now c.args.pass.now c.put.new.self c.put.new.pass Z c.args.self.now.held.tray c.put.result refl due c.put.ensures.put in
+    let turned = λ (Z : Stored). put-turned (Heeds (g.C.Commons.moves c.args.commons.now) (g.C.Commons.workload c.args.commons.now)) c.args.w.now c.args.self.now c.args.pass.now c.put.new.self c.put.new.pass Z c.args.self.now.held.tray c.put.result refl due c.put.ensures.put in
     let keeps = put-keeps (Heeds (g.C.Commons.moves c.args.commons.now) (g.C.Commons.workload c.args.commons.now)) c.args.w.now c.args.self.now c.args.pass.now c.put.new.self c.put.new.pass c.args.self.now.held.tray c.put.result c.put.ensures.put in
     record {
-      turned = λ Z shaped. turned Z;
+      turned = λ Z shaped stored. turned Z;
       stream = keeps.number;
       budget = keeps.budget;
-      fits = turn-fits (g.C.Commons.moves c.args.commons.now) (g.C.Commons.workload c.args.commons.now) c.args.w.now c.requires.w c.known.ensures c.args.self.now c.args.pass.now c.put.new.self c.put.new.pass c.requires.fits keeps c.put.result (turned []);
+      fits = turn-fits (g.C.Commons.moves c.args.commons.now) (g.C.Commons.workload c.args.commons.now) c.args.w.now c.requires.w c.known.ensures c.args.self.now c.args.pass.now c.put.new.self c.put.new.pass c.requires.fits keeps nothing_stored c.put.result (turned nothing_stored);
       shapes = keeps.shapes;
       pass = c.put.ensures.pass;
       number = c.put.ensures.number;
@@ -42,17 +43,19 @@ returns-in-Taken g c =
     let tray : c.args.self.now.held.tray ≡ [] = search rules in
     let next : c.args.self.now.held.next ≡ Some c.in-Taken.field-0.value.owned = search rules in
     let due = look-due c.args.w.now c.args.self.now.number.0 c.args.self.now.held c.in-Taken.field-0.value.owned tray next in
-    let turned = λ (Z : List OrderShape). look-turned (Heeds (g.C.Commons.moves c.args.commons.now) (g.C.Commons.workload c.args.commons.now)) c.args.w.now c.args.self.now c.args.pass.now c.look.new.self c.look.new.pass Z c.args.self.now.held.next c.look.result refl due c.look.ensures.look in
+    let turned = λ (Z : Stored). look-turned (Heeds (g.C.Commons.moves c.args.commons.now) (g.C.Commons.workload c.args.commons.now)) c.args.w.now c.args.self.now c.args.pass.now c.look.new.self c.look.new.pass Z c.args.self.now.held.next c.look.result refl due c.look.ensures.look in
     let keeps = look-keeps (Heeds (g.C.Commons.moves c.args.commons.now) (g.C.Commons.workload c.args.commons.now)) c.args.w.now c.args.self.now c.args.pass.now c.look.new.self c.look.new.pass c.args.self.now.held.next c.look.result c.look.ensures.look in
     record {
-      turned = λ Z shaped. turned Z;
+      turned = λ Z shaped stored. turned Z;
       stream = keeps.number;
       budget = keeps.budget;
-      fits = turn-fits (g.C.Commons.moves c.args.commons.now) (g.C.Commons.workload c.args.commons.now) c.args.w.now c.requires.w c.known.ensures c.args.self.now c.args.pass.now c.look.new.self c.look.new.pass c.requires.fits keeps c.look.result (turned []);
+      fits = turn-fits (g.C.Commons.moves c.args.commons.now) (g.C.Commons.workload c.args.commons.now) c.args.w.now c.requires.w c.known.ensures c.args.self.now c.args.pass.now c.look.new.self c.look.new.pass c.requires.fits keeps nothing_stored c.look.result (turned nothing_stored);
       shapes = keeps.shapes;
       pass = c.look.ensures.pass;
       number = c.look.ensures.number;
     }
 
 pub returns-in-Running-clause-fits : goal.returns-in-Running-clause-fits
-returns-in-Running-clause-fits g c = turn-fits (g.C.Commons.moves c.args.commons.now) (g.C.Commons.workload c.args.commons.now) c.args.w.now c.requires.w c.known.ensures c.args.self.now c.args.pass.now c.run.new.self c.run.new.pass c.requires.fits c.run.ensures.keeps c.run.result (c.run.ensures.turned [])
+returns-in-Running-clause-fits g c =
+    let Z : Stored = record { orders = []; returns = g.P.Work.returns c.args.work.now } in
+    turn-fits (g.C.Commons.moves c.args.commons.now) (g.C.Commons.workload c.args.commons.now) c.args.w.now c.requires.w c.known.ensures c.args.self.now c.args.pass.now c.run.new.self c.run.new.pass c.requires.fits c.run.ensures.keeps Z c.run.result (c.run.ensures.turned Z refl)

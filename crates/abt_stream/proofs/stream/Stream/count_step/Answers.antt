@@ -1,18 +1,16 @@
-use Rattle.std.proofs.Common.{rules, ◌≡◌, ◌<◌, ◌+◌, ◌-◌, ◌++◌, List, [], ◌∷◌, sym, subst, refl, arith}
+use Rattle.std.proofs.Common.{rules, ◌≡◌, ◌<◌, ◌+◌, ◌-◌, ◌++◌, List, [], ◌∷◌, sym, subst, arith}
 use Rattle.abt_machine.specs.declared.events.Event.{Event}
-use Rattle.abt_machine.specs.declared.events.What.TheVariants as what
 use Rattle.abt_machine.specs.Outcomes.{steps_in}
 use Rattle.abt_stream.specs.Streams.{IsLog}
 use Rattle.abt_stream.proofs.Logs.{log-written, one-more}
-use Rattle.abt_stream.proofs.stream.Stream.write_step.Goals as goal
+use Rattle.abt_stream.proofs.stream.Stream.count_step.Goals as goal
 
 pub invariant_of-self : goal.invariant_of-self
 invariant_of-self c =
     let above : c.self.inside.clock < c.args.stamp = search rules in
-    let w = what.Step c.args.unit c.args.at c.args.code in
-    let logged = log-written c.self.inside.number c.self.inside.clock c.args.stamp c.self.inside.log.items w c.self.invariant.5 above in
-    let e : Event = record { stamp = c.args.stamp; stream = c.self.inside.number; what = w } in
-    let count = one-more c.self.inside.log.items e refl in
+    let logged = log-written c.self.inside.number c.self.inside.clock c.args.stamp c.self.inside.log.items c.args.what c.self.invariant.5 above in
+    let e : Event = record { stamp = c.args.stamp; stream = c.self.inside.number; what = c.args.what } in
+    let count = one-more c.self.inside.log.items e c.requires.step in
     let few : steps_in c.self.inside.log.items < c.self.inside.budget = search rules in
     let all = c.self.invariant.7 in
     let fewer : (c.self.inside.left - 1) + steps_in (c.self.inside.log.items ++ e ∷ []) ≡ c.self.inside.budget = omega arith in (
