@@ -9,7 +9,7 @@ use Rattle.std.proofs.lemmas.Option.{slice_get-get_or}
 use Rattle.abt_machine.specs.declared.events.Event.{Event}
 use Rattle.abt_machine.specs.declared.events.Site.{Site}
 use Rattle.abt_machine.specs.declared.events.Site.TheVariants as site
-use Rattle.abt_machine.specs.declared.operations.OrderShape.{OrderShape}
+use Rattle.abt_machine.specs.Stored.{Stored}
 use Rattle.abt_machine.specs.declared.workload.Parts.{Parts}
 use Rattle.abt_machine.specs.Numbers.{object_no}
 use Rattle.abt_machine.specs.Operations.{IsEventual}
@@ -92,7 +92,7 @@ passing f a (suc n) s low high passes = elim (cases_eq s a) [ inl same ↦ here 
   further true m = inr m
   further false m = m
 
-module _ (W : Parts) (Z : List OrderShape) (old new : Moment) (live : List Bool) (wave : IsWave W Z live old new) (es : List Event) (journal : IsJournalOf wave.deeds es) (f : ℕ → Bool) (flags : live ≡ map f (range_with_len 0 W.streams)) where
+module _ (W : Parts) (Z : Stored) (old new : Moment) (live : List Bool) (wave : IsWave W Z live old new) (es : List Event) (journal : IsJournalOf wave.deeds es) (f : ℕ → Bool) (flags : live ≡ map f (range_with_len 0 W.streams)) where
   flag-at : (s : ℕ) → s < W.streams → slice_get live s ≡ Some (f s)
   flag-at s lt =
       let long : length (map f (range_with_len 0 W.streams)) ≡ W.streams = length-map-range_with_len f 0 W.streams in

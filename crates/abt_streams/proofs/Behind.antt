@@ -4,7 +4,7 @@ use Rattle.std.proofs.lemmas.List.{length-map}
 use Rattle.std.proofs.lemmas.List.Elements.{All-map}
 use Rattle.std.proofs.Math.Seq.{drop-append_seam}
 use Rattle.abt_machine.specs.declared.events.Event.{Event}
-use Rattle.abt_machine.specs.declared.operations.OrderShape.{OrderShape}
+use Rattle.abt_machine.specs.Stored.{Stored}
 use Rattle.abt_machine.specs.declared.workload.Parts.{Parts}
 use Rattle.abt_interleave.specs.Deeds.{deed_stamps}
 use Rattle.abt_interleave.specs.Merges.{IsLogOf, Rises}
@@ -50,7 +50,7 @@ map-of-map : {A B C : Type 0} (f : A → B) (g : B → C) (xs : List A) → map 
 map-of-map f g [] = refl
 map-of-map f g (x ∷ xs) = ap (λ ys. g (f x) ∷ ys) (map-of-map f g xs)
 
-module _ (W : Parts) (Z : List OrderShape) (objects left : ObjectsValue) (streams after : List StreamValue) (live : List Bool) (wave : IsWave W Z live (moment_of W streams objects) (moment_of W after left)) (many : length after ≡ length streams) where
+module _ (W : Parts) (Z : Stored) (objects left : ObjectsValue) (streams after : List StreamValue) (live : List Bool) (wave : IsWave W Z live (moment_of W streams objects) (moment_of W after left)) (many : length after ≡ length streams) where
   -- as many lengths as logs
   pub same-many : length (log_lengths streams) ≡ length after
   same-many = length-map streams (λ (stream : StreamValue). length stream.log) ∙ sym many

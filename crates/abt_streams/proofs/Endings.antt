@@ -5,7 +5,7 @@ use Rattle.std.proofs.lemmas.List.Elements.{All-contains, Contains-get_or}
 use Rattle.abt_machine.specs.declared.events.Event.{Event}
 use Rattle.abt_machine.specs.declared.events.Outcome.{Outcome}
 use Rattle.abt_machine.specs.declared.events.Outcome.TheVariants as outcome
-use Rattle.abt_machine.specs.declared.operations.OrderShape.{OrderShape}
+use Rattle.abt_machine.specs.Stored.{Stored}
 use Rattle.abt_machine.specs.declared.workload.Parts.{Parts}
 use Rattle.abt_machine.specs.Outcomes.{AllEnded, EndsAs}
 use Rattle.abt_machine.specs.Rounds.{OrdersStored}
@@ -52,7 +52,7 @@ module _ (W : Parts) (lives : List Life) (are : AreLives W lives) (n : ℕ) (str
   quiet : (J : List Event) → StandFor W (last_state W J) (parts_held W streams) (object_at objects) → QuietOn W lives (last_state W J) ↔ IsQuietOnWith W lives streams objects
   quiet J stand = quiet-on-seen W lives are (last_state W J) (parts_held W streams) (object_at objects) stand
 
-  over : (Z : List OrderShape) (J : List Event) → OrdersStored W Z → Run W Z J → StandFor W (last_state W J) (parts_held W streams) (object_at objects) → AllEnded (last_state W J) ↔ LooksEnded W (object_at objects)
+  over : (Z : Stored) (J : List Event) → OrdersStored W Z.orders → Run W Z J → StandFor W (last_state W J) (parts_held W streams) (object_at objects) → AllEnded (last_state W J) ↔ LooksEnded W (object_at objects)
   over Z J stored run stand = ends-seen W Z (last_state W J) (parts_held W streams) (object_at objects) (last_state-sound W Z J (runs-are-sound W Z) valid stored run) stand
 
   pub ends-none : IsOutcomeOfRuns W n streams objects None → (IsQuietOnWith W lives streams objects → ⊥) → IsOutcomeOnLives W lives n streams objects None

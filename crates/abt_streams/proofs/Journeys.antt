@@ -4,15 +4,22 @@ use Rattle.std.specs.Prelude.{Contains, IfOk}
 use Rattle.std.specs.List.{All, range_with_len}
 use Rattle.abt_machine.specs.declared.events.Event.{Event}
 use Rattle.abt_machine.specs.declared.events.Outcome.{Outcome}
-use Rattle.abt_machine.specs.declared.operations.OrderShape.{OrderShape}
+use Rattle.abt_machine.specs.declared.events.Outcome.TheVariants as outcome
+use Rattle.abt_machine.specs.Stored.{Stored}
 use Rattle.abt_machine.specs.declared.workload.Parts.{Parts}
 use Rattle.abt_machine.specs.Outcomes.{steps_in}
 use Rattle.abt_machine.specs.Rounds.{OrdersStored}
 use Rattle.abt_machine.specs.Runs.{last_state, state_after}
 use Rattle.abt_machine.specs.Start.{start}
 use Rattle.abt_machine.specs.Valid.{IsValid}
+use Rattle.abt_laws.proofs.LifeOver.{ends-are-the-journals}
 use Rattle.abt_laws.proofs.LifeRuns.{runs-live}
 use Rattle.abt_laws.proofs.SoundRuns.{runs-are-sound}
+use Rattle.abt_bounds.specs.Laws.{HasNoFreeCall}
+use Rattle.abt_flow.specs.Confluent.{Confluent}
+use Rattle.abt_flow.specs.Flow.{IsFlow}
+use Rattle.abt_flow.specs.Laws.{outputs}
+use Rattle.abt_flow.proofs.Outputs.{outputs-are-flow}
 use Rattle.abt_interleave.proofs.Members.{to-among}
 use Rattle.abt_merge.specs.Logs.{log_of}
 use Rattle.abt_simulation.specs.Journals.{MergesTo}
@@ -47,7 +54,7 @@ if-ok (Ok a) P Q more known = more a known
 if-ok (Err e) P Q more known = known
 
 -- at the start nothing has come
-pub under-way-at-start : (W : Parts) (Z : List OrderShape) (n : ℕ) (lives : List Life) (objects : ObjectsValue) (streams : List StreamValue) → IsValid W → OrdersStored W Z → AreStarted W n W.streams streams → ArePlaced W objects →
+pub under-way-at-start : (W : Parts) (Z : Stored) (n : ℕ) (lives : List Life) (objects : ObjectsValue) (streams : List StreamValue) → IsValid W → OrdersStored W Z.orders → AreStarted W n W.streams streams → ArePlaced W objects →
     HasLedTo W Z n lives objects streams [] []
 under-way-at-start W Z n lives objects streams valid stored all placed =
     let is = is-start W n streams objects all placed in
@@ -65,7 +72,7 @@ under-way-at-start W Z n lives objects streams valid stored all placed =
     }
 
 -- a wave more
-module _ (W : Parts) (Z : List OrderShape) (n : ℕ) (lives : List Life) (are : AreLives W lives) (objects left : ObjectsValue) (streams after : List StreamValue) (J : List Event) (waves : List Wave) (under : HasLedTo W Z n lives objects streams J waves)
+module _ (W : Parts) (Z : Stored) (n : ℕ) (lives : List Life) (are : AreLives W lives) (objects left : ObjectsValue) (streams after : List StreamValue) (J : List Event) (waves : List Wave) (under : HasLedTo W Z n lives objects streams J waves)
     (flags : List Bool) (wave : Wave) (from_is : wave.from ≡ length J) (flags_are : flags ≡ map (is_live_with (object_at objects) lives) (range_with_len 0 W.streams)) (numbers_are : wave.streams ≡ filter (is_live_with (object_at objects) lives) (range_with_len 0 W.streams))
     (makes : MakesWave W Z flags (moment_of W streams objects) (moment_of W after left)) (fleet : IsFleet W Z n left after)
     (es : List Event) (merged : MergesTo (log_of (behind after (log_lengths streams))) es) where
@@ -101,7 +108,7 @@ module _ (W : Parts) (Z : List OrderShape) (n : ℕ) (lives : List Life) (are : 
   goes-on K more journal_is waves_is =
       subst (λ (x : List Event). HasLedTo W Z n lives left after x more) (sym journal_is) (subst (λ (x : List Wave). HasLedTo W Z n lives left after (J ++ es) x) (sym waves_is) further)
 
-module _ (W : Parts) (Z : List OrderShape) (n : ℕ) (lives : List Life) (objects : ObjectsValue) (streams : List StreamValue) (J : List Event) (waves : List Wave) (under : HasLedTo W Z n lives objects streams J waves) where
+module _ (W : Parts) (Z : Stored) (n : ℕ) (lives : List Life) (objects : ObjectsValue) (streams : List StreamValue) (J : List Event) (waves : List Wave) (under : HasLedTo W Z n lives objects streams J waves) where
   -- how many steps each stream made
   have-made : HaveMade W J (steps_made streams)
   have-made s lt = under.lead.made s lt ∙ sym (made-same (slice_get streams s))
@@ -109,6 +116,10 @@ module _ (W : Parts) (Z : List OrderShape) (n : ℕ) (lives : List Life) (object
   -- how the run ended
   pub has-ended-on : (o : Outcome) → IsOutcomeOnLives W lives n streams objects (Some o) → EndsOn W lives n J o
   has-ended-on o ended = ended Z J under.fleet.stored under.lead.run under.lead.stand have-made
+
+  -- what the units put out
+  puts-out : (o : Outcome) → EndsOn W lives n J o → o ≡ outcome.Finished → Confluent W → HasNoFreeCall W Z → IsFlow W Z.returns (outputs W (last_state W J))
+  puts-out o ended finished confluent one = outputs-are-flow W Z under.fleet.valid under.fleet.stored confluent one J under.lead.run (subst (EndsOn W lives n J) finished ended).1
 
   -- the run
   pub has-run-on : (o : Outcome) → waves ≢ [] → EndsOn W lives n J o → HasRunOn W Z n lives J waves o
@@ -121,4 +132,6 @@ module _ (W : Parts) (Z : List OrderShape) (n : ℕ) (lives : List Life) (object
     some_wave = some;
     waves_are = under.waves_are;
     ended = ended;
+    ends = ends-are-the-journals W Z (runs-are-sound W Z) under.fleet.valid under.fleet.stored J under.lead.run;
+    flow = puts-out o ended;
   }

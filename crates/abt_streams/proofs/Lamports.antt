@@ -3,7 +3,7 @@ use Rattle.std.proofs.Common.{◌≡◌, ℕ, ◌+◌, ◌<◌, ◌⊎◌, ◌�
 use Rattle.std.specs.Prelude.{Contains}
 use Rattle.std.proofs.lemmas.List.Elements.{Contains-append_cases, Contains-append_left, Contains-append_right, Contains-push, Contains-push_cases}
 use Rattle.abt_machine.specs.declared.events.Event.{Event}
-use Rattle.abt_machine.specs.declared.operations.OrderShape.{OrderShape}
+use Rattle.abt_machine.specs.Stored.{Stored}
 use Rattle.abt_machine.specs.declared.workload.Parts.{Parts}
 use Rattle.abt_machine.specs.Stamps.{AllAfter, IsLeast, Lamport, LamportFrom, Shares}
 use Rattle.abt_machine.specs.Start.{start}
@@ -110,7 +110,7 @@ module _ (W : Parts) where
 
 -- The events of the journal are those of all logs.
 
-module _ (W : Parts) (Z : List OrderShape) (live : List Bool) (old new : Moment) (wave : IsWave W Z live old new) (es : List Event) (journal : IsJournalOf wave.deeds es) (J : List Event) (has : HasLogs old J) where
+module _ (W : Parts) (Z : Stored) (live : List Bool) (old new : Moment) (wave : IsWave W Z live old new) (es : List Event) (journal : IsJournalOf wave.deeds es) (J : List Event) (has : HasLogs old J) where
   in-log : (s : ℕ) (e : Event) → Contains (new.logs s) e → Contains (old.logs s) e ⊎ Contains (events_of wave.deeds s) e
   in-log s e c = Contains-append_cases (old.logs s) (events_of wave.deeds s) e (subst (λ (l : List Event). Contains l e) (wave.logs s) c)
 
@@ -138,7 +138,7 @@ module _ (W : Parts) (Z : List OrderShape) (live : List Bool) (old new : Moment)
     ]);
   }
 
-module _ (W : Parts) (Z : List OrderShape) (n : ℕ) (m : Moment) (reached : IsReachedMoment W Z n m) (J : List Event) (has : HasLogs m J) where
+module _ (W : Parts) (Z : Stored) (n : ℕ) (m : Moment) (reached : IsReachedMoment W Z n m) (J : List Event) (has : HasLogs m J) where
   -- all logs in one list
   merged : (K : List Event) × IsJournalOf reached.deeds K
   merged = let j = journals-exist W Z (part_of W (start W)) (object_of W (start W)) reached.deeds reached.histories m.parts m.objects reached.gathered in (j.0, j.1)

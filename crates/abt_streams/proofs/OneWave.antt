@@ -3,7 +3,7 @@ use Rattle.std.proofs.Common.{◌≡◌, ℕ, ◌+◌, ◌∙◌, Bool, List, �
 use Rattle.std.proofs.lemmas.List.{append_cancel_left}
 use Rattle.std.proofs.lemmas.List.Sums.{sum_by-append}
 use Rattle.abt_machine.specs.declared.events.Event.{Event}
-use Rattle.abt_machine.specs.declared.operations.OrderShape.{OrderShape}
+use Rattle.abt_machine.specs.Stored.{Stored}
 use Rattle.abt_machine.specs.declared.workload.Parts.{Parts}
 use Rattle.abt_machine.specs.Gives.{SiteGives}
 use Rattle.abt_machine.specs.Outcomes.{steps_in, steps_of}
@@ -27,7 +27,7 @@ use Rattle.abt_laws.proofs.SoundRuns.{runs-are-sound}
 use Rattle.abt_drain.specs.Moments.{LeadTo, Moment}
 use Rattle.abt_waves.specs.Fleets.{IsWave}
 
-module _ (W : Parts) (Z : List OrderShape) (valid : IsValid W) (stored : OrdersStored W Z) (J : List Event) (old new : Moment) (lead : LeadTo W Z J old) (live : List Bool) (wave : IsWave W Z live old new) where
+module _ (W : Parts) (Z : Stored) (valid : IsValid W) (stored : OrdersStored W Z.orders) (J : List Event) (old new : Moment) (lead : LeadTo W Z J old) (live : List Bool) (wave : IsWave W Z live old new) where
   -- what was gathered in the wave, from the state before it
   pub wave-gathered : Gathered (machine_of W Z) (part_of W (last_state W J)) (object_of W (last_state W J)) wave.deeds wave.histories new.parts new.objects
   wave-gathered = record {

@@ -5,7 +5,7 @@ use Rattle.std.specs.List.{All}
 use Rattle.std.proofs.lemmas.List.Elements.{All-append, All-contains}
 use Rattle.abt_machine.specs.declared.events.Event.{Event}
 use Rattle.abt_machine.specs.declared.events.Site.{Site}
-use Rattle.abt_machine.specs.declared.operations.OrderShape.{OrderShape}
+use Rattle.abt_machine.specs.Stored.{Stored}
 use Rattle.abt_machine.specs.declared.workload.Parts.{Parts}
 use Rattle.abt_machine.specs.EventSites.{event_site}
 use Rattle.abt_machine.specs.Stamps.{AllAfter, Shares}
@@ -73,7 +73,7 @@ rise-append W (e ∷ J) es first second above =
       after [] all = behind es (λ f m. m)
       after (f ∷ fs) all = (all.0, after fs all.1)
 
-module _ (W : Parts) (Z : List OrderShape) (old new : Moment) (live : List Bool) (makes : MakesWave W Z live old new) where
+module _ (W : Parts) (Z : Stored) (old new : Moment) (live : List Bool) (makes : MakesWave W Z live old new) where
   abbrev wave : IsWave W Z live old new
   wave = makes.wave
 

@@ -4,7 +4,7 @@ use Rattle.abt_machine.specs.declared.events.Event.{Event}
 use Rattle.abt_machine.specs.declared.events.Outcome.{Outcome}
 use Rattle.abt_machine.specs.declared.events.Site.{Site}
 use Rattle.abt_machine.specs.declared.events.Site.TheVariants as site
-use Rattle.abt_machine.specs.declared.operations.OrderShape.{OrderShape}
+use Rattle.abt_machine.specs.Stored.{Stored}
 use Rattle.abt_machine.specs.declared.workload.Parts.{Parts}
 use Rattle.abt_machine.specs.Numbers.{object_no, pool_no}
 use Rattle.abt_machine.specs.Outcomes.{Spent}
@@ -50,5 +50,5 @@ EndsOnWith W lives n J None = (QuietOn W lives (last_state W J) → ⊥) × ((s 
 -- each run to whose last state these streams and objects belong ended so
 abbrev pub IsOutcomeOnLives : Parts → List Life → ℕ → List StreamValue → ObjectsValue → Option Outcome → Type 0
 IsOutcomeOnLives W lives n streams objects outcome =
-    (Z : List OrderShape) (J : List Event) → OrdersStored W Z → Run W Z J → StandFor W (last_state W J) (parts_held W streams) (object_at objects)
+    (Z : Stored) (J : List Event) → OrdersStored W Z.orders → Run W Z J → StandFor W (last_state W J) (parts_held W streams) (object_at objects)
     → HaveMade W J (steps_made streams) → EndsOnWith W lives n J outcome

@@ -2,7 +2,7 @@
 use Rattle.std.specs.Prelude.{ℕ, ◌≡◌, ◌≤◌, List, [], ◌∷◌, Some, All, Contains, ⊤}
 use Rattle.abt_machine.specs.declared.events.Event.{Event}
 use Rattle.abt_machine.specs.declared.events.Site.{Site}
-use Rattle.abt_machine.specs.declared.operations.OrderShape.{OrderShape}
+use Rattle.abt_machine.specs.Stored.{Stored}
 use Rattle.abt_machine.specs.declared.workload.Parts.{Parts}
 use Rattle.abt_machine.specs.EventSites.{event_site}
 use Rattle.abt_machine.specs.Stamps.{AllAfter}
@@ -32,7 +32,7 @@ pub record HasLogs (m : Moment) (J : List Event) : Type 0 where
   pub only : (e : Event) → Contains J e → Contains (m.logs e.stream.0) e
 
 -- the journal, in these waves, has led to these objects and streams
-pub record HasLedTo (W : Parts) (Z : List OrderShape) (n : ℕ) (lives : List Life) (objects : ObjectsValue) (streams : List StreamValue) (J : List Event) (waves : List Wave) : Type 0 where
+pub record HasLedTo (W : Parts) (Z : Stored) (n : ℕ) (lives : List Life) (objects : ObjectsValue) (streams : List StreamValue) (J : List Event) (waves : List Wave) : Type 0 where
   pub fleet : IsFleet W Z n objects streams
   pub lead : LeadTo W Z J (moment_of W streams objects)
   pub below : All (IsBelow W (moment_of W streams objects)) J

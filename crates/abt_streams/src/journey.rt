@@ -1,13 +1,13 @@
 //! A run on lives between two waves.
 
-ghost use Rattle.std.specs.Prelude.{ℕ, ◌≡◌, ◌≢◌, ◌≤◌, [], List, IfOk, length};
+ghost use Rattle.std.specs.Prelude.{ℕ, ◌≡◌, ◌≢◌, ◌≤◌, [], List, IfOk, Option, length};
 ghost use Rattle.std.specs.List.{All};
 ghost use Rattle.abt_machine.specs.declared.events.Event.{Event};
-ghost use Rattle.abt_machine.specs.declared.operations.OrderShape.{OrderShape};
+ghost use Rattle.abt_machine.specs.Stored.{CallsStored, Stored};
 ghost use Rattle.abt_machine.specs.Rounds.{OrdersStored};
 ghost use Rattle.abt_machine.specs.Runs.{last_state};
 ghost use Rattle.abt_machine.specs.Texts.{shown_units};
-ghost use Rattle.abt_order.specs.Stored.{shapes_of};
+ghost use Rattle.abt_order.specs.Stored.{stored_of};
 ghost use Rattle.abt_report.specs.Pictures.{SaysWordsOf, units_in_rows};
 ghost use Rattle.abt_streams.specs.Lives.{AreLives};
 ghost use Rattle.abt_drain.specs.Crews.{moment_of};
@@ -27,8 +27,9 @@ use abt_drain::{picture, split_logs, start_streams};
 use abt_machine::{Event, Outcome, Want, Workload};
 use abt_order::StoredOrder;
 use abt_report::Picture;
-use abt_stream::{Pace, Stream};
+use abt_stream::Stream;
 use abt_waves::run_wave;
+use abt_work::Work;
 use std::alloc::Global;
 use std::sync::Wait;
 use std::thread::Threads;
@@ -50,7 +51,7 @@ pub(crate) fn start<'w>(
     steps: u64,
 ) -> Result<Journey<'w>, Want>
     requires orders { 2 ≤ length orders.now }
-    ensures { (lives : List Life) → IfOk result (λ j. HasLedTo w.now (shapes_of orders.now) steps lives j.objects j.streams.items j.journal.items j.waves.items) }
+    ensures { (lives : List Life) → IfOk result (λ j. (returns : ℕ → ℕ → ℕ → List ℕ → Option ℕ) → HasLedTo w.now (stored_of orders.now returns) steps lives j.objects j.streams.items j.journal.items j.waves.items) }
 {
     w.known();
     let streams = start_streams(alloc, w, steps)?;
@@ -64,18 +65,19 @@ pub(crate) fn start<'w>(
 }
 
 /// One more wave.
-pub(crate) fn advance<'w, R: Threads + Wait + Sync, P: Pace + Sync>(
+pub(crate) fn advance<'w, R: Threads + Wait + Sync, P: Work + Sync>(
     rt: &'w R,
     alloc: Global,
     w: &'w Workload,
     lives: &[Life],
     orders: &[StoredOrder],
-    pace: &P,
+    work: &P,
     journey: Journey<'w>,
 ) -> Result<Journey<'w>, Want>
     requires lives { AreLives w.now lives.now }
-    requires under_way { (n : ℕ) × HasLedTo w.now (shapes_of orders.now) n lives.now journey.objects journey.streams.items journey.journal.items journey.waves.items }
-    ensures under_way { IfOk result (λ j. (n : ℕ) → HasLedTo w.now (shapes_of orders.now) n lives.now journey.entry.objects journey.entry.streams.items journey.entry.journal.items journey.entry.waves.items → HasLedTo w.now (shapes_of orders.now) n lives.now j.objects j.streams.items j.journal.items j.waves.items) }
+    requires calls { CallsStored w.now (P.count work.now) }
+    requires under_way { (n : ℕ) × HasLedTo w.now (stored_of orders.now (P.returns work.now)) n lives.now journey.objects journey.streams.items journey.journal.items journey.waves.items }
+    ensures under_way { IfOk result (λ j. (n : ℕ) → HasLedTo w.now (stored_of orders.now (P.returns work.now)) n lives.now journey.entry.objects journey.entry.streams.items journey.entry.journal.items journey.entry.waves.items → HasLedTo w.now (stored_of orders.now (P.returns work.now)) n lives.now j.objects j.streams.items j.journal.items j.waves.items) }
     ensures some_wave { IfOk result (λ j. j.waves.items ≢ []) }
 {
     let Journey {
@@ -90,7 +92,7 @@ pub(crate) fn advance<'w, R: Threads + Wait + Sync, P: Pace + Sync>(
         from: journal.len() as u64,
         streams: Numbers::new(numbers),
     })?;
-    let (objects, streams) = run_wave(rt, alloc, w, orders, pace, objects, streams, &flags)?;
+    let (objects, streams) = run_wave(rt, alloc, w, orders, work, objects, streams, &flags)?;
     append_wave(alloc, &mut journal, &streams, &lengths)?;
     Ok(Journey {
         objects,
@@ -101,25 +103,26 @@ pub(crate) fn advance<'w, R: Threads + Wait + Sync, P: Pace + Sync>(
 }
 
 /// Waves, until one leaves nothing to do on these lives, or a stream spent.
-pub(crate) fn go<'w, R: Threads + Wait + Sync, P: Pace + Sync>(
+pub(crate) fn go<'w, R: Threads + Wait + Sync, P: Work + Sync>(
     rt: &'w R,
     alloc: Global,
     w: &'w Workload,
     lives: &[Life],
     orders: &[StoredOrder],
-    pace: &P,
+    work: &P,
     steps: u64,
     journey: Journey<'w>,
 ) -> Result<(Journey<'w>, Outcome), Want>
     requires lives { AreLives w.now lives.now }
-    requires under_way { HasLedTo w.now (shapes_of orders.now) steps lives.now journey.objects journey.streams.items journey.journal.items journey.waves.items }
-    ensures under_way { IfOk result (λ ended. HasLedTo w.now (shapes_of orders.now) steps lives.now ended.0.objects ended.0.streams.items ended.0.journal.items ended.0.waves.items) }
+    requires calls { CallsStored w.now (P.count work.now) }
+    requires under_way { HasLedTo w.now (stored_of orders.now (P.returns work.now)) steps lives.now journey.objects journey.streams.items journey.journal.items journey.waves.items }
+    ensures under_way { IfOk result (λ ended. HasLedTo w.now (stored_of orders.now (P.returns work.now)) steps lives.now ended.0.objects ended.0.streams.items ended.0.journal.items ended.0.waves.items) }
     ensures some_wave { IfOk result (λ ended. ended.0.waves.items ≢ []) }
     ensures ended { IfOk result (λ ended. EndsOn w.now lives.now steps ended.0.journal.items ended.1) }
 {
     let mut journey = journey;
     'waves: for _ in rt.forever() {
-        journey = advance(rt, alloc, w, lives, orders, pace, journey)?;
+        journey = advance(rt, alloc, w, lives, orders, work, journey)?;
         match outcome_on(w, lives, &journey.objects, &journey.streams, steps) {
             Some(outcome) => return Ok((journey, outcome)),
             None => {}
@@ -135,8 +138,8 @@ pub(crate) fn picture_of<'w>(
     objects: Objects<'w>,
     streams: Vec<Stream>,
 ) -> Result<Picture, Want>
-    requires under_way { (Z : List OrderShape) × (n : ℕ) × IsFleet w.now Z n objects streams.items }
-    ensures shown { IfOk result (λ picture. (Z : List OrderShape) (J : List Event) → OrdersStored w.now Z → LeadTo w.now Z J (moment_of w.now streams.items objects.entry) → shown_units w.now (last_state w.now J) ≡ units_in_rows picture) }
+    requires under_way { (Z : Stored) × (n : ℕ) × IsFleet w.now Z n objects streams.items }
+    ensures shown { IfOk result (λ picture. (Z : Stored) (J : List Event) → OrdersStored w.now Z.orders → LeadTo w.now Z J (moment_of w.now streams.items objects.entry) → shown_units w.now (last_state w.now J) ≡ units_in_rows picture) }
     ensures words { IfOk result (λ picture. All (SaysWordsOf w.now) picture) }
 {
     let (_, rest) = split_logs(alloc, streams)?;

@@ -6,7 +6,7 @@ use Rattle.std.proofs.lemmas.List.{length-map}
 use Rattle.std.proofs.lemmas.Option.{get_or_from_slice_get, slice_get-get_or, slice_get-map, slice_get_cases, slice_get_within}
 use Rattle.abt_machine.specs.declared.events.Site.{Site}
 use Rattle.abt_machine.specs.declared.numbers.StreamNo.{StreamNo}
-use Rattle.abt_machine.specs.declared.operations.OrderShape.{OrderShape}
+use Rattle.abt_machine.specs.Stored.{Stored}
 use Rattle.abt_machine.specs.declared.workload.Parts.{Parts}
 use Rattle.abt_machine.specs.Outcomes.{steps_in}
 use Rattle.abt_interleave.specs.Weaving.{TellsLocks}
@@ -67,7 +67,7 @@ module _ {Locks Pass : Type 0} (own : Locks) where
       let l : (live : Bool) × (slice_get flags k ≡ Some live) = within flags k (omega (arith, marked)) in
       (s.0, p.0, l.0, s.1, p.1, some-injective (sym (job-at streams passes flags k s.0 p.0 l.0 s.1 p.1 l.1) ∙ e))
 
-module _ {Locks Lock Pass : Type 0} (IsOf : Locks → Pass → Type 0) (value : Locks → LocksValue Lock Pass) (lock : Site → Lock) (clock : ObjectsValue → Lock → ℕ) (own : Locks) (Z : List OrderShape) (n : ℕ) (streams : List StreamValue)
+module _ {Locks Lock Pass : Type 0} (IsOf : Locks → Pass → Type 0) (value : Locks → LocksValue Lock Pass) (lock : Site → Lock) (clock : ObjectsValue → Lock → ℕ) (own : Locks) (Z : Stored) (n : ℕ) (streams : List StreamValue)
     (is : IsFleetOver lock clock (value own).objects.workload Z n (value own).objects streams) (passes : List Pass) (all : AreAll (IsOf own) (value own).number (value own).objects.workload.streams passes)
     (flags : List Bool) (marked : length flags ≡ (value own).objects.workload.streams) where
   abbrev locks : LocksValue Lock Pass
@@ -90,7 +90,7 @@ module _ {Locks Lock Pass : Type 0} (IsOf : Locks → Pass → Type 0) (value : 
   has-pass k stream pass e f = record {
     fits = (is.streams_are.own k stream e).fits;
     shapes = is.shapes k stream e;
-    few = subst (λ log. length log ≤ 2 ^ 57) (ap log_from e) (is.come.few k);
+    few = subst (λ log. length log ≤ 2 ^ 55) (ap log_from e) (is.come.few k);
     within = subst (λ m. steps_in stream.log ≤ m) (sym (is.streams_are.own k stream e).budget) (subst (λ log. steps_in log ≤ n) (ap log_from e) (is.come.within k));
     own = all-at (IsOf own) passes all.each k pass f;
     number = ap locks.number (sym (get_or_from_slice_get passes k pass pass f)) ∙ (all.in_order k pass (slice_get_within passes k pass f) ∙ sym (is.streams_are.own k stream e).number);

@@ -4,7 +4,7 @@ use Rattle.std.specs.Prelude.{All, IfOk}
 use Rattle.abt_machine.specs.declared.events.Event.{Event}
 use Rattle.abt_machine.specs.declared.events.Outcome.{Outcome}
 use Rattle.abt_machine.specs.declared.events.Site.{Site}
-use Rattle.abt_machine.specs.declared.operations.OrderShape.{OrderShape}
+use Rattle.abt_machine.specs.Stored.{Stored}
 use Rattle.abt_machine.specs.declared.workload.Parts.{Parts}
 use Rattle.abt_machine.specs.Rounds.{OrdersStored}
 use Rattle.abt_machine.specs.Stamps.{Lamport}
@@ -46,7 +46,7 @@ fleet_of W n objects streams = record { workload = W; steps = n; objects = objec
 -- A lock for each site.
 
 -- a crew's streams and objects are a fleet
-pub crew-is-fleet : (W : Parts) (Z : List OrderShape) (n : ℕ) (crew : CrewValue) → IsCrew W Z n crew → IsFleet W Z n crew.objects crew.streams
+pub crew-is-fleet : (W : Parts) (Z : Stored) (n : ℕ) (crew : CrewValue) → IsCrew W Z n crew → IsFleet W Z n crew.objects crew.streams
 crew-is-fleet W Z n crew is = record {
   valid = is.valid;
   stored = is.stored;
@@ -56,7 +56,7 @@ crew-is-fleet W Z n crew is = record {
   reached = is.reached;
 }
 
-pub own-over : (W : Parts) (Z : List OrderShape) (n : ℕ) (objects : ObjectsValue) (streams : List StreamValue) → IsFleet W Z n objects streams → IsFleetOver own_lock clock_at W Z n objects streams
+pub own-over : (W : Parts) (Z : Stored) (n : ℕ) (objects : ObjectsValue) (streams : List StreamValue) → IsFleet W Z n objects streams → IsFleetOver own_lock clock_at W Z n objects streams
 own-over W Z n objects streams is = record {
   valid = is.valid;
   stored = is.stored;
@@ -73,7 +73,7 @@ own-over W Z n objects streams is = record {
   };
 }
 
-pub over-own : (W : Parts) (Z : List OrderShape) (n : ℕ) (objects : ObjectsValue) (streams : List StreamValue) → IsFleetOver own_lock clock_at W Z n objects streams → IsFleet W Z n objects streams
+pub over-own : (W : Parts) (Z : Stored) (n : ℕ) (objects : ObjectsValue) (streams : List StreamValue) → IsFleetOver own_lock clock_at W Z n objects streams → IsFleet W Z n objects streams
 over-own W Z n objects streams is = record {
   valid = is.valid;
   stored = is.stored;
@@ -93,7 +93,7 @@ over-own W Z n objects streams is = record {
   };
 }
 
-pub own-wave : (W : Parts) (Z : List OrderShape) (live : List Bool) (objects held : ObjectsValue) (streams out : List StreamValue) →
+pub own-wave : (W : Parts) (Z : Stored) (live : List Bool) (objects held : ObjectsValue) (streams out : List StreamValue) →
     MakesWaveOver own_lock clock_at W Z live (moment_over own_lock clock_at W streams objects) (moment_over own_lock clock_at W out held) → MakesWave W Z live (moment_of W streams objects) (moment_of W out held)
 own-wave W Z live objects held streams out made = record { wave = made.wave; times = made.times (λ x y e. e) }
 
@@ -103,13 +103,14 @@ if-both (Ok x) P Q F f p q = f x p q
 if-both (Err y) P Q F f p q = tt
 
 -- what ran so with several streams is a run
-pub own-run : (W : Parts) (Z : List OrderShape) (n : ℕ) (J : List Event) (o : Outcome) → 2 ≤ W.streams → IsRunOf W Z n J o → Lamport W J → HasRun W Z n J o
+pub own-run : (W : Parts) (Z : Stored) (n : ℕ) (J : List Event) (o : Outcome) → 2 ≤ W.streams → IsRunOf W Z n J o → Lamport W J → HasRun W Z n J o
 own-run W Z n J o several is lamport = record {
   run = is.run;
   stamped = is.stamped;
   lamport = lamport;
   sound = is.sound;
   lives = is.lives;
+  ends = is.ends;
   within = is.within;
   ended = is.ended;
   flow = is.flow;
@@ -121,7 +122,7 @@ own-run W Z n J o several is lamport = record {
 
 module _ {Lock : Type 0} (lock : Site → Lock) (clock : ObjectsValue → Lock → ℕ) where
   -- the fleet at the start
-  pub fleet-starts : (W : Parts) (Z : List OrderShape) (n : ℕ) (objects : ObjectsValue) (streams : List StreamValue) → IsValid W → OrdersStored W Z → AreStarted W n W.streams streams → ArePlaced W objects →
+  pub fleet-starts : (W : Parts) (Z : Stored) (n : ℕ) (objects : ObjectsValue) (streams : List StreamValue) → IsValid W → OrdersStored W Z.orders → AreStarted W n W.streams streams → ArePlaced W objects →
       ((l : Lock) → clock objects l ≡ 0) → IsFleetOf lock clock W Z n (fleet_of W n objects streams)
   fleet-starts W Z n objects streams valid stored started placed begins = record {
     workload = refl;
@@ -143,20 +144,20 @@ module _ {Lock : Type 0} (lock : Site → Lock) (clock : ObjectsValue → Lock �
   }
 
   -- its own workload and number of steps are those that it is of
-  pub own-fleet : (P : Parts → ℕ → Type 0) (W : Parts) (Z : List OrderShape) (n : ℕ) (fleet : CrewValue) → IsFleetOf lock clock W Z n fleet → P fleet.workload fleet.steps → P W n
+  pub own-fleet : (P : Parts → ℕ → Type 0) (W : Parts) (Z : Stored) (n : ℕ) (fleet : CrewValue) → IsFleetOf lock clock W Z n fleet → P fleet.workload fleet.steps → P W n
   own-fleet P W Z n fleet is p = subst (P W) is.steps (subst (λ V. P V fleet.steps) is.workload p)
 
-  pub fleet-own : (P : Parts → ℕ → Type 0) (W : Parts) (Z : List OrderShape) (n : ℕ) (fleet : CrewValue) → IsFleetOf lock clock W Z n fleet → P W n → P fleet.workload fleet.steps
+  pub fleet-own : (P : Parts → ℕ → Type 0) (W : Parts) (Z : Stored) (n : ℕ) (fleet : CrewValue) → IsFleetOf lock clock W Z n fleet → P W n → P fleet.workload fleet.steps
   fleet-own P W Z n fleet is p = subst (λ V. P V fleet.steps) (sym is.workload) (subst (P W) (sym is.steps) p)
 
   -- if the fleet looks ended, it has ended so
-  pub has-ended : (W : Parts) (Z : List OrderShape) (n : ℕ) (fleet : CrewValue) (is : IsFleetOf lock clock W Z n fleet) (o : Outcome) → EndedWith fleet.workload fleet.steps fleet.streams fleet.objects (Some o) → HasEnded lock clock W Z n fleet o
+  pub has-ended : (W : Parts) (Z : Stored) (n : ℕ) (fleet : CrewValue) (is : IsFleetOf lock clock W Z n fleet) (o : Outcome) → EndedWith fleet.workload fleet.steps fleet.streams fleet.objects (Some o) → HasEnded lock clock W Z n fleet o
   has-ended W Z n fleet is o ended = record {
     fleet_is = is;
     looks = looks-at W n fleet.streams fleet.objects o (own-fleet (λ V k. EndedWith V k fleet.streams fleet.objects (Some o)) W Z n fleet is ended);
   }
 
-  module _ (W : Parts) (Z : List OrderShape) (n : ℕ) (fleet : CrewValue) (is : IsFleetOf lock clock W Z n fleet) where
+  module _ (W : Parts) (Z : Stored) (n : ℕ) (fleet : CrewValue) (is : IsFleetOf lock clock W Z n fleet) where
     -- the logs of its streams are logs
     pub fleet-logs : AreLogs (logs_in fleet.streams)
     fleet-logs = come-logs W Z is.fleet_is.valid is.fleet_is.stored n fleet.streams fleet.objects is.fleet_is.streams_are is.fleet_is.come

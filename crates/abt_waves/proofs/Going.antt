@@ -6,7 +6,7 @@ use Rattle.abt_machine.specs.declared.events.What.{What}
 use Rattle.abt_machine.specs.declared.events.What.TheVariants as what
 use Rattle.abt_machine.specs.declared.numbers.PoolNo.{PoolNo}
 use Rattle.abt_machine.specs.declared.numbers.StreamNo.{StreamNo}
-use Rattle.abt_machine.specs.declared.operations.OrderShape.{OrderShape}
+use Rattle.abt_machine.specs.Stored.{Stored}
 use Rattle.abt_machine.specs.declared.workload.Parts.{Parts}
 use Rattle.abt_machine.specs.Acts.{Act}
 use Rattle.abt_machine.specs.Turns.{Heard, Steps}
@@ -26,7 +26,7 @@ use Rattle.abt_waves.specs.Locks.{HasSeenNothing, LocksValue, Moves}
 use Rattle.abt_waves.specs.Voyages.{HasGone, IsWorn}
 use Rattle.abt_interleave.proofs.Carried.{last-append}
 
-module _ {Lock Pass : Type 0} (locks : LocksValue Lock Pass) (lock : Site → Lock) (Z : List OrderShape) where
+module _ {Lock Pass : Type 0} (locks : LocksValue Lock Pass) (lock : Site → Lock) (Z : Stored) where
   abbrev W : Parts
   W = locks.objects.workload
 
@@ -89,7 +89,7 @@ module _ {Lock Pass : Type 0} (locks : LocksValue Lock Pass) (lock : Site → Lo
     ]
 
     pub turned-gone : (t : Turn) → Turned Heeded W Z old before t new after → new.number ≡ old.number → new.budget ≡ old.budget → HasGone locks lock W Z first new after
-    turned-gone turn.Stepped h number budget = made-gone (what.Step h.0 h.1 h.2) h.3 number budget
+    turned-gone turn.Stepped h number budget = made-gone h.0 h.1 number budget
     turned-gone turn.EmptyRound h number budget = made-gone (what.Miss h.0) h.1 number budget
     turned-gone turn.Moved h number budget = made-gone h.0 h.1 number budget
     turned-gone turn.Spent h number budget = same-gone h.1 h.2
@@ -111,7 +111,7 @@ module _ {Lock Pass : Type 0} (locks : LocksValue Lock Pass) (lock : Site → Lo
 
       -- a log that was shorter than a bound is at most as long after the turn
       pub few-after : (t : Turn) → Turned Heeded W Z old before t new after → length new.log ≤ n
-      few-after turn.Stepped h = grown (what.Step h.0 h.1 h.2) h.3
+      few-after turn.Stepped h = grown h.0 h.1
       few-after turn.EmptyRound h = grown (what.Miss h.0) h.1
       few-after turn.Moved h = grown h.0 h.1
       few-after turn.Spent h = kept h.1
@@ -121,7 +121,7 @@ module _ {Lock Pass : Type 0} (locks : LocksValue Lock Pass) (lock : Site → Lo
 abbrev prepared : StreamValue → SchedulerValue → List PoolNo → Rooms → StreamValue
 prepared s scheduler order rooms = record s { top = record s.top { scheduler = scheduler }; order = order; rooms = rooms }
 
-module _ {Lock Pass : Type 0} (locks : LocksValue Lock Pass) (lock : Site → Lock) (W : Parts) (Z : List OrderShape) where
+module _ {Lock Pass : Type 0} (locks : LocksValue Lock Pass) (lock : Site → Lock) (W : Parts) (Z : Stored) where
   -- what a stream has done does not depend on what it took for a turn
   pub prepared-gone : (first old ready : StreamValue) (pass : Pass) → IsPrepared old ready → HasGone locks lock W Z first old pass → HasGone locks lock W Z first ready pass
   prepared-gone first old ready pass is g = subst (λ s. HasGone locks lock W Z first s pass) (sym is) (same ready.top.scheduler ready.order ready.rooms) where

@@ -5,7 +5,7 @@ use Rattle.std.proofs.lemmas.List.{append-nil, length-append, length-map, map-ap
 use Rattle.std.proofs.lemmas.Option.{slice_get-map, slice_get_cases, slice_get_past, slice_get_within}
 use Rattle.abt_machine.specs.declared.events.Site.{Site}
 use Rattle.abt_machine.specs.declared.numbers.StreamNo.{StreamNo}
-use Rattle.abt_machine.specs.declared.operations.OrderShape.{OrderShape}
+use Rattle.abt_machine.specs.Stored.{Stored}
 use Rattle.abt_machine.specs.declared.workload.Parts.{Parts}
 use Rattle.abt_machine.specs.Outcomes.{steps_in}
 use Rattle.abt_machine.specs.Start.{start}
@@ -42,7 +42,7 @@ use Rattle.abt_interleave.proofs.Carried.{last-append}
 use Rattle.abt_waves.proofs.Lasts.{max-low, prefix-low}
 
 -- what came back of a stream
-pub record Came {Lock Pass : Type 0} (IsOf : Pass → Type 0) (locks : LocksValue Lock Pass) (lock : Site → Lock) (Z : List OrderShape) (live : List Bool) (returned : List (Returned Pass)) (s : ℕ) (stream : StreamValue) : Type 0 where
+pub record Came {Lock Pass : Type 0} (IsOf : Pass → Type 0) (locks : LocksValue Lock Pass) (lock : Site → Lock) (Z : Stored) (live : List Bool) (returned : List (Returned Pass)) (s : ℕ) (stream : StreamValue) : Type 0 where
   pub back : Returned Pass
   pub at : slice_get returned s ≡ Some back
   pub has : HasPass IsOf locks locks.objects.workload Z back.stream back.pass
@@ -56,7 +56,7 @@ none-behind f xs [] e = refl
 none-behind f xs (y ∷ ys) e = absurd (let k : length xs ≡ length (xs ++ map f (y ∷ ys)) = ap length e in let l = length-append xs (map f (y ∷ ys)) in omega arith)
 
 module _ {Lock Pass : Type 0} (IsOf : Pass → Type 0) (locks : LocksValue Lock Pass) (lock : Site → Lock) (clock : ObjectsValue → Lock → ℕ) (tells-locks : TellsLocks Lock) (same : locks.carried ≡ clock locks.objects)
-    (Z : List OrderShape) (n : ℕ) (streams : List StreamValue) (live : List Bool) where
+    (Z : Stored) (n : ℕ) (streams : List StreamValue) (live : List Bool) where
   abbrev W : Parts
   W = locks.objects.workload
 
@@ -170,9 +170,9 @@ module _ {Lock Pass : Type 0} (IsOf : Pass → Type 0) (locks : LocksValue Lock 
         last-append (λ (d : StreamDeed). d.stamp) 0 (come.deeds s) (came s stream e).gone.deeds
         ∙ (ap (λ t. last_from t (deed_stamps (came s stream e).gone.deeds)) had ∙ (sym (came s stream e).gone.clock ∙ sym (ap stream_clock (stream-back s stream e))))
 
-    few-by : (s : ℕ) (o : Option StreamValue) → slice_get streams s ≡ o → length (now.logs s) ≤ 2 ^ 57
-    few-by s None e = subst (λ es. length es ≤ 2 ^ 57) (sym (ap log_from (none-back s e))) (omega arith)
-    few-by s (Some stream) e = subst (λ es. length es ≤ 2 ^ 57) (sym (ap log_from (stream-back s stream e))) (came s stream e).has.few
+    few-by : (s : ℕ) (o : Option StreamValue) → slice_get streams s ≡ o → length (now.logs s) ≤ 2 ^ 55
+    few-by s None e = subst (λ es. length es ≤ 2 ^ 55) (sym (ap log_from (none-back s e))) (omega arith)
+    few-by s (Some stream) e = subst (λ es. length es ≤ 2 ^ 55) (sym (ap log_from (stream-back s stream e))) (came s stream e).has.few
 
     within-by : (s : ℕ) (o : Option StreamValue) → slice_get streams s ≡ o → made_at now s ≤ n
     within-by s None e = subst (λ es. steps_in es ≤ n) (sym (ap log_from (none-back s e))) (omega arith)

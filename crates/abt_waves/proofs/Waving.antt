@@ -3,7 +3,7 @@ use Rattle.std.proofs.Common.{◌≡◌, ◌≢◌, ℕ, ◌<◌, Bool, false, L
 use Rattle.std.specs.Prelude.{slice_index_or}
 use Rattle.std.specs.List.{All}
 use Rattle.abt_machine.specs.declared.events.Site.{Site}
-use Rattle.abt_machine.specs.declared.operations.OrderShape.{OrderShape}
+use Rattle.abt_machine.specs.Stored.{Stored}
 use Rattle.abt_machine.specs.declared.workload.Parts.{Parts}
 use Rattle.abt_machine.specs.Valid.{IsValid}
 use Rattle.abt_interleave.specs.Weaving.{TellsLocks}
@@ -21,7 +21,7 @@ use Rattle.abt_waves.proofs.Departing.{came, may-go, passes-back, passes-many, r
 use Rattle.abt_waves.proofs.Rejoining.{Came, makes-wave, rejoined, stays}
 
 module _ {Locks Lock Pass : Type 0} (IsOf : Locks → Pass → Type 0) (value : Locks → LocksValue Lock Pass) (lock : Site → Lock) (clock : ObjectsValue → Lock → ℕ) (tells : TellsLocks Lock)
-    (W : Parts) (Z : List OrderShape) (n : ℕ) (objects : ObjectsValue) (streams : List StreamValue) (is : IsFleetOver lock clock W Z n objects streams)
+    (W : Parts) (Z : Stored) (n : ℕ) (objects : ObjectsValue) (streams : List StreamValue) (is : IsFleetOver lock clock W Z n objects streams)
     (own : Locks) (opening : (value own).objects ≡ objects) (clocks : (value own).carried ≡ clock objects) where
   abbrev locks : LocksValue Lock Pass
   locks = value own

@@ -1,7 +1,7 @@
 -- The streams and objects of a workload between waves, and what a wave makes of them.
 use Rattle.std.specs.Prelude.{ℕ, ◌≡◌, ◌≤◌, ◌++◌, Bool, false, List, [], Some, slice_get}
 use Rattle.abt_machine.specs.declared.events.Site.{Site}
-use Rattle.abt_machine.specs.declared.operations.OrderShape.{OrderShape}
+use Rattle.abt_machine.specs.Stored.{Stored}
 use Rattle.abt_machine.specs.declared.workload.Parts.{Parts}
 use Rattle.abt_machine.specs.Rounds.{OrdersStored}
 use Rattle.abt_machine.specs.Valid.{IsValid}
@@ -21,9 +21,9 @@ use Rattle.abt_waves.specs.Locks.{TellsSites}
 
 -- the streams of a valid W with these stored orders, which may make n steps each, and the objects that they share, at a moment that
 -- they have reached from the start
-pub record IsFleet (W : Parts) (Z : List OrderShape) (n : ℕ) (objects : ObjectsValue) (streams : List StreamValue) : Type 0 where
+pub record IsFleet (W : Parts) (Z : Stored) (n : ℕ) (objects : ObjectsValue) (streams : List StreamValue) : Type 0 where
   pub valid : IsValid W
-  pub stored : OrdersStored W Z
+  pub stored : OrdersStored W Z.orders
   pub workload : objects.workload ≡ W
   pub streams_are : AreStreams W n streams
   pub shapes : (s : ℕ) (stream : StreamValue) → slice_get streams s ≡ Some stream → FitsShapes W Z stream
@@ -31,7 +31,7 @@ pub record IsFleet (W : Parts) (Z : List OrderShape) (n : ℕ) (objects : Object
 
 -- a wave leads from one moment to the other: what each stream did in it, and what each site was asked. Stamps rise from the clocks
 -- before it. A stream that is not live did nothing.
-pub record IsWave (W : Parts) (Z : List OrderShape) (live : List Bool) (old new : Moment) : Type 0 where
+pub record IsWave (W : Parts) (Z : Stored) (live : List Bool) (old new : Moment) : Type 0 where
   pub deeds : ℕ → List StreamDeed
   pub histories : Site → List SiteEntry
   pub gathered : Gathered (machine_of W Z) old.parts old.objects deeds histories new.parts new.objects
@@ -42,7 +42,7 @@ pub record IsWave (W : Parts) (Z : List OrderShape) (live : List Bool) (old new 
   pub clocks : (s : ℕ) → new.clocks s ≡ last_from (old.clocks s) (deed_stamps (deeds s))
 
 -- the same, if each site's clock becomes its last stamp
-pub record MakesWave (W : Parts) (Z : List OrderShape) (live : List Bool) (old new : Moment) : Type 0 where
+pub record MakesWave (W : Parts) (Z : Stored) (live : List Bool) (old new : Moment) : Type 0 where
   pub wave : IsWave W Z live old new
   pub times : (x : Site) → new.times x ≡ last_from (old.times x) (entry_stamps (wave.histories x))
 
@@ -50,15 +50,15 @@ pub record MakesWave (W : Parts) (Z : List OrderShape) (live : List Bool) (old n
 module _ {Lock : Type 0} (lock : Site → Lock) (clock : ObjectsValue → Lock → ℕ) where
   -- no site has a later stamp than its lock's clock, and each of these is 0 or the stamp of a deed. If each site has a lock of its own
   -- stamps are Lamport's, and its last one is its lock's clock.
-  pub record HaveClocks (W : Parts) (Z : List OrderShape) (deeds : ℕ → List StreamDeed) (histories : Site → List SiteEntry) (objects : ObjectsValue) : Type 0 where
+  pub record HaveClocks (W : Parts) (Z : Stored) (deeds : ℕ → List StreamDeed) (histories : Site → List SiteEntry) (objects : ObjectsValue) : Type 0 where
     pub above : (x : Site) → last_stamp (entry_stamps (histories x)) ≤ clock objects (lock x)
     pub clocks : (l : Lock) → IsClock (machine_of W Z) deeds (clock objects l)
     pub timed : TellsSites lock → (s : ℕ) → AllTimed histories 0 (deeds s)
     pub times : TellsSites lock → (x : Site) → last_stamp (entry_stamps (histories x)) ≡ clock objects (lock x)
 
-  pub record IsFleetOver (W : Parts) (Z : List OrderShape) (n : ℕ) (objects : ObjectsValue) (streams : List StreamValue) : Type 0 where
+  pub record IsFleetOver (W : Parts) (Z : Stored) (n : ℕ) (objects : ObjectsValue) (streams : List StreamValue) : Type 0 where
     pub valid : IsValid W
-    pub stored : OrdersStored W Z
+    pub stored : OrdersStored W Z.orders
     pub workload : objects.workload ≡ W
     pub streams_are : AreStreams W n streams
     pub shapes : (s : ℕ) (stream : StreamValue) → slice_get streams s ≡ Some stream → FitsShapes W Z stream
@@ -75,6 +75,6 @@ module _ {Lock : Type 0} (lock : Site → Lock) (clock : ObjectsValue → Lock �
     times = λ x. clock objects (lock x);
   }
 
-  pub record MakesWaveOver (W : Parts) (Z : List OrderShape) (live : List Bool) (old new : Moment) : Type 0 where
+  pub record MakesWaveOver (W : Parts) (Z : Stored) (live : List Bool) (old new : Moment) : Type 0 where
     pub wave : IsWave W Z live old new
     pub times : TellsSites lock → (x : Site) → new.times x ≡ last_from (old.times x) (entry_stamps (wave.histories x))

@@ -1,7 +1,7 @@
 -- The streams of a wave with their passes.
 use Rattle.std.specs.Prelude.{◌≡◌, Bool, false, List, [], ◌∷◌}
 use Rattle.abt_machine.specs.declared.events.Site.{Site}
-use Rattle.abt_machine.specs.declared.operations.OrderShape.{OrderShape}
+use Rattle.abt_machine.specs.Stored.{Stored}
 use Rattle.abt_machine.specs.declared.workload.Parts.{Parts}
 use Rattle.abt_stream.specs.Streams.{StreamValue}
 use Rattle.abt_waves.specs.declared.voyages.Returned.{Returned}
@@ -25,13 +25,13 @@ jobs_of locks (stream ∷ streams) (pass ∷ passes) (live ∷ flags) = record {
 
 module _ {Locks Lock Pass : Type 0} (IsOf : Locks → Pass → Type 0) (value : Locks → LocksValue Lock Pass) where
   -- a stream of W, whose pass has seen no call
-  pub record MayGo (W : Parts) (Z : List OrderShape) (job : JobValue Locks Pass) : Type 0 where
+  pub record MayGo (W : Parts) (Z : Stored) (job : JobValue Locks Pass) : Type 0 where
     pub workload : (value job.locks).objects.workload ≡ W
     pub has : HasPass (IsOf job.locks) (value job.locks) W Z job.stream job.pass
     pub fresh : HasSeenNothing (value job.locks) job.pass
 
   -- what came of it in the wave: a stream that is not live is as it was
-  pub record HasReturned (lock : Site → Lock) (W : Parts) (Z : List OrderShape) (job : JobValue Locks Pass) (back : Returned Pass) : Type 0 where
+  pub record HasReturned (lock : Site → Lock) (W : Parts) (Z : Stored) (job : JobValue Locks Pass) (back : Returned Pass) : Type 0 where
     pub has : HasPass (IsOf job.locks) (value job.locks) W Z back.stream back.pass
     pub gone : HasGone (value job.locks) lock W Z job.stream back.stream back.pass
     pub stops : StopsBy (value job.locks) lock back.stream back.pass back.stop

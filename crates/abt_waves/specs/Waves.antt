@@ -2,7 +2,7 @@
 use Rattle.std.specs.Prelude.{ℕ, ◌≡◌, List, map}
 use Rattle.abt_machine.specs.declared.events.Outcome.{Outcome}
 use Rattle.abt_machine.specs.declared.events.Site.{Site}
-use Rattle.abt_machine.specs.declared.operations.OrderShape.{OrderShape}
+use Rattle.abt_machine.specs.Stored.{Stored}
 use Rattle.abt_machine.specs.declared.workload.Parts.{Parts}
 use Rattle.abt_commons.specs.Held.{ObjectsValue}
 use Rattle.abt_outcomes.specs.Values.{LooksAs}
@@ -30,12 +30,12 @@ module _ {Pass : Type 0} where
     pub stops_are : stops ≡ map stop_in returned
 
 -- these are streams of W, which may make n steps each, with the objects that they share over these locks
-pub record IsFleetOf {Lock : Type 0} (lock : Site → Lock) (clock : ObjectsValue → Lock → ℕ) (W : Parts) (Z : List OrderShape) (n : ℕ) (fleet : CrewValue) : Type 0 where
+pub record IsFleetOf {Lock : Type 0} (lock : Site → Lock) (clock : ObjectsValue → Lock → ℕ) (W : Parts) (Z : Stored) (n : ℕ) (fleet : CrewValue) : Type 0 where
   pub workload : fleet.workload ≡ W
   pub steps : fleet.steps ≡ n
   pub fleet_is : IsFleetOver lock clock W Z n fleet.objects fleet.streams
 
 -- the last wave ended the run so
-pub record HasEnded {Lock : Type 0} (lock : Site → Lock) (clock : ObjectsValue → Lock → ℕ) (W : Parts) (Z : List OrderShape) (n : ℕ) (fleet : CrewValue) (o : Outcome) : Type 0 where
+pub record HasEnded {Lock : Type 0} (lock : Site → Lock) (clock : ObjectsValue → Lock → ℕ) (W : Parts) (Z : Stored) (n : ℕ) (fleet : CrewValue) (o : Outcome) : Type 0 where
   pub fleet_is : IsFleetOf lock clock W Z n fleet
   pub looks : LooksAs W n (moment_of W fleet.streams fleet.objects).parts (moment_of W fleet.streams fleet.objects).objects (made_at (moment_of W fleet.streams fleet.objects)) o

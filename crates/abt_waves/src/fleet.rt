@@ -1,23 +1,26 @@
 //! All streams of a workload, and the objects that they share, between waves.
 
-ghost use Rattle.std.specs.Prelude.{◌≡◌, ◌≤◌, IfOk, List, length};
+ghost use Rattle.std.specs.Prelude.{◌≡◌, ◌≤◌, ℕ, IfOk, List, Option, length};
 ghost use Rattle.abt_machine.specs.declared.events.Outcome.{Outcome};
-ghost use Rattle.abt_machine.specs.declared.operations.OrderShape.{OrderShape};
+ghost use Rattle.abt_machine.specs.Stored.{CallsStored, Stored};
 ghost use Rattle.abt_machine.specs.Stamps.{Lamport};
 ghost use Rattle.abt_report.specs.Pictures.{IsPictureOf};
 ghost use Rattle.abt_drain.specs.Looks.{AreStreams, EndedWith};
 ghost use Rattle.abt_drain.specs.Runs.{IsRunOf};
 ghost use Rattle.abt_waves.specs.Locks.{TellsSites};
+ghost use Rattle.abt_waves.specs.Storing.{stored_by};
 ghost use Rattle.abt_waves.specs.Waves.{HasEnded, IsFleetOf};
 
 use crate::locks::{Locked, Locking, Orders};
+use crate::watch::Starts;
 use crate::wave::sail;
 use abt_commons::Objects;
 use abt_drain::{outcome, picture, split_logs, start_streams};
 use abt_machine::{Journal, Outcome, Want, Workload};
 use abt_merge::merge;
 use abt_report::Picture;
-use abt_stream::{Pace, Stream};
+use abt_stream::Stream;
+use abt_work::Work;
 use std::alloc::Global;
 use std::marker::Model;
 use std::sync::Wait;
@@ -50,7 +53,7 @@ impl<'w> Fleet<'w> {
     ) -> Result<Fleet<'w>, Want>
         requires orders { 2 ≤ length (O.shapes orders.now) }
         ensures workload { IfOk result (λ fleet. fleet.workload ≡ w.now) }
-        ensures fleet { IfOk result (IsFleetOf L.lock L.clock w.now (O.shapes orders.now) steps) }
+        ensures fleet { IfOk result (λ fleet. (returns : ℕ → ℕ → ℕ → List ℕ → Option ℕ) → IsFleetOf L.lock L.clock w.now (stored_by (O.shapes orders.now) returns) steps fleet) }
     {
         w.known();
         let streams = start_streams(alloc, w, steps)?;
@@ -66,7 +69,7 @@ impl<'w> Fleet<'w> {
     // A wave over all streams.
     fn wave<
         R: Threads + Wait + Sync,
-        P: Pace + Sync,
+        P: Work + Sync,
         O: Orders + Sync,
         X: Send + Drop,
         L: Locking<'w, R> + Locked<Pass = X> + Sync + Drop,
@@ -75,12 +78,14 @@ impl<'w> Fleet<'w> {
         rt: &'w R,
         alloc: Global,
         orders: &O,
-        pace: &P,
+        work: &P,
         live: &[bool],
+        starts: &Starts,
     ) -> Result<Fleet<'w>, Want>
-        requires fleet { IsFleetOf L.lock L.clock self.workload (O.shapes orders.now) self.steps self }
+        requires calls { CallsStored self.workload (P.count work.now) }
+        requires fleet { IsFleetOf L.lock L.clock self.workload (stored_by (O.shapes orders.now) (P.returns work.now)) self.steps self }
         requires flags { length live.now ≡ self.workload.streams }
-        ensures fleet { IfOk result (IsFleetOf L.lock L.clock self.entry.workload (O.shapes orders.now) self.entry.steps) }
+        ensures fleet { IfOk result (IsFleetOf L.lock L.clock self.entry.workload (stored_by (O.shapes orders.now) (P.returns work.now)) self.entry.steps) }
     {
         let Fleet {
             w,
@@ -89,7 +94,7 @@ impl<'w> Fleet<'w> {
             streams,
         } = self;
         let (objects, streams) = sail::<R, P, O, X, L>(
-            rt, alloc, w, orders, pace, objects, streams, live,
+            rt, alloc, w, orders, work, objects, streams, live, starts,
         )?;
         Ok(Fleet {
             w,
@@ -111,18 +116,20 @@ impl<'w> Fleet<'w> {
     /// Waves, until one leaves nothing to do or a stream spent.
     pub(crate) fn run<
         R: Threads + Wait + Sync,
-        P: Pace + Sync,
+        P: Work + Sync,
         O: Orders + Sync,
         X: Send + Drop,
         L: Locking<'w, R> + Locked<Pass = X> + Sync + Drop,
-    >(self, rt: &'w R, alloc: Global, orders: &O, pace: &P) -> Result<(Fleet<'w>, Outcome), Want>
-        requires fleet { IsFleetOf L.lock L.clock self.workload (O.shapes orders.now) self.steps self }
-        ensures { IfOk result (λ ended. HasEnded L.lock L.clock self.entry.workload (O.shapes orders.now) self.entry.steps ended.0 ended.1) }
+    >(self, rt: &'w R, alloc: Global, orders: &O, work: &P) -> Result<(Fleet<'w>, Outcome), Want>
+        requires calls { CallsStored self.workload (P.count work.now) }
+        requires fleet { IsFleetOf L.lock L.clock self.workload (stored_by (O.shapes orders.now) (P.returns work.now)) self.steps self }
+        ensures { IfOk result (λ ended. HasEnded L.lock L.clock self.entry.workload (stored_by (O.shapes orders.now) (P.returns work.now)) self.entry.steps ended.0 ended.1) }
     {
         let live = vec![in alloc; true; self.w.streams() as usize]?;
+        let starts = Starts::new();
         let mut fleet = self;
         'waves: for _ in rt.forever() {
-            fleet = fleet.wave::<R, P, O, X, L>(rt, alloc, orders, pace, &live)?;
+            fleet = fleet.wave::<R, P, O, X, L>(rt, alloc, orders, work, &live, &starts)?;
             match fleet.ended() {
                 Some(outcome) => return Ok((fleet, outcome)),
                 None => {}
@@ -133,8 +140,8 @@ impl<'w> Fleet<'w> {
 
     /// The journal of all events, and where each unit is.
     pub(crate) fn end<R, L: Locking<'w, R>>(self, alloc: Global) -> Result<(Journal, Picture), Want>
-        requires fleet { (Z : List OrderShape) × IsFleetOf L.lock L.clock self.workload Z self.steps self }
-        ensures run { IfOk result (λ ended. (Z : List OrderShape) (o : Outcome) → HasEnded L.lock L.clock self.entry.workload Z self.entry.steps self.entry o → IsRunOf self.entry.workload Z self.entry.steps ended.0 o) }
+        requires fleet { (Z : Stored) × IsFleetOf L.lock L.clock self.workload Z self.steps self }
+        ensures run { IfOk result (λ ended. (Z : Stored) (o : Outcome) → HasEnded L.lock L.clock self.entry.workload Z self.entry.steps self.entry o → IsRunOf self.entry.workload Z self.entry.steps ended.0 o) }
         ensures lamport { IfOk result (λ ended. TellsSites L.lock → Lamport self.entry.workload ended.0) }
         ensures picture { IfOk result (λ ended. IsPictureOf self.entry.workload ended.0 ended.1) }
     {

@@ -1,6 +1,7 @@
 //! All streams of a workload, each on a thread of its own.
 #![tactic(auto)]
 
+mod calling;
 mod fleet;
 mod locks;
 mod run;

@@ -1,9 +1,10 @@
 //! Objects behind locks, whichever the locks are, and stored orders.
 
-ghost use Rattle.std.specs.Prelude.{ℕ, ◌≡◌, ◌≤◌, IfOk, List, OnErr, OnOk};
+ghost use Rattle.std.specs.Prelude.{ℕ, ◌≡◌, ◌≤◌, IfOk, List, OnErr, OnOk, Option};
 ghost use Rattle.std.specs.List.{All};
 ghost use Rattle.abt_machine.specs.declared.events.Site.{Site};
 ghost use Rattle.abt_machine.specs.declared.operations.OrderShape.{OrderShape};
+ghost use Rattle.abt_machine.specs.Stored.{CallsStored, Stored};
 ghost use Rattle.abt_machine.specs.declared.workload.Parts.{Parts};
 ghost use Rattle.abt_machine.specs.Rounds.{OrdersStored};
 ghost use Rattle.abt_machine.specs.Valid.{IsValid};
@@ -17,11 +18,13 @@ ghost use Rattle.abt_stream.specs.Streams.{FitsShapes, FitsStream};
 ghost use Rattle.abt_stream.specs.Turned.{IsPrepared, IsReady, Turned};
 ghost use Rattle.abt_waves.specs.Locks.{AreClosed, HasSeenNothing, LocksValue, Moves};
 ghost use Rattle.abt_waves.specs.SplitLocks.{locks_of_split};
+ghost use Rattle.abt_waves.specs.Storing.{stored_by};
 
 use abt_commons::{Commons, Objects, Split, SplitPass};
 use abt_machine::{Want, Workload};
 use abt_order::StoredOrder;
-use abt_stream::{Pace, Stream, Turn};
+use abt_stream::{Stream, Turn};
+use abt_work::Work;
 use std::alloc::Global;
 use std::sync::Wait;
 
@@ -46,22 +49,23 @@ pub trait Locked {
     ghost is_of: { Self → Self.Pass → Type 0 };
 
     /// One turn of a stream.
-    fn turn<P: Pace>(
+    fn turn<P: Work>(
         &self,
         stream: &mut Stream,
         pass: &mut Self::Pass,
         w: &Workload,
-        pace: &P,
+        work: &P,
     ) -> Turn
         requires pass { is_of self.now pass.old }
         requires w { (locks self.now).objects.workload ≡ w.now }
         requires fits { FitsStream w.now stream.old }
         requires ready { IsReady w.now stream.old }
-        ensures turned { (Z : List OrderShape) → FitsShapes w.now Z stream.old → Turned (Heeds (Moves (locks self.now) lock) (locks self.now).objects.workload) w.now Z stream.old pass.old result stream.new pass.new }
+        requires calls { CallsStored w.now (P.count work.now) }
+        ensures turned { (Z : Stored) → FitsShapes w.now Z stream.old → Z.returns ≡ P.returns work.now → Turned (Heeds (Moves (locks self.now) lock) (locks self.now).objects.workload) w.now Z stream.old pass.old result stream.new pass.new }
         ensures stream { stream.new.number ≡ stream.old.number }
         ensures budget { stream.new.budget ≡ stream.old.budget }
         ensures fits { FitsStream w.now stream.new }
-        ensures shapes { (Z : List OrderShape) → FitsShapes w.now Z stream.old → FitsShapes w.now Z stream.new }
+        ensures shapes { (Z : Stored) → FitsShapes w.now Z stream.old → FitsShapes w.now Z stream.new }
         ensures pass { is_of self.now pass.new }
         ensures number { (locks self.now).number pass.new ≡ (locks self.now).number pass.old };
 
@@ -104,7 +108,7 @@ pub trait Orders {
         requires fits { FitsStream w.now stream.old }
         ensures ready { OnOk result (IsReady w.now stream.new) }
         ensures fits { FitsStream w.now stream.new }
-        ensures shapes { FitsShapes w.now (shapes self.now) stream.old → FitsShapes w.now (shapes self.now) stream.new }
+        ensures shapes { (returns : ℕ → ℕ → ℕ → List ℕ → Option ℕ) → FitsShapes w.now (stored_by (shapes self.now) returns) stream.old → FitsShapes w.now (stored_by (shapes self.now) returns) stream.new }
         ensures same { OnOk result (IsPrepared stream.old stream.new) }
         ensures err { OnErr result (stream.new ≡ record stream.old { rooms = stream.new.rooms }) };
 }
@@ -145,14 +149,14 @@ impl<'w, R: Wait> Locked for Split<'w, R> {
 
     ghost begins = { split_begins };
 
-    fn turn<P: Pace>(
+    fn turn<P: Work>(
         &self,
         stream: &mut Stream,
         pass: &mut SplitPass<'w>,
         w: &Workload,
-        pace: &P,
+        work: &P,
     ) -> Turn {
-        stream.turn(self, pass, w, pace)
+        stream.turn(self, pass, w, work)
     }
 }
 

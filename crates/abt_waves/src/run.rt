@@ -2,23 +2,26 @@
 
 ghost use Rattle.std.specs.Prelude.{◌≤◌, IfOk, length};
 ghost use Rattle.abt_machine.specs.Stamps.{Lamport};
-ghost use Rattle.abt_order.specs.Stored.{shapes_of};
+ghost use Rattle.abt_machine.specs.Stored.{CallsStored};
+ghost use Rattle.abt_order.specs.Stored.{stored_of};
 ghost use Rattle.abt_report.specs.Pictures.{IsPictureOf};
 ghost use Rattle.abt_drain.specs.Runs.{HasRun, IsRunOf};
 ghost use Rattle.abt_waves.specs.Locks.{TellsSites};
+ghost use Rattle.abt_waves.specs.Storing.{stored_by};
 
 use crate::fleet::Fleet;
 use crate::locks::{Locked, Locking, Orders, StoredOrders};
 use abt_commons::{Split, SplitPass};
-use abt_drain::{Run, drain_at_pace};
+use abt_drain::{Run, drain_with};
 use abt_machine::{Want, Workload};
 use abt_order::StoredOrder;
-use abt_stream::Pace;
+use abt_work::Work;
 use std::alloc::Global;
 use std::sync::Wait;
 use std::thread::Threads;
 
-/// Runs a workload whose streams may make `steps` steps each; `pace` is called before each step. In a wave each stream makes
+/// Runs a workload whose streams may make `steps` steps each; `work` has the functions that its units call, and is called
+/// before each step. In a wave each stream makes
 /// turns on a thread of its own, over objects that have a lock each, until it is spent, or finds nothing while no other stream
 /// has work, or finds nothing too often in a row. Waves go on until one leaves nothing to do or a stream spent. If no thread can be
 /// started the caller's does its work. A workload with one stream runs on the caller's thread, without a lock.
@@ -26,27 +29,28 @@ use std::thread::Threads;
 /// # Errors
 ///
 /// Out of memory. If a stream lacks memory, the wave that it is in is the last.
-pub fn run_streams<'w, R: Threads + Wait + Sync, P: Pace + Sync>(
+pub fn run_streams<'w, R: Threads + Wait + Sync, P: Work + Sync>(
     rt: &'w R,
     alloc: Global,
     w: &'w Workload,
     orders: &[StoredOrder],
-    pace: &P,
+    work: &P,
     steps: u64,
 ) -> Result<Run, Want>
     requires orders { 2 ≤ length orders.now }
-    ensures run { IfOk result (λ run. HasRun w.now (shapes_of orders.now) steps run.journal run.outcome) }
+    requires calls { CallsStored w.now (P.count work.now) }
+    ensures run { IfOk result (λ run. HasRun w.now (stored_of orders.now (P.returns work.now)) steps run.journal run.outcome) }
     ensures picture { IfOk result (λ run. IsPictureOf w.now run.journal run.picture) }
 {
     if w.streams() == 1 {
-        return drain_at_pace(alloc, w, orders, pace, steps);
+        return drain_with(alloc, w, orders, work, steps);
     }
     run_over::<R, P, StoredOrders<'_>, SplitPass<'w>, Split<'w, R>>(
         rt,
         alloc,
         w,
         &StoredOrders { orders },
-        pace,
+        work,
         steps,
     )
 }
@@ -55,18 +59,19 @@ pub fn run_streams<'w, R: Threads + Wait + Sync, P: Pace + Sync>(
 pub fn run_over<
     'w,
     R: Threads + Wait + Sync,
-    P: Pace + Sync,
+    P: Work + Sync,
     O: Orders + Sync,
     X: Send + Drop,
     L: Locking<'w, R> + Locked<Pass = X> + Sync + Drop,
->(rt: &'w R, alloc: Global, w: &'w Workload, orders: &O, pace: &P, steps: u64) -> Result<Run, Want>
+>(rt: &'w R, alloc: Global, w: &'w Workload, orders: &O, work: &P, steps: u64) -> Result<Run, Want>
     requires orders { 2 ≤ length (O.shapes orders.now) }
-    ensures run { IfOk result (λ run. IsRunOf w.now (O.shapes orders.now) steps run.journal run.outcome) }
+    requires calls { CallsStored w.now (P.count work.now) }
+    ensures run { IfOk result (λ run. IsRunOf w.now (stored_by (O.shapes orders.now) (P.returns work.now)) steps run.journal run.outcome) }
     ensures lamport { IfOk result (λ run. TellsSites L.lock → Lamport w.now run.journal) }
     ensures picture { IfOk result (λ run. IsPictureOf w.now run.journal run.picture) }
 {
     let fleet = Fleet::new::<R, O, L>(alloc, w, orders, steps)?;
-    let (fleet, outcome) = fleet.run::<R, P, O, X, L>(rt, alloc, orders, pace)?;
+    let (fleet, outcome) = fleet.run::<R, P, O, X, L>(rt, alloc, orders, work)?;
     let (journal, picture) = fleet.end::<R, L>(alloc)?;
     Ok(Run {
         journal,

@@ -3,14 +3,17 @@
 ghost use Rattle.std.specs.Prelude.{ℕ, ◌≡◌, ◌<◌, IfOk, length, slice_index_or};
 ghost use Rattle.std.specs.List.{All};
 ghost use Rattle.abt_machine.specs.Rounds.{OrdersStored};
+ghost use Rattle.abt_machine.specs.Stored.{CallsStored};
 ghost use Rattle.abt_waves.specs.Jobs.{HasReturned, JobValue, MayGo, jobs_of};
+ghost use Rattle.abt_waves.specs.Storing.{stored_by};
 ghost use Rattle.abt_waves.specs.declared.voyages.Returned.{Returned};
 
 use crate::locks::{Locked, Orders};
 use crate::voyages::{Job, Returned, voyage};
 use crate::watch::Watch;
 use abt_machine::{Want, Workload};
-use abt_stream::{Pace, Stream};
+use abt_stream::Stream;
+use abt_work::Work;
 use std::alloc::{AllocError, Global};
 use std::sync::Wait;
 use std::thread;
@@ -49,7 +52,7 @@ pub(crate) fn jobs<'a, C, X: Drop>(
 pub(crate) fn run_jobs<
     'a,
     R: Threads + Wait + Sync,
-    P: Pace + Sync,
+    P: Work + Sync,
     O: Orders + Sync,
     X: Send + Drop,
     C: Locked<Pass = X> + Sync,
@@ -57,21 +60,22 @@ pub(crate) fn run_jobs<
     rt: &R,
     w: &Workload,
     orders: &O,
-    pace: &P,
+    work: &P,
     watch: &Watch,
     jobs: Vec<Job<'a, C, X>>,
 ) -> Result<Vec<Returned<X>>, AllocError>
     requires stored { OrdersStored w.now (O.shapes orders.now) }
-    requires may { All (MayGo C.is_of C.locks w.now (O.shapes orders.now)) jobs.items }
+    requires calls { CallsStored w.now (P.count work.now) }
+    requires may { All (MayGo C.is_of C.locks w.now (stored_by (O.shapes orders.now) (P.returns work.now))) jobs.items }
     ensures many { IfOk result (λ returned. length returned.items ≡ length jobs.entry.items) }
-    ensures each { IfOk result (λ returned. (i : ℕ) (job : JobValue C X) (back : Returned X) → i < length jobs.entry.items → HasReturned C.is_of C.locks C.lock w.now (O.shapes orders.now) (slice_index_or jobs.entry.items i job) (slice_index_or returned.items i back)) }
+    ensures each { IfOk result (λ returned. (i : ℕ) (job : JobValue C X) (back : Returned X) → i < length jobs.entry.items → HasReturned C.is_of C.locks C.lock w.now (stored_by (O.shapes orders.now) (P.returns work.now)) (slice_index_or jobs.entry.items i job) (slice_index_or returned.items i back)) }
 {
     thread::map_vec(
         rt,
         jobs,
         &|job|
-            requires { OrdersStored w.now (O.shapes orders.now) × MayGo C.is_of C.locks w.now (O.shapes orders.now) job }
-            ensures { HasReturned C.is_of C.locks C.lock w.entry.now (O.shapes orders.entry.now) job.entry result }
-        { voyage(rt, w, orders, pace, watch, job) },
+            requires { OrdersStored w.now (O.shapes orders.now) × CallsStored w.now (P.count work.now) × MayGo C.is_of C.locks w.now (stored_by (O.shapes orders.now) (P.returns work.now)) job }
+            ensures { HasReturned C.is_of C.locks C.lock w.entry.now (stored_by (O.shapes orders.entry.now) (P.returns work.entry.now)) job.entry result }
+        { voyage(rt, w, orders, work, watch, job) },
     )
 }

@@ -2,17 +2,21 @@
 
 ghost use Rattle.std.specs.Prelude.{◌≡◌, IfOk, IfSome};
 ghost use Rattle.abt_machine.specs.Rounds.{OrdersStored};
+ghost use Rattle.abt_machine.specs.Stored.{CallsStored};
 ghost use Rattle.abt_stream.specs.Streams.{StreamValue};
 ghost use Rattle.abt_stream.specs.declared.turns.Turn.TheVariants as turn;
 ghost use Rattle.abt_waves.specs.Voyages.{HasGone, HasPass, IsWorn};
 ghost use Rattle.abt_waves.specs.Stops.{StopsBy};
+ghost use Rattle.abt_waves.specs.Storing.{stored_by};
 ghost use Rattle.abt_waves.specs.declared.voyages.Stop.TheVariants as stops;
 ghost use Rattle.abt_waves.specs.Jobs.{HasReturned, MayGo};
 
+use crate::calling::Calling;
 use crate::locks::{Locked, Orders};
 use crate::watch::{Shift, Watch};
 use abt_machine::{Want, Workload};
-use abt_stream::{Pace, Stream, Turn};
+use abt_stream::{Stream, Turn};
+use abt_work::Work;
 use std::marker::Model;
 use std::sync::Wait;
 
@@ -51,17 +55,18 @@ pub(crate) struct Returned<X> {
 }
 
 /// All that a stream does in a wave.
-pub(crate) fn voyage<'a, R: Wait, P: Pace, O: Orders, C: Locked>(
+pub(crate) fn voyage<'a, R: Wait, P: Work, O: Orders, C: Locked>(
     rt: &R,
     w: &Workload,
     orders: &O,
-    pace: &P,
+    work: &P,
     watch: &Watch,
     job: Job<'a, C, C::Pass>,
 ) -> Returned<C::Pass>
     requires stored { OrdersStored w.now (O.shapes orders.now) }
-    requires may { MayGo C.is_of C.locks w.now (O.shapes orders.now) job }
-    ensures { HasReturned C.is_of C.locks C.lock w.now (O.shapes orders.now) job.entry result }
+    requires calls { CallsStored w.now (P.count work.now) }
+    requires may { MayGo C.is_of C.locks w.now (stored_by (O.shapes orders.now) (P.returns work.now)) job }
+    ensures { HasReturned C.is_of C.locks C.lock w.now (stored_by (O.shapes orders.now) (P.returns work.now)) job.entry result }
 {
     let Job {
         locks,
@@ -76,31 +81,32 @@ pub(crate) fn voyage<'a, R: Wait, P: Pace, O: Orders, C: Locked>(
             stop: Stop::Idle,
         };
     }
-    let stop = turns(rt, w, orders, pace, watch, locks, &mut stream, &mut pass);
+    let stop = turns(rt, w, orders, work, watch, locks, &mut stream, &mut pass);
     Returned { stream, pass, stop }
 }
 
 // The turns of a stream, until it stops.
-fn turns<R: Wait, P: Pace, O: Orders, C: Locked>(
+fn turns<R: Wait, P: Work, O: Orders, C: Locked>(
     rt: &R,
     w: &Workload,
     orders: &O,
-    pace: &P,
+    work: &P,
     watch: &Watch,
     locks: &C,
     stream: &mut Stream,
     pass: &mut C::Pass,
 ) -> Stop
     requires stored { OrdersStored w.now (O.shapes orders.now) }
+    requires calls { CallsStored w.now (P.count work.now) }
     requires locks { (C.locks locks.now).objects.workload ≡ w.now }
-    requires has { HasPass (C.is_of locks.now) (C.locks locks.now) w.now (O.shapes orders.now) stream.old pass.old }
-    ensures has { HasPass (C.is_of locks.now) (C.locks locks.now) w.now (O.shapes orders.now) stream.new pass.new }
-    ensures gone { (first : StreamValue) → HasGone (C.locks locks.now) C.lock w.now (O.shapes orders.now) first stream.old pass.old → HasGone (C.locks locks.now) C.lock w.now (O.shapes orders.now) first stream.new pass.new }
+    requires has { HasPass (C.is_of locks.now) (C.locks locks.now) w.now (stored_by (O.shapes orders.now) (P.returns work.now)) stream.old pass.old }
+    ensures has { HasPass (C.is_of locks.now) (C.locks locks.now) w.now (stored_by (O.shapes orders.now) (P.returns work.now)) stream.new pass.new }
+    ensures gone { (first : StreamValue) → HasGone (C.locks locks.now) C.lock w.now (stored_by (O.shapes orders.now) (P.returns work.now)) first stream.old pass.old → HasGone (C.locks locks.now) C.lock w.now (stored_by (O.shapes orders.now) (P.returns work.now)) first stream.new pass.new }
     ensures worn { StopsBy (C.locks locks.now) C.lock stream.new pass.new result }
 {
     let mut shift = watch.start();
     'turns: for _ in rt.forever() {
-        match take_turn(rt, w, orders, pace, watch, &mut shift, locks, stream, pass) {
+        match take_turn(rt, w, orders, work, watch, &mut shift, locks, stream, pass) {
             Some(stop) => {
                 watch.leave(shift);
                 return stop;
@@ -112,11 +118,11 @@ fn turns<R: Wait, P: Pace, O: Orders, C: Locked>(
 }
 
 // One turn, and why the stream stops after it, if it does.
-fn take_turn<R: Wait, P: Pace, O: Orders, C: Locked>(
+fn take_turn<R: Wait, P: Work, O: Orders, C: Locked>(
     rt: &R,
     w: &Workload,
     orders: &O,
-    pace: &P,
+    work: &P,
     watch: &Watch,
     shift: &mut Shift,
     locks: &C,
@@ -124,13 +130,18 @@ fn take_turn<R: Wait, P: Pace, O: Orders, C: Locked>(
     pass: &mut C::Pass,
 ) -> Option<Stop>
     requires stored { OrdersStored w.now (O.shapes orders.now) }
+    requires calls { CallsStored w.now (P.count work.now) }
     requires locks { (C.locks locks.now).objects.workload ≡ w.now }
-    requires has { HasPass (C.is_of locks.now) (C.locks locks.now) w.now (O.shapes orders.now) stream.old pass.old }
-    ensures has { HasPass (C.is_of locks.now) (C.locks locks.now) w.now (O.shapes orders.now) stream.new pass.new }
-    ensures gone { (first : StreamValue) → HasGone (C.locks locks.now) C.lock w.now (O.shapes orders.now) first stream.old pass.old → HasGone (C.locks locks.now) C.lock w.now (O.shapes orders.now) first stream.new pass.new }
+    requires has { HasPass (C.is_of locks.now) (C.locks locks.now) w.now (stored_by (O.shapes orders.now) (P.returns work.now)) stream.old pass.old }
+    ensures has { HasPass (C.is_of locks.now) (C.locks locks.now) w.now (stored_by (O.shapes orders.now) (P.returns work.now)) stream.new pass.new }
+    ensures gone { (first : StreamValue) → HasGone (C.locks locks.now) C.lock w.now (stored_by (O.shapes orders.now) (P.returns work.now)) first stream.old pass.old → HasGone (C.locks locks.now) C.lock w.now (stored_by (O.shapes orders.now) (P.returns work.now)) first stream.new pass.new }
     ensures worn { IfSome result (StopsBy (C.locks locks.now) C.lock stream.new pass.new) }
 {
-    let Ok(turn) = advance(w, orders, pace, locks, stream, pass) else {
+    if stream.puts() {
+        shift.note_put();
+    }
+    let calling = Calling { work, watch, shift };
+    let Ok(turn) = advance(w, orders, &calling, locks, stream, pass) else {
         watch.refuse();
         return Some(Stop::Refused);
     };
@@ -150,24 +161,25 @@ fn idle_unless(goes_on: bool) -> Option<Stop>
 }
 
 // Takes the memory that one turn of a stream needs, and makes the turn.
-fn advance<P: Pace, O: Orders, C: Locked>(
+fn advance<P: Work, O: Orders, C: Locked>(
     w: &Workload,
     orders: &O,
-    pace: &P,
+    work: &P,
     locks: &C,
     stream: &mut Stream,
     pass: &mut C::Pass,
 ) -> Result<Turn, Want>
     requires stored { OrdersStored w.now (O.shapes orders.now) }
+    requires calls { CallsStored w.now (P.count work.now) }
     requires locks { (C.locks locks.now).objects.workload ≡ w.now }
-    requires has { HasPass (C.is_of locks.now) (C.locks locks.now) w.now (O.shapes orders.now) stream.old pass.old }
-    ensures has { HasPass (C.is_of locks.now) (C.locks locks.now) w.now (O.shapes orders.now) stream.new pass.new }
-    ensures gone { (first : StreamValue) → HasGone (C.locks locks.now) C.lock w.now (O.shapes orders.now) first stream.old pass.old → HasGone (C.locks locks.now) C.lock w.now (O.shapes orders.now) first stream.new pass.new }
+    requires has { HasPass (C.is_of locks.now) (C.locks locks.now) w.now (stored_by (O.shapes orders.now) (P.returns work.now)) stream.old pass.old }
+    ensures has { HasPass (C.is_of locks.now) (C.locks locks.now) w.now (stored_by (O.shapes orders.now) (P.returns work.now)) stream.new pass.new }
+    ensures gone { (first : StreamValue) → HasGone (C.locks locks.now) C.lock w.now (stored_by (O.shapes orders.now) (P.returns work.now)) first stream.old pass.old → HasGone (C.locks locks.now) C.lock w.now (stored_by (O.shapes orders.now) (P.returns work.now)) first stream.new pass.new }
     ensures worn { IfOk result (λ t. t ≡ turn.Worn → IsWorn (C.locks locks.now) C.lock stream.new pass.new) }
 {
     w.known();
     orders.prepare(stream, w)?;
-    let turn = locks.turn(stream, pass, w, pace);
+    let turn = locks.turn(stream, pass, w, work);
     // The log is of no use here, but its contract says that it has no more steps than the stream may make.
     stream.log();
     Ok(turn)

@@ -6,6 +6,7 @@
 //! and the wave is over. A stream leaves before that if it is spent, if it is out of memory, or if it has found nothing too often in a row.
 
 use crate::tally::Tally;
+use std::cell::Cell;
 use std::hint::spin_loop;
 use std::sync::Wait;
 use std::sync::atomic::{AtomicBool, AtomicU64, Ordering};
@@ -26,11 +27,33 @@ const PATIENCE: u32 = 32;
 // How many further empty rounds in a row a stream without work makes at most, while others have work.
 const FURTHER_ROUNDS: u32 = 1_000;
 
+/// What the waves of a run know of threads: whether one was waited for in vain, so that some streams may share a thread.
+#[derive(Drop)]
+pub(crate) struct Starts {
+    lacking: Cell<bool>,
+}
+
+impl Starts {
+    /// At the start of a run no thread is known to lack.
+    pub(crate) fn new() -> Starts {
+        Starts {
+            lacking: Cell::new(false),
+        }
+    }
+
+    /// After a wave: what it has found.
+    pub(crate) fn note(&self, watch: &Watch) {
+        self.lacking.set(watch.lacking.load(Ordering::SeqCst));
+    }
+}
+
 /// The streams that are live in a wave.
 #[derive(Drop)]
 pub(crate) struct Watch {
     streams: u64,
     started: AtomicU64,
+    // Whether a stream has waited in vain for another one to start. Then none waits for that again.
+    lacking: AtomicBool,
     tally: AtomicU64,
     // How often a stream that had waited found work.
     helped: AtomicU64,
@@ -48,6 +71,8 @@ pub(crate) struct Shift {
     calls: u32,
     // Whether it had work since its last call.
     worked: bool,
+    // Whether it has put a unit since its last call.
+    put: Cell<bool>,
     // Whether it has waited since it last had work.
     waited: bool,
     // Its turns since its last call, after how many it calls next, and how often others had found work by then.
@@ -60,12 +85,20 @@ pub(crate) struct Shift {
     further_rounds: u32,
 }
 
+impl Shift {
+    /// The stream puts a unit into a pool.
+    pub(crate) fn note_put(&self) {
+        self.put.set(true);
+    }
+}
+
 impl Watch {
     /// For the streams that are live, none of which has started.
-    pub(crate) fn new(live: &[bool]) -> Watch {
+    pub(crate) fn new(live: &[bool], starts: &Starts) -> Watch {
         Watch {
             streams: live.iter().filter(|live| **live).count() as u64,
             started: AtomicU64::new(0),
+            lacking: AtomicBool::new(starts.lacking.get()),
             tally: AtomicU64::new(0),
             helped: AtomicU64::new(0),
             asleep: AtomicU64::new(0),
@@ -86,6 +119,7 @@ impl Watch {
             active: true,
             calls: self.tally().calls,
             worked: false,
+            put: Cell::new(false),
             waited: false,
             turns: 0,
             interval: FIRST_CALL,
@@ -107,10 +141,20 @@ impl Watch {
         shift.turns = 0;
         if self.tally().waiting > 0 {
             self.call();
+            shift.put.set(false);
             shift.worked = !idle;
             self.choose_interval(shift);
         }
         !self.refused.load(Ordering::SeqCst)
+    }
+
+    /// Before a function of the user's runs, which may take long: those that wait are called if the stream has put a unit that they
+    /// may not have seen.
+    pub(crate) fn before_call(&self, shift: &Shift) {
+        if shift.put.get() && self.tally().waiting > 0 {
+            self.call();
+            shift.put.set(false);
+        }
     }
 
     /// After a round in which a stream found nothing: whether it goes on. It looks again if there was a call since it began to look, and
@@ -244,16 +288,17 @@ impl Watch {
         self.asleep.fetch_sub(1, Ordering::SeqCst);
     }
 
-    // Waits while some stream has not started, `PATIENCE` sleeps at most.
+    // Waits while some stream has not started, `PATIENCE` sleeps at most, unless that was in vain before.
     fn await_starts<R: Wait>(&self, rt: &R) {
         for _ in 0..PATIENCE {
             let started = self.started.load(Ordering::SeqCst);
-            if started >= self.streams {
+            if self.lacking.load(Ordering::SeqCst) || started >= self.streams {
                 return;
             }
             let low = (started % (1 << 32)) as u32;
             self.started.park_timeout(rt, low, Duration::from_millis(1));
         }
+        self.lacking.store(true, Ordering::SeqCst);
     }
 }
 

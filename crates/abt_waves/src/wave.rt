@@ -2,20 +2,23 @@
 
 ghost use Rattle.std.specs.Prelude.{ℕ, ◌≡◌, ◌≢◌, IfOk, Some, false, length, slice_get};
 ghost use Rattle.std.specs.List.{All};
-ghost use Rattle.abt_order.specs.Stored.{shapes_of};
+ghost use Rattle.abt_machine.specs.Stored.{CallsStored};
+ghost use Rattle.abt_order.specs.Stored.{stored_of};
 ghost use Rattle.abt_drain.specs.Crews.{moment_of};
 ghost use Rattle.abt_waves.specs.declared.voyages.Stop.TheVariants as why;
 ghost use Rattle.abt_waves.specs.Fleets.{IsFleet, IsFleetOver, MakesWave, MakesWaveOver, moment_over};
+ghost use Rattle.abt_waves.specs.Storing.{stored_by};
 ghost use Rattle.abt_waves.specs.Waves.{AreBack};
 
 use crate::locks::{Locked, Locking, Orders, StoredOrders};
 use crate::threads::{jobs, run_jobs};
 use crate::voyages::{Returned, Stop};
-use crate::watch::Watch;
+use crate::watch::{Starts, Watch};
 use abt_commons::{Objects, Split, SplitPass};
 use abt_machine::{Want, Workload};
 use abt_order::StoredOrder;
-use abt_stream::{Pace, Stream};
+use abt_stream::Stream;
+use abt_work::Work;
 use std::alloc::Global;
 use std::sync::Wait;
 use std::thread::Threads;
@@ -23,20 +26,21 @@ use std::thread::Threads;
 /// One wave: each stream that `live` marks makes turns on a thread of its own, over objects that have a lock each, until it is
 /// spent, or finds nothing while no other stream has work, or finds nothing too often in a row. All others stay as they are. If no
 /// thread can be started the caller's does its work. Err: out of memory, in one stream or before all.
-pub fn run_wave<'w, R: Threads + Wait + Sync, P: Pace + Sync>(
+pub fn run_wave<'w, R: Threads + Wait + Sync, P: Work + Sync>(
     rt: &'w R,
     alloc: Global,
     w: &'w Workload,
     orders: &[StoredOrder],
-    pace: &P,
+    work: &P,
     objects: Objects<'w>,
     streams: Vec<Stream>,
     live: &[bool],
 ) -> Result<(Objects<'w>, Vec<Stream>), Want>
-    requires fleet { (n : ℕ) × IsFleet w.now (shapes_of orders.now) n objects streams.items }
+    requires calls { CallsStored w.now (P.count work.now) }
+    requires fleet { (n : ℕ) × IsFleet w.now (stored_of orders.now (P.returns work.now)) n objects streams.items }
     requires flags { length live.now ≡ w.now.streams }
-    ensures fleet { IfOk result (λ left. (n : ℕ) → IsFleet w.now (shapes_of orders.now) n objects.entry streams.items → IsFleet w.now (shapes_of orders.now) n left.0 left.1.items) }
-    ensures wave { IfOk result (λ left. MakesWave w.now (shapes_of orders.now) live.now (moment_of w.now streams.items objects.entry) (moment_of w.now left.1.items left.0)) }
+    ensures fleet { IfOk result (λ left. (n : ℕ) → IsFleet w.now (stored_of orders.now (P.returns work.now)) n objects.entry streams.items → IsFleet w.now (stored_of orders.now (P.returns work.now)) n left.0 left.1.items) }
+    ensures wave { IfOk result (λ left. MakesWave w.now (stored_of orders.now (P.returns work.now)) live.now (moment_of w.now streams.items objects.entry) (moment_of w.now left.1.items left.0)) }
     ensures still { IfOk result (λ left. (s : ℕ) → slice_get live.now s ≡ Some false → slice_get left.1.items s ≡ slice_get streams.items s) }
 {
     sail::<R, P, StoredOrders<'_>, SplitPass<'w>, Split<'w, R>>(
@@ -44,18 +48,19 @@ pub fn run_wave<'w, R: Threads + Wait + Sync, P: Pace + Sync>(
         alloc,
         w,
         &StoredOrders { orders },
-        pace,
+        work,
         objects,
         streams,
         live,
+        &Starts::new(),
     )
 }
 
-/// The same over any locks.
+/// The same over any locks; `starts` goes from wave to wave of a run.
 pub(crate) fn sail<
     'w,
     R: Threads + Wait + Sync,
-    P: Pace + Sync,
+    P: Work + Sync,
     O: Orders + Sync,
     X: Send + Drop,
     L: Locking<'w, R> + Locked<Pass = X> + Sync + Drop,
@@ -64,24 +69,27 @@ pub(crate) fn sail<
     alloc: Global,
     w: &'w Workload,
     orders: &O,
-    pace: &P,
+    work: &P,
     objects: Objects<'w>,
     streams: Vec<Stream>,
     live: &[bool],
+    starts: &Starts,
 ) -> Result<(Objects<'w>, Vec<Stream>), Want>
-    requires fleet { (n : ℕ) × IsFleetOver L.lock L.clock w.now (O.shapes orders.now) n objects streams.items }
+    requires calls { CallsStored w.now (P.count work.now) }
+    requires fleet { (n : ℕ) × IsFleetOver L.lock L.clock w.now (stored_by (O.shapes orders.now) (P.returns work.now)) n objects streams.items }
     requires flags { length live.now ≡ w.now.streams }
-    ensures fleet { IfOk result (λ left. (n : ℕ) → IsFleetOver L.lock L.clock w.now (O.shapes orders.now) n objects.entry streams.items → IsFleetOver L.lock L.clock w.now (O.shapes orders.now) n left.0 left.1.items) }
-    ensures wave { IfOk result (λ left. MakesWaveOver L.lock L.clock w.now (O.shapes orders.now) live.now (moment_over L.lock L.clock w.now streams.items objects.entry) (moment_over L.lock L.clock w.now left.1.items left.0)) }
+    ensures fleet { IfOk result (λ left. (n : ℕ) → IsFleetOver L.lock L.clock w.now (stored_by (O.shapes orders.now) (P.returns work.now)) n objects.entry streams.items → IsFleetOver L.lock L.clock w.now (stored_by (O.shapes orders.now) (P.returns work.now)) n left.0 left.1.items) }
+    ensures wave { IfOk result (λ left. MakesWaveOver L.lock L.clock w.now (stored_by (O.shapes orders.now) (P.returns work.now)) live.now (moment_over L.lock L.clock w.now streams.items objects.entry) (moment_over L.lock L.clock w.now left.1.items left.0)) }
     ensures still { IfOk result (λ left. (s : ℕ) → slice_get live.now s ≡ Some false → slice_get left.1.items s ≡ slice_get streams.items s) }
 {
     let count = w.streams();
     let Ok((locks, passes)) = L::make(rt, alloc, objects, count) else {
         return Err(Want);
     };
-    let watch = Watch::new(live);
+    let watch = Watch::new(live, starts);
     let jobs = jobs(alloc, &locks, streams, passes, live)?;
-    let returned = run_jobs(rt, w, orders, pace, &watch, jobs)?;
+    let returned = run_jobs(rt, w, orders, work, &watch, jobs)?;
+    starts.note(&watch);
     let (streams, passes, stops) = parted(alloc, returned)?;
     let objects = locks.open(passes);
     settle(&stops)?;

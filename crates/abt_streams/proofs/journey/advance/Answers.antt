@@ -5,7 +5,7 @@ use Rattle.std.proofs.lemmas.List.{length-map}
 use Rattle.std.proofs.lemmas.List.FromFn.{length-map-range_with_len}
 use Rattle.abt_commons.specs.Held.{object_at}
 use Rattle.abt_merge.specs.Logs.{AreLogs, log_of}
-use Rattle.abt_order.specs.Stored.{shapes_of}
+use Rattle.abt_order.specs.Stored.{stored_of}
 use Rattle.abt_simulation.specs.Journals.{MergesTo}
 use Rattle.abt_stream.specs.Streams.{StreamValue}
 use Rattle.abt_streams.specs.Cutting.{behind, log_lengths}
@@ -32,7 +32,7 @@ append_wave-requires-clause-lengths g c =
 pub append_wave-requires-clause-logs : goal.append_wave-requires-clause-logs
 append_wave-requires-clause-logs g c =
     let W = c.args.w.now in
-    let Z = shapes_of c.args.orders.now in
+    let Z = stored_of c.args.orders.now (g.P.Work.returns c.args.work.now) in
     let under = c.requires.under_way.1 in
     let fleet = c.in_ok-objects.ensures.fleet c.requires.under_way.0 under.fleet in
     let lengths : c.deref-4.result.now ≡ log_lengths c.args.journey.streams.items = c.deref-4.ensures.value ∙ (c.in_ok-lengths.ensures ∙ ap log_lengths c.deref.ensures.value) in
@@ -43,7 +43,7 @@ append_wave-requires-clause-logs g c =
 pub returns-clause-under_way : goal.returns-clause-under_way
 returns-clause-under_way g c = λ n under.
     let W = c.args.w.now in
-    let Z = shapes_of c.args.orders.now in
+    let Z = stored_of c.args.orders.now (g.P.Work.returns c.args.work.now) in
     let f = is_live_with (object_at c.args.journey.objects) c.args.lives.now in
     let fleet = c.in_ok-objects.ensures.fleet n under.fleet in
     let lengths : c.deref-4.result.now ≡ log_lengths c.args.journey.streams.items = c.deref-4.ensures.value ∙ (c.in_ok-lengths.ensures ∙ ap log_lengths c.deref.ensures.value) in

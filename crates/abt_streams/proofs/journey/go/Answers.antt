@@ -1,6 +1,6 @@
 -- A wave more, and the last.
 use Rattle.std.proofs.Common.{ℕ, List, Some, subst, sym}
-use Rattle.abt_order.specs.Stored.{shapes_of}
+use Rattle.abt_order.specs.Stored.{stored_of}
 use Rattle.abt_stream.specs.Streams.{StreamValue}
 use Rattle.abt_drain.specs.Looks.{AreStreams}
 use Rattle.abt_streams.specs.Looks.{IsOutcomeOnLives}
@@ -10,7 +10,7 @@ use Rattle.abt_streams.proofs.journey.go.Goals as goal
 
 pub advance-requires-clause-under_way : goal.advance-requires-clause-under_way
 advance-requires-clause-under_way g c =
-    let under : (n : ℕ) × HasLedTo c.args.w.now (shapes_of c.args.orders.now) n c.args.lives.now c.waves.journey.objects c.waves.journey.streams.items c.waves.journey.journal.items c.waves.journey.waves.items =
+    let under : (n : ℕ) × HasLedTo c.args.w.now (stored_of c.args.orders.now (g.P.Work.returns c.args.work.now)) n c.args.lives.now c.waves.journey.objects c.waves.journey.streams.items c.waves.journey.journal.items c.waves.journey.waves.items =
     (c.args.steps, c.waves.invariant.under_way) in
     λ lifetimes outlive. under
 
@@ -28,7 +28,7 @@ pub returns-in-Some-outcome_on-clause-ended : goal.returns-in-Some-outcome_on-cl
 returns-in-Some-outcome_on-clause-ended g c =
     let W = c.args.w.now in
     let j = c.in_ok-journey.journey in
-    has-ended-on W (shapes_of c.args.orders.now) c.args.steps c.args.lives.now j.objects j.streams.items j.journal.items j.waves.items (c.in_ok-journey.ensures.under_way c.args.steps c.waves.invariant.under_way) c.in-Some-outcome_on.outcome
+    has-ended-on W (stored_of c.args.orders.now (g.P.Work.returns c.args.work.now)) c.args.steps c.args.lives.now j.objects j.streams.items j.journal.items j.waves.items (c.in_ok-journey.ensures.under_way c.args.steps c.waves.invariant.under_way) c.in-Some-outcome_on.outcome
     (subst (λ (streams : List StreamValue). IsOutcomeOnLives W c.args.lives.now c.args.steps streams j.objects (Some c.in-Some-outcome_on.outcome)) c.deref.ensures.value c.in-Some-outcome_on.ensures)
 
 pub waves-preserved : goal.waves-preserved

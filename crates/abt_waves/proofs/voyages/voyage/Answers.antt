@@ -3,26 +3,29 @@ use Rattle.std.proofs.Common.{◌≡◌, true, false, refl, sym, ◌∙◌, subs
 use Rattle.abt_waves.specs.declared.voyages.Stop.TheVariants as stop
 use Rattle.abt_waves.specs.Jobs.{HasReturned, JobValue, MayGo}
 use Rattle.abt_waves.proofs.Going.{none-gone}
+use Rattle.abt_waves.specs.Storing.{stored_by}
 use Rattle.abt_waves.proofs.voyages.voyage.Goals as goal
 
 pub returns-then-not-live : goal.returns-then-not-live
 returns-then-not-live g c =
+    let Z = stored_by (g.O.Orders.shapes c.args.orders.now) (g.P.Work.returns c.args.work.now) in
     let own : JobValue _ _ = record { locks = c.job.inside.locks.now; stream = c.job.inside.stream; pass = c.job.inside.pass; live = c.job.inside.live } in
-    let fresh = subst (MayGo g.C.Locked.is_of g.C.Locked.locks c.args.w.now (g.O.Orders.shapes c.args.orders.now)) (sym c.job.view_is) c.requires.may in
-    subst (λ j. HasReturned g.C.Locked.is_of g.C.Locked.locks g.C.Locked.lock c.args.w.now (g.O.Orders.shapes c.args.orders.now) j (record { stream = own.stream; pass = own.pass; stop = stop.Idle })) c.job.view_is (record {
+    let fresh = subst (MayGo g.C.Locked.is_of g.C.Locked.locks c.args.w.now Z) (sym c.job.view_is) c.requires.may in
+    subst (λ j. HasReturned g.C.Locked.is_of g.C.Locked.locks g.C.Locked.lock c.args.w.now Z j (record { stream = own.stream; pass = own.pass; stop = stop.Idle })) c.job.view_is (record {
       has = fresh.has;
-      gone = none-gone (g.C.Locked.locks own.locks) g.C.Locked.lock c.args.w.now (g.O.Orders.shapes c.args.orders.now) own.stream own.pass fresh.fresh;
+      gone = none-gone (g.C.Locked.locks own.locks) g.C.Locked.lock c.args.w.now Z own.stream own.pass fresh.fresh;
       stops = tt;
       still = λ dead. refl;
     })
 
 pub returns : goal.returns
 returns g c =
+    let Z = stored_by (g.O.Orders.shapes c.args.orders.now) (g.P.Work.returns c.args.work.now) in
     let own : JobValue _ _ = record { locks = c.job.inside.locks.now; stream = c.job.inside.stream; pass = c.job.inside.pass; live = c.job.inside.live } in
-    let fresh = subst (MayGo g.C.Locked.is_of g.C.Locked.locks c.args.w.now (g.O.Orders.shapes c.args.orders.now)) (sym c.job.view_is) c.requires.may in
-    subst (λ j. HasReturned g.C.Locked.is_of g.C.Locked.locks g.C.Locked.lock c.args.w.now (g.O.Orders.shapes c.args.orders.now) j (record { stream = c.turns-stop.new.stream; pass = c.turns-stop.new.pass; stop = c.turns-stop.result })) c.job.view_is (record {
+    let fresh = subst (MayGo g.C.Locked.is_of g.C.Locked.locks c.args.w.now Z) (sym c.job.view_is) c.requires.may in
+    subst (λ j. HasReturned g.C.Locked.is_of g.C.Locked.locks g.C.Locked.lock c.args.w.now Z j (record { stream = c.turns-stop.new.stream; pass = c.turns-stop.new.pass; stop = c.turns-stop.result })) c.job.view_is (record {
       has = c.turns-stop.ensures.has;
-      gone = c.turns-stop.ensures.gone own.stream (none-gone (g.C.Locked.locks own.locks) g.C.Locked.lock c.args.w.now (g.O.Orders.shapes c.args.orders.now) own.stream own.pass fresh.fresh);
+      gone = c.turns-stop.ensures.gone own.stream (none-gone (g.C.Locked.locks own.locks) g.C.Locked.lock c.args.w.now Z own.stream own.pass fresh.fresh);
       stops = c.turns-stop.ensures.worn;
       still = λ dead. absurd (differ (sym c.if-not-live.false ∙ dead));
     }) where

@@ -1,28 +1,45 @@
 -- A wave over any locks.
 use Rattle.std.proofs.Common.{refl, ◌∙◌}
 use Rattle.abt_waves.proofs.Waving.{all-back, all-may-go, all-stop-well, many-flags, many-passes, next-fleet, others-stay, valid-own, wave-made}
+use Rattle.abt_waves.specs.Storing.{stored_by}
 use Rattle.abt_waves.proofs.wave.sail.Goals as goal
 
 pub jobs-requires-clause-passes : goal.jobs-requires-clause-passes
-jobs-requires-clause-passes g c = many-passes g.L.Locked.is_of g.L.Locked.locks g.L.Locked.lock g.L.Locked.clock (c.in-Ok.ensures.tells c.args.w.now) c.args.w.now (g.O.Orders.shapes c.args.orders.now) c.requires.fleet.0 c.args.objects c.args.streams.items c.requires.fleet.1 c.in-Ok.locks c.in-Ok.ensures.objects c.in-Ok.ensures.clocks c.streams-count.result c.streams-count.ensures.count c.in-Ok.passes.items c.in-Ok.ensures.passes c.args.live.now c.requires.flags
+jobs-requires-clause-passes g c =
+    let Z = stored_by (g.O.Orders.shapes c.args.orders.now) (g.P.Work.returns c.args.work.now) in
+    many-passes g.L.Locked.is_of g.L.Locked.locks g.L.Locked.lock g.L.Locked.clock (c.in-Ok.ensures.tells c.args.w.now) c.args.w.now Z c.requires.fleet.0 c.args.objects c.args.streams.items c.requires.fleet.1 c.in-Ok.locks c.in-Ok.ensures.objects c.in-Ok.ensures.clocks c.streams-count.result c.streams-count.ensures.count c.in-Ok.passes.items c.in-Ok.ensures.passes c.args.live.now c.requires.flags
 
 pub jobs-requires-clause-flags : goal.jobs-requires-clause-flags
-jobs-requires-clause-flags g c = many-flags g.L.Locked.is_of g.L.Locked.locks g.L.Locked.lock g.L.Locked.clock (c.in-Ok.ensures.tells c.args.w.now) c.args.w.now (g.O.Orders.shapes c.args.orders.now) c.requires.fleet.0 c.args.objects c.args.streams.items c.requires.fleet.1 c.in-Ok.locks c.in-Ok.ensures.objects c.in-Ok.ensures.clocks c.streams-count.result c.streams-count.ensures.count c.in-Ok.passes.items c.in-Ok.ensures.passes c.args.live.now c.requires.flags
+jobs-requires-clause-flags g c =
+    let Z = stored_by (g.O.Orders.shapes c.args.orders.now) (g.P.Work.returns c.args.work.now) in
+    many-flags g.L.Locked.is_of g.L.Locked.locks g.L.Locked.lock g.L.Locked.clock (c.in-Ok.ensures.tells c.args.w.now) c.args.w.now Z c.requires.fleet.0 c.args.objects c.args.streams.items c.requires.fleet.1 c.in-Ok.locks c.in-Ok.ensures.objects c.in-Ok.ensures.clocks c.streams-count.result c.streams-count.ensures.count c.in-Ok.passes.items c.in-Ok.ensures.passes c.args.live.now c.requires.flags
 
 pub run_jobs-requires-clause-may : goal.run_jobs-requires-clause-may
-run_jobs-requires-clause-may g c κs within = all-may-go g.L.Locked.is_of g.L.Locked.locks g.L.Locked.lock g.L.Locked.clock (c.in-Ok.ensures.tells c.args.w.now) c.args.w.now (g.O.Orders.shapes c.args.orders.now) c.requires.fleet.0 c.args.objects c.args.streams.items c.requires.fleet.1 c.in-Ok.locks c.in-Ok.ensures.objects c.in-Ok.ensures.clocks c.streams-count.result c.streams-count.ensures.count c.in-Ok.passes.items c.in-Ok.ensures.passes c.args.live.now c.requires.flags c.in_ok-jobs.jobs.items c.in_ok-jobs.ensures c.in-Ok.ensures.fresh
+run_jobs-requires-clause-may g c κs within =
+    let Z = stored_by (g.O.Orders.shapes c.args.orders.now) (g.P.Work.returns c.args.work.now) in
+    all-may-go g.L.Locked.is_of g.L.Locked.locks g.L.Locked.lock g.L.Locked.clock (c.in-Ok.ensures.tells c.args.w.now) c.args.w.now Z c.requires.fleet.0 c.args.objects c.args.streams.items c.requires.fleet.1 c.in-Ok.locks c.in-Ok.ensures.objects c.in-Ok.ensures.clocks c.streams-count.result c.streams-count.ensures.count c.in-Ok.passes.items c.in-Ok.ensures.passes c.args.live.now c.requires.flags c.in_ok-jobs.jobs.items c.in_ok-jobs.ensures c.in-Ok.ensures.fresh
 
 pub open-objects-requires : goal.open-objects-requires
-open-objects-requires g c κs = ((refl, tt), (valid-own g.L.Locked.is_of g.L.Locked.locks g.L.Locked.lock g.L.Locked.clock (c.in-Ok.ensures.tells c.args.w.now) c.args.w.now (g.O.Orders.shapes c.args.orders.now) c.requires.fleet.0 c.args.objects c.args.streams.items c.requires.fleet.1 c.in-Ok.locks c.in-Ok.ensures.objects c.in-Ok.ensures.clocks, all-back g.L.Locked.is_of g.L.Locked.locks g.L.Locked.lock g.L.Locked.clock (c.in-Ok.ensures.tells c.args.w.now) c.args.w.now (g.O.Orders.shapes c.args.orders.now) c.requires.fleet.0 c.args.objects c.args.streams.items c.requires.fleet.1 c.in-Ok.locks c.in-Ok.ensures.objects c.in-Ok.ensures.clocks c.streams-count.result c.streams-count.ensures.count c.in-Ok.passes.items c.in-Ok.ensures.passes c.args.live.now c.requires.flags c.in_ok-jobs.jobs.items c.in_ok-jobs.ensures c.in_ok-returned.returned.items c.in_ok-returned.ensures.many c.in_ok-returned.ensures.each c.in-Ok.ensures.streams c.in_ok-streams.passes.items c.in_ok-streams.ensures.passes_are))
+open-objects-requires g c κs =
+    let Z = stored_by (g.O.Orders.shapes c.args.orders.now) (g.P.Work.returns c.args.work.now) in
+    ((refl, tt), (valid-own g.L.Locked.is_of g.L.Locked.locks g.L.Locked.lock g.L.Locked.clock (c.in-Ok.ensures.tells c.args.w.now) c.args.w.now Z c.requires.fleet.0 c.args.objects c.args.streams.items c.requires.fleet.1 c.in-Ok.locks c.in-Ok.ensures.objects c.in-Ok.ensures.clocks, all-back g.L.Locked.is_of g.L.Locked.locks g.L.Locked.lock g.L.Locked.clock (c.in-Ok.ensures.tells c.args.w.now) c.args.w.now Z c.requires.fleet.0 c.args.objects c.args.streams.items c.requires.fleet.1 c.in-Ok.locks c.in-Ok.ensures.objects c.in-Ok.ensures.clocks c.streams-count.result c.streams-count.ensures.count c.in-Ok.passes.items c.in-Ok.ensures.passes c.args.live.now c.requires.flags c.in_ok-jobs.jobs.items c.in_ok-jobs.ensures c.in_ok-returned.returned.items c.in_ok-returned.ensures.many c.in_ok-returned.ensures.each c.in-Ok.ensures.streams c.in_ok-streams.passes.items c.in_ok-streams.ensures.passes_are))
 
 pub settle-requires : goal.settle-requires
-settle-requires g c = all-stop-well g.L.Locked.is_of g.L.Locked.locks g.L.Locked.lock g.L.Locked.clock (c.in-Ok.ensures.tells c.args.w.now) c.args.w.now (g.O.Orders.shapes c.args.orders.now) c.requires.fleet.0 c.args.objects c.args.streams.items c.requires.fleet.1 c.in-Ok.locks c.in-Ok.ensures.objects c.in-Ok.ensures.clocks c.streams-count.result c.streams-count.ensures.count c.in-Ok.passes.items c.in-Ok.ensures.passes c.args.live.now c.requires.flags c.in_ok-jobs.jobs.items c.in_ok-jobs.ensures c.in_ok-returned.returned.items c.in_ok-returned.ensures.many c.in_ok-returned.ensures.each c.in-Ok.ensures.streams c.in_ok-streams.passes.items c.in_ok-streams.ensures.passes_are c.open-objects.result c.open-objects.ensures c.deref.result.now (c.deref.ensures.value ∙ c.in_ok-streams.ensures.stops_are)
+settle-requires g c =
+    let Z = stored_by (g.O.Orders.shapes c.args.orders.now) (g.P.Work.returns c.args.work.now) in
+    all-stop-well g.L.Locked.is_of g.L.Locked.locks g.L.Locked.lock g.L.Locked.clock (c.in-Ok.ensures.tells c.args.w.now) c.args.w.now Z c.requires.fleet.0 c.args.objects c.args.streams.items c.requires.fleet.1 c.in-Ok.locks c.in-Ok.ensures.objects c.in-Ok.ensures.clocks c.streams-count.result c.streams-count.ensures.count c.in-Ok.passes.items c.in-Ok.ensures.passes c.args.live.now c.requires.flags c.in_ok-jobs.jobs.items c.in_ok-jobs.ensures c.in_ok-returned.returned.items c.in_ok-returned.ensures.many c.in_ok-returned.ensures.each c.in-Ok.ensures.streams c.in_ok-streams.passes.items c.in_ok-streams.ensures.passes_are c.open-objects.result c.open-objects.ensures c.deref.result.now (c.deref.ensures.value ∙ c.in_ok-streams.ensures.stops_are)
 
 pub returns-clause-fleet : goal.returns-clause-fleet
-returns-clause-fleet g c = λ n is. next-fleet g.L.Locked.is_of g.L.Locked.locks g.L.Locked.lock g.L.Locked.clock (c.in-Ok.ensures.tells c.args.w.now) c.args.w.now (g.O.Orders.shapes c.args.orders.now) n c.args.objects c.args.streams.items is c.in-Ok.locks c.in-Ok.ensures.objects c.in-Ok.ensures.clocks c.streams-count.result c.streams-count.ensures.count c.in-Ok.passes.items c.in-Ok.ensures.passes c.args.live.now c.requires.flags c.in_ok-jobs.jobs.items c.in_ok-jobs.ensures c.in_ok-returned.returned.items c.in_ok-returned.ensures.many c.in_ok-returned.ensures.each c.in-Ok.ensures.streams c.in_ok-streams.passes.items c.in_ok-streams.ensures.passes_are c.open-objects.result c.open-objects.ensures c.in_ok-streams.streams.items c.in_ok-streams.ensures.streams_are
+returns-clause-fleet g c =
+    let Z = stored_by (g.O.Orders.shapes c.args.orders.now) (g.P.Work.returns c.args.work.now) in
+    λ n is. next-fleet g.L.Locked.is_of g.L.Locked.locks g.L.Locked.lock g.L.Locked.clock (c.in-Ok.ensures.tells c.args.w.now) c.args.w.now Z n c.args.objects c.args.streams.items is c.in-Ok.locks c.in-Ok.ensures.objects c.in-Ok.ensures.clocks c.streams-count.result c.streams-count.ensures.count c.in-Ok.passes.items c.in-Ok.ensures.passes c.args.live.now c.requires.flags c.in_ok-jobs.jobs.items c.in_ok-jobs.ensures c.in_ok-returned.returned.items c.in_ok-returned.ensures.many c.in_ok-returned.ensures.each c.in-Ok.ensures.streams c.in_ok-streams.passes.items c.in_ok-streams.ensures.passes_are c.open-objects.result c.open-objects.ensures c.in_ok-streams.streams.items c.in_ok-streams.ensures.streams_are
 
 pub returns-clause-wave : goal.returns-clause-wave
-returns-clause-wave g c = wave-made g.L.Locked.is_of g.L.Locked.locks g.L.Locked.lock g.L.Locked.clock (c.in-Ok.ensures.tells c.args.w.now) c.args.w.now (g.O.Orders.shapes c.args.orders.now) c.requires.fleet.0 c.args.objects c.args.streams.items c.requires.fleet.1 c.in-Ok.locks c.in-Ok.ensures.objects c.in-Ok.ensures.clocks c.streams-count.result c.streams-count.ensures.count c.in-Ok.passes.items c.in-Ok.ensures.passes c.args.live.now c.requires.flags c.in_ok-jobs.jobs.items c.in_ok-jobs.ensures c.in_ok-returned.returned.items c.in_ok-returned.ensures.many c.in_ok-returned.ensures.each c.in-Ok.ensures.streams c.in_ok-streams.passes.items c.in_ok-streams.ensures.passes_are c.open-objects.result c.open-objects.ensures c.in_ok-streams.streams.items c.in_ok-streams.ensures.streams_are
+returns-clause-wave g c =
+    let Z = stored_by (g.O.Orders.shapes c.args.orders.now) (g.P.Work.returns c.args.work.now) in
+    wave-made g.L.Locked.is_of g.L.Locked.locks g.L.Locked.lock g.L.Locked.clock (c.in-Ok.ensures.tells c.args.w.now) c.args.w.now Z c.requires.fleet.0 c.args.objects c.args.streams.items c.requires.fleet.1 c.in-Ok.locks c.in-Ok.ensures.objects c.in-Ok.ensures.clocks c.streams-count.result c.streams-count.ensures.count c.in-Ok.passes.items c.in-Ok.ensures.passes c.args.live.now c.requires.flags c.in_ok-jobs.jobs.items c.in_ok-jobs.ensures c.in_ok-returned.returned.items c.in_ok-returned.ensures.many c.in_ok-returned.ensures.each c.in-Ok.ensures.streams c.in_ok-streams.passes.items c.in_ok-streams.ensures.passes_are c.open-objects.result c.open-objects.ensures c.in_ok-streams.streams.items c.in_ok-streams.ensures.streams_are
 
 pub returns-clause-still : goal.returns-clause-still
-returns-clause-still g c = others-stay g.L.Locked.is_of g.L.Locked.locks g.L.Locked.lock g.L.Locked.clock (c.in-Ok.ensures.tells c.args.w.now) c.args.w.now (g.O.Orders.shapes c.args.orders.now) c.requires.fleet.0 c.args.objects c.args.streams.items c.requires.fleet.1 c.in-Ok.locks c.in-Ok.ensures.objects c.in-Ok.ensures.clocks c.streams-count.result c.streams-count.ensures.count c.in-Ok.passes.items c.in-Ok.ensures.passes c.args.live.now c.requires.flags c.in_ok-jobs.jobs.items c.in_ok-jobs.ensures c.in_ok-returned.returned.items c.in_ok-returned.ensures.many c.in_ok-returned.ensures.each c.in-Ok.ensures.streams c.in_ok-streams.passes.items c.in_ok-streams.ensures.passes_are c.open-objects.result c.open-objects.ensures c.in_ok-streams.streams.items c.in_ok-streams.ensures.streams_are
+returns-clause-still g c =
+    let Z = stored_by (g.O.Orders.shapes c.args.orders.now) (g.P.Work.returns c.args.work.now) in
+    others-stay g.L.Locked.is_of g.L.Locked.locks g.L.Locked.lock g.L.Locked.clock (c.in-Ok.ensures.tells c.args.w.now) c.args.w.now Z c.requires.fleet.0 c.args.objects c.args.streams.items c.requires.fleet.1 c.in-Ok.locks c.in-Ok.ensures.objects c.in-Ok.ensures.clocks c.streams-count.result c.streams-count.ensures.count c.in-Ok.passes.items c.in-Ok.ensures.passes c.args.live.now c.requires.flags c.in_ok-jobs.jobs.items c.in_ok-jobs.ensures c.in_ok-returned.returned.items c.in_ok-returned.ensures.many c.in_ok-returned.ensures.each c.in-Ok.ensures.streams c.in_ok-streams.passes.items c.in_ok-streams.ensures.passes_are c.open-objects.result c.open-objects.ensures c.in_ok-streams.streams.items c.in_ok-streams.ensures.streams_are

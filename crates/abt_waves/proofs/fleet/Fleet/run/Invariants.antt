@@ -1,12 +1,13 @@
 -- The fleet between waves.
 use Rattle.std.proofs.Common.{◌≡◌, length}
 use Rattle.abt_waves.specs.Waves.{IsFleetOf}
+use Rattle.abt_waves.specs.Storing.{stored_by}
 use Rattle.abt_waves.proofs.fleet.Fleet.run.Given as goal
 
 abbrev pub invariant-waves : goal.invariant-waves
 invariant-waves g l = record {
   next : (goal.iterator-waves g).can_next l.iterator';
   finite : (goal.iterator-waves g).is_finite l.iterator';
-  fleet : IsFleetOf g.L.Locked.lock g.L.Locked.clock l.fn.self.workload (g.O.Orders.shapes l.orders) l.fn.self.steps l.fleet;
+  fleet : IsFleetOf g.L.Locked.lock g.L.Locked.clock l.fn.self.workload (stored_by (g.O.Orders.shapes l.orders) (g.P.Work.returns l.work)) l.fn.self.steps l.fleet;
   flags : length l.live.items ≡ l.fn.self.workload.streams;
 }
