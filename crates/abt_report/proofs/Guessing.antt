@@ -47,6 +47,7 @@ few-what-words (what.Miss p) = omega arith
 few-what-words (what.Take p u) = omega arith
 few-what-words (what.Look u) = omega arith
 few-what-words (what.Step u k c) = omega arith
+few-what-words (what.Call u k n) = omega arith
 few-what-words (what.Put u p) = omega arith
 few-what-words (what.End u c) = omega arith
 few-what-words (what.Enter u) = omega arith

@@ -1,5 +1,5 @@
 -- Texts that are read as journals.
-use Rattle.std.specs.Prelude.{ℕ, zero, suc, ◌≡◌, ◌≢◌, ◌<◌, ◌≤◌, ◌^◌, List, [], ◌++◌, length, All, MatchOption, Option, ⊤}
+use Rattle.std.specs.Prelude.{ℕ, zero, suc, ◌≡◌, ◌≢◌, ◌<◌, ◌≤◌, ◌^◌, Bool, true, false, List, [], ◌∷◌, ◌++◌, length, All, MatchOption, Option, ⊤}
 use Rattle.abt_machine.specs.declared.events.Event.{Event}
 use Rattle.abt_machine.specs.declared.events.What.{What}
 use Rattle.abt_machine.specs.declared.events.What.TheVariants as what
@@ -8,7 +8,7 @@ use Rattle.abt_machine.specs.Words.{Text, ended, line_of}
 use Rattle.abt_report.specs.declared.text_fault.TextFault.{TextFault}
 use Rattle.abt_report.specs.declared.text_fault.TextFault.TheVariants as cause
 
--- numbers of streams, pools, units and positions have 32 bits
+-- numbers of streams, pools, units and positions have 32 bits, and those that functions return have 64
 abbrev pub IsShort : ℕ → Type 0
 IsShort n = n < 2 ^ 32
 
@@ -17,6 +17,7 @@ HasShortNumbers (what.Miss p) = IsShort p.0
 HasShortNumbers (what.Take p u) = IsShort p.0 × IsShort u.0
 HasShortNumbers (what.Look u) = IsShort u.0
 HasShortNumbers (what.Step u k c) = IsShort u.0 × IsShort k
+HasShortNumbers (what.Call u k n) = IsShort u.0 × IsShort k × (n < 2 ^ 64)
 HasShortNumbers (what.Put u p) = IsShort u.0 × IsShort p.0
 HasShortNumbers (what.End u c) = IsShort u.0
 HasShortNumbers (what.Enter u) = IsShort u.0
@@ -73,6 +74,11 @@ IsNoJournalAt bytes (suc l) = (length bytes ≤ journal_limit) × IsBadAt bytes 
 -- a value of this kind whose text it is, or nothing if there is none
 abbrev pub ReadsAs : {A : Type 0} → (A → Type 0) → (A → Text) → Text → Option A → Type 0
 ReadsAs {A} Is text_from text found = MatchOption found ((x : A) → Is x → text_from x ≡ text → ⊥) (λ x. Is x × (text_from x ≡ text))
+
+-- the events with one more whose line this is, or no event's line
+abbrev pub ReadsMore : Text → List Event → Bool → List Event → Type 0
+ReadsMore line old true new = (e : Event) × IsEvent e × (event_line e ≡ line) × (new ≡ old ++ e ∷ [])
+ReadsMore line old false new = (e : Event) → IsEvent e → event_line e ≡ line → ⊥
 
 -- why bytes were not read
 abbrev pub IsCause : Text → TextFault → Type 0

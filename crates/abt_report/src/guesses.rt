@@ -12,7 +12,7 @@ ghost use Rattle.abt_report.specs.Guesses.{cause_of, code_named, is_space, what_
 ghost use Rattle.abt_report.specs.Journals.{HasShortNumbers, IsEvent};
 
 use crate::cuts::cut;
-use abt_machine::{Cause, Code, Event, PoolNo, StreamNo, UnitNo, Want, What};
+use abt_machine::{Cause, Code, Event, PoolNo, Returned, StreamNo, UnitNo, Want, What};
 use std::str;
 
 // The number of 64 bits whose decimal digits the word is.
@@ -121,10 +121,14 @@ fn of_three(kind: &[u8], a: &[u8], b: &[u8]) -> Option<What>
 fn of_four(kind: &[u8], a: &[u8], b: &[u8], c: &[u8]) -> Option<What>
     ensures { (w : What) → HasShortNumbers w → what_words w ≡ kind.now ∷ a.now ∷ b.now ∷ c.now ∷ [] → result ≡ Some w }
 {
+    let (n, at) = (short(a)?, short(b)?);
+    if is(kind, b"call") {
+        return Some(What::Call(UnitNo(n), at, Returned::new(long(c)?)));
+    }
     if !is(kind, b"step") {
         return None;
     }
-    Some(What::Step(UnitNo(short(a)?), short(b)?, code(c)?))
+    Some(What::Step(UnitNo(n), at, code(c)?))
 }
 
 // What the words say.

@@ -25,6 +25,11 @@ fn push_what(out: &mut Vec<u8>, what: What) -> Result<(), Want>
             push_decimal(out, u64::from(at))?;
             push_word(out, name_of_code(code))
         }
+        What::Call(u, at, value) => {
+            push_numbered(out, b"call", u64::from(u.0))?;
+            push_decimal(out, u64::from(at))?;
+            push_decimal(out, value.get())
+        }
         What::Put(u, p) => {
             push_numbered(out, b"put", u64::from(u.0))?;
             push_decimal(out, u64::from(p.0))

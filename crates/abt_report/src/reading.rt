@@ -1,14 +1,14 @@
 //! Journals, read back from their texts.
 
-ghost use Rattle.std.specs.Prelude.{◌≡◌, ◌≢◌, ◌<◌, ◌-◌, ◌^◌, All, IfErr, IfOk, MatchBool, length};
+ghost use Rattle.std.specs.Prelude.{◌≡◌, ◌≢◌, ◌<◌, ◌-◌, ◌^◌, [], ◌∷◌, ◌++◌, All, IfErr, IfOk, MatchBool, OnOk, length};
 ghost use Rattle.abt_machine.specs.Texts.{journal_text};
-ghost use Rattle.abt_report.specs.Journals.{IsCause, IsEvent, ReadsAs, event_line};
+ghost use Rattle.abt_report.specs.Journals.{IsCause, IsEvent, ReadsMore, event_line};
 
 use crate::cuts::cut;
 use crate::guesses::{event, split};
 use crate::journals::push_event;
 use crate::text_fault::TextFault;
-use abt_machine::{Event, Journal, Want};
+use abt_machine::{Event, Journal, Want, What};
 use std::alloc::Global;
 
 /// The most bytes of a file that programs read as a journal's text.
@@ -23,22 +23,33 @@ fn is_line_of(line: &[u8], event: &Event, text: &mut Vec<u8>) -> Result<bool, Wa
     Ok(text.as_slice() == line)
 }
 
-// The event whose line this is. Words and text are buffers, used again for each line.
+// Appends an event. What happened has a name, since the prover makes no plan for the push of a type that is not named here.
+fn keep(events: &mut Vec<Event>, event: &Event) -> Result<(), Want>
+    ensures { OnOk result (events.new.items ≡ events.old.items ++ event.now ∷ []) }
+{
+    let what: What = event.what;
+    events.push(Event { what, ..*event })?;
+    Ok(())
+}
+
+// Appends the event whose line this is, if there is one. Words and text are buffers, used again for each line.
 fn read_event<'a>(
     line: &'a [u8],
     words: &mut Vec<&'a [u8]>,
     text: &mut Vec<u8>,
-) -> Result<Option<Event>, Want>
-    ensures { IfOk result (ReadsAs IsEvent event_line line.entry.now) }
+    events: &mut Vec<Event>,
+) -> Result<bool, Want>
+    ensures { IfOk result (λ read. ReadsMore line.entry.now events.old.items read events.new.items) }
 {
     split(words, line)?;
     let Some(event) = event(words) else {
-        return Ok(None);
+        return Ok(false);
     };
-    if is_line_of(line, &event, text)? {
-        return Ok(Some(event));
+    if !is_line_of(line, &event, text)? {
+        return Ok(false);
     }
-    Ok(None)
+    keep(events, &event)?;
+    Ok(true)
 }
 
 /// The journal whose text this is.
@@ -61,10 +72,9 @@ pub fn read_journal(alloc: Global, bytes: &[u8]) -> Result<Journal, TextFault>
         let Some((found, more)) = cut(rest, b'\n') else {
             return Err(TextFault::Bad { line });
         };
-        let Some(event) = read_event(found, &mut words, &mut text)? else {
+        if !read_event(found, &mut words, &mut text, &mut events)? {
             return Err(TextFault::Bad { line });
-        };
-        events.push(event)?;
+        }
         rest = more;
         line += 1;
     }

@@ -8,7 +8,7 @@ use abt_machine::{Event, What};
 fn is_step(what: What) -> bool
     ensures { result ≡ is_step what }
 {
-    matches!(what, What::Step(_, _, _))
+    matches!(what, What::Step(_, _, _) | What::Call(_, _, _))
 }
 
 /// How many events are steps.

@@ -1,10 +1,11 @@
 -- The arrows of a journal: each leads a unit from the event that sent it to a pool, by its put, to where it is taken.
-use Rattle.std.specs.Prelude.{ℕ, ◌==◌, if◌then◌else◌, List, [], ◌∷◌, ◌++◌, flat_map, fold, get_or, replicate, slice_set, Option, Some, None}
+use Rattle.std.specs.Prelude.{ℕ, ◌+◌, ◌==◌, if◌then◌else◌, List, [], ◌∷◌, ◌++◌, flat_map, fold, get_or, max, min, replicate, slice_set, Option, Some, None}
 use Rattle.abt_machine.specs.declared.events.Event.{Event}
 use Rattle.abt_machine.specs.declared.events.What.{What}
 use Rattle.abt_machine.specs.declared.events.What.TheVariants as what
 use Rattle.abt_machine.specs.declared.grammar.Format.TheVariants as format
 use Rattle.abt_machine.specs.Limits.{stream_limit, unit_limit}
+use Rattle.abt_machine.specs.Lives.{unit_of}
 use Rattle.abt_view.specs.declared.arrows.Arrow.{Arrow}
 use Rattle.abt_view.specs.declared.arrows.Sender.{Sender}
 use Rattle.abt_view.specs.declared.arrows.Spot.{Spot}
@@ -56,6 +57,7 @@ met ways e (what.Miss p) = noted e.stream.0 None ways
 met ways e (what.Take p u) = taken e u.0 ways
 met ways e (what.Look u) = taken e u.0 ways
 met ways e (what.Step u k c) = sent e u.0 ways
+met ways e (what.Call u k n) = sent e u.0 ways
 met ways e (what.Put u p) = replaced u.0 None (Some (begun e u.0 ways)) ways
 met ways e (what.End u c) = sent e u.0 ways
 met ways e (what.Enter u) = sent e u.0 ways
@@ -64,13 +66,22 @@ met ways e (what.Leave u) = sent e u.0 ways
 abbrev pub followed : WaysValue → Event → WaysValue
 followed ways e = met ways e e.what
 
--- the state before the first event, for as many streams and units as a workload may have
-abbrev pub at_start : WaysValue
-at_start = record { senders = replicate (stream_limit format.Two) None; waiting = replicate (unit_limit format.Two) None; past = [] }
+-- how many numbers of units there are up to this, at most as many as a workload may have; 0 if there is none
+abbrev pub units_to : Option ℕ → ℕ
+units_to None = 0
+units_to (Some u) = min (unit_limit format.Three) (u + 1)
+
+-- how many there are up to the greatest that the journal names
+abbrev pub units_in : List Event → ℕ
+units_in J = fold (λ n (e : Event). max n (units_to (unit_of e.what))) 0 J
+
+-- the state before the first event, for as many streams as a workload may have, and for so many units
+abbrev pub at_start : ℕ → WaysValue
+at_start units = record { senders = replicate (stream_limit format.Three) None; waiting = replicate units None; past = [] }
 
 -- the arrows that ended, in the order of their ends, and then those that did not, in order of unit
 abbrev pub arrows_in : WaysValue → List Arrow
 arrows_in ways = ways.past ++ flat_map (ended_at None) ways.waiting
 
 abbrev pub arrows_of : List Event → List Arrow
-arrows_of J = arrows_in (fold followed at_start J)
+arrows_of J = arrows_in (fold followed (at_start (units_in J)) J)

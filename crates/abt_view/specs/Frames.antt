@@ -32,6 +32,7 @@ nested nest e (what.Miss p) = nest
 nested nest e (what.Take p u) = nest
 nested nest e (what.Look u) = nest
 nested nest e (what.Step u k c) = nest
+nested nest e (what.Call u k n) = nest
 nested nest e (what.Put u p) = nest
 nested nest e (what.End u c) = nest
 nested nest e (what.Enter u) = record nest { inside = nest.inside ++ frame_begun (length nest.inside) e u.0 ∷ [] }

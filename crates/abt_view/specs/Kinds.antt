@@ -19,6 +19,7 @@ kind_word (what.Miss p) = codes "miss"
 kind_word (what.Take p u) = codes "take"
 kind_word (what.Look u) = codes "look"
 kind_word (what.Step u k c) = step_word c
+kind_word (what.Call u k n) = codes "call"
 kind_word (what.Put u p) = codes "put"
 kind_word (what.End u c) = cause_name c
 kind_word (what.Enter u) = codes "enter"

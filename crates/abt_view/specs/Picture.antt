@@ -90,7 +90,7 @@ counts_text J = around (codes "<text class='counts' x='-62' y='-36'>events ") (l
 
 -- what comes before the axis, with the program's style
 abbrev pub head_text : List Event → Text
-head_text J = size_text (max (10 * greatest_stamp J + 120) 560) (48 * streams_in J + 100) ++ (STYLE.now ++ counts_text J)
+head_text J = size_text (max (10 * greatest_stamp J + 120) 600) (48 * streams_in J + 100) ++ (STYLE.now ++ counts_text J)
 
 -- the kinds of marks, as the program draws them, below that number of lanes
 abbrev pub legend_text : ℕ → Text

@@ -31,6 +31,7 @@ turn_of held (what.Miss p) = Ends
 turn_of held (what.Take p u) = Begins u.0
 turn_of held (what.Look u) = goes_on_or_begins held u.0
 turn_of held (what.Step u k c) = goes_on_or_begins held u.0
+turn_of held (what.Call u k n) = goes_on_or_begins held u.0
 turn_of held (what.Put u p) = goes_on_or_stays held u.0
 turn_of held (what.End u c) = goes_on_or_begins held u.0
 turn_of held (what.Enter u) = goes_on_or_begins held u.0
@@ -72,7 +73,7 @@ stretches_of J s = (closed (fold (cut_at s) uncut J)).past
 
 -- how many streams a view shows: up to the greatest that has an event, and at most as many as a workload may have
 abbrev pub streams_in : List Event → ℕ
-streams_in J = min (stream_limit format.Two) (fold (λ n (e : Event). max n (e.stream.0 + 1)) 0 J)
+streams_in J = min (stream_limit format.Three) (fold (λ n (e : Event). max n (e.stream.0 + 1)) 0 J)
 
 -- the stretches of all streams that it shows, in order of stream
 abbrev pub all_stretches : List Event → List Stretch

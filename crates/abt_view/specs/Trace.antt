@@ -37,6 +37,10 @@ moment_text e = item_text (codes "X") (spot_of e) (codes ".1") ++ (codes ",\"dur
 abbrev pub instant_text : Event → ℕ → Text
 instant_text e u = item_text (codes "i") (spot_of e) (codes ".4") ++ (codes ",\"s\":\"t\",\"name\":\"" ++ (kind_word e.what ++ around (codes ", unit ") u (codes "\"}")))
 
+-- the instant of a call, with the number that it returned
+abbrev pub call_text : Event → ℕ → ℕ → Text
+call_text e u n = item_text (codes "i") (spot_of e) (codes ".4") ++ (around (codes ",\"s\":\"t\",\"name\":\"call, unit ") u (codes ", returned ") ++ around [] n (codes "\"}"))
+
 -- the beginning and the end of a stacked scheduler's frame
 abbrev pub enter_text : Event → ℕ → Text
 enter_text e u = item_text (codes "B") (spot_of e) (codes ".9") ++ around (codes ",\"name\":\"scheduler unit ") u (codes "\"}")
@@ -48,12 +52,13 @@ abbrev pub step_more : Event → ℕ → Code → Text
 step_more e u code.Ok = []
 step_more e u _ = instant_text e u
 
--- what an event has besides its slice: an enter and a leave the ends of a frame, an end and a refused step an instant
+-- what an event has besides its slice: an enter and a leave the ends of a frame, an end, a refused step and a call an instant
 abbrev pub more_text : Event → What → Text
 more_text e (what.Miss p) = []
 more_text e (what.Take p u) = []
 more_text e (what.Look u) = []
 more_text e (what.Step u k c) = step_more e u.0 c
+more_text e (what.Call u k n) = call_text e u.0 n
 more_text e (what.Put u p) = []
 more_text e (what.End u c) = instant_text e u.0
 more_text e (what.Enter u) = enter_text e u.0

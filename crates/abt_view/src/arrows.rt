@@ -1,7 +1,10 @@
 //! The arrows of a journal.
 
-ghost use Rattle.std.specs.Prelude.{◌≡◌, ◌++◌, IfOk, None, OnOk, get_or, replicate, slice_set};
-ghost use Rattle.abt_view.specs.Arrows.{arrows_in, arrows_of, at_start, begun, ended_at, followed, noted as noted_by, replaced, sent as sent_of, sent_by as sent_by_sender, spot_of, taken as taken_of};
+ghost use Rattle.std.specs.Prelude.{◌≡◌, ◌+◌, ◌++◌, IfOk, None, OnOk, get_or, min, replicate, slice_set};
+ghost use Rattle.abt_machine.specs.Limits.{unit_limit};
+ghost use Rattle.abt_machine.specs.Lives.{unit_of};
+ghost use Rattle.abt_machine.specs.declared.grammar.Format.TheVariants as format;
+ghost use Rattle.abt_view.specs.Arrows.{arrows_in, arrows_of, at_start, begun, ended_at, followed, noted as noted_by, replaced, sent as sent_of, sent_by as sent_by_sender, spot_of, taken as taken_of, units_in, units_to};
 
 use abt_machine::{Event, Format, Want, What};
 use std::alloc::Global;
@@ -121,13 +124,13 @@ fn push_ended(
 }
 
 impl Ways {
-    // The state before the first event.
-    fn start(alloc: Global) -> Result<Ways, Want>
-        ensures { IfOk result (λ ways. ways ≡ at_start) }
+    // The state before the first event, for that many units.
+    fn start(alloc: Global, units: u32) -> Result<Ways, Want>
+        ensures { IfOk result (λ ways. ways ≡ at_start units) }
     {
         Ok(Ways {
-            senders: no_senders(alloc, Format::Two.stream_limit())?,
-            waiting: no_arrows(alloc, Format::Two.unit_limit())?,
+            senders: no_senders(alloc, Format::Three.stream_limit())?,
+            waiting: no_arrows(alloc, units)?,
             past: Vec::new(alloc),
         })
     }
@@ -194,7 +197,11 @@ impl Ways {
                 let arrow = self.begin(event, u.0);
                 self.replace(u.0, None, Some(arrow))
             }
-            What::Step(u, _, _) | What::End(u, _) | What::Enter(u) | What::Leave(u) => {
+            What::Step(u, _, _)
+            | What::Call(u, _, _)
+            | What::End(u, _)
+            | What::Enter(u)
+            | What::Leave(u) => {
                 self.send(event, u.0);
                 Ok(())
             }
@@ -218,11 +225,47 @@ impl Ways {
     }
 }
 
+// How many numbers of units there are up to that of the event's unit, 0 if it names none.
+fn units_to(what: What) -> u32
+    ensures { result ≡ units_to (unit_of what) }
+{
+    match what {
+        What::Miss(_) => 0,
+        What::Take(_, u)
+        | What::Look(u)
+        | What::Step(u, _, _)
+        | What::Call(u, _, _)
+        | What::Put(u, _)
+        | What::End(u, _)
+        | What::Enter(u)
+        | What::Leave(u) => counted_to(u.0),
+    }
+}
+
+// How many numbers there are up to this, at most as many as a workload may have units.
+fn counted_to(u: u32) -> u32
+    ensures { result ≡ min (unit_limit format.Three) (u + 1) }
+{
+    let most = Format::Three.unit_limit();
+    if u < most { u + 1 } else { most }
+}
+
+// For how many units the arrows of the journal have room.
+fn count_units(journal: &[Event]) -> u32
+    ensures { result ≡ units_in journal.now }
+{
+    let mut count = 0;
+    for event in journal {
+        count = count.max(units_to(event.what));
+    }
+    count
+}
+
 /// The arrows of a journal: first those that ended, in order of their ends, then the others in order of unit.
 pub fn all_arrows(alloc: Global, journal: &[Event]) -> Result<Vec<Arrow>, Want>
     ensures { IfOk result (λ arrows. arrows.items ≡ arrows_of journal.now) }
 {
-    let mut ways = Ways::start(alloc)?;
+    let mut ways = Ways::start(alloc, count_units(journal))?;
     for event in journal {
         ways.follow(*event)?;
     }

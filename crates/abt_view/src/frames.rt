@@ -89,7 +89,7 @@ impl Nest {
             What::Miss(_) => Ok(()),
             What::Take(_, _) => Ok(()),
             What::Look(_) => Ok(()),
-            What::Step(_, _, _) => Ok(()),
+            What::Step(_, _, _) | What::Call(_, _, _) => Ok(()),
             What::Put(_, _) => Ok(()),
             What::End(_, _) => Ok(()),
             What::Enter(u) => {
@@ -106,8 +106,9 @@ impl Nest {
         ensures { OnOk result (self.new ≡ framed s self.old event) }
     {
         if u64::from(event.stream.0) == s {
+            let stamp = event.stamp;
             self.take(event)?;
-            self.last = event.stamp;
+            self.last = stamp;
         }
         Ok(())
     }
@@ -142,7 +143,7 @@ fn frames(alloc: Global, journal: &[Event], s: u64) -> Result<Vec<Frame>, Want>
     nest.finish()
 }
 
-/// The frames of streams 0 to 15, in order of stream, and within a stream the outer before the inner.
+/// The frames of the streams that a view shows, in order of stream, and within a stream the outer before the inner.
 pub fn all_frames(alloc: Global, journal: &[Event]) -> Result<Vec<Frame>, Want>
     ensures { IfOk result (λ all. all.items ≡ frames_of_all journal.now) }
 {

@@ -24,6 +24,7 @@ pub(crate) fn word(what: What) -> &'static [u8]
         What::Take(_, _) => b"take",
         What::Look(_) => b"look",
         What::Step(_, _, code) => step_word(code),
+        What::Call(_, _, _) => b"call",
         What::Put(_, _) => b"put",
         What::End(_, cause) => name_of_cause(cause),
         What::Enter(_) => b"enter",

@@ -28,12 +28,13 @@ g>text{fill:#000}
 use{pointer-events:none}
 </style>
 <defs>
-<path id='tick' d='M0 -8V772' stroke='#eee'/>
+<path id='tick' d='M0 -8V3076' stroke='#eee'/>
 <path id='miss' d='M3 26h4' stroke='#bbb'/>
 <path id='look' d='M5 24v4' stroke='#bbb'/>
 <path id='take' d='M5 30v-8m-3 3l3 -3l3 3' fill='none' stroke='#333'/>
 <path id='put' d='M5 22v8m-3 -3l3 3l3 -3' fill='none' stroke='#333'/>
 <path id='step' d='M5 23v6' stroke='#333' stroke-width='2'/>
+<path id='call' d='M5 23v6m-3 -3h6' fill='none' stroke='#333' stroke-width='2'/>
 <path id='refused' d='M1 22l8 8m0 -8l-8 8' stroke='#d00' stroke-width='2'/>
 <path id='done' d='M2 23h6v6h-6z' fill='#333'/>
 <path id='asked' d='M2 23h6v6h-6z' fill='none' stroke='#d00'/>
@@ -59,6 +60,7 @@ const LEGEND: &[u8] = b"<path d='M-8 -8H201000V60H-8z' fill='#fff'/>
 <use href='#own' x='418' y='-20'/><text x='431' y='10'>own</text>
 <use href='#enter' x='458' y='-20'/><text x='470' y='10'>enter</text>
 <use href='#leave' x='504' y='-20'/><text x='516' y='10'>leave</text>
+<use href='#call' x='552' y='-20'/><text x='565' y='10'>call</text>
 </g>
 ";
 
@@ -228,7 +230,7 @@ fn push_mark(out: &mut Vec<u8>, event: &Event) -> Result<(), Want>
 
 // Appends the name of a stream before its lane.
 fn push_lane(out: &mut Vec<u8>, s: u64) -> Result<(), Want>
-    requires { s < 16 }
+    requires { s < 64 }
     ensures { OnOk result (out.new.items ≡ out.old.items ++ lane_text s) }
 {
     push_around(out, b"<text class='lane' x='-62' y='", LANE * s + 14, b"'>")?;
@@ -281,7 +283,7 @@ fn push_head(out: &mut Vec<u8>, journal: &[Event]) -> Result<(), Want>
 {
     let last = greatest_stamp(journal);
     let streams = count_streams(journal);
-    push_size(out, (10 * last + 120).max(560), LANE * streams + 100)?;
+    push_size(out, (10 * last + 120).max(600), LANE * streams + 100)?;
     out.extend_from_slice(STYLE)?;
     push_counts(out, journal)?;
     Ok(())
@@ -300,7 +302,7 @@ fn push_ticks(out: &mut Vec<u8>, count: u64) -> Result<(), Want>
 
 // Appends the names of the first streams, as many as the count says.
 fn push_lanes(out: &mut Vec<u8>, count: u64) -> Result<(), Want>
-    requires { count ≤ 16 }
+    requires { count ≤ 64 }
     ensures { OnOk result (out.new.items ≡ out.old.items ++ flat_map lane_text (range_with_len 0 count)) }
 {
     for s in 0..count {
@@ -311,7 +313,7 @@ fn push_lanes(out: &mut Vec<u8>, count: u64) -> Result<(), Want>
 
 // Appends the kinds of marks, below that number of lanes.
 fn push_legend(out: &mut Vec<u8>, streams: u64) -> Result<(), Want>
-    requires { streams ≤ 16 }
+    requires { streams ≤ 64 }
     ensures { OnOk result (out.new.items ≡ out.old.items ++ legend_text streams) }
 {
     push_around(

@@ -69,7 +69,7 @@ fn turn_of(held: &Option<Stretch>, what: What) -> Turn
         What::Miss(_) => Turn::Ends,
         What::Take(_, u) => Turn::Begins(u.0),
         What::Look(u) => goes_on_or_begins(held, u.0),
-        What::Step(u, _, _) => goes_on_or_begins(held, u.0),
+        What::Step(u, _, _) | What::Call(u, _, _) => goes_on_or_begins(held, u.0),
         What::Put(u, _) => goes_on_or_stays(held, u.0),
         What::End(u, _) => goes_on_or_begins(held, u.0),
         What::Enter(u) => goes_on_or_begins(held, u.0),
@@ -86,16 +86,20 @@ fn more<T: Drop>(items: Items<T>, item: T) -> Result<Items<T>, Want>
     Ok(Items::new(list))
 }
 
-// A stretch that begins with an event.
+// A stretch that begins with an event. What happened has a name here and below, since the prover makes no plan for the append of
+// a type that is not named.
 fn begin(alloc: Global, u: u32, event: Event) -> Result<Stretch, Want>
     ensures { IfOk result (λ stretch. stretch ≡ begun u event) }
 {
-    let events = more(Items::new(Vec::new(alloc)), event)?;
+    let stream = event.stream.0;
+    let stamp = event.stamp;
+    let what: What = event.what;
+    let events = more(Items::new(Vec::new(alloc)), Event { what, ..event })?;
     Ok(Stretch {
-        stream: event.stream.0,
+        stream,
         unit: u,
-        since: event.stamp,
-        until: event.stamp,
+        since: stamp,
+        until: stamp,
         events,
     })
 }
@@ -111,12 +115,14 @@ fn longer(stretch: Stretch, event: Event) -> Result<Stretch, Want>
         until: _,
         events,
     } = stretch;
-    let events = more(events, event)?;
+    let until = event.stamp;
+    let what: What = event.what;
+    let events = more(events, Event { what, ..event })?;
     Ok(Stretch {
         stream,
         unit,
         since,
-        until: event.stamp,
+        until,
         events,
     })
 }
@@ -211,10 +217,10 @@ pub(crate) fn count_streams(journal: &[Event]) -> u64
     for event in journal {
         count = count.max(u64::from(event.stream.0) + 1);
     }
-    count.min(u64::from(Format::Two.stream_limit()))
+    count.min(u64::from(Format::Three.stream_limit()))
 }
 
-/// The stretches of streams 0 to 15, in order of stream, and within a stream in order of time.
+/// The stretches of the streams that a view shows, in order of stream, and within a stream in order of time.
 pub fn all_stretches(alloc: Global, journal: &[Event]) -> Result<Vec<Stretch>, Want>
     ensures { IfOk result (λ all. all.items ≡ stretches_of_all journal.now) }
 {

@@ -2,7 +2,7 @@
 
 ghost use Rattle.std.specs.Prelude.{◌≡◌, ◌++◌, IfOk, OnOk, flat_map};
 ghost use Rattle.std.specs.List.{range_with_len};
-ghost use Rattle.abt_view.specs.Trace.{arrow_text, enter_text, event_text, instant_text, item_text, leave_text, moment_text, more_text, point_text, points_text, slice_text, step_more, trace_text, track_text};
+ghost use Rattle.abt_view.specs.Trace.{arrow_text, call_text, enter_text, event_text, instant_text, item_text, leave_text, moment_text, more_text, point_text, points_text, slice_text, step_more, trace_text, track_text};
 
 use crate::arrows::{Arrow, Spot, all_arrows, spot_at};
 use crate::kinds::word;
@@ -106,6 +106,20 @@ fn push_step(out: &mut Vec<u8>, event: &Event, u: u32, code: Code) -> Result<(),
     }
 }
 
+// Appends the instant of a call, with the number that it returned.
+fn push_call(out: &mut Vec<u8>, event: &Event, u: u32, value: u64) -> Result<(), Want>
+    ensures { OnOk result (out.new.items ≡ out.old.items ++ call_text event.now u value) }
+{
+    push_item(out, b"i", spot_at(event), b".4")?;
+    push_around(
+        out,
+        b",\"s\":\"t\",\"name\":\"call, unit ",
+        u64::from(u),
+        b", returned ",
+    )?;
+    push_around(out, b"", value, b"\"}")
+}
+
 // Appends the beginning of a frame.
 fn push_enter(out: &mut Vec<u8>, event: &Event, u: u32) -> Result<(), Want>
     ensures { OnOk result (out.new.items ≡ out.old.items ++ enter_text event.now u) }
@@ -132,6 +146,7 @@ fn push_more(out: &mut Vec<u8>, event: &Event, what: What) -> Result<(), Want>
         What::Take(_, _) => Ok(()),
         What::Look(_) => Ok(()),
         What::Step(u, _, code) => push_step(out, event, u.0, code),
+        What::Call(u, _, value) => push_call(out, event, u.0, value.get()),
         What::Put(_, _) => Ok(()),
         What::End(u, _) => push_instant(out, event, u.0),
         What::Enter(u) => push_enter(out, event, u.0),

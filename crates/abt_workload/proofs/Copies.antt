@@ -8,6 +8,7 @@ use Rattle.std.proofs.lemmas.List.Elements.{All-append, All-cons, All-head, All-
 use Rattle.std.proofs.lemmas.List.Folds.{list_any-append}
 use Rattle.std.proofs.lemmas.List.FromFn.{get_or-range_with_len, length-range_with_len}
 use Rattle.std.proofs.Math.Nat.{mul-add}
+use Rattle.abt_machine.specs.declared.grammar.Format.TheVariants as format
 use Rattle.abt_machine.specs.declared.operations.Body.{Body}
 use Rattle.abt_machine.specs.declared.operations.Body.TheVariants as body
 use Rattle.abt_machine.specs.declared.operations.Op.{Op}
@@ -273,7 +274,7 @@ alike-more (suc n) m units part some =
     sym (append_assoc units (part ∷ []) (alike (suc n - 1) m (unit_later m part)) ∙ ap (λ (k : ℕ). units ++ part ∷ alike k m (unit_later m part)) less)
 
 -- the last unit's words, each a copy's number higher, have 32 bits
-pub words-later : (n f m : ℕ) (ns : List ℕ) → ns ≡ range_with_len f m → f + m ≤ operation_limit → f + n * m ≤ operation_limit → All (λ w. w + n * m < 2 ^ 32) ns
+pub words-later : (n f m : ℕ) (ns : List ℕ) → ns ≡ range_with_len f m → f + m ≤ operation_limit format.Three → f + n * m ≤ operation_limit format.Three → All (λ w. w + n * m < 2 ^ 32) ns
 words-later n f m ns e here few = subst (λ (ks : List ℕ). All (λ w. w + n * m < 2 ^ 32) ks) (sym e) (λ k d lt.
     let long = length-range_with_len f m in
     let is = get_or-range_with_len f m k d (omega arith) in
@@ -292,7 +293,8 @@ last-any a g = by a.last
     by (Some part) = any-alike g a.copies (length a.said) part ∙ ap (λ (gs : List ℕ). nat_lt 0 a.copies && list_any (λ h. h == g) gs) (sym (append-nil (sched_in part.body)))
 
 -- the same units, parted in two ways, have as many operations
-pub more-ops : (us vs xs ys : List UnitPart) → us ++ vs ≡ xs ++ ys → length (all_ops xs) + length (all_ops ys) ≤ operation_limit → length (all_ops us) + length (all_ops vs) ≤ operation_limit
+pub more-ops : (us vs xs ys : List UnitPart) → us ++ vs ≡ xs ++ ys → length (all_ops xs) + length (all_ops ys) ≤ operation_limit format.Three
+    → length (all_ops us) + length (all_ops vs) ≤ operation_limit format.Three
 more-ops us vs xs ys e few =
     let both : (first later : List UnitPart) → length (all_ops (first ++ later)) ≡ length (all_ops first) + length (all_ops later) =
     (λ first later. ap length (flat_map-append (λ (p : UnitPart). ops_of p.body) first later) ∙ length-append (all_ops first) (all_ops later)) in

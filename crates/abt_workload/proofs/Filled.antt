@@ -1,7 +1,5 @@
 -- Lines that are written of their form's words and of numbers are taken.
-use Rattle.std.proofs.Common.{◌≡◌, ◌&&◌, ◌∙◌, ℕ, All, Bool, true, false, List, [], ◌∷◌, ◌++◌, Option, Some, None, ap, decimal, find, map, refl, subst, sym}
-use Rattle.std.proofs.lemmas.List.Folds.{find-append}
-use Rattle.std.specs.Option.{option_or}
+use Rattle.std.proofs.Common.{◌≡◌, ◌&&◌, ◌∙◌, ℕ, All, Bool, true, false, List, [], ◌∷◌, Some, ap, decimal, find, map, refl, subst, sym}
 use Rattle.std.proofs.lemmas.List.Elements.{All-cons}
 use Rattle.abt_machine.specs.declared.grammar.Form.{Form}
 use Rattle.abt_machine.specs.declared.grammar.Form.TheVariants as form
@@ -12,7 +10,7 @@ use Rattle.abt_machine.specs.declared.grammar.Number.TheVariants as number
 use Rattle.abt_machine.specs.Canonical.{filled}
 use Rattle.abt_machine.specs.Declaring.{Above, access_with, op_with, rule_with, start_with, thing_with}
 use Rattle.abt_machine.specs.Faults.{is_skipped, values}
-use Rattle.abt_machine.specs.Forms.{Slot, Fixed, Numeral, PoolList, added_forms, fits, form_of, is_in, numerals, shared_forms, slots}
+use Rattle.abt_machine.specs.Forms.{Slot, Fixed, Numeral, PoolList, fits, form_of, forms, is_in, numerals, slots}
 use Rattle.abt_machine.specs.Valid.{IsWord}
 use Rattle.abt_machine.specs.Words.{Text}
 use Rattle.abt_workload.specs.Declarable.{with_line}
@@ -79,25 +77,37 @@ module _ (a : Above) where
   words-filled (PoolList ∷ places) word ns e w h = pools-words ns h
   words-filled (slot ∷ places) word ns e w h = All-cons IsWord word (filled places word ns) (w refl) (words-filled places word ns e (λ _. w refl) h)
 
--- no form of format 2 alone is one of format 1
-none-new : (words : List Text) → find (λ f. is_in format.One f && fits (slots f) words) added_forms ≡ None
-none-new words = refl
+-- a form of format 1 is one of each format
+pub in-each : (F : Format) (f : Form) → is_in format.One f ≡ true → is_in F f ≡ true
+in-each format.One f e = e
+in-each format.Two (form.Operation o) e = e
+in-each format.Two (form.Repeat o) e = cc
+in-each format.Two f e = refl
+in-each format.Three f e = refl
 
--- what is found before more is found with more
-found-before : (p : Form → Bool) (xs ys : List Form) (f : Form) → find p xs ≡ Some f → find p (xs ++ ys) ≡ Some f
-found-before p xs ys f e = find-append p xs ys ∙ ap (λ (o : Option Form). option_or o (find p ys)) e
-
--- a form of a line in format 1 is its form in each
-form-in : (F : Format) (words : List Text) (f : Form) → form_of format.One words ≡ Some f → form_of F words ≡ Some f
-form-in format.One words f e = e
-form-in format.Two words f e = found-before (λ g. is_in format.Two g && fits (slots g) words) shared_forms added_forms f old
+-- a form that a line has in format 3 is its form in each format that has it
+form-in : (F : Format) (words : List Text) (f : Form) → is_in F f ≡ true → form_of format.Three words ≡ Some f → form_of F words ≡ Some f
+form-in F words f mine e = among forms e
   where
-    first : (o : Option Form) → option_or o (find (λ g. is_in format.One g && fits (slots g) words) added_forms) ≡ Some f → o ≡ Some f
-    first None h = let none = none-new words in cc
-    first (Some g) h = h
+    and-no : (b : Bool) → (b && false) ≡ false
+    and-no true = refl
+    and-no false = refl
 
-    old : find (λ g. is_in format.One g && fits (slots g) words) shared_forms ≡ Some f
-    old = first (find (λ g. is_in format.One g && fits (slots g) words) shared_forms) (sym (find-append (λ g. is_in format.One g && fits (slots g) words) shared_forms added_forms) ∙ e)
+    among : (fs : List Form) → find (λ g. is_in format.Three g && fits (slots g) words) fs ≡ Some f → find (λ g. is_in F g && fits (slots g) words) fs ≡ Some f
+    among [] h = cc
+    among (g ∷ gs) h = by (fits (slots g) words) refl (among gs)
+      where
+        by : (b : Bool) → fits (slots g) words ≡ b → (find (λ h. is_in format.Three h && fits (slots h) words) gs ≡ Some f → find (λ h. is_in F h && fits (slots h) words) gs ≡ Some f)
+            → find (λ h. is_in F h && fits (slots h) words) (g ∷ gs) ≡ Some f
+        by true is rest =
+            let first : Some g ≡ Some f = rw is at h in
+            let same : g ≡ f = cc in
+            let has : is_in F g ≡ true = subst (λ (x : Form). is_in F x ≡ true) (sym same) mine in
+            rw (has, is) first
+        by false is rest =
+            let others : find (λ h. is_in format.Three h && fits (slots h) words) gs ≡ Some f = rw is at h in
+            let none : (is_in F g && false) ≡ false = and-no (is_in F g) in
+            rw (is, none) (rest others)
 
 -- a form as the table has it: each of its numbers is 0
 abbrev pub blank : Form → Form
@@ -113,14 +123,14 @@ blank f = f
 -- words that are written for a line of this form, of this word where there is a choice, and of these numbers
 pub record IsWritten (f : Form) (word : Text) (ns : List ℕ) (words : List Text) : Type 0 where
   pub words_are : words ≡ filled (slots f) word ns
-  pub form_is : form_of format.One words ≡ Some f
+  pub form_is : form_of format.Three words ≡ Some f
   pub skipped : is_skipped words ≡ false
   pub plain : plain_places (slots f) ≡ true
   pub chosen : has_choice (slots f) ≡ true → IsWord word
 
--- a line that is written is taken if it has no fault
-pub takes : (a b : Above) (f : Form) (word : Text) (ns : List ℕ) (words : List Text) → IsWritten f word ns words → AreFit a (given (slots f) ns)
+-- a line that is written is taken if its format has the form, and it has no fault
+pub takes : (a b : Above) (f : Form) (word : Text) (ns : List ℕ) (words : List Text) → IsWritten f word ns words → is_in a.format f ≡ true → AreFit a (given (slots f) ns)
     → IsFine a f words (values (given (slots f) ns)) → with_line a f words (values (given (slots f) ns)) ≡ b → Takes a words b
-takes a b f word ns words w fit =
+takes a b f word ns words w mine fit =
     line-taken a b words f (given (slots f) ns) (subst (All IsWord) (sym w.words_are) (words-filled a (slots f) word ns w.plain w.chosen fit))
-    w.skipped (form-in a.format words f w.form_is) (ap (numerals (slots f)) w.words_are ∙ numerals-filled (slots f) word ns) fit
+    w.skipped (form-in a.format words f mine w.form_is) (ap (numerals (slots f)) w.words_are ∙ numerals-filled (slots f) word ns) fit

@@ -10,6 +10,7 @@ use Rattle.std.proofs.Math.Nat.{mul-le-mul_right, mul-zero}
 use Rattle.std.proofs.lemmas.Bool.{leb-true, ltb-true}
 use Rattle.abt_machine.specs.declared.grammar.Form.{Form}
 use Rattle.abt_machine.specs.declared.grammar.Form.TheVariants as form
+use Rattle.abt_machine.specs.declared.grammar.Format.TheVariants as format
 use Rattle.abt_machine.specs.declared.grammar.Number.{Number}
 use Rattle.abt_machine.specs.declared.grammar.Number.TheVariants as number
 use Rattle.abt_machine.specs.declared.grammar.Role.{Role}
@@ -40,7 +41,7 @@ use Rattle.abt_machine.proofs.Saying.{said_by_units}
 use Rattle.abt_workload.specs.Declarable.{AreOpSmall, AreSmall, IsClosable, IsDeclarable, IsSaid, IsSaidBy, IsSmall, IsSmallRule, is_wide, last_ops, op_count, with_line}
 use Rattle.abt_workload.specs.Reading.{IsFirm, IsSeen}
 use Rattle.abt_workload.proofs.Copies.{AreCopies, ops-say, units-ops, units-said, units-say}
-use Rattle.abt_workload.proofs.Keeping.{keeps-keys, keeps-object, keeps-pool, keeps-sched, keeps-stream, keeps-streams, keeps-units, keeps-version, listed-there, most-streams, most-units}
+use Rattle.abt_workload.proofs.Keeping.{keeps-keys, keeps-object, keeps-pool, keeps-sched, keeps-stream, keeps-streams, keeps-units, keeps-version, listed-there, most-streams, most-unit-ops, most-units}
 use Rattle.abt_workload.proofs.KeepingUnits.{begun-proper, keeps-end, keeps-many, keeps-operation, keeps-repeat, keeps-unit, two-words, units-below}
 use Rattle.abt_workload.proofs.LineWords.{words-utf8}
 use Rattle.abt_workload.proofs.Naming.{IsSoundOp, op_values}
@@ -112,6 +113,8 @@ there-small a h kind n e both = by kind e (and-left (is_there a kind n) _ both) 
         not-not false x = cc
     by number.StreamCount f t w = let le : n ≤ stream_limit a.format = leb-true n _ (and-right (nat_le 1 n) _ w) in let most = most-streams a.format in omega arith
     by number.UnitCount f t w = let le : n ≤ unit_limit a.format = leb-true n _ w in let most = most-units a.format in omega arith
+    by number.Copies f t w = let le : n ≤ unit_limit a.format = leb-true n _ (and-right (nat_le 1 n) _ w) in let most = most-units a.format in omega arith
+    by number.Times f t w = let le : n ≤ unit_operation_limit a.format = leb-true n _ (and-right (nat_le 1 n) _ w) in let most = most-unit-ops a.format in omega arith
     by number.NewPool f t w = let le = leb-true n _ t in let few = h.pools.few in omega arith
     by number.NewSched f t w = let le = leb-true n _ t in let few = h.scheds.few in omega arith
     by number.NewObject f t w = let le = leb-true n _ t in let few = h.objects.few in omega arith
@@ -167,6 +170,10 @@ word-utf8 line utf8 (op.Say w) k ws op_fits e =
 word-utf8 line utf8 _ k ws op_fits e = tt
 
 module _ (a : Above) (line : Text) (words : List Text) (h : IsProper a) where
+  -- no operation is repeated more often than a unit has operations
+  repeated-few : (n : ℕ) → is_within a.format number.Times n ≡ true → n ≤ unit_operation_limit format.Three
+  repeated-few n w = let le : n ≤ unit_operation_limit a.format = leb-true n _ (and-right (nat_le 1 n) _ w) in let most = most-unit-ops a.format in omega arith
+
   small : (f : Form) → IsSound a line words f → (k : ℕ) → is_small_at (slots f) k ≡ true → IsSmall (at (values_of f words) k)
   small f s k e = small-at (λ kind n. is_there a kind n && is_within a.format kind n) (there-small a h) (slots f) words k s.form_fits e (all-both (λ p. is_there a p.0 p.1) (λ p. is_within a.format p.0 p.1) (numbers_of f words) s.there s.within)
 
@@ -200,7 +207,7 @@ module _ (a : Above) (line : Text) (words : List Text) (h : IsProper a) where
   all-small (form.Operation o) s = op-small a h o words record { op_fits = s.form_fits; there = s.there; within = s.within }
   all-small (form.Repeat o) s =
       let r = repeated-op o s in (
-        leb-true _ unit_operation_limit (and-right (nat_le 1 (at (values_of (form.Repeat o) words) 0)) _ r.2),
+        repeated-few (at (values_of (form.Repeat o) words) 0) r.2,
         subst (AreOpSmall o) (sym r.1) (op-small a h o (drop 2 words) r.0),
       )
 
@@ -212,7 +219,7 @@ module _ (a : Above) (line : Text) (words : List Text) (h : IsProper a) where
 -- The last unit and its copies.
 
 -- few words are said
-words-few : (a : Above) → IsProper a → length a.words + length a.said ≤ operation_limit
+words-few : (a : Above) → IsProper a → length a.words + length a.said ≤ operation_limit format.Three
 words-few a h =
     let above : length (said_by_units a.units) ≡ length a.words = ap length h.said ∙ length-range_with_len 0 (length a.words) in
     let say = units-say a.units in

@@ -10,9 +10,9 @@ use Rattle.abt_machine.specs.declared.grammar.Number.TheVariants as number
 use Rattle.abt_machine.specs.declared.operations.Thing.{Thing}
 use Rattle.abt_machine.specs.Declaring.{Above, declared_units, parts_of}
 use Rattle.abt_machine.specs.Faults.{is_barrier, is_condition, is_eventual, is_future, is_mutex, is_rwlock, is_there, is_within}
-use Rattle.abt_machine.specs.Limits.{key_limit, object_limit, pool_limit, sched_limit, stream_limit, unit_limit}
+use Rattle.abt_machine.specs.Limits.{key_limit, object_limit, pool_limit, sched_limit, stream_limit, unit_limit, unit_operation_limit}
 use Rattle.abt_machine.specs.Operations.{IsNamed}
-use Rattle.abt_workload.proofs.Keeping.{most-streams, most-units}
+use Rattle.abt_workload.proofs.Keeping.{most-streams, most-unit-ops, most-units}
 use Rattle.abt_workload.proofs.Proper.{stream_count, unit_count}
 
 -- a number may stand in a line below lines that declare a
@@ -31,6 +31,8 @@ abbrev pub IsMet : Above → Number → ℕ → Type 0
 IsMet a (number.Within low high) n = (low ≤ n) × (n ≤ high) × (n < 2 ^ 64)
 IsMet a number.StreamCount n = (1 ≤ n) × (n ≤ stream_limit a.format)
 IsMet a number.UnitCount n = n ≤ unit_limit a.format
+IsMet a number.Copies n = (1 ≤ n) × (n ≤ unit_limit a.format)
+IsMet a number.Times n = (1 ≤ n) × (n ≤ unit_operation_limit a.format)
 IsMet a number.NewPool n = n ≡ length a.pools
 IsMet a number.NewSched n = n ≡ length a.scheds
 IsMet a number.NewObject n = n ≡ length a.objects
@@ -46,12 +48,12 @@ AreMet a (p ∷ q ∷ ps) = IsMet a p.0 p.1 × AreMet a (q ∷ ps)
 
 -- no more is declared than a workload may have
 pub record IsSmall (a : Above) : Type 0 where
-  pub streams : stream_count a ≤ stream_limit format.Two
+  pub streams : stream_count a ≤ stream_limit format.Three
   pub keys : a.keys ≤ key_limit
-  pub pools : length a.pools ≤ pool_limit
-  pub scheds : length a.scheds ≤ sched_limit
-  pub objects : length a.objects ≤ object_limit
-  pub units : unit_count a ≤ unit_limit format.Two
+  pub pools : length a.pools ≤ pool_limit format.Three
+  pub scheds : length a.scheds ≤ sched_limit format.Three
+  pub objects : length a.objects ≤ object_limit format.Three
+  pub units : unit_count a ≤ unit_limit format.Three
 
 -- a number within its bounds may stand in a line
 pub fit-within : (a : Above) (low high n : ℕ) → low ≤ n → n ≤ high → n < 2 ^ 64 → IsFit a (number.Within low high) n
@@ -75,6 +77,16 @@ module _ (a : Above) (few : IsSmall a) where
       let high = h.1 in
       record { there = refl; within = and_from _ _ (le-leb 1 n low) (le-leb n (stream_limit a.format) high); small = omega arith }
   fit number.UnitCount n h = let most = most-units a.format in record { there = refl; within = le-leb n (unit_limit a.format) h; small = omega arith }
+  fit number.Copies n h =
+      let most = most-units a.format in
+      let low = h.0 in
+      let high = h.1 in
+      record { there = refl; within = and_from _ _ (le-leb 1 n low) (le-leb n (unit_limit a.format) high); small = omega arith }
+  fit number.Times n h =
+      let most = most-unit-ops a.format in
+      let low = h.0 in
+      let high = h.1 in
+      record { there = refl; within = and_from _ _ (le-leb 1 n low) (le-leb n (unit_operation_limit a.format) high); small = omega arith }
   fit number.NewPool n h = record { there = le-leb n _ (omega arith); within = refl; small = let most = few.pools in omega arith }
   fit number.NewSched n h = record { there = le-leb n _ (omega arith); within = refl; small = let most = few.scheds in omega arith }
   fit number.NewObject n h = record { there = le-leb n _ (omega arith); within = refl; small = let most = few.objects in omega arith }

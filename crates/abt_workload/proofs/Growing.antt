@@ -63,7 +63,7 @@ access-grows m n le access.Mpmc h = tt
 pub sched-grows : (m n : ℕ) → m ≤ n → (part : SchedPart) → IsSched m part → IsSched n part
 sched-grows m n le part h = record { rule = h.rule; some_pool = h.some_pool; few_pools = h.few_pools; listed = λ k d lt. let x = h.listed k d lt in omega (arith, x); once = h.once }
 
-pub no-units : (W : Parts) (count : ℕ) (units : List UnitPart) (last : Option UnitPart) (copies : ℕ) → units ≡ [] → last ≡ None → count ≤ unit_limit format.Two → HasUnits W count units last copies
+pub no-units : (W : Parts) (count : ℕ) (units : List UnitPart) (last : Option UnitPart) (copies : ℕ) → units ≡ [] → last ≡ None → count ≤ unit_limit format.Three → HasUnits W count units last copies
 no-units W count units last copies eu el le =
     let nothing : HasUnits W count [] None copies = record { few = le; declared = omega arith; all = none-of _; copied = tt } in
     subst (λ (us : List UnitPart). HasUnits W count us last copies) (sym eu) (subst (λ (o : Option UnitPart). HasUnits W count [] o copies) (sym el) nothing)

@@ -10,10 +10,11 @@ use Rattle.abt_machine.specs.declared.numbers.SchedNo.{SchedNo}
 use Rattle.abt_machine.specs.declared.workload.Parts.{Parts}
 use Rattle.abt_machine.specs.Canonical.{form_words, keys_lines, object_line, pool_line, sched_line, stream_line, units_words}
 use Rattle.abt_machine.specs.Declaring.{Above, nothing}
-use Rattle.abt_machine.specs.Limits.{key_limit, stream_limit, unit_limit}
+use Rattle.abt_machine.specs.Limits.{key_limit, stream_limit}
 use Rattle.abt_machine.specs.Valid.{IsValid}
 use Rattle.abt_machine.specs.Words.{Text, numbered}
-use Rattle.abt_workload.proofs.Filled.{takes}
+use Rattle.abt_workload.proofs.Allowing.{Allows}
+use Rattle.abt_workload.proofs.Filled.{in-each, takes}
 use Rattle.abt_workload.proofs.Fitting.{IsSmall, fit, fit-within}
 use Rattle.abt_workload.proofs.Heads.{all_mains, head, head_lines, placing}
 use Rattle.abt_workload.proofs.InOrder.{placed-alone, reached, reached-le}
@@ -35,12 +36,21 @@ version-taken : (F : Format) → Takes nothing (form_words (form.Version F) [] [
 version-taken format.One =
     takes nothing (versioned format.One) (form.Version format.One) [] [] (form_words (form.Version format.One) [] [])
     record { words_are = refl; form_is = refl; skipped = refl; plain = refl; chosen = λ e. cc }
+    refl
     tt
     record { version = refl; placed = refl; once = refl; beyond = refl; limit = refl; task = refl; access = refl; early = refl }
     refl
 version-taken format.Two =
     takes nothing (versioned format.Two) (form.Version format.Two) [] [] (form_words (form.Version format.Two) [] [])
     record { words_are = refl; form_is = refl; skipped = refl; plain = refl; chosen = λ e. cc }
+    refl
+    tt
+    record { version = refl; placed = refl; once = refl; beyond = refl; limit = refl; task = refl; access = refl; early = refl }
+    refl
+version-taken format.Three =
+    takes nothing (versioned format.Three) (form.Version format.Three) [] [] (form_words (form.Version format.Three) [] [])
+    record { words_are = refl; form_is = refl; skipped = refl; plain = refl; chosen = λ e. cc }
+    refl
     tt
     record { version = refl; placed = refl; once = refl; beyond = refl; limit = refl; task = refl; access = refl; early = refl }
     refl
@@ -54,6 +64,7 @@ count-taken : (F : Format) (n : ℕ) → 0 < n → n ≤ stream_limit F → Take
 count-taken F n some few =
     takes (versioned F) (pooling F 2 n 0 []) form.Streams [] (n ∷ []) (form_words form.Streams [] (n ∷ []))
     record { words_are = refl; form_is = refl; skipped = refl; plain = refl; chosen = λ e. cc }
+    (in-each F form.Streams refl)
     (fit (versioned F) (below-small F n) number.StreamCount n (omega arith, few), tt)
     record { version = refl; placed = refl; once = refl; beyond = refl; limit = refl; task = refl; access = refl; early = refl }
     refl
@@ -77,6 +88,7 @@ keys-taken F n (suc k) few = (pooling F 3 n (suc k) [], line, refl)
     line =
         takes (pooling F 2 n 0 []) (pooling F 3 n (suc k) []) form.Keys [] (suc k ∷ []) (form_words form.Keys [] (suc k ∷ []))
         record { words_are = refl; form_is = refl; skipped = refl; plain = refl; chosen = λ e. cc }
+        (in-each F form.Keys refl)
         (fit-within (pooling F 2 n 0 []) 0 key_limit (suc k) (omega arith) few (omega arith), tt)
         record { version = refl; placed = refl; once = refl; beyond = refl; limit = refl; task = refl; access = refl; early = refl }
         refl
@@ -88,7 +100,7 @@ all-some (g ∷ gs) = all-some gs
 
 -- All lines.
 
-module _ (F : Format) (W : Parts) (v : IsValid W) (few_streams : W.streams ≤ stream_limit F) (few_units : length W.units ≤ unit_limit F) where
+module _ (F : Format) (W : Parts) (v : IsValid W) (allows : Allows F W) where
   -- What is declared below the lines of each section, and which section they reached.
 
   -- below the number of streams
@@ -165,13 +177,13 @@ module _ (F : Format) (W : Parts) (v : IsValid W) (few_streams : W.streams ≤ s
   pools-from : TakesAll below_count up_to_pools below_pools
   pools-from =
       takes-append below_count (pooling F (keys_section W.keys) W.streams W.keys []) below_pools (keys_lines W.keys) (numbered pool_line W.pools)
-      (keys-taken F W.streams W.keys v.few_keys) (pools-taken F W v (keys_section W.keys) (keys-low W.keys))
+      (keys-taken F W.streams W.keys v.few_keys) (pools-taken F W v allows (keys_section W.keys) (keys-low W.keys))
 
   -- the lines to the schedulers are taken
   scheds-from : TakesAll below_count up_to_scheds below_scheds
   scheds-from =
       takes-append below_count below_pools below_scheds up_to_pools (numbered sched_line W.scheds)
-      pools-from (scheds-taken F W v pools_reached (let le = pools-low in omega arith))
+      pools-from (scheds-taken F W v allows pools_reached (let le = pools-low in omega arith))
 
   -- all streams have their main schedulers then
   mains-all : mains_from W.streams W.mains ≡ all_mains W
@@ -191,7 +203,7 @@ module _ (F : Format) (W : Parts) (v : IsValid W) (few_streams : W.streams ≤ s
   objects-from : TakesAll below_count up_to_objects below_objects
   objects-from =
       takes-append below_count below_mains below_objects up_to_mains (numbered object_line W.objects)
-      streams-from (objects-taken F W v mains_reached (let le = mains-low in omega arith))
+      streams-from (objects-taken F W v allows mains_reached (let le = mains-low in omega arith))
 
   -- the line of the number of units
   units-taken : Takes below_objects (units_words W) (head F W)
@@ -201,7 +213,8 @@ module _ (F : Format) (W : Parts) (v : IsValid W) (few_streams : W.streams ≤ s
       let some : 0 < length W.pools = v.some_pool in
       takes below_objects (head F W) form.Units [] (length W.units ∷ []) (units_words W)
       record { words_are = refl; form_is = refl; skipped = refl; plain = refl; chosen = λ e. cc }
-      (fit below_objects small number.UnitCount (length W.units) few_units, tt)
+      (in-each F form.Units refl)
+      (fit below_objects small number.UnitCount (length W.units) allows.few_units, tt)
       record {
         version = refl;
         placed = placed-alone below_objects form.Units (omega arith) (omega arith) refl;
@@ -218,4 +231,4 @@ module _ (F : Format) (W : Parts) (v : IsValid W) (few_streams : W.streams ≤ s
   pub head-taken : TakesAll nothing (head_lines F W) (head F W)
   head-taken =
       let rest = takes-append below_count below_objects (head F W) up_to_objects (units_words W ∷ []) objects-from (head F W, units-taken, refl) in
-      (versioned F, version-taken F, (below_count, count-taken F W.streams v.some_stream few_streams, rest))
+      (versioned F, version-taken F, (below_count, count-taken F W.streams v.some_stream allows.streams, rest))

@@ -19,7 +19,7 @@ use Rattle.abt_machine.specs.declared.workload.PoolPart.{PoolPart}
 use Rattle.abt_machine.specs.declared.workload.SchedPart.{SchedPart}
 use Rattle.abt_machine.specs.declared.workload.UnitPart.{UnitPart}
 use Rattle.abt_machine.specs.Declaring.{Above, access_with, at, listed, pool_with, rule_with, sched_with, thing_with}
-use Rattle.abt_machine.specs.Limits.{key_limit, listed_limit, object_limit, pool_limit, sched_limit, size_limit, stream_limit, unit_limit}
+use Rattle.abt_machine.specs.Limits.{key_limit, listed_limit, object_limit, operation_limit, pool_limit, sched_limit, size_limit, stream_limit, unit_limit, unit_operation_limit}
 use Rattle.abt_machine.specs.Numbers.{sched_no}
 use Rattle.abt_machine.specs.Valid.{IsAccess, IsRule, IsSched, IsThing, sched_in}
 use Rattle.abt_machine.specs.Faults.{has_main, is_placed, is_there, values_of}
@@ -64,7 +64,7 @@ module _ {a : Above} {line : Text} {words : List Text} (r : Rule) (s : IsSound a
   sched-in =
       let vals : List ℕ = values_of (form.Sched r) words in
       listing (length a.pools) (rule_with r vals) (listed r vals) (rule-in r s) listed-some
-      (ltb-false listed_limit (length (listed r vals)) (or-right (nat_le sched_limit (length a.scheds)) _ s.limit)) listed-there
+      (ltb-false listed_limit (length (listed r vals)) (or-right (nat_le (sched_limit a.format) (length a.scheds)) _ s.limit)) listed-there
       (or-right (nat_lt (at vals 0) (length a.scheds)) _ s.once)
     where
       rule-in : (q : Rule) → IsSound a line words (form.Sched q) → IsRule (rule_with q (values_of (form.Sched q) words))
@@ -81,14 +81,41 @@ thing-in (thing.Future n c) s = between 1 size_limit _ (within-at (form.Object (
 thing-in (thing.Barrier n) s = between 1 size_limit _ (within-at (form.Object (thing.Barrier n)) s 1 1 size_limit refl)
 thing-in _ s = tt
 
--- no format has more streams than format 2, or more units
-pub most-streams : (F : Format) → stream_limit F ≤ stream_limit format.Two
+-- no format has more of anything than format 3
+pub most-streams : (F : Format) → stream_limit F ≤ stream_limit format.Three
 most-streams format.One = lit≤ tt
 most-streams format.Two = lit≤ tt
+most-streams format.Three = lit≤ tt
 
-pub most-units : (F : Format) → unit_limit F ≤ unit_limit format.Two
+pub most-pools : (F : Format) → pool_limit F ≤ pool_limit format.Three
+most-pools format.One = lit≤ tt
+most-pools format.Two = lit≤ tt
+most-pools format.Three = lit≤ tt
+
+pub most-scheds : (F : Format) → sched_limit F ≤ sched_limit format.Three
+most-scheds format.One = lit≤ tt
+most-scheds format.Two = lit≤ tt
+most-scheds format.Three = lit≤ tt
+
+pub most-objects : (F : Format) → object_limit F ≤ object_limit format.Three
+most-objects format.One = lit≤ tt
+most-objects format.Two = lit≤ tt
+most-objects format.Three = lit≤ tt
+
+pub most-units : (F : Format) → unit_limit F ≤ unit_limit format.Three
 most-units format.One = lit≤ tt
 most-units format.Two = lit≤ tt
+most-units format.Three = lit≤ tt
+
+pub most-unit-ops : (F : Format) → unit_operation_limit F ≤ unit_operation_limit format.Three
+most-unit-ops format.One = lit≤ tt
+most-unit-ops format.Two = lit≤ tt
+most-unit-ops format.Three = lit≤ tt
+
+pub most-ops : (F : Format) → operation_limit F ≤ operation_limit format.Three
+most-ops format.One = lit≤ tt
+most-ops format.Two = lit≤ tt
+most-ops format.Three = lit≤ tt
 
 -- a scheduler without a place is none of those that have one
 pub placed-not : (a : Above) (g : ℕ) → AreCopies a.copies a.last → is_placed a g ≡ false → list_any (λ h. h == g) (placed a) ≡ false
@@ -152,7 +179,8 @@ module _ {a : Above} {line : Text} {words : List Text} (h : IsProper a) where
   pub keeps-pool : (x : Access) → IsSound a line words (form.Pool x) → IsProper (with_form a words (form.Pool x))
   keeps-pool x s =
       let le = after-section (form.Pool x) s in
-      let few = leb-false pool_limit (length a.pools) s.limit in
+      let most = most-pools a.format in
+      let few = leb-false (pool_limit a.format) (length a.pools) s.limit in
       let new : PoolPart = pool_with x words (values_of (form.Pool x) words) in
       let grown : length (a.pools ++ new ∷ []) ≡ length a.pools + 1 = length-append a.pools _ in
       let pools : HasPools (stream_count a) (a.pools ++ new ∷ []) = record { few = omega arith; all = all-and (λ (part : PoolPart). IsAccess (stream_count a) part.access) a.pools new h.pools.all (access-in x s) } in
@@ -164,7 +192,8 @@ module _ {a : Above} {line : Text} {words : List Text} (h : IsProper a) where
   pub keeps-sched : (r : Rule) → IsSound a line words (form.Sched r) → IsProper (with_form a words (form.Sched r))
   keeps-sched r s =
       let le = after-section (form.Sched r) s in
-      let few = leb-false sched_limit (length a.scheds) (or-left (nat_le sched_limit (length a.scheds)) _ s.limit) in
+      let most = most-scheds a.format in
+      let few = leb-false (sched_limit a.format) (length a.scheds) (or-left (nat_le (sched_limit a.format) (length a.scheds)) _ s.limit) in
       let new : SchedPart = sched_with r (values_of (form.Sched r) words) in
       let grown : length (a.scheds ++ new ∷ []) ≡ length a.scheds + 1 = length-append a.scheds _ in
       let scheds : HasScheds (length a.pools) (a.scheds ++ new ∷ []) = record { few = omega arith; all = all-and (IsSched (length a.pools)) a.scheds new h.scheds.all (sched-in r s) } in
@@ -194,7 +223,8 @@ module _ {a : Above} {line : Text} {words : List Text} (h : IsProper a) where
   pub keeps-object : (x : Thing) → IsSound a line words (form.Object x) → IsProper (with_form a words (form.Object x))
   keeps-object x s =
       let le = after-section (form.Object x) s in
-      let few = leb-false object_limit (length a.objects) s.limit in
+      let most = most-objects a.format in
+      let few = leb-false (object_limit a.format) (length a.objects) s.limit in
       let new : Thing = thing_with x words (values_of (form.Object x) words) in
       let grown : length (a.objects ++ new ∷ []) ≡ length a.objects + 1 = length-append a.objects _ in
       let objects : HasObjects (a.objects ++ new ∷ []) = record { few = omega arith; all = λ k t e. thing-grows a.objects new k t (holds-and (IsThing a.objects) a.objects new h.objects.all (thing-in x s) k t e) } in

@@ -31,7 +31,7 @@ use Rattle.abt_machine.specs.declared.workload.UnitPart.{UnitPart}
 use Rattle.abt_machine.specs.Declaring.{Above, at, body_and, body_later, body_with, declared_units, op_later, op_with, repeated, said_in, said_words, pool_place, start_with, unit_and, unit_later, unit_with, units_of, with_operation, with_operations, with_copies, word_in}
 use Rattle.abt_machine.specs.Faults.{has_no_room, is_long, is_long_word, is_placed, is_task, is_there, is_task_body, lacks_units, takes_operations, values_of}
 use Rattle.abt_machine.specs.Forms.{Fixed, op_slots, fits, slots, suits}
-use Rattle.abt_machine.specs.Limits.{operation_limit, unit_limit, unit_operation_limit, word_limit}
+use Rattle.abt_machine.specs.Limits.{operation_limit, unit_operation_limit, word_limit}
 use Rattle.abt_machine.specs.Operations.{IsDeclared, may_block, said_by}
 use Rattle.abt_machine.specs.Spelling.{has_control, is_empty, words_of}
 use Rattle.abt_machine.specs.Valid.{IsBody, IsWord, sched_in}
@@ -40,10 +40,10 @@ use Rattle.abt_machine.specs.Workloads.{all_ops, is_sched, ops_of}
 use Rattle.abt_machine.proofs.Distinct.{not-among}
 use Rattle.abt_machine.proofs.Saying.{said_by_units}
 use Rattle.abt_workload.specs.Declarable.{op_count}
-use Rattle.abt_workload.proofs.Bounds.{at-home, after-section, there-at, within-at}
+use Rattle.abt_workload.proofs.Bounds.{at-home, after-section, kind-within, there-at}
 use Rattle.abt_workload.proofs.Copies.{all-repeated, count-later, ops-later, units-all, units-length, units-ops, units-said, units-scheds}
 use Rattle.abt_workload.proofs.Growing.{all-and, all-one, mains_list}
-use Rattle.abt_workload.proofs.Keeping.{placed-not}
+use Rattle.abt_workload.proofs.Keeping.{most-ops, most-unit-ops, placed-not}
 use Rattle.abt_workload.proofs.LineWords.{words-some, words-utf8, words-visible}
 use Rattle.abt_workload.proofs.Naming.{IsSoundOp, declared-op, muted-later, op_values}
 use Rattle.abt_workload.proofs.Places.{and-left, and-right, at-after, kinds, or-left, or-right}
@@ -209,7 +209,7 @@ keeps-new a r start u n ns h new =
     (subst (λ (ns : List ℕ). AllPairs (λ x y. x ≢ y) ns) (append_assoc (mains_list a.mains) (scheds (a.units ++ option_to_list a.last)) (sched_in part.body))
     (free-places a (sched_in part.body) (few-scheds part.body) h.places (unit-free a h r ns start new.sched))) in
     let units : AreUnits after = record { few = h.units.few; declared = omega arith; all = all-and (IsUnitIn (counted a)) (units_of a) part (units-in a h) (unit-in a r start ns new.sched new.pool); copied = (new.some, new.one) } in
-    let few_ops : length (all_ops (units_of a)) + n * op_count (Some part) ≤ operation_limit =
+    let few_ops : length (all_ops (units_of a)) + n * op_count (Some part) ≤ operation_limit format.Three =
     let e = units-ops a in
     let few = h.few_ops in
     let zero_ops : n * length (ops_of part.body) ≡ n * 0 = ap (λ (os : List Op). n * length os) (no-ops r ns) in
@@ -258,7 +258,7 @@ module _ {a : Above} {line : Text} {words : List Text} (h : IsProper a) where
       after-count f u k kind e = subst (λ (n : ℕ). is_there a kind n ≡ true) (at-after k (values_of f words)) (there-at f u (k + 1) kind e)
 
       some-copies : (q : Role) → IsSound a line words (form.Many q start) → 1 ≤ at (values_of (form.Many q start) words) 1
-      some-copies q u = let n : ℕ = at (values_of (form.Many q start) words) 1 in leb-true 1 n (and-left (nat_le 1 n) _ (within-at (form.Many q start) u 1 1 (unit_limit format.Two) refl))
+      some-copies q u = let n : ℕ = at (values_of (form.Many q start) words) 1 in leb-true 1 n (and-left (nat_le 1 n) _ (kind-within (form.Many q start) u 1 number.Copies refl))
 
       new-unit : (q : Role) → IsSound a line words (form.Many q start) → nat_lt (at (values_of (form.Many q start) words) 0) (declared_units a) ≡ false
       new-unit role.Ult u = u.once
@@ -329,7 +329,8 @@ home None e = cc
 home (Some part) e = (part, refl, not-true (is_sched part.body) e)
 
 -- a unit with one operation more
-unit-more : (W : Parts) (o p : Op) (part : UnitPart) → IsUnitIn W part → is_sched part.body ≡ false → may_block p ≡ may_block o → (is_task_body part.body && may_block o) ≡ false → length (ops_of part.body) < 256 → IsDeclared W (muted p) → IsUnitIn W (unit_and p part)
+unit-more : (W : Parts) (o p : Op) (part : UnitPart) → IsUnitIn W part → is_sched part.body ≡ false → may_block p ≡ may_block o → (is_task_body part.body && may_block o) ≡ false
+    → length (ops_of part.body) < unit_operation_limit format.Three → IsDeclared W (muted p) → IsUnitIn W (unit_and p part)
 unit-more W o p part h takes' same task few here =
     let ops : ops_of (body_and p part.body) ≡ ops_of part.body ++ p ∷ [] = body-ops p part.body takes' in
     let grown : length (ops_of part.body ++ p ∷ []) ≡ length (ops_of part.body) + 1 = length-append (ops_of part.body) _ in
@@ -368,8 +369,8 @@ record CanOperate (a : Above) (part : UnitPart) (o : Op) (ws : List Text) (ns : 
   section_is : a.section ≡ 9
   last_is : a.last ≡ Some part
   takes_ops : is_sched part.body ≡ false
-  short : length (ops_of part.body) + n ≤ unit_operation_limit
-  room : length (all_ops a.units) + a.copies * (length (ops_of part.body) + n) ≤ operation_limit
+  short : length (ops_of part.body) + n ≤ unit_operation_limit format.Three
+  room : length (all_ops a.units) + a.copies * (length (ops_of part.body) + n) ≤ operation_limit format.Three
   task : (is_task_body part.body && may_block o) ≡ false
   named : (k : ℕ) → IsDeclared (counted a) (muted (op_with o k ns))
   word : All IsWord (said_in o ws)
@@ -396,7 +397,7 @@ module _ (o : Op) (ws : List Text) (ns : List ℕ) where
             all = all-and (IsUnitIn (counted a)) a.units (unit_and p part) (front-of (IsUnitIn (counted a)) a.units part g.units.all) new;
             copied = (g.units.copied.0, λ e. g.units.copied.1 (sym (body-takes p part.body) ∙ e));
           } in
-          let few_ops : length (all_ops a.units) + a.copies * length (ops_of (body_and p part.body)) ≤ operation_limit =
+          let few_ops : length (all_ops a.units) + a.copies * length (ops_of (body_and p part.body)) ≤ operation_limit format.Three =
           let more : a.copies * length (ops_of (body_and p part.body)) ≡ a.copies * (length (ops_of part.body) + 1) = ap (λ (os : List Op). a.copies * length os) (body-ops p part.body can.takes_ops) ∙ ap (λ (k : ℕ). a.copies * k) (length-append (ops_of part.body) (p ∷ [])) in
           let le : a.copies * (length (ops_of part.body) + 1) ≤ a.copies * (length (ops_of part.body) + suc n) = mul-le-mul_left a.copies (omega arith) in
           let room = can.room in
@@ -423,7 +424,7 @@ module _ (o : Op) (ws : List Text) (ns : List ℕ) where
         room =
             let same : length (ops_of (body_and p part.body)) + n ≡ length (ops_of part.body) + suc n = omega arith in
             let room = can.room in
-            subst (λ (k : ℕ). length (all_ops a.units) + a.copies * k ≤ operation_limit) (sym same) room;
+            subst (λ (k : ℕ). length (all_ops a.units) + a.copies * k ≤ operation_limit format.Three) (sym same) room;
         task = ap (λ (b : Bool). b && may_block o) (body-task p part.body) ∙ can.task;
         named = can.named;
         word = can.word;
@@ -478,8 +479,12 @@ module _ (a : Above) (line : Text) (h : IsProper a) where
           section_is = nine a.section le (λ lt. some-last (h.order.no_last lt) is);
           last_is = is;
           takes_ops = not_sched;
-          short = ltb-false unit_operation_limit (length (ops_of part.body) + n) (subst (λ (l : Option UnitPart). is_long l n ≡ false) is (or-left (is_long a.last n) _ room));
-          room = crowd-room part is (ltb-false operation_limit (length (all_ops (units_of a)) + a.copies * n) (or-right (is_long a.last n) _ room));
+          short =
+              let most = most-unit-ops a.format in
+              let fits' = subst (λ (l : Option UnitPart). is_long a.format l n ≡ false) is (or-left (is_long a.format a.last n) _ room) in
+              let few = ltb-false (unit_operation_limit a.format) (length (ops_of part.body) + n) fits' in
+              omega arith;
+          room = crowd-room part is (ltb-false (operation_limit a.format) (length (all_ops (units_of a)) + a.copies * n) (or-right (is_long a.format a.last n) _ room));
           task = subst (λ (l : Option UnitPart). (is_task l && may_block o) ≡ false) is task;
           named = λ m. declared-op m o sound;
           word = said-word line utf8 control o k ws sound.op_fits short e;
@@ -496,8 +501,10 @@ module _ (a : Above) (line : Text) (h : IsProper a) where
               on (inl x) = let y = x.1 in omega arith
               on (inr x) = absurd (least x.1)
 
-          crowd-room : (p : UnitPart) → a.last ≡ Some p → length (all_ops (units_of a)) + a.copies * n ≤ operation_limit → length (all_ops a.units) + a.copies * (length (ops_of p.body) + n) ≤ operation_limit
+          crowd-room : (p : UnitPart) → a.last ≡ Some p → length (all_ops (units_of a)) + a.copies * n ≤ operation_limit a.format
+              → length (all_ops a.units) + a.copies * (length (ops_of p.body) + n) ≤ operation_limit format.Three
           crowd-room p e few =
+              let most = most-ops a.format in
               let ops = units-ops a in
               let count : a.copies * op_count a.last ≡ a.copies * length (ops_of p.body) = ap (λ (l : Option UnitPart). a.copies * op_count l) e in
               let split : a.copies * (length (ops_of p.body) + n) ≡ a.copies * length (ops_of p.body) + a.copies * n = mul-add a.copies (length (ops_of p.body)) n in

@@ -1,4 +1,5 @@
-pub mod Answering
+pub mod Allowing
+mod Answering
 pub mod Bounds
 pub mod Copies
 pub mod Filled

@@ -33,6 +33,8 @@ module _ (a : Above) where
   named (number.Within low high) n e w = (leb-true low n (and-left (nat_le low n) (nat_le n high) w), leb-true n high (and-right (nat_le low n) (nat_le n high) w))
   named number.StreamCount n e w = tt
   named number.UnitCount n e w = tt
+  named number.Copies n e w = tt
+  named number.Times n e w = tt
   named number.NewPool n e w = tt
   named number.NewSched n e w = tt
   named number.NewObject n e w = tt

@@ -4,6 +4,7 @@ use Rattle.std.proofs.lemmas.Bool.{le-ltb, lt-leb}
 use Rattle.abt_machine.specs.declared.grammar.Form.{Form}
 use Rattle.abt_machine.specs.declared.grammar.Form.TheVariants as form
 use Rattle.abt_machine.specs.declared.grammar.Format.{Format}
+use Rattle.abt_machine.specs.declared.grammar.Format.TheVariants as format
 use Rattle.abt_machine.specs.declared.operations.Combine.TheVariants as combine
 use Rattle.abt_machine.specs.declared.operations.Thing.{Thing}
 use Rattle.abt_machine.specs.declared.operations.Thing.TheVariants as thing
@@ -15,7 +16,8 @@ use Rattle.abt_machine.specs.Forms.{combine_name, slots}
 use Rattle.abt_machine.specs.Limits.{object_limit}
 use Rattle.abt_machine.specs.Valid.{IsThing, IsValid}
 use Rattle.abt_machine.specs.Words.{numbered}
-use Rattle.abt_workload.proofs.Filled.{IsWritten, blank, given, takes}
+use Rattle.abt_workload.proofs.Allowing.{Allows}
+use Rattle.abt_workload.proofs.Filled.{IsWritten, blank, given, in-each, takes}
 use Rattle.abt_workload.proofs.Fitting.{AreMet, IsSmall, all-fit}
 use Rattle.abt_workload.proofs.Heads.{all_mains, placing}
 use Rattle.abt_workload.proofs.InOrder.{front-shorter, get-front, get-here, placed-among, reached, section-taken}
@@ -47,26 +49,28 @@ thing-again x (thing.Future n _) = refl
 thing-again x _ = refl
 
 -- the line of the next object is taken
-object-taken : (F : Format) (W : Parts) → IsValid W → (section : ℕ) → section ≤ 7 → (front : List Thing) (t : Thing) (rest : List Thing) → front ++ t ∷ rest ≡ W.objects
+object-taken : (F : Format) (W : Parts) → IsValid W → Allows F W → (section : ℕ) → section ≤ 7 → (front : List Thing) (t : Thing) (rest : List Thing) → front ++ t ∷ rest ≡ W.objects
     → Takes (below F W section front) (object_line (length front) t) (below F W 7 (front ++ t ∷ []))
-object-taken F W v section le front t rest e =
+object-taken F W v allows section le front t rest e =
     let a : Above = below F W section front in
     let x : ℕ = length front in
     let f : Form = blank (form.Object t) in
     let ns : List ℕ = x ∷ thing_numbers t in
     let lt : x < length W.objects = front-shorter front t rest W.objects e in
-    let few : length W.objects ≤ object_limit = v.few_objects in
+    let few : length W.objects ≤ object_limit F = allows.objects in
+    let valid : length W.objects ≤ object_limit format.Three = v.few_objects in
     let h : IsThing W.objects x t = v.objects x t (get-here front t rest W.objects e) in
     let small : IsSmall a = record { streams = v.few_streams; keys = v.few_keys; pools = v.few_pools; scheds = v.few_scheds; objects = omega arith; units = omega arith } in
     takes a (below F W 7 (front ++ t ∷ [])) f (thing_word t) ns (object_line x t)
     (written x t)
+    (in-each F f refl)
     (all-fit a small (given (slots f) ns) (met F W section front (t ∷ rest) t e h))
     record {
       version = refl;
       placed = placed-among a f le (omega arith) refl refl;
       once = le-ltb x x (omega arith);
       beyond = refl;
-      limit = lt-leb object_limit x (omega arith);
+      limit = lt-leb (object_limit F) x (omega arith);
       task = refl;
       access = refl;
       early = refl;
@@ -74,6 +78,6 @@ object-taken F W v section le front t rest e =
     (ap (λ (u : Thing). below F W 7 (front ++ u ∷ [])) (thing-again x t))
 
 -- the lines of a workload's objects are taken
-pub objects-taken : (F : Format) (W : Parts) → IsValid W → (section : ℕ) → section ≤ 7
+pub objects-taken : (F : Format) (W : Parts) → IsValid W → Allows F W → (section : ℕ) → section ≤ 7
     → TakesAll (below F W section []) (numbered object_line W.objects) (below F W (reached section 7 W.objects) W.objects)
-objects-taken F W v section le = section-taken object_line (below F W) section 7 le W.objects (object-taken F W v)
+objects-taken F W v allows section le = section-taken object_line (below F W) section 7 le W.objects (object-taken F W v allows)

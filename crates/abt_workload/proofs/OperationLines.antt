@@ -23,6 +23,7 @@ use Rattle.abt_machine.specs.Operations.{IsDeclared, may_block, said_by}
 use Rattle.abt_machine.specs.Valid.{IsValid, words_said}
 use Rattle.abt_machine.specs.Words.{Text}
 use Rattle.abt_machine.specs.Workloads.{all_ops, is_sched, ops_of}
+use Rattle.abt_workload.proofs.Allowing.{HasOp, op-in}
 use Rattle.abt_workload.proofs.Filled.{given, takes}
 use Rattle.abt_workload.proofs.Fitting.{AreMet, all-fit}
 use Rattle.abt_workload.proofs.OperationForms.{IsFormed, formed, op-met}
@@ -33,19 +34,22 @@ use Rattle.abt_workload.proofs.Taking.{Takes, TakesAll}
 
 module _ (F : Format) (W : Parts) (v : IsValid W) (units : List UnitPart) where
   -- there is room for one operation more
-  room-here : (part : UnitPart) (before said : List ℕ) → length (ops_of part.body) < unit_operation_limit → length (all_ops units) + length (ops_of part.body) < operation_limit → has_no_room (reached F W 9 units (Some part) before said) 1 ≡ false
+  room-here : (part : UnitPart) (before said : List ℕ) → length (ops_of part.body) < unit_operation_limit F → length (all_ops units) + length (ops_of part.body) < operation_limit F
+      → has_no_room (reached F W 9 units (Some part) before said) 1 ≡ false
   room-here part before said few room =
       let ops : all_ops (units ++ part ∷ []) ≡ all_ops units ++ (ops_of part.body ++ []) = flat_map-append (λ (p : UnitPart). ops_of p.body) units (part ∷ []) in
       let count : length (all_ops units ++ (ops_of part.body ++ [])) ≡ length (all_ops units) + length (ops_of part.body ++ []) = length-append (all_ops units) _ in
       let alone : length (ops_of part.body ++ []) ≡ length (ops_of part.body) = ap length (append-nil (ops_of part.body)) in
       let all : length (all_ops (units ++ part ∷ [])) ≡ length (all_ops units) + length (ops_of part.body) = ap length ops ∙ (count ∙ ap (λ (n : ℕ). length (all_ops units) + n) alone) in
-      or-both (nat_lt unit_operation_limit (length (ops_of part.body) + 1)) _ (le-ltb unit_operation_limit (length (ops_of part.body) + 1) (omega arith)) (le-ltb operation_limit (length (all_ops (units ++ part ∷ [])) + 1) (omega arith))
+      or-both (nat_lt (unit_operation_limit F) (length (ops_of part.body) + 1)) _
+      (le-ltb (unit_operation_limit F) (length (ops_of part.body) + 1) (omega arith)) (le-ltb (operation_limit F) (length (all_ops (units ++ part ∷ [])) + 1) (omega arith))
 
   -- the line of an operation is taken below a unit's that may have one more
-  op-taken : (part : UnitPart) (before said : List ℕ) (o : Op) → is_sched part.body ≡ false → length (ops_of part.body) < unit_operation_limit → length (all_ops units) + length (ops_of part.body) < operation_limit → (is_task_body part.body && may_block o) ≡ false
-      → IsDeclared W o → All (λ w. w ≡ length before + length said) (said_by o)
+  op-taken : (part : UnitPart) (before said : List ℕ) (o : Op) → is_sched part.body ≡ false → length (ops_of part.body) < unit_operation_limit F
+      → length (all_ops units) + length (ops_of part.body) < operation_limit F → (is_task_body part.body && may_block o) ≡ false
+      → IsDeclared W o → HasOp F o → All (λ w. w ≡ length before + length said) (said_by o)
       → Takes (reached F W 9 units (Some part) before said) (op_words W o) (reached F W 9 units (Some (unit_and o part)) before (said ++ said_by o))
-  op-taken part before said o no_sched few room task h next = by (op_with o 0 []) (formed W v o h) (op-met F W units (Some part) before said o h)
+  op-taken part before said o no_sched few room task h has next = by (op_with o 0 []) (formed W v o h) (op-met F W units (Some part) before said o h)
     where
       by : (f : Op) → IsFormed W o f → AreMet (reached F W 9 units (Some part) before said) (given (op_slots f) (op_numbers o))
           → Takes (reached F W 9 units (Some part) before said) (op_words W o) (reached F W 9 units (Some (unit_and o part)) before (said ++ said_by o))
@@ -60,6 +64,7 @@ module _ (F : Format) (W : Parts) (v : IsValid W) (units : List UnitPart) where
           let more : texts said ++ said_in f (op_words W o) ≡ texts (said ++ said_by o) =
           ap (λ (ws : List Text). texts said ++ ws) d.said ∙ sym (map-append (word_of W) said (said_by o)) in
           takes a (reached F W 9 units (Some (unit_and o part)) before (said ++ said_by o)) (form.Operation f) (op_word W o) (op_numbers o) (op_words W o) d.written
+          (op-in F f o d.computing has)
           (all-fit a (reached-small F W v 9 units (Some part) before said) (given (op_slots f) (op_numbers o)) met)
           record {
             version = refl;
@@ -128,27 +133,29 @@ module _ (F : Format) (W : Parts) (v : IsValid W) (units : List UnitPart) (b : B
   after_ops ops said = reached F W 9 units (Some (with_ops ops)) before said
 
   -- the lines of a unit's operations are taken below those of the operations before them
-  pub ops-taken : (done ops : List Op) (said after : List ℕ) → length done + length ops ≤ unit_operation_limit → length (all_ops units) + (length done + length ops) ≤ operation_limit → (is_task_body b && list_any may_block ops) ≡ false
-      → All (IsDeclared W) ops
+  pub ops-taken : (done ops : List Op) (said after : List ℕ) → length done + length ops ≤ unit_operation_limit F
+      → length (all_ops units) + (length done + length ops) ≤ operation_limit F → (is_task_body b && list_any may_block ops) ≡ false
+      → All (IsDeclared W) ops → All (HasOp F) ops
       → words_said W ≡ before ++ (said ++ (flat_map said_by ops ++ after))
       → TakesAll (after_ops done said) (map (op_words W) ops) (after_ops (done ++ ops) (said ++ flat_map said_by ops))
-  ops-taken done [] said after few room task all all_said =
+  ops-taken done [] said after few room task all has all_said =
       ap (λ (os : List Op). after_ops os said) (sym (append-nil done)) ∙ ap (λ (ns : List ℕ). after_ops (done ++ []) ns) (sym (append-nil said))
-  ops-taken done (o ∷ os) said after few room task all all_said =
+  ops-taken done (o ∷ os) said after few room task all has all_said =
       let mine : length (ops_of (body_like b done)) ≡ length done = ap length (like-ops b done no_sched) in
       let no_block : (is_task_body (body_like b done) && may_block o) ≡ false =
       ap (λ (t : Bool). t && may_block o) (like-task b done) ∙ and-first (is_task_body b) (may_block o) (list_any may_block os) task in
       let seam : words_said W ≡ before ++ (said ++ (said_by o ++ (flat_map said_by os ++ after))) =
       all_said ∙ ap (λ (ns : List ℕ). before ++ (said ++ ns)) (append_assoc (said_by o) (flat_map said_by os) after) in
       let next = next-said o (length W.words) before said (flat_map said_by os ++ after) (sym v.said ∙ seam) in
-      let took = op-taken F W v units (with_ops done) before said o (like-sched b done ∙ no_sched) (omega arith) (omega arith) no_block (All-head (IsDeclared W) o os all) next in
+      let took = op-taken F W v units (with_ops done) before said o (like-sched b done ∙ no_sched) (omega arith) (omega arith) no_block
+      (All-head (IsDeclared W) o os all) (All-head (HasOp F) o os has) next in
       let more : Takes (after_ops done said) (op_words W o) (after_ops (done ++ o ∷ []) (said ++ said_by o)) =
       subst (λ (c : Body). Takes (after_ops done said) (op_words W o) (reached F W 9 units (Some (record { body = c; start = start })) before (said ++ said_by o)))
       (like-and b done o) took in
       let counted : length (done ++ o ∷ []) ≡ length done + 1 = length-append done (o ∷ []) in
       let rest =
       ops-taken (done ++ o ∷ []) os (said ++ said_by o) after (omega arith) (omega arith) (and-rest (is_task_body b) (may_block o) (list_any may_block os) task)
-      (All-tail (IsDeclared W) o os all) (seam ∙ ap (λ (ns : List ℕ). before ++ ns) (sym (append_assoc said (said_by o) (flat_map said_by os ++ after)))) in
+      (All-tail (IsDeclared W) o os all) (All-tail (HasOp F) o os has) (seam ∙ ap (λ (ns : List ℕ). before ++ ns) (sym (append_assoc said (said_by o) (flat_map said_by os ++ after)))) in
       let at_end : after_ops ((done ++ o ∷ []) ++ os) ((said ++ said_by o) ++ flat_map said_by os) ≡ after_ops (done ++ o ∷ os) (said ++ (said_by o ++ flat_map said_by os)) =
       ap (λ (ps : List Op). after_ops ps ((said ++ said_by o) ++ flat_map said_by os)) (append_assoc done (o ∷ []) os)
       ∙ ap (λ (ns : List ℕ). after_ops (done ++ o ∷ os) ns) (append_assoc said (said_by o) (flat_map said_by os)) in

@@ -4,6 +4,7 @@ use Rattle.std.proofs.lemmas.Bool.{le-ltb, lt-leb}
 use Rattle.abt_machine.specs.declared.grammar.Form.{Form}
 use Rattle.abt_machine.specs.declared.grammar.Form.TheVariants as form
 use Rattle.abt_machine.specs.declared.grammar.Format.{Format}
+use Rattle.abt_machine.specs.declared.grammar.Format.TheVariants as format
 use Rattle.abt_machine.specs.declared.operations.Access.{Access}
 use Rattle.abt_machine.specs.declared.operations.Access.TheVariants as access
 use Rattle.abt_machine.specs.declared.operations.Kind.{Kind}
@@ -18,7 +19,8 @@ use Rattle.abt_machine.specs.Limits.{pool_limit}
 use Rattle.abt_machine.specs.Valid.{IsAccess, IsValid}
 use Rattle.abt_machine.specs.Words.{numbered}
 use Rattle.abt_machine.proofs.Elements.{all-at}
-use Rattle.abt_workload.proofs.Filled.{IsWritten, blank, given, takes}
+use Rattle.abt_workload.proofs.Allowing.{Allows}
+use Rattle.abt_workload.proofs.Filled.{IsWritten, blank, given, in-each, takes}
 use Rattle.abt_workload.proofs.Fitting.{AreMet, IsSmall, all-fit}
 use Rattle.abt_workload.proofs.Heads.{placing}
 use Rattle.abt_workload.proofs.InOrder.{front-shorter, get-here, placed-among, reached, section-taken}
@@ -51,26 +53,28 @@ part-again p kind.Deque (access.Priv s) = refl
 part-again p kind.Deque _ = refl
 
 -- the line of the next pool is taken
-pool-taken : (F : Format) (W : Parts) → IsValid W → (section : ℕ) → section ≤ 4 → (front : List PoolPart) (part : PoolPart) (rest : List PoolPart) → front ++ part ∷ rest ≡ W.pools
+pool-taken : (F : Format) (W : Parts) → IsValid W → Allows F W → (section : ℕ) → section ≤ 4 → (front : List PoolPart) (part : PoolPart) (rest : List PoolPart) → front ++ part ∷ rest ≡ W.pools
     → Takes (pooling F section W.streams W.keys front) (pool_line (length front) part) (pooling F 4 W.streams W.keys (front ++ part ∷ []))
-pool-taken F W v section le front part rest e =
+pool-taken F W v allows section le front part rest e =
     let a : Above = pooling F section W.streams W.keys front in
     let p : ℕ = length front in
     let f : Form = blank (form.Pool part.access) in
     let ns : List ℕ = p ∷ access_numbers part.access in
     let lt : p < length W.pools = front-shorter front part rest W.pools e in
-    let few : length W.pools ≤ pool_limit = v.few_pools in
+    let few : length W.pools ≤ pool_limit F = allows.pools in
+    let valid : length W.pools ≤ pool_limit format.Three = v.few_pools in
     let h : IsAccess W.streams part.access = all-at (λ (q : PoolPart). IsAccess W.streams q.access) W.pools v.pools p part (get-here front part rest W.pools e) in
     let small : IsSmall a = record { streams = v.few_streams; keys = v.few_keys; pools = omega arith; scheds = omega arith; objects = omega arith; units = omega arith } in
     takes a (pooling F 4 W.streams W.keys (front ++ part ∷ [])) f (kind_name part.kind) ns (pool_line p part)
     (written p part.kind part.access)
+    (in-each F f refl)
     (all-fit a small (given (slots f) ns) (met F W section front part.access h))
     record {
       version = refl;
       placed = placed-among a f le (omega arith) refl refl;
       once = le-ltb p p (omega arith);
       beyond = refl;
-      limit = lt-leb pool_limit p (omega arith);
+      limit = lt-leb (pool_limit F) p (omega arith);
       task = refl;
       access = refl;
       early = refl;
@@ -78,6 +82,6 @@ pool-taken F W v section le front part rest e =
     (ap (λ (x : PoolPart). pooling F 4 W.streams W.keys (front ++ x ∷ [])) (part-again p part.kind part.access))
 
 -- the lines of a workload's pools are taken
-pub pools-taken : (F : Format) (W : Parts) → IsValid W → (section : ℕ) → section ≤ 4
+pub pools-taken : (F : Format) (W : Parts) → IsValid W → Allows F W → (section : ℕ) → section ≤ 4
     → TakesAll (pooling F section W.streams W.keys []) (numbered pool_line W.pools) (pooling F (reached section 4 W.pools) W.streams W.keys W.pools)
-pools-taken F W v section le = section-taken pool_line (λ s front. pooling F s W.streams W.keys front) section 4 le W.pools (pool-taken F W v)
+pools-taken F W v allows section le = section-taken pool_line (λ s front. pooling F s W.streams W.keys front) section 4 le W.pools (pool-taken F W v allows)

@@ -47,20 +47,20 @@ muted o = o
 -- a unit of this workload, but for the words that its operations say
 pub record IsUnitIn (W : Parts) (part : UnitPart) : Type 0 where
   pub kind : IsBody (length W.scheds) part.body
-  pub few_ops : length (ops_of part.body) ≤ unit_operation_limit
+  pub few_ops : length (ops_of part.body) ≤ unit_operation_limit format.Three
   pub ops : All (λ o. IsDeclared W (muted o)) (ops_of part.body)
   pub start : IfSome part.start (λ (p : PoolNo). p.0 < length W.pools)
 
 pub record HasStreams (streams : Option ℕ) : Type 0 where
   pub low : (n : ℕ) → streams ≡ Some n → 0 < n
-  pub high : unwrap_or streams 0 ≤ stream_limit format.Two
+  pub high : unwrap_or streams 0 ≤ stream_limit format.Three
 
 pub record HasPools (streams : ℕ) (pools : List PoolPart) : Type 0 where
-  pub few : length pools ≤ pool_limit
+  pub few : length pools ≤ pool_limit format.Three
   pub all : All (λ (part : PoolPart). IsAccess streams part.access) pools
 
 pub record HasScheds (pools : ℕ) (scheds : List SchedPart) : Type 0 where
-  pub few : length scheds ≤ sched_limit
+  pub few : length scheds ≤ sched_limit format.Three
   pub all : All (IsSched pools) scheds
 
 -- stream s may take from each pool of scheduler g
@@ -73,11 +73,11 @@ pub record HasMains (streams : ℕ) (pools : List PoolPart) (scheds : List Sched
   pub taking : (s : ℕ) (g : SchedNo) → slice_get mains s ≡ Some (Some g) → takes_all pools scheds s g.0 ≡ true
 
 pub record HasObjects (objects : List Thing) : Type 0 where
-  pub few : length objects ≤ object_limit
+  pub few : length objects ≤ object_limit format.Three
   pub all : (x : ℕ) (t : Thing) → slice_get objects x ≡ Some t → IsThing objects x t
 
 pub record HasUnits (W : Parts) (count : ℕ) (units : List UnitPart) (last : Option UnitPart) (copies : ℕ) : Type 0 where
-  pub few : count ≤ unit_limit format.Two
+  pub few : count ≤ unit_limit format.Three
   pub declared : length units + last_count copies last ≤ count
   pub all : All (IsUnitIn W) (units ++ option_to_list last)
   pub copied : AreCopies copies last
@@ -115,7 +115,7 @@ pub record IsProper (a : Above) : Type 0 where
   pub places : AllPairs (λ x y. x ≢ y) (placed a)
   pub objects : HasObjects a.objects
   pub units : AreUnits a
-  pub few_ops : length (all_ops a.units) + a.copies * op_count a.last ≤ operation_limit
+  pub few_ops : length (all_ops a.units) + a.copies * op_count a.last ≤ operation_limit format.Three
   pub said : said_by_units a.units ≡ range_with_len 0 (length a.words)
   pub last_said : flat_map said_by (last_ops a.last) ≡ range_with_len (length a.words) (length a.said)
   pub words : All IsWord a.words

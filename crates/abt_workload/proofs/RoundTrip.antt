@@ -1,20 +1,21 @@
 -- Valid parts are those that texts read to.
-use Rattle.std.proofs.Common.{inl, inr, ◌⊎◌, ◌≡◌, ◌<◌, ◌≤◌, ◌+◌, ◌==◌, ◌&&◌, ◌∙◌, ℕ, zero, suc, Bool, true, false, List, [], ◌∷◌, ◌++◌, All, Some, None, ap, append_assoc, arith, find, fold, get_or, length, map, nat_le, nat_lt, refl, subst, sym, take}
+use Rattle.std.proofs.Common.{inl, inr, ◌⊎◌, ◌≡◌, ◌<◌, ◌≤◌, ◌+◌, ◌==◌, ◌∙◌, ℕ, zero, suc, Bool, true, false, List, [], ◌∷◌, ◌++◌, All, Some, None, ap, append_assoc, arith, find, fold, get_or, length, map, nat_lt, refl, subst, sym, take}
 use Rattle.std.proofs.lemmas.Bool.{cases_lt, le-ltb, leb-true}
 use Rattle.std.proofs.lemmas.List.Elements.{All-cons}
 use Rattle.abt_machine.specs.declared.grammar.Form.TheVariants as form
 use Rattle.abt_machine.specs.declared.grammar.Format.{Format}
 use Rattle.abt_machine.specs.declared.grammar.Format.TheVariants as format
 use Rattle.abt_machine.specs.declared.workload.Parts.{Parts}
-use Rattle.abt_machine.specs.Canonical.{canonical_text, first_lines, form_words, has_text, text_in, units_words, workload_lines}
+use Rattle.abt_machine.specs.Canonical.{canonical_text, first_lines, form_words, has_parts, has_text, text_in, units_words, workload_lines}
 use Rattle.abt_machine.specs.Declaring.{Above, declared_units, nothing, parts_of}
 use Rattle.abt_machine.specs.Faults.{faults, is_early, line_fault}
 use Rattle.abt_machine.specs.Grammar.{Reads, and_line, declared_by, fault_at, format_of, has_at}
-use Rattle.abt_machine.specs.Limits.{stream_limit, text_limit, unit_limit}
+use Rattle.abt_machine.specs.Limits.{text_limit}
 use Rattle.abt_machine.specs.Spelling.{lines_of}
 use Rattle.abt_machine.specs.Valid.{IsValid, IsWord}
 use Rattle.abt_machine.specs.Words.{Text, line_of, text_of}
-use Rattle.abt_workload.proofs.Filled.{takes}
+use Rattle.abt_workload.proofs.Allowing.{Allows, all-allowed, allowed}
+use Rattle.abt_workload.proofs.Filled.{in-each, takes}
 use Rattle.abt_workload.proofs.Firm.{valid-end}
 use Rattle.abt_workload.proofs.HeadLines.{head-taken}
 use Rattle.abt_workload.proofs.Heads.{head, head_lines, units_lines}
@@ -25,7 +26,7 @@ use Rattle.abt_workload.proofs.Seen.{fault-in, fault-length, faultless-end, most
 use Rattle.abt_workload.proofs.Taking.{Takes, TakesAll, takes-append}
 use Rattle.abt_workload.proofs.UnitLines.{IsWhole, units-taken}
 use Rattle.abt_workload.proofs.TextBounds.{text-fits}
-use Rattle.abt_workload.proofs.WholeTexts.{canonical-one, canonical-two}
+use Rattle.abt_workload.proofs.WholeTexts.{format-one, format-three, format-two}
 use Rattle.abt_workload.proofs.WrittenLines.{lines-of-text}
 
 -- Lines that are taken.
@@ -87,6 +88,7 @@ module _ (b : Above) (streams count : ℕ) (begun : b.begun ≡ true) (has_strea
   end-taken place =
       takes b (closed b) form.End [] [] end_words
       record { words_are = refl; form_is = refl; skipped = refl; plain = refl; chosen = λ e. cc }
+      (in-each b.format form.End refl)
       tt
       record { version = rw begun refl; placed = placed-alone b form.End (omega arith) (omega arith) refl; once = refl; beyond = refl; limit = refl; task = refl; access = refl; early = end-there }
       refl
@@ -106,14 +108,15 @@ all-lines F W =
 whole-format : (F : Format) (W : Parts) → format_of (map line_of (front_lines F W ++ end_words ∷ [])) ≡ F
 whole-format format.One W = refl
 whole-format format.Two W = refl
+whole-format format.Three W = refl
 
--- the text of valid parts in a format that has their counts and their text reads to them
-reads-in : (F : Format) (W : Parts) → IsValid W → W.streams ≤ stream_limit F → length W.units ≤ unit_limit F → length (text_in F W) ≤ text_limit F → Reads (text_in F W) W
-reads-in F W v few_streams few_units few_bytes =
-    let whole = units-taken F W v in
+-- the text of valid parts in a format that allows them and their text reads to them
+reads-in : (F : Format) (W : Parts) → IsValid W → Allows F W → length (text_in F W) ≤ text_limit F → Reads (text_in F W) W
+reads-in F W v allows few_bytes =
+    let whole = units-taken F W v allows in
     let b : Above = whole.0 in
     let h : IsWhole W b = whole.2 in
-    let front : TakesAll nothing (front_lines F W) b = takes-append nothing (head F W) b (head_lines F W) (units_lines W 0 W.units) (head-taken F W v few_streams few_units) whole.1 in
+    let front : TakesAll nothing (front_lines F W) b = takes-append nothing (head F W) b (head_lines F W) (units_lines W 0 W.units) (head-taken F W v allows) whole.1 in
     let last : Takes b end_words (closed b) = end-taken b W.streams (length W.units) h.begun h.streams h.unit_count h.declared h.section in
     let all : TakesAll nothing (front_lines F W ++ end_words ∷ []) (closed b) =
     takes-append nothing b (closed b) (front_lines F W) (end_words ∷ []) front (closed b, last, refl) in
@@ -124,18 +127,18 @@ reads-in F W v few_streams few_units few_bytes =
     subst (λ (V : Parts). Reads (text_in F W) V) h.parts
     (reads-written (text_in F W) (front_lines F W ++ end_words ∷ []) (closed b) (subst (λ (G : Format). length (text_in F W) ≤ text_limit G) (sym its) few_bytes) same all refl)
 
+-- a format that has a text of valid parts has one that reads to them
+reads-had : (F : Format) (W : Parts) → IsValid W → has_text F W ≡ true → Reads (text_in F W) W
+reads-had F W v e = reads-in F W v (allowed F W (and-left (has_parts F W) _ e)) (leb-true _ _ (and-right (has_parts F W) _ e))
+
 -- the canonical text of valid parts reads to them
 pub reads-canonical : (W : Parts) → IsValid W → Reads (canonical_text W) W
-reads-canonical W v = by (has_text format.One W) refl
+reads-canonical W v = by (has_text format.One W) (has_text format.Two W) refl refl
   where
-    by : (b : Bool) → has_text format.One W ≡ b → Reads (canonical_text W) W
-    by true e =
-        let streams : Bool = nat_le W.streams (stream_limit format.One) in
-        let units : Bool = nat_le (length W.units) (unit_limit format.One) in
-        let counts : (streams && units) ≡ true = and-left (streams && units) _ e in
-        subst (λ (t : Text). Reads t W) (canonical-one W e)
-        (reads-in format.One W v (leb-true _ _ (and-left streams _ counts)) (leb-true _ _ (and-right streams _ counts)) (leb-true _ _ (and-right (streams && units) _ e)))
-    by false e = subst (λ (t : Text). Reads t W) (canonical-two W e) (reads-in format.Two W v v.few_streams v.few_units (text-fits W v format.Two))
+    by : (one two : Bool) → has_text format.One W ≡ one → has_text format.Two W ≡ two → Reads (canonical_text W) W
+    by true two e f = subst (λ (F : Format). Reads (text_in F W) W) (sym (format-one W e)) (reads-had format.One W v e)
+    by false true e f = subst (λ (F : Format). Reads (text_in F W) W) (sym (format-two W e f)) (reads-had format.Two W v f)
+    by false false e f = subst (λ (F : Format). Reads (text_in F W) W) (sym (format-three W e f)) (reads-in format.Three W v (all-allowed W v) (text-fits W v format.Three))
 
 -- The other direction.
 

@@ -8,6 +8,7 @@ use Rattle.std.proofs.lemmas.List.Elements.{All-head, All-map, All-tail}
 use Rattle.abt_machine.specs.declared.grammar.Form.{Form}
 use Rattle.abt_machine.specs.declared.grammar.Form.TheVariants as form
 use Rattle.abt_machine.specs.declared.grammar.Format.{Format}
+use Rattle.abt_machine.specs.declared.grammar.Format.TheVariants as format
 use Rattle.abt_machine.specs.declared.grammar.Number.TheVariants as number
 use Rattle.abt_machine.specs.declared.numbers.PoolNo.{PoolNo}
 use Rattle.abt_machine.specs.declared.operations.Rule.{Rule}
@@ -24,7 +25,8 @@ use Rattle.abt_machine.specs.Numbers.{pool_no}
 use Rattle.abt_machine.specs.Valid.{IsRule, IsSched, IsValid}
 use Rattle.abt_machine.specs.Words.{numbered}
 use Rattle.abt_machine.proofs.Elements.{all-at, pairs-map}
-use Rattle.abt_workload.proofs.Filled.{IsWritten, as_pools, blank, given, takes}
+use Rattle.abt_workload.proofs.Allowing.{Allows}
+use Rattle.abt_workload.proofs.Filled.{IsWritten, as_pools, blank, given, in-each, takes}
 use Rattle.abt_workload.proofs.Fitting.{AreFit, IsSmall, fit, fit-within}
 use Rattle.abt_workload.proofs.Heads.{placing}
 use Rattle.abt_workload.proofs.InOrder.{front-shorter, get-here, placed-among, reached, section-taken}
@@ -104,15 +106,16 @@ none-repeated (n ∷ ns) h =
 -- Lines.
 
 -- the line of the next scheduler is taken
-sched-taken : (F : Format) (W : Parts) → IsValid W → (section : ℕ) → section ≤ 5 → (front : List SchedPart) (part : SchedPart) (rest : List SchedPart) → front ++ part ∷ rest ≡ W.scheds
+sched-taken : (F : Format) (W : Parts) → IsValid W → Allows F W → (section : ℕ) → section ≤ 5 → (front : List SchedPart) (part : SchedPart) (rest : List SchedPart) → front ++ part ∷ rest ≡ W.scheds
     → Takes (scheduling F section W.streams W.keys W.pools front) (sched_line (length front) part) (scheduling F 5 W.streams W.keys W.pools (front ++ part ∷ []))
-sched-taken F W v section le front part rest e =
+sched-taken F W v allows section le front part rest e =
     let a : Above = scheduling F section W.streams W.keys W.pools front in
     let g : ℕ = length front in
     let f : Form = blank (form.Sched part.rule) in
     let ps : List ℕ = pools_in part.pools in
     let lt : g < length W.scheds = front-shorter front part rest W.scheds e in
-    let few : length W.scheds ≤ sched_limit = v.few_scheds in
+    let few : length W.scheds ≤ sched_limit F = allows.scheds in
+    let valid : length W.scheds ≤ sched_limit format.Three = v.few_scheds in
     let h : IsSched (length W.pools) part = all-at (IsSched (length W.pools)) W.scheds v.scheds g part (get-here front part rest W.scheds e) in
     let there : All (λ p. p < length W.pools) ps = All-map (λ p. p < length W.pools) (λ (p : PoolNo). p.0) part.pools h.listed in
     let small : IsSmall a = record { streams = v.few_streams; keys = v.few_keys; pools = v.few_pools; scheds = omega arith; objects = omega arith; units = omega arith } in
@@ -122,13 +125,14 @@ sched-taken F W v section le front part rest e =
     let few_listed : length ps ≤ listed_limit = let most = h.few_pools in rw length-map most in
     takes a (scheduling F 5 W.streams W.keys W.pools (front ++ part ∷ [])) f [] (numbers_in g part.rule ps) (sched_line g part)
     (written g part.rule part.pools h.some_pool)
+    (in-each F f refl)
     (fit a small number.NewSched g refl, rule-fit a small part.rule ps h.rule there)
     record {
       version = refl;
       placed = placed-among a f le (omega arith) refl refl;
       once = or-both (nat_lt g g) _ (le-ltb g g (omega arith)) (ap has_repeated pools ∙ none-repeated ps (pairs-map part.pools h.once));
       beyond = refl;
-      limit = or-both (nat_le sched_limit g) _ (lt-leb sched_limit g (omega arith)) (ap (λ (ns : List ℕ). nat_lt listed_limit (length ns)) pools ∙ le-ltb listed_limit (length ps) few_listed);
+      limit = or-both (nat_le (sched_limit F) g) _ (lt-leb (sched_limit F) g (omega arith)) (ap (λ (ns : List ℕ). nat_lt listed_limit (length ns)) pools ∙ le-ltb listed_limit (length ps) few_listed);
       task = refl;
       access = refl;
       early = refl;
@@ -137,6 +141,6 @@ sched-taken F W v section le front part rest e =
     (ap (sched_with (rule_with part.rule [])) read ∙ part-again g part.rule part.pools))
 
 -- the lines of a workload's schedulers are taken
-pub scheds-taken : (F : Format) (W : Parts) → IsValid W → (section : ℕ) → section ≤ 5
+pub scheds-taken : (F : Format) (W : Parts) → IsValid W → Allows F W → (section : ℕ) → section ≤ 5
     → TakesAll (scheduling F section W.streams W.keys W.pools []) (numbered sched_line W.scheds) (scheduling F (reached section 5 W.scheds) W.streams W.keys W.pools W.scheds)
-scheds-taken F W v section le = section-taken sched_line (λ s front. scheduling F s W.streams W.keys W.pools front) section 5 le W.scheds (sched-taken F W v)
+scheds-taken F W v allows section le = section-taken sched_line (λ s front. scheduling F s W.streams W.keys W.pools front) section 5 le W.scheds (sched-taken F W v allows)

@@ -80,15 +80,17 @@ fault-past L n lt =
 abbrev pub most : Text → ℕ
 most text = text_limit (format_of (lines_of text))
 
--- no format has more bytes than format 2
-pub most-bytes : (F : Format) → text_limit F ≤ text_limit format.Two
+-- no format has more bytes than format 3
+pub most-bytes : (F : Format) → text_limit F ≤ text_limit format.Three
 most-bytes format.One = lit≤ tt
 most-bytes format.Two = lit≤ tt
+most-bytes format.Three = lit≤ tt
 
 -- and none has fewer than format 1
 pub least-bytes : (F : Format) → text_limit format.One ≤ text_limit F
 least-bytes format.One = lit≤ tt
 least-bytes format.Two = lit≤ tt
+least-bytes format.Three = lit≤ tt
 
 pub fault-length : (text : Text) → length text ≤ most text → fault_at text 0 ≡ None
 fault-length text le =

@@ -15,7 +15,7 @@ use Rattle.abt_machine.specs.Forms.{slots}
 use Rattle.abt_machine.specs.Valid.{IsStream, IsValid, sched_in}
 use Rattle.abt_machine.specs.Words.{numbered}
 use Rattle.abt_machine.specs.Workloads.{main_from, main_of}
-use Rattle.abt_workload.proofs.Filled.{given, takes}
+use Rattle.abt_workload.proofs.Filled.{given, in-each, takes}
 use Rattle.abt_workload.proofs.Fitting.{IsSmall, all-fit}
 use Rattle.abt_workload.proofs.Growing.{any-none}
 use Rattle.abt_workload.proofs.Heads.{placing}
@@ -103,6 +103,7 @@ stream-taken F W v section le front g rest e =
     let small : IsSmall a = record { streams = v.few_streams; keys = v.few_keys; pools = v.few_pools; scheds = v.few_scheds; objects = omega arith; units = omega arith } in
     takes a (below F W 6 (front ++ g ∷ [])) form.Stream [] (s ∷ g.0 ∷ []) (stream_line s g)
     record { words_are = refl; form_is = refl; skipped = refl; plain = refl; chosen = λ e. cc }
+    (in-each F form.Stream refl)
     (all-fit a small (given (slots form.Stream) (s ∷ g.0 ∷ [])) (within, there))
     record {
       version = refl;

@@ -1,4 +1,4 @@
--- The text of a valid workload is never too long for format 2.
+-- The text of a valid workload is never too long for format 3.
 use Rattle.std.proofs.Common.{◌≡◌, ◌<◌, ◌≤◌, ◌+◌, ◌*◌, ◌^◌, ℕ, zero, suc, true, false, List, [], ◌∷◌, ◌++◌, All, Option, Some, None, IfSome, ap, arith, decimal, flat_map, get_or, length, length-append, map, refl, suc-mul}
 use Rattle.std.specs.List.{enumerate_from}
 use Rattle.std.proofs.lemmas.List.Elements.{All-head, All-tail}
@@ -12,6 +12,7 @@ use Rattle.abt_machine.specs.declared.operations.Access.{Access}
 use Rattle.abt_machine.specs.declared.operations.Access.TheVariants as access
 use Rattle.abt_machine.specs.declared.operations.Body.{Body}
 use Rattle.abt_machine.specs.declared.operations.Body.TheVariants as body
+use Rattle.abt_machine.specs.declared.operations.Calc.TheVariants as calc
 use Rattle.abt_machine.specs.declared.operations.Combine.{Combine}
 use Rattle.abt_machine.specs.declared.operations.Combine.TheVariants as combine
 use Rattle.abt_machine.specs.declared.operations.Kind.{Kind}
@@ -91,8 +92,9 @@ filled-light a (PoolList ∷ places) word ns e w h = cc
 filled-light a (choice ∷ places) word ns e w h = let here = w refl in let rest = filled-light a places word ns e (λ _. here) h in omega arith
 
 -- those of an operation's line
-op-places : (o : Op) → (ends_list (op_slots o) ≡ false) × (most_weight (op_slots o) ≤ 119)
+op-places : (o : Op) → (ends_list (op_slots o) ≡ false) × (most_weight (op_slots o) ≤ 69)
 op-places (op.Set n) = (refl, omega arith)
+op-places (op.Calc calc.Add k) = (refl, omega arith)
 op-places _ = (refl, omega arith)
 
 -- Each kind of line.
@@ -142,19 +144,19 @@ module _ (W : Parts) (v : IsValid W) where
       let few = h.few_pools in
       (refl, omega arith)
 
-  stream-light : (s : ℕ) (g : SchedNo) → s < 2 ^ 64 → g.0 < sched_limit → IsLight 119 (stream_line s g)
+  stream-light : (s : ℕ) (g : SchedNo) → s < 2 ^ 64 → g.0 < sched_limit format.Three → IsLight 119 (stream_line s g)
   stream-light s g lt h = let d = few-digits s lt in let e = few-digits g.0 (omega arith) in (refl, omega arith)
 
   -- an object's numbers are small
   abbrev IsSmallThing : Thing → Type 0
-  IsSmallThing t = (x : ℕ) × (x < object_limit) × IsThing W.objects x t
+  IsSmallThing t = (x : ℕ) × (x < object_limit format.Three) × IsThing W.objects x t
 
   combine-light : (c : Combine) → length (combine_name c) ≤ 5
   combine-light combine.Sum = omega arith
   combine-light combine.Max = omega arith
   combine-light combine.Count = omega arith
 
-  thing-light : (x : ℕ) (t : Thing) → x < object_limit → IsThing W.objects x t → weight (filled (thing_slots t) (thing_word t) (thing_numbers t)) ≤ 60
+  thing-light : (x : ℕ) (t : Thing) → x < object_limit format.Three → IsThing W.objects x t → weight (filled (thing_slots t) (thing_word t) (thing_numbers t)) ≤ 60
   thing-light x (thing.Cond m) lt h = let below = h.0 in let d = few-digits m.0 (omega arith) in omega arith
   thing-light x (thing.Future n c) lt h = let most = h.1 in let d = few-digits n (omega arith) in let e = combine-light c in omega arith
   thing-light x (thing.Barrier n) lt h = let most = h.1 in let d = few-digits n (omega arith) in omega arith
@@ -163,7 +165,7 @@ module _ (W : Parts) (v : IsValid W) where
   object-light : (x : ℕ) (t : Thing) → x < 2 ^ 64 → IsSmallThing t → IsLight 119 (object_line x t)
   object-light x t lt h = let d = few-digits x lt in let w = thing-light h.0 t h.1 h.2 in (refl, omega arith)
 
-  op-light : (o : Op) → IsDeclared W o → IsLight 119 (op_words W o)
+  op-light : (o : Op) → IsDeclared W o → IsLight 69 (op_words W o)
   op-light o h =
       let a : Above = reached format.One W 9 [] None [] [] in
       let d : IsFormed W o (op_with o 0 []) = formed W v o h in
@@ -183,12 +185,12 @@ module _ (W : Parts) (v : IsValid W) where
 
   -- the lines of units and of their operations
   units-light : (k : ℕ) (units : List UnitPart) → k + length units < 2 ^ 64 → All (IsUnit W) units
-      → size (flat_map (λ p. unit_lines W p.0 p.1) (enumerate_from k units)) ≤ (length units + length (all_ops units)) * 119
+      → size (flat_map (λ p. unit_lines W p.0 p.1) (enumerate_from k units)) ≤ length units * 119 + length (all_ops units) * 69
   units-light k [] few all = let e = size-nil in omega arith
   units-light k (part ∷ units) few all =
       let right = All-head (IsUnit W) part units all in
       let light = header-light k part.body part.start (omega arith) right.kind right.start in
-      let ops = map-light (op_words W) 119 (IsDeclared W) op-light (ops_of part.body) right.ops in
+      let ops = map-light (op_words W) 69 (IsDeclared W) op-light (ops_of part.body) right.ops in
       let head = size-line (unit_header k part) (map (op_words W) (ops_of part.body)) refl in
       let here = size-append (unit_lines W k part) (flat_map (λ p. unit_lines W p.0 p.1) (enumerate_from (k + 1) units)) in
       let rest = units-light (k + 1) units (omega arith) (All-tail (IsUnit W) part units all) in
@@ -217,13 +219,15 @@ module _ (W : Parts) (v : IsValid W) where
       some : (G : Format) → has_words (form_words (form.Version G) [] []) ≡ true
       some format.One = refl
       some format.Two = refl
+      some format.Three = refl
 
       six : (G : Format) → weight (form_words (form.Version G) [] []) ≡ 6
       six format.One = refl
       six format.Two = refl
+      six format.Three = refl
 
-  -- it has fewer bytes than format 2 allows
-  pub text-fits : (F : Format) → length (text_in F W) ≤ text_limit format.Two
+  -- it has fewer bytes than format 3 allows
+  pub text-fits : (F : Format) → length (text_in F W) ≤ text_limit format.Three
   unfolding size
   text-fits F =
       let V : List (List Text) = opening_lines F W.streams W.keys in
@@ -242,7 +246,7 @@ module _ (W : Parts) (v : IsValid W) where
       let mains = v.mains in
       let p = lines-light pool_line 119 (λ (part : PoolPart). IsAccess W.streams part.access) pool-light 0 W.pools (omega arith) v.pools in
       let s = lines-light sched_line 300 (IsSched (length W.pools)) sched-light 0 W.scheds (omega arith) v.scheds in
-      let m = lines-light stream_line 119 (λ (g : SchedNo). g.0 < sched_limit) stream-light 0 W.mains (omega arith) (mains-places W v) in
+      let m = lines-light stream_line 119 (λ (g : SchedNo). g.0 < sched_limit format.Three) stream-light 0 W.mains (omega arith) (mains-places W v) in
       let o = lines-light object_line 119 IsSmallThing object-light 0 W.objects (omega arith) objects-all in
       let u = units-light 0 W.units (omega arith) v.units in
       let h = version-light F in

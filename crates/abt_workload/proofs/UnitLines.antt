@@ -23,7 +23,8 @@ use Rattle.abt_machine.specs.Words.{Text}
 use Rattle.abt_machine.specs.Workloads.{all_ops, ops_of}
 use Rattle.abt_machine.proofs.Elements.{all-at}
 use Rattle.abt_machine.proofs.Saying.{said_by_units}
-use Rattle.abt_workload.proofs.Filled.{takes}
+use Rattle.abt_workload.proofs.Allowing.{Allows, AllowsUnit, HasOp}
+use Rattle.abt_workload.proofs.Filled.{in-each, takes}
 use Rattle.abt_workload.proofs.Fitting.{all-fit}
 use Rattle.abt_workload.proofs.Heads.{head, units_lines}
 use Rattle.abt_workload.proofs.InOrder.{front-shorter, get-here, not-before, placed-among}
@@ -59,7 +60,7 @@ ops-within front part rest =
     let same = ap length all in
     omega arith
 
-module _ (F : Format) (W : Parts) (v : IsValid W) (front : List UnitPart) (part : UnitPart) (rest : List UnitPart) (e : front ++ part ∷ rest ≡ W.units) where
+module _ (F : Format) (W : Parts) (v : IsValid W) (allows : Allows F W) (front : List UnitPart) (part : UnitPart) (rest : List UnitPart) (e : front ++ part ∷ rest ≡ W.units) where
   -- the next unit is one of the workload
   below : length front < length W.units
   below = front-shorter front part rest W.units e
@@ -71,6 +72,10 @@ module _ (F : Format) (W : Parts) (v : IsValid W) (front : List UnitPart) (part 
   -- it is right
   right : IsUnit W part
   right = all-at (IsUnit W) W.units v.units (length front) part here
+
+  -- the format allows its operations
+  fine : AllowsUnit F part
+  fine = all-at (AllowsUnit F) W.units allows.units (length front) part here
 
   -- a unit's scheduler is in no place above
   not-placed : (g : ℕ) → sched_in part.body ≡ g ∷ []
@@ -85,8 +90,12 @@ module _ (F : Format) (W : Parts) (v : IsValid W) (front : List UnitPart) (part 
       not-before (M ++ flat_map S front) g (flat_map S rest) (subst (λ (ns : List ℕ). AllPairs (λ x y. x ≢ y) ns) places v.one_place)
 
   -- its operations have room
-  room : length (all_ops front) + length (ops_of part.body) ≤ operation_limit
-  room = let within = ops-within front part rest in let all : length (all_ops (front ++ part ∷ rest)) ≡ length (all_ops W.units) = ap (λ (us : List UnitPart). length (all_ops us)) e in let few = v.few_ops in omega arith
+  room : length (all_ops front) + length (ops_of part.body) ≤ operation_limit F
+  room =
+      let within = ops-within front part rest in
+      let all : length (all_ops (front ++ part ∷ rest)) ≡ length (all_ops W.units) = ap (λ (us : List UnitPart). length (all_ops us)) e in
+      let few = allows.few_ops in
+      omega arith
 
   module _ (s : ℕ) (at : s ≤ 9) (units : List UnitPart) (last : Option UnitPart) (reach : units ++ option_to_list last ≡ front) (before said : List ℕ) (quiet : IsQuiet last said) where
     -- the units in front are declared
@@ -127,6 +136,7 @@ module _ (F : Format) (W : Parts) (v : IsValid W) (front : List UnitPart) (part 
         let made : UnitPart = unit_with (role_of part.body) (start_with (role_of part.body) part.start []) (values (unit_given u part.body part.start)) in
         takes a (reached F W 9 front (Some (record { body = body_like part.body []; start = part.start })) (before ++ said) []) f [] (unit_numbers u part.body part.start) (unit_header u part)
         (unit-written u part.body part.start)
+        (in-each F f refl)
         (all-fit a (reached-small F W v s units last before said) (unit_given u part.body part.start)
         (unit-met F W s units last before said u part.body part.start (sym count) below right.kind right.start))
         record { version = refl; placed = placed-among a f at (omega arith) refl refl; once = once part.body part.start refl; beyond = within-units part.body part.start; limit = refl; task = refl; access = refl; early = refl }
@@ -135,13 +145,15 @@ module _ (F : Format) (W : Parts) (v : IsValid W) (front : List UnitPart) (part 
         ∙ ap (λ (p : UnitPart). record a { section = 9; units = front; last = Some p; copies = 1; words = map (word_of W) (before ++ said); said = [] }) (unit-made u part.body part.start)))
 
   -- the lines of its operations are taken, if there are any
-  ops-of-body : (b : Body) (o : Option PoolNo) (before after : List ℕ) → IsBody (length W.scheds) b → length (ops_of b) ≤ unit_operation_limit → length (all_ops front) + length (ops_of b) ≤ operation_limit → All (IsDeclared W) (ops_of b)
+  ops-of-body : (b : Body) (o : Option PoolNo) (before after : List ℕ) → IsBody (length W.scheds) b → length (ops_of b) ≤ unit_operation_limit F
+      → length (all_ops front) + length (ops_of b) ≤ operation_limit F → All (IsDeclared W) (ops_of b)
+      → All (HasOp F) (ops_of b)
       → words_said W ≡ before ++ (flat_map said_by (ops_of b) ++ after)
       → TakesAll (reached F W 9 front (Some (record { body = body_like b []; start = o })) before []) (map (op_words W) (ops_of b))
       (reached F W 9 front (Some (record { body = b; start = o })) before (flat_map said_by (ops_of b)))
-  ops-of-body (body.Ult ops) o before after h few fits' all is = ops-taken F W v front (body.Ult ops) o refl before [] ops [] after (omega arith) (omega arith) refl all is
-  ops-of-body (body.Task ops) o before after h few fits' all is = ops-taken F W v front (body.Task ops) o refl before [] ops [] after (omega arith) (omega arith) h all is
-  ops-of-body (body.Sched g) o before after h few fits' all is = refl
+  ops-of-body (body.Ult ops) o before after h few fits' all has is = ops-taken F W v front (body.Ult ops) o refl before [] ops [] after (omega arith) (omega arith) refl all has is
+  ops-of-body (body.Task ops) o before after h few fits' all has is = ops-taken F W v front (body.Task ops) o refl before [] ops [] after (omega arith) (omega arith) h all has is
+  ops-of-body (body.Sched g) o before after h few fits' all has is = refl
 
   -- the lines of the next unit are taken
   unit-whole : (s : ℕ) → s ≤ 9 → (units : List UnitPart) (last : Option UnitPart) → units ++ option_to_list last ≡ front
@@ -150,12 +162,12 @@ module _ (F : Format) (W : Parts) (v : IsValid W) (front : List UnitPart) (part 
   unit-whole s at units last reach before said after quiet is = (
     reached F W 9 front (Some (record { body = body_like part.body []; start = part.start })) (before ++ said) [],
     unit-taken s at units last reach before said quiet,
-    ops-of-body part.body part.start (before ++ said) after right.kind right.few_ops room right.ops is,
+    ops-of-body part.body part.start (before ++ said) after right.kind fine.few_ops room right.ops fine.ops is,
   )
 
 -- Units one after the other.
 
-module _ (F : Format) (W : Parts) (v : IsValid W) where
+module _ (F : Format) (W : Parts) (v : IsValid W) (allows : Allows F W) where
   -- the words that are said are all words
   all-words : (said : List ℕ) → words_said W ≡ said → map (word_of W) said ≡ W.words
   all-words said is = ap (map (word_of W)) (sym is ∙ v.said) ∙ sym (fill_by_all (word_of W) W.words (length W.words) [] refl (λ k lt. refl))
@@ -188,7 +200,7 @@ module _ (F : Format) (W : Parts) (v : IsValid W) where
       let more : List ℕ = flat_map said_by (ops_of part.body) in
       let after : List ℕ = said_by_units rest in
       let below : Above = reached F W 9 front (Some part) (before ++ said) more in
-      let first = unit-whole F W v front part rest e s at units last reach before said after quiet is in
+      let first = unit-whole F W v allows front part rest e s at units last reach before said after quiet is in
       let next =
       units-from (front ++ part ∷ []) rest (append_assoc front (part ∷ []) rest ∙ e) 9 (omega arith) front (Some part) refl
       (before ++ said) more tt (is ∙ sym (append_assoc (before ++ said) more after)) in
@@ -197,5 +209,5 @@ module _ (F : Format) (W : Parts) (v : IsValid W) where
       (next.0, takes-append (reached F W s units last before said) below next.0 (unit_lines W (length front) part) (units_lines W (length front + 1) rest) first others, next.2)
 
 -- the lines of units are taken below those before them, and then all of the workload is declared
-pub units-taken : (F : Format) (W : Parts) → IsValid W → (b : Above) × TakesAll (head F W) (units_lines W 0 W.units) b × IsWhole W b
-units-taken F W v = units-from F W v [] W.units refl 8 (omega arith) [] None refl [] [] refl refl
+pub units-taken : (F : Format) (W : Parts) → IsValid W → Allows F W → (b : Above) × TakesAll (head F W) (units_lines W 0 W.units) b × IsWhole W b
+units-taken F W v allows = units-from F W v allows [] W.units refl 8 (omega arith) [] None refl [] [] refl refl

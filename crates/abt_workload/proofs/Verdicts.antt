@@ -69,6 +69,7 @@ pub slots-some : (f : Form) → has-slot (slots f) ≡ true
 unfolding has-slot
 slots-some (form.Version format.One) = refl
 slots-some (form.Version format.Two) = refl
+slots-some (form.Version format.Three) = refl
 slots-some (form.Operation o) = op_slots-some o
 slots-some _ = refl
 

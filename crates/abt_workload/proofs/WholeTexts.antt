@@ -1,16 +1,19 @@
 -- A workload's text, appended section by section.
-use Rattle.std.proofs.Common.{◌≡◌, ◌∙◌, ℕ, Bool, true, false, List, [], ◌∷◌, ◌++◌, Some, ap, append_assoc, if◌then◌else◌, refl, slice_get, slice_set, sym}
+use Rattle.std.proofs.Common.{◌≡◌, ◌∙◌, ℕ, Bool, true, false, List, [], ◌∷◌, ◌++◌, Some, ap, append_assoc, if◌then◌else◌, length, refl, slice_get, slice_set, sym}
+use Rattle.std.proofs.lemmas.List.{length-set}
 use Rattle.std.specs.List.{All}
 use Rattle.abt_machine.specs.declared.grammar.Form.TheVariants as form
+use Rattle.abt_machine.specs.declared.grammar.Format.{Format}
 use Rattle.abt_machine.specs.declared.grammar.Format.TheVariants as format
 use Rattle.abt_machine.specs.declared.workload.Parts.{Parts}
 use Rattle.abt_machine.specs.declared.workload.UnitPart.{UnitPart}
-use Rattle.abt_machine.specs.Canonical.{canonical_text, form_words, has_text, object_line, opening_lines, pool_line, sched_line, stream_line, text_in, units_words}
+use Rattle.abt_machine.specs.Canonical.{form_words, format_for, has_text, object_line, opening_lines, pool_line, sched_line, stream_line, text_in, units_words}
 use Rattle.abt_machine.specs.Operations.{IsDeclared}
 use Rattle.abt_machine.specs.Valid.{IsUnit, IsValid}
 use Rattle.abt_machine.specs.Words.{Text, ended, line_of, numbered, text_of}
 use Rattle.abt_machine.specs.Workloads.{ops_of}
 use Rattle.abt_machine.proofs.Elements.{all-at}
+use Rattle.abt_workload.specs.Slots.{digit_of}
 use Rattle.abt_workload.proofs.Heads.{units_lines}
 use Rattle.abt_workload.proofs.WritingLines.{text-and, text-append}
 
@@ -45,13 +48,24 @@ written W head pools scheds mains objects count units whole e0 e1 e2 e3 e4 e5 e6
     let all = first ++ numbered pool_line W.pools ++ numbered sched_line W.scheds ++ numbered stream_line W.mains ++ numbered object_line W.objects ++ (line ∷ U) in
     e7 ∙ (ap (λ (text : Text). text ++ ended (line_of (form_words form.End [] []))) t5 ∙ sym (text-and all (form_words form.End [] [])))
 
--- a text of format 2 is that of format 1 with another version
-pub raised : (W : Parts) → slice_set (text_in format.One W) 4 50 ≡ text_in format.Two W
-raised W = refl
+-- the text of a format is that of format 1 with another version, and as long
+pub raised : (F : Format) (W : Parts) → slice_set (text_in format.One W) 4 (digit_of F) ≡ text_in F W
+raised format.One W = refl
+raised format.Two W = refl
+raised format.Three W = refl
 
--- the canonical text of a workload that format 1 has, and of one that it has not
-pub canonical-one : (W : Parts) → has_text format.One W ≡ true → text_in format.One W ≡ canonical_text W
-canonical-one W e = ap (λ (b : Bool). text_in (if b then format.One else format.Two) W) (sym e)
+pub as-long : (F : Format) (W : Parts) → length (text_in format.One W) ≡ length (text_in F W)
+as-long F W = sym (length-set (text_in format.One W) 4 (digit_of F)) ∙ ap length (raised F W)
 
-pub canonical-two : (W : Parts) → has_text format.One W ≡ false → text_in format.Two W ≡ canonical_text W
-canonical-two W e = ap (λ (b : Bool). text_in (if b then format.One else format.Two) W) (sym e)
+-- the least format that has a text of a workload
+abbrev least : Bool → Bool → Format
+least one two = if one then format.One else (if two then format.Two else format.Three)
+
+pub format-one : (W : Parts) → has_text format.One W ≡ true → format_for W ≡ format.One
+format-one W e = ap (λ (b : Bool). least b (has_text format.Two W)) e
+
+pub format-two : (W : Parts) → has_text format.One W ≡ false → has_text format.Two W ≡ true → format_for W ≡ format.Two
+format-two W e f = ap (λ (b : Bool). least b (has_text format.Two W)) e ∙ ap (least false) f
+
+pub format-three : (W : Parts) → has_text format.One W ≡ false → has_text format.Two W ≡ false → format_for W ≡ format.Three
+format-three W e f = ap (λ (b : Bool). least b (has_text format.Two W)) e ∙ ap (least false) f

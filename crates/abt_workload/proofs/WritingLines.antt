@@ -1,16 +1,18 @@
 -- Lines, appended one behind the other.
-use Rattle.std.proofs.Common.{◌≡◌, ◌<◌, ◌+◌, ◌∙◌, ℕ, List, [], ◌∷◌, ◌++◌, Some, ap, append_assoc, arith, flat_map, get_or, length, refl, slice_get, take, true, zero-add}
-use Rattle.std.specs.List.{enumerate_from}
+use Rattle.std.proofs.Common.{◌≡◌, ◌<◌, ◌≤◌, ◌+◌, ◌&&◌, ◌∙◌, ℕ, Bool, List, [], ◌∷◌, ◌++◌, Some, ap, append_assoc, arith, drop, flat_map, get_or, length, length-append, refl, slice_get, take, true, zero-add}
+use Rattle.std.specs.List.{enumerate_from, list_all}
 use Rattle.std.proofs.lemmas.Grind.{flat_map-append}
-use Rattle.std.proofs.lemmas.List.{append-nil, length-take-le, map_push, take_more}
+use Rattle.std.proofs.lemmas.List.{append-nil, drop_more, length-take-le, map_push, take-append-drop, take_more}
 use Rattle.std.proofs.lemmas.Option.{get_or_from_slice_get, slice_get_within}
 use Rattle.abt_machine.specs.declared.grammar.Form.{Form}
 use Rattle.abt_machine.specs.declared.grammar.Form.TheVariants as form
 use Rattle.abt_machine.specs.declared.grammar.Format.TheVariants as format
 use Rattle.abt_machine.specs.declared.operations.Op.{Op}
 use Rattle.abt_machine.specs.declared.operations.Op.TheVariants as op
+use Rattle.abt_machine.specs.declared.workload.UnitPart.{UnitPart}
 use Rattle.abt_machine.specs.Forms.{op_slots}
 use Rattle.abt_machine.specs.Words.{Text, ended, line_of, numbered, text_of}
+use Rattle.abt_machine.specs.Workloads.{all_ops, ops_of}
 use Rattle.abt_machine.proofs.Weighing.{enumerate-behind}
 use Rattle.abt_workload.specs.Slots.{is_headed, own_slots}
 
@@ -22,6 +24,7 @@ op-headed _ = refl
 pub headed : (f : Form) → is_headed (own_slots f) ≡ true
 headed (form.Version format.One) = refl
 headed (form.Version format.Two) = refl
+headed (form.Version format.Three) = refl
 headed (form.Operation o) = op-headed o
 headed (form.Repeat o) = op-headed o
 headed _ = refl
@@ -72,3 +75,36 @@ lines-more {A} f xs i x out old new at before after =
     let one : flat_map g ((i, x) ∷ []) ≡ f i x = append-nil (f i x) in
     rw (numbered-more xs i x at, flat_map-append g before' ((i, x) ∷ []), one, text-append (flat_map g before') (f i x))
     (behind out (text_of (flat_map g before')) (text_of (f i x)) old new before after)
+
+-- Units, one after the other.
+
+-- the operations of the units up to u are those before and those of unit u
+pub ops-more : (units : List UnitPart) (u : ℕ) (part : UnitPart) → slice_get units u ≡ Some part → length (all_ops (take (u + 1) units)) ≡ length (all_ops (take u units)) + length (ops_of part.body)
+ops-more units u part at =
+    let lt : u < length units = slice_get_within units u part at in
+    let here : get_or units u part ≡ part = get_or_from_slice_get units u part part at in
+    let up : all_ops (take (u + 1) units) ≡ all_ops (take u units ++ part ∷ []) = rw (take_more units u part lt, here) refl in
+    let ops : all_ops (take u units ++ part ∷ []) ≡ all_ops (take u units) ++ (ops_of part.body ++ []) = flat_map-append (λ (p : UnitPart). ops_of p.body) (take u units) (part ∷ []) in
+    let count : length (all_ops (take u units) ++ (ops_of part.body ++ [])) ≡ length (all_ops (take u units)) + length (ops_of part.body ++ []) = length-append (all_ops (take u units)) _ in
+    let alone : length (ops_of part.body ++ []) ≡ length (ops_of part.body) = ap length (append-nil (ops_of part.body)) in
+    ap length up ∙ (ap length ops ∙ (count ∙ ap (λ (n : ℕ). length (all_ops (take u units)) + n) alone))
+
+-- and are no more than those of all units
+pub ops-within : (units : List UnitPart) (u : ℕ) → length (all_ops (take u units)) ≤ length (all_ops units)
+ops-within units u =
+    let ops : all_ops (take u units ++ drop u units) ≡ all_ops (take u units) ++ all_ops (drop u units) = flat_map-append (λ (p : UnitPart). ops_of p.body) (take u units) (drop u units) in
+    let count : length (all_ops (take u units) ++ all_ops (drop u units)) ≡ length (all_ops (take u units)) + length (all_ops (drop u units)) = length-append (all_ops (take u units)) _ in
+    let whole : length (all_ops (take u units ++ drop u units)) ≡ length (all_ops units) = ap (λ (us : List UnitPart). length (all_ops us)) (take-append-drop u units) in
+    let same = ap length ops in
+    omega arith
+
+-- the elements from i on are element i and those after it
+pub from-here : {A : Type 0} (xs : List A) (i : ℕ) (x : A) → slice_get xs i ≡ Some x → drop i xs ≡ x ∷ drop (i + 1) xs
+from-here xs i x at =
+    let lt : i < length xs = slice_get_within xs i x at in
+    let here : get_or xs i x ≡ x = get_or_from_slice_get xs i x x at in
+    drop_more xs i x lt ∙ ap (λ y. y ∷ drop (i + 1) xs) here
+
+-- a test of all elements from one on tests that one and those after it
+pub all-from : {A : Type 0} (p : A → Bool) (xs : List A) (i : ℕ) (x : A) → slice_get xs i ≡ Some x → list_all p (drop i xs) ≡ (p x && list_all p (drop (i + 1) xs))
+all-from p xs i x at = ap (list_all p) (from-here xs i x at)

@@ -3,6 +3,7 @@ use Rattle.std.specs.Prelude.{ℕ, ◌≡◌, ◌<◌, ◌≤◌, ◌+◌, ◌*�
 use Rattle.std.specs.List.{range_with_len}
 use Rattle.abt_machine.specs.declared.grammar.Form.{Form}
 use Rattle.abt_machine.specs.declared.grammar.Form.TheVariants as form
+use Rattle.abt_machine.specs.declared.grammar.Format.TheVariants as format
 use Rattle.abt_machine.specs.declared.operations.Op.{Op}
 use Rattle.abt_machine.specs.declared.operations.Op.TheVariants as op
 use Rattle.abt_machine.specs.declared.operations.Rule.{Rule}
@@ -51,7 +52,7 @@ AreSmall (form.Unit role start) numbers = AreUnitSmall numbers
 AreSmall (form.Many role start) numbers = IsSmall (at numbers 1) × AreUnitSmall (drop 1 numbers)
 AreSmall form.End numbers = ⊤
 AreSmall (form.Operation o) numbers = AreOpSmall o numbers
-AreSmall (form.Repeat o) numbers = (at numbers 0 ≤ unit_operation_limit) × AreOpSmall o (drop 1 numbers)
+AreSmall (form.Repeat o) numbers = (at numbers 0 ≤ unit_operation_limit format.Three) × AreOpSmall o (drop 1 numbers)
 
 -- a word that an operation says is UTF-8
 abbrev pub IsSaidBy : Op → List Text → Type 0
@@ -79,9 +80,9 @@ last_count copies (Some part) = copies
 
 -- the copies of the last unit can be declared
 pub record IsClosable (a : Above) : Type 0 where
-  pub few_said : length a.words + length a.said ≤ operation_limit
-  pub few_ops : length (all_ops (units_of a)) ≤ operation_limit
-  pub few_words : length (said_words a) ≤ operation_limit
+  pub few_said : length a.words + length a.said ≤ operation_limit format.Three
+  pub few_ops : length (all_ops (units_of a)) ≤ operation_limit format.Three
+  pub few_words : length (said_words a) ≤ operation_limit format.Three
   pub said : flat_map said_by (last_ops a.last) ≡ range_with_len (length a.words) (length a.said)
 
 -- the numbers of the words that the units in question say, each with those of the one before it: all have 32 bits

@@ -3,9 +3,11 @@ use Rattle.std.specs.Prelude.{ℕ, ◌≡◌, ◌⊎◌, if◌then◌else◌, Bo
 use Rattle.std.specs.List.{filter}
 use Rattle.abt_machine.specs.declared.grammar.Form.{Form}
 use Rattle.abt_machine.specs.declared.grammar.Form.TheVariants as form
+use Rattle.abt_machine.specs.declared.grammar.Format.{Format}
+use Rattle.abt_machine.specs.declared.grammar.Format.TheVariants as format
 use Rattle.abt_machine.specs.declared.grammar.Number.{Number}
+use Rattle.abt_machine.specs.declared.grammar.Number.TheVariants as number
 use Rattle.abt_machine.specs.Forms as grammar
-use Rattle.abt_machine.specs.Limits.{unit_operation_limit}
 use Rattle.abt_machine.specs.Spelling.{is_number, value_of}
 use Rattle.abt_machine.specs.Words.{Text}
 use Rattle.abt_workload.specs.declared.forms.Slot.{Slot}
@@ -21,7 +23,7 @@ slot_of slot.PoolList = grammar.PoolList
 
 -- a `repeat` line's places, by those of its operation
 abbrev pub repeat_slots : List grammar.Slot → List grammar.Slot
-repeat_slots places = grammar.Fixed (codes "repeat") ∷ grammar.within 1 unit_operation_limit ∷ places
+repeat_slots places = grammar.Fixed (codes "repeat") ∷ grammar.Numeral number.Times ∷ places
 
 -- the places of a line of a form, of a `repeat` line those of its operation
 abbrev pub own_slots : Form → List grammar.Slot
@@ -45,3 +47,9 @@ number_in word = if is_number word then Some (value_of word) else None
 abbrev pub numeral_in : grammar.Slot → Text → List (Number × Text)
 numeral_in (grammar.Numeral n) word = (n, word) ∷ []
 numeral_in s word = []
+
+-- the digit that a version line has at its end
+abbrev pub digit_of : Format → ℕ
+digit_of format.One = 49
+digit_of format.Two = 50
+digit_of format.Three = 51

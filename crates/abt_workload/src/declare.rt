@@ -8,6 +8,7 @@ ghost use Rattle.abt_machine.specs.Numbers.{pool_no, sched_no};
 ghost use Rattle.abt_machine.specs.Operations.{said_by};
 ghost use Rattle.abt_machine.specs.Workloads.{all_ops, ops_of};
 ghost use Rattle.abt_machine.specs.declared.grammar.Form.TheVariants as form;
+ghost use Rattle.abt_machine.specs.declared.grammar.Format.TheVariants as format;
 ghost use Rattle.abt_workload.specs.Declarable.{AreLater, AreOpSmall, AreSmall, AreUnitSmall, IsClosable, IsDeclarable, IsSaidBy, IsSmall, IsSmallRule, closed, is_wide, with_line};
 
 use crate::draft::Draft;
@@ -17,8 +18,8 @@ use crate::numbers::{Numbered, after, listed, value};
 use crate::text::words_after;
 use crate::units::Units;
 use abt_machine::{
-    Access, Body, Combine, Form, Kind, ObjectNo, Op, Ops, PoolNo, PoolPart, Pools, Role, Rule,
-    SchedNo, SchedPart, StreamNo, Text, Thing, UnitNo, UnitPart, Want,
+    Access, Body, Calc, Combine, Form, Kind, ObjectNo, Op, Ops, PoolNo, PoolPart, Pools, Role,
+    Rule, SchedNo, SchedPart, StreamNo, Text, Thing, UnitNo, UnitPart, Want,
 };
 use std::alloc::Global;
 use std::str;
@@ -189,10 +190,10 @@ impl Draft {
         words: &[&[u8]],
         numbers: &[Numbered],
     ) -> Result<(), Want>
-        requires count { count ≤ unit_operation_limit }
+        requires count { count ≤ unit_operation_limit format.Three }
         requires small { AreOpSmall op (values numbers.now) }
         requires said { IsSaidBy op (map (λ w. w.now) words.now) }
-        requires few_words { length self.old.words + length self.old.said ≤ operation_limit }
+        requires few_words { length self.old.words + length self.old.said ≤ operation_limit format.Three }
         ensures { OnOk result (self.new ≡ with_operations count op (map (λ w. w.now) words.now) (values numbers.now) self.old) }
     {
         let mut left = count;
@@ -388,7 +389,7 @@ fn push_alike(
     copies: u32,
     said: u32,
 ) -> Result<(), Want>
-    requires few_ops { length (all_ops units.old) + length (all_ops (alike copies said part)) ≤ operation_limit }
+    requires few_ops { length (all_ops units.old) + length (all_ops (alike copies said part)) ≤ operation_limit format.Three }
     requires words { AreLater copies said (flat_map said_by (ops_of part.body)) }
     ensures { OnOk result (units.new ≡ units.old ++ alike copies said part) }
 {
@@ -503,9 +504,9 @@ fn ops_and(ops: Ops, op: Op) -> Result<Ops, Want>
 
 // An operation with the numbers of its row.
 macro_rules! numbered_as {
-    (($op:ident) $($name:ident $(($($number:tt)+))?: $places:tt;)+) => {
+    (($op:ident) $($name:ident $([$which:path])? $(($($number:tt)+))?: $places:tt;)+) => {
         match $op {
-            $(Op::$name { .. } => Op::$name $(($($number)+))?,)+
+            $(Op::$name { $(0: $which,)? .. } => Op::$name $(($($number)+))?,)+
         }
     };
 }

@@ -5,7 +5,6 @@ ghost use Rattle.std.specs.List.{list_any};
 ghost use Rattle.abt_machine.specs.Access.{may_take_all};
 ghost use Rattle.abt_machine.specs.Declaring.{declared_units, last_units, nothing, parts_of};
 ghost use Rattle.abt_machine.specs.Faults.{has_main, has_no_room, is_crowded, is_long, is_placed, is_task, is_there, takes_operations};
-ghost use Rattle.abt_machine.specs.Limits.{operation_limit};
 ghost use Rattle.abt_machine.specs.Valid.{sched_in};
 ghost use Rattle.abt_machine.specs.Workloads.{access_from};
 ghost use Rattle.abt_machine.specs.declared.grammar.Number.TheVariants as number;
@@ -15,8 +14,7 @@ ghost use Rattle.abt_workload.specs.Declarable.{last_count, op_count};
 
 use crate::units::Units;
 use abt_machine::{
-    Access, Body, Format, Number, OPERATION_LIMIT, PoolPart, SchedNo, SchedPart, Text, Thing,
-    UNIT_OPERATION_LIMIT, UnitPart,
+    Access, Body, Format, Number, PoolPart, SchedNo, SchedPart, Text, Thing, UnitPart,
 };
 use std::alloc::Global;
 use std::marker::Model;
@@ -123,6 +121,7 @@ impl Draft {
     {
         match number {
             Number::Within(_, _) | Number::StreamCount | Number::UnitCount => true,
+            Number::Copies | Number::Times => true,
             Number::NewPool => n <= self.pools.len() as u64,
             Number::NewSched => n <= self.scheds.len() as u64,
             Number::NewObject => n <= self.objects.len() as u64,
@@ -167,12 +166,13 @@ impl Draft {
 
     // Whether the last unit has too many operations with n more.
     fn is_long(&self, n: u64) -> bool
-        ensures { result ≡ is_long self.now.last n }
+        ensures { result ≡ is_long self.now.format self.now.last n }
     {
         match &self.last {
             None => false,
             Some(part) => {
-                part.body.ops().len() as u128 + u128::from(n) > UNIT_OPERATION_LIMIT as u128
+                let limit = self.format.unit_operation_limit();
+                part.body.ops().len() as u128 + u128::from(n) > limit as u128
             }
         }
     }
@@ -181,7 +181,8 @@ impl Draft {
     fn is_crowded(&self, n: u64) -> bool
         ensures { result ≡ is_crowded self.now n }
     {
-        are_too_many(self.units.ops(), self.copies, last_ops(&self.last), n)
+        let all = all_ops(self.units.ops(), self.copies, last_ops(&self.last), n);
+        all > self.format.operation_limit() as u128
     }
 
     /// Whether the last unit is a tasklet.
@@ -304,11 +305,9 @@ fn last_ops(last: &Option<UnitPart>) -> usize
     }
 }
 
-// Whether this many operations, and those of the copies of a unit with n more each, are more than all units
-// may have.
-fn are_too_many(above: usize, copies: u32, each: usize, n: u64) -> bool
-    ensures { result ≡ nat_lt operation_limit (above + copies * (each + n)) }
+// How many operations these are, and those of the copies of a unit with n more each.
+fn all_ops(above: usize, copies: u32, each: usize, n: u64) -> u128
+    ensures { result ≡ above + copies * (each + n) }
 {
-    let all = u128::from(copies) * (each as u128 + u128::from(n));
-    above as u128 + all > OPERATION_LIMIT as u128
+    above as u128 + u128::from(copies) * (each as u128 + u128::from(n))
 }

@@ -1,15 +1,15 @@
 //! The forms of a workload text's lines, as a table.
 
 ghost use Rattle.std.specs.Prelude.{◌≡◌, ◌&&◌, ◌||◌, bytes_eq, map};
-ghost use Rattle.abt_machine.specs.Forms.{begins_with, fits, form_of, is_in, op_slots, slots, suits};
+ghost use Rattle.abt_machine.specs.Forms.{begins_with, computes, fits, form_of, is_in, op_slots, slots, suits};
 ghost use Rattle.abt_machine.specs.Faults.{is_unknown};
 ghost use Rattle.abt_machine.specs.declared.grammar.Form.TheVariants as form;
 ghost use Rattle.abt_machine.specs.declared.grammar.Format.TheVariants as format;
 ghost use Rattle.abt_workload.specs.Slots.{AreFormsOf, own_slots, slot_of};
 
 use abt_machine::{
-    Access, Combine, Form, Format, KEY_LIMIT, Number, ObjectNo, Op, PoolNo, Role, Rule, SIZE_LIMIT,
-    StreamNo, Thing, UNIT_LIMIT, UnitNo,
+    Access, Calc, Combine, FUNCTION_LIMIT, Form, Format, KEY_LIMIT, Number, ObjectNo, Op, PoolNo,
+    Role, Rule, SIZE_LIMIT, StreamNo, Thing, UnitNo,
 };
 
 /// What stands at a place of a line: this very word, a word that names a kind of pool or what a future
@@ -33,12 +33,13 @@ const KEYS: Number = Number::Within(0, KEY_LIMIT as u64);
 // How many compartments a future has, or parties a barrier.
 const SIZE: Number = Number::Within(1, SIZE_LIMIT as u64);
 
-// How many units a `many` line declares.
-const COPIES: Number = Number::Within(1, UNIT_LIMIT as u64);
+// Which function a `call` line calls.
+const FUNCTION: Number = Number::Within(0, FUNCTION_LIMIT as u64 - 1);
 
 // The operations, one a row: its numbers, and then the word that its line begins with and what stands at the places
-// after it. A call names the macro that gets the rows, with what this gets before them. It gives the numbers, which are
-// 0 otherwise: of a word, of 64 bits, the first and the second of 32 bits, and the second where it is a flag.
+// after it. Each thing that a `calc` line may compute has a row, which names it in brackets before the numbers. A call
+// names the macro that gets the rows, with what this gets before them. It gives the numbers, which are 0 otherwise: of
+// a word, of 64 bits, the first and the second of 32 bits, and the second where it is a flag.
 macro_rules! operations {
     ($then:ident($($with:tt)*), $said:tt, $wide:tt, $first:tt, $second:tt, $flag:tt) => {
         $then! {
@@ -83,6 +84,20 @@ macro_rules! operations {
             RwUnlock(ObjectNo($first)): ["rwunlock", Numeral(Number::RwLock)];
             RwLoad(ObjectNo($first)): ["rwload", Numeral(Number::RwLock)];
             RwStore(ObjectNo($first)): ["rwstore", Numeral(Number::RwLock)];
+            Calc[Calc::Add](Calc::Add, $first): ["calc", Fixed("add"), Numeral(Number::Key)];
+            Calc[Calc::Sub](Calc::Sub, $first): ["calc", Fixed("sub"), Numeral(Number::Key)];
+            Calc[Calc::Mul](Calc::Mul, $first): ["calc", Fixed("mul"), Numeral(Number::Key)];
+            Calc[Calc::Div](Calc::Div, $first): ["calc", Fixed("div"), Numeral(Number::Key)];
+            Calc[Calc::Rem](Calc::Rem, $first): ["calc", Fixed("rem"), Numeral(Number::Key)];
+            Calc[Calc::Min](Calc::Min, $first): ["calc", Fixed("min"), Numeral(Number::Key)];
+            Calc[Calc::Max](Calc::Max, $first): ["calc", Fixed("max"), Numeral(Number::Key)];
+            Calc[Calc::And](Calc::And, $first): ["calc", Fixed("and"), Numeral(Number::Key)];
+            Calc[Calc::Or](Calc::Or, $first): ["calc", Fixed("or"), Numeral(Number::Key)];
+            Calc[Calc::Xor](Calc::Xor, $first): ["calc", Fixed("xor"), Numeral(Number::Key)];
+            Calc[Calc::Eq](Calc::Eq, $first): ["calc", Fixed("eq"), Numeral(Number::Key)];
+            Calc[Calc::Lt](Calc::Lt, $first): ["calc", Fixed("lt"), Numeral(Number::Key)];
+            Calc[Calc::Gcd](Calc::Gcd, $first): ["calc", Fixed("gcd"), Numeral(Number::Key)];
+            Call($first): ["call", Numeral(FUNCTION)];
         }
     };
     ($then:ident($($with:tt)*)) => {
@@ -92,12 +107,13 @@ macro_rules! operations {
 
 pub(crate) use operations;
 
-// One form of each, first those of both formats and then those of format 2 alone; a form's numbers have no meaning.
+// One form of each, the last those that format 1 does not have; a form's numbers have no meaning.
 macro_rules! forms_with {
-    (() $($name:ident $(($($number:tt)+))?: $places:tt;)+) => {
+    (() $($name:ident $([$which:path])? $(($($number:tt)+))?: $places:tt;)+) => {
         [
             Form::Version(Format::One),
             Form::Version(Format::Two),
+            Form::Version(Format::Three),
             Form::Streams,
             Form::Keys,
             Form::Pool(Access::Priv(StreamNo(0))),
@@ -136,7 +152,7 @@ macro_rules! forms_with {
     };
 }
 
-static FORMS: [Form; 114] = operations!(forms_with());
+static FORMS: [Form; 143] = operations!(forms_with());
 
 /// What stands at the places of a line of this form; of a `repeat` line after its first two words, that is
 /// at the places of its operation.
@@ -146,6 +162,7 @@ pub(crate) fn slots(form: Form) -> &'static [Slot]
     match form {
         Form::Version(Format::One) => &[Slot::Fixed("abt"), Slot::Fixed("1")],
         Form::Version(Format::Two) => &[Slot::Fixed("abt"), Slot::Fixed("2")],
+        Form::Version(Format::Three) => &[Slot::Fixed("abt"), Slot::Fixed("3")],
         Form::Streams => &[Slot::Fixed("streams"), Slot::Numeral(Number::StreamCount)],
         Form::Keys => &[Slot::Fixed("keys"), Slot::Numeral(KEYS)],
         Form::Pool(Access::Priv(_)) => &[
@@ -299,7 +316,7 @@ pub(crate) fn slots(form: Form) -> &'static [Slot]
         Form::Many(Role::Ult, Some(_)) => &[
             Slot::Fixed("many"),
             Slot::Numeral(Number::NewUnit),
-            Slot::Numeral(COPIES),
+            Slot::Numeral(Number::Copies),
             Slot::Fixed("ult"),
             Slot::Fixed("at"),
             Slot::Numeral(Number::Pool),
@@ -307,14 +324,14 @@ pub(crate) fn slots(form: Form) -> &'static [Slot]
         Form::Many(Role::Ult, None) => &[
             Slot::Fixed("many"),
             Slot::Numeral(Number::NewUnit),
-            Slot::Numeral(COPIES),
+            Slot::Numeral(Number::Copies),
             Slot::Fixed("ult"),
             Slot::Fixed("later"),
         ],
         Form::Many(Role::Task, Some(_)) => &[
             Slot::Fixed("many"),
             Slot::Numeral(Number::NewUnit),
-            Slot::Numeral(COPIES),
+            Slot::Numeral(Number::Copies),
             Slot::Fixed("task"),
             Slot::Fixed("at"),
             Slot::Numeral(Number::Pool),
@@ -322,14 +339,14 @@ pub(crate) fn slots(form: Form) -> &'static [Slot]
         Form::Many(Role::Task, None) => &[
             Slot::Fixed("many"),
             Slot::Numeral(Number::NewUnit),
-            Slot::Numeral(COPIES),
+            Slot::Numeral(Number::Copies),
             Slot::Fixed("task"),
             Slot::Fixed("later"),
         ],
         Form::Many(Role::Sched, Some(_)) => &[
             Slot::Fixed("many"),
             Slot::Numeral(Number::NewUnit),
-            Slot::Numeral(COPIES),
+            Slot::Numeral(Number::Copies),
             Slot::Fixed("sched"),
             Slot::Numeral(Number::Sched),
             Slot::Fixed("at"),
@@ -338,7 +355,7 @@ pub(crate) fn slots(form: Form) -> &'static [Slot]
         Form::Many(Role::Sched, None) => &[
             Slot::Fixed("many"),
             Slot::Numeral(Number::NewUnit),
-            Slot::Numeral(COPIES),
+            Slot::Numeral(Number::Copies),
             Slot::Fixed("sched"),
             Slot::Numeral(Number::Sched),
             Slot::Fixed("later"),
@@ -350,9 +367,9 @@ pub(crate) fn slots(form: Form) -> &'static [Slot]
 
 // What stands at the places of an operation's line.
 macro_rules! places_of {
-    (($op:ident) $($name:ident $(($($number:tt)+))?: [$word:literal $(, $slot:ident $(($kind:expr))?)*];)+) => {
+    (($op:ident) $($name:ident $([$which:path])? $(($($number:tt)+))?: [$word:literal $(, $slot:ident $(($kind:expr))?)*];)+) => {
         match $op {
-            $(Op::$name { .. } => &[Slot::Fixed($word) $(, Slot::$slot $(($kind))?)*],)+
+            $(Op::$name { $(0: $which,)? .. } => &[Slot::Fixed($word) $(, Slot::$slot $(($kind))?)*],)+
         }
     };
 }
@@ -410,14 +427,25 @@ fn is_repeat(op: Op, words: &[&[u8]]) -> bool
     }
 }
 
-// Whether a line of this form stands in texts of this format.
-fn is_in(format: Format, form: Form) -> bool
+/// Whether a line of this form stands in texts of this format.
+pub(crate) fn is_in(format: Format, form: Form) -> bool
     ensures { result ≡ is_in format form }
 {
     match form {
-        Form::Many(_, _) | Form::Repeat(_) => matches!(format, Format::Two),
+        Form::Many(_, _) => !matches!(format, Format::One),
+        Form::Operation(op) => !computes(op) || matches!(format, Format::Three),
+        Form::Repeat(op) => {
+            matches!(format, Format::Three) || (matches!(format, Format::Two) && !computes(op))
+        }
         _ => true,
     }
+}
+
+// Whether an operation computes or calls.
+fn computes(op: Op) -> bool
+    ensures { result ≡ computes op }
+{
+    matches!(op, Op::Calc(_, _) | Op::Call(_))
 }
 
 // Whether a line of these words has this form in a text of this format.
@@ -459,11 +487,11 @@ fn forms_of_three(word: &[u8]) -> &'static [Form]
     ensures { AreFormsOf word.now result.now }
 {
     forms_by!(word;
-        "abt" => 0..2,
-        "end" => 27..28,
-        "set" => 28..29,
-        "add" => 29..30,
-        "say" => 30..31,
+        "abt" => 0..3,
+        "end" => 28..29,
+        "set" => 29..30,
+        "add" => 30..31,
+        "say" => 31..32,
     )
 }
 
@@ -472,18 +500,20 @@ fn forms_of_four(word: &[u8]) -> &'static [Form]
     ensures { AreFormsOf word.now result.now }
 {
     forms_by!(word;
-        "keys" => 3..4,
-        "pool" => 4..9,
-        "unit" => 21..27,
-        "kset" => 32..33,
-        "kget" => 33..34,
-        "exit" => 37..38,
-        "join" => 40..41,
-        "lock" => 46..47,
-        "load" => 49..50,
-        "eset" => 55..56,
-        "fset" => 59..60,
-        "many" => 68..74,
+        "keys" => 4..5,
+        "pool" => 5..10,
+        "unit" => 22..28,
+        "kset" => 33..34,
+        "kget" => 34..35,
+        "exit" => 38..39,
+        "join" => 41..42,
+        "lock" => 47..48,
+        "load" => 50..51,
+        "eset" => 56..57,
+        "fset" => 60..61,
+        "calc" => 69..82,
+        "call" => 82..83,
+        "many" => 83..89,
     )
 }
 
@@ -492,17 +522,17 @@ fn forms_of_five(word: &[u8]) -> &'static [Form]
     ensures { AreFormsOf word.now result.now }
 {
     forms_by!(word;
-        "sched" => 9..13,
-        "units" => 20..21,
-        "print" => 31..32,
-        "yield" => 34..35,
-        "store" => 50..51,
-        "cwait" => 51..52,
-        "ewait" => 54..55,
-        "etest" => 57..58,
-        "fwait" => 58..59,
-        "ftest" => 61..62,
-        "bwait" => 62..63,
+        "sched" => 10..14,
+        "units" => 21..22,
+        "print" => 32..33,
+        "yield" => 35..36,
+        "store" => 51..52,
+        "cwait" => 52..53,
+        "ewait" => 55..56,
+        "etest" => 58..59,
+        "fwait" => 59..60,
+        "ftest" => 62..63,
+        "bwait" => 63..64,
     )
 }
 
@@ -511,20 +541,20 @@ fn forms_of_six(word: &[u8]) -> &'static [Form]
     ensures { AreFormsOf word.now result.now }
 {
     forms_by!(word;
-        "stream" => 13..14,
-        "object" => 14..20,
-        "resume" => 38..39,
-        "create" => 39..40,
-        "cancel" => 41..42,
-        "revive" => 45..46,
-        "unlock" => 48..49,
-        "signal" => 52..53,
-        "ereset" => 56..57,
-        "freset" => 60..61,
-        "rdlock" => 63..64,
-        "wrlock" => 64..65,
-        "rwload" => 66..67,
-        "repeat" => 74..114,
+        "stream" => 14..15,
+        "object" => 15..21,
+        "resume" => 39..40,
+        "create" => 40..41,
+        "cancel" => 42..43,
+        "revive" => 46..47,
+        "unlock" => 49..50,
+        "signal" => 53..54,
+        "ereset" => 57..58,
+        "freset" => 61..62,
+        "rdlock" => 64..65,
+        "wrlock" => 65..66,
+        "rwload" => 67..68,
+        "repeat" => 89..143,
     )
 }
 
@@ -533,12 +563,12 @@ fn forms_of_seven(word: &[u8]) -> &'static [Form]
     ensures { AreFormsOf word.now result.now }
 {
     forms_by!(word;
-        "streams" => 2..3,
-        "yieldto" => 35..36,
-        "suspend" => 36..37,
-        "migrate" => 42..43,
-        "trylock" => 47..48,
-        "rwstore" => 67..68,
+        "streams" => 3..4,
+        "yieldto" => 36..37,
+        "suspend" => 37..38,
+        "migrate" => 43..44,
+        "trylock" => 48..49,
+        "rwstore" => 68..69,
     )
 }
 
@@ -547,7 +577,7 @@ fn forms_of_eight(word: &[u8]) -> &'static [Form]
     ensures { AreFormsOf word.now result.now }
 {
     forms_by!(word;
-        "rwunlock" => 65..66,
+        "rwunlock" => 66..67,
     )
 }
 
@@ -556,8 +586,8 @@ fn forms_of_nine(word: &[u8]) -> &'static [Form]
     ensures { AreFormsOf word.now result.now }
 {
     forms_by!(word;
-        "migrateto" => 43..44,
-        "broadcast" => 53..54,
+        "migrateto" => 44..45,
+        "broadcast" => 54..55,
     )
 }
 
@@ -566,7 +596,7 @@ fn forms_of_ten(word: &[u8]) -> &'static [Form]
     ensures { AreFormsOf word.now result.now }
 {
     forms_by!(word;
-        "migratable" => 44..45,
+        "migratable" => 45..46,
     )
 }
 
@@ -618,9 +648,11 @@ pub(crate) fn is_unknown(format: Format, words: &[&[u8]]) -> bool
     true
 }
 
-/// Whether these are the words of a version line, of either format.
+/// Whether these are the words of a version line, of any format.
 pub(crate) fn is_version(words: &[&[u8]]) -> bool
-    ensures { result ≡ (fits (slots (form.Version format.One)) (map (λ w. w.now) words.now) || fits (slots (form.Version format.Two)) (map (λ w. w.now) words.now)) }
+    ensures { result ≡ (fits (slots (form.Version format.One)) (map (λ w. w.now) words.now) || fits (slots (form.Version format.Two)) (map (λ w. w.now) words.now) || fits (slots (form.Version format.Three)) (map (λ w. w.now) words.now)) }
 {
-    fits(slots(Form::Version(Format::One)), words) || fits(slots(Form::Version(Format::Two)), words)
+    fits(slots(Form::Version(Format::One)), words)
+        || fits(slots(Form::Version(Format::Two)), words)
+        || fits(slots(Form::Version(Format::Three)), words)
 }

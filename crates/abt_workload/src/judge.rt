@@ -13,10 +13,7 @@ use crate::draft::Draft;
 use crate::forms::{form_of, is_unknown, is_version, slots};
 use crate::numbers::{Numbered, add_numbers, add_repeated, has_repeated, listed, value};
 use crate::text::{has_control, is_utf8, words_after};
-use abt_machine::{
-    Fault, Form, Format, LISTED_LIMIT, Number, OBJECT_LIMIT, Op, POOL_LIMIT, Role, SCHED_LIMIT,
-    WORD_LIMIT, Want,
-};
+use abt_machine::{Fault, Form, Format, LISTED_LIMIT, Number, Op, Role, WORD_LIMIT, Want};
 use std::alloc::Global;
 
 /// The section that a line of this form belongs to.
@@ -200,11 +197,12 @@ impl Draft {
         ensures { result ≡ is_past_limit self.now form (map (λ w. w.now) words.now) (values numbers.now) }
     {
         match form {
-            Form::Pool(_) => self.pools.len() >= POOL_LIMIT,
+            Form::Pool(_) => self.pools.len() >= self.format.pool_limit(),
             Form::Sched(rule) => {
-                self.scheds.len() >= SCHED_LIMIT || listed(rule, numbers).len() > LISTED_LIMIT
+                self.scheds.len() >= self.format.sched_limit()
+                    || listed(rule, numbers).len() > LISTED_LIMIT
             }
-            Form::Object(_) => self.objects.len() >= OBJECT_LIMIT,
+            Form::Object(_) => self.objects.len() >= self.format.object_limit(),
             Form::Operation(op) => self.has_no_room(1) || is_long_word(op, words),
             Form::Repeat(op) => {
                 self.has_no_room(value(numbers, 0)) || is_long_word(op, words_after(words, 2))
@@ -319,6 +317,8 @@ fn is_within(format: Format, number: Number, n: u64) -> bool
     match number {
         Number::StreamCount => 1 <= n && n <= u64::from(format.stream_limit()),
         Number::UnitCount => n <= u64::from(format.unit_limit()),
+        Number::Copies => 1 <= n && n <= u64::from(format.unit_limit()),
+        Number::Times => 1 <= n && n <= format.unit_operation_limit() as u64,
         Number::Within(low, high) => low <= n && n <= high,
         _ => true,
     }

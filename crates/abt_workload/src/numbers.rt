@@ -14,7 +14,7 @@ ghost use Rattle.abt_workload.specs.Slots.{numeral_in, repeat_slots, slot_of};
 
 use crate::forms::Slot;
 use crate::text::number;
-use abt_machine::{Number, Rule, UNIT_OPERATION_LIMIT, Want};
+use abt_machine::{Number, Rule, Want};
 use std::alloc::Global;
 use std::collections::BTreeSet;
 
@@ -59,11 +59,7 @@ pub(crate) fn add_repeated(
         Some((_, words)) => match words.split_first() {
             None => Ok(true),
             Some((word, words)) => {
-                if !add(
-                    Number::Within(1, UNIT_OPERATION_LIMIT as u64),
-                    word,
-                    numbers,
-                )? {
+                if !add(Number::Times, word, numbers)? {
                     return Ok(false);
                 }
                 add_numbers(slots, words, numbers)

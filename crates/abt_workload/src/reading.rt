@@ -166,7 +166,7 @@ fn is_too_long(bytes: &[u8]) -> bool
     bytes.len() > Format::One.text_limit() && bytes.len() > format_of(bytes).text_limit()
 }
 
-/// Reads a workload text of either format, in one pass over its bytes.
+/// Reads a workload text of any format, in one pass over its bytes.
 ///
 /// # Errors
 /// `Refused` has the least line that has a fault, and that line's first fault in the order of the

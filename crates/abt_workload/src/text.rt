@@ -1,6 +1,6 @@
 //! Lines, words and numbers of a text.
 
-ghost use Rattle.std.specs.Prelude.{◌≡◌, ◌<◌, ◌≤◌, ◌+◌, ◌∷◌, ◌==◌, ℕ, [], true, false, None, Some, drop, if◌then◌else◌, map, length, slice_index, IfSome, IfNone, OnOk};
+ghost use Rattle.std.specs.Prelude.{◌≡◌, ◌<◌, ◌≤◌, ◌+◌, ◌∷◌, ◌==◌, ℕ, [], true, false, None, Some, codes, drop, if◌then◌else◌, map, length, slice_index, IfSome, IfNone, OnOk};
 ghost use Rattle.std.specs.Str.{is_utf8};
 ghost use Rattle.abt_machine.specs.Spelling.{has_control, is_separator, lines_of, words_of};
 ghost use Rattle.abt_machine.specs.Faults.{begins_comment, is_skipped};
@@ -120,12 +120,25 @@ fn format_in(line: &[u8]) -> Option<Format>
     match first_word(rest) {
         None => Some(Format::One),
         Some((second, rest)) => {
-            if is(second, "2") && first_word(rest).is_none() {
-                Some(Format::Two)
-            } else {
+            if first_word(rest).is_some() {
                 Some(Format::One)
+            } else {
+                Some(format_named(second))
             }
         }
+    }
+}
+
+// The format of a line whose words are `abt` and this one.
+fn format_named(word: &[u8]) -> Format
+    ensures { result ≡ format_in (codes "abt" ∷ word.now ∷ []) }
+{
+    if is(word, "3") {
+        Format::Three
+    } else if is(word, "2") {
+        Format::Two
+    } else {
+        Format::One
     }
 }
 

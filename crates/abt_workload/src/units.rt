@@ -3,6 +3,7 @@
 ghost use Rattle.std.specs.Prelude.{◌≡◌, ◌≤◌, ◌+◌, ◌++◌, ◌∷◌, [], OnOk, length};
 ghost use Rattle.abt_machine.specs.Limits.{operation_limit};
 ghost use Rattle.abt_machine.specs.Workloads.{all_ops, ops_of};
+ghost use Rattle.abt_machine.specs.declared.grammar.Format.TheVariants as format;
 
 use abt_machine::{UnitPart, Want};
 use std::alloc::Global;
@@ -54,7 +55,7 @@ impl Units {
 
     /// Appends a unit.
     pub(crate) fn push(&mut self, part: UnitPart) -> Result<(), Want>
-        requires { length (all_ops self.old) + length (ops_of part.body) ≤ operation_limit }
+        requires { length (all_ops self.old) + length (ops_of part.body) ≤ operation_limit format.Three }
         ensures { OnOk result (self.new ≡ self.old ++ part ∷ []) }
     {
         let ops = part.body.ops().len();

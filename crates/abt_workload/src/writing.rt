@@ -1,24 +1,24 @@
 //! The writer.
 
-ghost use Rattle.std.specs.Prelude.{◌≡◌, ◌++◌, ◌∷◌, [], All, IfOk, OnOk, decimal, flat_map, map, slice_set, true};
-ghost use Rattle.std.specs.List.{enumerate_from};
-ghost use Rattle.abt_machine.specs.Canonical.{canonical_text, filled, has_text, keys_lines, object_line, op_numbers, op_word, op_words, opening_lines, pool_line, role_of, rule_numbers, sched_line, stream_line, text_in, unit_header, unit_lines};
-ghost use Rattle.abt_machine.specs.Forms.{combine_name, kind_name, op_slots};
+ghost use Rattle.std.specs.Prelude.{◌≡◌, ◌++◌, ◌∷◌, [], All, IfOk, OnOk, decimal, flat_map, length, map, true};
+ghost use Rattle.std.specs.List.{enumerate_from, list_all};
+ghost use Rattle.abt_machine.specs.Canonical.{canonical_text, filled, format_for, has_parts, has_text, has_unit, keys_lines, object_line, op_numbers, op_word, op_words, opening_lines, pool_line, role_of, rule_numbers, sched_line, stream_line, text_in, unit_header, unit_lines};
+ghost use Rattle.abt_machine.specs.Forms.{combine_name, is_in, kind_name, op_slots};
 ghost use Rattle.abt_machine.specs.Grammar.{Reads};
 ghost use Rattle.abt_machine.specs.Operations.{IsDeclared};
 ghost use Rattle.abt_machine.specs.Valid.{IsValid};
 ghost use Rattle.abt_machine.specs.Words.{Text, ended, line_of, numbered, spaced, text_of};
-ghost use Rattle.abt_machine.specs.Workloads.{ops_of};
+ghost use Rattle.abt_machine.specs.Workloads.{all_ops, ops_of};
 ghost use Rattle.abt_machine.specs.declared.grammar.Form.TheVariants as form;
 ghost use Rattle.abt_machine.specs.declared.grammar.Format.TheVariants as format;
 ghost use Rattle.abt_machine.specs.declared.numbers.PoolNo.{PoolNo};
-ghost use Rattle.abt_workload.specs.Slots.{is_headed, own_slots, slot_of};
+ghost use Rattle.abt_workload.specs.Slots.{digit_of, is_headed, own_slots, slot_of};
 
-use crate::forms::{Slot, operations, slots};
+use crate::forms::{Slot, is_in, operations, slots};
 use abt_lines::{end_line, push_decimal, push_word};
 use abt_machine::{
-    Access, Body, Combine, Form, Format, Kind, ObjectNo, Op, PoolNo, PoolPart, Role, Rule, SchedNo,
-    SchedPart, StreamNo, Thing, UnitNo, UnitPart, Want, Workload,
+    Access, Body, Calc, Combine, Form, Format, Kind, ObjectNo, Op, PoolNo, PoolPart, Role, Rule,
+    SchedNo, SchedPart, StreamNo, Thing, UnitNo, UnitPart, Want, Workload,
 };
 use std::alloc::Global;
 
@@ -250,7 +250,7 @@ fn push_objects(out: &mut Vec<u8>, w: &Workload) -> Result<(), Want>
 
 // The numbers that an operation's row gives these names; a name that it does not give one keeps the number that it has.
 macro_rules! numbers_in {
-    (($op:ident, $m:ident, $n:ident) $($name:ident $(($($number:tt)+))?: $places:tt;)+) => {
+    (($op:ident, $m:ident, $n:ident) $($name:ident $([$which:path])? $(($($number:tt)+))?: $places:tt;)+) => {
         match $op {
             $(Op::$name $(($($number)+))? => (u64::from($m), u64::from($n)),)+
         }
@@ -348,38 +348,102 @@ fn push_units(out: &mut Vec<u8>, w: &Workload) -> Result<(), Want>
 
 // The whole text.
 
-// Whether a workload has a text of format 1, which is this one.
-fn is_of_format_one(w: &Workload, text: &[u8]) -> bool
-    requires { text.now ≡ text_in format.One w.now }
-    ensures { result ≡ has_text format.One w.now }
+// Whether a format has each of these operations.
+fn has_ops(format: Format, ops: &[Op]) -> bool
+    ensures { result ≡ list_all (λ o. is_in format (form.Operation o)) ops.now }
 {
-    let format = Format::One;
-    w.streams() <= format.stream_limit()
-        && w.units() <= format.unit_limit()
-        && text.len() <= format.text_limit()
+    for op in ops {
+        if !is_in(format, Form::Operation(*op)) {
+            return false;
+        }
+    }
+    true
 }
 
-// Makes the version line of a text of format 1 that of format 2.
-fn raise(text: &mut Vec<u8>)
-    ensures { text.new.items ≡ slice_set text.old.items 4 50 }
+// Whether a format allows this unit's operations.
+fn has_unit(format: Format, part: &UnitPart) -> bool
+    ensures { result ≡ has_unit format part.now }
 {
-    if let Some(byte) = text.get_mut(4) {
-        *byte = b'2';
+    let ops = part.body.ops();
+    ops.len() <= format.unit_operation_limit() && has_ops(format, ops)
+}
+
+// Whether a format allows each unit's operations.
+fn has_units(format: Format, w: &Workload) -> bool
+    ensures { result ≡ list_all (has_unit format) w.now.units }
+{
+    for u in 0..w.units() {
+        if !has_unit(format, w.unit(UnitNo(u))) {
+            return false;
+        }
+    }
+    true
+}
+
+// How many operations all units have.
+fn op_count(w: &Workload) -> usize
+    requires { IsValid w.now }
+    ensures { result ≡ length (all_ops w.now.units) }
+{
+    let mut all = 0usize;
+    for u in 0..w.units() {
+        all += w.unit(UnitNo(u)).body.ops().len();
+    }
+    all
+}
+
+// Whether a format allows as many parts of each kind as a workload has, and its operations.
+fn has_parts(format: Format, w: &Workload) -> bool
+    requires { IsValid w.now }
+    ensures { result ≡ has_parts format w.now }
+{
+    w.streams() <= format.stream_limit()
+        && w.pools() as usize <= format.pool_limit()
+        && w.scheds() as usize <= format.sched_limit()
+        && w.objects() as usize <= format.object_limit()
+        && w.units() <= format.unit_limit()
+        && op_count(w) <= format.operation_limit()
+        && has_units(format, w)
+}
+
+// Whether a format has a text of a workload, which has as many bytes as this one.
+fn has_text(format: Format, w: &Workload, text: &[u8]) -> bool
+    requires valid { IsValid w.now }
+    requires bytes { length text.now ≡ length (text_in format w.now) }
+    ensures { result ≡ has_text format w.now }
+{
+    has_parts(format, w) && text.len() <= format.text_limit()
+}
+
+// The digit of the least format that has a text of a workload, whose text in format 1 is this one.
+fn version(w: &Workload, text: &[u8]) -> u8
+    requires valid { IsValid w.now }
+    requires text { text.now ≡ text_in format.One w.now }
+    ensures { result ≡ digit_of (format_for w.now) }
+{
+    if has_text(Format::One, w, text) {
+        b'1'
+    } else if has_text(Format::Two, w, text) {
+        b'2'
+    } else {
+        b'3'
     }
 }
 
 // Makes the text of a workload in format 1 its canonical text.
 fn settle(w: &Workload, text: &mut Vec<u8>)
-    requires { text.old.items ≡ text_in format.One w.now }
+    requires valid { IsValid w.now }
+    requires text { text.old.items ≡ text_in format.One w.now }
     ensures { text.new.items ≡ canonical_text w.now }
 {
-    if !is_of_format_one(w, text) {
-        raise(text);
+    let version = version(w, text);
+    if let Some(byte) = text.get_mut(4) {
+        *byte = version;
     }
 }
 
 /// The canonical text of a workload: the text in which it is written, which reads to it again. It is of
-/// format 1 if format 1 has a text of the workload, else of format 2.
+/// the least format that has a text of the workload.
 ///
 /// # Errors
 /// Out of memory.

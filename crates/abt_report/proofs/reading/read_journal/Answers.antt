@@ -7,16 +7,16 @@ returns-in_default-clause-cause c =
     let some : 0 < length c.loop-rest.rest.now = search rules in
     bad c.args.bytes.now c.loop-rest.rest.now c.loop-rest.line c.loop-rest.events.items c.loop-rest.invariant.stands some (no-feed-at-all c.loop-rest.rest.now c.in_default.ensures)
 
-pub returns-in_default-2-clause-cause : goal.returns-in_default-2-clause-cause
-returns-in_default-2-clause-cause c =
+pub returns-then-not-branch-clause-cause : goal.returns-then-not-branch-clause-cause
+returns-then-not-branch-clause-cause c =
     let some : 0 < length c.loop-rest.rest.now = search rules in
     bad c.args.bytes.now c.loop-rest.rest.now c.loop-rest.line c.loop-rest.events.items c.loop-rest.invariant.stands some
-    (no-event-line c.loop-rest.rest.now c.in-Some.found.now c.in-Some.more.now c.in-Some.ensures.0 c.in-Some.ensures.1 (rw c.in_default-2.is at c.in_ok-event.ensures))
+    (no-event-line c.loop-rest.rest.now c.in-Some.found.now c.in-Some.more.now c.in-Some.ensures.0 c.in-Some.ensures.1 (rw c.if-not-branch.true at c.in_ok-read_event.ensures))
 
 pub loop-rest-preserved : goal.loop-rest-preserved
 loop-rest-preserved c =
-    let read = rw c.in-Some-2.is at c.in_ok-event.ensures in
+    let read = rw c.if-not-branch.false at c.in_ok-read_event.ensures in
     record {
-      stands = rw c.in_ok-push.ensures.items (one-line-more c.args.bytes.now c.loop-rest.rest.now c.in-Some.found.now c.in-Some.more.now c.loop-rest.line c.loop-rest.events.items c.in-Some-2.event c.loop-rest.invariant.stands c.in-Some.ensures.1 read.0 read.1);
+      stands = rw read.3 (one-line-more c.args.bytes.now c.loop-rest.rest.now c.in-Some.found.now c.in-Some.more.now c.loop-rest.line c.loop-rest.events.items read.0 c.loop-rest.invariant.stands c.in-Some.ensures.1 read.1 read.2);
       few = omega (arith, fewer-left c.in-Some.found.now c.in-Some.more.now c.loop-rest.rest.now c.in-Some.ensures.1, c.loop-rest.invariant.few);
     }
