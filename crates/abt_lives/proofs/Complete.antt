@@ -96,14 +96,14 @@ refuses-words (Stopped OutOfMemory) c h none = inr refl
 
 -- Steps.
 
-no-budget : (c : Call) (W : Parts) (s : StreamNo) (printed : Text) → 2 ≤ length c.given.orders → TellsWorkload c W → HasNoRevive W → ops_in W ≤ default_steps → RanOnLives c.given c.journal (outcome.Budget s) printed → ⊥
+no-budget : (c : Call) (W : Parts) (s : StreamNo) (printed : Text) → 2 ≤ length c.given.stored.orders → TellsWorkload c W → HasNoRevive W → ops_in W ≤ default_steps → RanOnLives c.given c.journal (outcome.Budget s) printed → ⊥
 no-budget c W s printed two tells none few ran =
     let is : ran.workload ≡ W = one-workload c W ran.named ran.workload tells ran.reads in
     let sound : IsValid ran.workload = subst IsValid (sym is) (only-valid tells.bytes W tells.reads) in
-    steps-bound-budgets ran.workload c.given.orders sound (orders-stored ran.workload c.given.orders sound two) (subst HasNoRevive (sym is) none) default_steps s.0 c.journal (subst (λ (V : Parts). ops_in V ≤ default_steps) (sym is) few) ran.run.run.run
+    steps-bound-budgets ran.workload c.given.stored sound (orders-stored ran.workload c.given.stored sound two) (subst HasNoRevive (sym is) none) default_steps s.0 c.journal (subst (λ (V : Parts). ops_in V ≤ default_steps) (sym is) few) ran.run.run.run
     ran.run.run.ended.0
 
-spends : (s : Status Outcome) (c : Call) (W : Parts) → Holds (program c) c.left s → 2 ≤ length c.given.orders → TellsWorkload c W → HasNoRevive W → ops_in W ≤ default_steps → number_of number_of_outcome s ≢ 4
+spends : (s : Status Outcome) (c : Call) (W : Parts) → Holds (program c) c.left s → 2 ≤ length c.given.stored.orders → TellsWorkload c W → HasNoRevive W → ops_in W ≤ default_steps → number_of number_of_outcome s ≢ 4
 spends (Concluded outcome.Finished) c W h two tells none few = λ e. absurd (omega arith)
 spends (Concluded outcome.Stuck) c W h two tells none few = λ e. absurd (omega arith)
 spends (Concluded (outcome.Budget s)) c W h two tells none few = λ e. no-budget c W s h.text two tells none few h.prints
@@ -114,7 +114,7 @@ spends (Stopped OutOfMemory) c W h two tells none few = λ e. absurd (omega arit
 spends CannotWrite c W h two tells none few = λ e. absurd (omega arith)
 
 -- a call that ended with this exit status is answered
-pub answered : (n : ℕ) (c : Call) → 2 ≤ length c.given.orders → EndsBy (program c) c.left n → MissesFiles n c → MissesLives n c → (HasReadFault c.left → (n ≡ 5) ⊎ (n ≡ 7)) → IsAnswered n c
+pub answered : (n : ℕ) (c : Call) → 2 ≤ length c.given.stored.orders → EndsBy (program c) c.left n → MissesFiles n c → MissesLives n c → (HasReadFault c.left → (n ≡ 5) ⊎ (n ≡ 7)) → IsAnswered n c
 answered n c two ends absent missing faulty = by ends.0 ends.1 ends.2 where
   by : (s : Status Outcome) → n ≡ number_of number_of_outcome s → Holds (program c) c.left s → IsAnswered n c
   by s is h = subst (λ m. IsAnswered m c) (sym is) (record {

@@ -1,5 +1,6 @@
 mod Complete
+mod Fetched
 mod Lines
 mod Naming
 mod Preparing
-mod Fetched
+pub mod Storing

@@ -43,7 +43,7 @@ module _ (g : Given) (workload lives : Text) (asks : Asks g.words workload lives
 
   -- or both were read, and this ran and is printed
   pub ran-as : (W : Parts) (told : Option Text) → told ≡ g.file lives → IsReadFrom g workload W → (read : List Life) → IfSome told (λ bytes. ReadsLives W bytes read) → (waves : List Wave)
-      → (J K : List Event) (o p : Outcome) (text : Text) → K ≡ J → p ≡ o → (printed : Text) → printed ≡ text → HasRunOn W g.orders default_steps read J waves o → text ≡ waves_output W J waves o → RanOnLives g K p printed
+      → (J K : List Event) (o p : Outcome) (text : Text) → K ≡ J → p ≡ o → (printed : Text) → printed ≡ text → HasRunOn W g.stored default_steps read J waves o → text ≡ waves_output W J waves o → RanOnLives g K p printed
   ran-as W told same reads read known waves J K o p text j e printed t run output =
       subst (λ (L : List Event). RanOnLives g L p printed) (sym j) (subst (λ (q : Outcome). RanOnLives g J q printed) (sym e) (record {
         named = named;

@@ -56,7 +56,7 @@ pub record IsRunOn (W : Parts) (file : Text) (g : Given) (J : List Event) (o : O
   pub lives : List Life
   pub waves : List Wave
   pub reads : IfSome (g.file file) (λ bytes. ReadsLives W bytes lives)
-  pub run : HasRunOn W g.orders default_steps lives J waves o
+  pub run : HasRunOn W g.stored default_steps lives J waves o
 
 -- the workload of the first file that the words name ran on the lives in the second, J is the run and ended so, and the text is what the
 -- program prints of it

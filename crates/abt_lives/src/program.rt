@@ -1,8 +1,9 @@
 //! The top call.
 
 ghost use Rattle.std.specs.Prelude.{◌≡◌, ◌≢◌, ◌≤◌, List, IfErr, IfOk, IfSome, IsErrAnd, IsErrOf, length, map, string_bytes};
+ghost use Rattle.abt_machine.specs.Limits.{function_limit};
 ghost use Rattle.abt_machine.specs.Words.{Text};
-ghost use Rattle.abt_order.specs.Stored.{shapes_of};
+ghost use Rattle.abt_order.specs.Stored.{stored_of};
 ghost use Rattle.abt_report.specs.Pictures.{IsPictureOf};
 ghost use Rattle.abt_run.specs.Given.{given};
 ghost use Rattle.abt_run.specs.Prepared.{LacksSecond};
@@ -21,9 +22,9 @@ use abt_report::{TextFault, append_report, count_steps};
 use abt_run::fetch;
 use abt_shell::{Stop, Wrong, bytes_of, conclude_run, number_of_outcome, stop_without_run};
 use abt_source::{Files, Sink};
-use abt_stream::Pace;
 use abt_streams::{Lives, LivesRun, read_lives, run_lives};
 use abt_words::DEFAULT_STEPS;
+use abt_work::Work;
 use std::alloc::Global;
 use std::sync::Wait;
 use std::thread::Threads;
@@ -101,20 +102,22 @@ fn fetch_lives<F: Files>(
 }
 
 // The run of a file's workload on another file's lives, and what it prints.
-fn prepare_files<R: Threads + Wait + Sync, F: Files, P: Pace + Sync>(
+#[tactic(auto, using(crate::proofs::Storing::stores_calls))]
+fn prepare_files<R: Threads + Wait + Sync, F: Files, P: Work + Sync>(
     rt: &R,
     alloc: Global,
     workload: &str,
     lives: &str,
     files: &mut F,
-    pace: &P,
+    work: &P,
     orders: &[StoredOrder],
 ) -> Result<Prepared, Stop>
     requires orders { 2 ≤ length orders.now }
+    requires calls { function_limit ≤ P.count work.now }
     ensures done { (words : List Text) → Asks words workload.now lives.now
-        → IfOk result (λ p. RanOnLives (given words (shapes_of orders.now) (λ name. F.file files.old name)) p.journal p.outcome p.text.items) }
+        → IfOk result (λ p. RanOnLives (given words (stored_of orders.now (P.returns work.now)) (λ name. F.file files.old name)) p.journal p.outcome p.text.items) }
     ensures stop { (words : List Text) → Asks words workload.now lives.now
-        → IfErr result (StopsLives (given words (shapes_of orders.now) (λ name. F.file files.old name)) (F.faults files.old, F.faults files.new)) }
+        → IfErr result (StopsLives (given words (stored_of orders.now (P.returns work.now)) (λ name. F.file files.old name)) (F.faults files.old, F.faults files.new)) }
     ensures absent { F.absent files.old workload.now → IsErrOf result CannotRead }
     ensures missing { F.absent files.old lives.now → IsErrAnd result (LacksSecond (F.file files.old workload.now) (F.faults files.old, F.faults files.new)) }
     ensures faulty { F.faults files.new ≢ F.faults files.old → IsErrOf result CannotRead }
@@ -122,23 +125,25 @@ fn prepare_files<R: Threads + Wait + Sync, F: Files, P: Pace + Sync>(
 {
     let w = fetch(alloc, workload, files)?;
     let lives = fetch_lives(alloc, &w, lives, files)?;
-    let ran = run_lives(rt, alloc, &w, &lives, orders, pace, DEFAULT_STEPS)?;
+    w.known();
+    let ran = run_lives(rt, alloc, &w, &lives, orders, work, DEFAULT_STEPS)?;
     let text = output(alloc, &w, &ran)?;
     Ok(Prepared::new(ran, text))
 }
 
 // All of a call but its writes.
-fn prepare<R: Threads + Wait + Sync, F: Files, P: Pace + Sync>(
+fn prepare<R: Threads + Wait + Sync, F: Files, P: Work + Sync>(
     rt: &R,
     alloc: Global,
     words: &[String],
     files: &mut F,
-    pace: &P,
+    work: &P,
     orders: &[StoredOrder],
 ) -> Result<Prepared, Stop>
     requires orders { 2 ≤ length orders.now }
-    ensures done { IfOk result (λ p. RanOnLives (given (map string_bytes words.now) (shapes_of orders.now) (λ name. F.file files.old name)) p.journal p.outcome p.text.items) }
-    ensures stop { IfErr result (StopsLives (given (map string_bytes words.now) (shapes_of orders.now) (λ name. F.file files.old name)) (F.faults files.old, F.faults files.new)) }
+    requires calls { function_limit ≤ P.count work.now }
+    ensures done { IfOk result (λ p. RanOnLives (given (map string_bytes words.now) (stored_of orders.now (P.returns work.now)) (λ name. F.file files.old name)) p.journal p.outcome p.text.items) }
+    ensures stop { IfErr result (StopsLives (given (map string_bytes words.now) (stored_of orders.now (P.returns work.now)) (λ name. F.file files.old name)) (F.faults files.old, F.faults files.new)) }
     ensures absent { (workload lives : Text) → Asks (map string_bytes words.now) workload lives → F.absent files.old workload → IsErrOf result CannotRead }
     ensures missing { (workload lives : Text) → Asks (map string_bytes words.now) workload lives → F.absent files.old lives
         → IsErrAnd result (LacksSecond (F.file files.old workload) (F.faults files.old, F.faults files.new)) }
@@ -146,37 +151,38 @@ fn prepare<R: Threads + Wait + Sync, F: Files, P: Pace + Sync>(
     ensures later { F.faults files.old ≤ F.faults files.new }
 {
     match asked(words) {
-        Some((workload, lives)) => prepare_files(rt, alloc, workload, lives, files, pace, orders),
+        Some((workload, lives)) => prepare_files(rt, alloc, workload, lives, files, work, orders),
         None => Err(Stop::BadWords),
     }
 }
 
 /// What the program does: reads the workload in one file and the lives of its streams in another, runs it, and writes the
 /// run's report and its waves. The words are those after the program's name, WORKLOAD and LIVES. User schedulers name the stored
-/// orders by number. Each stream may make 10,000 steps; `pace` is called before each, outside every lock.
+/// orders by number. Each stream may make 10,000 steps; `work` is called before each, and has the functions that units call, all outside every lock.
 ///
 /// Exit statuses: 0 finished, 1 stuck, 2 bad command line, 3 one of the files is refused, 4 a stream made all the steps that it
 /// may make, 5 cannot read, 6 cannot write, 7 out of memory. In statuses 0, 1, 4 and 6 the journal is the run's, in all others it
 /// is empty.
-pub fn abtwaves<R: Threads + Wait + Sync, F: Files, K: Sink, E: Sink, P: Pace + Sync>(
+pub fn abtwaves<R: Threads + Wait + Sync, F: Files, K: Sink, E: Sink, P: Work + Sync>(
     rt: &R,
     alloc: Global,
     words: &[String],
     files: &mut F,
     out: &mut K,
     err: &mut E,
-    pace: &P,
+    work: &P,
     orders: &[StoredOrder],
 ) -> Ended
     requires orders { 2 ≤ length orders.now }
+    requires calls { function_limit ≤ P.count work.now }
     ensures { IsAnswered result.status (record {
-      given = given (map string_bytes words.now) (shapes_of orders.now) (λ name. F.file files.old name);
+      given = given (map string_bytes words.now) (stored_of orders.now (P.returns work.now)) (λ name. F.file files.old name);
       absent = λ name. F.absent files.old name;
       left = left (F.faults files.old, F.faults files.new) (K.taken out.old, K.taken out.new) (K.faults out.old, K.faults out.new) (E.taken err.old, E.taken err.new) (E.faults err.old, E.faults err.new);
       journal = result.journal;
     }) }
 {
-    match prepare(rt, alloc, words, files, pace, orders) {
+    match prepare(rt, alloc, words, files, work, orders) {
         Ok(done) => {
             let Prepared {
                 journal,

@@ -7,7 +7,7 @@ use Rattle.abt_machine.specs.declared.events.Outcome.{Outcome}
 use Rattle.abt_machine.specs.declared.events.Outcome.TheVariants as outcome
 use Rattle.abt_machine.specs.declared.events.Piece.{Piece}
 use Rattle.abt_machine.specs.declared.numbers.StreamNo.{StreamNo}
-use Rattle.abt_machine.specs.declared.operations.OrderShape.{OrderShape}
+use Rattle.abt_machine.specs.Stored.{Stored}
 use Rattle.abt_machine.specs.declared.program.Fault.{Fault}
 use Rattle.abt_machine.specs.declared.workload.Parts.{Parts}
 use Rattle.abt_machine.specs.Grammar.{Reads, Refuses}
@@ -19,7 +19,7 @@ use Rattle.abt_check.specs.declared.verdict.Verdict.{Verdict}
 use Rattle.abt_check.specs.declared.verdict.Verdict.TheVariants as verdict
 use Rattle.abt_check.specs.Verdicts.{IsJudged, IsStampedRun}
 use Rattle.abt_flow.specs.Confluent.{Confluent}
-use Rattle.abt_flow.specs.Flow.{IsFlow}
+use Rattle.abt_flow.specs.Flow.{Functions, IsFlow}
 use Rattle.abt_generate.proofs.GeneratedParts.{IsValid-generated}
 use Rattle.abt_outcomes.proofs.Stored.{orders-stored}
 use Rattle.abt_words.specs.declared.commands.Command.{Command}
@@ -233,7 +233,7 @@ runs (Stopped OutOfMemory) c d W h says known still = inr refl
 runs CannotWrite c d W h says known still = absurd (still.1 h.faults)
 
 -- the verdict decides
-decided : (W : Parts) (Z : List OrderShape) (J : List Event) (v : Verdict) → IsJudged W Z J v → Decides (number_of_conclusion (Judged v)) (IsStampedRun W Z J)
+decided : (W : Parts) (Z : Stored) (J : List Event) (v : Verdict) → IsJudged W Z J v → Decides (number_of_conclusion (Judged v)) (IsStampedRun W Z J)
 decided W Z J verdict.Run is = inl (is, refl)
 decided W Z J (verdict.Bad at) is = inr (
   λ run.
@@ -245,17 +245,17 @@ decided W Z J (verdict.Bad at) is = inr (
 
 module _ (c : Call) (w j : Text) (W : Parts) (J : List Event) (says : Says c.given.words (command.Check w j))
     (tells : Tells c.given w (λ bytes. Reads bytes W)) (also : Tells c.given j (IsTextOf J)) where
-  checked-verdict : (v : Verdict) → HasVerdict c.given v → Decides (number_of_conclusion (Judged v)) (IsStampedRun W c.given.orders J)
+  checked-verdict : (v : Verdict) → HasVerdict c.given v → Decides (number_of_conclusion (Judged v)) (IsStampedRun W c.given.stored J)
   checked-verdict v has =
       let read = compared-journal c.given c.journal [] w j says has.workload (IsTextOf has.journal) has.compares in
       let same : has.workload ≡ W = same-workload c.given w W has.workload tells read.0 in
       let equal : has.journal ≡ J = same-journal c.given j J has.journal also read.1 in
-      decided W c.given.orders J v (subst (λ (V : Parts). IsJudged V c.given.orders J v) same (subst (λ (K : List Event). IsJudged has.workload c.given.orders K v) equal has.judged))
+      decided W c.given.stored J v (subst (λ (V : Parts). IsJudged V c.given.stored J v) same (subst (λ (K : List Event). IsJudged has.workload c.given.stored K v) equal has.judged))
 
-  checks : (s : Status Conclusion) → Holds (program c) c.left s → IsStill c.left → Decides (number_of number_of_conclusion s) (IsStampedRun W c.given.orders J) ⊎ (number_of number_of_conclusion s ≡ 7)
+  checks : (s : Status Conclusion) → Holds (program c) c.left s → IsStill c.left → Decides (number_of number_of_conclusion s) (IsStampedRun W c.given.stored J) ⊎ (number_of number_of_conclusion s ≡ 7)
   checks (Concluded k) h still =
       let has = printed-verdict c.given c.journal h.text w j says k h.prints in
-      inl (subst (λ (x : Conclusion). Decides (number_of_conclusion x) (IsStampedRun W c.given.orders J)) (sym has.2) (checked-verdict has.0 has.1))
+      inl (subst (λ (x : Conclusion). Decides (number_of_conclusion x) (IsStampedRun W c.given.stored J)) (sym has.2) (checked-verdict has.0 has.1))
   checks (Stopped BadWords) h still = absurd (h.cause.why _ says)
   checks (Stopped (BadLine line (Workload f))) h still =
       let named = h.cause.why.named in
@@ -268,24 +268,24 @@ module _ (c : Call) (w j : Text) (W : Parts) (J : List Event) (says : Says c.giv
   checks (Stopped OutOfMemory) h still = inr refl
   checks CannotWrite h still = absurd (still.1 h.faults)
 
-abbrev HasFlows : Parts → Type 0
-HasFlows W = Confluent W × ((rows : List (List Piece)) × IsFlow W rows)
+abbrev HasFlows : Functions → Parts → Type 0
+HasFlows R W = Confluent W × ((rows : List (List Piece)) × IsFlow W R rows)
 
 module _ (c : Call) (file : Text) (W : Parts) (says : Says c.given.words (command.Flow file)) (tells : Tells c.given file (λ bytes. Reads bytes W)) where
-  flow-concluded : (k : Conclusion) (text : Text) → Prints c.given k c.journal text → Decides (number_of_conclusion k) (HasFlows W)
+  flow-concluded : (k : Conclusion) (text : Text) → Prints c.given k c.journal text → Decides (number_of_conclusion k) (HasFlows c.given.stored.returns W)
   flow-concluded (Ended o) text prints = absurd (flow-no-run c.given c.journal text file says o prints)
   flow-concluded (Judged v) text prints = absurd (flow-no-check c.given c.journal text file says prints.0.workload (IsTextOf prints.0.journal) prints.0.compares)
   flow-concluded Flows text prints =
       let same = flow-asked c.given c.journal text file says W prints.0.workload tells prints.0.asks in
-      inl (subst HasFlows same (prints.0.confluent, (prints.0.rows, prints.0.flow)), refl)
+      inl (subst (HasFlows c.given.stored.returns) same (prints.0.confluent, (prints.0.rows, prints.0.flow)), refl)
   flow-concluded NotConfluent text prints =
       let same = flow-asked c.given c.journal text file says W prints.0.workload tells prints.0.asks in
       inr (λ has. prints.0.other (subst Confluent (sym same) has.0), refl)
   flow-concluded Undefined text prints =
       let same = flow-asked c.given c.journal text file says W prints.0.workload tells prints.0.asks in
-      inr (λ has. prints.0.none has.1.0 (subst (λ (V : Parts). IsFlow V has.1.0) (sym same) has.1.1), refl)
+      inr (λ has. prints.0.none has.1.0 (subst (λ (V : Parts). IsFlow V c.given.stored.returns has.1.0) (sym same) has.1.1), refl)
 
-  flows : (s : Status Conclusion) → Holds (program c) c.left s → IsStill c.left → Decides (number_of number_of_conclusion s) (HasFlows W) ⊎ (number_of number_of_conclusion s ≡ 7)
+  flows : (s : Status Conclusion) → Holds (program c) c.left s → IsStill c.left → Decides (number_of number_of_conclusion s) (HasFlows c.given.stored.returns W) ⊎ (number_of number_of_conclusion s ≡ 7)
   flows (Concluded k) h still = inl (flow-concluded k h.text h.prints)
   flows (Stopped BadWords) h still = absurd (h.cause.why _ says)
   flows (Stopped (BadLine line (Workload f))) h still =
@@ -299,17 +299,17 @@ module _ (c : Call) (file : Text) (W : Parts) (says : Says c.given.words (comman
   flows CannotWrite h still = absurd (still.1 h.faults)
 
 -- no stream is spent, if it can't be
-no-budget : (c : Call) (d : Command) (W : Parts) (s : StreamNo) (text : Text) → 2 ≤ length c.given.orders → Says c.given.words d → RunsKnown d c.given W → HasNoRevive W
+no-budget : (c : Call) (d : Command) (W : Parts) (s : StreamNo) (text : Text) → 2 ≤ length c.given.stored.orders → Says c.given.words d → RunsKnown d c.given W → HasNoRevive W
     → ops_in W ≤ steps_for d → Ran c.given c.journal (outcome.Budget s) text → ⊥
 no-budget c d W s text two says known none few ran =
     let same : ran.command ≡ d = one-command c.given.words ran.command d ran.says says in
     let is : ran.workload ≡ W = runs-same c.given d W ran.workload known (subst (λ (x : Command). IsFor x c.given ran.workload) same ran.is) in
     let most : ops_in ran.workload ≤ steps_for ran.command = subst (λ (x : Command). ops_in ran.workload ≤ steps_for x) (sym same) (subst (λ V. ops_in V ≤ steps_for d) (sym is) few) in
     let sound : IsValid ran.workload = subst IsValid (sym is) (runs-valid c.given d W says known) in
-    steps-bound-budgets ran.workload c.given.orders sound (orders-stored ran.workload c.given.orders sound two) (subst HasNoRevive (sym is) none) (steps_for ran.command) s.0 c.journal most ran.run.run
+    steps-bound-budgets ran.workload c.given.stored sound (orders-stored ran.workload c.given.stored sound two) (subst HasNoRevive (sym is) none) (steps_for ran.command) s.0 c.journal most ran.run.run
     ran.run.ended.0
 
-spends-concluded : (k : Conclusion) (c : Call) (text : Text) (d : Command) (W : Parts) → Prints c.given k c.journal text → 2 ≤ length c.given.orders → Says c.given.words d → RunsKnown d c.given W
+spends-concluded : (k : Conclusion) (c : Call) (text : Text) (d : Command) (W : Parts) → Prints c.given k c.journal text → 2 ≤ length c.given.stored.orders → Says c.given.words d → RunsKnown d c.given W
     → HasNoRevive W → ops_in W ≤ steps_for d → number_of_conclusion k ≢ 4
 spends-concluded (Ended outcome.Finished) c text d W prints two says known none few = λ e. absurd (omega arith)
 spends-concluded (Ended outcome.Stuck) c text d W prints two says known none few = λ e. absurd (omega arith)
@@ -320,7 +320,7 @@ spends-concluded Flows c text d W prints two says known none few = λ e. absurd 
 spends-concluded NotConfluent c text d W prints two says known none few = λ e. absurd (omega arith)
 spends-concluded Undefined c text d W prints two says known none few = λ e. absurd (omega arith)
 
-spends : (s : Status Conclusion) (c : Call) (d : Command) (W : Parts) → Holds (program c) c.left s → 2 ≤ length c.given.orders → Says c.given.words d → RunsKnown d c.given W → HasNoRevive W
+spends : (s : Status Conclusion) (c : Call) (d : Command) (W : Parts) → Holds (program c) c.left s → 2 ≤ length c.given.stored.orders → Says c.given.words d → RunsKnown d c.given W → HasNoRevive W
     → ops_in W ≤ steps_for d → number_of number_of_conclusion s ≢ 4
 spends (Concluded k) c d W h two says known none few = spends-concluded k c h.text d W h.prints two says known none few
 spends (Stopped BadWords) c d W h two says known none few = λ e. absurd (omega arith)
@@ -384,7 +384,7 @@ none-concludes n high NotConfluent = λ e. absurd (omega arith)
 none-concludes n high Undefined = λ e. absurd (omega arith)
 
 -- a call that ended with this exit status is answered
-pub answered : (n : ℕ) (c : Call) → 2 ≤ length c.given.orders → EndsBy (program c) c.left n → MissesFiles n c → MissesJournals n c → (HasReadFault c.left → (n ≡ 5) ⊎ (n ≡ 7)) → IsAnswered n c
+pub answered : (n : ℕ) (c : Call) → 2 ≤ length c.given.stored.orders → EndsBy (program c) c.left n → MissesFiles n c → MissesJournals n c → (HasReadFault c.left → (n ≡ 5) ⊎ (n ≡ 7)) → IsAnswered n c
 answered n c two ends absent missing faulty = by ends.0 ends.1 ends.2 where
   by : (s : Status Conclusion) → n ≡ number_of number_of_conclusion s → Holds (program c) c.left s → IsAnswered n c
   by s is h = subst (λ m. IsAnswered m c) (sym is) (record {

@@ -1,4 +1,5 @@
 pub mod Complete
 pub mod FlowWords
 pub mod Preparing
+pub mod Storing
 pub mod Texts

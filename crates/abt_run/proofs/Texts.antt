@@ -28,40 +28,40 @@ use Rattle.abt_workload.proofs.Seen.{length-fault, most-bytes}
 -- Workloads.
 
 -- a text of more bytes is refused for its length
-too-long : (text : Text) → text_limit format.Two < length text → fault_at text 0 ≡ Some fault.Limit
+too-long : (text : Text) → text_limit format.Three < length text → fault_at text 0 ≡ Some fault.Limit
 too-long text long = length-fault text (let few = most-bytes (format_of (lines_of text)) in omega (arith, few, long))
 
 -- what is read is short
-reads-short : (text : Text) (W : Parts) → Reads text W → length text ≤ text_limit format.Two
-reads-short text W reads = elim (cases_lt (text_limit format.Two) (length text)) [ inl long ↦ long-read long | inr short ↦ short ] where
-  long-read : text_limit format.Two < length text → length text ≤ text_limit format.Two
+reads-short : (text : Text) (W : Parts) → Reads text W → length text ≤ text_limit format.Three
+reads-short text W reads = elim (cases_lt (text_limit format.Three) (length text)) [ inl long ↦ long-read long | inr short ↦ short ] where
+  long-read : text_limit format.Three < length text → length text ≤ text_limit format.Three
   long-read long = let one : fault_at text 0 ≡ None = reads.faultless 0 in let other = too-long text long in cc
 
 -- a long text is refused for its length alone
-refused-long : (text : Text) (line : ℕ) (f : Fault) → Refuses text line f → text_limit format.Two < length text → (line ≡ 0) × (f ≡ fault.Limit)
+refused-long : (text : Text) (line : ℕ) (f : Fault) → Refuses text line f → text_limit format.Three < length text → (line ≡ 0) × (f ≡ fault.Limit)
 refused-long text zero f refuses long = let one = refuses.first in let other = too-long text long in (refl, cc)
 refused-long text (suc line) f refuses long = let one = refuses.least 0 (omega arith) in let other = too-long text long in absurd cc
 
 -- the observable bytes of the file read as the prefix does
-pub told-reads : (told : Option Text) (front : Text) (W : Parts) → IfSome told (λ xs. front ≡ take (suc (text_limit format.Two)) xs) → Reads front W → IfSome told (λ xs. Reads xs W)
-told-reads told front W e reads = of-whole (text_limit format.Two) (λ text. Reads text W) told front e (reads-short front W reads) reads
+pub told-reads : (told : Option Text) (front : Text) (W : Parts) → IfSome told (λ xs. front ≡ take (suc (text_limit format.Three)) xs) → Reads front W → IfSome told (λ xs. Reads xs W)
+told-reads told front W e reads = of-whole (text_limit format.Three) (λ text. Reads text W) told front e (reads-short front W reads) reads
 
 -- and are refused as the prefix is
-told-refuses : (told : Option Text) (front : Text) (line : ℕ) (f : Fault) → IfSome told (λ xs. front ≡ take (suc (text_limit format.Two)) xs) → Refuses front line f → IfSome told (λ xs. Refuses xs line f)
+told-refuses : (told : Option Text) (front : Text) (line : ℕ) (f : Fault) → IfSome told (λ xs. front ≡ take (suc (text_limit format.Three)) xs) → Refuses front line f → IfSome told (λ xs. Refuses xs line f)
 told-refuses None front line f e refuses = tt
-told-refuses (Some xs) front line f e refuses = elim (cases_lt (text_limit format.Two) (length front)) [
+told-refuses (Some xs) front line f e refuses = elim (cases_lt (text_limit format.Three) (length front)) [
   | inl long ↦ refused-whole long
-  | inr short ↦ subst (λ text. Refuses text line f) (whole (text_limit format.Two) front xs e short) refuses
+  | inr short ↦ subst (λ text. Refuses text line f) (whole (text_limit format.Three) front xs e short) refuses
 ] where
-  refused-whole : text_limit format.Two < length front → Refuses xs line f
+  refused-whole : text_limit format.Three < length front → Refuses xs line f
   refused-whole long =
       let is = refused-long front line f refuses long in
-      let n : length front ≡ min (suc (text_limit format.Two)) (length xs) = ap length e ∙ length-take (suc (text_limit format.Two)) xs in
+      let n : length front ≡ min (suc (text_limit format.Three)) (length xs) = ap length e ∙ length-take (suc (text_limit format.Three)) xs in
       let all : Refuses xs 0 fault.Limit = record { least = λ above below. absurd (omega arith); first = too-long xs (omega arith) } in
       subst (λ l. Refuses xs l f) (sym is.0) (subst (λ g. Refuses xs 0 g) (sym is.1) all)
 
 -- and by the cause that its reader states
-pub told-refused : (told : Option Text) (front : Text) (c : NotRead) (line l : ℕ) (f g : Fault) → IfSome told (λ xs. front ≡ take (suc (text_limit format.Two)) xs) → c ≡ cause.Refused line f → l ≡ line → g ≡ f → IsCause front c → IfSome told (λ xs. Refuses xs l g)
+pub told-refused : (told : Option Text) (front : Text) (c : NotRead) (line l : ℕ) (f g : Fault) → IfSome told (λ xs. front ≡ take (suc (text_limit format.Three)) xs) → c ≡ cause.Refused line f → l ≡ line → g ≡ f → IsCause front c → IfSome told (λ xs. Refuses xs l g)
 told-refused told front c line l f g e is same equal why =
     subst (λ k. IfSome told (λ xs. Refuses xs k g)) (sym same)
     (subst (λ h. IfSome told (λ xs. Refuses xs line h)) (sym equal) (told-refuses told front line f e (subst (IsCause front) is why)))
@@ -73,6 +73,7 @@ numbers-written (what.Miss p) h = (omega arith, tt)
 numbers-written (what.Take p u) h = let a = h.0 in let b = h.1 in (omega arith, (omega arith, tt))
 numbers-written (what.Look u) h = (omega arith, tt)
 numbers-written (what.Step u k c) h = let a = h.0 in let b = h.1 in (omega arith, (omega arith, tt))
+numbers-written (what.Call u k n) h = let a = h.0 in let b = h.1 in let d = h.2 in (omega arith, (omega arith, (omega arith, tt)))
 numbers-written (what.Put u p) h = let a = h.0 in let b = h.1 in (omega arith, (omega arith, tt))
 numbers-written (what.End u c) h = (omega arith, tt)
 numbers-written (what.Enter u) h = (omega arith, tt)

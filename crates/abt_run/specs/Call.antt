@@ -70,12 +70,12 @@ Decides n P = (P × (n ≡ 0)) ⊎ ((P → ⊥) × (n ≡ 1))
 -- if a workload and a journal are known, and no fault comes, the status says whether the journal is a run of the workload with stamps
 abbrev pub ChecksJournals : ℕ → Call → Type 0
 ChecksJournals n c = (workload journal : Text) (W : Parts) (J : List Event) → Says c.given.words (command.Check workload journal)
-    → Tells c.given workload (λ bytes. Reads bytes W) → Tells c.given journal (IsTextOf J) → IsStill c.left → Decides n (IsStampedRun W c.given.orders J) ⊎ (n ≡ 7)
+    → Tells c.given workload (λ bytes. Reads bytes W) → Tells c.given journal (IsTextOf J) → IsStill c.left → Decides n (IsStampedRun W c.given.stored J) ⊎ (n ≡ 7)
 
 -- if a workload is known, and no fault comes, the status says whether it is confluent and has a flow
 abbrev pub FindsFlows : ℕ → Call → Type 0
 FindsFlows n c = (file : Text) (W : Parts) → Says c.given.words (command.Flow file) → Tells c.given file (λ bytes. Reads bytes W) → IsStill c.left
-    → Decides n (Confluent W × ((rows : List (List Piece)) × IsFlow W rows)) ⊎ (n ≡ 7)
+    → Decides n (Confluent W × ((rows : List (List Piece)) × IsFlow W c.given.stored.returns rows)) ⊎ (n ≡ 7)
 
 -- if the words name a file whose bytes are observable and are not a workload's text, and no fault of reading comes, the status is 3
 abbrev pub RefusesTexts : ℕ → Call → Type 0

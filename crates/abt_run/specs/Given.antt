@@ -1,6 +1,6 @@
 -- What a call of the program is given, and what its words ask for.
 use Rattle.std.specs.Prelude.{◌≡◌, List, Option, Some, None, IfSome}
-use Rattle.abt_machine.specs.declared.operations.OrderShape.{OrderShape}
+use Rattle.abt_machine.specs.Stored.{Stored}
 use Rattle.abt_machine.specs.declared.workload.Parts.{Parts}
 use Rattle.abt_machine.specs.Grammar.{Reads}
 use Rattle.abt_machine.specs.Words.{Text}
@@ -8,14 +8,14 @@ use Rattle.abt_words.specs.declared.commands.Command.{Command}
 use Rattle.abt_words.specs.declared.commands.Command.TheVariants as command
 use Rattle.abt_words.specs.Commands.{Says}
 
--- the words, the shapes of the stored orders, and the bytes of each file, if they are observable
+-- the words, the stored orders and functions, and the bytes of each file, if they are observable
 pub record Given : Type 0 where
   pub words : List Text
-  pub orders : List OrderShape
+  pub stored : Stored
   pub file : Text → Option Text
 
-abbrev pub given : List Text → List OrderShape → (Text → Option Text) → Given
-given words orders file = record { words = words; orders = orders; file = file }
+abbrev pub given : List Text → Stored → (Text → Option Text) → Given
+given words stored file = record { words = words; stored = stored; file = file }
 
 -- the words are not a command
 abbrev pub SaysNothing : List Text → Type 0

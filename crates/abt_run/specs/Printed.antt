@@ -56,7 +56,7 @@ pub record Ran (g : Given) (J : List Event) (o : Outcome) (text : Text) : Type 0
   pub says : Says g.words command
   pub workload : Parts
   pub is : IsFor command g workload
-  pub run : HasRun workload g.orders (steps_for command) J o
+  pub run : HasRun workload g.stored (steps_for command) J o
   pub output : text ≡ output_text workload (last_state workload J) J o command
 
 -- Verdicts.
@@ -75,7 +75,7 @@ pub record HasVerdict (g : Given) (v : Verdict) : Type 0 where
   pub workload : Parts
   pub journal : List Event
   pub compares : Compares g workload (IsTextOf journal)
-  pub judged : IsJudged workload g.orders journal v
+  pub judged : IsJudged workload g.stored journal v
 
 -- Flows.
 
@@ -91,7 +91,7 @@ pub record HasFlow (g : Given) (text : Text) : Type 0 where
   pub asks : AsksFlow g workload
   pub confluent : Confluent workload
   pub rows : List (List Piece)
-  pub flow : IsFlow workload rows
+  pub flow : IsFlow workload g.stored.returns rows
   pub output : text ≡ outputs_text workload rows
 
 pub record IsNotConfluent (g : Given) : Type 0 where
@@ -104,7 +104,7 @@ pub record HasNoFlow (g : Given) : Type 0 where
   pub workload : Parts
   pub asks : AsksFlow g workload
   pub confluent : Confluent workload
-  pub none : (rows : List (List Piece)) → IsFlow workload rows → ⊥
+  pub none : (rows : List (List Piece)) → IsFlow workload g.stored.returns rows → ⊥
 
 -- All commands.
 

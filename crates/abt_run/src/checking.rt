@@ -1,8 +1,9 @@
 //! The command `check`.
 
 ghost use Rattle.std.specs.Prelude.{◌≡◌, ◌≢◌, ◌<◌, ◌≤◌, ◌+◌, ◌^◌, IfErr, IfOk, IsErrAnd, IsErrOf, List, length};
+ghost use Rattle.abt_machine.specs.Limits.{function_limit};
 ghost use Rattle.abt_machine.specs.Words.{Text};
-ghost use Rattle.abt_order.specs.Stored.{shapes_of};
+ghost use Rattle.abt_order.specs.Stored.{stored_of};
 ghost use Rattle.abt_words.specs.Commands.{Says};
 ghost use Rattle.abt_words.specs.declared.commands.Command.TheVariants as command;
 ghost use Rattle.abt_check.specs.declared.verdict.Verdict.TheVariants as verdict;
@@ -20,21 +21,25 @@ use abt_machine::Want;
 use abt_order::StoredOrder;
 use abt_shell::{Stop, fetch_journal};
 use abt_source::Files;
+use abt_work::Work;
 use std::alloc::Global;
 
 /// The verdict on a file's journal as a run of another file's workload. The workload is read first.
-pub(crate) fn prepare_check<F: Files>(
+#[tactic(auto, using(crate::proofs::Storing::stores_calls))]
+pub(crate) fn prepare_check<F: Files, P: Work>(
     alloc: Global,
     workload: &str,
     journal: &str,
     files: &mut F,
+    work: &P,
     orders: &[StoredOrder],
 ) -> Result<Prepared, Stop>
     requires orders { 2 ≤ length orders.now }
+    requires calls { function_limit ≤ P.count work.now }
     ensures done { (words : List Text) → Says words (command.Check workload.now journal.now)
-        → IfOk result (λ p. Prints (given words (shapes_of orders.now) (λ name. F.file files.old name)) p.conclusion p.journal p.text.items) }
+        → IfOk result (λ p. Prints (given words (stored_of orders.now (P.returns work.now)) (λ name. F.file files.old name)) p.conclusion p.journal p.text.items) }
     ensures stop { (words : List Text) → Says words (command.Check workload.now journal.now)
-        → IfErr result (StopsCommand (given words (shapes_of orders.now) (λ name. F.file files.old name)) (F.faults files.old, F.faults files.new)) }
+        → IfErr result (StopsCommand (given words (stored_of orders.now (P.returns work.now)) (λ name. F.file files.old name)) (F.faults files.old, F.faults files.new)) }
     ensures absent { F.absent files.old workload.now → IsErrOf result CannotRead }
     ensures missing { F.absent files.old journal.now → IsErrAnd result (LacksSecond (F.file files.old workload.now) (F.faults files.old, F.faults files.new)) }
     ensures faulty { F.faults files.new ≢ F.faults files.old → IsErrOf result CannotRead }
@@ -42,7 +47,8 @@ pub(crate) fn prepare_check<F: Files>(
 {
     let w = fetch(alloc, workload, files)?;
     let journal = fetch_journal(alloc, journal, files)?;
-    let verdict = check(alloc, &w, orders, &journal)?;
+    w.known();
+    let verdict = check(alloc, &w, orders, work, &journal)?;
     let text = text_of(alloc, verdict)?;
     Ok(without_journal(alloc, text, Conclusion::Judged(verdict)))
 }

@@ -25,7 +25,7 @@ pub fn fetch<F: Files>(alloc: Global, file: &str, files: &mut F) -> Result<Workl
     ensures missing { (name : List ℕ) → F.absent files.old name → F.absent files.new name }
     ensures later { F.faults files.old ≤ F.faults files.new }
 {
-    let bytes = bytes_of(alloc, file, files, Format::Two.text_limit())?;
+    let bytes = bytes_of(alloc, file, files, Format::Three.text_limit())?;
     match read(alloc, &bytes) {
         Ok(w) => Ok(w),
         Err(NotRead::Refused { line, fault }) => Err(Stop::BadLine(line, Wrong::Workload(fault))),

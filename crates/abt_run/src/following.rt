@@ -1,8 +1,9 @@
 //! The command `flow`.
 
-ghost use Rattle.std.specs.Prelude.{◌≢◌, ◌≤◌, IfErr, IfOk, IsErrOf, List};
+ghost use Rattle.std.specs.Prelude.{◌≡◌, ◌≢◌, ◌≤◌, IfErr, IfOk, IsErrOf, List};
+ghost use Rattle.abt_machine.specs.Limits.{function_limit};
+ghost use Rattle.abt_machine.specs.Stored.{Stored};
 ghost use Rattle.abt_machine.specs.Words.{Text};
-ghost use Rattle.abt_machine.specs.declared.operations.OrderShape.{OrderShape};
 ghost use Rattle.abt_words.specs.Commands.{Says};
 ghost use Rattle.abt_words.specs.declared.commands.Command.TheVariants as command;
 ghost use Rattle.abt_run.specs.Given.{given};
@@ -17,18 +18,22 @@ use abt_flow::{confluent, find_flow};
 use abt_report::outputs_text;
 use abt_shell::Stop;
 use abt_source::Files;
+use abt_work::Work;
 use std::alloc::Global;
 
 /// What each unit of a file's workload prints, if that does not depend on the schedule.
-pub(crate) fn prepare_flow<F: Files>(
+#[tactic(auto, using(crate::proofs::Storing::stores_calls))]
+pub(crate) fn prepare_flow<F: Files, P: Work>(
     alloc: Global,
     file: &str,
     files: &mut F,
+    work: &P,
 ) -> Result<Prepared, Stop>
-    ensures done { (words : List Text) (orders : List OrderShape) → Says words (command.Flow file.now)
-        → IfOk result (λ p. Prints (given words orders (λ name. F.file files.old name)) p.conclusion p.journal p.text.items) }
-    ensures stop { (words : List Text) (orders : List OrderShape) → Says words (command.Flow file.now)
-        → IfErr result (StopsCommand (given words orders (λ name. F.file files.old name)) (F.faults files.old, F.faults files.new)) }
+    requires calls { function_limit ≤ P.count work.now }
+    ensures done { (words : List Text) (stored : Stored) → stored.returns ≡ P.returns work.now → Says words (command.Flow file.now)
+        → IfOk result (λ p. Prints (given words stored (λ name. F.file files.old name)) p.conclusion p.journal p.text.items) }
+    ensures stop { (words : List Text) (stored : Stored) → stored.returns ≡ P.returns work.now → Says words (command.Flow file.now)
+        → IfErr result (StopsCommand (given words stored (λ name. F.file files.old name)) (F.faults files.old, F.faults files.new)) }
     ensures absent { F.absent files.old file.now → IsErrOf result CannotRead }
     ensures faulty { F.faults files.new ≢ F.faults files.old → IsErrOf result CannotRead }
     ensures later { F.faults files.old ≤ F.faults files.new }
@@ -38,7 +43,8 @@ pub(crate) fn prepare_flow<F: Files>(
         let text = Vec::from_slice(alloc, b"not confluent\n")?;
         return Ok(without_journal(alloc, text, Conclusion::NotConfluent));
     }
-    match find_flow(alloc, &w)? {
+    w.known();
+    match find_flow(alloc, &w, work)? {
         Some(flow) => {
             let text = outputs_text(alloc, &w, flow.items())?;
             Ok(without_journal(alloc, text, Conclusion::Flows))

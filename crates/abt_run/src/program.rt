@@ -1,8 +1,9 @@
 //! The top call.
 
 ghost use Rattle.std.specs.Prelude.{◌≡◌, ◌≢◌, ◌≤◌, ◌⊎◌, IfErr, IfOk, IsErrAnd, IsErrOf, Some, length, map, string_bytes};
+ghost use Rattle.abt_machine.specs.Limits.{function_limit};
 ghost use Rattle.abt_machine.specs.Words.{Text};
-ghost use Rattle.abt_order.specs.Stored.{shapes_of};
+ghost use Rattle.abt_order.specs.Stored.{stored_of};
 ghost use Rattle.abt_words.specs.Commands.{Says};
 ghost use Rattle.abt_words.specs.declared.commands.Command.{Command};
 ghost use Rattle.abt_words.specs.declared.commands.Command.TheVariants.{Check};
@@ -22,24 +23,25 @@ use abt_machine::Ended;
 use abt_order::StoredOrder;
 use abt_shell::{Stop, conclude_run, stop_without_run};
 use abt_source::{Files, Sink};
-use abt_stream::Pace;
 use abt_words::{Command, WordFault, words as command};
+use abt_work::Work;
 use std::alloc::Global;
 use std::sync::Wait;
 use std::thread::Threads;
 
 // All of a call but its writes.
-fn prepare<R: Threads + Wait + Sync, F: Files, P: Pace + Sync>(
+fn prepare<R: Threads + Wait + Sync, F: Files, P: Work + Sync>(
     rt: &R,
     alloc: Global,
     words: &[String],
     files: &mut F,
-    pace: &P,
+    work: &P,
     orders: &[StoredOrder],
 ) -> Result<Prepared, Stop>
     requires orders { 2 ≤ length orders.now }
-    ensures done { IfOk result (λ p. Prints (given (map string_bytes words.now) (shapes_of orders.now) (λ name. F.file files.old name)) p.conclusion p.journal p.text.items) }
-    ensures stop { IfErr result (StopsCommand (given (map string_bytes words.now) (shapes_of orders.now) (λ name. F.file files.old name)) (F.faults files.old, F.faults files.new)) }
+    requires calls { function_limit ≤ P.count work.now }
+    ensures done { IfOk result (λ p. Prints (given (map string_bytes words.now) (stored_of orders.now (P.returns work.now)) (λ name. F.file files.old name)) p.conclusion p.journal p.text.items) }
+    ensures stop { IfErr result (StopsCommand (given (map string_bytes words.now) (stored_of orders.now (P.returns work.now)) (λ name. F.file files.old name)) (F.faults files.old, F.faults files.new)) }
     ensures absent { (command : Command) (file : Text) → Says (map string_bytes words.now) command → workload_file command ≡ Some file → F.absent files.old file
         → IsErrOf result CannotRead ⊎ IsErrOf result OutOfMemory }
     ensures missing { (workload journal : Text) → Says (map string_bytes words.now) (Check workload journal) → F.absent files.old journal
@@ -62,15 +64,22 @@ fn prepare<R: Threads + Wait + Sync, F: Files, P: Pace + Sync>(
                 steps,
                 journal,
                 files,
-                pace,
+                work,
                 orders,
             )
         }
-        Ok(Command::SelfRun { units }) => prepare_self(rt, alloc, units, pace, orders),
+        Ok(Command::SelfRun { units }) => prepare_self(rt, alloc, units, work, orders),
         Ok(Command::Check { workload, journal }) => {
-            prepare_check(alloc, workload.as_str(), journal.as_str(), files, orders)
+            prepare_check(
+                alloc,
+                workload.as_str(),
+                journal.as_str(),
+                files,
+                work,
+                orders,
+            )
         }
-        Ok(Command::Flow { file }) => prepare_flow(alloc, file.as_str(), files),
+        Ok(Command::Flow { file }) => prepare_flow(alloc, file.as_str(), files, work),
         Err(WordFault::Bad) => Err(Stop::BadWords),
         Err(WordFault::Memory) => Err(Stop::OutOfMemory),
     }
@@ -82,32 +91,33 @@ fn prepare<R: Threads + Wait + Sync, F: Files, P: Pace + Sync>(
 /// at which it is not one; `flow` writes what each unit of a workload puts out, if that does not depend on the schedule. The words are those
 /// after the program's name. User schedulers name the stored orders by number.
 ///
-/// Each stream runs on a thread of its own, as far as threads can be started; `pace` is called before each step, outside every
-/// lock.
+/// Each stream runs on a thread of its own, as far as threads can be started; `work` is called before each step and has the
+/// functions that units call, all outside every lock.
 ///
 /// Exit statuses: 0 finished, 1 stuck, 2 bad command line, 3 a file is refused, 4 a stream made all the steps that it may
 /// make, 5 cannot read, 6 cannot write, 7 out of memory; `check` ends with 0 if the journal is a run and with 1 if it is not, and
 /// `flow` with 0 if there is a flow and with 1 if there is none. The journal that is returned is that of the run that was made,
 /// and otherwise empty.
-pub fn abtrun<R: Threads + Wait + Sync, F: Files, K: Sink, E: Sink, P: Pace + Sync>(
+pub fn abtrun<R: Threads + Wait + Sync, F: Files, K: Sink, E: Sink, P: Work + Sync>(
     rt: &R,
     alloc: Global,
     words: &[String],
     files: &mut F,
     out: &mut K,
     err: &mut E,
-    pace: &P,
+    work: &P,
     orders: &[StoredOrder],
 ) -> Ended
     requires orders { 2 ≤ length orders.now }
+    requires calls { function_limit ≤ P.count work.now }
     ensures { IsAnswered result.status (record {
-      given = given (map string_bytes words.now) (shapes_of orders.now) (λ name. F.file files.old name);
+      given = given (map string_bytes words.now) (stored_of orders.now (P.returns work.now)) (λ name. F.file files.old name);
       absent = λ name. F.absent files.old name;
       left = left (F.faults files.old, F.faults files.new) (K.taken out.old, K.taken out.new) (K.faults out.old, K.faults out.new) (E.taken err.old, E.taken err.new) (E.faults err.old, E.faults err.new);
       journal = result.journal;
     }) }
 {
-    match prepare(rt, alloc, words, files, pace, orders) {
+    match prepare(rt, alloc, words, files, work, orders) {
         Ok(done) => {
             let Prepared {
                 conclusion,

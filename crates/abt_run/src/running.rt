@@ -1,11 +1,11 @@
 //! The commands `run` and `self`.
 
 ghost use Rattle.std.specs.Prelude.{◌≡◌, ◌≢◌, ◌≤◌, ◌<◌, ℕ, List, IfErr, IfOk, IsErrOf, [], if◌then◌else◌, length};
-ghost use Rattle.abt_machine.specs.Limits.{adder_limit};
+ghost use Rattle.abt_machine.specs.Limits.{adder_limit, function_limit};
 ghost use Rattle.abt_machine.specs.Runs.{last_state};
 ghost use Rattle.abt_machine.specs.Texts.{journal_text as text_of_journal};
 ghost use Rattle.abt_machine.specs.Words.{Text};
-ghost use Rattle.abt_order.specs.Stored.{shapes_of};
+ghost use Rattle.abt_order.specs.Stored.{stored_of};
 ghost use Rattle.abt_report.specs.Pictures.{IsPictureOf};
 ghost use Rattle.abt_words.specs.Commands.{Says};
 ghost use Rattle.abt_words.specs.declared.commands.Command.TheVariants as command;
@@ -27,55 +27,61 @@ use abt_order::StoredOrder;
 use abt_report::{append_report, count_steps, journal_text, short_report};
 use abt_shell::Stop;
 use abt_source::Files;
-use abt_stream::Pace;
 use abt_waves::run_streams;
 use abt_words::DEFAULT_STEPS;
+use abt_work::Work;
 use std::alloc::Global;
 use std::sync::Wait;
 use std::thread::Threads;
 
 /// The run of a file's workload, and what it prints.
-pub(crate) fn prepare_file<R: Threads + Wait + Sync, F: Files, P: Pace + Sync>(
+#[tactic(auto, using(crate::proofs::Storing::stores_calls))]
+pub(crate) fn prepare_file<R: Threads + Wait + Sync, F: Files, P: Work + Sync>(
     rt: &R,
     alloc: Global,
     file: &str,
     steps: u64,
     with_journal: bool,
     files: &mut F,
-    pace: &P,
+    work: &P,
     orders: &[StoredOrder],
 ) -> Result<Prepared, Stop>
     requires orders { 2 ≤ length orders.now }
+    requires calls { function_limit ≤ P.count work.now }
     ensures done { (words : List Text) → Says words (command.Run file.now steps with_journal)
-        → IfOk result (λ p. Prints (given words (shapes_of orders.now) (λ name. F.file files.old name)) p.conclusion p.journal p.text.items) }
+        → IfOk result (λ p. Prints (given words (stored_of orders.now (P.returns work.now)) (λ name. F.file files.old name)) p.conclusion p.journal p.text.items) }
     ensures stop { (words : List Text) → Says words (command.Run file.now steps with_journal)
-        → IfErr result (StopsCommand (given words (shapes_of orders.now) (λ name. F.file files.old name)) (F.faults files.old, F.faults files.new)) }
+        → IfErr result (StopsCommand (given words (stored_of orders.now (P.returns work.now)) (λ name. F.file files.old name)) (F.faults files.old, F.faults files.new)) }
     ensures absent { F.absent files.old file.now → IsErrOf result CannotRead }
     ensures faulty { F.faults files.new ≢ F.faults files.old → IsErrOf result CannotRead }
     ensures later { F.faults files.old ≤ F.faults files.new }
 {
     let w = fetch(alloc, file, files)?;
-    let ran = run_streams(rt, alloc, &w, orders, pace, steps)?;
+    w.known();
+    let ran = run_streams(rt, alloc, &w, orders, work, steps)?;
     let text = output(alloc, &w, &ran, with_journal)?;
     Ok(ended(ran, text))
 }
 
 /// The run of the workload that is made of this many units, and what it prints.
-pub(crate) fn prepare_self<R: Threads + Wait + Sync, P: Pace + Sync>(
+#[tactic(auto, using(crate::proofs::Storing::stores_calls))]
+pub(crate) fn prepare_self<R: Threads + Wait + Sync, P: Work + Sync>(
     rt: &R,
     alloc: Global,
     units: u32,
-    pace: &P,
+    work: &P,
     orders: &[StoredOrder],
 ) -> Result<Prepared, Stop>
     requires orders { 2 ≤ length orders.now }
+    requires calls { function_limit ≤ P.count work.now }
     requires units { (0 < units) × (units ≤ adder_limit) }
     ensures done { (words : List Text) (file_of : Text → Option Text) → Says words (command.SelfRun units)
-        → IfOk result (λ p. Prints (given words (shapes_of orders.now) file_of) p.conclusion p.journal p.text.items) }
+        → IfOk result (λ p. Prints (given words (stored_of orders.now (P.returns work.now)) file_of) p.conclusion p.journal p.text.items) }
     ensures stop { IfErr result (λ stop. stop ≡ why.OutOfMemory) }
 {
     let w = generate(alloc, units)?;
-    let ran = run_streams(rt, alloc, &w, orders, pace, DEFAULT_STEPS)?;
+    w.known();
+    let ran = run_streams(rt, alloc, &w, orders, work, DEFAULT_STEPS)?;
     let text = short_output(alloc, &w, &ran)?;
     Ok(ended(ran, text))
 }

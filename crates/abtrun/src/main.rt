@@ -1,11 +1,11 @@
 //! The command `abtrun`: runs a workload text, and prints its report and, if asked, its journal; checks journals; finds flows.
 #![tactic(auto)]
 
+use abt_functions::TextFunctions;
 use abt_order::StoredOrder;
 use abt_run::{NAME, abtrun};
 use abt_shell::run;
 use abt_source::{RealFiles, RealSink};
-use abt_stream::NoPace;
 use std::process::ExitCode;
 
 fn main(rt: HostRuntime) -> ExitCode {
@@ -19,7 +19,7 @@ fn main(rt: HostRuntime) -> ExitCode {
             &mut RealFiles::new(&rt),
             &mut RealSink::out(&rt),
             &mut RealSink::err(&rt),
-            &NoPace,
+            &TextFunctions,
             &orders,
         );
         ended.status

@@ -1,11 +1,11 @@
 //! The command `abtwaves`: runs a workload text whose streams are started and ended by units, and prints its report and its waves.
 #![tactic(auto)]
 
+use abt_functions::TextFunctions;
 use abt_lives::{NAME, abtwaves};
 use abt_order::StoredOrder;
 use abt_shell::run;
 use abt_source::{RealFiles, RealSink};
-use abt_stream::NoPace;
 use std::process::ExitCode;
 
 fn main(rt: HostRuntime) -> ExitCode {
@@ -19,7 +19,7 @@ fn main(rt: HostRuntime) -> ExitCode {
             &mut RealFiles::new(&rt),
             &mut RealSink::out(&rt),
             &mut RealSink::err(&rt),
-            &NoPace,
+            &TextFunctions,
             &orders,
         );
         ended.status

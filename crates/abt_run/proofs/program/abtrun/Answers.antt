@@ -1,5 +1,5 @@
 use Rattle.std.proofs.Common.{inl, inr, map, rules, string_bytes, subst, sym}
-use Rattle.abt_order.specs.Stored.{shapes_of}
+use Rattle.abt_order.specs.Stored.{stored_of}
 use Rattle.abt_shell.proofs.Calls.{concluded, missing-ends, not-stopped, stopped, stopped-by}
 use Rattle.abt_run.specs.Given.{given}
 use Rattle.abt_run.specs.Call.{program}
@@ -11,7 +11,7 @@ use Rattle.abt_run.proofs.program.abtrun.Goals as goal
 pub returns-in-Ok : goal.returns-in-Ok
 returns-in-Ok g c =
     answered _ _ (as-many _ c.args.orders.now 2 c.requires.orders)
-    (concluded (program _) _ c.in-Ok.done.conclusion c.in-Ok.done.text.items _ _ (subst (λ j. Prints (given (map string_bytes c.args.words.now) (shapes_of c.args.orders.now) (λ name. g.F.Files.file c.args.files.now name)) c.in-Ok.done.conclusion j c.in-Ok.done.text.items) (sym c.conclude_run.ensures.journal) c.in-Ok.ensures.done) c.number.ensures (rw c.deref.ensures.value at c.conclude_run.ensures.status))
+    (concluded (program _) _ c.in-Ok.done.conclusion c.in-Ok.done.text.items _ _ (subst (λ j. Prints (given (map string_bytes c.args.words.now) (stored_of c.args.orders.now (g.P.Work.returns c.args.work.now)) (λ name. g.F.Files.file c.args.files.now name)) c.in-Ok.done.conclusion j c.in-Ok.done.text.items) (sym c.conclude_run.ensures.journal) c.in-Ok.ensures.done) c.number.ensures (rw c.deref.ensures.value at c.conclude_run.ensures.status))
     (λ command file says names gone. elim (c.in-Ok.ensures.absent command file says names gone) [ inl read ↦ absurd (not-stopped _ _ read) | inr refused ↦ absurd (not-stopped _ _ refused) ])
     (λ workload journal W says tells gone. absurd (c.in-Ok.ensures.missing workload journal says gone))
     (λ fault. absurd (not-stopped _ _ (c.in-Ok.ensures.faulty fault)))

@@ -22,13 +22,13 @@ returns-in-Ok-SelfRun-clause-done g c =
 
 pub returns-in-Ok-Flow-clause-done : goal.returns-in-Ok-Flow-clause-done
 returns-in-Ok-Flow-clause-done g c =
-    c.prepare_flow.ensures.done _ _
+    c.prepare_flow.ensures.done _ _ refl
     (subst (λ f. Says (map string_bytes c.args.words.now) (command.Flow f)) (sym c.as_str-in-Ok-Flow.ensures)
     (subst (Says (map string_bytes c.args.words.now)) c.in-Ok-Flow.field-0-is c.in-Ok-Flow.ensures.said))
 
 pub returns-in-Ok-Flow-clause-stop : goal.returns-in-Ok-Flow-clause-stop
 returns-in-Ok-Flow-clause-stop g c =
-    c.prepare_flow.ensures.stop _ _
+    c.prepare_flow.ensures.stop _ _ refl
     (subst (λ f. Says (map string_bytes c.args.words.now) (command.Flow f)) (sym c.as_str-in-Ok-Flow.ensures)
     (subst (Says (map string_bytes c.args.words.now)) c.in-Ok-Flow.field-0-is c.in-Ok-Flow.ensures.said))
 
