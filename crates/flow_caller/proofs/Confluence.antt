@@ -1,4 +1,4 @@
--- Meshes are confluent.
+-- Meshes are confluent, and make no calls.
 use Rattle.std.proofs.Common.{◌≡◌, ℕ, zero, suc, List, [], ◌∷◌, ◌++◌, Option, Some, None, length, slice_get, refl, sym, ◌∙◌, ap, subst}
 use Rattle.abt_machine.specs.declared.numbers.ObjectNo.{ObjectNo}
 use Rattle.abt_machine.specs.declared.numbers.PoolNo.{PoolNo}
@@ -6,7 +6,9 @@ use Rattle.abt_machine.specs.declared.numbers.UnitNo.{UnitNo}
 use Rattle.abt_machine.specs.declared.operations.Op.{Op}
 use Rattle.abt_machine.specs.declared.operations.Op.TheVariants as op
 use Rattle.abt_machine.specs.Numbers.{object_no}
+use Rattle.abt_machine.specs.Stored.{CallsStored, Stored}
 use Rattle.abt_machine.specs.Workloads.{op_at}
+use Rattle.abt_bounds.specs.Laws.{HasNoFreeCall}
 use Rattle.abt_flow.specs.Confluent.{Confluent, IsSettled}
 use Rattle.abt_flow.specs.Effects.{effect}
 use Rattle.abt_generate.proofs.Lists.{Each, each-always, each-at, none-some, some-same}
@@ -23,6 +25,11 @@ set_by _ = None
 abbrev created_by : Op → Option ℕ
 created_by (op.Create v p) = Some v.0
 created_by _ = None
+
+-- the function that an operation calls
+abbrev called_by : Op → Option ℕ
+called_by (op.Call f) = Some f
+called_by _ = None
 
 -- a set behind operations that set nothing
 last-sets : (xs : List Op) (y : Op) (k : ℕ) (x : ObjectNo) → Each (λ o. set_by o ≡ None) xs → slice_get (xs ++ y ∷ []) k ≡ Some (op.EvSet x) → (k ≡ length xs) × (y ≡ op.EvSet x)
@@ -71,3 +78,19 @@ Confluent-mesh nodes = record {
   creates_later = λ u k t p a. absurd (creates-none nodes u k t p a);
   creates_open = λ u k t p a. absurd (creates-none nodes u k t p a);
 }
+
+-- Calls.
+
+calls-none : (nodes : List Node) (u k f : ℕ) → op_at (mesh nodes) u k ≡ Some (op.Call f) → ⊥
+calls-none nodes u k f is =
+    let found = op-of-node nodes u k (op.Call f) is in
+    let P : Op → Type 0 = λ o. called_by o ≡ None in
+    none-some (sym (each-at P (node_ops u found.0) (each-op P u found.0 (each-always (λ x. P (op.EvWait x)) (λ x. refl) found.0.after) refl refl refl) k (op.Call f) found.2))
+
+-- so none calls a function that is not there
+pub CallsStored-mesh : (nodes : List Node) (count : ℕ) → CallsStored (mesh nodes) count
+CallsStored-mesh nodes count u k f is = absurd (calls-none nodes u k f is)
+
+-- nor a function that may return any word
+pub HasNoFreeCall-mesh : (nodes : List Node) (Z : Stored) → HasNoFreeCall (mesh nodes) Z
+HasNoFreeCall-mesh nodes Z u k f a ks is = absurd (calls-none nodes u k f is)

@@ -3,6 +3,7 @@ use Rattle.std.proofs.Common.{◌≡◌, ℕ, ◌≤◌, ◌+◌, ◌*◌, List,
 use Rattle.std.specs.List.{enumerate_from}
 use Rattle.std.proofs.lemmas.List.{length-map}
 use Rattle.std.proofs.lemmas.List.FromFn.{length-enumerate_from}
+use Rattle.abt_machine.specs.declared.grammar.Format.TheVariants as format
 use Rattle.abt_machine.specs.declared.operations.Op.TheVariants as op
 use Rattle.abt_machine.specs.declared.workload.UnitPart.{UnitPart}
 use Rattle.abt_machine.specs.Limits.{object_limit, operation_limit}
@@ -32,10 +33,10 @@ unit-few nodes is u part here =
     let count : length (node_ops u at.0) ≡ length at.0.after + 3 = length-node_ops u at.0 in
     subst (λ (p : UnitPart). length (ops_of p.body) ≤ 19) at.2 (omega arith)
 
-pub few-ops : (nodes : List Node) → IsMesh nodes → length (all_ops (numbered node_unit nodes)) ≤ operation_limit
+pub few-ops : (nodes : List Node) → IsMesh nodes → length (all_ops (numbered node_unit nodes)) ≤ operation_limit format.Two
 few-ops nodes is =
     let units : List UnitPart = numbered node_unit nodes in
     let count : length units ≡ length nodes = length-units nodes in
-    let few : length nodes ≤ object_limit = is.few in
+    let few : length nodes ≤ object_limit format.Two = is.few in
     let most : length (all_ops units) ≤ length units * 19 = length-flat_map-most (λ (part : UnitPart). ops_of part.body) 19 units (each-get (λ (part : UnitPart). length (ops_of part.body) ≤ 19) units (unit-few nodes is)) in
     omega arith

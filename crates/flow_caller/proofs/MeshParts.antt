@@ -5,6 +5,7 @@ use Rattle.std.specs.List.{enumerate_from}
 use Rattle.std.proofs.lemmas.List.{get_or-replicate, length-replicate}
 use Rattle.std.proofs.lemmas.List.Elements.{All-nil}
 use Rattle.std.proofs.lemmas.Option.{slice_get-get_or, slice_get_within}
+use Rattle.abt_machine.specs.declared.grammar.Format.TheVariants as format
 use Rattle.abt_machine.specs.declared.numbers.ObjectNo.{ObjectNo}
 use Rattle.abt_machine.specs.declared.numbers.PoolNo.{PoolNo}
 use Rattle.abt_machine.specs.declared.numbers.SchedNo.{SchedNo}
@@ -16,12 +17,12 @@ use Rattle.abt_machine.specs.declared.workload.Parts.{Parts}
 use Rattle.abt_machine.specs.declared.workload.PoolPart.{PoolPart}
 use Rattle.abt_machine.specs.declared.workload.SchedPart.{SchedPart}
 use Rattle.abt_machine.specs.declared.workload.UnitPart.{UnitPart}
-use Rattle.abt_machine.specs.Limits.{object_limit}
+use Rattle.abt_machine.specs.Limits.{object_limit, operation_limit}
 use Rattle.abt_machine.specs.Numbers.{pool_no, sched_no}
 use Rattle.abt_machine.specs.Operations.{IsDeclared, IsEventual, said_by}
 use Rattle.abt_machine.specs.Valid.{IsAccess, IsSched, IsStream, IsThing, IsUnit, IsValid, IsWord, sched_in, words_said}
 use Rattle.abt_machine.specs.Words.{Text, numbered}
-use Rattle.abt_machine.specs.Workloads.{ops_of, thing_at}
+use Rattle.abt_machine.specs.Workloads.{all_ops, ops_of, thing_at}
 use Rattle.abt_machine.proofs.Elements.{at-all}
 use Rattle.abt_generate.proofs.GeneratedParts.{once-placed}
 use Rattle.abt_generate.proofs.Lists.{Each, each-all, each-always, each-map, each-pairs, flat_map-nothing, none-some, some-same}
@@ -123,9 +124,10 @@ pub IsValid-mesh : (nodes : List Node) → IsMesh nodes → IsValid (mesh nodes)
 unfolding mesh
 IsValid-mesh nodes is =
     let W : Parts = mesh nodes in
-    let few : length nodes ≤ object_limit = is.few in
+    let few : length nodes ≤ object_limit format.Two = is.few in
     let objects : length (replicate (length nodes) thing.Eventual) ≡ length nodes = length-replicate (length nodes) thing.Eventual in
-    let few_objects : length (replicate (length nodes) thing.Eventual) ≤ object_limit = omega arith in
+    let few_objects : length (replicate (length nodes) thing.Eventual) ≤ object_limit format.Three = omega arith in
+    let ops : length (all_ops W.units) ≤ operation_limit format.Two = few-ops nodes is in
     let units : length W.units ≡ length nodes = length-units nodes in
     record {
       some_stream = lit< tt;
@@ -144,7 +146,7 @@ IsValid-mesh nodes is =
       objects = objects-valid nodes;
       few_units = omega arith;
       units = units-valid nodes is;
-      few_ops = few-ops nodes is;
+      few_ops = omega arith;
       said = no-words nodes;
       words = All-nil IsWord;
     }

@@ -7,7 +7,7 @@ use Rattle.abt_machine.specs.declared.events.Event.{Event}
 use Rattle.abt_machine.specs.declared.events.Outcome.{Outcome}
 use Rattle.abt_machine.specs.declared.events.Outcome.TheVariants as outcome
 use Rattle.abt_machine.specs.declared.events.Piece.TheVariants as piece
-use Rattle.abt_machine.specs.declared.operations.OrderShape.{OrderShape}
+use Rattle.abt_machine.specs.Stored.{Stored}
 use Rattle.abt_machine.specs.declared.workload.Parts.{Parts}
 use Rattle.abt_machine.specs.Lives.{count_up}
 use Rattle.abt_machine.specs.Runs.{last_state}
@@ -15,6 +15,7 @@ use Rattle.abt_machine.specs.State.{State}
 use Rattle.abt_machine.specs.Texts.{ShownUnit, shown_units}
 use Rattle.abt_report.specs.Pictures.{IsPictureOf, unit_in_row, units_in_rows}
 use Rattle.abt_report.specs.declared.pictures.Row.{Row}
+use Rattle.abt_bounds.specs.Laws.{HasNoFreeCall}
 use Rattle.abt_drain.specs.Runs.{HasRun}
 use Rattle.abt_flow.specs.Confluent.{Confluent}
 use Rattle.abt_flow.specs.Flow.{IsFlow}
@@ -24,7 +25,7 @@ use Rattle.flow_caller.specs.Answers.{AnswersRun, AnswersOutcome, step_count}
 use Rattle.flow_caller.specs.Meshes.{AreNumbers, mesh, number_rows}
 use Rattle.flow_caller.specs.Rows.{IsNumber, output_of}
 use Rattle.flow_caller.specs.declared.nodes.Node.{Node}
-use Rattle.flow_caller.proofs.Confluence.{Confluent-mesh}
+use Rattle.flow_caller.proofs.Confluence.{Confluent-mesh, HasNoFreeCall-mesh}
 use Rattle.flow_caller.proofs.Flowing.{rows-are-numbers, rows-are-ones}
 use Rattle.flow_caller.proofs.RowNumbers.{number_in, numbers-back}
 
@@ -64,19 +65,20 @@ rows-more rows i row numbers next n lt is out before push =
 
 -- Runs.
 
-module _ (nodes : List Node) (W : Parts) (is : W ≡ mesh nodes) (Z : List OrderShape) (J : List Event) (o : Outcome) (run : HasRun W Z step_count J o) where
+module _ (nodes : List Node) (W : Parts) (is : W ≡ mesh nodes) (Z : Stored) (J : List Event) (o : Outcome) (run : HasRun W Z step_count J o) where
   module _ (finished : o ≡ outcome.Finished) (rows : List Row) (pictured : IsPictureOf W J rows) where
     -- a finished run shows the flow
-    flow-shown : IsFlow (mesh nodes) (map output_of rows)
+    flow-shown : IsFlow (mesh nodes) Z.returns (map output_of rows)
     flow-shown =
-        let flow : IsFlow W (outputs W (last_state W J)) = run.flow finished (subst Confluent (sym is) (Confluent-mesh nodes)) in
-        subst (λ V. IsFlow V (map output_of rows)) is (subst (IsFlow W) (outputs-shown W (last_state W J) rows pictured.shown) flow)
+        let flow : IsFlow W Z.returns (outputs W (last_state W J)) =
+        run.flow finished (subst Confluent (sym is) (Confluent-mesh nodes)) (subst (λ V. HasNoFreeCall V Z) (sym is) (HasNoFreeCall-mesh nodes Z)) in
+        subst (λ V. IsFlow V Z.returns (map output_of rows)) is (subst (IsFlow W Z.returns) (outputs-shown W (last_state W J) rows pictured.shown) flow)
 
     pub shown-each : All IsNumber rows
-    shown-each = rows-each rows (map number_in (map output_of rows)) (rows-are-ones nodes (map output_of rows) flow-shown)
+    shown-each = rows-each rows (map number_in (map output_of rows)) (rows-are-ones nodes Z.returns (map output_of rows) flow-shown)
 
     pub shown-numbers : (numbers : List ℕ) → number_rows numbers ≡ map output_of rows → AreNumbers nodes numbers
-    shown-numbers numbers are = subst (AreNumbers nodes) (ap (map number_in) (sym are) ∙ numbers-back numbers) (rows-are-numbers nodes (map output_of rows) flow-shown)
+    shown-numbers numbers are = subst (AreNumbers nodes) (ap (map number_in) (sym are) ∙ numbers-back numbers) (rows-are-numbers nodes Z.returns (map output_of rows) flow-shown)
 
   pub answers-finished : {A : Type 0} (P : A → Type 0) (x : A) → o ≡ outcome.Finished → P x → AnswersRun (mesh nodes) (Some x) P
   answers-finished P x finished holds = record {

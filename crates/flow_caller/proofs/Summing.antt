@@ -8,6 +8,7 @@ use Rattle.std.proofs.lemmas.List.Elements.{All-cons, All-nil}
 use Rattle.std.proofs.lemmas.List.FromFn.{get_or-map-range_with_len, length-enumerate_from, length-map-range_with_len}
 use Rattle.std.proofs.lemmas.List.Sums.{sum_by_more}
 use Rattle.std.proofs.lemmas.Option.{get_or_from_slice_get, slice_get_within}
+use Rattle.abt_machine.specs.declared.grammar.Format.TheVariants as format
 use Rattle.abt_machine.specs.declared.numbers.ObjectNo.{ObjectNo}
 use Rattle.abt_machine.specs.Limits.{object_limit}
 use Rattle.abt_machine.specs.Numbers.{object_no}
@@ -51,7 +52,7 @@ before-few (suc v) = lit≤ tt
 leaf-is-node : (n u leaf : ℕ) → u < n → leaf < 2 ^ 64 → IsNode n (leaf_node u leaf)
 leaf-is-node n u leaf below small = record { few = before-few u; after = before-below n u below; plus = small }
 
-pub IsMesh-chain : (leaves : List ℕ) → length leaves ≤ object_limit → All (λ leaf. leaf < 2 ^ 64) leaves → IsMesh (chain leaves)
+pub IsMesh-chain : (leaves : List ℕ) → length leaves ≤ object_limit format.Two → All (λ leaf. leaf < 2 ^ 64) leaves → IsMesh (chain leaves)
 IsMesh-chain leaves few small =
     let long : length (chain leaves) ≡ length leaves = length-chain leaves in
     record {

@@ -3,7 +3,7 @@ use Rattle.std.specs.Prelude.{ℕ, ◌≡◌, List, MatchOption, Option, None}
 use Rattle.abt_machine.specs.declared.events.Event.{Event}
 use Rattle.abt_machine.specs.declared.events.Outcome.{Outcome}
 use Rattle.abt_machine.specs.declared.events.Outcome.TheVariants as outcome
-use Rattle.abt_machine.specs.declared.operations.OrderShape.{OrderShape}
+use Rattle.abt_machine.specs.Stored.{Stored}
 use Rattle.abt_machine.specs.declared.workload.Parts.{Parts}
 use Rattle.abt_machine.specs.Limits.{default_steps}
 use Rattle.abt_drain.specs.Runs.{HasRun}
@@ -20,7 +20,7 @@ AnswersOutcome (outcome.Budget s) answer IsRight = answer ≡ None
 
 -- W was run, and that is what the run shows
 pub record AnswersRun {A : Type 0} (W : Parts) (answer : Option A) (IsRight : A → Type 0) : Type 0 where
-  pub orders : List OrderShape
+  pub orders : Stored
   pub journal : List Event
   pub end : Outcome
   pub run : HasRun W orders step_count journal end

@@ -1,6 +1,7 @@
 -- Units that wait for one another's numbers, as a workload.
 use Rattle.std.specs.Prelude.{ℕ, ◌≡◌, ◌+◌, ◌<◌, ◌≤◌, ◌%◌, ◌^◌, List, [], ◌∷◌, ◌++◌, length, map, replicate, All, Some, slice_get}
 use Rattle.std.specs.List.{range_with_len}
+use Rattle.abt_machine.specs.declared.grammar.Format.TheVariants as format
 use Rattle.abt_machine.specs.declared.events.Piece.{Piece}
 use Rattle.abt_machine.specs.declared.events.Piece.TheVariants as piece
 use Rattle.abt_machine.specs.declared.numbers.ObjectNo.{ObjectNo}
@@ -58,7 +59,7 @@ pub record IsNode (n : ℕ) (node : Node) : Type 0 where
 
 -- nodes that a workload can be made of
 pub record IsMesh (nodes : List Node) : Type 0 where
-  pub few : length nodes ≤ object_limit
+  pub few : length nodes ≤ object_limit format.Two
   pub each : (u : ℕ) (node : Node) → slice_get nodes u ≡ Some node → IsNode (length nodes) node
 
 -- the number of the last of these nodes, n if there is none

@@ -1,6 +1,7 @@
 //! Nodes, and the workload that they are.
 
 ghost use Rattle.std.specs.Prelude.{◌≡◌, ◌≤◌, IfOk, length, map, replicate};
+ghost use Rattle.abt_machine.specs.declared.grammar.Format.TheVariants as format;
 ghost use Rattle.abt_machine.specs.Limits.{object_limit};
 ghost use Rattle.abt_machine.specs.Words.{numbered};
 ghost use Rattle.abt_generate.specs.Generated.{streams};
@@ -81,7 +82,7 @@ fn eventuals(alloc: Global, n: usize) -> Result<Vec<Thing>, AllocError>
 }
 
 fn units(alloc: Global, nodes: &[Node]) -> Result<Vec<UnitPart>, AllocError>
-    requires { length nodes.now ≤ object_limit }
+    requires { length nodes.now ≤ object_limit format.Two }
     ensures { IfOk result (λ units. units.items ≡ numbered node_unit nodes.now) }
 {
     let mut units = Vec::new(alloc);

@@ -2,6 +2,7 @@
 //! found.
 
 ghost use Rattle.std.specs.Prelude.{All, ◌≡◌, ◌≤◌, ◌<◌, ◌+◌, ◌-◌, ◌%◌, ◌^◌, [], ◌∷◌, IfOk, length, map, sum};
+ghost use Rattle.abt_machine.specs.declared.grammar.Format.TheVariants as format;
 ghost use Rattle.abt_machine.specs.declared.events.Piece.TheVariants as piece;
 ghost use Rattle.abt_machine.specs.Limits.{object_limit};
 ghost use Rattle.abt_report.specs.declared.pictures.Row.{Row};
@@ -18,8 +19,8 @@ use crate::wavefronts::wavefront;
 use abt_machine::{Outcome, Piece, Want};
 use abt_order::StoredOrder;
 use abt_report::Row;
-use abt_stream::NoPace;
 use abt_waves::run_streams;
+use abt_work::AnyWork;
 use std::alloc::{AllocError, Global};
 use std::sync::Wait;
 use std::thread::Threads;
@@ -34,7 +35,7 @@ pub fn sum_on_threads<R: Threads + Wait + Sync>(
     leaves: &[u64],
 ) -> Result<Option<u64>, Want>
     requires some { 0 < length leaves.now }
-    requires few { length leaves.now ≤ object_limit }
+    requires few { length leaves.now ≤ object_limit format.Two }
     ensures sum { IfOk result (λ answer. AnswersRun (mesh (chain leaves.now)) answer (λ n. n ≡ sum leaves.now % 2 ^ 64)) }
 {
     let nodes = chain(alloc, leaves)?;
@@ -70,7 +71,7 @@ pub fn numbers_on_threads<R: Threads + Wait + Sync>(
     let w = mesh(alloc, nodes)?;
     // No scheduler of a mesh has a stored order, but a run is passed two.
     let orders = [StoredOrder::rotating(), StoredOrder::mirroring()];
-    let run = run_streams(rt, alloc, &w, &orders, &NoPace, STEPS)?;
+    let run = run_streams(rt, alloc, &w, &orders, &AnyWork, STEPS)?;
     match run.outcome {
         Outcome::Finished => Ok(Some(numbers(alloc, run.picture.items())?)),
         Outcome::Stuck | Outcome::Budget(_) => Ok(None),

@@ -2,6 +2,7 @@
 //! run.
 
 ghost use Rattle.std.specs.Prelude.{◌≡◌, ◌≤◌, IfOk, length};
+ghost use Rattle.abt_machine.specs.declared.grammar.Format.TheVariants as format;
 ghost use Rattle.abt_machine.specs.Limits.{object_limit};
 ghost use Rattle.flow_caller.specs.Meshes.{IsMesh};
 ghost use Rattle.flow_caller.specs.Sums.{before, chain, leaf_node};
@@ -12,7 +13,7 @@ use std::alloc::{AllocError, Global};
 
 /// The nodes that add up these leaves: each adds its leaf to what the one before it passes on.
 pub fn chain(alloc: Global, leaves: &[u64]) -> Result<Vec<Node>, AllocError>
-    requires { length leaves.now ≤ object_limit }
+    requires { length leaves.now ≤ object_limit format.Two }
     ensures nodes { IfOk result (λ nodes. nodes.items ≡ chain leaves.now) }
     ensures mesh { IfOk result (λ nodes. IsMesh nodes.items) }
 {

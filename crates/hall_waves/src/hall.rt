@@ -1,11 +1,12 @@
 //! One lock around all objects, as the streams of a wave share it.
 
 ghost use Rattle.std.specs.Prelude.{◌≤◌, IfOk, length};
+ghost use Rattle.abt_machine.specs.Stored.{CallsStored};
 ghost use Rattle.abt_machine.specs.Valid.{IsValid};
 ghost use Rattle.abt_booth.specs.Seats.{IsSeatOf, number_of, opening_of, seats_of};
 ghost use Rattle.abt_commons.specs.AllPasses.{AreAll};
 ghost use Rattle.abt_commons.specs.Halls.{the_lock};
-ghost use Rattle.abt_order.specs.Stored.{shapes_of};
+ghost use Rattle.abt_order.specs.Stored.{stored_of};
 ghost use Rattle.abt_waves.specs.Locks.{AreClosed};
 ghost use Rattle.hall_waves.specs.HallLocks.{clock_of_hall, locks_of_hall};
 ghost use Rattle.abt_report.specs.Pictures.{IsPictureOf};
@@ -15,8 +16,9 @@ use abt_commons::{Commons, Hall, HallPass, Objects};
 use abt_drain::Run;
 use abt_machine::{Want, Workload};
 use abt_order::StoredOrder;
-use abt_stream::{Pace, Stream, Turn};
+use abt_stream::{Stream, Turn};
 use abt_waves::{Locked, Locking, StoredOrders, run_over};
+use abt_work::Work;
 use std::alloc::Global;
 use std::marker::Model;
 use std::sync::Wait;
@@ -56,14 +58,14 @@ impl<'w, R: Wait> Locked for OneLock<'w, R> {
 
     ghost begins = { hall_begins };
 
-    fn turn<P: Pace>(
+    fn turn<P: Work>(
         &self,
         stream: &mut Stream,
         pass: &mut HallPass<'w>,
         w: &Workload,
-        pace: &P,
+        work: &P,
     ) -> Turn {
-        stream.turn(&self.hall, pass, w, pace)
+        stream.turn(&self.hall, pass, w, work)
     }
 }
 
@@ -92,16 +94,17 @@ impl<'w, R: Wait> Locking<'w, R> for OneLock<'w, R> {
 
 /// Runs a workload as `run_streams` of abt_waves does, but with one lock around all objects. No more is claimed of stamps than that
 /// they leave no gap: calls on different objects get stamps by the one lock too. Err: out of memory.
-pub fn run_in_hall<'w, R: Threads + Wait + Sync, P: Pace + Sync>(
+pub fn run_in_hall<'w, R: Threads + Wait + Sync, P: Work + Sync>(
     rt: &'w R,
     alloc: Global,
     w: &'w Workload,
     orders: &[StoredOrder],
-    pace: &P,
+    work: &P,
     steps: u64,
 ) -> Result<Run, Want>
     requires orders { 2 ≤ length orders.now }
-    ensures run { IfOk result (λ run. IsRunOf w.now (shapes_of orders.now) steps run.journal run.outcome) }
+    requires calls { CallsStored w.now (P.count work.now) }
+    ensures run { IfOk result (λ run. IsRunOf w.now (stored_of orders.now (P.returns work.now)) steps run.journal run.outcome) }
     ensures picture { IfOk result (λ run. IsPictureOf w.now run.journal run.picture) }
 {
     run_over::<R, P, StoredOrders<'_>, HallPass<'w>, OneLock<'w, R>>(
@@ -109,7 +112,7 @@ pub fn run_in_hall<'w, R: Threads + Wait + Sync, P: Pace + Sync>(
         alloc,
         w,
         &StoredOrders { orders },
-        pace,
+        work,
         steps,
     )
 }

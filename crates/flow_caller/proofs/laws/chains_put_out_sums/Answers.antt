@@ -7,4 +7,4 @@ use Rattle.flow_caller.proofs.Summing.{sums-found}
 use Rattle.flow_caller.proofs.laws.chains_put_out_sums.Goals as goal
 
 pub returns : goal.returns
-returns c leaves rows flow = rows-are-ones (chain leaves) rows flow ∙ ap number_rows (sums-found leaves (map number_in rows) (rows-are-numbers (chain leaves) rows flow))
+returns c leaves R rows flow = rows-are-ones (chain leaves) R rows flow ∙ ap number_rows (sums-found leaves (map number_in rows) (rows-are-numbers (chain leaves) R rows flow))

@@ -6,8 +6,8 @@ use Rattle.flow_caller.proofs.Waving.{IsWavefront-numbers, path, paths-are-numbe
 use Rattle.flow_caller.proofs.laws.wavefronts_put_out_paths.Goals as goal
 
 pub returns : goal.returns
-returns c n few rows flow = (
+returns c n few R rows flow = (
   map number_in rows,
-  rows-are-ones (wavefront n) rows flow,
-  IsWavefront-numbers n (map number_in rows) (rows-are-numbers (wavefront n) rows flow (path n) (paths-are-numbers n few)),
+  rows-are-ones (wavefront n) R rows flow,
+  IsWavefront-numbers n (map number_in rows) (rows-are-numbers (wavefront n) R rows flow (path n) (paths-are-numbers n few)),
 )

@@ -1,8 +1,13 @@
-use Rattle.std.proofs.Common.{List, Vec, Global, ℕ, subst, sym}
+use Rattle.std.proofs.Common.{◌^◌, List, Vec, Global, ℕ, subst, sym}
+use Rattle.abt_machine.specs.Stored.{CallsStored}
 use Rattle.abt_report.specs.Pictures.{IsPictureOf}
 use Rattle.abt_report.specs.declared.pictures.Row.{Row}
+use Rattle.flow_caller.proofs.Confluence.{CallsStored-mesh}
 use Rattle.flow_caller.proofs.Shown.{AreOf, answers-finished, shown-each, shown-numbers}
 use Rattle.flow_caller.proofs.runs.numbers_on_threads.Goals as goal
+
+pub run_streams-requires-clause-calls : goal.run_streams-requires-clause-calls
+run_streams-requires-clause-calls g c = λ lifetimes outlive. subst (λ W. CallsStored W (2 ^ 32)) (sym c.in_ok-w.ensures) (CallsStored-mesh c.args.nodes.now (2 ^ 32))
 
 pub numbers-requires : goal.numbers-requires
 numbers-requires g c =

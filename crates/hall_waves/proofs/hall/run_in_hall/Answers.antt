@@ -8,4 +8,4 @@ use Rattle.hall_waves.proofs.Crosses.{OneLock-sync}
 use Rattle.hall_waves.proofs.hall.run_in_hall.Goals as goal
 
 pub run_over-requires : goal.run_over-requires
-run_over-requires g c κs = (search (HallPass-send, sendable) depth 30, (search sendable depth 30, (search sendable depth 30, (search (StoredOrders-sync, vtable-sync, g.dyn-1.3, sendable) depth 30, (search (OneLock-sync, sendable) depth 30, ((refl, tt), subst (λ k. 2 ≤ k) (sym (length-map c.args.orders.now _)) c.requires.orders))))))
+run_over-requires g c κs = (search (HallPass-send, sendable) depth 30, (search sendable depth 30, (search sendable depth 30, (search (StoredOrders-sync, vtable-sync, g.dyn-1.3, sendable) depth 30, (search (OneLock-sync, sendable) depth 30, ((refl, tt), (subst (λ k. 2 ≤ k) (sym (length-map c.args.orders.now _)) c.requires.orders, c.requires.calls)))))))

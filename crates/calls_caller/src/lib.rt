@@ -1,0 +1,6 @@
+//! A caller whose own function runs in units.
+#![tactic(auto)]
+
+mod squares;
+
+pub use squares::{Squares, run_squares};
