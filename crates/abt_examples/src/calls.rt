@@ -4,11 +4,11 @@ ghost use Rattle.std.specs.Prelude.{◌<◌};
 
 use crate::list_of;
 use crate::rows::Row;
+use abt_functions::TextFunctions;
 use abt_order::StoredOrder;
 use abt_report::journal_text;
 use abt_run::abtrun;
 use abt_source::{MemoryFiles, MemorySink, NamedBytes};
-use abt_stream::NoPace;
 use std::alloc::{AllocError, Global};
 use std::process::Abort;
 use std::sync::Wait;
@@ -53,7 +53,14 @@ fn leaves<R: Threads + Wait + Sync>(
     let mut err = sink(alloc, ROOM, row.failing.err)?;
     let orders = [StoredOrder::rotating(), StoredOrder::mirroring()];
     let ended = abtrun(
-        rt, alloc, words, files, &mut out, &mut err, &NoPace, &orders,
+        rt,
+        alloc,
+        words,
+        files,
+        &mut out,
+        &mut err,
+        &TextFunctions,
+        &orders,
     );
     let journal = journal_text(alloc, &ended.journal)?;
     Ok(row.says(ended.status, out.bytes(), err.bytes(), &journal))

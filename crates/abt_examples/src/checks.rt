@@ -108,7 +108,7 @@ pub(crate) static CHECKS: [Row<'static>; 14] = [
     },
     // both are wrong: the workload is read first
     Row {
-        head: "abt 3\n",
+        head: "abt 4\n",
         other: Some("take\n"),
         status: 3,
         out: "",

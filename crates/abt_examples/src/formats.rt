@@ -47,7 +47,7 @@ pub(crate) static REFUSED: [(&str, &[u8], &str); 15] = [
         "abtrun: line 7: unknown\n",
     ),
     // no format
-    ("abt 3\nstreams 1\n", b"", "abtrun: line 1: version\n"),
+    ("abt 4\nstreams 1\n", b"", "abtrun: line 1: version\n"),
     // many before units
     (
         ONE_POOL_OF_TWO,

@@ -18,10 +18,10 @@ mod tests;
 #[cfg(test)]
 mod wide;
 
+use abt_functions::TextFunctions;
 use abt_order::StoredOrder;
 use abt_run::abtrun;
 use abt_source::{MemorySink, RealFiles, read_all};
-use abt_stream::NoPace;
 use std::alloc::{AllocError, Global};
 use std::sync::Wait;
 use std::test::Fail;
@@ -30,7 +30,7 @@ use std::thread::Threads;
 // The words of a call, with a blank between each two, the file with what it prints, and its exit status.
 type Example = (&'static str, &'static str, u8);
 
-static EXAMPLES: [Example; 27] = [
+static EXAMPLES: [Example; 39] = [
     ("run hi.abt", "hi.out", 0),
     ("run empty.abt", "empty.out", 0),
     ("run wrap.abt", "wrap.out", 0),
@@ -55,6 +55,18 @@ static EXAMPLES: [Example; 27] = [
     ("run access.abt", "access.out", 0),
     ("run streams.abt", "streams.out", 0),
     ("run many.abt", "many.out", 0),
+    ("run dot.abt", "dot.out", 0),
+    ("run collatz.abt", "collatz.out", 0),
+    ("run primes.abt", "primes.out", 0),
+    ("run pipeline.abt", "pipeline.out", 0),
+    ("run gcd.abt", "gcd.out", 0),
+    ("run average.abt", "average.out", 0),
+    ("run bits.abt", "bits.out", 0),
+    ("run compare.abt", "compare.out", 0),
+    ("run factors.abt", "factors.out", 0),
+    ("run reduce.abt", "reduce.out", 0),
+    ("run tree.abt", "tree.out", 0),
+    ("run norm.abt", "norm.out", 0),
     ("flow flow.abt", "flow.out", 0),
     ("run stuck.abt", "stuck.out", 1),
     ("run budget.abt --steps 20", "budget.out", 4),
@@ -85,7 +97,14 @@ fn is_as_stored<R: Threads + Wait + Sync>(
     let mut err = MemorySink::new(alloc, ROOM, ROOM, Vec::new(alloc))?;
     let orders = [StoredOrder::rotating(), StoredOrder::mirroring()];
     let ended = abtrun(
-        rt, alloc, &words, files, &mut out, &mut err, &NoPace, &orders,
+        rt,
+        alloc,
+        &words,
+        files,
+        &mut out,
+        &mut err,
+        &TextFunctions,
+        &orders,
     );
     let stored = read_all(alloc, files, output, ROOM)?;
     Ok(ended.status == status && out.bytes() == stored.as_slice())

@@ -19,6 +19,7 @@ const KINDS: [&[&[&str]]; 3] = [
         &["miss", "look", "enter", "leave"],
         &["take", "put"],
         &["step"],
+        &["call"],
         &["end"],
     ],
     &[&[

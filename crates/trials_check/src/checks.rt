@@ -1,11 +1,14 @@
 //! Journals of worked runs, and journals that differ from them.
 
-ghost use Rattle.std.specs.Prelude.{◌≤◌, length};
+ghost use Rattle.std.specs.Prelude.{◌≡◌, ◌≤◌, ◌^◌, length};
+ghost use Rattle.abt_machine.specs.Stored.{CallsStored};
+ghost use Rattle.trials_check.specs.Sums.{sum_of};
 
 use abt_check::{Verdict, check};
-use abt_machine::{Want, Workload};
+use abt_machine::{StreamNo, UnitNo, Want, Workload};
 use abt_order::StoredOrder;
 use abt_report::read_journal;
+use abt_work::{AnyWork, Work};
 use abt_workload::read;
 use std::alloc::{AllocError, Global};
 use std::process::Abort;
@@ -74,7 +77,14 @@ pub(crate) const RW_WAITERS: &str =
 pub(crate) const RW_WAITERS_RUN: &str =
     "1 0 take 0 0, 2 0 look 0, 3 0 step 0 0 ok, 4 0 step 0 1 ok, 5 0 put 0 0, 6 0 take 0 1, 7 0 look 1, 8 0 step 1 0 ok, 9 0 take 0 2, 10 0 look 2, 11 0 step 2 0 ok, 12 0 take 0 3, 13 0 look 3, 14 0 step 3 0 ok, 15 0 take 0 4, 16 0 look 4, 17 0 step 4 0 ok, 18 0 put 4 0, 19 0 take 0 0, 20 0 look 0, 21 0 step 0 2 ok, 22 0 put 1 0, 23 0 end 0 done, 24 0 take 0 4, 25 0 look 4, 26 0 step 4 1 ok, 27 0 take 0 1, 28 0 look 1, 29 0 step 1 1 ok, 30 0 step 1 2 ok, 31 0 step 1 3 ok, 32 0 put 2 0, 33 0 end 1 done, 34 0 take 0 2, 35 0 look 2, 36 0 step 2 1 ok, 37 0 put 3 0, 38 0 put 4 0, 39 0 end 2 done, 40 0 take 0 3, 41 0 look 3, 42 0 step 3 1 ok, 43 0 end 3 done, 44 0 take 0 4, 45 0 look 4, 46 0 step 4 2 ok, 47 0 end 4 done, 48 0 miss 0";
 
-static CASES: [Case; 11] = [
+pub(crate) const CALLS: &str =
+    "abt 3\nstreams 1\nkeys 1\npool 0 fifo mpmc\nsched 0 prio 0\nstream 0 main 0\nunits 2\nunit 0 ult at 0\nset 5\nkset 0\ncalc mul 0\ncall 0\ncall 1\nprint\nunit 1 ult at 0\ncall 0\nend\n";
+
+// Function 0 returns the sum of its unit's number, accumulator and key, and function 1 any word.
+pub(crate) const CALLS_RUN: &str =
+    "1 0 take 0 0, 2 0 look 0, 3 0 step 0 0 ok, 4 0 step 0 1 ok, 5 0 step 0 2 ok, 6 0 call 0 3 30, 7 0 call 0 4 7, 8 0 step 0 5 ok, 9 0 end 0 done, 10 0 take 0 1, 11 0 look 1, 12 0 call 1 0 1, 13 0 end 1 done, 14 0 miss 0";
+
+static CASES: [Case; 12] = [
     Case {
         workload: HI,
         run: HI_RUN,
@@ -159,7 +169,76 @@ static CASES: [Case; 11] = [
             (26, "27 0 step 4 2 ok", Verdict::Bad { at: 26 }),
         ],
     },
+    Case {
+        workload: CALLS,
+        run: CALLS_RUN,
+        others: &[
+            (5, "6 0 call 0 3 31", Verdict::Bad { at: 5 }),
+            (5, "6 0 step 0 3 ok", Verdict::Bad { at: 5 }),
+            (5, "6 0 call 1 3 31", Verdict::Bad { at: 5 }),
+            (6, "7 0 call 0 4 18446744073709551615", RUN),
+            (6, "7 0 call 0 4 0, 8 0 step 0 5 ok", RUN),
+            (7, "8 0 call 0 5 7", Verdict::Bad { at: 7 }),
+            (11, "12 0 call 1 0 0", Verdict::Bad { at: 11 }),
+        ],
+    },
 ];
+
+// The same if nothing is known of the functions.
+static WITHOUT_FUNCTIONS: Case = Case {
+    workload: CALLS,
+    run: CALLS_RUN,
+    others: &[
+        (
+            5,
+            "6 0 call 0 3 31, 7 0 call 0 4 7, 8 0 step 0 5 ok, 9 0 end 0 done",
+            RUN,
+        ),
+        (
+            11,
+            "12 0 call 1 0 18446744073709551615, 13 0 end 1 done",
+            RUN,
+        ),
+        (5, "6 0 step 0 3 ok", Verdict::Bad { at: 5 }),
+        (7, "8 0 call 0 5 7", Verdict::Bad { at: 7 }),
+    ],
+};
+
+/// What the trials' units call: function 0 returns the sum of its unit's number, accumulator and first key modulo 2^64; of other
+/// functions nothing is known.
+pub(crate) struct Sums;
+
+// The sum modulo 2^64.
+fn sum(unit: UnitNo, acc: u64, keys: &[u64]) -> u64
+    ensures { result ≡ sum_of unit.0 acc keys.now }
+{
+    let key = keys.first().copied().unwrap_or(0);
+    acc.wrapping_add(key).wrapping_add(u64::from(unit.0))
+}
+
+impl Work for Sums {
+    ghost use Rattle.trials_check.specs.Sums.{summed};
+
+    ghost count = { λ _. 2 ^ 32 };
+
+    ghost returns = { λ _. summed };
+
+    fn before_step(&self, _stream: StreamNo, _unit: UnitNo, _at: u32) {}
+
+    fn call(&self, function: u32, unit: UnitNo, acc: u64, keys: &[u64]) -> u64 {
+        match function {
+            0 => sum(unit, acc, keys),
+            _ => acc,
+        }
+    }
+
+    fn accepts(&self, function: u32, unit: UnitNo, acc: u64, keys: &[u64], value: u64) -> bool {
+        match function {
+            0 => value == sum(unit, acc, keys),
+            _ => true,
+        }
+    }
+}
 
 /// The same if both stored orders are free.
 pub(crate) static FREE: Case = Case {
@@ -186,68 +265,78 @@ fn text_of(alloc: Global, run: &str, kept: usize, rest: &str) -> Result<String, 
 }
 
 // What a text is judged to be, if it is a journal's.
-pub(crate) fn verdict(
+pub(crate) fn verdict<P: Work>(
     rt: &impl Abort,
     alloc: Global,
     w: &Workload,
     orders: &[StoredOrder],
+    work: &P,
     text: &str,
 ) -> Result<Option<Verdict>, Want>
-    requires { 2 ≤ length orders.now }
+    requires orders { 2 ≤ length orders.now }
+    requires calls { CallsStored w.now (P.count work.now) }
 {
     assert!(rt; text.len() < 10_000);
     let Ok(journal) = read_journal(alloc, text.as_bytes()) else {
         return Ok(None);
     };
-    Ok(Some(check(alloc, w, orders, &journal)?))
+    Ok(Some(check(alloc, w, orders, work, &journal)?))
 }
 
 // Whether a journal that begins as a run does is judged as it is said.
-fn is_judged(
+fn is_judged<P: Work>(
     rt: &impl Abort,
     alloc: Global,
     w: &Workload,
     orders: &[StoredOrder],
+    work: &P,
     run: &str,
     other: Other,
 ) -> Result<bool, Want>
-    requires { 2 ≤ length orders.now }
+    requires orders { 2 ≤ length orders.now }
+    requires calls { CallsStored w.now (P.count work.now) }
 {
     let (kept, rest, wanted) = other;
     let text = text_of(alloc, run, kept, rest)?;
-    Ok(verdict(rt, alloc, w, orders, &text)? == Some(wanted))
+    Ok(verdict(rt, alloc, w, orders, work, &text)? == Some(wanted))
 }
 
 // The run and the other journals of a case, whose workload has been read, are judged as it says.
-fn check_journals(
+fn check_journals<P: Work>(
     rt: &impl Abort,
     alloc: Global,
     w: &Workload,
     orders: &[StoredOrder],
+    work: &P,
     case: &Case,
 ) -> Result<(), Want>
-    requires { 2 ≤ length orders.now }
+    requires orders { 2 ≤ length orders.now }
+    requires calls { CallsStored w.now (P.count work.now) }
 {
-    let is = is_judged(rt, alloc, w, orders, case.run, (usize::MAX, "", RUN))?;
+    let is = is_judged(rt, alloc, w, orders, work, case.run, (usize::MAX, "", RUN))?;
     assert!(rt; is, "{}", case.run);
     for other in case.others {
-        let is = is_judged(rt, alloc, w, orders, case.run, *other)?;
+        let is = is_judged(rt, alloc, w, orders, work, case.run, *other)?;
         assert!(rt; is, "{} of {}", other.1, case.run);
     }
     Ok(())
 }
 
 /// The run and the other journals of a case are judged as it says.
-pub(crate) fn check_case(
+#[tactic(auto, using(crate::proofs::Functions::calls_stored))]
+pub(crate) fn check_case<P: Work>(
     rt: &impl Abort,
     alloc: Global,
     orders: &[StoredOrder],
+    work: &P,
     case: &Case,
 ) -> Result<(), Fail>
-    requires { 2 ≤ length orders.now }
+    requires orders { 2 ≤ length orders.now }
+    requires functions { 8 ≤ P.count work.now }
 {
     let w = read(alloc, case.workload.as_bytes())?;
-    check_journals(rt, alloc, &w, orders, case)?;
+    w.known();
+    check_journals(rt, alloc, &w, orders, work, case)?;
     Ok(())
 }
 
@@ -255,7 +344,13 @@ pub(crate) fn check_case(
 fn journals_are_judged(rt: HostRuntime) -> Result<(), Fail> {
     let orders = [StoredOrder::rotating(), StoredOrder::mirroring()];
     for case in &CASES {
-        check_case(&rt, rt.alloc(), &orders, case)?;
+        check_case(&rt, rt.alloc(), &orders, &Sums, case)?;
     }
     Ok(())
+}
+
+#[test]
+fn without_functions_any_word_is_right(rt: HostRuntime) -> Result<(), Fail> {
+    let orders = [StoredOrder::rotating(), StoredOrder::mirroring()];
+    check_case(&rt, rt.alloc(), &orders, &AnyWork, &WITHOUT_FUNCTIONS)
 }

@@ -7,15 +7,17 @@ use std::alloc::{AllocError, Global};
 use std::test::Fail;
 
 const HEAD: &str =
-    "abt 1\nstreams 2\npool 0 fifo spsc from 0 to 1\npool 1 deque priv of 1\npool 2 fifo mpmc\nsched 0 basic 1 0\nsched 1 prio 2\nstream 0 main 1\nstream 1 main 0\nobject 0 mutex\nobject 1 mutex\nobject 2 cond 1\nobject 3 cond 0\nobject 4 eventual\nobject 5 future 2 sum\nobject 6 barrier 3\nobject 7 rwlock\nunits 3\nunit 0 ult at 2\n";
+    "abt 3\nstreams 2\nkeys 1\npool 0 fifo spsc from 0 to 1\npool 1 deque priv of 1\npool 2 fifo mpmc\nsched 0 basic 1 0\nsched 1 prio 2\nstream 0 main 1\nstream 1 main 0\nobject 0 mutex\nobject 1 mutex\nobject 2 cond 1\nobject 3 cond 0\nobject 4 eventual\nobject 5 future 2 sum\nobject 6 barrier 3\nobject 7 rwlock\nunits 3\nunit 0 ult at 2\n";
 
 const TAIL: &str = "unit 1 ult later\nunit 2 ult later\nend\n";
 
 const DESK_2: Option<Site> = Some(Site::Desk(UnitNo(2)));
 
 // The operations of unit 0, each with its site if stream 0 makes it and if stream 1 does.
-static SITES: [(&str, Option<Site>, Option<Site>); 17] = [
+static SITES: [(&str, Option<Site>, Option<Site>); 19] = [
     ("say a", None, None),
+    ("calc add 0", None, None),
+    ("call 0", None, None),
     ("yield", None, None),
     ("yieldto 1 0", None, Some(Site::Pool(PoolNo(0)))),
     (
@@ -94,6 +96,6 @@ fn operations_touch_sites(rt: HostRuntime) -> Result<(), Fail> {
         );
     }
     // behind the last operation
-    assert!(rt; step_site(&w, StreamNo(1), UnitNo(0), 17) == None);
+    assert!(rt; step_site(&w, StreamNo(1), UnitNo(0), 19) == None);
     Ok(())
 }

@@ -2,8 +2,8 @@
 
 use crate::parts::{Role, scheds, texts, unit};
 use abt_machine::{
-    Access, Combine, Kind, Mains, ObjectNo, Op, Parts, PoolNo, PoolPart, PoolParts, Rule, SchedNo,
-    StreamNo, Thing, Things, UnitNo, UnitParts,
+    Access, Calc, Combine, Kind, Mains, ObjectNo, Op, Parts, PoolNo, PoolPart, PoolParts, Rule,
+    SchedNo, StreamNo, Thing, Things, UnitNo, UnitParts,
 };
 use std::alloc::{AllocError, Global};
 use std::test::Fail;
@@ -57,10 +57,10 @@ enum Change {
 }
 
 // What makes it invalid.
-static REFUSED: [Change; 55] = [
+static REFUSED: [Change; 58] = [
     Change::Streams(0),
     Change::Streams(1),
-    Change::Streams(9),
+    Change::Streams(65),
     Change::Keys(17),
     // streams that are not declared
     Change::Access(Access::Priv(StreamNo(2))),
@@ -105,6 +105,8 @@ static REFUSED: [Change; 55] = [
     Change::Op(Op::Say(0)),
     Change::Op(Op::Say(2)),
     Change::Op(Op::KeyGet(1)),
+    Change::Op(Op::Calc(Calc::Add, 1)),
+    Change::Op(Op::Call(8)),
     Change::Op(Op::Join(UnitNo(3))),
     Change::Op(Op::Create(UnitNo(1), PoolNo(10))),
     Change::Op(Op::MigrateTo(UnitNo(1), StreamNo(2))),
@@ -124,6 +126,8 @@ static REFUSED: [Change; 55] = [
     Change::TaskOp(Op::Lock(ObjectNo(0))),
     Change::TaskOp(Op::ReadLock(ObjectNo(0))),
     Change::TaskOp(Op::WriteLock(ObjectNo(0))),
+    // a function that a tasklet may not call
+    Change::TaskOp(Op::Call(8)),
     // the scheduler that a unit is, and where units start
     Change::Unit(SchedNo(3), None),
     Change::Unit(SchedNo(1), None),
@@ -205,9 +209,21 @@ fn parts(alloc: Global, small: &Small) -> Result<Parts, AllocError> {
     })
 }
 
+// What it may have too.
+static TAKEN: [Change; 4] = [
+    Change::Op(Op::Calc(Calc::Gcd, 0)),
+    Change::Op(Op::Call(7)),
+    Change::TaskOp(Op::Calc(Calc::Lt, 0)),
+    Change::TaskOp(Op::Call(7)),
+];
+
 #[test]
 fn takes_a_small_workload(rt: HostRuntime) -> Result<(), Fail> {
     assert!(rt; parts(rt.alloc(), &SMALL)?.is_valid());
+    for (at, change) in TAKEN.iter().enumerate() {
+        let parts = parts(rt.alloc(), &changed(*change))?;
+        assert!(rt; parts.is_valid(), "change {at}");
+    }
     Ok(())
 }
 

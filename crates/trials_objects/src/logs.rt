@@ -21,14 +21,17 @@ fn miss(stamp: u64, stream: u32) -> Event
     }
 }
 
-// The log of a stream whose events have these stamps.
+// The log of a stream whose events have these stamps. What happened has a name, since the prover makes no plan for the append of a
+// type that is not named.
 fn log(alloc: Global, stream: u32, stamps: &[u64]) -> Result<Log, Want>
     requires { Rises stamps.now }
     ensures { IfOk result (IsLogOf (λ e. e.stamp) (λ e. e.stream.0) stream) }
 {
     let mut events = Vec::new(alloc);
     for stamp in stamps {
-        events.push(miss(*stamp, stream))?;
+        let event = miss(*stamp, stream);
+        let what: What = event.what;
+        events.push(Event { what, ..event })?;
     }
     Ok(Log::new(events))
 }

@@ -4,8 +4,8 @@ use abt_flow::{Flow, confluent, find_flow};
 use abt_machine::{Piece, Want, Workload};
 use abt_order::StoredOrder;
 use abt_report::Picture;
-use abt_stream::NoPace;
 use abt_waves::run_streams;
+use abt_work::AnyWork;
 use abt_workload::read;
 use std::alloc::{AllocError, Global};
 use std::sync::Wait;
@@ -54,9 +54,11 @@ fn chains(alloc: Global) -> Result<Workload, Fail> {
 }
 
 // The flow of a workload, if that is confluent and has one.
+#[tactic(auto, using(crate::proofs::Storing::stores_calls))]
 fn flow_of(alloc: Global, w: &Workload) -> Result<Option<Flow>, Want> {
     if confluent(alloc, w)? {
-        find_flow(alloc, w)
+        w.known();
+        find_flow(alloc, w, &AnyWork)
     } else {
         Ok(None)
     }
@@ -85,6 +87,7 @@ fn put_out(picture: &Picture, flow: &Flow) -> bool {
 }
 
 // Whether they put it out in a run on threads.
+#[tactic(auto, using(crate::proofs::Storing::stores_calls))]
 fn is_put_out<R: Threads + Wait + Sync>(
     rt: &R,
     alloc: Global,
@@ -92,7 +95,8 @@ fn is_put_out<R: Threads + Wait + Sync>(
     flow: &Flow,
 ) -> Result<bool, Want> {
     let orders = [StoredOrder::rotating(), StoredOrder::mirroring()];
-    let run = run_streams(rt, alloc, w, &orders, &NoPace, 10_000)?;
+    w.known();
+    let run = run_streams(rt, alloc, w, &orders, &AnyWork, 10_000)?;
     Ok(put_out(&run.picture, flow))
 }
 

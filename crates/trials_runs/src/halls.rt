@@ -6,7 +6,7 @@ use crate::drains::{SHARED_REPORT, shared};
 use abt_machine::{Want, Workload};
 use abt_order::StoredOrder;
 use abt_report::{count_steps, report};
-use abt_stream::NoPace;
+use abt_work::AnyWork;
 use hall_waves::run_in_hall;
 use std::alloc::Global;
 use std::sync::Wait;
@@ -17,6 +17,7 @@ use std::thread::Threads;
 const TIMES: u32 = 10;
 
 // The report of a run in a hall.
+#[tactic(auto, using(crate::proofs::Storing::stores_calls))]
 fn report_of<R: Threads + Wait + Sync>(
     rt: &R,
     alloc: Global,
@@ -25,7 +26,8 @@ fn report_of<R: Threads + Wait + Sync>(
 ) -> Result<Vec<u8>, Want>
     requires { 2 ≤ length orders.now }
 {
-    let run = run_in_hall(rt, alloc, w, orders, &NoPace, 10_000)?;
+    w.known();
+    let run = run_in_hall(rt, alloc, w, orders, &AnyWork, 10_000)?;
     let steps = count_steps(run.journal.items());
     report(alloc, w, &run.picture, run.outcome, steps)
 }

@@ -4,8 +4,8 @@ use crate::reports::is_reported;
 use abt_machine::Workload;
 use abt_order::StoredOrder;
 use abt_report::TextFault;
-use abt_stream::NoPace;
 use abt_streams::{Wave, read_lives, run_lives};
+use abt_work::AnyWork;
 use abt_workload::read;
 use std::alloc::Global;
 use std::sync::Wait;
@@ -147,6 +147,7 @@ fn are_waves(waves: &[Wave], wanted: &[Waved]) -> bool {
 }
 
 // Whether a run on lives has this report and these waves.
+#[tactic(auto, using(crate::proofs::Storing::stores_calls))]
 fn is_run<R: Threads + Wait + Sync>(
     rt: &R,
     alloc: Global,
@@ -157,7 +158,8 @@ fn is_run<R: Threads + Wait + Sync>(
 ) -> Result<bool, Fail> {
     let lives = read_lives(alloc, w, lives.as_bytes())?;
     let orders = [StoredOrder::rotating(), StoredOrder::mirroring()];
-    let run = run_lives(rt, alloc, w, &lives, &orders, &NoPace, 10_000)?;
+    w.known();
+    let run = run_lives(rt, alloc, w, &lives, &orders, &AnyWork, 10_000)?;
     Ok(
         is_reported(alloc, w, &run.journal, &run.picture, run.outcome, report)
             && are_waves(run.waves.items(), waves),

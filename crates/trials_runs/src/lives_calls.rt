@@ -3,7 +3,7 @@
 use abt_lives::abtwaves;
 use abt_order::StoredOrder;
 use abt_source::{MemoryFiles, MemorySink, NamedBytes};
-use abt_stream::NoPace;
+use abt_work::AnyWork;
 use std::alloc::{AllocError, Global};
 use std::sync::Wait;
 use std::test::Fail;
@@ -73,7 +73,7 @@ static ROWS: [Row<'static>; 14] = [
     ),
     (
         &["w", "l"],
-        "abt 3\n",
+        "abt 4\n",
         b"life",
         NONE,
         3,
@@ -150,7 +150,7 @@ fn leaves<R: Threads + Wait + Sync>(
     let mut err = MemorySink::new(alloc, ROOM, ROOM, Vec::new(alloc))?;
     let orders = [StoredOrder::rotating(), StoredOrder::mirroring()];
     let ended = abtwaves(
-        rt, alloc, words, files, &mut out, &mut err, &NoPace, &orders,
+        rt, alloc, words, files, &mut out, &mut err, &AnyWork, &orders,
     );
     Ok(
         ended.status == status

@@ -9,7 +9,8 @@ use crate::reports::is_text_of;
 use abt_commons::{Objects, Plain, PlainPass};
 use abt_machine::{Event, Journal, OrderShape, StreamNo, Want, Workload};
 use abt_order::StoredOrder;
-use abt_stream::{NoPace, Stream, Turn};
+use abt_stream::{Stream, Turn};
+use abt_work::AnyWork;
 use abt_workload::read;
 use std::alloc::{AllocError, Global};
 use std::process::Abort;
@@ -247,6 +248,7 @@ fn ends(turn: Turn, idle: bool) -> bool {
 }
 
 // The stream's turns until it ends.
+#[tactic(auto, using(crate::proofs::Storing::stores_calls))]
 fn drive<'w>(
     rt: &impl Abort,
     stream: &mut Stream,
@@ -260,9 +262,10 @@ fn drive<'w>(
     requires stored { (g : ℕ) → IsStored w.now g (length orders.now) }
     requires fits { FitsStream w.now stream.old }
 {
+    w.known();
     'turns: for _ in 0..MOST {
         prepare(rt, stream, w, orders)?;
-        let turn = stream.turn(plain, pass, w, &NoPace);
+        let turn = stream.turn(plain, pass, w, &AnyWork);
         if ends(turn, stream.is_idle()) {
             return Ok(());
         }

@@ -1,13 +1,16 @@
 //! Whole runs on threads, whose journals are judged to be runs, by what their reports say.
 
+ghost use Rattle.std.specs.Prelude.{None, ◌≤◌};
+ghost use Rattle.abt_machine.specs.Limits.{function_limit};
+
 use crate::drains::{SHARED_REPORT, shared};
 use crate::reports::is_reported;
 use abt_check::{Verdict, check};
 use abt_generate::generate;
 use abt_machine::{Outcome, StreamNo, UnitNo, Want, Workload};
 use abt_order::StoredOrder;
-use abt_stream::{NoPace, Pace};
 use abt_waves::run_streams;
+use abt_work::{AnyWork, Work};
 use abt_workload::read;
 use std::alloc::Global;
 use std::hint::spin_loop;
@@ -56,7 +59,11 @@ impl Meeting {
     }
 }
 
-impl Pace for Meeting {
+impl Work for Meeting {
+    ghost count = { λ _. function_limit };
+
+    ghost returns = { λ _ _ _ _ _. None };
+
     fn before_step(&self, stream: StreamNo, _unit: UnitNo, _at: u32) {
         if stream != self.held {
             self.reached.store(true, Ordering::SeqCst);
@@ -70,24 +77,43 @@ impl Pace for Meeting {
             spin_loop();
         }
     }
+
+    fn call(&self, _function: u32, _unit: UnitNo, acc: u64, _keys: &[u64]) -> u64 {
+        acc
+    }
+
+    fn accepts(
+        &self,
+        _function: u32,
+        _unit: UnitNo,
+        _acc: u64,
+        _keys: &[u64],
+        _value: u64,
+    ) -> bool {
+        true
+    }
 }
 
 // Whether a run on threads has this report, or is finished if none is stated, and has a journal that is judged to be a run.
-fn is_run<R: Threads + Wait + Sync, P: Pace + Sync>(
+#[tactic(auto, using(crate::proofs::Storing::stores_calls))]
+fn is_run<R: Threads + Wait + Sync, P: Work + Sync>(
     rt: &R,
     alloc: Global,
     w: &Workload,
-    pace: &P,
+    work: &P,
     steps: u64,
     report: Option<&str>,
-) -> Result<bool, Want> {
+) -> Result<bool, Want>
+    requires { function_limit ≤ P.count work.now }
+{
+    w.known();
     let orders = [StoredOrder::rotating(), StoredOrder::mirroring()];
-    let run = run_streams(rt, alloc, w, &orders, pace, steps)?;
+    let run = run_streams(rt, alloc, w, &orders, work, steps)?;
     let is = match report {
         Some(text) => is_reported(alloc, w, &run.journal, &run.picture, run.outcome, text),
         None => run.outcome == Outcome::Finished,
     };
-    Ok(is && check(alloc, w, &orders, &run.journal)? == Verdict::Run)
+    Ok(is && check(alloc, w, &orders, work, &run.journal)? == Verdict::Run)
 }
 
 // As `is_run`, of each of several runs of at most 10,000 steps a stream.
@@ -98,7 +124,7 @@ fn are_runs<R: Threads + Wait + Sync>(
     report: Option<&str>,
 ) -> Result<bool, Want> {
     for _ in 0..TIMES {
-        if !is_run(rt, alloc, w, &NoPace, 10_000, report)? {
+        if !is_run(rt, alloc, w, &AnyWork, 10_000, report)? {
             return Ok(false);
         }
     }
@@ -134,7 +160,7 @@ fn journals_of_threads_are_judged_runs(rt: HostRuntime) -> Result<(), Fail> {
 // As `is_run`, of a barrier that lets 4,001 units through.
 fn let_through<R: Threads + Wait + Sync>(rt: &R, alloc: Global) -> Result<bool, Fail> {
     let w = read(alloc, BARRIER.as_bytes())?;
-    Ok(is_run(rt, alloc, &w, &NoPace, 100_000, None)?)
+    Ok(is_run(rt, alloc, &w, &AnyWork, 100_000, None)?)
 }
 
 #[test]

@@ -1,13 +1,18 @@
 //! Confluent workloads and their flows, and workloads that miss one condition of confluence each.
 
+ghost use Rattle.std.specs.Prelude.{◌≤◌};
+ghost use Rattle.abt_machine.specs.Limits.{function_limit};
+
 use abt_flow::{Flow, confluent, find_flow};
+use abt_functions::TextFunctions;
 use abt_machine::{Piece, Want, Workload};
+use abt_work::{AnyWork, Work};
 use abt_workload::read;
 use std::alloc::{AllocError, Global};
 use std::test::Fail;
 
 // What stands before the access of the pool, and what between that and the number of units.
-static HEAD: &str = "abt 1\nstreams 1\nkeys 1\npool 0 fifo ";
+static HEAD: &str = "abt 3\nstreams 1\nkeys 1\npool 0 fifo ";
 
 static OBJECTS: &str =
     "\nsched 0 basic 0\nstream 0 main 0\nobject 0 eventual\nobject 1 eventual\nobject 2 mutex\nobject 3 rwlock\n";
@@ -26,10 +31,11 @@ const SETS: &str = "unit 1 ult at 0\nset 1\neset 0\n";
 const SETS_LATER: &str = "unit 1 ult later\nset 1\neset 0\n";
 
 // The access of the pool, unit 0's operations, unit 1, and whether the workload is confluent.
-static CONFLUENCE: [(&str, &str, &str, bool); 9] = [
+static CONFLUENCE: [(&str, &str, &str, bool); 10] = [
     (OPEN, "ewait 0\n", SETS, true),
     (OPEN, "create 1 0\n", SETS_LATER, true),
     ("mpsc to 0", "create 1 0\n", SETS_LATER, true),
+    (OPEN, "call 0\ncalc gcd 0\n", SETS, true),
     (OPEN, "trylock 2\n", SETS, false),
     (OPEN, "rdlock 3\n", SETS, false),
     (OPEN, "eset 0\n", SETS, false),
@@ -43,8 +49,11 @@ static CONFLUENCE: [(&str, &str, &str, bool); 9] = [
     ("priv of 0", "create 1 0\n", SETS_LATER, false),
 ];
 
+// It calls a function, and computes with what that returns.
+const CALLS: &str = "set 27\ncall 0\nkset 0\nset 18\ncalc gcd 0\nprint\neset 0\n";
+
 // Unit 0's operations, two more units, and what each puts out, if there is a flow.
-static FLOWS: [(&str, &str, Option<[&[Piece]; 3]>); 6] = [
+static FLOWS: [(&str, &str, Option<[&[Piece]; 3]>); 7] = [
     (
         "set 9\nkset 0\newait 0\nprint\nkget 0\nprint\n",
         "unit 1 ult at 0\nset 4\nadd 1\neset 0\nprint\nunit 2 ult later\nset 4\n",
@@ -64,6 +73,12 @@ static FLOWS: [(&str, &str, Option<[&[Piece]; 3]>); 6] = [
         "",
         "unit 1 ult at 0\nunit 2 ult later\n",
         Some([&[], &[], &[]]),
+    ),
+    // Collatz's sequence from 27 has 112 terms, and 2 is the greatest that divides 112 and 18
+    (
+        CALLS,
+        "unit 1 ult at 0\newait 0\nprint\nunit 2 ult later\n",
+        Some([&[Piece::Number(2)], &[Piece::Number(2)], &[]]),
     ),
     // it waits for itself, for one that waits for it, and for one that is not reached
     (
@@ -129,19 +144,28 @@ fn puts_out(flow: &Flow, wanted: &[&[Piece]]) -> bool {
             .all(|(row, output)| row.items() == *output)
 }
 
-// Whether the workload is confluent, and its units put this out by its flow or have no flow.
-fn has_flow(alloc: Global, w: &Workload, wanted: Option<[&[Piece]; 3]>) -> Result<bool, Want> {
+// Whether the workload is confluent, and its units put this out by its flow with these functions or have no flow.
+#[tactic(auto, using(crate::proofs::Storing::stores_calls))]
+fn has_flow<P: Work>(
+    alloc: Global,
+    w: &Workload,
+    work: &P,
+    wanted: Option<[&[Piece]; 3]>,
+) -> Result<bool, Want>
+    requires calls { function_limit ≤ P.count work.now }
+{
     if !confluent(alloc, w)? {
         return Ok(false);
     }
-    Ok(match (find_flow(alloc, w)?, wanted) {
+    w.known();
+    Ok(match (find_flow(alloc, w, work)?, wanted) {
         (Some(flow), Some(outputs)) => puts_out(&flow, &outputs),
         (None, None) => true,
         _ => false,
     })
 }
 
-// So it is of three units.
+// So it is of three units, which call the functions of texts.
 fn flows(
     alloc: Global,
     first: &str,
@@ -149,7 +173,20 @@ fn flows(
     wanted: Option<[&[Piece]; 3]>,
 ) -> Result<bool, Fail> {
     let w = workload(alloc, OPEN, THREE, first, others)?;
-    Ok(has_flow(alloc, &w, wanted)?)
+    Ok(has_flow(alloc, &w, &TextFunctions, wanted)?)
+}
+
+// Whether two units of which the first calls a function that may return any word have no flow.
+fn has_none(alloc: Global) -> Result<bool, Fail> {
+    let w = workload(alloc, OPEN, TWO, CALLS, "unit 1 ult later\n")?;
+    Ok(has_flow(alloc, &w, &AnyWork, None)?)
+}
+
+#[test]
+fn free_functions_have_no_flow(rt: HostRuntime) -> Result<(), Fail> {
+    let has = has_none(rt.alloc())?;
+    assert!(rt; has);
+    Ok(())
 }
 
 #[test]

@@ -1,60 +1,62 @@
 //! Journals, written and read back.
 
-use abt_machine::{Cause, Code, Event, Journal, PoolNo, StreamNo, UnitNo, What};
+use abt_machine::{Cause, Code, Event, Journal, PoolNo, Returned, StreamNo, UnitNo, What};
 use abt_report::{TextFault, journal_text, read_journal};
 use std::alloc::{AllocError, Global};
 use std::test::Fail;
 
+// Texts of journals on stream 0, whose stamps are 1, 2, 3 and so on, each with what happened.
+
 const HI_TEXT: &str = "1 0 take 0 0\n2 0 look 0\n3 0 step 0 0 ok\n4 0 end 0 done\n5 0 miss 0\n";
 
-const HI: &[What] = &[
-    What::Take(PoolNo(0), UnitNo(0)),
-    What::Look(UnitNo(0)),
-    What::Step(UnitNo(0), 0, Code::Ok),
-    What::End(UnitNo(0), Cause::Done),
-    What::Miss(PoolNo(0)),
-];
+fn hi() -> [What; 5] {
+    [
+        What::Take(PoolNo(0), UnitNo(0)),
+        What::Look(UnitNo(0)),
+        What::Step(UnitNo(0), 0, Code::Ok),
+        What::End(UnitNo(0), Cause::Done),
+        What::Miss(PoolNo(0)),
+    ]
+}
 
 const OTHERS_TEXT: &str =
-    "1 0 take 3 7\n2 0 put 7 3\n3 0 end 7 asked\n4 0 end 7 access\n5 0 end 7 own\n6 0 enter 7\n7 0 leave 7\n8 0 step 4294967295 4294967295 future-full\n";
+    "1 0 take 3 7\n2 0 put 7 3\n3 0 end 7 asked\n4 0 end 7 access\n5 0 end 7 own\n6 0 enter 7\n7 0 leave 7\n8 0 step 4294967295 4294967295 future-full\n9 0 call 7 1 4294967296\n10 0 call 4294967295 4294967295 18446744073709551615\n";
 
-const OTHERS: &[What] = &[
-    What::Take(PoolNo(3), UnitNo(7)),
-    What::Put(UnitNo(7), PoolNo(3)),
-    What::End(UnitNo(7), Cause::Asked),
-    What::End(UnitNo(7), Cause::Access),
-    What::End(UnitNo(7), Cause::Own),
-    What::Enter(UnitNo(7)),
-    What::Leave(UnitNo(7)),
-    What::Step(UnitNo(u32::MAX), u32::MAX, Code::FutureFull),
-];
+fn others() -> [What; 10] {
+    [
+        What::Take(PoolNo(3), UnitNo(7)),
+        What::Put(UnitNo(7), PoolNo(3)),
+        What::End(UnitNo(7), Cause::Asked),
+        What::End(UnitNo(7), Cause::Access),
+        What::End(UnitNo(7), Cause::Own),
+        What::Enter(UnitNo(7)),
+        What::Leave(UnitNo(7)),
+        What::Step(UnitNo(u32::MAX), u32::MAX, Code::FutureFull),
+        What::Call(UnitNo(7), 1, Returned::new(4_294_967_296)),
+        What::Call(UnitNo(u32::MAX), u32::MAX, Returned::new(u64::MAX)),
+    ]
+}
 
 const CODES_TEXT: &str =
     "1 0 step 0 0 ok\n2 0 step 0 0 pool-access\n3 0 step 0 0 exists\n4 0 step 0 0 unit-state\n5 0 step 0 0 not-migratable\n6 0 step 0 0 absent\n7 0 step 0 0 mutex-locked\n8 0 step 0 0 not-owner\n9 0 step 0 0 eventual-set\n10 0 step 0 0 future-full\n11 0 step 0 0 rw-held\n12 0 step 0 0 rw-full\n13 0 step 0 0 not-holder\n";
 
-const CODES: &[What] = &[
-    What::Step(UnitNo(0), 0, Code::Ok),
-    What::Step(UnitNo(0), 0, Code::PoolAccess),
-    What::Step(UnitNo(0), 0, Code::Exists),
-    What::Step(UnitNo(0), 0, Code::UnitState),
-    What::Step(UnitNo(0), 0, Code::NotMigratable),
-    What::Step(UnitNo(0), 0, Code::Absent),
-    What::Step(UnitNo(0), 0, Code::MutexLocked),
-    What::Step(UnitNo(0), 0, Code::NotOwner),
-    What::Step(UnitNo(0), 0, Code::EventualSet),
-    What::Step(UnitNo(0), 0, Code::FutureFull),
-    What::Step(UnitNo(0), 0, Code::RwHeld),
-    What::Step(UnitNo(0), 0, Code::RwFull),
-    What::Step(UnitNo(0), 0, Code::NotHolder),
-];
-
-// Texts of journals on stream 0 whose stamps are 1, 2, 3 and so on, and what happened.
-static JOURNALS: [(&str, &[What]); 4] = [
-    ("", &[]),
-    (HI_TEXT, HI),
-    (OTHERS_TEXT, OTHERS),
-    (CODES_TEXT, CODES),
-];
+fn codes() -> [What; 13] {
+    [
+        What::Step(UnitNo(0), 0, Code::Ok),
+        What::Step(UnitNo(0), 0, Code::PoolAccess),
+        What::Step(UnitNo(0), 0, Code::Exists),
+        What::Step(UnitNo(0), 0, Code::UnitState),
+        What::Step(UnitNo(0), 0, Code::NotMigratable),
+        What::Step(UnitNo(0), 0, Code::Absent),
+        What::Step(UnitNo(0), 0, Code::MutexLocked),
+        What::Step(UnitNo(0), 0, Code::NotOwner),
+        What::Step(UnitNo(0), 0, Code::EventualSet),
+        What::Step(UnitNo(0), 0, Code::FutureFull),
+        What::Step(UnitNo(0), 0, Code::RwHeld),
+        What::Step(UnitNo(0), 0, Code::RwFull),
+        What::Step(UnitNo(0), 0, Code::NotHolder),
+    ]
+}
 
 // The journal of stream 0 in which this happened.
 fn journal_of(alloc: Global, happened: &[What]) -> Result<Journal, AllocError> {
@@ -99,10 +101,11 @@ fn is_written(alloc: Global, text: &str, happened: &[What]) -> Result<bool, Allo
 
 #[test]
 fn journals_are_written_and_read_back(rt: HostRuntime) -> Result<(), Fail> {
-    for (text, happened) in &JOURNALS {
-        let is = is_written(rt.alloc(), text, happened)?;
-        assert!(rt; is, "{text}");
-    }
+    let alloc = rt.alloc();
+    assert!(rt; is_written(alloc, "", &[])?);
+    assert!(rt; is_written(alloc, HI_TEXT, &hi())?);
+    assert!(rt; is_written(alloc, OTHERS_TEXT, &others())?);
+    assert!(rt; is_written(alloc, CODES_TEXT, &codes())?);
     Ok(())
 }
 
@@ -150,7 +153,7 @@ fn long_journals_are_written_and_read_back(rt: HostRuntime) -> Result<(), Fail> 
 }
 
 // Texts that are no journal's, and the first line at which none agrees.
-static BAD: [(&str, u32); 29] = [
+static BAD: [(&str, u32); 33] = [
     // row hi's, each line spoilt
     ("1 0 take 0 x\n2 0 look 0\n", 1),
     ("1 0 take 0 0\n2 0 lock 0\n3 0 step 0 0 ok\n", 2),
@@ -195,10 +198,14 @@ static BAD: [(&str, u32); 29] = [
     ("1 4294967296 miss 0\n", 1),
     ("1 0 miss 4294967296\n", 1),
     ("1 0 step 0 4294967296 ok\n", 1),
+    ("1 0 call 0 0 18446744073709551616\n", 1),
+    ("1 0 call 0 0 00\n", 1),
     // words
     ("1 0 Miss 0\n", 1),
     ("1 0 miss 0 0\n", 1),
     ("1 0 step 0 0 refused\n", 1),
+    ("1 0 call 0 0\n", 1),
+    ("1 0 call 0 0 0 ok\n", 1),
     ("1 0\n", 1),
 ];
 

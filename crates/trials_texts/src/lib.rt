@@ -8,6 +8,8 @@ mod files;
 #[cfg(test)]
 mod flows;
 #[cfg(test)]
+mod formats;
+#[cfg(test)]
 mod generated;
 #[cfg(test)]
 mod journals;

@@ -11,12 +11,16 @@ static BASE: &str = "abt 1\nstreams 1\npool 0 fifo mpmc\nsched 0 prio 0\nstream 
 // The same in format 2.
 static BASE_TWO: &str = "abt 2\nstreams 1\npool 0 fifo mpmc\nsched 0 prio 0\nstream 0 main 0\n";
 
+// The same in format 3, with a key.
+static BASE_THREE: &str =
+    "abt 3\nstreams 1\nkeys 1\npool 0 fifo mpmc\nsched 0 prio 0\nstream 0 main 0\n";
+
 // A text that is refused, the line and the fault.
 type Row = (&'static str, u32, Fault);
 
 // Whole texts.
-static ALONE: [Row; 32] = [
-    ("abt 3\n", 1, Fault::Version),
+static ALONE: [Row; 36] = [
+    ("abt 4\n", 1, Fault::Version),
     ("# a\n\nstreams 1\n", 3, Fault::Version),
     ("abt 01\n", 1, Fault::Version),
     ("walk\n", 1, Fault::Version),
@@ -92,10 +96,14 @@ static ALONE: [Row; 32] = [
     ),
     ("abt 2\nstreams 17\n", 2, Fault::Limit),
     ("abt 2\nstreams 16\npool 0 fifo mpmc\n", 4, Fault::NoEnd),
+    ("abt 3\nabt 3\n", 2, Fault::Shape),
+    ("abt 3 3\n", 1, Fault::Version),
+    ("abt 3\nstreams 65\n", 2, Fault::Limit),
+    ("abt 3\nstreams 64\npool 0 fifo mpmc\n", 4, Fault::NoEnd),
 ];
 
 // Texts below the base.
-static BELOW_BASE: [Row; 45] = [
+static BELOW_BASE: [Row; 47] = [
     ("units 1\nunit 0 ult at 0\nwalk\n", 8, Fault::Unknown),
     ("units 0\nend\nwalk\n", 8, Fault::Unknown),
     ("end\r\n", 6, Fault::Unknown),
@@ -193,10 +201,12 @@ static BELOW_BASE: [Row; 45] = [
         8,
         Fault::Unknown,
     ),
+    ("units 1\nunit 0 ult at 0\ncall 0\n", 8, Fault::Unknown),
+    ("units 1\nunit 0 ult at 0\ncalc foo\n", 8, Fault::Unknown),
 ];
 
 // Texts below the base in format 2.
-static BELOW_BASE_TWO: [Row; 34] = [
+static BELOW_BASE_TWO: [Row; 37] = [
     ("walk\n", 6, Fault::Unknown),
     ("units 1\nmany 0 1 ult\n", 7, Fault::Shape),
     ("units 1\nmany 0 ult at 0\n", 7, Fault::Shape),
@@ -299,6 +309,77 @@ static BELOW_BASE_TWO: [Row; 34] = [
         Fault::TaskBlocks,
     ),
     ("units 3\nmany 0 2 ult at 0\nend\n", 8, Fault::Missing),
+    ("units 1\nunit 0 ult at 0\ncall 0\n", 8, Fault::Unknown),
+    ("units 1\nunit 0 ult at 0\ncalc foo\n", 8, Fault::Unknown),
+    (
+        "units 1\nunit 0 ult at 0\nrepeat 2 call 0\n",
+        8,
+        Fault::Shape,
+    ),
+];
+
+// Texts below the base in format 3.
+static BELOW_BASE_THREE: [Row; 20] = [
+    ("call 0\n", 7, Fault::Shape),
+    ("units 1\nunit 0 ult at 0\ncall\n", 9, Fault::Shape),
+    ("units 1\nunit 0 ult at 0\ncalc foo 0\n", 9, Fault::Shape),
+    ("units 1\nunit 0 ult at 0\ncalc add\n", 9, Fault::Shape),
+    ("units 1\nunit 0 ult at 0\ncall x\n", 9, Fault::Number),
+    ("units 1\nunit 0 ult at 0\ncalc add x\n", 9, Fault::Number),
+    (
+        "units 1\nunit 0 ult at 0\ncalc add 1\n",
+        9,
+        Fault::Undeclared,
+    ),
+    ("units 1\nunit 0 ult at 0\ncall 8\n", 9, Fault::Limit),
+    (
+        "units 1\nunit 0 ult at 0\nrepeat 2 call 8\n",
+        9,
+        Fault::Limit,
+    ),
+    ("units 65537\n", 7, Fault::Limit),
+    ("units 0\nmany 0 0 ult at 0\n", 8, Fault::Limit),
+    (
+        "units 1\nunit 0 ult at 0\nrepeat 0 print\n",
+        9,
+        Fault::Limit,
+    ),
+    (
+        "units 1\nunit 0 ult at 0\nrepeat 4097 print\n",
+        9,
+        Fault::Limit,
+    ),
+    (
+        "units 1\nunit 0 ult at 0\nrepeat 4096 print\nprint\n",
+        10,
+        Fault::Limit,
+    ),
+    (
+        "units 257\nmany 0 257 ult later\nrepeat 4080 print\nprint\n",
+        10,
+        Fault::Limit,
+    ),
+    (
+        "units 257\nmany 0 256 ult later\nrepeat 4096 print\nunit 256 ult later\nprint\n",
+        11,
+        Fault::Limit,
+    ),
+    (
+        "units 1\nunit 0 task at 0\ncall 7\nrepeat 2 calc gcd 0\nyield\n",
+        11,
+        Fault::TaskBlocks,
+    ),
+    ("units 1\nunit 0 ult at 0\ncall 0\n", 10, Fault::NoEnd),
+    (
+        "units 65536\nmany 0 65536 ult later\nrepeat 16 print\n",
+        10,
+        Fault::NoEnd,
+    ),
+    (
+        "units 65536\nmany 0 65535 ult later\nend\n",
+        9,
+        Fault::Missing,
+    ),
 ];
 
 // Bytes that are no text.
@@ -310,13 +391,15 @@ static NO_TEXTS: [(&[u8], u32); 4] = [
 ];
 
 // The first bytes of texts, how long each is, and the line and the fault.
-static LENGTHS: [(&[u8], usize, u32, Fault); 6] = [
+static LENGTHS: [(&[u8], usize, u32, Fault); 8] = [
     (b"", 4_194_305, 0, Fault::Limit),
     (b"", 4_194_304, 2, Fault::NoEnd),
     (b"abt 1\n", 4_194_305, 0, Fault::Limit),
     (b"#\xff\nabt 2\n", 4_194_305, 1, Fault::Utf8),
     (b"# two\nabt 2\n", 8_388_609, 0, Fault::Limit),
     (b"# two\nabt 2\n", 8_388_608, 4, Fault::NoEnd),
+    (b"# three\nabt 3\n", 134_217_729, 0, Fault::Limit),
+    (b"# three\nabt 3\n", 134_217_728, 4, Fault::NoEnd),
 ];
 
 /// The line and the fault at which a text is refused, if it is.
@@ -348,6 +431,7 @@ fn each_fault_is_found_at_its_line(rt: HostRuntime) -> Result<(), Fail> {
         other_than_refused(rt.alloc(), "", &ALONE)?,
         other_than_refused(rt.alloc(), BASE, &BELOW_BASE)?,
         other_than_refused(rt.alloc(), BASE_TWO, &BELOW_BASE_TWO)?,
+        other_than_refused(rt.alloc(), BASE_THREE, &BELOW_BASE_THREE)?,
     ];
     for other in others {
         assert!(rt; other.is_none(), "{other:?}");

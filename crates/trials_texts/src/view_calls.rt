@@ -21,6 +21,16 @@ const REFUSED: &str = "{\"traceEvents\":[
 ]}
 ";
 
+const CALLED: &str = "{\"traceEvents\":[
+{\"ph\":\"M\",\"pid\":0,\"name\":\"process_name\",\"args\":{\"name\":\"abtrun\"}},
+{\"ph\":\"M\",\"pid\":0,\"tid\":0,\"name\":\"thread_name\",\"args\":{\"name\":\"stream 0\"}},
+{\"ph\":\"X\",\"pid\":0,\"tid\":0,\"ts\":1.0,\"dur\":1.8,\"name\":\"unit 7\"},
+{\"ph\":\"X\",\"pid\":0,\"tid\":0,\"ts\":1.1,\"dur\":0.6,\"name\":\"take\"},
+{\"ph\":\"X\",\"pid\":0,\"tid\":0,\"ts\":2.1,\"dur\":0.6,\"name\":\"call\"},
+{\"ph\":\"i\",\"pid\":0,\"tid\":0,\"ts\":2.4,\"s\":\"t\",\"name\":\"call, unit 7, returned 18446744073709551615\"}
+]}
+";
+
 const EXITED: &str = "{\"traceEvents\":[
 {\"ph\":\"M\",\"pid\":0,\"name\":\"process_name\",\"args\":{\"name\":\"abtrun\"}},
 {\"ph\":\"M\",\"pid\":0,\"tid\":0,\"name\":\"thread_name\",\"args\":{\"name\":\"stream 0\"}},
@@ -59,7 +69,7 @@ type Row = (
     &'static str,
 );
 
-static ROWS: [Row; 17] = [
+static ROWS: [Row; 18] = [
     ("trace,f", "", NEVER, 0, NOTHING, ""),
     (
         "trace,f",
@@ -70,6 +80,14 @@ static ROWS: [Row; 17] = [
         "",
     ),
     ("trace,f", "1 0 end 7 own\n", NEVER, 0, EXITED, ""),
+    (
+        "trace,f",
+        "1 0 take 0 7\n2 0 call 7 0 18446744073709551615\n",
+        NEVER,
+        0,
+        CALLED,
+        "",
+    ),
     (
         "trace,f",
         "1 0 step 7 0 ok\n2 0 put 8 0\n3 1 take 0 8\n",

@@ -47,8 +47,16 @@ const NESTED: &str = "1 0 take 0 0
 18 0 end 1 done
 ";
 
-// Stream 15 and unit 4,095 are the last of a workload.
-const LAST: &str = "1 15 enter 3\n1 16 enter 3\n2 15 put 4095 0\n3 15 put 4096 0\n";
+// Unit 0 calls a function, after which unit 1 is put.
+const CALLED: &str = "1 0 take 0 0
+2 0 look 0
+3 0 call 0 0 7
+4 0 put 1 0
+5 0 end 0 done
+";
+
+// Stream 63 and unit 65,535 are the last of a workload.
+const LAST: &str = "1 63 enter 3\n1 64 enter 3\n2 63 put 65535 0\n3 63 put 65536 0\n";
 
 // The stream, the unit, the first and the last stamp, and how many events the unit has there.
 type Times = (u32, u32, u64, u64, usize);
@@ -70,7 +78,7 @@ type View = (
     &'static [Points],
 );
 
-static VIEWS: [View; 3] = [
+static VIEWS: [View; 4] = [
     (
         STACKED,
         Some(&[
@@ -92,10 +100,16 @@ static VIEWS: [View; 3] = [
         ],
     ),
     (
+        CALLED,
+        Some(&[(0, 0, 1, 5, 4)]),
+        &[],
+        &[(1, Some((0, 3)), (0, 4), None)],
+    ),
+    (
         LAST,
         None,
-        &[(15, 3, 0, 1, 3)],
-        &[(4_095, Some((15, 1)), (15, 2), None)],
+        &[(63, 3, 0, 1, 3)],
+        &[(65_535, Some((63, 1)), (63, 2), None)],
     ),
 ];
 

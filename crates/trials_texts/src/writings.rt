@@ -28,9 +28,17 @@ const MANY: &str =
 const EACH: &str =
     "abt 1\nstreams 1\npool 0 fifo mpmc\nsched 0 prio 0\nstream 0 main 0\nobject 0 rwlock\nunits 3\nunit 0 ult at 0\nsay a\nsay a\nrdlock 0\nrdlock 0\nunit 1 ult at 0\nsay a\nsay a\nrdlock 0\nrdlock 0\nunit 2 task later\nend\n";
 
-// More streams than format 1 has.
-const NINE_STREAMS: &str =
-    "abt 2\nstreams 9\npool 0 fifo mpmc\nsched 0 prio 0\nsched 1 prio 0\nsched 2 prio 0\nsched 3 prio 0\nsched 4 prio 0\nsched 5 prio 0\nsched 6 prio 0\nsched 7 prio 0\nsched 8 prio 0\nstream 0 main 0\nstream 1 main 1\nstream 2 main 2\nstream 3 main 3\nstream 4 main 4\nstream 5 main 5\nstream 6 main 6\nstream 7 main 7\nstream 8 main 8\nunits 0\nend\n";
+// A text with each operation that format 3 alone has.
+const CALLS: &str =
+    "abt 3\nstreams 1\nkeys 1\npool 0 fifo mpmc\nsched 0 prio 0\nstream 0 main 0\nunits 1\nunit 0 ult at 0\ncalc add 0\ncalc sub 0\ncalc mul 0\ncalc div 0\ncalc rem 0\ncalc min 0\ncalc max 0\ncalc and 0\ncalc or 0\ncalc xor 0\ncalc eq 0\ncalc lt 0\ncalc gcd 0\ncall 0\ncall 7\nend\n";
+
+// Calls that are declared many at once.
+const CALLS_MANY: &str =
+    "abt 3\nstreams 1\npool 0 fifo mpmc\nsched 0 prio 0\nstream 0 main 0\nunits 2\nmany 0 2 task at 0\nrepeat 2 call 1\nend\n";
+
+// The same workload, each unit and each operation on a line of its own.
+const CALLS_EACH: &str =
+    "abt 3\nstreams 1\npool 0 fifo mpmc\nsched 0 prio 0\nstream 0 main 0\nunits 2\nunit 0 task at 0\ncall 1\ncall 1\nunit 1 task at 0\ncall 1\ncall 1\nend\n";
 
 // A text with lines in unusual order and spelling, and without its last line feed.
 const UNUSUAL: &str =
@@ -49,12 +57,13 @@ const COPIES_EACH: &str =
     "abt 1\nstreams 1\npool 0 fifo mpmc\nsched 0 prio 0\nsched 1 prio 0\nstream 0 main 0\nunits 7\nunit 0 ult at 0\nsay a\nunit 1 task later\nsay b\nsay b\nprint\nsay c\nunit 2 task later\nsay b\nsay b\nprint\nsay c\nunit 3 task later\nsay b\nsay b\nprint\nsay c\nunit 4 sched 1 at 0\nunit 5 ult later\nunit 6 ult later\nend\n";
 
 // Texts, each with the text in which its workload is written.
-static TEXTS: [(&str, &str); 9] = [
+static TEXTS: [(&str, &str); 10] = [
     (UNUSUAL, USUAL),
     (COPIES, COPIES_EACH),
     (MANY, EACH),
     (EACH, EACH),
-    (NINE_STREAMS, NINE_STREAMS),
+    (CALLS, CALLS),
+    (CALLS_MANY, CALLS_EACH),
     (STACKED_OTHERWISE, STACKED),
     (STACKED, STACKED),
     (PARTS, PARTS),
@@ -64,12 +73,19 @@ static TEXTS: [(&str, &str); 9] = [
 // One stream, one pool and one scheduler.
 static FRAME: &str = "streams 1\npool 0 fifo mpmc\nsched 0 prio 0\nstream 0 main 0\n";
 
-// Numbers of units, and lines that declare them with as many operations as there may be.
-static MOST: [(u32, &str); 2] = [
-    (4096, "many 0 4096 ult later\nrepeat 15 print\nprint\n"),
+// Formats, numbers of units, and lines that declare them with as many operations as there may be.
+static MOST: [(u32, u32, &str); 4] = [
+    (2, 4096, "many 0 4096 ult later\nrepeat 15 print\nprint\n"),
     (
+        2,
         257,
         "many 0 256 ult later\nrepeat 256 say a\nunit 256 ult later\n",
+    ),
+    (3, 65536, "many 0 65536 ult later\nrepeat 15 print\nprint\n"),
+    (
+        3,
+        257,
+        "many 0 256 ult later\nrepeat 4096 say a\nunit 256 ult later\n",
     ),
 ];
 
@@ -95,32 +111,6 @@ fn workloads_are_written_and_read_again(rt: HostRuntime) {
     }
 }
 
-// A workload of units that do nothing, each on a line of its own.
-fn idle(alloc: Global, version: u32, units: u32) -> Result<String, AllocError> {
-    let mut text = format!(in alloc; "abt {version}\n{FRAME}units {units}\n")?;
-    for u in 0..units {
-        writeln!(text, "unit {u} ult later")?;
-    }
-    text.push_str("end\n")?;
-    Ok(text)
-}
-
-// Whether a workload of so many idle units is written in that format.
-fn is_idle_written(alloc: Global, units: u32, version: u32) -> Result<bool, AllocError> {
-    let text = format!(in alloc; "abt 2\n{FRAME}units {units}\nmany 0 {units} ult later\nend\n")?;
-    let written = idle(alloc, version, units)?;
-    Ok(is_written(alloc, text.as_bytes(), written.as_bytes()))
-}
-
-#[test]
-fn more_than_256_units_are_written_in_format_2(rt: HostRuntime) -> Result<(), Fail> {
-    for (units, version) in [(256, 1), (257, 2), (4096, 2)] {
-        let is = is_idle_written(rt.alloc(), units, version)?;
-        assert!(rt; is, "{units} units");
-    }
-    Ok(())
-}
-
 // How many units the workload of a text has, if it is one's.
 fn count_units(alloc: Global, text: &str) -> Option<u32> {
     match read(alloc, text.as_bytes()) {
@@ -132,8 +122,8 @@ fn count_units(alloc: Global, text: &str) -> Option<u32> {
 #[test]
 fn so_many_operations_are_read(rt: HostRuntime) -> Result<(), Fail> {
     let alloc = rt.alloc();
-    for (units, lines) in &MOST {
-        let text = format!(in alloc; "abt 2\n{FRAME}units {units}\n{lines}end\n")?;
+    for (version, units, lines) in &MOST {
+        let text = format!(in alloc; "abt {version}\n{FRAME}units {units}\n{lines}end\n")?;
         assert!(rt; count_units(alloc, &text) == Some(*units), "{units} units");
     }
     Ok(())
