@@ -4,7 +4,6 @@
 
 mod booth;
 mod chains;
-mod commons;
 mod faults;
 mod streams;
 mod texts;
@@ -12,7 +11,7 @@ mod units;
 
 use std::{env, io};
 
-const USAGE: &str = "usage: abt_bench small|booth|chains|commons|streams|texts";
+const USAGE: &str = "usage: abt_bench small|booth|chains|streams|texts";
 
 // Words that are no subject are an error.
 fn refuse<R: Eprint>(rt: &R) -> io::Result<()> {
@@ -29,13 +28,11 @@ fn main(rt: HostRuntime) -> io::Result<()> {
         "small" => {
             booth::small(&rt, rt.alloc())?;
             chains::small(&rt, rt.alloc())?;
-            commons::small(&rt, rt.alloc())?;
             streams::small(&rt, rt.alloc())?;
             texts::small(&rt, rt.alloc())
         }
         "booth" => booth::times(&rt, rt.alloc()),
         "chains" => chains::times(&rt, rt.alloc()),
-        "commons" => commons::times(&rt, rt.alloc()),
         "streams" => streams::times(&rt, rt.alloc()),
         "texts" => texts::times(&rt, rt.alloc()),
         _ => refuse(&rt),

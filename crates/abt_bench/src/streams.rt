@@ -1,24 +1,18 @@
-//! Events of one stream, compared with the calls of objects that they make.
+//! Events of one stream.
 
 ghost use Rattle.std.specs.Prelude.{ℕ, ◌<◌};
 ghost use Rattle.abt_order.specs.Schedulers.{IsStored};
 
-mod bare;
 mod driving;
 mod loads;
 
-use self::bare::Bench;
 use self::driving::{is_ruled, stream_time};
 pub use self::loads::{Load, Work};
-use crate::faults::no_memory;
-use abt_barrier::Barrier;
-use abt_machine::{Want, Workload};
-use abt_monitor::Monitor;
-use bench_times::{Hundredths, each, least_and_middle, ratio};
+use abt_machine::Workload;
+use bench_times::{Hundredths, each, least_and_middle};
 use std::alloc::Global;
 use std::io;
 use std::rt::Clock;
-use std::time::{Duration, Instant};
 
 const ROUNDS: u32 = 201;
 
@@ -82,21 +76,19 @@ pub fn times<R: Print + Clock>(rt: &R, alloc: Global) -> io::Result<()> {
     Ok(())
 }
 
-// The events of a load, and the calls of objects that they make, in turn.
+// The events of a load.
 fn load_times<R: Print + Clock>(rt: &R, alloc: Global, load: Load, w: &Workload) -> io::Result<()>
     requires some { 0 < w.now.streams }
     requires stored { (g : ℕ) → IsStored w.now g 0 }
 {
     let mut streams = Vec::new(alloc);
-    let mut calls = Vec::new(alloc);
     let mut events: u64 = 0;
     for _ in 0..ROUNDS {
         let (made, took) = stream_time(rt, alloc, w)?;
         events = made;
         streams.push(each(took, u128::from(made)))?;
-        calls.push(each(bare_time(rt, alloc, load, w)?, u128::from(made)))?;
     }
-    print_load(rt, load.name(), events, &mut streams, &mut calls)
+    print_load(rt, load.name(), events, &mut streams)
 }
 
 fn print_load<R: Print>(
@@ -104,59 +96,12 @@ fn print_load<R: Print>(
     name: &str,
     events: u64,
     streams: &mut Vec<u128>,
-    calls: &mut Vec<u128>,
 ) -> io::Result<()> {
     let (least, middle) = least_and_middle(streams)?;
-    let (bare_least, bare_middle) = least_and_middle(calls)?;
     println!(rt;
         "{name}: {events} events, {shown_least} least, {shown_middle} middle (ns an event), {rate} events a second in the middle",
         shown_least = Hundredths(least),
         shown_middle = Hundredths(middle),
         rate = 100_000_000_000 / middle.max(1)
-    )?;
-    println!(rt;
-        "{name}, objects alone: {shown_least} least, {shown_middle} middle (ns an event); the stream takes {ratio_least}, {ratio_middle} times as long",
-        shown_least = Hundredths(bare_least),
-        shown_middle = Hundredths(bare_middle),
-        ratio_least = ratio(least, bare_least),
-        ratio_middle = ratio(middle, bare_middle)
     )
-}
-
-// What the calls of the objects take.
-fn bare_time<R: Clock>(rt: &R, alloc: Global, load: Load, w: &Workload) -> io::Result<Duration> {
-    match placed_time(rt, alloc, load, w) {
-        Ok(took) => took,
-        Err(Want) => Err(no_memory()),
-    }
-}
-
-// The same, once the objects are made.
-fn placed_time<R: Clock>(
-    rt: &R,
-    alloc: Global,
-    load: Load,
-    w: &Workload,
-) -> Result<io::Result<Duration>, Want> {
-    let mut bench = Bench::new(alloc, w)?;
-    let mut monitor = Monitor::new(alloc, 0)?;
-    let mut barrier = Barrier::new(load.units.max(1));
-    Ok(time(rt, load, &mut bench, &mut monitor, &mut barrier))
-}
-
-fn time<R: Clock>(
-    rt: &R,
-    load: Load,
-    bench: &mut Bench,
-    monitor: &mut Monitor,
-    barrier: &mut Barrier,
-) -> io::Result<Duration> {
-    let start = Instant::now(rt)?;
-    match load.work {
-        Work::Yields => bench.yields(load.units.saturating_mul(load.times)),
-        Work::Locks => bench.locks(monitor, load.times),
-        Work::Joins => bench.joins(),
-        Work::Barriers => bench.barriers(barrier, load.units.saturating_mul(load.times)),
-    }
-    start.elapsed(rt)
 }

@@ -156,10 +156,13 @@ fn event(n: u32) -> Event {
     }
 }
 
+// So many events. What happened has a name, since the prover makes no plan for the append of a type that is not named.
 fn journal(alloc: Global, events: u32) -> io::Result<Journal> {
     let mut all = Vec::new(alloc);
     for n in 0..events {
-        all.push(event(n))?;
+        let event = event(n);
+        let what: What = event.what;
+        all.push(Event { what, ..event })?;
     }
     Ok(Journal::new(all))
 }

@@ -3,14 +3,16 @@
 
 ghost use Rattle.std.specs.Prelude.{◌≤◌, length};
 
+use crate::turning::{Length, Turning};
 use abt_check::{Verdict, check};
 use abt_commons::Objects;
 use abt_drain::{Run, drain, start_streams};
 use abt_machine::{Journal, Want, Workload};
 use abt_order::StoredOrder;
 use abt_report::{TextFault, journal_text, read_journal};
-use abt_stream::{NoPace, Stream};
+use abt_stream::Stream;
 use abt_waves::{run_streams, run_wave};
+use abt_work::AnyWork;
 use std::alloc::Global;
 use std::io;
 use std::sync::Wait;
@@ -34,6 +36,7 @@ pub fn drained(alloc: Global, w: &Workload, steps: u64) -> io::Result<Run> {
 }
 
 /// A run of a workload on threads.
+#[tactic(auto, using(crate::proofs::Storing::stores_calls))]
 pub fn threaded<R: Threads + Wait + Sync>(
     rt: &R,
     alloc: Global,
@@ -41,7 +44,23 @@ pub fn threaded<R: Threads + Wait + Sync>(
     steps: u64,
 ) -> io::Result<Run> {
     let orders = [StoredOrder::rotating(), StoredOrder::mirroring()];
-    run_streams(rt, alloc, w, &orders, &NoPace, steps).map_err(no_memory)
+    w.known();
+    run_streams(rt, alloc, w, &orders, &AnyWork, steps).map_err(no_memory)
+}
+
+/// A run of a workload on threads, whose units call functions of this length.
+#[tactic(auto, using(crate::proofs::Storing::stores_calls))]
+pub fn calling<R: Threads + Wait + Sync>(
+    rt: &R,
+    alloc: Global,
+    w: &Workload,
+    length: Length,
+    steps: u64,
+) -> io::Result<Run> {
+    let orders = [StoredOrder::rotating(), StoredOrder::mirroring()];
+    let turning = Turning { length };
+    w.known();
+    run_streams(rt, alloc, w, &orders, &turning, steps).map_err(no_memory)
 }
 
 /// How many events the streams of a workload make in a first wave, on threads. Their logs are not merged.
@@ -61,6 +80,7 @@ pub fn waved<R: Threads + Wait + Sync>(
 }
 
 // The streams of a workload after a first wave.
+#[tactic(auto, using(crate::proofs::Storing::stores_calls))]
 fn first_wave<'w, R: Threads + Wait + Sync>(
     rt: &'w R,
     alloc: Global,
@@ -74,14 +94,16 @@ fn first_wave<'w, R: Threads + Wait + Sync>(
     let streams = start_streams(alloc, w, steps)?;
     let objects = Objects::place(alloc, w)?;
     let live = vec![in alloc; true; w.streams() as usize]?;
-    let (_, streams) = run_wave(rt, alloc, w, orders, &NoPace, objects, streams, &live)?;
+    let (_, streams) = run_wave(rt, alloc, w, orders, &AnyWork, objects, streams, &live)?;
     Ok(streams)
 }
 
 /// Whether a journal is a run of a workload.
+#[tactic(auto, using(crate::proofs::Storing::stores_calls))]
 pub fn judged(alloc: Global, w: &Workload, journal: &Journal) -> io::Result<Verdict> {
     let orders = [StoredOrder::rotating(), StoredOrder::mirroring()];
-    check(alloc, w, &orders, journal).map_err(no_memory)
+    w.known();
+    check(alloc, w, &orders, &AnyWork, journal).map_err(no_memory)
 }
 
 /// The text of the journal of a workload's run on this thread.

@@ -29,6 +29,29 @@ pub struct Figures {
     events: Spread,
 }
 
+/// What is counted of a round: the events of its journal, or the operations of its units.
+#[derive(Clone, Copy)]
+pub enum Counted {
+    Events,
+    Operations,
+}
+
+impl Counted {
+    fn one(self) -> &'static str {
+        match self {
+            Counted::Events => "an event",
+            Counted::Operations => "an operation",
+        }
+    }
+
+    fn many(self) -> &'static str {
+        match self {
+            Counted::Events => "events",
+            Counted::Operations => "operations",
+        }
+    }
+}
+
 // What is asked of a round.
 #[derive(Clone, Copy)]
 enum Measure {
@@ -85,9 +108,11 @@ impl Figures {
         })
     }
 
-    pub fn print<R: Print>(&self, rt: &R, name: &str) -> io::Result<()> {
+    pub fn print<R: Print>(&self, rt: &R, name: &str, counted: Counted) -> io::Result<()> {
+        let many = counted.many();
+        let one = counted.one();
         println!(rt;
-            "{name}: {events} events, {least} least, {middle} middle (ns an event), {rate} events a second in the middle",
+            "{name}: {events} {many}, {least} least, {middle} middle (ns {one}), {rate} {many} a second in the middle",
             events = self.events.middle,
             least = Hundredths(self.each.least),
             middle = Hundredths(self.each.middle),
@@ -111,14 +136,16 @@ impl Figures {
         name: &str,
         other: Figures,
         other_name: &str,
+        counted: Counted,
     ) -> io::Result<()> {
+        let many = counted.many();
         println!(rt;
-            "{name} beside {other_name}: {least} times the events a second by the least, {middle} by the middle",
+            "{name} beside {other_name}: {least} times the {many} a second by the least, {middle} by the middle",
             least = ratio(other.each.least, self.each.least),
             middle = ratio(other.each.middle, self.each.middle)
         )?;
         println!(rt;
-            "{name} beside {other_name}: {least} times the time by the least, {middle} by the middle; {events} times the events",
+            "{name} beside {other_name}: {least} times the time by the least, {middle} by the middle; {events} times the {many}",
             least = ratio(self.whole.least, other.whole.least),
             middle = ratio(self.whole.middle, other.whole.middle),
             events = ratio(self.events.middle, other.events.middle)

@@ -30,9 +30,19 @@ pub enum Load {
     BusyBesideOne,
     /// The same, with seven streams without a unit.
     BusyBesideSeven,
+    /// A stream whose units set their accumulators.
+    Setting,
+    /// A stream whose units call as often.
+    Calling,
+    /// A stream whose units call once each.
+    CallsOfOne,
+    /// Two streams that have as many of these units together.
+    CallsOfTwo,
+    /// Four streams that have as many together.
+    CallsOfFour,
 }
 
-pub const LOADS: [Load; 10] = [
+pub const LOADS: [Load; 15] = [
     Load::One,
     Load::Four,
     Load::OneOfFour,
@@ -43,6 +53,11 @@ pub const LOADS: [Load; 10] = [
     Load::Busy,
     Load::BusyBesideOne,
     Load::BusyBesideSeven,
+    Load::Setting,
+    Load::Calling,
+    Load::CallsOfOne,
+    Load::CallsOfTwo,
+    Load::CallsOfFour,
 ];
 
 const ONE_STREAM: &str = "abt 2
@@ -201,6 +216,86 @@ stream 7 main 7
     BUSY_UNITS,
 ];
 
+static SETTING: [&str; 1] = [
+    "abt 3
+streams 1
+pool 0 fifo mpmc
+sched 0 prio 0
+stream 0 main 0
+units 64
+many 0 64 ult at 0
+repeat 1000 set 1
+",
+];
+
+static CALLING: [&str; 1] = [
+    "abt 3
+streams 1
+pool 0 fifo mpmc
+sched 0 prio 0
+stream 0 main 0
+units 64
+many 0 64 ult at 0
+repeat 1000 call 0
+",
+];
+
+static CALLS_OF_ONE: [&str; 1] = [
+    "abt 3
+streams 1
+pool 0 fifo mpmc
+sched 0 prio 0
+stream 0 main 0
+units 2048
+many 0 2048 task at 0
+call 0
+",
+];
+
+static CALLS_OF_TWO: [&str; 1] = [
+    "abt 3
+streams 2
+pool 0 fifo mpmc
+pool 1 fifo mpmc
+sched 0 prio 0
+sched 1 prio 1
+stream 0 main 0
+stream 1 main 1
+units 2048
+many 0 1024 task at 0
+call 0
+many 1024 1024 task at 1
+call 0
+",
+];
+
+static CALLS_OF_FOUR: [&str; 1] = [
+    "abt 3
+streams 4
+pool 0 fifo mpmc
+pool 1 fifo mpmc
+pool 2 fifo mpmc
+pool 3 fifo mpmc
+sched 0 prio 0
+sched 1 prio 1
+sched 2 prio 2
+sched 3 prio 3
+stream 0 main 0
+stream 1 main 1
+stream 2 main 2
+stream 3 main 3
+units 2048
+many 0 512 task at 0
+call 0
+many 512 512 task at 1
+call 0
+many 1024 512 task at 2
+call 0
+many 1536 512 task at 3
+call 0
+",
+];
+
 // How many units of `Load::Pool` create others, and how many each creates.
 const CREATORS: u32 = 15;
 
@@ -226,6 +321,11 @@ impl Load {
             Load::Busy => "a busy stream",
             Load::BusyBesideOne => "a busy stream beside an idle one",
             Load::BusyBesideSeven => "a busy stream beside seven idle ones",
+            Load::Setting => "a stream that sets",
+            Load::Calling => "a stream that calls",
+            Load::CallsOfOne => "one stream of calls",
+            Load::CallsOfTwo => "two streams of calls",
+            Load::CallsOfFour => "four streams of calls",
         }
     }
 
@@ -261,6 +361,11 @@ impl Load {
             Load::Busy => &BUSY,
             Load::BusyBesideOne => &BUSY_BESIDE_ONE,
             Load::BusyBesideSeven => &BUSY_BESIDE_SEVEN,
+            Load::Setting => &SETTING,
+            Load::Calling => &CALLING,
+            Load::CallsOfOne => &CALLS_OF_ONE,
+            Load::CallsOfTwo => &CALLS_OF_TWO,
+            Load::CallsOfFour => &CALLS_OF_FOUR,
         }
     }
 }

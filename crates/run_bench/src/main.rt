@@ -9,24 +9,26 @@ mod races;
 mod rounds;
 mod small;
 mod subjects;
+mod turning;
 
 use crate::races::races;
 use crate::small::small;
-use crate::subjects::{CHECK, IDLE, SHARED, THREADS};
+use crate::subjects::{CALLS, CHECK, IDLE, SHARED, THREADS};
 use std::alloc::Global;
 use std::rt::Clock;
 use std::sync::Wait;
 use std::thread::Threads;
 use std::{env, io};
 
-const USAGE: &str = "usage: run_bench small|threads|shared|idle|check|all";
+const USAGE: &str = "usage: run_bench small|threads|shared|idle|check|calls|all";
 
 // All subjects, one after the other.
 fn all<R: Threads + Wait + Sync + Print + Clock>(rt: &R, alloc: Global) -> io::Result<()> {
     races(rt, alloc, &THREADS)?;
     races(rt, alloc, &SHARED)?;
     races(rt, alloc, &IDLE)?;
-    races(rt, alloc, &CHECK)
+    races(rt, alloc, &CHECK)?;
+    races(rt, alloc, &CALLS)
 }
 
 // The subject of that name.
@@ -41,6 +43,7 @@ fn subject<R: Threads + Wait + Sync + Print + Eprint + Clock>(
         "shared" => races(rt, alloc, &SHARED),
         "idle" => races(rt, alloc, &IDLE),
         "check" => races(rt, alloc, &CHECK),
+        "calls" => races(rt, alloc, &CALLS),
         "all" => all(rt, alloc),
         _ => refuse(rt),
     }

@@ -37,7 +37,7 @@ impl Racer {
 
     // Its figures, printed.
     fn print<R: Print>(&self, rt: &R, figures: Figures) -> io::Result<()> {
-        figures.print(rt, &self.name)?;
+        figures.print(rt, &self.name, self.task.counted())?;
         match self.task.bytes() {
             Some(bytes) => figures.print_bytes(rt, &self.name, bytes),
             None => Ok(()),
@@ -117,7 +117,7 @@ fn print_race<R: Print>(rt: &R, alloc: Global, racers: &[Racer], laps: &[Lap]) -
     for (at, racer) in others.iter().enumerate() {
         let figures = Figures::of(alloc, laps, at + 1)?;
         racer.print(rt, figures)?;
-        figures.print_beside(rt, &racer.name, base, &first.name)?;
+        figures.print_beside(rt, &racer.name, base, &first.name, racer.task.counted())?;
     }
     Ok(())
 }

@@ -1,9 +1,12 @@
 //! What is timed in a round.
 
-use crate::calls::{drained, drained_text, journal_of, judged, threaded, waved};
+use crate::calls::{calling, drained, drained_text, journal_of, judged, threaded, waved};
+use crate::figures::Counted;
+use crate::turning::{Length, looped};
 use abt_check::Verdict;
 use abt_drain::Run;
 use abt_machine::{Journal, Workload};
+use abt_report::count_steps;
 use std::alloc::Global;
 use std::io;
 use std::rt::Clock;
@@ -27,6 +30,10 @@ pub enum Work {
     Check,
     /// The text of such a journal is read and checked.
     Text,
+    /// It is run on threads, and its units call functions of this length.
+    Calls(Length),
+    /// As many calls of this length as it has units are made in a loop, without a runtime.
+    Loop(Length),
 }
 
 impl Work {
@@ -37,6 +44,12 @@ impl Work {
             Work::Wave => "a wave alone",
             Work::Check => "checked",
             Work::Text => "read and checked",
+            Work::Calls(Length::Nothing) => "on threads",
+            Work::Calls(Length::OneMicrosecond) => "calls of 1 us",
+            Work::Calls(Length::FiveMicroseconds) => "calls of 5 us",
+            Work::Calls(Length::TwentyMicroseconds) => "calls of 20 us",
+            Work::Calls(Length::HundredMicroseconds) => "calls of 100 us",
+            Work::Loop(_) => "as a loop",
         }
     }
 }
@@ -49,6 +62,8 @@ pub enum Task {
     Wave,
     Check(Journal),
     Text(Vec<u8>),
+    Calls(Length),
+    Loop(Length),
 }
 
 impl Task {
@@ -62,6 +77,16 @@ impl Task {
                 Ok(Task::Check(run.journal))
             }
             Work::Text => Ok(Task::Text(drained_text(alloc, w, STEPS)?)),
+            Work::Calls(length) => Ok(Task::Calls(length)),
+            Work::Loop(length) => Ok(Task::Loop(length)),
+        }
+    }
+
+    /// What is counted of it.
+    pub fn counted(&self) -> Counted {
+        match self {
+            Task::Calls(_) | Task::Loop(_) => Counted::Operations,
+            _ => Counted::Events,
         }
     }
 
@@ -69,12 +94,12 @@ impl Task {
     pub fn bytes(&self) -> Option<usize> {
         match self {
             Task::Text(text) => Some(text.len()),
-            Task::Drain | Task::Streams | Task::Wave | Task::Check(_) => None,
+            _ => None,
         }
     }
 }
 
-/// How many events were made or judged, and what that took.
+/// How many events were made or judged, or how many operations, and what that took.
 #[derive(Clone, Copy)]
 pub struct Round {
     pub events: u64,
@@ -98,10 +123,11 @@ pub fn timed<R: Threads + Wait + Sync + Clock>(
     })
 }
 
-// What a task made or judged: a run, a journal, or a number of events.
+// What a task made or judged: a run, a run of which the steps are counted, a journal, or a number of events or operations.
 #[derive(Drop)]
 enum Outcome {
     Run(Run),
+    Calls(Run),
     Journal(Journal),
     Events(u64),
 }
@@ -110,6 +136,7 @@ impl Outcome {
     fn events(&self) -> u64 {
         match self {
             Outcome::Run(run) => count(&run.journal),
+            Outcome::Calls(run) => count_steps(run.journal.items()),
             Outcome::Journal(journal) => count(journal),
             Outcome::Events(events) => *events,
         }
@@ -133,7 +160,18 @@ fn carry_out<R: Threads + Wait + Sync>(
         Task::Wave => Ok(Outcome::Events(waved(rt, alloc, w, STEPS)?)),
         Task::Check(journal) => Ok(Outcome::Events(passed(alloc, w, journal)?)),
         Task::Text(text) => Ok(Outcome::Journal(read(alloc, w, text)?)),
+        Task::Calls(length) => Ok(Outcome::Calls(calling(rt, alloc, w, *length, STEPS)?)),
+        Task::Loop(length) => Ok(Outcome::Events(looped_all(w, *length)?)),
     }
+}
+
+// As many calls as there are units, in a loop. Their sum is looked at, so that they are made.
+fn looped_all(w: &Workload, length: Length) -> io::Result<u64> {
+    let calls = w.units();
+    if looped(calls, length) == 0 {
+        return Err(io::Error::from(io::ErrorKind::InvalidData));
+    }
+    Ok(u64::from(calls))
 }
 
 // The journal of a text that is a run's.

@@ -3,6 +3,7 @@
 use crate::loads::Load;
 use crate::races::Entry;
 use crate::rounds::Work;
+use crate::turning::Length;
 
 /// Four streams that share nothing, compared with one of them: whole runs, the same with a lock for each object in both, and waves whose
 /// logs are not merged.
@@ -52,5 +53,38 @@ pub static CHECK: [&[Entry]; 2] = [
         (Load::Four, Work::Drain),
         (Load::Four, Work::Streams),
         (Load::Four, Work::Text),
+    ],
+];
+
+/// Calls of a function that computes nothing, compared with operations that set; and calls of functions of each length on one, two and
+/// four streams, compared with a loop that makes them without a runtime.
+pub static CALLS: [&[Entry]; 5] = [
+    &[
+        (Load::Setting, Work::Calls(Length::Nothing)),
+        (Load::Calling, Work::Calls(Length::Nothing)),
+    ],
+    &[
+        (Load::CallsOfOne, Work::Loop(Length::OneMicrosecond)),
+        (Load::CallsOfOne, Work::Calls(Length::OneMicrosecond)),
+        (Load::CallsOfTwo, Work::Calls(Length::OneMicrosecond)),
+        (Load::CallsOfFour, Work::Calls(Length::OneMicrosecond)),
+    ],
+    &[
+        (Load::CallsOfOne, Work::Loop(Length::FiveMicroseconds)),
+        (Load::CallsOfOne, Work::Calls(Length::FiveMicroseconds)),
+        (Load::CallsOfTwo, Work::Calls(Length::FiveMicroseconds)),
+        (Load::CallsOfFour, Work::Calls(Length::FiveMicroseconds)),
+    ],
+    &[
+        (Load::CallsOfOne, Work::Loop(Length::TwentyMicroseconds)),
+        (Load::CallsOfOne, Work::Calls(Length::TwentyMicroseconds)),
+        (Load::CallsOfTwo, Work::Calls(Length::TwentyMicroseconds)),
+        (Load::CallsOfFour, Work::Calls(Length::TwentyMicroseconds)),
+    ],
+    &[
+        (Load::CallsOfOne, Work::Loop(Length::HundredMicroseconds)),
+        (Load::CallsOfOne, Work::Calls(Length::HundredMicroseconds)),
+        (Load::CallsOfTwo, Work::Calls(Length::HundredMicroseconds)),
+        (Load::CallsOfFour, Work::Calls(Length::HundredMicroseconds)),
     ],
 ];

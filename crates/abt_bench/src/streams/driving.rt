@@ -1,14 +1,15 @@
 //! One stream over all objects in the hands of one caller.
 
-ghost use Rattle.std.specs.Prelude.{ℕ, ◌≡◌, ◌<◌, IfOk, IsTrue};
+ghost use Rattle.std.specs.Prelude.{ℕ, ◌≡◌, ◌<◌, IfOk, IsTrue, OnOk};
 ghost use Rattle.abt_order.specs.Schedulers.{IsStored};
 ghost use Rattle.abt_stream.specs.Streams.{FitsStream};
+ghost use Rattle.abt_stream.specs.Turned.{IsReady};
 
-use crate::commons::placed;
 use crate::faults::no_memory;
-use abt_commons::{Plain, PlainPass};
+use abt_commons::{Objects, Plain, PlainPass};
 use abt_machine::{Rule, SchedNo, StreamNo, Want, Workload};
-use abt_stream::{NoPace, Stream, Turn};
+use abt_stream::{Stream, Turn};
+use abt_work::AnyWork;
 use std::alloc::Global;
 use std::io;
 use std::rt::Clock;
@@ -27,6 +28,15 @@ pub fn is_ruled(w: &Workload) -> bool
         }
     }
     true
+}
+
+fn placed<'w>(alloc: Global, w: &'w Workload) -> io::Result<Objects<'w>>
+    ensures { IfOk result (λ objects. objects.workload ≡ w.now) }
+{
+    match Objects::place(alloc, w) {
+        Ok(objects) => Ok(objects),
+        Err(Want) => Err(no_memory()),
+    }
 }
 
 fn stream_of(alloc: Global, w: &Workload) -> io::Result<Stream>
@@ -54,7 +64,18 @@ pub fn stream_time<R: Clock>(rt: &R, alloc: Global, w: &Workload) -> io::Result<
     Ok((stream.log().len() as u64, took))
 }
 
+// What the next turn needs.
+fn prepare(stream: &mut Stream, w: &Workload) -> Result<(), Want>
+    requires stored { (g : ℕ) → IsStored w.now g 0 }
+    requires fits { FitsStream w.now stream.old }
+    ensures ready { OnOk result (IsReady w.now stream.new) }
+    ensures fits { FitsStream w.now stream.new }
+{
+    stream.prepare(w, &[])
+}
+
 // Turns until there is nothing to do.
+#[tactic(auto, using(crate::proofs::Storing::stores_calls))]
 fn turns<'w>(
     stream: &mut Stream,
     plain: &Plain<'w>,
@@ -66,9 +87,10 @@ fn turns<'w>(
     requires stored { (g : ℕ) → IsStored w.now g 0 }
     requires fits { FitsStream w.now stream.old }
 {
+    w.known();
     for _ in 0..MOST {
-        stream.prepare(w, &[])?;
-        let turn = stream.turn(plain, pass, w, &NoPace);
+        prepare(stream, w)?;
+        let turn = stream.turn(plain, pass, w, &AnyWork);
         if is_last(turn) {
             return Ok(());
         }
