@@ -1,0 +1,19 @@
+use Rattle.std.proofs.Common.{◌≡◌, ◌∙◌, List, ap, subst, sym}
+use Rattle.abt_graph.specs.Graphs.{HasFunctions, values_of}
+use Rattle.abt_graph.specs.Shapes.{map_nodes, mapped}
+use Rattle.abt_graph.specs.declared.nodes.Node.{Node}
+use Rattle.abt_graph.proofs.Answering.{answers-then}
+use Rattle.abt_graph.proofs.Mapping.{HasFunctions-map, map-values}
+use Rattle.abt_graph.proofs.runs.run_map.Goals as goal
+
+pub run_graph-requires-clause-functions : goal.run_graph-requires-clause-functions
+run_graph-requires-clause-functions g c = λ lifetimes outlive.
+    subst (λ ns. HasFunctions ns (g.W.Work.count c.args.work.now) (g.W.Work.returns c.args.work.now)) (sym (c.deref.ensures.value ∙ c.in_ok-nodes.ensures.nodes))
+    (HasFunctions-map c.args.n c.args.function (g.W.Work.count c.args.work.now) (g.W.Work.returns c.args.work.now) c.requires.function)
+
+pub returns : goal.returns
+returns g c =
+    let R = g.W.Work.returns c.args.work.now in
+    let nodes : c.deref.result.now ≡ map_nodes c.args.n c.args.function = c.deref.ensures.value ∙ c.in_ok-nodes.ensures.nodes in
+    answers-then c.run_graph.result (λ values. values ≡ values_of R c.deref.result.now) (λ values. values ≡ mapped R c.args.n c.args.function)
+    (λ values is. is ∙ (ap (values_of R) nodes ∙ map-values R c.args.n c.args.function c.requires.few c.requires.function.callable)) c.run_graph.ensures.values

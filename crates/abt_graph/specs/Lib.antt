@@ -1,0 +1,6 @@
+pub mod Answers
+pub mod Graphs
+pub mod Pictured
+pub mod Rows
+pub mod Shapes
+pub mod Workloads
