@@ -59,7 +59,7 @@ budget 0' ""
 # Words that are no command, each with the words parted by blanks.
 try_bad_words() {
     local words
-    for words in '' walk run 'run --journal' "run $hi more" "run $hi --steps" "run $hi --steps 0" "run $hi --steps 100001" \
+    for words in '' walk run 'run --journal' "run $hi more" "run $hi --journal --steps 5 more" "run $hi --steps" "run $hi --steps 0" "run $hi --steps 100001" \
         "run $hi --steps -1" "run $hi --steps +1" "run $hi --steps 1x" "run $hi --steps 5 --steps=5" "run $hi --journal --journal" \
         "run $hi --journal=x" "run $hi --help" "run $hi -j" "run -x" self 'self 0' 'self 127' 'self 1 2' 'self -1' 'self x' \
         'self 99999999999999999999' 'self 3 --journal' Run '--help' '-h' '--version' help "-- run $hi" "$hi"; do
@@ -94,7 +94,7 @@ try_faults() {
 tally units 1 unborn 0 pool 0 stream 0 blocked 0 done 1 asked 0 access 0 steps 1
 finished' ""
     hello | LC_ALL=C sed $'10s/.*/say \xff/' | refused utf8 10
-    hello | sed '1s/.*/abt 3/' | refused version 1
+    hello | sed '1s/.*/abt 4/' | refused version 1
     hello | sed '10s/.*/sing hello/' | refused unknown 10
     hello | sed '10s/.*/say hello you/' | refused shape 10
     hello | sed '8s/.*/units one/' | refused number 8

@@ -42,6 +42,12 @@ try_runs() {
     came "as many steps as a stream may make" 4 "$(printf '%s\n' 'unit 0 stream 0: !unit-state' 'unit 1 done:' 'tally units 2 unborn 0 pool 0 stream 1 blocked 0 done 1 asked 0 access 0 steps 10000' 'budget 0' 'wave 0 from 0 streams 0')" ""
     call "$program" "$room/long.abt" "$room/none.lives"
     came "a hundred units" 0 "@$room/long.out" ""
+    local name
+    for name in rotate mirror; do
+        { cat "$root/crates/abt_examples/data/$name.out" && echo "wave 0 from 0 streams 0"; } >"$room/ordered.out"
+        call "$program" "$root/crates/abt_examples/data/$name.abt" "$room/none.lives"
+        came "a stored order that is $name" 0 "@$room/ordered.out" ""
+    done
     call "$program" - "$lives/made.lives" <"$lives/made.abt"
     came "the workload on standard input" 0 "@$made" ""
     call "$program" "$lives/made.abt" - <"$lives/made.lives"
@@ -89,7 +95,7 @@ ROWS
     printf '#' >>"$room/long.lives"
     call "$program" "$lives/made.abt" "$room/long.lives"
     came "lives of 65,537 bytes" 3 "" "abtwaves: line 0: life"
-    echo "abt 3" >"$room/bad.abt"
+    echo "abt 4" >"$room/bad.abt"
     call "$program" "$room/bad.abt" "$room/long.lives"
     came "a workload that is refused first" 3 "" "abtwaves: line 1: version"
 }

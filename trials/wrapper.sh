@@ -1,8 +1,9 @@
-# The wrapper and the build behind it, on a repository of three small crates: program `toy` stands on `low`, and `other`
-# is beside them. A stand-in for the toolchain builds it at once; the last trials use the toolchain itself.
+# The wrapper, the build behind it and ./test, on a repository of four small crates: program `toy` stands on `low`, which stands
+# on `deep`, and `other` is beside them. A stand-in for the toolchain builds it at once; the last trials use the toolchain itself.
 
-# The toolchain's stand-in does what $room/mode says, and counts its calls in $room/calls. The program that it builds says
-# what low's source has, its words and its standard input, and ends with the status that its first word names.
+# The toolchain's stand-in does what $room/mode says, and counts its calls in $room/calls; the words of a call of `rt try` stand in
+# $room/words, one a line. The program that it builds says what low's source has, its words, its standard input and what a file
+# `here` of its folder has, and ends with the status that its first word names.
 make_stand_in() {
     # All commands but the toolchain's.
     mkdir "$room/tools" "$room/bin"
@@ -25,10 +26,17 @@ fail) echo "rt: the library low did not build, so nothing above it was checked";
 long) echo $$ >"$room/pid"; exec sleep 300 ;;
 wait) until [ -e "$room/go" ]; do sleep 0.1; done ;;
 edit) echo changed >>../low/src/lib.rt ;;
-tries) exit 5 ;;
+tries) printf '%s\n' "$@" >"$room/words" && exit 5 ;;
+gate | refuses)
+    mkdir -p crates/toy/out
+    printf '#!/bin/sh\n' >crates/toy/out/toy
+    chmod +x crates/toy/out/toy
+    [ "$mode" = gate ]
+    exit
+    ;;
 esac
 mkdir -p out
-{ echo '#!/bin/sh'; echo "echo \"$(cat ../low/src/lib.rt): \$*\""; echo 'cat; exit "${1:-2}"'; } >out/$name
+{ echo '#!/bin/sh'; echo "echo \"$(cat ../low/src/lib.rt): \$*\""; echo 'cat; [ ! -e here ] || cat here; exit "${1:-2}"'; } >out/$name
 chmod +x out/$name
 touch out/$name.stamp
 echo "rt: running out/$name; to give it other input, run that file yourself"
@@ -40,13 +48,13 @@ RT
 make_toy() {
     toy="$room/src/a clone"
     mkdir -p "$toy/crates/low/src" "$toy/crates/low/specs" "$toy/crates/low/proofs/first" "$toy/crates/toy/src" \
-        "$toy/crates/other/src" "$room/links" "$room/else where"
+        "$toy/crates/deep/src" "$toy/crates/other/src" "$room/links" "$room/else where"
     cp abtrun "$toy/toy"
     cp -r scripts "$toy/scripts"
-    printf '# A comment: of it.\ntoy: low std\nlow:\nother: low\n' >"$toy/crates.txt"
+    printf '# A comment: of it.\ntoy: low std\nlow: deep\ndeep:\nother: low\n' >"$toy/crates.txt"
     echo one >"$toy/crates/low/src/lib.rt"
     touch "$toy/crates/low/src/more.rt" "$toy/crates/low/specs/Lib.antt" "$toy/crates/low/proofs/first/Proof.antt" \
-        "$toy/crates/toy/src/main.rt" "$toy/crates/other/src/lib.rt"
+        "$toy/crates/toy/src/main.rt" "$toy/crates/deep/src/lib.rt" "$toy/crates/other/src/lib.rt"
     ln -s "$toy/toy" "$room/links/toy"
 }
 
@@ -74,8 +82,8 @@ try_first_call() {
     holds "the first call builds once" [ "$(cat "$room/calls")" = run ]
     holds "a build leaves what it says" leaves "lock toy toy.built toy.log "
     as fail
-    call "$toy/toy" 0 <"$room/in"
-    came "a later call only runs" 0 "$(printf 'one: 0\ngiven')" ""
+    call "$toy/toy" 0 "two  words" '' '*' <"$room/in"
+    came "a later call only runs" 0 "$(printf 'one: 0 two  words  *\ngiven')" ""
     cd "$room/else where" || return
     PATH=$room/links:$PATH call toy 4
     came "by a link on the path" 4 "one: 4" ""
@@ -86,6 +94,20 @@ try_first_call() {
     came "by a name without a folder" 6 "one: 6" ""
     cd "$root" || return
     holds "none of these builds" [ "$(built)" = 0 ]
+}
+
+# A program runs in the caller's folder, also if the call builds it.
+try_folders() {
+    echo "from here" >"$room/else where/here"
+    as build
+    echo moved >"$toy/crates/low/src/lib.rt"
+    cd "$room/else where" || return
+    call "$toy/toy" 0
+    came "a call that builds runs where it is called" 0 "$(printf 'moved: 0\nfrom here')" \
+        "toy: building, which proves the crates that it stands on (log: $toy/out/toy.log)"
+    call "$toy/toy" 0
+    came "a later call runs where it is called" 0 "$(printf 'moved: 0\nfrom here')" ""
+    cd "$root" || return
 }
 
 # changes TITLE OUT COMMAND..: after this change of the toy a call builds.
@@ -127,6 +149,7 @@ copy_toy() {
 
 try_changes() {
     changes "a source is edited" "edited: 0" sh -c 'echo edited >low/src/lib.rt'
+    changes "a source two crates down is edited" "edited: 0" sh -c 'echo edited >deep/src/lib.rt'
     changes "a source is removed" "edited: 0" rm low/src/more.rt
     changes "a source is put in" "edited: 0" touch low/src/new.rt
     changes "a definition is edited" "edited: 0" sh -c 'echo word >>low/specs/Lib.antt'
@@ -288,6 +311,32 @@ try_gate() {
     came "a program of older sources" 1 "" ""
 }
 
+# tested TITLE STATUS LINE MODE TRIALS: ./test where the gate ends by that mode and the trials by that command, its status and its
+# last line but for the times.
+tested() {
+    printf '#!/bin/sh\necho trials >>"%s"\n%s\n' "$room/calls" "$5" >"$toy/trials/programs"
+    as "$4"
+    call "$toy/test"
+    holds "$1" [ "$status $(tail -n 1 "$room/out" | sed 's/[0-9]* min [0-9]* s/TIME/g')" = "$2 $3" ]
+}
+
+# ./test ends with the status of the gate or, if that passed, of the trials.
+try_test() {
+    local all="took rt ci TIME, builds TIME, trials TIME"
+    cp test "$toy/test"
+    mkdir -p "$toy/trials"
+    : >"$toy/trials/programs"
+    chmod +x "$toy/trials/programs"
+    tested "test: both pass" 0 "$all" gate 'exit 0'
+    holds "test: the gate, and then the trials" [ "$(tr '\n' ' ' <"$room/calls")" = "ci trials " ]
+    tested "test: the trials fail" 1 "$all" gate 'exit 1'
+    tested "test: the gate fails" 1 "took rt ci TIME" refuses 'exit 0'
+    holds "test: after a gate that fails, no trials" [ "$(cat "$room/calls")" = ci ]
+    PATH=$room/tools call "$toy/test"
+    came "test without the toolchain" 70 "" "test: the toolchain's command rt is not on the path: README.md says what is needed"
+    rm -r "$toy/test" "$toy/trials"
+}
+
 # What ./try asks of the toolchain: files that the words name in the caller's folder come as copies of that name, and those that
 # cannot, by their full names.
 try_unproved() {
@@ -295,6 +344,8 @@ try_unproved() {
     as tries
     call "$toy/try"
     came "try without a program" 70 "" "try: usage: ./try PROGRAM WORDS.., with one of these programs: toy"
+    call "$toy/try" toy --cases absent
+    came "try of cases without a folder" 70 "" "try: --cases needs a folder"
     call "$toy/try" other
     came "try of a library" 70 "" "try: usage: ./try PROGRAM WORDS.., with one of these programs: toy"
     PATH=$room/tools call "$toy/try" toy
@@ -302,14 +353,20 @@ try_unproved() {
     holds "none of these asks the toolchain" [ "$(built)" = 0 ]
     cd "$room/else where" || return
     echo here >here
+    echo two >"two words"
     echo sum >a=b
-    call "$toy/try" toy run here ./here a=b ../in "$room/in" absent
+    call "$toy/try" toy run here ./here "two words" a=b ../in "$room/in" absent
+    holds "try passes a name with a blank on" grep -qxF "two words=$room/else where/two words" "$room/words"
+    holds "try passes words and files on" [ "$(cat "$room/calls")" = "try --data here=$room/else where/here --data ./here=$room/else \
+where/./here --data two words=$room/else where/two words -- run here ./here two words $room/else where/a=b $room/else where/../in $room/in absent" ]
+    as tries
+    mkdir cases
+    call "$toy/try" toy --cases cases run {}
+    holds "try passes a folder of cases on" [ "$(cat "$room/calls")" = "try --cases $room/else where/cases -- run {}" ]
     cd "$root" || return
     holds "try ends as the program does" [ "$status" = 5 ]
     holds "try says that nothing is proved" [ "$(cat "$room/err")" = \
         "try: nothing is proved; rt try compiles toy as it stands and runs it, in a minute or two" ]
-    holds "try passes words and files on" [ "$(cat "$room/calls")" = "try --data here=$room/else where/here --data ./here=$room/else \
-where/./here -- run here ./here $room/else where/a=b $room/else where/../in $room/in absent" ]
 }
 
 # The toolchain itself builds a program, refuses a wrong one, and runs one without a proof.
@@ -350,6 +407,7 @@ PATH_before=$PATH
 make_stand_in
 make_toy
 try_first_call
+try_folders
 try_changes
 try_failure
 interrupted TERM 143
@@ -360,6 +418,7 @@ try_signals
 try_terminal
 try_unwritable
 try_gate
+try_test
 try_unproved
 PATH=$PATH_before
 try_toolchain
