@@ -1,7 +1,8 @@
-use Rattle.std.proofs.Common.{◌∷◌, [], arith}
-use Rattle.abt_machine.specs.declared.operations.OrderShape.TheVariants as shape
-use Rattle.abt_outcomes.proofs.Stored.{orders-stored}
+use Rattle.std.proofs.Common.{◌<◌}
+use Rattle.abt_machine.specs.declared.operations.Rule.TheVariants as rule
+use Rattle.abt_machine.proofs.Declared.{rule-valid}
 use Rattle.trials_runs.proofs.turns.check_orders.Goals as goal
 
 pub returns : goal.returns
-returns c = orders-stored c.args.w.now (shape.Free ∷ shape.Free ∷ []) c.known.ensures (omega arith)
+returns c g k e =
+    let few : k < 2 = rule-valid c.args.w.now g (rule.User k) c.known.ensures e in few
