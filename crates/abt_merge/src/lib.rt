@@ -4,9 +4,9 @@
 mod heads;
 mod runs;
 
-ghost use Rattle.std.specs.Prelude.{◌≡◌, IfOk, IsOk, length, map};
+ghost use Rattle.std.specs.Prelude.{◌≡◌, IfOk, IsOk, length, map, true};
 ghost use Rattle.abt_simulation.specs.Journals.{MergesTo};
-ghost use Rattle.abt_merge.specs.Logs.{AreLogs, count_events, log_of};
+ghost use Rattle.abt_merge.specs.Logs.{AreLogs, MergesIf, count_events, log_of};
 
 use crate::heads::first_but;
 use crate::runs::{last_before, take_run};
@@ -23,6 +23,17 @@ pub fn merge(alloc: Global, mut logs: Vec<Log>) -> Result<Journal, Want>
         return Ok(logs.remove(0));
     }
     weave(alloc, &logs)
+}
+
+/// The same where the logs are kept, and none where they are not.
+pub fn merge_kept(alloc: Global, keeps: bool, logs: Vec<Log>) -> Result<Option<Journal>, Want>
+    requires logs { keeps ≡ true → AreLogs logs.items }
+    ensures { IfOk result (MergesIf keeps logs.items) }
+{
+    if !keeps {
+        return Ok(None);
+    }
+    Ok(Some(merge(alloc, logs)?))
 }
 
 // The logs stay as they are: run after run is taken from what is left of them.

@@ -121,17 +121,18 @@ shapes-none W Z new order = λ holds. absurd (holds order)
 
 -- no event
 pub keeps-same : (W : Parts) (old new : StreamValue) → new ≡ old → KeepsStream W old new
-keeps-same W old new same = subst (λ (s : StreamValue). KeepsStream W old s) (sym same) (record { number = refl; budget = refl; frames = λ fits. fits; shapes = λ Z shaped. shaped })
+keeps-same W old new same = subst (λ (s : StreamValue). KeepsStream W old s) (sym same) (record { number = refl; keeps = refl; budget = refl; frames = λ fits. fits; shapes = λ Z shaped. shaped })
 
 module _ (W : Parts) (old new : StreamValue) (w : What) (n : ℕ) (rooms : Rooms) where
   abbrev written : Event
   written = record { stamp = n; stream = old.number; what = w }
 
   -- a stream whose frames and order are as before
-  kept : (s : StreamValue) → s.number ≡ old.number → s.budget ≡ old.budget → s.log ≡ old.log ++ written ∷ [] → s.top.scheduler ≡ old.top.scheduler → s.top.round ≡ old.top.round
+  kept : (s : StreamValue) → s.number ≡ old.number → s.keeps ≡ old.keeps → s.budget ≡ old.budget → s.log ≡ old.log ++ written ∷ [] → s.top.scheduler ≡ old.top.scheduler → s.top.round ≡ old.top.round
       → s.below ≡ old.below → s.order ≡ old.order → new ≡ s → KeepsStream W old new
-  kept s number budget log scheduler round below order same = subst (λ (t : StreamValue). KeepsStream W old t) (sym same) (record {
+  kept s number keeps budget log scheduler round below order same = subst (λ (t : StreamValue). KeepsStream W old t) (sym same) (record {
     number = number;
+    keeps = keeps;
     budget = budget;
     frames = frames-same W old s written log scheduler round below order;
     shapes = λ Z. shapes-same W Z old s scheduler round order;
@@ -139,17 +140,18 @@ module _ (W : Parts) (old new : StreamValue) (w : What) (n : ℕ) (rooms : Rooms
 
   -- an event that leaves the frames alone
   pub keeps-holding : (held : Held) → new ≡ wrote (holding old held) w n rooms → KeepsStream W old new
-  keeps-holding held = kept (wrote (holding old held) w n rooms) refl refl refl refl refl refl refl
+  keeps-holding held = kept (wrote (holding old held) w n rooms) refl refl refl refl refl refl refl refl
 
   -- a missed pool, after which the round goes on
   pub keeps-passed : (p : PoolNo) → new ≡ wrote (passed old p) w n rooms → KeepsStream W old new
-  keeps-passed p = kept (wrote (passed old p) w n rooms) refl refl refl refl refl refl refl
+  keeps-passed p = kept (wrote (passed old p) w n rooms) refl refl refl refl refl refl refl refl
 
   -- a stream whose round has ended
-  ended : (s : StreamValue) → old.order ≢ [] → s.number ≡ old.number → s.budget ≡ old.budget → s.log ≡ old.log ++ written ∷ [] → s.top.scheduler ≡ old.top.scheduler → s.top.round ≡ suc old.top.round
+  ended : (s : StreamValue) → old.order ≢ [] → s.number ≡ old.number → s.keeps ≡ old.keeps → s.budget ≡ old.budget → s.log ≡ old.log ++ written ∷ [] → s.top.scheduler ≡ old.top.scheduler → s.top.round ≡ suc old.top.round
       → s.below ≡ old.below → s.order ≡ [] → new ≡ s → KeepsStream W old new
-  ended s some number budget log scheduler round below order same = subst (λ (t : StreamValue). KeepsStream W old t) (sym same) (record {
+  ended s some number keeps budget log scheduler round below order same = subst (λ (t : StreamValue). KeepsStream W old t) (sym same) (record {
     number = number;
+    keeps = keeps;
     budget = budget;
     frames = round-ended W old s written log scheduler round below order some;
     shapes = λ Z shaped. shapes-none W Z s order;
@@ -157,11 +159,11 @@ module _ (W : Parts) (old new : StreamValue) (w : What) (n : ℕ) (rooms : Rooms
 
   -- a taken unit, which ends the round
   pub keeps-took : (o : Owned) → old.order ≢ [] → new ≡ wrote (took old o) w n rooms → KeepsStream W old new
-  keeps-took o some = ended (wrote (took old o) w n rooms) some refl refl refl refl refl refl refl
+  keeps-took o some = ended (wrote (took old o) w n rooms) some refl refl refl refl refl refl refl refl
 
   -- a missed pool, which ends the round empty
   pub keeps-emptied : old.order ≢ [] → new ≡ wrote (emptied old) w n rooms → KeepsStream W old new
-  keeps-emptied some = ended (wrote (emptied old) w n rooms) some refl refl refl refl refl refl refl
+  keeps-emptied some = ended (wrote (emptied old) w n rooms) some refl refl refl refl refl refl refl refl
 
   -- a frame that is entered
   pub keeps-entered : (g : ℕ) (o : Owned) → IsFreshFrame W g new.top → old.order ≡ [] → new ≡ wrote (entering g old new.top o) w n rooms → KeepsStream W old new
@@ -169,6 +171,7 @@ module _ (W : Parts) (old new : StreamValue) (w : What) (n : ℕ) (rooms : Rooms
       let order : new.order ≡ old.order = ap (λ (s : StreamValue). s.order) same in
       record {
         number = ap (λ (s : StreamValue). s.number) same;
+        keeps = ap (λ (s : StreamValue). s.keeps) same;
         budget = ap (λ (s : StreamValue). s.budget) same;
         frames = frame-entered W g old new written (ap (λ (s : StreamValue). s.log) same) fresh (ap (λ (s : StreamValue). s.below) same) order none;
         shapes = λ Z shaped. shapes-none W Z new (order ∙ none);
@@ -180,6 +183,7 @@ keeps-left W old new os o leaves =
     let order : new.order ≡ [] = ap (λ (s : StreamValue). s.order) leaves.same in
     record {
       number = ap (λ (s : StreamValue). s.number) leaves.same;
+      keeps = ap (λ (s : StreamValue). s.keeps) leaves.same;
       budget = ap (λ (s : StreamValue). s.budget) leaves.same;
       frames = frame-left W old new (record { stamp = suc old.clock; stream = old.number; what = what.Leave (unit_no o.number) }) (ap (λ (s : StreamValue). s.log) leaves.same) leaves.below order;
       shapes = λ Z shaped. shapes-none W Z new order;

@@ -1,5 +1,6 @@
 -- A log grows by an event with a greater stamp.
-use Rattle.std.proofs.Common.{◌≡◌, ◌<◌, ◌≤◌, ◌++◌, ◌+◌, ℕ, suc, Bool, true, false, cond, List, [], ◌∷◌, refl, ap, arith}
+use Rattle.std.proofs.Common.{◌≡◌, ◌<◌, ◌≤◌, ◌++◌, ◌+◌, ℕ, suc, Bool, true, false, cond, List, [], ◌∷◌, length, refl, sym, ap, ◌∙◌, arith}
+use Rattle.std.proofs.lemmas.List.{length-append}
 use Rattle.std.proofs.lemmas.List.Sums.{sum_by_push}
 use Rattle.std.proofs.lemmas.List.Elements.{All-head, All-push, All-tail}
 use Rattle.std.specs.List.{All}
@@ -25,6 +26,10 @@ log-written number clock stamp log w is above = record {
   past = All-push (λ (e : Event). e.stamp ≤ stamp) log (record { stamp = stamp; stream = number; what = w })
       (λ k d lt. let before = is.past k d lt in omega arith) (omega arith);
 }
+
+-- how many events it has
+pub many-more : (n : ℕ) (log new : List Event) (e : Event) → n ≡ length log → new ≡ log ++ e ∷ [] → n + 1 ≡ length new
+many-more n log new e many more = sym (ap (λ (l : List Event). length l) more ∙ (length-append log (e ∷ []) ∙ ap (λ k. k + 1) (sym many)))
 
 -- Steps.
 

@@ -11,10 +11,11 @@ pub record FitsFrames (W : Parts) (s : StreamValue) : Type 0 where
   pub below : All (IsFrame W (length s.log) []) s.below
   pub order : IsOrderFor W s.top.scheduler.number s.order
 
--- what every event keeps of a stream: its number, how many steps it may make, that its frames fit, and that an order that it
--- holds is one that the round may have
+-- what every event keeps of a stream: its number, whether it keeps its events in memory, how many steps it may make, that its
+-- frames fit, and that an order that it holds is one that the round may have
 pub record KeepsStream (W : Parts) (old new : StreamValue) : Type 0 where
   pub number : new.number ≡ old.number
+  pub keeps : new.keeps ≡ old.keeps
   pub budget : new.budget ≡ old.budget
   pub frames : FitsFrames W old → FitsFrames W new
   pub shapes : (Z : Stored) → FitsShapes W Z old → FitsShapes W Z new

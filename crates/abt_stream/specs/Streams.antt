@@ -35,10 +35,11 @@ pub record Rooms : Type 0 where
   pub units : ℕ
   pub output : ℕ
 
--- its number, how many steps it may make, its clock, what it holds, its top frame and those below, the lowest first, the order
+-- its number, whether it keeps its events in memory, how many steps it may make, its clock, what it holds, its top frame and those below, the lowest first, the order
 -- that it holds for the top frame and how much of it was visited, its log, and its room
 pub record StreamValue : Type 0 where
   pub number : StreamNo
+  pub keeps : Bool
   pub budget : ℕ
   pub clock : ℕ
   pub held : Held

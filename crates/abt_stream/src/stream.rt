@@ -1,6 +1,6 @@
 //! A stream and its turns.
 
-ghost use Rattle.std.specs.Prelude.{◌≡◌, ◌≢◌, ◌<◌, ◌≤◌, ◌↔◌, ◌^◌, [], IfOk, option_map, map, IsTrue, List};
+ghost use Rattle.std.specs.Prelude.{◌≡◌, ◌≢◌, ◌<◌, ◌≤◌, ◌↔◌, ◌^◌, [], IfOk, option_map, map, IsTrue, List, length};
 ghost use Rattle.abt_commons.specs.Acts.{owned};
 ghost use Rattle.abt_stream.specs.Streams.{FitsShapes, FitsStream, IsIdle, hand_of, next_of, IsLog};
 ghost use Rattle.abt_stream.specs.Dues.{HasStep};
@@ -10,6 +10,7 @@ ghost use Rattle.abt_machine.specs.Stored.{CallsStored, Stored};
 ghost use Rattle.abt_calls.specs.Starts.{start_part};
 ghost use Rattle.abt_machine.specs.Valid.{IsValid};
 ghost use Rattle.abt_machine.specs.Outcomes.{steps_in};
+ghost use Rattle.abt_record.specs.Records.{IsKept};
 
 mod idling;
 mod looking;
@@ -26,6 +27,7 @@ use abt_commons::Commons;
 use abt_machine::{Event, Items, Log, PoolNo, StreamNo, Want, Workload};
 use abt_order::Scheduler;
 use abt_plans::{HandDue, Mark};
+use abt_record::Record;
 use abt_unit::Unit;
 use abt_work::Work;
 use std::alloc::Global;
@@ -37,10 +39,11 @@ const LAST: u64 = 1 << 62;
 /// The scheduler units of stacked frames, the lowest first.
 pub type Frames = Items<Box<Unit>>;
 
-/// What a stream leaves.
+/// What a stream leaves: its log, if it was kept, how many steps it made, and its units.
 #[derive(Drop)]
 pub struct StreamParts {
-    pub log: Log,
+    pub kept: Option<Log>,
+    pub steps: u64,
     pub hand: Option<Box<Unit>>,
     pub next: Option<Box<Unit>>,
     pub tray: Chain,
@@ -62,7 +65,8 @@ pub struct Stream {
     framed: Vec<Box<Unit>>,
     order: Vec<PoolNo>,
     at: usize,
-    log: Vec<Event>,
+    log: Record,
+    written: u64,
 }
 
 impl Model for Stream {
@@ -76,6 +80,7 @@ impl Model for Stream {
 
     ghost view = { λ s. record {
       number = s.number;
+      keeps = s.log.keeps;
       budget = s.budget;
       clock = s.clock;
       held = record {
@@ -89,9 +94,9 @@ impl Model for Stream {
       below = s.below.items;
       order = s.order.items;
       at = s.at;
-      log = s.log.items;
+      log = s.log.events;
       rooms = record {
-        events = vec_capacity s.log - vec_len s.log;
+        events = s.log.room;
         frames = vec_capacity s.below - vec_len s.below;
         units = vec_capacity s.framed - vec_len s.framed;
         output = spare_of s.current;
@@ -99,16 +104,23 @@ impl Model for Stream {
     } };
 
     ghost invariant = { λ s. (behind_of s.current ≡ []) × All IsFreeUnit s.framed.items × (length s.framed.items ≡ length s.below.items)
-        × (s.at ≤ length s.order.items - 1) × IsOrderly s.order.items s.current × IsLog s.number s.clock s.log.items × (s.clock ≤ 2 ^ 62)
-        × (s.left + steps_in s.log.items ≡ s.budget) };
+        × (s.at ≤ length s.order.items - 1) × IsOrderly s.order.items s.current × IsLog s.number s.clock s.log.events × (s.clock ≤ 2 ^ 62)
+        × (s.left + steps_in s.log.events ≡ s.budget) × (s.written ≡ length s.log.events) × (s.written ≤ s.clock) };
 }
 
 impl Stream {
-    /// The stream at the start, which may make `steps` steps.
+    /// The stream at the start, which may make `steps` steps. It keeps its events in memory if `keeps`.
     #[tactic(auto, using(crate::proofs::Starting::main_is))]
-    pub fn new(alloc: Global, w: &Workload, s: StreamNo, steps: u64) -> Result<Stream, Want>
+    pub fn new(
+        alloc: Global,
+        w: &Workload,
+        s: StreamNo,
+        steps: u64,
+        keeps: bool,
+    ) -> Result<Stream, Want>
         requires { s.0 < w.now.streams }
         ensures number { IfOk result (λ r. r.number ≡ s) }
+        ensures keeps { IfOk result (λ r. r.keeps ≡ keeps) }
         ensures budget { IfOk result (λ r. r.budget ≡ steps) }
         ensures clock { IfOk result (λ r. r.clock ≡ 0) }
         ensures held { IfOk result (λ r. r.held ≡ start_part w.now s.0) }
@@ -135,11 +147,12 @@ impl Stream {
             framed: Vec::new(alloc),
             order: Vec::new(alloc),
             at: 0,
-            log: Vec::new(alloc),
+            log: Record::new(alloc, keeps),
+            written: 0,
         })
     }
 
-    /// One turn: the stream's next event, or none. No clock of a stream is above 2^62 (`log`), so a turn that met a
+    /// One turn: the stream's next event, or none. No clock of a stream is above 2^62 (`steps`), so a turn that met a
     /// clock at its end answers `Worn`, and by `turned` no other does.
     pub fn turn<'w, C: Commons<'w>, P: Work>(
         &mut self,
@@ -155,6 +168,7 @@ impl Stream {
         requires stored { CallsStored w.now (P.count work.now) }
         ensures turned { (Z : Stored) → FitsShapes w.now Z self.old → Z.returns ≡ P.returns work.now → Turned (Heeds (C.moves commons.now) (C.workload commons.now)) w.now Z self.old pass.old result self.new pass.new }
         ensures stream { self.new.number ≡ self.old.number }
+        ensures keeps { self.new.keeps ≡ self.old.keeps }
         ensures budget { self.new.budget ≡ self.old.budget }
         ensures fits { FitsStream w.now self.new }
         ensures shapes { (Z : Stored) → FitsShapes w.now Z self.old → FitsShapes w.now Z self.new }
@@ -212,19 +226,34 @@ impl Stream {
         self.tray.is_empty() && matches!(&self.current, Current::Idle) && self.below.is_empty()
     }
 
-    /// The events so far.
-    pub fn log(&self) -> &[Event]
-        ensures log { result.now ≡ self.now.log }
+    /// How many events the stream has made.
+    pub fn written(&self) -> u64
+        ensures { result ≡ length self.now.log }
+    {
+        self.written
+    }
+
+    /// How many of them are steps.
+    pub fn steps(&self) -> u64
+        ensures made { result ≡ steps_in self.now.log }
         ensures own { IsLog self.now.number self.now.clock self.now.log }
         ensures clock { self.now.clock ≤ 2 ^ 62 }
         ensures steps { steps_in self.now.log ≤ self.now.budget }
     {
-        self.log.as_slice()
+        self.budget - self.left
+    }
+
+    /// The events so far, if they are kept.
+    pub fn kept(&self) -> Option<&[Event]>
+        ensures { IsKept self.now.keeps self.now.log (option_map (λ list. list.now) result) }
+    {
+        self.log.kept()
     }
 
     /// What the stream leaves.
     pub fn into_parts(self) -> StreamParts
-        ensures log { result.log ≡ self.log }
+        ensures kept { IsKept self.keeps self.log result.kept }
+        ensures steps_made { result.steps ≡ steps_in self.log }
         ensures own { IsLog self.number self.clock self.log }
         ensures steps { steps_in self.log ≤ self.budget }
         ensures hand { option_map owned result.hand ≡ self.held.hand }
@@ -234,7 +263,8 @@ impl Stream {
     {
         let (hand, next) = parted(self.current);
         StreamParts {
-            log: Items::new(self.log),
+            kept: self.log.into_kept(),
+            steps: self.budget - self.left,
             hand,
             next,
             tray: self.tray,

@@ -21,6 +21,7 @@ impl Stream {
     pub fn prepare(&mut self, w: &Workload, orders: &[StoredOrder]) -> Result<(), Want>
         requires stored { (g : ℕ) → IsStored w.now g (length orders.now) }
         requires fits { FitsStream w.now self.old }
+        ensures keeps { self.new.keeps ≡ self.old.keeps }
         ensures held { self.new.held ≡ self.old.held }
         ensures ready { OnOk result (IsReady w.now self.new) }
         ensures fits { FitsStream w.now self.new }
@@ -30,7 +31,7 @@ impl Stream {
         ensures err { OnErr result (self.new ≡ record self.old { rooms = self.new.rooms }) }
     {
         w.known();
-        if self.log.len() >= 1 << 55 {
+        if self.written >= 1 << 55 {
             return Err(Want);
         }
         self.make_room()?;
@@ -58,7 +59,7 @@ impl Stream {
         ensures output { OnOk result (IsSome self.new.held.hand → 0 < self.new.rooms.output) }
         ensures same { self.new ≡ record self.old { rooms = self.new.rooms } }
     {
-        self.log.reserve(1)?;
+        self.log.reserve()?;
         self.below.reserve(1)?;
         self.framed.reserve(1)?;
         match &mut self.current {

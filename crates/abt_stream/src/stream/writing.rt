@@ -16,7 +16,7 @@ impl Stream {
         requires above { self.old.clock < stamp }
         requires bound { stamp ≤ 2 ^ 62 }
         ensures clock { self.new.clock ≡ stamp }
-        ensures same { self.new ≡ wrote self.old what stamp (record self.old.rooms { events = self.old.rooms.events - 1 }) }
+        ensures same { self.new ≡ wrote self.old what stamp self.new.rooms }
     {
         let event = Event {
             stamp,
@@ -24,7 +24,8 @@ impl Stream {
             what,
         };
         self.clock = stamp;
-        self.log.push_reserved(event);
+        self.written += 1;
+        self.log.push(event);
     }
 
     // Writes the step of an operation that is no call.
@@ -34,7 +35,7 @@ impl Stream {
         requires above { self.old.clock < stamp }
         requires bound { stamp ≤ 2 ^ 62 }
         ensures clock { self.new.clock ≡ stamp }
-        ensures same { self.new ≡ wrote self.old (what.Step unit at code) stamp (record self.old.rooms { events = self.old.rooms.events - 1 }) }
+        ensures same { self.new ≡ wrote self.old (what.Step unit at code) stamp self.new.rooms }
     {
         self.count_step(stamp, What::Step(unit, at, code));
     }
@@ -47,7 +48,7 @@ impl Stream {
         requires above { self.old.clock < stamp }
         requires bound { stamp ≤ 2 ^ 62 }
         ensures clock { self.new.clock ≡ stamp }
-        ensures same { self.new ≡ wrote self.old what stamp (record self.old.rooms { events = self.old.rooms.events - 1 }) }
+        ensures same { self.new ≡ wrote self.old what stamp self.new.rooms }
     {
         let event = Event {
             stamp,
@@ -56,7 +57,8 @@ impl Stream {
         };
         self.left -= 1;
         self.clock = stamp;
-        self.log.push_reserved(event);
+        self.written += 1;
+        self.log.push(event);
     }
 
     // Whether the stream has a step left.
