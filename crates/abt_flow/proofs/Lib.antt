@@ -5,6 +5,7 @@ mod Plain
 mod Points
 mod Creating
 mod Finds
+mod Finishing
 mod Goes
 mod Keys
 mod Marks
@@ -14,6 +15,7 @@ mod Rows
 mod Runs
 mod Running
 mod Setting
+mod Settling
 mod Stepping
 mod Stuck
 mod Tells

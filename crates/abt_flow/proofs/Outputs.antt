@@ -104,7 +104,7 @@ module _ (W : Parts) (R : Functions) (t : ℕ) (S : State) (flowing : Flowing W 
   row-here u (place.Frame s d) at over = absurd over
   row-here u (place.Blocked x k) at over = absurd over
 
-no-revive : (W : Parts) → Confluent W → HasNoRevive W
+pub no-revive : (W : Parts) → Confluent W → HasNoRevive W
 no-revive W confluent u k v p is = confluent.ops u k (op.Revive v p) is
 
 -- if each call that a unit comes to may return one word alone

@@ -54,7 +54,7 @@ start-tells W R u (Some p) e = (Starts u p e, refl)
 start-late : (W : Parts) (u : ℕ) (o : Option ℕ) → o ≡ None → start_place W u o ≡ place.Unborn
 start-late W u o e = ap (start_place W u) e
 
-start-flows : (W : Parts) (R : Functions) → Flowing W R 0 (start W)
+pub start-flows : (W : Parts) (R : Functions) → Flowing W R 0 (start W)
 start-flows W R = record {
   units = λ u. start-tells W R u (start_of W u) refl;
   values = λ x n e. absurd (none≢some e);
@@ -85,16 +85,21 @@ module _ (W : Parts) (Z : Stored) (valid : IsValid W) (confluent : Confluent W) 
       subst (λ d. Flowing W Z.returns (suc t) (changed S (step_row W S s u (Some o) d))) (sym (e ∙ went.0))
       (steps-on W Z.returns t S (changed S (op_row W S s u o)) u o flowing is (before W Z.returns t S flowing s u held o is) went.1)
 
-  -- a call by the operation, which sets the accumulator to what the function returns
+  -- a call sets the accumulator to what the function returns
+  pub call-steps : (u n f : ℕ) → S.place u ≡ place.Hand (stream_no s) → op_at W u (S.carried u).position ≡ Some (op.Call f) → Returns Z (Some (op.Call f)) u (S.carried u) n →
+      Stepped W Z.returns t S (changed S (goes_with u (with_acc n (S.carried u)))) u (op.Call f)
+  call-steps u n f held here may =
+      let own : Before W Z.returns t u (S.carried u) = before W Z.returns t S flowing s u held (op.Call f) here in
+      let word : (m : ℕ) × (Z.returns f u (S.carried u).acc (S.carried u).keys ≡ Some m) = one u (S.carried u).position f (suc t) (memory_of (S.carried u)) own.0 own.1 here in
+      let same : n ≡ word.0 % 2 ^ 64 = subst (λ r. IsReturned r n) word.1 may in
+      row-goes_with W Z.returns t S flowing s u held (op.Call f) here (λ x e. cc) (λ v q e. cc) (with_acc n (S.carried u)) refl (word.0, word.1, ap (λ m. memory_of (with_acc m (S.carried u))) same)
+
+  -- a call by the operation
   call-flows : (u k n : ℕ) (o : Option Op) → S.place u ≡ place.Hand (stream_no s) → (S.carried u).position ≡ k → op_at W u k ≡ o → Returns Z o u (S.carried u) n → Flowing W Z.returns (suc t)
       (changed S (goes_with u (with_acc n (S.carried u))))
   call-flows u k n (Some (op.Call f)) held at is may =
       let here : op_at W u (S.carried u).position ≡ Some (op.Call f) = ap (op_at W u) at ∙ is in
-      let own : Before W Z.returns t u (S.carried u) = before W Z.returns t S flowing s u held (op.Call f) here in
-      let word : (m : ℕ) × (Z.returns f u (S.carried u).acc (S.carried u).keys ≡ Some m) = one u (S.carried u).position f (suc t) (memory_of (S.carried u)) own.0 own.1 here in
-      let same : n ≡ word.0 % 2 ^ 64 = subst (λ r. IsReturned r n) word.1 may in
-      steps-on W Z.returns t S (changed S (goes_with u (with_acc n (S.carried u)))) u (op.Call f) flowing here own
-      (row-goes_with W Z.returns t S flowing s u held (op.Call f) here (λ x e. cc) (λ v q e. cc) (with_acc n (S.carried u)) refl (word.0, word.1, ap (λ m. memory_of (with_acc m (S.carried u))) same))
+      steps-on W Z.returns t S (changed S (goes_with u (with_acc n (S.carried u)))) u (op.Call f) flowing here (before W Z.returns t S flowing s u held (op.Call f) here) (call-steps u n f held here may)
   call-flows u k n None held at is may = absurd may
   call-flows u k n (Some o) held at is may = absurd may
 

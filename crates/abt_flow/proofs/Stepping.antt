@@ -49,7 +49,7 @@ module _ (W : Parts) (R : Functions) (t : ℕ) (S T : State) (u : ℕ) (o : Op) 
       ]
 
   -- what is behind a unit was so, or is its operation now
-  behind : (v k : ℕ) → k < (T.carried v).position → (k < (S.carried v).position) ⊎ ((v ≡ u) × (k ≡ (S.carried u).position))
+  pub behind : (v k : ℕ) → k < (T.carried v).position → (k < (S.carried v).position) ⊎ ((v ≡ u) × (k ≡ (S.carried u).position))
   behind v k l =
       elim (cases_eq v u) [
         | inl same ↦ (let own = stepped.own in let m : k < (T.carried u).position = subst (λ n. k < (T.carried n).position) same l in

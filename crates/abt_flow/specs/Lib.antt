@@ -1,6 +1,7 @@
 pub mod Checks
 pub mod Confluent
 pub mod Effects
+pub mod Finishing
 pub mod Flow
 pub mod Laws
 pub mod Roles

@@ -2,6 +2,7 @@
 
 ghost use Rattle.abt_machine.specs.Stored.{Stored};
 ghost use Rattle.abt_machine.specs.declared.workload.Parts.{Parts};
+ghost use Rattle.abt_flow.specs.Finishing.{OrderlyEnd, OrderlyFinish};
 ghost use Rattle.abt_flow.specs.Flow.{Functions};
 ghost use Rattle.abt_flow.specs.Laws.{FlowIsOne, FlowIsPutOut, OutputsAreFlow};
 
@@ -19,4 +20,14 @@ pub fn flow_is_put_out()
 /// A confluent workload has at most one flow.
 pub fn flow_is_one()
     ensures { (W : Parts) (R : Functions) → FlowIsOne W R }
+{}
+
+/// If nothing is left to do in a run of an orderly workload, every unit is unborn or ended, whatever the schedule.
+pub fn orderly_end()
+    ensures { (W : Parts) (Z : Stored) → OrderlyEnd W Z }
+{}
+
+/// Each run of an orderly workload that has ended is finished, if each stream may make as many steps as there are operations.
+pub fn orderly_finish()
+    ensures { (W : Parts) (Z : Stored) → OrderlyFinish W Z }
 {}

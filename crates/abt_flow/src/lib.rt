@@ -13,4 +13,4 @@ mod table;
 
 pub use confluence::confluent;
 pub use finding::{Flow, FlowRow, find_flow};
-pub use laws::{flow_is_one, flow_is_put_out, outputs_are_flow};
+pub use laws::{flow_is_one, flow_is_put_out, orderly_end, orderly_finish, outputs_are_flow};
