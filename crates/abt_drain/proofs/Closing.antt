@@ -22,7 +22,11 @@ use Rattle.abt_simulation.specs.Journals.{MergesTo}
 use Rattle.abt_stream.specs.declared.stream.StreamParts.{StreamParts}
 use Rattle.abt_stream.specs.Streams.{FitsStream, StreamValue}
 use Rattle.abt_laws.proofs.Options.{some-injective}
-use Rattle.abt_drain.specs.Crews.{CrewValue, HaveLeft, HaveStopped, IsCrew, log_from, logs_in, moment_in, moment_of}
+use Rattle.abt_drain.specs.Crews.{CrewValue, HaveStopped, IsCrew, log_from, moment_in, moment_of}
+use Rattle.abt_drain.specs.Ends.{AreLeft, HaveLeft, Leaves, LeavesRotation, logs_in}
+use Rattle.abt_drain.specs.declared.run.Run.{Run}
+use Rattle.abt_drain.specs.declared.streams.Rests.{Rests}
+use Rattle.abt_record.specs.Records.{IsKept}
 use Rattle.abt_drain.specs.InRotation.{IsMadeInRotation}
 use Rattle.abt_drain.specs.Looks.{AreStreams, held_from}
 use Rattle.abt_drain.specs.Moments.{HasCome, LeadTo, Moment, made_at}
@@ -54,7 +58,7 @@ pub none-left : HaveLeft [] []
 none-left = tt
 
 -- one stream more
-pub left-push : (streams : List StreamValue) (rest : List StreamParts) (stream : StreamValue) (parts : StreamParts) → HaveLeft streams rest → units_in_parts parts ≡ units_held stream.held →
+pub left-push : (streams : List StreamValue) (rest : List StreamParts) (stream : StreamValue) (parts : StreamParts) → HaveLeft streams rest → Leaves stream parts →
     HaveLeft (streams ++ stream ∷ []) (rest ++ parts ∷ [])
 left-push [] [] stream parts all next = (next, tt)
 left-push [] (p ∷ rest) stream parts all next = absurd all
@@ -73,7 +77,7 @@ pub left-at : (streams : List StreamValue) (rest : List StreamParts) (s : ℕ) (
 left-at [] [] s parts all e = cc
 left-at [] (p ∷ rest) s parts all e = absurd all
 left-at (stream ∷ streams) [] s parts all e = absurd all
-left-at (stream ∷ streams) (p ∷ rest) zero parts all e = (stream, refl, subst (λ q. units_in_parts q ≡ units_held stream.held) (some-injective e) all.0)
+left-at (stream ∷ streams) (p ∷ rest) zero parts all e = (stream, refl, subst (λ q. units_in_parts q ≡ units_held stream.held) (some-injective e) all.0.0)
 left-at (stream ∷ streams) (p ∷ rest) (suc s) parts all e = left-at streams rest s parts all.1 e
 
 -- the units that they left fit the workload
@@ -83,7 +87,7 @@ all-fit W streams rest left fits = all-from-among (LeavesWhatFits W) rest (λ pa
   among streams [] parts left fits m = absurd m
   among [] (p ∷ rest) parts left fits m = absurd left
   among (stream ∷ streams) (p ∷ rest) parts left fits m = elim m [
-    | inl e ↦ subst (LeavesWhatFits W) (sym e) (left-fits stream p W (fits 0 stream refl) left.0)
+    | inl e ↦ subst (LeavesWhatFits W) (sym e) (left-fits stream p W (fits 0 stream refl) left.0.0)
     | inr later ↦ among streams rest parts left.1 (λ s other at. fits (suc s) other at) later
   ]
 
@@ -148,3 +152,14 @@ module _ (W : Parts) (Z : Stored) (n : ℕ) (crew : CrewValue) (is : IsCrew W Z 
     -- the picture is of where it ends
     pub crew-picture : (rest : List StreamParts) (rows : List Row) → HaveLeft crew.streams rest → ShowsUnits W rest crew.objects rows → All (SaysWordsOf W) rows → IsPictureOf W J rows
     crew-picture = come-picture W Z is.valid is.stored n crew.streams crew.objects is.streams come J merged
+
+  -- what a crew leaves that stopped, when its streams left these, and this picture was made
+  pub crew-leaves : (run : Run) (rests : Rests) → HaveStopped W Z n (moment_in W crew) run.outcome → AreLeft crew.keeps crew.streams rests → run.journal ≡ rests.journal → run.steps ≡ rests.steps →
+      ShowsUnits W rests.parts.items crew.objects run.picture → All (SaysWordsOf W) run.picture → LeavesRotation W Z n crew.keeps run
+  crew-leaves run rests stopped left journal steps shows words = record {
+    events = left.events;
+    holds = (crew-ran left.events left.merges run.outcome stopped, crew-rotated left.events left.merges run.outcome stopped);
+    kept = subst (IsKept crew.keeps left.events) (sym journal) left.kept;
+    pictured = crew-picture left.events left.merges rests.parts.items run.picture left.have shows words;
+    counted = steps ∙ left.steps;
+  }

@@ -23,7 +23,7 @@ use Rattle.abt_commons.proofs.Numbers.{get-set-here, get-set-other}
 use Rattle.abt_stream.specs.Streams.{FitsShapes, FitsStream, StreamValue}
 use Rattle.abt_stream.specs.declared.turns.Turn.{Turn}
 use Rattle.abt_stream.specs.declared.turns.Turn.TheVariants as turn
-use Rattle.abt_drain.specs.Crews.{Advances, CrewValue, IsCrew, IsEnd, StaysAwake, TurnBy, TurnsBy, stream_clock, log_from, moment_in}
+use Rattle.abt_drain.specs.Crews.{Advances, AllKeep, CrewValue, IsCrew, IsEnd, StaysAwake, TurnBy, TurnsBy, stream_clock, log_from, moment_in}
 use Rattle.abt_drain.specs.Looks.{AreStreams, IsStreamOf, held_from}
 use Rattle.abt_drain.specs.Moments.{IsReachedMoment, Makes, Moment, Stays, SetsClock, stamp_by}
 use Rattle.abt_drain.specs.Rotations.{HasTurned, HaveTurned, IsAwake, IsGoing}
@@ -34,7 +34,7 @@ use Rattle.abt_drain.proofs.Taking.{step-no-miss}
 
 module _ (W : Parts) (Z : Stored) (n : ℕ) (crew : CrewValue) (is : IsCrew W Z n crew) (s : ℕ) (declared : s < W.streams)
     (old new : StreamValue) (at : slice_get crew.streams s ≡ Some old) (after : ObjectsValue)
-    (fits : FitsStream W new) (shapes : FitsShapes W Z new) (number : new.number ≡ old.number) (budget : new.budget ≡ old.budget) (few : length new.log ≤ 2 ^ 55) (within : steps_in new.log ≤ new.budget)
+    (fits : FitsStream W new) (shapes : FitsShapes W Z new) (number : new.number ≡ old.number) (keeps : new.keeps ≡ old.keeps) (budget : new.budget ≡ old.budget) (few : length new.log ≤ 2 ^ 55) (within : steps_in new.log ≤ new.budget)
     (objects : after.workload ≡ W) where
   abbrev next : CrewValue
   next = record crew { objects = after; streams = set crew.streams s new }
@@ -105,8 +105,14 @@ module _ (W : Parts) (Z : Stored) (n : ℕ) (crew : CrewValue) (is : IsCrew W Z 
     | inr ne ↦ is.shapes r stream (sym (at-other r ne) ∙ e)
   ]
 
+  kept-after : AllKeep crew.keeps next.streams
+  kept-after r stream e = elim (cases_eq s r) [
+    | inl same ↦ ap (λ (v : StreamValue). v.keeps) (some-injective (sym (subst (λ q. slice_get next.streams q ≡ Some stream) (sym same) e) ∙ at-same)) ∙ (keeps ∙ is.kept s old at)
+    | inr ne ↦ is.kept r stream (sym (at-other r ne) ∙ e)
+  ]
+
   crew-after : IsReachedMoment W Z n there → IsGoing W n there → IsCrew W Z n next
-  crew-after reached going = record { valid = is.valid; stored = is.stored; workload = is.workload; steps = is.steps; objects = objects; streams = streams-after; shapes = shapes-after; reached = reached; going = going }
+  crew-after reached going = record { valid = is.valid; stored = is.stored; workload = is.workload; steps = is.steps; objects = objects; kept = kept-after; streams = streams-after; shapes = shapes-after; reached = reached; going = going }
 
   reached-after : (w : What) → Advances W Z old crew.objects w new after → IsReachedMoment W Z n there
   reached-after w a = reached-grows W Z n s w here there is.reached (made w a)
@@ -171,6 +177,16 @@ from-own P W Z n crew is p = subst (P W) is.steps (subst (λ V. P V crew.steps) 
 pub crew-own : (W : Parts) (Z : Stored) (n : ℕ) (crew : CrewValue) → IsCrew W Z n crew → (P : Parts → ℕ → Type 0) → P W n → P crew.workload crew.steps
 crew-own W Z n crew is P p = subst (λ V. P V crew.steps) (sym is.workload) (subst (P W) (sym is.steps) p)
 
+-- what follows of each value
+pub if-ok : {A E : Type 0} {P Q : A → Type 0} (result : Result A E) → IfOk result P → ((a : A) → P a → Q a) → IfOk result Q
+if-ok (Ok a) p f = f a p
+if-ok (Err e) p f = tt
+
+-- what holds whatever the result is
+pub on-ok : {E : Type 0} {P : Type 0} (result : Result Turn E) → P → OnOk result P
+on-ok (Ok t) p = p
+on-ok (Err e) p = tt
+
 -- what a turn of one stream is to the crew, if there was memory for it
 pub record CrewResult {E : Type 0} (W : Parts) (Z : Stored) (n s : ℕ) (crew : CrewValue) (result : Result Turn E) (next : CrewValue) : Type 0 where
   pub turn : IfOk result (λ t. TurnBy W Z n s (moment_in W crew) t (moment_in W next))
@@ -178,13 +194,13 @@ pub record CrewResult {E : Type 0} (W : Parts) (Z : Stored) (n s : ℕ) (crew : 
   pub awake : IfOk result (λ t. StaysAwake W t (moment_in W next))
 
 pub crew-result : {E : Type 0} (W : Parts) (Z : Stored) (n : ℕ) (crew : CrewValue) (is : IsCrew W Z n crew) (s : ℕ) (declared : s < W.streams) (old new : StreamValue) (at : slice_get crew.streams s ≡ Some old)
-    (after : ObjectsValue) (result : Result Turn E) → IfOk result (λ t. TurnsBy W Z old crew.objects t new after) → OnOk result (FitsStream W new) → OnOk result (FitsShapes W Z new) → OnOk result (new.number ≡ old.number) →
+    (after : ObjectsValue) (result : Result Turn E) → IfOk result (λ t. TurnsBy W Z old crew.objects t new after) → OnOk result (FitsStream W new) → OnOk result (FitsShapes W Z new) → OnOk result (new.number ≡ old.number) → OnOk result (new.keeps ≡ old.keeps) →
     OnOk result (new.budget ≡ old.budget) → OnOk result (length new.log ≤ 2 ^ 55) → OnOk result (steps_in new.log ≤ new.budget) → OnOk result (after.workload ≡ W) → IsAwake W (moment_in W crew) →
     CrewResult W Z n s crew result (record crew { objects = after; streams = set crew.streams s new })
-crew-result W Z n crew is s declared old new at after (Ok t) turn fits shapes number budget few within objects awake =
-    let r = crew-turned W Z n crew is s declared old new at after fits shapes number budget few within objects t turn awake in
+crew-result W Z n crew is s declared old new at after (Ok t) turn fits shapes number keeps budget few within objects awake =
+    let r = crew-turned W Z n crew is s declared old new at after fits shapes number keeps budget few within objects t turn awake in
     record { turn = r.0; is_crew = r.1.0; awake = r.1.1 }
-crew-result W Z n crew is s declared old new at after (Err e) turn fits shapes number budget few within objects awake = record { turn = tt; is_crew = tt; awake = tt }
+crew-result W Z n crew is s declared old new at after (Err e) turn fits shapes number keeps budget few within objects awake = record { turn = tt; is_crew = tt; awake = tt }
 
 -- what is said of its own workload and number of steps is said of those that it is of
 module _ (W : Parts) (Z : Stored) (n : ℕ) (crew next : CrewValue) (is : IsCrew W Z n crew) where

@@ -7,6 +7,7 @@ pub mod Ending
 pub mod Functions
 pub mod Growing
 pub mod Journals
+pub mod Kept
 pub mod Leading
 pub mod Leaving
 pub mod Looking

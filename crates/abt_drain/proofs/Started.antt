@@ -1,5 +1,5 @@
 -- A crew at the start.
-use Rattle.std.proofs.Common.{◌≡◌, ℕ, zero, suc, ◌+◌, ◌⊎◌, inl, inr, List, [], ◌∷◌, ◌++◌, length, Option, Some, None, slice_get, refl, sym, ◌∙◌, ap, subst}
+use Rattle.std.proofs.Common.{◌≡◌, ℕ, Bool, zero, suc, ◌+◌, ◌⊎◌, inl, inr, List, [], ◌∷◌, ◌++◌, length, Option, Some, None, slice_get, refl, sym, ◌∙◌, ap, subst}
 use Rattle.std.proofs.lemmas.List.{length-append}
 use Rattle.abt_machine.specs.declared.numbers.StreamNo.{StreamNo}
 use Rattle.abt_machine.specs.Stored.{Stored}
@@ -12,7 +12,7 @@ use Rattle.abt_commons.specs.Held.{ObjectsValue}
 use Rattle.abt_commons.specs.Placing.{ArePlaced}
 use Rattle.abt_stream.specs.Streams.{StreamValue}
 use Rattle.abt_laws.proofs.Options.{some-injective}
-use Rattle.abt_drain.specs.Crews.{AreStarted, IsCrew, IsStarted, stream_clock, log_from, moment_of}
+use Rattle.abt_drain.specs.Crews.{AllKeep, AreStarted, IsCrew, IsStarted, stream_clock, log_from, moment_of}
 use Rattle.abt_drain.specs.Looks.{AreStreams, held_from}
 use Rattle.abt_drain.specs.Moments.{IsStart}
 use Rattle.abt_drain.proofs.Starting.{start-going, start-reached}
@@ -34,6 +34,13 @@ module _ (W : Parts) (n : ℕ) where
       | inr b ↦ subst (λ r. IsStarted W n r other) (sym (b.0 ∙ all.many)) (subst (IsStarted W n k) b.1 next)
     ];
   }
+
+  -- which keeps as the others do
+  pub keep-push : (keeps : Bool) (streams : List StreamValue) (stream : StreamValue) → AllKeep keeps streams → stream.keeps ≡ keeps → AllKeep keeps (streams ++ stream ∷ [])
+  keep-push keeps streams stream all next s other e = elim (get-push streams stream other s e) [
+    | inl a ↦ all s other a
+    | inr b ↦ subst (λ (v : StreamValue). v.keeps ≡ keeps) b.1 next
+  ]
 
   module _ (streams : List StreamValue) (objects : ObjectsValue) (all : AreStarted W n W.streams streams) (placed : ArePlaced W objects) where
     by-part : (s : ℕ) (o : Option StreamValue) → slice_get streams s ≡ o → start_part W s ≡ held_from (start_part W s) o
@@ -63,13 +70,14 @@ module _ (W : Parts) (n : ℕ) where
       own = λ s stream e. record { number = ap (λ (k : StreamNo). k.0) (all.own s stream e).number; fits = (all.own s stream e).fits; budget = (all.own s stream e).budget };
     }
 
-    pub crew-started : (Z : Stored) → IsValid W → OrdersStored W Z.orders → IsCrew W Z n (record { workload = W; steps = n; objects = objects; streams = streams })
-    crew-started Z valid stored = record {
+    pub crew-started : (Z : Stored) (keeps : Bool) → IsValid W → OrdersStored W Z.orders → AllKeep keeps streams → IsCrew W Z n (record { workload = W; steps = n; keeps = keeps; objects = objects; streams = streams })
+    crew-started Z keeps valid stored kept = record {
       valid = valid;
       stored = stored;
       workload = refl;
       steps = refl;
       objects = placed.workload;
+      kept = kept;
       streams = are-streams;
       shapes = λ s stream e held. absurd (held (all.own s stream e).order);
       reached = start-reached W (moment_of W streams objects) is-start Z n;

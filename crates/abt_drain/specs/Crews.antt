@@ -1,5 +1,5 @@
 -- What contracts see of all streams with the objects that they share.
-use Rattle.std.specs.Prelude.{ℕ, ◌≡◌, ◌^◌, ◌⊎◌, ⊤, Bool, true, false, List, [], ◌∷◌, ◌++◌, length, map, slice_get, Option, None, Some}
+use Rattle.std.specs.Prelude.{ℕ, ◌≡◌, ◌^◌, ◌⊎◌, ⊤, Bool, true, false, List, [], ◌∷◌, ◌++◌, length, slice_get, Option, None, Some}
 use Rattle.abt_machine.specs.declared.events.Event.{Event}
 use Rattle.abt_machine.specs.declared.events.Outcome.{Outcome}
 use Rattle.abt_machine.specs.declared.events.Site.{Site}
@@ -15,27 +15,30 @@ use Rattle.abt_machine.specs.Outcomes.{is_step, steps_in}
 use Rattle.abt_machine.specs.Rounds.{OrdersStored}
 use Rattle.abt_machine.specs.Turns.{Heard, Steps, due_of}
 use Rattle.abt_machine.specs.Valid.{IsValid}
-use Rattle.abt_calls.specs.Holders.{units_held}
 use Rattle.abt_calls.specs.Starts.{start_part}
 use Rattle.abt_interleave.specs.Deeds.{Answered}
 use Rattle.abt_commons.specs.Held.{ObjectsValue, clock_at, object_at}
 use Rattle.abt_laws.specs.Laws.{IsMiss}
 use Rattle.abt_outcomes.specs.Values.{LooksAs}
 use Rattle.abt_stream.specs.Streams.{FitsShapes, FitsStream, StreamValue}
-use Rattle.abt_stream.specs.declared.stream.StreamParts.{StreamParts}
 use Rattle.abt_stream.specs.declared.turns.Turn.{Turn}
 use Rattle.abt_stream.specs.declared.turns.Turn.TheVariants as turn
 use Rattle.abt_drain.specs.Looks.{AreStreams, EndedWith, parts_held}
 use Rattle.abt_drain.specs.Moments.{IsReachedMoment, Moment, SetsClock, made_at, stamp_by}
-use Rattle.abt_drain.specs.Pictures.{units_in_parts}
 use Rattle.abt_drain.specs.Rotations.{EndsRoundAt, HaveRotated, HaveTurned, IsAwake, IsGoing, IsSpentIn, MakesMove, MakesStep}
 
--- the workload, how many steps each stream may make, the objects, and the streams in order of number
+-- the workload, how many steps each stream may make, whether the streams keep their events in memory, the objects, and the
+-- streams in order of number
 pub record CrewValue : Type 0 where
   pub workload : Parts
   pub steps : ℕ
+  pub keeps : Bool
   pub objects : ObjectsValue
   pub streams : List StreamValue
+
+-- each of these streams keeps its events in memory, or none does
+abbrev pub AllKeep : Bool → List StreamValue → Type 0
+AllKeep keeps streams = (s : ℕ) (stream : StreamValue) → slice_get streams s ≡ Some stream → stream.keeps ≡ keeps
 
 abbrev pub log_from : Option StreamValue → List Event
 log_from None = []
@@ -65,6 +68,7 @@ pub record IsCrew (W : Parts) (Z : Stored) (n : ℕ) (crew : CrewValue) : Type 0
   pub workload : crew.workload ≡ W
   pub steps : crew.steps ≡ n
   pub objects : crew.objects.workload ≡ W
+  pub kept : AllKeep crew.keeps crew.streams
   pub streams : AreStreams W n crew.streams
   pub shapes : (s : ℕ) (stream : StreamValue) → slice_get crew.streams s ≡ Some stream → FitsShapes W Z stream
   pub reached : IsReachedMoment W Z n (moment_in W crew)
@@ -135,28 +139,7 @@ pub record AreStarted (W : Parts) (n k : ℕ) (streams : List StreamValue) : Typ
 
 -- The end.
 
--- these are what these streams leave, each in its place
-abbrev pub HaveLeft : List StreamValue → List StreamParts → Type 0
-HaveLeft [] [] = ⊤
-HaveLeft [] (parts ∷ rest) = ⊥
-HaveLeft (stream ∷ streams) [] = ⊥
-HaveLeft (stream ∷ streams) (parts ∷ rest) = (units_in_parts parts ≡ units_held stream.held) × HaveLeft streams rest
-
-abbrev pub log_in : StreamValue → List Event
-log_in stream = stream.log
-
--- their logs
-abbrev pub logs_in : List StreamValue → List (List Event)
-logs_in streams = map log_in streams
-
 -- the run ended so, by a rotation without a step, or it goes on
 abbrev pub IsEnd : Parts → ℕ → CrewValue → Bool → Option Outcome → Type 0
 IsEnd W n crew stepped (Some o) = (stepped ≡ false) × EndedWith W n crew.streams crew.objects (Some o)
 IsEnd W n crew stepped None = (stepped ≡ true) ⊎ EndedWith W n crew.streams crew.objects None
-
--- these streams are split but for those that are left: their logs, and the rest of what they leave
-pub record IsSplit (streams left : List StreamValue) (logs : List (List Event)) (rest : List StreamParts) : Type 0 where
-  pub done : List StreamValue
-  pub all : done ++ left ≡ streams
-  pub logs_are : logs ≡ logs_in done
-  pub have : HaveLeft done rest

@@ -1,4 +1,5 @@
 pub mod Crews
+pub mod Ends
 pub mod InRotation
 pub mod Looks
 pub mod Moments

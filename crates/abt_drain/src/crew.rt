@@ -1,27 +1,23 @@
 //! All streams of a workload, and the objects that they share.
 
 ghost use Rattle.std.specs.Prelude.{◌≡◌, ◌<◌, ◌≤◌, ◌^◌, ℕ, true, IfOk, List, OnOk, Option, length};
-ghost use Rattle.abt_machine.specs.declared.events.Outcome.{Outcome};
 ghost use Rattle.abt_machine.specs.Stored.{CallsStored, Stored};
 ghost use Rattle.abt_machine.specs.Rounds.{OrdersStored};
 ghost use Rattle.abt_order.specs.Stored.{shapes_of, stored_of};
-ghost use Rattle.abt_report.specs.Pictures.{IsPictureOf};
 ghost use Rattle.abt_machine.specs.Outcomes.{steps_in};
 ghost use Rattle.abt_stream.specs.Streams.{FitsShapes, FitsStream};
 ghost use Rattle.abt_drain.specs.Crews.{HaveStopped, IsCrew, IsEnd, StaysAwake, TurnBy, TurnsBy, moment_in};
-ghost use Rattle.abt_drain.specs.InRotation.{IsMadeInRotation};
+ghost use Rattle.abt_drain.specs.Ends.{LeavesRotation};
 ghost use Rattle.abt_drain.specs.Looks.{AreStreams};
 ghost use Rattle.abt_drain.specs.Rotations.{HasTurned, HaveRotated, HaveTurned, IsAwake, HasSeenNone};
-ghost use Rattle.abt_drain.specs.Runs.{HasRun};
 
 use crate::outcomes::outcome;
 use crate::pictures::picture;
-use crate::streams::{split_logs, start_streams};
+use crate::run::Run;
+use crate::streams::{Rests, leave, start_streams};
 use abt_commons::{Commons, Objects, Plain, PlainPass};
-use abt_machine::{Journal, Outcome, Want, Workload};
-use abt_merge::merge;
+use abt_machine::{Outcome, Want, Workload};
 use abt_order::StoredOrder;
-use abt_report::Picture;
 use abt_stream::{Stream, Turn};
 use abt_work::Work;
 use std::alloc::Global;
@@ -32,6 +28,7 @@ use std::marker::Model;
 pub(crate) struct Crew<'w> {
     w: &'w Workload,
     steps: u64,
+    keeps: bool,
     plain: Plain<'w>,
     pass: PlainPass<'w>,
     streams: Vec<Stream>,
@@ -43,31 +40,34 @@ impl<'w> Model for Crew<'w> {
 
     ghost Value = { CrewValue };
 
-    ghost view = { λ c. record { workload = c.w.now; steps = c.steps; objects = c.pass; streams = c.streams.items } };
+    ghost view = { λ c. record { workload = c.w.now; steps = c.steps; keeps = c.keeps; objects = c.pass; streams = c.streams.items } };
 
     ghost invariant = { λ c. c.plain ≡ c.w.now };
 }
 
 impl<'w> Crew<'w> {
-    /// All streams and objects at the start.
+    /// All streams and objects at the start. Streams keep their events in memory if `keeps`.
     pub(crate) fn new(
         alloc: Global,
         w: &'w Workload,
         orders: &[StoredOrder],
         steps: u64,
+        keeps: bool,
     ) -> Result<Crew<'w>, Want>
         requires orders { 2 ≤ length orders.now }
         ensures crew { IfOk result (λ crew. (returns : ℕ → ℕ → ℕ → List ℕ → Option ℕ) → IsCrew w.now (stored_of orders.now returns) steps crew) }
+        ensures keeps { IfOk result (λ crew. crew.keeps ≡ keeps) }
         ensures fresh { IfOk result (λ crew. (s : ℕ) → s < w.now.streams → HasSeenNone (moment_in w.now crew) s) }
         ensures awake { IfOk result (λ crew. IsAwake w.now (moment_in w.now crew)) }
         ensures rotated { IfOk result (λ crew. (returns : ℕ → ℕ → ℕ → List ℕ → Option ℕ) → HaveRotated w.now (stored_of orders.now returns) steps (moment_in w.now crew)) }
     {
         w.known();
-        let streams = start_streams(alloc, w, steps)?;
+        let streams = start_streams(alloc, w, steps, keeps)?;
         let (plain, pass) = Plain::make(Objects::place(alloc, w)?);
         Ok(Crew {
             w,
             steps,
+            keeps,
             plain,
             pass,
             streams,
@@ -82,6 +82,7 @@ impl<'w> Crew<'w> {
         requires awake { IsAwake self.old.workload (moment_in self.old.workload self.old) }
         ensures turn { IfOk result (λ turn. TurnBy self.old.workload (stored_of orders.now (P.returns work.now)) self.old.steps s (moment_in self.old.workload self.old) turn (moment_in self.old.workload self.new)) }
         ensures crew { OnOk result (IsCrew self.old.workload (stored_of orders.now (P.returns work.now)) self.old.steps self.new) }
+        ensures keeps { OnOk result (self.new.keeps ≡ self.old.keeps) }
         ensures awake { IfOk result (λ turn. StaysAwake self.old.workload turn (moment_in self.old.workload self.new)) }
     {
         advance(
@@ -107,6 +108,7 @@ impl<'w> Crew<'w> {
         requires awake { IsAwake self.old.workload (moment_in self.old.workload self.old) }
         ensures turned { IfOk result (λ stepped. HasTurned self.old.workload (stored_of orders.now (P.returns work.now)) self.old.steps s (moment_in self.old.workload self.old) stepped (moment_in self.old.workload self.new)) }
         ensures crew { OnOk result (IsCrew self.old.workload (stored_of orders.now (P.returns work.now)) self.old.steps self.new) }
+        ensures keeps { OnOk result (self.new.keeps ≡ self.old.keeps) }
         ensures awake { IfOk result (λ stepped. stepped ≡ true → IsAwake self.old.workload (moment_in self.old.workload self.new)) }
     {
         'turns: loop {
@@ -127,6 +129,7 @@ impl<'w> Crew<'w> {
         requires awake { IsAwake self.old.workload (moment_in self.old.workload self.old) }
         ensures turned { IfOk result (λ stepped. HaveTurned self.old.workload (stored_of orders.now (P.returns work.now)) self.old.steps self.old.workload.streams (moment_in self.old.workload self.old) stepped (moment_in self.old.workload self.new)) }
         ensures crew { OnOk result (IsCrew self.old.workload (stored_of orders.now (P.returns work.now)) self.old.steps self.new) }
+        ensures keeps { OnOk result (self.new.keeps ≡ self.old.keeps) }
         ensures awake { IfOk result (λ stepped. stepped ≡ true → IsAwake self.old.workload (moment_in self.old.workload self.new)) }
     {
         let mut stepped = false;
@@ -158,6 +161,7 @@ impl<'w> Crew<'w> {
         requires rotated { HaveRotated self.old.workload (stored_of orders.now (P.returns work.now)) self.old.steps (moment_in self.old.workload self.old) }
         ensures stopped { IfOk result (HaveStopped self.old.workload (stored_of orders.now (P.returns work.now)) self.old.steps (moment_in self.old.workload self.new)) }
         ensures crew { OnOk result (IsCrew self.old.workload (stored_of orders.now (P.returns work.now)) self.old.steps self.new) }
+        ensures keeps { OnOk result (self.new.keeps ≡ self.old.keeps) }
     {
         'rotations: loop {
             let stepped = self.rotate(orders, work)?;
@@ -168,25 +172,33 @@ impl<'w> Crew<'w> {
         }
     }
 
-    /// The journal of all events, and where each unit is.
-    pub(crate) fn end(self, alloc: Global) -> Result<(Journal, Picture), Want>
+    /// What the run leaves, which ended so.
+    pub(crate) fn end(self, alloc: Global, outcome: Outcome) -> Result<Run, Want>
         requires crew { (Z : Stored) × IsCrew self.workload Z self.steps self }
-        ensures run { IfOk result (λ ended. (Z : Stored) (o : Outcome) → IsCrew self.entry.workload Z self.entry.steps self.entry → HaveStopped self.entry.workload Z self.entry.steps (moment_in self.entry.workload self.entry) o → HasRun self.entry.workload Z self.entry.steps ended.0 o) }
-        ensures rotation { IfOk result (λ ended. (Z : Stored) (o : Outcome) → IsCrew self.entry.workload Z self.entry.steps self.entry → HaveStopped self.entry.workload Z self.entry.steps (moment_in self.entry.workload self.entry) o → IsMadeInRotation self.entry.workload Z self.entry.steps ended.0) }
-        ensures picture { IfOk result (λ ended. IsPictureOf self.entry.workload ended.0 ended.1) }
+        ensures { IfOk result (λ run. (Z : Stored) → IsCrew self.entry.workload Z self.entry.steps self.entry → HaveStopped self.entry.workload Z self.entry.steps (moment_in self.entry.workload self.entry) outcome → LeavesRotation self.entry.workload Z self.entry.steps self.entry.keeps run) }
     {
         let Crew {
             w,
             steps: _,
+            keeps,
             plain,
             pass,
             streams,
         } = self;
-        let (logs, rest) = split_logs(alloc, streams)?;
-        let journal = merge(alloc, logs)?;
+        let rests = leave(alloc, streams, keeps)?;
         let objects = plain.close(vec![in alloc; pass]?);
-        let picture = picture(alloc, w, objects, rest)?;
-        Ok((journal, picture))
+        let Rests {
+            journal,
+            steps,
+            parts,
+        } = rests;
+        let picture = picture(alloc, w, objects, parts)?;
+        Ok(Run {
+            journal,
+            steps,
+            picture,
+            outcome,
+        })
     }
 }
 
@@ -209,6 +221,7 @@ fn advance<'w, P: Work>(
     ensures fits { OnOk result (FitsStream w.now stream.new) }
     ensures shapes { OnOk result (FitsShapes w.now (stored_of orders.now (P.returns work.now)) stream.new) }
     ensures number { OnOk result (stream.new.number ≡ stream.old.number) }
+    ensures keeps { OnOk result (stream.new.keeps ≡ stream.old.keeps) }
     ensures budget { OnOk result (stream.new.budget ≡ stream.old.budget) }
     ensures few { OnOk result (length stream.new.log ≤ 2 ^ 55) }
     ensures within { OnOk result (steps_in stream.new.log ≤ stream.new.budget) }
@@ -217,7 +230,7 @@ fn advance<'w, P: Work>(
     w.known();
     stream.prepare(w, orders)?;
     let turn = stream.turn(plain, pass, w, work);
-    // The log is of no use here, but its contract says that it has no more steps than the stream may make.
-    stream.log();
+    // The number of steps is of no use here, but its contract says that the stream made no more than it may make.
+    stream.steps();
     Ok(turn)
 }

@@ -10,4 +10,4 @@ mod streams;
 pub use outcomes::{has_empty_pools, has_ended, outcome};
 pub use pictures::picture;
 pub use run::{Run, drain, drain_with};
-pub use streams::{split_logs, start_streams};
+pub use streams::{Rests, leave, split_logs, start_streams};

@@ -3,9 +3,7 @@
 ghost use Rattle.std.specs.Prelude.{◌≤◌, IfOk, None, length};
 ghost use Rattle.abt_machine.specs.Stored.{CallsStored};
 ghost use Rattle.abt_order.specs.Stored.{stored_of};
-ghost use Rattle.abt_report.specs.Pictures.{IsPictureOf};
-ghost use Rattle.abt_drain.specs.InRotation.{IsMadeInRotation};
-ghost use Rattle.abt_drain.specs.Runs.{HasRun};
+ghost use Rattle.abt_drain.specs.Ends.{LeavesRotation};
 
 use crate::crew::Crew;
 use abt_machine::{Journal, Outcome, Want, Workload};
@@ -14,26 +12,31 @@ use abt_report::Picture;
 use abt_work::{AnyWork, Work};
 use std::alloc::Global;
 
-/// A run: its journal, its units at the end, and how it ended.
+/// A run: its journal, if it was kept, how many steps it made, its units at the end, and how it ended.
 #[derive(Drop)]
 pub struct Run {
-    pub journal: Journal,
+    pub journal: Option<Journal>,
+    pub steps: u64,
     pub picture: Picture,
     pub outcome: Outcome,
 }
 
 /// Runs a workload whose streams may make `steps` steps each. In order of number each stream makes turns until one is a step,
 /// ends a round empty, or is none since the stream is spent; this goes on until a rotation without a step leaves nothing to do
-/// or a stream spent. A call leaves its unit's accumulator as it is. Err: out of memory.
+/// or a stream spent. A call leaves its unit's accumulator as it is. The journal is kept if `keeps`. Err: out of memory.
 #[tactic(auto, using(crate::proofs::Functions::calls_stored))]
-pub fn drain(alloc: Global, w: &Workload, orders: &[StoredOrder], steps: u64) -> Result<Run, Want>
+pub fn drain(
+    alloc: Global,
+    w: &Workload,
+    orders: &[StoredOrder],
+    steps: u64,
+    keeps: bool,
+) -> Result<Run, Want>
     requires orders { 2 ≤ length orders.now }
-    ensures run { IfOk result (λ run. HasRun w.now (stored_of orders.now (λ _ _ _ _. None)) steps run.journal run.outcome) }
-    ensures rotation { IfOk result (λ run. IsMadeInRotation w.now (stored_of orders.now (λ _ _ _ _. None)) steps run.journal) }
-    ensures picture { IfOk result (λ run. IsPictureOf w.now run.journal run.picture) }
+    ensures run { IfOk result (LeavesRotation w.now (stored_of orders.now (λ _ _ _ _. None)) steps keeps) }
 {
     w.known();
-    drain_with(alloc, w, orders, &AnyWork, steps)
+    drain_with(alloc, w, orders, &AnyWork, steps, keeps)
 }
 
 /// The same as `drain` for a workload whose units call functions; `work` has these, and is called before each step. A function runs
@@ -44,19 +47,13 @@ pub fn drain_with<P: Work>(
     orders: &[StoredOrder],
     work: &P,
     steps: u64,
+    keeps: bool,
 ) -> Result<Run, Want>
     requires orders { 2 ≤ length orders.now }
     requires calls { CallsStored w.now (P.count work.now) }
-    ensures run { IfOk result (λ run. HasRun w.now (stored_of orders.now (P.returns work.now)) steps run.journal run.outcome) }
-    ensures rotation { IfOk result (λ run. IsMadeInRotation w.now (stored_of orders.now (P.returns work.now)) steps run.journal) }
-    ensures picture { IfOk result (λ run. IsPictureOf w.now run.journal run.picture) }
+    ensures run { IfOk result (LeavesRotation w.now (stored_of orders.now (P.returns work.now)) steps keeps) }
 {
-    let mut crew = Crew::new(alloc, w, orders, steps)?;
+    let mut crew = Crew::new(alloc, w, orders, steps, keeps)?;
     let outcome = crew.run(orders, work)?;
-    let (journal, picture) = crew.end(alloc)?;
-    Ok(Run {
-        journal,
-        picture,
-        outcome,
-    })
+    crew.end(alloc, outcome)
 }

@@ -1,14 +1,11 @@
 -- The run of all streams.
-use Rattle.std.proofs.Common.{ℕ, ◌<◌}
-use Rattle.abt_machine.specs.declared.workload.Parts.{Parts}
+use Rattle.std.proofs.Common.{ℕ, ◌≡◌, ◌<◌, ◌∙◌, subst}
 use Rattle.abt_machine.specs.Stored.{CallsStored}
 use Rattle.abt_order.specs.Stored.{stored_of}
-use Rattle.abt_report.specs.Pictures.{IsPictureOf}
 use Rattle.abt_drain.specs.Crews.{HaveStopped, IsCrew, moment_in}
-use Rattle.abt_drain.specs.InRotation.{IsMadeInRotation}
+use Rattle.abt_drain.specs.Ends.{LeavesRotation}
 use Rattle.abt_drain.specs.Rotations.{HaveRotated, HasSeenNone, IsAwake}
-use Rattle.abt_drain.specs.Runs.{HasRun}
-use Rattle.abt_drain.proofs.Crewed.{crew-own, from-own}
+use Rattle.abt_drain.proofs.Crewed.{crew-own, from-own, if-ok}
 use Rattle.abt_drain.proofs.run.drain_with.Goals as goal
 
 pub run-requires-clause-calls : goal.run-requires-clause-calls
@@ -39,37 +36,18 @@ run-requires-clause-rotated g c =
     crew-own c.args.w.now Z c.args.steps c.in_ok-crew.crew (c.in_ok-crew.ensures.crew Z.returns)
     (λ V k. HaveRotated V Z k (moment_in V c.in_ok-crew.crew)) (c.in_ok-crew.ensures.rotated Z.returns)
 
-pub returns-clause-run : goal.returns-clause-run
-returns-clause-run g c =
+pub returns : goal.returns
+returns g c =
     let Z = stored_of c.args.orders.now (g.P.Work.returns c.args.work.now) in
     let crew = c.in_ok-crew.crew in
     let later = c.run.new.self in
     let o = c.in_ok-outcome.outcome in
-    let J = c.in_ok-journal.journal in
     let is = c.in_ok-outcome.ensures.crew in
     let stopped = crew-own crew.workload Z crew.steps later is (λ V k. HaveStopped V Z k (moment_in V later) o) c.in_ok-outcome.ensures.stopped in
-    let run = c.in_ok-journal.ensures.run Z o (crew-own crew.workload Z crew.steps later is (λ V k. IsCrew V Z k later) is) stopped in
-    from-own (λ V k. HasRun V Z k J o) c.args.w.now Z c.args.steps crew (c.in_ok-crew.ensures.crew Z.returns)
-    (from-own (λ V k. HasRun V Z k J o) crew.workload Z crew.steps later is run)
-
-pub returns-clause-rotation : goal.returns-clause-rotation
-returns-clause-rotation g c =
-    let Z = stored_of c.args.orders.now (g.P.Work.returns c.args.work.now) in
-    let crew = c.in_ok-crew.crew in
-    let later = c.run.new.self in
-    let o = c.in_ok-outcome.outcome in
-    let J = c.in_ok-journal.journal in
-    let is = c.in_ok-outcome.ensures.crew in
-    let stopped = crew-own crew.workload Z crew.steps later is (λ V k. HaveStopped V Z k (moment_in V later) o) c.in_ok-outcome.ensures.stopped in
-    let made = c.in_ok-journal.ensures.rotation Z o (crew-own crew.workload Z crew.steps later is (λ V k. IsCrew V Z k later) is) stopped in
-    from-own (λ V k. IsMadeInRotation V Z k J) c.args.w.now Z c.args.steps crew (c.in_ok-crew.ensures.crew Z.returns)
-    (from-own (λ V k. IsMadeInRotation V Z k J) crew.workload Z crew.steps later is made)
-
-pub returns-clause-picture : goal.returns-clause-picture
-returns-clause-picture g c =
-    let Z = stored_of c.args.orders.now (g.P.Work.returns c.args.work.now) in
-    let crew = c.in_ok-crew.crew in
-    let later = c.run.new.self in
-    let picture : Parts → ℕ → Type 0 = λ V k. IsPictureOf V c.in_ok-journal.journal c.in_ok-journal.picture in
-    from-own picture c.args.w.now Z c.args.steps crew (c.in_ok-crew.ensures.crew Z.returns)
-    (from-own picture crew.workload Z crew.steps later c.in_ok-outcome.ensures.crew c.in_ok-journal.ensures.picture)
+    let keeps : later.keeps ≡ c.args.keeps = c.in_ok-outcome.ensures.keeps ∙ c.in_ok-crew.ensures.keeps in
+    record {
+      run = if-ok c.end.result c.end.ensures (λ run leaves. subst (λ b. LeavesRotation c.args.w.now Z c.args.steps b run) keeps
+          (from-own (λ V k. LeavesRotation V Z k later.keeps run) c.args.w.now Z c.args.steps crew (c.in_ok-crew.ensures.crew Z.returns)
+          (from-own (λ V k. LeavesRotation V Z k later.keeps run) crew.workload Z crew.steps later is
+          (leaves Z (crew-own crew.workload Z crew.steps later is (λ V k. IsCrew V Z k later) is) stopped))));
+    }

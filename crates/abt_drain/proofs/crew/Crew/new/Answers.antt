@@ -14,19 +14,19 @@ returns-clause-crew g c =
     λ returns.
     let Z = stored_of c.args.orders.now returns in
     let stored : OrdersStored c.args.w.now Z.orders = orders-stored c.args.w.now Z c.known.ensures (subst (λ k. 2 ≤ k) (sym (length-map c.args.orders.now _)) c.requires.orders) in
-    crew-started c.args.w.now c.args.steps c.in_ok-streams.streams.items c.make-plain.result.1 c.in_ok-streams.ensures (subst (ArePlaced c.args.w.now) (sym c.make-plain.ensures.pass) c.in_ok-place.ensures)
-    Z c.known.ensures stored
+    crew-started c.args.w.now c.args.steps c.in_ok-streams.streams.items c.make-plain.result.1 c.in_ok-streams.ensures.streams (subst (ArePlaced c.args.w.now) (sym c.make-plain.ensures.pass) c.in_ok-place.ensures)
+    Z c.args.keeps c.known.ensures stored c.in_ok-streams.ensures.keeps
 
 pub returns-clause-fresh : goal.returns-clause-fresh
 returns-clause-fresh g c =
-    start-fresh c.args.w.now _ (is-start c.args.w.now c.args.steps c.in_ok-streams.streams.items c.make-plain.result.1 c.in_ok-streams.ensures (subst (ArePlaced c.args.w.now) (sym c.make-plain.ensures.pass) c.in_ok-place.ensures))
+    start-fresh c.args.w.now _ (is-start c.args.w.now c.args.steps c.in_ok-streams.streams.items c.make-plain.result.1 c.in_ok-streams.ensures.streams (subst (ArePlaced c.args.w.now) (sym c.make-plain.ensures.pass) c.in_ok-place.ensures))
 
 pub returns-clause-awake : goal.returns-clause-awake
 returns-clause-awake g c =
-    start-awake c.args.w.now _ (is-start c.args.w.now c.args.steps c.in_ok-streams.streams.items c.make-plain.result.1 c.in_ok-streams.ensures (subst (ArePlaced c.args.w.now) (sym c.make-plain.ensures.pass) c.in_ok-place.ensures))
+    start-awake c.args.w.now _ (is-start c.args.w.now c.args.steps c.in_ok-streams.streams.items c.make-plain.result.1 c.in_ok-streams.ensures.streams (subst (ArePlaced c.args.w.now) (sym c.make-plain.ensures.pass) c.in_ok-place.ensures))
 
 pub returns-clause-rotated : goal.returns-clause-rotated
 returns-clause-rotated g c =
     λ returns.
-    start-rotated c.args.w.now _ (is-start c.args.w.now c.args.steps c.in_ok-streams.streams.items c.make-plain.result.1 c.in_ok-streams.ensures (subst (ArePlaced c.args.w.now) (sym c.make-plain.ensures.pass) c.in_ok-place.ensures))
+    start-rotated c.args.w.now _ (is-start c.args.w.now c.args.steps c.in_ok-streams.streams.items c.make-plain.result.1 c.in_ok-streams.ensures.streams (subst (ArePlaced c.args.w.now) (sym c.make-plain.ensures.pass) c.in_ok-place.ensures))
     (stored_of c.args.orders.now returns) c.args.steps

@@ -14,6 +14,7 @@ streams-init g c =
     let Z = stored_of c.args.orders.now (g.P.Work.returns c.args.work.now) in
     record {
       crew = c.requires.crew;
+      keeps = refl;
       turned = none-turned c.args.self.now.workload Z c.args.self.now.steps (moment_in c.args.self.now.workload c.args.self.now);
       none = λ first. refl;
       awake = λ first. c.requires.awake;
@@ -30,6 +31,7 @@ streams-preserved g c =
     let next : suc c.streams.s ≡ c.streams.s + 1 = omega arith in
     record {
       crew = own-crew c.args.self.now.workload Z c.args.self.now.steps c.streams.self c.take_turns.new.self c.streams.invariant.crew c.in_ok-step.ensures.crew;
+      keeps = c.in_ok-step.ensures.keeps ∙ c.streams.invariant.keeps;
       turned = subst (λ k. HaveTurned c.args.self.now.workload Z c.args.self.now.steps k (moment_in c.args.self.now.workload c.args.self.now) c.if-stepped.stepped (moment_in c.args.self.now.workload c.take_turns.new.self)) next
           (subst (λ b. HaveTurned c.args.self.now.workload Z c.args.self.now.steps (suc c.streams.s) (moment_in c.args.self.now.workload c.args.self.now) b (moment_in c.args.self.now.workload c.take_turns.new.self)) is
           (turned-more c.args.self.now.workload Z c.args.self.now.steps c.streams.s (moment_in c.args.self.now.workload c.args.self.now) (moment_in c.args.self.now.workload c.streams.self)

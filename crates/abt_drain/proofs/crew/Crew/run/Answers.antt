@@ -1,5 +1,5 @@
 -- Rotations.
-use Rattle.std.proofs.Common.{Some, None}
+use Rattle.std.proofs.Common.{Some, None, ◌∙◌}
 use Rattle.abt_order.specs.Stored.{stored_of}
 use Rattle.abt_drain.specs.Crews.{IsCrew, moment_in}
 use Rattle.abt_drain.specs.Rotations.{HaveTurned}
@@ -35,6 +35,7 @@ rotations-preserved g c =
     own-rotated c.args.self.now.workload Z c.args.self.now.steps c.rotations.self c.rotate.new.self c.rotations.invariant.crew c.in_ok-stepped.stepped c.in_ok-stepped.ensures.turned in
     record {
       crew = later;
+      keeps = c.in_ok-stepped.ensures.keeps ∙ c.rotations.invariant.keeps;
       fresh = turned.fresh;
       rotated = goes-on-rotated c.args.self.now.workload Z c.args.self.now.steps c.rotations.self c.rotate.new.self c.rotations.invariant.crew later c.in_ok-stepped.stepped turned
           (own-end c.args.self.now.workload Z c.args.self.now.steps c.rotate.new.self c.rotate.new.self later c.in_ok-stepped.stepped None c.in-None.ensures) c.rotations.invariant.rotated;

@@ -1,5 +1,5 @@
 -- The turns of one stream.
-use Rattle.std.proofs.Common.{false, sym, subst}
+use Rattle.std.proofs.Common.{false, refl, sym, ◌∙◌, subst}
 use Rattle.abt_order.specs.Stored.{stored_of}
 use Rattle.abt_stream.specs.declared.turns.Turn.TheVariants as turn
 use Rattle.abt_drain.specs.Crews.{TurnBy, moment_in}
@@ -20,6 +20,7 @@ turns-init g c =
     let Z = stored_of c.args.orders.now (g.P.Work.returns c.args.work.now) in
     record {
       crew = c.requires.crew;
+      keeps = refl;
       moves = none-moved c.args.self.now.workload Z c.args.s (moment_in c.args.self.now.workload c.args.self.now);
       awake = c.requires.awake;
     }
@@ -29,6 +30,7 @@ turns-preserved g c =
     let Z = stored_of c.args.orders.now (g.P.Work.returns c.args.work.now) in
     record {
       crew = own-crew c.args.self.now.workload Z c.args.self.now.steps c.turns.self c.turn.new.self c.turns.invariant.crew c.in_ok-turn.ensures.crew;
+      keeps = c.in_ok-turn.ensures.keeps ∙ c.turns.invariant.keeps;
       moves = move-more c.args.self.now.workload Z c.turns.invariant.crew.valid c.turns.invariant.crew.stored c.args.self.now.steps c.args.s
           (moment_in c.args.self.now.workload c.args.self.now) (moment_in c.args.self.now.workload c.turns.self) (moment_in c.args.self.now.workload c.turn.new.self) c.turns.invariant.moves
           (own-turn c.args.self.now.workload Z c.args.self.now.steps c.turns.self c.turn.new.self c.turns.invariant.crew c.args.s c.in_ok-turn.field-0 turn.Moved c.in-Moved.is c.in_ok-turn.ensures.turn);
